@@ -1,0 +1,45 @@
+-- Laws of `among`, for a loop that looks for a number in the first places of a list.
+use Prim.Native.Nat.{ℕ, suc, zero, _+_, _-_, _≤_, _<_}
+use native.Mathlib.Omega.{arith}
+use native.Mathlib.Numerals.{add-one}
+use native.Mathlib.Nat.{zero-add, suc-add}
+use borrow.Author.Tests.{eq-eqb, ne-eqb}
+use mathlib.Core.Path.{_≡_, refl, sym}
+use mathlib.Core.Bool.{Bool, true, false, or-true}
+use mathlib.Core.List.{List}
+use lib.ListN.{getD}
+use Rattle.floor.specs.Checks.{among}
+
+module _ (xs : List ℕ) (c : ℕ) where
+  -- Nothing is among no numbers.
+  pub among-none : among xs 0 c ≡ false
+  unfolding among
+  among-none = refl
+
+  -- One more number that is another.
+  pub among-more : (i : ℕ) → among xs i c ≡ false → (getD xs i 0 ≡ c → ⊥) → among xs (i + 1) c ≡ false
+  unfolding among
+  among-more i h n = rw (add-one, h, ne-eqb (getD xs i 0) c n)
+
+  -- What is among the first numbers is among more of them.
+  among-kept : (i d : ℕ) → among xs i c ≡ true → among xs (d + i) c ≡ true
+  unfolding among
+  among-kept i zero h = rw zero-add h
+  among-kept i (suc d) h = rw (suc-add, among-kept i d h)
+
+  -- The number itself.
+  among-here : (i : ℕ) → getD xs i 0 ≡ c → among xs (suc i) c ≡ true
+  unfolding among
+  among-here i e = rw (eq-eqb (getD xs i 0) c e, or-true)
+
+  -- A number found is among all.
+  pub among-found : (i m : ℕ) → i < m → getD xs i 0 ≡ c → among xs m c ≡ true
+  among-found i m l e =
+      let s : (m - suc i) + suc i ≡ m = omega arith in
+      rw s at (among-kept (suc i) (m - suc i) (among-here i e))
+
+  -- The loop's end: none of the m numbers is c.
+  pub among-end : (i m : ℕ) → i ≤ m → m ≤ i → among xs i c ≡ false → false ≡ among xs m c
+  among-end i m a b h =
+      let e : i ≡ m = omega arith in
+      sym (rw e at h)

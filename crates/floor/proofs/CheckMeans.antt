@@ -1,0 +1,59 @@
+-- What the Bool test of each check means, as the statements of `Accepted`.
+use Prim.Native.Nat.{ℕ, zero, suc, _+_, _*_, _≤_, _<_}
+use native.Mathlib.Omega.{arith}
+use native.Mathlib.Numerals.{add-one}
+use mathlib.Core.Path.{_≡_, refl, sym, _∙_, ap}
+use mathlib.Core.Bool.{Bool, true, false, _&&_, _||_, not, and-eq-true-iff}
+use mathlib.Core.Logic.{_↔_}
+use mathlib.Core.List.{List}
+use borrow.Author.Tests.{ltb-true, lt-ltb, ne-eqb, not-true, eq-eqb}
+use borrow.Author.Count.{below-more}
+use lib.ListN.{length, getD}
+use lib.Dec.{ltb, leb, eqb}
+use Rattle.floor.specs.declared.Floor.{Floor}
+use Rattle.floor.specs.Checks.{inGrid, carrierInGrid, startOf, goalOf, rises, among, clearOfWalls, unshared}
+use Rattle.floor.specs.Accepted.{All, InGrid, CarrierInGrid, WallInGrid, Rises, Absent, ClearOfWalls, Unshared}
+use Rattle.floor.proofs.EachLaws.{Decides, fails-false, false-fails}
+use Rattle.floor.proofs.AmongLaws.{among-found, among-more, among-none}
+
+-- Two tests joined mean both statements.
+both-mean : {a b : Bool} {A B : Type 0} → (a ≡ true) ↔ A → (b ≡ true) ↔ B → ((a && b) ≡ true) ↔ (A × B)
+both-mean {a} {b} f g = (
+  λ h. let s = and-eq-true-iff a b .0 h in (f .0 (s .0), g .0 (s .1)),
+  λ h. and-eq-true-iff a b .1 (f .1 (h .0), g .1 (h .1)),
+)
+
+pub in-grid-means : (f : Floor) (c : ℕ) → (inGrid f c ≡ true) ↔ InGrid f c
+unfolding inGrid
+in-grid-means f c = (ltb-true _ _, lt-ltb _ _)
+
+pub carrier-in-grid-means : (f : Floor) → Decides (carrierInGrid f) (CarrierInGrid f)
+unfolding carrierInGrid
+carrier-in-grid-means f i = both-mean (in-grid-means f _) (in-grid-means f _)
+
+pub wall-in-grid-means : (f : Floor) (ws : List ℕ) → Decides (λ j. inGrid f (getD ws j 0)) (WallInGrid f ws)
+wall-in-grid-means f ws j = in-grid-means f _
+
+pub rises-means : (ws : List ℕ) → Decides (rises ws) (Rises ws)
+unfolding rises
+rises-means ws zero = (λ h k e. absurd (omega arith), λ h. refl)
+rises-means ws (suc j) = (λ h k e. let q : k ≡ j = omega arith in rw q (ltb-true _ _ h), λ h. lt-ltb _ _ (h j refl))
+
+-- The numbers that were looked at are others.
+absent-all : (xs : List ℕ) (c m : ℕ) → Absent xs m c → among xs m c ≡ false
+absent-all xs c zero a = among-none xs c
+absent-all xs c (suc m) a = rw add-one at (among-more xs c m (absent-all xs c m (λ i l. a i (omega arith))) (a m (omega arith)))
+
+pub absent-means : (xs : List ℕ) (m c : ℕ) → (not (among xs m c) ≡ true) ↔ Absent xs m c
+absent-means xs m c = (
+  λ h i l e. false-fails (not-true _ h) (among-found xs c i m l e),
+  λ a. ap not (absent-all xs c m a),
+)
+
+pub clear-means : (f : Floor) (ws : List ℕ) → Decides (clearOfWalls f ws) (ClearOfWalls f ws)
+unfolding clearOfWalls
+clear-means f ws i = both-mean (absent-means ws _ _) (absent-means ws _ _)
+
+pub unshared-means : (f : Floor) → Decides (unshared f) (Unshared f)
+unfolding unshared
+unshared-means f i = both-mean (absent-means (f .starts) _ _) (absent-means (f .goals) _ _)

@@ -1,0 +1,9 @@
+-- Laws of the definitions that no single function owns.
+pub mod VerdictLaws
+pub mod AnswersLaws
+pub mod EachLaws
+pub mod LimitsLaws
+pub mod AmongLaws
+pub mod RisesLaws
+pub mod CheckMeans
+pub mod Theorems

@@ -1,0 +1,78 @@
+-- The limits as statements and as numbers.
+use Prim.Native.Nat.{ℕ, zero, suc, _≤_, _<_}
+use native.Mathlib.Omega.{arith}
+use lib.Dec.{lit<}
+use mathlib.Core.Path.{_≡_, refl, sym, _∙_}
+use mathlib.Core.Bool.{Bool, true, false, _&&_, and-eq-true-iff}
+use mathlib.Core.Logic.{_↔_}
+use mathlib.Core.List.{List}
+use borrow.Author.Tests.{leb-true, le-leb}
+use lib.ListN.{length}
+use lib.Dec.{leb}
+use Rattle.floor.specs.declared.Floor.{Floor}
+use Rattle.floor.specs.Verdict.{Verdict, passed, refused, _then_, demand, each}
+use Rattle.floor.specs.Checks.{within, limitsOf, lentOf}
+use Rattle.floor.specs.Accepted.{Within, FieldWithin, Limited, Lent}
+use Rattle.floor.proofs.VerdictLaws.{then-assoc, demand-holds}
+use Rattle.floor.proofs.EachLaws.{Decides, each-passed}
+
+-- The test of a limit means the limit.
+within-means : (low high v : ℕ) → (within low high v ≡ true) ↔ Within low high v
+unfolding within
+within-means low high v = (
+  λ h. let b = and-eq-true-iff (leb low v) (leb v high) .0 h in (leb-true low v (b .0), leb-true v high (b .1)),
+  λ h. rw (le-leb low v (h .0), le-leb v high (h .1)),
+)
+
+-- The tests of the six fields, as a check over items.
+pub fieldWithin : Floor → ℕ → Bool
+fieldWithin f zero = within 1 32 (f .width)
+fieldWithin f (suc zero) = within 1 32 (f .height)
+fieldWithin f (suc (suc zero)) = within 1 63 (f .horizon)
+fieldWithin f (suc (suc (suc zero))) = within 1 4 (f .depth)
+fieldWithin f (suc (suc (suc (suc zero)))) = within 1 8 (f .carriers)
+fieldWithin f (suc (suc (suc (suc (suc i))))) = within 0 1023 (f .walls)
+
+pub field-means : (f : Floor) → Decides (fieldWithin f) (FieldWithin f)
+unfolding fieldWithin FieldWithin
+field-means f zero = within-means _ _ _
+field-means f (suc zero) = within-means _ _ _
+field-means f (suc (suc zero)) = within-means _ _ _
+field-means f (suc (suc (suc zero))) = within-means _ _ _
+field-means f (suc (suc (suc (suc zero)))) = within-means _ _ _
+field-means f (suc (suc (suc (suc (suc i))))) = within-means _ _ _
+
+-- Check 2 goes over the six fields in order.
+pub limits-each : (f : Floor) → limitsOf f ≡ each 2 1 (fieldWithin f) 6
+unfolding limitsOf each fieldWithin _then_
+limits-each f = simp then-assoc
+
+-- The limits as bounds with names.
+pub record Bounds (f : Floor) : Type 0 where
+  pub width : Within 1 32 (f .width)
+  pub height : Within 1 32 (f .height)
+  pub horizon : Within 1 63 (f .horizon)
+  pub depth : Within 1 4 (f .depth)
+  pub carriers : Within 1 8 (f .carriers)
+  pub walls : Within 0 1023 (f .walls)
+
+pub limited-bounds : (f : Floor) → Limited f → Bounds f
+unfolding FieldWithin
+limited-bounds f l =
+    record {
+      width = l 0 (lit< tt);
+      height = l 1 (lit< tt);
+      horizon = l 2 (lit< tt);
+      depth = l 3 (lit< tt);
+      carriers = l 4 (lit< tt);
+      walls = l 5 (lit< tt);
+    }
+
+-- Where check 2 passes, all six values are within their limits.
+pub limits-passed : (f : Floor) → limitsOf f ≡ passed → Bounds f
+limits-passed f h = limited-bounds f (each-passed 2 1 (fieldWithin f) (FieldWithin f) (field-means f) 6 (sym (limits-each f) ∙ h))
+
+-- Where check 9 of a record passes, the walls that it counts are lent.
+pub lent-passed : (f : Floor) (ws : List ℕ) → lentOf f ws ≡ passed → Lent f ws
+unfolding lentOf
+lent-passed f ws h = leb-true _ _ (demand-holds _ 9 0 h)

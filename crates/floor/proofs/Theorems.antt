@@ -1,0 +1,166 @@
+-- The claims of the floor, proved.
+use Prim.Native.Nat.{ℕ, _+_, _≤_, _<_}
+use native.Mathlib.Omega.{arith}
+use mathlib.Core.Path.{_≡_, refl, sym, _∙_}
+use mathlib.Core.Bool.{Bool, true, false}
+use mathlib.Core.Logic.{_↔_, ⊎-elim, _⊎_}
+use mathlib.Core.List.{List, []}
+use borrow.Author.Tests.{le-leb, lt-leb, leb-false}
+use lib.ListN.{length, getD}
+use Rattle.floor.specs.declared.Floor.{Floor}
+use Rattle.floor.specs.Verdict.{Verdict, passed, refused, _then_, demand, each}
+use Rattle.floor.specs.Checks.{within, among, startOf, goalOf, limitsOf, lentOf, carriersOf, wallsOf, risingOf, clearOf, distinctOf, placesOf, checkOf, carrierInGrid, inGrid, rises, clearOfWalls, unshared}
+use Rattle.floor.specs.Fresh.{freshFloor}
+use Rattle.floor.specs.Accepted.{All, First, Accepted, FieldWithin, CarrierInGrid, WallInGrid, Rises, ClearOfWalls, Unshared, Limited, Lent, CarriersInGrid, WallsInGrid, Rising, Clear, Distinct}
+use Rattle.floor.specs.Refused.{RefusedWith, outside-limit, few-walls, carrier-outside, wall-outside, not-rising, on-wall, shared}
+use Rattle.floor.specs.Claims.{Claims}
+use Rattle.floor.proofs.VerdictLaws.{then-both, then-cases, then-passed, then-refused, demand-cases}
+use Rattle.floor.proofs.EachLaws.{each-passed, all-passes, each-refused, first-refuses}
+use Rattle.floor.proofs.LimitsLaws.{fieldWithin, field-means, limits-each, lent-passed}
+use Rattle.floor.proofs.CheckMeans.{carrier-in-grid-means, wall-in-grid-means, rises-means, clear-means, unshared-means}
+
+module _ (f : Floor) (ws : List ℕ) where
+  limits-mean : (limitsOf f ≡ passed) ↔ Limited f
+  limits-mean = (
+    λ h. each-passed 2 1 (fieldWithin f) (FieldWithin f) (field-means f) 6 (sym (limits-each f) ∙ h),
+    λ a. limits-each f ∙ all-passes 2 1 (fieldWithin f) (FieldWithin f) (field-means f) 6 a,
+  )
+
+  lent-means : (lentOf f ws ≡ passed) ↔ Lent f ws
+  unfolding lentOf demand
+  lent-means = (lent-passed f ws, λ l. rw (le-leb _ _ l))
+
+  carriers-mean : (carriersOf f ≡ passed) ↔ CarriersInGrid f
+  unfolding carriersOf
+  carriers-mean = (each-passed 3 1 _ _ (carrier-in-grid-means f) _, all-passes 3 1 _ _ (carrier-in-grid-means f) _)
+
+  walls-mean : (wallsOf f ws ≡ passed) ↔ WallsInGrid f ws
+  unfolding wallsOf
+  walls-mean = (each-passed 3 _ _ _ (wall-in-grid-means f ws) _, all-passes 3 _ _ _ (wall-in-grid-means f ws) _)
+
+  rising-means : (risingOf f ws ≡ passed) ↔ Rising f ws
+  unfolding risingOf
+  rising-means = (each-passed 4 _ _ _ (rises-means ws) _, all-passes 4 _ _ _ (rises-means ws) _)
+
+  clear-mean : (clearOf f ws ≡ passed) ↔ Clear f ws
+  unfolding clearOf
+  clear-mean = (each-passed 5 1 _ _ (clear-means f ws) _, all-passes 5 1 _ _ (clear-means f ws) _)
+
+  distinct-mean : (distinctOf f ≡ passed) ↔ Distinct f
+  unfolding distinctOf
+  distinct-mean = (each-passed 6 1 _ _ (unshared-means f) _, all-passes 6 1 _ _ (unshared-means f) _)
+
+  -- An accepted floor, from the checks one by one.
+  accepted : checkOf f ws ≡ passed → Accepted f ws
+  unfolding checkOf placesOf
+  accepted h =
+      let a = then-both _ _ h in
+      let b = then-both _ _ (a .1) in
+      let c = then-both _ _ (b .1) in
+      let d = then-both _ _ (c .1) in
+      let e = then-both _ _ (d .1) in
+      let g = then-both _ _ (e .1) in
+      record {
+        limited = limits-mean .0 (a .0);
+        lent = lent-means .0 (b .0);
+        carriers-in-grid = carriers-mean .0 (c .0);
+        walls-in-grid = walls-mean .0 (d .0);
+        rising = rising-means .0 (e .0);
+        clear = clear-mean .0 (g .0);
+        distinct = distinct-mean .0 (g .1);
+      }
+
+  -- All checks pass on an accepted floor.
+  all-pass : Accepted f ws → checkOf f ws ≡ passed
+  unfolding checkOf placesOf _then_
+  all-pass a =
+      rw (
+        limits-mean .1 (a .limited),
+        lent-means .1 (a .lent),
+        carriers-mean .1 (a .carriers-in-grid),
+        walls-mean .1 (a .walls-in-grid),
+        rising-means .1 (a .rising),
+        clear-mean .1 (a .clear),
+        distinct-mean .1 (a .distinct),
+      )
+
+  -- The refusals of 3 to 6, once 2 and 9 have passed.
+  places-refuse : (k p : ℕ) → Limited f → Lent f ws → placesOf f ws ≡ refused k p → RefusedWith f ws k p
+  unfolding placesOf carriersOf wallsOf risingOf clearOf distinctOf
+  places-refuse k p l n h =
+      ⊎-elim
+      (λ (e : carriersOf f ≡ refused k p).
+      let s = each-refused 3 1 _ _ (carrier-in-grid-means f) _ _ _ e in
+      rw (s .number, s .place) (carrier-outside l n (s .first)))
+      (λ (e : (carriersOf f ≡ passed) × ((wallsOf f ws then risingOf f ws then clearOf f ws then distinctOf f) ≡ refused k p)).
+      ⊎-elim
+      (λ (g : wallsOf f ws ≡ refused k p).
+      let s = each-refused 3 _ _ _ (wall-in-grid-means f ws) _ _ _ g in
+      rw (s .number, s .place) (wall-outside l n (carriers-mean .0 (e .0)) (s .first)))
+      (λ (g : (wallsOf f ws ≡ passed) × ((risingOf f ws then clearOf f ws then distinctOf f) ≡ refused k p)).
+      ⊎-elim
+      (λ (u : risingOf f ws ≡ refused k p).
+      let s = each-refused 4 _ _ _ (rises-means ws) _ _ _ u in
+      rw (s .number, s .place) (not-rising l n (carriers-mean .0 (e .0)) (walls-mean .0 (g .0)) (s .first)))
+      (λ (u : (risingOf f ws ≡ passed) × ((clearOf f ws then distinctOf f) ≡ refused k p)).
+      ⊎-elim
+      (λ (w : clearOf f ws ≡ refused k p).
+      let s = each-refused 5 1 _ _ (clear-means f ws) _ _ _ w in
+      rw (s .number, s .place)
+      (on-wall l n (carriers-mean .0 (e .0)) (walls-mean .0 (g .0)) (rising-means .0 (u .0)) (s .first)))
+      (λ (w : (clearOf f ws ≡ passed) × (distinctOf f ≡ refused k p)).
+      let s = each-refused 6 1 _ _ (unshared-means f) _ _ _ (w .1) in
+      rw (s .number, s .place)
+      (shared l n (carriers-mean .0 (e .0)) (walls-mean .0 (g .0)) (rising-means .0 (u .0)) (clear-mean .0 (w .0)) (s .first)))
+      (then-cases _ _ k p (u .1)))
+      (then-cases _ _ k p (g .1)))
+      (then-cases _ _ k p (e .1)))
+      (then-cases _ _ k p h)
+
+  -- A refusal has the condition of its row.
+  row : (k p : ℕ) → checkOf f ws ≡ refused k p → RefusedWith f ws k p
+  unfolding checkOf lentOf
+  row k p h =
+      ⊎-elim
+      (λ (e : limitsOf f ≡ refused k p).
+      let s = each-refused 2 1 _ _ (field-means f) 6 _ _ (sym (limits-each f) ∙ e) in
+      rw (s .number, s .place) (outside-limit (s .first)))
+      (λ (e : (limitsOf f ≡ passed) × ((lentOf f ws then placesOf f ws) ≡ refused k p)).
+      ⊎-elim
+      (λ (g : lentOf f ws ≡ refused k p).
+      let d = demand-cases _ 9 0 k p g in
+      rw (d .1, d .2) (few-walls (limits-mean .0 (e .0)) (leb-false _ _ (d .0))))
+      (λ (g : (lentOf f ws ≡ passed) × (placesOf f ws ≡ refused k p)).
+      places-refuse k p (limits-mean .0 (e .0)) (lent-means .0 (g .0)) (g .1))
+      (then-cases _ _ k p (e .1)))
+      (then-cases _ _ k p h)
+
+  -- The condition of a row gives its refusal.
+  refusal : (k p : ℕ) → RefusedWith f ws k p → checkOf f ws ≡ refused k p
+  unfolding checkOf placesOf carriersOf wallsOf risingOf clearOf distinctOf lentOf demand _then_
+  refusal k p (outside-limit h) = rw (limits-each f, first-refuses 2 1 _ _ (field-means f) 6 _ h)
+  refusal k p (few-walls l h) = rw (limits-mean .1 l, lt-leb _ _ h)
+  refusal k p (carrier-outside {i} l n h) =
+      let e : carriersOf f ≡ refused 3 (1 + i) = first-refuses 3 1 _ _ (carrier-in-grid-means f) _ i h in
+      rw (limits-mean .1 l, lent-means .1 n, e)
+  refusal k p (wall-outside {j} l n a h) =
+      let e : wallsOf f ws ≡ refused 3 (f .carriers + 1 + j) = first-refuses 3 _ _ _ (wall-in-grid-means f ws) _ j h in
+      rw (limits-mean .1 l, lent-means .1 n, carriers-mean .1 a, e)
+  refusal k p (not-rising {j} l n a b h) =
+      let e : risingOf f ws ≡ refused 4 (f .carriers + 1 + j) = first-refuses 4 _ _ _ (rises-means ws) _ j h in
+      rw (limits-mean .1 l, lent-means .1 n, carriers-mean .1 a, walls-mean .1 b, e)
+  refusal k p (on-wall {i} l n a b c h) =
+      let e : clearOf f ws ≡ refused 5 (1 + i) = first-refuses 5 1 _ _ (clear-means f ws) _ i h in
+      rw (limits-mean .1 l, lent-means .1 n, carriers-mean .1 a, walls-mean .1 b, rising-means .1 c, e)
+  refusal k p (shared {i} l n a b c d h) =
+      let e : distinctOf f ≡ refused 6 (1 + i) = first-refuses 6 1 _ _ (unshared-means f) _ i h in
+      rw (limits-mean .1 l, lent-means .1 n, carriers-mean .1 a, walls-mean .1 b, rising-means .1 c, clear-mean .1 d, e)
+
+pub theorems : Claims
+unfolding checkOf limitsOf lentOf placesOf carriersOf wallsOf risingOf clearOf distinctOf freshFloor _then_ demand each within carrierInGrid inGrid startOf goalOf rises clearOfWalls among unshared
+theorems =
+    record {
+      passes-exactly = λ f ws. (accepted f ws, all-pass f ws);
+      refuses-exactly = λ f ws k p. (row f ws k p, refusal f ws k p);
+      fresh-accepted = refl;
+    }

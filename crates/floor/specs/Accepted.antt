@@ -1,0 +1,90 @@
+-- Document 01's conditions on a floor as statements, beside the checks that compute them: what an accepted floor is, and for each row
+-- of the table of refusals when a floor given as a record gets it. Carriers, walls and fields count from 0.
+use Prim.Native.Nat.{ℕ, zero, suc, _+_, _*_, _≤_, _<_}
+use mathlib.Core.Path.{_≡_}
+use mathlib.Core.List.{List}
+use lib.ListN.{length, getD}
+use Rattle.floor.specs.declared.Floor.{Floor}
+use Rattle.floor.specs.Checks.{startOf, goalOf}
+
+-- Each of the first m items is as P says.
+abbrev pub All : (ℕ → Type 0) → ℕ → Type 0
+All P m = (i : ℕ) → i < m → P i
+
+-- Item i is the first of m that is not as P says.
+pub record First (P : ℕ → Type 0) (m i : ℕ) : Type 0 where
+  pub listed : i < m
+  pub fails : P i → ⊥
+  pub before : All P i
+
+-- v lies within low to high.
+abbrev pub Within : ℕ → ℕ → ℕ → Type 0
+Within low high v = (low ≤ v) × (v ≤ high)
+
+-- The value of field i of line 1 is within its limits.
+unfoldable pub FieldWithin : Floor → ℕ → Type 0
+FieldWithin f zero = Within 1 32 (f .width)
+FieldWithin f (suc zero) = Within 1 32 (f .height)
+FieldWithin f (suc (suc zero)) = Within 1 63 (f .horizon)
+FieldWithin f (suc (suc (suc zero))) = Within 1 4 (f .depth)
+FieldWithin f (suc (suc (suc (suc zero)))) = Within 1 8 (f .carriers)
+FieldWithin f (suc (suc (suc (suc (suc i))))) = Within 0 1023 (f .walls)
+
+-- A cell number lies in the grid.
+abbrev pub InGrid : Floor → ℕ → Type 0
+InGrid f c = c < f .width * f .height
+
+-- Both cells of carrier i lie in the grid; wall j does.
+abbrev pub CarrierInGrid : Floor → ℕ → Type 0
+CarrierInGrid f i = InGrid f (startOf f i) × InGrid f (goalOf f i)
+
+abbrev pub WallInGrid : Floor → List ℕ → ℕ → Type 0
+WallInGrid f ws j = InGrid f (getD ws j 0)
+
+-- Wall j has a higher cell number than the wall before it, if there is one.
+abbrev pub Rises : List ℕ → ℕ → Type 0
+Rises ws j = (k : ℕ) → suc k ≡ j → getD ws k 0 < getD ws j 0
+
+-- c is not among the first m numbers of xs.
+abbrev pub Absent : List ℕ → ℕ → ℕ → Type 0
+Absent xs m c = All (λ (i : ℕ). getD xs i 0 ≡ c → ⊥) m
+
+-- Neither the start nor the goal of carrier i is a wall.
+abbrev pub ClearOfWalls : Floor → List ℕ → ℕ → Type 0
+ClearOfWalls f ws i = Absent ws (f .walls) (startOf f i) × Absent ws (f .walls) (goalOf f i)
+
+-- No earlier carrier has the start of carrier i, and none has its goal.
+abbrev pub Unshared : Floor → ℕ → Type 0
+Unshared f i = Absent (f .starts) i (startOf f i) × Absent (f .goals) i (goalOf f i)
+
+-- What each check asks, in the order of the checks.
+abbrev pub Limited : Floor → Type 0
+Limited f = All (FieldWithin f) 6
+
+abbrev pub Lent : Floor → List ℕ → Type 0
+Lent f ws = f .walls ≤ length ws
+
+abbrev pub CarriersInGrid : Floor → Type 0
+CarriersInGrid f = All (CarrierInGrid f) (f .carriers)
+
+abbrev pub WallsInGrid : Floor → List ℕ → Type 0
+WallsInGrid f ws = All (WallInGrid f ws) (f .walls)
+
+abbrev pub Rising : Floor → List ℕ → Type 0
+Rising f ws = All (Rises ws) (f .walls)
+
+abbrev pub Clear : Floor → List ℕ → Type 0
+Clear f ws = All (ClearOfWalls f ws) (f .carriers)
+
+abbrev pub Distinct : Floor → Type 0
+Distinct f = All (Unshared f) (f .carriers)
+
+-- A floor in which the checks find nothing.
+pub record Accepted (f : Floor) (ws : List ℕ) : Type 0 where
+  pub limited : Limited f
+  pub lent : Lent f ws
+  pub carriers-in-grid : CarriersInGrid f
+  pub walls-in-grid : WallsInGrid f ws
+  pub rising : Rising f ws
+  pub clear : Clear f ws
+  pub distinct : Distinct f

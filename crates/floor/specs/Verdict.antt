@@ -1,0 +1,24 @@
+-- What a check says, and how checks follow one another (document 01, 'Refused': the first refusal met ends the check).
+use Prim.Native.Nat.{ℕ, suc, zero, _+_}
+use mathlib.Core.Bool.{Bool, true, false}
+
+-- A check finds nothing, or refuses with the number and the place of document 01's table.
+pub data Verdict : Type 0 where
+  passed : Verdict
+  refused : ℕ → ℕ → Verdict
+
+infixr 30 _then_
+-- The second check is made only where the first finds nothing.
+unfoldable pub _then_ : Verdict → Verdict → Verdict
+_then_ passed v = v
+_then_ (refused k p) v = refused k p
+
+-- A test that must hold, refused with number k and place p otherwise.
+unfoldable pub demand : Bool → ℕ → ℕ → Verdict
+demand true k p = passed
+demand false k p = refused k p
+
+-- The tests 0 to m − 1 in their order, test i having the place p + i.
+unfoldable pub each : ℕ → ℕ → (ℕ → Bool) → ℕ → Verdict
+each k p ok zero = passed
+each k p ok (suc m) = each k p ok m then demand (ok m) k (p + m)

@@ -1,0 +1,225 @@
+// The checks of a floor past its limits: each goes over its items in order and answers the first that fails.
+// Each has a `requires` for what the checks before it have shown.
+ghost use mathlib.Core.Path.{_≡_};
+ghost use mathlib.Core.Bool.{true};
+ghost use Prim.Native.Nat.{_+_, _≤_, _<_};
+ghost use lib.ListN.{length};
+ghost use Rattle.floor.specs.Answers.{verdictOf};
+ghost use Rattle.floor.specs.Checks.{inGrid, carrierInGrid, clearOfWalls, lentOf, carriersOf, wallsOf, risingOf, clearOf, distinctOf, placesOf};
+ghost use Rattle.floor.specs.Checks.{among as Checks·among, rises as Checks·rises, unshared as Checks·unshared};
+use crate::Checked;
+use crate::Floor;
+use crate::Refusal;
+
+// 9: the walls that the floor counts are lent.
+pub fn lent(f: Floor, walls: &[u16]) -> Checked
+    ensures { λ r. ⌜ verdictOf r ≡ lentOf f (now (walls .entry)) ⌝ }
+{
+    if walls.len() < f.walls as usize {
+        return Checked::Refused(Refusal {
+            number: 9,
+            place: 0,
+        });
+    }
+    Checked::Passed
+}
+
+// Whether c is among the first m of xs.
+fn among(xs: &[u16], m: usize, c: u16) -> bool
+    requires { ⌜ m ≤ length (now xs) ⌝ }
+    ensures { λ r. ⌜ r ≡ Checks·among (now (xs .entry)) m c ⌝ }
+{
+    let mut i: usize = 0;
+    while i < m {
+        if xs[i] == c {
+            return true;
+        }
+        i += 1;
+    }
+    false
+}
+
+// Whether a cell number lies in the grid.
+fn in_grid(f: Floor, c: u16) -> bool
+    requires { ⌜ (f .width ≤ 32) × (f .height ≤ 32) ⌝ }
+    ensures { λ r. ⌜ r ≡ inGrid f c ⌝ }
+{
+    c < f.width * f.height
+}
+
+// Whether both cells of carrier i lie in the grid.
+fn carrier_inside(f: Floor, i: usize) -> bool
+    requires { ⌜ (f .width ≤ 32) × (f .height ≤ 32) ⌝ }
+    requires { ⌜ i < 8 ⌝ }
+    ensures { λ r. ⌜ r ≡ carrierInGrid f i ⌝ }
+{
+    if in_grid(f, f.starts[i]) {
+        return in_grid(f, f.goals[i]);
+    }
+    false
+}
+
+// 3, for the carriers: both cells of each lie in the grid.
+fn carriers_inside(f: Floor) -> Checked
+    requires { ⌜ (f .width ≤ 32) × (f .height ≤ 32) ⌝ }
+    requires { ⌜ f .carriers ≤ 8 ⌝ }
+    ensures { λ r. ⌜ verdictOf r ≡ carriersOf f ⌝ }
+{
+    let n = f.carriers as usize;
+    let mut i: usize = 0;
+    while i < n {
+        if !carrier_inside(f, i) {
+            return Checked::Refused(Refusal {
+                number: 3,
+                place: 1 + i,
+            });
+        }
+        i += 1;
+    }
+    Checked::Passed
+}
+
+// 3, for the walls: each lies in the grid.
+fn walls_inside(f: Floor, walls: &[u16]) -> Checked
+    requires { ⌜ (f .width ≤ 32) × (f .height ≤ 32) ⌝ }
+    requires { ⌜ f .walls ≤ length (now walls) ⌝ }
+    ensures { λ r. ⌜ verdictOf r ≡ wallsOf f (now (walls .entry)) ⌝ }
+{
+    let m = f.walls as usize;
+    let base = f.carriers as usize + 1;
+    let mut j: usize = 0;
+    while j < m {
+        if !in_grid(f, walls[j]) {
+            return Checked::Refused(Refusal {
+                number: 3,
+                place: base + j,
+            });
+        }
+        j += 1;
+    }
+    Checked::Passed
+}
+
+// Whether wall j is above the wall before it.
+fn rises(walls: &[u16], j: usize) -> bool
+    requires { ⌜ j < length (now walls) ⌝ }
+    ensures { λ r. ⌜ r ≡ Checks·rises (now (walls .entry)) j ⌝ }
+{
+    if j == 0 {
+        return true;
+    }
+    walls[j - 1] < walls[j]
+}
+
+// 4: the walls rise strictly.
+fn rising(f: Floor, walls: &[u16]) -> Checked
+    requires { ⌜ f .walls ≤ length (now walls) ⌝ }
+    ensures { λ r. ⌜ verdictOf r ≡ risingOf f (now (walls .entry)) ⌝ }
+{
+    let m = f.walls as usize;
+    let base = f.carriers as usize + 1;
+    let mut j: usize = 0;
+    while j < m {
+        if !rises(walls, j) {
+            return Checked::Refused(Refusal {
+                number: 4,
+                place: base + j,
+            });
+        }
+        j += 1;
+    }
+    Checked::Passed
+}
+
+// Whether neither cell of carrier i is a wall.
+fn clear_of_walls(f: Floor, walls: &[u16], i: usize) -> bool
+    requires { ⌜ i < 8 ⌝ }
+    requires { ⌜ f .walls ≤ length (now walls) ⌝ }
+    ensures { λ r. ⌜ r ≡ clearOfWalls f (now (walls .entry)) i ⌝ }
+{
+    let m = f.walls as usize;
+    if among(walls, m, f.starts[i]) {
+        return false;
+    }
+    !among(walls, m, f.goals[i])
+}
+
+// 5: no carrier starts or ends on a wall.
+fn clear(f: Floor, walls: &[u16]) -> Checked
+    requires { ⌜ f .carriers ≤ 8 ⌝ }
+    requires { ⌜ f .walls ≤ length (now walls) ⌝ }
+    ensures { λ r. ⌜ verdictOf r ≡ clearOf f (now (walls .entry)) ⌝ }
+{
+    let n = f.carriers as usize;
+    let mut i: usize = 0;
+    while i < n {
+        if !clear_of_walls(f, walls, i) {
+            return Checked::Refused(Refusal {
+                number: 5,
+                place: 1 + i,
+            });
+        }
+        i += 1;
+    }
+    Checked::Passed
+}
+
+// Whether no carrier before carrier i has its start, and none has its goal.
+fn unshared(f: Floor, i: usize) -> bool
+    requires { ⌜ i < 8 ⌝ }
+    ensures { λ r. ⌜ r ≡ Checks·unshared f i ⌝ }
+{
+    let starts = f.starts;
+    let start = starts[i];
+    if among(&starts, i, start) {
+        return false;
+    }
+    let goals = f.goals;
+    let goal = goals[i];
+    !among(&goals, i, goal)
+}
+
+// 6: no two carriers share a start, and no two share a goal.
+fn distinct(f: Floor) -> Checked
+    requires { ⌜ f .carriers ≤ 8 ⌝ }
+    ensures { λ r. ⌜ verdictOf r ≡ distinctOf f ⌝ }
+{
+    let n = f.carriers as usize;
+    let mut i: usize = 0;
+    while i < n {
+        if !unshared(f, i) {
+            return Checked::Refused(Refusal {
+                number: 6,
+                place: 1 + i,
+            });
+        }
+        i += 1;
+    }
+    Checked::Passed
+}
+
+// 3 to 6, in this order.
+pub fn places(f: Floor, walls: &[u16]) -> Checked
+    requires { ⌜ (f .width ≤ 32) × (f .height ≤ 32) ⌝ }
+    requires { ⌜ f .carriers ≤ 8 ⌝ }
+    requires { ⌜ f .walls ≤ length (now walls) ⌝ }
+    ensures { λ r. ⌜ verdictOf r ≡ placesOf f (now (walls .entry)) ⌝ }
+{
+    let carriers = carriers_inside(f);
+    let Checked::Passed = carriers else {
+        return carriers;
+    };
+    let inside = walls_inside(f, walls);
+    let Checked::Passed = inside else {
+        return inside;
+    };
+    let rise = rising(f, walls);
+    let Checked::Passed = rise else {
+        return rise;
+    };
+    let off = clear(f, walls);
+    let Checked::Passed = off else {
+        return off;
+    };
+    distinct(f)
+}
