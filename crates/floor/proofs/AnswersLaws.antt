@@ -1,12 +1,13 @@
 -- Laws of a chain of checks that is taken apart by `let .. else`: an answer that passed hands on to the rest of the chain, and the
 -- first refusal is the answer of the whole.
-use Prim.Native.Nat.{ℕ}
-use mathlib.Core.Path.{_≡_, refl, sym}
+use Prim.Native.Nat.{ℕ, _<_}
+use mathlib.Core.Path.{_≡_, refl, sym, _∙_}
 use Rattle.floor.specs.declared.Refusal.{Refusal}
 use Rattle.floor.specs.declared.Checked.{Checked}
 use Rattle.floor.specs.declared.Checked.the-variants.{Passed, Refused}
-use Rattle.floor.specs.Verdict.{Verdict, passed, refused, _then_}
+use Rattle.floor.specs.Verdict.{Verdict, passed, refused, _then_, inTurn}
 use Rattle.floor.specs.Answers.{verdictOf}
+use Rattle.floor.proofs.VerdictLaws.{turn-stop}
 
 -- A check that passed hands on: what the rest answers, the whole answers.
 pub hands-on : {a : Checked} {u v w : Verdict} → verdictOf a ≡ v → a ≡ Passed → u ≡ w → u ≡ (v then w)
@@ -22,3 +23,14 @@ ends-at w h e = rw (← h, e)
 pub passes : {a : Checked} {v : Verdict} → verdictOf a ≡ v → a ≡ Passed → v ≡ passed
 unfolding verdictOf
 passes h e = rw (← h, e)
+
+-- A check that answers a refusal refuses with its number and place.
+pub refuses : {a : Checked} {v : Verdict} {x : Refusal} → verdictOf a ≡ v → a ≡ Refused x → v ≡ refused (x .number) (x .place)
+unfolding verdictOf
+refuses h e = rw (← h, e)
+
+-- A loop over checks that is left by a refusal: the refusal is the answer of all the checks.
+pub turn-ends : {a : Checked} {x : Refusal} (check : ℕ → Verdict) (i m : ℕ)
+  → i < m → inTurn check i ≡ passed → verdictOf a ≡ check i → a ≡ Refused x → verdictOf a ≡ inTurn check m
+turn-ends {x} check i m l p h e =
+    h ∙ refuses h e ∙ sym (turn-stop check i m (x .number) (x .place) l p (refuses h e))

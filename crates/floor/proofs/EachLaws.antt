@@ -5,7 +5,7 @@ use mathlib.Core.Path.{_≡_, refl, _∙_, sym, ap}
 use mathlib.Core.Bool.{Bool, true, false, true≢false}
 use borrow.Author.Count.{below-more}
 use mathlib.Core.Logic.{⊎-elim, _⊎_, inl, inr, _↔_}
-use Rattle.floor.specs.Verdict.{Verdict, passed, refused, _then_, demand, each}
+use Rattle.floor.specs.Verdict.{Verdict, passed, refused, _then_, demand, inTurn, each}
 use Rattle.floor.specs.Accepted.{All, First}
 use Rattle.floor.proofs.VerdictLaws.{then-both, then-cases, demand-holds, demand-cases, refused-not-passed, each-stop}
 
@@ -25,7 +25,7 @@ false-fails h t = true≢false (sym t ∙ h)
 module _ (k p : ℕ) (ok : ℕ → Bool) (P : ℕ → Type 0) (means : Decides ok P) where
   -- All tests hold where the check passes.
   pub each-passed : (m : ℕ) → each k p ok m ≡ passed → All P m
-  unfolding each
+  unfolding each inTurn
   each-passed zero h i l = absurd (omega arith)
   each-passed (suc m) h i l =
       let b = then-both (each k p ok m) (demand (ok m) k (p + m)) h in
@@ -33,7 +33,7 @@ module _ (k p : ℕ) (ok : ℕ → Bool) (P : ℕ → Type 0) (means : Decides o
 
   -- The check passes where all tests hold.
   pub all-passes : (m : ℕ) → All P m → each k p ok m ≡ passed
-  unfolding each demand _then_
+  unfolding each inTurn demand _then_
   all-passes zero a = refl
   all-passes (suc m) a = rw (all-passes m (λ i l. a i (omega arith)), means m .1 (a m (omega arith)))
 
@@ -46,7 +46,7 @@ module _ (k p : ℕ) (ok : ℕ → Bool) (P : ℕ → Type 0) (means : Decides o
 
   -- A refusal is the first failing test's.
   pub each-refused : (m a b : ℕ) → each k p ok m ≡ refused a b → Stopped m a b
-  unfolding each
+  unfolding each inTurn
   each-refused zero a b h = absurd (refused-not-passed (sym h))
   each-refused (suc m) a b h =
       ⊎-elim

@@ -10,7 +10,7 @@ use borrow.Author.Tests.{leb-true, le-leb}
 use lib.ListN.{length}
 use lib.Dec.{leb}
 use Rattle.floor.specs.declared.Floor.{Floor}
-use Rattle.floor.specs.Verdict.{Verdict, passed, refused, _then_, demand, each}
+use Rattle.floor.specs.Verdict.{Verdict, passed, refused, _then_, demand, inTurn, each}
 use Rattle.floor.specs.Checks.{within, limitsOf, lentOf}
 use Rattle.floor.specs.Accepted.{Within, FieldWithin, Limited, Lent}
 use Rattle.floor.proofs.VerdictLaws.{then-assoc, demand-holds}
@@ -44,7 +44,7 @@ field-means f (suc (suc (suc (suc (suc i))))) = within-means _ _ _
 
 -- Check 2 goes over the six fields in order.
 pub limits-each : (f : Floor) → limitsOf f ≡ each 2 1 (fieldWithin f) 6
-unfolding limitsOf each fieldWithin _then_
+unfolding limitsOf each inTurn fieldWithin _then_
 limits-each f = simp then-assoc
 
 -- The limits as bounds with names.

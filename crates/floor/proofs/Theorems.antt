@@ -8,7 +8,7 @@ use mathlib.Core.List.{List, []}
 use borrow.Author.Tests.{le-leb, lt-leb, leb-false}
 use lib.ListN.{length, getD}
 use Rattle.floor.specs.declared.Floor.{Floor}
-use Rattle.floor.specs.Verdict.{Verdict, passed, refused, _then_, demand, each}
+use Rattle.floor.specs.Verdict.{Verdict, passed, refused, _then_, demand, inTurn, each}
 use Rattle.floor.specs.Checks.{within, among, startOf, goalOf, limitsOf, lentOf, carriersOf, wallsOf, risingOf, clearOf, distinctOf, placesOf, checkOf, carrierInGrid, inGrid, rises, clearOfWalls, unshared}
 use Rattle.floor.specs.Fresh.{freshFloor}
 use Rattle.floor.specs.Accepted.{All, First, Accepted, FieldWithin, CarrierInGrid, WallInGrid, Rises, ClearOfWalls, Unshared, Limited, Lent, CarriersInGrid, WallsInGrid, Rising, Clear, Distinct}
@@ -157,7 +157,7 @@ module _ (f : Floor) (ws : List ℕ) where
       rw (limits-mean .1 l, lent-means .1 n, carriers-mean .1 a, walls-mean .1 b, rising-means .1 c, clear-mean .1 d, e)
 
 pub theorems : Claims
-unfolding checkOf limitsOf lentOf placesOf carriersOf wallsOf risingOf clearOf distinctOf freshFloor _then_ demand each within carrierInGrid inGrid startOf goalOf rises clearOfWalls among unshared
+unfolding checkOf limitsOf lentOf placesOf carriersOf wallsOf risingOf clearOf distinctOf freshFloor _then_ demand each inTurn within carrierInGrid inGrid startOf goalOf rises clearOfWalls among unshared
 theorems =
     record {
       passes-exactly = λ f ws. (accepted f ws, all-pass f ws);

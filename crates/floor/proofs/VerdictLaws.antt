@@ -5,8 +5,9 @@ use native.Mathlib.Numerals.{add-one}
 use native.Mathlib.Nat.{zero-add, suc-add}
 use mathlib.Core.Path.{_≡_, refl, _∙_, sym, ap}
 use mathlib.Core.Bool.{Bool, true, false}
+use borrow.Author.Count.{below-more}
 use mathlib.Core.Logic.{_⊎_, inl, inr}
-use Rattle.floor.specs.Verdict.{Verdict, passed, refused, _then_, demand, each}
+use Rattle.floor.specs.Verdict.{Verdict, passed, refused, _then_, demand, inTurn, each}
 
 -- A passed check hands on to the next.
 pub then-passed : {v w : Verdict} → v ≡ passed → (v then w) ≡ w
@@ -52,36 +53,80 @@ unfolding _then_
 then-assoc passed v w = refl
 then-assoc (refused k p) v w = refl
 
+module _ (check : ℕ → Verdict) where
+  -- No check: nothing to refuse.
+  pub turn-none : inTurn check 0 ≡ passed
+  unfolding inTurn
+  turn-none = refl
+
+  -- One more check that passes.
+  pub turn-more : (i : ℕ) → inTurn check i ≡ passed → check i ≡ passed → inTurn check (i + 1) ≡ passed
+  unfolding inTurn _then_
+  turn-more i h t = rw (add-one, h, t)
+
+  -- One more check that refuses.
+  turn-fails : (i k p : ℕ) → inTurn check i ≡ passed → check i ≡ refused k p → inTurn check (suc i) ≡ refused k p
+  unfolding inTurn _then_
+  turn-fails i k p h t = rw (h, t)
+
+  -- A refusal among the first i checks is the refusal of all.
+  turn-kept : (i d k p : ℕ) → inTurn check i ≡ refused k p → inTurn check (d + i) ≡ refused k p
+  unfolding inTurn _then_
+  turn-kept i zero k p h = rw zero-add h
+  turn-kept i (suc d) k p h = rw (suc-add, turn-kept i d k p h)
+
+  -- The first check that refuses is the refusal.
+  pub turn-stop : (i m k p : ℕ) → i < m → inTurn check i ≡ passed → check i ≡ refused k p → inTurn check m ≡ refused k p
+  turn-stop i m k p l h t =
+      let e : (m - suc i) + suc i ≡ m = omega arith in
+      rw e at (turn-kept (suc i) (m - suc i) k p (turn-fails i k p h t))
+
+  -- The loop's end: all m checks pass.
+  pub turn-end : (i m : ℕ) → i ≤ m → m ≤ i → inTurn check i ≡ passed → passed ≡ inTurn check m
+  turn-end i m a b h =
+      let e : i ≡ m = omega arith in
+      sym (rw e at h)
+
+  -- Each check passes where all do.
+  pub turn-passed : (m : ℕ) → inTurn check m ≡ passed → (i : ℕ) → i < m → check i ≡ passed
+  unfolding inTurn
+  turn-passed zero h i l = absurd (omega arith)
+  turn-passed (suc m) h i l =
+      let b = then-both (inTurn check m) (check m) h in
+      below-more (λ (j : ℕ). check j ≡ passed) m (turn-passed m (b .0)) (b .1) i (omega arith)
+
+  -- All pass where each does.
+  pub turn-passes : (m : ℕ) → ((i : ℕ) → i < m → check i ≡ passed) → inTurn check m ≡ passed
+  unfolding inTurn _then_
+  turn-passes zero a = refl
+  turn-passes (suc m) a = rw (turn-passes m (λ i l. a i (omega arith)), a m (omega arith))
+
+-- The check of one item.
+pub demand-passes : {b : Bool} (k p : ℕ) → b ≡ true → demand b k p ≡ passed
+unfolding demand
+demand-passes k p h = rw h
+
+pub demand-refuses : {b : Bool} (k p : ℕ) → b ≡ false → demand b k p ≡ refused k p
+unfolding demand
+demand-refuses k p h = rw h
+
 module _ (k p : ℕ) (ok : ℕ → Bool) where
   -- No item: nothing to refuse.
   pub each-none : each k p ok 0 ≡ passed
   unfolding each
-  each-none = refl
+  each-none = turn-none _
 
   -- One more item that passes.
   pub each-more : (i : ℕ) → each k p ok i ≡ passed → ok i ≡ true → each k p ok (i + 1) ≡ passed
-  unfolding each _then_ demand
-  each-more i h t = rw (add-one, h, t)
-
-  -- One more item that fails.
-  each-fails : (i : ℕ) → each k p ok i ≡ passed → ok i ≡ false → each k p ok (suc i) ≡ refused k (p + i)
-  unfolding each _then_ demand
-  each-fails i h t = rw (h, t)
-
-  -- A refusal among the first i items is the refusal of all.
-  each-kept : (i d a b : ℕ) → each k p ok i ≡ refused a b → each k p ok (d + i) ≡ refused a b
-  unfolding each _then_
-  each-kept i zero a b h = rw zero-add h
-  each-kept i (suc d) a b h = rw (suc-add, each-kept i d a b h)
+  unfolding each
+  each-more i h t = turn-more _ i h (demand-passes k (p + i) t)
 
   -- The first item that fails is the refusal.
   pub each-stop : (i m : ℕ) → i < m → each k p ok i ≡ passed → ok i ≡ false → each k p ok m ≡ refused k (p + i)
-  each-stop i m l h t =
-      let e : (m - suc i) + suc i ≡ m = omega arith in
-      rw e at (each-kept (suc i) (m - suc i) k (p + i) (each-fails i h t))
+  unfolding each
+  each-stop i m l h t = turn-stop _ i m k (p + i) l h (demand-refuses k (p + i) t)
 
   -- The loop's end: all m items pass.
   pub each-end : (i m : ℕ) → i ≤ m → m ≤ i → each k p ok i ≡ passed → passed ≡ each k p ok m
-  each-end i m a b h =
-      let e : i ≡ m = omega arith in
-      sym (rw e at h)
+  unfolding each
+  each-end i m a b h = turn-end _ i m a b h

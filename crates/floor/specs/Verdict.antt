@@ -18,7 +18,11 @@ unfoldable pub demand : Bool → ℕ → ℕ → Verdict
 demand true k p = passed
 demand false k p = refused k p
 
+-- The checks 0 to m − 1 in their order.
+unfoldable pub inTurn : (ℕ → Verdict) → ℕ → Verdict
+inTurn check zero = passed
+inTurn check (suc m) = inTurn check m then check m
+
 -- The tests 0 to m − 1 in their order, test i having the place p + i.
 unfoldable pub each : ℕ → ℕ → (ℕ → Bool) → ℕ → Verdict
-each k p ok zero = passed
-each k p ok (suc m) = each k p ok m then demand (ok m) k (p + m)
+each k p ok m = inTurn (λ i. demand (ok i) k (p + i)) m
