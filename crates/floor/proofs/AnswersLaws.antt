@@ -31,6 +31,6 @@ refuses h e = rw (← h, e)
 
 -- A loop over checks that is left by a refusal: the refusal is the answer of all the checks.
 pub turn-ends : {a : Checked} {x : Refusal} (check : ℕ → Verdict) (i m : ℕ)
-  → i < m → inTurn check i ≡ passed → verdictOf a ≡ check i → a ≡ Refused x → verdictOf a ≡ inTurn check m
+    → i < m → inTurn check i ≡ passed → verdictOf a ≡ check i → a ≡ Refused x → verdictOf a ≡ inTurn check m
 turn-ends {x} check i m l p h e =
     h ∙ refuses h e ∙ sym (turn-stop check i m (x .number) (x .place) l p (refuses h e))

@@ -5,5 +5,6 @@ pub mod EachLaws
 pub mod LimitsLaws
 pub mod AmongLaws
 pub mod RisesLaws
+pub mod SameLaws
 pub mod CheckMeans
 pub mod Theorems

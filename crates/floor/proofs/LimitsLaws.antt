@@ -11,9 +11,9 @@ use lib.ListN.{length}
 use lib.Dec.{leb}
 use Rattle.floor.specs.declared.Floor.{Floor}
 use Rattle.floor.specs.Verdict.{Verdict, passed, refused, _then_, demand, inTurn, each}
-use Rattle.floor.specs.Checks.{within, limitsOf, lentOf}
+use Rattle.floor.specs.Checks.{within, limitsOf, lentOf, roomOf, placesOf, checkOf}
 use Rattle.floor.specs.Accepted.{Within, FieldWithin, Limited, Lent}
-use Rattle.floor.proofs.VerdictLaws.{then-assoc, demand-holds}
+use Rattle.floor.proofs.VerdictLaws.{then-assoc, then-both, demand-holds}
 use Rattle.floor.proofs.EachLaws.{Decides, each-passed}
 
 -- The test of a limit means the limit.
@@ -72,7 +72,25 @@ limited-bounds f l =
 pub limits-passed : (f : Floor) → limitsOf f ≡ passed → Bounds f
 limits-passed f h = limited-bounds f (each-passed 2 1 (fieldWithin f) (FieldWithin f) (field-means f) 6 (sym (limits-each f) ∙ h))
 
--- Where check 9 of a record passes, the walls that it counts are lent.
+-- Where check 9 passes, the memory that is needed is lent.
+pub room-passed : (needed lent : ℕ) → roomOf needed lent ≡ passed → needed ≤ lent
+unfolding roomOf
+room-passed needed lent h = leb-true _ _ (demand-holds _ 9 0 h)
+
 pub lent-passed : (f : Floor) (ws : List ℕ) → lentOf f ws ≡ passed → Lent f ws
 unfolding lentOf
-lent-passed f ws h = leb-true _ _ (demand-holds _ 9 0 h)
+lent-passed f ws h = room-passed _ _ h
+
+-- Where all checks pass, each part of them does.
+pub record CheckTells (f : Floor) (ws : List ℕ) : Type 0 where
+  pub limited : limitsOf f ≡ passed
+  pub bounds : Bounds f
+  pub lent : Lent f ws
+  pub places : placesOf f ws ≡ passed
+
+pub check-tells : (f : Floor) (ws : List ℕ) → checkOf f ws ≡ passed → CheckTells f ws
+unfolding checkOf
+check-tells f ws h =
+    let a = then-both _ _ h in
+    let b = then-both _ _ (a .1) in
+    record { limited = a .0; bounds = limits-passed f (a .0); lent = lent-passed f ws (b .0); places = b .1 }

@@ -9,7 +9,7 @@ use borrow.Author.Tests.{le-leb, lt-leb, leb-false}
 use lib.ListN.{length, getD}
 use Rattle.floor.specs.declared.Floor.{Floor}
 use Rattle.floor.specs.Verdict.{Verdict, passed, refused, _then_, demand, inTurn, each}
-use Rattle.floor.specs.Checks.{within, among, startOf, goalOf, limitsOf, lentOf, carriersOf, wallsOf, risingOf, clearOf, distinctOf, placesOf, checkOf, carrierInGrid, inGrid, rises, clearOfWalls, unshared}
+use Rattle.floor.specs.Checks.{within, among, startOf, goalOf, limitsOf, lentOf, roomOf, carriersOf, wallsOf, risingOf, clearOf, distinctOf, placesOf, checkOf, carrierInGrid, inGrid, rises, clearOfWalls, unshared}
 use Rattle.floor.specs.Fresh.{freshFloor}
 use Rattle.floor.specs.Accepted.{All, First, Accepted, FieldWithin, CarrierInGrid, WallInGrid, Rises, ClearOfWalls, Unshared, Limited, Lent, CarriersInGrid, WallsInGrid, Rising, Clear, Distinct}
 use Rattle.floor.specs.Refused.{RefusedWith, outside-limit, few-walls, carrier-outside, wall-outside, not-rising, on-wall, shared}
@@ -17,6 +17,7 @@ use Rattle.floor.specs.Claims.{Claims}
 use Rattle.floor.proofs.VerdictLaws.{then-both, then-cases, then-passed, then-refused, demand-cases}
 use Rattle.floor.proofs.EachLaws.{each-passed, all-passes, each-refused, first-refuses}
 use Rattle.floor.proofs.LimitsLaws.{fieldWithin, field-means, limits-each, lent-passed}
+use Rattle.floor.proofs.SameLaws.{check-same}
 use Rattle.floor.proofs.CheckMeans.{carrier-in-grid-means, wall-in-grid-means, rises-means, clear-means, unshared-means}
 
 module _ (f : Floor) (ws : List ℕ) where
@@ -27,7 +28,7 @@ module _ (f : Floor) (ws : List ℕ) where
   )
 
   lent-means : (lentOf f ws ≡ passed) ↔ Lent f ws
-  unfolding lentOf demand
+  unfolding lentOf roomOf demand
   lent-means = (lent-passed f ws, λ l. rw (le-leb _ _ l))
 
   carriers-mean : (carriersOf f ≡ passed) ↔ CarriersInGrid f
@@ -119,7 +120,7 @@ module _ (f : Floor) (ws : List ℕ) where
 
   -- A refusal has the condition of its row.
   row : (k p : ℕ) → checkOf f ws ≡ refused k p → RefusedWith f ws k p
-  unfolding checkOf lentOf
+  unfolding checkOf lentOf roomOf
   row k p h =
       ⊎-elim
       (λ (e : limitsOf f ≡ refused k p).
@@ -137,7 +138,7 @@ module _ (f : Floor) (ws : List ℕ) where
 
   -- The condition of a row gives its refusal.
   refusal : (k p : ℕ) → RefusedWith f ws k p → checkOf f ws ≡ refused k p
-  unfolding checkOf placesOf carriersOf wallsOf risingOf clearOf distinctOf lentOf demand _then_
+  unfolding checkOf placesOf carriersOf wallsOf risingOf clearOf distinctOf lentOf roomOf demand _then_
   refusal k p (outside-limit h) = rw (limits-each f, first-refuses 2 1 _ _ (field-means f) 6 _ h)
   refusal k p (few-walls l h) = rw (limits-mean .1 l, lt-leb _ _ h)
   refusal k p (carrier-outside {i} l n h) =
@@ -157,10 +158,11 @@ module _ (f : Floor) (ws : List ℕ) where
       rw (limits-mean .1 l, lent-means .1 n, carriers-mean .1 a, walls-mean .1 b, rising-means .1 c, clear-mean .1 d, e)
 
 pub theorems : Claims
-unfolding checkOf limitsOf lentOf placesOf carriersOf wallsOf risingOf clearOf distinctOf freshFloor _then_ demand each inTurn within carrierInGrid inGrid startOf goalOf rises clearOfWalls among unshared
+unfolding checkOf limitsOf lentOf roomOf placesOf carriersOf wallsOf risingOf clearOf distinctOf freshFloor _then_ demand each inTurn within carrierInGrid inGrid startOf goalOf rises clearOfWalls among unshared
 theorems =
     record {
       passes-exactly = λ f ws. (accepted f ws, all-pass f ws);
       refuses-exactly = λ f ws k p. (row f ws k p, refusal f ws k p);
       fresh-accepted = refl;
+      same-verdict = λ f ws g vs same. check-same f ws g vs same;
     }

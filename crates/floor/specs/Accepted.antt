@@ -88,3 +88,16 @@ pub record Accepted (f : Floor) (ws : List ℕ) : Type 0 where
   pub rising : Rising f ws
   pub clear : Clear f ws
   pub distinct : Distinct f
+
+-- Two records with their walls are the same floor: they agree in all that is part of it, which the places of a record past the
+-- carrier count and of the walls past the wall count are not.
+pub record SameFloor (f : Floor) (ws : List ℕ) (g : Floor) (vs : List ℕ) : Type 0 where
+  pub width : f .width ≡ g .width
+  pub height : f .height ≡ g .height
+  pub horizon : f .horizon ≡ g .horizon
+  pub depth : f .depth ≡ g .depth
+  pub carriers : f .carriers ≡ g .carriers
+  pub walls : f .walls ≡ g .walls
+  pub starts : All (λ (i : ℕ). startOf f i ≡ startOf g i) (f .carriers)
+  pub goals : All (λ (i : ℕ). goalOf f i ≡ goalOf g i) (f .carriers)
+  pub cells : All (λ (j : ℕ). getD ws j 0 ≡ getD vs j 0) (f .walls)

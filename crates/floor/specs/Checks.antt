@@ -22,9 +22,13 @@ limitsOf f =
     then demand (within 1 8 (f .carriers)) 2 5
     then demand (within 0 1023 (f .walls)) 2 6
 
--- 9: as many walls are lent as the floor counts.
+-- 9: lent memory is not too short.
+unfoldable pub roomOf : ℕ → ℕ → Verdict
+roomOf needed lent = demand (leb needed lent) 9 0
+
+-- 9, right after 2: as many walls are lent as the floor counts.
 unfoldable pub lentOf : Floor → List ℕ → Verdict
-lentOf f ws = demand (leb (f .walls) (length ws)) 9 0
+lentOf f ws = roomOf (f .walls) (length ws)
 
 -- The start and the goal of a carrier, and the cell of a wall.
 unfoldable pub startOf : Floor → ℕ → ℕ

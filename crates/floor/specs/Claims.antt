@@ -7,7 +7,7 @@ use Rattle.floor.specs.declared.Floor.{Floor}
 use Rattle.floor.specs.Verdict.{passed, refused}
 use Rattle.floor.specs.Checks.{checkOf}
 use Rattle.floor.specs.Fresh.{freshFloor}
-use Rattle.floor.specs.Accepted.{Accepted}
+use Rattle.floor.specs.Accepted.{Accepted, Lent, SameFloor}
 use Rattle.floor.specs.Refused.{RefusedWith}
 
 pub record Claims : Type 0 where
@@ -17,3 +17,5 @@ pub record Claims : Type 0 where
   pub refuses-exactly : (f : Floor) (ws : List ℕ) (k p : ℕ) → (checkOf f ws ≡ refused k p) ↔ RefusedWith f ws k p
   -- The fresh floor is an accepted one.
   pub fresh-accepted : checkOf freshFloor [] ≡ passed
+  -- Places past the counts are no part of the floor: records that are the same floor get the same verdict.
+  pub same-verdict : (f : Floor) (ws : List ℕ) (g : Floor) (vs : List ℕ) → SameFloor f ws g vs → Lent f ws → Lent g vs → checkOf f ws ≡ checkOf g vs

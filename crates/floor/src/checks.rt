@@ -5,17 +5,17 @@ ghost use mathlib.Core.Bool.{true};
 ghost use Prim.Native.Nat.{_+_, _≤_, _<_};
 ghost use lib.ListN.{length};
 ghost use Rattle.floor.specs.Answers.{verdictOf};
-ghost use Rattle.floor.specs.Checks.{inGrid, carrierInGrid, clearOfWalls, lentOf, carriersOf, wallsOf, risingOf, clearOf, distinctOf, placesOf};
+ghost use Rattle.floor.specs.Checks.{inGrid, carrierInGrid, clearOfWalls, roomOf, carriersOf, wallsOf, risingOf, clearOf, distinctOf, placesOf};
 ghost use Rattle.floor.specs.Checks.{among as Checks·among, rises as Checks·rises, unshared as Checks·unshared};
 use crate::Checked;
 use crate::Floor;
 use crate::Refusal;
 
-// 9: the walls that the floor counts are lent.
-pub fn lent(f: Floor, walls: &[u16]) -> Checked
-    ensures { λ r. ⌜ verdictOf r ≡ lentOf f (now (walls .entry)) ⌝ }
+// 9: lent memory is not too short.
+pub fn room(needed: usize, lent: usize) -> Checked
+    ensures { λ r. ⌜ verdictOf r ≡ roomOf needed lent ⌝ }
 {
-    if walls.len() < f.walls as usize {
+    if lent < needed {
         return Checked::Refused(Refusal {
             number: 9,
             place: 0,

@@ -4,6 +4,7 @@ mod bounds;
 mod checks;
 
 pub use bounds::limits;
+pub use checks::room;
 ghost use mathlib.Core.Path.{_≡_};
 ghost use Rattle.floor.specs.Answers.{verdictOf};
 ghost use Rattle.floor.specs.Checks.{checkOf};
@@ -76,7 +77,7 @@ pub fn check(f: Floor, walls: &[u16]) -> Checked
     let Checked::Passed = limited else {
         return limited;
     };
-    let lent = checks::lent(f, walls);
+    let lent = room(f.walls as usize, walls.len());
     let Checked::Passed = lent else {
         return lent;
     };

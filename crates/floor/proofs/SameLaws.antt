@@ -1,0 +1,102 @@
+-- Records that are the same floor get the same verdict.
+use Prim.Native.Nat.{ℕ, zero, suc, _+_, _*_, _≤_, _<_}
+use native.Mathlib.Omega.{arith}
+use mathlib.Core.Path.{_≡_, refl, sym, _∙_, ap, ap₂}
+use mathlib.Core.Bool.{Bool, true, false, _&&_, _||_, not}
+use mathlib.Core.List.{List}
+use borrow.Author.Tests.{le-leb}
+use lib.ListN.{length, getD}
+use lib.Dec.{ltb, eqb}
+use Rattle.floor.specs.declared.Floor.{Floor}
+use Rattle.floor.specs.Verdict.{Verdict, passed, _then_, demand, inTurn, each}
+use Rattle.floor.specs.Checks.{within, limitsOf, lentOf, roomOf, inGrid, carrierInGrid, startOf, goalOf, rises, among, clearOfWalls, unshared, carriersOf, wallsOf, risingOf, clearOf, distinctOf, placesOf, checkOf}
+use Rattle.floor.specs.Accepted.{All, Lent, SameFloor}
+
+-- Tests that agree at each item make the same check.
+each-same : (k p : ℕ) (ok ok′ : ℕ → Bool) (m : ℕ) → All (λ (i : ℕ). ok i ≡ ok′ i) m → each k p ok m ≡ each k p ok′ m
+unfolding each inTurn
+each-same k p ok ok′ zero a = refl
+each-same k p ok ok′ (suc m) a = rw (each-same k p ok ok′ m (λ i l. a i (omega arith)), a m (omega arith))
+
+-- A number is looked for among the same numbers.
+among-same : (xs ys : List ℕ) (m c : ℕ) → All (λ (i : ℕ). getD xs i 0 ≡ getD ys i 0) m → among xs m c ≡ among ys m c
+unfolding among
+among-same xs ys zero c a = refl
+among-same xs ys (suc m) c a = rw (among-same xs ys m c (λ i l. a i (omega arith)), a m (omega arith))
+
+rises-same : (ws vs : List ℕ) (m j : ℕ) → j < m → All (λ (i : ℕ). getD ws i 0 ≡ getD vs i 0) m → rises ws j ≡ rises vs j
+unfolding rises
+rises-same ws vs m zero l a = refl
+rises-same ws vs m (suc j) l a = rw (a j (omega arith), a (suc j) l)
+
+module _ (f : Floor) (ws : List ℕ) (g : Floor) (vs : List ℕ) (same : SameFloor f ws g vs) where
+  in-grid-same : (c : ℕ) → inGrid f c ≡ inGrid g c
+  unfolding inGrid
+  in-grid-same c = rw (same .width, same .height)
+
+  limits-same : limitsOf f ≡ limitsOf g
+  unfolding limitsOf
+  limits-same = rw (same .width, same .height, same .horizon, same .depth, same .carriers, same .walls)
+
+  carriers-same : carriersOf f ≡ carriersOf g
+  unfolding carriersOf carrierInGrid
+  carriers-same =
+      each-same 3 1 (carrierInGrid f) (carrierInGrid g) (f .carriers)
+      (λ i l. rw (same .starts i l, same .goals i l, in-grid-same (startOf g i), in-grid-same (goalOf g i)))
+      ∙ ap (each 3 1 (carrierInGrid g)) (same .carriers)
+
+  walls-same : wallsOf f ws ≡ wallsOf g vs
+  unfolding wallsOf
+  walls-same =
+      each-same 3 (f .carriers + 1) (λ j. inGrid f (getD ws j 0)) (λ j. inGrid g (getD vs j 0)) (f .walls)
+      (λ j l. rw (same .cells j l, in-grid-same (getD vs j 0)))
+      ∙ ap₂ (λ (n m : ℕ). each 3 (n + 1) (λ j. inGrid g (getD vs j 0)) m) (same .carriers) (same .walls)
+
+  rising-same : risingOf f ws ≡ risingOf g vs
+  unfolding risingOf
+  rising-same =
+      each-same 4 (f .carriers + 1) (rises ws) (rises vs) (f .walls) (λ j l. rises-same ws vs (f .walls) j l (same .cells))
+      ∙ ap₂ (λ (n m : ℕ). each 4 (n + 1) (rises vs) m) (same .carriers) (same .walls)
+
+  clear-same : clearOf f ws ≡ clearOf g vs
+  unfolding clearOf clearOfWalls
+  clear-same =
+      each-same 5 1 (clearOfWalls f ws) (clearOfWalls g vs) (f .carriers)
+      (λ i l.
+      rw (
+        same .starts i l,
+        same .goals i l,
+        among-same ws vs (f .walls) (startOf g i) (same .cells),
+        among-same ws vs (f .walls) (goalOf g i) (same .cells),
+        same .walls,
+      ))
+      ∙ ap (each 5 1 (clearOfWalls g vs)) (same .carriers)
+
+  earlier-starts : (i : ℕ) → i < f .carriers → All (λ (e : ℕ). getD (f .starts) e 0 ≡ getD (g .starts) e 0) i
+  unfolding startOf
+  earlier-starts i l e h = same .starts e (omega arith)
+
+  earlier-goals : (i : ℕ) → i < f .carriers → All (λ (e : ℕ). getD (f .goals) e 0 ≡ getD (g .goals) e 0) i
+  unfolding goalOf
+  earlier-goals i l e h = same .goals e (omega arith)
+
+  distinct-same : distinctOf f ≡ distinctOf g
+  unfolding distinctOf unshared
+  distinct-same =
+      each-same 6 1 (unshared f) (unshared g) (f .carriers)
+      (λ i l.
+      rw (
+        same .starts i l,
+        same .goals i l,
+        among-same (f .starts) (g .starts) i (startOf g i) (earlier-starts i l),
+        among-same (f .goals) (g .goals) i (goalOf g i) (earlier-goals i l),
+      ))
+      ∙ ap (each 6 1 (unshared g)) (same .carriers)
+
+  pub places-same : placesOf f ws ≡ placesOf g vs
+  unfolding placesOf
+  places-same = rw (carriers-same, walls-same, rising-same, clear-same, distinct-same)
+
+  pub check-same : Lent f ws → Lent g vs → checkOf f ws ≡ checkOf g vs
+  unfolding checkOf lentOf roomOf
+  check-same l n = rw (limits-same, le-leb _ _ l, le-leb _ _ n, places-same)

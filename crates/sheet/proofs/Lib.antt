@@ -1,0 +1,9 @@
+-- Laws of the definitions that no single function owns.
+pub mod TestLaws
+pub mod ListedLaws
+pub mod CellLaws
+pub mod FormLaws
+pub mod ReadLaws
+pub mod PutLaws
+pub mod LineLaws
+pub mod SheetLaws

@@ -1,0 +1,63 @@
+-- The lines of a sheet as blocks: their lengths, and a line put field by field.
+use Prim.Native.Nat.{ℕ, zero, suc, _+_, _*_, _%_, _/_, _≤_, _<_}
+use native.Mathlib.Omega.{arith}
+use native.Mathlib.Nat.{mul-suc, mul-zero}
+use native.Mathlib.Numerals.{add-one}
+use mathlib.Core.Path.{_≡_, refl, sym, _∙_, ap}
+use mathlib.Core.List.{List, [], _∷_, _++_}
+use lib.ListN.{length, set, length-append}
+use Rattle.floor.specs.declared.Floor.{Floor}
+use Rattle.sheet.specs.Field.{fieldOf}
+use Rattle.sheet.specs.Text.{lineOf, linesOf, headLine, carrierLine, wallLine}
+use Rattle.sheet.specs.Memory.{put}
+use Rattle.sheet.proofs.PutLaws.{put-length, put-next, put-one}
+
+pub field-length : (v : ℕ) → length (fieldOf v) ≡ 5
+unfolding fieldOf
+field-length v = refl
+
+-- A field behind a block.
+pub field-next : (m m′ m″ a : List ℕ) (at n v : ℕ) → m′ ≡ put m at a → m″ ≡ put m′ n (fieldOf v) → at + length a ≡ n → n + 5 ≤ length m
+    → m″ ≡ put m at (a ++ fieldOf v)
+field-next m m′ m″ a at n v e f s l = put-next m m′ m″ a (fieldOf v) at n e f s (rw field-length l)
+
+-- A newline behind a block.
+pub newline-next : (m m′ a : List ℕ) (at n : ℕ) → m′ ≡ put m at a → at + length a ≡ n → n < length m → set m′ n 10 ≡ put m at (a ++ (10 ∷ []))
+newline-next m m′ a at n e s l =
+    let size : length m′ ≡ length m = ap length e ∙ put-length m a at (omega arith) in
+    put-next m m′ (set m′ n 10) a (10 ∷ []) at n e (put-one m′ n 10 (omega arith)) s (rw add-one l)
+
+-- Lines of one length.
+pub lines-length : (line : ℕ → List ℕ) (w : ℕ) → ((i : ℕ) → length (line i) ≡ w) → (k : ℕ) → length (linesOf line k) ≡ w * k
+unfolding linesOf
+lines-length line w h zero = sym (mul-zero w)
+lines-length line w h (suc k) = rw (length-append, lines-length line w h k, h k, mul-suc)
+
+pub head-length : (f : Floor) → length (headLine f) ≡ 31
+unfolding headLine lineOf fieldOf
+head-length f = refl
+
+pub carrier-length : (f : Floor) (i : ℕ) → length (carrierLine f i) ≡ 21
+unfolding carrierLine lineOf fieldOf
+carrier-length f i = refl
+
+pub wall-length : (width c : ℕ) → length (wallLine width c) ≡ 11
+unfolding wallLine lineOf fieldOf
+wall-length width c = refl
+
+-- A loop that puts lines one behind the other: before the first, one more, and after the last.
+module _ (line : ℕ → List ℕ) (w at : ℕ) (size : (i : ℕ) → length (line i) ≡ w) where
+  pub lines-next : (m m′ m″ : List ℕ) (i n : ℕ) → m′ ≡ put m at (linesOf line i) → m″ ≡ put m′ n (line i) → at + w * i ≡ n
+      → n + w ≤ length m → m″ ≡ put m at (linesOf line (i + 1))
+  unfolding linesOf
+  lines-next m m′ m″ i n e f s l =
+      rw add-one
+      (put-next m m′ m″ (linesOf line i) (line i) at n e f (rw (lines-length line w size i) s) (rw (size i) l))
+
+  pub lines-keep : (m m′ : List ℕ) (i : ℕ) → at + w * i ≤ length m → m′ ≡ put m at (linesOf line i) → length m′ ≡ length m
+  lines-keep m m′ i l e = ap length e ∙ put-length m (linesOf line i) at (rw (lines-length line w size i) l)
+
+  pub lines-end : (m m′ : List ℕ) (i k : ℕ) → i ≤ k → k ≤ i → m′ ≡ put m at (linesOf line i) → m′ ≡ put m at (linesOf line k)
+  lines-end m m′ i k a b h =
+      let e : i ≡ k = omega arith in
+      rw e at h

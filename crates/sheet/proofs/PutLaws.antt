@@ -1,0 +1,58 @@
+-- Laws of a block in a memory: its length, and blocks put one behind the other.
+use Prim.Native.Nat.{ℕ, zero, suc, _+_, _*_, _≤_, _<_, min}
+use native.Mathlib.Omega.{arith}
+use native.Mathlib.Nat.{add-zero}
+use native.Mathlib.Numerals.{add-one, add-two, add-three, add-four}
+use mathlib.Core.Path.{_≡_, refl, sym, _∙_, ap, ap₂}
+use mathlib.Core.List.{List, [], _∷_, _++_, append-assoc}
+use lib.ListN.{length, take, drop, set, length-append, length-take, length-drop, take-append-drop}
+use lib.Seq.{set-split, take-at, drop-at, length-take-le, drop-drop, sets, sets-eq}
+use Rattle.sheet.specs.Memory.{put}
+
+-- An empty block changes nothing.
+pub put-none : (m : List ℕ) (at : ℕ) → m ≡ put m at []
+unfolding put
+put-none m at = rw add-zero (sym (take-append-drop at m))
+
+pub put-length : (m b : List ℕ) (at : ℕ) → at + length b ≤ length m → length (put m at b) ≡ length m
+unfolding put
+put-length m b at l = rw (length-append, length-append, length-take, length-drop) (omega arith)
+
+-- A block behind a block.
+put-put : (m a b : List ℕ) (at : ℕ) → at + length a + length b ≤ length m → put (put m at a) (at + length a) b ≡ put m at (a ++ b)
+unfolding put
+put-put m a b at l =
+    let n = at + length a in
+    let front = take at m ++ a in
+    let rest = drop n m in
+    let whole : take at m ++ (a ++ rest) ≡ front ++ rest = sym (append-assoc (take at m) a rest) in
+    let size : length front ≡ n = length-append (take at m) a ∙ omega (arith, length-take-le at m (omega arith)) in
+    let first : take n (take at m ++ (a ++ rest)) ≡ front = ap (take n) whole ∙ take-at front rest n size in
+    let last : drop (n + length b) (take at m ++ (a ++ rest)) ≡ drop (n + length b) m =
+    sym (drop-drop (length b) n (take at m ++ (a ++ rest)))
+    ∙ ap (drop (length b)) (ap (drop n) whole ∙ drop-at front rest n size)
+    ∙ drop-drop (length b) n m
+    in
+    let sizes : at + length (a ++ b) ≡ n + length b = rw length-append (omega arith) in
+    ap₂ (λ (x y : List ℕ). x ++ (b ++ y)) first last
+    ∙ append-assoc (take at m) a (b ++ drop (n + length b) m)
+    ∙ ap (λ (x : List ℕ). take at m ++ x) (sym (append-assoc a b (drop (n + length b) m)))
+    ∙ ap (λ (k : ℕ). take at m ++ ((a ++ b) ++ drop k m)) (sym sizes)
+
+-- One more block, behind those that are there.
+pub put-next : (m m′ m″ a b : List ℕ) (at n : ℕ) → m′ ≡ put m at a → m″ ≡ put m′ n b → at + length a ≡ n → n + length b ≤ length m
+    → m″ ≡ put m at (a ++ b)
+put-next m m′ m″ a b at n e f s l =
+    f ∙ rw (e, ← s) (put-put m a b at (omega arith))
+
+-- One element stored.
+pub put-one : (m : List ℕ) (at v : ℕ) → at < length m → set m at v ≡ put m at (v ∷ [])
+unfolding put
+put-one m at v l = rw add-one (set-split m at v l)
+
+-- Five elements stored one after the other.
+pub put-five : (m : List ℕ) (at a b c d e : ℕ) → at + 5 ≤ length m
+    → set (set (set (set (set m at a) (at + 1) b) (at + 2) c) (at + 3) d) (at + 4) e ≡ put m at (a ∷ b ∷ c ∷ d ∷ e ∷ [])
+unfolding put
+put-five m at a b c d e l =
+    rw (add-one, add-two, add-three, add-four, ← append-assoc) (sets-eq (a ∷ b ∷ c ∷ d ∷ e ∷ []) m at l)

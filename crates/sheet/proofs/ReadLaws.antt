@@ -1,0 +1,31 @@
+-- Laws of reading: what it hands back with a pass and with a refusal, and what a pass tells.
+use Prim.Native.Nat.{ℕ, _≤_}
+use mathlib.Core.Path.{_≡_, refl, sym, _∙_}
+use mathlib.Core.List.{List}
+use Rattle.floor.specs.Verdict.{Verdict, passed, refused, _then_}
+use Rattle.floor.specs.Checks.{roomOf, placesOf}
+use Rattle.floor.proofs.VerdictLaws.{then-both}
+use Rattle.floor.proofs.LimitsLaws.{room-passed}
+use Rattle.sheet.specs.Values.{floorAt, wallsAt}
+use Rattle.sheet.specs.Read.{formOf, sheetVerdict, readVerdict, chosen}
+
+pub chosen-passed : {A : Type 0} {v : Verdict} (a b : A) → v ≡ passed → chosen v a b ≡ a
+unfolding chosen
+chosen-passed a b h = rw h
+
+pub chosen-refused : {A : Type 0} {v : Verdict} {k p : ℕ} (a b : A) → v ≡ refused k p → chosen v a b ≡ b
+unfolding chosen
+chosen-refused a b h = rw h
+
+-- A sheet that is read is in good form, its floor passes 3 to 6, and its walls have room.
+pub record ReadTells (text : List ℕ) (room : ℕ) : Type 0 where
+  pub form : formOf text ≡ passed
+  pub places : placesOf (floorAt text) (wallsAt text) ≡ passed
+  pub room-there : floorAt text .walls ≤ room
+
+pub read-tells : (text : List ℕ) (room : ℕ) → readVerdict text room ≡ passed → ReadTells text room
+unfolding readVerdict sheetVerdict
+read-tells text room h =
+    let a = then-both _ _ h in
+    let b = then-both _ _ (a .0) in
+    record { form = b .0; places = b .1; room-there = room-passed _ _ (a .1) }

@@ -1,0 +1,32 @@
+-- A field of the sheet (document 01, 'The sheet'): five columns, a decimal number right-justified after spaces, without leading zeros.
+use Prim.Native.Nat.{ℕ, _+_, _-_, _*_, _/_, _%_}
+use mathlib.Core.Bool.{Bool, cond, _&&_}
+use mathlib.Core.List.{List, [], _∷_}
+use lib.ListN.{getD}
+use lib.Dec.{ltb, eqb}
+
+-- The column of the digit that counts p's: a space where the number v has no such digit.
+unfoldable pub column : ℕ → ℕ → ℕ
+column p v = cond (ltb v p) 32 (48 + v / p % 10)
+
+-- The five columns of a number up to 99999; zero is `0`.
+unfoldable pub fieldOf : ℕ → List ℕ
+fieldOf v = column 10000 v ∷ column 1000 v ∷ column 100 v ∷ column 10 v ∷ (48 + v % 10) ∷ []
+
+-- The number that five columns write: a space counts as 0, as a digit's value is its byte minus 48.
+unfoldable pub number : ℕ → ℕ → ℕ → ℕ → ℕ → ℕ
+number a b c d e = ((((a - 48) * 10 + (b - 48)) * 10 + (c - 48)) * 10 + (d - 48)) * 10 + (e - 48)
+
+-- The number at a column of the text.
+unfoldable pub numberAt : List ℕ → ℕ → ℕ
+numberAt text at =
+    number (getD text at 0) (getD text (at + 1) 0) (getD text (at + 2) 0) (getD text (at + 3) 0) (getD text (at + 4) 0)
+
+-- The five bytes at a column are the field of their number.
+unfoldable pub isField : List ℕ → ℕ → Bool
+isField text at =
+    eqb (getD text at 0) (column 10000 (numberAt text at))
+    && (eqb (getD text (at + 1) 0) (column 1000 (numberAt text at))
+    && (eqb (getD text (at + 2) 0) (column 100 (numberAt text at))
+    && (eqb (getD text (at + 3) 0) (column 10 (numberAt text at))
+    && eqb (getD text (at + 4) 0) (48 + numberAt text at % 10))))

@@ -1,0 +1,44 @@
+-- Reading a sheet and writing one, with their refusals in document 01's order.
+use Prim.Native.Nat.{ℕ}
+use mathlib.Core.List.{List, _++_}
+use lib.ListN.{length, drop}
+use Rattle.floor.specs.declared.Floor.{Floor}
+use Rattle.floor.specs.Verdict.{Verdict, passed, refused, _then_}
+use Rattle.floor.specs.Checks.{limitsOf, placesOf, checkOf, roomOf}
+use Rattle.floor.specs.Fresh.{freshFloor}
+use Rattle.sheet.specs.Text.{sheetOf, sheetLength}
+use Rattle.sheet.specs.Form.{lineForm, restForm}
+use Rattle.sheet.specs.Values.{headAt, floorAt, wallsAt}
+
+-- Line 1's form, then 2, then the other lines' form.
+unfoldable pub formOf : List ℕ → Verdict
+formOf text = lineForm text 0 6 then limitsOf (headAt text) then restForm text (headAt text)
+
+-- Then 3, 4, 5, 6.
+unfoldable pub sheetVerdict : List ℕ → Verdict
+sheetVerdict text = formOf text then placesOf (floorAt text) (wallsAt text)
+
+-- Then 9, where fewer places are lent for walls than the floor has.
+unfoldable pub readVerdict : List ℕ → ℕ → Verdict
+readVerdict text room = sheetVerdict text then roomOf (floorAt text .walls) room
+
+-- One thing on success, another on a refusal.
+unfoldable pub chosen : {A : Type 0} → Verdict → A → A → A
+chosen passed a b = a
+chosen (refused k p) a b = b
+
+-- The floor that reading hands back: the fresh floor with a refusal.
+unfoldable pub readFloor : List ℕ → ℕ → Floor
+readFloor text room = chosen (readVerdict text room) (floorAt text) freshFloor
+
+-- The lent wall memory after reading: the walls in front, and the rest as it was; all as it was with a refusal.
+unfoldable pub readWalls : List ℕ → List ℕ → List ℕ
+readWalls text old = chosen (readVerdict text (length old)) (wallsAt text ++ drop (floorAt text .walls) old) old
+
+-- Writing: the checks of the record, then 9 where fewer bytes are lent than the sheet has.
+unfoldable pub writeVerdict : Floor → List ℕ → ℕ → Verdict
+writeVerdict f ws room = checkOf f ws then roomOf (sheetLength f) room
+
+-- The lent sheet memory after writing.
+unfoldable pub writeSheet : Floor → List ℕ → List ℕ → List ℕ
+writeSheet f ws old = chosen (writeVerdict f ws (length old)) (sheetOf f ws ++ drop (sheetLength f) old) old
