@@ -7,3 +7,12 @@ pub mod ReadLaws
 pub mod PutLaws
 pub mod LineLaws
 pub mod SheetLaws
+pub mod PartLaws
+pub mod FieldLaws
+pub mod SlotLaws
+pub mod SlotForms
+pub mod LineText
+pub mod LinesText
+pub mod SheetText
+pub mod FloorText
+pub mod Theorems

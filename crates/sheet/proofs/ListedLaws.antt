@@ -66,6 +66,9 @@ module _ (g : ℕ → ℕ) where
   unfolding upTo
   upTo-past n k l = rw (le-ltb k n l)
 
+  pub upTo-at : (n m k : ℕ) → k < n → k < m → getD (listed (upTo n g) m) k 0 ≡ g k
+  upTo-at n m k a b = listed-at (upTo n g) m k b ∙ upTo-below n k a
+
   -- Before the first number is stored all are 0.
   pub upTo-none : (m : ℕ) → replicate m 0 ≡ listed (upTo 0 g) m
   upTo-none m =

@@ -5,3 +5,5 @@ pub mod Form
 pub mod Values
 pub mod Memory
 pub mod Read
+pub mod Refused
+pub mod Claims

@@ -1,0 +1,58 @@
+-- A part of a text: its bytes, its length, and parts one behind the other.
+use Prim.Native.Nat.{ℕ, zero, suc, _+_, _-_, _≤_, _<_, min}
+use native.Mathlib.Omega.{arith}
+use native.Mathlib.Nat.{add-zero}
+use mathlib.Core.Path.{_≡_, refl, sym, _∙_, ap}
+use mathlib.Core.List.{List, [], _∷_, _++_, append-assoc}
+use lib.ListN.{length, take, drop, getD, length-append, length-take, length-drop}
+use lib.Seq.{getD-take, getD-drop, take-add, drop-drop, ext-getD, take-at, drop-at, take-all, length-take-le}
+
+-- The n bytes from a column on.
+pub part : List ℕ → ℕ → ℕ → List ℕ
+part text at n = take n (drop at text)
+
+module _ (text : List ℕ) where
+  pub part-byte : (at n i : ℕ) → i < n → getD (part text at n) i 0 ≡ getD text (at + i) 0
+  unfolding part
+  part-byte at n i l = getD-take n (drop at text) i 0 l ∙ getD-drop at text i 0
+
+  pub part-length : (at n : ℕ) → at + n ≤ length text → length (part text at n) ≡ n
+  unfolding part
+  part-length at n l = length-take-le n (drop at text) (rw length-drop (omega arith))
+
+  -- A whole part lies within the text.
+  pub part-reach : (at n : ℕ) → 0 < n → length (part text at n) ≡ n → at + n ≤ length text
+  unfolding part
+  part-reach at n z e = omega (arith, sym (length-take n (drop at text)) ∙ e, length-drop at text)
+
+  -- A part is its front and its rest.
+  pub part-split : (at a b : ℕ) → part text at (a + b) ≡ part text at a ++ part text (at + a) b
+  unfolding part
+  part-split at a b = take-add a b (drop at text) ∙ ap (λ (r : List ℕ). take a (drop at text) ++ take b r) (drop-drop a at text)
+
+  -- A part that is given byte by byte.
+  pub part-is : (at n : ℕ) (b : List ℕ) → at + n ≤ length text → length b ≡ n → ((i : ℕ) → i < n → getD text (at + i) 0 ≡ getD b i 0) → part text at n ≡ b
+  part-is at n b l s h =
+      ext-getD 0 (part text at n) b (part-length at n l ∙ sym s)
+      (λ i k. let q : i < n = omega (arith, part-length at n l) in part-byte at n i q ∙ h i q)
+
+pub part-none : (text : List ℕ) (at : ℕ) → part text at 0 ≡ []
+unfolding part
+part-none text at = refl
+
+-- A part that is two blocks, one behind the other, taken apart.
+pub part-blocks : (text a b : List ℕ) (at m n : ℕ) → length a ≡ m → length b ≡ n → 0 < m + n → part text at (m + n) ≡ a ++ b
+    → (part text at m ≡ a) × (part text (at + m) n ≡ b)
+part-blocks text a b at m n s k z e =
+    let size : length (part text at (m + n)) ≡ m + n = ap length e ∙ length-append a b ∙ rw (s, k) in
+    let reach : at + (m + n) ≤ length text = part-reach text at (m + n) z size in
+    let front : length (part text at m) ≡ m = part-length text at m (omega arith) in
+    let both : part text at m ++ part text (at + m) n ≡ a ++ b = sym (part-split text at m n) ∙ e in (
+      sym (take-at (part text at m) (part text (at + m) n) m front) ∙ ap (take m) both ∙ take-at a b m s,
+      sym (drop-at (part text at m) (part text (at + m) n) m front) ∙ ap (drop m) both ∙ drop-at a b m s,
+    )
+
+-- The whole text is its first part.
+pub part-whole : (text : List ℕ) (n : ℕ) → length text ≡ n → part text 0 n ≡ text
+unfolding part
+part-whole text n s = take-all n text (omega arith)

@@ -1,0 +1,127 @@
+-- The claims of the sheet, proved.
+use Prim.Native.Nat.{ℕ, zero, suc, _+_, _*_, _≤_, _<_}
+use native.Mathlib.Omega.{arith}
+use mathlib.Core.Path.{_≡_, refl, sym, _∙_, ap}
+use mathlib.Core.Logic.{_↔_, _⊎_, ⊎-elim}
+use mathlib.Core.List.{List, []}
+use lib.ListN.{length}
+use Rattle.floor.specs.declared.Floor.{Floor}
+use Rattle.floor.specs.Verdict.{Verdict, passed, refused, _then_}
+use Rattle.floor.specs.Checks.{limitsOf, placesOf, checkOf}
+use Rattle.floor.specs.Accepted.{FieldWithin, Limited}
+use Rattle.floor.specs.Refused.{RefusedWith}
+use Rattle.floor.proofs.VerdictLaws.{then-both, then-cases, then-passed, then-refused}
+use Rattle.floor.proofs.EachLaws.{each-passed, each-refused, all-passes, first-refuses}
+use Rattle.floor.proofs.LimitsLaws.{fieldWithin, field-means, limits-each}
+use Rattle.floor.proofs.Theorems.{theorems as floor-theorems}
+use Rattle.sheet.specs.Field.{numberAt}
+use Rattle.sheet.specs.Form.{lineForm, restForm}
+use Rattle.sheet.specs.Values.{valueAt, cellOf, cellAt, headAt, floorAt, wallsAt}
+use Rattle.sheet.specs.Read.{formOf, sheetVerdict}
+use Rattle.sheet.specs.Refused.{headSlots, restSlots, AllFine, FirstBroken, RefusedSheet, head-form, outside-limit, rest-form, floor-row}
+use Rattle.sheet.specs.Claims.{Claims}
+use Rattle.sheet.proofs.CellLaws.{value-number, number-value, cell-tells, cell-in}
+use Rattle.sheet.proofs.FormLaws.{limits-of-head, checked-places}
+use Rattle.sheet.proofs.SlotLaws.{slotsForm, slots-fine, fine-slots, slots-broken, broken-slots}
+use Rattle.sheet.proofs.SlotForms.{head-slots, rest-slots}
+use Rattle.sheet.proofs.SheetLaws.{sheet-length}
+use Rattle.sheet.proofs.SheetText.{read-accepted, sheet-returns, placed-checked}
+use Rattle.sheet.proofs.FloorText.{floor-returns, has-sheet}
+
+module _ (text : List ℕ) where
+  head-fine : (lineForm text 0 6 ≡ passed) ↔ AllFine text headSlots
+  head-fine = (λ h. slots-fine text headSlots (sym (head-slots text) ∙ h), λ a. head-slots text ∙ fine-slots text headSlots a)
+
+  rest-fine : (restForm text (headAt text) ≡ passed) ↔ AllFine text (restSlots (headAt text))
+  rest-fine = (
+    λ h. slots-fine text (restSlots (headAt text)) (sym (rest-slots text (headAt text)) ∙ h),
+    λ a. rest-slots text (headAt text) ∙ fine-slots text (restSlots (headAt text)) a,
+  )
+
+  limits-mean : (limitsOf (headAt text) ≡ passed) ↔ Limited (headAt text)
+  limits-mean = (
+    λ h. each-passed 2 1 (fieldWithin (headAt text)) (FieldWithin (headAt text)) (field-means (headAt text)) 6 (sym (limits-each (headAt text)) ∙ h),
+    λ a. limits-each (headAt text) ∙ all-passes 2 1 (fieldWithin (headAt text)) (FieldWithin (headAt text)) (field-means (headAt text)) 6 a,
+  )
+
+  -- A refusal of the form, or of line 1's limits, has the condition of its row.
+  form-row : (k p : ℕ) → formOf text ≡ refused k p → RefusedSheet text k p
+  unfolding formOf
+  form-row k p h =
+      ⊎-elim
+      (λ (e : lineForm text 0 6 ≡ refused k p).
+      let d = slots-broken text headSlots k p (sym (head-slots text) ∙ e) in
+      rw (d .0) (head-form (d .1)))
+      (λ (e : (lineForm text 0 6 ≡ passed) × ((limitsOf (headAt text) then restForm text (headAt text)) ≡ refused k p)).
+      ⊎-elim
+      (λ (g : limitsOf (headAt text) ≡ refused k p).
+      let s = each-refused 2 1 _ _ (field-means (headAt text)) 6 k p (sym (limits-each (headAt text)) ∙ g) in
+      rw (s .number, s .place) (outside-limit (head-fine .0 (e .0)) (s .first)))
+      (λ (g : (limitsOf (headAt text) ≡ passed) × (restForm text (headAt text) ≡ refused k p)).
+      let d = slots-broken text (restSlots (headAt text)) k p (sym (rest-slots text (headAt text)) ∙ g .1) in
+      rw (d .0) (rest-form (head-fine .0 (e .0)) (limits-mean .0 (g .0)) (d .1)))
+      (then-cases (limitsOf (headAt text)) (restForm text (headAt text)) k p (e .1)))
+      (then-cases (lineForm text 0 6) (limitsOf (headAt text) then restForm text (headAt text)) k p h)
+
+  -- What good form tells, as statements.
+  form-means : formOf text ≡ passed → (AllFine text headSlots) × (Limited (headAt text)) × (AllFine text (restSlots (headAt text)))
+  unfolding formOf
+  form-means h =
+      let a = then-both _ _ h in
+      let b = then-both _ _ (a .1) in
+      (head-fine .0 (a .0), limits-mean .0 (b .0), rest-fine .0 (b .1))
+
+  -- A refusal has the condition of its row.
+  row : (k p : ℕ) → sheetVerdict text ≡ refused k p → RefusedSheet text k p
+  unfolding sheetVerdict
+  row k p h =
+      ⊎-elim
+      (λ (e : formOf text ≡ refused k p). form-row k p e)
+      (λ (e : (formOf text ≡ passed) × (placesOf (floorAt text) (wallsAt text) ≡ refused k p)).
+      let m = form-means (e .0) in
+      floor-row (m .0) (m .1) (m .2)
+      (floor-theorems .refuses-exactly (floorAt text) (wallsAt text) k p .0 (placed-checked text (e .0) ∙ e .1)))
+      (then-cases (formOf text) (placesOf (floorAt text) (wallsAt text)) k p h)
+
+  -- The condition of a row gives its refusal.
+  refusal : (k p : ℕ) → RefusedSheet text k p → sheetVerdict text ≡ refused k p
+  unfolding sheetVerdict formOf
+  refusal k p (head-form b) = then-refused _ (then-refused _ (head-slots text ∙ broken-slots text headSlots p b))
+  refusal k p (outside-limit {i} a h) =
+      let e : limitsOf (headAt text) ≡ refused 2 (1 + i) =
+      limits-each (headAt text) ∙ first-refuses 2 1 (fieldWithin (headAt text)) (FieldWithin (headAt text)) (field-means (headAt text)) 6 i h
+      in
+      then-refused _ (then-passed (head-fine .1 a) ∙ then-refused _ e)
+  refusal k p (rest-form a l b) =
+      then-refused _
+      (then-passed (head-fine .1 a) ∙ then-passed (limits-mean .1 l) ∙ rest-slots text (headAt text) ∙ broken-slots text (restSlots (headAt text)) p b)
+  refusal k p (floor-row a l b r) =
+      let good : formOf text ≡ passed = then-passed (head-fine .1 a) ∙ then-passed (limits-mean .1 l) ∙ rest-fine .1 b in
+      then-passed good ∙ sym (placed-checked text good) ∙ floor-theorems .refuses-exactly (floorAt text) (wallsAt text) k p .1 r
+
+-- A cell of the sheet is in the grid exactly if its column and its row are.
+cell-means : (text : List ℕ) (w h at : ℕ) → w ≤ 32 → h ≤ 32 → (cellAt text w h at < w * h) ↔ ((numberAt text at < w) × (numberAt text (at + 5) < h))
+unfolding cellAt
+cell-means text w h at a b = (
+  λ l.
+      let t = cell-tells w h (valueAt text at) (valueAt text (at + 5)) l in (
+        omega (arith, value-number text at (omega (arith, t .column)), t .column),
+        omega (arith, value-number text (at + 5) (omega (arith, t .row-in)), t .row-in),
+      ),
+  λ g.
+      let col : valueAt text at ≡ numberAt text at = number-value text at _ (omega (arith, g .0)) refl in
+      let row : valueAt text (at + 5) ≡ numberAt text (at + 5) = number-value text (at + 5) _ (omega (arith, g .1)) refl in
+      cell-in w h (valueAt text at) (valueAt text (at + 5)) (omega (arith, g .0)) (omega (arith, g .1)),
+)
+
+pub theorems : Claims
+theorems =
+    record {
+      has-sheet = has-sheet;
+      floor-returns = floor-returns;
+      sheet-returns = sheet-returns;
+      read-accepted = read-accepted;
+      refuses-exactly = λ text k p. (row text k p, refusal text k p);
+      cell-in-grid = cell-means;
+      sheet-length = sheet-length;
+    }
