@@ -1,0 +1,35 @@
+// The needed length of each lent buffer, one documented figure for a floor (document 01, 'Refused'). Each crate that
+// takes a buffer states its figure; this crate is the one entry that gives them all.
+ghost use mathlib.Core.Path.{_≡_};
+ghost use Rattle.lengths.specs.Figures.{figuresOf, figuresFor};
+use floor::Checked;
+use floor::Floor;
+use floor::Refusal;
+
+// The needed lengths: `walls` in cell numbers of two bytes, `sheet` in bytes.
+pub struct Lengths {
+    pub walls: usize,
+    pub sheet: usize,
+}
+
+// What the entry answers.
+pub enum Needed {
+    // The lengths.
+    Known(Lengths),
+    // Refusal 2: a value that a length depends on is outside its limits.
+    Refused(Refusal),
+}
+
+// The needed lengths of a floor. They depend on line 1's values alone, so its limits are all that is checked.
+pub fn needed_lengths(f: Floor) -> Needed
+    ensures { λ r. ⌜ figuresOf r ≡ figuresFor f ⌝ }
+{
+    let limited = floor::limits(f);
+    let Checked::Refused(refusal) = limited else {
+        return Needed::Known(Lengths {
+            walls: f.walls as usize,
+            sheet: sheet::sheet_length(f),
+        });
+    };
+    Needed::Refused(refusal)
+}
