@@ -1,7 +1,7 @@
 -- Laws of a chain of checks that is taken apart by `let .. else`: an answer that passed hands on to the rest of the chain, and the
 -- first refusal is the answer of the whole.
 use Prim.Native.Nat.{ℕ, _<_}
-use mathlib.Core.Path.{_≡_, refl, sym, _∙_}
+use mathlib.Core.Path.{_≡_, sym, _∙_}
 use Rattle.floor.specs.declared.Refusal.{Refusal}
 use Rattle.floor.specs.declared.Checked.{Checked}
 use Rattle.floor.specs.declared.Checked.the-variants.{Passed, Refused}

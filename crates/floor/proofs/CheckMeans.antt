@@ -1,19 +1,17 @@
 -- What the Bool test of each check means, as the statements of `Accepted`.
-use Prim.Native.Nat.{ℕ, zero, suc, _+_, _*_, _≤_, _<_}
+use Prim.Native.Nat.{ℕ, zero, suc}
 use native.Mathlib.Omega.{arith}
 use native.Mathlib.Numerals.{add-one}
-use mathlib.Core.Path.{_≡_, refl, sym, _∙_, ap}
-use mathlib.Core.Bool.{Bool, true, false, _&&_, _||_, not, and-eq-true-iff}
+use mathlib.Core.Path.{_≡_, refl, ap}
+use mathlib.Core.Bool.{Bool, true, false, _&&_, not, and-eq-true-iff}
 use mathlib.Core.Logic.{_↔_}
 use mathlib.Core.List.{List}
-use borrow.Author.Tests.{ltb-true, lt-ltb, ne-eqb, not-true, eq-eqb}
-use borrow.Author.Count.{below-more}
-use lib.ListN.{length, getD}
-use lib.Dec.{ltb, leb, eqb}
+use borrow.Author.Tests.{ltb-true, lt-ltb, not-true}
+use lib.ListN.{getD}
 use Rattle.floor.specs.declared.Floor.{Floor}
-use Rattle.floor.specs.Checks.{inGrid, carrierInGrid, startOf, goalOf, rises, among, clearOfWalls, unshared}
-use Rattle.floor.specs.Accepted.{All, InGrid, CarrierInGrid, WallInGrid, Rises, Absent, ClearOfWalls, Unshared}
-use Rattle.floor.proofs.EachLaws.{Decides, fails-false, false-fails}
+use Rattle.floor.specs.Checks.{inGrid, carrierInGrid, rises, among, clearOfWalls, unshared}
+use Rattle.floor.specs.Accepted.{InGrid, CarrierInGrid, WallInGrid, Rises, Absent, ClearOfWalls, Unshared}
+use Rattle.floor.proofs.EachLaws.{Decides, false-fails}
 use Rattle.floor.proofs.AmongLaws.{among-found, among-more, among-none}
 
 -- Two tests joined mean both statements.

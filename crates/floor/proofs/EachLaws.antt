@@ -1,11 +1,11 @@
 -- `each` as a statement: it passes if every test holds, and refuses at the first that does not.
-use Prim.Native.Nat.{ℕ, suc, zero, _+_, _-_, _≤_, _<_}
+use Prim.Native.Nat.{ℕ, suc, zero, _+_}
 use native.Mathlib.Omega.{arith}
-use mathlib.Core.Path.{_≡_, refl, _∙_, sym, ap}
+use mathlib.Core.Path.{_≡_, refl, _∙_, sym}
 use mathlib.Core.Bool.{Bool, true, false, true≢false}
 use borrow.Author.Count.{below-more}
-use mathlib.Core.Logic.{⊎-elim, _⊎_, inl, inr, _↔_}
-use Rattle.floor.specs.Verdict.{Verdict, passed, refused, _then_, demand, inTurn, each}
+use mathlib.Core.Logic.{⊎-elim, _↔_}
+use Rattle.floor.specs.Verdict.{passed, refused, _then_, demand, inTurn, each}
 use Rattle.floor.specs.Accepted.{All, First}
 use Rattle.floor.proofs.VerdictLaws.{then-both, then-cases, demand-holds, demand-cases, refused-not-passed, each-stop}
 

@@ -1,16 +1,13 @@
 -- The limits as statements and as numbers.
-use Prim.Native.Nat.{ℕ, zero, suc, _≤_, _<_}
-use native.Mathlib.Omega.{arith}
-use lib.Dec.{lit<}
-use mathlib.Core.Path.{_≡_, refl, sym, _∙_}
-use mathlib.Core.Bool.{Bool, true, false, _&&_, and-eq-true-iff}
+use Prim.Native.Nat.{ℕ, zero, suc, _≤_}
+use lib.Dec.{lit<, leb}
+use mathlib.Core.Path.{_≡_, sym, _∙_}
+use mathlib.Core.Bool.{Bool, true, and-eq-true-iff}
 use mathlib.Core.Logic.{_↔_}
 use mathlib.Core.List.{List}
 use borrow.Author.Tests.{leb-true, le-leb}
-use lib.ListN.{length}
-use lib.Dec.{leb}
 use Rattle.floor.specs.declared.Floor.{Floor}
-use Rattle.floor.specs.Verdict.{Verdict, passed, refused, _then_, demand, inTurn, each}
+use Rattle.floor.specs.Verdict.{passed, _then_, inTurn, each}
 use Rattle.floor.specs.Checks.{within, limitsOf, lentOf, roomOf, placesOf, checkOf}
 use Rattle.floor.specs.Accepted.{Within, FieldWithin, Limited, Lent}
 use Rattle.floor.proofs.VerdictLaws.{then-assoc, then-both, demand-holds}

@@ -1,15 +1,14 @@
 -- Records that are the same floor get the same verdict.
-use Prim.Native.Nat.{ℕ, zero, suc, _+_, _*_, _≤_, _<_}
+use Prim.Native.Nat.{ℕ, zero, suc, _+_, _<_}
 use native.Mathlib.Omega.{arith}
-use mathlib.Core.Path.{_≡_, refl, sym, _∙_, ap, ap₂}
-use mathlib.Core.Bool.{Bool, true, false, _&&_, _||_, not}
+use mathlib.Core.Path.{_≡_, refl, _∙_, ap, ap₂}
+use mathlib.Core.Bool.{Bool}
 use mathlib.Core.List.{List}
 use borrow.Author.Tests.{le-leb}
-use lib.ListN.{length, getD}
-use lib.Dec.{ltb, eqb}
+use lib.ListN.{getD}
 use Rattle.floor.specs.declared.Floor.{Floor}
-use Rattle.floor.specs.Verdict.{Verdict, passed, _then_, demand, inTurn, each}
-use Rattle.floor.specs.Checks.{within, limitsOf, lentOf, roomOf, inGrid, carrierInGrid, startOf, goalOf, rises, among, clearOfWalls, unshared, carriersOf, wallsOf, risingOf, clearOf, distinctOf, placesOf, checkOf}
+use Rattle.floor.specs.Verdict.{inTurn, each}
+use Rattle.floor.specs.Checks.{limitsOf, lentOf, roomOf, inGrid, carrierInGrid, startOf, goalOf, rises, among, clearOfWalls, unshared, carriersOf, wallsOf, risingOf, clearOf, distinctOf, placesOf, checkOf}
 use Rattle.floor.specs.Accepted.{All, Lent, SameFloor}
 
 -- Tests that agree at each item make the same check.

@@ -1,20 +1,17 @@
 -- The claims of the floor, proved.
-use Prim.Native.Nat.{ℕ, _+_, _≤_, _<_}
-use native.Mathlib.Omega.{arith}
+use Prim.Native.Nat.{ℕ, _+_}
 use mathlib.Core.Path.{_≡_, refl, sym, _∙_}
-use mathlib.Core.Bool.{Bool, true, false}
-use mathlib.Core.Logic.{_↔_, ⊎-elim, _⊎_}
-use mathlib.Core.List.{List, []}
+use mathlib.Core.Logic.{_↔_, ⊎-elim}
+use mathlib.Core.List.{List}
 use borrow.Author.Tests.{le-leb, lt-leb, leb-false}
-use lib.ListN.{length, getD}
 use Rattle.floor.specs.declared.Floor.{Floor}
-use Rattle.floor.specs.Verdict.{Verdict, passed, refused, _then_, demand, inTurn, each}
+use Rattle.floor.specs.Verdict.{passed, refused, _then_, demand, inTurn, each}
 use Rattle.floor.specs.Checks.{within, among, startOf, goalOf, limitsOf, lentOf, roomOf, carriersOf, wallsOf, risingOf, clearOf, distinctOf, placesOf, checkOf, carrierInGrid, inGrid, rises, clearOfWalls, unshared}
 use Rattle.floor.specs.Fresh.{freshFloor}
-use Rattle.floor.specs.Accepted.{All, First, Accepted, FieldWithin, CarrierInGrid, WallInGrid, Rises, ClearOfWalls, Unshared, Limited, Lent, CarriersInGrid, WallsInGrid, Rising, Clear, Distinct}
+use Rattle.floor.specs.Accepted.{Accepted, FieldWithin, Limited, Lent, CarriersInGrid, WallsInGrid, Rising, Clear, Distinct}
 use Rattle.floor.specs.Refused.{RefusedWith, outside-limit, few-walls, carrier-outside, wall-outside, not-rising, on-wall, shared}
 use Rattle.floor.specs.Claims.{Claims}
-use Rattle.floor.proofs.VerdictLaws.{then-both, then-cases, then-passed, then-refused, demand-cases}
+use Rattle.floor.proofs.VerdictLaws.{then-both, then-cases, demand-cases}
 use Rattle.floor.proofs.EachLaws.{each-passed, all-passes, each-refused, first-refuses}
 use Rattle.floor.proofs.LimitsLaws.{fieldWithin, field-means, limits-each, lent-passed}
 use Rattle.floor.proofs.SameLaws.{check-same}

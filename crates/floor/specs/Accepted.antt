@@ -1,6 +1,6 @@
 -- Document 01's conditions on a floor as statements, beside the checks that compute them: what an accepted floor is, and for each row
 -- of the table of refusals when a floor given as a record gets it. Carriers, walls and fields count from 0.
-use Prim.Native.Nat.{ℕ, zero, suc, _+_, _*_, _≤_, _<_}
+use Prim.Native.Nat.{ℕ, zero, suc, _*_, _≤_, _<_}
 use mathlib.Core.Path.{_≡_}
 use mathlib.Core.List.{List}
 use lib.ListN.{length, getD}

@@ -1,5 +1,4 @@
 -- The fresh floor.
-use Prim.Native.Nat.{ℕ}
 use lib.ListN.{replicate}
 use Rattle.floor.specs.declared.Floor.{Floor}
 

@@ -1,27 +1,24 @@
 -- The claims of the needed lengths, proved.
-use Prim.Native.Nat.{ℕ, _+_, _*_, _≤_, _<_}
+use Prim.Native.Nat.{ℕ, _≤_, _<_}
 use native.Mathlib.Omega.{arith}
 use mathlib.Core.Path.{_≡_, refl, sym, _∙_}
-use mathlib.Core.Bool.{Bool, true, false}
-use mathlib.Core.Logic.{_↔_, _⊎_, ⊎-elim}
+use mathlib.Core.Logic.{_↔_, ⊎-elim}
 use mathlib.Core.List.{List}
-use borrow.Author.Tests.{leb-false, lt-leb, le-leb}
+use borrow.Author.Tests.{leb-false, lt-leb}
 use Rattle.floor.specs.declared.Floor.{Floor}
-use Rattle.floor.specs.Verdict.{Verdict, passed, refused, _then_, demand}
+use Rattle.floor.specs.Verdict.{passed, refused}
 use Rattle.floor.specs.Checks.{checkOf, roomOf}
 use Rattle.floor.proofs.VerdictLaws.{then-cases, then-passed, demand-cases, demand-refuses}
 use Rattle.floor.proofs.LimitsLaws.{check-tells}
 use Rattle.floor.specs.Refused.{RefusedWith, outside-limit, few-walls, carrier-outside, wall-outside, not-rising, on-wall, shared}
-use Rattle.sheet.specs.Refused.{RefusedSheet, head-form, rest-form, floor-row}
-use Rattle.sheet.specs.Refused.{outside-limit as outside-limit-row}
+use Rattle.sheet.specs.Refused.{RefusedSheet, head-form, rest-form, floor-row, outside-limit as outside-limit-row}
 use Rattle.sheet.proofs.FormLaws.{walls-length}
-use Rattle.sheet.specs.Values.{wallsAt}
+use Rattle.sheet.specs.Values.{wallsAt, floorAt}
 use lib.ListN.{length}
 use Rattle.sheet.specs.Text.{sheetLength, wallAt}
-use Rattle.sheet.specs.Values.{floorAt}
 use Rattle.sheet.specs.Read.{sheetVerdict, readVerdict, writeVerdict}
 use Rattle.sheet.proofs.Theorems.{theorems as sheet-theorems}
-use Rattle.lengths.specs.Figures.{figuresFor, known, unless}
+use Rattle.lengths.specs.Figures.{figuresFor, unless}
 use Rattle.lengths.specs.Claims.{Claims}
 
 -- A record is refused with 9 only where too few walls are lent.
@@ -48,14 +45,14 @@ room-means needed lent = (λ h. leb-false _ _ (demand-cases _ 9 0 9 0 h .0), λ 
 
 walls-room : (text : List ℕ) (room : ℕ) → (readVerdict text room ≡ refused 9 0) ↔ ((sheetVerdict text ≡ passed) × (room < floorAt text .walls))
 unfolding readVerdict
-walls-room text room =
-    ( λ h.
-        ⊎-elim
-        (λ (e : sheetVerdict text ≡ refused 9 0). absurd (sheet-nine text 9 0 (sheet-theorems .refuses-exactly text 9 0 .0 e) refl))
-        (λ (e : (sheetVerdict text ≡ passed) × (roomOf (floorAt text .walls) room ≡ refused 9 0)). (e .0, room-means _ _ .0 (e .1)))
-        (then-cases (sheetVerdict text) (roomOf (floorAt text .walls) room) 9 0 h)
-    , λ h. then-passed (h .0) ∙ room-means _ _ .1 (h .1)
-    )
+walls-room text room = (
+  λ h.
+      ⊎-elim
+      (λ (e : sheetVerdict text ≡ refused 9 0). absurd (sheet-nine text 9 0 (sheet-theorems .refuses-exactly text 9 0 .0 e) refl))
+      (λ (e : (sheetVerdict text ≡ passed) × (roomOf (floorAt text .walls) room ≡ refused 9 0)). (e .0, room-means _ _ .0 (e .1)))
+      (then-cases (sheetVerdict text) (roomOf (floorAt text .walls) room) 9 0 h),
+  λ h. then-passed (h .0) ∙ room-means _ _ .1 (h .1),
+)
 
 sheet-room : (f : Floor) (ws : List ℕ) (room : ℕ) → checkOf f ws ≡ passed → (writeVerdict f ws room ≡ refused 9 0) ↔ (room < sheetLength f)
 unfolding writeVerdict
@@ -64,10 +61,10 @@ sheet-room f ws room ok = (λ h. room-means _ _ .0 (sym (then-passed ok) ∙ h),
 pub theorems : Claims
 unfolding figuresFor unless sheetLength wallAt
 theorems =
-    record
-      { accepted-known = λ f ws ok. rw (check-tells f ws ok .limited)
-      ; walls-within = λ f ws ok. omega (arith, check-tells f ws ok .bounds .walls .1)
-      ; sheet-within = λ f ws ok. let b = check-tells f ws ok .bounds in omega (arith, b .walls .1, b .carriers .1)
-      ; walls-room = walls-room
-      ; sheet-room = sheet-room
-      }
+    record {
+      accepted-known = λ f ws ok. rw (check-tells f ws ok .limited);
+      walls-within = λ f ws ok. omega (arith, check-tells f ws ok .bounds .walls .1);
+      sheet-within = λ f ws ok. let b = check-tells f ws ok .bounds in omega (arith, b .walls .1, b .carriers .1);
+      walls-room = walls-room;
+      sheet-room = sheet-room;
+    }

@@ -4,7 +4,6 @@ use Rattle.floor.specs.declared.Floor.{Floor}
 use Rattle.floor.specs.Verdict.{Verdict, passed, refused}
 use Rattle.floor.specs.Checks.{limitsOf}
 use Rattle.sheet.specs.Text.{sheetLength}
-use Rattle.lengths.specs.declared.Lengths.{Lengths}
 use Rattle.lengths.specs.declared.Needed.{Needed}
 use Rattle.lengths.specs.declared.Needed.the-variants.{Known, Refused}
 

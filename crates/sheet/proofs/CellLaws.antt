@@ -1,15 +1,15 @@
 -- Cells as columns and rows.
-use Prim.Native.Nat.{ℕ, zero, suc, _+_, _*_, _/_, _%_, _≤_, _<_, min}
+use Prim.Native.Nat.{ℕ, suc, _+_, _*_, _/_, _%_, _≤_, _<_}
 use native.Mathlib.Omega.{arith}
 use native.Mathlib.Nat.{mul-le-mul, mod-lt, mod-eq-of-lt, div-eq-of-lt, div-add-mod', div-lt-iff-lt-mul, mul-add-mod-self-right, mul-add-div-right, mul-comm, add-zero, mul-le-mul-right, suc-mul}
 use native.Mathlib.Decide.{decLt}
-use mathlib.Core.Path.{_≡_, refl, sym, _∙_, ap}
-use mathlib.Core.Bool.{Bool, true, false, cond, _&&_, and-false}
+use mathlib.Core.Path.{_≡_, _∙_}
+use mathlib.Core.Bool.{cond, _&&_, and-false}
 use mathlib.Core.List.{List}
 use borrow.Author.Tests.{lt-ltb, le-ltb}
 use lib.Dec.{ltb}
 use Rattle.sheet.specs.Field.{numberAt}
-use Rattle.sheet.specs.Values.{valueAt, cellOf, cellAt}
+use Rattle.sheet.specs.Values.{valueAt, cellOf}
 
 -- The product of two numbers up to 32.
 pub grid-small : {a b : ℕ} → a ≤ 32 → b ≤ 32 → a * b ≤ 1024

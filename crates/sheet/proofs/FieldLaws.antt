@@ -3,19 +3,18 @@ use Prim.Native.Nat.{ℕ, zero, suc, _+_, _-_, _*_, _/_, _%_, _≤_, _<_}
 use native.Mathlib.Omega.{arith}
 use native.Mathlib.Nat.{add-zero, div-eq-of-lt, div-add-mod, div-div-eq-div-mul, mod-eq-of-lt}
 use mathlib.Core.Path.{_≡_, refl, sym, _∙_, ap}
-use mathlib.Core.Bool.{Bool, true, false, cond, _&&_, and-eq-true-iff}
-use mathlib.Core.List.{List, [], _∷_, _++_}
-use mathlib.Core.Logic.{⊎-elim}
+use mathlib.Core.Bool.{true, cond, and-eq-true-iff}
+use mathlib.Core.List.{List}
 use borrow.Author.Tests.{lt-ltb, le-ltb, eqb-true, eq-eqb, leb-true, le-leb}
 use native.Mathlib.Decide.{decLt}
-use lib.ListN.{length, take, drop, getD}
-use lib.Dec.{eqb, ltb, lit<}
-use Rattle.floor.specs.Verdict.{Verdict, passed, _then_, demand}
+use lib.ListN.{length, getD}
+use lib.Dec.{ltb, lit<}
+use Rattle.floor.specs.Verdict.{passed}
 use Rattle.floor.proofs.VerdictLaws.{then-both, demand-holds, demand-passes, then-passed}
 use Rattle.sheet.specs.Field.{column, fieldOf, number, numberAt, isField}
 use Rattle.sheet.specs.Form.{fieldForm}
 use Rattle.sheet.specs.Refused.{GoodField}
-use Rattle.sheet.proofs.PartLaws.{part, part-byte, part-length, part-reach, part-is}
+use Rattle.sheet.proofs.PartLaws.{part, part-byte, part-reach, part-is}
 
 -- The value of a column is the digit that it writes; a space counts as 0.
 column-value : (p v : ℕ) → column p v - 48 ≡ v / p % 10

@@ -1,5 +1,5 @@
 -- A floor written and read is the same floor.
-use Prim.Native.Nat.{ℕ, zero, suc, _+_, _*_, _/_, _%_, _≤_, _<_}
+use Prim.Native.Nat.{ℕ, _+_, _*_, _/_, _%_, _≤_, _<_}
 use native.Mathlib.Omega.{arith}
 use native.Mathlib.Nat.{mod-lt, div-lt-iff-lt-mul, mul-comm}
 use mathlib.Core.Path.{_≡_, refl, sym, _∙_, ap, ap₂}
@@ -8,17 +8,17 @@ use borrow.Author.Tests.{le-leb}
 use lib.ListN.{length, getD, length-append}
 use lib.Dec.{lit<}
 use Rattle.floor.specs.declared.Floor.{Floor}
-use Rattle.floor.specs.Verdict.{passed, _then_, inTurn}
-use Rattle.floor.specs.Checks.{startOf, goalOf, limitsOf, placesOf, checkOf}
+use Rattle.floor.specs.Verdict.{passed}
+use Rattle.floor.specs.Checks.{startOf, goalOf, limitsOf, checkOf}
 use Rattle.floor.specs.Accepted.{Accepted, SameFloor}
 use Rattle.floor.proofs.VerdictLaws.{then-passed, demand-passes, turn-passes}
 use Rattle.floor.proofs.LimitsLaws.{Bounds, limited-bounds, check-tells}
 use Rattle.floor.proofs.SameLaws.{places-same}
 use Rattle.floor.proofs.Theorems.{theorems}
 use Rattle.sheet.specs.Field.{numberAt}
-use Rattle.sheet.specs.Text.{lineOf, linesOf, headLine, carrierLine, wallLine, sheetOf, sheetLength, carrierAt, goalAt, wallAt}
+use Rattle.sheet.specs.Text.{linesOf, headLine, carrierLine, wallLine, sheetOf, sheetLength, carrierAt, goalAt, wallAt}
 use Rattle.sheet.specs.Form.{lineForm, linesForm, endForm, restForm}
-use Rattle.sheet.specs.Values.{valueAt, cellAt, upTo, listed, headAt, floorAt, cellsAt, wallsFrom, wallsAt}
+use Rattle.sheet.specs.Values.{cellAt, headAt, floorAt, cellsAt, wallsFrom, wallsAt}
 use Rattle.sheet.specs.Read.{formOf, sheetVerdict}
 use Rattle.sheet.proofs.CellLaws.{number-value, cell-of-cell}
 use Rattle.sheet.proofs.ListedLaws.{listed-at, upTo-at}

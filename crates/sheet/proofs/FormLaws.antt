@@ -1,19 +1,18 @@
 -- What a text in good form tells: its values are within their limits, and it is as long as its counts say.
 use Prim.Native.Nat.{ℕ, zero, suc, _+_, _*_, _≤_, _<_}
 use native.Mathlib.Omega.{arith}
-use mathlib.Core.Path.{_≡_, refl, sym, _∙_, ap}
+use mathlib.Core.Path.{_≡_, refl, _∙_}
 use mathlib.Core.List.{List, _++_}
 use borrow.Author.Tests.{leb-true, ltb-true, le-leb}
-use lib.ListN.{length, getD, length-append, List·getD-append}
-use Rattle.floor.specs.declared.Floor.{Floor}
-use Rattle.floor.specs.Verdict.{passed, _then_, demand, inTurn}
+use lib.ListN.{length, length-append, List·getD-append}
+use Rattle.floor.specs.Verdict.{passed, _then_}
 use Rattle.floor.specs.Checks.{limitsOf, lentOf, roomOf, placesOf, checkOf}
 use Rattle.floor.proofs.VerdictLaws.{then-both, demand-holds, demand-passes, turn-passed}
 use Rattle.floor.proofs.LimitsLaws.{Bounds, limits-passed}
 use Rattle.floor.proofs.SameLaws.{places-same}
 use Rattle.sheet.specs.Text.{carrierAt, wallAt}
 use Rattle.sheet.specs.Form.{newlineForm, lineForm, linesForm, endForm, restForm}
-use Rattle.sheet.specs.Values.{headAt, floorAt, wallsFrom, wallsAt, valueAt}
+use Rattle.sheet.specs.Values.{headAt, floorAt, wallsFrom, wallsAt}
 use Rattle.sheet.specs.Read.{formOf}
 use Rattle.sheet.proofs.ListedLaws.{listed-length}
 

@@ -1,5 +1,5 @@
 -- Lines read and written: a line in good form is the text of its numbers, and the text of numbers is a line in good form of them.
-use Prim.Native.Nat.{ℕ, zero, suc, _+_, _*_, _≤_, _<_}
+use Prim.Native.Nat.{ℕ, zero, suc, _+_, _*_, _<_}
 use native.Mathlib.Omega.{arith}
 use native.Mathlib.Nat.{add-zero}
 use mathlib.Core.Path.{_≡_, refl, sym, _∙_, ap, ap₂}
@@ -7,13 +7,13 @@ use mathlib.Core.List.{List, [], _∷_, _++_}
 use borrow.Author.Tests.{ltb-true, eqb-true, lt-ltb, eq-eqb}
 use lib.ListN.{length, getD, length-append}
 use lib.Dec.{lit<}
-use Rattle.floor.specs.Verdict.{Verdict, passed, _then_, demand, inTurn}
+use Rattle.floor.specs.Verdict.{passed}
 use Rattle.floor.proofs.VerdictLaws.{then-both, then-passed, demand-holds, demand-passes, turn-passed, turn-passes}
 use Rattle.sheet.specs.Field.{fieldOf, numberAt}
 use Rattle.sheet.specs.Text.{lineOf}
 use Rattle.sheet.specs.Form.{fieldForm, newlineForm, lineForm}
 use Rattle.sheet.proofs.LineLaws.{field-length}
-use Rattle.sheet.proofs.PartLaws.{part, part-byte, part-length, part-reach, part-is, part-split, part-blocks}
+use Rattle.sheet.proofs.PartLaws.{part, part-byte, part-reach, part-is, part-split, part-blocks}
 use Rattle.sheet.proofs.FieldLaws.{field-text, text-field}
 
 -- The m numbers from a column on.

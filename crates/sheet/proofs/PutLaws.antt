@@ -1,12 +1,12 @@
 -- Laws of a block in a memory: its length, and blocks put one behind the other.
-use Prim.Native.Nat.{ℕ, zero, suc, _+_, _*_, _≤_, _<_, min}
+use Prim.Native.Nat.{ℕ, _+_, _≤_, _<_}
 use native.Mathlib.Omega.{arith}
 use native.Mathlib.Nat.{add-zero}
 use native.Mathlib.Numerals.{add-one, add-two, add-three, add-four}
-use mathlib.Core.Path.{_≡_, refl, sym, _∙_, ap, ap₂}
+use mathlib.Core.Path.{_≡_, sym, _∙_, ap, ap₂}
 use mathlib.Core.List.{List, [], _∷_, _++_, append-assoc}
 use lib.ListN.{length, take, drop, set, length-append, length-take, length-drop, take-append-drop}
-use lib.Seq.{set-split, take-at, drop-at, length-take-le, drop-drop, sets, sets-eq}
+use lib.Seq.{set-split, take-at, drop-at, length-take-le, drop-drop, sets-eq}
 use Rattle.sheet.specs.Memory.{put}
 
 -- An empty block changes nothing.

@@ -1,9 +1,9 @@
 -- Laws of reading: what it hands back with a pass and with a refusal, and what a pass tells.
 use Prim.Native.Nat.{ℕ, _≤_}
-use mathlib.Core.Path.{_≡_, refl, sym, _∙_}
+use mathlib.Core.Path.{_≡_}
 use mathlib.Core.List.{List}
-use Rattle.floor.specs.Verdict.{Verdict, passed, refused, _then_}
-use Rattle.floor.specs.Checks.{roomOf, placesOf}
+use Rattle.floor.specs.Verdict.{Verdict, passed, refused}
+use Rattle.floor.specs.Checks.{placesOf}
 use Rattle.floor.proofs.VerdictLaws.{then-both}
 use Rattle.floor.proofs.LimitsLaws.{room-passed}
 use Rattle.sheet.specs.Values.{floorAt, wallsAt}

@@ -1,8 +1,8 @@
 -- The sheet as a block: its length, and its three parts put one behind the other.
-use Prim.Native.Nat.{ℕ, _+_, _*_, _≤_, _<_}
+use Prim.Native.Nat.{ℕ, _+_, _*_, _≤_}
 use native.Mathlib.Omega.{arith}
 use native.Mathlib.Nat.{zero-add}
-use mathlib.Core.Path.{_≡_, refl, sym, _∙_, ap}
+use mathlib.Core.Path.{_≡_}
 use mathlib.Core.List.{List, _++_, append-assoc}
 use lib.ListN.{length, getD, drop, length-append}
 use Rattle.floor.specs.declared.Floor.{Floor}

@@ -1,27 +1,26 @@
 -- A sheet read and written is the same sheet.
-use Prim.Native.Nat.{ℕ, zero, suc, _+_, _*_, _/_, _%_, _≤_, _<_}
+use Prim.Native.Nat.{ℕ, _+_, _*_, _/_, _%_, _≤_, _<_}
 use native.Mathlib.Omega.{arith}
-use mathlib.Core.Path.{_≡_, refl, sym, _∙_, ap, ap₂}
-use mathlib.Core.List.{List, [], _∷_, _++_, append-nil, append-assoc}
+use mathlib.Core.Path.{_≡_, sym, _∙_, ap₂}
+use mathlib.Core.List.{List, [], _++_, append-nil}
 use lib.ListN.{length, getD}
-use Rattle.floor.specs.declared.Floor.{Floor}
-use Rattle.floor.specs.Verdict.{passed, _then_, inTurn}
-use Rattle.floor.specs.Checks.{startOf, goalOf, limitsOf, placesOf, checkOf, lentOf, carriersOf, wallsOf}
-use Rattle.floor.specs.Accepted.{Accepted, InGrid}
+use Rattle.floor.specs.Verdict.{passed}
+use Rattle.floor.specs.Checks.{startOf, goalOf, placesOf, checkOf}
+use Rattle.floor.specs.Accepted.{Accepted}
 use Rattle.floor.proofs.VerdictLaws.{then-both, turn-passed}
 use Rattle.floor.proofs.LimitsLaws.{Bounds, limited-bounds}
 use Rattle.floor.proofs.Theorems.{theorems}
 use Rattle.sheet.specs.Field.{numberAt}
-use Rattle.sheet.specs.Text.{lineOf, linesOf, headLine, carrierLine, wallLine, sheetOf, carrierAt, goalAt, wallAt}
+use Rattle.sheet.specs.Text.{linesOf, headLine, carrierLine, wallLine, sheetOf, carrierAt, goalAt, wallAt}
 use Rattle.sheet.specs.Form.{lineForm, linesForm, restForm}
-use Rattle.sheet.specs.Values.{valueAt, cellOf, cellAt, upTo, listed, headAt, floorAt, cellsAt, wallsFrom, wallsAt}
+use Rattle.sheet.specs.Values.{valueAt, cellAt, headAt, floorAt, cellsAt, wallsFrom, wallsAt}
 use Rattle.sheet.specs.Read.{formOf, sheetVerdict}
 use Rattle.sheet.proofs.CellLaws.{value-number, cell-tells, cell-column, cell-row}
 use Rattle.sheet.proofs.ListedLaws.{listed-at, upTo-at}
 use Rattle.sheet.proofs.FormLaws.{Formed, form-tells, checked-places}
 use Rattle.sheet.proofs.PartLaws.{part, part-split, part-whole}
 use Rattle.sheet.proofs.LineText.{numbersFrom, line-text}
-use Rattle.sheet.proofs.LinesText.{lines-same, parts-lines}
+use Rattle.sheet.proofs.LinesText.{parts-lines}
 
 -- The cell at a column, written again, is the two numbers that stand there.
 cell-again : (text : List ℕ) (w h at : ℕ) → w ≤ 32 → h ≤ 32 → cellAt text w h at < w * h

@@ -1,19 +1,18 @@
 -- The form of a sheet, slot by slot: what a slot's check means, and that the form is the form of its slots in their order.
-use Prim.Native.Nat.{ℕ, zero, suc, _+_, _*_, _≤_, _<_}
-use native.Mathlib.Omega.{arith}
-use mathlib.Core.Path.{_≡_, refl, sym, _∙_, ap, ap₂}
+use Prim.Native.Nat.{ℕ, _+_}
+use mathlib.Core.Path.{_≡_, refl, sym, _∙_}
 use mathlib.Core.Bool.{Bool, true, false}
-use mathlib.Core.Logic.{_↔_, _⊎_, ⊎-elim, inl, inr}
-use mathlib.Core.List.{List, [], _∷_, _++_}
+use mathlib.Core.Logic.{_⊎_, ⊎-elim, inl, inr}
+use mathlib.Core.List.{List, [], _∷_}
 use borrow.Author.Tests.{leb-true, leb-false, ltb-true, ltb-false, eqb-true, eqb-false, le-leb, lt-leb, lt-ltb, le-ltb, eq-eqb, ne-eqb}
 use lib.ListN.{length, getD}
 use lib.Dec.{leb, ltb, eqb}
-use Rattle.floor.specs.Verdict.{Verdict, passed, refused, _then_, demand, inTurn}
+use Rattle.floor.specs.Verdict.{Verdict, passed, refused, _then_, demand}
 use Rattle.floor.proofs.VerdictLaws.{then-both, then-cases, then-passed, then-refused, demand-holds, demand-cases, demand-passes, demand-refuses, refused-not-passed}
 use Rattle.floor.proofs.EachLaws.{fails-false, false-fails}
 use Rattle.sheet.specs.Field.{isField}
 use Rattle.sheet.specs.Form.{fieldForm, newlineForm, endForm}
-use Rattle.sheet.specs.Refused.{Slot, field, newline, finish, GoodField, Fine, Broken, cut, bad, ended, wrong, extra, AllFine, none-left, one-more, FirstBroken, here, later}
+use Rattle.sheet.specs.Refused.{Slot, field, newline, finish, Fine, Broken, cut, bad, ended, wrong, extra, AllFine, none-left, one-more, FirstBroken, here, later}
 use Rattle.sheet.proofs.FieldLaws.{is-field-good, good-is-field}
 
 -- The check of a slot, and of slots in their order.

@@ -1,28 +1,24 @@
 -- The claims of the sheet, proved.
-use Prim.Native.Nat.{ℕ, zero, suc, _+_, _*_, _≤_, _<_}
+use Prim.Native.Nat.{ℕ, _+_, _*_, _≤_, _<_}
 use native.Mathlib.Omega.{arith}
-use mathlib.Core.Path.{_≡_, refl, sym, _∙_, ap}
-use mathlib.Core.Logic.{_↔_, _⊎_, ⊎-elim}
-use mathlib.Core.List.{List, []}
-use lib.ListN.{length}
-use Rattle.floor.specs.declared.Floor.{Floor}
-use Rattle.floor.specs.Verdict.{Verdict, passed, refused, _then_}
-use Rattle.floor.specs.Checks.{limitsOf, placesOf, checkOf}
+use mathlib.Core.Path.{_≡_, refl, sym, _∙_}
+use mathlib.Core.Logic.{_↔_, ⊎-elim}
+use mathlib.Core.List.{List}
+use Rattle.floor.specs.Verdict.{passed, refused, _then_}
+use Rattle.floor.specs.Checks.{limitsOf, placesOf}
 use Rattle.floor.specs.Accepted.{FieldWithin, Limited}
-use Rattle.floor.specs.Refused.{RefusedWith}
 use Rattle.floor.proofs.VerdictLaws.{then-both, then-cases, then-passed, then-refused}
 use Rattle.floor.proofs.EachLaws.{each-passed, each-refused, all-passes, first-refuses}
 use Rattle.floor.proofs.LimitsLaws.{fieldWithin, field-means, limits-each}
 use Rattle.floor.proofs.Theorems.{theorems as floor-theorems}
 use Rattle.sheet.specs.Field.{numberAt}
 use Rattle.sheet.specs.Form.{lineForm, restForm}
-use Rattle.sheet.specs.Values.{valueAt, cellOf, cellAt, headAt, floorAt, wallsAt}
+use Rattle.sheet.specs.Values.{valueAt, cellAt, headAt, floorAt, wallsAt}
 use Rattle.sheet.specs.Read.{formOf, sheetVerdict}
-use Rattle.sheet.specs.Refused.{headSlots, restSlots, AllFine, FirstBroken, RefusedSheet, head-form, outside-limit, rest-form, floor-row}
+use Rattle.sheet.specs.Refused.{headSlots, restSlots, AllFine, RefusedSheet, head-form, outside-limit, rest-form, floor-row}
 use Rattle.sheet.specs.Claims.{Claims}
 use Rattle.sheet.proofs.CellLaws.{value-number, number-value, cell-tells, cell-in}
-use Rattle.sheet.proofs.FormLaws.{limits-of-head, checked-places}
-use Rattle.sheet.proofs.SlotLaws.{slotsForm, slots-fine, fine-slots, slots-broken, broken-slots}
+use Rattle.sheet.proofs.SlotLaws.{slots-fine, fine-slots, slots-broken, broken-slots}
 use Rattle.sheet.proofs.SlotForms.{head-slots, rest-slots}
 use Rattle.sheet.proofs.SheetLaws.{sheet-length}
 use Rattle.sheet.proofs.SheetText.{read-accepted, sheet-returns, placed-checked}

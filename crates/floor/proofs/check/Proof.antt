@@ -1,65 +1,48 @@
-use Rattle.floor.proofs.LimitsLaws.{room-passed}
-use Rattle.floor.proofs.LimitsLaws.{limits-passed}
-use Rattle.floor.proofs.AnswersLaws.{passes}
+use Rattle.floor.proofs.LimitsLaws.{room-passed, limits-passed}
+use Rattle.floor.proofs.AnswersLaws.{passes, hands-on, ends-at}
 use Rattle.floor.specs.Checks.{checkOf, lentOf}
-use Rattle.floor.proofs.AnswersLaws.{hands-on, ends-at}
-use native.Mathlib.Omega.{arith}
 use borrow.Author.Needs.{needs}
 use Rattle.floor.proofs.check.Statement.{statement}
 use Rattle.floor.proofs.check.Tie as tie
-use Rattle.floor.proofs.check.Reads as reads
-use Rattle.floor.proofs.check.Lts as lts
-use Rattle.floor.proofs.bounds.limits.Reads as limits-reads
-use Rattle.floor.proofs.checks.places.Reads as places-reads
-use Rattle.floor.proofs.checks.room.Reads as room-reads
 
--- src/lib.rt:76:9
 limits-requires : tie.Need-limits-requires
 limits-requires c κs = search needs
 
 enum-told : tie.Need-enum-told
 enum-told c = search needs
 
--- src/lib.rt:78:9
 enum-told-2 : tie.Need-enum-told-2
 enum-told-2 c = search needs
 
--- src/lib.rt:78:9
 returns : tie.Need-returns
 unfolding checkOf lentOf
 returns c =
     ends-at _ (c .before .before .limits .ensures) (c .enum-told2 .given .1)
 
--- src/lib.rt:80:21
 cast-room : tie.Need-cast-room
 cast-room c = search needs
 
--- src/lib.rt:80:9
 room-requires : tie.Need-room-requires
 room-requires c κs = search needs
 
 enum-told-3 : tie.Need-enum-told-3
 enum-told-3 c = search needs
 
--- src/lib.rt:82:9
 enum-told-4 : tie.Need-enum-told-4
 enum-told-4 c = search needs
 
--- src/lib.rt:82:9
 returns-2 : tie.Need-returns-2
 unfolding checkOf lentOf
 returns-2 c =
     hands-on (c .before .before .before .before .before .before .limits .ensures) (c .before .before .before .before .enum-told .given .1)
     (ends-at _ (c .before .before .room .ensures) (c .enum-told4 .given .1))
 
--- src/lib.rt:84:5
 places-requires : tie.Need-places-requires
 places-requires c κs =
     let l = limits-passed _ (passes (c .before .before .before .before .before .before .limits .ensures) (c .before .before .before .before .enum-told .given .1)) in
     let w = room-passed _ _ (passes (c .before .before .room .ensures) (c .enum-told3 .given .1)) in
     ((l .width .1, l .height .1), (l .carriers .1, w))
 
--- src/lib.rt:73:1
 returns-3 : tie.Need-returns-3
 unfolding checkOf lentOf
 returns-3 c =

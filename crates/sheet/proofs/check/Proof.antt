@@ -3,52 +3,36 @@ use Rattle.sheet.specs.Values.{headAt, floorAt}
 use Rattle.floor.specs.Checks.{roomOf}
 use Rattle.floor.specs.declared.Floor.{Floor}
 use Rattle.floor.proofs.VerdictLaws.{then-assoc}
-use Rattle.sheet.proofs.FormLaws.{line-reach, form-tells, checked-places}
+use Rattle.sheet.proofs.FormLaws.{form-tells}
 use Rattle.floor.proofs.AnswersLaws.{passes, hands-on, ends-at}
-use Rattle.sheet.specs.Read.{formOf}
-use lib.ListN.{length, getD, drop}
-use mathlib.Core.List.{List, _++_}
-use mathlib.Core.Path.{_≡_, refl, _∙_, sym, ap}
-use Prim.Native.Nat.{ℕ, _+_, _*_, _-_, _≤_, _<_}
+use mathlib.Core.Path.{_∙_, ap}
 use native.Mathlib.Omega.{arith}
 use borrow.Author.Needs.{needs}
 use Rattle.sheet.proofs.check.Statement.{statement}
 use Rattle.sheet.proofs.check.Tie as tie
-use Rattle.sheet.proofs.check.Reads as reads
-use Rattle.sheet.proofs.check.Lts as lts
-use Rattle.floor.proofs.room.Reads as room-reads
-use Rattle.sheet.proofs.form_of.Reads as form-of-reads
-use Rattle.sheet.proofs.places.Reads as places-reads
-use Rattle.sheet.proofs.values.head.Reads as head-reads
 
--- src/lib.rt:61:9
 form-of-requires : tie.Need-form-of-requires
 form-of-requires c κs = search needs
 
 enum-told : tie.Need-enum-told
 enum-told c = search needs
 
--- src/lib.rt:63:9
 enum-told-2 : tie.Need-enum-told-2
 enum-told-2 c = search needs
 
--- src/lib.rt:63:9
 returns : tie.Need-returns
 unfolding readVerdict sheetVerdict
 returns c = rw then-assoc (ends-at _ (c .before .before .form-of .ensures) (c .enum-told2 .given .1))
 
--- src/lib.rt:65:9
 places-requires : tie.Need-places-requires
 places-requires c κs = passes (c .before .before .form-of .ensures) (c .enum-told .given .1)
 
 enum-told-3 : tie.Need-enum-told-3
 enum-told-3 c = search needs
 
--- src/lib.rt:67:9
 enum-told-4 : tie.Need-enum-told-4
 enum-told-4 c = search needs
 
--- src/lib.rt:67:9
 returns-2 : tie.Need-returns-2
 unfolding readVerdict sheetVerdict
 returns-2 c =
@@ -56,19 +40,15 @@ returns-2 c =
     (hands-on (c .before .before .before .before .before .form-of .ensures) (c .before .before .before .enum-told .given .1)
     (ends-at _ (c .before .before .places .ensures) (c .enum-told4 .given .1)))
 
--- src/lib.rt:69:9
 head-requires : tie.Need-head-requires
 head-requires c κs = omega (arith, form-tells _ (passes (c .before .before .before .before .before .form-of .ensures) (c .before .before .before .enum-told .given .1)) .size)
 
--- src/lib.rt:70:17
 cast-room : tie.Need-cast-room
 cast-room c = search needs
 
--- src/lib.rt:70:5
 room-requires : tie.Need-room-requires
 room-requires c κs = search needs
 
--- src/lib.rt:58:1
 returns-3 : tie.Need-returns-3
 unfolding readVerdict sheetVerdict floorAt headAt
 returns-3 c =

@@ -1,50 +1,37 @@
 use Rattle.sheet.proofs.ReadLaws.{chosen-passed, chosen-refused, read-tells}
 use Rattle.sheet.specs.Read.{readFloor, readWalls}
 use Rattle.sheet.specs.Values.{headAt, floorAt, wallsFrom, wallsAt}
-use Rattle.floor.proofs.AnswersLaws.{refuses}
+use Rattle.floor.proofs.AnswersLaws.{refuses, passes}
 use Rattle.floor.specs.Answers.{verdictOf}
 use Rattle.floor.specs.declared.Floor.{Floor}
 use denote.Ref.{now}
-use Rattle.sheet.proofs.FormLaws.{line-reach, form-tells, checked-places}
-use Rattle.floor.proofs.AnswersLaws.{passes, hands-on, ends-at}
-use lib.ListN.{length, getD, drop}
-use mathlib.Core.List.{List, _++_}
-use mathlib.Core.Path.{_≡_, refl, _∙_, sym, ap}
-use Prim.Native.Nat.{ℕ, _+_, _*_, _-_, _≤_, _<_}
+use Rattle.sheet.proofs.FormLaws.{form-tells}
+use lib.ListN.{drop}
+use mathlib.Core.List.{_++_}
+use mathlib.Core.Path.{_∙_, sym, ap}
 use native.Mathlib.Omega.{arith}
 use borrow.Author.Needs.{needs}
 use Rattle.sheet.proofs.read.Statement.{statement}
 use Rattle.sheet.proofs.read.Tie as tie
-use Rattle.sheet.proofs.read.Reads as reads
-use Rattle.sheet.proofs.read.Lts as lts
-use Rattle.floor.proofs.Floor.fresh.Reads as fresh-reads
-use Rattle.sheet.proofs.check.Reads as check-reads
-use Rattle.sheet.proofs.values.floor.Reads as floor-reads
-use Rattle.sheet.proofs.values.walls.Reads as walls-reads
 
--- src/lib.rt:86:9
 check-requires : tie.Need-check-requires
 check-requires c κs = search needs
 
 enum-told : tie.Need-enum-told
 enum-told c = search needs
 
--- src/lib.rt:90:20
 enum-told-2 : tie.Need-enum-told-2
 enum-told-2 c = search needs
 
--- src/lib.rt:90:20
 fresh-requires : tie.Need-fresh-requires
 fresh-requires c κs = search needs
 
--- src/lib.rt:88:9
 returns : tie.Need-returns
 unfolding readFloor readWalls
 returns c =
     let no = refuses (c .before .before .before .check .ensures) (c .before .enum-told2 .given .1) in
     (c .before .before .before .check .ensures, (c .fresh .ensures ∙ sym (chosen-refused _ _ no), sym (chosen-refused _ _ no)))
 
--- src/lib.rt:93:9
 floor-requires : tie.Need-floor-requires
 unfolding headAt
 floor-requires c κs =
@@ -52,7 +39,6 @@ floor-requires c κs =
     let t = form-tells _ (ok .form) in
     ((t .bounds .width .1, t .bounds .height .1), (t .bounds .carriers .1, omega (arith, t .size)))
 
--- src/lib.rt:94:5
 walls-requires : tie.Need-walls-requires
 unfolding headAt floorAt
 walls-requires c κs =
@@ -61,11 +47,9 @@ walls-requires c κs =
     rw (c .before .floor .ensures)
     ((t .bounds .width .1, t .bounds .height .1), ((t .bounds .carriers .1, ok .room-there), omega (arith, t .size)))
 
--- src/lib.rt:81:1
 same-length : tie.Need-same-length
 same-length c = search needs
 
--- src/lib.rt:81:1
 returns-2 : tie.Need-returns-2
 unfolding readFloor readWalls verdictOf wallsAt
 returns-2 c =

@@ -2,24 +2,17 @@ use Rattle.floor.specs.Answers.{verdictOf}
 use Rattle.floor.specs.Verdict.{demand}
 use Rattle.floor.specs.Checks.{within}
 use borrow.Author.Tests.{lt-leb, le-leb}
-use borrow.Author.Needs.{needs}
-use native.Mathlib.Omega.{arith}
 use Rattle.floor.proofs.bounds.limit.Statement.{statement}
 use Rattle.floor.proofs.bounds.limit.Tie as tie
-use Rattle.floor.proofs.bounds.limit.Reads as reads
-use Rattle.floor.proofs.bounds.limit.Lts as lts
 
--- src/limits.rt:15:9
 returns : tie.Need-returns
 unfolding verdictOf demand within
 returns c = rw (lt-leb _ _ (c .if1 .taken))
 
--- src/limits.rt:18:9
 returns-2 : tie.Need-returns-2
 unfolding verdictOf demand within
 returns-2 c = rw (le-leb _ _ (c .before .if1 .left), lt-leb _ _ (c .if2 .taken))
 
--- src/limits.rt:11:1
 returns-3 : tie.Need-returns-3
 unfolding verdictOf demand within
 returns-3 c = rw (le-leb _ _ (c .before .if1 .left), le-leb _ _ (c .if2 .left))

@@ -1,41 +1,31 @@
 use Rattle.floor.proofs.AnswersLaws.{hands-on, ends-at}
 use Rattle.floor.specs.Checks.{limitsOf}
-use native.Mathlib.Omega.{arith}
 use borrow.Author.Needs.{needs}
 use Rattle.floor.proofs.bounds.limits.Statement.{statement}
 use Rattle.floor.proofs.bounds.limits.Tie as tie
-use Rattle.floor.proofs.bounds.limits.Reads as reads
-use Rattle.floor.proofs.bounds.limits.Lts as lts
-use Rattle.floor.proofs.bounds.limit.Reads as limit-reads
 
--- src/limits.rt:27:9
 limit-requires : tie.Need-limit-requires
 limit-requires c κs = search needs
 
 enum-told : tie.Need-enum-told
 enum-told c = search needs
 
--- src/limits.rt:29:9
 enum-told-2 : tie.Need-enum-told-2
 enum-told-2 c = search needs
 
--- src/limits.rt:29:9
 returns : tie.Need-returns
 unfolding limitsOf
 returns c = ends-at _ (c .before .before .limit .ensures) (c .enum-told2 .given .1)
 
--- src/limits.rt:31:9
 limit-requires-2 : tie.Need-limit-requires-2
 limit-requires-2 c κs = search needs
 
 enum-told-3 : tie.Need-enum-told-3
 enum-told-3 c = search needs
 
--- src/limits.rt:33:9
 enum-told-4 : tie.Need-enum-told-4
 enum-told-4 c = search needs
 
--- src/limits.rt:33:9
 returns-2 : tie.Need-returns-2
 unfolding limitsOf
 returns-2 c =
@@ -43,18 +33,15 @@ returns-2 c =
     hands-on (c0 .before .before .limit .ensures) (c0 .enum-told .given .1)
     (ends-at _ (c .before .before .limit2 .ensures) (c .enum-told4 .given .1))
 
--- src/limits.rt:35:9
 limit-requires-3 : tie.Need-limit-requires-3
 limit-requires-3 c κs = search needs
 
 enum-told-5 : tie.Need-enum-told-5
 enum-told-5 c = search needs
 
--- src/limits.rt:37:9
 enum-told-6 : tie.Need-enum-told-6
 enum-told-6 c = search needs
 
--- src/limits.rt:37:9
 returns-3 : tie.Need-returns-3
 unfolding limitsOf
 returns-3 c =
@@ -64,18 +51,15 @@ returns-3 c =
     (hands-on (c1 .before .before .limit2 .ensures) (c1 .enum-told3 .given .1)
     (ends-at _ (c .before .before .limit3 .ensures) (c .enum-told6 .given .1)))
 
--- src/limits.rt:39:9
 limit-requires-4 : tie.Need-limit-requires-4
 limit-requires-4 c κs = search needs
 
 enum-told-7 : tie.Need-enum-told-7
 enum-told-7 c = search needs
 
--- src/limits.rt:41:9
 enum-told-8 : tie.Need-enum-told-8
 enum-told-8 c = search needs
 
--- src/limits.rt:41:9
 returns-4 : tie.Need-returns-4
 unfolding limitsOf
 returns-4 c =
@@ -87,18 +71,15 @@ returns-4 c =
     (hands-on (c2 .before .before .limit3 .ensures) (c2 .enum-told5 .given .1)
     (ends-at _ (c .before .before .limit4 .ensures) (c .enum-told8 .given .1))))
 
--- src/limits.rt:43:9
 limit-requires-5 : tie.Need-limit-requires-5
 limit-requires-5 c κs = search needs
 
 enum-told-9 : tie.Need-enum-told-9
 enum-told-9 c = search needs
 
--- src/limits.rt:45:9
 enum-told-10 : tie.Need-enum-told-10
 enum-told-10 c = search needs
 
--- src/limits.rt:45:9
 returns-5 : tie.Need-returns-5
 unfolding limitsOf
 returns-5 c =
@@ -112,11 +93,9 @@ returns-5 c =
     (hands-on (c3 .before .before .limit4 .ensures) (c3 .enum-told7 .given .1)
     (ends-at _ (c .before .before .limit5 .ensures) (c .enum-told10 .given .1)))))
 
--- src/limits.rt:47:5
 limit-requires-6 : tie.Need-limit-requires-6
 limit-requires-6 c κs = search needs
 
--- src/limits.rt:24:1
 returns-6 : tie.Need-returns-6
 unfolding limitsOf
 returns-6 c =

@@ -1,20 +1,13 @@
-use Rattle.floor.proofs.VerdictLaws.{each-end}
+use Rattle.floor.proofs.VerdictLaws.{each-end, each-none, each-more, each-stop}
 use borrow.Author.Tests.{not-true, not-false}
-use Rattle.floor.proofs.VerdictLaws.{each-none, each-more, each-stop}
 use Rattle.floor.specs.Checks.{carrierInGrid, carriersOf}
 use Rattle.floor.specs.Answers.{verdictOf}
-use Rattle.floor.specs.Verdict.{Verdict, passed, refused, each}
-use lib.ListN.{length, getD}
-use mathlib.Core.Bool.{true, false}
-use mathlib.Core.Path.{_≡_, refl, _∙_, sym, ap}
-use Prim.Native.Nat.{ℕ, _+_, _-_, _≤_, _<_}
+use Rattle.floor.specs.Verdict.{passed, each}
+use mathlib.Core.Path.{_≡_, _∙_, sym}
+use Prim.Native.Nat.{_-_, _≤_}
 use borrow.Author.Needs.{needs}
-use native.Mathlib.Omega.{arith}
 use Rattle.floor.proofs.checks.carriers_inside.Statement.{statement}
 use Rattle.floor.proofs.checks.carriers_inside.Tie as tie
-use Rattle.floor.proofs.checks.carriers_inside.Reads as reads
-use Rattle.floor.proofs.checks.carriers_inside.Lts as lts
-use Rattle.floor.proofs.checks.carrier_inside.Reads as carrier-inside-reads
 
 abbrev Inv-loop : tie.InvT-loop
 Inv-loop f n i₀ i = (i ≤ n) × (each 3 1 (carrierInGrid f) i ≡ passed)
@@ -22,40 +15,31 @@ Inv-loop f n i₀ i = (i ≤ n) × (each 3 1 (carrierInGrid f) i ≡ passed)
 abbrev μ-loop : tie.MeasureT-loop
 μ-loop f n i₀ i = n - i
 
--- src/checks.rt:65:13
 cast-n : tie.Need-cast-n Inv-loop μ-loop
 cast-n c = search needs
 
--- src/checks.rt:67:5
 loop-holds : tie.Need-loop-holds Inv-loop μ-loop
 loop-holds c = (search needs, each-none _ _ _)
 
--- src/checks.rt:68:13
 carrier-inside-requires : tie.Need-carrier-inside-requires Inv-loop μ-loop
 carrier-inside-requires c κs = search needs
 
--- src/checks.rt:69:65
 add-t6 : tie.Need-add-t6 Inv-loop μ-loop
 add-t6 c = search needs
 
--- src/checks.rt:69:13
 returns : tie.Need-returns Inv-loop μ-loop
 unfolding verdictOf carriersOf
 returns c = sym (each-stop 3 1 _ _ _ (c .before .before .loop-test .taken) (c .before .before .before .loop .inv .1) (sym (c .before .carrier-inside .ensures) ∙ not-true _ (c .if1 .taken)))
 
--- src/checks.rt:71:9
 add-i : tie.Need-add-i Inv-loop μ-loop
 add-i c = search needs
 
--- src/checks.rt:67:5
 loop-less : tie.Need-loop-less Inv-loop μ-loop
 loop-less c = search needs
 
--- src/checks.rt:67:5
 loop-again : tie.Need-loop-again Inv-loop μ-loop
 loop-again c = (search needs, each-more 3 1 _ _ (c .before .before .before .loop .inv .1) (sym (c .before .carrier-inside .ensures) ∙ not-false _ (c .if1 .left)))
 
--- src/checks.rt:60:1
 returns-2 : tie.Need-returns-2 Inv-loop μ-loop
 unfolding verdictOf carriersOf
 returns-2 c = each-end 3 1 _ (c .before .loop .i) _ (c .before .loop .inv .0) (c .loop-test .left) (c .before .loop .inv .1)

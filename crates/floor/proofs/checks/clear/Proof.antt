@@ -2,18 +2,12 @@ use Rattle.floor.specs.Checks.{clearOfWalls, clearOf}
 use Rattle.floor.proofs.VerdictLaws.{each-none, each-more, each-stop, each-end}
 use borrow.Author.Tests.{not-true, not-false}
 use Rattle.floor.specs.Answers.{verdictOf}
-use Rattle.floor.specs.Verdict.{Verdict, passed, refused, each}
-use lib.ListN.{length, getD}
-use mathlib.Core.Bool.{true, false, not}
-use mathlib.Core.Path.{_≡_, refl, _∙_, sym, ap}
-use Prim.Native.Nat.{ℕ, _+_, _-_, _≤_, _<_}
+use Rattle.floor.specs.Verdict.{passed, each}
+use mathlib.Core.Path.{_≡_, _∙_, sym}
+use Prim.Native.Nat.{_-_, _≤_}
 use borrow.Author.Needs.{needs}
-use native.Mathlib.Omega.{arith}
 use Rattle.floor.proofs.checks.clear.Statement.{statement}
 use Rattle.floor.proofs.checks.clear.Tie as tie
-use Rattle.floor.proofs.checks.clear.Reads as reads
-use Rattle.floor.proofs.checks.clear.Lts as lts
-use Rattle.floor.proofs.checks.clear_of_walls.Reads as clear-of-walls-reads
 
 abbrev Inv-loop : tie.InvT-loop
 Inv-loop f walls n i₀ i = (i ≤ n) × (each 5 1 (clearOfWalls f walls) i ≡ passed)
@@ -21,44 +15,35 @@ Inv-loop f walls n i₀ i = (i ≤ n) × (each 5 1 (clearOfWalls f walls) i ≡ 
 abbrev μ-loop : tie.MeasureT-loop
 μ-loop f walls n i₀ i = n - i
 
--- src/checks.rt:141:13
 cast-n : tie.Need-cast-n Inv-loop μ-loop
 cast-n c = search needs
 
--- src/checks.rt:143:5
 loop-holds : tie.Need-loop-holds Inv-loop μ-loop
 loop-holds c = (search needs, each-none _ _ _)
 
--- src/checks.rt:144:13
 clear-of-walls-requires : tie.Need-clear-of-walls-requires Inv-loop μ-loop
 clear-of-walls-requires c κs = search needs
 
--- src/checks.rt:145:65
 add-t7 : tie.Need-add-t7 Inv-loop μ-loop
 add-t7 c = search needs
 
--- src/checks.rt:145:13
 returns : tie.Need-returns Inv-loop μ-loop
 unfolding verdictOf clearOf
 returns c =
     let l = c .before .before .before in
     sym (each-stop 5 _ _ _ _ (c .before .before .loop-test .taken) (l .loop .inv .1) (sym (c .before .clear-of-walls .ensures) ∙ not-true _ (c .if1 .taken)))
 
--- src/checks.rt:147:9
 add-i : tie.Need-add-i Inv-loop μ-loop
 add-i c = search needs
 
--- src/checks.rt:143:5
 loop-less : tie.Need-loop-less Inv-loop μ-loop
 loop-less c = search needs
 
--- src/checks.rt:143:5
 loop-again : tie.Need-loop-again Inv-loop μ-loop
 loop-again c =
     let l = c .before .before .before in
     (search needs, each-more 5 _ _ _ (l .loop .inv .1) (sym (c .before .clear-of-walls .ensures) ∙ not-false _ (c .if1 .left)))
 
--- src/checks.rt:136:1
 returns-2 : tie.Need-returns-2 Inv-loop μ-loop
 unfolding verdictOf clearOf
 returns-2 c = each-end 5 _ _ (c .before .loop .i) _ (c .before .loop .inv .0) (c .loop-test .left) (c .before .loop .inv .1)

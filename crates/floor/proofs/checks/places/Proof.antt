@@ -1,45 +1,31 @@
 use Rattle.floor.specs.Checks.{placesOf}
 use Rattle.floor.proofs.AnswersLaws.{hands-on, ends-at}
-use native.Mathlib.Omega.{arith}
 use borrow.Author.Needs.{needs}
 use Rattle.floor.proofs.checks.places.Statement.{statement}
 use Rattle.floor.proofs.checks.places.Tie as tie
-use Rattle.floor.proofs.checks.places.Reads as reads
-use Rattle.floor.proofs.checks.places.Lts as lts
-use Rattle.floor.proofs.checks.carriers_inside.Reads as carriers-inside-reads
-use Rattle.floor.proofs.checks.clear.Reads as clear-reads
-use Rattle.floor.proofs.checks.distinct.Reads as distinct-reads
-use Rattle.floor.proofs.checks.rising.Reads as rising-reads
-use Rattle.floor.proofs.checks.walls_inside.Reads as walls-inside-reads
 
--- src/checks.rt:190:9
 carriers-inside-requires : tie.Need-carriers-inside-requires
 carriers-inside-requires c κs = search needs
 
 enum-told : tie.Need-enum-told
 enum-told c = search needs
 
--- src/checks.rt:192:9
 enum-told-2 : tie.Need-enum-told-2
 enum-told-2 c = search needs
 
--- src/checks.rt:192:9
 returns : tie.Need-returns
 unfolding placesOf
 returns c = ends-at _ (c .before .before .carriers-inside .ensures) (c .enum-told2 .given .1)
 
--- src/checks.rt:194:9
 walls-inside-requires : tie.Need-walls-inside-requires
 walls-inside-requires c κs = search needs
 
 enum-told-3 : tie.Need-enum-told-3
 enum-told-3 c = search needs
 
--- src/checks.rt:196:9
 enum-told-4 : tie.Need-enum-told-4
 enum-told-4 c = search needs
 
--- src/checks.rt:196:9
 returns-2 : tie.Need-returns-2
 unfolding placesOf
 returns-2 c =
@@ -47,18 +33,15 @@ returns-2 c =
     hands-on (c0 .before .before .carriers-inside .ensures) (c0 .enum-told .given .1)
     (ends-at _ (c .before .before .walls-inside .ensures) (c .enum-told4 .given .1))
 
--- src/checks.rt:198:9
 rising-requires : tie.Need-rising-requires
 rising-requires c κs = search needs
 
 enum-told-5 : tie.Need-enum-told-5
 enum-told-5 c = search needs
 
--- src/checks.rt:200:9
 enum-told-6 : tie.Need-enum-told-6
 enum-told-6 c = search needs
 
--- src/checks.rt:200:9
 returns-3 : tie.Need-returns-3
 unfolding placesOf
 returns-3 c =
@@ -68,18 +51,15 @@ returns-3 c =
     (hands-on (c1 .before .before .walls-inside .ensures) (c1 .enum-told3 .given .1)
     (ends-at _ (c .before .before .rising .ensures) (c .enum-told6 .given .1)))
 
--- src/checks.rt:202:9
 clear-requires : tie.Need-clear-requires
 clear-requires c κs = search needs
 
 enum-told-7 : tie.Need-enum-told-7
 enum-told-7 c = search needs
 
--- src/checks.rt:204:9
 enum-told-8 : tie.Need-enum-told-8
 enum-told-8 c = search needs
 
--- src/checks.rt:204:9
 returns-4 : tie.Need-returns-4
 unfolding placesOf
 returns-4 c =
@@ -91,11 +71,9 @@ returns-4 c =
     (hands-on (c2 .before .before .rising .ensures) (c2 .enum-told5 .given .1)
     (ends-at _ (c .before .before .clear .ensures) (c .enum-told8 .given .1))))
 
--- src/checks.rt:206:5
 distinct-requires : tie.Need-distinct-requires
 distinct-requires c κs = search needs
 
--- src/checks.rt:184:1
 returns-5 : tie.Need-returns-5
 unfolding placesOf
 returns-5 c =

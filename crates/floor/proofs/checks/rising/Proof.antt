@@ -2,18 +2,12 @@ use Rattle.floor.specs.Checks.{rises, risingOf}
 use Rattle.floor.proofs.VerdictLaws.{each-none, each-more, each-stop, each-end}
 use borrow.Author.Tests.{not-true, not-false}
 use Rattle.floor.specs.Answers.{verdictOf}
-use Rattle.floor.specs.Verdict.{Verdict, passed, refused, each}
-use lib.ListN.{length, getD}
-use mathlib.Core.Bool.{true, false, not}
-use mathlib.Core.Path.{_≡_, refl, _∙_, sym, ap}
-use Prim.Native.Nat.{ℕ, _+_, _-_, _≤_, _<_}
+use Rattle.floor.specs.Verdict.{passed, each}
+use mathlib.Core.Path.{_≡_, _∙_, sym}
+use Prim.Native.Nat.{_-_, _≤_}
 use borrow.Author.Needs.{needs}
-use native.Mathlib.Omega.{arith}
 use Rattle.floor.proofs.checks.rising.Statement.{statement}
 use Rattle.floor.proofs.checks.rising.Tie as tie
-use Rattle.floor.proofs.checks.rising.Reads as reads
-use Rattle.floor.proofs.checks.rising.Lts as lts
-use Rattle.floor.proofs.checks.rises.Reads as rises-reads
 
 abbrev Inv-loop : tie.InvT-loop
 Inv-loop walls m base j₀ j = (j ≤ m) × (each 4 base (rises walls) j ≡ passed)
@@ -21,52 +15,41 @@ Inv-loop walls m base j₀ j = (j ≤ m) × (each 4 base (rises walls) j ≡ pas
 abbrev μ-loop : tie.MeasureT-loop
 μ-loop walls m base j₀ j = m - j
 
--- src/checks.rt:110:13
 cast-m : tie.Need-cast-m Inv-loop μ-loop
 cast-m c = search needs
 
--- src/checks.rt:111:16
 cast-base : tie.Need-cast-base Inv-loop μ-loop
 cast-base c = search needs
 
--- src/checks.rt:111:16
 add-base : tie.Need-add-base Inv-loop μ-loop
 add-base c = search needs
 
--- src/checks.rt:113:5
 loop-holds : tie.Need-loop-holds Inv-loop μ-loop
 loop-holds c = (search needs, each-none _ _ _)
 
--- src/checks.rt:114:13
 rises-requires : tie.Need-rises-requires Inv-loop μ-loop
 rises-requires c κs = search needs
 
--- src/checks.rt:115:65
 add-t9 : tie.Need-add-t9 Inv-loop μ-loop
 add-t9 c = search needs
 
--- src/checks.rt:115:13
 returns : tie.Need-returns Inv-loop μ-loop
 unfolding verdictOf risingOf
 returns c =
     let l = c .before .before .before in
     sym (each-stop 4 _ _ _ _ (c .before .before .loop-test .taken) (l .loop .inv .1) (sym (c .before .rises .ensures) ∙ not-true _ (c .if1 .taken)))
 
--- src/checks.rt:117:9
 add-j : tie.Need-add-j Inv-loop μ-loop
 add-j c = search needs
 
--- src/checks.rt:113:5
 loop-less : tie.Need-loop-less Inv-loop μ-loop
 loop-less c = search needs
 
--- src/checks.rt:113:5
 loop-again : tie.Need-loop-again Inv-loop μ-loop
 loop-again c =
     let l = c .before .before .before in
     (search needs, each-more 4 _ _ _ (l .loop .inv .1) (sym (c .before .rises .ensures) ∙ not-false _ (c .if1 .left)))
 
--- src/checks.rt:106:1
 returns-2 : tie.Need-returns-2 Inv-loop μ-loop
 unfolding verdictOf risingOf
 returns-2 c = each-end 4 _ _ (c .before .loop .j) _ (c .before .loop .inv .0) (c .loop-test .left) (c .before .loop .inv .1)

@@ -2,19 +2,13 @@ use Rattle.floor.specs.Answers.{verdictOf}
 use Rattle.floor.specs.Verdict.{demand}
 use Rattle.floor.specs.Checks.{roomOf}
 use borrow.Author.Tests.{lt-leb, le-leb}
-use borrow.Author.Needs.{needs}
-use native.Mathlib.Omega.{arith}
 use Rattle.floor.proofs.checks.room.Statement.{statement}
 use Rattle.floor.proofs.checks.room.Tie as tie
-use Rattle.floor.proofs.checks.room.Reads as reads
-use Rattle.floor.proofs.checks.room.Lts as lts
 
--- src/checks.rt:19:9
 returns : tie.Need-returns
 unfolding verdictOf roomOf demand
 returns c = rw (lt-leb _ _ (c .if1 .taken))
 
--- src/checks.rt:15:1
 returns-2 : tie.Need-returns-2
 unfolding verdictOf roomOf demand
 returns-2 c = rw (le-leb _ _ (c .if1 .left))

@@ -2,17 +2,13 @@ use Rattle.floor.proofs.VerdictLaws.{each-none, each-more, each-stop, e
 use borrow.Author.Tests.{not-true, not-false}
 use Rattle.floor.specs.Checks.{inGrid, wallsOf}
 use Rattle.floor.specs.Answers.{verdictOf}
-use Rattle.floor.specs.Verdict.{Verdict, passed, refused, each}
-use lib.ListN.{length, getD}
-use mathlib.Core.Path.{_≡_, refl, _∙_, sym, ap}
-use Prim.Native.Nat.{ℕ, _+_, _-_, _≤_, _<_}
+use Rattle.floor.specs.Verdict.{passed, each}
+use lib.ListN.{getD}
+use mathlib.Core.Path.{_≡_, _∙_, sym}
+use Prim.Native.Nat.{ℕ, _-_, _≤_}
 use borrow.Author.Needs.{needs}
-use native.Mathlib.Omega.{arith}
 use Rattle.floor.proofs.checks.walls_inside.Statement.{statement}
 use Rattle.floor.proofs.checks.walls_inside.Tie as tie
-use Rattle.floor.proofs.checks.walls_inside.Reads as reads
-use Rattle.floor.proofs.checks.walls_inside.Lts as lts
-use Rattle.floor.proofs.checks.in_grid.Reads as in-grid-reads
 
 abbrev Inv-loop : tie.InvT-loop
 Inv-loop f walls m base j₀ j = (j ≤ m) × (each 3 base (λ (k : ℕ). inGrid f (getD walls k 0)) j ≡ passed)
@@ -20,60 +16,47 @@ Inv-loop f walls m base j₀ j = (j ≤ m) × (each 3 base (λ (k : ℕ). inGrid
 abbrev μ-loop : tie.MeasureT-loop
 μ-loop f walls m base j₀ j = m - j
 
--- src/checks.rt:82:13
 cast-m : tie.Need-cast-m Inv-loop μ-loop
 cast-m c = search needs
 
--- src/checks.rt:83:16
 cast-base : tie.Need-cast-base Inv-loop μ-loop
 cast-base c = search needs
 
--- src/checks.rt:83:16
 add-base : tie.Need-add-base Inv-loop μ-loop
 add-base c = search needs
 
--- src/checks.rt:85:5
 loop-holds : tie.Need-loop-holds Inv-loop μ-loop
 loop-holds c = (search needs, each-none _ _ _)
 
--- src/checks.rt:86:24
 mul-in-grid : tie.Need-mul-in-grid Inv-loop μ-loop
 mul-in-grid c = search needs
 
--- src/checks.rt:86:24
 shared-slice-read-in-grid : tie.Need-shared-slice-read-in-grid Inv-loop μ-loop
 shared-slice-read-in-grid c = search needs
 
--- src/checks.rt:86:13
 in-grid-requires : tie.Need-in-grid-requires Inv-loop μ-loop
 in-grid-requires c κs = search needs
 
--- src/checks.rt:87:65
 add-t12 : tie.Need-add-t12 Inv-loop μ-loop
 add-t12 c = search needs
 
--- src/checks.rt:87:13
 returns : tie.Need-returns Inv-loop μ-loop
 unfolding verdictOf wallsOf
 returns c =
     let l = c .before .before .before .before in
     sym (each-stop 3 _ _ _ _ (c .before .before .before .loop-test .taken) (l .loop .inv .1) (sym (c .before .in-grid .ensures) ∙ not-true _ (c .if1 .taken)))
 
--- src/checks.rt:89:9
 add-j : tie.Need-add-j Inv-loop μ-loop
 add-j c = search needs
 
--- src/checks.rt:85:5
 loop-less : tie.Need-loop-less Inv-loop μ-loop
 loop-less c = search needs
 
--- src/checks.rt:85:5
 loop-again : tie.Need-loop-again Inv-loop μ-loop
 loop-again c =
     let l = c .before .before .before .before in
     (search needs, each-more 3 _ _ _ (l .loop .inv .1) (sym (c .before .in-grid .ensures) ∙ not-false _ (c .if1 .left)))
 
--- src/checks.rt:77:1
 returns-2 : tie.Need-returns-2 Inv-loop μ-loop
 unfolding verdictOf wallsOf
 returns-2 c = each-end 3 _ _ (c .before .loop .j) _ (c .before .loop .inv .0) (c .loop-test .left) (c .before .loop .inv .1)

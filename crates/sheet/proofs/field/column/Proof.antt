@@ -1,30 +1,22 @@
 use Rattle.sheet.specs.Field.{column}
 use borrow.Author.Tests.{lt-ltb, le-ltb}
-use native.Mathlib.Omega.{arith}
 use borrow.Author.Needs.{needs}
 use Rattle.sheet.proofs.field.column.Statement.{statement}
 use Rattle.sheet.proofs.field.column.Tie as tie
-use Rattle.sheet.proofs.field.column.Reads as reads
-use Rattle.sheet.proofs.field.column.Lts as lts
 
--- src/field.rt:37:9
 returns : tie.Need-returns
 unfolding column
 returns c = rw (lt-ltb _ _ (c .if1 .taken))
 
--- src/field.rt:39:11
 div-result : tie.Need-div-result
 div-result c = search needs
 
--- src/field.rt:39:6
 add-result : tie.Need-add-result
 add-result c = search needs
 
--- src/field.rt:39:5
 cast-result : tie.Need-cast-result
 cast-result c = search needs
 
--- src/field.rt:32:1
 returns-2 : tie.Need-returns-2
 unfolding column
 returns-2 c = rw (le-ltb _ _ (c .if1 .left))

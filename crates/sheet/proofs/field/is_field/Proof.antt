@@ -1,50 +1,36 @@
 use Rattle.sheet.proofs.TestLaws.{test-holds, test-fails}
 use Rattle.sheet.specs.Field.{isField, column}
 use borrow.Author.Tests.{eq-eqb, ne-eqb}
-use mathlib.Core.Path.{_≡_, _∙_, sym, ap}
+use mathlib.Core.Path.{_∙_, sym, ap}
 use Prim.Native.Nat.{ℕ, _+_, _%_}
-use native.Mathlib.Omega.{arith}
 use borrow.Author.Needs.{needs}
 use Rattle.sheet.proofs.field.is_field.Statement.{statement}
 use Rattle.sheet.proofs.field.is_field.Tie as tie
-use Rattle.sheet.proofs.field.is_field.Reads as reads
-use Rattle.sheet.proofs.field.is_field.Lts as lts
-use Rattle.sheet.proofs.field.column.Reads as column-reads
-use Rattle.sheet.proofs.field.number.Reads as number-reads
-use Rattle.sheet.proofs.field.units.Reads as units-reads
 
--- src/field.rt:54:9
 number-requires : tie.Need-number-requires
 number-requires c κs = search needs
 
--- src/field.rt:55:8
 shared-slice-read-if1 : tie.Need-shared-slice-read-if1
 shared-slice-read-if1 c = search needs
 
--- src/field.rt:55:20
 column-requires : tie.Need-column-requires
 column-requires c κs = search needs
 
--- src/field.rt:56:9
 returns : tie.Need-returns
 unfolding isField
 returns c =
     let n = c .before .before .before .number .ensures in
     test-fails _ (λ e. c .if1 .taken (e ∙ ap (column 10000) (sym n) ∙ sym (c .before .column .ensures)))
 
--- src/field.rt:58:13
 add-if2 : tie.Need-add-if2
 add-if2 c = search needs
 
--- src/field.rt:58:8
 shared-slice-read-if2 : tie.Need-shared-slice-read-if2
 shared-slice-read-if2 c = search needs
 
--- src/field.rt:58:24
 column-requires-2 : tie.Need-column-requires-2
 column-requires-2 c κs = search needs
 
--- src/field.rt:59:9
 returns-2 : tie.Need-returns-2
 unfolding isField
 returns-2 c =
@@ -53,19 +39,15 @@ returns-2 c =
     test-holds (c1 .if1 .left ∙ c1 .before .column .ensures ∙ ap (column 10000) n)
     (test-fails _ (λ e. c .if2 .taken (e ∙ ap (column 1000) (sym n) ∙ sym (c .before .column2 .ensures))))
 
--- src/field.rt:61:13
 add-if3 : tie.Need-add-if3
 add-if3 c = search needs
 
--- src/field.rt:61:8
 shared-slice-read-if3 : tie.Need-shared-slice-read-if3
 shared-slice-read-if3 c = search needs
 
--- src/field.rt:61:24
 column-requires-3 : tie.Need-column-requires-3
 column-requires-3 c κs = search needs
 
--- src/field.rt:62:9
 returns-3 : tie.Need-returns-3
 unfolding isField
 returns-3 c =
@@ -76,19 +58,15 @@ returns-3 c =
     (test-holds (c2 .if2 .left ∙ c2 .before .column2 .ensures ∙ ap (column 1000) n)
     (test-fails _ (λ e. c .if3 .taken (e ∙ ap (column 100) (sym n) ∙ sym (c .before .column3 .ensures)))))
 
--- src/field.rt:64:13
 add-if4 : tie.Need-add-if4
 add-if4 c = search needs
 
--- src/field.rt:64:8
 shared-slice-read-if4 : tie.Need-shared-slice-read-if4
 shared-slice-read-if4 c = search needs
 
--- src/field.rt:64:24
 column-requires-4 : tie.Need-column-requires-4
 column-requires-4 c κs = search needs
 
--- src/field.rt:65:9
 returns-4 : tie.Need-returns-4
 unfolding isField
 returns-4 c =
@@ -101,19 +79,15 @@ returns-4 c =
     (test-holds (c3 .if3 .left ∙ c3 .before .column3 .ensures ∙ ap (column 100) n)
     (test-fails _ (λ e. c .if4 .taken (e ∙ ap (column 10) (sym n) ∙ sym (c .before .column4 .ensures))))))
 
--- src/field.rt:67:13
 add-if5 : tie.Need-add-if5
 add-if5 c = search needs
 
--- src/field.rt:67:8
 shared-slice-read-if5 : tie.Need-shared-slice-read-if5
 shared-slice-read-if5 c = search needs
 
--- src/field.rt:67:24
 units-requires : tie.Need-units-requires
 units-requires c κs = search needs
 
--- src/field.rt:68:9
 returns-5 : tie.Need-returns-5
 unfolding isField
 returns-5 c =
@@ -128,7 +102,6 @@ returns-5 c =
     (test-holds (c4 .if4 .left ∙ c4 .before .column4 .ensures ∙ ap (column 10) n)
     (sym (ne-eqb _ _ (λ e. c .if5 .taken (e ∙ ap (λ (v : ℕ). 48 + v % 10) (sym n) ∙ sym (c .before .units .ensures))))))))
 
--- src/field.rt:50:1
 returns-6 : tie.Need-returns-6
 unfolding isField
 returns-6 c =

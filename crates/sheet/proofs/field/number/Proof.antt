@@ -1,101 +1,74 @@
 use Rattle.sheet.specs.Field.{numberAt, number}
-use native.Mathlib.Omega.{arith}
 use borrow.Author.Needs.{needs}
 use Rattle.sheet.proofs.field.number.Statement.{statement}
 use Rattle.sheet.proofs.field.number.Tie as tie
-use Rattle.sheet.proofs.field.number.Reads as reads
-use Rattle.sheet.proofs.field.number.Lts as lts
-use Rattle.sheet.proofs.field.digit.Reads as digit-reads
 
--- src/field.rt:23:19
 shared-slice-read-digit : tie.Need-shared-slice-read-digit
 shared-slice-read-digit c = search needs
 
--- src/field.rt:23:9
 digit-requires : tie.Need-digit-requires
 digit-requires c κs = search needs
 
--- src/field.rt:24:24
 add-digit : tie.Need-add-digit
 add-digit c = search needs
 
--- src/field.rt:24:19
 shared-slice-read-digit-2 : tie.Need-shared-slice-read-digit-2
 shared-slice-read-digit-2 c = search needs
 
--- src/field.rt:24:9
 digit-requires-2 : tie.Need-digit-requires-2
 digit-requires-2 c κs = search needs
 
--- src/field.rt:25:24
 add-digit-2 : tie.Need-add-digit-2
 add-digit-2 c = search needs
 
--- src/field.rt:25:19
 shared-slice-read-digit-3 : tie.Need-shared-slice-read-digit-3
 shared-slice-read-digit-3 c = search needs
 
--- src/field.rt:25:9
 digit-requires-3 : tie.Need-digit-requires-3
 digit-requires-3 c κs = search needs
 
--- src/field.rt:26:24
 add-digit-3 : tie.Need-add-digit-3
 add-digit-3 c = search needs
 
--- src/field.rt:26:19
 shared-slice-read-digit-4 : tie.Need-shared-slice-read-digit-4
 shared-slice-read-digit-4 c = search needs
 
--- src/field.rt:26:9
 digit-requires-4 : tie.Need-digit-requires-4
 digit-requires-4 c κs = search needs
 
--- src/field.rt:27:24
 add-digit-4 : tie.Need-add-digit-4
 add-digit-4 c = search needs
 
--- src/field.rt:27:19
 shared-slice-read-digit-5 : tie.Need-shared-slice-read-digit-5
 shared-slice-read-digit-5 c = search needs
 
--- src/field.rt:27:9
 digit-requires-5 : tie.Need-digit-requires-5
 digit-requires-5 c κs = search needs
 
--- src/field.rt:28:8
 mul-result : tie.Need-mul-result
 mul-result c = search needs
 
--- src/field.rt:28:8
 add-result : tie.Need-add-result
 add-result c = search needs
 
--- src/field.rt:28:7
 mul-result-2 : tie.Need-mul-result-2
 mul-result-2 c = search needs
 
--- src/field.rt:28:7
 add-result-2 : tie.Need-add-result-2
 add-result-2 c = search needs
 
--- src/field.rt:28:6
 mul-result-3 : tie.Need-mul-result-3
 mul-result-3 c = search needs
 
--- src/field.rt:28:6
 add-result-3 : tie.Need-add-result-3
 add-result-3 c = search needs
 
--- src/field.rt:28:5
 mul-result-4 : tie.Need-mul-result-4
 mul-result-4 c = search needs
 
--- src/field.rt:28:5
 add-result-4 : tie.Need-add-result-4
 add-result-4 c = search needs
 
--- src/field.rt:19:1
 returns : tie.Need-returns
 unfolding numberAt number
 returns c = cc (c .digit5 .ensures .0, c .before .before .digit4 .ensures .0)

@@ -1,40 +1,27 @@
 use Rattle.sheet.specs.Form.{fieldForm}
-use Rattle.floor.specs.Verdict.{passed, demand, _then_, inTurn}
+use Rattle.floor.specs.Verdict.{demand, _then_}
 use Rattle.floor.specs.Answers.{verdictOf}
-use borrow.Author.Tests.{lt-leb, le-leb, lt-ltb, le-ltb, eq-eqb, ne-eqb, not-true, not-false}
-use mathlib.Core.Path.{_≡_, refl, _∙_, sym, ap}
-use Prim.Native.Nat.{ℕ, _+_, _*_, _-_, _≤_, _<_}
-use native.Mathlib.Omega.{arith}
+use borrow.Author.Tests.{lt-leb, le-leb, not-true, not-false}
 use borrow.Author.Needs.{needs}
 use Rattle.sheet.proofs.form.field_form.Statement.{statement}
 use Rattle.sheet.proofs.form.field_form.Tie as tie
-use Rattle.sheet.proofs.form.field_form.Reads as reads
-use Rattle.sheet.proofs.form.field_form.Lts as lts
-use Rattle.sheet.proofs.field.is_field.Reads as is-field-reads
-use Rattle.sheet.proofs.form.malformed.Reads as malformed-reads
 
--- src/form.rt:29:21
 add-if1 : tie.Need-add-if1
 add-if1 c = search needs
 
--- src/form.rt:30:9
 malformed-requires : tie.Need-malformed-requires
 malformed-requires c κs = search needs
 
--- src/form.rt:30:9
 returns : tie.Need-returns
 unfolding fieldForm demand _then_
 returns c = rw (lt-leb _ _ (c .before .if1 .taken)) (c .malformed .ensures)
 
--- src/form.rt:32:9
 is-field-requires : tie.Need-is-field-requires
 is-field-requires c κs = search needs
 
--- src/form.rt:33:9
 malformed-requires-2 : tie.Need-malformed-requires-2
 malformed-requires-2 c κs = search needs
 
--- src/form.rt:33:9
 returns-2 : tie.Need-returns-2
 unfolding fieldForm demand _then_
 returns-2 c =
@@ -42,7 +29,6 @@ returns-2 c =
     rw (le-leb _ _ (c .before .before .before .if1 .left), ← field .ensures, not-true (field .result) (c .before .if2 .taken))
     (c .malformed2 .ensures)
 
--- src/form.rt:25:1
 returns-3 : tie.Need-returns-3
 unfolding fieldForm verdictOf demand _then_
 returns-3 c =

@@ -1,84 +1,63 @@
 use Rattle.sheet.specs.Text.{wallAt}
 use Rattle.sheet.specs.Form.{restForm}
 use Rattle.floor.proofs.AnswersLaws.{hands-on, ends-at}
-use native.Mathlib.Omega.{arith}
 use borrow.Author.Needs.{needs}
 use Rattle.sheet.proofs.form.rest_form.Statement.{statement}
 use Rattle.sheet.proofs.form.rest_form.Tie as tie
-use Rattle.sheet.proofs.form.rest_form.Reads as reads
-use Rattle.sheet.proofs.form.rest_form.Lts as lts
-use Rattle.sheet.proofs.form.carriers_form.Reads as carriers-form-reads
-use Rattle.sheet.proofs.form.end_form.Reads as end-form-reads
-use Rattle.sheet.proofs.form.walls_form.Reads as walls-form-reads
 
--- src/form.rt:116:40
 cast-carriers-form : tie.Need-cast-carriers-form
 cast-carriers-form c = search needs
 
--- src/form.rt:116:9
 carriers-form-requires : tie.Need-carriers-form-requires
 carriers-form-requires c κs = search needs
 
 enum-told : tie.Need-enum-told
 enum-told c = search needs
 
--- src/form.rt:118:9
 enum-told-2 : tie.Need-enum-told-2
 enum-told-2 c = search needs
 
--- src/form.rt:118:9
 returns : tie.Need-returns
 unfolding restForm wallAt
 returns c =
     ends-at _ (c .before .before .carriers-form .ensures) (c .enum-told2 .given .1)
 
--- src/form.rt:120:9
 walls-form-requires : tie.Need-walls-form-requires
 walls-form-requires c κs = search needs
 
 enum-told-3 : tie.Need-enum-told-3
 enum-told-3 c = search needs
 
--- src/form.rt:122:9
 enum-told-4 : tie.Need-enum-told-4
 enum-told-4 c = search needs
 
--- src/form.rt:122:9
 returns-2 : tie.Need-returns-2
 unfolding restForm wallAt
 returns-2 c =
     hands-on (c .before .before .before .before .before .carriers-form .ensures) (c .before .before .before .enum-told .given .1)
     (ends-at _ (c .before .before .walls-form .ensures) (c .enum-told4 .given .1))
 
--- src/form.rt:124:30
 cast-end-form : tie.Need-cast-end-form
 cast-end-form c = search needs
 
--- src/form.rt:124:25
 mul-end-form : tie.Need-mul-end-form
 mul-end-form c = search needs
 
--- src/form.rt:124:20
 add-end-form : tie.Need-add-end-form
 add-end-form c = search needs
 
--- src/form.rt:124:57
 cast-end-form-2 : tie.Need-cast-end-form-2
 cast-end-form-2 c = search needs
 
--- src/form.rt:124:52
 mul-end-form-2 : tie.Need-mul-end-form-2
 mul-end-form-2 c = search needs
 
--- src/form.rt:124:20
 add-end-form-2 : tie.Need-add-end-form-2
 add-end-form-2 c = search needs
 
--- src/form.rt:124:5
 end-form-requires : tie.Need-end-form-requires
 end-form-requires c κs = search needs
 
--- src/form.rt:112:1
 returns-3 : tie.Need-returns-3
 unfolding restForm wallAt
 returns-3 c =

@@ -1,19 +1,14 @@
 use Rattle.sheet.specs.Form.{lineForm, linesForm}
 use Rattle.sheet.specs.Text.{wallAt}
-use Rattle.floor.proofs.AnswersLaws.{ends-at, turn-ends, passes}
+use Rattle.floor.proofs.AnswersLaws.{turn-ends, passes}
 use Rattle.floor.proofs.VerdictLaws.{turn-none, turn-more, turn-end}
-use Rattle.floor.specs.Verdict.{passed, demand, _then_, inTurn}
+use Rattle.floor.specs.Verdict.{passed, inTurn}
 use Rattle.floor.specs.Answers.{verdictOf}
-use borrow.Author.Tests.{lt-leb, le-leb, lt-ltb, le-ltb, eq-eqb, ne-eqb, not-true, not-false}
-use mathlib.Core.Path.{_≡_, refl, _∙_, sym, ap}
-use Prim.Native.Nat.{ℕ, _+_, _*_, _-_, _≤_, _<_}
+use mathlib.Core.Path.{_≡_}
+use Prim.Native.Nat.{ℕ, _+_, _*_, _-_, _≤_}
 use borrow.Author.Needs.{needs}
-use native.Mathlib.Omega.{arith}
 use Rattle.sheet.proofs.form.walls_form.Statement.{statement}
 use Rattle.sheet.proofs.form.walls_form.Tie as tie
-use Rattle.sheet.proofs.form.walls_form.Reads as reads
-use Rattle.sheet.proofs.form.walls_form.Lts as lts
-use Rattle.sheet.proofs.form.line_form.Reads as line-form-reads
 
 abbrev Inv-loop : tie.InvT-loop
 Inv-loop text base k j₀ j = (j ≤ k) × (inTurn (λ (e : ℕ). lineForm text (base + 11 * e) 2) j ≡ passed)
@@ -21,68 +16,54 @@ Inv-loop text base k j₀ j = (j ≤ k) × (inTurn (λ (e : ℕ). lineForm text 
 abbrev μ-loop : tie.MeasureT-loop
 μ-loop text base k j₀ j = k - j
 
--- src/form.rt:88:26
 cast-base : tie.Need-cast-base Inv-loop μ-loop
 cast-base c = search needs
 
--- src/form.rt:88:21
 mul-base : tie.Need-mul-base Inv-loop μ-loop
 mul-base c = search needs
 
--- src/form.rt:88:16
 add-base : tie.Need-add-base Inv-loop μ-loop
 add-base c = search needs
 
--- src/form.rt:89:13
 cast-k : tie.Need-cast-k Inv-loop μ-loop
 cast-k c = search needs
 
--- src/form.rt:91:5
 loop-holds : tie.Need-loop-holds Inv-loop μ-loop
 loop-holds c = (search needs, turn-none _)
 
--- src/form.rt:92:43
 mul-line-form : tie.Need-mul-line-form Inv-loop μ-loop
 mul-line-form c = search needs
 
--- src/form.rt:92:36
 add-line-form : tie.Need-add-line-form Inv-loop μ-loop
 add-line-form c = search needs
 
--- src/form.rt:92:13
 line-form-requires : tie.Need-line-form-requires Inv-loop μ-loop
 line-form-requires c κs = search needs
 
 enum-told : tie.Need-enum-told Inv-loop μ-loop
 enum-told c = search needs
 
--- src/form.rt:94:13
 enum-told-2 : tie.Need-enum-told-2 Inv-loop μ-loop
 enum-told-2 c = search needs
 
--- src/form.rt:94:13
 returns : tie.Need-returns Inv-loop μ-loop
 unfolding linesForm wallAt
 returns c =
     turn-ends _ _ _ (c .before .before .before .loop-test .taken) (c .before .before .before .before .loop .inv .1)
     (c .before .before .line-form .ensures) (c .enum-told2 .given .1)
 
--- src/form.rt:96:9
 add-j : tie.Need-add-j Inv-loop μ-loop
 add-j c = search needs
 
--- src/form.rt:91:5
 loop-less : tie.Need-loop-less Inv-loop μ-loop
 loop-less c = search needs
 
--- src/form.rt:91:5
 loop-again : tie.Need-loop-again Inv-loop μ-loop
 loop-again c = (
   search needs,
   turn-more _ _ (c .before .before .before .before .loop .inv .1) (passes (c .before .before .line-form .ensures) (c .enum-told .given .1)),
 )
 
--- src/form.rt:84:1
 returns-2 : tie.Need-returns-2 Inv-loop μ-loop
 unfolding linesForm wallAt verdictOf
 returns-2 c =

@@ -1,17 +1,11 @@
-use Rattle.sheet.proofs.ListedLaws.{upTo-step, upTo-end}
-use Rattle.sheet.proofs.ListedLaws.{upTo-none, upTo-store}
-use Rattle.sheet.specs.Values.{valueAt, cellOf, cellAt, upTo, listed, headAt, floorAt, cellsAt, wallsFrom}
-use lib.ListN.{length, getD, drop}
-use mathlib.Core.List.{List, _++_}
-use mathlib.Core.Path.{_≡_, refl, _∙_, sym, ap}
-use Prim.Native.Nat.{ℕ, _+_, _*_, _-_, _≤_, _<_, min}
+use Rattle.sheet.proofs.ListedLaws.{upTo-step, upTo-end, upTo-none}
+use Rattle.sheet.specs.Values.{cellAt, upTo, listed}
+use mathlib.Core.Path.{_≡_}
+use Prim.Native.Nat.{ℕ, _+_, _*_, _-_, _≤_}
 use borrow.Author.Needs.{needs}
 use native.Mathlib.Omega.{arith}
 use Rattle.sheet.proofs.values.cells.Statement.{statement}
 use Rattle.sheet.proofs.values.cells.Tie as tie
-use Rattle.sheet.proofs.values.cells.Reads as reads
-use Rattle.sheet.proofs.values.cells.Lts as lts
-use Rattle.sheet.proofs.values.cell.Reads as cell-reads
 
 abbrev Inv-loop : tie.InvT-loop
 Inv-loop text at n width height found₀ i₀ found i = (i ≤ n) × (found ≡ listed (upTo i (λ (e : ℕ). cellAt text width height (at + 21 * e))) 8)
@@ -19,47 +13,36 @@ Inv-loop text at n width height found₀ i₀ found i = (i ≤ n) × (found ≡ 
 abbrev μ-loop : tie.MeasureT-loop
 μ-loop text at n width height found₀ i₀ found i = n - i
 
--- src/values.rt:69:13
 cast-n : tie.Need-cast-n Inv-loop μ-loop
 cast-n c = search needs
 
--- src/values.rt:74:5
 loop-holds : tie.Need-loop-holds Inv-loop μ-loop
 loop-holds c = (search needs, upTo-none _ 8)
 
--- src/values.rt:75:51
 mul-cell : tie.Need-mul-cell Inv-loop μ-loop
 mul-cell c = search needs
 
--- src/values.rt:75:46
 add-cell : tie.Need-add-cell Inv-loop μ-loop
 add-cell c = search needs
 
--- src/values.rt:75:20
 cell-requires : tie.Need-cell-requires Inv-loop μ-loop
 cell-requires c κs = search needs
 
--- src/values.rt:75:9
 mul-found : tie.Need-mul-found Inv-loop μ-loop
 mul-found c = search needs
 
--- src/values.rt:75:9
 array-write-found : tie.Need-array-write-found Inv-loop μ-loop
 array-write-found c = search needs
 
--- src/values.rt:76:9
 add-i : tie.Need-add-i Inv-loop μ-loop
 add-i c = search needs
 
--- src/values.rt:74:5
 loop-less : tie.Need-loop-less Inv-loop μ-loop
 loop-less c = search needs
 
--- src/values.rt:74:5
 loop-again : tie.Need-loop-again Inv-loop μ-loop
 loop-again c = (search needs, upTo-step _ _ _ 8 _ (omega arith) (c .before .before .loop .inv .1) (c .cell .ensures))
 
--- src/values.rt:63:1
 returns : tie.Need-returns Inv-loop μ-loop
 returns c = upTo-end _ (c .before .loop .i) _ 8 _ (c .before .loop .inv .0) (c .loop-test .left) (c .before .loop .inv .1)
 

@@ -1,30 +1,20 @@
-use Rattle.sheet.specs.Text.{goalAt}
-use Rattle.sheet.specs.Text.{carrierAt}
+use Rattle.sheet.specs.Text.{goalAt, carrierAt}
 use Rattle.sheet.specs.Values.{floorAt, headAt, cellsAt}
-use native.Mathlib.Omega.{arith}
 use borrow.Author.Needs.{needs}
 use Rattle.sheet.proofs.values.floor.Statement.{statement}
 use Rattle.sheet.proofs.values.floor.Tie as tie
-use Rattle.sheet.proofs.values.floor.Reads as reads
-use Rattle.sheet.proofs.values.floor.Lts as lts
-use Rattle.sheet.proofs.values.cells.Reads as cells-reads
-use Rattle.sheet.proofs.values.head.Reads as head-reads
 
--- src/values.rt:89:9
 head-requires : tie.Need-head-requires
 head-requires c κs = search needs
 
--- src/values.rt:90:9
 cells-requires : tie.Need-cells-requires
 unfolding headAt
 cells-requires c κs = rw (c .head .ensures) (search needs)
 
--- src/values.rt:91:9
 cells-requires-2 : tie.Need-cells-requires-2
 unfolding headAt
 cells-requires-2 c κs = rw (c .before .head .ensures) (search needs)
 
--- src/values.rt:83:1
 returns : tie.Need-returns
 unfolding floorAt headAt cellsAt carrierAt goalAt
 returns c = rw (c .before .cells .ensures, c .cells2 .ensures, c .before .before .head .ensures)

@@ -1,11 +1,8 @@
 use Prim.Native.Nat.{_≤_, _-_}
 use lib.ListN.{length}
 use borrow.Author.Needs.{needs}
-use native.Mathlib.Omega.{arith}
 use Rattle.sheets.proofs.show.untouched.Statement.{statement}
 use Rattle.sheets.proofs.show.untouched.Tie as tie
-use Rattle.sheets.proofs.show.untouched.Reads as reads
-use Rattle.sheets.proofs.show.untouched.Lts as lts
 
 abbrev Inv-loop : tie.InvT-loop
 Inv-loop memory i₀ i = i ≤ length memory
@@ -13,35 +10,27 @@ Inv-loop memory i₀ i = i ≤ length memory
 abbrev μ-loop : tie.MeasureT-loop
 μ-loop memory i₀ i = length memory - i
 
--- src/show.rt:41:5
 loop-holds : tie.Need-loop-holds Inv-loop μ-loop
 loop-holds c = search needs
 
--- src/show.rt:42:12
 mul-if1 : tie.Need-mul-if1 Inv-loop μ-loop
 mul-if1 c = search needs
 
--- src/show.rt:42:12
 shared-slice-read-if1 : tie.Need-shared-slice-read-if1 Inv-loop μ-loop
 shared-slice-read-if1 c = search needs
 
--- src/show.rt:43:13
 returns : tie.Need-returns Inv-loop μ-loop
 returns c = search needs
 
--- src/show.rt:45:9
 add-i : tie.Need-add-i Inv-loop μ-loop
 add-i c = search needs
 
--- src/show.rt:41:5
 loop-less : tie.Need-loop-less Inv-loop μ-loop
 loop-less c = search needs
 
--- src/show.rt:41:5
 loop-again : tie.Need-loop-again Inv-loop μ-loop
 loop-again c = search needs
 
--- src/show.rt:39:1
 returns-2 : tie.Need-returns-2 Inv-loop μ-loop
 returns-2 c = search needs
 
