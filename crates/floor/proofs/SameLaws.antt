@@ -8,7 +8,8 @@ use borrow.Author.Tests.{le-leb}
 use lib.ListN.{getD}
 use Rattle.floor.specs.declared.Floor.{Floor}
 use Rattle.floor.specs.Verdict.{inTurn, each}
-use Rattle.floor.specs.Checks.{limitsOf, lentOf, roomOf, inGrid, carrierInGrid, startOf, goalOf, rises, among, clearOfWalls, unshared, carriersOf, wallsOf, risingOf, clearOf, distinctOf, placesOf, checkOf}
+use Rattle.floor.specs.Checks.{limitsOf, lentOf, roomOf, inGrid, carrierInGrid, startOf, goalOf, rises, among, clearOfWalls, unshared}
+use Rattle.floor.specs.Checks.{carriersOf, wallsOf, risingOf, clearOf, distinctOf, placesOf, checkOf}
 use Rattle.floor.specs.Accepted.{All, Lent, SameFloor}
 
 -- Tests that agree at each item make the same check.

@@ -6,7 +6,8 @@ use mathlib.Core.List.{List}
 use borrow.Author.Tests.{le-leb, lt-leb, leb-false}
 use Rattle.floor.specs.declared.Floor.{Floor}
 use Rattle.floor.specs.Verdict.{passed, refused, _then_, demand, inTurn, each}
-use Rattle.floor.specs.Checks.{within, among, startOf, goalOf, limitsOf, lentOf, roomOf, carriersOf, wallsOf, risingOf, clearOf, distinctOf, placesOf, checkOf, carrierInGrid, inGrid, rises, clearOfWalls, unshared}
+use Rattle.floor.specs.Checks.{within, among, startOf, goalOf, limitsOf, lentOf, roomOf, carriersOf, wallsOf, risingOf, clearOf}
+use Rattle.floor.specs.Checks.{distinctOf, placesOf, checkOf, carrierInGrid, inGrid, rises, clearOfWalls, unshared}
 use Rattle.floor.specs.Fresh.{freshFloor}
 use Rattle.floor.specs.Accepted.{Accepted, FieldWithin, Limited, Lent, CarriersInGrid, WallsInGrid, Rising, Clear, Distinct}
 use Rattle.floor.specs.Refused.{RefusedWith, outside-limit, few-walls, carrier-outside, wall-outside, not-rising, on-wall, shared}

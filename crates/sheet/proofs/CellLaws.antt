@@ -1,7 +1,8 @@
 -- Cells as columns and rows.
 use Prim.Native.Nat.{ℕ, suc, _+_, _*_, _/_, _%_, _≤_, _<_}
 use native.Mathlib.Omega.{arith}
-use native.Mathlib.Nat.{mul-le-mul, mod-lt, mod-eq-of-lt, div-eq-of-lt, div-add-mod', div-lt-iff-lt-mul, mul-add-mod-self-right, mul-add-div-right, mul-comm, add-zero, mul-le-mul-right, suc-mul}
+use native.Mathlib.Nat.{mul-le-mul, mod-lt, mod-eq-of-lt, div-eq-of-lt, div-add-mod', div-lt-iff-lt-mul, mul-add-mod-self-right}
+use native.Mathlib.Nat.{mul-add-div-right, mul-comm, add-zero, mul-le-mul-right, suc-mul}
 use native.Mathlib.Decide.{decLt}
 use mathlib.Core.Path.{_≡_, _∙_}
 use mathlib.Core.Bool.{cond, _&&_, and-false}

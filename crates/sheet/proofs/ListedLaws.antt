@@ -7,7 +7,8 @@ use borrow.Author.Count.{below-more}
 use mathlib.Core.Path.{_≡_, refl, sym, _∙_}
 use mathlib.Core.List.{List, [], _∷_, _++_, append-assoc}
 use borrow.Author.Tests.{lt-ltb, le-ltb}
-use lib.ListN.{length, getD, set, drop, replicate, length-append, length-set, length-drop, length-replicate, getD-replicate, List·getD-append}
+use lib.ListN.{length, getD, set, drop, replicate, length-append, length-set, length-drop, length-replicate, getD-replicate}
+use lib.ListN.{List·getD-append}
 use lib.Seq.{ext-getD, getD-set-same, getD-set-other, getD-at, set-at, drop-cons}
 use Rattle.sheet.specs.Values.{listed, upTo}
 

@@ -34,19 +34,22 @@ enum-told-4 c = search needs
 returns-2 : tie.Need-returns-2
 unfolding checkOf lentOf
 returns-2 c =
-    hands-on (c .before .before .before .before .before .before .limits .ensures) (c .before .before .before .before .enum-told .given .1)
+    let c₄ = c .before .before .before .before in
+    hands-on (c₄ .before .before .limits .ensures) (c₄ .enum-told .given .1)
     (ends-at _ (c .before .before .room .ensures) (c .enum-told4 .given .1))
 
 places-requires : tie.Need-places-requires
 places-requires c κs =
-    let l = limits-passed _ (passes (c .before .before .before .before .before .before .limits .ensures) (c .before .before .before .before .enum-told .given .1)) in
+    let c₄ = c .before .before .before .before in
+    let l = limits-passed _ (passes (c₄ .before .before .limits .ensures) (c₄ .enum-told .given .1)) in
     let w = room-passed _ _ (passes (c .before .before .room .ensures) (c .enum-told3 .given .1)) in
     ((l .width .1, l .height .1), (l .carriers .1, w))
 
 returns-3 : tie.Need-returns-3
 unfolding checkOf lentOf
 returns-3 c =
-    hands-on (c .before .before .before .before .before .before .before .limits .ensures) (c .before .before .before .before .before .enum-told .given .1)
+    let c₄ = c .before .before .before .before in
+    hands-on (c₄ .before .before .before .limits .ensures) (c₄ .before .enum-told .given .1)
     (hands-on (c .before .before .before .room .ensures) (c .before .enum-told3 .given .1)
     (c .places .ensures))
 

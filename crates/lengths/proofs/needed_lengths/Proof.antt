@@ -21,7 +21,9 @@ sheet-length-requires c κs = search needs
 
 returns : tie.Need-returns
 unfolding figuresOf figuresFor unless
-returns c = rw (passes (c .before .before .before .before .limits .ensures) (c .before .before .enum-told .given .1), c .sheet-length .ensures)
+returns c =
+    let c₄ = c .before .before .before .before in
+    rw (passes (c₄ .limits .ensures) (c .before .before .enum-told .given .1), c .sheet-length .ensures)
 
 returns-2 : tie.Need-returns-2
 unfolding figuresOf figuresFor unless

@@ -36,12 +36,15 @@ enum-told-4 c = search needs
 returns-2 : tie.Need-returns-2
 unfolding readVerdict sheetVerdict
 returns-2 c =
+    let c₄ = c .before .before .before .before in
     rw then-assoc
-    (hands-on (c .before .before .before .before .before .form-of .ensures) (c .before .before .before .enum-told .given .1)
+    (hands-on (c₄ .before .form-of .ensures) (c .before .before .before .enum-told .given .1)
     (ends-at _ (c .before .before .places .ensures) (c .enum-told4 .given .1)))
 
 head-requires : tie.Need-head-requires
-head-requires c κs = omega (arith, form-tells _ (passes (c .before .before .before .before .before .form-of .ensures) (c .before .before .before .enum-told .given .1)) .size)
+head-requires c κs =
+    let c₄ = c .before .before .before .before in
+    omega (arith, form-tells _ (passes (c₄ .before .form-of .ensures) (c .before .before .before .enum-told .given .1)) .size)
 
 cast-room : tie.Need-cast-room
 cast-room c = search needs
@@ -52,10 +55,12 @@ room-requires c κs = search needs
 returns-3 : tie.Need-returns-3
 unfolding readVerdict sheetVerdict floorAt headAt
 returns-3 c =
-    let room = c .before .before .before .before .before .before .before .before .before .before .args .room in
+    let c₄ = c .before .before .before .before in
+    let c₈ = c₄ .before .before .before .before in
+    let room = c₈ .before .before .args .room in
     rw then-assoc
-    (hands-on (c .before .before .before .before .before .before .before .before .form-of .ensures) (c .before .before .before .before .before .before .enum-told .given .1)
-    (hands-on (c .before .before .before .before .before .places .ensures) (c .before .before .before .enum-told3 .given .1)
+    (hands-on (c₈ .form-of .ensures) (c₄ .before .before .enum-told .given .1)
+    (hands-on (c₄ .before .places .ensures) (c .before .before .before .enum-told3 .given .1)
     (c .room .ensures ∙ ap (λ (g : Floor). roomOf (g .walls) room) (c .before .before .head .ensures))))
 
 pub check-spec : {M : Type 1} → statement M

@@ -38,7 +38,8 @@ enum-told-4 c = search needs
 returns-2 : tie.Need-returns-2
 unfolding formOf
 returns-2 c =
-    hands-on (c .before .before .before .before .before .before .line-form .ensures) (c .before .before .before .before .enum-told .given .1)
+    let c₄ = c .before .before .before .before in
+    hands-on (c₄ .before .before .line-form .ensures) (c₄ .enum-told .given .1)
     (ends-at _ (c .before .before .limits .ensures ∙ ap limitsOf (c .before .before .before .head .ensures)) (c .enum-told4 .given .1))
 
 rest-form-requires : tie.Need-rest-form-requires
@@ -47,9 +48,10 @@ rest-form-requires c κs = let b = limits-passed _ (passes (c .before .before .l
 returns-3 : tie.Need-returns-3
 unfolding formOf
 returns-3 c =
-    hands-on (c .before .before .before .before .before .before .before .line-form .ensures) (c .before .before .before .before .before .enum-told .given .1)
-    (hands-on (c .before .before .before .limits .ensures ∙ ap limitsOf (c .before .before .before .before .head .ensures)) (c .before .enum-told3 .given .1)
-    (c .rest-form .ensures ∙ ap (restForm _) (c .before .before .before .before .head .ensures)))
+    let c₄ = c .before .before .before .before in
+    hands-on (c₄ .before .before .before .line-form .ensures) (c₄ .before .enum-told .given .1)
+    (hands-on (c .before .before .before .limits .ensures ∙ ap limitsOf (c₄ .head .ensures)) (c .before .enum-told3 .given .1)
+    (c .rest-form .ensures ∙ ap (restForm _) (c₄ .head .ensures)))
 
 pub form-of-spec : {M : Type 1} → statement M
 form-of-spec =

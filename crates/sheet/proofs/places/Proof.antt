@@ -26,7 +26,8 @@ slice-aggregate-walls c = search needs
 walls-requires : tie.Need-walls-requires
 unfolding headAt floorAt
 walls-requires c κs =
-    let t = form-tells _ (c .before .before .before .before .pre) in
+    let c₄ = c .before .before .before .before in
+    let t = form-tells _ (c₄ .pre) in
     rw (c .before .before .floor .ensures) (
       (t .bounds .width .1, t .bounds .height .1),
       ((t .bounds .carriers .1, omega (arith, t .bounds .walls .1, c .before .no-walls .ensures)), omega (arith, t .size)),
@@ -41,12 +42,14 @@ check-requires c κs = search needs
 returns : tie.Need-returns
 unfolding wallsAt
 returns c =
-    let text = now (c .before .before .before .before .before .before .before .before .args .text) in
-    let f = c .before .before .before .before .before .before .floor in
-    let rest = c .before .before .before .before .before .no-walls .result in
+    let c₄ = c .before .before .before .before in
+    let c₈ = c₄ .before .before .before .before in
+    let text = now (c₈ .args .text) in
+    let f = c₄ .before .before .floor in
+    let rest = c₄ .before .no-walls .result in
     c .check .ensures
     ∙ ap₂ checkOf (f .ensures) (c .before .before .before .walls .ensures ∙ ap (λ (g : Floor). wallsFrom text g ++ drop (g .walls) rest) (f .ensures))
-    ∙ checked-places text (drop (floorAt text .walls) rest) (c .before .before .before .before .before .before .before .before .pre)
+    ∙ checked-places text (drop (floorAt text .walls) rest) (c₈ .pre)
 
 pub places-spec : {M : Type 1} → statement M
 places-spec =

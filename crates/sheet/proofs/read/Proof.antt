@@ -42,7 +42,8 @@ floor-requires c κs =
 walls-requires : tie.Need-walls-requires
 unfolding headAt floorAt
 walls-requires c κs =
-    let ok = read-tells _ _ (passes (c .before .before .before .before .check .ensures) (c .before .before .enum-told .given .1)) in
+    let c₄ = c .before .before .before .before in
+    let ok = read-tells _ _ (passes (c₄ .check .ensures) (c .before .before .enum-told .given .1)) in
     let t = form-tells _ (ok .form) in
     rw (c .before .floor .ensures)
     ((t .bounds .width .1, t .bounds .height .1), ((t .bounds .carriers .1, ok .room-there), omega (arith, t .size)))
@@ -53,10 +54,12 @@ same-length c = search needs
 returns-2 : tie.Need-returns-2
 unfolding readFloor readWalls verdictOf wallsAt
 returns-2 c =
-    let text = now (c .before .before .before .before .before .before .before .before .before .before .args .text) in
-    let old = now (c .before .before .before .before .before .before .before .before .before .before .args .walls) in
-    let ok = passes (c .before .before .before .before .before .before .before .check .ensures) (c .before .before .before .before .before .enum-told .given .1) in
-    let f = c .before .before .before .before .floor .ensures in (
+    let c₄ = c .before .before .before .before in
+    let c₈ = c₄ .before .before .before .before in
+    let text = now (c₈ .before .before .args .text) in
+    let old = now (c₈ .before .before .args .walls) in
+    let ok = passes (c₄ .before .before .before .check .ensures) (c₄ .before .enum-told .given .1) in
+    let f = c₄ .floor .ensures in (
       sym ok,
       (
         f ∙ sym (chosen-passed _ _ ok),

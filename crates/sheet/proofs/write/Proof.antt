@@ -43,16 +43,20 @@ enum-told-4 c = search needs
 returns-2 : tie.Need-returns-2
 unfolding writeVerdict writeSheet
 returns-2 c =
-    let size = length (now (c .before .before .before .before .before .before .before .before .before .args .out)) in
+    let c₄ = c .before .before .before .before in
+    let c₈ = c₄ .before .before .before .before in
+    let size = length (now (c₈ .before .args .out)) in
     let room = c .before .before .room .ensures ∙ ap (λ (n : ℕ). roomOf n size) (c .before .before .before .sheet-length .ensures) in
-    let v = hands-on (c .before .before .before .before .before .before .check .ensures) (c .before .before .before .before .enum-told .given .1) room in
+    let v = hands-on (c₄ .before .before .check .ensures) (c₄ .enum-told .given .1) room in
     (v, sym (chosen-refused _ _ (refuses v (c .enum-told4 .given .1))))
 
 put-sheet-requires : tie.Need-put-sheet-requires
 put-sheet-requires c κs =
-    let size = length (now (c .before .before .before .before .before .before .before .before .before .before .args .out)) in
-    let room = c .before .before .before .room .ensures ∙ ap (λ (n : ℕ). roomOf n size) (c .before .before .before .before .sheet-length .ensures) in
-    let t = check-tells _ _ (passes (c .before .before .before .before .before .before .before .check .ensures) (c .before .before .before .before .before .enum-told .given .1)) in
+    let c₄ = c .before .before .before .before in
+    let c₈ = c₄ .before .before .before .before in
+    let size = length (now (c₈ .before .before .args .out)) in
+    let room = c .before .before .before .room .ensures ∙ ap (λ (n : ℕ). roomOf n size) (c₄ .sheet-length .ensures) in
+    let t = check-tells _ _ (passes (c₄ .before .before .before .check .ensures) (c₄ .before .enum-told .given .1)) in
     let r = room-passed _ _ (passes room (c .before .enum-told3 .given .1)) in
     ((t .lent, t .bounds .width .0), (t .bounds .carriers .1, r))
 
@@ -62,9 +66,12 @@ same-length c = search needs
 returns-3 : tie.Need-returns-3
 unfolding writeVerdict writeSheet verdictOf
 returns-3 c =
-    let size = length (now (c .before .before .before .before .before .before .before .before .before .before .before .before .before .args .out)) in
-    let room = c .before .before .before .before .before .before .room .ensures ∙ ap (λ (n : ℕ). roomOf n size) (c .before .before .before .before .before .before .before .sheet-length .ensures) in
-    let v = hands-on (c .before .before .before .before .before .before .before .before .before .before .check .ensures) (c .before .before .before .before .before .before .before .before .enum-told .given .1) (sym (passes room (c .before .before .before .before .enum-told3 .given .1))) in
+    let c₄ = c .before .before .before .before in
+    let c₈ = c₄ .before .before .before .before in
+    let c₁₂ = c₈ .before .before .before .before in
+    let size = length (now (c₁₂ .before .args .out)) in
+    let room = c₄ .before .before .room .ensures ∙ ap (λ (n : ℕ). roomOf n size) (c₄ .before .before .before .sheet-length .ensures) in
+    let v = hands-on (c₈ .before .before .check .ensures) (c₈ .enum-told .given .1) (sym (passes room (c₄ .enum-told3 .given .1))) in
     (v, c .before .before .put-sheet .ensures ∙ sheet-front _ _ _ ∙ sym (chosen-passed _ _ (sym v)))
 
 pub write-spec : {M : Type 1} → statement M

@@ -43,7 +43,8 @@ add-t12 c = search needs
 returns : tie.Need-returns Inv-loop μ-loop
 unfolding verdictOf wallsOf
 returns c =
-    let l = c .before .before .before .before in
+    let c₄ = c .before .before .before .before in
+    let l = c₄ in
     sym (each-stop 3 _ _ _ _ (c .before .before .before .loop-test .taken) (l .loop .inv .1) (sym (c .before .in-grid .ensures) ∙ not-true _ (c .if1 .taken)))
 
 add-j : tie.Need-add-j Inv-loop μ-loop
@@ -54,7 +55,8 @@ loop-less c = search needs
 
 loop-again : tie.Need-loop-again Inv-loop μ-loop
 loop-again c =
-    let l = c .before .before .before .before in
+    let c₄ = c .before .before .before .before in
+    let l = c₄ in
     (search needs, each-more 3 _ _ _ (l .loop .inv .1) (sym (c .before .in-grid .ensures) ∙ not-false _ (c .if1 .left)))
 
 returns-2 : tie.Need-returns-2 Inv-loop μ-loop

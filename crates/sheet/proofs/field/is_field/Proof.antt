@@ -70,7 +70,10 @@ column-requires-4 c κs = search needs
 returns-4 : tie.Need-returns-4
 unfolding isField
 returns-4 c =
-    let n = c .before .before .before .before .before .before .before .before .before .before .before .before .number .ensures in
+    let c₄ = c .before .before .before .before in
+    let c₈ = c₄ .before .before .before .before in
+    let c₁₂ = c₈ .before .before .before .before in
+    let n = c₁₂ .number .ensures in
     let c3 = c .before .before .before in
     let c2 = c3 .before .before .before in
     let c1 = c2 .before .before .before in
@@ -91,7 +94,10 @@ units-requires c κs = search needs
 returns-5 : tie.Need-returns-5
 unfolding isField
 returns-5 c =
-    let n = c .before .before .before .before .before .before .before .before .before .before .before .before .before .before .before .number .ensures in
+    let c₄ = c .before .before .before .before in
+    let c₈ = c₄ .before .before .before .before in
+    let c₁₂ = c₈ .before .before .before .before in
+    let n = c₁₂ .before .before .before .number .ensures in
     let c4 = c .before .before .before in
     let c3 = c4 .before .before .before in
     let c2 = c3 .before .before .before in
@@ -105,7 +111,10 @@ returns-5 c =
 returns-6 : tie.Need-returns-6
 unfolding isField
 returns-6 c =
-    let n = c .before .before .before .before .before .before .before .before .before .before .before .before .before .before .before .number .ensures in
+    let c₄ = c .before .before .before .before in
+    let c₈ = c₄ .before .before .before .before in
+    let c₁₂ = c₈ .before .before .before .before in
+    let n = c₁₂ .before .before .before .number .ensures in
     let c4 = c .before .before .before in
     let c3 = c4 .before .before .before in
     let c2 = c3 .before .before .before in

@@ -34,7 +34,8 @@ enum-told-4 c = search needs
 returns-2 : tie.Need-returns-2
 unfolding restForm wallAt
 returns-2 c =
-    hands-on (c .before .before .before .before .before .carriers-form .ensures) (c .before .before .before .enum-told .given .1)
+    let c₄ = c .before .before .before .before in
+    hands-on (c₄ .before .carriers-form .ensures) (c .before .before .before .enum-told .given .1)
     (ends-at _ (c .before .before .walls-form .ensures) (c .enum-told4 .given .1))
 
 cast-end-form : tie.Need-cast-end-form
@@ -61,8 +62,10 @@ end-form-requires c κs = search needs
 returns-3 : tie.Need-returns-3
 unfolding restForm wallAt
 returns-3 c =
-    hands-on (c .before .before .before .before .before .before .before .before .carriers-form .ensures) (c .before .before .before .before .before .before .enum-told .given .1)
-    (hands-on (c .before .before .before .before .before .walls-form .ensures) (c .before .before .before .enum-told3 .given .1)
+    let c₄ = c .before .before .before .before in
+    let c₈ = c₄ .before .before .before .before in
+    hands-on (c₈ .carriers-form .ensures) (c₄ .before .before .enum-told .given .1)
+    (hands-on (c₄ .before .walls-form .ensures) (c .before .before .before .enum-told3 .given .1)
     (c .end-form .ensures))
 
 pub rest-form-spec : {M : Type 1} → statement M

@@ -43,9 +43,11 @@ same-length c = simp length-set (omega arith)
 returns : tie.Need-returns
 unfolding carrierLine lineOf fieldOf startOf goalOf
 returns c =
+    let c₄ = c .before .before .before .before in
+    let c₈ = c₄ .before .before .before .before in
     newline-next _ _ _ _ _
-    (put-next _ _ _ _ _ _ _ (c .before .before .before .before .before .before .put-cell .ensures) (c .before .before .put-cell2 .ensures) refl (omega (arith, c .before .before .before .before .before .before .before .before .before .before .before .pre)))
-    refl (omega (arith, c .before .before .before .before .before .before .before .before .before .before .before .pre))
+    (put-next _ _ _ _ _ _ _ (c₄ .before .before .put-cell .ensures) (c .before .before .put-cell2 .ensures) refl (omega (arith, c₈ .before .before .before .pre)))
+    refl (omega (arith, c₈ .before .before .before .pre))
 
 pub put-carrier-spec : {M : Type 1} → statement M
 put-carrier-spec =

@@ -40,7 +40,9 @@ loop-less : tie.Need-loop-less Inv-loop μ-loop
 loop-less c = search needs
 
 loop-again : tie.Need-loop-again Inv-loop μ-loop
-loop-again c = (search needs, lines-next _ 21 31 (carrier-length _) _ _ _ _ _ (c .before .before .before .before .before .loop .inv .1) (c .before .before .put-carrier .ensures) refl (omega arith))
+loop-again c =
+    let c₄ = c .before .before .before .before in
+    (search needs, lines-next _ 21 31 (carrier-length _) _ _ _ _ _ (c₄ .before .loop .inv .1) (c .before .before .put-carrier .ensures) refl (omega arith))
 
 same-length : tie.Need-same-length Inv-loop μ-loop
 same-length c = lines-keep _ 21 31 (carrier-length _) _ _ (c .before .loop .i) (omega arith) (c .before .loop .inv .1)

@@ -23,7 +23,10 @@ same-length : tie.Need-same-length
 same-length c = search needs
 
 returns : tie.Need-returns
-returns c = field-next _ _ _ _ _ _ _ (c .before .before .before .before .before .before .put-field .ensures) (c .before .before .put-field2 .ensures) (rw field-length) (omega (arith, c .before .before .before .before .before .before .before .before .before .pre))
+returns c =
+    let c₄ = c .before .before .before .before in
+    let c₈ = c₄ .before .before .before .before in
+    field-next _ _ _ _ _ _ _ (c₄ .before .before .put-field .ensures) (c .before .before .put-field2 .ensures) (rw field-length) (omega (arith, c₈ .before .pre))
 
 pub put-cell-spec : {M : Type 1} → statement M
 put-cell-spec =

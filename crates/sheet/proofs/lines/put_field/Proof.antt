@@ -54,9 +54,10 @@ same-length c = search needs
 returns : tie.Need-returns
 unfolding fieldOf
 returns c =
+    let c₄ = c .before .before .before .before in
     rw
-    (c .before .before .before .before .column .ensures, c .before .before .before .column2 .ensures, c .before .before .column3 .ensures, c .before .column4 .ensures, c .units .ensures)
-    (put-five _ _ _ _ _ _ _ (c .before .before .before .before .before .before .pre))
+    (c₄ .column .ensures, c .before .before .before .column2 .ensures, c .before .before .column3 .ensures, c .before .column4 .ensures, c .units .ensures)
+    (put-five _ _ _ _ _ _ _ (c₄ .before .before .pre))
 
 pub put-field-spec : {M : Type 1} → statement M
 put-field-spec =

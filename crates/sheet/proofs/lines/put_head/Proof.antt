@@ -35,9 +35,15 @@ same-length c = simp length-set (omega arith)
 returns : tie.Need-returns
 unfolding headLine lineOf fieldOf
 returns c =
+    let c₄ = c .before .before .before .before in
+    let c₈ = c₄ .before .before .before .before in
+    let c₁₂ = c₈ .before .before .before .before in
+    let c₁₆ = c₁₂ .before .before .before .before in
+    let c₂₀ = c₁₆ .before .before .before .before in
+    let c₂₄ = c₂₀ .before .before .before .before in
     newline-next _ _ _ 0 30
-    (field-next _ _ _ _ 0 25 _ ((field-next _ _ _ _ 0 20 _ ((field-next _ _ _ _ 0 15 _ ((field-next _ _ _ _ 0 10 _ ((field-next _ _ _ _ 0 5 _ (c .before .before .before .before .before .before .before .before .before .before .before .before .before .before .before .before .before .before .before .before .before .before .put-field .ensures) (c .before .before .before .before .before .before .before .before .before .before .before .before .before .before .before .before .before .before .put-field2 .ensures) refl (omega (arith, c .before .before .before .before .before .before .before .before .before .before .before .before .before .before .before .before .before .before .before .before .before .before .before .before .before .pre)))) (c .before .before .before .before .before .before .before .before .before .before .before .before .before .before .put-field3 .ensures) refl (omega (arith, c .before .before .before .before .before .before .before .before .before .before .before .before .before .before .before .before .before .before .before .before .before .before .before .before .before .pre)))) (c .before .before .before .before .before .before .before .before .before .before .put-field4 .ensures) refl (omega (arith, c .before .before .before .before .before .before .before .before .before .before .before .before .before .before .before .before .before .before .before .before .before .before .before .before .before .pre)))) (c .before .before .before .before .before .before .put-field5 .ensures) refl (omega (arith, c .before .before .before .before .before .before .before .before .before .before .before .before .before .before .before .before .before .before .before .before .before .before .before .before .before .pre)))) (c .before .before .put-field6 .ensures) refl (omega (arith, c .before .before .before .before .before .before .before .before .before .before .before .before .before .before .before .before .before .before .before .before .before .before .before .before .before .pre)))
-    refl (omega (arith, c .before .before .before .before .before .before .before .before .before .before .before .before .before .before .before .before .before .before .before .before .before .before .before .before .before .pre))
+    (field-next _ _ _ _ 0 25 _ ((field-next _ _ _ _ 0 20 _ ((field-next _ _ _ _ 0 15 _ ((field-next _ _ _ _ 0 10 _ ((field-next _ _ _ _ 0 5 _ (c₂₀ .before .before .put-field .ensures) (c₁₆ .before .before .put-field2 .ensures) refl (omega (arith, c₂₄ .before .pre)))) (c₁₂ .before .before .put-field3 .ensures) refl (omega (arith, c₂₄ .before .pre)))) (c₈ .before .before .put-field4 .ensures) refl (omega (arith, c₂₄ .before .pre)))) (c₄ .before .before .put-field5 .ensures) refl (omega (arith, c₂₄ .before .pre)))) (c .before .before .put-field6 .ensures) refl (omega (arith, c₂₄ .before .pre)))
+    refl (omega (arith, c₂₄ .before .pre))
 
 pub put-head-spec : {M : Type 1} → statement M
 put-head-spec =

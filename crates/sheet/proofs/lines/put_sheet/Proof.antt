@@ -11,7 +11,9 @@ put-head-requires c κs = omega (arith, c .before .before .before .pre)
 
 put-carriers-requires : tie.Need-put-carriers-requires
 unfolding sheetLength wallAt
-put-carriers-requires c κs = ((c .before .before .before .before .before .before .before .pre .1 .0, c .before .before .before .before .before .before .before .pre .0 .1), omega (arith, c .before .before .before .before .before .before .before .pre))
+put-carriers-requires c κs =
+    let c₄ = c .before .before .before .before in
+    ((c₄ .before .before .before .pre .1 .0, c₄ .before .before .before .pre .0 .1), omega (arith, c₄ .before .before .before .pre))
 
 put-walls-requires : tie.Need-put-walls-requires
 put-walls-requires c κs = search needs
@@ -20,7 +22,11 @@ same-length : tie.Need-same-length
 same-length c = search needs
 
 returns : tie.Need-returns
-returns c = sheet-put _ _ _ _ _ _ (c .before .before .before .before .before .before .before .before .before .before .before .before .before .before .pre .1 .1) (c .before .before .before .before .before .before .before .before .before .before .put-head .ensures) (c .before .before .before .before .before .before .put-carriers .ensures) (c .before .before .put-walls .ensures)
+returns c =
+    let c₄ = c .before .before .before .before in
+    let c₈ = c₄ .before .before .before .before in
+    let c₁₂ = c₈ .before .before .before .before in
+    sheet-put _ _ _ _ _ _ (c₁₂ .before .before .pre .1 .1) (c₈ .before .before .put-head .ensures) (c₄ .before .before .put-carriers .ensures) (c .before .before .put-walls .ensures)
 
 pub put-sheet-spec : {M : Type 1} → statement M
 put-sheet-spec =

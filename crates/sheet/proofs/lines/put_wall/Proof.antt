@@ -21,7 +21,9 @@ same-length c = search needs
 
 returns : tie.Need-returns
 unfolding wallLine lineOf fieldOf
-returns c = newline-next _ _ _ _ _ (c .before .before .put-cell .ensures) refl (omega (arith, c .before .before .before .before .before .pre))
+returns c =
+    let c₄ = c .before .before .before .before in
+    newline-next _ _ _ _ _ (c .before .before .put-cell .ensures) refl (omega (arith, c₄ .before .pre))
 
 pub put-wall-spec : {M : Type 1} → statement M
 put-wall-spec = tie.close (tie.spec put-cell-requires add-out slice-write-out same-length returns)

@@ -47,8 +47,10 @@ add-put-wall c = search needs
 put-wall-requires : tie.Need-put-wall-requires Inv-loop μ-loop
 unfolding sheetLength wallAt
 put-wall-requires c κs =
-    let size = lines-keep _ 11 _ (λ (e : ℕ). wall-length _ _) _ _ (c .before .before .before .loop .j) (omega (arith, c .before .before .before .before .before .before .before .before .pre)) (c .before .before .before .loop .inv .1) in
-    (omega arith, omega (arith, c .before .before .before .before .before .before .before .before .pre))
+    let c₄ = c .before .before .before .before in
+    let c₈ = c₄ .before .before .before .before in
+    let size = lines-keep _ 11 _ (λ (e : ℕ). wall-length _ _) _ _ (c .before .before .before .loop .j) (omega (arith, c₈ .pre)) (c .before .before .before .loop .inv .1) in
+    (omega arith, omega (arith, c₈ .pre))
 
 add-j : tie.Need-add-j Inv-loop μ-loop
 add-j c = search needs
@@ -58,11 +60,16 @@ loop-less c = search needs
 
 loop-again : tie.Need-loop-again Inv-loop μ-loop
 unfolding sheetLength wallAt
-loop-again c = (search needs, lines-next _ 11 _ (λ (e : ℕ). wall-length _ _) _ _ _ _ _ (c .before .before .before .before .before .before .loop .inv .1) (c .before .before .put-wall .ensures) refl (omega (arith, c .before .before .before .before .before .before .before .before .before .before .before .pre)))
+loop-again c =
+    let c₄ = c .before .before .before .before in
+    let c₈ = c₄ .before .before .before .before in
+    (search needs, lines-next _ 11 _ (λ (e : ℕ). wall-length _ _) _ _ _ _ _ (c₄ .before .before .loop .inv .1) (c .before .before .put-wall .ensures) refl (omega (arith, c₈ .before .before .before .pre)))
 
 same-length : tie.Need-same-length Inv-loop μ-loop
 unfolding sheetLength wallAt
-same-length c = lines-keep _ 11 _ (λ (e : ℕ). wall-length _ _) _ _ (c .before .loop .j) (omega (arith, c .before .before .before .before .before .before .pre)) (c .before .loop .inv .1)
+same-length c =
+    let c₄ = c .before .before .before .before in
+    lines-keep _ 11 _ (λ (e : ℕ). wall-length _ _) _ _ (c .before .loop .j) (omega (arith, c₄ .before .before .pre)) (c .before .loop .inv .1)
 
 returns : tie.Need-returns Inv-loop μ-loop
 returns c = lines-end _ 11 _ (λ (e : ℕ). wall-length _ _) _ _ (c .before .loop .j) _ (c .before .loop .inv .0) (c .loop-test .left) (c .before .loop .inv .1)
