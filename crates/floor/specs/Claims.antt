@@ -18,4 +18,5 @@ pub record Claims : Type 0 where
   -- The fresh floor is an accepted one.
   pub fresh-accepted : checkOf freshFloor [] ≡ passed
   -- Places past the counts are no part of the floor: records that are the same floor get the same verdict.
-  pub same-verdict : (f : Floor) (ws : List ℕ) (g : Floor) (vs : List ℕ) → SameFloor f ws g vs → Lent f ws → Lent g vs → checkOf f ws ≡ checkOf g vs
+  pub same-verdict : (f : Floor) (ws : List ℕ) (g : Floor) (vs : List ℕ) → SameFloor f ws g vs → Lent f ws → Lent g vs
+      → checkOf f ws ≡ checkOf g vs

@@ -15,10 +15,14 @@ pub data RefusedWith (f : Floor) (ws : List ℕ) : ℕ → ℕ → Type 0 where
   -- 3, item: a carrier's cell lies outside the grid.
   carrier-outside : {i : ℕ} → Limited f → Lent f ws → First (CarrierInGrid f) (f .carriers) i → RefusedWith f ws 3 (1 + i)
   -- 3, item: a wall lies outside the grid; walls follow the carriers.
-  wall-outside : {j : ℕ} → Limited f → Lent f ws → CarriersInGrid f → First (WallInGrid f ws) (f .walls) j → RefusedWith f ws 3 (f .carriers + 1 + j)
+  wall-outside : {j : ℕ} → Limited f → Lent f ws → CarriersInGrid f → First (WallInGrid f ws) (f .walls) j
+      → RefusedWith f ws 3 (f .carriers + 1 + j)
   -- 4, item: a wall is not above the one before it.
-  not-rising : {j : ℕ} → Limited f → Lent f ws → CarriersInGrid f → WallsInGrid f ws → First (Rises ws) (f .walls) j → RefusedWith f ws 4 (f .carriers + 1 + j)
+  not-rising : {j : ℕ} → Limited f → Lent f ws → CarriersInGrid f → WallsInGrid f ws → First (Rises ws) (f .walls) j
+      → RefusedWith f ws 4 (f .carriers + 1 + j)
   -- 5, carrier: its start or its goal is a wall.
-  on-wall : {i : ℕ} → Limited f → Lent f ws → CarriersInGrid f → WallsInGrid f ws → Rising f ws → First (ClearOfWalls f ws) (f .carriers) i → RefusedWith f ws 5 (1 + i)
+  on-wall : {i : ℕ} → Limited f → Lent f ws → CarriersInGrid f → WallsInGrid f ws → Rising f ws
+      → First (ClearOfWalls f ws) (f .carriers) i → RefusedWith f ws 5 (1 + i)
   -- 6, carrier: an earlier carrier has the same start, or the same goal.
-  shared : {i : ℕ} → Limited f → Lent f ws → CarriersInGrid f → WallsInGrid f ws → Rising f ws → Clear f ws → First (Unshared f) (f .carriers) i → RefusedWith f ws 6 (1 + i)
+  shared : {i : ℕ} → Limited f → Lent f ws → CarriersInGrid f → WallsInGrid f ws → Rising f ws → Clear f ws
+      → First (Unshared f) (f .carriers) i → RefusedWith f ws 6 (1 + i)

@@ -54,7 +54,8 @@ walls-room text room = (
   λ h. then-passed (h .0) ∙ room-means _ _ .1 (h .1),
 )
 
-sheet-room : (f : Floor) (ws : List ℕ) (room : ℕ) → checkOf f ws ≡ passed → (writeVerdict f ws room ≡ refused 9 0) ↔ (room < sheetLength f)
+sheet-room : (f : Floor) (ws : List ℕ) (room : ℕ) → checkOf f ws ≡ passed
+    → (writeVerdict f ws room ≡ refused 9 0) ↔ (room < sheetLength f)
 unfolding writeVerdict
 sheet-room f ws room ok = (λ h. room-means _ _ .0 (sym (then-passed ok) ∙ h), λ l. then-passed ok ∙ room-means _ _ .1 l)
 

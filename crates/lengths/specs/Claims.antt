@@ -18,6 +18,8 @@ pub record Claims : Type 0 where
   pub walls-within : (f : Floor) (ws : List ℕ) → checkOf f ws ≡ passed → 2 * f .walls ≤ 65536
   pub sheet-within : (f : Floor) (ws : List ℕ) → checkOf f ws ≡ passed → sheetLength f ≤ 65536
   -- Wall memory is called too short exactly below the needed length, and then only if nothing else is wrong.
-  pub walls-room : (text : List ℕ) (room : ℕ) → (readVerdict text room ≡ refused 9 0) ↔ ((sheetVerdict text ≡ passed) × (room < floorAt text .walls))
+  pub walls-room : (text : List ℕ) (room : ℕ)
+      → (readVerdict text room ≡ refused 9 0) ↔ ((sheetVerdict text ≡ passed) × (room < floorAt text .walls))
   -- Sheet memory of an accepted floor is called too short exactly below the needed length.
-  pub sheet-room : (f : Floor) (ws : List ℕ) (room : ℕ) → checkOf f ws ≡ passed → (writeVerdict f ws room ≡ refused 9 0) ↔ (room < sheetLength f)
+  pub sheet-room : (f : Floor) (ws : List ℕ) (room : ℕ) → checkOf f ws ≡ passed
+      → (writeVerdict f ws room ≡ refused 9 0) ↔ (room < sheetLength f)

@@ -37,7 +37,8 @@ pub cell-tells : (width height col row : ℕ) → cellOf width height col row < 
 unfolding cellOf
 cell-tells width height col row = go (decLt col width) (decLt row height)
   where
-    go : Dec (col < width) → Dec (row < height) → cond (ltb col width && ltb row height) (row * width + col) (width * height) < width * height → CellTells width height col row
+    go : Dec (col < width) → Dec (row < height)
+        → cond (ltb col width && ltb row height) (row * width + col) (width * height) < width * height → CellTells width height col row
     go (yes a) (yes b) l = record { column = a; row-in = b; cell = rw (lt-ltb col width a, lt-ltb row height b) }
     go (yes a) (no b) l = absurd (omega (arith, rw (le-ltb row height (omega arith), and-false (ltb col width)) at l))
     go (no a) b l = absurd (omega (arith, rw (le-ltb col width (omega arith)) at l))

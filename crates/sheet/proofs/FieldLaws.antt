@@ -117,9 +117,11 @@ columns-small : (v : ℕ) → number (column 10000 v) (column 1000 v) (column 10
 unfolding number
 columns-small v =
     rw (column-value 10000 v, column-value 1000 v, column-value 100 v, column-value 10 v)
-    (five (v / 10000 % 10) (v / 1000 % 10) (v / 100 % 10) (v / 10 % 10) (v % 10) (omega arith) (omega arith) (omega arith) (omega arith) (omega arith))
+    (five (v / 10000 % 10) (v / 1000 % 10) (v / 100 % 10) (v / 10 % 10) (v % 10) (omega arith) (omega arith) (omega arith)
+    (omega arith) (omega arith))
   where
-    five : (a b c d e : ℕ) → a < 10 → b < 10 → c < 10 → d < 10 → e < 10 → (((a * 10 + b) * 10 + c) * 10 + d) * 10 + ((48 + e) - 48) < 100000
+    five : (a b c d e : ℕ) → a < 10 → b < 10 → c < 10 → d < 10 → e < 10
+        → (((a * 10 + b) * 10 + c) * 10 + d) * 10 + ((48 + e) - 48) < 100000
     five a b c d e ha hb hc hd he = omega arith
 
 bytes-small : (text : List ℕ) (at v : ℕ) → FiveBytes text at v → numberAt text at < 100000
@@ -148,7 +150,8 @@ field-text text at h =
     (is-field-bytes text at (demand-holds _ 1 _ (a .1)))
 
 -- The text of a number up to 99999 is a field in good form, of that number.
-pub text-field : (text : List ℕ) (at v : ℕ) → v < 100000 → part text at 5 ≡ fieldOf v → (fieldForm text at ≡ passed) × (numberAt text at ≡ v)
+pub text-field : (text : List ℕ) (at v : ℕ) → v < 100000 → part text at 5 ≡ fieldOf v
+    → (fieldForm text at ≡ passed) × (numberAt text at ≡ v)
 unfolding fieldForm fieldOf
 text-field text at v l e =
     let r = part-bytes text at v e in (

@@ -16,7 +16,7 @@ use Rattle.floor.proofs.LimitsLaws.{Bounds, limited-bounds, check-tells}
 use Rattle.floor.proofs.SameLaws.{places-same}
 use Rattle.floor.proofs.Theorems.{theorems}
 use Rattle.sheet.specs.Field.{numberAt}
-use Rattle.sheet.specs.Text.{linesOf, headLine, carrierLine, wallLine, sheetOf, sheetLength, carrierAt, goalAt, wallAt}
+use Rattle.sheet.specs.Text.{carrierLines, wallLines, headLine, carrierLine, wallLine, sheetOf, sheetLength, carrierAt, goalAt, wallAt}
 use Rattle.sheet.specs.Form.{lineForm, linesForm, endForm, restForm}
 use Rattle.sheet.specs.Values.{cellAt, headAt, floorAt, cellsAt, wallsFrom, wallsAt}
 use Rattle.sheet.specs.Read.{formOf, sheetVerdict}
@@ -48,10 +48,10 @@ module _ (f : Floor) (ws : List ℕ) (ok : checkOf f ws ≡ passed) where
   text = sheetOf f ws
 
   carriers : List ℕ
-  carriers = linesOf (carrierLine f) (f .carriers)
+  carriers = carrierLines f
 
   walls : List ℕ
-  walls = linesOf (λ j. wallLine (f .width) (getD ws j 0)) (f .walls)
+  walls = wallLines f ws
 
   carriers-size : length carriers ≡ 21 * f .carriers
   unfolding carriers
@@ -84,7 +84,8 @@ module _ (f : Floor) (ws : List ℕ) (ok : checkOf f ws ≡ passed) where
   wall-part : (j : ℕ) → j < f .walls → part text (31 + 21 * f .carriers + 11 * j) 11 ≡ wallLine (f .width) (getD ws j 0)
   unfolding walls
   wall-part =
-      lines-parts text (λ j. wallLine (f .width) (getD ws j 0)) 11 (31 + 21 * f .carriers) (λ j. wall-length (f .width) (getD ws j 0)) (lit< tt) (f .walls)
+      lines-parts text (λ j. wallLine (f .width) (getD ws j 0)) 11 (31 + 21 * f .carriers) (λ j. wall-length (f .width) (getD ws j 0))
+      (lit< tt) (f .walls)
       (back .1)
 
   -- Line 1, read.
@@ -115,7 +116,8 @@ module _ (f : Floor) (ws : List ℕ) (ok : checkOf f ws ≡ passed) where
   head-same : HeadSame
   unfolding headAt numbersFrom
   head-same =
-      let field : (i : ℕ) → getD (numbersFrom text 0 6) i 0 ≡ getD (f .width ∷ f .height ∷ f .horizon ∷ f .depth ∷ f .carriers ∷ f .walls ∷ []) i 0 =
+      let field : (i : ℕ) → getD (numbersFrom text 0 6) i 0 ≡ getD
+      (f .width ∷ f .height ∷ f .horizon ∷ f .depth ∷ f .carriers ∷ f .walls ∷ []) i 0 =
       λ i. ap (λ (vs : List ℕ). getD vs i 0) (head-reads .1)
       in
       record {
@@ -203,8 +205,10 @@ module _ (f : Floor) (ws : List ℕ) (ok : checkOf f ws ≡ passed) where
         depth = sym (h .depth);
         carriers = sym (h .carriers-same);
         walls = sym (h .walls-same);
-        starts = λ i l. sym (upTo-at _ _ 8 i (rw (h .carriers-same) l) (omega (arith, bounds .carriers .1)) ∙ rw (h .width, h .height) (carrier-reads i l .start));
-        goals = λ i l. sym (upTo-at _ _ 8 i (rw (h .carriers-same) l) (omega (arith, bounds .carriers .1)) ∙ rw (h .width, h .height) (carrier-reads i l .goal));
+        starts = λ i l. sym (upTo-at _ _ 8 i (rw (h .carriers-same) l) (omega (arith, bounds .carriers .1))
+            ∙ rw (h .width, h .height) (carrier-reads i l .start));
+        goals = λ i l. sym (upTo-at _ _ 8 i (rw (h .carriers-same) l) (omega (arith, bounds .carriers .1))
+            ∙ rw (h .width, h .height) (carrier-reads i l .goal));
         cells = λ j l. sym (listed-at _ _ j (rw (h .walls-same) l) ∙ rw (h .width, h .height, h .carriers-same) (wall-reads j l .cell));
       }
 
@@ -216,7 +220,8 @@ module _ (f : Floor) (ws : List ℕ) (ok : checkOf f ws ≡ passed) where
   rest-passes : restForm text (headAt text) ≡ passed
   unfolding restForm linesForm endForm
   rest-passes =
-      let column : wallAt (headAt text) (headAt text .walls) ≡ sheetLength f = rw (wall-column (headAt text .walls), head-same .walls-same) end in
+      let column : wallAt (headAt text) (headAt text .walls) ≡ sheetLength f = rw
+      (wall-column (headAt text .walls), head-same .walls-same) end in
       let tail : length text ≤ wallAt (headAt text) (headAt text .walls) = omega (arith, sheet-length f ws) in
       then-passed (turn-passes _ _ (λ i l. carrier-reads i (rw (head-same .carriers-same) at l) .form))
       ∙ then-passed (turn-passes _ _ (λ j l. rw (wall-column j) (wall-reads j (rw (head-same .walls-same) at l) .form)))

@@ -85,7 +85,8 @@ pub record LineTells (text : List ℕ) (at : ℕ) (vs : List ℕ) : Type 0 where
   pub numbers : numbersFrom text at (length vs) ≡ vs
 
 -- A field in front of a line.
-line-cons : (text vs : List ℕ) (v at : ℕ) → v < 100000 → part text at 5 ≡ fieldOf v → LineTells text (at + 5) vs → LineTells text at (v ∷ vs)
+line-cons : (text vs : List ℕ) (v at : ℕ) → v < 100000 → part text at 5 ≡ fieldOf v → LineTells text (at + 5) vs
+    → LineTells text at (v ∷ vs)
 unfolding numbersFrom
 line-cons text vs v at l e r =
     record {
@@ -108,7 +109,8 @@ text-fields text [] at small e =
     record { fields = λ i l. absurd (omega arith); newline = rw z (text-newline text at e); numbers = refl }
 text-fields text (v ∷ vs) at small e =
     let w : 5 * suc (length vs) + 1 ≡ 5 + (5 * length vs + 1) = omega arith in
-    let d = part-blocks text (fieldOf v) (lineOf vs) at 5 (5 * length vs + 1) (field-length v) (line-length vs) (omega arith) (rw w at e) in
+    let d = part-blocks text (fieldOf v) (lineOf vs) at 5 (5 * length vs + 1) (field-length v) (line-length vs) (omega arith)
+    (rw w at e) in
     line-cons text vs v at (small .0) (d .0) (text-fields text vs (at + 5) (small .1) (d .1))
 
 -- The text of numbers up to 99999 is a line in good form, of those numbers.

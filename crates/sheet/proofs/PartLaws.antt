@@ -30,7 +30,8 @@ module _ (text : List ℕ) where
   part-split at a b = take-add a b (drop at text) ∙ ap (λ (r : List ℕ). take a (drop at text) ++ take b r) (drop-drop a at text)
 
   -- A part that is given byte by byte.
-  pub part-is : (at n : ℕ) (b : List ℕ) → at + n ≤ length text → length b ≡ n → ((i : ℕ) → i < n → getD text (at + i) 0 ≡ getD b i 0) → part text at n ≡ b
+  pub part-is : (at n : ℕ) (b : List ℕ) → at + n ≤ length text → length b ≡ n → ((i : ℕ) → i < n → getD text (at + i) 0 ≡ getD b i 0)
+      → part text at n ≡ b
   part-is at n b l s h =
       ext-getD 0 (part text at n) b (part-length at n l ∙ sym s)
       (λ i k. let q : i < n = omega (arith, part-length at n l) in part-byte at n i q ∙ h i q)

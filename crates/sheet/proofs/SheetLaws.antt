@@ -6,16 +6,16 @@ use mathlib.Core.Path.{_≡_}
 use mathlib.Core.List.{List, _++_, append-assoc}
 use lib.ListN.{length, getD, drop, length-append}
 use Rattle.floor.specs.declared.Floor.{Floor}
-use Rattle.sheet.specs.Text.{headLine, carrierLine, wallLine, linesOf, sheetOf, sheetLength, wallAt}
+use Rattle.sheet.specs.Text.{headLine, carrierLine, wallLine, carrierLines, wallLines, sheetOf, sheetLength, wallAt}
 use Rattle.sheet.specs.Memory.{put}
 use Rattle.sheet.proofs.PutLaws.{put-next}
 use Rattle.sheet.proofs.LineLaws.{head-length, carrier-length, wall-length, lines-length}
 
 module _ (f : Floor) (ws : List ℕ) where
-  carriers-length : length (linesOf (carrierLine f) (f .carriers)) ≡ 21 * f .carriers
+  carriers-length : length (carrierLines f) ≡ 21 * f .carriers
   carriers-length = lines-length (carrierLine f) 21 (carrier-length f) (f .carriers)
 
-  walls-length : length (linesOf (λ j. wallLine (f .width) (getD ws j 0)) (f .walls)) ≡ 11 * f .walls
+  walls-length : length (wallLines f ws) ≡ 11 * f .walls
   walls-length = lines-length (λ j. wallLine (f .width) (getD ws j 0)) 11 (λ j. wall-length (f .width) (getD ws j 0)) (f .walls)
 
   -- A sheet has 31 bytes, 21 a carrier and 11 a wall.
@@ -26,8 +26,8 @@ module _ (f : Floor) (ws : List ℕ) where
 
   -- The three parts of a sheet, put one behind the other.
   pub sheet-put : (m₀ m₁ m₂ m₃ : List ℕ) → sheetLength f ≤ length m₀ → m₁ ≡ put m₀ 0 (headLine f)
-      → m₂ ≡ put m₁ 31 (linesOf (carrierLine f) (f .carriers))
-      → m₃ ≡ put m₂ (31 + 21 * f .carriers) (linesOf (λ j. wallLine (f .width) (getD ws j 0)) (f .walls))
+      → m₂ ≡ put m₁ 31 (carrierLines f)
+      → m₃ ≡ put m₂ (31 + 21 * f .carriers) (wallLines f ws)
       → m₃ ≡ put m₀ 0 (sheetOf f ws)
   unfolding sheetOf sheetLength wallAt
   sheet-put m₀ m₁ m₂ m₃ l a b c =

@@ -60,20 +60,24 @@ module _ (text : List ℕ) (formed : formOf text ≡ passed) where
       (line-text text 0 6 head-form)
 
   -- A carrier's cells, and a wall's.
-  start-at : (i : ℕ) → i < floorAt text .carriers → startOf (floorAt text) i ≡ cellAt text (floorAt text .width) (floorAt text .height) (carrierAt i)
+  start-at : (i : ℕ) → i < floorAt text .carriers
+      → startOf (floorAt text) i ≡ cellAt text (floorAt text .width) (floorAt text .height) (carrierAt i)
   unfolding startOf floorAt cellsAt headAt
   start-at i l = upTo-at _ _ 8 i l (omega (arith, tells .bounds .carriers .1))
 
-  goal-at : (i : ℕ) → i < floorAt text .carriers → goalOf (floorAt text) i ≡ cellAt text (floorAt text .width) (floorAt text .height) (goalAt i)
+  goal-at : (i : ℕ) → i < floorAt text .carriers
+      → goalOf (floorAt text) i ≡ cellAt text (floorAt text .width) (floorAt text .height) (goalAt i)
   unfolding goalOf floorAt cellsAt headAt
   goal-at i l = upTo-at _ _ 8 i l (omega (arith, tells .bounds .carriers .1))
 
-  wall-at : (j : ℕ) → j < floorAt text .walls → getD (wallsAt text) j 0 ≡ cellAt text (floorAt text .width) (floorAt text .height) (wallAt (floorAt text) j)
+  wall-at : (j : ℕ) → j < floorAt text .walls
+      → getD (wallsAt text) j 0 ≡ cellAt text (floorAt text .width) (floorAt text .height) (wallAt (floorAt text) j)
   unfolding wallsAt wallsFrom
   wall-at j l = listed-at _ (floorAt text .walls) j l
 
 -- On a text in good form the record check is checks 3 to 6.
-pub placed-checked : (text : List ℕ) → formOf text ≡ passed → checkOf (floorAt text) (wallsAt text) ≡ placesOf (floorAt text) (wallsAt text)
+pub placed-checked : (text : List ℕ) → formOf text ≡ passed
+    → checkOf (floorAt text) (wallsAt text) ≡ placesOf (floorAt text) (wallsAt text)
 placed-checked text h = rw append-nil at (checked-places text [] h)
 
 -- A floor that is read is an accepted floor.

@@ -79,7 +79,8 @@ module _ (text : List ℕ) where
   unfolding slotForm fieldForm newlineForm endForm
   broken-slot s p (cut l) = then-refused _ (demand-refuses 1 _ (lt-leb _ _ l))
   broken-slot s p (bad {at} l n) =
-      then-passed (demand-passes 1 _ (le-leb _ _ l)) ∙ demand-refuses 1 at (fails-false (isField text at) (λ t. n (is-field-good text at t)))
+      then-passed (demand-passes 1 _ (le-leb _ _ l))
+      ∙ demand-refuses 1 at (fails-false (isField text at) (λ t. n (is-field-good text at t)))
   broken-slot s p (ended l) = then-refused _ (demand-refuses 1 _ (le-ltb _ _ l))
   broken-slot s p (wrong l n) = then-passed (demand-passes 1 _ (lt-ltb _ _ l)) ∙ demand-refuses 1 _ (ne-eqb _ _ n)
   broken-slot s p (extra l) = demand-refuses 1 _ (lt-leb _ _ l)

@@ -36,8 +36,10 @@ module _ (text : List ℕ) where
 
   limits-mean : (limitsOf (headAt text) ≡ passed) ↔ Limited (headAt text)
   limits-mean = (
-    λ h. each-passed 2 1 (fieldWithin (headAt text)) (FieldWithin (headAt text)) (field-means (headAt text)) 6 (sym (limits-each (headAt text)) ∙ h),
-    λ a. limits-each (headAt text) ∙ all-passes 2 1 (fieldWithin (headAt text)) (FieldWithin (headAt text)) (field-means (headAt text)) 6 a,
+    λ h. each-passed 2 1 (fieldWithin (headAt text)) (FieldWithin (headAt text)) (field-means (headAt text)) 6
+        (sym (limits-each (headAt text)) ∙ h),
+    λ a. limits-each (headAt text)
+        ∙ all-passes 2 1 (fieldWithin (headAt text)) (FieldWithin (headAt text)) (field-means (headAt text)) 6 a,
   )
 
   -- A refusal of the form, or of line 1's limits, has the condition of its row.
@@ -85,18 +87,21 @@ module _ (text : List ℕ) where
   refusal k p (head-form b) = then-refused _ (then-refused _ (head-slots text ∙ broken-slots text headSlots p b))
   refusal k p (outside-limit {i} a h) =
       let e : limitsOf (headAt text) ≡ refused 2 (1 + i) =
-      limits-each (headAt text) ∙ first-refuses 2 1 (fieldWithin (headAt text)) (FieldWithin (headAt text)) (field-means (headAt text)) 6 i h
+      limits-each (headAt text)
+      ∙ first-refuses 2 1 (fieldWithin (headAt text)) (FieldWithin (headAt text)) (field-means (headAt text)) 6 i h
       in
       then-refused _ (then-passed (head-fine .1 a) ∙ then-refused _ e)
   refusal k p (rest-form a l b) =
       then-refused _
-      (then-passed (head-fine .1 a) ∙ then-passed (limits-mean .1 l) ∙ rest-slots text (headAt text) ∙ broken-slots text (restSlots (headAt text)) p b)
+      (then-passed (head-fine .1 a) ∙ then-passed (limits-mean .1 l) ∙ rest-slots text (headAt text)
+      ∙ broken-slots text (restSlots (headAt text)) p b)
   refusal k p (floor-row a l b r) =
       let good : formOf text ≡ passed = then-passed (head-fine .1 a) ∙ then-passed (limits-mean .1 l) ∙ rest-fine .1 b in
       then-passed good ∙ sym (placed-checked text good) ∙ floor-theorems .refuses-exactly (floorAt text) (wallsAt text) k p .1 r
 
 -- A cell of the sheet is in the grid exactly if its column and its row are.
-cell-means : (text : List ℕ) (w h at : ℕ) → w ≤ 32 → h ≤ 32 → (cellAt text w h at < w * h) ↔ ((numberAt text at < w) × (numberAt text (at + 5) < h))
+cell-means : (text : List ℕ) (w h at : ℕ) → w ≤ 32 → h ≤ 32
+    → (cellAt text w h at < w * h) ↔ ((numberAt text at < w) × (numberAt text (at + 5) < h))
 unfolding cellAt
 cell-means text w h at a b = (
   λ l.

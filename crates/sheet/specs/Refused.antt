@@ -68,6 +68,8 @@ pub data RefusedSheet (text : List ℕ) : ℕ → ℕ → Type 0 where
   -- 2, field: line 1 has a value outside its limits.
   outside-limit : {i : ℕ} → AllFine text headSlots → First (FieldWithin (headAt text)) 6 i → RefusedSheet text 2 (1 + i)
   -- 1, byte offset: the form of the other lines is wrong.
-  rest-form : {p : ℕ} → AllFine text headSlots → Limited (headAt text) → FirstBroken text (restSlots (headAt text)) p → RefusedSheet text 1 p
+  rest-form : {p : ℕ} → AllFine text headSlots → Limited (headAt text) → FirstBroken text (restSlots (headAt text)) p
+      → RefusedSheet text 1 p
   -- 3, 4, 5, 6: as for a record, on the floor that the text says.
-  floor-row : {k p : ℕ} → AllFine text headSlots → Limited (headAt text) → AllFine text (restSlots (headAt text)) → RefusedWith (floorAt text) (wallsAt text) k p → RefusedSheet text k p
+  floor-row : {k p : ℕ} → AllFine text headSlots → Limited (headAt text) → AllFine text (restSlots (headAt text))
+      → RefusedWith (floorAt text) (wallsAt text) k p → RefusedSheet text k p

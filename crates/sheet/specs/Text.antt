@@ -29,9 +29,16 @@ carrierLine f i =
 unfoldable pub wallLine : ℕ → ℕ → List ℕ
 wallLine width c = lineOf (c % width ∷ c / width ∷ [])
 
--- The sheet: line 1, a line for each carrier, a line for each wall, and nothing after them.
+-- A line for each carrier, and a line for each wall.
+abbrev pub carrierLines : Floor → List ℕ
+carrierLines f = linesOf (carrierLine f) (f .carriers)
+
+abbrev pub wallLines : Floor → List ℕ → List ℕ
+wallLines f ws = linesOf (λ j. wallLine (f .width) (getD ws j 0)) (f .walls)
+
+-- The sheet: line 1, the carriers' lines, the walls' lines, and nothing after them.
 unfoldable pub sheetOf : Floor → List ℕ → List ℕ
-sheetOf f ws = headLine f ++ (linesOf (carrierLine f) (f .carriers) ++ linesOf (λ j. wallLine (f .width) (getD ws j 0)) (f .walls))
+sheetOf f ws = headLine f ++ (carrierLines f ++ wallLines f ws)
 
 -- The columns at which a carrier's line begins, its goal stands and a wall's line begins, and the sheet's length: 31 bytes, 21 a
 -- carrier, 11 a wall.

@@ -2,10 +2,10 @@
 ghost use mathlib.Core.Path.{_≡_};
 ghost use mathlib.Core.List.{_++_};
 ghost use Prim.Native.Nat.{_+_, _*_, _%_, _/_, _≤_, _<_};
-ghost use lib.ListN.{length, getD};
+ghost use lib.ListN.{length};
 ghost use Rattle.floor.specs.Checks.{startOf, goalOf};
 ghost use Rattle.sheet.specs.Field.{fieldOf};
-ghost use Rattle.sheet.specs.Text.{headLine, carrierLine, wallLine, linesOf, sheetOf, sheetLength};
+ghost use Rattle.sheet.specs.Text.{headLine, carrierLine, wallLine, carrierLines, wallLines, sheetOf, sheetLength};
 ghost use Rattle.sheet.specs.Memory.{put};
 use crate::field;
 use floor::Floor;
@@ -65,7 +65,7 @@ fn put_carrier(f: Floor, i: usize, out: &mut [u8], at: usize)
 fn put_carriers(f: Floor, out: &mut [u8])
     requires { ⌜ (f .carriers ≤ 8) × (0 < f .width) ⌝ }
     requires { ⌜ 31 + 21 * f .carriers ≤ length (now out) ⌝ }
-    ensures { λ r. ⌜ now (out .exit) ≡ put (now (out .entry)) 31 (linesOf (carrierLine f) (f .carriers)) ⌝ }
+    ensures { λ r. ⌜ now (out .exit) ≡ put (now (out .entry)) 31 (carrierLines f) ⌝ }
 {
     let n = f.carriers as usize;
     let mut i: usize = 0;
@@ -89,7 +89,7 @@ fn put_wall(width: u16, c: u16, out: &mut [u8], at: usize)
 fn put_walls(f: Floor, walls: &[u16], out: &mut [u8])
     requires { ⌜ (f .walls ≤ length (now walls)) × (0 < f .width) ⌝ }
     requires { ⌜ sheetLength f ≤ length (now out) ⌝ }
-    ensures { λ r. ⌜ now (out .exit) ≡ put (now (out .entry)) (31 + 21 * f .carriers) (linesOf (λ j. wallLine (f .width) (getD (now (walls .entry)) j 0)) (f .walls)) ⌝ }
+    ensures { λ r. ⌜ now (out .exit) ≡ put (now (out .entry)) (31 + 21 * f .carriers) (wallLines f (now (walls .entry))) ⌝ }
 {
     let width = f.width;
     let base = 31 + 21 * f.carriers as usize;

@@ -1,3 +1,4 @@
+-- `floor::check` meets its contract: a chain of three checks; a passed check 2 gives the bounds that the last requires.
 use Rattle.floor.proofs.LimitsLaws.{room-passed, limits-passed}
 use Rattle.floor.proofs.AnswersLaws.{passes, hands-on, ends-at}
 use Rattle.floor.specs.Checks.{checkOf, lentOf}

@@ -1,3 +1,4 @@
+-- `lengths::needed_lengths` meets its contract: the limits decide between the figures and the refusal.
 use Rattle.lengths.specs.Figures.{figuresOf, figuresFor, unless}
 use Rattle.floor.proofs.AnswersLaws.{passes, refuses}
 use borrow.Author.Needs.{needs}

@@ -1,3 +1,4 @@
+-- `resheet::print_sheet` meets its contract: what is written lies within the memory.
 use lib.Seq.{length-take-le}
 use mathlib.Core.Path.{sym}
 use borrow.Author.Needs.{needs}

@@ -1,3 +1,4 @@
+-- `sheet::check` meets its contract: a chain of three checks.
 use Rattle.sheet.specs.Read.{readVerdict, sheetVerdict}
 use Rattle.sheet.specs.Values.{headAt, floorAt}
 use Rattle.floor.specs.Checks.{roomOf}

@@ -1,3 +1,4 @@
+-- `sheet::form_of` meets its contract: a chain of three checks; line 1 in good form is long enough to be read.
 use Rattle.sheet.specs.Form.{restForm}
 use Rattle.floor.proofs.LimitsLaws.{limits-passed}
 use Rattle.floor.specs.Checks.{limitsOf}
@@ -43,7 +44,8 @@ returns-2 c =
     (ends-at _ (c .before .before .limits .ensures ∙ ap limitsOf (c .before .before .before .head .ensures)) (c .enum-told4 .given .1))
 
 rest-form-requires : tie.Need-rest-form-requires
-rest-form-requires c κs = let b = limits-passed _ (passes (c .before .before .limits .ensures) (c .enum-told3 .given .1)) in (b .carriers .1, b .walls .1)
+rest-form-requires c κs =
+    let b = limits-passed _ (passes (c .before .before .limits .ensures) (c .enum-told3 .given .1)) in (b .carriers .1, b .walls .1)
 
 returns-3 : tie.Need-returns-3
 unfolding formOf

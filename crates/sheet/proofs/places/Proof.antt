@@ -1,3 +1,4 @@
+-- `sheet::places` meets its contract: the floor check over the walls read, with unused places behind them, is checks 3 to 6 (`checked-places`).
 use denote.Ref.{now}
 use Rattle.sheet.specs.Values.{wallsFrom, headAt, floorAt, wallsAt}
 use Rattle.floor.specs.Checks.{checkOf}
@@ -48,7 +49,8 @@ returns c =
     let f = c₄ .before .before .floor in
     let rest = c₄ .before .no-walls .result in
     c .check .ensures
-    ∙ ap₂ checkOf (f .ensures) (c .before .before .before .walls .ensures ∙ ap (λ (g : Floor). wallsFrom text g ++ drop (g .walls) rest) (f .ensures))
+    ∙ ap₂ checkOf (f .ensures) (c .before .before .before .walls .ensures
+    ∙ ap (λ (g : Floor). wallsFrom text g ++ drop (g .walls) rest) (f .ensures))
     ∙ checked-places text (drop (floorAt text .walls) rest) (c₈ .pre)
 
 pub places-spec : {M : Type 1} → statement M

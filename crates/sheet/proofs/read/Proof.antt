@@ -1,3 +1,4 @@
+-- `sheet::read` meets its contract: a refusal leaves all as it was; a pass hands back the floor and stores its walls.
 use Rattle.sheet.proofs.ReadLaws.{chosen-passed, chosen-refused, read-tells}
 use Rattle.sheet.specs.Read.{readFloor, readWalls}
 use Rattle.sheet.specs.Values.{headAt, floorAt, wallsFrom, wallsAt}

@@ -1,3 +1,4 @@
+-- `sheet::sheet_length` meets its contract: the figure of the definition.
 use Rattle.sheet.specs.Text.{sheetLength, wallAt}
 use mathlib.Core.Path.{refl}
 use borrow.Author.Needs.{needs}

@@ -1,3 +1,4 @@
+-- `sheet::write` meets its contract: a refusal leaves all as it was; a pass puts the sheet in front.
 use denote.Ref.{now}
 use Rattle.sheet.proofs.SheetLaws.{sheet-front}
 use Rattle.sheet.proofs.ReadLaws.{chosen-passed, chosen-refused}

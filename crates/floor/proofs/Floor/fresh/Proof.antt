@@ -1,3 +1,4 @@
+-- `floor::Floor::fresh` meets its contract: the record is that of the definition.
 use Rattle.floor.specs.Fresh.{freshFloor}
 use mathlib.Core.Path.{refl}
 use Rattle.floor.proofs.Floor.fresh.Statement.{statement}

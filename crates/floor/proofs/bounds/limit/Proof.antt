@@ -1,3 +1,4 @@
+-- `floor::bounds::limit` meets its contract: each test has its own answer.
 use Rattle.floor.specs.Answers.{verdictOf}
 use Rattle.floor.specs.Verdict.{demand}
 use Rattle.floor.specs.Checks.{within}

@@ -1,3 +1,4 @@
+-- `floor::bounds::limits` meets its contract: a chain of six checks, each handing on or ending it.
 use Rattle.floor.proofs.AnswersLaws.{hands-on, ends-at}
 use Rattle.floor.specs.Checks.{limitsOf}
 use borrow.Author.Needs.{needs}

@@ -1,3 +1,4 @@
+-- `floor::checks::among` meets its contract: invariant: none of the numbers passed is c.
 use Rattle.floor.proofs.AmongLaws.{among-end, among-none, among-more, among-found}
 use Rattle.floor.specs.Checks.{among}
 use mathlib.Core.Bool.{false}

@@ -1,3 +1,4 @@
+-- `floor::checks::carrier_inside` meets its contract: the first cell decides, or the second does.
 use Rattle.floor.specs.Checks.{carrierInGrid, startOf, goalOf}
 use borrow.Author.Needs.{needs}
 use Rattle.floor.proofs.checks.carrier_inside.Statement.{statement}

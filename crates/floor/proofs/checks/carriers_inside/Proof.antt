@@ -1,3 +1,4 @@
+-- `floor::checks::carriers_inside` meets its contract: invariant: the carriers passed lie in the grid.
 use Rattle.floor.proofs.VerdictLaws.{each-end, each-none, each-more, each-stop}
 use borrow.Author.Tests.{not-true, not-false}
 use Rattle.floor.specs.Checks.{carrierInGrid, carriersOf}
@@ -29,7 +30,9 @@ add-t6 c = search needs
 
 returns : tie.Need-returns Inv-loop μ-loop
 unfolding verdictOf carriersOf
-returns c = sym (each-stop 3 1 _ _ _ (c .before .before .loop-test .taken) (c .before .before .before .loop .inv .1) (sym (c .before .carrier-inside .ensures) ∙ not-true _ (c .if1 .taken)))
+returns c =
+    sym (each-stop 3 1 _ _ _ (c .before .before .loop-test .taken) (c .before .before .before .loop .inv .1)
+    (sym (c .before .carrier-inside .ensures) ∙ not-true _ (c .if1 .taken)))
 
 add-i : tie.Need-add-i Inv-loop μ-loop
 add-i c = search needs
@@ -38,7 +41,11 @@ loop-less : tie.Need-loop-less Inv-loop μ-loop
 loop-less c = search needs
 
 loop-again : tie.Need-loop-again Inv-loop μ-loop
-loop-again c = (search needs, each-more 3 1 _ _ (c .before .before .before .loop .inv .1) (sym (c .before .carrier-inside .ensures) ∙ not-false _ (c .if1 .left)))
+loop-again c = (
+  search needs,
+  each-more 3 1 _ _ (c .before .before .before .loop .inv .1)
+      (sym (c .before .carrier-inside .ensures) ∙ not-false _ (c .if1 .left)),
+)
 
 returns-2 : tie.Need-returns-2 Inv-loop μ-loop
 unfolding verdictOf carriersOf

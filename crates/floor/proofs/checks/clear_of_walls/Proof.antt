@@ -1,3 +1,4 @@
+-- `floor::checks::clear_of_walls` meets its contract: the start decides, or the goal does.
 use Rattle.floor.specs.Checks.{clearOfWalls, startOf, goalOf}
 use borrow.Author.Needs.{needs}
 use Rattle.floor.proofs.checks.clear_of_walls.Statement.{statement}

@@ -1,3 +1,4 @@
+-- `floor::checks::distinct` meets its contract: invariant: the carriers passed share nothing with an earlier one.
 use Rattle.floor.specs.Checks.{unshared, distinctOf}
 use Rattle.floor.proofs.VerdictLaws.{each-none, each-more, each-stop, each-end}
 use borrow.Author.Tests.{not-true, not-false}
@@ -31,7 +32,8 @@ returns : tie.Need-returns Inv-loop μ-loop
 unfolding verdictOf distinctOf
 returns c =
     let l = c .before .before .before in
-    sym (each-stop 6 _ _ _ _ (c .before .before .loop-test .taken) (l .loop .inv .1) (sym (c .before .unshared .ensures) ∙ not-true _ (c .if1 .taken)))
+    sym (each-stop 6 _ _ _ _ (c .before .before .loop-test .taken) (l .loop .inv .1)
+    (sym (c .before .unshared .ensures) ∙ not-true _ (c .if1 .taken)))
 
 add-i : tie.Need-add-i Inv-loop μ-loop
 add-i c = search needs

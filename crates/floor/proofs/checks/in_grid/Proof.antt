@@ -1,3 +1,4 @@
+-- `floor::checks::in_grid` meets its contract: the product of two numbers up to 32 fits.
 use lib.Dec.{lit<}
 use native.Mathlib.Nat.{mul-le-mul, lt-of-le-of-lt}
 use Rattle.floor.specs.Checks.{inGrid}

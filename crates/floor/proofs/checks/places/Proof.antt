@@ -1,3 +1,4 @@
+-- `floor::checks::places` meets its contract: a chain of five checks.
 use Rattle.floor.specs.Checks.{placesOf}
 use Rattle.floor.proofs.AnswersLaws.{hands-on, ends-at}
 use borrow.Author.Needs.{needs}

@@ -1,3 +1,4 @@
+-- `floor::checks::rises` meets its contract: the first wall has none before it.
 use Rattle.floor.proofs.RisesLaws.{rises-past-first}
 use Rattle.floor.specs.Checks.{rises}
 use borrow.Author.Needs.{needs}

@@ -1,3 +1,4 @@
+-- `floor::checks::rising` meets its contract: invariant: the walls passed rise.
 use Rattle.floor.specs.Checks.{rises, risingOf}
 use Rattle.floor.proofs.VerdictLaws.{each-none, each-more, each-stop, each-end}
 use borrow.Author.Tests.{not-true, not-false}
@@ -37,7 +38,8 @@ returns : tie.Need-returns Inv-loop μ-loop
 unfolding verdictOf risingOf
 returns c =
     let l = c .before .before .before in
-    sym (each-stop 4 _ _ _ _ (c .before .before .loop-test .taken) (l .loop .inv .1) (sym (c .before .rises .ensures) ∙ not-true _ (c .if1 .taken)))
+    sym (each-stop 4 _ _ _ _ (c .before .before .loop-test .taken) (l .loop .inv .1)
+    (sym (c .before .rises .ensures) ∙ not-true _ (c .if1 .taken)))
 
 add-j : tie.Need-add-j Inv-loop μ-loop
 add-j c = search needs

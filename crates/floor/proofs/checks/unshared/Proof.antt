@@ -1,3 +1,4 @@
+-- `floor::checks::unshared` meets its contract: the start decides, or the goal does; an array of a record has eight places.
 use Rattle.floor.specs.Checks.{unshared, startOf, goalOf}
 use lib.ListN.{length}
 use mathlib.Core.Path.{_≡_}

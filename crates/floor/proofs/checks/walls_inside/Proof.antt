@@ -1,3 +1,4 @@
+-- `floor::checks::walls_inside` meets its contract: invariant: the walls passed lie in the grid.
 use Rattle.floor.proofs.VerdictLaws.{each-none, each-more, each-stop, each-end}
 use borrow.Author.Tests.{not-true, not-false}
 use Rattle.floor.specs.Checks.{inGrid, wallsOf}
@@ -45,7 +46,8 @@ unfolding verdictOf wallsOf
 returns c =
     let c₄ = c .before .before .before .before in
     let l = c₄ in
-    sym (each-stop 3 _ _ _ _ (c .before .before .before .loop-test .taken) (l .loop .inv .1) (sym (c .before .in-grid .ensures) ∙ not-true _ (c .if1 .taken)))
+    sym (each-stop 3 _ _ _ _ (c .before .before .before .loop-test .taken) (l .loop .inv .1)
+    (sym (c .before .in-grid .ensures) ∙ not-true _ (c .if1 .taken)))
 
 add-j : tie.Need-add-j Inv-loop μ-loop
 add-j c = search needs

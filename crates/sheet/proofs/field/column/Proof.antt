@@ -1,3 +1,4 @@
+-- `sheet::field::column` meets its contract: a space, or the digit.
 use Rattle.sheet.specs.Field.{column}
 use borrow.Author.Tests.{lt-ltb, le-ltb}
 use borrow.Author.Needs.{needs}

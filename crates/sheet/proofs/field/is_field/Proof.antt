@@ -1,3 +1,4 @@
+-- `sheet::field::is_field` meets its contract: a chain of five equality tests; the first that fails ends it.
 use Rattle.sheet.proofs.TestLaws.{test-holds, test-fails}
 use Rattle.sheet.specs.Field.{isField, column}
 use borrow.Author.Tests.{eq-eqb, ne-eqb}

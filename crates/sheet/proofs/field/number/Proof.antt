@@ -1,3 +1,4 @@
+-- `sheet::field::number` meets its contract: the five digits are those of the definition.
 use Rattle.sheet.specs.Field.{numberAt, number}
 use borrow.Author.Needs.{needs}
 use Rattle.sheet.proofs.field.number.Statement.{statement}

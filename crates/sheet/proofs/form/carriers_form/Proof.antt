@@ -1,3 +1,4 @@
+-- `sheet::form::carriers_form` meets its contract: invariant: the lines passed are in good form.
 use Rattle.sheet.specs.Form.{lineForm, linesForm}
 use Rattle.sheet.specs.Text.{carrierAt}
 use Rattle.floor.proofs.AnswersLaws.{turn-ends, passes}
@@ -49,7 +50,8 @@ loop-less c = search needs
 loop-again : tie.Need-loop-again Inv-loop μ-loop
 loop-again c = (
   search needs,
-  turn-more _ _ (c .before .before .before .before .loop .inv .1) (passes (c .before .before .line-form .ensures) (c .enum-told .given .1)),
+  turn-more _ _ (c .before .before .before .before .loop .inv .1)
+      (passes (c .before .before .line-form .ensures) (c .enum-told .given .1)),
 )
 
 returns-2 : tie.Need-returns-2 Inv-loop μ-loop

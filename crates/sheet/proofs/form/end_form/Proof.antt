@@ -1,3 +1,4 @@
+-- `sheet::form::end_form` meets its contract: an extra byte, or none.
 use Rattle.sheet.specs.Form.{endForm}
 use Rattle.floor.specs.Verdict.{demand}
 use Rattle.floor.specs.Answers.{verdictOf}

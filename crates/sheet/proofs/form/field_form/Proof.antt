@@ -1,3 +1,4 @@
+-- `sheet::form::field_form` meets its contract: cut short, bad, or good.
 use Rattle.sheet.specs.Form.{fieldForm}
 use Rattle.floor.specs.Verdict.{demand, _then_}
 use Rattle.floor.specs.Answers.{verdictOf}

@@ -1,3 +1,4 @@
+-- `sheet::form::line_form` meets its contract: invariant: the fields passed are in good form.
 use Rattle.sheet.specs.Form.{fieldForm, lineForm}
 use Rattle.floor.proofs.AnswersLaws.{ends-at, turn-ends, passes}
 use Rattle.floor.proofs.VerdictLaws.{turn-none, turn-more, turn-end}
@@ -49,7 +50,8 @@ loop-less c = search needs
 loop-again : tie.Need-loop-again Inv-loop μ-loop
 loop-again c = (
   search needs,
-  turn-more _ _ (c .before .before .before .before .loop .inv .1) (passes (c .before .before .field-form .ensures) (c .enum-told .given .1)),
+  turn-more _ _ (c .before .before .before .before .loop .inv .1)
+      (passes (c .before .before .field-form .ensures) (c .enum-told .given .1)),
 )
 
 mul-newline-form : tie.Need-mul-newline-form Inv-loop μ-loop

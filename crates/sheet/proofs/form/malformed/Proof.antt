@@ -1,3 +1,4 @@
+-- `sheet::form::malformed` meets its contract: refusal 1 with its place.
 use Rattle.floor.specs.Answers.{verdictOf}
 use mathlib.Core.Path.{refl}
 use Rattle.sheet.proofs.form.malformed.Statement.{statement}

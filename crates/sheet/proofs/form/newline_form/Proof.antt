@@ -1,3 +1,4 @@
+-- `sheet::form::newline_form` meets its contract: ended, another byte, or good.
 use Rattle.sheet.specs.Form.{newlineForm}
 use Rattle.floor.specs.Verdict.{demand, _then_}
 use Rattle.floor.specs.Answers.{verdictOf}

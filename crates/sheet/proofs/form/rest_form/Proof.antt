@@ -1,3 +1,4 @@
+-- `sheet::form::rest_form` meets its contract: a chain of three checks.
 use Rattle.sheet.specs.Text.{wallAt}
 use Rattle.sheet.specs.Form.{restForm}
 use Rattle.floor.proofs.AnswersLaws.{hands-on, ends-at}

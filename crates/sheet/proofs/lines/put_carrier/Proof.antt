@@ -1,3 +1,4 @@
+-- `sheet::lines::put_carrier` meets its contract: two cells and a newline, one behind the other.
 use Rattle.floor.specs.Checks.{startOf, goalOf}
 use Rattle.sheet.specs.Text.{lineOf, carrierLine}
 use Rattle.sheet.proofs.LineLaws.{newline-next}
@@ -46,7 +47,8 @@ returns c =
     let c₄ = c .before .before .before .before in
     let c₈ = c₄ .before .before .before .before in
     newline-next _ _ _ _ _
-    (put-next _ _ _ _ _ _ _ (c₄ .before .before .put-cell .ensures) (c .before .before .put-cell2 .ensures) refl (omega (arith, c₈ .before .before .before .pre)))
+    (put-next _ _ _ _ _ _ _ (c₄ .before .before .put-cell .ensures) (c .before .before .put-cell2 .ensures) refl
+    (omega (arith, c₈ .before .before .before .pre)))
     refl (omega (arith, c₈ .before .before .before .pre))
 
 pub put-carrier-spec : {M : Type 1} → statement M

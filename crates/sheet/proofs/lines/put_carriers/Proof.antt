@@ -1,3 +1,4 @@
+-- `sheet::lines::put_carriers` meets its contract: invariant: the lines passed stand one behind the other.
 use Rattle.sheet.specs.Text.{linesOf, carrierLine}
 use Rattle.sheet.proofs.LineLaws.{lines-next, lines-keep, lines-end, carrier-length}
 use Rattle.sheet.proofs.PutLaws.{put-none}
@@ -41,14 +42,19 @@ loop-less c = search needs
 
 loop-again : tie.Need-loop-again Inv-loop μ-loop
 loop-again c =
-    let c₄ = c .before .before .before .before in
-    (search needs, lines-next _ 21 31 (carrier-length _) _ _ _ _ _ (c₄ .before .loop .inv .1) (c .before .before .put-carrier .ensures) refl (omega arith))
+    let c₄ = c .before .before .before .before in (
+      search needs,
+      lines-next _ 21 31 (carrier-length _) _ _ _ _ _ (c₄ .before .loop .inv .1)
+          (c .before .before .put-carrier .ensures) refl (omega arith),
+    )
 
 same-length : tie.Need-same-length Inv-loop μ-loop
 same-length c = lines-keep _ 21 31 (carrier-length _) _ _ (c .before .loop .i) (omega arith) (c .before .loop .inv .1)
 
 returns : tie.Need-returns Inv-loop μ-loop
-returns c = lines-end _ 21 31 (carrier-length _) _ _ (c .before .loop .i) _ (c .before .loop .inv .0) (c .loop-test .left) (c .before .loop .inv .1)
+returns c =
+    lines-end _ 21 31 (carrier-length _) _ _ (c .before .loop .i) _ (c .before .loop .inv .0) (c .loop-test .left)
+    (c .before .loop .inv .1)
 
 pub put-carriers-spec : {M : Type 1} → statement M
 put-carriers-spec =

@@ -1,3 +1,4 @@
+-- `sheet::lines::put_cell` meets its contract: two fields, one behind the other.
 use Rattle.sheet.proofs.LineLaws.{field-length, field-next}
 use native.Mathlib.Omega.{arith}
 use borrow.Author.Needs.{needs}
@@ -26,7 +27,8 @@ returns : tie.Need-returns
 returns c =
     let c₄ = c .before .before .before .before in
     let c₈ = c₄ .before .before .before .before in
-    field-next _ _ _ _ _ _ _ (c₄ .before .before .put-field .ensures) (c .before .before .put-field2 .ensures) (rw field-length) (omega (arith, c₈ .before .pre))
+    field-next _ _ _ _ _ _ _ (c₄ .before .before .put-field .ensures) (c .before .before .put-field2 .ensures) (rw field-length)
+    (omega (arith, c₈ .before .pre))
 
 pub put-cell-spec : {M : Type 1} → statement M
 put-cell-spec =

@@ -1,3 +1,4 @@
+-- `sheet::lines::put_head` meets its contract: six fields and a newline, one behind the other.
 use Rattle.sheet.specs.Text.{lineOf, headLine}
 use Rattle.sheet.proofs.LineLaws.{field-next, newline-next}
 use Rattle.sheet.specs.Field.{fieldOf}
@@ -42,7 +43,13 @@ returns c =
     let c₂₀ = c₁₆ .before .before .before .before in
     let c₂₄ = c₂₀ .before .before .before .before in
     newline-next _ _ _ 0 30
-    (field-next _ _ _ _ 0 25 _ ((field-next _ _ _ _ 0 20 _ ((field-next _ _ _ _ 0 15 _ ((field-next _ _ _ _ 0 10 _ ((field-next _ _ _ _ 0 5 _ (c₂₀ .before .before .put-field .ensures) (c₁₆ .before .before .put-field2 .ensures) refl (omega (arith, c₂₄ .before .pre)))) (c₁₂ .before .before .put-field3 .ensures) refl (omega (arith, c₂₄ .before .pre)))) (c₈ .before .before .put-field4 .ensures) refl (omega (arith, c₂₄ .before .pre)))) (c₄ .before .before .put-field5 .ensures) refl (omega (arith, c₂₄ .before .pre)))) (c .before .before .put-field6 .ensures) refl (omega (arith, c₂₄ .before .pre)))
+    (field-next _ _ _ _ 0 25 _ ((field-next _ _ _ _ 0 20 _
+    ((field-next _ _ _ _ 0 15 _
+    ((field-next _ _ _ _ 0 10 _
+    ((field-next _ _ _ _ 0 5 _ (c₂₀ .before .before .put-field .ensures) (c₁₆ .before .before .put-field2 .ensures) refl
+    (omega (arith, c₂₄ .before .pre)))) (c₁₂ .before .before .put-field3 .ensures) refl (omega (arith, c₂₄ .before .pre))))
+    (c₈ .before .before .put-field4 .ensures) refl (omega (arith, c₂₄ .before .pre)))) (c₄ .before .before .put-field5 .ensures) refl
+    (omega (arith, c₂₄ .before .pre)))) (c .before .before .put-field6 .ensures) refl (omega (arith, c₂₄ .before .pre)))
     refl (omega (arith, c₂₄ .before .pre))
 
 pub put-head-spec : {M : Type 1} → statement M

@@ -1,3 +1,4 @@
+-- `sheet::lines::put_sheet` meets its contract: three blocks, one behind the other.
 use Rattle.sheet.proofs.SheetLaws.{sheet-put}
 use Rattle.sheet.specs.Text.{sheetLength, wallAt}
 use native.Mathlib.Omega.{arith}
@@ -26,7 +27,8 @@ returns c =
     let c₄ = c .before .before .before .before in
     let c₈ = c₄ .before .before .before .before in
     let c₁₂ = c₈ .before .before .before .before in
-    sheet-put _ _ _ _ _ _ (c₁₂ .before .before .pre .1 .1) (c₈ .before .before .put-head .ensures) (c₄ .before .before .put-carriers .ensures) (c .before .before .put-walls .ensures)
+    sheet-put _ _ _ _ _ _ (c₁₂ .before .before .pre .1 .1) (c₈ .before .before .put-head .ensures)
+    (c₄ .before .before .put-carriers .ensures) (c .before .before .put-walls .ensures)
 
 pub put-sheet-spec : {M : Type 1} → statement M
 put-sheet-spec =

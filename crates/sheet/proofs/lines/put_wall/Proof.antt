@@ -1,3 +1,4 @@
+-- `sheet::lines::put_wall` meets its contract: a cell and a newline.
 use Rattle.sheet.specs.Text.{lineOf, wallLine}
 use Rattle.sheet.proofs.LineLaws.{newline-next}
 use Rattle.sheet.specs.Field.{fieldOf}

@@ -1,3 +1,4 @@
+-- `sheet::lines::put_walls` meets its contract: invariant: the lines passed stand one behind the other.
 use lib.ListN.{getD}
 use Rattle.sheet.specs.Text.{linesOf, wallLine, sheetLength, wallAt}
 use Rattle.sheet.proofs.LineLaws.{lines-next, lines-keep, lines-end, wall-length}
@@ -49,7 +50,8 @@ unfolding sheetLength wallAt
 put-wall-requires c κs =
     let c₄ = c .before .before .before .before in
     let c₈ = c₄ .before .before .before .before in
-    let size = lines-keep _ 11 _ (λ (e : ℕ). wall-length _ _) _ _ (c .before .before .before .loop .j) (omega (arith, c₈ .pre)) (c .before .before .before .loop .inv .1) in
+    let size = lines-keep _ 11 _ (λ (e : ℕ). wall-length _ _) _ _ (c .before .before .before .loop .j) (omega (arith, c₈ .pre))
+    (c .before .before .before .loop .inv .1) in
     (omega arith, omega (arith, c₈ .pre))
 
 add-j : tie.Need-add-j Inv-loop μ-loop
@@ -62,17 +64,23 @@ loop-again : tie.Need-loop-again Inv-loop μ-loop
 unfolding sheetLength wallAt
 loop-again c =
     let c₄ = c .before .before .before .before in
-    let c₈ = c₄ .before .before .before .before in
-    (search needs, lines-next _ 11 _ (λ (e : ℕ). wall-length _ _) _ _ _ _ _ (c₄ .before .before .loop .inv .1) (c .before .before .put-wall .ensures) refl (omega (arith, c₈ .before .before .before .pre)))
+    let c₈ = c₄ .before .before .before .before in (
+      search needs,
+      lines-next _ 11 _ (λ (e : ℕ). wall-length _ _) _ _ _ _ _ (c₄ .before .before .loop .inv .1)
+          (c .before .before .put-wall .ensures) refl (omega (arith, c₈ .before .before .before .pre)),
+    )
 
 same-length : tie.Need-same-length Inv-loop μ-loop
 unfolding sheetLength wallAt
 same-length c =
     let c₄ = c .before .before .before .before in
-    lines-keep _ 11 _ (λ (e : ℕ). wall-length _ _) _ _ (c .before .loop .j) (omega (arith, c₄ .before .before .pre)) (c .before .loop .inv .1)
+    lines-keep _ 11 _ (λ (e : ℕ). wall-length _ _) _ _ (c .before .loop .j) (omega (arith, c₄ .before .before .pre))
+    (c .before .loop .inv .1)
 
 returns : tie.Need-returns Inv-loop μ-loop
-returns c = lines-end _ 11 _ (λ (e : ℕ). wall-length _ _) _ _ (c .before .loop .j) _ (c .before .loop .inv .0) (c .loop-test .left) (c .before .loop .inv .1)
+returns c =
+    lines-end _ 11 _ (λ (e : ℕ). wall-length _ _) _ _ (c .before .loop .j) _ (c .before .loop .inv .0) (c .loop-test .left)
+    (c .before .loop .inv .1)
 
 pub put-walls-spec : {M : Type 1} → statement M
 put-walls-spec =

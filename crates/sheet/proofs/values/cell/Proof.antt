@@ -1,3 +1,4 @@
+-- `sheet::values::cell` meets its contract: the cell of two values.
 use Rattle.sheet.specs.Values.{cellAt}
 use borrow.Author.Needs.{needs}
 use Rattle.sheet.proofs.values.cell.Statement.{statement}

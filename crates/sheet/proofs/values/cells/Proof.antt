@@ -1,3 +1,4 @@
+-- `sheet::values::cells` meets its contract: invariant: the places passed hold their cells, the others 0.
 use Rattle.sheet.proofs.ListedLaws.{upTo-step, upTo-end, upTo-none}
 use Rattle.sheet.specs.Values.{cellAt, upTo, listed}
 use mathlib.Core.Path.{_≡_}
@@ -8,7 +9,8 @@ use Rattle.sheet.proofs.values.cells.Statement.{statement}
 use Rattle.sheet.proofs.values.cells.Tie as tie
 
 abbrev Inv-loop : tie.InvT-loop
-Inv-loop text at n width height found₀ i₀ found i = (i ≤ n) × (found ≡ listed (upTo i (λ (e : ℕ). cellAt text width height (at + 21 * e))) 8)
+Inv-loop text at n width height found₀ i₀ found i = (i ≤ n) ×
+    (found ≡ listed (upTo i (λ (e : ℕ). cellAt text width height (at + 21 * e))) 8)
 
 abbrev μ-loop : tie.MeasureT-loop
 μ-loop text at n width height found₀ i₀ found i = n - i

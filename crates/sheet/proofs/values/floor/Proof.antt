@@ -1,3 +1,4 @@
+-- `sheet::values::floor` meets its contract: line 1, and both lists of cells.
 use Rattle.sheet.specs.Text.{goalAt, carrierAt}
 use Rattle.sheet.specs.Values.{floorAt, headAt, cellsAt}
 use borrow.Author.Needs.{needs}

@@ -1,3 +1,4 @@
+-- `sheet::values::head` meets its contract: the six values.
 use Rattle.sheet.specs.Values.{headAt}
 use borrow.Author.Needs.{needs}
 use Rattle.sheet.proofs.values.head.Statement.{statement}

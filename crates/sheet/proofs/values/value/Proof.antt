@@ -1,3 +1,4 @@
+-- `sheet::values::value` meets its contract: the number, cut at 65535.
 use Rattle.sheet.specs.Values.{valueAt}
 use native.Mathlib.Omega.{arith}
 use borrow.Author.Needs.{needs}

@@ -1,3 +1,4 @@
+-- `sheet::values::walls` meets its contract: invariant: the walls passed stand in front, the rest of the memory is as it was.
 use Rattle.sheet.proofs.ListedLaws.{listed-start, listed-keeps, listed-end, listed-store}
 use Rattle.sheet.specs.Text.{wallAt}
 use Rattle.sheet.specs.Values.{cellAt, listed, wallsFrom}
@@ -11,7 +12,8 @@ use Rattle.sheet.proofs.values.walls.Statement.{statement}
 use Rattle.sheet.proofs.values.walls.Tie as tie
 
 abbrev Inv-loop : tie.InvT-loop
-Inv-loop text out₀ base k width height j₀ out j = (j ≤ k) × (out ≡ listed (λ (e : ℕ). cellAt text width height (base + 11 * e)) j ++ drop j out₀)
+Inv-loop text out₀ base k width height j₀ out j = (j ≤ k) ×
+    (out ≡ listed (λ (e : ℕ). cellAt text width height (base + 11 * e)) j ++ drop j out₀)
 
 abbrev μ-loop : tie.MeasureT-loop
 μ-loop text out₀ base k width height j₀ out j = k - j

@@ -1,3 +1,4 @@
+-- `sheets::show::untouched` meets its contract: invariant: the index stays within the memory.
 use Prim.Native.Nat.{_≤_, _-_}
 use lib.ListN.{length}
 use borrow.Author.Needs.{needs}

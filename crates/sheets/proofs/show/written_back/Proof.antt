@@ -1,3 +1,4 @@
+-- `sheets::show::written_back` meets its contract: what is compared lies within the memory.
 use lib.Seq.{length-take-le}
 use mathlib.Core.Path.{sym}
 use borrow.Author.Needs.{needs}
