@@ -16,3 +16,4 @@ pub mod LinesText
 pub mod SheetText
 pub mod FloorText
 pub mod Theorems
+pub mod Cases
