@@ -1,0 +1,14 @@
+mod Tests
+mod CheapestLaws
+mod Ways
+mod ValLaws
+mod WalkLaws
+mod FirstLaws
+mod MovesLaws
+mod AdmissibleLaws
+mod ArrivalLaws
+mod ConflictLaws
+mod WalkRoute
+mod Meets
+mod Unique
+mod Cases
