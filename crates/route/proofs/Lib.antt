@@ -11,4 +11,6 @@ mod ConflictLaws
 mod WalkRoute
 mod Meets
 mod Unique
+mod Theorems
+mod LoopLaws
 mod Cases

@@ -22,6 +22,10 @@ pub record ConflictFree (H : ℕ) (a b : List ℕ) : Type 0 where
   pub no-vertex : (t : ℕ) → t ≤ H → VertexConflict a b t → ⊥
   pub no-swap : (t : ℕ) → t < H → SwapConflict a b t → ⊥
 
+-- The view shows no route.
+unfoldable pub Silent : View → Type 0
+Silent v = (v ≡ unheard) ⊎ (v ≡ heard none)
+
 -- Route r has no conflict with what a view shows; none and not heard occupy nothing.
 unfoldable pub ClearOfView : ℕ → List ℕ → View → Type 0
 ClearOfView H r unheard = Unit {0}

@@ -5,3 +5,4 @@ pub mod Best
 pub mod Moves
 pub mod Search
 pub mod Arrival
+pub mod Claims
