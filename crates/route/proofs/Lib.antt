@@ -1,16 +1,21 @@
-mod Tests
+-- Laws of the definitions, the theory of ways over any rule, and the claims. What other crates cite is `pub`.
+pub mod Tests
+pub mod MovesLaws
+pub mod ArrivalLaws
+pub mod ConflictLaws
+pub mod Ways
 mod CheapestLaws
-mod Ways
 mod ValLaws
 mod WalkLaws
 mod FirstLaws
-mod MovesLaws
-mod AdmissibleLaws
-mod ArrivalLaws
-mod ConflictLaws
+pub mod AdmissibleLaws
+pub mod Leads
 mod WalkRoute
-mod Meets
-mod Unique
-mod Theorems
+pub mod Meets
+pub mod Unique
+pub mod Theorems
+pub mod Sets
+pub mod SetsLaws
+pub mod SetsBest
 mod LoopLaws
 mod Cases
