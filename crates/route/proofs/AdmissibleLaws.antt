@@ -10,7 +10,7 @@ use Rattle.route.specs.Conflict.{VertexConflict, SwapConflict, ConflictF
 use Rattle.route.specs.Best.{IsRoute, Admissible}
 use Rattle.route.specs.Moves.{allowed, startClear}
 use Rattle.route.proofs.Ways.{Way}
-use Rattle.route.proofs.MovesLaws.{Allowed, StartClear, allowed-says, allowed-holds, start-clear-says, start-clear-holds}
+use Rattle.route.proofs.MovesLaws.{Standable, Allowed, allowed-says, allowed-holds, start-clear-says, start-clear-holds}
 
 -- r by the rule of moves.
 pub record ByRule (task : Task) (vs : List View) (r : List ℕ) : Type 0 where
@@ -30,28 +30,25 @@ module _ (task : Task) (vs : List View) (r : List ℕ) where
   admissible-by-rule a =
       record {
         long = a .is-route .long;
-        starts = start-clear-holds task vs starts;
+        starts = start-clear-holds task vs (rw (a .is-route .begins) at (stands 0 (omega arith)));
         begins = a .is-route .begins;
         way = record { steps = λ t h. allowed-holds task vs t (cellAt r t) (cellAt r (suc t)) (step t h); ends = a .is-route .ends };
         blank = a .is-route .blank;
       }
     where
-      starts : StartClear task vs
-      starts =
-          rw (← (a .is-route .begins))
-          (record {
-            inside = a .is-route .inside 0 (omega arith);
-            off-wall = a .is-route .off-walls 0 (omega arith);
-            no-vertex = λ q m e. (clear-route a q m) .no-vertex 0 (omega arith) e;
-          })
+      stands : (t : ℕ) → t ≤ task .horizon → Standable task vs t (cellAt r t)
+      stands t h =
+          record {
+            inside = a .is-route .inside t h;
+            off-wall = a .is-route .off-walls t h;
+            no-vertex = λ q m e. (clear-route a q m) .no-vertex t h e;
+          }
 
       step : (t : ℕ) → t < task .horizon → Allowed task vs t (cellAt r t) (cellAt r (suc t))
       step t h =
           record {
-            inside = a .is-route .inside (suc t) h;
             beside = a .is-route .moves t h;
-            off-wall = a .is-route .off-walls (suc t) h;
-            no-vertex = λ q m e. (clear-route a q m) .no-vertex (suc t) h e;
+            stands = stands (suc t) h;
             no-swap = λ q m e. (clear-route a q m) .no-swap t h e;
           }
 
@@ -64,32 +61,25 @@ module _ (task : Task) (vs : List View) (r : List ℕ) where
           begins = b .begins;
           ends = b .way .ends;
           moves = λ t h. (step t h) .beside;
-          inside = inside;
-          off-walls = off-walls;
+          inside = λ t h. (stands t h) .inside;
+          off-walls = λ t h. (stands t h) .off-wall;
           blank = b .blank;
         };
         clear = clear;
       }
     where
-      starts : StartClear task vs
+      starts : Standable task vs 0 (task .start)
       starts = start-clear-says task vs (b .starts)
 
       step : (t : ℕ) → t < task .horizon → Allowed task vs t (cellAt r t) (cellAt r (suc t))
       step t h = allowed-says task vs t (cellAt r t) (cellAt r (suc t)) (b .way .steps t h)
 
-      inside : (t : ℕ) → t ≤ task .horizon → cellAt r t < task .cells
-      inside zero h = rw (b .begins) (starts .inside)
-      inside (suc t) h = (step t h) .inside
-
-      off-walls : (t : ℕ) → t ≤ task .horizon → task .free (cellAt r t) ≡ true
-      off-walls zero h = rw (b .begins) (starts .off-wall)
-      off-walls (suc t) h = (step t h) .off-wall
-
-      no-vertex : (q : List ℕ) → List·Memᴰ (heard (route q)) vs → (t : ℕ) → t ≤ task .horizon → cellAt r t ≡ cellAt q t → ⊥
-      no-vertex q m zero h e = starts .no-vertex q m (sym (b .begins) ∙ e)
-      no-vertex q m (suc t) h e = (step t h) .no-vertex q m e
+      stands : (t : ℕ) → t ≤ task .horizon → Standable task vs t (cellAt r t)
+      stands zero h = rw (b .begins) starts
+      stands (suc t) h = (step t h) .stands
 
       clear : (v : View) → List·Memᴰ v vs → ClearOfView (task .horizon) r v
       clear unheard m = tt
       clear (heard none) m = tt
-      clear (heard (route q)) m = record { no-vertex = no-vertex q m; no-swap = λ t h e. (step t h) .no-swap q m e }
+      clear (heard (route q)) m =
+          record { no-vertex = λ t h e. (stands t h) .no-vertex q m e; no-swap = λ t h e. (step t h) .no-swap q m e }

@@ -2,16 +2,14 @@
 use Prim.Native.Nat.{ℕ, zero, suc, _≤_, _<_}
 use native.Mathlib.Omega.{arith}
 use native.Mathlib.Nat.{eq-or-lt-of-le, le-of-suc-le-suc}
-use mathlib.Core.Bool.{Bool, true, false}
 use mathlib.Core.List.{List}
 use mathlib.Core.Logic.{_⊎_, inl, inr, ⊎-elim}
 use mathlib.Core.Path.{_≡_, refl}
-use lib.Dec.{eqb, ltb}
-use borrow.Author.Tests.{eqb-true, eqb-false, eq-eqb, ne-eqb, ltb-true, ltb-false}
+use borrow.Author.Tests.{eq-eqb, ne-eqb}
 use Rattle.route.specs.Route.{cellAt}
 use Rattle.route.specs.Best.{HeldFrom, Arrives}
 use Rattle.route.specs.Arrival.{settled, arrivalOf}
-use Rattle.route.proofs.Tests.{true-or-false}
+use Rattle.route.proofs.Tests.{lt-or-le, eq-or-ne}
 
 module _ (goal : ℕ) (r : List ℕ) where
   pub settled-there : (n : ℕ) → cellAt r n ≡ goal → settled goal r (suc n) ≡ settled goal r n
@@ -22,29 +20,29 @@ module _ (goal : ℕ) (r : List ℕ) where
   unfolding settled
   settled-away n h = rw (ne-eqb (cellAt r n) goal h, settled)
 
-  at-goal-or-not : (n : ℕ) → (cellAt r n ≡ goal) ⊎ (cellAt r n ≡ goal → ⊥)
-  at-goal-or-not n = ⊎-elim (λ (e : eqb (cellAt r n) goal ≡ true). inl (eqb-true (cellAt r n) goal e)) (λ (e : eqb (cellAt r n) goal ≡ false). inr (eqb-false (cellAt r n) goal e)) (true-or-false (eqb (cellAt r n) goal))
-
   pub settled-le : (n : ℕ) → settled goal r n ≤ n
   unfolding settled
   settled-le zero = omega arith
-  settled-le (suc n) = ⊎-elim (λ (e : cellAt r n ≡ goal). omega (arith, settled-there n e, settled-le n)) (λ (e : cellAt r n ≡ goal → ⊥). omega (arith, settled-away n e)) (at-goal-or-not n)
+  settled-le (suc n) =
+      ⊎-elim (λ (e : cellAt r n ≡ goal). omega (arith, settled-there n e, settled-le n))
+      (λ (e : cellAt r n ≡ goal → ⊥). omega (arith, settled-away n e)) (eq-or-ne (cellAt r n) goal)
 
   pub settled-held : (n t : ℕ) → settled goal r n ≤ t → t < n → cellAt r t ≡ goal
   settled-held zero t l h = absurd (omega arith)
-  settled-held (suc n) t l h = split (at-goal-or-not n) (λ (a : settled goal r n ≤ t) (b : t < n). settled-held n t a b)
+  settled-held (suc n) t l h = split (eq-or-ne (cellAt r n) goal) (λ (a : settled goal r n ≤ t) (b : t < n). settled-held n t a b)
     where
       split : (cellAt r n ≡ goal) ⊎ (cellAt r n ≡ goal → ⊥) → (settled goal r n ≤ t → t < n → cellAt r t ≡ goal) → cellAt r t ≡ goal
-      split (inl e) below = ⊎-elim (λ (q : t ≡ n). rw q e) (λ (b : t < n). below (omega (arith, settled-there n e)) b) (eq-or-lt-of-le (le-of-suc-le-suc h))
+      split (inl e) below =
+          ⊎-elim (λ (q : t ≡ n). rw q e) (λ (b : t < n). below (omega (arith, settled-there n e)) b) (eq-or-lt-of-le (le-of-suc-le-suc h))
       split (inr e) below = absurd (omega (arith, settled-away n e))
 
   pub settled-least : (n b : ℕ) → ((t : ℕ) → b ≤ t → t < n → cellAt r t ≡ goal) → settled goal r n ≤ b
   unfolding settled
   settled-least zero b h = omega arith
-  settled-least (suc n) b h = split (at-goal-or-not n) (settled-least n b (λ t l k. h t l (omega arith)))
+  settled-least (suc n) b h = split (eq-or-ne (cellAt r n) goal) (settled-least n b (λ t l k. h t l (omega arith)))
     where
       late : (cellAt r n ≡ goal → ⊥) → n < b
-      late e = ⊎-elim (λ (k : ltb n b ≡ true). ltb-true n b k) (λ (k : ltb n b ≡ false). absurd (e (h n (ltb-false n b k) (omega arith)))) (true-or-false (ltb n b))
+      late e = ⊎-elim (λ (k : n < b). k) (λ (k : b ≤ n). absurd (e (h n k (omega arith)))) (lt-or-le n b)
 
       split : (cellAt r n ≡ goal) ⊎ (cellAt r n ≡ goal → ⊥) → settled goal r n ≤ b → settled goal r (suc n) ≤ b
       split (inl e) below = omega (arith, settled-there n e)

@@ -42,8 +42,15 @@ module _ (never : ℕ) (f : ℕ → ℕ) where
       hand = cheapest never f n
 
       split : (ltb (f n) (hand .1) ≡ true) ⊎ (ltb (f n) (hand .1) ≡ false) → (d < n → hand .1 ≤ f d) → (cheaper hand n (f n)) .1 ≤ f d
-      split (inl e) below = rw (cheaper-takes hand n (f n) e) (⊎-elim (λ (q : d ≡ n). rw q (omega arith)) (λ (b : d < n). omega (arith, ltb-true (f n) (hand .1) e, below b)) (eq-or-lt-of-le (le-of-suc-le-suc h)))
-      split (inr e) below = rw (cheaper-keeps hand n (f n) e) (⊎-elim (λ (q : d ≡ n). rw q (ltb-false (f n) (hand .1) e)) below (eq-or-lt-of-le (le-of-suc-le-suc h)))
+      split (inl e) below =
+          rw (cheaper-takes hand n (f n) e)
+          (⊎-elim
+          (λ (q : d ≡ n). rw q (omega arith))
+          (λ (b : d < n). omega (arith, ltb-true (f n) (hand .1) e, below b))
+          (eq-or-lt-of-le (le-of-suc-le-suc h)))
+      split (inr e) below =
+          rw (cheaper-keeps hand n (f n) e)
+          (⊎-elim (λ (q : d ≡ n). rw q (ltb-false (f n) (hand .1) e)) below (eq-or-lt-of-le (le-of-suc-le-suc h)))
 
   pub cheapest-offer : (n : ℕ) → (cheapest never f n) .1 < never → Offer f n (cheapest never f n)
   unfolding cheapest
@@ -56,7 +63,8 @@ module _ (never : ℕ) (f : ℕ → ℕ) where
       wider : Offer f n hand → Offer f (suc n) hand
       wider o = record { below = omega (arith, o .below); costs = o .costs; first = o .first }
 
-      split : (ltb (f n) (hand .1) ≡ true) ⊎ (ltb (f n) (hand .1) ≡ false) → (hand .1 < never → Offer f n hand) → Offer f (suc n) (cheaper hand n (f n))
+      split : (ltb (f n) (hand .1) ≡ true) ⊎ (ltb (f n) (hand .1) ≡ false) → (hand .1 < never → Offer f n hand) →
+          Offer f (suc n) (cheaper hand n (f n))
       split (inl e) earlier =
           rw (cheaper-takes hand n (f n) e)
           (record {

@@ -11,26 +11,24 @@ use borrow.Author.Tests.{eqb-true, eq-eqb}
 use Rattle.route.specs.Route.{cellAt}
 use Rattle.route.specs.Conflict.{VertexConflict, SwapConflict, Conflict, ConflictFree}
 use Rattle.route.specs.Arrival.{meets, swaps, conflicts}
-use Rattle.route.proofs.Tests.{true-false-absurd, not-true-is-false, and-both, and-fst, and-snd, or-cases, or-inl, or-inr}
+use Rattle.route.proofs.Tests.{true-false-absurd, not-true-is-false, or-cases, or-inl, or-inr, eqbs-say, eqbs-hold}
 
 module _ (a b : List ℕ) where
   pub swap-says : (t : ℕ) → (eqb (cellAt a t) (cellAt b (suc t)) && eqb (cellAt a (suc t)) (cellAt b t)) ≡ true → SwapConflict a b t
   unfolding SwapConflict
-  swap-says t e = (
-    eqb-true (cellAt a t) (cellAt b (suc t)) (and-fst (eqb (cellAt a t) (cellAt b (suc t))) (eqb (cellAt a (suc t)) (cellAt b t)) e),
-    eqb-true (cellAt a (suc t)) (cellAt b t) (and-snd (eqb (cellAt a t) (cellAt b (suc t))) (eqb (cellAt a (suc t)) (cellAt b t)) e),
-  )
+  swap-says t e = eqbs-say (cellAt a t) (cellAt b (suc t)) (cellAt a (suc t)) (cellAt b t) e
 
   pub swap-holds : (t : ℕ) → SwapConflict a b t → (eqb (cellAt a t) (cellAt b (suc t)) && eqb (cellAt a (suc t)) (cellAt b t)) ≡ true
   unfolding SwapConflict
-  swap-holds t h = and-both (eq-eqb (cellAt a t) (cellAt b (suc t)) (h .0)) (eq-eqb (cellAt a (suc t)) (cellAt b t) (h .1))
+  swap-holds t h = eqbs-hold (cellAt a t) (cellAt b (suc t)) (cellAt a (suc t)) (cellAt b t) h
 
   meets-says : (n : ℕ) → meets a b n ≡ true → (t : ℕ) × (t < n) × VertexConflict a b t
   unfolding meets VertexConflict
   meets-says zero e = true-false-absurd e refl
   meets-says (suc n) e = split (or-cases (meets a b n) (eqb (cellAt a n) (cellAt b n)) e) (λ (h : meets a b n ≡ true). meets-says n h)
     where
-      split : (meets a b n ≡ true) ⊎ (eqb (cellAt a n) (cellAt b n) ≡ true) → (meets a b n ≡ true → (t : ℕ) × (t < n) × VertexConflict a b t) → (t : ℕ) × (t < suc n) × VertexConflict a b t
+      split : (meets a b n ≡ true) ⊎ (eqb (cellAt a n) (cellAt b n) ≡ true) →
+          (meets a b n ≡ true → (t : ℕ) × (t < n) × VertexConflict a b t) → (t : ℕ) × (t < suc n) × VertexConflict a b t
       split (inl h) below = ((below h) .0, omega (arith, (below h) .1), (below h) .2)
       split (inr h) below = (n, omega arith, eqb-true (cellAt a n) (cellAt b n) h)
 
@@ -51,7 +49,8 @@ module _ (a b : List ℕ) where
       here : Bool
       here = eqb (cellAt a n) (cellAt b (suc n)) && eqb (cellAt a (suc n)) (cellAt b n)
 
-      split : (swaps a b n ≡ true) ⊎ (here ≡ true) → (swaps a b n ≡ true → (t : ℕ) × (t < n) × SwapConflict a b t) → (t : ℕ) × (t < suc n) × SwapConflict a b t
+      split : (swaps a b n ≡ true) ⊎ (here ≡ true) → (swaps a b n ≡ true → (t : ℕ) × (t < n) × SwapConflict a b t) →
+          (t : ℕ) × (t < suc n) × SwapConflict a b t
       split (inl h) below = ((below h) .0, omega (arith, (below h) .1), (below h) .2)
       split (inr h) below = (n, omega arith, swap-says n h)
 
@@ -71,7 +70,8 @@ module _ (a b : List ℕ) where
   unfolding conflicts Conflict
   conflicts-says H e = split (or-cases (meets a b (suc H)) (swaps a b H) e)
     where
-      split : (meets a b (suc H) ≡ true) ⊎ (swaps a b H ≡ true) → ((t : ℕ) × (t ≤ H) × VertexConflict a b t) ⊎ ((t : ℕ) × (t < H) × SwapConflict a b t)
+      split : (meets a b (suc H) ≡ true) ⊎ (swaps a b H ≡ true) →
+          ((t : ℕ) × (t ≤ H) × VertexConflict a b t) ⊎ ((t : ℕ) × (t < H) × SwapConflict a b t)
       split (inl h) = inl ((meets-says (suc H) h) .0, omega (arith, (meets-says (suc H) h) .1), (meets-says (suc H) h) .2)
       split (inr h) = inr (swaps-says H h)
 

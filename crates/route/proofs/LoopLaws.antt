@@ -5,7 +5,7 @@ use native.Mathlib.Numerals.{add-one}
 use mathlib.Core.Bool.{Bool, true, false, _&&_, _||_, or-false}
 use mathlib.Core.List.{List}
 use mathlib.Core.Logic.{_⊎_, inl, inr}
-use mathlib.Core.Path.{_≡_, refl, sym, ap, subst, _∙_}
+use mathlib.Core.Path.{_≡_, refl, sym, ap, _∙_}
 use lib.Dec.{eqb}
 use lib.ListN.{getD}
 use borrow.Author.Tests.{ne-eqb}
@@ -42,7 +42,8 @@ module _ (a b : List ℕ) where
   unfolding meets cellAt
   meets-turn t e h = rw (add-one, meets) (rw (e, ne-eqb (getD a t 0) (getD b t 0) h))
 
-  pub swaps-turn : (t : ℕ) → swaps a b t ≡ false → ((getD a t 0 ≡ getD b (t + 1) 0) × (getD a (t + 1) 0 ≡ getD b t 0) → ⊥) → swaps a b (t + 1) ≡ false
+  pub swaps-turn : (t : ℕ) → swaps a b t ≡ false → ((getD a t 0 ≡ getD b (t + 1) 0) × (getD a (t + 1) 0 ≡ getD b t 0) → ⊥) →
+      swaps a b (t + 1) ≡ false
   unfolding swaps cellAt SwapConflict
   swaps-turn t e h = rw (add-one, swaps) (rw e (not-true-is-false here (λ k. (rw add-one at h) (swap-says a b t k))))
     where
@@ -53,16 +54,25 @@ module _ (a b : List ℕ) where
   unfolding cellAt VertexConflict Conflict
   vertex-found t last h l q e = sym (conflicts-holds a b h (inl (t, omega arith, e)))
 
-  pub swap-found : (t last h : ℕ) → t < last → last ≡ h → getD a t 0 ≡ getD b (t + 1) 0 → getD a (t + 1) 0 ≡ getD b t 0 → true ≡ conflicts h a b
+  pub swap-found : (t last h : ℕ) → t < last → last ≡ h → getD a t 0 ≡ getD b (t + 1) 0 → getD a (t + 1) 0 ≡ getD b t 0 →
+      true ≡ conflicts h a b
   unfolding cellAt SwapConflict Conflict
   swap-found t last h l q e f = sym (conflicts-holds a b h (inr (t, omega arith, (rw add-one at e, rw add-one at f))))
 
-  pub last-decides : (t last h : ℕ) → t ≤ last → last ≤ t → last ≡ h → meets a b t ≡ false → swaps a b t ≡ false → eqb (getD a last 0) (getD b last 0) ≡ conflicts h a b
+  pub last-decides : (t last h : ℕ) → t ≤ last → last ≤ t → last ≡ h → meets a b t ≡ false → swaps a b t ≡ false →
+      eqb (getD a last 0) (getD b last 0) ≡ conflicts h a b
   unfolding conflicts meets cellAt
-  last-decides t last h l k q m s = rw q (sym (ap (λ (x : Bool). x || here || swaps a b h) (subst (λ (n : ℕ). meets a b n ≡ false) same m) ∙ ap (λ (x : Bool). here || x) (subst (λ (n : ℕ). swaps a b n ≡ false) same s) ∙ or-false here))
+  last-decides t last h l k q m s =
+      rw q (sym (ap (λ (x : Bool). x || here || swaps a b h) no-meet ∙ ap (λ (x : Bool). here || x) no-swap ∙ or-false here))
     where
       same : t ≡ h
       same = omega arith
 
       here : Bool
       here = eqb (getD a h 0) (getD b h 0)
+
+      no-meet : meets a b h ≡ false
+      no-meet = rw same at m
+
+      no-swap : swaps a b h ≡ false
+      no-swap = rw same at s

@@ -22,7 +22,8 @@ use Rattle.route.proofs.Leads.{Leads, leads-same, leads-best}
 use Rattle.route.proofs.WalkRoute.{route-length, route-at, route-blank}
 
 -- The walk over any rule leads to the goal.
-walk-leads : (cells goal H : ℕ) (ok : Rule) (c : ℕ) → Inside cells ok → val cells goal H ok c ≤ H → Leads goal H ok c (val cells goal H ok c) (trail cells goal H ok c)
+walk-leads : (cells goal H : ℕ) (ok : Rule) (c : ℕ) → Inside cells ok → val cells goal H ok c ≤ H →
+    Leads goal H ok c (val cells goal H ok c) (trail cells goal H ok c)
 walk-leads cells goal H ok c ins reached =
     record {
       way = (walked cells goal H ok c reached) .way;
@@ -32,47 +33,63 @@ walk-leads cells goal H ok c ins reached =
     }
 
 module _ (task : Task) (vs : List View) where
+  -- The rule of moves against the views.
+  abbrev ok : Rule
+  ok = allowed task vs
+
+  -- The walk from the start, by beat.
+  abbrev along : ℕ → ℕ
+  along = trail (task .cells) (task .goal) (task .horizon) ok (task .start)
+
   -- The least arrival that the search finds.
   abbrev value : ℕ
-  value = val (task .cells) (task .goal) (task .horizon) (allowed task vs) (task .start)
+  value = val (task .cells) (task .goal) (task .horizon) ok (task .start)
 
-  allowed-inside : Inside (task .cells) (allowed task vs)
-  allowed-inside t c d e = (allowed-says task vs t c d e) .inside
+  -- The test of `best`.
+  abbrev found : Bool
+  found = startClear task vs && leb value (task .horizon)
 
-  walk-best : task .horizon ≤ 63 → startClear task vs ≡ true → value ≤ task .horizon → BestRoute task vs (walkFrom task (allowed task vs))
-  walk-best short clear reached = leads-best task vs (walkFrom task (allowed task vs)) value rule (leads-same leads (route-at task (allowed task vs)))
+  allowed-inside : Inside (task .cells) ok
+  allowed-inside t c d e = (allowed-says task vs t c d e) .stands .inside
+
+  walk-best : task .horizon ≤ 63 → startClear task vs ≡ true → value ≤ task .horizon → BestRoute task vs (walkFrom task ok)
+  walk-best short clear reached = leads-best task vs (walkFrom task ok) value rule (leads-same leads (route-at task ok))
     where
-      leads : Leads (task .goal) (task .horizon) (allowed task vs) (task .start) value (trail (task .cells) (task .goal) (task .horizon) (allowed task vs) (task .start))
-      leads = walk-leads (task .cells) (task .goal) (task .horizon) (allowed task vs) (task .start) allowed-inside reached
+      leads : Leads (task .goal) (task .horizon) ok (task .start) value along
+      leads = walk-leads (task .cells) (task .goal) (task .horizon) ok (task .start) allowed-inside reached
 
-      rule : ByRule task vs (walkFrom task (allowed task vs))
+      rule : ByRule task vs (walkFrom task ok)
       rule =
           record {
-            long = route-length task (allowed task vs) short;
+            long = route-length task ok short;
             starts = clear;
-            begins = route-at task (allowed task vs) 0 (omega arith) ∙ trail-start (task .cells) (task .goal) (task .horizon) (allowed task vs) (task .start);
-            way = way-same (leads .way) (route-at task (allowed task vs));
-            blank = route-blank task (allowed task vs);
+            begins = route-at task ok 0 (omega arith) ∙ trail-start (task .cells) (task .goal) (task .horizon) ok (task .start);
+            way = way-same (leads .way) (route-at task ok);
+            blank = route-blank task ok;
           }
 
   -- Where a route is admissible, `best` finds one.
-  admissible-found : (q : List ℕ) → Admissible task vs q → (startClear task vs && leb value (task .horizon)) ≡ true
-  admissible-found q adm = and-both (by .starts) (le-leb value (task .horizon) reached)
+  admissible-found : (q : List ℕ) → Admissible task vs q → found ≡ true
+  admissible-found q adm = and-both (by .starts) (le-leb value (task .horizon) (rw (by .begins) at least))
     where
       by : ByRule task vs q
       by = admissible-by-rule task vs q adm
 
-      reached : value ≤ task .horizon
-      reached =
-          rw (by .begins)
-          at (val-least (task .cells) (task .goal) (task .horizon) (allowed task vs) (cellAt q) (task .horizon) allowed-inside (by .way) (way-held-last (by .way)))
+      least : val (task .cells) (task .goal) (task .horizon) ok (cellAt q 0) ≤ task .horizon
+      least =
+          val-least (task .cells) (task .goal) (task .horizon) ok (cellAt q) (task .horizon) allowed-inside (by .way)
+          (way-held-last (by .way))
 
   pub best-meets : task .horizon ≤ 63 → Best task vs (best task vs)
   unfolding best Best
-  best-meets short = split (true-or-false (startClear task vs && leb value (task .horizon)))
+  best-meets short = split (true-or-false found)
     where
-      split : ((startClear task vs && leb value (task .horizon)) ≡ true) ⊎ ((startClear task vs && leb value (task .horizon)) ≡ false) → Best task vs (best task vs)
-      split (inl e) =
-          rw (e, best)
-          (walk-best short (and-fst (startClear task vs) (leb value (task .horizon)) e) (leb-true value (task .horizon) (and-snd (startClear task vs) (leb value (task .horizon)) e)))
+      clear : found ≡ true → startClear task vs ≡ true
+      clear e = and-fst (startClear task vs) (leb value (task .horizon)) e
+
+      reached : found ≡ true → value ≤ task .horizon
+      reached e = leb-true value (task .horizon) (and-snd (startClear task vs) (leb value (task .horizon)) e)
+
+      split : (found ≡ true) ⊎ (found ≡ false) → Best task vs (best task vs)
+      split (inl e) = rw (e, best) (walk-best short (clear e) (reached e))
       split (inr e) = rw (e, best) (λ q adm. true-false-absurd (admissible-found q adm) e)

@@ -46,5 +46,6 @@ pub record Backward (ok : Rule) (goal a : ℕ) (B : Sets) : Type 0 where
 -- Greedy walk: where some allowed cell of B comes next, x takes the smallest; from beat a through H it is at the goal.
 pub record Greedy (ok : Rule) (start goal H a : ℕ) (B : Sets) (x : ℕ → ℕ) : Type 0 where
   pub begins : x 0 ≡ start
-  pub takes : (t d : ℕ) → t < a → ok t (x t) d ≡ true → B (suc t) d ≡ true → (ok t (x t) (x (suc t)) ≡ true) × (B (suc t) (x (suc t)) ≡ true) × (x (suc t) ≤ d)
+  pub takes : (t d : ℕ) → t < a → ok t (x t) d ≡ true → B (suc t) d ≡ true →
+      (ok t (x t) (x (suc t)) ≡ true) × (B (suc t) (x (suc t)) ≡ true) × (x (suc t) ≤ d)
   pub stays : (t : ℕ) → a ≤ t → t ≤ H → x t ≡ goal

@@ -8,9 +8,9 @@ use lib.ListN.{length}
 use Rattle.route.specs.Route.{cellAt, Answer, none, route, View, Task}
 use Rattle.route.specs.Best.{Admissible, BestRoute, Best}
 use Rattle.route.specs.Moves.{allowed, startClear}
-use Rattle.route.specs.Search.{best}
+use Rattle.route.specs.Search.{Rule, best}
 use Rattle.route.proofs.Tests.{true-false-absurd}
-use Rattle.route.proofs.Ways.{way-held-last}
+use Rattle.route.proofs.Ways.{Held, way-held-last}
 use Rattle.route.proofs.AdmissibleLaws.{ByRule, admissible-by-rule}
 use Rattle.route.proofs.Leads.{Leads, leads-best}
 use Rattle.route.proofs.Meets.{best-meets}
@@ -38,16 +38,34 @@ module _ (task : Task) (vs : List View) where
   found-best-route F B a r f = leads-best task vs r a rule leads
     where
       leads : Leads (task .goal) (task .horizon) (allowed task vs) (task .start) a (cellAt r)
-      leads = greedy-leads (allowed task vs) (task .start) (task .goal) (task .horizon) a F B (cellAt r) (f .forward) (f .least) (f .backward) (f .greedy)
+      leads =
+          greedy-leads (allowed task vs) (task .start) (task .goal) (task .horizon) a F B (cellAt r) (f .forward) (f .least) (f .backward)
+          (f .greedy)
 
       rule : ByRule task vs r
       rule = record { long = f .long; starts = f .clear; begins = f .greedy .begins; way = leads .way; blank = f .blank }
 
   not-found-none : (F : Sets) → NotFound task vs F → (q : List ℕ) → Admissible task vs q → ⊥
-  not-found-none F n q adm = n .never (task .horizon) (omega arith) (held-reaches (allowed task vs) (task .start) (task .goal) (task .horizon) (task .horizon) F (cellAt q) (task .horizon) (n .forward) (by .way) (by .begins) (way-held-last (by .way)) (omega arith))
+  not-found-none F n q adm =
+      n .never H (omega arith) (held-reaches ok start goal H H F (cellAt q) H (n .forward) (by .way) (by .begins) last (omega arith))
     where
+      ok : Rule
+      ok = allowed task vs
+
+      start : ℕ
+      start = task .start
+
+      goal : ℕ
+      goal = task .goal
+
+      H : ℕ
+      H = task .horizon
+
       by : ByRule task vs q
       by = admissible-by-rule task vs q adm
+
+      last : Held goal H (cellAt q) H
+      last = way-held-last (by .way)
 
   -- The three outcomes of a search, each equal to `best`.
   pub found-best : task .horizon ≤ 63 → (F B : Sets) (a : ℕ) (r : List ℕ) → Found task vs F B a r → best task vs ≡ route r
@@ -60,4 +78,6 @@ module _ (task : Task) (vs : List View) where
 
   pub start-taken-best : task .horizon ≤ 63 → startClear task vs ≡ false → best task vs ≡ none
   unfolding Best
-  start-taken-best short e = best-unique task vs (best task vs) none (best-meets task vs short) (λ q adm. true-false-absurd ((admissible-by-rule task vs q adm) .starts) e)
+  start-taken-best short e =
+      best-unique task vs (best task vs) none (best-meets task vs short)
+      (λ q adm. true-false-absurd ((admissible-by-rule task vs q adm) .starts) e)

@@ -1,7 +1,10 @@
--- Laws of Bool tests: a test is true or false, and what a conjunction or a disjunction of tests says.
+-- Laws of Bool tests: a test is true or false, what a conjunction or a disjunction of tests says, and cases on two numbers.
+use Prim.Native.Nat.{ℕ, _≤_, _<_}
 use mathlib.Core.Bool.{Bool, true, false, _&&_, _||_, not, true≢false}
-use mathlib.Core.Logic.{_⊎_, inl, inr}
+use mathlib.Core.Logic.{_⊎_, inl, inr, ⊎-elim}
 use mathlib.Core.Path.{_≡_, refl, sym, _∙_}
+use lib.Dec.{ltb, eqb}
+use borrow.Author.Tests.{ltb-true, ltb-false, eqb-true, eqb-false, eq-eqb}
 
 pub true-or-false : (b : Bool) → (b ≡ true) ⊎ (b ≡ false)
 true-or-false true = inl refl
@@ -43,3 +46,17 @@ not-is-true false h = refl
 pub not-refutes : (b : Bool) → not b ≡ true → b ≡ true → ⊥
 not-refutes true e h = true-false-absurd e refl
 not-refutes false e h = true-false-absurd h refl
+
+pub lt-or-le : (m n : ℕ) → (m < n) ⊎ (n ≤ m)
+lt-or-le m n =
+    ⊎-elim (λ (e : ltb m n ≡ true). inl (ltb-true m n e)) (λ (e : ltb m n ≡ false). inr (ltb-false m n e)) (true-or-false (ltb m n))
+
+pub eq-or-ne : (m n : ℕ) → (m ≡ n) ⊎ (m ≡ n → ⊥)
+eq-or-ne m n =
+    ⊎-elim (λ (e : eqb m n ≡ true). inl (eqb-true m n e)) (λ (e : eqb m n ≡ false). inr (eqb-false m n e)) (true-or-false (eqb m n))
+
+pub eqbs-say : (a b c d : ℕ) → (eqb a b && eqb c d) ≡ true → (a ≡ b) × (c ≡ d)
+eqbs-say a b c d e = (eqb-true a b (and-fst (eqb a b) (eqb c d) e), eqb-true c d (and-snd (eqb a b) (eqb c d) e))
+
+pub eqbs-hold : (a b c d : ℕ) → (a ≡ b) × (c ≡ d) → (eqb a b && eqb c d) ≡ true
+eqbs-hold a b c d h = and-both (eq-eqb a b (h .0)) (eq-eqb c d (h .1))

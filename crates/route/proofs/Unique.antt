@@ -1,39 +1,39 @@
 -- The best answer is one, and depends on the views only through what they occupy.
 use Prim.Native.Nat.{ℕ, zero, suc, _≤_, _<_}
 use native.Mathlib.Omega.{arith}
-use mathlib.Core.Bool.{Bool, true, false}
-use mathlib.Core.List.{List, [], _∷_, _++_, List·Memᴰ, List·Memᴰ·tail, Memᴰ·append-left, Memᴰ·append-right, List·Memᴰ·append-cases, List·Memᴰ·cases-cons}
+use mathlib.Core.List.{List, _∷_, _++_, List·Memᴰ, List·Memᴰ·tail, List·Memᴰ·append-cases, List·Memᴰ·cases-cons}
+use mathlib.Core.List.{Memᴰ·append-left, Memᴰ·append-right}
 use mathlib.Core.Logic.{_⊎_, inl, inr, ⊎-elim}
 use mathlib.Core.Path.{_≡_, refl, sym, ap, subst, _∙_}
-use lib.Dec.{ltb}
-use borrow.Author.Tests.{ltb-true, ltb-false}
 use Rattle.route.specs.Route.{cellAt, Answer, none, route, View, unheard, heard, Task}
 use Rattle.route.specs.Conflict.{ClearOfView, ClearOf}
 use Rattle.route.specs.Best.{Arrives, Before, Admissible, BestRoute, Best}
 use Rattle.route.specs.Arrival.{arrivalOf}
 use Rattle.route.specs.Search.{best}
-use Rattle.route.proofs.Tests.{true-or-false}
+use Rattle.route.proofs.Tests.{lt-or-le}
 use Rattle.route.proofs.ArrivalLaws.{arrival-arrives}
 use Rattle.route.proofs.Meets.{best-meets}
 
 -- Two routes are not each before the other.
 before-asym : (r q : List ℕ) → Before r q → Before q r → ⊥
-before-asym r q a b = split (true-or-false (ltb (a .beat) (b .beat))) (true-or-false (ltb (b .beat) (a .beat)))
+before-asym r q a b = split (lt-or-le (a .beat) (b .beat)) (lt-or-le (b .beat) (a .beat))
   where
     meet : a .beat ≡ b .beat → ⊥
     meet e = omega (arith, a .smaller, subst (λ (t : ℕ). cellAt q t < cellAt r t) (sym e) (b .smaller))
 
-    split : (ltb (a .beat) (b .beat) ≡ true) ⊎ (ltb (a .beat) (b .beat) ≡ false) → (ltb (b .beat) (a .beat) ≡ true) ⊎ (ltb (b .beat) (a .beat) ≡ false) → ⊥
-    split (inl e) h = omega (arith, a .smaller, b .same (a .beat) (ltb-true (a .beat) (b .beat) e))
-    split (inr e) (inl h) = omega (arith, b .smaller, a .same (b .beat) (ltb-true (b .beat) (a .beat) h))
-    split (inr e) (inr h) = meet (omega (arith, ltb-false (a .beat) (b .beat) e, ltb-false (b .beat) (a .beat) h))
+    split : (a .beat < b .beat) ⊎ (b .beat ≤ a .beat) → (b .beat < a .beat) ⊎ (a .beat ≤ b .beat) → ⊥
+    split (inl l) k = omega (arith, a .smaller, b .same (a .beat) l)
+    split (inr l) (inl k) = omega (arith, b .smaller, a .same (b .beat) k)
+    split (inr l) (inr k) = meet (omega arith)
 
 module _ (task : Task) where
-  arrives : (vs : List View) (r : List ℕ) → Admissible task vs r → Arrives (task .goal) (task .horizon) r (arrivalOf (task .goal) r (task .horizon))
+  arrives : (vs : List View) (r : List ℕ) → Admissible task vs r →
+      Arrives (task .goal) (task .horizon) r (arrivalOf (task .goal) r (task .horizon))
   arrives vs r adm = arrival-arrives (task .goal) r (task .horizon) (adm .is-route .ends)
 
   route-unique : (vs : List View) (r q : List ℕ) → BestRoute task vs r → BestRoute task vs q → r ≡ q
-  route-unique vs r q x y = split (x .first q a (y .admissible) hr (rw (← equal) at hq)) (y .first r a (x .admissible) (rw (← equal) at hq) hr)
+  route-unique vs r q x y =
+      split (x .first q a (y .admissible) hr (rw (← equal) at hq)) (y .first r a (x .admissible) (rw (← equal) at hq) hr)
     where
       a : ℕ
       a = arrivalOf (task .goal) r (task .horizon)
@@ -80,15 +80,19 @@ module _ (task : Task) where
       }
 
   pub best-same-clear : task .horizon ≤ 63 → (vs ws : List View) → Covers vs ws → Covers ws vs → best task vs ≡ best task ws
-  best-same-clear short vs ws to from = best-unique ws (best task vs) (best task ws) (best-carry vs ws to from (best task vs) (best-meets task vs short)) (best-meets task ws short)
+  best-same-clear short vs ws to from =
+      best-unique ws (best task vs) (best task ws) (best-carry vs ws to from (best task vs) (best-meets task vs short))
+      (best-meets task ws short)
 
   -- Order and repetition of the views do not matter.
-  pub best-same-views : task .horizon ≤ 63 → (vs ws : List View) → ((v : View) → List·Memᴰ v vs → List·Memᴰ v ws) → ((v : View) → List·Memᴰ v ws → List·Memᴰ v vs) → best task vs ≡ best task ws
+  pub best-same-views : task .horizon ≤ 63 → (vs ws : List View) → ((v : View) → List·Memᴰ v vs → List·Memᴰ v ws) →
+      ((v : View) → List·Memᴰ v ws → List·Memᴰ v vs) → best task vs ≡ best task ws
   unfolding ClearOf
   best-same-views short vs ws to from = best-same-clear short vs ws (λ r c v m. c v (from v m)) (λ r c v m. c v (to v m))
 
   -- A view that nothing conflicts with may be left out.
-  pub best-left-out : task .horizon ≤ 63 → (vs ws : List View) (v : View) → ((r : List ℕ) → ClearOfView (task .horizon) r v) → best task (vs ++ (v ∷ ws)) ≡ best task (vs ++ ws)
+  pub best-left-out : task .horizon ≤ 63 → (vs ws : List View) (v : View) → ((r : List ℕ) → ClearOfView (task .horizon) r v) →
+      best task (vs ++ (v ∷ ws)) ≡ best task (vs ++ ws)
   unfolding ClearOf
   best-left-out short vs ws v silent = best-same-clear short (vs ++ (v ∷ ws)) (vs ++ ws) fewer more
     where
@@ -104,4 +108,6 @@ module _ (task : Task) where
       last r c u (inr m) = c u (Memᴰ·append-right vs m)
 
       more : (r : List ℕ) → ClearOf (task .horizon) r (vs ++ ws) → ClearOf (task .horizon) r (vs ++ (v ∷ ws))
-      more r c u m = ⊎-elim (λ (k : List·Memᴰ u vs). c u (Memᴰ·append-left ws k)) (λ (k : List·Memᴰ u (v ∷ ws)). last r c u (List·Memᴰ·cases-cons k)) (List·Memᴰ·append-cases vs m)
+      more r c u m =
+          ⊎-elim (λ (k : List·Memᴰ u vs). c u (Memᴰ·append-left ws k)) (λ (k : List·Memᴰ u (v ∷ ws)). last r c u (List·Memᴰ·cases-cons k))
+          (List·Memᴰ·append-cases vs m)

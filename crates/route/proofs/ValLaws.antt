@@ -39,7 +39,8 @@ module _ (cells goal : ℕ) where
       rw (cost-allowed (ok 0 c) (suc k) (val cells goal k (later ok)) d e)
       at (cheapest-le (suc k) (cost (ok 0 c) (suc k) (val cells goal k (later ok))) cells d h)
 
-  pub val-least : (k : ℕ) (ok : Rule) (p : ℕ → ℕ) (j : ℕ) → Inside cells ok → Way goal k ok p → Held goal k p j → val cells goal k ok (p 0) ≤ j
+  pub val-least : (k : ℕ) (ok : Rule) (p : ℕ → ℕ) (j : ℕ) → Inside cells ok → Way goal k ok p → Held goal k p j →
+      val cells goal k ok (p 0) ≤ j
   unfolding val
   val-least zero ok p j ins w h = rw (eq-eqb (p 0) goal (w .ends), val) (omega arith)
   val-least (suc k) ok p zero ins w h =

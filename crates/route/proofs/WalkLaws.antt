@@ -22,7 +22,8 @@ pub record Next (cells goal k : ℕ) (ok : Rule) (c : ℕ) : Type 0 where
   pub small : (offer cells goal k ok c) .1 ≤ k
   pub moves : ok 0 c ((offer cells goal k ok c) .0) ≡ true
   pub value : val cells goal k (later ok) ((offer cells goal k ok c) .0) ≡ (offer cells goal k ok c) .1
-  pub first : (d : ℕ) → d < (offer cells goal k ok c) .0 → (offer cells goal k ok c) .1 < cost (ok 0 c) (suc k) (val cells goal k (later ok)) d
+  pub first : (d : ℕ) → d < (offer cells goal k ok c) .0 →
+      (offer cells goal k ok c) .1 < cost (ok 0 c) (suc k) (val cells goal k (later ok)) d
 
 -- The walk from c is a way and is at the goal from `val` on.
 pub record Walked (cells goal k : ℕ) (ok : Rule) (c : ℕ) : Type 0 where
@@ -47,7 +48,8 @@ module _ (cells goal : ℕ) where
       split (inr e) = omega arith
 
   pub next-of : (k : ℕ) (ok : Rule) (c : ℕ) → (offer cells goal k ok c) .1 ≤ k → Next cells goal k ok c
-  next-of k ok c h = record { small = h; moves = move; value = sym (cost-allowed (ok 0 c) (suc k) later-val n move) ∙ found .costs; first = found .first }
+  next-of k ok c h =
+      record { small = h; moves = move; value = sym (cost-allowed (ok 0 c) (suc k) later-val n move) ∙ found .costs; first = found .first }
     where
       later-val : ℕ → ℕ
       later-val = val cells goal k (later ok)
@@ -59,7 +61,10 @@ module _ (cells goal : ℕ) where
       found = cheapest-offer (suc k) (cost (ok 0 c) (suc k) later-val) cells (omega arith)
 
       move : ok 0 c n ≡ true
-      move = ⊎-elim (λ (e : ok 0 c n ≡ true). e) (λ (e : ok 0 c n ≡ false). absurd (omega (arith, cost-refused (ok 0 c) (suc k) later-val n e, found .costs))) (true-or-false (ok 0 c n))
+      move =
+          ⊎-elim (λ (e : ok 0 c n ≡ true). e)
+          (λ (e : ok 0 c n ≡ false). absurd (omega (arith, cost-refused (ok 0 c) (suc k) later-val n e, found .costs)))
+          (true-or-false (ok 0 c n))
 
   walked-last : (ok : Rule) (c : ℕ) → val cells goal 0 ok c ≤ 0 → Walked cells goal 0 ok c
   unfolding val walk
@@ -70,12 +75,15 @@ module _ (cells goal : ℕ) where
       }
     where
       there : c ≡ goal
-      there = ⊎-elim (λ (e : eqb c goal ≡ true). eqb-true c goal e) (λ (e : eqb c goal ≡ false). absurd (omega (arith, rw (e, val) at h))) (true-or-false (eqb c goal))
+      there =
+          ⊎-elim (λ (e : eqb c goal ≡ true). eqb-true c goal e) (λ (e : eqb c goal ≡ false). absurd (omega (arith, rw (e, val) at h)))
+          (true-or-false (eqb c goal))
 
       only : (i : ℕ) → i ≤ 0 → i ≡ 0
       only i b = omega arith
 
-  walked-more : (k : ℕ) (ok : Rule) (c : ℕ) → Next cells goal k ok c → Walked cells goal k (later ok) ((offer cells goal k ok c) .0) → Walked cells goal (suc k) ok c
+  walked-more : (k : ℕ) (ok : Rule) (c : ℕ) → Next cells goal k ok c → Walked cells goal k (later ok) ((offer cells goal k ok c) .0) →
+      Walked cells goal (suc k) ok c
   unfolding val walk
   walked-more k ok c next w = record { way = record { steps = step; ends = w .way .ends }; held = hold (beats-cases (eqb c goal) m) }
     where
@@ -97,13 +105,15 @@ module _ (cells goal : ℕ) where
       held-later zero l b = absurd (omega arith)
       held-later (suc i) l b = after m (omega arith) i (omega arith) (omega arith)
 
-      hold : ((eqb c goal ≡ true) × (m ≡ 0) × (beatsFrom (eqb c goal) m ≡ 0)) ⊎ (beatsFrom (eqb c goal) m ≡ suc m) → Held goal (suc k) (trail cells goal (suc k) ok c) (beatsFrom (eqb c goal) m)
+      hold : ((eqb c goal ≡ true) × (m ≡ 0) × (beatsFrom (eqb c goal) m ≡ 0)) ⊎ (beatsFrom (eqb c goal) m ≡ suc m) →
+          Held goal (suc k) (trail cells goal (suc k) ok c) (beatsFrom (eqb c goal) m)
       hold (inl e) = rw (e .2) (record { within = omega arith; held = held-now (eqb-true c goal (e .0)) (e .1) })
       hold (inr e) = rw e (record { within = omega (arith, next .small); held = held-later })
 
   pub walked : (k : ℕ) (ok : Rule) (c : ℕ) → val cells goal k ok c ≤ k → Walked cells goal k ok c
   walked zero ok c h = walked-last ok c h
-  walked (suc k) ok c h = walked-more k ok c next (walked k (later ok) ((offer cells goal k ok c) .0) (omega (arith, next .value, next .small)))
+  walked (suc k) ok c h =
+      walked-more k ok c next (walked k (later ok) ((offer cells goal k ok c) .0) (omega (arith, next .value, next .small)))
     where
       next : Next cells goal k ok c
       next = next-of k ok c (next-small k ok c h)

@@ -26,7 +26,9 @@ module _ (l : List ℕ) (k : ℕ) where
   padded-at t h = List·getD-append l (replicate k 0) 0 t h
 
   padded-blank : (t : ℕ) → length l ≤ t → getD (l ++ replicate k 0) t 0 ≡ 0
-  padded-blank t h = subst (λ (n : ℕ). getD (l ++ replicate k 0) n 0 ≡ 0) (add-sub-of-le h) (getD-append-add l (replicate k 0) (t - length l) 0 ∙ zeros-at k (t - length l))
+  padded-blank t h =
+      subst (λ (n : ℕ). getD (l ++ replicate k 0) n 0 ≡ 0) (add-sub-of-le h)
+      (getD-append-add l (replicate k 0) (t - length l) 0 ∙ zeros-at k (t - length l))
 
   padded-length : length (l ++ replicate k 0) ≡ length l + k
   padded-length = length-append l (replicate k 0) ∙ ap (λ (n : ℕ). length l + n) (length-replicate k 0)
@@ -37,12 +39,16 @@ module _ (task : Task) (ok : Rule) where
 
   pub route-length : task .horizon ≤ 63 → length (walkFrom task ok) ≡ 64
   unfolding walkFrom
-  route-length h = padded-length (walk (task .cells) (task .goal) (task .horizon) ok (task .start)) (63 - task .horizon) ∙ omega (arith, cells-length)
+  route-length h =
+      padded-length (walk (task .cells) (task .goal) (task .horizon) ok (task .start)) (63 - task .horizon) ∙ omega (arith, cells-length)
 
-  pub route-at : (t : ℕ) → t ≤ task .horizon → cellAt (walkFrom task ok) t ≡ trail (task .cells) (task .goal) (task .horizon) ok (task .start) t
+  pub route-at : (t : ℕ) → t ≤ task .horizon →
+      cellAt (walkFrom task ok) t ≡ trail (task .cells) (task .goal) (task .horizon) ok (task .start) t
   unfolding walkFrom cellAt
-  route-at t h = padded-at (walk (task .cells) (task .goal) (task .horizon) ok (task .start)) (63 - task .horizon) t (omega (arith, cells-length))
+  route-at t h =
+      padded-at (walk (task .cells) (task .goal) (task .horizon) ok (task .start)) (63 - task .horizon) t (omega (arith, cells-length))
 
   pub route-blank : (t : ℕ) → task .horizon < t → cellAt (walkFrom task ok) t ≡ 0
   unfolding walkFrom cellAt
-  route-blank t h = padded-blank (walk (task .cells) (task .goal) (task .horizon) ok (task .start)) (63 - task .horizon) t (omega (arith, cells-length))
+  route-blank t h =
+      padded-blank (walk (task .cells) (task .goal) (task .horizon) ok (task .start)) (63 - task .horizon) t (omega (arith, cells-length))

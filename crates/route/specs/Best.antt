@@ -8,7 +8,8 @@ use lib.ListN.{length}
 use Rattle.route.specs.Route.{cellAt, Answer, none, route, View, Task, SharesSide}
 use Rattle.route.specs.Conflict.{ClearOf}
 
--- r is a route of the task: 64 cells, from the start to the goal, by stays and moves across a side, in the grid and off the walls, 0 after the horizon.
+-- r is a route of the task: 64 cells, from the start to the goal, each move a stay or across a side, in the grid and off the walls,
+-- 0 after the horizon.
 pub record IsRoute (task : Task) (r : List ℕ) : Type 0 where
   pub long : length r ≡ 64
   pub begins : cellAt r 0 ≡ task .start
@@ -42,8 +43,10 @@ pub record Admissible (task : Task) (vs : List View) (q : List ℕ) : Type 0 whe
 -- r is admissible, no admissible route arrives earlier, and r comes before every other one that arrives as early.
 pub record BestRoute (task : Task) (vs : List View) (r : List ℕ) : Type 0 where
   pub admissible : Admissible task vs r
-  pub earliest : (q : List ℕ) (a b : ℕ) → Admissible task vs q → Arrives (task .goal) (task .horizon) r a → Arrives (task .goal) (task .horizon) q b → a ≤ b
-  pub first : (q : List ℕ) (a : ℕ) → Admissible task vs q → Arrives (task .goal) (task .horizon) r a → Arrives (task .goal) (task .horizon) q a → (q ≡ r) ⊎ Before r q
+  pub earliest : (q : List ℕ) (a b : ℕ) → Admissible task vs q → Arrives (task .goal) (task .horizon) r a →
+      Arrives (task .goal) (task .horizon) q b → a ≤ b
+  pub first : (q : List ℕ) (a : ℕ) → Admissible task vs q → Arrives (task .goal) (task .horizon) r a →
+      Arrives (task .goal) (task .horizon) q a → (q ≡ r) ⊎ Before r q
 
 -- The best answer: the best route, or none where no route is admissible.
 unfoldable pub Best : Task → List View → Answer → Type 0

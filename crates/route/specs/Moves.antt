@@ -30,15 +30,14 @@ unfoldable pub every : (View → Bool) → List View → Bool
 every p [] = true
 every p (v ∷ vs) = p v && every p vs
 
+-- Cell d may be stood on at beat t: it is in the grid, no wall, and no view's then.
+unfoldable pub standable : Task → List View → ℕ → ℕ → Bool
+standable task vs t d = ltb d (task .cells) && task .free d && every (vacant t d) vs
+
 -- From cell c at beat t to cell d at beat t + 1 is allowed.
 unfoldable pub allowed : Task → List View → ℕ → ℕ → ℕ → Bool
-allowed task vs t c d =
-    ltb d (task .cells)
-    && near (task .width) c d
-    && task .free d
-    && every (vacant (suc t) d) vs
-    && every (passable t c d) vs
+allowed task vs t c d = near (task .width) c d && standable task vs (suc t) d && every (passable t c d) vs
 
--- The start may be stood on at beat 0.
+-- The start may be stood on at beat 0, which no move looks at.
 unfoldable pub startClear : Task → List View → Bool
-startClear task vs = ltb (task .start) (task .cells) && task .free (task .start) && every (vacant 0 (task .start)) vs
+startClear task vs = standable task vs 0 (task .start)

@@ -48,7 +48,9 @@ cast-result : tie.Need-cast-result Inv-loop μ-loop
 cast-result c = search needs
 
 returns : tie.Need-returns Inv-loop μ-loop
-returns c = settled-ends _ _ _ _ _ _ (c .before .loop .inv .0) (c .loop-test .left) (c .before .before .last-beat .ensures .0) (c .before .loop .inv .2)
+returns c =
+    settled-ends _ _ _ _ _ _ (c .before .loop .inv .0) (c .loop-test .left) (c .before .before .last-beat .ensures .0)
+    (c .before .loop .inv .2)
 
 pub arrival-spec : {M : Type 1} → statement M
 arrival-spec =

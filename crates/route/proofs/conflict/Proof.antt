@@ -69,7 +69,9 @@ array-read-if3-2 : tie.Need-array-read-if3-2 Inv-loop μ-loop
 array-read-if3-2 c = search needs
 
 returns-2 : tie.Need-returns-2 Inv-loop μ-loop
-returns-2 c = swap-found _ _ _ _ _ (c .before .before .before .loop-test .taken) (c .before .before .before .before .before .last-beat .ensures .0) (c .before .if2 .taken) (c .if3 .taken)
+returns-2 c =
+    swap-found _ _ _ _ _ (c .before .before .before .loop-test .taken) (c .before .before .before .before .before .last-beat .ensures .0)
+    (c .before .if2 .taken) (c .if3 .taken)
 
 add-t : tie.Need-add-t Inv-loop μ-loop
 add-t c = search needs
@@ -98,7 +100,9 @@ array-read-result-2 : tie.Need-array-read-result-2 Inv-loop μ-loop
 array-read-result-2 c = search needs
 
 returns-3 : tie.Need-returns-3 Inv-loop μ-loop
-returns-3 c = last-decides _ _ _ _ _ (c .before .loop .inv .0) (c .loop-test .left) (c .before .before .last-beat .ensures .0) (c .before .loop .inv .1) (c .before .loop .inv .2)
+returns-3 c =
+    last-decides _ _ _ _ _ (c .before .loop .inv .0) (c .loop-test .left) (c .before .before .last-beat .ensures .0)
+    (c .before .loop .inv .1) (c .before .loop .inv .2)
 
 pub conflict-spec : {M : Type 1} → statement M
 conflict-spec =
