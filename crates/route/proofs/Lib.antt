@@ -2,6 +2,7 @@
 pub mod Tests
 pub mod NearLaws
 pub mod MovesLaws
+pub mod SwapLaws
 pub mod ArrivalLaws
 pub mod ConflictLaws
 pub mod Ways
@@ -14,6 +15,7 @@ pub mod Leads
 mod WalkRoute
 pub mod Meets
 pub mod Unique
+pub mod FreeLaws
 pub mod Theorems
 pub mod Sets
 pub mod SetsLaws

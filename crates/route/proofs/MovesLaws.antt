@@ -23,7 +23,7 @@ pub record Allowed (task : Task) (vs : List View) (t c d : ℕ) : Type 0 where
   pub stands : Standable task vs (suc t) d
   pub no-swap : (q : List ℕ) → List·Memᴰ (heard (route q)) vs → (c ≡ cellAt q (suc t)) × (d ≡ cellAt q t) → ⊥
 
-every-says : (p : View → Bool) (vs : List View) (v : View) → every p vs ≡ true → List·Memᴰ v vs → p v ≡ true
+pub every-says : (p : View → Bool) (vs : List View) (v : View) → every p vs ≡ true → List·Memᴰ v vs → p v ≡ true
 unfolding every
 every-says p [] v e m = absurd (List·Memᴰ·not-nil m)
 every-says p (x ∷ vs) v e m =
@@ -32,16 +32,17 @@ every-says p (x ∷ vs) v e m =
     (λ (h : List·Memᴰ v vs). every-says p vs v (and-snd (p x) (every p vs) e) h)
     (List·Memᴰ·cases-cons m)
 
-every-holds : (p : View → Bool) (vs : List View) → ((v : View) → List·Memᴰ v vs → p v ≡ true) → every p vs ≡ true
+pub every-holds : (p : View → Bool) (vs : List View) → ((v : View) → List·Memᴰ v vs → p v ≡ true) → every p vs ≡ true
 unfolding every
 every-holds p [] h = refl
 every-holds p (x ∷ vs) h = and-both (h x (List·Memᴰ·head refl)) (every-holds p vs (λ v m. h v (List·Memᴰ·tail m)))
 
-vacant-says : (t d : ℕ) (vs : List View) → every (vacant t d) vs ≡ true → (q : List ℕ) → List·Memᴰ (heard (route q)) vs → d ≡ cellAt q t → ⊥
+pub vacant-says : (t d : ℕ) (vs : List View) → every (vacant t d) vs ≡ true → (q : List ℕ) → List·Memᴰ (heard (route q)) vs →
+    d ≡ cellAt q t → ⊥
 unfolding vacant
 vacant-says t d vs e q m h = not-refutes (eqb d (cellAt q t)) (every-says (vacant t d) vs (heard (route q)) e m) (eq-eqb d (cellAt q t) h)
 
-vacant-holds : (t d : ℕ) (vs : List View) → ((q : List ℕ) → List·Memᴰ (heard (route q)) vs → d ≡ cellAt q t → ⊥) →
+pub vacant-holds : (t d : ℕ) (vs : List View) → ((q : List ℕ) → List·Memᴰ (heard (route q)) vs → d ≡ cellAt q t → ⊥) →
     every (vacant t d) vs ≡ true
 unfolding vacant
 vacant-holds t d vs h = every-holds (vacant t d) vs one
@@ -51,14 +52,14 @@ vacant-holds t d vs h = every-holds (vacant t d) vs one
     one (heard none) m = refl
     one (heard (route q)) m = not-is-true (eqb d (cellAt q t)) (λ e. h q m (eqb-true d (cellAt q t) e))
 
-passable-says : (t c d : ℕ) (vs : List View) → every (passable t c d) vs ≡ true → (q : List ℕ) → List·Memᴰ (heard (route q)) vs →
+pub passable-says : (t c d : ℕ) (vs : List View) → every (passable t c d) vs ≡ true → (q : List ℕ) → List·Memᴰ (heard (route q)) vs →
     (c ≡ cellAt q (suc t)) × (d ≡ cellAt q t) → ⊥
 unfolding passable
 passable-says t c d vs e q m h =
     not-refutes (eqb c (cellAt q (suc t)) && eqb d (cellAt q t)) (every-says (passable t c d) vs (heard (route q)) e m)
     (eqbs-hold c (cellAt q (suc t)) d (cellAt q t) h)
 
-passable-holds : (t c d : ℕ) (vs : List View) →
+pub passable-holds : (t c d : ℕ) (vs : List View) →
     ((q : List ℕ) → List·Memᴰ (heard (route q)) vs → (c ≡ cellAt q (suc t)) × (d ≡ cellAt q t) → ⊥) → every (passable t c d) vs ≡ true
 unfolding passable
 passable-holds t c d vs h = every-holds (passable t c d) vs one

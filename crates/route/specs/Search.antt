@@ -1,5 +1,6 @@
--- The best route as a function: least arrivals by recursion on the beats left, and a walk along them.
--- It is written to be computed on small floors and to be cited by contracts; `Best` says what it is.
+-- The best route as a function: least arrivals by recursion on the beats left, and a walk along them. It is written to be
+-- computed on small floors and to be cited by contracts; `Best` says what it is, and a claim that the two agree.
+-- Beats are counted from the cell at hand, so no bound on the horizon and no number for 'none' is needed: k + 1 beats are never.
 use Prim.Native.Nat.{ℕ, zero, suc, _-_}
 use mathlib.Core.Bool.{Bool, true, false, _&&_}
 use mathlib.Core.List.{List, [], _∷_, _++_}
@@ -20,16 +21,16 @@ later ok t c d = ok (suc t) c d
 unfoldable pub cost : (ℕ → Bool) → ℕ → (ℕ → ℕ) → ℕ → ℕ
 cost move never value d = elim (move d) [ true ↦ value d | false ↦ never ]
 
--- The smaller of two offers, a cell with its cost each; the one in hand where they cost the same.
+-- The cheaper of two offers, a cell with its cost each; the one in hand where they cost the same.
 unfoldable pub cheaper : ℕ × ℕ → ℕ → ℕ → ℕ × ℕ
 cheaper hand d v = elim (ltb v (hand .1)) [ true ↦ (d, v) | false ↦ hand ]
 
--- The first cell below n that costs least, with its cost; no cell costs `never` or more.
+-- The first cell below n that costs least, with its cost; 0 with `never` where every cell costs as much.
 unfoldable pub cheapest : ℕ → (ℕ → ℕ) → ℕ → ℕ × ℕ
 cheapest never f zero = (0, never)
 cheapest never f (suc n) = cheaper (cheapest never f n) n (f n)
 
--- Beats until the goal is reached for good from a cell, whose next cell needs m: 0 at the goal where the next cell holds it, else m + 1.
+-- Beats until the goal is reached for good, from a cell whose next one needs m: 0 at the goal where the next holds it, else m + 1.
 unfoldable pub beatsFrom : Bool → ℕ → ℕ
 beatsFrom true zero = 0
 beatsFrom true (suc m) = suc (suc m)
