@@ -1,13 +1,13 @@
 -- A route is admissible exactly if it starts clear, takes allowed moves to the goal, and is blank after the horizon.
 use Prim.Native.Nat.{ℕ, zero, suc, _≤_, _<_}
 use native.Mathlib.Omega.{arith}
-use mathlib.Core.Bool.{Bool, true}
+use mathlib.Core.Bool.{true}
 use mathlib.Core.List.{List, List·Memᴰ}
-use mathlib.Core.Path.{_≡_, refl, sym, _∙_}
+use mathlib.Core.Path.{_≡_}
 use lib.ListN.{length}
-use Rattle.route.specs.Route.{cellAt, Answer, none, route, View, unheard, heard, Task}
+use Rattle.route.specs.Route.{cellAt, none, route, View, unheard, heard, Task}
 use Rattle.route.specs.Conflict.{VertexConflict, SwapConflict, ConflictFree, ClearOfView, ClearOf}
-use Rattle.route.specs.Best.{IsRoute, Admissible}
+use Rattle.route.specs.Best.{Admissible}
 use Rattle.route.specs.Moves.{allowed, startClear}
 use Rattle.route.proofs.Ways.{Way}
 use Rattle.route.proofs.MovesLaws.{Standable, Allowed, allowed-says, allowed-holds, start-clear-says, start-clear-holds}

@@ -4,10 +4,10 @@ use native.Mathlib.Omega.{arith}
 use native.Mathlib.Nat.{eq-or-lt-of-le, le-of-suc-le-suc}
 use mathlib.Core.List.{List}
 use mathlib.Core.Logic.{_⊎_, inl, inr, ⊎-elim}
-use mathlib.Core.Path.{_≡_, refl}
+use mathlib.Core.Path.{_≡_}
 use borrow.Author.Tests.{eq-eqb, ne-eqb}
 use Rattle.route.specs.Route.{cellAt}
-use Rattle.route.specs.Best.{HeldFrom, Arrives}
+use Rattle.route.specs.Best.{Arrives}
 use Rattle.route.specs.Arrival.{settled, arrivalOf}
 use Rattle.route.proofs.Tests.{lt-or-le, eq-or-ne}
 

@@ -1,10 +1,10 @@
 -- Cases computed from the definitions: searches of document 01's floors 1 to 3, and the mistakes of 'What a hasty builder does'.
 use Prim.Native.Nat.{ℕ}
-use mathlib.Core.Bool.{Bool, true, false}
-use mathlib.Core.List.{List, [], _∷_, _++_}
+use mathlib.Core.Bool.{true}
+use mathlib.Core.List.{List, [], _∷_}
 use mathlib.Core.Path.{_≡_, refl}
 use lib.ListN.{replicate}
-use Rattle.route.specs.Route.{cellAt, Answer, none, route, View, unheard, heard, Task}
+use Rattle.route.specs.Route.{cellAt, none, route, unheard, heard, Task}
 use Rattle.route.specs.Moves.{neighbours, near, vacant, passable, every, standable, allowed, startClear}
 use Rattle.route.specs.Search.{cost, cheaper, cheapest, beatsFrom, val, walk, walkFrom, best}
 

@@ -4,11 +4,11 @@ use native.Mathlib.Omega.{arith}
 use native.Mathlib.Nat.{not-suc-le-zero, eq-or-lt-of-le, le-of-suc-le-suc}
 use mathlib.Core.Bool.{Bool, true, false}
 use mathlib.Core.Logic.{_⊎_, inl, inr, ⊎-elim}
-use mathlib.Core.Path.{_≡_, refl, sym, subst, ap}
+use mathlib.Core.Path.{_≡_, refl}
 use lib.Dec.{ltb}
 use borrow.Author.Tests.{ltb-true, ltb-false}
 use Rattle.route.specs.Search.{cost, cheaper, cheapest}
-use Rattle.route.proofs.Tests.{true-or-false, true-false-absurd}
+use Rattle.route.proofs.Tests.{true-or-false}
 
 pub cost-allowed : (move : ℕ → Bool) (never : ℕ) (value : ℕ → ℕ) (d : ℕ) → move d ≡ true → cost move never value d ≡ value d
 unfolding cost

@@ -4,9 +4,9 @@ use native.Mathlib.Omega.{arith}
 use native.Mathlib.Nat.{eq-or-lt-of-le}
 use mathlib.Core.Bool.{true}
 use mathlib.Core.Logic.{_⊎_, inl, inr, ⊎-elim}
-use mathlib.Core.Path.{_≡_, refl, sym, _∙_}
+use mathlib.Core.Path.{_≡_, sym}
 use lib.Dec.{eqb}
-use Rattle.route.specs.Search.{Rule, later, cost, beatsFrom, val, walk}
+use Rattle.route.specs.Search.{Rule, later, beatsFrom, val, walk}
 use Rattle.route.proofs.Tests.{lt-or-le}
 use Rattle.route.proofs.CheapestLaws.{cost-allowed}
 use Rattle.route.proofs.Ways.{Way, Held, Inside, Same, Ahead, rest, way-rest, held-rest, held-rest-zero}

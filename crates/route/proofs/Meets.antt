@@ -12,9 +12,9 @@ use Rattle.route.specs.Best.{Admissible, BestRoute, Best}
 use Rattle.route.specs.Moves.{allowed, startClear}
 use Rattle.route.specs.Search.{Rule, val, walkFrom, best}
 use Rattle.route.proofs.Tests.{true-or-false, true-false-absurd, and-both, and-fst, and-snd}
-use Rattle.route.proofs.Ways.{Way, Held, Inside, way-same, way-held-last}
+use Rattle.route.proofs.Ways.{Inside, way-same, way-held-last}
 use Rattle.route.proofs.ValLaws.{val-least}
-use Rattle.route.proofs.WalkLaws.{trail, trail-start, Walked, walked}
+use Rattle.route.proofs.WalkLaws.{trail, trail-start, walked}
 use Rattle.route.proofs.FirstLaws.{walk-first}
 use Rattle.route.proofs.MovesLaws.{allowed-says}
 use Rattle.route.proofs.AdmissibleLaws.{ByRule, admissible-by-rule}

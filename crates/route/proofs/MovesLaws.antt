@@ -1,12 +1,12 @@
 -- What the rule of moves says. Everything else uses these laws and not the rule's definition.
 use Prim.Native.Nat.{ℕ, suc, _<_}
-use mathlib.Core.Bool.{Bool, true, false, _&&_, not}
+use mathlib.Core.Bool.{Bool, true, _&&_}
 use mathlib.Core.List.{List, [], _∷_, List·Memᴰ, List·Memᴰ·head, List·Memᴰ·tail, List·Memᴰ·cases-cons, List·Memᴰ·not-nil}
 use mathlib.Core.Logic.{_⊎_, ⊎-elim}
 use mathlib.Core.Path.{_≡_, refl}
 use lib.Dec.{ltb, eqb}
 use borrow.Author.Tests.{ltb-true, lt-ltb, eqb-true, eq-eqb}
-use Rattle.route.specs.Route.{cellAt, Answer, none, route, View, unheard, heard, Task, SharesSide}
+use Rattle.route.specs.Route.{cellAt, none, route, View, unheard, heard, Task, SharesSide}
 use Rattle.route.specs.Moves.{near, vacant, passable, every, standable, allowed, startClear}
 use Rattle.route.proofs.Tests.{and-both, and-fst, and-snd, not-is-true, not-refutes, eqbs-say, eqbs-hold}
 use Rattle.route.proofs.NearLaws.{near-says, near-holds}

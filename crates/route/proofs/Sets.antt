@@ -1,6 +1,6 @@
 -- A search by sets of cells, over any rule of moves: what its passes have to show. F t is the set of cells that can be reached
 -- by beat t, B t the set of cells from which the goal can be reached by the arrival. `SetsBest.antt` has what follows.
-use Prim.Native.Nat.{ℕ, zero, suc, _≤_, _<_}
+use Prim.Native.Nat.{ℕ, suc, _≤_, _<_}
 use mathlib.Core.Bool.{Bool, true}
 use mathlib.Core.Logic.{_↔_}
 use mathlib.Core.Path.{_≡_}

@@ -1,11 +1,11 @@
 -- A search by sets of cells answers the best route, or none where there is none. By uniqueness it equals `best`.
-use Prim.Native.Nat.{ℕ, suc, _≤_, _<_}
+use Prim.Native.Nat.{ℕ, _≤_, _<_}
 use native.Mathlib.Omega.{arith}
-use mathlib.Core.Bool.{Bool, true, false}
+use mathlib.Core.Bool.{true, false}
 use mathlib.Core.List.{List}
 use mathlib.Core.Path.{_≡_}
 use lib.ListN.{length}
-use Rattle.route.specs.Route.{cellAt, Answer, none, route, View, Task}
+use Rattle.route.specs.Route.{cellAt, none, route, View, Task}
 use Rattle.route.specs.Best.{Admissible, BestRoute, Best}
 use Rattle.route.specs.Moves.{allowed, startClear}
 use Rattle.route.specs.Search.{Rule, best}

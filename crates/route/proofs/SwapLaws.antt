@@ -1,9 +1,9 @@
 -- Where a swap can matter: only into a cell that a view leaves, and only from a cell that a view enters. Everywhere else a move
 -- is allowed exactly if the cells are near and the next one can be stood on, so that a search by sets tests swaps at few cells.
 use Prim.Native.Nat.{ℕ, suc}
-use mathlib.Core.Bool.{Bool, true, _&&_, and-true}
+use mathlib.Core.Bool.{true, _&&_, and-true}
 use mathlib.Core.List.{List}
-use mathlib.Core.Path.{_≡_, ap, _∙_}
+use mathlib.Core.Path.{_≡_}
 use Rattle.route.specs.Route.{View, Task}
 use Rattle.route.specs.Moves.{near, vacant, passable, every, standable, allowed}
 use Rattle.route.proofs.MovesLaws.{vacant-says, passable-holds}

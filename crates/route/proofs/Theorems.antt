@@ -1,12 +1,11 @@
 -- The claims, proved.
 use Prim.Native.Nat.{ℕ, _≤_}
-use native.Mathlib.Omega.{arith}
 use mathlib.Core.List.{List, List·Memᴰ}
-use mathlib.Core.Logic.{_⊎_, inl, inr}
+use mathlib.Core.Logic.{inl, inr}
 use mathlib.Core.Path.{_≡_, sym, _∙_}
-use Rattle.route.specs.Route.{cellAt, Answer, none, route, View, unheard, heard, Task}
+use Rattle.route.specs.Route.{cellAt, none, route, View, heard, Task}
 use Rattle.route.specs.Conflict.{VertexConflict, ClearOfView, ClearOf, Silent}
-use Rattle.route.specs.Best.{IsRoute, HeldFrom, Arrives, Admissible, BestRoute, Best}
+use Rattle.route.specs.Best.{IsRoute, HeldFrom, Arrives, Admissible, Best}
 use Rattle.route.specs.Search.{best}
 use Rattle.route.specs.Arrival.{arrivalOf}
 use Rattle.route.specs.Claims.{Claims}

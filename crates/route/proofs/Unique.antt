@@ -1,11 +1,11 @@
 -- The best answer is one, and depends on the views only through what they occupy.
-use Prim.Native.Nat.{ℕ, zero, suc, _≤_, _<_}
+use Prim.Native.Nat.{ℕ, _≤_, _<_}
 use native.Mathlib.Omega.{arith}
 use mathlib.Core.List.{List, _∷_, _++_, List·Memᴰ, List·Memᴰ·tail, List·Memᴰ·append-cases, List·Memᴰ·cases-cons}
 use mathlib.Core.List.{Memᴰ·append-left, Memᴰ·append-right}
 use mathlib.Core.Logic.{_⊎_, inl, inr, ⊎-elim}
-use mathlib.Core.Path.{_≡_, refl, sym, ap, subst, _∙_}
-use Rattle.route.specs.Route.{cellAt, Answer, none, route, View, unheard, heard, Task}
+use mathlib.Core.Path.{_≡_, refl, sym, ap, subst}
+use Rattle.route.specs.Route.{cellAt, Answer, none, route, View, Task}
 use Rattle.route.specs.Conflict.{ClearOfView, ClearOf}
 use Rattle.route.specs.Best.{Arrives, Before, Admissible, BestRoute, Best}
 use Rattle.route.specs.Arrival.{arrivalOf}

@@ -1,13 +1,13 @@
 -- The walk over any rule: where `val` is at most the beats left, the walk is a way, and it is at the goal from `val` on.
 use Prim.Native.Nat.{ℕ, zero, suc, _≤_, _<_}
 use native.Mathlib.Omega.{arith}
-use mathlib.Core.Bool.{Bool, true, false}
+use mathlib.Core.Bool.{true, false}
 use mathlib.Core.Logic.{_⊎_, inl, inr, ⊎-elim}
 use mathlib.Core.Path.{_≡_, refl, sym, _∙_}
 use lib.Dec.{eqb}
 use lib.ListN.{getD}
 use borrow.Author.Tests.{eqb-true}
-use Rattle.route.specs.Search.{Rule, later, cost, cheapest, beatsFrom, val, walk}
+use Rattle.route.specs.Search.{Rule, later, cost, beatsFrom, val, walk}
 use Rattle.route.proofs.Tests.{true-or-false}
 use Rattle.route.proofs.CheapestLaws.{cost-allowed, cost-refused, Offer, cheapest-offer}
 use Rattle.route.proofs.Ways.{Way, Held}

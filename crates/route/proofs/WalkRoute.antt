@@ -1,7 +1,7 @@
 -- The walk as a route of 64 cells: the walk's cells through the horizon, then 0.
 use Prim.Native.Nat.{ℕ, zero, suc, _+_, _-_, _≤_, _<_}
 use native.Mathlib.Omega.{arith}
-use mathlib.Core.List.{List, [], _∷_, _++_}
+use mathlib.Core.List.{List, _++_}
 use native.Mathlib.Nat.{add-sub-of-le}
 use mathlib.Core.Path.{_≡_, refl, ap, subst, _∙_}
 use lib.ListN.{length, getD, replicate, length-append, length-replicate, List·getD-append}

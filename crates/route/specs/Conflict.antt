@@ -3,7 +3,7 @@ use Prim.Native.Nat.{ℕ, suc, _≤_, _<_}
 use mathlib.Core.List.{List, List·Memᴰ}
 use mathlib.Core.Logic.{_⊎_}
 use mathlib.Core.Path.{_≡_}
-use Rattle.route.specs.Route.{cellAt, Answer, none, route, View, unheard, heard}
+use Rattle.route.specs.Route.{cellAt, none, route, View, unheard, heard}
 
 -- Vertex conflict (the paper's 'in one cell at one beat') at beat t.
 unfoldable pub VertexConflict : List ℕ → List ℕ → ℕ → Type 0

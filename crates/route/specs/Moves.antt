@@ -1,9 +1,9 @@
 -- The rule of moves: which cell may follow which, at which beat. A Bool, so that a search computes with it.
 use Prim.Native.Nat.{ℕ, suc, _/_, _%_}
-use mathlib.Core.Bool.{Bool, true, false, _&&_, _||_, not}
+use mathlib.Core.Bool.{Bool, true, _&&_, _||_, not}
 use mathlib.Core.List.{List, [], _∷_}
 use lib.Dec.{ltb, eqb}
-use Rattle.route.specs.Route.{cellAt, Answer, none, route, View, unheard, heard, Task}
+use Rattle.route.specs.Route.{cellAt, none, route, View, unheard, heard, Task}
 
 -- One number is the other plus 1.
 unfoldable pub neighbours : ℕ → ℕ → Bool

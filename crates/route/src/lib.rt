@@ -1,7 +1,7 @@
 // Routes: the conflict test of two routes and the arrival of a route (document 01, 'Routes').
 // A route is 64 cell numbers, one a beat; a horizon above 63 counts as 63.
 ghost use mathlib.Core.Path.{_≡_};
-ghost use Prim.Native.Nat.{ℕ, _≤_, _<_, min};
+ghost use Prim.Native.Nat.{_≤_, min};
 ghost use Rattle.route.specs.Arrival.{arrivalOf, conflicts};
 
 // A route, handed about whole: its cell at each beat, 0 after the horizon.

@@ -1,12 +1,11 @@
 -- `route::conflict` meets its contract. The loop's invariant: no conflict at the beats passed. The measure is what is left of
 -- the beats. Assumes nothing.
-use Prim.Native.Nat.{_≤_, _+_, _-_}
-use native.Mathlib.Omega.{arith}
-use mathlib.Core.Bool.{true, false}
+use Prim.Native.Nat.{_≤_, _-_}
+use mathlib.Core.Bool.{false}
 use mathlib.Core.Path.{_≡_}
 use mathlib.Core.Logic.{⊎-elim}
 use borrow.Author.Needs.{needs}
-use Rattle.route.specs.Arrival.{meets, swaps, conflicts}
+use Rattle.route.specs.Arrival.{meets, swaps}
 use Rattle.route.proofs.LoopLaws.{meets-none, swaps-none, meets-turn, swaps-turn, vertex-found, swap-found, last-decides}
 use Rattle.route.proofs.conflict.Statement.{statement}
 use Rattle.route.proofs.conflict.Tie as tie
