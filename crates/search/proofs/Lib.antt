@@ -18,3 +18,4 @@ pub mod RowsFree
 pub mod AnswerLaws
 pub mod SearchLaws
 pub mod RequestLaws
+pub mod Theorems

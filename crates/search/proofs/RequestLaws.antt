@@ -17,12 +17,7 @@ use Rattle.floor.proofs.Theorems.{theorems}
 use Rattle.route.proofs.Tests.{and-both, and-fst, and-snd}
 use Rattle.search.specs.Rows.{FreeRows, Searchable}
 use Rattle.search.specs.Search.{requestOf}
-
--- A request that is not turned away.
-pub record Granted (f : Floor) (ws : List ℕ) (i : ℕ) (m : List ℕ) : Type 0 where
-  pub accepted : Accepted f ws
-  pub lent : 65 * f .carriers ≤ length m
-  pub listed : Within 1 (f .carriers) i
+use Rattle.search.specs.Refused.{Granted}
 
 module _ (f : Floor) (ws : List ℕ) (i : ℕ) (m : List ℕ) where
   pub request-granted : requestOf f ws i m ≡ passed → Granted f ws i m

@@ -6,3 +6,5 @@ pub mod Search
 pub mod Marks
 pub mod Passes
 pub mod Rows
+pub mod Refused
+pub mod Claims
