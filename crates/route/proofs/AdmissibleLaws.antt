@@ -1,0 +1,85 @@
+-- A route is admissible exactly if it starts clear, takes allowed moves to the goal, and is blank after the horizon.
+use Prim.Native.Nat.{ℕ, zero, suc, _≤_, _<_}
+use native.Mathlib.Omega.{arith}
+use mathlib.Core.Bool.{true}
+use mathlib.Core.List.{List, List·Memᴰ}
+use mathlib.Core.Path.{_≡_}
+use lib.ListN.{length}
+use Rattle.route.specs.Route.{cellAt, none, route, View, unheard, heard, Task}
+use Rattle.route.specs.Conflict.{VertexConflict, SwapConflict, ConflictFree, ClearOfView, ClearOf}
+use Rattle.route.specs.Best.{Admissible}
+use Rattle.route.specs.Moves.{allowed, startClear}
+use Rattle.route.proofs.Ways.{Way}
+use Rattle.route.proofs.MovesLaws.{Standable, Allowed, allowed-says, allowed-holds, start-clear-says, start-clear-holds}
+
+-- r by the rule of moves.
+pub record ByRule (task : Task) (vs : List View) (r : List ℕ) : Type 0 where
+  pub long : length r ≡ 64
+  pub starts : startClear task vs ≡ true
+  pub begins : cellAt r 0 ≡ task .start
+  pub way : Way (task .goal) (task .horizon) (allowed task vs) (cellAt r)
+  pub blank : (t : ℕ) → task .horizon < t → cellAt r t ≡ 0
+
+module _ (task : Task) (vs : List View) (r : List ℕ) where
+  clear-route : Admissible task vs r → (q : List ℕ) → List·Memᴰ (heard (route q)) vs → ConflictFree (task .horizon) r q
+  unfolding ClearOf ClearOfView
+  clear-route a q m = a .clear (heard (route q)) m
+
+  pub admissible-by-rule : Admissible task vs r → ByRule task vs r
+  unfolding VertexConflict SwapConflict
+  admissible-by-rule a =
+      record {
+        long = a .is-route .long;
+        starts = start-clear-holds task vs (rw (a .is-route .begins) at (stands 0 (omega arith)));
+        begins = a .is-route .begins;
+        way = record { steps = λ t h. allowed-holds task vs t (cellAt r t) (cellAt r (suc t)) (step t h); ends = a .is-route .ends };
+        blank = a .is-route .blank;
+      }
+    where
+      stands : (t : ℕ) → t ≤ task .horizon → Standable task vs t (cellAt r t)
+      stands t h =
+          record {
+            inside = a .is-route .inside t h;
+            off-wall = a .is-route .off-walls t h;
+            no-vertex = λ q m e. (clear-route a q m) .no-vertex t h e;
+          }
+
+      step : (t : ℕ) → t < task .horizon → Allowed task vs t (cellAt r t) (cellAt r (suc t))
+      step t h =
+          record {
+            beside = a .is-route .moves t h;
+            stands = stands (suc t) h;
+            no-swap = λ q m e. (clear-route a q m) .no-swap t h e;
+          }
+
+  pub by-rule-admissible : ByRule task vs r → Admissible task vs r
+  unfolding VertexConflict SwapConflict ClearOf ClearOfView
+  by-rule-admissible b =
+      record {
+        is-route = record {
+          long = b .long;
+          begins = b .begins;
+          ends = b .way .ends;
+          moves = λ t h. (step t h) .beside;
+          inside = λ t h. (stands t h) .inside;
+          off-walls = λ t h. (stands t h) .off-wall;
+          blank = b .blank;
+        };
+        clear = clear;
+      }
+    where
+      starts : Standable task vs 0 (task .start)
+      starts = start-clear-says task vs (b .starts)
+
+      step : (t : ℕ) → t < task .horizon → Allowed task vs t (cellAt r t) (cellAt r (suc t))
+      step t h = allowed-says task vs t (cellAt r t) (cellAt r (suc t)) (b .way .steps t h)
+
+      stands : (t : ℕ) → t ≤ task .horizon → Standable task vs t (cellAt r t)
+      stands zero h = rw (b .begins) starts
+      stands (suc t) h = (step t h) .stands
+
+      clear : (v : View) → List·Memᴰ v vs → ClearOfView (task .horizon) r v
+      clear unheard m = tt
+      clear (heard none) m = tt
+      clear (heard (route q)) m =
+          record { no-vertex = λ t h e. (stands t h) .no-vertex q m e; no-swap = λ t h e. (step t h) .no-swap q m e }

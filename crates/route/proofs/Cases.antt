@@ -1,0 +1,66 @@
+-- Cases computed from the definitions: searches of document 01's floors 1 to 3, and the mistakes of 'What a hasty builder does'.
+use Prim.Native.Nat.{ℕ}
+use mathlib.Core.Bool.{true}
+use mathlib.Core.List.{List, [], _∷_}
+use mathlib.Core.Path.{_≡_, refl}
+use lib.ListN.{replicate}
+use Rattle.route.specs.Route.{cellAt, none, route, unheard, heard, Task}
+use Rattle.route.specs.Moves.{neighbours, near, vacant, passable, every, standable, allowed, startClear}
+use Rattle.route.specs.Search.{cost, cheaper, cheapest, beatsFrom, val, walk, walkFrom, best}
+
+-- A grid of a width with no wall, for a number of cells, a horizon, a start and a goal.
+abbrev grid : ℕ → ℕ → ℕ → ℕ → ℕ → Task
+grid w n h s g = record { width = w; cells = n; horizon = h; start = s; goal = g; free = λ c. true }
+
+-- Document 01's floor of 3 by 2 with no wall, for a horizon, a start and a goal.
+abbrev small : ℕ → ℕ → ℕ → Task
+small h s g = grid 3 6 h s g
+
+-- A route of five cells, with zeros up to 64.
+abbrev five : ℕ → ℕ → ℕ → ℕ → ℕ → List ℕ
+five a b c d e = a ∷ b ∷ c ∷ d ∷ e ∷ replicate 59 0
+
+-- Floor 1: one cell.
+one-cell : best (grid 1 1 4 0 0) [] ≡ route (five 0 0 0 0 0)
+unfolding cellAt neighbours near vacant passable every standable allowed startClear cost cheaper cheapest beatsFrom val walk walkFrom best
+one-cell = refl
+
+-- Floor 2, carrier 1.
+first-carrier : best (small 4 0 2) [] ≡ route (five 0 1 2 2 2)
+unfolding cellAt neighbours near vacant passable every standable allowed startClear cost cheaper cheapest beatsFrom val walk walkFrom best
+first-carrier = refl
+
+-- Floor 2, carrier 2: it neither changes places with carrier 1 nor crosses its goal.
+second-carrier : best (small 4 2 0) (heard (route (five 0 1 2 2 2)) ∷ []) ≡ route (five 2 5 4 1 0)
+unfolding cellAt neighbours near vacant passable every standable allowed startClear cost cheaper cheapest beatsFrom val walk walkFrom best
+second-carrier = refl
+
+-- Floor 3, the same with horizon 3.
+second-carrier-short : best (small 3 2 0) (heard (route (0 ∷ 1 ∷ 2 ∷ 2 ∷ replicate 60 0)) ∷ []) ≡ none
+unfolding cellAt neighbours near vacant passable every standable allowed startClear cost cheaper cheapest beatsFrom val walk walkFrom best
+second-carrier-short = refl
+
+-- Not heard and none occupy nothing.
+unheard-not-blocked : best (small 4 2 0) (unheard ∷ heard none ∷ []) ≡ route (five 2 1 0 0 0)
+unfolding cellAt neighbours near vacant passable every standable allowed startClear cost cheaper cheapest beatsFrom val walk walkFrom best
+unheard-not-blocked = refl
+
+-- A corridor of three cells: a carrier at its goal, cell 1, blocks the way from beat 1 on.
+goal-held : best (grid 3 3 4 0 2) (heard (route (five 1 1 1 1 1)) ∷ []) ≡ none
+unfolding cellAt neighbours near vacant passable every standable allowed startClear cost cheaper cheapest beatsFrom val walk walkFrom best
+goal-held = refl
+
+-- A corridor of two cells: the carriers may not change places.
+places-kept : best (grid 2 2 4 0 1) (heard (route (five 1 0 0 0 0)) ∷ []) ≡ none
+unfolding cellAt neighbours near vacant passable every standable allowed startClear cost cheaper cheapest beatsFrom val walk walkFrom best
+places-kept = refl
+
+-- A corridor of three cells: entering a cell that another leaves in that beat is allowed.
+following-allowed : best (grid 3 3 4 0 1) (heard (route (five 1 2 2 2 2)) ∷ []) ≡ route (five 0 1 1 1 1)
+unfolding cellAt neighbours near vacant passable every standable allowed startClear cost cheaper cheapest beatsFrom val walk walkFrom best
+following-allowed = refl
+
+-- The goal, cell 1, is taken at beat 2: the carrier waits, and arrives when it can stay.
+goal-passed : best (grid 3 3 4 0 1) (heard (route (five 2 2 1 2 2)) ∷ []) ≡ route (five 0 0 0 1 1)
+unfolding cellAt neighbours near vacant passable every standable allowed startClear cost cheaper cheapest beatsFrom val walk walkFrom best
+goal-passed = refl

@@ -1,0 +1,24 @@
+-- Laws of the definitions, the theory of ways over any rule, and the claims. What other crates cite is `pub`.
+pub mod Tests
+pub mod NearLaws
+pub mod MovesLaws
+pub mod SwapLaws
+pub mod ArrivalLaws
+pub mod ConflictLaws
+pub mod Ways
+mod CheapestLaws
+mod ValLaws
+mod WalkLaws
+mod FirstLaws
+pub mod AdmissibleLaws
+pub mod Leads
+mod WalkRoute
+pub mod Meets
+pub mod Unique
+pub mod FreeLaws
+pub mod Theorems
+pub mod Sets
+pub mod SetsLaws
+pub mod SetsBest
+mod LoopLaws
+mod Cases

@@ -1,0 +1,92 @@
+-- Laws of `near`: what it says, that it is symmetric, and which cell numbers it leads to.
+use Prim.Native.Nat.{ℕ, suc, _+_, _*_, _/_, _%_}
+use native.Mathlib.Omega.{arith}
+use native.Mathlib.Nat.{div-add-mod', suc-mul}
+use mathlib.Core.Bool.{Bool, true, _&&_, _||_}
+use mathlib.Core.Logic.{_⊎_, inl, inr, ⊎-elim}
+use mathlib.Core.Path.{_≡_, sym, ap, _∙_}
+use lib.Dec.{eqb}
+use borrow.Author.Tests.{eqb-true, eq-eqb}
+use Rattle.route.specs.Route.{Neighbours, SharesSide}
+use Rattle.route.specs.Moves.{neighbours, near}
+use Rattle.route.proofs.Tests.{and-both, and-fst, and-snd, or-cases, or-inl, or-inr}
+
+neighbours-says : (m n : ℕ) → neighbours m n ≡ true → Neighbours m n
+unfolding neighbours Neighbours
+neighbours-says m n e =
+    ⊎-elim (λ (h : eqb m (suc n) ≡ true). inl (eqb-true m (suc n) h)) (λ (h : eqb n (suc m) ≡ true). inr (eqb-true n (suc m) h))
+    (or-cases (eqb m (suc n)) (eqb n (suc m)) e)
+
+neighbours-holds : (m n : ℕ) → Neighbours m n → neighbours m n ≡ true
+unfolding neighbours Neighbours
+neighbours-holds m n =
+    ⊎-elim (λ (h : m ≡ suc n). or-inl (eqb m (suc n)) (eqb n (suc m)) (eq-eqb m (suc n) h))
+    (λ (h : n ≡ suc m). or-inr (eqb m (suc n)) (eqb n (suc m)) (eq-eqb n (suc m) h))
+
+line-says : (x y m n : ℕ) → (eqb x y && neighbours m n) ≡ true → (x ≡ y) × Neighbours m n
+line-says x y m n e = (eqb-true x y (and-fst (eqb x y) (neighbours m n) e), neighbours-says m n (and-snd (eqb x y) (neighbours m n) e))
+
+line-holds : (x y m n : ℕ) → (x ≡ y) × Neighbours m n → (eqb x y && neighbours m n) ≡ true
+line-holds x y m n h = and-both (eq-eqb x y (h .0)) (neighbours-holds m n (h .1))
+
+pub near-says : (w c d : ℕ) → near w c d ≡ true → (d ≡ c) ⊎ SharesSide w c d
+unfolding near SharesSide
+near-says w c d e = outer (or-cases (eqb d c || row) column e)
+  where
+    row : Bool
+    row = eqb (c / w) (d / w) && neighbours (c % w) (d % w)
+
+    column : Bool
+    column = eqb (c % w) (d % w) && neighbours (c / w) (d / w)
+
+    inner : (eqb d c ≡ true) ⊎ (row ≡ true) → (d ≡ c) ⊎ SharesSide w c d
+    inner (inl h) = inl (eqb-true d c h)
+    inner (inr h) = inr (inl (line-says (c / w) (d / w) (c % w) (d % w) h))
+
+    outer : ((eqb d c || row) ≡ true) ⊎ (column ≡ true) → (d ≡ c) ⊎ SharesSide w c d
+    outer (inl h) = inner (or-cases (eqb d c) row h)
+    outer (inr h) = inr (inr (line-says (c % w) (d % w) (c / w) (d / w) h))
+
+pub near-holds : (w c d : ℕ) → (d ≡ c) ⊎ SharesSide w c d → near w c d ≡ true
+unfolding near SharesSide
+near-holds w c d = cases
+  where
+    row : Bool
+    row = eqb (c / w) (d / w) && neighbours (c % w) (d % w)
+
+    column : Bool
+    column = eqb (c % w) (d % w) && neighbours (c / w) (d / w)
+
+    cases : (d ≡ c) ⊎ SharesSide w c d → (eqb d c || row || column) ≡ true
+    cases (inl h) = or-inl (eqb d c || row) column (or-inl (eqb d c) row (eq-eqb d c h))
+    cases (inr (inl h)) = or-inl (eqb d c || row) column (or-inr (eqb d c) row (line-holds (c / w) (d / w) (c % w) (d % w) h))
+    cases (inr (inr h)) = or-inr (eqb d c || row) column (line-holds (c % w) (d % w) (c / w) (d / w) h)
+
+neighbours-sym : (m n : ℕ) → Neighbours m n → Neighbours n m
+unfolding Neighbours
+neighbours-sym m n (inl e) = inr e
+neighbours-sym m n (inr e) = inl e
+
+pub shares-side-sym : (w c d : ℕ) → SharesSide w c d → SharesSide w d c
+unfolding SharesSide
+shares-side-sym w c d (inl h) = inl (sym (h .0), neighbours-sym (c % w) (d % w) (h .1))
+shares-side-sym w c d (inr h) = inr (sym (h .0), neighbours-sym (c / w) (d / w) (h .1))
+
+-- Of two cells with neighbouring columns in one row, or neighbouring rows in one column, one is the other plus 1, or plus the width.
+after-column : (w c d : ℕ) → c / w ≡ d / w → c % w ≡ suc (d % w) → c ≡ d + 1
+after-column w c d e h = omega (arith, div-add-mod' c w, div-add-mod' d w, ap (λ (n : ℕ). n * w) e)
+
+after-row : (w c d : ℕ) → c % w ≡ d % w → c / w ≡ suc (d / w) → c ≡ d + w
+after-row w c d e h = omega (arith, div-add-mod' c w, div-add-mod' d w, ap (λ (n : ℕ). n * w) h ∙ suc-mul (d / w) w)
+
+-- Cells that share a side are one cell, or one row, apart.
+pub shares-side-apart : (w c d : ℕ) → SharesSide w c d → (c ≡ d + 1) ⊎ (d ≡ c + 1) ⊎ (c ≡ d + w) ⊎ (d ≡ c + w)
+unfolding SharesSide Neighbours
+shares-side-apart w c d (inl (e, inl h)) = inl (after-column w c d e h)
+shares-side-apart w c d (inl (e, inr h)) = inr (inl (after-column w d c (sym e) h))
+shares-side-apart w c d (inr (e, inl h)) = inr (inr (inl (after-row w c d e h)))
+shares-side-apart w c d (inr (e, inr h)) = inr (inr (inr (after-row w d c (sym e) h)))
+
+-- A cell that is near c is c, or one cell or one row apart from it.
+pub near-apart : (w c d : ℕ) → near w c d ≡ true → (d ≡ c) ⊎ (c ≡ d + 1) ⊎ (d ≡ c + 1) ⊎ (c ≡ d + w) ⊎ (d ≡ c + w)
+near-apart w c d e = ⊎-elim (λ (h : d ≡ c). inl h) (λ (h : SharesSide w c d). inr (shares-side-apart w c d h)) (near-says w c d e)

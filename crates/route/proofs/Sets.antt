@@ -1,0 +1,51 @@
+-- A search by sets of cells, over any rule of moves: what its passes have to show. F t is the set of cells that can be reached
+-- by beat t, B t the set of cells from which the goal can be reached by the arrival. `SetsBest.antt` has what follows.
+use Prim.Native.Nat.{ℕ, suc, _≤_, _<_}
+use mathlib.Core.Bool.{Bool, true}
+use mathlib.Core.Logic.{_↔_}
+use mathlib.Core.Path.{_≡_}
+use Rattle.route.specs.Search.{Rule}
+
+-- A family of sets of cells, one a beat.
+abbrev pub Sets : Type 0
+Sets = ℕ → ℕ → Bool
+
+-- Some cell of the set at beat t leads to d at beat t + 1.
+abbrev pub Reached : Rule → Sets → ℕ → ℕ → Type 0
+Reached ok F t d = (c : ℕ) × (F t c ≡ true) × (ok t c d ≡ true)
+
+-- Cell c at beat t leads to some cell of the set at beat t + 1.
+abbrev pub Leading : Rule → Sets → ℕ → ℕ → Type 0
+Leading ok B t c = (d : ℕ) × (ok t c d ≡ true) × (B (suc t) d ≡ true)
+
+-- Forward pass: F holds the cells that can be reached from the start, through beat n.
+pub record Forward (ok : Rule) (start n : ℕ) (F : Sets) : Type 0 where
+  pub begins : (c : ℕ) → (F 0 c ≡ true) ↔ (c ≡ start)
+  pub spreads : (t d : ℕ) → t < n → (F (suc t) d ≡ true) ↔ Reached ok F t d
+
+-- The goal can be held from beat a through beat H.
+abbrev pub Holds : Rule → ℕ → ℕ → ℕ → Type 0
+Holds ok goal H a = (t : ℕ) → a ≤ t → t < H → ok t goal goal ≡ true
+
+-- Beat a is an arrival: the goal is reached by then and can be held from then on.
+pub record Reaches (ok : Rule) (goal H : ℕ) (F : Sets) (a : ℕ) : Type 0 where
+  pub reached : F a goal ≡ true
+  pub holds : Holds ok goal H a
+
+-- Beat a is the least arrival.
+pub record Least (ok : Rule) (goal H : ℕ) (F : Sets) (a : ℕ) : Type 0 where
+  pub within : a ≤ H
+  pub reaches : Reaches ok goal H F a
+  pub none-before : (b : ℕ) → b < a → Reaches ok goal H F b → ⊥
+
+-- Backward pass: B holds the cells that lead to the goal at beat a.
+pub record Backward (ok : Rule) (goal a : ℕ) (B : Sets) : Type 0 where
+  pub begins : (c : ℕ) → (B a c ≡ true) ↔ (c ≡ goal)
+  pub spreads : (t c : ℕ) → t < a → (B t c ≡ true) ↔ Leading ok B t c
+
+-- Greedy walk: where some allowed cell of B comes next, x takes the smallest; from beat a through H it is at the goal.
+pub record Greedy (ok : Rule) (start goal H a : ℕ) (B : Sets) (x : ℕ → ℕ) : Type 0 where
+  pub begins : x 0 ≡ start
+  pub takes : (t d : ℕ) → t < a → ok t (x t) d ≡ true → B (suc t) d ≡ true →
+      (ok t (x t) (x (suc t)) ≡ true) × (B (suc t) (x (suc t)) ≡ true) × (x (suc t) ≤ d)
+  pub stays : (t : ℕ) → a ≤ t → t ≤ H → x t ≡ goal

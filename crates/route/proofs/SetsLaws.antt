@@ -1,0 +1,131 @@
+-- The passes of a search by sets, over any rule: the greedy walk leads to the goal.
+use Prim.Native.Nat.{ℕ, zero, suc, _+_, _-_, _≤_, _<_}
+use native.Mathlib.Omega.{arith}
+use native.Mathlib.Nat.{eq-or-lt-of-le}
+use mathlib.Core.Bool.{true}
+use mathlib.Core.Logic.{_⊎_, inl, inr, ⊎-elim}
+use mathlib.Core.Path.{_≡_, refl, sym, _∙_}
+use Rattle.route.specs.Search.{Rule}
+use Rattle.route.proofs.Tests.{lt-or-le}
+use Rattle.route.proofs.Ways.{Way, Held, Same, Ahead}
+use Rattle.route.proofs.Leads.{Leads}
+use Rattle.route.proofs.Sets.{Sets, Reached, Leading, Forward, Holds, Reaches, Least, Backward, Greedy}
+
+module _ (ok : Rule) (start goal H : ℕ) where
+  -- A way from the start is in the forward sets.
+  pub way-in-forward : (n : ℕ) (F : Sets) (p : ℕ → ℕ) → Forward ok start n F → Way goal H ok p → p 0 ≡ start → (t : ℕ) → t ≤ n → t ≤ H →
+      F t (p t) ≡ true
+  way-in-forward n F p f w e zero l h = (f .begins (p 0)) .1 e
+  way-in-forward n F p f w e (suc t) l h =
+      (f .spreads t (p (suc t)) l) .1 (p t, way-in-forward n F p f w e t (omega arith) (omega arith), w .steps t h)
+
+  -- A way that is at the goal from beat b on shows that the goal can be held from then on.
+  held-holds : (p : ℕ → ℕ) (b : ℕ) → Way goal H ok p → Held goal H p b → Holds ok goal H b
+  held-holds p b w h t l k = rw (h .held t l (omega arith), h .held (suc t) (omega arith) k) at (w .steps t k)
+
+  -- A way from the start that is at the goal for good from b on: b is an arrival.
+  pub held-reaches : (n : ℕ) (F : Sets) (p : ℕ → ℕ) (b : ℕ) → Forward ok start n F → Way goal H ok p → p 0 ≡ start → Held goal H p b →
+      b ≤ n → Reaches ok goal H F b
+  held-reaches n F p b f w e h l =
+      record {
+        reached = rw (h .held b (omega arith) (h .within)) at (way-in-forward n F p f w e b l (h .within));
+        holds = held-holds p b w h;
+      }
+
+  module _
+      (a : ℕ) (F B : Sets) (x : ℕ → ℕ)
+      (forward : Forward ok start a F) (least : Least ok goal H F a)
+      (backward : Backward ok goal a B) (greedy : Greedy ok start goal H a B x) where
+    -- The passes meet: going down from the goal at beat a, some cell is in both sets, at beat 0 the start.
+    meet : (t c : ℕ) → t ≤ a → F t c ≡ true → B t c ≡ true → B 0 start ≡ true
+    meet zero c l f b = rw ((forward .begins c) .0 f) at b
+    meet (suc t) c l f b = meet t (from .0) (omega arith) (from .1) ((backward .spreads t (from .0) l) .1 (c, from .2, b))
+      where
+        from : Reached ok F t c
+        from = (forward .spreads t c l) .0 f
+
+    starts : B 0 start ≡ true
+    starts = meet a goal (omega arith) (least .reaches .reached) ((backward .begins goal) .1 refl)
+
+    -- From a cell of the backward set the walk goes on to the smallest allowed cell of the next one.
+    walk-next : (t : ℕ) → t < a → B t (x t) ≡ true → (ok t (x t) (x (suc t)) ≡ true) × (B (suc t) (x (suc t)) ≡ true)
+    walk-next t l b = (taken .0, taken .1)
+      where
+        next : Leading ok B t (x t)
+        next = (backward .spreads t (x t) l) .0 b
+
+        taken : (ok t (x t) (x (suc t)) ≡ true) × (B (suc t) (x (suc t)) ≡ true) × (x (suc t) ≤ next .0)
+        taken = greedy .takes t (next .0) l (next .1) (next .2)
+
+    walk-in-backward : (t : ℕ) → t ≤ a → B t (x t) ≡ true
+    walk-in-backward zero l = rw (greedy .begins) starts
+    walk-in-backward (suc t) l = (walk-next t l (walk-in-backward t (omega arith))) .1
+
+    walk-step : (t : ℕ) → t < H → ok t (x t) (x (suc t)) ≡ true
+    walk-step t h = ⊎-elim before after (lt-or-le t a)
+      where
+        before : t < a → ok t (x t) (x (suc t)) ≡ true
+        before l = (walk-next t l (walk-in-backward t (omega arith))) .0
+
+        after : a ≤ t → ok t (x t) (x (suc t)) ≡ true
+        after l = rw (greedy .stays t l (omega arith), greedy .stays (suc t) (omega arith) h) (least .reaches .holds t l h)
+
+    -- No way from the start is at the goal for good before a.
+    no-earlier : (p : ℕ → ℕ) (b : ℕ) → Way goal H ok p → p 0 ≡ start → Held goal H p b → a ≤ b
+    no-earlier p b w e h = ⊎-elim (λ (l : b < a). absurd (early l)) (λ (l : a ≤ b). l) (lt-or-le b a)
+      where
+        early : b < a → ⊥
+        early l = least .none-before b l (held-reaches a F p b forward w e h (omega arith))
+
+    -- A way that is at the goal at beat a is in the backward sets, going down from there.
+    way-in-backward : (p : ℕ → ℕ) → Way goal H ok p → p a ≡ goal → (k t : ℕ) → t + k ≡ a → B t (p t) ≡ true
+    way-in-backward p w e zero t q = rw last ((backward .begins (p a)) .1 e)
+      where
+        last : t ≡ a
+        last = omega arith
+    way-in-backward p w e (suc k) t q =
+        (backward .spreads t (p t) (omega arith)) .1
+        (p (suc t), w .steps t (omega (arith, least .within)), way-in-backward p w e k (suc t) (omega arith))
+
+    -- The walk against another way, beat by beat: the same so far, or the walk is ahead.
+    compare : (p : ℕ → ℕ) → Way goal H ok p → p 0 ≡ start → p a ≡ goal → (t : ℕ) → t ≤ a → Same t p x ⊎ Ahead t x p
+    compare p w e g zero l = inl only
+      where
+        only : Same 0 p x
+        only zero h = e ∙ sym (greedy .begins)
+        only (suc i) h = absurd (omega arith)
+    compare p w e g (suc t) l = go (compare p w e g t (omega arith))
+      where
+        smallest : p t ≡ x t → x (suc t) ≤ p (suc t)
+        smallest q = (greedy .takes t (p (suc t)) l move (way-in-backward p w g (a - suc t) (suc t) (omega arith))) .2
+          where
+            move : ok t (x t) (p (suc t)) ≡ true
+            move = rw q at (w .steps t (omega (arith, least .within)))
+
+        same-more : Same t p x → x (suc t) ≡ p (suc t) → Same (suc t) p x
+        same-more s q i h = ⊎-elim (λ (j : i ≡ suc t). rw j (sym q)) (λ (j : i < suc t). s i (omega arith)) (eq-or-lt-of-le h)
+
+        step : Same t p x → (x (suc t) ≡ p (suc t)) ⊎ (x (suc t) < p (suc t)) → Same (suc t) p x ⊎ Ahead (suc t) x p
+        step s (inl q) = inl (same-more s q)
+        step s (inr q) = inr (record { beat = suc t; within = omega arith; smaller = q; same = λ i h. sym (s i (omega arith)) })
+
+        go : Same t p x ⊎ Ahead t x p → Same (suc t) p x ⊎ Ahead (suc t) x p
+        go (inl s) = step s (eq-or-lt-of-le (smallest (s t (omega arith))))
+        go (inr k) = inr (record { beat = k .beat; within = omega (arith, k .within); smaller = k .smaller; same = k .same })
+
+    through : (p : ℕ → ℕ) → Held goal H p a → Same a p x ⊎ Ahead a x p → Same H p x ⊎ Ahead H x p
+    through p h (inl s) = inl all
+      where
+        all : Same H p x
+        all i l = ⊎-elim (λ (k : i < a). s i (omega arith)) (λ (k : a ≤ i). h .held i k l ∙ sym (greedy .stays i k l)) (lt-or-le i a)
+    through p h (inr k) =
+        inr (record { beat = k .beat; within = omega (arith, k .within, least .within); smaller = k .smaller; same = k .same })
+
+    pub greedy-leads : Leads goal H ok start a x
+    greedy-leads =
+        record {
+          way = record { steps = walk-step; ends = greedy .stays H (least .within) (omega arith) };
+          held = record { within = least .within; held = greedy .stays };
+          least = no-earlier;
+          first = λ p w e h. through p h (compare p w e (h .held a (omega arith) (least .within)) a (omega arith));
+        }

@@ -1,0 +1,113 @@
+-- The best answer is one, and depends on the views only through what they occupy.
+use Prim.Native.Nat.{ℕ, _≤_, _<_}
+use native.Mathlib.Omega.{arith}
+use mathlib.Core.List.{List, _∷_, _++_, List·Memᴰ, List·Memᴰ·tail, List·Memᴰ·append-cases, List·Memᴰ·cases-cons}
+use mathlib.Core.List.{Memᴰ·append-left, Memᴰ·append-right}
+use mathlib.Core.Logic.{_⊎_, inl, inr, ⊎-elim}
+use mathlib.Core.Path.{_≡_, refl, sym, ap, subst}
+use Rattle.route.specs.Route.{cellAt, Answer, none, route, View, Task}
+use Rattle.route.specs.Conflict.{ClearOfView, ClearOf}
+use Rattle.route.specs.Best.{Arrives, Before, Admissible, BestRoute, Best}
+use Rattle.route.specs.Arrival.{arrivalOf}
+use Rattle.route.specs.Search.{best}
+use Rattle.route.proofs.Tests.{lt-or-le}
+use Rattle.route.proofs.ArrivalLaws.{arrival-arrives}
+use Rattle.route.proofs.Meets.{best-meets}
+
+-- Two routes are not each before the other.
+before-asym : (r q : List ℕ) → Before r q → Before q r → ⊥
+before-asym r q a b = split (lt-or-le (a .beat) (b .beat)) (lt-or-le (b .beat) (a .beat))
+  where
+    meet : a .beat ≡ b .beat → ⊥
+    meet e = omega (arith, a .smaller, subst (λ (t : ℕ). cellAt q t < cellAt r t) (sym e) (b .smaller))
+
+    split : (a .beat < b .beat) ⊎ (b .beat ≤ a .beat) → (b .beat < a .beat) ⊎ (a .beat ≤ b .beat) → ⊥
+    split (inl l) k = omega (arith, a .smaller, b .same (a .beat) l)
+    split (inr l) (inl k) = omega (arith, b .smaller, a .same (b .beat) k)
+    split (inr l) (inr k) = meet (omega arith)
+
+module _ (task : Task) where
+  arrives : (vs : List View) (r : List ℕ) → Admissible task vs r →
+      Arrives (task .goal) (task .horizon) r (arrivalOf (task .goal) r (task .horizon))
+  arrives vs r adm = arrival-arrives (task .goal) r (task .horizon) (adm .is-route .ends)
+
+  route-unique : (vs : List View) (r q : List ℕ) → BestRoute task vs r → BestRoute task vs q → r ≡ q
+  route-unique vs r q x y =
+      split (x .first q a (y .admissible) hr (rw (← equal) at hq)) (y .first r a (x .admissible) (rw (← equal) at hq) hr)
+    where
+      a : ℕ
+      a = arrivalOf (task .goal) r (task .horizon)
+
+      b : ℕ
+      b = arrivalOf (task .goal) q (task .horizon)
+
+      hr : Arrives (task .goal) (task .horizon) r a
+      hr = arrives vs r (x .admissible)
+
+      hq : Arrives (task .goal) (task .horizon) q b
+      hq = arrives vs q (y .admissible)
+
+      equal : a ≡ b
+      equal = omega (arith, x .earliest q a b (y .admissible) hr hq, y .earliest r b a (x .admissible) hq hr)
+
+      split : (q ≡ r) ⊎ Before r q → (r ≡ q) ⊎ Before q r → r ≡ q
+      split (inl e) h = sym e
+      split (inr e) (inl h) = h
+      split (inr e) (inr h) = absurd (before-asym r q e h)
+
+  pub best-unique : (vs : List View) (x y : Answer) → Best task vs x → Best task vs y → x ≡ y
+  unfolding Best
+  best-unique vs none none hx hy = refl
+  best-unique vs none (route q) hx hy = absurd (hx q (hy .admissible))
+  best-unique vs (route r) none hx hy = absurd (hy r (hx .admissible))
+  best-unique vs (route r) (route q) hx hy = ap route (route-unique vs r q hx hy)
+
+  -- What is clear of vs is clear of ws.
+  abbrev Covers : List View → List View → Type 0
+  Covers vs ws = (r : List ℕ) → ClearOf (task .horizon) r vs → ClearOf (task .horizon) r ws
+
+  carry : (vs ws : List View) → Covers vs ws → (q : List ℕ) → Admissible task vs q → Admissible task ws q
+  carry vs ws c q adm = record { is-route = adm .is-route; clear = c q (adm .clear) }
+
+  best-carry : (vs ws : List View) → Covers vs ws → Covers ws vs → (x : Answer) → Best task vs x → Best task ws x
+  unfolding Best
+  best-carry vs ws to from none h = λ q adm. h q (carry ws vs from q adm)
+  best-carry vs ws to from (route r) h =
+      record {
+        admissible = carry vs ws to r (h .admissible);
+        earliest = λ q a b adm. h .earliest q a b (carry ws vs from q adm);
+        first = λ q a adm. h .first q a (carry ws vs from q adm);
+      }
+
+  pub best-same-clear : task .horizon ≤ 63 → (vs ws : List View) → Covers vs ws → Covers ws vs → best task vs ≡ best task ws
+  best-same-clear short vs ws to from =
+      best-unique ws (best task vs) (best task ws) (best-carry vs ws to from (best task vs) (best-meets task vs short))
+      (best-meets task ws short)
+
+  -- Order and repetition of the views do not matter.
+  pub best-same-views : task .horizon ≤ 63 → (vs ws : List View) → ((v : View) → List·Memᴰ v vs → List·Memᴰ v ws) →
+      ((v : View) → List·Memᴰ v ws → List·Memᴰ v vs) → best task vs ≡ best task ws
+  unfolding ClearOf
+  best-same-views short vs ws to from = best-same-clear short vs ws (λ r c v m. c v (from v m)) (λ r c v m. c v (to v m))
+
+  -- A view that nothing conflicts with may be left out.
+  pub best-left-out : task .horizon ≤ 63 → (vs ws : List View) (v : View) → ((r : List ℕ) → ClearOfView (task .horizon) r v) →
+      best task (vs ++ (v ∷ ws)) ≡ best task (vs ++ ws)
+  unfolding ClearOf
+  best-left-out short vs ws v silent = best-same-clear short (vs ++ (v ∷ ws)) (vs ++ ws) fewer more
+    where
+      wider : (u : View) → List·Memᴰ u vs ⊎ List·Memᴰ u ws → List·Memᴰ u (vs ++ (v ∷ ws))
+      wider u (inl m) = Memᴰ·append-left (v ∷ ws) m
+      wider u (inr m) = Memᴰ·append-right vs (List·Memᴰ·tail m)
+
+      fewer : (r : List ℕ) → ClearOf (task .horizon) r (vs ++ (v ∷ ws)) → ClearOf (task .horizon) r (vs ++ ws)
+      fewer r c u m = c u (wider u (List·Memᴰ·append-cases vs m))
+
+      last : (r : List ℕ) → ClearOf (task .horizon) r (vs ++ ws) → (u : View) → (u ≡ v) ⊎ List·Memᴰ u ws → ClearOfView (task .horizon) r u
+      last r c u (inl e) = rw e (silent r)
+      last r c u (inr m) = c u (Memᴰ·append-right vs m)
+
+      more : (r : List ℕ) → ClearOf (task .horizon) r (vs ++ ws) → ClearOf (task .horizon) r (vs ++ (v ∷ ws))
+      more r c u m =
+          ⊎-elim (λ (k : List·Memᴰ u vs). c u (Memᴰ·append-left ws k)) (λ (k : List·Memᴰ u (v ∷ ws)). last r c u (List·Memᴰ·cases-cons k))
+          (List·Memᴰ·append-cases vs m)

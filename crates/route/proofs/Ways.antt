@@ -1,0 +1,60 @@
+-- Ways over any rule of moves, by beat: what the theory of a search speaks of in place of routes.
+use Prim.Native.Nat.{ℕ, zero, suc, _≤_, _<_}
+use native.Mathlib.Omega.{arith}
+use mathlib.Core.Bool.{true}
+use mathlib.Core.Path.{_≡_, _∙_}
+use Rattle.route.specs.Search.{Rule, later}
+
+-- Each step of p is allowed for k beats, and then p is at the goal.
+pub record Way (goal k : ℕ) (ok : Rule) (p : ℕ → ℕ) : Type 0 where
+  pub steps : (i : ℕ) → i < k → ok i (p i) (p (suc i)) ≡ true
+  pub ends : p k ≡ goal
+
+-- p is at the goal from beat j through beat k.
+pub record Held (goal k : ℕ) (p : ℕ → ℕ) (j : ℕ) : Type 0 where
+  pub within : j ≤ k
+  pub held : (i : ℕ) → j ≤ i → i ≤ k → p i ≡ goal
+
+-- The rule leads only to cells of the grid.
+abbrev pub Inside : ℕ → Rule → Type 0
+Inside cells ok = (t c d : ℕ) → ok t c d ≡ true → d < cells
+
+-- Both are at the same cells through beat k.
+abbrev pub Same : ℕ → (ℕ → ℕ) → (ℕ → ℕ) → Type 0
+Same k p q = (i : ℕ) → i ≤ k → p i ≡ q i
+
+-- p has the smaller cell at the first beat where p and q differ, which is at most k.
+pub record Ahead (k : ℕ) (p q : ℕ → ℕ) : Type 0 where
+  pub beat : ℕ
+  pub within : beat ≤ k
+  pub smaller : p beat < q beat
+  pub same : (i : ℕ) → i < beat → p i ≡ q i
+
+-- The way without its first beat.
+abbrev pub rest : (ℕ → ℕ) → ℕ → ℕ
+rest p i = p (suc i)
+
+module _ {goal k : ℕ} {p : ℕ → ℕ} where
+  pub way-rest : {ok : Rule} → Way goal (suc k) ok p → Way goal k (later ok) (rest p)
+  way-rest w = record { steps = λ i h. w .steps (suc i) (omega arith); ends = w .ends }
+
+  pub way-held-last : {ok : Rule} → Way goal k ok p → Held goal k p k
+  way-held-last w = record { within = omega arith; held = λ i l h. rw (last i l h) (w .ends) }
+    where
+      last : (i : ℕ) → k ≤ i → i ≤ k → i ≡ k
+      last i l h = omega arith
+
+  pub held-rest : {j : ℕ} → Held goal (suc k) p (suc j) → Held goal k (rest p) j
+  held-rest h = record { within = omega (arith, h .within); held = λ i l b. h .held (suc i) (omega arith) (omega arith) }
+
+  pub held-rest-zero : Held goal (suc k) p zero → Held goal k (rest p) zero
+  held-rest-zero h = record { within = omega arith; held = λ i l b. h .held (suc i) (omega arith) (omega arith) }
+
+  pub way-same : {ok : Rule} {q : ℕ → ℕ} → Way goal k ok p → Same k q p → Way goal k ok q
+  way-same w s = record { steps = λ i h. rw (s i (omega arith), s (suc i) h) (w .steps i h); ends = s k (omega arith) ∙ w .ends }
+
+  pub held-same : {q : ℕ → ℕ} {j : ℕ} → Held goal k p j → Same k q p → Held goal k q j
+  held-same h s = record { within = h .within; held = λ i l b. s i b ∙ h .held i l b }
+
+  pub held-after : {j l : ℕ} → Held goal k p j → j ≤ l → l ≤ k → Held goal k p l
+  held-after h a b = record { within = b; held = λ i m n. h .held i (omega arith) n }

@@ -1,0 +1,8 @@
+-- In reading order: the nouns, the relations, the function `best`, what the code computes, the claims.
+pub mod Route
+pub mod Conflict
+pub mod Best
+pub mod Moves
+pub mod Search
+pub mod Arrival
+pub mod Claims

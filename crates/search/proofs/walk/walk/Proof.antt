@@ -1,0 +1,72 @@
+-- `search::walk::walk` meets its contract. The loop's invariant: `c` is the cell of the path at the beat, and the route has the cells
+-- passed. The measure is what is left of the beats. Assumes nothing.
+use Prim.Native.Nat.{_+_, _-_, _≤_, _<_}
+use native.Mathlib.Omega.{arith}
+use mathlib.Core.Path.{_≡_}
+use borrow.Author.Needs.{needs}
+use lib.ListN.{replicate}
+use Rattle.words.specs.Rows.{filled}
+use Rattle.words.proofs.RowsLaws.{filled-none, filled-more}
+use Rattle.search.specs.Passes.{pathOf}
+use Rattle.search.proofs.TurnLaws.{path-none, path-more}
+use Rattle.search.proofs.walk.walk.Statement.{statement}
+use Rattle.search.proofs.walk.walk.Tie as tie
+
+abbrev Inv-loop : tie.InvT-loop
+Inv-loop table views k w cells start goal a horizon r₀ c₀ t₀ r c t = (t ≤ horizon) × (c < cells) × (c ≡ pathOf w cells k views table start goal a t) × (r ≡ filled (replicate 64 0) (pathOf w cells k views table start goal a) (t + 1))
+
+abbrev μ-loop : tie.MeasureT-loop
+μ-loop table views k w cells start goal a horizon r₀ c₀ t₀ r c t = horizon - t
+
+cast-r : tie.Need-cast-r Inv-loop μ-loop
+cast-r c = search needs
+
+array-write-r : tie.Need-array-write-r Inv-loop μ-loop
+array-write-r c = search needs
+
+loop-holds : tie.Need-loop-holds Inv-loop μ-loop
+loop-holds c = (search needs, omega arith, path-none _ _ _ _ _ _ _ _, filled-more _ _ 0 _ _ (filled-none _ _) (path-none _ _ _ _ _ _ _ _))
+
+follow-requires : tie.Need-follow-requires Inv-loop μ-loop
+follow-requires c κs = let h = c .before .loop .inv .1 in omega arith
+
+add-t : tie.Need-add-t Inv-loop μ-loop
+add-t c = search needs
+
+cast-r-2 : tie.Need-cast-r-2 Inv-loop μ-loop
+cast-r-2 c = search needs
+
+mul-r : tie.Need-mul-r Inv-loop μ-loop
+mul-r c = search needs
+
+array-write-r-2 : tie.Need-array-write-r-2 Inv-loop μ-loop
+array-write-r-2 c = search needs
+
+loop-less : tie.Need-loop-less Inv-loop μ-loop
+loop-less c = omega arith
+
+loop-again : tie.Need-loop-again Inv-loop μ-loop
+loop-again c = let e = path-more _ _ _ _ _ _ _ _ _ _ _ (c .before .before .loop .inv .2) (c .follow .ensures .0) in
+    (search needs, c .follow .ensures .1, e, filled-more _ _ _ _ _ (c .before .before .loop .inv .3) e)
+
+returns : tie.Need-returns Inv-loop μ-loop
+returns c = let e : c .before .loop .t ≡ c .before .before .before .before .args .horizon = omega arith in
+    rw e at (c .before .loop .inv .3)
+
+pub walk-spec : {M : Type 1} → statement M
+walk-spec =
+    tie.close
+    (tie.spec
+    Inv-loop
+    μ-loop
+    cast-r
+    array-write-r
+    loop-holds
+    follow-requires
+    add-t
+    cast-r-2
+    mul-r
+    array-write-r-2
+    loop-less
+    loop-again
+    returns)

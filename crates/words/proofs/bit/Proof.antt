@@ -1,0 +1,17 @@
+-- `words::bit` meets its contract. A shift of 1 by a place below 32 wraps nothing. Assumes nothing.
+use borrow.Author.Needs.{needs}
+use Rattle.words.proofs.RowsLaws.{bit-word}
+use Rattle.words.proofs.bit.Statement.{statement}
+use Rattle.words.proofs.bit.Tie as tie
+
+cast-result : tie.Need-cast-result
+cast-result c = search needs
+
+shl-result : tie.Need-shl-result
+shl-result c = search needs
+
+returns : tie.Need-returns
+returns c = bit-word _ (c .pre)
+
+pub bit-spec : {M : Type 1} → statement M
+bit-spec = tie.close (tie.spec cast-result shl-result returns)
