@@ -5,4 +5,5 @@ pub mod Best
 pub mod Moves
 pub mod Search
 pub mod Arrival
+pub mod Sequential
 pub mod Claims
