@@ -17,7 +17,8 @@ use Rattle.search.specs.Marks.{marksOf}
 use Rattle.search.specs.Passes.{advanceOf}
 use Rattle.search.proofs.WayLaws.{wayOpen, way-stay, beside-above, beside-below, beside-left, beside-right}
 use Rattle.search.proofs.MarksLaws.{marks-taken, marks-way}
-use Rattle.search.proofs.MemberLaws.{member, member-has, member-holds, member-at, near-row, near-column, near-same, before-says, before-holds, Five, five-says, five-holds}
+use Rattle.search.proofs.MemberLaws.{member, member-has, member-holds, member-at, near-row, near-column, near-same, before-says}
+use Rattle.search.proofs.MemberLaws.{before-holds, Five, five-says, five-holds}
 
 -- An open way leads to cell d from a near cell of the set s.
 pub record Entered (w cells : ℕ) (m : List ℕ) (a b k : ℕ) (s : List ℕ) (d : ℕ) : Type 0 where
@@ -35,7 +36,8 @@ pub record Stepping (w cells b : ℕ) : Type 0 where
 
 module _ (w cells : ℕ) (m : List ℕ) (a b k : ℕ) (grid : Stepping w cells b) (s : List ℕ) (r q : ℕ) (row : r < 32) (column : q < w)
     (cell : r * w + q < cells) where
-  from-left : Clean w cells s → (before (λ j. has s r j) q && not (has (marksOf w cells m a b k) (96 + r) q)) ≡ true → Entered w cells m a b k s (r * w + q)
+  from-left : Clean w cells s → (before (λ j. has s r j) q && not (has (marksOf w cells m a b k) (96 + r) q)) ≡ true →
+      Entered w cells m a b k s (r * w + q)
   from-left clean e = make (x .0) (x .1) (x .2)
     where
       x : (n : ℕ) × (q ≡ suc n) × (has s r n ≡ true)
@@ -48,11 +50,13 @@ module _ (w cells : ℕ) (m : List ℕ) (a b k : ℕ) (grid : Stepping w cells b
             inset = member-at w cells s r n (clean .thin r n h) (clean .inside r n h) h;
             beside = near-row w r n q (omega (arith, clean .thin r n h)) column (inr p);
             way =
-                sym (marks-way w cells (grid .thin) (grid .room) m a b r q row column cell 3 (r * w + n) k (beside-left w (r * w + q) (r * w + n) (omega arith) (omega arith)))
+                sym (marks-way w cells (grid .thin) (grid .room) m a b r q row column cell 3 (r * w + n) k
+                (beside-left w (r * w + q) (r * w + n) (omega arith) (omega arith)))
                 ∙ and-snd (before (λ j. has s r j) q) (not (has (marksOf w cells m a b k) (96 + r) q)) e;
           }
 
-  from-above : Clean w cells s → (before (λ i. has s i q) r && not (has (marksOf w cells m a b k) (32 + r) q)) ≡ true → Entered w cells m a b k s (r * w + q)
+  from-above : Clean w cells s → (before (λ i. has s i q) r && not (has (marksOf w cells m a b k) (32 + r) q)) ≡ true →
+      Entered w cells m a b k s (r * w + q)
   from-above clean e = make (x .0) (x .1) (x .2)
     where
       x : (n : ℕ) × (r ≡ suc n) × (has s n q ≡ true)
@@ -65,32 +69,37 @@ module _ (w cells : ℕ) (m : List ℕ) (a b k : ℕ) (grid : Stepping w cells b
             inset = member-at w cells s n q (clean .thin n q h) (clean .inside n q h) h;
             beside = near-column w n r q column (inr p);
             way =
-                sym (marks-way w cells (grid .thin) (grid .room) m a b r q row column cell 1 (n * w + q) k (beside-above w (r * w + q) (n * w + q) (grid .thin) (omega (arith, ap (λ (i : ℕ). i * w) p, suc-mul n w))))
+                sym (marks-way w cells (grid .thin) (grid .room) m a b r q row column cell 1 (n * w + q) k
+                (beside-above w (r * w + q) (n * w + q) (grid .thin) (omega (arith, ap (λ (i : ℕ). i * w) p, suc-mul n w))))
                 ∙ and-snd (before (λ i. has s i q) r) (not (has (marksOf w cells m a b k) (32 + r) q)) e;
           }
 
-  from-right : Clean w cells s → (has s r (suc q) && not (has (marksOf w cells m a b k) (128 + r) q)) ≡ true → Entered w cells m a b k s (r * w + q)
+  from-right : Clean w cells s → (has s r (suc q) && not (has (marksOf w cells m a b k) (128 + r) q)) ≡ true →
+      Entered w cells m a b k s (r * w + q)
   from-right clean e =
       record {
         from = r * w + suc q;
         inset = member-at w cells s r (suc q) (clean .thin r (suc q) h) (clean .inside r (suc q) h) h;
         beside = near-row w r (suc q) q (clean .thin r (suc q) h) column (inl refl);
         way =
-            sym (marks-way w cells (grid .thin) (grid .room) m a b r q row column cell 4 (r * w + suc q) k (beside-right w (r * w + q) (r * w + suc q) (omega (arith, clean .thin r (suc q) h)) (omega arith)))
+            sym (marks-way w cells (grid .thin) (grid .room) m a b r q row column cell 4 (r * w + suc q) k
+            (beside-right w (r * w + q) (r * w + suc q) (omega (arith, clean .thin r (suc q) h)) (omega arith)))
             ∙ and-snd (has s r (suc q)) (not (has (marksOf w cells m a b k) (128 + r) q)) e;
       }
     where
       h : has s r (suc q) ≡ true
       h = and-fst (has s r (suc q)) (not (has (marksOf w cells m a b k) (128 + r) q)) e
 
-  from-below : Clean w cells s → (has s (suc r) q && not (has (marksOf w cells m a b k) (64 + r) q)) ≡ true → Entered w cells m a b k s (r * w + q)
+  from-below : Clean w cells s → (has s (suc r) q && not (has (marksOf w cells m a b k) (64 + r) q)) ≡ true →
+      Entered w cells m a b k s (r * w + q)
   from-below clean e =
       record {
         from = suc r * w + q;
         inset = member-at w cells s (suc r) q (clean .thin (suc r) q h) (clean .inside (suc r) q h) h;
         beside = near-column w (suc r) r q column (inl refl);
         way =
-            sym (marks-way w cells (grid .thin) (grid .room) m a b r q row column cell 2 (suc r * w + q) k (beside-below w (r * w + q) (suc r * w + q) (grid .thin) (omega (arith, suc-mul r w))))
+            sym (marks-way w cells (grid .thin) (grid .room) m a b r q row column cell 2 (suc r * w + q) k
+            (beside-below w (r * w + q) (suc r * w + q) (grid .thin) (omega (arith, suc-mul r w))))
             ∙ and-snd (has s (suc r) q) (not (has (marksOf w cells m a b k) (64 + r) q)) e;
       }
     where
@@ -112,7 +121,10 @@ module _ (w cells : ℕ) (m : List ℕ) (a b k : ℕ) (grid : Stepping w cells b
   unfolding brought
   brought-entered clean clear e =
       ⊎-elim (from-here clear) (⊎-elim (from-left clean) (⊎-elim (from-right clean) (⊎-elim (from-above clean) (from-below clean))))
-      (five-says (has s r q) (before (λ j. has s r j) q && not (has (marksOf w cells m a b k) (96 + r) q)) (has s r (suc q) && not (has (marksOf w cells m a b k) (128 + r) q)) (before (λ i. has s i q) r && not (has (marksOf w cells m a b k) (32 + r) q)) (has s (suc r) q && not (has (marksOf w cells m a b k) (64 + r) q)) e)
+      (five-says (has s r q) (before (λ j. has s r j) q && not (has (marksOf w cells m a b k) (96 + r) q))
+      (has s r (suc q) && not (has (marksOf w cells m a b k) (128 + r) q))
+      (before (λ i. has s i q) r && not (has (marksOf w cells m a b k) (32 + r) q))
+      (has s (suc r) q && not (has (marksOf w cells m a b k) (64 + r) q)) e)
 
   -- The cell c that leads here lies here, left, right, above or below.
   module _ (c : ℕ) (inset : member w cells s c ≡ true) (way : wayOpen m a b c (r * w + q) k ≡ true) where
@@ -134,21 +146,25 @@ module _ (w cells : ℕ) (m : List ℕ) (a b k : ℕ) (grid : Stepping w cells b
     to-here : r * w + q ≡ c → has s r q ≡ true
     to-here e = has-of r q (rw e at place) (rw e at rest)
 
-    to-left : c / w ≡ (r * w + q) / w → (r * w + q) % w ≡ suc (c % w) → (before (λ j. has s r j) q && not (has (marksOf w cells m a b k) (96 + r) q)) ≡ true
+    to-left : c / w ≡ (r * w + q) / w → (r * w + q) % w ≡ suc (c % w) →
+        (before (λ j. has s r j) q && not (has (marksOf w cells m a b k) (96 + r) q)) ≡ true
     to-left e h =
         and-both (before-holds (λ j. has s r j) q (c % w) (sym rest ∙ h) (has-of r (c % w) (e ∙ place) refl))
         (marks-way w cells (grid .thin) (grid .room) m a b r q row column cell 3 c k
-        (beside-left w (r * w + q) c (omega (arith, column, sym rest ∙ h)) (omega (arith, cell-of, ap (λ (i : ℕ). i * w) (e ∙ place), sym rest ∙ h)))
+        (beside-left w (r * w + q) c (omega (arith, column, sym rest ∙ h))
+        (omega (arith, cell-of, ap (λ (i : ℕ). i * w) (e ∙ place), sym rest ∙ h)))
         ∙ way)
 
-    to-right : c / w ≡ (r * w + q) / w → c % w ≡ suc ((r * w + q) % w) → (has s r (suc q) && not (has (marksOf w cells m a b k) (128 + r) q)) ≡ true
+    to-right : c / w ≡ (r * w + q) / w → c % w ≡ suc ((r * w + q) % w) →
+        (has s r (suc q) && not (has (marksOf w cells m a b k) (128 + r) q)) ≡ true
     to-right e h =
         and-both (has-of r (suc q) (e ∙ place) (h ∙ ap suc rest))
         (marks-way w cells (grid .thin) (grid .room) m a b r q row column cell 4 c k
         (beside-right w (r * w + q) c (omega (arith, thin-of)) (omega (arith, cell-of, ap (λ (i : ℕ). i * w) (e ∙ place), h ∙ ap suc rest)))
         ∙ way)
 
-    to-above : c % w ≡ (r * w + q) % w → (r * w + q) / w ≡ suc (c / w) → (before (λ i. has s i q) r && not (has (marksOf w cells m a b k) (32 + r) q)) ≡ true
+    to-above : c % w ≡ (r * w + q) % w → (r * w + q) / w ≡ suc (c / w) →
+        (before (λ i. has s i q) r && not (has (marksOf w cells m a b k) (32 + r) q)) ≡ true
     to-above e h =
         and-both (before-holds (λ i. has s i q) r (c / w) (sym place ∙ h) (has-of (c / w) q refl (e ∙ rest)))
         (marks-way w cells (grid .thin) (grid .room) m a b r q row column cell 1 c k
@@ -156,7 +172,8 @@ module _ (w cells : ℕ) (m : List ℕ) (a b k : ℕ) (grid : Stepping w cells b
         (omega (arith, cell-of, ap (λ (i : ℕ). i * w) (sym place ∙ h), suc-mul (c / w) w, e ∙ rest)))
         ∙ way)
 
-    to-below : c % w ≡ (r * w + q) % w → c / w ≡ suc ((r * w + q) / w) → (has s (suc r) q && not (has (marksOf w cells m a b k) (64 + r) q)) ≡ true
+    to-below : c % w ≡ (r * w + q) % w → c / w ≡ suc ((r * w + q) / w) →
+        (has s (suc r) q && not (has (marksOf w cells m a b k) (64 + r) q)) ≡ true
     to-below e h =
         and-both (has-of (suc r) q (h ∙ ap suc place) (e ∙ rest))
         (marks-way w cells (grid .thin) (grid .room) m a b r q row column cell 2 c k
@@ -167,11 +184,17 @@ module _ (w cells : ℕ) (m : List ℕ) (a b k : ℕ) (grid : Stepping w cells b
     to-brought : near w c (r * w + q) ≡ true → brought s (marksOf w cells m a b k) r q ≡ true
     unfolding brought SharesSide Neighbours
     to-brought e =
-        five-holds (has s r q) (before (λ j. has s r j) q && not (has (marksOf w cells m a b k) (96 + r) q)) (has s r (suc q) && not (has (marksOf w cells m a b k) (128 + r) q)) (before (λ i. has s i q) r && not (has (marksOf w cells m a b k) (32 + r) q)) (has s (suc r) q && not (has (marksOf w cells m a b k) (64 + r) q))
+        five-holds (has s r q) (before (λ j. has s r j) q && not (has (marksOf w cells m a b k) (96 + r) q))
+        (has s r (suc q) && not (has (marksOf w cells m a b k) (128 + r) q))
+        (before (λ i. has s i q) r && not (has (marksOf w cells m a b k) (32 + r) q))
+        (has s (suc r) q && not (has (marksOf w cells m a b k) (64 + r) q))
         (go (near-says w c (r * w + q) e))
       where
         go : (r * w + q ≡ c) ⊎ SharesSide w c (r * w + q) →
-            Five (has s r q ≡ true) ((before (λ j. has s r j) q && not (has (marksOf w cells m a b k) (96 + r) q)) ≡ true) ((has s r (suc q) && not (has (marksOf w cells m a b k) (128 + r) q)) ≡ true) ((before (λ i. has s i q) r && not (has (marksOf w cells m a b k) (32 + r) q)) ≡ true) ((has s (suc r) q && not (has (marksOf w cells m a b k) (64 + r) q)) ≡ true)
+            Five (has s r q ≡ true) ((before (λ j. has s r j) q && not (has (marksOf w cells m a b k) (96 + r) q)) ≡ true)
+            ((has s r (suc q) && not (has (marksOf w cells m a b k) (128 + r) q)) ≡ true)
+            ((before (λ i. has s i q) r && not (has (marksOf w cells m a b k) (32 + r) q)) ≡ true)
+            ((has s (suc r) q && not (has (marksOf w cells m a b k) (64 + r) q)) ≡ true)
         go (inl h) = inl (to-here h)
         go (inr (inl (h, inl l))) = inr (inr (inl (to-right h l)))
         go (inr (inl (h, inr l))) = inr (inl (to-left h l))
@@ -211,7 +234,8 @@ module _ (w cells k : ℕ) (free m : List ℕ) (a b : ℕ) (grid : Stepping w ce
       all = sym step-has ∙ member-has w cells (advanceOf w cells k free m a b s) d e
 
       there : (has free (d / w) (d % w) && every (vacant b d) (records m k)) ≡ true
-      there = and-snd (brought s (marksOf w cells m a b k) (d / w) (d % w)) (has free (d / w) (d % w) && every (vacant b d) (records m k)) all
+      there =
+          and-snd (brought s (marksOf w cells m a b k) (d / w) (d % w)) (has free (d / w) (d % w) && every (vacant b d) (records m k)) all
 
       clear : every (vacant b d) (records m k) ≡ true
       clear = and-snd (has free (d / w) (d % w)) (every (vacant b d) (records m k)) there

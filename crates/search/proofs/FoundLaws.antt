@@ -25,9 +25,11 @@ use Rattle.search.proofs.TableLaws.{table-has}
 use Rattle.search.proofs.BackLaws.{Masked, unmasked, masked-in, masked-of, masked-backward}
 use Rattle.search.proofs.NextLaws.{step-before, step-after, leads-inside}
 use Rattle.search.proofs.NextBest.{Taken, next-best}
-use Rattle.search.proofs.PassLaws.{Setting, F, T, forward-passes, forward-stands, back-masked, allowed-near, allowed-passes, allowed-makes, allowed-stands, hold-holds, holds-hold}
+use Rattle.search.proofs.PassLaws.{Setting, F, T, forward-passes, forward-stands, back-masked, allowed-near, allowed-passes}
+use Rattle.search.proofs.PassLaws.{allowed-makes, allowed-stands, hold-holds, holds-hold}
 
-module _ (task : Task) (free m : List ℕ) (k : ℕ) (set : Setting task free) (clear : standable task (records m k) 0 (task .start) ≡ true) where
+module _ (task : Task) (free m : List ℕ) (k : ℕ) (set : Setting task free)
+    (clear : standable task (records m k) 0 (task .start) ≡ true) where
   arrivable-reaches : (t : ℕ) → t ≤ 63 →
       arrivable (task .width) (task .cells) k free m (task .start) (task .goal) (task .horizon) t ≡ true →
       Reaches (allowed task (records m k)) (task .goal) (task .horizon) (F task free m k set) t
@@ -55,7 +57,8 @@ module _ (task : Task) (free m : List ℕ) (k : ℕ) (set : Setting task free) (
       and-both (le-leb (holdOf m k (task .goal) (task .horizon)) t (holds-hold task free m k set t (r .holds)))
       (member-has (task .width) (task .cells) (forwardOf (task .width) (task .cells) k free m (task .start) t) (task .goal) (r .reached))
 
-  pub never-best : (a : ℕ) → Earliest (arrivable (task .width) (task .cells) k free m (task .start) (task .goal) (task .horizon)) (task .horizon + 1) a →
+  pub never-best : (a : ℕ) →
+      Earliest (arrivable (task .width) (task .cells) k free m (task .start) (task .goal) (task .horizon)) (task .horizon + 1) a →
       task .horizon < a → best task (records m k) ≡ none
   never-best a e h =
       not-found-best task (records m k) (set .short) (F task free m k set)
@@ -65,7 +68,8 @@ module _ (task : Task) (free m : List ℕ) (k : ℕ) (set : Setting task free) (
       })
 
   module _ (a : ℕ) (within : a ≤ task .horizon)
-      (earliest : Earliest (arrivable (task .width) (task .cells) k free m (task .start) (task .goal) (task .horizon)) (task .horizon + 1) a) where
+      (earliest : Earliest (arrivable (task .width) (task .cells) k free m (task .start) (task .goal) (task .horizon))
+      (task .horizon + 1) a) where
     table : List ℕ
     table = tableOf (task .width) (task .cells) k free m (task .goal) a a
 
@@ -104,7 +108,8 @@ module _ (task : Task) (free m : List ℕ) (k : ℕ) (set : Setting task free) (
     leads-says t c h b d e = (
       and-fst b (ltb d (task .cells)) two,
       (
-        member-holds (task .width) (task .cells) rows d inside (sym (table-member t d h inside) ∙ and-snd (b && ltb d (task .cells)) held three),
+        member-holds (task .width) (task .cells) rows d inside
+            (sym (table-member t d h inside) ∙ and-snd (b && ltb d (task .cells)) held three),
         and-snd (b && ltb d (task .cells) && held) (every (passable t c d) (records m k)) e,
       ),
     )
@@ -129,7 +134,8 @@ module _ (task : Task) (free m : List ℕ) (k : ℕ) (set : Setting task free) (
     unfolding leadsOf T
     leads-holds t c h b d e g =
         and-both
-        (and-both (and-both e (lt-ltb d (task .cells) inside)) (table-member t d h inside ∙ member-has (task .width) (task .cells) rows d (g .0)))
+        (and-both (and-both e (lt-ltb d (task .cells) inside))
+        (table-member t d h inside ∙ member-has (task .width) (task .cells) rows d (g .0)))
         (g .1)
       where
         rows : List ℕ
@@ -156,13 +162,20 @@ module _ (task : Task) (free m : List ℕ) (k : ℕ) (set : Setting task free) (
         at-last : suc t ≡ a → (allowed task (records m k) t (x t) (x (suc t)) ≡ true) × (B (suc t) (x (suc t)) ≡ true) × (x (suc t) ≤ d)
         at-last q =
             let g : d ≡ task .goal =
-            ((masked-backward (allowed task (records m k)) (standable task (records m k)) (task .goal) a (task .cells) (T task free m k set a)
+            ((masked-backward (allowed task (records m k)) (standable task (records m k)) (task .goal) a (task .cells)
+            (T task free m k set a)
             (back-masked task free m k set a short stands)) .begins d) .0 (rw q at l) in
             let p : x (suc t) ≡ d = path-last t (omega arith) ∙ sym g in
             rw p (e, l, omega arith)
 
         before : suc t < a → (allowed task (records m k) t (x t) (x (suc t)) ≡ true) × (B (suc t) (x (suc t)) ≡ true) × (x (suc t) ≤ d)
-        before q = rw (path-next t q) (move, masked-in ok stand (task .goal) a (task .cells) (T task free m k set a) masked (suc t) n h (taken .leads .0), taken .least)
+        before q =
+            rw (path-next t q) (
+              move,
+              masked-in ok stand (task .goal) a (task .cells) (T task free m k set a) masked (suc t) n h
+                  (taken .leads .0),
+              taken .least,
+            )
           where
             ok : ℕ → ℕ → ℕ → Bool
             ok = allowed task (records m k)
@@ -178,7 +191,8 @@ module _ (task : Task) (free m : List ℕ) (k : ℕ) (set : Setting task free) (
 
             good : Good t (x t) d
             good = (
-              masked-of ok stand (task .goal) a (task .cells) (T task free m k set a) masked (suc t) d h (allowed-stands task free m k set t (x t) d e) l,
+              masked-of ok stand (task .goal) a (task .cells) (T task free m k set a) masked (suc t) d h
+                  (allowed-stands task free m k set t (x t) d e) l,
               allowed-passes task free m k set t (x t) d e,
             )
 
@@ -190,7 +204,8 @@ module _ (task : Task) (free m : List ℕ) (k : ℕ) (set : Setting task free) (
 
             move : allowed task (records m k) t (x t) n ≡ true
             move =
-                allowed-makes task free m k set t (x t) n (taken .beside) ((masked .says (suc t) n q (taken .leads .0)) .0) (taken .leads .1)
+                allowed-makes task free m k set t (x t) n (taken .beside) ((masked .says (suc t) n q (taken .leads .0)) .0)
+                (taken .leads .1)
 
     r : List ℕ
     r = filled (replicate 64 0) x (task .horizon + 1)
@@ -230,7 +245,8 @@ module _ (task : Task) (free m : List ℕ) (k : ℕ) (set : Setting task free) (
           forward = forward-passes task free m k set a short;
           least = record { within = within; reaches = reaches; none-before = λ b l q. earliest .none-before b l (reaches-arrivable b q) };
           backward =
-              masked-backward (allowed task (records m k)) (standable task (records m k)) (task .goal) a (task .cells) (T task free m k set a)
+              masked-backward (allowed task (records m k)) (standable task (records m k)) (task .goal) a (task .cells)
+              (T task free m k set a)
               (back-masked task free m k set a short stands);
           greedy = greedy;
           long = length-filled (replicate 64 0) x (task .horizon + 1) ∙ sixty-four;
@@ -240,7 +256,8 @@ module _ (task : Task) (free m : List ℕ) (k : ℕ) (set : Setting task free) (
     pub route-best : best task (records m k) ≡
         route
         (filled (replicate 64 0)
-        (pathOf (task .width) (task .cells) k m (tableOf (task .width) (task .cells) k free m (task .goal) a a) (task .start) (task .goal) a)
+        (pathOf (task .width) (task .cells) k m (tableOf (task .width) (task .cells) k free m (task .goal) a a) (task .start)
+        (task .goal) a)
         (task .horizon + 1))
     unfolding r x table
     route-best = found-best task (records m k) (set .short) (F task free m k set) B a r found

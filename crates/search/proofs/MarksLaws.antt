@@ -44,7 +44,8 @@ middle-not false y z e = refl
 -- What a view marks at its own cell, seen from another cell x of the grid.
 taken-test : (c x cells : ℕ) → x < cells → (ltb c cells && true && eqb c x) ≡ eqb x c
 taken-test c x cells h =
-    same-test (ltb c cells && true && eqb c x) (eqb x c) (λ t. eq-eqb x c (sym (eqb-true c x (and-snd (ltb c cells && true) (eqb c x) t)))) back
+    same-test (ltb c cells && true && eqb c x) (eqb x c)
+    (λ t. eq-eqb x c (sym (eqb-true c x (and-snd (ltb c cells && true) (eqb c x) t)))) back
   where
     back : eqb x c ≡ true → (ltb c cells && true && eqb c x) ≡ true
     back t =
@@ -80,7 +81,8 @@ module _ (w cells : ℕ) (thin : 0 < w) (room : cells ≤ 32 * w) (m : List ℕ)
       (has s (e * 32 + i) j || (ltb c cells && eqb e 0 && eqb c (i * w + j)) || (ltb d cells && eqb e (sideOf w d c) && eqb d (i * w + j)))
   unfolding shutBy
   has-shut s d c e i j h l k =
-      has-marked w cells thin room (marked w cells 0 c s) (sideOf w d c) d e i j (omega (arith, length-marked w cells 0 c s, side-small w d c)) l k
+      has-marked w cells thin room (marked w cells 0 c s) (sideOf w d c) d e i j
+      (omega (arith, length-marked w cells 0 c s, side-small w d c)) l k
       ∙ rw (has-marked w cells thin room s 0 c e i j (omega arith) l k)
 
   module _ (i j : ℕ) (row : i < 32) (column : j < w) (cell : i * w + j < cells) where
@@ -90,7 +92,8 @@ module _ (w cells : ℕ) (thin : 0 < w) (room : cells ≤ 32 * w) (m : List ℕ)
     unfolding marksOf every records
     marks-taken zero h l = rw (has-zeros 192 (0 * 32 + i) j)
     marks-taken (suc k) h l =
-        ap not (has-shut (marksOf w cells m a b k) (spotOf m k a) (spotOf m k b) 0 i j (length-marks k) row column ∙ ap (λ (t : Bool). here || t) other
+        ap not (has-shut (marksOf w cells m a b k) (spotOf m k a) (spotOf m k b) 0 i j (length-marks k) row column ∙ ap
+        (λ (t : Bool). here || t) other
         ∙ or-false here)
         ∙ not-or (has (marksOf w cells m a b k) (0 * 32 + i) j) _ _ (eqb (i * w + j) (spotOf m k b)) (marks-taken k h l)
         (taken-test (spotOf m k b) (i * w + j) cells cell)

@@ -30,13 +30,15 @@ module _ (w c : ℕ) (thin : 0 < w) where
 
   near-up : w ≤ c → near w c (c - w) ≡ true
   unfolding SharesSide Neighbours
-  near-up h = near-holds w c (c - w) (inr (inr (rw back at (add-mod-right (c - w) w), inl (rw back at (add-div-right (c - w) thin) ∙ omega arith))))
+  near-up h =
+      near-holds w c (c - w) (inr (inr (rw back at (add-mod-right (c - w) w), inl (rw back at (add-div-right (c - w) thin) ∙ omega arith))))
     where
       back : c - w + w ≡ c
       back = omega arith
 
   near-left : 0 < c % w → near w c (c - 1) ≡ true
-  near-left h = rw (same, less) at (near-row w (c / w) (c % w) (c % w - 1) (mod-lt c thin) (omega (arith, mod-lt c thin)) (inl (omega arith)))
+  near-left h =
+      rw (same, less) at (near-row w (c / w) (c % w) (c % w - 1) (mod-lt c thin) (omega (arith, mod-lt c thin)) (inl (omega arith)))
     where
       same : c / w * w + c % w ≡ c
       same = div-add-mod' c w
@@ -155,7 +157,8 @@ module _ (w c : ℕ) (thin : 0 < w) where
         fifth : (b : Bool) → take true (c + w) ≡ b → take (leb w c) (c - w) ≡ false → take (ltb 0 (c % w)) (c - 1) ≡ false →
             take true c ≡ false → take (ltb (c % w + 1) w) (c + 1) ≡ false → Taken (nextOf take w c)
         fifth true t p q r u =
-            rw (← next-down take w c p q r u t) (record { beside = near-down; leads = says true (c + w) t .1; least = least-down x p q r u })
+            rw (← next-down take w c p q r u t)
+            (record { beside = near-down; leads = says true (c + w) t .1; least = least-down x p q r u })
         fifth false t p q r u = absurd (some-taken x p q r u t)
 
         fourth : (b : Bool) → take (ltb (c % w + 1) w) (c + 1) ≡ b → take (leb w c) (c - w) ≡ false →
@@ -166,7 +169,8 @@ module _ (w c : ℕ) (thin : 0 < w) where
             (record { beside = near-right (ltb-true (c % w + 1) w (s .0)); leads = s .1; least = least-right x p q r })
         fourth false t p q r = fifth (take true (c + w)) refl p q r t
 
-        third : (b : Bool) → take true c ≡ b → take (leb w c) (c - w) ≡ false → take (ltb 0 (c % w)) (c - 1) ≡ false → Taken (nextOf take w c)
+        third : (b : Bool) → take true c ≡ b → take (leb w c) (c - w) ≡ false → take (ltb 0 (c % w)) (c - 1) ≡ false →
+            Taken (nextOf take w c)
         third true t p q =
             rw (← next-here take w c p q t) (record { beside = near-same w c; leads = says true c t .1; least = least-here x p q })
         third false t p q = fourth (take (ltb (c % w + 1) w) (c + 1)) refl p q t

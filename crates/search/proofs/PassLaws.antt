@@ -67,7 +67,8 @@ module _ (task : Task) (free m : List ℕ) (k : ℕ) (set : Setting task free) w
   unfolding standable
   stand-vacant t d e = and-snd (ltb d (task .cells) && task .free d) (every (vacant t d) (records m k)) e
 
-  pub stand-holds : (t d : ℕ) → d < task .cells → has free (d / task .width) (d % task .width) ≡ true → every (vacant t d) (records m k) ≡ true →
+  pub stand-holds : (t d : ℕ) → d < task .cells → has free (d / task .width) (d % task .width) ≡ true →
+      every (vacant t d) (records m k) ≡ true →
       standable task (records m k) t d ≡ true
   unfolding standable
   stand-holds t d h f v = and-both (and-both (lt-ltb d (task .cells) h) (set .agrees d ∙ f)) v
@@ -86,7 +87,8 @@ module _ (task : Task) (free m : List ℕ) (k : ℕ) (set : Setting task free) w
 
   pub allowed-passes : (t c d : ℕ) → allowed task (records m k) t c d ≡ true → every (passable t c d) (records m k) ≡ true
   unfolding allowed
-  allowed-passes t c d e = and-snd (near (task .width) c d && standable task (records m k) (suc t) d) (every (passable t c d) (records m k)) e
+  allowed-passes t c d e =
+      and-snd (near (task .width) c d && standable task (records m k) (suc t) d) (every (passable t c d) (records m k)) e
 
   pub allowed-makes : (t c d : ℕ) → near (task .width) c d ≡ true → standable task (records m k) (suc t) d ≡ true →
       every (passable t c d) (records m k) ≡ true → allowed task (records m k) t c d ≡ true
@@ -106,7 +108,8 @@ module _ (task : Task) (free m : List ℕ) (k : ℕ) (set : Setting task free) w
 
       says : member (task .width) (task .cells) (advanceOf (task .width) (task .cells) k free m t (suc t) before) d ≡ true →
           Reached (allowed task (records m k)) F t d
-      says e = (x .2 .from, x .2 .inset, allowed-makes t (x .2 .from) d (x .2 .beside) (stand-holds (suc t) d inside (x .0) (x .1)) clear-way)
+      says e =
+          (x .2 .from, x .2 .inset, allowed-makes t (x .2 .from) d (x .2 .beside) (stand-holds (suc t) d inside (x .0) (x .1)) clear-way)
         where
           inside : d < task .cells
           inside = member-cell (task .width) (task .cells) (advanceOf (task .width) (task .cells) k free m t (suc t) before) d e
@@ -119,7 +122,8 @@ module _ (task : Task) (free m : List ℕ) (k : ℕ) (set : Setting task free) w
 
           clear-way : every (passable t (x .2 .from) d) (records m k) ≡ true
           clear-way =
-              way-forward m (x .2 .from) d t k (omega arith) (small (x .2 .from) (member-cell (task .width) (task .cells) before (x .2 .from) (x .2 .inset)))
+              way-forward m (x .2 .from) d t k (omega arith)
+              (small (x .2 .from) (member-cell (task .width) (task .cells) before (x .2 .from) (x .2 .inset)))
               ∙ x .2 .way
 
       holds : Reached (allowed task (records m k)) F t d →
@@ -131,7 +135,9 @@ module _ (task : Task) (free m : List ℕ) (k : ℕ) (set : Setting task free) w
             from = c;
             inset = f;
             beside = allowed-near t c d e;
-            way = sym (way-forward m c d t k (omega arith) (small c (member-cell (task .width) (task .cells) before c f))) ∙ allowed-passes t c d e;
+            way =
+                sym (way-forward m c d t k (omega arith) (small c (member-cell (task .width) (task .cells) before c f)))
+                ∙ allowed-passes t c d e;
           })
         where
           s : standable task (records m k) (suc t) d ≡ true
@@ -198,7 +204,8 @@ module _ (task : Task) (free m : List ℕ) (k : ℕ) (set : Setting task free) w
         before : t < a → standable task (records m k) t c ≡ true
         before l = stand-holds t c (back-inside t c e) ((entered t c l e) .0) ((entered t c l e) .1)
 
-    back-says : (t c : ℕ) → t < a → T a t c ≡ true → (standable task (records m k) t c ≡ true) × Leading (allowed task (records m k)) (T a) t c
+    back-says : (t c : ℕ) → t < a → T a t c ≡ true →
+        (standable task (records m k) t c ≡ true) × Leading (allowed task (records m k)) (T a) t c
     unfolding T
     back-says t c h e = (back-stands t c (omega arith) e, (x .from, move, x .inset))
       where
@@ -210,12 +217,14 @@ module _ (task : Task) (free m : List ℕ) (k : ℕ) (set : Setting task free) w
             allowed-makes t c (x .from) (near-sym (task .width) (x .from) c (x .beside)) (back-stands (suc t) (x .from) h (x .inset))
             (way-backward m (x .from) c t k (omega arith) (small c (back-inside t c e)) ∙ x .way)
 
-    back-holds : (t c : ℕ) → t < a → standable task (records m k) t c ≡ true → Leading (allowed task (records m k)) (T a) t c → T a t c ≡ true
+    back-holds : (t c : ℕ) → t < a → standable task (records m k) t c ≡ true → Leading (allowed task (records m k)) (T a) t c →
+        T a t c ≡ true
     unfolding T
     back-holds t c h s (d, e, l) =
         rw (back-step a t h)
         (advance-holds (task .width) (task .cells) k free m (suc t) t (stepping t (omega arith))
-        (backwardOf (task .width) (task .cells) k free m (task .goal) a (a - suc t)) c (stand-cell t c s) (stand-free t c s) (stand-vacant t c s)
+        (backwardOf (task .width) (task .cells) k free m (task .goal) a (a - suc t)) c (stand-cell t c s) (stand-free t c s)
+        (stand-vacant t c s)
         (record {
           from = d;
           inset = l;
@@ -250,4 +259,6 @@ module _ (task : Task) (free m : List ℕ) (k : ℕ) (set : Setting task free) w
       clear = hold-says m k (task .goal) a (task .horizon) h t l u
 
   pub holds-hold : (a : ℕ) → Holds (allowed task (records m k)) (task .goal) (task .horizon) a → holdOf m k (task .goal) (task .horizon) ≤ a
-  holds-hold a h = hold-least m k (task .goal) a (task .horizon) (λ t l u. stand-vacant (suc t) (task .goal) (allowed-stands t (task .goal) (task .goal) (h t l u)))
+  holds-hold a h =
+      hold-least m k (task .goal) a (task .horizon)
+      (λ t l u. stand-vacant (suc t) (task .goal) (allowed-stands t (task .goal) (task .goal) (h t l u)))

@@ -26,7 +26,11 @@ module _ (f : Floor) (ws : List ℕ) (i : ℕ) (m : List ℕ) where
       record {
         accepted = (theorems .passes-exactly f ws) .0 (one .0);
         lent = leb-true (65 * f .carriers) (length m) (demand-holds (leb (65 * f .carriers) (length m)) 9 0 (two .0));
-        listed = (leb-true 1 i (and-fst (leb 1 i) (leb i (f .carriers)) three), leb-true i (f .carriers) (and-snd (leb 1 i) (leb i (f .carriers)) three));
+        listed = (
+          leb-true 1 i (and-fst (leb 1 i) (leb i (f .carriers)) three),
+          leb-true i (f .carriers)
+              (and-snd (leb 1 i) (leb i (f .carriers)) three),
+        );
       }
     where
       one : (checkOf f ws ≡ passed) × ((demand (leb (65 * f .carriers) (length m)) 9 0 then demand (within 1 (f .carriers) i) 7 0) ≡ passed)

@@ -19,7 +19,8 @@ use Rattle.route.proofs.FreeLaws.{best-free}
 use Rattle.words.specs.Words.{digit, without}
 use Rattle.words.specs.Rows.{has, Clean}
 use Rattle.words.proofs.DigitLaws.{digit-without, digit-ones, digit-zero}
-use Rattle.words.proofs.RowsLaws.{same-test, place-row, has-marked, has-zeros, length-marked, length-filled, filled-in, filled-out, zeros-row}
+use Rattle.words.proofs.RowsLaws.{same-test, place-row, has-marked, has-zeros, length-marked, length-filled, filled-in, filled-out}
+use Rattle.words.proofs.RowsLaws.{zeros-row}
 use Rattle.search.specs.Task.{taskOf, taskOfRows}
 use Rattle.search.specs.Rows.{wallRows, gridWithout, FreeRows}
 
@@ -89,11 +90,13 @@ module _ (f : Floor) (ws : List ℕ) (thin : 1 ≤ f .width) (high : f .height �
       )
 
   same-best : (i : ℕ) (vs : List View) →
-      best (taskOfRows f (gridWithout (f .width) (f .height) (wallRows (f .width) (f .width * f .height) ws (f .walls))) i) vs ≡ best (taskOf f ws i) vs
+      best (taskOfRows f (gridWithout (f .width) (f .height) (wallRows (f .width) (f .width * f .height) ws (f .walls))) i) vs ≡ best
+      (taskOf f ws i) vs
   unfolding taskOfRows taskOf
   same-best i vs =
       best-free (taskOf f ws i) vs
-      (λ c. has (gridWithout (f .width) (f .height) (wallRows (f .width) (f .width * f .height) ws (f .walls))) (c / f .width) (c % f .width))
+      (λ c. has (gridWithout (f .width) (f .height) (wallRows (f .width) (f .width * f .height) ws (f .walls))) (c / f .width)
+      (c % f .width))
       (λ c. not (among ws (f .walls) c)) agree
 
   pub free-rows-made : (set r : List ℕ) → set ≡ wallRows (f .width) (f .width * f .height) ws (f .walls) →

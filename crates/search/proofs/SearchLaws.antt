@@ -43,7 +43,8 @@ module _ (f : Floor) (rows : List ℕ) (i : ℕ) (m : List ℕ) (s : Searchable 
   pub walled-best : has rows (startOf f (i - 1) / f .width) (startOf f (i - 1) % f .width) ≡ false →
       best (taskOfRows f rows i) (viewsOf m i) ≡ none
   unfolding startClear standable taskOfRows
-  walled-best e = no-start (rw e (no (ltb (startOf f (i - 1)) (f .width * f .height)) (every (vacant 0 (startOf f (i - 1))) (records m (i - 1)))))
+  walled-best e =
+      no-start (rw e (no (ltb (startOf f (i - 1)) (f .width * f .height)) (every (vacant 0 (startOf f (i - 1))) (records m (i - 1)))))
     where
       no : (a b : Bool) → (a && false && b) ≡ false
       no true b = refl
@@ -53,7 +54,8 @@ module _ (f : Floor) (rows : List ℕ) (i : ℕ) (m : List ℕ) (s : Searchable 
   pub taken-best : every (vacant 0 (startOf f (i - 1))) (records m (i - 1)) ≡ false → best (taskOfRows f rows i) (viewsOf m i) ≡ none
   unfolding startClear standable taskOfRows
   taken-best e =
-      no-start (rw e (no (ltb (startOf f (i - 1)) (f .width * f .height) && has rows (startOf f (i - 1) / f .width) (startOf f (i - 1) % f .width))))
+      no-start (rw e
+      (no (ltb (startOf f (i - 1)) (f .width * f .height) && has rows (startOf f (i - 1) / f .width) (startOf f (i - 1) % f .width))))
     where
       no : (a : Bool) → (a && false) ≡ false
       no true = refl
@@ -62,7 +64,8 @@ module _ (f : Floor) (rows : List ℕ) (i : ℕ) (m : List ℕ) (s : Searchable 
   module _ (free : has rows (startOf f (i - 1) / f .width) (startOf f (i - 1) % f .width) ≡ true)
       (vacated : every (vacant 0 (startOf f (i - 1))) (records m (i - 1)) ≡ true) (a : ℕ)
       (earliest : Earliest
-      (arrivable (f .width) (f .width * f .height) (i - 1) rows m (startOf f (i - 1)) (goalOf f (i - 1)) (f .horizon)) (f .horizon + 1) a) where
+      (arrivable (f .width) (f .width * f .height) (i - 1) rows m (startOf f (i - 1)) (goalOf f (i - 1)) (f .horizon))
+      (f .horizon + 1) a) where
     stands : standable (taskOfRows f rows i) (records m (i - 1)) 0 (taskOfRows f rows i .start) ≡ true
     unfolding taskOfRows
     stands = stand-holds (taskOfRows f rows i) rows m (i - 1) setting 0 (startOf f (i - 1)) (s .start) free vacated

@@ -22,7 +22,10 @@ module _ (w cells k : ℕ) (free m : List ℕ) (goal a : ℕ) (short : a ≤ 63)
   table-row : (n i r : ℕ) → n ≤ a → i ≤ n → r < 32 →
       getD (tableOf w cells k free m goal a n) ((a - i) * 32 + r) 0 ≡ getD (backwardOf w cells k free m goal a i) r 0
   unfolding tableOf
-  table-row zero i r h l u = rw (first, whole) (written-in (replicate 2048 0) (a * 32) (backwardOf w cells k free m goal a zero) 32 r (omega (arith, length-replicate {A = ℕ} 2048 0)) u)
+  table-row zero i r h l u =
+      rw (first, whole)
+      (written-in (replicate 2048 0) (a * 32) (backwardOf w cells k free m goal a zero) 32 r
+      (omega (arith, length-replicate {A = ℕ} 2048 0)) u)
     where
       first : i ≡ 0
       first = omega arith
@@ -37,7 +40,8 @@ module _ (w cells k : ℕ) (free m : List ℕ) (goal a : ℕ) (short : a ≤ 63)
       rows : List ℕ
       rows = backwardOf w cells k free m goal a (suc n)
 
-      same : i ≡ suc n → getD (written before ((a - suc n) * 32) rows 32) ((a - i) * 32 + r) 0 ≡ getD (backwardOf w cells k free m goal a i) r 0
+      same : i ≡ suc n →
+          getD (written before ((a - suc n) * 32) rows 32) ((a - i) * 32 + r) 0 ≡ getD (backwardOf w cells k free m goal a i) r 0
       same q = rw q (written-in before ((a - suc n) * 32) rows 32 r (omega (arith, length-table n)) u)
 
       other : i < suc n → getD before ((a - i) * 32 + r) 0 ≡ getD (backwardOf w cells k free m goal a i) r 0 →

@@ -1,9 +1,9 @@
 -- The claims about the search.
-use Prim.Native.Nat.{ℕ, _*_, _≤_, _<_}
+use Prim.Native.Nat.{ℕ, _*_, _≤_}
 use native.Mathlib.Omega.{arith}
-use mathlib.Core.Bool.{Bool, true, false, _&&_, true≢false}
+use mathlib.Core.Bool.{true, false, _&&_, true≢false}
 use mathlib.Core.List.{List}
-use mathlib.Core.Logic.{_↔_, _⊎_, ⊎-elim}
+use mathlib.Core.Logic.{_↔_, ⊎-elim}
 use mathlib.Core.Path.{_≡_, refl, sym, ap, _∙_}
 use borrow.Author.Tests.{leb-false, lt-leb, le-leb, leb-true}
 use lib.Dec.{leb}
@@ -15,16 +15,16 @@ use Rattle.floor.specs.Accepted.{Accepted, Within}
 use Rattle.floor.proofs.VerdictLaws.{then-passed, then-refused, then-cases, demand-cases, demand-holds, demand-passes, demand-refuses}
 use Rattle.floor.proofs.LimitsLaws.{limited-bounds}
 use Rattle.floor.proofs.Theorems.{theorems as floor-theorems}
-use Rattle.route.specs.Route.{Answer, none, route, View, Task}
+use Rattle.route.specs.Route.{Answer, none, route}
 use Rattle.route.specs.Conflict.{ClearOf}
-use Rattle.route.specs.Best.{IsRoute, Arrives, Admissible, Best, BestRoute}
+use Rattle.route.specs.Best.{IsRoute, Arrives, Admissible, Best}
 use Rattle.route.specs.Arrival.{arrivalOf}
 use Rattle.route.specs.Search.{best}
 use Rattle.route.proofs.Tests.{and-both, and-fst, and-snd, not-true-is-false}
 use Rattle.route.proofs.Theorems.{theorems as route-theorems}
 use Rattle.search.specs.Views.{viewsOf}
 use Rattle.search.specs.Task.{taskOf}
-use Rattle.search.specs.Answers.{Result, answered, turned, answeredIf}
+use Rattle.search.specs.Answers.{answered, turned, answeredIf}
 use Rattle.search.specs.Search.{requestOf, searchOf}
 use Rattle.search.specs.Refused.{Granted, TurnedWith, floor-refused, few-views, no-carrier}
 use Rattle.search.specs.Claims.{Claims}
@@ -53,7 +53,11 @@ within-holds : (f : Floor) (i : ℕ) → (Within 1 (f .carriers) i → ⊥) → 
 unfolding within
 within-holds f i n =
     not-true-is-false (leb 1 i && leb i (f .carriers))
-    (λ e. n (leb-true 1 i (and-fst (leb 1 i) (leb i (f .carriers)) e), leb-true i (f .carriers) (and-snd (leb 1 i) (leb i (f .carriers)) e)))
+    (λ e. n (
+      leb-true 1 i (and-fst (leb 1 i) (leb i (f .carriers)) e),
+      leb-true i (f .carriers)
+          (and-snd (leb 1 i) (leb i (f .carriers)) e),
+    ))
 
 module _ (f : Floor) (ws : List ℕ) (i : ℕ) (m : List ℕ) where
   granted-of : (x : Answer) → searchOf f ws i m ≡ answered x → Granted f ws i m
@@ -124,7 +128,8 @@ module _ (f : Floor) (ws : List ℕ) (i : ℕ) (m : List ℕ) where
   unfolding requestOf
   refused-holds {k} {p} (floor-refused r) = then-refused _ ((floor-theorems .refuses-exactly f ws k p) .1 r)
   refused-holds (few-views a h) =
-      then-passed ((floor-theorems .passes-exactly f ws) .1 a) ∙ then-refused _ (demand-refuses 9 0 (lt-leb (65 * f .carriers) (length m) h))
+      then-passed ((floor-theorems .passes-exactly f ws) .1 a) ∙ then-refused _
+      (demand-refuses 9 0 (lt-leb (65 * f .carriers) (length m) h))
   refused-holds (no-carrier a h n) =
       then-passed ((floor-theorems .passes-exactly f ws) .1 a)
       ∙ then-passed (demand-passes 9 0 (le-leb (65 * f .carriers) (length m) h))

@@ -102,7 +102,8 @@ module _ (w cells k : ℕ) (free m : List ℕ) where
   unfolding tableOf
   table-none goal a s q r e h l = l ∙ rw (e, h)
 
-  pub table-more : (goal a n : ℕ) (s q r : List ℕ) → s ≡ backwardOf w cells k free m goal a (n + 1) → q ≡ tableOf w cells k free m goal a n →
+  pub table-more : (goal a n : ℕ) (s q r : List ℕ) → s ≡ backwardOf w cells k free m goal a (n + 1) →
+      q ≡ tableOf w cells k free m goal a n →
       r ≡ written q ((a - (n + 1)) * 32) s 32 → r ≡ tableOf w cells k free m goal a (n + 1)
   unfolding tableOf
   table-more goal a n s q r e h l = l ∙ rw (e, h, add-one, tableOf)

@@ -73,7 +73,8 @@ module _ (m : List ℕ) (j : ℕ) where
 
   pub crossing-there : (t c d : ℕ) → t < 63 → c < 65535 → c ≡ spotOf m j (t + 1) →
       eqb d (spotOf m j t) ≡ not (passable t c d (viewAt m j))
-  crossing-there t c d h l e = sym (rw (passable-spot t c d (omega arith) l, eq-eqb c (spotOf m j (suc t)) (rw add-one at e)) (twice (eqb d (spotOf m j t))))
+  crossing-there t c d h l e =
+      sym (rw (passable-spot t c d (omega arith) l, eq-eqb c (spotOf m j (suc t)) (rw add-one at e)) (twice (eqb d (spotOf m j t))))
     where
       twice : (b : Bool) → not (not b) ≡ b
       twice true = refl
@@ -134,6 +135,7 @@ module _ (m : List ℕ) (k goal : ℕ) where
   unfolding holdOf
   hold-there n e = rw add-one (sym (ap (λ (b : Bool). elim b [ true ↦ holdOf m k goal n | false ↦ suc n ]) (rw add-one at e)))
 
-  pub hold-away : (n from : ℕ) → from ≡ holdOf m k goal n → every (vacant (n + 1) goal) (records m k) ≡ true → from ≡ holdOf m k goal (n + 1)
+  pub hold-away : (n from : ℕ) → from ≡ holdOf m k goal n → every (vacant (n + 1) goal) (records m k) ≡ true →
+      from ≡ holdOf m k goal (n + 1)
   unfolding holdOf
   hold-away n from h e = h ∙ rw add-one (sym (ap (λ (b : Bool). elim b [ true ↦ holdOf m k goal n | false ↦ suc n ]) (rw add-one at e)))

@@ -86,7 +86,8 @@ beside-above w d n p h = record { numbered = (omega arith, omega arith); only = 
     says : (c : ℕ) → sideOf w d c ≡ 1 → n ≡ c
     says c q =
         ⊎-elim (λ x. omega (arith, x .1))
-        (⊎-elim (λ x. absurd (omega (arith, x .0))) (⊎-elim (λ x. absurd (omega (arith, x .0))) (⊎-elim (λ x. absurd (omega (arith, x .0))) (λ x. absurd (omega arith)))))
+        (⊎-elim (λ x. absurd (omega (arith, x .0)))
+        (⊎-elim (λ x. absurd (omega (arith, x .0))) (⊎-elim (λ x. absurd (omega (arith, x .0))) (λ x. absurd (omega arith)))))
         (side-says w d c)
 
 pub beside-below : (w d n : ℕ) → 0 < w → n ≡ d + w → Beside w d 2 n
@@ -96,25 +97,36 @@ beside-below w d n p h =
     says : (c : ℕ) → sideOf w d c ≡ 2 → n ≡ c
     says c q =
         ⊎-elim (λ x. absurd (omega (arith, x .0)))
-        (⊎-elim (λ x. omega (arith, x .1)) (⊎-elim (λ x. absurd (omega (arith, x .0))) (⊎-elim (λ x. absurd (omega (arith, x .0))) (λ x. absurd (omega arith)))))
+        (⊎-elim (λ x. omega (arith, x .1))
+        (⊎-elim (λ x. absurd (omega (arith, x .0))) (⊎-elim (λ x. absurd (omega (arith, x .0))) (λ x. absurd (omega arith)))))
         (side-says w d c)
 
 pub beside-left : (w d n : ℕ) → 1 < w → n + 1 ≡ d → Beside w d 3 n
 beside-left w d n p h =
-    record { numbered = (omega arith, omega arith); only = beside-test w d 3 n says (side-left w d n (λ e. omega arith) (λ e. omega arith) h) }
+    record {
+      numbered = (omega arith, omega arith);
+      only = beside-test w d 3 n says
+          (side-left w d n (λ e. omega arith) (λ e. omega arith) h);
+    }
   where
     says : (c : ℕ) → sideOf w d c ≡ 3 → n ≡ c
     says c q =
         ⊎-elim (λ x. absurd (omega (arith, x .0)))
-        (⊎-elim (λ x. absurd (omega (arith, x .0))) (⊎-elim (λ x. omega (arith, x .1)) (⊎-elim (λ x. absurd (omega (arith, x .0))) (λ x. absurd (omega arith)))))
+        (⊎-elim (λ x. absurd (omega (arith, x .0)))
+        (⊎-elim (λ x. omega (arith, x .1)) (⊎-elim (λ x. absurd (omega (arith, x .0))) (λ x. absurd (omega arith)))))
         (side-says w d c)
 
 pub beside-right : (w d n : ℕ) → 1 < w → n ≡ d + 1 → Beside w d 4 n
 beside-right w d n p h =
-    record { numbered = (omega arith, omega arith); only = beside-test w d 4 n says (side-right w d n (λ e. omega arith) (λ e. omega arith) (λ e. omega arith) h) }
+    record {
+      numbered = (omega arith, omega arith);
+      only = beside-test w d 4 n says
+          (side-right w d n (λ e. omega arith) (λ e. omega arith) (λ e. omega arith) h);
+    }
   where
     says : (c : ℕ) → sideOf w d c ≡ 4 → n ≡ c
     says c q =
         ⊎-elim (λ x. absurd (omega (arith, x .0)))
-        (⊎-elim (λ x. absurd (omega (arith, x .0))) (⊎-elim (λ x. absurd (omega (arith, x .0))) (⊎-elim (λ x. omega (arith, x .1)) (λ x. absurd (omega arith)))))
+        (⊎-elim (λ x. absurd (omega (arith, x .0)))
+        (⊎-elim (λ x. absurd (omega (arith, x .0))) (⊎-elim (λ x. omega (arith, x .1)) (λ x. absurd (omega arith)))))
         (side-says w d c)

@@ -1,12 +1,10 @@
 -- What is claimed of the search, one field a claim; `proofs/Theorems.antt` has the proofs. The floor, the walls, the carrier number and
 -- the numbers in the views' memory m are any: m holds any lists of numbers, not only routes.
-use Prim.Native.Nat.{ℕ, _*_, _≤_}
+use Prim.Native.Nat.{ℕ}
 use mathlib.Core.List.{List}
 use mathlib.Core.Logic.{_↔_}
 use mathlib.Core.Path.{_≡_}
-use lib.ListN.{length}
 use Rattle.floor.specs.declared.Floor.{Floor}
-use Rattle.floor.specs.Accepted.{Accepted, Within}
 use Rattle.route.specs.Route.{Answer, none, route}
 use Rattle.route.specs.Conflict.{ClearOf}
 use Rattle.route.specs.Best.{IsRoute, Arrives, Admissible, Best}
@@ -22,7 +20,8 @@ pub record Claims : Type 0 where
   pub answers-best : (f : Floor) (ws : List ℕ) (i : ℕ) (m : List ℕ) (x : Answer) → searchOf f ws i m ≡ answered x →
       Best (taskOf f ws i) (viewsOf m i) x
   -- There is an answer exactly if the request is granted.
-  pub answers-exactly : (f : Floor) (ws : List ℕ) (i : ℕ) (m : List ℕ) → ((x : Answer) × (searchOf f ws i m ≡ answered x)) ↔ Granted f ws i m
+  pub answers-exactly : (f : Floor) (ws : List ℕ) (i : ℕ) (m : List ℕ) →
+      ((x : Answer) × (searchOf f ws i m ≡ answered x)) ↔ Granted f ws i m
   -- What is answered is a route: from the start, across sides, off the walls, at its goal from its arrival through the horizon, and
   -- without conflict with any view.
   pub answers-route : (f : Floor) (ws : List ℕ) (i : ℕ) (m r : List ℕ) → searchOf f ws i m ≡ answered (route r) →
@@ -32,4 +31,5 @@ pub record Claims : Type 0 where
   pub none-exactly : (f : Floor) (ws : List ℕ) (i : ℕ) (m : List ℕ) → Granted f ws i m →
       (searchOf f ws i m ≡ answered none) ↔ ((q : List ℕ) → Admissible (taskOf f ws i) (viewsOf m i) q → ⊥)
   -- Each refusal comes exactly under the condition of its row.
-  pub refuses-exactly : (f : Floor) (ws : List ℕ) (i : ℕ) (m : List ℕ) (k p : ℕ) → (searchOf f ws i m ≡ turned k p) ↔ TurnedWith f ws i m k p
+  pub refuses-exactly : (f : Floor) (ws : List ℕ) (i : ℕ) (m : List ℕ) (k p : ℕ) →
+      (searchOf f ws i m ≡ turned k p) ↔ TurnedWith f ws i m k p

@@ -13,7 +13,8 @@ unfoldable pub sideOf : ℕ → ℕ → ℕ → ℕ
 sideOf w d c =
     elim (eqb (c + w) d) [
       | true ↦ 1
-      | false ↦ elim (eqb c (d + w)) [ true ↦ 2 | false ↦ elim (eqb (c + 1) d) [ true ↦ 3 | false ↦ elim (eqb c (d + 1)) [ true ↦ 4 | false ↦ 5 ] ] ]
+      | false ↦ elim
+          (eqb c (d + w)) [ true ↦ 2 | false ↦ elim (eqb (c + 1) d) [ true ↦ 3 | false ↦ elim (eqb c (d + 1)) [ true ↦ 4 | false ↦ 5 ] ] ]
     ]
 
 -- The marks of a view that is in cell d at beat a and in cell c at beat b, added to s.

@@ -129,7 +129,8 @@ digit-ones (suc n) zero = rw (pow-suc 2 n) (ap (λ (m : ℕ). eqb m 1) (one (2 ^
   where
     one : (m : ℕ) → 0 < m → (m * 2 - 1) % 2 ≡ 1
     one m h = omega arith
-digit-ones (suc n) (suc k) = rw (pow-suc 2 n) (ap (λ (m : ℕ). digit m k) (back (2 ^ n) (pow-pos n)) ∙ digit-ones n k ∙ sym (leb·suc-suc (suc k) n))
+digit-ones (suc n) (suc k) =
+    rw (pow-suc 2 n) (ap (λ (m : ℕ). digit m k) (back (2 ^ n) (pow-pos n)) ∙ digit-ones n k ∙ sym (leb·suc-suc (suc k) n))
   where
     back : (m : ℕ) → 0 < m → (m * 2 - 1) / 2 ≡ m - 1
     back m h = omega arith

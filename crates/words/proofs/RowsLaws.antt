@@ -233,7 +233,9 @@ module _ (s free marks : List ℕ) where
   pub has-spread : (r k : ℕ) → r < 32 → k < 32 →
       has (spreadOf s free marks) r k ≡ (brought s marks r k && (has free r k && not (has marks r k)))
   unfolding spreadOf has
-  has-spread r k l h = ap (λ (x : ℕ). digit x k) (filled-in (replicate 32 0) (spreadRow s free marks) 32 r (omega (arith, length-replicate {A = ℕ} 32 0)) l) ∙ spread-digit r k h
+  has-spread r k l h =
+      ap (λ (x : ℕ). digit x k) (filled-in (replicate 32 0) (spreadRow s free marks) 32 r (omega (arith, length-replicate {A = ℕ} 32 0)) l)
+      ∙ spread-digit r k h
 
   -- A step leads to free cells only.
   pub spread-free : (r k : ℕ) → has (spreadOf s free marks) r k ≡ true → has free r k ≡ true
@@ -251,10 +253,13 @@ module _ (s free marks : List ℕ) where
           (rw digit-without at (and-snd (digit (way r) k) (digit (without (getD free r 0) (getD marks r 0)) k) (rw digit-and at row)))
         where
           row : digit (spreadRow s free marks r) k ≡ true
-          row = sym (ap (λ (x : ℕ). digit x k) (filled-in (replicate 32 0) (spreadRow s free marks) 32 r (omega (arith, length-replicate {A = ℕ} 32 0)) l)) ∙ e
+          row =
+              sym (ap (λ (x : ℕ). digit x k)
+              (filled-in (replicate 32 0) (spreadRow s free marks) 32 r (omega (arith, length-replicate {A = ℕ} 32 0)) l)) ∙ e
 
       outside : 32 ≤ r → digit (getD free r 0) k ≡ true
-      outside l = absurd (true≢false (sym e ∙ rw (filled-out (replicate 32 0) (spreadRow s free marks) 32 r l, zeros-row 32 r) (digit-zero k)))
+      outside l =
+          absurd (true≢false (sym e ∙ rw (filled-out (replicate 32 0) (spreadRow s free marks) 32 r l, zeros-row 32 r) (digit-zero k)))
 
   pub length-spread : length (spreadOf s free marks) ≡ 32
   unfolding spreadOf

@@ -4,7 +4,8 @@ ghost use mathlib.Core.Path.{_≡_};
 ghost use Prim.Native.Nat.{_+_, _*_, _-_, _^_, _≤_, _<_};
 ghost use lib.ListN.{length, getD};
 ghost use Rattle.words.specs.Words.{digit, without as Words·without};
-ghost use Rattle.words.specs.Rows.{added, marked, above, written, spreadRow, spreadOf, has as Rows·has, single as Rows·single, stepped as Rows·stepped};
+ghost use Rattle.words.specs.Rows.{added, marked, above, written, spreadRow, spreadOf};
+ghost use Rattle.words.specs.Rows.{has as Rows·has, single as Rows·single, stepped as Rows·stepped};
 
 // The word with the digit at place k.
 fn bit(k: usize) -> u32

@@ -31,7 +31,8 @@ enum-told-4 c = search needs
 returns-2 : tie.Need-returns-2
 unfolding requestOf
 returns-2 c =
-    hands-on (c .before .before .before .before .before .check .ensures) (c .before .before .before .enum-told .given .1)
+    let c₄ = c .before .before .before .before in
+    hands-on (c₄ .before .check .ensures) (c .before .before .before .enum-told .given .1)
     (ends-at _ (c .before .before .lent .ensures) (c .enum-told4 .given .1))
 
 listed-requires : tie.Need-listed-requires
@@ -40,7 +41,8 @@ listed-requires c κs = search needs
 returns-3 : tie.Need-returns-3
 unfolding requestOf
 returns-3 c =
-    hands-on (c .before .before .before .before .before .before .check .ensures) (c .before .before .before .before .enum-told .given .1)
+    let c₄ = c .before .before .before .before in
+    hands-on (c₄ .before .before .check .ensures) (c₄ .enum-told .given .1)
     (hands-on (c .before .before .before .lent .ensures) (c .before .enum-told3 .given .1)
     (c .listed .ensures))
 

@@ -28,16 +28,24 @@ free-rows-requires c κs = let g = (request-granted _ _ _ _ (passes (c .before .
     ((b .width .0, b .width .1, b .height .1), g .accepted .lent)
 
 best-route-requires : tie.Need-best-route-requires
-best-route-requires c κs = granted-searchable _ _ _ _ _ (request-granted _ _ _ _ (passes (c .before .before .before .request .ensures) (c .before .enum-told .given .1))) (c .free-rows .ensures)
+best-route-requires c κs =
+    granted-searchable _ _ _ _ _
+    (request-granted _ _ _ _ (passes (c .before .before .before .request .ensures) (c .before .enum-told .given .1)))
+    (c .free-rows .ensures)
 
 returns : tie.Need-returns
 unfolding searchOf
-returns c = says-same (c .refused .ensures) (answered-refused _ (refuses (c .before .before .before .before .request .ensures) (c .before .before .asked .given .1)))
+returns c =
+    let c₄ = c .before .before .before .before in
+    says-same (c .refused .ensures) (answered-refused _ (refuses (c₄ .request .ensures) (c .before .before .asked .given .1)))
 
 returns-2 : tie.Need-returns-2
 unfolding searchOf
-returns-2 c = says-same (c .best-route .ensures)
-    (ap answered (c .before .free-rows .ensures .same _ _) ∙ answered-passed _ (passes (c .before .before .before .before .request .ensures) (c .before .before .enum-told .given .1)))
+returns-2 c =
+    let c₄ = c .before .before .before .before in
+    says-same (c .best-route .ensures)
+    (ap answered (c .before .free-rows .ensures .same _ _) ∙ answered-passed _
+    (passes (c₄ .request .ensures) (c .before .before .enum-told .given .1)))
 
 pub search-spec : {M : Type 1} → statement M
 search-spec =

@@ -21,7 +21,8 @@ rem-add : tie.Need-rem-add
 rem-add c = search needs
 
 add-requires : tie.Need-add-requires
-add-requires c κs = let h = place-row (c .before .before .before .args .w) (c .before .before .before .args .c) (omega arith) (omega arith) in
+add-requires c κs =
+    let h = place-row (c .before .before .before .args .w) (c .before .before .before .args .c) (omega arith) (omega arith) in
     let k = mod-lt (c .before .before .before .args .c) {m = c .before .before .before .args .w} (omega arith) in
     (omega arith, omega arith)
 

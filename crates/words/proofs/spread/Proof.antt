@@ -63,14 +63,19 @@ loop-less : tie.Need-loop-less Inv-loop μ-loop
 loop-less c = search needs
 
 loop-again : tie.Need-loop-again Inv-loop μ-loop
-loop-again c = (search needs, search needs, filled-more _ _ _ _ _ (c .before .before .before .before .loop .inv .2) (c .spread-row2 .ensures))
+loop-again c =
+    let c₄ = c .before .before .before .before in
+    (search needs, search needs, filled-more _ _ _ _ _ (c₄ .loop .inv .2) (c .spread-row2 .ensures))
 
 shared-slice-read-spread-row-4 : tie.Need-shared-slice-read-spread-row-4 Inv-loop μ-loop
 shared-slice-read-spread-row-4 c = search needs
 
 spread-row-requires-3 : tie.Need-spread-row-requires-3 Inv-loop μ-loop
 unfolding above
-spread-row-requires-3 c κs = (search needs, (refl, row-end (c .before .before .before .before .before .before .before .before .args .s .now) (c .before .before .before .before .before .before .before .before .pre .0)))
+spread-row-requires-3 c κs =
+    let c₄ = c .before .before .before .before in
+    let c₈ = c₄ .before .before .before .before in
+    (search needs, (refl, row-end (c₈ .args .s .now) (c₈ .pre .0)))
 
 array-write-next-3 : tie.Need-array-write-next-3 Inv-loop μ-loop
 array-write-next-3 c = search needs

@@ -65,7 +65,12 @@ without-requires : tie.Need-without-requires
 without-requires c κs = search needs
 
 returns : tie.Need-returns
-returns c = spread-row-made _ _ _ (c .before .before .before .before .before .before .before .before .before .before .before .before .args .r) _ _ _ _ (c .before .before .before .before .before .before .before .before .before .before .before .before .pre .1 .0) (c .before .before .before .before .before .before .before .before .before .before .before .before .pre .1 .1) (c .before .before .before .stepped .ensures) (c .without .ensures)
+returns c =
+    let c₄ = c .before .before .before .before in
+    let c₈ = c₄ .before .before .before .before in
+    let c₁₂ = c₈ .before .before .before .before in
+    spread-row-made _ _ _ (c₁₂ .args .r) _ _ _ _ (c₁₂ .pre .1 .0) (c₁₂ .pre .1 .1) (c .before .before .before .stepped .ensures)
+    (c .without .ensures)
 
 pub spread-row-spec : {M : Type 1} → statement M
 spread-row-spec =

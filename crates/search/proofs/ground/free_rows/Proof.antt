@@ -16,10 +16,14 @@ cast-wall-rows : tie.Need-cast-wall-rows
 cast-wall-rows c = search needs
 
 mul-wall-rows : tie.Need-mul-wall-rows
-mul-wall-rows c = let h = grid-small (c .before .before .before .before .args .f .width) (c .before .before .before .before .args .f .height) (omega arith) (omega arith) in omega arith
+mul-wall-rows c =
+    let c₄ = c .before .before .before .before in
+    let h = grid-small (c₄ .args .f .width) (c₄ .args .f .height) (omega arith) (omega arith) in omega arith
 
 wall-rows-requires : tie.Need-wall-rows-requires
-wall-rows-requires c κs = let h = grid-room (c .before .before .before .before .args .f .width) (c .before .before .before .before .args .f .height) (omega arith) in omega arith
+wall-rows-requires c κs =
+    let c₄ = c .before .before .before .before in
+    let h = grid-room (c₄ .args .f .width) (c₄ .args .f .height) (omega arith) in omega arith
 
 slice-aggregate-grid-without : tie.Need-slice-aggregate-grid-without
 slice-aggregate-grid-without c = search needs
@@ -28,7 +32,11 @@ grid-without-requires : tie.Need-grid-without-requires
 grid-without-requires c κs = search needs
 
 returns : tie.Need-returns
-returns c = free-rows-made _ _ (omega arith) (omega arith) (grid-room (c .before .before .before .before .before .before .before .args .f .width) (c .before .before .before .before .before .before .before .args .f .height) (omega arith)) _ _ (c .before .before .wall-rows .ensures .0) (c .grid-without .ensures)
+returns c =
+    let c₄ = c .before .before .before .before in
+    free-rows-made _ _ (omega arith) (omega arith)
+    (grid-room (c₄ .before .before .before .args .f .width) (c₄ .before .before .before .args .f .height) (omega arith)) _ _
+    (c .before .before .wall-rows .ensures .0) (c .grid-without .ensures)
 
 pub free-rows-spec : {M : Type 1} → statement M
 free-rows-spec =

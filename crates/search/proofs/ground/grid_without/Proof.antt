@@ -46,7 +46,9 @@ loop-less : tie.Need-loop-less Inv-loop μ-loop
 loop-less c = omega arith
 
 loop-again : tie.Need-loop-again Inv-loop μ-loop
-loop-again c = (search needs, filled-more _ _ _ _ _ (c .before .before .before .loop .inv .1) (rw (← c .before .before .before .before .ones .ensures) (c .without .ensures)))
+loop-again c =
+    let c₄ = c .before .before .before .before in
+    (search needs, filled-more _ _ _ _ _ (c .before .before .before .loop .inv .1) (rw (← c₄ .ones .ensures) (c .without .ensures)))
 
 returns : tie.Need-returns Inv-loop μ-loop
 unfolding gridWithout

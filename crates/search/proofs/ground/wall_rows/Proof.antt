@@ -42,7 +42,13 @@ loop-less : tie.Need-loop-less Inv-loop μ-loop
 loop-less c = omega arith
 
 loop-again : tie.Need-loop-again Inv-loop μ-loop
-loop-again c = (search needs, ap length (c .before .mark .ensures) ∙ length-marked _ _ _ _ _ ∙ c .before .before .before .before .before .loop .inv .1, walls-more _ _ _ _ _ _ (c .before .before .before .before .before .loop .inv .2) (c .before .mark .ensures))
+loop-again c =
+    let c₄ = c .before .before .before .before in (
+      search needs,
+      ap length (c .before .mark .ensures) ∙ length-marked _ _ _ _ _ ∙ c₄ .before .loop .inv .1,
+      walls-more _ _ _ _ _ _
+          (c₄ .before .loop .inv .2) (c .before .mark .ensures),
+    )
 
 returns : tie.Need-returns Inv-loop μ-loop
 returns c = let e : c .before .loop .j ≡ c .before .before .before .args .n = omega arith in

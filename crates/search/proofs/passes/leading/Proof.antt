@@ -12,7 +12,9 @@ use Rattle.search.proofs.passes.leading.Statement.{statement}
 use Rattle.search.proofs.passes.leading.Tie as tie
 
 abbrev Inv-loop : tie.InvT-loop
-Inv-loop free views k w cells goal a table₀ s₀ n₀ table s n = (n ≤ a) × (length s ≡ 32) × (length table ≡ 2048) × (s ≡ backwardOf w cells k free views goal a n) × (table ≡ tableOf w cells k free views goal a n)
+Inv-loop free views k w cells goal a table₀ s₀ n₀ table s n =
+    (n ≤ a) × (length s ≡ 32) × (length table ≡ 2048) × (s ≡ backwardOf w cells k free views goal a n) ×
+    (table ≡ tableOf w cells k free views goal a n)
 
 abbrev μ-loop : tie.MeasureT-loop
 μ-loop free views k w cells goal a table₀ s₀ n₀ table s n = a - n
@@ -39,9 +41,11 @@ loop-holds : tie.Need-loop-holds Inv-loop μ-loop
 loop-holds c = (
   search needs,
   ap length (c .before .before .before .before .single .ensures) ∙ length-single _ _ _,
-  ap length (c .before .store .ensures) ∙ length-written _ _ _ 32 ∙ ap length (c .before .before .before .before .before .empty-table .ensures) ∙ length-replicate {A = ℕ} 2048 0,
+  ap length (c .before .store .ensures) ∙ length-written _ _ _ 32 ∙ ap length
+      (c .before .before .before .before .before .empty-table .ensures) ∙ length-replicate {A = ℕ} 2048 0,
   backward-none _ _ _ _ _ _ _ _ (c .before .before .before .before .single .ensures),
-  table-none _ _ _ _ _ _ _ _ _ _ (backward-none _ _ _ _ _ _ _ _ (c .before .before .before .before .single .ensures)) (c .before .before .before .before .before .empty-table .ensures) (c .before .store .ensures),
+  table-none _ _ _ _ _ _ _ _ _ _ (backward-none _ _ _ _ _ _ _ _ (c .before .before .before .before .single .ensures))
+      (c .before .before .before .before .before .empty-table .ensures) (c .before .store .ensures),
 )
 
 sub-t : tie.Need-sub-t Inv-loop μ-loop
@@ -72,22 +76,31 @@ slice-aggregate-store-4 : tie.Need-slice-aggregate-store-4 Inv-loop μ-loop
 slice-aggregate-store-4 c = search needs
 
 store-requires-2 : tie.Need-store-requires-2 Inv-loop μ-loop
-store-requires-2 c κs = let h = c .before .before .before .before .before .loop .inv .2 in (omega arith, length-advance _ _ _ _ _ _ _ _ _ (c .before .before .advance .ensures))
+store-requires-2 c κs =
+    let c₄ = c .before .before .before .before in
+    let h = c₄ .before .loop .inv .2 in (omega arith, length-advance _ _ _ _ _ _ _ _ _ (c .before .before .advance .ensures))
 
 loop-less : tie.Need-loop-less Inv-loop μ-loop
 loop-less c = omega arith
 
 loop-again : tie.Need-loop-again Inv-loop μ-loop
-loop-again c = let s = backward-more _ _ _ _ _ _ _ _ _ _ (c .before .before .before .before .before .before .before .loop .inv .3) (c .before .before .before .before .advance .ensures) in (
-  search needs,
-  length-advance _ _ _ _ _ _ _ _ _ (c .before .before .before .before .advance .ensures),
-  ap length (c .before .store2 .ensures) ∙ length-written _ _ _ 32 ∙ c .before .before .before .before .before .before .before .loop .inv .2,
-  s,
-  table-more _ _ _ _ _ _ _ _ _ _ _ s (c .before .before .before .before .before .before .before .loop .inv .4) (c .before .store2 .ensures),
-)
+loop-again c =
+    let c₄ = c .before .before .before .before in
+    let s = backward-more _ _ _ _ _ _ _ _ _ _ (c₄ .before .before .before .loop .inv .3) (c₄ .advance .ensures) in (
+      search needs,
+      length-advance _ _ _ _ _ _ _ _ _ (c .before .before .before .before .advance .ensures),
+      ap length (c .before .store2 .ensures) ∙ length-written _ _ _ 32
+          ∙ c .before .before .before .before .before .before .before .loop .inv .2,
+      s,
+      table-more _ _ _ _ _ _ _ _ _ _ _ s (c .before .before .before .before .before .before .before .loop .inv .4)
+      (c .before .store2 .ensures),
+    )
 
 returns : tie.Need-returns Inv-loop μ-loop
-returns c = let e : c .before .loop .n ≡ c .before .before .before .before .before .before .before .before .before .before .args .a = omega arith in
+returns c =
+    let c₄ = c .before .before .before .before in
+    let c₈ = c₄ .before .before .before .before in
+    let e : c .before .loop .n ≡ c₈ .before .before .args .a = omega arith in
     (rw e at (c .before .loop .inv .4), c .before .loop .inv .2)
 
 pub leading-spec : {M : Type 1} → statement M

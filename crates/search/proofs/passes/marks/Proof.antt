@@ -20,7 +20,8 @@ unmarked-requires : tie.Need-unmarked-requires Inv-loop μ-loop
 unmarked-requires c κs = search needs
 
 loop-holds : tie.Need-loop-holds Inv-loop μ-loop
-loop-holds c = (search needs, ap length (c .unmarked .ensures) ∙ length-replicate {A = ℕ} 192 0, c .unmarked .ensures ∙ marks-none _ _ _ _ _)
+loop-holds c =
+    (search needs, ap length (c .unmarked .ensures) ∙ length-replicate {A = ℕ} 192 0, c .unmarked .ensures ∙ marks-none _ _ _ _ _)
 
 spot-requires : tie.Need-spot-requires Inv-loop μ-loop
 spot-requires c κs = search needs
@@ -44,7 +45,8 @@ loop-again : tie.Need-loop-again Inv-loop μ-loop
 loop-again c = (
   search needs,
   ap length (c .before .shut .ensures) ∙ length-shut _ _ _ _ _ ∙ c .before .before .before .before .before .before .loop .inv .1,
-  c .before .shut .ensures ∙ rw (c .before .before .before .before .spot .ensures .0, c .before .before .before .spot2 .ensures .0) (marks-more _ _ _ _ _ _ _ (c .before .before .before .before .before .before .loop .inv .2)),
+  c .before .shut .ensures ∙ rw (c .before .before .before .before .spot .ensures .0, c .before .before .before .spot2 .ensures .0)
+      (marks-more _ _ _ _ _ _ _ (c .before .before .before .before .before .before .loop .inv .2)),
 )
 
 returns : tie.Need-returns Inv-loop μ-loop

@@ -17,10 +17,15 @@ mark-requires-2 : tie.Need-mark-requires-2
 mark-requires-2 c κs = search needs
 
 same-length : tie.Need-same-length
-same-length c = ap length (c .before .before .mark2 .ensures) ∙ length-marked _ _ _ _ _ ∙ ap length (c .before .before .before .before .before .before .before .mark .ensures) ∙ length-marked _ _ _ _ _
+same-length c =
+    let c₄ = c .before .before .before .before in
+    ap length (c .before .before .mark2 .ensures) ∙ length-marked _ _ _ _ _ ∙ ap length (c₄ .before .before .before .mark .ensures)
+    ∙ length-marked _ _ _ _ _
 
 returns : tie.Need-returns
-returns c = shut-made _ _ _ _ _ _ _ _ (c .before .before .before .before .before .before .before .mark .ensures) (c .before .before .before .before .side .ensures .0) (c .before .before .mark2 .ensures)
+returns c =
+    let c₄ = c .before .before .before .before in
+    shut-made _ _ _ _ _ _ _ _ (c₄ .before .before .before .mark .ensures) (c₄ .side .ensures .0) (c .before .before .mark2 .ensures)
 
 pub shut-spec : {M : Type 1} → statement M
 shut-spec = tie.close (tie.spec mark-requires side-requires mark-requires-2 same-length returns)

@@ -27,10 +27,18 @@ add-if4 : tie.Need-add-if4
 add-if4 c = search needs
 
 returns-4 : tie.Need-returns-4
-returns-4 c = (side-right _ _ _ (c .before .before .before .if1 .left) (c .before .before .if2 .left) (c .before .if3 .left) (c .if4 .taken), omega arith)
+returns-4 c = (
+  side-right _ _ _ (c .before .before .before .if1 .left) (c .before .before .if2 .left) (c .before .if3 .left)
+      (c .if4 .taken),
+  omega arith,
+)
 
 returns-5 : tie.Need-returns-5
-returns-5 c = (side-none _ _ _ (c .before .before .before .if1 .left) (c .before .before .if2 .left) (c .before .if3 .left) (c .if4 .left), omega arith)
+returns-5 c = (
+  side-none _ _ _ (c .before .before .before .if1 .left) (c .before .before .if2 .left) (c .before .if3 .left)
+      (c .if4 .left),
+  omega arith,
+)
 
 pub side-spec : {M : Type 1} → statement M
 side-spec =

@@ -16,10 +16,14 @@ spot-requires-2 : tie.Need-spot-requires-2
 spot-requires-2 c κs = search needs
 
 returns : tie.Need-returns
-returns c = rw (← c .spot2 .ensures .0) at (crossing-there _ _ _ _ (c .before .before .before .before .args .d) (c .before .before .before .before .pre .1) (omega arith) (c .before .if1 .taken ∙ c .before .before .spot .ensures .0))
+returns c =
+    let c₄ = c .before .before .before .before in
+    rw (← c .spot2 .ensures .0) at
+    (crossing-there _ _ _ _ (c₄ .args .d) (c₄ .pre .1) (omega arith) (c .before .if1 .taken ∙ c .before .before .spot .ensures .0))
 
 returns-2 : tie.Need-returns-2
-returns-2 c = crossing-away _ _ _ _ _ (c .before .before .before .pre .1) (omega arith) (λ e. c .if1 .left (e ∙ sym (c .before .spot .ensures .0)))
+returns-2 c =
+    crossing-away _ _ _ _ _ (c .before .before .before .pre .1) (omega arith) (λ e. c .if1 .left (e ∙ sym (c .before .spot .ensures .0)))
 
 pub crosses-spec : {M : Type 1} → statement M
 crosses-spec = tie.close (tie.spec add-spot spot-requires spot-requires-2 returns returns-2)

@@ -34,7 +34,11 @@ loop-less-2 : tie.Need-loop-less-2 Inv-loop μ-loop
 loop-less-2 c = omega arith
 
 loop-again-2 : tie.Need-loop-again-2 Inv-loop μ-loop
-loop-again-2 c = (search needs, hold-away _ _ _ _ _ (c .before .before .before .loop .inv .1) (vacated-says (c .before .occupied .ensures) (c .if1 .left)))
+loop-again-2 c = (
+  search needs,
+  hold-away _ _ _ _ _ (c .before .before .before .loop .inv .1)
+      (vacated-says (c .before .occupied .ensures) (c .if1 .left)),
+)
 
 returns : tie.Need-returns Inv-loop μ-loop
 returns c = let e : c .before .loop .n ≡ c .before .before .before .args .horizon = omega arith in

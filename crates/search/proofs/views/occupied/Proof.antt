@@ -24,7 +24,10 @@ spot-requires : tie.Need-spot-requires Inv-loop μ-loop
 spot-requires c κs = omega arith
 
 returns : tie.Need-returns Inv-loop μ-loop
-returns c = every-found _ _ (c .before .before .before .loop .j) _ (c .before .before .loop-test .taken) (vacant-there _ _ _ _ (c .before .before .before .before .before .pre .1) (omega arith) (c .if1 .taken ∙ c .before .spot .ensures .0))
+returns c =
+    let c₄ = c .before .before .before .before in
+    every-found _ _ (c .before .before .before .loop .j) _ (c .before .before .loop-test .taken)
+    (vacant-there _ _ _ _ (c₄ .before .pre .1) (omega arith) (c .if1 .taken ∙ c .before .spot .ensures .0))
 
 add-j : tie.Need-add-j Inv-loop μ-loop
 add-j c = search needs
@@ -33,7 +36,12 @@ loop-less : tie.Need-loop-less Inv-loop μ-loop
 loop-less c = search needs
 
 loop-again : tie.Need-loop-again Inv-loop μ-loop
-loop-again c = (search needs, every-more _ _ _ (c .before .before .before .loop .inv .1) (vacant-away _ _ _ _ (c .before .before .before .before .before .pre .1) (omega arith) (λ e. c .if1 .left (e ∙ sym (c .before .spot .ensures .0)))))
+loop-again c =
+    let c₄ = c .before .before .before .before in (
+      search needs,
+      every-more _ _ _ (c .before .before .before .loop .inv .1)
+          (vacant-away _ _ _ _ (c₄ .before .pre .1) (omega arith) (λ e. c .if1 .left (e ∙ sym (c .before .spot .ensures .0)))),
+    )
 
 returns-2 : tie.Need-returns-2 Inv-loop μ-loop
 returns-2 c = every-end _ _ (c .before .loop .j) _ (c .before .loop .inv .0) (c .loop-test .left) (c .before .loop .inv .1)

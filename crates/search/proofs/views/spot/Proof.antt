@@ -31,10 +31,15 @@ shared-slice-read-result : tie.Need-shared-slice-read-result
 shared-slice-read-result c = search needs
 
 cast-result : tie.Need-cast-result
-cast-result c = omega (arith, c .shared-slice-known2 .given (65 * (c .before .before .before .args .j) + 1 + (c .before .before .before .args .t)))
+cast-result c =
+    omega (arith, c .shared-slice-known2 .given (65 * (c .before .before .before .args .j) + 1 + (c .before .before .before .args .t)))
 
 returns : tie.Need-returns
-returns c = (spot-route _ _ _ (c .before .if1 .taken), omega (arith, c .shared-slice-known2 .given (65 * (c .before .before .before .args .j) + 1 + (c .before .before .before .args .t))))
+returns c = (
+  spot-route _ _ _ (c .before .if1 .taken),
+  omega
+      (arith, c .shared-slice-known2 .given (65 * (c .before .before .before .args .j) + 1 + (c .before .before .before .args .t))),
+)
 
 returns-2 : tie.Need-returns-2
 returns-2 c = (spot-none _ _ _ (c .if1 .left), omega arith)

@@ -24,7 +24,9 @@ crosses-requires : tie.Need-crosses-requires Inv-loop μ-loop
 crosses-requires c κs = omega arith
 
 returns : tie.Need-returns Inv-loop μ-loop
-returns c = every-found _ _ (c .before .before .before .loop .j) _ (c .before .before .loop-test .taken) (occupied-says (c .before .crosses .ensures) (c .if1 .taken))
+returns c =
+    every-found _ _ (c .before .before .before .loop .j) _ (c .before .before .loop-test .taken)
+    (occupied-says (c .before .crosses .ensures) (c .if1 .taken))
 
 add-j : tie.Need-add-j Inv-loop μ-loop
 add-j c = search needs
@@ -33,7 +35,8 @@ loop-less : tie.Need-loop-less Inv-loop μ-loop
 loop-less c = search needs
 
 loop-again : tie.Need-loop-again Inv-loop μ-loop
-loop-again c = (search needs, every-more _ _ _ (c .before .before .before .loop .inv .1) (vacated-says (c .before .crosses .ensures) (c .if1 .left)))
+loop-again c =
+    (search needs, every-more _ _ _ (c .before .before .before .loop .inv .1) (vacated-says (c .before .crosses .ensures) (c .if1 .left)))
 
 returns-2 : tie.Need-returns-2 Inv-loop μ-loop
 returns-2 c = every-end _ _ (c .before .loop .j) _ (c .before .loop .inv .0) (c .loop-test .left) (c .before .loop .inv .1)

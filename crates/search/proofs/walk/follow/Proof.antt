@@ -12,7 +12,12 @@ next-requires : tie.Need-next-requires
 next-requires c κs = search needs
 
 returns : tie.Need-returns
-returns c = (step-before _ _ _ _ _ _ _ _ _ _ (c .before .if1 .taken) (c .next .ensures), next-inside _ _ _ _ _ (c .before .before .before .before .args .goal) (c .before .before .before .before .args .a) _ _ _ (c .before .before .before .before .pre .0 .3) (c .next .ensures))
+returns c =
+    let c₄ = c .before .before .before .before in (
+      step-before _ _ _ _ _ _ _ _ _ _ (c .before .if1 .taken) (c .next .ensures),
+      next-inside _ _ _ _ _ (c₄ .args .goal) (c₄ .args .a) _ _ _
+          (c₄ .pre .0 .3) (c .next .ensures),
+    )
 
 returns-2 : tie.Need-returns-2
 returns-2 c = (step-after _ _ _ _ _ _ _ _ _ (c .if1 .left), omega arith)

@@ -25,26 +25,35 @@ div-has : tie.Need-div-has
 div-has c = search needs
 
 add-has-2 : tie.Need-add-has-2
-add-has-2 c = let h = place-row (c .before .before .before .before .args .w) (c .before .before .before .before .args .d) (omega arith) (omega arith) in
-    let l = mod-lt (c .before .before .before .before .args .d) {m = c .before .before .before .before .args .w} (omega arith) in
+add-has-2 c =
+    let c₄ = c .before .before .before .before in
+    let h = place-row (c₄ .args .w) (c₄ .args .d) (omega arith) (omega arith) in
+    let l = mod-lt (c₄ .args .d) {m = c₄ .args .w} (omega arith) in
     omega arith
 
 rem-has : tie.Need-rem-has
 rem-has c = search needs
 
 has-requires : tie.Need-has-requires
-has-requires c κs = let h = place-row (c .before .before .before .before .args .w) (c .before .before .before .before .args .d) (omega arith) (omega arith) in
-    let l = mod-lt (c .before .before .before .before .args .d) {m = c .before .before .before .before .args .w} (omega arith) in
+has-requires c κs =
+    let c₄ = c .before .before .before .before in
+    let h = place-row (c₄ .args .w) (c₄ .args .d) (omega arith) (omega arith) in
+    let l = mod-lt (c₄ .args .d) {m = c₄ .args .w} (omega arith) in
     omega arith
 
 returns-3 : tie.Need-returns-3
-returns-3 c = leads-unset _ _ _ _ _ _ _ _ _ (not-false _ (c .before .before .before .if1 .left)) (c .before .before .if2 .left) (sym (c .before .has .ensures) ∙ not-true _ (c .if3 .taken))
+returns-3 c =
+    leads-unset _ _ _ _ _ _ _ _ _ (not-false _ (c .before .before .before .if1 .left)) (c .before .before .if2 .left)
+    (sym (c .before .has .ensures) ∙ not-true _ (c .if3 .taken))
 
 swapped-requires : tie.Need-swapped-requires
 swapped-requires c κs = search needs
 
 returns-4 : tie.Need-returns-4
-returns-4 c = leads-made _ _ _ _ _ _ _ _ _ _ (not-false _ (c .before .before .before .before .if1 .left)) (c .before .before .before .if2 .left) (sym (c .before .before .has .ensures) ∙ not-false _ (c .before .if3 .left)) (c .swapped .ensures)
+returns-4 c =
+    let c₄ = c .before .before .before .before in
+    leads-made _ _ _ _ _ _ _ _ _ _ (not-false _ (c₄ .if1 .left)) (c .before .before .before .if2 .left)
+    (sym (c .before .before .has .ensures) ∙ not-false _ (c .before .if3 .left)) (c .swapped .ensures)
 
 pub leads-spec : {M : Type 1} → statement M
 leads-spec =

@@ -13,7 +13,9 @@ use Rattle.search.proofs.walk.walk.Statement.{statement}
 use Rattle.search.proofs.walk.walk.Tie as tie
 
 abbrev Inv-loop : tie.InvT-loop
-Inv-loop table views k w cells start goal a horizon r₀ c₀ t₀ r c t = (t ≤ horizon) × (c < cells) × (c ≡ pathOf w cells k views table start goal a t) × (r ≡ filled (replicate 64 0) (pathOf w cells k views table start goal a) (t + 1))
+Inv-loop table views k w cells start goal a horizon r₀ c₀ t₀ r c t =
+    (t ≤ horizon) × (c < cells) × (c ≡ pathOf w cells k views table start goal a t) ×
+    (r ≡ filled (replicate 64 0) (pathOf w cells k views table start goal a) (t + 1))
 
 abbrev μ-loop : tie.MeasureT-loop
 μ-loop table views k w cells start goal a horizon r₀ c₀ t₀ r c t = horizon - t
