@@ -1,8 +1,10 @@
 -- What the planner's answer says in document 01's terms.
-use Prim.Native.Nat.{ℕ}
+use Prim.Native.Nat.{ℕ, _+_, _*_, _≤_, _<_}
 use mathlib.Core.List.{List}
+use lib.ListN.{length}
 use Rattle.floor.specs.declared.Floor.{Floor}
 use Rattle.floor.specs.Verdict.{Verdict, passed, refused}
+use Rattle.search.specs.Rows.{Searchable}
 use Rattle.planner.specs.declared.Planned.{Planned}
 use Rattle.planner.specs.declared.Planned.the-variants.{Failing, Refused}
 use Rattle.planner.specs.Plan.{planOf, failingOf, planVerdict}
@@ -25,3 +27,10 @@ madeIf (refused k p) i = turned k p
 -- What planning a floor answers, with room for so many numbers.
 unfoldable pub planResult : Floor → List ℕ → ℕ → Result
 planResult f ws room = madeIf (planVerdict f ws room) (failingOf (planOf f ws))
+
+-- What planning needs that is already checked: every carrier can be searched for, and its answer has room.
+pub record Plannable (f : Floor) (rows : List ℕ) (m : List ℕ) : Type 0 where
+  pub few : f .carriers ≤ 8
+  pub horizon : f .horizon ≤ 63
+  pub room : 65 * f .carriers ≤ length m
+  pub searchable : (i : ℕ) (views : List ℕ) → i < f .carriers → 65 * i ≤ length views → Searchable f rows (i + 1) views

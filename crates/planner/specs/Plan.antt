@@ -7,11 +7,15 @@ use Rattle.floor.specs.Checks.{checkOf, roomOf}
 use Rattle.route.specs.Route.{Answer, none, route, View}
 use Rattle.route.specs.Search.{best}
 use Rattle.route.specs.Sequential.{sequential}
-use Rattle.search.specs.Task.{taskOf}
+use Rattle.search.specs.Task.{taskOf, taskOfRows}
 
 -- The best response of a carrier, counted from 0, to the views of the carriers above it.
 unfoldable pub respondOf : Floor → List ℕ → ℕ → List View → Answer
 respondOf f ws i vs = best (taskOf f ws (i + 1)) vs
+
+-- The same with the floor's free cells as rows of words.
+unfoldable pub respondWith : Floor → List ℕ → ℕ → List View → Answer
+respondWith f rows i vs = best (taskOfRows f rows (i + 1)) vs
 
 -- The answers of all carriers.
 unfoldable pub planOf : Floor → List ℕ → List Answer

@@ -1,10 +1,15 @@
 -- Answers in memory: a record of 65 numbers each, a tag (1 none, 2 a route) and 64 cells, carrier by carrier; the form of views.
-use Prim.Native.Nat.{ℕ, _+_, _*_}
+use Prim.Native.Nat.{ℕ, zero, suc, _+_, _*_}
 use mathlib.Core.List.{List, [], _∷_, _++_}
-use lib.ListN.{length, replicate, drop}
+use mathlib.Core.Bool.{cond}
+use lib.Dec.{eqb}
+use lib.ListN.{length, getD, replicate}
+use Rattle.memory.specs.Memory.{put}
 use Rattle.floor.specs.declared.Floor.{Floor}
 use Rattle.floor.specs.Verdict.{Verdict, passed, refused}
 use Rattle.route.specs.Route.{Answer, none, route}
+use Rattle.search.specs.declared.Outcome.{Outcome}
+use Rattle.search.specs.declared.Outcome.the-variants.{Route, None, Refused}
 use Rattle.planner.specs.Plan.{planOf, planVerdict}
 
 -- The record of an answer.
@@ -19,9 +24,24 @@ recordsOf (x ∷ xs) = recordOf x ++ recordsOf xs
 
 -- The memory with the answers in front, and the rest as it was.
 unfoldable pub stored : List Answer → List ℕ → List ℕ
-stored xs old = recordsOf xs ++ drop (length (recordsOf xs)) old
+stored xs old = put old 0 (recordsOf xs)
 
--- The lent memory after planning: the plan's answers in front; all as it was with a refusal.
-unfoldable pub planned : Verdict → Floor → List ℕ → List ℕ → List ℕ
-planned passed f ws old = stored (planOf f ws) old
-planned (refused k p) f ws old = old
+-- The answers in front where the checks pass; all as it was with a refusal.
+unfoldable pub storedIf : Verdict → List Answer → List ℕ → List ℕ
+storedIf passed xs old = stored xs old
+storedIf (refused k p) xs old = old
+
+-- The lent memory after planning.
+unfoldable pub planMemory : Floor → List ℕ → List ℕ → List ℕ
+planMemory f ws old = storedIf (planVerdict f ws (length old)) (planOf f ws) old
+
+-- The tag of a search's outcome.
+unfoldable pub tagOf : Outcome → ℕ
+tagOf Route = 2
+tagOf None = 1
+tagOf (Refused x) = 0
+
+-- The first of the n records from record i on whose tag is no route's, counted from 1; 0 if there is none.
+unfoldable pub firstFrom : List ℕ → ℕ → ℕ → ℕ
+firstFrom m i zero = 0
+firstFrom m i (suc n) = cond (eqb (getD m (65 * i) 0) 2) (firstFrom m (i + 1) n) (i + 1)

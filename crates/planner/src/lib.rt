@@ -2,13 +2,16 @@
 mod records;
 
 ghost use mathlib.Core.Path.{_≡_};
-ghost use Prim.Native.Nat.{_+_, _*_, _≤_};
-ghost use lib.ListN.{length};
-ghost use Rattle.floor.specs.Checks.{checkOf};
-ghost use Rattle.floor.specs.Verdict.{passed};
-ghost use Rattle.planner.specs.Plan.{planOf, planVerdict};
-ghost use Rattle.planner.specs.Records.{stored, planned};
-ghost use Rattle.planner.specs.Answers.{resultOf, planResult};
+ghost use Prim.Native.Nat.{_+_, _*_, _≤_, _<_};
+ghost use lib.ListN.{length, take};
+ghost use Rattle.floor.specs.Answers.{verdictOf};
+ghost use Rattle.route.specs.Sequential.{sequential};
+ghost use Rattle.search.specs.Rows.{Searchable};
+ghost use Rattle.search.specs.Views.{viewsOf};
+ghost use Rattle.memory.specs.Memory.{put};
+ghost use Rattle.planner.specs.Plan.{respondWith, planVerdict};
+ghost use Rattle.planner.specs.Records.{recordOf, stored, planMemory};
+ghost use Rattle.planner.specs.Answers.{resultOf, madeIf, planResult, Plannable};
 use floor::Checked;
 use floor::Floor;
 use floor::Refusal;
@@ -19,4 +22,65 @@ pub enum Planned {
     Failing(usize),
     // The request is turned away.
     Refused(Refusal),
+}
+
+// The refusals of a plan, in their order.
+fn request(f: Floor, walls: &[u16], room: usize) -> Checked
+    ensures { λ r. ⌜ verdictOf r ≡ planVerdict f (now (walls .entry)) room ⌝ }
+{
+    let checked = floor::check(f, walls);
+    let Checked::Passed = checked else {
+        return checked;
+    };
+    floor::room(65 * f.carriers as usize, room)
+}
+
+// The answer of the carrier with i carriers above it, whose answers stand in front; it is stored behind them.
+fn plan_one(f: Floor, free: [u32; 32], i: u16, answers: &mut [u16])
+    requires { ⌜ (i < 8) × (65 * i + 65 ≤ length (now answers)) ⌝ }
+    requires { ⌜ Searchable f free (i + 1) (take (65 * i) (now answers)) ⌝ }
+    ensures { λ r. ⌜ now (answers .exit) ≡ put (now (answers .entry)) (65 * i) (recordOf (respondWith f free i (viewsOf (take (65 * i) (now (answers .entry))) (i + 1)))) ⌝ }
+{
+    let at = 65 * i as usize;
+    let found = search::best_route(f, free, i + 1, &answers[..at]);
+    let outcome = found.outcome;
+    let cells = found.route;
+    records::store(answers, at, records::tag_of(outcome), cells);
+}
+
+// The carriers in turn, each best against the answers above it.
+fn plan_all(f: Floor, free: [u32; 32], answers: &mut [u16])
+    requires { ⌜ Plannable f free (now answers) ⌝ }
+    ensures { λ r. ⌜ now (answers .exit) ≡ stored (sequential (respondWith f free) (f .carriers)) (now (answers .entry)) ⌝ }
+{
+    let n = f.carriers;
+    let mut i: u16 = 0;
+    while i < n {
+        plan_one(f, free, i, answers);
+        i += 1;
+    }
+}
+
+// The answer with the refusal of a check.
+fn turned(checked: Checked) -> Planned
+    ensures { λ r. ⌜ resultOf r ≡ madeIf (verdictOf checked) 0 ⌝ }
+{
+    match checked {
+        Checked::Refused(x) => Planned::Refused(x),
+        Checked::Passed => Planned::Failing(0),
+    }
+}
+
+// Plans a floor: the answers of its carriers into lent memory, 65 numbers each, a tag (1 none, 2 a route) and 64 cells.
+pub fn plan(f: Floor, walls: &[u16], answers: &mut [u16]) -> Planned
+    ensures answers { λ r. ⌜ resultOf r ≡ planResult f (now (walls .entry)) (length (now (answers .entry))) ⌝ }
+    ensures stores { λ r. ⌜ now (answers .exit) ≡ planMemory f (now (walls .entry)) (now (answers .entry)) ⌝ }
+{
+    let asked = request(f, walls, answers.len());
+    let Checked::Passed = asked else {
+        return turned(asked);
+    };
+    let free = search::free_rows(f, walls);
+    plan_all(f, free, answers);
+    Planned::Failing(records::failing(answers, f.carriers as usize))
 }

@@ -4,10 +4,8 @@ pub mod ListedLaws
 pub mod CellLaws
 pub mod FormLaws
 pub mod ReadLaws
-pub mod PutLaws
 pub mod LineLaws
 pub mod SheetLaws
-pub mod PartLaws
 pub mod FieldLaws
 pub mod SlotLaws
 pub mod SlotForms

@@ -3,7 +3,6 @@ pub mod Field
 pub mod Text
 pub mod Form
 pub mod Values
-pub mod Memory
 pub mod Read
 pub mod Refused
 pub mod Claims

@@ -6,7 +6,7 @@ ghost use lib.ListN.{length};
 ghost use Rattle.floor.specs.Checks.{startOf, goalOf};
 ghost use Rattle.sheet.specs.Field.{fieldOf};
 ghost use Rattle.sheet.specs.Text.{headLine, carrierLine, wallLine, carrierLines, wallLines, sheetOf, sheetLength};
-ghost use Rattle.sheet.specs.Memory.{put};
+ghost use Rattle.memory.specs.Memory.{put};
 use crate::field;
 use floor::Floor;
 

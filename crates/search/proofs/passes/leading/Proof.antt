@@ -93,7 +93,7 @@ loop-again c =
           ∙ c .before .before .before .before .before .before .before .loop .inv .2,
       s,
       table-more _ _ _ _ _ _ _ _ _ _ _ s (c .before .before .before .before .before .before .before .loop .inv .4)
-      (c .before .store2 .ensures),
+          (c .before .store2 .ensures),
     )
 
 returns : tie.Need-returns Inv-loop μ-loop

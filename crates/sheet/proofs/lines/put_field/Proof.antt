@@ -1,5 +1,5 @@
 -- `sheet::lines::put_field` meets its contract: five stores are a block of five bytes.
-use Rattle.sheet.proofs.PutLaws.{put-five}
+use Rattle.memory.proofs.PutLaws.{put-five}
 use Rattle.sheet.specs.Field.{fieldOf}
 use lib.ListN.{length-set}
 use native.Mathlib.Omega.{arith}

@@ -5,9 +5,9 @@ use native.Mathlib.Nat.{add-zero}
 use native.Mathlib.Numerals.{add-one, add-two, add-three, add-four}
 use mathlib.Core.Path.{_≡_, sym, _∙_, ap, ap₂}
 use mathlib.Core.List.{List, [], _∷_, _++_, append-assoc}
-use lib.ListN.{length, take, drop, set, length-append, length-take, length-drop, take-append-drop}
-use lib.Seq.{set-split, take-at, drop-at, length-take-le, drop-drop, sets-eq}
-use Rattle.sheet.specs.Memory.{put}
+use lib.ListN.{length, take, drop, getD, set, length-append, length-take, length-drop, take-append-drop}
+use lib.Seq.{take-suc, take-all, set-split, take-at, drop-at, length-take-le, drop-drop, sets-eq}
+use Rattle.memory.specs.Memory.{put}
 
 -- An empty block changes nothing.
 pub put-none : (m : List ℕ) (at : ℕ) → m ≡ put m at []
@@ -56,3 +56,24 @@ pub put-five : (m : List ℕ) (at a b c d e : ℕ) → at + 5 ≤ length m
 unfolding put
 put-five m at a b c d e l =
     rw (add-one, add-two, add-three, add-four, ← append-assoc) (sets-eq (a ∷ b ∷ c ∷ d ∷ e ∷ []) m at l)
+
+-- A loop that stores a list element by element: before the first, one more, its length, and after the last.
+pub copy-start : (m xs : List ℕ) (at : ℕ) → m ≡ put m at (take 0 xs)
+copy-start m xs at = put-none m at
+
+pub copy-more : (m m′ xs : List ℕ) (at t : ℕ) → m′ ≡ put m at (take t xs) → t < length xs → at + length xs ≤ length m
+    → set m′ (at + t) (getD xs t 0) ≡ put m at (take (t + 1) xs)
+copy-more m m′ xs at t e l s =
+    let size : length (take t xs) ≡ t = length-take-le t xs (omega arith) in
+    let long : length m′ ≡ length m = ap length e ∙ put-length m (take t xs) at (omega arith) in
+    rw (add-one, take-suc xs t 0)
+    (put-next m m′ (set m′ (at + t) (getD xs t 0)) (take t xs) (getD xs t 0 ∷ []) at (at + t) e
+    (put-one m′ (at + t) (getD xs t 0) (omega arith)) (rw size) (rw add-one (omega arith)))
+
+pub copy-keeps : (m m′ xs : List ℕ) (at t : ℕ) → m′ ≡ put m at (take t xs) → t ≤ length xs → at + length xs ≤ length m
+    → length m′ ≡ length m
+copy-keeps m m′ xs at t e l s =
+    ap length e ∙ put-length m (take t xs) at (omega (arith, length-take-le t xs l))
+
+pub copy-end : (m m′ xs : List ℕ) (at t : ℕ) → m′ ≡ put m at (take t xs) → length xs ≤ t → m′ ≡ put m at xs
+copy-end m m′ xs at t e l = e ∙ ap (put m at) (take-all t xs l)

@@ -1,0 +1,2 @@
+-- A block in a memory.
+pub mod Memory

@@ -1,0 +1,8 @@
+-- Laws of the definitions that no single function owns.
+pub mod FirstLaws
+pub mod RecordLaws
+pub mod ViewLaws
+pub mod PlanLaws
+pub mod FailingLaws
+pub mod RequestLaws
+pub mod ResultLaws

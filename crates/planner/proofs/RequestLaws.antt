@@ -1,0 +1,54 @@
+-- What a passed request tells: the floor is accepted, and every carrier can be planned.
+use Prim.Native.Nat.{ℕ, zero, suc, _+_, _*_, _≤_}
+use native.Mathlib.Omega.{arith}
+use mathlib.Core.Path.{_≡_, refl}
+use mathlib.Core.List.{List, map}
+use lib.ListN.{length}
+use Rattle.floor.specs.declared.Floor.{Floor}
+use Rattle.floor.specs.Verdict.{passed}
+use Rattle.floor.specs.Accepted.{Accepted}
+use Rattle.floor.proofs.VerdictLaws.{then-both}
+use Rattle.floor.proofs.LimitsLaws.{Bounds, limited-bounds, room-passed}
+use Rattle.floor.proofs.Theorems.{theorems}
+use Rattle.route.specs.Route.{Answer, View, heard}
+use Rattle.route.specs.Sequential.{sequential}
+use Rattle.search.specs.Rows.{FreeRows}
+use Rattle.search.proofs.RequestLaws.{accepted-searchable}
+use Rattle.planner.specs.Plan.{planVerdict, planOf, respondOf, respondWith}
+use Rattle.planner.specs.Answers.{Plannable}
+
+-- What a passed request tells.
+pub record Asked (f : Floor) (ws : List ℕ) (room : ℕ) : Type 0 where
+  pub accepted : Accepted f ws
+  pub bounds : Bounds f
+  pub enough : 65 * f .carriers ≤ room
+
+pub asked : (f : Floor) (ws : List ℕ) (room : ℕ) → planVerdict f ws room ≡ passed → Asked f ws room
+unfolding planVerdict
+asked f ws room h =
+    let a = then-both _ _ h in
+    let ok = theorems .passes-exactly f ws .0 (a .0) in
+    record { accepted = ok; bounds = limited-bounds f (ok .limited); enough = room-passed _ _ (a .1) }
+
+-- Every carrier of an accepted floor can be planned with its free rows.
+pub plannable : (f : Floor) (ws rows m : List ℕ) → Asked f ws (length m) → FreeRows f ws rows → Plannable f rows m
+plannable f ws rows m a r =
+    record {
+      few = a .bounds .carriers .1;
+      horizon = a .bounds .horizon .1;
+      room = a .enough;
+      searchable = λ i views l s.
+          accepted-searchable f ws (i + 1) views rows (a .accepted) (omega arith, omega arith) (omega arith) r;
+    }
+
+-- Responses that agree make the same plan.
+sequential-same : (p q : ℕ → List View → Answer) → ((k : ℕ) (vs : List View) → p k vs ≡ q k vs) → (k : ℕ)
+    → sequential p k ≡ sequential q k
+unfolding sequential
+sequential-same p q h zero = refl
+sequential-same p q h (suc k) = rw (sequential-same p q h k, h k (map heard (sequential q k)))
+
+-- The plan with the free rows is the plan with the walls.
+pub plan-same : (f : Floor) (ws rows : List ℕ) → FreeRows f ws rows → sequential (respondWith f rows) (f .carriers) ≡ planOf f ws
+unfolding planOf respondOf respondWith
+plan-same f ws rows r = sequential-same (respondWith f rows) (respondOf f ws) (λ k vs. r .same (k + 1) vs) (f .carriers)

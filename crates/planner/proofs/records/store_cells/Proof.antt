@@ -1,0 +1,74 @@
+use Rattle.memory.proofs.PutLaws.{copy-start, copy-more, copy-keeps, copy-end}
+use Rattle.memory.specs.Memory.{put}
+use lib.ListN.{length, take}
+use mathlib.Core.Path.{_≡_}
+use Prim.Native.Nat.{_-_, _≤_}
+use borrow.Author.Needs.{needs}
+use native.Mathlib.Omega.{arith}
+use Rattle.planner.proofs.records.store_cells.Statement.{statement}
+use Rattle.planner.proofs.records.store_cells.Tie as tie
+
+abbrev Inv-loop : tie.InvT-loop
+Inv-loop out₀ at cells t₀ out t = (t ≤ 64) × ((length cells ≡ 64) × (out ≡ put out₀ at (take t cells)))
+
+abbrev μ-loop : tie.MeasureT-loop
+μ-loop out₀ at cells t₀ out t = 64 - t
+
+loop-holds : tie.Need-loop-holds Inv-loop μ-loop
+loop-holds c = (search needs, (search needs, copy-start _ (c .args .t3) _))
+
+mul-out : tie.Need-mul-out Inv-loop μ-loop
+mul-out c = search needs
+
+array-read-out : tie.Need-array-read-out Inv-loop μ-loop
+array-read-out c = search needs
+
+add-out : tie.Need-add-out Inv-loop μ-loop
+add-out c = search needs
+
+mul-out-2 : tie.Need-mul-out-2 Inv-loop μ-loop
+mul-out-2 c = search needs
+
+slice-write-out : tie.Need-slice-write-out Inv-loop μ-loop
+slice-write-out c =
+    let l = c .before .loop .inv .1 in
+    omega (arith, copy-keeps _ _ (c .before .before .args .t3) _ (c .before .loop .t) (l .1) (omega arith) (omega arith))
+
+add-t : tie.Need-add-t Inv-loop μ-loop
+add-t c = search needs
+
+loop-less : tie.Need-loop-less Inv-loop μ-loop
+loop-less c = search needs
+
+loop-again : tie.Need-loop-again Inv-loop μ-loop
+loop-again c =
+    let l = c .before .loop .inv .1 in
+    (search needs, (l .0, copy-more _ _ (c .before .before .args .t3) _ (c .before .loop .t) (l .1) (omega arith) (omega arith)))
+
+same-length : tie.Need-same-length Inv-loop μ-loop
+same-length c =
+    let l = c .before .loop .inv .1 in
+    copy-keeps _ _ (c .before .before .args .t3) _ (c .before .loop .t) (l .1) (omega arith) (omega arith)
+
+returns : tie.Need-returns Inv-loop μ-loop
+returns c =
+    let l = c .before .loop .inv .1 in
+    (copy-end _ _ (c .before .before .args .t3) _ (c .before .loop .t) (l .1) (omega arith), l .0)
+
+pub store-cells-spec : {M : Type 1} → statement M
+store-cells-spec =
+    tie.close
+    (tie.spec
+    Inv-loop
+    μ-loop
+    loop-holds
+    mul-out
+    array-read-out
+    add-out
+    mul-out-2
+    slice-write-out
+    add-t
+    loop-less
+    loop-again
+    same-length
+    returns)
