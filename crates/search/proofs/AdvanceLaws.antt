@@ -11,7 +11,8 @@ use Rattle.route.specs.Moves.{near, vacant, every}
 use Rattle.route.proofs.Tests.{and-both, and-fst, and-snd}
 use Rattle.route.proofs.NearLaws.{near-says}
 use Rattle.words.specs.Rows.{has, Clean}
-use Rattle.words.proofs.RowsLaws.{place-same, place-row, before, brought, has-spread}
+use Rattle.words.proofs.RowsLaws.{place-same, place-row}
+use Rattle.words.proofs.StepLaws.{before, brought, has-spread}
 use Rattle.search.specs.Views.{records}
 use Rattle.search.specs.Marks.{marksOf}
 use Rattle.search.specs.Passes.{advanceOf}

@@ -11,7 +11,9 @@ use lib.Dec.{eqb}
 use lib.ListN.{replicate, length-replicate}
 use Rattle.route.proofs.Tests.{and-both, and-fst, and-snd}
 use Rattle.words.specs.Rows.{has, single, Clean}
-use Rattle.words.proofs.RowsLaws.{place-row, has-added, has-zeros, marked-inside, spread-free}
+use Rattle.words.proofs.RowsLaws.{place-row, has-added, marked-inside}
+use Rattle.words.proofs.FillLaws.{has-zeros}
+use Rattle.words.proofs.StepLaws.{spread-free}
 use Rattle.search.specs.Marks.{marksOf}
 use Rattle.search.specs.Passes.{advanceOf, forwardOf, backwardOf}
 use Rattle.search.proofs.MemberLaws.{member, member-has, member-holds}

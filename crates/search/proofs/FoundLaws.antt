@@ -17,7 +17,8 @@ use Rattle.route.proofs.Tests.{and-both, and-fst, and-snd}
 use Rattle.route.proofs.Sets.{Sets, Reaches, Greedy}
 use Rattle.route.proofs.SetsBest.{Found, found-best, not-found-best}
 use Rattle.words.specs.Rows.{has, filled}
-use Rattle.words.proofs.RowsLaws.{place-row, length-filled, filled-in, filled-out, zeros-row}
+use Rattle.words.proofs.RowsLaws.{place-row}
+use Rattle.words.proofs.FillLaws.{length-filled, filled-in, filled-out, zeros-row}
 use Rattle.search.specs.Views.{records}
 use Rattle.search.specs.Passes.{holdOf, Earliest, arrivable, forwardOf, backwardOf, tableOf, leadsOf, nextOf, pathOf}
 use Rattle.search.proofs.MemberLaws.{member-cell, member-has, member-holds}

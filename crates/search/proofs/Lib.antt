@@ -19,3 +19,4 @@ pub mod AnswerLaws
 pub mod SearchLaws
 pub mod RequestLaws
 pub mod Theorems
+mod Cases

@@ -11,7 +11,9 @@ use lib.ListN.{length, length-replicate}
 use Rattle.route.specs.Moves.{vacant, every}
 use Rattle.route.proofs.Tests.{and-both, and-fst, and-snd}
 use Rattle.words.specs.Rows.{has, marked}
-use Rattle.words.proofs.RowsLaws.{same-test, has-marked, has-zeros, length-marked}
+use Rattle.words.proofs.Tests.{same-test}
+use Rattle.words.proofs.RowsLaws.{has-marked, length-marked}
+use Rattle.words.proofs.FillLaws.{has-zeros}
 use Rattle.search.specs.Views.{records, spotOf}
 use Rattle.search.specs.Marks.{sideOf, shutBy, marksOf}
 use Rattle.search.proofs.ViewsLaws.{vacant-spot}

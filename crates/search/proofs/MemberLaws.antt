@@ -12,7 +12,8 @@ use Rattle.route.specs.Moves.{near}
 use Rattle.route.proofs.Tests.{true-false-absurd, and-both, and-fst, and-snd}
 use Rattle.route.proofs.NearLaws.{near-holds}
 use Rattle.words.specs.Rows.{has}
-use Rattle.words.proofs.RowsLaws.{place-same, before}
+use Rattle.words.proofs.RowsLaws.{place-same}
+use Rattle.words.proofs.StepLaws.{before}
 
 -- Cell c is in the set s.
 unfoldable pub member : ℕ → ℕ → List ℕ → ℕ → Bool

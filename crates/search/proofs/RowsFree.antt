@@ -19,8 +19,9 @@ use Rattle.route.proofs.FreeLaws.{best-free}
 use Rattle.words.specs.Words.{digit, without}
 use Rattle.words.specs.Rows.{has, Clean}
 use Rattle.words.proofs.DigitLaws.{digit-without, digit-ones, digit-zero}
-use Rattle.words.proofs.RowsLaws.{same-test, place-row, has-marked, has-zeros, length-marked, length-filled, filled-in, filled-out}
-use Rattle.words.proofs.RowsLaws.{zeros-row}
+use Rattle.words.proofs.Tests.{same-test}
+use Rattle.words.proofs.RowsLaws.{place-row, has-marked, length-marked}
+use Rattle.words.proofs.FillLaws.{has-zeros, length-filled, filled-in, filled-out, zeros-row}
 use Rattle.search.specs.Task.{taskOf, taskOfRows}
 use Rattle.search.specs.Rows.{wallRows, gridWithout, FreeRows}
 

@@ -8,7 +8,7 @@ use mathlib.Core.Path.{_≡_, ap, _∙_}
 use lib.ListN.{length, getD, replicate, length-replicate}
 use Rattle.words.specs.Words.{digit}
 use Rattle.words.specs.Rows.{has, written}
-use Rattle.words.proofs.RowsLaws.{length-written, written-in, written-out}
+use Rattle.words.proofs.FillLaws.{length-written, written-in, written-out}
 use Rattle.search.specs.Passes.{backwardOf, tableOf}
 
 module _ (w cells k : ℕ) (free m : List ℕ) (goal a : ℕ) (short : a ≤ 63) where

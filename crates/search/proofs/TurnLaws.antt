@@ -12,7 +12,8 @@ use lib.Dec.{leb}
 use lib.ListN.{length, getD, replicate}
 use Rattle.route.proofs.Tests.{true-false-absurd}
 use Rattle.words.specs.Rows.{has, marked, single, written, spreadOf}
-use Rattle.words.proofs.RowsLaws.{length-marked, length-spread}
+use Rattle.words.proofs.RowsLaws.{length-marked}
+use Rattle.words.proofs.StepLaws.{length-spread}
 use Rattle.search.specs.Views.{spotOf}
 use Rattle.search.specs.Marks.{sideOf, shutBy, marksOf}
 use Rattle.search.specs.Rows.{wallRows}

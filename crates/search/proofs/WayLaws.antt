@@ -9,7 +9,7 @@ use borrow.Author.Tests.{eqb-true, eq-eqb}
 use lib.Dec.{eqb}
 use Rattle.route.specs.Moves.{vacant, passable, every}
 use Rattle.route.proofs.Tests.{true-false-absurd, eq-or-ne, and-both, and-fst, and-snd}
-use Rattle.words.proofs.RowsLaws.{same-test}
+use Rattle.words.proofs.Tests.{same-test}
 use Rattle.search.specs.Views.{viewAt, records, spotOf}
 use Rattle.search.specs.Marks.{sideOf}
 use Rattle.search.proofs.ViewsLaws.{vacant-spot, passable-spot}

@@ -1,3 +1,6 @@
--- Laws of digits and of rows. What other crates cite is `pub`.
+-- Laws of digits, of rows and of a step. What other crates cite is `pub`.
+pub mod Tests
 pub mod DigitLaws
+pub mod FillLaws
 pub mod RowsLaws
+pub mod StepLaws

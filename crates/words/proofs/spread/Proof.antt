@@ -6,7 +6,8 @@ use mathlib.Core.Path.{_≡_, refl}
 use borrow.Author.Needs.{needs}
 use lib.ListN.{replicate}
 use Rattle.words.specs.Rows.{filled, above, spreadRow, spreadOf}
-use Rattle.words.proofs.RowsLaws.{filled-none, filled-more, above-row, row-end}
+use Rattle.words.proofs.FillLaws.{filled-none, filled-more}
+use Rattle.words.proofs.StepLaws.{above-row, row-end}
 use Rattle.words.proofs.spread.Statement.{statement}
 use Rattle.words.proofs.spread.Tie as tie
 

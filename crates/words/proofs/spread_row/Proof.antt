@@ -1,6 +1,6 @@
 -- `words::spread_row` meets its contract. The contract is the code. Assumes nothing.
 use borrow.Author.Needs.{needs}
-use Rattle.words.proofs.RowsLaws.{spread-row-made}
+use Rattle.words.proofs.StepLaws.{spread-row-made}
 use Rattle.words.proofs.spread_row.Statement.{statement}
 use Rattle.words.proofs.spread_row.Tie as tie
 

@@ -6,7 +6,7 @@ use mathlib.Core.Path.{_≡_, refl}
 use borrow.Author.Needs.{needs}
 use lib.ListN.{length, length-set}
 use Rattle.words.specs.Rows.{written}
-use Rattle.words.proofs.RowsLaws.{written-none, written-more}
+use Rattle.words.proofs.FillLaws.{written-none, written-more}
 use Rattle.words.proofs.store.Statement.{statement}
 use Rattle.words.proofs.store.Tie as tie
 

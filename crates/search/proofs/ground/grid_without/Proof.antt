@@ -7,7 +7,7 @@ use borrow.Author.Needs.{needs}
 use lib.ListN.{replicate, getD}
 use Rattle.words.specs.Words.{without}
 use Rattle.words.specs.Rows.{filled}
-use Rattle.words.proofs.RowsLaws.{filled-none, filled-more}
+use Rattle.words.proofs.FillLaws.{filled-none, filled-more}
 use Rattle.search.specs.Rows.{gridWithout}
 use Rattle.search.proofs.ground.grid_without.Statement.{statement}
 use Rattle.search.proofs.ground.grid_without.Tie as tie

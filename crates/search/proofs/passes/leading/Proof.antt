@@ -5,7 +5,8 @@ use native.Mathlib.Omega.{arith}
 use mathlib.Core.Path.{_≡_, sym, ap, _∙_}
 use borrow.Author.Needs.{needs}
 use lib.ListN.{length, length-replicate}
-use Rattle.words.proofs.RowsLaws.{length-single, length-written}
+use Rattle.words.proofs.RowsLaws.{length-single}
+use Rattle.words.proofs.FillLaws.{length-written}
 use Rattle.search.specs.Passes.{backwardOf, tableOf}
 use Rattle.search.proofs.TurnLaws.{length-advance, backward-none, backward-more, table-none, table-more}
 use Rattle.search.proofs.passes.leading.Statement.{statement}

@@ -6,7 +6,7 @@ use mathlib.Core.Path.{_≡_}
 use borrow.Author.Needs.{needs}
 use lib.ListN.{replicate}
 use Rattle.words.specs.Rows.{filled}
-use Rattle.words.proofs.RowsLaws.{filled-none, filled-more}
+use Rattle.words.proofs.FillLaws.{filled-none, filled-more}
 use Rattle.search.specs.Passes.{pathOf}
 use Rattle.search.proofs.TurnLaws.{path-none, path-more}
 use Rattle.search.proofs.walk.walk.Statement.{statement}
