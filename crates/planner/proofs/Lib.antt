@@ -6,3 +6,4 @@ pub mod PlanLaws
 pub mod FailingLaws
 pub mod RequestLaws
 pub mod ResultLaws
+pub mod SequentialLaws

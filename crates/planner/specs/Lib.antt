@@ -2,3 +2,4 @@
 pub mod Plan
 pub mod Records
 pub mod Answers
+pub mod Claims

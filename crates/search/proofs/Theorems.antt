@@ -10,7 +10,7 @@ use lib.Dec.{leb}
 use lib.ListN.{length}
 use Rattle.floor.specs.declared.Floor.{Floor}
 use Rattle.floor.specs.Verdict.{Verdict, passed, refused, demand, _then_}
-use Rattle.floor.specs.Checks.{checkOf, within}
+use Rattle.floor.specs.Checks.{checkOf, within, roomOf}
 use Rattle.floor.specs.Accepted.{Accepted, Within}
 use Rattle.floor.proofs.VerdictLaws.{then-passed, then-refused, then-cases, demand-cases, demand-holds, demand-passes, demand-refuses}
 use Rattle.floor.proofs.LimitsLaws.{limited-bounds}
@@ -95,13 +95,13 @@ module _ (f : Floor) (ws : List ℕ) (i : ℕ) (m : List ℕ) where
       both = route-theorems .none-exactly (taskOf f ws i) (viewsOf m i) (short g)
 
   abbrev views-test : Verdict
-  views-test = demand (leb (65 * f .carriers) (length m)) 9 0
+  views-test = roomOf (65 * f .carriers) (length m)
 
   abbrev carrier-test : Verdict
   carrier-test = demand (within 1 (f .carriers) i) 7 0
 
   refused-says : (k p : ℕ) → requestOf f ws i m ≡ refused k p → TurnedWith f ws i m k p
-  unfolding requestOf
+  unfolding requestOf roomOf
   refused-says k p e =
       ⊎-elim (λ (h : checkOf f ws ≡ refused k p). floor-refused ((floor-theorems .refuses-exactly f ws k p) .0 h)) later
       (then-cases (checkOf f ws) (views-test then carrier-test) k p e)
@@ -125,7 +125,7 @@ module _ (f : Floor) (ws : List ℕ) (i : ℕ) (m : List ℕ) where
           ⊎-elim (first a) (last a) (then-cases views-test carrier-test k p (h .1))
 
   refused-holds : {k p : ℕ} → TurnedWith f ws i m k p → requestOf f ws i m ≡ refused k p
-  unfolding requestOf
+  unfolding requestOf roomOf
   refused-holds {k} {p} (floor-refused r) = then-refused _ ((floor-theorems .refuses-exactly f ws k p) .1 r)
   refused-holds (few-views a h) =
       then-passed ((floor-theorems .passes-exactly f ws) .1 a) ∙ then-refused _

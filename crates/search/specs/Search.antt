@@ -1,11 +1,10 @@
 -- The search as document 01 says it: the refusals in their order, then the best route against the views of the carriers above.
 use Prim.Native.Nat.{ℕ, _*_}
 use mathlib.Core.List.{List}
-use lib.Dec.{leb}
 use lib.ListN.{length}
 use Rattle.floor.specs.declared.Floor.{Floor}
 use Rattle.floor.specs.Verdict.{Verdict, demand, _then_}
-use Rattle.floor.specs.Checks.{checkOf, within}
+use Rattle.floor.specs.Checks.{checkOf, roomOf, within}
 use Rattle.route.specs.Search.{best}
 use Rattle.search.specs.Answers.{Result, answeredIf}
 use Rattle.search.specs.Task.{taskOf}
@@ -14,7 +13,7 @@ use Rattle.search.specs.Views.{viewsOf}
 -- The refusals of a search: the floor's, 9 if too few numbers of views are lent, 7 if there is no such carrier.
 unfoldable pub requestOf : Floor → List ℕ → ℕ → List ℕ → Verdict
 requestOf f ws i m =
-    checkOf f ws then demand (leb (65 * f .carriers) (length m)) 9 0 then demand (within 1 (f .carriers) i) 7 0
+    checkOf f ws then roomOf (65 * f .carriers) (length m) then demand (within 1 (f .carriers) i) 7 0
 
 -- What a search for carrier i answers, from the floor, the walls and the views in memory m.
 unfoldable pub searchOf : Floor → List ℕ → ℕ → List ℕ → Result

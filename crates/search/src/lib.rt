@@ -88,19 +88,6 @@ pub fn best_route(f: Floor, free: [u32; 32], carrier: u16, views: &[u16]) -> Fou
     }
 }
 
-// 9: the views of as many carriers as the floor has are lent.
-fn lent(f: Floor, views: &[u16]) -> Checked
-    ensures { λ r. ⌜ verdictOf r ≡ demand (leb (65 * f .carriers) (length (now (views .entry)))) 9 0 ⌝ }
-{
-    if views.len() < 65 * (f.carriers as usize) {
-        return Checked::Refused(Refusal {
-            number: 9,
-            place: 0,
-        });
-    }
-    Checked::Passed
-}
-
 // 7: the floor has such a carrier.
 fn listed(f: Floor, carrier: u16) -> Checked
     ensures { λ r. ⌜ verdictOf r ≡ demand (within 1 (f .carriers) carrier) 7 0 ⌝ }
@@ -128,7 +115,7 @@ fn request(f: Floor, walls: &[u16], carrier: u16, views: &[u16]) -> Checked
     let Checked::Passed = checked else {
         return checked;
     };
-    let shown = lent(f, views);
+    let shown = floor::room(65 * f.carriers as usize, views.len());
     let Checked::Passed = shown else {
         return shown;
     };
@@ -141,8 +128,8 @@ pub fn search(f: Floor, walls: &[u16], carrier: u16, views: &[u16]) -> Found
     ensures { λ r. ⌜ Says r (searchOf f (now (walls .entry)) carrier (now (views .entry))) ⌝ }
 {
     let asked = request(f, walls, carrier, views);
-    match asked {
-        Checked::Refused(x) => refused(x),
-        Checked::Passed => best_route(f, free_rows(f, walls), carrier, views),
-    }
+    let Checked::Refused(x) = asked else {
+        return best_route(f, free_rows(f, walls), carrier, views);
+    };
+    refused(x)
 }

@@ -1,7 +1,7 @@
--- `search::request` meets its contract. An answer that passed hands on, the first refusal is the answer of the whole. Assumes nothing.
-use borrow.Author.Needs.{needs}
-use Rattle.floor.proofs.AnswersLaws.{hands-on, ends-at}
+-- `search::request` meets its contract: a chain of three checks.
 use Rattle.search.specs.Search.{requestOf}
+use Rattle.floor.proofs.AnswersLaws.{hands-on, ends-at}
+use borrow.Author.Needs.{needs}
 use Rattle.search.proofs.request.Statement.{statement}
 use Rattle.search.proofs.request.Tie as tie
 
@@ -16,11 +16,17 @@ enum-told-2 c = search needs
 
 returns : tie.Need-returns
 unfolding requestOf
-returns c =
+returns c = 
     ends-at _ (c .before .before .check .ensures) (c .enum-told2 .given .1)
 
-lent-requires : tie.Need-lent-requires
-lent-requires c κs = search needs
+cast-room : tie.Need-cast-room
+cast-room c = search needs
+
+mul-room : tie.Need-mul-room
+mul-room c = search needs
+
+room-requires : tie.Need-room-requires
+room-requires c κs = search needs
 
 enum-told-3 : tie.Need-enum-told-3
 enum-told-3 c = search needs
@@ -32,8 +38,8 @@ returns-2 : tie.Need-returns-2
 unfolding requestOf
 returns-2 c =
     let c₄ = c .before .before .before .before in
-    hands-on (c₄ .before .check .ensures) (c .before .before .before .enum-told .given .1)
-    (ends-at _ (c .before .before .lent .ensures) (c .enum-told4 .given .1))
+    hands-on (c₄ .before .before .check .ensures) (c₄ .enum-told .given .1)
+    (ends-at _ (c .before .before .room .ensures) (c .enum-told4 .given .1))
 
 listed-requires : tie.Need-listed-requires
 listed-requires c κs = search needs
@@ -42,8 +48,8 @@ returns-3 : tie.Need-returns-3
 unfolding requestOf
 returns-3 c =
     let c₄ = c .before .before .before .before in
-    hands-on (c₄ .before .before .check .ensures) (c₄ .enum-told .given .1)
-    (hands-on (c .before .before .before .lent .ensures) (c .before .enum-told3 .given .1)
+    hands-on (c₄ .before .before .before .check .ensures) (c₄ .before .enum-told .given .1)
+    (hands-on (c .before .before .before .room .ensures) (c .before .enum-told3 .given .1)
     (c .listed .ensures))
 
 pub request-spec : {M : Type 1} → statement M
@@ -54,7 +60,9 @@ request-spec =
     enum-told
     enum-told-2
     returns
-    lent-requires
+    cast-room
+    mul-room
+    room-requires
     enum-told-3
     enum-told-4
     returns-2

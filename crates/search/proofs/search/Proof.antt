@@ -1,12 +1,12 @@
--- `search::search` meets its contract. A refusal is answered as it is; otherwise the floor is accepted, and the search with its free
--- rows answers as with its walls. Assumes nothing.
+-- `search::search` meets its contract: a refusal is answered as met; otherwise the floor is accepted, and the search with its free
+-- rows answers as with its walls.
+use Rattle.search.proofs.RequestLaws.{request-granted, granted-searchable, granted-bounds}
+use Rattle.search.proofs.AnswerLaws.{says-same, answered-passed, answered-refused}
+use Rattle.search.specs.Search.{searchOf}
+use Rattle.search.specs.Answers.{answered}
+use Rattle.floor.proofs.AnswersLaws.{passes, refuses}
 use mathlib.Core.Path.{ap, _∙_}
 use borrow.Author.Needs.{needs}
-use Rattle.floor.proofs.AnswersLaws.{passes, refuses}
-use Rattle.search.specs.Answers.{answered}
-use Rattle.search.specs.Search.{searchOf}
-use Rattle.search.proofs.AnswerLaws.{says-same, answered-passed, answered-refused}
-use Rattle.search.proofs.RequestLaws.{request-granted, granted-searchable, granted-bounds}
 use Rattle.search.proofs.search.Statement.{statement}
 use Rattle.search.proofs.search.Tie as tie
 
@@ -14,38 +14,36 @@ request-requires : tie.Need-request-requires
 request-requires c κs = search needs
 
 enum-known-asked : tie.Need-enum-known-asked
-enum-known-asked c = c .match .keys1
-
-refused-requires : tie.Need-refused-requires
-refused-requires c κs = search needs
+enum-known-asked c = search needs
 
 enum-told : tie.Need-enum-told
 enum-told c = search needs
 
 free-rows-requires : tie.Need-free-rows-requires
-free-rows-requires c κs = let g = (request-granted _ _ _ _ (passes (c .before .before .request .ensures) (c .enum-told .given .1))) in
+free-rows-requires c κs = 
+    let g = (request-granted _ _ _ _ (passes (c .before .before .request .ensures) (c .enum-told .given .1))) in
     let b = granted-bounds _ _ _ _ g in
     ((b .width .0, b .width .1, b .height .1), g .accepted .lent)
 
 best-route-requires : tie.Need-best-route-requires
-best-route-requires c κs =
-    granted-searchable _ _ _ _ _
-    (request-granted _ _ _ _ (passes (c .before .before .before .request .ensures) (c .before .enum-told .given .1)))
-    (c .free-rows .ensures)
+best-route-requires c κs = 
+    granted-searchable _ _ _ _ _ (request-granted _ _ _ _ (passes (c .before .before .before .request .ensures) (c .before .enum-told .given .1))) (c .free-rows .ensures)
 
 returns : tie.Need-returns
 unfolding searchOf
 returns c =
     let c₄ = c .before .before .before .before in
-    says-same (c .refused .ensures) (answered-refused _ (refuses (c₄ .request .ensures) (c .before .before .asked .given .1)))
+    says-same (c .best-route .ensures)
+    (ap answered (c .before .free-rows .ensures .same _ _) ∙ answered-passed _ (passes (c₄ .request .ensures) (c .before .before .enum-told .given .1)))
+
+refused-requires : tie.Need-refused-requires
+refused-requires c κs = search needs
 
 returns-2 : tie.Need-returns-2
 unfolding searchOf
 returns-2 c =
     let c₄ = c .before .before .before .before in
-    says-same (c .best-route .ensures)
-    (ap answered (c .before .free-rows .ensures .same _ _) ∙ answered-passed _
-    (passes (c₄ .request .ensures) (c .before .before .enum-told .given .1)))
+    says-same (c .refused .ensures) (answered-refused _ (refuses (c₄ .request .ensures) (c .before .before .asked .given .1)))
 
 pub search-spec : {M : Type 1} → statement M
 search-spec =
@@ -53,9 +51,9 @@ search-spec =
     (tie.spec
     request-requires
     enum-known-asked
-    refused-requires
     enum-told
     free-rows-requires
     best-route-requires
     returns
+    refused-requires
     returns-2)
