@@ -1,22 +1,36 @@
 -- The plan carrier by carrier.
 use Prim.Native.Nat.{ℕ, zero, suc, _+_, _≤_, _<_}
 use native.Mathlib.Omega.{arith}
+use native.Mathlib.Decide.{decLe}
 use borrow.Author.Count.{below-more}
 use mathlib.Core.Path.{_≡_, refl, sym, _∙_, ap}
 use mathlib.Core.List.{List, [], _∷_, _++_, map}
 use lib.ListN.{length, getD, take, List·getD-append}
-use lib.Seq.{getD-at, take-append-le, take-at}
+use lib.Seq.{getD-at, take-append-le, take-all}
 use Rattle.route.specs.Route.{Answer, none, route, View, heard}
 use Rattle.route.specs.Sequential.{sequential}
 use Rattle.planner.specs.Claims.{answerAt}
 use Rattle.planner.proofs.FailingLaws.{plan-count}
 
 module _ (respond : ℕ → List View → Answer) where
+  plan-all : (n : ℕ) → take n (sequential respond n) ≡ sequential respond n
+  plan-all n = take-all n (sequential respond n) (omega (arith, plan-count respond n))
+
+  shorter : (n k : ℕ) → k ≤ suc n → Dec (k ≤ n) → (k ≤ n → take k (sequential respond n) ≡ sequential respond k)
+    → take k (sequential respond (suc n)) ≡ sequential respond k
+  unfolding sequential
+  shorter n k l (yes h) p = take-append-le k (sequential respond n) _ (rw (plan-count respond n) h) ∙ p h
+  shorter n k l (no h) p =
+      let e : k ≡ suc n = omega arith in
+      rw e (plan-all (suc n))
+
   -- The answers of the first k carriers are the first k answers.
   pub plan-prefix : (n k : ℕ) → k ≤ n → take k (sequential respond n) ≡ sequential respond k
-  unfolding sequential
-  plan-prefix zero k l = ?
-  plan-prefix (suc n) k l = ?
+  plan-prefix zero k l =
+      let e : k ≡ 0 = omega arith in
+      rw e (plan-all 0)
+  plan-prefix (suc n) k l =
+      shorter n k l (decLe k n) (λ h. plan-prefix n k h)
 
   -- Each carrier responds to the answers above it.
   pub plan-answer : (n k : ℕ) → k < n → answerAt (sequential respond n) k ≡ respond k (map heard (sequential respond k))

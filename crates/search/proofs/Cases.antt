@@ -1,13 +1,12 @@
 -- Cases computed from the definitions: document 01's floors 1 to 3 as requests, with what the memory of views says, and three refusals.
 use Prim.Native.Nat.{ℕ}
-use mathlib.Core.List.{List, [], _∷_, _++_}
+use mathlib.Core.List.{List, [], _∷_}
 use mathlib.Core.Path.{_≡_, refl}
 use lib.ListN.{replicate}
 use Rattle.floor.specs.declared.Floor.{Floor}
 use Rattle.floor.specs.Verdict.{_then_, demand, inTurn, each}
 use Rattle.floor.specs.Checks.{within, limitsOf, lentOf, roomOf, startOf, goalOf, inGrid, carrierInGrid, carriersOf, wallsOf, risingOf, among}
-use Rattle.floor.specs.Checks.{clearOfWalls}
-use Rattle.floor.specs.Checks.{clearOf, unshared, distinctOf, placesOf, checkOf}
+use Rattle.floor.specs.Checks.{clearOfWalls, clearOf, unshared, distinctOf, placesOf, checkOf}
 use Rattle.route.specs.Route.{cellAt, none, route}
 use Rattle.route.specs.Moves.{neighbours, near, vacant, passable, every, standable, allowed, startClear}
 use Rattle.route.specs.Search.{cost, cheaper, cheapest, beatsFrom, val, walk, walkFrom, best}

@@ -32,6 +32,3 @@ module _ (m : List ℕ) (k goal : ℕ) where
           elim b [ true ↦ holdOf m k goal n | false ↦ suc n ] ≤ a
       cases true e ih = ih
       cases false e ih = ⊎-elim (λ (p : n < a). p) (λ (p : a ≤ n). absurd (true-false-absurd (h n p (omega arith)) e)) (lt-or-le n a)
-
-  pub hold-within : (n : ℕ) → holdOf m k goal n ≤ n
-  hold-within n = hold-least n n (λ t l u. absurd (omega arith))

@@ -8,7 +8,7 @@ use mathlib.Core.Logic.{_↔_, inl, inr, ⊎-elim}
 use mathlib.Core.Path.{_≡_, sym, _∙_}
 use borrow.Author.Tests.{ltb-true, lt-ltb}
 use lib.Dec.{ltb}
-use Rattle.route.specs.Route.{View, Task, SharesSide}
+use Rattle.route.specs.Route.{Task, SharesSide}
 use Rattle.route.specs.Moves.{near, vacant, passable, every, standable, allowed}
 use Rattle.route.proofs.Tests.{and-both, and-fst, and-snd}
 use Rattle.route.proofs.NearLaws.{near-says, near-holds, shares-side-sym}
@@ -39,12 +39,6 @@ near-sym w c d e =
     near-holds w d c (⊎-elim (λ (h : d ≡ c). inl (sym h)) (λ (h : SharesSide w c d). inr (shares-side-sym w c d h)) (near-says w c d e))
 
 module _ (task : Task) (free m : List ℕ) (k : ℕ) (set : Setting task free) where
-  w : ℕ
-  w = task .width
-
-  vs : List View
-  vs = records m k
-
   stepping : (b : ℕ) → b < 64 → Stepping (task .width) (task .cells) b
   stepping b h = record { thin = set .thin; narrow = set .narrow; room = set .room; beat = h }
 

@@ -74,9 +74,6 @@ module _ (w h : ℕ) (walls : List ℕ) (high : h ≤ 32) where
   clean-grid = record { thin = grid-column; inside = λ r q e. rw (mul-comm w h) (digits-lt (grid-row r q e) (grid-column r q e)) }
 
 module _ (f : Floor) (ws : List ℕ) (thin : 1 ≤ f .width) (high : f .height ≤ 32) (room : f .width * f .height ≤ 32 * f .width) where
-  rows : List ℕ
-  rows = gridWithout (f .width) (f .height) (wallRows (f .width) (f .width * f .height) ws (f .walls))
-
   agree : (c : ℕ) → c < f .width * f .height →
       has (gridWithout (f .width) (f .height) (wallRows (f .width) (f .width * f .height) ws (f .walls))) (c / f .width) (c % f .width) ≡
       not (among ws (f .walls) c)
