@@ -7,3 +7,5 @@ pub mod FailingLaws
 pub mod RequestLaws
 pub mod ResultLaws
 pub mod SequentialLaws
+pub mod Theorems
+pub mod Cases

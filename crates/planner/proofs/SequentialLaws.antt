@@ -1,13 +1,13 @@
 -- The plan carrier by carrier.
-use Prim.Native.Nat.{ℕ, zero, suc, _+_, _≤_, _<_}
+use Prim.Native.Nat.{ℕ, zero, suc, _≤_, _<_}
 use native.Mathlib.Omega.{arith}
 use native.Mathlib.Decide.{decLe}
 use borrow.Author.Count.{below-more}
-use mathlib.Core.Path.{_≡_, refl, sym, _∙_, ap}
+use mathlib.Core.Path.{_≡_, _∙_}
 use mathlib.Core.List.{List, [], _∷_, _++_, map}
-use lib.ListN.{length, getD, take, List·getD-append}
+use lib.ListN.{getD, take, List·getD-append}
 use lib.Seq.{getD-at, take-append-le, take-all}
-use Rattle.route.specs.Route.{Answer, none, route, View, heard}
+use Rattle.route.specs.Route.{Answer, none, View, heard}
 use Rattle.route.specs.Sequential.{sequential}
 use Rattle.planner.specs.Claims.{answerAt}
 use Rattle.planner.proofs.FailingLaws.{plan-count}
@@ -17,7 +17,7 @@ module _ (respond : ℕ → List View → Answer) where
   plan-all n = take-all n (sequential respond n) (omega (arith, plan-count respond n))
 
   shorter : (n k : ℕ) → k ≤ suc n → Dec (k ≤ n) → (k ≤ n → take k (sequential respond n) ≡ sequential respond k)
-    → take k (sequential respond (suc n)) ≡ sequential respond k
+      → take k (sequential respond (suc n)) ≡ sequential respond k
   unfolding sequential
   shorter n k l (yes h) p = take-append-le k (sequential respond n) _ (rw (plan-count respond n) h) ∙ p h
   shorter n k l (no h) p =
@@ -37,7 +37,8 @@ module _ (respond : ℕ → List View → Answer) where
   unfolding sequential answerAt
   plan-answer zero k l = absurd (omega arith)
   plan-answer (suc n) k l =
-      below-more (λ (j : ℕ). getD (sequential respond n ++ (respond n (map heard (sequential respond n)) ∷ [])) j none ≡ respond j (map heard (sequential respond j))) n
+      below-more (λ (j : ℕ). getD (sequential respond n ++ (respond n (map heard (sequential respond n)) ∷ [])) j none ≡ respond j
+      (map heard (sequential respond j))) n
       (λ j h. List·getD-append (sequential respond n) _ none j (rw (plan-count respond n) h) ∙ plan-answer n j h)
       (getD-at (sequential respond n) _ [] none n (plan-count respond n))
       k (omega arith)

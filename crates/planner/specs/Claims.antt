@@ -1,13 +1,13 @@
 -- The claims about the sequential planner; `proofs/Theorems.antt` inhabits the record. Carriers count from 0.
-use Prim.Native.Nat.{ℕ, suc, _+_, _≤_, _<_}
+use Prim.Native.Nat.{ℕ, suc, _+_, _<_}
 use mathlib.Core.Path.{_≡_}
 use mathlib.Core.Logic.{_↔_}
 use mathlib.Core.List.{List, map}
 use lib.ListN.{length, getD, take}
 use Rattle.floor.specs.declared.Floor.{Floor}
 use Rattle.floor.specs.Verdict.{passed}
-use Rattle.floor.specs.Checks.{checkOf, startOf, goalOf}
-use Rattle.route.specs.Route.{Answer, none, route, View, heard}
+use Rattle.floor.specs.Checks.{checkOf}
+use Rattle.route.specs.Route.{Answer, none, route, heard}
 use Rattle.route.specs.Conflict.{ConflictFree}
 use Rattle.route.specs.Best.{Best}
 use Rattle.search.specs.Task.{taskOf}

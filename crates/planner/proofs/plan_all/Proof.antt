@@ -1,3 +1,4 @@
+-- `planner::plan_all` meets its contract: invariant: the answers of the carriers passed stand in front.
 use Rattle.planner.proofs.PlanLaws.{plan-start, plan-more, plan-keeps, plan-end}
 use Rattle.planner.specs.Records.{stored}
 use Rattle.planner.specs.Plan.{respondWith}

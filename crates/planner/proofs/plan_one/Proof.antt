@@ -1,3 +1,4 @@
+-- `planner::plan_one` meets its contract: what the search found, stored with its tag, is the record of its answer.
 use denote.Ref.{now}
 use Rattle.planner.proofs.RecordLaws.{found-record}
 use Rattle.planner.specs.Plan.{respondWith}

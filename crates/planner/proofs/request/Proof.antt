@@ -1,3 +1,4 @@
+-- `planner::request` meets its contract: a chain of two checks.
 use Rattle.planner.specs.Plan.{planVerdict}
 use Rattle.floor.proofs.AnswersLaws.{hands-on, ends-at}
 use borrow.Author.Needs.{needs}

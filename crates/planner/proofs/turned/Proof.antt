@@ -1,3 +1,4 @@
+-- `planner::turned` meets its contract: the refusal as met.
 use Rattle.planner.specs.Answers.{resultOf, madeIf}
 use Rattle.floor.specs.Answers.{verdictOf}
 use borrow.Author.Needs.{needs}

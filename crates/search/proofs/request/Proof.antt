@@ -16,7 +16,7 @@ enum-told-2 c = search needs
 
 returns : tie.Need-returns
 unfolding requestOf
-returns c = 
+returns c =
     ends-at _ (c .before .before .check .ensures) (c .enum-told2 .given .1)
 
 cast-room : tie.Need-cast-room

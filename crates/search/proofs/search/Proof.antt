@@ -20,13 +20,13 @@ enum-told : tie.Need-enum-told
 enum-told c = search needs
 
 free-rows-requires : tie.Need-free-rows-requires
-free-rows-requires c κs = 
+free-rows-requires c κs =
     let g = (request-granted _ _ _ _ (passes (c .before .before .request .ensures) (c .enum-told .given .1))) in
     let b = granted-bounds _ _ _ _ g in
     ((b .width .0, b .width .1, b .height .1), g .accepted .lent)
 
 best-route-requires : tie.Need-best-route-requires
-best-route-requires c κs = 
+best-route-requires c κs =
     granted-searchable _ _ _ _ _ (request-granted _ _ _ _ (passes (c .before .before .before .request .ensures) (c .before .enum-told .given .1))) (c .free-rows .ensures)
 
 returns : tie.Need-returns

@@ -1,3 +1,4 @@
+-- `planner::records::failing` meets its contract: invariant: the first record without a route is not among those passed.
 use Rattle.planner.proofs.FirstLaws.{first-more, first-stop, first-end}
 use Rattle.planner.specs.Records.{firstFrom}
 use mathlib.Core.Path.{_≡_, _∙_, sym, ap}

@@ -1,3 +1,4 @@
+-- `planner::records::store` meets its contract: a tag and 64 cells, one behind the other.
 use denote.Ref.{now}
 use Rattle.memory.proofs.PutLaws.{put-one, put-next}
 use lib.ListN.{length-set}

@@ -1,3 +1,4 @@
+-- `planner::records::store_cells` meets its contract: invariant: the cells passed are stored.
 use Rattle.memory.proofs.PutLaws.{copy-start, copy-more, copy-keeps, copy-end}
 use Rattle.memory.specs.Memory.{put}
 use lib.ListN.{length, take}

@@ -1,3 +1,4 @@
+-- `planner::records::tag_of` meets its contract: one number a case.
 use Rattle.planner.specs.Records.{tagOf}
 use borrow.Author.Needs.{needs}
 use Rattle.planner.proofs.records.tag_of.Statement.{statement}
