@@ -1,14 +1,14 @@
 -- The claims of the needed lengths, proved.
-use Prim.Native.Nat.{ℕ, _≤_, _<_}
+use Prim.Native.Nat.{ℕ, _*_, _≤_, _<_}
 use native.Mathlib.Omega.{arith}
 use mathlib.Core.Path.{_≡_, refl, sym, _∙_}
 use mathlib.Core.Logic.{_↔_, ⊎-elim}
 use mathlib.Core.List.{List}
 use borrow.Author.Tests.{leb-false, lt-leb}
 use Rattle.floor.specs.declared.Floor.{Floor}
-use Rattle.floor.specs.Verdict.{passed, refused}
-use Rattle.floor.specs.Checks.{checkOf, roomOf}
-use Rattle.floor.proofs.VerdictLaws.{then-cases, then-passed, demand-cases, demand-refuses}
+use Rattle.floor.specs.Verdict.{passed, refused, demand}
+use Rattle.floor.specs.Checks.{checkOf, roomOf, within}
+use Rattle.floor.proofs.VerdictLaws.{then-cases, then-passed, then-refused, demand-cases, demand-refuses}
 use Rattle.floor.proofs.LimitsLaws.{check-tells}
 use Rattle.floor.specs.Refused.{RefusedWith, outside-limit, few-walls, carrier-outside, wall-outside, not-rising, on-wall, shared}
 use Rattle.sheet.specs.Refused.{RefusedSheet, head-form, rest-form, floor-row, outside-limit as outside-limit-row}
@@ -18,6 +18,8 @@ use lib.ListN.{length}
 use Rattle.sheet.specs.Text.{sheetLength, wallAt}
 use Rattle.sheet.specs.Read.{sheetVerdict, readVerdict, writeVerdict}
 use Rattle.sheet.proofs.Theorems.{theorems as sheet-theorems}
+use Rattle.search.specs.Search.{requestOf}
+use Rattle.planner.specs.Plan.{planVerdict}
 use Rattle.lengths.specs.Figures.{figuresFor, unless}
 use Rattle.lengths.specs.Claims.{Claims}
 
@@ -59,6 +61,22 @@ sheet-room : (f : Floor) (ws : List ℕ) (room : ℕ) → checkOf f ws ≡ passe
 unfolding writeVerdict
 sheet-room f ws room ok = (λ h. room-means _ _ .0 (sym (then-passed ok) ∙ h), λ l. then-passed ok ∙ room-means _ _ .1 l)
 
+answers-room : (f : Floor) (ws : List ℕ) (room : ℕ) → checkOf f ws ≡ passed → (planVerdict f ws room ≡ refused 9 0) ↔ (room < 65 * f .carriers)
+unfolding planVerdict
+answers-room f ws room ok = (λ h. room-means _ _ .0 (sym (then-passed ok) ∙ h), λ l. then-passed ok ∙ room-means _ _ .1 l)
+
+views-room : (f : Floor) (ws : List ℕ) (i : ℕ) (m : List ℕ) → checkOf f ws ≡ passed → (requestOf f ws i m ≡ refused 9 0) ↔ (length m < 65 * f .carriers)
+unfolding requestOf
+views-room f ws i m ok = (
+  λ h.
+      ⊎-elim
+      (λ (e : roomOf (65 * f .carriers) (length m) ≡ refused 9 0). room-means _ _ .0 e)
+      (λ (e : (roomOf (65 * f .carriers) (length m) ≡ passed) × (demand (within 1 (f .carriers) i) 7 0 ≡ refused 9 0)).
+      absurd (omega (arith, demand-cases _ 7 0 9 0 (e .1) .1)))
+      (then-cases (roomOf (65 * f .carriers) (length m)) (demand (within 1 (f .carriers) i) 7 0) 9 0 (sym (then-passed ok) ∙ h)),
+  λ l. then-passed ok ∙ then-refused _ (room-means _ _ .1 l),
+)
+
 pub theorems : Claims
 unfolding figuresFor unless sheetLength wallAt
 theorems =
@@ -66,6 +84,9 @@ theorems =
       accepted-known = λ f ws ok. rw (check-tells f ws ok .limited);
       walls-within = λ f ws ok. omega (arith, check-tells f ws ok .bounds .walls .1);
       sheet-within = λ f ws ok. let b = check-tells f ws ok .bounds in omega (arith, b .walls .1, b .carriers .1);
+      answers-within = λ f ws ok. omega (arith, check-tells f ws ok .bounds .carriers .1);
+      answers-room = answers-room;
+      views-room = views-room;
       walls-room = walls-room;
       sheet-room = sheet-room;
     }

@@ -3,20 +3,27 @@ use Prim.Native.Nat.{ℕ, _*_, _≤_, _<_}
 use mathlib.Core.Path.{_≡_}
 use mathlib.Core.Logic.{_↔_}
 use mathlib.Core.List.{List}
+use lib.ListN.{length}
 use Rattle.floor.specs.declared.Floor.{Floor}
 use Rattle.floor.specs.Verdict.{passed, refused}
 use Rattle.floor.specs.Checks.{checkOf}
 use Rattle.sheet.specs.Text.{sheetLength}
 use Rattle.sheet.specs.Values.{floorAt}
 use Rattle.sheet.specs.Read.{sheetVerdict, readVerdict, writeVerdict}
+use Rattle.search.specs.Search.{requestOf}
+use Rattle.planner.specs.Plan.{planVerdict}
 use Rattle.lengths.specs.Figures.{figuresFor, known}
 
 pub record Claims : Type 0 where
   -- An accepted floor has its lengths.
-  pub accepted-known : (f : Floor) (ws : List ℕ) → checkOf f ws ≡ passed → figuresFor f ≡ known (f .walls) (sheetLength f)
+  pub accepted-known : (f : Floor) (ws : List ℕ) → checkOf f ws ≡ passed → figuresFor f ≡ known (f .walls) (sheetLength f) (65 * f .carriers)
   -- None is over 65,536 bytes: two bytes a wall, and the sheet.
   pub walls-within : (f : Floor) (ws : List ℕ) → checkOf f ws ≡ passed → 2 * f .walls ≤ 65536
   pub sheet-within : (f : Floor) (ws : List ℕ) → checkOf f ws ≡ passed → sheetLength f ≤ 65536
+  pub answers-within : (f : Floor) (ws : List ℕ) → checkOf f ws ≡ passed → 2 * (65 * f .carriers) ≤ 65536
+  -- Memory for answers is called too short exactly below the needed length, and so is memory for views.
+  pub answers-room : (f : Floor) (ws : List ℕ) (room : ℕ) → checkOf f ws ≡ passed → (planVerdict f ws room ≡ refused 9 0) ↔ (room < 65 * f .carriers)
+  pub views-room : (f : Floor) (ws : List ℕ) (i : ℕ) (m : List ℕ) → checkOf f ws ≡ passed → (requestOf f ws i m ≡ refused 9 0) ↔ (length m < 65 * f .carriers)
   -- Wall memory is called too short exactly below the needed length, and then only if nothing else is wrong.
   pub walls-room : (text : List ℕ) (room : ℕ)
       → (readVerdict text room ≡ refused 9 0) ↔ ((sheetVerdict text ≡ passed) × (room < floorAt text .walls))

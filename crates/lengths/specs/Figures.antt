@@ -1,5 +1,5 @@
 -- The needed length of each lent buffer of a floor.
-use Prim.Native.Nat.{ℕ}
+use Prim.Native.Nat.{ℕ, _*_}
 use Rattle.floor.specs.declared.Floor.{Floor}
 use Rattle.floor.specs.Verdict.{Verdict, passed, refused}
 use Rattle.floor.specs.Checks.{limitsOf}
@@ -9,12 +9,12 @@ use Rattle.lengths.specs.declared.Needed.the-variants.{Known, Refused}
 
 -- The lengths, or a refusal's number and place.
 pub data Figures : Type 0 where
-  known : (walls sheet : ℕ) → Figures
+  known : (walls sheet answers : ℕ) → Figures
   withheld : (number place : ℕ) → Figures
 
 -- What each case of the code's answer says.
 unfoldable pub figuresOf : Needed → Figures
-figuresOf (Known l) = known (l .walls) (l .sheet)
+figuresOf (Known l) = known (l .walls) (l .sheet) (l .answers)
 figuresOf (Refused r) = withheld (r .number) (r .place)
 
 -- A verdict's refusal, or the figures where it passes.
@@ -22,6 +22,6 @@ unfoldable pub unless : Verdict → Figures → Figures
 unless passed figures = figures
 unless (refused k p) figures = withheld k p
 
--- As many cell numbers as the floor has walls, and the sheet's length in bytes.
+-- As many cell numbers as the floor has walls, the sheet's length in bytes, and 65 numbers a carrier for answers or views.
 unfoldable pub figuresFor : Floor → Figures
-figuresFor f = unless (limitsOf f) (known (f .walls) (sheetLength f))
+figuresFor f = unless (limitsOf f) (known (f .walls) (sheetLength f) (65 * f .carriers))

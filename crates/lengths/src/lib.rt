@@ -6,10 +6,12 @@ use floor::Checked;
 use floor::Floor;
 use floor::Refusal;
 
-// The needed lengths: `walls` in cell numbers of two bytes, `sheet` in bytes.
+// The needed lengths: `walls` in cell numbers of two bytes, `sheet` in bytes, `answers` in numbers of two bytes (the
+// answers of a planner, and the views lent to a search).
 pub struct Lengths {
     pub walls: usize,
     pub sheet: usize,
+    pub answers: usize,
 }
 
 // What the entry answers.
@@ -29,6 +31,7 @@ pub fn needed_lengths(f: Floor) -> Needed
         return Needed::Known(Lengths {
             walls: f.walls as usize,
             sheet: sheet::sheet_length(f),
+            answers: 65 * f.carriers as usize,
         });
     };
     Needed::Refused(refusal)

@@ -20,11 +20,15 @@ cast-t4 c = search needs
 sheet-length-requires : tie.Need-sheet-length-requires
 sheet-length-requires c κs = search needs
 
+cast-t6 : tie.Need-cast-t6
+cast-t6 c = search needs
+
+mul-t7 : tie.Need-mul-t7
+mul-t7 c = search needs
+
 returns : tie.Need-returns
 unfolding figuresOf figuresFor unless
-returns c =
-    let c₄ = c .before .before .before .before in
-    rw (passes (c₄ .limits .ensures) (c .before .before .enum-told .given .1), c .sheet-length .ensures)
+returns c = rw (passes (c .before .before .before .before .before .limits .ensures) (c .before .before .before .enum-told .given .1), c .before .sheet-length .ensures)
 
 returns-2 : tie.Need-returns-2
 unfolding figuresOf figuresFor unless
@@ -39,5 +43,7 @@ needed-lengths-spec =
     enum-told
     cast-t4
     sheet-length-requires
+    cast-t6
+    mul-t7
     returns
     returns-2)
