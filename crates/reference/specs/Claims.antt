@@ -1,0 +1,29 @@
+-- What is claimed of the reference machine, one field a claim, for any number of carriers, any depth and any best response;
+-- `proofs/Theorems.antt` has the proofs.
+use Prim.Native.Nat.{ℕ, _-_, min}
+use mathlib.Core.Bool.{Bool, true}
+use mathlib.Core.List.{List, [], _++_}
+use mathlib.Core.Path.{_≡_}
+use Rattle.reference.specs.State.{Machine, State, fresh}
+use Rattle.reference.specs.Step.{Step, isOpen}
+use Rattle.reference.specs.Run.{run, ending}
+use Rattle.reference.specs.History.{Reaches, Told, Joined}
+use Rattle.reference.specs.Calls.{Call, single, accepted, verdict, replies, after}
+use Rattle.reference.specs.Quiet.{takenInAll}
+
+pub record Claims : Type 0 where
+  -- Every step that a run took was open, no open step was passed over, and the number taken is the length of its history of taken
+  -- steps, never above the budget.
+  pub run-told : (M : Machine) (s : State) (xs : List Step) (b : ℕ) → Told M s xs b (run M s xs b)
+  -- A single step that is not refused is open.
+  pub single-open : (M : Machine) (s : State) (lent : Bool) (x : Step) → verdict M s (single lent x) ≡ accepted → isOpen M s x ≡ true
+  -- A list of calls changes the state by open steps alone, as many as its answers tell of.
+  pub calls-reach : (M : Machine) (s : State) (cs : List Call) → Reaches M s (after M s cs) (takenInAll (replies M s cs))
+  -- A run cut in two is the run of the first part and then the run of the rest with what is left of the budget.
+  pub run-cut : (M : Machine) (s : State) (xs ys : List Step) (b : ℕ) →
+      Joined (run M s (xs ++ ys) b) (run M s xs b) (run M (run M s xs b .state) ys (b - run M s xs b .taken))
+  -- Where the first part is read to its end, the whole run ends as the second one does.
+  pub cut-ending : (M : Machine) (s : State) (xs ys : List Step) (b : ℕ) → run M s xs b .unread ≡ [] →
+      ending M b (run M s (xs ++ ys) b) ≡ ending M (b - run M s xs b .taken) (run M (run M s xs b .state) ys (b - run M s xs b .taken))
+  -- The taken count is the number of single steps taken plus the numbers that the runs returned, or 999,999 if that is more.
+  pub count-told : (M : Machine) (cs : List Call) → after M fresh cs .taken ≡ min 999999 (takenInAll (replies M fresh cs))
