@@ -1,4 +1,11 @@
 -- Laws of the definitions, the invariants, and the claims.
+mod RangeLaws
+mod OpenLaws
+mod QuietLaws
+mod TakeLaws
+mod Invariant
+mod SequentialLaws
+mod PrefixLaws
 mod RunLaws
 mod CutLaws
 mod ReachLaws

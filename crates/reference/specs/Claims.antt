@@ -1,15 +1,19 @@
 -- What is claimed of the reference machine, one field a claim, for any number of carriers, any depth and any best response;
 -- `proofs/Theorems.antt` has the proofs.
-use Prim.Native.Nat.{ℕ, _-_, min}
-use mathlib.Core.Bool.{Bool, true}
+use Prim.Native.Nat.{ℕ, _-_, _≤_, min}
+use mathlib.Core.Bool.{Bool, true, false}
 use mathlib.Core.List.{List, [], _++_}
+use mathlib.Core.Logic.{_⊎_, _↔_}
 use mathlib.Core.Path.{_≡_}
+use lib.ListN.{take}
+use Rattle.route.specs.Sequential.{sequential}
+use Rattle.reference.specs.Ranges.{below}
 use Rattle.reference.specs.State.{Machine, State, fresh}
 use Rattle.reference.specs.Step.{Step, isOpen}
-use Rattle.reference.specs.Run.{run, ending}
+use Rattle.reference.specs.Run.{run, ending, isSilent}
 use Rattle.reference.specs.History.{Reaches, Told, Joined}
 use Rattle.reference.specs.Calls.{Call, single, accepted, verdict, replies, after}
-use Rattle.reference.specs.Quiet.{takenInAll}
+use Rattle.reference.specs.Quiet.{quiet, takenInAll}
 
 pub record Claims : Type 0 where
   -- Every step that a run took was open, no open step was passed over, and the number taken is the length of its history of taken
@@ -27,3 +31,16 @@ pub record Claims : Type 0 where
       ending M b (run M s (xs ++ ys) b) ≡ ending M (b - run M s xs b .taken) (run M (run M s xs b .state) ys (b - run M s xs b .taken))
   -- The taken count is the number of single steps taken plus the numbers that the runs returned, or 999,999 if that is more.
   pub count-told : (M : Machine) (cs : List Call) → after M fresh cs .taken ≡ min 999999 (takenInAll (replies M fresh cs))
+  -- Silent is said exactly if no step is open.
+  pub silent-exactly : (M : Machine) (s : State) → (isSilent M s ≡ true) ↔ ((x : Step) → isOpen M s x ≡ false)
+  -- Some step is open, or nobody is due and nothing is under way.
+  pub open-or-quiet : (M : Machine) (s : State) → 1 ≤ M .depth →
+      ((x : Step) × (isOpen M s x ≡ true)) ⊎ (quiet (M .carriers) s ≡ true)
+  -- The machine is silent exactly if nobody is due and nothing is under way.
+  pub silent-quiet : (M : Machine) (s : State) → 1 ≤ M .depth → isSilent M s ≡ quiet (M .carriers) s
+  -- If the first k carriers are quiet after a list of calls, their answers are the sequential planner's first k.
+  pub quiet-answers : (M : Machine) (cs : List Call) (k : ℕ) → k ≤ M .carriers → quiet k (after M fresh cs) ≡ true →
+      below k (after M fresh cs .answer) ≡ take k (sequential (M .respond) (M .carriers))
+  -- After every longer list they are quiet with the same answers.
+  pub quiet-lasts : (M : Machine) (cs ds : List Call) (k : ℕ) → quiet k (after M fresh cs) ≡ true →
+      (quiet k (after M fresh (cs ++ ds)) ≡ true) × (below k (after M fresh (cs ++ ds) .answer) ≡ below k (after M fresh cs .answer))

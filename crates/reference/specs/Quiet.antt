@@ -7,9 +7,13 @@ use Rattle.reference.specs.State.{State}
 use Rattle.reference.specs.Step.{isEmpty}
 use Rattle.reference.specs.Calls.{Reply, stepped, ran, refused}
 
+-- Carrier i is not due, and nothing is under way to it from the carriers above it.
+unfoldable pub quietAt : State → ℕ → Bool
+quietAt s i = not (s .due i) && each i (λ j. isEmpty (s .chan i j))
+
 -- The first k carriers are quiescent (the paper's 'quiet'): none of them is due and nothing is under way among them.
 unfoldable pub quiet : ℕ → State → Bool
-quiet k s = each k (λ i. not (s .due i) && each i (λ j. isEmpty (s .chan i j)))
+quiet k s = each k (quietAt s)
 
 -- The number of steps that an answer tells of: a single step is one, a run as many as it returned.
 unfoldable pub takenIn : Reply → ℕ

@@ -9,10 +9,13 @@ use Rattle.reference.specs.State.{Machine, State}
 use Rattle.reference.specs.Step.{Step, plan, deliver, isOpen}
 use Rattle.reference.specs.Take.{afterStep}
 
+-- Neither the plan of carrier i nor a delivery to it is open.
+unfoldable pub noneOpenAt : Machine → State → ℕ → Bool
+noneOpenAt M s i = not (isOpen M s (plan i)) && each i (λ j. not (isOpen M s (deliver j i)))
+
 -- Silent: no step is open.
 unfoldable pub isSilent : Machine → State → Bool
-isSilent M s =
-    each (M .carriers) (λ i. not (isOpen M s (plan i)) && each i (λ j. not (isOpen M s (deliver j i))))
+isSilent M s = each (M .carriers) (noneOpenAt M s)
 
 -- What a run did with a step that it read.
 pub data Event : Type 0 where
