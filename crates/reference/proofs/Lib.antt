@@ -6,6 +6,9 @@ mod TakeLaws
 mod Invariant
 mod SequentialLaws
 mod PrefixLaws
+mod Sums
+mod Potential
+mod PotentialLaws
 mod RunLaws
 mod CutLaws
 mod ReachLaws

@@ -79,9 +79,9 @@ module _ (s : State) (i : ℕ) (a : Answer) where
   unfolding planAs
   plan-planned-other k h = put-other (s .planned) i true k h
 
-  pub plan-due : planAs s i a .due i ≡ false
+  pub plan-clears : planAs s i a .due i ≡ false
   unfolding planAs
-  plan-due = put-same (s .due) i false
+  plan-clears = put-same (s .due) i false
 
   pub plan-due-other : (k : ℕ) → (k ≡ i → ⊥) → planAs s i a .due k ≡ s .due k
   unfolding planAs

@@ -23,6 +23,7 @@ use Rattle.reference.proofs.QuietLaws.{quiet-says, quiet-holds, quiet-s
 use Rattle.reference.proofs.Invariant.{fresh-sound, reaches-sound}
 use Rattle.reference.proofs.SequentialLaws.{sequential-prefix}
 use Rattle.reference.proofs.PrefixLaws.{quiet-sequential, reaches-quiet}
+use Rattle.reference.proofs.PotentialLaws.{calls-ceiling}
 
 module _ (M : Machine) where
   silent-to-quiet : (s : State) → 1 ≤ M .depth → isSilent M s ≡ true → quiet (M .carriers) s ≡ true
@@ -76,4 +77,5 @@ theorems =
       silent-quiet = silent-quiet;
       quiet-answers = quiet-answers;
       quiet-lasts = quiet-lasts;
+      ceiling-holds = calls-ceiling;
     }

@@ -13,7 +13,7 @@ use Rattle.reference.specs.Step.{Step, isOpen}
 use Rattle.reference.specs.Run.{run, ending, isSilent}
 use Rattle.reference.specs.History.{Reaches, Told, Joined}
 use Rattle.reference.specs.Calls.{Call, single, accepted, verdict, replies, after}
-use Rattle.reference.specs.Quiet.{quiet, takenInAll}
+use Rattle.reference.specs.Quiet.{quiet, takenInAll, ceiling}
 
 pub record Claims : Type 0 where
   -- Every step that a run took was open, no open step was passed over, and the number taken is the length of its history of taken
@@ -44,3 +44,5 @@ pub record Claims : Type 0 where
   -- After every longer list they are quiet with the same answers.
   pub quiet-lasts : (M : Machine) (cs ds : List Call) (k : ℕ) → quiet k (after M fresh cs) ≡ true →
       (quiet k (after M fresh (cs ++ ds)) ≡ true) × (below k (after M fresh (cs ++ ds) .answer) ≡ below k (after M fresh cs .answer))
+  -- The step ceiling: from fresh, no list of calls takes more than 2^(n + 1) − n − 2 steps.
+  pub ceiling-holds : (M : Machine) (cs : List Call) → takenInAll (replies M fresh cs) ≤ ceiling (M .carriers)
