@@ -9,7 +9,8 @@ use Rattle.reference.specs.State.{Machine, State, fresh, tick}
 use Rattle.reference.specs.Step.{Step, plan, deliver, noKind, named, isOpen}
 use Rattle.reference.specs.Take.{planAs, deliverTo, afterStep}
 use Rattle.reference.specs.History.{Reaches, stay, next}
-use Rattle.reference.specs.Calls.{Call, replies, after}
+use Rattle.reference.specs.Table.{Call}
+use Rattle.reference.specs.Calls.{replies, after}
 use Rattle.reference.specs.Quiet.{takenInAll}
 use Rattle.reference.proofs.ReachLaws.{calls-reach}
 
@@ -22,7 +23,8 @@ module _ (M : Machine) where
 
   pub reaches-counts : {s z : State} {t : ℕ} → s .taken ≤ 999999 → Reaches M s z t → z .taken ≡ min 999999 (s .taken + t)
   reaches-counts {s = s} l stay = omega arith
-  reaches-counts {s = s} {z = z} l (next {t = t} x e p) = omega (arith, step-counts s x e, reaches-counts (omega (arith, step-counts s x e)) p)
+  reaches-counts {s = s} l (next x e p) =
+      omega (arith, step-counts s x e, reaches-counts (omega (arith, step-counts s x e)) p)
 
   pub calls-count : (cs : List Call) → after M fresh cs .taken ≡ min 999999 (takenInAll (replies M fresh cs))
   unfolding fresh

@@ -1,15 +1,16 @@
 -- A run cut in two is the run of the first part and then the run of the rest with what is left of the budget.
-use Prim.Native.Nat.{ℕ, zero, suc, _+_, _-_, _≤_}
+use Prim.Native.Nat.{ℕ, suc, _+_, _-_, _≤_}
 use native.Mathlib.Omega.{arith}
 use mathlib.Core.Bool.{Bool, true, false}
 use mathlib.Core.List.{List, [], _∷_, _++_}
-use mathlib.Core.Path.{_≡_, refl, ap, sym, _∙_}
+use mathlib.Core.Path.{_≡_, refl, ap}
 use lib.Dec.{eqb}
 use borrow.Author.Tests.{eqb-true, eqb-false, eq-eqb, ne-eqb}
 use Rattle.reference.specs.State.{Machine, State}
 use Rattle.reference.specs.Step.{Step, isOpen}
 use Rattle.reference.specs.Take.{afterStep}
-use Rattle.reference.specs.Run.{Ran, Event, took, passed, run, first-took, first-passed, ending}
+use Rattle.reference.specs.Run.{Event, took, passed, Ran, tookFirst, passedFirst, run}
+use Rattle.reference.specs.Ending.{ending}
 use Rattle.reference.specs.History.{Joined}
 use Rattle.reference.proofs.RunLaws.{run-took, run-passed, run-induction, run-told}
 
@@ -38,8 +39,8 @@ module _ (M : Machine) where
   followed-stopped s x xs (y ∷ ys) = record { state = refl; history = refl; taken = refl; unread = refl }
 
   followed-took : (s : State) (x : Step) (xs : List Step) (b : ℕ) (r : Ran) → isOpen M s x ≡ true →
-      Followed M (afterStep M s x) xs b r → Followed M s (x ∷ xs) (suc b) (first-took x r)
-  unfolding Followed first-took
+      Followed M (afterStep M s x) xs b r → Followed M s (x ∷ xs) (suc b) (tookFirst x r)
+  unfolding Followed tookFirst
   followed-took s x xs b r e p ys =
       rw (run-took M s x (xs ++ ys) b e, less)
       (record {
@@ -56,8 +57,8 @@ module _ (M : Machine) where
       less = omega arith
 
   followed-passed : (s : State) (x : Step) (xs : List Step) (b : ℕ) (r : Ran) → isOpen M s x ≡ false →
-      Followed M s xs (suc b) r → Followed M s (x ∷ xs) (suc b) (first-passed x r)
-  unfolding Followed first-passed
+      Followed M s xs (suc b) r → Followed M s (x ∷ xs) (suc b) (passedFirst x r)
+  unfolding Followed passedFirst
   followed-passed s x xs b r e p ys =
       rw (run-passed M s x (xs ++ ys) b e)
       (record {

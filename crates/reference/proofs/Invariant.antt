@@ -4,12 +4,11 @@ use Prim.Native.Nat.{ℕ, _<_}
 use mathlib.Core.Bool.{Bool, true, false}
 use mathlib.Core.List.{List, [], _∷_, _++_}
 use mathlib.Core.Logic.{_⊎_, inl, inr, ⊎-elim}
-use mathlib.Core.Path.{_≡_, refl, ap, sym, _∙_}
+use mathlib.Core.Path.{_≡_, refl, sym, _∙_}
 use Rattle.route.specs.Route.{Answer, View, unheard, heard}
 use Rattle.route.proofs.Tests.{eq-or-ne, true-false-absurd}
-use Rattle.reference.specs.Ranges.{below, put, putPair}
 use Rattle.reference.specs.State.{Machine, State, fresh, views}
-use Rattle.reference.specs.Step.{Step, plan, deliver, noKind, isOpen}
+use Rattle.reference.specs.Step.{Step, plan, deliver, noKind}
 use Rattle.reference.specs.Take.{isNews, planAs, oldest, newer, deliverTo, afterStep}
 use Rattle.reference.specs.History.{Reaches, stay, next}
 use Rattle.reference.proofs.TakeLaws.{no-news, plan-keeps, sent-below, chan-other, plan-view, plan-planned, plan-planned-other}

@@ -1,16 +1,18 @@
--- Laws of the definitions, the invariants, and the claims.
-mod RangeLaws
-mod OpenLaws
-mod QuietLaws
-mod TakeLaws
-mod Invariant
+-- Laws of the definitions, the invariant, the potential, and the claims. What other crates cite is `pub`.
+pub mod RangeLaws
+pub mod OpenLaws
+pub mod TakeLaws
+pub mod RunLaws
+pub mod CutLaws
+pub mod ReachLaws
+mod CountLaws
+pub mod QuietLaws
+pub mod Invariant
 mod SequentialLaws
 mod PrefixLaws
 mod Sums
-mod Potential
-mod PotentialLaws
-mod RunLaws
-mod CutLaws
-mod ReachLaws
-mod CountLaws
+pub mod Potential
+mod PlanWeight
+mod DeliverWeight
+pub mod CeilingLaws
 pub mod Theorems

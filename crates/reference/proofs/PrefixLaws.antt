@@ -1,11 +1,11 @@
 -- Quiet prefixes: their answers are the sequential planner's, and open steps leave them as they are.
 use Prim.Native.Nat.{ℕ, zero, suc, _≤_, _<_}
 use native.Mathlib.Omega.{arith}
-use mathlib.Core.Bool.{true, false}
-use mathlib.Core.List.{List, [], _∷_, _++_, map}
+use mathlib.Core.Bool.{true}
+use mathlib.Core.List.{map}
 use mathlib.Core.Logic.{⊎-elim}
-use mathlib.Core.Path.{_≡_, refl, sym, _∙_}
-use Rattle.route.specs.Route.{Answer, View, heard}
+use mathlib.Core.Path.{_≡_, refl, _∙_}
+use Rattle.route.specs.Route.{Answer, heard}
 use Rattle.route.specs.Sequential.{sequential}
 use Rattle.route.proofs.Tests.{lt-or-le, true-false-absurd}
 use Rattle.reference.specs.Ranges.{below}

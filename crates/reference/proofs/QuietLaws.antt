@@ -1,10 +1,9 @@
 -- Quiet prefixes and silence: some step is open, or nobody is due and nothing is under way.
-use Prim.Native.Nat.{ℕ, zero, suc, _≤_, _<_}
-use native.Mathlib.Omega.{arith}
+use Prim.Native.Nat.{ℕ, _≤_, _<_}
 use mathlib.Core.Bool.{Bool, true, false, _&&_, _||_, not}
-use mathlib.Core.List.{List, []}
+use mathlib.Core.List.{[]}
 use mathlib.Core.Logic.{_⊎_, inl, inr, ⊎-elim}
-use mathlib.Core.Path.{_≡_, refl, sym, _∙_}
+use mathlib.Core.Path.{_≡_, refl}
 use lib.Dec.{leb, ltb}
 use lib.ListN.{length}
 use borrow.Author.Tests.{leb-false, lt-ltb, not-true, not-false}
@@ -12,7 +11,7 @@ use Rattle.route.proofs.Tests.{and-both, and-fst, and-snd, or-inl, or-inr, not-
 use Rattle.reference.specs.Ranges.{each}
 use Rattle.reference.specs.State.{Machine, State}
 use Rattle.reference.specs.Step.{Step, plan, deliver, noKind, hasRoom, isEmpty, isOpen}
-use Rattle.reference.specs.Run.{noneOpenAt, isSilent}
+use Rattle.reference.specs.Ending.{noneOpenAt, isSilent}
 use Rattle.reference.specs.Quiet.{quietAt, quiet}
 use Rattle.reference.proofs.RangeLaws.{each-holds, each-true, each-fails}
 use Rattle.reference.proofs.OpenLaws.{empty-nil, nil-empty, no-kind-shut, plan-within, plan-due, plan-open}

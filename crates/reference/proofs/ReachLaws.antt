@@ -1,17 +1,15 @@
 -- A list of calls reaches its last state by open steps, as many as its answers tell of.
-use Prim.Native.Nat.{ℕ, zero, suc, _+_}
+use Prim.Native.Nat.{ℕ, suc, _+_}
 use native.Mathlib.Omega.{arith}
 use mathlib.Core.Bool.{Bool, true, false}
 use mathlib.Core.List.{List, [], _∷_, _++_}
-use mathlib.Core.Path.{_≡_, refl, ap, sym, _∙_}
-use Rattle.route.proofs.Tests.{true-false-absurd}
+use mathlib.Core.Path.{_≡_, refl}
 use Rattle.reference.specs.State.{Machine, State}
 use Rattle.reference.specs.Step.{Step, named, isOpen}
-use Rattle.reference.specs.Take.{afterStep, stepAnswer}
-use Rattle.reference.specs.Run.{Ran, run, first-took, first-passed, ending}
+use Rattle.reference.specs.Run.{tookFirst, passedFirst, run}
 use Rattle.reference.specs.History.{Reaches, stay, next}
-use Rattle.reference.specs.Calls.{Call, single, runOf, Verdict, accepted, refusal, ifLent, allNamed, openSingle, verdict, Reply}
-use Rattle.reference.specs.Calls.{stepped, ran, refused, answerTo, stateAfter, reply, afterCall, replies, after}
+use Rattle.reference.specs.Table.{Call, single, runOf, Verdict, accepted, refusal, ifLent, openSingle, verdict}
+use Rattle.reference.specs.Calls.{refused, answerTo, stateAfter, reply, afterCall, replies, after}
 use Rattle.reference.specs.Quiet.{takenIn, takenInAll}
 use Rattle.reference.proofs.RunLaws.{run-induction}
 
@@ -30,7 +28,7 @@ module _ (M : Machine) where
       more = omega arith
 
   pub run-reaches : (s : State) (xs : List Step) (b : ℕ) → Reaches M s (run M s xs b .state) (run M s xs b .taken)
-  unfolding run first-took first-passed
+  unfolding run tookFirst passedFirst
   run-reaches =
       run-induction M (λ s xs b r. Reaches M s (r .state) (r .taken)) (λ s b. stay) (λ s x xs. stay) (λ s x xs b r e p. next x e p)
       (λ s x xs b r e p. p)

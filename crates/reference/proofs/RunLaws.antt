@@ -1,24 +1,24 @@
 -- Laws of a run: its two equations at an open and at a shut step, its history.
-use Prim.Native.Nat.{ℕ, zero, suc, _+_, _-_, _≤_}
+use Prim.Native.Nat.{ℕ, zero, suc}
 use native.Mathlib.Omega.{arith}
 use mathlib.Core.Bool.{Bool, true, false}
-use mathlib.Core.List.{List, [], _∷_, _++_}
+use mathlib.Core.List.{List, [], _∷_}
 use mathlib.Core.Logic.{_⊎_, inl, inr}
-use mathlib.Core.Path.{_≡_, refl, ap, sym, _∙_}
+use mathlib.Core.Path.{_≡_, refl, ap}
 use Rattle.reference.specs.State.{Machine, State}
 use Rattle.reference.specs.Step.{Step, isOpen}
 use Rattle.reference.specs.Take.{afterStep}
-use Rattle.reference.specs.Run.{Ran, run, first-took, first-passed}
+use Rattle.reference.specs.Run.{Ran, tookFirst, passedFirst, run}
 use Rattle.reference.specs.History.{Faithful, stepsRead, stepsTaken, afterSteps, Told}
 
 module _ (M : Machine) where
   pub run-took : (s : State) (x : Step) (xs : List Step) (b : ℕ) → isOpen M s x ≡ true →
-      run M s (x ∷ xs) (suc b) ≡ first-took x (run M (afterStep M s x) xs b)
+      run M s (x ∷ xs) (suc b) ≡ tookFirst x (run M (afterStep M s x) xs b)
   unfolding run
   run-took s x xs b e = rw (e, run)
 
   pub run-passed : (s : State) (x : Step) (xs : List Step) (b : ℕ) → isOpen M s x ≡ false →
-      run M s (x ∷ xs) (suc b) ≡ first-passed x (run M s xs (suc b))
+      run M s (x ∷ xs) (suc b) ≡ passedFirst x (run M s xs (suc b))
   unfolding run
   run-passed s x xs b e = rw (e, run)
 
@@ -27,9 +27,9 @@ module _ (M : Machine) where
       ((s : State) (b : ℕ) → P s [] b (run M s [] b)) →
       ((s : State) (x : Step) (xs : List Step) → P s (x ∷ xs) 0 (run M s (x ∷ xs) 0)) →
       ((s : State) (x : Step) (xs : List Step) (b : ℕ) (r : Ran) → isOpen M s x ≡ true → P (afterStep M s x) xs b r →
-      P s (x ∷ xs) (suc b) (first-took x r)) →
+      P s (x ∷ xs) (suc b) (tookFirst x r)) →
       ((s : State) (x : Step) (xs : List Step) (b : ℕ) (r : Ran) → isOpen M s x ≡ false → P s xs (suc b) r →
-      P s (x ∷ xs) (suc b) (first-passed x r)) →
+      P s (x ∷ xs) (suc b) (passedFirst x r)) →
       (s : State) (xs : List Step) (b : ℕ) → P s xs b (run M s xs b)
   run-induction P done stop took passed s [] b = done s b
   run-induction P done stop took passed s (x ∷ xs) zero = stop s x xs
@@ -43,7 +43,7 @@ module _ (M : Machine) where
       split false e p q = rw (run-passed s x xs b e) (passed s x xs b (run M s xs (suc b)) e q)
 
   pub run-told : (s : State) (xs : List Step) (b : ℕ) → Told M s xs b (run M s xs b)
-  unfolding run first-took first-passed Faithful stepsRead stepsTaken afterSteps
+  unfolding run tookFirst passedFirst Faithful stepsRead stepsTaken afterSteps
   run-told =
       run-induction (Told M)
       (λ s b. record { faithful = tt; reads = refl; leads = refl; counts = refl; within = omega arith; stops = inl refl })

@@ -14,7 +14,7 @@ module _ (respond : ℕ → List View → Answer) where
   sequential-length : (k : ℕ) → length (sequential respond k) ≡ k
   unfolding sequential
   sequential-length zero = refl
-  sequential-length (suc k) = omega (arith, length-append (sequential respond k) (respond k (map heard (sequential respond k)) ∷ []), sequential-length k)
+  sequential-length (suc k) = rw (length-append, sequential-length k) (omega arith)
 
   -- The first k answers for n carriers are the answers for k carriers.
   pub sequential-prefix : (k n : ℕ) → k ≤ n → take k (sequential respond n) ≡ sequential respond k

@@ -22,7 +22,8 @@ unfolding sumTo
 sum-less zero i d f g l e h = absurd (omega arith)
 sum-less (suc k) i d f g l e h =
     ⊎-elim (λ (q : suc i ≡ suc k). last (omega arith))
-    (λ (q : suc i < suc k). omega (arith, sum-less k i d f g (omega arith) e (λ m b. h m (omega arith)), h k (omega arith) (λ p. omega arith)))
+    (λ (q : suc i < suc k).
+    omega (arith, sum-less k i d f g (omega arith) e (λ m b. h m (omega arith)), h k (omega arith) (λ p. omega arith)))
     (eq-or-lt-of-le l)
   where
     last : i ≡ k → sumTo k f + f k + d ≡ sumTo k g + g k

@@ -1,13 +1,12 @@
 -- Laws of what the two steps change: each part of the state after a plan and after a delivery.
 use Prim.Native.Nat.{ℕ, _≤_, _<_}
-use mathlib.Core.Bool.{Bool, true, false, _&&_, not}
+use mathlib.Core.Bool.{Bool, true, false, _&&_}
 use mathlib.Core.List.{List, [], _∷_, _++_}
-use mathlib.Core.Path.{_≡_, refl, ap, sym, _∙_}
-use lib.Dec.{eqb, ltb}
+use mathlib.Core.Path.{_≡_, refl, ap}
+use lib.Dec.{eqb}
 use borrow.Author.Tests.{eqb-true, eq-eqb, ne-eqb, lt-ltb, le-ltb, not-false}
 use Rattle.route.specs.Route.{Answer, none, route}
-use Rattle.route.proofs.Tests.{and-both, and-fst, and-snd, true-false-absurd}
-use Rattle.reference.specs.Ranges.{put, putPair}
+use Rattle.route.proofs.Tests.{and-fst, and-snd, true-false-absurd}
 use Rattle.reference.specs.State.{State}
 use Rattle.reference.specs.Step.{sameCells, sameAnswer}
 use Rattle.reference.specs.Take.{isNews, send, planAs, oldest, newer, deliverTo}

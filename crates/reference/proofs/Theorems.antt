@@ -10,9 +10,10 @@ use Rattle.route.proofs.Tests.{not-true-is-false, true-false-absurd}
 use Rattle.reference.specs.Ranges.{below}
 use Rattle.reference.specs.State.{Machine, State, fresh}
 use Rattle.reference.specs.Step.{Step, isOpen}
-use Rattle.reference.specs.Run.{isSilent}
-use Rattle.reference.specs.Calls.{Call, replies, after}
-use Rattle.reference.specs.Quiet.{quiet, takenInAll}
+use Rattle.reference.specs.Ending.{isSilent}
+use Rattle.reference.specs.Table.{Call}
+use Rattle.reference.specs.Calls.{after}
+use Rattle.reference.specs.Quiet.{quiet}
 use Rattle.reference.specs.Claims.{Claims}
 use Rattle.reference.proofs.RangeLaws.{below-same}
 use Rattle.reference.proofs.RunLaws.{run-told}
@@ -23,7 +24,7 @@ use Rattle.reference.proofs.QuietLaws.{quiet-says, quiet-holds, quiet-s
 use Rattle.reference.proofs.Invariant.{fresh-sound, reaches-sound}
 use Rattle.reference.proofs.SequentialLaws.{sequential-prefix}
 use Rattle.reference.proofs.PrefixLaws.{quiet-sequential, reaches-quiet}
-use Rattle.reference.proofs.PotentialLaws.{calls-ceiling}
+use Rattle.reference.proofs.CeilingLaws.{calls-ceiling}
 
 module _ (M : Machine) where
   silent-to-quiet : (s : State) → 1 ≤ M .depth → isSilent M s ≡ true → quiet (M .carriers) s ≡ true

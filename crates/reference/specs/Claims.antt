@@ -10,9 +10,11 @@ use Rattle.route.specs.Sequential.{sequential}
 use Rattle.reference.specs.Ranges.{below}
 use Rattle.reference.specs.State.{Machine, State, fresh}
 use Rattle.reference.specs.Step.{Step, isOpen}
-use Rattle.reference.specs.Run.{run, ending, isSilent}
+use Rattle.reference.specs.Run.{run}
+use Rattle.reference.specs.Ending.{isSilent, ending}
 use Rattle.reference.specs.History.{Reaches, Told, Joined}
-use Rattle.reference.specs.Calls.{Call, single, accepted, verdict, replies, after}
+use Rattle.reference.specs.Table.{Call, single, accepted, verdict}
+use Rattle.reference.specs.Calls.{replies, after}
 use Rattle.reference.specs.Quiet.{quiet, takenInAll, ceiling}
 
 pub record Claims : Type 0 where

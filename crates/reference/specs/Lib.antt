@@ -1,10 +1,12 @@
--- In reading order: the state, the steps and what they do, the run, the calls, the claims.
+-- In reading order: the state, the steps and what they do, the run and its history, the calls, quiet prefixes, the claims.
 pub mod Ranges
 pub mod State
 pub mod Step
 pub mod Take
 pub mod Run
+pub mod Ending
 pub mod History
+pub mod Table
 pub mod Calls
 pub mod Quiet
 pub mod Claims

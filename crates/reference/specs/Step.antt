@@ -1,12 +1,12 @@
 -- The steps (document 01, 'The machine'): which are there, which are open, what they do and what they answer.
 use Prim.Native.Nat.{ℕ}
 use mathlib.Core.Bool.{Bool, true, false, _&&_, _||_, not}
-use mathlib.Core.List.{List, [], _∷_, _++_}
+use mathlib.Core.List.{List, [], _∷_}
 use lib.Dec.{leb, ltb, eqb}
 use lib.ListN.{length}
-use Rattle.route.specs.Route.{Answer, none, route, View, heard}
-use Rattle.reference.specs.Ranges.{each, put, putPair}
-use Rattle.reference.specs.State.{Machine, State, views, tick}
+use Rattle.route.specs.Route.{Answer, none, route}
+use Rattle.reference.specs.Ranges.{each}
+use Rattle.reference.specs.State.{Machine, State}
 
 -- A step as it is asked for: plan i; deliver j to i; or something that names no kind of step.
 pub data Step : Type 0 where
