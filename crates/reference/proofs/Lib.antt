@@ -16,3 +16,4 @@ mod PlanWeight
 mod DeliverWeight
 pub mod CeilingLaws
 pub mod Theorems
+mod Cases

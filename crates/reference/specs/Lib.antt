@@ -9,4 +9,5 @@ pub mod History
 pub mod Table
 pub mod Calls
 pub mod Quiet
+pub mod Cases
 pub mod Claims
