@@ -2,11 +2,14 @@
 pub mod RangeLaws
 pub mod OpenLaws
 pub mod TakeLaws
+mod EffectLaws
 pub mod RunLaws
 pub mod CutLaws
 pub mod ReachLaws
+mod CutCalls
 mod CountLaws
 pub mod QuietLaws
+mod EndingLaws
 pub mod Invariant
 mod SequentialLaws
 mod PrefixLaws

@@ -13,7 +13,7 @@ use Rattle.reference.specs.Calls.{refused, answerTo, stateAfter, reply, 
 use Rattle.reference.specs.Quiet.{takenIn, takenInAll}
 use Rattle.reference.proofs.RunLaws.{run-induction}
 
-not-accepted : (v : Verdict) (a p : ℕ) → v ≡ refusal a p → v ≡ accepted → ⊥
+pub not-accepted : (v : Verdict) (a p : ℕ) → v ≡ refusal a p → v ≡ accepted → ⊥
 not-accepted v a p e h = let z : _≡_ {A = ℕ} 0 1 = cc in omega arith
 
 module _ (M : Machine) where
@@ -33,7 +33,7 @@ module _ (M : Machine) where
       run-induction M (λ s xs b r. Reaches M s (r .state) (r .taken)) (λ s b. stay) (λ s x xs. stay) (λ s x xs b r e p. next x e p)
       (λ s x xs b r e p. p)
 
-  reply-accepted : (s : State) (c : Call) → verdict M s c ≡ accepted → reply M s c ≡ answerTo M s c
+  pub reply-accepted : (s : State) (c : Call) → verdict M s c ≡ accepted → reply M s c ≡ answerTo M s c
   unfolding reply
   reply-accepted s c e = rw (e, reply)
 
@@ -41,7 +41,7 @@ module _ (M : Machine) where
   unfolding reply
   reply-refused s c a p e = rw (e, reply)
 
-  after-accepted : (s : State) (c : Call) → verdict M s c ≡ accepted → afterCall M s c ≡ stateAfter M s c
+  pub after-accepted : (s : State) (c : Call) → verdict M s c ≡ accepted → afterCall M s c ≡ stateAfter M s c
   unfolding afterCall
   after-accepted s c e = rw (e, afterCall)
 

@@ -14,7 +14,7 @@ use Rattle.reference.specs.Ending.{isSilent}
 use Rattle.reference.specs.Table.{Call}
 use Rattle.reference.specs.Calls.{after}
 use Rattle.reference.specs.Quiet.{quiet}
-use Rattle.reference.specs.Claims.{Claims}
+use Rattle.reference.specs.Claims.{StepClaims, CallClaims, Claims}
 use Rattle.reference.proofs.RangeLaws.{below-same}
 use Rattle.reference.proofs.RunLaws.{run-told}
 use Rattle.reference.proofs.CutLaws.{run-cut, cut-ending}
@@ -25,6 +25,9 @@ use Rattle.reference.proofs.Invariant.{fresh-sound, reaches-sound}
 use Rattle.reference.proofs.SequentialLaws.{sequential-prefix}
 use Rattle.reference.proofs.PrefixLaws.{quiet-sequential, reaches-quiet}
 use Rattle.reference.proofs.CeilingLaws.{calls-ceiling}
+use Rattle.reference.proofs.EffectLaws.{plan-does, deliver-does}
+use Rattle.reference.proofs.EndingLaws.{ending-silent, ending-spent, fresh-not-silent}
+use Rattle.reference.proofs.CutCalls.{cut-state, cut-taken}
 
 module _ (M : Machine) where
   silent-to-quiet : (s : State) → 1 ≤ M .depth → isSilent M s ≡ true → quiet (M .carriers) s ≡ true
@@ -64,19 +67,34 @@ module _ (M : Machine) where
       let r = reaches-quiet M k (quiet-says k s e) (calls-reach M s ds) in
       rw (after-join M fresh cs ds) (quiet-holds k z (r .0), below-same k (z .answer) (s .answer) (r .1))
 
-pub theorems : Claims
-theorems =
+step-claims : StepClaims
+step-claims =
     record {
-      run-told = run-told;
-      single-open = single-open;
-      calls-reach = calls-reach;
-      run-cut = run-cut;
-      cut-ending = cut-ending;
-      count-told = calls-count;
+      plan-does = plan-does;
+      deliver-does = deliver-does;
       silent-exactly = λ M s. (silent-shut M s, shut-silent M s);
       open-or-quiet = open-or-quiet;
       silent-quiet = silent-quiet;
+      fresh-not-silent = fresh-not-silent;
+      run-told = run-told;
+      ending-silent = ending-silent;
+      ending-spent = ending-spent;
+      run-cut = run-cut;
+      cut-ending = cut-ending;
+    }
+
+call-claims : CallClaims
+call-claims =
+    record {
+      single-open = single-open;
+      calls-reach = calls-reach;
+      count-told = calls-count;
+      ceiling-holds = calls-ceiling;
+      cut-state = cut-state;
+      cut-taken = cut-taken;
       quiet-answers = quiet-answers;
       quiet-lasts = quiet-lasts;
-      ceiling-holds = calls-ceiling;
     }
+
+pub theorems : Claims
+theorems = record { steps = step-claims; calls = call-claims }

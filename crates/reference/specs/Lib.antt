@@ -3,6 +3,7 @@ pub mod Ranges
 pub mod State
 pub mod Step
 pub mod Take
+pub mod Effects
 pub mod Run
 pub mod Ending
 pub mod History
