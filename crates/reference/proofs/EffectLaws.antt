@@ -34,7 +34,9 @@ module _ (s : State) (i : ℕ) (a : Answer) where
     where
       go : (t : Bool) → isNews s i a ≡ t → isNews s i a ≡ true
       go true e = e
-      go false e = absurd (⊎-elim (λ (p : s .planned i ≡ false). true-false-absurd (no-news s i a e .0) p) (λ (p : s .answer i ≡ a → ⊥). p (no-news s i a e .1)) h)
+      go false e =
+          ⊎-elim (λ (p : s .planned i ≡ false). true-false-absurd (no-news s i a e .0) p)
+          (λ (p : s .answer i ≡ a → ⊥). absurd (p (no-news s i a e .1))) h
 
   again-no-news : s .planned i ≡ true → s .answer i ≡ a → isNews s i a ≡ false
   unfolding isNews
@@ -60,7 +62,13 @@ module _ (M : Machine) (s : State) where
         sends = λ h k l. rw (plan-answer s i a) (sent-below s i a (first-is-news s i a (rw (plan-answer s i a) at h)) k l);
         keeps = λ p e k l. rw (plan-keeps s i a (again-no-news s i a p (e ∙ plan-answer s i a)));
         counted = plan-counted s i a;
-        carriers = λ k n. record { planned = plan-planned-other s i a k n; due = plan-due-other s i a k n; answer = plan-answer-other s i a k n };
+        carriers =
+            λ k n.
+            record {
+              planned = plan-planned-other s i a k n;
+              due = plan-due-other s i a k n;
+              answer = plan-answer-other s i a k n;
+            };
         channels = λ k j n. chan-other s i a k j n;
         seen = λ k j. rw (plan-view s i a);
       }
@@ -82,7 +90,13 @@ module _ (M : Machine) (s : State) where
         becomes = deliver-view s j i ∙ f .2;
         due = deliver-due s j i;
         counted = deliver-counted s j i;
-        carriers = λ k n. record { planned = rw (deliver-planned s j i); due = deliver-due-other s j i k n; answer = rw (deliver-answer s j i) };
+        carriers =
+            λ k n.
+            record {
+              planned = rw (deliver-planned s j i);
+              due = deliver-due-other s j i k n;
+              answer = rw (deliver-answer s j i);
+            };
         receiver = (rw (deliver-planned s j i), rw (deliver-answer s j i));
         channels = λ k l h. channels k l h (eq-or-ne k i);
         seen = λ k l h. seen k l h (eq-or-ne k i);
