@@ -18,5 +18,5 @@ pub mod Potential
 mod PlanWeight
 mod DeliverWeight
 pub mod CeilingLaws
-pub mod Theorems
 mod Cases
+pub mod Theorems

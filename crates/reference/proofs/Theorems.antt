@@ -14,7 +14,9 @@ use Rattle.reference.specs.Ending.{isSilent}
 use Rattle.reference.specs.Table.{Call}
 use Rattle.reference.specs.Calls.{after}
 use Rattle.reference.specs.Quiet.{quiet}
-use Rattle.reference.specs.Claims.{StepClaims, CallClaims, Claims}
+use Rattle.reference.specs.StepClaims.{StepClaims}
+use Rattle.reference.specs.CallClaims.{CallClaims}
+use Rattle.reference.specs.Claims.{Claims}
 use Rattle.reference.proofs.RangeLaws.{below-same}
 use Rattle.reference.proofs.RunLaws.{run-told}
 use Rattle.reference.proofs.CutLaws.{run-cut, cut-ending}
@@ -28,6 +30,7 @@ use Rattle.reference.proofs.CeilingLaws.{calls-ceiling}
 use Rattle.reference.proofs.EffectLaws.{plan-does, deliver-does}
 use Rattle.reference.proofs.EndingLaws.{ending-silent, ending-spent, fresh-not-silent}
 use Rattle.reference.proofs.CutCalls.{cut-state, cut-taken}
+use Rattle.reference.proofs.Cases.{cases}
 
 module _ (M : Machine) where
   silent-to-quiet : (s : State) → 1 ≤ M .depth → isSilent M s ≡ true → quiet (M .carriers) s ≡ true
@@ -97,4 +100,4 @@ call-claims =
     }
 
 pub theorems : Claims
-theorems = record { steps = step-claims; calls = call-claims }
+theorems = record { steps = step-claims; calls = call-claims; cases = cases }

@@ -1,47 +1,19 @@
--- Document 01's starred floors ('Floors to try') as one table about the definitions, with cases 12 and of refusals 7 and 9.
--- Carriers count from 0 here, so the paper's plan 2 is `plan 1`.
-use Prim.Native.Nat.{ℕ, _-_}
+-- Document 01's starred floors ('Floors to try') as one table about the definitions, with floor 12 and cases of refusals 7 and 9.
+use Prim.Native.Nat.{ℕ}
 use mathlib.Core.Bool.{true, false}
-use mathlib.Core.List.{List, [], _∷_, _++_}
+use mathlib.Core.List.{List, [], _∷_}
 use mathlib.Core.Path.{_≡_}
-use lib.ListN.{length, getD, replicate}
-use Rattle.route.specs.Route.{Answer, none, route, View, Task}
-use Rattle.route.specs.Search.{best}
+use Rattle.route.specs.Route.{Answer, none, route, View}
 use Rattle.route.specs.Sequential.{sequential}
 use Rattle.route.specs.Arrival.{arrivalOf}
 use Rattle.reference.specs.Ranges.{below}
-use Rattle.reference.specs.State.{Machine, fresh}
+use Rattle.reference.specs.State.{fresh}
 use Rattle.reference.specs.Step.{plan, deliver, noKind}
 use Rattle.reference.specs.Take.{kept, sent, delivered}
 use Rattle.reference.specs.Ending.{isSilent, silent, spent, ended}
-use Rattle.reference.specs.Table.{Call, single, runOf}
+use Rattle.reference.specs.Table.{single, runOf}
 use Rattle.reference.specs.Calls.{stepped, ran, refused, replies, after}
-
--- The machine of a floor with no wall: width, cells, horizon, depth, and the carriers' starts and goals.
-abbrev pub machine : ℕ → ℕ → ℕ → ℕ → List ℕ → List ℕ → Machine
-machine w cells H depth starts goals = record { carriers = length starts; depth = depth; respond = λ i vs. best (task i) vs }
-  where
-    task : ℕ → Task
-    task i = record { width = w; cells = cells; horizon = H; start = getD starts i 0; goal = getD goals i 0; free = λ c. true }
-
--- The floor of document 01's sheet, with a horizon.
-abbrev pub two : ℕ → Machine
-two H = machine 3 6 H 1 (0 ∷ 2 ∷ []) (2 ∷ 0 ∷ [])
-
--- A route by its first cells, with zeros up to 64.
-abbrev pub padded : List ℕ → List ℕ
-padded r = r ++ replicate (64 - length r) 0
-
--- The calls of floors 4, 5 and 9.
-abbrev pub calls4 : List Call
-calls4 = single true (plan 1) ∷ single true (plan 0) ∷ single true (deliver 0 1) ∷ single true (plan 1) ∷ []
-
-abbrev pub calls5 : List Call
-calls5 = single true (plan 0) ∷ single true (deliver 0 1) ∷ single true (plan 1) ∷ []
-
--- The answers of floor 2.
-abbrev pub answers2 : List Answer
-answers2 = route (padded (0 ∷ 1 ∷ 2 ∷ 2 ∷ 2 ∷ [])) ∷ route (padded (2 ∷ 5 ∷ 4 ∷ 1 ∷ 0 ∷ [])) ∷ []
+use Rattle.reference.specs.Floors.{machine, two, padded, calls4, calls5, answers2}
 
 pub record Cases : Type 0 where
   -- 1: one cell, one carrier; arrival 0.

@@ -1,4 +1,4 @@
--- In reading order: the state, the steps and what they do, the run and its history, the calls, quiet prefixes, the claims.
+-- In reading order: the state, the steps and what they do, the run and its history, the calls, quiet prefixes, the cases, the claims.
 pub mod Ranges
 pub mod State
 pub mod Step
@@ -10,5 +10,8 @@ pub mod History
 pub mod Table
 pub mod Calls
 pub mod Quiet
+pub mod Floors
 pub mod Cases
+pub mod StepClaims
+pub mod CallClaims
 pub mod Claims
