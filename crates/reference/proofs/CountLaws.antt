@@ -15,7 +15,7 @@ use Rattle.reference.specs.Quiet.{takenInAll}
 use Rattle.reference.proofs.ReachLaws.{calls-reach}
 
 module _ (M : Machine) where
-  step-counts : (s : State) (x : Step) → isOpen M s x ≡ true → afterStep M s x .taken ≡ min 999999 (suc (s .taken))
+  pub step-counts : (s : State) (x : Step) → isOpen M s x ≡ true → afterStep M s x .taken ≡ min 999999 (suc (s .taken))
   unfolding afterStep planAs deliverTo tick isOpen named
   step-counts s (plan i) e = refl
   step-counts s (deliver j i) e = refl

@@ -11,6 +11,8 @@ mod CountLaws
 pub mod QuietLaws
 mod EndingLaws
 pub mod Invariant
+pub mod BoundLaws
+pub mod ThroughLaws
 mod SequentialLaws
 mod PrefixLaws
 mod Sums

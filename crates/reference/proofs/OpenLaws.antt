@@ -40,6 +40,10 @@ module _ (M : Machine) (s : State) where
   unfolding ready
   plan-due i e = and-fst (s .due i) (hasRoom M s i) (open-ready (plan i) e)
 
+  pub plan-room : (i : ℕ) → isOpen M s (plan i) ≡ true → hasRoom M s i ≡ true
+  unfolding ready
+  plan-room i e = and-snd (s .due i) (hasRoom M s i) (open-ready (plan i) e)
+
   pub plan-open : (i : ℕ) → i < M .carriers → s .due i ≡ true → hasRoom M s i ≡ true → isOpen M s (plan i) ≡ true
   unfolding isOpen named ready
   plan-open i l d r = and-both (lt-ltb i (M .carriers) l) (and-both d r)

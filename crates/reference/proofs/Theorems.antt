@@ -31,6 +31,8 @@ use Rattle.reference.proofs.EffectLaws.{plan-does, deliver-does}
 use Rattle.reference.proofs.EndingLaws.{ending-silent, ending-spent, fresh-not-silent}
 use Rattle.reference.proofs.CutCalls.{cut-state, cut-taken}
 use Rattle.reference.proofs.Cases.{cases}
+use Rattle.reference.proofs.BoundLaws.{fresh-in-range, reaches-in-range}
+use Rattle.reference.proofs.ThroughLaws.{fresh-throughout, reaches-throughout}
 
 module _ (M : Machine) where
   silent-to-quiet : (s : State) → 1 ≤ M .depth → isSilent M s ≡ true → quiet (M .carriers) s ≡ true
@@ -97,6 +99,8 @@ call-claims =
       cut-taken = cut-taken;
       quiet-answers = quiet-answers;
       quiet-lasts = quiet-lasts;
+      calls-in-range = λ M cs. reaches-in-range M (fresh-in-range M) (calls-reach M fresh cs);
+      calls-throughout = λ M P p best cs. reaches-throughout P M best (fresh-throughout P p) (calls-reach M fresh cs);
     }
 
 pub theorems : Claims

@@ -5,6 +5,7 @@ use mathlib.Core.Bool.{Bool, true}
 use mathlib.Core.List.{List, [], _∷_, _++_}
 use mathlib.Core.Path.{_≡_}
 use lib.ListN.{take}
+use Rattle.route.specs.Route.{Answer, none, View}
 use Rattle.route.specs.Sequential.{sequential}
 use Rattle.reference.specs.Ranges.{below}
 use Rattle.reference.specs.State.{Machine, State, fresh}
@@ -14,8 +15,9 @@ use Rattle.reference.specs.History.{Reaches}
 use Rattle.reference.specs.Table.{Call, single, runOf, accepted, allNamed, verdict}
 use Rattle.reference.specs.Calls.{replies, after}
 use Rattle.reference.specs.Quiet.{quiet, takenInAll, ceiling}
+use Rattle.reference.specs.Bounds.{InRange, Throughout}
 
-pub record CallClaims : Type 0 where
+pub record CallClaims : Type 1 where
   -- A single step that is not refused is open.
   pub single-open : (M : Machine) (s : State) (lent : Bool) (x : Step) → verdict M s (single lent x) ≡ accepted → isOpen M s x ≡ true
   -- A list of calls changes the state by open steps alone, as many as its answers tell of.
@@ -37,3 +39,8 @@ pub record CallClaims : Type 0 where
   -- After every longer list they are quiet with the same answers.
   pub quiet-lasts : (M : Machine) (cs ds : List Call) (k : ℕ) → quiet k (after M fresh cs) ≡ true →
       (quiet k (after M fresh (cs ++ ds)) ≡ true) × (below k (after M fresh (cs ++ ds) .answer) ≡ below k (after M fresh cs .answer))
+  -- After every list of calls each channel has at most depth messages, and the count is at most 999,999.
+  pub calls-in-range : (M : Machine) (cs : List Call) → InRange M (after M fresh cs)
+  -- What holds of none and of every best response holds of every answer, message and heard view then.
+  pub calls-throughout : (M : Machine) (P : Answer → Type 0) → P none → ((i : ℕ) (vs : List View) → P (M .respond i vs)) →
+      (cs : List Call) → Throughout P (after M fresh cs)

@@ -3,7 +3,7 @@ use Rattle.reference.specs.Cases.{Cases}
 use Rattle.reference.specs.StepClaims.{StepClaims}
 use Rattle.reference.specs.CallClaims.{CallClaims}
 
-pub record Claims : Type 0 where
+pub record Claims : Type 1 where
   pub steps : StepClaims
   pub calls : CallClaims
   pub cases : Cases

@@ -10,6 +10,7 @@ pub mod History
 pub mod Table
 pub mod Calls
 pub mod Quiet
+pub mod Bounds
 pub mod Floors
 pub mod Cases
 pub mod StepClaims
