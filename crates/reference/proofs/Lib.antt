@@ -3,6 +3,7 @@ pub mod RangeLaws
 pub mod OpenLaws
 pub mod TakeLaws
 mod EffectLaws
+pub mod TableLaws
 pub mod RunLaws
 pub mod CutLaws
 pub mod ReachLaws

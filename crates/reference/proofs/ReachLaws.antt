@@ -1,20 +1,17 @@
 -- A list of calls reaches its last state by open steps, as many as its answers tell of.
 use Prim.Native.Nat.{ℕ, suc, _+_}
 use native.Mathlib.Omega.{arith}
-use mathlib.Core.Bool.{Bool, true, false}
 use mathlib.Core.List.{List, [], _∷_, _++_}
 use mathlib.Core.Path.{_≡_, refl}
 use Rattle.reference.specs.State.{Machine, State}
-use Rattle.reference.specs.Step.{Step, named, isOpen}
+use Rattle.reference.specs.Step.{Step}
 use Rattle.reference.specs.Run.{tookFirst, passedFirst, run}
 use Rattle.reference.specs.History.{Reaches, stay, next}
-use Rattle.reference.specs.Table.{Call, single, runOf, Verdict, accepted, refusal, ifLent, openSingle, verdict}
+use Rattle.reference.specs.Table.{Call, single, runOf, Verdict, accepted, refusal, verdict}
 use Rattle.reference.specs.Calls.{refused, answerTo, stateAfter, reply, afterCall, replies, after}
 use Rattle.reference.specs.Quiet.{takenIn, takenInAll}
 use Rattle.reference.proofs.RunLaws.{run-induction}
-
-pub not-accepted : (v : Verdict) (a p : ℕ) → v ≡ refusal a p → v ≡ accepted → ⊥
-not-accepted v a p e h = let z : _≡_ {A = ℕ} 0 1 = cc in omega arith
+use Rattle.reference.proofs.TableLaws.{single-open}
 
 module _ (M : Machine) where
   pub reaches-join : {s y z : State} {t u : ℕ} → Reaches M s y t → Reaches M y z u → Reaches M s z (t + u)
@@ -49,28 +46,9 @@ module _ (M : Machine) where
   unfolding afterCall
   after-refused s c a p e = rw (e, afterCall)
 
-  single-unnamed : (s : State) (x : Step) → named M x ≡ false → openSingle M s x ≡ refusal 7 0
-  unfolding openSingle
-  single-unnamed s x e = rw (e, openSingle)
-
-  single-shut : (s : State) (x : Step) → named M x ≡ true → isOpen M s x ≡ false → openSingle M s x ≡ refusal 8 0
-  unfolding openSingle
-  single-shut s x e h = rw (e, h, openSingle)
-
-  -- A single step that the table lets through is open.
-  pub single-open : (s : State) (lent : Bool) (x : Step) → verdict M s (single lent x) ≡ accepted → isOpen M s x ≡ true
-  unfolding verdict ifLent
-  single-open s true x e = go (named M x) (isOpen M s x) refl refl
-    where
-      go : (p q : Bool) → named M x ≡ p → isOpen M s x ≡ q → isOpen M s x ≡ true
-      go true true a h = h
-      go true false a h = absurd (not-accepted (openSingle M s x) 8 0 (single-shut s x a h) e)
-      go false q a h = absurd (not-accepted (openSingle M s x) 7 0 (single-unnamed s x a) e)
-  single-open s false x e = absurd (not-accepted (refusal 9 0) 9 0 refl e)
-
   accepted-reaches : (s : State) (c : Call) → verdict M s c ≡ accepted → Reaches M s (stateAfter M s c) (takenIn (answerTo M s c))
   unfolding stateAfter answerTo takenIn
-  accepted-reaches s (single lent x) e = next x (single-open s lent x e) stay
+  accepted-reaches s (single lent x) e = next x (single-open M s lent x e) stay
   accepted-reaches s (runOf lent xs b) e = run-reaches s xs b
 
   call-reaches : (s : State) (c : Call) → Reaches M s (afterCall M s c) (takenIn (reply M s c))

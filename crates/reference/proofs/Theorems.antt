@@ -20,7 +20,8 @@ use Rattle.reference.specs.Claims.{Claims}
 use Rattle.reference.proofs.RangeLaws.{below-same}
 use Rattle.reference.proofs.RunLaws.{run-told}
 use Rattle.reference.proofs.CutLaws.{run-cut, cut-ending}
-use Rattle.reference.proofs.ReachLaws.{single-open, calls-reach, after-join}
+use Rattle.reference.proofs.ReachLaws.{calls-reach, after-join}
+use Rattle.reference.proofs.TableLaws.{single-open}
 use Rattle.reference.proofs.CountLaws.{calls-count}
 use Rattle.reference.proofs.QuietLaws.{quiet-says, quiet-holds, quiet-shut, shut-silent, silent-shut, shut-quiet, some-open}
 use Rattle.reference.proofs.Invariant.{fresh-sound, reaches-sound}

@@ -13,11 +13,12 @@ pub data Reply : Type 0 where
   ran : ℕ → Ending → Reply
   refused : ℕ → ℕ → Reply
 
--- The answer to a call that is not refused, and the state after it.
+-- The answer to a call that is not refused.
 unfoldable pub answerTo : Machine → State → Call → Reply
 answerTo M s (single lent x) = stepped (stepAnswer M s x)
 answerTo M s (runOf lent xs b) = ran (run M s xs b .taken) (ending M b (run M s xs b))
 
+-- The state after a call that is not refused.
 unfoldable pub stateAfter : Machine → State → Call → State
 stateAfter M s (single lent x) = afterStep M s x
 stateAfter M s (runOf lent xs b) = run M s xs b .state

@@ -8,6 +8,7 @@ pub mod Run
 pub mod Ending
 pub mod History
 pub mod Table
+pub mod Refused
 pub mod Calls
 pub mod Quiet
 pub mod Bounds

@@ -19,13 +19,15 @@ pub record Ran : Type 0 where
   pub taken : ℕ
   pub unread : List Step
 
--- A run that took or passed over one more step at its front.
+-- Run r with one more step taken at its front.
 unfoldable pub tookFirst : Step → Ran → Ran
 tookFirst x r = record { state = r .state; history = took x ∷ r .history; taken = suc (r .taken); unread = r .unread }
 
+-- Run r with one more step passed over at its front.
 unfoldable pub passedFirst : Step → Ran → Ran
 passedFirst x r = record { state = r .state; history = passed x ∷ r .history; taken = r .taken; unread = r .unread }
 
+-- The run of a list with a budget; the number taken counts the budget down.
 unfoldable pub run : Machine → State → List Step → ℕ → Ran
 run M s [] b = record { state = s; history = []; taken = 0; unread = [] }
 run M s (x ∷ xs) zero = record { state = s; history = []; taken = 0; unread = x ∷ xs }

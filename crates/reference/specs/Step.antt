@@ -1,4 +1,4 @@
--- The steps (document 01, 'The machine'): which are there, which are open, what they do and what they answer.
+-- The steps (document 01, 'The machine'): which are there and which are open; and when two answers are the same.
 use Prim.Native.Nat.{ℕ}
 use mathlib.Core.Bool.{Bool, true, false, _&&_, _||_, not}
 use mathlib.Core.List.{List, [], _∷_}

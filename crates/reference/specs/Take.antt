@@ -12,7 +12,7 @@ use Rattle.reference.specs.Step.{Step, plan, deliver, noKind, sameAnswer
 unfoldable pub isNews : State → ℕ → Answer → Bool
 isNews s i a = not (s .planned i && sameAnswer (s .answer i) a)
 
--- The channels with message a put on every channel from i, last.
+-- The channels with message a put last on every channel from i, to the carriers k below it.
 unfoldable pub send : (ℕ → ℕ → List Answer) → ℕ → Answer → ℕ → ℕ → List Answer
 send chan i a k j = elim (eqb j i && ltb i k) [ true ↦ chan k j ++ (a ∷ []) | false ↦ chan k j ]
 
@@ -28,11 +28,12 @@ planAs s i a =
       taken = tick (s .taken);
     }
 
--- The view after the oldest message, and the channel without it.
+-- The view v after the oldest message of a channel.
 unfoldable pub oldest : View → List Answer → View
 oldest v [] = v
 oldest v (a ∷ rest) = heard a
 
+-- A channel without its oldest message.
 unfoldable pub newer : List Answer → List Answer
 newer [] = []
 newer (a ∷ rest) = rest
@@ -49,18 +50,19 @@ deliverTo s j i =
       taken = tick (s .taken);
     }
 
--- The state after an open step: a plan sets the best answer to the views.
+-- The state after an open step: a plan sets the best answer to the views. What names no kind of step is never open.
 unfoldable pub afterStep : Machine → State → Step → State
 afterStep M s (plan i) = planAs s i (M .respond i (views s i))
 afterStep M s (deliver j i) = deliverTo s j i
 afterStep M s noKind = s
 
--- What an open step answers: planned and kept, planned and sent, delivered.
+-- The answers of an open step: planned and kept, planned and sent, delivered.
 pub data StepAnswer : Type 0 where
   kept : StepAnswer
   sent : StepAnswer
   delivered : StepAnswer
 
+-- The answer of an open step: a plan that is the carrier's first or changes its answer is 'sent', any other plan is 'kept'.
 unfoldable pub stepAnswer : Machine → State → Step → StepAnswer
 stepAnswer M s (plan i) = elim (isNews s i (M .respond i (views s i))) [ true ↦ sent | false ↦ kept ]
 stepAnswer M s (deliver j i) = delivered
