@@ -4,6 +4,7 @@ pub mod OpenLaws
 pub mod TakeLaws
 mod EffectLaws
 pub mod TableLaws
+mod RefusedLaws
 pub mod RunLaws
 pub mod CutLaws
 pub mod ReachLaws

@@ -20,6 +20,10 @@ module _ (M : Machine) where
   unfolding openSingle
   single-shut s x e h = rw (e, h, openSingle)
 
+  pub single-passes : (s : State) (x : Step) → named M x ≡ true → isOpen M s x ≡ true → openSingle M s x ≡ accepted
+  unfolding openSingle
+  single-passes s x e h = rw (e, h, openSingle)
+
   -- A single step that the table lets through is open.
   pub single-open : (s : State) (lent : Bool) (x : Step) → verdict M s (single lent x) ≡ accepted → isOpen M s x ≡ true
   unfolding verdict ifLent

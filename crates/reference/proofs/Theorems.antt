@@ -34,6 +34,7 @@ use Rattle.reference.proofs.CutCalls.{cut-state, cut-taken}
 use Rattle.reference.proofs.Cases.{cases}
 use Rattle.reference.proofs.BoundLaws.{fresh-in-range, reaches-in-range}
 use Rattle.reference.proofs.ThroughLaws.{fresh-throughout, reaches-throughout}
+use Rattle.reference.proofs.RefusedLaws.{refuses-exactly}
 
 module _ (M : Machine) where
   silent-to-quiet : (s : State) → 1 ≤ M .depth → isSilent M s ≡ true → quiet (M .carriers) s ≡ true
@@ -92,6 +93,7 @@ step-claims =
 call-claims : CallClaims
 call-claims =
     record {
+      refuses-exactly = refuses-exactly;
       single-open = single-open;
       calls-reach = calls-reach;
       count-told = calls-count;

@@ -3,6 +3,7 @@
 use Prim.Native.Nat.{ℕ, _-_, _≤_, min}
 use mathlib.Core.Bool.{Bool, true}
 use mathlib.Core.List.{List, [], _∷_, _++_}
+use mathlib.Core.Logic.{_↔_}
 use mathlib.Core.Path.{_≡_}
 use lib.ListN.{take}
 use Rattle.route.specs.Route.{Answer, none, View}
@@ -12,12 +13,15 @@ use Rattle.reference.specs.State.{Machine, State, fresh}
 use Rattle.reference.specs.Step.{Step, isOpen}
 use Rattle.reference.specs.Run.{run}
 use Rattle.reference.specs.History.{Reaches}
-use Rattle.reference.specs.Table.{Call, single, runOf, accepted, allNamed, verdict}
+use Rattle.reference.specs.Table.{Call, single, runOf, accepted, refusal, allNamed, verdict}
+use Rattle.reference.specs.Refused.{RefusedWith}
 use Rattle.reference.specs.Calls.{replies, after}
 use Rattle.reference.specs.Quiet.{quiet, takenInAll, ceiling}
 use Rattle.reference.specs.Bounds.{InRange, Throughout}
 
 pub record CallClaims : Type 1 where
+  -- A call is refused exactly under the conditions of the table, with its first place.
+  pub refuses-exactly : (M : Machine) (s : State) (c : Call) (a p : ℕ) → (verdict M s c ≡ refusal a p) ↔ RefusedWith M s c a p
   -- A single step that is not refused is open.
   pub single-open : (M : Machine) (s : State) (lent : Bool) (x : Step) → verdict M s (single lent x) ≡ accepted → isOpen M s x ≡ true
   -- A list of calls changes the state by open steps alone, as many as its answers tell of.
