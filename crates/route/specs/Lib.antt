@@ -1,9 +1,9 @@
--- In reading order: the nouns, the relations, the function `best`, what the code computes, the claims.
+-- In reading order: the nouns, the relations, the function `best`, the sequential planner, what the code computes, the claims.
 pub mod Route
 pub mod Conflict
 pub mod Best
 pub mod Moves
 pub mod Search
-pub mod Arrival
 pub mod Sequential
+pub mod Arrival
 pub mod Claims

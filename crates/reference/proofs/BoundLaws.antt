@@ -1,0 +1,93 @@
+-- Reached states are in range: no channel has more than depth messages, and the count is at most 999,999.
+use Prim.Native.Nat.{ℕ, _≤_, _<_}
+use native.Mathlib.Omega.{arith}
+use mathlib.Core.Bool.{Bool, true, false, _||_}
+use mathlib.Core.List.{List, [], _∷_, _++_}
+use mathlib.Core.Logic.{_⊎_, inl, inr, ⊎-elim}
+use mathlib.Core.Path.{_≡_, refl}
+use lib.Dec.{leb, ltb}
+use lib.ListN.{length, length-append}
+use borrow.Author.Tests.{ltb-true, lt-leb}
+use Rattle.route.specs.Route.{Answer}
+use Rattle.route.proofs.Tests.{lt-or-le, eq-or-ne, or-cases, true-false-absurd}
+use Rattle.reference.specs.State.{Machine, State, fresh, views}
+use Rattle.reference.specs.Step.{Step, plan, deliver, noKind, hasRoom, isOpen}
+use Rattle.reference.specs.Take.{isNews, planAs, newer, deliverTo, afterStep}
+use Rattle.reference.specs.History.{Reaches, stay, next}
+use Rattle.reference.specs.Bounds.{InRange}
+use Rattle.reference.proofs.RangeLaws.{each-holds}
+use Rattle.reference.proofs.OpenLaws.{no-kind-shut, plan-room}
+use Rattle.reference.proofs.CountLaws.{step-counts}
+use Rattle.reference.proofs.TakeLaws.{plan-keeps, sent-below, chan-other, chan-above}
+use Rattle.reference.proofs.TakeLaws.{deliver-chan, deliver-chan-sender, deliver-chan-other}
+
+-- A channel after a plan of i: as it was, or from i to a carrier below with one message more.
+pub plan-chan-cases : (s : State) (i : ℕ) (a : Answer) (k j : ℕ) → (planAs s i a .chan k j ≡ s .chan k j) ⊎
+    ((j ≡ i) × (i < k) × (planAs s i a .chan k j ≡ s .chan k j ++ (a ∷ [])))
+plan-chan-cases s i a k j = go (isNews s i a) refl (eq-or-ne j i) (lt-or-le i k)
+  where
+    go : (t : Bool) → isNews s i a ≡ t → (j ≡ i) ⊎ (j ≡ i → ⊥) → (i < k) ⊎ (k ≤ i) →
+        (planAs s i a .chan k j ≡ s .chan k j) ⊎ ((j ≡ i) × (i < k) × (planAs s i a .chan k j ≡ s .chan k j ++ (a ∷ [])))
+    go t e (inr n) l = inl (chan-other s i a k j n)
+    go t e (inl q) (inr l) = inl (chan-above s i a k j l)
+    go true e (inl q) (inl l) = inr (q, l, rw q (sent-below s i a e k l))
+    go false e (inl q) (inl l) = inl (rw (plan-keeps s i a e))
+
+-- A channel after a delivery: as it was, or without its oldest message.
+pub deliver-chan-cases : (s : State) (j i k l : ℕ) → (deliverTo s j i .chan k l ≡ s .chan k l) ⊎
+    (deliverTo s j i .chan k l ≡ newer (s .chan k l))
+deliver-chan-cases s j i k l = go (eq-or-ne k i) (eq-or-ne l j)
+  where
+    go : (k ≡ i) ⊎ (k ≡ i → ⊥) → (l ≡ j) ⊎ (l ≡ j → ⊥) → (deliverTo s j i .chan k l ≡ s .chan k l) ⊎
+        (deliverTo s j i .chan k l ≡ newer (s .chan k l))
+    go (inr n) m = inl (rw (deliver-chan-other s j i k n))
+    go (inl q) (inl m) = inr (rw (q, m) (deliver-chan s j i))
+    go (inl q) (inr m) = inl (rw q (deliver-chan-sender s j i l m))
+
+newer-shorter : (l : List Answer) → length (newer l) ≤ length l
+unfolding newer
+newer-shorter [] = omega arith
+newer-shorter (a ∷ l) = omega arith
+
+module _ (M : Machine) (s : State) where
+  -- Where i has room, each channel from it to a carrier below has fewer than depth messages.
+  room-says : (i k : ℕ) → hasRoom M s i ≡ true → i < k → k < M .carriers → length (s .chan k i) < M .depth
+  unfolding hasRoom
+  room-says i k e l h =
+      ⊎-elim (λ (p : leb k i ≡ true). true-false-absurd p (lt-leb k i l))
+      (λ (p : ltb (length (s .chan k i)) (M .depth) ≡ true). ltb-true (length (s .chan k i)) (M .depth) p)
+      (or-cases (leb k i) (ltb (length (s .chan k i)) (M .depth))
+      (each-holds (M .carriers) (λ k. leb k i || ltb (length (s .chan k i)) (M .depth)) e k h))
+
+  step-channels : InRange M s → (x : Step) → isOpen M s x ≡ true → (k j : ℕ) → j < k → k < M .carriers →
+      length (afterStep M s x .chan k j) ≤ M .depth
+  unfolding afterStep
+  step-channels r (plan i) e k j l h = go (plan-chan-cases s i a k j)
+    where
+      a : Answer
+      a = M .respond i (views s i)
+
+      go : (planAs s i a .chan k j ≡ s .chan k j) ⊎ ((j ≡ i) × (i < k) × (planAs s i a .chan k j ≡ s .chan k j ++ (a ∷ []))) →
+          length (planAs s i a .chan k j) ≤ M .depth
+      go (inl q) = rw q (r .channels k j l h)
+      go (inr q) =
+          rw (q .2, q .0)
+          (omega (arith, length-append (s .chan k i) (a ∷ []), room-says i k (plan-room M s i e) (q .1) h))
+  step-channels r (deliver m i) e k j l h = go (deliver-chan-cases s m i k j)
+    where
+      go : (deliverTo s m i .chan k j ≡ s .chan k j) ⊎ (deliverTo s m i .chan k j ≡ newer (s .chan k j)) →
+          length (deliverTo s m i .chan k j) ≤ M .depth
+      go (inl q) = rw q (r .channels k j l h)
+      go (inr q) = rw q (omega (arith, newer-shorter (s .chan k j), r .channels k j l h))
+  step-channels r noKind e k j l h = true-false-absurd e (no-kind-shut M s)
+
+  step-in-range : InRange M s → (x : Step) → isOpen M s x ≡ true → InRange M (afterStep M s x)
+  step-in-range r x e = record { channels = step-channels r x e; counted = omega (arith, step-counts M s x e) }
+
+pub fresh-in-range : (M : Machine) → InRange M fresh
+unfolding fresh
+fresh-in-range M = record { channels = λ i j l h. omega arith; counted = omega arith }
+
+pub reaches-in-range : (M : Machine) {s z : State} {t : ℕ} → InRange M s → Reaches M s z t → InRange M z
+reaches-in-range M r stay = r
+reaches-in-range M {s = s} r (next x e p) = reaches-in-range M (step-in-range M s r x e) p

@@ -1,0 +1,64 @@
+-- A delivery lowers the potential: a message to carrier i weighs 2^(n − i), being due at most one less.
+use Prim.Native.Nat.{ℕ, _+_, _-_, _≤_, _<_}
+use native.Mathlib.Omega.{arith}
+use native.Mathlib.Nat.{add-mul, one-mul}
+use mathlib.Core.Bool.{Bool, true, false}
+use mathlib.Core.List.{List, [], _∷_}
+use mathlib.Core.Path.{_≡_, refl, ap}
+use lib.ListN.{length}
+use Rattle.route.specs.Route.{Answer}
+use Rattle.route.proofs.Tests.{true-false-absurd}
+use Rattle.reference.specs.State.{State}
+use Rattle.reference.specs.Step.{isEmpty}
+use Rattle.reference.specs.Take.{newer, deliverTo}
+use Rattle.reference.proofs.TakeLaws.{deliver-due-other, deliver-chan, deliver-chan-sender, deliver-chan-other}
+use Rattle.reference.proofs.Sums.{sum-less}
+use Rattle.reference.proofs.Potential.{unit, unit-positive, dueWeight, messages, weightAt, potential}
+
+newer-length : (l : List Answer) → isEmpty l ≡ false → length (newer l) + 1 ≡ length l
+unfolding isEmpty newer
+newer-length [] e = true-false-absurd refl e
+newer-length (a ∷ l) e = omega arith
+
+due-most : (t : Bool) (u : ℕ) → dueWeight t u ≤ u - 1
+unfolding dueWeight
+due-most true u = omega arith
+due-most false u = omega arith
+
+module _ (n : ℕ) (s : State) (j i : ℕ) where
+  messages-other : (m : ℕ) → (m ≡ i → ⊥) → messages (deliverTo s j i) m ≡ messages s m
+  unfolding messages
+  messages-other m h = rw (deliver-chan-other s j i m h)
+
+  messages-less : j < i → isEmpty (s .chan i j) ≡ false → messages (deliverTo s j i) i + 1 ≡ messages s i
+  unfolding messages
+  messages-less l e =
+      sum-less i j 1 (λ k. length (deliverTo s j i .chan i k)) (λ k. length (s .chan i k)) l
+      (rw (deliver-chan s j i) (newer-length (s .chan i j) e)) (λ k h q. ap length (deliver-chan-sender s j i k q))
+
+  weight-other : (m : ℕ) → (m ≡ i → ⊥) → weightAt n (deliverTo s j i) m ≡ weightAt n s m
+  unfolding weightAt
+  weight-other m h = rw (deliver-due-other s j i m h, messages-other m h) refl
+
+  weight-less : j < i → isEmpty (s .chan i j) ≡ false → weightAt n (deliverTo s j i) i < weightAt n s i
+  unfolding weightAt
+  weight-less l e =
+      rw (← messages-less l e)
+      (omega (
+        arith,
+        add-mul (messages (deliverTo s j i) i) 1 (unit n i),
+        one-mul (unit n i),
+        due-most (deliverTo s j i .due i) (unit n i),
+        unit-positive n i,
+      ))
+
+  pub deliver-lowers : j < i → i < n → isEmpty (s .chan i j) ≡ false → potential n (deliverTo s j i) < potential n s
+  unfolding potential
+  deliver-lowers l h e =
+      let f = weightAt n (deliverTo s j i) in
+      let g = weightAt n s in
+      omega (
+        arith,
+        sum-less n i (g i - f i) f g h (omega (arith, weight-less l e)) (λ m b q. weight-other m q),
+        weight-less l e,
+      )

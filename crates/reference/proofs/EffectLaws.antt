@@ -1,0 +1,116 @@
+-- The steps do what document 01 says.
+use Prim.Native.Nat.{ℕ, suc, min}
+use mathlib.Core.Bool.{Bool, true, false}
+use mathlib.Core.List.{List, [], _∷_}
+use mathlib.Core.Logic.{_⊎_, inl, inr, ⊎-elim}
+use mathlib.Core.Path.{_≡_, refl, _∙_}
+use borrow.Author.Tests.{eq-eqb}
+use Rattle.route.specs.Route.{Answer, none, route, View, heard}
+use Rattle.route.proofs.Tests.{and-both, eq-or-ne, true-false-absurd}
+use Rattle.reference.specs.State.{Machine, State, views, tick}
+use Rattle.reference.specs.Step.{plan, deliver, isEmpty, isOpen, sameCells, sameAnswer}
+use Rattle.reference.specs.Take.{isNews, planAs, oldest, newer, deliverTo, afterStep}
+use Rattle.reference.specs.Effects.{Planned, Delivered}
+use Rattle.reference.proofs.OpenLaws.{deliver-full}
+use Rattle.reference.proofs.TakeLaws.{no-news, plan-keeps, sent-below, chan-other, plan-view, plan-planned, plan-planned-other}
+use Rattle.reference.proofs.TakeLaws.{plan-clears, plan-due-other, plan-answer, plan-answer-other, deliver-due, deliver-due-other}
+use Rattle.reference.proofs.TakeLaws.{deliver-planned, deliver-answer, deliver-chan, deliver-chan-sender, deliver-chan-other}
+use Rattle.reference.proofs.TakeLaws.{deliver-view, deliver-view-sender, deliver-view-other}
+
+cells-same : (r : List ℕ) → sameCells r r ≡ true
+unfolding sameCells
+cells-same [] = refl
+cells-same (c ∷ r) = and-both (eq-eqb c c refl) (cells-same r)
+
+answer-same : (a : Answer) → sameAnswer a a ≡ true
+unfolding sameAnswer
+answer-same none = refl
+answer-same (route r) = cells-same r
+
+module _ (s : State) (i : ℕ) (a : Answer) where
+  -- The first plan and a changed answer are news; the same answer again is none.
+  first-is-news : (s .planned i ≡ false) ⊎ (s .answer i ≡ a → ⊥) → isNews s i a ≡ true
+  first-is-news h = go (isNews s i a) refl
+    where
+      go : (t : Bool) → isNews s i a ≡ t → isNews s i a ≡ true
+      go true e = e
+      go false e =
+          ⊎-elim (λ (p : s .planned i ≡ false). true-false-absurd (no-news s i a e .0) p)
+          (λ (p : s .answer i ≡ a → ⊥). absurd (p (no-news s i a e .1))) h
+
+  again-no-news : s .planned i ≡ true → s .answer i ≡ a → isNews s i a ≡ false
+  unfolding isNews
+  again-no-news p e = rw (p, e, answer-same a) refl
+
+module _ (s : State) where
+  plan-counted : (i : ℕ) (a : Answer) → planAs s i a .taken ≡ min 999999 (suc (s .taken))
+  unfolding planAs tick
+  plan-counted i a = refl
+
+  deliver-counted : (j i : ℕ) → deliverTo s j i .taken ≡ min 999999 (suc (s .taken))
+  unfolding deliverTo tick
+  deliver-counted j i = refl
+
+module _ (M : Machine) (s : State) where
+  pub plan-does : (i : ℕ) → Planned M s (afterStep M s (plan i)) i
+  unfolding afterStep
+  plan-does i =
+      record {
+        best = plan-answer s i a;
+        cleared = plan-clears s i a;
+        planned = plan-planned s i a;
+        sends = λ h k l. rw (plan-answer s i a) (sent-below s i a (first-is-news s i a (rw (plan-answer s i a) at h)) k l);
+        keeps = λ p e k l. rw (plan-keeps s i a (again-no-news s i a p (e ∙ plan-answer s i a)));
+        counted = plan-counted s i a;
+        carriers =
+            λ k n.
+            record {
+              planned = plan-planned-other s i a k n;
+              due = plan-due-other s i a k n;
+              answer = plan-answer-other s i a k n;
+            };
+        channels = λ k j n. chan-other s i a k j n;
+        seen = λ k j. rw (plan-view s i a);
+      }
+    where
+      a : Answer
+      a = M .respond i (views s i)
+
+  oldest-first : (v : View) (l : List Answer) → isEmpty l ≡ false → (a : Answer) × (l ≡ a ∷ newer l) × (oldest v l ≡ heard a)
+  unfolding isEmpty newer oldest
+  oldest-first v [] e = true-false-absurd refl e
+  oldest-first v (a ∷ l) e = (a, refl, refl)
+
+  pub deliver-does : (j i : ℕ) → isOpen M s (deliver j i) ≡ true → Delivered s (afterStep M s (deliver j i)) j i
+  unfolding afterStep
+  deliver-does j i e =
+      record {
+        oldest = f .0;
+        leaves = rw (deliver-chan s j i) (f .1);
+        becomes = deliver-view s j i ∙ f .2;
+        due = deliver-due s j i;
+        counted = deliver-counted s j i;
+        carriers =
+            λ k n.
+            record {
+              planned = rw (deliver-planned s j i);
+              due = deliver-due-other s j i k n;
+              answer = rw (deliver-answer s j i);
+            };
+        receiver = (rw (deliver-planned s j i), rw (deliver-answer s j i));
+        channels = λ k l h. channels k l h (eq-or-ne k i);
+        seen = λ k l h. seen k l h (eq-or-ne k i);
+      }
+    where
+      f : (a : Answer) × (s .chan i j ≡ a ∷ newer (s .chan i j)) × (oldest (s .view i j) (s .chan i j) ≡ heard a)
+      f = oldest-first (s .view i j) (s .chan i j) (deliver-full M s j i e)
+
+      channels : (k l : ℕ) → (k ≡ i → ⊥) ⊎ (l ≡ j → ⊥) → (k ≡ i) ⊎ (k ≡ i → ⊥) → deliverTo s j i .chan k l ≡ s .chan k l
+      channels k l (inl n) q = rw (deliver-chan-other s j i k n)
+      channels k l (inr n) (inl q) = rw q (deliver-chan-sender s j i l n)
+      channels k l (inr n) (inr q) = rw (deliver-chan-other s j i k q)
+
+      seen : (k l : ℕ) → (k ≡ i → ⊥) ⊎ (l ≡ j → ⊥) → (k ≡ i) ⊎ (k ≡ i → ⊥) → deliverTo s j i .view k l ≡ s .view k l
+      seen k l (inl n) q = rw (deliver-view-other s j i k n)
+      seen k l (inr n) (inl q) = rw q (deliver-view-sender s j i l n)
+      seen k l (inr n) (inr q) = rw (deliver-view-other s j i k q)

@@ -1,0 +1,61 @@
+-- How a run ends: silent, spent and ended exactly as document 01 says; a fresh state is not silent.
+use Prim.Native.Nat.{ℕ, _≤_}
+use native.Mathlib.Omega.{arith}
+use mathlib.Core.Bool.{Bool, true, false, _&&_}
+use mathlib.Core.List.{List, [], _∷_}
+use mathlib.Core.Logic.{_↔_}
+use mathlib.Core.Path.{_≡_, refl}
+use lib.Dec.{eqb}
+use borrow.Author.Tests.{eqb-true, eq-eqb}
+use Rattle.route.proofs.Tests.{and-fst, and-snd, not-true-is-false, true-false-absurd}
+use Rattle.reference.specs.State.{Machine, fresh}
+use Rattle.reference.specs.Step.{Step}
+use Rattle.reference.specs.Run.{Ran}
+use Rattle.reference.specs.Ending.{isSilent, silent, spent, endsAs, anyLeft, ending}
+use Rattle.reference.proofs.QuietLaws.{silent-shut, shut-quiet}
+
+ends-silent : (t u : Bool) → endsAs t u ≡ silent → t ≡ true
+unfolding endsAs
+ends-silent true u e = refl
+ends-silent false true e = let z : _≡_ {A = ℕ} 0 1 = cc in absurd (omega arith)
+ends-silent false false e = let z : _≡_ {A = ℕ} 0 1 = cc in absurd (omega arith)
+
+ends-spent : (t u : Bool) → endsAs t u ≡ spent → (t ≡ false) × (u ≡ true)
+unfolding endsAs
+ends-spent true u e = let z : _≡_ {A = ℕ} 0 1 = cc in absurd (omega arith)
+ends-spent false true e = (refl, refl)
+ends-spent false false e = let z : _≡_ {A = ℕ} 0 1 = cc in absurd (omega arith)
+
+left-some : (l : List Step) → anyLeft l ≡ true → l ≡ [] → ⊥
+unfolding anyLeft
+left-some [] e h = true-false-absurd e refl
+left-some (x ∷ l) e h = let z : _≡_ {A = ℕ} 0 1 = cc in omega arith
+
+some-left : (l : List Step) → (l ≡ [] → ⊥) → anyLeft l ≡ true
+unfolding anyLeft
+some-left [] h = absurd (h refl)
+some-left (x ∷ l) h = refl
+
+module _ (M : Machine) (b : ℕ) (r : Ran) where
+  pub ending-silent : (ending M b r ≡ silent) ↔ (isSilent M (r .state) ≡ true)
+  unfolding ending endsAs
+  ending-silent = (λ e. ends-silent (isSilent M (r .state)) (eqb (r .taken) b && anyLeft (r .unread)) e, λ e. rw e)
+
+  pub ending-spent : (ending M b r ≡ spent) ↔ ((isSilent M (r .state) ≡ false) × (r .taken ≡ b) × (r .unread ≡ [] → ⊥))
+  unfolding ending endsAs
+  ending-spent = (says, λ h. rw (h .0, eq-eqb (r .taken) b (h .1), some-left (r .unread) (h .2)))
+    where
+      says : ending M b r ≡ spent → (isSilent M (r .state) ≡ false) × (r .taken ≡ b) × (r .unread ≡ [] → ⊥)
+      says e =
+          let h = ends-spent (isSilent M (r .state)) (eqb (r .taken) b && anyLeft (r .unread)) e in (
+            h .0,
+            eqb-true (r .taken) b (and-fst (eqb (r .taken) b) (anyLeft (r .unread)) (h .1)),
+            left-some (r .unread) (and-snd (eqb (r .taken) b) (anyLeft (r .unread)) (h .1)),
+          )
+
+-- A fresh state has an open step.
+pub fresh-not-silent : (M : Machine) → 1 ≤ M .carriers → 1 ≤ M .depth → isSilent M fresh ≡ false
+unfolding fresh
+fresh-not-silent M l d =
+    not-true-is-false (isSilent M fresh)
+    (λ (e : isSilent M fresh ≡ true). true-false-absurd refl ((shut-quiet M fresh d (silent-shut M fresh e)) .not-due 0 l))

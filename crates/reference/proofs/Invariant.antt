@@ -1,0 +1,139 @@
+-- The invariant of reached states. A carrier that is not due has planned, and its answer is best against its views. The last
+-- message on a channel, or the view where the channel is empty, is what the sender has said: its answer if it has planned.
+use Prim.Native.Nat.{ℕ, _<_}
+use mathlib.Core.Bool.{Bool, true, false}
+use mathlib.Core.List.{List, [], _∷_, _++_}
+use mathlib.Core.Logic.{_⊎_, inl, inr, ⊎-elim}
+use mathlib.Core.Path.{_≡_, refl, sym, _∙_}
+use Rattle.route.specs.Route.{Answer, View, unheard, heard}
+use Rattle.route.proofs.Tests.{eq-or-ne, true-false-absurd}
+use Rattle.reference.specs.State.{Machine, State, fresh, views}
+use Rattle.reference.specs.Step.{Step, plan, deliver, noKind}
+use Rattle.reference.specs.Take.{isNews, planAs, oldest, newer, deliverTo, afterStep}
+use Rattle.reference.specs.History.{Reaches, stay, next}
+use Rattle.reference.proofs.TakeLaws.{no-news, plan-keeps, sent-below, chan-other, plan-view, plan-planned, plan-planned-other}
+use Rattle.reference.proofs.TakeLaws.{plan-due-other, plan-answer, plan-answer-other, deliver-due, deliver-due-other}
+use Rattle.reference.proofs.TakeLaws.{deliver-planned, deliver-answer, deliver-chan, deliver-chan-sender, deliver-chan-other}
+use Rattle.reference.proofs.TakeLaws.{deliver-view, deliver-view-sender, deliver-view-other}
+
+-- What the receiver will have heard once every message is delivered.
+pub latest : View → List Answer → View
+latest v [] = v
+latest v (a ∷ l) = latest (heard a) l
+
+latest-sent : (v : View) (l : List Answer) (a : Answer) → latest v (l ++ (a ∷ [])) ≡ heard a
+unfolding latest
+latest-sent v [] a = refl
+latest-sent v (b ∷ l) a = latest-sent (heard b) l a
+
+latest-delivered : (v : View) (l : List Answer) → latest (oldest v l) (newer l) ≡ latest v l
+unfolding latest oldest newer
+latest-delivered v [] = refl
+latest-delivered v (a ∷ l) = refl
+
+-- What a carrier has said: its answer if it has planned, else nothing.
+pub saidAs : Bool → Answer → View
+saidAs true a = heard a
+saidAs false a = unheard
+
+pub said : State → ℕ → View
+said s j = saidAs (s .planned j) (s .answer j)
+
+pub record Sound (M : Machine) (s : State) : Type 0 where
+  pub has-planned : (i : ℕ) → s .due i ≡ false → s .planned i ≡ true
+  pub is-best : (i : ℕ) → s .due i ≡ false → s .answer i ≡ M .respond i (views s i)
+  pub is-said : (i j : ℕ) → j < i → latest (s .view i j) (s .chan i j) ≡ said s j
+
+-- Where the channel is empty and the sender has planned, the view is the sender's answer.
+pub view-heard : (M : Machine) (s : State) → Sound M s → (i j : ℕ) → j < i → s .chan i j ≡ [] → s .due j ≡ false →
+    s .view i j ≡ heard (s .answer j)
+unfolding latest said saidAs
+view-heard M s h i j l e d = rw (e, h .has-planned j d) at (h .is-said i j l)
+
+pub fresh-sound : (M : Machine) → Sound M fresh
+unfolding fresh latest said saidAs
+fresh-sound M = record { has-planned = λ i e. true-false-absurd refl e; is-best = λ i e. true-false-absurd refl e; is-said = λ i j l. refl }
+
+module _ (M : Machine) (s : State) (h : Sound M s) where
+  module _ (i : ℕ) (a : Answer) where
+    said-other : (j : ℕ) → (j ≡ i → ⊥) → said (planAs s i a) j ≡ said s j
+    unfolding said
+    said-other j n = rw (plan-planned-other s i a j n, plan-answer-other s i a j n)
+
+    said-plan : said (planAs s i a) i ≡ heard a
+    unfolding said saidAs
+    said-plan = rw (plan-planned s i a, plan-answer s i a)
+
+    -- What is on the way from i after its plan: the news, or what it was, if that is what i answered before.
+    plan-said : (k : ℕ) → i < k → latest (s .view k i) (planAs s i a .chan k i) ≡ heard a
+    unfolding said saidAs
+    plan-said k l = go (isNews s i a) refl
+      where
+        go : (t : Bool) → isNews s i a ≡ t → latest (s .view k i) (planAs s i a .chan k i) ≡ heard a
+        go true e = rw (sent-below s i a e k l) (latest-sent (s .view k i) (s .chan k i) a)
+        go false e = rw (plan-keeps s i a e) (rw (no-news s i a e .0, no-news s i a e .1) at (h .is-said k i l))
+
+  plan-sound : (i : ℕ) → Sound M (planAs s i (M .respond i (views s i)))
+  unfolding views
+  plan-sound i = record { has-planned = has-planned; is-best = is-best; is-said = is-said }
+    where
+      a : Answer
+      a = M .respond i (views s i)
+
+      z : State
+      z = planAs s i a
+
+      has-planned : (k : ℕ) → z .due k ≡ false → z .planned k ≡ true
+      has-planned k e =
+          ⊎-elim (λ (q : k ≡ i). rw q (plan-planned s i a))
+          (λ (n : k ≡ i → ⊥). plan-planned-other s i a k n ∙ h .has-planned k (sym (plan-due-other s i a k n) ∙ e)) (eq-or-ne k i)
+
+      is-best : (k : ℕ) → z .due k ≡ false → z .answer k ≡ M .respond k (views z k)
+      is-best k e =
+          ⊎-elim (λ (q : k ≡ i). rw (q, plan-view s i a) (plan-answer s i a))
+          (λ (n : k ≡ i → ⊥). rw (plan-view s i a) (plan-answer-other s i a k n ∙ h .is-best k (sym (plan-due-other s i a k n) ∙ e)))
+          (eq-or-ne k i)
+
+      is-said : (k j : ℕ) → j < k → latest (z .view k j) (z .chan k j) ≡ said z j
+      is-said k j l =
+          ⊎-elim (λ (q : j ≡ i). rw (q, said-plan i a, plan-view s i a) (plan-said i a k (rw q at l)))
+          (λ (n : j ≡ i → ⊥). rw (said-other i a j n, plan-view s i a, chan-other s i a k j n) (h .is-said k j l)) (eq-or-ne j i)
+
+  deliver-sound : (j i : ℕ) → Sound M (deliverTo s j i)
+  unfolding views said
+  deliver-sound j i = record { has-planned = has-planned; is-best = is-best; is-said = is-said }
+    where
+      z : State
+      z = deliverTo s j i
+
+      was : (k : ℕ) → z .due k ≡ false → (k ≡ i → ⊥) × (s .due k ≡ false)
+      was k e =
+          ⊎-elim (λ (q : k ≡ i). true-false-absurd (deliver-due s j i) (rw q at e))
+          (λ (n : k ≡ i → ⊥). (n, sym (deliver-due-other s j i k n) ∙ e)) (eq-or-ne k i)
+
+      has-planned : (k : ℕ) → z .due k ≡ false → z .planned k ≡ true
+      has-planned k e = rw (deliver-planned s j i) (h .has-planned k (was k e .1))
+
+      is-best : (k : ℕ) → z .due k ≡ false → z .answer k ≡ M .respond k (views z k)
+      is-best k e = rw (deliver-answer s j i, deliver-view-other s j i k (was k e .0)) (h .is-best k (was k e .1))
+
+      to-i : (m : ℕ) → m < i → (m ≡ j) ⊎ (m ≡ j → ⊥) → latest (z .view i m) (z .chan i m) ≡ said s m
+      to-i m l (inl q) =
+          rw (q, deliver-view s j i, deliver-chan s j i, latest-delivered (s .view i j) (s .chan i j)) (h .is-said i j (rw q at l))
+      to-i m l (inr n) = rw (deliver-view-sender s j i m n, deliver-chan-sender s j i m n) (h .is-said i m l)
+
+      is-said : (k m : ℕ) → m < k → latest (z .view k m) (z .chan k m) ≡ said z m
+      is-said k m l =
+          rw (deliver-planned s j i, deliver-answer s j i)
+          (⊎-elim (λ (q : k ≡ i). rw q (to-i m (rw q at l) (eq-or-ne m j)))
+          (λ (n : k ≡ i → ⊥). rw (deliver-view-other s j i k n, deliver-chan-other s j i k n) (h .is-said k m l)) (eq-or-ne k i))
+
+  step-sound : (x : Step) → Sound M (afterStep M s x)
+  unfolding afterStep
+  step-sound (plan i) = plan-sound i
+  step-sound (deliver j i) = deliver-sound j i
+  step-sound noKind = h
+
+pub reaches-sound : (M : Machine) {s z : State} {t : ℕ} → Sound M s → Reaches M s z t → Sound M z
+reaches-sound M h stay = h
+reaches-sound M {s = s} h (next x e p) = reaches-sound M (step-sound M s h x) p

@@ -1,0 +1,26 @@
+-- Laws of the definitions, the invariant, the potential, and the claims. What other crates cite is `pub`.
+pub mod RangeLaws
+pub mod OpenLaws
+pub mod TakeLaws
+mod EffectLaws
+pub mod TableLaws
+mod RefusedLaws
+pub mod RunLaws
+pub mod CutLaws
+pub mod ReachLaws
+mod CutCalls
+mod CountLaws
+pub mod QuietLaws
+mod EndingLaws
+pub mod Invariant
+pub mod BoundLaws
+pub mod ThroughLaws
+mod SequentialLaws
+mod PrefixLaws
+mod Sums
+pub mod Potential
+mod PlanWeight
+mod DeliverWeight
+pub mod CeilingLaws
+mod Cases
+pub mod Theorems

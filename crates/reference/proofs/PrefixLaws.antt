@@ -1,0 +1,93 @@
+-- Quiet prefixes: their answers are the sequential planner's, and open steps leave them as they are.
+use Prim.Native.Nat.{ℕ, zero, suc, _≤_, _<_}
+use native.Mathlib.Omega.{arith}
+use mathlib.Core.Bool.{true}
+use mathlib.Core.List.{map}
+use mathlib.Core.Logic.{⊎-elim}
+use mathlib.Core.Path.{_≡_, refl, _∙_}
+use Rattle.route.specs.Route.{Answer, heard}
+use Rattle.route.specs.Sequential.{sequential}
+use Rattle.route.proofs.Tests.{lt-or-le, true-false-absurd}
+use Rattle.reference.specs.Ranges.{below}
+use Rattle.reference.specs.State.{Machine, State, views}
+use Rattle.reference.specs.Step.{Step, plan, deliver, noKind, isOpen}
+use Rattle.reference.specs.Take.{planAs, deliverTo, afterStep}
+use Rattle.reference.specs.History.{Reaches, stay, next}
+use Rattle.reference.proofs.RangeLaws.{below-same, below-map}
+use Rattle.reference.proofs.OpenLaws.{nil-empty, no-kind-shut, plan-due, deliver-above, deliver-full}
+use Rattle.reference.proofs.QuietLaws.{Quiet}
+use Rattle.reference.proofs.TakeLaws.{chan-above, plan-due-other, plan-answer-other, deliver-due-other, deliver-answer}
+use Rattle.reference.proofs.TakeLaws.{deliver-chan-other}
+use Rattle.reference.proofs.Invariant.{Sound, view-heard}
+
+module _ (M : Machine) (s : State) where
+  quiet-shorter : (k : ℕ) → Quiet (suc k) s → Quiet k s
+  quiet-shorter k q =
+      record { not-due = λ i l. q .not-due i (omega arith); no-message = λ i j a l. q .no-message i j a (omega arith) }
+
+  -- Carrier k of a quiet prefix has heard the answers of all above it.
+  heard-all : Sound M s → (k : ℕ) → Quiet (suc k) s → views s k ≡ map heard (below k (s .answer))
+  unfolding views
+  heard-all h k q = below-same k (s .view k) (λ j. heard (s .answer j)) heard-one ∙ below-map heard k (s .answer)
+    where
+      heard-one : (j : ℕ) → j < k → s .view k j ≡ heard (s .answer j)
+      heard-one j l = view-heard M s h k j l (q .no-message k j l (omega arith)) (q .not-due j (omega arith))
+
+  -- Each quiet carrier has answered best against the answers above it, which are the sequential planner's by induction.
+  pub quiet-sequential : Sound M s → (k : ℕ) → Quiet k s → below k (s .answer) ≡ sequential (M .respond) k
+  unfolding below sequential
+  quiet-sequential h zero q = refl
+  quiet-sequential h (suc k) q = go (quiet-sequential h k (quiet-shorter k q))
+    where
+      go : below k (s .answer) ≡ sequential (M .respond) k → below (suc k) (s .answer) ≡ sequential (M .respond) (suc k)
+      go ahead = rw (h .is-best k (q .not-due k (omega arith)), heard-all h k q, ahead)
+
+-- The first k carriers are as they were: who is due, what is under way to them, what they answer.
+pub record SameBelow (k : ℕ) (s z : State) : Type 0 where
+  pub due : (i : ℕ) → i < k → z .due i ≡ s .due i
+  pub chan : (i j : ℕ) → i < k → z .chan i j ≡ s .chan i j
+  pub answer : (i : ℕ) → i < k → z .answer i ≡ s .answer i
+
+module _ (M : Machine) (s : State) (k : ℕ) where
+  plan-same : (i : ℕ) (a : Answer) → k ≤ i → SameBelow k s (planAs s i a)
+  plan-same i a h =
+      record {
+        due = λ m l. plan-due-other s i a m (λ q. omega arith);
+        chan = λ m j l. chan-above s i a m j (omega arith);
+        answer = λ m l. plan-answer-other s i a m (λ q. omega arith);
+      }
+
+  deliver-same : (j i : ℕ) → k ≤ i → SameBelow k s (deliverTo s j i)
+  deliver-same j i h =
+      record {
+        due = λ m l. deliver-due-other s j i m (λ q. omega arith);
+        chan = λ m n l. rw (deliver-chan-other s j i m (λ q. omega arith));
+        answer = λ m l. rw (deliver-answer s j i);
+      }
+
+  -- No step of a quiet carrier is open, and a step of a carrier below changes nothing among the first k.
+  step-same : Quiet k s → (x : Step) → isOpen M s x ≡ true → SameBelow k s (afterStep M s x)
+  unfolding afterStep
+  step-same q (plan i) e =
+      ⊎-elim (λ (l : i < k). true-false-absurd (plan-due M s i e) (q .not-due i l))
+      (λ (l : k ≤ i). plan-same i (M .respond i (views s i)) l) (lt-or-le i k)
+  step-same q (deliver j i) e =
+      ⊎-elim
+      (λ (l : i < k). true-false-absurd (nil-empty (s .chan i j) (q .no-message i j (deliver-above M s j i e) l)) (deliver-full M s j i e))
+      (λ (l : k ≤ i). deliver-same j i l) (lt-or-le i k)
+  step-same q noKind e = true-false-absurd e (no-kind-shut M s)
+
+  same-quiet : {z : State} → Quiet k s → SameBelow k s z → Quiet k z
+  same-quiet q h =
+      record {
+        not-due = λ i l. h .due i l ∙ q .not-due i l;
+        no-message = λ i j a l. h .chan i j l ∙ q .no-message i j a l;
+      }
+
+pub reaches-quiet : (M : Machine) (k : ℕ) {s z : State} {t : ℕ} → Quiet k s → Reaches M s z t →
+    Quiet k z × ((i : ℕ) → i < k → z .answer i ≡ s .answer i)
+reaches-quiet M k q stay = (q, λ i l. refl)
+reaches-quiet M k {s = s} q (next x e p) =
+    let h = step-same M s k q x e in
+    let r = reaches-quiet M k (same-quiet M s k q h) p in
+    (r .0, λ i l. r .1 i l ∙ h .answer i l)

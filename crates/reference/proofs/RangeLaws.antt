@@ -1,0 +1,71 @@
+-- Laws of lists and tests over the first carriers, and of pointwise updates.
+use Prim.Native.Nat.{ℕ, zero, suc, _≤_, _<_}
+use native.Mathlib.Omega.{arith}
+use native.Mathlib.Nat.{eq-or-lt-of-le}
+use mathlib.Core.Bool.{Bool, true, false}
+use mathlib.Core.List.{map, map-append}
+use mathlib.Core.Logic.{⊎-elim}
+use mathlib.Core.Path.{_≡_, refl}
+use borrow.Author.Tests.{eq-eqb, ne-eqb}
+use Rattle.route.proofs.Tests.{and-both, and-fst, and-snd, true-false-absurd}
+use Rattle.reference.specs.Ranges.{below, each, put, putPair}
+
+pub each-holds : (k : ℕ) (p : ℕ → Bool) → each k p ≡ true → (i : ℕ) → i < k → p i ≡ true
+unfolding each
+each-holds zero p e i l = absurd (omega arith)
+each-holds (suc k) p e i l =
+    ⊎-elim (λ (h : i ≡ k). rw h (and-snd (each k p) (p k) e)) (λ (h : i < k). each-holds k p (and-fst (each k p) (p k) e) i h)
+    (eq-or-lt-of-le (below-suc l))
+  where
+    below-suc : {a b : ℕ} → a < suc b → a ≤ b
+    below-suc h = omega arith
+
+pub each-true : (k : ℕ) (p : ℕ → Bool) → ((i : ℕ) → i < k → p i ≡ true) → each k p ≡ true
+unfolding each
+each-true zero p h = refl
+each-true (suc k) p h = and-both (each-true k p (λ i l. h i (omega arith))) (h k (omega arith))
+
+-- Where the test does not hold at each place, there is a place where it does not.
+pub each-fails : (k : ℕ) (p : ℕ → Bool) → each k p ≡ false → (i : ℕ) × (i < k) × (p i ≡ false)
+unfolding each
+each-fails zero p e = true-false-absurd refl e
+each-fails (suc k) p e = go (p k) (each k p) refl refl (each-fails k p)
+  where
+    go : (t u : Bool) → p k ≡ t → each k p ≡ u → (each k p ≡ false → (i : ℕ) × (i < k) × (p i ≡ false)) →
+        (i : ℕ) × (i < suc k) × (p i ≡ false)
+    go false u a h below-k = (k, omega arith, a)
+    go true false a h below-k = ((below-k h) .0, omega (arith, (below-k h) .1), (below-k h) .2)
+    go true true a h below-k = true-false-absurd (and-both h a) e
+
+module _ {A : Type 0} where
+  pub below-same : (k : ℕ) (f g : ℕ → A) → ((i : ℕ) → i < k → f i ≡ g i) → below k f ≡ below k g
+  unfolding below
+  below-same zero f g h = refl
+  below-same (suc k) f g h = rw (below-same k f g (λ i l. h i (omega arith)), h k (omega arith))
+
+  pub put-same : (f : ℕ → A) (i : ℕ) (a : A) → put f i a i ≡ a
+  unfolding put
+  put-same f i a = rw (eq-eqb i i refl, put)
+
+  pub put-other : (f : ℕ → A) (i : ℕ) (a : A) (k : ℕ) → (k ≡ i → ⊥) → put f i a k ≡ f k
+  unfolding put
+  put-other f i a k h = rw (ne-eqb k i h, put)
+
+  pub pair-other-row : (f : ℕ → ℕ → A) (i j : ℕ) (a : A) (k : ℕ) → (k ≡ i → ⊥) → putPair f i j a k ≡ f k
+  unfolding putPair put
+  pair-other-row f i j a k h = rw (ne-eqb k i h, put)
+
+  pub pair-row : (f : ℕ → ℕ → A) (i j : ℕ) (a : A) → putPair f i j a i ≡ put (f i) j a
+  unfolding putPair put
+  pair-row f i j a = rw (eq-eqb i i refl, put)
+
+  pub pair-same : (f : ℕ → ℕ → A) (i j : ℕ) (a : A) → putPair f i j a i j ≡ a
+  pair-same f i j a = rw (pair-row f i j a) (put-same (f i) j a)
+
+  pub pair-other : (f : ℕ → ℕ → A) (i j : ℕ) (a : A) (k : ℕ) → (k ≡ j → ⊥) → putPair f i j a i k ≡ f i k
+  pair-other f i j a k h = rw (pair-row f i j a) (put-other (f i) j a k h)
+
+pub below-map : {A B : Type 0} (g : A → B) (k : ℕ) (f : ℕ → A) → below k (λ i. g (f i)) ≡ map g (below k f)
+unfolding below
+below-map g zero f = refl
+below-map g (suc k) f = rw (below-map g k f, map-append)

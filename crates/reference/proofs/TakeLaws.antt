@@ -1,0 +1,142 @@
+-- Laws of what the two steps change: each part of the state after a plan and after a delivery.
+use Prim.Native.Nat.{ℕ, _≤_, _<_}
+use mathlib.Core.Bool.{Bool, true, false, _&&_}
+use mathlib.Core.List.{List, [], _∷_, _++_}
+use mathlib.Core.Path.{_≡_, refl, ap}
+use lib.Dec.{eqb}
+use borrow.Author.Tests.{eqb-true, eq-eqb, ne-eqb, lt-ltb, le-ltb, not-false}
+use Rattle.route.specs.Route.{Answer, none, route}
+use Rattle.route.proofs.Tests.{and-fst, and-snd, true-false-absurd}
+use Rattle.reference.specs.State.{State}
+use Rattle.reference.specs.Step.{sameCells, sameAnswer}
+use Rattle.reference.specs.Take.{isNews, send, planAs, oldest, newer, deliverTo}
+use Rattle.reference.proofs.RangeLaws.{put-same, put-other, pair-same, pair-other, pair-other-row}
+
+same-cells : (q r : List ℕ) → sameCells q r ≡ true → q ≡ r
+unfolding sameCells
+same-cells [] [] e = refl
+same-cells [] (d ∷ r) e = true-false-absurd e refl
+same-cells (c ∷ q) [] e = true-false-absurd e refl
+same-cells (c ∷ q) (d ∷ r) e =
+    rw (eqb-true c d (and-fst (eqb c d) (sameCells q r) e), same-cells q r (and-snd (eqb c d) (sameCells q r) e))
+
+same-answer : (a b : Answer) → sameAnswer a b ≡ true → a ≡ b
+unfolding sameAnswer
+same-answer none none e = refl
+same-answer none (route r) e = true-false-absurd e refl
+same-answer (route q) none e = true-false-absurd e refl
+same-answer (route q) (route r) e = ap route (same-cells q r e)
+
+module _ (s : State) (i : ℕ) (a : Answer) where
+  -- An answer that is no news: the carrier has planned, and this was its answer.
+  pub no-news : isNews s i a ≡ false → (s .planned i ≡ true) × (s .answer i ≡ a)
+  unfolding isNews
+  no-news e = (and-fst (s .planned i) same both, same-answer (s .answer i) a (and-snd (s .planned i) same both))
+    where
+      same : Bool
+      same = sameAnswer (s .answer i) a
+
+      both : (s .planned i && same) ≡ true
+      both = not-false (s .planned i && same) e
+
+  plan-sends : isNews s i a ≡ true → planAs s i a .chan ≡ send (s .chan) i a
+  unfolding planAs
+  plan-sends e = rw (e, planAs)
+
+  pub plan-keeps : isNews s i a ≡ false → planAs s i a .chan ≡ s .chan
+  unfolding planAs
+  plan-keeps e = rw (e, planAs)
+
+  -- The channel from i to a carrier below it gets the news.
+  pub sent-below : isNews s i a ≡ true → (k : ℕ) → i < k → planAs s i a .chan k i ≡ s .chan k i ++ (a ∷ [])
+  unfolding send
+  sent-below e k l = rw (plan-sends e) (rw (eq-eqb i i refl, lt-ltb i k l, send) refl)
+
+  -- Other channels stay as they are: those of other senders, and those to carriers that are not below i.
+  pub chan-other : (k j : ℕ) → (j ≡ i → ⊥) → planAs s i a .chan k j ≡ s .chan k j
+  unfolding send
+  chan-other k j h = go (isNews s i a) refl
+    where
+      go : (t : Bool) → isNews s i a ≡ t → planAs s i a .chan k j ≡ s .chan k j
+      go true e = rw (plan-sends e) (rw (ne-eqb j i h, send) refl)
+      go false e = rw (plan-keeps e)
+
+  pub chan-above : (k j : ℕ) → k ≤ i → planAs s i a .chan k j ≡ s .chan k j
+  unfolding send
+  chan-above k j h = go (isNews s i a) (eqb j i) refl refl
+    where
+      go : (t u : Bool) → isNews s i a ≡ t → eqb j i ≡ u → planAs s i a .chan k j ≡ s .chan k j
+      go true true e f = rw (plan-sends e) (rw (f, le-ltb i k h, send) refl)
+      go true false e f = rw (plan-sends e) (rw (f, send) refl)
+      go false u e f = rw (plan-keeps e)
+
+  pub plan-planned : planAs s i a .planned i ≡ true
+  unfolding planAs
+  plan-planned = put-same (s .planned) i true
+
+  pub plan-planned-other : (k : ℕ) → (k ≡ i → ⊥) → planAs s i a .planned k ≡ s .planned k
+  unfolding planAs
+  plan-planned-other k h = put-other (s .planned) i true k h
+
+  pub plan-clears : planAs s i a .due i ≡ false
+  unfolding planAs
+  plan-clears = put-same (s .due) i false
+
+  pub plan-due-other : (k : ℕ) → (k ≡ i → ⊥) → planAs s i a .due k ≡ s .due k
+  unfolding planAs
+  plan-due-other k h = put-other (s .due) i false k h
+
+  pub plan-answer : planAs s i a .answer i ≡ a
+  unfolding planAs
+  plan-answer = put-same (s .answer) i a
+
+  pub plan-answer-other : (k : ℕ) → (k ≡ i → ⊥) → planAs s i a .answer k ≡ s .answer k
+  unfolding planAs
+  plan-answer-other k h = put-other (s .answer) i a k h
+
+  -- A plan changes no view.
+  pub plan-view : planAs s i a .view ≡ s .view
+  unfolding planAs
+  plan-view = refl
+
+-- A delivery changes one channel and one view, and makes its receiver due.
+module _ (s : State) (j i : ℕ) where
+  pub deliver-due : deliverTo s j i .due i ≡ true
+  unfolding deliverTo
+  deliver-due = put-same (s .due) i true
+
+  pub deliver-due-other : (k : ℕ) → (k ≡ i → ⊥) → deliverTo s j i .due k ≡ s .due k
+  unfolding deliverTo
+  deliver-due-other k h = put-other (s .due) i true k h
+
+  pub deliver-planned : deliverTo s j i .planned ≡ s .planned
+  unfolding deliverTo
+  deliver-planned = refl
+
+  pub deliver-answer : deliverTo s j i .answer ≡ s .answer
+  unfolding deliverTo
+  deliver-answer = refl
+
+  pub deliver-chan : deliverTo s j i .chan i j ≡ newer (s .chan i j)
+  unfolding deliverTo
+  deliver-chan = pair-same (s .chan) i j (newer (s .chan i j))
+
+  pub deliver-chan-sender : (k : ℕ) → (k ≡ j → ⊥) → deliverTo s j i .chan i k ≡ s .chan i k
+  unfolding deliverTo
+  deliver-chan-sender k h = pair-other (s .chan) i j (newer (s .chan i j)) k h
+
+  pub deliver-chan-other : (k : ℕ) → (k ≡ i → ⊥) → deliverTo s j i .chan k ≡ s .chan k
+  unfolding deliverTo
+  deliver-chan-other k h = pair-other-row (s .chan) i j (newer (s .chan i j)) k h
+
+  pub deliver-view : deliverTo s j i .view i j ≡ oldest (s .view i j) (s .chan i j)
+  unfolding deliverTo
+  deliver-view = pair-same (s .view) i j (oldest (s .view i j) (s .chan i j))
+
+  pub deliver-view-sender : (k : ℕ) → (k ≡ j → ⊥) → deliverTo s j i .view i k ≡ s .view i k
+  unfolding deliverTo
+  deliver-view-sender k h = pair-other (s .view) i j (oldest (s .view i j) (s .chan i j)) k h
+
+  pub deliver-view-other : (k : ℕ) → (k ≡ i → ⊥) → deliverTo s j i .view k ≡ s .view k
+  unfolding deliverTo
+  deliver-view-other k h = pair-other-row (s .view) i j (oldest (s .view i j) (s .chan i j)) k h

@@ -1,0 +1,19 @@
+-- In reading order: the state, the steps and what they do, the run and its history, the calls, quiet prefixes, the cases, the claims.
+pub mod Ranges
+pub mod State
+pub mod Step
+pub mod Take
+pub mod Effects
+pub mod Run
+pub mod Ending
+pub mod History
+pub mod Table
+pub mod Refused
+pub mod Calls
+pub mod Quiet
+pub mod Bounds
+pub mod Floors
+pub mod Cases
+pub mod StepClaims
+pub mod CallClaims
+pub mod Claims

@@ -1,0 +1,23 @@
+-- Functions of the carriers, counted from 0: lists and tests over the first k of them, and pointwise updates.
+use Prim.Native.Nat.{ℕ, zero, suc}
+use mathlib.Core.Bool.{Bool, true, false, _&&_}
+use mathlib.Core.List.{List, [], _∷_, _++_}
+use lib.Dec.{eqb}
+
+-- The values of f at 0 to k − 1, in order.
+unfoldable pub below : {A : Type 0} → ℕ → (ℕ → A) → List A
+below zero f = []
+below (suc k) f = below k f ++ (f k ∷ [])
+
+-- The test holds at 0 to k − 1.
+unfoldable pub each : ℕ → (ℕ → Bool) → Bool
+each zero p = true
+each (suc k) p = each k p && p k
+
+-- f with the value a at i.
+unfoldable pub put : {A : Type 0} → (ℕ → A) → ℕ → A → ℕ → A
+put f i a k = elim (eqb k i) [ true ↦ a | false ↦ f k ]
+
+-- f with the value a at receiver i and sender j.
+unfoldable pub putPair : {A : Type 0} → (ℕ → ℕ → A) → ℕ → ℕ → A → ℕ → ℕ → A
+putPair f i j a = put f i (put (f i) j a)

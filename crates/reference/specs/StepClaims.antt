@@ -1,0 +1,42 @@
+-- What is claimed of steps and runs, one field a claim, for any number of carriers, any best response, and any depth, at least 1 where
+-- it matters.
+use Prim.Native.Nat.{ℕ, _-_, _≤_}
+use mathlib.Core.Bool.{true, false}
+use mathlib.Core.List.{List, [], _++_}
+use mathlib.Core.Logic.{_⊎_, _↔_}
+use mathlib.Core.Path.{_≡_}
+use Rattle.reference.specs.State.{Machine, State, fresh}
+use Rattle.reference.specs.Step.{Step, plan, deliver, isOpen}
+use Rattle.reference.specs.Take.{afterStep}
+use Rattle.reference.specs.Effects.{Planned, Delivered}
+use Rattle.reference.specs.Run.{Ran, run}
+use Rattle.reference.specs.Ending.{isSilent, silent, spent, ending}
+use Rattle.reference.specs.History.{Told, Joined}
+use Rattle.reference.specs.Quiet.{quiet}
+
+pub record StepClaims : Type 0 where
+  -- The steps do what document 01 says, and nothing else changes.
+  pub plan-does : (M : Machine) (s : State) (i : ℕ) → Planned M s (afterStep M s (plan i)) i
+  pub deliver-does : (M : Machine) (s : State) (j i : ℕ) → isOpen M s (deliver j i) ≡ true → Delivered s (afterStep M s (deliver j i)) j i
+  -- Silent is said exactly if no step is open.
+  pub silent-exactly : (M : Machine) (s : State) → (isSilent M s ≡ true) ↔ ((x : Step) → isOpen M s x ≡ false)
+  -- Some step is open, or nobody is due and nothing is under way.
+  pub open-or-quiet : (M : Machine) (s : State) → 1 ≤ M .depth →
+      ((x : Step) × (isOpen M s x ≡ true)) ⊎ (quiet (M .carriers) s ≡ true)
+  -- The machine is silent exactly if nobody is due and nothing is under way.
+  pub silent-quiet : (M : Machine) (s : State) → 1 ≤ M .depth → isSilent M s ≡ quiet (M .carriers) s
+  -- A fresh state is not silent.
+  pub fresh-not-silent : (M : Machine) → 1 ≤ M .carriers → 1 ≤ M .depth → isSilent M fresh ≡ false
+  -- Every step that a run took was open, no open step was passed over, and the number taken is the length of its history of taken
+  -- steps, never above the budget.
+  pub run-told : (M : Machine) (s : State) (xs : List Step) (b : ℕ) → Told M s xs b (run M s xs b)
+  -- A run ends silent exactly if no step is open then, and spent exactly if one is, taken equals the budget and unread steps are left.
+  pub ending-silent : (M : Machine) (b : ℕ) (r : Ran) → (ending M b r ≡ silent) ↔ (isSilent M (r .state) ≡ true)
+  pub ending-spent : (M : Machine) (b : ℕ) (r : Ran) →
+      (ending M b r ≡ spent) ↔ ((isSilent M (r .state) ≡ false) × (r .taken ≡ b) × (r .unread ≡ [] → ⊥))
+  -- A run cut in two is the run of the first part and then the run of the rest with what is left of the budget.
+  pub run-cut : (M : Machine) (s : State) (xs ys : List Step) (b : ℕ) →
+      Joined (run M s (xs ++ ys) b) (run M s xs b) (run M (run M s xs b .state) ys (b - run M s xs b .taken))
+  -- Where the first part is read to its end, the whole run ends as the second one does.
+  pub cut-ending : (M : Machine) (s : State) (xs ys : List Step) (b : ℕ) → run M s xs b .unread ≡ [] →
+      ending M b (run M s (xs ++ ys) b) ≡ ending M (b - run M s xs b .taken) (run M (run M s xs b .state) ys (b - run M s xs b .taken))
