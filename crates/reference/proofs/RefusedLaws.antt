@@ -1,15 +1,18 @@
 -- The table of refusals says of a call exactly what its rows say.
-use Prim.Native.Nat.{ℕ, zero, suc, _+_, _<_}
+use Prim.Native.Nat.{ℕ, zero, suc, _+_, _≤_, _<_}
 use native.Mathlib.Omega.{arith}
 use mathlib.Core.Bool.{Bool, true, false}
 use mathlib.Core.List.{List, [], _∷_}
-use mathlib.Core.Logic.{_↔_}
+use mathlib.Core.Logic.{_↔_, _⊎_, inl, inr}
 use mathlib.Core.Path.{_≡_, refl, ap, sym, _∙_}
+use borrow.Author.Tests.{le-leb, lt-leb}
+use lib.Dec.{leb}
 use lib.ListN.{getD}
 use Rattle.reference.specs.State.{Machine, State}
 use Rattle.reference.specs.Step.{Step, noKind, named, isOpen}
-use Rattle.reference.specs.Table.{Call, single, runOf, refusal, ifLent, allNamed, openSingle, verdict}
+use Rattle.reference.specs.Table.{Call, single, runOf, Verdict, refusal, ifLent, allNamed, openSingle, verdict}
 use Rattle.reference.specs.Refused.{FirstUnnamed, RefusedWith, short-single, short-run, unnamed-single, unnamed-run, not-open}
+use Rattle.route.proofs.Tests.{lt-or-le}
 use Rattle.reference.proofs.TableLaws.{not-accepted, named-step, unnamed-step, single-unnamed, single-shut, single-passes}
 
 refusal-number : {a b p q : ℕ} → refusal a p ≡ refusal b q → a ≡ b
@@ -79,36 +82,50 @@ module _ (M : Machine) where
       go false h f = here h (sym (unnamed-step M q x xs h) ∙ e)
 
   module _ (s : State) where
+    short : (lent : ℕ) (v : Verdict) → lent < M .needed → ifLent (leb (M .needed) lent) v ≡ refusal 9 0
+    unfolding ifLent
+    short lent v l = rw (lt-leb (M .needed) lent l, ifLent)
+
+    enough : (lent : ℕ) (v : Verdict) → M .needed ≤ lent → ifLent (leb (M .needed) lent) v ≡ v
+    unfolding ifLent
+    enough lent v l = rw (le-leb (M .needed) lent l, ifLent)
+
     -- Each row refuses.
     row-refuses : {c : Call} {a p : ℕ} → RefusedWith M s c a p → verdict M s c ≡ refusal a p
-    unfolding verdict ifLent
-    row-refuses short-single = refl
-    row-refuses short-run = refl
-    row-refuses (unnamed-single {x} h) = single-unnamed M s x h
-    row-refuses (unnamed-run {xs} {b} {p} f) = first-refused 0 xs p f ∙ ap (λ (m : ℕ). refusal 7 m) (omega arith)
-    row-refuses (not-open {x} h k) = single-shut M s x h k
+    unfolding verdict
+    row-refuses (short-single {lent} l) = short lent _ l
+    row-refuses (short-run {lent} l) = short lent _ l
+    row-refuses (unnamed-single {lent} {x} l h) = enough lent _ l ∙ single-unnamed M s x h
+    row-refuses (unnamed-run {lent} {xs} {b} {p} l f) = enough lent _ l ∙ first-refused 0 xs p f ∙ ap (λ (m : ℕ). refusal 7 m) (omega arith)
+    row-refuses (not-open {lent} {x} l h k) = enough lent _ l ∙ single-shut M s x h k
 
-    single-row : (x : Step) (a p : ℕ) → openSingle M s x ≡ refusal a p → RefusedWith M s (single true x) a p
-    single-row x a p e = go (named M x) (isOpen M s x) refl refl
+    single-row : (lent : ℕ) (x : Step) (a p : ℕ) → M .needed ≤ lent → openSingle M s x ≡ refusal a p → RefusedWith M s (single lent x) a p
+    single-row lent x a p l e = go (named M x) (isOpen M s x) refl refl
       where
-        go : (t u : Bool) → named M x ≡ t → isOpen M s x ≡ u → RefusedWith M s (single true x) a p
+        go : (t u : Bool) → named M x ≡ t → isOpen M s x ≡ u → RefusedWith M s (single lent x) a p
         go true true h k = absurd (not-accepted (openSingle M s x) a p e (single-passes M s x h k))
-        go true false h k = moved (sym (single-shut M s x h k) ∙ e) (not-open h k)
-        go false u h k = moved (sym (single-unnamed M s x h) ∙ e) (unnamed-single h)
+        go true false h k = moved (sym (single-shut M s x h k) ∙ e) (not-open l h k)
+        go false u h k = moved (sym (single-unnamed M s x h) ∙ e) (unnamed-single l h)
+
+    run-row : (lent : ℕ) (xs : List Step) (b a p : ℕ) → M .needed ≤ lent → Found 0 xs a p → RefusedWith M s (runOf lent xs b) a p
+    run-row lent xs b a p l f = rw (f .number, there) (unnamed-run l (f .first))
+      where
+        there : p ≡ f .at
+        there = omega (arith, f .place)
 
     -- Nothing else refuses.
     refused-row : (c : Call) (a p : ℕ) → verdict M s c ≡ refusal a p → RefusedWith M s c a p
-    unfolding verdict ifLent
-    refused-row (single true x) a p e = single-row x a p e
-    refused-row (single false x) a p e = moved e short-single
-    refused-row (runOf true xs b) a p e = run-row (refused-first 0 xs a p e)
+    unfolding verdict
+    refused-row (single lent x) a p e = go (lt-or-le lent (M .needed))
       where
-        run-row : Found 0 xs a p → RefusedWith M s (runOf true xs b) a p
-        run-row f = rw (f .number, there) (unnamed-run (f .first))
-          where
-            there : p ≡ f .at
-            there = omega (arith, f .place)
-    refused-row (runOf false xs b) a p e = moved e short-run
+        go : (lent < M .needed) ⊎ (M .needed ≤ lent) → RefusedWith M s (single lent x) a p
+        go (inl l) = moved (sym (short lent (openSingle M s x) l) ∙ e) (short-single l)
+        go (inr l) = single-row lent x a p l (sym (enough lent (openSingle M s x) l) ∙ e)
+    refused-row (runOf lent xs b) a p e = go (lt-or-le lent (M .needed))
+      where
+        go : (lent < M .needed) ⊎ (M .needed ≤ lent) → RefusedWith M s (runOf lent xs b) a p
+        go (inl l) = moved (sym (short lent (allNamed M 0 xs) l) ∙ e) (short-run l)
+        go (inr l) = run-row lent xs b a p l (refused-first 0 xs a p (sym (enough lent (allNamed M 0 xs) l) ∙ e))
 
     pub refuses-exactly : (c : Call) (a p : ℕ) → (verdict M s c ≡ refusal a p) ↔ RefusedWith M s c a p
     refuses-exactly c a p = (refused-row c a p, λ r. row-refuses r)

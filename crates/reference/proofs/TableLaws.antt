@@ -4,6 +4,7 @@ use native.Mathlib.Omega.{arith}
 use mathlib.Core.Bool.{Bool, true, false}
 use mathlib.Core.List.{List, [], _∷_, _++_}
 use mathlib.Core.Path.{_≡_, refl, sym, _∙_}
+use lib.Dec.{leb}
 use Rattle.reference.specs.State.{Machine, State}
 use Rattle.reference.specs.Step.{Step, named, isOpen}
 use Rattle.reference.specs.Table.{single, Verdict, accepted, refusal, ifLent, allNamed, openSingle, verdict}
@@ -25,15 +26,19 @@ module _ (M : Machine) where
   single-passes s x e h = rw (e, h, openSingle)
 
   -- A single step that the table lets through is open.
-  pub single-open : (s : State) (lent : Bool) (x : Step) → verdict M s (single lent x) ≡ accepted → isOpen M s x ≡ true
-  unfolding verdict ifLent
-  single-open s true x e = go (named M x) (isOpen M s x) refl refl
+  let-through : (s : State) (enough : Bool) (x : Step) → ifLent enough (openSingle M s x) ≡ accepted → isOpen M s x ≡ true
+  unfolding ifLent
+  let-through s true x e = go (named M x) (isOpen M s x) refl refl
     where
       go : (p q : Bool) → named M x ≡ p → isOpen M s x ≡ q → isOpen M s x ≡ true
       go true true a h = h
       go true false a h = absurd (not-accepted (openSingle M s x) 8 0 (single-shut s x a h) e)
       go false q a h = absurd (not-accepted (openSingle M s x) 7 0 (single-unnamed s x a) e)
-  single-open s false x e = absurd (not-accepted (refusal 9 0) 9 0 refl e)
+  let-through s false x e = absurd (not-accepted (refusal 9 0) 9 0 refl e)
+
+  pub single-open : (s : State) (lent : ℕ) (x : Step) → verdict M s (single lent x) ≡ accepted → isOpen M s x ≡ true
+  unfolding verdict
+  single-open s lent x e = let-through s (leb (M .needed) lent) x e
 
   pub named-step : (p : ℕ) (x : Step) (xs : List Step) → named M x ≡ true → allNamed M p (x ∷ xs) ≡ allNamed M (suc p) xs
   unfolding allNamed

@@ -23,7 +23,7 @@ pub record CallClaims : Type 1 where
   -- A call is refused exactly under the conditions of the table, with its first place.
   pub refuses-exactly : (M : Machine) (s : State) (c : Call) (a p : ℕ) → (verdict M s c ≡ refusal a p) ↔ RefusedWith M s c a p
   -- A single step that is not refused is open.
-  pub single-open : (M : Machine) (s : State) (lent : Bool) (x : Step) → verdict M s (single lent x) ≡ accepted → isOpen M s x ≡ true
+  pub single-open : (M : Machine) (s : State) (lent : ℕ) (x : Step) → verdict M s (single lent x) ≡ accepted → isOpen M s x ≡ true
   -- A list of calls changes the state by open steps alone, as many as its answers tell of.
   pub calls-reach : (M : Machine) (s : State) (cs : List Call) → Reaches M s (after M s cs) (takenInAll (replies M s cs))
   -- The taken count is the number of single steps taken plus the numbers that the runs returned, or 999,999 if that is more.
@@ -32,11 +32,11 @@ pub record CallClaims : Type 1 where
   pub ceiling-holds : (M : Machine) (cs : List Call) → takenInAll (replies M fresh cs) ≤ ceiling (M .carriers)
   -- A point inside a run that is not turned away is the end of the same run with its list cut there, and the rest of the list, with
   -- what is left of the budget, counts as a later call.
-  pub cut-state : (M : Machine) (s : State) (xs ys : List Step) (b : ℕ) → allNamed M 0 (xs ++ ys) ≡ accepted →
-      after M s (runOf true (xs ++ ys) b ∷ []) ≡ after M s (runOf true xs b ∷ runOf true ys (b - run M s xs b .taken) ∷ [])
-  pub cut-taken : (M : Machine) (s : State) (xs ys : List Step) (b : ℕ) → allNamed M 0 (xs ++ ys) ≡ accepted →
-      takenInAll (replies M s (runOf true (xs ++ ys) b ∷ [])) ≡
-      takenInAll (replies M s (runOf true xs b ∷ runOf true ys (b - run M s xs b .taken) ∷ []))
+  pub cut-state : (M : Machine) (lent : ℕ) → M .needed ≤ lent → (s : State) (xs ys : List Step) (b : ℕ) → allNamed M 0 (xs ++ ys) ≡ accepted →
+      after M s (runOf lent (xs ++ ys) b ∷ []) ≡ after M s (runOf lent xs b ∷ runOf lent ys (b - run M s xs b .taken) ∷ [])
+  pub cut-taken : (M : Machine) (lent : ℕ) → M .needed ≤ lent → (s : State) (xs ys : List Step) (b : ℕ) → allNamed M 0 (xs ++ ys) ≡ accepted →
+      takenInAll (replies M s (runOf lent (xs ++ ys) b ∷ [])) ≡
+      takenInAll (replies M s (runOf lent xs b ∷ runOf lent ys (b - run M s xs b .taken) ∷ []))
   -- If the first k carriers are quiet after a list of calls, their answers are the sequential planner's first k.
   pub quiet-answers : (M : Machine) (cs : List Call) (k : ℕ) → k ≤ M .carriers → quiet k (after M fresh cs) ≡ true →
       below k (after M fresh cs .answer) ≡ take k (sequential (M .respond) (M .carriers))

@@ -9,9 +9,10 @@ use Rattle.reference.specs.State.{Machine}
 use Rattle.reference.specs.Step.{plan, deliver}
 use Rattle.reference.specs.Table.{Call, single}
 
--- The machine of a floor with no wall: width, cells, horizon, depth, and the carriers' starts and goals.
+-- The machine of a floor with no wall: width, cells, horizon, depth, and the carriers' starts and goals. A state of length 1 or more is
+-- long enough.
 abbrev pub machine : ℕ → ℕ → ℕ → ℕ → List ℕ → List ℕ → Machine
-machine w cells H depth starts goals = record { carriers = length starts; depth = depth; respond = λ i vs. best (task i) vs }
+machine w cells H depth starts goals = record { carriers = length starts; depth = depth; needed = 1; respond = λ i vs. best (task i) vs }
   where
     task : ℕ → Task
     task i = record { width = w; cells = cells; horizon = H; start = getD starts i 0; goal = getD goals i 0; free = λ c. true }
@@ -26,10 +27,10 @@ padded r = r ++ replicate (64 - length r) 0
 
 -- The calls of floors 4, 5 and 9.
 abbrev pub calls4 : List Call
-calls4 = single true (plan 1) ∷ single true (plan 0) ∷ single true (deliver 0 1) ∷ single true (plan 1) ∷ []
+calls4 = single 1 (plan 1) ∷ single 1 (plan 0) ∷ single 1 (deliver 0 1) ∷ single 1 (plan 1) ∷ []
 
 abbrev pub calls5 : List Call
-calls5 = single true (plan 0) ∷ single true (deliver 0 1) ∷ single true (plan 1) ∷ []
+calls5 = single 1 (plan 0) ∷ single 1 (deliver 0 1) ∷ single 1 (plan 1) ∷ []
 
 -- The answers of floor 2.
 abbrev pub answers2 : List Answer

@@ -1,6 +1,6 @@
 -- The table of refusals of a call, one constructor a row, with number and place, under exactly document 01's condition; each holds
 -- only where no earlier row does. A claim says that `verdict` is this table.
-use Prim.Native.Nat.{ℕ, _<_}
+use Prim.Native.Nat.{ℕ, _≤_, _<_}
 use mathlib.Core.Bool.{true, false}
 use mathlib.Core.List.{List}
 use mathlib.Core.Path.{_≡_}
@@ -17,10 +17,10 @@ pub record FirstUnnamed (M : Machine) (xs : List Step) (p : ℕ) : Type 0 where
 
 pub data RefusedWith (M : Machine) (s : State) : Call → ℕ → ℕ → Type 0 where
   -- 9, 0: lent memory is too short.
-  short-single : {x : Step} → RefusedWith M s (single false x) 9 0
-  short-run : {xs : List Step} {b : ℕ} → RefusedWith M s (runOf false xs b) 9 0
+  short-single : {lent : ℕ} {x : Step} → lent < M .needed → RefusedWith M s (single lent x) 9 0
+  short-run : {lent : ℕ} {xs : List Step} {b : ℕ} → lent < M .needed → RefusedWith M s (runOf lent xs b) 9 0
   -- 7, position: a single step has 0, a step of a run its position in the list.
-  unnamed-single : {x : Step} → named M x ≡ false → RefusedWith M s (single true x) 7 0
-  unnamed-run : {xs : List Step} {b p : ℕ} → FirstUnnamed M xs p → RefusedWith M s (runOf true xs b) 7 p
+  unnamed-single : {lent : ℕ} {x : Step} → M .needed ≤ lent → named M x ≡ false → RefusedWith M s (single lent x) 7 0
+  unnamed-run : {lent : ℕ} {xs : List Step} {b p : ℕ} → M .needed ≤ lent → FirstUnnamed M xs p → RefusedWith M s (runOf lent xs b) 7 p
   -- 8, 0: a single step is not open.
-  not-open : {x : Step} → named M x ≡ true → isOpen M s x ≡ false → RefusedWith M s (single true x) 8 0
+  not-open : {lent : ℕ} {x : Step} → M .needed ≤ lent → named M x ≡ true → isOpen M s x ≡ false → RefusedWith M s (single lent x) 8 0

@@ -6,10 +6,12 @@ use mathlib.Core.List.{List, []}
 use Rattle.route.specs.Route.{Answer, none, View, unheard}
 use Rattle.reference.specs.Ranges.{below}
 
--- What the machine is given of a floor: its carriers, its channel depth, and the best response of a carrier to its views.
+-- What the machine is given of a floor: its carriers, its channel depth, the documented needed length of its lent state, and the best
+-- response of a carrier to its views.
 pub record Machine : Type 0 where
   pub carriers : ℕ
   pub depth : ℕ
+  pub needed : ℕ
   pub respond : ℕ → List View → Answer
 
 -- The state: planned, due and answer of each carrier; its view of each carrier above it; a FIFO channel for each pair of a sender

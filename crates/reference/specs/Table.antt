@@ -2,14 +2,15 @@
 -- state of the machine's own is never refused with 10.
 use Prim.Native.Nat.{ℕ, suc}
 use mathlib.Core.Bool.{Bool, true, false}
+use lib.Dec.{leb}
 use mathlib.Core.List.{List, [], _∷_}
 use Rattle.reference.specs.State.{Machine, State}
 use Rattle.reference.specs.Step.{Step, named, isOpen}
 
--- A call: a single step, or a run of a list with a budget; `lent` says whether the lent memory is long enough.
+-- A call: a single step, or a run of a list with a budget, each with the length of the state that is lent to it.
 pub data Call : Type 0 where
-  single : (lent : Bool) → Step → Call
-  runOf : (lent : Bool) → List Step → (budget : ℕ) → Call
+  single : (lent : ℕ) → Step → Call
+  runOf : (lent : ℕ) → List Step → (budget : ℕ) → Call
 
 -- What the table of refusals says of a call: no refusal, or a number and a place.
 pub data Verdict : Type 0 where
@@ -18,7 +19,7 @@ pub data Verdict : Type 0 where
 
 -- 9, 0 if lent memory is too short; otherwise what follows.
 unfoldable pub ifLent : Bool → Verdict → Verdict
-ifLent lent v = elim lent [ true ↦ v | false ↦ refusal 9 0 ]
+ifLent enough v = elim enough [ true ↦ v | false ↦ refusal 9 0 ]
 
 -- 7 with the place of the first step of a list that is not named, its first step having place p; otherwise accepted.
 unfoldable pub allNamed : Machine → ℕ → List Step → Verdict
@@ -31,5 +32,5 @@ openSingle M s x = elim (named M x) [ true ↦ elim (isOpen M s x) [ true ↦ ac
 
 -- What the table says of a call on state s.
 unfoldable pub verdict : Machine → State → Call → Verdict
-verdict M s (single lent x) = ifLent lent (openSingle M s x)
-verdict M s (runOf lent xs b) = ifLent lent (allNamed M 0 xs)
+verdict M s (single lent x) = ifLent (leb (M .needed) lent) (openSingle M s x)
+verdict M s (runOf lent xs b) = ifLent (leb (M .needed) lent) (allNamed M 0 xs)
