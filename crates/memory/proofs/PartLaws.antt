@@ -4,11 +4,8 @@ use native.Mathlib.Omega.{arith}
 use mathlib.Core.Path.{_≡_, refl, sym, _∙_, ap}
 use mathlib.Core.List.{List, [], _++_}
 use lib.ListN.{length, take, drop, getD, length-append, length-take, length-drop}
+use Rattle.memory.specs.Memory.{part}
 use lib.Seq.{getD-take, getD-drop, take-add, drop-drop, ext-getD, take-at, drop-at, take-all, length-take-le}
-
--- The n bytes from a column on.
-pub part : List ℕ → ℕ → ℕ → List ℕ
-part text at n = take n (drop at text)
 
 module _ (text : List ℕ) where
   pub part-byte : (at n i : ℕ) → i < n → getD (part text at n) i 0 ≡ getD text (at + i) 0

@@ -1,0 +1,1 @@
+-- The simulation of the reference machine by the memory, and the claim.

@@ -1,0 +1,57 @@
+-- A state of the reference machine as numbers in memory.
+use Prim.Native.Nat.{ℕ, zero, suc, _+_, _*_, _/_, _%_}
+use mathlib.Core.Bool.{Bool, true, false}
+use mathlib.Core.List.{List, [], _∷_, _++_}
+use lib.ListN.{length}
+use Rattle.route.specs.Route.{Answer, View, unheard, heard}
+use Rattle.planner.specs.Records.{recordOf}
+use Rattle.reference.specs.State.{State}
+
+-- A flag: 0 or 1.
+unfoldable pub flag : Bool → ℕ
+flag false = 0
+flag true = 1
+
+-- A list cut or filled up with zeros to k numbers.
+unfoldable pub fit : ℕ → List ℕ → List ℕ
+fit zero xs = []
+fit (suc k) [] = 0 ∷ fit k []
+fit (suc k) (x ∷ xs) = x ∷ fit k xs
+
+-- The record of a view: zeros where nothing is heard, otherwise the record of the answer.
+unfoldable pub slot : View → List ℕ
+slot unheard = fit 65 []
+slot (heard a) = fit 65 (recordOf a)
+
+-- The first k places of a channel: its messages, oldest first, then zeros.
+unfoldable pub slots : ℕ → List Answer → List ℕ
+slots zero l = []
+slots (suc k) [] = slot unheard ++ slots k []
+slots (suc k) (a ∷ l) = slot (heard a) ++ slots k l
+
+-- A channel: how many messages it has, and its four places.
+unfoldable pub channelBlock : List Answer → List ℕ
+channelBlock l = length l ∷ slots 4 l
+
+-- A carrier: planned, due, its answer.
+unfoldable pub carrierBlock : State → ℕ → List ℕ
+carrierBlock s i = flag (s .planned i) ∷ (flag (s .due i) ∷ slot (heard (s .answer i)))
+
+-- The taken count: thousands and rest.
+unfoldable pub countBlock : ℕ → List ℕ
+countBlock t = t / 1000 ∷ (t % 1000 ∷ [])
+
+-- The blocks 0 to k − 1, one behind the other.
+unfoldable pub blocks : ℕ → (ℕ → List ℕ) → List ℕ
+blocks zero b = []
+blocks (suc k) b = blocks k b ++ b k
+
+-- The blocks of all pairs of a receiver i below n and a sender j above it.
+unfoldable pub pairs : ℕ → (ℕ → ℕ → List ℕ) → List ℕ
+pairs n b = blocks n (λ i. blocks i (b i))
+
+-- The state of n carriers.
+unfoldable pub encode : ℕ → State → List ℕ
+encode n s =
+    countBlock (s .taken)
+    ++ (blocks n (carrierBlock s) ++ (pairs n (λ i j. slot (s .view i j)) ++ pairs n (λ i j. channelBlock (s .chan i j))))

@@ -1,0 +1,109 @@
+-- What the steps do to memory, number for number, for the reference machine M that the memory is a state of.
+use Prim.Native.Nat.{ℕ, zero, suc, _+_, _*_, _-_}
+use mathlib.Core.Bool.{Bool, true, false, _&&_, _||_, not, cond}
+use mathlib.Core.List.{List, [], _∷_}
+use lib.Dec.{leb, ltb, eqb}
+use lib.ListN.{getD}
+use Rattle.memory.specs.Memory.{put, part}
+use Rattle.route.specs.Route.{Answer, View}
+use Rattle.planner.specs.Records.{recordOf}
+use Rattle.reference.specs.Ranges.{each, below}
+use Rattle.reference.specs.State.{Machine}
+use Rattle.reference.specs.Step.{Step, plan, deliver, noKind, named, sameCells}
+use Rattle.reference.specs.Take.{StepAnswer, kept, sent, delivered}
+use Rattle.layout.specs.Places.{plannedPlace, duePlace, answerPlace, viewPlace, channelPlace}
+use Rattle.layout.specs.Encode.{fit}
+use Rattle.layout.specs.Decode.{recordAt}
+
+-- Every channel from carrier i, to a carrier k below it, has fewer than depth messages.
+unfoldable pub roomIn : Machine → List ℕ → ℕ → Bool
+roomIn M m i = each (M .carriers) (λ k. leb k i || ltb (getD m (channelPlace (M .carriers) k i) 0) (M .depth))
+
+-- Plan i: i is due and every channel from i has room. Deliver j to i: the channel has a message.
+unfoldable pub readyIn : Machine → List ℕ → Step → Bool
+readyIn M m (plan i) = eqb (getD m (duePlace i) 0) 1 && roomIn M m i
+readyIn M m (deliver j i) = not (eqb (getD m (channelPlace (M .carriers) i j) 0) 0)
+readyIn M m noKind = false
+
+-- The step is open: it is there, and ready.
+unfoldable pub openIn : Machine → List ℕ → Step → Bool
+openIn M m x = named M x && readyIn M m x
+
+-- Neither the plan of carrier i nor a delivery to it is open.
+unfoldable pub noneOpenIn : Machine → List ℕ → ℕ → Bool
+noneOpenIn M m i = not (openIn M m (plan i)) && each i (λ j. not (openIn M m (deliver j i)))
+
+-- Silent: no step is open.
+unfoldable pub silentIn : Machine → List ℕ → Bool
+silentIn M m = each (M .carriers) (noneOpenIn M m)
+
+-- One more step is counted; the count stays at 999,999 once there.
+unfoldable pub ticked : List ℕ → List ℕ
+ticked m =
+    cond
+    (ltb (getD m 1 0) 999)
+    (put m 1 ((getD m 1 0 + 1) ∷ []))
+    (cond (ltb (getD m 0 0) 999) (put m 0 ((getD m 0 0 + 1) ∷ (0 ∷ []))) m)
+
+-- The record at one place copied to another.
+unfoldable pub moved : List ℕ → ℕ → ℕ → List ℕ
+moved m from to = put m to (part m from 65)
+
+-- A channel at place c without its oldest message: the others move up, the last place is cleared.
+unfoldable pub shifted : List ℕ → ℕ → List ℕ
+shifted m c = put (moved (moved (moved m (c + 66) (c + 1)) (c + 131) (c + 66)) (c + 196) (c + 131)) (c + 196) (fit 65 [])
+
+unfoldable pub popped : List ℕ → ℕ → List ℕ
+popped m c = put (shifted m c) c ((getD m c 0 - 1) ∷ [])
+
+-- The oldest message from j leaves its channel and becomes the view that i has of j; i becomes due.
+unfoldable pub deliveredIn : ℕ → List ℕ → ℕ → ℕ → List ℕ
+deliveredIn n m j i =
+    ticked (put (popped (moved m (channelPlace n i j + 1) (viewPlace n i j)) (channelPlace n i j)) (duePlace i) (1 ∷ []))
+
+-- A channel at place c with a record put last; a channel has four places.
+unfoldable pub pushed : List ℕ → ℕ → List ℕ → List ℕ
+pushed m c rec =
+    cond (ltb (getD m c 0) 4) (put (put m (c + 1 + 65 * getD m c 0) rec) c ((getD m c 0 + 1) ∷ [])) m
+
+-- A record put last on the channel from i to k, where k is below i.
+unfoldable pub pushedBelow : ℕ → ℕ → List ℕ → List ℕ → ℕ → List ℕ
+pushedBelow n i rec m k = cond (ltb i k) (pushed m (channelPlace n k i) rec) m
+
+-- A record put last on every channel from i to one of the first k carriers.
+unfoldable pub sentTo : ℕ → ℕ → List ℕ → List ℕ → ℕ → List ℕ
+sentTo n i rec m zero = m
+sentTo n i rec m (suc k) = pushedBelow n i rec (sentTo n i rec m k) k
+
+-- A record is news from carrier i: i had not planned before, or its answer changed.
+unfoldable pub newsIn : List ℕ → ℕ → List ℕ → Bool
+newsIn m i rec = not (eqb (getD m (plannedPlace i) 0) 1 && sameCells (part m (answerPlace i) 65) rec)
+
+-- Carrier i plans an answer with this record: it has planned, is no longer due, and sends the record if it is news.
+unfoldable pub plannedIn : ℕ → List ℕ → ℕ → List ℕ → List ℕ
+plannedIn n m i rec =
+    ticked
+    (cond
+    (newsIn m i rec)
+    (sentTo n i rec (put m (plannedPlace i) (1 ∷ (0 ∷ rec))) n)
+    (put m (plannedPlace i) (1 ∷ (0 ∷ rec))))
+
+-- The views of carrier i, of the carriers above it in their order.
+unfoldable pub viewsIn : ℕ → List ℕ → ℕ → List View
+viewsIn n m i = below i (λ j. recordAt m (viewPlace n i j))
+
+-- The best answer of carrier i to its views.
+unfoldable pub bestIn : Machine → List ℕ → ℕ → Answer
+bestIn M m i = M .respond i (viewsIn (M .carriers) m i)
+
+-- The memory after an open step.
+unfoldable pub takenIn : Machine → List ℕ → Step → List ℕ
+takenIn M m (plan i) = plannedIn (M .carriers) m i (recordOf (bestIn M m i))
+takenIn M m (deliver j i) = deliveredIn (M .carriers) m j i
+takenIn M m noKind = m
+
+-- The answer of an open step.
+unfoldable pub saidIn : Machine → List ℕ → Step → StepAnswer
+saidIn M m (plan i) = cond (newsIn m i (recordOf (bestIn M m i))) sent kept
+saidIn M m (deliver j i) = delivered
+saidIn M m noKind = delivered

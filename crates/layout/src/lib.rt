@@ -1,0 +1,1 @@
+// The machine's state as it lies in lent memory: definitions and their laws; no code.
