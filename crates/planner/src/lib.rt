@@ -15,6 +15,8 @@ ghost use Rattle.planner.specs.Answers.{resultOf, madeIf, planResult, Pl
 use floor::Checked;
 use floor::Floor;
 use floor::Refusal;
+pub use records::store;
+pub use records::tag_of;
 
 // What planning says.
 pub enum Planned {

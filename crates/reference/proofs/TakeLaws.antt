@@ -6,19 +6,24 @@ use mathlib.Core.Path.{_≡_, refl, ap}
 use lib.Dec.{eqb}
 use borrow.Author.Tests.{eqb-true, eq-eqb, ne-eqb, lt-ltb, le-ltb, not-false}
 use Rattle.route.specs.Route.{Answer, none, route}
-use Rattle.route.proofs.Tests.{and-fst, and-snd, true-false-absurd}
+use Rattle.route.proofs.Tests.{and-both, and-fst, and-snd, true-false-absurd}
 use Rattle.reference.specs.State.{State}
 use Rattle.reference.specs.Step.{sameCells, sameAnswer}
 use Rattle.reference.specs.Take.{isNews, send, planAs, oldest, newer, deliverTo}
 use Rattle.reference.proofs.RangeLaws.{put-same, put-other, pair-same, pair-other, pair-other-row}
 
-same-cells : (q r : List ℕ) → sameCells q r ≡ true → q ≡ r
+pub same-cells : (q r : List ℕ) → sameCells q r ≡ true → q ≡ r
 unfolding sameCells
 same-cells [] [] e = refl
 same-cells [] (d ∷ r) e = true-false-absurd e refl
 same-cells (c ∷ q) [] e = true-false-absurd e refl
 same-cells (c ∷ q) (d ∷ r) e =
     rw (eqb-true c d (and-fst (eqb c d) (sameCells q r) e), same-cells q r (and-snd (eqb c d) (sameCells q r) e))
+
+pub cells-same : (r : List ℕ) → sameCells r r ≡ true
+unfolding sameCells
+cells-same [] = refl
+cells-same (c ∷ r) = and-both (eq-eqb c c refl) (cells-same r)
 
 same-answer : (a b : Answer) → sameAnswer a b ≡ true → a ≡ b
 unfolding sameAnswer

@@ -1,0 +1,48 @@
+use Rattle.memory.proofs.PutLaws.{put-one}
+use denote.Ref.{now}
+use lib.ListN.{getD}
+use mathlib.Core.Path.{refl, _∙_}
+use Prim.Native.Nat.{_-_}
+use Rattle.layout.specs.Steps.{popped}
+use native.Mathlib.Omega.{arith}
+use borrow.Author.Needs.{needs}
+use Rattle.state.proofs.channels.pop.Statement.{statement}
+use Rattle.state.proofs.channels.pop.Tie as tie
+
+mul-count : tie.Need-mul-count
+mul-count c = search needs
+
+slice-read-count : tie.Need-slice-read-count
+slice-read-count c = search needs
+
+shift-requires : tie.Need-shift-requires
+shift-requires c κs = search needs
+
+sub-m : tie.Need-sub-m
+sub-m c = search needs
+
+mul-m : tie.Need-mul-m
+mul-m c = search needs
+
+slice-write-m : tie.Need-slice-write-m
+slice-write-m c = search needs
+
+same-length : tie.Need-same-length
+same-length c = search needs
+
+returns : tie.Need-returns
+unfolding popped
+returns c = put-one (c .before .before .shift .last .0) (c .before .before .before .before .before .before .args .c) (getD (c .before .before .before .before .before .before .args .m .now) (c .before .before .before .before .before .before .args .c) 0 - 1) (omega (arith, c .before .before .before .before .before .before .pre)) ∙ rw (c .before .before .shift .ensures) refl
+
+pub pop-spec : {M : Type 1} → statement M
+pop-spec =
+    tie.close
+    (tie.spec
+    mul-count
+    slice-read-count
+    shift-requires
+    sub-m
+    mul-m
+    slice-write-m
+    same-length
+    returns)

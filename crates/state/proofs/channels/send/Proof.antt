@@ -1,0 +1,52 @@
+use mathlib.Core.List.{_∷_}
+use lib.ListN.{length}
+use mathlib.Core.Path.{_≡_, refl, _∙_}
+use Prim.Native.Nat.{_-_, _≤_}
+use Rattle.layout.specs.Steps.{sentTo}
+use Rattle.state.proofs.RecordLaws.{send-more}
+use borrow.Author.Needs.{needs}
+use native.Mathlib.Omega.{arith}
+use Rattle.state.proofs.channels.send.Statement.{statement}
+use Rattle.state.proofs.channels.send.Tie as tie
+
+abbrev Inv-loop : tie.InvT-loop
+Inv-loop m₀ n i tag cells k₀ m k = (k ≤ n) × ((length m ≡ length m₀) × (m ≡ sentTo n i (tag ∷ cells) m₀ k))
+
+abbrev μ-loop : tie.MeasureT-loop
+μ-loop m₀ n i tag cells k₀ m k = n - k
+
+loop-holds : tie.Need-loop-holds Inv-loop μ-loop
+unfolding sentTo
+loop-holds c = (omega arith, (refl, refl))
+
+push-below-requires : tie.Need-push-below-requires Inv-loop μ-loop
+push-below-requires c κs = (c .before .before .before .before .pre .0, c .before .loop-test .taken, c .before .before .before .before .pre .1, omega (arith, c .before .before .loop .inv .1 .0, c .before .before .before .before .pre .2))
+
+add-k : tie.Need-add-k Inv-loop μ-loop
+add-k c = search needs
+
+loop-less : tie.Need-loop-less Inv-loop μ-loop
+loop-less c = search needs
+
+loop-again : tie.Need-loop-again Inv-loop μ-loop
+loop-again c = (search needs, (c .before .before .push-below .kept .0 ∙ c .before .before .before .before .before .loop .inv .1 .0, send-more _ _ _ _ _ _ _ (c .before .before .before .before .before .loop .inv .1 .1) (c .before .before .push-below .ensures)))
+
+same-length : tie.Need-same-length Inv-loop μ-loop
+same-length c = c .before .loop .inv .1 .0
+
+returns : tie.Need-returns Inv-loop μ-loop
+returns c = let same : c .before .loop .k ≡ c .before .before .before .args .n = omega arith in c .before .loop .inv .1 .1 ∙ rw same refl
+
+pub send-spec : {M : Type 1} → statement M
+send-spec =
+    tie.close
+    (tie.spec
+    Inv-loop
+    μ-loop
+    loop-holds
+    push-below-requires
+    add-k
+    loop-less
+    loop-again
+    same-length
+    returns)

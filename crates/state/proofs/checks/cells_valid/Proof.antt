@@ -1,0 +1,68 @@
+use borrow.Author.Tests.{not-true, not-false}
+use mathlib.Core.Bool.{true}
+use Rattle.reference.specs.Ranges.{each}
+use lib.ListN.{getD}
+use mathlib.Core.Path.{_≡_, refl, sym, _∙_}
+use Prim.Native.Nat.{_+_, _-_, _≤_}
+use Rattle.layout.specs.Valid.{cellValid, cellsValid}
+use Rattle.state.proofs.EachLaws.{each-more, each-stop, each-end}
+use borrow.Author.Needs.{needs}
+use native.Mathlib.Omega.{arith}
+use Rattle.state.proofs.checks.cells_valid.Statement.{statement}
+use Rattle.state.proofs.checks.cells_valid.Tie as tie
+
+abbrev Inv-loop : tie.InvT-loop
+Inv-loop m at used cells t₀ t = (t ≤ 64) × (each t (λ q. cellValid used cells q (getD m (at + q) 0)) ≡ true)
+
+abbrev μ-loop : tie.MeasureT-loop
+μ-loop m at used cells t₀ t = 64 - t
+
+loop-holds : tie.Need-loop-holds Inv-loop μ-loop
+unfolding each
+loop-holds c = (omega arith, refl)
+
+add-cell-valid : tie.Need-add-cell-valid Inv-loop μ-loop
+add-cell-valid c = search needs
+
+mul-cell-valid : tie.Need-mul-cell-valid Inv-loop μ-loop
+mul-cell-valid c = search needs
+
+shared-slice-read-cell-valid : tie.Need-shared-slice-read-cell-valid Inv-loop μ-loop
+shared-slice-read-cell-valid c = search needs
+
+cell-valid-requires : tie.Need-cell-valid-requires Inv-loop μ-loop
+cell-valid-requires c κs = search needs
+
+returns : tie.Need-returns Inv-loop μ-loop
+unfolding cellsValid
+returns c = each-stop _ _ _ (c .before .before .before .loop-test .taken) (sym (c .before .cell-valid .ensures) ∙ not-true _ (c .if1 .taken))
+
+add-t : tie.Need-add-t Inv-loop μ-loop
+add-t c = search needs
+
+loop-less : tie.Need-loop-less Inv-loop μ-loop
+loop-less c = search needs
+
+loop-again : tie.Need-loop-again Inv-loop μ-loop
+loop-again c = (search needs, each-more _ _ (c .before .before .before .before .loop .inv .1) (sym (c .before .cell-valid .ensures) ∙ not-false _ (c .if1 .left)))
+
+returns-2 : tie.Need-returns-2 Inv-loop μ-loop
+unfolding cellsValid
+returns-2 c = each-end _ _ _ (c .before .loop .inv .0) (omega arith) (c .before .loop .inv .1)
+
+pub cells-valid-spec : {M : Type 1} → statement M
+cells-valid-spec =
+    tie.close
+    (tie.spec
+    Inv-loop
+    μ-loop
+    loop-holds
+    add-cell-valid
+    mul-cell-valid
+    shared-slice-read-cell-valid
+    cell-valid-requires
+    returns
+    add-t
+    loop-less
+    loop-again
+    returns-2)

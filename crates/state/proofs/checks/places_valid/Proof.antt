@@ -1,0 +1,53 @@
+use borrow.Author.Tests.{not-true, not-false}
+use mathlib.Core.Bool.{true}
+use Rattle.reference.specs.Ranges.{each}
+use mathlib.Core.Path.{_≡_, refl, sym, _∙_}
+use Prim.Native.Nat.{_-_, _≤_}
+use Rattle.layout.specs.Valid.{placeValid}
+use Rattle.state.proofs.EachLaws.{each-more, each-stop, each-end}
+use borrow.Author.Needs.{needs}
+use native.Mathlib.Omega.{arith}
+use Rattle.state.proofs.checks.places_valid.Statement.{statement}
+use Rattle.state.proofs.checks.places_valid.Tie as tie
+
+abbrev Inv-loop : tie.InvT-loop
+Inv-loop f m at count q₀ q = (q ≤ 4) × (each q (placeValid f m at count) ≡ true)
+
+abbrev μ-loop : tie.MeasureT-loop
+μ-loop f m at count q₀ q = 4 - q
+
+loop-holds : tie.Need-loop-holds Inv-loop μ-loop
+unfolding each
+loop-holds c = (omega arith, refl)
+
+place-valid-requires : tie.Need-place-valid-requires Inv-loop μ-loop
+place-valid-requires c κs = search needs
+
+returns : tie.Need-returns Inv-loop μ-loop
+returns c = each-stop _ _ _ (c .before .before .loop-test .taken) (sym (c .before .place-valid .ensures) ∙ not-true _ (c .if1 .taken))
+
+add-q : tie.Need-add-q Inv-loop μ-loop
+add-q c = search needs
+
+loop-less : tie.Need-loop-less Inv-loop μ-loop
+loop-less c = search needs
+
+loop-again : tie.Need-loop-again Inv-loop μ-loop
+loop-again c = (search needs, each-more _ _ (c .before .before .before .loop .inv .1) (sym (c .before .place-valid .ensures) ∙ not-false _ (c .if1 .left)))
+
+returns-2 : tie.Need-returns-2 Inv-loop μ-loop
+returns-2 c = each-end _ _ _ (c .before .loop .inv .0) (omega arith) (c .before .loop .inv .1)
+
+pub places-valid-spec : {M : Type 1} → statement M
+places-valid-spec =
+    tie.close
+    (tie.spec
+    Inv-loop
+    μ-loop
+    loop-holds
+    place-valid-requires
+    returns
+    add-q
+    loop-less
+    loop-again
+    returns-2)

@@ -1,0 +1,45 @@
+use mathlib.Core.Path.{refl}
+use Prim.Native.Nat.{_-_}
+use Rattle.layout.specs.Places.{viewPlace, stateSize}
+use Rattle.state.proofs.PlaceLaws.{pairs-most, pair-below}
+use native.Mathlib.Omega.{arith}
+use borrow.Author.Needs.{needs}
+use Rattle.state.proofs.places.view_place.Statement.{statement}
+use Rattle.state.proofs.places.view_place.Tie as tie
+
+mul-result : tie.Need-mul-result
+mul-result c = search needs
+
+add-result : tie.Need-add-result
+add-result c = search needs
+
+pairs-before-requires : tie.Need-pairs-before-requires
+pairs-before-requires c κs = search needs
+
+add-result-2 : tie.Need-add-result-2
+add-result-2 c = search needs
+
+mul-result-2 : tie.Need-mul-result-2
+mul-result-2 c = search needs
+
+add-result-3 : tie.Need-add-result-3
+add-result-3 c = search needs
+
+returns : tie.Need-returns
+unfolding viewPlace stateSize
+returns c = let a = c .pairs-before .ensures in
+    let l = pair-below (c .before .args .n) (c .before .args .i) (c .before .args .j) (c .before .pre .0) (c .before .pre .1) in
+    let most = pairs-most (c .before .args .n) (c .before .pre .2) in
+    (rw (a .0) refl, omega arith, omega arith)
+
+pub view-place-spec : {M : Type 1} → statement M
+view-place-spec =
+    tie.close
+    (tie.spec
+    mul-result
+    add-result
+    pairs-before-requires
+    add-result-2
+    mul-result-2
+    add-result-3
+    returns)

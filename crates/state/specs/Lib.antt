@@ -1,0 +1,1 @@
+-- The definitions that these functions are proved against are those of `layout`.

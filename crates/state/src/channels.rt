@@ -1,0 +1,66 @@
+// Channels: a length and four records, oldest first.
+ghost use mathlib.Core.Path.{_≡_};
+ghost use mathlib.Core.List.{_∷_};
+ghost use Prim.Native.Nat.{_+_, _≤_, _<_};
+ghost use lib.ListN.{length, getD};
+ghost use Rattle.layout.specs.Places.{stateSize};
+ghost use Rattle.layout.specs.Steps.{shifted, popped, pushed, pushedBelow, sentTo};
+use route::Route;
+
+// The messages behind the oldest move up, and the last place is cleared.
+fn shift(m: &mut [u16], c: usize)
+    requires { ⌜ c + 261 ≤ length (now m) ⌝ }
+    ensures { λ r. ⌜ now (m .exit) ≡ shifted (now (m .entry)) c ⌝ }
+{
+    crate::records::move_record(m, c + 66, c + 1);
+    crate::records::move_record(m, c + 131, c + 66);
+    crate::records::move_record(m, c + 196, c + 131);
+    crate::records::clear_record(m, c + 196);
+}
+
+// The oldest message leaves the channel at place c.
+pub fn pop(m: &mut [u16], c: usize)
+    requires { ⌜ (c + 261 ≤ length (now m)) × (1 ≤ getD (now m) c 0) ⌝ }
+    ensures { λ r. ⌜ now (m .exit) ≡ popped (now (m .entry)) c ⌝ }
+{
+    let count = m[c];
+    shift(m, c);
+    m[c] = count - 1;
+}
+
+// Puts an answer last on the channel at place c, if it has room.
+fn push(m: &mut [u16], c: usize, tag: u16, cells: Route)
+    requires { ⌜ c + 261 ≤ length (now m) ⌝ }
+    ensures { λ r. ⌜ now (m .exit) ≡ pushed (now (m .entry)) c (tag ∷ cells) ⌝ }
+{
+    let count = m[c];
+    if count < 4 {
+        planner::store(m, c + 1 + 65 * count as usize, tag, cells);
+        m[c] = count + 1;
+        return;
+    }
+}
+
+// Puts an answer last on the channel from carrier i to carrier k, if k is below i.
+fn push_below(m: &mut [u16], n: usize, i: usize, k: usize, tag: u16, cells: Route)
+    requires { ⌜ (i < n) × (k < n) × (n ≤ 8) × (stateSize n ≤ length (now m)) ⌝ }
+    ensures { λ r. ⌜ now (m .exit) ≡ pushedBelow n i (tag ∷ cells) (now (m .entry)) k ⌝ }
+{
+    if i < k {
+        let c = crate::places::channel_place(n, k, i);
+        push(m, c, tag, cells);
+        return;
+    }
+}
+
+// Puts an answer last on every channel from carrier i.
+pub fn send(m: &mut [u16], n: usize, i: usize, tag: u16, cells: Route)
+    requires { ⌜ (i < n) × (n ≤ 8) × (stateSize n ≤ length (now m)) ⌝ }
+    ensures { λ r. ⌜ now (m .exit) ≡ sentTo n i (tag ∷ cells) (now (m .entry)) n ⌝ }
+{
+    let mut k: usize = 0;
+    while k < n {
+        push_below(m, n, i, k, tag, cells);
+        k += 1;
+    }
+}

@@ -1,0 +1,195 @@
+// The test that a memory is a state of a floor: document 01's refusal 10.
+ghost use mathlib.Core.Path.{_≡_};
+ghost use mathlib.Core.Bool.{cond};
+ghost use Prim.Native.Nat.{_+_, _*_, _≤_, _<_};
+ghost use lib.ListN.{length, getD};
+ghost use lib.Dec.{ltb};
+ghost use Rattle.reference.specs.Ranges.{each};
+ghost use Rattle.layout.specs.Places.{stateSize};
+ghost use Rattle.layout.specs.Valid.{usedBy, cellValid, cellsValid, recordValid, carrierValid, placeValid, channelValid, pairValid, countValid, valid as Valid·valid};
+use floor::Floor;
+
+// The number at beat t is a cell of the grid while cells are used, and 0 behind.
+fn cell_valid(used: usize, cells: usize, t: usize, v: u16) -> bool
+    ensures { λ r. ⌜ r ≡ cellValid used cells t v ⌝ }
+{
+    if t < used {
+        return (v as usize) < cells;
+    }
+    v == 0
+}
+
+// The 64 numbers at a place.
+fn cells_valid(m: &[u16], at: usize, used: usize, cells: usize) -> bool
+    requires { ⌜ at + 64 ≤ length (now m) ⌝ }
+    ensures { λ r. ⌜ r ≡ cellsValid (now (m .entry)) at used cells ⌝ }
+{
+    let mut t: usize = 0;
+    while t < 64 {
+        if !cell_valid(used, cells, t, m[at + t]) {
+            return false;
+        }
+        t += 1;
+    }
+    true
+}
+
+// How many cells of a record are used.
+fn used_by(tag: u16, horizon: u16) -> usize
+    ensures { λ r. ⌜ r ≡ usedBy tag horizon ⌝ }
+{
+    if tag == 2 {
+        return horizon as usize + 1;
+    }
+    0
+}
+
+// The record at a place, its tag being within low to high.
+fn record_valid(f: Floor, m: &[u16], at: usize, low: u16, high: u16) -> bool
+    requires { ⌜ at + 65 ≤ length (now m) ⌝ }
+    ensures { λ r. ⌜ r ≡ recordValid f (now (m .entry)) at low high ⌝ }
+{
+    let tag = m[at];
+    if tag < low {
+        return false;
+    }
+    if high < tag {
+        return false;
+    }
+    cells_valid(
+        m,
+        at + 1,
+        used_by(tag, f.horizon),
+        f.width as usize * f.height as usize,
+    )
+}
+
+// Carrier i: planned and due are 0 or 1, and its answer is none or a route.
+fn carrier_valid(f: Floor, m: &[u16], i: usize) -> bool
+    requires { ⌜ (i < 8) × (69 + 67 * i ≤ length (now m)) ⌝ }
+    ensures { λ r. ⌜ r ≡ carrierValid f (now (m .entry)) i ⌝ }
+{
+    if m[2 + 67 * i] > 1 {
+        return false;
+    }
+    if m[3 + 67 * i] > 1 {
+        return false;
+    }
+    record_valid(f, m, 4 + 67 * i, 1, 2)
+}
+
+// Place q of a channel with so many messages.
+fn place_valid(f: Floor, m: &[u16], at: usize, count: usize, q: usize) -> bool
+    requires { ⌜ (q < 4) × (at + 260 ≤ length (now m)) ⌝ }
+    ensures { λ r. ⌜ r ≡ placeValid f (now (m .entry)) at count q ⌝ }
+{
+    if q < count {
+        return record_valid(f, m, at + 65 * q, 1, 2);
+    }
+    record_valid(f, m, at + 65 * q, 0, 0)
+}
+
+// The four places of a channel with so many messages.
+fn places_valid(f: Floor, m: &[u16], at: usize, count: usize) -> bool
+    requires { ⌜ at + 260 ≤ length (now m) ⌝ }
+    ensures { λ r. ⌜ r ≡ each 4 (placeValid f (now (m .entry)) at count) ⌝ }
+{
+    let mut q: usize = 0;
+    while q < 4 {
+        if !place_valid(f, m, at, count, q) {
+            return false;
+        }
+        q += 1;
+    }
+    true
+}
+
+// The channel at a place.
+fn channel_valid(f: Floor, m: &[u16], at: usize) -> bool
+    requires { ⌜ at + 261 ≤ length (now m) ⌝ }
+    ensures { λ r. ⌜ r ≡ channelValid f (now (m .entry)) at ⌝ }
+{
+    let count = m[at];
+    if f.depth < count {
+        return false;
+    }
+    places_valid(f, m, at + 1, count as usize)
+}
+
+// The view that carrier i has of carrier j, and the channel between them.
+fn pair_valid(f: Floor, m: &[u16], i: usize, j: usize) -> bool
+    requires { ⌜ (j < i) × (i < f .carriers) × (f .carriers ≤ 8) × (stateSize (f .carriers) ≤ length (now m)) ⌝ }
+    ensures { λ r. ⌜ r ≡ pairValid f (now (m .entry)) i j ⌝ }
+{
+    let n = f.carriers as usize;
+    let v = crate::places::view_place(n, i, j);
+    if !record_valid(f, m, v, 0, 2) {
+        return false;
+    }
+    let c = crate::places::channel_place(n, i, j);
+    channel_valid(f, m, c)
+}
+
+// The pairs of receiver i.
+fn receiver_valid(f: Floor, m: &[u16], i: usize) -> bool
+    requires { ⌜ (i < f .carriers) × (f .carriers ≤ 8) × (stateSize (f .carriers) ≤ length (now m)) ⌝ }
+    ensures { λ r. ⌜ r ≡ each i (pairValid f (now (m .entry)) i) ⌝ }
+{
+    let mut j: usize = 0;
+    while j < i {
+        if !pair_valid(f, m, i, j) {
+            return false;
+        }
+        j += 1;
+    }
+    true
+}
+
+// All pairs.
+fn pairs_valid(f: Floor, m: &[u16]) -> bool
+    requires { ⌜ (f .carriers ≤ 8) × (stateSize (f .carriers) ≤ length (now m)) ⌝ }
+    ensures { λ r. ⌜ r ≡ each (f .carriers) (λ i. each i (pairValid f (now (m .entry)) i)) ⌝ }
+{
+    let n = f.carriers as usize;
+    let mut i: usize = 0;
+    while i < n {
+        if !receiver_valid(f, m, i) {
+            return false;
+        }
+        i += 1;
+    }
+    true
+}
+
+// All carriers.
+fn carriers_valid(f: Floor, m: &[u16]) -> bool
+    requires { ⌜ (f .carriers ≤ 8) × (stateSize (f .carriers) ≤ length (now m)) ⌝ }
+    ensures { λ r. ⌜ r ≡ each (f .carriers) (carrierValid f (now (m .entry))) ⌝ }
+{
+    let n = f.carriers as usize;
+    let mut i: usize = 0;
+    while i < n {
+        if !carrier_valid(f, m, i) {
+            return false;
+        }
+        i += 1;
+    }
+    true
+}
+
+// Whether the memory is a state of the floor.
+pub fn valid(f: Floor, m: &[u16]) -> bool
+    requires { ⌜ (f .carriers ≤ 8) × (stateSize (f .carriers) ≤ length (now m)) ⌝ }
+    ensures { λ r. ⌜ r ≡ Valid·valid f (now (m .entry)) ⌝ }
+{
+    if m[0] > 999 {
+        return false;
+    }
+    if m[1] > 999 {
+        return false;
+    }
+    if !carriers_valid(f, m) {
+        return false;
+    }
+    pairs_valid(f, m)
+}

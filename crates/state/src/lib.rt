@@ -1,0 +1,20 @@
+// The machine's state in lent memory: its places, records, channels and count, and the test that a memory is a state. The
+// functions here are helpers between crates: what they require is checked by the entries of `machine`.
+mod channels;
+mod checks;
+mod count;
+mod places;
+mod records;
+mod start;
+
+pub use channels::pop;
+pub use channels::send;
+pub use checks::valid;
+pub use count::tick;
+pub use places::channel_place;
+pub use places::state_size;
+pub use places::view_place;
+pub use records::is_news;
+pub use records::move_record;
+pub use records::set_planned;
+pub use start::write_fresh;
