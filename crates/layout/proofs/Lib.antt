@@ -1,1 +1,5 @@
 -- Laws of the layout.
+pub mod WindowLaws
+pub mod SplitLaws
+pub mod StateLaws
+pub mod ReadLaws
