@@ -3,3 +3,6 @@ pub mod WindowLaws
 pub mod SplitLaws
 pub mod StateLaws
 pub mod ReadLaws
+pub mod OpenLaws
+pub mod CountLaws
+pub mod ChannelLaws
