@@ -6,3 +6,4 @@ pub mod ReadLaws
 pub mod OpenLaws
 pub mod CountLaws
 pub mod ChannelLaws
+pub mod DeliverLaws
