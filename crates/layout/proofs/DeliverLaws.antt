@@ -1,23 +1,23 @@
 -- A delivery in memory is a delivery.
-use Prim.Native.Nat.{ℕ, suc, _+_, _≤_, _<_}
+use Prim.Native.Nat.{ℕ, _+_, _≤_, _<_}
 use native.Mathlib.Omega.{arith}
-use mathlib.Core.Bool.{Bool, true, false}
+use mathlib.Core.Bool.{true, false}
 use mathlib.Core.List.{List, [], _∷_, _++_}
 use mathlib.Core.Logic.{⊎-elim}
-use mathlib.Core.Path.{_≡_, refl, sym, _∙_, ap}
+use mathlib.Core.Path.{_≡_, refl, sym, ap}
 use lib.ListN.{length}
 use Rattle.memory.specs.Memory.{put as putBlock}
-use Rattle.route.specs.Route.{Answer, View, heard}
+use Rattle.route.specs.Route.{Answer, heard}
 use Rattle.route.proofs.Tests.{eq-or-ne, true-false-absurd}
 use Rattle.reference.specs.Ranges.{put, putPair}
-use Rattle.reference.specs.State.{State, tick}
+use Rattle.reference.specs.State.{State}
 use Rattle.reference.specs.Step.{isEmpty}
 use Rattle.reference.specs.Take.{oldest, newer, deliverTo}
 use Rattle.reference.proofs.RangeLaws.{put-same, put-other, pair-same, pair-other, pair-other-row}
 use Rattle.reference.proofs.OpenLaws.{nil-empty}
 use Rattle.layout.specs.Places.{plannedPlace, duePlace, viewPlace, channelPlace}
-use Rattle.layout.specs.Encode.{flag, slot, channelBlock, carrierBlock, encode}
-use Rattle.layout.specs.Steps.{ticked, moved, popped, deliveredIn}
+use Rattle.layout.specs.Encode.{flag, slot, carrierBlock, encode}
+use Rattle.layout.specs.Steps.{moved, popped, deliveredIn}
 use Rattle.layout.proofs.WindowLaws.{Window, window-whole, window-front, window-behind, window-inside, window-put}
 use Rattle.layout.proofs.SplitLaws.{slot-length}
 use Rattle.layout.proofs.StateLaws.{withTaken, withCarriers, withViews, withChans, carrier-window, view-window, channel-window}
@@ -87,8 +87,13 @@ module _ (n : ℕ) (s : State) (rest : List ℕ) (i j : ℕ) (above : j < i) (th
       let s₂ = withChans s₁ (putPair (s .chan) i j (newer (s .chan i j))) in
       let s₃ = withCarriers s₂ (s .planned) (put (s .due) i true) (s .answer) in
       let full : 0 < length (s .chan i j) = rw e (omega arith) in
-      rw (moved-same n s rest i j a l above there e, popped-same n s₁ rest i j above there full few, put-due n s₂ rest i there,
-      ticked-same n s₃ rest t, e)
+      rw (
+        moved-same n s rest i j a l above there e,
+        popped-same n s₁ rest i j above there full few,
+        put-due n s₂ rest i there,
+        ticked-same n s₃ rest t,
+        e,
+      )
       refl
 
   -- A delivery from a channel that is not empty.

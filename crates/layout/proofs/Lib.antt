@@ -7,3 +7,6 @@ pub mod OpenLaws
 pub mod CountLaws
 pub mod ChannelLaws
 pub mod DeliverLaws
+pub mod SendLaws
+pub mod PlanLaws
+pub mod StepLaws
