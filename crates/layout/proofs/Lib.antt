@@ -10,3 +10,4 @@ pub mod DeliverLaws
 pub mod SendLaws
 pub mod PlanLaws
 pub mod StepLaws
+pub mod RunLaws
