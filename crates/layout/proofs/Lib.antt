@@ -1,1 +1,2 @@
 -- Laws of the layout.
+pub mod RecordLaws
