@@ -1,2 +1,3 @@
 -- Laws of the layout.
 pub mod RecordLaws
+pub mod ValidChannelLaws

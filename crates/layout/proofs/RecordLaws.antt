@@ -2,13 +2,13 @@
 use Prim.Native.Nat.{ℕ, zero, suc, _+_, _*_, _≤_, _<_}
 use native.Mathlib.Omega.{arith}
 use native.Mathlib.Nat.{add-zero}
-use mathlib.Core.Bool.{true, false, _&&_, cond}
+use mathlib.Core.Bool.{true}
 use mathlib.Core.List.{List, [], _∷_}
-use mathlib.Core.Logic.{_⊎_, inl, inr, ⊎-elim}
+use mathlib.Core.Logic.{_⊎_, ⊎-elim}
 use mathlib.Core.Path.{_≡_, refl, sym, _∙_, ap}
 use borrow.Author.Tests.{ltb-true, leb-true, eqb-true, lt-ltb, le-ltb, le-leb, eq-eqb}
 use lib.Dec.{leb, ltb, eqb}
-use lib.ListN.{length, getD, replicate, length-replicate, getD-replicate, List·getD-eq-default}
+use lib.ListN.{length, getD, getD-replicate, List·getD-eq-default}
 use Rattle.memory.specs.Memory.{part}
 use Rattle.memory.proofs.PartLaws.{part-byte, part-length, part-is}
 use Rattle.floor.specs.declared.Floor.{Floor}
@@ -17,13 +17,12 @@ use Rattle.route.specs.Route.{Answer, none, route, View, unheard, heard}
 use Rattle.route.proofs.Tests.{and-both, and-fst, and-snd, lt-or-le, eq-or-ne}
 use Rattle.search.specs.Views.{viewOf}
 use Rattle.planner.specs.Records.{recordOf}
-use Rattle.reference.specs.Ranges.{each}
 use Rattle.reference.specs.Bounds.{ShownOf}
 use Rattle.reference.proofs.RangeLaws.{each-holds, each-true}
 use Rattle.layout.specs.Encode.{fit, slot}
 use Rattle.layout.specs.Decode.{recordAt, shown}
 use Rattle.layout.specs.Valid.{usedBy, cellValid, cellsValid, recordValid}
-use Rattle.layout.specs.Fits.{SoundCells, Sound}
+use Rattle.layout.specs.Fits.{Sound}
 
 -- A list filled up with zeros: its length, and its numbers.
 fit-length : (k : ℕ) (xs : List ℕ) → length (fit k xs) ≡ k
@@ -185,7 +184,7 @@ module _ (f : Floor) (m : List ℕ) (at low high : ℕ) (short : f .horizon ≤ 
       let w = and-fst (within low high tag) (cellsValid m (at + 1) (usedBy tag (f .horizon)) cells) e in
       (leb-true low tag (and-fst (leb low tag) (leb tag high) w), leb-true tag high (and-snd (leb low tag) (leb tag high) w))
 
-  number-holds : (used : ℕ) → usedBy (tag) (f .horizon) ≡ used → (t : ℕ) → t < 64
+  number-holds : (used : ℕ) → usedBy tag (f .horizon) ≡ used → (t : ℕ) → t < 64
       → cellValid used cells t (getD m (at + 1 + t) 0) ≡ true
   unfolding recordValid cellsValid
   number-holds used q t l =
@@ -194,7 +193,7 @@ module _ (f : Floor) (m : List ℕ) (at low high : ℕ) (short : f .horizon ≤ 
       (and-snd (within low high tag) (cellsValid m (at + 1) (usedBy tag (f .horizon)) cells) e) t l)
 
   -- Behind the used numbers there are zeros.
-  zero-behind : (used : ℕ) → usedBy (tag) (f .horizon) ≡ used → (t : ℕ) → used ≤ t → t < 64 → getD m (at + 1 + t) 0 ≡ 0
+  zero-behind : (used : ℕ) → usedBy tag (f .horizon) ≡ used → (t : ℕ) → used ≤ t → t < 64 → getD m (at + 1 + t) 0 ≡ 0
   zero-behind used q t b l =
       let v = getD m (at + 1 + t) 0 in
       eqb-true v 0 (sym (cell-unused used cells t v b) ∙ number-holds used q t l)
