@@ -1,3 +1,7 @@
 -- Laws of the layout.
+pub mod WindowLaws
+pub mod SplitLaws
+pub mod StateLaws
+pub mod ReadLaws
 pub mod RecordLaws
 pub mod ValidChannelLaws

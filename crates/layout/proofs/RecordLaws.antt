@@ -23,14 +23,9 @@ use Rattle.layout.specs.Encode.{fit, slot}
 use Rattle.layout.specs.Decode.{recordAt, shown}
 use Rattle.layout.specs.Valid.{usedBy, cellValid, cellsValid, recordValid}
 use Rattle.layout.specs.Fits.{Sound}
+use Rattle.layout.proofs.SplitLaws.{slot-length}
 
--- A list filled up with zeros: its length, and its numbers.
-fit-length : (k : ℕ) (xs : List ℕ) → length (fit k xs) ≡ k
-unfolding fit
-fit-length zero xs = refl
-fit-length (suc k) [] = ap suc (fit-length k [])
-fit-length (suc k) (x ∷ xs) = ap suc (fit-length k xs)
-
+-- The numbers of a list filled up with zeros.
 fit-number : (k : ℕ) (xs : List ℕ) (i : ℕ) → i < k → getD (fit k xs) i 0 ≡ getD xs i 0
 unfolding fit
 fit-number zero xs i l = absurd (omega arith)
@@ -49,11 +44,6 @@ unfoldable pub numberOf : View → ℕ → ℕ
 numberOf unheard t = 0
 numberOf (heard none) t = 0
 numberOf (heard (route r)) t = getD r t 0
-
-pub slot-length : (v : View) → length (slot v) ≡ 65
-unfolding slot
-slot-length unheard = fit-length 65 []
-slot-length (heard a) = fit-length 65 (recordOf a)
 
 -- The record of a view begins with its tag.
 pub slot-tag : (v : View) → getD (slot v) 0 0 ≡ tagOf v

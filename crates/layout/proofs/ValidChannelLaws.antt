@@ -2,32 +2,26 @@
 use Prim.Native.Nat.{ℕ, zero, suc, _+_, _*_, _≤_, _<_}
 use native.Mathlib.Omega.{arith}
 use native.Mathlib.Nat.{add-zero}
-use mathlib.Core.Bool.{true, false, _&&_, cond}
+use mathlib.Core.Bool.{true}
 use mathlib.Core.List.{List, [], _∷_, _++_}
-use mathlib.Core.Logic.{_⊎_, inl, inr, ⊎-elim}
 use mathlib.Core.Path.{_≡_, refl, sym, _∙_, ap, ap₂}
-use borrow.Author.Tests.{ltb-true, leb-true, eqb-true, lt-ltb, le-ltb, le-leb, eq-eqb}
-use lib.Dec.{leb, ltb, eqb, leb·suc-suc}
-use lib.ListN.{length, getD, length-append}
+use borrow.Author.Tests.{leb-true, lt-ltb, le-ltb, le-leb}
+use lib.Dec.{leb, leb·suc-suc}
+use lib.ListN.{length, getD}
 use Rattle.memory.specs.Memory.{part}
-use Rattle.memory.proofs.PartLaws.{part-byte, part-length, part-is, part-split, part-blocks, part-none}
+use Rattle.memory.proofs.PartLaws.{part-byte, part-is, part-split, part-blocks, part-none}
 use Rattle.floor.specs.declared.Floor.{Floor}
-use Rattle.route.specs.Route.{Answer, none, route, View, unheard, heard}
-use Rattle.route.proofs.Tests.{and-both, and-fst, and-snd, lt-or-le, eq-or-ne}
+use Rattle.route.specs.Route.{Answer, View, unheard, heard}
+use Rattle.route.proofs.Tests.{and-both, and-fst, and-snd}
 use Rattle.reference.specs.Ranges.{each}
-use Rattle.reference.specs.Bounds.{AllOf, ShownOf}
+use Rattle.reference.specs.Bounds.{AllOf}
 use Rattle.reference.proofs.RangeLaws.{each-holds, each-true}
-use Rattle.layout.specs.Encode.{fit, slot, slots, channelBlock}
+use Rattle.layout.specs.Encode.{slot, slots, channelBlock}
 use Rattle.layout.specs.Decode.{recordAt, shown, messages}
 use Rattle.layout.specs.Valid.{recordValid, placeValid, channelValid}
-use Rattle.layout.specs.Fits.{SoundCells, Sound}
-use Rattle.layout.proofs.RecordLaws.{slot-length, answer-valid, unused-valid, answer-told, unused-told}
-
-slots-length : (k : ℕ) (l : List Answer) → length (slots k l) ≡ 65 * k
-unfolding slots
-slots-length zero l = refl
-slots-length (suc k) [] = length-append (slot unheard) (slots k []) ∙ omega (arith, slot-length unheard, slots-length k [])
-slots-length (suc k) (a ∷ l) = length-append (slot (heard a)) (slots k l) ∙ omega (arith, slot-length (heard a), slots-length k l)
+use Rattle.layout.specs.Fits.{Sound}
+use Rattle.layout.proofs.SplitLaws.{slot-length, slots-length}
+use Rattle.layout.proofs.RecordLaws.{answer-valid, unused-valid, answer-told, unused-told}
 
 -- A place of a channel with a message is valid where its record is an answer's; one past the messages where it is unused.
 place-message : (f : Floor) (m : List ℕ) (at count q : ℕ) → q < count → placeValid f m at count q ≡ recordValid f m (at + 65 * q) 1 2
@@ -182,9 +176,9 @@ module _ (f : Floor) (m : List ℕ) (at : ℕ) (short : f .horizon ≤ 63) (shal
       in
       record {
         same =
-          part-split m at 1 260
-          ∙ ap₂ _++_ (part-one m at (omega arith)) places
-          ∙ ap (λ (n : ℕ). n ∷ slots 4 l) (sym (messages-length m (at + 1) count));
+            part-split m at 1 260
+            ∙ ap₂ _++_ (part-one m at (omega arith)) places
+            ∙ ap (λ (n : ℕ). n ∷ slots 4 l) (sym (messages-length m (at + 1) count));
         most = rw messages-length count-most;
         sound = messages-all (Sound f) m (at + 1) count (λ q b. (message-told q b) .1);
       }
