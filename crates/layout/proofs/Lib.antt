@@ -5,3 +5,4 @@ pub mod StateLaws
 pub mod ReadLaws
 pub mod RecordLaws
 pub mod ValidChannelLaws
+pub mod ValidLaws
