@@ -9,7 +9,7 @@ use borrow.Author.Tests.{leb-true, lt-ltb, le-ltb, le-leb}
 use lib.Dec.{leb, leb·suc-suc}
 use lib.ListN.{length, getD}
 use Rattle.memory.specs.Memory.{part}
-use Rattle.memory.proofs.PartLaws.{part-byte, part-is, part-split, part-blocks, part-none}
+use Rattle.memory.proofs.PartLaws.{part-byte, part-split, part-blocks, part-none}
 use Rattle.floor.specs.declared.Floor.{Floor}
 use Rattle.route.specs.Route.{Answer, View, unheard, heard}
 use Rattle.route.proofs.Tests.{and-both, and-fst, and-snd}
@@ -22,6 +22,7 @@ use Rattle.layout.specs.Valid.{recordValid, placeValid, channelValid}
 use Rattle.layout.specs.Fits.{Sound}
 use Rattle.layout.proofs.SplitLaws.{slot-length, slots-length}
 use Rattle.layout.proofs.RecordLaws.{answer-valid, unused-valid, answer-told, unused-told}
+use Rattle.layout.proofs.ValidPartLaws.{part-one}
 
 -- A place of a channel with a message is valid where its record is an answer's; one past the messages where it is unused.
 place-message : (f : Floor) (m : List ℕ) (at count q : ℕ) → q < count → placeValid f m at count q ≡ recordValid f m (at + 65 * q) 1 2
@@ -83,8 +84,8 @@ module _ (m : List ℕ) (at : ℕ) (l : List Answer) (e : part m at 261 ≡ chan
   pub channel-valid : (f : Floor) → length l ≤ f .depth → AllOf (Sound f) l → channelValid f m at ≡ true
   unfolding channelValid
   channel-valid f d h =
-      rw count-read
-      (and-both (le-leb (length l) (f .depth) d) (each-true 4 (placeValid f m (at + 1) (length l)) (places-valid f m (at + 1) 4 l (both .1) h)))
+      let places = places-valid f m (at + 1) 4 l (both .1) h in
+      rw count-read (and-both (le-leb (length l) (f .depth) d) (each-true 4 (placeValid f m (at + 1) (length l)) places))
 
 -- The place behind the first, counted from the next record on.
 next : (at q : ℕ) → at + 65 * suc q ≡ at + 65 + 65 * q
@@ -111,7 +112,8 @@ slots-told m zero at zero c h g = part-none m at
 slots-told m zero at (suc count) c h g = absurd (omega arith)
 slots-told m (suc k) at zero c h g =
     one-more m at k (slot unheard) (slots k []) (rw add-zero at (g 0 (omega arith) (omega arith)))
-    (slots-told m k (at + 65) zero (omega arith) (λ q l. absurd (omega arith)) (λ q l b. rw (next at q) at (g (suc q) (omega arith) (omega arith))))
+    (slots-told m k (at + 65) zero (omega arith) (λ q l. absurd (omega arith))
+    (λ q l b. rw (next at q) at (g (suc q) (omega arith) (omega arith))))
 slots-told m (suc k) at (suc count) c h g =
     one-more m at k (slot (heard (shown (recordAt m at)))) (slots k (messages m (at + 65) count)) (rw add-zero at (h 0 (omega arith)))
     (slots-told m k (at + 65) count (omega arith) (λ q l. rw (next at q) at (h (suc q) (omega arith)))
@@ -129,14 +131,6 @@ unfolding messages AllOf
 messages-all P m at zero h = tt
 messages-all P m at (suc count) h =
     (rw add-zero at (h 0 (omega arith)), messages-all P m (at + 65) count (λ q l. rw (next at q) at (h (suc q) (omega arith))))
-
--- A part of one number.
-pub part-one : (m : List ℕ) (at : ℕ) → at < length m → part m at 1 ≡ getD m at 0 ∷ []
-part-one m at l = part-is m at 1 (getD m at 0 ∷ []) (omega arith) refl same
-  where
-    same : (i : ℕ) → i < 1 → getD m (at + i) 0 ≡ getD (getD m at 0 ∷ []) i 0
-    same zero k = rw add-zero
-    same (suc i) k = absurd (omega arith)
 
 -- What a valid channel tells: it is that of the messages that it shows, at most depth of them, whose cells are sound.
 pub record Channelled (f : Floor) (m : List ℕ) (at : ℕ) (l : List Answer) : Type 0 where

@@ -1,44 +1,47 @@
 -- A memory is valid exactly if it is the encoding of a state within the ranges.
-use Prim.Native.Nat.{ℕ, zero, suc, _+_, _*_, _/_, _%_, _≤_, _<_}
+use Prim.Native.Nat.{ℕ, _+_, _/_, _%_, _≤_, _<_}
 use native.Mathlib.Omega.{arith}
-use mathlib.Core.Bool.{Bool, true, false, _&&_}
-use mathlib.Core.List.{List, [], _∷_, _++_}
-use mathlib.Core.Path.{_≡_, refl, sym, _∙_, ap, ap₂}
-use borrow.Author.Tests.{ltb-true, leb-true, eqb-true, lt-ltb, le-leb, eq-eqb}
-use lib.Dec.{leb, ltb, eqb}
-use lib.ListN.{length, getD, take}
+use mathlib.Core.Bool.{Bool, true, false}
+use mathlib.Core.List.{List, _++_}
+use mathlib.Core.Path.{_≡_}
+use borrow.Author.Tests.{lt-ltb, le-leb}
+use lib.ListN.{length, take}
 use Rattle.memory.specs.Memory.{part}
 use Rattle.floor.specs.declared.Floor.{Floor}
-use Rattle.route.specs.Route.{Answer, View, unheard, heard}
-use Rattle.route.proofs.Tests.{and-both, and-fst, and-snd}
+use Rattle.route.proofs.Tests.{and-both}
 use Rattle.reference.specs.Ranges.{each}
 use Rattle.reference.specs.State.{State}
-use Rattle.reference.proofs.RangeLaws.{each-holds, each-true}
-use Rattle.layout.specs.Places.{plannedPlace, duePlace, answerPlace, viewPlace, channelPlace, stateSize}
+use Rattle.reference.proofs.RangeLaws.{each-true}
+use Rattle.layout.specs.Places.{answerPlace, viewPlace, channelPlace, stateSize}
 use Rattle.layout.specs.Encode.{flag, encode}
 use Rattle.layout.specs.Decode.{decode}
-use Rattle.layout.specs.Valid.{recordValid, channelValid, carrierValid, pairValid, countValid, valid}
+use Rattle.layout.specs.Valid.{carrierValid, pairValid, countValid, valid}
 use Rattle.layout.specs.Fits.{Fits}
 use Rattle.layout.proofs.ReadLaws.{read-thousands, read-rest, read-planned, read-due, read-answer, read-view, read-channel}
 use Rattle.layout.proofs.RecordLaws.{seen-valid, answer-valid}
 use Rattle.layout.proofs.ValidChannelLaws.{channel-valid}
+use Rattle.layout.proofs.ValidDecodeLaws.{state-fits, encode-is}
 
+-- A flag is 0 or 1.
 flag-least : (b : Bool) → flag b ≤ 1
 unfolding flag
 flag-least true = omega arith
 flag-least false = omega arith
 
+-- The two numbers of a count are below 1000.
 thousands-below : (t : ℕ) → t ≤ 999999 → t / 1000 < 1000
 thousands-below t l = omega arith
 
 rest-below : (t : ℕ) → t % 1000 < 1000
 rest-below t = omega arith
 
--- The encoding of a state within the ranges is valid.
+-- The tests on the encoding of a state within the ranges.
 module _ (f : Floor) (s : State) (rest : List ℕ) (h : Fits f s) where
+  -- Its memory.
   abbrev m : List ℕ
   m = encode (f .carriers) s ++ rest
 
+  -- The tests of the count, of the carriers, of the pairs.
   count-fits : countValid m ≡ true
   unfolding countValid
   count-fits =
@@ -62,6 +65,7 @@ module _ (f : Floor) (s : State) (rest : List ℕ) (h : Fits f s) where
       and-both (seen-valid m (viewPlace n i j) (s .view i j) (read-view n s rest i j a b) f (h .seen i j a b))
       (channel-valid m (channelPlace n i j) (s .chan i j) (read-channel n s rest i j a b) f (h .channels i j a b) (h .messages i j a b))
 
+  -- All of them.
   all-fit : valid f m ≡ true
   unfolding valid
   all-fit =
@@ -69,6 +73,13 @@ module _ (f : Floor) (s : State) (rest : List ℕ) (h : Fits f s) where
       (and-both (each-true (f .carriers) (carrierValid f m) carrier-fits)
       (each-true (f .carriers) (λ i. each i (pairValid f m i)) (λ i l. each-true i (pairValid f m i) (pair-fits i l))))
 
+-- The encoding of a state within the ranges is valid, whatever lies behind it.
 pub fits-valid : (f : Floor) (s : State) (rest : List ℕ) → f .depth ≤ 4 → f .horizon ≤ 63 → Fits f s
     → valid f (encode (f .carriers) s ++ rest) ≡ true
 fits-valid f s rest d k h = all-fit f s rest h
+
+-- A valid memory is the encoding of the state that it shows, and that state is within the ranges.
+pub valid-fits : (f : Floor) (m : List ℕ) → f .depth ≤ 4 → f .horizon ≤ 63 → stateSize (f .carriers) ≤ length m → valid f m ≡ true
+    → Fits f (decode (f .carriers) m) × (encode (f .carriers) (decode (f .carriers) m) ≡ take (stateSize (f .carriers)) m)
+unfolding part
+valid-fits f m d h l e = (state-fits f m d h l e, encode-is f m d h l e)
