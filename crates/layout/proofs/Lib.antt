@@ -8,3 +8,6 @@ pub mod RecordLaws
 pub mod ValidChannelLaws
 pub mod ValidDecodeLaws
 pub mod ValidLaws
+pub mod ExactLaws
+pub mod ExactStepLaws
+pub mod Theorems
