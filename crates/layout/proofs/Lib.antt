@@ -11,3 +11,11 @@ pub mod SendLaws
 pub mod PlanLaws
 pub mod StepLaws
 pub mod RunLaws
+pub mod ValidPartLaws
+pub mod RecordLaws
+pub mod ValidChannelLaws
+pub mod ValidDecodeLaws
+pub mod ValidLaws
+pub mod ExactLaws
+pub mod ExactStepLaws
+pub mod Theorems

@@ -9,3 +9,4 @@ pub mod Numbers
 pub mod Steps
 pub mod Runs
 pub mod Calls
+pub mod Claims
