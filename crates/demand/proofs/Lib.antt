@@ -1,1 +1,2 @@
 -- The simulation of the reference machine by the memory, and the claim.
+pub mod FloorLaws
