@@ -2,3 +2,4 @@
 pub mod FloorLaws
 pub mod VerdictLaws
 pub mod LentLaws
+pub mod CallLaws
