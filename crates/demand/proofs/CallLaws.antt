@@ -38,7 +38,7 @@ use Rattle.layout.proofs.StepLaws.{taken-same, said-same}
 use Rattle.layout.proofs.RunLaws.{run-same, number-same, ending-same}
 use Rattle.demand.specs.Lists.{Asked, step, run, answerOf, leftBy, lentLength, bookCall}
 use Rattle.demand.proofs.FloorLaws.{none-sound, sound-whole, depth-few, respond-sound, storable, machine-lent}
-use Rattle.demand.proofs.VerdictLaws.{asCheck, named-same, single-same}
+use Rattle.demand.proofs.VerdictLaws.{asCheck, check-accepted, named-same, single-same}
 use Rattle.demand.proofs.LentLaws.{lentRest, keptRest, Enough, Short, enough-or-short, book-enough, book-short, lent-memory, kept-memory, state-passes, state-short}
 
 -- A call whose verdicts are the same has the same answer, and leaves the same memory.
@@ -245,3 +245,11 @@ module _ (f : Floor) (ws : List ℕ) (ok : checkOf f ws ≡ passed) (s : State) 
     pub call-memory : (c : Asked) → leftBy f ws m c ≡ encode (f .carriers) (afterCall M s (bookCall f room c)) ++ rest
     call-memory (step k l x) = step-memory k l x
     call-memory (run k l xs b) = run-memory k l xs b
+
+    -- A run that passes is lent enough, and its steps are there.
+    pub run-passes : (k l : ℕ) (xs : List ℕ) → runVerdict f (take k ws) (take l m) xs ≡ passed →
+        Enough f k l × (allNamed M 0 (map stepOf xs) ≡ accepted)
+    run-passes k l xs e =
+        let v : verdict M s (bookCall f room (run k l xs 0)) ≡ accepted = check-accepted _ (sym (run-verdict k l xs 0) ∙ e) in
+        let h : Enough f k l = lent-run k l xs 0 v in
+        (h, sym (book-run k l xs 0 h) ∙ v)

@@ -3,3 +3,5 @@ pub mod FloorLaws
 pub mod VerdictLaws
 pub mod LentLaws
 pub mod CallLaws
+pub mod ListLaws
+pub mod CutLaws

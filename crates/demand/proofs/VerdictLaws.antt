@@ -8,7 +8,7 @@ use mathlib.Core.Logic.{⊎-elim}
 use mathlib.Core.Path.{_≡_, refl, sym, _∙_, ap}
 use lib.ListN.{length, getD}
 use Rattle.floor.specs.Verdict.{Verdict, passed, refused, _then_, demand, inTurn, each}
-use Rattle.floor.proofs.VerdictLaws.{then-assoc, each-none}
+use Rattle.floor.proofs.VerdictLaws.{then-assoc, each-none, refused-not-passed}
 use Rattle.route.proofs.Tests.{true-or-false}
 use Rattle.reference.specs.State.{Machine, State}
 use Rattle.reference.specs.Step.{Step, named, isOpen}
@@ -20,6 +20,11 @@ use Rattle.layout.specs.Numbers.{stepOf}
 unfoldable pub asCheck : table.Verdict → Verdict
 asCheck accepted = passed
 asCheck (refusal k p) = refused k p
+
+pub check-accepted : (v : table.Verdict) → asCheck v ≡ passed → v ≡ accepted
+unfolding asCheck
+check-accepted accepted e = refl
+check-accepted (refusal k p) e = absurd (refused-not-passed e)
 
 -- A test of the table as a demand: the last one, and one with others behind it.
 last-test : (b : Bool) (k p : ℕ) → demand b k p ≡ asCheck (elim b [ true ↦ accepted | false ↦ refusal k p ])
