@@ -1,25 +1,23 @@
 -- The simulation of a call: its answer is the reference machine's, and it leaves the memory of the reference machine's next state.
-use Prim.Native.Nat.{ℕ, _+_, _-_, _≤_, _<_}
-use native.Mathlib.Omega.{arith}
-use mathlib.Core.Bool.{true, false}
-use mathlib.Core.List.{List, [], _∷_, _++_, map, append-assoc}
+use Prim.Native.Nat.{ℕ, _+_, _-_}
+use mathlib.Core.Bool.{true}
+use mathlib.Core.List.{List, _++_, map, append-assoc}
 use mathlib.Core.Logic.{⊎-elim}
 use mathlib.Core.Path.{_≡_, refl, sym, _∙_, ap, ap₂}
-use lib.Dec.{leb}
-use lib.ListN.{length, getD, take, drop, take-append-drop}
+use lib.ListN.{length, take, drop, take-append-drop}
 use Rattle.floor.specs.declared.Floor.{Floor}
-use Rattle.floor.specs.Verdict.{Verdict, passed, refused, _then_, demand, each}
+use Rattle.floor.specs.Verdict.{Verdict, passed}
 use Rattle.floor.specs.Checks.{checkOf}
 use Rattle.floor.proofs.VerdictLaws.{then-passed, then-refused}
 use Rattle.route.specs.Route.{none}
 use Rattle.planner.proofs.ViewLaws.{Whole}
 use Rattle.reference.specs.State.{Machine, State, fresh}
-use Rattle.reference.specs.Step.{Step, named, isOpen}
+use Rattle.reference.specs.Step.{Step, isOpen}
 use Rattle.reference.specs.Take.{afterStep, stepAnswer}
 use Rattle.reference.specs.Run.{run as runBook}
 use Rattle.reference.specs.Ending.{ending}
 use Rattle.reference.specs.History.{Reaches}
-use Rattle.reference.specs.Table.{Call, single, runOf, accepted, refusal, ifLent, allNamed, openSingle, verdict}
+use Rattle.reference.specs.Table.{accepted, refusal, ifLent, allNamed, openSingle, verdict}
 use Rattle.reference.specs.Table as table
 use Rattle.reference.specs.Calls.{Reply, stepped, ran, refused as turned, answerTo, stateAfter, reply, afterCall}
 use Rattle.reference.specs.Bounds.{InRange, Throughout}
@@ -29,17 +27,18 @@ use Rattle.reference.proofs.ThroughLaws.{fresh-throughout, reaches-throughout}
 use Rattle.layout.specs.Places.{stateSize}
 use Rattle.layout.specs.Encode.{encode}
 use Rattle.layout.specs.Numbers.{stepOf}
-use Rattle.layout.specs.Steps.{openIn, takenIn, saidIn}
+use Rattle.layout.specs.Steps.{takenIn, saidIn}
 use Rattle.layout.specs.Runs.{runIn, numberTaken, endingIn}
 use Rattle.layout.specs.Fits.{Sound, Fits}
-use Rattle.layout.specs.Calls.{machineOf, stateVerdict, stepVerdict, runVerdict, replyIf, memoryIf, stepReply, stepMemory, runOver, runReply, runMemory}
+use Rattle.layout.specs.Calls.{machineOf, stepVerdict, runVerdict, replyIf, memoryIf, stepReply, stepMemory, runOver, runReply, runMemory}
 use Rattle.layout.proofs.OpenLaws.{open-same}
 use Rattle.layout.proofs.StepLaws.{taken-same, said-same}
 use Rattle.layout.proofs.RunLaws.{run-same, number-same, ending-same}
 use Rattle.demand.specs.Lists.{Asked, step, run, answerOf, leftBy, lentLength, bookCall}
-use Rattle.demand.proofs.FloorLaws.{none-sound, sound-whole, depth-few, respond-sound, storable, machine-lent}
+use Rattle.demand.proofs.FloorLaws.{none-sound, sound-whole, respond-sound, storable, machine-lent}
 use Rattle.demand.proofs.VerdictLaws.{asCheck, check-accepted, named-same, single-same}
-use Rattle.demand.proofs.LentLaws.{lentRest, keptRest, Enough, Short, enough-or-short, book-enough, book-short, lent-memory, kept-memory, state-passes, state-short}
+use Rattle.demand.proofs.LentLaws.{lentRest, keptRest, Enough, Short, enough-or-short, book-enough, book-short, lent-memory}
+use Rattle.demand.proofs.LentLaws.{kept-memory, state-passes, state-short}
 
 -- A call whose verdicts are the same has the same answer, and leaves the same memory.
 reply-same : (v : table.Verdict) (r q : Reply) → (v ≡ accepted → r ≡ q) →
@@ -67,7 +66,8 @@ module _ (f : Floor) (ws : List ℕ) (ok : checkOf f ws ≡ passed) (s : State) 
 
   pub reached-whole : Throughout Whole s
   reached-whole =
-      reaches-throughout Whole (machineOf f ws) (storable f ws ok .whole) (fresh-throughout Whole (sound-whole f none (none-sound f))) reached
+      reaches-throughout Whole (machineOf f ws) (storable f ws ok .whole)
+      (fresh-throughout Whole (sound-whole f none (none-sound f))) reached
 
   pub reached-fits : Fits f s
   unfolding machineOf
@@ -172,8 +172,12 @@ module _ (f : Floor) (ws : List ℕ) (ok : checkOf f ws ≡ passed) (s : State) 
         takenIn (machineOf f (take k ws)) (take l m) y ++ drop l m ≡ encode (f .carriers) (afterStep M s y) ++ rest
     unfolding machineOf
     taken-lent k l y h e =
-        rw (machine-lent f ws k (h .0), lent-memory f ws ok s rest l (h .1), kept-memory f ws ok s rest l (h .1),
-        taken-same M (storable f ws ok) s reached-range reached-whole (lentRest f rest l) y e)
+        rw (
+          machine-lent f ws k (h .0),
+          lent-memory f ws ok s rest l (h .1),
+          kept-memory f ws ok s rest l (h .1),
+          taken-same M (storable f ws ok) s reached-range reached-whole (lentRest f rest l) y e,
+        )
         (rest-again (afterStep M s y) l)
 
     step-answer : (k l x : ℕ) → answerOf f ws m (step k l x) ≡ reply M s (bookCall f room (step k l x))
@@ -201,7 +205,8 @@ module _ (f : Floor) (ws : List ℕ) (ok : checkOf f ws ≡ passed) (s : State) 
     over-lent k l xs b h = rw (machine-lent f ws k (h .0), lent-memory f ws ok s rest l (h .1))
 
     ran-lent : (k l : ℕ) (xs : List ℕ) (b : ℕ) → Enough f k l →
-        ran (numberTaken (runOver f (take k ws) (take l m) xs b)) (endingIn (machineOf f (take k ws)) b (runOver f (take k ws) (take l m) xs b)) ≡
+        ran (numberTaken (runOver f (take k ws) (take l m) xs b))
+        (endingIn (machineOf f (take k ws)) b (runOver f (take k ws) (take l m) xs b)) ≡
         ran (runBook M s (map stepOf xs) b .taken) (ending M b (runBook M s (map stepOf xs) b))
     unfolding machineOf
     ran-lent k l xs b h =
@@ -214,8 +219,11 @@ module _ (f : Floor) (ws : List ℕ) (ok : checkOf f ws ≡ passed) (s : State) 
         runOver f (take k ws) (take l m) xs b .memory ++ drop l m ≡ encode (f .carriers) (runBook M s (map stepOf xs) b .state) ++ rest
     unfolding machineOf
     left-lent k l xs b h =
-        rw (over-lent k l xs b h, kept-memory f ws ok s rest l (h .1),
-        run-same M (storable f ws ok) (lentRest f rest l) s (map stepOf xs) b reached-range reached-whole .memory)
+        rw (
+          over-lent k l xs b h,
+          kept-memory f ws ok s rest l (h .1),
+          run-same M (storable f ws ok) (lentRest f rest l) s (map stepOf xs) b reached-range reached-whole .memory,
+        )
         (rest-again (runBook M s (map stepOf xs) b .state) l)
 
     run-answer : (k l : ℕ) (xs : List ℕ) (b : ℕ) → answerOf f ws m (run k l xs b) ≡ reply M s (bookCall f room (run k l xs b))
@@ -233,7 +241,8 @@ module _ (f : Floor) (ws : List ℕ) (ok : checkOf f ws ≡ passed) (s : State) 
     run-memory k l xs b =
         let c = bookCall f room (run k l xs b) in
         rw (run-verdict k l xs b)
-        (memory-same (f .carriers) (verdict M s c) s (stateAfter M s c) (runOver f (take k ws) (take l m) xs b .memory) (take l m) (drop l m) rest
+        (memory-same (f .carriers) (verdict M s c) s (stateAfter M s c) (runOver f (take k ws) (take l m) xs b .memory) (take l m)
+        (drop l m) rest
         (λ e. unfold bookCall stateAfter in left-lent k l xs b (lent-run k l xs b e))
         (take-append-drop l m))
 

@@ -1,9 +1,7 @@
 -- A point inside a run: the run cut there, and the rest of its list as a later call.
-use Prim.Native.Nat.{ℕ, _+_, _-_, _≤_, min}
-use native.Mathlib.Omega.{arith}
-use mathlib.Core.Bool.{cond}
+use Prim.Native.Nat.{ℕ, _+_, _-_, _≤_}
 use mathlib.Core.List.{List, [], _∷_, _++_, map, map-append}
-use mathlib.Core.Path.{_≡_, refl, sym, _∙_, ap}
+use mathlib.Core.Path.{_≡_, sym, _∙_, ap}
 use lib.ListN.{length, take, drop}
 use borrow.Author.Tests.{leb-true}
 use Rattle.floor.specs.declared.Floor.{Floor}
@@ -20,10 +18,9 @@ use Rattle.reference.proofs.Theorems.{theorems}
 use Rattle.layout.specs.Places.{stateSize}
 use Rattle.layout.specs.Encode.{encode}
 use Rattle.layout.specs.Numbers.{stepOf}
-use Rattle.layout.specs.Runs.{numberTaken}
 use Rattle.layout.specs.Calls.{machineOf, freshMemory, runVerdict, runOver}
 use Rattle.layout.proofs.RunLaws.{number-same}
-use Rattle.demand.specs.Lists.{Asked, run, answersOf, memoryOf, lentLength, bookCall, bookCalls}
+use Rattle.demand.specs.Lists.{Asked, run, answersOf, lentLength, bookCall, bookCalls}
 use Rattle.demand.specs.Demand.{bookAfter, memoryAfter, takenBy, Cut}
 use Rattle.demand.proofs.FloorLaws.{storable}
 use Rattle.demand.proofs.LentLaws.{Enough, book-enough}
@@ -58,7 +55,8 @@ module _ (f : Floor) (ws m : List ℕ) (ok : checkOf f ws ≡ passed) (long : st
   taken-by xs b =
       let r = after-reached f ws m ok long cs in
       rw (memory-same f ws m ok long cs)
-      (number-same M (storable f ws ok) (behind f ws m ok long) s (map stepOf xs) b (reached-range f ws ok s _ r) (reached-whole f ws ok s _ r))
+      (number-same M (storable f ws ok) (behind f ws m ok long) s (map stepOf xs) b (reached-range f ws ok s _ r)
+      (reached-whole f ws ok s _ r))
 
   module _ (k l : ℕ) (xs ys : List ℕ) (b : ℕ) (e : runVerdict f (take k ws) (take l (memoryAfter f ws m cs)) (xs ++ ys) ≡ passed) where
     abbrev lent : ℕ
@@ -84,8 +82,8 @@ module _ (f : Floor) (ws m : List ℕ) (ok : checkOf f ws ≡ passed) (long : st
     passes : Enough f k l × (allNamed M 0 (map stepOf (xs ++ ys)) ≡ accepted)
     unfolding memoryAfter
     passes =
-        run-passes f ws ok s _ (after-reached f ws m ok long cs) (behind f ws m ok long) (length m) (room-split f ws m ok long) k l (xs ++ ys)
-        (rw (memory-same f ws m ok long cs) at e)
+        run-passes f ws ok s _ (after-reached f ws m ok long cs) (behind f ws m ok long) (length m) (room-split f ws m ok long) k l
+        (xs ++ ys) (rw (memory-same f ws m ok long cs) at e)
 
     enough : M .needed ≤ lent
     unfolding machineOf
@@ -115,11 +113,11 @@ module _ (f : Floor) (ws m : List ℕ) (ok : checkOf f ws ≡ passed) (long : st
     cut-there =
         record {
           memory =
-            memory-same f ws m ok long (cs ++ whole)
-            ∙ ap (λ (z : State). encode (f .carriers) z ++ drop (stateSize (f .carriers)) m) same-state
-            ∙ sym (memory-same f ws m ok long (cs ++ parts));
+              memory-same f ws m ok long (cs ++ whole)
+              ∙ ap (λ (z : State). encode (f .carriers) z ++ drop (stateSize (f .carriers)) m) same-state
+              ∙ sym (memory-same f ws m ok long (cs ++ parts));
           taken =
-            more-taken whole
-            ∙ ap (λ (t : ℕ). takenInAll (replies M fresh (bookCalls f (length m) cs)) + t) same-taken
-            ∙ sym (more-taken parts);
+              more-taken whole
+              ∙ ap (λ (t : ℕ). takenInAll (replies M fresh (bookCalls f (length m) cs)) + t) same-taken
+              ∙ sym (more-taken parts);
         }

@@ -1,20 +1,20 @@
 -- An accepted floor: its machine can lie in memory, its best answers are within the ranges, and walls past those it counts do not matter.
-use Prim.Native.Nat.{ℕ, _+_, _*_, _≤_, _<_, min}
+use Prim.Native.Nat.{ℕ, _+_, _≤_, _<_}
 use native.Mathlib.Omega.{arith}
 use mathlib.Core.Bool.{Bool, not}
 use mathlib.Core.List.{List}
-use mathlib.Core.Path.{_≡_, refl, sym, _∙_, ap, fun-ext}
-use lib.ListN.{length, getD, take, length-take}
+use mathlib.Core.Path.{_≡_, refl, _∙_, ap, fun-ext}
+use lib.ListN.{length, take, length-take}
 use lib.Seq.{getD-take}
 use borrow.Author.Tests.{lt-leb}
 use Rattle.floor.specs.declared.Floor.{Floor}
-use Rattle.floor.specs.Verdict.{passed, refused, _then_, demand}
-use Rattle.floor.specs.Checks.{checkOf, lentOf, roomOf, limitsOf, placesOf, among}
+use Rattle.floor.specs.Verdict.{passed, refused}
+use Rattle.floor.specs.Checks.{checkOf, lentOf, roomOf, placesOf, among}
 use Rattle.floor.specs.Accepted.{SameFloor}
 use Rattle.floor.proofs.LimitsLaws.{CheckTells, check-tells}
 use Rattle.floor.proofs.SameLaws.{among-same, check-same}
 use Rattle.floor.proofs.VerdictLaws.{then-passed, then-refused, demand-refuses}
-use Rattle.route.specs.Route.{Answer, none, route, View, Task, cellAt}
+use Rattle.route.specs.Route.{Answer, none, route, View, cellAt}
 use Rattle.route.specs.Best.{IsRoute}
 use Rattle.route.specs.Search.{best}
 use Rattle.route.proofs.Theorems.{theorems}
@@ -22,9 +22,8 @@ use Rattle.search.specs.Task.{taskOf, taskWith}
 use Rattle.planner.specs.Plan.{respondOf}
 use Rattle.planner.specs.Records.{recordOf}
 use Rattle.planner.proofs.ViewLaws.{Whole}
-use Rattle.planner.proofs.PlanLaws.{best-whole}
 use Rattle.reference.specs.State.{Machine}
-use Rattle.layout.specs.Fits.{SoundCells, Sound}
+use Rattle.layout.specs.Fits.{Sound}
 use Rattle.layout.specs.Places.{stateSize}
 use Rattle.layout.specs.Calls.{machineOf}
 use Rattle.layout.proofs.StepLaws.{Storable}

@@ -1,21 +1,21 @@
 -- What a call is lent of the walls and of a state's memory: enough for the floor and the state, or too little of one of them.
-use Prim.Native.Nat.{ℕ, _+_, _*_, _-_, _≤_, _<_, min}
+use Prim.Native.Nat.{ℕ, _+_, _-_, _≤_, _<_, min}
 use native.Mathlib.Omega.{arith}
-use mathlib.Core.Bool.{Bool, true, false, cond}
+use mathlib.Core.Bool.{true, false}
 use mathlib.Core.List.{List, _++_}
-use mathlib.Core.Logic.{_⊎_, inl, inr, ⊎-elim}
-use mathlib.Core.Path.{_≡_, refl, sym, _∙_, ap}
+use mathlib.Core.Logic.{_⊎_, inl, inr}
+use mathlib.Core.Path.{_≡_, _∙_, ap}
 use lib.Dec.{leb}
 use lib.ListN.{length, take, drop, length-take, length-append}
 use lib.Seq.{take-append-add, drop-append-add}
 use borrow.Author.Tests.{le-leb, lt-leb}
 use Rattle.floor.specs.declared.Floor.{Floor}
-use Rattle.floor.specs.Verdict.{passed, refused, _then_, demand}
+use Rattle.floor.specs.Verdict.{passed, refused, demand}
 use Rattle.floor.specs.Checks.{checkOf, roomOf}
 use Rattle.floor.proofs.VerdictLaws.{then-passed, then-refused, demand-passes, demand-refuses}
 use Rattle.route.proofs.Tests.{lt-or-le}
 use Rattle.reference.specs.State.{State}
-use Rattle.layout.specs.Places.{pairsBefore, stateSize}
+use Rattle.layout.specs.Places.{stateSize}
 use Rattle.layout.specs.Encode.{encode}
 use Rattle.layout.specs.Valid.{valid}
 use Rattle.layout.specs.Fits.{Fits}

@@ -5,3 +5,4 @@ pub mod LentLaws
 pub mod CallLaws
 pub mod ListLaws
 pub mod CutLaws
+pub mod Theorems

@@ -2,8 +2,8 @@
 use Prim.Native.Nat.{ℕ, _+_, _≤_}
 use native.Mathlib.Omega.{arith}
 use native.Mathlib.Nat.{zero-add}
-use mathlib.Core.List.{List, [], _∷_, _++_, map, map-append}
-use mathlib.Core.Path.{_≡_, refl, sym, _∙_, ap, ap₂}
+use mathlib.Core.List.{List, [], _∷_, _++_}
+use mathlib.Core.Path.{_≡_, refl, sym, _∙_, ap}
 use lib.ListN.{length, drop, length-drop}
 use borrow.Author.Tests.{le-leb}
 use Rattle.floor.specs.declared.Floor.{Floor}
@@ -15,13 +15,13 @@ use Rattle.reference.specs.State.{Machine, State, fresh}
 use Rattle.reference.specs.History.{Reaches, stay}
 use Rattle.reference.specs.Table.{Call}
 use Rattle.reference.specs.Calls.{Reply, reply, afterCall, replies, after}
-use Rattle.reference.specs.Quiet.{takenIn, takenInAll}
+use Rattle.reference.specs.Quiet.{takenInAll}
 use Rattle.reference.proofs.ReachLaws.{reaches-join, calls-reach}
 use Rattle.layout.specs.Places.{stateSize}
 use Rattle.layout.specs.Encode.{encode}
 use Rattle.layout.specs.Calls.{machineOf, placeVerdict, memoryIf, freshMemory}
 use Rattle.layout.proofs.StateLaws.{encode-length}
-use Rattle.demand.specs.Lists.{Asked, answerOf, leftBy, answersOf, memoryOf, bookCall, bookCalls}
+use Rattle.demand.specs.Lists.{Asked, answersOf, memoryOf, bookCall, bookCalls}
 use Rattle.demand.specs.Demand.{bookAfter}
 use Rattle.demand.proofs.CallLaws.{call-answer, call-memory}
 
@@ -84,12 +84,14 @@ module _ (f : Floor) (ws m : List ℕ) (ok : checkOf f ws ≡ passed) (long : st
   pub answers-same : (cs : List Asked) → answersOf f ws (freshMemory f ws m) cs ≡ replies (machineOf f ws) fresh (bookCalls f (length m) cs)
   answers-same cs = rw fresh-same (answers-from f ws ok behind (length m) room-split fresh 0 stay cs)
 
-  pub memory-same : (cs : List Asked) → memoryOf f ws (freshMemory f ws m) cs ≡ encode (f .carriers) (bookAfter f ws (length m) cs) ++ behind
+  pub memory-same : (cs : List Asked) →
+      memoryOf f ws (freshMemory f ws m) cs ≡ encode (f .carriers) (bookAfter f ws (length m) cs) ++ behind
   unfolding bookAfter
   memory-same cs = rw fresh-same (memory-from f ws ok behind (length m) room-split fresh 0 stay cs)
 
   -- The state after a list of calls is reached.
   pub after-reached : (cs : List Asked) →
-      Reaches (machineOf f ws) fresh (bookAfter f ws (length m) cs) (takenInAll (replies (machineOf f ws) fresh (bookCalls f (length m) cs)))
+      Reaches (machineOf f ws) fresh (bookAfter f ws (length m) cs)
+      (takenInAll (replies (machineOf f ws) fresh (bookCalls f (length m) cs)))
   unfolding bookAfter
   after-reached cs = calls-reach (machineOf f ws) fresh (bookCalls f (length m) cs)

@@ -1,15 +1,13 @@
 -- The reference machine's table of refusals in the terms of the checks: the steps of a list that are there, and what follows 10.
-use Prim.Native.Nat.{ℕ, zero, suc, _+_, _<_}
+use Prim.Native.Nat.{ℕ, zero, suc, _+_}
 use native.Mathlib.Omega.{arith}
 use native.Mathlib.Nat.{add-zero}
 use mathlib.Core.Bool.{Bool, true, false}
 use mathlib.Core.List.{List, [], _∷_, map}
-use mathlib.Core.Logic.{⊎-elim}
-use mathlib.Core.Path.{_≡_, refl, sym, _∙_, ap}
+use mathlib.Core.Path.{_≡_, refl, _∙_, ap}
 use lib.ListN.{length, getD}
 use Rattle.floor.specs.Verdict.{Verdict, passed, refused, _then_, demand, inTurn, each}
 use Rattle.floor.proofs.VerdictLaws.{then-assoc, each-none, refused-not-passed}
-use Rattle.route.proofs.Tests.{true-or-false}
 use Rattle.reference.specs.State.{Machine, State}
 use Rattle.reference.specs.Step.{Step, named, isOpen}
 use Rattle.reference.specs.Table.{accepted, refusal, allNamed, openSingle}

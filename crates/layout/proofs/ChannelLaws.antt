@@ -55,7 +55,8 @@ module _ (x y : List ℕ) (p : ℕ) (place : length x ≡ p) where
     fourth : (z : List ℕ) → Window (p + 196) (there (k ∷ four a b c d)) (there (k ∷ four a b c z)) d z
     fourth z =
         behind-there k 195
-        (window-behind a 65 195 la refl (window-behind b 65 130 lb refl (window-behind c 65 65 lc refl (window-front [] (window-whole d z)))))
+        (window-behind a 65 195 la refl
+        (window-behind b 65 130 lb refl (window-behind c 65 65 lc refl (window-front [] (window-whole d z)))))
 
   -- The others move up, the last place is cleared, and the number falls.
   module _ (k : ℕ) (a b c d : List ℕ) (la : length a ≡ 65) (lb : length b ≡ 65) (lc : length c ≡ 65) (ld : length d ≡ 65) where
