@@ -1,1 +1,4 @@
 -- The simulation of the reference machine by the memory, and the claim.
+pub mod FloorLaws
+pub mod VerdictLaws
+pub mod LentLaws
