@@ -17,5 +17,6 @@ pub mod ValidChannelLaws
 pub mod ValidDecodeLaws
 pub mod ValidLaws
 pub mod ExactLaws
+pub mod ExactReadLaws
 pub mod ExactStepLaws
 pub mod Theorems

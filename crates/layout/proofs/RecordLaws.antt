@@ -141,15 +141,15 @@ part-slot m at v l e h = part-is m at 65 (slot v) l (slot-length v) same
         rw place (h t (omega arith) ∙ sym (slot-number v t (omega arith)))
 
 -- What a view is, told by the tag.
-view-route : (tag : ℕ) (cells : List ℕ) → tag ≡ 2 → viewOf tag cells ≡ heard (route cells)
+pub view-route : (tag : ℕ) (cells : List ℕ) → tag ≡ 2 → viewOf tag cells ≡ heard (route cells)
 unfolding viewOf
 view-route tag cells e = rw e
 
-view-none : (tag : ℕ) (cells : List ℕ) → tag ≡ 1 → viewOf tag cells ≡ heard none
+pub view-none : (tag : ℕ) (cells : List ℕ) → tag ≡ 1 → viewOf tag cells ≡ heard none
 unfolding viewOf
 view-none tag cells e = rw e
 
-view-unheard : (tag : ℕ) (cells : List ℕ) → tag ≡ 0 → viewOf tag cells ≡ unheard
+pub view-unheard : (tag : ℕ) (cells : List ℕ) → tag ≡ 0 → viewOf tag cells ≡ unheard
 unfolding viewOf
 view-unheard tag cells e = rw e
 

@@ -34,7 +34,7 @@ unfolding placeValid
 place-unused f m at count q l = rw (le-ltb q count l)
 
 -- The places of k records that hold the messages l, one by one.
-first-next : (m : List ℕ) (at k : ℕ) (v : View) (rest : List ℕ) → length rest ≡ 65 * k → part m at (65 * suc k) ≡ slot v ++ rest
+pub first-next : (m : List ℕ) (at k : ℕ) (v : View) (rest : List ℕ) → length rest ≡ 65 * k → part m at (65 * suc k) ≡ slot v ++ rest
     → (part m at 65 ≡ slot v) × (part m (at + 65) (65 * k) ≡ rest)
 first-next m at k v rest s e =
     let n : 65 * suc k ≡ 65 + 65 * k = omega arith in
@@ -79,6 +79,9 @@ module _ (m : List ℕ) (at : ℕ) (l : List Answer) (e : part m at 261 ≡ chan
   count-read =
       let q = part-byte m at 1 0 (omega arith) in
       sym (rw add-zero at q) ∙ ap (λ (b : List ℕ). getD b 0 0) (both .0)
+
+  pub places-read : part m (at + 1) 260 ≡ slots 4 l
+  places-read = both .1
 
   -- The channel is valid.
   pub channel-valid : (f : Floor) → length l ≤ f .depth → AllOf (Sound f) l → channelValid f m at ≡ true

@@ -1,19 +1,20 @@
 -- What is claimed of the layout; `proofs/Theorems.antt` inhabits the record. Carriers count from 0. An accepted floor has a depth of at
 -- most 4, a horizon of at most 63 and at most 8 carriers.
 use Prim.Native.Nat.{ℕ, _+_, _*_, _≤_, _<_}
-use mathlib.Core.Bool.{true}
-use mathlib.Core.List.{List}
+use mathlib.Core.Bool.{true, false}
+use mathlib.Core.List.{List, _++_}
 use mathlib.Core.Logic.{_↔_}
 use mathlib.Core.Path.{_≡_}
-use lib.ListN.{length, take}
+use lib.ListN.{length, take, replicate}
 use Rattle.floor.specs.declared.Floor.{Floor}
-use Rattle.reference.specs.State.{State}
+use Rattle.reference.specs.State.{State, fresh}
 use Rattle.reference.specs.Step.{plan, deliver}
 use Rattle.layout.specs.Places.{stateSize}
 use Rattle.layout.specs.Encode.{encode}
 use Rattle.layout.specs.Decode.{decode}
 use Rattle.layout.specs.Valid.{valid}
 use Rattle.layout.specs.Fits.{Fits}
+use Rattle.layout.specs.Alike.{Alike}
 use Rattle.layout.specs.Numbers.{stepOf}
 
 pub record Claims : Type 0 where
@@ -23,6 +24,15 @@ pub record Claims : Type 0 where
   -- A valid memory is the encoding of the state that it shows, and that state is within the ranges.
   pub decode-valid : (f : Floor) (m : List ℕ) → f .depth ≤ 4 → f .horizon ≤ 63 → stateSize (f .carriers) ≤ length m → valid f m ≡ true →
       Fits f (decode (f .carriers) m) × (encode (f .carriers) (decode (f .carriers) m) ≡ take (stateSize (f .carriers)) m)
+  -- The memory of a state within the ranges shows that state in every part.
+  pub encode-shows : (f : Floor) (s : State) (rest : List ℕ) → f .depth ≤ 4 → Fits f s →
+      Alike (f .carriers) (decode (f .carriers) (encode (f .carriers) s ++ rest)) s
+  -- Two such states have one memory exactly if they are the same in every part.
+  pub encode-exactly : (f : Floor) (s z : State) → f .depth ≤ 4 → Fits f s → Fits f z →
+      (encode (f .carriers) s ≡ encode (f .carriers) z) ↔ Alike (f .carriers) s z
+  -- A fresh state is valid; a memory of zeros is no state, since no answer has tag 0.
+  pub fresh-valid : (f : Floor) (rest : List ℕ) → f .depth ≤ 4 → f .horizon ≤ 63 → valid f (encode (f .carriers) fresh ++ rest) ≡ true
+  pub zeros-refused : (f : Floor) (k : ℕ) → 1 ≤ f .carriers → valid f (replicate k 0) ≡ false
   -- The encoding of a state has the needed length.
   pub encode-length : (n : ℕ) (s : State) → length (encode n s) ≡ stateSize n
   -- The needed length, two bytes a number, is at most 65,536 bytes; for eight carriers it is 9,666 numbers.
