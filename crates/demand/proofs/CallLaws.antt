@@ -81,6 +81,7 @@ module _ (f : Floor) (ws : List ℕ) (ok : checkOf f ws ≡ passed) (s : State) 
       }
 
   module _ (rest : List ℕ) (room : ℕ) (size : room ≡ stateSize (f .carriers) + length rest) where
+    -- The reference machine of the floor, and the memory of the state.
     abbrev M : Machine
     M = machineOf f ws
 

@@ -28,6 +28,7 @@ use Rattle.demand.proofs.CallLaws.{reached-range, reached-whole, run-pa
 use Rattle.demand.proofs.ListLaws.{taken-join, behind, room-split, answers-same, memory-same, after-reached}
 
 module _ (f : Floor) (ws m : List ℕ) (ok : checkOf f ws ≡ passed) (long : stateSize (f .carriers) ≤ length m) (cs : List Asked) where
+  -- The reference machine of the floor, and its state after the calls.
   abbrev M : Machine
   M = machineOf f ws
 
@@ -59,10 +60,11 @@ module _ (f : Floor) (ws m : List ℕ) (ok : checkOf f ws ≡ passed) (long : st
       (reached-whole f ws ok s _ r))
 
   module _ (k l : ℕ) (xs ys : List ℕ) (b : ℕ) (e : runVerdict f (take k ws) (take l (memoryAfter f ws m cs)) (xs ++ ys) ≡ passed) where
+    -- The length of lent memory that the reference machine compares.
     abbrev lent : ℕ
     lent = lentLength f (length m) k l
 
-    -- What the reference machine is given: the run, and the run in two parts.
+    -- The run, and the run in two parts.
     abbrev whole : List Asked
     whole = run k l (xs ++ ys) b ∷ []
 

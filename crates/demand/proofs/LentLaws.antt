@@ -70,6 +70,7 @@ module _ (f : Floor) (rest : List ℕ) (room : ℕ) (size : room ≡ stateSize (
   book-short k l (inr h) = rw (le-leb (f .walls) k (h .0)) (lt-leb (stateSize (f .carriers)) (min l room) (omega arith))
 
 module _ (f : Floor) (ws : List ℕ) (ok : checkOf f ws ≡ passed) (s : State) (rest : List ℕ) where
+  -- The memory of the state.
   abbrev m : List ℕ
   m = encode (f .carriers) s ++ rest
 

@@ -39,6 +39,7 @@ call-reaches M s c = calls-reach M s (c ∷ [])
 
 module _ (f : Floor) (ws : List ℕ) (ok : checkOf f ws ≡ passed) (rest : List ℕ) (room : ℕ)
     (size : room ≡ stateSize (f .carriers) + length rest) where
+  -- The reference machine of the floor.
   abbrev M : Machine
   M = machineOf f ws
 

@@ -60,6 +60,7 @@ replies-not-ten M s [] = tt
 replies-not-ten M s (c ∷ cs) = (reply-not-ten M s c, replies-not-ten M (afterCall M s c) cs)
 
 module _ (f : Floor) (ws m : List ℕ) (ok : checkOf f ws ≡ passed) (long : stateSize (f .carriers) ≤ length m) (cs : List Asked) where
+  -- The reference machine of the floor, its state after the calls, and the calls as it is given them.
   abbrev M : Machine
   M = machineOf f ws
 

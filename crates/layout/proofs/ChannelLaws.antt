@@ -27,6 +27,7 @@ four a b c d = a ++ (b ++ (c ++ (d ++ [])))
 
 -- A number and four records in a memory, the number's place being p, and where each of them stands.
 module _ (x y : List ℕ) (p : ℕ) (place : length x ≡ p) where
+  -- The memory with block b there.
   abbrev there : List ℕ → List ℕ
   there b = x ++ (b ++ y)
 

@@ -4,20 +4,20 @@ use native.Mathlib.Omega.{arith}
 use mathlib.Core.Bool.{true, false}
 use mathlib.Core.List.{List, [], _∷_, _++_}
 use mathlib.Core.Logic.{⊎-elim}
-use mathlib.Core.Path.{_≡_, refl, sym, ap}
+use mathlib.Core.Path.{_≡_, refl, sym, _∙_, ap}
 use lib.ListN.{length}
 use Rattle.memory.specs.Memory.{put as putBlock}
 use Rattle.route.specs.Route.{Answer, heard}
 use Rattle.route.proofs.Tests.{eq-or-ne, true-false-absurd}
 use Rattle.reference.specs.Ranges.{put, putPair}
-use Rattle.reference.specs.State.{State}
+use Rattle.reference.specs.State.{State, tick}
 use Rattle.reference.specs.Step.{isEmpty}
 use Rattle.reference.specs.Take.{oldest, newer, deliverTo}
 use Rattle.reference.proofs.RangeLaws.{put-same, put-other, pair-same, pair-other, pair-other-row}
 use Rattle.reference.proofs.OpenLaws.{nil-empty}
 use Rattle.layout.specs.Places.{plannedPlace, duePlace, viewPlace, channelPlace}
 use Rattle.layout.specs.Encode.{flag, slot, carrierBlock, encode}
-use Rattle.layout.specs.Steps.{moved, popped, deliveredIn}
+use Rattle.layout.specs.Steps.{ticked, moved, popped, deliveredIn}
 use Rattle.layout.proofs.WindowLaws.{Window, window-whole, window-front, window-behind, window-inside, window-put}
 use Rattle.layout.proofs.SplitLaws.{slot-length}
 use Rattle.layout.proofs.StateLaws.{withTaken, withCarriers, withViews, withChans, carrier-window, view-window, channel-window}
@@ -79,22 +79,32 @@ module _ (n : ℕ) (s : State) (rest : List ℕ) where
 
 -- The four changes of a delivery, one after the other.
 module _ (n : ℕ) (s : State) (rest : List ℕ) (i j : ℕ) (above : j < i) (there : i < n) where
+  -- The state after them is the state after the delivery.
+  delivered-state : (a : Answer) (l : List Answer) → s .chan i j ≡ a ∷ l →
+      withTaken
+      (withCarriers
+      (withChans (withViews s (putPair (s .view) i j (heard a))) (putPair (s .chan) i j (newer (s .chan i j))))
+      (s .planned)
+      (put (s .due) i true)
+      (s .answer))
+      (tick (s .taken)) ≡ deliverTo s j i
+  unfolding deliverTo withViews withChans withCarriers withTaken oldest
+  delivered-state a l e = rw e
+
   delivered-full : (a : Answer) (l : List Answer) → s .chan i j ≡ a ∷ l → length (s .chan i j) ≤ 4 → s .taken ≤ 999999 →
       deliveredIn n (encode n s ++ rest) j i ≡ encode n (deliverTo s j i) ++ rest
-  unfolding deliveredIn deliverTo withViews withChans withCarriers withTaken oldest
+  unfolding deliveredIn withViews withChans withCarriers
   delivered-full a l e few t =
+      let c = channelPlace n i j in
       let s₁ = withViews s (putPair (s .view) i j (heard a)) in
       let s₂ = withChans s₁ (putPair (s .chan) i j (newer (s .chan i j))) in
       let s₃ = withCarriers s₂ (s .planned) (put (s .due) i true) (s .answer) in
       let full : 0 < length (s .chan i j) = rw e (omega arith) in
-      rw (
-        moved-same n s rest i j a l above there e,
-        popped-same n s₁ rest i j above there full few,
-        put-due n s₂ rest i there,
-        ticked-same n s₃ rest t,
-        e,
-      )
-      refl
+      ap (λ (x : List ℕ). ticked (putBlock (popped x c) (duePlace i) (1 ∷ []))) (moved-same n s rest i j a l above there e)
+      ∙ ap (λ (x : List ℕ). ticked (putBlock x (duePlace i) (1 ∷ []))) (popped-same n s₁ rest i j above there full few)
+      ∙ ap ticked (put-due n s₂ rest i there)
+      ∙ ticked-same n s₃ rest t
+      ∙ ap (λ (z : State). encode n z ++ rest) (delivered-state a l e)
 
   -- A delivery from a channel that is not empty.
   pub delivered-same : isEmpty (s .chan i j) ≡ false → length (s .chan i j) ≤ 4 → s .taken ≤ 999999 →

@@ -43,6 +43,7 @@ and-same true b c h = h refl
 and-same false b c h = refl
 
 module _ (M : Machine) (s : State) (rest : List ℕ) where
+  -- The number of carriers, and the memory of the state.
   abbrev n : ℕ
   n = M .carriers
 

@@ -27,6 +27,7 @@ pub record Storable (M : Machine) : Type 0 where
   pub whole : (i : ℕ) (vs : List View) → Whole (M .respond i vs)
 
 module _ (M : Machine) (fit : Storable M) (s : State) (range : InRange M s) (whole : Throughout Whole s) (rest : List ℕ) where
+  -- The number of carriers, and the memory of the state.
   abbrev n : ℕ
   n = M .carriers
 
