@@ -51,7 +51,7 @@ newer-shorter (a ∷ l) = omega arith
 
 module _ (M : Machine) (s : State) where
   -- Where i has room, each channel from it to a carrier below has fewer than depth messages.
-  room-says : (i k : ℕ) → hasRoom M s i ≡ true → i < k → k < M .carriers → length (s .chan k i) < M .depth
+  pub room-says : (i k : ℕ) → hasRoom M s i ≡ true → i < k → k < M .carriers → length (s .chan k i) < M .depth
   unfolding hasRoom
   room-says i k e l h =
       ⊎-elim (λ (p : leb k i ≡ true). true-false-absurd p (lt-leb k i l))

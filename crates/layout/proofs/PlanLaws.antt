@@ -1,0 +1,130 @@
+-- A plan in memory is a plan: the views that it reads, whether its answer is news, what it stores and sends.
+use Prim.Native.Nat.{ℕ, _+_, _≤_, _<_}
+use native.Mathlib.Omega.{arith}
+use native.Mathlib.Nat.{add-zero}
+use mathlib.Core.Bool.{true, false}
+use mathlib.Core.List.{List, [], _∷_, _++_}
+use mathlib.Core.Logic.{⊎-elim}
+use mathlib.Core.Path.{_≡_, refl, sym, _∙_, ap}
+use lib.ListN.{length, getD}
+use Rattle.memory.specs.Memory.{put as putBlock, part}
+use Rattle.route.specs.Route.{Answer, none, route, View, unheard, heard}
+use Rattle.route.proofs.Tests.{true-or-false}
+use Rattle.search.specs.Views.{viewOf}
+use Rattle.planner.specs.Records.{recordOf}
+use Rattle.planner.proofs.ViewLaws.{Whole}
+use Rattle.reference.specs.Ranges.{put}
+use Rattle.reference.specs.State.{State, views, tick}
+use Rattle.reference.specs.Step.{sameCells, sameAnswer}
+use Rattle.reference.specs.Take.{isNews, send, planAs}
+use Rattle.reference.specs.Bounds.{ShownOf}
+use Rattle.reference.proofs.RangeLaws.{below-same, put-same, put-other}
+use Rattle.layout.specs.Places.{plannedPlace, viewPlace}
+use Rattle.layout.specs.Encode.{flag, fit, slot, carrierBlock, encode}
+use Rattle.layout.specs.Decode.{recordAt}
+use Rattle.layout.specs.Steps.{newsIn, plannedIn, viewsIn}
+use Rattle.layout.proofs.WindowLaws.{Stands, window-whole, window-behind, window-inside, window-part, window-number, window-put}
+use Rattle.layout.proofs.SplitLaws.{fit-whole, slot-length, carrier-length}
+use Rattle.layout.proofs.StateLaws.{withTaken, withCarriers, withChans, carrier-window}
+use Rattle.layout.proofs.ReadLaws.{read-planned, read-answer, view-here}
+use Rattle.layout.proofs.OpenLaws.{flag-set}
+use Rattle.layout.proofs.CountLaws.{ticked-same}
+use Rattle.layout.proofs.SendLaws.{sent-same}
+
+-- The record of a whole answer as it lies in memory.
+pub slot-record : (a : Answer) → Whole a → slot (heard a) ≡ recordOf a
+unfolding slot
+slot-record a w = fit-whole 65 (recordOf a) w
+
+-- The tag of a record that stands at a place, and the view with a tag.
+tag-read : (m : List ℕ) (p : ℕ) (v : View) (k : ℕ) → getD (slot v) 0 0 ≡ k → Stands p m (slot v) → getD m p 0 ≡ k
+tag-read m p v k e h = window-number 0 p (omega (arith, slot-length v)) (add-zero p) h ∙ e
+
+route-shows : (m r : List ℕ) (p : ℕ) → length r ≡ 64 → Stands p m (2 ∷ r) → part m (p + 1) 64 ≡ r
+route-shows m r p l h = window-part 64 l (window-inside (p + 1) refl h (window-behind (2 ∷ []) 1 1 refl refl (window-whole r r)))
+
+-- The view in a record is the view that was stored there.
+record-shows : (m : List ℕ) (p : ℕ) (v : View) → ShownOf Whole v → Stands p m (slot v) → recordAt m p ≡ v
+unfolding recordAt ShownOf viewOf slot recordOf fit
+record-shows m p unheard w h = rw (tag-read m p unheard 0 refl h)
+record-shows m p (heard none) w h = rw (tag-read m p (heard none) 1 refl h)
+record-shows m p (heard (route r)) w h =
+    rw (tag-read m p (heard (route r)) 2 refl h, route-shows m r p (omega (arith, w)) (rw (slot-record (route r) w) at h))
+
+-- Two whole answers are the same where their records are.
+records-same : (a b : Answer) → sameCells (recordOf a) (recordOf b) ≡ sameAnswer a b
+unfolding sameCells sameAnswer recordOf
+records-same none none = refl
+records-same none (route r) = refl
+records-same (route q) none = refl
+records-same (route q) (route r) = refl
+
+module _ (n : ℕ) (s : State) (rest : List ℕ) where
+  -- The views of carrier i.
+  pub views-same : (i : ℕ) → i < n → ((j : ℕ) → j < i → ShownOf Whole (s .view i j)) → viewsIn n (encode n s ++ rest) i ≡ views s i
+  unfolding viewsIn views
+  views-same i l w =
+      below-same i (λ j. recordAt (encode n s ++ rest) (viewPlace n i j)) (s .view i)
+      (λ j h. record-shows (encode n s ++ rest) (viewPlace n i j) (s .view i j) (w j h) (view-here n s rest i j h l))
+
+  -- A record is news where its answer is.
+  pub news-same : (i : ℕ) (a : Answer) → i < n → Whole (s .answer i) → newsIn (encode n s ++ rest) i (recordOf a) ≡ isNews s i a
+  unfolding newsIn isNews
+  news-same i a l w =
+      rw (
+        read-planned n s rest i l,
+        flag-set (s .planned i),
+        read-answer n s rest i l,
+        slot-record (s .answer i) w,
+        records-same (s .answer i) a,
+      )
+
+  -- Carrier i has planned, is no longer due, and has this answer.
+  pub put-planned : (i : ℕ) (a : Answer) → i < n → Whole a →
+      putBlock (encode n s ++ rest) (plannedPlace i) (1 ∷ (0 ∷ recordOf a)) ≡
+      encode n (withCarriers s (put (s .planned) i true) (put (s .due) i false) (put (s .answer) i a)) ++ rest
+  unfolding flag carrierBlock withCarriers
+  put-planned i a l w =
+      let p = put (s .planned) i true in
+      let d = put (s .due) i false in
+      let b = put (s .answer) i a in
+      let block : carrierBlock (withCarriers s p d b) i ≡ 1 ∷ (0 ∷ recordOf a) =
+      rw (put-same (s .planned) i true, put-same (s .due) i false, put-same (s .answer) i a, slot-record a w)
+      in
+      rw (← block)
+      (window-put (carrier-length s i ∙ sym (carrier-length (withCarriers s p d b) i))
+      (carrier-window n s rest p d b i l
+      (λ k x y. (sym (put-other (s .planned) i true k y), sym (put-other (s .due) i false k y), sym (put-other (s .answer) i a k y)))))
+
+-- The changes of a plan, one after the other.
+module _ (n : ℕ) (s : State) (rest : List ℕ) (i : ℕ) (a : Answer) where
+  -- The state with the answer stored, and the channels as given.
+  planned-state : (ℕ → ℕ → List Answer) → State
+  planned-state h =
+      withTaken
+      (withChans (withCarriers s (put (s .planned) i true) (put (s .due) i false) (put (s .answer) i a)) h)
+      (tick (s .taken))
+
+  news-state : isNews s i a ≡ true → planned-state (send (s .chan) i a) ≡ planAs s i a
+  unfolding planned-state planAs withCarriers withChans withTaken
+  news-state e = rw (e, planAs)
+
+  kept-state : isNews s i a ≡ false → planned-state (s .chan) ≡ planAs s i a
+  unfolding planned-state planAs withCarriers withChans withTaken
+  kept-state e = rw (e, planAs)
+
+  pub planned-same : i < n → Whole a → Whole (s .answer i) → s .taken ≤ 999999 →
+      ((k : ℕ) → i < k → k < n → length (s .chan k i) < 4) →
+      plannedIn n (encode n s ++ rest) i (recordOf a) ≡ encode n (planAs s i a) ++ rest
+  unfolding plannedIn planned-state withCarriers withChans
+  planned-same l w v t room =
+      let s₁ = withCarriers s (put (s .planned) i true) (put (s .due) i false) (put (s .answer) i a) in
+      let s₂ = withChans s₁ (send (s .chan) i a) in
+      ⊎-elim
+      (λ (e : isNews s i a ≡ true).
+      rw (news-same n s rest i a l v, put-planned n s rest i a l w, e, sent-same n s₁ rest i a w room, ticked-same n s₂ rest t)
+      (ap (λ (z : State). encode n z ++ rest) (news-state e)))
+      (λ (e : isNews s i a ≡ false).
+      rw (news-same n s rest i a l v, put-planned n s rest i a l w, e, ticked-same n s₁ rest t)
+      (ap (λ (z : State). encode n z ++ rest) (kept-state e)))
+      (true-or-false (isNews s i a))
