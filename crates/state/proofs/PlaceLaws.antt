@@ -11,7 +11,7 @@ pub pairs-more : (k p : ℕ) → p ≡ pairsBefore k → p + k ≡ pairsBefore (
 unfolding pairsBefore
 pairs-more k p e = rw (add-one, e) refl
 
-pairs-next : (i : ℕ) → pairsBefore (suc i) ≡ pairsBefore i + i
+pub pairs-next : (i : ℕ) → pairsBefore (suc i) ≡ pairsBefore i + i
 unfolding pairsBefore
 pairs-next i = refl
 

@@ -1,8 +1,8 @@
 // Channels: a length and four records, oldest first.
 ghost use mathlib.Core.Path.{_≡_};
 ghost use mathlib.Core.List.{_∷_};
-ghost use Prim.Native.Nat.{_+_, _≤_, _<_};
-ghost use lib.ListN.{length, getD};
+ghost use Prim.Native.Nat.{_+_, _-_, _≤_, _<_};
+ghost use lib.ListN.{length};
 ghost use Rattle.layout.specs.Places.{stateSize};
 ghost use Rattle.layout.specs.Steps.{shifted, popped, pushed, pushedBelow, sentTo};
 use route::Route;
@@ -18,14 +18,24 @@ fn shift(m: &mut [u16], c: usize)
     crate::records::clear_record(m, c + 196);
 }
 
+// One less; 0 stays 0.
+fn one_less(count: u16) -> u16
+    ensures { λ r. ⌜ r ≡ count - 1 ⌝ }
+{
+    if count < 1 {
+        return 0;
+    }
+    count - 1
+}
+
 // The oldest message leaves the channel at place c.
 pub fn pop(m: &mut [u16], c: usize)
-    requires { ⌜ (c + 261 ≤ length (now m)) × (1 ≤ getD (now m) c 0) ⌝ }
+    requires { ⌜ c + 261 ≤ length (now m) ⌝ }
     ensures { λ r. ⌜ now (m .exit) ≡ popped (now (m .entry)) c ⌝ }
 {
     let count = m[c];
     shift(m, c);
-    m[c] = count - 1;
+    m[c] = one_less(count);
 }
 
 // Puts an answer last on the channel at place c, if it has room.

@@ -14,6 +14,7 @@ pub use count::tick;
 pub use places::channel_place;
 pub use places::state_size;
 pub use places::view_place;
+pub use places::views_start;
 pub use records::is_news;
 pub use records::move_record;
 pub use records::set_planned;

@@ -1,6 +1,6 @@
 // Where each part of a state lies.
 ghost use mathlib.Core.Path.{_≡_};
-ghost use Prim.Native.Nat.{_+_, _≤_, _<_};
+ghost use Prim.Native.Nat.{_+_, _*_, _≤_, _<_};
 ghost use Rattle.layout.specs.Places.{pairsBefore, viewPlace, channelPlace, stateSize};
 
 // The pairs with a receiver below i.
@@ -23,6 +23,14 @@ pub fn view_place(n: usize, i: usize, j: usize) -> usize
     ensures { λ r. ⌜ (r ≡ viewPlace n i j) × (r + 65 ≤ stateSize n) × (r ≤ 9665) ⌝ }
 {
     2 + 67 * n + 65 * (pairs_before(i) + j)
+}
+
+// The first view that carrier i has; the views of carrier i stand one behind the other.
+pub fn views_start(n: usize, i: usize) -> usize
+    requires { ⌜ (i < n) × (n ≤ 8) ⌝ }
+    ensures { λ r. ⌜ (r ≡ viewPlace n i 0) × (r + 65 * i ≤ stateSize n) × (r ≤ 9665) ⌝ }
+{
+    2 + 67 * n + 65 * pairs_before(i)
 }
 
 // The channel from carrier j to carrier i.

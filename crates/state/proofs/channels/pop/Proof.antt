@@ -1,6 +1,4 @@
 use Rattle.memory.proofs.PutLaws.{put-one}
-use denote.Ref.{now}
-use lib.ListN.{getD}
 use mathlib.Core.Path.{refl, _∙_}
 use Prim.Native.Nat.{_-_}
 use Rattle.layout.specs.Steps.{popped}
@@ -18,8 +16,8 @@ slice-read-count c = search needs
 shift-requires : tie.Need-shift-requires
 shift-requires c κs = search needs
 
-sub-m : tie.Need-sub-m
-sub-m c = search needs
+one-less-requires : tie.Need-one-less-requires
+one-less-requires c κs = search needs
 
 mul-m : tie.Need-mul-m
 mul-m c = search needs
@@ -32,7 +30,9 @@ same-length c = search needs
 
 returns : tie.Need-returns
 unfolding popped
-returns c = put-one (c .before .before .shift .last .0) (c .before .before .before .before .before .before .args .c) (getD (c .before .before .before .before .before .before .args .m .now) (c .before .before .before .before .before .before .args .c) 0 - 1) (omega (arith, c .before .before .before .before .before .before .pre)) ∙ rw (c .before .before .shift .ensures) refl
+returns c = let now-less = c .one-less .ensures in
+    put-one (c .before .before .before .shift .last .0) (c .before .before .before .before .before .before .before .args .c) (c .one-less .result) (omega (arith, c .before .before .before .shift .kept .0, c .before .before .before .before .before .before .before .pre))
+    ∙ rw (c .before .before .before .shift .ensures, now-less) refl
 
 pub pop-spec : {M : Type 1} → statement M
 pop-spec =
@@ -41,7 +41,7 @@ pop-spec =
     mul-count
     slice-read-count
     shift-requires
-    sub-m
+    one-less-requires
     mul-m
     slice-write-m
     same-length

@@ -1,0 +1,98 @@
+// The refusals of the entries, in document 01's order: the floor's, 9, 10, 7, 8.
+ghost use mathlib.Core.Path.{_≡_};
+ghost use mathlib.Core.Bool.{false};
+ghost use mathlib.Core.List.{List};
+ghost use Prim.Native.Nat.{ℕ};
+ghost use lib.ListN.{length, getD};
+ghost use Rattle.floor.specs.Answers.{verdictOf};
+ghost use Rattle.floor.specs.Verdict.{_then_, demand, each};
+ghost use Rattle.reference.specs.Step.{named};
+ghost use Rattle.layout.specs.Numbers.{stepOf};
+ghost use Rattle.layout.specs.Steps.{openIn};
+ghost use Rattle.layout.specs.Calls.{machineOf, placeVerdict, stateVerdict, runVerdict};
+ghost use Rattle.machine.specs.Answers.{meant};
+use crate::Asked;
+use floor::Checked;
+use floor::Floor;
+use floor::Refusal;
+
+// A refusal with place 0.
+fn refused(number: u16) -> Checked
+    ensures { λ r. ⌜ verdictOf r ≡ demand false number 0 ⌝ }
+{
+    Checked::Refused(Refusal {
+        number: number,
+        place: 0,
+    })
+}
+
+// The refusals of a lent place for a state.
+pub fn lent_place(f: Floor, walls: &[u16], lent: usize) -> Checked
+    ensures { λ r. ⌜ verdictOf r ≡ placeVerdict f (now (walls .entry)) lent ⌝ }
+{
+    let checked = floor::check(f, walls);
+    let Checked::Passed = checked else {
+        return checked;
+    };
+    floor::room(state::state_size(f.carriers as usize), lent)
+}
+
+// The refusals of a lent state.
+pub fn lent_state(f: Floor, walls: &[u16], m: &[u16]) -> Checked
+    ensures { λ r. ⌜ verdictOf r ≡ stateVerdict f (now (walls .entry)) (now (m .entry)) ⌝ }
+{
+    let placed = lent_place(f, walls, m.len());
+    let Checked::Passed = placed else {
+        return placed;
+    };
+    if state::valid(f, m) {
+        return Checked::Passed;
+    }
+    refused(10)
+}
+
+// The refusals of a single step.
+pub fn single(f: Floor, walls: &[u16], m: &[u16], s: Asked) -> Checked
+    ensures { λ r. ⌜ verdictOf r ≡ (stateVerdict f (now (walls .entry)) (now (m .entry)) then demand (named (machineOf f (now (walls .entry))) (meant s)) 7 0 then demand (openIn (machineOf f (now (walls .entry))) (now (m .entry)) (meant s)) 8 0) ⌝ }
+{
+    let sound = lent_state(f, walls, m);
+    let Checked::Passed = sound else {
+        return sound;
+    };
+    if !crate::steps::is_named(s, f.carriers as usize) {
+        return refused(7);
+    }
+    if crate::tests::is_open(f, m, s) {
+        return Checked::Passed;
+    }
+    refused(8)
+}
+
+// 7 with the position of the first step of a list that is not there.
+fn all_named(f: Floor, numbers: &[u16]) -> Checked
+    ensures { λ r. ⌜ ((ws : List ℕ) → verdictOf r ≡ each 7 0 (λ p. named (machineOf f ws) (stepOf (getD (now (numbers .entry)) p 0))) (length (now (numbers .entry)))) ⌝ }
+{
+    let n = f.carriers as usize;
+    let mut p: usize = 0;
+    while p < numbers.len() {
+        if !crate::steps::is_named(crate::steps::step_of(numbers[p]), n) {
+            return Checked::Refused(Refusal {
+                number: 7,
+                place: p,
+            });
+        }
+        p += 1;
+    }
+    Checked::Passed
+}
+
+// The refusals of a run.
+pub fn listed(f: Floor, walls: &[u16], m: &[u16], numbers: &[u16]) -> Checked
+    ensures { λ r. ⌜ verdictOf r ≡ runVerdict f (now (walls .entry)) (now (m .entry)) (now (numbers .entry)) ⌝ }
+{
+    let sound = lent_state(f, walls, m);
+    let Checked::Passed = sound else {
+        return sound;
+    };
+    all_named(f, numbers)
+}
