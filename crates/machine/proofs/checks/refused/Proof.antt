@@ -1,0 +1,13 @@
+use mathlib.Core.Path.{refl}
+use Prim.Native.Nat.{_-_}
+use Rattle.floor.specs.Verdict.{demand}
+use Rattle.floor.specs.Answers.{verdictOf}
+use Rattle.machine.proofs.checks.refused.Statement.{statement}
+use Rattle.machine.proofs.checks.refused.Tie as tie
+
+returns : tie.Need-returns
+unfolding verdictOf demand
+returns c = refl
+
+pub refused-spec : {M : Type 1} → statement M
+refused-spec = tie.close (tie.spec returns)

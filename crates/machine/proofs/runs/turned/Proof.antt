@@ -1,0 +1,25 @@
+use mathlib.Core.Path.{refl}
+use Prim.Native.Nat.{_-_}
+use Rattle.layout.specs.Calls.{replyIf}
+use Rattle.machine.specs.Answers.{ranReply}
+use Rattle.floor.specs.Answers.{verdictOf}
+use borrow.Author.Needs.{needs}
+use Rattle.machine.proofs.runs.turned.Statement.{statement}
+use Rattle.machine.proofs.runs.turned.Tie as tie
+
+enum-known-checked : tie.Need-enum-known-checked
+enum-known-checked c = search needs
+
+enum-told : tie.Need-enum-told
+enum-told c = search needs
+
+returns : tie.Need-returns
+unfolding ranReply replyIf verdictOf
+returns c = rw (c .before .checked .given .1) refl
+
+returns-2 : tie.Need-returns-2
+unfolding ranReply replyIf verdictOf
+returns-2 c = rw (c .enum-told .given .1) refl
+
+pub turned-spec : {M : Type 1} → statement M
+turned-spec = tie.close (tie.spec enum-known-checked enum-told returns returns-2)
