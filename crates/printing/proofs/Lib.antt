@@ -1,0 +1,4 @@
+-- Laws of the definitions that no single function owns.
+pub mod FieldsLaws
+pub mod LoadLaws
+pub mod PutLaws

@@ -1,0 +1,2 @@
+// The routes of a floor as text, put into a buffer.
+mod lines;
