@@ -19,7 +19,7 @@ each-same k p ok ok′ zero a = refl
 each-same k p ok ok′ (suc m) a = rw (each-same k p ok ok′ m (λ i l. a i (omega arith)), a m (omega arith))
 
 -- A number is looked for among the same numbers.
-among-same : (xs ys : List ℕ) (m c : ℕ) → All (λ (i : ℕ). getD xs i 0 ≡ getD ys i 0) m → among xs m c ≡ among ys m c
+pub among-same : (xs ys : List ℕ) (m c : ℕ) → All (λ (i : ℕ). getD xs i 0 ≡ getD ys i 0) m → among xs m c ≡ among ys m c
 unfolding among
 among-same xs ys zero c a = refl
 among-same xs ys (suc m) c a = rw (among-same xs ys m c (λ i l. a i (omega arith)), a m (omega arith))

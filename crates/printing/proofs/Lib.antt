@@ -2,3 +2,5 @@
 pub mod FieldsLaws
 pub mod LoadLaws
 pub mod PutLaws
+pub mod RecordLaws
+pub mod PrintLaws
