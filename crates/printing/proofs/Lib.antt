@@ -4,3 +4,5 @@ pub mod LoadLaws
 pub mod PutLaws
 pub mod RecordLaws
 pub mod PrintLaws
+pub mod LinesLaws
+pub mod Theorems

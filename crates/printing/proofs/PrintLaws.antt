@@ -9,7 +9,7 @@ use lib.ListN.{length, take, drop, length-append}
 use lib.Seq.{take-at}
 use Rattle.memory.specs.Memory.{put}
 use Rattle.floor.specs.declared.Floor.{Floor}
-use Rattle.floor.specs.Verdict.{passed, refused, _then_}
+use Rattle.floor.specs.Verdict.{Verdict, passed, refused, _then_}
 use Rattle.floor.specs.Checks.{checkOf, roomOf}
 use Rattle.floor.proofs.VerdictLaws.{then-both, then-cases, then-passed, refused-not-passed, demand-passes}
 use Rattle.floor.proofs.LimitsLaws.{Bounds, check-tells, room-passed}
@@ -25,7 +25,8 @@ use Rattle.planner.specs.Records.{stored, storedIf, planMemory}
 use Rattle.planner.specs.Answers.{made, resultOf, madeIf, planResult}
 use Rattle.printing.specs.declared.Printed.the-variants.{Written}
 use Rattle.printing.specs.Print.{Outcome, written, turned, outcomeOf, writtenIf, printOf, textLength}
-use Rattle.printing.specs.Print.{printVerdict, printOutcome, orRefusal, routesOf, neededFor, shortOutcome, routesOutcome, routesMemory}
+use Rattle.printing.specs.Print.{printVerdict, printOutcome, orRefusal, routesOf, neededFor, shortOutcome, routesOutcome}
+use Rattle.printing.specs.Print.{routesMemory}
 use Rattle.printing.specs.Put.{TextPut, TextOrShort, FloorPut, RefusalPut, textIn}
 use Rattle.printing.proofs.RecordLaws.{plan-text}
 
@@ -163,3 +164,9 @@ module _ (text old new : List ℕ) (o : Outcome) where
       → (o ≡ routesOutcome text (length old)) × (new ≡ routesMemory text old)
   unfolding routesOutcome routesMemory routesOf orRefusal neededFor chosen shortOutcome writtenIf _then_ RefusalPut
   routes-refused k p v t = (rw v (t .answers), rw v (t .stores))
+
+-- What is turned away for too little memory is never written.
+pub short-turned : (v : Verdict) (n : ℕ) → written n ≡ writtenIf (v then refused 9 0) 0 → ⊥
+unfolding writtenIf _then_
+short-turned passed n e = let z : _≡_ {A = ℕ} 0 1 = cc in omega arith
+short-turned (refused k p) n e = let z : _≡_ {A = ℕ} 0 1 = cc in omega arith

@@ -2,3 +2,4 @@
 pub mod Text
 pub mod Print
 pub mod Put
+pub mod Claims
