@@ -47,7 +47,8 @@ room-means : (needed lent : ℕ) → (roomOf needed lent ≡ refused 9 0) ↔ (l
 unfolding roomOf
 room-means needed lent = (λ h. leb-false _ _ (demand-cases _ 9 0 9 0 h .0), λ l. demand-refuses 9 0 (lt-leb _ _ l))
 
-walls-room : (text : List ℕ) (room : ℕ) → (readVerdict text room ≡ refused 9 0) ↔ ((sheetVerdict text ≡ passed) × (room < floorAt text .walls))
+walls-room : (text : List ℕ) (room : ℕ) → (readVerdict text room ≡ refused 9 0) ↔ ((sheetVerdict text ≡ passed) ×
+    (room < floorAt text .walls))
 unfolding readVerdict
 walls-room text room = (
   λ h.
@@ -63,11 +64,13 @@ sheet-room : (f : Floor) (ws : List ℕ) (room : ℕ) → checkOf f ws ≡ passe
 unfolding writeVerdict
 sheet-room f ws room ok = (λ h. room-means _ _ .0 (sym (then-passed ok) ∙ h), λ l. then-passed ok ∙ room-means _ _ .1 l)
 
-answers-room : (f : Floor) (ws : List ℕ) (room : ℕ) → checkOf f ws ≡ passed → (planVerdict f ws room ≡ refused 9 0) ↔ (room < 65 * f .carriers)
+answers-room : (f : Floor) (ws : List ℕ) (room : ℕ) → checkOf f ws ≡ passed → (planVerdict f ws room ≡ refused 9 0) ↔
+    (room < 65 * f .carriers)
 unfolding planVerdict
 answers-room f ws room ok = (λ h. room-means _ _ .0 (sym (then-passed ok) ∙ h), λ l. then-passed ok ∙ room-means _ _ .1 l)
 
-views-room : (f : Floor) (ws : List ℕ) (i : ℕ) (m : List ℕ) → checkOf f ws ≡ passed → (requestOf f ws i m ≡ refused 9 0) ↔ (length m < 65 * f .carriers)
+views-room : (f : Floor) (ws : List ℕ) (i : ℕ) (m : List ℕ) → checkOf f ws ≡ passed → (requestOf f ws i m ≡ refused 9 0) ↔
+    (length m < 65 * f .carriers)
 unfolding requestOf
 views-room f ws i m ok = (
   λ h.

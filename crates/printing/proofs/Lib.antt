@@ -6,3 +6,4 @@ pub mod RecordLaws
 pub mod PrintLaws
 pub mod LinesLaws
 pub mod Theorems
+pub mod Cases

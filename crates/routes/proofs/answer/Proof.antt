@@ -23,12 +23,22 @@ returns : tie.Need-returns
 returns c = search needs
 
 slice-reshare-prefix-write-all : tie.Need-slice-reshare-prefix-write-all
-slice-reshare-prefix-write-all c = omega (arith, written-fits _ _ _ _ (c .before .before .before .before .before .routes .ensures .0) (c .before .printed .given .1), c .before .before .before .before .before .routes .kept)
+slice-reshare-prefix-write-all c = omega (
+  arith,
+  written-fits _ _ _ _ (c .before .before .before .before .before .routes .ensures .0)
+      (c .before .printed .given .1),
+  c .before .before .before .before .before .routes .kept,
+)
 
 slice-aggregate-write-all : tie.Need-slice-aggregate-write-all
 slice-aggregate-write-all c =
     let c₄ = c .before .before .before .before in
-    sym (length-take-le _ _ (omega (arith, written-fits _ _ _ _ (c₄ .before .before .routes .ensures .0) (c .before .before .printed .given .1), c₄ .before .before .routes .kept)))
+    sym (length-take-le _ _ (omega (
+      arith,
+      written-fits _ _ _ _ (c₄ .before .before .routes .ensures .0)
+          (c .before .before .printed .given .1),
+      c₄ .before .before .routes .kept,
+    )))
 
 write-all-requires : tie.Need-write-all-requires
 write-all-requires c κs = search needs
