@@ -1,0 +1,46 @@
+-- `second::met` is safe and ends. Assumes nothing.
+use Prim.Native.Nat.{_-_}
+use borrow.Author.Needs.{needs}
+use Rattle.second.proofs.met.Statement.{statement}
+use Rattle.second.proofs.met.Tie as tie
+
+abbrev Inv-loop : tie.InvT-loop
+Inv-loop views k c j₀ j = Unit {0}
+
+abbrev μ-loop : tie.MeasureT-loop
+μ-loop views k c j₀ j = k - j
+
+loop-holds : tie.Need-loop-holds Inv-loop μ-loop
+loop-holds c = search needs
+
+told-requires : tie.Need-told-requires Inv-loop μ-loop
+told-requires c κs = search needs
+
+returns : tie.Need-returns Inv-loop μ-loop
+returns c = search needs
+
+add-j : tie.Need-add-j Inv-loop μ-loop
+add-j c = search needs
+
+loop-less : tie.Need-loop-less Inv-loop μ-loop
+loop-less c = search needs
+
+loop-again : tie.Need-loop-again Inv-loop μ-loop
+loop-again c = search needs
+
+returns-2 : tie.Need-returns-2 Inv-loop μ-loop
+returns-2 c = search needs
+
+pub met-spec : {M : Type 1} → statement M
+met-spec =
+    tie.close
+    (tie.spec
+    Inv-loop
+    μ-loop
+    loop-holds
+    told-requires
+    returns
+    add-j
+    loop-less
+    loop-again
+    returns-2)
