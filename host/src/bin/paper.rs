@@ -1,6 +1,9 @@
 //! The routes program over `paper.rs` alone: a sheet on standard input, its routes on standard output. It needs no archive.
 //! Its tests (`cargo test --bin paper`) hold `paper.rs` to document 01's twelve floors, and its search to a search of all routes.
 
+#[cfg(test)]
+#[path = "../draw.rs"]
+mod draw;
 #[path = "../paper.rs"]
 mod paper;
 
@@ -14,6 +17,7 @@ fn main() -> std::io::Result<()> {
 
 #[cfg(test)]
 mod tests {
+    use super::draw::Draw;
     use super::paper::{self, calls, Answer, Floor, Route, View};
 
     const SHEET: &str = "    3    2    4    1    2    0\n    0    0    2    0\n    2    0    0    0\n";
@@ -140,19 +144,6 @@ mod tests {
         assert_eq!(calls::ceiling(1), done(0, 1));
         assert_eq!(calls::ceiling(0), refused(2, 5));
         assert_eq!(calls::ceiling(9), refused(2, 5));
-    }
-
-    /// A small generator (splitmix64).
-    struct Draw(u64);
-
-    impl Draw {
-        fn below(&mut self, bound: usize) -> usize {
-            self.0 = self.0.wrapping_add(0x9e37_79b9_7f4a_7c15);
-            let mut z = self.0;
-            z = (z ^ (z >> 30)).wrapping_mul(0xbf58_476d_1ce4_e5b9);
-            z = (z ^ (z >> 27)).wrapping_mul(0x94d0_49bb_1331_11eb);
-            ((z ^ (z >> 31)) % bound as u64) as usize
-        }
     }
 
     /// Document 01's best route, read literally: every route is tried, conflicts are tested route against route.
