@@ -26,18 +26,29 @@ pub struct Planner {
     above: usize,
 }
 
-/// A set after one beat, where nothing is in the way but what is not open.
+/// A block of eight rows after one beat, where nothing is in the way but what is not open.
 #[inline(always)]
-fn spread(set: &Rows, open: &Rows, next: &mut Rows, blocks: usize) {
-    for b in 0..blocks {
-        let s: &[u32; 10] = set[8 * b..8 * b + 10].try_into().unwrap();
-        let o: &[u32; 8] = open[8 * b + 1..8 * b + 9].try_into().unwrap();
-        let n: &mut [u32; 8] = (&mut next[8 * b + 1..8 * b + 9]).try_into().unwrap();
-        for k in 0..8 {
-            let here = s[k + 1];
-            n[k] = (here | here << 1 | here >> 1 | s[k] | s[k + 2]) & o[k];
-        }
-    }
+fn spread(set: &Rows, open: &[u32; 8], block: usize) -> [u32; 8] {
+    let s: &[u32; 10] = set[8 * block..8 * block + 10].try_into().unwrap();
+    std::array::from_fn(|k| (s[k + 1] | s[k + 1] << 1 | s[k + 1] >> 1 | s[k] | s[k + 2]) & open[k])
+}
+
+/// The eight rows of a block.
+#[inline(always)]
+fn block_of(rows: &Rows, block: usize) -> &[u32; 8] {
+    rows[8 * block + 1..8 * block + 9].try_into().unwrap()
+}
+
+#[inline(always)]
+fn block_mut(rows: &mut Rows, block: usize) -> &mut [u32; 8] {
+    (&mut rows[8 * block + 1..8 * block + 9]).try_into().unwrap()
+}
+
+/// Whether a cell has a neighbour in the set other than one, which a carrier above would change places with it.
+#[inline(always)]
+fn joined(set: &Rows, row: usize, bit: u32, but_row: usize, but_bit: u32) -> bool {
+    let without = |r: usize| if r == but_row { set[r] & !but_bit } else { set[r] };
+    without(row) & (bit << 1 | bit | bit >> 1) | (without(row - 1) | without(row + 1)) & bit != 0
 }
 
 impl Planner {
@@ -87,16 +98,6 @@ impl Planner {
         })
     }
 
-    /// Whether a cell at one end of a beat has a neighbour in the set at its other end to or from which nothing is swapped.
-    #[cold]
-    fn joined(&self, t: usize, set: usize, row: usize, bit: u32, forward: bool) -> bool {
-        let rows = &self.sets[set];
-        [(row - 1, bit), (row, bit >> 1), (row, bit), (row, bit << 1), (row + 1, bit)].iter().any(|&(r, b)| {
-            let swapped = if forward { self.goes(t, row, bit, r, b) } else { self.goes(t, r, b, row, bit) };
-            rows[r] & b != 0 && !swapped
-        })
-    }
-
     /// The best route of a carrier against those above it, and its arrival.
     pub fn search(&mut self, carrier: usize, route: &mut [u16]) -> Option<usize> {
         let (w, h, blocks, k) = (self.width, self.horizon, self.blocks, self.above);
@@ -123,14 +124,18 @@ impl Planner {
                 return None;
             }
             let (before, after) = self.sets.split_at_mut(t + 1);
-            spread(&before[t], &self.open[t + 1], &mut after[0], blocks);
+            let (now, next) = (&before[t], &mut after[0]);
+            for b in 0..blocks {
+                *block_mut(next, b) = spread(now, block_of(&self.open[t + 1], b), b);
+            }
+            let (to, to_bit, from, from_bit) = (&self.row[t + 1], &self.bit[t + 1], &self.row[t], &self.bit[t]);
             for j in 0..k {
                 // Somebody may be where carrier j goes; then the cell that j leaves is not entered from there.
-                let (row, bit) = (self.row[t + 1][j] as usize, self.bit[t + 1][j]);
-                if self.sets[t][row] & bit != 0 {
-                    let (left, left_bit) = (self.row[t][j] as usize, self.bit[t][j]);
-                    if self.sets[t + 1][left] & left_bit != 0 && !self.joined(t, t, left, left_bit, true) {
-                        self.sets[t + 1][left] &= !left_bit;
+                let (row, bit) = (to[j] as usize, to_bit[j]);
+                if now[row] & bit != 0 {
+                    let (left, left_bit) = (from[j] as usize, from_bit[j]);
+                    if !joined(now, left, left_bit, row, bit) {
+                        next[left] &= !left_bit;
                     }
                 }
             }
@@ -141,12 +146,19 @@ impl Planner {
         self.sets[arrival][goal_row] = goal_bit;
         for t in (0..arrival).rev() {
             let (before, after) = self.sets.split_at_mut(t + 1);
-            let reached = before[t];
-            spread(&after[0], &reached, &mut before[t], blocks);
+            let (now, next) = (&mut before[t], &after[0]);
+            for b in 0..blocks {
+                let rows = block_mut(now, b);
+                *rows = spread(next, rows, b);
+            }
+            let (to, to_bit, from, from_bit) = (&self.row[t + 1], &self.bit[t + 1], &self.row[t], &self.bit[t]);
             for j in 0..k {
-                let (row, bit) = (self.row[t + 1][j] as usize, self.bit[t + 1][j]);
-                if self.sets[t][row] & bit != 0 && !self.joined(t, t + 1, row, bit, false) {
-                    self.sets[t][row] &= !bit;
+                let (row, bit) = (to[j] as usize, to_bit[j]);
+                if now[row] & bit != 0 {
+                    let (left, left_bit) = (from[j] as usize, from_bit[j]);
+                    if !joined(next, row, bit, left, left_bit) {
+                        now[row] &= !bit;
+                    }
                 }
             }
         }

@@ -1,6 +1,13 @@
 //! The routes program over `paper.rs` alone: a sheet on standard input, its routes on standard output. It needs no archive.
-//! Its tests (`cargo test --bin paper`) hold `paper.rs` to document 01's twelve floors, and its search to a search of all routes.
+//! Its tests (`cargo test --bin paper`) hold `paper.rs` to document 01's twelve floors, its search to a search of all routes, and the
+//! benchmark's other planners to `paper.rs`.
 
+#[cfg(test)]
+#[path = "../astar.rs"]
+mod astar;
+#[cfg(test)]
+#[path = "../bits.rs"]
+mod bits;
 #[cfg(test)]
 #[path = "../draw.rs"]
 mod draw;
@@ -244,5 +251,44 @@ mod tests {
             let last = state.carriers.last().unwrap();
             assert!(last.views.iter().enumerate().all(|(j, v)| *v == View::Heard(answers[j])));
         }
+    }
+
+    #[test]
+    fn the_other_planners_agree() {
+        let mut draw = Draw(3);
+        let mut routes = 0;
+        for _ in 0..1500 {
+            let (w, h) = (draw.from_to(1, 12), draw.from_to(1, 12));
+            let cells = w * h;
+            let n = draw.from_to(1, 8.min(cells));
+            let (starts, goals) = (draw.different(n, cells), draw.different(n, cells));
+            let chance = draw.of(&[0, 10, 40]);
+            let wall = |draw: &mut Draw, c: &usize| !starts.contains(c) && !goals.contains(c) && draw.percent(chance);
+            let walls = (0..cells).filter(|c| wall(&mut draw, c)).collect();
+            let horizon = draw.of(&[3, 7, 12, 20, 63]);
+            let floor = Floor { width: w, height: h, horizon, depth: 1, starts, goals, walls };
+            let (answers, failing) = paper::plan(&floor);
+            routes += answers.iter().flatten().count();
+
+            let (record, walls) = super::bits::numbers(&floor);
+            let (mut memory, mut other) = (vec![7; 65 * n], vec![7; 65 * n]);
+            assert_eq!(super::bits::plan(&record, &walls, &mut memory), failing, "{floor:?}");
+            calls::plan(&record, &walls, &mut other);
+            assert_eq!(memory, other, "{floor:?}");
+
+            let (mut hashed, mut flat) = (super::astar::Hashed::new(&floor), super::astar::Flat::new(&floor));
+            for i in 0..n {
+                let (start, goal) = (floor.starts[i], floor.goals[i]);
+                let arrival = answers[i].map(|route| paper::arrival_of(&route, goal, horizon));
+                assert_eq!(hashed.search(&floor, start, goal).map(|found| found.0), arrival, "{floor:?}");
+                assert_eq!(flat.search(&floor, start, goal).map(|found| found.0), arrival, "{floor:?}");
+                assert_eq!(flat.best(&floor, start, goal).map(|found| found.1), answers[i], "{floor:?}");
+                if let Some(route) = answers[i] {
+                    hashed.reserve(&floor, &route);
+                    flat.reserve(&floor, i, &route);
+                }
+            }
+        }
+        assert!(routes > 2000, "{routes} routes");
     }
 }
