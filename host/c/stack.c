@@ -1,6 +1,6 @@
 /* The deepest stack of each entry. Each call runs in a thread of its own, on a stack that was painted before; what the thread touches
- * without any call is taken off. The floor is eight carriers crossing on 32 by 32 with horizon 63,
- * with 450 walls in its lower half. */
+ * without any call is taken off. The floor is eight carriers crossing on 32 by 32 with horizon 63, with 450 walls. */
+#define _POSIX_C_SOURCE 200809L
 #include <pthread.h>
 #include <stdio.h>
 #include <stdlib.h>
