@@ -1,5 +1,5 @@
-/* The deepest stack of each entry. Each call runs in a thread of its own, on a stack that was painted before; what the thread touches
- * without any call is taken off. The floor is eight carriers crossing on 32 by 32 with horizon 63, with 450 walls. */
+/* The deepest stack of each entry: each call runs in a thread of its own, on a stack that is painted before it. The floor is eight
+ * carriers crossing on 32 by 32 with horizon 63, with 450 walls. */
 #define _POSIX_C_SOURCE 200809L
 #include <pthread.h>
 #include <stdio.h>
@@ -8,7 +8,7 @@
 
 #include "kalomivund.h"
 
-enum { STACK = 1 << 20, PAINT = 0xa5, STEPS = 36 };
+enum { STACK = 1 << 20, PAINT = 0xa5, NEAR = 256, STEPS = 36 };
 
 static uint16_t crossing[KALOMIVUND_FLOOR] = {
     32, 32, 63, 4, 8, 0,
@@ -29,7 +29,6 @@ static size_t sheet_length;
 
 #define FLOOR crossing, KALOMIVUND_FLOOR, walls, crossing[5]
 
-static uint64_t nothing(void) { return 0; }
 static uint64_t write_sheet(void) {
     uint64_t word = kalomivund_write_sheet(FLOOR, sheet, sizeof sheet);
     sheet_length = (size_t)KALOMIVUND_NUMBER(word);
@@ -60,35 +59,41 @@ static uint64_t ceiling(void) { return kalomivund_ceiling(8); }
 
 struct job {
     uint64_t (*call)(void);
+    unsigned char *stack;
     uint64_t word;
+    size_t deep;
 };
 
+/* Paints the stack below this function's own frame, makes the call, and looks how far down it wrote. */
 static void *work(void *argument) {
     struct job *job = argument;
+    unsigned char here = 0;
+    unsigned char *volatile frame = &here;
+    memset(job->stack, PAINT, (size_t)(frame - job->stack) - NEAR);
     job->word = job->call();
+    unsigned char *low = job->stack;
+    while (low < frame - NEAR && *low == PAINT) low++;
+    job->deep = (size_t)(frame - low);
     return NULL;
 }
 
-/* The bytes of a painted stack that a call touches. */
+/* The bytes of stack that a call writes below its caller's frame, at least NEAR. */
 static size_t touched(uint64_t (*call)(void)) {
-    unsigned char *stack = aligned_alloc(4096, STACK);
+    struct job job = {call, aligned_alloc(4096, STACK), 0, 0};
     pthread_attr_t attributes;
     pthread_t thread;
-    struct job job = {call, 0};
-    if (!stack) abort();
-    memset(stack, PAINT, STACK);
+    if (!job.stack) abort();
     pthread_attr_init(&attributes);
-    if (pthread_attr_setstack(&attributes, stack, STACK) != 0 || pthread_create(&thread, &attributes, work, &job) != 0) abort();
+    if (pthread_attr_setstack(&attributes, job.stack, STACK) != 0) abort();
+    if (pthread_create(&thread, &attributes, work, &job) != 0) abort();
     pthread_join(thread, NULL);
     pthread_attr_destroy(&attributes);
-    size_t low = 0;
-    while (low < STACK && stack[low] == PAINT) low++;
-    free(stack);
+    free(job.stack);
     if (KALOMIVUND_REFUSED(job.word)) {
         fprintf(stderr, "stack: a call was refused: %llx\n", (unsigned long long)job.word);
         exit(1);
     }
-    return STACK - low;
+    return job.deep;
 }
 
 int main(void) {
@@ -109,12 +114,9 @@ int main(void) {
         steps[k++] = KALOMIVUND_PLAN(i);
         for (int below = i + 1; below <= 8; below++) steps[k++] = KALOMIVUND_DELIVER(i, below);
     }
-    touched(nothing);
-    size_t empty = touched(nothing);
-    printf("Deepest stack, bytes (a thread alone: %zu, taken off)\n", empty);
+    printf("Deepest stack, bytes (%d: that or less)\n", NEAR);
     for (size_t i = 0; i < sizeof calls / sizeof calls[0]; i++) {
-        size_t deep = touched(calls[i].call);
-        printf("%16s %7zu\n", calls[i].name, deep > empty ? deep - empty : 0);
+        printf("%16s %7zu\n", calls[i].name, touched(calls[i].call));
     }
     return 0;
 }
