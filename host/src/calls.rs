@@ -5,28 +5,12 @@ use crate::raw;
 
 pub fn read_sheet(text: &[u8], floor: &mut [u16], walls: &mut [u16]) -> u64 {
     unsafe {
-        raw::kalomivund_read_sheet(
-            text.as_ptr(),
-            text.len(),
-            floor.as_mut_ptr(),
-            floor.len(),
-            walls.as_mut_ptr(),
-            walls.len(),
-        )
+        raw::kalomivund_read_sheet(text.as_ptr(), text.len(), floor.as_mut_ptr(), floor.len(), walls.as_mut_ptr(), walls.len())
     }
 }
 
 pub fn write_sheet(floor: &[u16], walls: &[u16], out: &mut [u8]) -> u64 {
-    unsafe {
-        raw::kalomivund_write_sheet(
-            floor.as_ptr(),
-            floor.len(),
-            walls.as_ptr(),
-            walls.len(),
-            out.as_mut_ptr(),
-            out.len(),
-        )
-    }
+    unsafe { raw::kalomivund_write_sheet(floor.as_ptr(), floor.len(), walls.as_ptr(), walls.len(), out.as_mut_ptr(), out.len()) }
 }
 
 pub fn check_floor(floor: &[u16], walls: &[u16]) -> u64 {
@@ -54,16 +38,7 @@ pub fn search(floor: &[u16], walls: &[u16], carrier: u16, views: &[u16], route: 
 }
 
 pub fn plan(floor: &[u16], walls: &[u16], answers: &mut [u16]) -> u64 {
-    unsafe {
-        raw::kalomivund_plan(
-            floor.as_ptr(),
-            floor.len(),
-            walls.as_ptr(),
-            walls.len(),
-            answers.as_mut_ptr(),
-            answers.len(),
-        )
-    }
+    unsafe { raw::kalomivund_plan(floor.as_ptr(), floor.len(), walls.as_ptr(), walls.len(), answers.as_mut_ptr(), answers.len()) }
 }
 
 pub fn print_routes(text: &[u8], walls: &mut [u16], answers: &mut [u16], out: &mut [u8]) -> u64 {
@@ -82,29 +57,12 @@ pub fn print_routes(text: &[u8], walls: &mut [u16], answers: &mut [u16], out: &m
 }
 
 pub fn fresh(floor: &[u16], walls: &[u16], state: &mut [u16]) -> u64 {
-    unsafe {
-        raw::kalomivund_fresh(
-            floor.as_ptr(),
-            floor.len(),
-            walls.as_ptr(),
-            walls.len(),
-            state.as_mut_ptr(),
-            state.len(),
-        )
-    }
+    unsafe { raw::kalomivund_fresh(floor.as_ptr(), floor.len(), walls.as_ptr(), walls.len(), state.as_mut_ptr(), state.len()) }
 }
 
 pub fn step(floor: &[u16], walls: &[u16], state: &mut [u16], step: u16) -> u64 {
     unsafe {
-        raw::kalomivund_step(
-            floor.as_ptr(),
-            floor.len(),
-            walls.as_ptr(),
-            walls.len(),
-            state.as_mut_ptr(),
-            state.len(),
-            step,
-        )
+        raw::kalomivund_step(floor.as_ptr(), floor.len(), walls.as_ptr(), walls.len(), state.as_mut_ptr(), state.len(), step)
     }
 }
 

@@ -18,7 +18,7 @@ impl Draw {
     }
 
     /// A number from a to b, both included.
-    pub fn from_to(&mut self, a: usize, b: usize) -> usize {
+    pub fn between(&mut self, a: usize, b: usize) -> usize {
         a + self.below(b - a + 1)
     }
 
@@ -36,7 +36,7 @@ impl Draw {
     pub fn different(&mut self, count: usize, bound: usize) -> Vec<usize> {
         let mut all: Vec<usize> = (0..bound).collect();
         for k in 0..count {
-            let other = self.from_to(k, bound - 1);
+            let other = self.between(k, bound - 1);
             all.swap(k, other);
         }
         all.truncate(count);

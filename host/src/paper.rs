@@ -633,7 +633,11 @@ pub mod calls {
     }
 
     fn whole_record(floor: &[u16]) -> Result<(), Refusal> {
-        if floor.len() < 22 { refuse(9, 0) } else { Ok(()) }
+        if floor.len() < 22 {
+            refuse(9, 0)
+        } else {
+            Ok(())
+        }
     }
 
     fn lent(floor: &[u16], walls: &[u16]) -> Result<Floor, Refusal> {
@@ -642,7 +646,11 @@ pub mod calls {
     }
 
     fn long_enough(short: bool) -> Result<(), Refusal> {
-        if short { refuse(9, 0) } else { Ok(()) }
+        if short {
+            refuse(9, 0)
+        } else {
+            Ok(())
+        }
     }
 
     fn store_answers(answers: &[Answer], memory: &mut [u16]) {

@@ -206,7 +206,8 @@ impl Tally {
         if library != paper || ours != theirs {
             println!("DIFFERENT: {} {}", call.name(), call.short());
             println!("    library: {}\n    paper:   {}", in_words(library), in_words(paper));
-            for (place, (a, b)) in numbers(&ours).iter().zip(&numbers(&theirs)).enumerate().filter(|(_, (a, b))| a != b).take(20) {
+            for (place, (a, b)) in numbers(&ours).iter().zip(&numbers(&theirs)).enumerate().filter(|(_, (a, b))| a != b).take(20)
+            {
                 println!("    number {place} of all that is lent, margins included: library {a}, paper {b}");
             }
             println!("replay: compare {}", self.replay);
@@ -292,18 +293,18 @@ fn numbers(call: &Call) -> Vec<u64> {
 /// A floor that is accepted.
 fn draw_floor(draw: &mut Draw, most: usize) -> Floor {
     let side = |draw: &mut Draw| match draw.below(100) {
-        0..=44 => draw.from_to(1, 5),
-        45..=79 => draw.from_to(2, 10.min(most)),
-        _ => draw.from_to(1, most),
+        0..=44 => draw.between(1, 5),
+        45..=79 => draw.between(2, 10.min(most)),
+        _ => draw.between(1, most),
     };
     let (width, height) = (side(draw), side(draw));
     let cells = width * height;
     let horizon = match draw.below(10) {
-        0..=4 => draw.from_to(1, 10),
-        5..=7 => draw.from_to(1, 24),
+        0..=4 => draw.between(1, 10),
+        5..=7 => draw.between(1, 24),
         _ => draw.of(&[62, 63, 63, 40, 31]),
     };
-    let n = draw.from_to(1, 8.min(cells));
+    let n = draw.between(1, 8.min(cells));
     let starts = draw.different(n, cells);
     let mut goals = draw.different(n, cells);
     if draw.percent(25) {
@@ -314,13 +315,40 @@ fn draw_floor(draw: &mut Draw, most: usize) -> Floor {
     let chance = draw.of(&[0, 0, 5, 15, 30, 50, 100]);
     let is_wall = |draw: &mut Draw, c: &usize| !starts.contains(c) && !goals.contains(c) && draw.percent(chance);
     let walls: Vec<usize> = (0..cells).filter(|c| is_wall(draw, c)).collect();
-    Floor { width, height, horizon, depth: draw.from_to(1, 4), starts, goals, walls }
+    Floor { width, height, horizon, depth: draw.between(1, 4), starts, goals, walls }
 }
 
 /// A number that may be outside the limits of a field.
 fn odd(draw: &mut Draw, cells: usize) -> usize {
     let drawn = draw.below(40);
-    draw.of(&[0, 1, 2, 3, 4, 5, 7, 8, 9, 31, 32, 33, 62, 63, 64, 255, 256, 999, 1000, 1022, 1023, 1024, 65535, drawn, cells, cells - 1])
+    draw.of(&[
+        0,
+        1,
+        2,
+        3,
+        4,
+        5,
+        7,
+        8,
+        9,
+        31,
+        32,
+        33,
+        62,
+        63,
+        64,
+        255,
+        256,
+        999,
+        1000,
+        1022,
+        1023,
+        1024,
+        65535,
+        drawn,
+        cells,
+        cells - 1,
+    ])
 }
 
 /// The lines of a floor's sheet, as numbers.
@@ -371,18 +399,22 @@ fn spoil_bytes(draw: &mut Draw, text: &mut Vec<u8>) {
     // Early places more often: most refusals of form lie there in short sheets, but long sheets hide them.
     let place = |draw: &mut Draw, length: usize| {
         let near = length.min(60);
-        if draw.percent(50) { draw.below(near.max(1)) } else { draw.below(length.max(1)) }
+        if draw.percent(50) {
+            draw.below(near.max(1))
+        } else {
+            draw.below(length.max(1))
+        }
     };
     match draw.below(9) {
         0..=2 if !text.is_empty() => {
-            for _ in 0..draw.from_to(1, 3) {
+            for _ in 0..draw.between(1, 3) {
                 let at = place(draw, text.len());
                 text[at] = byte(draw);
             }
         }
         3 | 4 => text.truncate(place(draw, text.len() + 1)),
         5 => {
-            for _ in 0..draw.from_to(1, 12) {
+            for _ in 0..draw.between(1, 12) {
                 text.push(byte(draw));
             }
         }
@@ -481,7 +513,7 @@ fn about(draw: &mut Draw, needed: usize) -> usize {
         0..=3 => needed.saturating_sub(1),
         4 => draw.below(needed + 1),
         5..=60 => needed,
-        _ => needed + draw.from_to(1, 9),
+        _ => needed + draw.between(1, 9),
     }
 }
 
@@ -515,7 +547,7 @@ fn sheet_case(seed: u64, tally: &mut Tally) -> bool {
     tally.compare(call);
 
     let (mut record, mut walls) = draw_record(draw, &floor);
-    for _ in 0..draw.of(&[0, 0, 1, 1, 1, 2]) {
+    for _ in 0..draw.of(&[0, 0, 1, 1, 2, 3]) {
         if record.len() >= 22 && walls.len() >= floor.walls.len() {
             spoil_record(draw, &mut record, &mut walls, &floor);
         }
@@ -557,7 +589,11 @@ fn draw_step(draw: &mut Draw, floor: &Floor, state: Option<&paper::State>, odd: 
         Some(state) => named.iter().filter(|(_, step)| state.is_open(floor, *step)).map(|(number, _)| *number).collect(),
         None => Vec::new(),
     };
-    if !open.is_empty() && draw.percent(70) { draw.of(&open) } else { draw.of(&named).0 }
+    if !open.is_empty() && draw.percent(70) {
+        draw.of(&open)
+    } else {
+        draw.of(&named).0
+    }
 }
 
 /// Changes a number of a state.
@@ -580,12 +616,23 @@ fn spoil_state(draw: &mut Draw, state: &mut Lent<u16>, floor: &Floor) {
         0 | 1 => draw.of(&[0, 1, 998, 999, 1000, 1001, 65535]),
         _ => odd(draw, floor.cells()) as u16,
     };
-    if draw.percent(10) {
-        // The count at its end.
-        state.part_mut()[0] = 999;
-        state.part_mut()[1] = draw.of(&[997, 998, 999]);
-    } else {
-        state.part_mut()[place] = value;
+    match draw.below(10) {
+        0 => {
+            // The count at its end.
+            state.part_mut()[0] = 999;
+            state.part_mut()[1] = draw.of(&[997, 998, 999]);
+        }
+        1 if pairs > 0 => {
+            // A channel of nones: as many as it holds, one too many, or one less than it says.
+            let at = channels + 261 * draw.below(pairs);
+            let length = draw.of(&[1, floor.depth, floor.depth + 1]).min(4);
+            let messages = length - draw.below(4) / 3;
+            let channel = &mut state.part_mut()[at..at + 261];
+            channel.fill(0);
+            channel[0] = length as u16;
+            (0..messages).for_each(|k| channel[1 + 65 * k] = 1);
+        }
+        _ => state.part_mut()[place] = value,
     }
 }
 
@@ -610,7 +657,7 @@ fn list_case(seed: u64, tally: &mut Tally) {
         let Call::Fresh { state: left, .. } = call else { unreachable!() };
         state = left;
     }
-    for _ in 0..draw.from_to(4, 24) {
+    for _ in 0..draw.between(4, 24) {
         let (mut record, mut walls, mut length) = (good_record.clone(), good_walls.clone(), state.length);
         let before = state.clone();
         let mut spoilt = false;
@@ -680,10 +727,12 @@ fn ceilings(tally: &mut Tally) {
 fn main() {
     let words: Vec<String> = std::env::args().skip(1).collect();
     let words: Vec<&str> = words.iter().map(String::as_str).collect();
-    let number = |word: &str| word.parse::<u64>().unwrap_or_else(|_| {
-        eprintln!("compare: {word} is no number");
-        exit(2);
-    });
+    let number = |word: &str| {
+        word.parse::<u64>().unwrap_or_else(|_| {
+            eprintln!("compare: {word} is no number");
+            exit(2);
+        })
+    };
     let whole = words.is_empty();
     let mut tally = Tally::default();
     let (sheets, lists) = match words[..] {

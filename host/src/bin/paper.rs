@@ -162,8 +162,7 @@ mod tests {
             (x - u).abs() + (y - v).abs() <= 1 && !floor.walls.contains(&d)
         };
         let conflict = |a: &Route, b: &Route| {
-            (0..=h).any(|t| a[t] == b[t])
-                || (0..h).any(|t| a[t] != a[t + 1] && a[t] == b[t + 1] && a[t + 1] == b[t])
+            (0..=h).any(|t| a[t] == b[t]) || (0..h).any(|t| a[t] != a[t + 1] && a[t] == b[t + 1] && a[t + 1] == b[t])
         };
         let mut best: Option<(usize, Route)> = None;
         let mut paths = vec![vec![start]];
@@ -258,9 +257,9 @@ mod tests {
         let mut draw = Draw(3);
         let mut routes = 0;
         for _ in 0..1500 {
-            let (w, h) = (draw.from_to(1, 12), draw.from_to(1, 12));
+            let (w, h) = (draw.between(1, 12), draw.between(1, 12));
             let cells = w * h;
-            let n = draw.from_to(1, 8.min(cells));
+            let n = draw.between(1, 8.min(cells));
             let (starts, goals) = (draw.different(n, cells), draw.different(n, cells));
             let chance = draw.of(&[0, 10, 40]);
             let wall = |draw: &mut Draw, c: &usize| !starts.contains(c) && !goals.contains(c) && draw.percent(chance);
