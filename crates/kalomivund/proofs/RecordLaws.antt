@@ -1,0 +1,32 @@
+-- Laws of a floor record as numbers in a list.
+use Prim.Native.Nat.{ℕ, suc, _+_, _≤_, _<_}
+use native.Mathlib.Omega.{arith}
+use native.Mathlib.Nat.{add-zero, add-suc}
+use mathlib.Core.Path.{_≡_, refl, _∙_}
+use mathlib.Core.List.{List, [], _∷_}
+use lib.ListN.{length, take, drop, getD}
+use lib.Seq.{drop-cons}
+use Rattle.memory.specs.Memory.{part}
+
+-- One number in front of a part.
+part-cons : (xs : List ℕ) (at k n : ℕ) → at + k < length xs → part xs (at + k) (suc n) ≡ getD xs (at + k) 0 ∷ part xs (at + suc k) n
+unfolding part
+part-cons xs at k n l = rw (drop-cons xs (at + k) 0, add-suc) refl
+
+-- The eight numbers from a place on, one by one.
+pub part-eight : (xs : List ℕ) (at : ℕ) → at + 8 ≤ length xs
+    → part xs at 8
+    ≡ getD xs at 0 ∷ getD xs (at + 1) 0 ∷ getD xs (at + 2) 0 ∷ getD xs (at + 3) 0 ∷ getD xs (at + 4) 0 ∷ getD xs (at + 5) 0
+    ∷ getD xs (at + 6) 0 ∷ getD xs (at + 7) 0 ∷ []
+unfolding part
+part-eight xs at l =
+    rw (add-zero at) at (part-cons xs at 0 7 (omega arith))
+    ∙ rw (
+      part-cons xs at 1 6 (omega arith),
+      part-cons xs at 2 5 (omega arith),
+      part-cons xs at 3 4 (omega arith),
+      part-cons xs at 4 3 (omega arith),
+      part-cons xs at 5 2 (omega arith),
+      part-cons xs at 6 1 (omega arith),
+      part-cons xs at 7 0 (omega arith),
+    ) refl

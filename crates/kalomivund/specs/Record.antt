@@ -1,0 +1,26 @@
+-- A floor record as 22 numbers: width, height, horizon, depth, carriers, walls, eight starts, eight goals.
+use Prim.Native.Nat.{ℕ}
+use mathlib.Core.List.{List, [], _∷_, _++_}
+use lib.ListN.{length, getD}
+use Rattle.memory.specs.Memory.{part}
+use Rattle.floor.specs.declared.Floor.{Floor}
+use Rattle.floor.specs.Verdict.{Verdict}
+use Rattle.floor.specs.Checks.{roomOf}
+
+-- The floor that 22 numbers say.
+unfoldable pub floorOf : List ℕ → Floor
+floorOf xs =
+    record {
+      width = getD xs 0 0;
+      height = getD xs 1 0;
+      horizon = getD xs 2 0;
+      depth = getD xs 3 0;
+      carriers = getD xs 4 0;
+      walls = getD xs 5 0;
+      starts = part xs 6 8;
+      goals = part xs 14 8;
+    }
+
+-- 9, before anything else: as many numbers are lent as a record has.
+unfoldable pub recordLent : List ℕ → Verdict
+recordLent xs = roomOf 22 (length xs)
