@@ -1,14 +1,13 @@
 -- Taking an open step: what is open is there, what the stores come to, and the machine over rows of free cells.
-use Prim.Native.Nat.{ℕ, _+_, _*_, _<_}
+use Prim.Native.Nat.{ℕ, _+_, _<_}
 use native.Mathlib.Omega.{arith}
 use mathlib.Core.Bool.{true, false, _&&_}
-use mathlib.Core.List.{List, _∷_}
+use mathlib.Core.List.{List, [], _∷_}
 use mathlib.Core.Path.{_≡_, refl, sym, _∙_, ap, fun-ext}
 use lib.Dec.{ltb}
-use lib.ListN.{length, set}
+use lib.ListN.{length}
 use borrow.Author.Tests.{ltb-true}
 use Rattle.memory.specs.Memory.{put}
-use Rattle.memory.proofs.PutLaws.{put-one}
 use Rattle.floor.specs.declared.Floor.{Floor}
 use Rattle.route.specs.Route.{Answer, View}
 use Rattle.route.proofs.Tests.{and-fst, and-snd}
@@ -66,11 +65,10 @@ module _ (n i : ℕ) (m rec m₁ m₃ : List ℕ) (stored : m₁ ≡ put m (plan
   unfolding plannedIn
   old-stored e h = h ∙ rw (e, stored) refl
 
-pub delivery-stored : (n j i v c : ℕ) (m m₁ m₂ m₄ : List ℕ) → v ≡ viewPlace n i j → c ≡ channelPlace n i j → m₁ ≡ moved m (c + 1) v →
-    m₂ ≡ popped m₁ c → 3 + 67 * i < length m₂ → m₄ ≡ ticked (set m₂ (3 + 67 * i) 1) → m₄ ≡ deliveredIn n m j i
-unfolding deliveredIn duePlace
-delivery-stored n j i v c m m₁ m₂ m₄ a b e g l h =
-    h ∙ ap ticked (put-one m₂ (3 + 67 * i) 1 l) ∙ rw (g, e, a, b) refl
+pub delivery-stored : (n j i v c : ℕ) (m m₁ m₂ m₃ m₄ : List ℕ) → v ≡ viewPlace n i j → c ≡ channelPlace n i j → m₁ ≡ moved m (c + 1) v →
+    m₂ ≡ popped m₁ c → m₃ ≡ put m₂ (duePlace i) (1 ∷ []) → m₄ ≡ ticked m₃ → m₄ ≡ deliveredIn n m j i
+unfolding deliveredIn
+delivery-stored n j i v c m m₁ m₂ m₃ m₄ a b e g d h = h ∙ rw (d, g, e, a, b) refl
 
 responds : (f : Floor) (ws rows : List ℕ) → FreeRows f ws rows → respondWith f rows ≡ respondOf f ws
 unfolding respondWith respondOf

@@ -1,3 +1,4 @@
+-- `machine::ceiling` meets its contract: the two bounds, then the power less n and 2, which it is above.
 use native.Mathlib.Omega.{arith}
 use Rattle.machine.proofs.PowerLaws.{power-big, most-low, most-high, most-is}
 use mathlib.Core.Path.{_∙_}

@@ -1,3 +1,4 @@
+-- `machine::fresh` meets its contract: a refusal leaves all as it was; otherwise the fresh state is written.
 use Rattle.machine.proofs.VerdictLaws.{place-tells, memory-passed, memory-refused}
 use Prim.Native.Nat.{_-_}
 use Rattle.floor.proofs.AnswersLaws.{passes, refuses}

@@ -1,3 +1,4 @@
+-- `machine::checks::lent_place` meets its contract: the floor first, then the room.
 use Rattle.machine.proofs.VerdictLaws.{checked-few}
 use mathlib.Core.Path.{refl, _∙_}
 use Prim.Native.Nat.{_-_}

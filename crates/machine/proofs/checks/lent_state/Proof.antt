@@ -1,3 +1,4 @@
+-- `machine::checks::lent_state` meets its contract: the lent place first, then the test of the state.
 use Rattle.machine.proofs.VerdictLaws.{place-tells}
 use Rattle.floor.proofs.VerdictLaws.{demand-passes}
 use mathlib.Core.Bool.{Bool}

@@ -1,3 +1,4 @@
+-- `machine::checks::listed` meets its contract: the lent state first, then the names of the whole list.
 use Rattle.machine.proofs.VerdictLaws.{names-are}
 use mathlib.Core.Path.{_∙_}
 use Prim.Native.Nat.{_-_}

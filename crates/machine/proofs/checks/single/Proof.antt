@@ -1,3 +1,4 @@
+-- `machine::checks::single` meets its contract: the lent state, 7, then 8.
 use Rattle.floor.proofs.VerdictLaws.{demand-passes}
 use Rattle.machine.proofs.VerdictLaws.{state-tells, seven-stops, eight-next}
 use mathlib.Core.Bool.{Bool}

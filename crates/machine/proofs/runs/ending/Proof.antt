@@ -1,3 +1,4 @@
+-- `machine::runs::ending` meets its contract: a law a case: silent, budget left, steps left, list read.
 use mathlib.Core.Path.{sym, _∙_, ap}
 use Prim.Native.Nat.{_-_}
 use Rattle.reference.specs.Calls.{ran}

@@ -1,3 +1,4 @@
+-- `machine::runs::run_all` meets its contract: what is left of the list leads where the whole run leads.
 use Rattle.machine.proofs.TakeLaws.{workable-same}
 use lib.ListN.{length}
 use Prim.Native.Nat.{_-_, _≤_}

@@ -1,3 +1,4 @@
+-- `machine::runs::try_step` meets its contract: an open step is taken, any other passed over.
 use mathlib.Core.Path.{refl, sym, _∙_}
 use Prim.Native.Nat.{_-_}
 use Rattle.machine.specs.Inner.{took, passed}

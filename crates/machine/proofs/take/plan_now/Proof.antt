@@ -1,3 +1,4 @@
+-- `machine::take::plan_now` meets its contract: what the search found, stored with its tag, is the record of the best answer.
 use Rattle.machine.proofs.TakeLaws.{plan-stores, plan-sent, plan-kept}
 use mathlib.Core.List.{_∷_}
 use mathlib.Core.Path.{sym, _∙_, ap}

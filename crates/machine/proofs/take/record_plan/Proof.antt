@@ -1,3 +1,4 @@
+-- `machine::take::record_plan` meets its contract: news are sent, anything else is only stored; each is counted.
 use Rattle.machine.proofs.TakeLaws.{news-stored, old-stored}
 use mathlib.Core.Path.{sym, _∙_}
 use Prim.Native.Nat.{_-_}

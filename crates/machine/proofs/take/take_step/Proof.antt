@@ -1,3 +1,4 @@
+-- `machine::take::take_step` meets its contract: a case a kind of step; what is open is there.
 use Rattle.machine.proofs.TakeLaws.{plan-there, deliver-there as delivery-there}
 use mathlib.Core.Path.{refl}
 use Prim.Native.Nat.{_-_}

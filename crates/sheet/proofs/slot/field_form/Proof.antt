@@ -1,11 +1,11 @@
--- `sheet::form::field_form` meets its contract: cut short, bad, or good.
+-- `sheet::slot::field_form` meets its contract: cut short, bad, or good.
 use Rattle.sheet.specs.Form.{fieldForm}
 use Rattle.floor.specs.Verdict.{demand, _then_}
 use Rattle.floor.specs.Answers.{verdictOf}
 use borrow.Author.Tests.{lt-leb, le-leb, not-true, not-false}
 use borrow.Author.Needs.{needs}
-use Rattle.sheet.proofs.form.field_form.Statement.{statement}
-use Rattle.sheet.proofs.form.field_form.Tie as tie
+use Rattle.sheet.proofs.slot.field_form.Statement.{statement}
+use Rattle.sheet.proofs.slot.field_form.Tie as tie
 
 add-if1 : tie.Need-add-if1
 add-if1 c = search needs

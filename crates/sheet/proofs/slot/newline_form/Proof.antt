@@ -1,11 +1,11 @@
--- `sheet::form::newline_form` meets its contract: ended, another byte, or good.
+-- `sheet::slot::newline_form` meets its contract: ended, another byte, or good.
 use Rattle.sheet.specs.Form.{newlineForm}
 use Rattle.floor.specs.Verdict.{demand, _then_}
 use Rattle.floor.specs.Answers.{verdictOf}
 use borrow.Author.Tests.{lt-ltb, le-ltb, eq-eqb, ne-eqb}
 use borrow.Author.Needs.{needs}
-use Rattle.sheet.proofs.form.newline_form.Statement.{statement}
-use Rattle.sheet.proofs.form.newline_form.Tie as tie
+use Rattle.sheet.proofs.slot.newline_form.Statement.{statement}
+use Rattle.sheet.proofs.slot.newline_form.Tie as tie
 
 malformed-requires : tie.Need-malformed-requires
 malformed-requires c κs = search needs

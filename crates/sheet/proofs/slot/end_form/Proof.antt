@@ -1,11 +1,11 @@
--- `sheet::form::end_form` meets its contract: an extra byte, or none.
+-- `sheet::slot::end_form` meets its contract: an extra byte, or none.
 use Rattle.sheet.specs.Form.{endForm}
 use Rattle.floor.specs.Verdict.{demand}
 use Rattle.floor.specs.Answers.{verdictOf}
 use borrow.Author.Tests.{lt-leb, le-leb}
 use borrow.Author.Needs.{needs}
-use Rattle.sheet.proofs.form.end_form.Statement.{statement}
-use Rattle.sheet.proofs.form.end_form.Tie as tie
+use Rattle.sheet.proofs.slot.end_form.Statement.{statement}
+use Rattle.sheet.proofs.slot.end_form.Tie as tie
 
 malformed-requires : tie.Need-malformed-requires
 malformed-requires c κs = search needs

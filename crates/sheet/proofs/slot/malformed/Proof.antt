@@ -1,8 +1,8 @@
--- `sheet::form::malformed` meets its contract: refusal 1 with its place.
+-- `sheet::slot::malformed` meets its contract: refusal 1 with its place.
 use Rattle.floor.specs.Answers.{verdictOf}
 use mathlib.Core.Path.{refl}
-use Rattle.sheet.proofs.form.malformed.Statement.{statement}
-use Rattle.sheet.proofs.form.malformed.Tie as tie
+use Rattle.sheet.proofs.slot.malformed.Statement.{statement}
+use Rattle.sheet.proofs.slot.malformed.Tie as tie
 
 returns : tie.Need-returns
 unfolding verdictOf
