@@ -2,11 +2,12 @@
 use Prim.Native.Nat.{ℕ, suc, _+_, _≤_, _<_}
 use native.Mathlib.Omega.{arith}
 use native.Mathlib.Nat.{add-zero, add-suc}
-use mathlib.Core.Path.{_≡_, refl, _∙_}
-use mathlib.Core.List.{List, [], _∷_}
-use lib.ListN.{length, take, drop, getD}
+use mathlib.Core.Path.{_≡_, refl, _∙_, ap}
+use mathlib.Core.List.{List, [], _∷_, _++_, append-assoc}
+use lib.ListN.{length, take, drop, getD, length-append}
 use lib.Seq.{drop-cons}
-use Rattle.memory.specs.Memory.{part}
+use Rattle.memory.specs.Memory.{part, put}
+use Rattle.memory.proofs.PutLaws.{put-next}
 
 -- One number in front of a part.
 part-cons : (xs : List ℕ) (at k n : ℕ) → at + k < length xs → part xs (at + k) (suc n) ≡ getD xs (at + k) 0 ∷ part xs (at + suc k) n
@@ -30,3 +31,11 @@ part-eight xs at l =
       part-cons xs at 6 1 (omega arith),
       part-cons xs at 7 0 (omega arith),
     ) refl
+
+-- Three blocks of 6, 8 and 8 numbers, one behind the other.
+pub three-blocks : (m m′ m″ m‴ a b c : List ℕ) → m′ ≡ put m 0 a → m″ ≡ put m′ 6 b → m‴ ≡ put m″ 14 c
+    → length a ≡ 6 → length b ≡ 8 → length c ≡ 8 → 22 ≤ length m → m‴ ≡ put m 0 (a ++ (b ++ c))
+three-blocks m m′ m″ m‴ a b c e f g la lb lc l =
+    let two : m″ ≡ put m 0 (a ++ b) = put-next m m′ m″ a b 0 6 e f (omega arith) (omega arith) in
+    let size : length (a ++ b) ≡ 14 = length-append a b ∙ omega arith in
+    put-next m m″ m‴ (a ++ b) c 0 14 two g (omega arith) (omega arith) ∙ ap (put m 0) (append-assoc a b c)

@@ -1,6 +1,15 @@
 -- What each answer of the library's entries says as a word: its case and number, or its refusal.
 use Prim.Native.Nat.{ℕ}
+use mathlib.Core.List.{List, [], _∷_}
+use lib.ListN.{length}
+use Rattle.memory.specs.Memory.{put}
 use Rattle.floor.specs.Verdict.{Verdict, passed, refused}
+use Rattle.floor.specs.Checks.{roomOf}
+use Rattle.sheet.specs.Read.{chosen}
+use Rattle.route.specs.Route.{Answer, none, route}
+use Rattle.search.specs.Answers.{Result as Found, answered, turned as search-turned, cellsOf}
+use Rattle.printing.specs.Print.{Outcome as Printing, written, turned as print-turned}
+use Rattle.lengths.specs.Figures.{Figures, known, withheld}
 use Rattle.planner.specs.Answers.{Result, made, turned as plan-turned}
 use Rattle.reference.specs.Take.{StepAnswer, kept, sent, delivered}
 use Rattle.reference.specs.Ending.{Ending, silent, spent, ended}
@@ -12,6 +21,33 @@ use Rattle.kalomivund.specs.Word.{Said, done, turned}
 unfoldable pub ofVerdict : Verdict → ℕ → Said
 ofVerdict passed n = done 0 n
 ofVerdict (refused k p) n = turned k p
+
+-- A search: 0 none, 1 a route.
+unfoldable pub ofSearch : Found → Said
+ofSearch (answered none) = done 0 0
+ofSearch (answered (route r)) = done 1 0
+ofSearch (search-turned k p) = turned k p
+
+-- The lent route memory after a search: 64 cells in front, zeros where there is none; as it was with a refusal.
+unfoldable pub routeStored : Found → List ℕ → List ℕ
+routeStored (answered x) old = put old 0 (cellsOf (answered x))
+routeStored (search-turned k p) old = old
+
+-- Printing: case 0 with the number of bytes.
+unfoldable pub ofPrinted : Printing → Said
+ofPrinted (written n) = done 0 n
+ofPrinted (print-turned k p) = turned k p
+
+-- Needed lengths: their refusal, then 9 where fewer than five numbers are lent.
+unfoldable pub ofFigures : Figures → ℕ → Said
+ofFigures (known walls sheet answers text state) room = ofVerdict (roomOf 5 room) 0
+ofFigures (withheld k p) room = turned k p
+
+-- The lent memory after them: walls, sheet, answers, text, state in front.
+unfoldable pub figuresStored : Figures → List ℕ → List ℕ
+figuresStored (known walls sheet answers text state) old =
+    chosen (roomOf 5 (length old)) (put old 0 (walls ∷ sheet ∷ answers ∷ text ∷ state ∷ [])) old
+figuresStored (withheld k p) old = old
 
 -- A plan: case 0 with the failing carrier.
 unfoldable pub ofPlan : Result → Said

@@ -21,6 +21,11 @@ floorOf xs =
       goals = part xs 14 8;
     }
 
+-- The numbers of a floor.
+unfoldable pub numbersOf : Floor → List ℕ
+numbersOf f =
+    (f .width ∷ f .height ∷ f .horizon ∷ f .depth ∷ f .carriers ∷ f .walls ∷ []) ++ (f .starts ++ f .goals)
+
 -- 9, before anything else: as many numbers are lent as a record has.
 unfoldable pub recordLent : List ℕ → Verdict
 recordLent xs = roomOf 22 (length xs)

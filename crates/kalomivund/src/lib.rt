@@ -6,9 +6,22 @@ mod records;
 mod word;
 
 ghost use mathlib.Core.Path.{_≡_};
+ghost use Prim.Native.Nat.{_≤_};
 ghost use lib.ListN.{length};
-ghost use Rattle.kalomivund.specs.Entries.{checkWord, planWord, planStored, freshWord, freshStored};
-ghost use Rattle.kalomivund.specs.Entries.{stepWord, stepStored, runWord, runStored, ceilingWord};
+ghost use Rattle.floor.specs.Answers.{verdictOf};
+ghost use Rattle.search.specs.Search.{searchOf};
+ghost use Rattle.lengths.specs.Figures.{figuresOf};
+ghost use Rattle.kalomivund.specs.Word.{wordOf};
+ghost use Rattle.kalomivund.specs.Answers.{ofSearch, routeStored, ofFigures, figuresStored};
+ghost use Rattle.kalomivund.specs.Entries.{readWord, readRecord, readStored, writeWord, writeStored, checkWord};
+ghost use Rattle.kalomivund.specs.Entries.{neededWord, neededStored, noRoom, searchWord, searchStored, planWord, planStored};
+ghost use Rattle.kalomivund.specs.Entries.{printWord, printStored, freshWord, freshStored, stepWord, stepStored};
+ghost use Rattle.kalomivund.specs.Entries.{runWord, runStored, ceilingWord};
+use floor::Checked;
+use floor::Floor;
+use floor::Refusal;
+use lengths::Needed;
+use search::Outcome;
 
 // The most steps for so many carriers.
 #[no_mangle]
@@ -29,6 +42,131 @@ pub extern "C" fn kalomivund_check_floor(f: &[u16], walls: &[u16]) -> u64
     word::of_check(floor::check(records::floor_of(f), walls), 0)
 }
 
+// Reads a sheet: its floor record and its walls into lent memory.
+#[no_mangle]
+pub extern "C" fn kalomivund_read_sheet(text: &[u8], f: &mut [u16], walls: &mut [u16]) -> u64
+    ensures says { λ r. ⌜ r ≡ readWord (now (text .entry)) (now (f .entry)) (length (now (walls .entry))) ⌝ }
+    ensures records { λ r. ⌜ now (f .exit) ≡ readRecord (now (text .entry)) (now (f .entry)) (length (now (walls .entry))) ⌝ }
+    ensures stores { λ r. ⌜ now (walls .exit) ≡ readStored (now (text .entry)) (now (f .entry)) (now (walls .entry)) ⌝ }
+{
+    if f.len() < 22 {
+        return word::too_short();
+    }
+    let reading = sheet::read(text, walls);
+    let checked = reading.answer;
+    let found = reading.floor;
+    let Checked::Passed = checked else {
+        return word::of_check(checked, 0);
+    };
+    records::store(f, found);
+    word::done(0, 0)
+}
+
+// Writes the sheet of a floor into lent memory.
+#[no_mangle]
+pub extern "C" fn kalomivund_write_sheet(f: &[u16], walls: &[u16], out: &mut [u8]) -> u64
+    ensures says { λ r. ⌜ r ≡ writeWord (now (f .entry)) (now (walls .entry)) (length (now (out .entry))) ⌝ }
+    ensures stores { λ r. ⌜ now (out .exit) ≡ writeStored (now (f .entry)) (now (walls .entry)) (now (out .entry)) ⌝ }
+{
+    if f.len() < 22 {
+        return word::too_short();
+    }
+    let found = records::floor_of(f);
+    word::of_check(sheet::write(found, walls, out), sheet::sheet_length(found))
+}
+
+// The needed lengths as they come from their entry, into lent memory of enough numbers.
+fn lay_lengths(needed: Needed, out: &mut [u64]) -> u64
+    ensures says { λ r. ⌜ r ≡ wordOf (ofFigures (figuresOf needed) (length (now (out .entry)))) ⌝ }
+    ensures stores { λ r. ⌜ now (out .exit) ≡ figuresStored (figuresOf needed) (now (out .entry)) ⌝ }
+{
+    let Needed::Known(l) = needed else {
+        return word::of_needed(needed);
+    };
+    if out.len() < 5 {
+        return word::too_short();
+    }
+    out[0] = l.walls as u64;
+    out[1] = l.sheet as u64;
+    out[2] = l.answers as u64;
+    out[3] = l.text as u64;
+    out[4] = l.state as u64;
+    word::done(0, 0)
+}
+
+// The needed length of each lent buffer of a floor: walls, sheet, answers, text, state.
+#[no_mangle]
+pub extern "C" fn kalomivund_needed_lengths(f: &[u16], out: &mut [u64]) -> u64
+    ensures says { λ r. ⌜ r ≡ neededWord (now (f .entry)) (length (now (out .entry))) ⌝ }
+    ensures stores { λ r. ⌜ now (out .exit) ≡ neededStored (now (f .entry)) (now (out .entry)) ⌝ }
+{
+    if f.len() < 22 {
+        return word::too_short();
+    }
+    lay_lengths(lengths::needed_lengths(records::floor_of(f)), out)
+}
+
+// What a search answers that has no room for a route: the floor's refusal, and 9 if it has none.
+fn no_room(f: Floor, walls: &[u16]) -> Checked
+    ensures { λ r. ⌜ verdictOf r ≡ noRoom f (now (walls .entry)) ⌝ }
+{
+    let checked = floor::check(f, walls);
+    let Checked::Passed = checked else {
+        return checked;
+    };
+    Checked::Refused(Refusal {
+        number: 9,
+        place: 0,
+    })
+}
+
+// A search with room for its route.
+fn search_into(f: Floor, walls: &[u16], carrier: u16, views: &[u16], route: &mut [u16]) -> u64
+    requires { ⌜ 64 ≤ length (now route) ⌝ }
+    ensures says { λ r. ⌜ r ≡ wordOf (ofSearch (searchOf f (now (walls .entry)) carrier (now (views .entry)))) ⌝ }
+    ensures stores { λ r. ⌜ now (route .exit)
+        ≡ routeStored (searchOf f (now (walls .entry)) carrier (now (views .entry))) (now (route .entry)) ⌝ }
+{
+    let found = search::search(f, walls, carrier, views);
+    let outcome = found.outcome;
+    let cells = found.route;
+    match outcome {
+        Outcome::None => {
+            records::copy(route, 0, &cells);
+            word::done(0, 0)
+        }
+        Outcome::Route => {
+            records::copy(route, 0, &cells);
+            word::done(1, 0)
+        }
+        Outcome::Refused(x) => word::turned(x),
+    }
+}
+
+// The best route of a carrier against what it has heard of the carriers above it, into lent memory.
+#[no_mangle]
+pub extern "C" fn kalomivund_search(
+    f: &[u16],
+    walls: &[u16],
+    carrier: u16,
+    views: &[u16],
+    route: &mut [u16],
+) -> u64
+    ensures says { λ r. ⌜ r
+        ≡ searchWord (now (f .entry)) (now (walls .entry)) carrier (now (views .entry)) (length (now (route .entry))) ⌝ }
+    ensures stores { λ r. ⌜ now (route .exit)
+        ≡ searchStored (now (f .entry)) (now (walls .entry)) carrier (now (views .entry)) (now (route .entry)) ⌝ }
+{
+    if f.len() < 22 {
+        return word::too_short();
+    }
+    let found = records::floor_of(f);
+    if route.len() < 64 {
+        return word::of_check(no_room(found, walls), 0);
+    }
+    search_into(found, walls, carrier, views, route)
+}
+
 // Plans a floor: the answers of its carriers into lent memory.
 #[no_mangle]
 pub extern "C" fn kalomivund_plan(f: &[u16], walls: &[u16], answers: &mut [u16]) -> u64
@@ -39,6 +177,15 @@ pub extern "C" fn kalomivund_plan(f: &[u16], walls: &[u16], answers: &mut [u16])
         return word::too_short();
     }
     word::of_plan(planner::plan(records::floor_of(f), walls, answers))
+}
+
+// From a sheet's bytes to its printed routes, or the line of its refusal, in lent memory.
+#[no_mangle]
+pub extern "C" fn kalomivund_print_routes(text: &[u8], out: &mut [u8]) -> u64
+    ensures says { λ r. ⌜ r ≡ printWord (now (text .entry)) (length (now (out .entry))) ⌝ }
+    ensures stores { λ r. ⌜ now (out .exit) ≡ printStored (now (text .entry)) (now (out .entry)) ⌝ }
+{
+    word::of_print(printing::routes(text, out))
 }
 
 // Puts the fresh state of a floor into lent memory.
@@ -75,7 +222,8 @@ pub extern "C" fn kalomivund_run(
     budget: u16,
 ) -> u64
     ensures says { λ r. ⌜ r ≡ runWord (now (f .entry)) (now (walls .entry)) (now (state .entry)) (now (steps .entry)) budget ⌝ }
-    ensures stores { λ r. ⌜ now (state .exit) ≡ runStored (now (f .entry)) (now (walls .entry)) (now (state .entry)) (now (steps .entry)) budget ⌝ }
+    ensures stores { λ r. ⌜ now (state .exit)
+        ≡ runStored (now (f .entry)) (now (walls .entry)) (now (state .entry)) (now (steps .entry)) budget ⌝ }
 {
     if f.len() < 22 {
         return word::too_short();

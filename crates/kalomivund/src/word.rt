@@ -3,17 +3,21 @@ ghost use mathlib.Core.Path.{_≡_};
 ghost use Prim.Native.Nat.{_≤_};
 ghost use Rattle.floor.specs.Answers.{verdictOf};
 ghost use Rattle.planner.specs.Answers.{resultOf};
+ghost use Rattle.printing.specs.Print.{outcomeOf};
+ghost use Rattle.lengths.specs.Figures.{figuresOf};
 ghost use Rattle.machine.specs.Answers.{steppedReply, ranReply};
 ghost use Rattle.machine.specs.Ceiling.{figureOf};
 ghost use Rattle.kalomivund.specs.Word.{capped, wordOf};
 ghost use Rattle.kalomivund.specs.Word.{done as Said·done, turned as Said·turned};
-ghost use Rattle.kalomivund.specs.Answers.{ofVerdict, ofPlan, ofReply, ofFigure};
+ghost use Rattle.kalomivund.specs.Answers.{ofVerdict, ofPlan, ofPrinted, ofFigures, ofReply, ofFigure};
 use floor::Checked;
 use floor::Refusal;
+use lengths::Needed;
 use machine::Most;
 use machine::Ran;
 use machine::Stepped;
 use planner::Planned;
+use printing::Printed;
 
 // The largest number that a word has room for.
 const LARGEST: usize = 4294967295;
@@ -59,6 +63,26 @@ pub fn of_check(x: Checked, n: usize) -> u64
     match x {
         Checked::Passed => done(0, n),
         Checked::Refused(r) => turned(r),
+    }
+}
+
+// The word of the needed lengths where there is room for them, or of their refusal.
+pub fn of_needed(x: Needed) -> u64
+    ensures { λ r. ⌜ r ≡ wordOf (ofFigures (figuresOf x) 5) ⌝ }
+{
+    match x {
+        Needed::Known(_) => done(0, 0),
+        Needed::Refused(r) => turned(r),
+    }
+}
+
+// The word of printing.
+pub fn of_print(x: Printed) -> u64
+    ensures { λ r. ⌜ r ≡ wordOf (ofPrinted (outcomeOf x)) ⌝ }
+{
+    match x {
+        Printed::Written(n) => done(0, n),
+        Printed::Refused(r) => turned(r),
     }
 }
 

@@ -27,8 +27,9 @@ of-check-requires c κs = search needs
 
 returns-2 : tie.Need-returns-2
 unfolding checkWord
-returns-2 c = rw (← c .before .before .floor-of .ensures)
-    (says-lent _ (c .before .before .before .if1 .left) _ (c .of-check .ensures ∙ ap (λ (v : Verdict). wordOf (ofVerdict v 0)) (c .before .check .ensures)))
+returns-2 c =
+    let done = c .of-check .ensures ∙ ap (λ (v : Verdict). wordOf (ofVerdict v 0)) (c .before .check .ensures) in
+    rw (← c .before .before .floor-of .ensures) (says-lent _ (c .before .before .before .if1 .left) _ done)
 
 pub kalomivund-check-floor-spec : {M : Type 1} → statement M
 kalomivund-check-floor-spec =

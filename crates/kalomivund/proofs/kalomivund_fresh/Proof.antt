@@ -33,9 +33,10 @@ same-length c = search needs
 returns-2 : tie.Need-returns-2
 unfolding freshWord freshStored
 returns-2 c =
-    let l = c .before .before .before .before .before .before .if1 .left in
+    let c₄ = c .before .before .before .before in
+    let l = c₄ .before .before .if1 .left in
     let done = c .of-check .ensures ∙ ap (λ (v : Verdict). wordOf (ofVerdict v 0)) (c .before .before .before .fresh .ensures .0) in
-    rw (← c .before .before .before .before .before .floor-of .ensures) (says-lent _ l _ done, stores-lent _ l _ (c .before .before .before .fresh .ensures .1))
+    rw (← c₄ .before .floor-of .ensures) (says-lent _ l _ done, stores-lent _ l _ (c .before .before .before .fresh .ensures .1))
 
 pub kalomivund-fresh-spec : {M : Type 1} → statement M
 kalomivund-fresh-spec =
