@@ -5,8 +5,6 @@
 
 int main(void) {
     static uint8_t text[65536];
-    static uint16_t walls[KALOMIVUND_MOST_WALLS];
-    static uint16_t answers[KALOMIVUND_MOST_ANSWERS];
     static uint8_t out[KALOMIVUND_MOST_TEXT];
 
     /* The longest sheet has 11,452 bytes, so what is wrong with a longer text lies in what is read of it. */
@@ -15,8 +13,7 @@ int main(void) {
         perror("plan: standard input");
         return 2;
     }
-    uint64_t word = kalomivund_print_routes(text, length, walls, KALOMIVUND_MOST_WALLS, answers, KALOMIVUND_MOST_ANSWERS, out,
-                                            sizeof out);
+    uint64_t word = kalomivund_print_routes(text, length, out, sizeof out);
     if (KALOMIVUND_REFUSED(word)) {
         fprintf(stderr, "plan: refusal %u, place %llu\n", KALOMIVUND_CASE(word), (unsigned long long)KALOMIVUND_NUMBER(word));
         return 2;

@@ -17,7 +17,6 @@ static uint16_t crossing[KALOMIVUND_FLOOR] = {
 };
 static uint16_t walls[KALOMIVUND_MOST_WALLS];
 static uint16_t answers[KALOMIVUND_MOST_ANSWERS];
-static uint16_t views[KALOMIVUND_MOST_ANSWERS];
 static uint16_t route[KALOMIVUND_ROUTE];
 static uint16_t state[KALOMIVUND_MOST_STATE];
 static uint16_t steps[STEPS];
@@ -46,8 +45,7 @@ static uint64_t search(void) {
     return kalomivund_search(FLOOR, 8, answers, KALOMIVUND_MOST_ANSWERS, route, KALOMIVUND_ROUTE);
 }
 static uint64_t print_routes(void) {
-    return kalomivund_print_routes(sheet, sheet_length, walls, KALOMIVUND_MOST_WALLS, views, KALOMIVUND_MOST_ANSWERS, text,
-                                   sizeof text);
+    return kalomivund_print_routes(sheet, sheet_length, text, sizeof text);
 }
 static uint64_t fresh(void) { return kalomivund_fresh(FLOOR, state, KALOMIVUND_MOST_STATE); }
 static uint64_t step_plan(void) { return kalomivund_step(FLOOR, state, KALOMIVUND_MOST_STATE, KALOMIVUND_PLAN(1)); }

@@ -18,7 +18,8 @@
  *
  * THE ANSWER of every function is one word, see KALOMIVUND_REFUSED and those below it:
  *   done     low byte 0, bits 8 to 15 the case, bits 16 and up a number
- *   refused  low byte 1, bits 8 to 15 the refusal, bits 16 and up its place, at most 2^32 - 1
+ *   refused  low byte 1, bits 8 to 15 the refusal, bits 16 and up its place
+ * A number or place above 2^32 - 1 is told as 2^32 - 1.
  *
  * REFUSALS, in the order in which they are looked for; the first one met is the answer.
  *   9, 0         the lent floor has fewer than 22 numbers; before anything else
@@ -101,7 +102,7 @@ uint64_t kalomivund_check_floor(const uint16_t *floor, size_t floor_len, const u
  *           walls    walls
  *           sheet    31 + 21 x carriers + 11 x walls, bytes
  *           answers  65 x carriers, numbers; also the views lent to a search
- *           text     11 + carriers x (5 x horizon + 16), bytes
+ *           text     11 + 331 x carriers, bytes
  *           state    2 + 67 x carriers + 326 x carriers x (carriers - 1) / 2, numbers
  * Done    case 0, number 0.
  * Refused 9 (floor shorter than 22); 2; 9 (out shorter than 5). */
@@ -125,12 +126,12 @@ uint64_t kalomivund_plan(const uint16_t *floor, size_t floor_len, const uint16_t
 
 /* From a sheet's bytes to its printed routes: carriers and failing carrier; per carrier its number, its arrival and its cells at
  * beats 0 to horizon, or its number and " none". A refused sheet prints one line: 0, the refusal, its place.
- * Takes   text, any bytes and any length; walls and answers are working memory, left with the floor's walls and the planner's answers.
+ * Takes   text, any bytes and any length.
  * Writes  the printed bytes to the front of out.
  * Done    case 0, number the bytes written; also for a refused sheet.
- * Refused 9 (walls shorter than 1,023, answers shorter than 520, out shorter than 2,659), whatever the sheet. */
-uint64_t kalomivund_print_routes(const uint8_t *text, size_t text_len, uint16_t *walls, size_t walls_len, uint16_t *answers,
-                                 size_t answers_len, uint8_t *out, size_t out_len);
+ * Refused 9 (an accepted sheet, out shorter than 11 + 331 x carriers); the sheet's own refusal, 1 to 6 (a refused sheet, out shorter
+ *         than the 16 bytes of its line). An out of KALOMIVUND_MOST_TEXT bytes is never too short. */
+uint64_t kalomivund_print_routes(const uint8_t *text, size_t text_len, uint8_t *out, size_t out_len);
 
 /* A STATE is as many numbers as kalomivund_needed_lengths says, in this order, with n carriers counted here from 0:
  *   2              the count of taken steps: thousands, rest; each 0 to 999; it stays at 999,999

@@ -41,19 +41,8 @@ pub fn plan(floor: &[u16], walls: &[u16], answers: &mut [u16]) -> u64 {
     unsafe { raw::kalomivund_plan(floor.as_ptr(), floor.len(), walls.as_ptr(), walls.len(), answers.as_mut_ptr(), answers.len()) }
 }
 
-pub fn print_routes(text: &[u8], walls: &mut [u16], answers: &mut [u16], out: &mut [u8]) -> u64 {
-    unsafe {
-        raw::kalomivund_print_routes(
-            text.as_ptr(),
-            text.len(),
-            walls.as_mut_ptr(),
-            walls.len(),
-            answers.as_mut_ptr(),
-            answers.len(),
-            out.as_mut_ptr(),
-            out.len(),
-        )
-    }
+pub fn print_routes(text: &[u8], out: &mut [u8]) -> u64 {
+    unsafe { raw::kalomivund_print_routes(text.as_ptr(), text.len(), out.as_mut_ptr(), out.len()) }
 }
 
 pub fn fresh(floor: &[u16], walls: &[u16], state: &mut [u16]) -> u64 {

@@ -199,9 +199,10 @@ pub fn plan(floor: &Floor, walls: &[u16], answers: &mut [u16]) -> Result<u16, Re
     answer_of(calls::plan(&floor.record(), walls, answers)).map(|(_, failing)| failing as u16)
 }
 
-/// Prints the routes of a sheet, or its refusal's line, into lent memory: the number of bytes. Refusal 9 alone.
-pub fn print_routes(text: &[u8], walls: &mut [u16], answers: &mut [u16], out: &mut [u8]) -> Result<usize, Refusal> {
-    answer_of(calls::print_routes(text, walls, answers, out)).map(|(_, bytes)| bytes as usize)
+/// Prints the routes of a sheet, or its refusal's line, into lent memory: the number of bytes. Memory of [`MOST_TEXT`] bytes serves
+/// every sheet; in less a sheet may be turned away, with its own refusal, or with 9 if it has none.
+pub fn print_routes(text: &[u8], out: &mut [u8]) -> Result<usize, Refusal> {
+    answer_of(calls::print_routes(text, out)).map(|(_, bytes)| bytes as usize)
 }
 
 /// Makes lent memory the fresh state of a floor.

@@ -691,10 +691,9 @@ pub mod calls {
             let at = |k: usize| floor[k] as usize;
             limits(&[at(0), at(1), at(2), at(3), at(4), at(5)])?;
             long_enough(out.len() < 5)?;
-            let (horizon, n, count) = (at(2), at(4), at(5));
+            let (n, count) = (at(4), at(5));
             let sheet = 31 + 21 * n + 11 * count;
-            let text = 11 + n * (5 * (horizon + 3) + 1);
-            let lengths = [count, sheet, 65 * n, text, state_length(n)];
+            let lengths = [count, sheet, 65 * n, text_length(n), state_length(n)];
             for k in 0..5 {
                 out[k] = lengths[k] as u64;
             }
@@ -732,15 +731,18 @@ pub mod calls {
         })())
     }
 
-    /// Walls and answers are the planner's where the sheet is accepted, and as they were where it is refused.
-    pub fn print_routes(text: &[u8], walls: &mut [u16], answers: &mut [u16], out: &mut [u8]) -> u64 {
+    /// The needed length of text memory for n carriers: two fields and a newline, and for each carrier 66 fields and a newline.
+    fn text_length(n: usize) -> usize {
+        11 + 331 * n
+    }
+
+    /// Too little memory gets the first refusal of the order: the sheet's own, and 9 if it has none.
+    pub fn print_routes(text: &[u8], out: &mut [u8]) -> u64 {
         word((|| {
-            long_enough(walls.len() < 1023 || answers.len() < 520 || out.len() < 2659)?;
-            if let Ok(floor) = floor_of_sheet(text) {
-                for (k, &c) in floor.walls.iter().enumerate() {
-                    walls[k] = c as u16;
-                }
-                store_answers(&super::plan(&floor).0, answers);
+            match floor_of_sheet(text) {
+                Ok(floor) => long_enough(out.len() < text_length(floor.carriers()))?,
+                Err(refusal) if out.len() < 16 => return Err(refusal),
+                Err(_) => {}
             }
             let printed = super::print_routes(text);
             out[..printed.len()].copy_from_slice(printed.as_bytes());

@@ -46,16 +46,7 @@ extern "C" {
         answers_len: usize,
     ) -> u64;
 
-    pub fn kalomivund_print_routes(
-        text: *const u8,
-        text_len: usize,
-        walls: *mut u16,
-        walls_len: usize,
-        answers: *mut u16,
-        answers_len: usize,
-        out: *mut u8,
-        out_len: usize,
-    ) -> u64;
+    pub fn kalomivund_print_routes(text: *const u8, text_len: usize, out: *mut u8, out_len: usize) -> u64;
 
     pub fn kalomivund_fresh(
         floor: *const u16,

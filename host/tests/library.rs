@@ -14,7 +14,7 @@ fn edited(from: &str, to: &str) -> Vec<u8> {
 
 fn printed(sheet: &[u8]) -> String {
     let mut out = [0; MOST_TEXT];
-    let length = print_routes(sheet, &mut [0; MOST_WALLS], &mut [0; MOST_ANSWERS], &mut out).unwrap();
+    let length = print_routes(sheet, &mut out).unwrap();
     String::from_utf8(out[..length].to_vec()).unwrap()
 }
 

@@ -454,13 +454,11 @@ fn sheets(all: &[Lent], rounds: usize) {
         let text = paper::sheet_of(&lent.floor).into_bytes();
         let mut record = [0; 22];
         let mut walls = vec![0; kalomivund::MOST_WALLS];
-        let mut other_walls = walls.clone();
-        let mut answers = vec![0; kalomivund::MOST_ANSWERS];
         let mut out = vec![0; kalomivund::MOST_SHEET];
         let mut printed = vec![0; kalomivund::MOST_TEXT];
         done(calls::read_sheet(&text, &mut record, &mut walls), "read_sheet");
         let written = done(calls::write_sheet(&record, &walls, &mut out), "write_sheet") as usize;
-        let length = done(calls::print_routes(&text, &mut walls, &mut answers, &mut printed), "print_routes") as usize;
+        let length = done(calls::print_routes(&text, &mut printed), "print_routes") as usize;
         if record != lent.record || out[..written] != text || printed[..length] != *paper::print_routes(&text).as_bytes() {
             println!("reading, writing or printing of '{}' differs from the paper's", lent.name);
             std::process::exit(1);
@@ -478,7 +476,7 @@ fn sheets(all: &[Lent], rounds: usize) {
                     black_box(calls::check_floor(black_box(&lent.record), &lent.walls));
                 },
                 &mut || {
-                    black_box(calls::print_routes(black_box(&text), &mut other_walls, &mut answers, &mut printed));
+                    black_box(calls::print_routes(black_box(&text), &mut printed));
                 },
                 &mut || {
                     black_box(paper::floor_of_sheet(black_box(&text)).is_ok());

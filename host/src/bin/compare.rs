@@ -75,7 +75,7 @@ enum Call {
     NeededLengths { floor: Lent<u16>, out: Lent<u64> },
     Search { floor: Lent<u16>, walls: Lent<u16>, carrier: u16, views: Lent<u16>, route: Lent<u16> },
     Plan { floor: Lent<u16>, walls: Lent<u16>, answers: Lent<u16> },
-    PrintRoutes { text: Lent<u8>, walls: Lent<u16>, answers: Lent<u16>, out: Lent<u8> },
+    PrintRoutes { text: Lent<u8>, out: Lent<u8> },
     Fresh { floor: Lent<u16>, walls: Lent<u16>, state: Lent<u16> },
     Step { floor: Lent<u16>, walls: Lent<u16>, state: Lent<u16>, step: u16 },
     Run { floor: Lent<u16>, walls: Lent<u16>, state: Lent<u16>, steps: Lent<u16>, budget: u16 },
@@ -113,9 +113,7 @@ impl Call {
                 entry!(who, search(floor.part(), walls.part(), *carrier, views.part(), route.part_mut()))
             }
             Call::Plan { floor, walls, answers } => entry!(who, plan(floor.part(), walls.part(), answers.part_mut())),
-            Call::PrintRoutes { text, walls, answers, out } => {
-                entry!(who, print_routes(text.part(), walls.part_mut(), answers.part_mut(), out.part_mut()))
-            }
+            Call::PrintRoutes { text, out } => entry!(who, print_routes(text.part(), out.part_mut())),
             Call::Fresh { floor, walls, state } => entry!(who, fresh(floor.part(), walls.part(), state.part_mut())),
             Call::Step { floor, walls, state, step } => {
                 entry!(who, step(floor.part(), walls.part(), state.part_mut(), *step))
@@ -158,9 +156,7 @@ impl Call {
                 format!("{} carrier {carrier} views {:?} route of {}", floor(f, w), views.part(), route.length)
             }
             Call::Plan { floor: f, walls: w, answers } => format!("{} answers of {}", floor(f, w), answers.length),
-            Call::PrintRoutes { text: t, walls, answers, out } => {
-                format!("{} walls of {} answers of {} out of {}", text(t), walls.length, answers.length, out.length)
-            }
+            Call::PrintRoutes { text: t, out } => format!("{} out of {}", text(t), out.length),
             Call::Fresh { floor: f, walls: w, state } => format!("{} state of {}", floor(f, w), state.length),
             Call::Step { floor: f, walls: w, state, step } => {
                 format!("{} state of {} step {step}", floor(f, w), state.length)
@@ -237,7 +233,7 @@ impl Tally {
             ("needed_lengths", vec![0], vec![2, 9]),
             ("search", vec![0, 1], with(&[7])),
             ("plan", vec![0], with(&[])),
-            ("print_routes", vec![0], vec![9]),
+            ("print_routes", vec![0], vec![1, 2, 3, 4, 5, 6, 9]),
             ("fresh", vec![0], with(&[])),
             ("step", vec![0, 1, 2], with(&[7, 8, 10])),
             ("run", vec![0, 1, 2], with(&[7, 10])),
@@ -280,7 +276,7 @@ fn numbers(call: &Call) -> Vec<u64> {
         Call::NeededLengths { floor, out } => [wide(floor), out.all.clone()].concat(),
         Call::Search { floor, walls, views, route, .. } => [wide(floor), wide(walls), wide(views), wide(route)].concat(),
         Call::Plan { floor, walls, answers } => [wide(floor), wide(walls), wide(answers)].concat(),
-        Call::PrintRoutes { text, walls, answers, out } => [wide(text), wide(walls), wide(answers), wide(out)].concat(),
+        Call::PrintRoutes { text, out } => [wide(text), wide(out)].concat(),
         Call::Fresh { floor, walls, state } => [wide(floor), wide(walls), wide(state)].concat(),
         Call::Step { floor, walls, state, .. } => [wide(floor), wide(walls), wide(state)].concat(),
         Call::Run { floor, walls, state, steps, .. } => [wide(floor), wide(walls), wide(state), wide(steps)].concat(),
@@ -541,9 +537,9 @@ fn sheet_case(seed: u64, tally: &mut Tally) -> bool {
         }
     }
 
-    let lengths = [about(draw, 1023), about(draw, 520), about(draw, 2659)];
-    let (walls, answers) = (junk(draw, lengths[0]), junk(draw, lengths[1]));
-    let call = Call::PrintRoutes { text, walls, answers, out: junk_bytes(draw, lengths[2]) };
+    let needed = draw.of(&[16, 11 + 331 * floor.carriers(), 2659]);
+    let length = about(draw, needed);
+    let call = Call::PrintRoutes { text, out: junk_bytes(draw, length) };
     tally.compare(call);
 
     let (mut record, mut walls) = draw_record(draw, &floor);
