@@ -1,4 +1,5 @@
 -- `state::places::channel_place` meets its contract: the number of the pair is below that of all pairs, so the channel ends within the state.
+-- state.
 use mathlib.Core.Path.{refl}
 use Prim.Native.Nat.{_-_}
 use Rattle.layout.specs.Places.{channelPlace, stateSize}
@@ -39,7 +40,8 @@ returns : tie.Need-returns
 unfolding channelPlace stateSize
 returns c = let a = c .before .pairs-before .ensures in
     let b = c .pairs-before2 .ensures in
-    let l = pair-below (c .before .before .args .n) (c .before .before .args .i) (c .before .before .args .j) (c .before .before .pre .0) (c .before .before .pre .1) in
+    let l = pair-below (c .before .before .args .n) (c .before .before .args .i) (c .before .before .args .j)
+    (c .before .before .pre .0) (c .before .before .pre .1) in
     (rw (a .0, b .0) refl, omega arith, omega arith)
 
 pub channel-place-spec : {M : Type 1} → statement M
