@@ -1,4 +1,5 @@
--- `machine::run` meets its contract: a refusal leaves all as it was; otherwise the loop over the free rows is the run of the floor, and its tally decides the end.
+-- `machine::run` meets its contract: a refusal leaves all as it was; otherwise the loop over the free rows is the run of the floor, and
+-- its tally decides the end.
 -- its tally decides the end.
 use Rattle.floor.specs.Verdict.{Verdict}
 use Rattle.machine.proofs.VerdictLaws.{workable, reply-passed, memory-passed, reply-refused, memory-refused, run-tells}

@@ -56,7 +56,8 @@ loop-again c =
       (
         omega (arith, c₄ .before .before .loop-test .taken),
         running-more _ _ _ _ _ _ _ _ _ (c₄ .before .before .loop-test .taken) (c₄ .before .if1 .left)
-            (c .before .before .try-step .kept .1 .1 .0) (c₄ .before .before .before .loop .inv .1 .1) (c .before .before .try-step .ensures),
+            (c .before .before .try-step .kept .1 .1 .0) (c₄ .before .before .before .loop .inv .1 .1)
+            (c .before .before .try-step .ensures),
       ),
     )
 

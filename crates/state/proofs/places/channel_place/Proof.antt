@@ -1,9 +1,10 @@
--- `state::places::channel_place` meets its contract: the number of the pair is below that of all pairs, so the channel ends within the state.
+-- `state::places::channel_place` meets its contract: the number of the pair is below that of all pairs, so the channel ends within the
+-- state.
 -- state.
 use mathlib.Core.Path.{refl}
 use Prim.Native.Nat.{_-_}
 use Rattle.layout.specs.Places.{channelPlace, stateSize}
-use Rattle.state.proofs.PlaceLaws.{pair-below}
+use Rattle.layout.proofs.ValidPartLaws.{pair-below}
 use native.Mathlib.Omega.{arith}
 use borrow.Author.Needs.{needs}
 use Rattle.state.proofs.places.channel_place.Statement.{statement}
