@@ -1,7 +1,6 @@
 // Searches of document 01's floors and of the mistakes of 'What a hasty builder does', beside a second planner that works another way.
 // Each line: label, carrier, arrival or none, first cells, whether the second planner agrees. What is expected stands at each case,
 // worked out from document 01.
-mod second;
 mod show;
 
 use floor::Floor;

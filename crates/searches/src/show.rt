@@ -1,10 +1,10 @@
 // Printing of a case: the label, the carrier, the arrival or none or a refusal, the first cells, and whether the second planner agrees.
-use crate::second::Plan;
 use floor::Floor;
 use libc::STDOUT_FILENO;
 use route::Route;
 use search::Found;
 use search::Outcome;
+use second::Plan;
 
 fn text(s: &[u8]) {
     io::write_all(STDOUT_FILENO, s);

@@ -1,9 +1,10 @@
--- `searches::second::size` is safe and ends. Assumes nothing.
+-- `second::size` is safe and ends. Assumes nothing.
 use native.Mathlib.Omega.{arith}
 use borrow.Author.Needs.{needs}
-use Rattle.search.proofs.GridLaws.{grid-small}
-use Rattle.searches.proofs.second.size.Statement.{statement}
-use Rattle.searches.proofs.second.size.Tie as tie
+use Prim.Native.Nat.{_≤_}
+use native.Mathlib.Nat.{mul-le-mul-left}
+use Rattle.second.proofs.size.Statement.{statement}
+use Rattle.second.proofs.size.Tie as tie
 
 returns : tie.Need-returns
 returns c = search needs
@@ -18,7 +19,9 @@ wide-requires-2 : tie.Need-wide-requires-2
 wide-requires-2 c κs = search needs
 
 mul-result : tie.Need-mul-result
-mul-result c = let h = grid-small (c .before .wide .result) (c .wide2 .result) (omega arith) (omega arith) in omega arith
+mul-result c =
+    let high : c .wide2 .result ≤ 32 = omega arith in
+    omega (arith, mul-le-mul-left (c .before .wide .result) high)
 
 returns-3 : tie.Need-returns-3
 returns-3 c = search needs

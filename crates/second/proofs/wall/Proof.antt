@@ -1,20 +1,20 @@
--- `searches::second::met` is safe and ends. Assumes nothing.
+-- `second::wall` is safe and ends. Assumes nothing.
 use Prim.Native.Nat.{_-_}
 use borrow.Author.Needs.{needs}
-use Rattle.searches.proofs.second.met.Statement.{statement}
-use Rattle.searches.proofs.second.met.Tie as tie
+use Rattle.second.proofs.wall.Statement.{statement}
+use Rattle.second.proofs.wall.Tie as tie
 
 abbrev Inv-loop : tie.InvT-loop
-Inv-loop views k c j₀ j = Unit {0}
+Inv-loop walls n c j₀ j = Unit {0}
 
 abbrev μ-loop : tie.MeasureT-loop
-μ-loop views k c j₀ j = k - j
+μ-loop walls n c j₀ j = n - j
 
 loop-holds : tie.Need-loop-holds Inv-loop μ-loop
 loop-holds c = search needs
 
-told-requires : tie.Need-told-requires Inv-loop μ-loop
-told-requires c κs = search needs
+at-requires : tie.Need-at-requires Inv-loop μ-loop
+at-requires c κs = search needs
 
 returns : tie.Need-returns Inv-loop μ-loop
 returns c = search needs
@@ -31,16 +31,7 @@ loop-again c = search needs
 returns-2 : tie.Need-returns-2 Inv-loop μ-loop
 returns-2 c = search needs
 
-pub met-spec : {M : Type 1} → statement M
-met-spec =
+pub wall-spec : {M : Type 1} → statement M
+wall-spec =
     tie.close
-    (tie.spec
-    Inv-loop
-    μ-loop
-    loop-holds
-    told-requires
-    returns
-    add-j
-    loop-less
-    loop-again
-    returns-2)
+    (tie.spec Inv-loop μ-loop loop-holds at-requires returns add-j loop-less loop-again returns-2)
