@@ -1,14 +1,15 @@
 -- The claims of the needed lengths, proved.
 use Prim.Native.Nat.{ℕ, _*_, _≤_, _<_}
 use native.Mathlib.Omega.{arith}
+use native.Mathlib.Decide.{decLe}
 use mathlib.Core.Path.{_≡_, refl, sym, _∙_}
 use mathlib.Core.Logic.{_↔_, ⊎-elim}
 use mathlib.Core.List.{List}
-use borrow.Author.Tests.{leb-false, lt-leb}
+use borrow.Author.Tests.{leb-false, lt-leb, le-leb}
 use Rattle.floor.specs.declared.Floor.{Floor}
-use Rattle.floor.specs.Verdict.{passed, refused, demand}
+use Rattle.floor.specs.Verdict.{passed, refused, demand, _then_}
 use Rattle.floor.specs.Checks.{checkOf, roomOf, within}
-use Rattle.floor.proofs.VerdictLaws.{then-cases, then-passed, then-refused, demand-cases, demand-refuses}
+use Rattle.floor.proofs.VerdictLaws.{then-cases, then-passed, then-refused, demand-cases, demand-refuses, demand-passes}
 use Rattle.floor.proofs.LimitsLaws.{check-tells}
 use Rattle.floor.specs.Refused.{RefusedWith, outside-limit, few-walls, carrier-outside, wall-outside, not-rising, on-wall, shared}
 use Rattle.sheet.specs.Refused.{RefusedSheet, head-form, rest-form, floor-row, outside-limit as outside-limit-row}
@@ -16,10 +17,11 @@ use Rattle.sheet.proofs.FormLaws.{walls-length}
 use Rattle.sheet.specs.Values.{wallsAt, floorAt}
 use lib.ListN.{length}
 use Rattle.sheet.specs.Text.{sheetLength, wallAt}
-use Rattle.sheet.specs.Read.{sheetVerdict, readVerdict, writeVerdict}
+use Rattle.sheet.specs.Read.{sheetVerdict, readVerdict, writeVerdict, chosen}
 use Rattle.sheet.proofs.Theorems.{theorems as sheet-theorems}
 use Rattle.search.specs.Search.{requestOf}
 use Rattle.planner.specs.Plan.{planVerdict}
+use Rattle.printing.specs.Print.{written, turned, writtenIf, textLength, printVerdict, routesOf, neededFor, shortOutcome, routesOutcome}
 use Rattle.lengths.specs.Figures.{figuresFor, unless}
 use Rattle.lengths.specs.Claims.{Claims}
 
@@ -45,7 +47,8 @@ room-means : (needed lent : ℕ) → (roomOf needed lent ≡ refused 9 0) ↔ (l
 unfolding roomOf
 room-means needed lent = (λ h. leb-false _ _ (demand-cases _ 9 0 9 0 h .0), λ l. demand-refuses 9 0 (lt-leb _ _ l))
 
-walls-room : (text : List ℕ) (room : ℕ) → (readVerdict text room ≡ refused 9 0) ↔ ((sheetVerdict text ≡ passed) × (room < floorAt text .walls))
+walls-room : (text : List ℕ) (room : ℕ) → (readVerdict text room ≡ refused 9 0) ↔ ((sheetVerdict text ≡ passed) ×
+    (room < floorAt text .walls))
 unfolding readVerdict
 walls-room text room = (
   λ h.
@@ -61,11 +64,13 @@ sheet-room : (f : Floor) (ws : List ℕ) (room : ℕ) → checkOf f ws ≡ passe
 unfolding writeVerdict
 sheet-room f ws room ok = (λ h. room-means _ _ .0 (sym (then-passed ok) ∙ h), λ l. then-passed ok ∙ room-means _ _ .1 l)
 
-answers-room : (f : Floor) (ws : List ℕ) (room : ℕ) → checkOf f ws ≡ passed → (planVerdict f ws room ≡ refused 9 0) ↔ (room < 65 * f .carriers)
+answers-room : (f : Floor) (ws : List ℕ) (room : ℕ) → checkOf f ws ≡ passed → (planVerdict f ws room ≡ refused 9 0) ↔
+    (room < 65 * f .carriers)
 unfolding planVerdict
 answers-room f ws room ok = (λ h. room-means _ _ .0 (sym (then-passed ok) ∙ h), λ l. then-passed ok ∙ room-means _ _ .1 l)
 
-views-room : (f : Floor) (ws : List ℕ) (i : ℕ) (m : List ℕ) → checkOf f ws ≡ passed → (requestOf f ws i m ≡ refused 9 0) ↔ (length m < 65 * f .carriers)
+views-room : (f : Floor) (ws : List ℕ) (i : ℕ) (m : List ℕ) → checkOf f ws ≡ passed → (requestOf f ws i m ≡ refused 9 0) ↔
+    (length m < 65 * f .carriers)
 unfolding requestOf
 views-room f ws i m ok = (
   λ h.
@@ -77,16 +82,38 @@ views-room f ws i m ok = (
   λ l. then-passed ok ∙ then-refused _ (room-means _ _ .1 l),
 )
 
+text-room : (f : Floor) (ws : List ℕ) (room bytes : ℕ) → checkOf f ws ≡ passed → 65 * f .carriers ≤ room
+    → (printVerdict f ws room bytes ≡ refused 9 0) ↔ (bytes < textLength f)
+unfolding printVerdict planVerdict roomOf
+text-room f ws room bytes ok l =
+    let planned : planVerdict f ws room ≡ passed = then-passed ok ∙ demand-passes 9 0 (le-leb _ _ l) in
+    (λ h. room-means _ _ .0 (sym (then-passed planned) ∙ h), λ b. then-passed planned ∙ room-means _ _ .1 b)
+
+sheet-text-room : (text : List ℕ) (bytes : ℕ) → sheetVerdict text ≡ passed
+    → (routesOutcome text bytes ≡ turned 9 0) ↔ (bytes < textLength (floorAt text))
+unfolding routesOutcome shortOutcome neededFor chosen writtenIf _then_
+sheet-text-room text bytes ok = (λ h. short h (decLe (textLength (floorAt text)) bytes), λ l. rw (ok, lt-leb _ _ l))
+  where
+    short : routesOutcome text bytes ≡ turned 9 0 → Dec (textLength (floorAt text) ≤ bytes) → bytes < textLength (floorAt text)
+    short h (no q) = omega arith
+    short h (yes q) =
+        let e : routesOutcome text bytes ≡ written (length (routesOf text)) = rw (ok, le-leb _ _ q) in
+        let z : _≡_ {A = ℕ} 0 1 = cc in
+        absurd (omega arith)
+
 pub theorems : Claims
-unfolding figuresFor unless sheetLength wallAt
+unfolding figuresFor unless sheetLength wallAt textLength
 theorems =
     record {
       accepted-known = λ f ws ok. rw (check-tells f ws ok .limited);
       walls-within = λ f ws ok. omega (arith, check-tells f ws ok .bounds .walls .1);
       sheet-within = λ f ws ok. let b = check-tells f ws ok .bounds in omega (arith, b .walls .1, b .carriers .1);
       answers-within = λ f ws ok. omega (arith, check-tells f ws ok .bounds .carriers .1);
+      text-within = λ f ws ok. omega (arith, check-tells f ws ok .bounds .carriers .1);
       answers-room = answers-room;
       views-room = views-room;
       walls-room = walls-room;
       sheet-room = sheet-room;
+      text-room = text-room;
+      sheet-text-room = sheet-text-room;
     }

@@ -12,21 +12,32 @@ use Rattle.sheet.specs.Values.{floorAt}
 use Rattle.sheet.specs.Read.{sheetVerdict, readVerdict, writeVerdict}
 use Rattle.search.specs.Search.{requestOf}
 use Rattle.planner.specs.Plan.{planVerdict}
+use Rattle.printing.specs.Print.{turned, textLength, printVerdict, routesOutcome}
 use Rattle.lengths.specs.Figures.{figuresFor, known}
 
 pub record Claims : Type 0 where
   -- An accepted floor has its lengths.
-  pub accepted-known : (f : Floor) (ws : List ℕ) → checkOf f ws ≡ passed → figuresFor f ≡ known (f .walls) (sheetLength f) (65 * f .carriers)
-  -- None is over 65,536 bytes: two bytes a wall, and the sheet.
+  pub accepted-known : (f : Floor) (ws : List ℕ) → checkOf f ws ≡ passed
+      → figuresFor f ≡ known (f .walls) (sheetLength f) (65 * f .carriers) (textLength f)
+  -- None is over 65,536 bytes: two bytes a wall, the sheet, two bytes a number of answers, the text.
   pub walls-within : (f : Floor) (ws : List ℕ) → checkOf f ws ≡ passed → 2 * f .walls ≤ 65536
   pub sheet-within : (f : Floor) (ws : List ℕ) → checkOf f ws ≡ passed → sheetLength f ≤ 65536
   pub answers-within : (f : Floor) (ws : List ℕ) → checkOf f ws ≡ passed → 2 * (65 * f .carriers) ≤ 65536
+  pub text-within : (f : Floor) (ws : List ℕ) → checkOf f ws ≡ passed → textLength f ≤ 65536
   -- Memory for answers is called too short exactly below the needed length, and so is memory for views.
-  pub answers-room : (f : Floor) (ws : List ℕ) (room : ℕ) → checkOf f ws ≡ passed → (planVerdict f ws room ≡ refused 9 0) ↔ (room < 65 * f .carriers)
-  pub views-room : (f : Floor) (ws : List ℕ) (i : ℕ) (m : List ℕ) → checkOf f ws ≡ passed → (requestOf f ws i m ≡ refused 9 0) ↔ (length m < 65 * f .carriers)
+  pub answers-room : (f : Floor) (ws : List ℕ) (room : ℕ) → checkOf f ws ≡ passed
+      → (planVerdict f ws room ≡ refused 9 0) ↔ (room < 65 * f .carriers)
+  pub views-room : (f : Floor) (ws : List ℕ) (i : ℕ) (m : List ℕ) → checkOf f ws ≡ passed
+      → (requestOf f ws i m ≡ refused 9 0) ↔ (length m < 65 * f .carriers)
   -- Wall memory is called too short exactly below the needed length, and then only if nothing else is wrong.
   pub walls-room : (text : List ℕ) (room : ℕ)
       → (readVerdict text room ≡ refused 9 0) ↔ ((sheetVerdict text ≡ passed) × (room < floorAt text .walls))
   -- Sheet memory of an accepted floor is called too short exactly below the needed length.
   pub sheet-room : (f : Floor) (ws : List ℕ) (room : ℕ) → checkOf f ws ≡ passed
       → (writeVerdict f ws room ≡ refused 9 0) ↔ (room < sheetLength f)
+  -- Text memory of an accepted floor whose answers have room is called too short exactly below the needed length.
+  pub text-room : (f : Floor) (ws : List ℕ) (room bytes : ℕ) → checkOf f ws ≡ passed → 65 * f .carriers ≤ room
+      → (printVerdict f ws room bytes ≡ refused 9 0) ↔ (bytes < textLength f)
+  -- Text memory of an accepted sheet is called too short exactly below the needed length of its floor.
+  pub sheet-text-room : (text : List ℕ) (bytes : ℕ) → sheetVerdict text ≡ passed
+      → (routesOutcome text bytes ≡ turned 9 0) ↔ (bytes < textLength (floorAt text))

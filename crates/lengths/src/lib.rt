@@ -7,11 +7,12 @@ use floor::Floor;
 use floor::Refusal;
 
 // The needed lengths: `walls` in cell numbers of two bytes, `sheet` in bytes, `answers` in numbers of two bytes (the
-// answers of a planner, and the views lent to a search).
+// answers of a planner, and the views lent to a search), `text` in bytes (the printed routes).
 pub struct Lengths {
     pub walls: usize,
     pub sheet: usize,
     pub answers: usize,
+    pub text: usize,
 }
 
 // What the entry answers.
@@ -32,6 +33,7 @@ pub fn needed_lengths(f: Floor) -> Needed
             walls: f.walls as usize,
             sheet: sheet::sheet_length(f),
             answers: 65 * f.carriers as usize,
+            text: printing::text_length(f),
         });
     };
     Needed::Refused(refusal)

@@ -34,7 +34,7 @@ cell =
     }
 
 -- Two carriers that change sides on a floor of 3 by 2, for a horizon.
-sides : ℕ → Floor
+unfoldable pub sides : ℕ → Floor
 sides h =
     record {
       width = 3;
@@ -68,3 +68,9 @@ table-holds : map planned table ≡ table
 unfolding table planned cell sides planOf failingOf failingFrom sequential respondOf taskOf startOf goalOf among cellAt
     neighbours near vacant passable every standable allowed startClear cost cheaper cheapest beatsFrom val walk walkFrom best
 table-holds = refl
+
+-- Document 01's floor, by itself, for the crates that print its plan.
+pub document-plan : planOf (sides 4) [] ≡ route (0 ∷ 1 ∷ 2 ∷ 2 ∷ 2 ∷ replicate 59 0) ∷ route (2 ∷ 5 ∷ 4 ∷ 1 ∷ 0 ∷ replicate 59 0) ∷ []
+unfolding sides planOf failingOf failingFrom sequential respondOf taskOf startOf goalOf among cellAt
+    neighbours near vacant passable every standable allowed startClear cost cheaper cheapest beatsFrom val walk walkFrom best
+document-plan = refl

@@ -34,16 +34,17 @@ unfolding sequential
 plan-count respond zero = refl
 plan-count respond (suc k) = length-append (sequential respond k) _ ∙ omega (arith, plan-count respond k)
 
-tag-none : (pre rest : List ℕ) (n : ℕ) → length pre ≡ n → getD (pre ++ (recordOf none ++ rest)) n 0 ≡ 1
+-- The tag of a record.
+pub tag-none : (pre rest : List ℕ) (n : ℕ) → length pre ≡ n → getD (pre ++ (recordOf none ++ rest)) n 0 ≡ 1
 unfolding recordOf
 tag-none pre rest n s = getD-at pre 1 (replicate 64 0 ++ rest) 0 n s
 
-tag-route : (pre r rest : List ℕ) (n : ℕ) → length pre ≡ n → getD (pre ++ (recordOf (route r) ++ rest)) n 0 ≡ 2
+pub tag-route : (pre r rest : List ℕ) (n : ℕ) → length pre ≡ n → getD (pre ++ (recordOf (route r) ++ rest)) n 0 ≡ 2
 unfolding recordOf
 tag-route pre r rest n s = getD-at pre 2 (r ++ rest) 0 n s
 
 -- The first record of several, taken apart.
-front : (x : Answer) (xs : List Answer) (m pre rest : List ℕ) → m ≡ pre ++ (recordsOf (x ∷ xs) ++ rest)
+pub front : (x : Answer) (xs : List Answer) (m pre rest : List ℕ) → m ≡ pre ++ (recordsOf (x ∷ xs) ++ rest)
     → m ≡ pre ++ (recordOf x ++ (recordsOf xs ++ rest))
 unfolding recordsOf
 front x xs m pre rest e = e ∙ ap (λ (b : List ℕ). pre ++ b) (append-assoc (recordOf x) (recordsOf xs) rest)

@@ -7,5 +7,7 @@ pub mod FailingLaws
 pub mod RequestLaws
 pub mod ResultLaws
 pub mod SequentialLaws
+pub mod DependsLaws
+pub mod StoredLaws
 pub mod Theorems
 pub mod Cases

@@ -6,14 +6,14 @@ use lib.ListN.{length}
 use Rattle.floor.specs.declared.Floor.{Floor}
 use Rattle.floor.specs.Verdict.{passed, refused}
 use Rattle.route.specs.Sequential.{sequential}
-use Rattle.search.specs.Task.{taskOfRows}
+use Rattle.search.specs.Task.{taskOf, taskOfRows}
 use Rattle.memory.specs.Memory.{put}
 use Rattle.planner.specs.declared.Planned.the-variants.{Failing}
-use Rattle.planner.specs.Plan.{respondWith, planOf, planVerdict, failingOf}
+use Rattle.planner.specs.Plan.{respondOf, respondWith, planOf, planVerdict, failingOf}
 use Rattle.planner.specs.Records.{stored, storedIf, planMemory, firstFrom}
 use Rattle.planner.specs.Answers.{Result, resultOf, madeIf, planResult}
 use Rattle.planner.proofs.PlanLaws.{best-whole}
-use Rattle.planner.proofs.FailingLaws.{first-failing, plan-whole, plan-count}
+use Rattle.planner.proofs.FailingLaws.{AllWhole, first-failing, plan-whole, plan-count}
 
 -- The failing carrier, read off the memory.
 pub plan-fails : (f : Floor) (rows : List ℕ) → f .horizon ≤ 63 → (n : ℕ) (old m : List ℕ)
@@ -23,6 +23,11 @@ unfolding stored put respondWith taskOfRows
 plan-fails f rows h n old m e =
     first-failing (sequential (respondWith f rows) n) m _ n e (plan-count (respondWith f rows) n)
     (plan-whole (respondWith f rows) (λ k vs. best-whole (taskOfRows f rows (k + 1)) vs h) n)
+
+-- All records of a plan are whole.
+pub plan-all-whole : (f : Floor) (ws : List ℕ) → f .horizon ≤ 63 → AllWhole (planOf f ws)
+unfolding planOf respondOf taskOf
+plan-all-whole f ws h = plan-whole (respondOf f ws) (λ k vs. best-whole (taskOf f ws (k + 1)) vs h) (f .carriers)
 
 module _ (f : Floor) (ws : List ℕ) where
   -- A plan that is made.

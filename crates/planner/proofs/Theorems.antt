@@ -1,24 +1,28 @@
 -- The claims of the planner, proved.
-use Prim.Native.Nat.{ℕ, zero, suc, _+_, _≤_, _<_}
+use Prim.Native.Nat.{ℕ, zero, suc, _+_, _*_, _≤_, _<_}
 use native.Mathlib.Omega.{arith}
 use native.Mathlib.Nat.{zero-add}
 use mathlib.Core.Path.{_≡_, refl, sym, _∙_, ap}
 use mathlib.Core.List.{List, [], _∷_, map, List·Memᴰ, List·Memᴰ·head, List·Memᴰ·tail}
-use lib.ListN.{length, take}
+use lib.ListN.{length, take, drop, replicate}
 use Rattle.floor.specs.declared.Floor.{Floor}
 use Rattle.floor.specs.Verdict.{passed}
 use Rattle.floor.specs.Checks.{checkOf}
 use Rattle.floor.proofs.LimitsLaws.{check-tells}
-use Rattle.route.specs.Route.{Answer, none, route, heard}
+use Rattle.route.specs.Route.{Answer, none, route, View, heard, Task}
 use Rattle.route.specs.Conflict.{ConflictFree, ClearOf, ClearOfView}
-use Rattle.route.specs.Best.{Best}
+use Rattle.route.specs.Best.{IsRoute, Best}
 use Rattle.route.specs.Search.{best}
 use Rattle.route.proofs.Theorems.{theorems as route-theorems}
 use Rattle.search.specs.Task.{taskOf}
 use Rattle.planner.specs.Plan.{planOf, respondOf, failingOf, failingFrom}
+use Rattle.planner.specs.Records.{recordOf, stored}
 use Rattle.planner.specs.Claims.{Claims, answerAt}
 use Rattle.planner.proofs.FailingLaws.{plan-count}
+use Rattle.planner.proofs.ResultLaws.{plan-all-whole}
 use Rattle.planner.proofs.SequentialLaws.{plan-prefix, plan-answer}
+use Rattle.planner.proofs.DependsLaws.{plan-depends}
+use Rattle.planner.proofs.StoredLaws.{record-stored}
 
 -- An answer of a list is heard among the answers of its front.
 heard-among : (xs : List Answer) (j k : ℕ) (q : List ℕ) → j < k → answerAt xs j ≡ route q
@@ -90,6 +94,42 @@ answers-all : (f : Floor) (ws : List ℕ) → length (planOf f ws) ≡ f .carrie
 unfolding planOf
 answers-all f ws = plan-count (respondOf f ws) (f .carriers)
 
+-- The best answer is a route of the task where it is a route.
+best-admissible : (task : Task) (vs : List View) (r : List ℕ) → Best task vs (route r) → IsRoute task r
+unfolding Best
+best-admissible task vs r b = b .admissible .is-route
+
+-- Where carrier k has no route of its own, its answer is none.
+none-answered : (f : Floor) (ws : List ℕ) (k : ℕ) → checkOf f ws ≡ passed → k < f .carriers
+    → ((r : List ℕ) → IsRoute (taskOf f ws (k + 1)) r → ⊥) → answerAt (planOf f ws) k ≡ none
+none-answered f ws k ok l lacks = go (answerAt (planOf f ws) k) (each-best f ws k ok l)
+  where
+    go : (x : Answer) → Best (taskOf f ws (k + 1)) (map heard (take k (planOf f ws))) x → x ≡ none
+    go none b = refl
+    go (route r) b = absurd (lacks r (best-admissible (taskOf f ws (k + 1)) _ r b))
+
+-- A plan whose first answer is none fails at carrier 1.
+first-none : (xs : List Answer) → 0 < length xs → answerAt xs 0 ≡ none → failingOf xs ≡ 1
+unfolding failingOf failingFrom answerAt
+first-none [] l e = absurd (omega arith)
+first-none (x ∷ xs) l e = rw e
+
+all-none : (f : Floor) (ws : List ℕ) → checkOf f ws ≡ passed
+    → ((k : ℕ) (r : List ℕ) → k < f .carriers → IsRoute (taskOf f ws (k + 1)) r → ⊥)
+    → ((k : ℕ) → k < f .carriers → answerAt (planOf f ws) k ≡ none) × (failingOf (planOf f ws) ≡ 1)
+all-none f ws ok lacks =
+    let some = check-tells f ws ok .bounds .carriers .0 in (
+      λ k l. none-answered f ws k ok l (λ r h. lacks k r l h),
+      first-none (planOf f ws) (omega (arith, answers-all f ws)) (none-answered f ws 0 ok (omega arith) (λ r h. lacks 0 r (omega arith) h)),
+    )
+
+none-stored : (f : Floor) (ws : List ℕ) (k : ℕ) (old : List ℕ) → checkOf f ws ≡ passed → k < f .carriers
+    → answerAt (planOf f ws) k ≡ none → take 65 (drop (65 * k) (stored (planOf f ws) old)) ≡ 1 ∷ replicate 64 0
+unfolding recordOf
+none-stored f ws k old ok l e =
+    record-stored (planOf f ws) old k (plan-all-whole f ws (check-tells f ws ok .bounds .horizon .1)) (omega (arith, answers-all f ws))
+    ∙ ap recordOf e
+
 pub theorems : Claims
 unfolding failingOf
 theorems =
@@ -104,4 +144,7 @@ theorems =
         λ e j l n. failing-zero (planOf f ws) 0 e j (omega (arith, answers-all f ws)) n,
         λ h. zero-failing (planOf f ws) 0 (λ j l n. h j (omega (arith, answers-all f ws)) n),
       );
+      depends-on-above = λ k f ws g vs a b agree. plan-depends k f ws g vs agree a b;
+      all-none = all-none;
+      none-stored = none-stored;
     }

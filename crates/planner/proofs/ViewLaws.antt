@@ -30,7 +30,7 @@ unfolding viewOf
 view-route cells = refl
 
 -- The cells behind a tag.
-cells-behind : (pre r rest : List ℕ) (tag n : ℕ) → length pre ≡ n → length r ≡ 64
+pub cells-behind : (pre r rest : List ℕ) (tag n : ℕ) → length pre ≡ n → length r ≡ 64
     → take 64 (drop (n + 1) (pre ++ (tag ∷ (r ++ rest)))) ≡ r
 cells-behind pre r rest tag n s l =
     let front : length (pre ++ (tag ∷ [])) ≡ n + 1 = length-append pre (tag ∷ []) ∙ ap (λ (k : ℕ). k + 1) s in

@@ -1,21 +1,33 @@
 -- The claims about the sequential planner; `proofs/Theorems.antt` inhabits the record. Carriers count from 0.
-use Prim.Native.Nat.{ℕ, suc, _+_, _<_}
+use Prim.Native.Nat.{ℕ, suc, _+_, _*_, _≤_, _<_}
 use mathlib.Core.Path.{_≡_}
 use mathlib.Core.Logic.{_↔_}
-use mathlib.Core.List.{List, map}
-use lib.ListN.{length, getD, take}
+use mathlib.Core.List.{List, _∷_, map}
+use lib.ListN.{length, getD, take, drop, replicate}
 use Rattle.floor.specs.declared.Floor.{Floor}
 use Rattle.floor.specs.Verdict.{passed}
-use Rattle.floor.specs.Checks.{checkOf}
+use Rattle.floor.specs.Checks.{checkOf, startOf, goalOf}
+use Rattle.floor.specs.Accepted.{All}
 use Rattle.route.specs.Route.{Answer, none, route, heard}
 use Rattle.route.specs.Conflict.{ConflictFree}
-use Rattle.route.specs.Best.{Best}
+use Rattle.route.specs.Best.{IsRoute, Best}
 use Rattle.search.specs.Task.{taskOf}
 use Rattle.planner.specs.Plan.{planOf, failingOf}
+use Rattle.planner.specs.Records.{stored}
 
 -- The answer of carrier k in a plan.
 unfoldable pub answerAt : List Answer → ℕ → Answer
 answerAt xs k = getD xs k none
+
+-- Two floors agree in the grid, the horizon, the walls and the cells of the first k carriers.
+pub record AgreeUpTo (k : ℕ) (f : Floor) (ws : List ℕ) (g : Floor) (vs : List ℕ) : Type 0 where
+  pub width : f .width ≡ g .width
+  pub height : f .height ≡ g .height
+  pub horizon : f .horizon ≡ g .horizon
+  pub walls : f .walls ≡ g .walls
+  pub cells : All (λ (j : ℕ). getD ws j 0 ≡ getD vs j 0) (f .walls)
+  pub starts : All (λ (i : ℕ). startOf f i ≡ startOf g i) k
+  pub goals : All (λ (i : ℕ). goalOf f i ≡ goalOf g i) k
 
 pub record Claims : Type 0 where
   -- Every carrier has an answer.
@@ -32,3 +44,13 @@ pub record Claims : Type 0 where
   -- It is 0 exactly if no carrier has none.
   pub failing-none : (f : Floor) (ws : List ℕ) →
       (failingOf (planOf f ws) ≡ 0) ↔ ((j : ℕ) → j < f .carriers → answerAt (planOf f ws) j ≡ none → ⊥)
+  -- The answers of the first k carriers depend on those carriers alone, whatever follows them.
+  pub depends-on-above : (k : ℕ) (f : Floor) (ws : List ℕ) (g : Floor) (vs : List ℕ) → k ≤ f .carriers → k ≤ g .carriers →
+      AgreeUpTo k f ws g vs → take k (planOf f ws) ≡ take k (planOf g vs)
+  -- Where no carrier has any route of its own, each has none, and carrier 1 is the failing carrier.
+  pub all-none : (f : Floor) (ws : List ℕ) → checkOf f ws ≡ passed →
+      ((k : ℕ) (r : List ℕ) → k < f .carriers → IsRoute (taskOf f ws (k + 1)) r → ⊥) →
+      ((k : ℕ) → k < f .carriers → answerAt (planOf f ws) k ≡ none) × (failingOf (planOf f ws) ≡ 1)
+  -- None is stored as none: its record has tag 1 and 64 zeros.
+  pub none-stored : (f : Floor) (ws : List ℕ) (k : ℕ) (old : List ℕ) → checkOf f ws ≡ passed → k < f .carriers →
+      answerAt (planOf f ws) k ≡ none → take 65 (drop (65 * k) (stored (planOf f ws) old)) ≡ 1 ∷ replicate 64 0

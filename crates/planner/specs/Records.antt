@@ -3,14 +3,15 @@ use Prim.Native.Nat.{ℕ, zero, suc, _+_, _*_}
 use mathlib.Core.List.{List, [], _∷_, _++_}
 use mathlib.Core.Bool.{cond}
 use lib.Dec.{eqb}
-use lib.ListN.{length, getD, replicate}
+use lib.ListN.{length, getD, take, replicate}
 use Rattle.memory.specs.Memory.{put}
 use Rattle.floor.specs.declared.Floor.{Floor}
 use Rattle.floor.specs.Verdict.{Verdict, passed, refused}
 use Rattle.route.specs.Route.{Answer, none, route}
 use Rattle.search.specs.declared.Outcome.{Outcome}
 use Rattle.search.specs.declared.Outcome.the-variants.{Route, None, Refused}
-use Rattle.planner.specs.Plan.{planOf, planVerdict}
+use Rattle.search.specs.Views.{viewsOf}
+use Rattle.planner.specs.Plan.{respondWith, planOf, planVerdict}
 
 -- The record of an answer.
 unfoldable pub recordOf : Answer → List ℕ
@@ -21,6 +22,10 @@ recordOf (route r) = 2 ∷ r
 unfoldable pub recordsOf : List Answer → List ℕ
 recordsOf [] = []
 recordsOf (x ∷ xs) = recordOf x ++ recordsOf xs
+
+-- The memory with the best response of carrier i, counted from 0, stored behind the answers above it, which it shows.
+unfoldable pub answered : Floor → List ℕ → ℕ → List ℕ → List ℕ
+answered f rows i m = put m (65 * i) (recordOf (respondWith f rows i (viewsOf (take (65 * i) m) (i + 1))))
 
 -- The memory with the answers in front, and the rest as it was.
 unfoldable pub stored : List Answer → List ℕ → List ℕ

@@ -7,10 +7,8 @@ ghost use lib.ListN.{length, take};
 ghost use Rattle.floor.specs.Answers.{verdictOf};
 ghost use Rattle.route.specs.Sequential.{sequential};
 ghost use Rattle.search.specs.Rows.{Searchable};
-ghost use Rattle.search.specs.Views.{viewsOf};
-ghost use Rattle.memory.specs.Memory.{put};
 ghost use Rattle.planner.specs.Plan.{respondWith, planVerdict};
-ghost use Rattle.planner.specs.Records.{recordOf, stored, planMemory};
+ghost use Rattle.planner.specs.Records.{answered, stored, planMemory};
 ghost use Rattle.planner.specs.Answers.{resultOf, madeIf, planResult, Plannable};
 use floor::Checked;
 use floor::Floor;
@@ -26,8 +24,8 @@ pub enum Planned {
     Refused(Refusal),
 }
 
-// The refusals of a plan, in their order.
-fn request(f: Floor, walls: &[u16], room: usize) -> Checked
+// The refusals of a plan, in their order: what planning with so much room would answer; nothing is written.
+pub fn request(f: Floor, walls: &[u16], room: usize) -> Checked
     ensures { λ r. ⌜ verdictOf r ≡ planVerdict f (now (walls .entry)) room ⌝ }
 {
     let checked = floor::check(f, walls);
@@ -41,7 +39,7 @@ fn request(f: Floor, walls: &[u16], room: usize) -> Checked
 fn plan_one(f: Floor, free: [u32; 32], i: u16, answers: &mut [u16])
     requires { ⌜ (i < 8) × (65 * i + 65 ≤ length (now answers)) ⌝ }
     requires { ⌜ Searchable f free (i + 1) (take (65 * i) (now answers)) ⌝ }
-    ensures { λ r. ⌜ now (answers .exit) ≡ put (now (answers .entry)) (65 * i) (recordOf (respondWith f free i (viewsOf (take (65 * i) (now (answers .entry))) (i + 1)))) ⌝ }
+    ensures { λ r. ⌜ now (answers .exit) ≡ answered f free i (now (answers .entry)) ⌝ }
 {
     let at = 65 * i as usize;
     let found = search::best_route(f, free, i + 1, &answers[..at]);

@@ -1,6 +1,5 @@
 // A second planner, for tests: it knows nothing of sets of cells. It fills a table of least arrivals from the horizon down, a number a
-// beat and cell, and walks along it; `second_plan` does so for each carrier against the answers above it. Every function answers for
-// any numbers, so none has a `requires`.
+// beat and cell, and walks along it. Every function answers for any numbers, so none has a `requires`.
 use floor::Floor;
 use route::Route;
 ghost use mathlib.Core.Path.{_≡_};
@@ -63,7 +62,7 @@ fn after(t: usize) -> usize {
 }
 
 // The cell of carrier j + 1 at beat t as it was told, where it was told a route.
-fn told(views: &[u16], j: usize, t: usize) -> usize {
+pub fn told(views: &[u16], j: usize, t: usize) -> usize {
     if j < 8 {
         if t < 64 {
             if at(views, 65 * j) == 2 {
@@ -382,8 +381,8 @@ pub fn second_route(f: Floor, walls: &[u16], carrier: u16, views: &[u16]) -> Pla
     }
 }
 
-// Writes v at a place, where there is one.
-fn put(s: &mut [u16], i: usize, v: u16)
+// The number at a place, stored where the place is there.
+fn store(s: &mut [u16], i: usize, v: u16)
     ensures { λ r. ⌜ length (now (s .exit)) ≡ length (now (s .entry)) ⌝ }
 {
     if i < s.len() {
@@ -391,35 +390,34 @@ fn put(s: &mut [u16], i: usize, v: u16)
     }
 }
 
-// The tag of a plan: 2 a route, 1 none.
-fn tag_of(found: bool) -> u16 {
-    if found {
-        return 2;
-    }
-    1
-}
-
-// Writes the record of a plan behind k records of 65 numbers: its tag and 64 cells.
-fn put_plan(answers: &mut [u16], k: usize, plan: Plan) {
-    if 8 <= k {
+// What carrier j + 1 tells: a tag, 2 for a route and 1 for none, and 64 cells.
+fn tell(answers: &mut [u16], j: usize, plan: Plan)
+    ensures { λ r. ⌜ length (now (answers .exit)) ≡ length (now (answers .entry)) ⌝ }
+{
+    if 8 <= j {
         return;
     }
-    put(answers, 65 * k, tag_of(plan.found));
+    if !plan.found {
+        store(answers, 65 * j, 1);
+        return;
+    }
+    store(answers, 65 * j, 2);
     let route = plan.route;
     let mut t: usize = 0;
     while t < 64 {
-        put(answers, 65 * k + 1 + t, route[t]);
+        store(answers, 65 * j + 1 + t, route[t]);
         t += 1;
     }
 }
 
-// The carriers in turn, each against the answers above it: records of 65 numbers, a tag (1 none, 2 a route) and 64 cells.
-pub fn second_plan(f: Floor, walls: &[u16], answers: &mut [u16]) {
+// The carriers in turn, each against what those above it told.
+pub fn second_plan(f: Floor, walls: &[u16], answers: &mut [u16])
+    ensures { λ r. ⌜ length (now (answers .exit)) ≡ length (now (answers .entry)) ⌝ }
+{
     let n = f.carriers;
     let mut i: u16 = 0;
     while i < n {
-        let plan = second_route(f, walls, i + 1, answers);
-        put_plan(answers, wide(i), plan);
+        tell(answers, wide(i), second_route(f, walls, i + 1, answers));
         i += 1;
     }
 }

@@ -4,6 +4,7 @@ pub mod ListedLaws
 pub mod CellLaws
 pub mod FormLaws
 pub mod ReadLaws
+pub mod PlaceLaws
 pub mod LineLaws
 pub mod SheetLaws
 pub mod FieldLaws

@@ -21,6 +21,7 @@ use Rattle.sheet.proofs.CellLaws.{value-number, number-value, cell-tell
 use Rattle.sheet.proofs.SlotLaws.{slots-fine, fine-slots, slots-broken, broken-slots}
 use Rattle.sheet.proofs.SlotForms.{head-slots, rest-slots}
 use Rattle.sheet.proofs.SheetLaws.{sheet-length}
+use Rattle.sheet.proofs.PlaceLaws.{place-low}
 use Rattle.sheet.proofs.SheetText.{read-accepted, sheet-returns, placed-checked}
 use Rattle.sheet.proofs.FloorText.{floor-returns, has-sheet}
 
@@ -125,4 +126,5 @@ theorems =
       refuses-exactly = λ text k p. (row text k p, refusal text k p);
       cell-in-grid = cell-means;
       sheet-length = sheet-length;
+      place-low = place-low;
     }

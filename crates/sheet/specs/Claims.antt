@@ -30,3 +30,5 @@ pub record Claims : Type 0 where
       → (cellAt text width height at < width * height) ↔ ((numberAt text at < width) × (numberAt text (at + 5) < height))
   -- The sheet's length is the documented figure.
   pub sheet-length : (f : Floor) (ws : List ℕ) → length (sheetOf f ws) ≡ sheetLength f
+  -- The place of a refusal is never past the longest sheet, so that it has at most five digits.
+  pub place-low : (text : List ℕ) (k p : ℕ) → sheetVerdict text ≡ refused k p → p ≤ 11452

@@ -4,6 +4,8 @@ mod form;
 mod lines;
 mod values;
 
+// A field written into a buffer, for the crates that print.
+pub use lines::put_field;
 ghost use mathlib.Core.Path.{_≡_};
 ghost use lib.ListN.{length};
 ghost use Rattle.floor.specs.Verdict.{passed};

@@ -11,7 +11,7 @@ use crate::field;
 use floor::Floor;
 
 // A field.
-fn put_field(out: &mut [u8], at: usize, v: u16)
+pub fn put_field(out: &mut [u8], at: usize, v: u16)
     requires { ⌜ at + 5 ≤ length (now out) ⌝ }
     ensures { λ r. ⌜ now (out .exit) ≡ put (now (out .entry)) at (fieldOf v) ⌝ }
 {

@@ -1,6 +1,6 @@
 -- `lengths::needed_lengths` meets its contract: the limits decide between the figures and the refusal.
-use Rattle.lengths.specs.Figures.{figuresOf, figuresFor, unless}
 use Rattle.floor.proofs.AnswersLaws.{passes, refuses}
+use Rattle.lengths.specs.Figures.{figuresOf, figuresFor, unless}
 use borrow.Author.Needs.{needs}
 use Rattle.lengths.proofs.needed_lengths.Statement.{statement}
 use Rattle.lengths.proofs.needed_lengths.Tie as tie
@@ -26,9 +26,18 @@ cast-t6 c = search needs
 mul-t7 : tie.Need-mul-t7
 mul-t7 c = search needs
 
+text-length-requires : tie.Need-text-length-requires
+text-length-requires c κs = search needs
+
 returns : tie.Need-returns
 unfolding figuresOf figuresFor unless
-returns c = rw (passes (c .before .before .before .before .before .limits .ensures) (c .before .before .before .enum-told .given .1), c .before .sheet-length .ensures)
+returns c =
+    let c₄ = c .before .before .before .before in
+    rw (
+      passes (c₄ .before .before .limits .ensures) (c₄ .enum-told .given .1),
+      c .before .before .sheet-length .ensures,
+      c .text-length .ensures,
+    )
 
 returns-2 : tie.Need-returns-2
 unfolding figuresOf figuresFor unless
@@ -45,5 +54,6 @@ needed-lengths-spec =
     sheet-length-requires
     cast-t6
     mul-t7
+    text-length-requires
     returns
     returns-2)

@@ -1,5 +1,5 @@
--- `planner::plan` meets its contract: a refusal leaves all as it was; otherwise the plan over the free rows is the plan over the walls, and the first record without a route
--- is the failing carrier's.
+-- `planner::plan` meets its contract: a refusal leaves all as it was; otherwise the plan over the free rows is the plan over the walls,
+-- and the first record without a route is the failing carrier's.
 use Rattle.planner.proofs.ResultLaws.{plan-fails, result-made, memory-made, result-turned, memory-turned}
 use Rattle.planner.proofs.RequestLaws.{asked, plannable, plan-same}
 use Rattle.planner.specs.Answers.{madeIf}

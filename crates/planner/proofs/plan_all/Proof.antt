@@ -1,6 +1,6 @@
 -- `planner::plan_all` meets its contract: invariant: the answers of the carriers passed stand in front.
 use Rattle.planner.proofs.PlanLaws.{plan-start, plan-more, plan-keeps, plan-end}
-use Rattle.planner.specs.Records.{stored}
+use Rattle.planner.specs.Records.{answered, stored}
 use Rattle.planner.specs.Plan.{respondWith}
 use Rattle.route.specs.Sequential.{sequential}
 use lib.Seq.{length-take-le}
@@ -38,6 +38,7 @@ loop-less : tie.Need-loop-less Inv-loop μ-loop
 loop-less c = search needs
 
 loop-again : tie.Need-loop-again Inv-loop μ-loop
+unfolding answered
 loop-again c =
     let c₄ = c .before .before .before .before in (
       search needs,

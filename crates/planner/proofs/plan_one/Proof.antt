@@ -2,6 +2,7 @@
 use denote.Ref.{now}
 use Rattle.planner.proofs.RecordLaws.{found-record}
 use Rattle.planner.specs.Plan.{respondWith}
+use Rattle.planner.specs.Records.{answered}
 use Rattle.memory.specs.Memory.{put}
 use lib.Seq.{length-take-le}
 use mathlib.Core.List.{_∷_}
@@ -37,7 +38,7 @@ same-length : tie.Need-same-length
 same-length c = search needs
 
 returns : tie.Need-returns
-unfolding respondWith
+unfolding answered respondWith
 returns c =
     let found = c .before .before .before .before .before .before .best-route in
     let at = 65 * c .before .before .before .before .before .before .before .before .before .args .i in

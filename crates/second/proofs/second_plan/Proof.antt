@@ -1,5 +1,5 @@
--- `second::second_plan` is safe and ends: each carrier in turn.
-use Prim.Native.Nat.{_-_}
+-- `second::second_plan` is safe and ends. Invariant: the length is kept. Assumes nothing.
+use Prim.Native.Nat.{_≤_, _-_}
 use mathlib.Core.Path.{_≡_}
 use lib.ListN.{length}
 use borrow.Author.Needs.{needs}
@@ -7,7 +7,7 @@ use Rattle.second.proofs.second_plan.Statement.{statement}
 use Rattle.second.proofs.second_plan.Tie as tie
 
 abbrev Inv-loop : tie.InvT-loop
-Inv-loop f walls answers₀ n i₀ answers i = length answers ≡ length answers₀
+Inv-loop f walls answers₀ n i₀ answers i = (i ≤ n) × (length answers ≡ length answers₀)
 
 abbrev μ-loop : tie.MeasureT-loop
 μ-loop f walls answers₀ n i₀ answers i = n - i
@@ -15,17 +15,17 @@ abbrev μ-loop : tie.MeasureT-loop
 loop-holds : tie.Need-loop-holds Inv-loop μ-loop
 loop-holds c = search needs
 
+wide-requires : tie.Need-wide-requires Inv-loop μ-loop
+wide-requires c κs = search needs
+
 add-second-route : tie.Need-add-second-route Inv-loop μ-loop
 add-second-route c = search needs
 
 second-route-requires : tie.Need-second-route-requires Inv-loop μ-loop
 second-route-requires c κs = search needs
 
-wide-requires : tie.Need-wide-requires Inv-loop μ-loop
-wide-requires c κs = search needs
-
-put-plan-requires : tie.Need-put-plan-requires Inv-loop μ-loop
-put-plan-requires c κs = search needs
+tell-requires : tie.Need-tell-requires Inv-loop μ-loop
+tell-requires c κs = search needs
 
 add-i : tie.Need-add-i Inv-loop μ-loop
 add-i c = search needs
@@ -49,10 +49,10 @@ second-plan-spec =
     Inv-loop
     μ-loop
     loop-holds
+    wide-requires
     add-second-route
     second-route-requires
-    wide-requires
-    put-plan-requires
+    tell-requires
     add-i
     loop-less
     loop-again

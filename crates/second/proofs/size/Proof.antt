@@ -1,8 +1,8 @@
 -- `second::size` is safe and ends. Assumes nothing.
 use native.Mathlib.Omega.{arith}
 use borrow.Author.Needs.{needs}
-use Prim.Native.Nat.{_≤_}
-use native.Mathlib.Nat.{mul-le-mul-left}
+use native.Mathlib.Nat.{mul-le-mul}
+use Prim.Native.Nat.{_*_, _≤_}
 use Rattle.second.proofs.size.Statement.{statement}
 use Rattle.second.proofs.size.Tie as tie
 
@@ -20,8 +20,8 @@ wide-requires-2 c κs = search needs
 
 mul-result : tie.Need-mul-result
 mul-result c =
-    let high : c .wide2 .result ≤ 32 = omega arith in
-    omega (arith, mul-le-mul-left (c .before .wide .result) high)
+    let h : c .before .wide .result * c .wide2 .result ≤ 32 * 32 = mul-le-mul {n₂ = 32} {m₂ = 32} (omega arith) (omega arith) in
+    omega arith
 
 returns-3 : tie.Need-returns-3
 returns-3 c = search needs

@@ -1,0 +1,9 @@
+-- Laws of the definitions that no single function owns.
+pub mod FieldsLaws
+pub mod LoadLaws
+pub mod PutLaws
+pub mod RecordLaws
+pub mod PrintLaws
+pub mod LinesLaws
+pub mod Theorems
+pub mod Cases

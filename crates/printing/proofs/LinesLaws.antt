@@ -1,0 +1,87 @@
+-- Lines one behind the other: where each stands, and how long they are.
+use Prim.Native.Nat.{ℕ, zero, suc, _+_, _*_, _≤_, _<_}
+use native.Mathlib.Omega.{arith}
+use native.Mathlib.Decide.{decLe}
+use mathlib.Core.Path.{_≡_, refl, sym, _∙_, ap}
+use mathlib.Core.List.{List, [], _∷_, _++_, append-assoc, append-nil}
+use lib.ListN.{length, take, drop, length-append, length-take}
+use lib.Seq.{take-at, drop-at}
+use Rattle.floor.specs.declared.Floor.{Floor}
+use Rattle.floor.specs.Checks.{goalOf}
+use Rattle.route.specs.Route.{Answer, none, route}
+use Rattle.route.specs.Arrival.{arrivalOf}
+use Rattle.sheet.specs.Text.{linesOf}
+use Rattle.planner.specs.Plan.{failingOf}
+use Rattle.planner.specs.Claims.{answerAt}
+use Rattle.printing.specs.Text.{answerLine, firstLine, routesText}
+use Rattle.printing.proofs.FieldsLaws.{line-length}
+use Rattle.printing.proofs.PutLaws.{none-length, first-length}
+
+module _ (line : ℕ → List ℕ) where
+  -- The lines before line k, line k, and what follows it.
+  record Apart (n k : ℕ) : Type 0 where
+    rest : List ℕ
+    is : linesOf line n ≡ linesOf line k ++ (line k ++ rest)
+
+  apart-more : (n k : ℕ) → Apart n k → Apart (suc n) k
+  unfolding linesOf
+  apart-more n k a =
+      record {
+        rest = a .rest ++ line n;
+        is = ap (λ (l : List ℕ). l ++ line n) (a .is)
+            ∙ append-assoc (linesOf line k) (line k ++ a .rest) (line n)
+            ∙ ap (λ (l : List ℕ). linesOf line k ++ l) (append-assoc (line k) (a .rest) (line n));
+      }
+
+  apart-last : (n k : ℕ) → n ≡ k → Apart (suc n) k
+  unfolding linesOf
+  apart-last n k e = rw e (record { rest = []; is = ap (λ (l : List ℕ). linesOf line k ++ l) (sym (append-nil (line k))) })
+
+  apart-step : (n k : ℕ) → k < suc n → Dec (n ≤ k) → (k < n → Apart n k) → Apart (suc n) k
+  apart-step n k l (yes h) p = apart-last n k (omega arith)
+  apart-step n k l (no h) p = apart-more n k (p (omega arith))
+
+  apart : (n k : ℕ) → k < n → Apart n k
+  apart zero k l = absurd (omega arith)
+  apart (suc n) k l = apart-step n k l (decLe n k) (λ h. apart n k h)
+
+  -- Line k stands behind a head and the lines before it.
+  pub line-at : (head : List ℕ) (n k : ℕ) → k < n
+      → take (length (line k)) (drop (length head + length (linesOf line k)) (head ++ linesOf line n)) ≡ line k
+  line-at head n k l =
+      let a = apart n k l in
+      let pre = head ++ linesOf line k in
+      let whole : head ++ linesOf line n ≡ pre ++ (line k ++ a .rest) =
+      ap (λ (t : List ℕ). head ++ t) (a .is) ∙ sym (append-assoc head (linesOf line k) (line k ++ a .rest))
+      in
+      ap (λ (t : List ℕ). take (length (line k)) (drop (length head + length (linesOf line k)) t)) whole
+      ∙ ap (take (length (line k))) (drop-at pre (line k ++ a .rest) _ (length-append head (linesOf line k)))
+      ∙ take-at (line k) (a .rest) (length (line k)) refl
+
+  -- Lines of at most w bytes.
+  pub lines-within : (w n : ℕ) → ((i : ℕ) → length (line i) ≤ w) → length (linesOf line n) ≤ n * w
+  unfolding linesOf
+  lines-within w zero h = omega arith
+  lines-within w (suc n) h = omega (arith, length-append (linesOf line n) (line n), lines-within w n h, h n)
+
+-- A carrier's line has at most 331 bytes.
+answer-within : (f : Floor) (i : ℕ) (x : Answer) → f .horizon ≤ 63 → length (answerLine f i x) ≤ 331
+unfolding answerLine
+answer-within f i none h = omega (arith, none-length (i + 1))
+answer-within f i (route r) h =
+    omega (
+      arith,
+      line-length ((i + 1) ∷ arrivalOf (goalOf f i) r (f .horizon) ∷ take (f .horizon + 1) r),
+      length-take (f .horizon + 1) r,
+    )
+
+pub text-within : (f : Floor) (xs : List Answer) → f .horizon ≤ 63 → length (routesText f xs) ≤ 11 + f .carriers * 331
+unfolding routesText
+text-within f xs h =
+    let line : ℕ → List ℕ = λ i. answerLine f i (answerAt xs i) in
+    omega (
+      arith,
+      length-append (firstLine f (failingOf xs)) (linesOf line (f .carriers)),
+      first-length f (failingOf xs),
+      lines-within line 331 (f .carriers) (λ i. answer-within f i (answerAt xs i) h),
+    )

@@ -1,0 +1,172 @@
+-- Printing with a refusal and without, and the path from a sheet's bytes.
+use Prim.Native.Nat.{ℕ, _+_, _*_, _≤_, _<_}
+use native.Mathlib.Omega.{arith}
+use mathlib.Core.Path.{_≡_, sym, _∙_, ap}
+use mathlib.Core.List.{List, _++_}
+use mathlib.Core.Logic.{⊎-elim}
+use borrow.Author.Tests.{le-leb, lt-leb}
+use lib.ListN.{length, take, drop, length-append}
+use lib.Seq.{take-at}
+use Rattle.memory.specs.Memory.{put}
+use Rattle.floor.specs.declared.Floor.{Floor}
+use Rattle.floor.specs.Verdict.{Verdict, passed, refused, _then_}
+use Rattle.floor.specs.Checks.{checkOf, roomOf}
+use Rattle.floor.proofs.VerdictLaws.{then-both, then-cases, then-passed, refused-not-passed, demand-passes}
+use Rattle.floor.proofs.LimitsLaws.{Bounds, check-tells, room-passed}
+use Rattle.sheet.specs.Values.{floorAt, wallsAt}
+use Rattle.sheet.specs.Read.{sheetVerdict, readVerdict, readFloor, readWalls, chosen}
+use Rattle.sheet.proofs.FormLaws.{walls-length}
+use Rattle.sheet.proofs.ReadLaws.{chosen-passed}
+use Rattle.sheet.proofs.Theorems.{theorems as sheet-theorems}
+use Rattle.planner.specs.declared.Planned.{Planned}
+use Rattle.planner.specs.declared.Planned.the-variants.{Failing, Refused}
+use Rattle.planner.specs.Plan.{planOf, planVerdict, failingOf}
+use Rattle.planner.specs.Records.{stored, storedIf, planMemory}
+use Rattle.planner.specs.Answers.{made, resultOf, madeIf, planResult}
+use Rattle.printing.specs.declared.Printed.the-variants.{Written}
+use Rattle.printing.specs.Print.{Outcome, written, turned, outcomeOf, writtenIf, printOf, textLength}
+use Rattle.printing.specs.Print.{printVerdict, printOutcome, orRefusal, routesOf, neededFor, shortOutcome, routesOutcome}
+use Rattle.printing.specs.Print.{routesMemory}
+use Rattle.printing.specs.Put.{TextPut, TextOrShort, FloorPut, RefusalPut, textIn}
+use Rattle.printing.proofs.RecordLaws.{plan-text}
+
+module _ (f : Floor) (ws : List ℕ) (room : ℕ) (ok : planVerdict f ws room ≡ passed) where
+  -- What a passed plan request tells.
+  pub bounds : Bounds f
+  unfolding planVerdict
+  bounds = check-tells f ws (then-both _ _ ok .0) .bounds
+
+  pub enough : 65 * f .carriers ≤ room
+  unfolding planVerdict
+  enough = room-passed _ _ (then-both _ _ ok .1)
+
+  -- A plan that passes its checks is made.
+  pub made-failing : (r : Planned) (i : ℕ) → resultOf r ≡ planResult f ws room → r ≡ Failing i → i ≡ failingOf (planOf f ws)
+  unfolding planResult madeIf resultOf
+  made-failing r i e g =
+      let h : made i ≡ made (failingOf (planOf f ws)) = sym (ap resultOf g) ∙ e ∙ rw ok in
+      cc
+
+  pub never-turned : {r : Planned} {x : _} → resultOf r ≡ planResult f ws room → r ≡ Refused x → ⊥
+  unfolding planResult madeIf resultOf
+  never-turned {r} {x} e g =
+      let h : resultOf (Refused x) ≡ made (failingOf (planOf f ws)) = sym (ap resultOf g) ∙ e ∙ rw ok in
+      let z : _≡_ {A = ℕ} 0 1 = cc in
+      omega arith
+
+pub memory-stored : (f : Floor) (ws old m : List ℕ) → planVerdict f ws (length old) ≡ passed → m ≡ planMemory f ws old
+    → m ≡ stored (planOf f ws) old
+unfolding planMemory storedIf
+memory-stored f ws old m ok e = e ∙ rw ok
+
+-- The answers stored and the text put, from the planner's memory.
+pub plan-put : (f : Floor) (ws old m out out′ : List ℕ) (i n : ℕ) → planVerdict f ws (length old) ≡ passed → m ≡ planMemory f ws old
+    → i ≡ failingOf (planOf f ws) → TextPut (textIn f i m) out out′ n
+    → (m ≡ stored (planOf f ws) old) × TextPut (printOf f ws) out out′ n
+plan-put f ws old m out out′ i n ok e g t =
+    let planned = memory-stored f ws old m ok e in
+    let same : textIn f i m ≡ printOf f ws =
+    ap (λ (j : ℕ). textIn f j m) g ∙ plan-text f ws m old (bounds f ws (length old) ok .horizon .1) planned
+    in
+    (planned, rw same at t)
+
+-- A request that is turned away, and one that is granted.
+module _ (f : Floor) (ws : List ℕ) where
+  pub outcome-turned : {o : Outcome} (room bytes k p : ℕ) → printVerdict f ws room bytes ≡ refused k p
+      → o ≡ writtenIf (printVerdict f ws room bytes) 0 → o ≡ printOutcome f ws room bytes
+  unfolding printOutcome writtenIf
+  outcome-turned room bytes k p v e = e ∙ rw v
+
+  pub outcome-written : (room bytes n : ℕ) → printVerdict f ws room bytes ≡ passed → n ≡ length (printOf f ws)
+      → outcomeOf (Written n) ≡ printOutcome f ws room bytes
+  unfolding printOutcome writtenIf outcomeOf
+  outcome-written room bytes n v e = rw (v, e)
+
+  pub print-granted : (room bytes : ℕ) → printVerdict f ws room bytes ≡ passed → (planVerdict f ws room ≡ passed) × (textLength f ≤ bytes)
+  unfolding printVerdict
+  print-granted room bytes v = let b = then-both _ _ v in (b .0, room-passed _ _ (b .1))
+
+  -- The largest memory for answers has room for those of every accepted floor.
+  pub plan-granted : (room : ℕ) → checkOf f ws ≡ passed → 520 ≤ room → planVerdict f ws room ≡ passed
+  unfolding planVerdict roomOf
+  plan-granted room ok l =
+      let enough : 65 * f .carriers ≤ room = omega (arith, check-tells f ws ok .bounds .carriers .1) in
+      then-passed ok ∙ demand-passes 9 0 (le-leb _ _ enough)
+
+-- A buffer that is too short, and one that has room.
+module _ (text : List ℕ) (needed k p : ℕ) (old : List ℕ) where
+  pub text-short : length old < needed → TextOrShort text needed k p old old (turned k p)
+  text-short l = record { answers = rw (lt-leb _ _ l); stores = rw (lt-leb _ _ l) }
+
+  pub text-fits : (new : List ℕ) (n : ℕ) → needed ≤ length old → TextPut text old new n → TextOrShort text needed k p old new (written n)
+  text-fits new n l t = record { answers = rw (le-leb _ _ l) (ap written (t .size)); stores = rw (le-leb _ _ l) (t .bytes) }
+
+-- With room for the most walls a sheet's own verdict is the reader's.
+module _ (text : List ℕ) (room : ℕ) (wide : 1023 ≤ room) where
+  room-there : sheetVerdict text ≡ passed → roomOf (floorAt text .walls) room ≡ passed
+  unfolding roomOf
+  room-there ok =
+      let b = check-tells _ _ (sheet-theorems .read-accepted text ok) .bounds in
+      let enough : floorAt text .walls ≤ room = omega (arith, b .walls .1) in
+      demand-passes 9 0 (le-leb _ _ enough)
+
+  pub read-refused : (k p : ℕ) → readVerdict text room ≡ refused k p → sheetVerdict text ≡ refused k p
+  unfolding readVerdict
+  read-refused k p h =
+      ⊎-elim (λ (e : sheetVerdict text ≡ refused k p). e)
+      (λ (e : (sheetVerdict text ≡ passed) × (roomOf (floorAt text .walls) room ≡ refused k p)).
+      absurd (refused-not-passed (sym (e .1) ∙ room-there (e .0))))
+      (then-cases (sheetVerdict text) (roomOf (floorAt text .walls) room) k p h)
+
+  pub read-passed : readVerdict text room ≡ passed → sheetVerdict text ≡ passed
+  unfolding readVerdict
+  read-passed h = then-both _ _ h .0
+
+-- The floor and the walls of a sheet that was read.
+pub record WasRead (text : List ℕ) (f : Floor) (walls : List ℕ) : Type 0 where
+  pub accepted : sheetVerdict text ≡ passed
+  pub floor : f ≡ floorAt text
+  pub front : take (f .walls) walls ≡ wallsAt text
+  pub lent : f .walls ≤ length walls
+  pub checked : checkOf f (take (f .walls) walls) ≡ passed
+
+pub was-read : (text old walls : List ℕ) (f : Floor) → 1023 ≤ length old → readVerdict text (length old) ≡ passed
+    → f ≡ readFloor text (length old) → walls ≡ readWalls text old → WasRead text f walls
+unfolding readFloor readWalls
+was-read text old walls f wide ok ef ew =
+    let good = read-passed text (length old) wide ok in
+    let floor : f ≡ floorAt text = ef ∙ chosen-passed _ _ ok in
+    let stored : walls ≡ wallsAt text ++ drop (floorAt text .walls) old = ew ∙ chosen-passed _ _ ok in
+    let count : f .walls ≡ floorAt text .walls = ap (λ (g : Floor). g .walls) floor in
+    let front : take (f .walls) walls ≡ wallsAt text =
+    ap (take (f .walls)) stored ∙ take-at (wallsAt text) _ (f .walls) (walls-length text ∙ sym count)
+    in
+    record {
+      accepted = good;
+      floor = floor;
+      front = front;
+      lent = omega (arith, ap length stored, length-append (wallsAt text) (drop (floorAt text .walls) old), walls-length text);
+      checked = rw (front, floor) (sheet-theorems .read-accepted text good);
+    }
+
+-- From bytes to bytes: an accepted sheet, and a refused one.
+module _ (text old new : List ℕ) (o : Outcome) where
+  pub routes-accepted : (f : Floor) (walls : List ℕ) → WasRead text f walls
+      → FloorPut f walls old new o → (o ≡ routesOutcome text (length old)) × (new ≡ routesMemory text old)
+  unfolding routesOutcome routesMemory routesOf orRefusal neededFor chosen shortOutcome writtenIf _then_ FloorPut
+  routes-accepted f walls r t =
+      let u : TextOrShort (printOf (floorAt text) (wallsAt text)) (textLength (floorAt text)) 9 0 old new o =
+      rw (r .front, r .floor) at t
+      in
+      (rw (r .accepted) (u .answers), rw (r .accepted) (u .stores))
+
+  pub routes-refused : (k p : ℕ) → sheetVerdict text ≡ refused k p → RefusalPut k p old new o
+      → (o ≡ routesOutcome text (length old)) × (new ≡ routesMemory text old)
+  unfolding routesOutcome routesMemory routesOf orRefusal neededFor chosen shortOutcome writtenIf _then_ RefusalPut
+  routes-refused k p v t = (rw v (t .answers), rw v (t .stores))
+
+-- What is turned away for too little memory is never written.
+pub short-turned : (v : Verdict) (n : ℕ) → written n ≡ writtenIf (v then refused 9 0) 0 → ⊥
+unfolding writtenIf _then_
+short-turned passed n e = let z : _≡_ {A = ℕ} 0 1 = cc in omega arith
+short-turned (refused k p) n e = let z : _≡_ {A = ℕ} 0 1 = cc in omega arith

@@ -1,0 +1,65 @@
+-- `printing::lines::put_answers` meets its contract: invariant: the lines passed stand behind line 1, and the column is behind them.
+use Prim.Native.Nat.{_≤_, _-_}
+use Rattle.printing.specs.Put.{LinesPut}
+use Rattle.printing.proofs.PutLaws.{lines-start, lines-more, lines-keep, lines-end}
+use borrow.Author.Needs.{needs}
+use native.Mathlib.Omega.{arith}
+use Rattle.printing.proofs.lines.put_answers.Statement.{statement}
+use Rattle.printing.proofs.lines.put_answers.Tie as tie
+
+abbrev Inv-loop : tie.InvT-loop
+Inv-loop f answers out₀ n at₀ i₀ out at i = (i ≤ n) × LinesPut f answers out₀ i out at
+
+abbrev μ-loop : tie.MeasureT-loop
+μ-loop f answers out₀ n at₀ i₀ out at i = n - i
+
+cast-n : tie.Need-cast-n Inv-loop μ-loop
+cast-n c = search needs
+
+loop-holds : tie.Need-loop-holds Inv-loop μ-loop
+loop-holds c = (search needs, lines-start _ _ _)
+
+put-answer-requires : tie.Need-put-answer-requires Inv-loop μ-loop
+put-answer-requires c κs =
+    let c₄ = c .before .before .before .before in
+    let p = c₄ .before .before .pre in
+    let l = c .before .before .loop .inv .1 in
+    let size = lines-keep _ _ _ (c .before .before .loop .i) _ _ l (omega (arith, p .room)) in
+    ((omega (arith, p .few), p .horizon), (omega (arith, p .records), omega (arith, p .room, l .short)))
+
+add-i : tie.Need-add-i Inv-loop μ-loop
+add-i c = search needs
+
+loop-less : tie.Need-loop-less Inv-loop μ-loop
+loop-less c = search needs
+
+loop-again : tie.Need-loop-again Inv-loop μ-loop
+loop-again c =
+    let c₄ = c .before .before .before .before in
+    let c₈ = c₄ .before .before .before .before in (
+      search needs,
+      lines-more _ _ _ (c₄ .before .loop .i) _ _ _ _ (c₄ .before .loop .inv .1) (c .before .before .put-answer .ensures) (omega
+          (arith, c₈ .before .pre .room)),
+    )
+
+same-length : tie.Need-same-length Inv-loop μ-loop
+same-length c = lines-keep _ _ _ (c .before .loop .i) _ _ (c .before .loop .inv .1) (omega
+    (arith, c .before .before .before .before .before .pre .room))
+
+returns : tie.Need-returns Inv-loop μ-loop
+returns c = lines-end _ _ _ (c .before .loop .i) _ _ _ (c .before .loop .inv .0) (c .loop-test .left) (c .before .loop .inv .1)
+
+pub put-answers-spec : {M : Type 1} → statement M
+put-answers-spec =
+    tie.close
+    (tie.spec
+    Inv-loop
+    μ-loop
+    cast-n
+    loop-holds
+    put-answer-requires
+    add-i
+    loop-less
+    loop-again
+    same-length
+    returns)

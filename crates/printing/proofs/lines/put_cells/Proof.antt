@@ -1,0 +1,97 @@
+-- `printing::lines::put_cells` meets its contract: the fields passed stand one behind the other.
+use denote.Ref.{now}
+use Rattle.printing.proofs.FieldsLaws.{fields-start, fields-more, fields-keep, fields-end}
+use Rattle.printing.specs.Text.{fieldsOf}
+use Rattle.memory.specs.Memory.{put}
+use lib.Seq.{length-take-le, getD-take}
+use lib.ListN.{length, take}
+use mathlib.Core.Path.{_≡_}
+use Prim.Native.Nat.{_+_, _*_, _-_, _≤_}
+use borrow.Author.Needs.{needs}
+use native.Mathlib.Omega.{arith}
+use Rattle.printing.proofs.lines.put_cells.Statement.{statement}
+use Rattle.printing.proofs.lines.put_cells.Tie as tie
+
+abbrev Inv-loop : tie.InvT-loop
+Inv-loop out₀ at n cells t₀ out t = (t ≤ n) × ((length cells ≡ 64) × (out ≡ put out₀ at (fieldsOf (take t (take n cells)))))
+
+abbrev μ-loop : tie.MeasureT-loop
+μ-loop out₀ at n cells t₀ out t = n - t
+
+loop-holds : tie.Need-loop-holds Inv-loop μ-loop
+loop-holds c = (search needs, (search needs, fields-start _ (take (c .before .args .n) (c .before .args .t3)) _))
+
+mul-put-field : tie.Need-mul-put-field Inv-loop μ-loop
+mul-put-field c = search needs
+
+add-put-field : tie.Need-add-put-field Inv-loop μ-loop
+add-put-field c = search needs
+
+mul-put-field-2 : tie.Need-mul-put-field-2 Inv-loop μ-loop
+mul-put-field-2 c = search needs
+
+array-read-put-field : tie.Need-array-read-put-field Inv-loop μ-loop
+array-read-put-field c = search needs
+
+put-field-requires : tie.Need-put-field-requires Inv-loop μ-loop
+put-field-requires c κs =
+    let e = c .before .before .before .before in
+    let l = c .before .before .loop in
+    let xs = take (e .args .n) (e .args .t3) in
+    let size : length xs ≡ e .args .n = length-take-le _ (e .args .t3) (omega (arith, l .inv .1 .0, e .pre)) in
+    let fits : e .args .at + 5 * length xs ≤ length (now (e .args .out)) = omega (arith, e .pre) in
+    omega (arith, fields-keep _ xs _ fits _ (l .t) (omega arith) (l .inv .1 .1), e .pre)
+
+add-t : tie.Need-add-t Inv-loop μ-loop
+add-t c = search needs
+
+loop-less : tie.Need-loop-less Inv-loop μ-loop
+loop-less c = search needs
+
+loop-again : tie.Need-loop-again Inv-loop μ-loop
+loop-again c =
+    let c₄ = c .before .before .before .before in
+    let e = c₄ .before .before .before in
+    let l = c₄ .before .loop in
+    let xs = take (e .args .n) (e .args .t3) in
+    let size : length xs ≡ e .args .n = length-take-le _ (e .args .t3) (omega (arith, l .inv .1 .0, e .pre)) in
+    let fits : e .args .at + 5 * length xs ≤ length (now (e .args .out)) = omega (arith, e .pre) in
+    let cell = getD-take (e .args .n) (e .args .t3) (l .t) 0 (c₄ .loop-test .taken) in
+    let field = c .before .before .put-field .ensures in
+    (search needs, (l .inv .1 .0, fields-more _ xs _ fits _ _ (l .t) (omega arith) (l .inv .1 .1) (rw cell field)))
+
+same-length : tie.Need-same-length Inv-loop μ-loop
+same-length c =
+    let e = c .before .before .before in
+    let l = c .before .loop in
+    let xs = take (e .args .n) (e .args .t3) in
+    let size : length xs ≡ e .args .n = length-take-le _ (e .args .t3) (omega (arith, l .inv .1 .0, e .pre)) in
+    let fits : e .args .at + 5 * length xs ≤ length (now (e .args .out)) = omega (arith, e .pre) in
+    fields-keep _ xs _ fits _ (l .t) (omega arith) (l .inv .1 .1)
+
+returns : tie.Need-returns Inv-loop μ-loop
+returns c =
+    let e = c .before .before .before in
+    let l = c .before .loop in
+    let xs = take (e .args .n) (e .args .t3) in
+    let size : length xs ≡ e .args .n = length-take-le _ (e .args .t3) (omega (arith, l .inv .1 .0, e .pre)) in
+    let fits : e .args .at + 5 * length xs ≤ length (now (e .args .out)) = omega (arith, e .pre) in
+    fields-end _ _ xs _ (l .t) (omega arith) (l .inv .1 .1)
+
+pub put-cells-spec : {M : Type 1} → statement M
+put-cells-spec =
+    tie.close
+    (tie.spec
+    Inv-loop
+    μ-loop
+    loop-holds
+    mul-put-field
+    add-put-field
+    mul-put-field-2
+    array-read-put-field
+    put-field-requires
+    add-t
+    loop-less
+    loop-again
+    same-length
+    returns)

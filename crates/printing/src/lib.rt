@@ -1,0 +1,141 @@
+// The routes of a floor as text (document 01, 'The sheet', second half), put into lent memory; and the whole path from a
+// sheet's bytes to the printed bytes.
+mod lines;
+
+ghost use mathlib.Core.Path.{_≡_};
+ghost use Prim.Native.Nat.{_≤_};
+ghost use lib.ListN.{length, take};
+ghost use Rattle.floor.specs.Answers.{verdictOf};
+ghost use Rattle.floor.specs.Checks.{checkOf};
+ghost use Rattle.floor.specs.Verdict.{passed};
+ghost use Rattle.planner.specs.Plan.{planOf, planVerdict};
+ghost use Rattle.planner.specs.Records.{stored};
+ghost use Rattle.printing.specs.Print.{outcomeOf, writtenIf, printOf, textLength, printVerdict};
+ghost use Rattle.printing.specs.Print.{printOutcome, printAnswers, printMemory, routesOutcome, routesMemory};
+ghost use Rattle.printing.specs.Put.{TextPut, FloorPut, RefusalPut};
+use floor::Checked;
+use floor::Floor;
+use floor::Refusal;
+use planner::Planned;
+
+// What printing says.
+pub enum Printed {
+    // So many bytes of text stand in front of the lent memory.
+    Written(usize),
+    // The request is turned away, and all lent memory is as it was.
+    Refused(Refusal),
+}
+
+// The needed length of text memory: 11 bytes, and 331 a carrier.
+pub fn text_length(f: Floor) -> usize
+    ensures { λ r. ⌜ r ≡ textLength f ⌝ }
+{
+    11 + 331 * f.carriers as usize
+}
+
+// The refusals of printing, in their order.
+fn request(f: Floor, walls: &[u16], room: usize, bytes: usize) -> Checked
+    ensures { λ r. ⌜ verdictOf r ≡ printVerdict f (now (walls .entry)) room bytes ⌝ }
+{
+    let asked = planner::request(f, walls, room);
+    let Checked::Passed = asked else {
+        return asked;
+    };
+    floor::room(text_length(f), bytes)
+}
+
+// Plans a checked floor and puts its routes; their length is returned.
+fn put_plan(f: Floor, walls: &[u16], answers: &mut [u16], out: &mut [u8]) -> usize
+    requires { ⌜ planVerdict f (now walls) (length (now answers)) ≡ passed ⌝ }
+    requires { ⌜ textLength f ≤ length (now out) ⌝ }
+    ensures plans { λ r. ⌜ now (answers .exit) ≡ stored (planOf f (now (walls .entry))) (now (answers .entry)) ⌝ }
+    ensures puts { λ r. ⌜ TextPut (printOf f (now (walls .entry))) (now (out .entry)) (now (out .exit)) r ⌝ }
+{
+    let planned = planner::plan(f, walls, answers);
+    let Planned::Failing(failing) = planned else {
+        return 0;
+    };
+    lines::put_routes(f, failing as u16, answers, out)
+}
+
+// The answer with the refusal of a check.
+fn turned_away(checked: Checked) -> Printed
+    ensures { λ r. ⌜ outcomeOf r ≡ writtenIf (verdictOf checked) 0 ⌝ }
+{
+    match checked {
+        Checked::Refused(x) => Printed::Refused(x),
+        Checked::Passed => Printed::Written(0),
+    }
+}
+
+// Plans a floor and prints its routes: the answers into lent memory as `planner::plan` stores them, the text into lent
+// memory.
+pub fn print(f: Floor, walls: &[u16], answers: &mut [u16], out: &mut [u8]) -> Printed
+    ensures says { λ r. ⌜ outcomeOf r ≡ printOutcome f (now (walls .entry)) (length (now (answers .entry))) (length (now (out .entry))) ⌝ }
+    ensures plans { λ r. ⌜ now (answers .exit) ≡ printAnswers f (now (walls .entry)) (length (now (out .entry))) (now (answers .entry)) ⌝ }
+    ensures stores { λ r. ⌜ now (out .exit) ≡ printMemory f (now (walls .entry)) (length (now (answers .entry))) (now (out .entry)) ⌝ }
+{
+    let asked = request(f, walls, answers.len(), out.len());
+    let Checked::Passed = asked else {
+        return turned_away(asked);
+    };
+    Printed::Written(put_plan(f, walls, answers, out))
+}
+
+// Room for the most walls that a floor can have.
+fn no_walls() -> [u16; 1023]
+    ensures { λ r. ⌜ 1023 ≡ length r ⌝ }
+{
+    [0; 1023]
+}
+
+// Room for the answers of the most carriers.
+fn no_answers() -> [u16; 520]
+    ensures { λ r. ⌜ 520 ≡ length r ⌝ }
+{
+    [0; 520]
+}
+
+// The routes of a floor that was read, with its walls in front of `walls`.
+fn print_read(f: Floor, walls: &[u16], out: &mut [u8]) -> Printed
+    requires { ⌜ checkOf f (take (f .walls) (now walls)) ≡ passed ⌝ }
+    requires { ⌜ f .walls ≤ length (now walls) ⌝ }
+    ensures { λ r. ⌜ FloorPut f (now (walls .entry)) (now (out .entry)) (now (out .exit)) (outcomeOf r) ⌝ }
+{
+    if out.len() < text_length(f) {
+        return Printed::Refused(Refusal {
+            number: 9,
+            place: 0,
+        });
+    }
+    let k = f.walls as usize;
+    let mut answers = no_answers();
+    Printed::Written(put_plan(f, &walls[..k], &mut answers, out))
+}
+
+// The line of a refused sheet.
+fn print_refusal(x: Refusal, out: &mut [u8]) -> Printed
+    requires { ⌜ x .place ≤ 65535 ⌝ }
+    ensures { λ r. ⌜ RefusalPut (x .number) (x .place) (now (out .entry)) (now (out .exit)) (outcomeOf r) ⌝ }
+{
+    if out.len() < 16 {
+        return Printed::Refused(x);
+    }
+    Printed::Written(lines::put_refusal(x, out))
+}
+
+// From a sheet's bytes to the printed bytes: the routes of its floor, or the line of its refusal. With too little text
+// memory it is turned away: with the sheet's refusal, and with 9 if it has none.
+pub fn routes(text: &[u8], out: &mut [u8]) -> Printed
+    ensures says { λ r. ⌜ outcomeOf r ≡ routesOutcome (now (text .entry)) (length (now (out .entry))) ⌝ }
+    ensures stores { λ r. ⌜ now (out .exit) ≡ routesMemory (now (text .entry)) (now (out .entry)) ⌝ }
+{
+    let mut walls = no_walls();
+    let reading = sheet::read(text, &mut walls);
+    let checked = reading.answer;
+    let f = reading.floor;
+    let Checked::Refused(x) = checked else {
+        return print_read(f, &walls, out);
+    };
+    print_refusal(x, out)
+}
