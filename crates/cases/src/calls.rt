@@ -14,7 +14,7 @@ pub struct Seen {
     pub place: usize,
 }
 
-fn seen(kind: u16, number: usize) -> Seen {
+fn made(kind: u16, number: usize) -> Seen {
     Seen {
         kind: kind,
         number: number,
@@ -31,39 +31,39 @@ pub fn refused(number: u16, place: usize) -> Seen {
 }
 
 pub fn passed() -> Seen {
-    seen(1, 0)
+    made(1, 0)
 }
 
 pub fn kept() -> Seen {
-    seen(2, 0)
+    made(2, 0)
 }
 
 pub fn sent() -> Seen {
-    seen(3, 0)
+    made(3, 0)
 }
 
 pub fn delivered() -> Seen {
-    seen(4, 0)
+    made(4, 0)
 }
 
 pub fn silent(taken: usize) -> Seen {
-    seen(5, taken)
+    made(5, taken)
 }
 
 pub fn spent(taken: usize) -> Seen {
-    seen(6, taken)
+    made(6, taken)
 }
 
 pub fn ended(taken: usize) -> Seen {
-    seen(7, taken)
+    made(7, taken)
 }
 
 pub fn failing(carrier: usize) -> Seen {
-    seen(8, carrier)
+    made(8, carrier)
 }
 
 pub fn steps(most: usize) -> Seen {
-    seen(9, most)
+    made(9, most)
 }
 
 fn turned(r: Refusal) -> Seen {
@@ -129,8 +129,13 @@ pub fn ceiling(n: usize) -> Seen {
     }
 }
 
+// A run of no steps.
+pub fn idle(f: Floor, walls: &[u16], m: &mut [u16]) -> Seen {
+    let list = [0u16; 1];
+    run(f, walls, m, &list[..0], 0)
+}
+
 // Whether no step is open: a run of no steps says so.
 pub fn is_silent(f: Floor, walls: &[u16], m: &mut [u16]) -> bool {
-    let list = [0u16; 1];
-    same(run(f, walls, m, &list[..0], 0), silent(0))
+    same(idle(f, walls, m), silent(0))
 }

@@ -95,7 +95,7 @@ fn by_runs(f: Floor, walls: &[u16], m: &mut [u16], all: Steps, seed: usize) -> W
 
 // By runs where the seed is even, by steps where it is odd.
 fn go(f: Floor, walls: &[u16], m: &mut [u16], seed: usize) -> Went {
-    let all = orders::steps(look::wide(f.carriers));
+    let all = orders::steps_of(look::wide(f.carriers));
     if seed % 2 == 0 {
         return by_runs(f, walls, m, all, seed);
     }
@@ -140,18 +140,22 @@ fn twenty(from: Tally, n: u16, depth: u16, room: &mut [u16]) -> Tally {
     t
 }
 
-// The line of a number of carriers: twenty orders with each depth. What is expected of each order is the planner's answers, whatever
-// the order (demand 3). That the floors and orders are of many kinds is seen from two figures, which a plain model of document 01 in
-// another language gave as well: orders of floors on which a carrier has none, and steps in all.
+// Twenty drawn orders with each depth.
+fn eighty(n: u16, room: &mut [u16]) -> Tally {
+    let a = twenty(result::nothing(), n, 1, room);
+    let b = twenty(a, n, 2, room);
+    let c = twenty(b, n, 3, room);
+    twenty(c, n, 4, room)
+}
+
+// The line of a number of carriers. What is expected of each order is the planner's answers, whatever the order (demand 3). That the
+// floors and orders are of many kinds is seen from two figures, which a plain model of document 01 in another language gave as well:
+// orders on floors where a carrier has none, and steps in all.
 fn carriers(n: u16, failing: usize, steps: usize, room: &mut [u16]) {
-    let mut t = result::nothing();
-    t = twenty(t, n, 1, room);
-    t = twenty(t, n, 2, room);
-    t = twenty(t, n, 3, room);
-    t = twenty(t, n, 4, room);
+    let t = eighty(n, room);
     show::begin(b"drawn orders");
     show::number(look::wide(n));
-    show::text(b" carriers;");
+    show::text(b" carriers,");
     let well = result::all_well(t, 80);
     let nones = show::figure(b"with a failing carrier", t.failing, failing);
     let sum = show::figure(b"steps in all", t.steps, steps);

@@ -1,4 +1,6 @@
 // Drawn floors and lists of steps. The numbers come from one generator: the next is the last times 16807 modulo 2^31 - 1.
+ghost use mathlib.Core.Path.{_≡_};
+ghost use lib.ListN.{length};
 use crate::look;
 use crate::orders::Steps;
 use floor::Floor;
@@ -18,7 +20,7 @@ pub fn below(seed: usize, n: usize) -> usize {
 
 // A seed beside another.
 pub fn beside(seed: usize, k: usize) -> usize {
-    look::plus(seed % 65000, k) + 1
+    look::plus(look::plus(seed % 65000, k), 1)
 }
 
 // Eight different cells of at least nine, at most 40, drawn by shuffling all.
@@ -75,18 +77,40 @@ fn draw_walls(f: Floor, cells: usize, seed: usize, walls: &mut [u16]) -> usize {
     count
 }
 
+// A number of columns or rows.
+fn side(seed: usize) -> usize {
+    3 + seed % 4
+}
+
+// The product of two sides.
+fn cells_of(width: usize, height: usize) -> usize {
+    if 6 < width {
+        return 0;
+    }
+    if height == 3 {
+        return 3 * width;
+    }
+    if height == 4 {
+        return 4 * width;
+    }
+    if height == 5 {
+        return 5 * width;
+    }
+    6 * width
+}
+
 // Draws a floor of 3 to 6 columns and rows with horizon 4 to 15, its walls into a memory.
 pub fn draw_floor(n: u16, depth: u16, seed: usize, walls: &mut [u16]) -> Floor {
     let a = next(next(seed));
     let b = next(a);
     let c = next(b);
-    let width = 3 + below(a, 4);
-    let height = 3 + below(b, 4);
-    let cells = width * height;
+    let width = side(a);
+    let height = side(b);
+    let cells = cells_of(width, height);
     let mut f = Floor {
         width: look::narrow(width),
         height: look::narrow(height),
-        horizon: look::narrow(4 + below(c, 12)),
+        horizon: look::narrow(4 + c % 12),
         depth: depth,
         carriers: n,
         walls: 0,
@@ -104,7 +128,9 @@ pub fn draw_step(all: Steps, seed: usize) -> u16 {
 }
 
 // A list of steps drawn from those that are there.
-pub fn draw_list(all: Steps, seed: usize) -> [u16; 32] {
+pub fn draw_list(all: Steps, seed: usize) -> [u16; 32]
+    ensures { λ r. ⌜ 32 ≡ length r ⌝ }
+{
     let mut list = [0u16; 32];
     let mut s = seed;
     let mut k: usize = 0;

@@ -12,22 +12,33 @@ fn step(label: &[u8], f: Floor, m: &mut [u16], x: u16, expected: Seen) -> bool {
     show::part(label, calls::step(f, &none, m, x), expected)
 }
 
-// Plan 2, deliver 2 to 3, plan 3: carrier 3 answers what it has heard of carrier 2, which has not heard of carrier 1.
-fn first_half(f: Floor, m: &mut [u16]) -> bool {
-    let a = step(b"plan 2", f, m, 102, calls::sent());
-    let b = step(b"deliver 2 to 3", f, m, 223, calls::delivered());
-    let c = step(b"plan 3", f, m, 103, calls::sent());
-    look::both(a, look::both(b, c))
+// Deliver 2 to 3, plan 3: carrier 3 answers what it has heard of carrier 2.
+fn hear(f: Floor, m: &mut [u16]) -> bool {
+    let a = step(b"deliver 2 to 3", f, m, 223, calls::delivered());
+    let b = step(b"plan 3", f, m, 103, calls::sent());
+    look::both(a, b)
 }
 
-// Plan 1, deliver 1 to 2, plan 2, deliver 2 to 3, plan 3: carrier 2 has changed its answer, and carrier 3 hears it.
-fn second_half(f: Floor, m: &mut [u16]) -> bool {
+// Carrier 2 plans, not having heard of carrier 1, and carrier 3 hears it.
+fn first_half(f: Floor, m: &mut [u16]) -> bool {
+    let a = step(b"plan 2", f, m, 102, calls::sent());
+    let b = hear(f, m);
+    look::both(a, b)
+}
+
+// Plan 1, deliver 1 to 2, plan 2: carrier 2 changes its answer.
+fn change(f: Floor, m: &mut [u16]) -> bool {
     let a = step(b"plan 1", f, m, 101, calls::sent());
     let b = step(b"deliver 1 to 2", f, m, 212, calls::delivered());
     let c = step(b"plan 2", f, m, 102, calls::sent());
-    let d = step(b"deliver 2 to 3", f, m, 223, calls::delivered());
-    let e = step(b"plan 3", f, m, 103, calls::sent());
-    look::both(look::both(a, b), look::both(c, look::both(d, e)))
+    look::both(a, look::both(b, c))
+}
+
+// Carrier 2 changes its answer, and carrier 3 hears it.
+fn second_half(f: Floor, m: &mut [u16]) -> bool {
+    let a = change(f, m);
+    let b = hear(f, m);
+    look::both(a, b)
 }
 
 // Deliver 1 to 3, plan 3: silence.
@@ -35,11 +46,7 @@ fn last_steps(f: Floor, m: &mut [u16]) -> bool {
     let none = [0u16; 1];
     let a = step(b"deliver 1 to 3", f, m, 213, calls::delivered());
     let b = step(b"plan 3", f, m, 103, calls::sent());
-    let c = show::part(
-        b"then",
-        calls::run(f, &none, m, &none[..0], 0),
-        calls::silent(0),
-    );
+    let c = show::part(b"then", calls::idle(f, &none, m), calls::silent(0));
     look::both(a, look::both(b, c))
 }
 
@@ -104,26 +111,29 @@ fn detour_not_kept(m: &mut [u16]) {
     ));
 }
 
-// Depth 2: carrier 2 tells 3 first 2 1 0 0 .. and then 2 5 4 1 .., and 3 hears them in this order. Its view of 2 stands at 333.
-fn oldest_first(m: &mut [u16]) {
+// Deliver 2 to 3, after which carrier 3's view of 2, at 333, is the expected one.
+fn hears(f: Floor, m: &mut [u16], expected: [u16; 5]) -> bool {
+    let a = step(b"deliver 2 to 3", f, m, 223, calls::delivered());
+    let b = show::five(b"heard", m, 333, expected);
+    look::both(a, b)
+}
+
+// Depth 2: carrier 2 tells 3 first 2 1 0 0 .. and then 2 5 4 1 .., and 3 hears them in this order.
+fn oldest_first() {
     let f = floors::three(2);
     let none = [0u16; 1];
+    let mut m = look::three_room();
     show::begin(b"oldest first");
-    calls::fresh(f, &none, m);
+    calls::fresh(f, &none, &mut m);
     let a = show::part(
         b"run",
-        calls::run(f, &none, m, &[102u16, 101, 212, 102], 4),
+        calls::run(f, &none, &mut m, &[102u16, 101, 212, 102], 4),
         calls::ended(4),
     );
-    let b = step(b"deliver 2 to 3", f, m, 223, calls::delivered());
-    let c = show::five(b"heard", m, 333, [2, 2, 1, 0, 0]);
-    let d = step(b"deliver 2 to 3", f, m, 223, calls::delivered());
-    let e = show::five(b"heard", m, 333, [2, 2, 5, 4, 1]);
-    let g = step(b"deliver 2 to 3", f, m, 223, calls::refused(8, 0));
-    show::verdict(look::both(
-        look::both(look::both(a, b), look::both(c, d)),
-        look::both(e, g),
-    ));
+    let b = hears(f, &mut m, [2, 2, 1, 0, 0]);
+    let c = hears(f, &mut m, [2, 2, 5, 4, 1]);
+    let d = step(b"deliver 2 to 3", f, &mut m, 223, calls::refused(8, 0));
+    show::verdict(look::both(look::both(a, b), look::both(c, d)));
 }
 
 // Carriers that never meet: the second plan of carrier 2 is due, as it has heard, and its answer stays: kept.
@@ -145,6 +155,6 @@ pub fn hasty() {
     show::heading(b"Answers that change");
     none_not_kept(&mut m);
     detour_not_kept(&mut m);
-    oldest_first(&mut m);
+    oldest_first();
     kept();
 }

@@ -1,5 +1,6 @@
 // Looking at memory, number by number. Every function answers for any place, so none has a `requires`.
 ghost use mathlib.Core.Path.{_≡_};
+ghost use Prim.Native.Nat.{_<_};
 ghost use lib.ListN.{length};
 
 // Room for the largest state, 9,666 numbers, and some more, each 777.
@@ -39,12 +40,16 @@ pub fn at(m: &[u16], i: usize) -> u16 {
 }
 
 // The same as a size.
-pub fn wide_at(m: &[u16], i: usize) -> usize {
+pub fn wide_at(m: &[u16], i: usize) -> usize
+    ensures { λ r. ⌜ r < 65536 ⌝ }
+{
     wide(at(m, i))
 }
 
 // A number as a size.
-pub fn wide(x: u16) -> usize {
+pub fn wide(x: u16) -> usize
+    ensures { λ r. ⌜ r < 65536 ⌝ }
+{
     x as usize
 }
 
@@ -83,9 +88,10 @@ pub fn put(m: &mut [u16], i: usize, v: u16) {
 
 // Writes all of one memory from another.
 pub fn copy(from: &[u16], to: &mut [u16]) {
+    let n = to.len();
     let mut i: usize = 0;
-    while i < to.len() {
-        to[i] = at(from, i);
+    while i < n {
+        put(to, i, at(from, i));
         i += 1;
     }
 }

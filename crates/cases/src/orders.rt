@@ -34,7 +34,7 @@ pub struct Steps {
 }
 
 // The steps of n carriers.
-pub fn steps(n: usize) -> Steps {
+pub fn steps_of(n: usize) -> Steps {
     let mut numbers = [0u16; 40];
     let mut count: usize = 0;
     let mut x: usize = 100;
@@ -107,13 +107,13 @@ fn follow(f: Floor, m: &mut [u16], all: Steps, choices: [u16; 16]) -> Led {
 }
 
 // The next list of choices, and whether there is one.
-struct Next {
+struct Moved {
     choices: [u16; 16],
     more: bool,
 }
 
 // The first k choices with the last of them that can moved on, and those behind it the first again.
-fn next(from: [u16; 16], k: usize, count: usize) -> Next {
+fn next(from: [u16; 16], k: usize, count: usize) -> Moved {
     let mut choices = from;
     let mut left = k;
     while 0 < left {
@@ -121,14 +121,14 @@ fn next(from: [u16; 16], k: usize, count: usize) -> Next {
         let c = look::plus(look::wide_at(&choices, left), 1);
         if c < count {
             look::put(&mut choices, left, look::narrow(c));
-            return Next {
+            return Moved {
                 choices: choices,
                 more: true,
             };
         }
         look::put(&mut choices, left, 0);
     }
-    Next {
+    Moved {
         choices: choices,
         more: false,
     }
@@ -152,7 +152,7 @@ fn note(t: Tally, f: Floor, m: &[u16], led: Led, planned: &[u16], second: &[u16]
 
 // All orders of a floor without walls.
 fn every(f: Floor, m: &mut [u16], planned: &[u16], second: &[u16]) -> Tally {
-    let all = steps(look::wide(f.carriers));
+    let all = steps_of(look::wide(f.carriers));
     let mut choices = [0u16; 16];
     let mut t = result::nothing();
     let mut turn: usize = 0;

@@ -9,19 +9,25 @@ use crate::show;
 use crate::written;
 use floor::Floor;
 
-// A call of each of the three entries; all are refused alike, and the memory is left as it was.
+// A call of each of the three entries; whether all are refused alike.
+fn asked(f: Floor, walls: &[u16], m: &mut [u16], expected: Seen) -> bool {
+    let a = show::part(b"fresh", calls::fresh(f, walls, m), expected);
+    let b = show::part(b"step", calls::step(f, walls, m, 101), expected);
+    let c = show::part(b"run", calls::run(f, walls, m, &[101u16], 1), expected);
+    look::both(a, look::both(b, c))
+}
+
+// A line of a call of each of the three entries, which leave the memory as it was.
 fn three_ways(label: &[u8], f: Floor, walls: &[u16], m: &mut [u16], expected: Seen) {
     let mut before = written::two_room();
     look::copy(m, &mut before);
     show::begin(label);
-    let a = show::part(b"fresh", calls::fresh(f, walls, m), expected);
-    let b = show::part(b"step", calls::step(f, walls, m, 101), expected);
-    let c = show::part(b"run", calls::run(f, walls, m, &[101u16], 1), expected);
+    let good = asked(f, walls, m, expected);
     let kept = show::untouched(look::same_part(m, 0, &before, 0, m.len()));
-    show::verdict(look::both(look::both(a, b), look::both(c, kept)));
+    show::verdict(look::both(good, kept));
 }
 
-// A call of the step and of the run on document 01's floor.
+// A line of a call of the step and of the run on document 01's floor, which leave the memory as it was.
 fn two_ways(label: &[u8], m: &mut [u16], x: u16, list: &[u16], step: Seen, run: Seen) {
     let f = floors::document(4);
     let none = [0u16; 1];
@@ -34,29 +40,36 @@ fn two_ways(label: &[u8], m: &mut [u16], x: u16, list: &[u16], step: Seen, run: 
     show::verdict(look::both(look::both(a, b), kept));
 }
 
-// The refusals of a floor, on a fresh state of document 01's.
-fn floor_refusals(m: &mut [u16]) {
+// The refusals of a floor before its walls are looked at, on a fresh state of document 01's.
+fn record_refusals(m: &mut [u16]) {
     let none = [0u16; 1];
     // Horizon 64 is field 3; and one wall is counted that is not lent.
     let mut f = floors::document(64);
     f.walls = 1;
     three_ways(b"2 before 9", f, &none[..0], m, calls::refused(2, 3));
     // The wall is not lent; and carrier 2's goal is cell 6 of 6.
-    f = floors::document(4);
-    f.walls = 1;
-    f.goals[1] = 6;
-    three_ways(b"9 before 3", f, &none[..0], m, calls::refused(9, 0));
-    // Carrier 2 is item 2; and the walls 4, 3 do not rise.
+    let mut g = floors::document(4);
+    g.walls = 1;
+    g.goals[1] = 6;
+    three_ways(b"9 before 3", g, &none[..0], m, calls::refused(9, 0));
+}
+
+// The other refusals of a floor.
+fn wall_refusals(m: &mut [u16]) {
+    // Carrier 2's goal is cell 6 of 6, carrier 2 is item 2; and the walls 4, 3 do not rise.
+    let mut f = floors::document(4);
     f.walls = 2;
+    f.goals[1] = 6;
     three_ways(b"3 before 4", f, &[4u16, 3], m, calls::refused(3, 2));
     // The second wall is item 4; and it is carrier 1's start.
-    f = floors::document(4);
-    f.walls = 2;
-    three_ways(b"4 before 5", f, &[4u16, 0], m, calls::refused(4, 4));
+    let mut g = floors::document(4);
+    g.walls = 2;
+    three_ways(b"4 before 5", g, &[4u16, 0], m, calls::refused(4, 4));
     // Carrier 1 starts on the wall; and carrier 2 has carrier 1's goal.
-    f.walls = 1;
-    f.goals[1] = 2;
-    three_ways(b"5 before 6", f, &[0u16], m, calls::refused(5, 1));
+    let mut h = floors::document(4);
+    h.walls = 1;
+    h.goals[1] = 2;
+    three_ways(b"5 before 6", h, &[0u16], m, calls::refused(5, 1));
 }
 
 // The refusals of the lent memory.
@@ -77,8 +90,8 @@ fn memory_refusals() {
     );
 }
 
-// The refusals of a step and of a list.
-fn step_refusals(m: &mut [u16]) {
+// The refusal of a state.
+fn state_refusals(m: &mut [u16]) {
     look::put(m, 0, 1000);
     // The count is no count; and no delivery goes from a carrier to itself.
     two_ways(
@@ -90,6 +103,10 @@ fn step_refusals(m: &mut [u16]) {
         calls::refused(10, 0),
     );
     look::put(m, 0, 0);
+}
+
+// The refusals of a step and of a list.
+fn step_refusals(m: &mut [u16]) {
     // There is no carrier 3, so its plan is not open either. In a list the place is the position of the first bad step; an open step
     // before it is not taken.
     two_ways(
@@ -151,8 +168,8 @@ fn numbers(m: &mut [u16]) {
     let a = all_numbers(m);
     show::begin(b"every number as a step");
     let b = show::figure(b"taken", a.taken, 2);
-    let c = show::figure(b"refused 8 0", a.eight, 1);
-    let d = show::figure(b"refused 7 0", a.seven, 65533);
+    let c = show::figure(b"refused with 8", a.eight, 1);
+    let d = show::figure(b"refused with 7", a.seven, 65533);
     show::verdict(look::both(b, look::both(c, d)));
 }
 
@@ -171,39 +188,39 @@ fn row(n: u16) -> Floor {
 }
 
 // The fresh state of n carriers in so many numbers.
-fn fresh_in(n: u16, size: usize) -> Seen {
+fn fresh_in(n: u16, size: usize, room: &mut [u16]) -> Seen {
     let none = [0u16; 1];
-    let mut room = look::room();
-    if 9700 < size {
-        return calls::passed();
+    if room.len() < size {
+        return calls::refused(9, 9);
     }
     calls::fresh(row(n), &none, &mut room[..size])
 }
 
 // At the needed length, 2 + 67 n + 326 n (n - 1) / 2, a state is not too short, at one less it is; and that is the layout's length.
-fn needed(n: u16, size: usize) {
+fn needed(n: u16, size: usize, room: &mut [u16]) {
     show::begin(b"needed length");
     show::number(look::wide(n));
-    show::text(b" carriers;");
+    show::text(b" carriers,");
     let a = show::figure(b"numbers", result::state_length(look::wide(n)), size);
-    let b = show::part(b"lent", fresh_in(n, size), calls::passed());
+    let b = show::part(b"lent", fresh_in(n, size, room), calls::passed());
     let c = show::part(
         b"one less",
-        fresh_in(n, look::minus(size, 1)),
+        fresh_in(n, look::minus(size, 1), room),
         calls::refused(9, 0),
     );
     show::verdict(look::both(a, look::both(b, c)));
 }
 
 fn lengths() {
-    needed(1, 69);
-    needed(2, 462);
-    needed(3, 1181);
-    needed(4, 2226);
-    needed(5, 3597);
-    needed(6, 5294);
-    needed(7, 7317);
-    needed(8, 9666);
+    let mut room = look::room();
+    needed(1, 69, &mut room);
+    needed(2, 462, &mut room);
+    needed(3, 1181, &mut room);
+    needed(4, 2226, &mut room);
+    needed(5, 3597, &mut room);
+    needed(6, 5294, &mut room);
+    needed(7, 7317, &mut room);
+    needed(8, 9666, &mut room);
 }
 
 // 2^(n+1) - n - 2; carriers outside 1 to 8 are field 5.
@@ -225,8 +242,10 @@ pub fn refusals() {
     let mut m = written::two_room();
     show::heading(b"Refusals");
     calls::fresh(floors::document(4), &none, &mut m);
-    floor_refusals(&mut m);
+    record_refusals(&mut m);
+    wall_refusals(&mut m);
     memory_refusals();
+    state_refusals(&mut m);
     step_refusals(&mut m);
     numbers(&mut m);
     show::heading(b"Lengths and ceilings");

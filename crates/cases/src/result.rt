@@ -1,4 +1,5 @@
 // What is looked at where an order has come to silence.
+ghost use Prim.Native.Nat.{_≤_};
 use crate::calls;
 use crate::look;
 use crate::show;
@@ -91,7 +92,9 @@ fn due_place(i: usize) -> usize {
 }
 
 // The pairs of n carriers.
-fn pairs(n: usize) -> usize {
+fn pairs(n: usize) -> usize
+    ensures { λ r. ⌜ r ≤ 28 ⌝ }
+{
     if n == 1 {
         return 0;
     }
@@ -134,8 +137,9 @@ pub fn state_length(n: usize) -> usize {
 
 // Whether every channel is empty.
 fn all_empty(m: &[u16], n: usize) -> bool {
+    let all = pairs(n);
     let mut p: usize = 0;
-    while p < pairs(n) {
+    while p < all {
         if look::at(m, channel_place(n, p)) != 0 {
             return false;
         }

@@ -72,7 +72,7 @@ fn plain(kind: u16) {
 }
 
 // An answer.
-pub fn seen(s: Seen) {
+pub fn words(s: Seen) {
     if s.kind == 0 {
         text(b" refused");
         number(s.number);
@@ -88,7 +88,7 @@ pub fn seen(s: Seen) {
 
 // An answer, and whether it is the expected one.
 pub fn answer(came: Seen, expected: Seen) -> bool {
-    seen(came);
+    words(came);
     text(b";");
     crate::calls::same(came, expected)
 }

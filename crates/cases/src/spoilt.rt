@@ -6,33 +6,39 @@ use crate::ranges;
 use crate::show;
 use floor::Floor;
 
-// Whether the state with v at place i gets refusal 10, 0 from the step and from the run, and is left as it was lent.
-fn is_refused(f: Floor, m: &mut [u16], good: &[u16], i: usize, v: u16) -> bool {
+// Whether the step and the run refuse a state with 10, 0.
+fn both_refuse(f: Floor, m: &mut [u16]) -> bool {
     let none = [0u16; 1];
-    look::put(m, i, v);
     let s = calls::step(f, &none, m, 101);
     let r = calls::run(f, &none, m, &[101u16], 5);
+    let ten = calls::refused(10, 0);
+    look::both(calls::same(s, ten), calls::same(r, ten))
+}
+
+// Whether a state is still the good one with v at place i; it is then made the good one again.
+fn is_left(m: &mut [u16], good: &[u16], i: usize, v: u16) -> bool {
     let left = look::at(m, i) == v;
     look::put(m, i, look::at(good, i));
     let others = look::same(m, good);
     look::copy(good, m);
-    let ten = calls::refused(10, 0);
-    look::both(
-        look::both(calls::same(s, ten), calls::same(r, ten)),
-        look::both(left, others),
-    )
+    look::both(left, others)
+}
+
+// Whether the state with v at place i is refused by the step and the run, and is left as it was lent.
+fn is_refused(f: Floor, m: &mut [u16], good: &[u16], i: usize, v: u16) -> bool {
+    look::put(m, i, v);
+    let refused = both_refuse(f, m);
+    let left = is_left(m, good, i, v);
+    look::both(refused, left)
 }
 
 // Whether the state with v at place i is taken for one by a run of no steps, and is left as it was lent.
 fn is_taken(f: Floor, m: &mut [u16], good: &[u16], i: usize, v: u16) -> bool {
     let none = [0u16; 1];
     look::put(m, i, v);
-    let r = calls::run(f, &none, m, &none[..0], 0);
-    let left = look::at(m, i) == v;
-    look::put(m, i, look::at(good, i));
-    let others = look::same(m, good);
-    look::copy(good, m);
-    look::both(r.kind != 0, look::both(left, others))
+    let r = calls::idle(f, &none, m);
+    let left = is_left(m, good, i, v);
+    look::both(r.kind != 0, left)
 }
 
 // How many places are refused with the largest number there is.
@@ -78,7 +84,11 @@ fn taken_within(f: Floor, m: &mut [u16], good: &[u16]) -> usize {
 fn places(label: &[u8], f: Floor, m: &mut [u16], good: &[u16], size: usize, taken: usize) {
     show::begin(label);
     let a = show::figure(b"places", good.len(), size);
-    let b = show::figure(b"refused with 65535", refused_at_most(f, m, good), size);
+    let b = show::figure(
+        b"refused far above the range",
+        refused_at_most(f, m, good),
+        size,
+    );
     let c = show::figure(
         b"refused just above the range",
         refused_above(f, m, good),
@@ -100,6 +110,22 @@ fn one(label: &[u8], f: Floor, m: &mut [u16], good: &[u16], i: usize, v: u16) {
     show::verdict(look::both(came, kept));
 }
 
+// Spoilt answers of document 01's floor with carrier 1's route under way. Carrier 1's answer, at 4, is a route; as none it would have
+// cells other than 0; 0 is neither none nor a route. Beat 4 is the last, so the number behind it, at 10, is 0.
+fn spoilt_answers(f: Floor, m: &mut [u16], good: &[u16]) {
+    one(b"none with cells", f, m, good, 4, 1);
+    one(b"an answer not heard", f, m, good, 4, 0);
+    one(b"a cell past the horizon", f, m, good, 10, 1);
+}
+
+// Spoilt messages: carrier 1's route, at 202, is counted by its channel's length, at 201. And a cell of carrier 2's answer, at 71, which
+// is none.
+fn spoilt_messages(f: Floor, m: &mut [u16], good: &[u16]) {
+    one(b"a message not heard", f, m, good, 202, 0);
+    one(b"a message not counted", f, m, good, 201, 0);
+    one(b"a cell of none", f, m, good, 72, 1);
+}
+
 // Document 01's floor with carrier 1's route under way to carrier 2: the channel is full, so all 462 places are taken within range.
 fn two_spoilt() {
     let f = floors::document(4);
@@ -110,15 +136,8 @@ fn two_spoilt() {
     let mut good = crate::written::two_room();
     look::copy(&m, &mut good);
     places(b"two carriers", f, &mut m, &good, 462, 462);
-    // Carrier 1's answer, at 4, is a route; as none it would have cells other than 0. As 0 it is neither none nor a route.
-    one(b"none with cells", f, &mut m, &good, 4, 1);
-    one(b"an answer not heard", f, &mut m, &good, 4, 0);
-    // The message, at 202, is none or a route; its channel's length, at 201, counts it.
-    one(b"a message not heard", f, &mut m, &good, 202, 0);
-    one(b"a message not counted", f, &mut m, &good, 201, 0);
-    // Carrier 2's answer, at 71, is none and has no cells; beat 4 is the last, so the number behind it, at 10, is 0.
-    one(b"a cell of none", f, &mut m, &good, 72, 1);
-    one(b"a cell past the horizon", f, &mut m, &good, 10, 1);
+    spoilt_answers(f, &mut m, &good);
+    spoilt_messages(f, &mut m, &good);
 }
 
 // Three carriers with depth 2 after plan 2, plan 1, deliver 1 to 2, plan 2: two messages from 2 to 3, which is full, one from 1 to 3, none

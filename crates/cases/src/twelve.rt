@@ -135,37 +135,39 @@ fn at_rest(m: &mut [u16], taken: usize) -> bool {
     let none = [0u16; 1];
     let quiet = show::part(
         b"then",
-        calls::run(floors::document(4), &none, m, &none[..0], 0),
+        calls::idle(floors::document(4), &none, m),
         calls::silent(0),
     );
     let count = show::figure(b"taken", look::wide_at(m, 1), taken);
     look::both(quiet, count)
 }
 
-// Case 4 with its memory after every step. After the second step carrier 1's route is under way, after the third it is heard and carrier
-// 2 is due again.
-fn case_4_on(m: &mut [u16]) -> bool {
-    let mut s = written::after_plan_2();
-    let a = step_to(b"plan 2", m, 102, calls::sent(), s);
+// Case 4's first two steps: then carrier 1's route is under way.
+fn case_4_first(m: &mut [u16]) -> bool {
+    let a = step_to(b"plan 2", m, 102, calls::sent(), written::after_plan_2());
     let first = show::five(b"carrier 2 has", m, 72, [2, 1, 0, 0, 0]);
-    s = written::after_plan_1();
-    s.taken = 2;
-    s.planned = [1, 1];
-    s.due = [0, 0];
-    s.answers = [written::STRAIGHT_1, written::STRAIGHT_2];
-    let b = step_to(b"plan 1", m, 101, calls::sent(), s);
-    s.taken = 3;
-    s.due = [0, 1];
-    s.view = written::STRAIGHT_1;
-    s.messages = 0;
-    s.message = written::NOTHING;
-    let c = step_to(b"deliver 1 to 2", m, 212, calls::delivered(), s);
-    let d = step_to(b"plan 2", m, 102, calls::sent(), written::at_the_end(4));
+    let b = step_to(
+        b"plan 1",
+        m,
+        101,
+        calls::sent(),
+        written::after_both_plans(),
+    );
+    look::both(first, look::both(a, b))
+}
+
+// Its last two steps: carrier 1's route is heard and carrier 2 is due again, and then carrier 2 goes round.
+fn case_4_last(m: &mut [u16]) -> bool {
+    let a = step_to(
+        b"deliver 1 to 2",
+        m,
+        212,
+        calls::delivered(),
+        written::heard_after_plan(),
+    );
+    let b = step_to(b"plan 2", m, 102, calls::sent(), written::at_the_end(4));
     let last = show::five(b"carrier 2 has", m, 72, [2, 5, 4, 1, 0]);
-    look::both(
-        look::both(look::both(a, b), look::both(c, d)),
-        look::both(first, last),
-    )
+    look::both(last, look::both(a, b))
 }
 
 // Case 4: carrier 2 first has 2 1 0 0 0, at the end 2 5 4 1 0; taken 4, silent.
@@ -174,23 +176,23 @@ fn case_4() {
     let mut m = written::two_room();
     show::begin(b"case 4");
     calls::fresh(floors::document(4), &none, &mut m);
-    let good = case_4_on(&mut m);
+    let first = case_4_first(&mut m);
+    let last = case_4_last(&mut m);
     let rest = at_rest(&mut m, 4);
-    show::verdict(look::both(good, rest));
+    show::verdict(look::both(look::both(first, last), rest));
 }
 
-// Case 5 with its memory after every step.
-fn case_5_on(m: &mut [u16]) -> bool {
-    let mut s = written::after_plan_1();
-    let a = step_to(b"plan 1", m, 101, calls::sent(), s);
-    s.taken = 2;
-    s.view = written::STRAIGHT_1;
-    s.messages = 0;
-    s.message = written::NOTHING;
-    let b = step_to(b"deliver 1 to 2", m, 212, calls::delivered(), s);
-    let c = step_to(b"plan 2", m, 102, calls::sent(), written::at_the_end(3));
-    let last = show::five(b"carrier 2 has", m, 72, [2, 5, 4, 1, 0]);
-    look::both(look::both(a, b), look::both(c, last))
+// Case 5's first steps: carrier 1's route is under way, and is heard.
+fn case_5_first(m: &mut [u16]) -> bool {
+    let a = step_to(b"plan 1", m, 101, calls::sent(), written::after_plan_1());
+    let b = step_to(
+        b"deliver 1 to 2",
+        m,
+        212,
+        calls::delivered(),
+        written::heard_before_plan(),
+    );
+    look::both(a, b)
 }
 
 // Case 5: taken 3, silent, the same routes.
@@ -199,9 +201,17 @@ fn case_5() {
     let mut m = written::two_room();
     show::begin(b"case 5");
     calls::fresh(floors::document(4), &none, &mut m);
-    let good = case_5_on(&mut m);
+    let first = case_5_first(&mut m);
+    let good = step_to(
+        b"plan 2",
+        &mut m,
+        102,
+        calls::sent(),
+        written::at_the_end(3),
+    );
+    let last = show::five(b"carrier 2 has", &m, 72, [2, 5, 4, 1, 0]);
     let rest = at_rest(&mut m, 3);
-    show::verdict(look::both(good, rest));
+    show::verdict(look::both(look::both(first, good), look::both(last, rest)));
 }
 
 // Case 6: nothing is under way, so the delivery is not open: 8, and the state is still the fresh one.
@@ -238,35 +248,32 @@ fn idle_run(label: &[u8], list: &[u16], expected: calls::Seen) {
     show::verdict(look::both(good, as_written));
 }
 
-// Case 9: with depth 1 the message of carrier 2's first plan still fills its channel to carrier 3: 8, and the memory as it was.
-fn case_9_on(m: &mut [u16]) -> bool {
-    let f = floors::three(1);
+// A step on the floor of three carriers with depth 1.
+fn step_of_three(label: &[u8], m: &mut [u16], x: u16, expected: calls::Seen) -> bool {
     let none = [0u16; 1];
-    let a = show::part(b"plan 2", calls::step(f, &none, m, 102), calls::sent());
-    let b = show::part(b"plan 1", calls::step(f, &none, m, 101), calls::sent());
-    let c = show::part(
-        b"deliver 1 to 2",
-        calls::step(f, &none, m, 212),
-        calls::delivered(),
-    );
-    let mut before = look::three_room();
-    look::copy(m, &mut before);
-    let d = show::part(
-        b"plan 2",
-        calls::step(f, &none, m, 102),
-        calls::refused(8, 0),
-    );
-    let kept = show::untouched(look::same(m, &before));
-    look::both(look::both(a, b), look::both(c, look::both(d, kept)))
+    show::part(label, calls::step(floors::three(1), &none, m, x), expected)
 }
 
-fn case_9() {
+// Case 9's first steps.
+fn case_9_first(m: &mut [u16]) -> bool {
     let none = [0u16; 1];
+    calls::fresh(floors::three(1), &none, m);
+    let a = step_of_three(b"plan 2", m, 102, calls::sent());
+    let b = step_of_three(b"plan 1", m, 101, calls::sent());
+    let c = step_of_three(b"deliver 1 to 2", m, 212, calls::delivered());
+    look::both(a, look::both(b, c))
+}
+
+// Case 9: with depth 1 the message of carrier 2's first plan still fills its channel to carrier 3: 8, and the memory as it was.
+fn case_9() {
     let mut m = look::three_room();
     show::begin(b"case 9");
-    calls::fresh(floors::three(1), &none, &mut m);
-    let good = case_9_on(&mut m);
-    show::verdict(good);
+    let first = case_9_first(&mut m);
+    let mut before = look::three_room();
+    look::copy(&m, &mut before);
+    let last = step_of_three(b"plan 2", &mut m, 102, calls::refused(8, 0));
+    let kept = show::untouched(look::same(&m, &before));
+    show::verdict(look::both(first, look::both(last, kept)));
 }
 
 // A sheet through both of its entries: the check, and the reading into lent memory.
@@ -275,7 +282,8 @@ fn sheet_case(label: &[u8], text: &[u8], expected: calls::Seen) {
     show::begin(label);
     let good = show::part(b"check", calls::checked(sheet::check(text, 8)), expected);
     let reading = sheet::read(text, &mut walls);
-    let read = show::part(b"read", calls::checked(reading.answer), expected);
+    let answer = reading.answer;
+    let read = show::part(b"read", calls::checked(answer), expected);
     let kept = show::untouched(look::all_from(&walls, 0, 777));
     show::verdict(look::both(look::both(good, read), kept));
 }

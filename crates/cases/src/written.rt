@@ -70,15 +70,21 @@ pub fn put_record(m: &mut [u16], at: usize, record: u16) {
     put(m, at + 5, c[4]);
 }
 
+// Writes planned, due and answer of a carrier at a place of a memory of zeros.
+fn put_carrier(m: &mut [u16], at: usize, planned: u16, due: u16, answer: u16) {
+    if 65000 < at {
+        return;
+    }
+    put(m, at, planned);
+    put(m, at + 1, due);
+    put_record(m, at + 2, answer);
+}
+
 // Writes the state into a memory of zeros.
 fn put_two(m: &mut [u16], s: Two) {
     put(m, 1, s.taken);
-    put(m, 2, s.planned[0]);
-    put(m, 3, s.due[0]);
-    put_record(m, 4, s.answers[0]);
-    put(m, 69, s.planned[1]);
-    put(m, 70, s.due[1]);
-    put_record(m, 71, s.answers[1]);
+    put_carrier(m, 2, s.planned[0], s.due[0], s.answers[0]);
+    put_carrier(m, 69, s.planned[1], s.due[1], s.answers[1]);
     put_record(m, 136, s.view);
     put(m, 201, s.messages);
     put_record(m, 202, s.message);
@@ -127,6 +133,45 @@ pub fn after_plan_1() -> Two {
         view: NOTHING,
         messages: 1,
         message: STRAIGHT_1,
+    }
+}
+
+// Case 4 after its second step: both have planned, and carrier 1's route is under way.
+pub fn after_both_plans() -> Two {
+    Two {
+        taken: 2,
+        planned: [1, 1],
+        due: [0, 0],
+        answers: [STRAIGHT_1, STRAIGHT_2],
+        view: NOTHING,
+        messages: 1,
+        message: STRAIGHT_1,
+    }
+}
+
+// Case 4 after its third step: carrier 2 has heard of carrier 1 and is due again.
+pub fn heard_after_plan() -> Two {
+    Two {
+        taken: 3,
+        planned: [1, 1],
+        due: [0, 1],
+        answers: [STRAIGHT_1, STRAIGHT_2],
+        view: STRAIGHT_1,
+        messages: 0,
+        message: NOTHING,
+    }
+}
+
+// Case 5 after its second step: carrier 2 has heard of carrier 1 and is still due.
+pub fn heard_before_plan() -> Two {
+    Two {
+        taken: 2,
+        planned: [1, 0],
+        due: [0, 1],
+        answers: [STRAIGHT_1, NONE],
+        view: STRAIGHT_1,
+        messages: 0,
+        message: NOTHING,
     }
 }
 
