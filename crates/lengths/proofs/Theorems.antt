@@ -22,6 +22,9 @@ use Rattle.sheet.proofs.Theorems.{theorems as sheet-theorems}
 use Rattle.search.specs.Search.{requestOf}
 use Rattle.planner.specs.Plan.{planVerdict}
 use Rattle.printing.specs.Print.{written, turned, writtenIf, textLength, printVerdict, routesOf, neededFor, shortOutcome, routesOutcome}
+use Rattle.layout.specs.Places.{stateSize}
+use Rattle.layout.specs.Calls.{placeVerdict}
+use Rattle.layout.proofs.Theorems.{theorems as layout-theorems}
 use Rattle.lengths.specs.Figures.{figuresFor, unless}
 use Rattle.lengths.specs.Claims.{Claims}
 
@@ -82,6 +85,11 @@ views-room f ws i m ok = (
   λ l. then-passed ok ∙ then-refused _ (room-means _ _ .1 l),
 )
 
+state-room : (f : Floor) (ws : List ℕ) (room : ℕ) → checkOf f ws ≡ passed
+    → (placeVerdict f ws room ≡ refused 9 0) ↔ (room < stateSize (f .carriers))
+unfolding placeVerdict
+state-room f ws room ok = (λ h. room-means _ _ .0 (sym (then-passed ok) ∙ h), λ l. then-passed ok ∙ room-means _ _ .1 l)
+
 text-room : (f : Floor) (ws : List ℕ) (room bytes : ℕ) → checkOf f ws ≡ passed → 65 * f .carriers ≤ room
     → (printVerdict f ws room bytes ≡ refused 9 0) ↔ (bytes < textLength f)
 unfolding printVerdict planVerdict roomOf
@@ -110,10 +118,12 @@ theorems =
       sheet-within = λ f ws ok. let b = check-tells f ws ok .bounds in omega (arith, b .walls .1, b .carriers .1);
       answers-within = λ f ws ok. omega (arith, check-tells f ws ok .bounds .carriers .1);
       text-within = λ f ws ok. omega (arith, check-tells f ws ok .bounds .carriers .1);
+      state-within = λ f ws ok. layout-theorems .size-small f (check-tells f ws ok .bounds .carriers .1);
       answers-room = answers-room;
       views-room = views-room;
       walls-room = walls-room;
       sheet-room = sheet-room;
       text-room = text-room;
       sheet-text-room = sheet-text-room;
+      state-room = state-room;
     }

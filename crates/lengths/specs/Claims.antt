@@ -13,17 +13,21 @@ use Rattle.sheet.specs.Read.{sheetVerdict, readVerdict, writeVerdict}
 use Rattle.search.specs.Search.{requestOf}
 use Rattle.planner.specs.Plan.{planVerdict}
 use Rattle.printing.specs.Print.{turned, textLength, printVerdict, routesOutcome}
+use Rattle.layout.specs.Places.{stateSize}
+use Rattle.layout.specs.Calls.{placeVerdict}
 use Rattle.lengths.specs.Figures.{figuresFor, known}
 
 pub record Claims : Type 0 where
   -- An accepted floor has its lengths.
   pub accepted-known : (f : Floor) (ws : List ℕ) → checkOf f ws ≡ passed
-      → figuresFor f ≡ known (f .walls) (sheetLength f) (65 * f .carriers) (textLength f)
-  -- None is over 65,536 bytes: two bytes a wall, the sheet, two bytes a number of answers, the text.
+      → figuresFor f ≡ known (f .walls) (sheetLength f) (65 * f .carriers) (textLength f) (stateSize (f .carriers))
+  -- None is over 65,536 bytes: two bytes a wall, the sheet, two bytes a number of answers, the text, two bytes a number
+  -- of the state.
   pub walls-within : (f : Floor) (ws : List ℕ) → checkOf f ws ≡ passed → 2 * f .walls ≤ 65536
   pub sheet-within : (f : Floor) (ws : List ℕ) → checkOf f ws ≡ passed → sheetLength f ≤ 65536
   pub answers-within : (f : Floor) (ws : List ℕ) → checkOf f ws ≡ passed → 2 * (65 * f .carriers) ≤ 65536
   pub text-within : (f : Floor) (ws : List ℕ) → checkOf f ws ≡ passed → textLength f ≤ 65536
+  pub state-within : (f : Floor) (ws : List ℕ) → checkOf f ws ≡ passed → 2 * stateSize (f .carriers) ≤ 65536
   -- Memory for answers is called too short exactly below the needed length, and so is memory for views.
   pub answers-room : (f : Floor) (ws : List ℕ) (room : ℕ) → checkOf f ws ≡ passed
       → (planVerdict f ws room ≡ refused 9 0) ↔ (room < 65 * f .carriers)
@@ -41,3 +45,6 @@ pub record Claims : Type 0 where
   -- Text memory of an accepted sheet is called too short exactly below the needed length of its floor.
   pub sheet-text-room : (text : List ℕ) (bytes : ℕ) → sheetVerdict text ≡ passed
       → (routesOutcome text bytes ≡ turned 9 0) ↔ (bytes < textLength (floorAt text))
+  -- Memory for a state of an accepted floor is called too short exactly below the needed length.
+  pub state-room : (f : Floor) (ws : List ℕ) (room : ℕ) → checkOf f ws ≡ passed
+      → (placeVerdict f ws room ≡ refused 9 0) ↔ (room < stateSize (f .carriers))

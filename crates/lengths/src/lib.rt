@@ -7,12 +7,14 @@ use floor::Floor;
 use floor::Refusal;
 
 // The needed lengths: `walls` in cell numbers of two bytes, `sheet` in bytes, `answers` in numbers of two bytes (the
-// answers of a planner, and the views lent to a search), `text` in bytes (the printed routes).
+// answers of a planner, and the views lent to a search), `text` in bytes (the printed routes), `state` in numbers of two
+// bytes (the state of the machine).
 pub struct Lengths {
     pub walls: usize,
     pub sheet: usize,
     pub answers: usize,
     pub text: usize,
+    pub state: usize,
 }
 
 // What the entry answers.
@@ -34,6 +36,7 @@ pub fn needed_lengths(f: Floor) -> Needed
             sheet: sheet::sheet_length(f),
             answers: 65 * f.carriers as usize,
             text: printing::text_length(f),
+            state: state::state_size(f.carriers as usize),
         });
     };
     Needed::Refused(refusal)

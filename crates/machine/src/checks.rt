@@ -1,16 +1,14 @@
 // The refusals of the entries, in document 01's order: the floor's, 9, 10, 7, 8.
 ghost use mathlib.Core.Path.{_≡_};
 ghost use mathlib.Core.Bool.{false};
-ghost use mathlib.Core.List.{List};
-ghost use Prim.Native.Nat.{ℕ};
-ghost use lib.ListN.{length, getD};
+ghost use lib.ListN.{length};
 ghost use Rattle.floor.specs.Answers.{verdictOf};
 ghost use Rattle.floor.specs.Verdict.{_then_, demand, each};
 ghost use Rattle.reference.specs.Step.{named};
-ghost use Rattle.layout.specs.Numbers.{stepOf};
 ghost use Rattle.layout.specs.Steps.{openIn};
-ghost use Rattle.layout.specs.Calls.{machineOf, placeVerdict, stateVerdict, runVerdict};
+ghost use Rattle.layout.specs.Calls.{placeVerdict, stateVerdict, runVerdict};
 ghost use Rattle.machine.specs.Answers.{meant};
+ghost use Rattle.machine.specs.Inner.{bare, namedAt};
 use crate::Asked;
 use floor::Checked;
 use floor::Floor;
@@ -53,13 +51,13 @@ pub fn lent_state(f: Floor, walls: &[u16], m: &[u16]) -> Checked
 
 // The refusals of a single step.
 pub fn single(f: Floor, walls: &[u16], m: &[u16], s: Asked) -> Checked
-    ensures { λ r. ⌜ verdictOf r ≡ (stateVerdict f (now (walls .entry)) (now (m .entry)) then demand (named (machineOf f (now (walls .entry))) (meant s)) 7 0 then demand (openIn (machineOf f (now (walls .entry))) (now (m .entry)) (meant s)) 8 0) ⌝ }
+    ensures { λ r. ⌜ verdictOf r ≡ (stateVerdict f (now (walls .entry)) (now (m .entry)) then demand (named (bare f) (meant s)) 7 0 then demand (openIn (bare f) (now (m .entry)) (meant s)) 8 0) ⌝ }
 {
     let sound = lent_state(f, walls, m);
     let Checked::Passed = sound else {
         return sound;
     };
-    if !crate::steps::is_named(s, f.carriers as usize) {
+    if !crate::steps::is_named(f, s) {
         return refused(7);
     }
     if crate::tests::is_open(f, m, s) {
@@ -70,12 +68,11 @@ pub fn single(f: Floor, walls: &[u16], m: &[u16], s: Asked) -> Checked
 
 // 7 with the position of the first step of a list that is not there.
 fn all_named(f: Floor, numbers: &[u16]) -> Checked
-    ensures { λ r. ⌜ ((ws : List ℕ) → verdictOf r ≡ each 7 0 (λ p. named (machineOf f ws) (stepOf (getD (now (numbers .entry)) p 0))) (length (now (numbers .entry)))) ⌝ }
+    ensures { λ r. ⌜ verdictOf r ≡ each 7 0 (namedAt f (now (numbers .entry))) (length (now (numbers .entry))) ⌝ }
 {
-    let n = f.carriers as usize;
     let mut p: usize = 0;
     while p < numbers.len() {
-        if !crate::steps::is_named(crate::steps::step_of(numbers[p]), n) {
+        if !crate::steps::is_named(f, crate::steps::step_of(numbers[p])) {
             return Checked::Refused(Refusal {
                 number: 7,
                 place: p,

@@ -1,7 +1,7 @@
 // The run: the open steps of a list in turn, as many as the budget allows.
 ghost use mathlib.Core.Path.{_≡_};
-ghost use mathlib.Core.List.{List, map};
-ghost use Prim.Native.Nat.{ℕ, _≤_, _<_};
+ghost use mathlib.Core.List.{map};
+ghost use Prim.Native.Nat.{_≤_};
 ghost use lib.ListN.{length};
 ghost use Rattle.floor.specs.Answers.{verdictOf};
 ghost use Rattle.reference.specs.Ending.{ended, endsAs};
@@ -12,7 +12,7 @@ ghost use Rattle.layout.specs.Calls.{replyIf};
 ghost use Rattle.layout.specs.Steps.{silentIn};
 ghost use Rattle.layout.specs.Runs.{runIn, numberTaken};
 ghost use Rattle.machine.specs.Answers.{ranReply};
-ghost use Rattle.machine.specs.Inner.{machineWith, Workable, Tried, Tallied, endsWith};
+ghost use Rattle.machine.specs.Inner.{machineWith, bare, Workable, Tried, Tallied, endsWith};
 use crate::Ran;
 use floor::Checked;
 use floor::Floor;
@@ -57,7 +57,7 @@ pub fn run_all(f: Floor, free: [u32; 32], m: &mut [u16], numbers: &[u16], budget
 // ended.
 pub fn ending(f: Floor, m: &[u16], tally: Tally, budget: usize, listed: usize) -> Ran
     requires { ⌜ (f .carriers ≤ 8) × (stateSize (f .carriers) ≤ length (now m)) ⌝ }
-    ensures { λ r. ⌜ ((rows : List ℕ) → ranReply r ≡ ran (tally .taken) (endsWith (silentIn (machineWith f rows) (now (m .entry))) (tally .taken) budget (tally .read) listed)) ⌝ }
+    ensures { λ r. ⌜ ranReply r ≡ ran (tally .taken) (endsWith (silentIn (bare f) (now (m .entry))) (tally .taken) budget (tally .read) listed) ⌝ }
 {
     if crate::tests::is_silent(f, m) {
         return Ran::Silent(tally.taken);

@@ -2,11 +2,12 @@
 ghost use mathlib.Core.Path.{_≡_};
 ghost use mathlib.Core.Bool.{_&&_};
 ghost use lib.Dec.{ltb};
-ghost use Rattle.reference.specs.State.{Machine};
 ghost use Rattle.reference.specs.Step.{named};
 ghost use Rattle.layout.specs.Numbers.{stepOf};
 ghost use Rattle.machine.specs.Answers.{meant};
+ghost use Rattle.machine.specs.Inner.{bare};
 use crate::Asked;
+use floor::Floor;
 
 // The step that a number names.
 pub fn step_of(x: u16) -> Asked
@@ -43,13 +44,13 @@ fn way_named(from: usize, to: usize, n: usize) -> bool
     false
 }
 
-// Whether a step is there for n carriers.
-pub fn is_named(s: Asked, n: usize) -> bool
-    ensures { λ r. ⌜ ((M : Machine) → M .carriers ≡ n → r ≡ named M (meant s)) ⌝ }
+// Whether a step is there on a floor.
+pub fn is_named(f: Floor, s: Asked) -> bool
+    ensures { λ r. ⌜ r ≡ named (bare f) (meant s) ⌝ }
 {
     match s {
-        Asked::Plan(i) => i < n,
-        Asked::Deliver { from, to } => way_named(from, to, n),
+        Asked::Plan(i) => i < f.carriers as usize,
+        Asked::Deliver { from, to } => way_named(from, to, f.carriers as usize),
         Asked::NoKind => false,
     }
 }

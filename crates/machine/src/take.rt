@@ -77,7 +77,7 @@ fn deliver_now(m: &mut [u16], n: usize, j: usize, i: usize) -> Taken
     let c = state::channel_place(n, i, j);
     state::move_record(m, c + 1, v);
     state::pop(m, c);
-    m[3 + 67 * i] = 1;
+    state::set_due(m, i);
     state::tick(m);
     Taken::DeliveredIt
 }

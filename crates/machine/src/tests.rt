@@ -1,23 +1,20 @@
 // Which steps are open in a state.
 ghost use mathlib.Core.Path.{_≡_};
-ghost use mathlib.Core.Bool.{_||_, not};
-ghost use mathlib.Core.List.{List};
-ghost use Prim.Native.Nat.{ℕ, _≤_, _<_};
-ghost use lib.Dec.{leb, ltb};
-ghost use lib.ListN.{length, getD};
+ghost use Prim.Native.Nat.{_≤_, _<_};
+ghost use lib.ListN.{length};
 ghost use Rattle.reference.specs.Ranges.{each};
 ghost use Rattle.reference.specs.Step.{plan, deliver};
-ghost use Rattle.layout.specs.Places.{channelPlace, stateSize};
+ghost use Rattle.layout.specs.Places.{stateSize};
 ghost use Rattle.layout.specs.Steps.{openIn, noneOpenIn, silentIn};
 ghost use Rattle.machine.specs.Answers.{meant};
-ghost use Rattle.machine.specs.Inner.{machineWith};
+ghost use Rattle.machine.specs.Inner.{bare, roomAt, notDelivered};
 use crate::Asked;
 use floor::Floor;
 
 // Whether the channel from carrier i to carrier k, if k is below i, has fewer than depth messages.
 fn has_place(f: Floor, m: &[u16], i: usize, k: usize) -> bool
     requires { ⌜ (k < f .carriers) × (f .carriers ≤ 8) × (stateSize (f .carriers) ≤ length (now m)) ⌝ }
-    ensures { λ r. ⌜ r ≡ (leb k i || ltb (getD (now (m .entry)) (channelPlace (f .carriers) k i) 0) (f .depth)) ⌝ }
+    ensures { λ r. ⌜ r ≡ roomAt f (now (m .entry)) i k ⌝ }
 {
     if k <= i {
         return true;
@@ -29,7 +26,7 @@ fn has_place(f: Floor, m: &[u16], i: usize, k: usize) -> bool
 // Whether every channel from carrier i has room.
 fn has_room(f: Floor, m: &[u16], i: usize) -> bool
     requires { ⌜ (f .carriers ≤ 8) × (stateSize (f .carriers) ≤ length (now m)) ⌝ }
-    ensures { λ r. ⌜ r ≡ each (f .carriers) (λ k. leb k i || ltb (getD (now (m .entry)) (channelPlace (f .carriers) k i) 0) (f .depth)) ⌝ }
+    ensures { λ r. ⌜ r ≡ each (f .carriers) (roomAt f (now (m .entry)) i) ⌝ }
 {
     let n = f.carriers as usize;
     let mut k: usize = 0;
@@ -45,7 +42,7 @@ fn has_room(f: Floor, m: &[u16], i: usize) -> bool
 // Whether the plan of carrier i is open.
 fn plan_open(f: Floor, m: &[u16], i: usize) -> bool
     requires { ⌜ (f .carriers ≤ 8) × (stateSize (f .carriers) ≤ length (now m)) ⌝ }
-    ensures { λ r. ⌜ ((rows : List ℕ) → r ≡ openIn (machineWith f rows) (now (m .entry)) (plan i)) ⌝ }
+    ensures { λ r. ⌜ r ≡ openIn (bare f) (now (m .entry)) (plan i) ⌝ }
 {
     if i >= f.carriers as usize {
         return false;
@@ -59,7 +56,7 @@ fn plan_open(f: Floor, m: &[u16], i: usize) -> bool
 // Whether the delivery from carrier j to carrier i is open.
 fn deliver_open(f: Floor, m: &[u16], j: usize, i: usize) -> bool
     requires { ⌜ (f .carriers ≤ 8) × (stateSize (f .carriers) ≤ length (now m)) ⌝ }
-    ensures { λ r. ⌜ ((rows : List ℕ) → r ≡ openIn (machineWith f rows) (now (m .entry)) (deliver j i)) ⌝ }
+    ensures { λ r. ⌜ r ≡ openIn (bare f) (now (m .entry)) (deliver j i) ⌝ }
 {
     if j >= i {
         return false;
@@ -74,7 +71,7 @@ fn deliver_open(f: Floor, m: &[u16], j: usize, i: usize) -> bool
 // Whether a step is open.
 pub fn is_open(f: Floor, m: &[u16], s: Asked) -> bool
     requires { ⌜ (f .carriers ≤ 8) × (stateSize (f .carriers) ≤ length (now m)) ⌝ }
-    ensures { λ r. ⌜ ((rows : List ℕ) → r ≡ openIn (machineWith f rows) (now (m .entry)) (meant s)) ⌝ }
+    ensures { λ r. ⌜ r ≡ openIn (bare f) (now (m .entry)) (meant s) ⌝ }
 {
     match s {
         Asked::Plan(i) => plan_open(f, m, i),
@@ -86,7 +83,7 @@ pub fn is_open(f: Floor, m: &[u16], s: Asked) -> bool
 // Whether no delivery to carrier i is open.
 fn none_delivered(f: Floor, m: &[u16], i: usize) -> bool
     requires { ⌜ (f .carriers ≤ 8) × (stateSize (f .carriers) ≤ length (now m)) ⌝ }
-    ensures { λ r. ⌜ ((rows : List ℕ) → r ≡ each i (λ j. not (openIn (machineWith f rows) (now (m .entry)) (deliver j i)))) ⌝ }
+    ensures { λ r. ⌜ r ≡ each i (notDelivered f (now (m .entry)) i) ⌝ }
 {
     let mut j: usize = 0;
     while j < i {
@@ -101,7 +98,7 @@ fn none_delivered(f: Floor, m: &[u16], i: usize) -> bool
 // Whether neither the plan of carrier i nor a delivery to it is open.
 fn none_open(f: Floor, m: &[u16], i: usize) -> bool
     requires { ⌜ (f .carriers ≤ 8) × (stateSize (f .carriers) ≤ length (now m)) ⌝ }
-    ensures { λ r. ⌜ ((rows : List ℕ) → r ≡ noneOpenIn (machineWith f rows) (now (m .entry)) i) ⌝ }
+    ensures { λ r. ⌜ r ≡ noneOpenIn (bare f) (now (m .entry)) i ⌝ }
 {
     if plan_open(f, m, i) {
         return false;
@@ -112,7 +109,7 @@ fn none_open(f: Floor, m: &[u16], i: usize) -> bool
 // Whether no step is open.
 pub fn is_silent(f: Floor, m: &[u16]) -> bool
     requires { ⌜ (f .carriers ≤ 8) × (stateSize (f .carriers) ≤ length (now m)) ⌝ }
-    ensures { λ r. ⌜ ((rows : List ℕ) → r ≡ silentIn (machineWith f rows) (now (m .entry))) ⌝ }
+    ensures { λ r. ⌜ r ≡ silentIn (bare f) (now (m .entry)) ⌝ }
 {
     let n = f.carriers as usize;
     let mut i: usize = 0;

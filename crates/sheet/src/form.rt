@@ -3,66 +3,12 @@ ghost use mathlib.Core.Path.{_≡_};
 ghost use Prim.Native.Nat.{_+_, _≤_, _<_};
 ghost use lib.ListN.{length};
 ghost use Rattle.floor.specs.Answers.{verdictOf};
-ghost use Rattle.floor.specs.Verdict.{refused};
 ghost use Rattle.sheet.specs.Text.{carrierAt, wallAt};
-ghost use Rattle.sheet.specs.Form.{fieldForm, newlineForm, lineForm, linesForm, endForm, restForm};
-use crate::field;
+ghost use Rattle.sheet.specs.Form.{linesForm, restForm};
+use crate::reader;
+use crate::slot;
 use floor::Checked;
 use floor::Floor;
-use floor::Refusal;
-
-// Refusal 1 with a byte offset.
-fn malformed(at: usize) -> Checked
-    ensures { λ r. ⌜ verdictOf r ≡ refused 1 at ⌝ }
-{
-    Checked::Refused(Refusal {
-        number: 1,
-        place: at,
-    })
-}
-
-// The form of the field at a column.
-fn field_form(text: &[u8], at: usize) -> Checked
-    requires { ⌜ at ≤ 65536 ⌝ }
-    ensures { λ r. ⌜ verdictOf r ≡ fieldForm (now (text .entry)) at ⌝ }
-{
-    if text.len() < at + 5 {
-        return malformed(text.len());
-    }
-    if !field::is_field(text, at) {
-        return malformed(at);
-    }
-    Checked::Passed
-}
-
-// The newline at a column.
-fn newline_form(text: &[u8], at: usize) -> Checked
-    ensures { λ r. ⌜ verdictOf r ≡ newlineForm (now (text .entry)) at ⌝ }
-{
-    if text.len() <= at {
-        return malformed(text.len());
-    }
-    if text[at] != 10 {
-        return malformed(at);
-    }
-    Checked::Passed
-}
-
-// A line of m fields from a column on.
-pub fn line_form(text: &[u8], at: usize, m: usize) -> Checked
-    requires { ⌜ (at ≤ 60000) × (m ≤ 6) ⌝ }
-    ensures { λ r. ⌜ verdictOf r ≡ lineForm (now (text .entry)) at m ⌝ }
-{
-    let mut i: usize = 0;
-    while i < m {
-        let field = field_form(text, at + 5 * i);
-        let Checked::Passed = field else {
-            return field;
-        };
-        i += 1;
-    }
-    newline_form(text, at + 5 * m)
-}
 
 // The carriers' lines.
 fn carriers_form(text: &[u8], n: usize) -> Checked
@@ -71,7 +17,7 @@ fn carriers_form(text: &[u8], n: usize) -> Checked
 {
     let mut i: usize = 0;
     while i < n {
-        let line = line_form(text, 31 + 21 * i, 4);
+        let line = reader::line_form(text, 31 + 21 * i, 4);
         let Checked::Passed = line else {
             return line;
         };
@@ -89,21 +35,11 @@ fn walls_form(text: &[u8], f: Floor) -> Checked
     let k = f.walls as usize;
     let mut j: usize = 0;
     while j < k {
-        let line = line_form(text, base + 11 * j, 2);
+        let line = reader::line_form(text, base + 11 * j, 2);
         let Checked::Passed = line else {
             return line;
         };
         j += 1;
-    }
-    Checked::Passed
-}
-
-// Nothing follows the last line.
-fn end_form(text: &[u8], at: usize) -> Checked
-    ensures { λ r. ⌜ verdictOf r ≡ endForm (now (text .entry)) at ⌝ }
-{
-    if at < text.len() {
-        return malformed(at);
     }
     Checked::Passed
 }
@@ -121,5 +57,5 @@ pub fn rest_form(text: &[u8], f: Floor) -> Checked
     let Checked::Passed = walls else {
         return walls;
     };
-    end_form(text, 31 + 21 * f.carriers as usize + 11 * f.walls as usize)
+    slot::end_form(text, 31 + 21 * f.carriers as usize + 11 * f.walls as usize)
 }

@@ -2,6 +2,8 @@
 mod field;
 mod form;
 mod lines;
+mod reader;
+mod slot;
 mod values;
 
 // A field written into a buffer, for the crates that print.
@@ -28,7 +30,7 @@ pub struct Reading {
 fn form_of(text: &[u8]) -> Checked
     ensures { λ r. ⌜ verdictOf r ≡ formOf (now (text .entry)) ⌝ }
 {
-    let line = form::line_form(text, 0, 6);
+    let line = reader::line_form(text, 0, 6);
     let Checked::Passed = line else {
         return line;
     };

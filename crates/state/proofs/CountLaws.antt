@@ -1,15 +1,12 @@
 -- Numbers stored one after the other, and one more step counted.
 use Prim.Native.Nat.{ℕ, _+_, _≤_, _<_}
 use native.Mathlib.Omega.{arith}
-use native.Mathlib.Numerals.{add-one}
-use mathlib.Core.Bool.{true, false, cond}
-use mathlib.Core.Path.{_≡_, refl, sym, _∙_, ap}
+use mathlib.Core.Path.{_≡_, refl}
 use mathlib.Core.List.{List, [], _∷_}
-use lib.Dec.{ltb}
 use lib.ListN.{length, getD, set, length-set}
 use borrow.Author.Tests.{lt-ltb, le-ltb}
 use Rattle.memory.specs.Memory.{put}
-use Rattle.memory.proofs.PutLaws.{put-one, put-next, put-length}
+use Rattle.memory.proofs.PutLaws.{put-one, put-next}
 use Rattle.layout.specs.Steps.{ticked}
 
 -- Two numbers, one behind the other.

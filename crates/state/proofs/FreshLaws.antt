@@ -1,5 +1,5 @@
 -- The fresh state as numbers: two zeros, a block a carrier, and zeros.
-use Prim.Native.Nat.{ℕ, zero, suc, _+_, _*_, _≤_, _<_}
+use Prim.Native.Nat.{ℕ, zero, suc, _+_, _*_, _≤_}
 use native.Mathlib.Omega.{arith}
 use native.Mathlib.Nat.{mul-zero, mul-suc, mul-add}
 use native.Mathlib.Numerals.{add-one}
@@ -7,7 +7,7 @@ use mathlib.Core.Path.{_≡_, refl, sym, _∙_, ap, ap₂}
 use mathlib.Core.List.{List, [], _∷_, _++_, append-assoc}
 use lib.ListN.{length, replicate, length-append, length-replicate, replicate-append-replicate}
 use Rattle.memory.specs.Memory.{put}
-use Rattle.memory.proofs.PutLaws.{put-none, put-next, put-length}
+use Rattle.memory.proofs.PutLaws.{put-next}
 use Rattle.planner.specs.Records.{recordOf}
 use Rattle.reference.specs.State.{fresh}
 use Rattle.layout.specs.Places.{pairsBefore, stateSize}

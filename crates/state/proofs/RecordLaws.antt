@@ -2,15 +2,15 @@
 use Prim.Native.Nat.{ℕ, suc, _+_, _*_, _≤_, _<_}
 use native.Mathlib.Omega.{arith}
 use native.Mathlib.Numerals.{add-one}
-use mathlib.Core.Bool.{Bool, true, false, _&&_, not, cond}
+use mathlib.Core.Bool.{Bool, true, _&&_, not}
 use mathlib.Core.Path.{_≡_, refl, sym, _∙_, ap}
-use mathlib.Core.List.{List, [], _∷_}
-use lib.Dec.{eqb, ltb}
-use lib.ListN.{length, getD, set, take, drop}
+use mathlib.Core.List.{List, _∷_}
+use lib.Dec.{eqb}
+use lib.ListN.{length, getD, set}
 use lib.Seq.{drop-cons}
 use borrow.Author.Tests.{eq-eqb, ne-eqb, lt-ltb, le-ltb}
 use Rattle.memory.specs.Memory.{put, part}
-use Rattle.memory.proofs.PutLaws.{put-one, put-length}
+use Rattle.memory.proofs.PutLaws.{put-one}
 use Rattle.reference.specs.Step.{sameCells}
 use Rattle.layout.specs.Places.{plannedPlace, answerPlace, channelPlace}
 use Rattle.layout.specs.Steps.{moved, newsIn, pushed, pushedBelow, sentTo}

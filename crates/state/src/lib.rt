@@ -17,5 +17,6 @@ pub use places::view_place;
 pub use places::views_start;
 pub use records::is_news;
 pub use records::move_record;
+pub use records::set_due;
 pub use records::set_planned;
 pub use start::write_fresh;

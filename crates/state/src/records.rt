@@ -5,7 +5,7 @@ ghost use Prim.Native.Nat.{_+_, _*_, _≤_, _<_};
 ghost use lib.ListN.{length, getD};
 ghost use Rattle.memory.specs.Memory.{put, part};
 ghost use Rattle.reference.specs.Step.{sameCells};
-ghost use Rattle.layout.specs.Places.{plannedPlace, stateSize};
+ghost use Rattle.layout.specs.Places.{plannedPlace, duePlace};
 ghost use Rattle.layout.specs.Encode.{fit};
 ghost use Rattle.layout.specs.Steps.{moved, newsIn};
 use route::Route;
@@ -79,4 +79,12 @@ pub fn set_planned(m: &mut [u16], i: usize, tag: u16, cells: Route)
     m[2 + 67 * i] = 1;
     m[3 + 67 * i] = 0;
     planner::store(m, 4 + 67 * i, tag, cells);
+}
+
+// Carrier i becomes due.
+pub fn set_due(m: &mut [u16], i: usize)
+    requires { ⌜ (i < 8) × (69 + 67 * i ≤ length (now m)) ⌝ }
+    ensures { λ r. ⌜ now (m .exit) ≡ put (now (m .entry)) (duePlace i) (1 ∷ []) ⌝ }
+{
+    m[3 + 67 * i] = 1;
 }

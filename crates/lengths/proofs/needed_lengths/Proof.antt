@@ -1,4 +1,5 @@
--- `lengths::needed_lengths` meets its contract: the limits decide between the figures and the refusal.
+-- `lengths::needed_lengths` meets its contract: each figure is the one that its crate states.
+use Rattle.floor.proofs.LimitsLaws.{limits-passed}
 use Rattle.floor.proofs.AnswersLaws.{passes, refuses}
 use Rattle.lengths.specs.Figures.{figuresOf, figuresFor, unless}
 use borrow.Author.Needs.{needs}
@@ -29,15 +30,16 @@ mul-t7 c = search needs
 text-length-requires : tie.Need-text-length-requires
 text-length-requires c κs = search needs
 
+cast-state-size : tie.Need-cast-state-size
+cast-state-size c = search needs
+
+state-size-requires : tie.Need-state-size-requires
+state-size-requires c κs = limits-passed _ (passes (c .before .before .before .before .before .before .before .limits .ensures) (c .before .before .before .before .before .enum-told .given .1)) .carriers .1
+
 returns : tie.Need-returns
 unfolding figuresOf figuresFor unless
-returns c =
-    let c₄ = c .before .before .before .before in
-    rw (
-      passes (c₄ .before .before .limits .ensures) (c₄ .enum-told .given .1),
-      c .before .before .sheet-length .ensures,
-      c .text-length .ensures,
-    )
+returns c = rw
+    (passes (c .before .before .before .before .before .before .before .before .limits .ensures) (c .before .before .before .before .before .before .enum-told .given .1), c .before .before .before .before .sheet-length .ensures, c .before .before .text-length .ensures, c .state-size .ensures .0)
 
 returns-2 : tie.Need-returns-2
 unfolding figuresOf figuresFor unless
@@ -55,5 +57,7 @@ needed-lengths-spec =
     cast-t6
     mul-t7
     text-length-requires
+    cast-state-size
+    state-size-requires
     returns
     returns-2)

@@ -1,3 +1,4 @@
+-- `state::channels::pop` meets its contract: the shifted channel, with one message less counted.
 use Rattle.memory.proofs.PutLaws.{put-one}
 use mathlib.Core.Path.{refl, _∙_}
 use Prim.Native.Nat.{_-_}

@@ -1,3 +1,4 @@
+-- `state::channels::send` meets its contract: after k carriers the memory is the one sent to the first k.
 use mathlib.Core.List.{_∷_}
 use lib.ListN.{length}
 use mathlib.Core.Path.{_≡_, refl, _∙_}

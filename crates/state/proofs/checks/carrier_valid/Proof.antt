@@ -1,3 +1,4 @@
+-- `state::checks::carrier_valid` meets its contract: the three tests in their order.
 use borrow.Author.Tests.{le-leb, lt-leb}
 use Prim.Native.Nat.{_-_}
 use Rattle.layout.specs.Valid.{carrierValid}

@@ -1,3 +1,4 @@
+-- `state::checks::cell_valid` meets its contract: the test that applies decides.
 use borrow.Author.Tests.{lt-ltb, le-ltb}
 use mathlib.Core.Path.{refl}
 use Prim.Native.Nat.{_-_}

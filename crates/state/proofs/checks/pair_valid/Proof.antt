@@ -1,3 +1,4 @@
+-- `state::checks::pair_valid` meets its contract: the view first, then the channel, each at its place.
 use borrow.Author.Tests.{not-true, not-false}
 use mathlib.Core.Bool.{true, false}
 use denote.Ref.{now}

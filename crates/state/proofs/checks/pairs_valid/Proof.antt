@@ -1,3 +1,4 @@
+-- `state::checks::pairs_valid` meets its contract: the loop holds that all receivers so far are valid.
 use mathlib.Core.Bool.{true}
 use Rattle.reference.specs.Ranges.{each}
 use denote.Ref.{now}

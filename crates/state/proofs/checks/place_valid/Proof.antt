@@ -1,3 +1,4 @@
+-- `state::checks::place_valid` meets its contract: whether the place has a message decides which tags it may have.
 use borrow.Author.Tests.{lt-ltb, le-ltb}
 use mathlib.Core.Path.{refl, _∙_}
 use Prim.Native.Nat.{_-_}

@@ -1,3 +1,4 @@
+-- `state::checks::places_valid` meets its contract: the loop holds that all places so far are valid.
 use borrow.Author.Tests.{not-true, not-false}
 use mathlib.Core.Bool.{true}
 use Rattle.reference.specs.Ranges.{each}

@@ -1,3 +1,4 @@
+-- `state::checks::receiver_valid` meets its contract: the loop holds that all senders so far are valid.
 use borrow.Author.Tests.{not-true, not-false}
 use mathlib.Core.Bool.{true}
 use Rattle.reference.specs.Ranges.{each}

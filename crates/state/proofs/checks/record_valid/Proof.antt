@@ -1,3 +1,4 @@
+-- `state::checks::record_valid` meets its contract: the tag within its bounds, then the cells that it uses.
 use lib.Dec.{lit<}
 use native.Mathlib.Nat.{mul-le-mul, lt-of-le-of-lt}
 use Rattle.floor.specs.Checks.{within}

@@ -1,3 +1,4 @@
+-- `state::checks::used_by` meets its contract: a route uses its beats, anything else nothing.
 use borrow.Author.Tests.{eq-eqb, ne-eqb}
 use mathlib.Core.Path.{refl}
 use Prim.Native.Nat.{_-_}

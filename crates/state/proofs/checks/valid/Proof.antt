@@ -1,3 +1,4 @@
+-- `state::checks::valid` meets its contract: the count, the carriers, the pairs, in this order.
 use denote.Ref.{now}
 use lib.ListN.{getD}
 use borrow.Author.Tests.{lt-ltb, le-ltb, not-true, not-false}

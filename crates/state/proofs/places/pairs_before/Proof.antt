@@ -1,3 +1,4 @@
+-- `state::places::pairs_before` meets its contract: the loop adds up the pairs of the receivers so far.
 use mathlib.Core.Path.{_≡_, refl, sym}
 use Prim.Native.Nat.{_-_, _≤_}
 use Rattle.layout.specs.Places.{pairsBefore}

@@ -1,3 +1,4 @@
+-- `state::places::state_size` meets its contract: the sum of its parts.
 use mathlib.Core.Path.{refl}
 use Prim.Native.Nat.{_-_}
 use Rattle.layout.specs.Places.{stateSize}

@@ -1,3 +1,4 @@
+-- `state::places::views_start` meets its contract: the views of carrier i end where those of the next begin.
 use Prim.Native.Nat.{suc, _-_}
 use Rattle.layout.specs.Places.{viewPlace, stateSize}
 use Rattle.state.proofs.PlaceLaws.{pairs-next, pairs-rise}

@@ -1,3 +1,4 @@
+-- `state::records::load` meets its contract: the loop holds that the first t cells are copied.
 use Rattle.state.proofs.CellLaws.{Copied, copied-more, copied-end}
 use Prim.Native.Nat.{_-_, _≤_}
 use borrow.Author.Needs.{needs}

@@ -1,3 +1,4 @@
+-- `state::records::same_cells` meets its contract: the loop holds that the first t cells are the same.
 use Rattle.state.proofs.CellLaws.{Copied, same-more, same-end, same-stop}
 use Prim.Native.Nat.{_-_, _≤_}
 use borrow.Author.Needs.{needs}

@@ -1,3 +1,4 @@
+-- `state::records::set_planned` meets its contract: two numbers and a record behind them.
 use denote.Ref.{now}
 use lib.ListN.{length, set, length-set}
 use mathlib.Core.Path.{_≡_, _∙_}

@@ -1,3 +1,4 @@
+-- `state::start::write_carrier` meets its contract: two numbers and a record of none are the fresh carrier.
 use mathlib.Core.List.{List, _∷_}
 use denote.Ref.{now}
 use lib.ListN.{set, replicate, length-set}

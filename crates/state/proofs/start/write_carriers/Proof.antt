@@ -1,3 +1,4 @@
+-- `state::start::write_carriers` meets its contract: the loop holds the fresh carriers so far, one behind the other.
 use Rattle.memory.proofs.PutLaws.{put-none}
 use Rattle.memory.specs.Memory.{put}
 use lib.ListN.{length}

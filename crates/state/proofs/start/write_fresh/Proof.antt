@@ -1,3 +1,4 @@
+-- `state::start::write_fresh` meets its contract: the count, the carriers and zeros are the fresh state.
 use mathlib.Core.Path.{refl, _∙_}
 use Prim.Native.Nat.{_-_}
 use Rattle.state.proofs.FreshLaws.{fresh-whole}

@@ -1,3 +1,4 @@
+-- `state::start::write_zeros` meets its contract: the loop copies a list of zeros.
 use mathlib.Core.List.{List}
 use Rattle.memory.proofs.PutLaws.{copy-start, copy-more, copy-end}
 use Rattle.memory.specs.Memory.{put}

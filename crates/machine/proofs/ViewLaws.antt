@@ -1,0 +1,107 @@
+-- The views of a carrier, one part of the state, are what the search looks at.
+use Prim.Native.Nat.{ℕ, zero, suc, _+_, _*_, _-_, _≤_, _<_}
+use native.Mathlib.Omega.{arith}
+use mathlib.Core.List.{List, [], _∷_, List·Memᴰ, List·Memᴰ·head, List·Memᴰ·tail, List·Memᴰ·cases-cons, List·Memᴰ·append-cases, List·Memᴰ·eq-of-singleton, Memᴰ·append-left, Memᴰ·append-right}
+use mathlib.Core.Logic.{⊎-elim}
+use mathlib.Core.Path.{_≡_, refl, sym, _∙_, ap, ap₂}
+use lib.ListN.{length, getD, take, drop}
+use lib.Seq.{ext-getD}
+use Rattle.memory.specs.Memory.{part}
+use Rattle.memory.proofs.PartLaws.{part-byte, part-length}
+use Rattle.floor.specs.declared.Floor.{Floor}
+use Rattle.route.specs.Route.{View}
+use Rattle.route.specs.Search.{best}
+use Rattle.route.proofs.Theorems.{theorems}
+use Rattle.search.specs.Task.{taskOfRows}
+use Rattle.search.specs.Views.{viewOf, viewAt, records, viewsOf}
+use Rattle.planner.specs.Plan.{respondWith}
+use Rattle.reference.specs.Ranges.{below}
+use Rattle.layout.specs.Places.{viewPlace}
+use Rattle.layout.specs.Decode.{recordAt}
+use Rattle.layout.specs.Steps.{viewsIn, bestIn}
+use Rattle.machine.specs.Inner.{machineWith}
+
+-- A part of a part.
+part-part : (m : List ℕ) (a n k l : ℕ) → a + n ≤ length m → k + l ≤ n → part (part m a n) k l ≡ part m (a + k) l
+part-part m a n k l h s =
+    ext-getD 0 (part (part m a n) k l) (part m (a + k) l)
+    (part-length (part m a n) k l (omega (arith, part-length m a n h)) ∙ sym (part-length m (a + k) l (omega arith)))
+    (λ i b. go i (omega (arith, part-length (part m a n) k l (omega (arith, part-length m a n h)))))
+  where
+    go : (i : ℕ) → i < l → getD (part (part m a n) k l) i 0 ≡ getD (part m (a + k) l) i 0
+    go i b =
+        let sum : a + (k + i) ≡ a + k + i = omega arith in
+        part-byte (part m a n) k l i b ∙ part-byte m a n (k + i) (omega arith) ∙ rw sum refl ∙ sym (part-byte m (a + k) l i b)
+
+-- The view in record j of a part.
+cells-part : (m : List ℕ) (a i j : ℕ) → j < i → a + 65 * i ≤ length m →
+    take 64 (drop (65 * j + 1) (part m a (65 * i))) ≡ part m (a + (65 * j + 1)) 64
+unfolding part
+cells-part m a i j l h = part-part m a (65 * i) (65 * j + 1) 64 h (omega arith)
+
+view-part : (m : List ℕ) (a i j : ℕ) → j < i → a + 65 * i ≤ length m → viewAt (part m a (65 * i)) j ≡ recordAt m (a + 65 * j)
+unfolding viewAt recordAt
+view-part m a i j l h =
+    let sum : a + (65 * j + 1) ≡ a + 65 * j + 1 = omega arith in
+    ap₂ viewOf (part-byte m a (65 * i) (65 * j) (omega arith)) (cells-part m a i j l h ∙ ap (λ (k : ℕ). part m k 64) sum)
+
+-- The same views, from the last to the first and from the first to the last.
+module _ (b : List ℕ) (g : ℕ → View) where
+  shown-below : (k : ℕ) → ((j : ℕ) → j < k → viewAt b j ≡ g j) → (v : View) → List·Memᴰ v (records b k) → List·Memᴰ v (below k g)
+  unfolding records below
+  shown-below zero h v q = q
+  shown-below (suc k) h v q =
+      ⊎-elim
+      (λ (e : v ≡ viewAt b k). Memᴰ·append-right (below k g) (List·Memᴰ·head (e ∙ h k (omega arith))))
+      (λ (r : List·Memᴰ v (records b k)). Memᴰ·append-left (g k ∷ []) (shown-below k (λ j l. h j (omega arith)) v r))
+      (List·Memᴰ·cases-cons q)
+
+  below-shown : (k : ℕ) → ((j : ℕ) → j < k → viewAt b j ≡ g j) → (v : View) → List·Memᴰ v (below k g) → List·Memᴰ v (records b k)
+  unfolding records below
+  below-shown zero h v q = q
+  below-shown (suc k) h v q =
+      ⊎-elim
+      (λ (r : List·Memᴰ v (below k g)). List·Memᴰ·tail (below-shown k (λ j l. h j (omega arith)) v r))
+      (λ (r : List·Memᴰ v (g k ∷ [])). List·Memᴰ·head (List·Memᴰ·eq-of-singleton r ∙ sym (h k (omega arith))))
+      (List·Memᴰ·append-cases (below k g) q)
+
+views-above : (b : List ℕ) (i : ℕ) → viewsOf b (i + 1) ≡ records b i
+unfolding viewsOf
+views-above b i = let one : i + 1 - 1 ≡ i = omega arith in rw one
+
+rows-horizon : (f : Floor) (rows : List ℕ) (i : ℕ) → f .horizon ≤ 63 → taskOfRows f rows i .horizon ≤ 63
+unfolding taskOfRows
+rows-horizon f rows i h = h
+
+next-view : (n i j a : ℕ) → a ≡ viewPlace n i 0 → a + 65 * j ≡ viewPlace n i j
+unfolding viewPlace
+next-view n i j a e = omega (arith, e)
+
+-- The best answer to the part that has the views of carrier i.
+part-best : (f : Floor) (rows m : List ℕ) (i a : ℕ) → f .horizon ≤ 63 → a ≡ viewPlace (f .carriers) i 0 → a + 65 * i ≤ length m →
+    best (taskOfRows f rows (i + 1)) (viewsOf (part m a (65 * i)) (i + 1)) ≡ bestIn (machineWith f rows) m i
+unfolding bestIn machineWith respondWith viewsIn
+part-best f rows m i a h e l =
+    let b = part m a (65 * i) in
+    ap (best (taskOfRows f rows (i + 1))) (views-above b i)
+    ∙ theorems .best-same-views (taskOfRows f rows (i + 1)) (records b i) (below i seen) (rows-horizon f rows (i + 1) h)
+    (shown-below b seen i same) (below-shown b seen i same)
+  where
+    seen : ℕ → View
+    seen j = recordAt m (viewPlace (f .carriers) i j)
+
+    same : (j : ℕ) → j < i → viewAt (part m a (65 * i)) j ≡ seen j
+    same j k = view-part m a i j k l ∙ ap (recordAt m) (next-view (f .carriers) i j a e)
+
+-- The part as the code takes it, from a place to 65 numbers a view behind it.
+slice-part : (m : List ℕ) (a i : ℕ) → take (a + 65 * i - a) (drop a m) ≡ part m a (65 * i)
+unfolding part
+slice-part m a i = let size : a + 65 * i - a ≡ 65 * i = omega arith in rw size refl
+
+pub slice-long : (m : List ℕ) (a i : ℕ) → a + 65 * i ≤ length m → 65 * i ≤ length (take (a + 65 * i - a) (drop a m))
+slice-long m a i l = omega (arith, ap length (slice-part m a i), part-length m a (65 * i) l)
+
+pub slice-best : (f : Floor) (rows m : List ℕ) (i a : ℕ) → f .horizon ≤ 63 → a ≡ viewPlace (f .carriers) i 0 → a + 65 * i ≤ length m →
+    best (taskOfRows f rows (i + 1)) (viewsOf (take (a + 65 * i - a) (drop a m)) (i + 1)) ≡ bestIn (machineWith f rows) m i
+slice-best f rows m i a h e l =
+    ap (λ (b : List ℕ). best (taskOfRows f rows (i + 1)) (viewsOf b (i + 1))) (slice-part m a i) ∙ part-best f rows m i a h e l

@@ -1,0 +1,73 @@
+-- `machine::checks::all_named` meets its contract: the loop holds that all steps so far are named; the first that is not has its position.
+use native.Mathlib.Nat.{zero-add}
+use Rattle.floor.specs.Verdict.{each as inOrder, passed as ok, refused as turnedAway}
+use Rattle.floor.proofs.VerdictLaws.{each-none as names-none, each-more as names-more, each-stop as names-stop, each-end as names-end}
+use lib.ListN.{length}
+use borrow.Author.Tests.{not-true, not-false}
+use mathlib.Core.Path.{_≡_, sym, _∙_, ap}
+use Prim.Native.Nat.{_-_, _≤_}
+use Rattle.reference.specs.Step.{named}
+use Rattle.floor.specs.Answers.{verdictOf}
+use Rattle.machine.specs.Inner.{bare, namedAt}
+use borrow.Author.Needs.{needs}
+use native.Mathlib.Omega.{arith}
+use Rattle.machine.proofs.checks.all_named.Statement.{statement}
+use Rattle.machine.proofs.checks.all_named.Tie as tie
+
+abbrev Inv-loop : tie.InvT-loop
+Inv-loop f numbers p₀ p = (p ≤ length numbers) × (inOrder 7 0 (namedAt f numbers) p ≡ ok)
+
+abbrev μ-loop : tie.MeasureT-loop
+μ-loop f numbers p₀ p = length numbers - p
+
+loop-holds : tie.Need-loop-holds Inv-loop μ-loop
+loop-holds c = (omega arith, names-none 7 0 _)
+
+mul-step-of : tie.Need-mul-step-of Inv-loop μ-loop
+mul-step-of c = search needs
+
+shared-slice-read-step-of : tie.Need-shared-slice-read-step-of Inv-loop μ-loop
+shared-slice-read-step-of c = search needs
+
+step-of-requires : tie.Need-step-of-requires Inv-loop μ-loop
+step-of-requires c κs = search needs
+
+is-named-requires : tie.Need-is-named-requires Inv-loop μ-loop
+is-named-requires c κs = search needs
+
+returns : tie.Need-returns Inv-loop μ-loop
+unfolding verdictOf namedAt
+returns c = let no = ap (named (bare (c .before .before .before .before .before .before .before .args .f))) (sym (c .before .before .step-of .ensures)) ∙ sym (c .before .is-named .ensures) ∙ not-true _ (c .if1 .taken) in
+    ap (turnedAway 7) (sym (zero-add (c .before .before .before .before .before .loop .p))) ∙ sym (names-stop 7 0 _ _ _ (c .before .before .before .before .loop-test .taken) (c .before .before .before .before .before .loop .inv .1) no)
+
+add-p : tie.Need-add-p Inv-loop μ-loop
+add-p c = search needs
+
+loop-less : tie.Need-loop-less Inv-loop μ-loop
+loop-less c = search needs
+
+loop-again : tie.Need-loop-again Inv-loop μ-loop
+unfolding namedAt
+loop-again c = let yes = ap (named (bare (c .before .before .before .before .before .before .before .args .f))) (sym (c .before .before .step-of .ensures)) ∙ sym (c .before .is-named .ensures) ∙ not-false _ (c .if1 .left) in
+    (search needs, names-more 7 0 _ _ (c .before .before .before .before .before .loop .inv .1) yes)
+
+returns-2 : tie.Need-returns-2 Inv-loop μ-loop
+unfolding verdictOf
+returns-2 c = names-end 7 0 _ _ _ (c .before .loop .inv .0) (omega arith) (c .before .loop .inv .1)
+
+pub all-named-spec : {M : Type 1} → statement M
+all-named-spec =
+    tie.close
+    (tie.spec
+    Inv-loop
+    μ-loop
+    loop-holds
+    mul-step-of
+    shared-slice-read-step-of
+    step-of-requires
+    is-named-requires
+    returns
+    add-p
+    loop-less
+    loop-again
+    returns-2)

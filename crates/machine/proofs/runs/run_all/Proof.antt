@@ -1,0 +1,78 @@
+-- `machine::runs::run_all` meets its contract: what is left of the list leads where the whole run leads.
+use Rattle.machine.proofs.TakeLaws.{workable-same}
+use lib.ListN.{length}
+use Prim.Native.Nat.{_-_, _≤_}
+use Rattle.reference.specs.Take.{kept}
+use Rattle.machine.specs.Inner.{machineWith, Running}
+use Rattle.machine.proofs.RunLaws.{running-start, running-more, running-spent, running-end, tried-one}
+use borrow.Author.Needs.{needs}
+use native.Mathlib.Omega.{arith}
+use Rattle.machine.proofs.runs.run_all.Statement.{statement}
+use Rattle.machine.proofs.runs.run_all.Tie as tie
+
+abbrev Inv-loop : tie.InvT-loop
+Inv-loop f free m₀ numbers budget taken₀ read₀ m taken read = (taken ≤ budget) × ((read ≤ length numbers) × Running (machineWith f free) m₀ numbers budget m read taken)
+
+abbrev μ-loop : tie.MeasureT-loop
+μ-loop f free m₀ numbers budget taken₀ read₀ m taken read = length numbers - read
+
+loop-holds : tie.Need-loop-holds Inv-loop μ-loop
+loop-holds c = (omega arith, (omega arith, running-start _ _ _ _))
+
+same-length : tie.Need-same-length Inv-loop μ-loop
+same-length c = c .before .before .loop .inv .1 .1 .kept
+
+returns : tie.Need-returns Inv-loop μ-loop
+returns c = running-spent _ _ _ _ _ _ _ (c .before .loop-test .taken) (c .before .before .loop .inv .0) (c .if1 .taken) (c .before .before .loop .inv .1 .1)
+
+mul-try-step : tie.Need-mul-try-step Inv-loop μ-loop
+mul-try-step c = search needs
+
+shared-slice-read-try-step : tie.Need-shared-slice-read-try-step Inv-loop μ-loop
+shared-slice-read-try-step c = search needs
+
+try-step-requires : tie.Need-try-step-requires Inv-loop μ-loop
+try-step-requires c κs = workable-same _ _ _ _ (c .before .before .before .before .loop .inv .1 .1 .kept) (c .before .before .before .before .before .before .before .pre)
+
+add-taken : tie.Need-add-taken Inv-loop μ-loop
+add-taken c = search (needs, tried-one (c .before .before .try-step .ensures))
+
+add-read : tie.Need-add-read Inv-loop μ-loop
+add-read c = search needs
+
+loop-less : tie.Need-loop-less Inv-loop μ-loop
+loop-less c = search needs
+
+loop-again : tie.Need-loop-again Inv-loop μ-loop
+loop-again c = let one = tried-one (c .before .before .try-step .ensures) in (
+  omega (arith, one, c .before .before .before .before .before .if1 .left),
+  (
+    omega (arith, c .before .before .before .before .before .before .loop-test .taken),
+    running-more _ _ _ _ _ _ _ _ _ (c .before .before .before .before .before .before .loop-test .taken) (c .before .before .before .before .before .if1 .left) (c .before .before .try-step .kept .1 .1 .0) (c .before .before .before .before .before .before .before .loop .inv .1 .1) (c .before .before .try-step .ensures),
+  ),
+)
+
+same-length-2 : tie.Need-same-length-2 Inv-loop μ-loop
+same-length-2 c = c .before .loop .inv .1 .1 .kept
+
+returns-2 : tie.Need-returns-2 Inv-loop μ-loop
+returns-2 c = running-end _ _ _ _ _ _ _ (c .loop-test .left) (c .before .loop .inv .0) (c .before .loop .inv .1 .1)
+
+pub run-all-spec : {M : Type 1} → statement M
+run-all-spec =
+    tie.close
+    (tie.spec
+    Inv-loop
+    μ-loop
+    loop-holds
+    same-length
+    returns
+    mul-try-step
+    shared-slice-read-try-step
+    try-step-requires
+    add-taken
+    add-read
+    loop-less
+    loop-again
+    same-length-2
+    returns-2)

@@ -1,0 +1,175 @@
+/* Routes for tote carriers on a cell floor: the C interface of the proved library.
+ *
+ * Floor, routes, steps and sheets are those of document 01; this header says how they lie in memory and what each function does.
+ *
+ * MEMORY. All memory is lent by the caller for the time of a call: a pointer with its length in elements. The library keeps no
+ * pointer, allocates nothing and has no state of its own, so calls on different memory may run at the same time. A pointer is never
+ * null, also where its length is 0, is aligned for its element, and memory that a call writes overlaps no other memory lent to it.
+ * A buffer of its needed length or longer is never called too short, and nothing beyond the needed length is ever written. A refused
+ * call leaves all lent memory as it was.
+ *
+ * A CELL is row x width + column, columns and rows counted from 0. A ROUTE is 64 cells, one for each beat from 0 to the horizon, the
+ * rest 0. A RECORD of an answer or a view is 65 numbers: 0 not heard, 1 none or 2 a route, and then the route's 64 cells, which are 0
+ * where there is no route.
+ *
+ * A FLOOR is 22 numbers: width (1 to 32), height (1 to 32), horizon (1 to 63), depth (1 to 4), carriers (1 to 8), walls (0 to 1023),
+ * eight starts, eight goals; starts and goals past the carriers are not looked at. Its WALLS are lent beside it: cells, strictly
+ * rising, as many as the floor counts or more, those beyond not looked at. Carriers count from 1; 1 ranks highest.
+ *
+ * THE ANSWER of every function is one word, see KALOMIVUND_REFUSED and those below it:
+ *   done     low byte 0, bits 8 to 15 the case, bits 16 and up a number
+ *   refused  low byte 1, bits 8 to 15 the refusal, bits 16 and up its place, at most 2^32 - 1
+ *
+ * REFUSALS, in the order in which they are looked for; the first one met is the answer.
+ *   9, 0         the lent floor has fewer than 22 numbers; before anything else
+ *   1, offset    form of a sheet's line 1 (see kalomivund_read_sheet)
+ *   2, field     line 1, field 1 to 6: outside its limits
+ *   1, offset    form of a sheet's other lines
+ *   9, 0         fewer walls are lent than the floor counts (right after 2; not for read_sheet)
+ *   3, item      a cell outside the grid; carriers are items 1 to n, walls follow
+ *   4, item      a wall is not above the one before
+ *   5, carrier   its start or goal is a wall
+ *   6, carrier   an earlier carrier has the same start, or the same goal
+ *   9, 0         other lent memory is too short
+ *   10, 0        the lent state is no state of this floor
+ *   7, position  a number that names no step of this floor (position in its list, from 0; a single step has 0); a search's carrier
+ *   8, 0         a single step is not open
+ * "The floor's refusals" below are 9 (22 numbers), 2, 9 (walls), 3, 4, 5, 6. */
+#ifndef KALOMIVUND_H
+#define KALOMIVUND_H
+
+#include <stddef.h>
+#include <stdint.h>
+
+#ifdef __cplusplus
+extern "C" {
+#endif
+
+/* Lengths that serve every floor. */
+#define KALOMIVUND_FLOOR 22        /* numbers of a floor record */
+#define KALOMIVUND_ROUTE 64        /* cells of a route */
+#define KALOMIVUND_RECORD 65       /* numbers of an answer or a view */
+#define KALOMIVUND_LENGTHS 5       /* figures of kalomivund_needed_lengths */
+#define KALOMIVUND_MOST_WALLS 1023 /* cells */
+#define KALOMIVUND_MOST_SHEET 11452 /* bytes */
+#define KALOMIVUND_MOST_ANSWERS 520 /* numbers */
+#define KALOMIVUND_MOST_TEXT 2659  /* bytes */
+#define KALOMIVUND_MOST_STATE 9666 /* numbers, 19,332 bytes */
+
+/* Parts of an answer word. */
+#define KALOMIVUND_REFUSED(word) ((unsigned)((word) & 0xff))       /* 0 done, 1 refused */
+#define KALOMIVUND_CASE(word) ((unsigned)((word) >> 8 & 0xff))     /* the case, or the refusal */
+#define KALOMIVUND_NUMBER(word) ((uint64_t)(word) >> 16)           /* the number, or the place */
+
+/* Cases. */
+#define KALOMIVUND_NONE 0      /* search: there is no route */
+#define KALOMIVUND_FOUND 1     /* search: a route */
+#define KALOMIVUND_KEPT 0      /* step: planned, the answer is what it was */
+#define KALOMIVUND_SENT 1      /* step: planned for the first time, or with a new answer; it is sent to every carrier below */
+#define KALOMIVUND_DELIVERED 2 /* step: the oldest message became a view */
+#define KALOMIVUND_SILENT 0    /* run: no step is open */
+#define KALOMIVUND_SPENT 1     /* run: the budget is used up and steps are left unread */
+#define KALOMIVUND_ENDED 2     /* run: the list is read, and some step is open */
+
+/* Steps by their numbers; every other number names no step. */
+#define KALOMIVUND_PLAN(i) ((uint16_t)(100 + (i)))
+#define KALOMIVUND_DELIVER(j, i) ((uint16_t)(200 + 10 * (j) + (i))) /* from j to i, j above i */
+
+/* Reads a sheet.
+ * Takes   text, a sheet's bytes, any bytes and any length.
+ * Writes  the first 22 numbers of floor, starts and goals past the carriers being 0; the floor's walls to the front of walls.
+ * Done    case 0, number 0.
+ * Refused 9 (floor shorter than 22); 1 with a byte offset: a field's first column, a wrong newline, the first extra byte, the text's
+ *         length where it ends early; 2 to 6; 9 (walls shorter than the sheet counts), after 6. */
+uint64_t kalomivund_read_sheet(const uint8_t *text, size_t text_len, uint16_t *floor, size_t floor_len, uint16_t *walls,
+                               size_t walls_len);
+
+/* Writes a floor's sheet.
+ * Writes  31 + 21 x carriers + 11 x walls bytes to the front of out (at most 11,452).
+ * Done    case 0, number the bytes written.
+ * Refused the floor's refusals; 9 (out too short). */
+uint64_t kalomivund_write_sheet(const uint16_t *floor, size_t floor_len, const uint16_t *walls, size_t walls_len, uint8_t *out,
+                                size_t out_len);
+
+/* Checks a floor and its walls. Writes nothing.
+ * Done    case 0, number 0.
+ * Refused the floor's refusals. */
+uint64_t kalomivund_check_floor(const uint16_t *floor, size_t floor_len, const uint16_t *walls, size_t walls_len);
+
+/* The needed length of each lent buffer of a floor, from its first six numbers alone.
+ * Writes  five figures to the front of out, in elements of each buffer:
+ *           walls    walls
+ *           sheet    31 + 21 x carriers + 11 x walls, bytes
+ *           answers  65 x carriers, numbers; also the views lent to a search
+ *           text     11 + carriers x (5 x horizon + 16), bytes
+ *           state    2 + 67 x carriers + 326 x carriers x (carriers - 1) / 2, numbers
+ * Done    case 0, number 0.
+ * Refused 9 (floor shorter than 22); 2; 9 (out shorter than 5). */
+uint64_t kalomivund_needed_lengths(const uint16_t *floor, size_t floor_len, uint64_t *out, size_t out_len);
+
+/* The best route of a carrier against what it has heard of the carriers above it.
+ * Takes   views, 65 numbers a carrier, record j - 1 being carrier j's view; only those above the carrier are looked at. A tag of 2 is
+ *         a route, whose cells are taken as they stand; any other tag occupies nothing.
+ * Writes  64 cells to the front of route, all 0 where there is none.
+ * Done    case 0 none, 1 a route; number 0.
+ * Refused the floor's refusals; 9 (views shorter than 65 x carriers, route shorter than 64); 7, 0 (no such carrier). */
+uint64_t kalomivund_search(const uint16_t *floor, size_t floor_len, const uint16_t *walls, size_t walls_len, uint16_t carrier,
+                           const uint16_t *views, size_t views_len, uint16_t *route, size_t route_len);
+
+/* The sequential planner: carriers 1 to n, each best against the answers above it.
+ * Writes  65 x carriers numbers to the front of answers: carrier i's answer is record i - 1, tag 1 none or 2 a route.
+ * Done    case 0, number the failing carrier: the first with none, 0 if all have routes.
+ * Refused the floor's refusals; 9 (answers too short). */
+uint64_t kalomivund_plan(const uint16_t *floor, size_t floor_len, const uint16_t *walls, size_t walls_len, uint16_t *answers,
+                         size_t answers_len);
+
+/* From a sheet's bytes to its printed routes: carriers and failing carrier; per carrier its number, its arrival and its cells at
+ * beats 0 to horizon, or its number and " none". A refused sheet prints one line: 0, the refusal, its place.
+ * Takes   text, any bytes and any length; walls and answers are working memory, left with the floor's walls and the planner's answers.
+ * Writes  the printed bytes to the front of out.
+ * Done    case 0, number the bytes written; also for a refused sheet.
+ * Refused 9 (walls shorter than 1,023, answers shorter than 520, out shorter than 2,659), whatever the sheet. */
+uint64_t kalomivund_print_routes(const uint8_t *text, size_t text_len, uint16_t *walls, size_t walls_len, uint16_t *answers,
+                                 size_t answers_len, uint8_t *out, size_t out_len);
+
+/* A STATE is as many numbers as kalomivund_needed_lengths says, in this order, with n carriers counted here from 0:
+ *   2              the count of taken steps: thousands, rest; each 0 to 999; it stays at 999,999
+ *   67 a carrier   planned (0 or 1), due (0 or 1), its answer's record (tag 1 or 2)
+ *   65 a pair      the view that carrier i has of carrier j above it (tag 0, 1 or 2), pair i (i - 1) / 2 + j, for j < i
+ *   261 a pair     the channel from j to i, same pair: its length (0 to depth), four records, the oldest message first; records past
+ *                  the length are 0
+ * Refusal 10: a number outside its range, a cell outside the grid, or other than 0 in an unused place (a route's after the horizon, a
+ * record's cells where there is no route, a channel's past its messages). */
+
+/* Makes a fresh state: all due, none planned, answers none, views not heard, channels empty, count 0.
+ * Writes  the needed length of state.
+ * Done    case 0, number 0.
+ * Refused the floor's refusals; 9 (state too short). */
+uint64_t kalomivund_fresh(const uint16_t *floor, size_t floor_len, const uint16_t *walls, size_t walls_len, uint16_t *state,
+                          size_t state_len);
+
+/* Takes one step, KALOMIVUND_PLAN(i) or KALOMIVUND_DELIVER(j, i).
+ * Writes  state.
+ * Done    case 0 kept, 1 sent, 2 delivered; number 0.
+ * Refused the floor's refusals; 9 (state too short); 10; 7, 0; 8. */
+uint64_t kalomivund_step(const uint16_t *floor, size_t floor_len, const uint16_t *walls, size_t walls_len, uint16_t *state,
+                         size_t state_len, uint16_t step);
+
+/* Runs over a list of steps: takes those that are open, passes over the others, until as many are taken as the budget allows or the
+ * list ends.
+ * Writes  state.
+ * Done    case 0 silent, 1 spent, 2 ended; number the steps taken.
+ * Refused the floor's refusals; 9 (state too short); 10; 7 with the first position in the whole list that names no step. */
+uint64_t kalomivund_run(const uint16_t *floor, size_t floor_len, const uint16_t *walls, size_t walls_len, uint16_t *state,
+                        size_t state_len, const uint16_t *steps, size_t steps_len, uint16_t budget);
+
+/* The most steps that so many carriers can take from the fresh state, 2^(n + 1) - n - 2.
+ * Done    case 0, number the steps.
+ * Refused 2, field 5 (carriers outside 1 to 8). */
+uint64_t kalomivund_ceiling(uint16_t carriers);
+
+#ifdef __cplusplus
+}
+#endif
+
+#endif

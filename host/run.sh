@@ -1,0 +1,46 @@
+#!/usr/bin/env bash
+# Builds the proved archive, the C programs and the Rust crate over it, and runs them: the sample sheet by C, the comparison with the
+# independent implementation, the stack of each entry, the benchmark. No network.
+#
+#     host/run.sh            everything
+#     host/run.sh test       all but the benchmark
+#     host/run.sh bench      the archive and the benchmark alone
+set -euo pipefail
+
+what=${1:-all}
+host=$(cd "$(dirname "${BASH_SOURCE[0]}")" && pwd)
+root=$(dirname "$host")
+archive=$root/target/staticlib/libkalomivund.a
+built=$host/target/c
+
+echo "== the archive"
+(cd "$root" && rt staticlib kalomivund)
+[ -f "$archive" ] || { echo "no archive at target/staticlib/libkalomivund.a" >&2; exit 1; }
+
+if [ "$what" != bench ]; then
+    echo "== C: the sample sheet"
+    mkdir -p "$built"
+    flags=(-std=c11 -O2 -Wall -Wextra -Werror -I "$host/include")
+    cc "${flags[@]}" "$host/c/plan.c" "$archive" -o "$built/plan"
+    "$built/plan" < "$root/samples/document-01.sheet" | tee "$built/document-01.routes"
+    diff "$built/document-01.routes" - <<'LINES'
+    2    0
+    1    2    0    1    2    2    2
+    2    4    2    5    4    1    0
+LINES
+    echo "as document 01 prints it"
+
+    echo "== C: the deepest stack of each entry"
+    cc "${flags[@]}" -pthread "$host/c/stack.c" "$archive" -o "$built/stack"
+    "$built/stack"
+
+    echo "== Rust: tests"
+    (cd "$host" && cargo test --offline --release)
+    echo "== Rust: library and paper compared"
+    (cd "$host" && cargo run --offline --release --quiet --bin compare)
+fi
+
+if [ "$what" != test ]; then
+    echo "== Rust: benchmark"
+    (cd "$host" && cargo run --offline --release --quiet --bin bench)
+fi

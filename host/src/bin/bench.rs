@@ -1,0 +1,513 @@
+//! The benchmark: the library beside a bit-parallel planner and three forms of space-time A*, on the same floors, in one run.
+//! Before anything is timed, all planners are held to the library's answers (A* that stops at its first way: to its arrivals).
+//! Each figure is the best of several rounds, the contenders taking turns within a round; medians stand beside it.
+//!
+//!     bench [ROUNDS]
+
+#[path = "../astar.rs"]
+mod astar;
+#[path = "../bits.rs"]
+mod bits;
+#[path = "../draw.rs"]
+mod draw;
+#[path = "../paper.rs"]
+mod paper;
+
+use draw::Draw;
+use kalomivund::calls;
+use paper::Floor;
+use std::hint::black_box;
+use std::time::Instant;
+
+// ---- The floors ----
+
+fn floor(width: usize, height: usize, horizon: usize, pairs: &[((usize, usize), (usize, usize))]) -> Floor {
+    let cell = |(column, row): (usize, usize)| row * width + column;
+    let starts = pairs.iter().map(|p| cell(p.0)).collect();
+    let goals = pairs.iter().map(|p| cell(p.1)).collect();
+    Floor { width, height, horizon, depth: 2, starts, goals, walls: Vec::new() }
+}
+
+/// Eight carriers through the middle, nose to nose in two rows and two columns.
+fn crossing() -> Floor {
+    let pairs = [
+        ((0, 15), (31, 15)),
+        ((31, 15), (0, 15)),
+        ((15, 0), (15, 31)),
+        ((15, 31), (15, 0)),
+        ((0, 16), (31, 16)),
+        ((31, 16), (0, 16)),
+        ((16, 0), (16, 31)),
+        ((16, 31), (16, 0)),
+    ];
+    floor(32, 32, 63, &pairs)
+}
+
+/// Eight carriers from corner to corner, the longest ways that the horizon allows.
+fn corners() -> Floor {
+    let pairs = [
+        ((0, 0), (31, 31)),
+        ((31, 31), (0, 0)),
+        ((31, 0), (0, 31)),
+        ((0, 31), (31, 0)),
+        ((1, 0), (31, 30)),
+        ((30, 31), (0, 1)),
+        ((31, 1), (1, 31)),
+        ((0, 30), (30, 0)),
+    ];
+    floor(32, 32, 63, &pairs)
+}
+
+/// 512 walls at random; starts and goals lie in the largest part that hangs together.
+fn random_walls() -> Floor {
+    let mut draw = Draw(512);
+    let mut walls = draw.different(512, 1024);
+    walls.sort_unstable();
+    let mut part = vec![usize::MAX; 1024];
+    let mut largest: Vec<usize> = Vec::new();
+    for first in 0..1024 {
+        if part[first] != usize::MAX || walls.contains(&first) {
+            continue;
+        }
+        let mut cells = vec![first];
+        part[first] = first;
+        let mut next = 0;
+        while next < cells.len() {
+            let c = cells[next];
+            let near = [(c >= 32, c.wrapping_sub(32)), (c % 32 > 0, c.wrapping_sub(1)), (c % 32 < 31, c + 1), (c < 992, c + 32)];
+            for (inside, d) in near {
+                if inside && part[d] == usize::MAX && !walls.contains(&d) {
+                    part[d] = first;
+                    cells.push(d);
+                }
+            }
+            next += 1;
+        }
+        if cells.len() > largest.len() {
+            largest = cells;
+        }
+    }
+    let of = |draw: &mut Draw| draw.different(8, largest.len()).iter().map(|&k| largest[k]).collect();
+    Floor { width: 32, height: 32, horizon: 63, depth: 2, starts: of(&mut draw), goals: of(&mut draw), walls }
+}
+
+/// A corridor of one row with sidings on both sides; carriers come from both ends.
+fn corridor() -> Floor {
+    let pairs = [
+        ((0, 1), (31, 1)),
+        ((31, 1), (0, 1)),
+        ((1, 1), (30, 1)),
+        ((30, 1), (1, 1)),
+        ((2, 1), (29, 1)),
+        ((29, 1), (2, 1)),
+        ((3, 1), (28, 1)),
+        ((28, 1), (3, 1)),
+    ];
+    let mut floor = floor(32, 3, 63, &pairs);
+    let wall = |c: &usize| c / 32 == 0 && c % 32 % 4 != 2 || c / 32 == 2 && c % 32 % 4 != 0;
+    floor.walls = (0..96).filter(wall).collect();
+    floor
+}
+
+/// A wall from top to bottom between starts and goals: every carrier has none.
+fn all_none() -> Floor {
+    let pairs: Vec<_> = (0..8).map(|i| ((i, 4 * i), (31 - i, 4 * i))).collect();
+    let mut floor = floor(32, 32, 63, &pairs);
+    floor.walls = (0..32).map(|row| row * 32 + 16).collect();
+    floor
+}
+
+fn floors() -> Vec<(&'static str, Floor)> {
+    let mut first = floor(3, 2, 4, &[((0, 0), (2, 0)), ((2, 0), (0, 0))]);
+    first.depth = 1;
+    vec![
+        ("document 01", first),
+        ("crossing", crossing()),
+        ("corner to corner", corners()),
+        ("512 random walls", random_walls()),
+        ("corridor, sidings", corridor()),
+        ("all none", all_none()),
+    ]
+}
+
+// ---- Time ----
+
+/// Nanoseconds of one call: the best round and the median.
+#[derive(Clone, Copy)]
+struct Time {
+    best: f64,
+    median: f64,
+}
+
+/// Times contenders in turns: each round runs each of them for about two milliseconds.
+fn measure(rounds: usize, contenders: &mut [&mut dyn FnMut()]) -> Vec<Time> {
+    let mut counts = Vec::new();
+    for call in contenders.iter_mut() {
+        let (begin, mut warm) = (Instant::now(), 0u32);
+        while begin.elapsed().as_micros() < 5_000 || warm < 3 {
+            call();
+            warm += 1;
+        }
+        let one = begin.elapsed().as_nanos() as f64 / warm as f64;
+        counts.push((2_000_000.0 / one).clamp(1.0, 1e6) as u32);
+    }
+    let mut times = vec![Vec::new(); contenders.len()];
+    for _ in 0..rounds {
+        for (k, call) in contenders.iter_mut().enumerate() {
+            let begin = Instant::now();
+            for _ in 0..counts[k] {
+                call();
+            }
+            times[k].push(begin.elapsed().as_nanos() as f64 / counts[k] as f64);
+        }
+    }
+    times.into_iter().map(time_of).collect()
+}
+
+fn time_of(mut times: Vec<f64>) -> Time {
+    times.sort_by(f64::total_cmp);
+    Time { best: times[0], median: times[times.len() / 2] }
+}
+
+fn micro(time: Time) -> String {
+    format!("{:.2} ({:.2})", time.best / 1000.0, time.median / 1000.0)
+}
+
+fn done(word: u64, what: &str) -> u64 {
+    if word & 255 != 0 {
+        println!("{what} refused: {word:#x}");
+        std::process::exit(1);
+    }
+    word >> 16
+}
+
+// ---- One sequential plan ----
+
+/// A floor as it is lent, with the library's answers to it.
+struct Lent {
+    name: &'static str,
+    floor: Floor,
+    record: [u16; 22],
+    walls: Vec<u16>,
+    answers: Vec<u16>,
+    failing: u64,
+}
+
+impl Lent {
+    fn of(name: &'static str, floor: Floor) -> Lent {
+        let (record, walls) = bits::numbers(&floor);
+        let mut answers = vec![0; 65 * floor.carriers()];
+        let failing = done(calls::plan(&record, &walls, &mut answers), "plan");
+        Lent { name, floor, record, walls, answers, failing }
+    }
+
+    /// The library's route of a carrier.
+    fn route(&self, i: usize) -> Option<&[u16]> {
+        let record = &self.answers[65 * i..65 * i + 65];
+        (record[0] == 2).then_some(&record[1..])
+    }
+
+    fn arrival(&self, i: usize) -> Option<usize> {
+        self.route(i).map(|route| paper::arrival_of(route.try_into().unwrap(), self.floor.goals[i], self.floor.horizon))
+    }
+
+    /// A* with hash tables, carrier for carrier; each is asked against the library's routes above it, so that all answer one question.
+    fn hashed(&self) -> Vec<Option<usize>> {
+        let mut table = astar::Hashed::new(&self.floor);
+        (0..self.floor.carriers())
+            .map(|i| {
+                let found = table.search(&self.floor, self.floor.starts[i], self.floor.goals[i]);
+                if let Some(route) = self.route(i) {
+                    table.reserve(&self.floor, route);
+                }
+                found.map(|(arrival, _)| arrival)
+            })
+            .collect()
+    }
+
+    fn flat(&self) -> Vec<Option<usize>> {
+        let mut table = astar::Flat::new(&self.floor);
+        (0..self.floor.carriers())
+            .map(|i| {
+                let found = table.search(&self.floor, self.floor.starts[i], self.floor.goals[i]);
+                if let Some(route) = self.route(i) {
+                    table.reserve(&self.floor, i, route);
+                }
+                found.map(|(arrival, _)| arrival)
+            })
+            .collect()
+    }
+
+    /// A* to the paper's best route, which is then the next carrier's reservation.
+    fn best(&self) -> Vec<u16> {
+        let mut table = astar::Flat::new(&self.floor);
+        let mut answers = Vec::with_capacity(self.answers.len());
+        for i in 0..self.floor.carriers() {
+            match table.best(&self.floor, self.floor.starts[i], self.floor.goals[i]) {
+                None => answers.extend([&[1][..], &[0; 64]].concat()),
+                Some((_, route)) => {
+                    table.reserve(&self.floor, i, &route);
+                    answers.push(2);
+                    answers.extend(route);
+                }
+            }
+        }
+        answers
+    }
+
+    /// All planners agree with the library.
+    fn check(&self) {
+        let fault = |who: &str| {
+            println!("{who} and the library differ on the floor '{}'", self.name);
+            std::process::exit(1);
+        };
+        let mut answers = vec![7; self.answers.len()];
+        let failing = bits::plan(&self.record, &self.walls, &mut answers);
+        if answers != self.answers || failing as u64 != self.failing {
+            fault("bit-parallel Rust");
+        }
+        let arrivals: Vec<Option<usize>> = (0..self.floor.carriers()).map(|i| self.arrival(i)).collect();
+        if self.hashed() != arrivals {
+            fault("A* with hash tables");
+        }
+        if self.flat() != arrivals {
+            fault("A* with arrays");
+        }
+        if self.best() != self.answers {
+            fault("A* to the best route");
+        }
+    }
+}
+
+fn plans(all: &[Lent], rounds: usize) {
+    println!("One sequential plan, microseconds: best (median)\n");
+    let head = [
+        "floor",
+        "carriers, walls, none",
+        "library",
+        "bit-parallel Rust",
+        "A*, hash tables",
+        "A*, arrays",
+        "A*, arrays, best route",
+        "library / bit-parallel",
+        "A* hash / library",
+        "A* arrays / library",
+        "A* best / library",
+    ];
+    println!("| {} |", head.join(" | "));
+    println!("|---|---|---|---|---|---|---|---|---|---|---|");
+    let mut last = String::new();
+    for lent in all {
+        let mut ours = lent.answers.clone();
+        let mut theirs = lent.answers.clone();
+        let times = measure(
+            rounds,
+            &mut [
+                &mut || {
+                    black_box(calls::plan(black_box(&lent.record), black_box(&lent.walls), &mut ours));
+                },
+                &mut || {
+                    black_box(bits::plan(black_box(&lent.record), black_box(&lent.walls), &mut theirs));
+                },
+                &mut || {
+                    black_box(lent.hashed());
+                },
+                &mut || {
+                    black_box(lent.flat());
+                },
+                &mut || {
+                    black_box(lent.best());
+                },
+            ],
+        );
+        let none = (0..lent.floor.carriers()).filter(|&i| lent.route(i).is_none()).count();
+        let ratio = |a: usize, b: usize| times[a].best / times[b].best;
+        println!(
+            "| {} | {}, {}, {none} | {} | {} | {} | {} | {} | {:.2} | {:.1} | {:.1} | {:.1} |",
+            lent.name,
+            lent.floor.carriers(),
+            lent.walls.len(),
+            micro(times[0]),
+            micro(times[1]),
+            micro(times[2]),
+            micro(times[3]),
+            micro(times[4]),
+            ratio(0, 1),
+            ratio(2, 0),
+            ratio(3, 0),
+            ratio(4, 0)
+        );
+        if lent.name == "crossing" {
+            last = format!(
+                "Crossing: library / bit-parallel Rust {:.2} (wanted: at most 1.2), A* with hash tables / library {:.1} (wanted: at least 20).",
+                ratio(0, 1),
+                ratio(2, 0)
+            );
+        }
+    }
+    println!("\n{last}");
+}
+
+// ---- The machine ----
+
+/// The steps that bring n carriers to silence in the fewest steps: each plans, and its message is delivered to all below.
+fn in_turn(n: usize) -> Vec<u16> {
+    let mut steps = Vec::new();
+    for i in 1..=n as u16 {
+        steps.push(kalomivund::plan_step(i));
+        steps.extend((i + 1..=n as u16).map(|below| kalomivund::deliver_step(i, below)));
+    }
+    steps
+}
+
+/// Every step again and again, the lowest carrier first: many plans are made in vain.
+fn in_vain(n: usize) -> Vec<u16> {
+    let mut round: Vec<u16> = paper::steps_of(n).iter().map(|(number, _)| *number).collect();
+    round.reverse();
+    (0..(1 << n)).flat_map(|_| round.clone()).collect()
+}
+
+/// Runs the list from the fresh state by the paper and by the library; the steps taken.
+fn checked_run(lent: &Lent, state: &mut [u16], steps: &[u16]) -> u64 {
+    let mut other = state.to_vec();
+    let words = [calls::fresh(&lent.record, &lent.walls, state), calls::run(&lent.record, &lent.walls, state, steps, 65535)];
+    let paper = [
+        paper::calls::fresh(&lent.record, &lent.walls, &mut other),
+        paper::calls::run(&lent.record, &lent.walls, &mut other, steps, 65535),
+    ];
+    if words != paper || *state != other[..] || words[1] >> 8 & 255 != 0 {
+        println!("a run to silence on '{}' differs from the paper's", lent.name);
+        std::process::exit(1);
+    }
+    words[1] >> 16
+}
+
+fn machine(all: &[Lent], rounds: usize) {
+    println!("\nThe machine, microseconds: best (median)\n");
+    println!(
+        "| floor | fresh | a plan step | a delivery | run to silence, in turn (steps) | run to silence, lowest first (steps) |"
+    );
+    println!("|---|---|---|---|---|---|");
+    for lent in all {
+        let n = lent.floor.carriers();
+        let mut state = vec![0; paper::state_length(n)];
+        let (few, many) = (in_turn(n), in_vain(n));
+        let taken = [checked_run(lent, &mut state, &few), checked_run(lent, &mut state, &many)];
+
+        // Single steps, each timed alone; a round's figure is the mean of its kind.
+        let (mut plans, mut deliveries) = (Vec::new(), Vec::new());
+        for _ in 0..4 * rounds {
+            done(calls::fresh(&lent.record, &lent.walls, &mut state), "fresh");
+            let mut sums = [(0.0, 0.0); 2];
+            for &step in &few {
+                let begin = Instant::now();
+                let word = calls::step(&lent.record, &lent.walls, &mut state, black_box(step));
+                let time = begin.elapsed().as_nanos() as f64;
+                done(word, "step");
+                let kind = &mut sums[(step >= 200) as usize];
+                *kind = (kind.0 + time, kind.1 + 1.0);
+            }
+            plans.push(sums[0].0 / sums[0].1);
+            deliveries.push(sums[1].0 / sums[1].1);
+        }
+
+        let mut states = [state.clone(), state.clone(), state];
+        let [a, b, c] = &mut states;
+        let times = measure(
+            rounds,
+            &mut [
+                &mut || {
+                    black_box(calls::fresh(black_box(&lent.record), &lent.walls, a));
+                },
+                &mut || {
+                    calls::fresh(black_box(&lent.record), &lent.walls, b);
+                    black_box(calls::run(&lent.record, &lent.walls, b, &few, 65535));
+                },
+                &mut || {
+                    calls::fresh(black_box(&lent.record), &lent.walls, c);
+                    black_box(calls::run(&lent.record, &lent.walls, c, &many, 65535));
+                },
+            ],
+        );
+        println!(
+            "| {} | {} | {} | {} | {} ({} steps) | {} ({} steps) |",
+            lent.name,
+            micro(times[0]),
+            micro(time_of(plans)),
+            micro(time_of(deliveries)),
+            micro(times[1]),
+            taken[0],
+            micro(times[2]),
+            taken[1]
+        );
+    }
+    println!("\nRuns are timed with the fresh state before them.");
+}
+
+// ---- Sheets ----
+
+fn sheets(all: &[Lent], rounds: usize) {
+    println!("\nSheets, microseconds: best (median)\n");
+    println!("| floor | bytes | read | write | check | print routes | paper.rs reads | paper.rs read / library |");
+    println!("|---|---|---|---|---|---|---|---|");
+    for lent in all {
+        let text = paper::sheet_of(&lent.floor).into_bytes();
+        let mut record = [0; 22];
+        let mut walls = vec![0; kalomivund::MOST_WALLS];
+        let mut other_walls = walls.clone();
+        let mut answers = vec![0; kalomivund::MOST_ANSWERS];
+        let mut out = vec![0; kalomivund::MOST_SHEET];
+        let mut printed = vec![0; kalomivund::MOST_TEXT];
+        done(calls::read_sheet(&text, &mut record, &mut walls), "read_sheet");
+        let written = done(calls::write_sheet(&record, &walls, &mut out), "write_sheet") as usize;
+        let length = done(calls::print_routes(&text, &mut walls, &mut answers, &mut printed), "print_routes") as usize;
+        if record != lent.record || out[..written] != text || printed[..length] != *paper::print_routes(&text).as_bytes() {
+            println!("reading, writing or printing of '{}' differs from the paper's", lent.name);
+            std::process::exit(1);
+        }
+        let times = measure(
+            rounds,
+            &mut [
+                &mut || {
+                    black_box(calls::read_sheet(black_box(&text), &mut record, &mut walls));
+                },
+                &mut || {
+                    black_box(calls::write_sheet(black_box(&lent.record), &lent.walls, &mut out));
+                },
+                &mut || {
+                    black_box(calls::check_floor(black_box(&lent.record), &lent.walls));
+                },
+                &mut || {
+                    black_box(calls::print_routes(black_box(&text), &mut other_walls, &mut answers, &mut printed));
+                },
+                &mut || {
+                    black_box(paper::floor_of_sheet(black_box(&text)).is_ok());
+                },
+            ],
+        );
+        println!(
+            "| {} | {} | {} | {} | {} | {} | {} | {:.1} |",
+            lent.name,
+            text.len(),
+            micro(times[0]),
+            micro(times[1]),
+            micro(times[2]),
+            micro(times[3]),
+            micro(times[4]),
+            times[4].best / times[0].best
+        );
+    }
+}
+
+fn main() {
+    let rounds = std::env::args().nth(1).map_or(15, |word| word.parse().expect("a number of rounds"));
+    let all: Vec<Lent> = floors().into_iter().map(|(name, floor)| Lent::of(name, floor)).collect();
+    for lent in &all {
+        lent.check();
+    }
+    let cores = std::thread::available_parallelism().map_or(0, |n| n.get());
+    println!("All planners agree on {} floors. {cores} cores, one used; {rounds} rounds.\n", all.len());
+    plans(&all, rounds);
+    machine(&all, rounds);
+    sheets(&all, rounds);
+}

@@ -1,0 +1,777 @@
+//! Compares the library with `paper.rs`, an independent implementation of document 01: answer words, and every number of lent memory,
+//! also outside the part that is lent. Seeds are fixed; a case that fails is printed with the command that replays it.
+//!
+//!     compare                          everything: 100,000 sheets, 20,000 lists of calls
+//!     compare sheets FROM COUNT        some of the sheets, by their seeds
+//!     compare lists FROM COUNT         some of the lists
+//!     compare sheet SEED               one case, each call printed with its answer
+//!     compare list SEED
+
+#[path = "../draw.rs"]
+mod draw;
+#[path = "../paper.rs"]
+mod paper;
+
+use draw::Draw;
+use paper::Floor;
+use std::collections::BTreeMap;
+use std::process::exit;
+use std::time::Instant;
+
+const SHEETS: u64 = 100_000;
+const LISTS: u64 = 20_000;
+
+// ---- Lent memory and calls ----
+
+/// Memory of which a part is lent; the rest must stay as it is.
+#[derive(Clone, PartialEq, Debug)]
+struct Lent<T> {
+    all: Vec<T>,
+    from: usize,
+    length: usize,
+}
+
+impl<T: Copy> Lent<T> {
+    /// Memory whose lent part is the contents, with a margin on both sides.
+    fn of(contents: &[T], margin: T) -> Lent<T> {
+        let all = [&[margin; 3], contents, &[margin; 3]].concat();
+        Lent { all, from: 3, length: contents.len() }
+    }
+
+    fn part(&self) -> &[T] {
+        &self.all[self.from..self.from + self.length]
+    }
+
+    fn part_mut(&mut self) -> &mut [T] {
+        &mut self.all[self.from..self.from + self.length]
+    }
+
+    /// The same memory with only the first places lent.
+    fn cut(mut self, length: usize) -> Lent<T> {
+        self.length = self.length.min(length);
+        self
+    }
+}
+
+/// Numbers to write over, different in each place.
+fn junk(draw: &mut Draw, length: usize) -> Lent<u16> {
+    let first = draw.next() as u16;
+    let contents: Vec<u16> = (0..length).map(|k| first.wrapping_add(k as u16) | 0x8000).collect();
+    Lent::of(&contents, first)
+}
+
+fn junk_bytes(draw: &mut Draw, length: usize) -> Lent<u8> {
+    let first = draw.next() as u8;
+    let contents: Vec<u8> = (0..length).map(|k| first.wrapping_add(k as u8)).collect();
+    Lent::of(&contents, first)
+}
+
+/// A call with all that is lent to it.
+#[derive(Clone, PartialEq, Debug)]
+enum Call {
+    ReadSheet { text: Lent<u8>, floor: Lent<u16>, walls: Lent<u16> },
+    WriteSheet { floor: Lent<u16>, walls: Lent<u16>, out: Lent<u8> },
+    CheckFloor { floor: Lent<u16>, walls: Lent<u16> },
+    NeededLengths { floor: Lent<u16>, out: Lent<u64> },
+    Search { floor: Lent<u16>, walls: Lent<u16>, carrier: u16, views: Lent<u16>, route: Lent<u16> },
+    Plan { floor: Lent<u16>, walls: Lent<u16>, answers: Lent<u16> },
+    PrintRoutes { text: Lent<u8>, walls: Lent<u16>, answers: Lent<u16>, out: Lent<u8> },
+    Fresh { floor: Lent<u16>, walls: Lent<u16>, state: Lent<u16> },
+    Step { floor: Lent<u16>, walls: Lent<u16>, state: Lent<u16>, step: u16 },
+    Run { floor: Lent<u16>, walls: Lent<u16>, state: Lent<u16>, steps: Lent<u16>, budget: u16 },
+    Ceiling { carriers: u16 },
+}
+
+#[derive(Clone, Copy, PartialEq)]
+enum Who {
+    Library,
+    Paper,
+}
+
+macro_rules! entry {
+    ($who:expr, $name:ident($($argument:expr),*)) => {
+        match $who {
+            Who::Library => kalomivund::calls::$name($($argument),*),
+            Who::Paper => paper::calls::$name($($argument),*),
+        }
+    };
+}
+
+impl Call {
+    /// Makes the call by the library or by the paper; its answer word.
+    fn make(&mut self, who: Who) -> u64 {
+        match self {
+            Call::ReadSheet { text, floor, walls } => {
+                entry!(who, read_sheet(text.part(), floor.part_mut(), walls.part_mut()))
+            }
+            Call::WriteSheet { floor, walls, out } => {
+                entry!(who, write_sheet(floor.part(), walls.part(), out.part_mut()))
+            }
+            Call::CheckFloor { floor, walls } => entry!(who, check_floor(floor.part(), walls.part())),
+            Call::NeededLengths { floor, out } => entry!(who, needed_lengths(floor.part(), out.part_mut())),
+            Call::Search { floor, walls, carrier, views, route } => {
+                entry!(who, search(floor.part(), walls.part(), *carrier, views.part(), route.part_mut()))
+            }
+            Call::Plan { floor, walls, answers } => entry!(who, plan(floor.part(), walls.part(), answers.part_mut())),
+            Call::PrintRoutes { text, walls, answers, out } => {
+                entry!(who, print_routes(text.part(), walls.part_mut(), answers.part_mut(), out.part_mut()))
+            }
+            Call::Fresh { floor, walls, state } => entry!(who, fresh(floor.part(), walls.part(), state.part_mut())),
+            Call::Step { floor, walls, state, step } => {
+                entry!(who, step(floor.part(), walls.part(), state.part_mut(), *step))
+            }
+            Call::Run { floor, walls, state, steps, budget } => {
+                entry!(who, run(floor.part(), walls.part(), state.part_mut(), steps.part(), *budget))
+            }
+            Call::Ceiling { carriers } => entry!(who, ceiling(*carriers)),
+        }
+    }
+
+    fn name(&self) -> &'static str {
+        match self {
+            Call::ReadSheet { .. } => "read_sheet",
+            Call::WriteSheet { .. } => "write_sheet",
+            Call::CheckFloor { .. } => "check_floor",
+            Call::NeededLengths { .. } => "needed_lengths",
+            Call::Search { .. } => "search",
+            Call::Plan { .. } => "plan",
+            Call::PrintRoutes { .. } => "print_routes",
+            Call::Fresh { .. } => "fresh",
+            Call::Step { .. } => "step",
+            Call::Run { .. } => "run",
+            Call::Ceiling { .. } => "ceiling",
+        }
+    }
+
+    /// The call in few words, for a replay.
+    fn short(&self) -> String {
+        let floor = |floor: &Lent<u16>, walls: &Lent<u16>| format!("floor {:?} walls {:?}", floor.part(), walls.part());
+        let text = |text: &Lent<u8>| format!("{:?}", String::from_utf8_lossy(text.part()));
+        match self {
+            Call::ReadSheet { text: t, floor: f, walls: w } => {
+                format!("{} floor of {} walls of {}", text(t), f.length, w.length)
+            }
+            Call::WriteSheet { floor: f, walls: w, out } => format!("{} out of {}", floor(f, w), out.length),
+            Call::CheckFloor { floor: f, walls: w } => floor(f, w),
+            Call::NeededLengths { floor: f, out } => format!("floor {:?} out of {}", f.part(), out.length),
+            Call::Search { floor: f, walls: w, carrier, views, route } => {
+                format!("{} carrier {carrier} views {:?} route of {}", floor(f, w), views.part(), route.length)
+            }
+            Call::Plan { floor: f, walls: w, answers } => format!("{} answers of {}", floor(f, w), answers.length),
+            Call::PrintRoutes { text: t, walls, answers, out } => {
+                format!("{} walls of {} answers of {} out of {}", text(t), walls.length, answers.length, out.length)
+            }
+            Call::Fresh { floor: f, walls: w, state } => format!("{} state of {}", floor(f, w), state.length),
+            Call::Step { floor: f, walls: w, state, step } => {
+                format!("{} state of {} step {step}", floor(f, w), state.length)
+            }
+            Call::Run { floor: f, walls: w, state, steps, budget } => {
+                format!("{} state of {} steps {:?} budget {budget}", floor(f, w), state.length, steps.part())
+            }
+            Call::Ceiling { carriers } => format!("{carriers}"),
+        }
+    }
+}
+
+/// An answer word in words.
+fn in_words(word: u64) -> String {
+    let (second, third) = (word >> 8 & 255, word >> 16);
+    match word & 255 {
+        0 => format!("done, case {second}, number {third}"),
+        1 => format!("refused {second}, place {third}"),
+        _ => format!("no answer word: {word:#x}"),
+    }
+}
+
+// ---- The comparison ----
+
+/// What has been seen: for each entry how often each case and each refusal came up.
+#[derive(Default)]
+struct Tally {
+    seen: BTreeMap<(&'static str, bool, u64), u64>,
+    calls: u64,
+    verbose: bool,
+    replay: String,
+}
+
+impl Tally {
+    /// Makes a call by both, compares, and gives back the answer word with the call as it was left.
+    fn compare(&mut self, call: Call) -> (u64, Call) {
+        let (mut ours, mut theirs) = (call.clone(), call.clone());
+        let library = ours.make(Who::Library);
+        let paper = theirs.make(Who::Paper);
+        if self.verbose {
+            println!("{} {}\n    {}", call.name(), call.short(), in_words(paper));
+        }
+        if library != paper || ours != theirs {
+            println!("DIFFERENT: {} {}", call.name(), call.short());
+            println!("    library: {}\n    paper:   {}", in_words(library), in_words(paper));
+            for (place, (a, b)) in numbers(&ours).iter().zip(&numbers(&theirs)).enumerate().filter(|(_, (a, b))| a != b).take(20)
+            {
+                println!("    number {place} of all that is lent, margins included: library {a}, paper {b}");
+            }
+            println!("replay: compare {}", self.replay);
+            exit(1);
+        }
+        if paper & 255 == 1 && theirs != call {
+            self.fault("the paper's own refused call wrote memory");
+        }
+        self.calls += 1;
+        *self.seen.entry((call.name(), paper & 255 == 1, paper >> 8 & 255)).or_default() += 1;
+        (library, ours)
+    }
+
+    fn fault(&self, what: &str) -> ! {
+        println!("FAULT: {what}\nreplay: compare {}", self.replay);
+        exit(1);
+    }
+
+    /// Every outcome that must have come up did.
+    fn complete(&self) -> bool {
+        let floor = [2, 3, 4, 5, 6, 9];
+        let with = |more: &[u64]| [&floor[..], more].concat();
+        let wanted: Vec<(&'static str, Vec<u64>, Vec<u64>)> = vec![
+            ("read_sheet", vec![0], with(&[1])),
+            ("write_sheet", vec![0], with(&[])),
+            ("check_floor", vec![0], with(&[])),
+            ("needed_lengths", vec![0], vec![2, 9]),
+            ("search", vec![0, 1], with(&[7])),
+            ("plan", vec![0], with(&[])),
+            ("print_routes", vec![0], vec![9]),
+            ("fresh", vec![0], with(&[])),
+            ("step", vec![0, 1, 2], with(&[7, 8, 10])),
+            ("run", vec![0, 1, 2], with(&[7, 10])),
+            ("ceiling", vec![0], vec![2]),
+        ];
+        let mut keys = Vec::new();
+        for (name, done, refused) in wanted {
+            keys.extend(done.iter().map(|&case| (name, false, case)));
+            keys.extend(refused.iter().map(|&number| (name, true, number)));
+        }
+        let missing: Vec<_> = keys.iter().filter(|key| !self.seen.contains_key(key)).collect();
+        let beyond: Vec<_> = self.seen.keys().filter(|key| !keys.contains(key)).collect();
+        if !missing.is_empty() || !beyond.is_empty() {
+            println!("never came up: {missing:?}\nshould not come up: {beyond:?}");
+        }
+        missing.is_empty() && beyond.is_empty()
+    }
+
+    fn print(&self) {
+        let mut lines: BTreeMap<&str, String> = BTreeMap::new();
+        for (&(name, refused, second), count) in &self.seen {
+            let kind = if refused { "refusal" } else { "case" };
+            *lines.entry(name).or_default() += &format!("  {kind} {second}: {count}");
+        }
+        for (name, line) in lines {
+            println!("{name:>15}{line}");
+        }
+    }
+}
+
+/// All numbers of a call's memory, in one row.
+fn numbers(call: &Call) -> Vec<u64> {
+    fn wide<T: Copy + Into<u64>>(lent: &Lent<T>) -> Vec<u64> {
+        lent.all.iter().map(|&x| x.into()).collect()
+    }
+    match call {
+        Call::ReadSheet { text, floor, walls } => [wide(text), wide(floor), wide(walls)].concat(),
+        Call::WriteSheet { floor, walls, out } => [wide(floor), wide(walls), wide(out)].concat(),
+        Call::CheckFloor { floor, walls } => [wide(floor), wide(walls)].concat(),
+        Call::NeededLengths { floor, out } => [wide(floor), out.all.clone()].concat(),
+        Call::Search { floor, walls, views, route, .. } => [wide(floor), wide(walls), wide(views), wide(route)].concat(),
+        Call::Plan { floor, walls, answers } => [wide(floor), wide(walls), wide(answers)].concat(),
+        Call::PrintRoutes { text, walls, answers, out } => [wide(text), wide(walls), wide(answers), wide(out)].concat(),
+        Call::Fresh { floor, walls, state } => [wide(floor), wide(walls), wide(state)].concat(),
+        Call::Step { floor, walls, state, .. } => [wide(floor), wide(walls), wide(state)].concat(),
+        Call::Run { floor, walls, state, steps, .. } => [wide(floor), wide(walls), wide(state), wide(steps)].concat(),
+        Call::Ceiling { .. } => Vec::new(),
+    }
+}
+
+// ---- Drawn floors ----
+
+/// A floor that is accepted.
+fn draw_floor(draw: &mut Draw, most: usize) -> Floor {
+    let side = |draw: &mut Draw| match draw.below(100) {
+        0..=44 => draw.between(1, 5),
+        45..=79 => draw.between(2, 10.min(most)),
+        _ => draw.between(1, most),
+    };
+    let (width, height) = (side(draw), side(draw));
+    let cells = width * height;
+    let horizon = match draw.below(10) {
+        0..=4 => draw.between(1, 10),
+        5..=7 => draw.between(1, 24),
+        _ => draw.of(&[62, 63, 63, 40, 31]),
+    };
+    let n = draw.between(1, 8.min(cells));
+    let starts = draw.different(n, cells);
+    let mut goals = draw.different(n, cells);
+    if draw.percent(25) {
+        // Carriers that change places with one another.
+        goals = starts.clone();
+        goals.rotate_left(draw.below(n));
+    }
+    let chance = draw.of(&[0, 0, 5, 15, 30, 50, 100]);
+    let is_wall = |draw: &mut Draw, c: &usize| !starts.contains(c) && !goals.contains(c) && draw.percent(chance);
+    let walls: Vec<usize> = (0..cells).filter(|c| is_wall(draw, c)).collect();
+    Floor { width, height, horizon, depth: draw.between(1, 4), starts, goals, walls }
+}
+
+/// A number that may be outside the limits of a field.
+fn odd(draw: &mut Draw, cells: usize) -> usize {
+    let drawn = draw.below(40);
+    draw.of(&[
+        0,
+        1,
+        2,
+        3,
+        4,
+        5,
+        7,
+        8,
+        9,
+        31,
+        32,
+        33,
+        62,
+        63,
+        64,
+        255,
+        256,
+        999,
+        1000,
+        1022,
+        1023,
+        1024,
+        65535,
+        drawn,
+        cells,
+        cells - 1,
+    ])
+}
+
+/// The lines of a floor's sheet, as numbers.
+fn lines_of(floor: &Floor) -> Vec<Vec<usize>> {
+    let text = paper::sheet_of(floor);
+    text.lines().map(|line| line.split_whitespace().map(|field| field.parse().unwrap()).collect()).collect()
+}
+
+/// Spoils the numbers of a sheet in one way: a field, a wall's order, a double, a start on a wall, a count.
+fn spoil_lines(draw: &mut Draw, lines: &mut [Vec<usize>], floor: &Floor) {
+    let (n, walls) = (floor.carriers(), floor.walls.len());
+    let carrier = 1 + draw.below(n);
+    let wall = |draw: &mut Draw| 1 + n + draw.below(walls.max(1));
+    match draw.below(8) {
+        0 => lines[0][draw.below(6)] = odd(draw, floor.cells()),
+        1 => lines[carrier][draw.below(4)] = odd(draw, floor.cells()),
+        2 if walls > 0 => lines[wall(draw)][draw.below(2)] = odd(draw, floor.cells()),
+        3 if walls > 1 => lines.swap(wall(draw), wall(draw)),
+        4 if walls > 1 => {
+            let copy = lines[wall(draw)].clone();
+            lines[wall(draw)] = copy;
+        }
+        5 if walls > 0 => {
+            let onto = lines[wall(draw)].clone();
+            let half = 2 * draw.below(2);
+            lines[carrier][half..half + 2].copy_from_slice(&onto);
+        }
+        6 => {
+            let other = lines[1 + draw.below(n)].clone();
+            let half = 2 * draw.below(2);
+            lines[carrier][half..half + 2].copy_from_slice(&other[half..half + 2]);
+        }
+        7 => {
+            let line = draw.below(lines.len());
+            let field = draw.below(lines[line].len());
+            lines[line][field] = draw.of(&[10000, 65536, 65537, 65536 + floor.width, 99999, 32768]);
+        }
+        _ => lines[0][5] = (lines[0][5] + 1).saturating_sub(2 * draw.below(2)),
+    }
+}
+
+/// Spoils the bytes of a sheet in one way: flipped bytes, cut short, longer, a byte put in or taken out, a field laid out otherwise.
+fn spoil_bytes(draw: &mut Draw, text: &mut Vec<u8>) {
+    let byte = |draw: &mut Draw| {
+        let any = draw.next() as u8;
+        draw.of(&[b' ', b'0', b'1', b'9', b'\n', b'\r', b'\t', b'-', b'+', b'.', b'/', b':', 0, 255, any, any])
+    };
+    // Early places more often: most refusals of form lie there in short sheets, but long sheets hide them.
+    let place = |draw: &mut Draw, length: usize| {
+        let near = length.min(60);
+        if draw.percent(50) {
+            draw.below(near.max(1))
+        } else {
+            draw.below(length.max(1))
+        }
+    };
+    match draw.below(9) {
+        0..=2 if !text.is_empty() => {
+            for _ in 0..draw.between(1, 3) {
+                let at = place(draw, text.len());
+                text[at] = byte(draw);
+            }
+        }
+        3 | 4 => text.truncate(place(draw, text.len() + 1)),
+        5 => {
+            for _ in 0..draw.between(1, 12) {
+                text.push(byte(draw));
+            }
+        }
+        6 => {
+            let at = place(draw, text.len() + 1).min(text.len());
+            text.insert(at, byte(draw));
+        }
+        7 if !text.is_empty() => {
+            text.remove(place(draw, text.len()));
+        }
+        _ if text.len() >= 31 => {
+            let field = 5 * draw.below(6);
+            let form = draw.of(&[b"   03", b"3    ", b"  3  ", b"     ", b"00000", b"   +3", b"  0 3", b"0x003", b"    \n"]);
+            text[field..field + 5].copy_from_slice(form);
+        }
+        _ => text.push(b'\n'),
+    }
+}
+
+/// A sheet, mostly damaged, and the floor that it was made from.
+fn draw_sheet(draw: &mut Draw) -> (Vec<u8>, Floor) {
+    let floor = draw_floor(draw, 32);
+    if draw.percent(1) {
+        let length = draw.below(80);
+        return ((0..length).map(|_| draw.of(b"    0123\n")).collect(), floor);
+    }
+    let mut lines = lines_of(&floor);
+    let (in_lines, in_bytes) = draw.of(&[(0, 0), (0, 0), (0, 0), (1, 0), (1, 0), (1, 0), (2, 0), (0, 1), (0, 1), (1, 1), (0, 2)]);
+    for _ in 0..in_lines {
+        spoil_lines(draw, &mut lines, &floor);
+    }
+    let mut text: Vec<u8> = lines.iter().flat_map(|line| paper::text_line(line).into_bytes()).collect();
+    for _ in 0..in_bytes {
+        spoil_bytes(draw, &mut text);
+    }
+    (text, floor)
+}
+
+/// A floor as a lent record and lent walls, with junk in the places that are no part of it.
+fn draw_record(draw: &mut Draw, floor: &Floor) -> (Vec<u16>, Vec<u16>) {
+    let mut record = paper::record_of(floor).to_vec();
+    for i in floor.carriers()..8 {
+        record[6 + i] = draw.next() as u16;
+        record[14 + i] = draw.next() as u16;
+    }
+    let mut walls: Vec<u16> = floor.walls.iter().map(|&c| c as u16).collect();
+    for _ in 0..draw.below(4) {
+        record.push(draw.next() as u16);
+        walls.push(draw.next() as u16);
+    }
+    (record, walls)
+}
+
+/// Spoils a record or its walls in one way.
+fn spoil_record(draw: &mut Draw, record: &mut Vec<u16>, walls: &mut Vec<u16>, floor: &Floor) {
+    let (n, count) = (floor.carriers(), floor.walls.len());
+    let i = draw.below(n);
+    let side = draw.of(&[6, 14]);
+    match draw.below(9) {
+        0 => record[draw.below(6)] = odd(draw, floor.cells()) as u16,
+        1 => record[side + i] = odd(draw, floor.cells()) as u16,
+        2 if count > 0 => walls[draw.below(count)] = odd(draw, floor.cells()) as u16,
+        3 if count > 1 => walls.swap(draw.below(count), draw.below(count)),
+        4 if count > 1 => walls[draw.below(count)] = walls[draw.below(count)],
+        5 if count > 0 => record[side + i] = walls[draw.below(count)],
+        6 => record[side + i] = record[side + draw.below(n)],
+        7 => walls.truncate(draw.below(walls.len() + 1)),
+        8 if draw.percent(30) => record.truncate(draw.below(22)),
+        _ => record[5] = record[5].wrapping_add(1),
+    }
+}
+
+/// Views lent to a search: answers as they come, none, not heard, and numbers that are no route.
+fn draw_views(draw: &mut Draw, floor: &Floor) -> Vec<u16> {
+    let (w, cells) = (floor.width, floor.cells());
+    let mut views = Vec::new();
+    for i in 0..floor.carriers() {
+        let tag = draw.of(&[2, 2, 2, 2, 2, 1, 0, 3, 65535]);
+        views.push(tag);
+        let wild = draw.percent(10);
+        let mut c = draw.of(&[floor.starts[i], draw.0 as usize % cells, floor.goals[draw.0 as usize % floor.carriers()]]);
+        for _ in 0..64 {
+            views.push(if wild { draw.of(&[c as u16, cells as u16, 65535]) } else { c as u16 });
+            let near = draw.of(&[c.wrapping_sub(w), c.wrapping_sub(1), c, c + 1, c + w]);
+            if near < cells && draw.percent(80) {
+                c = near;
+            }
+        }
+    }
+    views
+}
+
+/// A length that is mostly enough, at times longer, seldom too short.
+fn about(draw: &mut Draw, needed: usize) -> usize {
+    match draw.below(100) {
+        0..=3 => needed.saturating_sub(1),
+        4 => draw.below(needed + 1),
+        5..=60 => needed,
+        _ => needed + draw.between(1, 9),
+    }
+}
+
+// ---- The cases ----
+
+/// One sheet: read, printed, and written again; then its floor as a record, at times spoilt, through the entries over records.
+fn sheet_case(seed: u64, tally: &mut Tally) -> bool {
+    let draw = &mut Draw(seed.wrapping_mul(0x5851_f42d_4c95_7f2d));
+    let (bytes, floor) = draw_sheet(draw);
+    let text = Lent::of(&bytes, draw.next() as u8);
+
+    let room = if draw.percent(50) { floor.walls.len() } else { 1023 };
+    let record_length = about(draw, 22);
+    let wall_length = about(draw, room);
+    let call = Call::ReadSheet { text: text.clone(), floor: junk(draw, record_length), walls: junk(draw, wall_length) };
+    let (word, call) = tally.compare(call);
+    let accepted = word == 0;
+    if let (true, Call::ReadSheet { floor, walls, .. }) = (accepted, call) {
+        let length = about(draw, bytes.len());
+        let (word, call) = tally.compare(Call::WriteSheet { floor, walls, out: junk_bytes(draw, length) });
+        if let (true, Call::WriteSheet { out, .. }) = (word & 255 == 0, call) {
+            if word >> 16 != bytes.len() as u64 || out.part()[..bytes.len()] != bytes[..] {
+                tally.fault("a sheet that is read and written is another");
+            }
+        }
+    }
+
+    let lengths = [about(draw, 1023), about(draw, 520), about(draw, 2659)];
+    let (walls, answers) = (junk(draw, lengths[0]), junk(draw, lengths[1]));
+    let call = Call::PrintRoutes { text, walls, answers, out: junk_bytes(draw, lengths[2]) };
+    tally.compare(call);
+
+    let (mut record, mut walls) = draw_record(draw, &floor);
+    for _ in 0..draw.of(&[0, 0, 1, 1, 2, 3]) {
+        if record.len() >= 22 && walls.len() >= floor.walls.len() {
+            spoil_record(draw, &mut record, &mut walls, &floor);
+        }
+    }
+    let margin = draw.next() as u16;
+    let (record, walls) = (Lent::of(&record, margin), Lent::of(&walls, margin));
+    tally.compare(Call::CheckFloor { floor: record.clone(), walls: walls.clone() });
+    let length = about(draw, 5);
+    let out = Lent::of(&vec![draw.next(); length], 77);
+    tally.compare(Call::NeededLengths { floor: record.clone(), out });
+    let length = about(draw, bytes.len());
+    tally.compare(Call::WriteSheet { floor: record.clone(), walls: walls.clone(), out: junk_bytes(draw, length) });
+
+    let answers_length = about(draw, 65 * floor.carriers());
+    let answers = junk(draw, answers_length);
+    tally.compare(Call::Plan { floor: record.clone(), walls: walls.clone(), answers });
+    for _ in 0..3 {
+        let mut views = draw_views(draw, &floor);
+        views.resize(answers_length, 2);
+        let views = Lent::of(&views, margin);
+        let n = floor.carriers();
+        let carrier = draw.of(&[n, n, n, 1, 1 + n / 2, draw.0 as usize % n + 1, 0, n + 1, 65535]) as u16;
+        let length = about(draw, 64);
+        let route = junk(draw, length);
+        tally.compare(Call::Search { floor: record.clone(), walls: walls.clone(), carrier, views, route });
+    }
+    accepted
+}
+
+/// A number for a step: open, named, or naming nothing.
+fn draw_step(draw: &mut Draw, floor: &Floor, state: Option<&paper::State>, odd: usize) -> u16 {
+    let named = paper::steps_of(floor.carriers());
+    if draw.percent(odd) {
+        let any = draw.next() as u16;
+        let near = draw.below(300) as u16;
+        return draw.of(&[0, 1, 99, 100, 109, 110, 112, 200, 201, 210, 211, 221, 222, 289, 301, any, near, near]);
+    }
+    let open: Vec<u16> = match state {
+        Some(state) => named.iter().filter(|(_, step)| state.is_open(floor, *step)).map(|(number, _)| *number).collect(),
+        None => Vec::new(),
+    };
+    if !open.is_empty() && draw.percent(70) {
+        draw.of(&open)
+    } else {
+        draw.of(&named).0
+    }
+}
+
+/// Changes a number of a state.
+fn spoil_state(draw: &mut Draw, state: &mut Lent<u16>, floor: &Floor) {
+    let n = floor.carriers();
+    let pairs = n * (n - 1) / 2;
+    let (views, channels) = (2 + 67 * n, 2 + 67 * n + 65 * pairs);
+    // The head of each part more often than its 64 cells.
+    let mut places = vec![draw.below(2), 2 + 67 * draw.below(n) + draw.below(4), draw.below(paper::state_length(n))];
+    if pairs > 0 {
+        places.push(views + 65 * draw.below(pairs) + draw.below(2));
+        places.push(channels + 261 * draw.below(pairs));
+        places.push(channels + 261 * draw.below(pairs) + 1 + 65 * draw.below(4) + draw.below(2));
+        let beat = draw.of(&[0, floor.horizon, floor.horizon + 1, 63]);
+        places.push(views + 65 * draw.below(pairs) + 1 + beat.min(63));
+        places.push(channels + 261 * draw.below(pairs) + 2 + 65 * draw.below(4) + beat.min(63));
+    }
+    let place = draw.of(&places);
+    let value = match place {
+        0 | 1 => draw.of(&[0, 1, 998, 999, 1000, 1001, 65535]),
+        _ => odd(draw, floor.cells()) as u16,
+    };
+    match draw.below(10) {
+        0 => {
+            // The count at its end.
+            state.part_mut()[0] = 999;
+            state.part_mut()[1] = draw.of(&[997, 998, 999]);
+        }
+        1 if pairs > 0 => {
+            // A channel of nones: as many as it holds, one too many, or one less than it says.
+            let at = channels + 261 * draw.below(pairs);
+            let length = draw.of(&[1, floor.depth, floor.depth + 1]).min(4);
+            let messages = length - draw.below(4) / 3;
+            let channel = &mut state.part_mut()[at..at + 261];
+            channel.fill(0);
+            channel[0] = length as u16;
+            (0..messages).for_each(|k| channel[1 + 65 * k] = 1);
+        }
+        _ => state.part_mut()[place] = value,
+    }
+}
+
+/// A list of calls on one state: steps and runs, refused ones included, memory too short, spoilt floors and spoilt states.
+fn list_case(seed: u64, tally: &mut Tally) {
+    let draw = &mut Draw(seed.wrapping_mul(0x2545_f491_4f6c_dd1d) ^ 0xface);
+    let most = draw.of(&[5, 5, 10, 10, 10, 32]);
+    let floor = draw_floor(draw, most);
+    let n = floor.carriers();
+    let needed = paper::state_length(n);
+    let (record, walls) = draw_record(draw, &floor);
+    let margin = draw.next() as u16;
+    let (good_record, good_walls) = (Lent::of(&record, margin), Lent::of(&walls, margin));
+    let extra = draw.of(&[0, 0, 1, 7, 70]);
+    let mut state = junk(draw, needed + extra);
+    if draw.percent(5) {
+        state.part_mut().fill(0);
+    }
+    if draw.percent(95) {
+        let call = Call::Fresh { floor: good_record.clone(), walls: good_walls.clone(), state };
+        let (_, call) = tally.compare(call);
+        let Call::Fresh { state: left, .. } = call else { unreachable!() };
+        state = left;
+    }
+    for _ in 0..draw.between(4, 24) {
+        let (mut record, mut walls, mut length) = (good_record.clone(), good_walls.clone(), state.length);
+        let before = state.clone();
+        let mut spoilt = false;
+        match draw.below(100) {
+            0..=3 => {
+                let (mut r, mut w) = (record.part().to_vec(), walls.part().to_vec());
+                spoil_record(draw, &mut r, &mut w, &floor);
+                (record, walls) = (Lent::of(&r, margin), Lent::of(&w, margin));
+            }
+            4..=5 => length = if draw.percent(60) { needed - 1 } else { draw.below(needed) },
+            6 => length = needed,
+            7..=14 => {
+                spoilt = true;
+                for _ in 0..draw.of(&[1, 1, 1, 2]) {
+                    spoil_state(draw, &mut state, &floor);
+                }
+            }
+            _ => {}
+        }
+        let lent = state.clone().cut(length);
+        let now = paper::decode(&floor, &state.part()[..needed]);
+        let again = if now.as_ref().is_some_and(|now| now.is_silent(&floor)) { 25 } else { 2 };
+        let call = match draw.below(100) {
+            kind if kind < again => Call::Fresh { floor: record, walls, state: lent },
+            0..=64 => {
+                let step = draw_step(draw, &floor, now.as_ref(), 8);
+                Call::Step { floor: record, walls, state: lent, step }
+            }
+            _ => {
+                let count = draw.of(&[0, 1, 2, 3, 5, 8, 13, 30]);
+                let odd = if draw.percent(15) { 10 } else { 0 };
+                let steps: Vec<u16> = (0..count).map(|_| draw_step(draw, &floor, now.as_ref(), odd)).collect();
+                let drawn = draw.below(40) as u16;
+                let budget = draw.of(&[0, 1, 2, 3, 5, 100, 65535, drawn, count, count]);
+                Call::Run { floor: record, walls, state: lent, steps: Lent::of(&steps, margin), budget }
+            }
+        };
+        let (_, call) = tally.compare(call);
+        let (Call::Fresh { state: left, .. } | Call::Step { state: left, .. } | Call::Run { state: left, .. }) = call else {
+            unreachable!()
+        };
+        state.all = left.all;
+        // A state that is no longer one would be refused by every later call.
+        let valid = paper::decode(&floor, &state.part()[..needed]).is_some();
+        if spoilt && (!valid || draw.percent(40)) {
+            state = before;
+        }
+    }
+    if draw.percent(30) {
+        // To silence, in an order of its own: what is left is the planner's, as long as nobody spoilt the state.
+        let named: Vec<u16> = paper::steps_of(n).iter().map(|(number, _)| *number).collect();
+        let order = draw.different(named.len(), named.len());
+        let steps: Vec<u16> = (0..(1 << n) + 4).flat_map(|_| order.iter().map(|&k| named[k])).collect();
+        let call = Call::Run { floor: good_record, walls: good_walls, state, steps: Lent::of(&steps, margin), budget: 65535 };
+        tally.compare(call);
+    }
+}
+
+/// The ceiling of every number of carriers.
+fn ceilings(tally: &mut Tally) {
+    tally.replay = "".into();
+    for carriers in 0..=u16::MAX {
+        tally.compare(Call::Ceiling { carriers });
+    }
+}
+
+fn main() {
+    let words: Vec<String> = std::env::args().skip(1).collect();
+    let words: Vec<&str> = words.iter().map(String::as_str).collect();
+    let number = |word: &str| {
+        word.parse::<u64>().unwrap_or_else(|_| {
+            eprintln!("compare: {word} is no number");
+            exit(2);
+        })
+    };
+    let whole = words.is_empty();
+    let mut tally = Tally::default();
+    let (sheets, lists) = match words[..] {
+        [] => ((1, SHEETS), (1, LISTS)),
+        ["sheets", from, count] => ((number(from), number(count)), (1, 0)),
+        ["lists", from, count] => ((1, 0), (number(from), number(count))),
+        ["sheet", seed] => ((number(seed), 1), (1, 0)),
+        ["list", seed] => ((1, 0), (number(seed), 1)),
+        _ => {
+            eprintln!("usage: compare [sheets FROM COUNT | lists FROM COUNT | sheet SEED | list SEED]");
+            exit(2);
+        }
+    };
+    tally.verbose = matches!(words[..], ["sheet" | "list", _]);
+    let begin = Instant::now();
+    let mut accepted = 0;
+    for seed in sheets.0..sheets.0 + sheets.1 {
+        tally.replay = format!("sheet {seed}");
+        accepted += sheet_case(seed, &mut tally) as u64;
+    }
+    let by_sheets = tally.calls;
+    for seed in lists.0..lists.0 + lists.1 {
+        tally.replay = format!("list {seed}");
+        list_case(seed, &mut tally);
+    }
+    let by_lists = tally.calls - by_sheets;
+    if whole {
+        ceilings(&mut tally);
+    }
+    tally.print();
+    println!(
+        "compare: {} sheets ({accepted} read, {} calls), {} lists ({by_lists} calls), {} calls in all: library and paper agree, in {:.1} s",
+        sheets.1,
+        by_sheets,
+        lists.1,
+        tally.calls,
+        begin.elapsed().as_secs_f64()
+    );
+    if whole && !tally.complete() {
+        exit(1);
+    }
+}

@@ -1,0 +1,293 @@
+//! The routes program over `paper.rs` alone: a sheet on standard input, its routes on standard output. It needs no archive.
+//! Its tests (`cargo test --bin paper`) hold `paper.rs` to document 01's twelve floors, its search to a search of all routes, and the
+//! benchmark's other planners to `paper.rs`.
+
+#[cfg(test)]
+#[path = "../astar.rs"]
+mod astar;
+#[cfg(test)]
+#[path = "../bits.rs"]
+mod bits;
+#[cfg(test)]
+#[path = "../draw.rs"]
+mod draw;
+#[path = "../paper.rs"]
+mod paper;
+
+use std::io::{Read, Write};
+
+fn main() -> std::io::Result<()> {
+    let mut text = Vec::new();
+    std::io::stdin().read_to_end(&mut text)?;
+    std::io::stdout().write_all(paper::print_routes(&text).as_bytes())
+}
+
+#[cfg(test)]
+mod tests {
+    use super::draw::Draw;
+    use super::paper::{self, calls, Answer, Floor, Route, View};
+
+    const SHEET: &str = "    3    2    4    1    2    0\n    0    0    2    0\n    2    0    0    0\n";
+
+    fn done(case: u64, number: u64) -> u64 {
+        case << 8 | number << 16
+    }
+
+    fn refused(number: u64, place: u64) -> u64 {
+        1 | number << 8 | place << 16
+    }
+
+    /// A floor without walls.
+    fn bare(width: usize, height: usize, horizon: usize, depth: usize, pairs: &[(usize, usize)]) -> Floor {
+        let starts = pairs.iter().map(|p| p.0).collect();
+        let goals = pairs.iter().map(|p| p.1).collect();
+        Floor { width, height, horizon, depth, starts, goals, walls: Vec::new() }
+    }
+
+    fn fresh_memory(record: &[u16]) -> Vec<u16> {
+        let mut memory = vec![7; paper::state_length(record[4] as usize)];
+        assert_eq!(calls::fresh(record, &[], &mut memory), done(0, 0));
+        memory
+    }
+
+    fn cells(route: &Answer, horizon: usize) -> Vec<u16> {
+        route.expect("a route")[..=horizon].to_vec()
+    }
+
+    #[test]
+    fn floors_1_to_3() {
+        let (answers, failing) = paper::plan(&bare(1, 1, 5, 1, &[(0, 0)]));
+        assert_eq!((paper::arrival_of(&answers[0].unwrap(), 0, 5), failing), (0, 0));
+        let three = "    2    0\n    1    2    0    1    2    2    2\n    2    4    2    5    4    1    0\n";
+        assert_eq!(paper::print_routes(SHEET.as_bytes()), three);
+        let short = SHEET.replacen("    4", "    3", 1);
+        assert_eq!(paper::print_routes(short.as_bytes()), "    2    2\n    1    2    0    1    2    2\n    2 none\n");
+    }
+
+    #[test]
+    fn floors_4_to_6_and_12() {
+        let floor = paper::floor_of_sheet(SHEET.as_bytes()).unwrap();
+        let record = paper::record_of(&floor);
+        let mut memory = fresh_memory(&record);
+        let before = memory.clone();
+        assert_eq!(calls::step(&record, &[], &mut memory, 212), refused(8, 0));
+        assert_eq!(calls::step(&record, &[], &mut memory, 222), refused(7, 0));
+        assert_eq!(memory, before);
+
+        assert_eq!(calls::step(&record, &[], &mut memory, 102), done(1, 0));
+        let state = paper::decode(&floor, &memory).unwrap();
+        assert_eq!(cells(&state.carriers[1].answer, 4), [2, 1, 0, 0, 0]);
+        assert_eq!(calls::step(&record, &[], &mut memory, 101), done(1, 0));
+        assert_eq!(calls::step(&record, &[], &mut memory, 212), done(2, 0));
+        assert_eq!(calls::step(&record, &[], &mut memory, 102), done(1, 0));
+        let state = paper::decode(&floor, &memory).unwrap();
+        assert_eq!(cells(&state.carriers[1].answer, 4), [2, 5, 4, 1, 0]);
+        assert_eq!((state.taken, state.is_silent(&floor)), (4, true));
+
+        let mut short = before;
+        assert_eq!(calls::run(&record, &[], &mut short, &[101, 212, 102], 9), done(0, 3));
+        let other = paper::decode(&floor, &short).unwrap();
+        assert_eq!(other.taken, 3);
+        assert_eq!(other.carriers, state.carriers);
+    }
+
+    #[test]
+    fn floors_7_to_9() {
+        let record = paper::record_of(&paper::floor_of_sheet(SHEET.as_bytes()).unwrap());
+        let mut memory = fresh_memory(&record);
+        assert_eq!(calls::run(&record, &[], &mut memory, &[101], 0), done(1, 0));
+        assert_eq!(calls::run(&record, &[], &mut memory, &[], 0), done(2, 0));
+        let three = paper::record_of(&bare(4, 4, 9, 1, &[(0, 3), (4, 7), (8, 11)]));
+        let mut memory = fresh_memory(&three);
+        let words: Vec<u64> = [102, 101, 212, 102].map(|s| calls::step(&three, &[], &mut memory, s)).to_vec();
+        assert_eq!(words, [done(1, 0), done(1, 0), done(2, 0), refused(8, 0)]);
+    }
+
+    #[test]
+    fn floors_10_and_11() {
+        let read = |text: &str| calls::read_sheet(text.as_bytes(), &mut [0; 22], &mut []);
+        let line = |horizon: &str, carriers: &str| {
+            let sheet = SHEET.replacen("    4", horizon, 1);
+            sheet.replacen("    1    2", &format!("    1{carriers}"), 1)
+        };
+        assert_eq!(read(&line("   63", "    2")), done(0, 0));
+        assert_eq!(read(&line("   64", "    2")), refused(2, 3));
+        assert_eq!(read(&line("    4", "    0")), refused(2, 5));
+        assert_eq!(read(""), refused(1, 0));
+    }
+
+    #[test]
+    fn forms_of_a_sheet() {
+        let place = |text: &str| paper::floor_of_sheet(text.as_bytes()).map_err(|r| (r.number, r.place)).err();
+        assert_eq!(place(SHEET), None);
+        assert_eq!(place(&SHEET[..4]), Some((1, 4)));
+        assert_eq!(place(&SHEET[..30]), Some((1, 30)));
+        assert_eq!(place(&SHEET[..33]), Some((1, 33)));
+        assert_eq!(place(&format!("{SHEET}\n")), Some((1, 73)));
+        assert_eq!(place(&SHEET.replacen("    2", "   02", 1)), Some((1, 5)));
+        assert_eq!(place(&SHEET.replacen("    2", "   2 ", 1)), Some((1, 5)));
+        assert_eq!(place(&SHEET.replacen("    2", "     ", 1)), Some((1, 5)));
+        assert_eq!(place(&SHEET.replacen("    0\n", "    0 ", 1)), Some((1, 30)));
+        assert_eq!(place(&SHEET.replacen("    3", "99999", 1)), Some((2, 1)));
+        assert_eq!(place(&SHEET.replacen("    2    0    0    0", "99999    0    0    0", 1)), Some((3, 2)));
+        assert_eq!(place(&SHEET.replacen("    2    0    0    0", "    0    0    0    0", 1)), Some((6, 2)));
+        let walls = |text: &str| format!("    3    2    4    1    1    2\n    0    0    2    0\n{text}");
+        assert_eq!(place(&walls("    1    0\n    0    1\n")), None);
+        assert_eq!(place(&walls("    0    1\n    1    0\n")), Some((4, 3)));
+        assert_eq!(place(&walls("    0    1\n    0    1\n")), Some((4, 3)));
+        assert_eq!(place(&walls("    0    1\n    0    2\n")), Some((3, 3)));
+        assert_eq!(place(&walls("    2    0\n    0    1\n")), Some((5, 1)));
+    }
+
+    #[test]
+    fn lengths_and_ceiling() {
+        let full = bare(32, 32, 63, 4, &[(0, 1), (1, 2), (2, 3), (3, 4), (4, 5), (5, 6), (6, 7), (7, 8)]);
+        let mut record = paper::record_of(&full);
+        record[5] = 1023;
+        let mut out = [9; 6];
+        assert_eq!(calls::needed_lengths(&record, &mut out), done(0, 0));
+        assert_eq!(out, [1023, 11452, 520, 2659, 9666, 9]);
+        assert_eq!(calls::ceiling(8), done(0, 502));
+        assert_eq!(calls::ceiling(1), done(0, 1));
+        assert_eq!(calls::ceiling(0), refused(2, 5));
+        assert_eq!(calls::ceiling(9), refused(2, 5));
+    }
+
+    /// Document 01's best route, read literally: every route is tried, conflicts are tested route against route.
+    fn best_of_all(floor: &Floor, against: &[Route]) -> Answer {
+        let (start, goal, h) = (floor.starts[0], floor.goals[0], floor.horizon);
+        let legal = |c: usize, d: usize| {
+            let (x, y) = ((c % floor.width) as i32, (c / floor.width) as i32);
+            let (u, v) = ((d % floor.width) as i32, (d / floor.width) as i32);
+            (x - u).abs() + (y - v).abs() <= 1 && !floor.walls.contains(&d)
+        };
+        let conflict = |a: &Route, b: &Route| {
+            (0..=h).any(|t| a[t] == b[t]) || (0..h).any(|t| a[t] != a[t + 1] && a[t] == b[t + 1] && a[t + 1] == b[t])
+        };
+        let mut best: Option<(usize, Route)> = None;
+        let mut paths = vec![vec![start]];
+        for _ in 0..h {
+            let mut longer = Vec::new();
+            for path in &paths {
+                for d in 0..floor.cells() {
+                    if legal(*path.last().unwrap(), d) {
+                        longer.push([path.clone(), vec![d]].concat());
+                    }
+                }
+            }
+            paths = longer;
+        }
+        for path in paths {
+            if path[h] != goal {
+                continue;
+            }
+            let mut route = [0; 64];
+            for t in 0..=h {
+                route[t] = path[t] as u16;
+            }
+            if against.iter().any(|other| conflict(&route, other)) {
+                continue;
+            }
+            let arrival = (0..=h).find(|&a| (a..=h).all(|t| path[t] == goal)).unwrap();
+            if best.is_none_or(|(a, r)| (arrival, route) < (a, r)) {
+                best = Some((arrival, route));
+            }
+        }
+        best.map(|(_, route)| route)
+    }
+
+    #[test]
+    fn the_search_is_the_best_of_all_routes() {
+        let mut draw = Draw(1);
+        let mut found = 0;
+        for _ in 0..3000 {
+            let (w, h) = (1 + draw.below(4), 1 + draw.below(3));
+            let (start, goal) = (draw.below(w * h), draw.below(w * h));
+            let mut floor = bare(w, h, 1 + draw.below(6), 1, &[(start, goal)]);
+            for c in 0..w * h {
+                if c != start && c != goal && draw.below(6) == 0 {
+                    floor.walls.push(c);
+                }
+            }
+            let mut against = Vec::new();
+            for _ in 0..draw.below(4) {
+                let mut route = [0; 64];
+                let mut c = draw.below(w * h + 1);
+                for t in 0..=floor.horizon {
+                    route[t] = c as u16;
+                    let jump = draw.below(8) == 0;
+                    let next = [c.wrapping_sub(w), c.wrapping_sub(1), c, c + 1, c + w][draw.below(5)];
+                    c = if jump || next > w * h { draw.below(w * h + 1) } else { next };
+                }
+                against.push(route);
+            }
+            let best = paper::best_route(&floor, start, goal, &against);
+            assert_eq!(best, best_of_all(&floor, &against), "{floor:?} {against:?}");
+            found += best.is_some() as usize;
+        }
+        assert!((500..2900).contains(&found), "{found} of 3000 have a route");
+    }
+
+    #[test]
+    fn every_schedule_ends_like_the_planner() {
+        let mut draw = Draw(2);
+        for round in 0..300 {
+            let n = 1 + draw.below(5);
+            let pairs: Vec<(usize, usize)> = (0..n).map(|i| (i, 10 + (i + round) % n)).collect();
+            let floor = bare(5, 3, 1 + draw.below(9), 1 + draw.below(4), &pairs);
+            let mut state = paper::fresh(n);
+            let steps = paper::steps_of(n);
+            while !state.is_silent(&floor) {
+                let step = steps[draw.below(steps.len())].1;
+                if state.is_open(&floor, step) {
+                    state.take(&floor, step);
+                }
+                assert_eq!(paper::decode(&floor, &paper::encode(&state)), Some(state.clone()));
+            }
+            assert!(state.taken as usize <= (1 << (n + 1)) - n - 2);
+            let answers: Vec<Answer> = state.carriers.iter().map(|c| c.answer).collect();
+            assert_eq!(answers, paper::plan(&floor).0);
+            let last = state.carriers.last().unwrap();
+            assert!(last.views.iter().enumerate().all(|(j, v)| *v == View::Heard(answers[j])));
+        }
+    }
+
+    #[test]
+    fn the_other_planners_agree() {
+        let mut draw = Draw(3);
+        let mut routes = 0;
+        for _ in 0..1500 {
+            let (w, h) = (draw.between(1, 12), draw.between(1, 12));
+            let cells = w * h;
+            let n = draw.between(1, 8.min(cells));
+            let (starts, goals) = (draw.different(n, cells), draw.different(n, cells));
+            let chance = draw.of(&[0, 10, 40]);
+            let wall = |draw: &mut Draw, c: &usize| !starts.contains(c) && !goals.contains(c) && draw.percent(chance);
+            let walls = (0..cells).filter(|c| wall(&mut draw, c)).collect();
+            let horizon = draw.of(&[3, 7, 12, 20, 63]);
+            let floor = Floor { width: w, height: h, horizon, depth: 1, starts, goals, walls };
+            let (answers, failing) = paper::plan(&floor);
+            routes += answers.iter().flatten().count();
+
+            let (record, walls) = super::bits::numbers(&floor);
+            let (mut memory, mut other) = (vec![7; 65 * n], vec![7; 65 * n]);
+            assert_eq!(super::bits::plan(&record, &walls, &mut memory), failing, "{floor:?}");
+            calls::plan(&record, &walls, &mut other);
+            assert_eq!(memory, other, "{floor:?}");
+
+            let (mut hashed, mut flat) = (super::astar::Hashed::new(&floor), super::astar::Flat::new(&floor));
+            for i in 0..n {
+                let (start, goal) = (floor.starts[i], floor.goals[i]);
+                let arrival = answers[i].map(|route| paper::arrival_of(&route, goal, horizon));
+                assert_eq!(hashed.search(&floor, start, goal).map(|found| found.0), arrival, "{floor:?}");
+                assert_eq!(flat.search(&floor, start, goal).map(|found| found.0), arrival, "{floor:?}");
+                assert_eq!(flat.best(&floor, start, goal).map(|found| found.1), answers[i], "{floor:?}");
+                if let Some(route) = answers[i] {
+                    hashed.reserve(&floor, &route);
+                    flat.reserve(&floor, i, &route);
+                }
+            }
+        }
+        assert!(routes > 2000, "{routes} routes");
+    }
+}

@@ -1,0 +1,251 @@
+//! The competitor: a bit-parallel sequential planner in Rust, a word a row, written for speed and without any check.
+//! Forward sets of cells from the start give the least arrival; going back from there each set keeps the cells that still lead to the
+//! goal; the route takes the smallest of them, beat for beat. What is free at each beat is kept as rows for the whole plan, so that a
+//! planned route is taken out of it once; a swap is an exception, tested for each carrier above and beat.
+
+use crate::paper::Floor;
+
+/// Rows of a set, with an empty row before and after them, so that a row's neighbours need no test.
+type Rows = [u32; 34];
+
+pub struct Planner {
+    width: usize,
+    blocks: usize,
+    horizon: usize,
+    carriers: usize,
+    starts: [u16; 8],
+    goals: [u16; 8],
+    /// No wall and no carrier above, by beat.
+    open: [Rows; 64],
+    /// Forward sets, and then in their place the sets that lead to the goal.
+    sets: [Rows; 64],
+    /// Row (counted from 1) and bit of each planned carrier, by beat.
+    row: [[u8; 8]; 64],
+    bit: [[u32; 8]; 64],
+    /// Carriers above that have a route.
+    above: usize,
+}
+
+/// A block of eight rows after one beat, where nothing is in the way but what is not open.
+#[inline(always)]
+fn spread(set: &Rows, open: &[u32; 8], block: usize) -> [u32; 8] {
+    let s: &[u32; 10] = set[8 * block..8 * block + 10].try_into().unwrap();
+    std::array::from_fn(|k| (s[k + 1] | s[k + 1] << 1 | s[k + 1] >> 1 | s[k] | s[k + 2]) & open[k])
+}
+
+/// The eight rows of a block.
+#[inline(always)]
+fn block_of(rows: &Rows, block: usize) -> &[u32; 8] {
+    rows[8 * block + 1..8 * block + 9].try_into().unwrap()
+}
+
+#[inline(always)]
+fn block_mut(rows: &mut Rows, block: usize) -> &mut [u32; 8] {
+    (&mut rows[8 * block + 1..8 * block + 9]).try_into().unwrap()
+}
+
+/// Whether a cell has a neighbour in the set other than one, which a carrier above would change places with it.
+#[inline(always)]
+fn joined(set: &Rows, row: usize, bit: u32, but_row: usize, but_bit: u32) -> bool {
+    let without = |r: usize| if r == but_row { set[r] & !but_bit } else { set[r] };
+    without(row) & (bit << 1 | bit | bit >> 1) | (without(row - 1) | without(row + 1)) & bit != 0
+}
+
+impl Planner {
+    /// A planner for a floor, with its walls as rows.
+    pub fn new(record: &[u16], walls: &[u16]) -> Planner {
+        let (width, height) = (record[0] as usize, record[1] as usize);
+        let mut free: Rows = [0; 34];
+        let full = if width == 32 { u32::MAX } else { (1 << width) - 1 };
+        free[1..=height].fill(full);
+        // Walls rise, so rows are found without a division.
+        let (mut row, mut first) = (1, 0);
+        for &wall in walls {
+            let wall = wall as usize;
+            while wall >= first + width {
+                first += width;
+                row += 1;
+            }
+            free[row] &= !(1 << (wall - first));
+        }
+        let mut starts = [0; 8];
+        let mut goals = [0; 8];
+        starts.copy_from_slice(&record[6..14]);
+        goals.copy_from_slice(&record[14..22]);
+        Planner {
+            width,
+            blocks: height.div_ceil(8),
+            horizon: record[2] as usize,
+            carriers: record[4] as usize,
+            starts,
+            goals,
+            open: [free; 64],
+            sets: [[0; 34]; 64],
+            row: [[0; 8]; 64],
+            bit: [[0; 8]; 64],
+            above: 0,
+        }
+    }
+
+    /// Whether a carrier above goes from (row, bit) at beat t to (to_row, to_bit) at t + 1.
+    #[inline(always)]
+    fn goes(&self, t: usize, row: usize, bit: u32, to_row: usize, to_bit: u32) -> bool {
+        (0..self.above).any(|j| {
+            self.bit[t][j] == bit
+                && self.row[t][j] as usize == row
+                && self.bit[t + 1][j] == to_bit
+                && self.row[t + 1][j] as usize == to_row
+        })
+    }
+
+    /// The best route of a carrier against those above it, and its arrival.
+    pub fn search(&mut self, carrier: usize, route: &mut [u16]) -> Option<usize> {
+        let (w, h, blocks, k) = (self.width, self.horizon, self.blocks, self.above);
+        let start = self.starts[carrier] as usize;
+        let goal = self.goals[carrier] as usize;
+        let (start_row, start_bit) = (start / w + 1, 1u32 << (start % w));
+        let (goal_row, goal_bit) = (goal / w + 1, 1u32 << (goal % w));
+
+        let mut held = h + 1;
+        while held > 0 && self.open[held - 1][goal_row] & goal_bit != 0 {
+            held -= 1;
+        }
+        if held > h || self.open[0][start_row] & start_bit == 0 {
+            return None;
+        }
+        self.sets[0] = [0; 34];
+        self.sets[0][start_row] = start_bit;
+        let mut t = 0;
+        loop {
+            if t >= held && self.sets[t][goal_row] & goal_bit != 0 {
+                break;
+            }
+            if t == h {
+                return None;
+            }
+            let (before, after) = self.sets.split_at_mut(t + 1);
+            let (now, next) = (&before[t], &mut after[0]);
+            for b in 0..blocks {
+                *block_mut(next, b) = spread(now, block_of(&self.open[t + 1], b), b);
+            }
+            let (to, to_bit, from, from_bit) = (&self.row[t + 1], &self.bit[t + 1], &self.row[t], &self.bit[t]);
+            for j in 0..k {
+                // Somebody may be where carrier j goes; then the cell that j leaves is not entered from there.
+                let (row, bit) = (to[j] as usize, to_bit[j]);
+                if now[row] & bit != 0 {
+                    let (left, left_bit) = (from[j] as usize, from_bit[j]);
+                    if !joined(now, left, left_bit, row, bit) {
+                        next[left] &= !left_bit;
+                    }
+                }
+            }
+            t += 1;
+        }
+        let arrival = t;
+        self.sets[arrival] = [0; 34];
+        self.sets[arrival][goal_row] = goal_bit;
+        for t in (0..arrival).rev() {
+            let (before, after) = self.sets.split_at_mut(t + 1);
+            let (now, next) = (&mut before[t], &after[0]);
+            for b in 0..blocks {
+                let rows = block_mut(now, b);
+                *rows = spread(next, rows, b);
+            }
+            let (to, to_bit, from, from_bit) = (&self.row[t + 1], &self.bit[t + 1], &self.row[t], &self.bit[t]);
+            for j in 0..k {
+                let (row, bit) = (to[j] as usize, to_bit[j]);
+                if now[row] & bit != 0 {
+                    let (left, left_bit) = (from[j] as usize, from_bit[j]);
+                    if !joined(next, row, bit, left, left_bit) {
+                        now[row] &= !bit;
+                    }
+                }
+            }
+        }
+        self.walk(start, arrival, route);
+        route[arrival..=h].fill(goal as u16);
+        Some(arrival)
+    }
+
+    /// The smallest cell that leads to the goal, beat for beat.
+    fn walk(&self, start: usize, arrival: usize, route: &mut [u16]) {
+        let w = self.width;
+        let (mut row, mut bit, mut cell) = (start / w + 1, 1u32 << (start % w), start);
+        route[0] = start as u16;
+        for t in 0..arrival {
+            let set = &self.sets[t + 1];
+            let level = set[row] & (bit >> 1 | bit | bit << 1);
+            let side = level & level.wrapping_neg();
+            // Only where somebody comes in can there be a swap.
+            if self.open[t + 1][row] & bit == 0 {
+                let candidates = [(row - 1, bit, cell.wrapping_sub(w)), (row, bit >> 1, cell.wrapping_sub(1)), (row, bit, cell)];
+                let rest = [(row, bit << 1, cell + 1), (row + 1, bit, cell + w)];
+                let ways = candidates.iter().chain(&rest);
+                let way = ways.copied().find(|&(r, b, _)| set[r] & b != 0 && !self.goes(t, r, b, row, bit));
+                (row, bit, cell) = way.expect("a cell that leads on");
+            } else if set[row - 1] & bit != 0 {
+                (row, cell) = (row - 1, cell - w);
+            } else if side != 0 {
+                cell = cell + side.trailing_zeros() as usize - bit.trailing_zeros() as usize;
+                bit = side;
+            } else {
+                (row, cell) = (row + 1, cell + w);
+            }
+            route[t + 1] = cell as u16;
+        }
+    }
+
+    /// Takes a carrier's route out of what is open.
+    fn reserve(&mut self, route: &[u16]) {
+        let j = self.above;
+        let w = self.width;
+        let (mut row, mut column, mut cell) = (route[0] as usize / w + 1, route[0] as usize % w, route[0] as usize);
+        for t in 0..=self.horizon {
+            let next = route[t] as usize;
+            // One beat goes one cell at most.
+            if next == cell + w && next != cell + 1 || w == 1 && next > cell {
+                row += 1;
+            } else if next + w == cell && next + 1 != cell || w == 1 && next < cell {
+                row -= 1;
+            } else {
+                column = (column + next) - cell;
+            }
+            cell = next;
+            self.row[t][j] = row as u8;
+            self.bit[t][j] = 1 << column;
+            self.open[t][row] &= !(1 << column);
+        }
+        self.above += 1;
+    }
+
+    /// The sequential plan: answers as 65 numbers a carrier; the failing carrier.
+    pub fn plan(&mut self, answers: &mut [u16]) -> usize {
+        let mut failing = 0;
+        for (i, record) in answers.chunks_exact_mut(65).take(self.carriers).enumerate() {
+            let (tag, route) = record.split_first_mut().unwrap();
+            route.fill(0);
+            if self.search(i, route).is_some() {
+                *tag = 2;
+                if i + 1 < self.carriers {
+                    self.reserve(route);
+                }
+            } else {
+                *tag = 1;
+                if failing == 0 {
+                    failing = i + 1;
+                }
+            }
+        }
+        failing
+    }
+}
+
+/// One sequential plan from a record and walls.
+pub fn plan(record: &[u16], walls: &[u16], answers: &mut [u16]) -> usize {
+    Planner::new(record, walls).plan(answers)
+}
+
+/// The record and walls of a floor.
+pub fn numbers(floor: &Floor) -> ([u16; 22], Vec<u16>) {
+    (crate::paper::record_of(floor), floor.walls.iter().map(|&c| c as u16).collect())
+}

@@ -1,0 +1,227 @@
+//! Safe Rust over the proved planning library: routes for up to eight tote carriers on a floor of cells (document 01).
+//!
+//! Memory is always lent by the caller, and a refused call leaves it as it was. [`needed_lengths`] says how much each buffer needs.
+//!
+//! ```no_run
+//! let mut walls = [0; kalomivund::MOST_WALLS];
+//! let floor = kalomivund::read_sheet(b"...", &mut walls)?;
+//! let mut state = vec![0; kalomivund::needed_lengths(&floor)?.state];
+//! kalomivund::fresh(&floor, &walls, &mut state)?;
+//! kalomivund::step(&floor, &walls, &mut state, kalomivund::plan_step(1))?;
+//! # Ok::<(), kalomivund::Refusal>(())
+//! ```
+
+pub mod calls;
+pub mod raw;
+
+/// The numbers of a floor record.
+pub const RECORD: usize = 22;
+/// The most walls that a floor has.
+pub const MOST_WALLS: usize = 1023;
+/// The most numbers that the answers of a floor take.
+pub const MOST_ANSWERS: usize = 520;
+/// The most bytes that a sheet takes.
+pub const MOST_SHEET: usize = 11_452;
+/// The most bytes that printed routes take.
+pub const MOST_TEXT: usize = 2_659;
+/// The most numbers that a state takes.
+pub const MOST_STATE: usize = 9_666;
+
+/// A route: a cell for each beat, 0 after the horizon.
+pub type Route = [u16; 64];
+
+/// A floor record: walls count the cells of a slice that is lent beside it. Cells are row × width + column.
+#[derive(Clone, Copy, PartialEq, Eq, Debug, Default)]
+pub struct Floor {
+    pub width: u16,
+    pub height: u16,
+    pub horizon: u16,
+    pub depth: u16,
+    pub carriers: u16,
+    pub walls: u16,
+    pub starts: [u16; 8],
+    pub goals: [u16; 8],
+}
+
+impl Floor {
+    /// The 22 numbers of the record.
+    pub fn record(&self) -> [u16; RECORD] {
+        let mut record = [0; RECORD];
+        record[..6].copy_from_slice(&[self.width, self.height, self.horizon, self.depth, self.carriers, self.walls]);
+        record[6..14].copy_from_slice(&self.starts);
+        record[14..].copy_from_slice(&self.goals);
+        record
+    }
+
+    /// The record that 22 numbers are.
+    pub fn of_record(record: &[u16; RECORD]) -> Floor {
+        let mut floor = Floor {
+            width: record[0],
+            height: record[1],
+            horizon: record[2],
+            depth: record[3],
+            carriers: record[4],
+            walls: record[5],
+            ..Floor::default()
+        };
+        floor.starts.copy_from_slice(&record[6..14]);
+        floor.goals.copy_from_slice(&record[14..]);
+        floor
+    }
+}
+
+/// A refusal of document 01's table: its number, and the place that the table says.
+#[derive(Clone, Copy, PartialEq, Eq, Debug)]
+pub struct Refusal {
+    pub number: u8,
+    pub place: u32,
+}
+
+impl std::fmt::Display for Refusal {
+    fn fmt(&self, f: &mut std::fmt::Formatter) -> std::fmt::Result {
+        let why = match self.number {
+            1 => "the sheet's form is wrong at byte",
+            2 => "line 1 is outside its limits in field",
+            3 => "a cell lies outside the grid: item",
+            4 => "a wall is not above the one before: item",
+            5 => "a start or goal is a wall: carrier",
+            6 => "an earlier carrier has the same start or goal: carrier",
+            7 => "no such step or carrier: position",
+            8 => "the step is not open: place",
+            9 => "lent memory is too short: place",
+            10 => "the lent state is no state: place",
+            _ => "refused: place",
+        };
+        write!(f, "refusal {}: {} {}", self.number, why, self.place)
+    }
+}
+
+impl std::error::Error for Refusal {}
+
+/// What an answer word says: done with a case and a number, or a refusal.
+pub fn answer_of(word: u64) -> Result<(u8, u64), Refusal> {
+    let second = (word >> 8) as u8;
+    if word as u8 == 0 {
+        Ok((second, word >> 16))
+    } else {
+        Err(Refusal { number: second, place: (word >> 16) as u32 })
+    }
+}
+
+/// The needed length of each lent buffer for a floor, in elements of the buffer.
+#[derive(Clone, Copy, PartialEq, Eq, Debug)]
+pub struct Lengths {
+    /// Cell numbers.
+    pub walls: usize,
+    /// Bytes of the sheet.
+    pub sheet: usize,
+    /// Numbers of the planner's answers, and of the views lent to a search.
+    pub answers: usize,
+    /// Bytes of printed routes.
+    pub text: usize,
+    /// Numbers of a state.
+    pub state: usize,
+}
+
+/// What a taken step was.
+#[derive(Clone, Copy, PartialEq, Eq, Debug)]
+pub enum Stepped {
+    /// Planned, and the answer is what it was: nothing is sent.
+    Kept,
+    /// Planned for the first time or with a new answer, which goes to each carrier below.
+    Sent,
+    /// The oldest message of a channel became a view.
+    Delivered,
+}
+
+/// How a run ended.
+#[derive(Clone, Copy, PartialEq, Eq, Debug)]
+pub enum End {
+    /// No step is open.
+    Silent,
+    /// The budget is used up, and steps are left unread.
+    Spent,
+    /// The list is read to its end, and some step is open.
+    Ended,
+}
+
+/// A run's answer: the number of steps taken, and how it ended.
+#[derive(Clone, Copy, PartialEq, Eq, Debug)]
+pub struct Ran {
+    pub taken: u16,
+    pub end: End,
+}
+
+/// The number of the step 'plan i'.
+pub const fn plan_step(i: u16) -> u16 {
+    100 + i
+}
+
+/// The number of the step 'deliver j to i'.
+pub const fn deliver_step(j: u16, i: u16) -> u16 {
+    200 + 10 * j + i
+}
+
+/// Reads a sheet: its floor, and its walls into lent memory. Refusals 1 to 6, and 9 where the walls do not fit.
+pub fn read_sheet(text: &[u8], walls: &mut [u16]) -> Result<Floor, Refusal> {
+    let mut record = [0; RECORD];
+    answer_of(calls::read_sheet(text, &mut record, walls))?;
+    Ok(Floor::of_record(&record))
+}
+
+/// Writes a floor's sheet: the number of bytes written.
+pub fn write_sheet(floor: &Floor, walls: &[u16], out: &mut [u8]) -> Result<usize, Refusal> {
+    answer_of(calls::write_sheet(&floor.record(), walls, out)).map(|(_, bytes)| bytes as usize)
+}
+
+/// Checks a floor record and its walls.
+pub fn check_floor(floor: &Floor, walls: &[u16]) -> Result<(), Refusal> {
+    answer_of(calls::check_floor(&floor.record(), walls)).map(|_| ())
+}
+
+/// The needed length of each lent buffer. Refusal 2.
+pub fn needed_lengths(floor: &Floor) -> Result<Lengths, Refusal> {
+    let mut out = [0; 5];
+    answer_of(calls::needed_lengths(&floor.record(), &mut out))?;
+    let [walls, sheet, answers, text, state] = out.map(|length| length as usize);
+    Ok(Lengths { walls, sheet, answers, text, state })
+}
+
+/// The best route of a carrier (from 1) against the views of the carriers above it; `None` is the paper's none.
+pub fn search(floor: &Floor, walls: &[u16], carrier: u16, views: &[u16]) -> Result<Option<Route>, Refusal> {
+    let mut route = [0; 64];
+    let (case, _) = answer_of(calls::search(&floor.record(), walls, carrier, views, &mut route))?;
+    Ok((case == 1).then_some(route))
+}
+
+/// Plans all carriers in turn into lent memory, 65 numbers a carrier (1 none, 2 a route; 64 cells): the failing carrier, or 0.
+pub fn plan(floor: &Floor, walls: &[u16], answers: &mut [u16]) -> Result<u16, Refusal> {
+    answer_of(calls::plan(&floor.record(), walls, answers)).map(|(_, failing)| failing as u16)
+}
+
+/// Prints the routes of a sheet, or its refusal's line, into lent memory: the number of bytes. Refusal 9 alone.
+pub fn print_routes(text: &[u8], walls: &mut [u16], answers: &mut [u16], out: &mut [u8]) -> Result<usize, Refusal> {
+    answer_of(calls::print_routes(text, walls, answers, out)).map(|(_, bytes)| bytes as usize)
+}
+
+/// Makes lent memory the fresh state of a floor.
+pub fn fresh(floor: &Floor, walls: &[u16], state: &mut [u16]) -> Result<(), Refusal> {
+    answer_of(calls::fresh(&floor.record(), walls, state)).map(|_| ())
+}
+
+/// Takes a single step, named by [`plan_step`] or [`deliver_step`].
+pub fn step(floor: &Floor, walls: &[u16], state: &mut [u16], step: u16) -> Result<Stepped, Refusal> {
+    let (case, _) = answer_of(calls::step(&floor.record(), walls, state, step))?;
+    Ok([Stepped::Kept, Stepped::Sent, Stepped::Delivered][case as usize])
+}
+
+/// Runs over a list of steps: takes those that are open, in order, as long as the budget allows.
+pub fn run(floor: &Floor, walls: &[u16], state: &mut [u16], steps: &[u16], budget: u16) -> Result<Ran, Refusal> {
+    let (case, taken) = answer_of(calls::run(&floor.record(), walls, state, steps, budget))?;
+    Ok(Ran { taken: taken as u16, end: [End::Silent, End::Spent, End::Ended][case as usize] })
+}
+
+/// The most steps that n carriers can take. Refusal 2, field 5.
+pub fn ceiling(carriers: u16) -> Result<u32, Refusal> {
+    answer_of(calls::ceiling(carriers)).map(|(_, steps)| steps as u32)
+}

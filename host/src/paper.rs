@@ -1,0 +1,810 @@
+//! Document 01, 'Routes for tote carriers on a cell floor', in plain Rust, written from the paper and not from the proved code.
+//! It is what the library is compared with, so it prefers the obvious way to the fast one: a floor is vectors of cells, a search is a
+//! table over (beat, cell), a state is a struct that is decoded from its numbers before each call and encoded after it.
+//! `calls`, at the end, has the library's entries over the same lent memory.
+#![allow(dead_code)]
+
+use std::collections::VecDeque;
+
+/// A route, whole: a cell for each beat, 0 after the horizon.
+pub type Route = [u16; 64];
+
+/// What a carrier has planned: a route, or none.
+pub type Answer = Option<Route>;
+
+/// A refusal of document 01's table.
+#[derive(Clone, Copy, PartialEq, Eq, Debug)]
+pub struct Refusal {
+    pub number: u8,
+    pub place: usize,
+}
+
+fn refuse<T>(number: u8, place: usize) -> Result<T, Refusal> {
+    Err(Refusal { number, place })
+}
+
+// ---- The floor ----
+
+/// An accepted floor: cells are cell numbers, carriers count from 0.
+#[derive(Clone, PartialEq, Eq, Debug)]
+pub struct Floor {
+    pub width: usize,
+    pub height: usize,
+    pub horizon: usize,
+    pub depth: usize,
+    pub starts: Vec<usize>,
+    pub goals: Vec<usize>,
+    pub walls: Vec<usize>,
+}
+
+impl Floor {
+    pub fn carriers(&self) -> usize {
+        self.starts.len()
+    }
+
+    pub fn cells(&self) -> usize {
+        self.width * self.height
+    }
+}
+
+/// Refusal 2: line 1 in its limits, field by field.
+fn limits(line: &[usize; 6]) -> Result<(), Refusal> {
+    let most = [(1, 32), (1, 32), (1, 63), (1, 4), (1, 8), (0, 1023)];
+    for (field, &(least, largest)) in most.iter().enumerate() {
+        if line[field] < least || line[field] > largest {
+            return refuse(2, field + 1);
+        }
+    }
+    Ok(())
+}
+
+/// Refusals 4, 5 and 6 of a floor whose cells all lie in the grid.
+fn apart(floor: &Floor) -> Result<(), Refusal> {
+    let n = floor.carriers();
+    for k in 1..floor.walls.len() {
+        if floor.walls[k] <= floor.walls[k - 1] {
+            return refuse(4, n + k + 1);
+        }
+    }
+    for i in 0..n {
+        if floor.walls.contains(&floor.starts[i]) || floor.walls.contains(&floor.goals[i]) {
+            return refuse(5, i + 1);
+        }
+    }
+    for i in 0..n {
+        if floor.starts[..i].contains(&floor.starts[i]) || floor.goals[..i].contains(&floor.goals[i]) {
+            return refuse(6, i + 1);
+        }
+    }
+    Ok(())
+}
+
+/// The floor that a record of 22 numbers and its walls are: refusals 2, 9 (walls), 3, 4, 5, 6.
+pub fn floor_of_record(record: &[u16], walls: &[u16]) -> Result<Floor, Refusal> {
+    let at = |k: usize| record[k] as usize;
+    let line = [at(0), at(1), at(2), at(3), at(4), at(5)];
+    limits(&line)?;
+    let [width, height, horizon, depth, n, count] = line;
+    if walls.len() < count {
+        return refuse(9, 0);
+    }
+    let floor = Floor {
+        width,
+        height,
+        horizon,
+        depth,
+        starts: (0..n).map(|i| at(6 + i)).collect(),
+        goals: (0..n).map(|i| at(14 + i)).collect(),
+        walls: walls[..count].iter().map(|&c| c as usize).collect(),
+    };
+    for i in 0..n {
+        if floor.starts[i] >= floor.cells() || floor.goals[i] >= floor.cells() {
+            return refuse(3, i + 1);
+        }
+    }
+    for k in 0..count {
+        if floor.walls[k] >= floor.cells() {
+            return refuse(3, n + k + 1);
+        }
+    }
+    apart(&floor)?;
+    Ok(floor)
+}
+
+/// The record of a floor; places past its carriers are 0.
+pub fn record_of(floor: &Floor) -> [u16; 22] {
+    let mut record = [0; 22];
+    let n = floor.carriers();
+    let line = [floor.width, floor.height, floor.horizon, floor.depth, n, floor.walls.len()];
+    for k in 0..6 {
+        record[k] = line[k] as u16;
+    }
+    for i in 0..n {
+        record[6 + i] = floor.starts[i] as u16;
+        record[14 + i] = floor.goals[i] as u16;
+    }
+    record
+}
+
+// ---- The sheet ----
+
+/// The text with the next column.
+struct Reader<'a> {
+    text: &'a [u8],
+    next: usize,
+}
+
+impl Reader<'_> {
+    /// A field: five columns, spaces and then a decimal number without leading zeros.
+    fn field(&mut self) -> Result<usize, Refusal> {
+        let here = self.next;
+        if self.text.len() - here < 5 {
+            return refuse(1, self.text.len());
+        }
+        let columns = &self.text[here..here + 5];
+        let spaces = columns.iter().take_while(|&&b| b == b' ').count();
+        let digits = &columns[spaces..];
+        let decimal = !digits.is_empty() && digits.iter().all(u8::is_ascii_digit);
+        let leading_zero = digits.len() > 1 && digits[0] == b'0';
+        if !decimal || leading_zero {
+            return refuse(1, here);
+        }
+        self.next = here + 5;
+        Ok(digits.iter().fold(0, |value, &b| value * 10 + (b - b'0') as usize))
+    }
+
+    /// A line: its fields and one newline.
+    fn line<const N: usize>(&mut self) -> Result<[usize; N], Refusal> {
+        let mut fields = [0; N];
+        for field in fields.iter_mut() {
+            *field = self.field()?;
+        }
+        match self.text.get(self.next) {
+            None => return refuse(1, self.text.len()),
+            Some(b'\n') => self.next += 1,
+            Some(_) => return refuse(1, self.next),
+        }
+        Ok(fields)
+    }
+}
+
+/// The floor that a sheet is: line 1's form, 2, the other lines' form, 3, 4, 5, 6.
+pub fn floor_of_sheet(text: &[u8]) -> Result<Floor, Refusal> {
+    let mut reader = Reader { text, next: 0 };
+    let line = reader.line::<6>()?;
+    limits(&line)?;
+    let [width, height, horizon, depth, n, count] = line;
+    let mut carriers = Vec::new();
+    for _ in 0..n {
+        carriers.push(reader.line::<4>()?);
+    }
+    let mut walls = Vec::new();
+    for _ in 0..count {
+        walls.push(reader.line::<2>()?);
+    }
+    if reader.next < text.len() {
+        return refuse(1, reader.next);
+    }
+    let outside = |column: usize, row: usize| column >= width || row >= height;
+    for i in 0..n {
+        let [a, b, c, d] = carriers[i];
+        if outside(a, b) || outside(c, d) {
+            return refuse(3, i + 1);
+        }
+    }
+    for k in 0..count {
+        if outside(walls[k][0], walls[k][1]) {
+            return refuse(3, n + k + 1);
+        }
+    }
+    let floor = Floor {
+        width,
+        height,
+        horizon,
+        depth,
+        starts: carriers.iter().map(|c| c[1] * width + c[0]).collect(),
+        goals: carriers.iter().map(|c| c[3] * width + c[2]).collect(),
+        walls: walls.iter().map(|c| c[1] * width + c[0]).collect(),
+    };
+    apart(&floor)?;
+    Ok(floor)
+}
+
+/// A line of fields as text.
+pub fn text_line(fields: &[usize]) -> String {
+    let mut line: String = fields.iter().map(|value| format!("{value:5}")).collect();
+    line.push('\n');
+    line
+}
+
+/// The sheet of a floor.
+pub fn sheet_of(floor: &Floor) -> String {
+    let w = floor.width;
+    let mut text = text_line(&[w, floor.height, floor.horizon, floor.depth, floor.carriers(), floor.walls.len()]);
+    for i in 0..floor.carriers() {
+        let (s, g) = (floor.starts[i], floor.goals[i]);
+        text += &text_line(&[s % w, s / w, g % w, g / w]);
+    }
+    for &c in &floor.walls {
+        text += &text_line(&[c % w, c / w]);
+    }
+    text
+}
+
+// ---- Routes and the best route ----
+
+/// The least beat from which a route is at its goal through the horizon.
+pub fn arrival_of(route: &Route, goal: usize, horizon: usize) -> usize {
+    let mut arrival = horizon;
+    while arrival > 0 && route[arrival - 1] as usize == goal {
+        arrival -= 1;
+    }
+    arrival
+}
+
+/// The best route from a start to a goal against a set of routes.
+///
+/// `reached[t][c]`: some legal path from the start is in c at beat t. The arrival is the least beat at which the goal is reached and
+/// from which it stays free. `leads[t][c]`: some legal path from c at beat t is at the goal from the arrival on. The route takes the
+/// smallest cell that still leads there, beat for beat.
+pub fn best_route(floor: &Floor, start: usize, goal: usize, against: &[Route]) -> Answer {
+    let (w, cells, horizon) = (floor.width, floor.cells(), floor.horizon);
+    let mut free = vec![vec![true; cells]; horizon + 1];
+    for beat in free.iter_mut() {
+        for &c in &floor.walls {
+            beat[c] = false;
+        }
+    }
+    for route in against {
+        for t in 0..=horizon {
+            if (route[t] as usize) < cells {
+                free[t][route[t] as usize] = false;
+            }
+        }
+    }
+    let swaps = |t: usize, c: usize, d: usize| against.iter().any(|r| r[t] as usize == d && r[t + 1] as usize == c);
+    // The cells to which one may stay or go from c, by rising cell number.
+    let beside: Vec<Vec<usize>> = (0..cells)
+        .map(|c| {
+            let mut near = Vec::new();
+            if c >= w {
+                near.push(c - w);
+            }
+            if c % w > 0 {
+                near.push(c - 1);
+            }
+            near.push(c);
+            if c % w + 1 < w {
+                near.push(c + 1);
+            }
+            if c + w < cells {
+                near.push(c + w);
+            }
+            near
+        })
+        .collect();
+
+    let mut reached = vec![vec![false; cells]; horizon + 1];
+    reached[0][start] = free[0][start];
+    for t in 0..horizon {
+        for c in 0..cells {
+            if reached[t][c] {
+                for &d in &beside[c] {
+                    if free[t + 1][d] && !swaps(t, c, d) {
+                        reached[t + 1][d] = true;
+                    }
+                }
+            }
+        }
+    }
+    let stays_free = |from: usize| (from..=horizon).all(|t| free[t][goal]);
+    let arrival = (0..=horizon).find(|&t| reached[t][goal] && stays_free(t))?;
+
+    let mut leads = vec![vec![false; cells]; arrival + 1];
+    leads[arrival][goal] = true;
+    for t in (0..arrival).rev() {
+        for c in 0..cells {
+            leads[t][c] = free[t][c] && beside[c].iter().any(|&d| leads[t + 1][d] && !swaps(t, c, d));
+        }
+    }
+    let mut route = [0; 64];
+    let mut c = start;
+    route[0] = c as u16;
+    for t in 0..arrival {
+        c = *beside[c].iter().find(|&&d| leads[t + 1][d] && !swaps(t, c, d)).expect("a reached goal is led to");
+        route[t + 1] = c as u16;
+    }
+    for t in arrival..=horizon {
+        route[t] = goal as u16;
+    }
+    Some(route)
+}
+
+/// The sequential planner: each carrier best against the answers above it; with it the failing carrier.
+pub fn plan(floor: &Floor) -> (Vec<Answer>, usize) {
+    let mut answers: Vec<Answer> = Vec::new();
+    for i in 0..floor.carriers() {
+        let above: Vec<Route> = answers.iter().flatten().copied().collect();
+        answers.push(best_route(floor, floor.starts[i], floor.goals[i], &above));
+    }
+    let failing = answers.iter().position(|a| a.is_none()).map_or(0, |i| i + 1);
+    (answers, failing)
+}
+
+/// What the routes program prints for a sheet.
+pub fn print_routes(text: &[u8]) -> String {
+    let floor = match floor_of_sheet(text) {
+        Ok(floor) => floor,
+        Err(r) => return text_line(&[0, r.number as usize, r.place]),
+    };
+    let (answers, failing) = plan(&floor);
+    let mut out = text_line(&[floor.carriers(), failing]);
+    for (i, answer) in answers.iter().enumerate() {
+        match answer {
+            None => out += &format!("{:5} none\n", i + 1),
+            Some(route) => {
+                let mut fields = vec![i + 1, arrival_of(route, floor.goals[i], floor.horizon)];
+                fields.extend(route[..=floor.horizon].iter().map(|&c| c as usize));
+                out += &text_line(&fields);
+            }
+        }
+    }
+    out
+}
+
+// ---- The machine ----
+
+/// What a carrier has heard of a carrier above it.
+#[derive(Clone, Copy, PartialEq, Eq, Debug)]
+pub enum View {
+    Unheard,
+    Heard(Answer),
+}
+
+#[derive(Clone, PartialEq, Eq, Debug)]
+pub struct Carrier {
+    pub planned: bool,
+    pub due: bool,
+    pub answer: Answer,
+    /// Of each carrier above.
+    pub views: Vec<View>,
+    /// From each carrier above, the oldest message in front.
+    pub channels: Vec<VecDeque<Answer>>,
+}
+
+#[derive(Clone, PartialEq, Eq, Debug)]
+pub struct State {
+    pub taken: u32,
+    pub carriers: Vec<Carrier>,
+}
+
+/// A step, its carriers counted from 0.
+#[derive(Clone, Copy, PartialEq, Eq, Debug)]
+pub enum Step {
+    Plan(usize),
+    Deliver { from: usize, to: usize },
+}
+
+/// What a step was, once taken.
+#[derive(Clone, Copy, PartialEq, Eq, Debug)]
+pub enum Stepped {
+    Kept,
+    Sent,
+    Delivered,
+}
+
+/// How a run ended.
+#[derive(Clone, Copy, PartialEq, Eq, Debug)]
+pub enum End {
+    Silent,
+    Spent,
+    Ended,
+}
+
+/// Every step that n carriers can name, by its number.
+pub fn steps_of(n: usize) -> Vec<(u16, Step)> {
+    let mut steps = Vec::new();
+    for i in 0..n {
+        steps.push((100 + (i + 1) as u16, Step::Plan(i)));
+    }
+    for to in 0..n {
+        for from in 0..to {
+            steps.push((200 + 10 * (from + 1) as u16 + (to + 1) as u16, Step::Deliver { from, to }));
+        }
+    }
+    steps
+}
+
+/// The step that a number names among n carriers.
+pub fn step_named(number: u16, n: usize) -> Option<Step> {
+    steps_of(n).into_iter().find(|&(name, _)| name == number).map(|(_, step)| step)
+}
+
+/// The fresh state of n carriers.
+pub fn fresh(n: usize) -> State {
+    let carrier = |i: usize| Carrier {
+        planned: false,
+        due: true,
+        answer: None,
+        views: vec![View::Unheard; i],
+        channels: vec![VecDeque::new(); i],
+    };
+    State { taken: 0, carriers: (0..n).map(carrier).collect() }
+}
+
+impl State {
+    /// Whether a step is open.
+    pub fn is_open(&self, floor: &Floor, step: Step) -> bool {
+        match step {
+            Step::Plan(i) => {
+                let space = |below: &Carrier| below.channels[i].len() < floor.depth;
+                self.carriers[i].due && self.carriers[i + 1..].iter().all(space)
+            }
+            Step::Deliver { from, to } => !self.carriers[to].channels[from].is_empty(),
+        }
+    }
+
+    /// Whether no step is open.
+    pub fn is_silent(&self, floor: &Floor) -> bool {
+        steps_of(floor.carriers()).iter().all(|&(_, step)| !self.is_open(floor, step))
+    }
+
+    /// Takes an open step.
+    pub fn take(&mut self, floor: &Floor, step: Step) -> Stepped {
+        self.taken = (self.taken + 1).min(999_999);
+        match step {
+            Step::Deliver { from, to } => {
+                let carrier = &mut self.carriers[to];
+                let message = carrier.channels[from].pop_front().expect("an open delivery has a message");
+                carrier.views[from] = View::Heard(message);
+                carrier.due = true;
+                Stepped::Delivered
+            }
+            Step::Plan(i) => {
+                let heard = |view: &View| if let View::Heard(Some(route)) = view { Some(*route) } else { None };
+                let against: Vec<Route> = self.carriers[i].views.iter().filter_map(heard).collect();
+                let answer = best_route(floor, floor.starts[i], floor.goals[i], &against);
+                let carrier = &mut self.carriers[i];
+                let sends = !carrier.planned || carrier.answer != answer;
+                carrier.answer = answer;
+                carrier.due = false;
+                carrier.planned = true;
+                if !sends {
+                    return Stepped::Kept;
+                }
+                for below in self.carriers[i + 1..].iter_mut() {
+                    below.channels[i].push_back(answer);
+                }
+                Stepped::Sent
+            }
+        }
+    }
+
+    /// A run over steps that all are named: the number taken, and how it ended.
+    pub fn run(&mut self, floor: &Floor, steps: &[Step], budget: usize) -> (usize, End) {
+        let (mut taken, mut read) = (0, 0);
+        while read < steps.len() && taken < budget {
+            if self.is_open(floor, steps[read]) {
+                self.take(floor, steps[read]);
+                taken += 1;
+            }
+            read += 1;
+        }
+        if self.is_silent(floor) {
+            (taken, End::Silent)
+        } else if taken == budget && read < steps.len() {
+            (taken, End::Spent)
+        } else {
+            (taken, End::Ended)
+        }
+    }
+}
+
+// ---- The state in numbers ----
+
+/// The pairs of a receiver and a sender above it, in the order of memory.
+fn pairs(n: usize) -> Vec<(usize, usize)> {
+    (0..n).flat_map(|to| (0..to).map(move |from| (to, from))).collect()
+}
+
+fn record_of_view(view: &View) -> [u16; 65] {
+    let mut record = [0; 65];
+    match view {
+        View::Unheard => {}
+        View::Heard(None) => record[0] = 1,
+        View::Heard(Some(route)) => {
+            record[0] = 2;
+            record[1..].copy_from_slice(route);
+        }
+    }
+    record
+}
+
+/// The needed length of the state of n carriers.
+pub fn state_length(n: usize) -> usize {
+    2 + 67 * n + (65 + 261) * pairs(n).len()
+}
+
+/// The numbers of a state.
+pub fn encode(state: &State) -> Vec<u16> {
+    let mut numbers = vec![(state.taken / 1000) as u16, (state.taken % 1000) as u16];
+    for carrier in &state.carriers {
+        numbers.push(carrier.planned as u16);
+        numbers.push(carrier.due as u16);
+        numbers.extend(record_of_view(&View::Heard(carrier.answer)));
+    }
+    for (to, from) in pairs(state.carriers.len()) {
+        numbers.extend(record_of_view(&state.carriers[to].views[from]));
+    }
+    for (to, from) in pairs(state.carriers.len()) {
+        let channel = &state.carriers[to].channels[from];
+        numbers.push(channel.len() as u16);
+        for k in 0..4 {
+            let place = channel.get(k).map_or(View::Unheard, |&message| View::Heard(message));
+            numbers.extend(record_of_view(&place));
+        }
+    }
+    numbers
+}
+
+/// A reader of a state's numbers; `None` is refusal 10.
+struct Numbers<'a> {
+    rest: &'a [u16],
+}
+
+impl Numbers<'_> {
+    fn below(&mut self, bound: u16) -> Option<u16> {
+        let (&number, rest) = self.rest.split_first().expect("the length has been checked");
+        self.rest = rest;
+        (number < bound).then_some(number)
+    }
+
+    fn truth(&mut self) -> Option<bool> {
+        self.below(2).map(|number| number == 1)
+    }
+
+    fn view(&mut self, floor: &Floor) -> Option<View> {
+        let tag = self.below(3)?;
+        let mut route = [0; 64];
+        for (t, cell) in route.iter_mut().enumerate() {
+            let used = tag == 2 && t <= floor.horizon;
+            *cell = self.below(if used { floor.cells() as u16 } else { 1 })?;
+        }
+        Some(match tag {
+            0 => View::Unheard,
+            1 => View::Heard(None),
+            _ => View::Heard(Some(route)),
+        })
+    }
+
+    fn answer(&mut self, floor: &Floor) -> Option<Answer> {
+        match self.view(floor)? {
+            View::Unheard => None,
+            View::Heard(answer) => Some(answer),
+        }
+    }
+}
+
+/// The state that numbers encode on a floor; `None` is refusal 10.
+pub fn decode(floor: &Floor, numbers: &[u16]) -> Option<State> {
+    let n = floor.carriers();
+    let mut numbers = Numbers { rest: numbers };
+    let mut state = fresh(n);
+    state.taken = numbers.below(1000)? as u32 * 1000 + numbers.below(1000)? as u32;
+    for carrier in state.carriers.iter_mut() {
+        carrier.planned = numbers.truth()?;
+        carrier.due = numbers.truth()?;
+        carrier.answer = numbers.answer(floor)?;
+    }
+    for (to, from) in pairs(n) {
+        state.carriers[to].views[from] = numbers.view(floor)?;
+    }
+    for (to, from) in pairs(n) {
+        let length = numbers.below(floor.depth as u16 + 1)?;
+        for k in 0..4 {
+            if k < length {
+                let message = numbers.answer(floor)?;
+                state.carriers[to].channels[from].push_back(message);
+            } else {
+                for _ in 0..65 {
+                    numbers.below(1)?;
+                }
+            }
+        }
+    }
+    Some(state)
+}
+
+/// The library's entries over lent memory: the same arguments, the same answer words.
+pub mod calls {
+    use super::*;
+
+    fn done(case: u64, number: usize) -> u64 {
+        case << 8 | (number as u64) << 16
+    }
+
+    fn refused(refusal: Refusal) -> u64 {
+        let place = refusal.place.min(u32::MAX as usize) as u64;
+        1 | (refusal.number as u64) << 8 | place << 16
+    }
+
+    fn word(answer: Result<u64, Refusal>) -> u64 {
+        answer.unwrap_or_else(refused)
+    }
+
+    fn whole_record(floor: &[u16]) -> Result<(), Refusal> {
+        if floor.len() < 22 {
+            refuse(9, 0)
+        } else {
+            Ok(())
+        }
+    }
+
+    fn lent(floor: &[u16], walls: &[u16]) -> Result<Floor, Refusal> {
+        whole_record(floor)?;
+        floor_of_record(floor, walls)
+    }
+
+    fn long_enough(short: bool) -> Result<(), Refusal> {
+        if short {
+            refuse(9, 0)
+        } else {
+            Ok(())
+        }
+    }
+
+    fn store_answers(answers: &[Answer], memory: &mut [u16]) {
+        for (i, &answer) in answers.iter().enumerate() {
+            memory[65 * i..65 * i + 65].copy_from_slice(&record_of_view(&View::Heard(answer)));
+        }
+    }
+
+    pub fn read_sheet(text: &[u8], floor: &mut [u16], walls: &mut [u16]) -> u64 {
+        word((|| {
+            whole_record(floor)?;
+            let read = floor_of_sheet(text)?;
+            long_enough(walls.len() < read.walls.len())?;
+            floor[..22].copy_from_slice(&record_of(&read));
+            for (k, &c) in read.walls.iter().enumerate() {
+                walls[k] = c as u16;
+            }
+            Ok(done(0, 0))
+        })())
+    }
+
+    pub fn write_sheet(floor: &[u16], walls: &[u16], out: &mut [u8]) -> u64 {
+        word((|| {
+            let text = sheet_of(&lent(floor, walls)?);
+            long_enough(out.len() < text.len())?;
+            out[..text.len()].copy_from_slice(text.as_bytes());
+            Ok(done(0, text.len()))
+        })())
+    }
+
+    pub fn check_floor(floor: &[u16], walls: &[u16]) -> u64 {
+        word(lent(floor, walls).map(|_| done(0, 0)))
+    }
+
+    pub fn needed_lengths(floor: &[u16], out: &mut [u64]) -> u64 {
+        word((|| {
+            whole_record(floor)?;
+            let at = |k: usize| floor[k] as usize;
+            limits(&[at(0), at(1), at(2), at(3), at(4), at(5)])?;
+            long_enough(out.len() < 5)?;
+            let (horizon, n, count) = (at(2), at(4), at(5));
+            let sheet = 31 + 21 * n + 11 * count;
+            let text = 11 + n * (5 * (horizon + 3) + 1);
+            let lengths = [count, sheet, 65 * n, text, state_length(n)];
+            for k in 0..5 {
+                out[k] = lengths[k] as u64;
+            }
+            Ok(done(0, 0))
+        })())
+    }
+
+    pub fn search(floor: &[u16], walls: &[u16], carrier: u16, views: &[u16], route: &mut [u16]) -> u64 {
+        word((|| {
+            let floor = lent(floor, walls)?;
+            long_enough(views.len() < 65 * floor.carriers() || route.len() < 64)?;
+            let carrier = carrier as usize;
+            if carrier < 1 || carrier > floor.carriers() {
+                return refuse(7, 0);
+            }
+            let mut against: Vec<Route> = Vec::new();
+            for record in views.chunks(65).take(carrier - 1) {
+                if record[0] == 2 {
+                    against.push(record[1..].try_into().expect("a record has 64 cells"));
+                }
+            }
+            let best = best_route(&floor, floor.starts[carrier - 1], floor.goals[carrier - 1], &against);
+            route[..64].copy_from_slice(&best.unwrap_or([0; 64]));
+            Ok(done(best.is_some() as u64, 0))
+        })())
+    }
+
+    pub fn plan(floor: &[u16], walls: &[u16], answers: &mut [u16]) -> u64 {
+        word((|| {
+            let floor = lent(floor, walls)?;
+            long_enough(answers.len() < 65 * floor.carriers())?;
+            let (planned, failing) = super::plan(&floor);
+            store_answers(&planned, answers);
+            Ok(done(0, failing))
+        })())
+    }
+
+    /// Walls and answers are the planner's where the sheet is accepted, and as they were where it is refused.
+    pub fn print_routes(text: &[u8], walls: &mut [u16], answers: &mut [u16], out: &mut [u8]) -> u64 {
+        word((|| {
+            long_enough(walls.len() < 1023 || answers.len() < 520 || out.len() < 2659)?;
+            if let Ok(floor) = floor_of_sheet(text) {
+                for (k, &c) in floor.walls.iter().enumerate() {
+                    walls[k] = c as u16;
+                }
+                store_answers(&super::plan(&floor).0, answers);
+            }
+            let printed = super::print_routes(text);
+            out[..printed.len()].copy_from_slice(printed.as_bytes());
+            Ok(done(0, printed.len()))
+        })())
+    }
+
+    pub fn fresh(floor: &[u16], walls: &[u16], state: &mut [u16]) -> u64 {
+        word((|| {
+            let floor = lent(floor, walls)?;
+            let needed = state_length(floor.carriers());
+            long_enough(state.len() < needed)?;
+            state[..needed].copy_from_slice(&encode(&super::fresh(floor.carriers())));
+            Ok(done(0, 0))
+        })())
+    }
+
+    /// The floor and the state that are lent: refusals to 10.
+    fn lent_state(floor: &[u16], walls: &[u16], state: &[u16]) -> Result<(Floor, State), Refusal> {
+        let floor = lent(floor, walls)?;
+        let needed = state_length(floor.carriers());
+        long_enough(state.len() < needed)?;
+        match decode(&floor, &state[..needed]) {
+            None => refuse(10, 0),
+            Some(decoded) => Ok((floor, decoded)),
+        }
+    }
+
+    pub fn step(floor: &[u16], walls: &[u16], state: &mut [u16], step: u16) -> u64 {
+        word((|| {
+            let (floor, mut now) = lent_state(floor, walls, state)?;
+            let Some(step) = step_named(step, floor.carriers()) else {
+                return refuse(7, 0);
+            };
+            if !now.is_open(&floor, step) {
+                return refuse(8, 0);
+            }
+            let stepped = now.take(&floor, step);
+            state[..state_length(floor.carriers())].copy_from_slice(&encode(&now));
+            Ok(done(stepped as u64, 0))
+        })())
+    }
+
+    pub fn run(floor: &[u16], walls: &[u16], state: &mut [u16], steps: &[u16], budget: u16) -> u64 {
+        word((|| {
+            let (floor, mut now) = lent_state(floor, walls, state)?;
+            let mut named = Vec::new();
+            for (position, &number) in steps.iter().enumerate() {
+                match step_named(number, floor.carriers()) {
+                    None => return refuse(7, position),
+                    Some(step) => named.push(step),
+                }
+            }
+            let (taken, end) = now.run(&floor, &named, budget as usize);
+            state[..state_length(floor.carriers())].copy_from_slice(&encode(&now));
+            Ok(done(end as u64, taken))
+        })())
+    }
+
+    pub fn ceiling(carriers: u16) -> u64 {
+        if (1..=8).contains(&carriers) {
+            done(0, (1 << (carriers + 1)) - carriers as usize - 2)
+        } else {
+            refused(Refusal { number: 2, place: 5 })
+        }
+    }
+}

@@ -1,0 +1,92 @@
+//! The archive's functions as C sees them; `include/kalomivund.h` says what each takes, writes and returns.
+//! A slice is a pointer and a count of elements. No function keeps a pointer, and none has a condition that a caller could break with
+//! pointers that are aligned, not null, valid for their counts, and apart from each other where one of them is written.
+
+extern "C" {
+    pub fn kalomivund_read_sheet(
+        text: *const u8,
+        text_len: usize,
+        floor: *mut u16,
+        floor_len: usize,
+        walls: *mut u16,
+        walls_len: usize,
+    ) -> u64;
+
+    pub fn kalomivund_write_sheet(
+        floor: *const u16,
+        floor_len: usize,
+        walls: *const u16,
+        walls_len: usize,
+        out: *mut u8,
+        out_len: usize,
+    ) -> u64;
+
+    pub fn kalomivund_check_floor(floor: *const u16, floor_len: usize, walls: *const u16, walls_len: usize) -> u64;
+
+    pub fn kalomivund_needed_lengths(floor: *const u16, floor_len: usize, out: *mut u64, out_len: usize) -> u64;
+
+    pub fn kalomivund_search(
+        floor: *const u16,
+        floor_len: usize,
+        walls: *const u16,
+        walls_len: usize,
+        carrier: u16,
+        views: *const u16,
+        views_len: usize,
+        route: *mut u16,
+        route_len: usize,
+    ) -> u64;
+
+    pub fn kalomivund_plan(
+        floor: *const u16,
+        floor_len: usize,
+        walls: *const u16,
+        walls_len: usize,
+        answers: *mut u16,
+        answers_len: usize,
+    ) -> u64;
+
+    pub fn kalomivund_print_routes(
+        text: *const u8,
+        text_len: usize,
+        walls: *mut u16,
+        walls_len: usize,
+        answers: *mut u16,
+        answers_len: usize,
+        out: *mut u8,
+        out_len: usize,
+    ) -> u64;
+
+    pub fn kalomivund_fresh(
+        floor: *const u16,
+        floor_len: usize,
+        walls: *const u16,
+        walls_len: usize,
+        state: *mut u16,
+        state_len: usize,
+    ) -> u64;
+
+    pub fn kalomivund_step(
+        floor: *const u16,
+        floor_len: usize,
+        walls: *const u16,
+        walls_len: usize,
+        state: *mut u16,
+        state_len: usize,
+        step: u16,
+    ) -> u64;
+
+    pub fn kalomivund_run(
+        floor: *const u16,
+        floor_len: usize,
+        walls: *const u16,
+        walls_len: usize,
+        state: *mut u16,
+        state_len: usize,
+        steps: *const u16,
+        steps_len: usize,
+        budget: u16,
+    ) -> u64;
+
+    pub fn kalomivund_ceiling(carriers: u16) -> u64;
+}

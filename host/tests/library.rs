@@ -1,0 +1,114 @@
+//! Document 01's twelve floors through the safe wrappers, and what the wrappers say of refusals.
+
+use kalomivund::*;
+
+const SHEET: &[u8] = b"    3    2    4    1    2    0\n    0    0    2    0\n    2    0    0    0\n";
+
+fn floor_of(sheet: &[u8]) -> Result<Floor, Refusal> {
+    read_sheet(sheet, &mut [0; MOST_WALLS])
+}
+
+fn edited(from: &str, to: &str) -> Vec<u8> {
+    String::from_utf8(SHEET.to_vec()).unwrap().replacen(from, to, 1).into_bytes()
+}
+
+fn printed(sheet: &[u8]) -> String {
+    let mut out = [0; MOST_TEXT];
+    let length = print_routes(sheet, &mut [0; MOST_WALLS], &mut [0; MOST_ANSWERS], &mut out).unwrap();
+    String::from_utf8(out[..length].to_vec()).unwrap()
+}
+
+fn fresh_state(floor: &Floor) -> Vec<u16> {
+    let mut state = vec![7; needed_lengths(floor).unwrap().state];
+    fresh(floor, &[], &mut state).unwrap();
+    state
+}
+
+/// The answer of a carrier (from 1) in a state.
+fn answer(state: &[u16], i: usize) -> &[u16] {
+    &state[2 + 67 * (i - 1) + 2..2 + 67 * i]
+}
+
+fn refused<T: std::fmt::Debug>(result: Result<T, Refusal>) -> (u8, u32) {
+    let refusal = result.unwrap_err();
+    (refusal.number, refusal.place)
+}
+
+#[test]
+fn floor_1_one_cell() {
+    let sheet = b"    1    1    1    1    1    0\n    0    0    0    0\n";
+    assert_eq!(printed(sheet), "    1    0\n    1    0    0    0\n");
+}
+
+#[test]
+fn floors_2_and_3_the_papers_sheet() {
+    assert_eq!(printed(SHEET), "    2    0\n    1    2    0    1    2    2    2\n    2    4    2    5    4    1    0\n");
+    assert_eq!(printed(&edited("    4", "    3")), "    2    2\n    1    2    0    1    2    2\n    2 none\n");
+    let floor = floor_of(SHEET).unwrap();
+    let mut answers = [0; 130];
+    assert_eq!(plan(&floor, &[], &mut answers), Ok(0));
+    assert_eq!(answers[65..71], [2, 2, 5, 4, 1, 0]);
+    let route = search(&floor, &[], 2, &answers).unwrap().unwrap();
+    assert_eq!(route[..], answers[66..]);
+    let mut out = [0; 80];
+    assert_eq!(write_sheet(&floor, &[], &mut out), Ok(73));
+    assert_eq!(&out[..73], SHEET);
+}
+
+#[test]
+fn floors_4_and_5_two_orders() {
+    let floor = floor_of(SHEET).unwrap();
+    let mut state = fresh_state(&floor);
+    assert_eq!(step(&floor, &[], &mut state, plan_step(2)), Ok(Stepped::Sent));
+    assert_eq!(answer(&state, 2)[..6], [2, 2, 1, 0, 0, 0]);
+    assert_eq!(step(&floor, &[], &mut state, plan_step(1)), Ok(Stepped::Sent));
+    assert_eq!(step(&floor, &[], &mut state, deliver_step(1, 2)), Ok(Stepped::Delivered));
+    assert_eq!(step(&floor, &[], &mut state, plan_step(2)), Ok(Stepped::Sent));
+    assert_eq!(answer(&state, 2)[..6], [2, 2, 5, 4, 1, 0]);
+    assert_eq!(state[..2], [0, 4]);
+    assert_eq!(run(&floor, &[], &mut state, &[], 9), Ok(Ran { taken: 0, end: End::Silent }));
+
+    let mut other = fresh_state(&floor);
+    let steps = [plan_step(1), deliver_step(1, 2), plan_step(2)];
+    assert_eq!(run(&floor, &[], &mut other, &steps, 9), Ok(Ran { taken: 3, end: End::Silent }));
+    assert_eq!(other[..2], [0, 3]);
+    assert_eq!(other[2..], state[2..]);
+}
+
+#[test]
+fn floors_6_to_9_and_12_steps_and_runs() {
+    let floor = floor_of(SHEET).unwrap();
+    let mut state = fresh_state(&floor);
+    let before = state.clone();
+    assert_eq!(refused(step(&floor, &[], &mut state, deliver_step(1, 2))), (8, 0));
+    assert_eq!(refused(step(&floor, &[], &mut state, deliver_step(2, 2))), (7, 0));
+    assert_eq!(refused(run(&floor, &[], &mut state, &[101, 102, 222], 0)), (7, 2));
+    assert_eq!(run(&floor, &[], &mut state, &[101], 0), Ok(Ran { taken: 0, end: End::Spent }));
+    assert_eq!(run(&floor, &[], &mut state, &[], 0), Ok(Ran { taken: 0, end: End::Ended }));
+    assert_eq!(state, before);
+
+    let mut three = Floor { width: 4, height: 4, horizon: 9, depth: 1, carriers: 3, ..Floor::default() };
+    three.starts[..3].copy_from_slice(&[0, 4, 8]);
+    three.goals[..3].copy_from_slice(&[3, 7, 11]);
+    let mut state = fresh_state(&three);
+    for open in [plan_step(2), plan_step(1), deliver_step(1, 2)] {
+        step(&three, &[], &mut state, open).unwrap();
+    }
+    assert_eq!(refused(step(&three, &[], &mut state, plan_step(2))), (8, 0));
+}
+
+#[test]
+fn floors_10_and_11_and_refusals() {
+    assert!(floor_of(&edited("    4", "   63")).is_ok());
+    assert_eq!(refused(floor_of(&edited("    4", "   64"))), (2, 3));
+    assert_eq!(refused(floor_of(&edited("    1    2", "    1    0"))), (2, 5));
+    assert_eq!(refused(floor_of(b"")), (1, 0));
+    let floor = floor_of(SHEET).unwrap();
+    assert_eq!(refused(check_floor(&Floor { walls: 1, ..floor }, &[])), (9, 0));
+    assert_eq!(refused(fresh(&floor, &[], &mut [0; 461])), (9, 0));
+    assert_eq!(refused(step(&floor, &[], &mut [1000; 462], plan_step(1))), (10, 0));
+    assert_eq!(refused(search(&floor, &[], 3, &[0; 130])), (7, 0));
+    assert_eq!(ceiling(8), Ok(502));
+    assert_eq!(refused(ceiling(9)), (2, 5));
+    assert_eq!(ceiling(9).unwrap_err().to_string(), "refusal 2: line 1 is outside its limits in field 5");
+}
