@@ -2,6 +2,7 @@
 use floor::Checked;
 use floor::Floor;
 use floor::Refusal;
+use lengths::Needed;
 use machine::Most;
 use machine::Ran;
 use machine::Stepped;
@@ -126,6 +127,15 @@ pub fn ceiling(n: usize) -> Seen {
     match answer {
         Most::Steps(k) => steps(k),
         Most::Refused(r) => turned(r),
+    }
+}
+
+// The needed length of a floor's state, as the entry of needed lengths gives it; 0 where that refuses the floor.
+pub fn state_length(f: Floor) -> usize {
+    let answer = lengths::needed_lengths(f);
+    match answer {
+        Needed::Known(l) => l.state,
+        Needed::Refused(_) => 0,
     }
 }
 

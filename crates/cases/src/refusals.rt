@@ -4,7 +4,6 @@ use crate::calls;
 use crate::calls::Seen;
 use crate::floors;
 use crate::look;
-use crate::result;
 use crate::show;
 use crate::written;
 use floor::Floor;
@@ -196,12 +195,12 @@ fn fresh_in(n: u16, size: usize, room: &mut [u16]) -> Seen {
     calls::fresh(row(n), &none, &mut room[..size])
 }
 
-// At the needed length, 2 + 67 n + 326 n (n - 1) / 2, a state is not too short, at one less it is; and that is the layout's length.
+// At the needed length, 2 + 67 n + 326 n (n - 1) / 2, which is what its entry gives, a state is not too short; at one less it is.
 fn needed(n: u16, size: usize, room: &mut [u16]) {
     show::begin(b"needed length");
     show::number(look::wide(n));
     show::text(b" carriers,");
-    let a = show::figure(b"numbers", result::state_length(look::wide(n)), size);
+    let a = show::figure(b"numbers", calls::state_length(row(n)), size);
     let b = show::part(b"lent", fresh_in(n, size, room), calls::passed());
     let c = show::part(
         b"one less",
