@@ -44,7 +44,8 @@ pub record Holds (f : Floor) (ws m : List ℕ) (cs : List Asked) : Type 0 where
   -- The program's answers, with number and place of each refusal, are the reference machine's in the same order.
   pub answers : answersOf f ws (freshMemory f ws m) cs ≡ replies (machineOf f ws) fresh (bookCalls f (length m) cs)
   -- Its state is the reference machine's in every part, and memory beyond the needed length is as it was.
-  pub memory : memoryOf f ws (freshMemory f ws m) cs ≡ encode (f .carriers) (bookAfter f ws (length m) cs) ++ drop (stateSize (f .carriers)) m
+  pub memory : memoryOf f ws (freshMemory f ws m) cs ≡
+      encode (f .carriers) (bookAfter f ws (length m) cs) ++ drop (stateSize (f .carriers)) m
   -- Refusal 10 never comes up.
   pub never-ten : AllReplies NotTen (answersOf f ws (freshMemory f ws m) cs)
   -- A run after these calls has the reference machine's history: every step taken was open, no open step was passed over, the list is
@@ -91,4 +92,5 @@ pub record Cut (f : Floor) (ws m : List ℕ) (cs : List Asked) (k l : ℕ) (xs y
 pub record Demand3 : Type 0 where
   pub holds : (f : Floor) (ws m : List ℕ) (cs : List Asked) → checkOf f ws ≡ passed → stateSize (f .carriers) ≤ length m → Holds f ws m cs
   pub inside : (f : Floor) (ws m : List ℕ) (cs : List Asked) → checkOf f ws ≡ passed → stateSize (f .carriers) ≤ length m →
-      (k l : ℕ) (xs ys : List ℕ) (b : ℕ) → runVerdict f (take k ws) (take l (memoryAfter f ws m cs)) (xs ++ ys) ≡ passed → Cut f ws m cs k l xs ys b
+      (k l : ℕ) (xs ys : List ℕ) (b : ℕ) → runVerdict f (take k ws) (take l (memoryAfter f ws m cs)) (xs ++ ys) ≡ passed →
+      Cut f ws m cs k l xs ys b

@@ -156,7 +156,8 @@ module _ (f : Floor) (ws : List ℕ) where
       rw (limits-mean .1 l, lent-means .1 n, carriers-mean .1 a, walls-mean .1 b, rising-means .1 c, clear-mean .1 d, e)
 
 pub theorems : Claims
-unfolding checkOf limitsOf lentOf roomOf placesOf carriersOf wallsOf risingOf clearOf distinctOf freshFloor _then_ demand each inTurn within carrierInGrid inGrid startOf goalOf rises clearOfWalls among unshared
+unfolding checkOf limitsOf lentOf roomOf placesOf carriersOf wallsOf risingOf clearOf distinctOf freshFloor _then_ demand each inTurn
+    within carrierInGrid inGrid startOf goalOf rises clearOfWalls among unshared
 theorems =
     record {
       passes-exactly = λ f ws. (accepted f ws, all-pass f ws);

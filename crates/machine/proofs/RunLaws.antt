@@ -143,7 +143,8 @@ module _ (M : Machine) (m₀ xs : List ℕ) (b : ℕ) where
       let stop : runIn M m (map stepOf (drop p xs)) (b - t) ≡ stopped m (map stepOf (drop p xs)) =
       rw (next p l, none) (run-stopped M m (stepOf (getD xs p 0)) (map stepOf (drop (p + 1) xs))) in
       let left : anyLeft (runIn M m₀ (map stepOf xs) b .unread) ≡ true =
-      ap anyLeft (s .unread ∙ ap (λ (q : RanIn). q .unread) stop) ∙ rw (next p l) (some-left (stepOf (getD xs p 0)) (map stepOf (drop (p + 1) xs))) in
+      ap anyLeft (s .unread ∙ ap (λ (q : RanIn). q .unread) stop) ∙ rw (next p l)
+      (some-left (stepOf (getD xs p 0)) (map stepOf (drop (p + 1) xs))) in
       record {
         number = omega (arith, s .taken, ap numberTaken stop, none-taken m (map stepOf (drop p xs)));
         within = h;

@@ -20,7 +20,7 @@ use Rattle.layout.specs.Places.{stateSize}
 use Rattle.layout.specs.Numbers.{stepOf}
 use Rattle.layout.specs.Steps.{openIn}
 use Rattle.layout.specs.Calls.{machineOf, placeVerdict, stateVerdict, stepVerdict, runVerdict, replyIf, memoryIf}
-use Rattle.machine.specs.Inner.{bare, namedAt, Workable}
+use Rattle.machine.specs.Inner.{bare, namedAt, singleVerdict, Workable}
 use Rattle.machine.proofs.OpenLaws.{named-of, open-of}
 
 -- What a passed check of a lent place tells.
@@ -56,7 +56,8 @@ workable f ws rows m a r =
 
 -- The refusals of a single step as the code makes them.
 pub single-is : (f : Floor) (ws m : List ℕ) (x : ℕ) →
-    (stateVerdict f ws m then demand (named (bare f) (stepOf x)) 7 0 then demand (openIn (bare f) m (stepOf x)) 8 0) ≡ stepVerdict f ws m x
+    (stateVerdict f ws m then demand (named (bare f) (stepOf x)) 7 0 then demand (openIn (bare f) m (stepOf x)) 8 0) ≡ stepVerdict f ws
+    m x
 unfolding stepVerdict
 single-is f ws m x = rw (named-of f ws (stepOf x), open-of f m ws (stepOf x)) refl
 
@@ -95,7 +96,8 @@ eight-next b d e g = rw e g
 
 -- The checks of a single step stand for the number that names it.
 pub single-stands : {v : Verdict} (f : Floor) (ws m : List ℕ) (s : Step) (x : ℕ) → s ≡ stepOf x →
-    v ≡ (stateVerdict f ws m then demand (named (bare f) s) 7 0 then demand (openIn (bare f) m s) 8 0) → v ≡ stepVerdict f ws m x
+    v ≡ singleVerdict f ws m s → v ≡ stepVerdict f ws m x
+unfolding singleVerdict
 single-stands f ws m s x e g = g ∙ rw e (single-is f ws m x)
 
 pub step-tells : (f : Floor) (ws m : List ℕ) (x : ℕ) → stepVerdict f ws m x ≡ passed → Placed f ws (length m)

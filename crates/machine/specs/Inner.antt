@@ -6,6 +6,7 @@ use mathlib.Core.Path.{_≡_}
 use lib.Dec.{eqb, leb, ltb}
 use lib.ListN.{length, getD, drop}
 use Rattle.floor.specs.declared.Floor.{Floor}
+use Rattle.floor.specs.Verdict.{Verdict, _then_, demand}
 use Rattle.search.specs.Rows.{Searchable}
 use Rattle.planner.specs.Plan.{respondWith}
 use Rattle.reference.specs.State.{Machine}
@@ -14,6 +15,7 @@ use Rattle.reference.specs.Ending.{Ending, endsAs, anyLeft}
 use Rattle.layout.specs.Steps.{openIn, takenIn}
 use Rattle.layout.specs.Places.{channelPlace, stateSize}
 use Rattle.layout.specs.Numbers.{stepOf}
+use Rattle.layout.specs.Calls.{stateVerdict}
 use Rattle.layout.specs.Runs.{RanIn, runIn, numberTaken}
 
 -- The reference machine of a floor over the rows of its free cells.
@@ -36,6 +38,14 @@ notDelivered f m i j = not (openIn (bare f) m (deliver j i))
 -- The step at a position of a list is there.
 unfoldable pub namedAt : Floor → List ℕ → ℕ → Bool
 namedAt f xs p = named (bare f) (stepOf (getD xs p 0))
+
+-- The refusals of a single step s, with the machine as far as steps are named and open.
+unfoldable pub singleVerdict : Floor → List ℕ → List ℕ → Step → Verdict
+singleVerdict f ws m s = stateVerdict f ws m then demand (named (bare f) s) 7 0 then demand (openIn (bare f) m s) 8 0
+
+-- The run of the steps that a list of numbers names, over the rows of free cells.
+unfoldable pub runWith : Floor → List ℕ → List ℕ → List ℕ → ℕ → RanIn
+runWith f rows m xs b = runIn (machineWith f rows) m (map stepOf xs) b
 
 -- What is already checked where a step is taken.
 pub record Workable (f : Floor) (rows m : List ℕ) : Type 0 where

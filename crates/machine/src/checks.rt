@@ -3,12 +3,10 @@ ghost use mathlib.Core.Path.{_≡_};
 ghost use mathlib.Core.Bool.{false};
 ghost use lib.ListN.{length};
 ghost use Rattle.floor.specs.Answers.{verdictOf};
-ghost use Rattle.floor.specs.Verdict.{_then_, demand, each};
-ghost use Rattle.reference.specs.Step.{named};
-ghost use Rattle.layout.specs.Steps.{openIn};
+ghost use Rattle.floor.specs.Verdict.{demand, each};
 ghost use Rattle.layout.specs.Calls.{placeVerdict, stateVerdict, runVerdict};
 ghost use Rattle.machine.specs.Answers.{meant};
-ghost use Rattle.machine.specs.Inner.{bare, namedAt};
+ghost use Rattle.machine.specs.Inner.{namedAt, singleVerdict};
 use crate::Asked;
 use floor::Checked;
 use floor::Floor;
@@ -51,7 +49,7 @@ pub fn lent_state(f: Floor, walls: &[u16], m: &[u16]) -> Checked
 
 // The refusals of a single step.
 pub fn single(f: Floor, walls: &[u16], m: &[u16], s: Asked) -> Checked
-    ensures { λ r. ⌜ verdictOf r ≡ (stateVerdict f (now (walls .entry)) (now (m .entry)) then demand (named (bare f) (meant s)) 7 0 then demand (openIn (bare f) (now (m .entry)) (meant s)) 8 0) ⌝ }
+    ensures { λ r. ⌜ verdictOf r ≡ singleVerdict f (now (walls .entry)) (now (m .entry)) (meant s) ⌝ }
 {
     let sound = lent_state(f, walls, m);
     let Checked::Passed = sound else {

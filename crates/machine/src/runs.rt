@@ -1,6 +1,5 @@
 // The run: the open steps of a list in turn, as many as the budget allows.
 ghost use mathlib.Core.Path.{_≡_};
-ghost use mathlib.Core.List.{map};
 ghost use Prim.Native.Nat.{_≤_};
 ghost use lib.ListN.{length};
 ghost use Rattle.floor.specs.Answers.{verdictOf};
@@ -10,9 +9,8 @@ ghost use Rattle.layout.specs.Places.{stateSize};
 ghost use Rattle.layout.specs.Numbers.{stepOf};
 ghost use Rattle.layout.specs.Calls.{replyIf};
 ghost use Rattle.layout.specs.Steps.{silentIn};
-ghost use Rattle.layout.specs.Runs.{runIn, numberTaken};
 ghost use Rattle.machine.specs.Answers.{ranReply};
-ghost use Rattle.machine.specs.Inner.{machineWith, bare, Workable, Tried, Tallied, endsWith};
+ghost use Rattle.machine.specs.Inner.{machineWith, bare, runWith, Workable, Tried, Tallied, endsWith};
 use crate::Ran;
 use floor::Checked;
 use floor::Floor;
@@ -39,7 +37,8 @@ fn try_step(f: Floor, free: [u32; 32], m: &mut [u16], x: u16) -> usize
 // Reads the list from the front while steps are left and fewer are taken than the budget.
 pub fn run_all(f: Floor, free: [u32; 32], m: &mut [u16], numbers: &[u16], budget: usize) -> Tally
     requires { ⌜ Workable f free (now m) ⌝ }
-    ensures { λ r. ⌜ Tallied (runIn (machineWith f free) (now (m .entry)) (map stepOf (now (numbers .entry))) budget) budget (length (now (numbers .entry))) (r .taken) (r .read) (now (m .exit)) ⌝ }
+    ensures { λ r. ⌜ Tallied (runWith f free (now (m .entry)) (now (numbers .entry)) budget) budget
+        (length (now (numbers .entry))) (r .taken) (r .read) (now (m .exit)) ⌝ }
 {
     let mut taken: usize = 0;
     let mut read: usize = 0;
@@ -57,7 +56,8 @@ pub fn run_all(f: Floor, free: [u32; 32], m: &mut [u16], numbers: &[u16], budget
 // ended.
 pub fn ending(f: Floor, m: &[u16], tally: Tally, budget: usize, listed: usize) -> Ran
     requires { ⌜ (f .carriers ≤ 8) × (stateSize (f .carriers) ≤ length (now m)) ⌝ }
-    ensures { λ r. ⌜ ranReply r ≡ ran (tally .taken) (endsWith (silentIn (bare f) (now (m .entry))) (tally .taken) budget (tally .read) listed) ⌝ }
+    ensures { λ r. ⌜ ranReply r ≡ ran (tally .taken)
+        (endsWith (silentIn (bare f) (now (m .entry))) (tally .taken) budget (tally .read) listed) ⌝ }
 {
     if crate::tests::is_silent(f, m) {
         return Ran::Silent(tally.taken);

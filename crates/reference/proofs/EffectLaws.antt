@@ -12,7 +12,8 @@ use Rattle.reference.specs.Step.{plan, deliver, isEmpty, isOpen, sameCel
 use Rattle.reference.specs.Take.{isNews, planAs, oldest, newer, deliverTo, afterStep}
 use Rattle.reference.specs.Effects.{Planned, Delivered}
 use Rattle.reference.proofs.OpenLaws.{deliver-full}
-use Rattle.reference.proofs.TakeLaws.{cells-same, no-news, plan-keeps, sent-below, chan-other, plan-view, plan-planned, plan-planned-other}
+use Rattle.reference.proofs.TakeLaws.{cells-same, no-news, plan-keeps, sent-below, chan-other, plan-view, plan-planned}
+use Rattle.reference.proofs.TakeLaws.{plan-planned-other}
 use Rattle.reference.proofs.TakeLaws.{plan-clears, plan-due-other, plan-answer, plan-answer-other, deliver-due, deliver-due-other}
 use Rattle.reference.proofs.TakeLaws.{deliver-planned, deliver-answer, deliver-chan, deliver-chan-sender, deliver-chan-other}
 use Rattle.reference.proofs.TakeLaws.{deliver-view, deliver-view-sender, deliver-view-other}

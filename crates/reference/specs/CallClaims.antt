@@ -32,9 +32,11 @@ pub record CallClaims : Type 1 where
   pub ceiling-holds : (M : Machine) (cs : List Call) → takenInAll (replies M fresh cs) ≤ ceiling (M .carriers)
   -- A point inside a run that is not turned away is the end of the same run with its list cut there, and the rest of the list, with
   -- what is left of the budget, counts as a later call.
-  pub cut-state : (M : Machine) (lent : ℕ) → M .needed ≤ lent → (s : State) (xs ys : List Step) (b : ℕ) → allNamed M 0 (xs ++ ys) ≡ accepted →
+  pub cut-state : (M : Machine) (lent : ℕ) → M .needed ≤ lent → (s : State) (xs ys : List Step) (b : ℕ) →
+      allNamed M 0 (xs ++ ys) ≡ accepted →
       after M s (runOf lent (xs ++ ys) b ∷ []) ≡ after M s (runOf lent xs b ∷ runOf lent ys (b - run M s xs b .taken) ∷ [])
-  pub cut-taken : (M : Machine) (lent : ℕ) → M .needed ≤ lent → (s : State) (xs ys : List Step) (b : ℕ) → allNamed M 0 (xs ++ ys) ≡ accepted →
+  pub cut-taken : (M : Machine) (lent : ℕ) → M .needed ≤ lent → (s : State) (xs ys : List Step) (b : ℕ) →
+      allNamed M 0 (xs ++ ys) ≡ accepted →
       takenInAll (replies M s (runOf lent (xs ++ ys) b ∷ [])) ≡
       takenInAll (replies M s (runOf lent xs b ∷ runOf lent ys (b - run M s xs b .taken) ∷ []))
   -- If the first k carriers are quiet after a list of calls, their answers are the sequential planner's first k.

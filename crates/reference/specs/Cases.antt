@@ -44,7 +44,8 @@ pub record Cases : Type 0 where
   -- 8: a run of an empty list: taken 0, ended.
   pub reply-8 : replies (two 4) fresh (runOf 1 [] 0 ∷ []) ≡ ran 0 ended ∷ []
   -- 9: three carriers, depth 1: the channel from carrier 2 to carrier 3 is full; whatever the routes.
-  pub replies-9 : (respond : ℕ → List View → Answer) → replies (record { carriers = 3; depth = 1; needed = 1; respond = respond }) fresh calls4 ≡
+  pub replies-9 : (respond : ℕ → List View → Answer) →
+      replies (record { carriers = 3; depth = 1; needed = 1; respond = respond }) fresh calls4 ≡
       stepped sent ∷ stepped sent ∷ stepped delivered ∷ refused 8 0 ∷ []
   -- 12: a delivery from a carrier to itself is no step.
   pub reply-12 : replies (two 4) fresh (single 1 (deliver 1 1) ∷ []) ≡ refused 7 0 ∷ []

@@ -30,7 +30,8 @@ documentFloor =
 -- Its sheet as the paper prints it, a line of bytes for each line.
 documentSheet : List ℕ
 documentSheet =
-    32 ∷ 32 ∷ 32 ∷ 32 ∷ 51 ∷ 32 ∷ 32 ∷ 32 ∷ 32 ∷ 50 ∷ 32 ∷ 32 ∷ 32 ∷ 32 ∷ 52 ∷ 32 ∷ 32 ∷ 32 ∷ 32 ∷ 49 ∷ 32 ∷ 32 ∷ 32 ∷ 32 ∷ 50 ∷ 32 ∷ 32 ∷ 32 ∷ 32 ∷ 48 ∷ 10 ∷
+    32 ∷ 32 ∷ 32 ∷ 32 ∷ 51 ∷ 32 ∷ 32 ∷ 32 ∷ 32 ∷ 50 ∷ 32 ∷ 32 ∷ 32 ∷ 32 ∷ 52 ∷ 32 ∷ 32 ∷ 32 ∷ 32 ∷ 49 ∷ 32 ∷ 32 ∷ 32 ∷ 32 ∷ 50 ∷ 32 ∷ 32
+    ∷ 32 ∷ 32 ∷ 48 ∷ 10 ∷
     32 ∷ 32 ∷ 32 ∷ 32 ∷ 48 ∷ 32 ∷ 32 ∷ 32 ∷ 32 ∷ 48 ∷ 32 ∷ 32 ∷ 32 ∷ 32 ∷ 50 ∷ 32 ∷ 32 ∷ 32 ∷ 32 ∷ 48 ∷ 10 ∷
     32 ∷ 32 ∷ 32 ∷ 32 ∷ 50 ∷ 32 ∷ 32 ∷ 32 ∷ 32 ∷ 48 ∷ 32 ∷ 32 ∷ 32 ∷ 32 ∷ 48 ∷ 32 ∷ 32 ∷ 32 ∷ 32 ∷ 48 ∷ 10 ∷
     []
@@ -50,7 +51,8 @@ unfolding formed headAt floorAt wallsAt wallsFrom valueAt cellOf cellAt cellsAt 
 valued text = formed text
 
 placed : List ℕ → Verdict
-unfolding valued placesOf carriersOf wallsOf risingOf clearOf distinctOf carrierInGrid inGrid startOf goalOf rises clearOfWalls unshared among
+unfolding valued placesOf carriersOf wallsOf risingOf clearOf distinctOf carrierInGrid inGrid startOf goalOf rises clearOfWalls unshared
+    among
 placed text = valued text
 
 verdict : List ℕ → Verdict

@@ -16,7 +16,8 @@ use Rattle.floor.proofs.LimitsLaws.{Bounds, limited-bounds, check-tells}
 use Rattle.floor.proofs.SameLaws.{places-same}
 use Rattle.floor.proofs.Theorems.{theorems}
 use Rattle.sheet.specs.Field.{numberAt}
-use Rattle.sheet.specs.Text.{carrierLines, wallLines, headLine, carrierLine, wallLine, sheetOf, sheetLength, carrierAt, goalAt, wallAt}
+use Rattle.sheet.specs.Text.{carrierLines, wallLines, headLine, carrierLine, wallLine, sheetOf, sheetLength, carrierAt, goalAt}
+use Rattle.sheet.specs.Text.{wallAt}
 use Rattle.sheet.specs.Form.{lineForm, linesForm, endForm, restForm}
 use Rattle.sheet.specs.Values.{cellAt, headAt, floorAt, cellsAt, wallsFrom, wallsAt}
 use Rattle.sheet.specs.Read.{formOf, sheetVerdict}
@@ -90,7 +91,8 @@ module _ (f : Floor) (ws : List ℕ) (ok : checkOf f ws ≡ passed) where
       (back .1)
 
   -- Line 1, read.
-  head-reads : (lineForm text 0 6 ≡ passed) × (numbersFrom text 0 6 ≡ f .width ∷ f .height ∷ f .horizon ∷ f .depth ∷ f .carriers ∷ f .walls ∷ [])
+  head-reads : (lineForm text 0 6 ≡ passed) ×
+      (numbersFrom text 0 6 ≡ f .width ∷ f .height ∷ f .horizon ∷ f .depth ∷ f .carriers ∷ f .walls ∷ [])
   unfolding headLine
   head-reads =
       text-line text (f .width ∷ f .height ∷ f .horizon ∷ f .depth ∷ f .carriers ∷ f .walls ∷ []) 0 (

@@ -38,7 +38,8 @@ zero-pairs : (w n : ℕ) (b : ℕ → ℕ → List ℕ) → ((i j : ℕ) → b i
 unfolding pairs blocks pairsBefore
 zero-pairs w zero b h = rw (mul-zero w) refl
 zero-pairs w (suc n) b h =
-    rw (zero-pairs w n b h, zero-blocks w n (b n) (h n), mul-add w (pairsBefore n) n) (replicate-append-replicate (w * pairsBefore n) (w * n) 0)
+    rw (zero-pairs w n b h, zero-blocks w n (b n) (h n), mul-add w (pairsBefore n) n)
+    (replicate-append-replicate (w * pairsBefore n) (w * n) 0)
 
 -- The loop over carriers: one more.
 pub carriers-more : (m m′ m″ : List ℕ) (i : ℕ) → 69 + 67 * i ≤ length m → m′ ≡ put m 2 (blocks i (carrierBlock fresh)) →
@@ -70,7 +71,8 @@ fresh-is n =
     ap (λ (b : List ℕ). 0 ∷ (0 ∷ (blocks n (carrierBlock fresh) ++ b))) tail
 
 pub fresh-whole : (m m₁ m₂ m₃ : List ℕ) (n : ℕ) → stateSize n ≤ length m → m₁ ≡ put m 0 (replicate 2 0) →
-    m₂ ≡ put m₁ 2 (blocks n (carrierBlock fresh)) → m₃ ≡ put m₂ (2 + 67 * n) (replicate (326 * pairsBefore n) 0) → m₃ ≡ put m 0 (encode n fresh)
+    m₂ ≡ put m₁ 2 (blocks n (carrierBlock fresh)) → m₃ ≡ put m₂ (2 + 67 * n) (replicate (326 * pairsBefore n) 0) → m₃ ≡ put m 0
+    (encode n fresh)
 unfolding stateSize
 fresh-whole m m₁ m₂ m₃ n l e g h =
     let zeros : List ℕ = replicate (326 * pairsBefore n) 0 in
@@ -78,5 +80,6 @@ fresh-whole m m₁ m₂ m₃ n l e g h =
     let size = fresh-length n in
     let one = put-next m m₁ m₂ front (blocks n (carrierBlock fresh)) 0 2 e g (omega arith) (omega arith) in
     let two = put-next m m₂ m₃ (front ++ blocks n (carrierBlock fresh)) zeros 0 (2 + 67 * n) one h
-    (omega (arith, length-append front (blocks n (carrierBlock fresh)))) (omega (arith, length-replicate {A = ℕ} (326 * pairsBefore n) 0)) in
+    (omega (arith, length-append front (blocks n (carrierBlock fresh))))
+    (omega (arith, length-replicate {A = ℕ} (326 * pairsBefore n) 0)) in
     two ∙ ap (put m 0) (append-assoc front (blocks n (carrierBlock fresh)) zeros ∙ sym (fresh-is n))

@@ -1,4 +1,4 @@
--- Numbers of pairs: the next, the most, and a pair below another receiver's.
+-- Numbers of pairs: the next, and the most.
 use Prim.Native.Nat.{ℕ, zero, suc, _+_, _≤_, _<_}
 use native.Mathlib.Omega.{arith}
 use native.Mathlib.Numerals.{add-one}
@@ -25,7 +25,3 @@ pairs-rise i (suc n) l =
 pub pairs-most : (n : ℕ) → n ≤ 8 → pairsBefore n ≤ 28
 unfolding pairsBefore
 pairs-most n l = pairs-rise n 8 l
-
--- The pair (i, j) stands in front of the pairs of the receivers below i.
-pub pair-below : (n i j : ℕ) → j < i → i < n → pairsBefore i + j < pairsBefore n
-pair-below n i j l h = omega (arith, pairs-rise (suc i) n (omega arith), pairs-next i)

@@ -6,7 +6,8 @@ ghost use lib.ListN.{length, getD};
 ghost use lib.Dec.{ltb};
 ghost use Rattle.reference.specs.Ranges.{each};
 ghost use Rattle.layout.specs.Places.{stateSize};
-ghost use Rattle.layout.specs.Valid.{usedBy, cellValid, cellsValid, recordValid, carrierValid, placeValid, channelValid, pairValid, countValid, valid as Valid·valid};
+ghost use Rattle.layout.specs.Valid.{usedBy, cellValid, cellsValid, recordValid, carrierValid, placeValid};
+ghost use Rattle.layout.specs.Valid.{channelValid, pairValid, valid as Valid·valid};
 use floor::Floor;
 
 // The number at beat t is a cell of the grid while cells are used, and 0 behind.

@@ -34,12 +34,21 @@ cast-state-size : tie.Need-cast-state-size
 cast-state-size c = search needs
 
 state-size-requires : tie.Need-state-size-requires
-state-size-requires c κs = limits-passed _ (passes (c .before .before .before .before .before .before .before .limits .ensures) (c .before .before .before .before .before .enum-told .given .1)) .carriers .1
+state-size-requires c κs =
+    let c₄ = c .before .before .before .before in
+    limits-passed _ (passes (c₄ .before .before .before .limits .ensures) (c₄ .before .enum-told .given .1)) .carriers .1
 
 returns : tie.Need-returns
 unfolding figuresOf figuresFor unless
-returns c = rw
-    (passes (c .before .before .before .before .before .before .before .before .limits .ensures) (c .before .before .before .before .before .before .enum-told .given .1), c .before .before .before .before .sheet-length .ensures, c .before .before .text-length .ensures, c .state-size .ensures .0)
+returns c =
+    let c₄ = c .before .before .before .before in
+    let c₈ = c₄ .before .before .before .before in
+    rw (
+      passes (c₈ .limits .ensures) (c₄ .before .before .enum-told .given .1),
+      c₄ .sheet-length .ensures,
+      c .before .before .text-length .ensures,
+      c .state-size .ensures .0,
+    )
 
 returns-2 : tie.Need-returns-2
 unfolding figuresOf figuresFor unless

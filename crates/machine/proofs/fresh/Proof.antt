@@ -18,13 +18,19 @@ enum-told-2 c = search needs
 
 returns : tie.Need-returns
 unfolding freshMemory
-returns c = (c .before .before .lent-place .ensures, memory-refused _ _ _ _ _ (refuses (c .before .before .lent-place .ensures) (c .enum-told2 .given .1)))
+returns c = (
+  c .before .before .lent-place .ensures,
+  memory-refused _ _ _ _ _
+      (refuses (c .before .before .lent-place .ensures) (c .enum-told2 .given .1)),
+)
 
 cast-write-fresh : tie.Need-cast-write-fresh
 cast-write-fresh c = search needs
 
 write-fresh-requires : tie.Need-write-fresh-requires
-write-fresh-requires c κs = let a = place-tells _ _ _ (passes (c .before .before .before .before .lent-place .ensures) (c .before .before .enum-told .given .1)) in
+write-fresh-requires c κs =
+    let c₄ = c .before .before .before .before in
+    let a = place-tells _ _ _ (passes (c₄ .lent-place .ensures) (c .before .before .enum-told .given .1)) in
     (a .bounds .carriers .1, a .enough)
 
 same-length : tie.Need-same-length
@@ -32,7 +38,13 @@ same-length c = search needs
 
 returns-2 : tie.Need-returns-2
 unfolding freshMemory
-returns-2 c = (c .before .before .before .before .before .before .before .lent-place .ensures, memory-passed _ _ _ (passes (c .before .before .before .before .before .before .before .lent-place .ensures) (c .before .before .before .before .before .enum-told .given .1)) (c .before .before .write-fresh .ensures))
+returns-2 c =
+    let c₄ = c .before .before .before .before in (
+      c₄ .before .before .before .lent-place .ensures,
+      memory-passed _ _ _
+          (passes (c₄ .before .before .before .lent-place .ensures) (c₄ .before .enum-told .given .1))
+          (c .before .before .write-fresh .ensures),
+    )
 
 pub fresh-spec : {M : Type 1} → statement M
 fresh-spec =

@@ -1,4 +1,6 @@
--- `machine::run` meets its contract: a refusal leaves all as it was; otherwise the loop over the free rows is the run of the floor, and its tally decides the end.
+-- `machine::run` meets its contract: a refusal leaves all as it was; otherwise the loop over the free rows is the run of the floor, and
+-- its tally decides the end.
+-- its tally decides the end.
 use Rattle.floor.specs.Verdict.{Verdict}
 use Rattle.machine.proofs.VerdictLaws.{workable, reply-passed, memory-passed, reply-refused, memory-refused, run-tells}
 use Rattle.machine.proofs.TakeLaws.{machine-same}
@@ -13,7 +15,7 @@ use Rattle.reference.specs.Ending.{ended}
 use Rattle.floor.proofs.AnswersLaws.{passes, refuses}
 use Rattle.layout.specs.Calls.{replyIf, runReply, runMemory, runOver}
 use Rattle.machine.specs.Ceiling.{turned}
-use Rattle.machine.specs.Inner.{endsWith}
+use Rattle.machine.specs.Inner.{runWith, endsWith}
 use Rattle.machine.proofs.RunLaws.{taken-within, ran-is}
 use Rattle.machine.proofs.OpenLaws.{silent-of}
 use native.Mathlib.Omega.{arith}
@@ -37,7 +39,7 @@ same-length : tie.Need-same-length
 same-length c = search needs
 
 returns : tie.Need-returns
-unfolding runReply runMemory runOver
+unfolding runReply runMemory runOver runWith
 returns c = let told = c .before .before .before .listed .ensures in
     let no = refuses told (c .before .enum-told2 .given .1) in (
       reply-refused _ _ _ _ _ no (c .turned .ensures ∙ ap (λ (v : Verdict). replyIf v (ran 0 ended)) told),
@@ -49,27 +51,38 @@ free-rows-requires c κs = let a = run-tells _ _ _ _ (passes (c .before .before 
     ((a .bounds .width .0, a .bounds .width .1, a .bounds .height .1), a .accepted .lent)
 
 run-all-requires : tie.Need-run-all-requires
-run-all-requires c κs = let a = run-tells _ _ _ _ (passes (c .before .before .before .before .listed .ensures) (c .before .before .enum-told .given .1)) in
+run-all-requires c κs =
+    let c₄ = c .before .before .before .before in
+    let a = run-tells _ _ _ _ (passes (c₄ .listed .ensures) (c .before .before .enum-told .given .1)) in
     workable _ _ _ _ a (c .before .free-rows .ensures)
 
 ending-requires : tie.Need-ending-requires
-ending-requires c κs = let a = run-tells _ _ _ _ (passes (c .before .before .before .before .before .before .before .before .listed .ensures) (c .before .before .before .before .before .before .enum-told .given .1)) in
+ending-requires c κs =
+    let c₄ = c .before .before .before .before in
+    let c₈ = c₄ .before .before .before .before in
+    let a = run-tells _ _ _ _ (passes (c₈ .listed .ensures) (c₄ .before .before .enum-told .given .1)) in
     (a .bounds .carriers .1, omega (arith, c .before .before .before .run-all .kept .1 .1 .0, a .enough))
 
 same-length-2 : tie.Need-same-length-2
 same-length-2 c = search needs
 
 returns-2 : tie.Need-returns-2
-unfolding runReply runMemory runOver
-returns-2 c = let told = passes (c .before .before .before .before .before .before .before .before .before .listed .ensures) (c .before .before .before .before .before .before .before .enum-told .given .1) in
-    let f = c .before .before .before .before .before .before .before .before .before .before .before .before .before .before .args .f in
-    let ws = now (c .before .before .before .before .before .before .before .before .before .before .before .before .before .before .args .walls) in
-    let rows = c .before .before .before .before .before .before .free-rows .result in
-    let same = machine-same f ws rows (c .before .before .before .before .before .before .free-rows .ensures) in
-    let tally = rw same at (c .before .before .before .before .run-all .ensures) in (
+unfolding runReply runMemory runOver runWith
+returns-2 c =
+    let c₄ = c .before .before .before .before in
+    let c₈ = c₄ .before .before .before .before in
+    let c₁₂ = c₈ .before .before .before .before in
+    let told = passes (c₈ .before .listed .ensures) (c₄ .before .before .before .enum-told .given .1) in
+    let f = c₁₂ .before .before .args .f in
+    let ws = now (c₁₂ .before .before .args .walls) in
+    let rows = c₄ .before .before .free-rows .result in
+    let same = machine-same f ws rows (c₄ .before .before .free-rows .ensures) in
+    let tally = rw same at (c₄ .run-all .ensures) in (
       reply-passed _ _ told (c .ending .ensures
-          ∙ ap (λ (s : Bool). ran (c .before .before .before .before .run-all .result .taken) (endsWith s (c .before .before .before .before .run-all .result .taken) (c .before .before .before .before .before .before .before .before .before .before .before .before .before .before .args .budget) (c .before .before .before .before .run-all .result .read) (length (now (c .before .before .before .before .before .before .before .before .before .before .before .before .before .before .args .numbers)))))
-          (silent-of f (c .before .before .before .before .run-all .last .1 .1 .0) ws)
+          ∙ ap (λ (s : Bool). ran (c₄ .run-all .result .taken)
+          (endsWith s (c₄ .run-all .result .taken) (c₁₂ .before .before .args .budget) (c₄ .run-all .result .read)
+          (length (now (c₁₂ .before .before .args .numbers)))))
+          (silent-of f (c₄ .run-all .last .1 .1 .0) ws)
           ∙ ran-is _ _ _ _ _ _ _ tally),
       (memory-passed _ _ _ told (tally .memory), taken-within _ _ _ _),
     )

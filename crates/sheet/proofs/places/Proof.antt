@@ -1,4 +1,5 @@
--- `sheet::places` meets its contract: the floor check over the walls read, with unused places behind them, is checks 3 to 6 (`checked-places`).
+-- `sheet::places` meets its contract: the floor check over the walls read, with unused places behind them, is checks 3 to 6
+-- (`checked-places`).
 use denote.Ref.{now}
 use Rattle.sheet.specs.Values.{wallsFrom, headAt, floorAt, wallsAt}
 use Rattle.floor.specs.Checks.{checkOf}

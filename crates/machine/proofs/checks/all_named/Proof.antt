@@ -1,4 +1,5 @@
 -- `machine::checks::all_named` meets its contract: the loop holds that all steps so far are named; the first that is not has its position.
+-- position.
 use native.Mathlib.Nat.{zero-add}
 use Rattle.floor.specs.Verdict.{each as inOrder, passed as ok, refused as turnedAway}
 use Rattle.floor.proofs.VerdictLaws.{each-none as names-none, each-more as names-more, each-stop as names-stop, each-end as names-end}
@@ -37,8 +38,12 @@ is-named-requires c κs = search needs
 
 returns : tie.Need-returns Inv-loop μ-loop
 unfolding verdictOf namedAt
-returns c = let no = ap (named (bare (c .before .before .before .before .before .before .before .args .f))) (sym (c .before .before .step-of .ensures)) ∙ sym (c .before .is-named .ensures) ∙ not-true _ (c .if1 .taken) in
-    ap (turnedAway 7) (sym (zero-add (c .before .before .before .before .before .loop .p))) ∙ sym (names-stop 7 0 _ _ _ (c .before .before .before .before .loop-test .taken) (c .before .before .before .before .before .loop .inv .1) no)
+returns c =
+    let c₄ = c .before .before .before .before in
+    let no = ap (named (bare (c₄ .before .before .before .args .f))) (sym (c .before .before .step-of .ensures)) ∙ sym
+    (c .before .is-named .ensures) ∙ not-true _ (c .if1 .taken) in
+    ap (turnedAway 7) (sym (zero-add (c₄ .before .loop .p))) ∙ sym
+    (names-stop 7 0 _ _ _ (c₄ .loop-test .taken) (c₄ .before .loop .inv .1) no)
 
 add-p : tie.Need-add-p Inv-loop μ-loop
 add-p c = search needs
@@ -48,8 +53,11 @@ loop-less c = search needs
 
 loop-again : tie.Need-loop-again Inv-loop μ-loop
 unfolding namedAt
-loop-again c = let yes = ap (named (bare (c .before .before .before .before .before .before .before .args .f))) (sym (c .before .before .step-of .ensures)) ∙ sym (c .before .is-named .ensures) ∙ not-false _ (c .if1 .left) in
-    (search needs, names-more 7 0 _ _ (c .before .before .before .before .before .loop .inv .1) yes)
+loop-again c =
+    let c₄ = c .before .before .before .before in
+    let yes = ap (named (bare (c₄ .before .before .before .args .f))) (sym (c .before .before .step-of .ensures)) ∙ sym
+    (c .before .is-named .ensures) ∙ not-false _ (c .if1 .left) in
+    (search needs, names-more 7 0 _ _ (c₄ .before .loop .inv .1) yes)
 
 returns-2 : tie.Need-returns-2 Inv-loop μ-loop
 unfolding verdictOf

@@ -32,7 +32,10 @@ room-requires c κs = search needs
 
 returns-2 : tie.Need-returns-2
 unfolding placeVerdict
-returns-2 c = hands-on (c .before .before .before .before .before .check .ensures) (c .before .before .before .enum-told .given .1) (c .room .ensures ∙ rw (c .before .state-size .ensures .0) refl)
+returns-2 c =
+    let c₄ = c .before .before .before .before in
+    hands-on (c₄ .before .check .ensures) (c .before .before .before .enum-told .given .1)
+    (c .room .ensures ∙ rw (c .before .state-size .ensures .0) refl)
 
 pub lent-place-spec : {M : Type 1} → statement M
 lent-place-spec =

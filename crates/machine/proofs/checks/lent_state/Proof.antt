@@ -31,14 +31,20 @@ valid-requires c κs = let a = place-tells _ _ _ (passes (c .before .before .len
 
 returns-2 : tie.Need-returns-2
 unfolding stateVerdict verdictOf
-returns-2 c = hands-on (c .before .before .before .before .lent-place .ensures) (c .before .before .enum-told .given .1) (sym (demand-passes 10 0 (sym (c .before .valid .ensures) ∙ c .if1 .taken)))
+returns-2 c =
+    let c₄ = c .before .before .before .before in
+    hands-on (c₄ .lent-place .ensures) (c .before .before .enum-told .given .1)
+    (sym (demand-passes 10 0 (sym (c .before .valid .ensures) ∙ c .if1 .taken)))
 
 refused-requires : tie.Need-refused-requires
 refused-requires c κs = search needs
 
 returns-3 : tie.Need-returns-3
 unfolding stateVerdict
-returns-3 c = hands-on (c .before .before .before .before .before .lent-place .ensures) (c .before .before .before .enum-told .given .1) (c .refused .ensures ∙ ap (λ (b : Bool). demand b 10 0) (sym (c .before .if1 .left) ∙ c .before .before .valid .ensures))
+returns-3 c =
+    let c₄ = c .before .before .before .before in
+    hands-on (c₄ .before .lent-place .ensures) (c .before .before .before .enum-told .given .1)
+    (c .refused .ensures ∙ ap (λ (b : Bool). demand b 10 0) (sym (c .before .if1 .left) ∙ c .before .before .valid .ensures))
 
 pub lent-state-spec : {M : Type 1} → statement M
 lent-state-spec =

@@ -26,7 +26,8 @@ all-named-requires c κs = search needs
 
 returns-2 : tie.Need-returns-2
 unfolding runVerdict
-returns-2 c = hands-on (c .before .before .before .lent-state .ensures) (c .before .enum-told .given .1) (c .all-named .ensures ∙ names-are _ _ _)
+returns-2 c = hands-on (c .before .before .before .lent-state .ensures) (c .before .enum-told .given .1)
+    (c .all-named .ensures ∙ names-are _ _ _)
 
 pub listed-spec : {M : Type 1} → statement M
 listed-spec =

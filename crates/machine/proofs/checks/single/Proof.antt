@@ -1,4 +1,5 @@
 -- `machine::checks::single` meets its contract: the lent state, 7, then 8.
+use Rattle.machine.specs.Inner.{singleVerdict}
 use Rattle.floor.proofs.VerdictLaws.{demand-passes}
 use Rattle.machine.proofs.VerdictLaws.{state-tells, seven-stops, eight-next}
 use mathlib.Core.Bool.{Bool}
@@ -22,6 +23,7 @@ enum-told-2 : tie.Need-enum-told-2
 enum-told-2 c = search needs
 
 returns : tie.Need-returns
+unfolding singleVerdict
 returns c = ends-at _ (c .before .before .lent-state .ensures) (c .enum-told2 .given .1)
 
 is-named-requires : tie.Need-is-named-requires
@@ -31,21 +33,36 @@ refused-requires : tie.Need-refused-requires
 refused-requires c κs = search needs
 
 returns-2 : tie.Need-returns-2
-returns-2 c = hands-on (c .before .before .before .before .before .lent-state .ensures) (c .before .before .before .enum-told .given .1) (seven-stops _ _ (sym (c .before .before .is-named .ensures) ∙ not-true _ (c .before .if1 .taken)) (c .refused .ensures))
+unfolding singleVerdict
+returns-2 c =
+    let c₄ = c .before .before .before .before in
+    hands-on (c₄ .before .lent-state .ensures) (c .before .before .before .enum-told .given .1)
+    (seven-stops _ _ (sym (c .before .before .is-named .ensures) ∙ not-true _ (c .before .if1 .taken)) (c .refused .ensures))
 
 is-open-requires : tie.Need-is-open-requires
-is-open-requires c κs = let a = state-tells _ _ _ (passes (c .before .before .before .before .lent-state .ensures) (c .before .before .enum-told .given .1)) in
+is-open-requires c κs =
+    let c₄ = c .before .before .before .before in
+    let a = state-tells _ _ _ (passes (c₄ .lent-state .ensures) (c .before .before .enum-told .given .1)) in
     (a .bounds .carriers .1, a .enough)
 
 returns-3 : tie.Need-returns-3
-unfolding verdictOf
-returns-3 c = hands-on (c .before .before .before .before .before .before .lent-state .ensures) (c .before .before .before .before .enum-told .given .1) (eight-next _ _ (sym (c .before .before .before .is-named .ensures) ∙ not-false _ (c .before .before .if1 .left)) (sym (demand-passes 8 0 (sym (c .before .is-open .ensures) ∙ c .if2 .taken))))
+unfolding verdictOf singleVerdict
+returns-3 c =
+    let c₄ = c .before .before .before .before in
+    hands-on (c₄ .before .before .lent-state .ensures) (c₄ .enum-told .given .1)
+    (eight-next _ _ (sym (c .before .before .before .is-named .ensures) ∙ not-false _ (c .before .before .if1 .left))
+    (sym (demand-passes 8 0 (sym (c .before .is-open .ensures) ∙ c .if2 .taken))))
 
 refused-requires-2 : tie.Need-refused-requires-2
 refused-requires-2 c κs = search needs
 
 returns-4 : tie.Need-returns-4
-returns-4 c = hands-on (c .before .before .before .before .before .before .before .lent-state .ensures) (c .before .before .before .before .before .enum-told .given .1) (eight-next _ _ (sym (c .before .before .before .before .is-named .ensures) ∙ not-false _ (c .before .before .before .if1 .left)) (c .refused2 .ensures ∙ ap (λ (b : Bool). demand b 8 0) (sym (c .before .if2 .left) ∙ c .before .before .is-open .ensures)))
+unfolding singleVerdict
+returns-4 c =
+    let c₄ = c .before .before .before .before in
+    hands-on (c₄ .before .before .before .lent-state .ensures) (c₄ .before .enum-told .given .1)
+    (eight-next _ _ (sym (c₄ .is-named .ensures) ∙ not-false _ (c .before .before .before .if1 .left))
+    (c .refused2 .ensures ∙ ap (λ (b : Bool). demand b 8 0) (sym (c .before .if2 .left) ∙ c .before .before .is-open .ensures)))
 
 pub single-spec : {M : Type 1} → statement M
 single-spec =

@@ -13,19 +13,29 @@ is-silent-requires c κs = search needs
 
 returns : tie.Need-returns
 unfolding ranReply
-returns c = ap (ran (c .before .before .before .args .tally .taken)) (ends-silent _ _ _ _ _ (sym (c .before .is-silent .ensures) ∙ c .if1 .taken))
+returns c = ap (ran (c .before .before .before .args .tally .taken))
+    (ends-silent _ _ _ _ _ (sym (c .before .is-silent .ensures) ∙ c .if1 .taken))
 
 returns-2 : tie.Need-returns-2
 unfolding ranReply
-returns-2 c = ap (ran (c .before .before .before .before .before .args .tally .taken)) (ends-unspent _ _ _ _ _ (sym (c .before .before .before .is-silent .ensures) ∙ c .before .before .if1 .left) (c .if2 .taken))
+returns-2 c =
+    let c₄ = c .before .before .before .before in
+    ap (ran (c₄ .before .args .tally .taken))
+    (ends-unspent _ _ _ _ _ (sym (c .before .before .before .is-silent .ensures) ∙ c .before .before .if1 .left) (c .if2 .taken))
 
 returns-3 : tie.Need-returns-3
 unfolding ranReply
-returns-3 c = ap (ran (c .before .before .before .before .before .before .before .args .tally .taken)) (ends-spent _ _ _ _ _ (sym (c .before .before .before .before .before .is-silent .ensures) ∙ c .before .before .before .before .if1 .left) (c .before .before .if2 .left) (c .if3 .taken))
+returns-3 c =
+    let c₄ = c .before .before .before .before in
+    ap (ran (c₄ .before .before .before .args .tally .taken))
+    (ends-spent _ _ _ _ _ (sym (c₄ .before .is-silent .ensures) ∙ c₄ .if1 .left) (c .before .before .if2 .left) (c .if3 .taken))
 
 returns-4 : tie.Need-returns-4
 unfolding ranReply
-returns-4 c = ap (ran (c .before .before .before .before .before .before .before .args .tally .taken)) (ends-read _ _ _ _ _ (sym (c .before .before .before .before .before .is-silent .ensures) ∙ c .before .before .before .before .if1 .left) (c .before .before .if2 .left) (c .if3 .left))
+returns-4 c =
+    let c₄ = c .before .before .before .before in
+    ap (ran (c₄ .before .before .before .args .tally .taken))
+    (ends-read _ _ _ _ _ (sym (c₄ .before .is-silent .ensures) ∙ c₄ .if1 .left) (c .before .before .if2 .left) (c .if3 .left))
 
 pub ending-spec : {M : Type 1} → statement M
 ending-spec = tie.close (tie.spec is-silent-requires returns returns-2 returns-3 returns-4)

@@ -3,7 +3,7 @@ use Rattle.machine.proofs.TakeLaws.{workable-same}
 use lib.ListN.{length}
 use Prim.Native.Nat.{_-_, _≤_}
 use Rattle.reference.specs.Take.{kept}
-use Rattle.machine.specs.Inner.{machineWith, Running}
+use Rattle.machine.specs.Inner.{runWith, machineWith, Running}
 use Rattle.machine.proofs.RunLaws.{running-start, running-more, running-spent, running-end, tried-one}
 use borrow.Author.Needs.{needs}
 use native.Mathlib.Omega.{arith}
@@ -11,7 +11,8 @@ use Rattle.machine.proofs.runs.run_all.Statement.{statement}
 use Rattle.machine.proofs.runs.run_all.Tie as tie
 
 abbrev Inv-loop : tie.InvT-loop
-Inv-loop f free m₀ numbers budget taken₀ read₀ m taken read = (taken ≤ budget) × ((read ≤ length numbers) × Running (machineWith f free) m₀ numbers budget m read taken)
+Inv-loop f free m₀ numbers budget taken₀ read₀ m taken read = (taken ≤ budget) ×
+    ((read ≤ length numbers) × Running (machineWith f free) m₀ numbers budget m read taken)
 
 abbrev μ-loop : tie.MeasureT-loop
 μ-loop f free m₀ numbers budget taken₀ read₀ m taken read = length numbers - read
@@ -23,7 +24,9 @@ same-length : tie.Need-same-length Inv-loop μ-loop
 same-length c = c .before .before .loop .inv .1 .1 .kept
 
 returns : tie.Need-returns Inv-loop μ-loop
-returns c = running-spent _ _ _ _ _ _ _ (c .before .loop-test .taken) (c .before .before .loop .inv .0) (c .if1 .taken) (c .before .before .loop .inv .1 .1)
+unfolding runWith
+returns c = running-spent _ _ _ _ _ _ _ (c .before .loop-test .taken) (c .before .before .loop .inv .0) (c .if1 .taken)
+    (c .before .before .loop .inv .1 .1)
 
 mul-try-step : tie.Need-mul-try-step Inv-loop μ-loop
 mul-try-step c = search needs
@@ -32,7 +35,9 @@ shared-slice-read-try-step : tie.Need-shared-slice-read-try-step Inv-loop μ-loo
 shared-slice-read-try-step c = search needs
 
 try-step-requires : tie.Need-try-step-requires Inv-loop μ-loop
-try-step-requires c κs = workable-same _ _ _ _ (c .before .before .before .before .loop .inv .1 .1 .kept) (c .before .before .before .before .before .before .before .pre)
+try-step-requires c κs =
+    let c₄ = c .before .before .before .before in
+    workable-same _ _ _ _ (c₄ .loop .inv .1 .1 .kept) (c₄ .before .before .before .pre)
 
 add-taken : tie.Need-add-taken Inv-loop μ-loop
 add-taken c = search (needs, tried-one (c .before .before .try-step .ensures))
@@ -44,18 +49,23 @@ loop-less : tie.Need-loop-less Inv-loop μ-loop
 loop-less c = search needs
 
 loop-again : tie.Need-loop-again Inv-loop μ-loop
-loop-again c = let one = tried-one (c .before .before .try-step .ensures) in (
-  omega (arith, one, c .before .before .before .before .before .if1 .left),
-  (
-    omega (arith, c .before .before .before .before .before .before .loop-test .taken),
-    running-more _ _ _ _ _ _ _ _ _ (c .before .before .before .before .before .before .loop-test .taken) (c .before .before .before .before .before .if1 .left) (c .before .before .try-step .kept .1 .1 .0) (c .before .before .before .before .before .before .before .loop .inv .1 .1) (c .before .before .try-step .ensures),
-  ),
-)
+loop-again c =
+    let c₄ = c .before .before .before .before in
+    let one = tried-one (c .before .before .try-step .ensures) in (
+      omega (arith, one, c₄ .before .if1 .left),
+      (
+        omega (arith, c₄ .before .before .loop-test .taken),
+        running-more _ _ _ _ _ _ _ _ _ (c₄ .before .before .loop-test .taken) (c₄ .before .if1 .left)
+            (c .before .before .try-step .kept .1 .1 .0) (c₄ .before .before .before .loop .inv .1 .1)
+            (c .before .before .try-step .ensures),
+      ),
+    )
 
 same-length-2 : tie.Need-same-length-2 Inv-loop μ-loop
 same-length-2 c = c .before .loop .inv .1 .1 .kept
 
 returns-2 : tie.Need-returns-2 Inv-loop μ-loop
+unfolding runWith
 returns-2 c = running-end _ _ _ _ _ _ _ (c .loop-test .left) (c .before .loop .inv .0) (c .before .loop .inv .1 .1)
 
 pub run-all-spec : {M : Type 1} → statement M

@@ -27,18 +27,45 @@ pop-requires c κs = search needs
 
 set-due-requires : tie.Need-set-due-requires
 unfolding stateSize
-set-due-requires c κs = (omega (arith, c .before .before .before .before .before .before .before .before .before .before .before .before .pre), omega (arith, c .before .before .before .pop .kept .0, c .before .before .before .before .before .before .before .move-record .kept .0, c .before .before .before .before .before .before .before .before .before .before .before .before .pre))
+set-due-requires c κs =
+    let c₄ = c .before .before .before .before in
+    let c₈ = c₄ .before .before .before .before in
+    let c₁₂ = c₈ .before .before .before .before in (
+      omega (arith, c₁₂ .pre),
+      omega
+          (arith, c .before .before .before .pop .kept .0, c₄ .before .before .before .move-record .kept .0, c₁₂ .pre),
+    )
 
 tick-requires : tie.Need-tick-requires
 unfolding stateSize
-tick-requires c κs = omega (arith, c .before .before .before .set-due .kept .0, c .before .before .before .before .before .before .before .pop .kept .0, c .before .before .before .before .before .before .before .before .before .before .before .move-record .kept .0, c .before .before .before .before .before .before .before .before .before .before .before .before .before .before .before .before .pre)
+tick-requires c κs =
+    let c₄ = c .before .before .before .before in
+    let c₈ = c₄ .before .before .before .before in
+    let c₁₂ = c₈ .before .before .before .before in
+    let c₁₆ = c₁₂ .before .before .before .before in
+    omega (
+      arith,
+      c .before .before .before .set-due .kept .0,
+      c₄ .before .before .before .pop .kept .0,
+      c₈ .before .before .before .move-record .kept .0,
+      c₁₆ .pre,
+    )
 
 same-length : tie.Need-same-length
 same-length c = search needs
 
 returns : tie.Need-returns
 unfolding saidBy
-returns c = (refl, delivery-stored _ _ _ _ _ _ _ _ _ _ (c .before .before .before .before .before .before .before .before .before .before .before .before .before .before .before .before .before .view-place .ensures .0) (c .before .before .before .before .before .before .before .before .before .before .before .before .before .before .before .before .channel-place .ensures .0) (c .before .before .before .before .before .before .before .before .before .before .before .before .before .before .move-record .ensures) (c .before .before .before .before .before .before .before .before .before .before .pop .ensures) (c .before .before .before .before .before .before .set-due .ensures) (c .before .before .tick .ensures))
+returns c =
+    let c₄ = c .before .before .before .before in
+    let c₈ = c₄ .before .before .before .before in
+    let c₁₂ = c₈ .before .before .before .before in
+    let c₁₆ = c₁₂ .before .before .before .before in (
+      refl,
+      delivery-stored _ _ _ _ _ _ _ _ _ _ (c₁₆ .before .view-place .ensures .0) (c₁₆ .channel-place .ensures .0)
+          (c₁₂ .before .before .move-record .ensures) (c₈ .before .before .pop .ensures) (c₄ .before .before .set-due .ensures)
+          (c .before .before .tick .ensures),
+    )
 
 pub deliver-now-spec : {M : Type 1} → statement M
 deliver-now-spec =

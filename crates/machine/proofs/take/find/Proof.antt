@@ -39,12 +39,17 @@ part-best-route-end : tie.Need-part-best-route-end
 part-best-route-end c = search needs
 
 best-route-requires : tie.Need-best-route-requires
-best-route-requires c κs = let w = c .before .before .before .before .pre .1 in
-    w .searchable _ _ (c .before .before .before .before .pre .0) (slice-long _ _ _ (omega (arith, c .before .views-start .ensures, w .room)))
+best-route-requires c κs =
+    let c₄ = c .before .before .before .before in
+    let w = c₄ .pre .1 in
+    w .searchable _ _ (c₄ .pre .0) (slice-long _ _ _ (omega (arith, c .before .views-start .ensures, w .room)))
 
 returns : tie.Need-returns
-returns c = let w = c .before .before .before .before .before .pre .1 in
-    rw (sym (slice-best (c .before .before .before .before .before .args .f) (c .before .before .before .before .before .args .free) (now (c .before .before .before .before .before .args .m)) (c .before .before .before .before .before .args .i) (c .before .before .views-start .result) (w .horizon) (c .before .before .views-start .ensures .0)
+returns c =
+    let c₄ = c .before .before .before .before in
+    let w = c₄ .before .pre .1 in
+    rw (sym (slice-best (c₄ .before .args .f) (c₄ .before .args .free) (now (c₄ .before .args .m)) (c₄ .before .args .i)
+    (c .before .before .views-start .result) (w .horizon) (c .before .before .views-start .ensures .0)
     (omega (arith, c .before .before .views-start .ensures, w .room)))) (c .best-route .ensures)
 
 pub find-spec : {M : Type 1} → statement M

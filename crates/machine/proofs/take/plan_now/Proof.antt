@@ -26,16 +26,30 @@ same-length c = search needs
 
 returns : tie.Need-returns
 unfolding saidBy
-returns c = let same = ap (λ (t : ℕ). t ∷ c .before .before .before .before .before .before .before .before .find .result .route) (c .before .before .before .before .before .before .tag-of .ensures) ∙ found-record (c .before .before .before .before .before .before .before .before .find .result) _ (c .before .before .before .before .before .before .before .before .find .ensures) in
-    (plan-sent _ _ _ _ _ same (sym (c .before .before .before .record-plan .ensures .0) ∙ c .if1 .taken), plan-stores _ _ _ _ _ same (c .before .before .before .record-plan .ensures .1))
+returns c =
+    let c₄ = c .before .before .before .before in
+    let c₈ = c₄ .before .before .before .before in
+    let same = ap (λ (t : ℕ). t ∷ c₈ .find .result .route) (c₄ .before .before .tag-of .ensures) ∙ found-record (c₈ .find .result) _
+    (c₈ .find .ensures) in (
+      plan-sent _ _ _ _ _ same (sym (c .before .before .before .record-plan .ensures .0) ∙ c .if1 .taken),
+      plan-stores _ _ _ _ _ same
+          (c .before .before .before .record-plan .ensures .1),
+    )
 
 same-length-2 : tie.Need-same-length-2
 same-length-2 c = search needs
 
 returns-2 : tie.Need-returns-2
 unfolding saidBy
-returns-2 c = let same = ap (λ (t : ℕ). t ∷ c .before .before .before .before .before .before .before .before .find .result .route) (c .before .before .before .before .before .before .tag-of .ensures) ∙ found-record (c .before .before .before .before .before .before .before .before .find .result) _ (c .before .before .before .before .before .before .before .before .find .ensures) in
-    (plan-kept _ _ _ _ _ same (sym (c .before .before .before .record-plan .ensures .0) ∙ c .if1 .left), plan-stores _ _ _ _ _ same (c .before .before .before .record-plan .ensures .1))
+returns-2 c =
+    let c₄ = c .before .before .before .before in
+    let c₈ = c₄ .before .before .before .before in
+    let same = ap (λ (t : ℕ). t ∷ c₈ .find .result .route) (c₄ .before .before .tag-of .ensures) ∙ found-record (c₈ .find .result) _
+    (c₈ .find .ensures) in (
+      plan-kept _ _ _ _ _ same (sym (c .before .before .before .record-plan .ensures .0) ∙ c .if1 .left),
+      plan-stores _ _ _ _ _ same
+          (c .before .before .before .record-plan .ensures .1),
+    )
 
 pub plan-now-spec : {M : Type 1} → statement M
 plan-now-spec =

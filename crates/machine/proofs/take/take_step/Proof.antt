@@ -14,7 +14,9 @@ enum-known-s c = search needs
 
 plan-now-requires : tie.Need-plan-now-requires
 unfolding meant
-plan-now-requires c κs = (plan-there _ _ _ _ (rw (c .before .before .s .given .1) at (c .before .before .before .before .before .pre .0)), c .before .before .before .before .before .pre .1)
+plan-now-requires c κs =
+    let c₄ = c .before .before .before .before in
+    (plan-there _ _ _ _ (rw (c .before .before .s .given .1) at (c₄ .before .pre .0)), c₄ .before .pre .1)
 
 enum-known-s-2 : tie.Need-enum-known-s-2
 enum-known-s-2 c = search needs
@@ -24,8 +26,10 @@ cast-deliver-now c = search needs
 
 deliver-now-requires : tie.Need-deliver-now-requires
 unfolding meant
-deliver-now-requires c κs = let there = delivery-there _ _ _ _ _ (rw (c .before .before .before .s2 .given .1) at (c .before .before .before .before .before .before .pre .0)) in
-    (there .0, there .1, c .before .before .before .before .before .before .pre .1 .few, c .before .before .before .before .before .before .pre .1 .room)
+deliver-now-requires c κs =
+    let c₄ = c .before .before .before .before in
+    let there = delivery-there _ _ _ _ _ (rw (c .before .before .before .s2 .given .1) at (c₄ .before .before .pre .0)) in
+    (there .0, there .1, c₄ .before .before .pre .1 .few, c₄ .before .before .pre .1 .room)
 
 enum-told : tie.Need-enum-told
 enum-told c = search needs
@@ -35,14 +39,18 @@ same-length c = search needs
 
 returns : tie.Need-returns
 unfolding meant
-returns c = rw (c .before .before .before .before .before .s .given .1) (c .before .before .plan-now .ensures)
+returns c =
+    let c₄ = c .before .before .before .before in
+    rw (c₄ .before .s .given .1) (c .before .before .plan-now .ensures)
 
 same-length-2 : tie.Need-same-length-2
 same-length-2 c = search needs
 
 returns-2 : tie.Need-returns-2
 unfolding meant saidIn takenIn machineWith
-returns-2 c = rw (c .before .before .before .before .before .before .s2 .given .1) (c .before .before .deliver-now .ensures)
+returns-2 c =
+    let c₄ = c .before .before .before .before in
+    rw (c₄ .before .before .s2 .given .1) (c .before .before .deliver-now .ensures)
 
 returns-3 : tie.Need-returns-3
 unfolding meant saidBy saidIn takenIn

@@ -1,34 +1,4 @@
 -- `machine::tests::is_silent` meets its contract: the loop holds that nothing is open for the carriers so far.
-use mathlib.Core.List.{List, [], _∷_, map}
-use mathlib.Core.Bool.{Bool, true, false, _&&_, not, cond}
-use denote.Ref.{now}
-use lib.ListN.{length, getD, set, take, drop, length-set}
-use borrow.Author.Tests.{eq-eqb, ne-eqb, lt-ltb, le-ltb, le-leb, lt-leb, not-true, not-false}
-use mathlib.Core.Path.{_≡_, refl, sym, _∙_, ap}
-use Prim.Native.Nat.{ℕ, suc, _+_, _*_, _-_, _≤_, _<_}
-use Rattle.memory.proofs.PutLaws.{put-one, put-length}
-use Rattle.memory.specs.Memory.{put, part}
-use Rattle.planner.specs.Records.{recordOf, tagOf}
-use Rattle.planner.proofs.RecordLaws.{found-record}
-use Rattle.reference.specs.Take.{kept, sent, delivered}
-use Rattle.reference.specs.Calls.{Reply, stepped, ran}
-use Rattle.reference.specs.Step.{Step, plan, deliver, noKind, named}
-use Rattle.reference.specs.Ending.{endsAs, silent, spent, ended}
-use Rattle.floor.proofs.AnswersLaws.{hands-on, ends-at, passes, refuses, turn-ends}
-use Rattle.floor.proofs.VerdictLaws.{then-passed, then-refused, then-both, turn-none, turn-more, turn-stop, turn-end}
-use Rattle.floor.specs.Answers.{verdictOf}
-use Rattle.floor.specs.Verdict.{Verdict, _then_, demand, inTurn}
-use Rattle.layout.specs.Places.{viewPlace, channelPlace, duePlace, stateSize}
-use Rattle.layout.specs.Runs.{runIn, numberTaken, endingIn}
-use Rattle.layout.specs.Steps.{ticked, moved, popped, newsIn, plannedIn, deliveredIn, bestIn, takenIn, saidIn, openIn, noneOpenIn, silentIn, sentTo}
-use Rattle.layout.specs.Calls.{machineOf, placeVerdict, stateVerdict, stepVerdict, runVerdict, replyIf, memoryIf, freshMemory, stepReply, stepMemory, runReply, runMemory, runOver}
-use Rattle.machine.specs.Ceiling.{figureOf, figureIf, mostSteps, steps, turned}
-use Rattle.machine.specs.Answers.{meant, saidBy, steppedReply, ranReply}
-use Rattle.machine.specs.Inner.{machineWith, bare, roomAt, notDelivered, namedAt, Workable, Running, Tried, took, passed, Tallied, endsWith}
-use Rattle.state.proofs.EachLaws.{each-more, each-stop, each-end, and-stop, and-next}
-use Rattle.machine.proofs.ViewLaws.{slice-long, slice-best}
-use Rattle.machine.proofs.RunLaws.{taken-within, running-start, running-more, running-spent, running-end, tried-one, ends-silent, ends-unspent, ends-spent, ends-read, ran-is}
-use Rattle.machine.proofs.OpenLaws.{low-none, plan-is, middle-none, high-none, ten-none, deliver-is, plan-away, plan-rests, plan-due, deliver-up, deliver-away, deliver-there, none-shut, open-with, open-of, silent-of, named-of, not-open, not-shut}
 use mathlib.Core.Bool.{true}
 use borrow.Author.Tests.{not-true, not-false}
 use mathlib.Core.Path.{_≡_, refl, sym, _∙_}
@@ -69,7 +39,11 @@ loop-less : tie.Need-loop-less Inv-loop μ-loop
 loop-less c = search needs
 
 loop-again : tie.Need-loop-again Inv-loop μ-loop
-loop-again c = (search needs, each-more _ _ (c .before .before .before .loop .inv .1) (sym (c .before .none-open .ensures) ∙ not-false _ (c .if1 .left)))
+loop-again c = (
+  search needs,
+  each-more _ _ (c .before .before .before .loop .inv .1)
+      (sym (c .before .none-open .ensures) ∙ not-false _ (c .if1 .left)),
+)
 
 returns-2 : tie.Need-returns-2 Inv-loop μ-loop
 unfolding silentIn bare machineWith

@@ -1,35 +1,5 @@
 -- `machine::tests::plan_open` meets its contract: a law a case: not there, not due, or the room decides.
-use mathlib.Core.List.{List, [], _∷_, map}
-use mathlib.Core.Bool.{Bool, true, false, _&&_, not, cond}
-use denote.Ref.{now}
-use lib.ListN.{length, getD, set, take, drop, length-set}
-use borrow.Author.Tests.{eq-eqb, ne-eqb, lt-ltb, le-ltb, le-leb, lt-leb, not-true, not-false}
-use mathlib.Core.Path.{_≡_, refl, sym, _∙_, ap}
-use Prim.Native.Nat.{ℕ, suc, _+_, _*_, _-_, _≤_, _<_}
-use Rattle.memory.proofs.PutLaws.{put-one, put-length}
-use Rattle.memory.specs.Memory.{put, part}
-use Rattle.planner.specs.Records.{recordOf, tagOf}
-use Rattle.planner.proofs.RecordLaws.{found-record}
-use Rattle.reference.specs.Ranges.{each}
-use Rattle.reference.specs.Take.{kept, sent, delivered}
-use Rattle.reference.specs.Calls.{Reply, stepped, ran}
-use Rattle.reference.specs.Step.{Step, plan, deliver, noKind, named}
-use Rattle.reference.specs.Ending.{endsAs, silent, spent, ended}
-use Rattle.floor.proofs.AnswersLaws.{hands-on, ends-at, passes, refuses, turn-ends}
-use Rattle.floor.proofs.VerdictLaws.{then-passed, then-refused, then-both, turn-none, turn-more, turn-stop, turn-end}
-use Rattle.floor.specs.Answers.{verdictOf}
-use Rattle.floor.specs.Verdict.{Verdict, _then_, demand, inTurn}
-use Rattle.layout.specs.Places.{viewPlace, channelPlace, duePlace, stateSize}
-use Rattle.layout.specs.Runs.{runIn, numberTaken, endingIn}
-use Rattle.layout.specs.Steps.{ticked, moved, popped, newsIn, plannedIn, deliveredIn, bestIn, takenIn, saidIn, openIn, noneOpenIn, silentIn, sentTo}
-use Rattle.layout.specs.Calls.{machineOf, placeVerdict, stateVerdict, stepVerdict, runVerdict, replyIf, memoryIf, freshMemory, stepReply, stepMemory, runReply, runMemory, runOver}
-use Rattle.machine.specs.Ceiling.{figureOf, figureIf, mostSteps, steps, turned}
-use Rattle.machine.specs.Answers.{meant, saidBy, steppedReply, ranReply}
-use Rattle.machine.specs.Inner.{machineWith, bare, roomAt, notDelivered, namedAt, Workable, Running, Tried, took, passed, Tallied, endsWith}
-use Rattle.state.proofs.EachLaws.{each-more, each-stop, each-end, and-stop, and-next}
-use Rattle.machine.proofs.ViewLaws.{slice-long, slice-best}
-use Rattle.machine.proofs.RunLaws.{taken-within, running-start, running-more, running-spent, running-end, tried-one, ends-silent, ends-unspent, ends-spent, ends-read, ran-is}
-use Rattle.machine.proofs.OpenLaws.{low-none, plan-is, middle-none, high-none, ten-none, deliver-is, plan-away, plan-rests, plan-due, deliver-up, deliver-away, deliver-there, none-shut, open-with, open-of, silent-of, named-of, not-open, not-shut}
+use mathlib.Core.Bool.{not}
 use Prim.Native.Nat.{_-_}
 use Rattle.layout.specs.Places.{stateSize}
 use Rattle.machine.proofs.OpenLaws.{plan-away, plan-rests, plan-due}
@@ -55,7 +25,9 @@ mul-if2-2 c = search needs
 
 shared-slice-read-if2 : tie.Need-shared-slice-read-if2
 unfolding stateSize
-shared-slice-read-if2 c = omega (arith, c .before .if1 .left, c .before .before .before .before .pre)
+shared-slice-read-if2 c =
+    let c₄ = c .before .before .before .before in
+    omega (arith, c .before .if1 .left, c₄ .pre)
 
 returns-2 : tie.Need-returns-2
 returns-2 c = plan-rests _ _ _ (c .before .before .if1 .left) (c .if2 .taken)

@@ -56,8 +56,13 @@ returns : tie.Need-returns
 unfolding fieldOf
 returns c =
     let c₄ = c .before .before .before .before in
-    rw
-    (c₄ .column .ensures, c .before .before .before .column2 .ensures, c .before .before .column3 .ensures, c .before .column4 .ensures, c .units .ensures)
+    rw (
+      c₄ .column .ensures,
+      c .before .before .before .column2 .ensures,
+      c .before .before .column3 .ensures,
+      c .before .column4 .ensures,
+      c .units .ensures,
+    )
     (put-five _ _ _ _ _ _ _ (c₄ .before .before .pre))
 
 pub put-field-spec : {M : Type 1} → statement M

@@ -31,8 +31,11 @@ same-length c = search needs
 
 returns : tie.Need-returns
 unfolding popped
-returns c = let now-less = c .one-less .ensures in
-    put-one (c .before .before .before .shift .last .0) (c .before .before .before .before .before .before .before .args .c) (c .one-less .result) (omega (arith, c .before .before .before .shift .kept .0, c .before .before .before .before .before .before .before .pre))
+returns c =
+    let c₄ = c .before .before .before .before in
+    let now-less = c .one-less .ensures in
+    put-one (c .before .before .before .shift .last .0) (c₄ .before .before .before .args .c) (c .one-less .result)
+    (omega (arith, c .before .before .before .shift .kept .0, c₄ .before .before .before .pre))
     ∙ rw (c .before .before .before .shift .ensures, now-less) refl
 
 pub pop-spec : {M : Type 1} → statement M

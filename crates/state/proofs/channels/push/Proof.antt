@@ -40,7 +40,9 @@ same-length : tie.Need-same-length
 same-length c = search needs
 
 returns : tie.Need-returns
-returns c = push-room _ _ _ _ (omega arith) (c .before .before .before .before .if1 .taken) (c .before .before .store .ensures)
+returns c =
+    let c₄ = c .before .before .before .before in
+    push-room _ _ _ _ (omega arith) (c₄ .if1 .taken) (c .before .before .store .ensures)
 
 returns-2 : tie.Need-returns-2
 returns-2 c = push-full _ _ _ (c .if1 .left)

@@ -16,7 +16,9 @@ same-length : tie.Need-same-length
 same-length c = search needs
 
 returns : tie.Need-returns
-returns c = below-sends _ _ _ _ _ (c .before .before .before .before .before .if1 .taken) (c .before .before .push .ensures ∙ rw (c .before .before .before .before .channel-place .ensures .0) refl)
+returns c =
+    let c₄ = c .before .before .before .before in
+    below-sends _ _ _ _ _ (c₄ .before .if1 .taken) (c .before .before .push .ensures ∙ rw (c₄ .channel-place .ensures .0) refl)
 
 returns-2 : tie.Need-returns-2
 returns-2 c = above-keeps _ _ _ _ _ (c .if1 .left)

@@ -21,7 +21,9 @@ unfolding sentTo
 loop-holds c = (omega arith, (refl, refl))
 
 push-below-requires : tie.Need-push-below-requires Inv-loop μ-loop
-push-below-requires c κs = (c .before .before .before .before .pre .0, c .before .loop-test .taken, c .before .before .before .before .pre .1, omega (arith, c .before .before .loop .inv .1 .0, c .before .before .before .before .pre .2))
+push-below-requires c κs =
+    let c₄ = c .before .before .before .before in
+    (c₄ .pre .0, c .before .loop-test .taken, c₄ .pre .1, omega (arith, c .before .before .loop .inv .1 .0, c₄ .pre .2))
 
 add-k : tie.Need-add-k Inv-loop μ-loop
 add-k c = search needs
@@ -30,7 +32,15 @@ loop-less : tie.Need-loop-less Inv-loop μ-loop
 loop-less c = search needs
 
 loop-again : tie.Need-loop-again Inv-loop μ-loop
-loop-again c = (search needs, (c .before .before .push-below .kept .0 ∙ c .before .before .before .before .before .loop .inv .1 .0, send-more _ _ _ _ _ _ _ (c .before .before .before .before .before .loop .inv .1 .1) (c .before .before .push-below .ensures)))
+loop-again c =
+    let c₄ = c .before .before .before .before in (
+      search needs,
+      (
+        c .before .before .push-below .kept .0 ∙ c₄ .before .loop .inv .1 .0,
+        send-more _ _ _ _ _ _ _
+            (c₄ .before .loop .inv .1 .1) (c .before .before .push-below .ensures),
+      ),
+    )
 
 same-length : tie.Need-same-length Inv-loop μ-loop
 same-length c = c .before .loop .inv .1 .0

@@ -44,7 +44,12 @@ same-length c = search needs
 
 returns : tie.Need-returns
 unfolding shifted
-returns c = c .before .before .clear-record .ensures ∙ rw (c .before .before .before .before .before .before .move-record3 .ensures, c .before .before .before .before .before .before .before .before .before .before .move-record2 .ensures, c .before .before .before .before .before .before .before .before .before .before .before .before .before .before .move-record .ensures) refl
+returns c =
+    let c₄ = c .before .before .before .before in
+    let c₈ = c₄ .before .before .before .before in
+    let c₁₂ = c₈ .before .before .before .before in
+    c .before .before .clear-record .ensures ∙ rw
+    (c₄ .before .before .move-record3 .ensures, c₈ .before .before .move-record2 .ensures, c₁₂ .before .before .move-record .ensures) refl
 
 pub shift-spec : {M : Type 1} → statement M
 shift-spec =

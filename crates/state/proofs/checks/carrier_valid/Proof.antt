@@ -51,7 +51,8 @@ record-valid-requires c κs = search needs
 
 returns-3 : tie.Need-returns-3
 unfolding carrierValid plannedPlace duePlace answerPlace
-returns-3 c = and-next _ _ (le-leb _ _ (c .before .before .before .if1 .left)) (and-next _ _ (le-leb _ _ (c .before .if2 .left)) (c .record-valid .ensures))
+returns-3 c = and-next _ _ (le-leb _ _ (c .before .before .before .if1 .left))
+    (and-next _ _ (le-leb _ _ (c .before .if2 .left)) (c .record-valid .ensures))
 
 pub carrier-valid-spec : {M : Type 1} → statement M
 carrier-valid-spec =

@@ -27,7 +27,9 @@ loop-holds c = (omega arith, refl)
 
 carrier-valid-requires : tie.Need-carrier-valid-requires Inv-loop μ-loop
 unfolding stateSize
-carrier-valid-requires c κs = (omega (arith, c .loop-test .taken, c .before .before .before .before .pre), omega (arith, c .loop-test .taken, c .before .before .before .before .pre))
+carrier-valid-requires c κs =
+    let c₄ = c .before .before .before .before in
+    (omega (arith, c .loop-test .taken, c₄ .pre), omega (arith, c .loop-test .taken, c₄ .pre))
 
 returns : tie.Need-returns Inv-loop μ-loop
 returns c = each-stop _ _ _ (c .before .before .loop-test .taken) (sym (c .before .carrier-valid .ensures) ∙ not-true _ (c .if1 .taken))
@@ -39,7 +41,11 @@ loop-less : tie.Need-loop-less Inv-loop μ-loop
 loop-less c = search needs
 
 loop-again : tie.Need-loop-again Inv-loop μ-loop
-loop-again c = (search needs, each-more _ _ (c .before .before .before .loop .inv .1) (sym (c .before .carrier-valid .ensures) ∙ not-false _ (c .if1 .left)))
+loop-again c = (
+  search needs,
+  each-more _ _ (c .before .before .before .loop .inv .1)
+      (sym (c .before .carrier-valid .ensures) ∙ not-false _ (c .if1 .left)),
+)
 
 returns-2 : tie.Need-returns-2 Inv-loop μ-loop
 returns-2 c = each-end _ _ _ (c .before .loop .inv .0) (omega arith) (c .before .loop .inv .1)

@@ -36,7 +36,8 @@ cell-valid-requires c κs = search needs
 
 returns : tie.Need-returns Inv-loop μ-loop
 unfolding cellsValid
-returns c = each-stop _ _ _ (c .before .before .before .loop-test .taken) (sym (c .before .cell-valid .ensures) ∙ not-true _ (c .if1 .taken))
+returns c = each-stop _ _ _ (c .before .before .before .loop-test .taken)
+    (sym (c .before .cell-valid .ensures) ∙ not-true _ (c .if1 .taken))
 
 add-t : tie.Need-add-t Inv-loop μ-loop
 add-t c = search needs
@@ -45,7 +46,9 @@ loop-less : tie.Need-loop-less Inv-loop μ-loop
 loop-less c = search needs
 
 loop-again : tie.Need-loop-again Inv-loop μ-loop
-loop-again c = (search needs, each-more _ _ (c .before .before .before .before .loop .inv .1) (sym (c .before .cell-valid .ensures) ∙ not-false _ (c .if1 .left)))
+loop-again c =
+    let c₄ = c .before .before .before .before in
+    (search needs, each-more _ _ (c₄ .loop .inv .1) (sym (c .before .cell-valid .ensures) ∙ not-false _ (c .if1 .left)))
 
 returns-2 : tie.Need-returns-2 Inv-loop μ-loop
 unfolding cellsValid

@@ -21,11 +21,13 @@ record-valid-requires c κs = search needs
 
 returns : tie.Need-returns
 unfolding pairValid
-returns c = let n = c .before .before .before .before .before .args .f .carriers in
-    let i = c .before .before .before .before .before .args .i in
-    let j = c .before .before .before .before .before .args .j in
-    let m = now (c .before .before .before .before .before .args .m) in
-    let told : recordValid (c .before .before .before .before .before .args .f) m (viewPlace n i j) 0 2 ≡ false =
+returns c =
+    let c₄ = c .before .before .before .before in
+    let n = c₄ .before .args .f .carriers in
+    let i = c₄ .before .args .i in
+    let j = c₄ .before .args .j in
+    let m = now (c₄ .before .args .m) in
+    let told : recordValid (c₄ .before .args .f) m (viewPlace n i j) 0 2 ≡ false =
     rw (sym (c .before .before .view-place .ensures .0)) (sym (c .before .record-valid .ensures) ∙ not-true _ (c .if1 .taken)) in
     rw told refl
 
@@ -37,12 +39,15 @@ channel-valid-requires c κs = search needs
 
 returns-2 : tie.Need-returns-2
 unfolding pairValid
-returns-2 c = let n = c .before .before .before .before .before .before .before .args .f .carriers in
-    let i = c .before .before .before .before .before .before .before .args .i in
-    let j = c .before .before .before .before .before .before .before .args .j in
-    let m = now (c .before .before .before .before .before .before .before .args .m) in
-    let told : recordValid (c .before .before .before .before .before .before .before .args .f) m (viewPlace n i j) 0 2 ≡ true =
-    rw (sym (c .before .before .before .before .view-place .ensures .0)) (sym (c .before .before .before .record-valid .ensures) ∙ not-false _ (c .before .before .if1 .left)) in
+returns-2 c =
+    let c₄ = c .before .before .before .before in
+    let n = c₄ .before .before .before .args .f .carriers in
+    let i = c₄ .before .before .before .args .i in
+    let j = c₄ .before .before .before .args .j in
+    let m = now (c₄ .before .before .before .args .m) in
+    let told : recordValid (c₄ .before .before .before .args .f) m (viewPlace n i j) 0 2 ≡ true =
+    rw (sym (c₄ .view-place .ensures .0))
+    (sym (c .before .before .before .record-valid .ensures) ∙ not-false _ (c .before .before .if1 .left)) in
     rw (told, sym (c .before .channel-place .ensures .0)) (c .channel-valid .ensures)
 
 pub pair-valid-spec : {M : Type 1} → statement M

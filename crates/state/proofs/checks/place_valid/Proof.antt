@@ -18,7 +18,8 @@ record-valid-requires c κs = search needs
 
 returns : tie.Need-returns
 unfolding placeValid
-returns c = c .record-valid .ensures ∙ rw (lt-ltb (c .before .before .before .args .q) (c .before .before .before .args .count) (c .before .if1 .taken)) refl
+returns c = c .record-valid .ensures ∙ rw
+    (lt-ltb (c .before .before .before .args .q) (c .before .before .before .args .count) (c .before .if1 .taken)) refl
 
 mul-record-valid-2 : tie.Need-mul-record-valid-2
 mul-record-valid-2 c = search needs
@@ -31,7 +32,8 @@ record-valid-requires-2 c κs = search needs
 
 returns-2 : tie.Need-returns-2
 unfolding placeValid
-returns-2 c = c .record-valid2 .ensures ∙ rw (le-ltb (c .before .before .before .args .q) (c .before .before .before .args .count) (c .before .if1 .left)) refl
+returns-2 c = c .record-valid2 .ensures ∙ rw
+    (le-ltb (c .before .before .before .args .q) (c .before .before .before .args .count) (c .before .if1 .left)) refl
 
 pub place-valid-spec : {M : Type 1} → statement M
 place-valid-spec =

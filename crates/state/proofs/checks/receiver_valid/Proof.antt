@@ -34,7 +34,11 @@ loop-less : tie.Need-loop-less Inv-loop μ-loop
 loop-less c = search needs
 
 loop-again : tie.Need-loop-again Inv-loop μ-loop
-loop-again c = (search needs, each-more _ _ (c .before .before .before .loop .inv .1) (sym (c .before .pair-valid .ensures) ∙ not-false _ (c .if1 .left)))
+loop-again c = (
+  search needs,
+  each-more _ _ (c .before .before .before .loop .inv .1)
+      (sym (c .before .pair-valid .ensures) ∙ not-false _ (c .if1 .left)),
+)
 
 returns-2 : tie.Need-returns-2 Inv-loop μ-loop
 returns-2 c = each-end _ _ _ (c .before .loop .inv .0) (omega arith) (c .before .loop .inv .1)

@@ -25,8 +25,10 @@ returns c = let tag = getD (now (c .before .before .before .args .m)) (c .before
 
 returns-2 : tie.Need-returns-2
 unfolding recordValid within
-returns-2 c = let tag = getD (now (c .before .before .before .before .args .m)) (c .before .before .before .before .args .at) 0 in
-    rw (le-leb (c .before .before .before .before .args .low) tag (c .before .if1 .left), lt-leb tag (c .before .before .before .before .args .high) (c .if2 .taken)) refl
+returns-2 c =
+    let c₄ = c .before .before .before .before in
+    let tag = getD (now (c₄ .args .m)) (c₄ .args .at) 0 in
+    rw (le-leb (c₄ .args .low) tag (c .before .if1 .left), lt-leb tag (c₄ .args .high) (c .if2 .taken)) refl
 
 add-cells-valid : tie.Need-add-cells-valid
 add-cells-valid c = search needs
@@ -41,8 +43,10 @@ cast-cells-valid-2 : tie.Need-cast-cells-valid-2
 cast-cells-valid-2 c = search needs
 
 mul-cells-valid : tie.Need-mul-cells-valid
-mul-cells-valid c = let w : c .before .before .before .before .before .before .before .args .f .width ≤ 65535 = search needs in
-    let h : c .before .before .before .before .before .before .before .args .f .height ≤ 65535 = search needs in
+mul-cells-valid c =
+    let c₄ = c .before .before .before .before in
+    let w : c₄ .before .before .before .args .f .width ≤ 65535 = search needs in
+    let h : c₄ .before .before .before .args .f .height ≤ 65535 = search needs in
     record { fits = lt-of-le-of-lt (mul-le-mul w h) (lit< tt) }
 
 cells-valid-requires : tie.Need-cells-valid-requires
@@ -50,8 +54,16 @@ cells-valid-requires c κs = search needs
 
 returns-3 : tie.Need-returns-3
 unfolding recordValid within
-returns-3 c = let tag = getD (now (c .before .before .before .before .before .before .before .before .args .m)) (c .before .before .before .before .before .before .before .before .args .at) 0 in
-    rw (le-leb (c .before .before .before .before .before .before .before .before .args .low) tag (c .before .before .before .before .before .if1 .left), le-leb tag (c .before .before .before .before .before .before .before .before .args .high) (c .before .before .before .before .if2 .left), sym (c .before .before .before .used-by .ensures)) (c .cells-valid .ensures)
+returns-3 c =
+    let c₄ = c .before .before .before .before in
+    let c₈ = c₄ .before .before .before .before in
+    let tag = getD (now (c₈ .args .m)) (c₈ .args .at) 0 in
+    rw (
+      le-leb (c₈ .args .low) tag (c₄ .before .if1 .left),
+      le-leb tag (c₈ .args .high) (c₄ .if2 .left),
+      sym
+          (c .before .before .before .used-by .ensures),
+    ) (c .cells-valid .ensures)
 
 pub record-valid-spec : {M : Type 1} → statement M
 record-valid-spec =

@@ -19,7 +19,11 @@ unfolding pairsBefore
 loop-holds c = (omega arith, refl)
 
 add-p : tie.Need-add-p Inv-loop μ-loop
-add-p c = search (needs, pairs-most (c .before .loop .k) (omega (arith, c .before .loop .inv, c .loop-test .taken, c .before .before .pre)))
+add-p c = search (
+  needs,
+  pairs-most (c .before .loop .k)
+      (omega (arith, c .before .loop .inv, c .loop-test .taken, c .before .before .pre)),
+)
 
 add-k : tie.Need-add-k Inv-loop μ-loop
 add-k c = search needs

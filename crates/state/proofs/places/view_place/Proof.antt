@@ -2,7 +2,8 @@
 use mathlib.Core.Path.{refl}
 use Prim.Native.Nat.{_-_}
 use Rattle.layout.specs.Places.{viewPlace, stateSize}
-use Rattle.state.proofs.PlaceLaws.{pairs-most, pair-below}
+use Rattle.layout.proofs.ValidPartLaws.{pair-below}
+use Rattle.state.proofs.PlaceLaws.{pairs-most}
 use native.Mathlib.Omega.{arith}
 use borrow.Author.Needs.{needs}
 use Rattle.state.proofs.places.view_place.Statement.{statement}

@@ -33,7 +33,9 @@ shared-slice-read-if2 : tie.Need-shared-slice-read-if2
 shared-slice-read-if2 c = search needs
 
 returns-2 : tie.Need-returns-2
-returns-2 c = news-tag _ _ _ _ (c .before .before .before .before .before .pre .1) (c .before .before .if1 .left) (c .if2 .taken)
+returns-2 c =
+    let c₄ = c .before .before .before .before in
+    news-tag _ _ _ _ (c₄ .before .pre .1) (c .before .before .if1 .left) (c .if2 .taken)
 
 mul-same-cells : tie.Need-mul-same-cells
 mul-same-cells c = search needs
@@ -45,7 +47,10 @@ same-cells-requires : tie.Need-same-cells-requires
 same-cells-requires c κs = search needs
 
 returns-3 : tie.Need-returns-3
-returns-3 c = news-cells _ _ _ _ (c .before .before .before .before .before .before .pre .1) (c .before .before .before .if1 .left) (c .before .if2 .left) _ (c .same-cells .ensures)
+returns-3 c =
+    let c₄ = c .before .before .before .before in
+    news-cells _ _ _ _ (c₄ .before .before .pre .1) (c .before .before .before .if1 .left) (c .before .if2 .left) _
+    (c .same-cells .ensures)
 
 pub is-news-spec : {M : Type 1} → statement M
 is-news-spec =

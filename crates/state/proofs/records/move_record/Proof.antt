@@ -25,7 +25,10 @@ same-length : tie.Need-same-length
 same-length c = search needs
 
 returns : tie.Need-returns
-returns c = moved-is _ _ _ _ _ (omega (arith, c .before .before .before .before .before .before .before .before .pre)) (c .before .before .before .before .load .ensures) (c .before .before .store .ensures)
+returns c =
+    let c₄ = c .before .before .before .before in
+    let c₈ = c₄ .before .before .before .before in
+    moved-is _ _ _ _ _ (omega (arith, c₈ .pre)) (c₄ .load .ensures) (c .before .before .store .ensures)
 
 pub move-record-spec : {M : Type 1} → statement M
 move-record-spec =

@@ -46,15 +46,19 @@ store-requires c κs = let m = c .before .before .args .m .now in
     omega (arith, length-set (set m (2 + 67 * i) 1) (3 + 67 * i) 0, length-set m (2 + 67 * i) 1, c .before .before .pre)
 
 same-length : tie.Need-same-length
-same-length c = let m = c .before .before .before .before .before .args .m .now in
-    let i = c .before .before .before .before .before .args .i in
+same-length c =
+    let c₄ = c .before .before .before .before in
+    let m = c₄ .before .args .m .now in
+    let i = c₄ .before .args .i in
     let two = length-set (set m (2 + 67 * i) 1) (3 + 67 * i) 0 ∙ length-set m (2 + 67 * i) 1 in
     c .before .before .store .kept .0 ∙ two
 
 returns : tie.Need-returns
 unfolding plannedPlace
-returns c = let e : length (c .before .before .before .before .before .args .cells) ≡ 64 = search needs in
-    put-three _ _ _ _ _ _ _ _ (c .before .before .store .ensures) (omega arith) (omega arith) (omega (arith, c .before .before .before .before .before .pre))
+returns c =
+    let c₄ = c .before .before .before .before in
+    let e : length (c₄ .before .args .cells) ≡ 64 = search needs in
+    put-three _ _ _ _ _ _ _ _ (c .before .before .store .ensures) (omega arith) (omega arith) (omega (arith, c₄ .before .pre))
 
 pub set-planned-spec : {M : Type 1} → statement M
 set-planned-spec =

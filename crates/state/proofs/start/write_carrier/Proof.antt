@@ -47,15 +47,20 @@ store-requires c κs = let m = c .before .before .args .m .now in
     omega (arith, length-set (set m (2 + 67 * i) 0) (3 + 67 * i) 1, length-set m (2 + 67 * i) 0, c .before .before .pre)
 
 same-length : tie.Need-same-length
-same-length c = let m = c .before .before .before .before .before .args .m .now in
-    let i = c .before .before .before .before .before .args .i in
+same-length c =
+    let c₄ = c .before .before .before .before in
+    let m = c₄ .before .args .m .now in
+    let i = c₄ .before .args .i in
     c .before .before .store .kept .0 ∙ length-set (set m (2 + 67 * i) 0) (3 + 67 * i) 1 ∙ length-set m (2 + 67 * i) 0
 
 returns : tie.Need-returns
-returns c = let b : List ℕ = 1 ∷ replicate 64 0 in
-    let i = c .before .before .before .before .before .args .i in
-    put-three (now (c .before .before .before .before .before .args .m)) _ b (2 + 67 * i) (3 + 67 * i) (4 + 67 * i) 0 1 (c .before .before .store .ensures) (omega arith) (omega arith)
-    (omega (arith, c .before .before .before .before .before .pre))
+returns c =
+    let c₄ = c .before .before .before .before in
+    let b : List ℕ = 1 ∷ replicate 64 0 in
+    let i = c₄ .before .args .i in
+    put-three (now (c₄ .before .args .m)) _ b (2 + 67 * i) (3 + 67 * i) (4 + 67 * i) 0 1 (c .before .before .store .ensures)
+    (omega arith) (omega arith)
+    (omega (arith, c₄ .before .pre))
     ∙ rw (carrier-is i) refl
 
 pub write-carrier-spec : {M : Type 1} → statement M

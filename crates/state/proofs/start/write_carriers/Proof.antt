@@ -23,7 +23,9 @@ unfolding blocks
 loop-holds c = (omega arith, (refl, put-none _ _))
 
 write-carrier-requires : tie.Need-write-carrier-requires Inv-loop μ-loop
-write-carrier-requires c κs = (omega arith, omega (arith, c .before .before .loop .inv .1 .0, c .before .loop-test .taken, c .before .before .before .before .pre))
+write-carrier-requires c κs =
+    let c₄ = c .before .before .before .before in
+    (omega arith, omega (arith, c .before .before .loop .inv .1 .0, c .before .loop-test .taken, c₄ .pre))
 
 add-i : tie.Need-add-i Inv-loop μ-loop
 add-i c = search needs
@@ -32,7 +34,16 @@ loop-less : tie.Need-loop-less Inv-loop μ-loop
 loop-less c = search needs
 
 loop-again : tie.Need-loop-again Inv-loop μ-loop
-loop-again c = (search needs, (c .before .before .write-carrier .kept .0 ∙ c .before .before .before .before .before .loop .inv .1 .0, carriers-more _ _ _ _ (omega (arith, c .before .before .before .before .loop-test .taken, c .before .before .before .before .before .before .before .pre)) (c .before .before .before .before .before .loop .inv .1 .1) (c .before .before .write-carrier .ensures)))
+loop-again c =
+    let c₄ = c .before .before .before .before in (
+      search needs,
+      (
+        c .before .before .write-carrier .kept .0 ∙ c₄ .before .loop .inv .1 .0,
+        carriers-more _ _ _ _
+            (omega (arith, c₄ .loop-test .taken, c₄ .before .before .before .pre)) (c₄ .before .loop .inv .1 .1)
+            (c .before .before .write-carrier .ensures),
+      ),
+    )
 
 same-length : tie.Need-same-length Inv-loop μ-loop
 same-length c = c .before .loop .inv .1 .0

@@ -14,7 +14,9 @@ write-zeros-requires c κs = omega (arith, c .before .before .pre)
 
 write-carriers-requires : tie.Need-write-carriers-requires
 unfolding stateSize
-write-carriers-requires c κs = (c .before .before .before .before .before .before .pre .0, omega (arith, c .before .before .before .write-zeros .kept .0, c .before .before .before .before .before .before .pre))
+write-carriers-requires c κs =
+    let c₄ = c .before .before .before .before in
+    (c₄ .before .before .pre .0, omega (arith, c .before .before .before .write-zeros .kept .0, c₄ .before .before .pre))
 
 pairs-before-requires : tie.Need-pairs-before-requires
 pairs-before-requires c κs = search needs
@@ -30,13 +32,28 @@ mul-write-zeros-2 c = search needs
 
 write-zeros-requires-2 : tie.Need-write-zeros-requires-2
 unfolding stateSize
-write-zeros-requires-2 c κs = omega (arith, c .before .before .before .before .write-carriers .kept .0, c .before .before .before .before .before .before .before .before .write-zeros .kept .0, c .before .pairs-before .ensures, c .before .before .before .before .before .before .before .before .before .before .before .pre)
+write-zeros-requires-2 c κs =
+    let c₄ = c .before .before .before .before in
+    let c₈ = c₄ .before .before .before .before in
+    omega (
+      arith,
+      c₄ .write-carriers .kept .0,
+      c₈ .write-zeros .kept .0,
+      c .before .pairs-before .ensures,
+      c₈ .before .before .before .pre,
+    )
 
 same-length : tie.Need-same-length
 same-length c = search needs
 
 returns : tie.Need-returns
-returns c = fresh-whole _ _ _ _ _ (c .before .before .before .before .before .before .before .before .before .before .before .before .before .before .pre .1) (c .before .before .before .before .before .before .before .before .before .before .before .write-zeros .ensures) (c .before .before .before .before .before .before .before .write-carriers .ensures) (c .before .before .write-zeros2 .ensures ∙ rw (c .before .before .before .before .pairs-before .ensures .0) refl)
+returns c =
+    let c₄ = c .before .before .before .before in
+    let c₈ = c₄ .before .before .before .before in
+    let c₁₂ = c₈ .before .before .before .before in
+    fresh-whole _ _ _ _ _ (c₁₂ .before .before .pre .1) (c₈ .before .before .before .write-zeros .ensures)
+    (c₄ .before .before .before .write-carriers .ensures)
+    (c .before .before .write-zeros2 .ensures ∙ rw (c₄ .pairs-before .ensures .0) refl)
 
 pub write-fresh-spec : {M : Type 1} → statement M
 write-fresh-spec =

@@ -37,7 +37,8 @@ loop-less c = search needs
 loop-again : tie.Need-loop-again Inv-loop μ-loop
 loop-again c = let xs : List ℕ = replicate (c .before .before .args .count) 0 in
     let size : length xs ≡ c .before .before .args .count = length-replicate (c .before .before .args .count) 0 in
-    let zero : getD xs (c .before .loop .t) 0 ≡ 0 = getD-replicate (c .before .before .args .count) (c .before .loop .t) 0 0 (c .loop-test .taken) in (
+    let zero : getD xs (c .before .loop .t) 0 ≡ 0 = getD-replicate (c .before .before .args .count) (c .before .loop .t) 0 0
+    (c .loop-test .taken) in (
       search needs,
       (
         length-set (c .before .loop .m) (c .before .before .args .at + c .before .loop .t) 0 ∙ c .before .loop .inv .1 .0,
@@ -50,7 +51,8 @@ same-length : tie.Need-same-length Inv-loop μ-loop
 same-length c = c .before .loop .inv .1 .0
 
 returns : tie.Need-returns Inv-loop μ-loop
-returns c = copy-end _ _ (replicate {A = ℕ} (c .before .before .args .count) 0) _ (c .before .loop .t) (c .before .loop .inv .1 .1) (omega (arith, length-replicate {A = ℕ} (c .before .before .args .count) 0))
+returns c = copy-end _ _ (replicate {A = ℕ} (c .before .before .args .count) 0) _ (c .before .loop .t) (c .before .loop .inv .1 .1)
+    (omega (arith, length-replicate {A = ℕ} (c .before .before .args .count) 0))
 
 pub write-zeros-spec : {M : Type 1} → statement M
 write-zeros-spec =

@@ -1,0 +1,64 @@
+-- `cases::draws::draw_walls` is safe and ends: each cell in turn.
+use Prim.Native.Nat.{_-_}
+use mathlib.Core.Path.{_≡_}
+use lib.ListN.{length}
+use borrow.Author.Needs.{needs}
+use Rattle.cases.proofs.draws.draw_walls.Statement.{statement}
+use Rattle.cases.proofs.draws.draw_walls.Tie as tie
+
+abbrev Inv-loop : tie.InvT-loop
+Inv-loop f cells seed walls₀ s₀ count₀ c₀ walls s count c = length walls ≡ length walls₀
+
+abbrev μ-loop : tie.MeasureT-loop
+μ-loop f cells seed walls₀ s₀ count₀ c₀ walls s count c = cells - c
+
+loop-holds : tie.Need-loop-holds Inv-loop μ-loop
+loop-holds c = search needs
+
+next-requires : tie.Need-next-requires Inv-loop μ-loop
+next-requires c κs = search needs
+
+narrow-requires : tie.Need-narrow-requires Inv-loop μ-loop
+narrow-requires c κs = search needs
+
+put-requires : tie.Need-put-requires Inv-loop μ-loop
+put-requires c κs = search needs
+
+is-wall-requires : tie.Need-is-wall-requires Inv-loop μ-loop
+is-wall-requires c κs = search needs
+
+count-requires : tie.Need-count-requires Inv-loop μ-loop
+count-requires c κs = search needs
+
+add-c : tie.Need-add-c Inv-loop μ-loop
+add-c c = search needs
+
+loop-less : tie.Need-loop-less Inv-loop μ-loop
+loop-less c = search needs
+
+loop-again : tie.Need-loop-again Inv-loop μ-loop
+loop-again c = search needs
+
+same-length : tie.Need-same-length Inv-loop μ-loop
+same-length c = search needs
+
+returns : tie.Need-returns Inv-loop μ-loop
+returns c = search needs
+
+pub draw-walls-spec : {M : Type 1} → statement M
+draw-walls-spec =
+    tie.close
+    (tie.spec
+    Inv-loop
+    μ-loop
+    loop-holds
+    next-requires
+    narrow-requires
+    put-requires
+    is-wall-requires
+    count-requires
+    add-c
+    loop-less
+    loop-again
+    same-length
+    returns)

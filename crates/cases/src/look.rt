@@ -1,0 +1,147 @@
+// Looking at memory, number by number. Every function answers for any place, so none has a `requires`.
+ghost use mathlib.Core.Path.{_≡_};
+ghost use Prim.Native.Nat.{_<_};
+ghost use lib.ListN.{length};
+
+// Room for the largest state, 9,666 numbers, and some more, each 777.
+pub fn room() -> [u16; 9700]
+    ensures { λ r. ⌜ 9700 ≡ length r ⌝ }
+{
+    [777; 9700]
+}
+
+// Room for a state of three carriers: 2 for the count, 67 a carrier, 326 for each of three pairs.
+pub fn three_room() -> [u16; 1181]
+    ensures { λ r. ⌜ 1181 ≡ length r ⌝ }
+{
+    [0; 1181]
+}
+
+// Room for the answers of eight carriers.
+pub fn answers_room() -> [u16; 520]
+    ensures { λ r. ⌜ 520 ≡ length r ⌝ }
+{
+    [777; 520]
+}
+
+// Room for the answers of eight carriers, all zeros.
+pub fn zeros() -> [u16; 520]
+    ensures { λ r. ⌜ 520 ≡ length r ⌝ }
+{
+    [0; 520]
+}
+
+// The number at a place, 65,535 past the end.
+pub fn at(m: &[u16], i: usize) -> u16 {
+    if i < m.len() {
+        return m[i];
+    }
+    65535
+}
+
+// The same as a size.
+pub fn wide_at(m: &[u16], i: usize) -> usize
+    ensures { λ r. ⌜ r < 65536 ⌝ }
+{
+    wide(at(m, i))
+}
+
+// A number as a size.
+pub fn wide(x: u16) -> usize
+    ensures { λ r. ⌜ r < 65536 ⌝ }
+{
+    x as usize
+}
+
+// A size as a number, 65,535 where it is none.
+pub fn narrow(x: usize) -> u16 {
+    if x < 65536 {
+        return x as u16;
+    }
+    65535
+}
+
+// A sum of places, 65,536 where one of them is no place of these memories.
+pub fn plus(a: usize, b: usize) -> usize {
+    if a < 65536 {
+        if b < 65536 {
+            return a + b;
+        }
+    }
+    65536
+}
+
+// A difference, 0 where it would be below 0.
+pub fn minus(a: usize, b: usize) -> usize {
+    if b < a {
+        return a - b;
+    }
+    0
+}
+
+// Writes v at a place, where there is one.
+pub fn put(m: &mut [u16], i: usize, v: u16) {
+    if i < m.len() {
+        m[i] = v;
+    }
+}
+
+// Writes all of one memory from another.
+pub fn copy(from: &[u16], to: &mut [u16]) {
+    let n = to.len();
+    let mut i: usize = 0;
+    while i < n {
+        put(to, i, at(from, i));
+        i += 1;
+    }
+}
+
+// Whether n numbers from place i of a on are those from place j of b on.
+pub fn same_part(a: &[u16], i: usize, b: &[u16], j: usize, n: usize) -> bool {
+    let mut t: usize = 0;
+    while t < n {
+        if at(a, plus(i, t)) != at(b, plus(j, t)) {
+            return false;
+        }
+        t += 1;
+    }
+    true
+}
+
+// Whether two memories have the same length and the same numbers.
+pub fn same(a: &[u16], b: &[u16]) -> bool {
+    if a.len() != b.len() {
+        return false;
+    }
+    same_part(a, 0, b, 0, a.len())
+}
+
+// Whether every number from place i on is v.
+pub fn all_from(m: &[u16], i: usize, v: u16) -> bool {
+    let mut t = i;
+    while t < m.len() {
+        if m[t] != v {
+            return false;
+        }
+        t += 1;
+    }
+    true
+}
+
+// Whether both hold.
+pub fn both(a: bool, b: bool) -> bool {
+    if a {
+        return b;
+    }
+    false
+}
+
+// One more where it holds.
+pub fn count(n: usize, holds: bool) -> usize {
+    if holds {
+        if n < 1000000 {
+            return n + 1;
+        }
+    }
+    n
+}
