@@ -2,3 +2,5 @@
 mod EntryLaws
 mod RecordLaws
 mod SearchLaws
+mod WordLaws
+mod Theorems
