@@ -112,3 +112,26 @@ fn floors_10_and_11_and_refusals() {
     assert_eq!(refused(ceiling(9)), (2, 5));
     assert_eq!(ceiling(9).unwrap_err().to_string(), "refusal 2: line 1 is outside its limits in field 5");
 }
+
+/// The worked example of docs/FIRMWARE.md: board 2 misses the order 'plan 1' and catches up.
+#[test]
+fn a_lost_order() {
+    let floor = floor_of(SHEET).unwrap();
+    let (mut keeper, mut board) = (fresh_state(&floor), fresh_state(&floor));
+    let orders = [plan_step(2), plan_step(1), deliver_step(1, 2), plan_step(2)];
+    for (count, &order) in orders.iter().enumerate() {
+        assert_eq!(keeper[..2], [0, count as u16]);
+        step(&floor, &[], &mut keeper, order).unwrap();
+    }
+    assert_eq!(step(&floor, &[], &mut board, orders[0]), Ok(Stepped::Sent));
+    assert_eq!(answer(&board, 2)[..6], [2, 2, 1, 0, 0, 0]);
+    let before = board.clone();
+    assert_eq!(refused(step(&floor, &[], &mut board, orders[2])), (8, 0));
+    assert_eq!(board, before);
+    assert_eq!(step(&floor, &[], &mut board, orders[1]), Ok(Stepped::Sent));
+    assert_eq!(step(&floor, &[], &mut board, orders[2]), Ok(Stepped::Delivered));
+    assert_eq!(step(&floor, &[], &mut board, orders[3]), Ok(Stepped::Sent));
+    assert_eq!(answer(&board, 2)[..6], [2, 2, 5, 4, 1, 0]);
+    assert_eq!(board, keeper);
+    assert_eq!(run(&floor, &[], &mut board, &[], 0), Ok(Ran { taken: 0, end: End::Silent }));
+}
