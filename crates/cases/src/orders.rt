@@ -64,15 +64,15 @@ fn chosen(all: Steps, choices: [u16; 16], k: usize) -> u16 {
 }
 
 // 1 for an answer other than a refusal with 8, 0.
-pub fn odd(came: calls::Seen) -> usize {
-    if calls::same(came, calls::refused(8, 0)) {
+pub fn odd(came: usize) -> usize {
+    if came == calls::answer(8, 0) {
         return 0;
     }
     1
 }
 
 // An answer that ends the list.
-fn stopped(came: calls::Seen, k: usize) -> Led {
+fn stopped(came: usize, k: usize) -> Led {
     Led {
         silent: false,
         after: k,
@@ -94,7 +94,7 @@ fn follow(f: Floor, m: &mut [u16], all: Steps, choices: [u16; 16]) -> Led {
             };
         }
         let came = calls::step(f, &none, m, chosen(all, choices, k));
-        if came.kind == 0 {
+        if calls::is_refused(came) {
             return stopped(came, k);
         }
         k += 1;
@@ -170,7 +170,8 @@ fn every(f: Floor, m: &mut [u16], planned: &[u16], second: &[u16]) -> Tally {
 }
 
 // A line of all orders of a floor: how many there are, how many have as many steps as the ceiling, and all steps of all of them.
-fn all_orders(label: &[u8], f: Floor, m: &mut [u16], orders: usize, full: usize, steps: usize) {
+fn all_orders(label: &[u8], k: usize, m: &mut [u16], orders: usize, full: usize, steps: usize) {
+    let f = crate::floors::floor(k);
     let none = [0u16; 1];
     let mut planned = look::zeros();
     calls::plan(f, &none, &mut planned);
@@ -178,10 +179,10 @@ fn all_orders(label: &[u8], f: Floor, m: &mut [u16], orders: usize, full: usize,
     second::second_plan(f, &none, &mut second);
     let t = every(f, m, &planned, &second);
     show::begin(label);
-    let well = result::all_well(t, orders);
-    let most = show::figure(b"as long as the ceiling", t.full, full);
-    let sum = show::figure(b"steps in all", t.steps, steps);
-    show::verdict(look::both(well, look::both(most, sum)));
+    let a = result::all_well(t, orders);
+    let b = show::figure(b"as long as the ceiling", t.full, full);
+    let c = show::figure(b"steps in all", t.steps, steps);
+    show::verdict(look::both(a, look::both(b, c)));
 }
 
 // Two carriers have three orders: plan 1, deliver, plan 2 (3 steps); and plan 1, plan 2 or plan 2, plan 1, then deliver, plan 2 (4
@@ -191,27 +192,20 @@ fn all_orders(label: &[u8], f: Floor, m: &mut [u16], orders: usize, full: usize,
 pub fn orders() {
     show::heading(b"All orders");
     let mut two = crate::written::two_room();
-    all_orders(
-        b"document 01's floor",
-        floors::document(4),
-        &mut two,
-        3,
-        2,
-        11,
-    );
+    all_orders(b"document 01's floor", floors::SHEET, &mut two, 3, 2, 11);
     all_orders(
         b"the same with horizon 3",
-        floors::document(3),
+        floors::SHORT,
         &mut two,
         3,
         2,
         11,
     );
-    all_orders(b"two that never meet", floors::apart(), &mut two, 3, 2, 11);
+    all_orders(b"two that never meet", floors::APART, &mut two, 3, 2, 11);
     let mut three = look::three_room();
     all_orders(
         b"three carriers, depth 1",
-        floors::three(1),
+        floors::THREE,
         &mut three,
         888,
         248,
@@ -219,7 +213,7 @@ pub fn orders() {
     );
     all_orders(
         b"three carriers, depth 2",
-        floors::three(2),
+        floors::DEEP,
         &mut three,
         1186,
         320,
