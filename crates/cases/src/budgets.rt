@@ -34,10 +34,16 @@ fn endings() {
     fresh_run(b"a list longer than the budget", b"21a2", 2, SPENT, 2, 2);
     // The budget is used up, but no step is unread.
     fresh_run(b"used up at the list's end", b"21", 2, ENDED, 2, 2);
+}
+
+fn more_endings() {
     // The list's end comes before the budget's.
     fresh_run(b"budget left", b"21", 3, ENDED, 2, 2);
     // One step is unread; that it is not open makes no difference.
     fresh_run(b"unread and not open", b"11", 1, SPENT, 1, 1);
+}
+
+fn passing() {
     // The budget is used up and a step is unread, but no step is open: silent goes first.
     fresh_run(b"silent before spent", b"1a21", 3, SILENT, 3, 3);
     // The first, third and fifth are not open when they are read, and are passed over.
@@ -90,6 +96,8 @@ pub fn budgets() {
     let mut m = written::two_room();
     show::heading(b"Runs");
     endings();
+    more_endings();
+    passing();
     bad_lists();
     silent_state(&mut m);
     last_counts(&mut m);

@@ -169,7 +169,16 @@ fn every(f: Floor, m: &mut [u16], planned: &[u16], second: &[u16]) -> Tally {
     result::noted(t, 1)
 }
 
-// A line of all orders of a floor: how many there are, how many have as many steps as the ceiling, and all steps of all of them.
+// A line of all orders.
+fn line(label: &[u8], t: Tally, orders: usize, full: usize, steps: usize) {
+    show::begin(label);
+    let a = result::all_well(t, orders);
+    let b = show::figure(b"as long as the ceiling", t.full, full);
+    let c = show::figure(b"steps in all", t.steps, steps);
+    show::verdict(look::both(a, look::both(b, c)));
+}
+
+// All orders of a floor: how many there are, how many have as many steps as the ceiling, and all steps of all of them.
 fn all_orders(label: &[u8], k: usize, m: &mut [u16], orders: usize, full: usize, steps: usize) {
     let f = crate::floors::floor(k);
     let none = [0u16; 1];
@@ -178,11 +187,7 @@ fn all_orders(label: &[u8], k: usize, m: &mut [u16], orders: usize, full: usize,
     let mut second = look::zeros();
     second::second_plan(f, &none, &mut second);
     let t = every(f, m, &planned, &second);
-    show::begin(label);
-    let a = result::all_well(t, orders);
-    let b = show::figure(b"as long as the ceiling", t.full, full);
-    let c = show::figure(b"steps in all", t.steps, steps);
-    show::verdict(look::both(a, look::both(b, c)));
+    line(label, t, orders, full, steps);
 }
 
 // Two carriers have three orders: plan 1, deliver, plan 2 (3 steps); and plan 1, plan 2 or plan 2, plan 1, then deliver, plan 2 (4
@@ -191,6 +196,11 @@ fn all_orders(label: &[u8], k: usize, m: &mut [u16], orders: usize, full: usize,
 // is never needed) 4, 20, 57, 259, 526 and 320.
 pub fn orders() {
     show::heading(b"All orders");
+    two_carriers();
+    three_carriers();
+}
+
+fn two_carriers() {
     let mut two = crate::written::two_room();
     all_orders(b"document 01's floor", floors::SHEET, &mut two, 3, 2, 11);
     all_orders(
@@ -202,6 +212,9 @@ pub fn orders() {
         11,
     );
     all_orders(b"two that never meet", floors::APART, &mut two, 3, 2, 11);
+}
+
+fn three_carriers() {
     let mut three = look::three_room();
     all_orders(
         b"three carriers, depth 1",

@@ -149,39 +149,70 @@ fn fresh_in(n: u16, size: usize, room: &mut [u16]) -> usize {
     calls::fresh(row(n), &none, &mut room[..size])
 }
 
-// At the needed length, 2 + 67 n + 326 n (n - 1) / 2, which is what its entry gives, a state is not too short; at one less it is.
-fn needed(label: &[u8], n: u16, size: usize, room: &mut [u16]) {
-    show::begin(label);
-    let a = show::figure(b"needs", calls::state_length(row(n)), size);
+// The needed length of n carriers: 2 numbers for the count, 67 a carrier, 326 a pair.
+fn figure(n: u16) -> usize {
+    match n {
+        1 => 69,
+        2 => 462,
+        3 => 1181,
+        4 => 2226,
+        5 => 3597,
+        6 => 5294,
+        7 => 7317,
+        _ => 9666,
+    }
+}
+
+// At the needed length, which is what its entry gives, a state is not too short; at one less it is.
+fn needed(n: u16, size: usize, room: &mut [u16]) {
+    show::begin(b"needed length");
+    show::number(look::wide(n));
+    let a = show::figure(b"carriers,", calls::state_length(row(n)), size);
     let b = show::part(b"lent", fresh_in(n, size, room), PASSED, 0);
     let c = show::part(b"one less", fresh_in(n, look::minus(size, 1), room), 9, 0);
     show::verdict(both(a, both(b, c)));
 }
 
-fn lengths() {
-    let mut room = look::room();
-    needed(b"1 carrier", 1, 69, &mut room);
-    needed(b"2 carriers", 2, 462, &mut room);
-    needed(b"3 carriers", 3, 1181, &mut room);
-    needed(b"4 carriers", 4, 2226, &mut room);
-    needed(b"5 carriers", 5, 3597, &mut room);
-    needed(b"6 carriers", 6, 5294, &mut room);
-    needed(b"7 carriers", 7, 7317, &mut room);
-    needed(b"8 carriers", 8, 9666, &mut room);
+// One to eight carriers.
+fn lengths(room: &mut [u16]) {
+    let mut n: u16 = 1;
+    while n < 9 {
+        needed(n, figure(n), room);
+        n += 1;
+    }
 }
 
-// 2^(n+1) - n - 2; carriers outside 1 to 8 are field 5.
+// The ceiling, 2^(n+1) - n - 2; carriers outside 1 to 8 are field 5.
+fn most(n: usize) -> usize {
+    match n {
+        0 | 9 => calls::answer(2, 5),
+        1 => calls::answer(STEPS, 1),
+        2 => calls::answer(STEPS, 4),
+        3 => calls::answer(STEPS, 11),
+        4 => calls::answer(STEPS, 26),
+        5 => calls::answer(STEPS, 57),
+        6 => calls::answer(STEPS, 120),
+        7 => calls::answer(STEPS, 247),
+        _ => calls::answer(STEPS, 502),
+    }
+}
+
+// No carrier to nine.
 fn ceilings() {
-    show::line(b"ceiling of 0", calls::ceiling(0), 2, 5);
-    show::line(b"ceiling of 1", calls::ceiling(1), STEPS, 1);
-    show::line(b"ceiling of 2", calls::ceiling(2), STEPS, 4);
-    show::line(b"ceiling of 3", calls::ceiling(3), STEPS, 11);
-    show::line(b"ceiling of 4", calls::ceiling(4), STEPS, 26);
-    show::line(b"ceiling of 5", calls::ceiling(5), STEPS, 57);
-    show::line(b"ceiling of 6", calls::ceiling(6), STEPS, 120);
-    show::line(b"ceiling of 7", calls::ceiling(7), STEPS, 247);
-    show::line(b"ceiling of 8", calls::ceiling(8), STEPS, 502);
-    show::line(b"ceiling of 9", calls::ceiling(9), 2, 5);
+    let mut n: usize = 0;
+    while n < 10 {
+        let wanted = most(n);
+        show::begin(b"ceiling");
+        show::number(n);
+        show::text(b" carriers,");
+        let good = show::answer(
+            calls::ceiling(n),
+            calls::kind(wanted),
+            calls::number(wanted),
+        );
+        show::verdict(good);
+        n += 1;
+    }
 }
 
 pub fn refusals() {
@@ -194,6 +225,7 @@ pub fn refusals() {
     step_refusals(&mut m);
     numbers(&mut m);
     show::heading(b"Lengths and ceilings");
-    lengths();
+    let mut room = look::room();
+    lengths(&mut room);
     ceilings();
 }

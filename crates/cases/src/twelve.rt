@@ -223,6 +223,11 @@ fn case_10() {
 fn on_the_sheet(m: &mut [u16]) {
     case_4(m);
     case_5(m);
+    on_fresh(m);
+}
+
+// Cases 6, 7, 8 and 12.
+fn on_fresh(m: &mut [u16]) {
     // Nothing is under way, so the delivery is not open.
     refused(b"case 6", m, b"deliver 1 to 2", 212, 8);
     // An unread open step is left, and the budget is used up: spent. With no step left: ended.
