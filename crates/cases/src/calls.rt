@@ -1,4 +1,7 @@
-// The entries, each answer as one record that can be compared and printed.
+// The entries, each answer as one number that can be compared and printed: its kind times 1,000,000, and a number. A refusal's kind is
+// its number in document 01's table, 1 to 10, and its number is its place; the other kinds are those below.
+use crate::floors;
+use crate::look;
 use floor::Checked;
 use floor::Floor;
 use floor::Refusal;
@@ -8,144 +11,170 @@ use machine::Ran;
 use machine::Stepped;
 use planner::Planned;
 
-// What an entry answered: the kind of answer, its number (taken, failing carrier or refusal), and the place of a refusal.
-pub struct Seen {
-    pub kind: u16,
-    pub number: usize,
-    pub place: usize,
-}
+pub const PASSED: usize = 11;
 
-fn made(kind: u16, number: usize) -> Seen {
-    Seen {
-        kind: kind,
-        number: number,
-        place: 0,
+pub const KEPT: usize = 12;
+
+pub const SENT: usize = 13;
+
+pub const DELIVERED: usize = 14;
+// Of a run, with the number taken.
+pub const SILENT: usize = 15;
+
+pub const SPENT: usize = 16;
+
+pub const ENDED: usize = 17;
+// Of a plan, with the failing carrier.
+pub const FAILING: usize = 18;
+// Of the ceiling, with the most steps.
+pub const STEPS: usize = 19;
+
+// An answer of a kind with a number.
+pub fn answer(kind: usize, number: usize) -> usize {
+    if kind < 20 {
+        if number < 1000000 {
+            return 1000000 * kind + number;
+        }
     }
+    0
 }
 
-pub fn refused(number: u16, place: usize) -> Seen {
-    Seen {
-        kind: 0,
-        number: crate::look::wide(number),
-        place: place,
-    }
+pub fn kind(came: usize) -> usize {
+    came / 1000000
 }
 
-pub fn passed() -> Seen {
-    made(1, 0)
+pub fn number(came: usize) -> usize {
+    came % 1000000
 }
 
-pub fn kept() -> Seen {
-    made(2, 0)
+// Whether an answer is a refusal.
+pub fn is_refused(came: usize) -> bool {
+    kind(came) < PASSED
 }
 
-pub fn sent() -> Seen {
-    made(3, 0)
-}
-
-pub fn delivered() -> Seen {
-    made(4, 0)
-}
-
-pub fn silent(taken: usize) -> Seen {
-    made(5, taken)
-}
-
-pub fn spent(taken: usize) -> Seen {
-    made(6, taken)
-}
-
-pub fn ended(taken: usize) -> Seen {
-    made(7, taken)
-}
-
-pub fn failing(carrier: usize) -> Seen {
-    made(8, carrier)
-}
-
-pub fn steps(most: usize) -> Seen {
-    made(9, most)
-}
-
-fn turned(r: Refusal) -> Seen {
-    refused(r.number, r.place)
-}
-
-// Whether two answers are the same.
-pub fn same(a: Seen, b: Seen) -> bool {
-    if a.kind != b.kind {
-        return false;
-    }
-    if a.number != b.number {
-        return false;
-    }
-    a.place == b.place
+fn refused(r: Refusal) -> usize {
+    answer(look::wide(r.number), r.place)
 }
 
 // What a check answered.
-pub fn checked(answer: Checked) -> Seen {
-    match answer {
-        Checked::Passed => passed(),
-        Checked::Refused(r) => turned(r),
+pub fn checked(c: Checked) -> usize {
+    match c {
+        Checked::Passed => answer(PASSED, 0),
+        Checked::Refused(r) => refused(r),
     }
 }
 
-pub fn fresh(f: Floor, walls: &[u16], m: &mut [u16]) -> Seen {
+pub fn fresh(f: Floor, walls: &[u16], m: &mut [u16]) -> usize {
     checked(machine::fresh(f, walls, m))
 }
 
-pub fn step(f: Floor, walls: &[u16], m: &mut [u16], x: u16) -> Seen {
-    let answer = machine::step(f, walls, m, x);
-    match answer {
-        Stepped::Kept => kept(),
-        Stepped::Sent => sent(),
-        Stepped::Delivered => delivered(),
-        Stepped::Refused(r) => turned(r),
+pub fn step(f: Floor, walls: &[u16], m: &mut [u16], x: u16) -> usize {
+    let a = machine::step(f, walls, m, x);
+    match a {
+        Stepped::Kept => answer(KEPT, 0),
+        Stepped::Sent => answer(SENT, 0),
+        Stepped::Delivered => answer(DELIVERED, 0),
+        Stepped::Refused(r) => refused(r),
     }
 }
 
-pub fn run(f: Floor, walls: &[u16], m: &mut [u16], list: &[u16], budget: u16) -> Seen {
-    let answer = machine::run(f, walls, m, list, budget);
-    match answer {
-        Ran::Silent(n) => silent(n),
-        Ran::Spent(n) => spent(n),
-        Ran::Ended(n) => ended(n),
-        Ran::Refused(r) => turned(r),
+pub fn run(f: Floor, walls: &[u16], m: &mut [u16], list: &[u16], budget: u16) -> usize {
+    let a = machine::run(f, walls, m, list, budget);
+    match a {
+        Ran::Silent(n) => answer(SILENT, n),
+        Ran::Spent(n) => answer(SPENT, n),
+        Ran::Ended(n) => answer(ENDED, n),
+        Ran::Refused(r) => refused(r),
     }
 }
 
-pub fn plan(f: Floor, walls: &[u16], answers: &mut [u16]) -> Seen {
-    let answer = planner::plan(f, walls, answers);
-    match answer {
-        Planned::Failing(k) => failing(k),
-        Planned::Refused(r) => turned(r),
+pub fn plan(f: Floor, walls: &[u16], answers: &mut [u16]) -> usize {
+    let a = planner::plan(f, walls, answers);
+    match a {
+        Planned::Failing(k) => answer(FAILING, k),
+        Planned::Refused(r) => refused(r),
     }
 }
 
-pub fn ceiling(n: usize) -> Seen {
-    let answer = machine::ceiling(n);
-    match answer {
-        Most::Steps(k) => steps(k),
-        Most::Refused(r) => turned(r),
+pub fn ceiling(n: usize) -> usize {
+    let a = machine::ceiling(n);
+    match a {
+        Most::Steps(k) => answer(STEPS, k),
+        Most::Refused(r) => refused(r),
     }
 }
 
 // The needed length of a floor's state, as the entry of needed lengths gives it; 0 where that refuses the floor.
 pub fn state_length(f: Floor) -> usize {
-    let answer = lengths::needed_lengths(f);
-    match answer {
+    let a = lengths::needed_lengths(f);
+    match a {
         Needed::Known(l) => l.state,
         Needed::Refused(_) => 0,
     }
 }
 
 // A run of no steps.
-pub fn idle(f: Floor, walls: &[u16], m: &mut [u16]) -> Seen {
+pub fn idle(f: Floor, walls: &[u16], m: &mut [u16]) -> usize {
     let list = [0u16; 1];
     run(f, walls, m, &list[..0], 0)
 }
 
 // Whether no step is open: a run of no steps says so.
 pub fn is_silent(f: Floor, walls: &[u16], m: &mut [u16]) -> bool {
-    same(idle(f, walls, m), silent(0))
+    idle(f, walls, m) == answer(SILENT, 0)
+}
+
+// The entries on a floor of the cases, which has no walls.
+pub fn fresh_on(k: usize, m: &mut [u16]) -> usize {
+    let none = [0u16; 1];
+    fresh(floors::floor(k), &none, m)
+}
+
+pub fn step_on(k: usize, m: &mut [u16], x: u16) -> usize {
+    let none = [0u16; 1];
+    step(floors::floor(k), &none, m, x)
+}
+
+pub fn idle_on(k: usize, m: &mut [u16]) -> usize {
+    let none = [0u16; 1];
+    idle(floors::floor(k), &none, m)
+}
+
+// The step of a letter: 1, 2, 3 are plans; a is deliver 1 to 2, b 1 to 3, c 2 to 3, x 2 to 2; any other names no step.
+fn step_of(letter: u8) -> u16 {
+    match letter {
+        b'1' => 101,
+        b'2' => 102,
+        b'3' => 103,
+        b'a' => 212,
+        b'b' => 213,
+        b'c' => 223,
+        b'x' => 222,
+        _ => 300,
+    }
+}
+
+// The steps of a text, at most eight.
+fn put_steps(text: &[u8], list: &mut [u16]) {
+    let mut k: usize = 0;
+    while k < text.len() {
+        look::put(list, k, step_of(text[k]));
+        k += 1;
+    }
+}
+
+// A run of the first n steps of a list.
+fn run_part(k: usize, m: &mut [u16], list: &[u16], n: usize, budget: u16) -> usize {
+    let none = [0u16; 1];
+    if list.len() < n {
+        return 0;
+    }
+    run(floors::floor(k), &none, m, &list[..n], budget)
+}
+
+// A run of the steps of a text.
+pub fn run_on(k: usize, m: &mut [u16], text: &[u8], budget: u16) -> usize {
+    let mut list = [0u16; 8];
+    put_steps(text, &mut list);
+    run_part(k, m, &list, text.len(), budget)
 }

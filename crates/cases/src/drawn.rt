@@ -26,12 +26,12 @@ fn lost() -> Went {
 }
 
 // Whether a step was taken.
-fn took(came: calls::Seen) -> bool {
-    came.kind != 0
+fn took(came: usize) -> bool {
+    !calls::is_refused(came)
 }
 
 // Odd answers so far.
-fn odd(n: usize, came: calls::Seen) -> usize {
+fn odd(n: usize, came: usize) -> usize {
     if took(came) {
         return n;
     }
@@ -62,7 +62,7 @@ fn by_steps(f: Floor, walls: &[u16], m: &mut [u16], all: Steps, seed: usize) -> 
 }
 
 // A run of the first steps of a drawn list, 0 to 31 of them, with a drawn budget of 0 to 15.
-fn one_run(f: Floor, walls: &[u16], m: &mut [u16], all: Steps, seed: usize) -> calls::Seen {
+fn one_run(f: Floor, walls: &[u16], m: &mut [u16], all: Steps, seed: usize) -> usize {
     let list = draws::draw_list(all, seed);
     let length = seed / 16 % 32;
     let budget = look::narrow(seed % 16);
@@ -77,11 +77,11 @@ fn by_runs(f: Floor, walls: &[u16], m: &mut [u16], all: Steps, seed: usize) -> W
     while turn < 100000 {
         s = draws::next(s);
         let came = one_run(f, walls, m, all, draws::beside(s, 4));
-        if came.kind == 0 {
+        if calls::is_refused(came) {
             return lost();
         }
-        taken = look::plus(taken, came.number);
-        if came.kind == 5 {
+        taken = look::plus(taken, calls::number(came));
+        if calls::kind(came) == calls::SILENT {
             return Went {
                 silent: true,
                 taken: taken,

@@ -17,13 +17,6 @@ pub fn three_room() -> [u16; 1181]
     [0; 1181]
 }
 
-// Room for the answers of eight carriers.
-pub fn answers_room() -> [u16; 520]
-    ensures { λ r. ⌜ 520 ≡ length r ⌝ }
-{
-    [777; 520]
-}
-
 // Room for the answers of eight carriers, all zeros.
 pub fn zeros() -> [u16; 520]
     ensures { λ r. ⌜ 520 ≡ length r ⌝ }
@@ -51,6 +44,30 @@ pub fn wide(x: u16) -> usize
     ensures { λ r. ⌜ r < 65536 ⌝ }
 {
     x as usize
+}
+
+// A byte as a number.
+pub fn wide_byte(x: u8) -> u16 {
+    x as u16
+}
+
+// The letter at a place of a text, 0 past its end (the digit, 48).
+pub fn letter(text: &[u8], k: usize) -> u8 {
+    if k < text.len() {
+        return text[k];
+    }
+    48
+}
+
+// Digit t, from 0, of a number of five digits.
+pub fn digit(code: usize, t: usize) -> u16 {
+    match t {
+        0 => narrow(code / 10000),
+        1 => narrow(code / 1000 % 10),
+        2 => narrow(code / 100 % 10),
+        3 => narrow(code / 10 % 10),
+        _ => narrow(code % 10),
+    }
 }
 
 // A size as a number, 65,535 where it is none.

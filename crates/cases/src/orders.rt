@@ -64,15 +64,15 @@ fn chosen(all: Steps, choices: [u16; 16], k: usize) -> u16 {
 }
 
 // 1 for an answer other than a refusal with 8, 0.
-pub fn odd(came: calls::Seen) -> usize {
-    if calls::same(came, calls::refused(8, 0)) {
+pub fn odd(came: usize) -> usize {
+    if came == calls::answer(8, 0) {
         return 0;
     }
     1
 }
 
 // An answer that ends the list.
-fn stopped(came: calls::Seen, k: usize) -> Led {
+fn stopped(came: usize, k: usize) -> Led {
     Led {
         silent: false,
         after: k,
@@ -94,7 +94,7 @@ fn follow(f: Floor, m: &mut [u16], all: Steps, choices: [u16; 16]) -> Led {
             };
         }
         let came = calls::step(f, &none, m, chosen(all, choices, k));
-        if came.kind == 0 {
+        if calls::is_refused(came) {
             return stopped(came, k);
         }
         k += 1;
@@ -169,19 +169,25 @@ fn every(f: Floor, m: &mut [u16], planned: &[u16], second: &[u16]) -> Tally {
     result::noted(t, 1)
 }
 
-// A line of all orders of a floor: how many there are, how many have as many steps as the ceiling, and all steps of all of them.
-fn all_orders(label: &[u8], f: Floor, m: &mut [u16], orders: usize, full: usize, steps: usize) {
+// A line of all orders.
+fn line(label: &[u8], t: Tally, orders: usize, full: usize, steps: usize) {
+    show::begin(label);
+    let a = result::all_well(t, orders);
+    let b = show::figure(b"as long as the ceiling", t.full, full);
+    let c = show::figure(b"steps in all", t.steps, steps);
+    show::verdict(look::both(a, look::both(b, c)));
+}
+
+// All orders of a floor: how many there are, how many have as many steps as the ceiling, and all steps of all of them.
+fn all_orders(label: &[u8], k: usize, m: &mut [u16], orders: usize, full: usize, steps: usize) {
+    let f = crate::floors::floor(k);
     let none = [0u16; 1];
     let mut planned = look::zeros();
     calls::plan(f, &none, &mut planned);
     let mut second = look::zeros();
     second::second_plan(f, &none, &mut second);
     let t = every(f, m, &planned, &second);
-    show::begin(label);
-    let well = result::all_well(t, orders);
-    let most = show::figure(b"as long as the ceiling", t.full, full);
-    let sum = show::figure(b"steps in all", t.steps, steps);
-    show::verdict(look::both(well, look::both(most, sum)));
+    line(label, t, orders, full, steps);
 }
 
 // Two carriers have three orders: plan 1, deliver, plan 2 (3 steps); and plan 1, plan 2 or plan 2, plan 1, then deliver, plan 2 (4
@@ -190,28 +196,29 @@ fn all_orders(label: &[u8], f: Floor, m: &mut [u16], orders: usize, full: usize,
 // is never needed) 4, 20, 57, 259, 526 and 320.
 pub fn orders() {
     show::heading(b"All orders");
+    two_carriers();
+    three_carriers();
+}
+
+fn two_carriers() {
     let mut two = crate::written::two_room();
-    all_orders(
-        b"document 01's floor",
-        floors::document(4),
-        &mut two,
-        3,
-        2,
-        11,
-    );
+    all_orders(b"document 01's floor", floors::SHEET, &mut two, 3, 2, 11);
     all_orders(
         b"the same with horizon 3",
-        floors::document(3),
+        floors::SHORT,
         &mut two,
         3,
         2,
         11,
     );
-    all_orders(b"two that never meet", floors::apart(), &mut two, 3, 2, 11);
+    all_orders(b"two that never meet", floors::APART, &mut two, 3, 2, 11);
+}
+
+fn three_carriers() {
     let mut three = look::three_room();
     all_orders(
         b"three carriers, depth 1",
-        floors::three(1),
+        floors::THREE,
         &mut three,
         888,
         248,
@@ -219,7 +226,7 @@ pub fn orders() {
     );
     all_orders(
         b"three carriers, depth 2",
-        floors::three(2),
+        floors::DEEP,
         &mut three,
         1186,
         320,

@@ -182,10 +182,10 @@ pub fn figure(n: usize) -> usize {
 // Whether a number of steps is at most the ceiling that its entry gives.
 fn within(n: usize, taken: usize) -> bool {
     let most = calls::ceiling(n);
-    if most.kind != 9 {
+    if calls::kind(most) != calls::STEPS {
         return false;
     }
-    taken <= most.number
+    taken <= calls::number(most)
 }
 
 fn more(n: usize, by: usize) -> usize {

@@ -1,8 +1,19 @@
 // Printing of a line: the case's name, what came out, and whether it is as expected.
-use crate::calls::Seen;
+use crate::calls;
+use crate::calls::DELIVERED;
+use crate::calls::ENDED;
+use crate::calls::FAILING;
+use crate::calls::KEPT;
+use crate::calls::PASSED;
+use crate::calls::SENT;
+use crate::calls::SILENT;
+use crate::calls::SPENT;
+use crate::calls::STEPS;
+use crate::look::at;
+use crate::look::both;
+use crate::look::digit;
 use crate::look::plus;
-use crate::look::same_part;
-use crate::look::wide_at;
+use crate::look::wide;
 use libc::STDOUT_FILENO;
 
 pub fn text(s: &[u8]) {
@@ -35,75 +46,53 @@ pub fn verdict(good: bool) {
     }
 }
 
-// The words of an answer that has a number.
-fn counted(kind: u16, n: usize) {
-    if kind == 5 {
-        text(b" silent");
-    }
-    if kind == 6 {
-        text(b" spent");
-    }
-    if kind == 7 {
-        text(b" ended");
-    }
-    if kind == 8 {
-        text(b" failing carrier");
-    }
-    if kind == 9 {
-        text(b" steps");
-    }
-    number(n);
-}
-
-// The words of an answer that has none.
-fn plain(kind: u16) {
-    if kind == 1 {
-        text(b" passed");
-    }
-    if kind == 2 {
-        text(b" kept");
-    }
-    if kind == 3 {
-        text(b" sent");
-    }
-    if kind == 4 {
-        text(b" delivered");
+// The words of a kind of answer.
+fn word(kind: usize) {
+    match kind {
+        PASSED => text(b" passed"),
+        KEPT => text(b" kept"),
+        SENT => text(b" sent"),
+        DELIVERED => text(b" delivered"),
+        SILENT => text(b" silent"),
+        SPENT => text(b" spent"),
+        ENDED => text(b" ended"),
+        FAILING => text(b" failing carrier"),
+        STEPS => text(b" steps"),
+        _ => text(b" refused"),
     }
 }
 
-// An answer.
-pub fn words(s: Seen) {
-    if s.kind == 0 {
-        text(b" refused");
-        number(s.number);
-        number(s.place);
-        return;
+// An answer: its words, a refusal's number, and the number taken, the failing carrier, the most steps or the place.
+fn words(came: usize) {
+    let kind = calls::kind(came);
+    word(kind);
+    if kind < PASSED {
+        number(kind);
+        number(calls::number(came));
     }
-    if s.kind < 5 {
-        plain(s.kind);
-        return;
+    if DELIVERED < kind {
+        number(calls::number(came));
     }
-    counted(s.kind, s.number);
+    text(b";");
 }
 
 // An answer, and whether it is the expected one.
-pub fn answer(came: Seen, expected: Seen) -> bool {
+pub fn answer(came: usize, kind: usize, number: usize) -> bool {
     words(came);
-    text(b";");
-    crate::calls::same(came, expected)
+    came == calls::answer(kind, number)
 }
 
 // What was done, then its answer, and whether it is the expected one.
-pub fn part(label: &[u8], came: Seen, expected: Seen) -> bool {
+pub fn part(label: &[u8], came: usize, kind: usize, number: usize) -> bool {
     text(b" ");
     text(label);
-    answer(came, expected)
+    answer(came, kind, number)
 }
 
 // A whole line of one answer.
-pub fn line(label: &[u8], came: Seen, expected: Seen) {
+pub fn line(label: &[u8], came: usize, kind: usize, number: usize) {
     begin(label);
-    let good = answer(came, expected);
+    let good = answer(came, kind, number);
     verdict(good);
 }
 
@@ -116,35 +105,61 @@ pub fn figure(label: &[u8], came: usize, expected: usize) -> bool {
     came == expected
 }
 
-// Five numbers from a place on, with their words, and whether they are the expected ones.
-pub fn five(label: &[u8], m: &[u16], i: usize, expected: [u16; 5]) -> bool {
-    text(b" ");
-    text(label);
-    number(wide_at(m, i));
-    number(wide_at(m, plus(i, 1)));
-    number(wide_at(m, plus(i, 2)));
-    number(wide_at(m, plus(i, 3)));
-    number(wide_at(m, plus(i, 4)));
+// Five numbers from a place on, and whether they are the expected digits.
+fn numbers(m: &[u16], i: usize, expected: usize) -> bool {
+    let mut good = true;
+    let mut t: usize = 0;
+    while t < 5 {
+        let x = at(m, plus(i, t));
+        number(wide(x));
+        good = both(good, x == digit(expected, t));
+        t += 1;
+    }
     text(b";");
-    same_part(m, i, &expected, 0, 5)
+    good
 }
 
-// What a comparison of memory says.
-pub fn memory(good: bool) -> bool {
+// The same with their words.
+pub fn five(label: &[u8], m: &[u16], i: usize, expected: usize) -> bool {
+    text(b" ");
+    text(label);
+    numbers(m, i, expected)
+}
+
+// One of two texts.
+fn either(good: bool, yes: &[u8], no: &[u8]) -> bool {
     if good {
-        text(b" memory as written out;");
+        text(yes);
     } else {
-        text(b" memory OTHERWISE;");
+        text(no);
     }
     good
+}
+
+// What a comparison with memory written out by hand says.
+pub fn memory(good: bool) -> bool {
+    either(good, b" memory as written out;", b" memory OTHERWISE;")
 }
 
 // What a comparison with the memory before the call says.
 pub fn untouched(good: bool) -> bool {
-    if good {
-        text(b" memory as before;");
-    } else {
-        text(b" memory CHANGED;");
-    }
-    good
+    either(good, b" memory as before;", b" memory CHANGED;")
+}
+
+// Whether the step and the run refused a spoilt state with 10, 0 and left it alone.
+pub fn refuses(good: bool) -> bool {
+    either(
+        good,
+        b" step and run refused 10 0; memory as before;",
+        b" NOT refused or not left alone;",
+    )
+}
+
+// What a comparison with the second planner says.
+pub fn agrees(good: bool) -> bool {
+    either(
+        good,
+        b" second planner agrees;",
+        b" second planner DIFFERS;",
+    )
 }

@@ -1,6 +1,8 @@
 // Spoilt states: one number of a valid state is changed at a time, and the state is lent to the single step and to the run.
 use crate::calls;
 use crate::floors;
+use crate::floors::DEEP;
+use crate::floors::SHEET;
 use crate::look;
 use crate::ranges;
 use crate::show;
@@ -8,11 +10,11 @@ use floor::Floor;
 
 // Whether the step and the run refuse a state with 10, 0.
 fn both_refuse(f: Floor, m: &mut [u16]) -> bool {
-    let none = [0u16; 1];
-    let s = calls::step(f, &none, m, 101);
-    let r = calls::run(f, &none, m, &[101u16], 5);
-    let ten = calls::refused(10, 0);
-    look::both(calls::same(s, ten), calls::same(r, ten))
+    let list = [101u16; 1];
+    let ten = calls::answer(10, 0);
+    let a = calls::step(f, &list, m, 101) == ten;
+    let b = calls::run(f, &list, m, &list, 5) == ten;
+    look::both(a, b)
 }
 
 // Whether a state is still the good one with v at place i; it is then made the good one again.
@@ -38,7 +40,7 @@ fn is_taken(f: Floor, m: &mut [u16], good: &[u16], i: usize, v: u16) -> bool {
     look::put(m, i, v);
     let r = calls::idle(f, &none, m);
     let left = is_left(m, good, i, v);
-    look::both(r.kind != 0, left)
+    look::both(!calls::is_refused(r), left)
 }
 
 // How many places are refused with the largest number there is.
@@ -100,14 +102,9 @@ fn places(label: &[u8], f: Floor, m: &mut [u16], good: &[u16], size: usize, take
 
 // The line of one spoilt number.
 fn one(label: &[u8], f: Floor, m: &mut [u16], good: &[u16], i: usize, v: u16) {
-    let none = [0u16; 1];
     show::begin(label);
-    look::put(m, i, v);
-    let came = show::answer(calls::step(f, &none, m, 101), calls::refused(10, 0));
-    look::copy(good, m);
-    let also = is_refused(f, m, good, i, v);
-    let kept = show::untouched(also);
-    show::verdict(look::both(came, kept));
+    let a = show::refuses(is_refused(f, m, good, i, v));
+    show::verdict(a);
 }
 
 // Spoilt answers of document 01's floor with carrier 1's route under way. Carrier 1's answer, at 4, is a route; as none it would have
@@ -128,11 +125,10 @@ fn spoilt_messages(f: Floor, m: &mut [u16], good: &[u16]) {
 
 // Document 01's floor with carrier 1's route under way to carrier 2: the channel is full, so all 462 places are taken within range.
 fn two_spoilt() {
-    let f = floors::document(4);
-    let none = [0u16; 1];
+    let f = floors::floor(SHEET);
     let mut m = crate::written::two_room();
-    calls::fresh(f, &none, &mut m);
-    calls::step(f, &none, &mut m, 101);
+    calls::fresh_on(SHEET, &mut m);
+    calls::step_on(SHEET, &mut m, 101);
     let mut good = crate::written::two_room();
     look::copy(&m, &mut good);
     places(b"two carriers", f, &mut m, &good, 462, 462);
@@ -141,17 +137,16 @@ fn two_spoilt() {
 }
 
 // Three carriers with depth 2 after plan 2, plan 1, deliver 1 to 2, plan 2: two messages from 2 to 3, which is full, one from 1 to 3, none
-// from 1 to 2: all places but those two channels' lengths are taken within range.
+// from 1 to 2: all places but those two channels' lengths are taken within range. The channel from 1 to 2, at 398, is empty: a length
+// of 1 counts a message that is not there.
 fn three_spoilt() {
-    let f = floors::three(2);
-    let none = [0u16; 1];
+    let f = floors::floor(DEEP);
     let mut m = look::three_room();
-    calls::fresh(f, &none, &mut m);
-    calls::run(f, &none, &mut m, &[102u16, 101, 212, 102], 4);
+    calls::fresh_on(DEEP, &mut m);
+    calls::run_on(DEEP, &mut m, b"21a2", 4);
     let mut good = look::three_room();
     look::copy(&m, &mut good);
     places(b"three carriers", f, &mut m, &good, 1181, 1179);
-    // The channel from 1 to 2, at 398, is empty: a length of 1 counts a message that is not there.
     one(b"a message that is not there", f, &mut m, &good, 398, 1);
 }
 

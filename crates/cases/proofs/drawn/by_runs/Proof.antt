@@ -24,6 +24,9 @@ beside-requires c κs = search needs
 one-run-requires : tie.Need-one-run-requires Inv-loop μ-loop
 one-run-requires c κs = search needs
 
+is-refused-requires : tie.Need-is-refused-requires Inv-loop μ-loop
+is-refused-requires c κs = search needs
+
 lost-requires : tie.Need-lost-requires Inv-loop μ-loop
 lost-requires c κs = search needs
 
@@ -33,8 +36,14 @@ same-length c = search needs
 returns : tie.Need-returns Inv-loop μ-loop
 returns c = search needs
 
+number-requires : tie.Need-number-requires Inv-loop μ-loop
+number-requires c κs = search needs
+
 plus-requires : tie.Need-plus-requires Inv-loop μ-loop
 plus-requires c κs = search needs
+
+kind-requires : tie.Need-kind-requires Inv-loop μ-loop
+kind-requires c κs = search needs
 
 same-length-2 : tie.Need-same-length-2 Inv-loop μ-loop
 same-length-2 c = search needs
@@ -70,10 +79,13 @@ by-runs-spec =
     next-requires
     beside-requires
     one-run-requires
+    is-refused-requires
     lost-requires
     same-length
     returns
+    number-requires
     plus-requires
+    kind-requires
     same-length-2
     returns-2
     add-turn

@@ -42,6 +42,9 @@ chosen-requires c κs = search needs
 step-requires : tie.Need-step-requires Inv-loop μ-loop
 step-requires c κs = search needs
 
+is-refused-requires : tie.Need-is-refused-requires Inv-loop μ-loop
+is-refused-requires c κs = search needs
+
 stopped-requires : tie.Need-stopped-requires Inv-loop μ-loop
 stopped-requires c κs = search needs
 
@@ -82,6 +85,7 @@ follow-spec =
     slice-aggregate-step
     chosen-requires
     step-requires
+    is-refused-requires
     stopped-requires
     same-length-2
     returns-2

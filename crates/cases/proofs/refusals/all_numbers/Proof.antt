@@ -7,16 +7,28 @@ use Rattle.cases.proofs.refusals.all_numbers.Statement.{statement}
 use Rattle.cases.proofs.refusals.all_numbers.Tie as tie
 
 abbrev Inv-loop : tie.InvT-loop
-Inv-loop m₀ a₀ x₀ m a x = length m ≡ length m₀
+Inv-loop m₀ kind wanted n₀ x₀ m n x = length m ≡ length m₀
 
 abbrev μ-loop : tie.MeasureT-loop
-μ-loop m₀ a₀ x₀ m a x = 65536 - x
+μ-loop m₀ kind wanted n₀ x₀ m n x = 65536 - x
+
+answer-requires : tie.Need-answer-requires Inv-loop μ-loop
+answer-requires c κs = search needs
 
 loop-holds : tie.Need-loop-holds Inv-loop μ-loop
 loop-holds c = search needs
 
-answered-requires : tie.Need-answered-requires Inv-loop μ-loop
-answered-requires c κs = search needs
+fresh-on-requires : tie.Need-fresh-on-requires Inv-loop μ-loop
+fresh-on-requires c κs = search needs
+
+narrow-requires : tie.Need-narrow-requires Inv-loop μ-loop
+narrow-requires c κs = search needs
+
+step-on-requires : tie.Need-step-on-requires Inv-loop μ-loop
+step-on-requires c κs = search needs
+
+count-requires : tie.Need-count-requires Inv-loop μ-loop
+count-requires c κs = search needs
 
 add-x : tie.Need-add-x Inv-loop μ-loop
 add-x c = search needs
@@ -39,8 +51,12 @@ all-numbers-spec =
     (tie.spec
     Inv-loop
     μ-loop
+    answer-requires
     loop-holds
-    answered-requires
+    fresh-on-requires
+    narrow-requires
+    step-on-requires
+    count-requires
     add-x
     loop-less
     loop-again

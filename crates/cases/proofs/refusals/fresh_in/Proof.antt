@@ -6,9 +6,6 @@ use borrow.Author.Needs.{needs}
 use Rattle.cases.proofs.refusals.fresh_in.Statement.{statement}
 use Rattle.cases.proofs.refusals.fresh_in.Tie as tie
 
-refused-requires : tie.Need-refused-requires
-refused-requires c κs = search needs
-
 returns : tie.Need-returns
 returns c = search needs
 
@@ -37,7 +34,6 @@ pub fresh-in-spec : {M : Type 1} → statement M
 fresh-in-spec =
     tie.close
     (tie.spec
-    refused-requires
     returns
     row-requires
     slice-aggregate-fresh
