@@ -13,16 +13,16 @@ use Rattle.route.proofs.Tests.{and-both, and-fst, and-snd, or-cases, or-inl, or
 use Rattle.route.proofs.Sets.{Sets, Leading, Backward}
 
 -- Some number below n passes the test.
-some : ℕ → (ℕ → Bool) → Bool
+pub some : ℕ → (ℕ → Bool) → Bool
 some zero p = false
 some (suc n) p = p n || some n p
 
-some-says : (n : ℕ) (p : ℕ → Bool) → some n p ≡ true → (d : ℕ) × (p d ≡ true)
+pub some-says : (n : ℕ) (p : ℕ → Bool) → some n p ≡ true → (d : ℕ) × (p d ≡ true)
 unfolding some
 some-says zero p e = true-false-absurd e refl
 some-says (suc n) p e = ⊎-elim (λ (h : p n ≡ true). (n, h)) (λ (h : some n p ≡ true). some-says n p h) (or-cases (p n) (some n p) e)
 
-some-holds : (n : ℕ) (p : ℕ → Bool) (d : ℕ) → d < n → p d ≡ true → some n p ≡ true
+pub some-holds : (n : ℕ) (p : ℕ → Bool) (d : ℕ) → d < n → p d ≡ true → some n p ≡ true
 unfolding some
 some-holds zero p d h e = absurd (omega arith)
 some-holds (suc n) p d h e =

@@ -1,4 +1,4 @@
--- Members of a set in rows of words, near cells by row and column, and a choice of five.
+-- Near cells by row and column, and a choice of five.
 use Prim.Native.Nat.{ℕ, zero, suc, _+_, _*_, _/_, _%_, _<_}
 use native.Mathlib.Omega.{arith}
 use mathlib.Core.Bool.{Bool, true, false, _&&_, _||_}
@@ -14,29 +14,6 @@ use Rattle.route.proofs.NearLaws.{near-holds}
 use Rattle.words.specs.Rows.{has}
 use Rattle.words.proofs.RowsLaws.{place-same}
 use Rattle.words.proofs.StepLaws.{before}
-
--- Cell c is in the set s.
-unfoldable pub member : ℕ → ℕ → List ℕ → ℕ → Bool
-member w cells s c = ltb c cells && has s (c / w) (c % w)
-
-module _ (w cells : ℕ) (s : List ℕ) where
-  pub member-cell : (c : ℕ) → member w cells s c ≡ true → c < cells
-  unfolding member
-  member-cell c e = ltb-true c cells (and-fst (ltb c cells) (has s (c / w) (c % w)) e)
-
-  pub member-has : (c : ℕ) → member w cells s c ≡ true → has s (c / w) (c % w) ≡ true
-  unfolding member
-  member-has c e = and-snd (ltb c cells) (has s (c / w) (c % w)) e
-
-  pub member-holds : (c : ℕ) → c < cells → has s (c / w) (c % w) ≡ true → member w cells s c ≡ true
-  unfolding member
-  member-holds c h e = and-both (lt-ltb c cells h) e
-
-  -- By row and column.
-  pub member-at : (r k : ℕ) → k < w → r * w + k < cells → has s r k ≡ true → member w cells s (r * w + k) ≡ true
-  member-at r k h l e =
-      let p : ((r * w + k) / w ≡ r) × ((r * w + k) % w ≡ k) = place-same w (r * w + k) r k h refl in
-      member-holds (r * w + k) l (rw (p .0, p .1) e)
 
 module _ (w : ℕ) where
   pub near-row : (r k j : ℕ) → k < w → j < w → (k ≡ suc j) ⊎ (j ≡ suc k) → near w (r * w + k) (r * w + j) ≡ true

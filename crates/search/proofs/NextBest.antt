@@ -80,7 +80,7 @@ module _ (w c : ℕ) (thin : 0 < w) where
   module _ (take : Bool → ℕ → Bool) (Good : ℕ → Type 0)
       (says : (b : Bool) (d : ℕ) → take b d ≡ true → (b ≡ true) × Good d)
       (holds : (b : Bool) (d : ℕ) → b ≡ true → Good d → take b d ≡ true)
-      (d : ℕ) (good : Good d) where
+      (other d : ℕ) (good : Good d) where
     -- Cell n is near, leads on, and is not above d.
     pub record Taken (n : ℕ) : Type 0 where
       pub beside : near w c n ≡ true
@@ -148,41 +148,41 @@ module _ (w c : ℕ) (thin : 0 < w) where
     some-taken (down q) a b e r u = no-down u q
 
     -- Where some near cell leads on, the next cell is near, leads on, and is the smallest.
-    pub next-best : near w c d ≡ true → Taken (nextOf take w c)
+    pub next-best : near w c d ≡ true → Taken (nextOf take w c other)
     next-best e = first (take (leb w c) (c - w)) refl
       where
         x : Candidate w c d
         x = near-candidate d e
 
         fifth : (b : Bool) → take true (c + w) ≡ b → take (leb w c) (c - w) ≡ false → take (ltb 0 (c % w)) (c - 1) ≡ false →
-            take true c ≡ false → take (ltb (c % w + 1) w) (c + 1) ≡ false → Taken (nextOf take w c)
+            take true c ≡ false → take (ltb (c % w + 1) w) (c + 1) ≡ false → Taken (nextOf take w c other)
         fifth true t p q r u =
-            rw (← next-down take w c p q r u t)
+            rw (← next-down take w c other p q r u t)
             (record { beside = near-down; leads = says true (c + w) t .1; least = least-down x p q r u })
         fifth false t p q r u = absurd (some-taken x p q r u t)
 
         fourth : (b : Bool) → take (ltb (c % w + 1) w) (c + 1) ≡ b → take (leb w c) (c - w) ≡ false →
-            take (ltb 0 (c % w)) (c - 1) ≡ false → take true c ≡ false → Taken (nextOf take w c)
+            take (ltb 0 (c % w)) (c - 1) ≡ false → take true c ≡ false → Taken (nextOf take w c other)
         fourth true t p q r =
             let s : (ltb (c % w + 1) w ≡ true) × Good (c + 1) = says (ltb (c % w + 1) w) (c + 1) t in
-            rw (← next-right take w c p q r t)
+            rw (← next-right take w c other p q r t)
             (record { beside = near-right (ltb-true (c % w + 1) w (s .0)); leads = s .1; least = least-right x p q r })
         fourth false t p q r = fifth (take true (c + w)) refl p q r t
 
         third : (b : Bool) → take true c ≡ b → take (leb w c) (c - w) ≡ false → take (ltb 0 (c % w)) (c - 1) ≡ false →
-            Taken (nextOf take w c)
+            Taken (nextOf take w c other)
         third true t p q =
-            rw (← next-here take w c p q t) (record { beside = near-same w c; leads = says true c t .1; least = least-here x p q })
+            rw (← next-here take w c other p q t) (record { beside = near-same w c; leads = says true c t .1; least = least-here x p q })
         third false t p q = fourth (take (ltb (c % w + 1) w) (c + 1)) refl p q t
 
-        second : (b : Bool) → take (ltb 0 (c % w)) (c - 1) ≡ b → take (leb w c) (c - w) ≡ false → Taken (nextOf take w c)
+        second : (b : Bool) → take (ltb 0 (c % w)) (c - 1) ≡ b → take (leb w c) (c - w) ≡ false → Taken (nextOf take w c other)
         second true t p =
             let s : (ltb 0 (c % w) ≡ true) × Good (c - 1) = says (ltb 0 (c % w)) (c - 1) t in
-            rw (← next-left take w c p t) (record { beside = near-left (ltb-true 0 (c % w) (s .0)); leads = s .1; least = least-left x p })
+            rw (← next-left take w c other p t) (record { beside = near-left (ltb-true 0 (c % w) (s .0)); leads = s .1; least = least-left x p })
         second false t p = third (take true c) refl p t
 
-        first : (b : Bool) → take (leb w c) (c - w) ≡ b → Taken (nextOf take w c)
+        first : (b : Bool) → take (leb w c) (c - w) ≡ b → Taken (nextOf take w c other)
         first true t =
             let s : (leb w c ≡ true) × Good (c - w) = says (leb w c) (c - w) t in
-            rw (← next-up take w c t) (record { beside = near-up (leb-true w c (s .0)); leads = s .1; least = least-up x })
+            rw (← next-up take w c other t) (record { beside = near-up (leb-true w c (s .0)); leads = s .1; least = least-up x })
         first false t = second (take (ltb 0 (c % w)) (c - 1)) refl t

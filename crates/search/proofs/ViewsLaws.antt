@@ -14,7 +14,6 @@ use Rattle.route.specs.Route.{cellAt, none, route, View, unheard, heard}
 use Rattle.route.specs.Moves.{vacant, passable, every}
 use Rattle.route.proofs.Tests.{and-both, true-false-absurd}
 use Rattle.search.specs.Views.{viewOf, viewAt, records, spotOf}
-use Rattle.search.specs.Passes.{holdOf}
 
 -- The view that a record shows, and its cell x at a beat, over the two tests of the tag.
 shown : Bool → Bool → List ℕ → View
@@ -125,17 +124,3 @@ vacated-says {b} h e = cases b (sym e ∙ h)
     cases : (b : Bool) → false ≡ not b → b ≡ true
     cases true q = refl
     cases false q = true-false-absurd q refl
-
-module _ (m : List ℕ) (k goal : ℕ) where
-  pub hold-none : 0 ≡ holdOf m k goal 0
-  unfolding holdOf
-  hold-none = refl
-
-  pub hold-there : (n : ℕ) → every (vacant (n + 1) goal) (records m k) ≡ false → n + 1 ≡ holdOf m k goal (n + 1)
-  unfolding holdOf
-  hold-there n e = rw add-one (sym (ap (λ (b : Bool). elim b [ true ↦ holdOf m k goal n | false ↦ suc n ]) (rw add-one at e)))
-
-  pub hold-away : (n from : ℕ) → from ≡ holdOf m k goal n → every (vacant (n + 1) goal) (records m k) ≡ true →
-      from ≡ holdOf m k goal (n + 1)
-  unfolding holdOf
-  hold-away n from h e = h ∙ rw add-one (sym (ap (λ (b : Bool). elim b [ true ↦ holdOf m k goal n | false ↦ suc n ]) (rw add-one at e)))

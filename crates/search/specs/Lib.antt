@@ -3,7 +3,9 @@ pub mod Views
 pub mod Task
 pub mod Answers
 pub mod Search
-pub mod Marks
+pub mod Ways
+pub mod Window
+pub mod Table
 pub mod Passes
 pub mod Rows
 pub mod Refused

@@ -1,19 +1,17 @@
--- What the passes of a search compute, as sets of cells in rows of words. k is how many views in memory m are looked at.
-use Prim.Native.Nat.{ℕ, zero, suc, _+_, _*_, _-_, _/_, _%_, _≤_, _<_}
+-- What the passes of a search look for, and the walk along the sets of a table.
+use Prim.Native.Nat.{ℕ, zero, suc, _+_, _-_, _%_, _≤_, _<_}
 use mathlib.Core.Bool.{Bool, true, false, _&&_}
 use mathlib.Core.List.{List}
 use mathlib.Core.Path.{_≡_}
 use lib.Dec.{leb, ltb}
-use lib.ListN.{replicate}
-use Rattle.route.specs.Moves.{vacant, passable, every}
-use Rattle.words.specs.Rows.{has, written, single, spreadOf}
-use Rattle.search.specs.Views.{records}
-use Rattle.search.specs.Marks.{marksOf}
+use Rattle.search.specs.declared.Scene.{Scene}
+use Rattle.search.specs.Ways.{wayOpen}
+use Rattle.search.specs.Table.{inSet}
 
--- The last beat from 1 to n at which a view is in the goal, or 0: from that beat on the goal can be held.
-unfoldable pub holdOf : List ℕ → ℕ → ℕ → ℕ → ℕ
-holdOf m k goal zero = 0
-holdOf m k goal (suc n) = elim (every (vacant (suc n) goal) (records m k)) [ true ↦ holdOf m k goal n | false ↦ suc n ]
+-- The last beat from 1 to n that fails the test, or 0.
+unfoldable pub lastNot : (ℕ → Bool) → ℕ → ℕ
+lastNot p zero = 0
+lastNot p (suc n) = elim (p (suc n)) [ true ↦ lastNot p n | false ↦ suc n ]
 
 -- a is the first number below n that passes a test, or n.
 pub record Earliest (p : ℕ → Bool) (n a : ℕ) : Type 0 where
@@ -21,51 +19,30 @@ pub record Earliest (p : ℕ → Bool) (n a : ℕ) : Type 0 where
   pub none-before : (b : ℕ) → b < a → p b ≡ true → ⊥
   pub passes : a < n → p a ≡ true
 
-module _ (w cells k : ℕ) (free m : List ℕ) where
-  -- One step of a set, from beat a to beat b.
-  unfoldable pub advanceOf : ℕ → ℕ → List ℕ → List ℕ
-  advanceOf a b s = spreadOf s free (marksOf w cells m a b k)
-
-  -- The cells that can be reached from the start by beat t.
-  unfoldable pub forwardOf : ℕ → ℕ → List ℕ
-  forwardOf start zero = single w cells start
-  forwardOf start (suc t) = advanceOf t (suc t) (forwardOf start t)
-
-  -- The cells from which the goal can be reached by beat a, n beats before it.
-  unfoldable pub backwardOf : ℕ → ℕ → ℕ → List ℕ
-  backwardOf goal a zero = single w cells goal
-  backwardOf goal a (suc n) = advanceOf (a - n) (a - suc n) (backwardOf goal a n)
-
-  -- The table of the backward sets, 32 rows a beat, the last n + 1 beats up to beat a being in it.
-  unfoldable pub tableOf : ℕ → ℕ → ℕ → List ℕ
-  tableOf goal a zero = written (replicate 2048 0) (a * 32) (backwardOf goal a zero) 32
-  tableOf goal a (suc n) = written (tableOf goal a n) ((a - suc n) * 32) (backwardOf goal a (suc n)) 32
-
-  -- The goal is reached by beat t and can be held from then on.
-  unfoldable pub arrivable : ℕ → ℕ → ℕ → ℕ → Bool
-  arrivable start goal horizon t = leb (holdOf m k goal horizon) t && has (forwardOf start t) (goal / w) (goal % w)
+-- The goal is in the set of beat t, from beat hold on.
+unfoldable pub arrivable : Scene → List ℕ → ℕ → ℕ → ℕ → Bool
+arrivable g s goal hold t = leb hold t && inSet g s t goal
 
 -- The first where the test holds, else the second.
 unfoldable pub pick : Bool → ℕ → ℕ → ℕ
 pick b x y = elim b [ true ↦ x | false ↦ y ]
 
--- The first candidate in rising order that is taken, among the cells above, left, here, right and below c.
-unfoldable pub nextOf : (Bool → ℕ → Bool) → ℕ → ℕ → ℕ
-nextOf take w c =
+-- The first candidate in rising order that is taken, among the cells above, left, here, right and below c; else another number.
+unfoldable pub nextOf : (Bool → ℕ → Bool) → ℕ → ℕ → ℕ → ℕ
+nextOf take w c other =
     pick (take (leb w c) (c - w)) (c - w)
     (pick (take (ltb 0 (c % w)) (c - 1)) (c - 1)
-    (pick (take true c) c (pick (take (ltb (c % w + 1) w) (c + 1)) (c + 1) (pick (take true (c + w)) (c + w) c))))
+    (pick (take true c) c (pick (take (ltb (c % w + 1) w) (c + 1)) (c + 1) (pick (take true (c + w)) (c + w) other))))
 
-module _ (w cells k : ℕ) (m table : List ℕ) where
-  -- Cell d, where it is a candidate, is in the table's set at beat t + 1 and the way there from c is open.
-  unfoldable pub leadsOf : ℕ → ℕ → Bool → ℕ → Bool
-  leadsOf t c candidate d =
-      candidate && ltb d cells && has table ((t + 1) * 32 + d / w) (d % w) && every (passable t c d) (records m k)
+-- Cell e, where it is a candidate, is in the set of beat a and the way from there to d at beat b is open.
+unfoldable pub leadsOf : Scene → ℕ → List ℕ → List ℕ → ℕ → ℕ → ℕ → Bool → ℕ → Bool
+leadsOf g k m s a b d candidate e = candidate && inSet g s a e && wayOpen m a b e d k
 
-  -- The cell of the walk at beat t: before the arrival a the first that leads there, then the goal.
-  unfoldable pub stepOf : ℕ → ℕ → ℕ → ℕ → ℕ
-  stepOf goal a t c = pick (ltb (t + 1) a) (nextOf (leadsOf t c) w c) goal
+-- The cell of the walk after cell c at beat t: before the arrival a the first that leads there, then the goal.
+unfoldable pub stepOf : Scene → ℕ → List ℕ → List ℕ → ℕ → ℕ → ℕ → ℕ → ℕ
+stepOf g k m s goal a t c = pick (ltb (t + 1) a) (nextOf (leadsOf g k m s (t + 1) t c) (g .width) c c) goal
 
-  unfoldable pub pathOf : ℕ → ℕ → ℕ → ℕ → ℕ
-  pathOf start goal a zero = start
-  pathOf start goal a (suc t) = stepOf goal a t (pathOf start goal a t)
+-- The cell of the walk at a beat.
+unfoldable pub pathOf : Scene → ℕ → List ℕ → List ℕ → ℕ → ℕ → ℕ → ℕ → ℕ
+pathOf g k m s start goal a zero = start
+pathOf g k m s start goal a (suc t) = stepOf g k m s goal a t (pathOf g k m s start goal a t)

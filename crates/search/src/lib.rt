@@ -1,24 +1,36 @@
 // The best route of a carrier against the answers above it (document 01, 'Routes'): a bit-parallel search, a word a row.
 mod ground;
+mod mend;
+mod narrow;
+mod next;
 mod passes;
+mod room;
+mod table;
 mod views;
 mod walk;
+mod window;
 
 use floor::Checked;
 use floor::Floor;
 use floor::Refusal;
 pub use ground::free_rows;
 use route::Route;
+use window::Window;
 ghost use mathlib.Core.Path.{_≡_};
-ghost use Prim.Native.Nat.{_*_};
+ghost use Prim.Native.Nat.{ℕ, _+_, _-_, _*_, _≤_, _<_};
 ghost use lib.Dec.{leb};
-ghost use lib.ListN.{length};
+ghost use lib.ListN.{length, replicate};
+ghost use mathlib.Core.Bool.{true};
+ghost use mathlib.Core.List.{List};
 ghost use Rattle.floor.specs.Answers.{verdictOf};
 ghost use Rattle.floor.specs.Verdict.{demand};
 ghost use Rattle.floor.specs.Checks.{within};
-ghost use Rattle.route.specs.Route.{none as Route·none};
+ghost use Rattle.route.specs.Route.{none as Route·none, route as Route·route};
 ghost use Rattle.route.specs.Search.{best};
 ghost use Rattle.search.specs.Answers.{answered, turned, Says};
+ghost use Rattle.words.specs.Rows.{filled};
+ghost use Rattle.search.specs.Table.{sceneOf, Fits, Fitting, Roomy, Windowed, Traced, inSet};
+ghost use Rattle.search.specs.Passes.{pathOf};
 ghost use Rattle.search.specs.Search.{requestOf, searchOf};
 ghost use Rattle.search.specs.Task.{taskOfRows};
 ghost use Rattle.search.specs.Views.{viewsOf};
@@ -60,32 +72,87 @@ fn refused(x: Refusal) -> Found
     }
 }
 
+// What the parts of a search share: the grid with the scale of its width, and the horizon.
+pub struct Scene {
+    pub width: usize,
+    pub scale: usize,
+    pub cells: usize,
+    pub horizon: usize,
+}
+
+// The scene of a floor.
+pub fn scene_of(f: Floor) -> Scene
+    requires { ⌜ (1 ≤ f .width) × (f .width ≤ 32) × (f .height ≤ 32) ⌝ }
+    ensures { λ r. ⌜ r ≡ sceneOf f ⌝ }
+{
+    let w = f.width as usize;
+    Scene {
+        width: w,
+        scale: words::scale(w),
+        cells: w * f.height as usize,
+        horizon: f.horizon as usize,
+    }
+}
+
+// The route to the goal with its least arrival a, along a table of the sets that the start reaches.
+fn along(g: Scene, k: usize, v: Window, sets: &mut [u32], room: &[u32], views: &[u16], start: usize, goal: usize, a: usize) -> Found
+    requires { ⌜ Fits g k (now views) × Fitting g v × (start < g .cells) × (goal < g .cells) × (a ≤ v .limit) ⌝ }
+    requires { ⌜ ((free : List ℕ) × Roomy g k free (now views) (now room)) ⌝ }
+    requires { ⌜ Windowed g v (now sets) × (inSet g (now sets) a goal ≡ true) ⌝ }
+    ensures { λ r. ⌜ ((q : List ℕ) × Traced g k v (now (views .entry)) (now (sets .entry)) goal a a q × Says r (answered (Route·route (filled (replicate 64 0) (pathOf g k (now (views .entry)) q start goal a) (g .horizon + 1))))) ⌝ }
+{
+    passes::leading(g, k, v, sets, room, views, goal, a);
+    Found {
+        outcome: Outcome::Route,
+        route: walk::walk(g, k, sets, room, views, start, goal, a),
+    }
+}
+
+// The best route of a carrier of a checked floor, in the room that its free cells and the carriers above it leave.
+pub fn route_in(f: Floor, free: [u32; 32], room: &[u32], carrier: u16, views: &[u16]) -> Found
+    requires { ⌜ Searchable f free carrier (now views) ⌝ }
+    requires { ⌜ Roomy (sceneOf f) (carrier - 1) free (now views) (now room) ⌝ }
+    ensures { λ r. ⌜ Says r (answered (best (taskOfRows f free carrier) (viewsOf (now (views .entry)) carrier))) ⌝ }
+{
+    let k = carrier as usize - 1;
+    let start = f.starts[k] as usize;
+    let goal = f.goals[k] as usize;
+    let g = scene_of(f);
+    if !table::member(g, room, 0, start) {
+        return none();
+    }
+    let far = window::far(g, start, goal);
+    if g.horizon < far {
+        return none();
+    }
+    let hold = passes::hold_from(g, room, goal);
+    let near = window::near_limit(g, far, hold);
+    let v = window::around(g, start, goal, near);
+    let mut sets = table::empty();
+    let a = passes::reach(g, k, v, &mut sets, room, views, start, goal, hold);
+    if a <= near {
+        return along(g, k, v, &mut sets, room, views, start, goal, a);
+    }
+    if g.horizon <= near {
+        return none();
+    }
+    let all = window::around(g, start, goal, g.horizon);
+    let mut more = table::empty();
+    let b = passes::reach(g, k, all, &mut more, room, views, start, goal, hold);
+    if g.horizon < b {
+        return none();
+    }
+    along(g, k, all, &mut more, room, views, start, goal, b)
+}
+
 // The best route of a carrier of a checked floor, with its free cells as rows and the views of the carriers above it.
 pub fn best_route(f: Floor, free: [u32; 32], carrier: u16, views: &[u16]) -> Found
     requires { ⌜ Searchable f free carrier (now views) ⌝ }
     ensures { λ r. ⌜ Says r (answered (best (taskOfRows f free carrier) (viewsOf (now (views .entry)) carrier))) ⌝ }
 {
-    let k = carrier as usize - 1;
-    let w = f.width as usize;
-    let cells = w * f.height as usize;
-    let start = f.starts[k] as usize;
-    let goal = f.goals[k] as usize;
-    let horizon = f.horizon as usize;
-    if !words::has(&free, start / w, start % w) {
-        return none();
-    }
-    if views::occupied(views, k, 0, start) {
-        return none();
-    }
-    let a = passes::earliest(&free, views, k, w, cells, start, goal, horizon);
-    if horizon < a {
-        return none();
-    }
-    let table = passes::leading(&free, views, k, w, cells, goal, a);
-    Found {
-        outcome: Outcome::Route,
-        route: walk::walk(&table, views, k, w, cells, start, goal, a, horizon),
-    }
+    let mut room = table::empty();
+    room::make(scene_of(f), carrier as usize - 1, &mut room, &free, views);
+    route_in(f, free, &room, carrier, views)
 }
 
 // 7: the floor has such a carrier.

@@ -1,164 +1,130 @@
-// The passes of the search over sets of cells: forward to the least arrival, backward into a table.
+// The passes of the search over a table: forward to the least arrival, backward to the sets that lead there.
 ghost use mathlib.Core.Path.{_≡_};
-ghost use Prim.Native.Nat.{_+_, _*_, _-_, _/_, _%_, _≤_, _<_};
-ghost use lib.Dec.{leb};
-ghost use mathlib.Core.Bool.{_&&_};
+ghost use mathlib.Core.Bool.{true};
+ghost use mathlib.Core.List.{List};
+ghost use Prim.Native.Nat.{ℕ, _+_, _*_, _/_, _≤_, _<_};
 ghost use lib.ListN.{length, replicate};
-ghost use Rattle.words.specs.Rows.{has};
-ghost use Rattle.search.specs.Marks.{sideOf, shutBy, marksOf};
-ghost use Rattle.search.specs.Passes.{Earliest, advanceOf, arrivable, tableOf};
-use crate::views::hold_from;
-use crate::views::spot;
+ghost use Rattle.search.specs.Table.{Fits, Fitting, Rewritten, Roomy, Tidy, Windowed, Inside, Laid, Advanced, Traced, Ended, inSet};
+ghost use Rattle.search.specs.Passes.{lastNot, Earliest, arrivable};
+use crate::mend::mend;
+use crate::narrow::narrow_rows;
+use crate::Scene;
+use crate::table::lay;
+use crate::table::member;
+use crate::window::first_row;
+use crate::window::Window;
 
-// No marks.
-fn unmarked() -> [u32; 192]
-    ensures { λ r. ⌜ r ≡ replicate 192 0 ⌝ }
+// The last beat at which the goal is not in the room, from which on it can be held through the horizon; 0 where there is none.
+pub fn hold_from(g: Scene, room: &[u32], goal: usize) -> usize
+    requires { ⌜ (1 ≤ g .width) × (g .width ≤ 32) × (g .cells ≤ 32 * g .width) × (g .scale ≡ 65536 / g .width + 1) ⌝ }
+    requires { ⌜ (length (now room) ≡ 2304) × (g .horizon ≤ 63) × (goal < g .cells) ⌝ }
+    ensures { λ r. ⌜ (r ≡ lastNot (λ t. inSet g (now (room .entry)) t goal) (g .horizon)) × (r ≤ g .horizon) ⌝ }
 {
-    [0u32; 192]
+    let mut n: usize = 0;
+    let mut from: usize = 0;
+    while n < g.horizon {
+        n += 1;
+        if !member(g, room, n, goal) {
+            from = n;
+        }
+    }
+    from
 }
 
-// The block for cell d where cell c is above, below, left or right of it; 5 where it is none of these.
-fn side(w: usize, d: usize, c: usize) -> usize
-    requires { ⌜ (w ≤ 32) × (d < 65536) × (c < 65536) ⌝ }
-    ensures { λ r. ⌜ (r ≡ sideOf w d c) × (r ≤ 5) ⌝ }
-{
-    if c + w == d {
-        return 1;
-    }
-    if c == d + w {
-        return 2;
-    }
-    if c + 1 == d {
-        return 3;
-    }
-    if c == d + 1 {
-        return 4;
-    }
-    5
-}
-
-// Adds the marks of a view that is in cell d at the one beat and in cell c at the other.
-fn shut(marks: &mut [u32], w: usize, cells: usize, d: usize, c: usize)
-    requires { ⌜ (1 ≤ w) × (w ≤ 32) × (cells ≤ 32 * w) ⌝ }
-    requires { ⌜ (d < 65536) × (c < 65536) × (length (now marks) ≡ 192) ⌝ }
-    ensures { λ r. ⌜ now (marks .exit) ≡ shutBy w cells d c (now (marks .entry)) ⌝ }
-{
-    words::mark(marks, w, cells, 0, c);
-    let b = side(w, d, c);
-    words::mark(marks, w, cells, b, d);
-}
-
-// The marks of the first k views between beats a and b.
-fn marks(views: &[u16], k: usize, w: usize, cells: usize, a: usize, b: usize) -> [u32; 192]
-    requires { ⌜ (1 ≤ w) × (w ≤ 32) × (cells ≤ 32 * w) ⌝ }
-    requires { ⌜ (65 * k ≤ length (now views)) × (a < 64) × (b < 64) ⌝ }
-    ensures { λ r. ⌜ (r ≡ marksOf w cells (now (views .entry)) a b k) × (length r ≡ 192) ⌝ }
-{
-    let mut s = unmarked();
-    let mut j: usize = 0;
-    while j < k {
-        let d = spot(views, j, a);
-        let c = spot(views, j, b);
-        shut(&mut s, w, cells, d, c);
-        j += 1;
-    }
-    s
-}
-
-// One step of a set, from beat a to beat b.
-fn advance(
-    s: &[u32],
-    free: &[u32],
-    views: &[u16],
-    k: usize,
-    w: usize,
-    cells: usize,
-    a: usize,
-    b: usize,
-) -> [u32; 32]
-    requires { ⌜ (1 ≤ w) × (w ≤ 32) × (cells ≤ 32 * w) ⌝ }
-    requires { ⌜ (65 * k ≤ length (now views)) × (a < 64) × (b < 64) ⌝ }
-    requires { ⌜ (length (now s) ≡ 32) × (length (now free) ≡ 32) ⌝ }
-    ensures { λ r. ⌜ r ≡ advanceOf w cells k (now (free .entry)) (now (views .entry)) a b (now (s .entry)) ⌝ }
-{
-    let shut = marks(views, k, w, cells, a, b);
-    words::spread(s, free, &shut)
-}
-
-// Whether the goal is in a set, from beat hold on.
-fn arrives(s: &[u32], w: usize, goal: usize, hold: usize, t: usize) -> bool
-    requires { ⌜ (1 ≤ w) × (w ≤ 32) × (goal < 32 * w) × (length (now s) ≡ 32) ⌝ }
-    ensures { λ r. ⌜ r ≡ (leb hold t && has (now (s .entry)) (goal / w) (goal % w)) ⌝ }
+// Whether the goal is in the set of beat t, from beat hold on.
+fn arrives(g: Scene, sets: &[u32], goal: usize, hold: usize, t: usize) -> bool
+    requires { ⌜ (1 ≤ g .width) × (g .width ≤ 32) × (g .cells ≤ 32 * g .width) × (g .scale ≡ 65536 / g .width + 1) ⌝ }
+    requires { ⌜ (length (now sets) ≡ 2304) × (t < 64) × (goal < g .cells) ⌝ }
+    ensures { λ r. ⌜ r ≡ arrivable g (now (sets .entry)) goal hold t ⌝ }
 {
     if t < hold {
         return false;
     }
-    words::has(s, goal / w, goal % w)
+    member(g, sets, t, goal)
 }
 
-// The least arrival, or one past the horizon where there is none.
-pub fn earliest(
-    free: &[u32],
-    views: &[u16],
-    k: usize,
-    w: usize,
-    cells: usize,
-    start: usize,
-    goal: usize,
-    horizon: usize,
-) -> usize
-    requires { ⌜ (1 ≤ w) × (w ≤ 32) × (cells ≤ 32 * w) ⌝ }
-    requires { ⌜ (65 * k ≤ length (now views)) × (length (now free) ≡ 32) ⌝ }
-    requires { ⌜ (goal < cells) × (horizon < 64) ⌝ }
-    ensures { λ r. ⌜ Earliest (arrivable w cells k (now (free .entry)) (now (views .entry)) start goal horizon) (horizon + 1) r ⌝ }
+// The least arrival within the limit, or one past it where there is none. Each set becomes what the start reaches of it.
+fn earliest(g: Scene, k: usize, v: Window, sets: &mut [u32], room: &[u32], views: &[u16], goal: usize, hold: usize) -> usize
+    requires { ⌜ Fits g k (now views) × Fitting g v × (goal < g .cells) ⌝ }
+    requires { ⌜ ((free : List ℕ) × Roomy g k free (now views) (now room)) ⌝ }
+    requires { ⌜ Windowed g v (now sets) ⌝ }
+    ensures made { λ r. ⌜ ((n : ℕ) × (n ≤ v .limit) × ((r ≤ v .limit → r ≤ n)) × ((v .limit < r → n ≡ v .limit)) × Advanced g k v (now (views .entry)) (now (sets .entry)) n (now (sets .exit))) ⌝ }
+    ensures found { λ r. ⌜ Earliest (arrivable g (now (sets .exit)) goal hold) (v .limit + 1) r ⌝ }
 {
-    let hold = hold_from(views, k, goal, horizon);
-    let mut s = words::single(w, cells, start);
+    let limit = v.limit;
+    let blocks = v.blocks;
     let mut t: usize = 0;
-    while t < horizon {
-        if arrives(&s, w, goal, hold, t) {
+    while t < limit {
+        if arrives(g, sets, goal, hold, t) {
             return t;
         }
-        s = advance(&s, free, views, k, w, cells, t, t + 1);
+        let first = first_row(v, t + 1);
+        if narrow_rows(sets, room, t * 36 + first, (t + 1) * 36 + first, blocks) {
+            mend(g, k, sets, room, views, t, t + 1);
+        }
         t += 1;
     }
-    if arrives(&s, w, goal, hold, t) {
+    if arrives(g, sets, goal, hold, t) {
         return t;
     }
-    horizon + 1
+    limit + 1
 }
 
-// A table of empty sets.
-fn empty_table() -> [u32; 2048]
-    ensures { λ r. ⌜ r ≡ replicate 2048 0 ⌝ }
+// The same in an empty table, from the start.
+pub fn reach(g: Scene, k: usize, v: Window, sets: &mut [u32], room: &[u32], views: &[u16], start: usize, goal: usize, hold: usize) -> usize
+    requires { ⌜ Fits g k (now views) × Fitting g v × (start < g .cells) × (goal < g .cells) × Inside v 0 (start / g .width) ⌝ }
+    requires { ⌜ ((free : List ℕ) × Roomy g k free (now views) (now room)) ⌝ }
+    requires { ⌜ now sets ≡ replicate 2304 0 ⌝ }
+    ensures made { λ r. ⌜ ((s : List ℕ) × (n : ℕ) × Laid g v (now (room .entry)) start s × (n ≤ v .limit) × ((r ≤ v .limit → r ≤ n)) × ((v .limit < r → n ≡ v .limit)) × Advanced g k v (now (views .entry)) s n (now (sets .exit))) ⌝ }
+    ensures found { λ r. ⌜ Earliest (arrivable g (now (sets .exit)) goal hold) (v .limit + 1) r ⌝ }
 {
-    [0u32; 2048]
+    lay(v, sets, room);
+    let w = g.width;
+    let r = words::row_of(w, g.scale, start);
+    words::add(sets, 1 + r, start - r * w);
+    earliest(g, k, v, sets, room, views, goal, hold)
 }
 
-// The backward sets from the goal at beat a, 32 rows a beat.
-pub fn leading(
-    free: &[u32],
-    views: &[u16],
-    k: usize,
-    w: usize,
-    cells: usize,
-    goal: usize,
-    a: usize,
-) -> [u32; 2048]
-    requires { ⌜ (1 ≤ w) × (w ≤ 32) × (cells ≤ 32 * w) ⌝ }
-    requires { ⌜ (65 * k ≤ length (now views)) × (length (now free) ≡ 32) ⌝ }
-    requires { ⌜ a < 64 ⌝ }
-    ensures { λ r. ⌜ (r ≡ tableOf w cells k (now (free .entry)) (now (views .entry)) goal a a) × (length r ≡ 2048) ⌝ }
+// Empties the 32 rows from row i on.
+fn wipe(sets: &mut [u32], i: usize)
+    requires { ⌜ i + 32 ≤ length (now sets) ⌝ }
+    ensures { λ r. ⌜ Rewritten (now (sets .entry)) (λ j. 0) i 32 (now (sets .exit)) ⌝ }
 {
-    let mut table = empty_table();
-    let mut s = words::single(w, cells, goal);
-    words::store(&mut table, a * 32, &s);
+    let mut b: usize = 0;
+    while b < 4 {
+        words::put_eight(sets, i + 8 * b, [0u32; 8]);
+        b += 1;
+    }
+}
+
+// The set of beat a becomes the goal alone.
+fn end_at(g: Scene, v: Window, sets: &mut [u32], goal: usize, a: usize)
+    requires { ⌜ (1 ≤ g .width) × (g .width ≤ 32) × (g .cells ≤ 32 * g .width) × (g .scale ≡ 65536 / g .width + 1) ⌝ }
+    requires { ⌜ (goal < g .cells) × (a < 64) × Windowed g v (now sets) × (inSet g (now sets) a goal ≡ true) ⌝ }
+    ensures { λ r. ⌜ Ended g v (now (sets .entry)) goal a (now (sets .exit)) ⌝ }
+{
+    wipe(sets, a * 36 + 1);
+    let w = g.width;
+    let r = words::row_of(w, g.scale, goal);
+    words::add(sets, a * 36 + 1 + r, goal - r * w);
+}
+
+// The sets before beat a become what leads to the goal at beat a.
+pub fn leading(g: Scene, k: usize, v: Window, sets: &mut [u32], room: &[u32], views: &[u16], goal: usize, a: usize)
+    requires { ⌜ Fits g k (now views) × Fitting g v × (goal < g .cells) × (a ≤ v .limit) ⌝ }
+    requires { ⌜ ((free : List ℕ) × Roomy g k free (now views) (now room)) ⌝ }
+    requires { ⌜ Windowed g v (now sets) × (inSet g (now sets) a goal ≡ true) ⌝ }
+    ensures { λ r. ⌜ Traced g k v (now (views .entry)) (now (sets .entry)) goal a a (now (sets .exit)) ⌝ }
+{
+    end_at(g, v, sets, goal, a);
+    let blocks = v.blocks;
     let mut n: usize = 0;
     while n < a {
         let t = a - n;
         n += 1;
-        s = advance(&s, free, views, k, w, cells, t, a - n);
-        words::store(&mut table, (a - n) * 32, &s);
+        let first = first_row(v, a - n);
+        if narrow_rows(sets, room, t * 36 + first, (a - n) * 36 + first, blocks) {
+            mend(g, k, sets, room, views, t, a - n);
+        }
     }
-    table
 }

@@ -1,11 +1,11 @@
 // The lent views: 65 numbers a record, a tag and 64 cells.
 ghost use mathlib.Core.Path.{_≡_};
-ghost use mathlib.Core.Bool.{not};
+ghost use mathlib.Core.Bool.{not, _&&_};
 ghost use Prim.Native.Nat.{_+_, _*_, _≤_, _<_};
+ghost use lib.Dec.{eqb};
 ghost use lib.ListN.{length};
-ghost use Rattle.route.specs.Moves.{vacant, passable, every};
-ghost use Rattle.search.specs.Views.{viewAt, records, spotOf};
-ghost use Rattle.search.specs.Passes.{holdOf};
+ghost use Rattle.search.specs.Views.{spotOf};
+ghost use Rattle.search.specs.Ways.{wayOpen};
 
 // The cell of the route in record j at beat t, a number that is no cell where there is no route.
 pub fn spot(views: &[u16], j: usize, t: usize) -> usize
@@ -18,59 +18,28 @@ pub fn spot(views: &[u16], j: usize, t: usize) -> usize
     65535
 }
 
-// Whether some of the first k views is in cell c at beat t.
-pub fn occupied(views: &[u16], k: usize, t: usize, c: usize) -> bool
-    requires { ⌜ (65 * k ≤ length (now views)) × (t < 64) × (c < 1024) ⌝ }
-    ensures { λ r. ⌜ r ≡ not (every (vacant t c) (records (now (views .entry)) k)) ⌝ }
+// Whether view j is in d at beat a and in c at beat b.
+fn crosses(views: &[u16], j: usize, a: usize, b: usize, c: usize, d: usize) -> bool
+    requires { ⌜ (65 * j + 65 ≤ length (now views)) × (a < 64) × (b < 64) ⌝ }
+    ensures { λ r. ⌜ r ≡ (eqb c (spotOf (now (views .entry)) j b) && eqb d (spotOf (now (views .entry)) j a)) ⌝ }
+{
+    if c == spot(views, j, b) {
+        return d == spot(views, j, a);
+    }
+    false
+}
+
+// Whether some of the first k views shuts the way from c at beat a to d at beat b: it is in d at a and in c at b.
+pub fn swapped(views: &[u16], k: usize, a: usize, b: usize, c: usize, d: usize) -> bool
+    requires { ⌜ (65 * k ≤ length (now views)) × (a < 64) × (b < 64) ⌝ }
+    ensures { λ r. ⌜ r ≡ not (wayOpen (now (views .entry)) a b c d k) ⌝ }
 {
     let mut j: usize = 0;
     while j < k {
-        if c == spot(views, j, t) {
+        if crosses(views, j, a, b, c, d) {
             return true;
         }
         j += 1;
     }
     false
-}
-
-// Whether view j goes from d to c between beats t and t + 1.
-fn crosses(views: &[u16], j: usize, t: usize, c: usize, d: usize) -> bool
-    requires { ⌜ (65 * j + 65 ≤ length (now views)) × (t < 63) × (c < 1024) ⌝ }
-    ensures { λ r. ⌜ r ≡ not (passable t c d (viewAt (now (views .entry)) j)) ⌝ }
-{
-    if c == spot(views, j, t + 1) {
-        return d == spot(views, j, t);
-    }
-    false
-}
-
-// Whether some of the first k views goes from d to c between beats t and t + 1.
-pub fn swapped(views: &[u16], k: usize, t: usize, c: usize, d: usize) -> bool
-    requires { ⌜ (65 * k ≤ length (now views)) × (t < 63) × (c < 1024) ⌝ }
-    ensures { λ r. ⌜ r ≡ not (every (passable t c d) (records (now (views .entry)) k)) ⌝ }
-{
-    let mut j: usize = 0;
-    while j < k {
-        if crosses(views, j, t, c, d) {
-            return true;
-        }
-        j += 1;
-    }
-    false
-}
-
-// The first beat from which the goal can be held through the horizon, as far as the views go.
-pub fn hold_from(views: &[u16], k: usize, goal: usize, horizon: usize) -> usize
-    requires { ⌜ (65 * k ≤ length (now views)) × (horizon < 64) × (goal < 1024) ⌝ }
-    ensures { λ r. ⌜ r ≡ holdOf (now (views .entry)) k goal horizon ⌝ }
-{
-    let mut n: usize = 0;
-    let mut from: usize = 0;
-    while n < horizon {
-        n += 1;
-        if occupied(views, k, n, goal) {
-            from = n;
-        }
-    }
-    from
 }

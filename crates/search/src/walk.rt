@@ -1,121 +1,39 @@
-// The route along the backward sets: at each beat the smallest cell that still leads to the goal by the arrival.
+// The route along the sets of a table: at each beat the smallest cell that still leads to the goal by the arrival.
 ghost use mathlib.Core.Path.{_≡_};
-ghost use mathlib.Core.Bool.{Bool};
-ghost use Prim.Native.Nat.{_+_, _*_, _-_, _≤_, _<_};
-ghost use lib.ListN.{length, replicate};
+ghost use mathlib.Core.List.{List};
+ghost use Prim.Native.Nat.{ℕ, _+_, _≤_, _<_};
+ghost use lib.ListN.{replicate};
 ghost use Rattle.words.specs.Rows.{filled};
-ghost use Rattle.search.specs.Passes.{leadsOf, nextOf, stepOf, pathOf};
-use crate::views::swapped;
+ghost use Rattle.search.specs.Table.{Fits, Roomy, Tidy};
+ghost use Rattle.search.specs.Passes.{stepOf, pathOf};
+use crate::next::next;
+use crate::Scene;
 use route::Route;
 
-// The difference, 0 where it would be less.
-fn minus(c: usize, x: usize) -> usize
-    ensures { λ r. ⌜ r ≡ c - x ⌝ }
-{
-    if c < x {
-        return 0;
-    }
-    c - x
-}
-
-// Whether cell d, where it is a candidate, leads on from cell c at beat t.
-fn leads(
-    table: &[u32],
-    views: &[u16],
-    k: usize,
-    w: usize,
-    cells: usize,
-    t: usize,
-    c: usize,
-    candidate: bool,
-    d: usize,
-) -> bool
-    requires { ⌜ (1 ≤ w) × (w ≤ 32) × (cells ≤ 32 * w) × (c < cells) ⌝ }
-    requires { ⌜ (65 * k ≤ length (now views)) × (length (now table) ≡ 2048) × (t < 63) ⌝ }
-    ensures { λ r. ⌜ r ≡ leadsOf w cells k (now (views .entry)) (now (table .entry)) t c candidate d ⌝ }
-{
-    if !candidate {
-        return false;
-    }
-    if cells <= d {
-        return false;
-    }
-    if !words::has(table, (t + 1) * 32 + d / w, d % w) {
-        return false;
-    }
-    !swapped(views, k, t, c, d)
-}
-
-// The smallest cell that leads on from cell c at beat t.
-fn next(table: &[u32], views: &[u16], k: usize, w: usize, cells: usize, t: usize, c: usize) -> usize
-    requires { ⌜ (1 ≤ w) × (w ≤ 32) × (cells ≤ 32 * w) × (c < cells) ⌝ }
-    requires { ⌜ (65 * k ≤ length (now views)) × (length (now table) ≡ 2048) × (t < 63) ⌝ }
-    ensures { λ r. ⌜ r ≡ nextOf (leadsOf w cells k (now (views .entry)) (now (table .entry)) t c) w c ⌝ }
-{
-    let up = minus(c, w);
-    if leads(table, views, k, w, cells, t, c, w <= c, up) {
-        return up;
-    }
-    let left = minus(c, 1);
-    if leads(table, views, k, w, cells, t, c, 0 < c % w, left) {
-        return left;
-    }
-    if leads(table, views, k, w, cells, t, c, true, c) {
-        return c;
-    }
-    if leads(table, views, k, w, cells, t, c, c % w + 1 < w, c + 1) {
-        return c + 1;
-    }
-    if leads(table, views, k, w, cells, t, c, true, c + w) {
-        return c + w;
-    }
-    c
-}
-
 // The cell after cell c at beat t: before the arrival the smallest that leads there, then the goal.
-fn follow(
-    table: &[u32],
-    views: &[u16],
-    k: usize,
-    w: usize,
-    cells: usize,
-    goal: usize,
-    a: usize,
-    t: usize,
-    c: usize,
-) -> usize
-    requires { ⌜ (1 ≤ w) × (w ≤ 32) × (cells ≤ 32 * w) × (c < cells) × (goal < cells) ⌝ }
-    requires { ⌜ (65 * k ≤ length (now views)) × (length (now table) ≡ 2048) × (t < 63) ⌝ }
-    ensures { λ r. ⌜ (r ≡ stepOf w cells k (now (views .entry)) (now (table .entry)) goal a t c) × (r < cells) ⌝ }
+fn follow(g: Scene, k: usize, sets: &[u32], room: &[u32], views: &[u16], goal: usize, a: usize, t: usize, c: usize) -> usize
+    requires { ⌜ Fits g k (now views) × Tidy g (now sets) × (t < g .horizon) × (c < g .cells) × (goal < g .cells) ⌝ }
+    requires { ⌜ ((free : List ℕ) × Roomy g k free (now views) (now room)) ⌝ }
+    ensures { λ r. ⌜ (r ≡ stepOf g k (now (views .entry)) (now (sets .entry)) goal a t c) × (r < g .cells) ⌝ }
 {
     if t + 1 < a {
-        return next(table, views, k, w, cells, t, c);
+        return next(g, k, sets, room, views, t + 1, t, c, c);
     }
     goal
 }
 
 // The route from the start, 0 after the horizon.
-pub fn walk(
-    table: &[u32],
-    views: &[u16],
-    k: usize,
-    w: usize,
-    cells: usize,
-    start: usize,
-    goal: usize,
-    a: usize,
-    horizon: usize,
-) -> Route
-    requires { ⌜ (1 ≤ w) × (w ≤ 32) × (cells ≤ 32 * w) × (start < cells) × (goal < cells) ⌝ }
-    requires { ⌜ (65 * k ≤ length (now views)) × (length (now table) ≡ 2048) × (horizon < 64) ⌝ }
-    ensures { λ r. ⌜ r ≡ filled (replicate 64 0) (pathOf w cells k (now (views .entry)) (now (table .entry)) start goal a) (horizon + 1) ⌝ }
+pub fn walk(g: Scene, k: usize, sets: &[u32], room: &[u32], views: &[u16], start: usize, goal: usize, a: usize) -> Route
+    requires { ⌜ Fits g k (now views) × Tidy g (now sets) × (start < g .cells) × (goal < g .cells) ⌝ }
+    requires { ⌜ ((free : List ℕ) × Roomy g k free (now views) (now room)) ⌝ }
+    ensures { λ r. ⌜ r ≡ filled (replicate 64 0) (pathOf g k (now (views .entry)) (now (sets .entry)) start goal a) (g .horizon + 1) ⌝ }
 {
     let mut r = [0u16; 64];
     r[0] = start as u16;
     let mut c = start;
     let mut t: usize = 0;
-    while t < horizon {
-        c = follow(table, views, k, w, cells, goal, a, t, c);
+    while t < g.horizon {
+        c = follow(g, k, sets, room, views, goal, a, t, c);
         t += 1;
         r[t] = c as u16;
     }

@@ -3,4 +3,5 @@ pub mod Tests
 pub mod DigitLaws
 pub mod FillLaws
 pub mod RowsLaws
+pub mod ScaleLaws
 pub mod StepLaws

@@ -2,7 +2,7 @@
 use Prim.Native.Nat.{ℕ, _+_, _*_, _/_, _%_, _^_, _≤_, _<_}
 use native.Mathlib.Omega.{arith}
 use native.Mathlib.Nat.{one-mul, mod-eq-of-lt, div-add-mod', div-lt-iff-lt-mul}
-use mathlib.Core.Bool.{Bool, true, false, _&&_, _||_, or-false}
+use mathlib.Core.Bool.{Bool, true, false, _&&_, _||_, not, or-false}
 use mathlib.Core.List.{List}
 use mathlib.Core.Logic.{⊎-elim}
 use mathlib.Core.Path.{_≡_, refl, sym, ap, _∙_}
@@ -13,9 +13,9 @@ use lib.Bits.{bitOr}
 use lib.Dec.{eqb, ltb}
 use lib.ListN.{length, getD, set, replicate, length-set, length-replicate}
 use lib.Seq.{getD-set-same, getD-set-other}
-use Rattle.words.specs.Words.{digit}
-use Rattle.words.specs.Rows.{has, added, marked, single}
-use Rattle.words.proofs.DigitLaws.{digit-or, digit-bit}
+use Rattle.words.specs.Words.{digit, without}
+use Rattle.words.specs.Rows.{has, added, dropped, droppedAt, marked}
+use Rattle.words.proofs.DigitLaws.{digit-or, digit-bit, digit-without}
 use Rattle.words.proofs.Tests.{eq-or-ne, lt-or-le, and-both, and-fst, and-snd, same-test}
 
 -- The word with one digit, as the code makes it.
@@ -91,10 +91,6 @@ length-marked w cells b c s = cases (ltb c cells)
     cases true = length-set s (b * 32 + c / w) (bitOr (getD s (b * 32 + c / w) 0) (2 ^ (c % w)))
     cases false = refl
 
-pub length-single : (w cells c : ℕ) → length (single w cells c) ≡ 32
-unfolding single
-length-single w cells c = length-marked w cells 0 c (replicate 32 0) ∙ length-replicate {A = ℕ} 32 0
-
 pub marked-inside : (w cells b c : ℕ) (s : List ℕ) → c < cells → added s (b * 32 + c / w) (c % w) ≡ marked w cells b c s
 unfolding marked
 marked-inside w cells b c s h = sym (ap (λ (t : Bool). elim t [ true ↦ added s (b * 32 + c / w) (c % w) | false ↦ s ]) (lt-ltb c cells h))
@@ -102,3 +98,33 @@ marked-inside w cells b c s h = sym (ap (λ (t : Bool). elim t [ true ↦ added 
 pub marked-outside : (w cells b c : ℕ) (s : List ℕ) → cells ≤ c → s ≡ marked w cells b c s
 unfolding marked
 marked-outside w cells b c s h = sym (ap (λ (t : Bool). elim t [ true ↦ added s (b * 32 + c / w) (c % w) | false ↦ s ]) (le-ltb c cells h))
+
+and-all : (b : Bool) → (b && true) ≡ b
+and-all true = refl
+and-all false = refl
+
+-- A digit that is taken away.
+pub has-dropped : (s : List ℕ) (r k i j : ℕ) → r < length s → has (dropped s r k) i j ≡ (has s i j && not (eqb i r && eqb j k))
+unfolding has dropped
+has-dropped s r k i j h = ⊎-elim same other (eq-or-ne i r)
+  where
+    word : ℕ
+    word = without (getD s r 0) (2 ^ k)
+
+    same : i ≡ r → digit (getD (set s r word) i 0) j ≡ (digit (getD s i 0) j && not (eqb i r && eqb j k))
+    same e = rw (e, getD-set-same s r word 0 h, digit-without, digit-bit, eq-eqb r r refl)
+
+    other : (i ≡ r → ⊥) → digit (getD (set s r word) i 0) j ≡ (digit (getD s i 0) j && not (eqb i r && eqb j k))
+    other e = rw (getD-set-other s r i word 0 e, ne-eqb i r e) (sym (and-all (digit (getD s i 0) j)))
+
+pub length-dropped : (s : List ℕ) (r k : ℕ) → length (dropped s r k) ≡ length s
+unfolding dropped
+length-dropped s r k = length-set s r (without (getD s r 0) (2 ^ k))
+
+pub dropped-inside : (w cells i c : ℕ) (s : List ℕ) → c < cells → dropped s (i + c / w) (c % w) ≡ droppedAt w cells i c s
+unfolding droppedAt
+dropped-inside w cells i c s h = sym (ap (λ (t : Bool). elim t [ true ↦ dropped s (i + c / w) (c % w) | false ↦ s ]) (lt-ltb c cells h))
+
+pub dropped-outside : (w cells i c : ℕ) (s : List ℕ) → cells ≤ c → s ≡ droppedAt w cells i c s
+unfolding droppedAt
+dropped-outside w cells i c s h = sym (ap (λ (t : Bool). elim t [ true ↦ dropped s (i + c / w) (c % w) | false ↦ s ]) (le-ltb c cells h))

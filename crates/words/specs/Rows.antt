@@ -6,7 +6,7 @@ use mathlib.Core.List.{List}
 use mathlib.Core.Path.{_≡_}
 use lib.Bits.{bitAnd, bitOr}
 use lib.Dec.{ltb}
-use lib.ListN.{getD, set, replicate}
+use lib.ListN.{getD, set}
 use Rattle.words.specs.Words.{digit, without}
 
 -- The digit of row r at column k is 1.
@@ -36,32 +36,22 @@ added s r k = set s r (bitOr (getD s r 0) (2 ^ k))
 unfoldable pub marked : ℕ → ℕ → ℕ → ℕ → List ℕ → List ℕ
 marked w cells b c s = elim (ltb c cells) [ true ↦ added s (b * 32 + c / w) (c % w) | false ↦ s ]
 
--- The set of one cell.
-unfoldable pub single : ℕ → ℕ → ℕ → List ℕ
-single w cells c = marked w cells 0 c (replicate 32 0)
+-- s without the digit of row r at column k.
+unfoldable pub dropped : List ℕ → ℕ → ℕ → List ℕ
+dropped s r k = set s r (without (getD s r 0) (2 ^ k))
 
--- The row before row r; 0 before the first.
-unfoldable pub above : List ℕ → ℕ → ℕ
-above s zero = 0
-above s (suc r) = getD s r 0
+-- s without cell c of a grid of width w in the rows from row i on; a number that is no cell changes nothing.
+unfoldable pub droppedAt : ℕ → ℕ → ℕ → ℕ → List ℕ → List ℕ
+droppedAt w cells i c s = elim (ltb c cells) [ true ↦ dropped s (i + c / w) (c % w) | false ↦ s ]
 
--- The digits that a step brings to a row from the row above, itself and the row below. The last four words say where the way from
--- above, from below, from the left and from the right is shut.
-unfoldable pub stepped : ℕ → ℕ → ℕ → ℕ → ℕ → ℕ → ℕ → ℕ
-stepped over here under up down left right =
-    bitOr
-    (bitOr (bitOr (bitOr here (without (here * 2 % 2 ^ 32) left)) (without (here / 2) right)) (without over up))
-    (without under down)
+-- The digits of a mask that a step brings to a row from the row above, itself and the row below.
+unfoldable pub narrowRow : ℕ → ℕ → ℕ → ℕ → ℕ
+narrowRow over here under mask = bitAnd (bitOr (bitOr (bitOr (bitOr here (here * 2 % 2 ^ 32)) (here / 2)) over) under) mask
 
--- Row r of a step of s. Block 0 of the marks holds cells that are shut, blocks 1 to 4 cells to which the way from above, from below,
--- from the left and from the right is shut.
-unfoldable pub spreadRow : List ℕ → List ℕ → List ℕ → ℕ → ℕ
-spreadRow s free marks r =
-    bitAnd
-    (stepped (above s r) (getD s r 0) (getD s (suc r) 0) (getD marks (32 + r) 0) (getD marks (64 + r) 0) (getD marks (96 + r) 0)
-    (getD marks (128 + r) 0))
-    (without (getD free r 0) (getD marks r 0))
+-- Row r of those from row `to` on, with what a step brings to it alone from the rows that begin at row `at`, one before the first.
+unfoldable pub narrowAt : List ℕ → ℕ → ℕ → ℕ → ℕ
+narrowAt s at to r = narrowRow (getD s (at + r) 0) (getD s (at + r + 1) 0) (getD s (at + r + 2) 0) (getD s (to + r) 0)
 
--- One step of the whole set s into the free cells.
-unfoldable pub spreadOf : List ℕ → List ℕ → List ℕ → List ℕ
-spreadOf s free marks = filled (replicate 32 0) (spreadRow s free marks) 32
+-- None of n rows of s from row `at` on has a digit that the row of `room` has not, which begin at row `to`.
+unfoldable pub Within : List ℕ → List ℕ → ℕ → ℕ → ℕ → Type 0
+Within s room at to n = (r k : ℕ) → r < n → has s (at + r) k ≡ true → has room (to + r) k ≡ true

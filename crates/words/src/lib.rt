@@ -1,11 +1,12 @@
 // Words of digits and sets of cells as rows of words: one step of a whole set takes a few operations a row.
 // A cell's row is its number by the width, its column the rest.
 ghost use mathlib.Core.Path.{_≡_};
-ghost use Prim.Native.Nat.{_+_, _*_, _-_, _^_, _≤_, _<_};
-ghost use lib.ListN.{length, getD};
+ghost use Prim.Native.Nat.{_+_, _*_, _-_, _/_, _%_, _^_, _≤_, _<_};
+ghost use lib.ListN.{length, getD, replicate};
+ghost use mathlib.Core.Bool.{false};
 ghost use Rattle.words.specs.Words.{digit, without as Words·without};
-ghost use Rattle.words.specs.Rows.{added, marked, above, written, spreadRow, spreadOf};
-ghost use Rattle.words.specs.Rows.{has as Rows·has, single as Rows·single, stepped as Rows·stepped};
+ghost use Rattle.words.specs.Rows.{added, dropped, droppedAt, marked, written, filled, narrowRow, narrowAt, Within};
+ghost use Rattle.words.specs.Rows.{has as Rows·has};
 
 // The word with the digit at place k.
 fn bit(k: usize) -> u32
@@ -31,7 +32,7 @@ pub fn has(s: &[u32], r: usize, k: usize) -> bool
 }
 
 // Adds the digit of row r at column k.
-fn add(s: &mut [u32], r: usize, k: usize)
+pub fn add(s: &mut [u32], r: usize, k: usize)
     requires { ⌜ (r < length (now s)) × (k < 32) ⌝ }
     ensures { λ x. ⌜ now (s .exit) ≡ added (now (s .entry)) r k ⌝ }
 {
@@ -50,69 +51,101 @@ pub fn mark(s: &mut [u32], w: usize, cells: usize, b: usize, c: usize)
     }
 }
 
-// The set of one cell.
-pub fn single(w: usize, cells: usize, c: usize) -> [u32; 32]
-    requires { ⌜ (1 ≤ w) × (w ≤ 32) × (cells ≤ 32 * w) ⌝ }
-    ensures { λ r. ⌜ r ≡ Rows·single w cells c ⌝ }
+// What a cell's number is multiplied with, so that a shift by 16 places divides it by the width.
+pub fn scale(w: usize) -> usize
+    requires { ⌜ (1 ≤ w) × (w ≤ 32) ⌝ }
+    ensures { λ r. ⌜ r ≡ 65536 / w + 1 ⌝ }
 {
-    let mut s = [0u32; 32];
-    mark(&mut s, w, cells, 0, c);
-    s
+    65536 / w + 1
 }
 
-// Writes the 32 rows of s into a table, from row i on.
-pub fn store(table: &mut [u32], i: usize, s: &[u32])
-    requires { ⌜ (i + 32 ≤ length (now table)) × (length (now s) ≡ 32) ⌝ }
-    ensures { λ x. ⌜ now (table .exit) ≡ written (now (table .entry)) i (now (s .entry)) 32 ⌝ }
+// The row of cell c, without a division.
+pub fn row_of(w: usize, scale: usize, c: usize) -> usize
+    requires { ⌜ (1 ≤ w) × (w ≤ 32) × (c < 1024) × (scale ≡ 65536 / w + 1) ⌝ }
+    ensures { λ r. ⌜ (r ≡ c / w) × (r * w + c % w ≡ c) ⌝ }
+{
+    (c * scale) >> 16
+}
+
+// Takes the digit of row r at column k away.
+pub fn drop(s: &mut [u32], r: usize, k: usize)
+    requires { ⌜ (r < length (now s)) × (k < 32) ⌝ }
+    ensures { λ x. ⌜ now (s .exit) ≡ dropped (now (s .entry)) r k ⌝ }
+{
+    let less = bit(k);
+    s[r] = without(s[r], less);
+}
+
+// Takes cell c of a grid of width w out of the rows from row i on; a number that is no cell changes nothing.
+pub fn drop_at(s: &mut [u32], i: usize, w: usize, scale: usize, cells: usize, c: usize)
+    requires { ⌜ (1 ≤ w) × (w ≤ 32) × (cells ≤ 32 * w) × (scale ≡ 65536 / w + 1) ⌝ }
+    requires { ⌜ i + 32 ≤ length (now s) ⌝ }
+    ensures { λ x. ⌜ now (s .exit) ≡ droppedAt w cells i c (now (s .entry)) ⌝ }
+{
+    if c < cells {
+        let r = row_of(w, scale, c);
+        drop(s, i + r, c - r * w);
+    }
+}
+
+// The eight rows from row i on.
+pub fn eight(s: &[u32], i: usize) -> [u32; 8]
+    requires { ⌜ i + 8 ≤ length (now s) ⌝ }
+    ensures { λ x. ⌜ x ≡ filled (replicate 8 0) (λ r. getD (now (s .entry)) (i + r) 0) 8 ⌝ }
+{
+    let mut n = [0u32; 8];
+    let mut r: usize = 0;
+    while r < 8 {
+        n[r] = s[i + r];
+        r += 1;
+    }
+    n
+}
+
+// Writes eight rows into a table, from row i on.
+pub fn put_eight(table: &mut [u32], i: usize, s: [u32; 8])
+    requires { ⌜ i + 8 ≤ length (now table) ⌝ }
+    ensures { λ x. ⌜ now (table .exit) ≡ written (now (table .entry)) i s 8 ⌝ }
 {
     let mut r: usize = 0;
-    while r < 32 {
+    while r < 8 {
         table[i + r] = s[r];
         r += 1;
     }
 }
 
-// The digits that a step brings to a row from the row above, itself and the row below, but for the ways that are shut.
-fn stepped(over: u32, here: u32, under: u32, up: u32, down: u32, left: u32, right: u32) -> u32
-    ensures { λ r. ⌜ r ≡ Rows·stepped over here under up down left right ⌝ }
+// The digits of a mask that a step brings to a row from the row above, itself and the row below.
+fn narrow_row(over: u32, here: u32, under: u32, mask: u32) -> u32
+    ensures { λ r. ⌜ r ≡ narrowRow over here under mask ⌝ }
 {
-    here
-        | without(here << 1, left)
-        | without(here >> 1, right)
-        | without(over, up)
-        | without(under, down)
+    (here | here << 1 | here >> 1 | over | under) & mask
 }
 
-// Row r of a step, from the rows above and below it.
-fn spread_row(over: u32, under: u32, s: &[u32], free: &[u32], marks: &[u32], r: usize) -> u32
-    requires { ⌜ (r < 32) × (length (now s) ≡ 32) × (length (now free) ≡ 32) × (length (now marks) ≡ 192) ⌝ }
-    requires { ⌜ (over ≡ above (now s) r) × (under ≡ getD (now s) (r + 1) 0) ⌝ }
-    ensures { λ x. ⌜ x ≡ spreadRow (now (s .entry)) (now (free .entry)) (now (marks .entry)) r ⌝ }
+// Eight rows of a table from row `to` on, each with what a step brings to it alone; the rows that it comes from begin at row `at`,
+// one before the first of the eight.
+pub fn narrow_eight(s: &[u32], at: usize, to: usize) -> [u32; 8]
+    requires { ⌜ (at + 10 ≤ length (now s)) × (to + 8 ≤ length (now s)) ⌝ }
+    ensures { λ x. ⌜ x ≡ filled (replicate 8 0) (narrowAt (now (s .entry)) at to) 8 ⌝ }
 {
-    let way = stepped(
-        over,
-        s[r],
-        under,
-        marks[32 + r],
-        marks[64 + r],
-        marks[96 + r],
-        marks[128 + r],
-    );
-    way & without(free[r], marks[r])
-}
-
-// One step of the whole set s into the free cells, but for the cells and the ways that the marks shut.
-pub fn spread(s: &[u32], free: &[u32], marks: &[u32]) -> [u32; 32]
-    requires { ⌜ (length (now s) ≡ 32) × (length (now free) ≡ 32) × (length (now marks) ≡ 192) ⌝ }
-    ensures { λ x. ⌜ x ≡ spreadOf (now (s .entry)) (now (free .entry)) (now (marks .entry)) ⌝ }
-{
-    let mut next = [0u32; 32];
-    next[0] = spread_row(0, s[1], s, free, marks, 0);
-    let mut r: usize = 1;
-    while r < 31 {
-        next[r] = spread_row(s[r - 1], s[r + 1], s, free, marks, r);
+    let mut n = [0u32; 8];
+    let mut r: usize = 0;
+    while r < 8 {
+        n[r] = narrow_row(s[at + r], s[at + r + 1], s[at + r + 2], s[to + r]);
         r += 1;
     }
-    next[31] = spread_row(s[30], 0, s, free, marks, 31);
-    next
+    n
+}
+
+// Whether some of the twelve rows of s from row `at` on has a digit that the row of `room` has not, which begin at row `to`.
+pub fn meets(s: &[u32], room: &[u32], at: usize, to: usize) -> bool
+    requires { ⌜ (at + 12 ≤ length (now s)) × (to + 12 ≤ length (now room)) ⌝ }
+    ensures { λ x. ⌜ (x ≡ false → Within (now (s .entry)) (now (room .entry)) at to 12) ⌝ }
+{
+    let mut x: u32 = 0;
+    let mut r: usize = 0;
+    while r < 12 {
+        x = x | without(s[at + r], room[to + r]);
+        r += 1;
+    }
+    x != 0
 }

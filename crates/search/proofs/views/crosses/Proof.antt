@@ -1,29 +1,26 @@
--- `search::views::crosses` meets its contract. The view is in c after the beat or not. Assumes nothing.
 use native.Mathlib.Omega.{arith}
-use mathlib.Core.Path.{sym, _∙_}
 use borrow.Author.Needs.{needs}
-use Rattle.search.proofs.ViewsLaws.{crossing-there, crossing-away}
 use Rattle.search.proofs.views.crosses.Statement.{statement}
 use Rattle.search.proofs.views.crosses.Tie as tie
+use Rattle.search.proofs.views.crosses.Reads as reads
+use Rattle.search.proofs.views.crosses.Lts as lts
+use Rattle.search.proofs.views.spot.Reads as spot-reads
 
-add-spot : tie.Need-add-spot
-add-spot c = search needs
-
+-- src/views.rt:26:13
 spot-requires : tie.Need-spot-requires
 spot-requires c κs = search needs
 
+-- src/views.rt:27:21
 spot-requires-2 : tie.Need-spot-requires-2
 spot-requires-2 c κs = search needs
 
+-- src/views.rt:27:9
 returns : tie.Need-returns
-returns c =
-    let c₄ = c .before .before .before .before in
-    rw (← c .spot2 .ensures .0) at
-    (crossing-there _ _ _ _ (c₄ .args .d) (c₄ .pre .1) (omega arith) (c .before .if1 .taken ∙ c .before .before .spot .ensures .0))
+returns c = search needs
 
+-- src/views.rt:22:1
 returns-2 : tie.Need-returns-2
-returns-2 c =
-    crossing-away _ _ _ _ _ (c .before .before .before .pre .1) (omega arith) (λ e. c .if1 .left (e ∙ sym (c .before .spot .ensures .0)))
+returns-2 c = search needs
 
 pub crosses-spec : {M : Type 1} → statement M
-crosses-spec = tie.close (tie.spec add-spot spot-requires spot-requires-2 returns returns-2)
+crosses-spec = tie.close (tie.spec spot-requires spot-requires-2 returns returns-2)

@@ -1,0 +1,54 @@
+// Tables of sets of cells, 36 rows a beat: reading a cell, laying the room of a window.
+ghost use mathlib.Core.Path.{_≡_};
+ghost use mathlib.Core.List.{List};
+ghost use Prim.Native.Nat.{ℕ, _+_, _*_, _/_, _≤_, _<_};
+ghost use lib.ListN.{length, getD, replicate};
+ghost use Rattle.search.specs.Table.{Fits, Fitting, Rewritten, Roomy, Tidy, inSet, LaidRows};
+use crate::Scene;
+use crate::window::first_row;
+use crate::window::Window;
+
+// A table of empty sets.
+pub fn empty() -> [u32; 2304]
+    ensures { λ r. ⌜ r ≡ replicate 2304 0 ⌝ }
+{
+    [0u32; 2304]
+}
+
+// Whether cell c is in the set of beat t.
+pub fn member(g: Scene, s: &[u32], t: usize, c: usize) -> bool
+    requires { ⌜ (1 ≤ g .width) × (g .width ≤ 32) × (g .cells ≤ 32 * g .width) × (g .scale ≡ 65536 / g .width + 1) ⌝ }
+    requires { ⌜ (length (now s) ≡ 2304) × (t < 64) × (c < g .cells) ⌝ }
+    ensures { λ r. ⌜ r ≡ inSet g (now (s .entry)) t c ⌝ }
+{
+    let w = g.width;
+    let r = words::row_of(w, g.scale, c);
+    words::has(s, t * 36 + 1 + r, c - r * w)
+}
+
+// Copies blocks of eight rows of the room into a table, from row i on.
+fn lay_rows(sets: &mut [u32], room: &[u32], i: usize, blocks: usize)
+    requires { ⌜ (length (now sets) ≡ 2304) × (length (now room) ≡ 2304) × (blocks ≤ 4) × (i + 8 * blocks ≤ 2304) ⌝ }
+    ensures { λ r. ⌜ Rewritten (now (sets .entry)) (λ j. getD (now (room .entry)) (i + j) 0) i (8 * blocks) (now (sets .exit)) ⌝ }
+{
+    let mut b: usize = 0;
+    while b < blocks {
+        let n = words::eight(room, i + 8 * b);
+        words::put_eight(sets, i + 8 * b, n);
+        b += 1;
+    }
+}
+
+// Lays the room of the window at beats 1 to the limit into an empty table.
+pub fn lay(v: Window, sets: &mut [u32], room: &[u32])
+    requires { ⌜ (1 ≤ v .blocks) × (v .blocks ≤ 4) × (v .limit ≤ 63) ⌝ }
+    requires { ⌜ (now sets ≡ replicate 2304 0) × (length (now room) ≡ 2304) ⌝ }
+    ensures { λ r. ⌜ LaidRows v (now (room .entry)) (v .limit) (now (sets .exit)) ⌝ }
+{
+    let mut t: usize = 0;
+    while t < v.limit {
+        t += 1;
+        let first = first_row(v, t);
+        lay_rows(sets, room, t * 36 + 1 + first, v.blocks);
+    }
+}
