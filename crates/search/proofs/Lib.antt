@@ -2,11 +2,15 @@
 pub mod ViewsLaws
 pub mod TurnLaws
 pub mod SetLaws
+pub mod RewriteLaws
+pub mod BlockLaws
 pub mod WayLaws
 pub mod NextLaws
 pub mod GridLaws
 pub mod MemberLaws
 pub mod NextBest
+pub mod BesideLaws
+pub mod MendLaws
 pub mod BackLaws
 pub mod NarrowLaws
 pub mod WindowLaws

@@ -12,7 +12,7 @@ use Rattle.route.specs.Moves.{near}
 use Rattle.route.proofs.Tests.{true-false-absurd}
 use Rattle.route.proofs.NearLaws.{near-says, near-holds}
 use Rattle.search.specs.Passes.{nextOf}
-use Rattle.search.proofs.NextLaws.{next-up, next-left, next-here, next-right, next-down}
+use Rattle.search.proofs.NextLaws.{next-up, next-left, next-here, next-right, next-down, next-none}
 use Rattle.search.proofs.MemberLaws.{near-row, near-same}
 
 -- The near cells of c in rising order.
@@ -76,6 +76,42 @@ module _ (w c : ℕ) (thin : 0 < w) where
       go (inr (inr (h, inr l))) =
           let p = ap (λ (n : ℕ). n * w) l ∙ suc-mul (c / w) w in
           down (omega (arith, of-c, of-d, p, h))
+
+  -- The next cell is near and leads on, or there is none.
+  pub next-either : (take : Bool → ℕ → Bool) (Good : ℕ → Type 0) → ((b : Bool) (d : ℕ) → take b d ≡ true → (b ≡ true) × Good d) →
+      (other : ℕ) → (nextOf take w c other ≡ other) ⊎ ((n : ℕ) × (near w c n ≡ true) × Good n)
+  next-either take Good says other = first (take (leb w c) (c - w)) refl
+    where
+      Result : Type 0
+      Result = (nextOf take w c other ≡ other) ⊎ ((n : ℕ) × (near w c n ≡ true) × Good n)
+
+      fifth : (b : Bool) → take true (c + w) ≡ b → take (leb w c) (c - w) ≡ false → take (ltb 0 (c % w)) (c - 1) ≡ false →
+          take true c ≡ false → take (ltb (c % w + 1) w) (c + 1) ≡ false → Result
+      fifth true t p q r u = inr (c + w, near-down, says true (c + w) t .1)
+      fifth false t p q r u = inl (sym (next-none take w c other p q r u t))
+
+      fourth : (b : Bool) → take (ltb (c % w + 1) w) (c + 1) ≡ b → take (leb w c) (c - w) ≡ false →
+          take (ltb 0 (c % w)) (c - 1) ≡ false → take true c ≡ false → Result
+      fourth true t p q r =
+          let s : (ltb (c % w + 1) w ≡ true) × Good (c + 1) = says (ltb (c % w + 1) w) (c + 1) t in
+          inr (c + 1, near-right (ltb-true (c % w + 1) w (s .0)), s .1)
+      fourth false t p q r = fifth (take true (c + w)) refl p q r t
+
+      third : (b : Bool) → take true c ≡ b → take (leb w c) (c - w) ≡ false → take (ltb 0 (c % w)) (c - 1) ≡ false → Result
+      third true t p q = inr (c, near-same w c, says true c t .1)
+      third false t p q = fourth (take (ltb (c % w + 1) w) (c + 1)) refl p q t
+
+      second : (b : Bool) → take (ltb 0 (c % w)) (c - 1) ≡ b → take (leb w c) (c - w) ≡ false → Result
+      second true t p =
+          let s : (ltb 0 (c % w) ≡ true) × Good (c - 1) = says (ltb 0 (c % w)) (c - 1) t in
+          inr (c - 1, near-left (ltb-true 0 (c % w) (s .0)), s .1)
+      second false t p = third (take true c) refl p t
+
+      first : (b : Bool) → take (leb w c) (c - w) ≡ b → Result
+      first true t =
+          let s : (leb w c ≡ true) × Good (c - w) = says (leb w c) (c - w) t in
+          inr (c - w, near-up (leb-true w c (s .0)), s .1)
+      first false t = second (take (ltb 0 (c % w)) (c - 1)) refl t
 
   module _ (take : Bool → ℕ → Bool) (Good : ℕ → Type 0)
       (says : (b : Bool) (d : ℕ) → take b d ≡ true → (b ≡ true) × Good d)

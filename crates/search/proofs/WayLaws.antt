@@ -13,7 +13,7 @@ use Rattle.search.specs.Views.{viewAt, records, spotOf}
 use Rattle.search.specs.Ways.{wayOpen}
 use Rattle.search.proofs.ViewsLaws.{vacant-spot, passable-spot}
 
-and-swap : (a b : Bool) → (a && b) ≡ (b && a)
+pub and-swap : (a b : Bool) → (a && b) ≡ (b && a)
 and-swap true true = refl
 and-swap true false = refl
 and-swap false true = refl

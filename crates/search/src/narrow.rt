@@ -20,7 +20,7 @@ fn narrow_block(sets: &mut [u32], room: &[u32], at: usize, to: usize) -> bool
 
 // The rows of a window; the rows they come from begin at `at` and those they go to at `to`, one before the first of the window.
 pub fn narrow_rows(sets: &mut [u32], room: &[u32], at: usize, to: usize, blocks: usize) -> bool
-    requires { ⌜ (length (now sets) ≡ 2304) × (length (now room) ≡ 2304) × (blocks ≤ 4) × Apart at to ⌝ }
+    requires { ⌜ (length (now sets) ≡ 2304) × (length (now room) ≡ 2304) × (1 ≤ blocks) × (blocks ≤ 4) × Apart at to ⌝ }
     requires { ⌜ (at + 8 * blocks + 4 ≤ 2304) × (to + 8 * blocks + 4 ≤ 2304) ⌝ }
     ensures rows { λ r. ⌜ Rewritten (now (sets .entry)) (narrowAt (now (sets .entry)) at (to + 1)) (to + 1) (8 * blocks) (now (sets .exit)) ⌝ }
     ensures apart { λ r. ⌜ (r ≡ false → Within (now (sets .entry)) (now (room .entry)) at to (8 * blocks + 4)) ⌝ }

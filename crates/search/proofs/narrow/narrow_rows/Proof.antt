@@ -1,3 +1,10 @@
+use Prim.Native.Nat.{ℕ, _+_, _*_, _-_, _/_, _%_, _≤_, _<_}
+use mathlib.Core.Path.{_≡_, refl, sym, ap, _∙_}
+use mathlib.Core.Bool.{false}
+use Rattle.words.specs.Rows.{narrowAt, Within}
+use Rattle.search.specs.Table.{Rewritten}
+use Rattle.search.proofs.RewriteLaws.{rewritten-none}
+use Rattle.search.proofs.BlockLaws.{rewritten-on, block-next, block-within, or-neither}
 use borrow.Author.Needs.{needs}
 use native.Mathlib.Omega.{arith}
 use Rattle.search.proofs.narrow.narrow_rows.Statement.{statement}
@@ -7,14 +14,14 @@ use Rattle.search.proofs.narrow.narrow_rows.Lts as lts
 use Rattle.search.proofs.narrow.narrow_block.Reads as narrow-block-reads
 
 abbrev Inv-loop : tie.InvT-loop
-Inv-loop sets₀ room at to blocks met₀ b₀ sets met b = ?
+Inv-loop sets₀ room at to blocks met₀ b₀ sets met b = (b ≤ blocks) × Rewritten sets₀ (narrowAt sets₀ at (to + 1)) (to + 1) (8 * b) sets × (met ≡ false → 1 ≤ 8 * b → Within sets₀ room at to (8 * b + 4))
 
 abbrev μ-loop : tie.MeasureT-loop
-μ-loop sets₀ room at to blocks met₀ b₀ sets met b = ?
+μ-loop sets₀ room at to blocks met₀ b₀ sets met b = blocks - b
 
 -- src/narrow.rt:35:5
 loop-holds : tie.Need-loop-holds Inv-loop μ-loop
-loop-holds c = search needs
+loop-holds c = (search needs, rewritten-none _ _ _, λ e h. absurd (omega arith))
 
 -- src/narrow.rt:36:50
 mul-narrow-block : tie.Need-mul-narrow-block Inv-loop μ-loop
@@ -34,7 +41,7 @@ add-narrow-block-2 c = search needs
 
 -- src/narrow.rt:36:13
 narrow-block-requires : tie.Need-narrow-block-requires Inv-loop μ-loop
-narrow-block-requires c κs = search needs
+narrow-block-requires c κs = let p = c .before .before .before .before .before .pre .0 in let l = c .before .before .loop .inv .1 .long in let t = c .before .loop-test .taken in (l ∙ p .0, p .1, omega (arith, c .before .before .before .before .before .pre .1 .0, t), omega (arith, c .before .before .before .before .before .pre .1 .1, t))
 
 -- src/narrow.rt:38:9
 add-b : tie.Need-add-b Inv-loop μ-loop
@@ -46,15 +53,20 @@ loop-less c = search needs
 
 -- src/narrow.rt:35:5
 loop-again : tie.Need-loop-again Inv-loop μ-loop
-loop-again c = search needs
+loop-again c = let p = c .before .before .before .before .before .before .before .before .pre .0 in let t = c .before .before .before .before .loop-test .taken in let n : 8 * (c .before .before .before .before .before .loop .b + 1) ≡ 8 * c .before .before .before .before .before .loop .b + 8 = omega arith in
+    let i : c .before .before .before .before .before .before .before .before .args .to + 8 * c .before .before .before .before .before .loop .b + 1 ≡ c .before .before .before .before .before .before .before .before .args .to + 1 + 8 * c .before .before .before .before .before .loop .b = omega arith in (
+      search needs,
+      rw n (rewritten-on _ _ _ _ _ _ _ (c .before .before .before .before .before .loop .inv .1) (rw i at (c .before .before .narrow-block .ensures .0)) (λ j h. block-next _ _ _ _ _ _ (omega (arith, t, p .3)) (p .4) (c .before .before .before .before .before .loop .inv .1) j h (omega (arith, t, p .3)))),
+      λ e h. let o = or-neither _ _ e in rw n (block-within _ _ _ _ _ _ (omega (arith, t, p .3)) (p .4) (c .before .before .before .before .before .loop .inv .1) _ (omega (arith, t, p .3)) (c .before .before .narrow-block .ensures .1 (o .1)) (c .before .before .before .before .before .loop .inv .2 (o .0))),
+    )
 
 -- src/narrow.rt:27:1
 same-length : tie.Need-same-length Inv-loop μ-loop
-same-length c = search needs
+same-length c = c .before .loop .inv .1 .long
 
 -- src/narrow.rt:27:1
 returns : tie.Need-returns Inv-loop μ-loop
-returns c = search needs
+returns c = let e : c .before .loop .b ≡ c .before .before .before .before .args .blocks = omega arith in (rw e at (c .before .loop .inv .1), λ h. rw e at (c .before .loop .inv .2 h (omega (arith, e, c .before .before .before .before .pre .0 .2))))
 
 pub narrow-rows-spec : {M : Type 1} → statement M
 narrow-rows-spec =

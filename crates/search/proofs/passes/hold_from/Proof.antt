@@ -14,35 +14,35 @@ abbrev μ-loop : tie.MeasureT-loop
 
 -- src/passes.rt:23:5
 loop-holds : tie.Need-loop-holds Inv-loop μ-loop
-loop-holds c = search needs
+loop-holds c = ?
 
 -- src/passes.rt:24:9
 add-n : tie.Need-add-n Inv-loop μ-loop
-add-n c = search needs
+add-n c = ?
 
 -- src/passes.rt:25:13
 member-requires : tie.Need-member-requires Inv-loop μ-loop
-member-requires c κs = search needs
+member-requires c κs = ?
 
 -- src/passes.rt:23:5
 loop-less : tie.Need-loop-less Inv-loop μ-loop
-loop-less c = search needs
+loop-less c = ?
 
 -- src/passes.rt:23:5
 loop-again : tie.Need-loop-again Inv-loop μ-loop
-loop-again c = search needs
+loop-again c = ?
 
 -- src/passes.rt:23:5
 loop-less-2 : tie.Need-loop-less-2 Inv-loop μ-loop
-loop-less-2 c = search needs
+loop-less-2 c = ?
 
 -- src/passes.rt:23:5
 loop-again-2 : tie.Need-loop-again-2 Inv-loop μ-loop
-loop-again-2 c = search needs
+loop-again-2 c = ?
 
 -- src/passes.rt:16:1
 returns : tie.Need-returns Inv-loop μ-loop
-returns c = search needs
+returns c = ?
 
 pub hold-from-spec : {M : Type 1} → statement M
 hold-from-spec =

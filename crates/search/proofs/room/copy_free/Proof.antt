@@ -15,47 +15,47 @@ abbrev μ-loop : tie.MeasureT-loop
 
 -- src/room.rt:17:5
 loop-holds : tie.Need-loop-holds Inv-loop μ-loop
-loop-holds c = search needs
+loop-holds c = ?
 
 -- src/room.rt:18:36
 mul-eight : tie.Need-mul-eight Inv-loop μ-loop
-mul-eight c = search needs
+mul-eight c = ?
 
 -- src/room.rt:18:13
 eight-requires : tie.Need-eight-requires Inv-loop μ-loop
-eight-requires c κs = search needs
+eight-requires c κs = ?
 
 -- src/room.rt:19:36
 mul-put-eight : tie.Need-mul-put-eight Inv-loop μ-loop
-mul-put-eight c = search needs
+mul-put-eight c = ?
 
 -- src/room.rt:19:32
 add-put-eight : tie.Need-add-put-eight Inv-loop μ-loop
-add-put-eight c = search needs
+add-put-eight c = ?
 
 -- src/room.rt:19:9
 put-eight-requires : tie.Need-put-eight-requires Inv-loop μ-loop
-put-eight-requires c κs = search needs
+put-eight-requires c κs = ?
 
 -- src/room.rt:20:9
 add-b : tie.Need-add-b Inv-loop μ-loop
-add-b c = search needs
+add-b c = ?
 
 -- src/room.rt:17:5
 loop-less : tie.Need-loop-less Inv-loop μ-loop
-loop-less c = search needs
+loop-less c = ?
 
 -- src/room.rt:17:5
 loop-again : tie.Need-loop-again Inv-loop μ-loop
-loop-again c = search needs
+loop-again c = ?
 
 -- src/room.rt:12:1
 same-length : tie.Need-same-length Inv-loop μ-loop
-same-length c = search needs
+same-length c = ?
 
 -- src/room.rt:12:1
 returns : tie.Need-returns Inv-loop μ-loop
-returns c = search needs
+returns c = ?
 
 pub copy-free-spec : {M : Type 1} → statement M
 copy-free-spec =

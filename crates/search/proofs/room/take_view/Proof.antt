@@ -15,43 +15,43 @@ abbrev μ-loop : tie.MeasureT-loop
 
 -- src/room.rt:46:5
 loop-holds : tie.Need-loop-holds Inv-loop μ-loop
-loop-holds c = search needs
+loop-holds c = ?
 
 -- src/room.rt:47:13
 spot-requires : tie.Need-spot-requires Inv-loop μ-loop
-spot-requires c κs = search needs
+spot-requires c κs = ?
 
 -- src/room.rt:48:30
 mul-drop-at : tie.Need-mul-drop-at Inv-loop μ-loop
-mul-drop-at c = search needs
+mul-drop-at c = ?
 
 -- src/room.rt:48:30
 add-drop-at : tie.Need-add-drop-at Inv-loop μ-loop
-add-drop-at c = search needs
+add-drop-at c = ?
 
 -- src/room.rt:48:9
 drop-at-requires : tie.Need-drop-at-requires Inv-loop μ-loop
-drop-at-requires c κs = search needs
+drop-at-requires c κs = ?
 
 -- src/room.rt:49:9
 add-t : tie.Need-add-t Inv-loop μ-loop
-add-t c = search needs
+add-t c = ?
 
 -- src/room.rt:46:5
 loop-less : tie.Need-loop-less Inv-loop μ-loop
-loop-less c = search needs
+loop-less c = ?
 
 -- src/room.rt:46:5
 loop-again : tie.Need-loop-again Inv-loop μ-loop
-loop-again c = search needs
+loop-again c = ?
 
 -- src/room.rt:37:1
 same-length : tie.Need-same-length Inv-loop μ-loop
-same-length c = search needs
+same-length c = ?
 
 -- src/room.rt:37:1
 returns : tie.Need-returns Inv-loop μ-loop
-returns c = search needs
+returns c = ?
 
 pub take-view-spec : {M : Type 1} → statement M
 take-view-spec =

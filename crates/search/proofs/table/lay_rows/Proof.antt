@@ -15,51 +15,51 @@ abbrev μ-loop : tie.MeasureT-loop
 
 -- src/table.rt:35:5
 loop-holds : tie.Need-loop-holds Inv-loop μ-loop
-loop-holds c = search needs
+loop-holds c = ?
 
 -- src/table.rt:36:40
 mul-eight : tie.Need-mul-eight Inv-loop μ-loop
-mul-eight c = search needs
+mul-eight c = ?
 
 -- src/table.rt:36:36
 add-eight : tie.Need-add-eight Inv-loop μ-loop
-add-eight c = search needs
+add-eight c = ?
 
 -- src/table.rt:36:13
 eight-requires : tie.Need-eight-requires Inv-loop μ-loop
-eight-requires c κs = search needs
+eight-requires c κs = ?
 
 -- src/table.rt:37:36
 mul-put-eight : tie.Need-mul-put-eight Inv-loop μ-loop
-mul-put-eight c = search needs
+mul-put-eight c = ?
 
 -- src/table.rt:37:32
 add-put-eight : tie.Need-add-put-eight Inv-loop μ-loop
-add-put-eight c = search needs
+add-put-eight c = ?
 
 -- src/table.rt:37:9
 put-eight-requires : tie.Need-put-eight-requires Inv-loop μ-loop
-put-eight-requires c κs = search needs
+put-eight-requires c κs = ?
 
 -- src/table.rt:38:9
 add-b : tie.Need-add-b Inv-loop μ-loop
-add-b c = search needs
+add-b c = ?
 
 -- src/table.rt:35:5
 loop-less : tie.Need-loop-less Inv-loop μ-loop
-loop-less c = search needs
+loop-less c = ?
 
 -- src/table.rt:35:5
 loop-again : tie.Need-loop-again Inv-loop μ-loop
-loop-again c = search needs
+loop-again c = ?
 
 -- src/table.rt:30:1
 same-length : tie.Need-same-length Inv-loop μ-loop
-same-length c = search needs
+same-length c = ?
 
 -- src/table.rt:30:1
 returns : tie.Need-returns Inv-loop μ-loop
-returns c = search needs
+returns c = ?
 
 pub lay-rows-spec : {M : Type 1} → statement M
 lay-rows-spec =

@@ -9,35 +9,35 @@ use Rattle.words.proofs.row_of.Reads as row-of-reads
 
 -- src/table.rt:25:9
 row-of-requires : tie.Need-row-of-requires
-row-of-requires c κs = search needs
+row-of-requires c κs = ?
 
 -- src/table.rt:26:19
 mul-has : tie.Need-mul-has
-mul-has c = search needs
+mul-has c = ?
 
 -- src/table.rt:26:19
 add-has : tie.Need-add-has
-add-has c = search needs
+add-has c = ?
 
 -- src/table.rt:26:19
 add-has-2 : tie.Need-add-has-2
-add-has-2 c = search needs
+add-has-2 c = ?
 
 -- src/table.rt:26:39
 mul-has-2 : tie.Need-mul-has-2
-mul-has-2 c = search needs
+mul-has-2 c = ?
 
 -- src/table.rt:26:35
 sub-has : tie.Need-sub-has
-sub-has c = search needs
+sub-has c = ?
 
 -- src/table.rt:26:5
 has-requires : tie.Need-has-requires
-has-requires c κs = search needs
+has-requires c κs = ?
 
 -- src/table.rt:19:1
 returns : tie.Need-returns
-returns c = search needs
+returns c = ?
 
 pub member-spec : {M : Type 1} → statement M
 member-spec =

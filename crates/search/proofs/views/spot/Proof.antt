@@ -7,47 +7,47 @@ use Rattle.search.proofs.views.spot.Lts as lts
 
 -- src/views.rt:15:14
 mul-if1 : tie.Need-mul-if1
-mul-if1 c = search needs
+mul-if1 c = ?
 
 -- src/views.rt:15:8
 mul-if1-2 : tie.Need-mul-if1-2
-mul-if1-2 c = search needs
+mul-if1-2 c = ?
 
 -- src/views.rt:15:8
 shared-slice-read-if1 : tie.Need-shared-slice-read-if1
-shared-slice-read-if1 c = search needs
+shared-slice-read-if1 c = ?
 
 -- src/views.rt:16:22
 mul-result : tie.Need-mul-result
-mul-result c = search needs
+mul-result c = ?
 
 -- src/views.rt:16:22
 add-result : tie.Need-add-result
-add-result c = search needs
+add-result c = ?
 
 -- src/views.rt:16:22
 add-result-2 : tie.Need-add-result-2
-add-result-2 c = search needs
+add-result-2 c = ?
 
 -- src/views.rt:16:16
 mul-result-2 : tie.Need-mul-result-2
-mul-result-2 c = search needs
+mul-result-2 c = ?
 
 -- src/views.rt:16:16
 shared-slice-read-result : tie.Need-shared-slice-read-result
-shared-slice-read-result c = search needs
+shared-slice-read-result c = ?
 
 -- src/views.rt:16:16
 cast-result : tie.Need-cast-result
-cast-result c = search needs
+cast-result c = ?
 
 -- src/views.rt:16:9
 returns : tie.Need-returns
-returns c = search needs
+returns c = ?
 
 -- src/views.rt:11:1
 returns-2 : tie.Need-returns-2
-returns-2 c = search needs
+returns-2 c = ?
 
 pub spot-spec : {M : Type 1} → statement M
 spot-spec =

@@ -14,31 +14,31 @@ abbrev μ-loop : tie.MeasureT-loop
 
 -- src/views.rt:38:5
 loop-holds : tie.Need-loop-holds Inv-loop μ-loop
-loop-holds c = search needs
+loop-holds c = ?
 
 -- src/views.rt:39:12
 crosses-requires : tie.Need-crosses-requires Inv-loop μ-loop
-crosses-requires c κs = search needs
+crosses-requires c κs = ?
 
 -- src/views.rt:40:13
 returns : tie.Need-returns Inv-loop μ-loop
-returns c = search needs
+returns c = ?
 
 -- src/views.rt:42:9
 add-j : tie.Need-add-j Inv-loop μ-loop
-add-j c = search needs
+add-j c = ?
 
 -- src/views.rt:38:5
 loop-less : tie.Need-loop-less Inv-loop μ-loop
-loop-less c = search needs
+loop-less c = ?
 
 -- src/views.rt:38:5
 loop-again : tie.Need-loop-again Inv-loop μ-loop
-loop-again c = search needs
+loop-again c = ?
 
 -- src/views.rt:33:1
 returns-2 : tie.Need-returns-2 Inv-loop μ-loop
-returns-2 c = search needs
+returns-2 c = ?
 
 pub swapped-spec : {M : Type 1} → statement M
 swapped-spec =

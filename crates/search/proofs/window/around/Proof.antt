@@ -10,71 +10,71 @@ use Rattle.search.proofs.window.smaller.Reads as smaller-reads
 
 -- src/window.rt:88:16
 div-from : tie.Need-div-from
-div-from c = search needs
+div-from c = ?
 
 -- src/window.rt:89:14
 div-to : tie.Need-div-to
-div-to c = search needs
+div-to c = ?
 
 -- src/window.rt:90:9
 gap-requires : tie.Need-gap-requires
-gap-requires c κs = search needs
+gap-requires c κs = ?
 
 -- src/window.rt:91:26
 rem-gap : tie.Need-rem-gap
-rem-gap c = search needs
+rem-gap c = ?
 
 -- src/window.rt:91:37
 rem-gap-2 : tie.Need-rem-gap-2
-rem-gap-2 c = search needs
+rem-gap-2 c = ?
 
 -- src/window.rt:91:22
 gap-requires-2 : tie.Need-gap-requires-2
-gap-requires-2 c κs = search needs
+gap-requires-2 c κs = ?
 
 -- src/window.rt:91:15
 add-far : tie.Need-add-far
-add-far c = search needs
+add-far c = ?
 
 -- src/window.rt:92:17
 minus-requires : tie.Need-minus-requires
-minus-requires c κs = search needs
+minus-requires c κs = ?
 
 -- src/window.rt:93:31
 mul-smaller : tie.Need-mul-smaller
-mul-smaller c = search needs
+mul-smaller c = ?
 
 -- src/window.rt:93:24
 add-smaller : tie.Need-add-smaller
-add-smaller c = search needs
+add-smaller c = ?
 
 -- src/window.rt:93:42
 minus-requires-2 : tie.Need-minus-requires-2
-minus-requires-2 c κs = search needs
+minus-requires-2 c κs = ?
 
 -- src/window.rt:93:9
 smaller-requires : tie.Need-smaller-requires
-smaller-requires c κs = search needs
+smaller-requires c κs = ?
 
 -- src/window.rt:98:20
 smaller-requires-2 : tie.Need-smaller-requires-2
-smaller-requires-2 c κs = search needs
+smaller-requires-2 c κs = ?
 
 -- src/window.rt:98:14
 minus-requires-3 : tie.Need-minus-requires-3
-minus-requires-3 c κs = search needs
+minus-requires-3 c κs = ?
 
 -- src/window.rt:99:29
 add-smaller-2 : tie.Need-add-smaller-2
-add-smaller-2 c = search needs
+add-smaller-2 c = ?
 
 -- src/window.rt:99:17
 smaller-requires-3 : tie.Need-smaller-requires-3
-smaller-requires-3 c κs = search needs
+smaller-requires-3 c κs = ?
 
 -- src/window.rt:83:1
 returns : tie.Need-returns
-returns c = search needs
+returns c = ?
 
 pub around-spec : {M : Type 1} → statement M
 around-spec =

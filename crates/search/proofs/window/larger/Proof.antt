@@ -7,11 +7,11 @@ use Rattle.search.proofs.window.larger.Lts as lts
 
 -- src/window.rt:42:9
 returns : tie.Need-returns
-returns c = search needs
+returns c = ?
 
 -- src/window.rt:38:1
 returns-2 : tie.Need-returns-2
-returns-2 c = search needs
+returns-2 c = ?
 
 pub larger-spec : {M : Type 1} → statement M
 larger-spec = tie.close (tie.spec returns returns-2)

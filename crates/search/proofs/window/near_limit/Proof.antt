@@ -9,19 +9,19 @@ use Rattle.search.proofs.window.smaller.Reads as smaller-reads
 
 -- src/window.rt:79:13
 larger-requires : tie.Need-larger-requires
-larger-requires c κs = search needs
+larger-requires c κs = ?
 
 -- src/window.rt:79:13
 add-smaller : tie.Need-add-smaller
-add-smaller c = search needs
+add-smaller c = ?
 
 -- src/window.rt:79:5
 smaller-requires : tie.Need-smaller-requires
-smaller-requires c κs = search needs
+smaller-requires c κs = ?
 
 -- src/window.rt:75:1
 returns : tie.Need-returns
-returns c = search needs
+returns c = ?
 
 pub near-limit-spec : {M : Type 1} → statement M
 near-limit-spec = tie.close (tie.spec larger-requires add-smaller smaller-requires returns)

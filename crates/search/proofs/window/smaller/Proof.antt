@@ -7,11 +7,11 @@ use Rattle.search.proofs.window.smaller.Lts as lts
 
 -- src/window.rt:32:9
 returns : tie.Need-returns
-returns c = search needs
+returns c = ?
 
 -- src/window.rt:28:1
 returns-2 : tie.Need-returns-2
-returns-2 c = search needs
+returns-2 c = ?
 
 pub smaller-spec : {M : Type 1} → statement M
 smaller-spec = tie.close (tie.spec returns returns-2)
