@@ -4,6 +4,7 @@ pub mod TurnLaws
 pub mod SetLaws
 pub mod RewriteLaws
 pub mod BlockLaws
+pub mod BroughtLaws
 pub mod WayLaws
 pub mod NextLaws
 pub mod GridLaws
@@ -11,6 +12,7 @@ pub mod MemberLaws
 pub mod NextBest
 pub mod BesideLaws
 pub mod MendLaws
+pub mod NarrowedLaws
 pub mod BackLaws
 pub mod NarrowLaws
 pub mod WindowLaws
