@@ -13,6 +13,7 @@ pub mod NextBest
 pub mod BesideLaws
 pub mod MendLaws
 pub mod NarrowedLaws
+pub mod StepLaws
 pub mod BackLaws
 pub mod NarrowLaws
 pub mod WindowLaws

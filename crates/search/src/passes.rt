@@ -58,11 +58,12 @@ fn earliest(g: Scene, k: usize, v: Window, sets: &mut [u32], room: &[u32], views
         if arrives(g, sets, goal, hold, t) {
             return t;
         }
-        let first = first_row(v, t + 1);
-        if narrow_rows(sets, room, t * 36 + first, (t + 1) * 36 + first, blocks) {
-            mend(g, k, sets, room, views, t, t + 1);
-        }
+        let from = t;
         t += 1;
+        let first = first_row(v, t);
+        if narrow_rows(sets, room, from * 36 + first, t * 36 + first, blocks) {
+            mend(g, k, sets, room, views, from, t);
+        }
     }
     if arrives(g, sets, goal, hold, t) {
         return t;
