@@ -2,6 +2,7 @@
 pub mod ViewsLaws
 pub mod TurnLaws
 pub mod SetLaws
+pub mod RewriteLaws
 pub mod WayLaws
 pub mod NextLaws
 pub mod GridLaws
