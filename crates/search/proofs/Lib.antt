@@ -3,6 +3,11 @@ pub mod ViewsLaws
 pub mod TurnLaws
 pub mod SetLaws
 pub mod RewriteLaws
+pub mod PlaceLaws
+pub mod CrossLaws
+pub mod AroundLaws
+pub mod LayLaws
+pub mod EndLaws
 pub mod WayLaws
 pub mod NextLaws
 pub mod GridLaws
