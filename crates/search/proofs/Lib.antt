@@ -5,6 +5,11 @@ pub mod SetLaws
 pub mod RewriteLaws
 pub mod BlockLaws
 pub mod BroughtLaws
+pub mod PlaceLaws
+pub mod CrossLaws
+pub mod AroundLaws
+pub mod LayLaws
+pub mod EndLaws
 pub mod WayLaws
 pub mod NextLaws
 pub mod GridLaws

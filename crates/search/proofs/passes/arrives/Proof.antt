@@ -1,22 +1,20 @@
-use native.Mathlib.Omega.{arith}
+-- `search::passes::arrives` meets its contract. Before beat `hold` nothing is asked. Assumes nothing.
 use borrow.Author.Needs.{needs}
+use Rattle.search.specs.Passes.{arrivable}
+use Rattle.search.proofs.TurnLaws.{hold-late, hold-past}
 use Rattle.search.proofs.passes.arrives.Statement.{statement}
 use Rattle.search.proofs.passes.arrives.Tie as tie
-use Rattle.search.proofs.passes.arrives.Reads as reads
-use Rattle.search.proofs.passes.arrives.Lts as lts
-use Rattle.search.proofs.table.member.Reads as member-reads
 
--- src/passes.rt:39:9
 returns : tie.Need-returns
-returns c = ?
+unfolding arrivable
+returns c = hold-late _ _ _ (c .if1 .taken)
 
--- src/passes.rt:41:5
 member-requires : tie.Need-member-requires
-member-requires c κs = ?
+member-requires c κs = search needs
 
--- src/passes.rt:33:1
 returns-2 : tie.Need-returns-2
-returns-2 c = ?
+unfolding arrivable
+returns-2 c = hold-past _ _ _ _ (c .before .if1 .left) (c .member .ensures)
 
 pub arrives-spec : {M : Type 1} → statement M
 arrives-spec = tie.close (tie.spec returns member-requires returns-2)

@@ -1,48 +1,50 @@
-use borrow.Author.Needs.{needs}
+-- `search::passes::hold_from` meets its contract. The loop's invariant: `from` is the last beat passed at which the goal is not in the
+-- room. The measure is what is left of the beats. Assumes nothing.
+use Prim.Native.Nat.{_-_, _≤_}
 use native.Mathlib.Omega.{arith}
+use mathlib.Core.Path.{_≡_, sym, _∙_}
+use borrow.Author.Tests.{not-true, not-false}
+use borrow.Author.Needs.{needs}
+use Rattle.search.specs.Table.{inSet}
+use Rattle.search.specs.Passes.{lastNot}
+use Rattle.search.proofs.HoldLaws.{last-none, last-kept, last-here}
 use Rattle.search.proofs.passes.hold_from.Statement.{statement}
 use Rattle.search.proofs.passes.hold_from.Tie as tie
-use Rattle.search.proofs.passes.hold_from.Reads as reads
-use Rattle.search.proofs.passes.hold_from.Lts as lts
-use Rattle.search.proofs.table.member.Reads as member-reads
 
 abbrev Inv-loop : tie.InvT-loop
-Inv-loop g room goal n₀ from₀ n from = ?
+Inv-loop g room goal n₀ from₀ n from = (n ≤ g .horizon) × (from ≤ n) × (from ≡ lastNot (λ t. inSet g room t goal) n)
 
 abbrev μ-loop : tie.MeasureT-loop
-μ-loop g room goal n₀ from₀ n from = ?
+μ-loop g room goal n₀ from₀ n from = g .horizon - n
 
--- src/passes.rt:23:5
 loop-holds : tie.Need-loop-holds Inv-loop μ-loop
-loop-holds c = ?
+loop-holds c = (search needs, search needs, last-none _)
 
--- src/passes.rt:24:9
 add-n : tie.Need-add-n Inv-loop μ-loop
-add-n c = ?
+add-n c = search needs
 
--- src/passes.rt:25:13
 member-requires : tie.Need-member-requires Inv-loop μ-loop
-member-requires c κs = ?
+member-requires c κs = search needs
 
--- src/passes.rt:23:5
 loop-less : tie.Need-loop-less Inv-loop μ-loop
-loop-less c = ?
+loop-less c = omega arith
 
--- src/passes.rt:23:5
 loop-again : tie.Need-loop-again Inv-loop μ-loop
-loop-again c = ?
+loop-again c = (search needs, search needs, last-here _ _ (sym (c .before .member .ensures) ∙ not-true _ (c .if2 .taken)))
 
--- src/passes.rt:23:5
 loop-less-2 : tie.Need-loop-less-2 Inv-loop μ-loop
-loop-less-2 c = ?
+loop-less-2 c = omega arith
 
--- src/passes.rt:23:5
 loop-again-2 : tie.Need-loop-again-2 Inv-loop μ-loop
-loop-again-2 c = ?
+loop-again-2 c =
+    let c₄ = c .before .before .before .before in
+    (search needs, omega arith, last-kept _ _ _ (c₄ .loop .inv .2) (sym (c .before .member .ensures) ∙ not-false _ (c .if2 .left)))
 
--- src/passes.rt:16:1
 returns : tie.Need-returns Inv-loop μ-loop
-returns c = ?
+returns c =
+    let c₄ = c .before .before .before .before in
+    let e : c .before .before .loop .n ≡ c₄ .args .g .horizon = omega arith in
+    (rw e at (c .before .before .loop .inv .2), omega arith)
 
 pub hold-from-spec : {M : Type 1} → statement M
 hold-from-spec =

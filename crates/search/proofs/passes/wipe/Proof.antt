@@ -1,52 +1,52 @@
-use borrow.Author.Needs.{needs}
+-- `search::passes::wipe` meets its contract. The loop's invariant: the blocks passed are empty. The measure is what is left of the
+-- blocks. Assumes nothing.
+use Prim.Native.Nat.{_*_, _-_, _≤_}
 use native.Mathlib.Omega.{arith}
+use mathlib.Core.Path.{_≡_}
+use borrow.Author.Needs.{needs}
+use Rattle.words.proofs.FillLaws.{zeros-row}
+use Rattle.search.specs.Table.{Rewritten}
+use Rattle.search.proofs.RewriteLaws.{rewritten-none, rewritten-more}
 use Rattle.search.proofs.passes.wipe.Statement.{statement}
 use Rattle.search.proofs.passes.wipe.Tie as tie
-use Rattle.search.proofs.passes.wipe.Reads as reads
-use Rattle.search.proofs.passes.wipe.Lts as lts
-use Rattle.words.proofs.put_eight.Reads as put-eight-reads
 
 abbrev Inv-loop : tie.InvT-loop
-Inv-loop sets₀ i b₀ sets b = ?
+Inv-loop sets₀ i b₀ sets b = (b ≤ 4) × Rewritten sets₀ (λ j. 0) i (8 * b) sets
 
 abbrev μ-loop : tie.MeasureT-loop
-μ-loop sets₀ i b₀ sets b = ?
+μ-loop sets₀ i b₀ sets b = 4 - b
 
--- src/passes.rt:88:5
 loop-holds : tie.Need-loop-holds Inv-loop μ-loop
-loop-holds c = ?
+loop-holds c = (search needs, rewritten-none _ _ _)
 
--- src/passes.rt:89:36
 mul-put-eight : tie.Need-mul-put-eight Inv-loop μ-loop
-mul-put-eight c = ?
+mul-put-eight c = search needs
 
--- src/passes.rt:89:32
 add-put-eight : tie.Need-add-put-eight Inv-loop μ-loop
-add-put-eight c = ?
+add-put-eight c = search needs
 
--- src/passes.rt:89:9
 put-eight-requires : tie.Need-put-eight-requires Inv-loop μ-loop
-put-eight-requires c κs = ?
+put-eight-requires c κs = omega (arith, c .before .before .loop .inv .1 .long)
 
--- src/passes.rt:90:9
 add-b : tie.Need-add-b Inv-loop μ-loop
-add-b c = ?
+add-b c = search needs
 
--- src/passes.rt:88:5
 loop-less : tie.Need-loop-less Inv-loop μ-loop
-loop-less c = ?
+loop-less c = omega arith
 
--- src/passes.rt:88:5
 loop-again : tie.Need-loop-again Inv-loop μ-loop
-loop-again c = ?
+loop-again c =
+    let c₄ = c .before .before .before .before in (
+      search needs,
+      rewritten-more _ _ _ _ _ _ (c₄ .before .loop .b) (omega arith) (c₄ .before .loop .inv .1)
+          (c .before .before .put-eight .ensures) (λ j h. zeros-row 8 j),
+    )
 
--- src/passes.rt:83:1
 same-length : tie.Need-same-length Inv-loop μ-loop
-same-length c = ?
+same-length c = c .before .loop .inv .1 .long
 
--- src/passes.rt:83:1
 returns : tie.Need-returns Inv-loop μ-loop
-returns c = ?
+returns c = let e : c .before .loop .b ≡ 4 = omega arith in rw e at (c .before .loop .inv .1)
 
 pub wipe-spec : {M : Type 1} → statement M
 wipe-spec =

@@ -1,61 +1,67 @@
-use borrow.Author.Needs.{needs}
+-- `search::table::lay` meets its contract. The loop's invariant: the beats passed are laid. The measure is what is left of the beats.
+-- Assumes nothing.
+use Prim.Native.Nat.{_-_, _≤_}
 use native.Mathlib.Omega.{arith}
+use mathlib.Core.Path.{_≡_}
+use borrow.Author.Needs.{needs}
+use Rattle.search.specs.Table.{LaidRows}
+use Rattle.search.proofs.AroundLaws.{first-fits}
+use Rattle.search.proofs.LayLaws.{laid-none, laid-more, laid-long}
 use Rattle.search.proofs.table.lay.Statement.{statement}
 use Rattle.search.proofs.table.lay.Tie as tie
-use Rattle.search.proofs.table.lay.Reads as reads
-use Rattle.search.proofs.table.lay.Lts as lts
-use Rattle.search.proofs.table.lay_rows.Reads as lay-rows-reads
-use Rattle.search.proofs.window.first_row.Reads as first-row-reads
 
 abbrev Inv-loop : tie.InvT-loop
-Inv-loop v sets₀ room t₀ sets t = ?
+Inv-loop v sets₀ room t₀ sets t = (t ≤ v .limit) × LaidRows v room t sets
 
 abbrev μ-loop : tie.MeasureT-loop
-μ-loop v sets₀ room t₀ sets t = ?
+μ-loop v sets₀ room t₀ sets t = v .limit - t
 
--- src/table.rt:49:5
 loop-holds : tie.Need-loop-holds Inv-loop μ-loop
-loop-holds c = ?
+loop-holds c = (search needs, laid-none _ _ _ (c .before .before .pre .1 .0))
 
--- src/table.rt:50:9
 add-t : tie.Need-add-t Inv-loop μ-loop
-add-t c = ?
+add-t c = search needs
 
--- src/table.rt:51:13
 first-row-requires : tie.Need-first-row-requires Inv-loop μ-loop
-first-row-requires c κs = ?
+first-row-requires c κs = search needs
 
--- src/table.rt:52:30
 mul-lay-rows : tie.Need-mul-lay-rows Inv-loop μ-loop
-mul-lay-rows c = ?
+mul-lay-rows c = search needs
 
--- src/table.rt:52:30
 add-lay-rows : tie.Need-add-lay-rows Inv-loop μ-loop
-add-lay-rows c = ?
+add-lay-rows c = search needs
 
--- src/table.rt:52:30
 add-lay-rows-2 : tie.Need-add-lay-rows-2 Inv-loop μ-loop
-add-lay-rows-2 c = ?
+add-lay-rows-2 c =
+    let c₄ = c .before .before .before .before in
+    omega (arith, first-fits _ _ _ (c₄ .before .before .before .pre .0 .1) (c .before .first-row .ensures))
 
--- src/table.rt:52:9
 lay-rows-requires : tie.Need-lay-rows-requires Inv-loop μ-loop
-lay-rows-requires c κs = ?
+lay-rows-requires c κs =
+    let c₄ = c .before .before .before .before in
+    let pre = c₄ .before .before .before .pre in
+    (c₄ .loop .inv .1 .long, pre .1 .1, pre .0 .1, omega (arith, first-fits _ _ _ (pre .0 .1) (c .before .first-row .ensures)))
 
--- src/table.rt:49:5
 loop-less : tie.Need-loop-less Inv-loop μ-loop
-loop-less c = ?
+loop-less c = omega arith
 
--- src/table.rt:49:5
 loop-again : tie.Need-loop-again Inv-loop μ-loop
-loop-again c = ?
+loop-again c =
+    let c₄ = c .before .before .before .before in
+    let c₈ = c₄ .before .before .before .before in (
+      search needs,
+      laid-more _ _ _ _ _ _ (c₈ .before .before .pre .0 .1) (c₄ .before .before .before .loop .inv .1) (c₄ .first-row .ensures)
+          (c .before .before .lay-rows .ensures),
+    )
 
--- src/table.rt:43:1
 same-length : tie.Need-same-length Inv-loop μ-loop
-same-length c = ?
+same-length c = laid-long _ _ _ _ _ (c .before .before .loop .inv .1) (c .before .before .before .before .before .pre .1 .0)
 
--- src/table.rt:43:1
 returns : tie.Need-returns Inv-loop μ-loop
-returns c = ?
+returns c =
+    let c₄ = c .before .before .before .before in
+    let e : c .before .before .loop .t ≡ c₄ .before .args .v .limit = omega arith in
+    rw e at (c .before .before .loop .inv .1)
 
 pub lay-spec : {M : Type 1} → statement M
 lay-spec =

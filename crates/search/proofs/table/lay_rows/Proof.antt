@@ -1,65 +1,65 @@
-use borrow.Author.Needs.{needs}
+-- `search::table::lay_rows` meets its contract. The loop's invariant: the blocks passed are the room's. The measure is what is left of
+-- the blocks. Assumes nothing.
+use Prim.Native.Nat.{_+_, _*_, _-_, _≤_}
 use native.Mathlib.Omega.{arith}
+use mathlib.Core.Path.{_≡_}
+use borrow.Author.Needs.{needs}
+use lib.ListN.{getD}
+use Rattle.search.specs.Table.{Rewritten}
+use Rattle.search.proofs.RewriteLaws.{rewritten-none, rewritten-more, eight-after}
 use Rattle.search.proofs.table.lay_rows.Statement.{statement}
 use Rattle.search.proofs.table.lay_rows.Tie as tie
-use Rattle.search.proofs.table.lay_rows.Reads as reads
-use Rattle.search.proofs.table.lay_rows.Lts as lts
-use Rattle.words.proofs.eight.Reads as eight-reads
-use Rattle.words.proofs.put_eight.Reads as put-eight-reads
 
 abbrev Inv-loop : tie.InvT-loop
-Inv-loop sets₀ room i blocks b₀ sets b = ?
+Inv-loop sets₀ room i blocks b₀ sets b = (b ≤ blocks) × Rewritten sets₀ (λ j. getD room (i + j) 0) i (8 * b) sets
 
 abbrev μ-loop : tie.MeasureT-loop
-μ-loop sets₀ room i blocks b₀ sets b = ?
+μ-loop sets₀ room i blocks b₀ sets b = blocks - b
 
--- src/table.rt:35:5
 loop-holds : tie.Need-loop-holds Inv-loop μ-loop
-loop-holds c = ?
+loop-holds c = (search needs, rewritten-none _ _ _)
 
--- src/table.rt:36:40
 mul-eight : tie.Need-mul-eight Inv-loop μ-loop
-mul-eight c = ?
+mul-eight c = search needs
 
--- src/table.rt:36:36
 add-eight : tie.Need-add-eight Inv-loop μ-loop
-add-eight c = ?
+add-eight c = search needs
 
--- src/table.rt:36:13
 eight-requires : tie.Need-eight-requires Inv-loop μ-loop
-eight-requires c κs = ?
+eight-requires c κs = search needs
 
--- src/table.rt:37:36
 mul-put-eight : tie.Need-mul-put-eight Inv-loop μ-loop
-mul-put-eight c = ?
+mul-put-eight c = search needs
 
--- src/table.rt:37:32
 add-put-eight : tie.Need-add-put-eight Inv-loop μ-loop
-add-put-eight c = ?
+add-put-eight c = search needs
 
--- src/table.rt:37:9
 put-eight-requires : tie.Need-put-eight-requires Inv-loop μ-loop
-put-eight-requires c κs = ?
+put-eight-requires c κs = omega (arith, c .before .before .before .loop .inv .1 .long)
 
--- src/table.rt:38:9
 add-b : tie.Need-add-b Inv-loop μ-loop
-add-b c = ?
+add-b c = search needs
 
--- src/table.rt:35:5
 loop-less : tie.Need-loop-less Inv-loop μ-loop
-loop-less c = ?
+loop-less c = omega arith
 
--- src/table.rt:35:5
 loop-again : tie.Need-loop-again Inv-loop μ-loop
-loop-again c = ?
+loop-again c =
+    let c₄ = c .before .before .before .before in let c₈ = c₄ .before .before .before .before in (
+      search needs,
+      rewritten-more _ _ _ _ _ _ (c₄ .before .before .loop .b) (omega arith) (c₄ .before .before .loop .inv .1)
+          (c .before .before .put-eight .ensures)
+          (eight-after _ (c₈ .before .args .room .now) (c₈ .before .args .i) (8 * c₄ .before .before .loop .b) (c₄ .eight .ensures)),
+    )
 
--- src/table.rt:30:1
 same-length : tie.Need-same-length Inv-loop μ-loop
-same-length c = ?
+same-length c = c .before .loop .inv .1 .long
 
--- src/table.rt:30:1
 returns : tie.Need-returns Inv-loop μ-loop
-returns c = ?
+returns c =
+    let c₄ = c .before .before .before .before in
+    let e : c .before .loop .b ≡ c₄ .args .blocks = omega arith in
+    rw e at (c .before .loop .inv .1)
 
 pub lay-rows-spec : {M : Type 1} → statement M
 lay-rows-spec =

@@ -1,43 +1,41 @@
+-- `search::table::member` meets its contract. The digit at the place of the cell is read. Assumes nothing.
 use native.Mathlib.Omega.{arith}
 use borrow.Author.Needs.{needs}
+use Rattle.search.proofs.PlaceLaws.{place-small, column-small, member-made}
 use Rattle.search.proofs.table.member.Statement.{statement}
 use Rattle.search.proofs.table.member.Tie as tie
-use Rattle.search.proofs.table.member.Reads as reads
-use Rattle.search.proofs.table.member.Lts as lts
-use Rattle.words.proofs.has.Reads as has-reads
-use Rattle.words.proofs.row_of.Reads as row-of-reads
 
--- src/table.rt:25:9
 row-of-requires : tie.Need-row-of-requires
-row-of-requires c κs = ?
+row-of-requires c κs = search needs
 
--- src/table.rt:26:19
 mul-has : tie.Need-mul-has
-mul-has c = ?
+mul-has c = search needs
 
--- src/table.rt:26:19
 add-has : tie.Need-add-has
-add-has c = ?
+add-has c = search needs
 
--- src/table.rt:26:19
 add-has-2 : tie.Need-add-has-2
-add-has-2 c = ?
+add-has-2 c =
+    let pre = c .before .before .pre in
+    omega (arith, place-small _ _ _ _ (pre .0 .0) (pre .0 .2) (pre .1 .2) (c .row-of .ensures .0))
 
--- src/table.rt:26:39
 mul-has-2 : tie.Need-mul-has-2
-mul-has-2 c = ?
+mul-has-2 c = search needs
 
--- src/table.rt:26:35
 sub-has : tie.Need-sub-has
-sub-has c = ?
+sub-has c = search needs
 
--- src/table.rt:26:5
 has-requires : tie.Need-has-requires
-has-requires c κs = ?
+has-requires c κs =
+    let pre = c .before .before .pre in (
+      omega (arith, pre .1 .0, place-small _ _ _ _ (pre .0 .0) (pre .0 .2) (pre .1 .2) (c .row-of .ensures .0)),
+      column-small _ _ _ (pre .0 .0) (pre .0 .1) (c .row-of .ensures .1),
+    )
 
--- src/table.rt:19:1
 returns : tie.Need-returns
-returns c = ?
+returns c =
+    member-made _ _ _ _ _ _ (c .before .before .before .pre .1 .2) (c .before .row-of .ensures .0)
+    (c .before .row-of .ensures .1) (c .has .ensures)
 
 pub member-spec : {M : Type 1} → statement M
 member-spec =

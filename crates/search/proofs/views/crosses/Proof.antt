@@ -1,26 +1,21 @@
-use native.Mathlib.Omega.{arith}
+-- `search::views::crosses` meets its contract. The view is in c at beat b or not. Assumes nothing.
+-- `search::views::crosses` meets its contract. The view is in c at beat b or not. Assumes nothing.
 use borrow.Author.Needs.{needs}
+use Rattle.search.proofs.CrossLaws.{cross-there, cross-away}
 use Rattle.search.proofs.views.crosses.Statement.{statement}
 use Rattle.search.proofs.views.crosses.Tie as tie
-use Rattle.search.proofs.views.crosses.Reads as reads
-use Rattle.search.proofs.views.crosses.Lts as lts
-use Rattle.search.proofs.views.spot.Reads as spot-reads
 
--- src/views.rt:26:13
 spot-requires : tie.Need-spot-requires
-spot-requires c κs = ?
+spot-requires c κs = search needs
 
--- src/views.rt:27:21
 spot-requires-2 : tie.Need-spot-requires-2
-spot-requires-2 c κs = ?
+spot-requires-2 c κs = search needs
 
--- src/views.rt:27:9
 returns : tie.Need-returns
-returns c = ?
+returns c = cross-there _ _ _ _ _ _ (c .before .if1 .taken) (c .before .before .spot .ensures .0) (c .spot2 .ensures .0)
 
--- src/views.rt:22:1
 returns-2 : tie.Need-returns-2
-returns-2 c = ?
+returns-2 c = cross-away _ _ _ _ (c .if1 .left) (c .before .spot .ensures .0)
 
 pub crosses-spec : {M : Type 1} → statement M
 crosses-spec = tie.close (tie.spec spot-requires spot-requires-2 returns returns-2)

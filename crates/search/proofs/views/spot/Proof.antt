@@ -1,53 +1,48 @@
+-- `search::views::spot` meets its contract. The record has a route or not. Assumes nothing.
+use Prim.Native.Nat.{_*_, _+_}
 use native.Mathlib.Omega.{arith}
 use borrow.Author.Needs.{needs}
+use Rattle.search.proofs.ViewsLaws.{spot-route, spot-none}
 use Rattle.search.proofs.views.spot.Statement.{statement}
 use Rattle.search.proofs.views.spot.Tie as tie
-use Rattle.search.proofs.views.spot.Reads as reads
-use Rattle.search.proofs.views.spot.Lts as lts
 
--- src/views.rt:15:14
 mul-if1 : tie.Need-mul-if1
-mul-if1 c = ?
+mul-if1 c = search needs
 
--- src/views.rt:15:8
 mul-if1-2 : tie.Need-mul-if1-2
-mul-if1-2 c = ?
+mul-if1-2 c = search needs
 
--- src/views.rt:15:8
 shared-slice-read-if1 : tie.Need-shared-slice-read-if1
-shared-slice-read-if1 c = ?
+shared-slice-read-if1 c = search needs
 
--- src/views.rt:16:22
 mul-result : tie.Need-mul-result
-mul-result c = ?
+mul-result c = search needs
 
--- src/views.rt:16:22
 add-result : tie.Need-add-result
-add-result c = ?
+add-result c = search needs
 
--- src/views.rt:16:22
 add-result-2 : tie.Need-add-result-2
-add-result-2 c = ?
+add-result-2 c = search needs
 
--- src/views.rt:16:16
 mul-result-2 : tie.Need-mul-result-2
-mul-result-2 c = ?
+mul-result-2 c = search needs
 
--- src/views.rt:16:16
 shared-slice-read-result : tie.Need-shared-slice-read-result
-shared-slice-read-result c = ?
+shared-slice-read-result c = search needs
 
--- src/views.rt:16:16
 cast-result : tie.Need-cast-result
-cast-result c = ?
+cast-result c =
+    omega (arith, c .shared-slice-known2 .given (65 * (c .before .before .before .args .j) + 1 + (c .before .before .before .args .t)))
 
--- src/views.rt:16:9
 returns : tie.Need-returns
-returns c = ?
+returns c = (
+  spot-route _ _ _ (c .before .if1 .taken),
+  omega
+      (arith, c .shared-slice-known2 .given (65 * (c .before .before .before .args .j) + 1 + (c .before .before .before .args .t))),
+)
 
--- src/views.rt:11:1
 returns-2 : tie.Need-returns-2
-returns-2 c = ?
+returns-2 c = (spot-none _ _ _ (c .if1 .left), omega arith)
 
 pub spot-spec : {M : Type 1} → statement M
 spot-spec =

@@ -1,80 +1,68 @@
+-- `search::window::around` meets its contract. The numbers are small, and the window is that of its definition. Assumes nothing.
 use native.Mathlib.Omega.{arith}
+use mathlib.Core.Path.{refl}
 use borrow.Author.Needs.{needs}
+use Rattle.search.proofs.AroundLaws.{row-below, column-below, smaller-small, around-made}
 use Rattle.search.proofs.window.around.Statement.{statement}
 use Rattle.search.proofs.window.around.Tie as tie
-use Rattle.search.proofs.window.around.Reads as reads
-use Rattle.search.proofs.window.around.Lts as lts
-use Rattle.search.proofs.window.gap.Reads as gap-reads
-use Rattle.search.proofs.window.minus.Reads as minus-reads
-use Rattle.search.proofs.window.smaller.Reads as smaller-reads
 
--- src/window.rt:88:16
 div-from : tie.Need-div-from
-div-from c = ?
+div-from c = search needs
 
--- src/window.rt:89:14
 div-to : tie.Need-div-to
-div-to c = ?
+div-to c = search needs
 
--- src/window.rt:90:9
 gap-requires : tie.Need-gap-requires
-gap-requires c κs = ?
+gap-requires c κs = (row-below _ _ _ (c .pre .2), row-below _ _ _ (c .pre .3))
 
--- src/window.rt:91:26
 rem-gap : tie.Need-rem-gap
-rem-gap c = ?
+rem-gap c = search needs
 
--- src/window.rt:91:37
 rem-gap-2 : tie.Need-rem-gap-2
-rem-gap-2 c = ?
+rem-gap-2 c = search needs
 
--- src/window.rt:91:22
 gap-requires-2 : tie.Need-gap-requires-2
-gap-requires-2 c κs = ?
+gap-requires-2 c κs = (column-below _ _ _ (c .before .pre .2), column-below _ _ _ (c .before .pre .3))
 
--- src/window.rt:91:15
 add-far : tie.Need-add-far
-add-far c = ?
+add-far c = search needs
 
--- src/window.rt:92:17
 minus-requires : tie.Need-minus-requires
-minus-requires c κs = ?
+minus-requires c κs = search needs
 
--- src/window.rt:93:31
 mul-smaller : tie.Need-mul-smaller
-mul-smaller c = ?
+mul-smaller c = search needs
 
--- src/window.rt:93:24
 add-smaller : tie.Need-add-smaller
-add-smaller c = ?
+add-smaller c = search needs
 
--- src/window.rt:93:42
 minus-requires-2 : tie.Need-minus-requires-2
-minus-requires-2 c κs = ?
+minus-requires-2 c κs = search needs
 
--- src/window.rt:93:9
 smaller-requires : tie.Need-smaller-requires
-smaller-requires c κs = ?
+smaller-requires c κs = search needs
 
--- src/window.rt:98:20
 smaller-requires-2 : tie.Need-smaller-requires-2
-smaller-requires-2 c κs = ?
+smaller-requires-2 c κs = search needs
 
--- src/window.rt:98:14
 minus-requires-3 : tie.Need-minus-requires-3
-minus-requires-3 c κs = ?
+minus-requires-3 c κs = search needs
 
--- src/window.rt:99:29
 add-smaller-2 : tie.Need-add-smaller-2
-add-smaller-2 c = ?
+add-smaller-2 c =
+    omega (arith, smaller-small _ _ _ (c .before .before .smaller .ensures), c .before .before .before .minus2 .ensures)
 
--- src/window.rt:99:17
 smaller-requires-3 : tie.Need-smaller-requires-3
-smaller-requires-3 c κs = ?
+smaller-requires-3 c κs = search needs
 
--- src/window.rt:83:1
 returns : tie.Need-returns
-returns c = ?
+returns c =
+    let c₄ = c .before .before .before .before in
+    let c₈ = c₄ .before .before .before .before in
+    around-made _ _ _ _ _ _ _ _ _ _ _ (c₈ .pre .4) (c₄ .before .before .before .gap .ensures .0)
+    (c₄ .before .before .gap2 .ensures .0) (c₄ .before .minus .ensures) (c₄ .minus2 .ensures)
+    (c .before .before .before .smaller .ensures) (c .before .before .smaller2 .ensures) refl refl refl
+    (c .before .minus3 .ensures) (c .smaller3 .ensures)
 
 pub around-spec : {M : Type 1} → statement M
 around-spec =

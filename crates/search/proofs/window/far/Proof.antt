@@ -1,42 +1,32 @@
-use native.Mathlib.Omega.{arith}
+-- `search::window::far` meets its contract. Rows and columns of cells are small. Assumes nothing.
 use borrow.Author.Needs.{needs}
+use Rattle.search.proofs.AroundLaws.{row-below, column-below}
 use Rattle.search.proofs.window.far.Statement.{statement}
 use Rattle.search.proofs.window.far.Tie as tie
-use Rattle.search.proofs.window.far.Reads as reads
-use Rattle.search.proofs.window.far.Lts as lts
-use Rattle.search.proofs.window.gap.Reads as gap-reads
 
--- src/window.rt:71:9
 div-gap : tie.Need-div-gap
-div-gap c = ?
+div-gap c = search needs
 
--- src/window.rt:71:20
 div-gap-2 : tie.Need-div-gap-2
-div-gap-2 c = ?
+div-gap-2 c = search needs
 
--- src/window.rt:71:5
 gap-requires : tie.Need-gap-requires
-gap-requires c κs = ?
+gap-requires c κs = (row-below _ _ _ (c .pre .2), row-below _ _ _ (c .pre .3))
 
--- src/window.rt:71:36
 rem-gap : tie.Need-rem-gap
-rem-gap c = ?
+rem-gap c = search needs
 
--- src/window.rt:71:47
 rem-gap-2 : tie.Need-rem-gap-2
-rem-gap-2 c = ?
+rem-gap-2 c = search needs
 
--- src/window.rt:71:32
 gap-requires-2 : tie.Need-gap-requires-2
-gap-requires-2 c κs = ?
+gap-requires-2 c κs = (column-below _ _ _ (c .before .pre .2), column-below _ _ _ (c .before .pre .3))
 
--- src/window.rt:71:5
 add-result : tie.Need-add-result
-add-result c = ?
+add-result c = search needs
 
--- src/window.rt:66:1
 returns : tie.Need-returns
-returns c = ?
+returns c = search needs
 
 pub far-spec : {M : Type 1} → statement M
 far-spec =

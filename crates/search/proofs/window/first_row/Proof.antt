@@ -1,48 +1,38 @@
-use native.Mathlib.Omega.{arith}
+-- `search::window::first_row` meets its contract. The contract is the code. Assumes nothing.
 use borrow.Author.Needs.{needs}
+use Rattle.search.proofs.AroundLaws.{first-made}
 use Rattle.search.proofs.window.first_row.Statement.{statement}
 use Rattle.search.proofs.window.first_row.Tie as tie
-use Rattle.search.proofs.window.first_row.Reads as reads
-use Rattle.search.proofs.window.first_row.Lts as lts
-use Rattle.search.proofs.window.larger.Reads as larger-reads
-use Rattle.search.proofs.window.minus.Reads as minus-reads
-use Rattle.search.proofs.window.smaller.Reads as smaller-reads
 
--- src/window.rt:60:30
 minus-requires : tie.Need-minus-requires
-minus-requires c κs = ?
+minus-requires c κs = search needs
 
--- src/window.rt:60:9
 larger-requires : tie.Need-larger-requires
-larger-requires c κs = ?
+larger-requires c κs = search needs
 
--- src/window.rt:61:44
 minus-requires-2 : tie.Need-minus-requires-2
-minus-requires-2 c κs = ?
+minus-requires-2 c κs = search needs
 
--- src/window.rt:61:30
 minus-requires-3 : tie.Need-minus-requires-3
-minus-requires-3 c κs = ?
+minus-requires-3 c κs = search needs
 
--- src/window.rt:61:9
 larger-requires-2 : tie.Need-larger-requires-2
-larger-requires-2 c κs = ?
+larger-requires-2 c κs = search needs
 
--- src/window.rt:62:25
 mul-smaller : tie.Need-mul-smaller
-mul-smaller c = ?
+mul-smaller c = search needs
 
--- src/window.rt:62:20
 sub-smaller : tie.Need-sub-smaller
-sub-smaller c = ?
+sub-smaller c = search needs
 
--- src/window.rt:62:5
 smaller-requires : tie.Need-smaller-requires
-smaller-requires c κs = ?
+smaller-requires c κs = search needs
 
--- src/window.rt:56:1
 returns : tie.Need-returns
-returns c = ?
+returns c =
+    let c₄ = c .before .before .before .before in
+    first-made _ _ _ _ _ _ _ _ (c₄ .before .before .minus .ensures) (c₄ .before .larger .ensures) (c₄ .minus2 .ensures)
+    (c .before .before .before .minus3 .ensures) (c .before .before .larger2 .ensures) (c .smaller .ensures)
 
 pub first-row-spec : {M : Type 1} → statement M
 first-row-spec =

@@ -1,17 +1,14 @@
-use borrow.Author.Needs.{needs}
-use native.Mathlib.Omega.{arith}
+-- `search::window::larger` meets its contract. One return a case. Assumes nothing.
+-- `search::window::larger` meets its contract. One return a case. Assumes nothing.
+use Rattle.search.proofs.AroundLaws.{larger-first, larger-second}
 use Rattle.search.proofs.window.larger.Statement.{statement}
 use Rattle.search.proofs.window.larger.Tie as tie
-use Rattle.search.proofs.window.larger.Reads as reads
-use Rattle.search.proofs.window.larger.Lts as lts
 
--- src/window.rt:42:9
 returns : tie.Need-returns
-returns c = ?
+returns c = larger-second _ _ (c .if1 .taken)
 
--- src/window.rt:38:1
 returns-2 : tie.Need-returns-2
-returns-2 c = ?
+returns-2 c = larger-first _ _ (c .if1 .left)
 
 pub larger-spec : {M : Type 1} → statement M
 larger-spec = tie.close (tie.spec returns returns-2)

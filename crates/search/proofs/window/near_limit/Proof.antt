@@ -1,27 +1,21 @@
+-- `search::window::near_limit` meets its contract. The numbers are within the horizon. Assumes nothing.
 use native.Mathlib.Omega.{arith}
 use borrow.Author.Needs.{needs}
+use Rattle.search.proofs.AroundLaws.{near-small, near-made}
 use Rattle.search.proofs.window.near_limit.Statement.{statement}
 use Rattle.search.proofs.window.near_limit.Tie as tie
-use Rattle.search.proofs.window.near_limit.Reads as reads
-use Rattle.search.proofs.window.near_limit.Lts as lts
-use Rattle.search.proofs.window.larger.Reads as larger-reads
-use Rattle.search.proofs.window.smaller.Reads as smaller-reads
 
--- src/window.rt:79:13
 larger-requires : tie.Need-larger-requires
-larger-requires c κs = ?
+larger-requires c κs = search needs
 
--- src/window.rt:79:13
 add-smaller : tie.Need-add-smaller
-add-smaller c = ?
+add-smaller c = omega (arith, near-small _ _ _ _ (c .before .pre .0) (c .before .pre .1) (c .larger .ensures))
 
--- src/window.rt:79:5
 smaller-requires : tie.Need-smaller-requires
-smaller-requires c κs = ?
+smaller-requires c κs = search needs
 
--- src/window.rt:75:1
 returns : tie.Need-returns
-returns c = ?
+returns c = near-made _ _ _ _ _ (c .before .before .pre .0) (c .before .larger .ensures) (c .smaller .ensures)
 
 pub near-limit-spec : {M : Type 1} → statement M
 near-limit-spec = tie.close (tie.spec larger-requires add-smaller smaller-requires returns)

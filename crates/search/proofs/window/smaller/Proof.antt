@@ -1,17 +1,14 @@
-use borrow.Author.Needs.{needs}
-use native.Mathlib.Omega.{arith}
+-- `search::window::smaller` meets its contract. One return a case. Assumes nothing.
+-- `search::window::smaller` meets its contract. One return a case. Assumes nothing.
+use Rattle.search.proofs.AroundLaws.{smaller-first, smaller-second}
 use Rattle.search.proofs.window.smaller.Statement.{statement}
 use Rattle.search.proofs.window.smaller.Tie as tie
-use Rattle.search.proofs.window.smaller.Reads as reads
-use Rattle.search.proofs.window.smaller.Lts as lts
 
--- src/window.rt:32:9
 returns : tie.Need-returns
-returns c = ?
+returns c = smaller-first _ _ (c .if1 .taken)
 
--- src/window.rt:28:1
 returns-2 : tie.Need-returns-2
-returns-2 c = ?
+returns-2 c = smaller-second _ _ (c .if1 .left)
 
 pub smaller-spec : {M : Type 1} → statement M
 smaller-spec = tie.close (tie.spec returns returns-2)
