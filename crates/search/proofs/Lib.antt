@@ -11,6 +11,7 @@ pub mod BackLaws
 pub mod NarrowLaws
 pub mod WindowLaws
 pub mod HoldLaws
+pub mod PassLaws
 pub mod RowsFree
 pub mod AnswerLaws
 pub mod RequestLaws
