@@ -12,6 +12,7 @@ pub mod NarrowLaws
 pub mod WindowLaws
 pub mod HoldLaws
 pub mod PassLaws
+pub mod FoundLaws
 pub mod RowsFree
 pub mod AnswerLaws
 pub mod RequestLaws
