@@ -1,5 +1,5 @@
 -- What the search shows of its answer, in the theory of sets: by it the answer is the best route.
-use Prim.Native.Nat.{ℕ, zero, suc, _+_, _*_, _-_, _/_, _%_, _≤_, _<_}
+use Prim.Native.Nat.{ℕ, zero, suc, _+_, _-_, _≤_, _<_}
 use native.Mathlib.Omega.{arith}
 use native.Mathlib.Numerals.{add-one}
 use native.Mathlib.Nat.{eq-or-lt-of-le}
@@ -11,7 +11,7 @@ use borrow.Author.Tests.{leb-true, le-leb}
 use lib.Dec.{leb}
 use lib.ListN.{length, replicate, length-replicate}
 use Rattle.route.specs.Route.{cellAt, none, route, Task}
-use Rattle.route.specs.Moves.{near, passable, every, standable, allowed, startClear}
+use Rattle.route.specs.Moves.{passable, every, startClear}
 use Rattle.route.specs.Search.{Rule, best}
 use Rattle.route.proofs.Tests.{and-both, and-fst, and-snd, lt-or-le}
 use Rattle.route.proofs.Sets.{Sets, Reaches, Greedy}
@@ -22,14 +22,14 @@ use Rattle.search.specs.declared.Scene.{Scene}
 use Rattle.search.specs.declared.window.Window.{Window}
 use Rattle.search.specs.Views.{records}
 use Rattle.search.specs.Ways.{wayOpen}
-use Rattle.search.specs.Table.{inSet, Fitting, WindowOf, Windowed, Laid, Advanced, Traced}
+use Rattle.search.specs.Table.{inSet, Fitting, WindowOf, Laid, Advanced, Traced}
 use Rattle.search.specs.Passes.{lastNot, Earliest, arrivable, leadsOf, nextOf, pathOf}
 use Rattle.search.proofs.WayLaws.{way-backward}
 use Rattle.search.proofs.NextLaws.{step-before, step-after, next-inside}
 use Rattle.search.proofs.NextBest.{Taken, next-best}
 use Rattle.search.proofs.NarrowLaws.{reach, back, reach-begins, reach-forward, back-backward, Passed, Wide, Kept, passed-goal, kept-greedy}
 use Rattle.search.proofs.WindowLaws.{apart, reach-apart}
-use Rattle.search.proofs.PassLaws.{Setting, taskIn, ruleIn, allowed-near, allowed-stands, allowed-passes, allowed-makes, allowed-cell}
+use Rattle.search.proofs.PassLaws.{Setting, taskIn, ruleIn, allowed-near, allowed-passes, allowed-makes, allowed-cell}
 use Rattle.search.proofs.PassLaws.{room-is, hold-holds, holds-hold, laid-wide, made-passed, traced-stands, traced-kept}
 
 -- What a forward pass has made: the sets laid, and how far they are advanced where it finds beat r.

@@ -13,6 +13,7 @@ pub mod WindowLaws
 pub mod HoldLaws
 pub mod PassLaws
 pub mod FoundLaws
+pub mod SearchLaws
 pub mod RowsFree
 pub mod AnswerLaws
 pub mod RequestLaws

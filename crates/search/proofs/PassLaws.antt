@@ -1,13 +1,13 @@
 -- The tables of a search against the theory of sets: the room, the advanced sets, the traced sets, and the beat from which on the goal can
 -- be held.
-use Prim.Native.Nat.{ℕ, zero, suc, _+_, _*_, _-_, _/_, _%_, _≤_, _<_}
+use Prim.Native.Nat.{ℕ, suc, _+_, _*_, _-_, _/_, _%_, _≤_, _<_}
 use native.Mathlib.Omega.{arith}
 use native.Mathlib.Numerals.{add-one}
 use native.Mathlib.Nat.{eq-or-lt-of-le}
-use mathlib.Core.Bool.{Bool, true, false, _&&_}
+use mathlib.Core.Bool.{true, _&&_}
 use mathlib.Core.List.{List}
-use mathlib.Core.Logic.{_↔_, inl, inr, ⊎-elim}
-use mathlib.Core.Path.{_≡_, refl, sym, _∙_}
+use mathlib.Core.Logic.{inl, inr, ⊎-elim}
+use mathlib.Core.Path.{_≡_, sym, _∙_}
 use borrow.Author.Tests.{ltb-true}
 use lib.Dec.{ltb}
 use Rattle.route.specs.Route.{Task, SharesSide}
@@ -21,7 +21,6 @@ use Rattle.words.proofs.RowsLaws.{place-row}
 use Rattle.search.specs.declared.Scene.{Scene}
 use Rattle.search.specs.declared.window.Window.{Window}
 use Rattle.search.specs.Views.{records}
-use Rattle.search.specs.Window.{firstRow, topOf, blocksOf}
 use Rattle.search.specs.Table.{inSet, standsAt, Roomy, Entered, firstAt, Inside, Fitting, WindowOf, Laid, Advanced, Traced}
 use Rattle.search.specs.Passes.{lastNot}
 use Rattle.search.proofs.SetLaws.{set-cell}
