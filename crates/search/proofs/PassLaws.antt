@@ -152,7 +152,8 @@ module _ {g : Scene} {k : ℕ} {free m room : List ℕ} {start goal : ℕ} (set 
       there : inSet g s (suc t) (x .from) ≡ true
       there = rw add-one at (x .inset)
 
-  leading-entered : (s : List ℕ) (t c : ℕ) → suc t ≤ g .horizon → c < g .cells → Leading ok (inSet g s) t c → Entered g k m s (t + 1) t c
+  leading-entered : (s : List ℕ) (t c : ℕ) → suc t ≤ g .horizon → c < g .cells → Leading ok (inSet g s) t c →
+      Entered g k m s (t + 1) t c
   leading-entered s t c h l (d, e, b) =
       record {
         from = d;
@@ -176,7 +177,8 @@ module _ {g : Scene} {k : ℕ} {free m room : List ℕ} {start goal : ℕ} (set 
       free-then = room-stands (suc u) goal b (last-says (λ u. inSet g room u goal) t (g .horizon) h u l b)
 
       clear : every (vacant (suc u) goal) (records m k) ≡ true
-      clear = and-snd (ltb goal (g .cells) && has free (goal / g .width) (goal % g .width)) (every (vacant (suc u) goal) (records m k)) free-then
+      clear =
+          and-snd (ltb goal (g .cells) && has free (goal / g .width) (goal % g .width)) (every (vacant (suc u) goal) (records m k)) free-then
 
   pub holds-hold : (t : ℕ) → Holds (ruleIn g k free m start goal) goal (g .horizon) t →
       lastNot (λ u. inSet g room u goal) (g .horizon) ≤ t
@@ -190,11 +192,18 @@ module _ {g : Scene} {k : ℕ} {free m room : List ℕ} {start goal : ℕ} (set 
     laid-stands t c h e = room-stands (suc t) c h (laid .says (suc t) c (omega arith) e)
 
     -- The window has every cell on a way from the start to the goal within the limit.
-    pub laid-wide : (limit : ℕ) → WindowOf g start goal limit v → Wide (ruleIn g k free m start goal) (g .cells) start goal limit (inSet g s)
+    pub laid-wide : (limit : ℕ) → WindowOf g start goal limit v →
+        Wide (ruleIn g k free m start goal) (g .cells) start goal limit (inSet g s)
     unfolding firstAt apart
-    laid-wide limit win = record { wide = λ a t c h l e b. laid .holds (suc t) c (omega arith) (omega (arith, win .limited)) (open-there a t c h l e) (in-window a t c h l e b) }
+    laid-wide limit win =
+        record {
+          wide =
+              λ a t c h l e b.
+              laid .holds (suc t) c (omega arith) (omega (arith, win .limited)) (open-there a t c h l e) (in-window a t c h l e b);
+        }
       where
-        open-there : (a t c : ℕ) → a ≤ limit → suc t ≤ a → reach ok (g .cells) start (suc t) c ≡ true → inSet g room (suc t) c ≡ true
+        open-there : (a t c : ℕ) → a ≤ limit → suc t ≤ a → reach ok (g .cells) start (suc t) c ≡ true →
+            inSet g room (suc t) c ≡ true
         open-there a t c h l e =
             let x : Reached ok (reach ok (g .cells) start) t c = reach-says ok (g .cells) start t c e in
             room-is (suc t) c (omega (arith, win .limited, fit .early)) ∙ allowed-stands task m k t (x .0) c (x .2)
@@ -203,7 +212,8 @@ module _ {g : Scene} {k : ℕ} {free m room : List ℕ} {start goal : ℕ} (set 
             back ok (g .cells) goal a (a - suc t) c ≡ true → Inside v (suc t) (c / g .width)
         in-window a t c h l e b =
             rw (win .limited, win .begins, win .ends, win .top, win .blocks)
-            (window-holds (start / g .width) (start % g .width) (goal / g .width) (goal % g .width) limit (suc t) (c / g .width) (c % g .width)
+            (window-holds (start / g .width) (start % g .width) (goal / g .width) (goal % g .width) limit (suc t) (c / g .width)
+            (c % g .width)
             (place-row (g .width) c (set .thin) (omega (arith, set .fits, cell))) (omega arith)
             (reach-apart ok (g .width) (g .cells) start (allowed-near task m k) (suc t) c e)
             (omega (arith, back-apart ok (g .width) (g .cells) goal a (allowed-near task m k) (a - suc t) c b)))
@@ -217,7 +227,7 @@ module _ {g : Scene} {k : ℕ} {free m room : List ℕ} {start goal : ℕ} (set 
       made-passed =
           record {
             begins = λ c. (λ e. laid .begins c (sym (made .first c) ∙ e), λ (q : c ≡ start). rw q (made .first start ∙ laid .started));
-            spreads = λ t d h. (says t d h, λ (i, r). rw add-one at (made .holds t d h (rw add-one i) (reached-entered P t d (omega (arith, fit .early)) r)));
+            spreads = λ t d h. (says t d h, λ (i, r). holds t d h i r);
           }
         where
           says : (t d : ℕ) → t < n → inSet g P (suc t) d ≡ true → (inSet g s (suc t) d ≡ true) × Reached ok (inSet g P) t d
@@ -226,13 +236,18 @@ module _ {g : Scene} {k : ℕ} {free m room : List ℕ} {start goal : ℕ} (set 
               let i : inSet g s (suc t) d ≡ true = rw add-one at (x .0) in
               (i, entered-reached P t d (omega (arith, fit .early)) (laid-stands t d (omega (arith, fit .early)) i) (x .1))
 
+          holds : (t d : ℕ) → t < n → inSet g s (suc t) d ≡ true → Reached ok (inSet g P) t d → inSet g P (suc t) d ≡ true
+          holds t d h i r =
+              rw add-one at (made .holds t d h (rw add-one i) (reached-entered P t d (omega (arith, fit .early)) r))
+
       -- What they have after beat 0 can be stood on.
       made-stands : (t c : ℕ) → t < n → inSet g P (suc t) c ≡ true → stands (suc t) c ≡ true
       made-stands t c h e = laid-stands t c (omega (arith, fit .early)) ((made-passed .spreads t c h) .0 e .0)
 
       module _ {a : ℕ} {T : List ℕ} (within : a ≤ n) (there : inSet g P a goal ≡ true) (traced : Traced g k v m P goal a a T) where
         -- What the traced sets have after beat 0 can be stood on.
-        pub traced-stands : (t c : ℕ) → suc t ≤ a → inSet g T (suc t) c ≡ true → standable (taskIn g free start goal) (records m k) (suc t) c ≡ true
+        pub traced-stands : (t c : ℕ) → suc t ≤ a → inSet g T (suc t) c ≡ true →
+            standable (taskIn g free start goal) (records m k) (suc t) c ≡ true
         traced-stands t c h e = ⊎-elim at-last before (eq-or-lt-of-le h)
           where
             at-last : suc t ≡ a → stands (suc t) c ≡ true

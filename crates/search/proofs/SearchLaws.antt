@@ -9,17 +9,18 @@ use Rattle.floor.specs.declared.Floor.{Floor}
 use Rattle.floor.specs.Checks.{startOf, goalOf}
 use Rattle.route.specs.Route.{none, route}
 use Rattle.route.specs.Search.{best}
-use Rattle.words.specs.Rows.{filled}
+use Rattle.words.specs.Rows.{filled, Clean}
+use Rattle.words.proofs.RowsLaws.{place-row}
 use Rattle.search.specs.declared.Scene.{Scene}
 use Rattle.search.specs.declared.window.Window.{Window}
 use Rattle.search.specs.Views.{records, viewsOf}
 use Rattle.search.specs.Task.{taskOfRows}
 use Rattle.search.specs.Rows.{Searchable}
 use Rattle.search.specs.Window.{gap}
-use Rattle.search.specs.Table.{sceneOf, inSet, Fits, Roomy, Fitting, WindowOf, Windowed, Traced}
+use Rattle.search.specs.Table.{sceneOf, inSet, firstAt, Inside, Fits, Roomy, Fitting, WindowOf, Windowed, Traced}
 use Rattle.search.specs.Passes.{lastNot, Earliest, arrivable, pathOf}
-use Rattle.search.proofs.GridLaws.{grid-room}
-use Rattle.search.proofs.WindowLaws.{apart}
+use Rattle.search.proofs.GridLaws.{grid-room, grid-small}
+use Rattle.search.proofs.WindowLaws.{apart, gap-same, window-holds}
 use Rattle.search.proofs.PassLaws.{Setting, taskIn}
 use Rattle.search.proofs.FoundLaws.{Made, arrivable-inside, shut-none, far-none, never-none, route-best}
 
@@ -32,8 +33,7 @@ pub made-windowed : {g : Scene} {k : ℕ} {v : Window} {room m : List ℕ} {star
     Windowed g v q
 made-windowed made = made .6 .windowed
 
-module _ {f : Floor} {rows : List ℕ} {i : ℕ} {m room : List ℕ} (s : Searchable f rows i m)
-    (roomy : Roomy (sceneOf f) (i - 1) rows m room) {g : Scene} (q : g ≡ sceneOf f) where
+module _ {f : Floor} {rows : List ℕ} {i : ℕ} {m : List ℕ} (s : Searchable f rows i m) {g : Scene} (q : g ≡ sceneOf f) where
   -- The scene of a checked floor fits the tables.
   pub scene-fits : Fits g (i - 1) m
   unfolding sceneOf
@@ -48,6 +48,51 @@ module _ {f : Floor} {rows : List ℕ} {i : ℕ} {m room : List ℕ} (s : Search
         lent = s .lent;
       })
 
+  pub scene-clean : Clean (g .width) (g .cells) rows
+  unfolding sceneOf
+  scene-clean = rw q (s .clean)
+
+  -- Start and goal are cells of it.
+  pub scene-start : startOf f (i - 1) < g .cells
+  unfolding sceneOf
+  scene-start = rw q (s .start)
+
+  pub scene-goal : goalOf f (i - 1) < g .cells
+  unfolding sceneOf
+  scene-goal = rw q (s .goal)
+
+  pub scene-small : (startOf f (i - 1) < 1024) × (goalOf f (i - 1) < 1024)
+  scene-small = omega (arith, s .start, s .goal, grid-small (f .width) (f .height) (s .width .1) (s .height))
+
+  -- The window has the start at beat 0.
+  pub scene-window : {limit : ℕ} {v : Window} → WindowOf g (startOf f (i - 1)) (goalOf f (i - 1)) limit v →
+      gap (startOf f (i - 1) / g .width) (goalOf f (i - 1) / g .width) + gap (startOf f (i - 1) % g .width) (goalOf f (i - 1) % g .width) ≤
+      limit →
+      Inside v 0 (startOf f (i - 1) / g .width)
+  unfolding firstAt
+  scene-window {limit} win h =
+      rw (win .limited, win .begins, win .ends, win .top, win .blocks)
+      (window-holds row column (goalOf f (i - 1) / g .width) (goalOf f (i - 1) % g .width) limit 0 row column
+      (place-row (g .width) (startOf f (i - 1)) (scene-fits .thin) (omega (arith, scene-fits .room, scene-start))) (omega arith)
+      (omega (arith, gap-same row, gap-same column)) (omega arith))
+    where
+      row : ℕ
+      row = startOf f (i - 1) / g .width
+
+      column : ℕ
+      column = startOf f (i - 1) % g .width
+
+-- A room of the scene is one of the floor's, and back.
+pub room-scene : (f : Floor) {g : Scene} {k : ℕ} {rows m room : List ℕ} → g ≡ sceneOf f → Roomy g k rows m room →
+    Roomy (sceneOf f) k rows m room
+room-scene f q r = rw q at r
+
+pub scene-room : (f : Floor) {g : Scene} {k : ℕ} {rows m room : List ℕ} → g ≡ sceneOf f → Roomy (sceneOf f) k rows m room →
+    Roomy g k rows m room
+scene-room f q r = rw q r
+
+module _ {f : Floor} {rows : List ℕ} {i : ℕ} {m room : List ℕ} (s : Searchable f rows i m) {g : Scene} (q : g ≡ sceneOf f)
+    (roomy : Roomy (sceneOf f) (i - 1) rows m room) where
   -- What the passes know of it.
   setting : Setting g (i - 1) rows m room (startOf f (i - 1)) (goalOf f (i - 1))
   unfolding sceneOf
@@ -91,7 +136,8 @@ module _ {f : Floor} {rows : List ℕ} {i : ℕ} {m room : List ℕ} (s : Search
         (omega (arith, win .limited, fit .early, made .5 (omega (arith, win .limited)))) earliest (omega (arith, win .limited, fit .early))
 
     -- The beat is the least arrival, and the walk is the best route.
-    pub reached-best : {T : List ℕ} → inSet g room 0 (startOf f (i - 1)) ≡ true → a ≤ limit → Traced g (i - 1) v m P (goalOf f (i - 1)) a a T →
+    pub reached-best : {T : List ℕ} → inSet g room 0 (startOf f (i - 1)) ≡ true → a ≤ limit →
+        Traced g (i - 1) v m P (goalOf f (i - 1)) a a T →
         best (taskOfRows f rows i) (viewsOf m i) ≡
         route (filled (replicate 64 0) (pathOf g (i - 1) m T (startOf f (i - 1)) (goalOf f (i - 1)) a) (g .horizon + 1))
     reached-best e h traced =
