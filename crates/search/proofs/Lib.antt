@@ -23,6 +23,9 @@ pub mod BackLaws
 pub mod NarrowLaws
 pub mod WindowLaws
 pub mod HoldLaws
+pub mod PassLaws
+pub mod FoundLaws
+pub mod SearchLaws
 pub mod RowsFree
 pub mod AnswerLaws
 pub mod RequestLaws

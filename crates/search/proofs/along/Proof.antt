@@ -1,27 +1,27 @@
-use native.Mathlib.Omega.{arith}
+-- `search::along` meets its contract: the sets that lead to the goal, and the walk along them. Assumes nothing.
+use mathlib.Core.Path.{refl}
+use Rattle.search.proofs.AnswerLaws.{says-route}
 use borrow.Author.Needs.{needs}
 use Rattle.search.proofs.along.Statement.{statement}
 use Rattle.search.proofs.along.Tie as tie
-use Rattle.search.proofs.along.Reads as reads
-use Rattle.search.proofs.along.Lts as lts
-use Rattle.search.proofs.passes.leading.Reads as leading-reads
-use Rattle.search.proofs.walk.walk.Reads as walk-reads
 
--- src/lib.rt:104:5
 leading-requires : tie.Need-leading-requires
-leading-requires c κs = search needs
+leading-requires c κs =
+    let p = c .before .before .before .before .pre in
+    ((p .0 .0, p .0 .1, p .0 .3, p .0 .4), p .1)
 
--- src/lib.rt:107:16
 walk-requires : tie.Need-walk-requires
-walk-requires c κs = search needs
+walk-requires c κs =
+    let c₄ = c .before .before .before .before in
+    let c₈ = c₄ .before .before .before .before in
+    let p = c₈ .pre in
+    ((p .0 .0, c .before .before .before .leading .ensures .windowed .tidy, p .0 .2, p .0 .3), p .1 .0)
 
--- src/lib.rt:98:1
 same-length : tie.Need-same-length
 same-length c = search needs
 
--- src/lib.rt:98:1
 returns : tie.Need-returns
-returns c = search needs
+returns c = (_, c .before .before .before .before .leading .ensures, says-route refl (c .walk .ensures))
 
 pub along-spec : {M : Type 1} → statement M
 along-spec = tie.close (tie.spec leading-requires walk-requires same-length returns)

@@ -1,5 +1,5 @@
 -- `search::search` meets its contract: a refusal is answered as met; otherwise the floor is accepted, and the search with its free
--- rows answers as with its walls.
+-- rows answers as with its walls. Assumes nothing.
 use Rattle.search.proofs.RequestLaws.{request-granted, granted-searchable, granted-bounds}
 use Rattle.search.proofs.AnswerLaws.{says-same, answered-passed, answered-refused}
 use Rattle.search.specs.Search.{searchOf}

@@ -1,0 +1,145 @@
+-- The outcomes of the search of a checked floor, each the best answer.
+use Prim.Native.Nat.{ℕ, _+_, _-_, _/_, _%_, _≤_, _<_}
+use native.Mathlib.Omega.{arith}
+use mathlib.Core.Bool.{true, false}
+use mathlib.Core.List.{List}
+use mathlib.Core.Path.{_≡_, refl, _∙_}
+use lib.ListN.{replicate}
+use Rattle.floor.specs.declared.Floor.{Floor}
+use Rattle.floor.specs.Checks.{startOf, goalOf}
+use Rattle.route.specs.Route.{none, route}
+use Rattle.route.specs.Search.{best}
+use Rattle.words.specs.Rows.{filled, Clean}
+use Rattle.words.proofs.RowsLaws.{place-row}
+use Rattle.search.specs.declared.Scene.{Scene}
+use Rattle.search.specs.declared.window.Window.{Window}
+use Rattle.search.specs.Views.{records, viewsOf}
+use Rattle.search.specs.Task.{taskOfRows}
+use Rattle.search.specs.Rows.{Searchable}
+use Rattle.search.specs.Window.{gap}
+use Rattle.search.specs.Table.{sceneOf, inSet, firstAt, Inside, Fits, Roomy, Fitting, WindowOf, Windowed, Traced}
+use Rattle.search.specs.Passes.{lastNot, Earliest, arrivable, pathOf}
+use Rattle.search.proofs.GridLaws.{grid-room, grid-small}
+use Rattle.search.proofs.WindowLaws.{apart, gap-same, window-holds}
+use Rattle.search.proofs.PassLaws.{Setting, taskIn}
+use Rattle.search.proofs.FoundLaws.{Made, arrivable-inside, shut-none, far-none, never-none, route-best}
+
+-- The goal is in the set of the beat that a forward pass finds, and the sets that it makes are in the window.
+pub found-inside : (g : Scene) (s : List ℕ) (goal hold limit a : ℕ) → Earliest (arrivable g s goal hold) (limit + 1) a → a ≤ limit →
+    inSet g s a goal ≡ true
+found-inside g s goal hold limit a e h = arrivable-inside g s goal hold a (e .passes (omega arith))
+
+pub made-windowed : {g : Scene} {k : ℕ} {v : Window} {room m : List ℕ} {start r : ℕ} {q : List ℕ} → Made g k v room m start r q →
+    Windowed g v q
+made-windowed made = made .6 .windowed
+
+module _ {f : Floor} {rows : List ℕ} {i : ℕ} {m : List ℕ} (s : Searchable f rows i m) {g : Scene} (q : g ≡ sceneOf f) where
+  -- The scene of a checked floor fits the tables.
+  pub scene-fits : Fits g (i - 1) m
+  unfolding sceneOf
+  scene-fits =
+      rw q
+      (record {
+        thin = s .width .0;
+        narrow = s .width .1;
+        room = grid-room (f .width) (f .height) (s .height);
+        scaled = refl;
+        short = s .horizon;
+        lent = s .lent;
+      })
+
+  pub scene-clean : Clean (g .width) (g .cells) rows
+  unfolding sceneOf
+  scene-clean = rw q (s .clean)
+
+  -- Start and goal are cells of it.
+  pub scene-start : startOf f (i - 1) < g .cells
+  unfolding sceneOf
+  scene-start = rw q (s .start)
+
+  pub scene-goal : goalOf f (i - 1) < g .cells
+  unfolding sceneOf
+  scene-goal = rw q (s .goal)
+
+  pub scene-small : (startOf f (i - 1) < 1024) × (goalOf f (i - 1) < 1024)
+  scene-small = omega (arith, s .start, s .goal, grid-small (f .width) (f .height) (s .width .1) (s .height))
+
+  -- The window has the start at beat 0.
+  pub scene-window : {limit : ℕ} {v : Window} → WindowOf g (startOf f (i - 1)) (goalOf f (i - 1)) limit v →
+      gap (startOf f (i - 1) / g .width) (goalOf f (i - 1) / g .width) + gap (startOf f (i - 1) % g .width) (goalOf f (i - 1) % g .width) ≤
+      limit →
+      Inside v 0 (startOf f (i - 1) / g .width)
+  unfolding firstAt
+  scene-window {limit} win h =
+      rw (win .limited, win .begins, win .ends, win .top, win .blocks)
+      (window-holds row column (goalOf f (i - 1) / g .width) (goalOf f (i - 1) % g .width) limit 0 row column
+      (place-row (g .width) (startOf f (i - 1)) (scene-fits .thin) (omega (arith, scene-fits .room, scene-start))) (omega arith)
+      (omega (arith, gap-same row, gap-same column)) (omega arith))
+    where
+      row : ℕ
+      row = startOf f (i - 1) / g .width
+
+      column : ℕ
+      column = startOf f (i - 1) % g .width
+
+-- A room of the scene is one of the floor's, and back.
+pub room-scene : (f : Floor) {g : Scene} {k : ℕ} {rows m room : List ℕ} → g ≡ sceneOf f → Roomy g k rows m room →
+    Roomy (sceneOf f) k rows m room
+room-scene f q r = rw q at r
+
+pub scene-room : (f : Floor) {g : Scene} {k : ℕ} {rows m room : List ℕ} → g ≡ sceneOf f → Roomy (sceneOf f) k rows m room →
+    Roomy g k rows m room
+scene-room f q r = rw q r
+
+module _ {f : Floor} {rows : List ℕ} {i : ℕ} {m room : List ℕ} (s : Searchable f rows i m) {g : Scene} (q : g ≡ sceneOf f)
+    (roomy : Roomy (sceneOf f) (i - 1) rows m room) where
+  -- What the passes know of it.
+  setting : Setting g (i - 1) rows m room (startOf f (i - 1)) (goalOf f (i - 1))
+  unfolding sceneOf
+  setting =
+      rw q
+      (record {
+        thin = s .width .0;
+        narrow = s .width .1;
+        fits = grid-room (f .width) (f .height) (s .height);
+        short = s .horizon;
+        starts = s .start;
+        ends = s .goal;
+        roomy = roomy;
+      })
+
+  -- The task is that of the scene.
+  same : best (taskOfRows f rows i) (viewsOf m i) ≡ best (taskIn g rows (startOf f (i - 1)) (goalOf f (i - 1))) (records m (i - 1))
+  unfolding taskOfRows viewsOf sceneOf
+  same = rw q refl
+
+  -- The start cannot be stood on.
+  pub shut-best : inSet g room 0 (startOf f (i - 1)) ≡ false → best (taskOfRows f rows i) (viewsOf m i) ≡ none
+  shut-best e = same ∙ shut-none setting e
+
+  -- The goal is too far.
+  pub far-best : g .horizon <
+      gap (startOf f (i - 1) / g .width) (goalOf f (i - 1) / g .width) + gap (startOf f (i - 1) % g .width) (goalOf f (i - 1) % g .width) →
+      best (taskOfRows f rows i) (viewsOf m i) ≡ none
+  unfolding apart
+  far-best h = same ∙ far-none setting h
+
+  module _ {limit : ℕ} {v : Window} (fit : Fitting g v) (win : WindowOf g (startOf f (i - 1)) (goalOf f (i - 1)) limit v) {hold : ℕ}
+      (held : hold ≡ lastNot (λ u. inSet g room u (goalOf f (i - 1))) (g .horizon)) {P : List ℕ} {a : ℕ}
+      (made : Made g (i - 1) v room m (startOf f (i - 1)) a P)
+      (earliest : Earliest (arrivable g P (goalOf f (i - 1)) hold) (v .limit + 1) a) where
+    -- No beat through the horizon is an arrival.
+    pub unreached-best : g .horizon ≤ limit → limit < a → best (taskOfRows f rows i) (viewsOf m i) ≡ none
+    unreached-best l h =
+        same
+        ∙ never-none setting fit win (made .2) (made .3) (made .6) hold held a
+        (omega (arith, win .limited, fit .early, made .5 (omega (arith, win .limited)))) earliest (omega (arith, win .limited, fit .early))
+
+    -- The beat is the least arrival, and the walk is the best route.
+    pub reached-best : {T : List ℕ} → inSet g room 0 (startOf f (i - 1)) ≡ true → a ≤ limit →
+        Traced g (i - 1) v m P (goalOf f (i - 1)) a a T →
+        best (taskOfRows f rows i) (viewsOf m i) ≡
+        route (filled (replicate 64 0) (pathOf g (i - 1) m T (startOf f (i - 1)) (goalOf f (i - 1)) a) (g .horizon + 1))
+    reached-best e h traced =
+        same
+        ∙ route-best setting fit win (made .2) (made .3) (made .6) hold held e (made .4 (omega (arith, win .limited))) earliest traced
