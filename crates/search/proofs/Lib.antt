@@ -2,6 +2,8 @@
 pub mod ViewsLaws
 pub mod TurnLaws
 pub mod SetLaws
+pub mod RewriteLaws
+pub mod RoomLaws
 pub mod WayLaws
 pub mod NextLaws
 pub mod GridLaws

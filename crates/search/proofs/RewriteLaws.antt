@@ -1,0 +1,46 @@
+-- Rows of a list that are rewritten in blocks of eight.
+use Prim.Native.Nat.{ℕ, _+_, _*_, _-_, _≤_, _<_}
+use native.Mathlib.Omega.{arith}
+use mathlib.Core.List.{List}
+use mathlib.Core.Logic.{_⊎_, inl, inr, ⊎-elim}
+use mathlib.Core.Path.{_≡_, refl, _∙_}
+use lib.ListN.{length, getD}
+use Rattle.route.proofs.Tests.{lt-or-le}
+use Rattle.words.specs.Rows.{written}
+use Rattle.words.proofs.FillLaws.{length-written, written-in, written-out}
+use Rattle.search.specs.Table.{Rewritten}
+
+-- No rows rewritten.
+pub rewritten-none : (s : List ℕ) (f : ℕ → ℕ) (i : ℕ) → Rewritten s f i 0 s
+rewritten-none s f i = record { long = refl; inside = λ r l. absurd (omega arith); outside = λ j l. refl }
+
+module _ (s q x : List ℕ) (f : ℕ → ℕ) (i b : ℕ) (fits : i + 8 * b + 8 ≤ length s) (old : Rewritten s f i (8 * b) q)
+    (says : (j : ℕ) → j < 8 → getD x j 0 ≡ f (8 * b + j)) where
+  -- A row of the new block.
+  block-new : (r j : ℕ) → j < 8 → r ≡ 8 * b + j → getD (written q (i + 8 * b) x 8) (i + r) 0 ≡ f r
+  block-new r j h e =
+      let k : i + r ≡ i + 8 * b + j = omega arith in
+      rw (k, e) (written-in q (i + 8 * b) x 8 j (omega (arith, old .long)) h ∙ says j h)
+
+  -- A row of the blocks before.
+  block-old : (r : ℕ) → r < 8 * b → getD (written q (i + 8 * b) x 8) (i + r) 0 ≡ f r
+  block-old r h = written-out q (i + 8 * b) x 8 (i + r) (inl (omega arith)) ∙ old .inside r h
+
+  -- A row elsewhere.
+  block-out : (j : ℕ) → (j < i) ⊎ (i + 8 * (b + 1) ≤ j) → getD (written q (i + 8 * b) x 8) j 0 ≡ getD s j 0
+  block-out j (inl h) = written-out q (i + 8 * b) x 8 j (inl (omega arith)) ∙ old .outside j (inl h)
+  block-out j (inr h) = written-out q (i + 8 * b) x 8 j (inr (omega arith)) ∙ old .outside j (inr (omega arith))
+
+  -- The table with one more block.
+  block-made : Rewritten s f i (8 * (b + 1)) (written q (i + 8 * b) x 8)
+  block-made = record {
+        long = length-written q (i + 8 * b) x 8 ∙ old .long;
+        inside = λ r l.
+            ⊎-elim (block-old r) (λ (h : 8 * b ≤ r). block-new r (r - 8 * b) (omega arith) (omega arith)) (lt-or-le r (8 * b));
+        outside = block-out;
+      }
+
+-- One more block of eight rows.
+pub rewritten-more : (s q x r : List ℕ) (f : ℕ → ℕ) (i b : ℕ) → i + 8 * b + 8 ≤ length s → Rewritten s f i (8 * b) q →
+    r ≡ written q (i + 8 * b) x 8 → ((j : ℕ) → j < 8 → getD x j 0 ≡ f (8 * b + j)) → Rewritten s f i (8 * (b + 1)) r
+rewritten-more s q x r f i b fits old e says = rw e (block-made s q x f i b fits old says)
