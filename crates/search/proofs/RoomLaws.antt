@@ -107,11 +107,11 @@ module _ (g : Scene) (free s : List ℕ) (n : ℕ) (beats : FreeBeats free n s) 
   -- A table of free rows is tidy if they are clean.
   pub free-tidy : Clean (g .width) (g .cells) free → Tidy g s
   free-tidy clean = record {
-        long = beats .long;
-        thin = λ i k e. let p = row-beat i k e in clean .thin (p .0) k (p .1);
-        rows = λ t r k h e. clean .inside r k (beat-row t r k h e);
-        edge = λ t k e. row-empty s (t * 36) k (beats .edge t) e;
-      }
+    long = beats .long;
+    thin = λ i k e. let p = row-beat i k e in clean .thin (p .0) k (p .1);
+    rows = λ t r k h e. clean .inside r k (beat-row t r k h e);
+    edge = λ t k e. row-empty s (t * 36) k (beats .edge t) e;
+  }
 
 and-all : (b : Bool) → (b && true) ≡ b
 and-all true = refl
@@ -139,9 +139,9 @@ free-stands g free m s t c thin room same = ⊎-elim inside outside (lt-or-le c 
 pub free-roomy : (g : Scene) (free m s : List ℕ) (n : ℕ) → 1 ≤ g .width → g .cells ≤ 32 * g .width → g .horizon < n →
     FreeBeats free n s → Clean (g .width) (g .cells) free → Roomy g 0 free m s
 free-roomy g free m s n thin room late beats clean = record {
-      tidy = free-tidy g free s n beats clean;
-      agrees = λ t c h. free-stands g free m s t c thin room (λ r l. beats .shown t r (omega arith) l);
-    }
+  tidy = free-tidy g free s n beats clean;
+  agrees = λ t c h. free-stands g free m s t c thin room (λ r l. beats .shown t r (omega arith) l);
+}
 
 module _ (g : Scene) (s : List ℕ) (a x : ℕ) (thin : 1 ≤ g .width) (room : g .cells ≤ 32 * g .width) (tidy : Tidy g s) (here : a < 64) where
   -- The table without cell x at beat a.
@@ -179,11 +179,11 @@ module _ (g : Scene) (s : List ℕ) (a x : ℕ) (thin : 1 ≤ g .width) (room : 
 
   less-tidy : Tidy g less
   less-tidy = record {
-        long = less-length ∙ tidy .long;
-        thin = λ i k e. tidy .thin i k (less-fewer i k e);
-        rows = λ t r k h e. tidy .rows t r k h (less-fewer (t * 36 + 1 + r) k e);
-        edge = λ t k e. tidy .edge t k (less-fewer (t * 36) k e);
-      }
+    long = less-length ∙ tidy .long;
+    thin = λ i k e. tidy .thin i k (less-fewer i k e);
+    rows = λ t r k h e. tidy .rows t r k h (less-fewer (t * 36 + 1 + r) k e);
+    edge = λ t k e. tidy .edge t k (less-fewer (t * 36) k e);
+  }
 
   -- Two cells have one place exactly if they are one.
   same-place : (c : ℕ) → (eqb (a * 36 + 1 + c / g .width) (a * 36 + 1 + x / g .width) && eqb (c % g .width) (x % g .width)) ≡ eqb c x
