@@ -1,13 +1,14 @@
 -- Rows of a list that are rewritten in blocks of eight.
 use Prim.Native.Nat.{ℕ, _+_, _*_, _-_, _≤_, _<_}
 use native.Mathlib.Omega.{arith}
+use native.Mathlib.Nat.{add-assoc}
 use mathlib.Core.List.{List}
 use mathlib.Core.Logic.{_⊎_, inl, inr, ⊎-elim}
 use mathlib.Core.Path.{_≡_, refl, _∙_}
-use lib.ListN.{length, getD}
+use lib.ListN.{length, getD, replicate, length-replicate}
 use Rattle.route.proofs.Tests.{lt-or-le}
-use Rattle.words.specs.Rows.{written}
-use Rattle.words.proofs.FillLaws.{length-written, written-in, written-out}
+use Rattle.words.specs.Rows.{written, filled}
+use Rattle.words.proofs.FillLaws.{length-written, written-in, written-out, filled-in}
 use Rattle.search.specs.Table.{Rewritten}
 
 -- No rows rewritten.
@@ -34,13 +35,22 @@ module _ (s q x : List ℕ) (f : ℕ → ℕ) (i b : ℕ) (fits : i + 8 * b + 8 
   -- The table with one more block.
   block-made : Rewritten s f i (8 * (b + 1)) (written q (i + 8 * b) x 8)
   block-made = record {
-    long = length-written q (i + 8 * b) x 8 ∙ old .long;
-    inside = λ r l.
-        ⊎-elim (block-old r) (λ (h : 8 * b ≤ r). block-new r (r - 8 * b) (omega arith) (omega arith)) (lt-or-le r (8 * b));
-    outside = block-out;
-  }
+        long = length-written q (i + 8 * b) x 8 ∙ old .long;
+        inside = λ r l.
+            ⊎-elim (block-old r) (λ (h : 8 * b ≤ r). block-new r (r - 8 * b) (omega arith) (omega arith)) (lt-or-le r (8 * b));
+        outside = block-out;
+      }
 
 -- One more block of eight rows.
 pub rewritten-more : (s q x r : List ℕ) (f : ℕ → ℕ) (i b : ℕ) → i + 8 * b + 8 ≤ length s → Rewritten s f i (8 * b) q →
     r ≡ written q (i + 8 * b) x 8 → ((j : ℕ) → j < 8 → getD x j 0 ≡ f (8 * b + j)) → Rewritten s f i (8 * (b + 1)) r
 rewritten-more s q x r f i b fits old e says = rw e (block-made s q x f i b fits old says)
+
+-- Eight rows that were read.
+pub eight-rows : (x m : List ℕ) (k : ℕ) → x ≡ filled (replicate 8 0) (λ r. getD m (k + r) 0) 8 → (j : ℕ) → j < 8 → getD x j 0 ≡ getD m (k + j) 0
+eight-rows x m k e j h = rw e (filled-in (replicate 8 0) (λ r. getD m (k + r) 0) 8 j (omega (arith, length-replicate {A = ℕ} 8 0)) h)
+
+-- The same where the first of them is the sum of two numbers.
+pub eight-after : (x m : List ℕ) (i k : ℕ) → x ≡ filled (replicate 8 0) (λ r. getD m (i + k + r) 0) 8 → (j : ℕ) → j < 8 →
+    getD x j 0 ≡ getD m (i + (k + j)) 0
+eight-after x m i k e j h = rw (← add-assoc i k j) (eight-rows x m (i + k) e j h)

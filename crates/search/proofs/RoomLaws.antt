@@ -14,21 +14,15 @@ use Rattle.route.specs.Moves.{vacant, every}
 use Rattle.route.specs.Route.{View}
 use Rattle.route.proofs.Tests.{and-fst, lt-or-le, true-false-absurd, eqbs-say, eqbs-hold}
 use Rattle.words.specs.Words.{digit}
-use Rattle.words.specs.Rows.{has, filled, droppedAt, Clean}
+use Rattle.words.specs.Rows.{has, droppedAt, Clean}
 use Rattle.words.proofs.DigitLaws.{digit-zero}
-use Rattle.words.proofs.FillLaws.{zeros-row, filled-in}
+use Rattle.words.proofs.FillLaws.{zeros-row}
 use Rattle.words.proofs.RowsLaws.{place-row, has-dropped, length-dropped, dropped-inside, dropped-outside}
 use Rattle.words.proofs.Tests.{same-test}
 use Rattle.search.specs.declared.Scene.{Scene}
 use Rattle.search.specs.Views.{records, viewAt, spotOf}
 use Rattle.search.specs.Table.{inSet, Tidy, Rewritten, FreeBeats, TakenBeats, standsAt, Roomy}
 use Rattle.search.proofs.ViewsLaws.{vacant-spot}
-
--- A row of eight that are read from row i on.
-pub eight-row : (s x : List ℕ) (i : ℕ) → x ≡ filled (replicate 8 0) (λ r. getD s (i + r) 0) 8 → (j : ℕ) → j < 8 →
-    getD x j 0 ≡ getD s (i + j) 0
-eight-row s x i e j h =
-    rw e (filled-in (replicate 8 0) (λ r. getD s (i + r) 0) 8 j (omega (arith, length-replicate {A = ℕ} 8 0)) h)
 
 -- An empty table has the free rows at no beat.
 pub free-none : (free s : List ℕ) → s ≡ replicate 2304 0 → FreeBeats free 0 s

@@ -6,8 +6,7 @@ use mathlib.Core.Path.{_≡_}
 use borrow.Author.Needs.{needs}
 use lib.ListN.{getD}
 use Rattle.search.specs.Table.{Rewritten}
-use Rattle.search.proofs.RewriteLaws.{rewritten-none, rewritten-more}
-use Rattle.search.proofs.RoomLaws.{eight-row}
+use Rattle.search.proofs.RewriteLaws.{rewritten-none, rewritten-more, eight-rows}
 use Rattle.search.proofs.room.copy_free.Statement.{statement}
 use Rattle.search.proofs.room.copy_free.Tie as tie
 
@@ -48,7 +47,7 @@ loop-again c =
     let c₄ = c .before .before .before .before in (
       search needs,
       rewritten-more _ _ _ _ _ _ _ (omega arith) (c₆ .loop .inv .1) (c .before .before .put-eight .ensures)
-          (eight-row (c₉ .args .free .now) _ (8 * c₆ .loop .b) (c₄ .eight .ensures)),
+          (eight-rows _ (c₉ .args .free .now) (8 * c₆ .loop .b) (c₄ .eight .ensures)),
     )
 
 same-length : tie.Need-same-length Inv-loop μ-loop
