@@ -6,7 +6,7 @@ use native.Mathlib.Numerals.{add-one}
 use mathlib.Core.Bool.{Bool, true, false, _&&_, not}
 use mathlib.Core.List.{List}
 use mathlib.Core.Logic.{_⊎_, inl, inr, ⊎-elim}
-use mathlib.Core.Path.{_≡_, refl, sym, ap, _∙_}
+use mathlib.Core.Path.{_≡_, refl, sym, ap, ap₂, _∙_}
 use borrow.Author.Tests.{eqb-true, eq-eqb, ne-eqb, lt-ltb, le-ltb}
 use lib.Dec.{eqb, ltb}
 use lib.ListN.{length, getD, replicate, length-replicate}
@@ -333,3 +333,45 @@ roomy-more g free m s q j narrow room short gone old = record { tidy = gone .tid
     agrees : (t c : ℕ) → t ≤ g .horizon → inSet g q t c ≡ standsAt g (j + 1) free m t c
     agrees t c h =
         gone .taken t c (omega arith) ∙ rw (old .agrees t c h, add-one) (stands-more g free m j t c narrow room (omega arith))
+
+-- A view's cell depends on its record alone.
+spot-same : (m q : List ℕ) (j t : ℕ) → ((i : ℕ) → i < 65 * j + 65 → getD m i 0 ≡ getD q i 0) → t < 64 → spotOf m j t ≡ spotOf q j t
+unfolding spotOf
+spot-same m q j t same h =
+    ap₂ (λ (tag cell : ℕ). elim (eqb tag 2) [ true ↦ cell | false ↦ 65535 ]) (same (65 * j) (omega arith))
+    (same (65 * j + 1 + t) (omega arith))
+
+-- A cell is vacant among the first k views as their records say.
+vacant-same : (m q : List ℕ) (k t c : ℕ) → ((i : ℕ) → i < 65 * k → getD m i 0 ≡ getD q i 0) → t < 64 → c < 65535 →
+    every (vacant t c) (records m k) ≡ every (vacant t c) (records q k)
+unfolding every records
+vacant-same m q zero t c same h l = refl
+vacant-same m q (suc k) t c same h l =
+    rw (
+      vacant-spot m k t c h l,
+      vacant-spot q k t c h l,
+      spot-same m q k t (λ i u. same i (omega arith)) h,
+      vacant-same m q k t c (λ i u. same i (omega arith)) h l,
+    )
+
+-- What can be stood on depends on the views' records alone.
+stands-same : (g : Scene) (free m q : List ℕ) (k t c : ℕ) → g .width ≤ 32 → g .cells ≤ 32 * g .width →
+    ((i : ℕ) → i < 65 * k → getD m i 0 ≡ getD q i 0) → t < 64 → standsAt g k free m t c ≡ standsAt g k free q t c
+unfolding standsAt
+stands-same g free m q k t c narrow room same h = ⊎-elim inside outside (lt-or-le c (g .cells))
+  where
+    inside : c < g .cells → (ltb c (g .cells) && has free (c / g .width) (c % g .width) && every (vacant t c) (records m k)) ≡
+        (ltb c (g .cells) && has free (c / g .width) (c % g .width) && every (vacant t c) (records q k))
+    inside l = rw (vacant-same m q k t c same h (omega arith))
+
+    outside : g .cells ≤ c → (ltb c (g .cells) && has free (c / g .width) (c % g .width) && every (vacant t c) (records m k)) ≡
+        (ltb c (g .cells) && has free (c / g .width) (c % g .width) && every (vacant t c) (records q k))
+    outside l = rw (le-ltb c (g .cells) l)
+
+-- The room among the first k views is the same in any memory with the same records of them.
+pub roomy-same : (g : Scene) (free m q s : List ℕ) (k : ℕ) → g .width ≤ 32 → g .cells ≤ 32 * g .width → g .horizon ≤ 63 →
+    ((i : ℕ) → i < 65 * k → getD m i 0 ≡ getD q i 0) → Roomy g k free m s → Roomy g k free q s
+roomy-same g free m q s k narrow room short same old = record {
+  tidy = old .tidy;
+  agrees = λ t c h. old .agrees t c h ∙ stands-same g free m q k t c narrow room same (omega arith);
+}
