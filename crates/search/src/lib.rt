@@ -28,8 +28,8 @@ ghost use Rattle.floor.specs.Checks.{within};
 ghost use Rattle.route.specs.Route.{none as Route·none, route as Route·route};
 ghost use Rattle.route.specs.Search.{best};
 ghost use Rattle.search.specs.Answers.{answered, turned, Says};
-ghost use Rattle.words.specs.Rows.{filled};
-ghost use Rattle.search.specs.Table.{sceneOf, Fits, Fitting, Roomy, Windowed, Traced, inSet};
+ghost use Rattle.words.specs.Rows.{filled, Clean};
+ghost use Rattle.search.specs.Table.{sceneOf, Fits, Fitting, Roomy, Tidy, Windowed, Traced, inSet};
 ghost use Rattle.search.specs.Passes.{pathOf};
 ghost use Rattle.search.specs.Search.{requestOf, searchOf};
 ghost use Rattle.search.specs.Task.{taskOfRows};
@@ -199,4 +199,29 @@ pub fn search(f: Floor, walls: &[u16], carrier: u16, views: &[u16]) -> Found
         return best_route(f, free_rows(f, walls), carrier, views);
     };
     refused(x)
+}
+
+// A table of empty sets, for a room.
+pub fn no_room() -> [u32; 2304]
+    ensures { λ r. ⌜ r ≡ replicate 2304 0 ⌝ }
+{
+    table::empty()
+}
+
+// The room that the free cells of a floor leave, in an empty table.
+pub fn fill_room(f: Floor, free: [u32; 32], room: &mut [u32])
+    requires { ⌜ (1 ≤ f .width) × (f .width ≤ 32) × (f .height ≤ 32) × (f .horizon ≤ 63) ⌝ }
+    requires { ⌜ (length free ≡ 32) × Clean (f .width) (f .width * f .height) free × (now room ≡ replicate 2304 0) ⌝ }
+    ensures { λ r. ⌜ ((m : List ℕ) → Roomy (sceneOf f) 0 free m (now (room .exit))) ⌝ }
+{
+    room::fill_free(room, &free, f.horizon as usize + 1);
+}
+
+// Takes the cells of view j, besides those of the views before it, out of the room.
+pub fn take_route(f: Floor, room: &mut [u32], views: &[u16], j: usize)
+    requires { ⌜ (1 ≤ f .width) × (f .width ≤ 32) × (f .height ≤ 32) × (f .horizon ≤ 63) ⌝ }
+    requires { ⌜ (65 * j + 65 ≤ length (now views)) × Tidy (sceneOf f) (now room) ⌝ }
+    ensures { λ r. ⌜ ((free : List ℕ) → Roomy (sceneOf f) j free (now (views .entry)) (now (room .entry)) → Roomy (sceneOf f) (j + 1) free (now (views .entry)) (now (room .exit))) ⌝ }
+{
+    room::take_one(scene_of(f), room, views, j);
 }

@@ -22,7 +22,7 @@ fn copy_free(room: &mut [u32], free: &[u32], i: usize)
 }
 
 // The free cells at the first n beats of an empty table.
-fn fill_free(room: &mut [u32], free: &[u32], n: usize)
+pub fn fill_free(room: &mut [u32], free: &[u32], n: usize)
     requires { ⌜ (now room ≡ replicate 2304 0) × (length (now free) ≡ 32) × (n ≤ 64) ⌝ }
     ensures { λ r. ⌜ FreeBeats (now (free .entry)) n (now (room .exit)) ⌝ }
 {

@@ -1,52 +1,53 @@
-use borrow.Author.Needs.{needs}
+-- `search::room::fill_free` meets its contract. The loop's invariant: the free rows stand at the beats passed. The measure is what is
+-- left of the beats. Assumes nothing.
+use Prim.Native.Nat.{ℕ, _-_, _≤_}
 use native.Mathlib.Omega.{arith}
+use mathlib.Core.Path.{_≡_, sym, ap, _∙_}
+use borrow.Author.Needs.{needs}
+use lib.ListN.{length, length-replicate}
+use Rattle.search.specs.Table.{FreeBeats}
+use Rattle.search.proofs.RoomLaws.{free-none, free-more}
 use Rattle.search.proofs.room.fill_free.Statement.{statement}
 use Rattle.search.proofs.room.fill_free.Tie as tie
-use Rattle.search.proofs.room.fill_free.Reads as reads
-use Rattle.search.proofs.room.fill_free.Lts as lts
-use Rattle.search.proofs.room.copy_free.Reads as copy-free-reads
 
 abbrev Inv-loop : tie.InvT-loop
-Inv-loop room₀ free n t₀ room t = ?
+Inv-loop room₀ free n t₀ room t = (t ≤ n) × FreeBeats free t room
 
 abbrev μ-loop : tie.MeasureT-loop
-μ-loop room₀ free n t₀ room t = ?
+μ-loop room₀ free n t₀ room t = n - t
 
--- src/room.rt:30:5
 loop-holds : tie.Need-loop-holds Inv-loop μ-loop
-loop-holds c = ?
+loop-holds c = (search needs, free-none _ _ (c .before .before .pre .0))
 
--- src/room.rt:31:31
 mul-copy-free : tie.Need-mul-copy-free Inv-loop μ-loop
-mul-copy-free c = ?
+mul-copy-free c = search needs
 
--- src/room.rt:31:31
 add-copy-free : tie.Need-add-copy-free Inv-loop μ-loop
-add-copy-free c = ?
+add-copy-free c = search needs
 
--- src/room.rt:31:9
 copy-free-requires : tie.Need-copy-free-requires Inv-loop μ-loop
-copy-free-requires c κs = ?
+copy-free-requires c κs = (omega (arith, c .before .before .loop .inv .1 .long), c .before .before .before .before .before .pre .1)
 
--- src/room.rt:32:9
 add-t : tie.Need-add-t Inv-loop μ-loop
-add-t c = ?
+add-t c = search needs
 
--- src/room.rt:30:5
 loop-less : tie.Need-loop-less Inv-loop μ-loop
-loop-less c = ?
+loop-less c = omega arith
 
--- src/room.rt:30:5
 loop-again : tie.Need-loop-again Inv-loop μ-loop
-loop-again c = ?
+loop-again c =
+    let c₅ = c .before .before .before .before .before in
+    (search needs, free-more _ _ _ _ (c₅ .loop .inv .1) (c .before .before .copy-free .ensures))
 
--- src/room.rt:25:1
 same-length : tie.Need-same-length Inv-loop μ-loop
-same-length c = ?
+same-length c =
+    let c₄ = c .before .before .before .before in
+    c .before .loop .inv .1 .long ∙ sym (ap length (c₄ .pre .0) ∙ length-replicate {A = ℕ} 2304 0)
 
--- src/room.rt:25:1
 returns : tie.Need-returns Inv-loop μ-loop
-returns c = ?
+returns c =
+    let c₄ = c .before .before .before .before in
+    let e : c .before .loop .t ≡ c₄ .args .n = omega arith in rw e at (c .before .loop .inv .1)
 
 pub fill-free-spec : {M : Type 1} → statement M
 fill-free-spec =

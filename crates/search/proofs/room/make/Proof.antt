@@ -1,53 +1,63 @@
-use borrow.Author.Needs.{needs}
+-- `search::room::make` meets its contract. The loop's invariant: the room is that of the views passed. The measure is what is left of
+-- the views. Assumes nothing.
+use Prim.Native.Nat.{ℕ, _-_, _≤_}
 use native.Mathlib.Omega.{arith}
+use mathlib.Core.Path.{_≡_, sym, ap, _∙_}
+use borrow.Author.Needs.{needs}
+use lib.ListN.{length, length-replicate}
+use Rattle.search.specs.Table.{Roomy}
+use Rattle.search.proofs.RoomLaws.{free-roomy}
 use Rattle.search.proofs.room.make.Statement.{statement}
 use Rattle.search.proofs.room.make.Tie as tie
-use Rattle.search.proofs.room.make.Reads as reads
-use Rattle.search.proofs.room.make.Lts as lts
-use Rattle.search.proofs.room.fill_free.Reads as fill-free-reads
-use Rattle.search.proofs.room.take_one.Reads as take-one-reads
 
 abbrev Inv-loop : tie.InvT-loop
-Inv-loop g k room₀ free views j₀ room j = ?
+Inv-loop g k room₀ free views j₀ room j = (j ≤ k) × Roomy g j free views room
 
 abbrev μ-loop : tie.MeasureT-loop
-μ-loop g k room₀ free views j₀ room j = ?
+μ-loop g k room₀ free views j₀ room j = k - j
 
--- src/room.rt:68:27
 add-fill-free : tie.Need-add-fill-free Inv-loop μ-loop
-add-fill-free c = ?
+add-fill-free c = omega (arith, c .before .before .before .before .before .pre .0 .0 .short)
 
--- src/room.rt:68:5
 fill-free-requires : tie.Need-fill-free-requires Inv-loop μ-loop
-fill-free-requires c κs = ?
+fill-free-requires c κs =
+    let c₅ = c .before .before .before .before .before in
+    (c₅ .pre .1, c₅ .pre .0 .2, omega (arith, c₅ .pre .0 .0 .short))
 
--- src/room.rt:70:5
 loop-holds : tie.Need-loop-holds Inv-loop μ-loop
-loop-holds c = ?
+loop-holds c =
+    let c₈ = c .before .before .before .before .before .before .before .before in (
+      search needs,
+      free-roomy _ _ _ _ _ (c₈ .pre .0 .0 .thin) (c₈ .pre .0 .0 .room) (omega arith)
+          (c .before .before .fill-free .ensures) (c₈ .pre .0 .1),
+    )
 
--- src/room.rt:71:9
 take-one-requires : tie.Need-take-one-requires Inv-loop μ-loop
-take-one-requires c κs = ?
+take-one-requires c κs =
+    let c₁₁ = c .before .before .before .before .before .before .before .before .before .before .before in
+    let f = c₁₁ .pre .0 .0 in (
+      (f .thin, f .narrow, f .room, f .scaled),
+      (omega (arith, f .lent), f .short, c .before .before .loop .inv .1 .tidy),
+    )
 
--- src/room.rt:72:9
 add-j : tie.Need-add-j Inv-loop μ-loop
-add-j c = ?
+add-j c = search needs
 
--- src/room.rt:70:5
 loop-less : tie.Need-loop-less Inv-loop μ-loop
-loop-less c = ?
+loop-less c = omega arith
 
--- src/room.rt:70:5
 loop-again : tie.Need-loop-again Inv-loop μ-loop
-loop-again c = ?
+loop-again c = (search needs, c .before .before .take-one .ensures _ (c .before .before .before .before .before .loop .inv .1))
 
--- src/room.rt:63:1
 same-length : tie.Need-same-length Inv-loop μ-loop
-same-length c = ?
+same-length c =
+    let c₁₀ = c .before .before .before .before .before .before .before .before .before .before in
+    c .before .loop .inv .1 .tidy .long ∙ sym (ap length (c₁₀ .pre .1) ∙ length-replicate {A = ℕ} 2304 0)
 
--- src/room.rt:63:1
 returns : tie.Need-returns Inv-loop μ-loop
-returns c = ?
+returns c =
+    let c₁₀ = c .before .before .before .before .before .before .before .before .before .before in
+    let e : c .before .loop .j ≡ c₁₀ .args .k = omega arith in rw e at (c .before .loop .inv .1)
 
 pub make-spec : {M : Type 1} → statement M
 make-spec =

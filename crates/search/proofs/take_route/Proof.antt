@@ -1,0 +1,25 @@
+-- `search::take_route` meets its contract: the room of one more view in the scene of the floor. Assumes nothing.
+use mathlib.Core.Path.{refl}
+use Rattle.search.specs.Table.{sceneOf}
+use Rattle.search.proofs.GridLaws.{grid-room}
+use Rattle.search.proofs.take_route.Statement.{statement}
+use Rattle.search.proofs.take_route.Tie as tie
+
+scene-of-requires : tie.Need-scene-of-requires
+scene-of-requires c κs = (c .before .before .pre .0 .0, c .before .before .pre .0 .1, c .before .before .pre .0 .2)
+
+take-one-requires : tie.Need-take-one-requires
+unfolding sceneOf
+take-one-requires c κs =
+    let c₄ = c .before .before .before .before in
+    rw (c .before .scene-of .ensures)
+    ((c₄ .pre .0 .0, c₄ .pre .0 .1, grid-room _ _ (c₄ .pre .0 .2), refl), (c₄ .pre .1 .0, c₄ .pre .0 .3, c₄ .pre .1 .1))
+
+same-length : tie.Need-same-length
+same-length c = c .before .before .take-one .kept .1 .0
+
+returns : tie.Need-returns
+returns c = rw (c .before .before .before .before .scene-of .ensures) at (c .before .before .take-one .ensures)
+
+pub take-route-spec : {M : Type 1} → statement M
+take-route-spec = tie.close (tie.spec scene-of-requires take-one-requires same-length returns)
