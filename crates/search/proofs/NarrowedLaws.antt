@@ -103,6 +103,10 @@ module _ (g : Scene) (k : ℕ) (v : Window) (m s q : List ℕ) (a b : ℕ) (fits
         within = λ t i j h e. windowed .within t i j h (less (t * 36 + 1 + i) j e);
       }
 
+  -- The table stays tidy.
+  pub quick-tidy : Tidy g q
+  quick-tidy = tidy-of q (x .long) fewer .tidy
+
   quick-other : (t c : ℕ) → (t ≡ b → ⊥) → inSet g q t c ≡ inSet g s t c
   quick-other t c n =
       set-same g s q t c (fits .thin) (fits .room)

@@ -35,11 +35,11 @@ module _ (s q x : List ℕ) (f : ℕ → ℕ) (i b : ℕ) (fits : i + 8 * b + 8 
   -- The table with one more block.
   block-made : Rewritten s f i (8 * (b + 1)) (written q (i + 8 * b) x 8)
   block-made = record {
-        long = length-written q (i + 8 * b) x 8 ∙ old .long;
-        inside = λ r l.
-            ⊎-elim (block-old r) (λ (h : 8 * b ≤ r). block-new r (r - 8 * b) (omega arith) (omega arith)) (lt-or-le r (8 * b));
-        outside = block-out;
-      }
+    long = length-written q (i + 8 * b) x 8 ∙ old .long;
+    inside = λ r l.
+        ⊎-elim (block-old r) (λ (h : 8 * b ≤ r). block-new r (r - 8 * b) (omega arith) (omega arith)) (lt-or-le r (8 * b));
+    outside = block-out;
+  }
 
 -- One more block of eight rows.
 pub rewritten-more : (s q x r : List ℕ) (f : ℕ → ℕ) (i b : ℕ) → i + 8 * b + 8 ≤ length s → Rewritten s f i (8 * b) q →

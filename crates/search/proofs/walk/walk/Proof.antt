@@ -1,3 +1,10 @@
+use Prim.Native.Nat.{ℕ, _+_, _*_, _-_, _≤_, _<_}
+use mathlib.Core.Path.{_≡_, refl, sym, ap, _∙_}
+use lib.ListN.{replicate}
+use Rattle.words.specs.Rows.{filled}
+use Rattle.words.proofs.FillLaws.{filled-none, filled-more}
+use Rattle.search.specs.Passes.{pathOf}
+use Rattle.search.proofs.TurnLaws.{path-none, path-more}
 use borrow.Author.Needs.{needs}
 use native.Mathlib.Omega.{arith}
 use Rattle.search.proofs.walk.walk.Statement.{statement}
@@ -7,54 +14,54 @@ use Rattle.search.proofs.walk.walk.Lts as lts
 use Rattle.search.proofs.walk.follow.Reads as follow-reads
 
 abbrev Inv-loop : tie.InvT-loop
-Inv-loop g k sets room views start goal a r₀ c₀ t₀ r c t = ?
+Inv-loop g k sets room views start goal a r₀ c₀ t₀ r c t = (t ≤ g .horizon) × (c < g .cells) × (c ≡ pathOf g k views sets start goal a t) × (r ≡ filled (replicate 64 0) (pathOf g k views sets start goal a) (t + 1))
 
 abbrev μ-loop : tie.MeasureT-loop
-μ-loop g k sets room views start goal a r₀ c₀ t₀ r c t = ?
+μ-loop g k sets room views start goal a r₀ c₀ t₀ r c t = g .horizon - t
 
 -- src/walk.rt:32:12
 cast-r : tie.Need-cast-r Inv-loop μ-loop
-cast-r c = ?
+cast-r c = let f = c .before .before .before .pre .0 .0 in omega (arith, f .room, f .narrow, c .before .before .before .pre .0 .2)
 
 -- src/walk.rt:32:5
 array-write-r : tie.Need-array-write-r Inv-loop μ-loop
-array-write-r c = ?
+array-write-r c = search needs
 
 -- src/walk.rt:35:5
 loop-holds : tie.Need-loop-holds Inv-loop μ-loop
-loop-holds c = ?
+loop-holds c = (search needs, c .before .before .before .pre .0 .2, path-none _ _ _ _ _ _ _, filled-more _ _ 0 _ _ (filled-none _ _) (path-none _ _ _ _ _ _ _))
 
 -- src/walk.rt:36:9
 follow-requires : tie.Need-follow-requires Inv-loop μ-loop
-follow-requires c κs = ?
+follow-requires c κs = ((c .before .before .before .before .before .before .pre .0 .0, c .before .before .before .before .before .before .pre .0 .1, c .if1 .taken, c .before .before .loop .inv .1, c .before .before .before .before .before .before .pre .0 .3), c .before .before .before .before .before .before .pre .1)
 
 -- src/walk.rt:37:9
 add-t : tie.Need-add-t Inv-loop μ-loop
-add-t c = ?
+add-t c = let f = c .before .before .before .before .before .before .before .pre .0 .0 in omega (arith, f .short, c .before .if1 .taken)
 
 -- src/walk.rt:38:16
 cast-r-2 : tie.Need-cast-r-2 Inv-loop μ-loop
-cast-r-2 c = ?
+cast-r-2 c = let f = c .before .before .before .before .before .before .before .pre .0 .0 in omega (arith, f .room, f .narrow, c .follow .ensures .1)
 
 -- src/walk.rt:38:9
 mul-r : tie.Need-mul-r Inv-loop μ-loop
-mul-r c = ?
+mul-r c = let f = c .before .before .before .before .before .before .before .pre .0 .0 in omega (arith, f .short, c .before .if1 .taken)
 
 -- src/walk.rt:38:9
 array-write-r-2 : tie.Need-array-write-r-2 Inv-loop μ-loop
-array-write-r-2 c = ?
+array-write-r-2 c = let f = c .before .before .before .before .before .before .before .pre .0 .0 in omega (arith, f .short, c .before .if1 .taken)
 
 -- src/walk.rt:35:5
 loop-less : tie.Need-loop-less Inv-loop μ-loop
-loop-less c = ?
+loop-less c = omega (arith, c .before .if1 .taken)
 
 -- src/walk.rt:35:5
 loop-again : tie.Need-loop-again Inv-loop μ-loop
-loop-again c = ?
+loop-again c = let e = path-more _ _ _ _ _ _ _ _ _ _ (c .before .before .before .loop .inv .2) (c .follow .ensures .0) in (omega (arith, c .before .if1 .taken), c .follow .ensures .1, e, filled-more _ _ _ _ _ (c .before .before .before .loop .inv .3) e)
 
 -- src/walk.rt:26:1
 returns : tie.Need-returns Inv-loop μ-loop
-returns c = ?
+returns c = let e : c .before .before .loop .t ≡ c .before .before .before .before .before .before .args .g .horizon = omega (arith, c .before .before .loop .inv .0, c .if1 .left) in rw e at (c .before .before .loop .inv .3)
 
 pub walk-spec : {M : Type 1} → statement M
 walk-spec =
