@@ -10,6 +10,7 @@ pub mod CrossLaws
 pub mod AroundLaws
 pub mod LayLaws
 pub mod EndLaws
+pub mod LaidLaws
 pub mod RoomLaws
 pub mod WayLaws
 pub mod NextLaws

@@ -95,11 +95,11 @@ module _ (g : Scene) (k : ℕ) (v : Window) (m s q : List ℕ) (a b : ℕ) (fits
   tidy-of r long less =
       record {
         tidy = record {
-            long = long ∙ windowed .tidy .long;
-            thin = λ i j e. windowed .tidy .thin i j (less i j e);
-            rows = λ t i j h e. windowed .tidy .rows t i j h (less (t * 36 + 1 + i) j e);
-            edge = λ t j e. windowed .tidy .edge t j (less (t * 36) j e);
-          };
+          long = long ∙ windowed .tidy .long;
+          thin = λ i j e. windowed .tidy .thin i j (less i j e);
+          rows = λ t i j h e. windowed .tidy .rows t i j h (less (t * 36 + 1 + i) j e);
+          edge = λ t j e. windowed .tidy .edge t j (less (t * 36) j e);
+        };
         within = λ t i j h e. windowed .within t i j h (less (t * 36 + 1 + i) j e);
       }
 

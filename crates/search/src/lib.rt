@@ -95,7 +95,17 @@ pub fn scene_of(f: Floor) -> Scene
 }
 
 // The route to the goal with its least arrival a, along a table of the sets that the start reaches.
-fn along(g: Scene, k: usize, v: Window, sets: &mut [u32], room: &[u32], views: &[u16], start: usize, goal: usize, a: usize) -> Found
+fn along(
+    g: Scene,
+    k: usize,
+    v: Window,
+    sets: &mut [u32],
+    room: &[u32],
+    views: &[u16],
+    start: usize,
+    goal: usize,
+    a: usize,
+) -> Found
     requires { ⌜ Fits g k (now views) × Fitting g v × (start < g .cells) × (goal < g .cells) × (a ≤ v .limit) ⌝ }
     requires { ⌜ ((free : List ℕ) × Roomy g k free (now views) (now room)) ⌝ }
     requires { ⌜ Windowed g v (now sets) × (inSet g (now sets) a goal ≡ true) ⌝ }

@@ -4,13 +4,22 @@ ghost use mathlib.Core.List.{List};
 ghost use Prim.Native.Nat.{ℕ, _+_, _*_, _/_, _≤_, _<_};
 ghost use Rattle.search.specs.Table.{Fits, Roomy, Tidy, Mended, MendedCell, Apart};
 ghost use Rattle.search.specs.Views.{spotOf};
-use crate::next::next;
 use crate::Scene;
+use crate::next::next;
 use crate::table::member;
 use crate::views::spot;
 
 // Takes cell d out of the set of beat b if no open way leads to it from the set of beat a.
-fn mend_cell(g: Scene, k: usize, sets: &mut [u32], room: &[u32], views: &[u16], a: usize, b: usize, d: usize)
+fn mend_cell(
+    g: Scene,
+    k: usize,
+    sets: &mut [u32],
+    room: &[u32],
+    views: &[u16],
+    a: usize,
+    b: usize,
+    d: usize,
+)
     requires { ⌜ Fits g k (now views) × (a ≤ g .horizon) × (b ≤ g .horizon) × Apart (a * 36) (b * 36) × (d < g .cells) ⌝ }
     requires { ⌜ ((free : List ℕ) × Roomy g k free (now views) (now room)) × Tidy g (now sets) ⌝ }
     ensures { λ r. ⌜ MendedCell g k (now (views .entry)) (now (sets .entry)) a b d (now (sets .exit)) ⌝ }
@@ -23,7 +32,16 @@ fn mend_cell(g: Scene, k: usize, sets: &mut [u32], room: &[u32], views: &[u16], 
 }
 
 // The same for the cell that view j is in at beat a.
-fn mend_view(g: Scene, k: usize, sets: &mut [u32], room: &[u32], views: &[u16], a: usize, b: usize, j: usize)
+fn mend_view(
+    g: Scene,
+    k: usize,
+    sets: &mut [u32],
+    room: &[u32],
+    views: &[u16],
+    a: usize,
+    b: usize,
+    j: usize,
+)
     requires { ⌜ Fits g k (now views) × (a ≤ g .horizon) × (b ≤ g .horizon) × Apart (a * 36) (b * 36) × (j < k) ⌝ }
     requires { ⌜ ((free : List ℕ) × Roomy g k free (now views) (now room)) × Tidy g (now sets) ⌝ }
     ensures { λ r. ⌜ MendedCell g k (now (views .entry)) (now (sets .entry)) a b (spotOf (now (views .entry)) j a) (now (sets .exit)) ⌝ }

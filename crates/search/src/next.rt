@@ -44,7 +44,17 @@ fn leads(
 }
 
 // The smallest near cell of d in the set of beat a from which the way to d at beat b is open; another number where there is none.
-pub fn next(g: Scene, k: usize, sets: &[u32], room: &[u32], views: &[u16], a: usize, b: usize, d: usize, other: usize) -> usize
+pub fn next(
+    g: Scene,
+    k: usize,
+    sets: &[u32],
+    room: &[u32],
+    views: &[u16],
+    a: usize,
+    b: usize,
+    d: usize,
+    other: usize,
+) -> usize
     requires { ⌜ Fits g k (now views) × Tidy g (now sets) × (a ≤ g .horizon) × (b ≤ g .horizon) × (d < g .cells) ⌝ }
     requires { ⌜ ((free : List ℕ) × Roomy g k free (now views) (now room)) ⌝ }
     ensures { λ r. ⌜ r ≡ nextOf (leadsOf g k (now (views .entry)) (now (sets .entry)) a b d) (g .width) d other ⌝ }
@@ -59,13 +69,39 @@ pub fn next(g: Scene, k: usize, sets: &[u32], room: &[u32], views: &[u16], a: us
         return up;
     }
     let left = minus(d, 1);
-    if leads(g, k, sets, views, clear, 0 < q, i, minus(q, 1), a, b, left, d) {
+    if leads(
+        g,
+        k,
+        sets,
+        views,
+        clear,
+        0 < q,
+        i,
+        minus(q, 1),
+        a,
+        b,
+        left,
+        d,
+    ) {
         return left;
     }
     if leads(g, k, sets, views, clear, true, i, q, a, b, d, d) {
         return d;
     }
-    if leads(g, k, sets, views, clear, q + 1 < w, i, q + 1, a, b, d + 1, d) {
+    if leads(
+        g,
+        k,
+        sets,
+        views,
+        clear,
+        q + 1 < w,
+        i,
+        q + 1,
+        a,
+        b,
+        d + 1,
+        d,
+    ) {
         return d + 1;
     }
     if leads(g, k, sets, views, clear, true, i + 1, q, a, b, d + w, d) {

@@ -6,13 +6,13 @@ ghost use Prim.Native.Nat.{ℕ, _+_, _*_, _/_, _≤_, _<_};
 ghost use lib.ListN.{length, replicate};
 ghost use Rattle.search.specs.Table.{Fits, Fitting, Rewritten, Roomy, Tidy, Windowed, Inside, Laid, Advanced, Traced, Ended, inSet};
 ghost use Rattle.search.specs.Passes.{lastNot, Earliest, arrivable};
+use crate::Scene;
 use crate::mend::mend;
 use crate::narrow::narrow_rows;
-use crate::Scene;
 use crate::table::lay;
 use crate::table::member;
-use crate::window::first_row;
 use crate::window::Window;
+use crate::window::first_row;
 
 // The last beat at which the goal is not in the room, from which on it can be held through the horizon; 0 where there is none.
 pub fn hold_from(g: Scene, room: &[u32], goal: usize) -> usize
@@ -44,7 +44,16 @@ fn arrives(g: Scene, sets: &[u32], goal: usize, hold: usize, t: usize) -> bool
 }
 
 // The least arrival within the limit, or one past it where there is none. Each set becomes what the start reaches of it.
-fn earliest(g: Scene, k: usize, v: Window, sets: &mut [u32], room: &[u32], views: &[u16], goal: usize, hold: usize) -> usize
+fn earliest(
+    g: Scene,
+    k: usize,
+    v: Window,
+    sets: &mut [u32],
+    room: &[u32],
+    views: &[u16],
+    goal: usize,
+    hold: usize,
+) -> usize
     requires { ⌜ Fits g k (now views) × Fitting g v × (goal < g .cells) ⌝ }
     requires { ⌜ ((free : List ℕ) × Roomy g k free (now views) (now room)) ⌝ }
     requires { ⌜ Windowed g v (now sets) ⌝ }
@@ -72,7 +81,17 @@ fn earliest(g: Scene, k: usize, v: Window, sets: &mut [u32], room: &[u32], views
 }
 
 // The same in an empty table, from the start.
-pub fn reach(g: Scene, k: usize, v: Window, sets: &mut [u32], room: &[u32], views: &[u16], start: usize, goal: usize, hold: usize) -> usize
+pub fn reach(
+    g: Scene,
+    k: usize,
+    v: Window,
+    sets: &mut [u32],
+    room: &[u32],
+    views: &[u16],
+    start: usize,
+    goal: usize,
+    hold: usize,
+) -> usize
     requires { ⌜ Fits g k (now views) × Fitting g v × (start < g .cells) × (goal < g .cells) × Inside v 0 (start / g .width) ⌝ }
     requires { ⌜ ((free : List ℕ) × Roomy g k free (now views) (now room)) ⌝ }
     requires { ⌜ now sets ≡ replicate 2304 0 ⌝ }
@@ -111,7 +130,16 @@ fn end_at(g: Scene, v: Window, sets: &mut [u32], goal: usize, a: usize)
 }
 
 // The sets before beat a become what leads to the goal at beat a.
-pub fn leading(g: Scene, k: usize, v: Window, sets: &mut [u32], room: &[u32], views: &[u16], goal: usize, a: usize)
+pub fn leading(
+    g: Scene,
+    k: usize,
+    v: Window,
+    sets: &mut [u32],
+    room: &[u32],
+    views: &[u16],
+    goal: usize,
+    a: usize,
+)
     requires { ⌜ Fits g k (now views) × Fitting g v × (goal < g .cells) × (a ≤ v .limit) ⌝ }
     requires { ⌜ ((free : List ℕ) × Roomy g k free (now views) (now room)) ⌝ }
     requires { ⌜ Windowed g v (now sets) × (inSet g (now sets) a goal ≡ true) ⌝ }

@@ -5,8 +5,8 @@ ghost use Prim.Native.Nat.{ℕ, _+_, _*_, _/_, _≤_, _<_};
 ghost use lib.ListN.{length, getD, replicate};
 ghost use Rattle.search.specs.Table.{Fits, Fitting, Rewritten, Roomy, Tidy, inSet, LaidRows};
 use crate::Scene;
-use crate::window::first_row;
 use crate::window::Window;
+use crate::window::first_row;
 
 // A table of empty sets.
 pub fn empty() -> [u32; 2304]

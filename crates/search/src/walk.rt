@@ -6,12 +6,22 @@ ghost use lib.ListN.{replicate};
 ghost use Rattle.words.specs.Rows.{filled};
 ghost use Rattle.search.specs.Table.{Fits, Roomy, Tidy};
 ghost use Rattle.search.specs.Passes.{stepOf, pathOf};
-use crate::next::next;
 use crate::Scene;
+use crate::next::next;
 use route::Route;
 
 // The cell after cell c at beat t: before the arrival the smallest that leads there, then the goal.
-fn follow(g: Scene, k: usize, sets: &[u32], room: &[u32], views: &[u16], goal: usize, a: usize, t: usize, c: usize) -> usize
+fn follow(
+    g: Scene,
+    k: usize,
+    sets: &[u32],
+    room: &[u32],
+    views: &[u16],
+    goal: usize,
+    a: usize,
+    t: usize,
+    c: usize,
+) -> usize
     requires { ⌜ Fits g k (now views) × Tidy g (now sets) × (t < g .horizon) × (c < g .cells) × (goal < g .cells) ⌝ }
     requires { ⌜ ((free : List ℕ) × Roomy g k free (now views) (now room)) ⌝ }
     ensures { λ r. ⌜ (r ≡ stepOf g k (now (views .entry)) (now (sets .entry)) goal a t c) × (r < g .cells) ⌝ }
@@ -23,7 +33,16 @@ fn follow(g: Scene, k: usize, sets: &[u32], room: &[u32], views: &[u16], goal: u
 }
 
 // The route from the start, 0 after the horizon.
-pub fn walk(g: Scene, k: usize, sets: &[u32], room: &[u32], views: &[u16], start: usize, goal: usize, a: usize) -> Route
+pub fn walk(
+    g: Scene,
+    k: usize,
+    sets: &[u32],
+    room: &[u32],
+    views: &[u16],
+    start: usize,
+    goal: usize,
+    a: usize,
+) -> Route
     requires { ⌜ Fits g k (now views) × Tidy g (now sets) × (start < g .cells) × (goal < g .cells) ⌝ }
     requires { ⌜ ((free : List ℕ) × Roomy g k free (now views) (now room)) ⌝ }
     ensures { λ r. ⌜ r ≡ filled (replicate 64 0) (pathOf g k (now (views .entry)) (now (sets .entry)) start goal a) (g .horizon + 1) ⌝ }
