@@ -2,6 +2,7 @@
 pub mod FirstLaws
 pub mod RecordLaws
 pub mod ViewLaws
+pub mod RoomLaws
 pub mod PlanLaws
 pub mod FailingLaws
 pub mod RequestLaws

@@ -34,6 +34,7 @@ asked f ws room h =
 pub plannable : (f : Floor) (ws rows m : List ℕ) → Asked f ws (length m) → FreeRows f ws rows → Plannable f rows m
 plannable f ws rows m a r =
     record {
+      some = a .bounds .carriers .0;
       few = a .bounds .carriers .1;
       horizon = a .bounds .horizon .1;
       room = a .enough;

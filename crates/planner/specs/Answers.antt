@@ -30,6 +30,7 @@ planResult f ws room = madeIf (planVerdict f ws room) (failingOf (planOf f ws))
 
 -- What planning needs that is already checked: every carrier can be searched for, and its answer has room.
 pub record Plannable (f : Floor) (rows : List ℕ) (m : List ℕ) : Type 0 where
+  pub some : 1 ≤ f .carriers
   pub few : f .carriers ≤ 8
   pub horizon : f .horizon ≤ 63
   pub room : 65 * f .carriers ≤ length m

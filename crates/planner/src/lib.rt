@@ -7,6 +7,7 @@ ghost use lib.ListN.{length, take};
 ghost use Rattle.floor.specs.Answers.{verdictOf};
 ghost use Rattle.route.specs.Sequential.{sequential};
 ghost use Rattle.search.specs.Rows.{Searchable};
+ghost use Rattle.search.specs.Table.{sceneOf, Roomy};
 ghost use Rattle.planner.specs.Plan.{respondWith, planVerdict};
 ghost use Rattle.planner.specs.Records.{answered, stored, planMemory};
 ghost use Rattle.planner.specs.Answers.{resultOf, madeIf, planResult, Plannable};
@@ -35,28 +36,34 @@ pub fn request(f: Floor, walls: &[u16], room: usize) -> Checked
     floor::room(65 * f.carriers as usize, room)
 }
 
-// The answer of the carrier with i carriers above it, whose answers stand in front; it is stored behind them.
-fn plan_one(f: Floor, free: [u32; 32], i: u16, answers: &mut [u16])
+// The answer of the carrier with i carriers above it, whose answers stand in front; it is stored behind them, and its route is taken
+// out of the room.
+fn plan_one(f: Floor, free: [u32; 32], i: u16, room: &mut [u32], answers: &mut [u16])
     requires { ⌜ (i < 8) × (65 * i + 65 ≤ length (now answers)) ⌝ }
     requires { ⌜ Searchable f free (i + 1) (take (65 * i) (now answers)) ⌝ }
-    ensures { λ r. ⌜ now (answers .exit) ≡ answered f free i (now (answers .entry)) ⌝ }
+    requires { ⌜ Roomy (sceneOf f) i free (now answers) (now room) ⌝ }
+    ensures answers { λ r. ⌜ now (answers .exit) ≡ answered f free i (now (answers .entry)) ⌝ }
+    ensures room { λ r. ⌜ Roomy (sceneOf f) (i + 1) free (now (answers .exit)) (now (room .exit)) ⌝ }
 {
     let at = 65 * i as usize;
-    let found = search::best_route(f, free, i + 1, &answers[..at]);
+    let found = search::route_in(f, free, room, i + 1, &answers[..at]);
     let outcome = found.outcome;
     let cells = found.route;
     records::store(answers, at, records::tag_of(outcome), cells);
+    search::take_route(f, room, answers, i as usize);
 }
 
-// The carriers in turn, each best against the answers above it.
+// The carriers in turn, each best against the answers above it, in the room that these leave.
 fn plan_all(f: Floor, free: [u32; 32], answers: &mut [u16])
     requires { ⌜ Plannable f free (now answers) ⌝ }
     ensures { λ r. ⌜ now (answers .exit) ≡ stored (sequential (respondWith f free) (f .carriers)) (now (answers .entry)) ⌝ }
 {
     let n = f.carriers;
+    let mut room = search::no_room();
+    search::fill_room(f, free, &mut room);
     let mut i: u16 = 0;
     while i < n {
-        plan_one(f, free, i, answers);
+        plan_one(f, free, i, &mut room, answers);
         i += 1;
     }
 }

@@ -1,7 +1,7 @@
 -- The room of a search: the free cells at each beat, and the cells of the views taken out of it.
 use Prim.Native.Nat.{ℕ, zero, suc, _+_, _*_, _-_, _/_, _%_, _≤_, _<_}
 use native.Mathlib.Omega.{arith}
-use native.Mathlib.Nat.{div-add-mod', eq-or-lt-of-le, mod-lt}
+use native.Mathlib.Nat.{div-add-mod', eq-or-lt-of-le}
 use native.Mathlib.Numerals.{add-one}
 use mathlib.Core.Bool.{Bool, true, false, _&&_, not}
 use mathlib.Core.List.{List}
@@ -11,7 +11,6 @@ use borrow.Author.Tests.{eqb-true, eq-eqb, ne-eqb, lt-ltb, le-ltb}
 use lib.Dec.{eqb, ltb}
 use lib.ListN.{length, getD, replicate, length-replicate}
 use Rattle.route.specs.Moves.{vacant, every}
-use Rattle.route.specs.Route.{View}
 use Rattle.route.proofs.Tests.{and-fst, lt-or-le, true-false-absurd, eqbs-say, eqbs-hold}
 use Rattle.words.specs.Words.{digit}
 use Rattle.words.specs.Rows.{has, droppedAt, Clean}
@@ -50,6 +49,7 @@ module _ (free s q : List ℕ) (n : ℕ) (old : FreeBeats free n s) (new : Rewri
       (λ (e : n ≤ t). new .outside (t * 36 + 1 + r) (inr (omega arith))) (lt-or-le t n)
       ∙ old .hidden t r h (inr l)
 
+  -- The edges.
   more-edge : (t : ℕ) → getD q (t * 36) 0 ≡ 0
   more-edge t =
       ⊎-elim (λ (e : t < n + 1). new .outside (t * 36) (inl (omega arith)))
@@ -107,6 +107,7 @@ module _ (g : Scene) (free s : List ℕ) (n : ℕ) (beats : FreeBeats free n s) 
     edge = λ t k e. row-empty s (t * 36) k (beats .edge t) e;
   }
 
+-- A true test beside another changes nothing.
 and-all : (b : Bool) → (b && true) ≡ b
 and-all true = refl
 and-all false = refl
@@ -155,6 +156,7 @@ module _ (g : Scene) (s : List ℕ) (a x : ℕ) (thin : 1 ≤ g .width) (room : 
   unfolding less
   less-same l = sym (dropped-outside (g .width) (g .cells) (a * 36 + 1) x s l)
 
+  -- It has no digit more.
   less-fewer : (i j : ℕ) → has less i j ≡ true → has s i j ≡ true
   less-fewer i j e =
       ⊎-elim
@@ -162,6 +164,7 @@ module _ (g : Scene) (s : List ℕ) (a x : ℕ) (thin : 1 ≤ g .width) (room : 
       and-fst (has s i j) (not (eqb i (a * 36 + 1 + x / g .width) && eqb j (x % g .width))) (sym (less-has i j l) ∙ e))
       (λ (l : g .cells ≤ x). rw (less-same l) at e) (lt-or-le x (g .cells))
 
+  -- It is as long.
   less-length : length less ≡ length s
   unfolding less
   less-length =
@@ -171,6 +174,7 @@ module _ (g : Scene) (s : List ℕ) (a x : ℕ) (thin : 1 ≤ g .width) (room : 
       ∙ length-dropped s (a * 36 + 1 + x / g .width) (x % g .width))
       (λ (l : g .cells ≤ x). ap length (less-same l)) (lt-or-le x (g .cells))
 
+  -- It is tidy.
   less-tidy : Tidy g less
   less-tidy = record {
     long = less-length ∙ tidy .long;
@@ -249,6 +253,7 @@ module _ (g : Scene) (m s q : List ℕ) (j n : ℕ) (thin : 1 ≤ g .width) (roo
   after : List ℕ
   after = less g q n (spotOf m j n) thin room (old .tidy) h
 
+  -- What it has at the beats passed.
   after-taken : (t c : ℕ) → t < n + 1 → inSet g after t c ≡ (inSet g s t c && not (eqb c (spotOf m j t)))
   unfolding after
   after-taken t c l = ⊎-elim last before (eq-or-lt-of-le (omega arith))
@@ -259,11 +264,13 @@ module _ (g : Scene) (m s q : List ℕ) (j n : ℕ) (thin : 1 ≤ g .width) (roo
       before : t < n → inSet g after t c ≡ (inSet g s t c && not (eqb c (spotOf m j t)))
       before u = less-there g q n (spotOf m j n) thin room (old .tidy) h t c (λ p. omega arith) ∙ old .taken t c u
 
+  -- What it has at the others.
   after-left : (t c : ℕ) → n + 1 ≤ t → inSet g after t c ≡ inSet g s t c
   unfolding after
   after-left t c l =
       less-there g q n (spotOf m j n) thin room (old .tidy) h t c (λ p. omega arith) ∙ old .left t c (omega arith)
 
+  -- It is tidy.
   after-tidy : Tidy g after
   unfolding after
   after-tidy = less-tidy g q n (spotOf m j n) thin room (old .tidy) h
@@ -292,6 +299,7 @@ taken-within g h m s q j n x = record { tidy = tidy; taken = x .taken; left = x 
     tidy : Tidy g q
     tidy = record { long = x .tidy .long; thin = x .tidy .thin; rows = x .tidy .rows; edge = x .tidy .edge }
 
+-- Nor does it depend on the horizon that a table is tidy.
 pub tidy-within : (g : Scene) (h : ℕ) (s : List ℕ) → Tidy g s → Tidy (within g h) s
 unfolding within
 tidy-within g h s x = record { long = x .long; thin = x .thin; rows = x .rows; edge = x .edge }

@@ -1,34 +1,56 @@
--- `planner::plan_all` meets its contract: invariant: the answers of the carriers passed stand in front.
-use Rattle.planner.proofs.PlanLaws.{plan-start, plan-more, plan-keeps, plan-end}
-use Rattle.planner.specs.Records.{answered, stored}
-use Rattle.planner.specs.Plan.{respondWith}
-use Rattle.route.specs.Sequential.{sequential}
-use lib.Seq.{length-take-le}
-use mathlib.Core.Path.{_≡_}
-use Prim.Native.Nat.{_*_, _-_, _≤_}
-use borrow.Author.Needs.{needs}
+-- `planner::plan_all` meets its contract. The loop's invariant: the answers of the carriers passed stand in front, and the room is what
+-- they leave. The measure is what is left of the carriers. Assumes nothing.
+use Prim.Native.Nat.{ℕ, _*_, _-_, _≤_}
 use native.Mathlib.Omega.{arith}
+use mathlib.Core.List.{[]}
+use mathlib.Core.Path.{_≡_, sym, ap, _∙_}
+use borrow.Author.Needs.{needs}
+use lib.ListN.{length, length-replicate}
+use lib.Seq.{length-take-le}
+use Rattle.route.specs.Sequential.{sequential}
+use Rattle.search.specs.Table.{sceneOf, Roomy}
+use Rattle.planner.specs.Plan.{respondWith}
+use Rattle.planner.specs.Records.{answered, stored}
+use Rattle.planner.proofs.PlanLaws.{plan-start, plan-more, plan-keeps, plan-end}
 use Rattle.planner.proofs.plan_all.Statement.{statement}
 use Rattle.planner.proofs.plan_all.Tie as tie
 
 abbrev Inv-loop : tie.InvT-loop
-Inv-loop f free answers₀ n i₀ answers i = (i ≤ n) × (answers ≡ stored (sequential (respondWith f free) i) answers₀)
+Inv-loop f free answers₀ n room₀ i₀ answers room i =
+    (i ≤ n) × (answers ≡ stored (sequential (respondWith f free) i) answers₀) × Roomy (sceneOf f) i free answers room
 
 abbrev μ-loop : tie.MeasureT-loop
-μ-loop f free answers₀ n i₀ answers i = n - i
+μ-loop f free answers₀ n room₀ i₀ answers room i = n - i
+
+no-room-requires : tie.Need-no-room-requires Inv-loop μ-loop
+no-room-requires c κs = search needs
+
+slice-aggregate-fill-room : tie.Need-slice-aggregate-fill-room Inv-loop μ-loop
+slice-aggregate-fill-room c = sym (ap length (c .before .no-room .ensures) ∙ length-replicate {A = ℕ} 2304 0)
+
+fill-room-requires : tie.Need-fill-room-requires Inv-loop μ-loop
+fill-room-requires c κs =
+    let p = c .before .before .before .pre in
+    let able = p .searchable 0 [] (p .some) (omega arith) in
+    ((able .width .0, able .width .1, able .height, p .horizon), (able .long, able .clean, c .before .no-room .ensures))
 
 loop-holds : tie.Need-loop-holds Inv-loop μ-loop
-loop-holds c = (search needs, plan-start _ _ (c .before .pre .horizon) _)
+loop-holds c = (search needs, plan-start _ _ (c .before .before .before .before .before .pre .horizon) _, c .before .fill-room .ensures _)
+
+slice-aggregate-plan-one : tie.Need-slice-aggregate-plan-one Inv-loop μ-loop
+slice-aggregate-plan-one c = sym (c .before .before .loop .inv .2 .tidy .long)
 
 plan-one-requires : tie.Need-plan-one-requires Inv-loop μ-loop
 plan-one-requires c κs =
-    let c₄ = c .before .before .before .before in
-    let p = c₄ .pre in
-    let size = plan-keeps _ _ (c₄ .pre .horizon) (c .before .before .loop .i) _ _ (omega (arith, p .room))
-    (c .before .before .loop .inv .1) in (
+    let p = c .before .before .before .before .before .before .before .before .before .pre in
+    let i = c .before .before .before .loop .i in
+    let size = plan-keeps _ _ (p .horizon) i _ _ (omega (arith, p .room)) (c .before .before .before .loop .inv .1) in (
       (omega (arith, p .few), omega (arith, p .room)),
-      p .searchable (c .before .before .loop .i) _ (c .before .loop-test .taken)
-          (omega (arith, length-take-le (65 * c .before .before .loop .i) (c .before .before .loop .answers) (omega (arith, p .room)))),
+      (
+        p .searchable i _ (c .before .before .loop-test .taken)
+            (omega (arith, length-take-le (65 * i) (c .before .before .before .loop .answers) (omega (arith, p .room)))),
+        c .before .before .before .loop .inv .2,
+      ),
     )
 
 add-i : tie.Need-add-i Inv-loop μ-loop
@@ -40,21 +62,23 @@ loop-less c = search needs
 loop-again : tie.Need-loop-again Inv-loop μ-loop
 unfolding answered
 loop-again c =
-    let c₄ = c .before .before .before .before in (
+    let c₇ = c .before .before .before .before .before .before .before in
+    let p = c₇ .before .before .before .before .before .before .pre in (
       search needs,
-      plan-more _ _ (c₄ .before .before .before .pre .horizon) (c₄ .before .loop .i) _ _ _
-          (omega (arith, c₄ .before .before .before .pre .room)) (c₄ .before .loop .inv .1) (c .before .before .plan-one .ensures),
+      plan-more _ _ (p .horizon) (c₇ .loop .i) _ _ _ (omega (arith, p .room)) (c₇ .loop .inv .1)
+          (c .before .before .before .plan-one .ensures .0),
+      c .before .before .before .plan-one .ensures .1,
     )
 
 same-length : tie.Need-same-length Inv-loop μ-loop
 same-length c =
-    plan-keeps _ _ (c .before .before .before .pre .horizon) (c .before .loop .i) _ _
-    (omega (arith, c .before .before .before .pre .room)) (c .before .loop .inv .1)
+    let p = c .before .before .before .before .before .before .before .pre in
+    plan-keeps _ _ (p .horizon) (c .before .loop .i) _ _ (omega (arith, p .room)) (c .before .loop .inv .1)
 
 returns : tie.Need-returns Inv-loop μ-loop
 returns c =
-    plan-end _ _ (c .before .before .before .pre .horizon) (c .before .loop .i) _ _ _ (c .before .loop .inv .0) (c .loop-test .left)
-    (c .before .loop .inv .1)
+    let p = c .before .before .before .before .before .before .before .pre in
+    plan-end _ _ (p .horizon) (c .before .loop .i) _ _ _ (c .before .loop .inv .0) (c .loop-test .left) (c .before .loop .inv .1)
 
 pub plan-all-spec : {M : Type 1} → statement M
 plan-all-spec =
@@ -62,7 +86,11 @@ plan-all-spec =
     (tie.spec
     Inv-loop
     μ-loop
+    no-room-requires
+    slice-aggregate-fill-room
+    fill-room-requires
     loop-holds
+    slice-aggregate-plan-one
     plan-one-requires
     add-i
     loop-less
