@@ -31,12 +31,12 @@ module _ (m n : ℕ) where
 
 -- The first row, from its parts.
 pub first-made : (v : Window) (t m l p q k r : ℕ) → m ≡ v .start - t → l ≡ larger (v .top) m → p ≡ v .limit - t → q ≡ v .goal - p →
-    k ≡ larger l q → r ≡ smaller k (32 - 8 * v .blocks) → r ≡ firstAt v t
+    k ≡ larger l q → r ≡ smaller k (32 - 4 * v .blocks) → r ≡ firstAt v t
 unfolding firstAt firstRow
 first-made v t m l p q k r e₁ e₂ e₃ e₄ e₅ e₆ = e₆ ∙ rw (e₅, e₂, e₁, e₄, e₃)
 
 -- The window never leaves the 32 rows.
-pub first-fits : (v : Window) (t r : ℕ) → v .blocks ≤ 4 → r ≡ firstAt v t → r + 8 * v .blocks ≤ 32
+pub first-fits : (v : Window) (t r : ℕ) → v .blocks ≤ 8 → r ≡ firstAt v t → r + 4 * v .blocks ≤ 32
 unfolding firstAt
 first-fits v t r h e = rw e (first-small (v .top) (v .start) (v .goal) (v .limit) (v .blocks) t h)
 
@@ -73,7 +73,7 @@ module _ (g : Scene) (start goal limit rows columns left rest high upper : ℕ) 
     (left-is : left ≡ limit - (rows + columns)) (rest-is : rest ≡ limit - rows)
     (high-is : high ≡ smaller (rows + 2 * (left / 2)) rest) (upper-is : upper ≡ smaller (start / g .width) (goal / g .width))
     (limited : v .limit ≡ limit) (begins : v .start ≡ start / g .width) (ends : v .goal ≡ goal / g .width)
-    (top-is : v .top ≡ upper - left / 2) (blocks-is : v .blocks ≡ smaller 4 ((high + 8) / 8)) where
+    (top-is : v .top ≡ upper - left / 2) (blocks-is : v .blocks ≡ smaller 8 ((high + 4) / 4)) where
   -- The spare rows.
   spare-made : left / 2 ≡ spareOf (start / g .width) (start % g .width) (goal / g .width) (goal % g .width) limit
   unfolding spareOf
@@ -90,7 +90,7 @@ module _ (g : Scene) (start goal limit rows columns left rest high upper : ℕ) 
   blocks-made = blocks-is ∙ rw (high-is, rest-is, rows-is, spare-made)
 
   -- There is one block at least, and there are four at most.
-  blocks-fit : (1 ≤ v .blocks) × (v .blocks ≤ 4)
+  blocks-fit : (1 ≤ v .blocks) × (v .blocks ≤ 8)
   blocks-fit =
       omega (arith, blocks-made, blocks-small (start / g .width) (start % g .width) (goal / g .width) (goal % g .width) limit)
 

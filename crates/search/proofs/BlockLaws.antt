@@ -13,35 +13,35 @@ use Rattle.words.specs.Rows.{has, filled, written, narrowAt, Within}
 use Rattle.words.proofs.FillLaws.{filled-in, length-written, written-in, written-out}
 use Rattle.search.specs.Table.{Rewritten, Apart}
 
--- Eight rows rewritten.
-pub rewritten-eight : (s x r : List ℕ) (f : ℕ → ℕ) (i : ℕ) → i + 8 ≤ length s → x ≡ filled (replicate 8 0) f 8 → r ≡ written s i x 8 →
-    Rewritten s f i 8 r
-rewritten-eight s x r f i fits e h =
+-- Four rows rewritten.
+pub rewritten-four : (s x r : List ℕ) (f : ℕ → ℕ) (i : ℕ) → i + 4 ≤ length s → x ≡ filled (replicate 4 0) f 4 → r ≡ written s i x 4 →
+    Rewritten s f i 4 r
+rewritten-four s x r f i fits e h =
     rw (h, e)
     (record {
-      long = length-written s i (filled (replicate 8 0) f 8) 8;
+      long = length-written s i (filled (replicate 4 0) f 4) 4;
       inside = λ j l.
-          written-in s i (filled (replicate 8 0) f 8) 8 j fits l
-          ∙ filled-in (replicate 8 0) f 8 j (omega (arith, length-replicate {A = ℕ} 8 0)) l;
-      outside = λ j l. written-out s i (filled (replicate 8 0) f 8) 8 j l;
+          written-in s i (filled (replicate 4 0) f 4) 4 j fits l
+          ∙ filled-in (replicate 4 0) f 4 j (omega (arith, length-replicate {A = ℕ} 4 0)) l;
+      outside = λ j l. written-out s i (filled (replicate 4 0) f 4) 4 j l;
     })
 
--- Eight more rows rewritten after n, which the table has not changed before, nor the rows that they are made of.
-pub rewritten-on : (s q r : List ℕ) (f e : ℕ → ℕ) (i n : ℕ) → Rewritten s f i n q → Rewritten q e (i + n) 8 r →
-    ((j : ℕ) → j < 8 → e j ≡ f (n + j)) → Rewritten s f i (n + 8) r
+-- Four more rows rewritten after n, which the table has not changed before, nor the rows that they are made of.
+pub rewritten-on : (s q r : List ℕ) (f e : ℕ → ℕ) (i n : ℕ) → Rewritten s f i n q → Rewritten q e (i + n) 4 r →
+    ((j : ℕ) → j < 4 → e j ≡ f (n + j)) → Rewritten s f i (n + 4) r
 rewritten-on s q r f e i n x y same =
     record { long = y .long ∙ x .long; inside = λ j l. ⊎-elim (old j) (new j l) (lt-or-le j n); outside = out }
   where
     old : (j : ℕ) → j < n → getD r (i + j) 0 ≡ f j
     old j l = y .outside (i + j) (inl (omega arith)) ∙ x .inside j l
 
-    new : (j : ℕ) → j < n + 8 → n ≤ j → getD r (i + j) 0 ≡ f j
+    new : (j : ℕ) → j < n + 4 → n ≤ j → getD r (i + j) 0 ≡ f j
     new j h l =
         let a : i + j ≡ i + n + (j - n) = omega arith in
         let b : n + (j - n) ≡ j = omega arith in
         rw a (y .inside (j - n) (omega arith) ∙ same (j - n) (omega arith) ∙ ap f b)
 
-    out : (j : ℕ) → (j < i) ⊎ (i + (n + 8) ≤ j) → getD r j 0 ≡ getD s j 0
+    out : (j : ℕ) → (j < i) ⊎ (i + (n + 4) ≤ j) → getD r j 0 ≡ getD s j 0
     out j (inl l) = y .outside j (inl (omega arith)) ∙ x .outside j (inl l)
     out j (inr l) = y .outside j (inr (omega arith)) ∙ x .outside j (inr (omega arith))
 
@@ -53,7 +53,7 @@ module _ (s q : List ℕ) (f : ℕ → ℕ) (at to n : ℕ) (few : n ≤ 32) (ap
       (⊎-elim (λ (h : at + 36 ≡ to). inl (omega (arith, h))) (λ (h : to + 36 ≡ at). inr (omega (arith, h))) apart)
 
   -- The next block of the changed table is the next of the table as it was.
-  pub block-next : (j : ℕ) → j < 8 → n + 8 ≤ 32 → narrowAt q (at + n) (to + 1 + n) j ≡ narrowAt s at (to + 1) (n + j)
+  pub block-next : (j : ℕ) → j < 4 → n + 4 ≤ 32 → narrowAt q (at + n) (to + 1 + n) j ≡ narrowAt s at (to + 1) (n + j)
   unfolding narrowAt
   block-next j l h = rw (source (n + j) _ (omega arith) zeroth, source (n + j + 1) _ (omega arith) first, source (n + j + 2) _ (omega arith) second, mask) (rw (next 1, next 2))
     where
@@ -77,9 +77,9 @@ module _ (s q : List ℕ) (f : ℕ → ℕ) (at to n : ℕ) (few : n ≤ 32) (ap
           let e : to + 1 + n + j ≡ to + 1 + (n + j) = omega arith in
           rw e (x .outside (to + 1 + (n + j)) (inr (omega arith)))
 
-  -- What a block says of its twelve rows, said of the table as it was.
-  pub block-within : (room : List ℕ) → n + 12 ≤ 36 → Within q room (at + n) (to + n) 12 → (1 ≤ n → Within s room at to (n + 4)) →
-      Within s room at to (n + 8 + 4)
+  -- What a block says of its six rows, said of the table as it was.
+  pub block-within : (room : List ℕ) → n + 6 ≤ 36 → Within q room (at + n) (to + n) 6 → (1 ≤ n → Within s room at to (n + 2)) →
+      Within s room at to (n + 4 + 2)
   unfolding Within has
   block-within room h here before r k l e = ⊎-elim old new (lt-or-le r n)
     where

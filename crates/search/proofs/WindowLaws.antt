@@ -118,30 +118,30 @@ gap-next x m n h = go (gap-is m n) h
     go (inr q) (inr e) = near-by (omega arith)
 
 -- The window never leaves the 32 rows.
-pub first-small : (top sr gr limit blocks t : ℕ) → blocks ≤ 4 → firstRow top sr gr limit blocks t + 8 * blocks ≤ 32
+pub first-small : (top sr gr limit blocks t : ℕ) → blocks ≤ 8 → firstRow top sr gr limit blocks t + 4 * blocks ≤ 32
 unfolding firstRow
 first-small top sr gr limit blocks t h =
-    omega (arith, smaller-says (larger (larger top (sr - t)) (gr - (limit - t))) (32 - 8 * blocks))
+    omega (arith, smaller-says (larger (larger top (sr - t)) (gr - (limit - t))) (32 - 4 * blocks))
 
 -- Blocks for n + 1 rows, four at most.
-some-blocks : (n : ℕ) → (1 ≤ smaller 4 ((n + 8) / 8)) × (smaller 4 ((n + 8) / 8) ≤ 4)
-some-blocks n = go (smaller-is 4 ((n + 8) / 8))
+some-blocks : (n : ℕ) → (1 ≤ smaller 8 ((n + 4) / 4)) × (smaller 8 ((n + 4) / 4) ≤ 8)
+some-blocks n = go (smaller-is 8 ((n + 4) / 4))
   where
-    go : (smaller 4 ((n + 8) / 8) ≡ 4) ⊎ (smaller 4 ((n + 8) / 8) ≡ (n + 8) / 8) →
-        (1 ≤ smaller 4 ((n + 8) / 8)) × (smaller 4 ((n + 8) / 8) ≤ 4)
+    go : (smaller 8 ((n + 4) / 4) ≡ 8) ⊎ (smaller 8 ((n + 4) / 4) ≡ (n + 4) / 4) →
+        (1 ≤ smaller 8 ((n + 4) / 4)) × (smaller 8 ((n + 4) / 4) ≤ 8)
     go (inl q) = omega arith
-    go (inr q) = omega (arith, smaller-says 4 ((n + 8) / 8))
+    go (inr q) = omega (arith, smaller-says 8 ((n + 4) / 4))
 
 -- There is one block at least, and there are four at most.
-pub blocks-small : (sr sc gr gc limit : ℕ) → (1 ≤ blocksOf sr sc gr gc limit) × (blocksOf sr sc gr gc limit ≤ 4)
+pub blocks-small : (sr sc gr gc limit : ℕ) → (1 ≤ blocksOf sr sc gr gc limit) × (blocksOf sr sc gr gc limit ≤ 8)
 unfolding blocksOf
 blocks-small sr sc gr gc limit = some-blocks (smaller (gap sr gr + 2 * spareOf sr sc gr gc limit) (limit - gap sr gr))
 
 -- The blocks have n + 1 rows, or all.
-enough-blocks : (n r f : ℕ) → r < 32 → r ≤ f + n → r < f + 8 * smaller 4 ((n + 8) / 8)
-enough-blocks n r f h l = go (smaller-is 4 ((n + 8) / 8))
+enough-blocks : (n r f : ℕ) → r < 32 → r ≤ f + n → r < f + 4 * smaller 8 ((n + 4) / 4)
+enough-blocks n r f h l = go (smaller-is 8 ((n + 4) / 4))
   where
-    go : (smaller 4 ((n + 8) / 8) ≡ 4) ⊎ (smaller 4 ((n + 8) / 8) ≡ (n + 8) / 8) → r < f + 8 * smaller 4 ((n + 8) / 8)
+    go : (smaller 8 ((n + 4) / 4) ≡ 8) ⊎ (smaller 8 ((n + 4) / 4) ≡ (n + 4) / 4) → r < f + 4 * smaller 8 ((n + 4) / 4)
     go (inl q) = omega arith
     go (inr q) = omega arith
 
@@ -242,25 +242,25 @@ module _ (sr sc gr gc limit t r q : ℕ) (row : r < 32) (within : t ≤ limit) (
   blocks = blocksOf sr sc gr gc limit
 
   -- The place is within the blocks.
-  lead-blocks : r < lead + 8 * blocks
+  lead-blocks : r < lead + 4 * blocks
   unfolding blocks blocksOf needed spare
   lead-blocks = enough-blocks needed r lead row lead-needed
 
   -- The place is in the window, also where the end of the rows moves it up.
-  window-row : (firstRow top sr gr limit blocks t ≤ r) × (r < firstRow top sr gr limit blocks t + 8 * blocks)
+  window-row : (firstRow top sr gr limit blocks t ≤ r) × (r < firstRow top sr gr limit blocks t + 4 * blocks)
   unfolding firstRow lead
-  window-row = go (smaller-cases lead (32 - 8 * blocks))
+  window-row = go (smaller-cases lead (32 - 4 * blocks))
     where
-      go : ((lead < 32 - 8 * blocks) × (smaller lead (32 - 8 * blocks) ≡ lead)) ⊎
-          ((32 - 8 * blocks ≤ lead) × (smaller lead (32 - 8 * blocks) ≡ 32 - 8 * blocks)) →
-          (smaller lead (32 - 8 * blocks) ≤ r) × (r < smaller lead (32 - 8 * blocks) + 8 * blocks)
+      go : ((lead < 32 - 4 * blocks) × (smaller lead (32 - 4 * blocks) ≡ lead)) ⊎
+          ((32 - 4 * blocks ≤ lead) × (smaller lead (32 - 4 * blocks) ≡ 32 - 4 * blocks)) →
+          (smaller lead (32 - 4 * blocks) ≤ r) × (r < smaller lead (32 - 4 * blocks) + 4 * blocks)
       go (inl h) = omega (arith, lead-low, lead-blocks)
       go (inr h) = omega (arith, lead-low)
 
 -- The window has every place that a way within the limit can be at.
 pub window-holds : (sr sc gr gc limit t r q : ℕ) → r < 32 → t ≤ limit → gap sr r + gap sc q ≤ t → gap r gr + gap q gc ≤ limit - t →
     (firstRow (topOf sr sc gr gc limit) sr gr limit (blocksOf sr sc gr gc limit) t ≤ r)
-    × (r < firstRow (topOf sr sc gr gc limit) sr gr limit (blocksOf sr sc gr gc limit) t + 8 * blocksOf sr sc gr gc limit)
+    × (r < firstRow (topOf sr sc gr gc limit) sr gr limit (blocksOf sr sc gr gc limit) t + 4 * blocksOf sr sc gr gc limit)
 unfolding top blocks
 window-holds sr sc gr gc limit t r q h l e k = window-row sr sc gr gc limit t r q h l e k
 

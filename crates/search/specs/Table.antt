@@ -77,7 +77,7 @@ unfoldable pub firstAt : Window → ℕ → ℕ
 firstAt v t = firstRow (v .top) (v .start) (v .goal) (v .limit) (v .blocks) t
 
 abbrev pub Inside : Window → ℕ → ℕ → Type 0
-Inside v t r = (firstAt v t ≤ r) × (r < firstAt v t + 8 * v .blocks)
+Inside v t r = (firstAt v t ≤ r) × (r < firstAt v t + 4 * v .blocks)
 
 -- The window of a search from the start to the goal within a limit.
 pub record WindowOf (g : Scene) (start goal limit : ℕ) (v : Window) : Type 0 where
@@ -90,7 +90,7 @@ pub record WindowOf (g : Scene) (start goal limit : ℕ) (v : Window) : Type 0 w
 -- The window is at most as high as the rows.
 pub record Fitting (g : Scene) (v : Window) : Type 0 where
   pub some : 1 ≤ v .blocks
-  pub few : v .blocks ≤ 4
+  pub few : v .blocks ≤ 8
   pub early : v .limit ≤ g .horizon
 
 -- Every cell of the table is in the window.
@@ -102,7 +102,7 @@ pub record Windowed (g : Scene) (v : Window) (s : List ℕ) : Type 0 where
 pub record LaidRows (v : Window) (room : List ℕ) (n : ℕ) (s : List ℕ) : Type 0 where
   pub long : length s ≡ 2304
   pub shown : (t r : ℕ) → 1 ≤ t → t ≤ n → Inside v t r → getD s (t * 36 + 1 + r) 0 ≡ getD room (t * 36 + 1 + r) 0
-  pub hidden : (t r : ℕ) → r < 35 → (t ≡ 0) ⊎ ((n < t) ⊎ ((r < firstAt v t) ⊎ (firstAt v t + 8 * v .blocks ≤ r))) →
+  pub hidden : (t r : ℕ) → r < 35 → (t ≡ 0) ⊎ ((n < t) ⊎ ((r < firstAt v t) ⊎ (firstAt v t + 4 * v .blocks ≤ r))) →
       getD s (t * 36 + 1 + r) 0 ≡ 0
   pub edge : (t : ℕ) → getD s (t * 36) 0 ≡ 0
 

@@ -111,8 +111,8 @@ fn wipe(sets: &mut [u32], i: usize)
     ensures { λ r. ⌜ Rewritten (now (sets .entry)) (λ j. 0) i 32 (now (sets .exit)) ⌝ }
 {
     let mut b: usize = 0;
-    while b < 4 {
-        words::put_eight(sets, i + 8 * b, [0u32; 8]);
+    while b < 8 {
+        words::put_four(sets, i + 4 * b, [0u32; 4]);
         b += 1;
     }
 }

@@ -14,9 +14,9 @@ fn copy_free(room: &mut [u32], free: &[u32], i: usize)
     ensures { λ r. ⌜ Rewritten (now (room .entry)) (λ j. getD (now (free .entry)) j 0) i 32 (now (room .exit)) ⌝ }
 {
     let mut b: usize = 0;
-    while b < 4 {
-        let n = words::eight(free, 8 * b);
-        words::put_eight(room, i + 8 * b, n);
+    while b < 8 {
+        let n = words::four(free, 4 * b);
+        words::put_four(room, i + 4 * b, n);
         b += 1;
     }
 }

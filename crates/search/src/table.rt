@@ -26,22 +26,22 @@ pub fn member(g: Scene, s: &[u32], t: usize, c: usize) -> bool
     words::has(s, t * 36 + 1 + r, c - r * w)
 }
 
-// Copies blocks of eight rows of the room into a table, from row i on.
+// Copies blocks of four rows of the room into a table, from row i on.
 fn lay_rows(sets: &mut [u32], room: &[u32], i: usize, blocks: usize)
-    requires { ⌜ (length (now sets) ≡ 2304) × (length (now room) ≡ 2304) × (blocks ≤ 4) × (i + 8 * blocks ≤ 2304) ⌝ }
-    ensures { λ r. ⌜ Rewritten (now (sets .entry)) (λ j. getD (now (room .entry)) (i + j) 0) i (8 * blocks) (now (sets .exit)) ⌝ }
+    requires { ⌜ (length (now sets) ≡ 2304) × (length (now room) ≡ 2304) × (blocks ≤ 8) × (i + 4 * blocks ≤ 2304) ⌝ }
+    ensures { λ r. ⌜ Rewritten (now (sets .entry)) (λ j. getD (now (room .entry)) (i + j) 0) i (4 * blocks) (now (sets .exit)) ⌝ }
 {
     let mut b: usize = 0;
     while b < blocks {
-        let n = words::eight(room, i + 8 * b);
-        words::put_eight(sets, i + 8 * b, n);
+        let n = words::four(room, i + 4 * b);
+        words::put_four(sets, i + 4 * b, n);
         b += 1;
     }
 }
 
 // Lays the room of the window at beats 1 to the limit into an empty table.
 pub fn lay(v: Window, sets: &mut [u32], room: &[u32])
-    requires { ⌜ (1 ≤ v .blocks) × (v .blocks ≤ 4) × (v .limit ≤ 63) ⌝ }
+    requires { ⌜ (1 ≤ v .blocks) × (v .blocks ≤ 8) × (v .limit ≤ 63) ⌝ }
     requires { ⌜ (now sets ≡ replicate 2304 0) × (length (now room) ≡ 2304) ⌝ }
     ensures { λ r. ⌜ LaidRows v (now (room .entry)) (v .limit) (now (sets .exit)) ⌝ }
 {

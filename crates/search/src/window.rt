@@ -1,4 +1,4 @@
-// The window of rows that a search within a limit of beats looks at: blocks of eight rows from a first row on, which follows the beats.
+// The window of rows that a search within a limit of beats looks at: blocks of four rows from a first row on, which follows the beats.
 ghost use mathlib.Core.Path.{_≡_};
 ghost use Prim.Native.Nat.{_+_, _-_, _/_, _%_, _≤_, _<_};
 ghost use Rattle.search.specs.Window.{gap as Window·gap, smaller as Window·smaller, larger as Window·larger};
@@ -54,12 +54,12 @@ fn gap(m: usize, n: usize) -> usize
 
 // The first row at beat t.
 pub fn first_row(v: Window, t: usize) -> usize
-    requires { ⌜ v .blocks ≤ 4 ⌝ }
+    requires { ⌜ v .blocks ≤ 8 ⌝ }
     ensures { λ r. ⌜ r ≡ firstAt v t ⌝ }
 {
     let from = larger(v.top, minus(v.start, t));
     let first = larger(from, minus(v.goal, minus(v.limit, t)));
-    smaller(first, 32 - 8 * v.blocks)
+    smaller(first, 32 - 4 * v.blocks)
 }
 
 // How many beats a way from the start to the goal takes at least.
@@ -96,6 +96,6 @@ pub fn around(g: Scene, start: usize, goal: usize, limit: usize) -> Window
         start: from,
         goal: to,
         top: minus(smaller(from, to), spare),
-        blocks: smaller(4, (high + 8) / 8),
+        blocks: smaller(8, (high + 4) / 4),
     }
 }

@@ -88,27 +88,27 @@ pub fn drop_at(s: &mut [u32], i: usize, w: usize, scale: usize, cells: usize, c:
     }
 }
 
-// The eight rows from row i on.
-pub fn eight(s: &[u32], i: usize) -> [u32; 8]
-    requires { ⌜ i + 8 ≤ length (now s) ⌝ }
-    ensures { λ x. ⌜ x ≡ filled (replicate 8 0) (λ r. getD (now (s .entry)) (i + r) 0) 8 ⌝ }
+// The four rows from row i on.
+pub fn four(s: &[u32], i: usize) -> [u32; 4]
+    requires { ⌜ i + 4 ≤ length (now s) ⌝ }
+    ensures { λ x. ⌜ x ≡ filled (replicate 4 0) (λ r. getD (now (s .entry)) (i + r) 0) 4 ⌝ }
 {
-    let mut n = [0u32; 8];
+    let mut n = [0u32; 4];
     let mut r: usize = 0;
-    while r < 8 {
+    while r < 4 {
         n[r] = s[i + r];
         r += 1;
     }
     n
 }
 
-// Writes eight rows into a table, from row i on.
-pub fn put_eight(table: &mut [u32], i: usize, s: [u32; 8])
-    requires { ⌜ i + 8 ≤ length (now table) ⌝ }
-    ensures { λ x. ⌜ now (table .exit) ≡ written (now (table .entry)) i s 8 ⌝ }
+// Writes four rows into a table, from row i on.
+pub fn put_four(table: &mut [u32], i: usize, s: [u32; 4])
+    requires { ⌜ i + 4 ≤ length (now table) ⌝ }
+    ensures { λ x. ⌜ now (table .exit) ≡ written (now (table .entry)) i s 4 ⌝ }
 {
     let mut r: usize = 0;
-    while r < 8 {
+    while r < 4 {
         table[i + r] = s[r];
         r += 1;
     }
@@ -121,29 +121,29 @@ fn narrow_row(over: u32, here: u32, under: u32, mask: u32) -> u32
     (here | here << 1 | here >> 1 | over | under) & mask
 }
 
-// Eight rows of a table from row `to` on, each with what a step brings to it alone; the rows that it comes from begin at row `at`,
-// one before the first of the eight.
-pub fn narrow_eight(s: &[u32], at: usize, to: usize) -> [u32; 8]
-    requires { ⌜ (at + 10 ≤ length (now s)) × (to + 8 ≤ length (now s)) ⌝ }
-    ensures { λ x. ⌜ x ≡ filled (replicate 8 0) (narrowAt (now (s .entry)) at to) 8 ⌝ }
+// Four rows of a table from row `to` on, each with what a step brings to it alone; the rows that it comes from begin at row `at`,
+// one before the first of the four.
+pub fn narrow_four(s: &[u32], at: usize, to: usize) -> [u32; 4]
+    requires { ⌜ (at + 6 ≤ length (now s)) × (to + 4 ≤ length (now s)) ⌝ }
+    ensures { λ x. ⌜ x ≡ filled (replicate 4 0) (narrowAt (now (s .entry)) at to) 4 ⌝ }
 {
-    let mut n = [0u32; 8];
+    let mut n = [0u32; 4];
     let mut r: usize = 0;
-    while r < 8 {
+    while r < 4 {
         n[r] = narrow_row(s[at + r], s[at + r + 1], s[at + r + 2], s[to + r]);
         r += 1;
     }
     n
 }
 
-// Whether some of the twelve rows of s from row `at` on has a digit that the row of `room` has not, which begin at row `to`.
+// Whether some of the six rows of s from row `at` on has a digit that the row of `room` has not, which begin at row `to`.
 pub fn meets(s: &[u32], room: &[u32], at: usize, to: usize) -> bool
-    requires { ⌜ (at + 12 ≤ length (now s)) × (to + 12 ≤ length (now room)) ⌝ }
-    ensures { λ x. ⌜ (x ≡ false → Within (now (s .entry)) (now (room .entry)) at to 12) ⌝ }
+    requires { ⌜ (at + 6 ≤ length (now s)) × (to + 6 ≤ length (now room)) ⌝ }
+    ensures { λ x. ⌜ (x ≡ false → Within (now (s .entry)) (now (room .entry)) at to 6) ⌝ }
 {
     let mut x: u32 = 0;
     let mut r: usize = 0;
-    while r < 12 {
+    while r < 6 {
         x = x | without(s[at + r], room[to + r]);
         r += 1;
     }

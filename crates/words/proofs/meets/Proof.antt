@@ -12,58 +12,46 @@ use Rattle.words.proofs.meets.Lts as lts
 use Rattle.words.proofs.without.Reads as without-reads
 
 abbrev Inv-loop : tie.InvT-loop
-Inv-loop s room at to x₀ r₀ x r = (r ≤ 12) × (x ≡ 0 → Within s room at to r)
+Inv-loop s room at to x₀ r₀ x r = (r ≤ 6) × (x ≡ 0 → Within s room at to r)
 
 abbrev μ-loop : tie.MeasureT-loop
-μ-loop s room at to x₀ r₀ x r = 12 - r
+μ-loop s room at to x₀ r₀ x r = 6 - r
 
--- src/lib.rt:146:5
 loop-holds : tie.Need-loop-holds Inv-loop μ-loop
 loop-holds c = (search needs, λ e. within-none _ _ _ _)
 
--- src/lib.rt:147:27
 add-without : tie.Need-add-without Inv-loop μ-loop
 add-without c = search needs
 
--- src/lib.rt:147:25
 mul-without : tie.Need-mul-without Inv-loop μ-loop
 mul-without c = search needs
 
--- src/lib.rt:147:25
 shared-slice-read-without : tie.Need-shared-slice-read-without Inv-loop μ-loop
 shared-slice-read-without c = search needs
 
--- src/lib.rt:147:41
 add-without-2 : tie.Need-add-without-2 Inv-loop μ-loop
 add-without-2 c = search needs
 
--- src/lib.rt:147:36
 mul-without-2 : tie.Need-mul-without-2 Inv-loop μ-loop
 mul-without-2 c = search needs
 
--- src/lib.rt:147:36
 shared-slice-read-without-2 : tie.Need-shared-slice-read-without-2 Inv-loop μ-loop
 shared-slice-read-without-2 c = search needs
 
--- src/lib.rt:147:17
 without-requires : tie.Need-without-requires Inv-loop μ-loop
 without-requires c κs = search needs
 
--- src/lib.rt:148:9
 add-r : tie.Need-add-r Inv-loop μ-loop
 add-r c = search needs
 
--- src/lib.rt:146:5
 loop-less : tie.Need-loop-less Inv-loop μ-loop
 loop-less c = search needs
 
--- src/lib.rt:146:5
 loop-again : tie.Need-loop-again Inv-loop μ-loop
 loop-again c = (search needs, within-more _ _ _ _ _ _ _ _ (c .without .ensures) refl (c .before .before .before .before .loop .inv .1))
 
--- src/lib.rt:140:1
 returns : tie.Need-returns Inv-loop μ-loop
-returns c = λ e. let q : c .before .loop .r ≡ 12 = omega arith in let z : c .before .loop .x ≡ 0 = eqb-true _ _ (not-false _ e) in rw q at (c .before .loop .inv .1 z)
+returns c = λ e. let q : c .before .loop .r ≡ 6 = omega arith in let z : c .before .loop .x ≡ 0 = eqb-true _ _ (not-false _ e) in rw q at (c .before .loop .inv .1 z)
 
 pub meets-spec : {M : Type 1} → statement M
 meets-spec =

@@ -1,4 +1,4 @@
-use Rattle.search.proofs.BlockLaws.{rewritten-eight}
+use Rattle.search.proofs.BlockLaws.{rewritten-four}
 use native.Mathlib.Omega.{arith}
 use borrow.Author.Needs.{needs}
 use Rattle.search.proofs.narrow.narrow_block.Statement.{statement}
@@ -6,45 +6,38 @@ use Rattle.search.proofs.narrow.narrow_block.Tie as tie
 use Rattle.search.proofs.narrow.narrow_block.Reads as reads
 use Rattle.search.proofs.narrow.narrow_block.Lts as lts
 use Rattle.words.proofs.meets.Reads as meets-reads
-use Rattle.words.proofs.narrow_eight.Reads as narrow-eight-reads
-use Rattle.words.proofs.put_eight.Reads as put-eight-reads
+use Rattle.words.proofs.narrow_four.Reads as narrow-four-reads
+use Rattle.words.proofs.put_four.Reads as put-four-reads
 
--- src/narrow.rt:20:43
-add-narrow-eight : tie.Need-add-narrow-eight
-add-narrow-eight c = omega (arith, c .before .before .before .pre .3)
+add-narrow-four : tie.Need-add-narrow-four
+add-narrow-four c = omega (arith, c .before .before .before .pre .3)
 
--- src/narrow.rt:20:9
-narrow-eight-requires : tie.Need-narrow-eight-requires
-narrow-eight-requires c κs = (omega (arith, c .before .before .before .pre .0, c .before .before .before .pre .2), omega (arith, c .before .before .before .pre .0, c .before .before .before .pre .3))
+narrow-four-requires : tie.Need-narrow-four-requires
+narrow-four-requires c κs = (omega (arith, c .before .before .before .pre .0, c .before .before .before .pre .2), omega (arith, c .before .before .before .pre .0, c .before .before .before .pre .3))
 
--- src/narrow.rt:21:9
 meets-requires : tie.Need-meets-requires
 meets-requires c κs = (omega (arith, c .before .before .before .before .before .pre .0, c .before .before .before .before .before .pre .2), omega (arith, c .before .before .before .before .before .pre .1, c .before .before .before .before .before .pre .3))
 
--- src/narrow.rt:22:28
-add-put-eight : tie.Need-add-put-eight
-add-put-eight c = omega (arith, c .before .before .before .before .before .before .before .pre .3)
+add-put-four : tie.Need-add-put-four
+add-put-four c = omega (arith, c .before .before .before .before .before .before .before .pre .3)
 
--- src/narrow.rt:22:5
-put-eight-requires : tie.Need-put-eight-requires
-put-eight-requires c κs = omega (arith, c .before .before .before .before .before .before .before .pre .0, c .before .before .before .before .before .before .before .pre .3)
+put-four-requires : tie.Need-put-four-requires
+put-four-requires c κs = omega (arith, c .before .before .before .before .before .before .before .pre .0, c .before .before .before .before .before .before .before .pre .3)
 
--- src/narrow.rt:15:1
 same-length : tie.Need-same-length
 same-length c = search needs
 
--- src/narrow.rt:15:1
 returns : tie.Need-returns
-returns c = (rewritten-eight _ _ _ _ _ (omega (arith, c .before .before .before .before .before .before .before .before .before .before .pre .0, c .before .before .before .before .before .before .before .before .before .before .pre .3)) (c .before .before .before .before .before .before .narrow-eight .ensures) (c .before .before .put-eight .ensures), c .before .before .before .before .meets .ensures)
+returns c = (rewritten-four _ _ _ _ _ (omega (arith, c .before .before .before .before .before .before .before .before .before .before .pre .0, c .before .before .before .before .before .before .before .before .before .before .pre .3)) (c .before .before .before .before .before .before .narrow-four .ensures) (c .before .before .put-four .ensures), c .before .before .before .before .meets .ensures)
 
 pub narrow-block-spec : {M : Type 1} → statement M
 narrow-block-spec =
     tie.close
     (tie.spec
-    add-narrow-eight
-    narrow-eight-requires
+    add-narrow-four
+    narrow-four-requires
     meets-requires
-    add-put-eight
-    put-eight-requires
+    add-put-four
+    put-four-requires
     same-length
     returns)

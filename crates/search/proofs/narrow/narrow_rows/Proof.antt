@@ -14,57 +14,46 @@ use Rattle.search.proofs.narrow.narrow_rows.Lts as lts
 use Rattle.search.proofs.narrow.narrow_block.Reads as narrow-block-reads
 
 abbrev Inv-loop : tie.InvT-loop
-Inv-loop sets₀ room at to blocks met₀ b₀ sets met b = (b ≤ blocks) × Rewritten sets₀ (narrowAt sets₀ at (to + 1)) (to + 1) (8 * b) sets × (met ≡ false → 1 ≤ 8 * b → Within sets₀ room at to (8 * b + 4))
+Inv-loop sets₀ room at to blocks met₀ b₀ sets met b = (b ≤ blocks) × Rewritten sets₀ (narrowAt sets₀ at (to + 1)) (to + 1) (4 * b) sets × (met ≡ false → 1 ≤ 4 * b → Within sets₀ room at to (4 * b + 2))
 
 abbrev μ-loop : tie.MeasureT-loop
 μ-loop sets₀ room at to blocks met₀ b₀ sets met b = blocks - b
 
--- src/narrow.rt:35:5
 loop-holds : tie.Need-loop-holds Inv-loop μ-loop
 loop-holds c = (search needs, rewritten-none _ _ _, λ e h. absurd (omega arith))
 
--- src/narrow.rt:36:50
 mul-narrow-block : tie.Need-mul-narrow-block Inv-loop μ-loop
 mul-narrow-block c = search needs
 
--- src/narrow.rt:36:45
 add-narrow-block : tie.Need-add-narrow-block Inv-loop μ-loop
 add-narrow-block c = search needs
 
--- src/narrow.rt:36:62
 mul-narrow-block-2 : tie.Need-mul-narrow-block-2 Inv-loop μ-loop
 mul-narrow-block-2 c = search needs
 
--- src/narrow.rt:36:57
 add-narrow-block-2 : tie.Need-add-narrow-block-2 Inv-loop μ-loop
 add-narrow-block-2 c = search needs
 
--- src/narrow.rt:36:13
 narrow-block-requires : tie.Need-narrow-block-requires Inv-loop μ-loop
 narrow-block-requires c κs = let p = c .before .before .before .before .before .pre .0 in let l = c .before .before .loop .inv .1 .long in let t = c .before .loop-test .taken in (l ∙ p .0, p .1, omega (arith, c .before .before .before .before .before .pre .1 .0, t), omega (arith, c .before .before .before .before .before .pre .1 .1, t))
 
--- src/narrow.rt:38:9
 add-b : tie.Need-add-b Inv-loop μ-loop
 add-b c = search needs
 
--- src/narrow.rt:35:5
 loop-less : tie.Need-loop-less Inv-loop μ-loop
 loop-less c = search needs
 
--- src/narrow.rt:35:5
 loop-again : tie.Need-loop-again Inv-loop μ-loop
-loop-again c = let p = c .before .before .before .before .before .before .before .before .pre .0 in let t = c .before .before .before .before .loop-test .taken in let n : 8 * (c .before .before .before .before .before .loop .b + 1) ≡ 8 * c .before .before .before .before .before .loop .b + 8 = omega arith in
-    let i : c .before .before .before .before .before .before .before .before .args .to + 8 * c .before .before .before .before .before .loop .b + 1 ≡ c .before .before .before .before .before .before .before .before .args .to + 1 + 8 * c .before .before .before .before .before .loop .b = omega arith in (
+loop-again c = let p = c .before .before .before .before .before .before .before .before .pre .0 in let t = c .before .before .before .before .loop-test .taken in let n : 4 * (c .before .before .before .before .before .loop .b + 1) ≡ 4 * c .before .before .before .before .before .loop .b + 4 = omega arith in
+    let i : c .before .before .before .before .before .before .before .before .args .to + 4 * c .before .before .before .before .before .loop .b + 1 ≡ c .before .before .before .before .before .before .before .before .args .to + 1 + 4 * c .before .before .before .before .before .loop .b = omega arith in (
       search needs,
       rw n (rewritten-on _ _ _ _ _ _ _ (c .before .before .before .before .before .loop .inv .1) (rw i at (c .before .before .narrow-block .ensures .0)) (λ j h. block-next _ _ _ _ _ _ (omega (arith, t, p .3)) (p .4) (c .before .before .before .before .before .loop .inv .1) j h (omega (arith, t, p .3)))),
       λ e h. let o = or-neither _ _ e in rw n (block-within _ _ _ _ _ _ (omega (arith, t, p .3)) (p .4) (c .before .before .before .before .before .loop .inv .1) _ (omega (arith, t, p .3)) (c .before .before .narrow-block .ensures .1 (o .1)) (c .before .before .before .before .before .loop .inv .2 (o .0))),
     )
 
--- src/narrow.rt:27:1
 same-length : tie.Need-same-length Inv-loop μ-loop
 same-length c = c .before .loop .inv .1 .long
 
--- src/narrow.rt:27:1
 returns : tie.Need-returns Inv-loop μ-loop
 returns c = let e : c .before .loop .b ≡ c .before .before .before .before .args .blocks = omega arith in (rw e at (c .before .loop .inv .1), λ h. rw e at (c .before .loop .inv .2 h (omega (arith, e, c .before .before .before .before .pre .0 .2))))
 

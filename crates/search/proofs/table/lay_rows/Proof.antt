@@ -6,12 +6,12 @@ use mathlib.Core.Path.{_≡_}
 use borrow.Author.Needs.{needs}
 use lib.ListN.{getD}
 use Rattle.search.specs.Table.{Rewritten}
-use Rattle.search.proofs.RewriteLaws.{rewritten-none, rewritten-more, eight-after}
+use Rattle.search.proofs.RewriteLaws.{rewritten-none, rewritten-more, four-after}
 use Rattle.search.proofs.table.lay_rows.Statement.{statement}
 use Rattle.search.proofs.table.lay_rows.Tie as tie
 
 abbrev Inv-loop : tie.InvT-loop
-Inv-loop sets₀ room i blocks b₀ sets b = (b ≤ blocks) × Rewritten sets₀ (λ j. getD room (i + j) 0) i (8 * b) sets
+Inv-loop sets₀ room i blocks b₀ sets b = (b ≤ blocks) × Rewritten sets₀ (λ j. getD room (i + j) 0) i (4 * b) sets
 
 abbrev μ-loop : tie.MeasureT-loop
 μ-loop sets₀ room i blocks b₀ sets b = blocks - b
@@ -19,23 +19,23 @@ abbrev μ-loop : tie.MeasureT-loop
 loop-holds : tie.Need-loop-holds Inv-loop μ-loop
 loop-holds c = (search needs, rewritten-none _ _ _)
 
-mul-eight : tie.Need-mul-eight Inv-loop μ-loop
-mul-eight c = search needs
+mul-four : tie.Need-mul-four Inv-loop μ-loop
+mul-four c = search needs
 
-add-eight : tie.Need-add-eight Inv-loop μ-loop
-add-eight c = search needs
+add-four : tie.Need-add-four Inv-loop μ-loop
+add-four c = search needs
 
-eight-requires : tie.Need-eight-requires Inv-loop μ-loop
-eight-requires c κs = search needs
+four-requires : tie.Need-four-requires Inv-loop μ-loop
+four-requires c κs = search needs
 
-mul-put-eight : tie.Need-mul-put-eight Inv-loop μ-loop
-mul-put-eight c = search needs
+mul-put-four : tie.Need-mul-put-four Inv-loop μ-loop
+mul-put-four c = search needs
 
-add-put-eight : tie.Need-add-put-eight Inv-loop μ-loop
-add-put-eight c = search needs
+add-put-four : tie.Need-add-put-four Inv-loop μ-loop
+add-put-four c = search needs
 
-put-eight-requires : tie.Need-put-eight-requires Inv-loop μ-loop
-put-eight-requires c κs = omega (arith, c .before .before .before .loop .inv .1 .long)
+put-four-requires : tie.Need-put-four-requires Inv-loop μ-loop
+put-four-requires c κs = omega (arith, c .before .before .before .loop .inv .1 .long)
 
 add-b : tie.Need-add-b Inv-loop μ-loop
 add-b c = search needs
@@ -48,8 +48,8 @@ loop-again c =
     let c₄ = c .before .before .before .before in let c₈ = c₄ .before .before .before .before in (
       search needs,
       rewritten-more _ _ _ _ _ _ (c₄ .before .before .loop .b) (omega arith) (c₄ .before .before .loop .inv .1)
-          (c .before .before .put-eight .ensures)
-          (eight-after _ (c₈ .before .args .room .now) (c₈ .before .args .i) (8 * c₄ .before .before .loop .b) (c₄ .eight .ensures)),
+          (c .before .before .put-four .ensures)
+          (four-after _ (c₈ .before .args .room .now) (c₈ .before .args .i) (4 * c₄ .before .before .loop .b) (c₄ .four .ensures)),
     )
 
 same-length : tie.Need-same-length Inv-loop μ-loop
@@ -68,12 +68,12 @@ lay-rows-spec =
     Inv-loop
     μ-loop
     loop-holds
-    mul-eight
-    add-eight
-    eight-requires
-    mul-put-eight
-    add-put-eight
-    put-eight-requires
+    mul-four
+    add-four
+    four-requires
+    mul-put-four
+    add-put-four
+    put-four-requires
     add-b
     loop-less
     loop-again

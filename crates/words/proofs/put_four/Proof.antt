@@ -5,63 +5,52 @@ use Rattle.words.specs.Rows.{written}
 use Rattle.words.proofs.FillLaws.{written-none, written-more}
 use borrow.Author.Needs.{needs}
 use native.Mathlib.Omega.{arith}
-use Rattle.words.proofs.put_eight.Statement.{statement}
-use Rattle.words.proofs.put_eight.Tie as tie
-use Rattle.words.proofs.put_eight.Reads as reads
-use Rattle.words.proofs.put_eight.Lts as lts
+use Rattle.words.proofs.put_four.Statement.{statement}
+use Rattle.words.proofs.put_four.Tie as tie
+use Rattle.words.proofs.put_four.Reads as reads
+use Rattle.words.proofs.put_four.Lts as lts
 
 abbrev Inv-loop : tie.InvT-loop
-Inv-loop table₀ i s r₀ table r = (r ≤ 8) × (length table ≡ length table₀) × (table ≡ written table₀ i s r)
+Inv-loop table₀ i s r₀ table r = (r ≤ 4) × (length table ≡ length table₀) × (table ≡ written table₀ i s r)
 
 abbrev μ-loop : tie.MeasureT-loop
-μ-loop table₀ i s r₀ table r = 8 - r
+μ-loop table₀ i s r₀ table r = 4 - r
 
--- src/lib.rt:111:5
 loop-holds : tie.Need-loop-holds Inv-loop μ-loop
 loop-holds c = (search needs, refl, written-none _ _ _)
 
--- src/lib.rt:112:24
 mul-table : tie.Need-mul-table Inv-loop μ-loop
 mul-table c = search needs
 
--- src/lib.rt:112:24
 array-read-table : tie.Need-array-read-table Inv-loop μ-loop
 array-read-table c = search needs
 
--- src/lib.rt:112:15
 add-table : tie.Need-add-table Inv-loop μ-loop
 add-table c = search needs
 
--- src/lib.rt:112:9
 mul-table-2 : tie.Need-mul-table-2 Inv-loop μ-loop
 mul-table-2 c = search needs
 
--- src/lib.rt:112:9
 slice-write-table : tie.Need-slice-write-table Inv-loop μ-loop
 slice-write-table c = let h = c .before .loop .inv .1 in omega arith
 
--- src/lib.rt:113:9
 add-r : tie.Need-add-r Inv-loop μ-loop
 add-r c = search needs
 
--- src/lib.rt:111:5
 loop-less : tie.Need-loop-less Inv-loop μ-loop
 loop-less c = search needs
 
--- src/lib.rt:111:5
 loop-again : tie.Need-loop-again Inv-loop μ-loop
 loop-again c = (search needs, simp length-set (c .before .loop .inv .1), written-more _ _ _ _ _ (c .before .loop .inv .2))
 
--- src/lib.rt:106:1
 same-length : tie.Need-same-length Inv-loop μ-loop
 same-length c = c .before .loop .inv .1
 
--- src/lib.rt:106:1
 returns : tie.Need-returns Inv-loop μ-loop
-returns c = let e : c .before .loop .r ≡ 8 = omega arith in rw e at (c .before .loop .inv .2)
+returns c = let e : c .before .loop .r ≡ 4 = omega arith in rw e at (c .before .loop .inv .2)
 
-pub put-eight-spec : {M : Type 1} → statement M
-put-eight-spec =
+pub put-four-spec : {M : Type 1} → statement M
+put-four-spec =
     tie.close
     (tie.spec
     Inv-loop
