@@ -55,7 +55,13 @@ module _ (s q : List ℕ) (f : ℕ → ℕ) (at to n : ℕ) (few : n ≤ 32) (ap
   -- The next block of the changed table is the next of the table as it was.
   pub block-next : (j : ℕ) → j < 4 → n + 4 ≤ 32 → narrowAt q (at + n) (to + 1 + n) j ≡ narrowAt s at (to + 1) (n + j)
   unfolding narrowAt
-  block-next j l h = rw (source (n + j) _ (omega arith) zeroth, source (n + j + 1) _ (omega arith) first, source (n + j + 2) _ (omega arith) second, mask) (rw (next 1, next 2))
+  block-next j l h = rw (
+    source (n + j) _ (omega arith) zeroth,
+    source (n + j + 1) _ (omega arith) first,
+    source (n + j + 2) _
+        (omega arith) second,
+    mask,
+  ) (rw (next 1, next 2))
     where
       source : (i p : ℕ) → i < 36 → p ≡ at + i → getD q p 0 ≡ getD s (at + i) 0
       source i p b e = rw e (block-source i b)

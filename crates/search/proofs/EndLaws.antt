@@ -105,7 +105,8 @@ module _ (g : Scene) (v : Window) (s p : List ℕ) (goal a : ℕ) (thin : 1 ≤ 
       (has-added p (a * 36 + 1 + goal / g .width) (goal % g .width) (a * 36 + 1 + goal / g .width) (goal % g .width)
       (omega (arith, goal-row, wiped .long, old .tidy .long))
       ∙ or-inr (has p (a * 36 + 1 + goal / g .width) (goal % g .width)) _
-      (and-both (eq-eqb (a * 36 + 1 + goal / g .width) (a * 36 + 1 + goal / g .width) refl) (eq-eqb (goal % g .width) (goal % g .width) refl)))
+      (and-both (eq-eqb (a * 36 + 1 + goal / g .width) (a * 36 + 1 + goal / g .width) refl) (eq-eqb (goal % g .width)
+      (goal % g .width) refl)))
 
   -- Nothing else is.
   end-alone : (c : ℕ) → inSet g end a c ≡ true → c ≡ goal

@@ -57,7 +57,8 @@ module _ (g : Scene) (v : Window) (room s : List ℕ) (start : ℕ) (thin : 1 �
   at-row : (i k : ℕ) → has s i k ≡ true → has room i k ≡ true
   unfolding has
   at-row i k e =
-      ⊎-elim (λ (h : i % 36 < 1). absurd (true-false-absurd e (ap (λ (x : ℕ). digit x k) (edge h) ∙ digit-zero k))) inner (lt-or-le (i % 36) 1)
+      ⊎-elim (λ (h : i % 36 < 1). absurd (true-false-absurd e (ap (λ (x : ℕ). digit x k) (edge h) ∙ digit-zero k))) inner (lt-or-le
+      (i % 36) 1)
     where
       edge : i % 36 < 1 → getD s i 0 ≡ 0
       edge h =
@@ -135,7 +136,8 @@ module _ (g : Scene) (v : Window) (room s : List ℕ) (start : ℕ) (thin : 1 �
       (has-q (0 * 36 + 1 + start / g .width) (start % g .width)
       ∙ or-inr (has s (0 * 36 + 1 + start / g .width) (start % g .width))
       (eqb (0 * 36 + 1 + start / g .width) (1 + start / g .width) && eqb (start % g .width) (start % g .width))
-      (and-both (eq-eqb (0 * 36 + 1 + start / g .width) (1 + start / g .width) (omega arith)) (eq-eqb (start % g .width) (start % g .width) refl)))
+      (and-both (eq-eqb (0 * 36 + 1 + start / g .width) (1 + start / g .width) (omega arith)) (eq-eqb (start % g .width)
+      (start % g .width) refl)))
 
   says : (t c : ℕ) → 1 ≤ t → inSet g q t c ≡ true → inSet g room t c ≡ true
   says t c l e =

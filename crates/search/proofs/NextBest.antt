@@ -214,7 +214,12 @@ module _ (w c : ℕ) (thin : 0 < w) where
         second : (b : Bool) → take (ltb 0 (c % w)) (c - 1) ≡ b → take (leb w c) (c - w) ≡ false → Taken (nextOf take w c other)
         second true t p =
             let s : (ltb 0 (c % w) ≡ true) × Good (c - 1) = says (ltb 0 (c % w)) (c - 1) t in
-            rw (← next-left take w c other p t) (record { beside = near-left (ltb-true 0 (c % w) (s .0)); leads = s .1; least = least-left x p })
+            rw (← next-left take w c other p t) (record {
+              beside = near-left (ltb-true 0 (c % w)
+                  (s .0));
+              leads = s .1;
+              least = least-left x p;
+            })
         second false t p = third (take true c) refl p t
 
         first : (b : Bool) → take (leb w c) (c - w) ≡ b → Taken (nextOf take w c other)

@@ -40,7 +40,8 @@ pick-below true x y n f h = f refl
 pick-below false x y n f h = h
 
 -- The next cell is below n where every cell that is taken is.
-pub next-below : (take : Bool → ℕ → Bool) (w c other n : ℕ) → ((b : Bool) (d : ℕ) → take b d ≡ true → d < n) → other < n → nextOf take w c other < n
+pub next-below : (take : Bool → ℕ → Bool) (w c other n : ℕ) → ((b : Bool)
+    (d : ℕ) → take b d ≡ true → d < n) → other < n → nextOf take w c other < n
 unfolding nextOf
 next-below take w c other n f h =
     pick-below (take (leb w c) (c - w)) (c - w) _ n (f (leb w c) (c - w))
@@ -87,4 +88,5 @@ module _ (g : Scene) (k : ℕ) (m s : List ℕ) (goal a t c : ℕ) where
   step-after h = rw (le-ltb (t + 1) a h, stepOf)
 
   pub next-inside : (x : ℕ) → c < g .cells → x ≡ nextOf (leadsOf g k m s (t + 1) t c) (g .width) c c → x < g .cells
-  next-inside x h e = rw e (next-below (leadsOf g k m s (t + 1) t c) (g .width) c c (g .cells) (λ b d. leads-inside g k m s (t + 1) t c b d) h)
+  next-inside x h e = rw e (next-below (leadsOf g k m s (t + 1) t c) (g .width) c c (g .cells) (λ b d. leads-inside g k m s
+      (t + 1) t c b d) h)

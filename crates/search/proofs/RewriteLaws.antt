@@ -47,7 +47,8 @@ pub rewritten-more : (s q x r : List ℕ) (f : ℕ → ℕ) (i b : ℕ) → i + 
 rewritten-more s q x r f i b fits old e says = rw e (block-made s q x f i b fits old says)
 
 -- Four rows that were read.
-pub four-rows : (x m : List ℕ) (k : ℕ) → x ≡ filled (replicate 4 0) (λ r. getD m (k + r) 0) 4 → (j : ℕ) → j < 4 → getD x j 0 ≡ getD m (k + j) 0
+pub four-rows : (x m : List ℕ) (k : ℕ) → x ≡ filled (replicate 4 0) (λ r. getD m (k + r) 0) 4 → (j : ℕ) → j < 4 → getD x j 0 ≡ getD m
+    (k + j) 0
 four-rows x m k e j h = rw e (filled-in (replicate 4 0) (λ r. getD m (k + r) 0) 4 j (omega (arith, length-replicate {A = ℕ} 4 0)) h)
 
 -- The same where the first of them is the sum of two numbers.

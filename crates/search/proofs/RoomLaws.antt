@@ -195,7 +195,8 @@ module _ (g : Scene) (s : List ℕ) (a x : ℕ) (thin : 1 ≤ g .width) (room : 
 
       back : eqb c x ≡ true →
           (eqb (a * 36 + 1 + c / g .width) (a * 36 + 1 + x / g .width) && eqb (c % g .width) (x % g .width)) ≡ true
-      back e = let p : c ≡ x = eqb-true c x e in rw p (eqbs-hold (a * 36 + 1 + x / g .width) (a * 36 + 1 + x / g .width) (x % g .width) (x % g .width) (refl, refl))
+      back e = let p : c ≡ x = eqb-true c x e in rw p (eqbs-hold (a * 36 + 1 + x / g .width) (a * 36 + 1 + x / g .width)
+          (x % g .width) (x % g .width) (refl, refl))
 
   -- At its beat the cell is gone.
   less-here : (c : ℕ) → inSet g less a c ≡ (inSet g s a c && not (eqb c x))

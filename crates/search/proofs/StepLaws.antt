@@ -31,7 +31,8 @@ module _ (g : Scene) (k : ℕ) (v : Window) (m s : List ℕ) where
         first = λ c. y .other 0 c (λ e. omega arith) ∙ x .first c;
         later = λ t c h. y .other t c (λ e. omega arith) ∙ x .later t c (omega arith);
         says = λ t d h e. ⊎-elim (λ (p : t ≡ n). last-says d t p e) (λ (p : t < n). old-says t d p e) (eq-or-lt-of-le (omega arith));
-        holds = λ t d h e z. ⊎-elim (λ (p : t ≡ n). last-holds d t p e z) (λ (p : t < n). old-holds t d p e z) (eq-or-lt-of-le (omega arith));
+        holds = λ t d h e z. ⊎-elim (λ (p : t ≡ n). last-holds d t p e z) (λ (p : t < n). old-holds t d p e z) (eq-or-lt-of-le
+            (omega arith));
       }
     where
       of-q : (t b d : ℕ) → t ≤ n → Entered g k m q t b d → Entered g k m r t b d

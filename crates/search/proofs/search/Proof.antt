@@ -27,14 +27,16 @@ free-rows-requires c κs =
 
 best-route-requires : tie.Need-best-route-requires
 best-route-requires c κs =
-    granted-searchable _ _ _ _ _ (request-granted _ _ _ _ (passes (c .before .before .before .request .ensures) (c .before .enum-told .given .1))) (c .free-rows .ensures)
+    granted-searchable _ _ _ _ _ (request-granted _ _ _ _ (passes (c .before .before .before .request .ensures)
+    (c .before .enum-told .given .1))) (c .free-rows .ensures)
 
 returns : tie.Need-returns
 unfolding searchOf
 returns c =
     let c₄ = c .before .before .before .before in
     says-same (c .best-route .ensures)
-    (ap answered (c .before .free-rows .ensures .same _ _) ∙ answered-passed _ (passes (c₄ .request .ensures) (c .before .before .enum-told .given .1)))
+    (ap answered (c .before .free-rows .ensures .same _ _) ∙ answered-passed _ (passes (c₄ .request .ensures)
+    (c .before .before .enum-told .given .1)))
 
 refused-requires : tie.Need-refused-requires
 refused-requires c κs = search needs

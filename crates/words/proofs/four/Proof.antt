@@ -1,14 +1,14 @@
+-- `words::four` meets its contract. The loop's invariant: the rows passed are copied. The measure is what is left of the rows. Assumes
+-- nothing.
 use Prim.Native.Nat.{ℕ, _+_, _-_, _≤_}
+use native.Mathlib.Omega.{arith}
 use mathlib.Core.Path.{_≡_, refl}
+use borrow.Author.Needs.{needs}
 use lib.ListN.{length, getD, replicate, length-set, length-replicate}
 use Rattle.words.specs.Rows.{filled}
 use Rattle.words.proofs.FillLaws.{filled-none, filled-more}
-use borrow.Author.Needs.{needs}
-use native.Mathlib.Omega.{arith}
 use Rattle.words.proofs.four.Statement.{statement}
 use Rattle.words.proofs.four.Tie as tie
-use Rattle.words.proofs.four.Reads as reads
-use Rattle.words.proofs.four.Lts as lts
 
 abbrev Inv-loop : tie.InvT-loop
 Inv-loop s i n₀ r₀ n r = (r ≤ 4) × (length n ≡ 4) × (n ≡ filled (replicate 4 0) (λ j. getD s (i + j) 0) r)
@@ -44,7 +44,9 @@ loop-again : tie.Need-loop-again Inv-loop μ-loop
 loop-again c = (search needs, simp length-set (c .before .before .loop .inv .1), filled-more _ _ _ _ _ (c .before .before .loop .inv .2) refl)
 
 returns : tie.Need-returns Inv-loop μ-loop
-returns c = let e : c .before .loop .r ≡ 4 = omega arith in rw e at (c .before .loop .inv .2)
+returns c =
+    let e : c .before .loop .r ≡ 4 = omega arith in
+    rw e at (c .before .loop .inv .2)
 
 pub four-spec : {M : Type 1} → statement M
 four-spec =

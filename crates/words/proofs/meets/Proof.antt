@@ -1,15 +1,14 @@
-use borrow.Author.Tests.{eqb-true, not-false}
-use Prim.Native.Nat.{ℕ, _-_, _≤_}
+-- `words::meets` meets its contract. The loop's invariant: while the word is 0 no row passed has a digit outside the room. The measure is
+-- what is left of the rows. Assumes nothing.
+use Prim.Native.Nat.{_-_, _≤_}
+use native.Mathlib.Omega.{arith}
 use mathlib.Core.Path.{_≡_, refl}
+use borrow.Author.Tests.{eqb-true, not-false}
+use borrow.Author.Needs.{needs}
 use Rattle.words.specs.Rows.{Within}
 use Rattle.words.proofs.StepLaws.{within-none, within-more}
-use borrow.Author.Needs.{needs}
-use native.Mathlib.Omega.{arith}
 use Rattle.words.proofs.meets.Statement.{statement}
 use Rattle.words.proofs.meets.Tie as tie
-use Rattle.words.proofs.meets.Reads as reads
-use Rattle.words.proofs.meets.Lts as lts
-use Rattle.words.proofs.without.Reads as without-reads
 
 abbrev Inv-loop : tie.InvT-loop
 Inv-loop s room at to x₀ r₀ x r = (r ≤ 6) × (x ≡ 0 → Within s room at to r)
@@ -48,10 +47,14 @@ loop-less : tie.Need-loop-less Inv-loop μ-loop
 loop-less c = search needs
 
 loop-again : tie.Need-loop-again Inv-loop μ-loop
-loop-again c = (search needs, within-more _ _ _ _ _ _ _ _ (c .without .ensures) refl (c .before .before .before .before .loop .inv .1))
+loop-again c =
+    let c₄ = c .before .before .before .before in
+    (search needs, within-more _ _ _ _ _ _ _ _ (c .without .ensures) refl (c₄ .loop .inv .1))
 
 returns : tie.Need-returns Inv-loop μ-loop
-returns c = λ e. let q : c .before .loop .r ≡ 6 = omega arith in let z : c .before .loop .x ≡ 0 = eqb-true _ _ (not-false _ e) in rw q at (c .before .loop .inv .1 z)
+returns c = λ e. let q : c .before .loop .r ≡ 6 = omega arith in
+    let z : c .before .loop .x ≡ 0 = eqb-true _ _ (not-false _ e) in
+    rw q at (c .before .loop .inv .1 z)
 
 pub meets-spec : {M : Type 1} → statement M
 meets-spec =

@@ -1,15 +1,14 @@
-use Prim.Native.Nat.{ℕ, _+_, _-_, _≤_}
-use mathlib.Core.Path.{_≡_, refl}
-use lib.ListN.{length, getD, replicate, length-set, length-replicate}
+-- `words::narrow_four` meets its contract. The loop's invariant: the rows passed are made. The measure is what is left of the rows. Assumes
+-- nothing.
+use Prim.Native.Nat.{ℕ, _-_, _≤_}
+use native.Mathlib.Omega.{arith}
+use mathlib.Core.Path.{_≡_}
+use borrow.Author.Needs.{needs}
+use lib.ListN.{length, replicate, length-set, length-replicate}
 use Rattle.words.specs.Rows.{filled, narrowAt}
 use Rattle.words.proofs.FillLaws.{filled-none, filled-more}
-use borrow.Author.Needs.{needs}
-use native.Mathlib.Omega.{arith}
 use Rattle.words.proofs.narrow_four.Statement.{statement}
 use Rattle.words.proofs.narrow_four.Tie as tie
-use Rattle.words.proofs.narrow_four.Reads as reads
-use Rattle.words.proofs.narrow_four.Lts as lts
-use Rattle.words.proofs.narrow_row.Reads as narrow-row-reads
 
 abbrev Inv-loop : tie.InvT-loop
 Inv-loop s at to n₀ r₀ n r = (r ≤ 4) × (length n ≡ 4) × (n ≡ filled (replicate 4 0) (narrowAt s at to) r)
@@ -79,10 +78,14 @@ loop-less c = search needs
 
 loop-again : tie.Need-loop-again Inv-loop μ-loop
 unfolding narrowAt
-loop-again c = (search needs, simp length-set (c .before .before .before .before .before .before .loop .inv .1), filled-more _ _ _ _ _ (c .before .before .before .before .before .before .loop .inv .2) (c .narrow-row .ensures))
+loop-again c =
+    let c₄ = c .before .before .before .before in
+    (search needs, simp length-set (c₄ .before .before .loop .inv .1), filled-more _ _ _ _ _ (c₄ .before .before .loop .inv .2) (c .narrow-row .ensures))
 
 returns : tie.Need-returns Inv-loop μ-loop
-returns c = let e : c .before .loop .r ≡ 4 = omega arith in rw e at (c .before .loop .inv .2)
+returns c =
+    let e : c .before .loop .r ≡ 4 = omega arith in
+    rw e at (c .before .loop .inv .2)
 
 pub narrow-four-spec : {M : Type 1} → statement M
 narrow-four-spec =

@@ -1,14 +1,14 @@
-use Prim.Native.Nat.{ℕ, _+_, _-_, _≤_}
+-- `words::put_four` meets its contract. The loop's invariant: the rows passed are written. The measure is what is left of the rows.
+-- Assumes nothing.
+use Prim.Native.Nat.{_-_, _≤_}
+use native.Mathlib.Omega.{arith}
 use mathlib.Core.Path.{_≡_, refl}
+use borrow.Author.Needs.{needs}
 use lib.ListN.{length, length-set}
 use Rattle.words.specs.Rows.{written}
 use Rattle.words.proofs.FillLaws.{written-none, written-more}
-use borrow.Author.Needs.{needs}
-use native.Mathlib.Omega.{arith}
 use Rattle.words.proofs.put_four.Statement.{statement}
 use Rattle.words.proofs.put_four.Tie as tie
-use Rattle.words.proofs.put_four.Reads as reads
-use Rattle.words.proofs.put_four.Lts as lts
 
 abbrev Inv-loop : tie.InvT-loop
 Inv-loop table₀ i s r₀ table r = (r ≤ 4) × (length table ≡ length table₀) × (table ≡ written table₀ i s r)
@@ -32,7 +32,9 @@ mul-table-2 : tie.Need-mul-table-2 Inv-loop μ-loop
 mul-table-2 c = search needs
 
 slice-write-table : tie.Need-slice-write-table Inv-loop μ-loop
-slice-write-table c = let h = c .before .loop .inv .1 in omega arith
+slice-write-table c =
+    let h = c .before .loop .inv .1 in
+    omega arith
 
 add-r : tie.Need-add-r Inv-loop μ-loop
 add-r c = search needs
@@ -47,7 +49,9 @@ same-length : tie.Need-same-length Inv-loop μ-loop
 same-length c = c .before .loop .inv .1
 
 returns : tie.Need-returns Inv-loop μ-loop
-returns c = let e : c .before .loop .r ≡ 4 = omega arith in rw e at (c .before .loop .inv .2)
+returns c =
+    let e : c .before .loop .r ≡ 4 = omega arith in
+    rw e at (c .before .loop .inv .2)
 
 pub put-four-spec : {M : Type 1} → statement M
 put-four-spec =

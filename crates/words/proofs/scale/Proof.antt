@@ -1,20 +1,16 @@
-use Rattle.words.proofs.ScaleLaws.{scale-bounds}
+-- `words::scale` meets its contract. The contract is the code. Assumes nothing.
 use native.Mathlib.Omega.{arith}
 use borrow.Author.Needs.{needs}
+use Rattle.words.proofs.ScaleLaws.{scale-bounds}
 use Rattle.words.proofs.scale.Statement.{statement}
 use Rattle.words.proofs.scale.Tie as tie
-use Rattle.words.proofs.scale.Reads as reads
-use Rattle.words.proofs.scale.Lts as lts
 
--- src/lib.rt:58:5
 div-result : tie.Need-div-result
 div-result c = search needs
 
--- src/lib.rt:58:5
 add-result : tie.Need-add-result
 add-result c = omega (arith, scale-bounds (c .args .w) (c .pre .0) (c .pre .1))
 
--- src/lib.rt:54:1
 returns : tie.Need-returns
 returns c = search needs
 

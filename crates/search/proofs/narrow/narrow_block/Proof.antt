@@ -1,13 +1,9 @@
-use Rattle.search.proofs.BlockLaws.{rewritten-four}
+-- `search::narrow::narrow_block` meets its contract. Four rows are rewritten; the test of six rows is that of the words. Assumes nothing.
 use native.Mathlib.Omega.{arith}
 use borrow.Author.Needs.{needs}
+use Rattle.search.proofs.BlockLaws.{rewritten-four}
 use Rattle.search.proofs.narrow.narrow_block.Statement.{statement}
 use Rattle.search.proofs.narrow.narrow_block.Tie as tie
-use Rattle.search.proofs.narrow.narrow_block.Reads as reads
-use Rattle.search.proofs.narrow.narrow_block.Lts as lts
-use Rattle.words.proofs.meets.Reads as meets-reads
-use Rattle.words.proofs.narrow_four.Reads as narrow-four-reads
-use Rattle.words.proofs.put_four.Reads as put-four-reads
 
 add-narrow-four : tie.Need-add-narrow-four
 add-narrow-four c = omega (arith, c .before .before .before .pre .3)
@@ -16,19 +12,28 @@ narrow-four-requires : tie.Need-narrow-four-requires
 narrow-four-requires c κs = (omega (arith, c .before .before .before .pre .0, c .before .before .before .pre .2), omega (arith, c .before .before .before .pre .0, c .before .before .before .pre .3))
 
 meets-requires : tie.Need-meets-requires
-meets-requires c κs = (omega (arith, c .before .before .before .before .before .pre .0, c .before .before .before .before .before .pre .2), omega (arith, c .before .before .before .before .before .pre .1, c .before .before .before .before .before .pre .3))
+meets-requires c κs =
+    let c₄ = c .before .before .before .before in
+    (omega (arith, c₄ .before .pre .0, c₄ .before .pre .2), omega (arith, c₄ .before .pre .1, c₄ .before .pre .3))
 
 add-put-four : tie.Need-add-put-four
-add-put-four c = omega (arith, c .before .before .before .before .before .before .before .pre .3)
+add-put-four c =
+    let c₄ = c .before .before .before .before in
+    omega (arith, c₄ .before .before .before .pre .3)
 
 put-four-requires : tie.Need-put-four-requires
-put-four-requires c κs = omega (arith, c .before .before .before .before .before .before .before .pre .0, c .before .before .before .before .before .before .before .pre .3)
+put-four-requires c κs =
+    let c₄ = c .before .before .before .before in
+    omega (arith, c₄ .before .before .before .pre .0, c₄ .before .before .before .pre .3)
 
 same-length : tie.Need-same-length
 same-length c = search needs
 
 returns : tie.Need-returns
-returns c = (rewritten-four _ _ _ _ _ (omega (arith, c .before .before .before .before .before .before .before .before .before .before .pre .0, c .before .before .before .before .before .before .before .before .before .before .pre .3)) (c .before .before .before .before .before .before .narrow-four .ensures) (c .before .before .put-four .ensures), c .before .before .before .before .meets .ensures)
+returns c =
+    let c₄ = c .before .before .before .before in
+    let c₈ = c₄ .before .before .before .before in
+    (rewritten-four _ _ _ _ _ (omega (arith, c₈ .before .before .pre .0, c₈ .before .before .pre .3)) (c₄ .before .before .narrow-four .ensures) (c .before .before .put-four .ensures), c₄ .meets .ensures)
 
 pub narrow-block-spec : {M : Type 1} → statement M
 narrow-block-spec =
