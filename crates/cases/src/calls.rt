@@ -1,6 +1,5 @@
 // The entries, each answer as one number that can be compared and printed: its kind times 1,000,000, and a number. A refusal's kind is
 // its number in document 01's table, 1 to 10, and its number is its place; the other kinds are those below.
-use crate::floors;
 use crate::look;
 use floor::Checked;
 use floor::Floor;
@@ -122,59 +121,4 @@ pub fn idle(f: Floor, walls: &[u16], m: &mut [u16]) -> usize {
 // Whether no step is open: a run of no steps says so.
 pub fn is_silent(f: Floor, walls: &[u16], m: &mut [u16]) -> bool {
     idle(f, walls, m) == answer(SILENT, 0)
-}
-
-// The entries on a floor of the cases, which has no walls.
-pub fn fresh_on(k: usize, m: &mut [u16]) -> usize {
-    let none = [0u16; 1];
-    fresh(floors::floor(k), &none, m)
-}
-
-pub fn step_on(k: usize, m: &mut [u16], x: u16) -> usize {
-    let none = [0u16; 1];
-    step(floors::floor(k), &none, m, x)
-}
-
-pub fn idle_on(k: usize, m: &mut [u16]) -> usize {
-    let none = [0u16; 1];
-    idle(floors::floor(k), &none, m)
-}
-
-// The step of a letter: 1, 2, 3 are plans; a is deliver 1 to 2, b 1 to 3, c 2 to 3, x 2 to 2; any other names no step.
-fn step_of(letter: u8) -> u16 {
-    match letter {
-        b'1' => 101,
-        b'2' => 102,
-        b'3' => 103,
-        b'a' => 212,
-        b'b' => 213,
-        b'c' => 223,
-        b'x' => 222,
-        _ => 300,
-    }
-}
-
-// The steps of a text, at most eight.
-fn put_steps(text: &[u8], list: &mut [u16]) {
-    let mut k: usize = 0;
-    while k < text.len() {
-        look::put(list, k, step_of(text[k]));
-        k += 1;
-    }
-}
-
-// A run of the first n steps of a list.
-fn run_part(k: usize, m: &mut [u16], list: &[u16], n: usize, budget: u16) -> usize {
-    let none = [0u16; 1];
-    if list.len() < n {
-        return 0;
-    }
-    run(floors::floor(k), &none, m, &list[..n], budget)
-}
-
-// A run of the steps of a text.
-pub fn run_on(k: usize, m: &mut [u16], text: &[u8], budget: u16) -> usize {
-    let mut list = [0u16; 8];
-    put_steps(text, &mut list);
-    run_part(k, m, &list, text.len(), budget)
 }

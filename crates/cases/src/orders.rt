@@ -1,11 +1,9 @@
 // Every order of the steps of a small floor: all sequences of open steps until silence, depth first. A list of choices among the steps
 // that are there is followed from the fresh state; where it leads to a step that is not open, or to silence, its last choice moves on.
 use crate::calls;
-use crate::floors;
 use crate::look;
-use crate::result;
-use crate::result::Tally;
-use crate::show;
+use crate::tally;
+use crate::tally::Tally;
 use floor::Floor;
 
 // Whether a number names a step of n carriers: plan i is 100 + i, deliver j to i is 200 + 10 j + i, j above i.
@@ -143,22 +141,23 @@ fn used(led: Led) -> usize {
 }
 
 // Notes where a list of choices has led.
-fn note(t: Tally, f: Floor, m: &[u16], led: Led, planned: &[u16], second: &[u16]) -> Tally {
+fn note(t: Tally, f: Floor, m: &[u16], led: Led) -> Tally {
+    let none = [0u16; 1];
     if led.silent {
-        return result::judged(t, f, m, led.after, planned, second);
+        return tally::judged(t, f, &none, m, led.after);
     }
-    result::noted(t, led.odd)
+    tally::noted(t, led.odd)
 }
 
 // All orders of a floor without walls.
-fn every(f: Floor, m: &mut [u16], planned: &[u16], second: &[u16]) -> Tally {
+pub fn every(f: Floor, m: &mut [u16]) -> Tally {
     let all = steps_of(look::wide(f.carriers));
     let mut choices = [0u16; 16];
-    let mut t = result::nothing();
+    let mut t = tally::nothing();
     let mut turn: usize = 0;
     while turn < 1000000 {
         let led = follow(f, m, all, choices);
-        t = note(t, f, m, led, planned, second);
+        t = note(t, f, m, led);
         let moved = next(choices, used(led), all.count);
         choices = moved.choices;
         if !moved.more {
@@ -166,70 +165,5 @@ fn every(f: Floor, m: &mut [u16], planned: &[u16], second: &[u16]) -> Tally {
         }
         turn += 1;
     }
-    result::noted(t, 1)
-}
-
-// A line of all orders.
-fn line(label: &[u8], t: Tally, orders: usize, full: usize, steps: usize) {
-    show::begin(label);
-    let a = result::all_well(t, orders);
-    let b = show::figure(b"as long as the ceiling", t.full, full);
-    let c = show::figure(b"steps in all", t.steps, steps);
-    show::verdict(look::both(a, look::both(b, c)));
-}
-
-// All orders of a floor: how many there are, how many have as many steps as the ceiling, and all steps of all of them.
-fn all_orders(label: &[u8], k: usize, m: &mut [u16], orders: usize, full: usize, steps: usize) {
-    let f = crate::floors::floor(k);
-    let none = [0u16; 1];
-    let mut planned = look::zeros();
-    calls::plan(f, &none, &mut planned);
-    let mut second = look::zeros();
-    second::second_plan(f, &none, &mut second);
-    let t = every(f, m, &planned, &second);
-    line(label, t, orders, full, steps);
-}
-
-// Two carriers have three orders: plan 1, deliver, plan 2 (3 steps); and plan 1, plan 2 or plan 2, plan 1, then deliver, plan 2 (4
-// steps, the ceiling): 11 steps in all, whatever the floor. Three carriers: a plain model of document 01 in another language counts, on
-// this floor with depth 1, 4 orders of 6 steps, 20 of 7, 46 of 8, 182 of 9, 388 of 10 and 248 of 11, the ceiling; with depth 2 (more
-// is never needed) 4, 20, 57, 259, 526 and 320.
-pub fn orders() {
-    show::heading(b"All orders");
-    two_carriers();
-    three_carriers();
-}
-
-fn two_carriers() {
-    let mut two = crate::written::two_room();
-    all_orders(b"document 01's floor", floors::SHEET, &mut two, 3, 2, 11);
-    all_orders(
-        b"the same with horizon 3",
-        floors::SHORT,
-        &mut two,
-        3,
-        2,
-        11,
-    );
-    all_orders(b"two that never meet", floors::APART, &mut two, 3, 2, 11);
-}
-
-fn three_carriers() {
-    let mut three = look::three_room();
-    all_orders(
-        b"three carriers, depth 1",
-        floors::THREE,
-        &mut three,
-        888,
-        248,
-        8778,
-    );
-    all_orders(
-        b"three carriers, depth 2",
-        floors::DEEP,
-        &mut three,
-        1186,
-        320,
-        11731,
-    );
+    tally::noted(t, 1)
 }

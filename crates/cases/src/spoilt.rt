@@ -1,8 +1,5 @@
-// Spoilt states: one number of a valid state is changed at a time, and the state is lent to the single step and to the run.
+// One thing changed at a time: each number of a valid state, and the number of a step.
 use crate::calls;
-use crate::floors;
-use crate::floors::DEEP;
-use crate::floors::SHEET;
 use crate::look;
 use crate::ranges;
 use crate::show;
@@ -21,9 +18,7 @@ fn both_refuse(f: Floor, m: &mut [u16]) -> bool {
 fn is_left(m: &mut [u16], good: &[u16], i: usize, v: u16) -> bool {
     let left = look::at(m, i) == v;
     look::put(m, i, look::at(good, i));
-    let others = look::same(m, good);
-    look::copy(good, m);
-    look::both(left, others)
+    look::both(left, look::same(m, good))
 }
 
 // Whether the state with v at place i is refused by the step and the run, and is left as it was lent.
@@ -43,115 +38,91 @@ fn is_taken(f: Floor, m: &mut [u16], good: &[u16], i: usize, v: u16) -> bool {
     look::both(!calls::is_refused(r), left)
 }
 
-// How many places are refused with the largest number there is.
-fn refused_at_most(f: Floor, m: &mut [u16], good: &[u16]) -> usize {
-    let mut n: usize = 0;
+// Of how many things each of three holds.
+struct Three {
+    first: usize,
+    second: usize,
+    third: usize,
+}
+
+fn none() -> Three {
+    Three {
+        first: 0,
+        second: 0,
+        third: 0,
+    }
+}
+
+fn more(n: Three, a: bool, b: bool, c: bool) -> Three {
+    Three {
+        first: look::count(n.first, a),
+        second: look::count(n.second, b),
+        third: look::count(n.third, c),
+    }
+}
+
+// Place i with the largest number there is, with the least number above its range, and with the largest number of its range.
+fn tried(n: Three, f: Floor, m: &mut [u16], good: &[u16], i: usize) -> Three {
+    let above = ranges::above(f, good, i);
+    let last = look::narrow(look::minus(look::wide(above), 1));
+    let a = is_refused(f, m, good, i, 65535);
+    let b = is_refused(f, m, good, i, above);
+    let c = is_taken(f, m, good, i, last);
+    more(n, a, b, c)
+}
+
+// Each place of the state in lent memory.
+fn each_place(f: Floor, m: &mut [u16], good: &[u16]) -> Three {
+    let size = m.len();
+    let mut n = none();
     let mut i: usize = 0;
-    while i < good.len() {
-        let is = is_refused(f, m, good, i, 65535);
-        n = look::count(n, is);
+    while i < size {
+        n = tried(n, f, m, good, i);
         i += 1;
     }
     n
 }
 
-// How many places are refused with the least number above their range.
-fn refused_above(f: Floor, m: &mut [u16], good: &[u16]) -> usize {
-    let mut n: usize = 0;
-    let mut i: usize = 0;
-    while i < good.len() {
-        let v = ranges::above(f, good, i);
-        let is = is_refused(f, m, good, i, v);
-        n = look::count(n, is);
-        i += 1;
+// unfit places: how many places there are, and how many of them are refused and taken. A state taken with the largest number of each
+// range is a state still, but where that is the length of a channel that is not full (the places that it would count are empty).
+pub fn unfit_places(f: Floor, m: &mut [u16]) {
+    let mut good = look::room();
+    look::copy(m, &mut good, m.len());
+    let n = each_place(f, m, &good);
+    show::figure(b" places", m.len());
+    show::figure(b", refused far above the range", n.first);
+    show::figure(b", refused just above it", n.second);
+    show::figure(b", taken just within it", n.third);
+}
+
+// A number as a step on the fresh state.
+fn answer_to(f: Floor, m: &mut [u16], x: usize) -> usize {
+    let none = [0u16; 1];
+    calls::fresh(f, &none, m);
+    calls::step(f, &none, m, look::narrow(x))
+}
+
+// Each number as a step: whether it is sent, refused with 8, refused with 7.
+fn each_number(f: Floor, m: &mut [u16]) -> Three {
+    let mut n = none();
+    let mut x: usize = 0;
+    while x < 65536 {
+        let came = answer_to(f, m, x);
+        n = more(
+            n,
+            came == calls::answer(calls::SENT, 0),
+            came == calls::answer(8, 0),
+            came == calls::answer(7, 0),
+        );
+        x += 1;
     }
     n
 }
 
-// How many places are taken with the largest number of their range.
-fn taken_within(f: Floor, m: &mut [u16], good: &[u16]) -> usize {
-    let mut n: usize = 0;
-    let mut i: usize = 0;
-    while i < good.len() {
-        let v = look::minus(look::wide(ranges::above(f, good, i)), 1);
-        let is = is_taken(f, m, good, i, look::narrow(v));
-        n = look::count(n, is);
-        i += 1;
-    }
-    n
-}
-
-// The line of a valid state: all its places are refused out of range, and with the largest number of the range all are taken for a
-// state but the lengths of channels that are not full (the places that they would count are empty).
-fn places(label: &[u8], f: Floor, m: &mut [u16], good: &[u16], size: usize, taken: usize) {
-    show::begin(label);
-    let a = show::figure(b"places", good.len(), size);
-    let b = show::figure(
-        b"refused far above the range",
-        refused_at_most(f, m, good),
-        size,
-    );
-    let c = show::figure(
-        b"refused just above the range",
-        refused_above(f, m, good),
-        size,
-    );
-    let d = show::figure(b"taken just within it", taken_within(f, m, good), taken);
-    show::verdict(look::both(look::both(a, b), look::both(c, d)));
-}
-
-// The line of one spoilt number.
-fn one(label: &[u8], f: Floor, m: &mut [u16], good: &[u16], i: usize, v: u16) {
-    show::begin(label);
-    let a = show::refuses(is_refused(f, m, good, i, v));
-    show::verdict(a);
-}
-
-// Spoilt answers of document 01's floor with carrier 1's route under way. Carrier 1's answer, at 4, is a route; as none it would have
-// cells other than 0; 0 is neither none nor a route. Beat 4 is the last, so the number behind it, at 10, is 0.
-fn spoilt_answers(f: Floor, m: &mut [u16], good: &[u16]) {
-    one(b"none with cells", f, m, good, 4, 1);
-    one(b"an answer not heard", f, m, good, 4, 0);
-    one(b"a cell past the horizon", f, m, good, 10, 1);
-}
-
-// Spoilt messages: carrier 1's route, at 202, is counted by its channel's length, at 201. And a cell of carrier 2's answer, at 71, which
-// is none.
-fn spoilt_messages(f: Floor, m: &mut [u16], good: &[u16]) {
-    one(b"a message not heard", f, m, good, 202, 0);
-    one(b"a message not counted", f, m, good, 201, 0);
-    one(b"a cell of none", f, m, good, 72, 1);
-}
-
-// Document 01's floor with carrier 1's route under way to carrier 2: the channel is full, so all 462 places are taken within range.
-fn two_spoilt() {
-    let f = floors::floor(SHEET);
-    let mut m = crate::written::two_room();
-    calls::fresh_on(SHEET, &mut m);
-    calls::step_on(SHEET, &mut m, 101);
-    let mut good = crate::written::two_room();
-    look::copy(&m, &mut good);
-    places(b"two carriers", f, &mut m, &good, 462, 462);
-    spoilt_answers(f, &mut m, &good);
-    spoilt_messages(f, &mut m, &good);
-}
-
-// Three carriers with depth 2 after plan 2, plan 1, deliver 1 to 2, plan 2: two messages from 2 to 3, which is full, one from 1 to 3, none
-// from 1 to 2: all places but those two channels' lengths are taken within range. The channel from 1 to 2, at 398, is empty: a length
-// of 1 counts a message that is not there.
-fn three_spoilt() {
-    let f = floors::floor(DEEP);
-    let mut m = look::three_room();
-    calls::fresh_on(DEEP, &mut m);
-    calls::run_on(DEEP, &mut m, b"21a2", 4);
-    let mut good = look::three_room();
-    look::copy(&m, &mut good);
-    places(b"three carriers", f, &mut m, &good, 1181, 1179);
-    one(b"a message that is not there", f, &mut m, &good, 398, 1);
-}
-
-pub fn spoilt() {
-    show::heading(b"Spoilt states");
-    two_spoilt();
-    three_spoilt();
+// kinds of answers to each number.
+pub fn kinds(f: Floor, m: &mut [u16]) {
+    let n = each_number(f, m);
+    show::figure(b" sent", n.first);
+    show::figure(b", refused with 8", n.second);
+    show::figure(b", refused with 7", n.third);
 }

@@ -12,9 +12,6 @@ slice-aggregate-draw-floor c = search needs
 draw-floor-requires : tie.Need-draw-floor-requires
 draw-floor-requires c κs = search needs
 
-wide-requires : tie.Need-wide-requires
-wide-requires c κs = search needs
-
 state-length-requires : tie.Need-state-length-requires
 state-length-requires c κs = search needs
 
@@ -24,17 +21,17 @@ noted-requires c κs = search needs
 returns : tie.Need-returns
 returns c = search needs
 
-slice-aggregate-run-one : tie.Need-slice-aggregate-run-one
-slice-aggregate-run-one c = search needs
+slice-aggregate-go : tie.Need-slice-aggregate-go
+slice-aggregate-go c = search needs
 
-slice-relend-prefix-run-one : tie.Need-slice-relend-prefix-run-one
-slice-relend-prefix-run-one c = search needs
+slice-relend-prefix-go : tie.Need-slice-relend-prefix-go
+slice-relend-prefix-go c = search needs
 
-slice-aggregate-run-one-2 : tie.Need-slice-aggregate-run-one-2
-slice-aggregate-run-one-2 c = sym (length-take-le _ _ (omega arith))
+slice-aggregate-go-2 : tie.Need-slice-aggregate-go-2
+slice-aggregate-go-2 c = sym (length-take-le _ _ (omega arith))
 
-run-one-requires : tie.Need-run-one-requires
-run-one-requires c κs = search needs
+go-requires : tie.Need-go-requires
+go-requires c κs = search needs
 
 same-length : tie.Need-same-length
 same-length c = search needs
@@ -48,13 +45,12 @@ draw-one-spec =
     (tie.spec
     slice-aggregate-draw-floor
     draw-floor-requires
-    wide-requires
     state-length-requires
     noted-requires
     returns
-    slice-aggregate-run-one
-    slice-relend-prefix-run-one
-    slice-aggregate-run-one-2
-    run-one-requires
+    slice-aggregate-go
+    slice-relend-prefix-go
+    slice-aggregate-go-2
+    go-requires
     same-length
     returns-2)

@@ -1,4 +1,4 @@
--- `cases::orders::every` is safe and ends: at most a million lists of choices.
+-- `cases::orders::every` is safe and ends: at most 1,000,000 lists of choices.
 use Prim.Native.Nat.{_-_}
 use mathlib.Core.Path.{_≡_}
 use lib.ListN.{length}
@@ -7,10 +7,10 @@ use Rattle.cases.proofs.orders.every.Statement.{statement}
 use Rattle.cases.proofs.orders.every.Tie as tie
 
 abbrev Inv-loop : tie.InvT-loop
-Inv-loop f m₀ planned second all choices₀ t₀ turn₀ m choices t turn = length m ≡ length m₀
+Inv-loop f m₀ all choices₀ t₀ turn₀ m choices t turn = length m ≡ length m₀
 
 abbrev μ-loop : tie.MeasureT-loop
-μ-loop f m₀ planned second all choices₀ t₀ turn₀ m choices t turn = 1000000 - turn
+μ-loop f m₀ all choices₀ t₀ turn₀ m choices t turn = 1000000 - turn
 
 wide-requires : tie.Need-wide-requires Inv-loop μ-loop
 wide-requires c κs = search needs
