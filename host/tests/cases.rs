@@ -37,10 +37,10 @@ fn numbers_of(line: &str) -> Vec<Number> {
     numbers
 }
 
-/// What a line finds: the floor's record, wall memory, and the memory that is lent.
+/// What a line finds: the numbers that lines set (a floor's line 1 and each carrier's start and goal; wall memory, from 22 on; how many
+/// numbers of memory are lent, at 30; how many steps there are to choose among, at 31, and these), and the memory that is lent.
 struct Desk {
-    record: [u16; 22],
-    walls: [u16; 8],
+    set: [u16; 68],
     lent: Vec<u16>,
 }
 
@@ -74,16 +74,6 @@ fn either(good: bool, yes: &str, no: &str) -> String {
 
 // ---- Floors and memory ----
 
-/// The record of a line: six fields, then each carrier's start and goal.
-fn record_of(numbers: &[Number]) -> [u16; 22] {
-    let mut record = [0; 22];
-    for (k, number) in numbers.iter().enumerate() {
-        let place = if k < 6 { k } else { 6 + (k - 6) / 2 + 8 * (k % 2) };
-        record[place] = number.value as u16;
-    }
-    record
-}
-
 /// Writes the numbers of a line into memory; one with a colon behind it is the place of the next.
 fn write(numbers: &[Number], memory: &mut [u16]) {
     let mut place = 0;
@@ -103,11 +93,6 @@ fn written_out(numbers: &[Number], length: usize) -> Vec<u16> {
     memory[..numbers[0].value].fill(0);
     write(&numbers[1..], &mut memory);
     memory
-}
-
-/// The accepted floor of a desk.
-fn floor_of(desk: &Desk) -> Floor {
-    paper::floor_of_record(&desk.record, &desk.walls).expect("a floor that is accepted")
 }
 
 // ---- Orders ----
@@ -139,9 +124,7 @@ impl Tally {
 
     fn told(&self) -> String {
         let Tally { orders, right, full, failing, steps } = self;
-        format!(
-            "orders {orders}, right {right}, as long as the ceiling {full}, with a failing carrier {failing}, steps in all {steps}, odd answers 0"
-        )
+        format!("{orders} {right} {full} {failing} {steps} 0")
     }
 }
 
@@ -189,24 +172,21 @@ fn shuffled(cells: usize, mut seed: u64) -> Vec<usize> {
     order
 }
 
-/// A floor of 3 to 6 columns and rows and horizon 4 to 15, with one in six of the cells that are no start or goal a wall (eight starts and
-/// goals are drawn, whatever the number of carriers).
-fn draw_floor(n: usize, depth: usize, seed: u64) -> Floor {
-    let a = next(next(seed));
-    let b = next(a);
-    let c = next(b);
-    let (width, height) = (3 + (a % 4) as usize, 3 + (b % 4) as usize);
-    let (starts, goals) = (shuffled(width * height, beside(c, 1)), shuffled(width * height, beside(c, 2)));
+/// A floor with drawn starts and goals, and one in six of the other cells a wall (eight starts and goals are drawn, whatever the number of
+/// carriers).
+fn draw_floor(like: &Floor, seed: u64) -> Floor {
+    let c = next(next(seed));
+    let (starts, goals) = (shuffled(like.cells(), beside(c, 1)), shuffled(like.cells(), beside(c, 2)));
     let mut draw = beside(c, 3);
     let mut walls = Vec::new();
-    for cell in 0..width * height {
+    for cell in 0..like.cells() {
         draw = next(draw);
         if !starts.contains(&cell) && !goals.contains(&cell) && draw % 6 == 0 {
             walls.push(cell);
         }
     }
-    let horizon = 4 + (c % 12) as usize;
-    Floor { width, height, horizon, depth, starts: starts[..n].to_vec(), goals: goals[..n].to_vec(), walls }
+    let n = like.carriers();
+    Floor { starts: starts[..n].to_vec(), goals: goals[..n].to_vec(), walls, ..like.clone() }
 }
 
 /// A step drawn from all that there are, by rising number.
@@ -246,14 +226,11 @@ fn draw_order(floor: &Floor, seed: u64, tally: &mut Tally) {
     tally.note(floor, &state, taken);
 }
 
-/// Twenty drawn floors with each depth.
-fn drawn_orders(n: usize) -> String {
+/// So many drawn orders, with seeds from one on.
+fn drawn_orders(like: &Floor, count: usize, first: usize) -> String {
     let mut tally = Tally::default();
-    for depth in 1..=4 {
-        for k in 0..20 {
-            let seed = (1000 * n + 100 * depth + k) as u64;
-            draw_order(&draw_floor(n, depth, seed), seed, &mut tally);
-        }
+    for seed in first..first + count {
+        draw_order(&draw_floor(like, seed as u64), seed as u64, &mut tally);
     }
     tally.told()
 }
@@ -290,106 +267,156 @@ fn tops_of(floor: &Floor, state: &State) -> Vec<u16> {
     tops
 }
 
-/// How many places are no state with a far too large number, with the least above the range, and are one with the largest of the range.
-fn unfit_places(floor: &Floor, lent: &[u16]) -> String {
-    let tops = tops_of(floor, &paper::decode(floor, lent).expect("a state"));
-    let is_state = |place: usize, value: u16| {
-        let mut spoilt = lent.to_vec();
-        spoilt[place] = value;
-        paper::decode(floor, &spoilt).is_some()
-    };
-    let of_places = |holds: &dyn Fn(usize) -> bool| (0..lent.len()).filter(|&place| holds(place)).count();
-    format!(
-        "places {}, refused far above the range {}, refused just above it {}, taken just within it {}",
-        lent.len(),
-        of_places(&|place| !is_state(place, 65535)),
-        of_places(&|place| !is_state(place, tops[place] + 1)),
-        of_places(&|place| is_state(place, tops[place]))
-    )
+/// The number to try in each place: of the first so many places, unless a later pair says otherwise.
+fn spread(pairs: &[Number], length: usize) -> Vec<u16> {
+    let mut with = vec![LENT; length];
+    for pair in pairs.chunks(2) {
+        with[..pair[0].value].fill(pair[1].value as u16);
+    }
+    with
 }
 
-/// How many numbers get each answer as a step on the fresh state.
-fn kinds(floor: &Floor) -> String {
+/// At how many places the number to try makes the step and a run of it be refused so, the state left as it was. The numbers to try must be
+/// far above the range of each place, just above it, or the largest of it.
+fn unfit(desk: &Desk, numbers: &[Number]) -> usize {
+    let (record, walls, floor) = (desk.record(), desk.walls(), desk.floor());
+    let (step, refused) = (numbers[0].value as u16, 1 | (numbers[1].value as u64) << 8);
+    let with = spread(&numbers[2..], desk.lent.len());
+    let tops = tops_of(&floor, &paper::decode(&floor, &desk.lent).expect("a state"));
+    let told: Vec<u16> = tops.iter().map(|&top| if numbers[1].value == 10 { top + 1 } else { top }).collect();
+    assert!(with == told || with.iter().all(|&value| value == 65535), "the ranges of {} places", with.len());
+    let is_refused = |place: &usize| {
+        let mut spoilt = desk.lent.clone();
+        spoilt[*place] = with[*place];
+        let mut after = spoilt.clone();
+        let stepped = calls::step(&record, &walls, &mut after, step);
+        let ran = calls::run(&record, &walls, &mut after, &[step], 5);
+        stepped == refused && ran == refused && after == spoilt
+    };
+    (0..with.len()).filter(is_refused).count()
+}
+
+/// How many numbers get a kind of answer as a step on the fresh state: 13 is sent, 7 and 8 are refusals.
+fn kinds(floor: &Floor, kind: usize) -> usize {
     let state = paper::fresh(floor.carriers());
-    let named: Vec<Option<Step>> = (0..=65535).map(|number| paper::step_named(number, floor.carriers())).collect();
-    let open = named.iter().flatten().filter(|&&step| state.is_open(floor, step)).count();
-    let there = named.iter().flatten().count();
-    format!("sent {open}, refused with 8 {}, refused with 7 {}", there - open, named.len() - there)
+    let kind_of = |number: u16| match paper::step_named(number, floor.carriers()) {
+        None => 7,
+        Some(step) if !state.is_open(floor, step) => 8,
+        Some(step) => 12 + state.clone().take(floor, step) as usize,
+    };
+    (0..=65535).filter(|&number| kind_of(number) == kind).count()
 }
 
 // ---- The lines ----
 
 impl Desk {
-    fn step(&mut self, number: u16) -> String {
-        stepped(calls::step(&self.record, &self.walls, &mut self.lent, number))
+    /// The record of the floor.
+    fn record(&self) -> [u16; 22] {
+        let mut record = [0; 22];
+        record[..6].copy_from_slice(&self.set[..6]);
+        for i in 0..8 {
+            record[6 + i] = self.set[6 + 2 * i];
+            record[14 + i] = self.set[7 + 2 * i];
+        }
+        record
+    }
+
+    fn walls(&self) -> [u16; 8] {
+        self.set[22..30].try_into().unwrap()
+    }
+
+    /// The floor of a record that is accepted, or would be with other starts and goals.
+    fn floor(&self) -> Floor {
+        let at = |k: usize| self.set[k] as usize;
+        let carriers = |from: usize| (0..at(4)).map(|i| at(from + 2 * i)).collect();
+        Floor {
+            width: at(0),
+            height: at(1),
+            horizon: at(2),
+            depth: at(3),
+            starts: carriers(6),
+            goals: carriers(7),
+            walls: Vec::new(),
+        }
+    }
+
+    /// All steps of a floor are those to choose among.
+    fn has_all_steps(&self, floor: &Floor) {
+        let mut steps: Vec<u16> = paper::steps_of(floor.carriers()).iter().map(|&(number, _)| number).collect();
+        steps.sort();
+        assert_eq!(self.set[32..32 + self.set[31] as usize], steps);
     }
 
     fn run(&mut self, numbers: &[Number]) -> String {
         let list: Vec<u16> = numbers[1..].iter().map(|number| number.value as u16).collect();
-        ran(calls::run(&self.record, &self.walls, &mut self.lent, &list, numbers[0].value as u16))
-    }
-
-    /// The arrival of a carrier whose record stands among the answers in lent memory.
-    fn arrival(&self, carrier: usize) -> String {
-        let record = &self.lent[65 * (carrier - 1)..65 * carrier];
-        if record[0] == 1 {
-            return "none".into();
-        }
-        let floor = floor_of(self);
-        paper::arrival_of(record[1..].try_into().unwrap(), floor.goals[carrier - 1], floor.horizon).to_string()
+        ran(calls::run(&self.record(), &self.walls(), &mut self.lent, &list, numbers[0].value as u16))
     }
 
     /// Whether the answers in lent memory are the planner's.
-    fn agrees(&self) -> String {
+    fn is_planned(&self) -> bool {
         let mut answers = vec![LENT; self.lent.len()];
-        calls::plan(&self.record, &self.walls, &mut answers);
-        either(answers == self.lent, "agrees", "DIFFERS")
+        calls::plan(&self.record(), &self.walls(), &mut answers);
+        answers == self.lent
     }
 
     /// A sheet: its check, and its reading into lent wall memory.
     fn sheet(&mut self, text: &[u8]) -> String {
         let refused = paper::floor_of_sheet(text).err().map(|r| format!("refused {} {}", r.number, r.place));
         let checked = refused.unwrap_or("passed".into());
-        format!("check {checked}, read {}", passed(calls::read_sheet(text, &mut [0; 22], &mut self.lent)))
+        format!("{checked} {}", passed(calls::read_sheet(text, &mut [0; 22], &mut self.lent)))
     }
 
-    fn length(&self) -> String {
-        let mut lengths = [0; 5];
-        calls::needed_lengths(&self.record, &mut lengths);
-        lengths[4].to_string()
+    /// The arrival of the route whose cells are in lent memory from a place on.
+    fn arrival(&self, goal: usize, place: usize) -> usize {
+        paper::arrival_of(self.lent[place..place + 64].try_into().unwrap(), goal, self.floor().horizon)
     }
 
     /// Commands that set something and answer nothing.
     fn set(&mut self, command: u8, numbers: &[Number]) {
         match command {
-            b'f' => self.record = record_of(numbers),
-            b'w' => {
-                self.walls = [0; 8];
-                write(numbers, &mut self.walls);
-            }
-            b'g' => self.lent = vec![LENT; numbers[0].value],
+            b'f' | b'w' | b'c' | b'g' => write(numbers, &mut self.set),
             b'e' => write(numbers, &mut self.lent),
             _ => {}
         }
+        if command == b'g' {
+            self.lent = vec![LENT; self.set[30] as usize];
+        }
     }
 
-    /// What the command of a line answers; `rest` is the script from the next line on.
+    /// What a command that calls an entry or compares answers; `rest` is the script from the next line on.
     fn answer(&mut self, command: u8, numbers: &[Number], rest: &str) -> String {
+        let (record, walls) = (self.record(), self.walls());
+        let first = numbers.first().map_or(0, |number| number.value);
         match command {
-            b'n' => passed(calls::fresh(&self.record, &self.walls, &mut self.lent)),
-            b's' => self.step(numbers[0].value as u16),
+            b'n' => passed(calls::fresh(&record, &walls, &mut self.lent)),
+            b's' => stepped(calls::step(&record, &walls, &mut self.lent, first as u16)),
             b'r' => self.run(numbers),
-            b'm' => either(self.lent == written_out(numbers, self.lent.len()), "as written", "OTHERWISE"),
-            b'p' => told("failing carrier", calls::plan(&self.record, &self.walls, &mut self.lent)),
-            b'a' => self.agrees(),
-            b'b' => self.arrival(numbers[0].value),
-            b'h' => told("steps", calls::ceiling(numbers[0].value as u16)),
-            b'l' => self.length(),
-            b't' => self.sheet(&rest.as_bytes()[..numbers[0].value]),
-            b'o' => all_orders(&floor_of(self)),
-            b'd' => drawn_orders(numbers[0].value),
-            b'u' => unfit_places(&floor_of(self), &self.lent),
-            b'k' => kinds(&floor_of(self)),
+            b'p' => told("failing carrier", calls::plan(&record, &walls, &mut self.lent)),
+            b'h' => told("steps", calls::ceiling(first as u16)),
+            b'm' => either(self.lent == written_out(numbers, self.lent.len()), "the same", "OTHERWISE"),
+            b'a' => either(self.is_planned(), "the same", "OTHERWISE"),
+            b't' => self.sheet(&rest.as_bytes()[..first]),
+            _ => self.figures(command, numbers),
+        }
+    }
+
+    /// What a command that counts answers.
+    fn figures(&mut self, command: u8, numbers: &[Number]) -> String {
+        let floor = self.floor();
+        match command {
+            b'l' => paper::state_length(floor.carriers()).to_string(),
+            b'b' => self.arrival(numbers[0].value, numbers[1].value).to_string(),
+            b'u' => unfit(self, numbers).to_string(),
+            b'k' => kinds(&floor, numbers[0].value).to_string(),
+            b'o' => {
+                self.has_all_steps(&floor);
+                all_orders(&floor)
+            }
+            b'd' => {
+                self.has_all_steps(&floor);
+                assert_eq!(numbers[1].value, floor.cells());
+                drawn_orders(&floor, numbers[0].value, numbers[2].value)
+            }
             _ => panic!("a line that answers has a command"),
         }
     }
@@ -398,7 +425,7 @@ impl Desk {
 /// Each line of the script with its answer from `paper.rs` is the line of the program's output.
 #[test]
 fn every_line_of_the_program_cases() {
-    let mut desk = Desk { record: [0; 22], walls: [0; 8], lent: Vec::new() };
+    let mut desk = Desk { set: [0; 68], lent: Vec::new() };
     let (mut rest, mut wrong) = (SCRIPT, Vec::new());
     let mut expected = EXPECTED.lines();
     while let Some((line, behind)) = rest.split_once('\n') {

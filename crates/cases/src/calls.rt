@@ -1,5 +1,5 @@
 // The entries, each answer as one number that can be compared and printed: its kind times 1,000,000, and a number. A refusal's kind is
-// its number in document 01's table, 1 to 10, and its number is its place; the other kinds are those below.
+// its number in document 01's table, 1 to 10, and its number is its place; a plain number has kind 0; the other kinds are those below.
 use crate::look;
 use floor::Checked;
 use floor::Floor;
@@ -27,10 +27,16 @@ pub const ENDED: usize = 17;
 pub const FAILING: usize = 18;
 // Of the ceiling, with the most steps.
 pub const STEPS: usize = 19;
+// Of a comparison.
+pub const SAME: usize = 20;
+
+pub const OTHERWISE: usize = 21;
+// Nothing is left to show.
+pub const SHOWN: usize = 22;
 
 // An answer of a kind with a number.
 pub fn answer(kind: usize, number: usize) -> usize {
-    if kind < 20 {
+    if kind < 23 {
         if number < 1000000 {
             return 1000000 * kind + number;
         }
@@ -121,4 +127,14 @@ pub fn idle(f: Floor, walls: &[u16], m: &mut [u16]) -> usize {
 // Whether no step is open: a run of no steps says so.
 pub fn is_silent(f: Floor, walls: &[u16], m: &mut [u16]) -> bool {
     idle(f, walls, m) == answer(SILENT, 0)
+}
+
+// What a comparison says.
+pub fn compared(good: bool) -> usize {
+    answer(look::choose(good, SAME, OTHERWISE), 0)
+}
+
+// What came has been shown.
+pub fn shown() -> usize {
+    answer(SHOWN, 0)
 }

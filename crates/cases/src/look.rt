@@ -60,14 +60,6 @@ pub fn plus(a: usize, b: usize) -> usize {
     65536
 }
 
-// A difference, 0 where it would be below 0.
-pub fn minus(a: usize, b: usize) -> usize {
-    if b < a {
-        return a - b;
-    }
-    0
-}
-
 // Writes v at a place, where there is one.
 pub fn put(m: &mut [u16], i: usize, v: u16) {
     if i < m.len() {
@@ -108,6 +100,19 @@ pub fn same_part(a: &[u16], i: usize, b: &[u16], j: usize, n: usize) -> bool {
 // Whether two memories have the same numbers, as far as the first goes.
 pub fn same(a: &[u16], b: &[u16]) -> bool {
     same_part(a, 0, b, 0, a.len())
+}
+
+// Eight numbers of a memory, the first at a place and each so many behind the one before.
+pub fn eight(m: &[u16], from: usize, stride: usize) -> [u16; 8] {
+    let mut e = [0u16; 8];
+    let mut p = from;
+    let mut n: usize = 0;
+    while n < 8 {
+        put(&mut e, n, at(m, p));
+        p = plus(p, stride);
+        n += 1;
+    }
+    e
 }
 
 // Whether both hold.

@@ -11,11 +11,9 @@ mod line;
 mod look;
 mod orders;
 mod plans;
-mod ranges;
 mod script;
 mod show;
 mod spoilt;
-mod states;
 mod tally;
 
 use libc::STDIN_FILENO;

@@ -95,26 +95,31 @@ pub fn field(s: &[u8], from: usize, k: usize) -> usize {
 }
 
 // Whether a line has a number k.
-pub fn has(s: &[u8], from: usize, k: usize) -> bool {
+fn has(s: &[u8], from: usize, k: usize) -> bool {
     is_digit(byte(s, place(s, from, k)))
 }
 
 // Whether a colon follows number k of a line.
-pub fn is_named(s: &[u8], from: usize, k: usize) -> bool {
+fn is_named(s: &[u8], from: usize, k: usize) -> bool {
     byte(s, skip(s, place(s, from, k), true)) == 58
 }
 
-// Eight numbers of a line, from number k on, each so many behind the one before.
-pub fn eight(s: &[u8], from: usize, k: usize, stride: usize) -> [u16; 8] {
-    let mut e = [0u16; 8];
-    let mut n: usize = 0;
+// Writes the numbers of a line, from number k on, into a memory. One with a colon behind it is the place of the next, which the others
+// follow. Answers the place behind the last.
+pub fn write(s: &[u8], from: usize, k: usize, m: &mut [u16]) -> usize {
+    let mut to: usize = 0;
     let mut i = k;
-    while n < 8 {
-        look::put(&mut e, n, look::narrow(field(s, from, i)));
-        i = look::plus(i, stride);
-        n += 1;
+    while i < 900 {
+        if !has(s, from, i) {
+            return to;
+        }
+        let v = field(s, from, i);
+        let named = is_named(s, from, i);
+        look::put(m, look::choose(named, 65535, to), look::narrow(v));
+        to = look::choose(named, v, look::plus(to, 1));
+        i += 1;
     }
-    e
+    to
 }
 
 // Writes the text from one place to another.

@@ -4,8 +4,11 @@ use crate::calls::DELIVERED;
 use crate::calls::ENDED;
 use crate::calls::FAILING;
 use crate::calls::KEPT;
+use crate::calls::OTHERWISE;
 use crate::calls::PASSED;
+use crate::calls::SAME;
 use crate::calls::SENT;
+use crate::calls::SHOWN;
 use crate::calls::SILENT;
 use crate::calls::SPENT;
 use crate::calls::STEPS;
@@ -20,24 +23,10 @@ pub fn number(n: usize) {
     io::print_decimal(STDOUT_FILENO, n as u64);
 }
 
-// A figure with its words.
-pub fn figure(label: &[u8], n: usize) {
-    text(label);
-    number(n);
-}
-
-// One of two texts.
-pub fn either(good: bool, yes: &[u8], no: &[u8]) {
-    if good {
-        text(yes);
-    } else {
-        text(no);
-    }
-}
-
-// The word of a kind of answer.
+// The word of a kind of answer, with a refusal's number; a plain number has none.
 fn word(kind: usize) {
     match kind {
+        0 | SHOWN => {}
         PASSED => text(b" passed"),
         KEPT => text(b" kept"),
         SENT => text(b" sent"),
@@ -47,19 +36,21 @@ fn word(kind: usize) {
         ENDED => text(b" ended"),
         FAILING => text(b" failing carrier"),
         STEPS => text(b" steps"),
-        _ => text(b" refused"),
+        SAME => text(b" the same"),
+        OTHERWISE => text(b" OTHERWISE"),
+        _ => {
+            text(b" refused");
+            number(kind);
+        }
     }
 }
 
-// An answer: its word, a refusal's number, and the number taken, the failing carrier, the most steps or the place.
+// An answer: its word, and the place, the number taken, the failing carrier, the most steps, or the plain number.
 pub fn answer(came: usize) {
     let kind = calls::kind(came);
     word(kind);
-    if kind < PASSED {
-        number(kind);
-        number(calls::number(came));
-    }
-    if DELIVERED < kind {
-        number(calls::number(came));
+    match kind {
+        PASSED | KEPT | SENT | DELIVERED | SAME | OTHERWISE | SHOWN => {}
+        _ => number(calls::number(came)),
     }
 }

@@ -114,11 +114,11 @@ fn as_planned(f: Floor, walls: &[u16], m: &[u16], planned: &[u16]) -> bool {
 
 // An order that came to silence after so many steps. What must be: the answers are both planners', the taken count in memory is the
 // number of steps that were answered as taken, that number is at most the ceiling, and the state is at rest.
-pub fn judged(t: Tally, f: Floor, walls: &[u16], m: &[u16], taken: usize) -> Tally {
+fn judged(t: Tally, f: Floor, walls: &[u16], m: &[u16], taken: usize) -> Tally {
     let n = look::wide(f.carriers);
     let most = calls::number(calls::ceiling(n));
     let mut planned = look::zeros();
-    calls::plan(f, walls, &mut planned);
+    let failing = calls::number(calls::plan(f, walls, &mut planned));
     let a = as_planned(f, walls, m, &planned);
     let b = both(taken_in(m) == taken, taken <= most);
     let right = both(a, both(b, at_rest(m, n)));
@@ -126,25 +126,35 @@ pub fn judged(t: Tally, f: Floor, walls: &[u16], m: &[u16], taken: usize) -> Tal
         orders: look::count(t.orders, true),
         right: look::count(t.right, right),
         full: look::count(t.full, taken == most),
-        failing: look::count(t.failing, !all_are(&planned, 0, 65, n, 2)),
+        failing: look::count(t.failing, 0 < failing),
         steps: look::plus(t.steps, taken),
         odd: t.odd,
     }
 }
 
-// So many more odd answers.
-pub fn noted(t: Tally, odd: usize) -> Tally {
+// One more odd answer.
+pub fn odd(t: Tally) -> Tally {
     let mut u = t;
-    u.odd = look::plus(t.odd, odd);
+    u.odd = look::count(t.odd, true);
     u
 }
 
+// Where an order has come to: silent after so many steps; ended, which is no order; spent, which is odd.
+pub fn noted(t: Tally, f: Floor, walls: &[u16], m: &[u16], came: usize) -> Tally {
+    match calls::kind(came) {
+        calls::SILENT => judged(t, f, walls, m, calls::number(came)),
+        calls::ENDED => t,
+        _ => odd(t),
+    }
+}
+
 // The figures.
-pub fn say(t: Tally) {
-    show::figure(b" orders", t.orders);
-    show::figure(b", right", t.right);
-    show::figure(b", as long as the ceiling", t.full);
-    show::figure(b", with a failing carrier", t.failing);
-    show::figure(b", steps in all", t.steps);
-    show::figure(b", odd answers", t.odd);
+pub fn say(t: Tally) -> usize {
+    show::number(t.orders);
+    show::number(t.right);
+    show::number(t.full);
+    show::number(t.failing);
+    show::number(t.steps);
+    show::number(t.odd);
+    calls::shown()
 }

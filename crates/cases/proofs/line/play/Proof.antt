@@ -7,16 +7,13 @@ use Rattle.cases.proofs.line.play.Statement.{statement}
 use Rattle.cases.proofs.line.play.Tie as tie
 
 abbrev Inv-loop : tie.InvT-loop
-Inv-loop s room₀ now₀ turn₀ room now turn = length room ≡ 9700
+Inv-loop s room₀ desk₀ at₀ turn₀ room desk at turn = (length desk ≡ 68) × (length room ≡ 9700)
 
 abbrev μ-loop : tie.MeasureT-loop
-μ-loop s room₀ now₀ turn₀ room now turn = 2000 - turn
+μ-loop s room₀ desk₀ at₀ turn₀ room desk at turn = 2000 - turn
 
 room-requires : tie.Need-room-requires Inv-loop μ-loop
 room-requires c κs = search needs
-
-fresh-requires : tie.Need-fresh-requires Inv-loop μ-loop
-fresh-requires c κs = search needs
 
 loop-holds : tie.Need-loop-holds Inv-loop μ-loop
 loop-holds c = search needs
@@ -26,6 +23,9 @@ returns c = search needs
 
 slice-aggregate-line : tie.Need-slice-aggregate-line Inv-loop μ-loop
 slice-aggregate-line c = search needs
+
+slice-aggregate-line-2 : tie.Need-slice-aggregate-line-2 Inv-loop μ-loop
+slice-aggregate-line-2 c = search needs
 
 line-requires : tie.Need-line-requires Inv-loop μ-loop
 line-requires c κs = search needs
@@ -49,10 +49,10 @@ play-spec =
     Inv-loop
     μ-loop
     room-requires
-    fresh-requires
     loop-holds
     returns
     slice-aggregate-line
+    slice-aggregate-line-2
     line-requires
     add-turn
     loop-less

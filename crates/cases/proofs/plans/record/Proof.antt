@@ -7,10 +7,10 @@ use Rattle.cases.proofs.plans.record.Statement.{statement}
 use Rattle.cases.proofs.plans.record.Tie as tie
 
 abbrev Inv-loop : tie.InvT-loop
-Inv-loop answers at r₀ t₀ r t = length r ≡ 64
+Inv-loop m at r₀ t₀ r t = length r ≡ 64
 
 abbrev μ-loop : tie.MeasureT-loop
-μ-loop answers at r₀ t₀ r t = 64 - t
+μ-loop m at r₀ t₀ r t = 64 - t
 
 loop-holds : tie.Need-loop-holds Inv-loop μ-loop
 loop-holds c = search needs

@@ -7,19 +7,22 @@ use Rattle.cases.proofs.spoilt.each_place.Statement.{statement}
 use Rattle.cases.proofs.spoilt.each_place.Tie as tie
 
 abbrev Inv-loop : tie.InvT-loop
-Inv-loop f m₀ good size n₀ i₀ m n i = length m ≡ length m₀
+Inv-loop f m₀ good with x number size n₀ i₀ m n i = length m ≡ length m₀
 
 abbrev μ-loop : tie.MeasureT-loop
-μ-loop f m₀ good size n₀ i₀ m n i = size - i
-
-none-requires : tie.Need-none-requires Inv-loop μ-loop
-none-requires c κs = search needs
+μ-loop f m₀ good with x number size n₀ i₀ m n i = size - i
 
 loop-holds : tie.Need-loop-holds Inv-loop μ-loop
 loop-holds c = search needs
 
-tried-requires : tie.Need-tried-requires Inv-loop μ-loop
-tried-requires c κs = search needs
+at-requires : tie.Need-at-requires Inv-loop μ-loop
+at-requires c κs = search needs
+
+is-refused-requires : tie.Need-is-refused-requires Inv-loop μ-loop
+is-refused-requires c κs = search needs
+
+count-requires : tie.Need-count-requires Inv-loop μ-loop
+count-requires c κs = search needs
 
 add-i : tie.Need-add-i Inv-loop μ-loop
 add-i c = search needs
@@ -42,9 +45,10 @@ each-place-spec =
     (tie.spec
     Inv-loop
     μ-loop
-    none-requires
     loop-holds
-    tried-requires
+    at-requires
+    is-refused-requires
+    count-requires
     add-i
     loop-less
     loop-again

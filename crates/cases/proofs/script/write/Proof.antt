@@ -1,16 +1,16 @@
--- `cases::states::write` is safe and ends: at most 900 numbers.
+-- `cases::script::write` is safe and ends: at most 900 numbers.
 use Prim.Native.Nat.{_-_}
 use mathlib.Core.Path.{_≡_}
 use lib.ListN.{length}
 use borrow.Author.Needs.{needs}
-use Rattle.cases.proofs.states.write.Statement.{statement}
-use Rattle.cases.proofs.states.write.Tie as tie
+use Rattle.cases.proofs.script.write.Statement.{statement}
+use Rattle.cases.proofs.script.write.Tie as tie
 
 abbrev Inv-loop : tie.InvT-loop
-Inv-loop s at k m₀ to₀ i₀ m to i = length m ≡ length m₀
+Inv-loop s from k m₀ to₀ i₀ m to i = length m ≡ length m₀
 
 abbrev μ-loop : tie.MeasureT-loop
-μ-loop s at k m₀ to₀ i₀ m to i = 900 - i
+μ-loop s from k m₀ to₀ i₀ m to i = 900 - i
 
 loop-holds : tie.Need-loop-holds Inv-loop μ-loop
 loop-holds c = search needs

@@ -1,16 +1,16 @@
--- `cases::script::eight` is safe and ends: eight numbers in turn.
+-- `cases::look::eight` is safe and ends: eight numbers in turn.
 use Prim.Native.Nat.{_-_}
 use mathlib.Core.Path.{_≡_}
 use lib.ListN.{length}
 use borrow.Author.Needs.{needs}
-use Rattle.cases.proofs.script.eight.Statement.{statement}
-use Rattle.cases.proofs.script.eight.Tie as tie
+use Rattle.cases.proofs.look.eight.Statement.{statement}
+use Rattle.cases.proofs.look.eight.Tie as tie
 
 abbrev Inv-loop : tie.InvT-loop
-Inv-loop s from k stride e₀ n₀ i₀ e n i = length e ≡ 8
+Inv-loop m from stride e₀ p₀ n₀ e p n = length e ≡ 8
 
 abbrev μ-loop : tie.MeasureT-loop
-μ-loop s from k stride e₀ n₀ i₀ e n i = 8 - n
+μ-loop m from stride e₀ p₀ n₀ e p n = 8 - n
 
 loop-holds : tie.Need-loop-holds Inv-loop μ-loop
 loop-holds c = search needs
@@ -18,11 +18,8 @@ loop-holds c = search needs
 slice-aggregate-put : tie.Need-slice-aggregate-put Inv-loop μ-loop
 slice-aggregate-put c = search needs
 
-field-requires : tie.Need-field-requires Inv-loop μ-loop
-field-requires c κs = search needs
-
-narrow-requires : tie.Need-narrow-requires Inv-loop μ-loop
-narrow-requires c κs = search needs
+at-requires : tie.Need-at-requires Inv-loop μ-loop
+at-requires c κs = search needs
 
 put-requires : tie.Need-put-requires Inv-loop μ-loop
 put-requires c κs = search needs
@@ -50,8 +47,7 @@ eight-spec =
     μ-loop
     loop-holds
     slice-aggregate-put
-    field-requires
-    narrow-requires
+    at-requires
     put-requires
     plus-requires
     add-n

@@ -1,31 +1,28 @@
--- `cases::drawn::twenty` is safe and ends: twenty orders.
+-- `cases::drawn::drawn` is safe and ends: each order in turn.
 use Prim.Native.Nat.{_-_}
 use mathlib.Core.Path.{_≡_}
 use lib.ListN.{length}
 use borrow.Author.Needs.{needs}
-use Rattle.cases.proofs.drawn.twenty.Statement.{statement}
-use Rattle.cases.proofs.drawn.twenty.Tie as tie
+use Rattle.cases.proofs.drawn.drawn.Statement.{statement}
+use Rattle.cases.proofs.drawn.drawn.Tie as tie
 
 abbrev Inv-loop : tie.InvT-loop
-Inv-loop n depth room₀ first t₀ k₀ room t k = length room ≡ length room₀
+Inv-loop s at f m₀ desk count cells first t₀ k₀ m t k = length m ≡ length m₀
 
 abbrev μ-loop : tie.MeasureT-loop
-μ-loop n depth room₀ first t₀ k₀ room t k = 20 - k
+μ-loop s at f m₀ desk count cells first t₀ k₀ m t k = count - k
 
-wide-requires : tie.Need-wide-requires Inv-loop μ-loop
-wide-requires c κs = search needs
+field-requires : tie.Need-field-requires Inv-loop μ-loop
+field-requires c κs = search needs
 
-mul-first : tie.Need-mul-first Inv-loop μ-loop
-mul-first c = search needs
+field-requires-2 : tie.Need-field-requires-2 Inv-loop μ-loop
+field-requires-2 c κs = search needs
 
-wide-requires-2 : tie.Need-wide-requires-2 Inv-loop μ-loop
-wide-requires-2 c κs = search needs
+field-requires-3 : tie.Need-field-requires-3 Inv-loop μ-loop
+field-requires-3 c κs = search needs
 
-mul-first-2 : tie.Need-mul-first-2 Inv-loop μ-loop
-mul-first-2 c = search needs
-
-add-first : tie.Need-add-first Inv-loop μ-loop
-add-first c = search needs
+nothing-requires : tie.Need-nothing-requires Inv-loop μ-loop
+nothing-requires c κs = search needs
 
 loop-holds : tie.Need-loop-holds Inv-loop μ-loop
 loop-holds c = search needs
@@ -51,17 +48,16 @@ same-length c = search needs
 returns : tie.Need-returns Inv-loop μ-loop
 returns c = search needs
 
-pub twenty-spec : {M : Type 1} → statement M
-twenty-spec =
+pub drawn-spec : {M : Type 1} → statement M
+drawn-spec =
     tie.close
     (tie.spec
     Inv-loop
     μ-loop
-    wide-requires
-    mul-first
-    wide-requires-2
-    mul-first-2
-    add-first
+    field-requires
+    field-requires-2
+    field-requires-3
+    nothing-requires
     loop-holds
     plus-requires
     draw-one-requires

@@ -1,10 +1,10 @@
--- `cases::draws::eight` is safe and ends: each cell in turn takes a place of the shuffle.
+-- `cases::draws::shuffled` is safe and ends: each cell in turn takes a place of the shuffle.
 use Prim.Native.Nat.{_-_}
 use mathlib.Core.Path.{_≡_}
 use lib.ListN.{length}
 use borrow.Author.Needs.{needs}
-use Rattle.cases.proofs.draws.eight.Statement.{statement}
-use Rattle.cases.proofs.draws.eight.Tie as tie
+use Rattle.cases.proofs.draws.shuffled.Statement.{statement}
+use Rattle.cases.proofs.draws.shuffled.Tie as tie
 
 abbrev Inv-loop : tie.InvT-loop
 Inv-loop cells seed p₀ s₀ i₀ p s i = length p ≡ 40
@@ -54,35 +54,17 @@ loop-less c = search needs
 loop-again : tie.Need-loop-again Inv-loop μ-loop
 loop-again c = search needs
 
-array-read-t20 : tie.Need-array-read-t20 Inv-loop μ-loop
-array-read-t20 c = search needs
+slice-aggregate-eight : tie.Need-slice-aggregate-eight Inv-loop μ-loop
+slice-aggregate-eight c = search needs
 
-array-read-t23 : tie.Need-array-read-t23 Inv-loop μ-loop
-array-read-t23 c = search needs
-
-array-read-t26 : tie.Need-array-read-t26 Inv-loop μ-loop
-array-read-t26 c = search needs
-
-array-read-t29 : tie.Need-array-read-t29 Inv-loop μ-loop
-array-read-t29 c = search needs
-
-array-read-t32 : tie.Need-array-read-t32 Inv-loop μ-loop
-array-read-t32 c = search needs
-
-array-read-t35 : tie.Need-array-read-t35 Inv-loop μ-loop
-array-read-t35 c = search needs
-
-array-read-t38 : tie.Need-array-read-t38 Inv-loop μ-loop
-array-read-t38 c = search needs
-
-array-read-t41 : tie.Need-array-read-t41 Inv-loop μ-loop
-array-read-t41 c = search needs
+eight-requires : tie.Need-eight-requires Inv-loop μ-loop
+eight-requires c κs = search needs
 
 returns : tie.Need-returns Inv-loop μ-loop
 returns c = search needs
 
-pub eight-spec : {M : Type 1} → statement M
-eight-spec =
+pub shuffled-spec : {M : Type 1} → statement M
+shuffled-spec =
     tie.close
     (tie.spec
     Inv-loop
@@ -101,12 +83,6 @@ eight-spec =
     add-i
     loop-less
     loop-again
-    array-read-t20
-    array-read-t23
-    array-read-t26
-    array-read-t29
-    array-read-t32
-    array-read-t35
-    array-read-t38
-    array-read-t41
+    slice-aggregate-eight
+    eight-requires
     returns)
