@@ -48,12 +48,12 @@ pub fn answers_are(m: &[u16], from: usize, stride: usize, n: usize, answers: &[u
     true
 }
 
-// Whether n numbers, the first at a place and each so many behind the one before, are all v.
-fn all_are(m: &[u16], from: usize, stride: usize, n: usize, v: u16) -> bool {
+// Whether n numbers, the first at a place and each so many behind the one before, are all 0.
+fn are_zero(m: &[u16], from: usize, stride: usize, n: usize) -> bool {
     let mut p = from;
     let mut i: usize = 0;
     while i < n {
-        if look::at(m, p) != v {
+        if look::at(m, p) != 0 {
             return false;
         }
         p = look::plus(p, stride);
@@ -92,8 +92,8 @@ fn first_channel(n: usize) -> usize {
 
 // Whether nobody is due, from 3 on, and every channel, of 261 numbers, is empty.
 fn at_rest(m: &[u16], n: usize) -> bool {
-    let a = all_are(m, 3, 67, n, 0);
-    let b = all_are(m, first_channel(n), 261, pairs(n), 0);
+    let a = are_zero(m, 3, 67, n);
+    let b = are_zero(m, first_channel(n), 261, pairs(n));
     both(a, b)
 }
 

@@ -1,14 +1,14 @@
--- `cases::tally::all_are` is safe and ends: each number in turn.
+-- `cases::tally::are_zero` is safe and ends: each number in turn.
 use Prim.Native.Nat.{_-_}
 use borrow.Author.Needs.{needs}
-use Rattle.cases.proofs.tally.all_are.Statement.{statement}
-use Rattle.cases.proofs.tally.all_are.Tie as tie
+use Rattle.cases.proofs.tally.are_zero.Statement.{statement}
+use Rattle.cases.proofs.tally.are_zero.Tie as tie
 
 abbrev Inv-loop : tie.InvT-loop
-Inv-loop m from stride n v p₀ i₀ p i = Unit {0}
+Inv-loop m from stride n p₀ i₀ p i = Unit {0}
 
 abbrev μ-loop : tie.MeasureT-loop
-μ-loop m from stride n v p₀ i₀ p i = n - i
+μ-loop m from stride n p₀ i₀ p i = n - i
 
 loop-holds : tie.Need-loop-holds Inv-loop μ-loop
 loop-holds c = search needs
@@ -34,8 +34,8 @@ loop-again c = search needs
 returns-2 : tie.Need-returns-2 Inv-loop μ-loop
 returns-2 c = search needs
 
-pub all-are-spec : {M : Type 1} → statement M
-all-are-spec =
+pub are-zero-spec : {M : Type 1} → statement M
+are-zero-spec =
     tie.close
     (tie.spec
     Inv-loop
