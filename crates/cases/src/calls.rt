@@ -118,15 +118,10 @@ pub fn state_length(f: Floor) -> usize {
     }
 }
 
-// A run of no steps.
-pub fn idle(f: Floor, walls: &[u16], m: &mut [u16]) -> usize {
-    let list = [0u16; 1];
-    run(f, walls, m, &list[..0], 0)
-}
-
 // Whether no step is open: a run of no steps says so.
 pub fn is_silent(f: Floor, walls: &[u16], m: &mut [u16]) -> bool {
-    idle(f, walls, m) == answer(SILENT, 0)
+    let list = [0u16; 1];
+    run(f, walls, m, &list[..0], 0) == answer(SILENT, 0)
 }
 
 // What a comparison says.
