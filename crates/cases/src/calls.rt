@@ -1,6 +1,5 @@
 // The entries, each answer as one number that can be compared and printed: its kind times 1,000,000, and a number. A refusal's kind is
-// its number in document 01's table, 1 to 10, and its number is its place; the other kinds are those below.
-use crate::floors;
+// its number in document 01's table, 1 to 10, and its number is its place; a plain number has kind 0; the other kinds are those below.
 use crate::look;
 use floor::Checked;
 use floor::Floor;
@@ -28,10 +27,16 @@ pub const ENDED: usize = 17;
 pub const FAILING: usize = 18;
 // Of the ceiling, with the most steps.
 pub const STEPS: usize = 19;
+// Of a comparison.
+pub const SAME: usize = 20;
+
+pub const OTHERWISE: usize = 21;
+// Nothing is left to show.
+pub const SHOWN: usize = 22;
 
 // An answer of a kind with a number.
 pub fn answer(kind: usize, number: usize) -> usize {
-    if kind < 20 {
+    if kind < 23 {
         if number < 1000000 {
             return 1000000 * kind + number;
         }
@@ -113,68 +118,18 @@ pub fn state_length(f: Floor) -> usize {
     }
 }
 
-// A run of no steps.
-pub fn idle(f: Floor, walls: &[u16], m: &mut [u16]) -> usize {
-    let list = [0u16; 1];
-    run(f, walls, m, &list[..0], 0)
-}
-
 // Whether no step is open: a run of no steps says so.
 pub fn is_silent(f: Floor, walls: &[u16], m: &mut [u16]) -> bool {
-    idle(f, walls, m) == answer(SILENT, 0)
+    let list = [0u16; 1];
+    run(f, walls, m, &list[..0], 0) == answer(SILENT, 0)
 }
 
-// The entries on a floor of the cases, which has no walls.
-pub fn fresh_on(k: usize, m: &mut [u16]) -> usize {
-    let none = [0u16; 1];
-    fresh(floors::floor(k), &none, m)
+// What a comparison says.
+pub fn compared(good: bool) -> usize {
+    answer(look::choose(good, SAME, OTHERWISE), 0)
 }
 
-pub fn step_on(k: usize, m: &mut [u16], x: u16) -> usize {
-    let none = [0u16; 1];
-    step(floors::floor(k), &none, m, x)
-}
-
-pub fn idle_on(k: usize, m: &mut [u16]) -> usize {
-    let none = [0u16; 1];
-    idle(floors::floor(k), &none, m)
-}
-
-// The step of a letter: 1, 2, 3 are plans; a is deliver 1 to 2, b 1 to 3, c 2 to 3, x 2 to 2; any other names no step.
-fn step_of(letter: u8) -> u16 {
-    match letter {
-        b'1' => 101,
-        b'2' => 102,
-        b'3' => 103,
-        b'a' => 212,
-        b'b' => 213,
-        b'c' => 223,
-        b'x' => 222,
-        _ => 300,
-    }
-}
-
-// The steps of a text, at most eight.
-fn put_steps(text: &[u8], list: &mut [u16]) {
-    let mut k: usize = 0;
-    while k < text.len() {
-        look::put(list, k, step_of(text[k]));
-        k += 1;
-    }
-}
-
-// A run of the first n steps of a list.
-fn run_part(k: usize, m: &mut [u16], list: &[u16], n: usize, budget: u16) -> usize {
-    let none = [0u16; 1];
-    if list.len() < n {
-        return 0;
-    }
-    run(floors::floor(k), &none, m, &list[..n], budget)
-}
-
-// A run of the steps of a text.
-pub fn run_on(k: usize, m: &mut [u16], text: &[u8], budget: u16) -> usize {
-    let mut list = [0u16; 8];
-    put_steps(text, &mut list);
-    run_part(k, m, &list, text.len(), budget)
+// What came has been shown.
+pub fn shown() -> usize {
+    answer(SHOWN, 0)
 }

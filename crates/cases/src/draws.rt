@@ -2,7 +2,7 @@
 ghost use mathlib.Core.Path.{_≡_};
 ghost use lib.ListN.{length};
 use crate::look;
-use crate::orders::Steps;
+use crate::orders;
 use floor::Floor;
 
 // The next number.
@@ -23,8 +23,8 @@ pub fn beside(seed: usize, k: usize) -> usize {
     look::plus(look::plus(seed % 65000, k), 1)
 }
 
-// Eight different cells of at least nine, at most 40, drawn by shuffling all.
-fn eight(cells: usize, seed: usize) -> [u16; 8] {
+// Eight different cells of at least eight, at most 40, drawn by shuffling all.
+fn shuffled(cells: usize, seed: usize) -> [u16; 8] {
     let mut p = [0u16; 40];
     let mut s = seed;
     let mut i: usize = 0;
@@ -36,7 +36,7 @@ fn eight(cells: usize, seed: usize) -> [u16; 8] {
         look::put(&mut p, j, look::narrow(i));
         i += 1;
     }
-    [p[0], p[1], p[2], p[3], p[4], p[5], p[6], p[7]]
+    look::eight(&p, 0, 1)
 }
 
 // Whether a cell is one of the eight drawn starts or goals.
@@ -77,58 +77,30 @@ fn draw_walls(f: Floor, cells: usize, seed: usize, walls: &mut [u16]) -> usize {
     count
 }
 
-// A number of columns or rows.
-fn side(seed: usize) -> usize {
-    3 + seed % 4
-}
-
-// The product of two sides.
-fn cells_of(width: usize, height: usize) -> usize {
-    if 6 < width {
-        return 0;
-    }
-    if height == 3 {
-        return 3 * width;
-    }
-    if height == 4 {
-        return 4 * width;
-    }
-    if height == 5 {
-        return 5 * width;
-    }
-    6 * width
-}
-
-// Draws a floor of 3 to 6 columns and rows with horizon 4 to 15, its walls into a memory.
-pub fn draw_floor(n: u16, depth: u16, seed: usize, walls: &mut [u16]) -> Floor {
-    let a = next(next(seed));
-    let b = next(a);
-    let c = next(b);
-    let width = side(a);
-    let height = side(b);
-    let cells = cells_of(width, height);
+// A floor with drawn starts, goals and walls, these into a memory.
+pub fn draw_floor(from: Floor, cells: usize, seed: usize, walls: &mut [u16]) -> Floor {
+    let c = next(next(seed));
     let mut f = Floor {
-        width: look::narrow(width),
-        height: look::narrow(height),
-        horizon: look::narrow(4 + c % 12),
-        depth: depth,
-        carriers: n,
+        width: from.width,
+        height: from.height,
+        horizon: from.horizon,
+        depth: from.depth,
+        carriers: from.carriers,
         walls: 0,
-        starts: eight(cells, beside(c, 1)),
-        goals: eight(cells, beside(c, 2)),
+        starts: shuffled(cells, beside(c, 1)),
+        goals: shuffled(cells, beside(c, 2)),
     };
     f.walls = look::narrow(draw_walls(f, cells, beside(c, 3), walls));
     f
 }
 
-// A step drawn from those that are there.
-pub fn draw_step(all: Steps, seed: usize) -> u16 {
-    let numbers = all.numbers;
-    look::at(&numbers, below(seed, all.count))
+// A step drawn from those of the desk.
+pub fn draw_step(desk: &[u16], seed: usize) -> u16 {
+    orders::step_at(desk, below(seed, orders::steps(desk)))
 }
 
-// A list of steps drawn from those that are there.
-pub fn draw_list(all: Steps, seed: usize) -> [u16; 32]
+// A list of steps drawn from those of the desk.
+pub fn draw_list(desk: &[u16], seed: usize) -> [u16; 32]
     ensures { λ r. ⌜ 32 ≡ length r ⌝ }
 {
     let mut list = [0u16; 32];
@@ -136,7 +108,7 @@ pub fn draw_list(all: Steps, seed: usize) -> [u16; 32]
     let mut k: usize = 0;
     while k < 32 {
         s = next(s);
-        list[k] = draw_step(all, s);
+        list[k] = draw_step(desk, s);
         k += 1;
     }
     list

@@ -3,18 +3,14 @@ ghost use mathlib.Core.Path.{_≡_};
 ghost use Prim.Native.Nat.{_<_};
 ghost use lib.ListN.{length};
 
-// Room for the largest state, 9,666 numbers, and some more, each 777.
+// What lent memory holds before anything is written into it.
+pub const LENT: u16 = 777;
+
+// Room for the largest state, 9,666 numbers, and some more.
 pub fn room() -> [u16; 9700]
     ensures { λ r. ⌜ 9700 ≡ length r ⌝ }
 {
-    [777; 9700]
-}
-
-// Room for a state of three carriers: 2 for the count, 67 a carrier, 326 for each of three pairs.
-pub fn three_room() -> [u16; 1181]
-    ensures { λ r. ⌜ 1181 ≡ length r ⌝ }
-{
-    [0; 1181]
+    [LENT; 9700]
 }
 
 // Room for the answers of eight carriers, all zeros.
@@ -46,30 +42,6 @@ pub fn wide(x: u16) -> usize
     x as usize
 }
 
-// A byte as a number.
-pub fn wide_byte(x: u8) -> u16 {
-    x as u16
-}
-
-// The letter at a place of a text, 0 past its end (the digit, 48).
-pub fn letter(text: &[u8], k: usize) -> u8 {
-    if k < text.len() {
-        return text[k];
-    }
-    48
-}
-
-// Digit t, from 0, of a number of five digits.
-pub fn digit(code: usize, t: usize) -> u16 {
-    match t {
-        0 => narrow(code / 10000),
-        1 => narrow(code / 1000 % 10),
-        2 => narrow(code / 100 % 10),
-        3 => narrow(code / 10 % 10),
-        _ => narrow(code % 10),
-    }
-}
-
 // A size as a number, 65,535 where it is none.
 pub fn narrow(x: usize) -> u16 {
     if x < 65536 {
@@ -88,14 +60,6 @@ pub fn plus(a: usize, b: usize) -> usize {
     65536
 }
 
-// A difference, 0 where it would be below 0.
-pub fn minus(a: usize, b: usize) -> usize {
-    if b < a {
-        return a - b;
-    }
-    0
-}
-
 // Writes v at a place, where there is one.
 pub fn put(m: &mut [u16], i: usize, v: u16) {
     if i < m.len() {
@@ -103,9 +67,17 @@ pub fn put(m: &mut [u16], i: usize, v: u16) {
     }
 }
 
-// Writes all of one memory from another.
-pub fn copy(from: &[u16], to: &mut [u16]) {
-    let n = to.len();
+// Writes v at the first n places.
+pub fn fill(m: &mut [u16], n: usize, v: u16) {
+    let mut i: usize = 0;
+    while i < n {
+        put(m, i, v);
+        i += 1;
+    }
+}
+
+// Writes the first n numbers of one memory into another.
+pub fn copy(from: &[u16], to: &mut [u16], n: usize) {
     let mut i: usize = 0;
     while i < n {
         put(to, i, at(from, i));
@@ -125,24 +97,22 @@ pub fn same_part(a: &[u16], i: usize, b: &[u16], j: usize, n: usize) -> bool {
     true
 }
 
-// Whether two memories have the same length and the same numbers.
+// Whether two memories have the same numbers, as far as the first goes.
 pub fn same(a: &[u16], b: &[u16]) -> bool {
-    if a.len() != b.len() {
-        return false;
-    }
     same_part(a, 0, b, 0, a.len())
 }
 
-// Whether every number from place i on is v.
-pub fn all_from(m: &[u16], i: usize, v: u16) -> bool {
-    let mut t = i;
-    while t < m.len() {
-        if m[t] != v {
-            return false;
-        }
-        t += 1;
+// Eight numbers of a memory, the first at a place and each so many behind the one before.
+pub fn eight(m: &[u16], from: usize, stride: usize) -> [u16; 8] {
+    let mut e = [0u16; 8];
+    let mut p = from;
+    let mut n: usize = 0;
+    while n < 8 {
+        put(&mut e, n, at(m, p));
+        p = plus(p, stride);
+        n += 1;
     }
-    true
+    e
 }
 
 // Whether both hold.
@@ -151,6 +121,14 @@ pub fn both(a: bool, b: bool) -> bool {
         return b;
     }
     false
+}
+
+// The first where it holds, otherwise the second.
+pub fn choose(holds: bool, a: usize, b: usize) -> usize {
+    if holds {
+        return a;
+    }
+    b
 }
 
 // One more where it holds.

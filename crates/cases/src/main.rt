@@ -1,28 +1,25 @@
-// Document 01's cases through the entries of the machine: the twelve floors to try, every order of small floors, drawn orders of larger
-// ones, spoilt states, and the refusals in their order. Each line has a name, what came out, and whether that is as expected; what is
-// expected stands in the source with its reason.
-mod budgets;
+// Document 01's cases through the entries, by a script on standard input: the twelve floors to try, every order of small floors, drawn
+// orders of larger ones, spoilt states, and the refusals in their order. Each line of the script is written again; behind an arrow
+// comes what the line's command answered. What must come out is the file `stdout`, in which each answer stands by its reason;
+// `host/tests/cases.rs` has the same answers from an independent implementation of document 01.
+//
+// A line's first letter is its command, and its numbers are the arguments; all other letters are for the reader.
 mod calls;
 mod drawn;
 mod draws;
-mod floors;
-mod hasty;
+mod line;
 mod look;
 mod orders;
-mod ranges;
-mod refusals;
-mod result;
+mod plans;
+mod script;
 mod show;
 mod spoilt;
-mod twelve;
-mod written;
+mod tally;
+
+use libc::STDIN_FILENO;
 
 fn main() {
-    twelve::twelve();
-    hasty::hasty();
-    orders::orders();
-    drawn::drawn();
-    spoilt::spoilt();
-    refusals::refusals();
-    budgets::budgets();
+    let mut space = io::large_buffer();
+    let n = io::read_full(STDIN_FILENO, &mut space);
+    line::play(&space[..n]);
 }

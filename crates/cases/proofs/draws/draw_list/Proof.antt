@@ -1,4 +1,4 @@
--- `cases::draws::draw_list` is safe and ends: 32 steps are drawn.
+-- `cases::draws::draw_list` is safe and ends: 32 steps in turn.
 use Prim.Native.Nat.{_-_}
 use mathlib.Core.Path.{_≡_}
 use lib.ListN.{length}
@@ -7,10 +7,10 @@ use Rattle.cases.proofs.draws.draw_list.Statement.{statement}
 use Rattle.cases.proofs.draws.draw_list.Tie as tie
 
 abbrev Inv-loop : tie.InvT-loop
-Inv-loop all seed list₀ s₀ k₀ list s k = length list ≡ 32
+Inv-loop desk seed list₀ s₀ k₀ list s k = length list ≡ 32
 
 abbrev μ-loop : tie.MeasureT-loop
-μ-loop all seed list₀ s₀ k₀ list s k = 32 - k
+μ-loop desk seed list₀ s₀ k₀ list s k = 32 - k
 
 loop-holds : tie.Need-loop-holds Inv-loop μ-loop
 loop-holds c = search needs

@@ -1,4 +1,4 @@
--- `cases::look::copy` is safe and ends: each place in turn.
+-- `cases::look::copy` is safe and ends: each number in turn.
 use Prim.Native.Nat.{_-_}
 use mathlib.Core.Path.{_≡_}
 use lib.ListN.{length}

@@ -1,4 +1,4 @@
--- `cases::orders::every` is safe and ends: at most a million lists of choices.
+-- `cases::orders::every` is safe and ends: at most 1,000,000 lists of choices.
 use Prim.Native.Nat.{_-_}
 use mathlib.Core.Path.{_≡_}
 use lib.ListN.{length}
@@ -7,16 +7,10 @@ use Rattle.cases.proofs.orders.every.Statement.{statement}
 use Rattle.cases.proofs.orders.every.Tie as tie
 
 abbrev Inv-loop : tie.InvT-loop
-Inv-loop f m₀ planned second all choices₀ t₀ turn₀ m choices t turn = length m ≡ length m₀
+Inv-loop f m₀ desk none choices₀ t₀ turn₀ m choices t turn = (length m ≡ length m₀) × (length choices ≡ 16)
 
 abbrev μ-loop : tie.MeasureT-loop
-μ-loop f m₀ planned second all choices₀ t₀ turn₀ m choices t turn = 1000000 - turn
-
-wide-requires : tie.Need-wide-requires Inv-loop μ-loop
-wide-requires c κs = search needs
-
-steps-of-requires : tie.Need-steps-of-requires Inv-loop μ-loop
-steps-of-requires c κs = search needs
+μ-loop f m₀ desk none choices₀ t₀ turn₀ m choices t turn = 1000000 - turn
 
 nothing-requires : tie.Need-nothing-requires Inv-loop μ-loop
 nothing-requires c κs = search needs
@@ -24,14 +18,26 @@ nothing-requires c κs = search needs
 loop-holds : tie.Need-loop-holds Inv-loop μ-loop
 loop-holds c = search needs
 
+slice-aggregate-follow : tie.Need-slice-aggregate-follow Inv-loop μ-loop
+slice-aggregate-follow c = search needs
+
 follow-requires : tie.Need-follow-requires Inv-loop μ-loop
 follow-requires c κs = search needs
 
-note-requires : tie.Need-note-requires Inv-loop μ-loop
-note-requires c κs = search needs
+slice-aggregate-noted : tie.Need-slice-aggregate-noted Inv-loop μ-loop
+slice-aggregate-noted c = search needs
+
+noted-requires : tie.Need-noted-requires Inv-loop μ-loop
+noted-requires c κs = search needs
+
+slice-aggregate-next : tie.Need-slice-aggregate-next Inv-loop μ-loop
+slice-aggregate-next c = search needs
 
 used-requires : tie.Need-used-requires Inv-loop μ-loop
 used-requires c κs = search needs
+
+steps-requires : tie.Need-steps-requires Inv-loop μ-loop
+steps-requires c κs = search needs
 
 next-requires : tie.Need-next-requires Inv-loop μ-loop
 next-requires c κs = search needs
@@ -51,8 +57,8 @@ loop-less c = search needs
 loop-again : tie.Need-loop-again Inv-loop μ-loop
 loop-again c = search needs
 
-noted-requires : tie.Need-noted-requires Inv-loop μ-loop
-noted-requires c κs = search needs
+odd-requires : tie.Need-odd-requires Inv-loop μ-loop
+odd-requires c κs = search needs
 
 same-length-2 : tie.Need-same-length-2 Inv-loop μ-loop
 same-length-2 c = search needs
@@ -66,19 +72,21 @@ every-spec =
     (tie.spec
     Inv-loop
     μ-loop
-    wide-requires
-    steps-of-requires
     nothing-requires
     loop-holds
+    slice-aggregate-follow
     follow-requires
-    note-requires
+    slice-aggregate-noted
+    noted-requires
+    slice-aggregate-next
     used-requires
+    steps-requires
     next-requires
     same-length
     returns
     add-turn
     loop-less
     loop-again
-    noted-requires
+    odd-requires
     same-length-2
     returns-2)

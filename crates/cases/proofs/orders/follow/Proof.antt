@@ -7,10 +7,10 @@ use Rattle.cases.proofs.orders.follow.Statement.{statement}
 use Rattle.cases.proofs.orders.follow.Tie as tie
 
 abbrev Inv-loop : tie.InvT-loop
-Inv-loop f m₀ all choices none k₀ m k = length m ≡ length m₀
+Inv-loop f m₀ desk choices none k₀ m k = length m ≡ length m₀
 
 abbrev μ-loop : tie.MeasureT-loop
-μ-loop f m₀ all choices none k₀ m k = 16 - k
+μ-loop f m₀ desk choices none k₀ m k = 16 - k
 
 slice-aggregate-fresh : tie.Need-slice-aggregate-fresh Inv-loop μ-loop
 slice-aggregate-fresh c = search needs
@@ -27,17 +27,23 @@ slice-aggregate-is-silent c = search needs
 is-silent-requires : tie.Need-is-silent-requires Inv-loop μ-loop
 is-silent-requires c κs = search needs
 
+answer-requires : tie.Need-answer-requires Inv-loop μ-loop
+answer-requires c κs = search needs
+
 same-length : tie.Need-same-length Inv-loop μ-loop
 same-length c = search needs
 
 returns : tie.Need-returns Inv-loop μ-loop
 returns c = search needs
 
+wide-at-requires : tie.Need-wide-at-requires Inv-loop μ-loop
+wide-at-requires c κs = search needs
+
+step-at-requires : tie.Need-step-at-requires Inv-loop μ-loop
+step-at-requires c κs = search needs
+
 slice-aggregate-step : tie.Need-slice-aggregate-step Inv-loop μ-loop
 slice-aggregate-step c = search needs
-
-chosen-requires : tie.Need-chosen-requires Inv-loop μ-loop
-chosen-requires c κs = search needs
 
 step-requires : tie.Need-step-requires Inv-loop μ-loop
 step-requires c κs = search needs
@@ -63,6 +69,9 @@ loop-less c = search needs
 loop-again : tie.Need-loop-again Inv-loop μ-loop
 loop-again c = search needs
 
+answer-requires-2 : tie.Need-answer-requires-2 Inv-loop μ-loop
+answer-requires-2 c κs = search needs
+
 same-length-3 : tie.Need-same-length-3 Inv-loop μ-loop
 same-length-3 c = search needs
 
@@ -80,10 +89,12 @@ follow-spec =
     loop-holds
     slice-aggregate-is-silent
     is-silent-requires
+    answer-requires
     same-length
     returns
+    wide-at-requires
+    step-at-requires
     slice-aggregate-step
-    chosen-requires
     step-requires
     is-refused-requires
     stopped-requires
@@ -92,5 +103,6 @@ follow-spec =
     add-k
     loop-less
     loop-again
+    answer-requires-2
     same-length-3
     returns-3)

@@ -1,4 +1,4 @@
--- `cases::orders::next` is safe and ends: one choice less is left each turn.
+-- `cases::orders::next` is safe and ends: from the last choice to the first.
 use mathlib.Core.Path.{_≡_}
 use lib.ListN.{length}
 use borrow.Author.Needs.{needs}
@@ -6,10 +6,10 @@ use Rattle.cases.proofs.orders.next.Statement.{statement}
 use Rattle.cases.proofs.orders.next.Tie as tie
 
 abbrev Inv-loop : tie.InvT-loop
-Inv-loop k count choices₀ left₀ choices left = length choices ≡ 16
+Inv-loop choices₀ k count left₀ choices left = length choices ≡ length choices₀
 
 abbrev μ-loop : tie.MeasureT-loop
-μ-loop k count choices₀ left₀ choices left = left
+μ-loop choices₀ k count left₀ choices left = left
 
 loop-holds : tie.Need-loop-holds Inv-loop μ-loop
 loop-holds c = search needs
@@ -17,17 +17,11 @@ loop-holds c = search needs
 sub-left : tie.Need-sub-left Inv-loop μ-loop
 sub-left c = search needs
 
-slice-aggregate-wide-at : tie.Need-slice-aggregate-wide-at Inv-loop μ-loop
-slice-aggregate-wide-at c = search needs
-
 wide-at-requires : tie.Need-wide-at-requires Inv-loop μ-loop
 wide-at-requires c κs = search needs
 
 plus-requires : tie.Need-plus-requires Inv-loop μ-loop
 plus-requires c κs = search needs
-
-slice-aggregate-put : tie.Need-slice-aggregate-put Inv-loop μ-loop
-slice-aggregate-put c = search needs
 
 narrow-requires : tie.Need-narrow-requires Inv-loop μ-loop
 narrow-requires c κs = search needs
@@ -35,11 +29,11 @@ narrow-requires c κs = search needs
 put-requires : tie.Need-put-requires Inv-loop μ-loop
 put-requires c κs = search needs
 
+same-length : tie.Need-same-length Inv-loop μ-loop
+same-length c = search needs
+
 returns : tie.Need-returns Inv-loop μ-loop
 returns c = search needs
-
-slice-aggregate-put-2 : tie.Need-slice-aggregate-put-2 Inv-loop μ-loop
-slice-aggregate-put-2 c = search needs
 
 put-requires-2 : tie.Need-put-requires-2 Inv-loop μ-loop
 put-requires-2 c κs = search needs
@@ -49,6 +43,9 @@ loop-less c = search needs
 
 loop-again : tie.Need-loop-again Inv-loop μ-loop
 loop-again c = search needs
+
+same-length-2 : tie.Need-same-length-2 Inv-loop μ-loop
+same-length-2 c = search needs
 
 returns-2 : tie.Need-returns-2 Inv-loop μ-loop
 returns-2 c = search needs
@@ -61,15 +58,14 @@ next-spec =
     μ-loop
     loop-holds
     sub-left
-    slice-aggregate-wide-at
     wide-at-requires
     plus-requires
-    slice-aggregate-put
     narrow-requires
     put-requires
+    same-length
     returns
-    slice-aggregate-put-2
     put-requires-2
     loop-less
     loop-again
+    same-length-2
     returns-2)

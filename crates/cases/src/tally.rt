@@ -1,0 +1,160 @@
+// What is looked at where an order has come to silence.
+use crate::calls;
+use crate::look;
+use crate::look::both;
+use crate::show;
+use floor::Floor;
+
+// How many orders came to silence, and of how many each of the other things holds.
+pub struct Tally {
+    // Silent.
+    pub orders: usize,
+    // All is as it must be.
+    pub right: usize,
+    // As many steps were taken as the ceiling says.
+    pub full: usize,
+    // A carrier has none.
+    pub failing: usize,
+    // All steps taken.
+    pub steps: usize,
+    // Answers of steps that are neither taken nor refused with 8, 0; orders that did not come to silence.
+    pub odd: usize,
+}
+
+pub fn nothing() -> Tally {
+    Tally {
+        orders: 0,
+        right: 0,
+        full: 0,
+        failing: 0,
+        steps: 0,
+        odd: 0,
+    }
+}
+
+// Whether the records of n carriers in a memory, from a place on and each so many numbers behind the one before, are these answers.
+pub fn answers_are(m: &[u16], from: usize, stride: usize, n: usize, answers: &[u16]) -> bool {
+    let mut p = from;
+    let mut q: usize = 0;
+    let mut i: usize = 0;
+    while i < n {
+        if !look::same_part(m, p, answers, q, 65) {
+            return false;
+        }
+        p = look::plus(p, stride);
+        q = look::plus(q, 65);
+        i += 1;
+    }
+    true
+}
+
+// Whether n numbers, the first at a place and each so many behind the one before, are all 0.
+fn are_zero(m: &[u16], from: usize, stride: usize, n: usize) -> bool {
+    let mut p = from;
+    let mut i: usize = 0;
+    while i < n {
+        if look::at(m, p) != 0 {
+            return false;
+        }
+        p = look::plus(p, stride);
+        i += 1;
+    }
+    true
+}
+
+// The pairs of n carriers.
+fn pairs(n: usize) -> usize {
+    match n {
+        1 => 0,
+        2 => 1,
+        3 => 3,
+        4 => 6,
+        5 => 10,
+        6 => 15,
+        7 => 21,
+        _ => 28,
+    }
+}
+
+// The place of the first channel: behind the count (2 numbers), the carriers (67 each) and the views (65 a pair).
+fn first_channel(n: usize) -> usize {
+    match n {
+        1 => 69,
+        2 => 201,
+        3 => 398,
+        4 => 660,
+        5 => 987,
+        6 => 1379,
+        7 => 1836,
+        _ => 2358,
+    }
+}
+
+// Whether nobody is due, from 3 on, and every channel, of 261 numbers, is empty.
+fn at_rest(m: &[u16], n: usize) -> bool {
+    let a = are_zero(m, 3, 67, n);
+    let b = are_zero(m, first_channel(n), 261, pairs(n));
+    both(a, b)
+}
+
+// The taken count in memory: thousands and rest.
+fn taken_in(m: &[u16]) -> usize {
+    1000 * look::wide_at(m, 0) + look::wide_at(m, 1)
+}
+
+// Whether every answer, from 4 on, is the sequential planner's and the second planner's.
+fn as_planned(f: Floor, walls: &[u16], m: &[u16], planned: &[u16]) -> bool {
+    let n = look::wide(f.carriers);
+    let mut second = look::zeros();
+    second::second_plan(f, walls, &mut second);
+    let a = answers_are(m, 4, 67, n, planned);
+    let b = answers_are(m, 4, 67, n, &second);
+    both(a, b)
+}
+
+// An order that came to silence after so many steps. What must be: the answers are both planners', the taken count in memory is the
+// number of steps that were answered as taken, that number is at most the ceiling, and the state is at rest.
+fn judged(t: Tally, f: Floor, walls: &[u16], m: &[u16], taken: usize) -> Tally {
+    let n = look::wide(f.carriers);
+    let most = calls::number(calls::ceiling(n));
+    let mut planned = look::zeros();
+    let failing = calls::number(calls::plan(f, walls, &mut planned));
+    let a = as_planned(f, walls, m, &planned);
+    let b = both(taken_in(m) == taken, taken <= most);
+    let right = both(a, both(b, at_rest(m, n)));
+    Tally {
+        orders: look::count(t.orders, true),
+        right: look::count(t.right, right),
+        full: look::count(t.full, taken == most),
+        failing: look::count(t.failing, 0 < failing),
+        steps: look::plus(t.steps, taken),
+        odd: t.odd,
+    }
+}
+
+// One more odd answer.
+pub fn odd(t: Tally) -> Tally {
+    let mut u = t;
+    u.odd = look::count(t.odd, true);
+    u
+}
+
+// Where an order has come to: silent after so many steps; ended, which is no order; spent, which is odd.
+pub fn noted(t: Tally, f: Floor, walls: &[u16], m: &[u16], came: usize) -> Tally {
+    match calls::kind(came) {
+        calls::SILENT => judged(t, f, walls, m, calls::number(came)),
+        calls::ENDED => t,
+        _ => odd(t),
+    }
+}
+
+// The figures.
+pub fn say(t: Tally) -> usize {
+    show::number(t.orders);
+    show::number(t.right);
+    show::number(t.full);
+    show::number(t.failing);
+    show::number(t.steps);
+    show::number(t.odd);
+    calls::shown()
+}
