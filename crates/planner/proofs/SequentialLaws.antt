@@ -2,9 +2,9 @@
 use Prim.Native.Nat.{ℕ, zero, suc, _≤_, _<_}
 use native.Mathlib.Omega.{arith}
 use native.Mathlib.Decide.{decLe}
-use borrow.Author.Count.{below-more}
 use mathlib.Core.Path.{_≡_, _∙_}
 use mathlib.Core.List.{List, [], _∷_, _++_, map}
+use borrow.Author.Count.{below-more}
 use lib.ListN.{getD, take, List·getD-append}
 use lib.Seq.{getD-at, take-append-le, take-all}
 use Rattle.route.specs.Route.{Answer, none, View, heard}

@@ -1,11 +1,10 @@
 -- Rows and columns of the cells beside a cell, and ways that the room shows to be open.
 use Prim.Native.Nat.{ℕ, zero, suc, _+_, _*_, _-_, _/_, _%_, _≤_, _<_}
 use native.Mathlib.Omega.{arith}
-use native.Mathlib.Nat.{mod-lt, div-add-mod', suc-mul, add-div-right, add-mod-right}
+use native.Mathlib.Nat.{mod-lt, div-add-mod', add-div-right, add-mod-right}
 use mathlib.Core.Bool.{Bool, true, false, _&&_, not}
 use mathlib.Core.List.{List}
-use mathlib.Core.Path.{_≡_, refl, sym, ap, _∙_}
-use borrow.Author.Tests.{lt-ltb}
+use mathlib.Core.Path.{_≡_, refl, sym, _∙_}
 use lib.Dec.{ltb, eqb}
 use Rattle.route.specs.Moves.{vacant, every}
 use Rattle.route.proofs.Tests.{and-snd}

@@ -1,9 +1,7 @@
 -- What a step brings to a cell from a set of a table, by near cells.
-use Prim.Native.Nat.{ℕ, zero, suc, _+_, _*_, _/_, _%_, _≤_, _<_}
+use Prim.Native.Nat.{ℕ, zero, suc, _+_, _*_, _/_, _%_, _<_}
 use native.Mathlib.Omega.{arith}
-use native.Mathlib.Nat.{mod-lt, div-add-mod', suc-mul}
-use native.Mathlib.Numerals.{add-one}
-use mathlib.Core.Bool.{Bool, true, _||_}
+use mathlib.Core.Bool.{true}
 use mathlib.Core.List.{List}
 use mathlib.Core.Logic.{_⊎_, inl, inr, ⊎-elim}
 use mathlib.Core.Path.{_≡_, refl, sym, ap, _∙_}
@@ -13,11 +11,11 @@ use Rattle.route.specs.Moves.{near}
 use Rattle.route.proofs.NearLaws.{near-says}
 use Rattle.words.specs.Words.{digit}
 use Rattle.words.specs.Rows.{has}
-use Rattle.words.proofs.RowsLaws.{place-same, place-row}
+use Rattle.words.proofs.RowsLaws.{place-same}
 use Rattle.words.proofs.StepLaws.{before, brought}
 use Rattle.search.specs.declared.Scene.{Scene}
 use Rattle.search.specs.Table.{Tidy, inSet}
-use Rattle.search.proofs.SetLaws.{set-cell, set-has, set-at}
+use Rattle.search.proofs.SetLaws.{set-has, set-at}
 use Rattle.search.proofs.MemberLaws.{near-row, near-column, near-same, before-says, before-holds, Five, five-says, five-holds}
 
 module _ (g : Scene) (s : List ℕ) (a r q : ℕ) (tidy : Tidy g s) (thin : 0 < g .width) (row : r < 32) (column : q < g .width) where

@@ -27,11 +27,11 @@ use Rattle.search.specs.Passes.{lastNot, Earliest, arrivable, leadsOf, n
 use Rattle.search.proofs.WayLaws.{way-backward}
 use Rattle.search.proofs.NextLaws.{step-before, step-after, next-inside}
 use Rattle.search.proofs.NextBest.{Taken, next-best}
-use Rattle.search.proofs.NarrowLaws.{reach, back, reach-begins, reach-forward, back-backward, Passed, Wide, Kept}
-use Rattle.search.proofs.NarrowLaws.{passed-goal, kept-greedy}
+use Rattle.search.proofs.NarrowLaws.{reach, back, reach-begins, reach-forward, back-backward, Passed, Wide, Kept, passed-goal}
+use Rattle.search.proofs.NarrowLaws.{kept-greedy}
 use Rattle.search.proofs.WindowLaws.{apart, reach-apart}
-use Rattle.search.proofs.PassLaws.{Setting, taskIn, ruleIn, allowed-near, allowed-passes, allowed-makes, allowed-cell}
-use Rattle.search.proofs.PassLaws.{room-is, hold-holds, holds-hold, laid-wide, made-passed, traced-stands, traced-kept}
+use Rattle.search.proofs.PassLaws.{Setting, taskIn, ruleIn, allowed-near, allowed-passes, allowed-makes, allowed-cell, room-is}
+use Rattle.search.proofs.PassLaws.{hold-holds, holds-hold, laid-wide, made-passed, traced-stands, traced-kept}
 
 -- What a forward pass has made: the sets laid, and how far they are advanced where it finds beat r.
 abbrev pub Made : Scene → ℕ → Window → List ℕ → List ℕ → ℕ → ℕ → List ℕ → Type 0

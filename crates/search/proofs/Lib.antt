@@ -21,7 +21,6 @@ pub mod BesideLaws
 pub mod MendLaws
 pub mod NarrowedLaws
 pub mod StepLaws
-pub mod BackLaws
 pub mod NarrowLaws
 pub mod WindowLaws
 pub mod HoldLaws

@@ -1,17 +1,13 @@
 -- Near cells by row and column, and a choice of five.
 use Prim.Native.Nat.{ℕ, zero, suc, _+_, _*_, _/_, _%_, _<_}
 use native.Mathlib.Omega.{arith}
-use mathlib.Core.Bool.{Bool, true, false, _&&_, _||_}
-use mathlib.Core.List.{List}
+use mathlib.Core.Bool.{Bool, true, false, _||_}
 use mathlib.Core.Logic.{_⊎_, inl, inr, ⊎-elim}
 use mathlib.Core.Path.{_≡_, refl, sym, _∙_}
-use borrow.Author.Tests.{ltb-true, lt-ltb}
-use lib.Dec.{ltb}
 use Rattle.route.specs.Route.{Neighbours, SharesSide}
 use Rattle.route.specs.Moves.{near}
-use Rattle.route.proofs.Tests.{true-false-absurd, and-both, and-fst, and-snd}
+use Rattle.route.proofs.Tests.{true-false-absurd}
 use Rattle.route.proofs.NearLaws.{near-holds}
-use Rattle.words.specs.Rows.{has}
 use Rattle.words.proofs.RowsLaws.{place-same}
 use Rattle.words.proofs.StepLaws.{before}
 

@@ -2,21 +2,33 @@
 -- greedy walk along them is one along the exact sets.
 use Prim.Native.Nat.{ℕ, zero, suc, _+_, _-_, _≤_, _<_}
 use native.Mathlib.Omega.{arith}
-use mathlib.Core.Bool.{Bool, true, false, _&&_}
-use mathlib.Core.Logic.{_↔_}
-use mathlib.Core.Path.{_≡_, refl, sym}
+use native.Mathlib.Nat.{eq-or-lt-of-le}
+use mathlib.Core.Bool.{Bool, true, false, _&&_, _||_}
+use mathlib.Core.Logic.{_↔_, ⊎-elim}
+use mathlib.Core.Path.{_≡_, refl}
 use borrow.Author.Tests.{eqb-true, eq-eqb}
 use lib.Dec.{eqb}
 use Rattle.route.specs.Search.{Rule}
-use Rattle.route.proofs.Tests.{and-both, and-fst, and-snd}
+use Rattle.route.proofs.Tests.{and-both, and-fst, and-snd, or-cases, or-inl, or-inr, true-false-absurd}
+use Rattle.words.proofs.Tests.{same-test}
 use Rattle.route.proofs.Sets.{Sets, Reached, Leading, Forward, Backward, Greedy}
-use Rattle.search.proofs.BackLaws.{some, some-says, some-holds}
 
--- Two tests that follow from each other are the same.
-same-test : (p q : Bool) → (p ≡ true → q ≡ true) → (q ≡ true → p ≡ true) → p ≡ q
-same-test true q f g = sym (f refl)
-same-test false true f g = g refl
-same-test false false f g = refl
+-- Some number below n passes the test.
+pub some : ℕ → (ℕ → Bool) → Bool
+some zero p = false
+some (suc n) p = p n || some n p
+
+some-says : (n : ℕ) (p : ℕ → Bool) → some n p ≡ true → (d : ℕ) × (p d ≡ true)
+unfolding some
+some-says zero p e = true-false-absurd e refl
+some-says (suc n) p e = ⊎-elim (λ (h : p n ≡ true). (n, h)) (λ (h : some n p ≡ true). some-says n p h) (or-cases (p n) (some n p) e)
+
+some-holds : (n : ℕ) (p : ℕ → Bool) (d : ℕ) → d < n → p d ≡ true → some n p ≡ true
+unfolding some
+some-holds zero p d h e = absurd (omega arith)
+some-holds (suc n) p d h e =
+    ⊎-elim (λ (q : d ≡ n). or-inl (p n) (some n p) (rw q at e)) (λ (q : d < n). or-inr (p n) (some n p) (some-holds n p d q e))
+    (eq-or-lt-of-le (omega arith))
 
 module _ (ok : Rule) (cells : ℕ) where
   -- The cells that can be reached from the start by beat t.

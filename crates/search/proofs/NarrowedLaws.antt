@@ -21,8 +21,8 @@ use Rattle.search.specs.declared.Scene.{Scene}
 use Rattle.search.specs.declared.window.Window.{Window}
 use Rattle.search.specs.Views.{spotOf}
 use Rattle.search.specs.Ways.{wayOpen}
-use Rattle.search.specs.Table.{Apart, Fits, Fitting, Tidy, Rewritten, Roomy, Windowed, Inside, Entered, Mended, Narrowed}
-use Rattle.search.specs.Table.{inSet, firstAt}
+use Rattle.search.specs.Table.{Apart, Fits, Fitting, Tidy, Rewritten, Roomy, Windowed, Inside, Entered, Mended, Narrowed, inSet}
+use Rattle.search.specs.Table.{firstAt}
 use Rattle.search.proofs.SetLaws.{set-cell, set-has, set-holds, set-same}
 use Rattle.search.proofs.WindowLaws.{first-small}
 use Rattle.search.proofs.BesideLaws.{way-from}

@@ -1,10 +1,10 @@
 -- Cells of the sets of a table, by number and by row and column.
 use Prim.Native.Nat.{ℕ, _+_, _*_, _/_, _%_, _≤_, _<_}
 use native.Mathlib.Omega.{arith}
-use mathlib.Core.Bool.{Bool, true, _&&_}
+use mathlib.Core.Bool.{true, _&&_}
 use mathlib.Core.List.{List}
 use mathlib.Core.Logic.{⊎-elim}
-use mathlib.Core.Path.{_≡_, refl, sym, ap, _∙_}
+use mathlib.Core.Path.{_≡_, refl}
 use borrow.Author.Tests.{ltb-true, lt-ltb, le-ltb}
 use lib.Dec.{ltb}
 use lib.ListN.{getD}
@@ -40,12 +40,6 @@ module _ (g : Scene) (s : List ℕ) where
       let p : ((r * g .width + k) / g .width ≡ r) × ((r * g .width + k) % g .width ≡ k) =
       place-same (g .width) (r * g .width + k) r k h refl in
       set-holds t (r * g .width + k) l (rw (p .0, p .1) e)
-
-  pub set-of : (t r k : ℕ) → k < g .width → inSet g s t (r * g .width + k) ≡ true → has s (t * 36 + 1 + r) k ≡ true
-  set-of t r k h e =
-      let p : ((r * g .width + k) / g .width ≡ r) × ((r * g .width + k) % g .width ≡ k) =
-      place-same (g .width) (r * g .width + k) r k h refl in
-      rw (p .0, p .1) at (set-has t (r * g .width + k) e)
 
 -- Two tables with the same rows at a beat have the same cells then.
 pub set-same : (g : Scene) (s q : List ℕ) (t c : ℕ) → 1 ≤ g .width → g .cells ≤ 32 * g .width →

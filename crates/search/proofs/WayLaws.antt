@@ -1,14 +1,11 @@
 -- Which way is open between two cells as the views move, for a step from beat a to beat b, whichever of the two comes first.
-use Prim.Native.Nat.{ℕ, zero, suc, _+_, _≤_, _<_}
-use native.Mathlib.Omega.{arith}
+use Prim.Native.Nat.{ℕ, zero, suc, _+_, _<_}
 use mathlib.Core.Bool.{Bool, true, false, _&&_, not}
 use mathlib.Core.List.{List}
-use mathlib.Core.Logic.{_⊎_, inl, inr, ⊎-elim}
-use mathlib.Core.Path.{_≡_, refl, sym, ap, _∙_}
-use borrow.Author.Tests.{eqb-true, eq-eqb}
+use mathlib.Core.Path.{_≡_, refl, sym, _∙_}
 use lib.Dec.{eqb}
 use Rattle.route.specs.Moves.{vacant, passable, every}
-use Rattle.route.proofs.Tests.{true-false-absurd, eq-or-ne, and-both, and-fst, and-snd}
+use Rattle.route.proofs.Tests.{true-false-absurd, and-both, and-fst, and-snd}
 use Rattle.search.specs.Views.{viewAt, records, spotOf}
 use Rattle.search.specs.Ways.{wayOpen}
 use Rattle.search.proofs.ViewsLaws.{vacant-spot, passable-spot}

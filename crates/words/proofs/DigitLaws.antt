@@ -1,12 +1,12 @@
 -- Laws of digits: of or, and, xor, shifts, a single digit and a run of ones, by recursion on the place.
-use Prim.Native.Nat.{ℕ, zero, suc, _+_, _*_, _-_, _/_, _%_, _^_, _≤_, _<_, min, max}
+use Prim.Native.Nat.{ℕ, zero, suc, _+_, _*_, _-_, _/_, _%_, _^_, _<_, min, max}
 use native.Mathlib.Omega.{arith}
 use native.Mathlib.Nat.{pow-suc}
 use native.Mathlib.Numerals.{add-one, one-add}
-use mathlib.Core.Bool.{Bool, true, false, _&&_, _||_, not, true≢false}
+use mathlib.Core.Bool.{Bool, true, false, _&&_, _||_, not}
 use mathlib.Core.Path.{_≡_, refl, sym, ap, _∙_}
 use borrow.Author.Tests.{ne-eqb, lt-ltb, le-ltb}
-use lib.Bits.{bitAnd, bitOr, bitXor, differ, and-step, or-step, xor-step, and-mask, and-le-l, and-le-r, or-add-and, xor-add-and}
+use lib.Bits.{bitAnd, bitOr, bitXor, differ, and-step, or-step, xor-step, and-mask, and-le-l, and-le-r, or-add-and}
 use lib.Dec.{eqb, ltb, eqb·suc-suc, leb·suc-suc}
 use lib.Pow.{pow-pos, field, mod-mod-pow, shr-shr}
 use Rattle.words.specs.Words.{digit, without}
@@ -135,25 +135,6 @@ digit-ones (suc n) (suc k) =
     back : (m : ℕ) → 0 < m → (m * 2 - 1) / 2 ≡ m - 1
     back m h = omega arith
 
--- Two words with the same digits are the same.
-parity : (u v : ℕ) → u < 2 → v < 2 → eqb u 1 ≡ eqb v 1 → u ≡ v
-parity =
-    two-digits (λ u v. eqb u 1 ≡ eqb v 1 → u ≡ v) (λ e. refl) (λ e. absurd (true≢false (sym e))) (λ e. absurd (true≢false e)) (λ e. refl)
-
-digit-ext-upto : (n x y : ℕ) → x + y ≤ n → ((k : ℕ) → digit x k ≡ digit y k) → x ≡ y
-unfolding digit
-digit-ext-upto zero x y l h = omega arith
-digit-ext-upto (suc n) x y l h =
-    let e : x % 2 ≡ y % 2 = parity (x % 2) (y % 2) (omega arith) (omega arith) (h 0) in
-    let q : x / 2 ≡ y / 2 = digit-ext-upto n (x / 2) (y / 2) (omega arith) (λ k. h (suc k)) in
-    omega arith
-
-pub digit-ext : (x y : ℕ) → ((k : ℕ) → digit x k ≡ digit y k) → x ≡ y
-digit-ext x y h = digit-ext-upto (x + y) x y (omega arith) h
-
--- An or is 0 only of two zeros, a xor only of two equal words.
+-- An or is 0 only of two zeros.
 pub or-none : (x y : ℕ) → bitOr x y ≡ 0 → (x ≡ 0) × (y ≡ 0)
 or-none x y e = (omega (arith, or-add-and x y, and-le-l x y, and-le-r x y), omega (arith, or-add-and x y, and-le-l x y, and-le-r x y))
-
-pub xor-none : (x y : ℕ) → bitXor x y ≡ 0 → x ≡ y
-xor-none x y e = omega (arith, xor-add-and x y, and-le-l x y, and-le-r x y)

@@ -11,7 +11,7 @@ use lib.Arith.{digits-div, digits-mod}
 use lib.Pow.{pow-lt}
 use lib.Bits.{bitOr}
 use lib.Dec.{eqb, ltb}
-use lib.ListN.{length, getD, set, replicate, length-set, length-replicate}
+use lib.ListN.{length, getD, set, length-set}
 use lib.Seq.{getD-set-same, getD-set-other}
 use Rattle.words.specs.Words.{digit, without}
 use Rattle.words.specs.Rows.{has, added, dropped, droppedAt, marked}

@@ -80,7 +80,3 @@ scaled w c h l k = ap (λ (n : ℕ). n / 65536) product ∙ digits-div q small
     small : q * (w - p) + r * (d + 1) < 65536
     small =
         omega (arith, over, below, add-mul r 1 (d + 1), shrunk, cell, scale-bounds w h l .0)
-
--- What the code takes from a cell's number is its column.
-pub scaled-rest : (w c : ℕ) → c - c / w * w ≡ c % w
-scaled-rest w c = omega (arith, div-add-mod' c w)
