@@ -8,13 +8,14 @@ use mathlib.Core.Logic.{_⊎_, inl, inr, ⊎-elim}
 use mathlib.Core.Path.{_≡_, refl, sym, _∙_}
 use borrow.Author.Tests.{eq-eqb}
 use lib.Dec.{eqb}
-use lib.ListN.{length, getD, length-set}
+use lib.ListN.{length, getD, length-set, replicate}
 use lib.Seq.{getD-set-other}
 use Rattle.route.proofs.Tests.{and-both, or-cases, or-inr, eqbs-say, true-false-absurd, lt-or-le}
 use Rattle.words.specs.Words.{digit}
-use Rattle.words.specs.Rows.{has, added}
+use Rattle.words.specs.Rows.{has, added, written}
 use Rattle.words.proofs.DigitLaws.{digit-zero}
 use Rattle.words.proofs.RowsLaws.{has-added, place-row}
+use Rattle.search.proofs.RewriteLaws.{rewritten-zeros}
 use Rattle.search.specs.declared.Scene.{Scene}
 use Rattle.search.specs.declared.window.Window.{Window}
 use Rattle.search.specs.Table.{Rewritten, Tidy, Windowed, Ended, inSet}
@@ -151,3 +152,8 @@ pub ended-made : (g : Scene) (v : Window) (s p q : List ℕ) (goal a r : ℕ) �
 unfolding end
 ended-made g v s p q goal a r thin room old there early wiped row column e =
     rw (e, column, row) (end-made g v s p goal a thin room old there early wiped)
+
+-- The rows of beat a emptied.
+pub wiped : (s q : List ℕ) (a : ℕ) → length s ≡ 2304 → a < 64 → q ≡ written s (a * 36 + 1) (replicate 32 0) 32 →
+    Rewritten s (λ j. 0) (a * 36 + 1) 32 q
+wiped s q a long early e = rewritten-zeros s q (a * 36 + 1) (omega arith) e

@@ -33,19 +33,19 @@ module _ (g : Scene) (v : Window) (room s : List ℕ) (start : ℕ) (thin : 1 �
   unfolding has
   row-says t r k h e = ⊎-elim (λ (l : t < 1). none (inl (omega arith))) begun (lt-or-le t 1)
     where
-      none : (t ≡ 0) ⊎ ((v .limit < t) ⊎ ((r < firstAt v t) ⊎ (firstAt v t + 4 * v .blocks ≤ r))) → Shown t r k
+      none : (t ≡ 0) ⊎ ((v .limit < t) ⊎ ((r < firstAt v t) ⊎ (firstAt v t + v .height ≤ r))) → Shown t r k
       none o = absurd (true-false-absurd e (ap (λ (x : ℕ). digit x k) (laid .hidden t r h o) ∙ digit-zero k))
 
       below : 1 ≤ t → t ≤ v .limit → firstAt v t ≤ r → Shown t r k
       below l u f =
           ⊎-elim
-          (λ (p : r < firstAt v t + 4 * v .blocks). (
+          (λ (p : r < firstAt v t + v .height). (
             l,
             u,
             (f, p),
             ap (λ (x : ℕ). digit x k) (sym (laid .shown t r l u (f, p))) ∙ e,
           ))
-          (λ (p : firstAt v t + 4 * v .blocks ≤ r). none (inr (inr (inr p)))) (lt-or-le r (firstAt v t + 4 * v .blocks))
+          (λ (p : firstAt v t + v .height ≤ r). none (inr (inr (inr p)))) (lt-or-le r (firstAt v t + v .height))
 
       ended : 1 ≤ t → t ≤ v .limit → Shown t r k
       ended l u = ⊎-elim (λ (p : r < firstAt v t). none (inr (inr (inl p)))) (below l u) (lt-or-le r (firstAt v t))

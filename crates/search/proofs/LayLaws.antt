@@ -25,11 +25,11 @@ laid-none v room s e = record {
 pub laid-long : (v : Window) (room s q : List ℕ) (n : ℕ) → LaidRows v room n q → s ≡ replicate 2304 0 → length q ≡ length s
 laid-long v room s q n h e = h .long ∙ sym (ap length e ∙ length-replicate {A = ℕ} 2304 0)
 
-module _ (v : Window) (room s q : List ℕ) (n first : ℕ) (few : v .blocks ≤ 8) (old : LaidRows v room n s)
+module _ (v : Window) (room s q : List ℕ) (n first : ℕ) (few : v .height ≤ 32) (old : LaidRows v room n s)
     (first-is : first ≡ firstAt v (n + 1))
-    (new : Rewritten s (λ j. getD room ((n + 1) * 36 + 1 + first + j) 0) ((n + 1) * 36 + 1 + first) (4 * v .blocks) q) where
+    (new : Rewritten s (λ j. getD room ((n + 1) * 36 + 1 + first + j) 0) ((n + 1) * 36 + 1 + first) (v .height) q) where
   -- The window of the beat is within the 32 rows.
-  fits : first + 4 * v .blocks ≤ 32
+  fits : first + v .height ≤ 32
   fits = first-fits v (n + 1) first few first-is
 
   -- A row of an earlier beat is as it was.
@@ -47,7 +47,7 @@ module _ (v : Window) (room s q : List ℕ) (n first : ℕ) (few : v .blocks ≤
       rw k (new .inside (r - first) (omega (arith, first-is, ap (λ (x : ℕ). firstAt v x) e)))
 
   -- A row beside the window at the beat is as it was.
-  laid-beside : (t r : ℕ) → t ≡ n + 1 → (r < firstAt v t) ⊎ (firstAt v t + 4 * v .blocks ≤ r) →
+  laid-beside : (t r : ℕ) → t ≡ n + 1 → (r < firstAt v t) ⊎ (firstAt v t + v .height ≤ r) →
       getD q (t * 36 + 1 + r) 0 ≡ getD s (t * 36 + 1 + r) 0
   laid-beside t r e (inl h) =
       new .outside (t * 36 + 1 + r) (inl (omega (arith, first-is, ap (λ (x : ℕ). firstAt v x) e)))
@@ -65,14 +65,14 @@ module _ (v : Window) (room s q : List ℕ) (n first : ℕ) (few : v .blocks ≤
       (eq-or-lt-of-le l)
 
   -- What is hidden after the beat was hidden before it.
-  was-hidden : (t r : ℕ) → (t ≡ 0) ⊎ ((n + 1 < t) ⊎ ((r < firstAt v t) ⊎ (firstAt v t + 4 * v .blocks ≤ r))) →
-      (t ≡ 0) ⊎ ((n < t) ⊎ ((r < firstAt v t) ⊎ (firstAt v t + 4 * v .blocks ≤ r)))
+  was-hidden : (t r : ℕ) → (t ≡ 0) ⊎ ((n + 1 < t) ⊎ ((r < firstAt v t) ⊎ (firstAt v t + v .height ≤ r))) →
+      (t ≡ 0) ⊎ ((n < t) ⊎ ((r < firstAt v t) ⊎ (firstAt v t + v .height ≤ r)))
   was-hidden t r (inl h) = inl h
   was-hidden t r (inr (inl h)) = inr (inl (omega arith))
   was-hidden t r (inr (inr h)) = inr (inr h)
 
   -- It is as it was.
-  still-hidden : (t r : ℕ) → r < 35 → (t ≡ 0) ⊎ ((n + 1 < t) ⊎ ((r < firstAt v t) ⊎ (firstAt v t + 4 * v .blocks ≤ r))) →
+  still-hidden : (t r : ℕ) → r < 35 → (t ≡ 0) ⊎ ((n + 1 < t) ⊎ ((r < firstAt v t) ⊎ (firstAt v t + v .height ≤ r))) →
       getD q (t * 36 + 1 + r) 0 ≡ getD s (t * 36 + 1 + r) 0
   still-hidden t r l (inl h) = before t r (omega arith) l
   still-hidden t r l (inr (inl h)) = after t r h

@@ -3,7 +3,6 @@ pub mod ViewsLaws
 pub mod TurnLaws
 pub mod SetLaws
 pub mod RewriteLaws
-pub mod BlockLaws
 pub mod BroughtLaws
 pub mod PlaceLaws
 pub mod CrossLaws

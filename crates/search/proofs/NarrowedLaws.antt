@@ -21,8 +21,7 @@ use Rattle.search.specs.declared.Scene.{Scene}
 use Rattle.search.specs.declared.window.Window.{Window}
 use Rattle.search.specs.Views.{spotOf}
 use Rattle.search.specs.Ways.{wayOpen}
-use Rattle.search.specs.Table.{Apart, Fits, Fitting, Tidy, Rewritten, Roomy, Windowed, Inside, Entered, Mended, Narrowed, inSet}
-use Rattle.search.specs.Table.{firstAt}
+use Rattle.search.specs.Table.{Apart, Fits, Fitting, Tidy, Rewritten, Roomy, Windowed, Inside, Entered, Mended, Narrowed, inSet, firstAt}
 use Rattle.search.proofs.SetLaws.{set-cell, set-has, set-holds, set-same}
 use Rattle.search.proofs.WindowLaws.{first-small}
 use Rattle.search.proofs.BesideLaws.{way-from}
@@ -61,10 +60,10 @@ near-rows w c d e = go (near-says w c d e)
 
 module _ (g : Scene) (k : ℕ) (v : Window) (m s q : List ℕ) (a b : ℕ) (fits : Fits g k m) (fitting : Fitting g v)
     (apart : Apart (a * 36) (b * 36)) (windowed : Windowed g v s)
-    (x : Rewritten s (narrowAt s (a * 36 + firstAt v b) (b * 36 + firstAt v b + 1)) (b * 36 + firstAt v b + 1) (4 * v .blocks) q) where
-  low : firstAt v b + 4 * v .blocks ≤ 32
+    (x : Rewritten s (narrowAt s (a * 36 + firstAt v b) (b * 36 + firstAt v b + 1)) (b * 36 + firstAt v b + 1) (v .height) q) where
+  low : firstAt v b + v .height ≤ 32
   unfolding firstAt
-  low = first-small (v .top) (v .start) (v .goal) (v .limit) (v .blocks) b (fitting .few)
+  low = first-small (v .top) (v .start) (v .goal) (v .limit) (v .height) b (fitting .few)
 
   -- What is in the new table was in the old one.
   fewer : (i j : ℕ) → has q i j ≡ true → has s i j ≡ true
@@ -75,7 +74,7 @@ module _ (g : Scene) (k : ℕ) (v : Window) (m s q : List ℕ) (a b : ℕ) (fits
       before h = rw (x .outside i (inl h)) at e
 
       after : b * 36 + firstAt v b + 1 ≤ i → digit (getD s i 0) j ≡ true
-      after h = ⊎-elim within beyond (lt-or-le i (b * 36 + firstAt v b + 1 + 4 * v .blocks))
+      after h = ⊎-elim within beyond (lt-or-le i (b * 36 + firstAt v b + 1 + v .height))
         where
           n : ℕ
           n = i - (b * 36 + firstAt v b + 1)
@@ -83,13 +82,13 @@ module _ (g : Scene) (k : ℕ) (v : Window) (m s q : List ℕ) (a b : ℕ) (fits
           place : b * 36 + firstAt v b + 1 + n ≡ i
           place = omega arith
 
-          within : i < b * 36 + firstAt v b + 1 + 4 * v .blocks → digit (getD s i 0) j ≡ true
+          within : i < b * 36 + firstAt v b + 1 + v .height → digit (getD s i 0) j ≡ true
           within l =
               rw place at
               (narrow-masked _ _ _ (getD s (b * 36 + firstAt v b + 1 + n) 0) j
               (ap (λ (y : ℕ). digit y j) (sym (x .inside n (omega arith))) ∙ ap (λ (y : ℕ). digit (getD q y 0) j) place ∙ e))
 
-          beyond : b * 36 + firstAt v b + 1 + 4 * v .blocks ≤ i → digit (getD s i 0) j ≡ true
+          beyond : b * 36 + firstAt v b + 1 + v .height ≤ i → digit (getD s i 0) j ≡ true
           beyond l = rw (x .outside i (inr l)) at e
 
   tidy-of : (r : List ℕ) → length r ≡ length s → ((i j : ℕ) → has r i j ≡ true → has s i j ≡ true) → Windowed g v r
@@ -172,7 +171,7 @@ module _ (g : Scene) (k : ℕ) (v : Window) (m s q : List ℕ) (a b : ℕ) (fits
 
   -- Where no cell of the set of beat a is a view's at beat b, the step is done.
   pub narrowed-quick : (free room : List ℕ) → Roomy g k free m room → b ≤ g .horizon →
-      Within s room (a * 36 + firstAt v b) (b * 36 + firstAt v b) (4 * v .blocks + 2) → Narrowed g k v m s a b q
+      Within s room (a * 36 + firstAt v b) (b * 36 + firstAt v b) (v .height + 2) → Narrowed g k v m s a b q
   unfolding Within
   narrowed-quick free room roomy early clear =
       record {

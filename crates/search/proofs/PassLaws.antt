@@ -211,7 +211,7 @@ module _ {g : Scene} {k : ℕ} {free m room : List ℕ} {start goal : ℕ} (set 
         in-window : (a t c : ℕ) → a ≤ limit → suc t ≤ a → reach ok (g .cells) start (suc t) c ≡ true →
             back ok (g .cells) goal a (a - suc t) c ≡ true → Inside v (suc t) (c / g .width)
         in-window a t c h l e b =
-            rw (win .limited, win .begins, win .ends, win .top, win .blocks)
+            rw (win .limited, win .begins, win .ends, win .top, win .height)
             (window-holds (start / g .width) (start % g .width) (goal / g .width) (goal % g .width) limit (suc t) (c / g .width)
             (c % g .width)
             (place-row (g .width) c (set .thin) (omega (arith, set .fits, cell))) (omega arith)

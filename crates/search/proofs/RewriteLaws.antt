@@ -1,57 +1,35 @@
--- Rows of a list that are rewritten in blocks of four.
-use Prim.Native.Nat.{ℕ, _+_, _*_, _-_, _≤_, _<_}
+-- Rows of a table that are rewritten at once.
+use Prim.Native.Nat.{ℕ, _+_, _≤_}
 use native.Mathlib.Omega.{arith}
-use native.Mathlib.Nat.{add-assoc}
 use mathlib.Core.List.{List}
-use mathlib.Core.Logic.{_⊎_, inl, inr, ⊎-elim}
-use mathlib.Core.Path.{_≡_, refl, _∙_}
-use lib.ListN.{length, getD, replicate, length-replicate}
-use Rattle.route.proofs.Tests.{lt-or-le}
+use mathlib.Core.Path.{_≡_, _∙_}
+use lib.ListN.{length, replicate, length-replicate}
 use Rattle.words.specs.Rows.{written, filled}
-use Rattle.words.proofs.FillLaws.{length-written, written-in, written-out, filled-in}
+use Rattle.words.proofs.FillLaws.{length-written, written-in, written-out, filled-in, zeros-row}
 use Rattle.search.specs.Table.{Rewritten}
 
--- No rows rewritten.
-pub rewritten-none : (s : List ℕ) (f : ℕ → ℕ) (i : ℕ) → Rewritten s f i 0 s
-rewritten-none s f i = record { long = refl; inside = λ r l. absurd (omega arith); outside = λ j l. refl }
+-- The first n of some rows, made as f says and written from row i on.
+pub rewritten-rows : (s x r : List ℕ) (f : ℕ → ℕ) (i n : ℕ) → n ≤ 32 → i + n ≤ length s → x ≡ filled (replicate 32 0) f n →
+    r ≡ written s i x n → Rewritten s f i n r
+rewritten-rows s x r f i n few fits e h =
+    rw (h, e)
+    (record {
+      long = length-written s i (filled (replicate 32 0) f n) n;
+      inside = λ j l. written-in s i (filled (replicate 32 0) f n) n j fits l
+          ∙ filled-in (replicate 32 0) f n j (omega (arith, length-replicate {A = ℕ} 32 0)) l;
+      outside = λ j l. written-out s i (filled (replicate 32 0) f n) n j l;
+    })
 
-module _ (s q x : List ℕ) (f : ℕ → ℕ) (i b : ℕ) (fits : i + 4 * b + 4 ≤ length s) (old : Rewritten s f i (4 * b) q)
-    (says : (j : ℕ) → j < 4 → getD x j 0 ≡ f (4 * b + j)) where
-  -- A row of the new block.
-  block-new : (r j : ℕ) → j < 4 → r ≡ 4 * b + j → getD (written q (i + 4 * b) x 4) (i + r) 0 ≡ f r
-  block-new r j h e =
-      let k : i + r ≡ i + 4 * b + j = omega arith in
-      rw (k, e) (written-in q (i + 4 * b) x 4 j (omega (arith, old .long)) h ∙ says j h)
+-- Empty rows.
+pub rewritten-zeros : (s r : List ℕ) (i : ℕ) → i + 32 ≤ length s → r ≡ written s i (replicate 32 0) 32 → Rewritten s (λ j. 0) i 32 r
+rewritten-zeros s r i fits h =
+    rw h
+    (record {
+      long = length-written s i (replicate 32 0) 32;
+      inside = λ j l. written-in s i (replicate 32 0) 32 j fits l ∙ zeros-row 32 j;
+      outside = λ j l. written-out s i (replicate 32 0) 32 j l;
+    })
 
-  -- A row of the blocks before.
-  block-old : (r : ℕ) → r < 4 * b → getD (written q (i + 4 * b) x 4) (i + r) 0 ≡ f r
-  block-old r h = written-out q (i + 4 * b) x 4 (i + r) (inl (omega arith)) ∙ old .inside r h
-
-  -- A row elsewhere.
-  block-out : (j : ℕ) → (j < i) ⊎ (i + 4 * (b + 1) ≤ j) → getD (written q (i + 4 * b) x 4) j 0 ≡ getD s j 0
-  block-out j (inl h) = written-out q (i + 4 * b) x 4 j (inl (omega arith)) ∙ old .outside j (inl h)
-  block-out j (inr h) = written-out q (i + 4 * b) x 4 j (inr (omega arith)) ∙ old .outside j (inr (omega arith))
-
-  -- The table with one more block.
-  block-made : Rewritten s f i (4 * (b + 1)) (written q (i + 4 * b) x 4)
-  block-made = record {
-    long = length-written q (i + 4 * b) x 4 ∙ old .long;
-    inside = λ r l.
-        ⊎-elim (block-old r) (λ (h : 4 * b ≤ r). block-new r (r - 4 * b) (omega arith) (omega arith)) (lt-or-le r (4 * b));
-    outside = block-out;
-  }
-
--- One more block of four rows.
-pub rewritten-more : (s q x r : List ℕ) (f : ℕ → ℕ) (i b : ℕ) → i + 4 * b + 4 ≤ length s → Rewritten s f i (4 * b) q →
-    r ≡ written q (i + 4 * b) x 4 → ((j : ℕ) → j < 4 → getD x j 0 ≡ f (4 * b + j)) → Rewritten s f i (4 * (b + 1)) r
-rewritten-more s q x r f i b fits old e says = rw e (block-made s q x f i b fits old says)
-
--- Four rows that were read.
-pub four-rows : (x m : List ℕ) (k : ℕ) → x ≡ filled (replicate 4 0) (λ r. getD m (k + r) 0) 4 → (j : ℕ) → j < 4 → getD x j 0 ≡ getD m
-    (k + j) 0
-four-rows x m k e j h = rw e (filled-in (replicate 4 0) (λ r. getD m (k + r) 0) 4 j (omega (arith, length-replicate {A = ℕ} 4 0)) h)
-
--- The same where the first of them is the sum of two numbers.
-pub four-after : (x m : List ℕ) (i k : ℕ) → x ≡ filled (replicate 4 0) (λ r. getD m (i + k + r) 0) 4 → (j : ℕ) → j < 4 →
-    getD x j 0 ≡ getD m (i + (k + j)) 0
-four-after x m i k e j h = rw (← add-assoc i k j) (four-rows x m (i + k) e j h)
+-- The same rows, said in another way.
+pub rewritten-same : (s r : List ℕ) (f g : ℕ → ℕ) (i n : ℕ) → ((j : ℕ) → f j ≡ g j) → Rewritten s f i n r → Rewritten s g i n r
+rewritten-same s r f g i n same x = record { long = x .long; inside = λ j l. x .inside j l ∙ same j; outside = x .outside }

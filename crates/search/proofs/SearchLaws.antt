@@ -71,7 +71,7 @@ module _ {f : Floor} {rows : List ℕ} {i : ℕ} {m : List ℕ} (s : Searchable 
       Inside v 0 (startOf f (i - 1) / g .width)
   unfolding firstAt
   scene-window {limit} win h =
-      rw (win .limited, win .begins, win .ends, win .top, win .blocks)
+      rw (win .limited, win .begins, win .ends, win .top, win .height)
       (window-holds row column (goalOf f (i - 1) / g .width) (goalOf f (i - 1) % g .width) limit 0 row column
       (place-row (g .width) (startOf f (i - 1)) (scene-fits .thin) (omega (arith, scene-fits .room, scene-start))) (omega arith)
       (omega (arith, gap-same row, gap-same column)) (omega arith))

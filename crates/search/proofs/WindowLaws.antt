@@ -1,7 +1,7 @@
 -- The window of rows has every place that a way within the limit can be at, and a way of n steps goes n places at most.
 use Prim.Native.Nat.{ℕ, zero, suc, _+_, _*_, _-_, _/_, _%_, _≤_, _<_}
 use native.Mathlib.Omega.{arith}
-use mathlib.Core.Bool.{true}
+use mathlib.Core.Bool.{Bool, true, false}
 use mathlib.Core.Logic.{_⊎_, inl, inr, ⊎-elim}
 use mathlib.Core.Path.{_≡_, sym, ap}
 use borrow.Author.Tests.{lt-ltb, le-ltb}
@@ -11,7 +11,7 @@ use Rattle.route.specs.Search.{Rule}
 use Rattle.route.proofs.Tests.{lt-or-le}
 use Rattle.route.proofs.Sets.{Reached}
 use Rattle.route.proofs.NearLaws.{near-says, shares-side-sym}
-use Rattle.search.specs.Window.{gap, smaller, larger, spareOf, topOf, blocksOf, firstRow}
+use Rattle.search.specs.Window.{gap, smaller, larger, spareOf, topOf, heightFor, heightOf, firstRow}
 use Rattle.search.proofs.NarrowLaws.{reach, back, reach-begins, reach-says, back-begins, back-says}
 
 -- Which of the two the smaller is.
@@ -118,31 +118,27 @@ gap-next x m n h = go (gap-is m n) h
     go (inr q) (inr e) = near-by (omega arith)
 
 -- The window never leaves the 32 rows.
-pub first-small : (top sr gr limit blocks t : ℕ) → blocks ≤ 8 → firstRow top sr gr limit blocks t + 4 * blocks ≤ 32
+pub first-small : (top sr gr limit height t : ℕ) → height ≤ 32 → firstRow top sr gr limit height t + height ≤ 32
 unfolding firstRow
-first-small top sr gr limit blocks t h =
-    omega (arith, smaller-says (larger (larger top (sr - t)) (gr - (limit - t))) (32 - 4 * blocks))
+first-small top sr gr limit height t h =
+    omega (arith, smaller-says (larger (larger top (sr - t)) (gr - (limit - t))) (32 - height))
 
--- Blocks for n + 1 rows, four at most.
-some-blocks : (n : ℕ) → (1 ≤ smaller 8 ((n + 4) / 4)) × (smaller 8 ((n + 4) / 4) ≤ 8)
-some-blocks n = go (smaller-is 8 ((n + 4) / 4))
+-- A window has four rows, or all.
+height-cases : (n : ℕ) → ((n < 4) × (heightFor n ≡ 4)) ⊎ (heightFor n ≡ 32)
+unfolding heightFor
+height-cases n =
+    ⊎-elim (λ (h : n < 4). inl (h, ap (λ (b : Bool). elim b [ true ↦ 4 | false ↦ 32 ]) (lt-ltb n 4 h)))
+    (λ (h : 4 ≤ n). inr (ap (λ (b : Bool). elim b [ true ↦ 4 | false ↦ 32 ]) (le-ltb n 4 h))) (lt-or-le n 4)
+
+pub height-sized : (n : ℕ) → (heightFor n ≡ 4) ⊎ (heightFor n ≡ 32)
+height-sized n = ⊎-elim (λ (h : (n < 4) × (heightFor n ≡ 4)). inl (h .1)) (λ (h : heightFor n ≡ 32). inr h) (height-cases n)
+
+-- It has n + 1 rows, or all.
+enough-rows : (n r f : ℕ) → r < 32 → r ≤ f + n → r < f + heightFor n
+enough-rows n r f h l = go (height-cases n)
   where
-    go : (smaller 8 ((n + 4) / 4) ≡ 8) ⊎ (smaller 8 ((n + 4) / 4) ≡ (n + 4) / 4) →
-        (1 ≤ smaller 8 ((n + 4) / 4)) × (smaller 8 ((n + 4) / 4) ≤ 8)
-    go (inl q) = omega arith
-    go (inr q) = omega (arith, smaller-says 8 ((n + 4) / 4))
-
--- There is one block at least, and there are four at most.
-pub blocks-small : (sr sc gr gc limit : ℕ) → (1 ≤ blocksOf sr sc gr gc limit) × (blocksOf sr sc gr gc limit ≤ 8)
-unfolding blocksOf
-blocks-small sr sc gr gc limit = some-blocks (smaller (gap sr gr + 2 * spareOf sr sc gr gc limit) (limit - gap sr gr))
-
--- The blocks have n + 1 rows, or all.
-enough-blocks : (n r f : ℕ) → r < 32 → r ≤ f + n → r < f + 4 * smaller 8 ((n + 4) / 4)
-enough-blocks n r f h l = go (smaller-is 8 ((n + 4) / 4))
-  where
-    go : (smaller 8 ((n + 4) / 4) ≡ 8) ⊎ (smaller 8 ((n + 4) / 4) ≡ (n + 4) / 4) → r < f + 4 * smaller 8 ((n + 4) / 4)
-    go (inl q) = omega arith
+    go : ((n < 4) × (heightFor n ≡ 4)) ⊎ (heightFor n ≡ 32) → r < f + heightFor n
+    go (inl q) = omega (arith, q .0, q .1)
     go (inr q) = omega arith
 
 module _ (sr sc gr gc limit t r q : ℕ) (row : r < 32) (within : t ≤ limit) (before : gap sr r + gap sc q ≤ t)
@@ -237,31 +233,31 @@ module _ (sr sc gr gc limit t r q : ℕ) (row : r < 32) (within : t ≤ limit) (
       go (inl h) = omega (arith, top-high, lead-says)
       go (inr h) = omega (arith, lead-high)
 
-  -- The blocks of this way.
-  blocks : ℕ
-  blocks = blocksOf sr sc gr gc limit
+  -- The height of this way.
+  height : ℕ
+  height = heightOf sr sc gr gc limit
 
-  -- The place is within the blocks.
-  lead-blocks : r < lead + 4 * blocks
-  unfolding blocks blocksOf needed spare
-  lead-blocks = enough-blocks needed r lead row lead-needed
+  -- The place is within the height.
+  lead-rows : r < lead + height
+  unfolding height heightOf needed spare
+  lead-rows = enough-rows needed r lead row lead-needed
 
   -- The place is in the window, also where the end of the rows moves it up.
-  window-row : (firstRow top sr gr limit blocks t ≤ r) × (r < firstRow top sr gr limit blocks t + 4 * blocks)
+  window-row : (firstRow top sr gr limit height t ≤ r) × (r < firstRow top sr gr limit height t + height)
   unfolding firstRow lead
-  window-row = go (smaller-cases lead (32 - 4 * blocks))
+  window-row = go (smaller-cases lead (32 - height))
     where
-      go : ((lead < 32 - 4 * blocks) × (smaller lead (32 - 4 * blocks) ≡ lead)) ⊎
-          ((32 - 4 * blocks ≤ lead) × (smaller lead (32 - 4 * blocks) ≡ 32 - 4 * blocks)) →
-          (smaller lead (32 - 4 * blocks) ≤ r) × (r < smaller lead (32 - 4 * blocks) + 4 * blocks)
-      go (inl h) = omega (arith, lead-low, lead-blocks)
+      go : ((lead < 32 - height) × (smaller lead (32 - height) ≡ lead)) ⊎
+          ((32 - height ≤ lead) × (smaller lead (32 - height) ≡ 32 - height)) →
+          (smaller lead (32 - height) ≤ r) × (r < smaller lead (32 - height) + height)
+      go (inl h) = omega (arith, lead-low, lead-rows)
       go (inr h) = omega (arith, lead-low)
 
 -- The window has every place that a way within the limit can be at.
 pub window-holds : (sr sc gr gc limit t r q : ℕ) → r < 32 → t ≤ limit → gap sr r + gap sc q ≤ t → gap r gr + gap q gc ≤ limit - t →
-    (firstRow (topOf sr sc gr gc limit) sr gr limit (blocksOf sr sc gr gc limit) t ≤ r)
-    × (r < firstRow (topOf sr sc gr gc limit) sr gr limit (blocksOf sr sc gr gc limit) t + 4 * blocksOf sr sc gr gc limit)
-unfolding top blocks
+    (firstRow (topOf sr sc gr gc limit) sr gr limit (heightOf sr sc gr gc limit) t ≤ r)
+    × (r < firstRow (topOf sr sc gr gc limit) sr gr limit (heightOf sr sc gr gc limit) t + heightOf sr sc gr gc limit)
+unfolding top height
 window-holds sr sc gr gc limit t r q h l e k = window-row sr sc gr gc limit t r q h l e k
 
 -- How many steps cells c and d of a grid of width w are apart.

@@ -13,7 +13,7 @@ use Rattle.search.specs.declared.Scene.{Scene}
 use Rattle.search.specs.declared.window.Window.{Window}
 use Rattle.search.specs.Views.{records, spotOf}
 use Rattle.search.specs.Ways.{wayOpen}
-use Rattle.search.specs.Window.{firstRow, topOf, blocksOf}
+use Rattle.search.specs.Window.{firstRow, topOf, heightOf}
 
 -- The scene of a floor.
 unfoldable pub sceneOf : Floor → Scene
@@ -74,10 +74,10 @@ pub record Roomy (g : Scene) (k : ℕ) (free m room : List ℕ) : Type 0 where
 
 -- Row r is in the window at beat t.
 unfoldable pub firstAt : Window → ℕ → ℕ
-firstAt v t = firstRow (v .top) (v .start) (v .goal) (v .limit) (v .blocks) t
+firstAt v t = firstRow (v .top) (v .start) (v .goal) (v .limit) (v .height) t
 
 abbrev pub Inside : Window → ℕ → ℕ → Type 0
-Inside v t r = (firstAt v t ≤ r) × (r < firstAt v t + 4 * v .blocks)
+Inside v t r = (firstAt v t ≤ r) × (r < firstAt v t + v .height)
 
 -- The window of a search from the start to the goal within a limit.
 pub record WindowOf (g : Scene) (start goal limit : ℕ) (v : Window) : Type 0 where
@@ -85,12 +85,12 @@ pub record WindowOf (g : Scene) (start goal limit : ℕ) (v : Window) : Type 0 w
   pub begins : v .start ≡ start / g .width
   pub ends : v .goal ≡ goal / g .width
   pub top : v .top ≡ topOf (start / g .width) (start % g .width) (goal / g .width) (goal % g .width) limit
-  pub blocks : v .blocks ≡ blocksOf (start / g .width) (start % g .width) (goal / g .width) (goal % g .width) limit
+  pub height : v .height ≡ heightOf (start / g .width) (start % g .width) (goal / g .width) (goal % g .width) limit
 
 -- The window is at most as high as the rows.
 pub record Fitting (g : Scene) (v : Window) : Type 0 where
-  pub some : 1 ≤ v .blocks
-  pub few : v .blocks ≤ 8
+  pub sized : (v .height ≡ 4) ⊎ (v .height ≡ 32)
+  pub few : v .height ≤ 32
   pub early : v .limit ≤ g .horizon
 
 -- Every cell of the table is in the window.
@@ -102,7 +102,7 @@ pub record Windowed (g : Scene) (v : Window) (s : List ℕ) : Type 0 where
 pub record LaidRows (v : Window) (room : List ℕ) (n : ℕ) (s : List ℕ) : Type 0 where
   pub long : length s ≡ 2304
   pub shown : (t r : ℕ) → 1 ≤ t → t ≤ n → Inside v t r → getD s (t * 36 + 1 + r) 0 ≡ getD room (t * 36 + 1 + r) 0
-  pub hidden : (t r : ℕ) → r < 35 → (t ≡ 0) ⊎ ((n < t) ⊎ ((r < firstAt v t) ⊎ (firstAt v t + 4 * v .blocks ≤ r))) →
+  pub hidden : (t r : ℕ) → r < 35 → (t ≡ 0) ⊎ ((n < t) ⊎ ((r < firstAt v t) ⊎ (firstAt v t + v .height ≤ r))) →
       getD s (t * 36 + 1 + r) 0 ≡ 0
   pub edge : (t : ℕ) → getD s (t * 36) 0 ≡ 0
 

@@ -1,4 +1,4 @@
--- The rows that a search within a limit of beats has to look at: a window of up to eight blocks of four rows that moves with the beat.
+-- The rows that a search within a limit of beats has to look at: a window of four rows that moves with the beat, or all rows.
 use Prim.Native.Nat.{ℕ, _+_, _*_, _-_, _/_}
 use mathlib.Core.Bool.{true, false}
 use lib.Dec.{ltb}
@@ -23,10 +23,14 @@ spareOf sr sc gr gc limit = (limit - (gap sr gr + gap sc gc)) / 2
 unfoldable pub topOf : ℕ → ℕ → ℕ → ℕ → ℕ → ℕ
 topOf sr sc gr gc limit = smaller sr gr - spareOf sr sc gr gc limit
 
--- The blocks of four rows that a beat needs.
-unfoldable pub blocksOf : ℕ → ℕ → ℕ → ℕ → ℕ → ℕ
-blocksOf sr sc gr gc limit = smaller 8 ((smaller (gap sr gr + 2 * spareOf sr sc gr gc limit) (limit - gap sr gr) + 4) / 4)
+-- The height of a window of n + 1 rows or more: four rows, or all.
+unfoldable pub heightFor : ℕ → ℕ
+heightFor n = elim (ltb n 4) [ true ↦ 4 | false ↦ 32 ]
+
+-- The rows that a beat needs.
+unfoldable pub heightOf : ℕ → ℕ → ℕ → ℕ → ℕ → ℕ
+heightOf sr sc gr gc limit = heightFor (smaller (gap sr gr + 2 * spareOf sr sc gr gc limit) (limit - gap sr gr))
 
 -- The first row at beat t.
 unfoldable pub firstRow : ℕ → ℕ → ℕ → ℕ → ℕ → ℕ → ℕ
-firstRow top sr gr limit blocks t = smaller (larger (larger top (sr - t)) (gr - (limit - t))) (32 - 4 * blocks)
+firstRow top sr gr limit height t = smaller (larger (larger top (sr - t)) (gr - (limit - t))) (32 - height)

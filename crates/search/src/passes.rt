@@ -61,7 +61,7 @@ fn earliest(
     ensures found { λ r. ⌜ Earliest (arrivable g (now (sets .exit)) goal hold) (v .limit + 1) r ⌝ }
 {
     let limit = v.limit;
-    let blocks = v.blocks;
+    let height = v.height;
     let mut t: usize = 0;
     while t < limit {
         if arrives(g, sets, goal, hold, t) {
@@ -70,7 +70,7 @@ fn earliest(
         let from = t;
         t += 1;
         let first = first_row(v, t);
-        if narrow_rows(sets, room, from * 36 + first, t * 36 + first, blocks) {
+        if narrow_rows(sets, room, from * 36 + first, t * 36 + first, height) {
             mend(g, k, sets, room, views, from, t);
         }
     }
@@ -105,25 +105,13 @@ pub fn reach(
     earliest(g, k, v, sets, room, views, goal, hold)
 }
 
-// Empties the 32 rows from row i on.
-fn wipe(sets: &mut [u32], i: usize)
-    requires { ⌜ i + 32 ≤ length (now sets) ⌝ }
-    ensures { λ r. ⌜ Rewritten (now (sets .entry)) (λ j. 0) i 32 (now (sets .exit)) ⌝ }
-{
-    let mut b: usize = 0;
-    while b < 8 {
-        words::put_four(sets, i + 4 * b, [0u32; 4]);
-        b += 1;
-    }
-}
-
 // The set of beat a becomes the goal alone.
 fn end_at(g: Scene, v: Window, sets: &mut [u32], goal: usize, a: usize)
     requires { ⌜ (1 ≤ g .width) × (g .width ≤ 32) × (g .cells ≤ 32 * g .width) × (g .scale ≡ 65536 / g .width + 1) ⌝ }
     requires { ⌜ (goal < g .cells) × (a < 64) × Windowed g v (now sets) × (inSet g (now sets) a goal ≡ true) ⌝ }
     ensures { λ r. ⌜ Ended g v (now (sets .entry)) goal a (now (sets .exit)) ⌝ }
 {
-    wipe(sets, a * 36 + 1);
+    words::put_rows(sets, a * 36 + 1, [0u32; 32], 32);
     let w = g.width;
     let r = words::row_of(w, g.scale, goal);
     words::add(sets, a * 36 + 1 + r, goal - r * w);
@@ -146,13 +134,13 @@ pub fn leading(
     ensures { λ r. ⌜ Traced g k v (now (views .entry)) (now (sets .entry)) goal a a (now (sets .exit)) ⌝ }
 {
     end_at(g, v, sets, goal, a);
-    let blocks = v.blocks;
+    let height = v.height;
     let mut n: usize = 0;
     while n < a {
         let t = a - n;
         n += 1;
         let first = first_row(v, a - n);
-        if narrow_rows(sets, room, t * 36 + first, (a - n) * 36 + first, blocks) {
+        if narrow_rows(sets, room, t * 36 + first, (a - n) * 36 + first, height) {
             mend(g, k, sets, room, views, t, a - n);
         }
     }

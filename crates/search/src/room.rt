@@ -6,20 +6,8 @@ ghost use lib.ListN.{length, getD, replicate};
 ghost use Rattle.words.specs.Rows.{Clean};
 ghost use Rattle.search.specs.Table.{Fits, Rewritten, Roomy, Tidy, FreeBeats, TakenBeats};
 use crate::Scene;
+use crate::table::copy_rows;
 use crate::views::spot;
-
-// Copies the 32 rows of free cells into the table, from row i on.
-fn copy_free(room: &mut [u32], free: &[u32], i: usize)
-    requires { ⌜ (i + 32 ≤ length (now room)) × (length (now free) ≡ 32) ⌝ }
-    ensures { λ r. ⌜ Rewritten (now (room .entry)) (λ j. getD (now (free .entry)) j 0) i 32 (now (room .exit)) ⌝ }
-{
-    let mut b: usize = 0;
-    while b < 8 {
-        let n = words::four(free, 4 * b);
-        words::put_four(room, i + 4 * b, n);
-        b += 1;
-    }
-}
 
 // The free cells at the first n beats of an empty table.
 pub fn fill_free(room: &mut [u32], free: &[u32], n: usize)
@@ -28,7 +16,7 @@ pub fn fill_free(room: &mut [u32], free: &[u32], n: usize)
 {
     let mut t: usize = 0;
     while t < n {
-        copy_free(room, free, t * 36 + 1);
+        copy_rows(room, t * 36 + 1, free, 0, 32);
         t += 1;
     }
 }

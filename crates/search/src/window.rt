@@ -1,17 +1,18 @@
-// The window of rows that a search within a limit of beats looks at: blocks of four rows from a first row on, which follows the beats.
+// The window of rows that a search within a limit of beats looks at: four rows, or all, from a first row on, which follows the beats.
 ghost use mathlib.Core.Path.{_≡_};
 ghost use Prim.Native.Nat.{_+_, _-_, _/_, _%_, _≤_, _<_};
+ghost use Rattle.search.specs.Window.{heightFor};
 ghost use Rattle.search.specs.Window.{gap as Window·gap, smaller as Window·smaller, larger as Window·larger};
 ghost use Rattle.search.specs.Table.{firstAt, Fitting, WindowOf};
 use crate::Scene;
 
-// A window: the limit, the rows of start and goal, the first row of all, and how many blocks a beat has.
+// A window: the limit, the rows of start and goal, the first row of all, and how many rows a beat has.
 pub struct Window {
     pub limit: usize,
     pub start: usize,
     pub goal: usize,
     pub top: usize,
-    pub blocks: usize,
+    pub height: usize,
 }
 
 // The difference, 0 where it would be less.
@@ -54,12 +55,22 @@ fn gap(m: usize, n: usize) -> usize
 
 // The first row at beat t.
 pub fn first_row(v: Window, t: usize) -> usize
-    requires { ⌜ v .blocks ≤ 8 ⌝ }
+    requires { ⌜ v .height ≤ 32 ⌝ }
     ensures { λ r. ⌜ r ≡ firstAt v t ⌝ }
 {
     let from = larger(v.top, minus(v.start, t));
     let first = larger(from, minus(v.goal, minus(v.limit, t)));
-    smaller(first, 32 - 4 * v.blocks)
+    smaller(first, 32 - v.height)
+}
+
+// The height of a window of n + 1 rows or more: four rows, or all.
+fn height_for(n: usize) -> usize
+    ensures { λ r. ⌜ r ≡ heightFor n ⌝ }
+{
+    if n < 4 {
+        return 4;
+    }
+    32
 }
 
 // How many beats a way from the start to the goal takes at least.
@@ -96,6 +107,6 @@ pub fn around(g: Scene, start: usize, goal: usize, limit: usize) -> Window
         start: from,
         goal: to,
         top: minus(smaller(from, to), spare),
-        blocks: smaller(8, (high + 4) / 4),
+        height: height_for(high),
     }
 }

@@ -88,28 +88,28 @@ pub fn drop_at(s: &mut [u32], i: usize, w: usize, scale: usize, cells: usize, c:
     }
 }
 
-// The four rows from row i on.
-pub fn four(s: &[u32], i: usize) -> [u32; 4]
-    requires { ⌜ i + 4 ≤ length (now s) ⌝ }
-    ensures { λ x. ⌜ x ≡ filled (replicate 4 0) (λ r. getD (now (s .entry)) (i + r) 0) 4 ⌝ }
+// The n rows from row i on.
+pub fn some_rows(s: &[u32], i: usize, n: usize) -> [u32; 32]
+    requires { ⌜ (n ≤ 32) × (i + n ≤ length (now s)) ⌝ }
+    ensures { λ x. ⌜ x ≡ filled (replicate 32 0) (λ r. getD (now (s .entry)) (i + r) 0) n ⌝ }
 {
-    let mut n = [0u32; 4];
+    let mut x = [0u32; 32];
     let mut r: usize = 0;
-    while r < 4 {
-        n[r] = s[i + r];
+    while r < n {
+        x[r] = s[i + r];
         r += 1;
     }
-    n
+    x
 }
 
-// Writes four rows into a table, from row i on.
-pub fn put_four(table: &mut [u32], i: usize, s: [u32; 4])
-    requires { ⌜ i + 4 ≤ length (now table) ⌝ }
-    ensures { λ x. ⌜ now (table .exit) ≡ written (now (table .entry)) i s 4 ⌝ }
+// Writes the first n of some rows into a table, from row i on.
+pub fn put_rows(table: &mut [u32], i: usize, x: [u32; 32], n: usize)
+    requires { ⌜ (n ≤ 32) × (i + n ≤ length (now table)) ⌝ }
+    ensures { λ r. ⌜ now (table .exit) ≡ written (now (table .entry)) i x n ⌝ }
 {
     let mut r: usize = 0;
-    while r < 4 {
-        table[i + r] = s[r];
+    while r < n {
+        table[i + r] = x[r];
         r += 1;
     }
 }
@@ -121,29 +121,29 @@ fn narrow_row(over: u32, here: u32, under: u32, mask: u32) -> u32
     (here | here << 1 | here >> 1 | over | under) & mask
 }
 
-// Four rows of a table from row `to` on, each with what a step brings to it alone; the rows that it comes from begin at row `at`,
-// one before the first of the four.
-pub fn narrow_four(s: &[u32], at: usize, to: usize) -> [u32; 4]
-    requires { ⌜ (at + 6 ≤ length (now s)) × (to + 4 ≤ length (now s)) ⌝ }
-    ensures { λ x. ⌜ x ≡ filled (replicate 4 0) (narrowAt (now (s .entry)) at to) 4 ⌝ }
+// The n rows of a table from row `to` on, each with what a step brings to it alone; the rows that it comes from begin at row `at`, one
+// before the first of the n.
+pub fn narrowed_rows(s: &[u32], at: usize, to: usize, n: usize) -> [u32; 32]
+    requires { ⌜ (n ≤ 32) × (at + n + 2 ≤ length (now s)) × (to + n ≤ length (now s)) ⌝ }
+    ensures { λ x. ⌜ x ≡ filled (replicate 32 0) (narrowAt (now (s .entry)) at to) n ⌝ }
 {
-    let mut n = [0u32; 4];
+    let mut x = [0u32; 32];
     let mut r: usize = 0;
-    while r < 4 {
-        n[r] = narrow_row(s[at + r], s[at + r + 1], s[at + r + 2], s[to + r]);
+    while r < n {
+        x[r] = narrow_row(s[at + r], s[at + r + 1], s[at + r + 2], s[to + r]);
         r += 1;
     }
-    n
+    x
 }
 
-// Whether some of the six rows of s from row `at` on has a digit that the row of `room` has not, which begin at row `to`.
-pub fn meets(s: &[u32], room: &[u32], at: usize, to: usize) -> bool
-    requires { ⌜ (at + 6 ≤ length (now s)) × (to + 6 ≤ length (now room)) ⌝ }
-    ensures { λ x. ⌜ (x ≡ false → Within (now (s .entry)) (now (room .entry)) at to 6) ⌝ }
+// Whether some of the n rows of s from row `at` on has a digit that the row of `room` has not, which begin at row `to`.
+pub fn meets(s: &[u32], room: &[u32], at: usize, to: usize, n: usize) -> bool
+    requires { ⌜ (at + n ≤ length (now s)) × (to + n ≤ length (now room)) ⌝ }
+    ensures { λ x. ⌜ (x ≡ false → Within (now (s .entry)) (now (room .entry)) at to n) ⌝ }
 {
     let mut x: u32 = 0;
     let mut r: usize = 0;
-    while r < 6 {
+    while r < n {
         x = x | without(s[at + r], room[to + r]);
         r += 1;
     }

@@ -11,10 +11,10 @@ use Rattle.words.proofs.meets.Statement.{statement}
 use Rattle.words.proofs.meets.Tie as tie
 
 abbrev Inv-loop : tie.InvT-loop
-Inv-loop s room at to x₀ r₀ x r = (r ≤ 6) × (x ≡ 0 → Within s room at to r)
+Inv-loop s room at to n x₀ r₀ x r = (r ≤ n) × (x ≡ 0 → Within s room at to r)
 
 abbrev μ-loop : tie.MeasureT-loop
-μ-loop s room at to x₀ r₀ x r = 6 - r
+μ-loop s room at to n x₀ r₀ x r = n - r
 
 loop-holds : tie.Need-loop-holds Inv-loop μ-loop
 loop-holds c = (search needs, λ e. within-none _ _ _ _)
@@ -52,7 +52,9 @@ loop-again c =
     (search needs, within-more _ _ _ _ _ _ _ _ (c .without .ensures) refl (c₄ .loop .inv .1))
 
 returns : tie.Need-returns Inv-loop μ-loop
-returns c = λ e. let q : c .before .loop .r ≡ 6 = omega arith in
+returns c =
+    let c₄ = c .before .before .before .before in
+    λ e. let q : c .before .loop .r ≡ c₄ .args .n = omega arith in
     let z : c .before .loop .x ≡ 0 = eqb-true _ _ (not-false _ e) in
     rw q at (c .before .loop .inv .1 z)
 

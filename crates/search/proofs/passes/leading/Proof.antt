@@ -14,7 +14,8 @@ use Rattle.search.proofs.passes.leading.Statement.{statement}
 use Rattle.search.proofs.passes.leading.Tie as tie
 
 abbrev Inv-loop : tie.InvT-loop
-Inv-loop g k v sets₀ room views goal a blocks n₀ sets n = (n ≤ a) × ((s : List ℕ) → Ended g v s goal a sets₀ → Traced g k v views s goal a n sets)
+Inv-loop g k v sets₀ room views goal a blocks n₀ sets n = (n ≤ a) ×
+    ((s : List ℕ) → Ended g v s goal a sets₀ → Traced g k v views s goal a n sets)
 
 abbrev μ-loop : tie.MeasureT-loop
 μ-loop g k v sets₀ room views goal a blocks n₀ sets n = a - n
@@ -23,8 +24,16 @@ end-at-requires : tie.Need-end-at-requires Inv-loop μ-loop
 end-at-requires c κs =
     let c₄ = c .before .before .before .before in
     let f = c₄ .pre .0 .0 in
-    let w = c₄ .pre .0 .1 in
-    ((f .thin, f .narrow, f .room, f .scaled), (c₄ .pre .0 .2, omega (arith, c₄ .pre .0 .3, w .early, f .short), c₄ .pre .1 .1 .0, c₄ .pre .1 .1 .1))
+    let w = c₄ .pre .0 .1 in (
+      (f .thin, f .narrow, f .room, f .scaled),
+      (
+        c₄ .pre .0 .2,
+        omega
+            (arith, c₄ .pre .0 .3, w .early, f .short),
+        c₄ .pre .1 .1 .0,
+        c₄ .pre .1 .1 .1,
+      ),
+    )
 
 loop-holds : tie.Need-loop-holds Inv-loop μ-loop
 loop-holds c = (search needs, λ s e. traced-none _ _ _ _ _ _ _ _ e)
@@ -94,8 +103,17 @@ narrow-rows-requires c κs =
     let z = c .before .before .before .loop .inv .1 _ (c₄ .before .before .end-at .ensures) in
     let l = z .windowed .tidy .long in
     let h = first-fits (c₈ .before .before .before .args .v) _ (c .before .first-row .result) (w .few) (c .before .first-row .ensures) in
-    let t = c .before .before .loop-test .taken in
-    ((l, c₈ .before .before .before .pre .1 .0 .1 .tidy .long, w .some, w .few, inr (omega (arith, t))), (omega (arith, w .early, f .short, h, c₈ .before .before .before .pre .0 .3), omega (arith, w .early, f .short, h, c₈ .before .before .before .pre .0 .3)))
+    let t = c .before .before .loop-test .taken in (
+      (
+        l,
+        c₈ .before .before .before .pre .1 .0 .1 .tidy .long,
+        omega
+            (arith, w .early, f .short, h, c₈ .before .before .before .pre .0 .3),
+        omega
+            (arith, w .early, f .short, h, c₈ .before .before .before .pre .0 .3),
+      ),
+      w .sized,
+    )
 
 sub-mend : tie.Need-sub-mend Inv-loop μ-loop
 sub-mend c = search needs
@@ -109,8 +127,14 @@ mend-requires c κs =
     let f = c₁₆ .pre .0 .0 in
     let w = c₁₆ .pre .0 .1 in
     let t = c₄ .before .before .before .loop-test .taken in
-    let z = c₈ .loop .inv .1 _ (c₈ .before .before .before .end-at .ensures) in
-    ((f, omega (arith, w .early, c₁₆ .pre .0 .3), omega (arith, w .early, c₁₆ .pre .0 .3), inr (omega (arith, t))), (c₁₆ .pre .1 .0, quick-tidy _ _ _ _ _ _ _ _ f w (inr (omega (arith, t))) (z .windowed) (rw (c₄ .before .before .first-row .ensures) at (c₄ .narrow-rows .ensures .0))))
+    let z = c₈ .loop .inv .1 _ (c₈ .before .before .before .end-at .ensures) in (
+      (f, omega (arith, w .early, c₁₆ .pre .0 .3), omega (arith, w .early, c₁₆ .pre .0 .3), inr (omega (arith, t))),
+      (
+        c₁₆ .pre .1 .0,
+        quick-tidy _ _ _ _ _ _ _ _ f w (inr (omega (arith, t))) (z .windowed) (rw
+            (c₄ .before .before .first-row .ensures) at (c₄ .narrow-rows .ensures .0)),
+      ),
+    )
 
 loop-less : tie.Need-loop-less Inv-loop μ-loop
 loop-less c = search needs
@@ -125,7 +149,8 @@ loop-again c =
     let w = c₁₆ .before .before .before .pre .0 .1 in
     let t = c₈ .before .before .loop-test .taken in
     let z = c₈ .before .before .before .loop .inv .1 _ (c₁₂ .before .before .end-at .ensures) in
-    let y = narrowed-mended _ _ _ _ _ _ _ _ f w (inr (omega (arith, t))) (z .windowed) (rw (c₈ .before .first-row .ensures) at (c₄ .before .before .before .narrow-rows .ensures .0)) _ (c .before .before .mend .ensures) in
+    let y = narrowed-mended _ _ _ _ _ _ _ _ f w (inr (omega (arith, t))) (z .windowed) (rw (c₈ .before .first-row .ensures) at
+    (c₄ .before .before .before .narrow-rows .ensures .0)) _ (c .before .before .mend .ensures) in
     (search needs, λ s e. traced-more _ _ _ _ _ _ _ _ _ _ t (c₈ .before .before .before .loop .inv .1 s e) y)
 
 loop-less-2 : tie.Need-loop-less-2 Inv-loop μ-loop
@@ -140,7 +165,10 @@ loop-again-2 c =
     let w = c₁₂ .before .before .before .pre .0 .1 in
     let t = c₄ .before .before .loop-test .taken in
     let z = c₄ .before .before .before .loop .inv .1 _ (c₈ .before .before .end-at .ensures) in
-    let y = narrowed-quick _ _ _ _ _ _ _ _ f w (inr (omega (arith, t))) (z .windowed) (rw (c₄ .before .first-row .ensures) at (c .before .before .before .narrow-rows .ensures .0)) _ _ (c₁₂ .before .before .before .pre .1 .0 .1) (omega (arith, w .early, c₁₂ .before .before .before .pre .0 .3, t)) (rw (c₄ .before .first-row .ensures) at (c .before .before .before .narrow-rows .ensures .1 (c .if1 .left))) in
+    let y = narrowed-quick _ _ _ _ _ _ _ _ f w (inr (omega (arith, t))) (z .windowed) (rw (c₄ .before .first-row .ensures) at
+    (c .before .before .before .narrow-rows .ensures .0)) _ _ (c₁₂ .before .before .before .pre .1 .0 .1) (omega
+    (arith, w .early, c₁₂ .before .before .before .pre .0 .3, t)) (rw (c₄ .before .first-row .ensures) at
+    (c .before .before .before .narrow-rows .ensures .1 (c .if1 .left))) in
     (search needs, λ s e. traced-more _ _ _ _ _ _ _ _ _ _ t (c₄ .before .before .before .loop .inv .1 s e) y)
 
 same-length : tie.Need-same-length Inv-loop μ-loop

@@ -12,7 +12,7 @@ use Rattle.search.proofs.passes.reach.Tie as tie
 lay-requires : tie.Need-lay-requires
 lay-requires c κs =
     let c₄ = c .before .before .before .before in
-    ((c₄ .pre .0 .1 .some, c₄ .pre .0 .1 .few, omega (arith, c₄ .pre .0 .1 .early, c₄ .pre .0 .0 .short)), (c₄ .pre .1 .1, c₄ .pre .1 .0 .1 .tidy .long))
+    ((c₄ .pre .0 .1 .sized, omega (arith, c₄ .pre .0 .1 .early, c₄ .pre .0 .0 .short)), (c₄ .pre .1 .1, c₄ .pre .1 .0 .1 .tidy .long))
 
 row-of-requires : tie.Need-row-of-requires
 row-of-requires c κs =
@@ -74,8 +74,10 @@ earliest-requires c κs =
     let e = c₄ .before .row-of .ensures .0 in
     let s = c₄ .before .row-of .ensures .1 in
     let q = mod-lt (c₁₂ .before .args .start) {m = c₁₂ .before .args .g .width} (f .thin) in
-    let z : c₁₂ .before .args .start - c₄ .before .row-of .result * c₁₂ .before .args .g .width ≡ c₁₂ .before .args .start % c₁₂ .before .args .g .width = omega (arith, s) in
-    let y = laid-made _ _ _ _ _ (f .thin) (f .room) (c₁₂ .before .pre .1 .0 .1 .tidy) (c₈ .lay .ensures) (c₁₂ .before .pre .0 .2) (c₁₂ .before .pre .0 .4) _ (rw (z, e) at (c .before .before .before .add .ensures)) in
+    let z : c₁₂ .before .args .start - c₄ .before .row-of .result * c₁₂ .before .args .g .width ≡ c₁₂ .before .args .start % c₁₂
+    .before .args .g .width = omega (arith, s) in
+    let y = laid-made _ _ _ _ _ (f .thin) (f .room) (c₁₂ .before .pre .1 .0 .1 .tidy) (c₈ .lay .ensures) (c₁₂ .before .pre .0 .2)
+    (c₁₂ .before .pre .0 .4) _ (rw (z, e) at (c .before .before .before .add .ensures)) in
     ((f, c₁₂ .before .pre .0 .1, c₁₂ .before .pre .0 .3), (c₁₂ .before .pre .1 .0, y .windowed))
 
 same-length : tie.Need-same-length
@@ -98,7 +100,8 @@ returns c =
     let s = c₈ .row-of .ensures .1 in
     let q = mod-lt (c₁₆ .args .start) {m = c₁₆ .args .g .width} (f .thin) in
     let z : c₁₆ .args .start - c₈ .row-of .result * c₁₆ .args .g .width ≡ c₁₆ .args .start % c₁₆ .args .g .width = omega (arith, s) in
-    let y = laid-made _ _ _ _ _ (f .thin) (f .room) (c₁₆ .pre .1 .0 .1 .tidy) (c₈ .before .before .before .lay .ensures) (c₁₆ .pre .0 .2) (c₁₆ .pre .0 .4) _ (rw (z, e) at (c₄ .before .before .add .ensures)) in
+    let y = laid-made _ _ _ _ _ (f .thin) (f .room) (c₁₆ .pre .1 .0 .1 .tidy) (c₈ .before .before .before .lay .ensures)
+    (c₁₆ .pre .0 .2) (c₁₆ .pre .0 .4) _ (rw (z, e) at (c₄ .before .before .add .ensures)) in
     let m = c .before .before .earliest .ensures .0 in
     ((_, m .0, y, m .1, m .2, m .3, m .4), c .before .before .earliest .ensures .1)
 

@@ -1,14 +1,17 @@
--- `search::room::fill_free` meets its contract. The loop's invariant: the free rows stand at the beats passed. The measure is what is
--- left of the beats. Assumes nothing.
 use Prim.Native.Nat.{ℕ, _-_, _≤_}
+use native.Mathlib.Nat.{zero-add}
 use native.Mathlib.Omega.{arith}
 use mathlib.Core.Path.{_≡_, sym, ap, _∙_}
 use borrow.Author.Needs.{needs}
-use lib.ListN.{length, length-replicate}
+use lib.ListN.{getD, length, length-replicate}
+use Rattle.search.proofs.RewriteLaws.{rewritten-same}
 use Rattle.search.specs.Table.{FreeBeats}
 use Rattle.search.proofs.RoomLaws.{free-none, free-more}
 use Rattle.search.proofs.room.fill_free.Statement.{statement}
 use Rattle.search.proofs.room.fill_free.Tie as tie
+
+-- `search::room::fill_free` meets its contract. The loop's invariant: the free rows stand at the beats passed. The measure is what is
+-- left of the beats. Assumes nothing.
 
 abbrev Inv-loop : tie.InvT-loop
 Inv-loop room₀ free n t₀ room t = (t ≤ n) × FreeBeats free t room
@@ -19,14 +22,16 @@ abbrev μ-loop : tie.MeasureT-loop
 loop-holds : tie.Need-loop-holds Inv-loop μ-loop
 loop-holds c = (search needs, free-none _ _ (c .before .before .pre .0))
 
-mul-copy-free : tie.Need-mul-copy-free Inv-loop μ-loop
-mul-copy-free c = search needs
+mul-copy-rows : tie.Need-mul-copy-rows Inv-loop μ-loop
+mul-copy-rows c = search needs
 
-add-copy-free : tie.Need-add-copy-free Inv-loop μ-loop
-add-copy-free c = search needs
+add-copy-rows : tie.Need-add-copy-rows Inv-loop μ-loop
+add-copy-rows c = search needs
 
-copy-free-requires : tie.Need-copy-free-requires Inv-loop μ-loop
-copy-free-requires c κs = (omega (arith, c .before .before .loop .inv .1 .long), c .before .before .before .before .before .pre .1)
+copy-rows-requires : tie.Need-copy-rows-requires Inv-loop μ-loop
+copy-rows-requires c κs =
+    let c₄ = c .before .before .before .before in
+    (omega arith, omega (arith, c .before .before .loop .inv .1 .long), omega (arith, c₄ .before .pre .1))
 
 add-t : tie.Need-add-t Inv-loop μ-loop
 add-t c = search needs
@@ -36,8 +41,12 @@ loop-less c = omega arith
 
 loop-again : tie.Need-loop-again Inv-loop μ-loop
 loop-again c =
-    let c₅ = c .before .before .before .before .before in
-    (search needs, free-more _ _ _ _ (c₅ .loop .inv .1) (c .before .before .copy-free .ensures))
+    let c₄ = c .before .before .before .before in
+    let c₈ = c₄ .before .before .before .before in (
+      search needs,
+      free-more _ _ _ _ (c₄ .before .loop .inv .1) (rewritten-same _ _ _ _ _ _ (λ j. ap (λ (x : ℕ). getD
+          (c₈ .args .free .now) x 0) (zero-add j)) (c .before .before .copy-rows .ensures)),
+    )
 
 same-length : tie.Need-same-length Inv-loop μ-loop
 same-length c =
@@ -47,7 +56,8 @@ same-length c =
 returns : tie.Need-returns Inv-loop μ-loop
 returns c =
     let c₄ = c .before .before .before .before in
-    let e : c .before .loop .t ≡ c₄ .args .n = omega arith in rw e at (c .before .loop .inv .1)
+    let e : c .before .loop .t ≡ c₄ .args .n = omega arith in
+    rw e at (c .before .loop .inv .1)
 
 pub fill-free-spec : {M : Type 1} → statement M
 fill-free-spec =
@@ -56,9 +66,9 @@ fill-free-spec =
     Inv-loop
     μ-loop
     loop-holds
-    mul-copy-free
-    add-copy-free
-    copy-free-requires
+    mul-copy-rows
+    add-copy-rows
+    copy-rows-requires
     add-t
     loop-less
     loop-again

@@ -1,81 +1,41 @@
--- `search::table::lay_rows` meets its contract. The loop's invariant: the blocks passed are the room's. The measure is what is left of
--- the blocks. Assumes nothing.
-use Prim.Native.Nat.{_+_, _*_, _-_, _≤_}
+-- `search::table::lay_rows` meets its contract. A window has four rows, or all. Assumes nothing.
 use native.Mathlib.Omega.{arith}
 use mathlib.Core.Path.{_≡_}
 use borrow.Author.Needs.{needs}
-use lib.ListN.{getD}
-use Rattle.search.specs.Table.{Rewritten}
-use Rattle.search.proofs.RewriteLaws.{rewritten-none, rewritten-more, four-after}
+use Rattle.search.proofs.AroundLaws.{not-four}
 use Rattle.search.proofs.table.lay_rows.Statement.{statement}
 use Rattle.search.proofs.table.lay_rows.Tie as tie
 
-abbrev Inv-loop : tie.InvT-loop
-Inv-loop sets₀ room i blocks b₀ sets b = (b ≤ blocks) × Rewritten sets₀ (λ j. getD room (i + j) 0) i (4 * b) sets
+copy-rows-requires : tie.Need-copy-rows-requires
+copy-rows-requires c κs =
+    let c₄ = c .before .before .before .before in
+    let e = c .before .if1 .taken in
+    (omega arith, omega (arith, c₄ .pre .0 .0, c₄ .pre .0 .2, e), omega (arith, c₄ .pre .0 .1, c₄ .pre .0 .2, e))
 
-abbrev μ-loop : tie.MeasureT-loop
-μ-loop sets₀ room i blocks b₀ sets b = blocks - b
+same-length : tie.Need-same-length
+same-length c = search needs
 
-loop-holds : tie.Need-loop-holds Inv-loop μ-loop
-loop-holds c = (search needs, rewritten-none _ _ _)
-
-mul-four : tie.Need-mul-four Inv-loop μ-loop
-mul-four c = search needs
-
-add-four : tie.Need-add-four Inv-loop μ-loop
-add-four c = search needs
-
-four-requires : tie.Need-four-requires Inv-loop μ-loop
-four-requires c κs = search needs
-
-mul-put-four : tie.Need-mul-put-four Inv-loop μ-loop
-mul-put-four c = search needs
-
-add-put-four : tie.Need-add-put-four Inv-loop μ-loop
-add-put-four c = search needs
-
-put-four-requires : tie.Need-put-four-requires Inv-loop μ-loop
-put-four-requires c κs = omega (arith, c .before .before .before .loop .inv .1 .long)
-
-add-b : tie.Need-add-b Inv-loop μ-loop
-add-b c = search needs
-
-loop-less : tie.Need-loop-less Inv-loop μ-loop
-loop-less c = omega arith
-
-loop-again : tie.Need-loop-again Inv-loop μ-loop
-loop-again c =
-    let c₄ = c .before .before .before .before in let c₈ = c₄ .before .before .before .before in (
-      search needs,
-      rewritten-more _ _ _ _ _ _ (c₄ .before .before .loop .b) (omega arith) (c₄ .before .before .loop .inv .1)
-          (c .before .before .put-four .ensures)
-          (four-after _ (c₈ .before .args .room .now) (c₈ .before .args .i) (4 * c₄ .before .before .loop .b) (c₄ .four .ensures)),
-    )
-
-same-length : tie.Need-same-length Inv-loop μ-loop
-same-length c = c .before .loop .inv .1 .long
-
-returns : tie.Need-returns Inv-loop μ-loop
+returns : tie.Need-returns
 returns c =
     let c₄ = c .before .before .before .before in
-    let e : c .before .loop .b ≡ c₄ .args .blocks = omega arith in
-    rw e at (c .before .loop .inv .1)
+    rw (c₄ .if1 .taken) (c .before .before .copy-rows .ensures)
+
+copy-rows-requires-2 : tie.Need-copy-rows-requires-2
+copy-rows-requires-2 c κs =
+    let c₄ = c .before .before .before .before in
+    let e : c₄ .args .height ≡ 32 = not-four _ (c₄ .pre .1) (c .before .if1 .left) in
+    (omega arith, omega (arith, c₄ .pre .0 .0, c₄ .pre .0 .2, e), omega (arith, c₄ .pre .0 .1, c₄ .pre .0 .2, e))
+
+same-length-2 : tie.Need-same-length-2
+same-length-2 c = search needs
+
+returns-2 : tie.Need-returns-2
+returns-2 c =
+    let c₄ = c .before .before .before .before in
+    let e : c₄ .before .before .before .args .height ≡ 32 = not-four _ (c₄ .before .before .before .pre .1) (c₄ .if1 .left) in
+    rw e (c .before .before .copy-rows2 .ensures)
 
 pub lay-rows-spec : {M : Type 1} → statement M
 lay-rows-spec =
     tie.close
-    (tie.spec
-    Inv-loop
-    μ-loop
-    loop-holds
-    mul-four
-    add-four
-    four-requires
-    mul-put-four
-    add-put-four
-    put-four-requires
-    add-b
-    loop-less
-    loop-again
-    same-length
-    returns)
+    (tie.spec copy-rows-requires same-length returns copy-rows-requires-2 same-length-2 returns-2)

@@ -1,8 +1,7 @@
 -- `search::window::around` meets its contract. The numbers are small, and the window is that of its definition. Assumes nothing.
-use native.Mathlib.Omega.{arith}
 use mathlib.Core.Path.{refl}
 use borrow.Author.Needs.{needs}
-use Rattle.search.proofs.AroundLaws.{row-below, column-below, smaller-small, around-made}
+use Rattle.search.proofs.AroundLaws.{row-below, column-below, around-made}
 use Rattle.search.proofs.window.around.Statement.{statement}
 use Rattle.search.proofs.window.around.Tie as tie
 
@@ -48,12 +47,8 @@ smaller-requires-2 c κs = search needs
 minus-requires-3 : tie.Need-minus-requires-3
 minus-requires-3 c κs = search needs
 
-add-smaller-2 : tie.Need-add-smaller-2
-add-smaller-2 c =
-    omega (arith, smaller-small _ _ _ (c .before .before .smaller .ensures), c .before .before .before .minus2 .ensures)
-
-smaller-requires-3 : tie.Need-smaller-requires-3
-smaller-requires-3 c κs = search needs
+height-for-requires : tie.Need-height-for-requires
+height-for-requires c κs = search needs
 
 returns : tie.Need-returns
 returns c =
@@ -61,8 +56,8 @@ returns c =
     let c₈ = c₄ .before .before .before .before in
     around-made _ _ _ _ _ _ _ _ _ _ _ (c₈ .pre .4) (c₄ .before .before .before .gap .ensures .0)
     (c₄ .before .before .gap2 .ensures .0) (c₄ .before .minus .ensures) (c₄ .minus2 .ensures)
-    (c .before .before .before .smaller .ensures) (c .before .before .smaller2 .ensures) refl refl refl
-    (c .before .minus3 .ensures) (c .smaller3 .ensures)
+    (c .before .before .before .smaller .ensures) (c .before .before .smaller2 .ensures) refl refl refl (c .before .minus3 .ensures)
+    (c .height-for .ensures)
 
 pub around-spec : {M : Type 1} → statement M
 around-spec =
@@ -82,6 +77,5 @@ around-spec =
     smaller-requires
     smaller-requires-2
     minus-requires-3
-    add-smaller-2
-    smaller-requires-3
+    height-for-requires
     returns)

@@ -19,9 +19,6 @@ minus-requires-3 c κs = search needs
 larger-requires-2 : tie.Need-larger-requires-2
 larger-requires-2 c κs = search needs
 
-mul-smaller : tie.Need-mul-smaller
-mul-smaller c = search needs
-
 sub-smaller : tie.Need-sub-smaller
 sub-smaller c = search needs
 
@@ -43,7 +40,6 @@ first-row-spec =
     minus-requires-2
     minus-requires-3
     larger-requires-2
-    mul-smaller
     sub-smaller
     smaller-requires
     returns)

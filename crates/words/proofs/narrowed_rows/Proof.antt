@@ -1,5 +1,5 @@
--- `words::narrow_four` meets its contract. The loop's invariant: the rows passed are made. The measure is what is left of the rows. Assumes
--- nothing.
+-- `words::narrowed_rows` meets its contract. The loop's invariant: the rows passed are made. The measure is what is left of the rows.
+-- Assumes nothing.
 use Prim.Native.Nat.{ℕ, _-_, _≤_}
 use native.Mathlib.Omega.{arith}
 use mathlib.Core.Path.{_≡_}
@@ -7,17 +7,17 @@ use borrow.Author.Needs.{needs}
 use lib.ListN.{length, replicate, length-set, length-replicate}
 use Rattle.words.specs.Rows.{filled, narrowAt}
 use Rattle.words.proofs.FillLaws.{filled-none, filled-more}
-use Rattle.words.proofs.narrow_four.Statement.{statement}
-use Rattle.words.proofs.narrow_four.Tie as tie
+use Rattle.words.proofs.narrowed_rows.Statement.{statement}
+use Rattle.words.proofs.narrowed_rows.Tie as tie
 
 abbrev Inv-loop : tie.InvT-loop
-Inv-loop s at to n₀ r₀ n r = (r ≤ 4) × (length n ≡ 4) × (n ≡ filled (replicate 4 0) (narrowAt s at to) r)
+Inv-loop s at to n x₀ r₀ x r = (r ≤ n) × (length x ≡ 32) × (x ≡ filled (replicate 32 0) (narrowAt s at to) r)
 
 abbrev μ-loop : tie.MeasureT-loop
-μ-loop s at to n₀ r₀ n r = 4 - r
+μ-loop s at to n x₀ r₀ x r = n - r
 
 loop-holds : tie.Need-loop-holds Inv-loop μ-loop
-loop-holds c = (search needs, length-replicate {A = ℕ} 4 0, filled-none _ _)
+loop-holds c = (search needs, length-replicate {A = ℕ} 32 0, filled-none _ _)
 
 add-narrow-row : tie.Need-add-narrow-row Inv-loop μ-loop
 add-narrow-row c = search needs
@@ -64,11 +64,11 @@ shared-slice-read-narrow-row-4 c = search needs
 narrow-row-requires : tie.Need-narrow-row-requires Inv-loop μ-loop
 narrow-row-requires c κs = search needs
 
-mul-n : tie.Need-mul-n Inv-loop μ-loop
-mul-n c = search needs
+mul-x : tie.Need-mul-x Inv-loop μ-loop
+mul-x c = search needs
 
-array-write-n : tie.Need-array-write-n Inv-loop μ-loop
-array-write-n c = search needs
+array-write-x : tie.Need-array-write-x Inv-loop μ-loop
+array-write-x c = search needs
 
 add-r : tie.Need-add-r Inv-loop μ-loop
 add-r c = search needs
@@ -79,16 +79,20 @@ loop-less c = search needs
 loop-again : tie.Need-loop-again Inv-loop μ-loop
 unfolding narrowAt
 loop-again c =
-    let c₄ = c .before .before .before .before in
-    (search needs, simp length-set (c₄ .before .before .loop .inv .1), filled-more _ _ _ _ _ (c₄ .before .before .loop .inv .2) (c .narrow-row .ensures))
+    let c₄ = c .before .before .before .before in (
+      search needs,
+      simp length-set (c₄ .before .before .loop .inv .1),
+      filled-more _ _ _ _ _ (c₄ .before .before .loop .inv .2)
+          (c .narrow-row .ensures),
+    )
 
 returns : tie.Need-returns Inv-loop μ-loop
 returns c =
-    let e : c .before .loop .r ≡ 4 = omega arith in
+    let e : c .before .loop .r ≡ c .before .before .before .args .n = omega arith in
     rw e at (c .before .loop .inv .2)
 
-pub narrow-four-spec : {M : Type 1} → statement M
-narrow-four-spec =
+pub narrowed-rows-spec : {M : Type 1} → statement M
+narrowed-rows-spec =
     tie.close
     (tie.spec
     Inv-loop
@@ -109,8 +113,8 @@ narrow-four-spec =
     mul-narrow-row-4
     shared-slice-read-narrow-row-4
     narrow-row-requires
-    mul-n
-    array-write-n
+    mul-x
+    array-write-x
     add-r
     loop-less
     loop-again

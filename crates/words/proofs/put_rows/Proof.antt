@@ -1,4 +1,4 @@
--- `words::put_four` meets its contract. The loop's invariant: the rows passed are written. The measure is what is left of the rows.
+-- `words::put_rows` meets its contract. The loop's invariant: the rows passed are written. The measure is what is left of the rows.
 -- Assumes nothing.
 use Prim.Native.Nat.{_-_, _≤_}
 use native.Mathlib.Omega.{arith}
@@ -7,14 +7,14 @@ use borrow.Author.Needs.{needs}
 use lib.ListN.{length, length-set}
 use Rattle.words.specs.Rows.{written}
 use Rattle.words.proofs.FillLaws.{written-none, written-more}
-use Rattle.words.proofs.put_four.Statement.{statement}
-use Rattle.words.proofs.put_four.Tie as tie
+use Rattle.words.proofs.put_rows.Statement.{statement}
+use Rattle.words.proofs.put_rows.Tie as tie
 
 abbrev Inv-loop : tie.InvT-loop
-Inv-loop table₀ i s r₀ table r = (r ≤ 4) × (length table ≡ length table₀) × (table ≡ written table₀ i s r)
+Inv-loop table₀ i n x r₀ table r = (r ≤ n) × (length table ≡ length table₀) × (table ≡ written table₀ i x r)
 
 abbrev μ-loop : tie.MeasureT-loop
-μ-loop table₀ i s r₀ table r = 4 - r
+μ-loop table₀ i n x r₀ table r = n - r
 
 loop-holds : tie.Need-loop-holds Inv-loop μ-loop
 loop-holds c = (search needs, refl, written-none _ _ _)
@@ -50,11 +50,11 @@ same-length c = c .before .loop .inv .1
 
 returns : tie.Need-returns Inv-loop μ-loop
 returns c =
-    let e : c .before .loop .r ≡ 4 = omega arith in
+    let e : c .before .loop .r ≡ c .before .before .args .n = omega arith in
     rw e at (c .before .loop .inv .2)
 
-pub put-four-spec : {M : Type 1} → statement M
-put-four-spec =
+pub put-rows-spec : {M : Type 1} → statement M
+put-rows-spec =
     tie.close
     (tie.spec
     Inv-loop
