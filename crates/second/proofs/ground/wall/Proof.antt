@@ -1,8 +1,8 @@
--- `second::wall` is safe and ends. Assumes nothing.
+-- `second::ground::wall` is safe and ends. Assumes nothing.
 use Prim.Native.Nat.{_-_}
 use borrow.Author.Needs.{needs}
-use Rattle.second.proofs.wall.Statement.{statement}
-use Rattle.second.proofs.wall.Tie as tie
+use Rattle.second.proofs.ground.wall.Statement.{statement}
+use Rattle.second.proofs.ground.wall.Tie as tie
 
 abbrev Inv-loop : tie.InvT-loop
 Inv-loop walls n c j₀ j = Unit {0}

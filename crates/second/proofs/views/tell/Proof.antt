@@ -1,10 +1,10 @@
--- `second::tell` is safe and ends. Invariant: the length is kept. Assumes nothing.
+-- `second::views::tell` is safe and ends. Invariant: the length is kept. Assumes nothing.
 use Prim.Native.Nat.{_≤_, _-_}
 use mathlib.Core.Path.{_≡_}
 use lib.ListN.{length}
 use borrow.Author.Needs.{needs}
-use Rattle.second.proofs.tell.Statement.{statement}
-use Rattle.second.proofs.tell.Tie as tie
+use Rattle.second.proofs.views.tell.Statement.{statement}
+use Rattle.second.proofs.views.tell.Tie as tie
 
 abbrev Inv-loop : tie.InvT-loop
 Inv-loop answers₀ j route t₀ answers t = (t ≤ 64) × (length answers ≡ length answers₀)

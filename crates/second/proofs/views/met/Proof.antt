@@ -1,8 +1,8 @@
--- `second::met` is safe and ends. Assumes nothing.
+-- `second::views::met` is safe and ends. Assumes nothing.
 use Prim.Native.Nat.{_-_}
 use borrow.Author.Needs.{needs}
-use Rattle.second.proofs.met.Statement.{statement}
-use Rattle.second.proofs.met.Tie as tie
+use Rattle.second.proofs.views.met.Statement.{statement}
+use Rattle.second.proofs.views.met.Tie as tie
 
 abbrev Inv-loop : tie.InvT-loop
 Inv-loop views k c j₀ j = Unit {0}

@@ -1,8 +1,8 @@
--- `second::conflicts` is safe and ends. Assumes nothing.
+-- `second::offers::conflicts` is safe and ends. Assumes nothing.
 use Prim.Native.Nat.{_-_}
 use borrow.Author.Needs.{needs}
-use Rattle.second.proofs.conflicts.Statement.{statement}
-use Rattle.second.proofs.conflicts.Tie as tie
+use Rattle.second.proofs.offers.conflicts.Statement.{statement}
+use Rattle.second.proofs.offers.conflicts.Tie as tie
 
 abbrev Inv-loop : tie.InvT-loop
 Inv-loop views k t c d next j₀ j = Unit {0}

@@ -1,9 +1,9 @@
--- `second::fill` is safe and ends. Assumes nothing.
+-- `second::arrivals::fill` is safe and ends. Assumes nothing.
 use mathlib.Core.Path.{_≡_}
 use borrow.Author.Needs.{needs}
 use lib.ListN.{length}
-use Rattle.second.proofs.fill.Statement.{statement}
-use Rattle.second.proofs.fill.Tie as tie
+use Rattle.second.proofs.arrivals.fill.Statement.{statement}
+use Rattle.second.proofs.arrivals.fill.Tie as tie
 
 abbrev Inv-loop : tie.InvT-loop
 Inv-loop table₀ f walls views k goal horizon t₀ table t = length table ≡ length table₀

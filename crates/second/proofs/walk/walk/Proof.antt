@@ -1,10 +1,10 @@
--- `second::walk` is safe and ends. Assumes nothing.
+-- `second::walk::walk` is safe and ends. Assumes nothing.
 use Prim.Native.Nat.{_-_}
 use mathlib.Core.Path.{_≡_}
 use borrow.Author.Needs.{needs}
 use lib.ListN.{length}
-use Rattle.second.proofs.walk.Statement.{statement}
-use Rattle.second.proofs.walk.Tie as tie
+use Rattle.second.proofs.walk.walk.Statement.{statement}
+use Rattle.second.proofs.walk.walk.Tie as tie
 
 abbrev Inv-loop : tie.InvT-loop
 Inv-loop table f walls views k start horizon r₀ c₀ t₀ r c t = length r ≡ 64

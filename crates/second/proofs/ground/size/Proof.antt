@@ -1,10 +1,10 @@
--- `second::size` is safe and ends. Assumes nothing.
+-- `second::ground::size` is safe and ends. Assumes nothing.
 use native.Mathlib.Omega.{arith}
 use borrow.Author.Needs.{needs}
 use native.Mathlib.Nat.{mul-le-mul}
 use Prim.Native.Nat.{_*_, _≤_}
-use Rattle.second.proofs.size.Statement.{statement}
-use Rattle.second.proofs.size.Tie as tie
+use Rattle.second.proofs.ground.size.Statement.{statement}
+use Rattle.second.proofs.ground.size.Tie as tie
 
 returns : tie.Need-returns
 returns c = search needs
