@@ -31,10 +31,11 @@ use Rattle.layout.specs.Runs.{runIn, numberTaken, endingIn}
 use Rattle.layout.specs.Fits.{Sound, Fits}
 use Rattle.layout.specs.Calls.{machineOf, stepVerdict, runVerdict, replyIf, memoryIf, stepReply, stepMemory, runOver, runReply, runMemory}
 use Rattle.layout.proofs.OpenLaws.{open-same}
+use Rattle.layout.proofs.RecordLaws.{sound-whole}
 use Rattle.layout.proofs.StepLaws.{taken-same, said-same}
 use Rattle.layout.proofs.RunLaws.{run-same, number-same, ending-same}
 use Rattle.demand.specs.Lists.{Asked, step, run, answerOf, leftBy, lentLength, bookCall}
-use Rattle.demand.proofs.FloorLaws.{none-sound, sound-whole, respond-sound, storable, machine-lent}
+use Rattle.demand.proofs.FloorLaws.{none-sound, respond-sound, storable, machine-lent}
 use Rattle.demand.proofs.VerdictLaws.{asCheck, check-accepted, named-same, single-same}
 use Rattle.demand.proofs.LentLaws.{lentRest, keptRest, Enough, Short, enough-or-short, book-enough, book-short, lent-memory}
 use Rattle.demand.proofs.LentLaws.{kept-memory, state-passes, state-short}
