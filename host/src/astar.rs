@@ -127,9 +127,30 @@ impl Flat {
         (self.who[start] == 0).then_some(held)
     }
 
+    /// Puts on the open list, once each, the states after (t, c) from which the goal can still be reached by the horizon. The way back is
+    /// stored only where it is asked for: `best` needs none, and is to pay for none.
+    #[inline(always)]
+    fn expand<const PARENTS: bool>(&mut self, floor: &Floor, goal: usize, t: usize, c: usize) {
+        let (h, cells) = (floor.horizon, floor.cells());
+        if t == h {
+            return;
+        }
+        for d in beside(floor, c) {
+            let state = (t + 1) * cells + d;
+            let last = t + 1 + distance(floor, d, goal);
+            if last <= h && self.seen[state] != self.search && self.free(cells, t, c, d) {
+                self.seen[state] = self.search;
+                if PARENTS {
+                    self.parent[state] = c as u16;
+                }
+                self.heap.push(Reverse((last as u16, Reverse(t as u16 + 1), d as u16)));
+            }
+        }
+    }
+
     /// The arrival and some route to it: stops at the goal's first state.
     pub fn search(&mut self, floor: &Floor, start: usize, goal: usize) -> Option<(usize, Vec<usize>)> {
-        let (h, cells) = (floor.horizon, floor.cells());
+        let cells = floor.cells();
         let held = self.held(floor, start, goal)?;
         self.search += 1;
         self.heap.clear();
@@ -145,18 +166,7 @@ impl Flat {
                 path.reverse();
                 return Some((t, path));
             }
-            if t == h {
-                continue;
-            }
-            for d in beside(floor, c) {
-                let state = (t + 1) * cells + d;
-                let last = t + 1 + distance(floor, d, goal);
-                if last <= h && self.seen[state] != self.search && self.free(cells, t, c, d) {
-                    self.seen[state] = self.search;
-                    self.parent[state] = c as u16;
-                    self.heap.push(Reverse((last as u16, Reverse(t as u16 + 1), d as u16)));
-                }
-            }
+            self.expand::<true>(floor, goal, t, c);
         }
         None
     }
@@ -182,17 +192,7 @@ impl Flat {
                 arrival = Some(last);
                 continue;
             }
-            if t == h {
-                continue;
-            }
-            for d in beside(floor, c) {
-                let state = (t + 1) * cells + d;
-                let last = t + 1 + distance(floor, d, goal);
-                if last <= h && self.seen[state] != self.search && self.free(cells, t, c, d) {
-                    self.seen[state] = self.search;
-                    self.heap.push(Reverse((last as u16, Reverse(t as u16 + 1), d as u16)));
-                }
-            }
+            self.expand::<false>(floor, goal, t, c);
         }
         let arrival = arrival? as usize;
         self.leads[arrival * cells + goal] = self.search;

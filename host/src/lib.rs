@@ -44,7 +44,8 @@ pub struct Floor {
 }
 
 impl Floor {
-    /// The 22 numbers of the record.
+    /// The 22 numbers of the record. `record_of` of `paper.rs` does the same and is apart on purpose: what the library is compared with
+    /// shares no code with it.
     pub fn record(&self) -> [u16; RECORD] {
         let mut record = [0; RECORD];
         record[..6].copy_from_slice(&[self.width, self.height, self.horizon, self.depth, self.carriers, self.walls]);

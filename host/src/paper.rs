@@ -111,7 +111,8 @@ pub fn floor_of_record(record: &[u16], walls: &[u16]) -> Result<Floor, Refusal> 
     Ok(floor)
 }
 
-/// The record of a floor; places past its carriers are 0.
+/// The record of a floor; places past its carriers are 0. `Floor::record` of the library does the same and is apart on purpose: this file
+/// shares no code with the library.
 pub fn record_of(floor: &Floor) -> [u16; 22] {
     let mut record = [0; 22];
     let n = floor.carriers();

@@ -17,8 +17,7 @@ use Rattle.reference.specs.Take.{afterStep, stepAnswer}
 use Rattle.reference.specs.Run.{run as runBook}
 use Rattle.reference.specs.Ending.{ending}
 use Rattle.reference.specs.History.{Reaches}
-use Rattle.reference.specs.Table.{accepted, refusal, ifLent, allNamed, openSingle, verdict}
-use Rattle.reference.specs.Table as table
+use Rattle.reference.specs.Table.{CallVerdict, accepted, refusal, ifLent, allNamed, openSingle, verdict}
 use Rattle.reference.specs.Calls.{Reply, stepped, ran, refused as turned, answerTo, stateAfter, reply, afterCall}
 use Rattle.reference.specs.Bounds.{InRange, Throughout}
 use Rattle.reference.proofs.TableLaws.{not-accepted, single-open}
@@ -32,22 +31,23 @@ use Rattle.layout.specs.Runs.{runIn, numberTaken, endingIn}
 use Rattle.layout.specs.Fits.{Sound, Fits}
 use Rattle.layout.specs.Calls.{machineOf, stepVerdict, runVerdict, replyIf, memoryIf, stepReply, stepMemory, runOver, runReply, runMemory}
 use Rattle.layout.proofs.OpenLaws.{open-same}
+use Rattle.layout.proofs.RecordLaws.{sound-whole}
 use Rattle.layout.proofs.StepLaws.{taken-same, said-same}
 use Rattle.layout.proofs.RunLaws.{run-same, number-same, ending-same}
 use Rattle.demand.specs.Lists.{Asked, step, run, answerOf, leftBy, lentLength, bookCall}
-use Rattle.demand.proofs.FloorLaws.{none-sound, sound-whole, respond-sound, storable, machine-lent}
+use Rattle.demand.proofs.FloorLaws.{none-sound, respond-sound, storable, machine-lent}
 use Rattle.demand.proofs.VerdictLaws.{asCheck, check-accepted, named-same, single-same}
 use Rattle.demand.proofs.LentLaws.{lentRest, keptRest, Enough, Short, enough-or-short, book-enough, book-short, lent-memory}
 use Rattle.demand.proofs.LentLaws.{kept-memory, state-passes, state-short}
 
 -- A call whose verdicts are the same has the same answer, and leaves the same memory.
-reply-same : (v : table.Verdict) (r q : Reply) → (v ≡ accepted → r ≡ q) →
+reply-same : (v : CallVerdict) (r q : Reply) → (v ≡ accepted → r ≡ q) →
     replyIf (asCheck v) r ≡ elim v [ accepted ↦ q | refusal number place ↦ turned number place ]
 unfolding replyIf asCheck
 reply-same accepted r q h = h refl
 reply-same (refusal k p) r q h = refl
 
-memory-same : (n : ℕ) (v : table.Verdict) (s z : State) (new old back rest : List ℕ) →
+memory-same : (n : ℕ) (v : CallVerdict) (s z : State) (new old back rest : List ℕ) →
     (v ≡ accepted → new ++ back ≡ encode n z ++ rest) → old ++ back ≡ encode n s ++ rest →
     memoryIf (asCheck v) new old ++ back ≡ encode n (elim v [ accepted ↦ z | refusal number place ↦ s ]) ++ rest
 unfolding memoryIf asCheck

@@ -20,12 +20,11 @@ use Rattle.route.specs.Search.{best}
 use Rattle.route.proofs.Theorems.{theorems}
 use Rattle.search.specs.Task.{taskOf, taskWith}
 use Rattle.planner.specs.Plan.{respondOf}
-use Rattle.planner.specs.Records.{recordOf}
-use Rattle.planner.proofs.ViewLaws.{Whole}
 use Rattle.reference.specs.State.{Machine}
 use Rattle.layout.specs.Fits.{Sound}
 use Rattle.layout.specs.Places.{stateSize}
 use Rattle.layout.specs.Calls.{machineOf}
+use Rattle.layout.proofs.RecordLaws.{sound-whole}
 use Rattle.layout.proofs.StepLaws.{Storable}
 
 pub none-sound : (f : Floor) → Sound f none
@@ -50,12 +49,6 @@ best-sound f ws h i vs = go (best (taskOf f ws (i + 1)) vs) refl
     go none e = none-sound f
     go (route r) e =
         route-sound f ws (i + 1) r (theorems .best-is-route (taskOf f ws (i + 1)) vs r (task-horizon f ws (i + 1) h) e .0)
-
--- A sound answer has a whole record.
-pub sound-whole : (f : Floor) (a : Answer) → Sound f a → Whole a
-unfolding Sound recordOf
-sound-whole f none h = refl
-sound-whole f (route r) h = omega (arith, h .long)
 
 -- The machine of a floor with these cells free.
 abbrev machineWith : Floor → (ℕ → Bool) → Machine

@@ -15,8 +15,7 @@ use Rattle.reference.specs.State.{Machine, State, fresh}
 use Rattle.reference.specs.Step.{Step, isOpen}
 use Rattle.reference.specs.Run.{run as runBook}
 use Rattle.reference.specs.Ending.{isSilent}
-use Rattle.reference.specs.Table.{Call, accepted, refusal, verdict}
-use Rattle.reference.specs.Table as table
+use Rattle.reference.specs.Table.{Call, single, runOf, CallVerdict, accepted, refusal, verdict}
 use Rattle.reference.specs.Refused.{RefusedWith, short-single, short-run, unnamed-single, unnamed-run, not-open}
 use Rattle.reference.specs.Calls.{refused, answerTo, reply, afterCall, replies}
 use Rattle.reference.specs.Quiet.{quiet, takenInAll, ceiling}
@@ -42,14 +41,14 @@ not-ten M s c a p (not-open h q r) e = omega arith
 
 answer-no-refusal : (M : Machine) (s : State) (c : Call) (a p : ℕ) → answerTo M s c ≡ refused a p → ⊥
 unfolding answerTo
-answer-no-refusal M s (table.single lent x) a p e = let z : _≡_ {A = ℕ} 0 1 = cc in omega arith
-answer-no-refusal M s (table.runOf lent xs b) a p e = let z : _≡_ {A = ℕ} 0 1 = cc in omega arith
+answer-no-refusal M s (single lent x) a p e = let z : _≡_ {A = ℕ} 0 1 = cc in omega arith
+answer-no-refusal M s (runOf lent xs b) a p e = let z : _≡_ {A = ℕ} 0 1 = cc in omega arith
 
 reply-not-ten : (M : Machine) (s : State) (c : Call) → NotTen (reply M s c)
 unfolding NotTen reply
 reply-not-ten M s c p = go (verdict M s c) refl
   where
-    go : (v : table.Verdict) → verdict M s c ≡ v →
+    go : (v : CallVerdict) → verdict M s c ≡ v →
         elim v [ accepted ↦ answerTo M s c | refusal number place ↦ refused number place ] ≡ refused 10 p → ⊥
     go accepted h e = answer-no-refusal M s c 10 p e
     go (refusal a q) h e = not-ten M s c a q ((theorems .calls .refuses-exactly M s c a q) .0 h) (cc)

@@ -10,16 +10,15 @@ use Rattle.floor.specs.Verdict.{Verdict, passed, refused, _then_, demand, inTur
 use Rattle.floor.proofs.VerdictLaws.{then-assoc, each-none, refused-not-passed}
 use Rattle.reference.specs.State.{Machine, State}
 use Rattle.reference.specs.Step.{Step, named, isOpen}
-use Rattle.reference.specs.Table.{accepted, refusal, allNamed, openSingle}
-use Rattle.reference.specs.Table as table
+use Rattle.reference.specs.Table.{CallVerdict, accepted, refusal, allNamed, openSingle}
 use Rattle.layout.specs.Numbers.{stepOf}
 
--- A verdict of the table as a verdict of the checks.
-unfoldable pub asCheck : table.Verdict → Verdict
+-- A verdict of the reference machine's table as a verdict of the checks.
+unfoldable pub asCheck : CallVerdict → Verdict
 asCheck accepted = passed
 asCheck (refusal k p) = refused k p
 
-pub check-accepted : (v : table.Verdict) → asCheck v ≡ passed → v ≡ accepted
+pub check-accepted : (v : CallVerdict) → asCheck v ≡ passed → v ≡ accepted
 unfolding asCheck
 check-accepted accepted e = refl
 check-accepted (refusal k p) e = absurd (refused-not-passed e)
@@ -30,7 +29,7 @@ unfolding asCheck demand
 last-test true k p = refl
 last-test false k p = refl
 
-one-test : (b : Bool) (k p : ℕ) (v : Verdict) (w : table.Verdict) → v ≡ asCheck w →
+one-test : (b : Bool) (k p : ℕ) (v : Verdict) (w : CallVerdict) → v ≡ asCheck w →
     (demand b k p then v) ≡ asCheck (elim b [ true ↦ w | false ↦ refusal k p ])
 unfolding asCheck demand _then_
 one-test true k p v w h = h

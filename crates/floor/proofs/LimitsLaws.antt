@@ -11,7 +11,7 @@ use Rattle.floor.specs.Verdict.{passed, _then_, inTurn, each}
 use Rattle.floor.specs.Checks.{within, limitsOf, lentOf, roomOf, placesOf, checkOf}
 use Rattle.floor.specs.Accepted.{Within, FieldWithin, Limited, Lent}
 use Rattle.floor.proofs.VerdictLaws.{then-assoc, then-both, demand-holds}
-use Rattle.floor.proofs.EachLaws.{Decides, each-passed}
+use Rattle.floor.proofs.EachLaws.{Decides, each-passed, all-passes}
 
 -- The test of a limit means the limit.
 within-means : (low high v : ℕ) → (within low high v ≡ true) ↔ Within low high v
@@ -44,6 +44,13 @@ pub limits-each : (f : Floor) → limitsOf f ≡ each 2 1 (fieldWithin f) 6
 unfolding limitsOf each inTurn fieldWithin _then_
 limits-each f = simp then-assoc
 
+-- Check 2 passes exactly if all six values are within their limits.
+pub limits-mean : (f : Floor) → (limitsOf f ≡ passed) ↔ Limited f
+limits-mean f = (
+  λ h. each-passed 2 1 (fieldWithin f) (FieldWithin f) (field-means f) 6 (sym (limits-each f) ∙ h),
+  λ a. limits-each f ∙ all-passes 2 1 (fieldWithin f) (FieldWithin f) (field-means f) 6 a,
+)
+
 -- The limits as bounds with names.
 pub record Bounds (f : Floor) : Type 0 where
   pub width : Within 1 32 (f .width)
@@ -67,7 +74,7 @@ limited-bounds f l =
 
 -- Where check 2 passes, all six values are within their limits.
 pub limits-passed : (f : Floor) → limitsOf f ≡ passed → Bounds f
-limits-passed f h = limited-bounds f (each-passed 2 1 (fieldWithin f) (FieldWithin f) (field-means f) 6 (sym (limits-each f) ∙ h))
+limits-passed f h = limited-bounds f (limits-mean f .0 h)
 
 -- Where check 9 passes, the memory that is needed is lent.
 pub room-passed : (needed lent : ℕ) → roomOf needed lent ≡ passed → needed ≤ lent

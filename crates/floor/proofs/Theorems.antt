@@ -9,22 +9,16 @@ use Rattle.floor.specs.Verdict.{passed, refused, _then_, demand, inTurn,
 use Rattle.floor.specs.Checks.{within, among, startOf, goalOf, limitsOf, lentOf, roomOf, carriersOf, wallsOf, risingOf, clearOf}
 use Rattle.floor.specs.Checks.{distinctOf, placesOf, checkOf, carrierInGrid, inGrid, rises, clearOfWalls, unshared}
 use Rattle.floor.specs.Fresh.{freshFloor}
-use Rattle.floor.specs.Accepted.{Accepted, FieldWithin, Limited, Lent, CarriersInGrid, WallsInGrid, Rising, Clear, Distinct}
+use Rattle.floor.specs.Accepted.{Accepted, Limited, Lent, CarriersInGrid, WallsInGrid, Rising, Clear, Distinct}
 use Rattle.floor.specs.Refused.{RefusedWith, outside-limit, few-walls, carrier-outside, wall-outside, not-rising, on-wall, shared}
 use Rattle.floor.specs.Claims.{Claims}
 use Rattle.floor.proofs.VerdictLaws.{then-both, then-cases, demand-cases}
 use Rattle.floor.proofs.EachLaws.{each-passed, all-passes, each-refused, first-refuses}
-use Rattle.floor.proofs.LimitsLaws.{fieldWithin, field-means, limits-each, lent-passed}
+use Rattle.floor.proofs.LimitsLaws.{field-means, limits-each, limits-mean, lent-passed}
 use Rattle.floor.proofs.SameLaws.{check-same}
 use Rattle.floor.proofs.CheckMeans.{carrier-in-grid-means, wall-in-grid-means, rises-means, clear-means, unshared-means}
 
 module _ (f : Floor) (ws : List ℕ) where
-  limits-mean : (limitsOf f ≡ passed) ↔ Limited f
-  limits-mean = (
-    λ h. each-passed 2 1 (fieldWithin f) (FieldWithin f) (field-means f) 6 (sym (limits-each f) ∙ h),
-    λ a. limits-each f ∙ all-passes 2 1 (fieldWithin f) (FieldWithin f) (field-means f) 6 a,
-  )
-
   lent-means : (lentOf f ws ≡ passed) ↔ Lent f ws
   unfolding lentOf roomOf demand
   lent-means = (lent-passed f ws, λ l. rw (le-leb _ _ l))
@@ -60,7 +54,7 @@ module _ (f : Floor) (ws : List ℕ) where
       let e = then-both _ _ (d .1) in
       let g = then-both _ _ (e .1) in
       record {
-        limited = limits-mean .0 (a .0);
+        limited = limits-mean f .0 (a .0);
         lent = lent-means .0 (b .0);
         carriers-in-grid = carriers-mean .0 (c .0);
         walls-in-grid = walls-mean .0 (d .0);
@@ -74,7 +68,7 @@ module _ (f : Floor) (ws : List ℕ) where
   unfolding checkOf placesOf _then_
   all-pass a =
       rw (
-        limits-mean .1 (a .limited),
+        limits-mean f .1 (a .limited),
         lent-means .1 (a .lent),
         carriers-mean .1 (a .carriers-in-grid),
         walls-mean .1 (a .walls-in-grid),
@@ -128,9 +122,9 @@ module _ (f : Floor) (ws : List ℕ) where
       ⊎-elim
       (λ (g : lentOf f ws ≡ refused k p).
       let d = demand-cases _ 9 0 k p g in
-      rw (d .1, d .2) (few-walls (limits-mean .0 (e .0)) (leb-false _ _ (d .0))))
+      rw (d .1, d .2) (few-walls (limits-mean f .0 (e .0)) (leb-false _ _ (d .0))))
       (λ (g : (lentOf f ws ≡ passed) × (placesOf f ws ≡ refused k p)).
-      places-refuse k p (limits-mean .0 (e .0)) (lent-means .0 (g .0)) (g .1))
+      places-refuse k p (limits-mean f .0 (e .0)) (lent-means .0 (g .0)) (g .1))
       (then-cases _ _ k p (e .1)))
       (then-cases _ _ k p h)
 
@@ -138,22 +132,22 @@ module _ (f : Floor) (ws : List ℕ) where
   refusal : (k p : ℕ) → RefusedWith f ws k p → checkOf f ws ≡ refused k p
   unfolding checkOf placesOf carriersOf wallsOf risingOf clearOf distinctOf lentOf roomOf demand _then_
   refusal k p (outside-limit h) = rw (limits-each f, first-refuses 2 1 _ _ (field-means f) 6 _ h)
-  refusal k p (few-walls l h) = rw (limits-mean .1 l, lt-leb _ _ h)
+  refusal k p (few-walls l h) = rw (limits-mean f .1 l, lt-leb _ _ h)
   refusal k p (carrier-outside {i} l n h) =
       let e : carriersOf f ≡ refused 3 (1 + i) = first-refuses 3 1 _ _ (carrier-in-grid-means f) _ i h in
-      rw (limits-mean .1 l, lent-means .1 n, e)
+      rw (limits-mean f .1 l, lent-means .1 n, e)
   refusal k p (wall-outside {j} l n a h) =
       let e : wallsOf f ws ≡ refused 3 (f .carriers + 1 + j) = first-refuses 3 _ _ _ (wall-in-grid-means f ws) _ j h in
-      rw (limits-mean .1 l, lent-means .1 n, carriers-mean .1 a, e)
+      rw (limits-mean f .1 l, lent-means .1 n, carriers-mean .1 a, e)
   refusal k p (not-rising {j} l n a b h) =
       let e : risingOf f ws ≡ refused 4 (f .carriers + 1 + j) = first-refuses 4 _ _ _ (rises-means ws) _ j h in
-      rw (limits-mean .1 l, lent-means .1 n, carriers-mean .1 a, walls-mean .1 b, e)
+      rw (limits-mean f .1 l, lent-means .1 n, carriers-mean .1 a, walls-mean .1 b, e)
   refusal k p (on-wall {i} l n a b c h) =
       let e : clearOf f ws ≡ refused 5 (1 + i) = first-refuses 5 1 _ _ (clear-means f ws) _ i h in
-      rw (limits-mean .1 l, lent-means .1 n, carriers-mean .1 a, walls-mean .1 b, rising-means .1 c, e)
+      rw (limits-mean f .1 l, lent-means .1 n, carriers-mean .1 a, walls-mean .1 b, rising-means .1 c, e)
   refusal k p (shared {i} l n a b c d h) =
       let e : distinctOf f ≡ refused 6 (1 + i) = first-refuses 6 1 _ _ (unshared-means f) _ i h in
-      rw (limits-mean .1 l, lent-means .1 n, carriers-mean .1 a, walls-mean .1 b, rising-means .1 c, clear-mean .1 d, e)
+      rw (limits-mean f .1 l, lent-means .1 n, carriers-mean .1 a, walls-mean .1 b, rising-means .1 c, clear-mean .1 d, e)
 
 pub theorems : Claims
 unfolding checkOf limitsOf lentOf roomOf placesOf carriersOf wallsOf risingOf clearOf distinctOf freshFloor _then_ demand each inTurn

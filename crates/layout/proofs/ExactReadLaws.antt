@@ -8,9 +8,8 @@ use mathlib.Core.Path.{_≡_, refl, sym, _∙_, ap, ap₂}
 use lib.Dec.{eqb}
 use lib.ListN.{length, getD}
 use Rattle.memory.specs.Memory.{part}
-use Rattle.memory.proofs.PartLaws.{part-is, part-reach}
 use Rattle.floor.specs.declared.Floor.{Floor}
-use Rattle.route.specs.Route.{Answer, none, route, View, unheard, heard}
+use Rattle.route.specs.Route.{Answer, heard}
 use Rattle.reference.specs.State.{State}
 use Rattle.reference.specs.Bounds.{AllOf, ShownOf}
 use Rattle.layout.specs.Places.{answerPlace, viewPlace, channelPlace}
@@ -18,26 +17,15 @@ use Rattle.layout.specs.Encode.{flag, slot, slots, channelBlock, carrier
 use Rattle.layout.specs.Decode.{recordAt, shown, messages, decode}
 use Rattle.layout.specs.Fits.{Sound, Fits}
 use Rattle.layout.specs.Alike.{Alike}
-use Rattle.layout.proofs.SplitLaws.{slot-length, slots-length, blocks-same}
+use Rattle.layout.proofs.SplitLaws.{slots-length, blocks-same}
 use Rattle.layout.proofs.ReadLaws.{read-thousands, read-rest, read-planned, read-due, read-answer, read-view, read-channel}
-use Rattle.layout.proofs.RecordLaws.{tagOf, numberOf, view-route, view-none, view-unheard, tag-read, number-read}
+use Rattle.layout.proofs.RecordLaws.{record-shows, sound-whole, shown-whole}
 use Rattle.layout.proofs.ValidChannelLaws.{first-next, count-read, places-read}
-
--- The record of a view with sound cells shows that view.
-record-back : (f : Floor) (m : List ℕ) (at : ℕ) (v : View) → part m at 65 ≡ slot v → ShownOf (Sound f) v → recordAt m at ≡ v
-unfolding recordAt tagOf numberOf ShownOf Sound
-record-back f m at unheard e h = view-unheard (getD m at 0) (part m (at + 1) 64) (tag-read m at unheard e)
-record-back f m at (heard none) e h = view-none (getD m at 0) (part m (at + 1) 64) (tag-read m at (heard none) e)
-record-back f m at (heard (route r)) e h =
-    let v = heard (route r) in
-    let reach : at + 65 ≤ length m = part-reach m at 65 (omega arith) (ap length e ∙ slot-length v) in
-    let cells : part m (at + 1) 64 ≡ r = part-is m (at + 1) 64 r (omega arith) (h .long) (number-read m at v e) in
-    view-route (getD m at 0) (part m (at + 1) 64) (tag-read m at v e) ∙ ap (λ (c : List ℕ). heard (route c)) cells
 
 -- The record of an answer shows that answer.
 answer-back : (f : Floor) (m : List ℕ) (at : ℕ) (a : Answer) → part m at 65 ≡ slot (heard a) → Sound f a → shown (recordAt m at) ≡ a
 unfolding ShownOf shown
-answer-back f m at a e h = ap shown (record-back f m at (heard a) e h)
+answer-back f m at a e h = ap shown (record-shows m at (heard a) e (sound-whole f a h))
 
 -- The records of messages with sound cells show those messages.
 messages-back : (f : Floor) (m : List ℕ) (k at : ℕ) (l : List Answer) → length l ≤ k → part m at (65 * k) ≡ slots k l → AllOf (Sound f) l
@@ -76,7 +64,9 @@ encode-shows f s rest d h =
       same-planned = λ i l. rw (read-planned n s rest i l) (flag-back (s .planned i));
       same-due = λ i l. rw (read-due n s rest i l) (flag-back (s .due i));
       same-answer = λ i l. answer-back f m (answerPlace i) (s .answer i) (read-answer n s rest i l) (h .answers i l);
-      same-view = λ i j a b. record-back f m (viewPlace n i j) (s .view i j) (read-view n s rest i j a b) (h .seen i j a b);
+      same-view =
+          λ i j a b.
+          record-shows m (viewPlace n i j) (s .view i j) (read-view n s rest i j a b) (shown-whole f (s .view i j) (h .seen i j a b));
       same-channel =
           λ i j a b.
           let few : length (s .chan i j) ≤ 4 = omega (arith, h .channels i j a b) in

@@ -3,6 +3,7 @@ pub mod WindowLaws
 pub mod SplitLaws
 pub mod StateLaws
 pub mod ReadLaws
+pub mod RecordLaws
 pub mod OpenLaws
 pub mod CountLaws
 pub mod ChannelLaws
@@ -12,7 +13,6 @@ pub mod PlanLaws
 pub mod StepLaws
 pub mod RunLaws
 pub mod ValidPartLaws
-pub mod RecordLaws
 pub mod ValidChannelLaws
 pub mod ValidDecodeLaws
 pub mod ValidLaws

@@ -1,16 +1,13 @@
 -- A plan in memory is a plan: the views that it reads, whether its answer is news, what it stores and sends.
-use Prim.Native.Nat.{ℕ, _+_, _≤_, _<_}
-use native.Mathlib.Omega.{arith}
-use native.Mathlib.Nat.{add-zero}
+use Prim.Native.Nat.{ℕ, _≤_, _<_}
 use mathlib.Core.Bool.{true, false}
-use mathlib.Core.List.{List, [], _∷_, _++_}
+use mathlib.Core.List.{List, _∷_, _++_}
 use mathlib.Core.Logic.{⊎-elim}
 use mathlib.Core.Path.{_≡_, refl, sym, _∙_, ap}
-use lib.ListN.{length, getD}
-use Rattle.memory.specs.Memory.{put as putBlock, part}
-use Rattle.route.specs.Route.{Answer, none, route, View, unheard, heard}
+use lib.ListN.{length}
+use Rattle.memory.specs.Memory.{put as putBlock}
+use Rattle.route.specs.Route.{Answer, none, route, heard}
 use Rattle.route.proofs.Tests.{true-or-false}
-use Rattle.search.specs.Views.{viewOf}
 use Rattle.planner.specs.Records.{recordOf}
 use Rattle.planner.proofs.ViewLaws.{Whole}
 use Rattle.reference.specs.Ranges.{put}
@@ -20,13 +17,14 @@ use Rattle.reference.specs.Take.{isNews, send, planAs}
 use Rattle.reference.specs.Bounds.{ShownOf}
 use Rattle.reference.proofs.RangeLaws.{below-same, put-same, put-other}
 use Rattle.layout.specs.Places.{plannedPlace, viewPlace}
-use Rattle.layout.specs.Encode.{flag, fit, slot, carrierBlock, encode}
+use Rattle.layout.specs.Encode.{flag, slot, carrierBlock, encode}
 use Rattle.layout.specs.Decode.{recordAt}
 use Rattle.layout.specs.Steps.{newsIn, plannedIn, viewsIn}
-use Rattle.layout.proofs.WindowLaws.{Stands, window-whole, window-behind, window-inside, window-part, window-number, window-put}
-use Rattle.layout.proofs.SplitLaws.{fit-whole, slot-length, carrier-length}
+use Rattle.layout.proofs.WindowLaws.{window-put}
+use Rattle.layout.proofs.SplitLaws.{fit-whole, carrier-length}
 use Rattle.layout.proofs.StateLaws.{withTaken, withCarriers, withChans, carrier-window}
-use Rattle.layout.proofs.ReadLaws.{read-planned, read-answer, view-here}
+use Rattle.layout.proofs.ReadLaws.{read-planned, read-answer, read-view}
+use Rattle.layout.proofs.RecordLaws.{record-shows}
 use Rattle.layout.proofs.OpenLaws.{flag-set}
 use Rattle.layout.proofs.CountLaws.{ticked-same}
 use Rattle.layout.proofs.SendLaws.{sent-same}
@@ -35,21 +33,6 @@ use Rattle.layout.proofs.SendLaws.{sent-same}
 pub slot-record : (a : Answer) → Whole a → slot (heard a) ≡ recordOf a
 unfolding slot
 slot-record a w = fit-whole 65 (recordOf a) w
-
--- The tag of a record that stands at a place, and the view with a tag.
-tag-read : (m : List ℕ) (p : ℕ) (v : View) (k : ℕ) → getD (slot v) 0 0 ≡ k → Stands p m (slot v) → getD m p 0 ≡ k
-tag-read m p v k e h = window-number 0 p (omega (arith, slot-length v)) (add-zero p) h ∙ e
-
-route-shows : (m r : List ℕ) (p : ℕ) → length r ≡ 64 → Stands p m (2 ∷ r) → part m (p + 1) 64 ≡ r
-route-shows m r p l h = window-part 64 l (window-inside (p + 1) refl h (window-behind (2 ∷ []) 1 1 refl refl (window-whole r r)))
-
--- The view in a record is the view that was stored there.
-record-shows : (m : List ℕ) (p : ℕ) (v : View) → ShownOf Whole v → Stands p m (slot v) → recordAt m p ≡ v
-unfolding recordAt ShownOf viewOf slot recordOf fit
-record-shows m p unheard w h = rw (tag-read m p unheard 0 refl h)
-record-shows m p (heard none) w h = rw (tag-read m p (heard none) 1 refl h)
-record-shows m p (heard (route r)) w h =
-    rw (tag-read m p (heard (route r)) 2 refl h, route-shows m r p (omega (arith, w)) (rw (slot-record (route r) w) at h))
 
 -- Two whole answers are the same where their records are.
 records-same : (a b : Answer) → sameCells (recordOf a) (recordOf b) ≡ sameAnswer a b
@@ -65,7 +48,7 @@ module _ (n : ℕ) (s : State) (rest : List ℕ) where
   unfolding viewsIn views
   views-same i l w =
       below-same i (λ j. recordAt (encode n s ++ rest) (viewPlace n i j)) (s .view i)
-      (λ j h. record-shows (encode n s ++ rest) (viewPlace n i j) (s .view i j) (w j h) (view-here n s rest i j h l))
+      (λ j h. record-shows (encode n s ++ rest) (viewPlace n i j) (s .view i j) (read-view n s rest i j h l) (w j h))
 
   -- A record is news where its answer is.
   pub news-same : (i : ℕ) (a : Answer) → i < n → Whole (s .answer i) → newsIn (encode n s ++ rest) i (recordOf a) ≡ isNews s i a

@@ -29,7 +29,7 @@ module _ (n : ℕ) (s : State) (rest : List ℕ) where
   pub carrier-here : (i : ℕ) → i < n → Stands (plannedPlace i) (encode n s ++ rest) (carrierBlock s i)
   carrier-here i l = window-old (carrier-window n s rest (s .planned) (s .due) (s .answer) i l (λ k x y. (refl, refl, refl)))
 
-  pub view-here : (i j : ℕ) → j < i → i < n → Stands (viewPlace n i j) (encode n s ++ rest) (slot (s .view i j))
+  view-here : (i j : ℕ) → j < i → i < n → Stands (viewPlace n i j) (encode n s ++ rest) (slot (s .view i j))
   view-here i j a b = window-old (view-window n s rest (s .view) i j a b (λ k l x y z. refl))
 
   pub channel-here : (i j : ℕ) → j < i → i < n → Stands (channelPlace n i j) (encode n s ++ rest) (channelBlock (s .chan i j))

@@ -1,4 +1,4 @@
--- Which records are valid: those of a view with sound cells, and no others.
+-- What a record shows, and which records are valid: those of a view with sound cells, and no others.
 use Prim.Native.Nat.{ℕ, zero, suc, _+_, _*_, _≤_, _<_}
 use native.Mathlib.Omega.{arith}
 use native.Mathlib.Nat.{add-zero}
@@ -10,13 +10,14 @@ use borrow.Author.Tests.{ltb-true, leb-true, eqb-true, lt-ltb, le-ltb, le-leb, e
 use lib.Dec.{leb, ltb, eqb}
 use lib.ListN.{length, getD, getD-replicate, List·getD-eq-default}
 use Rattle.memory.specs.Memory.{part}
-use Rattle.memory.proofs.PartLaws.{part-byte, part-length, part-is}
+use Rattle.memory.proofs.PartLaws.{part-byte, part-length, part-is, part-reach}
 use Rattle.floor.specs.declared.Floor.{Floor}
 use Rattle.floor.specs.Checks.{within}
 use Rattle.route.specs.Route.{Answer, none, route, View, unheard, heard}
 use Rattle.route.proofs.Tests.{and-both, and-fst, and-snd, lt-or-le, eq-or-ne}
 use Rattle.search.specs.Views.{viewOf}
 use Rattle.planner.specs.Records.{recordOf}
+use Rattle.planner.proofs.ViewLaws.{Whole}
 use Rattle.reference.specs.Bounds.{ShownOf}
 use Rattle.reference.proofs.RangeLaws.{each-holds, each-true}
 use Rattle.layout.specs.Encode.{fit, slot}
@@ -97,10 +98,10 @@ module _ (m : List ℕ) (at : ℕ) (v : View) (e : part m at 65 ≡ slot v) wher
   slot-read : (i : ℕ) → i < 65 → getD m (at + i) 0 ≡ getD (slot v) i 0
   slot-read i l = sym (part-byte m at 65 i l) ∙ ap (λ (b : List ℕ). getD b i 0) e
 
-  pub tag-read : getD m at 0 ≡ tagOf v
+  tag-read : getD m at 0 ≡ tagOf v
   tag-read = rw add-zero at (slot-read 0 (omega arith)) ∙ slot-tag v
 
-  pub number-read : (t : ℕ) → t < 64 → getD m (at + 1 + t) 0 ≡ numberOf v t
+  number-read : (t : ℕ) → t < 64 → getD m (at + 1 + t) 0 ≡ numberOf v t
   number-read t l =
       let place : at + 1 + t ≡ at + suc t = omega arith in
       ap (λ (p : ℕ). getD m p 0) place ∙ slot-read (suc t) (omega arith) ∙ slot-number v t l
@@ -141,17 +142,39 @@ part-slot m at v l e h = part-is m at 65 (slot v) l (slot-length v) same
         rw place (h t (omega arith) ∙ sym (slot-number v t (omega arith)))
 
 -- What a view is, told by the tag.
-pub view-route : (tag : ℕ) (cells : List ℕ) → tag ≡ 2 → viewOf tag cells ≡ heard (route cells)
+view-route : (tag : ℕ) (cells : List ℕ) → tag ≡ 2 → viewOf tag cells ≡ heard (route cells)
 unfolding viewOf
 view-route tag cells e = rw e
 
-pub view-none : (tag : ℕ) (cells : List ℕ) → tag ≡ 1 → viewOf tag cells ≡ heard none
+view-none : (tag : ℕ) (cells : List ℕ) → tag ≡ 1 → viewOf tag cells ≡ heard none
 unfolding viewOf
 view-none tag cells e = rw e
 
-pub view-unheard : (tag : ℕ) (cells : List ℕ) → tag ≡ 0 → viewOf tag cells ≡ unheard
+view-unheard : (tag : ℕ) (cells : List ℕ) → tag ≡ 0 → viewOf tag cells ≡ unheard
 unfolding viewOf
 view-unheard tag cells e = rw e
+
+-- The record of a view whose answer is whole shows that view.
+pub record-shows : (m : List ℕ) (at : ℕ) (v : View) → part m at 65 ≡ slot v → ShownOf Whole v → recordAt m at ≡ v
+unfolding recordAt tagOf numberOf ShownOf recordOf
+record-shows m at unheard e h = view-unheard (getD m at 0) (part m (at + 1) 64) (tag-read m at unheard e)
+record-shows m at (heard none) e h = view-none (getD m at 0) (part m (at + 1) 64) (tag-read m at (heard none) e)
+record-shows m at (heard (route r)) e h =
+    let v = heard (route r) in
+    let reach : at + 65 ≤ length m = part-reach m at 65 (omega arith) (ap length e ∙ slot-length v) in
+    let cells : part m (at + 1) 64 ≡ r = part-is m (at + 1) 64 r (omega arith) (omega (arith, h)) (number-read m at v e) in
+    view-route (getD m at 0) (part m (at + 1) 64) (tag-read m at v e) ∙ ap (λ (c : List ℕ). heard (route c)) cells
+
+-- A sound answer is whole, and so is the sound answer that a view shows.
+pub sound-whole : (f : Floor) (a : Answer) → Sound f a → Whole a
+unfolding Sound recordOf
+sound-whole f none h = refl
+sound-whole f (route r) h = omega (arith, h .long)
+
+pub shown-whole : (f : Floor) (v : View) → ShownOf (Sound f) v → ShownOf Whole v
+unfolding ShownOf
+shown-whole f unheard h = tt
+shown-whole f (heard a) h = sound-whole f a h
 
 -- What a valid record tells: it is the record of the view that it shows, whose cells are sound, and its tag is within the range.
 pub record Recorded (f : Floor) (m : List ℕ) (at low high : ℕ) (v : View) : Type 0 where

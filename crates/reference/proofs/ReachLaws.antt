@@ -7,7 +7,7 @@ use Rattle.reference.specs.State.{Machine, State}
 use Rattle.reference.specs.Step.{Step}
 use Rattle.reference.specs.Run.{tookFirst, passedFirst, run}
 use Rattle.reference.specs.History.{Reaches, stay, next}
-use Rattle.reference.specs.Table.{Call, single, runOf, Verdict, accepted, refusal, verdict}
+use Rattle.reference.specs.Table.{Call, single, runOf, CallVerdict, accepted, refusal, verdict}
 use Rattle.reference.specs.Calls.{refused, answerTo, stateAfter, reply, afterCall, replies, after}
 use Rattle.reference.specs.Quiet.{takenIn, takenInAll}
 use Rattle.reference.proofs.RunLaws.{run-induction}
@@ -55,7 +55,7 @@ module _ (M : Machine) where
   unfolding takenIn
   call-reaches s c = go (verdict M s c) refl
     where
-      go : (v : Verdict) → verdict M s c ≡ v → Reaches M s (afterCall M s c) (takenIn (reply M s c))
+      go : (v : CallVerdict) → verdict M s c ≡ v → Reaches M s (afterCall M s c) (takenIn (reply M s c))
       go accepted e = rw (reply-accepted s c e, after-accepted s c e) (accepted-reaches s c e)
       go (refusal a p) e = rw (reply-refused s c a p e, after-refused s c a p e) stay
 

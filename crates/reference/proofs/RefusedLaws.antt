@@ -10,7 +10,7 @@ use lib.Dec.{leb}
 use lib.ListN.{getD}
 use Rattle.reference.specs.State.{Machine, State}
 use Rattle.reference.specs.Step.{Step, noKind, named, isOpen}
-use Rattle.reference.specs.Table.{Call, single, runOf, Verdict, refusal, ifLent, allNamed, openSingle, verdict}
+use Rattle.reference.specs.Table.{Call, single, runOf, CallVerdict, refusal, ifLent, allNamed, openSingle, verdict}
 use Rattle.reference.specs.Refused.{FirstUnnamed, RefusedWith, short-single, short-run, unnamed-single, unnamed-run, not-open}
 use Rattle.route.proofs.Tests.{lt-or-le}
 use Rattle.reference.proofs.TableLaws.{not-accepted, named-step, unnamed-step, single-unnamed, single-shut, single-passes}
@@ -82,11 +82,11 @@ module _ (M : Machine) where
       go false h f = here h (sym (unnamed-step M q x xs h) ∙ e)
 
   module _ (s : State) where
-    short : (lent : ℕ) (v : Verdict) → lent < M .needed → ifLent (leb (M .needed) lent) v ≡ refusal 9 0
+    short : (lent : ℕ) (v : CallVerdict) → lent < M .needed → ifLent (leb (M .needed) lent) v ≡ refusal 9 0
     unfolding ifLent
     short lent v l = rw (lt-leb (M .needed) lent l, ifLent)
 
-    enough : (lent : ℕ) (v : Verdict) → M .needed ≤ lent → ifLent (leb (M .needed) lent) v ≡ v
+    enough : (lent : ℕ) (v : CallVerdict) → M .needed ≤ lent → ifLent (leb (M .needed) lent) v ≡ v
     unfolding ifLent
     enough lent v l = rw (le-leb (M .needed) lent l, ifLent)
 

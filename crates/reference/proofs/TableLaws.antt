@@ -7,9 +7,9 @@ use mathlib.Core.Path.{_≡_, refl, sym, _∙_}
 use lib.Dec.{leb}
 use Rattle.reference.specs.State.{Machine, State}
 use Rattle.reference.specs.Step.{Step, named, isOpen}
-use Rattle.reference.specs.Table.{single, Verdict, accepted, refusal, ifLent, allNamed, openSingle, verdict}
+use Rattle.reference.specs.Table.{single, CallVerdict, accepted, refusal, ifLent, allNamed, openSingle, verdict}
 
-pub not-accepted : (v : Verdict) (a p : ℕ) → v ≡ refusal a p → v ≡ accepted → ⊥
+pub not-accepted : (v : CallVerdict) (a p : ℕ) → v ≡ refusal a p → v ≡ accepted → ⊥
 not-accepted v a p e h = let z : _≡_ {A = ℕ} 0 1 = cc in omega arith
 
 module _ (M : Machine) where

@@ -8,8 +8,8 @@ use Rattle.floor.specs.Verdict.{passed, refused, _then_}
 use Rattle.floor.specs.Checks.{limitsOf, placesOf}
 use Rattle.floor.specs.Accepted.{FieldWithin, Limited}
 use Rattle.floor.proofs.VerdictLaws.{then-both, then-cases, then-passed, then-refused}
-use Rattle.floor.proofs.EachLaws.{each-passed, each-refused, all-passes, first-refuses}
-use Rattle.floor.proofs.LimitsLaws.{fieldWithin, field-means, limits-each}
+use Rattle.floor.proofs.EachLaws.{each-refused, first-refuses}
+use Rattle.floor.proofs.LimitsLaws.{fieldWithin, field-means, limits-each, limits-mean}
 use Rattle.floor.proofs.Theorems.{theorems as floor-theorems}
 use Rattle.sheet.specs.Field.{numberAt}
 use Rattle.sheet.specs.Form.{lineForm, restForm}
@@ -35,14 +35,6 @@ module _ (text : List ℕ) where
     λ a. rest-slots text (headAt text) ∙ fine-slots text (restSlots (headAt text)) a,
   )
 
-  limits-mean : (limitsOf (headAt text) ≡ passed) ↔ Limited (headAt text)
-  limits-mean = (
-    λ h. each-passed 2 1 (fieldWithin (headAt text)) (FieldWithin (headAt text)) (field-means (headAt text)) 6
-        (sym (limits-each (headAt text)) ∙ h),
-    λ a. limits-each (headAt text)
-        ∙ all-passes 2 1 (fieldWithin (headAt text)) (FieldWithin (headAt text)) (field-means (headAt text)) 6 a,
-  )
-
   -- A refusal of the form, or of line 1's limits, has the condition of its row.
   form-row : (k p : ℕ) → formOf text ≡ refused k p → RefusedSheet text k p
   unfolding formOf
@@ -58,7 +50,7 @@ module _ (text : List ℕ) where
       rw (s .number, s .place) (outside-limit (head-fine .0 (e .0)) (s .first)))
       (λ (g : (limitsOf (headAt text) ≡ passed) × (restForm text (headAt text) ≡ refused k p)).
       let d = slots-broken text (restSlots (headAt text)) k p (sym (rest-slots text (headAt text)) ∙ g .1) in
-      rw (d .0) (rest-form (head-fine .0 (e .0)) (limits-mean .0 (g .0)) (d .1)))
+      rw (d .0) (rest-form (head-fine .0 (e .0)) (limits-mean (headAt text) .0 (g .0)) (d .1)))
       (then-cases (limitsOf (headAt text)) (restForm text (headAt text)) k p (e .1)))
       (then-cases (lineForm text 0 6) (limitsOf (headAt text) then restForm text (headAt text)) k p h)
 
@@ -68,7 +60,7 @@ module _ (text : List ℕ) where
   form-means h =
       let a = then-both _ _ h in
       let b = then-both _ _ (a .1) in
-      (head-fine .0 (a .0), limits-mean .0 (b .0), rest-fine .0 (b .1))
+      (head-fine .0 (a .0), limits-mean (headAt text) .0 (b .0), rest-fine .0 (b .1))
 
   -- A refusal has the condition of its row.
   row : (k p : ℕ) → sheetVerdict text ≡ refused k p → RefusedSheet text k p
@@ -94,10 +86,10 @@ module _ (text : List ℕ) where
       then-refused _ (then-passed (head-fine .1 a) ∙ then-refused _ e)
   refusal k p (rest-form a l b) =
       then-refused _
-      (then-passed (head-fine .1 a) ∙ then-passed (limits-mean .1 l) ∙ rest-slots text (headAt text)
+      (then-passed (head-fine .1 a) ∙ then-passed (limits-mean (headAt text) .1 l) ∙ rest-slots text (headAt text)
       ∙ broken-slots text (restSlots (headAt text)) p b)
   refusal k p (floor-row a l b r) =
-      let good : formOf text ≡ passed = then-passed (head-fine .1 a) ∙ then-passed (limits-mean .1 l) ∙ rest-fine .1 b in
+      let good : formOf text ≡ passed = then-passed (head-fine .1 a) ∙ then-passed (limits-mean (headAt text) .1 l) ∙ rest-fine .1 b in
       then-passed good ∙ sym (placed-checked text good) ∙ floor-theorems .refuses-exactly (floorAt text) (wallsAt text) k p .1 r
 
 -- A cell of the sheet is in the grid exactly if its column and its row are.
