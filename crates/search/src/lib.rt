@@ -18,7 +18,6 @@ use route::Route;
 use window::Window;
 ghost use mathlib.Core.Path.{_≡_};
 ghost use Prim.Native.Nat.{ℕ, _+_, _-_, _*_, _≤_, _<_};
-ghost use lib.Dec.{leb};
 ghost use lib.ListN.{length, replicate};
 ghost use mathlib.Core.Bool.{true};
 ghost use mathlib.Core.List.{List};

@@ -1,7 +1,6 @@
 // Looking at the views where a step of a set may go a way that is shut.
-ghost use mathlib.Core.Path.{_≡_};
 ghost use mathlib.Core.List.{List};
-ghost use Prim.Native.Nat.{ℕ, _+_, _*_, _/_, _≤_, _<_};
+ghost use Prim.Native.Nat.{ℕ, _+_, _*_, _≤_, _<_};
 ghost use Rattle.search.specs.Table.{Fits, Roomy, Tidy, Mended, MendedCell, Apart};
 ghost use Rattle.search.specs.Views.{spotOf};
 use crate::Scene;

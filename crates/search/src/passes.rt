@@ -4,7 +4,7 @@ ghost use mathlib.Core.Bool.{true};
 ghost use mathlib.Core.List.{List};
 ghost use Prim.Native.Nat.{ℕ, _+_, _*_, _/_, _≤_, _<_};
 ghost use lib.ListN.{length, replicate};
-ghost use Rattle.search.specs.Table.{Fits, Fitting, Rewritten, Roomy, Tidy, Windowed, Inside, Laid, Advanced, Traced, Ended, inSet};
+ghost use Rattle.search.specs.Table.{Fits, Fitting, Roomy, Windowed, Inside, Laid, Advanced, Traced, Ended, inSet};
 ghost use Rattle.search.specs.Passes.{lastNot, Earliest, arrivable};
 use crate::Scene;
 use crate::mend::mend;

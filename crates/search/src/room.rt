@@ -2,9 +2,9 @@
 ghost use mathlib.Core.Path.{_≡_};
 ghost use mathlib.Core.List.{List};
 ghost use Prim.Native.Nat.{ℕ, _+_, _*_, _/_, _≤_, _<_};
-ghost use lib.ListN.{length, getD, replicate};
+ghost use lib.ListN.{length, replicate};
 ghost use Rattle.words.specs.Rows.{Clean};
-ghost use Rattle.search.specs.Table.{Fits, Rewritten, Roomy, Tidy, FreeBeats, TakenBeats};
+ghost use Rattle.search.specs.Table.{Fits, Roomy, Tidy, FreeBeats, TakenBeats};
 use crate::Scene;
 use crate::table::copy_rows;
 use crate::views::spot;

@@ -1,10 +1,9 @@
 // Tables of sets of cells, 36 rows a beat: reading a cell, laying the room of a window.
 ghost use mathlib.Core.Path.{_≡_};
-ghost use mathlib.Core.List.{List};
 ghost use mathlib.Core.Logic.{_⊎_};
-ghost use Prim.Native.Nat.{ℕ, _+_, _*_, _/_, _≤_, _<_};
+ghost use Prim.Native.Nat.{_+_, _*_, _/_, _≤_, _<_};
 ghost use lib.ListN.{length, getD, replicate};
-ghost use Rattle.search.specs.Table.{Fits, Fitting, Rewritten, Roomy, Tidy, inSet, LaidRows};
+ghost use Rattle.search.specs.Table.{Rewritten, inSet, LaidRows};
 use crate::Scene;
 use crate::window::Window;
 use crate::window::first_row;

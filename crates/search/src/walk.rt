@@ -1,7 +1,7 @@
 // The route along the sets of a table: at each beat the smallest cell that still leads to the goal by the arrival.
 ghost use mathlib.Core.Path.{_≡_};
 ghost use mathlib.Core.List.{List};
-ghost use Prim.Native.Nat.{ℕ, _+_, _≤_, _<_};
+ghost use Prim.Native.Nat.{ℕ, _+_, _<_};
 ghost use lib.ListN.{replicate};
 ghost use Rattle.words.specs.Rows.{filled};
 ghost use Rattle.search.specs.Table.{Fits, Roomy, Tidy};

@@ -4,7 +4,7 @@ ghost use mathlib.Core.Path.{_≡_};
 ghost use Prim.Native.Nat.{_+_, _*_, _-_, _/_, _%_, _^_, _≤_, _<_};
 ghost use lib.ListN.{length, getD, replicate};
 ghost use mathlib.Core.Bool.{false};
-ghost use Rattle.words.specs.Words.{digit, without as Words·without};
+ghost use Rattle.words.specs.Words.{without as Words·without};
 ghost use Rattle.words.specs.Rows.{added, dropped, droppedAt, marked, written, filled, narrowRow, narrowAt, Within};
 ghost use Rattle.words.specs.Rows.{has as Rows·has};
 
