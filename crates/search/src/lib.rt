@@ -146,12 +146,12 @@ pub fn route_in(f: Floor, free: [u32; 32], room: &[u32], carrier: u16, views: &[
         return none();
     }
     let all = window::around(g, start, goal, g.horizon);
-    let mut more = table::empty();
-    let b = passes::reach(g, k, all, &mut more, room, views, start, goal, hold);
+    sets = table::empty();
+    let b = passes::reach(g, k, all, &mut sets, room, views, start, goal, hold);
     if g.horizon < b {
         return none();
     }
-    along(g, k, all, &mut more, room, views, start, goal, b)
+    along(g, k, all, &mut sets, room, views, start, goal, b)
 }
 
 // The best route of a carrier of a checked floor, with its free cells as rows and the views of the carriers above it.
