@@ -14,6 +14,8 @@ use Rattle.search.specs.declared.Scene.{Scene}
 use Rattle.search.specs.Views.{records, spotOf}
 use Rattle.search.specs.Ways.{wayOpen}
 use Rattle.search.specs.Table.{Fits, Tidy, Roomy, inSet, standsAt}
+use Rattle.search.proofs.GridLaws.{cell-small}
+use Rattle.search.proofs.PlaceLaws.{place-column}
 use Rattle.search.proofs.SetLaws.{set-holds}
 use Rattle.search.proofs.WayLaws.{way-clear, and-swap}
 
@@ -68,7 +70,7 @@ module _ (g : Scene) (k : ℕ) (free m room : List ℕ) (fits : Fits g k m) (roo
       and-snd (ltb c (g .cells) && has free (c / g .width) (c % g .width)) (every (vacant t c) (records m k)) (sym (roomy .agrees t c h) ∙ e)
 
   small : (c : ℕ) → c < g .cells → c < 65535
-  small c h = omega (arith, fits .room, fits .narrow)
+  small c h = cell-small (g .width) (g .cells) c (fits .narrow) (fits .room) h
 
   -- Every way to a cell that is in the room at beat a is open, and every way from a cell that is in the room at beat b.
   pub way-to : (a b e d : ℕ) → a ≤ g .horizon → d < g .cells → inSet g room a d ≡ true → wayOpen m a b e d k ≡ true
@@ -81,7 +83,7 @@ module _ (g : Scene) (k : ℕ) (free m room : List ℕ) (fits : Fits g k m) (roo
 -- Where the cells beside d stand in a table, d standing in row r from row a * 36 + 1 on.
 module _ (w d a r : ℕ) (thin : 0 < w) (low : d / w < 32) (row : r ≡ d / w) (whole : r * w + d % w ≡ d) where
   column : d - r * w ≡ d % w
-  column = omega (arith, whole)
+  column = place-column w d r whole
 
   pub lead-up : (x : ℕ) → x ≡ d - w → w ≤ d → (x / w < 35) × (a * 36 + 1 + r - 1 ≡ a * 36 + 1 + x / w) × (d - r * w ≡ x % w)
   lead-up x e h =
@@ -116,4 +118,4 @@ clear-way g k free m room fits roomy a b d r early inside low row whole x h t e 
     (tidy-set g room (roomy .tidy) a d (omega (arith, low)) (rw (column, row) at (sym h ∙ t)))
   where
     column : d - r * g .width ≡ d % g .width
-    column = omega (arith, whole)
+    column = place-column (g .width) d r whole

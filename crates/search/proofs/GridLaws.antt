@@ -1,5 +1,5 @@
 -- Numbers of a grid, and words of ones.
-use Prim.Native.Nat.{ℕ, _*_, _%_, _^_, _≤_}
+use Prim.Native.Nat.{ℕ, _*_, _%_, _^_, _≤_, _<_}
 use native.Mathlib.Omega.{arith}
 use native.Mathlib.Nat.{one-mul, mod-eq-of-lt, mul-le-mul-left}
 use mathlib.Core.Path.{_≡_}
@@ -18,3 +18,7 @@ ones-word n h = rw one-mul (mod-eq-of-lt (pow-lt {i = n} {j = 64} (omega arith))
 
 pub ones-fit : (n : ℕ) → n ≤ 32 → (1 ≤ 2 ^ n) × (2 ^ n ≤ 2 ^ 32)
 ones-fit n h = (pow-pos n, pow-mono h)
+
+-- A cell's number is below the number that is no cell.
+pub cell-small : (w cells c : ℕ) → w ≤ 32 → cells ≤ 32 * w → c < cells → c < 65535
+cell-small w cells c narrow room h = omega arith

@@ -7,7 +7,7 @@ use mathlib.Core.Path.{_≡_, refl, sym, _∙_}
 use Rattle.route.specs.Route.{Neighbours, SharesSide}
 use Rattle.route.specs.Moves.{near}
 use Rattle.route.proofs.Tests.{true-false-absurd}
-use Rattle.route.proofs.NearLaws.{near-holds}
+use Rattle.route.proofs.NearLaws.{near-says, near-holds, shares-side-sym}
 use Rattle.words.proofs.RowsLaws.{place-same}
 use Rattle.words.proofs.StepLaws.{before}
 
@@ -25,6 +25,10 @@ module _ (w : ℕ) where
       let p : ((r * w + k) / w ≡ r) × ((r * w + k) % w ≡ k) = place-same w (r * w + k) r k h refl in
       let q : ((i * w + k) / w ≡ i) × ((i * w + k) % w ≡ k) = place-same w (i * w + k) i k h refl in
       near-holds w (r * w + k) (i * w + k) (inr (inr (p .1 ∙ sym (q .1), rw (p .0, q .0) e)))
+
+pub near-turn : (w c d : ℕ) → near w c d ≡ true → near w d c ≡ true
+near-turn w c d e =
+    near-holds w d c (⊎-elim (λ (h : d ≡ c). inl (sym h)) (λ (h : SharesSide w c d). inr (shares-side-sym w c d h)) (near-says w c d e))
 
 pub near-same : (w c : ℕ) → near w c c ≡ true
 near-same w c = near-holds w c c (inl refl)

@@ -8,10 +8,8 @@ use mathlib.Core.Logic.{_⊎_, inl, inr, ⊎-elim}
 use mathlib.Core.Path.{_≡_, refl, sym, _∙_}
 use borrow.Author.Tests.{eqb-true, eq-eqb, le-ltb}
 use lib.Dec.{eqb, ltb}
-use Rattle.route.specs.Route.{SharesSide}
 use Rattle.route.specs.Moves.{near}
 use Rattle.route.proofs.Tests.{and-both, and-fst, and-snd, lt-or-le, eq-or-ne, true-false-absurd}
-use Rattle.route.proofs.NearLaws.{near-says, near-holds, shares-side-sym}
 use Rattle.words.specs.Rows.{has, dropped}
 use Rattle.words.proofs.RowsLaws.{has-dropped, length-dropped, place-row}
 use Rattle.search.specs.declared.Scene.{Scene}
@@ -20,16 +18,14 @@ use Rattle.search.specs.Ways.{wayOpen}
 use Rattle.search.specs.Table.{Apart, Fits, Tidy, Entered, Mended, MendedCell, inSet}
 use Rattle.search.specs.Passes.{nextOf, leadsOf}
 use Rattle.search.proofs.SetLaws.{set-cell, set-has, set-holds}
+use Rattle.search.proofs.MemberLaws.{near-turn}
+use Rattle.search.proofs.EndLaws.{fewer-tidy}
 use Rattle.search.proofs.NextBest.{Taken, next-best, next-either}
 
 -- Neighbouring beats are two.
 pub apart-differ : (a b : ℕ) → Apart (a * 36) (b * 36) → a ≡ b → ⊥
 apart-differ a b h e =
     ⊎-elim (λ (l : a * 36 + 36 ≡ b * 36). omega (arith, l)) (λ (l : b * 36 + 36 ≡ a * 36). omega (arith, l)) h
-
-pub near-turn : (w c d : ℕ) → near w c d ≡ true → near w d c ≡ true
-near-turn w c d e =
-    near-holds w d c (⊎-elim (λ (h : d ≡ c). inl (sym h)) (λ (h : SharesSide w c d). inr (shares-side-sym w c d h)) (near-says w c d e))
 
 module _ (g : Scene) (k : ℕ) (m s : List ℕ) (a b d : ℕ) where
   -- What it takes that a way leads from cell e to cell d.
@@ -142,21 +138,11 @@ module _ (g : Scene) (k : ℕ) (m s : List ℕ) (a b d : ℕ) where
         no true = refl
         no false = refl
 
-    tidy-q : Tidy g q
-    unfolding q
-    tidy-q =
-        record {
-          long = length-dropped s (b * 36 + 1 + d / g .width) (d % g .width) ∙ tidy .long;
-          thin = λ i j e. tidy .thin i j (fewer i j e);
-          rows = λ t r j h e. tidy .rows t r j h (fewer (t * 36 + 1 + r) j e);
-          edge = λ t j e. tidy .edge t j (fewer (t * 36) j e);
-        }
-
     pub mended-dropped : (Entered g k m s a b d → ⊥) →
         MendedCell g k m s a b d (dropped s (b * 36 + 1 + d / g .width) (d % g .width))
     unfolding q
     mended-dropped n =
-        record { tidy = tidy-q; fewer = fewer; other = other; holds = λ e x. absurd (n x); gone = λ e. absurd (left-out e) }
+        record { tidy = fewer-tidy g s q tidy (length-dropped s (b * 36 + 1 + d / g .width) (d % g .width)) fewer; fewer = fewer; other = other; holds = λ e x. absurd (n x); gone = λ e. absurd (left-out e) }
 
 -- A way from the set of beat a is one from any table with the same set then.
 pub entered-same : (g : Scene) (k : ℕ) (m s q : List ℕ) (a b d : ℕ) → ((c : ℕ) → inSet g q a c ≡ inSet g s a c) →

@@ -8,7 +8,7 @@ use mathlib.Core.Logic.{_⊎_, inl, inr, ⊎-elim}
 use mathlib.Core.Path.{_≡_, refl, sym, ap, _∙_}
 use borrow.Author.Tests.{eqb-true}
 use lib.Dec.{eqb}
-use lib.ListN.{length, getD}
+use lib.ListN.{getD}
 use Rattle.route.specs.Route.{Neighbours, SharesSide}
 use Rattle.route.specs.Moves.{near}
 use Rattle.route.proofs.Tests.{and-both, and-fst, lt-or-le}
@@ -26,6 +26,7 @@ use Rattle.search.proofs.SetLaws.{set-cell, set-has, set-holds, set-sam
 use Rattle.search.proofs.WindowLaws.{first-small}
 use Rattle.search.proofs.BesideLaws.{way-from}
 use Rattle.search.proofs.BroughtLaws.{brought-says, brought-holds}
+use Rattle.search.proofs.EndLaws.{fewer-windowed}
 use Rattle.search.proofs.MendLaws.{apart-differ, entered-same}
 
 -- A way is open, or a view is at its end at beat a.
@@ -91,21 +92,9 @@ module _ (g : Scene) (k : ℕ) (v : Window) (m s q : List ℕ) (a b : ℕ) (fits
           beyond : b * 36 + firstAt v b + 1 + v .height ≤ i → digit (getD s i 0) j ≡ true
           beyond l = rw (x .outside i (inr l)) at e
 
-  tidy-of : (r : List ℕ) → length r ≡ length s → ((i j : ℕ) → has r i j ≡ true → has s i j ≡ true) → Windowed g v r
-  tidy-of r long less =
-      record {
-        tidy = record {
-          long = long ∙ windowed .tidy .long;
-          thin = λ i j e. windowed .tidy .thin i j (less i j e);
-          rows = λ t i j h e. windowed .tidy .rows t i j h (less (t * 36 + 1 + i) j e);
-          edge = λ t j e. windowed .tidy .edge t j (less (t * 36) j e);
-        };
-        within = λ t i j h e. windowed .within t i j h (less (t * 36 + 1 + i) j e);
-      }
-
   -- The table stays tidy.
   pub quick-tidy : Tidy g q
-  quick-tidy = tidy-of q (x .long) fewer .tidy
+  quick-tidy = fewer-windowed g v s q windowed (x .long) fewer .tidy
 
   quick-other : (t c : ℕ) → (t ≡ b → ⊥) → inSet g q t c ≡ inSet g s t c
   quick-other t c n =
@@ -175,7 +164,7 @@ module _ (g : Scene) (k : ℕ) (v : Window) (m s q : List ℕ) (a b : ℕ) (fits
   unfolding Within
   narrowed-quick free room roomy early clear =
       record {
-        windowed = tidy-of q (x .long) fewer;
+        windowed = fewer-windowed g v s q windowed (x .long) fewer;
         other = quick-other;
         says = λ d e. (lesser d e, entered d e (quick-says d e));
         holds = λ d e y. quick-holds d e (y .from) (y .inset) (y .beside);
@@ -213,7 +202,7 @@ module _ (g : Scene) (k : ℕ) (v : Window) (m s q : List ℕ) (a b : ℕ) (fits
   pub narrowed-mended : (r : List ℕ) → Mended g k m q a b k r → Narrowed g k v m s a b r
   narrowed-mended r y =
       record {
-        windowed = tidy-of r (y .tidy .long ∙ sym (windowed .tidy .long)) (λ i j e. fewer i j (y .fewer i j e));
+        windowed = fewer-windowed g v s r windowed (y .tidy .long ∙ sym (windowed .tidy .long)) (λ i j e. fewer i j (y .fewer i j e));
         other = λ t c n. y .other t c n ∙ quick-other t c n;
         says = λ d e. (lesser d (kept d e), entered d e (quick-says d (kept d e)));
         holds = λ d e z. y .holds d (quick-holds d e (z .from) (z .inset) (z .beside))

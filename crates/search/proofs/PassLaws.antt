@@ -6,15 +6,14 @@ use native.Mathlib.Numerals.{add-one}
 use native.Mathlib.Nat.{eq-or-lt-of-le}
 use mathlib.Core.Bool.{true, _&&_}
 use mathlib.Core.List.{List}
-use mathlib.Core.Logic.{inl, inr, ⊎-elim}
+use mathlib.Core.Logic.{⊎-elim}
 use mathlib.Core.Path.{_≡_, sym, _∙_}
 use borrow.Author.Tests.{ltb-true}
 use lib.Dec.{ltb}
-use Rattle.route.specs.Route.{Task, SharesSide}
+use Rattle.route.specs.Route.{Task}
 use Rattle.route.specs.Moves.{near, vacant, passable, every, standable, allowed}
 use Rattle.route.specs.Search.{Rule}
 use Rattle.route.proofs.Tests.{and-both, and-fst, and-snd}
-use Rattle.route.proofs.NearLaws.{near-says, near-holds, shares-side-sym}
 use Rattle.route.proofs.Sets.{Sets, Reached, Leading, Holds}
 use Rattle.words.specs.Rows.{has}
 use Rattle.words.proofs.RowsLaws.{place-row}
@@ -24,9 +23,10 @@ use Rattle.search.specs.Views.{records}
 use Rattle.search.specs.Table.{inSet, standsAt, Roomy, Entered, firstAt, Inside, Fitting, WindowOf, Laid, Advanced, Traced}
 use Rattle.search.specs.Passes.{lastNot}
 use Rattle.search.proofs.SetLaws.{set-cell}
-use Rattle.search.proofs.WayLaws.{way-forward, way-backward, way-stay}
+use Rattle.search.proofs.WayLaws.{way-forward, way-backward, way-clear}
 use Rattle.search.proofs.HoldLaws.{last-says, last-least}
-use Rattle.search.proofs.MemberLaws.{near-same}
+use Rattle.search.proofs.GridLaws.{cell-small}
+use Rattle.search.proofs.MemberLaws.{near-same, near-turn}
 use Rattle.search.proofs.NarrowLaws.{reach, back, reach-says, Passed, Wide, Kept}
 use Rattle.search.proofs.WindowLaws.{window-holds, apart, reach-apart, back-apart}
 
@@ -55,10 +55,6 @@ pub record Setting (g : Scene) (k : ℕ) (free m room : List ℕ) (start goal : 
   pub starts : start < g .cells
   pub ends : goal < g .cells
   pub roomy : Roomy g k free m room
-
-near-sym : (w c d : ℕ) → near w c d ≡ true → near w d c ≡ true
-near-sym w c d e =
-    near-holds w d c (⊎-elim (λ (h : d ≡ c). inl (sym h)) (λ (h : SharesSide w c d). inr (shares-side-sym w c d h)) (near-says w c d e))
 
 -- The parts of an allowed move.
 module _ (task : Task) (m : List ℕ) (k : ℕ) where
@@ -107,7 +103,7 @@ module _ {g : Scene} {k : ℕ} {free m room : List ℕ} {start goal : ℕ} (set 
 
   -- A cell is less than the number that stands for no cell.
   small : (c : ℕ) → c < g .cells → c < 65535
-  small c h = omega (arith, set .fits, set .narrow)
+  small c h = cell-small (g .width) (g .cells) c (set .narrow) (set .fits) h
 
   -- The room has what can be stood on.
   pub room-is : (t c : ℕ) → t ≤ g .horizon → inSet g room t c ≡ standable (taskIn g free start goal) (records m k) t c
@@ -144,7 +140,7 @@ module _ {g : Scene} {k : ℕ} {free m room : List ℕ} {start goal : ℕ} (set 
       ((d : ℕ) → inSet g s (suc t) d ≡ true → stands (suc t) d ≡ true) → Entered g k m s (t + 1) t c → Leading ok (inSet g s) t c
   entered-leading s t c h l f x = (
     x .from,
-    allowed-makes task m k t c (x .from) (near-sym (g .width) (x .from) c (x .beside)) (f (x .from) there)
+    allowed-makes task m k t c (x .from) (near-turn (g .width) (x .from) c (x .beside)) (f (x .from) there)
         (way-backward m (x .from) c t k (omega (arith, set .short)) (small c l) ∙ rw add-one at (x .way)),
     there,
   )
@@ -158,7 +154,7 @@ module _ {g : Scene} {k : ℕ} {free m room : List ℕ} {start goal : ℕ} (set 
       record {
         from = d;
         inset = rw add-one b;
-        beside = near-sym (g .width) c d (allowed-near task m k t c d e);
+        beside = near-turn (g .width) c d (allowed-near task m k t c d e);
         way =
             rw add-one
             (sym (way-backward m d c t k (omega (arith, set .short)) (small c l)) ∙ allowed-passes task m k t c d e);
@@ -171,7 +167,7 @@ module _ {g : Scene} {k : ℕ} {free m room : List ℕ} {start goal : ℕ} (set 
   hold-holds t h u l b =
       allowed-makes task m k u goal goal (near-same (g .width) goal) free-then
       (way-forward m goal goal u k (omega (arith, set .short)) (small goal (set .ends))
-      ∙ way-stay m u (suc u) goal k (omega (arith, set .short)) (small goal (set .ends)) clear)
+      ∙ way-clear m u (suc u) goal goal k (omega (arith, set .short)) (small goal (set .ends)) clear)
     where
       free-then : stands (suc u) goal ≡ true
       free-then = room-stands (suc u) goal b (last-says (λ u. inSet g room u goal) t (g .horizon) h u l b)

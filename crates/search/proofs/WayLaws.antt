@@ -41,7 +41,3 @@ way-clear m a b c d (suc k) h l e =
     apart : (x y : Bool) → not x ≡ true → not (x && y) ≡ true
     apart true y q = true-false-absurd q refl
     apart false y q = refl
-
--- Who stays where nobody is has an open way.
-pub way-stay : (m : List ℕ) (a b d k : ℕ) → b < 64 → d < 65535 → every (vacant b d) (records m k) ≡ true → wayOpen m a b d d k ≡ true
-way-stay m a b d k h l e = way-clear m a b d d k h l e

@@ -80,7 +80,7 @@ pub struct Scene {
 }
 
 // The scene of a floor.
-pub fn scene_of(f: Floor) -> Scene
+fn scene_of(f: Floor) -> Scene
     requires { ⌜ (1 ≤ f .width) × (f .width ≤ 32) × (f .height ≤ 32) ⌝ }
     ensures { λ r. ⌜ r ≡ sceneOf f ⌝ }
 {
