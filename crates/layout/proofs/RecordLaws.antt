@@ -15,7 +15,7 @@ use Rattle.floor.specs.declared.Floor.{Floor}
 use Rattle.floor.specs.Checks.{within}
 use Rattle.route.specs.Route.{Answer, none, route, View, unheard, heard}
 use Rattle.route.proofs.Tests.{and-both, and-fst, and-snd, lt-or-le, eq-or-ne}
-use Rattle.search.specs.Views.{viewOf}
+use Rattle.route.specs.Views.{viewOf}
 use Rattle.planner.specs.Records.{recordOf}
 use Rattle.planner.proofs.ViewLaws.{Whole}
 use Rattle.reference.specs.Bounds.{ShownOf}

@@ -5,7 +5,7 @@ use lib.Dec.{eqb}
 use lib.ListN.{getD}
 use Rattle.memory.specs.Memory.{part}
 use Rattle.route.specs.Route.{Answer, none, View, unheard, heard}
-use Rattle.search.specs.Views.{viewOf}
+use Rattle.route.specs.Views.{viewOf}
 use Rattle.reference.specs.State.{State}
 use Rattle.layout.specs.Places.{plannedPlace, duePlace, answerPlace, viewPlace, channelPlace}
 

@@ -14,7 +14,7 @@ use Rattle.route.specs.Route.{View}
 use Rattle.route.specs.Search.{best}
 use Rattle.route.proofs.Theorems.{theorems}
 use Rattle.search.specs.Task.{taskOfRows}
-use Rattle.search.specs.Views.{viewOf, viewAt, records, viewsOf}
+use Rattle.route.specs.Views.{viewOf, viewAt, records, viewsOf}
 use Rattle.planner.specs.Plan.{respondWith}
 use Rattle.reference.specs.Ranges.{below}
 use Rattle.layout.specs.Places.{viewPlace}

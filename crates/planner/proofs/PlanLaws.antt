@@ -12,7 +12,7 @@ use Rattle.route.specs.Route.{Answer, none, route, View, heard, Task}
 use Rattle.route.specs.Search.{best}
 use Rattle.route.specs.Sequential.{sequential}
 use Rattle.route.proofs.Theorems.{theorems}
-use Rattle.search.specs.Views.{viewsOf, records}
+use Rattle.route.specs.Views.{viewsOf, records}
 use Rattle.search.specs.Task.{taskOfRows}
 use Rattle.memory.specs.Memory.{put}
 use Rattle.memory.proofs.PutLaws.{put-none, put-length, put-next}

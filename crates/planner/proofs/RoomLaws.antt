@@ -8,9 +8,10 @@ use lib.Seq.{getD-take, length-take-le}
 use Rattle.floor.specs.declared.Floor.{Floor}
 use Rattle.memory.specs.Memory.{put}
 use Rattle.search.specs.Rows.{Searchable}
-use Rattle.search.specs.Table.{sceneOf, Roomy}
-use Rattle.search.proofs.GridLaws.{grid-room}
-use Rattle.search.proofs.RoomLaws.{roomy-same}
+use Rattle.tables.specs.Table.{sceneOf}
+use Rattle.tables.specs.Room.{Roomy}
+use Rattle.tables.proofs.GridLaws.{grid-room}
+use Rattle.tables.proofs.RoomLaws.{roomy-same}
 
 -- What stands in front of a part that is stored is as it was.
 put-front : (m b : List ℕ) (at j : ℕ) → at ≤ length m → j < at → getD (put m at b) j 0 ≡ getD m j 0

@@ -9,7 +9,7 @@ use lib.ListN.{length, take, drop, length-append, replicate}
 use lib.Seq.{getD-at, drop-at, take-at, append-snoc}
 use Rattle.route.specs.Route.{Answer, none, route, View, heard}
 use Rattle.route.specs.Sequential.{sequential}
-use Rattle.search.specs.Views.{viewOf, viewAt, records}
+use Rattle.route.specs.Views.{viewOf, viewAt, records}
 use Rattle.planner.specs.Records.{recordOf, recordsOf}
 
 -- An answer whose record is whole.

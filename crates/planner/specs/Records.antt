@@ -10,7 +10,7 @@ use Rattle.floor.specs.Verdict.{Verdict, passed, refused}
 use Rattle.route.specs.Route.{Answer, none, route}
 use Rattle.search.specs.declared.Outcome.{Outcome}
 use Rattle.search.specs.declared.Outcome.the-variants.{Route, None, Refused}
-use Rattle.search.specs.Views.{viewsOf}
+use Rattle.route.specs.Views.{viewsOf}
 use Rattle.planner.specs.Plan.{respondWith, planOf, planVerdict}
 
 -- The record of an answer.

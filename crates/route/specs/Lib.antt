@@ -1,5 +1,6 @@
--- In reading order: the nouns, the relations, the function `best`, the sequential planner, what the code computes, the claims.
+-- In reading order: the nouns, views in memory, the relations, the function `best`, the sequential planner, what the code computes, the claims.
 pub mod Route
+pub mod Views
 pub mod Conflict
 pub mod Best
 pub mod Moves

@@ -10,7 +10,7 @@ use Rattle.floor.specs.Checks.{clearOfWalls, clearOf, unshared, distinctOf, pla
 use Rattle.route.specs.Route.{cellAt, none, route}
 use Rattle.route.specs.Moves.{neighbours, near, vacant, passable, every, standable, allowed, startClear}
 use Rattle.route.specs.Search.{cost, cheaper, cheapest, beatsFrom, val, walk, walkFrom, best}
-use Rattle.search.specs.Views.{viewOf, viewAt, records, viewsOf}
+use Rattle.route.specs.Views.{viewOf, viewAt, records, viewsOf}
 use Rattle.search.specs.Task.{taskOf}
 use Rattle.search.specs.Answers.{answered, turned, answeredIf}
 use Rattle.search.specs.Search.{requestOf, searchOf}

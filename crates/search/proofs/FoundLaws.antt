@@ -18,18 +18,21 @@ use Rattle.route.proofs.Sets.{Sets, Reaches, Greedy}
 use Rattle.route.proofs.SetsBest.{Found, found-best, not-found-best, start-taken-best}
 use Rattle.words.specs.Rows.{filled}
 use Rattle.words.proofs.FillLaws.{length-filled, filled-in, filled-out, zeros-row}
-use Rattle.search.specs.declared.Scene.{Scene}
-use Rattle.search.specs.declared.window.Window.{Window}
-use Rattle.search.specs.Views.{records}
-use Rattle.search.specs.Ways.{wayOpen}
-use Rattle.search.specs.Table.{inSet, Fitting, WindowOf, Laid, Advanced, Traced}
-use Rattle.search.specs.Passes.{lastNot, Earliest, arrivable, leadsOf, nextOf, pathOf}
-use Rattle.search.proofs.WayLaws.{way-backward}
-use Rattle.search.proofs.NextLaws.{step-before, step-after, next-inside}
-use Rattle.search.proofs.NextBest.{Taken, next-best}
+use Rattle.tables.specs.declared.Scene.{Scene}
+use Rattle.tables.specs.declared.window.Window.{Window}
+use Rattle.route.specs.Views.{records}
+use Rattle.tables.specs.Ways.{wayOpen}
+use Rattle.tables.specs.Table.{inSet}
+use Rattle.tables.specs.Windowed.{Fitting, WindowOf}
+use Rattle.passes.specs.Passes.{Laid, Advanced, Traced}
+use Rattle.passes.specs.Passes.{lastNot, Earliest, arrivable}
+use Rattle.passes.specs.Walk.{leadsOf, nextOf, pathOf}
+use Rattle.tables.proofs.WayLaws.{way-backward}
+use Rattle.passes.proofs.NextLaws.{step-before, step-after, next-inside}
+use Rattle.passes.proofs.NextBest.{Taken, next-best}
 use Rattle.search.proofs.NarrowLaws.{reach, back, reach-begins, reach-forward, back-backward, Passed, Wide, Kept, passed-goal}
 use Rattle.search.proofs.NarrowLaws.{kept-greedy}
-use Rattle.search.proofs.WindowLaws.{apart, reach-apart}
+use Rattle.search.proofs.ApartLaws.{apart, reach-apart}
 use Rattle.search.proofs.PassLaws.{Setting, taskIn, ruleIn, allowed-near, allowed-passes, allowed-makes, allowed-cell, room-is}
 use Rattle.search.proofs.PassLaws.{hold-holds, holds-hold, laid-wide, made-passed, traced-stands, traced-kept}
 

@@ -17,18 +17,23 @@ use Rattle.route.proofs.Tests.{and-both, and-fst, and-snd}
 use Rattle.route.proofs.Sets.{Sets, Reached, Leading, Holds}
 use Rattle.words.specs.Rows.{has}
 use Rattle.words.proofs.RowsLaws.{place-row}
-use Rattle.search.specs.declared.Scene.{Scene}
-use Rattle.search.specs.declared.window.Window.{Window}
-use Rattle.search.specs.Views.{records}
-use Rattle.search.specs.Table.{inSet, standsAt, Roomy, Entered, firstAt, Inside, Fitting, WindowOf, Laid, Advanced, Traced}
-use Rattle.search.specs.Passes.{lastNot}
-use Rattle.search.proofs.SetLaws.{set-cell}
-use Rattle.search.proofs.WayLaws.{way-forward, way-backward, way-clear}
-use Rattle.search.proofs.HoldLaws.{last-says, last-least}
-use Rattle.search.proofs.GridLaws.{cell-small}
-use Rattle.search.proofs.MemberLaws.{near-same, near-turn}
+use Rattle.tables.specs.declared.Scene.{Scene}
+use Rattle.tables.specs.declared.window.Window.{Window}
+use Rattle.route.specs.Views.{records}
+use Rattle.tables.specs.Table.{inSet}
+use Rattle.tables.specs.Room.{standsAt, Roomy}
+use Rattle.tables.specs.Windowed.{firstAt, Inside, Fitting, WindowOf}
+use Rattle.passes.specs.Steps.{Entered}
+use Rattle.passes.specs.Passes.{Laid, Advanced, Traced}
+use Rattle.passes.specs.Passes.{lastNot}
+use Rattle.tables.proofs.SetLaws.{set-cell}
+use Rattle.tables.proofs.WayLaws.{way-forward, way-backward, way-clear}
+use Rattle.passes.proofs.HoldLaws.{last-says, last-least}
+use Rattle.tables.proofs.GridLaws.{cell-small}
+use Rattle.passes.proofs.MemberLaws.{near-same, near-turn}
 use Rattle.search.proofs.NarrowLaws.{reach, back, reach-says, Passed, Wide, Kept}
-use Rattle.search.proofs.WindowLaws.{window-holds, apart, reach-apart, back-apart}
+use Rattle.tables.proofs.WindowLaws.{window-holds}
+use Rattle.search.proofs.ApartLaws.{apart, reach-apart, back-apart}
 
 -- The task of a search in a scene with rows of free cells.
 abbrev pub taskIn : Scene → List ℕ → ℕ → ℕ → Task

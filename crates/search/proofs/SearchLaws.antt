@@ -11,16 +11,21 @@ use Rattle.route.specs.Route.{none, route}
 use Rattle.route.specs.Search.{best}
 use Rattle.words.specs.Rows.{filled, Clean}
 use Rattle.words.proofs.RowsLaws.{place-row}
-use Rattle.search.specs.declared.Scene.{Scene}
-use Rattle.search.specs.declared.window.Window.{Window}
-use Rattle.search.specs.Views.{records, viewsOf}
+use Rattle.tables.specs.declared.Scene.{Scene}
+use Rattle.tables.specs.declared.window.Window.{Window}
+use Rattle.route.specs.Views.{records, viewsOf}
 use Rattle.search.specs.Task.{taskOfRows}
 use Rattle.search.specs.Rows.{Searchable}
-use Rattle.search.specs.Window.{gap}
-use Rattle.search.specs.Table.{sceneOf, inSet, firstAt, Inside, Fits, Roomy, Fitting, WindowOf, Windowed, Traced}
-use Rattle.search.specs.Passes.{lastNot, Earliest, arrivable, pathOf}
-use Rattle.search.proofs.GridLaws.{grid-room, grid-small}
-use Rattle.search.proofs.WindowLaws.{apart, gap-same, window-holds}
+use Rattle.tables.specs.Window.{gap}
+use Rattle.tables.specs.Table.{sceneOf, inSet, Fits}
+use Rattle.tables.specs.Room.{Roomy}
+use Rattle.tables.specs.Windowed.{firstAt, Inside, Fitting, WindowOf, Windowed}
+use Rattle.passes.specs.Passes.{Traced}
+use Rattle.passes.specs.Passes.{lastNot, Earliest, arrivable}
+use Rattle.passes.specs.Walk.{pathOf}
+use Rattle.tables.proofs.GridLaws.{grid-room, grid-small}
+use Rattle.tables.proofs.WindowLaws.{gap-same, window-holds}
+use Rattle.search.proofs.ApartLaws.{apart}
 use Rattle.search.proofs.PassLaws.{Setting, taskIn}
 use Rattle.search.proofs.FoundLaws.{Made, arrivable-inside, shut-none, far-none, never-none, route-best}
 

@@ -1,21 +1,20 @@
 // The best route of a carrier against the answers above it (document 01, 'Routes'): a bit-parallel search, a word a row.
 mod ground;
-mod mend;
-mod narrow;
-mod next;
-mod passes;
-mod room;
-mod table;
-mod views;
-mod walk;
-mod window;
 
 use floor::Checked;
 use floor::Floor;
 use floor::Refusal;
 pub use ground::free_rows;
+use passes::backward;
+use passes::forward;
+use passes::walk;
 use route::Route;
-use window::Window;
+use tables::Scene;
+use tables::room;
+use tables::scene_of;
+use tables::table;
+use tables::window;
+use tables::window::Window;
 ghost use mathlib.Core.Path.{_≡_};
 ghost use Prim.Native.Nat.{ℕ, _+_, _-_, _*_, _≤_, _<_};
 ghost use lib.ListN.{length, replicate};
@@ -28,11 +27,14 @@ ghost use Rattle.route.specs.Route.{none as Route·none, route as Route·route}
 ghost use Rattle.route.specs.Search.{best};
 ghost use Rattle.search.specs.Answers.{answered, turned, Says};
 ghost use Rattle.words.specs.Rows.{filled, Clean};
-ghost use Rattle.search.specs.Table.{sceneOf, Fits, Fitting, Roomy, Tidy, Windowed, Traced, inSet};
-ghost use Rattle.search.specs.Passes.{pathOf};
+ghost use Rattle.tables.specs.Table.{sceneOf, Fits, Tidy, inSet};
+ghost use Rattle.tables.specs.Room.{Roomy};
+ghost use Rattle.tables.specs.Windowed.{Fitting, Windowed};
+ghost use Rattle.passes.specs.Passes.{Traced};
+ghost use Rattle.passes.specs.Walk.{pathOf};
 ghost use Rattle.search.specs.Search.{requestOf, searchOf};
 ghost use Rattle.search.specs.Task.{taskOfRows};
-ghost use Rattle.search.specs.Views.{viewsOf};
+ghost use Rattle.route.specs.Views.{viewsOf};
 ghost use Rattle.search.specs.Rows.{Searchable};
 
 // What a search finds.
@@ -71,28 +73,6 @@ fn refused(x: Refusal) -> Found
     }
 }
 
-// What the parts of a search share: the grid with the scale of its width, and the horizon.
-pub struct Scene {
-    pub width: usize,
-    pub scale: usize,
-    pub cells: usize,
-    pub horizon: usize,
-}
-
-// The scene of a floor.
-fn scene_of(f: Floor) -> Scene
-    requires { ⌜ (1 ≤ f .width) × (f .width ≤ 32) × (f .height ≤ 32) ⌝ }
-    ensures { λ r. ⌜ r ≡ sceneOf f ⌝ }
-{
-    let w = f.width as usize;
-    Scene {
-        width: w,
-        scale: words::scale(w),
-        cells: w * f.height as usize,
-        horizon: f.horizon as usize,
-    }
-}
-
 // The route to the goal with its least arrival a, along a table of the sets that the start reaches.
 fn along(
     g: Scene,
@@ -110,7 +90,7 @@ fn along(
     requires { ⌜ Windowed g v (now sets) × (inSet g (now sets) a goal ≡ true) ⌝ }
     ensures { λ r. ⌜ ((q : List ℕ) × Traced g k v (now (views .entry)) (now (sets .entry)) goal a a q × Says r (answered (Route·route (filled (replicate 64 0) (pathOf g k (now (views .entry)) q start goal a) (g .horizon + 1))))) ⌝ }
 {
-    passes::leading(g, k, v, sets, room, views, goal, a);
+    backward::leading(g, k, v, sets, room, views, goal, a);
     Found {
         outcome: Outcome::Route,
         route: walk::walk(g, k, sets, room, views, start, goal, a),
@@ -134,11 +114,11 @@ pub fn route_in(f: Floor, free: [u32; 32], room: &[u32], carrier: u16, views: &[
     if g.horizon < far {
         return none();
     }
-    let hold = passes::hold_from(g, room, goal);
+    let hold = forward::hold_from(g, room, goal);
     let near = window::near_limit(g, far, hold);
     let v = window::around(g, start, goal, near);
     let mut sets = table::empty();
-    let a = passes::reach(g, k, v, &mut sets, room, views, start, goal, hold);
+    let a = forward::reach(g, k, v, &mut sets, room, views, start, goal, hold);
     if a <= near {
         return along(g, k, v, &mut sets, room, views, start, goal, a);
     }
@@ -147,7 +127,7 @@ pub fn route_in(f: Floor, free: [u32; 32], room: &[u32], carrier: u16, views: &[
     }
     let all = window::around(g, start, goal, g.horizon);
     sets = table::empty();
-    let b = passes::reach(g, k, all, &mut sets, room, views, start, goal, hold);
+    let b = forward::reach(g, k, all, &mut sets, room, views, start, goal, hold);
     if g.horizon < b {
         return none();
     }

@@ -8,7 +8,8 @@ use borrow.Author.Needs.{needs}
 use lib.ListN.{length, length-replicate}
 use lib.Seq.{length-take-le}
 use Rattle.route.specs.Sequential.{sequential}
-use Rattle.search.specs.Table.{sceneOf, Roomy}
+use Rattle.tables.specs.Table.{sceneOf}
+use Rattle.tables.specs.Room.{Roomy}
 use Rattle.planner.specs.Plan.{respondWith}
 use Rattle.planner.specs.Records.{answered, stored}
 use Rattle.planner.proofs.PlanLaws.{plan-start, plan-more, plan-keeps, plan-end}

@@ -1,9 +1,9 @@
 -- `search::fill_room` meets its contract: the free cells at every beat are the room of no views. Assumes nothing.
 use native.Mathlib.Omega.{arith}
 use borrow.Author.Needs.{needs}
-use Rattle.search.specs.Table.{sceneOf}
-use Rattle.search.proofs.GridLaws.{grid-room}
-use Rattle.search.proofs.RoomLaws.{free-roomy}
+use Rattle.tables.specs.Table.{sceneOf}
+use Rattle.tables.proofs.GridLaws.{grid-room}
+use Rattle.tables.proofs.RoomLaws.{free-roomy}
 use Rattle.search.proofs.fill_room.Statement.{statement}
 use Rattle.search.proofs.fill_room.Tie as tie
 

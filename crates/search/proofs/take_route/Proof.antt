@@ -1,7 +1,7 @@
 -- `search::take_route` meets its contract: the room of one more view in the scene of the floor. Assumes nothing.
 use mathlib.Core.Path.{refl}
-use Rattle.search.specs.Table.{sceneOf}
-use Rattle.search.proofs.GridLaws.{grid-room}
+use Rattle.tables.specs.Table.{sceneOf}
+use Rattle.tables.proofs.GridLaws.{grid-room}
 use Rattle.search.proofs.take_route.Statement.{statement}
 use Rattle.search.proofs.take_route.Tie as tie
 

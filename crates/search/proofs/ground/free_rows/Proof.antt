@@ -2,7 +2,7 @@
 use native.Mathlib.Omega.{arith}
 use borrow.Author.Needs.{needs}
 use Rattle.search.proofs.RowsFree.{free-rows-made}
-use Rattle.search.proofs.GridLaws.{grid-room, grid-small}
+use Rattle.tables.proofs.GridLaws.{grid-room, grid-small}
 use Rattle.search.proofs.ground.free_rows.Statement.{statement}
 use Rattle.search.proofs.ground.free_rows.Tie as tie
 

@@ -7,7 +7,7 @@ use borrow.Author.Needs.{needs}
 use lib.ListN.{length}
 use Rattle.words.proofs.RowsLaws.{length-marked}
 use Rattle.search.specs.Rows.{wallRows}
-use Rattle.search.proofs.TurnLaws.{walls-none, walls-more}
+use Rattle.search.proofs.GroundLaws.{walls-none, walls-more}
 use Rattle.search.proofs.ground.wall_rows.Statement.{statement}
 use Rattle.search.proofs.ground.wall_rows.Tie as tie
 

@@ -1,0 +1,122 @@
+-- Rows and columns of the cells beside a cell, and ways that the room shows to be open.
+use Prim.Native.Nat.{ℕ, zero, suc, _+_, _*_, _-_, _/_, _%_, _≤_, _<_}
+use native.Mathlib.Omega.{arith}
+use native.Mathlib.Nat.{mod-lt, div-add-mod', add-div-right, add-mod-right}
+use mathlib.Core.Bool.{Bool, true, false, _&&_, not}
+use mathlib.Core.List.{List}
+use mathlib.Core.Path.{_≡_, refl, sym, _∙_}
+use lib.Dec.{ltb, eqb}
+use Rattle.route.specs.Moves.{vacant, every}
+use Rattle.route.proofs.Tests.{and-snd}
+use Rattle.words.specs.Rows.{has}
+use Rattle.words.proofs.RowsLaws.{place-same}
+use Rattle.tables.specs.declared.Scene.{Scene}
+use Rattle.route.specs.Views.{records}
+use Rattle.tables.specs.Ways.{spotOf, wayOpen}
+use Rattle.tables.specs.Table.{Fits, Tidy, inSet}
+use Rattle.tables.specs.Room.{Roomy, standsAt}
+use Rattle.tables.proofs.GridLaws.{cell-small}
+use Rattle.tables.proofs.PlaceLaws.{place-column}
+use Rattle.tables.proofs.SetLaws.{set-holds}
+use Rattle.tables.proofs.WayLaws.{way-clear, and-swap}
+
+module _ (w d : ℕ) (thin : 0 < w) where
+  of-d : d / w * w + d % w ≡ d
+  of-d = div-add-mod' d w
+
+  pub at-up : w ≤ d → ((d - w) / w + 1 ≡ d / w) × ((d - w) % w ≡ d % w)
+  at-up h = (sym (rw back at (add-div-right (d - w) thin)), sym (rw back at (add-mod-right (d - w) w)))
+    where
+      back : d - w + w ≡ d
+      back = omega arith
+
+  pub at-left : 0 < d % w → ((d - 1) / w ≡ d / w) × ((d - 1) % w ≡ d % w - 1)
+  at-left h = place-same w (d - 1) (d / w) (d % w - 1) (omega (arith, mod-lt d thin)) (omega (arith, of-d))
+
+  pub at-right : d % w + 1 < w → ((d + 1) / w ≡ d / w) × ((d + 1) % w ≡ d % w + 1)
+  at-right h = place-same w (d + 1) (d / w) (d % w + 1) h (omega (arith, of-d))
+
+  pub at-down : ((d + w) / w ≡ d / w + 1) × ((d + w) % w ≡ d % w)
+  at-down = (add-div-right d thin, add-mod-right d w)
+
+-- A digit of a tidy table is a cell.
+pub tidy-set : (g : Scene) (s : List ℕ) → Tidy g s → (t c : ℕ) → c / g .width < 35 →
+    has s (t * 36 + 1 + c / g .width) (c % g .width) ≡ true → inSet g s t c ≡ true
+tidy-set g s tidy t c h e = set-holds g s t c (rw (div-add-mod' c (g .width)) at (tidy .rows t (c / g .width) (c % g .width) h e)) e
+
+-- A digit that is 0 is no cell.
+pub set-not : (g : Scene) (s : List ℕ) (t c : ℕ) → has s (t * 36 + 1 + c / g .width) (c % g .width) ≡ false → inSet g s t c ≡ false
+unfolding inSet
+set-not g s t c e = rw e (no (ltb c (g .cells)))
+  where
+    no : (b : Bool) → (b && false) ≡ false
+    no true = refl
+    no false = refl
+
+pub not-not : (b : Bool) → not (not b) ≡ b
+not-not true = refl
+not-not false = refl
+
+-- A way is open exactly if it is for the step back.
+pub way-swap : (m : List ℕ) (a b c d k : ℕ) → wayOpen m a b c d k ≡ wayOpen m b a d c k
+unfolding wayOpen
+way-swap m a b c d zero = refl
+way-swap m a b c d (suc k) = rw (way-swap m a b c d k, and-swap (eqb c (spotOf m k b)) (eqb d (spotOf m k a)))
+
+module _ (g : Scene) (k : ℕ) (free m room : List ℕ) (fits : Fits g k m) (roomy : Roomy g k free m room) where
+  -- Where the room has a cell no view is.
+  pub room-vacant : (t c : ℕ) → t ≤ g .horizon → inSet g room t c ≡ true → every (vacant t c) (records m k) ≡ true
+  unfolding standsAt
+  room-vacant t c h e =
+      and-snd (ltb c (g .cells) && has free (c / g .width) (c % g .width)) (every (vacant t c) (records m k)) (sym (roomy .agrees t c h) ∙ e)
+
+  small : (c : ℕ) → c < g .cells → c < 65535
+  small c h = cell-small (g .width) (g .cells) c (fits .narrow) (fits .room) h
+
+  -- Every way to a cell that is in the room at beat a is open, and every way from a cell that is in the room at beat b.
+  pub way-to : (a b e d : ℕ) → a ≤ g .horizon → d < g .cells → inSet g room a d ≡ true → wayOpen m a b e d k ≡ true
+  way-to a b e d h l i =
+      way-swap m a b e d k ∙ way-clear m b a d e k (omega (arith, fits .short)) (small d l) (room-vacant a d h i)
+
+  pub way-from : (a b c d : ℕ) → b ≤ g .horizon → c < g .cells → inSet g room b c ≡ true → wayOpen m a b c d k ≡ true
+  way-from a b c d h l i = way-clear m a b c d k (omega (arith, fits .short)) (small c l) (room-vacant b c h i)
+
+-- Where the cells beside d stand in a table, d standing in row r from row a * 36 + 1 on.
+module _ (w d a r : ℕ) (thin : 0 < w) (low : d / w < 32) (row : r ≡ d / w) (whole : r * w + d % w ≡ d) where
+  column : d - r * w ≡ d % w
+  column = place-column w d r whole
+
+  pub lead-up : (x : ℕ) → x ≡ d - w → w ≤ d → (x / w < 35) × (a * 36 + 1 + r - 1 ≡ a * 36 + 1 + x / w) × (d - r * w ≡ x % w)
+  lead-up x e h =
+      let p : ((d - w) / w + 1 ≡ d / w) × ((d - w) % w ≡ d % w) = at-up w d thin h in
+      rw e (omega (arith, p .0, low), omega (arith, p .0, row), column ∙ sym (p .1))
+
+  pub lead-left : (x y : ℕ) → x ≡ d - 1 → y ≡ d - r * w - 1 → 0 < d - r * w →
+      (x / w < 35) × (a * 36 + 1 + r ≡ a * 36 + 1 + x / w) × (y ≡ x % w)
+  lead-left x y e q h =
+      let p : ((d - 1) / w ≡ d / w) × ((d - 1) % w ≡ d % w - 1) = at-left w d thin (rw column at h) in
+      rw (e, q) (omega (arith, p .0, low), omega (arith, p .0, row), rw column (sym (p .1)))
+
+  pub lead-here : (d / w < 35) × (a * 36 + 1 + r ≡ a * 36 + 1 + d / w) × (d - r * w ≡ d % w)
+  lead-here = (omega (arith, low), omega (arith, row), column)
+
+  pub lead-right : d - r * w + 1 < w → ((d + 1) / w < 35) × (a * 36 + 1 + r ≡ a * 36 + 1 + (d + 1) / w) × (d - r * w + 1 ≡ (d + 1) % w)
+  lead-right h =
+      let p : ((d + 1) / w ≡ d / w) × ((d + 1) % w ≡ d % w + 1) = at-right w d thin (rw column at h) in
+      (omega (arith, p .0, low), omega (arith, p .0, row), rw column (sym (p .1)))
+
+  pub lead-down : ((d + w) / w < 35) × (a * 36 + 1 + r + 1 ≡ a * 36 + 1 + (d + w) / w) × (d - r * w ≡ (d + w) % w)
+  lead-down =
+      let p : ((d + w) / w ≡ d / w + 1) × ((d + w) % w ≡ d % w) = at-down w d thin in
+      (omega (arith, p .0, low), omega (arith, p .0, row), column ∙ sym (p .1))
+
+-- A digit of the room at beat a says that every way to its cell is open.
+pub clear-way : (g : Scene) (k : ℕ) (free m room : List ℕ) → Fits g k m → Roomy g k free m room → (a b d r : ℕ) → a ≤ g .horizon →
+    d < g .cells → d / g .width < 32 → r ≡ d / g .width → r * g .width + d % g .width ≡ d → (x : Bool) →
+    x ≡ has room (a * 36 + 1 + r) (d - r * g .width) → x ≡ true → (e : ℕ) → wayOpen m a b e d k ≡ true
+clear-way g k free m room fits roomy a b d r early inside low row whole x h t e =
+    way-to g k free m room fits roomy a b e d early inside
+    (tidy-set g room (roomy .tidy) a d (omega (arith, low)) (rw (column, row) at (sym h ∙ t)))
+  where
+    column : d - r * g .width ≡ d % g .width
+    column = place-column (g .width) d r whole

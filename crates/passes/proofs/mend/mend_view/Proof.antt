@@ -1,0 +1,61 @@
+-- `passes::mend::mend_view` meets its contract. A number that is no cell, or a cell that is not in the set, is not in the set after it;
+-- else the cell is mended. Assumes nothing.
+use native.Mathlib.Omega.{arith}
+use mathlib.Core.Path.{refl, sym, _∙_}
+use borrow.Author.Tests.{not-true}
+use borrow.Author.Needs.{needs}
+use Rattle.route.proofs.Tests.{true-false-absurd}
+use Rattle.tables.proofs.SetLaws.{set-cell}
+use Rattle.passes.proofs.MendLaws.{mended-same}
+use Rattle.passes.proofs.mend.mend_view.Statement.{statement}
+use Rattle.passes.proofs.mend.mend_view.Tie as tie
+
+spot-requires : tie.Need-spot-requires
+spot-requires c κs = (omega (arith, c .before .before .before .pre .0 .0 .lent, c .before .before .before .pre .0 .4), omega (arith, c .before .before .before .pre .0 .1, c .before .before .before .pre .0 .0 .short))
+
+returns : tie.Need-returns
+returns c =
+    let c₄ = c .before .before .before .before in
+    mended-same _ _ _ _ _ _ _ (c₄ .before .before .pre .1 .1) (λ i. absurd (omega (arith, set-cell _ _ _ _ i, c .if1 .taken, c .before .before .spot .ensures .0)))
+
+member-requires : tie.Need-member-requires
+member-requires c κs =
+    let c₄ = c .before .before .before .before in
+    ((c₄ .before .before .before .pre .0 .0 .thin, c₄ .before .before .before .pre .0 .0 .narrow, c₄ .before .before .before .pre .0 .0 .room, c₄ .before .before .before .pre .0 .0 .scaled), (c₄ .before .before .before .pre .1 .1 .long, omega (arith, c₄ .before .before .before .pre .0 .2, c₄ .before .before .before .pre .0 .0 .short), c .before .if1 .left))
+
+same-length : tie.Need-same-length
+same-length c = refl
+
+returns-2 : tie.Need-returns-2
+returns-2 c =
+    let c₄ = c .before .before .before .before in
+    let c₈ = c₄ .before .before .before .before in
+    mended-same _ _ _ _ _ _ _ (c₈ .before .pre .1 .1) (λ i. true-false-absurd (rw (← c₄ .before .spot .ensures .0) at i) (sym (c .before .member .ensures) ∙ not-true _ (c .if2 .taken)))
+
+mend-cell-requires : tie.Need-mend-cell-requires
+mend-cell-requires c κs =
+    let c₄ = c .before .before .before .before in
+    let c₈ = c₄ .before .before .before .before in
+    ((c₈ .before .before .pre .0 .0, c₈ .before .before .pre .0 .1, c₈ .before .before .pre .0 .2, c₈ .before .before .pre .0 .3, c₄ .if1 .left), (c₈ .before .before .pre .1 .0, c₈ .before .before .pre .1 .1))
+
+same-length-2 : tie.Need-same-length-2
+same-length-2 c = search needs
+
+returns-3 : tie.Need-returns-3
+returns-3 c =
+    let c₄ = c .before .before .before .before in
+    let c₈ = c₄ .before .before .before .before in
+    rw (c₈ .before .spot .ensures .0) at (c .before .before .mend-cell .ensures)
+
+pub mend-view-spec : {M : Type 1} → statement M
+mend-view-spec =
+    tie.close
+    (tie.spec
+    spot-requires
+    returns
+    member-requires
+    same-length
+    returns-2
+    mend-cell-requires
+    same-length-2
+    returns-3)

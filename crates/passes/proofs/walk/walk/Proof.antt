@@ -1,0 +1,91 @@
+-- `passes::walk::walk` meets its contract. The loop's invariant: `c` is the cell of the path at the beat, and the route has the cells
+-- passed. The measure is what is left of the beats. Assumes nothing.
+use Prim.Native.Nat.{_+_, _-_, _≤_, _<_}
+use native.Mathlib.Omega.{arith}
+use mathlib.Core.Path.{_≡_}
+use borrow.Author.Needs.{needs}
+use lib.ListN.{replicate}
+use Rattle.words.specs.Rows.{filled}
+use Rattle.words.proofs.FillLaws.{filled-none, filled-more}
+use Rattle.passes.specs.Walk.{pathOf}
+use Rattle.passes.proofs.TurnLaws.{path-none, path-more}
+use Rattle.passes.proofs.walk.walk.Statement.{statement}
+use Rattle.passes.proofs.walk.walk.Tie as tie
+
+abbrev Inv-loop : tie.InvT-loop
+Inv-loop g k sets room views start goal a r₀ c₀ t₀ r c t = (t ≤ g .horizon) × (c < g .cells) × (c ≡ pathOf g k views sets start goal a t) × (r ≡ filled (replicate 64 0) (pathOf g k views sets start goal a) (t + 1))
+
+abbrev μ-loop : tie.MeasureT-loop
+μ-loop g k sets room views start goal a r₀ c₀ t₀ r c t = g .horizon - t
+
+cast-r : tie.Need-cast-r Inv-loop μ-loop
+cast-r c =
+    let f = c .before .before .before .pre .0 .0 in
+    omega (arith, f .room, f .narrow, c .before .before .before .pre .0 .2)
+
+array-write-r : tie.Need-array-write-r Inv-loop μ-loop
+array-write-r c = search needs
+
+loop-holds : tie.Need-loop-holds Inv-loop μ-loop
+loop-holds c = (search needs, c .before .before .before .pre .0 .2, path-none _ _ _ _ _ _ _, filled-more _ _ 0 _ _ (filled-none _ _) (path-none _ _ _ _ _ _ _))
+
+follow-requires : tie.Need-follow-requires Inv-loop μ-loop
+follow-requires c κs =
+    let c₄ = c .before .before .before .before in
+    ((c₄ .before .before .pre .0 .0, c₄ .before .before .pre .0 .1, c .if1 .taken, c .before .before .loop .inv .1, c₄ .before .before .pre .0 .3), c₄ .before .before .pre .1)
+
+add-t : tie.Need-add-t Inv-loop μ-loop
+add-t c =
+    let c₄ = c .before .before .before .before in
+    let f = c₄ .before .before .before .pre .0 .0 in
+    omega (arith, f .short, c .before .if1 .taken)
+
+cast-r-2 : tie.Need-cast-r-2 Inv-loop μ-loop
+cast-r-2 c =
+    let c₄ = c .before .before .before .before in
+    let f = c₄ .before .before .before .pre .0 .0 in
+    omega (arith, f .room, f .narrow, c .follow .ensures .1)
+
+mul-r : tie.Need-mul-r Inv-loop μ-loop
+mul-r c =
+    let c₄ = c .before .before .before .before in
+    let f = c₄ .before .before .before .pre .0 .0 in
+    omega (arith, f .short, c .before .if1 .taken)
+
+array-write-r-2 : tie.Need-array-write-r-2 Inv-loop μ-loop
+array-write-r-2 c =
+    let c₄ = c .before .before .before .before in
+    let f = c₄ .before .before .before .pre .0 .0 in
+    omega (arith, f .short, c .before .if1 .taken)
+
+loop-less : tie.Need-loop-less Inv-loop μ-loop
+loop-less c = omega (arith, c .before .if1 .taken)
+
+loop-again : tie.Need-loop-again Inv-loop μ-loop
+loop-again c =
+    let e = path-more _ _ _ _ _ _ _ _ _ _ (c .before .before .before .loop .inv .2) (c .follow .ensures .0) in
+    (omega (arith, c .before .if1 .taken), c .follow .ensures .1, e, filled-more _ _ _ _ _ (c .before .before .before .loop .inv .3) e)
+
+returns : tie.Need-returns Inv-loop μ-loop
+returns c =
+    let c₄ = c .before .before .before .before in
+    let e : c .before .before .loop .t ≡ c₄ .before .before .args .g .horizon = omega (arith, c .before .before .loop .inv .0, c .if1 .left) in
+    rw e at (c .before .before .loop .inv .3)
+
+pub walk-spec : {M : Type 1} → statement M
+walk-spec =
+    tie.close
+    (tie.spec
+    Inv-loop
+    μ-loop
+    cast-r
+    array-write-r
+    loop-holds
+    follow-requires
+    add-t
+    cast-r-2
+    mul-r
+    array-write-r-2
+    loop-less
+    loop-again
+    returns)

@@ -1,0 +1,55 @@
+// The backward pass over a table: from the goal at its arrival to the cells that lead there.
+ghost use mathlib.Core.Path.{_≡_};
+ghost use mathlib.Core.Bool.{true};
+ghost use mathlib.Core.List.{List};
+ghost use Prim.Native.Nat.{ℕ, _+_, _*_, _/_, _≤_, _<_};
+ghost use Rattle.tables.specs.Table.{Fits, inSet};
+ghost use Rattle.tables.specs.Room.{Roomy};
+ghost use Rattle.tables.specs.Windowed.{Fitting, Windowed};
+ghost use Rattle.passes.specs.Passes.{Ended, Traced};
+use crate::mend::mend;
+use tables::Scene;
+use tables::narrow::narrow_rows;
+use tables::window::Window;
+use tables::window::first_row;
+
+// The set of beat a becomes the goal alone.
+fn end_at(g: Scene, v: Window, sets: &mut [u32], goal: usize, a: usize)
+    requires { ⌜ (1 ≤ g .width) × (g .width ≤ 32) × (g .cells ≤ 32 * g .width) × (g .scale ≡ 65536 / g .width + 1) ⌝ }
+    requires { ⌜ (goal < g .cells) × (a < 64) × Windowed g v (now sets) × (inSet g (now sets) a goal ≡ true) ⌝ }
+    ensures { λ r. ⌜ Ended g v (now (sets .entry)) goal a (now (sets .exit)) ⌝ }
+{
+    words::put_rows(sets, a * 36 + 1, [0u32; 32], 32);
+    let w = g.width;
+    let r = words::row_of(w, g.scale, goal);
+    words::add(sets, a * 36 + 1 + r, goal - r * w);
+}
+
+// The sets before beat a become what leads to the goal at beat a.
+pub fn leading(
+    g: Scene,
+    k: usize,
+    v: Window,
+    sets: &mut [u32],
+    room: &[u32],
+    views: &[u16],
+    goal: usize,
+    a: usize,
+)
+    requires { ⌜ Fits g k (now views) × Fitting g v × (goal < g .cells) × (a ≤ v .limit) ⌝ }
+    requires { ⌜ ((free : List ℕ) × Roomy g k free (now views) (now room)) ⌝ }
+    requires { ⌜ Windowed g v (now sets) × (inSet g (now sets) a goal ≡ true) ⌝ }
+    ensures { λ r. ⌜ Traced g k v (now (views .entry)) (now (sets .entry)) goal a a (now (sets .exit)) ⌝ }
+{
+    end_at(g, v, sets, goal, a);
+    let height = v.height;
+    let mut n: usize = 0;
+    while n < a {
+        let t = a - n;
+        n += 1;
+        let first = first_row(v, a - n);
+        if narrow_rows(sets, room, t * 36 + first, (a - n) * 36 + first, height) {
+            mend(g, k, sets, room, views, t, a - n);
+        }
+    }
+}

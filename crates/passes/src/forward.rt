@@ -1,0 +1,107 @@
+// The forward pass over a table: from the start to the least arrival that can be held.
+ghost use mathlib.Core.Path.{_≡_};
+ghost use mathlib.Core.List.{List};
+ghost use Prim.Native.Nat.{ℕ, _+_, _*_, _/_, _≤_, _<_};
+ghost use lib.ListN.{length, replicate};
+ghost use Rattle.tables.specs.Table.{Fits, inSet};
+ghost use Rattle.tables.specs.Room.{Roomy};
+ghost use Rattle.tables.specs.Windowed.{Fitting, Windowed, Inside};
+ghost use Rattle.passes.specs.Passes.{Laid, Advanced, lastNot, Earliest, arrivable};
+use crate::mend::mend;
+use tables::Scene;
+use tables::narrow::narrow_rows;
+use tables::table::lay;
+use tables::table::member;
+use tables::window::Window;
+use tables::window::first_row;
+
+// The last beat at which the goal is not in the room, from which on it can be held through the horizon; 0 where there is none.
+pub fn hold_from(g: Scene, room: &[u32], goal: usize) -> usize
+    requires { ⌜ (1 ≤ g .width) × (g .width ≤ 32) × (g .cells ≤ 32 * g .width) × (g .scale ≡ 65536 / g .width + 1) ⌝ }
+    requires { ⌜ (length (now room) ≡ 2304) × (g .horizon ≤ 63) × (goal < g .cells) ⌝ }
+    ensures { λ r. ⌜ (r ≡ lastNot (λ t. inSet g (now (room .entry)) t goal) (g .horizon)) × (r ≤ g .horizon) ⌝ }
+{
+    let mut n: usize = 0;
+    let mut from: usize = 0;
+    while n < g.horizon {
+        n += 1;
+        if !member(g, room, n, goal) {
+            from = n;
+        }
+    }
+    from
+}
+
+// Whether the goal is in the set of beat t, from beat hold on.
+fn arrives(g: Scene, sets: &[u32], goal: usize, hold: usize, t: usize) -> bool
+    requires { ⌜ (1 ≤ g .width) × (g .width ≤ 32) × (g .cells ≤ 32 * g .width) × (g .scale ≡ 65536 / g .width + 1) ⌝ }
+    requires { ⌜ (length (now sets) ≡ 2304) × (t < 64) × (goal < g .cells) ⌝ }
+    ensures { λ r. ⌜ r ≡ arrivable g (now (sets .entry)) goal hold t ⌝ }
+{
+    if t < hold {
+        return false;
+    }
+    member(g, sets, t, goal)
+}
+
+// The least arrival within the limit, or one past it where there is none. Each set becomes what the start reaches of it.
+fn earliest(
+    g: Scene,
+    k: usize,
+    v: Window,
+    sets: &mut [u32],
+    room: &[u32],
+    views: &[u16],
+    goal: usize,
+    hold: usize,
+) -> usize
+    requires { ⌜ Fits g k (now views) × Fitting g v × (goal < g .cells) ⌝ }
+    requires { ⌜ ((free : List ℕ) × Roomy g k free (now views) (now room)) ⌝ }
+    requires { ⌜ Windowed g v (now sets) ⌝ }
+    ensures made { λ r. ⌜ ((n : ℕ) × (n ≤ v .limit) × ((r ≤ v .limit → r ≤ n)) × ((v .limit < r → n ≡ v .limit)) × Advanced g k v (now (views .entry)) (now (sets .entry)) n (now (sets .exit))) ⌝ }
+    ensures found { λ r. ⌜ Earliest (arrivable g (now (sets .exit)) goal hold) (v .limit + 1) r ⌝ }
+{
+    let limit = v.limit;
+    let height = v.height;
+    let mut t: usize = 0;
+    while t < limit {
+        if arrives(g, sets, goal, hold, t) {
+            return t;
+        }
+        let from = t;
+        t += 1;
+        let first = first_row(v, t);
+        if narrow_rows(sets, room, from * 36 + first, t * 36 + first, height) {
+            mend(g, k, sets, room, views, from, t);
+        }
+    }
+    if arrives(g, sets, goal, hold, t) {
+        return t;
+    }
+    limit + 1
+}
+
+// The same in an empty table, from the start.
+pub fn reach(
+    g: Scene,
+    k: usize,
+    v: Window,
+    sets: &mut [u32],
+    room: &[u32],
+    views: &[u16],
+    start: usize,
+    goal: usize,
+    hold: usize,
+) -> usize
+    requires { ⌜ Fits g k (now views) × Fitting g v × (start < g .cells) × (goal < g .cells) × Inside v 0 (start / g .width) ⌝ }
+    requires { ⌜ ((free : List ℕ) × Roomy g k free (now views) (now room)) ⌝ }
+    requires { ⌜ now sets ≡ replicate 2304 0 ⌝ }
+    ensures made { λ r. ⌜ ((s : List ℕ) × (n : ℕ) × Laid g v (now (room .entry)) start s × (n ≤ v .limit) × ((r ≤ v .limit → r ≤ n)) × ((v .limit < r → n ≡ v .limit)) × Advanced g k v (now (views .entry)) s n (now (sets .exit))) ⌝ }
+    ensures found { λ r. ⌜ Earliest (arrivable g (now (sets .exit)) goal hold) (v .limit + 1) r ⌝ }
+{
+    lay(v, sets, room);
+    let w = g.width;
+    let r = words::row_of(w, g.scale, start);
+    words::add(sets, 1 + r, start - r * w);
+    earliest(g, k, v, sets, room, views, goal, hold)
+}

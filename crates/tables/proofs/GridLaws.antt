@@ -1,0 +1,15 @@
+-- Numbers of a grid.
+use Prim.Native.Nat.{ℕ, _*_, _≤_, _<_}
+use native.Mathlib.Omega.{arith}
+use native.Mathlib.Nat.{mul-le-mul-left}
+
+-- A grid of at most 32 rows has room in 32 rows.
+pub grid-room : (w h : ℕ) → h ≤ 32 → w * h ≤ 32 * w
+grid-room w h l = omega (arith, mul-le-mul-left w l)
+
+pub grid-small : (w h : ℕ) → w ≤ 32 → h ≤ 32 → w * h ≤ 1024
+grid-small w h k l = omega (arith, grid-room w h l)
+
+-- A cell's number is below the number that is no cell.
+pub cell-small : (w cells c : ℕ) → w ≤ 32 → cells ≤ 32 * w → c < cells → c < 65535
+cell-small w cells c narrow room h = omega arith

@@ -1,0 +1,12 @@
+-- Laws of the definitions and of the loops. What other crates cite is `pub`.
+pub mod GridLaws
+pub mod ViewsLaws
+pub mod WayLaws
+pub mod CrossLaws
+pub mod SetLaws
+pub mod PlaceLaws
+pub mod RewriteLaws
+pub mod RoomLaws
+pub mod WindowLaws
+pub mod AroundLaws
+pub mod LayLaws

@@ -1,0 +1,26 @@
+-- `tables::room::take_one` meets its contract: with the view taken out of every beat the room is that of one more view. Assumes
+-- nothing.
+use native.Mathlib.Omega.{arith}
+use borrow.Author.Needs.{needs}
+use Rattle.tables.proofs.RoomLaws.{roomy-more}
+use Rattle.tables.proofs.room.take_one.Statement.{statement}
+use Rattle.tables.proofs.room.take_one.Tie as tie
+
+add-take-view : tie.Need-add-take-view
+add-take-view c = search needs
+
+take-view-requires : tie.Need-take-view-requires
+take-view-requires c κs =
+    let c₄ = c .before .before .before .before in
+    (c₄ .pre .0, (omega arith, omega arith, c₄ .pre .1 .2))
+
+same-length : tie.Need-same-length
+same-length c = c .before .before .take-view .kept .1 .0
+
+returns : tie.Need-returns
+returns c =
+    let c₇ = c .before .before .before .before .before .before .before in
+    λ free old. roomy-more _ _ _ _ _ _ (c₇ .pre .0 .1) (c₇ .pre .0 .2) (c₇ .pre .1 .1) (c .before .before .take-view .ensures) old
+
+pub take-one-spec : {M : Type 1} → statement M
+take-one-spec = tie.close (tie.spec add-take-view take-view-requires same-length returns)

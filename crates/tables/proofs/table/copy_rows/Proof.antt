@@ -1,0 +1,25 @@
+-- `tables::table::copy_rows` meets its contract. The rows that are read are written at once. Assumes nothing.
+use borrow.Author.Needs.{needs}
+use Rattle.tables.proofs.RewriteLaws.{rewritten-rows}
+use Rattle.tables.proofs.table.copy_rows.Statement.{statement}
+use Rattle.tables.proofs.table.copy_rows.Tie as tie
+
+some-rows-requires : tie.Need-some-rows-requires
+some-rows-requires c κs = (c .before .before .pre .0, c .before .before .pre .2)
+
+put-rows-requires : tie.Need-put-rows-requires
+put-rows-requires c κs =
+    let c₄ = c .before .before .before .before in
+    (c₄ .pre .0, c₄ .pre .1)
+
+same-length : tie.Need-same-length
+same-length c = search needs
+
+returns : tie.Need-returns
+returns c =
+    let c₄ = c .before .before .before .before in
+    rewritten-rows _ _ _ _ _ _ (c₄ .before .before .before .pre .0) (c₄ .before .before .before .pre .1) (c₄ .some-rows .ensures)
+    (c .before .before .put-rows .ensures)
+
+pub copy-rows-spec : {M : Type 1} → statement M
+copy-rows-spec = tie.close (tie.spec some-rows-requires put-rows-requires same-length returns)

@@ -1,0 +1,6 @@
+-- In reading order: where views are and the ways they shut, tables of sets, the room in one, windows of rows.
+pub mod Ways
+pub mod Table
+pub mod Room
+pub mod Window
+pub mod Windowed

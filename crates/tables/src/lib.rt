@@ -1,0 +1,34 @@
+// Tables of sets of cells over the beats of a search: the grid they are of, the views and the room they leave, a window of rows, and the
+// narrowing of a set by its neighbour. Helpers of the search below `passes`: what they require is checked by the entries above.
+pub mod narrow;
+pub mod room;
+pub mod table;
+pub mod views;
+pub mod window;
+
+use floor::Floor;
+ghost use mathlib.Core.Path.{_≡_};
+ghost use Prim.Native.Nat.{_≤_};
+ghost use Rattle.tables.specs.Table.{sceneOf};
+
+// What the parts of a search share: the grid with the scale of its width, and the horizon.
+pub struct Scene {
+    pub width: usize,
+    pub scale: usize,
+    pub cells: usize,
+    pub horizon: usize,
+}
+
+// The scene of a floor.
+pub fn scene_of(f: Floor) -> Scene
+    requires { ⌜ (1 ≤ f .width) × (f .width ≤ 32) × (f .height ≤ 32) ⌝ }
+    ensures { λ r. ⌜ r ≡ sceneOf f ⌝ }
+{
+    let w = f.width as usize;
+    Scene {
+        width: w,
+        scale: words::scale(w),
+        cells: w * f.height as usize,
+        horizon: f.horizon as usize,
+    }
+}

@@ -1,0 +1,63 @@
+// The room of a search: a table of the cells that can be stood on at each beat, made of the free cells and the views.
+ghost use mathlib.Core.Path.{_≡_};
+ghost use mathlib.Core.List.{List};
+ghost use Prim.Native.Nat.{ℕ, _+_, _*_, _/_, _≤_, _<_};
+ghost use lib.ListN.{length, replicate};
+ghost use Rattle.words.specs.Rows.{Clean};
+ghost use Rattle.tables.specs.Table.{Fits, Tidy};
+ghost use Rattle.tables.specs.Room.{Roomy, FreeBeats, TakenBeats};
+use crate::Scene;
+use crate::table::copy_rows;
+use crate::views::spot;
+
+// The free cells at the first n beats of an empty table.
+pub fn fill_free(room: &mut [u32], free: &[u32], n: usize)
+    requires { ⌜ (now room ≡ replicate 2304 0) × (length (now free) ≡ 32) × (n ≤ 64) ⌝ }
+    ensures { λ r. ⌜ FreeBeats (now (free .entry)) n (now (room .exit)) ⌝ }
+{
+    let mut t: usize = 0;
+    while t < n {
+        copy_rows(room, t * 36 + 1, free, 0, 32);
+        t += 1;
+    }
+}
+
+// Takes the cells of view j out of the first n beats.
+fn take_view(g: Scene, room: &mut [u32], views: &[u16], j: usize, n: usize)
+    requires { ⌜ (1 ≤ g .width) × (g .width ≤ 32) × (g .cells ≤ 32 * g .width) × (g .scale ≡ 65536 / g .width + 1) ⌝ }
+    requires { ⌜ (65 * j + 65 ≤ length (now views)) × (n ≤ 64) × Tidy g (now room) ⌝ }
+    ensures { λ r. ⌜ TakenBeats g (now (views .entry)) j n (now (room .entry)) (now (room .exit)) ⌝ }
+{
+    let w = g.width;
+    let scale = g.scale;
+    let cells = g.cells;
+    let mut t: usize = 0;
+    while t < n {
+        let c = spot(views, j, t);
+        words::drop_at(room, t * 36 + 1, w, scale, cells, c);
+        t += 1;
+    }
+}
+
+// Takes the cells of view j, besides those of the views before it, out of the room.
+pub fn take_one(g: Scene, room: &mut [u32], views: &[u16], j: usize)
+    requires { ⌜ (1 ≤ g .width) × (g .width ≤ 32) × (g .cells ≤ 32 * g .width) × (g .scale ≡ 65536 / g .width + 1) ⌝ }
+    requires { ⌜ (65 * j + 65 ≤ length (now views)) × (g .horizon ≤ 63) × Tidy g (now room) ⌝ }
+    ensures { λ r. ⌜ ((free : List ℕ) → Roomy g j free (now (views .entry)) (now (room .entry)) → Roomy g (j + 1) free (now (views .entry)) (now (room .exit))) ⌝ }
+{
+    take_view(g, room, views, j, g.horizon + 1);
+}
+
+// The room of a scene in an empty table.
+pub fn make(g: Scene, k: usize, room: &mut [u32], free: &[u32], views: &[u16])
+    requires { ⌜ Fits g k (now views) × Clean (g .width) (g .cells) (now free) × (length (now free) ≡ 32) ⌝ }
+    requires { ⌜ now room ≡ replicate 2304 0 ⌝ }
+    ensures { λ r. ⌜ Roomy g k (now (free .entry)) (now (views .entry)) (now (room .exit)) ⌝ }
+{
+    fill_free(room, free, g.horizon + 1);
+    let mut j: usize = 0;
+    while j < k {
+        take_one(g, room, views, j);
+        j += 1;
+    }
+}
