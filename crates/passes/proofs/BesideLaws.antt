@@ -11,12 +11,13 @@ use Rattle.route.proofs.Tests.{and-snd}
 use Rattle.words.specs.Rows.{has}
 use Rattle.words.proofs.RowsLaws.{place-same}
 use Rattle.tables.specs.declared.Scene.{Scene}
+use Rattle.tables.specs.declared.Place.{Place}
 use Rattle.route.specs.Views.{records}
 use Rattle.tables.specs.Ways.{spotOf, wayOpen}
-use Rattle.tables.specs.Table.{Fits, Tidy, inSet}
+use Rattle.tables.specs.Table.{Grid, PlaceOf, Fits, Tidy, inSet}
 use Rattle.tables.specs.Room.{Roomy, standsAt}
+use Rattle.passes.specs.Walk.{Stands}
 use Rattle.tables.proofs.GridLaws.{cell-small}
-use Rattle.tables.proofs.PlaceLaws.{place-column}
 use Rattle.tables.proofs.SetLaws.{set-holds}
 use Rattle.tables.proofs.WayLaws.{way-clear, and-swap}
 
@@ -71,7 +72,7 @@ module _ (g : Scene) (k : ℕ) (free m room : List ℕ) (fits : Fits g k m) (roo
       and-snd (ltb c (g .cells) && has free (c / g .width) (c % g .width)) (every (vacant t c) (records m k)) (sym (roomy .agrees t c h) ∙ e)
 
   small : (c : ℕ) → c < g .cells → c < 65535
-  small c h = cell-small (g .width) (g .cells) c (fits .narrow) (fits .room) h
+  small c h = cell-small (g .width) (g .cells) c (fits .grid .narrow) (fits .grid .room) h
 
   -- Every way to a cell that is in the room at beat a is open, and every way from a cell that is in the room at beat b.
   pub way-to : (a b e d : ℕ) → a ≤ g .horizon → d < g .cells → inSet g room a d ≡ true → wayOpen m a b e d k ≡ true
@@ -81,42 +82,39 @@ module _ (g : Scene) (k : ℕ) (free m room : List ℕ) (fits : Fits g k m) (roo
   pub way-from : (a b c d : ℕ) → b ≤ g .horizon → c < g .cells → inSet g room b c ≡ true → wayOpen m a b c d k ≡ true
   way-from a b c d h l i = way-clear m a b c d k (omega (arith, fits .short)) (small c l) (room-vacant b c h i)
 
--- Where the cells beside d stand in a table, d standing in row r from row a * 36 + 1 on.
-module _ (w d a r : ℕ) (thin : 0 < w) (low : d / w < 32) (row : r ≡ d / w) (whole : r * w + d % w ≡ d) where
-  column : d - r * w ≡ d % w
-  column = place-column w d r whole
-
-  pub lead-up : (x : ℕ) → x ≡ d - w → w ≤ d → (x / w < 35) × (a * 36 + 1 + r - 1 ≡ a * 36 + 1 + x / w) × (d - r * w ≡ x % w)
+-- Where the cells beside d stand in the set of beat a, d standing at place p.
+module _ (g : Scene) (d a : ℕ) (p : Place) (grid : Grid g) (at : PlaceOf g d p) where
+  pub lead-up : (x : ℕ) → x ≡ d - g .width → g .width ≤ d → Stands g a x (a * 36 + 1 + p .row - 1) (p .column)
   lead-up x e h =
-      let p : ((d - w) / w + 1 ≡ d / w) × ((d - w) % w ≡ d % w) = at-up w d thin h in
-      rw e (omega (arith, p .0, low), omega (arith, p .0, row), column ∙ sym (p .1))
+      let q : ((d - g .width) / g .width + 1 ≡ d / g .width) × ((d - g .width) % g .width ≡ d % g .width) =
+      at-up (g .width) d (grid .thin) h in
+      rw e (record { low = omega (arith, q .0, at .row, at .low); row = omega (arith, q .0, at .row); column = at .column ∙ sym (q .1) })
 
-  pub lead-left : (x y : ℕ) → x ≡ d - 1 → y ≡ d - r * w - 1 → 0 < d - r * w →
-      (x / w < 35) × (a * 36 + 1 + r ≡ a * 36 + 1 + x / w) × (y ≡ x % w)
-  lead-left x y e q h =
-      let p : ((d - 1) / w ≡ d / w) × ((d - 1) % w ≡ d % w - 1) = at-left w d thin (rw column at h) in
-      rw (e, q) (omega (arith, p .0, low), omega (arith, p .0, row), rw column (sym (p .1)))
+  pub lead-left : (x y : ℕ) → x ≡ d - 1 → y ≡ p .column - 1 → 0 < p .column → Stands g a x (a * 36 + 1 + p .row) y
+  lead-left x y e l h =
+      let q : ((d - 1) / g .width ≡ d / g .width) × ((d - 1) % g .width ≡ d % g .width - 1) =
+      at-left (g .width) d (grid .thin) (rw (at .column) at h) in
+      rw (e, l, at .column) (record { low = omega (arith, q .0, at .row, at .low); row = omega (arith, q .0, at .row); column = sym (q .1) })
 
-  pub lead-here : (d / w < 35) × (a * 36 + 1 + r ≡ a * 36 + 1 + d / w) × (d - r * w ≡ d % w)
-  lead-here = (omega (arith, low), omega (arith, row), column)
+  pub lead-here : Stands g a d (a * 36 + 1 + p .row) (p .column)
+  lead-here = record { low = omega (arith, at .row, at .low); row = omega (arith, at .row); column = at .column }
 
-  pub lead-right : d - r * w + 1 < w → ((d + 1) / w < 35) × (a * 36 + 1 + r ≡ a * 36 + 1 + (d + 1) / w) × (d - r * w + 1 ≡ (d + 1) % w)
+  pub lead-right : p .column + 1 < g .width → Stands g a (d + 1) (a * 36 + 1 + p .row) (p .column + 1)
   lead-right h =
-      let p : ((d + 1) / w ≡ d / w) × ((d + 1) % w ≡ d % w + 1) = at-right w d thin (rw column at h) in
-      (omega (arith, p .0, low), omega (arith, p .0, row), rw column (sym (p .1)))
+      let q : ((d + 1) / g .width ≡ d / g .width) × ((d + 1) % g .width ≡ d % g .width + 1) =
+      at-right (g .width) d (grid .thin) (rw (at .column) at h) in
+      rw (at .column) (record { low = omega (arith, q .0, at .row, at .low); row = omega (arith, q .0, at .row); column = sym (q .1) })
 
-  pub lead-down : ((d + w) / w < 35) × (a * 36 + 1 + r + 1 ≡ a * 36 + 1 + (d + w) / w) × (d - r * w ≡ (d + w) % w)
+  pub lead-down : Stands g a (d + g .width) (a * 36 + 1 + p .row + 1) (p .column)
   lead-down =
-      let p : ((d + w) / w ≡ d / w + 1) × ((d + w) % w ≡ d % w) = at-down w d thin in
-      (omega (arith, p .0, low), omega (arith, p .0, row), column ∙ sym (p .1))
+      let q : ((d + g .width) / g .width ≡ d / g .width + 1) × ((d + g .width) % g .width ≡ d % g .width) =
+      at-down (g .width) d (grid .thin) in
+      record { low = omega (arith, q .0, at .row, at .low); row = omega (arith, q .0, at .row); column = at .column ∙ sym (q .1) }
 
 -- A digit of the room at beat a says that every way to its cell is open.
-pub clear-way : (g : Scene) (k : ℕ) (free m room : List ℕ) → Fits g k m → Roomy g k free m room → (a b d r : ℕ) → a ≤ g .horizon →
-    d < g .cells → d / g .width < 32 → r ≡ d / g .width → r * g .width + d % g .width ≡ d → (x : Bool) →
-    x ≡ has room (a * 36 + 1 + r) (d - r * g .width) → x ≡ true → (e : ℕ) → wayOpen m a b e d k ≡ true
-clear-way g k free m room fits roomy a b d r early inside low row whole x h t e =
+pub clear-way : (g : Scene) (k : ℕ) (free m room : List ℕ) (a b d e : ℕ) (p : Place) (x : Bool) → Fits g k m → Roomy g k free m room →
+    a ≤ g .horizon → d < g .cells → PlaceOf g d p → x ≡ has room (a * 36 + 1 + p .row) (p .column) → x ≡ true →
+    wayOpen m a b e d k ≡ true
+clear-way g k free m room a b d e p x fits roomy early inside at h t =
     way-to g k free m room fits roomy a b e d early inside
-    (tidy-set g room (roomy .tidy) a d (omega (arith, low)) (rw (column, row) at (sym h ∙ t)))
-  where
-    column : d - r * g .width ≡ d % g .width
-    column = place-column (g .width) d r whole
+    (tidy-set g room (roomy .tidy) a d (omega (arith, at .row, at .low)) (rw (at .row, at .column) at (sym h ∙ t)))

@@ -17,8 +17,9 @@ use Rattle.words.proofs.DigitLaws.{digit-zero}
 use Rattle.words.proofs.RowsLaws.{has-added, place-row}
 use Rattle.tables.proofs.RewriteLaws.{rewritten-zeros}
 use Rattle.tables.specs.declared.Scene.{Scene}
+use Rattle.tables.specs.declared.Place.{Place}
 use Rattle.tables.specs.declared.window.Window.{Window}
-use Rattle.tables.specs.Table.{Rewritten, Tidy, inSet}
+use Rattle.tables.specs.Table.{Grid, PlaceOf, Rewritten, Tidy, inSet}
 use Rattle.tables.specs.Windowed.{Windowed}
 use Rattle.passes.specs.Passes.{Ended}
 use Rattle.tables.proofs.SetLaws.{set-cell, set-has, set-holds, set-same}
@@ -148,12 +149,12 @@ module _ (g : Scene) (v : Window) (s p : List ℕ) (goal a : ℕ) (thin : 1 ≤ 
   }
 
 -- The same of the table that the code makes.
-pub ended-made : (g : Scene) (v : Window) (s p q : List ℕ) (goal a r : ℕ) → 1 ≤ g .width → g .cells ≤ 32 * g .width → Windowed g v s →
-    inSet g s a goal ≡ true → a < 64 → Rewritten s (λ j. 0) (a * 36 + 1) 32 p → r ≡ goal / g .width →
-    goal - r * g .width ≡ goal % g .width → q ≡ added p (a * 36 + 1 + r) (goal - r * g .width) → Ended g v s goal a q
+pub ended-made : (g : Scene) (v : Window) (s p q : List ℕ) (goal a : ℕ) (l : Place) → Grid g → Windowed g v s → inSet g s a goal ≡ true →
+    a < 64 → Rewritten s (λ j. 0) (a * 36 + 1) 32 p → PlaceOf g goal l → q ≡ added p (a * 36 + 1 + l .row) (l .column) →
+    Ended g v s goal a q
 unfolding end
-ended-made g v s p q goal a r thin room old there early wiped row column e =
-    rw (e, column, row) (end-made g v s p goal a thin room old there early wiped)
+ended-made g v s p q goal a l grid old there early wiped at e =
+    rw (e, at .column, at .row) (end-made g v s p goal a (grid .thin) (grid .room) old there early wiped)
 
 -- The rows of beat a emptied.
 pub wiped : (s q : List ℕ) (a : ℕ) → length s ≡ 2304 → a < 64 → q ≡ written s (a * 36 + 1) (replicate 32 0) 32 →

@@ -75,7 +75,7 @@ module _ (g : Scene) (k : ℕ) (m s : List ℕ) (a b d : ℕ) where
 
   module _ (fits : Fits g k m) (tidy : Tidy g s) (short : b < 64) (inside : d < g .cells) where
     row : (c : ℕ) → c < g .cells → c / g .width < 32
-    row c h = place-row (g .width) c (fits .thin) (omega (arith, fits .room))
+    row c h = place-row (g .width) c (fits .grid .thin) (omega (arith, fits .grid .room))
 
     q : List ℕ
     q = dropped s (b * 36 + 1 + d / g .width) (d % g .width)

@@ -100,7 +100,7 @@ module _ (g : Scene) (k : ℕ) (v : Window) (m s q : List ℕ) (a b : ℕ) (fits
 
   quick-other : (t c : ℕ) → (t ≡ b → ⊥) → inSet g q t c ≡ inSet g s t c
   quick-other t c n =
-      set-same g s q t c (fits .thin) (fits .room)
+      set-same g s q t c (fits .grid .thin) (fits .grid .room)
       (λ r h. x .outside (t * 36 + 1 + r)
       (⊎-elim (λ (l : t < b). inl (omega arith)) (λ (l : b ≤ t). inr (omega (arith, low, above l))) (lt-or-le t b)))
     where
@@ -124,10 +124,10 @@ module _ (g : Scene) (k : ℕ) (v : Window) (m s q : List ℕ) (a b : ℕ) (fits
     same = div-add-mod' d (g .width)
 
     column : d % g .width < g .width
-    column = mod-lt d (fits .thin)
+    column = mod-lt d (fits .grid .thin)
 
     row : d < g .cells → d / g .width < 32
-    row h = place-row (g .width) d (fits .thin) (omega (arith, fits .room))
+    row h = place-row (g .width) d (fits .grid .thin) (omega (arith, fits .grid .room))
 
     inside : inSet g s b d ≡ true → Inside v b (d / g .width)
     inside e = windowed .within b (d / g .width) (d % g .width) (omega (arith, row (set-cell g s b d e))) (set-has g s b d e)
@@ -141,13 +141,13 @@ module _ (g : Scene) (k : ℕ) (v : Window) (m s q : List ℕ) (a b : ℕ) (fits
     unfolding has
     new-digit i =
         ap (λ (y : ℕ). digit y (d % g .width)) (row-new (d / g .width) i)
-        ∙ narrow-digit _ _ _ (getD s (b * 36 + 1 + d / g .width) 0) (d % g .width) (omega (arith, column, fits .narrow))
+        ∙ narrow-digit _ _ _ (getD s (b * 36 + 1 + d / g .width) 0) (d % g .width) (omega (arith, column, fits .grid .narrow))
 
     -- What is kept is beside a cell of the set that the step comes from.
     quick-says : inSet g q b d ≡ true → (e : ℕ) × (inSet g s a e ≡ true) × (near (g .width) e d ≡ true)
     quick-says e =
         rw same at
-        (brought-says g s a (d / g .width) (d % g .width) (windowed .tidy) (fits .thin) (row (set-cell g q b d e)) column
+        (brought-says g s a (d / g .width) (d % g .width) (windowed .tidy) (fits .grid .thin) (row (set-cell g q b d e)) column
         (and-fst _ (digit (getD s (b * 36 + 1 + d / g .width) 0) (d % g .width))
         (sym (new-digit (inside (lesser e))) ∙ set-has g q b d e)))
 
@@ -157,7 +157,7 @@ module _ (g : Scene) (k : ℕ) (v : Window) (m s q : List ℕ) (a b : ℕ) (fits
         set-holds g q b d (set-cell g s b d i)
         (new-digit (inside i)
         ∙ and-both
-        (brought-holds g s a (d / g .width) (d % g .width) (windowed .tidy) (fits .thin) (row (set-cell g s b d i)) column e h (rw same n))
+        (brought-holds g s a (d / g .width) (d % g .width) (windowed .tidy) (fits .grid .thin) (row (set-cell g s b d i)) column e h (rw same n))
         (set-has g s b d i))
 
   -- Where no cell of the set of beat a is a view's at beat b, the step is done.

@@ -1,7 +1,8 @@
 -- The walk along the sets of a table: at each beat the first cell, in rising order, that still leads to the goal.
-use Prim.Native.Nat.{ℕ, zero, suc, _+_, _-_, _%_}
+use Prim.Native.Nat.{ℕ, zero, suc, _+_, _*_, _-_, _/_, _%_, _<_}
 use mathlib.Core.Bool.{Bool, true, false, _&&_}
 use mathlib.Core.List.{List}
+use mathlib.Core.Path.{_≡_}
 use lib.Dec.{leb, ltb}
 use Rattle.tables.specs.declared.Scene.{Scene}
 use Rattle.tables.specs.Ways.{wayOpen}
@@ -17,6 +18,12 @@ nextOf take w c other =
     pick (take (leb w c) (c - w)) (c - w)
     (pick (take (ltb 0 (c % w)) (c - 1)) (c - 1)
     (pick (take true c) c (pick (take (ltb (c % w + 1) w) (c + 1)) (c + 1) (pick (take true (c + w)) (c + w) other))))
+
+-- Cell e stands in row i and column q of a table of sets, at beat a.
+pub record Stands (g : Scene) (a e i q : ℕ) : Type 0 where
+  pub low : e / g .width < 35
+  pub row : i ≡ a * 36 + 1 + e / g .width
+  pub column : q ≡ e % g .width
 
 -- Cell e, where it is a candidate, is in the set of beat a and the way from there to d at beat b is open.
 unfoldable pub leadsOf : Scene → ℕ → List ℕ → List ℕ → ℕ → ℕ → ℕ → Bool → ℕ → Bool

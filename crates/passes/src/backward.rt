@@ -3,26 +3,25 @@ ghost use mathlib.Core.Path.{_≡_};
 ghost use mathlib.Core.Bool.{true};
 ghost use mathlib.Core.List.{List};
 ghost use Prim.Native.Nat.{ℕ, _+_, _*_, _/_, _≤_, _<_};
-ghost use Rattle.tables.specs.Table.{Fits, inSet};
+ghost use Rattle.tables.specs.Table.{Grid, Fits, inSet};
 ghost use Rattle.tables.specs.Room.{Roomy};
 ghost use Rattle.tables.specs.Windowed.{Fitting, Windowed};
 ghost use Rattle.passes.specs.Passes.{Ended, Traced};
 use crate::mend::mend;
 use tables::Scene;
 use tables::narrow::narrow_rows;
+use tables::place_of;
 use tables::window::Window;
 use tables::window::first_row;
 
 // The set of beat a becomes the goal alone.
 fn end_at(g: Scene, v: Window, sets: &mut [u32], goal: usize, a: usize)
-    requires { ⌜ (1 ≤ g .width) × (g .width ≤ 32) × (g .cells ≤ 32 * g .width) × (g .scale ≡ 65536 / g .width + 1) ⌝ }
-    requires { ⌜ (goal < g .cells) × (a < 64) × Windowed g v (now sets) × (inSet g (now sets) a goal ≡ true) ⌝ }
+    requires { ⌜ Grid g × (goal < g .cells) × (a < 64) × Windowed g v (now sets) × (inSet g (now sets) a goal ≡ true) ⌝ }
     ensures { λ r. ⌜ Ended g v (now (sets .entry)) goal a (now (sets .exit)) ⌝ }
 {
     words::put_rows(sets, a * 36 + 1, [0u32; 32], 32);
-    let w = g.width;
-    let r = words::row_of(w, g.scale, goal);
-    words::add(sets, a * 36 + 1 + r, goal - r * w);
+    let p = place_of(g, goal);
+    words::add(sets, a * 36 + 1 + p.row, p.column);
 }
 
 // The sets before beat a become what leads to the goal at beat a.

@@ -3,13 +3,14 @@ ghost use mathlib.Core.Path.{_≡_};
 ghost use mathlib.Core.List.{List};
 ghost use Prim.Native.Nat.{ℕ, _+_, _*_, _/_, _≤_, _<_};
 ghost use lib.ListN.{length, replicate};
-ghost use Rattle.tables.specs.Table.{Fits, inSet};
+ghost use Rattle.tables.specs.Table.{Grid, Fits, inSet};
 ghost use Rattle.tables.specs.Room.{Roomy};
 ghost use Rattle.tables.specs.Windowed.{Fitting, Windowed, Inside};
 ghost use Rattle.passes.specs.Passes.{Laid, Advanced, lastNot, Earliest, arrivable};
 use crate::mend::mend;
 use tables::Scene;
 use tables::narrow::narrow_rows;
+use tables::place_of;
 use tables::table::lay;
 use tables::table::member;
 use tables::window::Window;
@@ -17,8 +18,7 @@ use tables::window::first_row;
 
 // The last beat at which the goal is not in the room, from which on it can be held through the horizon; 0 where there is none.
 pub fn hold_from(g: Scene, room: &[u32], goal: usize) -> usize
-    requires { ⌜ (1 ≤ g .width) × (g .width ≤ 32) × (g .cells ≤ 32 * g .width) × (g .scale ≡ 65536 / g .width + 1) ⌝ }
-    requires { ⌜ (length (now room) ≡ 2304) × (g .horizon ≤ 63) × (goal < g .cells) ⌝ }
+    requires { ⌜ Grid g × (length (now room) ≡ 2304) × (g .horizon ≤ 63) × (goal < g .cells) ⌝ }
     ensures { λ r. ⌜ (r ≡ lastNot (λ t. inSet g (now (room .entry)) t goal) (g .horizon)) × (r ≤ g .horizon) ⌝ }
 {
     let mut n: usize = 0;
@@ -34,8 +34,7 @@ pub fn hold_from(g: Scene, room: &[u32], goal: usize) -> usize
 
 // Whether the goal is in the set of beat t, from beat hold on.
 fn arrives(g: Scene, sets: &[u32], goal: usize, hold: usize, t: usize) -> bool
-    requires { ⌜ (1 ≤ g .width) × (g .width ≤ 32) × (g .cells ≤ 32 * g .width) × (g .scale ≡ 65536 / g .width + 1) ⌝ }
-    requires { ⌜ (length (now sets) ≡ 2304) × (t < 64) × (goal < g .cells) ⌝ }
+    requires { ⌜ Grid g × (length (now sets) ≡ 2304) × (t < 64) × (goal < g .cells) ⌝ }
     ensures { λ r. ⌜ r ≡ arrivable g (now (sets .entry)) goal hold t ⌝ }
 {
     if t < hold {
@@ -100,8 +99,7 @@ pub fn reach(
     ensures found { λ r. ⌜ Earliest (arrivable g (now (sets .exit)) goal hold) (v .limit + 1) r ⌝ }
 {
     lay(v, sets, room);
-    let w = g.width;
-    let r = words::row_of(w, g.scale, start);
-    words::add(sets, 1 + r, start - r * w);
+    let p = place_of(g, start);
+    words::add(sets, 1 + p.row, p.column);
     earliest(g, k, v, sets, room, views, goal, hold)
 }

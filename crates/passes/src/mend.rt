@@ -7,6 +7,7 @@ ghost use Rattle.passes.specs.Steps.{Mended, MendedCell, Apart};
 ghost use Rattle.tables.specs.Ways.{spotOf};
 use crate::next::next;
 use tables::Scene;
+use tables::place_of;
 use tables::table::member;
 use tables::views::spot;
 
@@ -26,9 +27,8 @@ fn mend_cell(
     ensures { λ r. ⌜ MendedCell g k (now (views .entry)) (now (sets .entry)) a b d (now (sets .exit)) ⌝ }
 {
     if next(g, k, sets, room, views, a, b, d, 65535) == 65535 {
-        let w = g.width;
-        let r = words::row_of(w, g.scale, d);
-        words::drop(sets, b * 36 + 1 + r, d - r * w);
+        let p = place_of(g, d);
+        words::drop(sets, b * 36 + 1 + p.row, p.column);
     }
 }
 

@@ -6,8 +6,9 @@ ghost use Prim.Native.Nat.{ℕ, _+_, _*_, _/_, _%_, _≤_, _<_};
 ghost use Rattle.tables.specs.Table.{Fits, Tidy};
 ghost use Rattle.tables.specs.Room.{Roomy};
 ghost use Rattle.tables.specs.Ways.{wayOpen};
-ghost use Rattle.passes.specs.Walk.{leadsOf, nextOf};
+ghost use Rattle.passes.specs.Walk.{Stands, leadsOf, nextOf};
 use tables::Scene;
+use tables::place_of;
 use tables::views::swapped;
 use tables::window::minus;
 
@@ -28,7 +29,7 @@ fn leads(
     d: usize,
 ) -> bool
     requires { ⌜ Fits g k (now views) × Tidy g (now sets) × (a < 64) × (b < 64) ⌝ }
-    requires { ⌜ (candidate ≡ true → (e / g .width < 35) × (i ≡ a * 36 + 1 + e / g .width) × (q ≡ e % g .width)) ⌝ }
+    requires { ⌜ (candidate ≡ true → Stands g a e i q) ⌝ }
     requires { ⌜ (clear ≡ true → wayOpen (now views) a b e d k ≡ true) ⌝ }
     ensures { λ r. ⌜ r ≡ leadsOf g k (now (views .entry)) (now (sets .entry)) a b d candidate e ⌝ }
 {
@@ -61,9 +62,9 @@ pub fn next(
     ensures { λ r. ⌜ r ≡ nextOf (leadsOf g k (now (views .entry)) (now (sets .entry)) a b d) (g .width) d other ⌝ }
 {
     let w = g.width;
-    let r = words::row_of(w, g.scale, d);
-    let q = d - r * w;
-    let i = a * 36 + 1 + r;
+    let p = place_of(g, d);
+    let q = p.column;
+    let i = a * 36 + 1 + p.row;
     let clear = words::has(room, i, q);
     let up = minus(d, w);
     if leads(g, k, sets, views, clear, w <= d, i - 1, q, a, b, up, d) {

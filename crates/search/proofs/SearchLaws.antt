@@ -23,7 +23,7 @@ use Rattle.tables.specs.Windowed.{firstAt, Inside, Fitting, WindowOf, Windowed}
 use Rattle.passes.specs.Passes.{Traced}
 use Rattle.passes.specs.Passes.{lastNot, Earliest, arrivable}
 use Rattle.passes.specs.Walk.{pathOf}
-use Rattle.tables.proofs.GridLaws.{grid-room, grid-small}
+use Rattle.tables.proofs.GridLaws.{grid-room, grid-small, scene-grid}
 use Rattle.tables.proofs.WindowLaws.{gap-same, window-holds}
 use Rattle.search.proofs.ApartLaws.{apart}
 use Rattle.search.proofs.PassLaws.{Setting, taskIn}
@@ -43,15 +43,7 @@ module _ {f : Floor} {rows : List ℕ} {i : ℕ} {m : List ℕ} (s : Searchable 
   pub scene-fits : Fits g (i - 1) m
   unfolding sceneOf
   scene-fits =
-      rw q
-      (record {
-        thin = s .width .0;
-        narrow = s .width .1;
-        room = grid-room (f .width) (f .height) (s .height);
-        scaled = refl;
-        short = s .horizon;
-        lent = s .lent;
-      })
+      rw q (record { grid = scene-grid f (s .width .0) (s .width .1) (s .height); short = s .horizon; lent = s .lent })
 
   pub scene-clean : Clean (g .width) (g .cells) rows
   unfolding sceneOf
@@ -78,7 +70,7 @@ module _ {f : Floor} {rows : List ℕ} {i : ℕ} {m : List ℕ} (s : Searchable 
   scene-window {limit} win h =
       rw (win .limited, win .begins, win .ends, win .top, win .height)
       (window-holds row column (goalOf f (i - 1) / g .width) (goalOf f (i - 1) % g .width) limit 0 row column
-      (place-row (g .width) (startOf f (i - 1)) (scene-fits .thin) (omega (arith, scene-fits .room, scene-start))) (omega arith)
+      (place-row (g .width) (startOf f (i - 1)) (scene-fits .grid .thin) (omega (arith, scene-fits .grid .room, scene-start))) (omega arith)
       (omega (arith, gap-same row, gap-same column)) (omega arith))
     where
       row : ℕ

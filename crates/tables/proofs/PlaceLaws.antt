@@ -1,31 +1,36 @@
--- The place of a cell as the code finds it: row r, and what is left of the cell's number as the column.
-use Prim.Native.Nat.{ℕ, _+_, _*_, _-_, _/_, _%_, _≤_, _<_}
+-- The place of a cell as the code finds it: its row, and what is left of its number as the column.
+use Prim.Native.Nat.{ℕ, _+_, _*_, _-_, _/_, _%_, _<_}
 use native.Mathlib.Omega.{arith}
 use native.Mathlib.Nat.{mod-lt}
 use mathlib.Core.Bool.{Bool}
 use mathlib.Core.List.{List}
-use mathlib.Core.Path.{_≡_, sym, ap, _∙_}
+use mathlib.Core.Path.{_≡_, sym, _∙_}
 use Rattle.words.specs.Rows.{has}
 use Rattle.words.proofs.RowsLaws.{place-row}
 use Rattle.tables.specs.declared.Scene.{Scene}
-use Rattle.tables.specs.Table.{inSet}
+use Rattle.tables.specs.declared.Place.{Place}
+use Rattle.tables.specs.Table.{Grid, PlaceOf, inSet}
 use Rattle.tables.proofs.SetLaws.{set-digit}
 
--- The row is one of the 32.
-pub place-small : (w cells c r : ℕ) → 1 ≤ w → cells ≤ 32 * w → c < cells → r ≡ c / w → r < 32
-place-small w cells c r thin room h e = rw e (place-row w c thin (omega arith))
+-- A row with what it leaves of the cell's number is the cell's place.
+pub place-made : (g : Scene) (c : ℕ) (p : Place) → Grid g → c < g .cells → p .row ≡ c / g .width → p .row * g .width + c % g .width ≡ c →
+    p .column ≡ c - p .row * g .width → PlaceOf g c p
+place-made g c p grid inside row whole left =
+    record {
+      row = row;
+      column = column;
+      low = rw row (place-row (g .width) c (grid .thin) (omega (arith, grid .room)));
+      thin = rw column thin;
+      narrow = rw column (omega (arith, thin, grid .narrow));
+    }
+  where
+    column : p .column ≡ c % g .width
+    column = omega arith
 
--- The column.
-pub place-column : (w c r : ℕ) → r * w + c % w ≡ c → c - r * w ≡ c % w
-place-column w c r e = omega arith
-
--- The column is one of the 32.
-pub column-small : (w c r : ℕ) → 1 ≤ w → w ≤ 32 → r * w + c % w ≡ c → c - r * w < 32
-column-small w c r thin narrow e = omega (arith, place-column w c r e, mod-lt c {m = w} thin)
+    thin : c % g .width < g .width
+    thin = mod-lt c (grid .thin)
 
 -- Whether a cell is in a set, read at its place.
-pub member-made : (g : Scene) (s : List ℕ) (t c r : ℕ) (x : Bool) → c < g .cells → r ≡ c / g .width → r * g .width + c % g .width ≡ c →
-    x ≡ has s (t * 36 + 1 + r) (c - r * g .width) → x ≡ inSet g s t c
-member-made g s t c r x h e p q =
-    q ∙ ap (λ (k : ℕ). has s (t * 36 + 1 + r) k) (place-column (g .width) c r p)
-    ∙ ap (λ (i : ℕ). has s (t * 36 + 1 + i) (c % g .width)) e ∙ sym (set-digit g s t c h)
+pub member-made : (g : Scene) (s : List ℕ) (t c : ℕ) (p : Place) (x : Bool) → c < g .cells → PlaceOf g c p →
+    x ≡ has s (t * 36 + 1 + p .row) (p .column) → x ≡ inSet g s t c
+member-made g s t c p x inside at e = e ∙ rw (at .row, at .column) (sym (set-digit g s t c inside))

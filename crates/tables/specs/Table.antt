@@ -9,18 +9,31 @@ use lib.ListN.{length, getD}
 use Rattle.floor.specs.declared.Floor.{Floor}
 use Rattle.words.specs.Rows.{has}
 use Rattle.tables.specs.declared.Scene.{Scene}
+use Rattle.tables.specs.declared.Place.{Place}
 
 -- The scene of a floor.
 unfoldable pub sceneOf : Floor → Scene
 sceneOf f =
     record { width = f .width; scale = 65536 / f .width + 1; cells = f .width * f .height; horizon = f .horizon }
 
--- What the numbers of a scene are: a grid that fits the rows, the scale of its width, and views and beats as many as lent.
-pub record Fits (g : Scene) (k : ℕ) (m : List ℕ) : Type 0 where
+-- A grid that fits the rows, with the scale of its width.
+pub record Grid (g : Scene) : Type 0 where
   pub thin : 1 ≤ g .width
   pub narrow : g .width ≤ 32
   pub room : g .cells ≤ 32 * g .width
   pub scaled : g .scale ≡ 65536 / g .width + 1
+
+-- The row and the column of cell c.
+pub record PlaceOf (g : Scene) (c : ℕ) (p : Place) : Type 0 where
+  pub row : p .row ≡ c / g .width
+  pub column : p .column ≡ c % g .width
+  pub low : p .row < 32
+  pub thin : p .column < g .width
+  pub narrow : p .column < 32
+
+-- What the numbers of a scene are: a grid that fits the rows, and views and beats as many as lent.
+pub record Fits (g : Scene) (k : ℕ) (m : List ℕ) : Type 0 where
+  pub grid : Grid g
   pub short : g .horizon ≤ 63
   pub lent : 65 * k ≤ length m
 

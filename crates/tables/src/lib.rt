@@ -8,8 +8,8 @@ pub mod window;
 
 use floor::Floor;
 ghost use mathlib.Core.Path.{_≡_};
-ghost use Prim.Native.Nat.{_≤_};
-ghost use Rattle.tables.specs.Table.{sceneOf};
+ghost use Prim.Native.Nat.{_≤_, _<_};
+ghost use Rattle.tables.specs.Table.{sceneOf, Grid, PlaceOf};
 
 // What the parts of a search share: the grid with the scale of its width, and the horizon.
 pub struct Scene {
@@ -30,5 +30,24 @@ pub fn scene_of(f: Floor) -> Scene
         scale: words::scale(w),
         cells: w * f.height as usize,
         horizon: f.horizon as usize,
+    }
+}
+
+// The place of a cell in the grid.
+pub struct Place {
+    pub row: usize,
+    pub column: usize,
+}
+
+// The row and the column of a cell.
+pub fn place_of(g: Scene, c: usize) -> Place
+    requires { ⌜ Grid g × (c < g .cells) ⌝ }
+    ensures { λ r. ⌜ PlaceOf g c r ⌝ }
+{
+    let w = g.width;
+    let row = words::row_of(w, g.scale, c);
+    Place {
+        row: row,
+        column: c - row * w,
     }
 }

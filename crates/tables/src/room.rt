@@ -4,7 +4,7 @@ ghost use mathlib.Core.List.{List};
 ghost use Prim.Native.Nat.{ℕ, _+_, _*_, _/_, _≤_, _<_};
 ghost use lib.ListN.{length, replicate};
 ghost use Rattle.words.specs.Rows.{Clean};
-ghost use Rattle.tables.specs.Table.{Fits, Tidy};
+ghost use Rattle.tables.specs.Table.{Grid, Fits, Tidy};
 ghost use Rattle.tables.specs.Room.{Roomy, FreeBeats, TakenBeats};
 use crate::Scene;
 use crate::table::copy_rows;
@@ -24,8 +24,7 @@ pub fn fill_free(room: &mut [u32], free: &[u32], n: usize)
 
 // Takes the cells of view j out of the first n beats.
 fn take_view(g: Scene, room: &mut [u32], views: &[u16], j: usize, n: usize)
-    requires { ⌜ (1 ≤ g .width) × (g .width ≤ 32) × (g .cells ≤ 32 * g .width) × (g .scale ≡ 65536 / g .width + 1) ⌝ }
-    requires { ⌜ (65 * j + 65 ≤ length (now views)) × (n ≤ 64) × Tidy g (now room) ⌝ }
+    requires { ⌜ Grid g × (65 * j + 65 ≤ length (now views)) × (n ≤ 64) × Tidy g (now room) ⌝ }
     ensures { λ r. ⌜ TakenBeats g (now (views .entry)) j n (now (room .entry)) (now (room .exit)) ⌝ }
 {
     let w = g.width;
@@ -41,8 +40,7 @@ fn take_view(g: Scene, room: &mut [u32], views: &[u16], j: usize, n: usize)
 
 // Takes the cells of view j, besides those of the views before it, out of the room.
 pub fn take_one(g: Scene, room: &mut [u32], views: &[u16], j: usize)
-    requires { ⌜ (1 ≤ g .width) × (g .width ≤ 32) × (g .cells ≤ 32 * g .width) × (g .scale ≡ 65536 / g .width + 1) ⌝ }
-    requires { ⌜ (65 * j + 65 ≤ length (now views)) × (g .horizon ≤ 63) × Tidy g (now room) ⌝ }
+    requires { ⌜ Grid g × (65 * j + 65 ≤ length (now views)) × (g .horizon ≤ 63) × Tidy g (now room) ⌝ }
     ensures { λ r. ⌜ ((free : List ℕ) → Roomy g j free (now (views .entry)) (now (room .entry)) → Roomy g (j + 1) free (now (views .entry)) (now (room .exit))) ⌝ }
 {
     take_view(g, room, views, j, g.horizon + 1);

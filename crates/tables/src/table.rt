@@ -3,9 +3,10 @@ ghost use mathlib.Core.Path.{_≡_};
 ghost use mathlib.Core.Logic.{_⊎_};
 ghost use Prim.Native.Nat.{_+_, _*_, _/_, _≤_, _<_};
 ghost use lib.ListN.{length, getD, replicate};
-ghost use Rattle.tables.specs.Table.{Rewritten, inSet};
+ghost use Rattle.tables.specs.Table.{Grid, Rewritten, inSet};
 ghost use Rattle.tables.specs.Windowed.{LaidRows};
 use crate::Scene;
+use crate::place_of;
 use crate::window::Window;
 use crate::window::first_row;
 
@@ -18,13 +19,11 @@ pub fn empty() -> [u32; 2304]
 
 // Whether cell c is in the set of beat t.
 pub fn member(g: Scene, s: &[u32], t: usize, c: usize) -> bool
-    requires { ⌜ (1 ≤ g .width) × (g .width ≤ 32) × (g .cells ≤ 32 * g .width) × (g .scale ≡ 65536 / g .width + 1) ⌝ }
-    requires { ⌜ (length (now s) ≡ 2304) × (t < 64) × (c < g .cells) ⌝ }
+    requires { ⌜ Grid g × (length (now s) ≡ 2304) × (t < 64) × (c < g .cells) ⌝ }
     ensures { λ r. ⌜ r ≡ inSet g (now (s .entry)) t c ⌝ }
 {
-    let w = g.width;
-    let r = words::row_of(w, g.scale, c);
-    words::has(s, t * 36 + 1 + r, c - r * w)
+    let p = place_of(g, c);
+    words::has(s, t * 36 + 1 + p.row, p.column)
 }
 
 // Copies n rows of one table from row j on into another from row i on.

@@ -45,7 +45,7 @@ member-requires c κs =
     let p = c₄ .before .pre in
     let q = c .scene-of .ensures in
     let x = scene-fits (p .0) q in
-    ((x .thin, x .narrow, x .room, x .scaled), (p .1 .tidy .long, omega arith, scene-start (p .0) q))
+    (x .grid, p .1 .tidy .long, omega arith, scene-start (p .0) q)
 
 none-requires : tie.Need-none-requires
 none-requires c κs = search needs
@@ -68,7 +68,7 @@ far-requires c κs =
     let p = c₄ .before .before .before .pre in
     let q = c .before .before .scene-of .ensures in
     let x = scene-fits (p .0) q in
-    (x .thin, x .narrow, scene-small (p .0) q .0, scene-small (p .0) q .1)
+    (x .grid .thin, x .grid .narrow, scene-small (p .0) q .0, scene-small (p .0) q .1)
 
 none-requires-2 : tie.Need-none-requires-2
 none-requires-2 c κs = search needs
@@ -92,7 +92,7 @@ hold-from-requires c κs =
     let p = c₈ .before .before .pre in
     let q = c₄ .before .scene-of .ensures in
     let x = scene-fits (p .0) q in
-    ((x .thin, x .narrow, x .room, x .scaled), (p .1 .tidy .long, x .short, scene-goal (p .0) q))
+    (x .grid, p .1 .tidy .long, x .short, scene-goal (p .0) q)
 
 near-limit-requires : tie.Need-near-limit-requires
 near-limit-requires c κs =
@@ -113,7 +113,7 @@ around-requires c κs =
     let q = c₄ .before .before .before .scene-of .ensures in
     let x = scene-fits (p .0) q in
     let l = c .near-limit .ensures in
-    (x .thin, x .narrow, scene-small (p .0) q .0, scene-small (p .0) q .1, l .1, omega (arith, x .short, l))
+    (x .grid .thin, x .grid .narrow, scene-small (p .0) q .0, scene-small (p .0) q .1, l .1, omega (arith, x .short, l))
 
 empty-requires : tie.Need-empty-requires
 empty-requires c κs = search needs
@@ -206,7 +206,7 @@ around-requires-2 c κs =
     let p = c₂₀ .pre in
     let q = c₁₂ .before .before .before .scene-of .ensures in
     let x = scene-fits (p .0) q in
-    (x .thin, x .narrow, scene-small (p .0) q .0, scene-small (p .0) q .1, omega arith, omega (arith, x .short))
+    (x .grid .thin, x .grid .narrow, scene-small (p .0) q .0, scene-small (p .0) q .1, omega arith, omega (arith, x .short))
 
 empty-requires-2 : tie.Need-empty-requires-2
 empty-requires-2 c κs = search needs

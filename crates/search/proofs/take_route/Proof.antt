@@ -1,7 +1,6 @@
 -- `search::take_route` meets its contract: the room of one more view in the scene of the floor. Assumes nothing.
-use mathlib.Core.Path.{refl}
 use Rattle.tables.specs.Table.{sceneOf}
-use Rattle.tables.proofs.GridLaws.{grid-room}
+use Rattle.tables.proofs.GridLaws.{scene-grid}
 use Rattle.search.proofs.take_route.Statement.{statement}
 use Rattle.search.proofs.take_route.Tie as tie
 
@@ -12,8 +11,8 @@ take-one-requires : tie.Need-take-one-requires
 unfolding sceneOf
 take-one-requires c κs =
     let c₄ = c .before .before .before .before in
-    rw (c .before .scene-of .ensures)
-    ((c₄ .pre .0 .0, c₄ .pre .0 .1, grid-room _ _ (c₄ .pre .0 .2), refl), (c₄ .pre .1 .0, c₄ .pre .0 .3, c₄ .pre .1 .1))
+    let pre = c₄ .pre in
+    rw (c .before .scene-of .ensures) (scene-grid (c₄ .args .f) (pre .0 .0) (pre .0 .1) (pre .0 .2), pre .1 .0, pre .0 .3, pre .1 .1)
 
 same-length : tie.Need-same-length
 same-length c = c .before .before .take-one .kept .1 .0

@@ -24,16 +24,8 @@ end-at-requires : tie.Need-end-at-requires Inv-loop μ-loop
 end-at-requires c κs =
     let c₄ = c .before .before .before .before in
     let f = c₄ .pre .0 .0 in
-    let w = c₄ .pre .0 .1 in (
-      (f .thin, f .narrow, f .room, f .scaled),
-      (
-        c₄ .pre .0 .2,
-        omega
-            (arith, c₄ .pre .0 .3, w .early, f .short),
-        c₄ .pre .1 .1 .0,
-        c₄ .pre .1 .1 .1,
-      ),
-    )
+    let w = c₄ .pre .0 .1 in
+    (f .grid, c₄ .pre .0 .2, omega (arith, c₄ .pre .0 .3, w .early, f .short), c₄ .pre .1 .1 .0, c₄ .pre .1 .1 .1)
 
 loop-holds : tie.Need-loop-holds Inv-loop μ-loop
 loop-holds c = (search needs, λ s e. traced-none _ _ _ _ _ _ _ _ e)

@@ -32,7 +32,7 @@ arrives-requires c κs =
     let w = c₄ .before .before .pre .0 .1 in
     let l = c .before .before .loop .inv .1 .windowed .tidy .long in
     let t = c .before .loop-test .taken in
-    ((f .thin, f .narrow, f .room, f .scaled), (l, omega (arith, w .early, f .short), c₄ .before .before .pre .0 .2))
+    (f .grid, l, omega (arith, w .early, f .short), c₄ .before .before .pre .0 .2)
 
 same-length : tie.Need-same-length Inv-loop μ-loop
 same-length c =
@@ -188,15 +188,8 @@ arrives-requires-2 c κs =
     let c₄ = c .before .before .before .before in
     let f = c₄ .before .before .pre .0 .0 in
     let w = c₄ .before .before .pre .0 .1 in
-    let l = c .before .before .loop .inv .1 .windowed .tidy .long in (
-      (f .thin, f .narrow, f .room, f .scaled),
-      (
-        l,
-        omega
-            (arith, w .early, f .short, c .before .before .loop .inv .0),
-        c₄ .before .before .pre .0 .2,
-      ),
-    )
+    let l = c .before .before .loop .inv .1 .windowed .tidy .long in
+    (f .grid, l, omega (arith, w .early, f .short, c .before .before .loop .inv .0), c₄ .before .before .pre .0 .2)
 
 same-length-2 : tie.Need-same-length-2 Inv-loop μ-loop
 same-length-2 c =

@@ -15,13 +15,14 @@ spot-requires c κs = (omega (arith, c .before .before .before .pre .0 .0 .lent,
 
 returns : tie.Need-returns
 returns c =
-    let c₄ = c .before .before .before .before in
-    mended-same _ _ _ _ _ _ _ (c₄ .before .before .pre .1 .1) (λ i. absurd (omega (arith, set-cell _ _ _ _ i, c .if1 .taken, c .before .before .spot .ensures .0)))
+    let pre = c .before .before .before .before .before .before .pre in
+    mended-same _ _ _ _ _ _ _ (pre .1 .1)
+    (λ i. absurd (omega (arith, set-cell _ _ _ _ i, c .if1 .taken, c .before .before .spot .ensures .0)))
 
 member-requires : tie.Need-member-requires
 member-requires c κs =
-    let c₄ = c .before .before .before .before in
-    ((c₄ .before .before .before .pre .0 .0 .thin, c₄ .before .before .before .pre .0 .0 .narrow, c₄ .before .before .before .pre .0 .0 .room, c₄ .before .before .before .pre .0 .0 .scaled), (c₄ .before .before .before .pre .1 .1 .long, omega (arith, c₄ .before .before .before .pre .0 .2, c₄ .before .before .before .pre .0 .0 .short), c .before .if1 .left))
+    let pre = c .before .before .before .before .before .before .before .pre in
+    (pre .0 .0 .grid, pre .1 .1 .long, omega (arith, pre .0 .2, pre .0 .0 .short), c .before .if1 .left)
 
 same-length : tie.Need-same-length
 same-length c = refl
@@ -30,13 +31,15 @@ returns-2 : tie.Need-returns-2
 returns-2 c =
     let c₄ = c .before .before .before .before in
     let c₈ = c₄ .before .before .before .before in
-    mended-same _ _ _ _ _ _ _ (c₈ .before .pre .1 .1) (λ i. true-false-absurd (rw (← c₄ .before .spot .ensures .0) at i) (sym (c .before .member .ensures) ∙ not-true _ (c .if2 .taken)))
+    mended-same _ _ _ _ _ _ _ (c₈ .before .pre .1 .1)
+    (λ i. true-false-absurd (rw (← c₄ .before .spot .ensures .0) at i) (sym (c .before .member .ensures) ∙ not-true _ (c .if2 .taken)))
 
 mend-cell-requires : tie.Need-mend-cell-requires
 mend-cell-requires c κs =
     let c₄ = c .before .before .before .before in
     let c₈ = c₄ .before .before .before .before in
-    ((c₈ .before .before .pre .0 .0, c₈ .before .before .pre .0 .1, c₈ .before .before .pre .0 .2, c₈ .before .before .pre .0 .3, c₄ .if1 .left), (c₈ .before .before .pre .1 .0, c₈ .before .before .pre .1 .1))
+    let pre = c₈ .before .before .pre in
+    ((pre .0 .0, pre .0 .1, pre .0 .2, pre .0 .3, c₄ .if1 .left), (pre .1 .0, pre .1 .1))
 
 same-length-2 : tie.Need-same-length-2
 same-length-2 c = search needs

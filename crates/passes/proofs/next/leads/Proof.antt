@@ -17,21 +17,21 @@ has-requires : tie.Need-has-requires
 has-requires c κs =
     let p = c .before .before .before .pre .1 .0 (not-false _ (c .if1 .left)) in
     let f = c .before .before .before .pre .0 .0 in
-    let q = mod-lt (c .before .before .before .args .e) {m = c .before .before .before .args .g .width} (f .thin) in
+    let q = mod-lt (c .before .before .before .args .e) {m = c .before .before .before .args .g .width} (f .grid .thin) in
     let l = c .before .before .before .pre .0 .1 .long in
-    (omega (arith, p .0, p .1, l, c .before .before .before .pre .0 .2), omega (arith, p .2, q, f .narrow))
+    (omega (arith, p .low, p .row, l, c .before .before .before .pre .0 .2), omega (arith, p .column, q, f .grid .narrow))
 
 returns-2 : tie.Need-returns-2
 returns-2 c =
     let c₄ = c .before .before .before .before in
     let p = c₄ .before .pre .1 .0 (not-false _ (c .before .before .if1 .left)) in
-    leads-unset _ _ _ _ _ _ _ _ _ (not-false _ (c .before .before .if1 .left)) (set-not _ _ _ _ (rw (p .1, p .2) at (sym (c .before .has .ensures) ∙ not-true _ (c .if2 .taken))))
+    leads-unset _ _ _ _ _ _ _ _ _ (not-false _ (c .before .before .if1 .left)) (set-not _ _ _ _ (rw (p .row, p .column) at (sym (c .before .has .ensures) ∙ not-true _ (c .if2 .taken))))
 
 returns-3 : tie.Need-returns-3
 returns-3 c =
     let c₄ = c .before .before .before .before in
     let p = c₄ .before .before .pre .1 .0 (not-false _ (c .before .before .before .if1 .left)) in
-    leads-made _ _ _ _ _ _ _ _ _ _ (not-false _ (c .before .before .before .if1 .left)) (tidy-set _ _ (c₄ .before .before .pre .0 .1) _ _ (p .0) (rw (p .1, p .2) at (sym (c .before .before .has .ensures) ∙ not-false _ (c .before .if2 .left)))) (sym (c₄ .before .before .pre .1 .1 (c .if3 .taken)))
+    leads-made _ _ _ _ _ _ _ _ _ _ (not-false _ (c .before .before .before .if1 .left)) (tidy-set _ _ (c₄ .before .before .pre .0 .1) _ _ (p .low) (rw (p .row, p .column) at (sym (c .before .before .has .ensures) ∙ not-false _ (c .before .if2 .left)))) (sym (c₄ .before .before .pre .1 .1 (c .if3 .taken)))
 
 swapped-requires : tie.Need-swapped-requires
 swapped-requires c κs =
@@ -42,7 +42,7 @@ returns-4 : tie.Need-returns-4
 returns-4 c =
     let c₄ = c .before .before .before .before in
     let p = c₄ .before .before .before .pre .1 .0 (not-false _ (c₄ .if1 .left)) in
-    leads-made _ _ _ _ _ _ _ _ _ _ (not-false _ (c₄ .if1 .left)) (tidy-set _ _ (c₄ .before .before .before .pre .0 .1) _ _ (p .0) (rw (p .1, p .2) at (sym (c .before .before .before .has .ensures) ∙ not-false _ (c .before .before .if2 .left)))) (ap not (c .swapped .ensures) ∙ not-not _)
+    leads-made _ _ _ _ _ _ _ _ _ _ (not-false _ (c₄ .if1 .left)) (tidy-set _ _ (c₄ .before .before .before .pre .0 .1) _ _ (p .low) (rw (p .row, p .column) at (sym (c .before .before .before .has .ensures) ∙ not-false _ (c .before .before .if2 .left)))) (ap not (c .swapped .ensures) ∙ not-not _)
 
 pub leads-spec : {M : Type 1} → statement M
 leads-spec =

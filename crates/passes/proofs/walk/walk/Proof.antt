@@ -21,7 +21,7 @@ abbrev μ-loop : tie.MeasureT-loop
 cast-r : tie.Need-cast-r Inv-loop μ-loop
 cast-r c =
     let f = c .before .before .before .pre .0 .0 in
-    omega (arith, f .room, f .narrow, c .before .before .before .pre .0 .2)
+    omega (arith, f .grid .room, f .grid .narrow, c .before .before .before .pre .0 .2)
 
 array-write-r : tie.Need-array-write-r Inv-loop μ-loop
 array-write-r c = search needs
@@ -44,7 +44,7 @@ cast-r-2 : tie.Need-cast-r-2 Inv-loop μ-loop
 cast-r-2 c =
     let c₄ = c .before .before .before .before in
     let f = c₄ .before .before .before .pre .0 .0 in
-    omega (arith, f .room, f .narrow, c .follow .ensures .1)
+    omega (arith, f .grid .room, f .grid .narrow, c .follow .ensures .1)
 
 mul-r : tie.Need-mul-r Inv-loop μ-loop
 mul-r c =

@@ -28,17 +28,15 @@ loop-holds : tie.Need-loop-holds Inv-loop μ-loop
 loop-holds c =
     let c₈ = c .before .before .before .before .before .before .before .before in (
       search needs,
-      free-roomy _ _ _ _ _ (c₈ .pre .0 .0 .thin) (c₈ .pre .0 .0 .room) (omega arith)
+      free-roomy _ _ _ _ _ (c₈ .pre .0 .0 .grid .thin) (c₈ .pre .0 .0 .grid .room) (omega arith)
           (c .before .before .fill-free .ensures) (c₈ .pre .0 .1),
     )
 
 take-one-requires : tie.Need-take-one-requires Inv-loop μ-loop
 take-one-requires c κs =
     let c₁₁ = c .before .before .before .before .before .before .before .before .before .before .before in
-    let f = c₁₁ .pre .0 .0 in (
-      (f .thin, f .narrow, f .room, f .scaled),
-      (omega (arith, f .lent), f .short, c .before .before .loop .inv .1 .tidy),
-    )
+    let f = c₁₁ .pre .0 .0 in
+    (f .grid, omega (arith, f .lent), f .short, c .before .before .loop .inv .1 .tidy)
 
 add-j : tie.Need-add-j Inv-loop μ-loop
 add-j c = search needs

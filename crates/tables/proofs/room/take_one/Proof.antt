@@ -12,7 +12,7 @@ add-take-view c = search needs
 take-view-requires : tie.Need-take-view-requires
 take-view-requires c κs =
     let c₄ = c .before .before .before .before in
-    (c₄ .pre .0, (omega arith, omega arith, c₄ .pre .1 .2))
+    (c₄ .pre .0, omega arith, omega arith, c₄ .pre .3)
 
 same-length : tie.Need-same-length
 same-length c = c .before .before .take-view .kept .1 .0
@@ -20,7 +20,7 @@ same-length c = c .before .before .take-view .kept .1 .0
 returns : tie.Need-returns
 returns c =
     let c₇ = c .before .before .before .before .before .before .before in
-    λ free old. roomy-more _ _ _ _ _ _ (c₇ .pre .0 .1) (c₇ .pre .0 .2) (c₇ .pre .1 .1) (c .before .before .take-view .ensures) old
+    λ free old. roomy-more _ _ _ _ _ _ (c₇ .pre .0 .narrow) (c₇ .pre .0 .room) (c₇ .pre .2) (c .before .before .take-view .ensures) old
 
 pub take-one-spec : {M : Type 1} → statement M
 take-one-spec = tie.close (tie.spec add-take-view take-view-requires same-length returns)

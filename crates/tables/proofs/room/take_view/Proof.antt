@@ -18,7 +18,7 @@ abbrev μ-loop : tie.MeasureT-loop
 
 loop-holds : tie.Need-loop-holds Inv-loop μ-loop
 unfolding within
-loop-holds c = (search needs, taken-none _ _ _ _ (tidy-within _ 0 _ (c .before .before .pre .1 .2)))
+loop-holds c = (search needs, taken-none _ _ _ _ (tidy-within _ 0 _ (c .before .before .pre .3)))
 
 spot-requires : tie.Need-spot-requires Inv-loop μ-loop
 spot-requires c κs = search needs
@@ -32,7 +32,7 @@ add-drop-at c = search needs
 drop-at-requires : tie.Need-drop-at-requires Inv-loop μ-loop
 drop-at-requires c κs =
     let c₆ = c .before .before .before .before .before .before in
-    (c₆ .pre .0, omega (arith, c .before .before .before .loop .inv .1 .tidy .long))
+    ((c₆ .pre .0 .thin, c₆ .pre .0 .narrow, c₆ .pre .0 .room, c₆ .pre .0 .scaled), omega (arith, c .before .before .before .loop .inv .1 .tidy .long))
 
 add-t : tie.Need-add-t Inv-loop μ-loop
 add-t c = search needs
@@ -46,12 +46,12 @@ loop-again c =
     let c₆ = c .before .before .before .before .before .before in
     let c₄ = c .before .before .before .before in (
       search needs,
-      taken-more _ _ _ _ _ _ _ _ (c₉ .pre .0 .0) (c₉ .pre .0 .2) (omega arith) (c₆ .loop .inv .1)
+      taken-more _ _ _ _ _ _ _ _ (c₉ .pre .0 .thin) (c₉ .pre .0 .room) (omega arith) (c₆ .loop .inv .1)
           (c₄ .spot .ensures .0) (c .before .before .drop-at .ensures),
     )
 
 same-length : tie.Need-same-length Inv-loop μ-loop
-same-length c = c .before .loop .inv .1 .tidy .long ∙ sym (c .before .before .before .before .pre .1 .2 .long)
+same-length c = c .before .loop .inv .1 .tidy .long ∙ sym (c .before .before .before .before .pre .3 .long)
 
 returns : tie.Need-returns Inv-loop μ-loop
 unfolding within
