@@ -26,6 +26,20 @@ pub record Advanced (g : Scene) (k : ℕ) (v : Window) (m s : List ℕ) (n : ℕ
   pub says : (t d : ℕ) → t < n → inSet g q (t + 1) d ≡ true → (inSet g s (t + 1) d ≡ true) × Entered g k m q t (t + 1) d
   pub holds : (t d : ℕ) → t < n → inSet g s (t + 1) d ≡ true → Entered g k m q t (t + 1) d → inSet g q (t + 1) d ≡ true
 
+-- q is s advanced through beat r, which a forward pass finds, or through the limit where it finds none and r is past that.
+pub record AdvancedTo (g : Scene) (k : ℕ) (v : Window) (m s : List ℕ) (r : ℕ) (q : List ℕ) : Type 0 where
+  pub upto : ℕ
+  pub limited : upto ≤ v .limit
+  pub found : r ≤ v .limit → r ≤ upto
+  pub missed : v .limit < r → upto ≡ v .limit
+  pub advanced : Advanced g k v m s upto q
+
+-- What a forward pass makes of an empty table: the sets laid from the start on, then advanced to beat r.
+pub record Made (g : Scene) (k : ℕ) (v : Window) (room m : List ℕ) (start r : ℕ) (q : List ℕ) : Type 0 where
+  pub table : List ℕ
+  pub laid : Laid g v room start table
+  pub reached : AdvancedTo g k v m table r q
+
 -- The last beat from 1 to n that fails the test, or 0.
 unfoldable pub lastNot : (ℕ → Bool) → ℕ → ℕ
 lastNot p zero = 0

@@ -6,7 +6,7 @@ ghost use lib.ListN.{length, replicate};
 ghost use Rattle.tables.specs.Table.{Grid, Fits, inSet};
 ghost use Rattle.tables.specs.Room.{Roomy};
 ghost use Rattle.tables.specs.Windowed.{Fitting, Windowed, Inside};
-ghost use Rattle.passes.specs.Passes.{Laid, Advanced, lastNot, Earliest, arrivable};
+ghost use Rattle.passes.specs.Passes.{AdvancedTo, Made, lastNot, Earliest, arrivable};
 use crate::mend::mend;
 use tables::Scene;
 use tables::narrow::narrow_rows;
@@ -57,7 +57,7 @@ fn earliest(
     requires { ⌜ Fits g k (now views) × Fitting g v × (goal < g .cells) ⌝ }
     requires { ⌜ ((free : List ℕ) × Roomy g k free (now views) (now room)) ⌝ }
     requires { ⌜ Windowed g v (now sets) ⌝ }
-    ensures made { λ r. ⌜ ((n : ℕ) × (n ≤ v .limit) × ((r ≤ v .limit → r ≤ n)) × ((v .limit < r → n ≡ v .limit)) × Advanced g k v (now (views .entry)) (now (sets .entry)) n (now (sets .exit))) ⌝ }
+    ensures made { λ r. ⌜ AdvancedTo g k v (now (views .entry)) (now (sets .entry)) r (now (sets .exit)) ⌝ }
     ensures found { λ r. ⌜ Earliest (arrivable g (now (sets .exit)) goal hold) (v .limit + 1) r ⌝ }
 {
     let limit = v.limit;
@@ -95,7 +95,7 @@ pub fn reach(
     requires { ⌜ Fits g k (now views) × Fitting g v × (start < g .cells) × (goal < g .cells) × Inside v 0 (start / g .width) ⌝ }
     requires { ⌜ ((free : List ℕ) × Roomy g k free (now views) (now room)) ⌝ }
     requires { ⌜ now sets ≡ replicate 2304 0 ⌝ }
-    ensures made { λ r. ⌜ ((s : List ℕ) × (n : ℕ) × Laid g v (now (room .entry)) start s × (n ≤ v .limit) × ((r ≤ v .limit → r ≤ n)) × ((v .limit < r → n ≡ v .limit)) × Advanced g k v (now (views .entry)) s n (now (sets .exit))) ⌝ }
+    ensures made { λ r. ⌜ Made g k v (now (room .entry)) (now (views .entry)) start r (now (sets .exit)) ⌝ }
     ensures found { λ r. ⌜ Earliest (arrivable g (now (sets .exit)) goal hold) (v .limit + 1) r ⌝ }
 {
     lay(v, sets, room);

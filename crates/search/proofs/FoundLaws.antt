@@ -36,12 +36,6 @@ use Rattle.search.proofs.ApartLaws.{apart, reach-apart}
 use Rattle.search.proofs.PassLaws.{Setting, taskIn, ruleIn, allowed-near, allowed-passes, allowed-makes, allowed-cell, room-is}
 use Rattle.search.proofs.PassLaws.{hold-holds, holds-hold, laid-wide, made-passed, traced-stands, traced-kept}
 
--- What a forward pass has made: the sets laid, and how far they are advanced where it finds beat r.
-abbrev pub Made : Scene → ℕ → Window → List ℕ → List ℕ → ℕ → ℕ → List ℕ → Type 0
-Made g k v room m start r q =
-    (s : List ℕ) × (n : ℕ) × Laid g v room start s × (n ≤ v .limit) × ((r ≤ v .limit → r ≤ n)) × ((v .limit < r → n ≡ v .limit))
-    × Advanced g k v m s n q
-
 -- An arrival has the goal in the set.
 pub arrivable-inside : (g : Scene) (s : List ℕ) (goal hold t : ℕ) → arrivable g s goal hold t ≡ true → inSet g s t goal ≡ true
 unfolding arrivable

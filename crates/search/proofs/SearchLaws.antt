@@ -20,23 +20,19 @@ use Rattle.tables.specs.Window.{gap}
 use Rattle.tables.specs.Table.{sceneOf, inSet, Fits}
 use Rattle.tables.specs.Room.{Roomy}
 use Rattle.tables.specs.Windowed.{firstAt, Inside, Fitting, WindowOf, Windowed}
-use Rattle.passes.specs.Passes.{Traced}
-use Rattle.passes.specs.Passes.{lastNot, Earliest, arrivable}
+use Rattle.passes.specs.Passes.{Made, Traced}
+use Rattle.passes.specs.Passes.{Made, lastNot, Earliest, arrivable}
 use Rattle.passes.specs.Walk.{pathOf}
 use Rattle.tables.proofs.GridLaws.{grid-room, grid-small, scene-grid}
 use Rattle.tables.proofs.WindowLaws.{gap-same, window-holds}
 use Rattle.search.proofs.ApartLaws.{apart}
 use Rattle.search.proofs.PassLaws.{Setting, taskIn}
-use Rattle.search.proofs.FoundLaws.{Made, arrivable-inside, shut-none, far-none, never-none, route-best}
+use Rattle.search.proofs.FoundLaws.{arrivable-inside, shut-none, far-none, never-none, route-best}
 
 -- The goal is in the set of the beat that a forward pass finds, and the sets that it makes are in the window.
 pub found-inside : (g : Scene) (s : List ℕ) (goal hold limit a : ℕ) → Earliest (arrivable g s goal hold) (limit + 1) a → a ≤ limit →
     inSet g s a goal ≡ true
 found-inside g s goal hold limit a e h = arrivable-inside g s goal hold a (e .passes (omega arith))
-
-pub made-windowed : {g : Scene} {k : ℕ} {v : Window} {room m : List ℕ} {start r : ℕ} {q : List ℕ} → Made g k v room m start r q →
-    Windowed g v q
-made-windowed made = made .6 .windowed
 
 module _ {f : Floor} {rows : List ℕ} {i : ℕ} {m : List ℕ} (s : Searchable f rows i m) {g : Scene} (q : g ≡ sceneOf f) where
   -- The scene of a checked floor fits the tables.
@@ -129,8 +125,8 @@ module _ {f : Floor} {rows : List ℕ} {i : ℕ} {m room : List ℕ} (s : Search
     pub unreached-best : g .horizon ≤ limit → limit < a → best (taskOfRows f rows i) (viewsOf m i) ≡ none
     unreached-best l h =
         same
-        ∙ never-none setting fit win (made .2) (made .3) (made .6) hold held a
-        (omega (arith, win .limited, fit .early, made .5 (omega (arith, win .limited)))) earliest (omega (arith, win .limited, fit .early))
+        ∙ never-none setting fit win (made .laid) (made .reached .limited) (made .reached .advanced) hold held a
+        (omega (arith, win .limited, fit .early, made .reached .missed (omega (arith, win .limited)))) earliest (omega (arith, win .limited, fit .early))
 
     -- The beat is the least arrival, and the walk is the best route.
     pub reached-best : {T : List ℕ} → inSet g room 0 (startOf f (i - 1)) ≡ true → a ≤ limit →
@@ -139,4 +135,4 @@ module _ {f : Floor} {rows : List ℕ} {i : ℕ} {m room : List ℕ} (s : Search
         route (filled (replicate 64 0) (pathOf g (i - 1) m T (startOf f (i - 1)) (goalOf f (i - 1)) a) (g .horizon + 1))
     reached-best e h traced =
         same
-        ∙ route-best setting fit win (made .2) (made .3) (made .6) hold held e (made .4 (omega (arith, win .limited))) earliest traced
+        ∙ route-best setting fit win (made .laid) (made .reached .limited) (made .reached .advanced) hold held e (made .reached .found (omega (arith, win .limited))) earliest traced

@@ -1,7 +1,9 @@
--- In reading order: the task of a search, its answers and refusals; then what is made once a floor; then the claims.
+-- In reading order: the task of a search, its answers and refusals; what is made once a floor, what the inner functions hand back; the
+-- claims.
 pub mod Task
 pub mod Answers
 pub mod Search
 pub mod Rows
+pub mod Along
 pub mod Refused
 pub mod Claims

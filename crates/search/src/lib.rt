@@ -26,12 +26,11 @@ ghost use Rattle.floor.specs.Checks.{within};
 ghost use Rattle.route.specs.Route.{none as Route·none, route as Route·route};
 ghost use Rattle.route.specs.Search.{best};
 ghost use Rattle.search.specs.Answers.{answered, turned, Says};
+ghost use Rattle.search.specs.Along.{Along};
 ghost use Rattle.words.specs.Rows.{filled, Clean};
 ghost use Rattle.tables.specs.Table.{sceneOf, Fits, Tidy, inSet};
-ghost use Rattle.tables.specs.Room.{Roomy};
+ghost use Rattle.tables.specs.Room.{Roomy, OneMore};
 ghost use Rattle.tables.specs.Windowed.{Fitting, Windowed};
-ghost use Rattle.passes.specs.Passes.{Traced};
-ghost use Rattle.passes.specs.Walk.{pathOf};
 ghost use Rattle.search.specs.Search.{requestOf, searchOf};
 ghost use Rattle.search.specs.Task.{taskOfRows};
 ghost use Rattle.route.specs.Views.{viewsOf};
@@ -88,7 +87,7 @@ fn along(
     requires { ⌜ Fits g k (now views) × Fitting g v × (start < g .cells) × (goal < g .cells) × (a ≤ v .limit) ⌝ }
     requires { ⌜ ((free : List ℕ) × Roomy g k free (now views) (now room)) ⌝ }
     requires { ⌜ Windowed g v (now sets) × (inSet g (now sets) a goal ≡ true) ⌝ }
-    ensures { λ r. ⌜ ((q : List ℕ) × Traced g k v (now (views .entry)) (now (sets .entry)) goal a a q × Says r (answered (Route·route (filled (replicate 64 0) (pathOf g k (now (views .entry)) q start goal a) (g .horizon + 1))))) ⌝ }
+    ensures { λ r. ⌜ Along g k v (now (views .entry)) (now (sets .entry)) start goal a r ⌝ }
 {
     backward::leading(g, k, v, sets, room, views, goal, a);
     Found {
@@ -210,7 +209,7 @@ pub fn fill_room(f: Floor, free: [u32; 32], room: &mut [u32])
 pub fn take_route(f: Floor, room: &mut [u32], views: &[u16], j: usize)
     requires { ⌜ (1 ≤ f .width) × (f .width ≤ 32) × (f .height ≤ 32) × (f .horizon ≤ 63) ⌝ }
     requires { ⌜ (65 * j + 65 ≤ length (now views)) × Tidy (sceneOf f) (now room) ⌝ }
-    ensures { λ r. ⌜ ((free : List ℕ) → Roomy (sceneOf f) j free (now (views .entry)) (now (room .entry)) → Roomy (sceneOf f) (j + 1) free (now (views .entry)) (now (room .exit))) ⌝ }
+    ensures { λ r. ⌜ OneMore (sceneOf f) j (now (views .entry)) (now (room .entry)) (now (room .exit)) ⌝ }
 {
     room::take_one(scene_of(f), room, views, j);
 }

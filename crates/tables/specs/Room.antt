@@ -22,6 +22,10 @@ pub record Roomy (g : Scene) (k : ℕ) (free m room : List ℕ) : Type 0 where
   pub tidy : Tidy g room
   pub agrees : (t c : ℕ) → t ≤ g .horizon → inSet g room t c ≡ standsAt g k free m t c
 
+-- Whatever was free, q is the room that one view more leaves of the room s of the first j views.
+abbrev pub OneMore : Scene → ℕ → List ℕ → List ℕ → List ℕ → Type 0
+OneMore g j m s q = (free : List ℕ) → Roomy g j free m s → Roomy g (j + 1) free m q
+
 -- s has the free rows at the first n beats, and is empty elsewhere.
 pub record FreeBeats (free : List ℕ) (n : ℕ) (s : List ℕ) : Type 0 where
   pub long : length s ≡ 2304

@@ -1,11 +1,10 @@
 // The room of a search: a table of the cells that can be stood on at each beat, made of the free cells and the views.
 ghost use mathlib.Core.Path.{_≡_};
-ghost use mathlib.Core.List.{List};
-ghost use Prim.Native.Nat.{ℕ, _+_, _*_, _/_, _≤_, _<_};
+ghost use Prim.Native.Nat.{_+_, _*_, _≤_};
 ghost use lib.ListN.{length, replicate};
 ghost use Rattle.words.specs.Rows.{Clean};
 ghost use Rattle.tables.specs.Table.{Grid, Fits, Tidy};
-ghost use Rattle.tables.specs.Room.{Roomy, FreeBeats, TakenBeats};
+ghost use Rattle.tables.specs.Room.{Roomy, OneMore, FreeBeats, TakenBeats};
 use crate::Scene;
 use crate::table::copy_rows;
 use crate::views::spot;
@@ -41,7 +40,7 @@ fn take_view(g: Scene, room: &mut [u32], views: &[u16], j: usize, n: usize)
 // Takes the cells of view j, besides those of the views before it, out of the room.
 pub fn take_one(g: Scene, room: &mut [u32], views: &[u16], j: usize)
     requires { ⌜ Grid g × (65 * j + 65 ≤ length (now views)) × (g .horizon ≤ 63) × Tidy g (now room) ⌝ }
-    ensures { λ r. ⌜ ((free : List ℕ) → Roomy g j free (now (views .entry)) (now (room .entry)) → Roomy g (j + 1) free (now (views .entry)) (now (room .exit))) ⌝ }
+    ensures { λ r. ⌜ OneMore g j (now (views .entry)) (now (room .entry)) (now (room .exit)) ⌝ }
 {
     take_view(g, room, views, j, g.horizon + 1);
 }

@@ -21,7 +21,8 @@ same-length : tie.Need-same-length
 same-length c = search needs
 
 returns : tie.Need-returns
-returns c = (_, c .before .before .before .before .leading .ensures, says-route refl (c .walk .ensures))
+returns c =
+    record { table = _; traced = c .before .before .before .before .leading .ensures; says = says-route refl (c .walk .ensures) }
 
 pub along-spec : {M : Type 1} → statement M
 along-spec = tie.close (tie.spec leading-requires walk-requires same-length returns)

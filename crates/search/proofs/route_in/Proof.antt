@@ -6,7 +6,7 @@ use Rattle.floor.specs.Checks.{startOf, goalOf}
 use Rattle.search.specs.Answers.{answered}
 use Rattle.search.proofs.AnswerLaws.{says-same}
 use Rattle.search.proofs.SearchLaws.{scene-fits, scene-start, scene-goal, scene-small, scene-window, scene-room}
-use Rattle.search.proofs.SearchLaws.{found-inside, made-windowed, shut-best, far-best, unreached-best, reached-best}
+use Rattle.search.proofs.SearchLaws.{found-inside, shut-best, far-best, unreached-best, reached-best}
 use native.Mathlib.Omega.{arith}
 use borrow.Author.Needs.{needs}
 use Rattle.search.proofs.route_in.Statement.{statement}
@@ -153,7 +153,7 @@ along-requires c κs =
       (x, w .0, scene-start (p .0) q, scene-goal (p .0) q, omega (arith, w .1 .limited, c .before .if3 .taken)),
       (
         (_, scene-room _ q (p .1)),
-        (made-windowed (r .0), found-inside _ _ _ _ _ _ (r .1) (omega (arith, w .1 .limited, c .before .if3 .taken))),
+        (r .0 .reached .advanced .windowed, found-inside _ _ _ _ _ _ (r .1) (omega (arith, w .1 .limited, c .before .if3 .taken))),
       ),
     )
 
@@ -170,10 +170,10 @@ returns-3 c =
     let w = c₈ .around .ensures in
     let r = c₄ .before .reach .ensures in
     let e = sym (c₁₂ .before .before .before .member .ensures) ∙ not-false _ (c₁₂ .before .before .if1 .left) in
-    says-same (c .before .along .ensures .2)
+    says-same (c .before .along .ensures .says)
     (ap answered
     (sym (reached-best (p .0) q (p .1) (w .0) (w .1) (c₈ .before .before .hold-from .ensures .0)
-    (r .0) (r .1) e (c .before .before .before .if3 .taken) (c .before .along .ensures .1))))
+    (r .0) (r .1) e (c .before .before .before .if3 .taken) (c .before .along .ensures .traced))))
 
 none-requires-3 : tie.Need-none-requires-3
 none-requires-3 c κs = search needs
@@ -273,7 +273,7 @@ along-requires-2 c κs =
       (x, w .0, scene-start (p .0) q, scene-goal (p .0) q, omega (arith, w .1 .limited, c .before .if5 .left)),
       (
         (_, scene-room _ q (p .1)),
-        (made-windowed (r .0), found-inside _ _ _ _ _ _ (r .1) (omega (arith, w .1 .limited, c .before .if5 .left))),
+        (r .0 .reached .advanced .windowed, found-inside _ _ _ _ _ _ (r .1) (omega (arith, w .1 .limited, c .before .if5 .left))),
       ),
     )
 
@@ -292,10 +292,10 @@ returns-6 c =
     let w = c₈ .before .around2 .ensures in
     let r = c₄ .before .before .reach2 .ensures in
     let e = sym (c₂₄ .member .ensures) ∙ not-false _ (c₂₀ .before .before .before .if1 .left) in
-    says-same (c .before .along2 .ensures .2)
+    says-same (c .before .along2 .ensures .says)
     (ap answered
     (sym (reached-best (p .0) q (p .1) (w .0) (w .1) (c₁₆ .before .before .before .hold-from .ensures .0)
-    (r .0) (r .1) e (c .before .before .before .if5 .left) (c .before .along2 .ensures .1))))
+    (r .0) (r .1) e (c .before .before .before .if5 .left) (c .before .along2 .ensures .traced))))
 
 pub route-in-spec : {M : Type 1} → statement M
 route-in-spec =

@@ -44,14 +44,13 @@ same-length c =
 returns : tie.Need-returns Inv-loop μ-loop
 returns c =
     let c₄ = c .before .before .before .before in (
-      (
-        c₄ .loop .t,
-        c₄ .loop .inv .0,
-        (λ h. omega arith),
-        (λ h. absurd (omega
-            (arith, c₄ .loop .inv .0))),
-        c₄ .loop .inv .1,
-      ),
+      record {
+        upto = c₄ .loop .t;
+        limited = c₄ .loop .inv .0;
+        found = λ h. omega arith;
+        missed = λ h. absurd (omega (arith, c₄ .loop .inv .0));
+        advanced = c₄ .loop .inv .1;
+      },
       earliest-found _ _ _ _ (c₄ .loop .inv .0) (c₄ .loop .inv .2)
           (c .before .arrives .ensures) (c .if1 .taken),
     )
@@ -201,14 +200,13 @@ same-length-2 c =
 returns-2 : tie.Need-returns-2 Inv-loop μ-loop
 returns-2 c =
     let c₄ = c .before .before .before .before in (
-      (
-        c₄ .loop .t,
-        c₄ .loop .inv .0,
-        (λ h. omega arith),
-        (λ h. absurd (omega
-            (arith, c₄ .loop .inv .0))),
-        c₄ .loop .inv .1,
-      ),
+      record {
+        upto = c₄ .loop .t;
+        limited = c₄ .loop .inv .0;
+        found = λ h. omega arith;
+        missed = λ h. absurd (omega (arith, c₄ .loop .inv .0));
+        advanced = c₄ .loop .inv .1;
+      },
       earliest-found _ _ _ _ (c₄ .loop .inv .0) (c₄ .loop .inv .2)
           (c .before .arrives2 .ensures) (c .if3 .taken),
     )
@@ -231,14 +229,13 @@ same-length-3 c =
 returns-3 : tie.Need-returns-3 Inv-loop μ-loop
 returns-3 c =
     let c₄ = c .before .before .before .before in (
-      (
-        c₄ .loop .t,
-        c₄ .loop .inv .0,
-        (λ h. omega (arith, h)),
-        (λ h. omega
-            (arith, c₄ .loop .inv .0, c .before .before .before .loop-test .left)),
-        c₄ .loop .inv .1,
-      ),
+      record {
+        upto = c₄ .loop .t;
+        limited = c₄ .loop .inv .0;
+        found = λ h. omega (arith, h);
+        missed = λ h. omega (arith, c₄ .loop .inv .0, c .before .before .before .loop-test .left);
+        advanced = c₄ .loop .inv .1;
+      },
       earliest-none _ _ _ _
           (c₄ .loop .inv .0) (c .before .before .before .loop-test .left) (c₄ .loop .inv .2) (c .before .arrives2 .ensures) (c .if3 .left),
     )

@@ -35,7 +35,7 @@ same-length : tie.Need-same-length
 same-length c =
     let c₈ = c .before .before .before .before .before .before .before .before in
     let pre = c₈ .before .before .before .before .before .before .before .before .before .pre in
-    c .before .before .earliest .ensures .0 .4 .windowed .tidy .long ∙ sym (ap length (pre .1 .1) ∙ length-replicate {A = ℕ} 2304 0)
+    c .before .before .earliest .ensures .0 .advanced .windowed .tidy .long ∙ sym (ap length (pre .1 .1) ∙ length-replicate {A = ℕ} 2304 0)
 
 returns : tie.Need-returns
 returns c =
@@ -45,8 +45,8 @@ returns c =
     let at = c₈ .before .place-of .ensures in
     let laid = laid-made _ _ _ _ _ (f .grid .thin) (f .grid .room) (pre .1 .0 .1 .tidy) (c₈ .before .before .before .before .lay .ensures)
     (pre .0 .2) (pre .0 .4) _ (rw (at .column, at .row) at (c .before .before .before .before .before .before .add .ensures)) in
-    let m = c .before .before .earliest .ensures .0 in
-    ((_, m .0, laid, m .1, m .2, m .3, m .4), c .before .before .earliest .ensures .1)
+    let e = c .before .before .earliest .ensures in
+    (record { table = _; laid = laid; reached = e .0 }, e .1)
 
 pub reach-spec : {M : Type 1} → statement M
 reach-spec =
