@@ -8,9 +8,9 @@ use Rattle.floor.specs.Checks.{checkOf, limitsOf, within, lentOf, roomOf, place
 use Rattle.floor.specs.Checks.{startOf, goalOf, inGrid, carrierInGrid, rises, among, clearOfWalls, unshared}
 use Rattle.route.specs.Route.{cellAt, Answer}
 use Rattle.route.specs.Arrival.{settled, arrivalOf}
-use Rattle.sheet.specs.Field.{column, fieldOf}
+use Rattle.fields.specs.Field.{column, fieldOf}
 use Rattle.sheet.specs.Text.{lineOf, linesOf, headLine, carrierLine, wallLine, sheetOf}
-use Rattle.sheet.specs.Form.{fieldForm, lineForm}
+use Rattle.fields.specs.Form.{fieldForm, lineForm}
 use Rattle.sheet.specs.Read.{formOf, sheetVerdict}
 use Rattle.planner.specs.Plan.{failingFrom, failingOf}
 use Rattle.planner.specs.Claims.{answerAt}

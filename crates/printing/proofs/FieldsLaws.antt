@@ -8,7 +8,7 @@ use lib.ListN.{length, getD, take, set, length-append}
 use lib.Seq.{length-take-le, take-suc, take-all}
 use Rattle.memory.specs.Memory.{put}
 use Rattle.memory.proofs.PutLaws.{put-none, put-length, put-next}
-use Rattle.sheet.specs.Field.{fieldOf}
+use Rattle.fields.specs.Field.{fieldOf}
 use Rattle.sheet.specs.Text.{lineOf}
 use Rattle.sheet.proofs.LineLaws.{field-length, field-next, newline-next}
 use Rattle.printing.specs.Text.{fieldsOf}

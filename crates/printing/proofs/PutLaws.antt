@@ -12,7 +12,7 @@ use Rattle.memory.proofs.PutLaws.{put-none, put-length, put-next}
 use Rattle.floor.specs.declared.Floor.{Floor}
 use Rattle.floor.specs.Checks.{goalOf}
 use Rattle.route.specs.Arrival.{arrivalOf}
-use Rattle.sheet.specs.Field.{fieldOf}
+use Rattle.fields.specs.Field.{fieldOf}
 use Rattle.sheet.specs.Text.{lineOf, linesOf}
 use Rattle.printing.specs.Text.{noneWord, noneLine, answerLine, firstLine}
 use Rattle.printing.specs.Put.{answerIn, lineIn, linesIn, textIn, TextPut, LinePut, LinesPut}

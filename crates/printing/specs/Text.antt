@@ -7,7 +7,7 @@ use Rattle.floor.specs.declared.Floor.{Floor}
 use Rattle.floor.specs.Checks.{goalOf}
 use Rattle.route.specs.Route.{Answer, none, route}
 use Rattle.route.specs.Arrival.{arrivalOf}
-use Rattle.sheet.specs.Field.{fieldOf}
+use Rattle.fields.specs.Field.{fieldOf}
 use Rattle.sheet.specs.Text.{lineOf, linesOf}
 use Rattle.planner.specs.Plan.{failingOf}
 use Rattle.planner.specs.Claims.{answerAt}

@@ -19,7 +19,7 @@ fn put_cells(out: &mut [u8], at: usize, cells: Route, n: usize)
 {
     let mut t: usize = 0;
     while t < n {
-        sheet::put_field(out, at + 5 * t, cells[t]);
+        fields::put_field(out, at + 5 * t, cells[t]);
         t += 1;
     }
 }
@@ -30,8 +30,8 @@ fn put_route(out: &mut [u8], at: usize, number: u16, arrival: u16, cells: Route,
     requires { ⌜ at + 5 * n + 11 ≤ length (now out) ⌝ }
     ensures { λ r. ⌜ now (out .exit) ≡ put (now (out .entry)) at (lineOf (number ∷ arrival ∷ take n cells)) ⌝ }
 {
-    sheet::put_field(out, at, number);
-    sheet::put_field(out, at + 5, arrival);
+    fields::put_field(out, at, number);
+    fields::put_field(out, at + 5, arrival);
     put_cells(out, at + 10, cells, n);
     out[at + 10 + 5 * n] = 10;
 }
@@ -53,7 +53,7 @@ fn put_none(out: &mut [u8], at: usize, number: u16)
     requires { ⌜ at + 11 ≤ length (now out) ⌝ }
     ensures { λ r. ⌜ now (out .exit) ≡ put (now (out .entry)) at (noneLine number) ⌝ }
 {
-    sheet::put_field(out, at, number);
+    fields::put_field(out, at, number);
     put_word(out, at + 5);
     out[at + 10] = 10;
 }
@@ -126,8 +126,8 @@ fn put_first(f: Floor, failing: u16, out: &mut [u8])
     requires { ⌜ 11 ≤ length (now out) ⌝ }
     ensures { λ r. ⌜ now (out .exit) ≡ put (now (out .entry)) 0 (firstLine f failing) ⌝ }
 {
-    sheet::put_field(out, 0, f.carriers);
-    sheet::put_field(out, 5, failing);
+    fields::put_field(out, 0, f.carriers);
+    fields::put_field(out, 5, failing);
     out[10] = 10;
 }
 
@@ -145,9 +145,9 @@ pub fn put_refusal(x: Refusal, out: &mut [u8]) -> usize
     requires { ⌜ (x .place ≤ 65535) × (16 ≤ length (now out)) ⌝ }
     ensures { λ r. ⌜ TextPut (refusalLine (x .number) (x .place)) (now (out .entry)) (now (out .exit)) r ⌝ }
 {
-    sheet::put_field(out, 0, 0);
-    sheet::put_field(out, 5, x.number);
-    sheet::put_field(out, 10, x.place as u16);
+    fields::put_field(out, 0, 0);
+    fields::put_field(out, 5, x.number);
+    fields::put_field(out, 10, x.place as u16);
     out[15] = 10;
     16
 }

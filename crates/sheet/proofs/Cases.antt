@@ -7,9 +7,10 @@ use Rattle.floor.specs.declared.Floor.{Floor}
 use Rattle.floor.specs.Verdict.{Verdict, passed, refused, _then_, demand, inTurn, each}
 use Rattle.floor.specs.Checks.{within, limitsOf, startOf, goalOf, inGrid, carrierInGrid, carriersOf, wallsOf, rises, risingOf, among}
 use Rattle.floor.specs.Checks.{clearOfWalls, clearOf, unshared, distinctOf, placesOf}
-use Rattle.sheet.specs.Field.{column, fieldOf, number, numberAt, isField}
+use Rattle.fields.specs.Field.{column, fieldOf, number, numberAt, isField}
 use Rattle.sheet.specs.Text.{lineOf, linesOf, headLine, carrierLine, wallLine, sheetOf, carrierAt, goalAt, wallAt}
-use Rattle.sheet.specs.Form.{fieldForm, newlineForm, lineForm, linesForm, endForm, restForm}
+use Rattle.fields.specs.Form.{fieldForm, newlineForm, lineForm, endForm}
+use Rattle.sheet.specs.Form.{linesForm, restForm}
 use Rattle.sheet.specs.Values.{valueAt, cellOf, listed, cellAt, upTo, headAt, cellsAt, floorAt, wallsFrom, wallsAt}
 use Rattle.sheet.specs.Read.{formOf, sheetVerdict}
 

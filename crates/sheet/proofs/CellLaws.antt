@@ -9,7 +9,7 @@ use mathlib.Core.Bool.{cond, _&&_, and-false}
 use mathlib.Core.List.{List}
 use borrow.Author.Tests.{lt-ltb, le-ltb}
 use lib.Dec.{ltb}
-use Rattle.sheet.specs.Field.{numberAt}
+use Rattle.fields.specs.Field.{numberAt}
 use Rattle.sheet.specs.Values.{valueAt, cellOf}
 
 -- The product of two numbers up to 32.

@@ -11,8 +11,8 @@ use lib.ListN.{length, getD}
 use lib.Dec.{ltb, lit<}
 use Rattle.floor.specs.Verdict.{passed}
 use Rattle.floor.proofs.VerdictLaws.{then-both, demand-holds, demand-passes, then-passed}
-use Rattle.sheet.specs.Field.{column, fieldOf, number, numberAt, isField}
-use Rattle.sheet.specs.Form.{fieldForm}
+use Rattle.fields.specs.Field.{column, fieldOf, number, numberAt, isField}
+use Rattle.fields.specs.Form.{fieldForm}
 use Rattle.sheet.specs.Refused.{GoodField}
 use Rattle.memory.specs.Memory.{part}
 use Rattle.memory.proofs.PartLaws.{part-byte, part-reach, part-is}

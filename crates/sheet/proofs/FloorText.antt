@@ -15,10 +15,11 @@ use Rattle.floor.proofs.VerdictLaws.{then-passed, demand-passes, turn-passes}
 use Rattle.floor.proofs.LimitsLaws.{Bounds, limited-bounds, check-tells}
 use Rattle.floor.proofs.SameLaws.{places-same}
 use Rattle.floor.proofs.Theorems.{theorems}
-use Rattle.sheet.specs.Field.{numberAt}
+use Rattle.fields.specs.Field.{numberAt}
 use Rattle.sheet.specs.Text.{carrierLines, wallLines, headLine, carrierLine, wallLine, sheetOf, sheetLength, carrierAt, goalAt}
 use Rattle.sheet.specs.Text.{wallAt}
-use Rattle.sheet.specs.Form.{lineForm, linesForm, endForm, restForm}
+use Rattle.fields.specs.Form.{lineForm, endForm}
+use Rattle.sheet.specs.Form.{linesForm, restForm}
 use Rattle.sheet.specs.Values.{cellAt, headAt, floorAt, cellsAt, wallsFrom, wallsAt}
 use Rattle.sheet.specs.Read.{formOf, sheetVerdict}
 use Rattle.sheet.proofs.CellLaws.{number-value, cell-of-cell}

@@ -11,7 +11,8 @@ use Rattle.floor.proofs.VerdictLaws.{then-both, demand-holds, demand-passes, tu
 use Rattle.floor.proofs.LimitsLaws.{Bounds, limits-passed}
 use Rattle.floor.proofs.SameLaws.{places-same}
 use Rattle.sheet.specs.Text.{carrierAt, wallAt}
-use Rattle.sheet.specs.Form.{newlineForm, lineForm, linesForm, endForm, restForm}
+use Rattle.fields.specs.Form.{newlineForm, lineForm, endForm}
+use Rattle.sheet.specs.Form.{linesForm, restForm}
 use Rattle.sheet.specs.Values.{headAt, floorAt, wallsFrom, wallsAt}
 use Rattle.sheet.specs.Read.{formOf}
 use Rattle.sheet.proofs.ListedLaws.{listed-length}

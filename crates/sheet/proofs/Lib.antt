@@ -1,14 +1,9 @@
 -- Laws of the definitions that no single function owns.
-pub mod TestLaws
-pub mod CallLaws
-pub mod ReaderCalls
-pub mod ThinLaws
 pub mod ListedLaws
 pub mod CellLaws
 pub mod FormLaws
 pub mod ReadLaws
 pub mod PlaceLaws
-pub mod ReaderLaws
 pub mod LineLaws
 pub mod SheetLaws
 pub mod FieldLaws

@@ -9,9 +9,9 @@ use lib.ListN.{length, getD, length-append}
 use lib.Dec.{lit<}
 use Rattle.floor.specs.Verdict.{passed}
 use Rattle.floor.proofs.VerdictLaws.{then-both, then-passed, demand-holds, demand-passes, turn-passed, turn-passes}
-use Rattle.sheet.specs.Field.{fieldOf, numberAt}
+use Rattle.fields.specs.Field.{fieldOf, numberAt}
 use Rattle.sheet.specs.Text.{lineOf}
-use Rattle.sheet.specs.Form.{fieldForm, newlineForm, lineForm}
+use Rattle.fields.specs.Form.{fieldForm, newlineForm, lineForm}
 use Rattle.sheet.proofs.LineLaws.{field-length}
 use Rattle.memory.specs.Memory.{part}
 use Rattle.memory.proofs.PartLaws.{part-byte, part-reach, part-is, part-split, part-blocks}

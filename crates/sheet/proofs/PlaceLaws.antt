@@ -11,7 +11,8 @@ use Rattle.floor.specs.Verdict.{Verdict, passed, refused, _then_, demand, inTur
 use Rattle.floor.specs.Checks.{carriersOf, wallsOf, risingOf, clearOf, distinctOf, placesOf}
 use Rattle.floor.proofs.LimitsLaws.{Bounds, limits-passed, limits-each}
 use Rattle.sheet.specs.Text.{carrierAt, wallAt}
-use Rattle.sheet.specs.Form.{fieldForm, newlineForm, lineForm, linesForm, endForm, restForm}
+use Rattle.fields.specs.Form.{fieldForm, newlineForm, lineForm, endForm}
+use Rattle.sheet.specs.Form.{linesForm, restForm}
 use Rattle.sheet.specs.Values.{headAt, floorAt, wallsAt}
 use Rattle.sheet.specs.Read.{formOf, sheetVerdict}
 use Rattle.sheet.proofs.FormLaws.{form-tells}

@@ -10,9 +10,10 @@ use Rattle.floor.specs.Accepted.{Accepted}
 use Rattle.floor.proofs.VerdictLaws.{then-both, turn-passed}
 use Rattle.floor.proofs.LimitsLaws.{Bounds, limited-bounds}
 use Rattle.floor.proofs.Theorems.{theorems}
-use Rattle.sheet.specs.Field.{numberAt}
+use Rattle.fields.specs.Field.{numberAt}
 use Rattle.sheet.specs.Text.{linesOf, headLine, carrierLine, wallLine, sheetOf, carrierAt, goalAt, wallAt}
-use Rattle.sheet.specs.Form.{lineForm, linesForm, restForm}
+use Rattle.fields.specs.Form.{lineForm}
+use Rattle.sheet.specs.Form.{linesForm, restForm}
 use Rattle.sheet.specs.Values.{valueAt, cellAt, headAt, floorAt, cellsAt, wallsFrom, wallsAt}
 use Rattle.sheet.specs.Read.{formOf, sheetVerdict}
 use Rattle.sheet.proofs.CellLaws.{value-number, cell-tells, cell-column, cell-row}

@@ -6,7 +6,8 @@ use Rattle.floor.specs.declared.Floor.{Floor}
 use Rattle.floor.specs.Verdict.{Verdict, passed, refused, _then_, inTurn}
 use Rattle.floor.proofs.VerdictLaws.{then-assoc}
 use Rattle.sheet.specs.Text.{carrierAt, wallAt}
-use Rattle.sheet.specs.Form.{fieldForm, lineForm, linesForm, endForm, restForm}
+use Rattle.fields.specs.Form.{fieldForm, lineForm, endForm}
+use Rattle.sheet.specs.Form.{linesForm, restForm}
 use Rattle.sheet.specs.Refused.{Slot, field, newline, finish, fieldSlots, lineSlots, linesSlots, headSlots, restSlots}
 use Rattle.sheet.proofs.SlotLaws.{slotForm, slotsForm}
 

@@ -11,8 +11,8 @@ use Rattle.floor.specs.Verdict.{Verdict, passed, refused, _then_, demand}
 use Rattle.floor.proofs.VerdictLaws.{then-both, then-cases, then-passed, then-refused, demand-holds, demand-cases, demand-passes}
 use Rattle.floor.proofs.VerdictLaws.{demand-refuses, refused-not-passed}
 use Rattle.floor.proofs.EachLaws.{fails-false, false-fails}
-use Rattle.sheet.specs.Field.{isField}
-use Rattle.sheet.specs.Form.{fieldForm, newlineForm, endForm}
+use Rattle.fields.specs.Field.{isField}
+use Rattle.fields.specs.Form.{fieldForm, newlineForm, endForm}
 use Rattle.sheet.specs.Refused.{Slot, field, newline, finish, Fine, Broken, cut, bad, ended, wrong, extra, AllFine, none-left}
 use Rattle.sheet.specs.Refused.{one-more, FirstBroken, here, later}
 use Rattle.sheet.proofs.FieldLaws.{is-field-good, good-is-field}

@@ -11,8 +11,9 @@ use Rattle.floor.proofs.VerdictLaws.{then-both, then-cases, then-passed, then-r
 use Rattle.floor.proofs.EachLaws.{each-refused, first-refuses}
 use Rattle.floor.proofs.LimitsLaws.{fieldWithin, field-means, limits-each, limits-mean}
 use Rattle.floor.proofs.Theorems.{theorems as floor-theorems}
-use Rattle.sheet.specs.Field.{numberAt}
-use Rattle.sheet.specs.Form.{lineForm, restForm}
+use Rattle.fields.specs.Field.{numberAt}
+use Rattle.fields.specs.Form.{lineForm}
+use Rattle.sheet.specs.Form.{restForm}
 use Rattle.sheet.specs.Values.{valueAt, cellAt, headAt, floorAt, wallsAt}
 use Rattle.sheet.specs.Read.{formOf, sheetVerdict}
 use Rattle.sheet.specs.Refused.{headSlots, restSlots, AllFine, RefusedSheet, head-form, outside-limit, rest-form, floor-row}

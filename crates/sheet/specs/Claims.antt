@@ -8,7 +8,7 @@ use Rattle.floor.specs.declared.Floor.{Floor}
 use Rattle.floor.specs.Verdict.{passed, refused}
 use Rattle.floor.specs.Checks.{checkOf}
 use Rattle.floor.specs.Accepted.{SameFloor}
-use Rattle.sheet.specs.Field.{numberAt}
+use Rattle.fields.specs.Field.{numberAt}
 use Rattle.sheet.specs.Text.{sheetOf, sheetLength}
 use Rattle.sheet.specs.Values.{cellAt, floorAt, wallsAt}
 use Rattle.sheet.specs.Read.{sheetVerdict}

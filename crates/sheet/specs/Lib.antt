@@ -1,5 +1,4 @@
 -- What a reader must believe of the sheet: the text of a floor, the form of a text, and what is read from it.
-pub mod Field
 pub mod Text
 pub mod Form
 pub mod Values

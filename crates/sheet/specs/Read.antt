@@ -7,7 +7,8 @@ use Rattle.floor.specs.Verdict.{Verdict, passed, refused, _then_}
 use Rattle.floor.specs.Checks.{limitsOf, placesOf, checkOf, roomOf}
 use Rattle.floor.specs.Fresh.{freshFloor}
 use Rattle.sheet.specs.Text.{sheetOf, sheetLength}
-use Rattle.sheet.specs.Form.{lineForm, restForm}
+use Rattle.fields.specs.Form.{lineForm}
+use Rattle.sheet.specs.Form.{restForm}
 use Rattle.sheet.specs.Values.{headAt, floorAt, wallsAt}
 
 -- Line 1's form, then 2, then the other lines' form.

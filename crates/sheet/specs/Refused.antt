@@ -7,7 +7,7 @@ use lib.ListN.{length, getD}
 use Rattle.floor.specs.declared.Floor.{Floor}
 use Rattle.floor.specs.Accepted.{First, FieldWithin, Limited}
 use Rattle.floor.specs.Refused.{RefusedWith}
-use Rattle.sheet.specs.Field.{fieldOf}
+use Rattle.fields.specs.Field.{fieldOf}
 use Rattle.sheet.specs.Text.{carrierAt, wallAt}
 use Rattle.sheet.specs.Values.{headAt, floorAt, wallsAt}
 

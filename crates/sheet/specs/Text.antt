@@ -4,7 +4,7 @@ use mathlib.Core.List.{List, [], _∷_, _++_}
 use lib.ListN.{getD}
 use Rattle.floor.specs.declared.Floor.{Floor}
 use Rattle.floor.specs.Checks.{startOf, goalOf}
-use Rattle.sheet.specs.Field.{fieldOf}
+use Rattle.fields.specs.Field.{fieldOf}
 
 -- A line: its fields and one newline.
 unfoldable pub lineOf : List ℕ → List ℕ

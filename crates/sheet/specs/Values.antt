@@ -5,7 +5,7 @@ use mathlib.Core.List.{List, [], _∷_, _++_}
 use lib.ListN.{replicate}
 use lib.Dec.{ltb}
 use Rattle.floor.specs.declared.Floor.{Floor}
-use Rattle.sheet.specs.Field.{numberAt}
+use Rattle.fields.specs.Field.{numberAt}
 use Rattle.sheet.specs.Text.{carrierAt, goalAt, wallAt}
 
 -- A value as a record holds it: 65535 stands for every number above it, which no limit and no grid reaches.

@@ -5,8 +5,6 @@ ghost use lib.ListN.{length};
 ghost use Rattle.floor.specs.Answers.{verdictOf};
 ghost use Rattle.sheet.specs.Text.{carrierAt, wallAt};
 ghost use Rattle.sheet.specs.Form.{linesForm, restForm};
-use crate::reader;
-use crate::slot;
 use floor::Checked;
 use floor::Floor;
 
@@ -17,7 +15,7 @@ fn carriers_form(text: &[u8], n: usize) -> Checked
 {
     let mut i: usize = 0;
     while i < n {
-        let line = reader::line_form(text, 31 + 21 * i, 4);
+        let line = fields::line_form(text, 31 + 21 * i, 4);
         let Checked::Passed = line else {
             return line;
         };
@@ -35,7 +33,7 @@ fn walls_form(text: &[u8], f: Floor) -> Checked
     let k = f.walls as usize;
     let mut j: usize = 0;
     while j < k {
-        let line = reader::line_form(text, base + 11 * j, 2);
+        let line = fields::line_form(text, base + 11 * j, 2);
         let Checked::Passed = line else {
             return line;
         };
@@ -57,5 +55,5 @@ pub fn rest_form(text: &[u8], f: Floor) -> Checked
     let Checked::Passed = walls else {
         return walls;
     };
-    slot::end_form(text, 31 + 21 * f.carriers as usize + 11 * f.walls as usize)
+    fields::end_form(text, 31 + 21 * f.carriers as usize + 11 * f.walls as usize)
 }

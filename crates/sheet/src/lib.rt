@@ -1,13 +1,9 @@
 // The sheet of document 01: the text form of a floor, read and written. Knows nothing of routes or messages.
-mod field;
 mod form;
 mod lines;
-mod reader;
-mod slot;
 mod values;
 
 // A field written into a buffer, for the crates that print.
-pub use lines::put_field;
 ghost use mathlib.Core.Path.{_≡_};
 ghost use lib.ListN.{length};
 ghost use Rattle.floor.specs.Verdict.{passed};
@@ -30,7 +26,7 @@ pub struct Reading {
 fn form_of(text: &[u8]) -> Checked
     ensures { λ r. ⌜ verdictOf r ≡ formOf (now (text .entry)) ⌝ }
 {
-    let line = reader::line_form(text, 0, 6);
+    let line = fields::line_form(text, 0, 6);
     let Checked::Passed = line else {
         return line;
     };

@@ -4,24 +4,11 @@ ghost use mathlib.Core.List.{_++_};
 ghost use Prim.Native.Nat.{_+_, _*_, _%_, _/_, _≤_, _<_};
 ghost use lib.ListN.{length};
 ghost use Rattle.floor.specs.Checks.{startOf, goalOf};
-ghost use Rattle.sheet.specs.Field.{fieldOf};
+ghost use Rattle.fields.specs.Field.{fieldOf};
 ghost use Rattle.sheet.specs.Text.{headLine, carrierLine, wallLine, carrierLines, wallLines, sheetOf, sheetLength};
 ghost use Rattle.memory.specs.Memory.{put};
-use crate::field;
+use fields::put_field;
 use floor::Floor;
-
-// A field.
-pub fn put_field(out: &mut [u8], at: usize, v: u16)
-    requires { ⌜ at + 5 ≤ length (now out) ⌝ }
-    ensures { λ r. ⌜ now (out .exit) ≡ put (now (out .entry)) at (fieldOf v) ⌝ }
-{
-    let n = v as u32;
-    out[at] = field::column(n, 10000);
-    out[at + 1] = field::column(n, 1000);
-    out[at + 2] = field::column(n, 100);
-    out[at + 3] = field::column(n, 10);
-    out[at + 4] = field::units(n);
-}
 
 // The two fields of a cell: column and row.
 fn put_cell(out: &mut [u8], at: usize, width: u16, c: u16)

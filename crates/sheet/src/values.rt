@@ -5,7 +5,6 @@ ghost use Prim.Native.Nat.{_+_, _*_, _≤_, _<_};
 ghost use lib.ListN.{length, drop};
 ghost use Rattle.sheet.specs.Text.{carrierAt, wallAt, sheetLength};
 ghost use Rattle.sheet.specs.Values.{valueAt, cellOf, cellAt, upTo, listed, headAt, floorAt, wallsFrom};
-use crate::field;
 use floor::Floor;
 
 // The value at a column, as a record holds it.
@@ -13,7 +12,7 @@ pub fn value(text: &[u8], at: usize) -> u16
     requires { ⌜ at + 5 ≤ length (now text) ⌝ }
     ensures { λ r. ⌜ r ≡ valueAt (now (text .entry)) at ⌝ }
 {
-    let v = field::number(text, at);
+    let v = fields::number(text, at);
     if 65535 < v {
         return 65535;
     }

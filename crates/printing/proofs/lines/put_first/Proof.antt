@@ -2,7 +2,7 @@
 use mathlib.Core.Path.{refl}
 use lib.ListN.{length-set}
 use Rattle.printing.specs.Text.{firstLine}
-use Rattle.sheet.specs.Field.{fieldOf}
+use Rattle.fields.specs.Field.{fieldOf}
 use Rattle.sheet.specs.Text.{lineOf}
 use Rattle.sheet.proofs.LineLaws.{field-next, newline-next}
 use native.Mathlib.Omega.{arith}

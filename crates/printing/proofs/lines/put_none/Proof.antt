@@ -1,6 +1,6 @@
 -- `printing::lines::put_none` meets its contract: a field, five bytes and a newline, one behind the other.
 use Rattle.printing.specs.Text.{noneLine, noneWord}
-use Rattle.sheet.specs.Field.{fieldOf}
+use Rattle.fields.specs.Field.{fieldOf}
 use mathlib.Core.Path.{refl}
 use lib.ListN.{length-set}
 use Rattle.memory.proofs.PutLaws.{put-next}

@@ -1,5 +1,6 @@
 -- `sheet::form::carriers_form` meets its contract: invariant: the lines passed are in good form.
-use Rattle.sheet.specs.Form.{lineForm, linesForm}
+use Rattle.fields.specs.Form.{lineForm}
+use Rattle.sheet.specs.Form.{linesForm}
 use Rattle.sheet.specs.Text.{carrierAt}
 use Rattle.floor.proofs.AnswersLaws.{turn-ends, passes}
 use Rattle.floor.proofs.VerdictLaws.{turn-none, turn-more, turn-end}

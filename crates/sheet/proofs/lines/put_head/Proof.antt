@@ -1,7 +1,7 @@
 -- `sheet::lines::put_head` meets its contract: six fields and a newline, one behind the other.
 use Rattle.sheet.specs.Text.{lineOf, headLine}
 use Rattle.sheet.proofs.LineLaws.{field-next, newline-next}
-use Rattle.sheet.specs.Field.{fieldOf}
+use Rattle.fields.specs.Field.{fieldOf}
 use lib.ListN.{length-set}
 use mathlib.Core.Path.{refl}
 use native.Mathlib.Omega.{arith}

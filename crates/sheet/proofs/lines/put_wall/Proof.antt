@@ -1,7 +1,7 @@
 -- `sheet::lines::put_wall` meets its contract: a cell and a newline.
 use Rattle.sheet.specs.Text.{lineOf, wallLine}
 use Rattle.sheet.proofs.LineLaws.{newline-next}
-use Rattle.sheet.specs.Field.{fieldOf}
+use Rattle.fields.specs.Field.{fieldOf}
 use mathlib.Core.Path.{refl}
 use native.Mathlib.Omega.{arith}
 use borrow.Author.Needs.{needs}

@@ -1,0 +1,26 @@
+-- `fields::field::column` meets its contract: a space, or the digit.
+use Rattle.fields.specs.Field.{column}
+use borrow.Author.Tests.{lt-ltb, le-ltb}
+use borrow.Author.Needs.{needs}
+use Rattle.fields.proofs.field.column.Statement.{statement}
+use Rattle.fields.proofs.field.column.Tie as tie
+
+returns : tie.Need-returns
+unfolding column
+returns c = rw (lt-ltb _ _ (c .if1 .taken))
+
+div-result : tie.Need-div-result
+div-result c = search needs
+
+add-result : tie.Need-add-result
+add-result c = search needs
+
+cast-result : tie.Need-cast-result
+cast-result c = search needs
+
+returns-2 : tie.Need-returns-2
+unfolding column
+returns-2 c = rw (le-ltb _ _ (c .if1 .left))
+
+pub column-spec : {M : Type 1} → statement M
+column-spec = tie.close (tie.spec returns div-result add-result cast-result returns-2)
