@@ -9,13 +9,9 @@ use Rattle.route.specs.Moves.{near}
 use Rattle.route.specs.Search.{Rule}
 use Rattle.route.proofs.Sets.{Reached}
 use Rattle.route.proofs.NearLaws.{near-says, shares-side-sym}
-use Rattle.tables.specs.Window.{gap}
+use Rattle.tables.specs.Window.{gap, apart}
 use Rattle.tables.proofs.WindowLaws.{gap-same, gap-sym, gap-next}
 use Rattle.search.proofs.NarrowLaws.{reach, back, reach-begins, reach-says, back-begins, back-says}
-
--- How many steps cells c and d of a grid of width w are apart.
-unfoldable pub apart : ℕ → ℕ → ℕ → ℕ
-apart w c d = gap (c / w) (d / w) + gap (c % w) (d % w)
 
 -- Cells that share a side, or are one, are nearly as far from a third.
 side-apart : (w x c d : ℕ) → (d ≡ c) ⊎ SharesSide w c d → apart w x d ≤ suc (apart w x c)

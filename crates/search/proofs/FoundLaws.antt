@@ -23,6 +23,7 @@ use Rattle.tables.specs.declared.window.Window.{Window}
 use Rattle.route.specs.Views.{records}
 use Rattle.tables.specs.Ways.{wayOpen}
 use Rattle.tables.specs.Table.{inSet}
+use Rattle.tables.specs.Window.{apart}
 use Rattle.tables.specs.Windowed.{Fitting, WindowOf}
 use Rattle.passes.specs.Passes.{Laid, Advanced, Traced}
 use Rattle.passes.specs.Passes.{lastNot, Earliest, arrivable}
@@ -32,7 +33,7 @@ use Rattle.passes.proofs.NextLaws.{step-before, step-after, next-inside}
 use Rattle.passes.proofs.NextBest.{Taken, next-best}
 use Rattle.search.proofs.NarrowLaws.{reach, back, reach-begins, reach-forward, back-backward, Passed, Wide, Kept, passed-goal}
 use Rattle.search.proofs.NarrowLaws.{kept-greedy}
-use Rattle.search.proofs.ApartLaws.{apart, reach-apart}
+use Rattle.search.proofs.ApartLaws.{reach-apart}
 use Rattle.search.proofs.PassLaws.{Setting, taskIn, ruleIn, allowed-near, allowed-passes, allowed-makes, allowed-cell, room-is}
 use Rattle.search.proofs.PassLaws.{hold-holds, holds-hold, laid-wide, made-passed, traced-stands, traced-kept}
 

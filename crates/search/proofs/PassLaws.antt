@@ -22,6 +22,7 @@ use Rattle.tables.specs.declared.window.Window.{Window}
 use Rattle.route.specs.Views.{records}
 use Rattle.tables.specs.Table.{inSet}
 use Rattle.tables.specs.Room.{standsAt, Roomy}
+use Rattle.tables.specs.Window.{apart}
 use Rattle.tables.specs.Windowed.{firstAt, Inside, Fitting, WindowOf}
 use Rattle.passes.specs.Steps.{Entered}
 use Rattle.passes.specs.Passes.{Laid, Advanced, Traced}
@@ -33,7 +34,7 @@ use Rattle.tables.proofs.GridLaws.{cell-small}
 use Rattle.passes.proofs.MemberLaws.{near-same, near-turn}
 use Rattle.search.proofs.NarrowLaws.{reach, back, reach-says, Passed, Wide, Kept}
 use Rattle.tables.proofs.WindowLaws.{window-holds}
-use Rattle.search.proofs.ApartLaws.{apart, reach-apart, back-apart}
+use Rattle.search.proofs.ApartLaws.{reach-apart, back-apart}
 
 -- The task of a search in a scene with rows of free cells.
 abbrev pub taskIn : Scene → List ℕ → ℕ → ℕ → Task

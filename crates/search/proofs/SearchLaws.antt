@@ -16,16 +16,15 @@ use Rattle.tables.specs.declared.window.Window.{Window}
 use Rattle.route.specs.Views.{records, viewsOf}
 use Rattle.search.specs.Task.{taskOfRows}
 use Rattle.search.specs.Rows.{Searchable}
-use Rattle.tables.specs.Window.{gap}
+use Rattle.tables.specs.Window.{apart}
 use Rattle.tables.specs.Table.{sceneOf, inSet, Fits}
 use Rattle.tables.specs.Room.{Roomy}
 use Rattle.tables.specs.Windowed.{firstAt, Inside, Fitting, WindowOf, Windowed}
 use Rattle.passes.specs.Passes.{Made, Traced}
 use Rattle.passes.specs.Passes.{Made, lastNot, Earliest, arrivable}
 use Rattle.passes.specs.Walk.{pathOf}
-use Rattle.tables.proofs.GridLaws.{grid-room, grid-small, scene-grid}
+use Rattle.tables.proofs.GridLaws.{grid-room, scene-grid}
 use Rattle.tables.proofs.WindowLaws.{gap-same, window-holds}
-use Rattle.search.proofs.ApartLaws.{apart}
 use Rattle.search.proofs.PassLaws.{Setting, taskIn}
 use Rattle.search.proofs.FoundLaws.{arrivable-inside, shut-none, far-none, never-none, route-best}
 
@@ -54,15 +53,10 @@ module _ {f : Floor} {rows : List ℕ} {i : ℕ} {m : List ℕ} (s : Searchable 
   unfolding sceneOf
   scene-goal = rw q (s .goal)
 
-  pub scene-small : (startOf f (i - 1) < 1024) × (goalOf f (i - 1) < 1024)
-  scene-small = omega (arith, s .start, s .goal, grid-small (f .width) (f .height) (s .width .1) (s .height))
-
   -- The window has the start at beat 0.
   pub scene-window : {limit : ℕ} {v : Window} → WindowOf g (startOf f (i - 1)) (goalOf f (i - 1)) limit v →
-      gap (startOf f (i - 1) / g .width) (goalOf f (i - 1) / g .width) + gap (startOf f (i - 1) % g .width) (goalOf f (i - 1) % g .width) ≤
-      limit →
-      Inside v 0 (startOf f (i - 1) / g .width)
-  unfolding firstAt
+      apart (g .width) (startOf f (i - 1)) (goalOf f (i - 1)) ≤ limit → Inside v 0 (startOf f (i - 1) / g .width)
+  unfolding firstAt apart
   scene-window {limit} win h =
       rw (win .limited, win .begins, win .ends, win .top, win .height)
       (window-holds row column (goalOf f (i - 1) / g .width) (goalOf f (i - 1) % g .width) limit 0 row column
@@ -111,10 +105,7 @@ module _ {f : Floor} {rows : List ℕ} {i : ℕ} {m room : List ℕ} (s : Search
   shut-best e = same ∙ shut-none setting e
 
   -- The goal is too far.
-  pub far-best : g .horizon <
-      gap (startOf f (i - 1) / g .width) (goalOf f (i - 1) / g .width) + gap (startOf f (i - 1) % g .width) (goalOf f (i - 1) % g .width) →
-      best (taskOfRows f rows i) (viewsOf m i) ≡ none
-  unfolding apart
+  pub far-best : g .horizon < apart (g .width) (startOf f (i - 1)) (goalOf f (i - 1)) → best (taskOfRows f rows i) (viewsOf m i) ≡ none
   far-best h = same ∙ far-none setting h
 
   module _ {limit : ℕ} {v : Window} (fit : Fitting g v) (win : WindowOf g (startOf f (i - 1)) (goalOf f (i - 1)) limit v) {hold : ℕ}

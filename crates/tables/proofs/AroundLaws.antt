@@ -1,7 +1,6 @@
 -- The window of a search as the code makes it.
 use Prim.Native.Nat.{ℕ, _+_, _*_, _-_, _/_, _%_, _≤_, _<_}
 use native.Mathlib.Omega.{arith}
-use native.Mathlib.Nat.{div-le-self, mod-le}
 use mathlib.Core.Logic.{_⊎_, inl, inr, ⊎-elim}
 use mathlib.Core.Path.{_≡_, _∙_}
 use borrow.Author.Tests.{lt-ltb, le-ltb}
@@ -39,13 +38,6 @@ first-made v t m l p q k r e₁ e₂ e₃ e₄ e₅ e₆ = e₆ ∙ rw (e₅, e�
 pub first-fits : (v : Window) (t r : ℕ) → v .height ≤ 32 → r ≡ firstAt v t → r + v .height ≤ 32
 unfolding firstAt
 first-fits v t r h e = rw e (first-small (v .top) (v .start) (v .goal) (v .limit) (v .height) t h)
-
--- Row and column of a number are not above it.
-pub row-below : (w c n : ℕ) → c < n → c / w < n
-row-below w c n h = omega (arith, div-le-self c w)
-
-pub column-below : (w c n : ℕ) → c < n → c % w < n
-column-below w c n h = omega (arith, mod-le c w)
 
 -- What the way and the held goal need is within the horizon.
 pub near-small : (far hold n r : ℕ) → far ≤ n → hold ≤ n → r ≡ larger far hold → r ≤ n

@@ -1,11 +1,15 @@
 -- The rows that a search within a limit of beats has to look at: a window of four rows that moves with the beat, or all rows.
-use Prim.Native.Nat.{ℕ, _+_, _*_, _-_, _/_}
+use Prim.Native.Nat.{ℕ, _+_, _*_, _-_, _/_, _%_}
 use mathlib.Core.Bool.{true, false}
 use lib.Dec.{ltb}
 
 -- How far two numbers are apart.
 unfoldable pub gap : ℕ → ℕ → ℕ
 gap m n = (m - n) + (n - m)
+
+-- How many steps cells c and d of a grid of width w are apart.
+unfoldable pub apart : ℕ → ℕ → ℕ → ℕ
+apart w c d = gap (c / w) (d / w) + gap (c % w) (d % w)
 
 -- The smaller of two.
 unfoldable pub smaller : ℕ → ℕ → ℕ

@@ -1,10 +1,12 @@
 // The window of rows that a search within a limit of beats looks at: four rows, or all, from a first row on, which follows the beats.
 ghost use mathlib.Core.Path.{_≡_};
-ghost use Prim.Native.Nat.{_+_, _-_, _/_, _%_, _≤_, _<_};
-ghost use Rattle.tables.specs.Window.{heightFor};
+ghost use Prim.Native.Nat.{_-_, _≤_, _<_};
+ghost use Rattle.tables.specs.Table.{Grid};
+ghost use Rattle.tables.specs.Window.{apart, heightFor};
 ghost use Rattle.tables.specs.Window.{gap as Window·gap, smaller as Window·smaller, larger as Window·larger};
 ghost use Rattle.tables.specs.Windowed.{firstAt, Fitting, WindowOf};
 use crate::Scene;
+use crate::place_of;
 
 // A window: the limit, the rows of start and goal, the first row of all, and how many rows a beat has.
 pub struct Window {
@@ -47,8 +49,8 @@ fn larger(m: usize, n: usize) -> usize
 
 // How far two numbers are apart.
 fn gap(m: usize, n: usize) -> usize
-    requires { ⌜ (m < 1024) × (n < 1024) ⌝ }
-    ensures { λ r. ⌜ (r ≡ Window·gap m n) × (r < 1024) ⌝ }
+    requires { ⌜ (m < 32) × (n < 32) ⌝ }
+    ensures { λ r. ⌜ (r ≡ Window·gap m n) × (r < 32) ⌝ }
 {
     minus(m, n) + minus(n, m)
 }
@@ -75,11 +77,12 @@ fn height_for(n: usize) -> usize
 
 // How many beats a way from the start to the goal takes at least.
 pub fn far(g: Scene, start: usize, goal: usize) -> usize
-    requires { ⌜ (1 ≤ g .width) × (g .width ≤ 32) × (start < 1024) × (goal < 1024) ⌝ }
-    ensures { λ r. ⌜ (r ≡ Window·gap (start / g .width) (goal / g .width) + Window·gap (start % g .width) (goal % g .width)) × (r < 2048) ⌝ }
+    requires { ⌜ Grid g × (start < g .cells) × (goal < g .cells) ⌝ }
+    ensures { λ r. ⌜ (r ≡ apart (g .width) start goal) × (r < 64) ⌝ }
 {
-    let w = g.width;
-    gap(start / w, goal / w) + gap(start % w, goal % w)
+    let from = place_of(g, start);
+    let to = place_of(g, goal);
+    gap(from.row, to.row) + gap(from.column, to.column)
 }
 
 // How many beats the first search may take: what the way and the held goal need at least, and two more.
@@ -92,21 +95,20 @@ pub fn near_limit(g: Scene, far: usize, hold: usize) -> usize
 
 // The window of a search from the start to the goal within a limit.
 pub fn around(g: Scene, start: usize, goal: usize, limit: usize) -> Window
-    requires { ⌜ (1 ≤ g .width) × (g .width ≤ 32) × (start < 1024) × (goal < 1024) × (limit ≤ g .horizon) × (limit < 64) ⌝ }
+    requires { ⌜ Grid g × (start < g .cells) × (goal < g .cells) × (limit ≤ g .horizon) × (limit < 64) ⌝ }
     ensures { λ r. ⌜ Fitting g r × WindowOf g start goal limit r ⌝ }
 {
-    let w = g.width;
-    let from = start / w;
-    let to = goal / w;
-    let rows = gap(from, to);
-    let far = rows + gap(start % w, goal % w);
+    let from = place_of(g, start);
+    let to = place_of(g, goal);
+    let rows = gap(from.row, to.row);
+    let far = rows + gap(from.column, to.column);
     let spare = minus(limit, far) / 2;
     let high = smaller(rows + 2 * spare, minus(limit, rows));
     Window {
         limit: limit,
-        start: from,
-        goal: to,
-        top: minus(smaller(from, to), spare),
+        start: from.row,
+        goal: to.row,
+        top: minus(smaller(from.row, to.row), spare),
         height: height_for(high),
     }
 }

@@ -5,7 +5,7 @@ use borrow.Author.Tests.{not-true, not-false}
 use Rattle.floor.specs.Checks.{startOf, goalOf}
 use Rattle.search.specs.Answers.{answered}
 use Rattle.search.proofs.AnswerLaws.{says-same}
-use Rattle.search.proofs.SearchLaws.{scene-fits, scene-start, scene-goal, scene-small, scene-window, scene-room}
+use Rattle.search.proofs.SearchLaws.{scene-fits, scene-start, scene-goal, scene-window, scene-room}
 use Rattle.search.proofs.SearchLaws.{found-inside, shut-best, far-best, unreached-best, reached-best}
 use native.Mathlib.Omega.{arith}
 use borrow.Author.Needs.{needs}
@@ -68,7 +68,7 @@ far-requires c κs =
     let p = c₄ .before .before .before .pre in
     let q = c .before .before .scene-of .ensures in
     let x = scene-fits (p .0) q in
-    (x .grid .thin, x .grid .narrow, scene-small (p .0) q .0, scene-small (p .0) q .1)
+    (x .grid, scene-start (p .0) q, scene-goal (p .0) q)
 
 none-requires-2 : tie.Need-none-requires-2
 none-requires-2 c κs = search needs
@@ -113,7 +113,7 @@ around-requires c κs =
     let q = c₄ .before .before .before .scene-of .ensures in
     let x = scene-fits (p .0) q in
     let l = c .near-limit .ensures in
-    (x .grid .thin, x .grid .narrow, scene-small (p .0) q .0, scene-small (p .0) q .1, l .1, omega (arith, x .short, l))
+    (x .grid, scene-start (p .0) q, scene-goal (p .0) q, l .1, omega (arith, x .short, l))
 
 empty-requires : tie.Need-empty-requires
 empty-requires c κs = search needs
@@ -206,7 +206,7 @@ around-requires-2 c κs =
     let p = c₂₀ .pre in
     let q = c₁₂ .before .before .before .scene-of .ensures in
     let x = scene-fits (p .0) q in
-    (x .grid .thin, x .grid .narrow, scene-small (p .0) q .0, scene-small (p .0) q .1, omega arith, omega (arith, x .short))
+    (x .grid, scene-start (p .0) q, scene-goal (p .0) q, omega arith, omega (arith, x .short))
 
 empty-requires-2 : tie.Need-empty-requires-2
 empty-requires-2 c κs = search needs

@@ -1,27 +1,22 @@
 -- `tables::window::around` meets its contract. The numbers are small, and the window is that of its definition. Assumes nothing.
 use mathlib.Core.Path.{refl}
+use native.Mathlib.Omega.{arith}
 use borrow.Author.Needs.{needs}
-use Rattle.tables.proofs.AroundLaws.{row-below, column-below, around-made}
+use Rattle.tables.proofs.AroundLaws.{around-made}
 use Rattle.tables.proofs.window.around.Statement.{statement}
 use Rattle.tables.proofs.window.around.Tie as tie
 
-div-from : tie.Need-div-from
-div-from c = search needs
+place-of-requires : tie.Need-place-of-requires
+place-of-requires c κs = search needs
 
-div-to : tie.Need-div-to
-div-to c = search needs
+place-of-requires-2 : tie.Need-place-of-requires-2
+place-of-requires-2 c κs = search needs
 
 gap-requires : tie.Need-gap-requires
-gap-requires c κs = (row-below _ _ _ (c .pre .2), row-below _ _ _ (c .pre .3))
-
-rem-gap : tie.Need-rem-gap
-rem-gap c = search needs
-
-rem-gap-2 : tie.Need-rem-gap-2
-rem-gap-2 c = search needs
+gap-requires c κs = search needs
 
 gap-requires-2 : tie.Need-gap-requires-2
-gap-requires-2 c κs = (column-below _ _ _ (c .before .pre .2), column-below _ _ _ (c .before .pre .3))
+gap-requires-2 c κs = search needs
 
 add-far : tie.Need-add-far
 add-far c = search needs
@@ -54,20 +49,20 @@ returns : tie.Need-returns
 returns c =
     let c₄ = c .before .before .before .before in
     let c₈ = c₄ .before .before .before .before in
-    around-made _ _ _ _ _ _ _ _ _ _ _ (c₈ .pre .4) (c₄ .before .before .before .gap .ensures .0)
-    (c₄ .before .before .gap2 .ensures .0) (c₄ .before .minus .ensures) (c₄ .minus2 .ensures)
-    (c .before .before .before .smaller .ensures) (c .before .before .smaller2 .ensures) refl refl refl (c .before .minus3 .ensures)
-    (c .height-for .ensures)
+    let from = c₈ .before .place-of .ensures in
+    let to = c₈ .place-of2 .ensures in
+    around-made _ _ _ _ _ _ _ _ _ _ _ (c₈ .before .before .pre .3) (rw (from .row, to .row) at (c₄ .before .before .before .gap .ensures .0))
+    (rw (from .column, to .column) at (c₄ .before .before .gap2 .ensures .0)) (c₄ .before .minus .ensures) (c₄ .minus2 .ensures)
+    (c .before .before .before .smaller .ensures) (rw (from .row, to .row) at (c .before .before .smaller2 .ensures)) refl (from .row)
+    (to .row) (c .before .minus3 .ensures) (c .height-for .ensures)
 
 pub around-spec : {M : Type 1} → statement M
 around-spec =
     tie.close
     (tie.spec
-    div-from
-    div-to
+    place-of-requires
+    place-of-requires-2
     gap-requires
-    rem-gap
-    rem-gap-2
     gap-requires-2
     add-far
     minus-requires

@@ -1,34 +1,37 @@
--- `tables::window::far` meets its contract. Rows and columns of cells are small. Assumes nothing.
+-- `tables::window::far` meets its contract. The gap of the rows and that of the columns. Assumes nothing.
+use native.Mathlib.Omega.{arith}
 use borrow.Author.Needs.{needs}
-use Rattle.tables.proofs.AroundLaws.{row-below, column-below}
+use Rattle.tables.specs.Window.{apart}
 use Rattle.tables.proofs.window.far.Statement.{statement}
 use Rattle.tables.proofs.window.far.Tie as tie
 
-div-gap : tie.Need-div-gap
-div-gap c = search needs
+place-of-requires : tie.Need-place-of-requires
+place-of-requires c κs = search needs
 
-div-gap-2 : tie.Need-div-gap-2
-div-gap-2 c = search needs
+place-of-requires-2 : tie.Need-place-of-requires-2
+place-of-requires-2 c κs = search needs
 
 gap-requires : tie.Need-gap-requires
-gap-requires c κs = (row-below _ _ _ (c .pre .2), row-below _ _ _ (c .pre .3))
-
-rem-gap : tie.Need-rem-gap
-rem-gap c = search needs
-
-rem-gap-2 : tie.Need-rem-gap-2
-rem-gap-2 c = search needs
+gap-requires c κs = search needs
 
 gap-requires-2 : tie.Need-gap-requires-2
-gap-requires-2 c κs = (column-below _ _ _ (c .before .pre .2), column-below _ _ _ (c .before .pre .3))
+gap-requires-2 c κs = search needs
 
 add-result : tie.Need-add-result
 add-result c = search needs
 
 returns : tie.Need-returns
-returns c = search needs
+unfolding apart
+returns c =
+    let from = c .before .before .before .place-of .ensures in
+    let to = c .before .before .place-of2 .ensures in
+    let rows = c .before .gap .ensures in
+    let columns = c .gap2 .ensures in (
+      rw (rows .0, columns .0, from .row, from .column, to .row, to .column),
+      omega (arith, rows .1, columns .1),
+    )
 
 pub far-spec : {M : Type 1} → statement M
 far-spec =
     tie.close
-    (tie.spec div-gap div-gap-2 gap-requires rem-gap rem-gap-2 gap-requires-2 add-result returns)
+    (tie.spec place-of-requires place-of-requires-2 gap-requires gap-requires-2 add-result returns)
