@@ -69,7 +69,8 @@ module _ (g : Scene) (k : ℕ) (free m room : List ℕ) (fits : Fits g k m) (roo
   pub room-vacant : (t c : ℕ) → t ≤ g .horizon → inSet g room t c ≡ true → every (vacant t c) (records m k) ≡ true
   unfolding standsAt
   room-vacant t c h e =
-      and-snd (ltb c (g .cells) && has free (c / g .width) (c % g .width)) (every (vacant t c) (records m k)) (sym (roomy .agrees t c h) ∙ e)
+      and-snd (ltb c (g .cells) && has free (c / g .width) (c % g .width)) (every (vacant t c) (records m k))
+      (sym (roomy .agrees t c h) ∙ e)
 
   small : (c : ℕ) → c < g .cells → c < 65535
   small c h = cell-small (g .width) (g .cells) c (fits .grid .narrow) (fits .grid .room) h
@@ -94,7 +95,8 @@ module _ (g : Scene) (d a : ℕ) (p : Place) (grid : Grid g) (at : PlaceOf g d p
   lead-left x y e l h =
       let q : ((d - 1) / g .width ≡ d / g .width) × ((d - 1) % g .width ≡ d % g .width - 1) =
       at-left (g .width) d (grid .thin) (rw (at .column) at h) in
-      rw (e, l, at .column) (record { low = omega (arith, q .0, at .row, at .low); row = omega (arith, q .0, at .row); column = sym (q .1) })
+      rw (e, l, at .column)
+      (record { low = omega (arith, q .0, at .row, at .low); row = omega (arith, q .0, at .row); column = sym (q .1) })
 
   pub lead-here : Stands g a d (a * 36 + 1 + p .row) (p .column)
   lead-here = record { low = omega (arith, at .row, at .low); row = omega (arith, at .row); column = at .column }

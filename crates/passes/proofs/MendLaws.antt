@@ -142,7 +142,13 @@ module _ (g : Scene) (k : ℕ) (m s : List ℕ) (a b d : ℕ) where
         MendedCell g k m s a b d (dropped s (b * 36 + 1 + d / g .width) (d % g .width))
     unfolding q
     mended-dropped n =
-        record { tidy = fewer-tidy g s q tidy (length-dropped s (b * 36 + 1 + d / g .width) (d % g .width)) fewer; fewer = fewer; other = other; holds = λ e x. absurd (n x); gone = λ e. absurd (left-out e) }
+        record {
+          tidy = fewer-tidy g s q tidy (length-dropped s (b * 36 + 1 + d / g .width) (d % g .width)) fewer;
+          fewer = fewer;
+          other = other;
+          holds = λ e x. absurd (n x);
+          gone = λ e. absurd (left-out e);
+        }
 
 -- A way from the set of beat a is one from any table with the same set then.
 pub entered-same : (g : Scene) (k : ℕ) (m s q : List ℕ) (a b d : ℕ) → ((c : ℕ) → inSet g q a c ≡ inSet g s a c) →

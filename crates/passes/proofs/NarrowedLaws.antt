@@ -157,7 +157,8 @@ module _ (g : Scene) (k : ℕ) (v : Window) (m s q : List ℕ) (a b : ℕ) (fits
         set-holds g q b d (set-cell g s b d i)
         (new-digit (inside i)
         ∙ and-both
-        (brought-holds g s a (d / g .width) (d % g .width) (windowed .tidy) (fits .grid .thin) (row (set-cell g s b d i)) column e h (rw same n))
+        (brought-holds g s a (d / g .width) (d % g .width) (windowed .tidy) (fits .grid .thin) (row (set-cell g s b d i)) column e h
+        (rw same n))
         (set-has g s b d i))
 
   -- Where no cell of the set of beat a is a view's at beat b, the step is done.

@@ -1,4 +1,4 @@
--- In reading order: the nouns, views in memory, the relations, the function `best`, the sequential planner, what the code computes, the claims.
+-- In reading order: the nouns, views in memory, relations, the function `best`, the sequential planner, what the code computes, claims.
 pub mod Route
 pub mod Views
 pub mod Conflict

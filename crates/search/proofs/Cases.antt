@@ -5,7 +5,8 @@ use mathlib.Core.Path.{_≡_, refl}
 use lib.ListN.{replicate}
 use Rattle.floor.specs.declared.Floor.{Floor}
 use Rattle.floor.specs.Verdict.{_then_, demand, inTurn, each}
-use Rattle.floor.specs.Checks.{within, limitsOf, lentOf, roomOf, startOf, goalOf, inGrid, carrierInGrid, carriersOf, wallsOf, risingOf, among}
+use Rattle.floor.specs.Checks.{within, limitsOf, lentOf, roomOf, startOf, goalOf}
+use Rattle.floor.specs.Checks.{inGrid, carrierInGrid, carriersOf, wallsOf, risingOf, among}
 use Rattle.floor.specs.Checks.{clearOfWalls, clearOf, unshared, distinctOf, placesOf, checkOf}
 use Rattle.route.specs.Route.{cellAt, none, route}
 use Rattle.route.specs.Moves.{neighbours, near, vacant, passable, every, standable, allowed, startClear}

@@ -180,7 +180,8 @@ module _ {g : Scene} {k : ℕ} {free m room : List ℕ} {start goal : ℕ} (set 
 
       clear : every (vacant (suc u) goal) (records m k) ≡ true
       clear =
-          and-snd (ltb goal (g .cells) && has free (goal / g .width) (goal % g .width)) (every (vacant (suc u) goal) (records m k)) free-then
+          and-snd (ltb goal (g .cells) && has free (goal / g .width) (goal % g .width)) (every (vacant (suc u) goal) (records m k))
+          free-then
 
   pub holds-hold : (t : ℕ) → Holds (ruleIn g k free m start goal) goal (g .horizon) t →
       lastNot (λ u. inSet g room u goal) (g .horizon) ≤ t

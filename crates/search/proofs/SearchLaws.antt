@@ -117,7 +117,8 @@ module _ {f : Floor} {rows : List ℕ} {i : ℕ} {m room : List ℕ} (s : Search
     unreached-best l h =
         same
         ∙ never-none setting fit win (made .laid) (made .reached .limited) (made .reached .advanced) hold held a
-        (omega (arith, win .limited, fit .early, made .reached .missed (omega (arith, win .limited)))) earliest (omega (arith, win .limited, fit .early))
+        (omega (arith, win .limited, fit .early, made .reached .missed (omega (arith, win .limited)))) earliest
+        (omega (arith, win .limited, fit .early))
 
     -- The beat is the least arrival, and the walk is the best route.
     pub reached-best : {T : List ℕ} → inSet g room 0 (startOf f (i - 1)) ≡ true → a ≤ limit →
@@ -126,4 +127,5 @@ module _ {f : Floor} {rows : List ℕ} {i : ℕ} {m room : List ℕ} (s : Search
         route (filled (replicate 64 0) (pathOf g (i - 1) m T (startOf f (i - 1)) (goalOf f (i - 1)) a) (g .horizon + 1))
     reached-best e h traced =
         same
-        ∙ route-best setting fit win (made .laid) (made .reached .limited) (made .reached .advanced) hold held e (made .reached .found (omega (arith, win .limited))) earliest traced
+        ∙ route-best setting fit win (made .laid) (made .reached .limited) (made .reached .advanced) hold held e
+        (made .reached .found (omega (arith, win .limited))) earliest traced

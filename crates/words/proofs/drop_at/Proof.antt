@@ -50,7 +50,8 @@ same-length c = search needs
 returns : tie.Need-returns
 returns c =
     let c₄ = c .before .before .before .before in
-    let q : c₄ .before .before .before .args .c - c₄ .row-of .result * c₄ .before .before .before .args .w ≡ c₄ .before .before .before .args .c % c₄ .before .before .before .args .w = omega arith in
+    let c₇ = c₄ .before .before .before in
+    let q : c₇ .args .c - c₄ .row-of .result * c₇ .args .w ≡ c₇ .args .c % c₇ .args .w = omega arith in
     c .before .before .drop .ensures ∙ (rw (q, c₄ .row-of .ensures .0) (dropped-inside _ _ _ _ _ (c₄ .before .if1 .taken)))
 
 returns-2 : tie.Need-returns-2

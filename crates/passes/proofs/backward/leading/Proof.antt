@@ -1,5 +1,5 @@
--- `passes::backward::leading` meets its contract. The loop's invariant: n sets before the arrival are narrowed, whatever table it began with.
--- The measure is what is left of the beats. Assumes nothing.
+-- `passes::backward::leading` meets its contract. The loop's invariant: n sets before the arrival are narrowed, whatever table it began
+-- with. The measure is what is left of the beats. Assumes nothing.
 use Prim.Native.Nat.{ℕ, _-_, _≤_}
 use native.Mathlib.Omega.{arith}
 use mathlib.Core.List.{List}

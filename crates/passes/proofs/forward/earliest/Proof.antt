@@ -133,7 +133,8 @@ mend-requires c κs =
       (
         c₁₂ .before .before .before .pre .1 .0,
         quick-tidy _ _ _ _ _ _ _ _ f w (inl (omega arith))
-            (c₈ .before .before .before .loop .inv .1 .windowed) (rw (c₄ .before .before .first-row .ensures) at (c₄ .narrow-rows .ensures .0)),
+            (c₈ .before .before .before .loop .inv .1 .windowed)
+            (rw (c₄ .before .before .first-row .ensures) at (c₄ .narrow-rows .ensures .0)),
       ),
     )
 

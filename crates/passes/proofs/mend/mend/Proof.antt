@@ -18,13 +18,14 @@ abbrev μ-loop : tie.MeasureT-loop
 
 loop-holds : tie.Need-loop-holds Inv-loop μ-loop
 loop-holds c =
-    let n : c .before .before .before .args .a ≡ c .before .before .before .args .b → ⊥ = apart-differ _ _ (c .before .before .before .pre .0 .3) in
-    (search needs, refl, mended-none _ _ _ _ _ _ n (c .before .before .before .pre .1 .1))
+    let c₃ = c .before .before .before in
+    let n : c₃ .args .a ≡ c₃ .args .b → ⊥ = apart-differ _ _ (c₃ .pre .0 .3) in
+    (search needs, refl, mended-none _ _ _ _ _ _ n (c₃ .pre .1 .1))
 
 mend-view-requires : tie.Need-mend-view-requires Inv-loop μ-loop
 mend-view-requires c κs =
-    let c₄ = c .before .before .before .before in
-    ((c₄ .before .before .pre .0 .0, c₄ .before .before .pre .0 .1, c₄ .before .before .pre .0 .2, c₄ .before .before .pre .0 .3, search needs), (c₄ .before .before .pre .1 .0, c .before .before .loop .inv .2 .tidy))
+    let pre = c .before .before .before .before .before .before .pre in
+    ((pre .0 .0, pre .0 .1, pre .0 .2, pre .0 .3, search needs), (pre .1 .0, c .before .before .loop .inv .2 .tidy))
 
 add-j : tie.Need-add-j Inv-loop μ-loop
 add-j c = search needs
@@ -37,7 +38,11 @@ loop-again c =
     let c₄ = c .before .before .before .before in
     let c₈ = c₄ .before .before .before .before in
     let n : c₈ .before .args .a ≡ c₈ .before .args .b → ⊥ = apart-differ _ _ (c₈ .before .pre .0 .3) in
-    (search needs, c .before .before .mend-view .ensures .tidy .long ∙ sym (c₈ .before .pre .1 .1 .long), mended-more _ _ _ _ _ _ n _ _ _ (c₄ .before .loop .inv .2) (c .before .before .mend-view .ensures))
+    let mended = c .before .before .mend-view .ensures in (
+      search needs,
+      mended .tidy .long ∙ sym (c₈ .before .pre .1 .1 .long),
+      mended-more _ _ _ _ _ _ n _ _ _ (c₄ .before .loop .inv .2) mended,
+    )
 
 same-length : tie.Need-same-length Inv-loop μ-loop
 same-length c = c .before .loop .inv .1

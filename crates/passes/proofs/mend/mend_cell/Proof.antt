@@ -37,7 +37,8 @@ returns c =
     let at = c₄ .before .place-of .ensures in
     rw (c .before .before .drop .ensures, at .column, at .row)
     (mended-dropped _ _ _ _ _ _ _ f (pre .1 .1) (omega (arith, pre .0 .2, f .short)) (pre .0 .4) (next-none-enters _ _ _ _ _ _ _ 65535
-    (f .grid .thin) (omega (arith, f .grid .room, f .grid .narrow)) (sym (c₄ .before .before .before .next .ensures) ∙ c₄ .before .before .if1 .taken)))
+    (f .grid .thin) (omega (arith, f .grid .room, f .grid .narrow))
+    (sym (c₄ .before .before .before .next .ensures) ∙ c₄ .before .before .if1 .taken)))
 
 same-length-2 : tie.Need-same-length-2
 same-length-2 c = search needs

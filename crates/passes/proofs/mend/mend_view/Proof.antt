@@ -11,7 +11,9 @@ use Rattle.passes.proofs.mend.mend_view.Statement.{statement}
 use Rattle.passes.proofs.mend.mend_view.Tie as tie
 
 spot-requires : tie.Need-spot-requires
-spot-requires c κs = (omega (arith, c .before .before .before .pre .0 .0 .lent, c .before .before .before .pre .0 .4), omega (arith, c .before .before .before .pre .0 .1, c .before .before .before .pre .0 .0 .short))
+spot-requires c κs =
+    let pre = c .before .before .before .pre in
+    (omega (arith, pre .0 .0 .lent, pre .0 .4), omega (arith, pre .0 .1, pre .0 .0 .short))
 
 returns : tie.Need-returns
 returns c =

@@ -23,15 +23,20 @@ has-requires c κs =
 
 returns-2 : tie.Need-returns-2
 returns-2 c =
-    let c₄ = c .before .before .before .before in
-    let p = c₄ .before .pre .1 .0 (not-false _ (c .before .before .if1 .left)) in
-    leads-unset _ _ _ _ _ _ _ _ _ (not-false _ (c .before .before .if1 .left)) (set-not _ _ _ _ (rw (p .row, p .column) at (sym (c .before .has .ensures) ∙ not-true _ (c .if2 .taken))))
+    let there = not-false _ (c .before .before .if1 .left) in
+    let p = c .before .before .before .before .before .pre .1 .0 there in
+    leads-unset _ _ _ _ _ _ _ _ _ there
+    (set-not _ _ _ _ (rw (p .row, p .column) at (sym (c .before .has .ensures) ∙ not-true _ (c .if2 .taken))))
 
 returns-3 : tie.Need-returns-3
 returns-3 c =
-    let c₄ = c .before .before .before .before in
-    let p = c₄ .before .before .pre .1 .0 (not-false _ (c .before .before .before .if1 .left)) in
-    leads-made _ _ _ _ _ _ _ _ _ _ (not-false _ (c .before .before .before .if1 .left)) (tidy-set _ _ (c₄ .before .before .pre .0 .1) _ _ (p .low) (rw (p .row, p .column) at (sym (c .before .before .has .ensures) ∙ not-false _ (c .before .if2 .left)))) (sym (c₄ .before .before .pre .1 .1 (c .if3 .taken)))
+    let pre = c .before .before .before .before .before .before .pre in
+    let there = not-false _ (c .before .before .before .if1 .left) in
+    let p = pre .1 .0 there in
+    leads-made _ _ _ _ _ _ _ _ _ _ there
+    (tidy-set _ _ (pre .0 .1) _ _ (p .low)
+    (rw (p .row, p .column) at (sym (c .before .before .has .ensures) ∙ not-false _ (c .before .if2 .left))))
+    (sym (pre .1 .1 (c .if3 .taken)))
 
 swapped-requires : tie.Need-swapped-requires
 swapped-requires c κs =
@@ -41,8 +46,13 @@ swapped-requires c κs =
 returns-4 : tie.Need-returns-4
 returns-4 c =
     let c₄ = c .before .before .before .before in
-    let p = c₄ .before .before .before .pre .1 .0 (not-false _ (c₄ .if1 .left)) in
-    leads-made _ _ _ _ _ _ _ _ _ _ (not-false _ (c₄ .if1 .left)) (tidy-set _ _ (c₄ .before .before .before .pre .0 .1) _ _ (p .low) (rw (p .row, p .column) at (sym (c .before .before .before .has .ensures) ∙ not-false _ (c .before .before .if2 .left)))) (ap not (c .swapped .ensures) ∙ not-not _)
+    let pre = c₄ .before .before .before .pre in
+    let there = not-false _ (c₄ .if1 .left) in
+    let p = pre .1 .0 there in
+    leads-made _ _ _ _ _ _ _ _ _ _ there
+    (tidy-set _ _ (pre .0 .1) _ _ (p .low)
+    (rw (p .row, p .column) at (sym (c .before .before .before .has .ensures) ∙ not-false _ (c .before .before .if2 .left))))
+    (ap not (c .swapped .ensures) ∙ not-not _)
 
 pub leads-spec : {M : Type 1} → statement M
 leads-spec =

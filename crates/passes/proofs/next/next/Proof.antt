@@ -101,7 +101,8 @@ returns-3 c =
     let left = c₄ .before .minus2 .ensures in
     let column = c₈ .before .before .before .place-of .ensures .column in
     next-here _ _ _ _ (rw up at (sym (c₄ .before .before .before .leads .ensures) ∙ c₄ .before .before .if1 .left))
-    (rw (left, column) at (sym (c .before .before .before .leads2 .ensures) ∙ c .before .before .if2 .left)) (sym (c .before .leads3 .ensures) ∙ c .if3 .taken)
+    (rw (left, column) at (sym (c .before .before .before .leads2 .ensures) ∙ c .before .before .if2 .left))
+    (sym (c .before .leads3 .ensures) ∙ c .if3 .taken)
 
 add-leads : tie.Need-add-leads
 add-leads c =
@@ -165,7 +166,8 @@ returns-4 c =
     let column = c₁₂ .before .place-of .ensures .column in
     next-right _ _ _ _ (rw up at (sym (c₈ .before .leads .ensures) ∙ c₈ .if1 .left))
     (rw (left, column) at (sym (c₄ .before .leads2 .ensures) ∙ c₄ .if2 .left))
-    (sym (c .before .before .before .leads3 .ensures) ∙ c .before .before .if3 .left) (rw column at (sym (c .before .leads4 .ensures) ∙ c .if4 .taken))
+    (sym (c .before .before .before .leads3 .ensures) ∙ c .before .before .if3 .left)
+    (rw column at (sym (c .before .leads4 .ensures) ∙ c .if4 .taken))
 
 add-leads-4 : tie.Need-add-leads-4
 add-leads-4 c =
@@ -223,7 +225,8 @@ returns-5 c =
     let column = c₁₂ .before .before .before .place-of .ensures .column in
     next-down _ _ _ _ (rw up at (sym (c₈ .before .before .before .leads .ensures) ∙ c₈ .before .before .if1 .left))
     (rw (left, column) at (sym (c₄ .before .before .before .leads2 .ensures) ∙ c₄ .before .before .if2 .left))
-    (sym (c₄ .before .leads3 .ensures) ∙ c₄ .if3 .left) (rw column at (sym (c .before .before .before .leads4 .ensures) ∙ c .before .before .if4 .left))
+    (sym (c₄ .before .leads3 .ensures) ∙ c₄ .if3 .left)
+    (rw column at (sym (c .before .before .before .leads4 .ensures) ∙ c .before .before .if4 .left))
     (sym (c .before .leads5 .ensures) ∙ c .if5 .taken)
 
 returns-6 : tie.Need-returns-6
@@ -236,7 +239,8 @@ returns-6 c =
     let column = c₁₂ .before .before .before .place-of .ensures .column in
     next-none _ _ _ _ (rw up at (sym (c₈ .before .before .before .leads .ensures) ∙ c₈ .before .before .if1 .left))
     (rw (left, column) at (sym (c₄ .before .before .before .leads2 .ensures) ∙ c₄ .before .before .if2 .left))
-    (sym (c₄ .before .leads3 .ensures) ∙ c₄ .if3 .left) (rw column at (sym (c .before .before .before .leads4 .ensures) ∙ c .before .before .if4 .left))
+    (sym (c₄ .before .leads3 .ensures) ∙ c₄ .if3 .left)
+    (rw column at (sym (c .before .before .before .leads4 .ensures) ∙ c .before .before .if4 .left))
     (sym (c .before .leads5 .ensures) ∙ c .if5 .left)
 
 pub next-spec : {M : Type 1} → statement M

@@ -19,8 +19,10 @@ next-requires c κs =
 
 returns : tie.Need-returns
 returns c =
-    let c₄ = c .before .before .before .before in
-    (step-before _ _ _ _ _ _ _ _ _ (c .before .if1 .taken) (c .next .ensures), next-inside _ _ _ _ (c₄ .before .args .goal) (c₄ .before .args .a) _ _ _ (c₄ .before .pre .0 .3) (c .next .ensures))
+    let c₅ = c .before .before .before .before .before in (
+      step-before _ _ _ _ _ _ _ _ _ (c .before .if1 .taken) (c .next .ensures),
+      next-inside _ _ _ _ (c₅ .args .goal) (c₅ .args .a) _ _ _ (c₅ .pre .0 .3) (c .next .ensures),
+    )
 
 returns-2 : tie.Need-returns-2
 returns-2 c =

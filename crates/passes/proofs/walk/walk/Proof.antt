@@ -13,7 +13,9 @@ use Rattle.passes.proofs.walk.walk.Statement.{statement}
 use Rattle.passes.proofs.walk.walk.Tie as tie
 
 abbrev Inv-loop : tie.InvT-loop
-Inv-loop g k sets room views start goal a r₀ c₀ t₀ r c t = (t ≤ g .horizon) × (c < g .cells) × (c ≡ pathOf g k views sets start goal a t) × (r ≡ filled (replicate 64 0) (pathOf g k views sets start goal a) (t + 1))
+Inv-loop g k sets room views start goal a r₀ c₀ t₀ r c t =
+    (t ≤ g .horizon) × (c < g .cells) × (c ≡ pathOf g k views sets start goal a t)
+    × (r ≡ filled (replicate 64 0) (pathOf g k views sets start goal a) (t + 1))
 
 abbrev μ-loop : tie.MeasureT-loop
 μ-loop g k sets room views start goal a r₀ c₀ t₀ r c t = g .horizon - t
@@ -27,12 +29,17 @@ array-write-r : tie.Need-array-write-r Inv-loop μ-loop
 array-write-r c = search needs
 
 loop-holds : tie.Need-loop-holds Inv-loop μ-loop
-loop-holds c = (search needs, c .before .before .before .pre .0 .2, path-none _ _ _ _ _ _ _, filled-more _ _ 0 _ _ (filled-none _ _) (path-none _ _ _ _ _ _ _))
+loop-holds c = (
+  search needs,
+  c .before .before .before .pre .0 .2,
+  path-none _ _ _ _ _ _ _,
+  filled-more _ _ 0 _ _ (filled-none _ _) (path-none _ _ _ _ _ _ _),
+)
 
 follow-requires : tie.Need-follow-requires Inv-loop μ-loop
 follow-requires c κs =
-    let c₄ = c .before .before .before .before in
-    ((c₄ .before .before .pre .0 .0, c₄ .before .before .pre .0 .1, c .if1 .taken, c .before .before .loop .inv .1, c₄ .before .before .pre .0 .3), c₄ .before .before .pre .1)
+    let pre = c .before .before .before .before .before .before .pre in
+    ((pre .0 .0, pre .0 .1, c .if1 .taken, c .before .before .loop .inv .1, pre .0 .3), pre .1)
 
 add-t : tie.Need-add-t Inv-loop μ-loop
 add-t c =
@@ -68,9 +75,9 @@ loop-again c =
 
 returns : tie.Need-returns Inv-loop μ-loop
 returns c =
-    let c₄ = c .before .before .before .before in
-    let e : c .before .before .loop .t ≡ c₄ .before .before .args .g .horizon = omega (arith, c .before .before .loop .inv .0, c .if1 .left) in
-    rw e at (c .before .before .loop .inv .3)
+    let c₂ = c .before .before in
+    let e : c₂ .loop .t ≡ c₂ .before .before .before .before .args .g .horizon = omega (arith, c₂ .loop .inv .0, c .if1 .left) in
+    rw e at (c₂ .loop .inv .3)
 
 pub walk-spec : {M : Type 1} → statement M
 walk-spec =

@@ -31,8 +31,8 @@ add-drop-at c = search needs
 
 drop-at-requires : tie.Need-drop-at-requires Inv-loop μ-loop
 drop-at-requires c κs =
-    let c₆ = c .before .before .before .before .before .before in
-    ((c₆ .pre .0 .thin, c₆ .pre .0 .narrow, c₆ .pre .0 .room, c₆ .pre .0 .scaled), omega (arith, c .before .before .before .loop .inv .1 .tidy .long))
+    let grid = c .before .before .before .before .before .before .pre .0 in
+    ((grid .thin, grid .narrow, grid .room, grid .scaled), omega (arith, c .before .before .before .loop .inv .1 .tidy .long))
 
 add-t : tie.Need-add-t Inv-loop μ-loop
 add-t c = search needs

@@ -51,7 +51,8 @@ returns c =
     let c₈ = c₄ .before .before .before .before in
     let from = c₈ .before .place-of .ensures in
     let to = c₈ .place-of2 .ensures in
-    around-made _ _ _ _ _ _ _ _ _ _ _ (c₈ .before .before .pre .3) (rw (from .row, to .row) at (c₄ .before .before .before .gap .ensures .0))
+    around-made _ _ _ _ _ _ _ _ _ _ _ (c₈ .before .before .pre .3)
+    (rw (from .row, to .row) at (c₄ .before .before .before .gap .ensures .0))
     (rw (from .column, to .column) at (c₄ .before .before .gap2 .ensures .0)) (c₄ .before .minus .ensures) (c₄ .minus2 .ensures)
     (c .before .before .before .smaller .ensures) (rw (from .row, to .row) at (c .before .before .smaller2 .ensures)) refl (from .row)
     (to .row) (c .before .minus3 .ensures) (c .height-for .ensures)
