@@ -9,6 +9,7 @@ use mathlib.Core.Bool.{true, false, or-true}
 use mathlib.Core.List.{List}
 use lib.ListN.{getD}
 use Rattle.floor.specs.Checks.{among}
+use Rattle.floor.specs.Accepted.{Absent}
 
 module _ (xs : List ℕ) (c : ℕ) where
   -- Nothing is among no numbers.
@@ -43,3 +44,8 @@ module _ (xs : List ℕ) (c : ℕ) where
   among-end i m a b h =
       let e : i ≡ m = omega arith in
       sym (rw e at h)
+
+  -- A number that is at none of the places is not among them.
+  pub absent-all : (m : ℕ) → Absent xs m c → among xs m c ≡ false
+  absent-all zero a = among-none
+  absent-all (suc m) a = rw add-one at (among-more m (absent-all m (λ i l. a i (omega arith))) (a m (omega arith)))

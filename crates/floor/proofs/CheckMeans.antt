@@ -1,7 +1,6 @@
 -- What the Bool test of each check means, as the statements of `Accepted`.
 use Prim.Native.Nat.{ℕ, zero, suc}
 use native.Mathlib.Omega.{arith}
-use native.Mathlib.Numerals.{add-one}
 use mathlib.Core.Path.{_≡_, refl, ap}
 use mathlib.Core.Bool.{Bool, true, false, _&&_, not, and-eq-true-iff}
 use mathlib.Core.Logic.{_↔_}
@@ -12,7 +11,7 @@ use Rattle.floor.specs.declared.Floor.{Floor}
 use Rattle.floor.specs.Checks.{inGrid, carrierInGrid, rises, among, clearOfWalls, unshared}
 use Rattle.floor.specs.Accepted.{InGrid, CarrierInGrid, WallInGrid, Rises, Absent, ClearOfWalls, Unshared}
 use Rattle.floor.proofs.EachLaws.{Decides, false-fails}
-use Rattle.floor.proofs.AmongLaws.{among-found, among-more, among-none}
+use Rattle.floor.proofs.AmongLaws.{among-found, absent-all}
 
 -- Two tests joined mean both statements.
 both-mean : {a b : Bool} {A B : Type 0} → (a ≡ true) ↔ A → (b ≡ true) ↔ B → ((a && b) ≡ true) ↔ (A × B)
@@ -36,11 +35,6 @@ pub rises-means : (ws : List ℕ) → Decides (rises ws) (Rises ws)
 unfolding rises
 rises-means ws zero = (λ h k e. absurd (omega arith), λ h. refl)
 rises-means ws (suc j) = (λ h k e. let q : k ≡ j = omega arith in rw q (ltb-true _ _ h), λ h. lt-ltb _ _ (h j refl))
-
--- The numbers that were looked at are others.
-absent-all : (xs : List ℕ) (c m : ℕ) → Absent xs m c → among xs m c ≡ false
-absent-all xs c zero a = among-none xs c
-absent-all xs c (suc m) a = rw add-one at (among-more xs c m (absent-all xs c m (λ i l. a i (omega arith))) (a m (omega arith)))
 
 pub absent-means : (xs : List ℕ) (m c : ℕ) → (not (among xs m c) ≡ true) ↔ Absent xs m c
 absent-means xs m c = (

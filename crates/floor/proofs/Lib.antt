@@ -7,4 +7,5 @@ pub mod AmongLaws
 pub mod RisesLaws
 pub mod SameLaws
 pub mod CheckMeans
+pub mod ClimbLaws
 pub mod Theorems

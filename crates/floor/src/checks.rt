@@ -4,6 +4,7 @@ ghost use mathlib.Core.Path.{_≡_};
 ghost use mathlib.Core.Bool.{true};
 ghost use Prim.Native.Nat.{_+_, _≤_, _<_};
 ghost use lib.ListN.{length};
+ghost use Rattle.floor.specs.Accepted.{Climbs};
 ghost use Rattle.floor.specs.Answers.{verdictOf};
 ghost use Rattle.floor.specs.Checks.{inGrid, carrierInGrid, clearOfWalls, roomOf};
 ghost use Rattle.floor.specs.Checks.{carriersOf, wallsOf, risingOf, clearOf, distinctOf, placesOf};
@@ -132,23 +133,47 @@ fn rising(f: Floor, walls: &[u16]) -> Checked
     Checked::Passed
 }
 
+// Whether c is one of the first m walls, which rise: a binary search.
+fn is_wall(walls: &[u16], m: usize, c: u16) -> bool
+    requires { ⌜ m ≤ length (now walls) ⌝ }
+    requires { ⌜ Climbs (now walls) m ⌝ }
+    ensures { λ r. ⌜ r ≡ Checks·among (now (walls .entry)) m c ⌝ }
+{
+    let mut low: usize = 0;
+    let mut high = m;
+    while low < high {
+        let middle = low + (high - low) / 2;
+        if walls[middle] < c {
+            low = middle + 1;
+        } else {
+            high = middle;
+        }
+    }
+    if m <= low {
+        return false;
+    }
+    walls[low] == c
+}
+
 // Whether neither cell of carrier i is a wall.
 fn clear_of_walls(f: Floor, walls: &[u16], i: usize) -> bool
     requires { ⌜ i < 8 ⌝ }
     requires { ⌜ f .walls ≤ length (now walls) ⌝ }
+    requires { ⌜ Climbs (now walls) (f .walls) ⌝ }
     ensures { λ r. ⌜ r ≡ clearOfWalls f (now (walls .entry)) i ⌝ }
 {
     let m = f.walls as usize;
-    if among(walls, m, f.starts[i]) {
+    if is_wall(walls, m, f.starts[i]) {
         return false;
     }
-    !among(walls, m, f.goals[i])
+    !is_wall(walls, m, f.goals[i])
 }
 
 // 5: no carrier starts or ends on a wall.
 fn clear(f: Floor, walls: &[u16]) -> Checked
     requires { ⌜ f .carriers ≤ 8 ⌝ }
     requires { ⌜ f .walls ≤ length (now walls) ⌝ }
+    requires { ⌜ Climbs (now walls) (f .walls) ⌝ }
     ensures { λ r. ⌜ verdictOf r ≡ clearOf f (now (walls .entry)) ⌝ }
 {
     let n = f.carriers as usize;

@@ -1,6 +1,7 @@
 -- `floor::checks::places` meets its contract: a chain of five checks.
 use Rattle.floor.specs.Checks.{placesOf}
-use Rattle.floor.proofs.AnswersLaws.{hands-on, ends-at}
+use Rattle.floor.proofs.AnswersLaws.{hands-on, ends-at, passes}
+use Rattle.floor.proofs.ClimbLaws.{passed-climbs}
 use borrow.Author.Needs.{needs}
 use Rattle.floor.proofs.checks.places.Statement.{statement}
 use Rattle.floor.proofs.checks.places.Tie as tie
@@ -53,7 +54,9 @@ returns-3 c =
     (ends-at _ (c .before .before .rising .ensures) (c .enum-told6 .given .1)))
 
 clear-requires : tie.Need-clear-requires
-clear-requires c κs = search needs
+clear-requires c κs =
+    let climbs = passed-climbs _ _ (passes (c .before .before .rising .ensures) (c .enum-told5 .given .1)) in
+    (search needs, (search needs, climbs))
 
 enum-told-7 : tie.Need-enum-told-7
 enum-told-7 c = search needs
