@@ -7,8 +7,8 @@ use borrow.Author.Tests.{le-leb, lt-leb}
 use Rattle.floor.specs.Verdict.{passed, refused, demand}
 use Rattle.floor.specs.Checks.{roomOf}
 use Rattle.sheet.specs.Read.{chosen}
-use Rattle.kalomivund.specs.Word.{Said, turned, wordOf}
-use Rattle.kalomivund.specs.Record.{recordLent}
+use Rattle.wire.specs.Word.{Said, turned, wordOf}
+use Rattle.wire.specs.Record.{recordLent}
 use Rattle.kalomivund.specs.Entries.{wordFor, storedFor}
 
 -- A record of enough numbers passes; a shorter one gets 9, 0.

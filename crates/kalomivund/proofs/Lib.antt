@@ -1,6 +1,3 @@
 -- Laws that the proofs of the exported functions cite.
 mod EntryLaws
-mod RecordLaws
 mod SearchLaws
-mod WordLaws
-mod Theorems

@@ -8,7 +8,7 @@ use Rattle.route.specs.Route.{none, route}
 use Rattle.search.specs.declared.Found.{Found}
 use Rattle.search.specs.declared.Outcome.the-variants.{Route, None, Refused}
 use Rattle.search.specs.Answers.{Result, answered, turned, resultOf, outcomeOf, cellsOf, Says}
-use Rattle.kalomivund.specs.Word.{wordOf, done, turned as Said·turned}
+use Rattle.wire.specs.Word.{wordOf, done, turned as Said·turned}
 use Rattle.kalomivund.specs.Answers.{ofSearch, routeStored}
 
 module _ {x : Found} {result : Result} (s : Says x result) where

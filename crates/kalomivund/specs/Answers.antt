@@ -3,7 +3,6 @@ use Prim.Native.Nat.{ℕ}
 use mathlib.Core.List.{List, [], _∷_}
 use lib.ListN.{length}
 use Rattle.memory.specs.Memory.{put}
-use Rattle.floor.specs.Verdict.{Verdict, passed, refused}
 use Rattle.floor.specs.Checks.{roomOf}
 use Rattle.sheet.specs.Read.{chosen}
 use Rattle.route.specs.Route.{Answer, none, route}
@@ -15,12 +14,7 @@ use Rattle.reference.specs.Take.{StepAnswer, kept, sent, delivered}
 use Rattle.reference.specs.Ending.{Ending, silent, spent, ended}
 use Rattle.reference.specs.Calls.{Reply, stepped, ran, refused as reply-refused}
 use Rattle.machine.specs.Ceiling.{Figure, steps, turned as figure-turned}
-use Rattle.kalomivund.specs.Word.{Said, done, turned}
-
--- A check: case 0 with a number, or its refusal.
-unfoldable pub ofVerdict : Verdict → ℕ → Said
-ofVerdict passed n = done 0 n
-ofVerdict (refused k p) n = turned k p
+use Rattle.wire.specs.Word.{Said, done, turned, ofVerdict}
 
 -- A search: 0 none, 1 a route.
 unfoldable pub ofSearch : Found → Said

@@ -18,9 +18,10 @@ use Rattle.planner.specs.Answers.{planResult}
 use Rattle.planner.specs.Records.{planMemory}
 use Rattle.layout.specs.Calls.{placeVerdict, freshMemory, stepReply, stepMemory, runReply, runMemory}
 use Rattle.machine.specs.Ceiling.{mostSteps}
-use Rattle.kalomivund.specs.Word.{Said, turned, wordOf}
-use Rattle.kalomivund.specs.Record.{floorOf, numbersOf, recordLent}
-use Rattle.kalomivund.specs.Answers.{ofVerdict, ofSearch, routeStored, ofPrinted, ofFigures, figuresStored, ofPlan, ofReply, ofFigure}
+use Rattle.wire.specs.Word.{Said, turned, wordOf}
+use Rattle.wire.specs.Record.{floorOf, numbersOf, recordLent}
+use Rattle.wire.specs.Word.{ofVerdict}
+use Rattle.kalomivund.specs.Answers.{ofSearch, routeStored, ofPrinted, ofFigures, figuresStored, ofPlan, ofReply, ofFigure}
 
 -- What is said of a floor record of enough numbers; 9, 0 of a shorter one.
 unfoldable pub wordFor : List ℕ → Said → ℕ

@@ -2,8 +2,7 @@
 // A floor record is 22 numbers: width, height, horizon, depth, carriers, walls, eight starts, eight goals. Every function answers
 // one word: low byte 0 done or 1 refused, the next byte the case or the refusal, then the number or the place. Nothing is decided
 // here: each function hands its slices to the entry of its name and packs the answer.
-mod records;
-mod word;
+mod answers;
 
 ghost use mathlib.Core.Path.{_≡_};
 ghost use Prim.Native.Nat.{_≤_};
@@ -11,7 +10,7 @@ ghost use lib.ListN.{length};
 ghost use Rattle.floor.specs.Answers.{verdictOf};
 ghost use Rattle.search.specs.Search.{searchOf};
 ghost use Rattle.lengths.specs.Figures.{figuresOf};
-ghost use Rattle.kalomivund.specs.Word.{wordOf};
+ghost use Rattle.wire.specs.Word.{wordOf};
 ghost use Rattle.kalomivund.specs.Answers.{ofSearch, routeStored, ofFigures, figuresStored};
 ghost use Rattle.kalomivund.specs.Entries.{readWord, readRecord, readStored, writeWord, writeStored, checkWord};
 ghost use Rattle.kalomivund.specs.Entries.{neededWord, neededStored, noRoom, searchWord, searchStored, planWord, planStored};
@@ -22,13 +21,15 @@ use floor::Floor;
 use floor::Refusal;
 use lengths::Needed;
 use search::Outcome;
+use wire::records;
+use wire::word;
 
 // The most steps for so many carriers.
 #[no_mangle]
 pub extern "C" fn kalomivund_ceiling(carriers: u16) -> u64
     ensures { λ r. ⌜ r ≡ ceilingWord carriers ⌝ }
 {
-    word::of_ceiling(machine::ceiling(carriers as usize))
+    answers::of_ceiling(machine::ceiling(carriers as usize))
 }
 
 // Checks a floor and its walls.
@@ -81,7 +82,7 @@ fn lay_lengths(needed: Needed, out: &mut [u64]) -> u64
     ensures stores { λ r. ⌜ now (out .exit) ≡ figuresStored (figuresOf needed) (now (out .entry)) ⌝ }
 {
     let Needed::Known(l) = needed else {
-        return word::of_needed(needed);
+        return answers::of_needed(needed);
     };
     if out.len() < 5 {
         return word::too_short();
@@ -176,7 +177,7 @@ pub extern "C" fn kalomivund_plan(f: &[u16], walls: &[u16], answers: &mut [u16])
     if f.len() < 22 {
         return word::too_short();
     }
-    word::of_plan(planner::plan(records::floor_of(f), walls, answers))
+    answers::of_plan(planner::plan(records::floor_of(f), walls, answers))
 }
 
 // From a sheet's bytes to its printed routes, or the line of its refusal, in lent memory.
@@ -185,7 +186,7 @@ pub extern "C" fn kalomivund_print_routes(text: &[u8], out: &mut [u8]) -> u64
     ensures says { λ r. ⌜ r ≡ printWord (now (text .entry)) (length (now (out .entry))) ⌝ }
     ensures stores { λ r. ⌜ now (out .exit) ≡ printStored (now (text .entry)) (now (out .entry)) ⌝ }
 {
-    word::of_print(printing::routes(text, out))
+    answers::of_print(printing::routes(text, out))
 }
 
 // Puts the fresh state of a floor into lent memory.
@@ -209,7 +210,7 @@ pub extern "C" fn kalomivund_step(f: &[u16], walls: &[u16], state: &mut [u16], s
     if f.len() < 22 {
         return word::too_short();
     }
-    word::of_step(machine::step(records::floor_of(f), walls, state, step))
+    answers::of_step(machine::step(records::floor_of(f), walls, state, step))
 }
 
 // Takes a run on a lent state: the open steps of a list in turn, as many as the budget allows.
@@ -228,5 +229,5 @@ pub extern "C" fn kalomivund_run(
     if f.len() < 22 {
         return word::too_short();
     }
-    word::of_run(machine::run(records::floor_of(f), walls, state, steps, budget))
+    answers::of_run(machine::run(records::floor_of(f), walls, state, steps, budget))
 }

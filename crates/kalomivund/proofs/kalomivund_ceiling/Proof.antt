@@ -2,7 +2,7 @@
 use mathlib.Core.Path.{_∙_, ap}
 use Rattle.machine.specs.Ceiling.{Figure}
 use Rattle.kalomivund.specs.Answers.{ofFigure}
-use Rattle.kalomivund.specs.Word.{wordOf}
+use Rattle.wire.specs.Word.{wordOf}
 use Rattle.kalomivund.specs.Entries.{ceilingWord}
 use borrow.Author.Needs.{needs}
 use Rattle.kalomivund.proofs.kalomivund_ceiling.Statement.{statement}

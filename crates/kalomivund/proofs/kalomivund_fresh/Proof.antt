@@ -1,8 +1,8 @@
 -- `kalomivund_fresh` meets its contract: the fresh state of the floor that the numbers say, packed.
 use Rattle.floor.specs.Verdict.{Verdict}
-use Rattle.kalomivund.specs.Answers.{ofVerdict}
+use Rattle.wire.specs.Word.{ofVerdict}
 use Rattle.kalomivund.specs.Entries.{freshWord, freshStored}
-use Rattle.kalomivund.specs.Word.{wordOf}
+use Rattle.wire.specs.Word.{wordOf}
 use mathlib.Core.Path.{_∙_, ap}
 use Rattle.kalomivund.proofs.EntryLaws.{says-lent, says-short, stores-lent, stores-short}
 use borrow.Author.Needs.{needs}

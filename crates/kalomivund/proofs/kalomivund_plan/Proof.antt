@@ -2,7 +2,7 @@
 use Rattle.planner.specs.Answers.{Result}
 use Rattle.kalomivund.specs.Answers.{ofPlan}
 use Rattle.kalomivund.specs.Entries.{planWord, planStored}
-use Rattle.kalomivund.specs.Word.{wordOf}
+use Rattle.wire.specs.Word.{wordOf}
 use mathlib.Core.Path.{_∙_, ap}
 use Rattle.kalomivund.proofs.EntryLaws.{says-lent, says-short, stores-lent, stores-short}
 use borrow.Author.Needs.{needs}

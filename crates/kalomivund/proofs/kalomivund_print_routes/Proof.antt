@@ -1,6 +1,6 @@
 -- `kalomivund_print_routes` meets its contract: the printing, packed.
 use Rattle.printing.specs.Print.{Outcome}
-use Rattle.kalomivund.specs.Word.{wordOf}
+use Rattle.wire.specs.Word.{wordOf}
 use Rattle.kalomivund.specs.Answers.{ofPrinted}
 use Rattle.kalomivund.specs.Entries.{printWord, printStored}
 use mathlib.Core.Path.{_∙_, ap}

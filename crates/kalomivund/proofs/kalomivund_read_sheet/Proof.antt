@@ -6,10 +6,10 @@ use Rattle.sheet.proofs.ReadLaws.{chosen-passed, chosen-refused}
 use Rattle.floor.proofs.AnswersLaws.{passes, refuses}
 use Rattle.floor.specs.declared.Floor.{Floor}
 use Rattle.floor.specs.Verdict.{Verdict}
-use Rattle.kalomivund.specs.Record.{numbersOf}
-use Rattle.kalomivund.specs.Answers.{ofVerdict}
+use Rattle.wire.specs.Record.{numbersOf}
+use Rattle.wire.specs.Word.{ofVerdict}
 use Rattle.kalomivund.specs.Entries.{readWord, readRecord, readStored}
-use Rattle.kalomivund.specs.Word.{wordOf}
+use Rattle.wire.specs.Word.{wordOf}
 use mathlib.Core.Path.{_∙_, ap, sym}
 use Rattle.kalomivund.proofs.EntryLaws.{says-lent, says-short, stores-lent, stores-short}
 use borrow.Author.Needs.{needs}

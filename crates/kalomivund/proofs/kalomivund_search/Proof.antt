@@ -1,9 +1,9 @@
 -- `kalomivund_search` meets its contract: the search on the floor that the numbers say, packed, or no room for its route.
 use borrow.Author.Tests.{lt-leb, le-leb}
 use Rattle.floor.specs.Verdict.{Verdict}
-use Rattle.kalomivund.specs.Answers.{ofVerdict}
+use Rattle.wire.specs.Word.{ofVerdict}
 use Rattle.kalomivund.specs.Entries.{searchWord, searchStored}
-use Rattle.kalomivund.specs.Word.{wordOf}
+use Rattle.wire.specs.Word.{wordOf}
 use mathlib.Core.Path.{_∙_, ap, refl}
 use Rattle.kalomivund.proofs.EntryLaws.{says-lent, says-short, stores-lent, stores-short}
 use borrow.Author.Needs.{needs}

@@ -2,7 +2,7 @@
 use Rattle.reference.specs.Calls.{Reply}
 use Rattle.kalomivund.specs.Answers.{ofReply}
 use Rattle.kalomivund.specs.Entries.{stepWord, stepStored}
-use Rattle.kalomivund.specs.Word.{wordOf}
+use Rattle.wire.specs.Word.{wordOf}
 use mathlib.Core.Path.{_∙_, ap}
 use Rattle.kalomivund.proofs.EntryLaws.{says-lent, says-short, stores-lent, stores-short}
 use borrow.Author.Needs.{needs}

@@ -1,10 +1,10 @@
 -- `kalomivund_write_sheet` meets its contract: the writing of the floor that the numbers say, packed with its length.
 use Rattle.floor.specs.Verdict.{Verdict}
-use Rattle.kalomivund.specs.Answers.{ofVerdict}
+use Rattle.wire.specs.Word.{ofVerdict}
 use Rattle.kalomivund.specs.Entries.{writeWord, writeStored}
 use Prim.Native.Nat.{ℕ}
 use mathlib.Core.Path.{ap₂, _∙_}
-use Rattle.kalomivund.specs.Word.{wordOf}
+use Rattle.wire.specs.Word.{wordOf}
 use Rattle.kalomivund.proofs.EntryLaws.{says-lent, says-short, stores-lent, stores-short}
 use borrow.Author.Needs.{needs}
 use Rattle.kalomivund.proofs.kalomivund_write_sheet.Statement.{statement}

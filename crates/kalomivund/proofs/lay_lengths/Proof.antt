@@ -6,7 +6,8 @@ use Rattle.floor.specs.Verdict.{demand}
 use Rattle.floor.specs.Checks.{roomOf}
 use Rattle.sheet.specs.Read.{chosen}
 use Rattle.lengths.specs.Figures.{figuresOf}
-use Rattle.kalomivund.specs.Answers.{ofFigures, figuresStored, ofVerdict}
+use Rattle.wire.specs.Word.{ofVerdict}
+use Rattle.kalomivund.specs.Answers.{ofFigures, figuresStored}
 use lib.ListN.{length-set}
 use native.Mathlib.Omega.{arith}
 use borrow.Author.Needs.{needs}

@@ -1,0 +1,32 @@
+-- `kalomivund::answers::of_print` meets its contract: case by case.
+use mathlib.Core.Path.{refl, _∙_}
+use Rattle.printing.specs.Print.{outcomeOf}
+use Rattle.kalomivund.specs.Answers.{ofPrinted}
+use borrow.Author.Needs.{needs}
+use Rattle.kalomivund.proofs.answers.of_print.Statement.{statement}
+use Rattle.kalomivund.proofs.answers.of_print.Tie as tie
+
+enum-known-x : tie.Need-enum-known-x
+enum-known-x c = search needs
+
+done-requires : tie.Need-done-requires
+done-requires c κs = search needs
+
+enum-known-x-2 : tie.Need-enum-known-x-2
+enum-known-x-2 c = search needs
+
+turned-requires : tie.Need-turned-requires
+turned-requires c κs = search needs
+
+returns : tie.Need-returns
+unfolding ofPrinted outcomeOf
+returns c = c .done .ensures ∙ rw (c .before .before .x .given .1) refl
+
+returns-2 : tie.Need-returns-2
+unfolding ofPrinted outcomeOf
+returns-2 c = c .turned .ensures ∙ rw (c .before .before .x2 .given .1) refl
+
+pub of-print-spec : {M : Type 1} → statement M
+of-print-spec =
+    tie.close
+    (tie.spec enum-known-x done-requires enum-known-x-2 turned-requires returns returns-2)

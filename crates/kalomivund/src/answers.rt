@@ -1,0 +1,81 @@
+// The answers of the library's entries as words.
+ghost use mathlib.Core.Path.{_≡_};
+ghost use Rattle.planner.specs.Answers.{resultOf};
+ghost use Rattle.printing.specs.Print.{outcomeOf};
+ghost use Rattle.lengths.specs.Figures.{figuresOf};
+ghost use Rattle.machine.specs.Answers.{steppedReply, ranReply};
+ghost use Rattle.machine.specs.Ceiling.{figureOf};
+ghost use Rattle.wire.specs.Word.{wordOf};
+ghost use Rattle.kalomivund.specs.Answers.{ofPlan, ofPrinted, ofFigures, ofReply, ofFigure};
+use lengths::Needed;
+use machine::Most;
+use machine::Ran;
+use machine::Stepped;
+use planner::Planned;
+use printing::Printed;
+use wire::word::done;
+use wire::word::turned;
+
+// The word of the needed lengths where there is room for them, or of their refusal.
+pub fn of_needed(x: Needed) -> u64
+    ensures { λ r. ⌜ r ≡ wordOf (ofFigures (figuresOf x) 5) ⌝ }
+{
+    match x {
+        Needed::Known(_) => done(0, 0),
+        Needed::Refused(r) => turned(r),
+    }
+}
+
+// The word of printing.
+pub fn of_print(x: Printed) -> u64
+    ensures { λ r. ⌜ r ≡ wordOf (ofPrinted (outcomeOf x)) ⌝ }
+{
+    match x {
+        Printed::Written(n) => done(0, n),
+        Printed::Refused(r) => turned(r),
+    }
+}
+
+// The word of a plan.
+pub fn of_plan(x: Planned) -> u64
+    ensures { λ r. ⌜ r ≡ wordOf (ofPlan (resultOf x)) ⌝ }
+{
+    match x {
+        Planned::Failing(i) => done(0, i),
+        Planned::Refused(r) => turned(r),
+    }
+}
+
+// The word of a single step.
+pub fn of_step(x: Stepped) -> u64
+    ensures { λ r. ⌜ r ≡ wordOf (ofReply (steppedReply x)) ⌝ }
+{
+    match x {
+        Stepped::Kept => done(0, 0),
+        Stepped::Sent => done(1, 0),
+        Stepped::Delivered => done(2, 0),
+        Stepped::Refused(r) => turned(r),
+    }
+}
+
+// The word of a run.
+pub fn of_run(x: Ran) -> u64
+    ensures { λ r. ⌜ r ≡ wordOf (ofReply (ranReply x)) ⌝ }
+{
+    match x {
+        Ran::Silent(n) => done(0, n),
+        Ran::Spent(n) => done(1, n),
+        Ran::Ended(n) => done(2, n),
+        Ran::Refused(r) => turned(r),
+    }
+}
+
+// The word of the ceiling.
+pub fn of_ceiling(x: Most) -> u64
+    ensures { λ r. ⌜ r ≡ wordOf (ofFigure (figureOf x)) ⌝ }
+{
+    match x {
+        Most::Steps(n) => done(0, n),
+        Most::Refused(r) => turned(r),
+    }
+}

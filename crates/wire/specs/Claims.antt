@@ -1,0 +1,26 @@
+-- The claims about the boundary; `proofs/Theorems.antt` inhabits the record.
+use Prim.Native.Nat.{ℕ, _/_, _%_, _≤_, _<_}
+use mathlib.Core.Path.{_≡_}
+use mathlib.Core.List.{List}
+use lib.ListN.{length}
+use Rattle.memory.specs.Memory.{put}
+use Rattle.floor.specs.declared.Floor.{Floor}
+use Rattle.wire.specs.Word.{Said, done, turned, wordOf}
+use Rattle.wire.specs.Record.{floorOf, numbersOf}
+
+-- What a caller reads off a word: the low byte, the next byte, and the rest.
+pub record Reads (w low second rest : ℕ) : Type 0 where
+  pub low-byte : w % 256 ≡ low
+  pub second-byte : w / 256 % 256 ≡ second
+  pub from-bit-16 : w / 65536 ≡ rest
+
+pub record Claims : Type 0 where
+  -- A word is read as it was packed: what is done, with its case and its number.
+  pub done-read : (c n : ℕ) → c < 256 → n ≤ 4294967295 → Reads (wordOf (done c n)) 0 c n
+  -- What is refused, with its number and its place.
+  pub refusal-read : (k p : ℕ) → k < 256 → p ≤ 4294967295 → Reads (wordOf (turned k p)) 1 k p
+  -- A larger number or place is read as 2^32 − 1.
+  pub largest-read : (k p : ℕ) → k < 256 → 4294967295 < p → Reads (wordOf (turned k p)) 1 k 4294967295
+  -- The floor record that is read back from its numbers is the one that was stored, whatever memory it was stored in.
+  pub record-returns : (f : Floor) (old : List ℕ) → length (f .starts) ≡ 8 → length (f .goals) ≡ 8
+      → floorOf (put old 0 (numbersOf f)) ≡ f
