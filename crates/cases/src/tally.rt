@@ -1,9 +1,10 @@
 // What is looked at where an order has come to silence.
+use crate::answers;
 use crate::calls;
-use crate::look;
-use crate::look::both;
-use crate::show;
-use floor::Floor;
+use crate::desk;
+use script::look;
+use script::look::both;
+use script::show;
 
 // How many orders came to silence, and of how many each of the other things holds.
 pub struct Tally {
@@ -92,9 +93,10 @@ fn first_channel(n: usize) -> usize {
 
 // Whether nobody is due, from 3 on, and every channel, of 261 numbers, is empty.
 fn at_rest(m: &[u16], n: usize) -> bool {
-    let a = are_zero(m, 3, 67, n);
-    let b = are_zero(m, first_channel(n), 261, pairs(n));
-    both(a, b)
+    both(
+        are_zero(m, 3, 67, n),
+        are_zero(m, first_channel(n), 261, pairs(n)),
+    )
 }
 
 // The taken count in memory: thousands and rest.
@@ -103,25 +105,25 @@ fn taken_in(m: &[u16]) -> usize {
 }
 
 // Whether every answer, from 4 on, is the sequential planner's and the second planner's.
-fn as_planned(f: Floor, walls: &[u16], m: &[u16], planned: &[u16]) -> bool {
-    let n = look::wide(f.carriers);
+fn as_planned(desk: &[u16], m: &[u16], planned: &[u16]) -> bool {
+    let n = desk::carriers(desk);
     let mut second = look::zeros();
-    second::second_plan(f, walls, &mut second);
-    let a = answers_are(m, 4, 67, n, planned);
-    let b = answers_are(m, 4, 67, n, &second);
-    both(a, b)
+    second::second_plan(desk::floor_of(desk), desk::walls_of(desk), &mut second);
+    both(
+        answers_are(m, 4, 67, n, planned),
+        answers_are(m, 4, 67, n, &second),
+    )
 }
 
 // An order that came to silence after so many steps. What must be: the answers are both planners', the taken count in memory is the
 // number of steps that were answered as taken, that number is at most the ceiling, and the state is at rest.
-fn judged(t: Tally, f: Floor, walls: &[u16], m: &[u16], taken: usize) -> Tally {
-    let n = look::wide(f.carriers);
-    let most = calls::number(calls::ceiling(n));
+fn judged(t: Tally, desk: &[u16], m: &[u16], taken: usize) -> Tally {
+    let n = desk::carriers(desk);
+    let most = answers::number(calls::ceiling(n));
     let mut planned = look::zeros();
-    let failing = calls::number(calls::plan(f, walls, &mut planned));
-    let a = as_planned(f, walls, m, &planned);
-    let b = both(taken_in(m) == taken, taken <= most);
-    let right = both(a, both(b, at_rest(m, n)));
+    let failing = answers::number(calls::plan(desk, &mut planned));
+    let counted = both(taken_in(m) == taken, taken <= most);
+    let right = both(both(as_planned(desk, m, &planned), counted), at_rest(m, n));
     Tally {
         orders: look::count(t.orders, true),
         right: look::count(t.right, right),
@@ -140,10 +142,10 @@ pub fn odd(t: Tally) -> Tally {
 }
 
 // Where an order has come to: silent after so many steps; ended, which is no order; spent, which is odd.
-pub fn noted(t: Tally, f: Floor, walls: &[u16], m: &[u16], came: usize) -> Tally {
-    match calls::kind(came) {
-        calls::SILENT => judged(t, f, walls, m, calls::number(came)),
-        calls::ENDED => t,
+pub fn noted(t: Tally, desk: &[u16], m: &[u16], came: usize) -> Tally {
+    match answers::kind(came) {
+        answers::SILENT => judged(t, desk, m, answers::number(came)),
+        answers::ENDED => t,
         _ => odd(t),
     }
 }
@@ -156,5 +158,5 @@ pub fn say(t: Tally) -> usize {
     show::number(t.failing);
     show::number(t.steps);
     show::number(t.odd);
-    calls::shown()
+    answers::shown()
 }

@@ -7,10 +7,10 @@ use Rattle.cases.proofs.drawn.go.Statement.{statement}
 use Rattle.cases.proofs.drawn.go.Tie as tie
 
 abbrev Inv-loop : tie.InvT-loop
-Inv-loop f walls m₀ desk seed s₀ taken₀ turn₀ m s taken turn = length m ≡ length m₀
+Inv-loop desk m₀ seed s₀ taken₀ turn₀ m s taken turn = length m ≡ length m₀
 
 abbrev μ-loop : tie.MeasureT-loop
-μ-loop f walls m₀ desk seed s₀ taken₀ turn₀ m s taken turn = 100000 - turn
+μ-loop desk m₀ seed s₀ taken₀ turn₀ m s taken turn = 100000 - turn
 
 fresh-requires : tie.Need-fresh-requires Inv-loop μ-loop
 fresh-requires c κs = search needs

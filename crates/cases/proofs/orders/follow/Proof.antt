@@ -7,22 +7,16 @@ use Rattle.cases.proofs.orders.follow.Statement.{statement}
 use Rattle.cases.proofs.orders.follow.Tie as tie
 
 abbrev Inv-loop : tie.InvT-loop
-Inv-loop f m₀ desk choices none k₀ m k = length m ≡ length m₀
+Inv-loop desk m₀ choices k₀ m k = length m ≡ length m₀
 
 abbrev μ-loop : tie.MeasureT-loop
-μ-loop f m₀ desk choices none k₀ m k = 16 - k
-
-slice-aggregate-fresh : tie.Need-slice-aggregate-fresh Inv-loop μ-loop
-slice-aggregate-fresh c = search needs
+μ-loop desk m₀ choices k₀ m k = 16 - k
 
 fresh-requires : tie.Need-fresh-requires Inv-loop μ-loop
 fresh-requires c κs = search needs
 
 loop-holds : tie.Need-loop-holds Inv-loop μ-loop
 loop-holds c = search needs
-
-slice-aggregate-is-silent : tie.Need-slice-aggregate-is-silent Inv-loop μ-loop
-slice-aggregate-is-silent c = search needs
 
 is-silent-requires : tie.Need-is-silent-requires Inv-loop μ-loop
 is-silent-requires c κs = search needs
@@ -36,14 +30,8 @@ same-length c = search needs
 returns : tie.Need-returns Inv-loop μ-loop
 returns c = search needs
 
-wide-at-requires : tie.Need-wide-at-requires Inv-loop μ-loop
-wide-at-requires c κs = search needs
-
-step-at-requires : tie.Need-step-at-requires Inv-loop μ-loop
-step-at-requires c κs = search needs
-
-slice-aggregate-step : tie.Need-slice-aggregate-step Inv-loop μ-loop
-slice-aggregate-step c = search needs
+chosen-requires : tie.Need-chosen-requires Inv-loop μ-loop
+chosen-requires c κs = search needs
 
 step-requires : tie.Need-step-requires Inv-loop μ-loop
 step-requires c κs = search needs
@@ -84,17 +72,13 @@ follow-spec =
     (tie.spec
     Inv-loop
     μ-loop
-    slice-aggregate-fresh
     fresh-requires
     loop-holds
-    slice-aggregate-is-silent
     is-silent-requires
     answer-requires
     same-length
     returns
-    wide-at-requires
-    step-at-requires
-    slice-aggregate-step
+    chosen-requires
     step-requires
     is-refused-requires
     stopped-requires

@@ -1,4 +1,4 @@
--- `cases::orders::next` is safe and ends: from the last choice to the first.
+-- `cases::orders::next` is safe and ends: each choice in turn, from the last.
 use mathlib.Core.Path.{_≡_}
 use lib.ListN.{length}
 use borrow.Author.Needs.{needs}

@@ -7,10 +7,10 @@ use Rattle.cases.proofs.spoilt.each_place.Statement.{statement}
 use Rattle.cases.proofs.spoilt.each_place.Tie as tie
 
 abbrev Inv-loop : tie.InvT-loop
-Inv-loop f m₀ good with x number size n₀ i₀ m n i = length m ≡ length m₀
+Inv-loop desk m₀ with x wanted size n₀ i₀ m n i = length m ≡ length m₀
 
 abbrev μ-loop : tie.MeasureT-loop
-μ-loop f m₀ good with x number size n₀ i₀ m n i = size - i
+μ-loop desk m₀ with x wanted size n₀ i₀ m n i = size - i
 
 loop-holds : tie.Need-loop-holds Inv-loop μ-loop
 loop-holds c = search needs
@@ -18,8 +18,8 @@ loop-holds c = search needs
 at-requires : tie.Need-at-requires Inv-loop μ-loop
 at-requires c κs = search needs
 
-is-refused-requires : tie.Need-is-refused-requires Inv-loop μ-loop
-is-refused-requires c κs = search needs
+is-left-requires : tie.Need-is-left-requires Inv-loop μ-loop
+is-left-requires c κs = search needs
 
 count-requires : tie.Need-count-requires Inv-loop μ-loop
 count-requires c κs = search needs
@@ -47,7 +47,7 @@ each-place-spec =
     μ-loop
     loop-holds
     at-requires
-    is-refused-requires
+    is-left-requires
     count-requires
     add-i
     loop-less

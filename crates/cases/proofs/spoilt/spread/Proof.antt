@@ -7,10 +7,10 @@ use Rattle.cases.proofs.spoilt.spread.Statement.{statement}
 use Rattle.cases.proofs.spoilt.spread.Tie as tie
 
 abbrev Inv-loop : tie.InvT-loop
-Inv-loop s at m₀ k₀ m k = length m ≡ length m₀
+Inv-loop s m₀ k₀ m k = length m ≡ length m₀
 
 abbrev μ-loop : tie.MeasureT-loop
-μ-loop s at m₀ k₀ m k = 100 - k
+μ-loop s m₀ k₀ m k = 100 - k
 
 loop-holds : tie.Need-loop-holds Inv-loop μ-loop
 loop-holds c = search needs

@@ -1,0 +1,115 @@
+// The lines of the script, each with its command.
+use crate::answers;
+use crate::calls;
+use crate::desk;
+use crate::drawn;
+use crate::orders;
+use crate::routes;
+use crate::sheets;
+use crate::spoilt;
+use crate::states;
+use crate::tally;
+use floor::Floor;
+use script::fields;
+use script::fields::field;
+use script::look;
+use script::pages;
+use script::pages::byte;
+use script::show;
+
+// Commands that set numbers of the desk: floor, walls, choices; rising walls; and give, by which all memory becomes as memory is lent.
+fn set(s: &[u8], desk: &mut [u16], room: &mut [u16]) {
+    match byte(s, 0) {
+        b'g' => {
+            look::fill(room, 9700, look::LENT);
+            fields::write(s, 0, desk);
+        }
+        b'f' | b'w' | b'c' => {
+            fields::write(s, 0, desk);
+        }
+        b'R' => desk::rising_walls(desk, field(s, 0)),
+        _ => {}
+    }
+}
+
+// Commands that call an entry of the machine: new state, step, run, plan, highest number of steps.
+fn called(s: &[u8], desk: &[u16], m: &mut [u16]) -> usize {
+    match byte(s, 0) {
+        b'n' => calls::fresh(desk, m),
+        b's' => calls::step(desk, m, look::narrow(field(s, 0))),
+        b'r' => states::run(s, desk, m),
+        b'p' => calls::plan(desk, m),
+        b'h' => calls::ceiling(field(s, 0)),
+        _ => tried(s, desk, m),
+    }
+}
+
+// Commands that write lent memory: text of a sheet, edit, unfit numbers in each place, kinds of answers to all numbers as steps, all orders,
+// drawn orders.
+fn tried(s: &[u8], desk: &[u16], m: &mut [u16]) -> usize {
+    match byte(s, 0) {
+        b't' => sheets::text(s, m),
+        b'e' => states::edit(s, m),
+        b'u' => spoilt::unfit(s, desk, m),
+        b'k' => spoilt::numbers(desk, m, field(s, 0)),
+        b'o' => tally::say(orders::every(desk, m)),
+        b'd' => tally::say(drawn::drawn(s, desk, m)),
+        _ => looked(s, desk, m),
+    }
+}
+
+// Commands that look at lent memory: memory, another planner, journey of a carrier, Search for a carrier.
+fn looked(s: &[u8], desk: &[u16], m: &[u16]) -> usize {
+    match byte(s, 0) {
+        b'm' => states::memory(s, m),
+        b'a' => routes::another(desk, m),
+        b'j' => routes::journey(s, desk, m),
+        b'S' => routes::search(s, desk, m),
+        _ => asked(s, desk),
+    }
+}
+
+// Commands on the desk alone: length of a state, Check of the floor, Fresh floor's check, Writing of a sheet, Printed routes.
+fn asked(s: &[u8], desk: &[u16]) -> usize {
+    match byte(s, 0) {
+        b'l' => calls::state_length(desk),
+        b'C' => answers::checked(floor::check(desk::floor_of(desk), desk::walls_of(desk))),
+        b'F' => answers::checked(floor::check(Floor::fresh(), desk::walls_of(desk))),
+        b'W' => sheets::writing(s, desk),
+        b'P' => sheets::printed(s),
+        _ => answers::shown(),
+    }
+}
+
+// The place behind an arrow whose point is here.
+fn behind(s: &[u8], i: usize) -> usize {
+    if byte(s, i) == 62 {
+        return look::plus(i, 1);
+    }
+    i
+}
+
+// A line: what it says is written, then what came of it. Answers its length, a newline behind it included.
+fn line(s: &[u8], desk: &mut [u16], room: &mut [u16]) -> usize {
+    let size = behind(s, fields::end(s));
+    show::text(pages::part(s, 0, size));
+    set(s, desk, room);
+    answers::show(called(s, desk, look::front(room, look::wide_at(desk, 90))));
+    show::text(b"\n");
+    look::plus(size, 1)
+}
+
+// All lines.
+pub fn play(s: &[u8]) {
+    let mut room = look::room();
+    let mut desk = desk::cleared();
+    let mut at: usize = 0;
+    let mut turn: usize = 0;
+    while turn < 5000 {
+        if s.len() <= at {
+            return;
+        }
+        at = look::plus(at, line(&s[at..], &mut desk, &mut room));
+        turn += 1;
+    }
+}
