@@ -297,13 +297,13 @@ fn unfit(desk: &Desk, numbers: &[Number]) -> usize {
     (0..with.len()).filter(is_refused).count()
 }
 
-/// How many numbers get a kind of answer as a step on the fresh state: 19 is sent, 7 and 8 are refusals.
+/// How many numbers get a kind of answer as a step on the fresh state: 20 is sent, 7 and 8 are refusals.
 fn kinds(floor: &Floor, kind: usize) -> usize {
     let state = paper::fresh(floor.carriers());
     let kind_of = |number: u16| match paper::step_named(number, floor.carriers()) {
         None => 7,
         Some(step) if !state.is_open(floor, step) => 8,
-        Some(step) => 18 + state.clone().take(floor, step) as usize,
+        Some(step) => 19 + state.clone().take(floor, step) as usize,
     };
     (0..=65535).filter(|&number| kind_of(number) == kind).count()
 }
@@ -313,10 +313,11 @@ fn kinds(floor: &Floor, kind: usize) -> usize {
 /// The record of the fresh floor: one cell, one beat, one message, one carrier that is at its goal, no wall.
 const SMALLEST: [u16; 22] = [1, 1, 1, 1, 1, 0, 0, 0, 0, 0, 0, 0, 0, 0, 0, 0, 0, 0, 0, 0, 0, 0];
 
-/// Whether what is printed for the sheet below is the text behind it.
+/// What is printed for the sheet below, which must be the text behind it: its length.
 fn printed(numbers: &[Number], rest: &str) -> String {
     let (sheet, behind) = rest.split_at(numbers[0].value);
-    either(paper::print_routes(sheet.as_bytes()) == behind[..numbers[1].value], "the same", "OTHERWISE")
+    let text = paper::print_routes(sheet.as_bytes());
+    either(text == behind[..numbers[1].value], &format!("printed {}", text.len()), "OTHERWISE")
 }
 
 // ---- The lines ----
@@ -373,7 +374,7 @@ impl Desk {
     }
 
     /// A carrier's arrival and its first cells, at most eight; or none.
-    fn journey(&self, carrier: usize, answer: Answer) -> String {
+    fn route_told(&self, carrier: usize, answer: Answer) -> String {
         let floor = self.floor();
         let Some(route) = answer else { return "none".into() };
         let arrival = paper::arrival_of(&route, floor.goals[carrier - 1], floor.horizon);
@@ -381,17 +382,11 @@ impl Desk {
         format!("arrival {arrival} cells {}", cells.join(" "))
     }
 
-    /// The answer of a carrier in lent memory.
-    fn answer_of(&self, carrier: usize) -> Answer {
-        let record = &self.lent[65 * (carrier - 1)..65 * carrier];
-        (record[0] == 2).then(|| record[1..].try_into().unwrap())
-    }
-
     /// The best route of a carrier against the views in lent memory. What the program's second planner says must be the same.
     fn search(&self, carrier: usize) -> String {
         let mut route = [LENT; 64];
         let word = calls::search(&self.record(), &self.walls(), carrier as u16, &self.lent, &mut route);
-        refusal(word).unwrap_or_else(|| format!("{} the same", self.journey(carrier, (word >> 8 & 255 == 1).then_some(route))))
+        refusal(word).unwrap_or_else(|| format!("{} the same", self.route_told(carrier, (word >> 8 & 255 == 1).then_some(route))))
     }
 
     /// A sheet read into lent wall memory. One that is accepted is the text of its floor.
@@ -443,7 +438,6 @@ impl Desk {
             b'h' => told("steps", calls::ceiling(first as u16)),
             b'm' => either(self.lent == written_out(numbers, self.lent.len()), "the same", "OTHERWISE"),
             b'a' => either(self.is_planned(), "the same", "OTHERWISE"),
-            b'j' => self.journey(first, self.answer_of(first)),
             b'S' => self.search(first),
             b't' => self.sheet(&rest.as_bytes()[..first]),
             b'C' => passed(calls::check_floor(&record, &walls)),

@@ -16,31 +16,28 @@ pub const ENDED: usize = 13;
 pub const FAILING: usize = 14;
 // Of the ceiling, with the most steps.
 pub const STEPS: usize = 15;
+// Of printed routes, with the number of bytes.
+pub const PRINTED: usize = 16;
 // Of a check; this and the others come without a number.
-pub const PASSED: usize = 16;
+pub const PASSED: usize = 17;
 // Of a sheet that was read and written again.
-pub const WRITTEN: usize = 17;
+pub const WRITTEN: usize = 18;
 // Of a step.
-pub const KEPT: usize = 18;
+pub const KEPT: usize = 19;
 
-pub const SENT: usize = 19;
+pub const SENT: usize = 20;
 
-pub const DELIVERED: usize = 20;
+pub const DELIVERED: usize = 21;
 // Of a comparison.
-pub const SAME: usize = 21;
+pub const SAME: usize = 22;
 
-pub const OTHERWISE: usize = 22;
+pub const OTHERWISE: usize = 23;
 // Nothing is left to show.
-pub const SHOWN: usize = 23;
+pub const SHOWN: usize = 24;
 
 // An answer of a kind with a number.
 pub fn answer(kind: usize, number: usize) -> usize {
-    if kind < 24 {
-        if number < 1000000 {
-            return 1000000 * kind + number;
-        }
-    }
-    0
+    kind % 25 * 1000000 + number % 1000000
 }
 
 pub fn kind(came: usize) -> usize {
@@ -83,45 +80,44 @@ pub fn shown() -> usize {
     answer(SHOWN, 0)
 }
 
-// Where the word of a kind begins among all words; those of plain numbers and refusals are not there.
-fn begin(kind: usize) -> usize {
+// The word of a kind among all words: its place times 100, and its length. A plain number has none.
+fn word_of(kind: usize) -> usize {
     match kind {
-        SILENT => 0,
-        SPENT => 7,
-        ENDED => 13,
-        FAILING => 19,
-        STEPS => 35,
-        PASSED => 41,
-        WRITTEN => 48,
-        KEPT => 73,
-        SENT => 78,
-        DELIVERED => 83,
-        SAME => 93,
-        OTHERWISE => 102,
-        _ => 112,
+        0 | SHOWN => 0,
+        SILENT => 807,
+        SPENT => 1506,
+        ENDED => 2106,
+        FAILING => 2716,
+        STEPS => 4306,
+        PASSED => 4907,
+        WRITTEN => 4925,
+        PRINTED => 7408,
+        KEPT => 8205,
+        SENT => 8705,
+        DELIVERED => 9210,
+        SAME => 10209,
+        OTHERWISE => 11110,
+        _ => 8,
     }
 }
 
-// The word of a kind, with a refusal's number; a plain number has none.
-fn word(kind: usize) {
-    if kind < SILENT {
-        if 0 < kind {
-            show::text(b" refused");
-            show::number(kind);
-        }
-        return;
-    }
+// The word of a kind.
+fn show_word(kind: usize) {
     let words =
-        b" silent spent ended failing carrier steps passed passed, written the same kept sent delivered the same OTHERWISE";
-    let from = begin(kind);
-    let size = look::less(begin(look::plus(kind, 1)), from);
-    show::text(pages::part(words, from, size));
+        b" refused silent spent ended failing carrier steps passed, written the same printed kept sent delivered the same OTHERWISE";
+    let word = word_of(kind);
+    show::text(pages::part(words, word / 100, word % 100));
 }
 
-// An answer: its word, and the place, the number taken, the failing carrier, the most steps, or the plain number.
+// An answer: its word, a refusal's number, and the place, the number taken, the failing carrier, the most steps, the number of bytes, or
+// the plain number.
 pub fn show(came: usize) {
     let kind = kind(came);
-    word(kind);
+    show_word(kind);
+    match kind {
+        1..=10 => show::number(kind),
+        _ => {}
+    }
     if kind < PASSED {
         show::number(number(came));
     }

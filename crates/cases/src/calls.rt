@@ -22,8 +22,7 @@ pub fn fresh(desk: &[u16], m: &mut [u16]) -> usize {
     checked(machine::fresh(floor_of(desk), walls_of(desk), m))
 }
 
-pub fn step(desk: &[u16], m: &mut [u16], x: u16) -> usize {
-    let a = machine::step(floor_of(desk), walls_of(desk), m, x);
+fn stepped(a: Stepped) -> usize {
     match a {
         Stepped::Kept => answer(KEPT, 0),
         Stepped::Sent => answer(SENT, 0),
@@ -32,14 +31,21 @@ pub fn step(desk: &[u16], m: &mut [u16], x: u16) -> usize {
     }
 }
 
-pub fn run(desk: &[u16], m: &mut [u16], list: &[u16], budget: u16) -> usize {
-    let a = machine::run(floor_of(desk), walls_of(desk), m, list, budget);
+pub fn step(desk: &[u16], m: &mut [u16], x: u16) -> usize {
+    stepped(machine::step(floor_of(desk), walls_of(desk), m, x))
+}
+
+fn ran(a: Ran) -> usize {
     match a {
         Ran::Silent(n) => answer(SILENT, n),
         Ran::Spent(n) => answer(SPENT, n),
         Ran::Ended(n) => answer(ENDED, n),
         Ran::Refused(r) => refused(r),
     }
+}
+
+pub fn run(desk: &[u16], m: &mut [u16], list: &[u16], budget: u16) -> usize {
+    ran(machine::run(floor_of(desk), walls_of(desk), m, list, budget))
 }
 
 pub fn plan(desk: &[u16], m: &mut [u16]) -> usize {

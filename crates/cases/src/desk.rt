@@ -32,17 +32,7 @@ pub fn walls_of(desk: &[u16]) -> &[u16] {
     look::part(desk, 201, look::wide_at(desk, 200))
 }
 
-// How many carriers the floor has.
-pub fn carriers(desk: &[u16]) -> usize {
-    look::wide_at(desk, 4)
-}
-
-// How many steps there are to choose among.
-pub fn choices(desk: &[u16]) -> usize {
-    look::wide_at(desk, 100)
-}
-
-// Step k of these, from 0.
+// Step k of those to choose among, from 0.
 pub fn choice(desk: &[u16], k: usize) -> u16 {
     look::at(desk, look::plus(101, k))
 }

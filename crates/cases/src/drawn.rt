@@ -11,20 +11,15 @@ use crate::tally::Tally;
 use script::fields::field;
 use script::look;
 
-// How many steps an answer says were taken.
+// How many steps an answer says were taken: none by a step that is not open (8, 0), and by any other refusal more than there can be.
 fn gained(came: usize) -> usize {
     if answers::is_refused(came) {
-        return 0;
+        return look::choose(came == answers::answer(8, 0), 0, 65536);
     }
     if answers::kind(came) < PASSED {
         return answers::number(came);
     }
     1
-}
-
-// Whether an answer is a refusal other than 8, 0.
-fn is_odd(came: usize) -> bool {
-    look::both(answers::is_refused(came), came != answers::answer(8, 0))
 }
 
 // A run of the first steps of a drawn list, 0 to 31 of them, with a drawn budget of 0 to 15.
@@ -46,8 +41,8 @@ fn one(desk: &[u16], m: &mut [u16], seed: usize, runs: bool) -> usize {
     calls::step(desk, m, draws::draw_step(desk, seed))
 }
 
-// To silence from the fresh state, by runs where the seed is even, by single steps where it is odd: silent after so many steps; spent at an
-// odd answer or where there is no end.
+// To silence from the fresh state, by runs where the seed is even, by single steps where it is odd: silent after so many steps; spent where
+// there is no end.
 fn go(desk: &[u16], m: &mut [u16], seed: usize) -> usize {
     calls::fresh(desk, m);
     let mut s = seed;
@@ -58,11 +53,7 @@ fn go(desk: &[u16], m: &mut [u16], seed: usize) -> usize {
             return answers::answer(SILENT, taken);
         }
         s = draws::next(s);
-        let came = one(desk, m, s, seed % 2 == 0);
-        if is_odd(came) {
-            return answers::answer(SPENT, taken);
-        }
-        taken = look::plus(taken, gained(came));
+        taken = look::plus(taken, gained(one(desk, m, s, seed % 2 == 0)));
         turn += 1;
     }
     answers::answer(SPENT, taken)
@@ -71,7 +62,7 @@ fn go(desk: &[u16], m: &mut [u16], seed: usize) -> usize {
 // One drawn order of a floor with drawn starts, goals and walls.
 fn draw_one(t: Tally, desk: &[u16], m: &mut [u16], cells: usize, seed: usize) -> Tally {
     let mut drawn = desk::cleared();
-    look::copy(desk, &mut drawn, 200);
+    look::copy(desk, &mut drawn, 201);
     draws::draw_floor(&mut drawn, cells, seed);
     let came = go(&drawn, m, seed);
     tally::noted(t, &drawn, m, came)

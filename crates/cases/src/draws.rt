@@ -50,12 +50,7 @@ fn is_end(desk: &[u16], c: u16) -> bool {
     false
 }
 
-// Whether a cell becomes a wall: one in six of those that are no start and no goal.
-fn is_wall(desk: &[u16], c: u16, seed: usize) -> bool {
-    look::both(!is_end(desk, c), below(seed, 6) == 0)
-}
-
-// Draws the walls, rising, and answers how many there are.
+// Draws the walls, rising, one in six of the cells that are no start and no goal, and answers how many there are.
 fn draw_walls(desk: &mut [u16], cells: usize, seed: usize) -> usize {
     let mut s = seed;
     let mut count: usize = 0;
@@ -64,25 +59,24 @@ fn draw_walls(desk: &mut [u16], cells: usize, seed: usize) -> usize {
         s = next(s);
         let cell = look::narrow(c);
         look::put(desk, look::plus(201, count), cell);
-        count = look::count(count, is_wall(desk, cell, s));
+        count = look::count(count, look::both(!is_end(desk, cell), s % 6 == 0));
         c += 1;
     }
     count
 }
 
-// The floor of a desk gets drawn starts, goals and walls, which are all lent.
+// The floor of a desk gets drawn starts, goals and walls.
 pub fn draw_floor(desk: &mut [u16], cells: usize, seed: usize) {
     let c = next(next(seed));
     shuffle(desk, 6, cells, beside(c, 1));
     shuffle(desk, 7, cells, beside(c, 2));
-    let count = look::narrow(draw_walls(desk, cells, beside(c, 3)));
-    look::put(desk, 5, count);
-    look::put(desk, 200, count);
+    let count = draw_walls(desk, cells, beside(c, 3));
+    look::put(desk, 5, look::narrow(count));
 }
 
 // A step drawn from those of the desk.
 pub fn draw_step(desk: &[u16], seed: usize) -> u16 {
-    desk::choice(desk, below(seed, desk::choices(desk)))
+    desk::choice(desk, below(seed, look::wide_at(desk, 100)))
 }
 
 // A list of steps drawn from those of the desk.

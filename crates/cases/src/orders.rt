@@ -10,17 +10,8 @@ use crate::tally;
 use crate::tally::Tally;
 use script::look;
 
-// Where a refusal after k steps ends the list: ended if the step is not open (8, 0), spent if the answer is odd.
-fn stopped(came: usize, k: usize) -> usize {
-    answers::answer(look::choose(came == answers::answer(8, 0), ENDED, SPENT), k)
-}
-
-// The step that choice k is.
-fn chosen(desk: &[u16], choices: &[u16], k: usize) -> u16 {
-    desk::choice(desk, look::wide_at(choices, k))
-}
-
-// Follows a list of choices from the fresh state by single steps: silent after so many, or as above.
+// Follows a list of choices from the fresh state by single steps: silent after so many; ended at a step that is not open; spent where there
+// is no end.
 fn follow(desk: &[u16], m: &mut [u16], choices: &[u16]) -> usize {
     calls::fresh(desk, m);
     let mut k: usize = 0;
@@ -28,9 +19,9 @@ fn follow(desk: &[u16], m: &mut [u16], choices: &[u16]) -> usize {
         if calls::is_silent(desk, m) {
             return answers::answer(SILENT, k);
         }
-        let came = calls::step(desk, m, chosen(desk, choices, k));
-        if answers::is_refused(came) {
-            return stopped(came, k);
+        let x = desk::choice(desk, look::wide_at(choices, k));
+        if answers::is_refused(calls::step(desk, m, x)) {
+            return answers::answer(ENDED, k);
         }
         k += 1;
     }
@@ -65,7 +56,7 @@ pub fn every(desk: &[u16], m: &mut [u16]) -> Tally {
     while turn < 1000000 {
         let came = follow(desk, m, &choices);
         t = tally::noted(t, desk, m, came);
-        if !next(&mut choices, used(came), desk::choices(desk)) {
+        if !next(&mut choices, used(came), look::wide_at(desk, 100)) {
             return t;
         }
         turn += 1;

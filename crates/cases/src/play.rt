@@ -17,7 +17,8 @@ use script::pages;
 use script::pages::byte;
 use script::show;
 
-// Commands that set numbers of the desk: floor, walls, choices; rising walls; and give, by which all memory becomes as memory is lent.
+// Commands that set numbers: floor, walls, choices and Rising walls on the desk; edit in memory; and give, by which all memory becomes as
+// memory is lent.
 fn set(s: &[u8], desk: &mut [u16], room: &mut [u16]) {
     match byte(s, 0) {
         b'g' => {
@@ -26,6 +27,9 @@ fn set(s: &[u8], desk: &mut [u16], room: &mut [u16]) {
         }
         b'f' | b'w' | b'c' => {
             fields::write(s, 0, desk);
+        }
+        b'e' => {
+            fields::write(s, 0, room);
         }
         b'R' => desk::rising_walls(desk, field(s, 0)),
         _ => {}
@@ -44,12 +48,11 @@ fn called(s: &[u8], desk: &[u16], m: &mut [u16]) -> usize {
     }
 }
 
-// Commands that write lent memory: text of a sheet, edit, unfit numbers in each place, kinds of answers to all numbers as steps, all orders,
-// drawn orders.
+// Commands that write lent memory: text of a sheet, unfit numbers in each place, kinds of answers to all numbers as steps, all orders, drawn
+// orders.
 fn tried(s: &[u8], desk: &[u16], m: &mut [u16]) -> usize {
     match byte(s, 0) {
         b't' => sheets::text(s, m),
-        b'e' => states::edit(s, m),
         b'u' => spoilt::unfit(s, desk, m),
         b'k' => spoilt::numbers(desk, m, field(s, 0)),
         b'o' => tally::say(orders::every(desk, m)),
@@ -58,12 +61,11 @@ fn tried(s: &[u8], desk: &[u16], m: &mut [u16]) -> usize {
     }
 }
 
-// Commands that look at lent memory: memory, another planner, journey of a carrier, Search for a carrier.
+// Commands that look at lent memory: memory, another planner, Search for a carrier.
 fn looked(s: &[u8], desk: &[u16], m: &[u16]) -> usize {
     match byte(s, 0) {
         b'm' => states::memory(s, m),
-        b'a' => routes::another(desk, m),
-        b'j' => routes::journey(s, desk, m),
+        b'a' => answers::compared(tally::second_says(desk, m, 0, 65)),
         b'S' => routes::search(s, desk, m),
         _ => asked(s, desk),
     }
@@ -81,17 +83,9 @@ fn asked(s: &[u8], desk: &[u16]) -> usize {
     }
 }
 
-// The place behind an arrow whose point is here.
-fn behind(s: &[u8], i: usize) -> usize {
-    if byte(s, i) == 62 {
-        return look::plus(i, 1);
-    }
-    i
-}
-
 // A line: what it says is written, then what came of it. Answers its length, a newline behind it included.
 fn line(s: &[u8], desk: &mut [u16], room: &mut [u16]) -> usize {
-    let size = behind(s, fields::end(s));
+    let size = fields::end(s);
     show::text(pages::part(s, 0, size));
     set(s, desk, room);
     answers::show(called(s, desk, look::front(room, look::wide_at(desk, 90))));

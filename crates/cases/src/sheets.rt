@@ -1,6 +1,6 @@
 // Commands on sheets and floors. A text is so many bytes of the script, from the line under the command's on.
 use crate::answers;
-use crate::answers::PASSED;
+use crate::answers::PRINTED;
 use crate::answers::WRITTEN;
 use crate::answers::checked;
 use crate::desk::floor_of;
@@ -19,23 +19,26 @@ fn written(f: Floor, walls: &[u16], n: usize, text: &[u8]) -> usize {
     answers::only_if(pages::holds(&page, text), came)
 }
 
-// A sheet is checked, and read into lent memory, which must answer alike. If it is refused, that memory is as it was lent; if not, the
-// floor that was read is written again as the same bytes.
+// What came of a reading that the check foretold: if it is refused, lent memory is as it was lent; if not, the floor that was read is
+// written again as the same bytes.
+fn read_so(text: &[u8], m: &[u16], f: Floor, asked: usize) -> usize {
+    if answers::is_refused(asked) {
+        return answers::only_if(look::same(m, &look::room()), asked);
+    }
+    answers::only_if(
+        written(f, m, 3000, text) == asked,
+        answers::answer(WRITTEN, 0),
+    )
+}
+
+// A sheet is checked, and read into lent memory, which must answer alike.
 fn read(text: &[u8], m: &mut [u16]) -> usize {
     let asked = checked(sheet::check(text, m.len()));
     let reading = sheet::read(text, m);
     let answer = reading.answer;
-    let came = checked(answer);
-    if answers::is_refused(came) {
-        return answers::only_if(
-            look::both(came == asked, look::same(m, &look::room())),
-            came,
-        );
-    }
-    let again = written(reading.floor, m, 3000, text);
     answers::only_if(
-        look::both(came == asked, again == came),
-        answers::answer(WRITTEN, 0),
+        checked(answer) == asked,
+        read_so(text, m, reading.floor, asked),
     )
 }
 
@@ -54,16 +57,17 @@ pub fn writing(s: &[u8], desk: &[u16]) -> usize {
     )
 }
 
+fn printed_bytes(a: Printed) -> usize {
+    match a {
+        Printed::Written(n) => answers::answer(PRINTED, n),
+        Printed::Refused(r) => answers::refused(r),
+    }
+}
+
 // Printed: for a sheet of so many bytes so many bytes are printed, which stand behind it.
 pub fn printed(s: &[u8]) -> usize {
     let n = field(s, 0);
-    let size = field(s, 1);
     let mut page = pages::page();
-    let came = printing::routes(under(s, 0, n), &mut page);
-    match came {
-        Printed::Written(k) => {
-            answers::compared(look::both(k == size, pages::holds(&page, under(s, n, size))))
-        }
-        Printed::Refused(r) => answers::refused(r),
-    }
+    let came = printed_bytes(printing::routes(under(s, 0, n), &mut page));
+    answers::only_if(pages::holds(&page, under(s, n, field(s, 1))), came)
 }

@@ -13,49 +13,45 @@ fn both_get(desk: &[u16], m: &mut [u16], x: u16, wanted: usize) -> bool {
     both(a, b)
 }
 
-// Whether with v at place i of a state the step x and a run of it get an answer and leave v there; the place is then as it was before.
-fn is_left(desk: &[u16], m: &mut [u16], i: usize, v: u16, x: u16, wanted: usize) -> bool {
+// The number to try in place i, by a line's pairs from number 2 on: the first so many places get a number; a later pair goes before an
+// earlier one.
+fn number_for(s: &[u8], i: usize) -> u16 {
+    let mut v: usize = 0;
+    let mut k: usize = 2;
+    while k < 100 {
+        v = look::choose(i < field(s, k), field(s, k + 1), v);
+        k += 2;
+    }
+    look::narrow(v)
+}
+
+// Whether with that number in place i of a state the line's step and a run of it are refused so and leave it there; the place is then as
+// it was before.
+fn is_left(s: &[u8], desk: &[u16], m: &mut [u16], i: usize) -> bool {
+    let v = number_for(s, i);
     let was = look::at(m, i);
     look::put(m, i, v);
-    let got = both_get(desk, m, x, wanted);
+    let got = both_get(
+        desk,
+        m,
+        look::narrow(field(s, 0)),
+        answers::answer(field(s, 1), 0),
+    );
     let left = look::at(m, i) == v;
     look::put(m, i, was);
     both(got, left)
 }
 
-// At how many places that is so, each with its number of `with`.
-fn each_place(desk: &[u16], m: &mut [u16], with: &[u16], x: u16, wanted: usize) -> usize {
+// unfit: a step and a number of a refusal, then the numbers to try: at how many places that is so.
+pub fn unfit(s: &[u8], desk: &[u16], m: &mut [u16]) -> usize {
     let size = m.len();
     let mut n: usize = 0;
     let mut i: usize = 0;
     while i < size {
-        n = look::count(n, is_left(desk, m, i, look::at(with, i), x, wanted));
+        n = look::count(n, is_left(s, desk, m, i));
         i += 1;
     }
     n
-}
-
-// Writes the numbers of a line's pairs, from number 2 on: the first so many places get a number; a later pair writes over an earlier one.
-fn spread(s: &[u8], m: &mut [u16]) {
-    let mut k: usize = 2;
-    while k < 100 {
-        let v = look::narrow(field(s, k + 1));
-        look::fill(m, field(s, k), v);
-        k += 2;
-    }
-}
-
-// unfit: a step and a number of a refusal, then the numbers to try in each place of the state in lent memory.
-pub fn unfit(s: &[u8], desk: &[u16], m: &mut [u16]) -> usize {
-    let mut with = look::room();
-    spread(s, &mut with);
-    each_place(
-        desk,
-        m,
-        &with,
-        look::narrow(field(s, 0)),
-        answers::answer(field(s, 1), 0),
-    )
 }
 
 // How many of all numbers get a kind of answer as a step on a fresh state.

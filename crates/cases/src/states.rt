@@ -14,12 +14,6 @@ pub fn memory(s: &[u8], m: &[u16]) -> usize {
     answers::compared(look::same(m, &e))
 }
 
-// edit: numbers are written into lent memory.
-pub fn edit(s: &[u8], m: &mut [u16]) -> usize {
-    write(s, 0, m);
-    answers::shown()
-}
-
 // run: the budget, then the steps of the list, at most eight.
 pub fn run(s: &[u8], desk: &[u16], m: &mut [u16]) -> usize {
     let mut list = [0u16; 8];

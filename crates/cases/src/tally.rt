@@ -18,7 +18,7 @@ pub struct Tally {
     pub failing: usize,
     // All steps taken.
     pub steps: usize,
-    // Answers of steps that are neither taken nor refused with 8, 0; orders that did not come to silence.
+    // Orders that did not come to silence.
     pub odd: usize,
 }
 
@@ -104,26 +104,26 @@ fn taken_in(m: &[u16]) -> usize {
     1000 * look::wide_at(m, 0) + look::wide_at(m, 1)
 }
 
-// Whether every answer, from 4 on, is the sequential planner's and the second planner's.
-fn as_planned(desk: &[u16], m: &[u16], planned: &[u16]) -> bool {
-    let n = desk::carriers(desk);
-    let mut second = look::zeros();
-    second::second_plan(desk::floor_of(desk), desk::walls_of(desk), &mut second);
-    both(
-        answers_are(m, 4, 67, n, planned),
-        answers_are(m, 4, 67, n, &second),
-    )
+// another planner: whether the second planner's answers are the records from a place on, each so many numbers behind the one before.
+pub fn second_says(desk: &[u16], m: &[u16], from: usize, stride: usize) -> bool {
+    let mut other = look::zeros();
+    second::second_plan(desk::floor_of(desk), desk::walls_of(desk), &mut other);
+    answers_are(m, from, stride, look::wide_at(desk, 4), &other)
 }
 
 // An order that came to silence after so many steps. What must be: the answers are both planners', the taken count in memory is the
 // number of steps that were answered as taken, that number is at most the ceiling, and the state is at rest.
 fn judged(t: Tally, desk: &[u16], m: &[u16], taken: usize) -> Tally {
-    let n = desk::carriers(desk);
+    let n = look::wide_at(desk, 4);
     let most = answers::number(calls::ceiling(n));
     let mut planned = look::zeros();
     let failing = answers::number(calls::plan(desk, &mut planned));
     let counted = both(taken_in(m) == taken, taken <= most);
-    let right = both(both(as_planned(desk, m, &planned), counted), at_rest(m, n));
+    let as_planned = both(
+        answers_are(m, 4, 67, n, &planned),
+        second_says(desk, m, 4, 67),
+    );
+    let right = both(both(as_planned, counted), at_rest(m, n));
     Tally {
         orders: look::count(t.orders, true),
         right: look::count(t.right, right),

@@ -18,15 +18,12 @@ fn is_digit(b: u8) -> bool {
     b < 58
 }
 
-// Whether a run of digits, or of other bytes, goes on with this byte; the arrow's point and the line's end end both.
+// Whether a run of digits, or of other bytes, goes on with this byte; a newline ends both.
 fn goes_on(b: u8, digits: bool) -> bool {
-    if digits {
-        return is_digit(b);
+    if b == 10 {
+        return false;
     }
-    match b {
-        10 | 62 => false,
-        _ => !is_digit(b),
-    }
+    is_digit(b) == digits
 }
 
 // The end of a run of digits, or of other bytes, that begins at a place.
@@ -41,7 +38,7 @@ fn skip(s: &[u8], from: usize, digits: bool) -> usize {
     i
 }
 
-// The place of number k, from 0, of a line; where it has fewer, its end or its arrow's point.
+// The place of number k, from 0, of a line, or its end where it has fewer.
 fn place(s: &[u8], k: usize) -> usize {
     let mut i = skip(s, 0, false);
     let mut n: usize = 0;
@@ -52,7 +49,7 @@ fn place(s: &[u8], k: usize) -> usize {
     i
 }
 
-// Where a line ends, or its arrow's point stands: no line has 1,000 numbers.
+// Where a line ends: none has 1,000 numbers.
 pub fn end(s: &[u8]) -> usize {
     place(s, 1000)
 }
@@ -115,7 +112,7 @@ pub fn write(s: &[u8], k: usize, m: &mut [u16]) -> usize {
     to
 }
 
-// So many bytes of the script, from a place of the line under this one on, which has an arrow.
+// So many bytes of the script, from a place of the line under this one on.
 pub fn under(s: &[u8], from: usize, n: usize) -> &[u8] {
-    part(s, look::plus(look::plus(end(s), 2), from), n)
+    part(s, look::plus(look::plus(end(s), 1), from), n)
 }

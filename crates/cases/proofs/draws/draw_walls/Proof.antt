@@ -27,8 +27,11 @@ plus-requires c κs = search needs
 put-requires : tie.Need-put-requires Inv-loop μ-loop
 put-requires c κs = search needs
 
-is-wall-requires : tie.Need-is-wall-requires Inv-loop μ-loop
-is-wall-requires c κs = search needs
+is-end-requires : tie.Need-is-end-requires Inv-loop μ-loop
+is-end-requires c κs = search needs
+
+both-requires : tie.Need-both-requires Inv-loop μ-loop
+both-requires c κs = search needs
 
 count-requires : tie.Need-count-requires Inv-loop μ-loop
 count-requires c κs = search needs
@@ -59,7 +62,8 @@ draw-walls-spec =
     narrow-requires
     plus-requires
     put-requires
-    is-wall-requires
+    is-end-requires
+    both-requires
     count-requires
     add-c
     loop-less

@@ -33,8 +33,8 @@ slice-aggregate-next c = search needs
 used-requires : tie.Need-used-requires Inv-loop μ-loop
 used-requires c κs = search needs
 
-choices-requires : tie.Need-choices-requires Inv-loop μ-loop
-choices-requires c κs = search needs
+wide-at-requires : tie.Need-wide-at-requires Inv-loop μ-loop
+wide-at-requires c κs = search needs
 
 next-requires : tie.Need-next-requires Inv-loop μ-loop
 next-requires c κs = search needs
@@ -76,7 +76,7 @@ every-spec =
     noted-requires
     slice-aggregate-next
     used-requires
-    choices-requires
+    wide-at-requires
     next-requires
     same-length
     returns

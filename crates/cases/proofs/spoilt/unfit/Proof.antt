@@ -1,22 +1,19 @@
--- `cases::spoilt::each_place` is safe and ends: each place in turn.
+-- `cases::spoilt::unfit` is safe and ends: each place in turn.
 use Prim.Native.Nat.{_-_}
 use mathlib.Core.Path.{_≡_}
 use lib.ListN.{length}
 use borrow.Author.Needs.{needs}
-use Rattle.cases.proofs.spoilt.each_place.Statement.{statement}
-use Rattle.cases.proofs.spoilt.each_place.Tie as tie
+use Rattle.cases.proofs.spoilt.unfit.Statement.{statement}
+use Rattle.cases.proofs.spoilt.unfit.Tie as tie
 
 abbrev Inv-loop : tie.InvT-loop
-Inv-loop desk m₀ with x wanted size n₀ i₀ m n i = length m ≡ length m₀
+Inv-loop s desk m₀ size n₀ i₀ m n i = length m ≡ length m₀
 
 abbrev μ-loop : tie.MeasureT-loop
-μ-loop desk m₀ with x wanted size n₀ i₀ m n i = size - i
+μ-loop s desk m₀ size n₀ i₀ m n i = size - i
 
 loop-holds : tie.Need-loop-holds Inv-loop μ-loop
 loop-holds c = search needs
-
-at-requires : tie.Need-at-requires Inv-loop μ-loop
-at-requires c κs = search needs
 
 is-left-requires : tie.Need-is-left-requires Inv-loop μ-loop
 is-left-requires c κs = search needs
@@ -39,14 +36,13 @@ same-length c = search needs
 returns : tie.Need-returns Inv-loop μ-loop
 returns c = search needs
 
-pub each-place-spec : {M : Type 1} → statement M
-each-place-spec =
+pub unfit-spec : {M : Type 1} → statement M
+unfit-spec =
     tie.close
     (tie.spec
     Inv-loop
     μ-loop
     loop-holds
-    at-requires
     is-left-requires
     count-requires
     add-i
