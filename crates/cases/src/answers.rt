@@ -75,11 +75,6 @@ pub fn compared(good: bool) -> usize {
     only_if(good, answer(SAME, 0))
 }
 
-// What came has been shown.
-pub fn shown() -> usize {
-    answer(SHOWN, 0)
-}
-
 // The word of a kind among all words: its place times 100, and its length. A plain number has none.
 fn word_of(kind: usize) -> usize {
     match kind {

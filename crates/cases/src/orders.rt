@@ -10,18 +10,15 @@ use crate::tally;
 use crate::tally::Tally;
 use script::look;
 
-// Follows a list of choices from the fresh state by single steps: silent after so many; ended at a step that is not open; spent where there
-// is no end.
+// Follows a list of choices from the fresh state by single steps to one that is not open, and says after how many: silent if no step is
+// open, otherwise ended. Spent where there is no end.
 fn follow(desk: &[u16], m: &mut [u16], choices: &[u16]) -> usize {
     calls::fresh(desk, m);
     let mut k: usize = 0;
     while k < 16 {
-        if calls::is_silent(desk, m) {
-            return answers::answer(SILENT, k);
-        }
         let x = desk::choice(desk, look::wide_at(choices, k));
         if answers::is_refused(calls::step(desk, m, x)) {
-            return answers::answer(ENDED, k);
+            return answers::answer(look::choose(calls::is_silent(desk, m), SILENT, ENDED), k);
         }
         k += 1;
     }
@@ -34,11 +31,10 @@ fn next(choices: &mut [u16], k: usize, count: usize) -> bool {
     while 0 < left {
         left -= 1;
         let c = look::plus(look::wide_at(choices, left), 1);
+        look::put(choices, left, look::narrow(look::choose(c < count, c, 0)));
         if c < count {
-            look::put(choices, left, look::narrow(c));
             return true;
         }
-        look::put(choices, left, 0);
     }
     false
 }

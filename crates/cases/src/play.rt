@@ -17,39 +17,41 @@ use script::pages;
 use script::pages::byte;
 use script::show;
 
-// Commands that set numbers: floor, walls, choices and Rising walls on the desk; edit in memory; and give, by which all memory becomes as
-// memory is lent.
-fn set(s: &[u8], desk: &mut [u16], room: &mut [u16]) {
+// Commands that set numbers of the desk: give, floor, walls, choices; Rising walls.
+fn set_desk(s: &[u8], desk: &mut [u16]) {
     match byte(s, 0) {
-        b'g' => {
-            look::fill(room, 9700, look::LENT);
+        b'g' | b'f' | b'w' | b'c' => {
             fields::write(s, 0, desk);
-        }
-        b'f' | b'w' | b'c' => {
-            fields::write(s, 0, desk);
-        }
-        b'e' => {
-            fields::write(s, 0, room);
         }
         b'R' => desk::rising_walls(desk, field(s, 0)),
         _ => {}
     }
 }
 
-// Commands that call an entry of the machine: new state, step, run, plan, highest number of steps.
+// Commands that set numbers of memory: give, by which all becomes as memory is lent; edit.
+fn set_memory(s: &[u8], room: &mut [u16]) {
+    match byte(s, 0) {
+        b'g' => look::fill(room, 9700, look::LENT),
+        b'e' => {
+            fields::write(s, 0, room);
+        }
+        _ => {}
+    }
+}
+
+// Commands that call an entry with lent memory: new state, step, run, plan.
 fn called(s: &[u8], desk: &[u16], m: &mut [u16]) -> usize {
     match byte(s, 0) {
         b'n' => calls::fresh(desk, m),
         b's' => calls::step(desk, m, look::narrow(field(s, 0))),
         b'r' => states::run(s, desk, m),
         b'p' => calls::plan(desk, m),
-        b'h' => calls::ceiling(field(s, 0)),
         _ => tried(s, desk, m),
     }
 }
 
-// Commands that write lent memory: text of a sheet, unfit numbers in each place, kinds of answers to all numbers as steps, all orders, drawn
-// orders.
+// Commands that try lent memory in many ways: text of a sheet, unfit numbers in each place, kinds of answers to all numbers as steps, all
+// orders, drawn orders.
 fn tried(s: &[u8], desk: &[u16], m: &mut [u16]) -> usize {
     match byte(s, 0) {
         b't' => sheets::text(s, m),
@@ -71,15 +73,17 @@ fn looked(s: &[u8], desk: &[u16], m: &[u16]) -> usize {
     }
 }
 
-// Commands on the desk alone: length of a state, Check of the floor, Fresh floor's check, Writing of a sheet, Printed routes.
+// Commands without lent memory: length of a state, highest number of steps, Check of the floor, Fresh floor's check, Writing of a sheet,
+// Printed routes.
 fn asked(s: &[u8], desk: &[u16]) -> usize {
     match byte(s, 0) {
         b'l' => calls::state_length(desk),
+        b'h' => calls::ceiling(field(s, 0)),
         b'C' => answers::checked(floor::check(desk::floor_of(desk), desk::walls_of(desk))),
         b'F' => answers::checked(floor::check(Floor::fresh(), desk::walls_of(desk))),
         b'W' => sheets::writing(s, desk),
         b'P' => sheets::printed(s),
-        _ => answers::shown(),
+        _ => answers::answer(answers::SHOWN, 0),
     }
 }
 
@@ -87,7 +91,8 @@ fn asked(s: &[u8], desk: &[u16]) -> usize {
 fn line(s: &[u8], desk: &mut [u16], room: &mut [u16]) -> usize {
     let size = fields::end(s);
     show::text(pages::part(s, 0, size));
-    set(s, desk, room);
+    set_desk(s, desk);
+    set_memory(s, room);
     answers::show(called(s, desk, look::front(room, look::wide_at(desk, 90))));
     show::text(b"\n");
     look::plus(size, 1)

@@ -29,8 +29,10 @@ fn same_route(a: Route, b: Route) -> bool {
 // Search: the best route of a carrier against the views in lent memory, and whether the second planner has the same.
 pub fn search(s: &[u8], desk: &[u16], m: &[u16]) -> usize {
     let i = look::narrow(field(s, 0));
-    let found = search::search(floor_of(desk), walls_of(desk), i, m);
-    let other = second::second_route(floor_of(desk), walls_of(desk), i, m);
+    let f = floor_of(desk);
+    let walls = walls_of(desk);
+    let found = search::search(f, walls, i, m);
+    let other = second::second_route(f, walls, i, m);
     let route = found.route;
     let other_route = other.route;
     let outcome = found.outcome;

@@ -134,7 +134,7 @@ fn judged(t: Tally, desk: &[u16], m: &[u16], taken: usize) -> Tally {
     }
 }
 
-// One more odd answer.
+// One more order that is odd.
 pub fn odd(t: Tally) -> Tally {
     let mut u = t;
     u.odd = look::count(t.odd, true);
@@ -158,5 +158,5 @@ pub fn say(t: Tally) -> usize {
     show::number(t.failing);
     show::number(t.steps);
     show::number(t.odd);
-    answers::shown()
+    answers::answer(answers::SHOWN, 0)
 }

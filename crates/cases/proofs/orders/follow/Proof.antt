@@ -18,18 +18,6 @@ fresh-requires c κs = search needs
 loop-holds : tie.Need-loop-holds Inv-loop μ-loop
 loop-holds c = search needs
 
-is-silent-requires : tie.Need-is-silent-requires Inv-loop μ-loop
-is-silent-requires c κs = search needs
-
-answer-requires : tie.Need-answer-requires Inv-loop μ-loop
-answer-requires c κs = search needs
-
-same-length : tie.Need-same-length Inv-loop μ-loop
-same-length c = search needs
-
-returns : tie.Need-returns Inv-loop μ-loop
-returns c = search needs
-
 wide-at-requires : tie.Need-wide-at-requires Inv-loop μ-loop
 wide-at-requires c κs = search needs
 
@@ -42,14 +30,20 @@ step-requires c κs = search needs
 is-refused-requires : tie.Need-is-refused-requires Inv-loop μ-loop
 is-refused-requires c κs = search needs
 
-answer-requires-2 : tie.Need-answer-requires-2 Inv-loop μ-loop
-answer-requires-2 c κs = search needs
+is-silent-requires : tie.Need-is-silent-requires Inv-loop μ-loop
+is-silent-requires c κs = search needs
 
-same-length-2 : tie.Need-same-length-2 Inv-loop μ-loop
-same-length-2 c = search needs
+choose-requires : tie.Need-choose-requires Inv-loop μ-loop
+choose-requires c κs = search needs
 
-returns-2 : tie.Need-returns-2 Inv-loop μ-loop
-returns-2 c = search needs
+answer-requires : tie.Need-answer-requires Inv-loop μ-loop
+answer-requires c κs = search needs
+
+same-length : tie.Need-same-length Inv-loop μ-loop
+same-length c = search needs
+
+returns : tie.Need-returns Inv-loop μ-loop
+returns c = search needs
 
 add-k : tie.Need-add-k Inv-loop μ-loop
 add-k c = search needs
@@ -60,14 +54,14 @@ loop-less c = search needs
 loop-again : tie.Need-loop-again Inv-loop μ-loop
 loop-again c = search needs
 
-answer-requires-3 : tie.Need-answer-requires-3 Inv-loop μ-loop
-answer-requires-3 c κs = search needs
+answer-requires-2 : tie.Need-answer-requires-2 Inv-loop μ-loop
+answer-requires-2 c κs = search needs
 
-same-length-3 : tie.Need-same-length-3 Inv-loop μ-loop
-same-length-3 c = search needs
+same-length-2 : tie.Need-same-length-2 Inv-loop μ-loop
+same-length-2 c = search needs
 
-returns-3 : tie.Need-returns-3 Inv-loop μ-loop
-returns-3 c = search needs
+returns-2 : tie.Need-returns-2 Inv-loop μ-loop
+returns-2 c = search needs
 
 pub follow-spec : {M : Type 1} → statement M
 follow-spec =
@@ -77,20 +71,18 @@ follow-spec =
     μ-loop
     fresh-requires
     loop-holds
-    is-silent-requires
-    answer-requires
-    same-length
-    returns
     wide-at-requires
     choice-requires
     step-requires
     is-refused-requires
-    answer-requires-2
-    same-length-2
-    returns-2
+    is-silent-requires
+    choose-requires
+    answer-requires
+    same-length
+    returns
     add-k
     loop-less
     loop-again
-    answer-requires-3
-    same-length-3
-    returns-3)
+    answer-requires-2
+    same-length-2
+    returns-2)
