@@ -40,10 +40,12 @@ pub fn answer(kind: usize, number: usize) -> usize {
     kind % 25 * 1000000 + number % 1000000
 }
 
+// The kind of an answer.
 pub fn kind(came: usize) -> usize {
     came / 1000000
 }
 
+// The number of an answer.
 pub fn number(came: usize) -> usize {
     came % 1000000
 }
@@ -53,6 +55,7 @@ pub fn is_refused(came: usize) -> bool {
     kind(came) < SILENT
 }
 
+// A refusal as an answer.
 pub fn refused(r: Refusal) -> usize {
     answer(look::wide(r.number), r.place)
 }
@@ -65,7 +68,7 @@ pub fn checked(c: Checked) -> usize {
     }
 }
 
-// An answer where all is as it must be.
+// An answer where all is as it must be, and otherwise that it is not.
 pub fn only_if(good: bool, came: usize) -> usize {
     look::choose(good, came, answer(OTHERWISE, 0))
 }

@@ -18,10 +18,12 @@ use machine::Ran;
 use machine::Stepped;
 use planner::Planned;
 
+// The fresh state, into lent memory.
 pub fn fresh(desk: &[u16], m: &mut [u16]) -> usize {
     checked(machine::fresh(floor_of(desk), walls_of(desk), m))
 }
 
+// What a step answered.
 fn stepped(a: Stepped) -> usize {
     match a {
         Stepped::Kept => answer(KEPT, 0),
@@ -31,10 +33,12 @@ fn stepped(a: Stepped) -> usize {
     }
 }
 
+// A single step.
 pub fn step(desk: &[u16], m: &mut [u16], x: u16) -> usize {
     stepped(machine::step(floor_of(desk), walls_of(desk), m, x))
 }
 
+// What a run answered.
 fn ran(a: Ran) -> usize {
     match a {
         Ran::Silent(n) => answer(SILENT, n),
@@ -44,10 +48,12 @@ fn ran(a: Ran) -> usize {
     }
 }
 
+// A run.
 pub fn run(desk: &[u16], m: &mut [u16], list: &[u16], budget: u16) -> usize {
     ran(machine::run(floor_of(desk), walls_of(desk), m, list, budget))
 }
 
+// The sequential plan, into lent memory.
 pub fn plan(desk: &[u16], m: &mut [u16]) -> usize {
     let a = planner::plan(floor_of(desk), walls_of(desk), m);
     match a {
@@ -56,6 +62,7 @@ pub fn plan(desk: &[u16], m: &mut [u16]) -> usize {
     }
 }
 
+// The most steps of n carriers.
 pub fn ceiling(n: usize) -> usize {
     let a = machine::ceiling(n);
     match a {

@@ -57,6 +57,7 @@ pub fn writing(s: &[u8], desk: &[u16]) -> usize {
     )
 }
 
+// What printing answered.
 fn printed_bytes(a: Printed) -> usize {
     match a {
         Printed::Written(n) => answers::answer(PRINTED, n),

@@ -22,6 +22,7 @@ pub struct Tally {
     pub odd: usize,
 }
 
+// No order yet.
 pub fn nothing() -> Tally {
     Tally {
         orders: 0,

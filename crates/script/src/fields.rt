@@ -11,6 +11,7 @@ fn wide(b: u8) -> usize
     b as usize
 }
 
+// Whether a byte is a digit.
 fn is_digit(b: u8) -> bool {
     if b < 48 {
         return false;

@@ -2,10 +2,12 @@
 use crate::look;
 use libc::STDOUT_FILENO;
 
+// A text.
 pub fn text(s: &[u8]) {
     io::write_all(STDOUT_FILENO, s);
 }
 
+// A number, with a space before it.
 pub fn number(n: usize) {
     text(b" ");
     io::print_decimal(STDOUT_FILENO, n as u64);
