@@ -10,15 +10,21 @@ use crate::tally;
 use crate::tally::Tally;
 use script::look;
 
-// Follows a list of choices from the fresh state by single steps to one that is not open, and says after how many: silent if no step is
-// open, otherwise ended. Spent where there is no end.
+// Where a refusal after k steps leads: silent if no step is open, ended if another one is; spent if the answer is not 8, 0.
+fn stopped(came: usize, silent: bool, k: usize) -> usize {
+    let open = look::choose(silent, SILENT, ENDED);
+    answers::answer(look::choose(came == answers::answer(8, 0), open, SPENT), k)
+}
+
+// Follows a list of choices from the fresh state by single steps to one that is refused; spent where there is no end.
 fn follow(desk: &[u16], m: &mut [u16], choices: &[u16]) -> usize {
     calls::fresh(desk, m);
     let mut k: usize = 0;
     while k < 16 {
         let x = desk::choice(desk, look::wide_at(choices, k));
-        if answers::is_refused(calls::step(desk, m, x)) {
-            return answers::answer(look::choose(calls::is_silent(desk, m), SILENT, ENDED), k);
+        let came = calls::step(desk, m, x);
+        if answers::is_refused(came) {
+            return stopped(came, calls::is_silent(desk, m), k);
         }
         k += 1;
     }

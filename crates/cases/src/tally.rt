@@ -18,7 +18,7 @@ pub struct Tally {
     pub failing: usize,
     // All steps taken.
     pub steps: usize,
-    // Orders that did not come to silence.
+    // Orders that did not come to silence, or met an answer that is neither taken nor 8, 0.
     pub odd: usize,
 }
 

@@ -33,11 +33,8 @@ is-refused-requires c κs = search needs
 is-silent-requires : tie.Need-is-silent-requires Inv-loop μ-loop
 is-silent-requires c κs = search needs
 
-choose-requires : tie.Need-choose-requires Inv-loop μ-loop
-choose-requires c κs = search needs
-
-answer-requires : tie.Need-answer-requires Inv-loop μ-loop
-answer-requires c κs = search needs
+stopped-requires : tie.Need-stopped-requires Inv-loop μ-loop
+stopped-requires c κs = search needs
 
 same-length : tie.Need-same-length Inv-loop μ-loop
 same-length c = search needs
@@ -54,8 +51,8 @@ loop-less c = search needs
 loop-again : tie.Need-loop-again Inv-loop μ-loop
 loop-again c = search needs
 
-answer-requires-2 : tie.Need-answer-requires-2 Inv-loop μ-loop
-answer-requires-2 c κs = search needs
+answer-requires : tie.Need-answer-requires Inv-loop μ-loop
+answer-requires c κs = search needs
 
 same-length-2 : tie.Need-same-length-2 Inv-loop μ-loop
 same-length-2 c = search needs
@@ -76,13 +73,12 @@ follow-spec =
     step-requires
     is-refused-requires
     is-silent-requires
-    choose-requires
-    answer-requires
+    stopped-requires
     same-length
     returns
     add-k
     loop-less
     loop-again
-    answer-requires-2
+    answer-requires
     same-length-2
     returns-2)
