@@ -37,10 +37,11 @@ fn numbers_of(line: &str) -> Vec<Number> {
     numbers
 }
 
-/// What a line finds: the numbers that lines set (a floor's line 1 and each carrier's start and goal; wall memory, from 22 on; how many
-/// numbers of memory are lent, at 30; how many steps there are to choose among, at 31, and these), and the memory that is lent.
+/// What a line finds: the numbers that lines set (a floor's line 1 and each carrier's start and goal; how many numbers of memory are
+/// lent, at 90; how many steps there are to choose among, at 100, and these; how many walls are lent, at 200, and these), and the memory
+/// that is lent.
 struct Desk {
-    set: [u16; 68],
+    set: [u16; 1224],
     lent: Vec<u16>,
 }
 
@@ -296,15 +297,27 @@ fn unfit(desk: &Desk, numbers: &[Number]) -> usize {
     (0..with.len()).filter(is_refused).count()
 }
 
-/// How many numbers get a kind of answer as a step on the fresh state: 13 is sent, 7 and 8 are refusals.
+/// How many numbers get a kind of answer as a step on the fresh state: 20 is sent, 7 and 8 are refusals.
 fn kinds(floor: &Floor, kind: usize) -> usize {
     let state = paper::fresh(floor.carriers());
     let kind_of = |number: u16| match paper::step_named(number, floor.carriers()) {
         None => 7,
         Some(step) if !state.is_open(floor, step) => 8,
-        Some(step) => 12 + state.clone().take(floor, step) as usize,
+        Some(step) => 19 + state.clone().take(floor, step) as usize,
     };
     (0..=65535).filter(|&number| kind_of(number) == kind).count()
+}
+
+// ---- Sheets ----
+
+/// The record of the fresh floor: one cell, one beat, one message, one carrier that is at its goal, no wall.
+const SMALLEST: [u16; 22] = [1, 1, 1, 1, 1, 0, 0, 0, 0, 0, 0, 0, 0, 0, 0, 0, 0, 0, 0, 0, 0, 0];
+
+/// What is printed for the sheet below, which must be the text behind it: its length.
+fn printed(numbers: &[Number], rest: &str) -> String {
+    let (sheet, behind) = rest.split_at(numbers[0].value);
+    let text = paper::print_routes(sheet.as_bytes());
+    either(text == behind[..numbers[1].value], &format!("printed {}", text.len()), "OTHERWISE")
 }
 
 // ---- The lines ----
@@ -321,8 +334,9 @@ impl Desk {
         record
     }
 
-    fn walls(&self) -> [u16; 8] {
-        self.set[22..30].try_into().unwrap()
+    /// The walls that are lent.
+    fn walls(&self) -> Vec<u16> {
+        self.set[201..201 + self.set[200] as usize].to_vec()
     }
 
     /// The floor of a record that is accepted, or would be with other starts and goals.
@@ -344,7 +358,7 @@ impl Desk {
     fn has_all_steps(&self, floor: &Floor) {
         let mut steps: Vec<u16> = paper::steps_of(floor.carriers()).iter().map(|&(number, _)| number).collect();
         steps.sort();
-        assert_eq!(self.set[32..32 + self.set[31] as usize], steps);
+        assert_eq!(self.set[101..101 + self.set[100] as usize], steps);
     }
 
     fn run(&mut self, numbers: &[Number]) -> String {
@@ -359,16 +373,41 @@ impl Desk {
         answers == self.lent
     }
 
-    /// A sheet: its check, and its reading into lent wall memory.
-    fn sheet(&mut self, text: &[u8]) -> String {
-        let refused = paper::floor_of_sheet(text).err().map(|r| format!("refused {} {}", r.number, r.place));
-        let checked = refused.unwrap_or("passed".into());
-        format!("{checked} {}", passed(calls::read_sheet(text, &mut [0; 22], &mut self.lent)))
+    /// A carrier's arrival and its first cells, at most eight; or none.
+    fn route_told(&self, carrier: usize, answer: Answer) -> String {
+        let floor = self.floor();
+        let Some(route) = answer else { return "none".into() };
+        let arrival = paper::arrival_of(&route, floor.goals[carrier - 1], floor.horizon);
+        let cells: Vec<String> = route[..=floor.horizon].iter().take(8).map(u16::to_string).collect();
+        format!("arrival {arrival} cells {}", cells.join(" "))
     }
 
-    /// The arrival of the route whose cells are in lent memory from a place on.
-    fn arrival(&self, goal: usize, place: usize) -> usize {
-        paper::arrival_of(self.lent[place..place + 64].try_into().unwrap(), goal, self.floor().horizon)
+    /// The best route of a carrier against the views in lent memory. What the program's second planner says must be the same.
+    fn search(&self, carrier: usize) -> String {
+        let mut route = [LENT; 64];
+        let word = calls::search(&self.record(), &self.walls(), carrier as u16, &self.lent, &mut route);
+        refusal(word).unwrap_or_else(|| format!("{} the same", self.route_told(carrier, (word >> 8 & 255 == 1).then_some(route))))
+    }
+
+    /// A sheet read into lent wall memory. One that is accepted is the text of its floor.
+    fn sheet(&mut self, text: &[u8]) -> String {
+        let before = self.lent.clone();
+        let read = refusal(calls::read_sheet(text, &mut [0; 22], &mut self.lent));
+        if let Some(refused) = read {
+            assert!(self.lent == before);
+            return refused;
+        }
+        let floor = paper::floor_of_sheet(text).expect("it was read");
+        either(paper::sheet_of(&floor).as_bytes() == text, "passed, written the same", "OTHERWISE")
+    }
+
+    /// The sheet of the floor written into so many lent bytes, of which so many are then those of the text below.
+    fn writing(&self, numbers: &[Number], rest: &str) -> String {
+        let (lent, written) = (numbers[0].value, &rest.as_bytes()[..numbers[1].value]);
+        let mut page = vec![b'~'; lent];
+        let word = calls::write_sheet(&self.record(), &self.walls(), &mut page);
+        let wanted: Vec<u8> = (0..lent).map(|k| *written.get(k).unwrap_or(&b'~')).collect();
+        either(page == wanted, &passed(word), "OTHERWISE")
     }
 
     /// Commands that set something and answer nothing.
@@ -376,10 +415,14 @@ impl Desk {
         match command {
             b'f' | b'w' | b'c' | b'g' => write(numbers, &mut self.set),
             b'e' => write(numbers, &mut self.lent),
+            b'R' => {
+                self.set[200] = numbers[0].value as u16;
+                (0..numbers[0].value).for_each(|cell| self.set[201 + cell] = cell as u16);
+            }
             _ => {}
         }
         if command == b'g' {
-            self.lent = vec![LENT; self.set[30] as usize];
+            self.lent = vec![LENT; self.set[90] as usize];
         }
     }
 
@@ -395,7 +438,12 @@ impl Desk {
             b'h' => told("steps", calls::ceiling(first as u16)),
             b'm' => either(self.lent == written_out(numbers, self.lent.len()), "the same", "OTHERWISE"),
             b'a' => either(self.is_planned(), "the same", "OTHERWISE"),
+            b'S' => self.search(first),
             b't' => self.sheet(&rest.as_bytes()[..first]),
+            b'C' => passed(calls::check_floor(&record, &walls)),
+            b'F' => passed(calls::check_floor(&SMALLEST, &walls)),
+            b'W' => self.writing(numbers, rest),
+            b'P' => printed(numbers, rest),
             _ => self.figures(command, numbers),
         }
     }
@@ -405,7 +453,6 @@ impl Desk {
         let floor = self.floor();
         match command {
             b'l' => paper::state_length(floor.carriers()).to_string(),
-            b'b' => self.arrival(numbers[0].value, numbers[1].value).to_string(),
             b'u' => unfit(self, numbers).to_string(),
             b'k' => kinds(&floor, numbers[0].value).to_string(),
             b'o' => {
@@ -425,9 +472,9 @@ impl Desk {
 /// Each line of the script with its answer from `paper.rs` is the line of the program's output.
 #[test]
 fn every_line_of_the_program_cases() {
-    let mut desk = Desk { set: [0; 68], lent: Vec::new() };
+    let mut desk = Desk { set: [0; 1224], lent: Vec::new() };
     let (mut rest, mut wrong) = (SCRIPT, Vec::new());
-    let mut expected = EXPECTED.lines();
+    let mut expected = EXPECTED.strip_suffix('\n').unwrap().split('\n');
     while let Some((line, behind)) = rest.split_once('\n') {
         rest = behind;
         let mut came = line.to_string();
@@ -437,7 +484,7 @@ fn every_line_of_the_program_cases() {
             came += &format!(" {}", desk.answer(command, &numbers_of(line), rest));
         }
         let wanted = expected.next();
-        if wanted != Some(&came) {
+        if wanted != Some(came.as_str()) {
             wrong.push(format!("the program: {}\n   paper.rs: {came}", wanted.unwrap_or("no line")));
         }
     }

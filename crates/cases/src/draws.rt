@@ -1,9 +1,8 @@
 // Drawn floors and lists of steps. The numbers come from one generator: the next is the last times 16807 modulo 2^31 - 1.
 ghost use mathlib.Core.Path.{_≡_};
 ghost use lib.ListN.{length};
-use crate::look;
-use crate::orders;
-use floor::Floor;
+use crate::desk;
+use script::look;
 
 // The next number.
 pub fn next(seed: usize) -> usize {
@@ -11,7 +10,7 @@ pub fn next(seed: usize) -> usize {
 }
 
 // A number below n, from a drawn one.
-pub fn below(seed: usize, n: usize) -> usize {
+fn below(seed: usize, n: usize) -> usize {
     if n == 0 {
         return 0;
     }
@@ -23,30 +22,27 @@ pub fn beside(seed: usize, k: usize) -> usize {
     look::plus(look::plus(seed % 65000, k), 1)
 }
 
-// Eight different cells of at least eight, at most 40, drawn by shuffling all.
-fn shuffled(cells: usize, seed: usize) -> [u16; 8] {
-    let mut p = [0u16; 40];
+// All cells, at most 40, shuffled into every other number of a desk from a place on: the first eight are starts, or goals.
+fn shuffle(desk: &mut [u16], from: usize, cells: usize, seed: usize) {
     let mut s = seed;
+    let mut to = from;
     let mut i: usize = 0;
     while i < cells {
         s = next(s);
         let j = below(s, look::plus(i, 1));
-        let moved = look::at(&p, j);
-        look::put(&mut p, i, moved);
-        look::put(&mut p, j, look::narrow(i));
+        let place = look::plus(look::plus(from, j), j);
+        look::put(desk, to, look::at(desk, place));
+        look::put(desk, place, look::narrow(i));
+        to = look::plus(to, 2);
         i += 1;
     }
-    look::eight(&p, 0, 1)
 }
 
 // Whether a cell is one of the eight drawn starts or goals.
-fn is_end(f: Floor, c: u16) -> bool {
-    let mut i: usize = 0;
-    while i < 8 {
-        if f.starts[i] == c {
-            return true;
-        }
-        if f.goals[i] == c {
+fn is_end(desk: &[u16], c: u16) -> bool {
+    let mut i: usize = 6;
+    while i < 22 {
+        if look::at(desk, i) == c {
             return true;
         }
         i += 1;
@@ -54,49 +50,33 @@ fn is_end(f: Floor, c: u16) -> bool {
     false
 }
 
-// Whether a cell becomes a wall: one in six of those that are no start and no goal.
-fn is_wall(f: Floor, c: u16, seed: usize) -> bool {
-    if is_end(f, c) {
-        return false;
-    }
-    below(seed, 6) == 0
-}
-
-// Draws the walls into a memory, rising, and answers how many there are.
-fn draw_walls(f: Floor, cells: usize, seed: usize, walls: &mut [u16]) -> usize {
+// Draws the walls, rising, one in six of the cells that are no start and no goal, and answers how many there are.
+fn draw_walls(desk: &mut [u16], cells: usize, seed: usize) -> usize {
     let mut s = seed;
     let mut count: usize = 0;
     let mut c: usize = 0;
     while c < cells {
         s = next(s);
         let cell = look::narrow(c);
-        look::put(walls, count, cell);
-        count = look::count(count, is_wall(f, cell, s));
+        look::put(desk, look::plus(201, count), cell);
+        count = look::count(count, look::both(!is_end(desk, cell), s % 6 == 0));
         c += 1;
     }
     count
 }
 
-// A floor with drawn starts, goals and walls, these into a memory.
-pub fn draw_floor(from: Floor, cells: usize, seed: usize, walls: &mut [u16]) -> Floor {
+// The floor of a desk gets drawn starts, goals and walls.
+pub fn draw_floor(desk: &mut [u16], cells: usize, seed: usize) {
     let c = next(next(seed));
-    let mut f = Floor {
-        width: from.width,
-        height: from.height,
-        horizon: from.horizon,
-        depth: from.depth,
-        carriers: from.carriers,
-        walls: 0,
-        starts: shuffled(cells, beside(c, 1)),
-        goals: shuffled(cells, beside(c, 2)),
-    };
-    f.walls = look::narrow(draw_walls(f, cells, beside(c, 3), walls));
-    f
+    shuffle(desk, 6, cells, beside(c, 1));
+    shuffle(desk, 7, cells, beside(c, 2));
+    let count = draw_walls(desk, cells, beside(c, 3));
+    look::put(desk, 5, look::narrow(count));
 }
 
 // A step drawn from those of the desk.
 pub fn draw_step(desk: &[u16], seed: usize) -> u16 {
-    orders::step_at(desk, below(seed, orders::steps(desk)))
+    desk::choice(desk, below(seed, look::wide_at(desk, 100)))
 }
 
 // A list of steps drawn from those of the desk.

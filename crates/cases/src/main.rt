@@ -1,19 +1,20 @@
 // Document 01's cases through the entries, by a script on standard input: the twelve floors to try, every order of small floors, drawn
-// orders of larger ones, spoilt states, and the refusals in their order. Each line of the script is written again; behind an arrow
-// comes what the line's command answered. What must come out is the file `stdout`, in which each answer stands by its reason;
-// `host/tests/cases.rs` has the same answers from an independent implementation of document 01.
+// orders of larger ones, spoilt states, the refusals in their order, sheets good and damaged, searches and plans. Each line of the
+// script is written again; behind an arrow comes what the line's command answered. What must come out is the file `stdout`, in which each
+// answer stands by its reason; `host/tests/cases.rs` has the same answers from an independent implementation of document 01.
 //
 // A line's first letter is its command, and its numbers are the arguments; all other letters are for the reader.
+mod answers;
 mod calls;
+mod desk;
 mod drawn;
 mod draws;
-mod line;
-mod look;
 mod orders;
-mod plans;
-mod script;
-mod show;
+mod play;
+mod routes;
+mod sheets;
 mod spoilt;
+mod states;
 mod tally;
 
 use libc::STDIN_FILENO;
@@ -21,5 +22,5 @@ use libc::STDIN_FILENO;
 fn main() {
     let mut space = io::large_buffer();
     let n = io::read_full(STDIN_FILENO, &mut space);
-    line::play(&space[..n]);
+    play::play(&space[..n]);
 }

@@ -1,75 +1,67 @@
 // One thing changed at a time: each number of a valid state, and the number of a step.
+use crate::answers;
 use crate::calls;
-use crate::look;
-use crate::look::both;
-use crate::script;
-use crate::script::field;
-use floor::Floor;
+use script::fields::field;
+use script::look;
+use script::look::both;
 
-// Whether with v at place i of a good state the step x and a run of it are refused with a number, and the state is left as it was lent; it
-// is then made the good one again.
-fn is_refused(
-    f: Floor,
-    m: &mut [u16],
-    good: &[u16],
-    i: usize,
-    v: u16,
-    x: u16,
-    number: usize,
-) -> bool {
+// Whether the step x and a run of it get an answer.
+fn both_get(desk: &[u16], m: &mut [u16], x: u16, wanted: usize) -> bool {
     let list = [x; 1];
-    let wanted = calls::answer(number, 0);
-    look::put(m, i, v);
-    let a = calls::step(f, &list, m, x) == wanted;
-    let b = calls::run(f, &list, m, &list, 5) == wanted;
-    let c = look::at(m, i) == v;
-    look::put(m, i, look::at(good, i));
-    both(both(a, b), both(c, look::same(m, good)))
+    let a = calls::step(desk, m, x) == wanted;
+    let b = calls::run(desk, m, &list, 5) == wanted;
+    both(a, b)
 }
 
-// At how many places that is so, each with its number of `with`.
-fn each_place(f: Floor, m: &mut [u16], good: &[u16], with: &[u16], x: u16, number: usize) -> usize {
+// The number to try in place i, by a line's pairs from number 2 on: the first so many places get a number; a later pair goes before an
+// earlier one.
+fn number_for(s: &[u8], i: usize) -> u16 {
+    let mut v: usize = 0;
+    let mut k: usize = 2;
+    while k < 100 {
+        v = look::choose(i < field(s, k), field(s, k + 1), v);
+        k += 2;
+    }
+    look::narrow(v)
+}
+
+// Whether with that number in place i of a state the line's step and a run of it are refused so and leave it there; the place is then as
+// it was before.
+fn is_left(s: &[u8], desk: &[u16], m: &mut [u16], i: usize) -> bool {
+    let v = number_for(s, i);
+    let was = look::at(m, i);
+    look::put(m, i, v);
+    let got = both_get(
+        desk,
+        m,
+        look::narrow(field(s, 0)),
+        answers::answer(field(s, 1), 0),
+    );
+    let left = look::at(m, i) == v;
+    look::put(m, i, was);
+    both(got, left)
+}
+
+// unfit: a step and a number of a refusal, then the numbers to try: at how many places that is so.
+pub fn unfit(s: &[u8], desk: &[u16], m: &mut [u16]) -> usize {
     let size = m.len();
     let mut n: usize = 0;
     let mut i: usize = 0;
     while i < size {
-        let v = look::at(with, i);
-        let is = is_refused(f, m, good, i, v, x, number);
-        n = look::count(n, is);
+        n = look::count(n, is_left(s, desk, m, i));
         i += 1;
     }
     n
 }
 
-// Writes the numbers of a line's pairs, from number 2 on: the first so many places get a number; a later pair writes over an earlier one.
-fn spread(s: &[u8], at: usize, m: &mut [u16]) {
-    let mut k: usize = 2;
-    while k < 100 {
-        let v = look::narrow(field(s, at, k + 1));
-        look::fill(m, field(s, at, k), v);
-        k += 2;
-    }
-}
-
-// unfit: a step and a number of a refusal, then the numbers to try in each place of the state in lent memory.
-pub fn unfit(s: &[u8], at: usize, f: Floor, m: &mut [u16]) -> usize {
-    let mut with = look::room();
-    spread(s, at, &mut with);
-    let mut good = look::room();
-    look::copy(m, &mut good, m.len());
-    let x = look::narrow(field(s, at, 0));
-    each_place(f, m, &good, &with, x, field(s, at, 1))
-}
-
 // How many of all numbers get a kind of answer as a step on a fresh state.
-pub fn numbers(f: Floor, m: &mut [u16], kind: usize) -> usize {
-    let none = [0u16; 1];
-    let wanted = calls::answer(kind, 0);
+pub fn numbers(desk: &[u16], m: &mut [u16], kind: usize) -> usize {
+    let wanted = answers::answer(kind, 0);
     let mut n: usize = 0;
     let mut x: usize = 0;
     while x < 65536 {
-        calls::fresh(f, &none, m);
-        n = look::count(n, calls::step(f, &none, m, look::narrow(x)) == wanted);
+        calls::fresh(desk, m);
+        n = look::count(n, calls::step(desk, m, look::narrow(x)) == wanted);
         x += 1;
     }
     n

@@ -1,9 +1,10 @@
 // What is looked at where an order has come to silence.
+use crate::answers;
 use crate::calls;
-use crate::look;
-use crate::look::both;
-use crate::show;
-use floor::Floor;
+use crate::desk;
+use script::look;
+use script::look::both;
+use script::show;
 
 // How many orders came to silence, and of how many each of the other things holds.
 pub struct Tally {
@@ -17,10 +18,11 @@ pub struct Tally {
     pub failing: usize,
     // All steps taken.
     pub steps: usize,
-    // Answers of steps that are neither taken nor refused with 8, 0; orders that did not come to silence.
+    // Orders that did not come to silence, or met an answer that is neither taken nor 8, 0.
     pub odd: usize,
 }
 
+// No order yet.
 pub fn nothing() -> Tally {
     Tally {
         orders: 0,
@@ -92,9 +94,10 @@ fn first_channel(n: usize) -> usize {
 
 // Whether nobody is due, from 3 on, and every channel, of 261 numbers, is empty.
 fn at_rest(m: &[u16], n: usize) -> bool {
-    let a = are_zero(m, 3, 67, n);
-    let b = are_zero(m, first_channel(n), 261, pairs(n));
-    both(a, b)
+    both(
+        are_zero(m, 3, 67, n),
+        are_zero(m, first_channel(n), 261, pairs(n)),
+    )
 }
 
 // The taken count in memory: thousands and rest.
@@ -102,26 +105,26 @@ fn taken_in(m: &[u16]) -> usize {
     1000 * look::wide_at(m, 0) + look::wide_at(m, 1)
 }
 
-// Whether every answer, from 4 on, is the sequential planner's and the second planner's.
-fn as_planned(f: Floor, walls: &[u16], m: &[u16], planned: &[u16]) -> bool {
-    let n = look::wide(f.carriers);
-    let mut second = look::zeros();
-    second::second_plan(f, walls, &mut second);
-    let a = answers_are(m, 4, 67, n, planned);
-    let b = answers_are(m, 4, 67, n, &second);
-    both(a, b)
+// another planner: whether the second planner's answers are the records from a place on, each so many numbers behind the one before.
+pub fn second_says(desk: &[u16], m: &[u16], from: usize, stride: usize) -> bool {
+    let mut other = look::zeros();
+    second::second_plan(desk::floor_of(desk), desk::walls_of(desk), &mut other);
+    answers_are(m, from, stride, look::wide_at(desk, 4), &other)
 }
 
 // An order that came to silence after so many steps. What must be: the answers are both planners', the taken count in memory is the
 // number of steps that were answered as taken, that number is at most the ceiling, and the state is at rest.
-fn judged(t: Tally, f: Floor, walls: &[u16], m: &[u16], taken: usize) -> Tally {
-    let n = look::wide(f.carriers);
-    let most = calls::number(calls::ceiling(n));
+fn judged(t: Tally, desk: &[u16], m: &[u16], taken: usize) -> Tally {
+    let n = look::wide_at(desk, 4);
+    let most = answers::number(calls::ceiling(n));
     let mut planned = look::zeros();
-    let failing = calls::number(calls::plan(f, walls, &mut planned));
-    let a = as_planned(f, walls, m, &planned);
-    let b = both(taken_in(m) == taken, taken <= most);
-    let right = both(a, both(b, at_rest(m, n)));
+    let failing = answers::number(calls::plan(desk, &mut planned));
+    let counted = both(taken_in(m) == taken, taken <= most);
+    let as_planned = both(
+        answers_are(m, 4, 67, n, &planned),
+        second_says(desk, m, 4, 67),
+    );
+    let right = both(both(as_planned, counted), at_rest(m, n));
     Tally {
         orders: look::count(t.orders, true),
         right: look::count(t.right, right),
@@ -132,7 +135,7 @@ fn judged(t: Tally, f: Floor, walls: &[u16], m: &[u16], taken: usize) -> Tally {
     }
 }
 
-// One more odd answer.
+// One more order that is odd.
 pub fn odd(t: Tally) -> Tally {
     let mut u = t;
     u.odd = look::count(t.odd, true);
@@ -140,10 +143,10 @@ pub fn odd(t: Tally) -> Tally {
 }
 
 // Where an order has come to: silent after so many steps; ended, which is no order; spent, which is odd.
-pub fn noted(t: Tally, f: Floor, walls: &[u16], m: &[u16], came: usize) -> Tally {
-    match calls::kind(came) {
-        calls::SILENT => judged(t, f, walls, m, calls::number(came)),
-        calls::ENDED => t,
+pub fn noted(t: Tally, desk: &[u16], m: &[u16], came: usize) -> Tally {
+    match answers::kind(came) {
+        answers::SILENT => judged(t, desk, m, answers::number(came)),
+        answers::ENDED => t,
         _ => odd(t),
     }
 }
@@ -156,5 +159,5 @@ pub fn say(t: Tally) -> usize {
     show::number(t.failing);
     show::number(t.steps);
     show::number(t.odd);
-    calls::shown()
+    answers::answer(answers::SHOWN, 0)
 }

@@ -10,13 +10,12 @@ mod walk;
 
 use arrivals::fill;
 use floor::Floor;
-pub use places::at;
+use places::at;
 use places::wide;
 use route::Route;
 use table::value;
 use views::met;
 use views::tell;
-pub use views::told;
 ghost use mathlib.Core.Path.{_≡_};
 ghost use lib.ListN.{length};
 

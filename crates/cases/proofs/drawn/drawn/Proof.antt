@@ -7,25 +7,25 @@ use Rattle.cases.proofs.drawn.drawn.Statement.{statement}
 use Rattle.cases.proofs.drawn.drawn.Tie as tie
 
 abbrev Inv-loop : tie.InvT-loop
-Inv-loop s at f m₀ desk count cells first t₀ k₀ m t k = length m ≡ length m₀
+Inv-loop s desk m₀ count t₀ k₀ m t k = length m ≡ length m₀
 
 abbrev μ-loop : tie.MeasureT-loop
-μ-loop s at f m₀ desk count cells first t₀ k₀ m t k = count - k
+μ-loop s desk m₀ count t₀ k₀ m t k = count - k
 
 field-requires : tie.Need-field-requires Inv-loop μ-loop
 field-requires c κs = search needs
-
-field-requires-2 : tie.Need-field-requires-2 Inv-loop μ-loop
-field-requires-2 c κs = search needs
-
-field-requires-3 : tie.Need-field-requires-3 Inv-loop μ-loop
-field-requires-3 c κs = search needs
 
 nothing-requires : tie.Need-nothing-requires Inv-loop μ-loop
 nothing-requires c κs = search needs
 
 loop-holds : tie.Need-loop-holds Inv-loop μ-loop
 loop-holds c = search needs
+
+field-requires-2 : tie.Need-field-requires-2 Inv-loop μ-loop
+field-requires-2 c κs = search needs
+
+field-requires-3 : tie.Need-field-requires-3 Inv-loop μ-loop
+field-requires-3 c κs = search needs
 
 plus-requires : tie.Need-plus-requires Inv-loop μ-loop
 plus-requires c κs = search needs
@@ -55,10 +55,10 @@ drawn-spec =
     Inv-loop
     μ-loop
     field-requires
-    field-requires-2
-    field-requires-3
     nothing-requires
     loop-holds
+    field-requires-2
+    field-requires-3
     plus-requires
     draw-one-requires
     add-k

@@ -7,10 +7,10 @@ use Rattle.cases.proofs.drawn.go.Statement.{statement}
 use Rattle.cases.proofs.drawn.go.Tie as tie
 
 abbrev Inv-loop : tie.InvT-loop
-Inv-loop f walls m₀ desk seed s₀ taken₀ turn₀ m s taken turn = length m ≡ length m₀
+Inv-loop desk m₀ seed s₀ taken₀ turn₀ m s taken turn = length m ≡ length m₀
 
 abbrev μ-loop : tie.MeasureT-loop
-μ-loop f walls m₀ desk seed s₀ taken₀ turn₀ m s taken turn = 100000 - turn
+μ-loop desk m₀ seed s₀ taken₀ turn₀ m s taken turn = 100000 - turn
 
 fresh-requires : tie.Need-fresh-requires Inv-loop μ-loop
 fresh-requires c κs = search needs
@@ -36,18 +36,6 @@ next-requires c κs = search needs
 one-requires : tie.Need-one-requires Inv-loop μ-loop
 one-requires c κs = search needs
 
-is-odd-requires : tie.Need-is-odd-requires Inv-loop μ-loop
-is-odd-requires c κs = search needs
-
-answer-requires-2 : tie.Need-answer-requires-2 Inv-loop μ-loop
-answer-requires-2 c κs = search needs
-
-same-length-2 : tie.Need-same-length-2 Inv-loop μ-loop
-same-length-2 c = search needs
-
-returns-2 : tie.Need-returns-2 Inv-loop μ-loop
-returns-2 c = search needs
-
 gained-requires : tie.Need-gained-requires Inv-loop μ-loop
 gained-requires c κs = search needs
 
@@ -63,14 +51,14 @@ loop-less c = search needs
 loop-again : tie.Need-loop-again Inv-loop μ-loop
 loop-again c = search needs
 
-answer-requires-3 : tie.Need-answer-requires-3 Inv-loop μ-loop
-answer-requires-3 c κs = search needs
+answer-requires-2 : tie.Need-answer-requires-2 Inv-loop μ-loop
+answer-requires-2 c κs = search needs
 
-same-length-3 : tie.Need-same-length-3 Inv-loop μ-loop
-same-length-3 c = search needs
+same-length-2 : tie.Need-same-length-2 Inv-loop μ-loop
+same-length-2 c = search needs
 
-returns-3 : tie.Need-returns-3 Inv-loop μ-loop
-returns-3 c = search needs
+returns-2 : tie.Need-returns-2 Inv-loop μ-loop
+returns-2 c = search needs
 
 pub go-spec : {M : Type 1} → statement M
 go-spec =
@@ -86,15 +74,11 @@ go-spec =
     returns
     next-requires
     one-requires
-    is-odd-requires
-    answer-requires-2
-    same-length-2
-    returns-2
     gained-requires
     plus-requires
     add-turn
     loop-less
     loop-again
-    answer-requires-3
-    same-length-3
-    returns-3)
+    answer-requires-2
+    same-length-2
+    returns-2)

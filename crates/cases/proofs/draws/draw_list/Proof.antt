@@ -1,4 +1,4 @@
--- `cases::draws::draw_list` is safe and ends: 32 steps in turn.
+-- `cases::draws::draw_list` is safe and ends: each of 32 places in turn.
 use Prim.Native.Nat.{_-_}
 use mathlib.Core.Path.{_≡_}
 use lib.ListN.{length}

@@ -7,10 +7,10 @@ use Rattle.cases.proofs.draws.draw_walls.Statement.{statement}
 use Rattle.cases.proofs.draws.draw_walls.Tie as tie
 
 abbrev Inv-loop : tie.InvT-loop
-Inv-loop f cells seed walls₀ s₀ count₀ c₀ walls s count c = length walls ≡ length walls₀
+Inv-loop desk₀ cells seed s₀ count₀ c₀ desk s count c = length desk ≡ length desk₀
 
 abbrev μ-loop : tie.MeasureT-loop
-μ-loop f cells seed walls₀ s₀ count₀ c₀ walls s count c = cells - c
+μ-loop desk₀ cells seed s₀ count₀ c₀ desk s count c = cells - c
 
 loop-holds : tie.Need-loop-holds Inv-loop μ-loop
 loop-holds c = search needs
@@ -21,11 +21,17 @@ next-requires c κs = search needs
 narrow-requires : tie.Need-narrow-requires Inv-loop μ-loop
 narrow-requires c κs = search needs
 
+plus-requires : tie.Need-plus-requires Inv-loop μ-loop
+plus-requires c κs = search needs
+
 put-requires : tie.Need-put-requires Inv-loop μ-loop
 put-requires c κs = search needs
 
-is-wall-requires : tie.Need-is-wall-requires Inv-loop μ-loop
-is-wall-requires c κs = search needs
+is-end-requires : tie.Need-is-end-requires Inv-loop μ-loop
+is-end-requires c κs = search needs
+
+both-requires : tie.Need-both-requires Inv-loop μ-loop
+both-requires c κs = search needs
 
 count-requires : tie.Need-count-requires Inv-loop μ-loop
 count-requires c κs = search needs
@@ -54,8 +60,10 @@ draw-walls-spec =
     loop-holds
     next-requires
     narrow-requires
+    plus-requires
     put-requires
-    is-wall-requires
+    is-end-requires
+    both-requires
     count-requires
     add-c
     loop-less

@@ -7,10 +7,10 @@ use Rattle.cases.proofs.orders.every.Statement.{statement}
 use Rattle.cases.proofs.orders.every.Tie as tie
 
 abbrev Inv-loop : tie.InvT-loop
-Inv-loop f m₀ desk none choices₀ t₀ turn₀ m choices t turn = (length m ≡ length m₀) × (length choices ≡ 16)
+Inv-loop desk m₀ choices₀ t₀ turn₀ m choices t turn = (length m ≡ length m₀) × (length choices ≡ 16)
 
 abbrev μ-loop : tie.MeasureT-loop
-μ-loop f m₀ desk none choices₀ t₀ turn₀ m choices t turn = 1000000 - turn
+μ-loop desk m₀ choices₀ t₀ turn₀ m choices t turn = 1000000 - turn
 
 nothing-requires : tie.Need-nothing-requires Inv-loop μ-loop
 nothing-requires c κs = search needs
@@ -24,9 +24,6 @@ slice-aggregate-follow c = search needs
 follow-requires : tie.Need-follow-requires Inv-loop μ-loop
 follow-requires c κs = search needs
 
-slice-aggregate-noted : tie.Need-slice-aggregate-noted Inv-loop μ-loop
-slice-aggregate-noted c = search needs
-
 noted-requires : tie.Need-noted-requires Inv-loop μ-loop
 noted-requires c κs = search needs
 
@@ -36,8 +33,8 @@ slice-aggregate-next c = search needs
 used-requires : tie.Need-used-requires Inv-loop μ-loop
 used-requires c κs = search needs
 
-steps-requires : tie.Need-steps-requires Inv-loop μ-loop
-steps-requires c κs = search needs
+wide-at-requires : tie.Need-wide-at-requires Inv-loop μ-loop
+wide-at-requires c κs = search needs
 
 next-requires : tie.Need-next-requires Inv-loop μ-loop
 next-requires c κs = search needs
@@ -76,11 +73,10 @@ every-spec =
     loop-holds
     slice-aggregate-follow
     follow-requires
-    slice-aggregate-noted
     noted-requires
     slice-aggregate-next
     used-requires
-    steps-requires
+    wide-at-requires
     next-requires
     same-length
     returns

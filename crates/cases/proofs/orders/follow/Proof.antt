@@ -7,13 +7,10 @@ use Rattle.cases.proofs.orders.follow.Statement.{statement}
 use Rattle.cases.proofs.orders.follow.Tie as tie
 
 abbrev Inv-loop : tie.InvT-loop
-Inv-loop f m₀ desk choices none k₀ m k = length m ≡ length m₀
+Inv-loop desk m₀ choices k₀ m k = length m ≡ length m₀
 
 abbrev μ-loop : tie.MeasureT-loop
-μ-loop f m₀ desk choices none k₀ m k = 16 - k
-
-slice-aggregate-fresh : tie.Need-slice-aggregate-fresh Inv-loop μ-loop
-slice-aggregate-fresh c = search needs
+μ-loop desk m₀ choices k₀ m k = 16 - k
 
 fresh-requires : tie.Need-fresh-requires Inv-loop μ-loop
 fresh-requires c κs = search needs
@@ -21,29 +18,11 @@ fresh-requires c κs = search needs
 loop-holds : tie.Need-loop-holds Inv-loop μ-loop
 loop-holds c = search needs
 
-slice-aggregate-is-silent : tie.Need-slice-aggregate-is-silent Inv-loop μ-loop
-slice-aggregate-is-silent c = search needs
-
-is-silent-requires : tie.Need-is-silent-requires Inv-loop μ-loop
-is-silent-requires c κs = search needs
-
-answer-requires : tie.Need-answer-requires Inv-loop μ-loop
-answer-requires c κs = search needs
-
-same-length : tie.Need-same-length Inv-loop μ-loop
-same-length c = search needs
-
-returns : tie.Need-returns Inv-loop μ-loop
-returns c = search needs
-
 wide-at-requires : tie.Need-wide-at-requires Inv-loop μ-loop
 wide-at-requires c κs = search needs
 
-step-at-requires : tie.Need-step-at-requires Inv-loop μ-loop
-step-at-requires c κs = search needs
-
-slice-aggregate-step : tie.Need-slice-aggregate-step Inv-loop μ-loop
-slice-aggregate-step c = search needs
+choice-requires : tie.Need-choice-requires Inv-loop μ-loop
+choice-requires c κs = search needs
 
 step-requires : tie.Need-step-requires Inv-loop μ-loop
 step-requires c κs = search needs
@@ -51,14 +30,17 @@ step-requires c κs = search needs
 is-refused-requires : tie.Need-is-refused-requires Inv-loop μ-loop
 is-refused-requires c κs = search needs
 
+is-silent-requires : tie.Need-is-silent-requires Inv-loop μ-loop
+is-silent-requires c κs = search needs
+
 stopped-requires : tie.Need-stopped-requires Inv-loop μ-loop
 stopped-requires c κs = search needs
 
-same-length-2 : tie.Need-same-length-2 Inv-loop μ-loop
-same-length-2 c = search needs
+same-length : tie.Need-same-length Inv-loop μ-loop
+same-length c = search needs
 
-returns-2 : tie.Need-returns-2 Inv-loop μ-loop
-returns-2 c = search needs
+returns : tie.Need-returns Inv-loop μ-loop
+returns c = search needs
 
 add-k : tie.Need-add-k Inv-loop μ-loop
 add-k c = search needs
@@ -69,14 +51,14 @@ loop-less c = search needs
 loop-again : tie.Need-loop-again Inv-loop μ-loop
 loop-again c = search needs
 
-answer-requires-2 : tie.Need-answer-requires-2 Inv-loop μ-loop
-answer-requires-2 c κs = search needs
+answer-requires : tie.Need-answer-requires Inv-loop μ-loop
+answer-requires c κs = search needs
 
-same-length-3 : tie.Need-same-length-3 Inv-loop μ-loop
-same-length-3 c = search needs
+same-length-2 : tie.Need-same-length-2 Inv-loop μ-loop
+same-length-2 c = search needs
 
-returns-3 : tie.Need-returns-3 Inv-loop μ-loop
-returns-3 c = search needs
+returns-2 : tie.Need-returns-2 Inv-loop μ-loop
+returns-2 c = search needs
 
 pub follow-spec : {M : Type 1} → statement M
 follow-spec =
@@ -84,25 +66,19 @@ follow-spec =
     (tie.spec
     Inv-loop
     μ-loop
-    slice-aggregate-fresh
     fresh-requires
     loop-holds
-    slice-aggregate-is-silent
-    is-silent-requires
-    answer-requires
-    same-length
-    returns
     wide-at-requires
-    step-at-requires
-    slice-aggregate-step
+    choice-requires
     step-requires
     is-refused-requires
+    is-silent-requires
     stopped-requires
-    same-length-2
-    returns-2
+    same-length
+    returns
     add-k
     loop-less
     loop-again
-    answer-requires-2
-    same-length-3
-    returns-3)
+    answer-requires
+    same-length-2
+    returns-2)

@@ -7,10 +7,10 @@ use Rattle.cases.proofs.spoilt.numbers.Statement.{statement}
 use Rattle.cases.proofs.spoilt.numbers.Tie as tie
 
 abbrev Inv-loop : tie.InvT-loop
-Inv-loop f m₀ kind none wanted n₀ x₀ m n x = length m ≡ length m₀
+Inv-loop desk m₀ kind wanted n₀ x₀ m n x = length m ≡ length m₀
 
 abbrev μ-loop : tie.MeasureT-loop
-μ-loop f m₀ kind none wanted n₀ x₀ m n x = 65536 - x
+μ-loop desk m₀ kind wanted n₀ x₀ m n x = 65536 - x
 
 answer-requires : tie.Need-answer-requires Inv-loop μ-loop
 answer-requires c κs = search needs
@@ -18,14 +18,8 @@ answer-requires c κs = search needs
 loop-holds : tie.Need-loop-holds Inv-loop μ-loop
 loop-holds c = search needs
 
-slice-aggregate-fresh : tie.Need-slice-aggregate-fresh Inv-loop μ-loop
-slice-aggregate-fresh c = search needs
-
 fresh-requires : tie.Need-fresh-requires Inv-loop μ-loop
 fresh-requires c κs = search needs
-
-slice-aggregate-step : tie.Need-slice-aggregate-step Inv-loop μ-loop
-slice-aggregate-step c = search needs
 
 narrow-requires : tie.Need-narrow-requires Inv-loop μ-loop
 narrow-requires c κs = search needs
@@ -59,9 +53,7 @@ numbers-spec =
     μ-loop
     answer-requires
     loop-holds
-    slice-aggregate-fresh
     fresh-requires
-    slice-aggregate-step
     narrow-requires
     step-requires
     count-requires

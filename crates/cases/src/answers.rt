@@ -1,0 +1,122 @@
+// An answer as one number that can be compared and printed: its kind times 1,000,000, and a number. A plain number has kind 0. A refusal's
+// kind is its number in document 01's table, 1 to 10, and its number is its place; the other kinds are those below.
+use floor::Checked;
+use floor::Refusal;
+use script::look;
+use script::pages;
+use script::show;
+
+// Of a run, with the number taken.
+pub const SILENT: usize = 11;
+
+pub const SPENT: usize = 12;
+
+pub const ENDED: usize = 13;
+// Of a plan, with the failing carrier.
+pub const FAILING: usize = 14;
+// Of the ceiling, with the most steps.
+pub const STEPS: usize = 15;
+// Of printed routes, with the number of bytes.
+pub const PRINTED: usize = 16;
+// Of a check; this and the others come without a number.
+pub const PASSED: usize = 17;
+// Of a sheet that was read and written again.
+pub const WRITTEN: usize = 18;
+// Of a step.
+pub const KEPT: usize = 19;
+
+pub const SENT: usize = 20;
+
+pub const DELIVERED: usize = 21;
+// Of a comparison.
+pub const SAME: usize = 22;
+
+pub const OTHERWISE: usize = 23;
+// Nothing is left to show.
+pub const SHOWN: usize = 24;
+
+// An answer of a kind with a number.
+pub fn answer(kind: usize, number: usize) -> usize {
+    kind % 25 * 1000000 + number % 1000000
+}
+
+// The kind of an answer.
+pub fn kind(came: usize) -> usize {
+    came / 1000000
+}
+
+// The number of an answer.
+pub fn number(came: usize) -> usize {
+    came % 1000000
+}
+
+// Whether an answer is a refusal.
+pub fn is_refused(came: usize) -> bool {
+    kind(came) < SILENT
+}
+
+// A refusal as an answer.
+pub fn refused(r: Refusal) -> usize {
+    answer(look::wide(r.number), r.place)
+}
+
+// What a check answered.
+pub fn checked(c: Checked) -> usize {
+    match c {
+        Checked::Passed => answer(PASSED, 0),
+        Checked::Refused(r) => refused(r),
+    }
+}
+
+// An answer where all is as it must be, and otherwise that it is not.
+pub fn only_if(good: bool, came: usize) -> usize {
+    look::choose(good, came, answer(OTHERWISE, 0))
+}
+
+// What a comparison says.
+pub fn compared(good: bool) -> usize {
+    only_if(good, answer(SAME, 0))
+}
+
+// The word of a kind among all words: its place times 100, and its length. A plain number has none.
+fn word_of(kind: usize) -> usize {
+    match kind {
+        0 | SHOWN => 0,
+        SILENT => 807,
+        SPENT => 1506,
+        ENDED => 2106,
+        FAILING => 2716,
+        STEPS => 4306,
+        PASSED => 4907,
+        WRITTEN => 4925,
+        PRINTED => 7408,
+        KEPT => 8205,
+        SENT => 8705,
+        DELIVERED => 9210,
+        SAME => 10209,
+        OTHERWISE => 11110,
+        _ => 8,
+    }
+}
+
+// The word of a kind.
+fn show_word(kind: usize) {
+    let words =
+        b" refused silent spent ended failing carrier steps passed, written the same printed kept sent delivered the same OTHERWISE";
+    let word = word_of(kind);
+    show::text(pages::part(words, word / 100, word % 100));
+}
+
+// An answer: its word, a refusal's number, and the place, the number taken, the failing carrier, the most steps, the number of bytes, or
+// the plain number.
+pub fn show(came: usize) {
+    let kind = kind(came);
+    show_word(kind);
+    match kind {
+        1..=10 => show::number(kind),
+        _ => {}
+    }
+    if kind < PASSED {
+        show::number(number(came));
+    }
+}

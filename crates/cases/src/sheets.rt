@@ -1,0 +1,74 @@
+// Commands on sheets and floors. A text is so many bytes of the script, from the line under the command's on.
+use crate::answers;
+use crate::answers::PRINTED;
+use crate::answers::WRITTEN;
+use crate::answers::checked;
+use crate::desk::floor_of;
+use crate::desk::walls_of;
+use floor::Floor;
+use printing::Printed;
+use script::fields::field;
+use script::fields::under;
+use script::look;
+use script::pages;
+
+// The sheet of a floor is written into so many lent bytes: the answer, if these are then a text and otherwise as lent.
+fn written(f: Floor, walls: &[u16], n: usize, text: &[u8]) -> usize {
+    let mut page = pages::page();
+    let came = checked(sheet::write(f, walls, pages::front(&mut page, n)));
+    answers::only_if(pages::holds(&page, text), came)
+}
+
+// What came of a reading that the check foretold: if it is refused, lent memory is as it was lent; if not, the floor that was read is
+// written again as the same bytes.
+fn read_so(text: &[u8], m: &[u16], f: Floor, asked: usize) -> usize {
+    if answers::is_refused(asked) {
+        return answers::only_if(look::same(m, &look::room()), asked);
+    }
+    answers::only_if(
+        written(f, m, 3000, text) == asked,
+        answers::answer(WRITTEN, 0),
+    )
+}
+
+// A sheet is checked, and read into lent memory, which must answer alike.
+fn read(text: &[u8], m: &mut [u16]) -> usize {
+    let asked = checked(sheet::check(text, m.len()));
+    let reading = sheet::read(text, m);
+    let answer = reading.answer;
+    answers::only_if(
+        checked(answer) == asked,
+        read_so(text, m, reading.floor, asked),
+    )
+}
+
+// text: a sheet of so many bytes.
+pub fn text(s: &[u8], m: &mut [u16]) -> usize {
+    read(under(s, 0, field(s, 0)), m)
+}
+
+// Writing: the floor of the desk into so many lent bytes, of which so many are then those under the line.
+pub fn writing(s: &[u8], desk: &[u16]) -> usize {
+    written(
+        floor_of(desk),
+        walls_of(desk),
+        field(s, 0),
+        under(s, 0, field(s, 1)),
+    )
+}
+
+// What printing answered.
+fn printed_bytes(a: Printed) -> usize {
+    match a {
+        Printed::Written(n) => answers::answer(PRINTED, n),
+        Printed::Refused(r) => answers::refused(r),
+    }
+}
+
+// Printed: for a sheet of so many bytes so many bytes are printed, which stand behind it.
+pub fn printed(s: &[u8]) -> usize {
+    let n = field(s, 0);
+    let mut page = pages::page();
+    let came = printed_bytes(printing::routes(under(s, 0, n), &mut page));
+    answers::only_if(pages::holds(&page, under(s, n, field(s, 1))), came)
+}
