@@ -1,5 +1,6 @@
 -- `fields::field::column` meets its contract: a space, or the digit.
 use Rattle.fields.specs.Field.{column}
+use native.Mathlib.Omega.{arith}
 use borrow.Author.Tests.{lt-ltb, le-ltb}
 use borrow.Author.Needs.{needs}
 use Rattle.fields.proofs.field.column.Statement.{statement}
@@ -7,7 +8,7 @@ use Rattle.fields.proofs.field.column.Tie as tie
 
 returns : tie.Need-returns
 unfolding column
-returns c = rw (lt-ltb _ _ (c .if1 .taken))
+returns c = rw (lt-ltb (c .before .args .v) (c .before .args .p) (omega arith))
 
 div-result : tie.Need-div-result
 div-result c = search needs
@@ -20,7 +21,7 @@ cast-result c = search needs
 
 returns-2 : tie.Need-returns-2
 unfolding column
-returns-2 c = rw (le-ltb _ _ (c .if1 .left))
+returns-2 c = rw (le-ltb (c .before .args .v) (c .before .args .p) (omega arith))
 
 pub column-spec : {M : Type 1} → statement M
 column-spec = tie.close (tie.spec returns div-result add-result cast-result returns-2)
