@@ -1,12 +1,12 @@
 -- Rows of a table that are carried beside it: six rows of which four are carried, and what a step from them leaves.
 use Prim.Native.Nat.{ℕ, zero, suc, _+_, _≤_, _<_}
 use native.Mathlib.Omega.{arith}
-use mathlib.Core.Bool.{Bool, true, false}
+use mathlib.Core.Bool.{Bool, false}
 use mathlib.Core.List.{List, [], _∷_}
 use mathlib.Core.Path.{_≡_, refl, sym, ap, _∙_}
 use lib.ListN.{length, getD, replicate}
 use Rattle.words.specs.Words.{digit}
-use Rattle.words.specs.Rows.{has, narrowRow, narrowAt, written, filled, Within}
+use Rattle.words.specs.Rows.{has, narrowAt, written, filled, Within}
 use Rattle.words.proofs.FillLaws.{written-in}
 use Rattle.tables.specs.declared.narrow.Carried.{Carried}
 use Rattle.tables.specs.declared.narrow.Moved.{Moved}

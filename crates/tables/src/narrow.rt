@@ -1,12 +1,10 @@
 // One step of a set within a table: the set of beat b keeps those of its cells to which a way leads from the set of beat a. The four
 // rows of a window are carried from step to step, so that a step does not wait for the rows that the step before it wrote.
 ghost use mathlib.Core.Path.{_≡_};
-ghost use mathlib.Core.Bool.{false};
 ghost use mathlib.Core.Logic.{_⊎_};
 ghost use Prim.Native.Nat.{_+_, _≤_};
 ghost use lib.ListN.{length};
-ghost use Rattle.words.specs.Rows.{narrowAt, Within};
-ghost use Rattle.tables.specs.Table.{Rewritten, Shows};
+ghost use Rattle.tables.specs.Table.{Shows};
 ghost use Rattle.tables.specs.Carried.{Carries, Stepped};
 
 // Four rows of a table, from row `place` on.
