@@ -11,3 +11,4 @@ pub mod NarrowedLaws
 pub mod StepLaws
 pub mod HoldLaws
 pub mod TurnLaws
+pub mod SweepLaws

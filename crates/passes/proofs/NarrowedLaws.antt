@@ -63,7 +63,7 @@ near-rows w c d e = go (near-says w c d e)
 
 module _ (g : Scene) (k : ℕ) (v : Window) (m s q : List ℕ) (a b : ℕ) (fits : Fits g k m) (fitting : Fitting g v)
     (apart : Apart (a * 36) (b * 36)) (windowed : Windowed g v s)
-    (x : Rewritten s (narrowAt s (a * 36 + firstAt v b) (b * 36 + firstAt v b + 1)) (b * 36 + firstAt v b + 1) (v .height) q) where
+    (x : Rewritten s (narrowAt s s (a * 36 + firstAt v b) (b * 36 + firstAt v b + 1)) (b * 36 + firstAt v b + 1) (v .height) q) where
   low : firstAt v b + v .height ≤ 32
   unfolding firstAt
   low = first-small (v .top) (v .start) (v .goal) (v .limit) (v .height) b (fitting .few)

@@ -2,18 +2,16 @@
 use Prim.Native.Nat.{ℕ, _+_, _-_, _≤_, _<_}
 use native.Mathlib.Omega.{arith}
 use native.Mathlib.Nat.{eq-or-lt-of-le}
-use mathlib.Core.Bool.{Bool, true, _&&_}
+use mathlib.Core.Bool.{true}
 use mathlib.Core.List.{List}
 use mathlib.Core.Logic.{⊎-elim}
-use mathlib.Core.Path.{_≡_, refl, sym, ap, _∙_}
-use lib.Dec.{leb}
+use mathlib.Core.Path.{_≡_, refl, sym, _∙_}
 use Rattle.tables.specs.declared.Scene.{Scene}
 use Rattle.tables.specs.declared.window.Window.{Window}
 use Rattle.tables.specs.Table.{inSet}
 use Rattle.tables.specs.Windowed.{Windowed}
 use Rattle.passes.specs.Steps.{Entered, Narrowed}
 use Rattle.passes.specs.Passes.{Advanced, Ended, Traced}
-use Rattle.passes.specs.Passes.{arrivable}
 use Rattle.passes.proofs.MendLaws.{entered-same}
 
 module _ (g : Scene) (k : ℕ) (v : Window) (m s : List ℕ) where
@@ -116,10 +114,3 @@ module _ (g : Scene) (k : ℕ) (v : Window) (m s : List ℕ) where
 
         old-holds : (t c : ℕ) → t < a → a < t + (n + 1) → inSet g s t c ≡ true → Entered g k m r (t + 1) t c → inSet g r t c ≡ true
         old-holds t c h l e z = y .other t c (λ i. omega arith) ∙ x .holds t c h (omega arith) e (to-q (t + 1) t c (omega arith) z)
-
--- A step to beat n + 1 changes no arrival up to beat n.
-pub arrivable-kept : (g : Scene) (k : ℕ) (v : Window) (m q r : List ℕ) (goal hold n : ℕ) → Narrowed g k v m q n (n + 1) r → (b : ℕ) →
-    b < n + 1 → arrivable g r goal hold b ≡ true → arrivable g q goal hold b ≡ true
-unfolding arrivable
-arrivable-kept g k v m q r goal hold n y b h e =
-    ap (λ (x : Bool). leb hold b && x) (sym (y .other b goal (λ i. omega arith))) ∙ e

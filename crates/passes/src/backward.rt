@@ -2,17 +2,15 @@
 ghost use mathlib.Core.Path.{_≡_};
 ghost use mathlib.Core.Bool.{true};
 ghost use mathlib.Core.List.{List};
-ghost use Prim.Native.Nat.{ℕ, _+_, _*_, _/_, _≤_, _<_};
+ghost use Prim.Native.Nat.{ℕ, _≤_, _<_};
 ghost use Rattle.tables.specs.Table.{Grid, Fits, inSet};
 ghost use Rattle.tables.specs.Room.{Roomy};
 ghost use Rattle.tables.specs.Windowed.{Fitting, Windowed};
 ghost use Rattle.passes.specs.Passes.{Ended, Traced};
-use crate::mend::mend;
+use crate::step::sweep;
 use tables::Scene;
-use tables::narrow::narrow_rows;
 use tables::place_of;
 use tables::window::Window;
-use tables::window::first_row;
 
 // The set of beat a becomes the goal alone.
 fn end_at(g: Scene, v: Window, sets: &mut [u32], goal: usize, a: usize)
@@ -41,14 +39,5 @@ pub fn leading(
     ensures { λ r. ⌜ Traced g k v (now (views .entry)) (now (sets .entry)) goal a a (now (sets .exit)) ⌝ }
 {
     end_at(g, v, sets, goal, a);
-    let height = v.height;
-    let mut n: usize = 0;
-    while n < a {
-        let t = a - n;
-        n += 1;
-        let first = first_row(v, a - n);
-        if narrow_rows(sets, room, t * 36 + first, (a - n) * 36 + first, height) {
-            mend(g, k, sets, room, views, t, a - n);
-        }
-    }
+    sweep(g, k, v, sets, room, views, goal, 64, false, a, a);
 }

@@ -1,20 +1,19 @@
 // The forward pass over a table: from the start to the least arrival that can be held.
 ghost use mathlib.Core.Path.{_≡_};
 ghost use mathlib.Core.List.{List};
-ghost use Prim.Native.Nat.{ℕ, _+_, _*_, _/_, _≤_, _<_};
+ghost use Prim.Native.Nat.{ℕ, _+_, _/_, _≤_, _<_};
 ghost use lib.ListN.{length, replicate};
 ghost use Rattle.tables.specs.Table.{Grid, Fits, inSet};
 ghost use Rattle.tables.specs.Room.{Roomy};
 ghost use Rattle.tables.specs.Windowed.{Fitting, Windowed, Inside};
 ghost use Rattle.passes.specs.Passes.{AdvancedTo, Made, lastNot, Earliest, arrivable};
-use crate::mend::mend;
+use crate::step::arrives;
+use crate::step::sweep;
 use tables::Scene;
-use tables::narrow::narrow_rows;
 use tables::place_of;
 use tables::table::lay;
 use tables::table::member;
 use tables::window::Window;
-use tables::window::first_row;
 
 // The last beat at which the goal is not in the room, from which on it can be held through the horizon; 0 where there is none.
 pub fn hold_from(g: Scene, room: &[u32], goal: usize) -> usize
@@ -30,17 +29,6 @@ pub fn hold_from(g: Scene, room: &[u32], goal: usize) -> usize
         }
     }
     from
-}
-
-// Whether the goal is in the set of beat t, from beat hold on.
-fn arrives(g: Scene, sets: &[u32], goal: usize, hold: usize, t: usize) -> bool
-    requires { ⌜ Grid g × (length (now sets) ≡ 2304) × (t < 64) × (goal < g .cells) ⌝ }
-    ensures { λ r. ⌜ r ≡ arrivable g (now (sets .entry)) goal hold t ⌝ }
-{
-    if t < hold {
-        return false;
-    }
-    member(g, sets, t, goal)
 }
 
 // The least arrival within the limit, or one past it where there is none. Each set becomes what the start reaches of it.
@@ -61,19 +49,7 @@ fn earliest(
     ensures found { λ r. ⌜ Earliest (arrivable g (now (sets .exit)) goal hold) (v .limit + 1) r ⌝ }
 {
     let limit = v.limit;
-    let height = v.height;
-    let mut t: usize = 0;
-    while t < limit {
-        if arrives(g, sets, goal, hold, t) {
-            return t;
-        }
-        let from = t;
-        t += 1;
-        let first = first_row(v, t);
-        if narrow_rows(sets, room, from * 36 + first, t * 36 + first, height) {
-            mend(g, k, sets, room, views, from, t);
-        }
-    }
+    let t = sweep(g, k, v, sets, room, views, goal, hold, true, 0, limit);
     if arrives(g, sets, goal, hold, t) {
         return t;
     }

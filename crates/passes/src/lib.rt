@@ -4,4 +4,5 @@ pub mod backward;
 pub mod forward;
 mod mend;
 mod next;
+mod step;
 pub mod walk;

@@ -6,6 +6,7 @@ pub mod CrossLaws
 pub mod SetLaws
 pub mod PlaceLaws
 pub mod RewriteLaws
+pub mod CarryLaws
 pub mod RoomLaws
 pub mod WindowLaws
 pub mod AroundLaws

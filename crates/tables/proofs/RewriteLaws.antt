@@ -1,5 +1,5 @@
 -- Rows of a table that are rewritten at once.
-use Prim.Native.Nat.{ℕ, _+_, _≤_}
+use Prim.Native.Nat.{ℕ, _+_, _≤_, _<_}
 use native.Mathlib.Omega.{arith}
 use mathlib.Core.List.{List}
 use mathlib.Core.Path.{_≡_, _∙_}
@@ -31,5 +31,5 @@ rewritten-zeros s r i fits h =
     })
 
 -- The same rows, said in another way.
-pub rewritten-same : (s r : List ℕ) (f g : ℕ → ℕ) (i n : ℕ) → ((j : ℕ) → f j ≡ g j) → Rewritten s f i n r → Rewritten s g i n r
-rewritten-same s r f g i n same x = record { long = x .long; inside = λ j l. x .inside j l ∙ same j; outside = x .outside }
+pub rewritten-same : (s r : List ℕ) (f g : ℕ → ℕ) (i n : ℕ) → ((j : ℕ) → j < n → f j ≡ g j) → Rewritten s f i n r → Rewritten s g i n r
+rewritten-same s r f g i n same x = record { long = x .long; inside = λ j l. x .inside j l ∙ same j l; outside = x .outside }

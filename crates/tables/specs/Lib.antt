@@ -1,6 +1,7 @@
--- In reading order: where views are and the ways they shut, tables of sets, the room in one, windows of rows.
+-- In reading order: where views are and the ways they shut, tables of sets, rows carried beside one, the room in one, windows of rows.
 pub mod Ways
 pub mod Table
+pub mod Carried
 pub mod Room
 pub mod Window
 pub mod Windowed

@@ -48,9 +48,9 @@ droppedAt w cells i c s = elim (ltb c cells) [ true ↦ dropped s (i + c / w) (c
 unfoldable pub narrowRow : ℕ → ℕ → ℕ → ℕ → ℕ
 narrowRow over here under mask = bitAnd (bitOr (bitOr (bitOr (bitOr here (here * 2 % 2 ^ 32)) (here / 2)) over) under) mask
 
--- Row r of those from row `to` on, with what a step brings to it alone from the rows that begin at row `at`, one before the first.
-unfoldable pub narrowAt : List ℕ → ℕ → ℕ → ℕ → ℕ
-narrowAt s at to r = narrowRow (getD s (at + r) 0) (getD s (at + r + 1) 0) (getD s (at + r + 2) 0) (getD s (to + r) 0)
+-- What a step brings to row r of the masks from row `to` on, from the rows of s that begin at row `at`, one before the first.
+unfoldable pub narrowAt : List ℕ → List ℕ → ℕ → ℕ → ℕ → ℕ
+narrowAt s masks at to r = narrowRow (getD s (at + r) 0) (getD s (at + r + 1) 0) (getD s (at + r + 2) 0) (getD masks (to + r) 0)
 
 -- None of n rows of s from row `at` on has a digit that the row of `room` has not, which begin at row `to`.
 unfoldable pub Within : List ℕ → List ℕ → ℕ → ℕ → ℕ → Type 0

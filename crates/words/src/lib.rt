@@ -121,16 +121,16 @@ fn narrow_row(over: u32, here: u32, under: u32, mask: u32) -> u32
     (here | here << 1 | here >> 1 | over | under) & mask
 }
 
-// The n rows of a table from row `to` on, each with what a step brings to it alone; the rows that it comes from begin at row `at`, one
-// before the first of the n.
-pub fn narrowed_rows(s: &[u32], at: usize, to: usize, n: usize) -> [u32; 32]
-    requires { ⌜ (n ≤ 32) × (at + n + 2 ≤ length (now s)) × (to + n ≤ length (now s)) ⌝ }
-    ensures { λ x. ⌜ x ≡ filled (replicate 32 0) (narrowAt (now (s .entry)) at to) n ⌝ }
+// What a step brings to n rows of masks from row `to` on; the rows of s that it comes from begin at row `at`, one before the first of
+// the n.
+pub fn narrowed_rows(s: &[u32], masks: &[u32], at: usize, to: usize, n: usize) -> [u32; 32]
+    requires { ⌜ (n ≤ 32) × (at + n + 2 ≤ length (now s)) × (to + n ≤ length (now masks)) ⌝ }
+    ensures { λ x. ⌜ x ≡ filled (replicate 32 0) (narrowAt (now (s .entry)) (now (masks .entry)) at to) n ⌝ }
 {
     let mut x = [0u32; 32];
     let mut r: usize = 0;
     while r < n {
-        x[r] = narrow_row(s[at + r], s[at + r + 1], s[at + r + 2], s[to + r]);
+        x[r] = narrow_row(s[at + r], s[at + r + 1], s[at + r + 2], masks[to + r]);
         r += 1;
     }
     x

@@ -11,10 +11,10 @@ use Rattle.words.proofs.narrowed_rows.Statement.{statement}
 use Rattle.words.proofs.narrowed_rows.Tie as tie
 
 abbrev Inv-loop : tie.InvT-loop
-Inv-loop s at to n x₀ r₀ x r = (r ≤ n) × (length x ≡ 32) × (x ≡ filled (replicate 32 0) (narrowAt s at to) r)
+Inv-loop s masks at to n x₀ r₀ x r = (r ≤ n) × (length x ≡ 32) × (x ≡ filled (replicate 32 0) (narrowAt s masks at to) r)
 
 abbrev μ-loop : tie.MeasureT-loop
-μ-loop s at to n x₀ r₀ x r = n - r
+μ-loop s masks at to n x₀ r₀ x r = n - r
 
 loop-holds : tie.Need-loop-holds Inv-loop μ-loop
 loop-holds c = (search needs, length-replicate {A = ℕ} 32 0, filled-none _ _)
@@ -88,7 +88,7 @@ loop-again c =
 
 returns : tie.Need-returns Inv-loop μ-loop
 returns c =
-    let e : c .before .loop .r ≡ c .before .before .before .args .n = omega arith in
+    let e : c .before .loop .r ≡ c .before .before .before .before .args .n = omega arith in
     rw e at (c .before .loop .inv .2)
 
 pub narrowed-rows-spec : {M : Type 1} → statement M

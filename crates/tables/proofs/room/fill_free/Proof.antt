@@ -44,7 +44,7 @@ loop-again c =
     let c₄ = c .before .before .before .before in
     let c₈ = c₄ .before .before .before .before in (
       search needs,
-      free-more _ _ _ _ (c₄ .before .loop .inv .1) (rewritten-same _ _ _ _ _ _ (λ j. ap (λ (x : ℕ). getD
+      free-more _ _ _ _ (c₄ .before .loop .inv .1) (rewritten-same _ _ _ _ _ _ (λ j l. ap (λ (x : ℕ). getD
           (c₈ .args .free .now) x 0) (zero-add j)) (c .before .before .copy-rows .ensures)),
     )
 
