@@ -20,15 +20,26 @@ use Rattle.passes.specs.Passes.{Advanced, AdvancedTo, Ended, Traced, Ear
 use Rattle.passes.proofs.StepLaws.{advanced-none, advanced-more, traced-none, traced-more}
 use Rattle.passes.proofs.TurnLaws.{earliest-found, earliest-none}
 
-pub beat-up : (up : Bool) (a i : ℕ) → up ≡ true → a + i ≡ beatOf up a i
+-- The beats of a course, one by one.
+pub beat-up : (up : Bool) (t : ℕ) → up ≡ true → t + 1 ≡ beatOf up t 1
 unfolding beatOf
-beat-up true a i e = refl
-beat-up false a i e = absurd (true-false-absurd {b = false} e refl)
+beat-up true t e = refl
+beat-up false t e = absurd (true-false-absurd {b = false} e refl)
 
-pub beat-down : (up : Bool) (a i : ℕ) → up ≡ false → a - i ≡ beatOf up a i
+pub beat-down : (up : Bool) (t : ℕ) → up ≡ false → t - 1 ≡ beatOf up t 1
 unfolding beatOf
-beat-down true a i e = absurd (true-false-absurd {b = true} refl e)
-beat-down false a i e = refl
+beat-down true t e = absurd (true-false-absurd {b = true} refl e)
+beat-down false t e = refl
+
+pub beat-none : (up : Bool) (a : ℕ) → a ≡ beatOf up a 0
+unfolding beatOf
+beat-none true a = omega arith
+beat-none false a = omega arith
+
+pub beat-more : (up : Bool) (a i t b : ℕ) → t ≡ beatOf up a i → b ≡ beatOf up t 1 → b ≡ beatOf up a (i + 1)
+unfolding beatOf
+beat-more true a i t b e h = omega arith
+beat-more false a i t b e h = omega arith
 
 -- The courses of the passes: from beat 0 up, and from a beat down to beat 0.
 pub course-up : (n h : ℕ) → n ≤ h → Course true 0 n h
@@ -43,11 +54,11 @@ unfolding beatOf
 course-beat true a n h i x l = omega (arith, x .rises refl)
 course-beat false a n h i x l = omega (arith, x .begins)
 
--- What the code asks to count the beats of a course.
-pub course-asked : (up : Bool) (a n h i : ℕ) → Course up a n h → h ≤ 63 → i ≤ n → (a ≤ 63) × (i ≤ 63) × (up ≡ false → i ≤ a)
-course-asked true a n h i x k l =
-    (omega (arith, x .begins), omega (arith, x .rises refl), λ e. absurd (true-false-absurd {b = true} refl e))
-course-asked false a n h i x k l = (omega (arith, x .begins), omega (arith, x .falls refl, x .begins), λ e. omega (arith, x .falls refl))
+-- A beat that is not the last of a course has one beside it.
+pub course-asked : (up : Bool) (a n h i t : ℕ) → Course up a n h → h ≤ 63 → i < n → t ≡ beatOf up a i → (t ≤ 63) × (up ≡ false → 1 ≤ t)
+unfolding beatOf
+course-asked true a n h i t x k l e = (omega (arith, x .rises refl), λ f. absurd (true-false-absurd {b = true} refl f))
+course-asked false a n h i t x k l e = (omega (arith, x .begins), λ f. omega (arith, x .falls refl))
 
 pub course-apart : (up : Bool) (a n h i : ℕ) → Course up a n h → i < n → Apart (beatOf up a i * 36) (beatOf up a (i + 1) * 36)
 unfolding beatOf

@@ -31,15 +31,15 @@ pub fn arrives(g: Scene, sets: &[u32], goal: usize, hold: usize, t: usize) -> bo
     member(g, sets, t, goal)
 }
 
-// The beat that is i beats after beat a, or before it.
-fn beat(up: bool, a: usize, i: usize) -> usize
-    requires { ⌜ (a ≤ 63) × (i ≤ 63) × (up ≡ false → i ≤ a) ⌝ }
-    ensures { λ r. ⌜ r ≡ beatOf up a i ⌝ }
+// The beat after beat t, or before it.
+fn beside(up: bool, t: usize) -> usize
+    requires { ⌜ (t ≤ 63) × (up ≡ false → 1 ≤ t) ⌝ }
+    ensures { λ r. ⌜ r ≡ beatOf up t 1 ⌝ }
 {
     if up {
-        return a + i;
+        return t + 1;
     }
-    a - i
+    t - 1
 }
 
 // The set of beat b keeps those of its cells to which an open way leads from the set of beat a. Answers rows of the new table.
@@ -92,14 +92,16 @@ pub fn sweep(
     ensures found { λ r. ⌜ Earliest (λ i. arrivable g (now (sets .exit)) goal hold (beatOf up a i)) n r ⌝ }
 {
     let mut x = four(sets, 0);
+    let mut t = a;
     let mut i: usize = 0;
     while i < n {
-        let t = beat(up, a, i);
         if arrives(g, sets, goal, hold, t) {
             return i;
         }
+        let b = beside(up, t);
+        x = advance(g, k, v, sets, room, views, x, t, b);
+        t = b;
         i += 1;
-        x = advance(g, k, v, sets, room, views, x, t, beat(up, a, i));
     }
     i
 }

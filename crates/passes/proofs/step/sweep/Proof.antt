@@ -9,16 +9,18 @@ use Rattle.tables.specs.Carried.{Carries}
 use Rattle.tables.specs.Windowed.{Windowed}
 use Rattle.passes.specs.Sweep.{beatOf, Swept}
 use Rattle.passes.specs.Passes.{arrivable}
-use Rattle.passes.proofs.SweepLaws.{swept-none, swept-more, none-swept, course-beat, course-asked, course-apart}
+use Rattle.passes.proofs.SweepLaws.{beat-none, beat-more, course-beat, course-asked, course-apart}
+use Rattle.passes.proofs.SweepLaws.{swept-none, swept-more, none-swept}
 use Rattle.passes.proofs.step.sweep.Statement.{statement}
 use Rattle.passes.proofs.step.sweep.Tie as tie
 
 abbrev Inv-loop : tie.InvT-loop
-Inv-loop g k v sets₀ room views goal hold up a n x₀ i₀ sets x i = (i ≤ n) × Swept g k v views up a i sets₀ sets × Windowed g v sets ×
-    Carries sets x × ((j : ℕ) → j < i → arrivable g sets goal hold (beatOf up a j) ≡ true → ⊥)
+Inv-loop g k v sets₀ room views goal hold up a n x₀ t₀ i₀ sets x t i = (i ≤ n) × (t ≡ beatOf up a i) ×
+    Swept g k v views up a i sets₀ sets × Windowed g v sets × Carries sets x ×
+    ((j : ℕ) → j < i → arrivable g sets goal hold (beatOf up a j) ≡ true → ⊥)
 
 abbrev μ-loop : tie.MeasureT-loop
-μ-loop g k v sets₀ room views goal hold up a n x₀ i₀ sets x i = n - i
+μ-loop g k v sets₀ room views goal hold up a n x₀ t₀ i₀ sets x t i = n - i
 
 four-requires : tie.Need-four-requires Inv-loop μ-loop
 four-requires c κs = search needs
@@ -26,21 +28,15 @@ four-requires c κs = search needs
 loop-holds : tie.Need-loop-holds Inv-loop μ-loop
 loop-holds c =
     let p = c .before .before .before .before .before .pre in
-    (search needs, swept-none _ _ _ _ _ _ _, p .1 .1, c .four .ensures, λ j h e. absurd (omega arith))
-
-beat-requires : tie.Need-beat-requires Inv-loop μ-loop
-beat-requires c κs =
-    let c₄ = c .before .before .before .before in
-    let p = c₄ .before .before .before .pre in
-    course-asked _ _ _ _ _ (p .0 .3) (p .0 .0 .short) (c .before .loop .inv .0)
+    (search needs, beat-none _ _, swept-none _ _ _ _ _ _ _, p .1 .1, c .four .ensures, λ j h e. absurd (omega arith))
 
 arrives-requires : tie.Need-arrives-requires Inv-loop μ-loop
 arrives-requires c κs =
     let c₄ = c .before .before .before .before in
-    let p = c₄ .before .before .before .before .before .pre in
-    let i = c .before .before .before .loop .inv in
+    let p = c₄ .before .before .before .before .pre in
+    let i = c .before .before .loop .inv in
     let h = course-beat _ _ _ _ _ (p .0 .3) (i .0) in
-    (p .0 .0 .grid, i .2 .tidy .long, omega (arith, h, p .0 .0 .short, c .before .beat .ensures), p .0 .2)
+    (p .0 .0 .grid, i .3 .tidy .long, omega (arith, h, p .0 .0 .short, i .1), p .0 .2)
 
 same-length : tie.Need-same-length Inv-loop μ-loop
 same-length c = search needs
@@ -48,38 +44,38 @@ same-length c = search needs
 returns : tie.Need-returns Inv-loop μ-loop
 returns c =
     let c₄ = c .before .before .before .before in
-    let i = c₄ .before .loop .inv in
-    let e = rw (c .before .before .before .beat .ensures) at (sym (c .before .arrives .ensures) ∙ c .if1 .taken) in
-    (i .1, record { upto = i .0; none-before = i .4; passes = λ h. e })
+    let i = c₄ .loop .inv in
+    let e = rw (i .1) at (sym (c .before .arrives .ensures) ∙ c .if1 .taken) in
+    (i .2, record { upto = i .0; none-before = i .5; passes = λ h. e })
 
-add-i : tie.Need-add-i Inv-loop μ-loop
-add-i c = search needs
-
-beat-requires-2 : tie.Need-beat-requires-2 Inv-loop μ-loop
-beat-requires-2 c κs =
+beside-requires : tie.Need-beside-requires Inv-loop μ-loop
+beside-requires c κs =
     let c₄ = c .before .before .before .before in
     let c₈ = c₄ .before .before .before .before in
-    let p = c₈ .before .before .before .before .pre in
-    course-asked _ _ _ _ _ (p .0 .3) (p .0 .0 .short) (omega (arith, c₄ .before .loop-test .taken))
+    let p = c₈ .before .before .pre in
+    course-asked _ _ _ _ _ _ (p .0 .3) (p .0 .0 .short) (c .before .before .before .loop-test .taken) (c₄ .loop .inv .1)
 
 advance-requires : tie.Need-advance-requires Inv-loop μ-loop
 advance-requires c κs =
     let c₄ = c .before .before .before .before in
     let c₈ = c₄ .before .before .before .before in
-    let p = c₈ .before .before .before .before .before .pre in
-    let i = c₄ .before .before .before .loop .inv in
-    let t = c₄ .before .before .loop-test .taken in
-    let e = c₄ .before .beat .ensures in
-    let o = c .beat2 .ensures in (
+    let c₁₂ = c₈ .before .before .before .before in
+    let p = c₁₂ .pre in
+    let i = c₄ .before .before .loop .inv in
+    let t = c₄ .before .loop-test .taken in
+    let o = beat-more _ _ _ _ _ (i .1) (c .before .beside .ensures) in (
       (
         p .0 .0,
         p .0 .1,
-        rw e (course-beat _ _ _ _ _ (p .0 .3) (i .0)),
+        rw (i .1) (course-beat _ _ _ _ _ (p .0 .3) (i .0)),
         rw o (course-beat _ _ _ _ _ (p .0 .3) (omega (arith, t))),
-        rw (e, o) (course-apart _ _ _ _ _ (p .0 .3) t),
+        rw (o, i .1) (course-apart _ _ _ _ _ (p .0 .3) t),
       ),
-      (p .1 .0, (i .2, i .3)),
+      (p .1 .0, (i .3, i .4)),
     )
+
+add-i : tie.Need-add-i Inv-loop μ-loop
+add-i c = search needs
 
 loop-less : tie.Need-loop-less Inv-loop μ-loop
 loop-less c = search needs
@@ -89,17 +85,17 @@ loop-again c =
     let c₄ = c .before .before .before .before in
     let c₈ = c₄ .before .before .before .before in
     let c₁₂ = c₈ .before .before .before .before in
-    let p = c₁₂ .before .before .before .before .pre in
-    let i = c₈ .before .before .loop .inv in
-    let t = c₈ .before .loop-test .taken in
-    let e = c₈ .beat .ensures in
-    let y = rw (e, c .before .before .before .beat2 .ensures) at (c .before .before .advance .ensures .0) in (
+    let p = c₁₂ .before .before .before .pre in
+    let i = c₈ .before .loop .inv in
+    let o = beat-more _ _ _ _ _ (i .1) (c₄ .beside .ensures) in
+    let y = rw (o, i .1) at (c .before .before .advance .ensures .0) in (
       search needs,
-      swept-more _ _ _ _ _ _ _ _ _ _ (i .1) y,
+      o,
+      swept-more _ _ _ _ _ _ _ _ _ _ (i .2) y,
       y .windowed,
       c .before .before .advance .ensures .1,
-      none-swept _ _ _ _ _ _ _ _ _ _ _ _ _ _ (p .0 .3) t y (i .4) (rw e at (c₄ .before .before .arrives .ensures))
-          (c₄ .before .if1 .left),
+      none-swept _ _ _ _ _ _ _ _ _ _ _ _ _ _ (p .0 .3) (c₈ .loop-test .taken) y (i .5)
+          (rw (i .1) at (c₄ .before .before .arrives .ensures)) (c₄ .before .if1 .left),
     )
 
 same-length-2 : tie.Need-same-length-2 Inv-loop μ-loop
@@ -108,7 +104,7 @@ same-length-2 c = search needs
 returns-2 : tie.Need-returns-2 Inv-loop μ-loop
 returns-2 c =
     let i = c .before .loop .inv in
-    (i .1, record { upto = i .0; none-before = i .4; passes = λ h. absurd (omega (arith, c .loop-test .left)) })
+    (i .2, record { upto = i .0; none-before = i .5; passes = λ h. absurd (omega (arith, c .loop-test .left)) })
 
 pub sweep-spec : {M : Type 1} → statement M
 sweep-spec =
@@ -118,13 +114,12 @@ sweep-spec =
     μ-loop
     four-requires
     loop-holds
-    beat-requires
     arrives-requires
     same-length
     returns
-    add-i
-    beat-requires-2
+    beside-requires
     advance-requires
+    add-i
     loop-less
     loop-again
     same-length-2
