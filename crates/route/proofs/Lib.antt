@@ -2,7 +2,6 @@
 pub mod Tests
 pub mod NearLaws
 pub mod MovesLaws
-pub mod SwapLaws
 pub mod ArrivalLaws
 pub mod ConflictLaws
 pub mod Ways

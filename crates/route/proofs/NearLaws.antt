@@ -1,10 +1,8 @@
--- Laws of `near`: what it says, that it is symmetric, and which cell numbers it leads to.
-use Prim.Native.Nat.{ℕ, suc, _+_, _*_, _/_, _%_}
-use native.Mathlib.Omega.{arith}
-use native.Mathlib.Nat.{div-add-mod', suc-mul}
+-- Laws of `near`: what it says, and that it is symmetric.
+use Prim.Native.Nat.{ℕ, suc, _/_, _%_}
 use mathlib.Core.Bool.{Bool, true, _&&_, _||_}
 use mathlib.Core.Logic.{_⊎_, inl, inr, ⊎-elim}
-use mathlib.Core.Path.{_≡_, sym, ap, _∙_}
+use mathlib.Core.Path.{_≡_, sym}
 use lib.Dec.{eqb}
 use borrow.Author.Tests.{eqb-true, eq-eqb}
 use Rattle.route.specs.Route.{Neighbours, SharesSide}
@@ -71,22 +69,3 @@ pub shares-side-sym : (w c d : ℕ) → SharesSide w c d → SharesSide w d c
 unfolding SharesSide
 shares-side-sym w c d (inl h) = inl (sym (h .0), neighbours-sym (c % w) (d % w) (h .1))
 shares-side-sym w c d (inr h) = inr (sym (h .0), neighbours-sym (c / w) (d / w) (h .1))
-
--- Of two cells with neighbouring columns in one row, or neighbouring rows in one column, one is the other plus 1, or plus the width.
-after-column : (w c d : ℕ) → c / w ≡ d / w → c % w ≡ suc (d % w) → c ≡ d + 1
-after-column w c d e h = omega (arith, div-add-mod' c w, div-add-mod' d w, ap (λ (n : ℕ). n * w) e)
-
-after-row : (w c d : ℕ) → c % w ≡ d % w → c / w ≡ suc (d / w) → c ≡ d + w
-after-row w c d e h = omega (arith, div-add-mod' c w, div-add-mod' d w, ap (λ (n : ℕ). n * w) h ∙ suc-mul (d / w) w)
-
--- Cells that share a side are one cell, or one row, apart.
-pub shares-side-apart : (w c d : ℕ) → SharesSide w c d → (c ≡ d + 1) ⊎ (d ≡ c + 1) ⊎ (c ≡ d + w) ⊎ (d ≡ c + w)
-unfolding SharesSide Neighbours
-shares-side-apart w c d (inl (e, inl h)) = inl (after-column w c d e h)
-shares-side-apart w c d (inl (e, inr h)) = inr (inl (after-column w d c (sym e) h))
-shares-side-apart w c d (inr (e, inl h)) = inr (inr (inl (after-row w c d e h)))
-shares-side-apart w c d (inr (e, inr h)) = inr (inr (inr (after-row w d c (sym e) h)))
-
--- A cell that is near c is c, or one cell or one row apart from it.
-pub near-apart : (w c d : ℕ) → near w c d ≡ true → (d ≡ c) ⊎ (c ≡ d + 1) ⊎ (d ≡ c + 1) ⊎ (c ≡ d + w) ⊎ (d ≡ c + w)
-near-apart w c d e = ⊎-elim (λ (h : d ≡ c). inl h) (λ (h : SharesSide w c d). inr (shares-side-apart w c d h)) (near-says w c d e)
