@@ -8,15 +8,9 @@ use borrow.Author.Needs.{needs}
 use Rattle.kalomivund.proofs.kalomivund_ceiling.Statement.{statement}
 use Rattle.kalomivund.proofs.kalomivund_ceiling.Tie as tie
 
-ceiling-requires : tie.Need-ceiling-requires
-ceiling-requires c κs = search needs
-
-of-ceiling-requires : tie.Need-of-ceiling-requires
-of-ceiling-requires c κs = search needs
-
 returns : tie.Need-returns
 unfolding ceilingWord
 returns c = c .of-ceiling .ensures ∙ ap (λ (x : Figure). wordOf (ofFigure x)) (c .before .ceiling .ensures)
 
 pub kalomivund-ceiling-spec : {M : Type 1} → statement M
-kalomivund-ceiling-spec = tie.close (tie.spec ceiling-requires of-ceiling-requires returns)
+kalomivund-ceiling-spec = tie.close (tie.spec (λ c κs. search needs) (λ c κs. search needs) returns)

@@ -8,21 +8,13 @@ use borrow.Author.Needs.{needs}
 use Rattle.kalomivund.proofs.kalomivund_print_routes.Statement.{statement}
 use Rattle.kalomivund.proofs.kalomivund_print_routes.Tie as tie
 
-routes-requires : tie.Need-routes-requires
-routes-requires c κs = search needs
-
-of-print-requires : tie.Need-of-print-requires
-of-print-requires c κs = search needs
-
-same-length : tie.Need-same-length
-same-length c = search needs
-
 returns : tie.Need-returns
 unfolding printWord printStored
 returns c =
-    let done = c .of-print .ensures ∙ ap (λ (x : Outcome). wordOf (ofPrinted x)) (c .before .before .before .routes .ensures .0) in
-    (done, c .before .before .before .routes .ensures .1)
+    let after-routes : tie.After-routes = search in
+    let done = c .of-print .ensures ∙ ap (λ (x : Outcome). wordOf (ofPrinted x)) (after-routes .routes .ensures .0) in
+    (done, after-routes .routes .ensures .1)
 
 pub kalomivund-print-routes-spec : {M : Type 1} → statement M
 kalomivund-print-routes-spec =
-    tie.close (tie.spec routes-requires of-print-requires same-length returns)
+    tie.close (tie.spec (λ c κs. search needs) (λ c κs. search needs) (λ c. search needs) returns)

@@ -16,81 +16,42 @@ use borrow.Author.Needs.{needs}
 use Rattle.kalomivund.proofs.kalomivund_read_sheet.Statement.{statement}
 use Rattle.kalomivund.proofs.kalomivund_read_sheet.Tie as tie
 
-too-short-requires : tie.Need-too-short-requires
-too-short-requires c κs = search needs
-
 returns : tie.Need-returns
 unfolding readWord readRecord readStored
 returns c =
     let l = c .before .if1 .taken in
     (says-short _ l _ (c .too-short .ensures), (stores-short _ l _ _, stores-short _ l _ _))
 
-read-requires : tie.Need-read-requires
-read-requires c κs = search needs
-
-enum-told : tie.Need-enum-told
-enum-told c = search needs
-
-enum-told-2 : tie.Need-enum-told-2
-enum-told-2 c = search needs
-
-of-check-requires : tie.Need-of-check-requires
-of-check-requires c κs = search needs
-
-same-length : tie.Need-same-length
-same-length c = search needs
-
 returns-2 : tie.Need-returns-2
 unfolding readWord readRecord readStored
 returns-2 c =
-    let l = c .before .before .before .before .before .before .before .before .if1 .left in
-    let e = c .before .before .before .before .before .before .read .ensures in
+    let after-read : tie.After-read = search in
+    let else1 : tie.Else1 = search in
+    let l = else1 .if1 .left in
+    let e = after-read .read .ensures in
     let no = refuses (e .0) (c .before .enum-told2 .given .1) in
     let says = c .of-check .ensures ∙ ap (λ (v : Verdict). wordOf (ofVerdict v 0)) (e .0) in
     (says-lent _ l _ says, (stores-lent _ l _ (sym (chosen-refused _ _ no)), stores-lent _ l _ (e .1 .1)))
 
-store-requires : tie.Need-store-requires
-store-requires c κs = search needs
-
-done-requires : tie.Need-done-requires
-done-requires c κs = search needs
-
-same-length-2 : tie.Need-same-length-2
-same-length-2 c = search needs
-
-same-length-3 : tie.Need-same-length-3
-same-length-3 c = search needs
-
 returns-3 : tie.Need-returns-3
 unfolding readWord readRecord readStored readFloor ofVerdict
 returns-3 c =
-    let c₄ = c .before .before .before .before in
-    let c₈ = c₄ .before .before .before .before in
-    let c₁₂ = c₈ .before .before .before .before in
-    let c₁₆ = c₁₂ .before .before .before .before in
-    let l = c₁₂ .if1 .left in
-    let old = now (c₁₆ .args .f) in
-    let e = c₈ .before .before .read .ensures in
-    let ok = passes (e .0) (c₄ .before .enum-told .given .1) in
+    let after-store : tie.After-store = search in
+    let after-enum-told : tie.After-enum-told = search in
+    let after-read : tie.After-read = search in
+    let else1 : tie.Else1 = search in
+    let start : tie.Start = search in
+    let l = else1 .if1 .left in
+    let old = now (start .args .f) in
+    let e = after-read .read .ensures in
+    let ok = passes (e .0) (after-enum-told .enum-told .given .1) in
     let floor = e .1 .0 ∙ chosen-passed _ _ ok in
     let put-it = ap (λ (g : Floor). put old 0 (numbersOf g)) floor in
-    let stored = c .before .before .before .store .ensures ∙ put-it ∙ sym (chosen-passed _ old ok) in
+    let stored = after-store .store .ensures ∙ put-it ∙ sym (chosen-passed _ old ok) in
     (says-lent _ l _ (rw ok (c .done .ensures)), (stores-lent _ l old stored, stores-lent _ l _ (e .1 .1)))
 
 pub kalomivund-read-sheet-spec : {M : Type 1} → statement M
 kalomivund-read-sheet-spec =
-    tie.close
-    (tie.spec
-    too-short-requires
-    returns
-    read-requires
-    enum-told
-    enum-told-2
-    of-check-requires
-    same-length
-    returns-2
-    store-requires
-    done-requires
-    same-length-2
-    same-length-3
-    returns-3)
+    tie.close (tie.spec (λ c κs. search needs) returns (λ c κs. search needs) (λ c. search needs) (λ c. search needs)
+    (λ c κs. search needs) (λ c. search needs) returns-2 (λ c κs. search needs) (λ c κs. search needs)
+    (λ c. search needs) (λ c. search needs) returns-3)

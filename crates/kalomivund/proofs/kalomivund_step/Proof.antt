@@ -9,43 +9,23 @@ use borrow.Author.Needs.{needs}
 use Rattle.kalomivund.proofs.kalomivund_step.Statement.{statement}
 use Rattle.kalomivund.proofs.kalomivund_step.Tie as tie
 
-too-short-requires : tie.Need-too-short-requires
-too-short-requires c κs = search needs
-
 returns : tie.Need-returns
 unfolding stepWord stepStored
 returns c =
     let l = c .before .if1 .taken in
     (says-short _ l _ (c .too-short .ensures), stores-short _ l _ _)
 
-floor-of-requires : tie.Need-floor-of-requires
-floor-of-requires c κs = search needs
-
-step-requires : tie.Need-step-requires
-step-requires c κs = search needs
-
-of-step-requires : tie.Need-of-step-requires
-of-step-requires c κs = search needs
-
-same-length : tie.Need-same-length
-same-length c = search needs
-
 returns-2 : tie.Need-returns-2
 unfolding stepWord stepStored
 returns-2 c =
-    let c₄ = c .before .before .before .before in
-    let l = c₄ .before .before .if1 .left in
-    let done = c .of-step .ensures ∙ ap (λ (x : Reply). wordOf (ofReply x)) (c .before .before .before .step .ensures .0) in
-    rw (← c₄ .before .floor-of .ensures) (says-lent _ l _ done, stores-lent _ l _ (c .before .before .before .step .ensures .1))
+    let after-step : tie.After-step = search in
+    let after-floor-of : tie.After-floor-of = search in
+    let else1 : tie.Else1 = search in
+    let l = else1 .if1 .left in
+    let done = c .of-step .ensures ∙ ap (λ (x : Reply). wordOf (ofReply x)) (after-step .step .ensures .0) in
+    rw (← after-floor-of .floor-of .ensures) (says-lent _ l _ done, stores-lent _ l _ (after-step .step .ensures .1))
 
 pub kalomivund-step-spec : {M : Type 1} → statement M
 kalomivund-step-spec =
-    tie.close
-    (tie.spec
-    too-short-requires
-    returns
-    floor-of-requires
-    step-requires
-    of-step-requires
-    same-length
-    returns-2)
+    tie.close (tie.spec (λ c κs. search needs) returns (λ c κs. search needs) (λ c κs. search needs)
+    (λ c κs. search needs) (λ c. search needs) returns-2)

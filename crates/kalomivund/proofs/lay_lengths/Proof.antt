@@ -14,28 +14,15 @@ use borrow.Author.Needs.{needs}
 use Rattle.kalomivund.proofs.lay_lengths.Statement.{statement}
 use Rattle.kalomivund.proofs.lay_lengths.Tie as tie
 
-enum-known-needed : tie.Need-enum-known-needed
-enum-known-needed c = search needs
-
-enum-told : tie.Need-enum-told
-enum-told c = search needs
-
-of-needed-requires : tie.Need-of-needed-requires
-of-needed-requires c κs = search needs
-
 returns : tie.Need-returns
 unfolding ofFigures figuresStored figuresOf
 returns c = (c .of-needed .ensures ∙ rw (c .before .enum-told .given .1) refl, rw (c .before .enum-told .given .1) refl)
 
-too-short-requires : tie.Need-too-short-requires
-too-short-requires c κs = search needs
-
 returns-2 : tie.Need-returns-2
 unfolding ofFigures figuresStored figuresOf ofVerdict chosen roomOf demand
-returns-2 c = rw (c .before .before .before .needed .given .1, lt-leb 5 _ (c .before .if1 .taken)) (c .too-short .ensures, refl)
-
-slice-write-out : tie.Need-slice-write-out
-slice-write-out c = search needs
+returns-2 c =
+    let after-needed : tie.After-needed = search in
+    rw (after-needed .needed .given .1, lt-leb 5 _ (c .before .if1 .taken)) (c .too-short .ensures, refl)
 
 slice-write-out-2 : tie.Need-slice-write-out-2
 slice-write-out-2 c = simp length-set (omega arith)
@@ -46,36 +33,15 @@ slice-write-out-3 c = simp length-set (omega arith)
 slice-write-out-4 : tie.Need-slice-write-out-4
 slice-write-out-4 c = simp length-set (omega arith)
 
-slice-write-out-5 : tie.Need-slice-write-out-5
-slice-write-out-5 c = search needs
-
-done-requires : tie.Need-done-requires
-done-requires c κs = search needs
-
-same-length : tie.Need-same-length
-same-length c = search needs
-
 returns-3 : tie.Need-returns-3
 unfolding ofFigures figuresStored figuresOf ofVerdict chosen roomOf demand
 returns-3 c =
+    let after-needed : tie.After-needed = search in
     let l = c .before .if1 .left in
-    rw (c .before .before .before .needed .given .1, le-leb 5 _ l) (c .done .ensures, put-five _ 0 _ _ _ _ _ l)
+    rw (after-needed .needed .given .1, le-leb 5 _ l) (c .done .ensures, put-five _ 0 _ _ _ _ _ l)
 
 pub lay-lengths-spec : {M : Type 1} → statement M
 lay-lengths-spec =
-    tie.close
-    (tie.spec
-    enum-known-needed
-    enum-told
-    of-needed-requires
-    returns
-    too-short-requires
-    returns-2
-    slice-write-out
-    slice-write-out-2
-    slice-write-out-3
-    slice-write-out-4
-    slice-write-out-5
-    done-requires
-    same-length
-    returns-3)
+    tie.close (tie.spec (λ c. search needs) (λ c. search needs) (λ c κs. search needs) returns (λ c κs. search needs)
+    returns-2 (λ c. search needs) slice-write-out-2 slice-write-out-3 slice-write-out-4 (λ c. search needs)
+    (λ c κs. search needs) (λ c. search needs) returns-3)

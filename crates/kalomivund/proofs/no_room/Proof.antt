@@ -7,15 +7,6 @@ use borrow.Author.Needs.{needs}
 use Rattle.kalomivund.proofs.no_room.Statement.{statement}
 use Rattle.kalomivund.proofs.no_room.Tie as tie
 
-check-requires : tie.Need-check-requires
-check-requires c κs = search needs
-
-enum-told : tie.Need-enum-told
-enum-told c = search needs
-
-enum-told-2 : tie.Need-enum-told-2
-enum-told-2 c = search needs
-
 returns : tie.Need-returns
 unfolding noRoom
 returns c = ends-at _ (c .before .before .check .ensures) (c .enum-told2 .given .1)
@@ -25,4 +16,4 @@ unfolding noRoom verdictOf
 returns-2 c = hands-on (c .before .before .check .ensures) (c .enum-told .given .1) refl
 
 pub no-room-spec : {M : Type 1} → statement M
-no-room-spec = tie.close (tie.spec check-requires enum-told enum-told-2 returns returns-2)
+no-room-spec = tie.close (tie.spec (λ c κs. search needs) (λ c. search needs) (λ c. search needs) returns returns-2)

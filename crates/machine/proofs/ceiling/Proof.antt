@@ -8,29 +8,21 @@ use borrow.Author.Needs.{needs}
 use Rattle.machine.proofs.ceiling.Statement.{statement}
 use Rattle.machine.proofs.ceiling.Tie as tie
 
-refused-requires : tie.Need-refused-requires
-refused-requires c κs = search needs
-
 returns : tie.Need-returns
 returns c = c .refused .ensures ∙ most-low _ (c .before .if1 .taken)
-
-refused-requires-2 : tie.Need-refused-requires-2
-refused-requires-2 c κs = search needs
 
 returns-2 : tie.Need-returns-2
 returns-2 c = c .refused2 .ensures ∙ most-high _ (c .before .before .if1 .left) (c .before .if2 .taken)
 
-add-two-to : tie.Need-add-two-to
-add-two-to c = search needs
-
-two-to-requires : tie.Need-two-to-requires
-two-to-requires c κs = search needs
-
 sub-t5 : tie.Need-sub-t5
-sub-t5 c = omega (arith, power-big (c .before .before .before .args .n), c .two-to .ensures .0)
+sub-t5 c =
+    let start : tie.Start = search in
+    omega (arith, power-big (start .args .n), c .two-to .ensures .0)
 
 sub-t6 : tie.Need-sub-t6
-sub-t6 c = omega (arith, power-big (c .before .before .before .args .n), c .two-to .ensures .0)
+sub-t6 c =
+    let start : tie.Start = search in
+    omega (arith, power-big (start .args .n), c .two-to .ensures .0)
 
 returns-3 : tie.Need-returns-3
 unfolding figureOf
@@ -38,14 +30,5 @@ returns-3 c = most-is _ _ (c .before .before .if1 .left) (c .before .if2 .left) 
 
 pub ceiling-spec : {M : Type 1} → statement M
 ceiling-spec =
-    tie.close
-    (tie.spec
-    refused-requires
-    returns
-    refused-requires-2
-    returns-2
-    add-two-to
-    two-to-requires
-    sub-t5
-    sub-t6
-    returns-3)
+    tie.close (tie.spec (λ c κs. search needs) returns (λ c κs. search needs) returns-2 (λ c. search needs)
+    (λ c κs. search needs) sub-t5 sub-t6 returns-3)

@@ -23,24 +23,11 @@ use borrow.Author.Needs.{needs}
 use Rattle.machine.proofs.run.Statement.{statement}
 use Rattle.machine.proofs.run.Tie as tie
 
-listed-requires : tie.Need-listed-requires
-listed-requires c κs = search needs
-
-enum-told : tie.Need-enum-told
-enum-told c = search needs
-
-enum-told-2 : tie.Need-enum-told-2
-enum-told-2 c = search needs
-
-turned-requires : tie.Need-turned-requires
-turned-requires c κs = search needs
-
-same-length : tie.Need-same-length
-same-length c = search needs
-
 returns : tie.Need-returns
 unfolding runReply runMemory runOver runWith
-returns c = let told = c .before .before .before .listed .ensures in
+returns c =
+    let after-listed : tie.After-listed = search in
+    let told = after-listed .listed .ensures in
     let no = refuses told (c .before .enum-told2 .given .1) in (
       reply-refused _ _ _ _ _ no (c .turned .ensures ∙ ap (λ (v : Verdict). replyIf v (ran 0 ended)) told),
       (memory-refused _ _ _ _ _ no, taken-within _ _ _ _),
@@ -52,53 +39,42 @@ free-rows-requires c κs = let a = run-tells _ _ _ _ (passes (c .before .before 
 
 run-all-requires : tie.Need-run-all-requires
 run-all-requires c κs =
-    let c₄ = c .before .before .before .before in
-    let a = run-tells _ _ _ _ (passes (c₄ .listed .ensures) (c .before .before .enum-told .given .1)) in
+    let after-listed : tie.After-listed = search in
+    let a = run-tells _ _ _ _ (passes (after-listed .listed .ensures) (c .before .before .enum-told .given .1)) in
     workable _ _ _ _ a (c .before .free-rows .ensures)
 
 ending-requires : tie.Need-ending-requires
 ending-requires c κs =
-    let c₄ = c .before .before .before .before in
-    let c₈ = c₄ .before .before .before .before in
-    let a = run-tells _ _ _ _ (passes (c₈ .listed .ensures) (c₄ .before .before .enum-told .given .1)) in
-    (a .bounds .carriers .1, omega (arith, c .before .before .before .run-all .kept .1 .1 .0, a .enough))
-
-same-length-2 : tie.Need-same-length-2
-same-length-2 c = search needs
+    let after-run-all : tie.After-run-all = search in
+    let after-enum-told : tie.After-enum-told = search in
+    let after-listed : tie.After-listed = search in
+    let a = run-tells _ _ _ _ (passes (after-listed .listed .ensures) (after-enum-told .enum-told .given .1)) in
+    (a .bounds .carriers .1, omega (arith, after-run-all .run-all .kept .1 .1 .0, a .enough))
 
 returns-2 : tie.Need-returns-2
 unfolding runReply runMemory runOver runWith
 returns-2 c =
-    let c₄ = c .before .before .before .before in
-    let c₈ = c₄ .before .before .before .before in
-    let c₁₂ = c₈ .before .before .before .before in
-    let told = passes (c₈ .before .listed .ensures) (c₄ .before .before .before .enum-told .given .1) in
-    let f = c₁₂ .before .before .args .f in
-    let ws = now (c₁₂ .before .before .args .walls) in
-    let rows = c₄ .before .before .free-rows .result in
-    let same = machine-same f ws rows (c₄ .before .before .free-rows .ensures) in
-    let tally = rw same at (c₄ .run-all .ensures) in (
+    let after-run-all : tie.After-run-all = search in
+    let after-free-rows : tie.After-free-rows = search in
+    let after-enum-told : tie.After-enum-told = search in
+    let after-listed : tie.After-listed = search in
+    let start : tie.Start = search in
+    let told = passes (after-listed .listed .ensures) (after-enum-told .enum-told .given .1) in
+    let f = start .args .f in
+    let ws = now (start .args .walls) in
+    let rows = after-free-rows .free-rows .result in
+    let same = machine-same f ws rows (after-free-rows .free-rows .ensures) in
+    let tally = rw same at (after-run-all .run-all .ensures) in (
       reply-passed _ _ told (c .ending .ensures
-          ∙ ap (λ (s : Bool). ran (c₄ .run-all .result .taken)
-          (endsWith s (c₄ .run-all .result .taken) (c₁₂ .before .before .args .budget) (c₄ .run-all .result .read)
-          (length (now (c₁₂ .before .before .args .numbers)))))
-          (silent-of f (c₄ .run-all .last .1 .1 .0) ws)
+          ∙ ap (λ (s : Bool). ran (after-run-all .run-all .result .taken)
+          (endsWith s (after-run-all .run-all .result .taken) (start .args .budget) (after-run-all .run-all .result .read)
+          (length (now (start .args .numbers)))))
+          (silent-of f (after-run-all .run-all .last .1 .1 .0) ws)
           ∙ ran-is _ _ _ _ _ _ _ tally),
       (memory-passed _ _ _ told (tally .memory), taken-within _ _ _ _),
     )
 
 pub run-spec : {M : Type 1} → statement M
 run-spec =
-    tie.close
-    (tie.spec
-    listed-requires
-    enum-told
-    enum-told-2
-    turned-requires
-    same-length
-    returns
-    free-rows-requires
-    run-all-requires
-    ending-requires
-    same-length-2
-    returns-2)
+    tie.close (tie.spec (λ c κs. search needs) (λ c. search needs) (λ c. search needs) (λ c κs. search needs)
+    (λ c. search needs) returns free-rows-requires run-all-requires ending-requires (λ c. search needs) returns-2)

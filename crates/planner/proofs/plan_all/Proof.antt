@@ -23,78 +23,65 @@ Inv-loop f free answers₀ n room₀ i₀ answers room i =
 abbrev μ-loop : tie.MeasureT-loop
 μ-loop f free answers₀ n room₀ i₀ answers room i = n - i
 
-no-room-requires : tie.Need-no-room-requires Inv-loop μ-loop
-no-room-requires c κs = search needs
-
 slice-aggregate-fill-room : tie.Need-slice-aggregate-fill-room Inv-loop μ-loop
 slice-aggregate-fill-room c = sym (ap length (c .before .no-room .ensures) ∙ length-replicate {A = ℕ} 2304 0)
 
 fill-room-requires : tie.Need-fill-room-requires Inv-loop μ-loop
 fill-room-requires c κs =
-    let p = c .before .before .before .pre in
+    let start : tie.Start Inv-loop μ-loop = search in
+    let p = start .pre in
     let able = p .searchable 0 [] (p .some) (omega arith) in
     ((able .width .0, able .width .1, able .height, p .horizon), (able .long, able .clean, c .before .no-room .ensures))
 
 loop-holds : tie.Need-loop-holds Inv-loop μ-loop
-loop-holds c = (search needs, plan-start _ _ (c .before .before .before .before .before .pre .horizon) _, c .before .fill-room .ensures _)
+loop-holds c =
+    let start : tie.Start Inv-loop μ-loop = search in
+    (search needs, plan-start _ _ (start .pre .horizon) _, c .before .fill-room .ensures _)
 
 slice-aggregate-plan-one : tie.Need-slice-aggregate-plan-one Inv-loop μ-loop
 slice-aggregate-plan-one c = sym (c .before .before .loop .inv .2 .tidy .long)
 
 plan-one-requires : tie.Need-plan-one-requires Inv-loop μ-loop
 plan-one-requires c κs =
-    let p = c .before .before .before .before .before .before .before .before .before .pre in
-    let i = c .before .before .before .loop .i in
-    let size = plan-keeps _ _ (p .horizon) i _ _ (omega (arith, p .room)) (c .before .before .before .loop .inv .1) in (
+    let at-loop : tie.At-loop Inv-loop μ-loop = search in
+    let start : tie.Start Inv-loop μ-loop = search in
+    let p = start .pre in
+    let i = at-loop .loop .i in
+    let size = plan-keeps _ _ (p .horizon) i _ _ (omega (arith, p .room)) (at-loop .loop .inv .1) in (
       (omega (arith, p .few), omega (arith, p .room)),
       (
         p .searchable i _ (c .before .before .loop-test .taken)
-            (omega (arith, length-take-le (65 * i) (c .before .before .before .loop .answers) (omega (arith, p .room)))),
-        c .before .before .before .loop .inv .2,
+            (omega (arith, length-take-le (65 * i) (at-loop .loop .answers) (omega (arith, p .room)))),
+        at-loop .loop .inv .2,
       ),
     )
-
-add-i : tie.Need-add-i Inv-loop μ-loop
-add-i c = search needs
-
-loop-less : tie.Need-loop-less Inv-loop μ-loop
-loop-less c = search needs
 
 loop-again : tie.Need-loop-again Inv-loop μ-loop
 unfolding answered
 loop-again c =
-    let c₇ = c .before .before .before .before .before .before .before in
-    let p = c₇ .before .before .before .before .before .before .pre in (
+    let after-plan-one : tie.After-plan-one Inv-loop μ-loop = search in
+    let at-loop : tie.At-loop Inv-loop μ-loop = search in
+    let start : tie.Start Inv-loop μ-loop = search in
+    let p = start .pre in (
       search needs,
-      plan-more _ _ (p .horizon) (c₇ .loop .i) _ _ _ (omega (arith, p .room)) (c₇ .loop .inv .1)
-          (c .before .before .before .plan-one .ensures .0),
-      c .before .before .before .plan-one .ensures .1,
+      plan-more _ _ (p .horizon) (at-loop .loop .i) _ _ _ (omega (arith, p .room)) (at-loop .loop .inv .1)
+          (after-plan-one .plan-one .ensures .0),
+      after-plan-one .plan-one .ensures .1,
     )
 
 same-length : tie.Need-same-length Inv-loop μ-loop
 same-length c =
-    let p = c .before .before .before .before .before .before .before .pre in
+    let start : tie.Start Inv-loop μ-loop = search in
+    let p = start .pre in
     plan-keeps _ _ (p .horizon) (c .before .loop .i) _ _ (omega (arith, p .room)) (c .before .loop .inv .1)
 
 returns : tie.Need-returns Inv-loop μ-loop
 returns c =
-    let p = c .before .before .before .before .before .before .before .pre in
+    let start : tie.Start Inv-loop μ-loop = search in
+    let p = start .pre in
     plan-end _ _ (p .horizon) (c .before .loop .i) _ _ _ (c .before .loop .inv .0) (c .loop-test .left) (c .before .loop .inv .1)
 
 pub plan-all-spec : {M : Type 1} → statement M
 plan-all-spec =
-    tie.close
-    (tie.spec
-    Inv-loop
-    μ-loop
-    no-room-requires
-    slice-aggregate-fill-room
-    fill-room-requires
-    loop-holds
-    slice-aggregate-plan-one
-    plan-one-requires
-    add-i
-    loop-less
-    loop-again
-    same-length
-    returns)
+    tie.close (tie.spec Inv-loop μ-loop (λ c κs. search needs) slice-aggregate-fill-room fill-room-requires loop-holds
+    slice-aggregate-plan-one plan-one-requires (λ c. search needs) (λ c. search needs) loop-again same-length returns)

@@ -15,72 +15,45 @@ use Rattle.planner.proofs.RoomLaws.{room-above, room-stored}
 use Rattle.planner.proofs.plan_one.Statement.{statement}
 use Rattle.planner.proofs.plan_one.Tie as tie
 
-mul-at : tie.Need-mul-at
-mul-at c = search needs
-
-add-route-in : tie.Need-add-route-in
-add-route-in c = search needs
-
-slice-reshare-prefix-route-in : tie.Need-slice-reshare-prefix-route-in
-slice-reshare-prefix-route-in c = search needs
-
 slice-aggregate-route-in : tie.Need-slice-aggregate-route-in
-slice-aggregate-route-in c = sym (length-take-le _ _ (omega (arith, c .before .before .before .before .pre .0)))
+slice-aggregate-route-in c =
+    let start : tie.Start = search in
+    sym (length-take-le _ _ (omega (arith, start .pre .0)))
 
 route-in-requires : tie.Need-route-in-requires
 route-in-requires c κs =
-    let p = c .before .before .before .before .pre .1 in
+    let start : tie.Start = search in
+    let p = start .pre .1 in
     (p .0, room-above _ _ _ _ _ _ (p .0) _ (p .1))
-
-tag-of-requires : tie.Need-tag-of-requires
-tag-of-requires c κs = search needs
-
-store-requires : tie.Need-store-requires
-store-requires c κs = search needs
 
 take-route-requires : tie.Need-take-route-requires
 take-route-requires c κs =
-    let c₄ = c .before .before .before .before in
-    let c₁₃ = c₄ .before .before .before .before .before .before .before .before .before in
-    let able = c₁₃ .pre .1 .0 in (
+    let after-store : tie.After-store = search in
+    let start : tie.Start = search in
+    let able = start .pre .1 .0 in (
       (able .width .0, able .width .1, able .height, able .horizon),
-      (omega (arith, c₁₃ .pre .0, c₄ .store .kept .0), c₁₃ .pre .1 .1 .tidy),
+      (omega (arith, start .pre .0, after-store .store .kept .0), start .pre .1 .1 .tidy),
     )
-
-same-length : tie.Need-same-length
-same-length c = search needs
-
-same-length-2 : tie.Need-same-length-2
-same-length-2 c = search needs
 
 returns : tie.Need-returns
 unfolding answered respondWith
 returns c =
-    let c₇ = c .before .before .before .before .before .before .before in
-    let c₁₁ = c₇ .before .before .before .before in
-    let c₁₆ = c₁₁ .before .before .before .before .before in
-    let found = c₁₁ .route-in in
-    let at = 65 * c₁₆ .args .i in
-    let old = now (c₁₆ .args .answers) in (
-      c₇ .store .ensures
-          ∙ ap (λ (tag : ℕ). put old at (tag ∷ found .result .route)) (c₇ .before .tag-of .ensures)
+    let after-store : tie.After-store = search in
+    let after-tag-of : tie.After-tag-of = search in
+    let after-route-in : tie.After-route-in = search in
+    let start : tie.Start = search in
+    let found = after-route-in .route-in in
+    let at = 65 * start .args .i in
+    let old = now (start .args .answers) in (
+      after-store .store .ensures
+          ∙ ap (λ (tag : ℕ). put old at (tag ∷ found .result .route)) (after-tag-of .tag-of .ensures)
           ∙ ap (put old at) (found-record (found .result) _ (found .ensures)),
       c .before .before .take-route .ensures _
-          (room-stored _ _ _ _ _ _ (c₁₆ .pre .1 .0) _ _ _ (omega (arith, c₁₆ .pre .0)) (c₇ .store .ensures) (c₁₆ .pre .1 .1)),
+          (room-stored _ _ _ _ _ _ (start .pre .1 .0) _ _ _ (omega (arith, start .pre .0)) (after-store .store .ensures) (start .pre .1 .1)),
     )
 
 pub plan-one-spec : {M : Type 1} → statement M
 plan-one-spec =
-    tie.close
-    (tie.spec
-    mul-at
-    add-route-in
-    slice-reshare-prefix-route-in
-    slice-aggregate-route-in
-    route-in-requires
-    tag-of-requires
-    store-requires
-    take-route-requires
-    same-length
-    same-length-2
-    returns)
+    tie.close (tie.spec (λ c. search needs) (λ c. search needs) (λ c. search needs) slice-aggregate-route-in
+    route-in-requires (λ c κs. search needs) (λ c κs. search needs) take-route-requires (λ c. search needs)
+    (λ c. search needs) returns)

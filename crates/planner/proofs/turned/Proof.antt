@@ -5,12 +5,6 @@ use borrow.Author.Needs.{needs}
 use Rattle.planner.proofs.turned.Statement.{statement}
 use Rattle.planner.proofs.turned.Tie as tie
 
-enum-known-checked : tie.Need-enum-known-checked
-enum-known-checked c = search needs
-
-enum-told : tie.Need-enum-told
-enum-told c = search needs
-
 returns : tie.Need-returns
 unfolding resultOf madeIf verdictOf
 returns c = rw (c .before .checked .given .1)
@@ -20,4 +14,4 @@ unfolding resultOf madeIf verdictOf
 returns-2 c = rw (c .enum-told .given .1)
 
 pub turned-spec : {M : Type 1} → statement M
-turned-spec = tie.close (tie.spec enum-known-checked enum-told returns returns-2)
+turned-spec = tie.close (tie.spec (λ c. search needs) (λ c. search needs) returns returns-2)

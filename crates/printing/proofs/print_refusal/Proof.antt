@@ -10,15 +10,11 @@ returns : tie.Need-returns
 unfolding outcomeOf RefusalPut
 returns c = text-short _ _ _ _ _ (c .if1 .taken)
 
-put-refusal-requires : tie.Need-put-refusal-requires
-put-refusal-requires c κs = search needs
-
-same-length : tie.Need-same-length
-same-length c = search needs
-
 returns-2 : tie.Need-returns-2
 unfolding outcomeOf RefusalPut
-returns-2 c = text-fits _ _ _ _ _ _ _ (c .before .before .before .before .if1 .left) (c .before .before .put-refusal .ensures)
+returns-2 c =
+    let else1 : tie.Else1 = search in
+    text-fits _ _ _ _ _ _ _ (else1 .if1 .left) (c .before .before .put-refusal .ensures)
 
 pub print-refusal-spec : {M : Type 1} → statement M
-print-refusal-spec = tie.close (tie.spec returns put-refusal-requires same-length returns-2)
+print-refusal-spec = tie.close (tie.spec returns (λ c κs. search needs) (λ c. search needs) returns-2)

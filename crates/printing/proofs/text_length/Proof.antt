@@ -5,18 +5,9 @@ use borrow.Author.Needs.{needs}
 use Rattle.printing.proofs.text_length.Statement.{statement}
 use Rattle.printing.proofs.text_length.Tie as tie
 
-cast-result : tie.Need-cast-result
-cast-result c = search needs
-
-mul-result : tie.Need-mul-result
-mul-result c = search needs
-
-add-result : tie.Need-add-result
-add-result c = search needs
-
 returns : tie.Need-returns
 unfolding textLength
 returns c = refl
 
 pub text-length-spec : {M : Type 1} → statement M
-text-length-spec = tie.close (tie.spec cast-result mul-result add-result returns)
+text-length-spec = tie.close (tie.spec (λ c. search needs) (λ c. search needs) (λ c. search needs) returns)

@@ -15,27 +15,9 @@ Inv-loop goal horizon r last a₀ t₀ a t = (t ≤ last + 1) × (a ≤ t) × (a
 abbrev μ-loop : tie.MeasureT-loop
 μ-loop goal horizon r last a₀ t₀ a t = last + 1 - t
 
-last-beat-requires : tie.Need-last-beat-requires Inv-loop μ-loop
-last-beat-requires c κs = search needs
-
 loop-holds : tie.Need-loop-holds Inv-loop μ-loop
 unfolding settled
 loop-holds c = (search needs, search needs, refl)
-
-mul-if1 : tie.Need-mul-if1 Inv-loop μ-loop
-mul-if1 c = search needs
-
-array-read-if1 : tie.Need-array-read-if1 Inv-loop μ-loop
-array-read-if1 c = search needs
-
-add-a : tie.Need-add-a Inv-loop μ-loop
-add-a c = search needs
-
-add-t : tie.Need-add-t Inv-loop μ-loop
-add-t c = search needs
-
-loop-less : tie.Need-loop-less Inv-loop μ-loop
-loop-less c = search needs
 
 loop-again : tie.Need-loop-again Inv-loop μ-loop
 loop-again c =
@@ -44,9 +26,6 @@ loop-again c =
     (λ w. (search needs, search needs, w .1 ∙ c .before .before .loop .inv .2 ∙ settled-turn-there _ _ _ (w .0 .left)))
     (c .if1 .came)
 
-cast-result : tie.Need-cast-result Inv-loop μ-loop
-cast-result c = search needs
-
 returns : tie.Need-returns Inv-loop μ-loop
 returns c =
     settled-ends _ _ _ _ _ _ (c .before .loop .inv .0) (c .loop-test .left) (c .before .before .last-beat .ensures .0)
@@ -54,17 +33,5 @@ returns c =
 
 pub arrival-spec : {M : Type 1} → statement M
 arrival-spec =
-    tie.close
-    (tie.spec
-    Inv-loop
-    μ-loop
-    last-beat-requires
-    loop-holds
-    mul-if1
-    array-read-if1
-    add-a
-    add-t
-    loop-less
-    loop-again
-    cast-result
-    returns)
+    tie.close (tie.spec Inv-loop μ-loop (λ c κs. search needs) loop-holds (λ c. search needs) (λ c. search needs)
+    (λ c. search needs) (λ c. search needs) (λ c. search needs) loop-again (λ c. search needs) returns)

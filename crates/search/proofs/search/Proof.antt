@@ -10,15 +10,6 @@ use borrow.Author.Needs.{needs}
 use Rattle.search.proofs.search.Statement.{statement}
 use Rattle.search.proofs.search.Tie as tie
 
-request-requires : tie.Need-request-requires
-request-requires c κs = search needs
-
-enum-known-asked : tie.Need-enum-known-asked
-enum-known-asked c = search needs
-
-enum-told : tie.Need-enum-told
-enum-told c = search needs
-
 free-rows-requires : tie.Need-free-rows-requires
 free-rows-requires c κs =
     let g = (request-granted _ _ _ _ (passes (c .before .before .request .ensures) (c .enum-told .given .1))) in
@@ -27,35 +18,25 @@ free-rows-requires c κs =
 
 best-route-requires : tie.Need-best-route-requires
 best-route-requires c κs =
-    granted-searchable _ _ _ _ _ (request-granted _ _ _ _ (passes (c .before .before .before .request .ensures)
+    let after-request : tie.After-request = search in
+    granted-searchable _ _ _ _ _ (request-granted _ _ _ _ (passes (after-request .request .ensures)
     (c .before .enum-told .given .1))) (c .free-rows .ensures)
 
 returns : tie.Need-returns
 unfolding searchOf
 returns c =
-    let c₄ = c .before .before .before .before in
+    let after-request : tie.After-request = search in
     says-same (c .best-route .ensures)
-    (ap answered (c .before .free-rows .ensures .same _ _) ∙ answered-passed _ (passes (c₄ .request .ensures)
+    (ap answered (c .before .free-rows .ensures .same _ _) ∙ answered-passed _ (passes (after-request .request .ensures)
     (c .before .before .enum-told .given .1)))
-
-refused-requires : tie.Need-refused-requires
-refused-requires c κs = search needs
 
 returns-2 : tie.Need-returns-2
 unfolding searchOf
 returns-2 c =
-    let c₄ = c .before .before .before .before in
-    says-same (c .refused .ensures) (answered-refused _ (refuses (c₄ .request .ensures) (c .before .before .asked .given .1)))
+    let after-request : tie.After-request = search in
+    says-same (c .refused .ensures) (answered-refused _ (refuses (after-request .request .ensures) (c .before .before .asked .given .1)))
 
 pub search-spec : {M : Type 1} → statement M
 search-spec =
-    tie.close
-    (tie.spec
-    request-requires
-    enum-known-asked
-    enum-told
-    free-rows-requires
-    best-route-requires
-    returns
-    refused-requires
-    returns-2)
+    tie.close (tie.spec (λ c κs. search needs) (λ c. search needs) (λ c. search needs) free-rows-requires
+    best-route-requires returns (λ c κs. search needs) returns-2)

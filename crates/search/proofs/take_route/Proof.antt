@@ -10,15 +10,17 @@ scene-of-requires c κs = (c .before .before .pre .0 .0, c .before .before .pre 
 take-one-requires : tie.Need-take-one-requires
 unfolding sceneOf
 take-one-requires c κs =
-    let c₄ = c .before .before .before .before in
-    let pre = c₄ .pre in
-    rw (c .before .scene-of .ensures) (scene-grid (c₄ .args .f) (pre .0 .0) (pre .0 .1) (pre .0 .2), pre .1 .0, pre .0 .3, pre .1 .1)
+    let start : tie.Start = search in
+    let pre = start .pre in
+    rw (c .before .scene-of .ensures) (scene-grid (start .args .f) (pre .0 .0) (pre .0 .1) (pre .0 .2), pre .1 .0, pre .0 .3, pre .1 .1)
 
 same-length : tie.Need-same-length
 same-length c = c .before .before .take-one .kept .1 .0
 
 returns : tie.Need-returns
-returns c = rw (c .before .before .before .before .scene-of .ensures) at (c .before .before .take-one .ensures)
+returns c =
+    let after-scene-of : tie.After-scene-of = search in
+    rw (after-scene-of .scene-of .ensures) at (c .before .before .take-one .ensures)
 
 pub take-route-spec : {M : Type 1} → statement M
 take-route-spec = tie.close (tie.spec scene-of-requires take-one-requires same-length returns)

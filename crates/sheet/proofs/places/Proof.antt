@@ -19,49 +19,32 @@ floor-requires c κs =
     let t = form-tells _ (c .before .pre) in
     ((t .bounds .width .1, t .bounds .height .1), (t .bounds .carriers .1, omega (arith, t .size)))
 
-no-walls-requires : tie.Need-no-walls-requires
-no-walls-requires c κs = search needs
-
-slice-aggregate-walls : tie.Need-slice-aggregate-walls
-slice-aggregate-walls c = search needs
-
 walls-requires : tie.Need-walls-requires
 unfolding headAt floorAt
 walls-requires c κs =
-    let c₄ = c .before .before .before .before in
-    let t = form-tells _ (c₄ .pre) in
+    let start : tie.Start = search in
+    let t = form-tells _ (start .pre) in
     rw (c .before .before .floor .ensures) (
       (t .bounds .width .1, t .bounds .height .1),
       ((t .bounds .carriers .1, omega (arith, t .bounds .walls .1, c .before .no-walls .ensures)), omega (arith, t .size)),
     )
 
-slice-aggregate-check : tie.Need-slice-aggregate-check
-slice-aggregate-check c = search needs
-
-check-requires : tie.Need-check-requires
-check-requires c κs = search needs
-
 returns : tie.Need-returns
 unfolding wallsAt
 returns c =
-    let c₄ = c .before .before .before .before in
-    let c₈ = c₄ .before .before .before .before in
-    let text = now (c₈ .args .text) in
-    let f = c₄ .before .before .floor in
-    let rest = c₄ .before .no-walls .result in
+    let after-walls : tie.After-walls = search in
+    let after-no-walls : tie.After-no-walls = search in
+    let after-floor : tie.After-floor = search in
+    let start : tie.Start = search in
+    let text = now (start .args .text) in
+    let f = after-floor .floor in
+    let rest = after-no-walls .no-walls .result in
     c .check .ensures
-    ∙ ap₂ checkOf (f .ensures) (c .before .before .before .walls .ensures
+    ∙ ap₂ checkOf (f .ensures) (after-walls .walls .ensures
     ∙ ap (λ (g : Floor). wallsFrom text g ++ drop (g .walls) rest) (f .ensures))
-    ∙ checked-places text (drop (floorAt text .walls) rest) (c₈ .pre)
+    ∙ checked-places text (drop (floorAt text .walls) rest) (start .pre)
 
 pub places-spec : {M : Type 1} → statement M
 places-spec =
-    tie.close
-    (tie.spec
-    floor-requires
-    no-walls-requires
-    slice-aggregate-walls
-    walls-requires
-    slice-aggregate-check
-    check-requires
-    returns)
+    tie.close (tie.spec floor-requires (λ c κs. search needs) (λ c. search needs) walls-requires (λ c. search needs)
+    (λ c κs. search needs) returns)

@@ -15,23 +15,12 @@ use borrow.Author.Needs.{needs}
 use Rattle.sheet.proofs.read.Statement.{statement}
 use Rattle.sheet.proofs.read.Tie as tie
 
-check-requires : tie.Need-check-requires
-check-requires c κs = search needs
-
-enum-told : tie.Need-enum-told
-enum-told c = search needs
-
-enum-told-2 : tie.Need-enum-told-2
-enum-told-2 c = search needs
-
-fresh-requires : tie.Need-fresh-requires
-fresh-requires c κs = search needs
-
 returns : tie.Need-returns
 unfolding readFloor readWalls
 returns c =
-    let no = refuses (c .before .before .before .check .ensures) (c .before .enum-told2 .given .1) in
-    (c .before .before .before .check .ensures, (c .fresh .ensures ∙ sym (chosen-refused _ _ no), sym (chosen-refused _ _ no)))
+    let after-check : tie.After-check = search in
+    let no = refuses (after-check .check .ensures) (c .before .enum-told2 .given .1) in
+    (after-check .check .ensures, (c .fresh .ensures ∙ sym (chosen-refused _ _ no), sym (chosen-refused _ _ no)))
 
 floor-requires : tie.Need-floor-requires
 unfolding headAt
@@ -43,24 +32,23 @@ floor-requires c κs =
 walls-requires : tie.Need-walls-requires
 unfolding headAt floorAt
 walls-requires c κs =
-    let c₄ = c .before .before .before .before in
-    let ok = read-tells _ _ (passes (c₄ .check .ensures) (c .before .before .enum-told .given .1)) in
+    let after-check : tie.After-check = search in
+    let ok = read-tells _ _ (passes (after-check .check .ensures) (c .before .before .enum-told .given .1)) in
     let t = form-tells _ (ok .form) in
     rw (c .before .floor .ensures)
     ((t .bounds .width .1, t .bounds .height .1), ((t .bounds .carriers .1, ok .room-there), omega (arith, t .size)))
 
-same-length : tie.Need-same-length
-same-length c = search needs
-
 returns-2 : tie.Need-returns-2
 unfolding readFloor readWalls verdictOf wallsAt
 returns-2 c =
-    let c₄ = c .before .before .before .before in
-    let c₈ = c₄ .before .before .before .before in
-    let text = now (c₈ .before .before .args .text) in
-    let old = now (c₈ .before .before .args .walls) in
-    let ok = passes (c₄ .before .before .before .check .ensures) (c₄ .before .enum-told .given .1) in
-    let f = c₄ .floor .ensures in (
+    let after-floor : tie.After-floor = search in
+    let after-enum-told : tie.After-enum-told = search in
+    let after-check : tie.After-check = search in
+    let start : tie.Start = search in
+    let text = now (start .args .text) in
+    let old = now (start .args .walls) in
+    let ok = passes (after-check .check .ensures) (after-enum-told .enum-told .given .1) in
+    let f = after-floor .floor .ensures in (
       sym ok,
       (
         f ∙ sym (chosen-passed _ _ ok),
@@ -72,14 +60,5 @@ returns-2 c =
 
 pub read-spec : {M : Type 1} → statement M
 read-spec =
-    tie.close
-    (tie.spec
-    check-requires
-    enum-told
-    enum-told-2
-    fresh-requires
-    returns
-    floor-requires
-    walls-requires
-    same-length
-    returns-2)
+    tie.close (tie.spec (λ c κs. search needs) (λ c. search needs) (λ c. search needs) (λ c κs. search needs) returns
+    floor-requires walls-requires (λ c. search needs) returns-2)

@@ -5,17 +5,8 @@ use Rattle.tables.proofs.PlaceLaws.{place-made}
 use Rattle.tables.proofs.place_of.Statement.{statement}
 use Rattle.tables.proofs.place_of.Tie as tie
 
-row-of-requires : tie.Need-row-of-requires
-row-of-requires c κs = search needs
-
-mul-t5 : tie.Need-mul-t5
-mul-t5 c = search needs
-
-sub-t6 : tie.Need-sub-t6
-sub-t6 c = search needs
-
 returns : tie.Need-returns
 returns c = place-made _ _ _ (c .before .pre .0) (c .before .pre .1) (c .row-of .ensures .0) (c .row-of .ensures .1) refl
 
 pub place-of-spec : {M : Type 1} → statement M
-place-of-spec = tie.close (tie.spec row-of-requires mul-t5 sub-t6 returns)
+place-of-spec = tie.close (tie.spec (λ c κs. search needs) (λ c. search needs) (λ c. search needs) returns)

@@ -19,60 +19,20 @@ abbrev μ-loop : tie.MeasureT-loop
 loop-holds : tie.Need-loop-holds Inv-loop μ-loop
 loop-holds c = (search needs, λ e. within-none _ _ _ _)
 
-add-without : tie.Need-add-without Inv-loop μ-loop
-add-without c = search needs
-
-mul-without : tie.Need-mul-without Inv-loop μ-loop
-mul-without c = search needs
-
-shared-slice-read-without : tie.Need-shared-slice-read-without Inv-loop μ-loop
-shared-slice-read-without c = search needs
-
-add-without-2 : tie.Need-add-without-2 Inv-loop μ-loop
-add-without-2 c = search needs
-
-mul-without-2 : tie.Need-mul-without-2 Inv-loop μ-loop
-mul-without-2 c = search needs
-
-shared-slice-read-without-2 : tie.Need-shared-slice-read-without-2 Inv-loop μ-loop
-shared-slice-read-without-2 c = search needs
-
-without-requires : tie.Need-without-requires Inv-loop μ-loop
-without-requires c κs = search needs
-
-add-r : tie.Need-add-r Inv-loop μ-loop
-add-r c = search needs
-
-loop-less : tie.Need-loop-less Inv-loop μ-loop
-loop-less c = search needs
-
 loop-again : tie.Need-loop-again Inv-loop μ-loop
 loop-again c =
-    let c₄ = c .before .before .before .before in
-    (search needs, within-more _ _ _ _ _ _ _ _ (c .without .ensures) refl (c₄ .loop .inv .1))
+    let at-loop : tie.At-loop Inv-loop μ-loop = search in
+    (search needs, within-more _ _ _ _ _ _ _ _ (c .without .ensures) refl (at-loop .loop .inv .1))
 
 returns : tie.Need-returns Inv-loop μ-loop
 returns c =
-    let c₄ = c .before .before .before .before in
-    λ e. let q : c .before .loop .r ≡ c₄ .args .n = omega arith in
+    let start : tie.Start Inv-loop μ-loop = search in
+    λ e. let q : c .before .loop .r ≡ start .args .n = omega arith in
     let z : c .before .loop .x ≡ 0 = eqb-true _ _ (not-false _ e) in
     rw q at (c .before .loop .inv .1 z)
 
 pub meets-spec : {M : Type 1} → statement M
 meets-spec =
-    tie.close
-    (tie.spec
-    Inv-loop
-    μ-loop
-    loop-holds
-    add-without
-    mul-without
-    shared-slice-read-without
-    add-without-2
-    mul-without-2
-    shared-slice-read-without-2
-    without-requires
-    add-r
-    loop-less
-    loop-again
-    returns)
+    tie.close (tie.spec Inv-loop μ-loop loop-holds (λ c. search needs) (λ c. search needs) (λ c. search needs)
+    (λ c. search needs) (λ c. search needs) (λ c. search needs) (λ c κs. search needs) (λ c. search needs)
+    (λ c. search needs) loop-again returns)

@@ -5,14 +5,8 @@ use Rattle.words.proofs.ScaleLaws.{scale-bounds}
 use Rattle.words.proofs.scale.Statement.{statement}
 use Rattle.words.proofs.scale.Tie as tie
 
-div-result : tie.Need-div-result
-div-result c = search needs
-
 add-result : tie.Need-add-result
 add-result c = omega (arith, scale-bounds (c .args .w) (c .pre .0) (c .pre .1))
 
-returns : tie.Need-returns
-returns c = search needs
-
 pub scale-spec : {M : Type 1} → statement M
-scale-spec = tie.close (tie.spec div-result add-result returns)
+scale-spec = tie.close (tie.spec (λ c. search needs) add-result (λ c. search needs))

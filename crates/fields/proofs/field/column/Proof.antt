@@ -10,18 +10,9 @@ returns : tie.Need-returns
 unfolding column
 returns c = rw (lt-ltb (c .before .args .v) (c .before .args .p) (omega arith))
 
-div-result : tie.Need-div-result
-div-result c = search needs
-
-add-result : tie.Need-add-result
-add-result c = search needs
-
-cast-result : tie.Need-cast-result
-cast-result c = search needs
-
 returns-2 : tie.Need-returns-2
 unfolding column
 returns-2 c = rw (le-ltb (c .before .args .v) (c .before .args .p) (omega arith))
 
 pub column-spec : {M : Type 1} → statement M
-column-spec = tie.close (tie.spec returns div-result add-result cast-result returns-2)
+column-spec = tie.close (tie.spec returns (λ c. search needs) (λ c. search needs) (λ c. search needs) returns-2)

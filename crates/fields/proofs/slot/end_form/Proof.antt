@@ -7,9 +7,6 @@ use borrow.Author.Needs.{needs}
 use Rattle.fields.proofs.slot.end_form.Statement.{statement}
 use Rattle.fields.proofs.slot.end_form.Tie as tie
 
-malformed-requires : tie.Need-malformed-requires
-malformed-requires c κs = search needs
-
 returns : tie.Need-returns
 unfolding endForm demand
 returns c = rw (lt-leb _ _ (c .before .if1 .taken)) (c .malformed .ensures)
@@ -19,4 +16,4 @@ unfolding endForm verdictOf demand
 returns-2 c = rw (le-leb _ _ (c .if1 .left))
 
 pub end-form-spec : {M : Type 1} → statement M
-end-form-spec = tie.close (tie.spec malformed-requires returns returns-2)
+end-form-spec = tie.close (tie.spec (λ c κs. search needs) returns returns-2)

@@ -7,27 +7,16 @@ use borrow.Author.Needs.{needs}
 use Rattle.fields.proofs.slot.field_form.Statement.{statement}
 use Rattle.fields.proofs.slot.field_form.Tie as tie
 
-add-if1 : tie.Need-add-if1
-add-if1 c = search needs
-
-malformed-requires : tie.Need-malformed-requires
-malformed-requires c κs = search needs
-
 returns : tie.Need-returns
 unfolding fieldForm demand _then_
 returns c = rw (lt-leb _ _ (c .before .if1 .taken)) (c .malformed .ensures)
 
-is-field-requires : tie.Need-is-field-requires
-is-field-requires c κs = search needs
-
-malformed-requires-2 : tie.Need-malformed-requires-2
-malformed-requires-2 c κs = search needs
-
 returns-2 : tie.Need-returns-2
 unfolding fieldForm demand _then_
 returns-2 c =
+    let else1 : tie.Else1 = search in
     let field = c .before .before .is-field in
-    rw (le-leb _ _ (c .before .before .before .if1 .left), ← field .ensures, not-true (field .result) (c .before .if2 .taken))
+    rw (le-leb _ _ (else1 .if1 .left), ← field .ensures, not-true (field .result) (c .before .if2 .taken))
     (c .malformed2 .ensures)
 
 returns-3 : tie.Need-returns-3
@@ -38,12 +27,5 @@ returns-3 c =
 
 pub field-form-spec : {M : Type 1} → statement M
 field-form-spec =
-    tie.close
-    (tie.spec
-    add-if1
-    malformed-requires
-    returns
-    is-field-requires
-    malformed-requires-2
-    returns-2
-    returns-3)
+    tie.close (tie.spec (λ c. search needs) (λ c κs. search needs) returns (λ c κs. search needs) (λ c κs. search needs)
+    returns-2 returns-3)

@@ -7,23 +7,15 @@ use borrow.Author.Needs.{needs}
 use Rattle.fields.proofs.slot.newline_form.Statement.{statement}
 use Rattle.fields.proofs.slot.newline_form.Tie as tie
 
-malformed-requires : tie.Need-malformed-requires
-malformed-requires c κs = search needs
-
 returns : tie.Need-returns
 unfolding newlineForm demand _then_
 returns c = rw (le-ltb _ _ (c .before .if1 .taken)) (c .malformed .ensures)
 
-shared-slice-read-if2 : tie.Need-shared-slice-read-if2
-shared-slice-read-if2 c = search needs
-
-malformed-requires-2 : tie.Need-malformed-requires-2
-malformed-requires-2 c κs = search needs
-
 returns-2 : tie.Need-returns-2
 unfolding newlineForm demand _then_
 returns-2 c =
-    rw (lt-ltb _ _ (c .before .before .before .if1 .left), ne-eqb _ _ (c .before .if2 .taken))
+    let else1 : tie.Else1 = search in
+    rw (lt-ltb _ _ (else1 .if1 .left), ne-eqb _ _ (c .before .if2 .taken))
     (c .malformed2 .ensures)
 
 returns-3 : tie.Need-returns-3
@@ -33,11 +25,4 @@ returns-3 c =
 
 pub newline-form-spec : {M : Type 1} → statement M
 newline-form-spec =
-    tie.close
-    (tie.spec
-    malformed-requires
-    returns
-    shared-slice-read-if2
-    malformed-requires-2
-    returns-2
-    returns-3)
+    tie.close (tie.spec (λ c κs. search needs) returns (λ c. search needs) (λ c κs. search needs) returns-2 returns-3)

@@ -16,36 +16,23 @@ Inv-loop f n i₀ i = (i ≤ n) × (each 3 1 (carrierInGrid f) i ≡ passed)
 abbrev μ-loop : tie.MeasureT-loop
 μ-loop f n i₀ i = n - i
 
-cast-n : tie.Need-cast-n Inv-loop μ-loop
-cast-n c = search needs
-
 loop-holds : tie.Need-loop-holds Inv-loop μ-loop
 loop-holds c = (search needs, each-none _ _ _)
-
-carrier-inside-requires : tie.Need-carrier-inside-requires Inv-loop μ-loop
-carrier-inside-requires c κs = search needs
-
-add-t6 : tie.Need-add-t6 Inv-loop μ-loop
-add-t6 c = search needs
 
 returns : tie.Need-returns Inv-loop μ-loop
 unfolding verdictOf carriersOf
 returns c =
-    sym (each-stop 3 1 _ _ _ (c .before .before .loop-test .taken) (c .before .before .before .loop .inv .1)
+    let at-loop : tie.At-loop Inv-loop μ-loop = search in
+    sym (each-stop 3 1 _ _ _ (c .before .before .loop-test .taken) (at-loop .loop .inv .1)
     (sym (c .before .carrier-inside .ensures) ∙ not-true _ (c .if1 .taken)))
 
-add-i : tie.Need-add-i Inv-loop μ-loop
-add-i c = search needs
-
-loop-less : tie.Need-loop-less Inv-loop μ-loop
-loop-less c = search needs
-
 loop-again : tie.Need-loop-again Inv-loop μ-loop
-loop-again c = (
-  search needs,
-  each-more 3 1 _ _ (c .before .before .before .loop .inv .1)
-      (sym (c .before .carrier-inside .ensures) ∙ not-false _ (c .if1 .left)),
-)
+loop-again c =
+    let at-loop : tie.At-loop Inv-loop μ-loop = search in (
+      search needs,
+      each-more 3 1 _ _ (at-loop .loop .inv .1)
+          (sym (c .before .carrier-inside .ensures) ∙ not-false _ (c .if1 .left)),
+    )
 
 returns-2 : tie.Need-returns-2 Inv-loop μ-loop
 unfolding verdictOf carriersOf
@@ -53,16 +40,5 @@ returns-2 c = each-end 3 1 _ (c .before .loop .i) _ (c .before .loop .inv .0) (c
 
 pub carriers-inside-spec : {M : Type 1} → statement M
 carriers-inside-spec =
-    tie.close
-    (tie.spec
-    Inv-loop
-    μ-loop
-    cast-n
-    loop-holds
-    carrier-inside-requires
-    add-t6
-    returns
-    add-i
-    loop-less
-    loop-again
-    returns-2)
+    tie.close (tie.spec Inv-loop μ-loop (λ c. search needs) loop-holds (λ c κs. search needs) (λ c. search needs)
+    returns (λ c. search needs) (λ c. search needs) loop-again returns-2)

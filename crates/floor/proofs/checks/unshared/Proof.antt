@@ -7,15 +7,6 @@ use borrow.Author.Needs.{needs}
 use Rattle.floor.proofs.checks.unshared.Statement.{statement}
 use Rattle.floor.proofs.checks.unshared.Tie as tie
 
-mul-start : tie.Need-mul-start
-mul-start c = search needs
-
-array-read-start : tie.Need-array-read-start
-array-read-start c = search needs
-
-slice-aggregate-among : tie.Need-slice-aggregate-among
-slice-aggregate-among c = search needs
-
 among-requires : tie.Need-among-requires
 among-requires c κs = let e : length (c .before .before .args .f .starts) ≡ 8 = search needs in omega arith
 
@@ -23,35 +14,20 @@ returns : tie.Need-returns
 unfolding unshared startOf goalOf
 returns c = rw (← c .before .among .ensures, c .if1 .taken)
 
-mul-goal : tie.Need-mul-goal
-mul-goal c = search needs
-
-array-read-goal : tie.Need-array-read-goal
-array-read-goal c = search needs
-
-slice-aggregate-among-2 : tie.Need-slice-aggregate-among-2
-slice-aggregate-among-2 c = search needs
-
 among-requires-2 : tie.Need-among-requires-2
 among-requires-2 c κs =
-    let e : length (c .before .before .before .before .before .before .args .f .goals) ≡ 8 = search needs in
+    let start : tie.Start = search in
+    let e : length (start .args .f .goals) ≡ 8 = search needs in
     omega arith
 
 returns-2 : tie.Need-returns-2
 unfolding unshared startOf goalOf
-returns-2 c = rw (← c .before .before .before .before .among .ensures, c .before .before .before .if1 .left, ← c .among2 .ensures)
+returns-2 c =
+    let else1 : tie.Else1 = search in
+    let after-among : tie.After-among = search in
+    rw (← after-among .among .ensures, else1 .if1 .left, ← c .among2 .ensures)
 
 pub unshared-spec : {M : Type 1} → statement M
 unshared-spec =
-    tie.close
-    (tie.spec
-    mul-start
-    array-read-start
-    slice-aggregate-among
-    among-requires
-    returns
-    mul-goal
-    array-read-goal
-    slice-aggregate-among-2
-    among-requires-2
-    returns-2)
+    tie.close (tie.spec (λ c. search needs) (λ c. search needs) (λ c. search needs) among-requires returns
+    (λ c. search needs) (λ c. search needs) (λ c. search needs) among-requires-2 returns-2)

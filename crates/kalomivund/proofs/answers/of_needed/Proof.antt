@@ -9,18 +9,6 @@ use borrow.Author.Needs.{needs}
 use Rattle.kalomivund.proofs.answers.of_needed.Statement.{statement}
 use Rattle.kalomivund.proofs.answers.of_needed.Tie as tie
 
-enum-told : tie.Need-enum-told
-enum-told c = search needs
-
-done-requires : tie.Need-done-requires
-done-requires c κs = search needs
-
-enum-known-x : tie.Need-enum-known-x
-enum-known-x c = search needs
-
-turned-requires : tie.Need-turned-requires
-turned-requires c κs = search needs
-
 returns : tie.Need-returns
 unfolding ofFigures figuresOf ofVerdict roomOf demand
 returns c = c .done .ensures ∙ rw (c .before .enum-told .given .1) refl
@@ -31,4 +19,5 @@ returns-2 c = c .turned .ensures ∙ rw (c .before .before .x .given .1) refl
 
 pub of-needed-spec : {M : Type 1} → statement M
 of-needed-spec =
-    tie.close (tie.spec enum-told done-requires enum-known-x turned-requires returns returns-2)
+    tie.close (tie.spec (λ c. search needs) (λ c κs. search needs) (λ c. search needs) (λ c κs. search needs) returns
+    returns-2)

@@ -6,18 +6,6 @@ use borrow.Author.Needs.{needs}
 use Rattle.kalomivund.proofs.answers.of_plan.Statement.{statement}
 use Rattle.kalomivund.proofs.answers.of_plan.Tie as tie
 
-enum-known-x : tie.Need-enum-known-x
-enum-known-x c = search needs
-
-done-requires : tie.Need-done-requires
-done-requires c κs = search needs
-
-enum-known-x-2 : tie.Need-enum-known-x-2
-enum-known-x-2 c = search needs
-
-turned-requires : tie.Need-turned-requires
-turned-requires c κs = search needs
-
 returns : tie.Need-returns
 unfolding ofPlan resultOf
 returns c = c .done .ensures ∙ rw (c .before .before .x .given .1) refl
@@ -28,5 +16,5 @@ returns-2 c = c .turned .ensures ∙ rw (c .before .before .x2 .given .1) refl
 
 pub of-plan-spec : {M : Type 1} → statement M
 of-plan-spec =
-    tie.close
-    (tie.spec enum-known-x done-requires enum-known-x-2 turned-requires returns returns-2)
+    tie.close (tie.spec (λ c. search needs) (λ c κs. search needs) (λ c. search needs) (λ c κs. search needs) returns
+    returns-2)

@@ -6,30 +6,6 @@ use borrow.Author.Needs.{needs}
 use Rattle.kalomivund.proofs.answers.of_run.Statement.{statement}
 use Rattle.kalomivund.proofs.answers.of_run.Tie as tie
 
-enum-known-x : tie.Need-enum-known-x
-enum-known-x c = search needs
-
-done-requires : tie.Need-done-requires
-done-requires c κs = search needs
-
-enum-known-x-2 : tie.Need-enum-known-x-2
-enum-known-x-2 c = search needs
-
-done-requires-2 : tie.Need-done-requires-2
-done-requires-2 c κs = search needs
-
-enum-known-x-3 : tie.Need-enum-known-x-3
-enum-known-x-3 c = search needs
-
-done-requires-3 : tie.Need-done-requires-3
-done-requires-3 c κs = search needs
-
-enum-known-x-4 : tie.Need-enum-known-x-4
-enum-known-x-4 c = search needs
-
-turned-requires : tie.Need-turned-requires
-turned-requires c κs = search needs
-
 returns : tie.Need-returns
 unfolding ofReply endCase ranReply
 returns c = c .done .ensures ∙ rw (c .before .before .x .given .1) refl
@@ -48,17 +24,6 @@ returns-4 c = c .turned .ensures ∙ rw (c .before .before .x4 .given .1) refl
 
 pub of-run-spec : {M : Type 1} → statement M
 of-run-spec =
-    tie.close
-    (tie.spec
-    enum-known-x
-    done-requires
-    enum-known-x-2
-    done-requires-2
-    enum-known-x-3
-    done-requires-3
-    enum-known-x-4
-    turned-requires
-    returns
-    returns-2
-    returns-3
+    tie.close (tie.spec (λ c. search needs) (λ c κs. search needs) (λ c. search needs) (λ c κs. search needs)
+    (λ c. search needs) (λ c κs. search needs) (λ c. search needs) (λ c κs. search needs) returns returns-2 returns-3
     returns-4)

@@ -24,40 +24,25 @@ abbrev μ-loop : tie.MeasureT-loop
 loop-holds : tie.Need-loop-holds Inv-loop μ-loop
 loop-holds c = (omega arith, names-none 7 0 _)
 
-mul-step-of : tie.Need-mul-step-of Inv-loop μ-loop
-mul-step-of c = search needs
-
-shared-slice-read-step-of : tie.Need-shared-slice-read-step-of Inv-loop μ-loop
-shared-slice-read-step-of c = search needs
-
-step-of-requires : tie.Need-step-of-requires Inv-loop μ-loop
-step-of-requires c κs = search needs
-
-is-named-requires : tie.Need-is-named-requires Inv-loop μ-loop
-is-named-requires c κs = search needs
-
 returns : tie.Need-returns Inv-loop μ-loop
 unfolding verdictOf namedAt
 returns c =
-    let c₄ = c .before .before .before .before in
-    let no = ap (named (bare (c₄ .before .before .before .args .f))) (sym (c .before .before .step-of .ensures)) ∙ sym
+    let in-loop : tie.In-loop Inv-loop μ-loop = search in
+    let at-loop : tie.At-loop Inv-loop μ-loop = search in
+    let start : tie.Start Inv-loop μ-loop = search in
+    let no = ap (named (bare (start .args .f))) (sym (c .before .before .step-of .ensures)) ∙ sym
     (c .before .is-named .ensures) ∙ not-true _ (c .if1 .taken) in
-    ap (turnedAway 7) (sym (zero-add (c₄ .before .loop .p))) ∙ sym
-    (names-stop 7 0 _ _ _ (c₄ .loop-test .taken) (c₄ .before .loop .inv .1) no)
-
-add-p : tie.Need-add-p Inv-loop μ-loop
-add-p c = search needs
-
-loop-less : tie.Need-loop-less Inv-loop μ-loop
-loop-less c = search needs
+    ap (turnedAway 7) (sym (zero-add (at-loop .loop .p))) ∙ sym
+    (names-stop 7 0 _ _ _ (in-loop .loop-test .taken) (at-loop .loop .inv .1) no)
 
 loop-again : tie.Need-loop-again Inv-loop μ-loop
 unfolding namedAt
 loop-again c =
-    let c₄ = c .before .before .before .before in
-    let yes = ap (named (bare (c₄ .before .before .before .args .f))) (sym (c .before .before .step-of .ensures)) ∙ sym
+    let at-loop : tie.At-loop Inv-loop μ-loop = search in
+    let start : tie.Start Inv-loop μ-loop = search in
+    let yes = ap (named (bare (start .args .f))) (sym (c .before .before .step-of .ensures)) ∙ sym
     (c .before .is-named .ensures) ∙ not-false _ (c .if1 .left) in
-    (search needs, names-more 7 0 _ _ (c₄ .before .loop .inv .1) yes)
+    (search needs, names-more 7 0 _ _ (at-loop .loop .inv .1) yes)
 
 returns-2 : tie.Need-returns-2 Inv-loop μ-loop
 unfolding verdictOf
@@ -65,17 +50,5 @@ returns-2 c = names-end 7 0 _ _ _ (c .before .loop .inv .0) (omega arith) (c .be
 
 pub all-named-spec : {M : Type 1} → statement M
 all-named-spec =
-    tie.close
-    (tie.spec
-    Inv-loop
-    μ-loop
-    loop-holds
-    mul-step-of
-    shared-slice-read-step-of
-    step-of-requires
-    is-named-requires
-    returns
-    add-p
-    loop-less
-    loop-again
-    returns-2)
+    tie.close (tie.spec Inv-loop μ-loop loop-holds (λ c. search needs) (λ c. search needs) (λ c κs. search needs)
+    (λ c κs. search needs) returns (λ c. search needs) (λ c. search needs) loop-again returns-2)

@@ -12,15 +12,6 @@ use borrow.Author.Needs.{needs}
 use Rattle.machine.proofs.checks.lent_state.Statement.{statement}
 use Rattle.machine.proofs.checks.lent_state.Tie as tie
 
-lent-place-requires : tie.Need-lent-place-requires
-lent-place-requires c κs = search needs
-
-enum-told : tie.Need-enum-told
-enum-told c = search needs
-
-enum-told-2 : tie.Need-enum-told-2
-enum-told-2 c = search needs
-
 returns : tie.Need-returns
 unfolding stateVerdict
 returns c = ends-at _ (c .before .before .lent-place .ensures) (c .enum-told2 .given .1)
@@ -32,29 +23,19 @@ valid-requires c κs = let a = place-tells _ _ _ (passes (c .before .before .len
 returns-2 : tie.Need-returns-2
 unfolding stateVerdict verdictOf
 returns-2 c =
-    let c₄ = c .before .before .before .before in
-    hands-on (c₄ .lent-place .ensures) (c .before .before .enum-told .given .1)
+    let after-lent-place : tie.After-lent-place = search in
+    hands-on (after-lent-place .lent-place .ensures) (c .before .before .enum-told .given .1)
     (sym (demand-passes 10 0 (sym (c .before .valid .ensures) ∙ c .if1 .taken)))
-
-refused-requires : tie.Need-refused-requires
-refused-requires c κs = search needs
 
 returns-3 : tie.Need-returns-3
 unfolding stateVerdict
 returns-3 c =
-    let c₄ = c .before .before .before .before in
-    hands-on (c₄ .before .lent-place .ensures) (c .before .before .before .enum-told .given .1)
+    let after-enum-told : tie.After-enum-told = search in
+    let after-lent-place : tie.After-lent-place = search in
+    hands-on (after-lent-place .lent-place .ensures) (after-enum-told .enum-told .given .1)
     (c .refused .ensures ∙ ap (λ (b : Bool). demand b 10 0) (sym (c .before .if1 .left) ∙ c .before .before .valid .ensures))
 
 pub lent-state-spec : {M : Type 1} → statement M
 lent-state-spec =
-    tie.close
-    (tie.spec
-    lent-place-requires
-    enum-told
-    enum-told-2
-    returns
-    valid-requires
-    returns-2
-    refused-requires
-    returns-3)
+    tie.close (tie.spec (λ c κs. search needs) (λ c. search needs) (λ c. search needs) returns valid-requires returns-2
+    (λ c κs. search needs) returns-3)

@@ -19,12 +19,6 @@ loop-holds c = (omega arith, refl)
 mul-p : tie.Need-mul-p Inv-loop μ-loop
 mul-p c = search (needs, power-most (c .before .loop .k) (omega (arith, c .loop-test .taken, c .before .before .pre)))
 
-add-k : tie.Need-add-k Inv-loop μ-loop
-add-k c = search needs
-
-loop-less : tie.Need-loop-less Inv-loop μ-loop
-loop-less c = search needs
-
 loop-again : tie.Need-loop-again Inv-loop μ-loop
 loop-again c = (search needs, power-more _ _ (c .before .loop .inv .1))
 
@@ -34,4 +28,4 @@ returns c = let same : c .before .loop .k ≡ c .before .before .args .n = omega
 
 pub two-to-spec : {M : Type 1} → statement M
 two-to-spec =
-    tie.close (tie.spec Inv-loop μ-loop loop-holds mul-p add-k loop-less loop-again returns)
+    tie.close (tie.spec Inv-loop μ-loop loop-holds mul-p (λ c. search needs) (λ c. search needs) loop-again returns)

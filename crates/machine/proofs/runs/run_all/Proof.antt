@@ -28,35 +28,26 @@ unfolding runWith
 returns c = running-spent _ _ _ _ _ _ _ (c .before .loop-test .taken) (c .before .before .loop .inv .0) (c .if1 .taken)
     (c .before .before .loop .inv .1 .1)
 
-mul-try-step : tie.Need-mul-try-step Inv-loop μ-loop
-mul-try-step c = search needs
-
-shared-slice-read-try-step : tie.Need-shared-slice-read-try-step Inv-loop μ-loop
-shared-slice-read-try-step c = search needs
-
 try-step-requires : tie.Need-try-step-requires Inv-loop μ-loop
 try-step-requires c κs =
-    let c₄ = c .before .before .before .before in
-    workable-same _ _ _ _ (c₄ .loop .inv .1 .1 .kept) (c₄ .before .before .before .pre)
+    let at-loop : tie.At-loop Inv-loop μ-loop = search in
+    let start : tie.Start Inv-loop μ-loop = search in
+    workable-same _ _ _ _ (at-loop .loop .inv .1 .1 .kept) (start .pre)
 
 add-taken : tie.Need-add-taken Inv-loop μ-loop
 add-taken c = search (needs, tried-one (c .before .before .try-step .ensures))
 
-add-read : tie.Need-add-read Inv-loop μ-loop
-add-read c = search needs
-
-loop-less : tie.Need-loop-less Inv-loop μ-loop
-loop-less c = search needs
-
 loop-again : tie.Need-loop-again Inv-loop μ-loop
 loop-again c =
-    let c₄ = c .before .before .before .before in
+    let else1 : tie.Else1 Inv-loop μ-loop = search in
+    let in-loop : tie.In-loop Inv-loop μ-loop = search in
+    let at-loop : tie.At-loop Inv-loop μ-loop = search in
     let one = tried-one (c .before .before .try-step .ensures) in (
-      omega (arith, one, c₄ .before .if1 .left),
+      omega (arith, one, else1 .if1 .left),
       (
-        omega (arith, c₄ .before .before .loop-test .taken),
-        running-more _ _ _ _ _ _ _ _ _ (c₄ .before .before .loop-test .taken) (c₄ .before .if1 .left)
-            (c .before .before .try-step .kept .1 .1 .0) (c₄ .before .before .before .loop .inv .1 .1)
+        omega (arith, in-loop .loop-test .taken),
+        running-more _ _ _ _ _ _ _ _ _ (in-loop .loop-test .taken) (else1 .if1 .left)
+            (c .before .before .try-step .kept .1 .1 .0) (at-loop .loop .inv .1 .1)
             (c .before .before .try-step .ensures),
       ),
     )
@@ -70,19 +61,5 @@ returns-2 c = running-end _ _ _ _ _ _ _ (c .loop-test .left) (c .before .loop .i
 
 pub run-all-spec : {M : Type 1} → statement M
 run-all-spec =
-    tie.close
-    (tie.spec
-    Inv-loop
-    μ-loop
-    loop-holds
-    same-length
-    returns
-    mul-try-step
-    shared-slice-read-try-step
-    try-step-requires
-    add-taken
-    add-read
-    loop-less
-    loop-again
-    same-length-2
-    returns-2)
+    tie.close (tie.spec Inv-loop μ-loop loop-holds same-length returns (λ c. search needs) (λ c. search needs)
+    try-step-requires add-taken (λ c. search needs) (λ c. search needs) loop-again same-length-2 returns-2)

@@ -7,41 +7,31 @@ use borrow.Author.Needs.{needs}
 use Rattle.machine.proofs.runs.try_step.Statement.{statement}
 use Rattle.machine.proofs.runs.try_step.Tie as tie
 
-step-of-requires : tie.Need-step-of-requires
-step-of-requires c κs = search needs
-
 is-open-requires : tie.Need-is-open-requires
-is-open-requires c κs = (c .before .before .before .pre .few, c .before .before .before .pre .room)
+is-open-requires c κs =
+    let start : tie.Start = search in
+    (start .pre .few, start .pre .room)
 
 take-step-requires : tie.Need-take-step-requires
 take-step-requires c κs =
-    let c₄ = c .before .before .before .before in
-    (sym (open-with _ _ _ _) ∙ sym (c .before .before .is-open .ensures) ∙ c .before .if1 .taken, c₄ .before .before .pre)
-
-same-length : tie.Need-same-length
-same-length c = search needs
+    let start : tie.Start = search in
+    (sym (open-with _ _ _ _) ∙ sym (c .before .before .is-open .ensures) ∙ c .before .if1 .taken, start .pre)
 
 returns : tie.Need-returns
 returns c =
-    let c₄ = c .before .before .before .before in
-    rw (sym (c₄ .before .before .before .step-of .ensures))
-    (took (sym (open-with _ _ _ _) ∙ sym (c₄ .before .is-open .ensures) ∙ c₄ .if1 .taken) refl (c .before .before .take-step .ensures .1))
-
-same-length-2 : tie.Need-same-length-2
-same-length-2 c = search needs
+    let then1 : tie.Then1 = search in
+    let after-is-open : tie.After-is-open = search in
+    let after-step-of : tie.After-step-of = search in
+    rw (sym (after-step-of .step-of .ensures))
+    (took (sym (open-with _ _ _ _) ∙ sym (after-is-open .is-open .ensures) ∙ then1 .if1 .taken) refl (c .before .before .take-step .ensures .1))
 
 returns-2 : tie.Need-returns-2
-returns-2 c = rw (sym (c .before .before .before .step-of .ensures))
+returns-2 c =
+    let after-step-of : tie.After-step-of = search in
+    rw (sym (after-step-of .step-of .ensures))
     (passed (sym (open-with _ _ _ _) ∙ sym (c .before .is-open .ensures) ∙ c .if1 .left) refl refl)
 
 pub try-step-spec : {M : Type 1} → statement M
 try-step-spec =
-    tie.close
-    (tie.spec
-    step-of-requires
-    is-open-requires
-    take-step-requires
-    same-length
-    returns
-    same-length-2
-    returns-2)
+    tie.close (tie.spec (λ c κs. search needs) is-open-requires take-step-requires (λ c. search needs) returns
+    (λ c. search needs) returns-2)

@@ -6,15 +6,6 @@ use borrow.Author.Needs.{needs}
 use Rattle.machine.proofs.take.answer.Statement.{statement}
 use Rattle.machine.proofs.take.answer.Tie as tie
 
-enum-told : tie.Need-enum-told
-enum-told c = search needs
-
-enum-told-2 : tie.Need-enum-told-2
-enum-told-2 c = search needs
-
-enum-told-3 : tie.Need-enum-told-3
-enum-told-3 c = search needs
-
 returns : tie.Need-returns
 unfolding steppedReply saidBy
 returns c = rw (c .enum-told .given .1) refl
@@ -28,4 +19,5 @@ unfolding steppedReply saidBy
 returns-3 c = rw (c .enum-told3 .given .1) refl
 
 pub answer-spec : {M : Type 1} → statement M
-answer-spec = tie.close (tie.spec enum-told enum-told-2 enum-told-3 returns returns-2 returns-3)
+answer-spec =
+    tie.close (tie.spec (λ c. search needs) (λ c. search needs) (λ c. search needs) returns returns-2 returns-3)

@@ -10,73 +10,47 @@ use borrow.Author.Needs.{needs}
 use Rattle.machine.proofs.take.deliver_now.Statement.{statement}
 use Rattle.machine.proofs.take.deliver_now.Tie as tie
 
-view-place-requires : tie.Need-view-place-requires
-view-place-requires c κs = search needs
-
-channel-place-requires : tie.Need-channel-place-requires
-channel-place-requires c κs = search needs
-
-add-move-record : tie.Need-add-move-record
-add-move-record c = search needs
-
-move-record-requires : tie.Need-move-record-requires
-move-record-requires c κs = search needs
-
-pop-requires : tie.Need-pop-requires
-pop-requires c κs = search needs
-
 set-due-requires : tie.Need-set-due-requires
 unfolding stateSize
 set-due-requires c κs =
-    let c₄ = c .before .before .before .before in
-    let c₈ = c₄ .before .before .before .before in
-    let c₁₂ = c₈ .before .before .before .before in (
-      omega (arith, c₁₂ .pre),
+    let after-pop : tie.After-pop = search in
+    let after-move-record : tie.After-move-record = search in
+    let start : tie.Start = search in (
+      omega (arith, start .pre),
       omega
-          (arith, c .before .before .before .pop .kept .0, c₄ .before .before .before .move-record .kept .0, c₁₂ .pre),
+          (arith, after-pop .pop .kept .0, after-move-record .move-record .kept .0, start .pre),
     )
 
 tick-requires : tie.Need-tick-requires
 unfolding stateSize
 tick-requires c κs =
-    let c₄ = c .before .before .before .before in
-    let c₈ = c₄ .before .before .before .before in
-    let c₁₂ = c₈ .before .before .before .before in
-    let c₁₆ = c₁₂ .before .before .before .before in
+    let after-set-due : tie.After-set-due = search in
+    let after-pop : tie.After-pop = search in
+    let after-move-record : tie.After-move-record = search in
+    let start : tie.Start = search in
     omega (
       arith,
-      c .before .before .before .set-due .kept .0,
-      c₄ .before .before .before .pop .kept .0,
-      c₈ .before .before .before .move-record .kept .0,
-      c₁₆ .pre,
+      after-set-due .set-due .kept .0,
+      after-pop .pop .kept .0,
+      after-move-record .move-record .kept .0,
+      start .pre,
     )
-
-same-length : tie.Need-same-length
-same-length c = search needs
 
 returns : tie.Need-returns
 unfolding saidBy
 returns c =
-    let c₄ = c .before .before .before .before in
-    let c₈ = c₄ .before .before .before .before in
-    let c₁₂ = c₈ .before .before .before .before in
-    let c₁₆ = c₁₂ .before .before .before .before in (
+    let after-set-due : tie.After-set-due = search in
+    let after-pop : tie.After-pop = search in
+    let after-move-record : tie.After-move-record = search in
+    let after-channel-place : tie.After-channel-place = search in
+    let after-view-place : tie.After-view-place = search in (
       refl,
-      delivery-stored _ _ _ _ _ _ _ _ _ _ (c₁₆ .before .view-place .ensures .0) (c₁₆ .channel-place .ensures .0)
-          (c₁₂ .before .before .move-record .ensures) (c₈ .before .before .pop .ensures) (c₄ .before .before .set-due .ensures)
+      delivery-stored _ _ _ _ _ _ _ _ _ _ (after-view-place .view-place .ensures .0) (after-channel-place .channel-place .ensures .0)
+          (after-move-record .move-record .ensures) (after-pop .pop .ensures) (after-set-due .set-due .ensures)
           (c .before .before .tick .ensures),
     )
 
 pub deliver-now-spec : {M : Type 1} → statement M
 deliver-now-spec =
-    tie.close
-    (tie.spec
-    view-place-requires
-    channel-place-requires
-    add-move-record
-    move-record-requires
-    pop-requires
-    set-due-requires
-    tick-requires
-    same-length
-    returns)
+    tie.close (tie.spec (λ c κs. search needs) (λ c κs. search needs) (λ c. search needs) (λ c κs. search needs)
+    (λ c κs. search needs) set-due-requires tick-requires (λ c. search needs) returns)

@@ -9,57 +9,33 @@ use borrow.Author.Needs.{needs}
 use Rattle.machine.proofs.take.plan_now.Statement.{statement}
 use Rattle.machine.proofs.take.plan_now.Tie as tie
 
-find-requires : tie.Need-find-requires
-find-requires c κs = search needs
-
-tag-of-requires : tie.Need-tag-of-requires
-tag-of-requires c κs = search needs
-
-cast-record-plan : tie.Need-cast-record-plan
-cast-record-plan c = search needs
-
-record-plan-requires : tie.Need-record-plan-requires
-record-plan-requires c κs = search needs
-
-same-length : tie.Need-same-length
-same-length c = search needs
-
 returns : tie.Need-returns
 unfolding saidBy
 returns c =
-    let c₄ = c .before .before .before .before in
-    let c₈ = c₄ .before .before .before .before in
-    let same = ap (λ (t : ℕ). t ∷ c₈ .find .result .route) (c₄ .before .before .tag-of .ensures) ∙ found-record (c₈ .find .result) _
-    (c₈ .find .ensures) in (
-      plan-sent _ _ _ _ _ same (sym (c .before .before .before .record-plan .ensures .0) ∙ c .if1 .taken),
+    let after-record-plan : tie.After-record-plan = search in
+    let after-tag-of : tie.After-tag-of = search in
+    let after-find : tie.After-find = search in
+    let same = ap (λ (t : ℕ). t ∷ after-find .find .result .route) (after-tag-of .tag-of .ensures) ∙ found-record (after-find .find .result) _
+    (after-find .find .ensures) in (
+      plan-sent _ _ _ _ _ same (sym (after-record-plan .record-plan .ensures .0) ∙ c .if1 .taken),
       plan-stores _ _ _ _ _ same
-          (c .before .before .before .record-plan .ensures .1),
+          (after-record-plan .record-plan .ensures .1),
     )
-
-same-length-2 : tie.Need-same-length-2
-same-length-2 c = search needs
 
 returns-2 : tie.Need-returns-2
 unfolding saidBy
 returns-2 c =
-    let c₄ = c .before .before .before .before in
-    let c₈ = c₄ .before .before .before .before in
-    let same = ap (λ (t : ℕ). t ∷ c₈ .find .result .route) (c₄ .before .before .tag-of .ensures) ∙ found-record (c₈ .find .result) _
-    (c₈ .find .ensures) in (
-      plan-kept _ _ _ _ _ same (sym (c .before .before .before .record-plan .ensures .0) ∙ c .if1 .left),
+    let after-record-plan : tie.After-record-plan = search in
+    let after-tag-of : tie.After-tag-of = search in
+    let after-find : tie.After-find = search in
+    let same = ap (λ (t : ℕ). t ∷ after-find .find .result .route) (after-tag-of .tag-of .ensures) ∙ found-record (after-find .find .result) _
+    (after-find .find .ensures) in (
+      plan-kept _ _ _ _ _ same (sym (after-record-plan .record-plan .ensures .0) ∙ c .if1 .left),
       plan-stores _ _ _ _ _ same
-          (c .before .before .before .record-plan .ensures .1),
+          (after-record-plan .record-plan .ensures .1),
     )
 
 pub plan-now-spec : {M : Type 1} → statement M
 plan-now-spec =
-    tie.close
-    (tie.spec
-    find-requires
-    tag-of-requires
-    cast-record-plan
-    record-plan-requires
-    same-length
-    returns
-    same-length-2
-    returns-2)
+    tie.close (tie.spec (λ c κs. search needs) (λ c κs. search needs) (λ c. search needs) (λ c κs. search needs)
+    (λ c. search needs) returns (λ c. search needs) returns-2)

@@ -16,61 +16,45 @@ is-news-requires c κs = (omega (arith, c .before .before .pre), omega (arith, c
 set-planned-requires : tie.Need-set-planned-requires
 unfolding stateSize
 set-planned-requires c κs =
-    let c₄ = c .before .before .before .before in
-    (omega (arith, c₄ .pre), omega (arith, c₄ .pre))
-
-send-requires : tie.Need-send-requires
-send-requires c κs = search needs
+    let start : tie.Start = search in
+    (omega (arith, start .pre), omega (arith, start .pre))
 
 tick-requires : tie.Need-tick-requires
 unfolding stateSize
 tick-requires c κs =
-    let c₄ = c .before .before .before .before in
-    let c₈ = c₄ .before .before .before .before in
-    let c₁₂ = c₈ .before .before .before .before in
-    omega (arith, c .before .before .before .send .kept .0, c₈ .set-planned .kept .0, c₁₂ .before .pre)
-
-same-length : tie.Need-same-length
-same-length c = search needs
+    let after-send : tie.After-send = search in
+    let after-set-planned : tie.After-set-planned = search in
+    let start : tie.Start = search in
+    omega (arith, after-send .send .kept .0, after-set-planned .set-planned .kept .0, start .pre)
 
 returns : tie.Need-returns
 returns c =
-    let c₄ = c .before .before .before .before in
-    let c₈ = c₄ .before .before .before .before in
-    let c₁₂ = c₈ .before .before .before .before in
-    let yes = sym (c₁₂ .before .is-news .ensures) ∙ c₈ .if1 .taken in (
+    let after-send : tie.After-send = search in
+    let then1 : tie.Then1 = search in
+    let after-set-planned : tie.After-set-planned = search in
+    let after-is-news : tie.After-is-news = search in
+    let yes = sym (after-is-news .is-news .ensures) ∙ then1 .if1 .taken in (
       sym yes,
-      news-stored _ _ _ _ _ _ (c₈ .before .before .before .set-planned .ensures) _ yes (c₄ .before .before .send .ensures)
+      news-stored _ _ _ _ _ _ (after-set-planned .set-planned .ensures) _ yes (after-send .send .ensures)
           (c .before .before .tick .ensures),
     )
 
 tick-requires-2 : tie.Need-tick-requires-2
 unfolding stateSize
 tick-requires-2 c κs =
-    let c₄ = c .before .before .before .before in
-    let c₈ = c₄ .before .before .before .before in
-    omega (arith, c₄ .set-planned .kept .0, c₈ .before .pre)
-
-same-length-2 : tie.Need-same-length-2
-same-length-2 c = search needs
+    let after-set-planned : tie.After-set-planned = search in
+    let start : tie.Start = search in
+    omega (arith, after-set-planned .set-planned .kept .0, start .pre)
 
 returns-2 : tie.Need-returns-2
 returns-2 c =
-    let c₄ = c .before .before .before .before in
-    let c₈ = c₄ .before .before .before .before in
-    let no = sym (c₈ .before .is-news .ensures) ∙ c₄ .if1 .left in
-    (sym no, old-stored _ _ _ _ _ _ (c₄ .before .before .before .set-planned .ensures) no (c .before .before .tick2 .ensures))
+    let else1 : tie.Else1 = search in
+    let after-set-planned : tie.After-set-planned = search in
+    let after-is-news : tie.After-is-news = search in
+    let no = sym (after-is-news .is-news .ensures) ∙ else1 .if1 .left in
+    (sym no, old-stored _ _ _ _ _ _ (after-set-planned .set-planned .ensures) no (c .before .before .tick2 .ensures))
 
 pub record-plan-spec : {M : Type 1} → statement M
 record-plan-spec =
-    tie.close
-    (tie.spec
-    is-news-requires
-    set-planned-requires
-    send-requires
-    tick-requires
-    same-length
-    returns
-    tick-requires-2
-    same-length-2
-    returns-2)
+    tie.close (tie.spec is-news-requires set-planned-requires (λ c κs. search needs) tick-requires (λ c. search needs)
+    returns tick-requires-2 (λ c. search needs) returns-2)

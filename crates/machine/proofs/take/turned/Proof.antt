@@ -8,12 +8,6 @@ use borrow.Author.Needs.{needs}
 use Rattle.machine.proofs.take.turned.Statement.{statement}
 use Rattle.machine.proofs.take.turned.Tie as tie
 
-enum-known-checked : tie.Need-enum-known-checked
-enum-known-checked c = search needs
-
-enum-told : tie.Need-enum-told
-enum-told c = search needs
-
 returns : tie.Need-returns
 unfolding steppedReply replyIf verdictOf
 returns c = rw (c .before .checked .given .1) refl
@@ -23,4 +17,4 @@ unfolding steppedReply replyIf verdictOf
 returns-2 c = rw (c .enum-told .given .1) refl
 
 pub turned-spec : {M : Type 1} → statement M
-turned-spec = tie.close (tie.spec enum-known-checked enum-told returns returns-2)
+turned-spec = tie.close (tie.spec (λ c. search needs) (λ c. search needs) returns returns-2)

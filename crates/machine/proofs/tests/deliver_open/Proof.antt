@@ -9,38 +9,16 @@ use Rattle.machine.proofs.tests.deliver_open.Tie as tie
 returns : tie.Need-returns
 returns c = deliver-up _ _ _ _ (c .if1 .taken)
 
-cast-if2 : tie.Need-cast-if2
-cast-if2 c = search needs
-
 returns-2 : tie.Need-returns-2
 returns-2 c = deliver-away _ _ _ _ (c .before .before .if1 .left) (c .if2 .taken)
 
-cast-channel-place : tie.Need-cast-channel-place
-cast-channel-place c = search needs
-
-channel-place-requires : tie.Need-channel-place-requires
-channel-place-requires c κs = search needs
-
-mul-result : tie.Need-mul-result
-mul-result c = search needs
-
-shared-slice-read-result : tie.Need-shared-slice-read-result
-shared-slice-read-result c = search needs
-
 returns-3 : tie.Need-returns-3
 returns-3 c =
-    let c₄ = c .before .before .before .before in
-    deliver-there _ _ _ _ _ (c₄ .before .if1 .left) (c .before .before .before .if2 .left) (c .before .channel-place .ensures .0)
+    let else2 : tie.Else2 = search in
+    let else1 : tie.Else1 = search in
+    deliver-there _ _ _ _ _ (else1 .if1 .left) (else2 .if2 .left) (c .before .channel-place .ensures .0)
 
 pub deliver-open-spec : {M : Type 1} → statement M
 deliver-open-spec =
-    tie.close
-    (tie.spec
-    returns
-    cast-if2
-    returns-2
-    cast-channel-place
-    channel-place-requires
-    mul-result
-    shared-slice-read-result
-    returns-3)
+    tie.close (tie.spec returns (λ c. search needs) returns-2 (λ c. search needs) (λ c κs. search needs)
+    (λ c. search needs) (λ c. search needs) returns-3)

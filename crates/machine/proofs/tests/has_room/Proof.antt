@@ -17,46 +17,25 @@ Inv-loop f m i n k₀ k = (k ≤ n) × (each k (roomAt f m i) ≡ true)
 abbrev μ-loop : tie.MeasureT-loop
 μ-loop f m i n k₀ k = n - k
 
-cast-n : tie.Need-cast-n Inv-loop μ-loop
-cast-n c = search needs
-
 loop-holds : tie.Need-loop-holds Inv-loop μ-loop
 unfolding each
 loop-holds c = (omega arith, refl)
 
-has-place-requires : tie.Need-has-place-requires Inv-loop μ-loop
-has-place-requires c κs = search needs
-
 returns : tie.Need-returns Inv-loop μ-loop
 returns c = each-stop _ _ _ (c .before .before .loop-test .taken) (sym (c .before .has-place .ensures) ∙ not-true _ (c .if1 .taken))
 
-add-k : tie.Need-add-k Inv-loop μ-loop
-add-k c = search needs
-
-loop-less : tie.Need-loop-less Inv-loop μ-loop
-loop-less c = search needs
-
 loop-again : tie.Need-loop-again Inv-loop μ-loop
-loop-again c = (
-  search needs,
-  each-more _ _ (c .before .before .before .loop .inv .1)
-      (sym (c .before .has-place .ensures) ∙ not-false _ (c .if1 .left)),
-)
+loop-again c =
+    let at-loop : tie.At-loop Inv-loop μ-loop = search in (
+      search needs,
+      each-more _ _ (at-loop .loop .inv .1)
+          (sym (c .before .has-place .ensures) ∙ not-false _ (c .if1 .left)),
+    )
 
 returns-2 : tie.Need-returns-2 Inv-loop μ-loop
 returns-2 c = each-end _ _ _ (c .before .loop .inv .0) (omega arith) (c .before .loop .inv .1)
 
 pub has-room-spec : {M : Type 1} → statement M
 has-room-spec =
-    tie.close
-    (tie.spec
-    Inv-loop
-    μ-loop
-    cast-n
-    loop-holds
-    has-place-requires
-    returns
-    add-k
-    loop-less
-    loop-again
-    returns-2)
+    tie.close (tie.spec Inv-loop μ-loop (λ c. search needs) loop-holds (λ c κs. search needs) returns
+    (λ c. search needs) (λ c. search needs) loop-again returns-2)

@@ -7,21 +7,6 @@ use borrow.Author.Needs.{needs}
 use Rattle.machine.proofs.tests.is_open.Statement.{statement}
 use Rattle.machine.proofs.tests.is_open.Tie as tie
 
-enum-known-s : tie.Need-enum-known-s
-enum-known-s c = search needs
-
-plan-open-requires : tie.Need-plan-open-requires
-plan-open-requires c κs = search needs
-
-enum-known-s-2 : tie.Need-enum-known-s-2
-enum-known-s-2 c = search needs
-
-deliver-open-requires : tie.Need-deliver-open-requires
-deliver-open-requires c κs = search needs
-
-enum-told : tie.Need-enum-told
-enum-told c = search needs
-
 returns : tie.Need-returns
 unfolding meant
 returns c = c .plan-open .ensures ∙ rw (c .before .before .s .given .1) refl
@@ -36,13 +21,5 @@ returns-3 c = rw (c .enum-told .given .1) (sym (none-shut _ _))
 
 pub is-open-spec : {M : Type 1} → statement M
 is-open-spec =
-    tie.close
-    (tie.spec
-    enum-known-s
-    plan-open-requires
-    enum-known-s-2
-    deliver-open-requires
-    enum-told
-    returns
-    returns-2
-    returns-3)
+    tie.close (tie.spec (λ c. search needs) (λ c κs. search needs) (λ c. search needs) (λ c κs. search needs)
+    (λ c. search needs) returns returns-2 returns-3)

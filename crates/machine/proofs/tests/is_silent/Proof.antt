@@ -18,32 +18,21 @@ Inv-loop f m n i₀ i = (i ≤ n) × (each i (noneOpenIn (bare f) m) ≡ true)
 abbrev μ-loop : tie.MeasureT-loop
 μ-loop f m n i₀ i = n - i
 
-cast-n : tie.Need-cast-n Inv-loop μ-loop
-cast-n c = search needs
-
 loop-holds : tie.Need-loop-holds Inv-loop μ-loop
 unfolding each
 loop-holds c = (omega arith, refl)
-
-none-open-requires : tie.Need-none-open-requires Inv-loop μ-loop
-none-open-requires c κs = search needs
 
 returns : tie.Need-returns Inv-loop μ-loop
 unfolding silentIn bare machineWith
 returns c = each-stop _ _ _ (c .before .before .loop-test .taken) (sym (c .before .none-open .ensures) ∙ not-true _ (c .if1 .taken))
 
-add-i : tie.Need-add-i Inv-loop μ-loop
-add-i c = search needs
-
-loop-less : tie.Need-loop-less Inv-loop μ-loop
-loop-less c = search needs
-
 loop-again : tie.Need-loop-again Inv-loop μ-loop
-loop-again c = (
-  search needs,
-  each-more _ _ (c .before .before .before .loop .inv .1)
-      (sym (c .before .none-open .ensures) ∙ not-false _ (c .if1 .left)),
-)
+loop-again c =
+    let at-loop : tie.At-loop Inv-loop μ-loop = search in (
+      search needs,
+      each-more _ _ (at-loop .loop .inv .1)
+          (sym (c .before .none-open .ensures) ∙ not-false _ (c .if1 .left)),
+    )
 
 returns-2 : tie.Need-returns-2 Inv-loop μ-loop
 unfolding silentIn bare machineWith
@@ -51,15 +40,5 @@ returns-2 c = each-end _ _ _ (c .before .loop .inv .0) (omega arith) (c .before 
 
 pub is-silent-spec : {M : Type 1} → statement M
 is-silent-spec =
-    tie.close
-    (tie.spec
-    Inv-loop
-    μ-loop
-    cast-n
-    loop-holds
-    none-open-requires
-    returns
-    add-i
-    loop-less
-    loop-again
-    returns-2)
+    tie.close (tie.spec Inv-loop μ-loop (λ c. search needs) loop-holds (λ c κs. search needs) returns
+    (λ c. search needs) (λ c. search needs) loop-again returns-2)

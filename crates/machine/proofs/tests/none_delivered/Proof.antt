@@ -21,40 +21,23 @@ loop-holds : tie.Need-loop-holds Inv-loop μ-loop
 unfolding each
 loop-holds c = (omega arith, refl)
 
-deliver-open-requires : tie.Need-deliver-open-requires Inv-loop μ-loop
-deliver-open-requires c κs = search needs
-
 returns : tie.Need-returns Inv-loop μ-loop
 unfolding notDelivered
 returns c = each-stop _ _ _ (c .before .before .loop-test .taken) (not-open _ (sym (c .before .deliver-open .ensures) ∙ c .if1 .taken))
 
-add-j : tie.Need-add-j Inv-loop μ-loop
-add-j c = search needs
-
-loop-less : tie.Need-loop-less Inv-loop μ-loop
-loop-less c = search needs
-
 loop-again : tie.Need-loop-again Inv-loop μ-loop
 unfolding notDelivered
-loop-again c = (
-  search needs,
-  each-more _ _ (c .before .before .before .loop .inv .1)
-      (not-shut _ (sym (c .before .deliver-open .ensures) ∙ c .if1 .left)),
-)
+loop-again c =
+    let at-loop : tie.At-loop Inv-loop μ-loop = search in (
+      search needs,
+      each-more _ _ (at-loop .loop .inv .1)
+          (not-shut _ (sym (c .before .deliver-open .ensures) ∙ c .if1 .left)),
+    )
 
 returns-2 : tie.Need-returns-2 Inv-loop μ-loop
 returns-2 c = each-end _ _ _ (c .before .loop .inv .0) (omega arith) (c .before .loop .inv .1)
 
 pub none-delivered-spec : {M : Type 1} → statement M
 none-delivered-spec =
-    tie.close
-    (tie.spec
-    Inv-loop
-    μ-loop
-    loop-holds
-    deliver-open-requires
-    returns
-    add-j
-    loop-less
-    loop-again
-    returns-2)
+    tie.close (tie.spec Inv-loop μ-loop loop-holds (λ c κs. search needs) returns (λ c. search needs)
+    (λ c. search needs) loop-again returns-2)

@@ -11,19 +11,13 @@ use borrow.Author.Needs.{needs}
 use Rattle.machine.proofs.tests.none_open.Statement.{statement}
 use Rattle.machine.proofs.tests.none_open.Tie as tie
 
-plan-open-requires : tie.Need-plan-open-requires
-plan-open-requires c κs = search needs
-
 returns : tie.Need-returns
 unfolding noneOpenIn
 returns c = and-stop _ _ (not-open _ (sym (c .before .plan-open .ensures) ∙ c .if1 .taken))
-
-none-delivered-requires : tie.Need-none-delivered-requires
-none-delivered-requires c κs = search needs
 
 returns-2 : tie.Need-returns-2
 unfolding noneOpenIn notDelivered
 returns-2 c = and-next _ _ (not-shut _ (sym (c .before .before .plan-open .ensures) ∙ c .before .if1 .left)) (c .none-delivered .ensures)
 
 pub none-open-spec : {M : Type 1} → statement M
-none-open-spec = tie.close (tie.spec plan-open-requires returns none-delivered-requires returns-2)
+none-open-spec = tie.close (tie.spec (λ c κs. search needs) returns (λ c κs. search needs) returns-2)

@@ -20,12 +20,6 @@ abbrev μ-loop : tie.MeasureT-loop
 loop-holds : tie.Need-loop-holds Inv-loop μ-loop
 loop-holds c = (search needs, search needs, last-none _)
 
-add-n : tie.Need-add-n Inv-loop μ-loop
-add-n c = search needs
-
-member-requires : tie.Need-member-requires Inv-loop μ-loop
-member-requires c κs = search needs
-
 loop-less : tie.Need-loop-less Inv-loop μ-loop
 loop-less c = omega arith
 
@@ -37,26 +31,16 @@ loop-less-2 c = omega arith
 
 loop-again-2 : tie.Need-loop-again-2 Inv-loop μ-loop
 loop-again-2 c =
-    let c₄ = c .before .before .before .before in
-    (search needs, omega arith, last-kept _ _ _ (c₄ .loop .inv .2) (sym (c .before .member .ensures) ∙ not-false _ (c .if2 .left)))
+    let at-loop : tie.At-loop Inv-loop μ-loop = search in
+    (search needs, omega arith, last-kept _ _ _ (at-loop .loop .inv .2) (sym (c .before .member .ensures) ∙ not-false _ (c .if2 .left)))
 
 returns : tie.Need-returns Inv-loop μ-loop
 returns c =
-    let c₄ = c .before .before .before .before in
-    let e : c .before .before .loop .n ≡ c₄ .args .g .horizon = omega arith in
+    let start : tie.Start Inv-loop μ-loop = search in
+    let e : c .before .before .loop .n ≡ start .args .g .horizon = omega arith in
     (rw e at (c .before .before .loop .inv .2), omega arith)
 
 pub hold-from-spec : {M : Type 1} → statement M
 hold-from-spec =
-    tie.close
-    (tie.spec
-    Inv-loop
-    μ-loop
-    loop-holds
-    add-n
-    member-requires
-    loop-less
-    loop-again
-    loop-less-2
-    loop-again-2
-    returns)
+    tie.close (tie.spec Inv-loop μ-loop loop-holds (λ c. search needs) (λ c κs. search needs) loop-less loop-again
+    loop-less-2 loop-again-2 returns)

@@ -12,18 +12,21 @@ use Rattle.passes.proofs.mend.mend_view.Tie as tie
 
 spot-requires : tie.Need-spot-requires
 spot-requires c κs =
-    let pre = c .before .before .before .pre in
+    let start : tie.Start = search in
+    let pre = start .pre in
     (omega (arith, pre .0 .0 .lent, pre .0 .4), omega (arith, pre .0 .1, pre .0 .0 .short))
 
 returns : tie.Need-returns
 returns c =
-    let pre = c .before .before .before .before .before .before .pre in
+    let start : tie.Start = search in
+    let pre = start .pre in
     mended-same _ _ _ _ _ _ _ (pre .1 .1)
     (λ i. absurd (omega (arith, set-cell _ _ _ _ i, c .if1 .taken, c .before .before .spot .ensures .0)))
 
 member-requires : tie.Need-member-requires
 member-requires c κs =
-    let pre = c .before .before .before .before .before .before .before .pre in
+    let start : tie.Start = search in
+    let pre = start .pre in
     (pre .0 .0 .grid, pre .1 .1 .long, omega (arith, pre .0 .2, pre .0 .0 .short), c .before .if1 .left)
 
 same-length : tie.Need-same-length
@@ -31,36 +34,24 @@ same-length c = refl
 
 returns-2 : tie.Need-returns-2
 returns-2 c =
-    let c₄ = c .before .before .before .before in
-    let c₈ = c₄ .before .before .before .before in
-    mended-same _ _ _ _ _ _ _ (c₈ .before .pre .1 .1)
-    (λ i. true-false-absurd (rw (← c₄ .before .spot .ensures .0) at i) (sym (c .before .member .ensures) ∙ not-true _ (c .if2 .taken)))
+    let after-spot : tie.After-spot = search in
+    let start : tie.Start = search in
+    mended-same _ _ _ _ _ _ _ (start .pre .1 .1)
+    (λ i. true-false-absurd (rw (← after-spot .spot .ensures .0) at i) (sym (c .before .member .ensures) ∙ not-true _ (c .if2 .taken)))
 
 mend-cell-requires : tie.Need-mend-cell-requires
 mend-cell-requires c κs =
-    let c₄ = c .before .before .before .before in
-    let c₈ = c₄ .before .before .before .before in
-    let pre = c₈ .before .before .pre in
-    ((pre .0 .0, pre .0 .1, pre .0 .2, pre .0 .3, c₄ .if1 .left), (pre .1 .0, pre .1 .1))
-
-same-length-2 : tie.Need-same-length-2
-same-length-2 c = search needs
+    let else1 : tie.Else1 = search in
+    let start : tie.Start = search in
+    let pre = start .pre in
+    ((pre .0 .0, pre .0 .1, pre .0 .2, pre .0 .3, else1 .if1 .left), (pre .1 .0, pre .1 .1))
 
 returns-3 : tie.Need-returns-3
 returns-3 c =
-    let c₄ = c .before .before .before .before in
-    let c₈ = c₄ .before .before .before .before in
-    rw (c₈ .before .spot .ensures .0) at (c .before .before .mend-cell .ensures)
+    let after-spot : tie.After-spot = search in
+    rw (after-spot .spot .ensures .0) at (c .before .before .mend-cell .ensures)
 
 pub mend-view-spec : {M : Type 1} → statement M
 mend-view-spec =
-    tie.close
-    (tie.spec
-    spot-requires
-    returns
-    member-requires
-    same-length
-    returns-2
-    mend-cell-requires
-    same-length-2
-    returns-3)
+    tie.close (tie.spec spot-requires returns member-requires same-length returns-2 mend-cell-requires
+    (λ c. search needs) returns-3)

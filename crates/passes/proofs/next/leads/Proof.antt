@@ -15,23 +15,27 @@ returns c = leads-not _ _ _ _ _ _ _ _ _ (not-true _ (c .if1 .taken))
 
 has-requires : tie.Need-has-requires
 has-requires c κs =
-    let p = c .before .before .before .pre .1 .0 (not-false _ (c .if1 .left)) in
-    let f = c .before .before .before .pre .0 .0 in
-    let q = mod-lt (c .before .before .before .args .e) {m = c .before .before .before .args .g .width} (f .grid .thin) in
-    let l = c .before .before .before .pre .0 .1 .long in
-    (omega (arith, p .low, p .row, l, c .before .before .before .pre .0 .2), omega (arith, p .column, q, f .grid .narrow))
+    let start : tie.Start = search in
+    let p = start .pre .1 .0 (not-false _ (c .if1 .left)) in
+    let f = start .pre .0 .0 in
+    let q = mod-lt (start .args .e) {m = start .args .g .width} (f .grid .thin) in
+    let l = start .pre .0 .1 .long in
+    (omega (arith, p .low, p .row, l, start .pre .0 .2), omega (arith, p .column, q, f .grid .narrow))
 
 returns-2 : tie.Need-returns-2
 returns-2 c =
+    let start : tie.Start = search in
     let there = not-false _ (c .before .before .if1 .left) in
-    let p = c .before .before .before .before .before .pre .1 .0 there in
+    let p = start .pre .1 .0 there in
     leads-unset _ _ _ _ _ _ _ _ _ there
     (set-not _ _ _ _ (rw (p .row, p .column) at (sym (c .before .has .ensures) ∙ not-true _ (c .if2 .taken))))
 
 returns-3 : tie.Need-returns-3
 returns-3 c =
-    let pre = c .before .before .before .before .before .before .pre in
-    let there = not-false _ (c .before .before .before .if1 .left) in
+    let else1 : tie.Else1 = search in
+    let start : tie.Start = search in
+    let pre = start .pre in
+    let there = not-false _ (else1 .if1 .left) in
     let p = pre .1 .0 there in
     leads-made _ _ _ _ _ _ _ _ _ _ there
     (tidy-set _ _ (pre .0 .1) _ _ (p .low)
@@ -40,18 +44,20 @@ returns-3 c =
 
 swapped-requires : tie.Need-swapped-requires
 swapped-requires c κs =
-    let c₄ = c .before .before .before .before in
-    (c₄ .before .before .pre .0 .0 .lent, c₄ .before .before .pre .0 .2, c₄ .before .before .pre .0 .3)
+    let start : tie.Start = search in
+    (start .pre .0 .0 .lent, start .pre .0 .2, start .pre .0 .3)
 
 returns-4 : tie.Need-returns-4
 returns-4 c =
-    let c₄ = c .before .before .before .before in
-    let pre = c₄ .before .before .before .pre in
-    let there = not-false _ (c₄ .if1 .left) in
+    let after-has : tie.After-has = search in
+    let else1 : tie.Else1 = search in
+    let start : tie.Start = search in
+    let pre = start .pre in
+    let there = not-false _ (else1 .if1 .left) in
     let p = pre .1 .0 there in
     leads-made _ _ _ _ _ _ _ _ _ _ there
     (tidy-set _ _ (pre .0 .1) _ _ (p .low)
-    (rw (p .row, p .column) at (sym (c .before .before .before .has .ensures) ∙ not-false _ (c .before .before .if2 .left))))
+    (rw (p .row, p .column) at (sym (after-has .has .ensures) ∙ not-false _ (c .before .before .if2 .left))))
     (ap not (c .swapped .ensures) ∙ not-not _)
 
 pub leads-spec : {M : Type 1} → statement M

@@ -8,26 +8,19 @@ use Rattle.passes.proofs.NarrowedLaws.{quick-tidy, narrowed-quick, narr
 use Rattle.passes.proofs.step.advance.Statement.{statement}
 use Rattle.passes.proofs.step.advance.Tie as tie
 
-first-row-requires : tie.Need-first-row-requires
-first-row-requires c κs = search needs
-
-mul-narrow-rows : tie.Need-mul-narrow-rows
-mul-narrow-rows c = search needs
-
 add-narrow-rows : tie.Need-add-narrow-rows
 add-narrow-rows c =
-    let p = c .before .before .before .before .before .pre in
+    let start : tie.Start = search in
+    let p = start .pre in
     let f = p .0 .0 in
     let w = p .0 .1 in
     let h = first-fits _ _ _ (w .few) (c .before .first-row .ensures) in
     omega (arith, f .short, p .0 .2)
 
-mul-narrow-rows-2 : tie.Need-mul-narrow-rows-2
-mul-narrow-rows-2 c = search needs
-
 add-narrow-rows-2 : tie.Need-add-narrow-rows-2
 add-narrow-rows-2 c =
-    let p = c .before .before .before .before .before .pre in
+    let start : tie.Start = search in
+    let p = start .pre in
     let f = p .0 .0 in
     let w = p .0 .1 in
     let h = first-fits _ _ _ (w .few) (c .before .first-row .ensures) in
@@ -35,7 +28,8 @@ add-narrow-rows-2 c =
 
 narrow-rows-requires : tie.Need-narrow-rows-requires
 narrow-rows-requires c κs =
-    let p = c .before .before .before .before .before .pre in
+    let start : tie.Start = search in
+    let p = start .pre in
     let f = p .0 .0 in
     let w = p .0 .1 in
     let h = first-fits _ _ _ (w .few) (c .before .first-row .ensures) in (
@@ -45,59 +39,50 @@ narrow-rows-requires c κs =
 
 mend-requires : tie.Need-mend-requires
 mend-requires c κs =
-    let c₄ = c .before .before .before .before in
-    let p = c₄ .before .before .before .before .before .before .before .pre in
-    let y = rw (c₄ .before .before .before .first-row .ensures) at (c₄ .before .narrow-rows .ensures .rewritten) in
+    let after-narrow-rows : tie.After-narrow-rows = search in
+    let after-first-row : tie.After-first-row = search in
+    let start : tie.Start = search in
+    let p = start .pre in
+    let y = rw (after-first-row .first-row .ensures) at (after-narrow-rows .narrow-rows .ensures .rewritten) in
     ((p .0 .0, p .0 .2, p .0 .3, p .0 .4), (p .1 .0, quick-tidy _ _ _ _ _ _ _ _ (p .0 .0) (p .0 .1) (p .0 .4) (p .1 .1 .0) y))
 
 four-requires : tie.Need-four-requires
 four-requires c κs =
-    let c₄ = c .before .before .before .before in
-    let c₈ = c₄ .before .before .before .before in
-    (c .before .before .before .mend .ensures .tidy .long, c₈ .before .narrow-rows .ensures .carried .inside)
+    let after-mend : tie.After-mend = search in
+    let after-narrow-rows : tie.After-narrow-rows = search in
+    (after-mend .mend .ensures .tidy .long, after-narrow-rows .narrow-rows .ensures .carried .inside)
 
 same-length : tie.Need-same-length
 same-length c =
-    let c₄ = c .before .before .before .before in
-    let c₈ = c₄ .before .before .before .before in
-    let p = c₈ .before .before .before .before .before .before .before .before .pre in
-    c₄ .mend .ensures .tidy .long ∙ sym (p .1 .1 .0 .tidy .long)
+    let after-mend : tie.After-mend = search in
+    let start : tie.Start = search in
+    let p = start .pre in
+    after-mend .mend .ensures .tidy .long ∙ sym (p .1 .1 .0 .tidy .long)
 
 returns : tie.Need-returns
 returns c =
-    let c₄ = c .before .before .before .before in
-    let c₈ = c₄ .before .before .before .before in
-    let p = c₈ .before .before .before .before .before .before .before .before .pre in
-    let y = rw (c₈ .before .before .before .before .first-row .ensures) at (c₈ .before .before .narrow-rows .ensures .rewritten) in
-    (narrowed-mended _ _ _ _ _ _ _ _ (p .0 .0) (p .0 .1) (p .0 .4) (p .1 .1 .0) y _ (c₄ .mend .ensures), c .four .ensures)
-
-same-length-2 : tie.Need-same-length-2
-same-length-2 c = search needs
+    let after-mend : tie.After-mend = search in
+    let after-narrow-rows : tie.After-narrow-rows = search in
+    let after-first-row : tie.After-first-row = search in
+    let start : tie.Start = search in
+    let p = start .pre in
+    let y = rw (after-first-row .first-row .ensures) at (after-narrow-rows .narrow-rows .ensures .rewritten) in
+    (narrowed-mended _ _ _ _ _ _ _ _ (p .0 .0) (p .0 .1) (p .0 .4) (p .1 .1 .0) y _ (after-mend .mend .ensures), c .four .ensures)
 
 returns-2 : tie.Need-returns-2
 returns-2 c =
-    let c₄ = c .before .before .before .before in
-    let p = c₄ .before .before .before .before .before .before .pre in
-    let e = c₄ .before .before .first-row .ensures in
-    let y = rw e at (c₄ .narrow-rows .ensures .rewritten) in
-    let z = rw e at (c₄ .narrow-rows .ensures .clear (c .if1 .left)) in (
+    let after-narrow-rows : tie.After-narrow-rows = search in
+    let after-first-row : tie.After-first-row = search in
+    let start : tie.Start = search in
+    let p = start .pre in
+    let e = after-first-row .first-row .ensures in
+    let y = rw e at (after-narrow-rows .narrow-rows .ensures .rewritten) in
+    let z = rw e at (after-narrow-rows .narrow-rows .ensures .clear (c .if1 .left)) in (
       narrowed-quick _ _ _ _ _ _ _ _ (p .0 .0) (p .0 .1) (p .0 .4) (p .1 .1 .0) y _ _ (p .1 .0 .1) (p .0 .3) z,
-      c₄ .narrow-rows .ensures .carried,
+      after-narrow-rows .narrow-rows .ensures .carried,
     )
 
 pub advance-spec : {M : Type 1} → statement M
 advance-spec =
-    tie.close
-    (tie.spec
-    first-row-requires
-    mul-narrow-rows
-    add-narrow-rows
-    mul-narrow-rows-2
-    add-narrow-rows-2
-    narrow-rows-requires
-    mend-requires
-    four-requires
-    same-length
-    returns
-    same-length-2
-    returns-2)
+    tie.close (tie.spec (λ c κs. search needs) (λ c. search needs) add-narrow-rows (λ c. search needs) add-narrow-rows-2
+    narrow-rows-requires mend-requires four-requires same-length returns (λ c. search needs) returns-2)

@@ -9,12 +9,9 @@ returns : tie.Need-returns
 unfolding arrivable
 returns c = hold-late _ _ _ (c .if1 .taken)
 
-member-requires : tie.Need-member-requires
-member-requires c κs = search needs
-
 returns-2 : tie.Need-returns-2
 unfolding arrivable
 returns-2 c = hold-past _ _ _ _ (c .before .if1 .left) (c .member .ensures)
 
 pub arrives-spec : {M : Type 1} → statement M
-arrives-spec = tie.close (tie.spec returns member-requires returns-2)
+arrives-spec = tie.close (tie.spec returns (λ c κs. search needs) returns-2)

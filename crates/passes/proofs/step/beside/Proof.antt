@@ -4,9 +4,6 @@ use Rattle.passes.proofs.SweepLaws.{beat-up, beat-down}
 use Rattle.passes.proofs.step.beside.Statement.{statement}
 use Rattle.passes.proofs.step.beside.Tie as tie
 
-add-result : tie.Need-add-result
-add-result c = search needs
-
 returns : tie.Need-returns
 returns c = beat-up _ _ (c .if1 .taken)
 
@@ -17,4 +14,4 @@ returns-2 : tie.Need-returns-2
 returns-2 c = beat-down _ _ (c .if1 .left)
 
 pub beside-spec : {M : Type 1} → statement M
-beside-spec = tie.close (tie.spec add-result returns sub-result returns-2)
+beside-spec = tie.close (tie.spec (λ c. search needs) returns sub-result returns-2)

@@ -22,47 +22,43 @@ Inv-loop g k v sets₀ room views goal hold up a n x₀ t₀ i₀ sets x t i = (
 abbrev μ-loop : tie.MeasureT-loop
 μ-loop g k v sets₀ room views goal hold up a n x₀ t₀ i₀ sets x t i = n - i
 
-four-requires : tie.Need-four-requires Inv-loop μ-loop
-four-requires c κs = search needs
-
 loop-holds : tie.Need-loop-holds Inv-loop μ-loop
 loop-holds c =
-    let p = c .before .before .before .before .before .pre in
+    let start : tie.Start Inv-loop μ-loop = search in
+    let p = start .pre in
     (search needs, beat-none _ _, swept-none _ _ _ _ _ _ _, p .1 .1, c .four .ensures, λ j h e. absurd (omega arith))
 
 arrives-requires : tie.Need-arrives-requires Inv-loop μ-loop
 arrives-requires c κs =
-    let c₄ = c .before .before .before .before in
-    let p = c₄ .before .before .before .before .pre in
+    let start : tie.Start Inv-loop μ-loop = search in
+    let p = start .pre in
     let i = c .before .before .loop .inv in
     let h = course-beat _ _ _ _ _ (p .0 .3) (i .0) in
     (p .0 .0 .grid, i .3 .tidy .long, omega (arith, h, p .0 .0 .short, i .1), p .0 .2)
 
-same-length : tie.Need-same-length Inv-loop μ-loop
-same-length c = search needs
-
 returns : tie.Need-returns Inv-loop μ-loop
 returns c =
-    let c₄ = c .before .before .before .before in
-    let i = c₄ .loop .inv in
+    let at-loop : tie.At-loop Inv-loop μ-loop = search in
+    let i = at-loop .loop .inv in
     let e = rw (i .1) at (sym (c .before .arrives .ensures) ∙ c .if1 .taken) in
     (i .2, record { upto = i .0; none-before = i .5; passes = λ h. e })
 
 beside-requires : tie.Need-beside-requires Inv-loop μ-loop
 beside-requires c κs =
-    let c₄ = c .before .before .before .before in
-    let c₈ = c₄ .before .before .before .before in
-    let p = c₈ .before .before .pre in
-    course-asked _ _ _ _ _ _ (p .0 .3) (p .0 .0 .short) (c .before .before .before .loop-test .taken) (c₄ .loop .inv .1)
+    let in-loop : tie.In-loop Inv-loop μ-loop = search in
+    let at-loop : tie.At-loop Inv-loop μ-loop = search in
+    let start : tie.Start Inv-loop μ-loop = search in
+    let p = start .pre in
+    course-asked _ _ _ _ _ _ (p .0 .3) (p .0 .0 .short) (in-loop .loop-test .taken) (at-loop .loop .inv .1)
 
 advance-requires : tie.Need-advance-requires Inv-loop μ-loop
 advance-requires c κs =
-    let c₄ = c .before .before .before .before in
-    let c₈ = c₄ .before .before .before .before in
-    let c₁₂ = c₈ .before .before .before .before in
-    let p = c₁₂ .pre in
-    let i = c₄ .before .before .loop .inv in
-    let t = c₄ .before .loop-test .taken in
+    let in-loop : tie.In-loop Inv-loop μ-loop = search in
+    let at-loop : tie.At-loop Inv-loop μ-loop = search in
+    let start : tie.Start Inv-loop μ-loop = search in
+    let p = start .pre in
+    let i = at-loop .loop .inv in
+    let t = in-loop .loop-test .taken in
     let o = beat-more _ _ _ _ _ (i .1) (c .before .beside .ensures) in (
       (
         p .0 .0,
@@ -74,32 +70,26 @@ advance-requires c κs =
       (p .1 .0, (i .3, i .4)),
     )
 
-add-i : tie.Need-add-i Inv-loop μ-loop
-add-i c = search needs
-
-loop-less : tie.Need-loop-less Inv-loop μ-loop
-loop-less c = search needs
-
 loop-again : tie.Need-loop-again Inv-loop μ-loop
 loop-again c =
-    let c₄ = c .before .before .before .before in
-    let c₈ = c₄ .before .before .before .before in
-    let c₁₂ = c₈ .before .before .before .before in
-    let p = c₁₂ .before .before .before .pre in
-    let i = c₈ .before .loop .inv in
-    let o = beat-more _ _ _ _ _ (i .1) (c₄ .beside .ensures) in
+    let after-beside : tie.After-beside Inv-loop μ-loop = search in
+    let else1 : tie.Else1 Inv-loop μ-loop = search in
+    let after-arrives : tie.After-arrives Inv-loop μ-loop = search in
+    let in-loop : tie.In-loop Inv-loop μ-loop = search in
+    let at-loop : tie.At-loop Inv-loop μ-loop = search in
+    let start : tie.Start Inv-loop μ-loop = search in
+    let p = start .pre in
+    let i = at-loop .loop .inv in
+    let o = beat-more _ _ _ _ _ (i .1) (after-beside .beside .ensures) in
     let y = rw (o, i .1) at (c .before .before .advance .ensures .0) in (
       search needs,
       o,
       swept-more _ _ _ _ _ _ _ _ _ _ (i .2) y,
       y .windowed,
       c .before .before .advance .ensures .1,
-      none-swept _ _ _ _ _ _ _ _ _ _ _ _ _ _ (p .0 .3) (c₈ .loop-test .taken) y (i .5)
-          (rw (i .1) at (c₄ .before .before .arrives .ensures)) (c₄ .before .if1 .left),
+      none-swept _ _ _ _ _ _ _ _ _ _ _ _ _ _ (p .0 .3) (in-loop .loop-test .taken) y (i .5)
+          (rw (i .1) at (after-arrives .arrives .ensures)) (else1 .if1 .left),
     )
-
-same-length-2 : tie.Need-same-length-2 Inv-loop μ-loop
-same-length-2 c = search needs
 
 returns-2 : tie.Need-returns-2 Inv-loop μ-loop
 returns-2 c =
@@ -108,19 +98,5 @@ returns-2 c =
 
 pub sweep-spec : {M : Type 1} → statement M
 sweep-spec =
-    tie.close
-    (tie.spec
-    Inv-loop
-    μ-loop
-    four-requires
-    loop-holds
-    arrives-requires
-    same-length
-    returns
-    beside-requires
-    advance-requires
-    add-i
-    loop-less
-    loop-again
-    same-length-2
-    returns-2)
+    tie.close (tie.spec Inv-loop μ-loop (λ c κs. search needs) loop-holds arrives-requires (λ c. search needs) returns
+    beside-requires advance-requires (λ c. search needs) (λ c. search needs) loop-again (λ c. search needs) returns-2)

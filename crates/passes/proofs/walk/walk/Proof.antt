@@ -22,47 +22,47 @@ abbrev μ-loop : tie.MeasureT-loop
 
 cast-r : tie.Need-cast-r Inv-loop μ-loop
 cast-r c =
-    let f = c .before .before .before .pre .0 .0 in
-    omega (arith, f .grid .room, f .grid .narrow, c .before .before .before .pre .0 .2)
-
-array-write-r : tie.Need-array-write-r Inv-loop μ-loop
-array-write-r c = search needs
+    let start : tie.Start Inv-loop μ-loop = search in
+    let f = start .pre .0 .0 in
+    omega (arith, f .grid .room, f .grid .narrow, start .pre .0 .2)
 
 loop-holds : tie.Need-loop-holds Inv-loop μ-loop
-loop-holds c = (
-  search needs,
-  c .before .before .before .pre .0 .2,
-  path-none _ _ _ _ _ _ _,
-  filled-more _ _ 0 _ _ (filled-none _ _) (path-none _ _ _ _ _ _ _),
-)
+loop-holds c =
+    let start : tie.Start Inv-loop μ-loop = search in (
+      search needs,
+      start .pre .0 .2,
+      path-none _ _ _ _ _ _ _,
+      filled-more _ _ 0 _ _ (filled-none _ _) (path-none _ _ _ _ _ _ _),
+    )
 
 follow-requires : tie.Need-follow-requires Inv-loop μ-loop
 follow-requires c κs =
-    let pre = c .before .before .before .before .before .before .pre in
+    let start : tie.Start Inv-loop μ-loop = search in
+    let pre = start .pre in
     ((pre .0 .0, pre .0 .1, c .if1 .taken, c .before .before .loop .inv .1, pre .0 .3), pre .1)
 
 add-t : tie.Need-add-t Inv-loop μ-loop
 add-t c =
-    let c₄ = c .before .before .before .before in
-    let f = c₄ .before .before .before .pre .0 .0 in
+    let start : tie.Start Inv-loop μ-loop = search in
+    let f = start .pre .0 .0 in
     omega (arith, f .short, c .before .if1 .taken)
 
 cast-r-2 : tie.Need-cast-r-2 Inv-loop μ-loop
 cast-r-2 c =
-    let c₄ = c .before .before .before .before in
-    let f = c₄ .before .before .before .pre .0 .0 in
+    let start : tie.Start Inv-loop μ-loop = search in
+    let f = start .pre .0 .0 in
     omega (arith, f .grid .room, f .grid .narrow, c .follow .ensures .1)
 
 mul-r : tie.Need-mul-r Inv-loop μ-loop
 mul-r c =
-    let c₄ = c .before .before .before .before in
-    let f = c₄ .before .before .before .pre .0 .0 in
+    let start : tie.Start Inv-loop μ-loop = search in
+    let f = start .pre .0 .0 in
     omega (arith, f .short, c .before .if1 .taken)
 
 array-write-r-2 : tie.Need-array-write-r-2 Inv-loop μ-loop
 array-write-r-2 c =
-    let c₄ = c .before .before .before .before in
-    let f = c₄ .before .before .before .pre .0 .0 in
+    let start : tie.Start Inv-loop μ-loop = search in
+    let f = start .pre .0 .0 in
     omega (arith, f .short, c .before .if1 .taken)
 
 loop-less : tie.Need-loop-less Inv-loop μ-loop
@@ -70,29 +70,18 @@ loop-less c = omega (arith, c .before .if1 .taken)
 
 loop-again : tie.Need-loop-again Inv-loop μ-loop
 loop-again c =
-    let e = path-more _ _ _ _ _ _ _ _ _ _ (c .before .before .before .loop .inv .2) (c .follow .ensures .0) in
-    (omega (arith, c .before .if1 .taken), c .follow .ensures .1, e, filled-more _ _ _ _ _ (c .before .before .before .loop .inv .3) e)
+    let at-loop : tie.At-loop Inv-loop μ-loop = search in
+    let e = path-more _ _ _ _ _ _ _ _ _ _ (at-loop .loop .inv .2) (c .follow .ensures .0) in
+    (omega (arith, c .before .if1 .taken), c .follow .ensures .1, e, filled-more _ _ _ _ _ (at-loop .loop .inv .3) e)
 
 returns : tie.Need-returns Inv-loop μ-loop
 returns c =
-    let c₂ = c .before .before in
-    let e : c₂ .loop .t ≡ c₂ .before .before .before .before .args .g .horizon = omega (arith, c₂ .loop .inv .0, c .if1 .left) in
-    rw e at (c₂ .loop .inv .3)
+    let at-loop : tie.At-loop Inv-loop μ-loop = search in
+    let start : tie.Start Inv-loop μ-loop = search in
+    let e : at-loop .loop .t ≡ start .args .g .horizon = omega (arith, at-loop .loop .inv .0, c .if1 .left) in
+    rw e at (at-loop .loop .inv .3)
 
 pub walk-spec : {M : Type 1} → statement M
 walk-spec =
-    tie.close
-    (tie.spec
-    Inv-loop
-    μ-loop
-    cast-r
-    array-write-r
-    loop-holds
-    follow-requires
-    add-t
-    cast-r-2
-    mul-r
-    array-write-r-2
-    loop-less
-    loop-again
-    returns)
+    tie.close (tie.spec Inv-loop μ-loop cast-r (λ c. search needs) loop-holds follow-requires add-t cast-r-2 mul-r
+    array-write-r-2 loop-less loop-again returns)

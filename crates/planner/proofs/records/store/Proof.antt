@@ -9,36 +9,27 @@ use borrow.Author.Needs.{needs}
 use Rattle.planner.proofs.records.store.Statement.{statement}
 use Rattle.planner.proofs.records.store.Tie as tie
 
-mul-out : tie.Need-mul-out
-mul-out c = search needs
-
-slice-write-out : tie.Need-slice-write-out
-slice-write-out c = search needs
-
-add-store-cells : tie.Need-add-store-cells
-add-store-cells c = search needs
-
 store-cells-requires : tie.Need-store-cells-requires
 store-cells-requires c κs = simp length-set (omega arith)
 
 same-length : tie.Need-same-length
 same-length c =
-    let c₄ = c .before .before .before .before in
+    let start : tie.Start = search in
     omega (
       arith,
       c .before .before .store-cells .kept .0,
-      length-set (now (c₄ .before .args .out)) (c₄ .before .args .at)
-          (c₄ .before .args .tag),
+      length-set (now (start .args .out)) (start .args .at)
+          (start .args .tag),
     )
 
 returns : tie.Need-returns
 returns c =
-    let c₄ = c .before .before .before .before in
+    let start : tie.Start = search in
     let e = c .before .before .store-cells .ensures in
-    put-next _ _ _ (_ ∷ []) _ _ _ (put-one _ _ _ (omega (arith, c₄ .before .pre))) (e .0) refl
-    (rw (e .1) (omega (arith, c₄ .before .pre)))
+    put-next _ _ _ (_ ∷ []) _ _ _ (put-one _ _ _ (omega (arith, start .pre))) (e .0) refl
+    (rw (e .1) (omega (arith, start .pre)))
 
 pub store-spec : {M : Type 1} → statement M
 store-spec =
-    tie.close
-    (tie.spec mul-out slice-write-out add-store-cells store-cells-requires same-length returns)
+    tie.close (tie.spec (λ c. search needs) (λ c. search needs) (λ c. search needs) store-cells-requires same-length
+    returns)

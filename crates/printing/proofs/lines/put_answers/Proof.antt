@@ -13,53 +13,36 @@ Inv-loop f answers out₀ n at₀ i₀ out at i = (i ≤ n) × LinesPut f answer
 abbrev μ-loop : tie.MeasureT-loop
 μ-loop f answers out₀ n at₀ i₀ out at i = n - i
 
-cast-n : tie.Need-cast-n Inv-loop μ-loop
-cast-n c = search needs
-
 loop-holds : tie.Need-loop-holds Inv-loop μ-loop
 loop-holds c = (search needs, lines-start _ _ _)
 
 put-answer-requires : tie.Need-put-answer-requires Inv-loop μ-loop
 put-answer-requires c κs =
-    let c₄ = c .before .before .before .before in
-    let p = c₄ .before .before .pre in
+    let start : tie.Start Inv-loop μ-loop = search in
+    let p = start .pre in
     let l = c .before .before .loop .inv .1 in
     let size = lines-keep _ _ _ (c .before .before .loop .i) _ _ l (omega (arith, p .room)) in
     ((omega (arith, p .few), p .horizon), (omega (arith, p .records), omega (arith, p .room, l .short)))
 
-add-i : tie.Need-add-i Inv-loop μ-loop
-add-i c = search needs
-
-loop-less : tie.Need-loop-less Inv-loop μ-loop
-loop-less c = search needs
-
 loop-again : tie.Need-loop-again Inv-loop μ-loop
 loop-again c =
-    let c₄ = c .before .before .before .before in
-    let c₈ = c₄ .before .before .before .before in (
+    let at-loop : tie.At-loop Inv-loop μ-loop = search in
+    let start : tie.Start Inv-loop μ-loop = search in (
       search needs,
-      lines-more _ _ _ (c₄ .before .loop .i) _ _ _ _ (c₄ .before .loop .inv .1) (c .before .before .put-answer .ensures) (omega
-          (arith, c₈ .before .pre .room)),
+      lines-more _ _ _ (at-loop .loop .i) _ _ _ _ (at-loop .loop .inv .1) (c .before .before .put-answer .ensures) (omega
+          (arith, start .pre .room)),
     )
 
 same-length : tie.Need-same-length Inv-loop μ-loop
-same-length c = lines-keep _ _ _ (c .before .loop .i) _ _ (c .before .loop .inv .1) (omega
-    (arith, c .before .before .before .before .before .pre .room))
+same-length c =
+    let start : tie.Start Inv-loop μ-loop = search in
+    lines-keep _ _ _ (c .before .loop .i) _ _ (c .before .loop .inv .1) (omega
+    (arith, start .pre .room))
 
 returns : tie.Need-returns Inv-loop μ-loop
 returns c = lines-end _ _ _ (c .before .loop .i) _ _ _ (c .before .loop .inv .0) (c .loop-test .left) (c .before .loop .inv .1)
 
 pub put-answers-spec : {M : Type 1} → statement M
 put-answers-spec =
-    tie.close
-    (tie.spec
-    Inv-loop
-    μ-loop
-    cast-n
-    loop-holds
-    put-answer-requires
-    add-i
-    loop-less
-    loop-again
-    same-length
-    returns)
+    tie.close (tie.spec Inv-loop μ-loop (λ c. search needs) loop-holds put-answer-requires (λ c. search needs)
+    (λ c. search needs) loop-again same-length returns)

@@ -21,77 +21,47 @@ abbrev μ-loop : tie.MeasureT-loop
 loop-holds : tie.Need-loop-holds Inv-loop μ-loop
 loop-holds c = (search needs, (search needs, fields-start _ (take (c .before .args .n) (c .before .args .t3)) _))
 
-mul-put-field : tie.Need-mul-put-field Inv-loop μ-loop
-mul-put-field c = search needs
-
-add-put-field : tie.Need-add-put-field Inv-loop μ-loop
-add-put-field c = search needs
-
-mul-put-field-2 : tie.Need-mul-put-field-2 Inv-loop μ-loop
-mul-put-field-2 c = search needs
-
-array-read-put-field : tie.Need-array-read-put-field Inv-loop μ-loop
-array-read-put-field c = search needs
-
 put-field-requires : tie.Need-put-field-requires Inv-loop μ-loop
 put-field-requires c κs =
-    let e = c .before .before .before .before in
+    let start : tie.Start Inv-loop μ-loop = search in
     let l = c .before .before .loop in
-    let xs = take (e .args .n) (e .args .t3) in
-    let size : length xs ≡ e .args .n = length-take-le _ (e .args .t3) (omega (arith, l .inv .1 .0, e .pre)) in
-    let fits : e .args .at + 5 * length xs ≤ length (now (e .args .out)) = omega (arith, e .pre) in
-    omega (arith, fields-keep _ xs _ fits _ (l .t) (omega arith) (l .inv .1 .1), e .pre)
-
-add-t : tie.Need-add-t Inv-loop μ-loop
-add-t c = search needs
-
-loop-less : tie.Need-loop-less Inv-loop μ-loop
-loop-less c = search needs
+    let xs = take (start .args .n) (start .args .t3) in
+    let size : length xs ≡ start .args .n = length-take-le _ (start .args .t3) (omega (arith, l .inv .1 .0, start .pre)) in
+    let fits : start .args .at + 5 * length xs ≤ length (now (start .args .out)) = omega (arith, start .pre) in
+    omega (arith, fields-keep _ xs _ fits _ (l .t) (omega arith) (l .inv .1 .1), start .pre)
 
 loop-again : tie.Need-loop-again Inv-loop μ-loop
 loop-again c =
-    let c₄ = c .before .before .before .before in
-    let e = c₄ .before .before .before in
-    let l = c₄ .before .loop in
-    let xs = take (e .args .n) (e .args .t3) in
-    let size : length xs ≡ e .args .n = length-take-le _ (e .args .t3) (omega (arith, l .inv .1 .0, e .pre)) in
-    let fits : e .args .at + 5 * length xs ≤ length (now (e .args .out)) = omega (arith, e .pre) in
-    let cell = getD-take (e .args .n) (e .args .t3) (l .t) 0 (c₄ .loop-test .taken) in
+    let in-loop : tie.In-loop Inv-loop μ-loop = search in
+    let at-loop : tie.At-loop Inv-loop μ-loop = search in
+    let start : tie.Start Inv-loop μ-loop = search in
+    let l = at-loop .loop in
+    let xs = take (start .args .n) (start .args .t3) in
+    let size : length xs ≡ start .args .n = length-take-le _ (start .args .t3) (omega (arith, l .inv .1 .0, start .pre)) in
+    let fits : start .args .at + 5 * length xs ≤ length (now (start .args .out)) = omega (arith, start .pre) in
+    let cell = getD-take (start .args .n) (start .args .t3) (l .t) 0 (in-loop .loop-test .taken) in
     let field = c .before .before .put-field .ensures in
     (search needs, (l .inv .1 .0, fields-more _ xs _ fits _ _ (l .t) (omega arith) (l .inv .1 .1) (rw cell field)))
 
 same-length : tie.Need-same-length Inv-loop μ-loop
 same-length c =
-    let e = c .before .before .before in
+    let start : tie.Start Inv-loop μ-loop = search in
     let l = c .before .loop in
-    let xs = take (e .args .n) (e .args .t3) in
-    let size : length xs ≡ e .args .n = length-take-le _ (e .args .t3) (omega (arith, l .inv .1 .0, e .pre)) in
-    let fits : e .args .at + 5 * length xs ≤ length (now (e .args .out)) = omega (arith, e .pre) in
+    let xs = take (start .args .n) (start .args .t3) in
+    let size : length xs ≡ start .args .n = length-take-le _ (start .args .t3) (omega (arith, l .inv .1 .0, start .pre)) in
+    let fits : start .args .at + 5 * length xs ≤ length (now (start .args .out)) = omega (arith, start .pre) in
     fields-keep _ xs _ fits _ (l .t) (omega arith) (l .inv .1 .1)
 
 returns : tie.Need-returns Inv-loop μ-loop
 returns c =
-    let e = c .before .before .before in
+    let start : tie.Start Inv-loop μ-loop = search in
     let l = c .before .loop in
-    let xs = take (e .args .n) (e .args .t3) in
-    let size : length xs ≡ e .args .n = length-take-le _ (e .args .t3) (omega (arith, l .inv .1 .0, e .pre)) in
-    let fits : e .args .at + 5 * length xs ≤ length (now (e .args .out)) = omega (arith, e .pre) in
+    let xs = take (start .args .n) (start .args .t3) in
+    let size : length xs ≡ start .args .n = length-take-le _ (start .args .t3) (omega (arith, l .inv .1 .0, start .pre)) in
+    let fits : start .args .at + 5 * length xs ≤ length (now (start .args .out)) = omega (arith, start .pre) in
     fields-end _ _ xs _ (l .t) (omega arith) (l .inv .1 .1)
 
 pub put-cells-spec : {M : Type 1} → statement M
 put-cells-spec =
-    tie.close
-    (tie.spec
-    Inv-loop
-    μ-loop
-    loop-holds
-    mul-put-field
-    add-put-field
-    mul-put-field-2
-    array-read-put-field
-    put-field-requires
-    add-t
-    loop-less
-    loop-again
-    same-length
-    returns)
+    tie.close (tie.spec Inv-loop μ-loop loop-holds (λ c. search needs) (λ c. search needs) (λ c. search needs)
+    (λ c. search needs) put-field-requires (λ c. search needs) (λ c. search needs) loop-again same-length returns)

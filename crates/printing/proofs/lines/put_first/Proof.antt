@@ -10,29 +10,19 @@ use borrow.Author.Needs.{needs}
 use Rattle.printing.proofs.lines.put_first.Statement.{statement}
 use Rattle.printing.proofs.lines.put_first.Tie as tie
 
-put-field-requires : tie.Need-put-field-requires
-put-field-requires c κs = search needs
-
-put-field-requires-2 : tie.Need-put-field-requires-2
-put-field-requires-2 c κs = search needs
-
-slice-write-out : tie.Need-slice-write-out
-slice-write-out c = search needs
-
 same-length : tie.Need-same-length
 same-length c = simp length-set (omega arith)
 
 returns : tie.Need-returns
 unfolding firstLine lineOf fieldOf
 returns c =
-    let c₄ = c .before .before .before .before in
-    let c₈ = c₄ .before .before .before .before in
+    let after-put-field : tie.After-put-field = search in
+    let start : tie.Start = search in
     newline-next _ _ _ 0 10
-    (field-next _ _ _ _ 0 5 _ (c₄ .before .before .put-field .ensures) (c .before .before .put-field2 .ensures) refl (omega
-    (arith, c₈ .before .pre)))
-    refl (omega (arith, c₈ .before .pre))
+    (field-next _ _ _ _ 0 5 _ (after-put-field .put-field .ensures) (c .before .before .put-field2 .ensures) refl (omega
+    (arith, start .pre)))
+    refl (omega (arith, start .pre))
 
 pub put-first-spec : {M : Type 1} → statement M
 put-first-spec =
-    tie.close
-    (tie.spec put-field-requires put-field-requires-2 slice-write-out same-length returns)
+    tie.close (tie.spec (λ c κs. search needs) (λ c κs. search needs) (λ c. search needs) same-length returns)

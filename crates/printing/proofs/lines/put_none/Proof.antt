@@ -10,42 +10,20 @@ use borrow.Author.Needs.{needs}
 use Rattle.printing.proofs.lines.put_none.Statement.{statement}
 use Rattle.printing.proofs.lines.put_none.Tie as tie
 
-put-field-requires : tie.Need-put-field-requires
-put-field-requires c κs = search needs
-
-add-put-word : tie.Need-add-put-word
-add-put-word c = search needs
-
-put-word-requires : tie.Need-put-word-requires
-put-word-requires c κs = search needs
-
-add-out : tie.Need-add-out
-add-out c = search needs
-
-slice-write-out : tie.Need-slice-write-out
-slice-write-out c = search needs
-
 same-length : tie.Need-same-length
 same-length c = simp length-set (omega arith)
 
 returns : tie.Need-returns
 unfolding noneLine noneWord fieldOf
 returns c =
-    let c₄ = c .before .before .before .before in
-    let c₈ = c₄ .before .before .before .before in
+    let after-put-field : tie.After-put-field = search in
+    let start : tie.Start = search in
     newline-next _ _ _ _ _
-    (put-next _ _ _ _ _ _ _ (c₄ .before .before .put-field .ensures) (c .before .before .put-word .ensures) refl (omega
-    (arith, c₈ .before .pre)))
-    refl (omega (arith, c₈ .before .pre))
+    (put-next _ _ _ _ _ _ _ (after-put-field .put-field .ensures) (c .before .before .put-word .ensures) refl (omega
+    (arith, start .pre)))
+    refl (omega (arith, start .pre))
 
 pub put-none-spec : {M : Type 1} → statement M
 put-none-spec =
-    tie.close
-    (tie.spec
-    put-field-requires
-    add-put-word
-    put-word-requires
-    add-out
-    slice-write-out
-    same-length
-    returns)
+    tie.close (tie.spec (λ c κs. search needs) (λ c. search needs) (λ c κs. search needs) (λ c. search needs)
+    (λ c. search needs) same-length returns)

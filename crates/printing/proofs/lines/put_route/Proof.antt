@@ -8,60 +8,23 @@ use borrow.Author.Needs.{needs}
 use Rattle.printing.proofs.lines.put_route.Statement.{statement}
 use Rattle.printing.proofs.lines.put_route.Tie as tie
 
-put-field-requires : tie.Need-put-field-requires
-put-field-requires c κs = search needs
-
-add-put-field : tie.Need-add-put-field
-add-put-field c = search needs
-
-put-field-requires-2 : tie.Need-put-field-requires-2
-put-field-requires-2 c κs = search needs
-
-add-put-cells : tie.Need-add-put-cells
-add-put-cells c = search needs
-
-put-cells-requires : tie.Need-put-cells-requires
-put-cells-requires c κs = search needs
-
-add-out : tie.Need-add-out
-add-out c = search needs
-
-mul-out : tie.Need-mul-out
-mul-out c = search needs
-
-add-out-2 : tie.Need-add-out-2
-add-out-2 c = search needs
-
-slice-write-out : tie.Need-slice-write-out
-slice-write-out c = search needs
-
 same-length : tie.Need-same-length
 same-length c = simp length-set (omega arith)
 
 returns : tie.Need-returns
 returns c =
-    let c₄ = c .before .before .before .before in
-    let c₈ = c₄ .before .before .before .before in
-    let c₁₂ = c₈ .before .before .before .before in
-    let n = c₁₂ .before .args .n in
-    let cells = c₁₂ .before .args .cells in
+    let after-put-field2 : tie.After-put-field2 = search in
+    let after-put-field : tie.After-put-field = search in
+    let start : tie.Start = search in
+    let n = start .args .n in
+    let cells = start .args .cells in
     let long : length cells ≡ 64 = search needs in
-    route-line _ _ _ _ (take n cells) _ _ _ n (c₈ .before .before .put-field .ensures) (c₄ .before .before .put-field2 .ensures)
+    route-line _ _ _ _ (take n cells) _ _ _ n (after-put-field .put-field .ensures) (after-put-field2 .put-field2 .ensures)
     (c .before .before .put-cells .ensures)
-    (length-take-le n cells (omega (arith, c₁₂ .before .pre))) (omega (arith, c₁₂ .before .pre))
+    (length-take-le n cells (omega (arith, start .pre))) (omega (arith, start .pre))
 
 pub put-route-spec : {M : Type 1} → statement M
 put-route-spec =
-    tie.close
-    (tie.spec
-    put-field-requires
-    add-put-field
-    put-field-requires-2
-    add-put-cells
-    put-cells-requires
-    add-out
-    mul-out
-    add-out-2
-    slice-write-out
-    same-length
+    tie.close (tie.spec (λ c κs. search needs) (λ c. search needs) (λ c κs. search needs) (λ c. search needs)
+    (λ c κs. search needs) (λ c. search needs) (λ c. search needs) (λ c. search needs) (λ c. search needs) same-length
     returns)

@@ -6,17 +6,8 @@ use borrow.Author.Needs.{needs}
 use Rattle.script.proofs.pages.front.Statement.{statement}
 use Rattle.script.proofs.pages.front.Tie as tie
 
-slice-aggregate-result : tie.Need-slice-aggregate-result
-slice-aggregate-result c = search needs
-
-returns : tie.Need-returns
-returns c = search needs
-
 slice-aggregate-result-2 : tie.Need-slice-aggregate-result-2
 slice-aggregate-result-2 c = sym (length-take-le _ _ (omega arith))
 
-returns-2 : tie.Need-returns-2
-returns-2 c = search needs
-
 pub front-spec : {M : Type 1} → statement M
-front-spec = tie.close (tie.spec slice-aggregate-result returns slice-aggregate-result-2 returns-2)
+front-spec = tie.close (tie.spec (λ c. search needs) (λ c. search needs) slice-aggregate-result-2 (λ c. search needs))

@@ -5,9 +5,6 @@ use Rattle.search.proofs.GroundLaws.{ones-word, ones-fit}
 use Rattle.search.proofs.ground.ones.Statement.{statement}
 use Rattle.search.proofs.ground.ones.Tie as tie
 
-shl-result : tie.Need-shl-result
-shl-result c = search needs
-
 sub-result : tie.Need-sub-result
 sub-result c = rw (ones-word _ (c .pre)) (ones-fit _ (c .pre) .0)
 
@@ -18,4 +15,4 @@ returns : tie.Need-returns
 returns c = rw (ones-word _ (c .pre))
 
 pub ones-spec : {M : Type 1} → statement M
-ones-spec = tie.close (tie.spec shl-result sub-result cast-result returns)
+ones-spec = tie.close (tie.spec (λ c. search needs) sub-result cast-result returns)

@@ -23,50 +23,35 @@ loop-holds c = (search needs, refl, walls-none _ _ _)
 slice-aggregate-mark : tie.Need-slice-aggregate-mark Inv-loop μ-loop
 slice-aggregate-mark c = sym (c .before .before .loop .inv .1)
 
-mul-mark : tie.Need-mul-mark Inv-loop μ-loop
-mul-mark c = search needs
-
-shared-slice-read-mark : tie.Need-shared-slice-read-mark Inv-loop μ-loop
-shared-slice-read-mark c = search needs
-
 cast-mark : tie.Need-cast-mark Inv-loop μ-loop
-cast-mark c = omega (arith, c .shared-slice-known2 .given (c .before .before .before .loop .j))
+cast-mark c =
+    let at-loop : tie.At-loop Inv-loop μ-loop = search in
+    omega (arith, c .shared-slice-known2 .given (at-loop .loop .j))
 
 mark-requires : tie.Need-mark-requires Inv-loop μ-loop
-mark-requires c κs = let h = c .before .before .before .loop .inv .1 in omega arith
-
-add-j : tie.Need-add-j Inv-loop μ-loop
-add-j c = search needs
+mark-requires c κs =
+    let at-loop : tie.At-loop Inv-loop μ-loop = search in
+    let h = at-loop .loop .inv .1 in omega arith
 
 loop-less : tie.Need-loop-less Inv-loop μ-loop
 loop-less c = omega arith
 
 loop-again : tie.Need-loop-again Inv-loop μ-loop
 loop-again c =
-    let c₄ = c .before .before .before .before in (
+    let at-loop : tie.At-loop Inv-loop μ-loop = search in (
       search needs,
-      ap length (c .before .mark .ensures) ∙ length-marked _ _ _ _ _ ∙ c₄ .before .loop .inv .1,
+      ap length (c .before .mark .ensures) ∙ length-marked _ _ _ _ _ ∙ at-loop .loop .inv .1,
       walls-more _ _ _ _ _ _
-          (c₄ .before .loop .inv .2) (c .before .mark .ensures),
+          (at-loop .loop .inv .2) (c .before .mark .ensures),
     )
 
 returns : tie.Need-returns Inv-loop μ-loop
-returns c = let e : c .before .loop .j ≡ c .before .before .before .args .n = omega arith in
+returns c =
+    let start : tie.Start Inv-loop μ-loop = search in
+    let e : c .before .loop .j ≡ start .args .n = omega arith in
     (rw e at (c .before .loop .inv .2), c .before .loop .inv .1)
 
 pub wall-rows-spec : {M : Type 1} → statement M
 wall-rows-spec =
-    tie.close
-    (tie.spec
-    Inv-loop
-    μ-loop
-    loop-holds
-    slice-aggregate-mark
-    mul-mark
-    shared-slice-read-mark
-    cast-mark
-    mark-requires
-    add-j
-    loop-less
-    loop-again
-    returns)
+    tie.close (tie.spec Inv-loop μ-loop loop-holds slice-aggregate-mark (λ c. search needs) (λ c. search needs)
+    cast-mark mark-requires (λ c. search needs) loop-less loop-again returns)

@@ -18,54 +18,24 @@ Inv-loop text base k j₀ j = (j ≤ k) × (inTurn (λ (e : ℕ). lineForm text 
 abbrev μ-loop : tie.MeasureT-loop
 μ-loop text base k j₀ j = k - j
 
-cast-base : tie.Need-cast-base Inv-loop μ-loop
-cast-base c = search needs
-
-mul-base : tie.Need-mul-base Inv-loop μ-loop
-mul-base c = search needs
-
-add-base : tie.Need-add-base Inv-loop μ-loop
-add-base c = search needs
-
-cast-k : tie.Need-cast-k Inv-loop μ-loop
-cast-k c = search needs
-
 loop-holds : tie.Need-loop-holds Inv-loop μ-loop
 loop-holds c = (search needs, turn-none _)
-
-mul-line-form : tie.Need-mul-line-form Inv-loop μ-loop
-mul-line-form c = search needs
-
-add-line-form : tie.Need-add-line-form Inv-loop μ-loop
-add-line-form c = search needs
-
-line-form-requires : tie.Need-line-form-requires Inv-loop μ-loop
-line-form-requires c κs = search needs
-
-enum-told : tie.Need-enum-told Inv-loop μ-loop
-enum-told c = search needs
-
-enum-told-2 : tie.Need-enum-told-2 Inv-loop μ-loop
-enum-told-2 c = search needs
 
 returns : tie.Need-returns Inv-loop μ-loop
 unfolding linesForm wallAt
 returns c =
-    turn-ends _ _ _ (c .before .before .before .loop-test .taken) (c .before .before .before .before .loop .inv .1)
+    let in-loop : tie.In-loop Inv-loop μ-loop = search in
+    let at-loop : tie.At-loop Inv-loop μ-loop = search in
+    turn-ends _ _ _ (in-loop .loop-test .taken) (at-loop .loop .inv .1)
     (c .before .before .line-form .ensures) (c .enum-told2 .given .1)
 
-add-j : tie.Need-add-j Inv-loop μ-loop
-add-j c = search needs
-
-loop-less : tie.Need-loop-less Inv-loop μ-loop
-loop-less c = search needs
-
 loop-again : tie.Need-loop-again Inv-loop μ-loop
-loop-again c = (
-  search needs,
-  turn-more _ _ (c .before .before .before .before .loop .inv .1)
-      (passes (c .before .before .line-form .ensures) (c .enum-told .given .1)),
-)
+loop-again c =
+    let at-loop : tie.At-loop Inv-loop μ-loop = search in (
+      search needs,
+      turn-more _ _ (at-loop .loop .inv .1)
+          (passes (c .before .before .line-form .ensures) (c .enum-told .given .1)),
+    )
 
 returns-2 : tie.Need-returns-2 Inv-loop μ-loop
 unfolding linesForm wallAt verdictOf
@@ -75,22 +45,6 @@ returns-2 c =
 
 pub walls-form-spec : {M : Type 1} → statement M
 walls-form-spec =
-    tie.close
-    (tie.spec
-    Inv-loop
-    μ-loop
-    cast-base
-    mul-base
-    add-base
-    cast-k
-    loop-holds
-    mul-line-form
-    add-line-form
-    line-form-requires
-    enum-told
-    enum-told-2
-    returns
-    add-j
-    loop-less
-    loop-again
-    returns-2)
+    tie.close (tie.spec Inv-loop μ-loop (λ c. search needs) (λ c. search needs) (λ c. search needs) (λ c. search needs)
+    loop-holds (λ c. search needs) (λ c. search needs) (λ c κs. search needs) (λ c. search needs) (λ c. search needs)
+    returns (λ c. search needs) (λ c. search needs) loop-again returns-2)

@@ -11,58 +11,21 @@ use borrow.Author.Needs.{needs}
 use Rattle.sheet.proofs.lines.put_carrier.Statement.{statement}
 use Rattle.sheet.proofs.lines.put_carrier.Tie as tie
 
-mul-start : tie.Need-mul-start
-mul-start c = search needs
-
-element-copy-out-start : tie.Need-element-copy-out-start
-element-copy-out-start c = search needs
-
-mul-goal : tie.Need-mul-goal
-mul-goal c = search needs
-
-element-copy-out-goal : tie.Need-element-copy-out-goal
-element-copy-out-goal c = search needs
-
-put-cell-requires : tie.Need-put-cell-requires
-put-cell-requires c κs = search needs
-
-add-put-cell : tie.Need-add-put-cell
-add-put-cell c = search needs
-
-put-cell-requires-2 : tie.Need-put-cell-requires-2
-put-cell-requires-2 c κs = search needs
-
-add-out : tie.Need-add-out
-add-out c = search needs
-
-slice-write-out : tie.Need-slice-write-out
-slice-write-out c = search needs
-
 same-length : tie.Need-same-length
 same-length c = simp length-set (omega arith)
 
 returns : tie.Need-returns
 unfolding carrierLine lineOf fieldOf startOf goalOf
 returns c =
-    let c₄ = c .before .before .before .before in
-    let c₈ = c₄ .before .before .before .before in
+    let after-put-cell : tie.After-put-cell = search in
+    let start : tie.Start = search in
     newline-next _ _ _ _ _
-    (put-next _ _ _ _ _ _ _ (c₄ .before .before .put-cell .ensures) (c .before .before .put-cell2 .ensures) refl
-    (omega (arith, c₈ .before .before .before .pre)))
-    refl (omega (arith, c₈ .before .before .before .pre))
+    (put-next _ _ _ _ _ _ _ (after-put-cell .put-cell .ensures) (c .before .before .put-cell2 .ensures) refl
+    (omega (arith, start .pre)))
+    refl (omega (arith, start .pre))
 
 pub put-carrier-spec : {M : Type 1} → statement M
 put-carrier-spec =
-    tie.close
-    (tie.spec
-    mul-start
-    element-copy-out-start
-    mul-goal
-    element-copy-out-goal
-    put-cell-requires
-    add-put-cell
-    put-cell-requires-2
-    add-out
-    slice-write-out
-    same-length
-    returns)
+    tie.close (tie.spec (λ c. search needs) (λ c. search needs) (λ c. search needs) (λ c. search needs)
+    (λ c κs. search needs) (λ c. search needs) (λ c κs. search needs) (λ c. search needs) (λ c. search needs)
+    same-length returns)

@@ -16,35 +16,20 @@ Inv-loop f out₀ n i₀ out i = (i ≤ n) × (out ≡ put out₀ 31 (linesOf (c
 abbrev μ-loop : tie.MeasureT-loop
 μ-loop f out₀ n i₀ out i = n - i
 
-cast-n : tie.Need-cast-n Inv-loop μ-loop
-cast-n c = search needs
-
 loop-holds : tie.Need-loop-holds Inv-loop μ-loop
 unfolding linesOf
 loop-holds c = (search needs, put-none _ 31)
-
-mul-put-carrier : tie.Need-mul-put-carrier Inv-loop μ-loop
-mul-put-carrier c = search needs
-
-add-put-carrier : tie.Need-add-put-carrier Inv-loop μ-loop
-add-put-carrier c = search needs
 
 put-carrier-requires : tie.Need-put-carrier-requires Inv-loop μ-loop
 put-carrier-requires c κs =
     let size = lines-keep _ 21 31 (carrier-length _) _ _ (c .before .before .loop .i) (omega arith) (c .before .before .loop .inv .1) in
     ((omega arith, omega arith), omega arith)
 
-add-i : tie.Need-add-i Inv-loop μ-loop
-add-i c = search needs
-
-loop-less : tie.Need-loop-less Inv-loop μ-loop
-loop-less c = search needs
-
 loop-again : tie.Need-loop-again Inv-loop μ-loop
 loop-again c =
-    let c₄ = c .before .before .before .before in (
+    let at-loop : tie.At-loop Inv-loop μ-loop = search in (
       search needs,
-      lines-next _ 21 31 (carrier-length _) _ _ _ _ _ (c₄ .before .loop .inv .1)
+      lines-next _ 21 31 (carrier-length _) _ _ _ _ _ (at-loop .loop .inv .1)
           (c .before .before .put-carrier .ensures) refl (omega arith),
     )
 
@@ -58,17 +43,5 @@ returns c =
 
 pub put-carriers-spec : {M : Type 1} → statement M
 put-carriers-spec =
-    tie.close
-    (tie.spec
-    Inv-loop
-    μ-loop
-    cast-n
-    loop-holds
-    mul-put-carrier
-    add-put-carrier
-    put-carrier-requires
-    add-i
-    loop-less
-    loop-again
-    same-length
-    returns)
+    tie.close (tie.spec Inv-loop μ-loop (λ c. search needs) loop-holds (λ c. search needs) (λ c. search needs)
+    put-carrier-requires (λ c. search needs) (λ c. search needs) loop-again same-length returns)

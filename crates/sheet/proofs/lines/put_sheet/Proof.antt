@@ -8,29 +8,24 @@ use Rattle.sheet.proofs.lines.put_sheet.Tie as tie
 
 put-head-requires : tie.Need-put-head-requires
 unfolding sheetLength wallAt
-put-head-requires c κs = omega (arith, c .before .before .before .pre)
+put-head-requires c κs =
+    let start : tie.Start = search in
+    omega (arith, start .pre)
 
 put-carriers-requires : tie.Need-put-carriers-requires
 unfolding sheetLength wallAt
 put-carriers-requires c κs =
-    let c₄ = c .before .before .before .before in
-    ((c₄ .before .before .before .pre .1 .0, c₄ .before .before .before .pre .0 .1), omega (arith, c₄ .before .before .before .pre))
-
-put-walls-requires : tie.Need-put-walls-requires
-put-walls-requires c κs = search needs
-
-same-length : tie.Need-same-length
-same-length c = search needs
+    let start : tie.Start = search in
+    ((start .pre .1 .0, start .pre .0 .1), omega (arith, start .pre))
 
 returns : tie.Need-returns
 returns c =
-    let c₄ = c .before .before .before .before in
-    let c₈ = c₄ .before .before .before .before in
-    let c₁₂ = c₈ .before .before .before .before in
-    sheet-put _ _ _ _ _ _ (c₁₂ .before .before .pre .1 .1) (c₈ .before .before .put-head .ensures)
-    (c₄ .before .before .put-carriers .ensures) (c .before .before .put-walls .ensures)
+    let after-put-carriers : tie.After-put-carriers = search in
+    let after-put-head : tie.After-put-head = search in
+    let start : tie.Start = search in
+    sheet-put _ _ _ _ _ _ (start .pre .1 .1) (after-put-head .put-head .ensures)
+    (after-put-carriers .put-carriers .ensures) (c .before .before .put-walls .ensures)
 
 pub put-sheet-spec : {M : Type 1} → statement M
 put-sheet-spec =
-    tie.close
-    (tie.spec put-head-requires put-carriers-requires put-walls-requires same-length returns)
+    tie.close (tie.spec put-head-requires put-carriers-requires (λ c κs. search needs) (λ c. search needs) returns)

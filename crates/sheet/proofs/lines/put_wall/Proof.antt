@@ -8,23 +8,12 @@ use borrow.Author.Needs.{needs}
 use Rattle.sheet.proofs.lines.put_wall.Statement.{statement}
 use Rattle.sheet.proofs.lines.put_wall.Tie as tie
 
-put-cell-requires : tie.Need-put-cell-requires
-put-cell-requires c κs = search needs
-
-add-out : tie.Need-add-out
-add-out c = search needs
-
-slice-write-out : tie.Need-slice-write-out
-slice-write-out c = search needs
-
-same-length : tie.Need-same-length
-same-length c = search needs
-
 returns : tie.Need-returns
 unfolding wallLine lineOf fieldOf
 returns c =
-    let c₄ = c .before .before .before .before in
-    newline-next _ _ _ _ _ (c .before .before .put-cell .ensures) refl (omega (arith, c₄ .before .pre))
+    let start : tie.Start = search in
+    newline-next _ _ _ _ _ (c .before .before .put-cell .ensures) refl (omega (arith, start .pre))
 
 pub put-wall-spec : {M : Type 1} → statement M
-put-wall-spec = tie.close (tie.spec put-cell-requires add-out slice-write-out same-length returns)
+put-wall-spec =
+    tie.close (tie.spec (λ c κs. search needs) (λ c. search needs) (λ c. search needs) (λ c. search needs) returns)

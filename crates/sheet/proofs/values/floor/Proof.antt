@@ -5,9 +5,6 @@ use borrow.Author.Needs.{needs}
 use Rattle.sheet.proofs.values.floor.Statement.{statement}
 use Rattle.sheet.proofs.values.floor.Tie as tie
 
-head-requires : tie.Need-head-requires
-head-requires c κs = search needs
-
 cells-requires : tie.Need-cells-requires
 unfolding headAt
 cells-requires c κs = rw (c .head .ensures) (search needs)
@@ -21,4 +18,4 @@ unfolding floorAt headAt cellsAt carrierAt goalAt
 returns c = rw (c .before .cells .ensures, c .cells2 .ensures, c .before .before .head .ensures)
 
 pub floor-spec : {M : Type 1} → statement M
-floor-spec = tie.close (tie.spec head-requires cells-requires cells-requires-2 returns)
+floor-spec = tie.close (tie.spec (λ c κs. search needs) cells-requires cells-requires-2 returns)

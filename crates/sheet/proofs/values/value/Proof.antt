@@ -5,19 +5,13 @@ use borrow.Author.Needs.{needs}
 use Rattle.sheet.proofs.values.value.Statement.{statement}
 use Rattle.sheet.proofs.values.value.Tie as tie
 
-number-requires : tie.Need-number-requires
-number-requires c κs = search needs
-
 returns : tie.Need-returns
 unfolding valueAt
 returns c = rw (← c .before .number .ensures) (omega arith)
-
-cast-result : tie.Need-cast-result
-cast-result c = search needs
 
 returns-2 : tie.Need-returns-2
 unfolding valueAt
 returns-2 c = rw (← c .before .number .ensures) (omega arith)
 
 pub value-spec : {M : Type 1} → statement M
-value-spec = tie.close (tie.spec number-requires returns cast-result returns-2)
+value-spec = tie.close (tie.spec (λ c κs. search needs) returns (λ c. search needs) returns-2)

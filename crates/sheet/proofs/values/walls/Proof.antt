@@ -18,41 +18,11 @@ Inv-loop text out₀ base k width height j₀ out j = (j ≤ k) ×
 abbrev μ-loop : tie.MeasureT-loop
 μ-loop text out₀ base k width height j₀ out j = k - j
 
-cast-base : tie.Need-cast-base Inv-loop μ-loop
-cast-base c = search needs
-
-mul-base : tie.Need-mul-base Inv-loop μ-loop
-mul-base c = search needs
-
-add-base : tie.Need-add-base Inv-loop μ-loop
-add-base c = search needs
-
-cast-k : tie.Need-cast-k Inv-loop μ-loop
-cast-k c = search needs
-
 loop-holds : tie.Need-loop-holds Inv-loop μ-loop
 loop-holds c = (search needs, listed-start _ _)
 
-mul-cell : tie.Need-mul-cell Inv-loop μ-loop
-mul-cell c = search needs
-
-add-cell : tie.Need-add-cell Inv-loop μ-loop
-add-cell c = search needs
-
-cell-requires : tie.Need-cell-requires Inv-loop μ-loop
-cell-requires c κs = search needs
-
-mul-out : tie.Need-mul-out Inv-loop μ-loop
-mul-out c = search needs
-
 slice-write-out : tie.Need-slice-write-out Inv-loop μ-loop
 slice-write-out c = omega (arith, listed-keeps _ _ _ _ (omega arith) (c .before .before .loop .inv .1))
-
-add-j : tie.Need-add-j Inv-loop μ-loop
-add-j c = search needs
-
-loop-less : tie.Need-loop-less Inv-loop μ-loop
-loop-less c = search needs
 
 loop-again : tie.Need-loop-again Inv-loop μ-loop
 loop-again c = (search needs, listed-store _ _ _ _ _ (omega arith) (c .before .before .loop .inv .1) (c .cell .ensures))
@@ -66,22 +36,6 @@ returns c = listed-end _ (c .before .loop .j) _ _ _ (c .before .loop .inv .0) (c
 
 pub walls-spec : {M : Type 1} → statement M
 walls-spec =
-    tie.close
-    (tie.spec
-    Inv-loop
-    μ-loop
-    cast-base
-    mul-base
-    add-base
-    cast-k
-    loop-holds
-    mul-cell
-    add-cell
-    cell-requires
-    mul-out
-    slice-write-out
-    add-j
-    loop-less
-    loop-again
-    same-length
-    returns)
+    tie.close (tie.spec Inv-loop μ-loop (λ c. search needs) (λ c. search needs) (λ c. search needs) (λ c. search needs)
+    loop-holds (λ c. search needs) (λ c. search needs) (λ c κs. search needs) (λ c. search needs) slice-write-out
+    (λ c. search needs) (λ c. search needs) loop-again same-length returns)

@@ -22,23 +22,17 @@ loop-holds c = (omega arith, (refl, refl))
 
 push-below-requires : tie.Need-push-below-requires Inv-loop μ-loop
 push-below-requires c κs =
-    let c₄ = c .before .before .before .before in
-    (c₄ .pre .0, c .before .loop-test .taken, c₄ .pre .1, omega (arith, c .before .before .loop .inv .1 .0, c₄ .pre .2))
-
-add-k : tie.Need-add-k Inv-loop μ-loop
-add-k c = search needs
-
-loop-less : tie.Need-loop-less Inv-loop μ-loop
-loop-less c = search needs
+    let start : tie.Start Inv-loop μ-loop = search in
+    (start .pre .0, c .before .loop-test .taken, start .pre .1, omega (arith, c .before .before .loop .inv .1 .0, start .pre .2))
 
 loop-again : tie.Need-loop-again Inv-loop μ-loop
 loop-again c =
-    let c₄ = c .before .before .before .before in (
+    let at-loop : tie.At-loop Inv-loop μ-loop = search in (
       search needs,
       (
-        c .before .before .push-below .kept .0 ∙ c₄ .before .loop .inv .1 .0,
+        c .before .before .push-below .kept .0 ∙ at-loop .loop .inv .1 .0,
         send-more _ _ _ _ _ _ _
-            (c₄ .before .loop .inv .1 .1) (c .before .before .push-below .ensures),
+            (at-loop .loop .inv .1 .1) (c .before .before .push-below .ensures),
       ),
     )
 
@@ -46,18 +40,11 @@ same-length : tie.Need-same-length Inv-loop μ-loop
 same-length c = c .before .loop .inv .1 .0
 
 returns : tie.Need-returns Inv-loop μ-loop
-returns c = let same : c .before .loop .k ≡ c .before .before .before .args .n = omega arith in c .before .loop .inv .1 .1 ∙ rw same refl
+returns c =
+    let start : tie.Start Inv-loop μ-loop = search in
+    let same : c .before .loop .k ≡ start .args .n = omega arith in c .before .loop .inv .1 .1 ∙ rw same refl
 
 pub send-spec : {M : Type 1} → statement M
 send-spec =
-    tie.close
-    (tie.spec
-    Inv-loop
-    μ-loop
-    loop-holds
-    push-below-requires
-    add-k
-    loop-less
-    loop-again
-    same-length
-    returns)
+    tie.close (tie.spec Inv-loop μ-loop loop-holds push-below-requires (λ c. search needs) (λ c. search needs)
+    loop-again same-length returns)

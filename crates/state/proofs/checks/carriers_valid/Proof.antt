@@ -18,9 +18,6 @@ Inv-loop f m n i₀ i = (i ≤ n) × (each i (carrierValid f m) ≡ true)
 abbrev μ-loop : tie.MeasureT-loop
 μ-loop f m n i₀ i = n - i
 
-cast-n : tie.Need-cast-n Inv-loop μ-loop
-cast-n c = search needs
-
 loop-holds : tie.Need-loop-holds Inv-loop μ-loop
 unfolding each
 loop-holds c = (omega arith, refl)
@@ -28,39 +25,24 @@ loop-holds c = (omega arith, refl)
 carrier-valid-requires : tie.Need-carrier-valid-requires Inv-loop μ-loop
 unfolding stateSize
 carrier-valid-requires c κs =
-    let c₄ = c .before .before .before .before in
-    (omega (arith, c .loop-test .taken, c₄ .pre), omega (arith, c .loop-test .taken, c₄ .pre))
+    let start : tie.Start Inv-loop μ-loop = search in
+    (omega (arith, c .loop-test .taken, start .pre), omega (arith, c .loop-test .taken, start .pre))
 
 returns : tie.Need-returns Inv-loop μ-loop
 returns c = each-stop _ _ _ (c .before .before .loop-test .taken) (sym (c .before .carrier-valid .ensures) ∙ not-true _ (c .if1 .taken))
 
-add-i : tie.Need-add-i Inv-loop μ-loop
-add-i c = search needs
-
-loop-less : tie.Need-loop-less Inv-loop μ-loop
-loop-less c = search needs
-
 loop-again : tie.Need-loop-again Inv-loop μ-loop
-loop-again c = (
-  search needs,
-  each-more _ _ (c .before .before .before .loop .inv .1)
-      (sym (c .before .carrier-valid .ensures) ∙ not-false _ (c .if1 .left)),
-)
+loop-again c =
+    let at-loop : tie.At-loop Inv-loop μ-loop = search in (
+      search needs,
+      each-more _ _ (at-loop .loop .inv .1)
+          (sym (c .before .carrier-valid .ensures) ∙ not-false _ (c .if1 .left)),
+    )
 
 returns-2 : tie.Need-returns-2 Inv-loop μ-loop
 returns-2 c = each-end _ _ _ (c .before .loop .inv .0) (omega arith) (c .before .loop .inv .1)
 
 pub carriers-valid-spec : {M : Type 1} → statement M
 carriers-valid-spec =
-    tie.close
-    (tie.spec
-    Inv-loop
-    μ-loop
-    cast-n
-    loop-holds
-    carrier-valid-requires
-    returns
-    add-i
-    loop-less
-    loop-again
-    returns-2)
+    tie.close (tie.spec Inv-loop μ-loop (λ c. search needs) loop-holds carrier-valid-requires returns
+    (λ c. search needs) (λ c. search needs) loop-again returns-2)

@@ -22,33 +22,17 @@ loop-holds : tie.Need-loop-holds Inv-loop μ-loop
 unfolding each
 loop-holds c = (omega arith, refl)
 
-add-cell-valid : tie.Need-add-cell-valid Inv-loop μ-loop
-add-cell-valid c = search needs
-
-mul-cell-valid : tie.Need-mul-cell-valid Inv-loop μ-loop
-mul-cell-valid c = search needs
-
-shared-slice-read-cell-valid : tie.Need-shared-slice-read-cell-valid Inv-loop μ-loop
-shared-slice-read-cell-valid c = search needs
-
-cell-valid-requires : tie.Need-cell-valid-requires Inv-loop μ-loop
-cell-valid-requires c κs = search needs
-
 returns : tie.Need-returns Inv-loop μ-loop
 unfolding cellsValid
-returns c = each-stop _ _ _ (c .before .before .before .loop-test .taken)
+returns c =
+    let in-loop : tie.In-loop Inv-loop μ-loop = search in
+    each-stop _ _ _ (in-loop .loop-test .taken)
     (sym (c .before .cell-valid .ensures) ∙ not-true _ (c .if1 .taken))
-
-add-t : tie.Need-add-t Inv-loop μ-loop
-add-t c = search needs
-
-loop-less : tie.Need-loop-less Inv-loop μ-loop
-loop-less c = search needs
 
 loop-again : tie.Need-loop-again Inv-loop μ-loop
 loop-again c =
-    let c₄ = c .before .before .before .before in
-    (search needs, each-more _ _ (c₄ .loop .inv .1) (sym (c .before .cell-valid .ensures) ∙ not-false _ (c .if1 .left)))
+    let at-loop : tie.At-loop Inv-loop μ-loop = search in
+    (search needs, each-more _ _ (at-loop .loop .inv .1) (sym (c .before .cell-valid .ensures) ∙ not-false _ (c .if1 .left)))
 
 returns-2 : tie.Need-returns-2 Inv-loop μ-loop
 unfolding cellsValid
@@ -56,17 +40,5 @@ returns-2 c = each-end _ _ _ (c .before .loop .inv .0) (omega arith) (c .before 
 
 pub cells-valid-spec : {M : Type 1} → statement M
 cells-valid-spec =
-    tie.close
-    (tie.spec
-    Inv-loop
-    μ-loop
-    loop-holds
-    add-cell-valid
-    mul-cell-valid
-    shared-slice-read-cell-valid
-    cell-valid-requires
-    returns
-    add-t
-    loop-less
-    loop-again
-    returns-2)
+    tie.close (tie.spec Inv-loop μ-loop loop-holds (λ c. search needs) (λ c. search needs) (λ c. search needs)
+    (λ c κs. search needs) returns (λ c. search needs) (λ c. search needs) loop-again returns-2)

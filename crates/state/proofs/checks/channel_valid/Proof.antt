@@ -7,24 +7,9 @@ use borrow.Author.Needs.{needs}
 use Rattle.state.proofs.checks.channel_valid.Statement.{statement}
 use Rattle.state.proofs.checks.channel_valid.Tie as tie
 
-mul-count : tie.Need-mul-count
-mul-count c = search needs
-
-shared-slice-read-count : tie.Need-shared-slice-read-count
-shared-slice-read-count c = search needs
-
 returns : tie.Need-returns
 unfolding channelValid
 returns c = and-stop _ _ (lt-leb _ _ (c .if1 .taken))
-
-add-places-valid : tie.Need-add-places-valid
-add-places-valid c = search needs
-
-cast-places-valid : tie.Need-cast-places-valid
-cast-places-valid c = search needs
-
-places-valid-requires : tie.Need-places-valid-requires
-places-valid-requires c κs = search needs
 
 returns-2 : tie.Need-returns-2
 unfolding channelValid
@@ -32,12 +17,5 @@ returns-2 c = and-next _ _ (le-leb _ _ (c .before .if1 .left)) (c .places-valid 
 
 pub channel-valid-spec : {M : Type 1} → statement M
 channel-valid-spec =
-    tie.close
-    (tie.spec
-    mul-count
-    shared-slice-read-count
-    returns
-    add-places-valid
-    cast-places-valid
-    places-valid-requires
-    returns-2)
+    tie.close (tie.spec (λ c. search needs) (λ c. search needs) returns (λ c. search needs) (λ c. search needs)
+    (λ c κs. search needs) returns-2)

@@ -18,31 +18,20 @@ Inv-loop f m n i₀ i = (i ≤ n) × (each i (λ k. each k (pairValid f m k)) �
 abbrev μ-loop : tie.MeasureT-loop
 μ-loop f m n i₀ i = n - i
 
-cast-n : tie.Need-cast-n Inv-loop μ-loop
-cast-n c = search needs
-
 loop-holds : tie.Need-loop-holds Inv-loop μ-loop
 unfolding each
 loop-holds c = (omega arith, refl)
 
-receiver-valid-requires : tie.Need-receiver-valid-requires Inv-loop μ-loop
-receiver-valid-requires c κs = search needs
-
 returns : tie.Need-returns Inv-loop μ-loop
 returns c = each-stop _ _ _ (c .before .before .loop-test .taken) (sym (c .before .receiver-valid .ensures) ∙ not-true _ (c .if1 .taken))
 
-add-i : tie.Need-add-i Inv-loop μ-loop
-add-i c = search needs
-
-loop-less : tie.Need-loop-less Inv-loop μ-loop
-loop-less c = search needs
-
 loop-again : tie.Need-loop-again Inv-loop μ-loop
 loop-again c =
-    let c₄ = c .before .before .before .before in (
+    let at-loop : tie.At-loop Inv-loop μ-loop = search in
+    let start : tie.Start Inv-loop μ-loop = search in (
       search needs,
-      each-more (λ k. each k (pairValid (c₄ .before .before .args .f) (now (c₄ .before .before .args .m)) k)) _
-          (c .before .before .before .loop .inv .1) (sym (c .before .receiver-valid .ensures) ∙ not-false _ (c .if1 .left)),
+      each-more (λ k. each k (pairValid (start .args .f) (now (start .args .m)) k)) _
+          (at-loop .loop .inv .1) (sym (c .before .receiver-valid .ensures) ∙ not-false _ (c .if1 .left)),
     )
 
 returns-2 : tie.Need-returns-2 Inv-loop μ-loop
@@ -50,15 +39,5 @@ returns-2 c = each-end _ _ _ (c .before .loop .inv .0) (omega arith) (c .before 
 
 pub pairs-valid-spec : {M : Type 1} → statement M
 pairs-valid-spec =
-    tie.close
-    (tie.spec
-    Inv-loop
-    μ-loop
-    cast-n
-    loop-holds
-    receiver-valid-requires
-    returns
-    add-i
-    loop-less
-    loop-again
-    returns-2)
+    tie.close (tie.spec Inv-loop μ-loop (λ c. search needs) loop-holds (λ c κs. search needs) returns
+    (λ c. search needs) (λ c. search needs) loop-again returns-2)

@@ -12,71 +12,43 @@ use borrow.Author.Needs.{needs}
 use Rattle.state.proofs.checks.record_valid.Statement.{statement}
 use Rattle.state.proofs.checks.record_valid.Tie as tie
 
-mul-tag : tie.Need-mul-tag
-mul-tag c = search needs
-
-shared-slice-read-tag : tie.Need-shared-slice-read-tag
-shared-slice-read-tag c = search needs
-
 returns : tie.Need-returns
 unfolding recordValid within
-returns c = let tag = getD (now (c .before .before .before .args .m)) (c .before .before .before .args .at) 0 in
-    rw (lt-leb (c .before .before .before .args .low) tag (c .if1 .taken)) refl
+returns c =
+    let start : tie.Start = search in
+    let tag = getD (now (start .args .m)) (start .args .at) 0 in
+    rw (lt-leb (start .args .low) tag (c .if1 .taken)) refl
 
 returns-2 : tie.Need-returns-2
 unfolding recordValid within
 returns-2 c =
-    let c₄ = c .before .before .before .before in
-    let tag = getD (now (c₄ .args .m)) (c₄ .args .at) 0 in
-    rw (le-leb (c₄ .args .low) tag (c .before .if1 .left), lt-leb tag (c₄ .args .high) (c .if2 .taken)) refl
-
-add-cells-valid : tie.Need-add-cells-valid
-add-cells-valid c = search needs
-
-used-by-requires : tie.Need-used-by-requires
-used-by-requires c κs = search needs
-
-cast-cells-valid : tie.Need-cast-cells-valid
-cast-cells-valid c = search needs
-
-cast-cells-valid-2 : tie.Need-cast-cells-valid-2
-cast-cells-valid-2 c = search needs
+    let start : tie.Start = search in
+    let tag = getD (now (start .args .m)) (start .args .at) 0 in
+    rw (le-leb (start .args .low) tag (c .before .if1 .left), lt-leb tag (start .args .high) (c .if2 .taken)) refl
 
 mul-cells-valid : tie.Need-mul-cells-valid
 mul-cells-valid c =
-    let c₄ = c .before .before .before .before in
-    let w : c₄ .before .before .before .args .f .width ≤ 65535 = search needs in
-    let h : c₄ .before .before .before .args .f .height ≤ 65535 = search needs in
+    let start : tie.Start = search in
+    let w : start .args .f .width ≤ 65535 = search needs in
+    let h : start .args .f .height ≤ 65535 = search needs in
     record { fits = lt-of-le-of-lt (mul-le-mul w h) (lit< tt) }
-
-cells-valid-requires : tie.Need-cells-valid-requires
-cells-valid-requires c κs = search needs
 
 returns-3 : tie.Need-returns-3
 unfolding recordValid within
 returns-3 c =
-    let c₄ = c .before .before .before .before in
-    let c₈ = c₄ .before .before .before .before in
-    let tag = getD (now (c₈ .args .m)) (c₈ .args .at) 0 in
+    let after-used-by : tie.After-used-by = search in
+    let else2 : tie.Else2 = search in
+    let else1 : tie.Else1 = search in
+    let start : tie.Start = search in
+    let tag = getD (now (start .args .m)) (start .args .at) 0 in
     rw (
-      le-leb (c₈ .args .low) tag (c₄ .before .if1 .left),
-      le-leb tag (c₈ .args .high) (c₄ .if2 .left),
+      le-leb (start .args .low) tag (else1 .if1 .left),
+      le-leb tag (start .args .high) (else2 .if2 .left),
       sym
-          (c .before .before .before .used-by .ensures),
+          (after-used-by .used-by .ensures),
     ) (c .cells-valid .ensures)
 
 pub record-valid-spec : {M : Type 1} → statement M
 record-valid-spec =
-    tie.close
-    (tie.spec
-    mul-tag
-    shared-slice-read-tag
-    returns
-    returns-2
-    add-cells-valid
-    used-by-requires
-    cast-cells-valid
-    cast-cells-valid-2
-    mul-cells-valid
-    cells-valid-requires
-    returns-3)
+    tie.close (tie.spec (λ c. search needs) (λ c. search needs) returns returns-2 (λ c. search needs)
+    (λ c κs. search needs) (λ c. search needs) (λ c. search needs) mul-cells-valid (λ c κs. search needs) returns-3)

@@ -7,9 +7,6 @@ use borrow.Author.Needs.{needs}
 use Rattle.state.proofs.checks.used_by.Statement.{statement}
 use Rattle.state.proofs.checks.used_by.Tie as tie
 
-add-result : tie.Need-add-result
-add-result c = search needs
-
 returns : tie.Need-returns
 unfolding usedBy
 returns c = rw (eq-eqb (c .before .args .tag) 2 (c .if1 .taken)) refl
@@ -19,4 +16,4 @@ unfolding usedBy
 returns-2 c = rw (ne-eqb (c .before .args .tag) 2 (c .if1 .left)) refl
 
 pub used-by-spec : {M : Type 1} → statement M
-used-by-spec = tie.close (tie.spec add-result returns returns-2)
+used-by-spec = tie.close (tie.spec (λ c. search needs) returns returns-2)

@@ -17,62 +17,52 @@ shared-slice-read-if1 c = omega (arith, c .before .before .pre)
 
 returns : tie.Need-returns
 unfolding valid countValid
-returns c = let m = now (c .before .before .before .args .m) in
+returns c =
+    let start : tie.Start = search in
+    let m = now (start .args .m) in
     rw (le-ltb (getD m 0 0) 1000 (c .if1 .taken)) refl
 
 shared-slice-read-if2 : tie.Need-shared-slice-read-if2
 unfolding stateSize
 shared-slice-read-if2 c =
-    let c₄ = c .before .before .before .before in
-    omega (arith, c₄ .pre)
+    let start : tie.Start = search in
+    omega (arith, start .pre)
 
 returns-2 : tie.Need-returns-2
 unfolding valid countValid
 returns-2 c =
-    let c₄ = c .before .before .before .before in
-    let m = now (c₄ .before .args .m) in
+    let start : tie.Start = search in
+    let m = now (start .args .m) in
     rw (lt-ltb (getD m 0 0) 1000 (omega (arith, c .before .before .if1 .left)), le-ltb (getD m 1 0) 1000 (c .if2 .taken)) refl
-
-carriers-valid-requires : tie.Need-carriers-valid-requires
-carriers-valid-requires c κs = search needs
 
 returns-3 : tie.Need-returns-3
 unfolding valid countValid
 returns-3 c =
-    let c₄ = c .before .before .before .before in
-    let m = now (c₄ .before .before .before .args .m) in
+    let else1 : tie.Else1 = search in
+    let start : tie.Start = search in
+    let m = now (start .args .m) in
     rw (
-      lt-ltb (getD m 0 0) 1000 (omega (arith, c₄ .if1 .left)),
+      lt-ltb (getD m 0 0) 1000 (omega (arith, else1 .if1 .left)),
       lt-ltb (getD m 1 0) 1000 (omega (arith, c .before .before .if2 .left)),
       sym (c .before .carriers-valid .ensures) ∙ not-true _ (c .if3 .taken),
     ) refl
 
-pairs-valid-requires : tie.Need-pairs-valid-requires
-pairs-valid-requires c κs = search needs
-
 returns-4 : tie.Need-returns-4
 unfolding valid countValid
 returns-4 c =
-    let c₄ = c .before .before .before .before in
-    let c₈ = c₄ .before .before .before .before in
-    let m = now (c₈ .args .m) in
+    let else2 : tie.Else2 = search in
+    let else1 : tie.Else1 = search in
+    let start : tie.Start = search in
+    let m = now (start .args .m) in
     rw (
-      lt-ltb (getD m 0 0) 1000 (omega (arith, c₄ .before .if1 .left)),
+      lt-ltb (getD m 0 0) 1000 (omega (arith, else1 .if1 .left)),
       lt-ltb (getD m 1 0) 1000
-          (omega (arith, c .before .before .before .if2 .left)),
+          (omega (arith, else2 .if2 .left)),
       sym (c .before .before .carriers-valid .ensures) ∙ not-false _
           (c .before .if3 .left),
     ) (c .pairs-valid .ensures)
 
 pub valid-spec : {M : Type 1} → statement M
 valid-spec =
-    tie.close
-    (tie.spec
-    shared-slice-read-if1
-    returns
-    shared-slice-read-if2
-    returns-2
-    carriers-valid-requires
-    returns-3
-    pairs-valid-requires
-    returns-4)
+    tie.close (tie.spec shared-slice-read-if1 returns shared-slice-read-if2 returns-2 (λ c κs. search needs) returns-3
+    (λ c κs. search needs) returns-4)

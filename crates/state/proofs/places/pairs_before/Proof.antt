@@ -25,12 +25,6 @@ add-p c = search (
       (omega (arith, c .before .loop .inv, c .loop-test .taken, c .before .before .pre)),
 )
 
-add-k : tie.Need-add-k Inv-loop μ-loop
-add-k c = search needs
-
-loop-less : tie.Need-loop-less Inv-loop μ-loop
-loop-less c = search needs
-
 loop-again : tie.Need-loop-again Inv-loop μ-loop
 loop-again c = (search needs, pairs-more _ _ (c .before .loop .inv .1))
 
@@ -40,4 +34,4 @@ returns c = let same : c .before .loop .k ≡ c .before .before .args .i = omega
 
 pub pairs-before-spec : {M : Type 1} → statement M
 pairs-before-spec =
-    tie.close (tie.spec Inv-loop μ-loop loop-holds add-p add-k loop-less loop-again returns)
+    tie.close (tie.spec Inv-loop μ-loop loop-holds add-p (λ c. search needs) (λ c. search needs) loop-again returns)

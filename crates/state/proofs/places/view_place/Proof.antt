@@ -9,24 +9,6 @@ use borrow.Author.Needs.{needs}
 use Rattle.state.proofs.places.view_place.Statement.{statement}
 use Rattle.state.proofs.places.view_place.Tie as tie
 
-mul-result : tie.Need-mul-result
-mul-result c = search needs
-
-add-result : tie.Need-add-result
-add-result c = search needs
-
-pairs-before-requires : tie.Need-pairs-before-requires
-pairs-before-requires c κs = search needs
-
-add-result-2 : tie.Need-add-result-2
-add-result-2 c = search needs
-
-mul-result-2 : tie.Need-mul-result-2
-mul-result-2 c = search needs
-
-add-result-3 : tie.Need-add-result-3
-add-result-3 c = search needs
-
 returns : tie.Need-returns
 unfolding viewPlace stateSize
 returns c = let a = c .pairs-before .ensures in
@@ -36,12 +18,5 @@ returns c = let a = c .pairs-before .ensures in
 
 pub view-place-spec : {M : Type 1} → statement M
 view-place-spec =
-    tie.close
-    (tie.spec
-    mul-result
-    add-result
-    pairs-before-requires
-    add-result-2
-    mul-result-2
-    add-result-3
-    returns)
+    tie.close (tie.spec (λ c. search needs) (λ c. search needs) (λ c κs. search needs) (λ c. search needs)
+    (λ c. search needs) (λ c. search needs) returns)

@@ -7,21 +7,6 @@ use borrow.Author.Needs.{needs}
 use Rattle.state.proofs.places.views_start.Statement.{statement}
 use Rattle.state.proofs.places.views_start.Tie as tie
 
-mul-result : tie.Need-mul-result
-mul-result c = search needs
-
-add-result : tie.Need-add-result
-add-result c = search needs
-
-pairs-before-requires : tie.Need-pairs-before-requires
-pairs-before-requires c κs = search needs
-
-mul-result-2 : tie.Need-mul-result-2
-mul-result-2 c = search needs
-
-add-result-2 : tie.Need-add-result-2
-add-result-2 c = search needs
-
 returns : tie.Need-returns
 unfolding viewPlace stateSize
 returns c = let a = c .pairs-before .ensures in
@@ -31,5 +16,5 @@ returns c = let a = c .pairs-before .ensures in
 
 pub views-start-spec : {M : Type 1} → statement M
 views-start-spec =
-    tie.close
-    (tie.spec mul-result add-result pairs-before-requires mul-result-2 add-result-2 returns)
+    tie.close (tie.spec (λ c. search needs) (λ c. search needs) (λ c κs. search needs) (λ c. search needs)
+    (λ c. search needs) returns)

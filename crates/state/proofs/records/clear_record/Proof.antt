@@ -5,15 +5,9 @@ use borrow.Author.Needs.{needs}
 use Rattle.state.proofs.records.clear_record.Statement.{statement}
 use Rattle.state.proofs.records.clear_record.Tie as tie
 
-store-requires : tie.Need-store-requires
-store-requires c κs = search needs
-
-same-length : tie.Need-same-length
-same-length c = search needs
-
 returns : tie.Need-returns
 unfolding fit
 returns c = c .before .before .store .ensures
 
 pub clear-record-spec : {M : Type 1} → statement M
-clear-record-spec = tie.close (tie.spec store-requires same-length returns)
+clear-record-spec = tie.close (tie.spec (λ c κs. search needs) (λ c. search needs) returns)

@@ -15,27 +15,6 @@ abbrev μ-loop : tie.MeasureT-loop
 loop-holds : tie.Need-loop-holds Inv-loop μ-loop
 loop-holds c = (omega arith, record { long = search needs; copied = λ q l. absurd (omega arith) })
 
-add-cells : tie.Need-add-cells Inv-loop μ-loop
-add-cells c = search needs
-
-mul-cells : tie.Need-mul-cells Inv-loop μ-loop
-mul-cells c = search needs
-
-shared-slice-read-cells : tie.Need-shared-slice-read-cells Inv-loop μ-loop
-shared-slice-read-cells c = search needs
-
-mul-cells-2 : tie.Need-mul-cells-2 Inv-loop μ-loop
-mul-cells-2 c = search needs
-
-array-write-cells : tie.Need-array-write-cells Inv-loop μ-loop
-array-write-cells c = search needs
-
-add-t : tie.Need-add-t Inv-loop μ-loop
-add-t c = search needs
-
-loop-less : tie.Need-loop-less Inv-loop μ-loop
-loop-less c = search needs
-
 loop-again : tie.Need-loop-again Inv-loop μ-loop
 loop-again c = (search needs, copied-more _ _ _ _ (c .before .loop-test .taken) (c .before .before .loop .inv .1))
 
@@ -44,17 +23,5 @@ returns c = copied-end _ _ _ (c .before .loop .t) (omega arith) (c .before .befo
 
 pub load-spec : {M : Type 1} → statement M
 load-spec =
-    tie.close
-    (tie.spec
-    Inv-loop
-    μ-loop
-    loop-holds
-    add-cells
-    mul-cells
-    shared-slice-read-cells
-    mul-cells-2
-    array-write-cells
-    add-t
-    loop-less
-    loop-again
-    returns)
+    tie.close (tie.spec Inv-loop μ-loop loop-holds (λ c. search needs) (λ c. search needs) (λ c. search needs)
+    (λ c. search needs) (λ c. search needs) (λ c. search needs) (λ c. search needs) loop-again returns)

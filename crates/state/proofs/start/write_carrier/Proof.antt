@@ -11,35 +11,8 @@ use borrow.Author.Needs.{needs}
 use Rattle.state.proofs.start.write_carrier.Statement.{statement}
 use Rattle.state.proofs.start.write_carrier.Tie as tie
 
-mul-m : tie.Need-mul-m
-mul-m c = search needs
-
-add-m : tie.Need-add-m
-add-m c = search needs
-
-mul-m-2 : tie.Need-mul-m-2
-mul-m-2 c = search needs
-
-slice-write-m : tie.Need-slice-write-m
-slice-write-m c = search needs
-
-mul-m-3 : tie.Need-mul-m-3
-mul-m-3 c = search needs
-
-add-m-2 : tie.Need-add-m-2
-add-m-2 c = search needs
-
-mul-m-4 : tie.Need-mul-m-4
-mul-m-4 c = search needs
-
 slice-write-m-2 : tie.Need-slice-write-m-2
 slice-write-m-2 c = omega (arith, length-set (c .before .args .m .now) (2 + 67 * c .before .args .i) 0, c .before .pre)
-
-mul-store : tie.Need-mul-store
-mul-store c = search needs
-
-add-store : tie.Need-add-store
-add-store c = search needs
 
 store-requires : tie.Need-store-requires
 store-requires c κs = let m = c .before .before .args .m .now in
@@ -48,35 +21,23 @@ store-requires c κs = let m = c .before .before .args .m .now in
 
 same-length : tie.Need-same-length
 same-length c =
-    let c₄ = c .before .before .before .before in
-    let m = c₄ .before .args .m .now in
-    let i = c₄ .before .args .i in
+    let start : tie.Start = search in
+    let m = start .args .m .now in
+    let i = start .args .i in
     c .before .before .store .kept .0 ∙ length-set (set m (2 + 67 * i) 0) (3 + 67 * i) 1 ∙ length-set m (2 + 67 * i) 0
 
 returns : tie.Need-returns
 returns c =
-    let c₄ = c .before .before .before .before in
+    let start : tie.Start = search in
     let b : List ℕ = 1 ∷ replicate 64 0 in
-    let i = c₄ .before .args .i in
-    put-three (now (c₄ .before .args .m)) _ b (2 + 67 * i) (3 + 67 * i) (4 + 67 * i) 0 1 (c .before .before .store .ensures)
+    let i = start .args .i in
+    put-three (now (start .args .m)) _ b (2 + 67 * i) (3 + 67 * i) (4 + 67 * i) 0 1 (c .before .before .store .ensures)
     (omega arith) (omega arith)
-    (omega (arith, c₄ .before .pre))
+    (omega (arith, start .pre))
     ∙ rw (carrier-is i) refl
 
 pub write-carrier-spec : {M : Type 1} → statement M
 write-carrier-spec =
-    tie.close
-    (tie.spec
-    mul-m
-    add-m
-    mul-m-2
-    slice-write-m
-    mul-m-3
-    add-m-2
-    mul-m-4
-    slice-write-m-2
-    mul-store
-    add-store
-    store-requires
-    same-length
-    returns)
+    tie.close (tie.spec (λ c. search needs) (λ c. search needs) (λ c. search needs) (λ c. search needs)
+    (λ c. search needs) (λ c. search needs) (λ c. search needs) slice-write-m-2 (λ c. search needs) (λ c. search needs)
+    store-requires same-length returns)

@@ -24,23 +24,19 @@ loop-holds c = (omega arith, (refl, put-none _ _))
 
 write-carrier-requires : tie.Need-write-carrier-requires Inv-loop μ-loop
 write-carrier-requires c κs =
-    let c₄ = c .before .before .before .before in
-    (omega arith, omega (arith, c .before .before .loop .inv .1 .0, c .before .loop-test .taken, c₄ .pre))
-
-add-i : tie.Need-add-i Inv-loop μ-loop
-add-i c = search needs
-
-loop-less : tie.Need-loop-less Inv-loop μ-loop
-loop-less c = search needs
+    let start : tie.Start Inv-loop μ-loop = search in
+    (omega arith, omega (arith, c .before .before .loop .inv .1 .0, c .before .loop-test .taken, start .pre))
 
 loop-again : tie.Need-loop-again Inv-loop μ-loop
 loop-again c =
-    let c₄ = c .before .before .before .before in (
+    let in-loop : tie.In-loop Inv-loop μ-loop = search in
+    let at-loop : tie.At-loop Inv-loop μ-loop = search in
+    let start : tie.Start Inv-loop μ-loop = search in (
       search needs,
       (
-        c .before .before .write-carrier .kept .0 ∙ c₄ .before .loop .inv .1 .0,
+        c .before .before .write-carrier .kept .0 ∙ at-loop .loop .inv .1 .0,
         carriers-more _ _ _ _
-            (omega (arith, c₄ .loop-test .taken, c₄ .before .before .before .pre)) (c₄ .before .loop .inv .1 .1)
+            (omega (arith, in-loop .loop-test .taken, start .pre)) (at-loop .loop .inv .1 .1)
             (c .before .before .write-carrier .ensures),
       ),
     )
@@ -49,18 +45,11 @@ same-length : tie.Need-same-length Inv-loop μ-loop
 same-length c = c .before .loop .inv .1 .0
 
 returns : tie.Need-returns Inv-loop μ-loop
-returns c = let same : c .before .loop .i ≡ c .before .before .before .args .n = omega arith in c .before .loop .inv .1 .1 ∙ rw same refl
+returns c =
+    let start : tie.Start Inv-loop μ-loop = search in
+    let same : c .before .loop .i ≡ start .args .n = omega arith in c .before .loop .inv .1 .1 ∙ rw same refl
 
 pub write-carriers-spec : {M : Type 1} → statement M
 write-carriers-spec =
-    tie.close
-    (tie.spec
-    Inv-loop
-    μ-loop
-    loop-holds
-    write-carrier-requires
-    add-i
-    loop-less
-    loop-again
-    same-length
-    returns)
+    tie.close (tie.spec Inv-loop μ-loop loop-holds write-carrier-requires (λ c. search needs) (λ c. search needs)
+    loop-again same-length returns)

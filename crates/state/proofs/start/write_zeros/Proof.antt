@@ -19,20 +19,8 @@ abbrev μ-loop : tie.MeasureT-loop
 loop-holds : tie.Need-loop-holds Inv-loop μ-loop
 loop-holds c = (omega arith, (refl, copy-start _ (replicate {A = ℕ} (c .args .count) 0) _))
 
-add-m : tie.Need-add-m Inv-loop μ-loop
-add-m c = search needs
-
-mul-m : tie.Need-mul-m Inv-loop μ-loop
-mul-m c = search needs
-
 slice-write-m : tie.Need-slice-write-m Inv-loop μ-loop
 slice-write-m c = omega (arith, c .before .loop .inv .1 .0, c .loop-test .taken, c .before .before .pre)
-
-add-t : tie.Need-add-t Inv-loop μ-loop
-add-t c = search needs
-
-loop-less : tie.Need-loop-less Inv-loop μ-loop
-loop-less c = search needs
 
 loop-again : tie.Need-loop-again Inv-loop μ-loop
 loop-again c = let xs : List ℕ = replicate (c .before .before .args .count) 0 in
@@ -56,16 +44,5 @@ returns c = copy-end _ _ (replicate {A = ℕ} (c .before .before .args .count) 0
 
 pub write-zeros-spec : {M : Type 1} → statement M
 write-zeros-spec =
-    tie.close
-    (tie.spec
-    Inv-loop
-    μ-loop
-    loop-holds
-    add-m
-    mul-m
-    slice-write-m
-    add-t
-    loop-less
-    loop-again
-    same-length
-    returns)
+    tie.close (tie.spec Inv-loop μ-loop loop-holds (λ c. search needs) (λ c. search needs) slice-write-m
+    (λ c. search needs) (λ c. search needs) loop-again same-length returns)

@@ -22,55 +22,35 @@ abbrev μ-loop : tie.MeasureT-loop
 loop-holds : tie.Need-loop-holds Inv-loop μ-loop
 loop-holds c = (search needs, free-none _ _ (c .before .before .pre .0))
 
-mul-copy-rows : tie.Need-mul-copy-rows Inv-loop μ-loop
-mul-copy-rows c = search needs
-
-add-copy-rows : tie.Need-add-copy-rows Inv-loop μ-loop
-add-copy-rows c = search needs
-
 copy-rows-requires : tie.Need-copy-rows-requires Inv-loop μ-loop
 copy-rows-requires c κs =
-    let c₄ = c .before .before .before .before in
-    (omega arith, omega (arith, c .before .before .loop .inv .1 .long), omega (arith, c₄ .before .pre .1))
-
-add-t : tie.Need-add-t Inv-loop μ-loop
-add-t c = search needs
+    let start : tie.Start Inv-loop μ-loop = search in
+    (omega arith, omega (arith, c .before .before .loop .inv .1 .long), omega (arith, start .pre .1))
 
 loop-less : tie.Need-loop-less Inv-loop μ-loop
 loop-less c = omega arith
 
 loop-again : tie.Need-loop-again Inv-loop μ-loop
 loop-again c =
-    let c₄ = c .before .before .before .before in
-    let c₈ = c₄ .before .before .before .before in (
+    let at-loop : tie.At-loop Inv-loop μ-loop = search in
+    let start : tie.Start Inv-loop μ-loop = search in (
       search needs,
-      free-more _ _ _ _ (c₄ .before .loop .inv .1) (rewritten-same _ _ _ _ _ _ (λ j l. ap (λ (x : ℕ). getD
-          (c₈ .args .free .now) x 0) (zero-add j)) (c .before .before .copy-rows .ensures)),
+      free-more _ _ _ _ (at-loop .loop .inv .1) (rewritten-same _ _ _ _ _ _ (λ j l. ap (λ (x : ℕ). getD
+          (start .args .free .now) x 0) (zero-add j)) (c .before .before .copy-rows .ensures)),
     )
 
 same-length : tie.Need-same-length Inv-loop μ-loop
 same-length c =
-    let c₄ = c .before .before .before .before in
-    c .before .loop .inv .1 .long ∙ sym (ap length (c₄ .pre .0) ∙ length-replicate {A = ℕ} 2304 0)
+    let start : tie.Start Inv-loop μ-loop = search in
+    c .before .loop .inv .1 .long ∙ sym (ap length (start .pre .0) ∙ length-replicate {A = ℕ} 2304 0)
 
 returns : tie.Need-returns Inv-loop μ-loop
 returns c =
-    let c₄ = c .before .before .before .before in
-    let e : c .before .loop .t ≡ c₄ .args .n = omega arith in
+    let start : tie.Start Inv-loop μ-loop = search in
+    let e : c .before .loop .t ≡ start .args .n = omega arith in
     rw e at (c .before .loop .inv .1)
 
 pub fill-free-spec : {M : Type 1} → statement M
 fill-free-spec =
-    tie.close
-    (tie.spec
-    Inv-loop
-    μ-loop
-    loop-holds
-    mul-copy-rows
-    add-copy-rows
-    copy-rows-requires
-    add-t
-    loop-less
-    loop-again
-    same-length
-    returns)
+    tie.close (tie.spec Inv-loop μ-loop loop-holds (λ c. search needs) (λ c. search needs) copy-rows-requires
+    (λ c. search needs) loop-less loop-again same-length returns)

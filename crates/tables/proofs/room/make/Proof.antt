@@ -17,58 +17,48 @@ abbrev μ-loop : tie.MeasureT-loop
 μ-loop g k room₀ free views j₀ room j = k - j
 
 add-fill-free : tie.Need-add-fill-free Inv-loop μ-loop
-add-fill-free c = omega (arith, c .before .before .before .before .before .pre .0 .0 .short)
+add-fill-free c =
+    let start : tie.Start Inv-loop μ-loop = search in
+    omega (arith, start .pre .0 .0 .short)
 
 fill-free-requires : tie.Need-fill-free-requires Inv-loop μ-loop
 fill-free-requires c κs =
-    let c₅ = c .before .before .before .before .before in
-    (c₅ .pre .1, c₅ .pre .0 .2, omega (arith, c₅ .pre .0 .0 .short))
+    let start : tie.Start Inv-loop μ-loop = search in
+    (start .pre .1, start .pre .0 .2, omega (arith, start .pre .0 .0 .short))
 
 loop-holds : tie.Need-loop-holds Inv-loop μ-loop
 loop-holds c =
-    let c₈ = c .before .before .before .before .before .before .before .before in (
+    let start : tie.Start Inv-loop μ-loop = search in (
       search needs,
-      free-roomy _ _ _ _ _ (c₈ .pre .0 .0 .grid .thin) (c₈ .pre .0 .0 .grid .room) (omega arith)
-          (c .before .before .fill-free .ensures) (c₈ .pre .0 .1),
+      free-roomy _ _ _ _ _ (start .pre .0 .0 .grid .thin) (start .pre .0 .0 .grid .room) (omega arith)
+          (c .before .before .fill-free .ensures) (start .pre .0 .1),
     )
 
 take-one-requires : tie.Need-take-one-requires Inv-loop μ-loop
 take-one-requires c κs =
-    let c₁₁ = c .before .before .before .before .before .before .before .before .before .before .before in
-    let f = c₁₁ .pre .0 .0 in
+    let start : tie.Start Inv-loop μ-loop = search in
+    let f = start .pre .0 .0 in
     (f .grid, omega (arith, f .lent), f .short, c .before .before .loop .inv .1 .tidy)
-
-add-j : tie.Need-add-j Inv-loop μ-loop
-add-j c = search needs
 
 loop-less : tie.Need-loop-less Inv-loop μ-loop
 loop-less c = omega arith
 
 loop-again : tie.Need-loop-again Inv-loop μ-loop
-loop-again c = (search needs, c .before .before .take-one .ensures _ (c .before .before .before .before .before .loop .inv .1))
+loop-again c =
+    let at-loop : tie.At-loop Inv-loop μ-loop = search in
+    (search needs, c .before .before .take-one .ensures _ (at-loop .loop .inv .1))
 
 same-length : tie.Need-same-length Inv-loop μ-loop
 same-length c =
-    let c₁₀ = c .before .before .before .before .before .before .before .before .before .before in
-    c .before .loop .inv .1 .tidy .long ∙ sym (ap length (c₁₀ .pre .1) ∙ length-replicate {A = ℕ} 2304 0)
+    let start : tie.Start Inv-loop μ-loop = search in
+    c .before .loop .inv .1 .tidy .long ∙ sym (ap length (start .pre .1) ∙ length-replicate {A = ℕ} 2304 0)
 
 returns : tie.Need-returns Inv-loop μ-loop
 returns c =
-    let c₁₀ = c .before .before .before .before .before .before .before .before .before .before in
-    let e : c .before .loop .j ≡ c₁₀ .args .k = omega arith in rw e at (c .before .loop .inv .1)
+    let start : tie.Start Inv-loop μ-loop = search in
+    let e : c .before .loop .j ≡ start .args .k = omega arith in rw e at (c .before .loop .inv .1)
 
 pub make-spec : {M : Type 1} → statement M
 make-spec =
-    tie.close
-    (tie.spec
-    Inv-loop
-    μ-loop
-    add-fill-free
-    fill-free-requires
-    loop-holds
-    take-one-requires
-    add-j
-    loop-less
-    loop-again
-    same-length
-    returns)
+    tie.close (tie.spec Inv-loop μ-loop add-fill-free fill-free-requires loop-holds take-one-requires
+    (λ c. search needs) loop-less loop-again same-length returns)

@@ -6,21 +6,18 @@ use Rattle.tables.proofs.RoomLaws.{roomy-more}
 use Rattle.tables.proofs.room.take_one.Statement.{statement}
 use Rattle.tables.proofs.room.take_one.Tie as tie
 
-add-take-view : tie.Need-add-take-view
-add-take-view c = search needs
-
 take-view-requires : tie.Need-take-view-requires
 take-view-requires c κs =
-    let c₄ = c .before .before .before .before in
-    (c₄ .pre .0, omega arith, omega arith, c₄ .pre .3)
+    let start : tie.Start = search in
+    (start .pre .0, omega arith, omega arith, start .pre .3)
 
 same-length : tie.Need-same-length
 same-length c = c .before .before .take-view .kept .1 .0
 
 returns : tie.Need-returns
 returns c =
-    let c₇ = c .before .before .before .before .before .before .before in
-    λ free old. roomy-more _ _ _ _ _ _ (c₇ .pre .0 .narrow) (c₇ .pre .0 .room) (c₇ .pre .2) (c .before .before .take-view .ensures) old
+    let start : tie.Start = search in
+    λ free old. roomy-more _ _ _ _ _ _ (start .pre .0 .narrow) (start .pre .0 .room) (start .pre .2) (c .before .before .take-view .ensures) old
 
 pub take-one-spec : {M : Type 1} → statement M
-take-one-spec = tie.close (tie.spec add-take-view take-view-requires same-length returns)
+take-one-spec = tie.close (tie.spec (λ c. search needs) take-view-requires same-length returns)

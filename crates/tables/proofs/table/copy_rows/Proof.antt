@@ -9,17 +9,15 @@ some-rows-requires c κs = (c .before .before .pre .0, c .before .before .pre .2
 
 put-rows-requires : tie.Need-put-rows-requires
 put-rows-requires c κs =
-    let c₄ = c .before .before .before .before in
-    (c₄ .pre .0, c₄ .pre .1)
-
-same-length : tie.Need-same-length
-same-length c = search needs
+    let start : tie.Start = search in
+    (start .pre .0, start .pre .1)
 
 returns : tie.Need-returns
 returns c =
-    let c₄ = c .before .before .before .before in
-    rewritten-rows _ _ _ _ _ _ (c₄ .before .before .before .pre .0) (c₄ .before .before .before .pre .1) (c₄ .some-rows .ensures)
+    let after-some-rows : tie.After-some-rows = search in
+    let start : tie.Start = search in
+    rewritten-rows _ _ _ _ _ _ (start .pre .0) (start .pre .1) (after-some-rows .some-rows .ensures)
     (c .before .before .put-rows .ensures)
 
 pub copy-rows-spec : {M : Type 1} → statement M
-copy-rows-spec = tie.close (tie.spec some-rows-requires put-rows-requires same-length returns)
+copy-rows-spec = tie.close (tie.spec some-rows-requires put-rows-requires (λ c. search needs) returns)

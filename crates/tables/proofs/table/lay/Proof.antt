@@ -20,45 +20,37 @@ abbrev μ-loop : tie.MeasureT-loop
 loop-holds : tie.Need-loop-holds Inv-loop μ-loop
 loop-holds c = (search needs, laid-none _ _ _ (c .before .before .pre .1 .0))
 
-add-t : tie.Need-add-t Inv-loop μ-loop
-add-t c = search needs
-
 first-row-requires : tie.Need-first-row-requires Inv-loop μ-loop
 first-row-requires c κs =
-    let c₄ = c .before .before .before .before in
-    sized-few _ (c₄ .before .pre .0 .0)
-
-mul-lay-rows : tie.Need-mul-lay-rows Inv-loop μ-loop
-mul-lay-rows c = search needs
-
-add-lay-rows : tie.Need-add-lay-rows Inv-loop μ-loop
-add-lay-rows c = search needs
+    let start : tie.Start Inv-loop μ-loop = search in
+    sized-few _ (start .pre .0 .0)
 
 add-lay-rows-2 : tie.Need-add-lay-rows-2 Inv-loop μ-loop
 add-lay-rows-2 c =
-    let c₄ = c .before .before .before .before in
+    let start : tie.Start Inv-loop μ-loop = search in
     omega (
       arith,
-      first-fits _ _ _ (sized-few _ (c₄ .before .before .before .pre .0 .0))
+      first-fits _ _ _ (sized-few _ (start .pre .0 .0))
           (c .before .first-row .ensures),
-      c₄ .before .before .before .pre .0 .1,
+      start .pre .0 .1,
     )
 
 lay-rows-requires : tie.Need-lay-rows-requires Inv-loop μ-loop
 lay-rows-requires c κs =
-    let c₄ = c .before .before .before .before in (
+    let at-loop : tie.At-loop Inv-loop μ-loop = search in
+    let start : tie.Start Inv-loop μ-loop = search in (
       (
-        c₄ .loop .inv .1 .long,
-        c₄ .before .before .before .pre .1 .1,
+        at-loop .loop .inv .1 .long,
+        start .pre .1 .1,
         omega (
           arith,
           first-fits _ _ _ (sized-few _
-              (c₄ .before .before .before .pre .0 .0))
+              (start .pre .0 .0))
               (c .before .first-row .ensures),
-          c₄ .before .before .before .pre .0 .1,
+          start .pre .0 .1,
         ),
       ),
-      c₄ .before .before .before .pre .0 .0,
+      start .pre .0 .0,
     )
 
 loop-less : tie.Need-loop-less Inv-loop μ-loop
@@ -66,38 +58,26 @@ loop-less c = omega arith
 
 loop-again : tie.Need-loop-again Inv-loop μ-loop
 loop-again c =
-    let c₄ = c .before .before .before .before in
-    let c₈ = c₄ .before .before .before .before in (
+    let after-first-row : tie.After-first-row Inv-loop μ-loop = search in
+    let at-loop : tie.At-loop Inv-loop μ-loop = search in
+    let start : tie.Start Inv-loop μ-loop = search in (
       search needs,
-      laid-more _ _ _ _ _ _ (sized-few _ (c₈ .before .before .pre .0 .0)) (c₄ .before .before .before .loop .inv .1)
-          (c₄ .first-row .ensures) (c .before .before .lay-rows .ensures),
+      laid-more _ _ _ _ _ _ (sized-few _ (start .pre .0 .0)) (at-loop .loop .inv .1)
+          (after-first-row .first-row .ensures) (c .before .before .lay-rows .ensures),
     )
 
 same-length : tie.Need-same-length Inv-loop μ-loop
 same-length c =
-    let c₄ = c .before .before .before .before in
-    laid-long _ _ _ _ _ (c .before .before .loop .inv .1) (c₄ .before .pre .1 .0)
+    let start : tie.Start Inv-loop μ-loop = search in
+    laid-long _ _ _ _ _ (c .before .before .loop .inv .1) (start .pre .1 .0)
 
 returns : tie.Need-returns Inv-loop μ-loop
 returns c =
-    let c₄ = c .before .before .before .before in
-    let e : c .before .before .loop .t ≡ c₄ .before .args .v .limit = omega arith in
+    let start : tie.Start Inv-loop μ-loop = search in
+    let e : c .before .before .loop .t ≡ start .args .v .limit = omega arith in
     rw e at (c .before .before .loop .inv .1)
 
 pub lay-spec : {M : Type 1} → statement M
 lay-spec =
-    tie.close
-    (tie.spec
-    Inv-loop
-    μ-loop
-    loop-holds
-    add-t
-    first-row-requires
-    mul-lay-rows
-    add-lay-rows
-    add-lay-rows-2
-    lay-rows-requires
-    loop-less
-    loop-again
-    same-length
-    returns)
+    tie.close (tie.spec Inv-loop μ-loop loop-holds (λ c. search needs) first-row-requires (λ c. search needs)
+    (λ c. search needs) add-lay-rows-2 lay-rows-requires loop-less loop-again same-length returns)

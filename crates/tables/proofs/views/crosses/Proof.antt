@@ -4,12 +4,6 @@ use Rattle.tables.proofs.CrossLaws.{cross-there, cross-away}
 use Rattle.tables.proofs.views.crosses.Statement.{statement}
 use Rattle.tables.proofs.views.crosses.Tie as tie
 
-spot-requires : tie.Need-spot-requires
-spot-requires c κs = search needs
-
-spot-requires-2 : tie.Need-spot-requires-2
-spot-requires-2 c κs = search needs
-
 returns : tie.Need-returns
 returns c = cross-there _ _ _ _ _ _ (c .before .if1 .taken) (c .before .before .spot .ensures .0) (c .spot2 .ensures .0)
 
@@ -17,4 +11,4 @@ returns-2 : tie.Need-returns-2
 returns-2 c = cross-away _ _ _ _ (c .if1 .left) (c .before .spot .ensures .0)
 
 pub crosses-spec : {M : Type 1} → statement M
-crosses-spec = tie.close (tie.spec spot-requires spot-requires-2 returns returns-2)
+crosses-spec = tie.close (tie.spec (λ c κs. search needs) (λ c κs. search needs) returns returns-2)

@@ -19,37 +19,24 @@ abbrev μ-loop : tie.MeasureT-loop
 loop-holds : tie.Need-loop-holds Inv-loop μ-loop
 loop-holds c = (search needs, ways-none _ _ _ _ _)
 
-crosses-requires : tie.Need-crosses-requires Inv-loop μ-loop
-crosses-requires c κs = search needs
-
 returns : tie.Need-returns Inv-loop μ-loop
 returns c =
-    ways-found _ _ _ _ _ (c .before .before .before .loop .j) _ _ (c .before .before .loop-test .taken)
+    let at-loop : tie.At-loop Inv-loop μ-loop = search in
+    ways-found _ _ _ _ _ (at-loop .loop .j) _ _ (c .before .before .loop-test .taken)
     (c .before .crosses .ensures) (c .if1 .taken)
-
-add-j : tie.Need-add-j Inv-loop μ-loop
-add-j c = search needs
 
 loop-less : tie.Need-loop-less Inv-loop μ-loop
 loop-less c = omega arith
 
 loop-again : tie.Need-loop-again Inv-loop μ-loop
 loop-again c =
-    (search needs, ways-more _ _ _ _ _ _ _ (c .before .before .before .loop .inv .1) (c .before .crosses .ensures) (c .if1 .left))
+    let at-loop : tie.At-loop Inv-loop μ-loop = search in
+    (search needs, ways-more _ _ _ _ _ _ _ (at-loop .loop .inv .1) (c .before .crosses .ensures) (c .if1 .left))
 
 returns-2 : tie.Need-returns-2 Inv-loop μ-loop
 returns-2 c = ways-end _ _ _ _ _ (c .before .loop .j) _ (c .before .loop .inv .0) (c .loop-test .left) (c .before .loop .inv .1)
 
 pub swapped-spec : {M : Type 1} → statement M
 swapped-spec =
-    tie.close
-    (tie.spec
-    Inv-loop
-    μ-loop
-    loop-holds
-    crosses-requires
-    returns
-    add-j
-    loop-less
-    loop-again
-    returns-2)
+    tie.close (tie.spec Inv-loop μ-loop loop-holds (λ c κs. search needs) returns (λ c. search needs) loop-less
+    loop-again returns-2)

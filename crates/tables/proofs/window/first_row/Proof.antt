@@ -4,42 +4,16 @@ use Rattle.tables.proofs.AroundLaws.{first-made}
 use Rattle.tables.proofs.window.first_row.Statement.{statement}
 use Rattle.tables.proofs.window.first_row.Tie as tie
 
-minus-requires : tie.Need-minus-requires
-minus-requires c κs = search needs
-
-larger-requires : tie.Need-larger-requires
-larger-requires c κs = search needs
-
-minus-requires-2 : tie.Need-minus-requires-2
-minus-requires-2 c κs = search needs
-
-minus-requires-3 : tie.Need-minus-requires-3
-minus-requires-3 c κs = search needs
-
-larger-requires-2 : tie.Need-larger-requires-2
-larger-requires-2 c κs = search needs
-
-sub-smaller : tie.Need-sub-smaller
-sub-smaller c = search needs
-
-smaller-requires : tie.Need-smaller-requires
-smaller-requires c κs = search needs
-
 returns : tie.Need-returns
 returns c =
-    let c₄ = c .before .before .before .before in
-    first-made _ _ _ _ _ _ _ _ (c₄ .before .before .minus .ensures) (c₄ .before .larger .ensures) (c₄ .minus2 .ensures)
-    (c .before .before .before .minus3 .ensures) (c .before .before .larger2 .ensures) (c .smaller .ensures)
+    let after-minus3 : tie.After-minus3 = search in
+    let after-minus2 : tie.After-minus2 = search in
+    let after-larger : tie.After-larger = search in
+    let after-minus : tie.After-minus = search in
+    first-made _ _ _ _ _ _ _ _ (after-minus .minus .ensures) (after-larger .larger .ensures) (after-minus2 .minus2 .ensures)
+    (after-minus3 .minus3 .ensures) (c .before .before .larger2 .ensures) (c .smaller .ensures)
 
 pub first-row-spec : {M : Type 1} → statement M
 first-row-spec =
-    tie.close
-    (tie.spec
-    minus-requires
-    larger-requires
-    minus-requires-2
-    minus-requires-3
-    larger-requires-2
-    sub-smaller
-    smaller-requires
-    returns)
+    tie.close (tie.spec (λ c κs. search needs) (λ c κs. search needs) (λ c κs. search needs) (λ c κs. search needs)
+    (λ c κs. search needs) (λ c. search needs) (λ c κs. search needs) returns)

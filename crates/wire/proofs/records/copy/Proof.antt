@@ -18,32 +18,16 @@ abbrev μ-loop : tie.MeasureT-loop
 loop-holds : tie.Need-loop-holds Inv-loop μ-loop
 loop-holds c = (search needs, copy-start _ (c .args .xs .now) _)
 
-mul-out : tie.Need-mul-out Inv-loop μ-loop
-mul-out c = search needs
-
-shared-slice-read-out : tie.Need-shared-slice-read-out Inv-loop μ-loop
-shared-slice-read-out c = search needs
-
-add-out : tie.Need-add-out Inv-loop μ-loop
-add-out c = search needs
-
-mul-out-2 : tie.Need-mul-out-2 Inv-loop μ-loop
-mul-out-2 c = search needs
-
 slice-write-out : tie.Need-slice-write-out Inv-loop μ-loop
 slice-write-out c =
-    let xs = c .before .before .before .args .xs .now in
+    let start : tie.Start Inv-loop μ-loop = search in
+    let xs = start .args .xs .now in
     omega (arith, copy-keeps _ _ xs _ (c .before .before .loop .t) (c .before .before .loop .inv .1) (omega arith) (omega arith))
-
-add-t : tie.Need-add-t Inv-loop μ-loop
-add-t c = search needs
-
-loop-less : tie.Need-loop-less Inv-loop μ-loop
-loop-less c = search needs
 
 loop-again : tie.Need-loop-again Inv-loop μ-loop
 loop-again c =
-    let xs = c .before .before .before .args .xs .now in
+    let start : tie.Start Inv-loop μ-loop = search in
+    let xs = start .args .xs .now in
     (search needs, copy-more _ _ xs _ (c .before .before .loop .t) (c .before .before .loop .inv .1) (omega arith) (omega arith))
 
 same-length : tie.Need-same-length Inv-loop μ-loop
@@ -55,18 +39,5 @@ returns c = copy-end _ _ (c .before .before .args .xs .now) _ (c .before .loop .
 
 pub copy-spec : {M : Type 1} → statement M
 copy-spec =
-    tie.close
-    (tie.spec
-    Inv-loop
-    μ-loop
-    loop-holds
-    mul-out
-    shared-slice-read-out
-    add-out
-    mul-out-2
-    slice-write-out
-    add-t
-    loop-less
-    loop-again
-    same-length
-    returns)
+    tie.close (tie.spec Inv-loop μ-loop loop-holds (λ c. search needs) (λ c. search needs) (λ c. search needs)
+    (λ c. search needs) slice-write-out (λ c. search needs) (λ c. search needs) loop-again same-length returns)

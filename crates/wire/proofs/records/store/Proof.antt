@@ -7,46 +7,30 @@ use borrow.Author.Needs.{needs}
 use Rattle.wire.proofs.records.store.Statement.{statement}
 use Rattle.wire.proofs.records.store.Tie as tie
 
-slice-aggregate-copy : tie.Need-slice-aggregate-copy
-slice-aggregate-copy c = search needs
-
-copy-requires : tie.Need-copy-requires
-copy-requires c κs = search needs
-
 put-cells-requires : tie.Need-put-cells-requires
 put-cells-requires c κs =
-    let c₄ = c .before .before .before .before in
-    let c₈ = c₄ .before .before .before .before in
-    omega (arith, c .before .before .before .copy .kept .0, c₈ .before .pre)
+    let after-copy : tie.After-copy = search in
+    let start : tie.Start = search in
+    omega (arith, after-copy .copy .kept .0, start .pre)
 
 put-cells-requires-2 : tie.Need-put-cells-requires-2
 put-cells-requires-2 c κs =
-    let c₄ = c .before .before .before .before in
-    let c₈ = c₄ .before .before .before .before in
-    let c₁₂ = c₈ .before .before .before .before in
-    omega (arith, c₄ .before .before .before .copy .kept .0, c .before .before .before .put-cells .kept .0, c₁₂ .before .pre)
-
-same-length : tie.Need-same-length
-same-length c = search needs
+    let after-put-cells : tie.After-put-cells = search in
+    let after-copy : tie.After-copy = search in
+    let start : tie.Start = search in
+    omega (arith, after-copy .copy .kept .0, after-put-cells .put-cells .kept .0, start .pre)
 
 returns : tie.Need-returns
 unfolding numbersOf
 returns c =
-    let c₄ = c .before .before .before .before in
-    let c₈ = c₄ .before .before .before .before in
-    let c₁₂ = c₈ .before .before .before .before in
-    let c₁₆ = c₁₂ .before .before .before .before in
-    let s = c₄ .before .before .put-cells .ensures in
+    let after-put-cells : tie.After-put-cells = search in
+    let after-copy : tie.After-copy = search in
+    let start : tie.Start = search in
+    let s = after-put-cells .put-cells .ensures in
     let g = c .before .before .put-cells2 .ensures in
-    three-blocks _ _ _ _ _ _ _ (c₈ .before .before .copy .ensures) (s .0) (g .0) refl (s .1) (g .1) (c₁₆ .pre)
+    three-blocks _ _ _ _ _ _ _ (after-copy .copy .ensures) (s .0) (g .0) refl (s .1) (g .1) (start .pre)
 
 pub store-spec : {M : Type 1} → statement M
 store-spec =
-    tie.close
-    (tie.spec
-    slice-aggregate-copy
-    copy-requires
-    put-cells-requires
-    put-cells-requires-2
-    same-length
-    returns)
+    tie.close (tie.spec (λ c. search needs) (λ c κs. search needs) put-cells-requires put-cells-requires-2
+    (λ c. search needs) returns)

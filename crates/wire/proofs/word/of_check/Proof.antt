@@ -6,18 +6,6 @@ use borrow.Author.Needs.{needs}
 use Rattle.wire.proofs.word.of_check.Statement.{statement}
 use Rattle.wire.proofs.word.of_check.Tie as tie
 
-enum-told : tie.Need-enum-told
-enum-told c = search needs
-
-done-requires : tie.Need-done-requires
-done-requires c κs = search needs
-
-enum-known-x : tie.Need-enum-known-x
-enum-known-x c = search needs
-
-turned-requires : tie.Need-turned-requires
-turned-requires c κs = search needs
-
 returns : tie.Need-returns
 unfolding ofVerdict verdictOf
 returns c = c .done .ensures ∙ rw (c .before .enum-told .given .1) refl
@@ -28,4 +16,5 @@ returns-2 c = c .turned .ensures ∙ rw (c .before .before .x .given .1) refl
 
 pub of-check-spec : {M : Type 1} → statement M
 of-check-spec =
-    tie.close (tie.spec enum-told done-requires enum-known-x turned-requires returns returns-2)
+    tie.close (tie.spec (λ c. search needs) (λ c κs. search needs) (λ c. search needs) (λ c κs. search needs) returns
+    returns-2)
