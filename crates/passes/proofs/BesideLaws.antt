@@ -2,12 +2,12 @@
 use Prim.Native.Nat.{ℕ, zero, suc, _+_, _*_, _-_, _/_, _%_, _≤_, _<_}
 use native.Mathlib.Omega.{arith}
 use native.Mathlib.Nat.{mod-lt, div-add-mod', add-div-right, add-mod-right}
-use mathlib.Core.Bool.{Bool, true, false, _&&_, not}
+use mathlib.Core.Bool.{Bool, true, false, _&&_, and-comm, and-false}
 use mathlib.Core.List.{List}
 use mathlib.Core.Path.{_≡_, refl, sym, _∙_}
 use lib.Dec.{ltb, eqb}
 use Rattle.route.specs.Moves.{vacant, every}
-use Rattle.route.proofs.Tests.{and-snd}
+use Rattle.laws.proofs.Tests.{and-snd}
 use Rattle.words.specs.Rows.{has}
 use Rattle.words.proofs.RowsLaws.{place-same}
 use Rattle.tables.specs.declared.Scene.{Scene}
@@ -19,7 +19,7 @@ use Rattle.tables.specs.Room.{Roomy, standsAt}
 use Rattle.passes.specs.Walk.{Stands}
 use Rattle.tables.proofs.GridLaws.{cell-small}
 use Rattle.tables.proofs.SetLaws.{set-holds}
-use Rattle.tables.proofs.WayLaws.{way-clear, and-swap}
+use Rattle.tables.proofs.WayLaws.{way-clear}
 
 module _ (w d : ℕ) (thin : 0 < w) where
   of-d : d / w * w + d % w ≡ d
@@ -48,21 +48,13 @@ tidy-set g s tidy t c h e = set-holds g s t c (rw (div-add-mod' c (g .width)) at
 -- A digit that is 0 is no cell.
 pub set-not : (g : Scene) (s : List ℕ) (t c : ℕ) → has s (t * 36 + 1 + c / g .width) (c % g .width) ≡ false → inSet g s t c ≡ false
 unfolding inSet
-set-not g s t c e = rw e (no (ltb c (g .cells)))
-  where
-    no : (b : Bool) → (b && false) ≡ false
-    no true = refl
-    no false = refl
-
-pub not-not : (b : Bool) → not (not b) ≡ b
-not-not true = refl
-not-not false = refl
+set-not g s t c e = rw e (and-false (ltb c (g .cells)))
 
 -- A way is open exactly if it is for the step back.
 pub way-swap : (m : List ℕ) (a b c d k : ℕ) → wayOpen m a b c d k ≡ wayOpen m b a d c k
 unfolding wayOpen
 way-swap m a b c d zero = refl
-way-swap m a b c d (suc k) = rw (way-swap m a b c d k, and-swap (eqb c (spotOf m k b)) (eqb d (spotOf m k a)))
+way-swap m a b c d (suc k) = rw (way-swap m a b c d k, and-comm (eqb c (spotOf m k b)) (eqb d (spotOf m k a)))
 
 module _ (g : Scene) (k : ℕ) (free m room : List ℕ) (fits : Fits g k m) (roomy : Roomy g k free m room) where
   -- Where the room has a cell no view is.

@@ -2,14 +2,14 @@
 use Prim.Native.Nat.{ℕ, _+_, _*_, _/_, _%_, _≤_, _<_}
 use native.Mathlib.Omega.{arith}
 use native.Mathlib.Nat.{div-add-mod', eq-or-lt-of-le}
-use mathlib.Core.Bool.{Bool, true, false, _&&_, not}
+use mathlib.Core.Bool.{Bool, true, false, _&&_, not, and-false}
 use mathlib.Core.List.{List}
 use mathlib.Core.Logic.{_⊎_, inl, inr, ⊎-elim}
 use mathlib.Core.Path.{_≡_, refl, sym, _∙_}
 use borrow.Author.Tests.{eqb-true, eq-eqb, le-ltb}
 use lib.Dec.{eqb, ltb}
 use Rattle.route.specs.Moves.{near}
-use Rattle.route.proofs.Tests.{and-both, and-fst, and-snd, lt-or-le, eq-or-ne, true-false-absurd}
+use Rattle.laws.proofs.Tests.{and-both, and-fst, and-snd, lt-or-le, eq-or-ne, true-false-absurd}
 use Rattle.words.specs.Rows.{has, dropped}
 use Rattle.words.proofs.RowsLaws.{has-dropped, length-dropped, place-row}
 use Rattle.tables.specs.declared.Scene.{Scene}
@@ -132,11 +132,7 @@ module _ (g : Scene) (k : ℕ) (m s : List ℕ) (a b d : ℕ) where
         true-false-absurd (set-has g q b d e)
         (has-q (b * 36 + 1 + d / g .width) (d % g .width)
         ∙ rw (eq-eqb (b * 36 + 1 + d / g .width) (b * 36 + 1 + d / g .width) refl, eq-eqb (d % g .width) (d % g .width) refl)
-        (no (has s (b * 36 + 1 + d / g .width) (d % g .width))))
-      where
-        no : (x : Bool) → (x && false) ≡ false
-        no true = refl
-        no false = refl
+        (and-false (has s (b * 36 + 1 + d / g .width) (d % g .width))))
 
     pub mended-dropped : (Entered g k m s a b d → ⊥) →
         MendedCell g k m s a b d (dropped s (b * 36 + 1 + d / g .width) (d % g .width))

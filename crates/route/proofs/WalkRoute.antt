@@ -6,14 +6,10 @@ use native.Mathlib.Nat.{add-sub-of-le}
 use mathlib.Core.Path.{_≡_, refl, ap, subst, _∙_}
 use lib.ListN.{length, getD, replicate, length-append, length-replicate, List·getD-append}
 use lib.Seq.{getD-append-add}
+use Rattle.laws.proofs.Lists.{zeros-at}
 use Rattle.route.specs.Route.{cellAt, Task}
 use Rattle.route.specs.Search.{Rule, later, walk, walkFrom}
 use Rattle.route.proofs.WalkLaws.{trail}
-
-zeros-at : (n i : ℕ) → _≡_ {A = ℕ} (getD (replicate n 0) i 0) 0
-zeros-at zero i = refl
-zeros-at (suc n) zero = refl
-zeros-at (suc n) (suc i) = zeros-at n i
 
 walk-length : (cells goal k : ℕ) (ok : Rule) (c : ℕ) → length (walk cells goal k ok c) ≡ suc k
 unfolding walk

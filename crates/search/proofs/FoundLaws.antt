@@ -10,14 +10,15 @@ use mathlib.Core.Path.{_≡_, refl, sym, _∙_}
 use borrow.Author.Tests.{leb-true, le-leb}
 use lib.Dec.{leb}
 use lib.ListN.{length, replicate, length-replicate}
+use Rattle.laws.proofs.Lists.{zeros-at}
 use Rattle.route.specs.Route.{cellAt, none, route, Task}
 use Rattle.route.specs.Moves.{passable, every, startClear}
 use Rattle.route.specs.Search.{Rule, best}
-use Rattle.route.proofs.Tests.{and-both, and-fst, and-snd, lt-or-le}
+use Rattle.laws.proofs.Tests.{and-both, and-fst, and-snd, lt-or-le}
 use Rattle.route.proofs.Sets.{Sets, Reaches, Greedy}
 use Rattle.route.proofs.SetsBest.{Found, found-best, not-found-best, start-taken-best}
 use Rattle.words.specs.Rows.{filled}
-use Rattle.words.proofs.FillLaws.{length-filled, filled-in, filled-out, zeros-row}
+use Rattle.words.proofs.FillLaws.{length-filled, filled-in, filled-out}
 use Rattle.tables.specs.declared.Scene.{Scene}
 use Rattle.tables.specs.declared.window.Window.{Window}
 use Rattle.route.specs.Views.{records}
@@ -265,7 +266,7 @@ module _ {g : Scene} {k : ℕ} {free m room : List ℕ} {start goal : ℕ} (set 
                 kept-greedy ok (g .cells) start goal limit n (inSet g s) (inSet g P) inside (set .starts) passed wide a early within
                 (inSet g T) kept (g .horizon) (cellAt r) (reaches .reached) greedy;
             long = length-filled (replicate 64 0) x (g .horizon + 1) ∙ sixty-four;
-            blank = λ t h. filled-out (replicate 64 0) x (g .horizon + 1) t (omega arith) ∙ zeros-row 64 t;
+            blank = λ t h. filled-out (replicate 64 0) x (g .horizon + 1) t (omega arith) ∙ zeros-at 64 t;
           }
 
       -- The walk is the best route.

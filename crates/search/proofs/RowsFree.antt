@@ -10,18 +10,18 @@ use borrow.Author.Tests.{eqb-true, ltb-true, lt-ltb}
 use lib.Arith.{digits-lt}
 use lib.Dec.{eqb, ltb}
 use lib.ListN.{length, getD, replicate, length-replicate}
+use Rattle.laws.proofs.Lists.{zeros-at}
 use Rattle.floor.specs.declared.Floor.{Floor}
 use Rattle.floor.specs.Checks.{among}
 use Rattle.route.specs.Route.{View}
 use Rattle.route.specs.Search.{best}
-use Rattle.route.proofs.Tests.{true-false-absurd, and-both, and-fst, and-snd, lt-or-le}
+use Rattle.laws.proofs.Tests.{true-false-absurd, and-both, and-fst, and-snd, lt-or-le, same-test}
 use Rattle.route.proofs.FreeLaws.{best-free}
 use Rattle.words.specs.Words.{digit, without}
 use Rattle.words.specs.Rows.{has, Clean}
 use Rattle.words.proofs.DigitLaws.{digit-without, digit-ones, digit-zero}
-use Rattle.words.proofs.Tests.{same-test}
 use Rattle.words.proofs.RowsLaws.{place-row, has-marked, length-marked}
-use Rattle.words.proofs.FillLaws.{has-zeros, length-filled, filled-in, filled-out, zeros-row}
+use Rattle.words.proofs.FillLaws.{has-zeros, length-filled, filled-in, filled-out}
 use Rattle.search.specs.Task.{taskOf, taskOfRows}
 use Rattle.search.specs.Rows.{wallRows, gridWithout, FreeRows}
 
@@ -60,7 +60,7 @@ module _ (w h : ℕ) (walls : List ℕ) (high : h ≤ 32) where
   grid-row r q e =
       ⊎-elim (λ (l : r < h). l)
       (λ (l : h ≤ r). true-false-absurd e
-      (rw (filled-out (replicate 32 0) (λ i. without (2 ^ w - 1) (getD walls i 0)) h r l, zeros-row 32 r) (digit-zero q)))
+      (rw (filled-out (replicate 32 0) (λ i. without (2 ^ w - 1) (getD walls i 0)) h r l, zeros-at 32 r) (digit-zero q)))
       (lt-or-le r h)
 
   pub length-grid : length (gridWithout w h walls) ≡ 32

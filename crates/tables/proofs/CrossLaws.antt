@@ -3,7 +3,7 @@ use Prim.Native.Nat.{ℕ, zero, suc, _+_, _-_, _≤_, _<_}
 use native.Mathlib.Omega.{arith}
 use native.Mathlib.Numerals.{add-one}
 use native.Mathlib.Nat.{zero-add, suc-add}
-use mathlib.Core.Bool.{Bool, true, false, _&&_, not}
+use mathlib.Core.Bool.{Bool, true, false, _&&_, not, and-false}
 use mathlib.Core.List.{List}
 use mathlib.Core.Path.{_≡_, refl, sym, ap, _∙_}
 use borrow.Author.Tests.{eq-eqb, ne-eqb}
@@ -35,11 +35,7 @@ module _ (m : List ℕ) (a b c d : ℕ) where
   unfolding wayOpen
   ways-shut j zero h = rw (zero-add, h)
   ways-shut j (suc n) h =
-      rw suc-add (rw (ways-shut j n h) (and-no (not (eqb c (spotOf m (n + suc j) b) && eqb d (spotOf m (n + suc j) a)))))
-    where
-      and-no : (t : Bool) → (t && false) ≡ false
-      and-no true = refl
-      and-no false = refl
+      rw suc-add (rw (ways-shut j n h) (and-false (not (eqb c (spotOf m (n + suc j) b) && eqb d (spotOf m (n + suc j) a)))))
 
   -- A view among the first k that shuts the way.
   pub ways-found : (j k : ℕ) (x : Bool) → j < k → x ≡ (eqb c (spotOf m j b) && eqb d (spotOf m j a)) → x ≡ true →

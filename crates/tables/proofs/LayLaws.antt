@@ -6,8 +6,8 @@ use mathlib.Core.List.{List}
 use mathlib.Core.Logic.{_⊎_, inl, inr, ⊎-elim}
 use mathlib.Core.Path.{_≡_, refl, sym, ap, _∙_}
 use lib.ListN.{length, getD, replicate, length-replicate}
-use Rattle.route.proofs.Tests.{lt-or-le}
-use Rattle.words.proofs.FillLaws.{zeros-row}
+use Rattle.laws.proofs.Lists.{zeros-at}
+use Rattle.laws.proofs.Tests.{lt-or-le}
 use Rattle.tables.specs.declared.window.Window.{Window}
 use Rattle.tables.specs.Table.{Rewritten}
 use Rattle.tables.specs.Windowed.{LaidRows, Inside, firstAt}
@@ -18,8 +18,8 @@ pub laid-none : (v : Window) (room s : List ℕ) → s ≡ replicate 2304 0 → 
 laid-none v room s e = record {
   long = ap length e ∙ length-replicate {A = ℕ} 2304 0;
   shown = λ t r h l i. absurd (omega arith);
-  hidden = λ t r h i. rw e (zeros-row 2304 (t * 36 + 1 + r));
-  edge = λ t. rw e (zeros-row 2304 (t * 36));
+  hidden = λ t r h i. rw e (zeros-at 2304 (t * 36 + 1 + r));
+  edge = λ t. rw e (zeros-at 2304 (t * 36));
 }
 
 -- The table stays as long as the empty one.

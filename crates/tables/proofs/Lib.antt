@@ -7,6 +7,8 @@ pub mod SetLaws
 pub mod PlaceLaws
 pub mod RewriteLaws
 pub mod CarryLaws
+pub mod FreeLaws
+pub mod TakenLaws
 pub mod RoomLaws
 pub mod WindowLaws
 pub mod AroundLaws

@@ -4,8 +4,9 @@ use native.Mathlib.Omega.{arith}
 use mathlib.Core.List.{List}
 use mathlib.Core.Path.{_≡_, _∙_}
 use lib.ListN.{length, replicate, length-replicate}
+use Rattle.laws.proofs.Lists.{zeros-at}
 use Rattle.words.specs.Rows.{written, filled}
-use Rattle.words.proofs.FillLaws.{length-written, written-in, written-out, filled-in, zeros-row}
+use Rattle.words.proofs.FillLaws.{length-written, written-in, written-out, filled-in}
 use Rattle.tables.specs.Table.{Rewritten}
 
 -- The first n of some rows, made as f says and written from row i on.
@@ -26,7 +27,7 @@ rewritten-zeros s r i fits h =
     rw h
     (record {
       long = length-written s i (replicate 32 0) 32;
-      inside = λ j l. written-in s i (replicate 32 0) 32 j fits l ∙ zeros-row 32 j;
+      inside = λ j l. written-in s i (replicate 32 0) 32 j fits l ∙ zeros-at 32 j;
       outside = λ j l. written-out s i (replicate 32 0) 32 j l;
     })
 

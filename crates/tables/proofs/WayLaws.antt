@@ -1,20 +1,14 @@
 -- Which way is open between two cells as the views move, for a step from beat a to beat b, whichever of the two comes first.
 use Prim.Native.Nat.{ℕ, zero, suc, _+_, _<_}
-use mathlib.Core.Bool.{Bool, true, false, _&&_, not}
+use mathlib.Core.Bool.{Bool, true, false, _&&_, not, and-comm}
 use mathlib.Core.List.{List}
 use mathlib.Core.Path.{_≡_, refl, sym, _∙_}
 use lib.Dec.{eqb}
 use Rattle.route.specs.Moves.{vacant, passable, every}
-use Rattle.route.proofs.Tests.{true-false-absurd, and-both, and-fst, and-snd}
+use Rattle.laws.proofs.Tests.{true-false-absurd, and-both, and-fst, and-snd}
 use Rattle.route.specs.Views.{viewAt, records}
 use Rattle.tables.specs.Ways.{spotOf, wayOpen}
 use Rattle.tables.proofs.ViewsLaws.{vacant-spot, passable-spot}
-
-pub and-swap : (a b : Bool) → (a && b) ≡ (b && a)
-and-swap true true = refl
-and-swap true false = refl
-and-swap false true = refl
-and-swap false false = refl
 
 module _ (m : List ℕ) (c d : ℕ) where
   -- Forward, from c at beat t to d at beat t + 1.
@@ -28,7 +22,7 @@ module _ (m : List ℕ) (c d : ℕ) where
   unfolding every records wayOpen
   way-backward t zero h l = refl
   way-backward t (suc k) h l =
-      rw (passable-spot m k t d c h l, way-backward t k h l, and-swap (eqb d (spotOf m k (suc t))) (eqb c (spotOf m k t)))
+      rw (passable-spot m k t d c h l, way-backward t k h l, and-comm (eqb d (spotOf m k (suc t))) (eqb c (spotOf m k t)))
 
 -- From where no view comes in every way is open.
 pub way-clear : (m : List ℕ) (a b c d k : ℕ) → b < 64 → c < 65535 → every (vacant b c) (records m k) ≡ true → wayOpen m a b c d k ≡ true

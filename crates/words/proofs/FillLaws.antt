@@ -7,11 +7,11 @@ use mathlib.Core.Bool.{false}
 use mathlib.Core.List.{List}
 use mathlib.Core.Logic.{_⊎_, inl, inr, ⊎-elim}
 use mathlib.Core.Path.{_≡_, refl, _∙_}
-use lib.ListN.{length, getD, set, replicate, length-set, length-replicate, getD-replicate, List·getD-eq-default}
+use lib.ListN.{length, getD, set, replicate, length-set}
 use lib.Seq.{getD-set-same, getD-set-other}
+use Rattle.laws.proofs.Lists.{zeros-at}
 use Rattle.words.specs.Rows.{has, filled, written}
 use Rattle.words.proofs.DigitLaws.{digit-zero}
-use Rattle.words.proofs.Tests.{lt-or-le}
 
 module _ (s : List ℕ) (g : ℕ → ℕ) where
   pub length-filled : (n : ℕ) → length (filled s g n) ≡ length s
@@ -46,14 +46,9 @@ module _ (s : List ℕ) (g : ℕ → ℕ) where
   filled-out (suc n) r h = getD-set-other (filled s g n) n r (g n) 0 (λ e. omega arith) ∙ filled-out n r (omega arith)
 
 -- No row of zeros has a digit.
-pub zeros-row : (n r : ℕ) → _≡_ {A = ℕ} (getD (replicate n 0) r 0) 0
-zeros-row n r =
-    ⊎-elim (λ (l : r < n). getD-replicate n r 0 0 l)
-    (λ (l : n ≤ r). List·getD-eq-default (replicate n 0) 0 {n = r} (omega (arith, length-replicate {A = ℕ} n 0))) (lt-or-le r n)
-
 pub has-zeros : (n r k : ℕ) → has (replicate n 0) r k ≡ false
 unfolding has
-has-zeros n r k = rw zeros-row (digit-zero k)
+has-zeros n r k = rw zeros-at (digit-zero k)
 
 module _ (m : List ℕ) (i : ℕ) (s : List ℕ) where
   pub length-written : (n : ℕ) → length (written m i s n) ≡ length m

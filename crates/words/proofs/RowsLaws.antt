@@ -2,7 +2,7 @@
 use Prim.Native.Nat.{ℕ, _+_, _*_, _/_, _%_, _^_, _≤_, _<_}
 use native.Mathlib.Omega.{arith}
 use native.Mathlib.Nat.{one-mul, mod-eq-of-lt, div-add-mod', div-lt-iff-lt-mul}
-use mathlib.Core.Bool.{Bool, true, false, _&&_, _||_, not, or-false}
+use mathlib.Core.Bool.{Bool, true, false, _&&_, _||_, not, or-false, and-true}
 use mathlib.Core.List.{List}
 use mathlib.Core.Logic.{⊎-elim}
 use mathlib.Core.Path.{_≡_, refl, sym, ap, _∙_}
@@ -16,7 +16,7 @@ use lib.Seq.{getD-set-same, getD-set-other}
 use Rattle.words.specs.Words.{digit, without}
 use Rattle.words.specs.Rows.{has, added, dropped, droppedAt, marked}
 use Rattle.words.proofs.DigitLaws.{digit-or, digit-bit, digit-without}
-use Rattle.words.proofs.Tests.{eq-or-ne, lt-or-le, and-both, and-fst, and-snd, same-test}
+use Rattle.laws.proofs.Tests.{eq-or-ne, lt-or-le, and-both, and-fst, and-snd, same-test}
 
 -- The word with one digit, as the code makes it.
 pub bit-word : (k : ℕ) → k < 32 → 1 * 2 ^ k % 2 ^ 32 ≡ 2 ^ k
@@ -99,10 +99,6 @@ pub marked-outside : (w cells b c : ℕ) (s : List ℕ) → cells ≤ c → s �
 unfolding marked
 marked-outside w cells b c s h = sym (ap (λ (t : Bool). elim t [ true ↦ added s (b * 32 + c / w) (c % w) | false ↦ s ]) (le-ltb c cells h))
 
-and-all : (b : Bool) → (b && true) ≡ b
-and-all true = refl
-and-all false = refl
-
 -- A digit that is taken away.
 pub has-dropped : (s : List ℕ) (r k i j : ℕ) → r < length s → has (dropped s r k) i j ≡ (has s i j && not (eqb i r && eqb j k))
 unfolding has dropped
@@ -115,7 +111,7 @@ has-dropped s r k i j h = ⊎-elim same other (eq-or-ne i r)
     same e = rw (e, getD-set-same s r word 0 h, digit-without, digit-bit, eq-eqb r r refl)
 
     other : (i ≡ r → ⊥) → digit (getD (set s r word) i 0) j ≡ (digit (getD s i 0) j && not (eqb i r && eqb j k))
-    other e = rw (getD-set-other s r i word 0 e, ne-eqb i r e) (sym (and-all (digit (getD s i 0) j)))
+    other e = rw (getD-set-other s r i word 0 e, ne-eqb i r e) (sym (and-true (digit (getD s i 0) j)))
 
 pub length-dropped : (s : List ℕ) (r k : ℕ) → length (dropped s r k) ≡ length s
 unfolding dropped

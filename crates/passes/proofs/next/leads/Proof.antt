@@ -3,9 +3,9 @@
 use native.Mathlib.Nat.{mod-lt}
 use native.Mathlib.Omega.{arith}
 use mathlib.Core.Path.{sym, ap, _∙_}
-use mathlib.Core.Bool.{not}
+use mathlib.Core.Bool.{not, Bool·not-not}
 use borrow.Author.Tests.{not-true, not-false}
-use Rattle.passes.proofs.BesideLaws.{not-not, tidy-set, set-not}
+use Rattle.passes.proofs.BesideLaws.{tidy-set, set-not}
 use Rattle.passes.proofs.NextLaws.{leads-not, leads-unset, leads-made}
 use Rattle.passes.proofs.next.leads.Statement.{statement}
 use Rattle.passes.proofs.next.leads.Tie as tie
@@ -58,7 +58,7 @@ returns-4 c =
     leads-made _ _ _ _ _ _ _ _ _ _ there
     (tidy-set _ _ (pre .0 .1) _ _ (p .low)
     (rw (p .row, p .column) at (sym (after-has .has .ensures) ∙ not-false _ (c .before .before .if2 .left))))
-    (ap not (c .swapped .ensures) ∙ not-not _)
+    (ap not (c .swapped .ensures) ∙ Bool·not-not _)
 
 pub leads-spec : {M : Type 1} → statement M
 leads-spec =

@@ -4,10 +4,24 @@ use native.Mathlib.Omega.{arith}
 use mathlib.Core.Path.{sym, _∙_}
 use borrow.Author.Tests.{leb-true, ltb-true}
 use borrow.Author.Needs.{needs}
+use Prim.Native.Nat.{_+_, _*_, _<_}
 use Rattle.passes.proofs.BesideLaws.{lead-up, lead-left, lead-here, lead-right, lead-down, clear-way}
 use Rattle.passes.proofs.NextLaws.{next-up, next-left, next-here, next-right, next-down, next-none}
 use Rattle.passes.proofs.next.next.Statement.{statement}
 use Rattle.passes.proofs.next.next.Tie as tie
+
+-- The sums of d, its row and its column with what is beside them are small.
+sums : (c : tie.After-place-of) →
+    let start : tie.Start = search in
+    let g = start .args .g in
+    let d = start .args .d in
+    (d + g .width < 4096) × (start .args .a * 36 + c .place-of .result .row + 2 < 4096) × (c .place-of .result .column < 32)
+sums c =
+    let start : tie.Start = search in
+    let pre = start .pre .0 in
+    let grid = pre .0 .grid in
+    let at = c .place-of .ensures in
+    (omega (arith, pre .4, grid .room, grid .narrow), omega (arith, pre .2, pre .0 .short, at .low), omega (arith, at .narrow, grid .narrow))
 
 leads-requires : tie.Need-leads-requires
 leads-requires c κs =
@@ -86,30 +100,6 @@ returns-3 c =
     (rw (left, column) at (sym (after-leads2 .leads2 .ensures) ∙ c .before .before .if2 .left))
     (sym (c .before .leads3 .ensures) ∙ c .if3 .taken)
 
-add-leads : tie.Need-add-leads
-add-leads c =
-    let after-place-of : tie.After-place-of = search in
-    let start : tie.Start = search in
-    let pre = start .pre in
-    let at = after-place-of .place-of .ensures in
-    omega (arith, pre .0 .4, pre .0 .2, pre .0 .0 .short, pre .0 .0 .grid .room, pre .0 .0 .grid .narrow, at .low, at .narrow)
-
-add-leads-2 : tie.Need-add-leads-2
-add-leads-2 c =
-    let after-place-of : tie.After-place-of = search in
-    let start : tie.Start = search in
-    let pre = start .pre in
-    let at = after-place-of .place-of .ensures in
-    omega (arith, pre .0 .4, pre .0 .2, pre .0 .0 .short, pre .0 .0 .grid .room, pre .0 .0 .grid .narrow, at .low, at .narrow)
-
-add-leads-3 : tie.Need-add-leads-3
-add-leads-3 c =
-    let after-place-of : tie.After-place-of = search in
-    let start : tie.Start = search in
-    let pre = start .pre in
-    let at = after-place-of .place-of .ensures in
-    omega (arith, pre .0 .4, pre .0 .2, pre .0 .0 .short, pre .0 .0 .grid .room, pre .0 .0 .grid .narrow, at .low, at .narrow)
-
 leads-requires-4 : tie.Need-leads-requires-4
 leads-requires-4 c κs =
     let after-has : tie.After-has = search in
@@ -124,14 +114,6 @@ leads-requires-4 c κs =
         λ j. clear-way _ _ _ _ _ _ _ _ _ _ _ f (pre .1 .1) (pre .0 .2) (pre .0 .4) at (after-has .has .ensures) j,
       ),
     )
-
-add-result : tie.Need-add-result
-add-result c =
-    let after-place-of : tie.After-place-of = search in
-    let start : tie.Start = search in
-    let pre = start .pre in
-    let at = after-place-of .place-of .ensures in
-    omega (arith, pre .0 .4, pre .0 .2, pre .0 .0 .short, pre .0 .0 .grid .room, pre .0 .0 .grid .narrow, at .low, at .narrow)
 
 returns-4 : tie.Need-returns-4
 returns-4 c =
@@ -151,22 +133,6 @@ returns-4 c =
     (sym (after-leads3 .leads3 .ensures) ∙ c .before .before .if3 .left)
     (rw column at (sym (c .before .leads4 .ensures) ∙ c .if4 .taken))
 
-add-leads-4 : tie.Need-add-leads-4
-add-leads-4 c =
-    let after-place-of : tie.After-place-of = search in
-    let start : tie.Start = search in
-    let pre = start .pre in
-    let at = after-place-of .place-of .ensures in
-    omega (arith, pre .0 .4, pre .0 .2, pre .0 .0 .short, pre .0 .0 .grid .room, pre .0 .0 .grid .narrow, at .low, at .narrow)
-
-add-leads-5 : tie.Need-add-leads-5
-add-leads-5 c =
-    let after-place-of : tie.After-place-of = search in
-    let start : tie.Start = search in
-    let pre = start .pre in
-    let at = after-place-of .place-of .ensures in
-    omega (arith, pre .0 .4, pre .0 .2, pre .0 .0 .short, pre .0 .0 .grid .room, pre .0 .0 .grid .narrow, at .low, at .narrow)
-
 leads-requires-5 : tie.Need-leads-requires-5
 leads-requires-5 c κs =
     let after-has : tie.After-has = search in
@@ -181,14 +147,6 @@ leads-requires-5 c κs =
         λ j. clear-way _ _ _ _ _ _ _ _ _ _ _ f (pre .1 .1) (pre .0 .2) (pre .0 .4) at (after-has .has .ensures) j,
       ),
     )
-
-add-result-2 : tie.Need-add-result-2
-add-result-2 c =
-    let after-place-of : tie.After-place-of = search in
-    let start : tie.Start = search in
-    let pre = start .pre in
-    let at = after-place-of .place-of .ensures in
-    omega (arith, pre .0 .4, pre .0 .2, pre .0 .0 .short, pre .0 .0 .grid .room, pre .0 .0 .grid .narrow, at .low, at .narrow)
 
 returns-5 : tie.Need-returns-5
 returns-5 c =
@@ -236,5 +194,7 @@ pub next-spec : {M : Type 1} → statement M
 next-spec =
     tie.close (tie.spec (λ c κs. search needs) (λ c. search needs) (λ c. search needs) (λ c. search needs)
     (λ c κs. search needs) (λ c κs. search needs) (λ c. search needs) leads-requires returns (λ c κs. search needs)
-    (λ c κs. search needs) leads-requires-2 returns-2 leads-requires-3 returns-3 add-leads add-leads-2 add-leads-3
-    leads-requires-4 add-result returns-4 add-leads-4 add-leads-5 leads-requires-5 add-result-2 returns-5 returns-6)
+    (λ c κs. search needs) leads-requires-2 returns-2 leads-requires-3 returns-3 (λ c. omega (arith, sums search))
+    (λ c. omega (arith, sums search)) (λ c. omega (arith, sums search)) leads-requires-4
+    (λ c. omega (arith, sums search)) returns-4 (λ c. omega (arith, sums search)) (λ c. omega (arith, sums search))
+    leads-requires-5 (λ c. omega (arith, sums search)) returns-5 returns-6)

@@ -4,9 +4,9 @@ use native.Mathlib.Omega.{arith}
 use mathlib.Core.Path.{_≡_, sym, ap, _∙_}
 use borrow.Author.Needs.{needs}
 use lib.ListN.{getD, length, length-replicate}
+use Rattle.tables.proofs.FreeLaws.{free-none, free-more}
 use Rattle.tables.proofs.RewriteLaws.{rewritten-same}
 use Rattle.tables.specs.Room.{FreeBeats}
-use Rattle.tables.proofs.RoomLaws.{free-none, free-more}
 use Rattle.tables.proofs.room.fill_free.Statement.{statement}
 use Rattle.tables.proofs.room.fill_free.Tie as tie
 

@@ -4,8 +4,8 @@ use Prim.Native.Nat.{_-_, _≤_}
 use native.Mathlib.Omega.{arith}
 use mathlib.Core.Path.{_≡_, sym, _∙_}
 use borrow.Author.Needs.{needs}
+use Rattle.tables.proofs.TakenLaws.{within, tidy-within, taken-none, taken-more, taken-within}
 use Rattle.tables.specs.Room.{TakenBeats}
-use Rattle.tables.proofs.RoomLaws.{within, tidy-within, taken-none, taken-more, taken-within}
 use Rattle.tables.proofs.room.take_view.Statement.{statement}
 use Rattle.tables.proofs.room.take_view.Tie as tie
 

@@ -60,3 +60,21 @@ eqbs-say a b c d e = (eqb-true a b (and-fst (eqb a b) (eqb c d) e), eqb-true c d
 
 pub eqbs-hold : (a b c d : ℕ) → (a ≡ b) × (c ≡ d) → (eqb a b && eqb c d) ≡ true
 eqbs-hold a b c d h = and-both (eq-eqb a b (h .0)) (eq-eqb c d (h .1))
+
+-- Two tests that say the same are the same.
+pub same-test : (a b : Bool) → (a ≡ true → b ≡ true) → (b ≡ true → a ≡ true) → a ≡ b
+same-test true b f g = sym (f refl)
+same-test false true f g = g refl
+same-test false false f g = refl
+
+-- The second test of a conjunction counts only where the first holds.
+pub and-same : (a b c : Bool) → (a ≡ true → b ≡ c) → (a && b) ≡ (a && c)
+and-same true b c e = e refl
+and-same false b c e = refl
+
+-- So below a bound.
+pub below-same : (m n : ℕ) (b c : Bool) → (m < n → b ≡ c) → (ltb m n && b) ≡ (ltb m n && c)
+below-same m n b c e = and-same (ltb m n) b c (λ h. e (ltb-true m n h))
+
+pub inside-same : (m n : ℕ) (a b c : Bool) → (m < n → b ≡ c) → (ltb m n && a && b) ≡ (ltb m n && a && c)
+inside-same m n a b c e = and-same (ltb m n && a) b c (λ h. e (ltb-true m n (and-fst (ltb m n) a h)))
