@@ -19,6 +19,13 @@ pub ends-at : {a : Checked} {v : Verdict} {x : Refusal} (w : Verdict) → verdic
 unfolding verdictOf _then_
 ends-at w h e = rw (← h, e)
 
+-- The same at any rest, for the list of a `search`.
+pub ends-here : {a : Checked} {v : Verdict} {x : Refusal} → verdictOf a ≡ v → a ≡ Refused x → (w : Verdict) → verdictOf a ≡ (v then w)
+ends-here h e w = ends-at w h e
+
+-- A function that is such a chain: each of its answers is `search chain`, at a depth of one more than its checks.
+pub ruleset chain = (hands-on, ends-at)
+
 -- A check that answers `Passed` passes.
 pub passes : {a : Checked} {v : Verdict} → verdictOf a ≡ v → a ≡ Passed → v ≡ passed
 unfolding verdictOf

@@ -3,9 +3,11 @@ use Prim.Native.Nat.{ℕ, suc, zero, _+_, _-_, _≤_, _<_}
 use native.Mathlib.Omega.{arith}
 use native.Mathlib.Numerals.{add-one}
 use native.Mathlib.Nat.{zero-add, suc-add}
-use mathlib.Core.Path.{_≡_, refl, sym}
-use mathlib.Core.Bool.{Bool, true, false}
+use mathlib.Core.Path.{_≡_, refl, sym, _∙_}
+use mathlib.Core.Bool.{Bool, true, false, not}
 use borrow.Author.Count.{below-more}
+use borrow.Author.Needs.{needs}
+use borrow.Author.Tests.{not-true, not-false}
 use mathlib.Core.Logic.{_⊎_, inl, inr}
 use Rattle.floor.specs.Verdict.{Verdict, passed, refused, _then_, demand, inTurn, each}
 
@@ -130,3 +132,13 @@ module _ (k p : ℕ) (ok : ℕ → Bool) where
   pub each-end : (i m : ℕ) → i ≤ m → m ≤ i → each k p ok i ≡ passed → passed ≡ each k p ok m
   unfolding each
   each-end i m a b h = turn-end _ i m a b h
+
+  -- A loop that tests the items one by one, t being what the code answers of item i: one more that passes, and the first that fails.
+  pub tests-go-on : {t : Bool} (i : ℕ) → each k p ok i ≡ passed → t ≡ ok i → not t ≡ false → each k p ok (i + 1) ≡ passed
+  tests-go-on {t} i h e n = each-more i h (sym e ∙ not-false t n)
+
+  pub tests-stop : {t : Bool} (i m : ℕ) → each k p ok i ≡ passed → t ≡ ok i → not t ≡ true → i < m → refused k (p + i) ≡ each k p ok m
+  tests-stop {t} i m h e n l = sym (each-stop i m l h (sym e ∙ not-true t n))
+
+-- What such a loop's answers take.
+pub ruleset tests = (needs, each-none, tests-go-on, tests-stop, each-end)
