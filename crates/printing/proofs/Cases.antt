@@ -1,12 +1,11 @@
 -- Document 01's sheet and what is printed for it, byte for byte, and the empty sheet, computed from the definitions.
 use Prim.Native.Nat.{ℕ}
 use mathlib.Core.Path.{_≡_, refl, _∙_, ap}
-use mathlib.Core.List.{List, [], _∷_, _++_}
-use lib.ListN.{take, replicate}
+use mathlib.Core.List.{List, [], _∷_}
 use Rattle.floor.specs.Verdict.{refused, passed, demand, _then_, inTurn, each}
 use Rattle.floor.specs.Checks.{checkOf, limitsOf, within, lentOf, roomOf, placesOf, carriersOf, wallsOf, risingOf, clearOf, distinctOf}
 use Rattle.floor.specs.Checks.{startOf, goalOf, inGrid, carrierInGrid, rises, among, clearOfWalls, unshared}
-use Rattle.route.specs.Route.{cellAt, Answer}
+use Rattle.route.specs.Route.{cellAt}
 use Rattle.route.specs.Arrival.{settled, arrivalOf}
 use Rattle.fields.specs.Field.{column, fieldOf}
 use Rattle.sheet.specs.Text.{lineOf, linesOf, headLine, carrierLine, wallLine, sheetOf}
