@@ -2,9 +2,9 @@
 use Prim.Native.Nat.{ℕ, _≤_}
 use mathlib.Core.Path.{_≡_}
 use mathlib.Core.List.{List}
-use Rattle.floor.specs.Verdict.{Verdict, passed, refused}
-use Rattle.floor.specs.Checks.{placesOf}
-use Rattle.floor.proofs.VerdictLaws.{then-both}
+use Rattle.floor.specs.Verdict.{Verdict, passed, refused, _then_}
+use Rattle.floor.specs.Checks.{placesOf, roomOf}
+use Rattle.floor.proofs.VerdictLaws.{then-both, then-assoc}
 use Rattle.floor.proofs.LimitsLaws.{room-passed}
 use Rattle.sheet.specs.Values.{floorAt, wallsAt}
 use Rattle.sheet.specs.Read.{formOf, sheetVerdict, readVerdict, chosen}
@@ -16,6 +16,12 @@ chosen-passed a b h = rw h
 pub chosen-refused : {A : Type 0} {v : Verdict} {k p : ℕ} (a b : A) → v ≡ refused k p → chosen v a b ≡ b
 unfolding chosen
 chosen-refused a b h = rw h
+
+-- Reading is a chain of three checks.
+pub read-chain : {u : Verdict} (text : List ℕ) (room : ℕ)
+    → u ≡ (formOf text then (placesOf (floorAt text) (wallsAt text) then roomOf (floorAt text .walls) room)) → u ≡ readVerdict text room
+unfolding readVerdict sheetVerdict
+read-chain text room e = rw then-assoc e
 
 -- A sheet that is read is in good form, its floor passes 3 to 6, and its walls have room.
 pub record ReadTells (text : List ℕ) (room : ℕ) : Type 0 where
