@@ -32,6 +32,10 @@ pub passes : {a : Checked} {v : Verdict} → verdictOf a ≡ v → a ≡ Passed 
 unfolding verdictOf
 passes h e = rw (← h, e)
 
+-- The same of the last check of a chain.
+pub passed-is : {a : Checked} {v : Verdict} → verdictOf a ≡ v → a ≡ Passed → passed ≡ v
+passed-is h e = sym (passes h e)
+
 -- A check that answers a refusal refuses with its number and place.
 pub refuses : {a : Checked} {v : Verdict} {x : Refusal} → verdictOf a ≡ v → a ≡ Refused x → v ≡ refused (x .number) (x .place)
 unfolding verdictOf

@@ -24,8 +24,8 @@ use Rattle.sheet.specs.Values.{cellAt, headAt, floorAt, cellsAt, wallsFr
 use Rattle.sheet.specs.Read.{formOf, sheetVerdict}
 use Rattle.sheet.proofs.CellLaws.{number-value, cell-of-cell}
 use Rattle.sheet.proofs.ListedLaws.{listed-at, upTo-at}
-use Rattle.sheet.proofs.LineLaws.{head-length, carrier-length, wall-length, lines-length}
-use Rattle.sheet.proofs.SheetLaws.{sheet-length}
+use Rattle.sheet.proofs.LineLaws.{head-length, carrier-length, wall-length}
+use Rattle.sheet.proofs.SheetLaws.{carriers-length, walls-length, sheet-length}
 use Rattle.memory.specs.Memory.{part}
 use Rattle.memory.proofs.PartLaws.{part-whole, part-blocks}
 use Rattle.sheet.proofs.LineText.{numbersFrom, text-line}
@@ -50,42 +50,27 @@ module _ (f : Floor) (ws : List ℕ) (ok : checkOf f ws ≡ passed) where
   abbrev text : List ℕ
   text = sheetOf f ws
 
-  carriers : List ℕ
-  carriers = carrierLines f
-
-  walls : List ℕ
-  walls = wallLines f ws
-
-  carriers-size : length carriers ≡ 21 * f .carriers
-  unfolding carriers
-  carriers-size = lines-length (carrierLine f) 21 (carrier-length f) (f .carriers)
-
-  walls-size : length walls ≡ 11 * f .walls
-  unfolding walls
-  walls-size = lines-length (λ j. wallLine (f .width) (getD ws j 0)) 11 (λ j. wall-length (f .width) (getD ws j 0)) (f .walls)
-
-  whole : part text 0 (31 + (21 * f .carriers + 11 * f .walls)) ≡ headLine f ++ (carriers ++ walls)
-  unfolding sheetOf carriers walls sheetLength wallAt
+  whole : part text 0 (31 + (21 * f .carriers + 11 * f .walls)) ≡ headLine f ++ (carrierLines f ++ wallLines f ws)
+  unfolding sheetOf sheetLength wallAt
   whole = part-whole text _ (sheet-length f ws ∙ omega arith)
 
-  front : (part text 0 31 ≡ headLine f) × (part text 31 (21 * f .carriers + 11 * f .walls) ≡ carriers ++ walls)
+  front : (part text 0 31 ≡ headLine f) × (part text 31 (21 * f .carriers + 11 * f .walls) ≡ carrierLines f ++ wallLines f ws)
   front =
-      part-blocks text (headLine f) (carriers ++ walls) 0 31 _ (head-length f)
-      (length-append carriers walls ∙ ap₂ (λ (x y : ℕ). x + y) carriers-size walls-size)
+      part-blocks text (headLine f) (carrierLines f ++ wallLines f ws) 0 31 _ (head-length f)
+      (length-append (carrierLines f) (wallLines f ws) ∙ ap₂ (λ (x y : ℕ). x + y) (carriers-length f ws) (walls-length f ws))
       (omega arith)
       whole
 
-  back : (part text 31 (21 * f .carriers) ≡ carriers) × (part text (31 + 21 * f .carriers) (11 * f .walls) ≡ walls)
+  back : (part text 31 (21 * f .carriers) ≡ carrierLines f) × (part text (31 + 21 * f .carriers) (11 * f .walls) ≡ wallLines f ws)
   back =
-      part-blocks text carriers walls 31 (21 * f .carriers) (11 * f .walls) carriers-size walls-size (omega (arith, bounds .carriers .0))
+      part-blocks text (carrierLines f) (wallLines f ws) 31 (21 * f .carriers) (11 * f .walls)
+      (carriers-length f ws) (walls-length f ws) (omega (arith, bounds .carriers .0))
       (front .1)
 
   carrier-part : (i : ℕ) → i < f .carriers → part text (31 + 21 * i) 21 ≡ carrierLine f i
-  unfolding carriers
   carrier-part = lines-parts text (carrierLine f) 21 31 (carrier-length f) (lit< tt) (f .carriers) (back .0)
 
   wall-part : (j : ℕ) → j < f .walls → part text (31 + 21 * f .carriers + 11 * j) 11 ≡ wallLine (f .width) (getD ws j 0)
-  unfolding walls
   wall-part =
       lines-parts text (λ j. wallLine (f .width) (getD ws j 0)) 11 (31 + 21 * f .carriers) (λ j. wall-length (f .width) (getD ws j 0))
       (lit< tt) (f .walls)
@@ -96,17 +81,7 @@ module _ (f : Floor) (ws : List ℕ) (ok : checkOf f ws ≡ passed) where
       (numbersFrom text 0 6 ≡ f .width ∷ f .height ∷ f .horizon ∷ f .depth ∷ f .carriers ∷ f .walls ∷ [])
   unfolding headLine
   head-reads =
-      text-line text (f .width ∷ f .height ∷ f .horizon ∷ f .depth ∷ f .carriers ∷ f .walls ∷ []) 0 (
-        omega (arith, bounds .width .1),
-        (
-          omega (arith, bounds .height .1),
-          (
-            omega (arith, bounds .horizon .1),
-            (omega (arith, bounds .depth .1), (omega (arith, bounds .carriers .1), (omega (arith, bounds .walls .1), tt))),
-          ),
-        ),
-      )
-      (front .0)
+      text-line text (f .width ∷ f .height ∷ f .horizon ∷ f .depth ∷ f .carriers ∷ f .walls ∷ []) 0 (omega (arith, bounds)) (front .0)
 
   -- The six values of line 1.
   record HeadSame : Type 0 where

@@ -1,12 +1,10 @@
 -- The form of a sheet, slot by slot: what a slot's check means, and that the form is the form of its slots in their order.
-use Prim.Native.Nat.{ℕ, _+_}
+use Prim.Native.Nat.{ℕ}
 use mathlib.Core.Path.{_≡_, refl, sym, _∙_}
-use mathlib.Core.Bool.{Bool, true, false}
 use mathlib.Core.List.{List, [], _∷_}
 use borrow.Author.Tests.{leb-true, leb-false, ltb-true, ltb-false, eqb-true, eqb-false, le-leb, lt-leb, lt-ltb, le-ltb, eq-eqb, ne-eqb}
-use lib.ListN.{length, getD}
-use lib.Dec.{leb, ltb, eqb}
-use Rattle.floor.specs.Verdict.{Verdict, passed, refused, _then_, demand}
+use lib.ListN.{length}
+use Rattle.floor.specs.Verdict.{Verdict, passed, refused, _then_}
 use Rattle.floor.proofs.VerdictLaws.{then-both, refused-by, then-passed, then-refused, demand-holds, demand-cases, demand-passes}
 use Rattle.floor.proofs.VerdictLaws.{demand-refuses, refused-not-passed}
 use Rattle.floor.proofs.EachLaws.{fails-false, false-fails}

@@ -5,7 +5,7 @@ use mathlib.Core.Path.{_≡_, refl, sym, _∙_}
 use mathlib.Core.Logic.{_↔_}
 use mathlib.Core.List.{List}
 use Rattle.floor.specs.Verdict.{passed, refused, _then_}
-use Rattle.floor.specs.Checks.{limitsOf, placesOf}
+use Rattle.floor.specs.Checks.{limitsOf}
 use Rattle.floor.specs.Accepted.{FieldWithin, Limited}
 use Rattle.floor.proofs.VerdictLaws.{then-both, refused-by, then-passed, then-refused}
 use Rattle.floor.proofs.EachLaws.{each-refused, first-refuses}
