@@ -1,5 +1,5 @@
 -- The claims of the floor, proved.
-use Prim.Native.Nat.{ℕ, _+_}
+use Prim.Native.Nat.{ℕ}
 use mathlib.Core.Path.{_≡_, refl, sym, _∙_}
 use mathlib.Core.Logic.{_↔_}
 use mathlib.Core.List.{List}
@@ -12,7 +12,7 @@ use Rattle.floor.specs.Fresh.{freshFloor}
 use Rattle.floor.specs.Accepted.{Accepted, Limited, Lent, CarriersInGrid, WallsInGrid, Rising, Clear, Distinct}
 use Rattle.floor.specs.Refused.{RefusedWith, outside-limit, few-walls, carrier-outside, wall-outside, not-rising, on-wall, shared}
 use Rattle.floor.specs.Claims.{Claims}
-use Rattle.floor.proofs.VerdictLaws.{then-both, refused-by, demand-cases}
+use Rattle.floor.proofs.VerdictLaws.{then-both, then-refused, refused-by, demand-cases}
 use Rattle.floor.proofs.EachLaws.{each-means, each-refused, first-refuses}
 use Rattle.floor.proofs.LimitsLaws.{field-means, limits-each, limits-mean, lent-passed}
 use Rattle.floor.proofs.SameLaws.{check-same}
@@ -115,21 +115,19 @@ module _ (f : Floor) (ws : List ℕ) where
   unfolding checkOf placesOf carriersOf wallsOf risingOf clearOf distinctOf lentOf roomOf demand _then_
   refusal k p (outside-limit h) = rw (limits-each f, first-refuses 2 1 _ _ (field-means f) 6 _ h)
   refusal k p (few-walls l h) = rw (limits-mean f .1 l, lt-leb _ _ h)
-  refusal k p (carrier-outside {i} l n h) =
-      let e : carriersOf f ≡ refused 3 (1 + i) = first-refuses 3 1 _ _ (carrier-in-grid-means f) _ i h in
-      rw (limits-mean f .1 l, lent-means .1 n, e)
-  refusal k p (wall-outside {j} l n a h) =
-      let e : wallsOf f ws ≡ refused 3 (f .carriers + 1 + j) = first-refuses 3 _ _ _ (wall-in-grid-means f ws) _ j h in
-      rw (limits-mean f .1 l, lent-means .1 n, carriers-mean .1 a, e)
-  refusal k p (not-rising {j} l n a b h) =
-      let e : risingOf f ws ≡ refused 4 (f .carriers + 1 + j) = first-refuses 4 _ _ _ (rises-means ws) _ j h in
-      rw (limits-mean f .1 l, lent-means .1 n, carriers-mean .1 a, walls-mean .1 b, e)
-  refusal k p (on-wall {i} l n a b c h) =
-      let e : clearOf f ws ≡ refused 5 (1 + i) = first-refuses 5 1 _ _ (clear-means f ws) _ i h in
-      rw (limits-mean f .1 l, lent-means .1 n, carriers-mean .1 a, walls-mean .1 b, rising-means .1 c, e)
-  refusal k p (shared {i} l n a b c d h) =
-      let e : distinctOf f ≡ refused 6 (1 + i) = first-refuses 6 1 _ _ (unshared-means f) _ i h in
-      rw (limits-mean f .1 l, lent-means .1 n, carriers-mean .1 a, walls-mean .1 b, rising-means .1 c, clear-mean .1 d, e)
+  refusal k p (carrier-outside l n h) =
+      rw (limits-mean f .1 l, lent-means .1 n, first-refuses 3 1 _ _ (carrier-in-grid-means f) _ _ h)
+  refusal k p (wall-outside l n a h) =
+      rw (limits-mean f .1 l, lent-means .1 n, carriers-mean .1 a, first-refuses 3 _ _ _ (wall-in-grid-means f ws) _ _ h)
+  refusal k p (not-rising l n a b h) =
+      rw (limits-mean f .1 l, lent-means .1 n, carriers-mean .1 a, walls-mean .1 b)
+      (then-refused _ (first-refuses 4 _ _ _ (rises-means ws) _ _ h))
+  refusal k p (on-wall l n a b c h) =
+      rw (limits-mean f .1 l, lent-means .1 n, carriers-mean .1 a, walls-mean .1 b, rising-means .1 c)
+      (then-refused _ (first-refuses 5 1 _ _ (clear-means f ws) _ _ h))
+  refusal k p (shared l n a b c d h) =
+      rw (limits-mean f .1 l, lent-means .1 n, carriers-mean .1 a, walls-mean .1 b, rising-means .1 c, clear-mean .1 d)
+      (first-refuses 6 1 _ _ (unshared-means f) _ _ h)
 
 pub theorems : Claims
 unfolding checkOf limitsOf lentOf roomOf placesOf carriersOf wallsOf risingOf clearOf distinctOf freshFloor _then_ demand each inTurn

@@ -2,7 +2,7 @@
 use Prim.Native.Nat.{ℕ, _+_, _*_, _/_, _%_, _≤_, _<_}
 use native.Mathlib.Omega.{arith}
 use native.Mathlib.Nat.{mod-lt, div-lt-iff-lt-mul, mul-comm}
-use mathlib.Core.Path.{_≡_, refl, sym, _∙_, ap, ap₂}
+use mathlib.Core.Path.{_≡_, refl, sym, _∙_, ap₂}
 use mathlib.Core.List.{List, [], _∷_, _++_}
 use borrow.Author.Tests.{le-leb}
 use lib.ListN.{length, getD, length-append}
@@ -95,17 +95,14 @@ module _ (f : Floor) (ws : List ℕ) (ok : checkOf f ws ≡ passed) where
   head-same : HeadSame
   unfolding headAt numbersFrom
   head-same =
-      let field : (i : ℕ) → getD (numbersFrom text 0 6) i 0 ≡ getD
-      (f .width ∷ f .height ∷ f .horizon ∷ f .depth ∷ f .carriers ∷ f .walls ∷ []) i 0 =
-      λ i. ap (λ (vs : List ℕ). getD vs i 0) (head-reads .1)
-      in
+      let read = head-reads .1 in
       record {
-        width = number-value text 0 (f .width) (omega (arith, bounds .width .1)) (field 0);
-        height = number-value text 5 (f .height) (omega (arith, bounds .height .1)) (field 1);
-        horizon = number-value text 10 (f .horizon) (omega (arith, bounds .horizon .1)) (field 2);
-        depth = number-value text 15 (f .depth) (omega (arith, bounds .depth .1)) (field 3);
-        carriers-same = number-value text 20 (f .carriers) (omega (arith, bounds .carriers .1)) (field 4);
-        walls-same = number-value text 25 (f .walls) (omega (arith, bounds .walls .1)) (field 5);
+        width = number-value text 0 (f .width) (omega (arith, bounds .width .1)) (cc);
+        height = number-value text 5 (f .height) (omega (arith, bounds .height .1)) (cc);
+        horizon = number-value text 10 (f .horizon) (omega (arith, bounds .horizon .1)) (cc);
+        depth = number-value text 15 (f .depth) (omega (arith, bounds .depth .1)) (cc);
+        carriers-same = number-value text 20 (f .carriers) (omega (arith, bounds .carriers .1)) (cc);
+        walls-same = number-value text 25 (f .walls) (omega (arith, bounds .walls .1)) (cc);
       }
 
   -- The column and the row of a cell of the grid are small numbers.
@@ -138,14 +135,12 @@ module _ (f : Floor) (ws : List ℕ) (ok : checkOf f ws ≡ passed) where
       text-line text (c % w ∷ c / w ∷ d % w ∷ d / w ∷ []) (31 + 21 * i) (s .0, (s .1, (g .0, (g .1, tt))))
       (carrier-part i l)
       in
-      let field : (j : ℕ) → getD (numbersFrom text (31 + 21 * i) 4) j 0 ≡ getD (c % w ∷ c / w ∷ d % w ∷ d / w ∷ []) j 0 =
-      λ j. ap (λ (vs : List ℕ). getD vs j 0) (r .1)
-      in
+      let read = r .1 in
       let third : 31 + 21 * i + 5 + 5 ≡ 41 + 21 * i = omega arith in
       record {
         form = r .0;
-        start = cell-reads (31 + 21 * i) c (inside .0) (field 0) (field 1);
-        goal = cell-reads (41 + 21 * i) d (inside .1) (rw third at (field 2)) (rw third at (field 3));
+        start = cell-reads (31 + 21 * i) c (inside .0) (cc) (cc);
+        goal = cell-reads (41 + 21 * i) d (inside .1) (cc) (cc);
       }
 
   -- A wall's line, read.
@@ -162,10 +157,8 @@ module _ (f : Floor) (ws : List ℕ) (ok : checkOf f ws ≡ passed) where
       let s = small c inside in
       let at = 31 + 21 * f .carriers + 11 * j in
       let r = text-line text (c % w ∷ c / w ∷ []) at (s .0, (s .1, tt)) (wall-part j l) in
-      let field : (i : ℕ) → getD (numbersFrom text at 2) i 0 ≡ getD (c % w ∷ c / w ∷ []) i 0 =
-      λ i. ap (λ (vs : List ℕ). getD vs i 0) (r .1)
-      in
-      record { form = r .0; cell = cell-reads at c inside (field 0) (field 1) }
+      let read = r .1 in
+      record { form = r .0; cell = cell-reads at c inside (cc) (cc) }
 
   -- The walls stand where line 1's counts say.
   wall-column : (j : ℕ) → wallAt (headAt text) j ≡ wallAt f j

@@ -2,7 +2,7 @@
 use Prim.Native.Nat.{ℕ}
 use mathlib.Core.Path.{_≡_, refl, sym, _∙_}
 use mathlib.Core.List.{List, [], _∷_}
-use borrow.Author.Tests.{leb-true, leb-false, ltb-true, ltb-false, eqb-true, eqb-false, le-leb, lt-leb, lt-ltb, le-ltb, eq-eqb, ne-eqb}
+use borrow.Author.Tests.{leb-true, leb-false, ltb-true, ltb-false, eqb-false, le-leb, lt-leb, lt-ltb, le-ltb, eq-eqb, ne-eqb}
 use lib.ListN.{length}
 use Rattle.floor.specs.Verdict.{Verdict, passed, refused, _then_}
 use Rattle.floor.proofs.VerdictLaws.{then-both, refused-by, then-passed, then-refused, demand-holds, demand-cases, demand-passes}
@@ -12,6 +12,7 @@ use Rattle.fields.specs.Field.{isField}
 use Rattle.fields.specs.Form.{fieldForm, newlineForm, endForm}
 use Rattle.sheet.specs.Refused.{Slot, field, newline, finish, Fine, Broken, cut, bad, ended, wrong, extra, AllFine, none-left}
 use Rattle.sheet.specs.Refused.{one-more, FirstBroken, here, later}
+use Rattle.sheet.proofs.LineText.{newline-tells}
 use Rattle.sheet.proofs.FieldLaws.{is-field-good, good-is-field}
 
 -- The check of a slot, and of slots in their order.
@@ -31,9 +32,7 @@ module _ (text : List ℕ) where
   slot-fine (field at) h =
       let a = then-both _ _ h in
       (leb-true _ _ (demand-holds _ 1 (length text) (a .0)), is-field-good text at (demand-holds _ 1 at (a .1)))
-  slot-fine (newline at) h =
-      let a = then-both _ _ h in
-      (ltb-true _ _ (demand-holds _ 1 (length text) (a .0)), eqb-true _ _ (demand-holds _ 1 at (a .1)))
+  slot-fine (newline at) h = newline-tells text at h
   slot-fine (finish at) h = leb-true _ _ (demand-holds _ 1 at h)
 
   fine-slot : (s : Slot) → Fine text s → slotForm text s ≡ passed
