@@ -76,7 +76,3 @@ route-line m m₁ m₂ m₃ xs at a b n e₁ e₂ e₃ s l =
     newline-next m m₃ ((fieldOf a ++ fieldOf b) ++ fieldsOf xs) at (at + 10 + 5 * n) three (omega arith) (omega arith)
     ∙ ap (λ (t : List ℕ). put m at (t ++ (10 ∷ []))) (append-assoc (fieldOf a) (fieldOf b) (fieldsOf xs))
     ∙ ap (put m at) (sym (line-fields (a ∷ b ∷ xs)))
-
--- A line has five bytes a field and one more.
-pub line-length : (xs : List ℕ) → length (lineOf xs) ≡ 5 * length xs + 1
-line-length xs = ap length (line-fields xs) ∙ length-append (fieldsOf xs) (10 ∷ []) ∙ rw (fields-length xs)
