@@ -24,7 +24,11 @@ put-field-requires c κs =
     let start : tie.Start Inv-loop μ-loop = search in
     let l = c .before .before .loop in
     let room = start .pre in
-    omega (arith, fields-keep _ (start .args .t3) _ _ (start .args .n) (l .t) (l .inv .1 .1) (omega (arith, l .inv)) (omega arith) (omega arith))
+    omega (
+      arith,
+      fields-keep _ (start .args .t3) _ _ (start .args .n) (l .t) (l .inv .1 .1)
+          (omega (arith, l .inv)) (omega arith) (omega arith),
+    )
 
 loop-again : tie.Need-loop-again Inv-loop μ-loop
 loop-again c =
@@ -33,7 +37,9 @@ loop-again c =
     let l = at-loop .loop in
     let room = start .pre in
     let field = c .before .before .put-field .ensures in
-    (search needs, (l .inv .1 .0, fields-more _ (start .args .t3) _ _ (start .args .n) (l .t) (l .inv .1 .1) (omega (arith, l .inv)) (omega arith) _ (omega arith) field))
+    let more = fields-more _ (start .args .t3) _ _ (start .args .n) (l .t) (l .inv .1 .1)
+    (omega (arith, l .inv)) (omega arith) _ (omega arith) field in
+    (search needs, (l .inv .1 .0, more))
 
 same-length : tie.Need-same-length Inv-loop μ-loop
 same-length c =
