@@ -5,8 +5,8 @@ use mathlib.Core.Path.{_≡_}
 use mathlib.Core.List.{List}
 use lib.Dec.{lit<}
 use lib.ListN.{length, set, length-set}
-use Rattle.memory.specs.Memory.{put}
-use Rattle.memory.proofs.PutLaws.{put-five}
+use Rattle.laws.specs.Memory.{put}
+use Rattle.laws.proofs.PutLaws.{put-five}
 use Rattle.fields.specs.Field.{column, fieldOf}
 
 pub room-of-five : (m : List ℕ) (at i : ℕ) → at + 5 ≤ length m → i < 5 → at + i < length m

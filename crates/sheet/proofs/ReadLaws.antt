@@ -13,7 +13,7 @@ use Rattle.floor.specs.Checks.{placesOf, roomOf}
 use Rattle.floor.proofs.VerdictLaws.{then-both, then-assoc}
 use Rattle.floor.proofs.AnswersLaws.{refuses}
 use Rattle.floor.proofs.LimitsLaws.{room-passed}
-use Rattle.memory.specs.Memory.{put}
+use Rattle.laws.specs.Memory.{put}
 use Rattle.sheet.specs.Text.{sheetOf}
 use Rattle.sheet.specs.Values.{floorAt, wallsAt}
 use Rattle.sheet.specs.Read.{formOf, sheetVerdict, readVerdict, chosen, writeVerdict, writeSheet}

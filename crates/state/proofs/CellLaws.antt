@@ -8,8 +8,8 @@ use mathlib.Core.Path.{_≡_, refl, sym, _∙_, ap}
 use mathlib.Core.List.{List}
 use lib.ListN.{length, getD, set, length-set}
 use lib.Seq.{getD-set-same, getD-set-other, ext-getD}
-use Rattle.memory.specs.Memory.{part}
-use Rattle.memory.proofs.PartLaws.{part-byte, part-length}
+use Rattle.laws.specs.Memory.{part}
+use Rattle.laws.proofs.PartLaws.{part-byte, part-length}
 use Rattle.reference.specs.Step.{sameCells}
 use Rattle.reference.proofs.TakeLaws.{same-cells, cells-same}
 

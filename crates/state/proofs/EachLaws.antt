@@ -4,7 +4,7 @@ use native.Mathlib.Omega.{arith}
 use native.Mathlib.Numerals.{add-one}
 use mathlib.Core.Bool.{Bool, true, false, _&&_}
 use mathlib.Core.Path.{_≡_, refl, sym, _∙_, ap}
-use Rattle.route.proofs.Tests.{true-false-absurd}
+use Rattle.laws.proofs.Tests.{true-false-absurd}
 use Rattle.reference.specs.Ranges.{each}
 use Rattle.reference.proofs.RangeLaws.{each-holds}
 

@@ -1,6 +1,6 @@
 -- `kalomivund_read_sheet` meets its contract: a refusal leaves all as it was; otherwise the floor's numbers and its walls are stored.
 use denote.Ref.{now}
-use Rattle.memory.specs.Memory.{put}
+use Rattle.laws.specs.Memory.{put}
 use Rattle.sheet.specs.Read.{readFloor}
 use Rattle.sheet.proofs.ReadLaws.{chosen-passed, chosen-refused}
 use Rattle.floor.proofs.AnswersLaws.{passes, refuses}

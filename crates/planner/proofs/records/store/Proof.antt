@@ -1,5 +1,5 @@
 -- `planner::records::store` meets its contract: a tag and 64 cells, one behind the other.
-use Rattle.memory.proofs.PutLaws.{put-one, put-next}
+use Rattle.laws.proofs.PutLaws.{put-one, put-next}
 use lib.ListN.{length-set}
 use mathlib.Core.List.{_∷_, []}
 use mathlib.Core.Path.{refl, _∙_}

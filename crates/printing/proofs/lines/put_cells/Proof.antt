@@ -1,7 +1,7 @@
 -- `printing::lines::put_cells` meets its contract: the fields passed stand one behind the other.
 use Rattle.printing.proofs.FieldsLaws.{fields-start, fields-more, fields-keep, fields-end}
 use Rattle.printing.specs.Text.{fieldsOf}
-use Rattle.memory.specs.Memory.{put}
+use Rattle.laws.specs.Memory.{put}
 use lib.ListN.{length, take}
 use mathlib.Core.Path.{_≡_}
 use Prim.Native.Nat.{_-_, _≤_}

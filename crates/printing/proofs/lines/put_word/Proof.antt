@@ -1,6 +1,6 @@
 -- `printing::lines::put_word` meets its contract: five stores are a block of five bytes.
 use Rattle.printing.specs.Text.{noneWord}
-use Rattle.memory.proofs.PutLaws.{put-five}
+use Rattle.laws.proofs.PutLaws.{put-five}
 use Rattle.fields.proofs.StoreLaws.{stores}
 use borrow.Author.Needs.{needs}
 use Rattle.printing.proofs.lines.put_word.Statement.{statement}

@@ -2,7 +2,7 @@
 use lib.ListN.{getD}
 use Rattle.sheet.specs.Text.{linesOf, wallLine, sheetLength, wallAt}
 use Rattle.sheet.proofs.LineLaws.{lines, lines-next, lines-keep, wall-length}
-use Rattle.memory.specs.Memory.{put}
+use Rattle.laws.specs.Memory.{put}
 use mathlib.Core.Path.{_≡_, refl}
 use Prim.Native.Nat.{ℕ, _-_, _≤_}
 use borrow.Author.Needs.{needs}

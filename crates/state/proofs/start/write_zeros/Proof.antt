@@ -1,7 +1,7 @@
 -- `state::start::write_zeros` meets its contract: the loop copies a list of zeros.
 use mathlib.Core.List.{List}
-use Rattle.memory.proofs.PutLaws.{copy-start, copy-more, copy-end}
-use Rattle.memory.specs.Memory.{put}
+use Rattle.laws.proofs.PutLaws.{copy-start, copy-more, copy-end}
+use Rattle.laws.specs.Memory.{put}
 use lib.ListN.{length, getD, set, take, replicate, length-set, length-replicate, getD-replicate}
 use mathlib.Core.Path.{_≡_, refl, sym, _∙_, ap}
 use Prim.Native.Nat.{ℕ, _+_, _-_, _≤_}
