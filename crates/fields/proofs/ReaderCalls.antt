@@ -11,7 +11,7 @@ use sound.WpLaws.{FmC}
 use contract.Lifetimes.{Lfts}
 use types.Kit.{Given, Item, ‵, raw, _⊛_, ⋆, Post, runs, lands, Seq, _$_, _∵_, !, qed, move, use0, use2, join, fjoin, frame, done}
 use types.Run.{Opds}
-use denote.RattleType.{RattleType, owns}
+use denote.RattleType.{RattleType}
 use denote.Laws.{Is}
 use denote.Builtin.{u8, usize}
 use denote.Exit.{yes}

@@ -3,6 +3,7 @@ use Prim.Native.Nat.{ℕ, suc, zero, _+_, _-_, _≤_, _<_}
 use native.Mathlib.Omega.{arith}
 use native.Mathlib.Numerals.{add-one}
 use native.Mathlib.Nat.{zero-add, suc-add}
+use borrow.Author.Needs.{needs}
 use borrow.Author.Tests.{eq-eqb, ne-eqb}
 use mathlib.Core.Path.{_≡_, refl, sym}
 use mathlib.Core.Bool.{true, false, or-true}
@@ -45,7 +46,14 @@ module _ (xs : List ℕ) (c : ℕ) where
       let e : i ≡ m = omega arith in
       sym (rw e at h)
 
+  -- A loop's answer where it meets c.
+  pub among-met : (i m : ℕ) → getD xs i 0 ≡ c → i < m → true ≡ among xs m c
+  among-met i m e l = sym (among-found i m l e)
+
   -- A number that is at none of the places is not among them.
   pub absent-all : (m : ℕ) → Absent xs m c → among xs m c ≡ false
   absent-all zero a = among-none
   absent-all (suc m) a = rw add-one at (among-more m (absent-all m (λ i l. a i (omega arith))) (a m (omega arith)))
+
+-- What the answers of such a loop take.
+pub ruleset looks = (needs, among-none, among-more, among-met, among-end)

@@ -1,13 +1,14 @@
 -- Laws of a chain of checks that is taken apart by `let .. else`: an answer that passed hands on to the rest of the chain, and the
 -- first refusal is the answer of the whole.
-use Prim.Native.Nat.{ℕ, _<_}
+use Prim.Native.Nat.{ℕ, _+_, _<_}
+use borrow.Author.Needs.{needs}
 use mathlib.Core.Path.{_≡_, sym, _∙_}
 use Rattle.floor.specs.declared.Refusal.{Refusal}
 use Rattle.floor.specs.declared.Checked.{Checked}
 use Rattle.floor.specs.declared.Checked.the-variants.{Passed, Refused}
 use Rattle.floor.specs.Verdict.{Verdict, passed, refused, _then_, inTurn}
 use Rattle.floor.specs.Answers.{verdictOf}
-use Rattle.floor.proofs.VerdictLaws.{turn-stop}
+use Rattle.floor.proofs.VerdictLaws.{turn-none, turn-more, turn-stop, turn-end}
 
 -- A check that passed hands on: what the rest answers, the whole answers.
 pub hands-on : {a : Checked} {u v w : Verdict} → verdictOf a ≡ v → a ≡ Passed → u ≡ w → u ≡ (v then w)
@@ -19,10 +20,21 @@ pub ends-at : {a : Checked} {v : Verdict} {x : Refusal} (w : Verdict) → verdic
 unfolding verdictOf _then_
 ends-at w h e = rw (← h, e)
 
+-- The same at any rest, for the list of a `search`.
+pub ends-here : {a : Checked} {v : Verdict} {x : Refusal} → verdictOf a ≡ v → a ≡ Refused x → (w : Verdict) → verdictOf a ≡ (v then w)
+ends-here h e w = ends-at w h e
+
+-- A function that is such a chain: each of its answers is `search chain`, at a depth of one more than its checks.
+pub ruleset chain = (hands-on, ends-at)
+
 -- A check that answers `Passed` passes.
 pub passes : {a : Checked} {v : Verdict} → verdictOf a ≡ v → a ≡ Passed → v ≡ passed
 unfolding verdictOf
 passes h e = rw (← h, e)
+
+-- The same of the last check of a chain.
+pub passed-is : {a : Checked} {v : Verdict} → verdictOf a ≡ v → a ≡ Passed → passed ≡ v
+passed-is h e = sym (passes h e)
 
 -- A check that answers a refusal refuses with its number and place.
 pub refuses : {a : Checked} {v : Verdict} {x : Refusal} → verdictOf a ≡ v → a ≡ Refused x → v ≡ refused (x .number) (x .place)
@@ -34,3 +46,11 @@ pub turn-ends : {a : Checked} {x : Refusal} (check : ℕ → Verdict) (i m : ℕ
     → i < m → inTurn check i ≡ passed → verdictOf a ≡ check i → a ≡ Refused x → verdictOf a ≡ inTurn check m
 turn-ends {x} check i m l p h e =
     h ∙ refuses h e ∙ sym (turn-stop check i m (x .number) (x .place) l p (refuses h e))
+
+-- Past a check that passed.
+pub turn-on : {a : Checked} (check : ℕ → Verdict) (i : ℕ) → inTurn check i ≡ passed → verdictOf a ≡ check i → a ≡ Passed
+    → inTurn check (i + 1) ≡ passed
+turn-on check i p h e = turn-more check i p (passes h e)
+
+-- What the answers of such a loop take.
+pub ruleset turns = (needs, turn-none, turn-on, turn-ends, turn-end)

@@ -4,10 +4,10 @@ use native.Mathlib.Omega.{arith}
 use mathlib.Core.Path.{_≡_, refl, _∙_, sym}
 use mathlib.Core.Bool.{Bool, true, false, true≢false}
 use borrow.Author.Count.{below-more}
-use mathlib.Core.Logic.{⊎-elim, _↔_}
+use mathlib.Core.Logic.{_↔_}
 use Rattle.floor.specs.Verdict.{passed, refused, _then_, demand, inTurn, each}
 use Rattle.floor.specs.Accepted.{All, First}
-use Rattle.floor.proofs.VerdictLaws.{then-both, then-cases, demand-holds, demand-cases, refused-not-passed, each-stop}
+use Rattle.floor.proofs.VerdictLaws.{then-both, refused-by, demand-holds, demand-cases, refused-not-passed, each-stop}
 
 -- The tests of a check and what they mean.
 abbrev pub Decides : (ℕ → Bool) → (ℕ → Type 0) → Type 0
@@ -37,36 +37,20 @@ module _ (k p : ℕ) (ok : ℕ → Bool) (P : ℕ → Type 0) (means : Decides o
   all-passes zero a = refl
   all-passes (suc m) a = rw (all-passes m (λ i l. a i (omega arith)), means m .1 (a m (omega arith)))
 
-  -- Where a check refuses: with its own number, at the first test that fails.
-  pub record Stopped (m a b : ℕ) : Type 0 where
-    pub item : ℕ
-    pub number : a ≡ k
-    pub place : b ≡ p + item
-    pub first : First P m item
+  pub each-means : (m : ℕ) → (each k p ok m ≡ passed) ↔ All P m
+  each-means m = (each-passed m, all-passes m)
 
-  -- A refusal is the first failing test's.
-  pub each-refused : (m a b : ℕ) → each k p ok m ≡ refused a b → Stopped m a b
+  -- What follows from a refusal: it has the check's own number and the place of the first test that fails.
+  pub each-refused : (C : ℕ → ℕ → Type 0) (m a b : ℕ) → each k p ok m ≡ refused a b → ((i : ℕ) → First P m i → C k (p + i)) → C a b
   unfolding each inTurn
-  each-refused zero a b h = absurd (refused-not-passed (sym h))
-  each-refused (suc m) a b h =
-      ⊎-elim
-      (λ (e : each k p ok m ≡ refused a b).
-      let s = each-refused m a b e in
-      record {
-        item = s .item;
-        number = s .number;
-        place = s .place;
-        first = record { listed = omega (arith, s .first .listed); fails = s .first .fails; before = s .first .before };
-      })
-      (λ (e : (each k p ok m ≡ passed) × (demand (ok m) k (p + m) ≡ refused a b)).
-      let d = demand-cases (ok m) k (p + m) a b (e .1) in
-      record {
-        item = m;
-        number = d .1;
-        place = d .2;
-        first = record { listed = omega arith; fails = λ q. false-fails (d .0) (means m .1 q); before = each-passed m (e .0) };
-      })
-      (then-cases (each k p ok m) (demand (ok m) k (p + m)) a b h)
+  each-refused C zero a b h f = absurd (refused-not-passed (sym h))
+  each-refused C (suc m) a b h f =
+      refused-by h
+      (λ e. each-refused C m a b e (λ i s. f i (record { listed = omega (arith, s .listed); fails = s .fails; before = s .before })))
+      (λ e g.
+      let d = demand-cases (ok m) k (p + m) a b g in
+      rw (d .1, d .2)
+      (f m (record { listed = omega arith; fails = λ q. false-fails (d .0) (means m .1 q); before = each-passed m e })))
 
   -- The first failing test's refusal.
   pub first-refuses : (m i : ℕ) → First P m i → each k p ok m ≡ refused k (p + i)

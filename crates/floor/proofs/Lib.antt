@@ -1,4 +1,5 @@
 -- Laws of the definitions that no single function owns.
+pub mod TestLaws
 pub mod VerdictLaws
 pub mod AnswersLaws
 pub mod EachLaws

@@ -1,7 +1,7 @@
 -- The limits as statements and as numbers.
 use Prim.Native.Nat.{ℕ, zero, suc, _≤_}
 use lib.Dec.{lit<, leb}
-use mathlib.Core.Path.{_≡_, sym, _∙_}
+use mathlib.Core.Path.{_≡_}
 use mathlib.Core.Bool.{Bool, true, and-eq-true-iff}
 use mathlib.Core.Logic.{_↔_}
 use mathlib.Core.List.{List}
@@ -11,7 +11,7 @@ use Rattle.floor.specs.Verdict.{passed, _then_, inTurn, each}
 use Rattle.floor.specs.Checks.{within, limitsOf, lentOf, roomOf, placesOf, checkOf}
 use Rattle.floor.specs.Accepted.{Within, FieldWithin, Limited, Lent}
 use Rattle.floor.proofs.VerdictLaws.{then-assoc, then-both, demand-holds}
-use Rattle.floor.proofs.EachLaws.{Decides, each-passed, all-passes}
+use Rattle.floor.proofs.EachLaws.{Decides, each-means}
 
 -- The test of a limit means the limit.
 within-means : (low high v : ℕ) → (within low high v ≡ true) ↔ Within low high v
@@ -46,10 +46,7 @@ limits-each f = simp then-assoc
 
 -- Check 2 passes exactly if all six values are within their limits.
 pub limits-mean : (f : Floor) → (limitsOf f ≡ passed) ↔ Limited f
-limits-mean f = (
-  λ h. each-passed 2 1 (fieldWithin f) (FieldWithin f) (field-means f) 6 (sym (limits-each f) ∙ h),
-  λ a. limits-each f ∙ all-passes 2 1 (fieldWithin f) (FieldWithin f) (field-means f) 6 a,
-)
+limits-mean f = rw (limits-each f) (each-means 2 1 _ _ (field-means f) 6)
 
 -- The limits as bounds with names.
 pub record Bounds (f : Floor) : Type 0 where

@@ -1,7 +1,7 @@
 -- Records that are the same floor get the same verdict.
 use Prim.Native.Nat.{ℕ, zero, suc, _+_, _<_}
 use native.Mathlib.Omega.{arith}
-use mathlib.Core.Path.{_≡_, refl, _∙_, ap, ap₂}
+use mathlib.Core.Path.{_≡_, refl}
 use mathlib.Core.Bool.{Bool}
 use mathlib.Core.List.{List}
 use borrow.Author.Tests.{le-leb}
@@ -13,10 +13,14 @@ use Rattle.floor.specs.Checks.{carriersOf, wallsOf, risingOf, clearOf, d
 use Rattle.floor.specs.Accepted.{All, Lent, SameFloor}
 
 -- Tests that agree at each item make the same check.
-each-same : (k p : ℕ) (ok ok′ : ℕ → Bool) (m : ℕ) → All (λ (i : ℕ). ok i ≡ ok′ i) m → each k p ok m ≡ each k p ok′ m
+each-same : (k : ℕ) {p q : ℕ} (ok ok′ : ℕ → Bool) {m n : ℕ} → p ≡ q → m ≡ n → All (λ (i : ℕ). ok i ≡ ok′ i) m
+    → each k p ok m ≡ each k q ok′ n
 unfolding each inTurn
-each-same k p ok ok′ zero a = refl
-each-same k p ok ok′ (suc m) a = rw (each-same k p ok ok′ m (λ i l. a i (omega arith)), a m (omega arith))
+each-same k {p} ok ok′ {m} e s a = rw (← e, ← s) (go m a)
+  where
+    go : (m : ℕ) → All (λ (i : ℕ). ok i ≡ ok′ i) m → each k p ok m ≡ each k p ok′ m
+    go zero a = refl
+    go (suc m) a = rw (go m (λ i l. a i (omega arith)), a m (omega arith))
 
 -- A number is looked for among the same numbers.
 pub among-same : (xs ys : List ℕ) (m c : ℕ) → All (λ (i : ℕ). getD xs i 0 ≡ getD ys i 0) m → among xs m c ≡ among ys m c
@@ -34,6 +38,10 @@ module _ (f : Floor) (ws : List ℕ) (g : Floor) (vs : List ℕ) (same : SameFlo
   unfolding inGrid
   in-grid-same c = rw (same .width, same .height)
 
+  -- The walls are the items behind the carriers.
+  items : f .carriers + 1 ≡ g .carriers + 1
+  items = rw (same .carriers)
+
   limits-same : limitsOf f ≡ limitsOf g
   unfolding limitsOf
   limits-same = rw (same .width, same .height, same .horizon, same .depth, same .carriers, same .walls)
@@ -41,28 +49,21 @@ module _ (f : Floor) (ws : List ℕ) (g : Floor) (vs : List ℕ) (same : SameFlo
   carriers-same : carriersOf f ≡ carriersOf g
   unfolding carriersOf carrierInGrid
   carriers-same =
-      each-same 3 1 (carrierInGrid f) (carrierInGrid g) (f .carriers)
+      each-same _ _ _ refl (same .carriers)
       (λ i l. rw (same .starts i l, same .goals i l, in-grid-same (startOf g i), in-grid-same (goalOf g i)))
-      ∙ ap (each 3 1 (carrierInGrid g)) (same .carriers)
 
   walls-same : wallsOf f ws ≡ wallsOf g vs
   unfolding wallsOf
-  walls-same =
-      each-same 3 (f .carriers + 1) (λ j. inGrid f (getD ws j 0)) (λ j. inGrid g (getD vs j 0)) (f .walls)
-      (λ j l. rw (same .cells j l, in-grid-same (getD vs j 0)))
-      ∙ ap₂ (λ (n m : ℕ). each 3 (n + 1) (λ j. inGrid g (getD vs j 0)) m) (same .carriers) (same .walls)
+  walls-same = each-same _ _ _ items (same .walls) (λ j l. rw (same .cells j l, in-grid-same (getD vs j 0)))
 
   rising-same : risingOf f ws ≡ risingOf g vs
   unfolding risingOf
-  rising-same =
-      each-same 4 (f .carriers + 1) (rises ws) (rises vs) (f .walls) (λ j l. rises-same ws vs (f .walls) j l (same .cells))
-      ∙ ap₂ (λ (n m : ℕ). each 4 (n + 1) (rises vs) m) (same .carriers) (same .walls)
+  rising-same = each-same _ _ _ items (same .walls) (λ j l. rises-same ws vs (f .walls) j l (same .cells))
 
   clear-same : clearOf f ws ≡ clearOf g vs
   unfolding clearOf clearOfWalls
   clear-same =
-      each-same 5 1 (clearOfWalls f ws) (clearOfWalls g vs) (f .carriers)
-      (λ i l.
+      each-same _ _ _ refl (same .carriers) (λ i l.
       rw (
         same .starts i l,
         same .goals i l,
@@ -70,7 +71,6 @@ module _ (f : Floor) (ws : List ℕ) (g : Floor) (vs : List ℕ) (same : SameFlo
         among-same ws vs (f .walls) (goalOf g i) (same .cells),
         same .walls,
       ))
-      ∙ ap (each 5 1 (clearOfWalls g vs)) (same .carriers)
 
   earlier-starts : (i : ℕ) → i < f .carriers → All (λ (e : ℕ). getD (f .starts) e 0 ≡ getD (g .starts) e 0) i
   unfolding startOf
@@ -83,15 +83,13 @@ module _ (f : Floor) (ws : List ℕ) (g : Floor) (vs : List ℕ) (same : SameFlo
   distinct-same : distinctOf f ≡ distinctOf g
   unfolding distinctOf unshared
   distinct-same =
-      each-same 6 1 (unshared f) (unshared g) (f .carriers)
-      (λ i l.
+      each-same _ _ _ refl (same .carriers) (λ i l.
       rw (
         same .starts i l,
         same .goals i l,
         among-same (f .starts) (g .starts) i (startOf g i) (earlier-starts i l),
         among-same (f .goals) (g .goals) i (goalOf g i) (earlier-goals i l),
       ))
-      ∙ ap (each 6 1 (unshared g)) (same .carriers)
 
   pub places-same : placesOf f ws ≡ placesOf g vs
   unfolding placesOf

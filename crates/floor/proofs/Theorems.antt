@@ -1,7 +1,7 @@
 -- The claims of the floor, proved.
-use Prim.Native.Nat.{ℕ, _+_}
+use Prim.Native.Nat.{ℕ}
 use mathlib.Core.Path.{_≡_, refl, sym, _∙_}
-use mathlib.Core.Logic.{_↔_, ⊎-elim}
+use mathlib.Core.Logic.{_↔_}
 use mathlib.Core.List.{List}
 use borrow.Author.Tests.{le-leb, lt-leb, leb-false}
 use Rattle.floor.specs.declared.Floor.{Floor}
@@ -12,8 +12,8 @@ use Rattle.floor.specs.Fresh.{freshFloor}
 use Rattle.floor.specs.Accepted.{Accepted, Limited, Lent, CarriersInGrid, WallsInGrid, Rising, Clear, Distinct}
 use Rattle.floor.specs.Refused.{RefusedWith, outside-limit, few-walls, carrier-outside, wall-outside, not-rising, on-wall, shared}
 use Rattle.floor.specs.Claims.{Claims}
-use Rattle.floor.proofs.VerdictLaws.{then-both, then-cases, demand-cases}
-use Rattle.floor.proofs.EachLaws.{each-passed, all-passes, each-refused, first-refuses}
+use Rattle.floor.proofs.VerdictLaws.{then-both, then-refused, refused-by, demand-cases}
+use Rattle.floor.proofs.EachLaws.{each-means, each-refused, first-refuses}
 use Rattle.floor.proofs.LimitsLaws.{field-means, limits-each, limits-mean, lent-passed}
 use Rattle.floor.proofs.SameLaws.{check-same}
 use Rattle.floor.proofs.CheckMeans.{carrier-in-grid-means, wall-in-grid-means, rises-means, clear-means, unshared-means}
@@ -25,23 +25,23 @@ module _ (f : Floor) (ws : List ℕ) where
 
   carriers-mean : (carriersOf f ≡ passed) ↔ CarriersInGrid f
   unfolding carriersOf
-  carriers-mean = (each-passed 3 1 _ _ (carrier-in-grid-means f) _, all-passes 3 1 _ _ (carrier-in-grid-means f) _)
+  carriers-mean = each-means 3 1 _ _ (carrier-in-grid-means f) _
 
   walls-mean : (wallsOf f ws ≡ passed) ↔ WallsInGrid f ws
   unfolding wallsOf
-  walls-mean = (each-passed 3 _ _ _ (wall-in-grid-means f ws) _, all-passes 3 _ _ _ (wall-in-grid-means f ws) _)
+  walls-mean = each-means 3 _ _ _ (wall-in-grid-means f ws) _
 
   rising-means : (risingOf f ws ≡ passed) ↔ Rising f ws
   unfolding risingOf
-  rising-means = (each-passed 4 _ _ _ (rises-means ws) _, all-passes 4 _ _ _ (rises-means ws) _)
+  rising-means = each-means 4 _ _ _ (rises-means ws) _
 
   clear-mean : (clearOf f ws ≡ passed) ↔ Clear f ws
   unfolding clearOf
-  clear-mean = (each-passed 5 1 _ _ (clear-means f ws) _, all-passes 5 1 _ _ (clear-means f ws) _)
+  clear-mean = each-means 5 1 _ _ (clear-means f ws) _
 
   distinct-mean : (distinctOf f ≡ passed) ↔ Distinct f
   unfolding distinctOf
-  distinct-mean = (each-passed 6 1 _ _ (unshared-means f) _, all-passes 6 1 _ _ (unshared-means f) _)
+  distinct-mean = each-means 6 1 _ _ (unshared-means f) _
 
   -- An accepted floor, from the checks one by one.
   accepted : checkOf f ws ≡ passed → Accepted f ws
@@ -81,73 +81,53 @@ module _ (f : Floor) (ws : List ℕ) where
   places-refuse : (k p : ℕ) → Limited f → Lent f ws → placesOf f ws ≡ refused k p → RefusedWith f ws k p
   unfolding placesOf carriersOf wallsOf risingOf clearOf distinctOf
   places-refuse k p l n h =
-      ⊎-elim
-      (λ (e : carriersOf f ≡ refused k p).
-      let s = each-refused 3 1 _ _ (carrier-in-grid-means f) _ _ _ e in
-      rw (s .number, s .place) (carrier-outside l n (s .first)))
-      (λ (e : (carriersOf f ≡ passed) × ((wallsOf f ws then risingOf f ws then clearOf f ws then distinctOf f) ≡ refused k p)).
-      ⊎-elim
-      (λ (g : wallsOf f ws ≡ refused k p).
-      let s = each-refused 3 _ _ _ (wall-in-grid-means f ws) _ _ _ g in
-      rw (s .number, s .place) (wall-outside l n (carriers-mean .0 (e .0)) (s .first)))
-      (λ (g : (wallsOf f ws ≡ passed) × ((risingOf f ws then clearOf f ws then distinctOf f) ≡ refused k p)).
-      ⊎-elim
-      (λ (u : risingOf f ws ≡ refused k p).
-      let s = each-refused 4 _ _ _ (rises-means ws) _ _ _ u in
-      rw (s .number, s .place) (not-rising l n (carriers-mean .0 (e .0)) (walls-mean .0 (g .0)) (s .first)))
-      (λ (u : (risingOf f ws ≡ passed) × ((clearOf f ws then distinctOf f) ≡ refused k p)).
-      ⊎-elim
-      (λ (w : clearOf f ws ≡ refused k p).
-      let s = each-refused 5 1 _ _ (clear-means f ws) _ _ _ w in
-      rw (s .number, s .place)
-      (on-wall l n (carriers-mean .0 (e .0)) (walls-mean .0 (g .0)) (rising-means .0 (u .0)) (s .first)))
-      (λ (w : (clearOf f ws ≡ passed) × (distinctOf f ≡ refused k p)).
-      let s = each-refused 6 1 _ _ (unshared-means f) _ _ _ (w .1) in
-      rw (s .number, s .place)
-      (shared l n (carriers-mean .0 (e .0)) (walls-mean .0 (g .0)) (rising-means .0 (u .0)) (clear-mean .0 (w .0)) (s .first)))
-      (then-cases _ _ k p (u .1)))
-      (then-cases _ _ k p (g .1)))
-      (then-cases _ _ k p (e .1)))
-      (then-cases _ _ k p h)
+      refused-by h
+      (λ r. each-refused 3 1 _ _ (carrier-in-grid-means f) (RefusedWith f ws) _ k p r (λ i. carrier-outside l n))
+      (λ a h.
+      refused-by h
+      (λ r. each-refused 3 _ _ _ (wall-in-grid-means f ws) (RefusedWith f ws) _ k p r (λ i. wall-outside l n (carriers-mean .0 a)))
+      (λ b h.
+      refused-by h
+      (λ r. each-refused 4 _ _ _ (rises-means ws) (RefusedWith f ws) _ k p r
+      (λ i. not-rising l n (carriers-mean .0 a) (walls-mean .0 b)))
+      (λ c h.
+      refused-by h
+      (λ r. each-refused 5 1 _ _ (clear-means f ws) (RefusedWith f ws) _ k p r
+      (λ i. on-wall l n (carriers-mean .0 a) (walls-mean .0 b) (rising-means .0 c)))
+      (λ d r. each-refused 6 1 _ _ (unshared-means f) (RefusedWith f ws) _ k p r
+      (λ i. shared l n (carriers-mean .0 a) (walls-mean .0 b) (rising-means .0 c) (clear-mean .0 d))))))
 
   -- A refusal has the condition of its row.
   row : (k p : ℕ) → checkOf f ws ≡ refused k p → RefusedWith f ws k p
   unfolding checkOf lentOf roomOf
   row k p h =
-      ⊎-elim
-      (λ (e : limitsOf f ≡ refused k p).
-      let s = each-refused 2 1 _ _ (field-means f) 6 _ _ (sym (limits-each f) ∙ e) in
-      rw (s .number, s .place) (outside-limit (s .first)))
-      (λ (e : (limitsOf f ≡ passed) × ((lentOf f ws then placesOf f ws) ≡ refused k p)).
-      ⊎-elim
-      (λ (g : lentOf f ws ≡ refused k p).
-      let d = demand-cases _ 9 0 k p g in
-      rw (d .1, d .2) (few-walls (limits-mean f .0 (e .0)) (leb-false _ _ (d .0))))
-      (λ (g : (lentOf f ws ≡ passed) × (placesOf f ws ≡ refused k p)).
-      places-refuse k p (limits-mean f .0 (e .0)) (lent-means .0 (g .0)) (g .1))
-      (then-cases _ _ k p (e .1)))
-      (then-cases _ _ k p h)
+      refused-by h
+      (λ r. each-refused 2 1 _ _ (field-means f) (RefusedWith f ws) 6 k p (sym (limits-each f) ∙ r) (λ i. outside-limit))
+      (λ a h.
+      refused-by h
+      (λ r.
+      let d = demand-cases _ 9 0 k p r in
+      rw (d .1, d .2) (few-walls (limits-mean f .0 a) (leb-false _ _ (d .0))))
+      (λ b r. places-refuse k p (limits-mean f .0 a) (lent-means .0 b) r))
 
   -- The condition of a row gives its refusal.
   refusal : (k p : ℕ) → RefusedWith f ws k p → checkOf f ws ≡ refused k p
   unfolding checkOf placesOf carriersOf wallsOf risingOf clearOf distinctOf lentOf roomOf demand _then_
   refusal k p (outside-limit h) = rw (limits-each f, first-refuses 2 1 _ _ (field-means f) 6 _ h)
   refusal k p (few-walls l h) = rw (limits-mean f .1 l, lt-leb _ _ h)
-  refusal k p (carrier-outside {i} l n h) =
-      let e : carriersOf f ≡ refused 3 (1 + i) = first-refuses 3 1 _ _ (carrier-in-grid-means f) _ i h in
-      rw (limits-mean f .1 l, lent-means .1 n, e)
-  refusal k p (wall-outside {j} l n a h) =
-      let e : wallsOf f ws ≡ refused 3 (f .carriers + 1 + j) = first-refuses 3 _ _ _ (wall-in-grid-means f ws) _ j h in
-      rw (limits-mean f .1 l, lent-means .1 n, carriers-mean .1 a, e)
-  refusal k p (not-rising {j} l n a b h) =
-      let e : risingOf f ws ≡ refused 4 (f .carriers + 1 + j) = first-refuses 4 _ _ _ (rises-means ws) _ j h in
-      rw (limits-mean f .1 l, lent-means .1 n, carriers-mean .1 a, walls-mean .1 b, e)
-  refusal k p (on-wall {i} l n a b c h) =
-      let e : clearOf f ws ≡ refused 5 (1 + i) = first-refuses 5 1 _ _ (clear-means f ws) _ i h in
-      rw (limits-mean f .1 l, lent-means .1 n, carriers-mean .1 a, walls-mean .1 b, rising-means .1 c, e)
-  refusal k p (shared {i} l n a b c d h) =
-      let e : distinctOf f ≡ refused 6 (1 + i) = first-refuses 6 1 _ _ (unshared-means f) _ i h in
-      rw (limits-mean f .1 l, lent-means .1 n, carriers-mean .1 a, walls-mean .1 b, rising-means .1 c, clear-mean .1 d, e)
+  refusal k p (carrier-outside l n h) =
+      rw (limits-mean f .1 l, lent-means .1 n, first-refuses 3 1 _ _ (carrier-in-grid-means f) _ _ h)
+  refusal k p (wall-outside l n a h) =
+      rw (limits-mean f .1 l, lent-means .1 n, carriers-mean .1 a, first-refuses 3 _ _ _ (wall-in-grid-means f ws) _ _ h)
+  refusal k p (not-rising l n a b h) =
+      rw (limits-mean f .1 l, lent-means .1 n, carriers-mean .1 a, walls-mean .1 b)
+      (then-refused _ (first-refuses 4 _ _ _ (rises-means ws) _ _ h))
+  refusal k p (on-wall l n a b c h) =
+      rw (limits-mean f .1 l, lent-means .1 n, carriers-mean .1 a, walls-mean .1 b, rising-means .1 c)
+      (then-refused _ (first-refuses 5 1 _ _ (clear-means f ws) _ _ h))
+  refusal k p (shared l n a b c d h) =
+      rw (limits-mean f .1 l, lent-means .1 n, carriers-mean .1 a, walls-mean .1 b, rising-means .1 c, clear-mean .1 d)
+      (first-refuses 6 1 _ _ (unshared-means f) _ _ h)
 
 pub theorems : Claims
 unfolding checkOf limitsOf lentOf roomOf placesOf carriersOf wallsOf risingOf clearOf distinctOf freshFloor _then_ demand each inTurn

@@ -3,10 +3,12 @@ use Prim.Native.Nat.{ℕ, suc, zero, _+_, _-_, _≤_, _<_}
 use native.Mathlib.Omega.{arith}
 use native.Mathlib.Numerals.{add-one}
 use native.Mathlib.Nat.{zero-add, suc-add}
-use mathlib.Core.Path.{_≡_, refl, sym}
-use mathlib.Core.Bool.{Bool, true, false}
+use mathlib.Core.Path.{_≡_, refl, sym, _∙_}
+use mathlib.Core.Bool.{Bool, true, false, not}
 use borrow.Author.Count.{below-more}
-use mathlib.Core.Logic.{_⊎_, inl, inr}
+use borrow.Author.Needs.{needs}
+use mathlib.Core.Logic.{_⊎_, ⊎-elim, inl, inr}
+use Rattle.floor.proofs.TestLaws.{code-holds, code-fails, decides}
 use Rattle.floor.specs.Verdict.{Verdict, passed, refused, _then_, demand, inTurn, each}
 
 -- A passed check hands on to the next.
@@ -40,6 +42,11 @@ pub then-cases : (v w : Verdict) (k p : ℕ) → (v then w) ≡ refused k p → 
 unfolding _then_
 then-cases passed w k p h = inr (refl, h)
 then-cases (refused a b) w k p h = inl h
+
+-- What follows from the refusal of a chain, by the two ways to it.
+pub refused-by : {C : Type 0} {v w : Verdict} {k p : ℕ} → (v then w) ≡ refused k p → (v ≡ refused k p → C)
+    → (v ≡ passed → w ≡ refused k p → C) → C
+refused-by {v} {w} {k} {p} h f g = ⊎-elim f (λ e. g (e .0) (e .1)) (then-cases v w k p h)
 
 -- A demand refuses where its test fails, with its own number and place.
 pub demand-cases : (b : Bool) (k p k′ p′ : ℕ) → demand b k p ≡ refused k′ p′ → (b ≡ false) × (k′ ≡ k) × (p′ ≡ p)
@@ -110,6 +117,26 @@ pub demand-refuses : {b : Bool} (k p : ℕ) → b ≡ false → demand b k p ≡
 unfolding demand
 demand-refuses k p h = rw h
 
+-- Tests that the code makes one by one, u being the answer that it returns: past one that holds the rest answers, and one that fails
+-- is refused.
+module _ {b : Bool} (k p : ℕ) where
+  pub demand-on : {u w : Verdict} → b ≡ true → u ≡ w → u ≡ (demand b k p then w)
+  unfolding demand _then_
+  demand-on h e = rw h e
+
+  pub demand-ends : {u : Verdict} (w : Verdict) → b ≡ false → u ≡ refused k p → u ≡ (demand b k p then w)
+  unfolding demand _then_
+  demand-ends w h e = rw h e
+
+  pub demand-fails : {u : Verdict} → false ≡ b → u ≡ refused k p → u ≡ demand b k p
+  demand-fails h e = e ∙ sym (demand-refuses k p (sym h))
+
+  pub demand-last : true ≡ b → passed ≡ demand b k p
+  demand-last h = sym (demand-passes k p (sym h))
+
+-- What the answers of such a function take.
+pub ruleset demands = (demand-on, demand-ends, demand-last, demand-fails, decides)
+
 module _ (k p : ℕ) (ok : ℕ → Bool) where
   -- No item: nothing to refuse.
   pub each-none : each k p ok 0 ≡ passed
@@ -130,3 +157,13 @@ module _ (k p : ℕ) (ok : ℕ → Bool) where
   pub each-end : (i m : ℕ) → i ≤ m → m ≤ i → each k p ok i ≡ passed → passed ≡ each k p ok m
   unfolding each
   each-end i m a b h = turn-end _ i m a b h
+
+  -- A loop that tests the items one by one, t being what the code answers of item i: one more that passes, and the first that fails.
+  pub tests-go-on : {t : Bool} (i : ℕ) → each k p ok i ≡ passed → t ≡ ok i → not t ≡ false → each k p ok (i + 1) ≡ passed
+  tests-go-on i h e n = each-more i h (code-holds e n)
+
+  pub tests-stop : {t : Bool} (i m : ℕ) → each k p ok i ≡ passed → t ≡ ok i → not t ≡ true → i < m → refused k (p + i) ≡ each k p ok m
+  tests-stop i m h e n l = sym (each-stop i m l h (code-fails e n))
+
+-- What such a loop's answers take.
+pub ruleset tests = (needs, each-none, tests-go-on, tests-stop, each-end)

@@ -1,30 +1,33 @@
 -- The loop that looks for the first record without a route.
 use Prim.Native.Nat.{ℕ, suc, _+_, _*_, _-_, _≤_, _<_}
 use native.Mathlib.Omega.{arith}
-use mathlib.Core.Path.{_≡_}
+use mathlib.Core.Path.{_≡_, sym, _∙_, ap}
 use mathlib.Core.List.{List}
+use borrow.Author.Needs.{needs}
 use borrow.Author.Tests.{eq-eqb, ne-eqb}
 use lib.ListN.{getD}
 use Rattle.planner.specs.Records.{firstFrom}
 
-module _ (m : List ℕ) where
-  -- A record with a route is passed.
-  pub first-more : (i n : ℕ) → i < n → getD m (65 * i) 0 ≡ 2 → firstFrom m i (n - i) ≡ firstFrom m (i + 1) (n - (i + 1))
-  unfolding firstFrom
-  first-more i n l e =
-      let s : n - i ≡ suc (n - (i + 1)) = omega arith in
-      rw (s, eq-eqb _ 2 e)
+module _ (m : List ℕ) (n : ℕ) where
+  -- Before the loop no record is passed.
+  pub first-none : firstFrom m 0 n ≡ firstFrom m 0 (n - 0)
+  first-none = ap (firstFrom m 0) (omega arith)
 
-  -- The first record without one is the answer.
-  pub first-stop : (i n : ℕ) → i < n → (getD m (65 * i) 0 ≡ 2 → ⊥) → i + 1 ≡ firstFrom m i (n - i)
-  unfolding firstFrom
-  first-stop i n l e =
-      let s : n - i ≡ suc (n - (i + 1)) = omega arith in
-      rw (s, ne-eqb _ 2 e)
+  module _ (i : ℕ) (h : firstFrom m 0 n ≡ firstFrom m i (n - i)) where
+    -- A record with a route is passed.
+    pub first-more : getD m (65 * i) 0 ≡ 2 → i < n → firstFrom m 0 n ≡ firstFrom m (i + 1) (n - (i + 1))
+    unfolding firstFrom
+    first-more e l = let s : n - i ≡ suc (n - (i + 1)) = omega arith in h ∙ rw (s, eq-eqb _ 2 e)
 
-  -- Past the last record there is none.
-  pub first-end : (i n : ℕ) → n ≤ i → 0 ≡ firstFrom m i (n - i)
-  unfolding firstFrom
-  first-end i n l =
-      let s : n - i ≡ 0 = omega arith in
-      rw s
+    -- The first record without one is the answer.
+    pub first-stop : (getD m (65 * i) 0 ≡ 2 → ⊥) → i < n → i + 1 ≡ firstFrom m 0 n
+    unfolding firstFrom
+    first-stop e l = let s : n - i ≡ suc (n - (i + 1)) = omega arith in sym (h ∙ rw (s, ne-eqb _ 2 e))
+
+    -- Past the last record there is none.
+    pub first-end : n ≤ i → 0 ≡ firstFrom m 0 n
+    unfolding firstFrom
+    first-end l = let s : n - i ≡ 0 = omega arith in sym (h ∙ rw s)
+
+-- What the answers of such a loop take.
+pub ruleset firsts = (needs, first-none, first-more, first-stop, first-end)

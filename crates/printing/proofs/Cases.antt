@@ -1,16 +1,16 @@
 -- Document 01's sheet and what is printed for it, byte for byte, and the empty sheet, computed from the definitions.
 use Prim.Native.Nat.{ℕ}
 use mathlib.Core.Path.{_≡_, refl, _∙_, ap}
-use mathlib.Core.List.{List, [], _∷_, _++_}
-use lib.ListN.{take, replicate}
+use mathlib.Core.List.{List, [], _∷_}
 use Rattle.floor.specs.Verdict.{refused, passed, demand, _then_, inTurn, each}
 use Rattle.floor.specs.Checks.{checkOf, limitsOf, within, lentOf, roomOf, placesOf, carriersOf, wallsOf, risingOf, clearOf, distinctOf}
 use Rattle.floor.specs.Checks.{startOf, goalOf, inGrid, carrierInGrid, rises, among, clearOfWalls, unshared}
-use Rattle.route.specs.Route.{cellAt, Answer}
+use Rattle.route.specs.Route.{cellAt}
 use Rattle.route.specs.Arrival.{settled, arrivalOf}
 use Rattle.fields.specs.Field.{column, fieldOf}
 use Rattle.sheet.specs.Text.{lineOf, linesOf, headLine, carrierLine, wallLine, sheetOf}
 use Rattle.fields.specs.Form.{fieldForm, lineForm}
+use Rattle.sheet.proofs.Cases.{documentSheet}
 use Rattle.sheet.specs.Read.{formOf, sheetVerdict}
 use Rattle.planner.specs.Plan.{failingFrom, failingOf}
 use Rattle.planner.specs.Claims.{answerAt}
@@ -18,17 +18,6 @@ use Rattle.planner.proofs.Cases.{sides, document-plan}
 use Rattle.printing.specs.Text.{answerLine, firstLine, routesText, refusalLine}
 use Rattle.printing.specs.Print.{printOf, routesOf}
 use Rattle.printing.proofs.Theorems.{theorems}
-
--- The sheet as the paper prints it.
-documentSheet : List ℕ
-documentSheet =
-    32 ∷ 32 ∷ 32 ∷ 32 ∷ 51 ∷ 32 ∷ 32 ∷ 32 ∷ 32 ∷ 50 ∷ 32 ∷ 32 ∷ 32 ∷ 32 ∷ 52 ∷ 32 ∷ 32 ∷ 32 ∷ 32 ∷ 49 ∷
-    32 ∷ 32 ∷ 32 ∷ 32 ∷ 50 ∷ 32 ∷ 32 ∷ 32 ∷ 32 ∷ 48 ∷ 10 ∷
-    32 ∷ 32 ∷ 32 ∷ 32 ∷ 48 ∷ 32 ∷ 32 ∷ 32 ∷ 32 ∷ 48 ∷ 32 ∷ 32 ∷ 32 ∷ 32 ∷ 50 ∷ 32 ∷ 32 ∷ 32 ∷ 32 ∷ 48 ∷
-    10 ∷
-    32 ∷ 32 ∷ 32 ∷ 32 ∷ 50 ∷ 32 ∷ 32 ∷ 32 ∷ 32 ∷ 48 ∷ 32 ∷ 32 ∷ 32 ∷ 32 ∷ 48 ∷ 32 ∷ 32 ∷ 32 ∷ 32 ∷ 48 ∷
-    10 ∷
-    []
 
 -- The routes as the paper prints them.
 documentRoutes : List ℕ

@@ -5,7 +5,7 @@ use native.Mathlib.Numerals.{add-one}
 use mathlib.Core.Path.{_≡_, refl, sym, _∙_, ap}
 use mathlib.Core.List.{List, [], _∷_, _++_, append-assoc, append-nil}
 use lib.ListN.{length, getD, take, set, length-append}
-use lib.Seq.{length-take-le, take-suc, take-all}
+use lib.Seq.{length-take-le, getD-take, take-suc, take-all}
 use Rattle.laws.specs.Memory.{put}
 use Rattle.laws.proofs.PutLaws.{put-none, put-length, put-next}
 use Rattle.fields.specs.Field.{fieldOf}
@@ -29,27 +29,32 @@ unfolding lineOf fieldsOf
 line-fields [] = refl
 line-fields (x ∷ xs) = rw (line-fields xs) (sym (append-assoc (fieldOf x) (fieldsOf xs) (10 ∷ [])))
 
--- A loop that puts fields one behind the other: before the first, one more, its length, and after the last.
-module _ (m xs : List ℕ) (at : ℕ) (fits : at + 5 * length xs ≤ length m) where
-  front-length : (t : ℕ) → t ≤ length xs → length (fieldsOf (take t xs)) ≡ 5 * t
-  front-length t l = fields-length (take t xs) ∙ ap (λ (k : ℕ). 5 * k) (length-take-le t xs l)
+-- A loop that puts the first n of some cells as fields, one behind the other: one more, its length, after the last, before the first.
+module _ (m cells m′ : List ℕ) (at n t : ℕ) (e : m′ ≡ put m at (fieldsOf (take t (take n cells)))) (long : n ≤ length cells)
+    (fits : at + 5 * n ≤ length m) where
+  size : length (take n cells) ≡ n
+  size = length-take-le n cells long
 
-  pub fields-more : (m′ m″ : List ℕ) (t : ℕ) → t < length xs → m′ ≡ put m at (fieldsOf (take t xs))
-      → m″ ≡ put m′ (at + 5 * t) (fieldOf (getD xs t 0)) → m″ ≡ put m at (fieldsOf (take (t + 1) xs))
-  fields-more m′ m″ t l e g =
-      rw (add-one, take-suc xs t 0, fields-snoc (take t xs) (getD xs t 0))
-      (put-next m m′ m″ (fieldsOf (take t xs)) (fieldOf (getD xs t 0)) at (at + 5 * t) e g
-      (ap (λ (k : ℕ). at + k) (front-length t (omega arith))) (rw field-length (omega arith)))
+  front-length : t ≤ n → length (fieldsOf (take t (take n cells))) ≡ 5 * t
+  front-length l = fields-length (take t (take n cells)) ∙ ap (λ (k : ℕ). 5 * k) (length-take-le t (take n cells) (omega (arith, size)))
 
-  pub fields-keep : (m′ : List ℕ) (t : ℕ) → t ≤ length xs → m′ ≡ put m at (fieldsOf (take t xs)) → length m′ ≡ length m
-  fields-keep m′ t l e = ap length e ∙ put-length m (fieldsOf (take t xs)) at (omega (arith, front-length t l))
+  pub fields-more : (m″ : List ℕ) → t < n → m″ ≡ put m′ (at + 5 * t) (fieldOf (getD cells t 0))
+      → m″ ≡ put m at (fieldsOf (take (t + 1) (take n cells)))
+  fields-more m″ l g =
+      let there : t < length (take n cells) = omega (arith, size) in
+      rw (add-one, take-suc (take n cells) t 0, fields-snoc (take t (take n cells)), getD-take n cells t 0)
+      (put-next m m′ m″ (fieldsOf (take t (take n cells))) (fieldOf (getD cells t 0)) at (at + 5 * t) e g
+      (ap (λ (k : ℕ). at + k) (front-length (omega arith))) (rw field-length (omega arith)))
 
-pub fields-start : (m xs : List ℕ) (at : ℕ) → m ≡ put m at (fieldsOf (take 0 xs))
+  pub fields-keep : t ≤ n → length m′ ≡ length m
+  fields-keep l = ap length e ∙ put-length m (fieldsOf (take t (take n cells))) at (omega (arith, front-length l))
+
+  pub fields-end : n ≤ t → m′ ≡ put m at (fieldsOf (take n cells))
+  fields-end l = rw (take-all t (take n cells) (omega (arith, size))) at e
+
+pub fields-start : (m cells : List ℕ) (at : ℕ) → m ≡ put m at (fieldsOf (take 0 cells))
 unfolding fieldsOf
-fields-start m xs at = put-none m at
-
-pub fields-end : (m m′ xs : List ℕ) (at t : ℕ) → length xs ≤ t → m′ ≡ put m at (fieldsOf (take t xs)) → m′ ≡ put m at (fieldsOf xs)
-fields-end m m′ xs at t l e = e ∙ ap (λ (b : List ℕ). put m at (fieldsOf b)) (take-all t xs l)
+fields-start m cells at = put-none m at
 
 -- A line of two fields and a list of fields, put piece by piece.
 pub route-line : (m m₁ m₂ m₃ xs : List ℕ) (at a b n : ℕ) → m₁ ≡ put m at (fieldOf a) → m₂ ≡ put m₁ (at + 5) (fieldOf b)
@@ -71,7 +76,3 @@ route-line m m₁ m₂ m₃ xs at a b n e₁ e₂ e₃ s l =
     newline-next m m₃ ((fieldOf a ++ fieldOf b) ++ fieldsOf xs) at (at + 10 + 5 * n) three (omega arith) (omega arith)
     ∙ ap (λ (t : List ℕ). put m at (t ++ (10 ∷ []))) (append-assoc (fieldOf a) (fieldOf b) (fieldsOf xs))
     ∙ ap (put m at) (sym (line-fields (a ∷ b ∷ xs)))
-
--- A line has five bytes a field and one more.
-pub line-length : (xs : List ℕ) → length (lineOf xs) ≡ 5 * length xs + 1
-line-length xs = ap length (line-fields xs) ∙ length-append (fieldsOf xs) (10 ∷ []) ∙ rw (fields-length xs)

@@ -1,7 +1,7 @@
 -- Lines one behind the other: where each stands, and how long they are.
 use Prim.Native.Nat.{ℕ, zero, suc, _+_, _*_, _≤_, _<_}
 use native.Mathlib.Omega.{arith}
-use native.Mathlib.Decide.{decLe}
+use borrow.Author.Count.{below-more}
 use mathlib.Core.Path.{_≡_, refl, sym, _∙_, ap}
 use mathlib.Core.List.{List, [], _∷_, _++_, append-assoc, append-nil}
 use lib.ListN.{length, take, drop, length-append, length-take}
@@ -14,7 +14,7 @@ use Rattle.sheet.specs.Text.{linesOf}
 use Rattle.planner.specs.Plan.{failingOf}
 use Rattle.planner.specs.Claims.{answerAt}
 use Rattle.printing.specs.Text.{answerLine, firstLine, routesText}
-use Rattle.printing.proofs.FieldsLaws.{line-length}
+use Rattle.sheet.proofs.LineText.{line-length}
 use Rattle.printing.proofs.PutLaws.{none-length, first-length}
 
 module _ (line : ℕ → List ℕ) where
@@ -33,17 +33,13 @@ module _ (line : ℕ → List ℕ) where
             ∙ ap (λ (l : List ℕ). linesOf line k ++ l) (append-assoc (line k) (a .rest) (line n));
       }
 
-  apart-last : (n k : ℕ) → n ≡ k → Apart (suc n) k
+  apart-last : (n : ℕ) → Apart (suc n) n
   unfolding linesOf
-  apart-last n k e = rw e (record { rest = []; is = ap (λ (l : List ℕ). linesOf line k ++ l) (sym (append-nil (line k))) })
-
-  apart-step : (n k : ℕ) → k < suc n → Dec (n ≤ k) → (k < n → Apart n k) → Apart (suc n) k
-  apart-step n k l (yes h) p = apart-last n k (omega arith)
-  apart-step n k l (no h) p = apart-more n k (p (omega arith))
+  apart-last n = record { rest = []; is = ap (λ (l : List ℕ). linesOf line n ++ l) (sym (append-nil (line n))) }
 
   apart : (n k : ℕ) → k < n → Apart n k
   apart zero k l = absurd (omega arith)
-  apart (suc n) k l = apart-step n k l (decLe n k) (λ h. apart n k h)
+  apart (suc n) k l = below-more (Apart (suc n)) n (λ i h. apart-more n i (apart n i h)) (apart-last n) k (omega arith)
 
   -- Line k stands behind a head and the lines before it.
   pub line-at : (head : List ℕ) (n k : ℕ) → k < n

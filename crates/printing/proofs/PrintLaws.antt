@@ -3,15 +3,17 @@ use Prim.Native.Nat.{ℕ, _+_, _*_, _≤_, _<_}
 use native.Mathlib.Omega.{arith}
 use mathlib.Core.Path.{_≡_, sym, _∙_, ap}
 use mathlib.Core.List.{List, _++_}
-use mathlib.Core.Logic.{⊎-elim}
 use borrow.Author.Tests.{le-leb, lt-leb}
 use lib.ListN.{length, take, drop, length-append}
 use lib.Seq.{take-at}
-use Rattle.laws.specs.Memory.{put}
 use Rattle.floor.specs.declared.Floor.{Floor}
+use Rattle.floor.specs.declared.Checked.{Checked}
+use Rattle.floor.specs.declared.Checked.the-variants.{Passed}
+use Rattle.floor.specs.Answers.{verdictOf}
 use Rattle.floor.specs.Verdict.{Verdict, passed, refused, _then_}
 use Rattle.floor.specs.Checks.{checkOf, roomOf}
-use Rattle.floor.proofs.VerdictLaws.{then-both, then-cases, then-passed, refused-not-passed, demand-passes}
+use Rattle.floor.proofs.VerdictLaws.{then-both, refused-by, then-passed, refused-not-passed, demand-passes}
+use Rattle.floor.proofs.AnswersLaws.{passes}
 use Rattle.floor.proofs.LimitsLaws.{Bounds, check-tells, room-passed}
 use Rattle.sheet.specs.Values.{floorAt, wallsAt}
 use Rattle.sheet.specs.Read.{sheetVerdict, readVerdict, readFloor, readWalls, chosen}
@@ -112,11 +114,7 @@ module _ (text : List ℕ) (room : ℕ) (wide : 1023 ≤ room) where
 
   pub read-refused : (k p : ℕ) → readVerdict text room ≡ refused k p → sheetVerdict text ≡ refused k p
   unfolding readVerdict
-  read-refused k p h =
-      ⊎-elim (λ (e : sheetVerdict text ≡ refused k p). e)
-      (λ (e : (sheetVerdict text ≡ passed) × (roomOf (floorAt text .walls) room ≡ refused k p)).
-      absurd (refused-not-passed (sym (e .1) ∙ room-there (e .0))))
-      (then-cases (sheetVerdict text) (roomOf (floorAt text .walls) room) k p h)
+  read-refused k p h = refused-by h (λ e. e) (λ a r. absurd (refused-not-passed (sym r ∙ room-there a)))
 
   pub read-passed : readVerdict text room ≡ passed → sheetVerdict text ≡ passed
   unfolding readVerdict
@@ -130,13 +128,15 @@ pub record WasRead (text : List ℕ) (f : Floor) (walls : List ℕ) : Type 0 whe
   pub lent : f .walls ≤ length walls
   pub checked : checkOf f (take (f .walls) walls) ≡ passed
 
-pub was-read : (text old walls : List ℕ) (f : Floor) → 1023 ≤ length old → readVerdict text (length old) ≡ passed
-    → f ≡ readFloor text (length old) → walls ≡ readWalls text old → WasRead text f walls
+pub was-read : {a : Checked} (text old walls : List ℕ) (f : Floor) → 1023 ≤ length old
+    → (verdictOf a ≡ readVerdict text (length old)) × ((f ≡ readFloor text (length old)) × (walls ≡ readWalls text old)) → a ≡ Passed
+    → WasRead text f walls
 unfolding readFloor readWalls
-was-read text old walls f wide ok ef ew =
+was-read text old walls f wide r told =
+    let ok = passes (r .0) told in
     let good = read-passed text (length old) wide ok in
-    let floor : f ≡ floorAt text = ef ∙ chosen-passed _ _ ok in
-    let stored : walls ≡ wallsAt text ++ drop (floorAt text .walls) old = ew ∙ chosen-passed _ _ ok in
+    let floor : f ≡ floorAt text = r .1 .0 ∙ chosen-passed _ _ ok in
+    let stored : walls ≡ wallsAt text ++ drop (floorAt text .walls) old = r .1 .1 ∙ chosen-passed _ _ ok in
     let count : f .walls ≡ floorAt text .walls = ap (λ (g : Floor). g .walls) floor in
     let front : take (f .walls) walls ≡ wallsAt text =
     ap (take (f .walls)) stored ∙ take-at (wallsAt text) _ (f .walls) (walls-length text ∙ sym count)

@@ -4,6 +4,7 @@ use native.Mathlib.Omega.{arith}
 use native.Mathlib.Numerals.{add-one}
 use mathlib.Core.Path.{_≡_, refl, sym, _∙_, ap}
 use mathlib.Core.List.{List, _∷_, _++_}
+use borrow.Author.Needs.{needs}
 use borrow.Author.Tests.{eq-eqb, ne-eqb}
 use lib.ListN.{length, getD, take, drop, length-append}
 use lib.Seq.{length-take-le}
@@ -16,7 +17,7 @@ use Rattle.fields.specs.Field.{fieldOf}
 use Rattle.sheet.specs.Text.{lineOf, linesOf}
 use Rattle.printing.specs.Text.{noneWord, noneLine, answerLine, firstLine}
 use Rattle.printing.specs.Put.{answerIn, lineIn, linesIn, textIn, TextPut, LinePut, LinesPut}
-use Rattle.printing.proofs.FieldsLaws.{line-length}
+use Rattle.sheet.proofs.LineText.{line-length}
 
 pub none-length : (number : ℕ) → length (noneLine number) ≡ 11
 unfolding noneLine noneWord fieldOf
@@ -85,6 +86,9 @@ module _ (f : Floor) (m old : List ℕ) where
   lines-end k n at new a b h =
       let e : k ≡ n = omega arith in
       rw e at h
+
+-- What the first and the last answer of such a loop take.
+pub ruleset lines = (needs, lines-start, lines-end)
 
 -- Line 1 and the carriers' lines behind it.
 pub text-put : (f : Floor) (m old mid new : List ℕ) (failing n : ℕ) → mid ≡ put old 0 (firstLine f failing)

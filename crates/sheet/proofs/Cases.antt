@@ -29,7 +29,7 @@ documentFloor =
     }
 
 -- Its sheet as the paper prints it, a line of bytes for each line.
-documentSheet : List ℕ
+unfoldable pub documentSheet : List ℕ
 documentSheet =
     32 ∷ 32 ∷ 32 ∷ 32 ∷ 51 ∷ 32 ∷ 32 ∷ 32 ∷ 32 ∷ 50 ∷ 32 ∷ 32 ∷ 32 ∷ 32 ∷ 52 ∷ 32 ∷ 32 ∷ 32 ∷ 32 ∷ 49 ∷ 32 ∷ 32 ∷ 32 ∷ 32 ∷ 50 ∷ 32 ∷ 32
     ∷ 32 ∷ 32 ∷ 48 ∷ 10 ∷

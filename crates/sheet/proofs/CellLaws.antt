@@ -16,6 +16,9 @@ use Rattle.sheet.specs.Values.{valueAt, cellOf}
 pub grid-small : {a b : ℕ} → a ≤ 32 → b ≤ 32 → a * b ≤ 1024
 grid-small h k = mul-le-mul h k
 
+pub rows-small : {row width height : ℕ} → row < height → (width ≤ 32) × (height ≤ 32) → row * width ≤ 1024
+rows-small l h = grid-small (omega arith) (h .0)
+
 -- A value below 65535 is the number in the text.
 pub value-number : (text : List ℕ) (at : ℕ) → valueAt text at < 65535 → valueAt text at ≡ numberAt text at
 unfolding valueAt

@@ -3,7 +3,7 @@ use Prim.Native.Nat.{ℕ, zero, suc, _+_, _-_, _*_, _/_, _%_, _≤_, _<_}
 use native.Mathlib.Omega.{arith}
 use native.Mathlib.Nat.{add-zero, div-eq-of-lt, div-add-mod, div-div-eq-div-mul, mod-eq-of-lt}
 use mathlib.Core.Path.{_≡_, refl, sym, _∙_, ap}
-use mathlib.Core.Bool.{true, cond, and-eq-true-iff}
+use mathlib.Core.Bool.{Bool, true, _&&_, cond, and-eq-true-iff}
 use mathlib.Core.List.{List}
 use borrow.Author.Tests.{lt-ltb, le-ltb, eqb-true, eq-eqb, leb-true, le-leb}
 use native.Mathlib.Decide.{decLt}
@@ -52,20 +52,19 @@ record FiveBytes (text : List ℕ) (at v : ℕ) : Type 0 where
   b3 : getD text (at + 3) 0 ≡ column 10 v
   b4 : getD text (at + 4) 0 ≡ 48 + v % 10
 
+-- Two tests that hold.
+and-left : (a b : Bool) → (a && b) ≡ true → a ≡ true
+and-left a b h = and-eq-true-iff a b .0 h .0
+
+and-right : (a b : Bool) → (a && b) ≡ true → b ≡ true
+and-right a b h = and-eq-true-iff a b .0 h .1
+
+and-both : {a b : Bool} → a ≡ true → b ≡ true → (a && b) ≡ true
+and-both {a} {b} h k = and-eq-true-iff a b .1 (h, k)
+
 is-field-bytes : (text : List ℕ) (at : ℕ) → isField text at ≡ true → FiveBytes text at (numberAt text at)
 unfolding isField
-is-field-bytes text at h =
-    let a = and-eq-true-iff _ _ .0 h in
-    let b = and-eq-true-iff _ _ .0 (a .1) in
-    let c = and-eq-true-iff _ _ .0 (b .1) in
-    let d = and-eq-true-iff _ _ .0 (c .1) in
-    record {
-      b0 = eqb-true _ _ (a .0);
-      b1 = eqb-true _ _ (b .0);
-      b2 = eqb-true _ _ (c .0);
-      b3 = eqb-true _ _ (d .0);
-      b4 = eqb-true _ _ (d .1);
-    }
+is-field-bytes text at h = search (and-left, and-right, eqb-true) depth 7
 
 bytes-number : (text : List ℕ) (at v : ℕ) → v < 100000 → FiveBytes text at v → numberAt text at ≡ v
 unfolding numberAt
@@ -73,15 +72,7 @@ bytes-number text at v l r = rw (r .b0, r .b1, r .b2, r .b3, r .b4) (number-colu
 
 bytes-is-field : (text : List ℕ) (at v : ℕ) → v < 100000 → FiveBytes text at v → isField text at ≡ true
 unfolding isField
-bytes-is-field text at v l r =
-    rw (
-      bytes-number text at v l r,
-      eq-eqb _ _ (r .b0),
-      eq-eqb _ _ (r .b1),
-      eq-eqb _ _ (r .b2),
-      eq-eqb _ _ (r .b3),
-      eq-eqb _ _ (r .b4),
-    )
+bytes-is-field text at v l r = rw (bytes-number text at v l r) (search (and-both, eq-eqb) depth 7)
 
 -- The five equations, by index.
 bytes-index : (text : List ℕ) (at v : ℕ) → FiveBytes text at v → (i : ℕ) → i < 5 → getD text (at + i) 0 ≡ getD (fieldOf v) i 0

@@ -2,7 +2,7 @@
 use Prim.Native.Nat.{ℕ, _+_, _*_, _/_, _%_, _≤_, _<_}
 use native.Mathlib.Omega.{arith}
 use native.Mathlib.Nat.{mod-lt, div-lt-iff-lt-mul, mul-comm}
-use mathlib.Core.Path.{_≡_, refl, sym, _∙_, ap, ap₂}
+use mathlib.Core.Path.{_≡_, refl, sym, _∙_, ap₂}
 use mathlib.Core.List.{List, [], _∷_, _++_}
 use borrow.Author.Tests.{le-leb}
 use lib.ListN.{length, getD, length-append}
@@ -24,8 +24,8 @@ use Rattle.sheet.specs.Values.{cellAt, headAt, floorAt, cellsAt, wallsFr
 use Rattle.sheet.specs.Read.{formOf, sheetVerdict}
 use Rattle.sheet.proofs.CellLaws.{number-value, cell-of-cell}
 use Rattle.sheet.proofs.ListedLaws.{listed-at, upTo-at}
-use Rattle.sheet.proofs.LineLaws.{head-length, carrier-length, wall-length, lines-length}
-use Rattle.sheet.proofs.SheetLaws.{sheet-length}
+use Rattle.sheet.proofs.LineLaws.{head-length, carrier-length, wall-length}
+use Rattle.sheet.proofs.SheetLaws.{carriers-length, walls-length, sheet-length}
 use Rattle.laws.specs.Memory.{part}
 use Rattle.laws.proofs.PartLaws.{part-whole, part-blocks}
 use Rattle.sheet.proofs.LineText.{numbersFrom, text-line}
@@ -50,42 +50,27 @@ module _ (f : Floor) (ws : List ℕ) (ok : checkOf f ws ≡ passed) where
   abbrev text : List ℕ
   text = sheetOf f ws
 
-  carriers : List ℕ
-  carriers = carrierLines f
-
-  walls : List ℕ
-  walls = wallLines f ws
-
-  carriers-size : length carriers ≡ 21 * f .carriers
-  unfolding carriers
-  carriers-size = lines-length (carrierLine f) 21 (carrier-length f) (f .carriers)
-
-  walls-size : length walls ≡ 11 * f .walls
-  unfolding walls
-  walls-size = lines-length (λ j. wallLine (f .width) (getD ws j 0)) 11 (λ j. wall-length (f .width) (getD ws j 0)) (f .walls)
-
-  whole : part text 0 (31 + (21 * f .carriers + 11 * f .walls)) ≡ headLine f ++ (carriers ++ walls)
-  unfolding sheetOf carriers walls sheetLength wallAt
+  whole : part text 0 (31 + (21 * f .carriers + 11 * f .walls)) ≡ headLine f ++ (carrierLines f ++ wallLines f ws)
+  unfolding sheetOf sheetLength wallAt
   whole = part-whole text _ (sheet-length f ws ∙ omega arith)
 
-  front : (part text 0 31 ≡ headLine f) × (part text 31 (21 * f .carriers + 11 * f .walls) ≡ carriers ++ walls)
+  front : (part text 0 31 ≡ headLine f) × (part text 31 (21 * f .carriers + 11 * f .walls) ≡ carrierLines f ++ wallLines f ws)
   front =
-      part-blocks text (headLine f) (carriers ++ walls) 0 31 _ (head-length f)
-      (length-append carriers walls ∙ ap₂ (λ (x y : ℕ). x + y) carriers-size walls-size)
+      part-blocks text (headLine f) (carrierLines f ++ wallLines f ws) 0 31 _ (head-length f)
+      (length-append (carrierLines f) (wallLines f ws) ∙ ap₂ (λ (x y : ℕ). x + y) (carriers-length f ws) (walls-length f ws))
       (omega arith)
       whole
 
-  back : (part text 31 (21 * f .carriers) ≡ carriers) × (part text (31 + 21 * f .carriers) (11 * f .walls) ≡ walls)
+  back : (part text 31 (21 * f .carriers) ≡ carrierLines f) × (part text (31 + 21 * f .carriers) (11 * f .walls) ≡ wallLines f ws)
   back =
-      part-blocks text carriers walls 31 (21 * f .carriers) (11 * f .walls) carriers-size walls-size (omega (arith, bounds .carriers .0))
+      part-blocks text (carrierLines f) (wallLines f ws) 31 (21 * f .carriers) (11 * f .walls)
+      (carriers-length f ws) (walls-length f ws) (omega (arith, bounds .carriers .0))
       (front .1)
 
   carrier-part : (i : ℕ) → i < f .carriers → part text (31 + 21 * i) 21 ≡ carrierLine f i
-  unfolding carriers
   carrier-part = lines-parts text (carrierLine f) 21 31 (carrier-length f) (lit< tt) (f .carriers) (back .0)
 
   wall-part : (j : ℕ) → j < f .walls → part text (31 + 21 * f .carriers + 11 * j) 11 ≡ wallLine (f .width) (getD ws j 0)
-  unfolding walls
   wall-part =
       lines-parts text (λ j. wallLine (f .width) (getD ws j 0)) 11 (31 + 21 * f .carriers) (λ j. wall-length (f .width) (getD ws j 0))
       (lit< tt) (f .walls)
@@ -96,17 +81,7 @@ module _ (f : Floor) (ws : List ℕ) (ok : checkOf f ws ≡ passed) where
       (numbersFrom text 0 6 ≡ f .width ∷ f .height ∷ f .horizon ∷ f .depth ∷ f .carriers ∷ f .walls ∷ [])
   unfolding headLine
   head-reads =
-      text-line text (f .width ∷ f .height ∷ f .horizon ∷ f .depth ∷ f .carriers ∷ f .walls ∷ []) 0 (
-        omega (arith, bounds .width .1),
-        (
-          omega (arith, bounds .height .1),
-          (
-            omega (arith, bounds .horizon .1),
-            (omega (arith, bounds .depth .1), (omega (arith, bounds .carriers .1), (omega (arith, bounds .walls .1), tt))),
-          ),
-        ),
-      )
-      (front .0)
+      text-line text (f .width ∷ f .height ∷ f .horizon ∷ f .depth ∷ f .carriers ∷ f .walls ∷ []) 0 (omega (arith, bounds)) (front .0)
 
   -- The six values of line 1.
   record HeadSame : Type 0 where
@@ -120,17 +95,14 @@ module _ (f : Floor) (ws : List ℕ) (ok : checkOf f ws ≡ passed) where
   head-same : HeadSame
   unfolding headAt numbersFrom
   head-same =
-      let field : (i : ℕ) → getD (numbersFrom text 0 6) i 0 ≡ getD
-      (f .width ∷ f .height ∷ f .horizon ∷ f .depth ∷ f .carriers ∷ f .walls ∷ []) i 0 =
-      λ i. ap (λ (vs : List ℕ). getD vs i 0) (head-reads .1)
-      in
+      let read = head-reads .1 in
       record {
-        width = number-value text 0 (f .width) (omega (arith, bounds .width .1)) (field 0);
-        height = number-value text 5 (f .height) (omega (arith, bounds .height .1)) (field 1);
-        horizon = number-value text 10 (f .horizon) (omega (arith, bounds .horizon .1)) (field 2);
-        depth = number-value text 15 (f .depth) (omega (arith, bounds .depth .1)) (field 3);
-        carriers-same = number-value text 20 (f .carriers) (omega (arith, bounds .carriers .1)) (field 4);
-        walls-same = number-value text 25 (f .walls) (omega (arith, bounds .walls .1)) (field 5);
+        width = number-value text 0 (f .width) (omega (arith, bounds .width .1)) (cc);
+        height = number-value text 5 (f .height) (omega (arith, bounds .height .1)) (cc);
+        horizon = number-value text 10 (f .horizon) (omega (arith, bounds .horizon .1)) (cc);
+        depth = number-value text 15 (f .depth) (omega (arith, bounds .depth .1)) (cc);
+        carriers-same = number-value text 20 (f .carriers) (omega (arith, bounds .carriers .1)) (cc);
+        walls-same = number-value text 25 (f .walls) (omega (arith, bounds .walls .1)) (cc);
       }
 
   -- The column and the row of a cell of the grid are small numbers.
@@ -163,14 +135,12 @@ module _ (f : Floor) (ws : List ℕ) (ok : checkOf f ws ≡ passed) where
       text-line text (c % w ∷ c / w ∷ d % w ∷ d / w ∷ []) (31 + 21 * i) (s .0, (s .1, (g .0, (g .1, tt))))
       (carrier-part i l)
       in
-      let field : (j : ℕ) → getD (numbersFrom text (31 + 21 * i) 4) j 0 ≡ getD (c % w ∷ c / w ∷ d % w ∷ d / w ∷ []) j 0 =
-      λ j. ap (λ (vs : List ℕ). getD vs j 0) (r .1)
-      in
+      let read = r .1 in
       let third : 31 + 21 * i + 5 + 5 ≡ 41 + 21 * i = omega arith in
       record {
         form = r .0;
-        start = cell-reads (31 + 21 * i) c (inside .0) (field 0) (field 1);
-        goal = cell-reads (41 + 21 * i) d (inside .1) (rw third at (field 2)) (rw third at (field 3));
+        start = cell-reads (31 + 21 * i) c (inside .0) (cc) (cc);
+        goal = cell-reads (41 + 21 * i) d (inside .1) (cc) (cc);
       }
 
   -- A wall's line, read.
@@ -187,10 +157,8 @@ module _ (f : Floor) (ws : List ℕ) (ok : checkOf f ws ≡ passed) where
       let s = small c inside in
       let at = 31 + 21 * f .carriers + 11 * j in
       let r = text-line text (c % w ∷ c / w ∷ []) at (s .0, (s .1, tt)) (wall-part j l) in
-      let field : (i : ℕ) → getD (numbersFrom text at 2) i 0 ≡ getD (c % w ∷ c / w ∷ []) i 0 =
-      λ i. ap (λ (vs : List ℕ). getD vs i 0) (r .1)
-      in
-      record { form = r .0; cell = cell-reads at c inside (field 0) (field 1) }
+      let read = r .1 in
+      record { form = r .0; cell = cell-reads at c inside (cc) (cc) }
 
   -- The walls stand where line 1's counts say.
   wall-column : (j : ℕ) → wallAt (headAt text) j ≡ wallAt f j

@@ -4,7 +4,8 @@ use native.Mathlib.Omega.{arith}
 use mathlib.Core.Path.{_≡_, refl, _∙_}
 use mathlib.Core.List.{List, _++_}
 use borrow.Author.Tests.{leb-true, ltb-true, le-leb}
-use lib.ListN.{length, length-append, List·getD-append}
+use lib.ListN.{length, drop, length-append, List·getD-append}
+use Rattle.floor.specs.declared.Floor.{Floor}
 use Rattle.floor.specs.Verdict.{passed, _then_}
 use Rattle.floor.specs.Checks.{limitsOf, lentOf, roomOf, placesOf, checkOf}
 use Rattle.floor.proofs.VerdictLaws.{then-both, demand-holds, demand-passes, turn-passed}
@@ -13,7 +14,7 @@ use Rattle.floor.proofs.SameLaws.{places-same}
 use Rattle.sheet.specs.Text.{carrierAt, wallAt}
 use Rattle.fields.specs.Form.{newlineForm, lineForm, endForm}
 use Rattle.sheet.specs.Form.{linesForm, restForm}
-use Rattle.sheet.specs.Values.{headAt, floorAt, wallsFrom, wallsAt}
+use Rattle.sheet.specs.Values.{valueAt, headAt, floorAt, wallsFrom, wallsAt}
 use Rattle.sheet.specs.Read.{formOf}
 use Rattle.sheet.proofs.ListedLaws.{listed-length}
 
@@ -54,6 +55,24 @@ module _ (text : List ℕ) where
       in
       let tail : length text ≤ wallAt (headAt text) k = leb-true _ _ (demand-holds _ 1 (wallAt (headAt text) k) (d .1)) in
       record { limited = b .0; bounds = limits-passed (headAt text) (b .0); size = omega arith }
+
+  -- A text in good form says a floor and its walls, for which there is room.
+  pub floor-there : formOf text ≡ passed
+      → ((valueAt text 0 ≤ 32) × (valueAt text 5 ≤ 32)) × ((valueAt text 20 ≤ 8) × (31 + 21 * valueAt text 20 ≤ length text))
+  unfolding headAt
+  floor-there h = let t = form-tells h in omega (arith, t .bounds, t .size)
+
+  pub walls-there : {f : Floor} (room : ℕ) → f ≡ floorAt text → formOf text ≡ passed → floorAt text .walls ≤ room
+      → ((f .width ≤ 32) × (f .height ≤ 32)) ×
+      (((f .carriers ≤ 8) × (f .walls ≤ room)) × (31 + 21 * f .carriers + 11 * f .walls ≤ length text))
+  unfolding headAt floorAt
+  walls-there room e h l = let t = form-tells h in rw e (omega (arith, l, t .bounds, t .size))
+
+  -- The walls that were read into a memory.
+  pub walls-read : {f : Floor} {m : List ℕ} (old : List ℕ) → f ≡ floorAt text → m ≡ wallsFrom text f ++ drop (f .walls) old
+      → m ≡ wallsAt text ++ drop (floorAt text .walls) old
+  unfolding wallsAt
+  walls-read old e h = rw e at h
 
 -- The limits look at line 1 alone.
 pub limits-of-head : (text : List ℕ) → limitsOf (floorAt text) ≡ limitsOf (headAt text)

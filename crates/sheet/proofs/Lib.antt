@@ -7,9 +7,9 @@ pub mod PlaceLaws
 pub mod LineLaws
 pub mod SheetLaws
 pub mod FieldLaws
+pub mod LineText
 pub mod SlotLaws
 pub mod SlotForms
-pub mod LineText
 pub mod LinesText
 pub mod SheetText
 pub mod FloorText

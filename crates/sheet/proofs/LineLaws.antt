@@ -3,6 +3,7 @@ use Prim.Native.Nat.{ℕ, zero, suc, _+_, _*_, _≤_, _<_}
 use native.Mathlib.Omega.{arith}
 use native.Mathlib.Nat.{mul-suc, mul-zero}
 use native.Mathlib.Numerals.{add-one}
+use borrow.Author.Needs.{needs}
 use mathlib.Core.Path.{_≡_, refl, sym, _∙_, ap}
 use mathlib.Core.List.{List, [], _∷_, _++_}
 use lib.ListN.{length, set, length-append}
@@ -10,7 +11,7 @@ use Rattle.floor.specs.declared.Floor.{Floor}
 use Rattle.fields.specs.Field.{fieldOf}
 use Rattle.sheet.specs.Text.{lineOf, linesOf, headLine, carrierLine, wallLine}
 use Rattle.laws.specs.Memory.{put}
-use Rattle.laws.proofs.PutLaws.{put-length, put-next, put-one}
+use Rattle.laws.proofs.PutLaws.{put-none, put-length, put-next, put-one}
 
 pub field-length : (v : ℕ) → length (fieldOf v) ≡ 5
 unfolding fieldOf
@@ -46,7 +47,7 @@ pub wall-length : (width c : ℕ) → length (wallLine width c) ≡ 11
 unfolding wallLine lineOf fieldOf
 wall-length width c = refl
 
--- A loop that puts lines one behind the other: before the first, one more, and after the last.
+-- A loop that puts lines one behind the other: one more, and its length; then before the first, and after the last.
 module _ (line : ℕ → List ℕ) (w at : ℕ) (size : (i : ℕ) → length (line i) ≡ w) where
   pub lines-next : (m m′ m″ : List ℕ) (i n : ℕ) → m′ ≡ put m at (linesOf line i) → m″ ≡ put m′ n (line i) → at + w * i ≡ n
       → n + w ≤ length m → m″ ≡ put m at (linesOf line (i + 1))
@@ -58,7 +59,15 @@ module _ (line : ℕ → List ℕ) (w at : ℕ) (size : (i : ℕ) → length (li
   pub lines-keep : (m m′ : List ℕ) (i : ℕ) → at + w * i ≤ length m → m′ ≡ put m at (linesOf line i) → length m′ ≡ length m
   lines-keep m m′ i l e = ap length e ∙ put-length m (linesOf line i) at (rw (lines-length line w size i) l)
 
-  pub lines-end : (m m′ : List ℕ) (i k : ℕ) → i ≤ k → k ≤ i → m′ ≡ put m at (linesOf line i) → m′ ≡ put m at (linesOf line k)
-  lines-end m m′ i k a b h =
+module _ (line : ℕ → List ℕ) (m : List ℕ) (at : ℕ) where
+  pub lines-start : m ≡ put m at (linesOf line 0)
+  unfolding linesOf
+  lines-start = put-none m at
+
+  pub lines-end : (m′ : List ℕ) (i k : ℕ) → m′ ≡ put m at (linesOf line i) → i ≤ k → k ≤ i → m′ ≡ put m at (linesOf line k)
+  lines-end m′ i k h a b =
       let e : i ≡ k = omega arith in
       rw e at h
+
+-- What the first and the last answer of such a loop take.
+pub ruleset lines = (needs, lines-start, lines-end)

@@ -24,7 +24,7 @@ numbersFrom text at (suc m) = numberAt text at ∷ numbersFrom text (at + 5) m
 
 module _ (text : List ℕ) where
   -- A newline in good form is the byte 10.
-  newline-tells : (at : ℕ) → newlineForm text at ≡ passed → (at < length text) × (getD text at 0 ≡ 10)
+  pub newline-tells : (at : ℕ) → newlineForm text at ≡ passed → (at < length text) × (getD text at 0 ≡ 10)
   unfolding newlineForm
   newline-tells at h =
       let a = then-both _ _ h in
@@ -74,7 +74,8 @@ abbrev pub Small : List ℕ → Type 0
 Small [] = Unit {0}
 Small (v ∷ vs) = (v < 100000) × Small vs
 
-line-length : (vs : List ℕ) → length (lineOf vs) ≡ 5 * length vs + 1
+-- A line has five bytes a field and one more.
+pub line-length : (vs : List ℕ) → length (lineOf vs) ≡ 5 * length vs + 1
 unfolding lineOf
 line-length [] = refl
 line-length (v ∷ vs) = rw (length-append, field-length, line-length vs) (omega arith)

@@ -4,6 +4,7 @@ use native.Mathlib.Omega.{arith}
 use native.Mathlib.Numerals.{add-one}
 use native.Mathlib.Decide.{decLt, ℕ-discrete}
 use borrow.Author.Count.{below-more}
+use borrow.Author.Needs.{needs}
 use mathlib.Core.Path.{_≡_, refl, sym, _∙_}
 use mathlib.Core.List.{List, [], _∷_, _++_, append-assoc}
 use borrow.Author.Tests.{lt-ltb, le-ltb}
@@ -121,3 +122,6 @@ module _ (g : ℕ → ℕ) where
   upTo-end i n m xs a b h =
       let e : i ≡ n = omega arith in
       rw e at h
+
+-- What the first and the last answer of a loop that lists numbers take.
+pub ruleset lists = (needs, listed-start, listed-end, upTo-none, upTo-end)

@@ -1,7 +1,7 @@
 -- The place of a sheet's refusal is never past the longest sheet, 11,452 bytes, so that it has at most five digits.
 use Prim.Native.Nat.{ℕ, zero, suc, _+_, _*_, _≤_, _<_}
 use native.Mathlib.Omega.{arith}
-use mathlib.Core.Path.{_≡_, refl}
+use mathlib.Core.Path.{_≡_, refl, _∙_}
 use mathlib.Core.Bool.{Bool, true, false}
 use mathlib.Core.List.{List}
 use borrow.Author.Tests.{leb-false, ltb-false}
@@ -15,7 +15,7 @@ use Rattle.fields.specs.Form.{fieldForm, newlineForm, lineForm, endForm}
 use Rattle.sheet.specs.Form.{linesForm, restForm}
 use Rattle.sheet.specs.Values.{headAt, floorAt, wallsAt}
 use Rattle.sheet.specs.Read.{formOf, sheetVerdict}
-use Rattle.sheet.proofs.FormLaws.{form-tells}
+use Rattle.sheet.proofs.FormLaws.{form-tells, limits-of-head}
 
 -- A verdict's place is at most b.
 Low : ℕ → Verdict → Type 0
@@ -97,15 +97,8 @@ module _ (text : List ℕ) where
       (λ q. low-rest (headAt text) (limits-passed (headAt text) q)))
 
   pub place-low : (k p : ℕ) → sheetVerdict text ≡ refused k p → p ≤ 11452
-  unfolding sheetVerdict headAt floorAt
+  unfolding sheetVerdict
   place-low k p e =
       low-means 11452 _ k p
-      (low-then 11452 _ _ low-form (λ h. let s = form-tells text h .bounds in low-places (floorAt text) (wallsAt text)
-      (record {
-        width = s .width;
-        height = s .height;
-        horizon = s .horizon;
-        depth = s .depth;
-        carriers = s .carriers;
-        walls = s .walls;
-      }))) e
+      (low-then 11452 _ _ low-form
+      (λ h. low-places (floorAt text) (wallsAt text) (limits-passed (floorAt text) (limits-of-head text ∙ form-tells text h .limited)))) e

@@ -12,10 +12,10 @@ use Rattle.laws.proofs.PutLaws.{put-next}
 use Rattle.sheet.proofs.LineLaws.{head-length, carrier-length, wall-length, lines-length}
 
 module _ (f : Floor) (ws : List ℕ) where
-  carriers-length : length (carrierLines f) ≡ 21 * f .carriers
+  pub carriers-length : length (carrierLines f) ≡ 21 * f .carriers
   carriers-length = lines-length (carrierLine f) 21 (carrier-length f) (f .carriers)
 
-  walls-length : length (wallLines f ws) ≡ 11 * f .walls
+  pub walls-length : length (wallLines f ws) ≡ 11 * f .walls
   walls-length = lines-length (λ j. wallLine (f .width) (getD ws j 0)) 11 (λ j. wall-length (f .width) (getD ws j 0)) (f .walls)
 
   -- A sheet has 31 bytes, 21 a carrier and 11 a wall.

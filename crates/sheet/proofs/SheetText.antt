@@ -11,7 +11,7 @@ use Rattle.floor.proofs.VerdictLaws.{then-both, turn-passed}
 use Rattle.floor.proofs.LimitsLaws.{Bounds, limited-bounds}
 use Rattle.floor.proofs.Theorems.{theorems}
 use Rattle.fields.specs.Field.{numberAt}
-use Rattle.sheet.specs.Text.{linesOf, headLine, carrierLine, wallLine, sheetOf, carrierAt, goalAt, wallAt}
+use Rattle.sheet.specs.Text.{headLine, carrierLine, wallLine, sheetOf, carrierAt, goalAt, wallAt}
 use Rattle.fields.specs.Form.{lineForm}
 use Rattle.sheet.specs.Form.{linesForm, restForm}
 use Rattle.sheet.specs.Values.{valueAt, cellAt, headAt, floorAt, cellsAt, wallsFrom, wallsAt}
@@ -100,11 +100,6 @@ module _ (text : List ℕ) (read : sheetVerdict text ≡ passed) where
   bounds : Bounds (floorAt text)
   bounds = limited-bounds (floorAt text) (accepted .limited)
 
-  again : (at : ℕ) → cellAt text (floorAt text .width) (floorAt text .height) at < floorAt text .width * floorAt text .height
-      → (cellAt text (floorAt text .width) (floorAt text .height) at % floorAt text .width ≡ numberAt text at)
-      × (cellAt text (floorAt text .width) (floorAt text .height) at / floorAt text .width ≡ numberAt text (at + 5))
-  again at l = cell-again text (floorAt text .width) (floorAt text .height) at (bounds .width .1) (bounds .height .1) l
-
   carrier-form : (i : ℕ) → i < floorAt text .carriers → lineForm text (carrierAt i) 4 ≡ passed
   unfolding restForm linesForm floorAt headAt
   carrier-form i l = turn-passed _ _ (then-both _ _ (rest-forms text formed) .0) i l
@@ -120,8 +115,8 @@ module _ (text : List ℕ) (read : sheetVerdict text ≡ passed) where
       let inside = accepted .carriers-in-grid i l in
       let s = start-at text formed i l in
       let g = goal-at text formed i l in
-      let start = again (carrierAt i) (rw s at (inside .0)) in
-      let goal = again (goalAt i) (rw g at (inside .1)) in
+      let start = cell-again text _ _ (carrierAt i) (bounds .width .1) (bounds .height .1) (rw s at (inside .0)) in
+      let goal = cell-again text _ _ (goalAt i) (bounds .width .1) (bounds .height .1) (rw g at (inside .1)) in
       let third : 31 + 21 * i + 5 + 5 ≡ 41 + 21 * i = omega arith in
       line-text text (carrierAt i) 4 (carrier-form i l)
       ∙ rw (third, s, g, start .0, start .1, goal .0, goal .1)
@@ -132,7 +127,8 @@ module _ (text : List ℕ) (read : sheetVerdict text ≡ passed) where
   unfolding wallLine wallAt numbersFrom
   wall-again j l =
       let c = wall-at text formed j l in
-      let cell = again (wallAt (floorAt text) j) (rw c at (accepted .walls-in-grid j l)) in
+      let cell = cell-again text _ _ (wallAt (floorAt text) j) (bounds .width .1) (bounds .height .1)
+      (rw c at (accepted .walls-in-grid j l)) in
       line-text text (wallAt (floorAt text) j) 2 (wall-form j l)
       ∙ rw (c, cell .0, cell .1)
 
@@ -146,12 +142,8 @@ module _ (text : List ℕ) (read : sheetVerdict text ≡ passed) where
   sheet-returns =
       let n = floorAt text .carriers in
       let k = floorAt text .walls in
-      let carriers : part text 31 (21 * n) ≡ linesOf (carrierLine (floorAt text)) n =
-      parts-lines text (carrierLine (floorAt text)) 21 31 n carrier-again
-      in
-      let walls : part text (31 + 21 * n) (11 * k) ≡ linesOf (λ j. wallLine (floorAt text .width) (getD (wallsAt text) j 0)) k =
-      parts-lines text (λ j. wallLine (floorAt text .width) (getD (wallsAt text) j 0)) 11 (31 + 21 * n) k wall-again
-      in
+      let carriers = parts-lines text (carrierLine (floorAt text)) 21 31 n carrier-again in
+      let walls = parts-lines text (λ j. wallLine (floorAt text .width) (getD (wallsAt text) j 0)) 11 (31 + 21 * n) k wall-again in
       sym
       (sym (part-whole text (31 + (21 * n + 11 * k)) size)
       ∙ part-split text 0 31 (21 * n + 11 * k)

@@ -1,20 +1,18 @@
 -- The form of a sheet, slot by slot: what a slot's check means, and that the form is the form of its slots in their order.
-use Prim.Native.Nat.{ℕ, _+_}
+use Prim.Native.Nat.{ℕ}
 use mathlib.Core.Path.{_≡_, refl, sym, _∙_}
-use mathlib.Core.Bool.{Bool, true, false}
-use mathlib.Core.Logic.{_⊎_, ⊎-elim, inl, inr}
 use mathlib.Core.List.{List, [], _∷_}
-use borrow.Author.Tests.{leb-true, leb-false, ltb-true, ltb-false, eqb-true, eqb-false, le-leb, lt-leb, lt-ltb, le-ltb, eq-eqb, ne-eqb}
-use lib.ListN.{length, getD}
-use lib.Dec.{leb, ltb, eqb}
-use Rattle.floor.specs.Verdict.{Verdict, passed, refused, _then_, demand}
-use Rattle.floor.proofs.VerdictLaws.{then-both, then-cases, then-passed, then-refused, demand-holds, demand-cases, demand-passes}
+use borrow.Author.Tests.{leb-true, leb-false, ltb-true, ltb-false, eqb-false, le-leb, lt-leb, lt-ltb, le-ltb, eq-eqb, ne-eqb}
+use lib.ListN.{length}
+use Rattle.floor.specs.Verdict.{Verdict, passed, refused, _then_}
+use Rattle.floor.proofs.VerdictLaws.{then-both, refused-by, then-passed, then-refused, demand-holds, demand-cases, demand-passes}
 use Rattle.floor.proofs.VerdictLaws.{demand-refuses, refused-not-passed}
 use Rattle.floor.proofs.EachLaws.{fails-false, false-fails}
 use Rattle.fields.specs.Field.{isField}
 use Rattle.fields.specs.Form.{fieldForm, newlineForm, endForm}
 use Rattle.sheet.specs.Refused.{Slot, field, newline, finish, Fine, Broken, cut, bad, ended, wrong, extra, AllFine, none-left}
 use Rattle.sheet.specs.Refused.{one-more, FirstBroken, here, later}
+use Rattle.sheet.proofs.LineText.{newline-tells}
 use Rattle.sheet.proofs.FieldLaws.{is-field-good, good-is-field}
 
 -- The check of a slot, and of slots in their order.
@@ -27,17 +25,6 @@ unfoldable pub slotsForm : List ℕ → List Slot → Verdict
 slotsForm text [] = passed
 slotsForm text (s ∷ ss) = slotForm text s then slotsForm text ss
 
--- Where two tests refuse: at the first, or past it at the second.
-two-demands : (a b : Bool) (k₁ p₁ k₂ p₂ k p : ℕ) → (demand a k₁ p₁ then demand b k₂ p₂) ≡ refused k p
-    → ((a ≡ false) × (k ≡ k₁) × (p ≡ p₁)) ⊎ ((a ≡ true) × (b ≡ false) × (k ≡ k₂) × (p ≡ p₂))
-two-demands a b k₁ p₁ k₂ p₂ k p h =
-    ⊎-elim
-    (λ (e : demand a k₁ p₁ ≡ refused k p). inl (demand-cases a k₁ p₁ k p e))
-    (λ (e : (demand a k₁ p₁ ≡ passed) × (demand b k₂ p₂ ≡ refused k p)).
-    let d = demand-cases b k₂ p₂ k p (e .1) in
-    inr (demand-holds a k₁ p₁ (e .0), d .0, d .1, d .2))
-    (then-cases (demand a k₁ p₁) (demand b k₂ p₂) k p h)
-
 module _ (text : List ℕ) where
   -- A slot passes exactly if it is fine.
   slot-fine : (s : Slot) → slotForm text s ≡ passed → Fine text s
@@ -45,9 +32,7 @@ module _ (text : List ℕ) where
   slot-fine (field at) h =
       let a = then-both _ _ h in
       (leb-true _ _ (demand-holds _ 1 (length text) (a .0)), is-field-good text at (demand-holds _ 1 at (a .1)))
-  slot-fine (newline at) h =
-      let a = then-both _ _ h in
-      (ltb-true _ _ (demand-holds _ 1 (length text) (a .0)), eqb-true _ _ (demand-holds _ 1 at (a .1)))
+  slot-fine (newline at) h = newline-tells text at h
   slot-fine (finish at) h = leb-true _ _ (demand-holds _ 1 at h)
 
   fine-slot : (s : Slot) → Fine text s → slotForm text s ≡ passed
@@ -60,17 +45,17 @@ module _ (text : List ℕ) where
   slot-broken : (s : Slot) (k p : ℕ) → slotForm text s ≡ refused k p → (k ≡ 1) × Broken text s p
   unfolding slotForm fieldForm newlineForm endForm
   slot-broken (field at) k p h =
-      ⊎-elim
-      (λ (d : (leb (at + 5) (length text) ≡ false) × (k ≡ 1) × (p ≡ length text)). (d .1, rw (d .2) (cut (leb-false _ _ (d .0)))))
-      (λ (d : (leb (at + 5) (length text) ≡ true) × (isField text at ≡ false) × (k ≡ 1) × (p ≡ at)).
-      (d .2, rw (d .3) (bad (leb-true _ _ (d .0)) (λ g. false-fails (d .1) (good-is-field text at g)))))
-      (two-demands (leb (at + 5) (length text)) (isField text at) 1 (length text) 1 at k p h)
+      refused-by h
+      (λ r. let d = demand-cases _ 1 (length text) k p r in (d .1, rw (d .2) (cut (leb-false _ _ (d .0)))))
+      (λ a r.
+      let d = demand-cases _ 1 at k p r in
+      (d .1, rw (d .2) (bad (leb-true _ _ (demand-holds _ 1 _ a)) (λ g. false-fails (d .0) (good-is-field text at g)))))
   slot-broken (newline at) k p h =
-      ⊎-elim
-      (λ (d : (ltb at (length text) ≡ false) × (k ≡ 1) × (p ≡ length text)). (d .1, rw (d .2) (ended (ltb-false _ _ (d .0)))))
-      (λ (d : (ltb at (length text) ≡ true) × (eqb (getD text at 0) 10 ≡ false) × (k ≡ 1) × (p ≡ at)).
-      (d .2, rw (d .3) (wrong (ltb-true _ _ (d .0)) (eqb-false _ _ (d .1)))))
-      (two-demands (ltb at (length text)) (eqb (getD text at 0) 10) 1 (length text) 1 at k p h)
+      refused-by h
+      (λ r. let d = demand-cases _ 1 (length text) k p r in (d .1, rw (d .2) (ended (ltb-false _ _ (d .0)))))
+      (λ a r.
+      let d = demand-cases _ 1 at k p r in
+      (d .1, rw (d .2) (wrong (ltb-true _ _ (demand-holds _ 1 _ a)) (eqb-false _ _ (d .0)))))
   slot-broken (finish at) k p h =
       let d = demand-cases _ 1 at k p h in
       (d .1, rw (d .2) (extra (leb-false _ _ (d .0))))
@@ -101,12 +86,9 @@ module _ (text : List ℕ) where
   unfolding slotsForm
   slots-broken [] k p h = absurd (refused-not-passed (sym h))
   slots-broken (s ∷ ss) k p h =
-      ⊎-elim
-      (λ (e : slotForm text s ≡ refused k p). let d = slot-broken s k p e in (d .0, here (d .1)))
-      (λ (e : (slotForm text s ≡ passed) × (slotsForm text ss ≡ refused k p)).
-      let d = slots-broken ss k p (e .1) in
-      (d .0, later (slot-fine s (e .0)) (d .1)))
-      (then-cases (slotForm text s) (slotsForm text ss) k p h)
+      refused-by h
+      (λ r. let d = slot-broken s k p r in (d .0, here (d .1)))
+      (λ a r. let d = slots-broken ss k p r in (d .0, later (slot-fine s a) (d .1)))
 
   pub broken-slots : (ss : List Slot) (p : ℕ) → FirstBroken text ss p → slotsForm text ss ≡ refused 1 p
   unfolding slotsForm

@@ -2,12 +2,12 @@
 use Prim.Native.Nat.{ℕ, _+_, _*_, _≤_, _<_}
 use native.Mathlib.Omega.{arith}
 use mathlib.Core.Path.{_≡_, refl, sym, _∙_}
-use mathlib.Core.Logic.{_↔_, ⊎-elim}
+use mathlib.Core.Logic.{_↔_}
 use mathlib.Core.List.{List}
 use Rattle.floor.specs.Verdict.{passed, refused, _then_}
-use Rattle.floor.specs.Checks.{limitsOf, placesOf}
+use Rattle.floor.specs.Checks.{limitsOf}
 use Rattle.floor.specs.Accepted.{FieldWithin, Limited}
-use Rattle.floor.proofs.VerdictLaws.{then-both, then-cases, then-passed, then-refused}
+use Rattle.floor.proofs.VerdictLaws.{then-both, refused-by, then-passed, then-refused}
 use Rattle.floor.proofs.EachLaws.{each-refused, first-refuses}
 use Rattle.floor.proofs.LimitsLaws.{fieldWithin, field-means, limits-each, limits-mean}
 use Rattle.floor.proofs.Theorems.{theorems as floor-theorems}
@@ -40,20 +40,17 @@ module _ (text : List ℕ) where
   form-row : (k p : ℕ) → formOf text ≡ refused k p → RefusedSheet text k p
   unfolding formOf
   form-row k p h =
-      ⊎-elim
-      (λ (e : lineForm text 0 6 ≡ refused k p).
-      let d = slots-broken text headSlots k p (sym (head-slots text) ∙ e) in
+      refused-by h
+      (λ r.
+      let d = slots-broken text headSlots k p (sym (head-slots text) ∙ r) in
       rw (d .0) (head-form (d .1)))
-      (λ (e : (lineForm text 0 6 ≡ passed) × ((limitsOf (headAt text) then restForm text (headAt text)) ≡ refused k p)).
-      ⊎-elim
-      (λ (g : limitsOf (headAt text) ≡ refused k p).
-      let s = each-refused 2 1 _ _ (field-means (headAt text)) 6 k p (sym (limits-each (headAt text)) ∙ g) in
-      rw (s .number, s .place) (outside-limit (head-fine .0 (e .0)) (s .first)))
-      (λ (g : (limitsOf (headAt text) ≡ passed) × (restForm text (headAt text) ≡ refused k p)).
-      let d = slots-broken text (restSlots (headAt text)) k p (sym (rest-slots text (headAt text)) ∙ g .1) in
-      rw (d .0) (rest-form (head-fine .0 (e .0)) (limits-mean (headAt text) .0 (g .0)) (d .1)))
-      (then-cases (limitsOf (headAt text)) (restForm text (headAt text)) k p (e .1)))
-      (then-cases (lineForm text 0 6) (limitsOf (headAt text) then restForm text (headAt text)) k p h)
+      (λ a h.
+      refused-by h
+      (λ r. each-refused 2 1 _ _ (field-means (headAt text)) (RefusedSheet text) 6 k p (sym (limits-each (headAt text)) ∙ r)
+      (λ i. outside-limit (head-fine .0 a)))
+      (λ b r.
+      let d = slots-broken text (restSlots (headAt text)) k p (sym (rest-slots text (headAt text)) ∙ r) in
+      rw (d .0) (rest-form (head-fine .0 a) (limits-mean (headAt text) .0 b) (d .1))))
 
   -- What good form tells, as statements.
   form-means : formOf text ≡ passed → (AllFine text headSlots) × (Limited (headAt text)) × (AllFine text (restSlots (headAt text)))
@@ -67,13 +64,11 @@ module _ (text : List ℕ) where
   row : (k p : ℕ) → sheetVerdict text ≡ refused k p → RefusedSheet text k p
   unfolding sheetVerdict
   row k p h =
-      ⊎-elim
-      (λ (e : formOf text ≡ refused k p). form-row k p e)
-      (λ (e : (formOf text ≡ passed) × (placesOf (floorAt text) (wallsAt text) ≡ refused k p)).
-      let m = form-means (e .0) in
+      refused-by h (form-row k p)
+      (λ a r.
+      let m = form-means a in
       floor-row (m .0) (m .1) (m .2)
-      (floor-theorems .refuses-exactly (floorAt text) (wallsAt text) k p .0 (placed-checked text (e .0) ∙ e .1)))
-      (then-cases (formOf text) (placesOf (floorAt text) (wallsAt text)) k p h)
+      (floor-theorems .refuses-exactly (floorAt text) (wallsAt text) k p .0 (placed-checked text a ∙ r)))
 
   -- The condition of a row gives its refusal.
   refusal : (k p : ℕ) → RefusedSheet text k p → sheetVerdict text ≡ refused k p

@@ -49,7 +49,8 @@ returns c =
           ∙ ap (λ (tag : ℕ). put old at (tag ∷ found .result .route)) (after-tag-of .tag-of .ensures)
           ∙ ap (put old at) (found-record (found .result) _ (found .ensures)),
       c .before .before .take-route .ensures _
-          (room-stored _ _ _ _ _ _ (start .pre .1 .0) _ _ _ (omega (arith, start .pre .0)) (after-store .store .ensures) (start .pre .1 .1)),
+          (room-stored _ _ _ _ _ _ (start .pre .1 .0) _ _ _ (omega (arith, start .pre .0)) (after-store .store .ensures)
+          (start .pre .1 .1)),
     )
 
 pub plan-one-spec : {M : Type 1} → statement M

@@ -31,13 +31,7 @@ put-routes-requires c κs =
     let after-plan : tie.After-plan = search in
     let start : tie.Start = search in
     let p = start .pre in
-    let b = bounds _ _ _ (p .0) in
-    record {
-      few = b .carriers .1;
-      horizon = b .horizon .1;
-      records = omega (arith, enough _ _ _ (p .0), after-plan .plan .kept .1 .1 .0);
-      room = p .1;
-    }
+    omega (arith, bounds _ _ _ (p .0), enough _ _ _ (p .0), after-plan .plan .kept .1 .1 .0, p .1)
 
 returns-2 : tie.Need-returns-2
 returns-2 c =

@@ -1,6 +1,6 @@
 -- `printing::routes` meets its contract: the reader's verdict decides between the routes and the refusal's line.
 use Rattle.sheet.proofs.Theorems.{theorems}
-use Rattle.floor.proofs.AnswersLaws.{passes, refuses}
+use Rattle.floor.proofs.AnswersLaws.{refuses}
 use Rattle.printing.proofs.PrintLaws.{was-read, read-refused, routes-accepted, routes-refused}
 use native.Mathlib.Omega.{arith}
 use borrow.Author.Needs.{needs}
@@ -11,9 +11,8 @@ print-read-requires : tie.Need-print-read-requires
 print-read-requires c κs =
     let after-read : tie.After-read = search in
     let after-no-walls : tie.After-no-walls = search in
-    let w = was-read _ _ _ _ (omega (arith, after-no-walls .no-walls .ensures)) (passes (after-read .read .ensures .0)
-    (c .before .before .enum-told .given .1))
-    (after-read .read .ensures .1 .0) (after-read .read .ensures .1 .1) in
+    let w = was-read _ _ _ _ (omega (arith, after-no-walls .no-walls .ensures)) (after-read .read .ensures)
+    (c .before .before .enum-told .given .1) in
     (w .checked, w .lent)
 
 returns : tie.Need-returns
@@ -21,9 +20,8 @@ returns c =
     let after-enum-told : tie.After-enum-told = search in
     let after-read : tie.After-read = search in
     let after-no-walls : tie.After-no-walls = search in
-    let w = was-read _ _ _ _ (omega (arith, after-no-walls .no-walls .ensures)) (passes (after-read .read .ensures .0)
-    (after-enum-told .enum-told .given .1))
-    (after-read .read .ensures .1 .0) (after-read .read .ensures .1 .1) in
+    let w = was-read _ _ _ _ (omega (arith, after-no-walls .no-walls .ensures)) (after-read .read .ensures)
+    (after-enum-told .enum-told .given .1) in
     routes-accepted _ _ _ _ _ _ w (c .before .before .print-read .ensures)
 
 print-refusal-requires : tie.Need-print-refusal-requires

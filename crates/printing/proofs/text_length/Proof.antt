@@ -5,9 +5,6 @@ use borrow.Author.Needs.{needs}
 use Rattle.printing.proofs.text_length.Statement.{statement}
 use Rattle.printing.proofs.text_length.Tie as tie
 
-returns : tie.Need-returns
-unfolding textLength
-returns c = refl
-
 pub text-length-spec : {M : Type 1} → statement M
-text-length-spec = tie.close (tie.spec (λ c. search needs) (λ c. search needs) (λ c. search needs) returns)
+unfolding textLength
+text-length-spec = tie.close (tie.spec (λ c. search needs) (λ c. search needs) (λ c. search needs) (λ c. refl))

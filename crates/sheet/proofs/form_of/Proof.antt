@@ -1,19 +1,12 @@
 -- `sheet::form_of` meets its contract: a chain of three checks; line 1 in good form is long enough to be read.
-use Rattle.sheet.specs.Form.{restForm}
 use Rattle.floor.proofs.LimitsLaws.{limits-passed}
-use Rattle.floor.specs.Checks.{limitsOf}
 use Rattle.sheet.proofs.FormLaws.{line-reach}
-use Rattle.floor.proofs.AnswersLaws.{passes, hands-on, ends-at}
+use Rattle.floor.proofs.AnswersLaws.{chain, passes}
 use Rattle.sheet.specs.Read.{formOf}
-use mathlib.Core.Path.{_∙_, ap}
 use native.Mathlib.Omega.{arith}
 use borrow.Author.Needs.{needs}
 use Rattle.sheet.proofs.form_of.Statement.{statement}
 use Rattle.sheet.proofs.form_of.Tie as tie
-
-returns : tie.Need-returns
-unfolding formOf
-returns c = ends-at _ (c .before .before .line-form .ensures) (c .enum-told2 .given .1)
 
 head-requires : tie.Need-head-requires
 head-requires c κs = omega (arith, line-reach _ 0 6 (passes (c .before .before .line-form .ensures) (c .enum-told .given .1)))
@@ -22,10 +15,7 @@ returns-2 : tie.Need-returns-2
 unfolding formOf
 returns-2 c =
     let after-head : tie.After-head = search in
-    let after-enum-told : tie.After-enum-told = search in
-    let after-line-form : tie.After-line-form = search in
-    hands-on (after-line-form .line-form .ensures) (after-enum-told .enum-told .given .1)
-    (ends-at _ (c .before .before .limits .ensures ∙ ap limitsOf (after-head .head .ensures)) (c .enum-told4 .given .1))
+    rw (← after-head .head .ensures) (search chain depth 7)
 
 rest-form-requires : tie.Need-rest-form-requires
 rest-form-requires c κs =
@@ -34,15 +24,11 @@ rest-form-requires c κs =
 returns-3 : tie.Need-returns-3
 unfolding formOf
 returns-3 c =
-    let after-limits : tie.After-limits = search in
     let after-head : tie.After-head = search in
-    let after-enum-told : tie.After-enum-told = search in
-    let after-line-form : tie.After-line-form = search in
-    hands-on (after-line-form .line-form .ensures) (after-enum-told .enum-told .given .1)
-    (hands-on (after-limits .limits .ensures ∙ ap limitsOf (after-head .head .ensures)) (c .before .enum-told3 .given .1)
-    (c .rest-form .ensures ∙ ap (restForm _) (after-head .head .ensures)))
+    rw (← after-head .head .ensures) (search chain depth 7)
 
 pub form-of-spec : {M : Type 1} → statement M
+unfolding formOf
 form-of-spec =
-    tie.close (tie.spec (λ c κs. search needs) (λ c. search needs) (λ c. search needs) returns head-requires
-    (λ c κs. search needs) (λ c. search needs) (λ c. search needs) returns-2 rest-form-requires returns-3)
+    tie.close (tie.spec (λ c κs. search needs) (λ c. search needs) (λ c. search needs) (λ c. search chain depth 7)
+    head-requires (λ c κs. search needs) (λ c. search needs) (λ c. search needs) returns-2 rest-form-requires returns-3)

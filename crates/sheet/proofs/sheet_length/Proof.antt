@@ -5,11 +5,8 @@ use borrow.Author.Needs.{needs}
 use Rattle.sheet.proofs.sheet_length.Statement.{statement}
 use Rattle.sheet.proofs.sheet_length.Tie as tie
 
-returns : tie.Need-returns
-unfolding sheetLength wallAt
-returns c = refl
-
 pub sheet-length-spec : {M : Type 1} → statement M
+unfolding sheetLength wallAt
 sheet-length-spec =
     tie.close (tie.spec (λ c. search needs) (λ c. search needs) (λ c. search needs) (λ c. search needs)
-    (λ c. search needs) (λ c. search needs) returns)
+    (λ c. search needs) (λ c. search needs) (λ c. refl))

@@ -4,9 +4,6 @@ use mathlib.Core.Path.{refl}
 use Rattle.floor.proofs.Floor.fresh.Statement.{statement}
 use Rattle.floor.proofs.Floor.fresh.Tie as tie
 
-returns : tie.Need-returns
-unfolding freshFloor
-returns c = refl
-
 pub fresh-spec : {M : Type 1} → statement M
-fresh-spec = tie.close (tie.spec returns)
+unfolding freshFloor
+fresh-spec = tie.close (tie.spec (λ c. refl))

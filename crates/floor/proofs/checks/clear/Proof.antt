@@ -1,10 +1,9 @@
 -- `floor::checks::clear` meets its contract: invariant: the carriers passed stand and end on no wall.
 use Rattle.floor.specs.Checks.{clearOfWalls, clearOf}
-use Rattle.floor.proofs.VerdictLaws.{each-none, each-more, each-stop, each-end}
-use borrow.Author.Tests.{not-true, not-false}
+use Rattle.floor.proofs.VerdictLaws.{tests}
 use Rattle.floor.specs.Answers.{verdictOf}
 use Rattle.floor.specs.Verdict.{passed, each}
-use mathlib.Core.Path.{_≡_, _∙_, sym}
+use mathlib.Core.Path.{_≡_}
 use Prim.Native.Nat.{_-_, _≤_}
 use borrow.Author.Needs.{needs}
 use Rattle.floor.proofs.checks.clear.Statement.{statement}
@@ -16,26 +15,9 @@ Inv-loop f walls n i₀ i = (i ≤ n) × (each 5 1 (clearOfWalls f walls) i ≡ 
 abbrev μ-loop : tie.MeasureT-loop
 μ-loop f walls n i₀ i = n - i
 
-loop-holds : tie.Need-loop-holds Inv-loop μ-loop
-loop-holds c = (search needs, each-none _ _ _)
-
-returns : tie.Need-returns Inv-loop μ-loop
-unfolding verdictOf clearOf
-returns c =
-    let at-loop : tie.At-loop Inv-loop μ-loop = search in
-    sym (each-stop 5 _ _ _ _ (c .before .before .loop-test .taken) (at-loop .loop .inv .1)
-    (sym (c .before .clear-of-walls .ensures) ∙ not-true _ (c .if1 .taken)))
-
-loop-again : tie.Need-loop-again Inv-loop μ-loop
-loop-again c =
-    let at-loop : tie.At-loop Inv-loop μ-loop = search in
-    (search needs, each-more 5 _ _ _ (at-loop .loop .inv .1) (sym (c .before .clear-of-walls .ensures) ∙ not-false _ (c .if1 .left)))
-
-returns-2 : tie.Need-returns-2 Inv-loop μ-loop
-unfolding verdictOf clearOf
-returns-2 c = each-end 5 _ _ (c .before .loop .i) _ (c .before .loop .inv .0) (c .loop-test .left) (c .before .loop .inv .1)
-
 pub clear-spec : {M : Type 1} → statement M
+unfolding verdictOf clearOf
 clear-spec =
-    tie.close (tie.spec Inv-loop μ-loop (λ c. search needs) loop-holds (λ c κs. search needs) (λ c. search needs)
-    returns (λ c. search needs) (λ c. search needs) loop-again returns-2)
+    tie.close (tie.spec Inv-loop μ-loop (λ c. search needs) (λ c. search tests) (λ c κs. search needs)
+    (λ c. search needs) (λ c. search tests) (λ c. search needs) (λ c. search needs) (λ c. search tests)
+    (λ c. search tests))

@@ -9,9 +9,6 @@ use Rattle.floor.proofs.checks.in_grid.Tie as tie
 mul-result : tie.Need-mul-result
 mul-result c = record { fits = lt-of-le-of-lt (mul-le-mul (c .before .pre .0) (c .before .pre .1)) (lit< tt) }
 
-returns : tie.Need-returns
-unfolding inGrid
-returns c = refl
-
 pub in-grid-spec : {M : Type 1} → statement M
-in-grid-spec = tie.close (tie.spec mul-result returns)
+unfolding inGrid
+in-grid-spec = tie.close (tie.spec mul-result (λ c. refl))

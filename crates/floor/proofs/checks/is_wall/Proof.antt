@@ -12,9 +12,6 @@ Inv-loop walls m c low₀ high₀ low high = Bracket walls m c low high
 abbrev μ-loop : tie.MeasureT-loop
 μ-loop walls m c low₀ high₀ low high = high - low
 
-loop-holds : tie.Need-loop-holds Inv-loop μ-loop
-loop-holds c = bracket-start _ _ _
-
 loop-again : tie.Need-loop-again Inv-loop μ-loop
 loop-again c =
     let at-loop : tie.At-loop Inv-loop μ-loop = search in
@@ -38,6 +35,6 @@ returns-2 c =
 
 pub is-wall-spec : {M : Type 1} → statement M
 is-wall-spec =
-    tie.close (tie.spec Inv-loop μ-loop loop-holds (λ c. search needs) (λ c. search needs) (λ c. search needs)
-    (λ c. search needs) (λ c. search needs) (λ c. search needs) loop-again (λ c. search needs) loop-again-2 returns
-    (λ c. search needs) (λ c. search needs) returns-2)
+    tie.close (tie.spec Inv-loop μ-loop (λ c. bracket-start _ _ _) (λ c. search needs) (λ c. search needs)
+    (λ c. search needs) (λ c. search needs) (λ c. search needs) (λ c. search needs) loop-again (λ c. search needs)
+    loop-again-2 returns (λ c. search needs) (λ c. search needs) returns-2)

@@ -3,6 +3,7 @@ use Rattle.floor.specs.Checks.{unshared, startOf, goalOf}
 use lib.ListN.{length}
 use mathlib.Core.Path.{_≡_}
 use native.Mathlib.Omega.{arith}
+use Rattle.floor.proofs.TestLaws.{decides}
 use borrow.Author.Needs.{needs}
 use Rattle.floor.proofs.checks.unshared.Statement.{statement}
 use Rattle.floor.proofs.checks.unshared.Tie as tie
@@ -10,24 +11,14 @@ use Rattle.floor.proofs.checks.unshared.Tie as tie
 among-requires : tie.Need-among-requires
 among-requires c κs = let e : length (c .before .before .args .f .starts) ≡ 8 = search needs in omega arith
 
-returns : tie.Need-returns
-unfolding unshared startOf goalOf
-returns c = rw (← c .before .among .ensures, c .if1 .taken)
-
 among-requires-2 : tie.Need-among-requires-2
 among-requires-2 c κs =
     let start : tie.Start = search in
     let e : length (start .args .f .goals) ≡ 8 = search needs in
     omega arith
 
-returns-2 : tie.Need-returns-2
-unfolding unshared startOf goalOf
-returns-2 c =
-    let else1 : tie.Else1 = search in
-    let after-among : tie.After-among = search in
-    rw (← after-among .among .ensures, else1 .if1 .left, ← c .among2 .ensures)
-
 pub unshared-spec : {M : Type 1} → statement M
+unfolding unshared startOf goalOf
 unshared-spec =
-    tie.close (tie.spec (λ c. search needs) (λ c. search needs) (λ c. search needs) among-requires returns
-    (λ c. search needs) (λ c. search needs) (λ c. search needs) among-requires-2 returns-2)
+    tie.close (tie.spec (λ c. search needs) (λ c. search needs) (λ c. search needs) among-requires (λ c. search decides)
+    (λ c. search needs) (λ c. search needs) (λ c. search needs) among-requires-2 (λ c. search decides))

@@ -1,11 +1,10 @@
 -- `floor::checks::walls_inside` meets its contract: invariant: the walls passed lie in the grid.
-use Rattle.floor.proofs.VerdictLaws.{each-none, each-more, each-stop, each-end}
-use borrow.Author.Tests.{not-true, not-false}
+use Rattle.floor.proofs.VerdictLaws.{tests}
 use Rattle.floor.specs.Checks.{inGrid, wallsOf}
 use Rattle.floor.specs.Answers.{verdictOf}
 use Rattle.floor.specs.Verdict.{passed, each}
 use lib.ListN.{getD}
-use mathlib.Core.Path.{_≡_, _∙_, sym}
+use mathlib.Core.Path.{_≡_}
 use Prim.Native.Nat.{ℕ, _-_, _≤_}
 use borrow.Author.Needs.{needs}
 use Rattle.floor.proofs.checks.walls_inside.Statement.{statement}
@@ -17,28 +16,9 @@ Inv-loop f walls m base j₀ j = (j ≤ m) × (each 3 base (λ (k : ℕ). inGrid
 abbrev μ-loop : tie.MeasureT-loop
 μ-loop f walls m base j₀ j = m - j
 
-loop-holds : tie.Need-loop-holds Inv-loop μ-loop
-loop-holds c = (search needs, each-none _ _ _)
-
-returns : tie.Need-returns Inv-loop μ-loop
-unfolding verdictOf wallsOf
-returns c =
-    let in-loop : tie.In-loop Inv-loop μ-loop = search in
-    let at-loop : tie.At-loop Inv-loop μ-loop = search in
-    sym (each-stop 3 _ _ _ _ (in-loop .loop-test .taken) (at-loop .loop .inv .1)
-    (sym (c .before .in-grid .ensures) ∙ not-true _ (c .if1 .taken)))
-
-loop-again : tie.Need-loop-again Inv-loop μ-loop
-loop-again c =
-    let at-loop : tie.At-loop Inv-loop μ-loop = search in
-    (search needs, each-more 3 _ _ _ (at-loop .loop .inv .1) (sym (c .before .in-grid .ensures) ∙ not-false _ (c .if1 .left)))
-
-returns-2 : tie.Need-returns-2 Inv-loop μ-loop
-unfolding verdictOf wallsOf
-returns-2 c = each-end 3 _ _ (c .before .loop .j) _ (c .before .loop .inv .0) (c .loop-test .left) (c .before .loop .inv .1)
-
 pub walls-inside-spec : {M : Type 1} → statement M
+unfolding verdictOf wallsOf
 walls-inside-spec =
-    tie.close (tie.spec Inv-loop μ-loop (λ c. search needs) (λ c. search needs) (λ c. search needs) loop-holds
-    (λ c. search needs) (λ c. search needs) (λ c κs. search needs) (λ c. search needs) returns (λ c. search needs)
-    (λ c. search needs) loop-again returns-2)
+    tie.close (tie.spec Inv-loop μ-loop (λ c. search needs) (λ c. search needs) (λ c. search needs) (λ c. search tests)
+    (λ c. search needs) (λ c. search needs) (λ c κs. search needs) (λ c. search needs) (λ c. search tests)
+    (λ c. search needs) (λ c. search needs) (λ c. search tests) (λ c. search tests))

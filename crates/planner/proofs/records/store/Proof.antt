@@ -1,9 +1,8 @@
 -- `planner::records::store` meets its contract: a tag and 64 cells, one behind the other.
-use denote.Ref.{now}
 use Rattle.laws.proofs.PutLaws.{put-one, put-next}
 use lib.ListN.{length-set}
 use mathlib.Core.List.{_∷_, []}
-use mathlib.Core.Path.{refl}
+use mathlib.Core.Path.{refl, _∙_}
 use native.Mathlib.Omega.{arith}
 use borrow.Author.Needs.{needs}
 use Rattle.planner.proofs.records.store.Statement.{statement}
@@ -13,14 +12,7 @@ store-cells-requires : tie.Need-store-cells-requires
 store-cells-requires c κs = simp length-set (omega arith)
 
 same-length : tie.Need-same-length
-same-length c =
-    let start : tie.Start = search in
-    omega (
-      arith,
-      c .before .before .store-cells .kept .0,
-      length-set (now (start .args .out)) (start .args .at)
-          (start .args .tag),
-    )
+same-length c = c .before .before .store-cells .kept .0 ∙ simp length-set
 
 returns : tie.Need-returns
 returns c =

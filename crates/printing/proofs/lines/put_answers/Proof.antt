@@ -1,7 +1,7 @@
 -- `printing::lines::put_answers` meets its contract: invariant: the lines passed stand behind line 1, and the column is behind them.
 use Prim.Native.Nat.{_≤_, _-_}
 use Rattle.printing.specs.Put.{LinesPut}
-use Rattle.printing.proofs.PutLaws.{lines-start, lines-more, lines-keep, lines-end}
+use Rattle.printing.proofs.PutLaws.{lines, lines-more, lines-keep}
 use borrow.Author.Needs.{needs}
 use native.Mathlib.Omega.{arith}
 use Rattle.printing.proofs.lines.put_answers.Statement.{statement}
@@ -12,9 +12,6 @@ Inv-loop f answers out₀ n at₀ i₀ out at i = (i ≤ n) × LinesPut f answer
 
 abbrev μ-loop : tie.MeasureT-loop
 μ-loop f answers out₀ n at₀ i₀ out at i = n - i
-
-loop-holds : tie.Need-loop-holds Inv-loop μ-loop
-loop-holds c = (search needs, lines-start _ _ _)
 
 put-answer-requires : tie.Need-put-answer-requires Inv-loop μ-loop
 put-answer-requires c κs =
@@ -39,10 +36,7 @@ same-length c =
     lines-keep _ _ _ (c .before .loop .i) _ _ (c .before .loop .inv .1) (omega
     (arith, start .pre .room))
 
-returns : tie.Need-returns Inv-loop μ-loop
-returns c = lines-end _ _ _ (c .before .loop .i) _ _ _ (c .before .loop .inv .0) (c .loop-test .left) (c .before .loop .inv .1)
-
 pub put-answers-spec : {M : Type 1} → statement M
 put-answers-spec =
-    tie.close (tie.spec Inv-loop μ-loop (λ c. search needs) loop-holds put-answer-requires (λ c. search needs)
-    (λ c. search needs) loop-again same-length returns)
+    tie.close (tie.spec Inv-loop μ-loop (λ c. search needs) (λ c. search lines) put-answer-requires (λ c. search needs)
+    (λ c. search needs) loop-again same-length (λ c. search lines))

@@ -18,10 +18,9 @@ unfolding noneLine noneWord fieldOf
 returns c =
     let after-put-field : tie.After-put-field = search in
     let start : tie.Start = search in
-    newline-next _ _ _ _ _
-    (put-next _ _ _ _ _ _ _ (after-put-field .put-field .ensures) (c .before .before .put-word .ensures) refl (omega
-    (arith, start .pre)))
-    refl (omega (arith, start .pre))
+    let room = start .pre in
+    let word = put-next _ _ _ _ _ _ _ (after-put-field .put-field .ensures) (c .before .before .put-word .ensures) refl (omega arith) in
+    newline-next _ _ _ _ _ word refl (omega arith)
 
 pub put-none-spec : {M : Type 1} → statement M
 put-none-spec =

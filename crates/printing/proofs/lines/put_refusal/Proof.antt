@@ -19,15 +19,10 @@ returns c =
     let after-put-field2 : tie.After-put-field2 = search in
     let after-put-field : tie.After-put-field = search in
     let start : tie.Start = search in
-    record {
-      bytes = newline-next _ _ _ 0 15
-          (field-next _ _ _ _ 0 10 _
-          (field-next _ _ _ _ 0 5 _ (after-put-field .put-field .ensures)
-          (after-put-field2 .put-field2 .ensures) refl (omega (arith, start .pre)))
-          (c .before .before .put-field3 .ensures) refl (omega (arith, start .pre)))
-          refl (omega (arith, start .pre));
-      size = refl;
-    }
+    let room = start .pre in
+    let two = field-next _ _ _ _ 0 5 _ (after-put-field .put-field .ensures) (after-put-field2 .put-field2 .ensures) refl (omega arith) in
+    let three = field-next _ _ _ _ 0 10 _ two (c .before .before .put-field3 .ensures) refl (omega arith) in
+    record { bytes = newline-next _ _ _ 0 15 three refl (omega arith); size = refl }
 
 pub put-refusal-spec : {M : Type 1} → statement M
 put-refusal-spec =

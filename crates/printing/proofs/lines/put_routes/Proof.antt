@@ -14,14 +14,7 @@ put-answers-requires : tie.Need-put-answers-requires
 put-answers-requires c κs =
     let after-put-first : tie.After-put-first = search in
     let start : tie.Start = search in
-    let p = start .pre in
-    record {
-      few = p .few;
-      horizon = p .horizon;
-      records = p .records;
-      room = omega
-          (arith, p .room, after-put-first .put-first .kept);
-    }
+    omega (arith, start .pre, after-put-first .put-first .kept)
 
 returns : tie.Need-returns
 returns c =

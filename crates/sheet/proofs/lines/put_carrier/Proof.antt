@@ -19,10 +19,9 @@ unfolding carrierLine lineOf fieldOf startOf goalOf
 returns c =
     let after-put-cell : tie.After-put-cell = search in
     let start : tie.Start = search in
-    newline-next _ _ _ _ _
-    (put-next _ _ _ _ _ _ _ (after-put-cell .put-cell .ensures) (c .before .before .put-cell2 .ensures) refl
-    (omega (arith, start .pre)))
-    refl (omega (arith, start .pre))
+    let room = start .pre in
+    let cells = put-next _ _ _ _ _ _ _ (after-put-cell .put-cell .ensures) (c .before .before .put-cell2 .ensures) refl (omega arith) in
+    newline-next _ _ _ _ _ cells refl (omega arith)
 
 pub put-carrier-spec : {M : Type 1} → statement M
 put-carrier-spec =

@@ -21,15 +21,13 @@ returns c =
     let after-put-field2 : tie.After-put-field2 = search in
     let after-put-field : tie.After-put-field = search in
     let start : tie.Start = search in
-    newline-next _ _ _ 0 30
-    (field-next _ _ _ _ 0 25 _ ((field-next _ _ _ _ 0 20 _
-    ((field-next _ _ _ _ 0 15 _
-    ((field-next _ _ _ _ 0 10 _
-    ((field-next _ _ _ _ 0 5 _ (after-put-field .put-field .ensures) (after-put-field2 .put-field2 .ensures) refl
-    (omega (arith, start .pre)))) (after-put-field3 .put-field3 .ensures) refl (omega (arith, start .pre))))
-    (after-put-field4 .put-field4 .ensures) refl (omega (arith, start .pre)))) (after-put-field5 .put-field5 .ensures) refl
-    (omega (arith, start .pre)))) (c .before .before .put-field6 .ensures) refl (omega (arith, start .pre)))
-    refl (omega (arith, start .pre))
+    let room = start .pre in
+    let two = field-next _ _ _ _ 0 5 _ (after-put-field .put-field .ensures) (after-put-field2 .put-field2 .ensures) refl (omega arith) in
+    let three = field-next _ _ _ _ 0 10 _ two (after-put-field3 .put-field3 .ensures) refl (omega arith) in
+    let four = field-next _ _ _ _ 0 15 _ three (after-put-field4 .put-field4 .ensures) refl (omega arith) in
+    let five = field-next _ _ _ _ 0 20 _ four (after-put-field5 .put-field5 .ensures) refl (omega arith) in
+    let six = field-next _ _ _ _ 0 25 _ five (c .before .before .put-field6 .ensures) refl (omega arith) in
+    newline-next _ _ _ 0 30 six refl (omega arith)
 
 pub put-head-spec : {M : Type 1} → statement M
 put-head-spec =

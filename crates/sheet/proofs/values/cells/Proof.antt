@@ -1,5 +1,5 @@
 -- `sheet::values::cells` meets its contract: invariant: the places passed hold their cells, the others 0.
-use Rattle.sheet.proofs.ListedLaws.{upTo-step, upTo-end, upTo-none}
+use Rattle.sheet.proofs.ListedLaws.{lists, upTo-step}
 use Rattle.sheet.specs.Values.{cellAt, upTo, listed}
 use mathlib.Core.Path.{_≡_}
 use Prim.Native.Nat.{ℕ, _+_, _*_, _-_, _≤_}
@@ -15,17 +15,11 @@ Inv-loop text at n width height found₀ i₀ found i = (i ≤ n) ×
 abbrev μ-loop : tie.MeasureT-loop
 μ-loop text at n width height found₀ i₀ found i = n - i
 
-loop-holds : tie.Need-loop-holds Inv-loop μ-loop
-loop-holds c = (search needs, upTo-none _ 8)
-
 loop-again : tie.Need-loop-again Inv-loop μ-loop
 loop-again c = (search needs, upTo-step _ _ _ 8 _ (omega arith) (c .before .before .loop .inv .1) (c .cell .ensures))
 
-returns : tie.Need-returns Inv-loop μ-loop
-returns c = upTo-end _ (c .before .loop .i) _ 8 _ (c .before .loop .inv .0) (c .loop-test .left) (c .before .loop .inv .1)
-
 pub cells-spec : {M : Type 1} → statement M
 cells-spec =
-    tie.close (tie.spec Inv-loop μ-loop (λ c. search needs) loop-holds (λ c. search needs) (λ c. search needs)
+    tie.close (tie.spec Inv-loop μ-loop (λ c. search needs) (λ c. search lists) (λ c. search needs) (λ c. search needs)
     (λ c κs. search needs) (λ c. search needs) (λ c. search needs) (λ c. search needs) (λ c. search needs) loop-again
-    returns)
+    (λ c. search lists))

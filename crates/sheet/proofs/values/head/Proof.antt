@@ -4,11 +4,8 @@ use borrow.Author.Needs.{needs}
 use Rattle.sheet.proofs.values.head.Statement.{statement}
 use Rattle.sheet.proofs.values.head.Tie as tie
 
-returns : tie.Need-returns
-unfolding headAt
-returns c = cc
-
 pub head-spec : {M : Type 1} → statement M
+unfolding headAt
 head-spec =
     tie.close (tie.spec (λ c κs. search needs) (λ c κs. search needs) (λ c κs. search needs) (λ c κs. search needs)
-    (λ c κs. search needs) (λ c κs. search needs) returns)
+    (λ c κs. search needs) (λ c κs. search needs) (λ c. cc))

@@ -1,5 +1,5 @@
 -- `sheet::values::walls` meets its contract: invariant: the walls passed stand in front, the rest of the memory is as it was.
-use Rattle.sheet.proofs.ListedLaws.{listed-start, listed-keeps, listed-end, listed-store}
+use Rattle.sheet.proofs.ListedLaws.{lists, listed-keeps, listed-store}
 use Rattle.sheet.specs.Text.{wallAt}
 use Rattle.sheet.specs.Values.{cellAt, listed, wallsFrom}
 use lib.ListN.{drop}
@@ -18,9 +18,6 @@ Inv-loop text out₀ base k width height j₀ out j = (j ≤ k) ×
 abbrev μ-loop : tie.MeasureT-loop
 μ-loop text out₀ base k width height j₀ out j = k - j
 
-loop-holds : tie.Need-loop-holds Inv-loop μ-loop
-loop-holds c = (search needs, listed-start _ _)
-
 slice-write-out : tie.Need-slice-write-out Inv-loop μ-loop
 slice-write-out c = omega (arith, listed-keeps _ _ _ _ (omega arith) (c .before .before .loop .inv .1))
 
@@ -30,12 +27,9 @@ loop-again c = (search needs, listed-store _ _ _ _ _ (omega arith) (c .before .b
 same-length : tie.Need-same-length Inv-loop μ-loop
 same-length c = listed-keeps _ _ _ _ (omega arith) (c .before .loop .inv .1)
 
-returns : tie.Need-returns Inv-loop μ-loop
-unfolding wallsFrom wallAt
-returns c = listed-end _ (c .before .loop .j) _ _ _ (c .before .loop .inv .0) (c .loop-test .left) (c .before .loop .inv .1)
-
 pub walls-spec : {M : Type 1} → statement M
+unfolding wallsFrom wallAt
 walls-spec =
     tie.close (tie.spec Inv-loop μ-loop (λ c. search needs) (λ c. search needs) (λ c. search needs) (λ c. search needs)
-    loop-holds (λ c. search needs) (λ c. search needs) (λ c κs. search needs) (λ c. search needs) slice-write-out
-    (λ c. search needs) (λ c. search needs) loop-again same-length returns)
+    (λ c. search lists) (λ c. search needs) (λ c. search needs) (λ c κs. search needs) (λ c. search needs)
+    slice-write-out (λ c. search needs) (λ c. search needs) loop-again same-length (λ c. search lists))

@@ -1,0 +1,25 @@
+-- Five stores one behind the other: each has room, and together they are a block of five bytes.
+use Prim.Native.Nat.{ℕ, _+_, _%_, _≤_, _<_}
+use native.Mathlib.Omega.{arith}
+use mathlib.Core.Path.{_≡_}
+use mathlib.Core.List.{List}
+use lib.Dec.{lit<}
+use lib.ListN.{length, set, length-set}
+use Rattle.laws.specs.Memory.{put}
+use Rattle.laws.proofs.PutLaws.{put-five}
+use Rattle.fields.specs.Field.{column, fieldOf}
+
+pub room-of-five : (m : List ℕ) (at i : ℕ) → at + 5 ≤ length m → i < 5 → at + i < length m
+room-of-five m at i l h = omega arith
+
+pub room-kept : (m : List ℕ) (n i v : ℕ) → n ≤ length m → n ≤ length (set m i v)
+room-kept m n i v l = rw length-set l
+
+pub ruleset stores = (room-of-five, room-kept, lit<)
+
+-- Five columns of a number are its field.
+pub put-columns : (m : List ℕ) (at v : ℕ) {a b c d e : ℕ} → a ≡ column 10000 v → b ≡ column 1000 v → c ≡ column 100 v → d ≡ column 10 v
+    → e ≡ 48 + v % 10 → at + 5 ≤ length m
+    → set (set (set (set (set m at a) (at + 1) b) (at + 2) c) (at + 3) d) (at + 4) e ≡ put m at (fieldOf v)
+unfolding fieldOf
+put-columns m at v a b c d e l = rw (a, b, c, d, e) (put-five m at _ _ _ _ _ l)
