@@ -4,11 +4,10 @@ use mathlib.Core.Bool.{Bool, true, false}
 use mathlib.Core.List.{List, [], _∷_}
 use mathlib.Core.Logic.{_⊎_, inl, inr, ⊎-elim}
 use mathlib.Core.Path.{_≡_, refl, _∙_}
-use borrow.Author.Tests.{eq-eqb}
 use Rattle.route.specs.Route.{Answer, none, route, View, heard}
-use Rattle.route.proofs.Tests.{and-both, eq-or-ne, true-false-absurd}
+use Rattle.route.proofs.Tests.{eq-or-ne, true-false-absurd}
 use Rattle.reference.specs.State.{Machine, State, views, tick}
-use Rattle.reference.specs.Step.{plan, deliver, isEmpty, isOpen, sameCells, sameAnswer}
+use Rattle.reference.specs.Step.{plan, deliver, isEmpty, isOpen, sameAnswer}
 use Rattle.reference.specs.Take.{isNews, planAs, oldest, newer, deliverTo, afterStep}
 use Rattle.reference.specs.Effects.{Planned, Delivered}
 use Rattle.reference.proofs.OpenLaws.{deliver-full}

@@ -2,7 +2,6 @@
 use native.Mathlib.Omega.{arith}
 use Rattle.machine.proofs.PowerLaws.{power-big, most-low, most-high, most-is}
 use mathlib.Core.Path.{_∙_}
-use Prim.Native.Nat.{_-_}
 use Rattle.machine.specs.Ceiling.{figureOf}
 use borrow.Author.Needs.{needs}
 use Rattle.machine.proofs.ceiling.Statement.{statement}

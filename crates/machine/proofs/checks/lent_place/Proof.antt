@@ -1,7 +1,6 @@
 -- `machine::checks::lent_place` meets its contract: the floor first, then the room.
 use Rattle.machine.proofs.VerdictLaws.{checked-few}
 use mathlib.Core.Path.{refl, _∙_}
-use Prim.Native.Nat.{_-_}
 use Rattle.floor.proofs.AnswersLaws.{hands-on, ends-at, passes}
 use Rattle.layout.specs.Calls.{placeVerdict}
 use borrow.Author.Needs.{needs}

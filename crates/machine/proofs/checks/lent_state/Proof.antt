@@ -3,7 +3,6 @@ use Rattle.machine.proofs.VerdictLaws.{place-tells}
 use Rattle.floor.proofs.VerdictLaws.{demand-passes}
 use mathlib.Core.Bool.{Bool}
 use mathlib.Core.Path.{sym, _∙_, ap}
-use Prim.Native.Nat.{_-_}
 use Rattle.floor.proofs.AnswersLaws.{hands-on, ends-at, passes}
 use Rattle.floor.specs.Answers.{verdictOf}
 use Rattle.floor.specs.Verdict.{demand}

@@ -1,7 +1,6 @@
 -- `machine::checks::listed` meets its contract: the lent state first, then the names of the whole list.
 use Rattle.machine.proofs.VerdictLaws.{names-are}
 use mathlib.Core.Path.{_∙_}
-use Prim.Native.Nat.{_-_}
 use Rattle.floor.proofs.AnswersLaws.{hands-on, ends-at}
 use Rattle.layout.specs.Calls.{runVerdict}
 use borrow.Author.Needs.{needs}

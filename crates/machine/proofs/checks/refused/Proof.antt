@@ -1,6 +1,5 @@
 -- `machine::checks::refused` meets its contract: the refusal with its number.
 use mathlib.Core.Path.{refl}
-use Prim.Native.Nat.{_-_}
 use Rattle.floor.specs.Verdict.{demand}
 use Rattle.floor.specs.Answers.{verdictOf}
 use Rattle.machine.proofs.checks.refused.Statement.{statement}

@@ -5,7 +5,6 @@ use Rattle.machine.proofs.VerdictLaws.{state-tells, seven-stops, eight-
 use mathlib.Core.Bool.{Bool}
 use borrow.Author.Tests.{not-true, not-false}
 use mathlib.Core.Path.{sym, _∙_, ap}
-use Prim.Native.Nat.{_-_}
 use Rattle.floor.proofs.AnswersLaws.{hands-on, ends-at, passes}
 use Rattle.floor.specs.Answers.{verdictOf}
 use Rattle.floor.specs.Verdict.{demand}

@@ -1,6 +1,5 @@
 -- `machine::power::refused` meets its contract: refusal 2, field 5.
 use mathlib.Core.Path.{refl}
-use Prim.Native.Nat.{_-_}
 use Rattle.machine.specs.Ceiling.{figureOf}
 use Rattle.machine.proofs.power.refused.Statement.{statement}
 use Rattle.machine.proofs.power.refused.Tie as tie

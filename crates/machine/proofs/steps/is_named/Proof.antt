@@ -1,6 +1,5 @@
 -- `machine::steps::is_named` meets its contract: a case a kind of step.
 use mathlib.Core.Path.{refl, _∙_}
-use Prim.Native.Nat.{_-_}
 use Rattle.reference.specs.Step.{named}
 use Rattle.machine.specs.Answers.{meant}
 use Rattle.machine.specs.Inner.{machineWith, bare}

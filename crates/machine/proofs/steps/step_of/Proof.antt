@@ -1,5 +1,4 @@
 -- `machine::steps::step_of` meets its contract: a law a case of the number.
-use Prim.Native.Nat.{_-_}
 use Rattle.machine.specs.Answers.{meant}
 use Rattle.machine.proofs.OpenLaws.{low-none, plan-is, middle-none, high-none, ten-none, deliver-is}
 use borrow.Author.Needs.{needs}

@@ -1,8 +1,6 @@
 -- `machine::steps::way_named` meets its contract: the sender above the receiver, then the receiver there.
 use borrow.Author.Tests.{lt-ltb, le-ltb}
 use mathlib.Core.Path.{refl}
-use Prim.Native.Nat.{_-_}
-use Rattle.floor.specs.Verdict.{_then_}
 use Rattle.state.proofs.EachLaws.{and-stop, and-next}
 use Rattle.machine.proofs.steps.way_named.Statement.{statement}
 use Rattle.machine.proofs.steps.way_named.Tie as tie

@@ -1,7 +1,6 @@
 -- `machine::take::deliver_now` meets its contract: the five stores in the order of the definition.
 use Rattle.machine.proofs.TakeLaws.{delivery-stored}
 use mathlib.Core.Path.{refl}
-use Prim.Native.Nat.{_-_}
 use Rattle.reference.specs.Take.{kept}
 use Rattle.layout.specs.Places.{stateSize}
 use Rattle.machine.specs.Answers.{saidBy}

@@ -2,7 +2,7 @@
 use Rattle.machine.proofs.TakeLaws.{plan-stores, plan-sent, plan-kept}
 use mathlib.Core.List.{_∷_}
 use mathlib.Core.Path.{sym, _∙_, ap}
-use Prim.Native.Nat.{ℕ, _-_}
+use Prim.Native.Nat.{ℕ}
 use Rattle.planner.proofs.RecordLaws.{found-record}
 use Rattle.machine.specs.Answers.{saidBy}
 use borrow.Author.Needs.{needs}

@@ -1,7 +1,6 @@
 -- `machine::take::record_plan` meets its contract: news are sent, anything else is only stored; each is counted.
 use Rattle.machine.proofs.TakeLaws.{news-stored, old-stored}
 use mathlib.Core.Path.{sym, _∙_}
-use Prim.Native.Nat.{_-_}
 use Rattle.reference.specs.Take.{kept}
 use Rattle.layout.specs.Places.{stateSize}
 use native.Mathlib.Omega.{arith}

@@ -1,6 +1,5 @@
 -- `machine::take::turned` meets its contract: the refusal as it was met.
 use mathlib.Core.Path.{refl}
-use Prim.Native.Nat.{_-_}
 use Rattle.layout.specs.Calls.{replyIf}
 use Rattle.machine.specs.Answers.{steppedReply}
 use Rattle.floor.specs.Answers.{verdictOf}

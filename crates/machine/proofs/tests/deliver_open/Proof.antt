@@ -1,6 +1,4 @@
 -- `machine::tests::deliver_open` meets its contract: a law a case: sender not above, receiver not there, or the channel decides.
-use mathlib.Core.Bool.{not}
-use Prim.Native.Nat.{_-_}
 use Rattle.machine.proofs.OpenLaws.{deliver-up, deliver-away, deliver-there}
 use borrow.Author.Needs.{needs}
 use Rattle.machine.proofs.tests.deliver_open.Statement.{statement}

@@ -1,8 +1,6 @@
 -- `machine::tests::has_place` meets its contract: a carrier that is not below needs no place; otherwise the channel decides.
-use mathlib.Core.Bool.{not}
 use borrow.Author.Tests.{le-leb, lt-leb}
 use mathlib.Core.Path.{refl, sym}
-use Prim.Native.Nat.{_-_}
 use Rattle.machine.specs.Inner.{roomAt}
 use borrow.Author.Needs.{needs}
 use Rattle.machine.proofs.tests.has_place.Statement.{statement}

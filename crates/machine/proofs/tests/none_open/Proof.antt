@@ -1,8 +1,5 @@
 -- `machine::tests::none_open` meets its contract: the plan first, then the deliveries.
 use mathlib.Core.Path.{sym, _∙_}
-use Prim.Native.Nat.{_-_}
-use Rattle.reference.specs.Step.{plan}
-use Rattle.floor.specs.Verdict.{_then_}
 use Rattle.layout.specs.Steps.{noneOpenIn}
 use Rattle.machine.specs.Inner.{notDelivered}
 use Rattle.state.proofs.EachLaws.{and-stop, and-next}

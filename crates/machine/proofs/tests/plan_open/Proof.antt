@@ -1,6 +1,4 @@
 -- `machine::tests::plan_open` meets its contract: a law a case: not there, not due, or the room decides.
-use mathlib.Core.Bool.{not}
-use Prim.Native.Nat.{_-_}
 use Rattle.layout.specs.Places.{stateSize}
 use Rattle.machine.proofs.OpenLaws.{plan-away, plan-rests, plan-due}
 use native.Mathlib.Omega.{arith}

@@ -1,5 +1,4 @@
 -- `state::channels::push` meets its contract: with room the record stands behind the others and is counted; without, nothing changes.
-use Prim.Native.Nat.{_-_}
 use Rattle.state.proofs.RecordLaws.{push-room, push-full}
 use native.Mathlib.Omega.{arith}
 use borrow.Author.Needs.{needs}

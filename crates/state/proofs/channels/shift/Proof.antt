@@ -1,6 +1,5 @@
 -- `state::channels::shift` meets its contract: three records moved up and one cleared, in the order of the definition.
 use mathlib.Core.Path.{refl, _∙_}
-use Prim.Native.Nat.{_-_}
 use Rattle.layout.specs.Steps.{shifted}
 use borrow.Author.Needs.{needs}
 use Rattle.state.proofs.channels.shift.Statement.{statement}

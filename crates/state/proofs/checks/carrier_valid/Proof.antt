@@ -1,6 +1,5 @@
 -- `state::checks::carrier_valid` meets its contract: the three tests in their order.
 use borrow.Author.Tests.{le-leb, lt-leb}
-use Prim.Native.Nat.{_-_}
 use Rattle.layout.specs.Valid.{carrierValid}
 use Rattle.state.proofs.EachLaws.{and-stop, and-next}
 use Rattle.layout.specs.Places.{plannedPlace, duePlace, answerPlace}

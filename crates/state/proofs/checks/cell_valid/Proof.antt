@@ -1,7 +1,6 @@
 -- `state::checks::cell_valid` meets its contract: the test that applies decides.
 use borrow.Author.Tests.{lt-ltb, le-ltb}
 use mathlib.Core.Path.{refl}
-use Prim.Native.Nat.{_-_}
 use Rattle.layout.specs.Valid.{cellValid}
 use Rattle.state.proofs.checks.cell_valid.Statement.{statement}
 use Rattle.state.proofs.checks.cell_valid.Tie as tie

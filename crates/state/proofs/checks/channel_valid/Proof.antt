@@ -1,6 +1,5 @@
 -- `state::checks::channel_valid` meets its contract: the length first, then the four places.
 use borrow.Author.Tests.{le-leb, lt-leb}
-use Prim.Native.Nat.{_-_}
 use Rattle.layout.specs.Valid.{channelValid}
 use Rattle.state.proofs.EachLaws.{and-stop, and-next}
 use borrow.Author.Needs.{needs}

@@ -3,7 +3,6 @@ use borrow.Author.Tests.{not-true, not-false}
 use mathlib.Core.Bool.{true, false}
 use denote.Ref.{now}
 use mathlib.Core.Path.{_≡_, refl, sym, _∙_}
-use Prim.Native.Nat.{_-_}
 use Rattle.layout.specs.Valid.{recordValid, pairValid}
 use Rattle.layout.specs.Places.{viewPlace}
 use borrow.Author.Needs.{needs}

@@ -1,7 +1,6 @@
 -- `state::checks::place_valid` meets its contract: whether the place has a message decides which tags it may have.
 use borrow.Author.Tests.{lt-ltb, le-ltb}
 use mathlib.Core.Path.{refl, _∙_}
-use Prim.Native.Nat.{_-_}
 use Rattle.layout.specs.Valid.{placeValid}
 use borrow.Author.Needs.{needs}
 use Rattle.state.proofs.checks.place_valid.Statement.{statement}

@@ -6,7 +6,7 @@ use borrow.Author.Tests.{le-leb, lt-leb}
 use denote.Ref.{now}
 use lib.ListN.{getD}
 use mathlib.Core.Path.{refl, sym}
-use Prim.Native.Nat.{_-_, _≤_, _<_}
+use Prim.Native.Nat.{_≤_}
 use Rattle.layout.specs.Valid.{recordValid}
 use borrow.Author.Needs.{needs}
 use Rattle.state.proofs.checks.record_valid.Statement.{statement}

@@ -1,7 +1,6 @@
 -- `state::checks::used_by` meets its contract: a route uses its beats, anything else nothing.
 use borrow.Author.Tests.{eq-eqb, ne-eqb}
 use mathlib.Core.Path.{refl}
-use Prim.Native.Nat.{_-_}
 use Rattle.layout.specs.Valid.{usedBy}
 use borrow.Author.Needs.{needs}
 use Rattle.state.proofs.checks.used_by.Statement.{statement}

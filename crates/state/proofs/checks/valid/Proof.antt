@@ -3,7 +3,6 @@ use denote.Ref.{now}
 use lib.ListN.{getD}
 use borrow.Author.Tests.{lt-ltb, le-ltb, not-true, not-false}
 use mathlib.Core.Path.{refl, sym, _∙_}
-use Prim.Native.Nat.{_-_}
 use Rattle.layout.specs.Valid.{countValid, valid}
 use Rattle.layout.specs.Places.{stateSize}
 use native.Mathlib.Omega.{arith}

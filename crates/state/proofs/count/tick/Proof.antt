@@ -1,5 +1,4 @@
 -- `state::count::tick` meets its contract: a law a case: the rest, the thousands, or all as it was.
-use Prim.Native.Nat.{_-_}
 use Rattle.state.proofs.CountLaws.{tick-rest, tick-thousands, tick-full}
 use borrow.Author.Needs.{needs}
 use Rattle.state.proofs.count.tick.Statement.{statement}

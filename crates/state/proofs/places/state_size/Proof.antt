@@ -1,6 +1,5 @@
 -- `state::places::state_size` meets its contract: the sum of its parts.
 use mathlib.Core.Path.{refl}
-use Prim.Native.Nat.{_-_}
 use Rattle.layout.specs.Places.{stateSize}
 use native.Mathlib.Omega.{arith}
 use borrow.Author.Needs.{needs}

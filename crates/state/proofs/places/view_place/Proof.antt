@@ -1,6 +1,5 @@
 -- `state::places::view_place` meets its contract: the number of the pair is below that of all pairs, so the view ends within the state.
 use mathlib.Core.Path.{refl}
-use Prim.Native.Nat.{_-_}
 use Rattle.layout.specs.Places.{viewPlace, stateSize}
 use Rattle.layout.proofs.ValidPartLaws.{pair-below}
 use Rattle.state.proofs.PlaceLaws.{pairs-most}

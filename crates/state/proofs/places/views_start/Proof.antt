@@ -1,5 +1,5 @@
 -- `state::places::views_start` meets its contract: the views of carrier i end where those of the next begin.
-use Prim.Native.Nat.{suc, _-_}
+use Prim.Native.Nat.{suc}
 use Rattle.layout.specs.Places.{viewPlace, stateSize}
 use Rattle.state.proofs.PlaceLaws.{pairs-next, pairs-rise}
 use native.Mathlib.Omega.{arith}

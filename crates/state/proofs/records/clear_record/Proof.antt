@@ -1,5 +1,4 @@
 -- `state::records::clear_record` meets its contract: a record of tag 0 and 64 zeros.
-use Prim.Native.Nat.{_-_}
 use Rattle.layout.specs.Encode.{fit}
 use borrow.Author.Needs.{needs}
 use Rattle.state.proofs.records.clear_record.Statement.{statement}

@@ -1,5 +1,4 @@
 -- `state::records::is_news` meets its contract: a law a case: not planned before, another tag, other cells or the same.
-use Prim.Native.Nat.{_-_}
 use Rattle.state.proofs.RecordLaws.{news-first, news-tag, news-cells}
 use borrow.Author.Needs.{needs}
 use Rattle.state.proofs.records.is_news.Statement.{statement}

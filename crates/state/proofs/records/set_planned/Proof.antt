@@ -2,7 +2,7 @@
 use denote.Ref.{now}
 use lib.ListN.{length, set, length-set}
 use mathlib.Core.Path.{_≡_, _∙_}
-use Prim.Native.Nat.{_+_, _*_, _-_}
+use Prim.Native.Nat.{_+_, _*_}
 use Rattle.state.proofs.CountLaws.{put-three}
 use Rattle.layout.specs.Places.{plannedPlace}
 use native.Mathlib.Omega.{arith}

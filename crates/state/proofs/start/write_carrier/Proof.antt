@@ -3,7 +3,7 @@ use mathlib.Core.List.{List, _∷_}
 use denote.Ref.{now}
 use lib.ListN.{set, replicate, length-set}
 use mathlib.Core.Path.{refl, _∙_}
-use Prim.Native.Nat.{ℕ, _+_, _*_, _-_}
+use Prim.Native.Nat.{ℕ, _+_, _*_}
 use Rattle.state.proofs.FreshLaws.{carrier-is}
 use Rattle.state.proofs.CountLaws.{put-three}
 use native.Mathlib.Omega.{arith}

@@ -1,6 +1,5 @@
 -- `state::start::write_fresh` meets its contract: the count, the carriers and zeros are the fresh state.
 use mathlib.Core.Path.{refl, _∙_}
-use Prim.Native.Nat.{_-_}
 use Rattle.state.proofs.FreshLaws.{fresh-whole}
 use Rattle.layout.specs.Places.{stateSize}
 use native.Mathlib.Omega.{arith}
