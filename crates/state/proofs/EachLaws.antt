@@ -6,7 +6,7 @@ use mathlib.Core.Bool.{Bool, true, false, _&&_, not}
 use mathlib.Core.Path.{_≡_, refl, sym, _∙_, ap}
 use borrow.Author.Tests.{not-true, not-false, lt-ltb, le-ltb, le-leb, lt-leb, eq-eqb, ne-eqb}
 use borrow.Author.Needs.{needs}
-use Rattle.route.proofs.Tests.{not-true-is-false, true-false-absurd}
+use Rattle.route.proofs.Tests.{and-both, not-true-is-false, true-false-absurd}
 use Rattle.reference.specs.Ranges.{each}
 use Rattle.reference.proofs.RangeLaws.{each-holds}
 
@@ -46,3 +46,6 @@ and-stop a b e = rw e refl
 
 pub and-next : {r : Bool} (a b : Bool) → a ≡ true → r ≡ b → r ≡ a && b
 and-next a b e h = rw e h
+
+-- What a branch of the code comes to in a definition that makes the same test.
+pub ruleset tests = (lt-ltb, le-ltb, le-leb, lt-leb, eq-eqb, ne-eqb, and-stop, and-next, and-both, said-no, said-yes, needs)
