@@ -6,8 +6,9 @@ use native.Mathlib.Numerals.{add-one}
 use mathlib.Core.Path.{_≡_, refl, sym, _∙_, ap, ap₂}
 use mathlib.Core.List.{List, [], _∷_, _++_, append-assoc}
 use lib.ListN.{length, replicate, length-append, length-replicate, replicate-append-replicate}
+use borrow.Author.Needs.{needs}
 use Rattle.memory.specs.Memory.{put}
-use Rattle.memory.proofs.PutLaws.{put-next}
+use Rattle.memory.proofs.PutLaws.{put-none, put-next}
 use Rattle.planner.specs.Records.{recordOf}
 use Rattle.reference.specs.State.{fresh}
 use Rattle.layout.specs.Places.{pairsBefore, stateSize}
@@ -49,6 +50,8 @@ carriers-more m m′ m″ i l e g =
     rw add-one
     (put-next m m′ m″ (blocks i (carrierBlock fresh)) (carrierBlock fresh i) 2 (2 + 67 * i) e g (omega (arith, fresh-length i))
     (omega (arith, carrier-length i)))
+
+pub ruleset fresh-start = (put-none, needs)
 
 view-zeros : (i j : ℕ) → slot (fresh .view i j) ≡ replicate 65 0
 unfolding slot fresh fit
