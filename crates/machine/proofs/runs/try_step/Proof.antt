@@ -6,11 +6,6 @@ use borrow.Author.Needs.{needs}
 use Rattle.machine.proofs.runs.try_step.Statement.{statement}
 use Rattle.machine.proofs.runs.try_step.Tie as tie
 
-is-open-requires : tie.Need-is-open-requires
-is-open-requires c κs =
-    let start : tie.Start = search in
-    (start .pre .few, start .pre .room)
-
 take-step-requires : tie.Need-take-step-requires
 take-step-requires c κs =
     let start : tie.Start = search in
@@ -32,5 +27,5 @@ returns-2 c =
 
 pub try-step-spec : {M : Type 1} → statement M
 try-step-spec =
-    tie.close (tie.spec (λ c κs. search needs) is-open-requires take-step-requires (λ c. search needs) returns
+    tie.close (tie.spec (λ c κs. search needs) (λ c κs. search needs) take-step-requires (λ c. search needs) returns
     (λ c. search needs) returns-2)

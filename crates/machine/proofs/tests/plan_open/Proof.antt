@@ -4,19 +4,12 @@ use Rattle.machine.specs.Inner.{machineWith, bare, roomAt}
 use Rattle.layout.specs.Steps.{openIn, readyIn, roomIn}
 use Rattle.reference.specs.Step.{named}
 use Rattle.layout.specs.Places.{duePlace, stateSize}
-use native.Mathlib.Omega.{arith}
 use borrow.Author.Needs.{needs}
 use Rattle.machine.proofs.tests.plan_open.Statement.{statement}
 use Rattle.machine.proofs.tests.plan_open.Tie as tie
 
-shared-slice-read-if2 : tie.Need-shared-slice-read-if2
-unfolding stateSize
-shared-slice-read-if2 c =
-    let start : tie.Start = search in
-    omega (arith, c .before .if1 .left, start .pre)
-
 pub plan-open-spec : {M : Type 1} → statement M
-unfolding openIn named readyIn roomIn roomAt bare machineWith duePlace
+unfolding openIn named readyIn roomIn roomAt bare machineWith duePlace stateSize
 plan-open-spec =
     tie.close (tie.spec (λ c. search needs) (λ c. search tests) (λ c. search needs) (λ c. search needs)
-    (λ c. search needs) shared-slice-read-if2 (λ c. search tests) (λ c κs. search needs) (λ c. search tests))
+    (λ c. search needs) (λ c. search needs) (λ c. search tests) (λ c κs. search needs) (λ c. search tests))
