@@ -9,10 +9,10 @@ use Rattle.state.proofs.places.views_start.Tie as tie
 
 returns : tie.Need-returns
 unfolding viewPlace stateSize
-returns c = let a = c .pairs-before .ensures in
-    let l = pairs-rise (suc (c .before .args .i)) (c .before .args .n) (c .before .pre .0) in
+returns c =
+    let rise = pairs-rise (suc (c .before .args .i)) (c .before .args .n) (c .before .pre .0) in
     let next = pairs-next (c .before .args .i) in
-    (rw (a .0) (omega arith), omega arith, omega arith)
+    omega arith
 
 pub views-start-spec : {M : Type 1} → statement M
 views-start-spec =
