@@ -73,7 +73,7 @@ zeros-refused f k l =
     (zeros-fail f k))
 
 -- More carriers have more pairs.
-pairs-grow : (k n : ℕ) → n ≤ k → pairsBefore n ≤ pairsBefore k
+pub pairs-grow : (k n : ℕ) → n ≤ k → pairsBefore n ≤ pairsBefore k
 unfolding pairsBefore
 pairs-grow zero zero l = omega arith
 pairs-grow zero (suc n) l = absurd (omega arith)

@@ -19,17 +19,8 @@ use Rattle.reference.specs.Calls.{ran}
 use Rattle.layout.specs.Numbers.{stepOf}
 use Rattle.layout.specs.Steps.{openIn, takenIn, silentIn}
 use Rattle.layout.specs.Runs.{RanIn, withFirst, runIn, numberTaken, endingIn}
+use Rattle.layout.proofs.RunLaws.{took-in, passed-in}
 use Rattle.machine.specs.Inner.{Running, Tried, took as Tried·took, passed as Tried·passed, Tallied, endsWith}
-
-module _ (M : Machine) (m : List ℕ) (x : Step) (xs : List Step) (b : ℕ) where
-  -- An open step is taken, any other is passed over.
-  run-took : openIn M m x ≡ true → runIn M m (x ∷ xs) (suc b) ≡ withFirst (took x) (runIn M (takenIn M m x) xs b)
-  unfolding runIn
-  run-took e = rw (e, runIn) refl
-
-  run-passed : openIn M m x ≡ false → runIn M m (x ∷ xs) (suc b) ≡ withFirst (passed x) (runIn M m xs (suc b))
-  unfolding runIn
-  run-passed e = rw (e, runIn) refl
 
 took-counts : (x : Step) (r : RanIn) → numberTaken (withFirst (took x) r) ≡ suc (numberTaken r)
 unfolding numberTaken withFirst stepsTaken
@@ -48,8 +39,8 @@ taken-within M m (x ∷ xs) (suc b) = go (openIn M m x) refl (taken-within M (ta
   where
     go : (t : Bool) → openIn M m x ≡ t → numberTaken (runIn M (takenIn M m x) xs b) ≤ b → numberTaken (runIn M m xs (suc b)) ≤ suc b →
         numberTaken (runIn M m (x ∷ xs) (suc b)) ≤ suc b
-    go true e p q = rw (run-took M m x xs b e) (omega (arith, took-counts x (runIn M (takenIn M m x) xs b)))
-    go false e p q = rw (run-passed M m x xs b e) (omega (arith, passed-counts x (runIn M m xs (suc b))))
+    go true e p q = rw (took-in M m x xs b e) (omega (arith, took-counts x (runIn M (takenIn M m x) xs b)))
+    go false e p q = rw (passed-in M m x xs b e) (omega (arith, passed-counts x (runIn M m xs (suc b))))
 
 -- A run that reads no further.
 abbrev stopped : List ℕ → List Step → RanIn
@@ -63,16 +54,13 @@ module _ (M : Machine) (m₀ xs : List ℕ) (b : ℕ) where
   pub running-start : Running M m₀ xs b m₀ 0 0
   running-start =
       let all : runIn M m₀ (map stepOf xs) b ≡ runIn M m₀ (map stepOf (drop 0 xs)) (b - 0) =
-      ap (λ (k : ℕ). runIn M m₀ (map stepOf xs) k) whole in
+      ap (λ (k : ℕ). runIn M m₀ (map stepOf xs) k) (omega arith) in
       record {
         kept = refl;
         memory = ap (λ (r : RanIn). r .memory) all;
         taken = ap numberTaken all ∙ sym (zero-add (numberTaken (runIn M m₀ (map stepOf (drop 0 xs)) (b - 0))));
         unread = ap (λ (r : RanIn). r .unread) all;
       }
-    where
-      whole : b ≡ b - 0
-      whole = omega arith
 
   -- The next step of the list.
   next : (p : ℕ) → p < length xs → map stepOf (drop p xs) ≡ stepOf (getD xs p 0) ∷ map stepOf (drop (p + 1) xs)
@@ -100,13 +88,13 @@ module _ (M : Machine) (m₀ xs : List ℕ) (b : ℕ) where
       let x = stepOf (getD xs p 0) in
       let less : b - t ≡ suc (b - (t + 1)) = omega arith in
       more m m′ p t r k s (took x) (λ q. omega (arith, one, took-counts x q))
-      (rw (next p l, less, run-took M m x (map stepOf (drop (p + 1) xs)) (b - (t + 1)) e, one, sym g) refl)
+      (rw (next p l, less, took-in M m x (map stepOf (drop (p + 1) xs)) (b - (t + 1)) e, one, sym g) refl)
   running-more m m′ p t r l h k s (Tried·passed e none g) =
       let x = stepOf (getD xs p 0) in
       let less : b - t ≡ suc (b - (t + 1)) = omega arith in
       let same : b - (t + r) ≡ suc (b - (t + 1)) = omega arith in
       more m m′ p t r k s (passed x) (λ q. omega (arith, none, passed-counts x q))
-      (rw (next p l, less, run-passed M m x (map stepOf (drop (p + 1) xs)) (b - (t + 1)) e, same, sym g) refl)
+      (rw (next p l, less, passed-in M m x (map stepOf (drop (p + 1) xs)) (b - (t + 1)) e, same, sym g) refl)
 
   -- The run reads no further: what it has come to.
   stops : (m : List ℕ) (ys : List Step) (p t : ℕ) → t ≤ b → Running M m₀ xs b m p t →

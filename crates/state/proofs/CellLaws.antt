@@ -31,11 +31,8 @@ module _ (m : List ℕ) (at : ℕ) where
             ⊎-elim
             (λ (e : q ≡ t). rw e (getD-set-same cells t (getD m (at + t) 0) 0 (omega (arith, h .long))))
             (λ (b : q < t). getD-set-other cells t q (getD m (at + t) 0) 0 (λ e. omega arith) ∙ h .copied q b)
-            (eq-or-lt-of-le (below q k));
+            (eq-or-lt-of-le (omega arith));
       }
-    where
-      below : (q : ℕ) → q < t + 1 → q ≤ t
-      below q k = omega arith
 
   pub copied-end : (cells : List ℕ) (t : ℕ) → 64 ≤ t → at + 64 ≤ length m → Copied m at cells t → cells ≡ part m at 64
   copied-end cells t l s h =
@@ -48,11 +45,8 @@ module _ (m : List ℕ) (at : ℕ) where
       record {
         long = h .long;
         copied = λ q k.
-            ⊎-elim (λ (same : q ≡ t). rw same (sym e)) (λ (b : q < t). h .copied q b) (eq-or-lt-of-le (below q k));
+            ⊎-elim (λ (same : q ≡ t). rw same (sym e)) (λ (b : q < t). h .copied q b) (eq-or-lt-of-le (omega arith));
       }
-    where
-      below : (q : ℕ) → q < t + 1 → q ≤ t
-      below q k = omega arith
 
   pub same-end : (cells : List ℕ) (t : ℕ) → 64 ≤ t → at + 64 ≤ length m → Copied m at cells t → true ≡ sameCells (part m at 64) cells
   same-end cells t l s h = rw (sym (copied-end cells t l s h)) (sym (cells-same cells))
