@@ -84,12 +84,14 @@ module _ (M : Machine) (s : State) (h : Sound M s) where
       has-planned : (k : ℕ) → z .due k ≡ false → z .planned k ≡ true
       has-planned k e =
           ⊎-elim (λ (q : k ≡ i). rw q (plan-planned s i a .there))
-          (λ (n : k ≡ i → ⊥). plan-planned s i a .elsewhere k n ∙ h .has-planned k (sym (plan-clears s i a .elsewhere k n) ∙ e)) (eq-or-ne k i)
+          (λ (n : k ≡ i → ⊥). plan-planned s i a .elsewhere k n ∙ h .has-planned k (sym (plan-clears s i a .elsewhere k n) ∙ e))
+          (eq-or-ne k i)
 
       is-best : (k : ℕ) → z .due k ≡ false → z .answer k ≡ M .respond k (views z k)
       is-best k e =
           ⊎-elim (λ (q : k ≡ i). rw (q, plan-view s i a) (plan-answer s i a .there))
-          (λ (n : k ≡ i → ⊥). rw (plan-view s i a) (plan-answer s i a .elsewhere k n ∙ h .is-best k (sym (plan-clears s i a .elsewhere k n) ∙ e)))
+          (λ (n : k ≡ i → ⊥).
+          rw (plan-view s i a) (plan-answer s i a .elsewhere k n ∙ h .is-best k (sym (plan-clears s i a .elsewhere k n) ∙ e)))
           (eq-or-ne k i)
 
       is-said : (k j : ℕ) → j < k → latest (z .view k j) (z .chan k j) ≡ said z j
@@ -117,7 +119,8 @@ module _ (M : Machine) (s : State) (h : Sound M s) where
 
       to-i : (m : ℕ) → m < i → (m ≡ j) ⊎ (m ≡ j → ⊥) → latest (z .view i m) (z .chan i m) ≡ said s m
       to-i m l (inl q) =
-          rw (q, deliver-view s j i .there, deliver-chan s j i .there, latest-delivered (s .view i j) (s .chan i j)) (h .is-said i j (rw q at l))
+          rw (q, deliver-view s j i .there, deliver-chan s j i .there, latest-delivered (s .view i j) (s .chan i j))
+          (h .is-said i j (rw q at l))
       to-i m l (inr n) = rw (deliver-view s j i .beside m n, deliver-chan s j i .beside m n) (h .is-said i m l)
 
       is-said : (k m : ℕ) → m < k → latest (z .view k m) (z .chan k m) ≡ said z m

@@ -39,7 +39,8 @@ module _ (P : Answer → Type 0) where
       where
         answers : (k : ℕ) → P (planAs s i a .answer k)
         answers k =
-            ⊎-elim (λ (q : k ≡ i). rw (q, plan-answer s i a .there) p) (λ (n : k ≡ i → ⊥). rw (plan-answer s i a .elsewhere k n) (h .answers k))
+            ⊎-elim (λ (q : k ≡ i). rw (q, plan-answer s i a .there) p)
+            (λ (n : k ≡ i → ⊥). rw (plan-answer s i a .elsewhere k n) (h .answers k))
             (eq-or-ne k i)
 
         messages : (k j : ℕ) → (planAs s i a .chan k j ≡ s .chan k j) ⊎

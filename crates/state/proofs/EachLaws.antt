@@ -44,8 +44,10 @@ not-open e h = rw (← e, h) refl
 pub not-shut : {b x : Bool} → b ≡ x → b ≡ false → not x ≡ true
 not-shut e h = rw (← e, h) refl
 
+pub ruleset said = (said-no, said-yes, not-open, not-shut)
+
 -- What each answer of such a loop is found with.
-pub ruleset each-turn = (each-start, each-more, each-stop, each-end, said-no, said-yes, not-open, not-shut, needs)
+pub ruleset each-turn = (each-start, each-more, each-stop, each-end, said, needs)
 
 -- A test of two in turn: the first does not hold, or it holds and the second decides.
 pub and-stop : (a b : Bool) → a ≡ false → false ≡ a && b
@@ -55,4 +57,4 @@ pub and-next : {r : Bool} (a b : Bool) → a ≡ true → r ≡ b → r ≡ a &&
 and-next a b e h = rw e h
 
 -- What a branch of the code comes to in a definition that makes the same test.
-pub ruleset tests = (lt-ltb, le-ltb, le-leb, lt-leb, eq-eqb, ne-eqb, and-stop, and-next, and-both, said-no, said-yes, not-open, not-shut, needs)
+pub ruleset tests = (lt-ltb, le-ltb, le-leb, lt-leb, eq-eqb, ne-eqb, and-stop, and-next, and-both, said, needs)

@@ -22,8 +22,10 @@ unfolding readWord readRecord readStored readFloor ofVerdict
 returns-3 c =
     let after-enum-told : tie.After-enum-told = search in
     let after-read : tie.After-read = search in
-    let ok = passes (after-read .read .ensures .0) (after-enum-told .enum-told .given .1) in
-    (says-lent _ _ (search) (rw ok (c .done .ensures)), (stores-lent _ _ (search) (cc (chosen-passed _ _ ok)), stores-lent _ _ (search) (cc)))
+    let ok = passes (after-read .read .ensures .0) (after-enum-told .enum-told .given .1) in (
+      says-lent _ _ (search) (rw ok (c .done .ensures)),
+      (stores-lent _ _ (search) (cc (chosen-passed _ _ ok)), stores-lent _ _ (search) (cc)),
+    )
 
 pub kalomivund-read-sheet-spec : {M : Type 1} → statement M
 unfolding readWord readRecord readStored

@@ -17,7 +17,8 @@ returns c =
     let after-is-open : tie.After-is-open = search in
     let after-step-of : tie.After-step-of = search in
     rw (sym (after-step-of .step-of .ensures))
-    (took (sym (open-with _ _ _ _) ∙ sym (after-is-open .is-open .ensures) ∙ then1 .if1 .taken) refl (c .before .before .take-step .ensures .1))
+    (took (sym (open-with _ _ _ _) ∙ sym (after-is-open .is-open .ensures) ∙ then1 .if1 .taken) refl
+    (c .before .before .take-step .ensures .1))
 
 returns-2 : tie.Need-returns-2
 returns-2 c =
