@@ -10,7 +10,7 @@ use Rattle.floor.specs.declared.Floor.{Floor}
 use Rattle.floor.specs.Verdict.{passed}
 use Rattle.floor.specs.Checks.{checkOf, roomOf}
 use Rattle.floor.proofs.VerdictLaws.{then-passed, demand-passes}
-use Rattle.memory.specs.Memory.{put}
+use Rattle.laws.specs.Memory.{put}
 use Rattle.reference.specs.State.{Machine, State, fresh}
 use Rattle.reference.specs.History.{Reaches, stay}
 use Rattle.reference.specs.Table.{Call}

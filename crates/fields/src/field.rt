@@ -2,7 +2,7 @@
 ghost use mathlib.Core.Path.{_≡_};
 ghost use Prim.Native.Nat.{_+_, _-_, _%_, _≤_, _<_};
 ghost use lib.ListN.{length};
-ghost use Rattle.memory.specs.Memory.{put};
+ghost use Rattle.laws.specs.Memory.{put};
 ghost use Rattle.fields.specs.Field.{numberAt, fieldOf, isField};
 ghost use Rattle.fields.specs.Field.{column as Field·column};
 

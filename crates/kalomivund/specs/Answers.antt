@@ -2,7 +2,7 @@
 use Prim.Native.Nat.{ℕ}
 use mathlib.Core.List.{List, [], _∷_}
 use lib.ListN.{length}
-use Rattle.memory.specs.Memory.{put}
+use Rattle.laws.specs.Memory.{put}
 use Rattle.floor.specs.Checks.{roomOf}
 use Rattle.sheet.specs.Read.{chosen}
 use Rattle.route.specs.Route.{Answer, none, route}

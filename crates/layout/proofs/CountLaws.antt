@@ -5,8 +5,8 @@ use mathlib.Core.List.{List, [], _∷_, _++_}
 use mathlib.Core.Logic.{⊎-elim}
 use mathlib.Core.Path.{_≡_, refl, sym, _∙_, ap}
 use borrow.Author.Tests.{lt-ltb, le-ltb}
-use Rattle.route.proofs.Tests.{lt-or-le}
-use Rattle.memory.specs.Memory.{put}
+use Rattle.laws.proofs.Tests.{lt-or-le}
+use Rattle.laws.specs.Memory.{put}
 use Rattle.reference.specs.State.{State, tick}
 use Rattle.layout.specs.Encode.{countBlock, encode}
 use Rattle.layout.specs.Steps.{ticked}

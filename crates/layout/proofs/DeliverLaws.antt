@@ -6,9 +6,9 @@ use mathlib.Core.List.{List, [], _∷_, _++_}
 use mathlib.Core.Logic.{⊎-elim}
 use mathlib.Core.Path.{_≡_, refl, sym, _∙_, ap}
 use lib.ListN.{length}
-use Rattle.memory.specs.Memory.{put as putBlock}
+use Rattle.laws.specs.Memory.{put as putBlock}
 use Rattle.route.specs.Route.{Answer, heard}
-use Rattle.route.proofs.Tests.{eq-or-ne, true-false-absurd}
+use Rattle.laws.proofs.Tests.{eq-or-ne, true-false-absurd}
 use Rattle.reference.specs.Ranges.{put, putPair}
 use Rattle.reference.specs.State.{State, tick}
 use Rattle.reference.specs.Step.{isEmpty}

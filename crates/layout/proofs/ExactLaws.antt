@@ -8,7 +8,7 @@ use mathlib.Core.Path.{_≡_, refl, sym, _∙_, ap}
 use lib.ListN.{length, getD, replicate, take, drop, take-append-drop}
 use Rattle.floor.specs.declared.Floor.{Floor}
 use Rattle.floor.specs.Checks.{within}
-use Rattle.route.proofs.Tests.{and-fst, and-snd, not-true-is-false, true-false-absurd}
+use Rattle.laws.proofs.Tests.{and-fst, and-snd, not-true-is-false, true-false-absurd}
 use Rattle.reference.specs.State.{State, fresh}
 use Rattle.reference.specs.Ranges.{each}
 use Rattle.reference.specs.Bounds.{AllOf, ShownOf}

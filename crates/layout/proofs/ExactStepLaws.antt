@@ -7,7 +7,7 @@ use mathlib.Core.Path.{_≡_, refl, _∙_, ap}
 use borrow.Author.Tests.{leb-true, le-leb}
 use lib.Dec.{leb}
 use Rattle.floor.specs.Checks.{within}
-use Rattle.route.proofs.Tests.{and-both, and-fst, and-snd, not-true-is-false}
+use Rattle.laws.proofs.Tests.{and-both, and-fst, and-snd, not-true-is-false}
 use Rattle.reference.specs.Step.{plan, deliver, noKind}
 use Rattle.layout.specs.Numbers.{way, stepOf}
 

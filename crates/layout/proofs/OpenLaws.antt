@@ -9,7 +9,7 @@ use lib.Dec.{leb, ltb, eqb}
 use lib.ListN.{length, getD}
 use borrow.Author.Tests.{ltb-true, le-leb, ne-eqb}
 use Rattle.route.specs.Route.{Answer}
-use Rattle.route.proofs.Tests.{and-fst, and-snd, lt-or-le}
+use Rattle.laws.proofs.Tests.{and-fst, and-snd, lt-or-le}
 use Rattle.reference.specs.Ranges.{each}
 use Rattle.reference.specs.State.{Machine, State}
 use Rattle.reference.specs.Step.{Step, plan, deliver, noKind, named, hasRoom, isEmpty, ready, isOpen}

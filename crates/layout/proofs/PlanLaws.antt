@@ -5,9 +5,9 @@ use mathlib.Core.List.{List, _∷_, _++_}
 use mathlib.Core.Logic.{⊎-elim}
 use mathlib.Core.Path.{_≡_, refl, sym, _∙_, ap}
 use lib.ListN.{length}
-use Rattle.memory.specs.Memory.{put as putBlock}
+use Rattle.laws.specs.Memory.{put as putBlock}
 use Rattle.route.specs.Route.{Answer, none, route, heard}
-use Rattle.route.proofs.Tests.{true-or-false}
+use Rattle.laws.proofs.Tests.{true-or-false}
 use Rattle.planner.specs.Records.{recordOf}
 use Rattle.planner.proofs.ViewLaws.{Whole}
 use Rattle.reference.specs.Ranges.{put}

@@ -5,7 +5,7 @@ use native.Mathlib.Nat.{add-zero}
 use mathlib.Core.Path.{_≡_, refl}
 use mathlib.Core.List.{List, [], _∷_, _++_}
 use lib.ListN.{length, getD}
-use Rattle.memory.specs.Memory.{part}
+use Rattle.laws.specs.Memory.{part}
 use Rattle.route.specs.Route.{heard}
 use Rattle.reference.specs.State.{State}
 use Rattle.layout.specs.Places.{plannedPlace, duePlace, answerPlace, viewPlace, channelPlace}

@@ -9,12 +9,12 @@ use mathlib.Core.Path.{_≡_, refl, sym, _∙_, ap}
 use borrow.Author.Tests.{ltb-true, leb-true, eqb-true, lt-ltb, le-ltb, le-leb, eq-eqb}
 use lib.Dec.{leb, ltb, eqb}
 use lib.ListN.{length, getD, getD-replicate, List·getD-eq-default}
-use Rattle.memory.specs.Memory.{part}
-use Rattle.memory.proofs.PartLaws.{part-byte, part-length, part-is, part-reach}
+use Rattle.laws.specs.Memory.{part}
+use Rattle.laws.proofs.PartLaws.{part-byte, part-length, part-is, part-reach}
 use Rattle.floor.specs.declared.Floor.{Floor}
 use Rattle.floor.specs.Checks.{within}
 use Rattle.route.specs.Route.{Answer, none, route, View, unheard, heard}
-use Rattle.route.proofs.Tests.{and-both, and-fst, and-snd, lt-or-le, eq-or-ne}
+use Rattle.laws.proofs.Tests.{and-both, and-fst, and-snd, lt-or-le, eq-or-ne}
 use Rattle.route.specs.Views.{viewOf}
 use Rattle.planner.specs.Records.{recordOf}
 use Rattle.planner.proofs.ViewLaws.{Whole}

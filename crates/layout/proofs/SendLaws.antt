@@ -9,7 +9,7 @@ use lib.Dec.{ltb}
 use lib.ListN.{length}
 use borrow.Author.Tests.{lt-ltb, le-ltb, eq-eqb, ne-eqb}
 use Rattle.route.specs.Route.{Answer}
-use Rattle.route.proofs.Tests.{eq-or-ne, lt-or-le}
+use Rattle.laws.proofs.Tests.{eq-or-ne, lt-or-le}
 use Rattle.planner.specs.Records.{recordOf}
 use Rattle.reference.specs.State.{State}
 use Rattle.reference.specs.Take.{send}

@@ -7,7 +7,7 @@ use mathlib.Core.Logic.{⊎-elim}
 use mathlib.Core.Path.{_≡_, refl, _∙_, ap}
 use lib.ListN.{length}
 use Rattle.route.specs.Route.{Answer, View}
-use Rattle.route.proofs.Tests.{true-or-false, true-false-absurd}
+use Rattle.laws.proofs.Tests.{true-or-false, true-false-absurd}
 use Rattle.planner.specs.Records.{recordOf}
 use Rattle.planner.proofs.ViewLaws.{Whole}
 use Rattle.reference.specs.State.{Machine, State, views}

@@ -8,11 +8,11 @@ use mathlib.Core.Path.{_≡_, refl, sym, _∙_, ap, ap₂}
 use borrow.Author.Tests.{leb-true, lt-ltb, le-ltb, le-leb}
 use lib.Dec.{leb, leb·suc-suc}
 use lib.ListN.{length, getD}
-use Rattle.memory.specs.Memory.{part}
-use Rattle.memory.proofs.PartLaws.{part-byte, part-split, part-blocks, part-none}
+use Rattle.laws.specs.Memory.{part}
+use Rattle.laws.proofs.PartLaws.{part-byte, part-split, part-blocks, part-none}
 use Rattle.floor.specs.declared.Floor.{Floor}
 use Rattle.route.specs.Route.{Answer, View, unheard, heard}
-use Rattle.route.proofs.Tests.{and-both, and-fst, and-snd}
+use Rattle.laws.proofs.Tests.{and-both, and-fst, and-snd}
 use Rattle.reference.specs.Ranges.{each}
 use Rattle.reference.specs.Bounds.{AllOf}
 use Rattle.reference.proofs.RangeLaws.{each-holds, each-true}

@@ -7,11 +7,11 @@ use mathlib.Core.Path.{_≡_, refl, sym, _∙_, ap, ap₂}
 use borrow.Author.Tests.{ltb-true, leb-true}
 use lib.Dec.{leb, ltb, eqb}
 use lib.ListN.{length, getD}
-use Rattle.memory.proofs.PartLaws.{part-split, part-none}
-use Rattle.memory.specs.Memory.{part}
+use Rattle.laws.proofs.PartLaws.{part-split, part-none}
+use Rattle.laws.specs.Memory.{part}
 use Rattle.floor.specs.declared.Floor.{Floor}
 use Rattle.route.specs.Route.{heard}
-use Rattle.route.proofs.Tests.{and-fst, and-snd}
+use Rattle.laws.proofs.Tests.{and-fst, and-snd}
 use Rattle.reference.specs.Ranges.{each}
 use Rattle.reference.specs.State.{State}
 use Rattle.reference.proofs.RangeLaws.{each-holds}

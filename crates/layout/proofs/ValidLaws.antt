@@ -6,9 +6,9 @@ use mathlib.Core.List.{List, _++_}
 use mathlib.Core.Path.{_≡_}
 use borrow.Author.Tests.{lt-ltb, le-leb}
 use lib.ListN.{length, take}
-use Rattle.memory.specs.Memory.{part}
+use Rattle.laws.specs.Memory.{part}
 use Rattle.floor.specs.declared.Floor.{Floor}
-use Rattle.route.proofs.Tests.{and-both}
+use Rattle.laws.proofs.Tests.{and-both}
 use Rattle.reference.specs.Ranges.{each}
 use Rattle.reference.specs.State.{State}
 use Rattle.reference.proofs.RangeLaws.{each-true}

@@ -6,8 +6,8 @@ use mathlib.Core.List.{List, [], _∷_, _++_}
 use mathlib.Core.Logic.{⊎-elim}
 use mathlib.Core.Path.{_≡_, refl, sym, _∙_, ap, ap₂}
 use lib.ListN.{length, getD}
-use Rattle.memory.specs.Memory.{part}
-use Rattle.memory.proofs.PartLaws.{part-is, part-split, part-none}
+use Rattle.laws.specs.Memory.{part}
+use Rattle.laws.proofs.PartLaws.{part-is, part-split, part-none}
 use Rattle.layout.specs.Places.{pairsBefore}
 use Rattle.layout.specs.Encode.{blocks, pairs}
 

@@ -6,7 +6,7 @@ use mathlib.Core.Path.{_≡_, refl, sym, _∙_, ap}
 use mathlib.Core.List.{List, [], _++_, append-assoc, append-nil}
 use lib.ListN.{length, take, drop, getD, length-append, List·getD-append}
 use lib.Seq.{take-at, drop-at, getD-append-add, drop-drop}
-use Rattle.memory.specs.Memory.{put, part}
+use Rattle.laws.specs.Memory.{put, part}
 
 -- Memory m has block b at place p, and m′ is the same with block b′.
 pub record Window (p : ℕ) (m m′ b b′ : List ℕ) : Type 0 where

@@ -2,7 +2,7 @@
 use Prim.Native.Nat.{ℕ, _^_, suc, _-_}
 use mathlib.Core.List.{List, map}
 use lib.ListN.{length, getD}
-use Rattle.memory.specs.Memory.{put}
+use Rattle.laws.specs.Memory.{put}
 use Rattle.floor.specs.declared.Floor.{Floor}
 use Rattle.floor.specs.Verdict.{Verdict, passed, refused, _then_, demand, each}
 use Rattle.floor.specs.Checks.{checkOf, roomOf, within}

@@ -3,7 +3,7 @@ use Prim.Native.Nat.{ℕ, zero, suc, _+_, _*_}
 use mathlib.Core.List.{List, [], _∷_}
 use lib.Dec.{eqb}
 use lib.ListN.{getD}
-use Rattle.memory.specs.Memory.{part}
+use Rattle.laws.specs.Memory.{part}
 use Rattle.route.specs.Route.{Answer, none, View, unheard, heard}
 use Rattle.route.specs.Views.{viewOf}
 use Rattle.reference.specs.State.{State}

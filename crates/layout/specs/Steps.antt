@@ -4,7 +4,7 @@ use mathlib.Core.Bool.{Bool, true, false, _&&_, _||_, not, cond}
 use mathlib.Core.List.{List, [], _∷_}
 use lib.Dec.{leb, ltb, eqb}
 use lib.ListN.{getD}
-use Rattle.memory.specs.Memory.{put, part}
+use Rattle.laws.specs.Memory.{put, part}
 use Rattle.route.specs.Route.{Answer, View}
 use Rattle.planner.specs.Records.{recordOf}
 use Rattle.reference.specs.Ranges.{each, below}

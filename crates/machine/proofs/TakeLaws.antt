@@ -7,10 +7,10 @@ use mathlib.Core.Path.{_≡_, refl, sym, _∙_, ap, fun-ext}
 use lib.Dec.{ltb}
 use lib.ListN.{length}
 use borrow.Author.Tests.{ltb-true}
-use Rattle.memory.specs.Memory.{put}
+use Rattle.laws.specs.Memory.{put}
 use Rattle.floor.specs.declared.Floor.{Floor}
 use Rattle.route.specs.Route.{Answer, View}
-use Rattle.route.proofs.Tests.{and-fst, and-snd}
+use Rattle.laws.proofs.Tests.{and-fst, and-snd}
 use Rattle.search.specs.Rows.{FreeRows}
 use Rattle.planner.specs.Plan.{respondOf, respondWith}
 use Rattle.planner.specs.Records.{recordOf}

@@ -7,8 +7,8 @@ use mathlib.Core.Logic.{⊎-elim}
 use mathlib.Core.Path.{_≡_, refl, sym, _∙_, ap, ap₂}
 use lib.ListN.{length, getD, take, drop}
 use lib.Seq.{ext-getD}
-use Rattle.memory.specs.Memory.{part}
-use Rattle.memory.proofs.PartLaws.{part-byte, part-length}
+use Rattle.laws.specs.Memory.{part}
+use Rattle.laws.proofs.PartLaws.{part-byte, part-length}
 use Rattle.floor.specs.declared.Floor.{Floor}
 use Rattle.route.specs.Route.{View}
 use Rattle.route.specs.Search.{best}

@@ -7,7 +7,7 @@ use mathlib.Core.List.{List}
 use mathlib.Core.Path.{_≡_, refl, sym, _∙_}
 use lib.Dec.{ltb, eqb}
 use Rattle.route.specs.Moves.{vacant, every}
-use Rattle.route.proofs.Tests.{and-snd}
+use Rattle.laws.proofs.Tests.{and-snd}
 use Rattle.words.specs.Rows.{has}
 use Rattle.words.proofs.RowsLaws.{place-same}
 use Rattle.tables.specs.declared.Scene.{Scene}

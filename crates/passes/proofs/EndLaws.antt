@@ -10,7 +10,7 @@ use borrow.Author.Tests.{eq-eqb}
 use lib.Dec.{eqb}
 use lib.ListN.{length, getD, length-set, replicate}
 use lib.Seq.{getD-set-other}
-use Rattle.route.proofs.Tests.{and-both, or-cases, or-inr, eqbs-say, true-false-absurd, lt-or-le}
+use Rattle.laws.proofs.Tests.{and-both, or-cases, or-inr, eqbs-say, true-false-absurd, lt-or-le}
 use Rattle.words.specs.Words.{digit}
 use Rattle.words.specs.Rows.{has, added, written}
 use Rattle.words.proofs.DigitLaws.{digit-zero}

@@ -6,7 +6,7 @@ use native.Mathlib.Nat.{eq-or-lt-of-le}
 use mathlib.Core.Bool.{Bool, true, false}
 use mathlib.Core.Logic.{⊎-elim}
 use mathlib.Core.Path.{_≡_, refl, _∙_}
-use Rattle.route.proofs.Tests.{lt-or-le, true-false-absurd}
+use Rattle.laws.proofs.Tests.{lt-or-le, true-false-absurd}
 use Rattle.passes.specs.Passes.{lastNot}
 
 module _ (p : ℕ → Bool) where

@@ -9,7 +9,7 @@ use mathlib.Core.Path.{_≡_, refl, sym, ap, _∙_}
 use borrow.Author.Tests.{eqb-true, eq-eqb}
 use lib.Dec.{eqb}
 use lib.ListN.{getD}
-use Rattle.route.proofs.Tests.{and-both, and-fst, and-snd, or-cases, or-inl, or-inr, lt-or-le, true-false-absurd}
+use Rattle.laws.proofs.Tests.{and-both, and-fst, and-snd, or-cases, or-inl, or-inr, lt-or-le, true-false-absurd}
 use Rattle.words.specs.Words.{digit}
 use Rattle.words.specs.Rows.{has, added}
 use Rattle.words.proofs.DigitLaws.{digit-zero}

@@ -6,7 +6,7 @@ use mathlib.Core.Logic.{_⊎_, inl, inr, ⊎-elim}
 use mathlib.Core.Path.{_≡_, refl, sym, _∙_}
 use Rattle.route.specs.Route.{Neighbours, SharesSide}
 use Rattle.route.specs.Moves.{near}
-use Rattle.route.proofs.Tests.{true-false-absurd}
+use Rattle.laws.proofs.Tests.{true-false-absurd}
 use Rattle.route.proofs.NearLaws.{near-says, near-holds, shares-side-sym}
 use Rattle.words.proofs.RowsLaws.{place-same}
 use Rattle.words.proofs.StepLaws.{before}

@@ -9,7 +9,7 @@ use mathlib.Core.Path.{_≡_, refl, sym, _∙_}
 use borrow.Author.Tests.{eqb-true, eq-eqb, le-ltb}
 use lib.Dec.{eqb, ltb}
 use Rattle.route.specs.Moves.{near}
-use Rattle.route.proofs.Tests.{and-both, and-fst, and-snd, lt-or-le, eq-or-ne, true-false-absurd}
+use Rattle.laws.proofs.Tests.{and-both, and-fst, and-snd, lt-or-le, eq-or-ne, true-false-absurd}
 use Rattle.words.specs.Rows.{has, dropped}
 use Rattle.words.proofs.RowsLaws.{has-dropped, length-dropped, place-row}
 use Rattle.tables.specs.declared.Scene.{Scene}

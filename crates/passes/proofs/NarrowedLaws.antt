@@ -11,7 +11,7 @@ use lib.Dec.{eqb}
 use lib.ListN.{getD}
 use Rattle.route.specs.Route.{Neighbours, SharesSide}
 use Rattle.route.specs.Moves.{near}
-use Rattle.route.proofs.Tests.{and-both, and-fst, lt-or-le}
+use Rattle.laws.proofs.Tests.{and-both, and-fst, lt-or-le}
 use Rattle.route.proofs.NearLaws.{near-says}
 use Rattle.words.specs.Words.{digit}
 use Rattle.words.specs.Rows.{has, narrowRow, narrowAt, Within}

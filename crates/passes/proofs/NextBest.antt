@@ -9,7 +9,7 @@ use borrow.Author.Tests.{leb-true, le-leb, ltb-true, lt-ltb}
 use lib.Dec.{leb, ltb}
 use Rattle.route.specs.Route.{Neighbours, SharesSide}
 use Rattle.route.specs.Moves.{near}
-use Rattle.route.proofs.Tests.{true-false-absurd}
+use Rattle.laws.proofs.Tests.{true-false-absurd}
 use Rattle.route.proofs.NearLaws.{near-says, near-holds}
 use Rattle.passes.specs.Walk.{nextOf}
 use Rattle.passes.proofs.NextLaws.{next-up, next-left, next-here, next-right, next-down, next-none}

@@ -5,7 +5,7 @@ use mathlib.Core.List.{List}
 use mathlib.Core.Path.{_≡_, refl, _∙_}
 use borrow.Author.Tests.{ltb-true, lt-ltb, le-ltb}
 use lib.Dec.{leb, ltb}
-use Rattle.route.proofs.Tests.{and-fst, and-snd}
+use Rattle.laws.proofs.Tests.{and-fst, and-snd}
 use Rattle.words.specs.Rows.{has}
 use Rattle.tables.specs.declared.Scene.{Scene}
 use Rattle.tables.specs.Ways.{wayOpen}

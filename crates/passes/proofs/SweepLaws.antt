@@ -9,7 +9,7 @@ use mathlib.Core.Logic.{inl, inr, ⊎-elim}
 use mathlib.Core.Path.{_≡_, refl, sym, ap, _∙_}
 use borrow.Author.Tests.{lt-leb}
 use lib.Dec.{leb}
-use Rattle.route.proofs.Tests.{true-false-absurd}
+use Rattle.laws.proofs.Tests.{true-false-absurd}
 use Rattle.tables.specs.declared.Scene.{Scene}
 use Rattle.tables.specs.declared.window.Window.{Window}
 use Rattle.tables.specs.Table.{inSet}

@@ -9,7 +9,7 @@ use mathlib.Core.Logic.{⊎-elim}
 use mathlib.Core.Path.{_≡_, refl, sym, _∙_}
 use borrow.Author.Tests.{lt-leb, le-leb}
 use lib.Dec.{leb}
-use Rattle.route.proofs.Tests.{true-false-absurd}
+use Rattle.laws.proofs.Tests.{true-false-absurd}
 use Rattle.tables.specs.declared.Scene.{Scene}
 use Rattle.passes.specs.Passes.{Earliest}
 use Rattle.passes.specs.Walk.{stepOf, pathOf}

@@ -14,8 +14,8 @@ use Rattle.route.specs.Sequential.{sequential}
 use Rattle.route.proofs.Theorems.{theorems}
 use Rattle.route.specs.Views.{viewsOf, records}
 use Rattle.search.specs.Task.{taskOfRows}
-use Rattle.memory.specs.Memory.{put}
-use Rattle.memory.proofs.PutLaws.{put-none, put-length, put-next}
+use Rattle.laws.specs.Memory.{put}
+use Rattle.laws.proofs.PutLaws.{put-none, put-length, put-next}
 use Rattle.planner.specs.Plan.{respondWith}
 use Rattle.planner.specs.Records.{recordOf, recordsOf, stored}
 use Rattle.planner.proofs.ViewLaws.{Whole, records-snoc, plan-length, views-are, are-views}

@@ -7,7 +7,7 @@ use Rattle.floor.specs.declared.Floor.{Floor}
 use Rattle.floor.specs.Verdict.{passed, refused}
 use Rattle.route.specs.Sequential.{sequential}
 use Rattle.search.specs.Task.{taskOf, taskOfRows}
-use Rattle.memory.specs.Memory.{put}
+use Rattle.laws.specs.Memory.{put}
 use Rattle.planner.specs.declared.Planned.the-variants.{Failing}
 use Rattle.planner.specs.Plan.{respondOf, respondWith, planOf, planVerdict, failingOf}
 use Rattle.planner.specs.Records.{stored, storedIf, planMemory, firstFrom}

@@ -6,7 +6,7 @@ use mathlib.Core.List.{List, _++_}
 use lib.ListN.{length, getD, take, drop, List·getD-append}
 use lib.Seq.{getD-take, length-take-le}
 use Rattle.floor.specs.declared.Floor.{Floor}
-use Rattle.memory.specs.Memory.{put}
+use Rattle.laws.specs.Memory.{put}
 use Rattle.search.specs.Rows.{Searchable}
 use Rattle.tables.specs.Table.{sceneOf}
 use Rattle.tables.specs.Room.{Roomy}

@@ -5,7 +5,7 @@ use mathlib.Core.Path.{_≡_, refl, _∙_, ap}
 use mathlib.Core.List.{List, [], _∷_, _++_, append-assoc}
 use lib.ListN.{length, take, drop, length-append}
 use lib.Seq.{take-at, drop-at}
-use Rattle.memory.specs.Memory.{put}
+use Rattle.laws.specs.Memory.{put}
 use Rattle.route.specs.Route.{Answer}
 use Rattle.planner.specs.Records.{recordOf, recordsOf, stored}
 use Rattle.planner.specs.Claims.{answerAt}

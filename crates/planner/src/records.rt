@@ -3,7 +3,7 @@ ghost use mathlib.Core.Path.{_≡_};
 ghost use mathlib.Core.List.{_∷_};
 ghost use Prim.Native.Nat.{_+_, _*_, _≤_};
 ghost use lib.ListN.{length};
-ghost use Rattle.memory.specs.Memory.{put};
+ghost use Rattle.laws.specs.Memory.{put};
 ghost use Rattle.planner.specs.Records.{tagOf, firstFrom};
 use route::Route;
 use search::Outcome;

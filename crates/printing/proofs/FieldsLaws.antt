@@ -6,8 +6,8 @@ use mathlib.Core.Path.{_≡_, refl, sym, _∙_, ap}
 use mathlib.Core.List.{List, [], _∷_, _++_, append-assoc, append-nil}
 use lib.ListN.{length, getD, take, set, length-append}
 use lib.Seq.{length-take-le, take-suc, take-all}
-use Rattle.memory.specs.Memory.{put}
-use Rattle.memory.proofs.PutLaws.{put-none, put-length, put-next}
+use Rattle.laws.specs.Memory.{put}
+use Rattle.laws.proofs.PutLaws.{put-none, put-length, put-next}
 use Rattle.fields.specs.Field.{fieldOf}
 use Rattle.sheet.specs.Text.{lineOf}
 use Rattle.sheet.proofs.LineLaws.{field-length, field-next, newline-next}

@@ -6,8 +6,8 @@ use mathlib.Core.Path.{_≡_, sym, _∙_, ap}
 use mathlib.Core.List.{List, _++_, append-nil}
 use lib.ListN.{length, getD, set, take, drop, length-drop}
 use lib.Seq.{length-take-le, getD-take, getD-drop, drop-length}
-use Rattle.memory.specs.Memory.{put}
-use Rattle.memory.proofs.PutLaws.{copy-start, copy-more, copy-end}
+use Rattle.laws.specs.Memory.{put}
+use Rattle.laws.proofs.PutLaws.{copy-start, copy-more, copy-end}
 
 module _ (m : List ℕ) (at : ℕ) (fits : at + 64 ≤ length m) (old : List ℕ) (long : length old ≡ 64) where
   size : length (take 64 (drop at m)) ≡ 64

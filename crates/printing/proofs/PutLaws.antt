@@ -7,8 +7,8 @@ use mathlib.Core.List.{List, _∷_, _++_}
 use borrow.Author.Tests.{eq-eqb, ne-eqb}
 use lib.ListN.{length, getD, take, drop, length-append}
 use lib.Seq.{length-take-le}
-use Rattle.memory.specs.Memory.{put}
-use Rattle.memory.proofs.PutLaws.{put-none, put-length, put-next}
+use Rattle.laws.specs.Memory.{put}
+use Rattle.laws.proofs.PutLaws.{put-none, put-length, put-next}
 use Rattle.floor.specs.declared.Floor.{Floor}
 use Rattle.floor.specs.Checks.{goalOf}
 use Rattle.route.specs.Arrival.{arrivalOf}

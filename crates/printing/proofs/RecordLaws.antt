@@ -6,7 +6,7 @@ use mathlib.Core.Path.{_≡_, refl, sym, _∙_, ap}
 use mathlib.Core.List.{List, [], _∷_, _++_, append-assoc}
 use borrow.Author.Tests.{eq-eqb, ne-eqb}
 use lib.ListN.{length, getD, take, drop, length-append}
-use Rattle.memory.specs.Memory.{put}
+use Rattle.laws.specs.Memory.{put}
 use Rattle.floor.specs.declared.Floor.{Floor}
 use Rattle.route.specs.Route.{Answer, none, route}
 use Rattle.sheet.proofs.LinesText.{lines-same}

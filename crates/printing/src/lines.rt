@@ -3,7 +3,7 @@ ghost use mathlib.Core.Path.{_≡_};
 ghost use mathlib.Core.List.{_∷_, []};
 ghost use Prim.Native.Nat.{_+_, _*_, _≤_, _<_};
 ghost use lib.ListN.{length, take, drop};
-ghost use Rattle.memory.specs.Memory.{put};
+ghost use Rattle.laws.specs.Memory.{put};
 ghost use Rattle.sheet.specs.Text.{lineOf};
 ghost use Rattle.printing.specs.Text.{fieldsOf, noneWord, noneLine, firstLine, refusalLine};
 ghost use Rattle.printing.specs.Put.{textIn, TextPut, LinePut, LinesPut, Printable};

@@ -9,7 +9,7 @@ use lib.Dec.{leb, ltb}
 use lib.ListN.{length, length-append}
 use borrow.Author.Tests.{ltb-true, lt-leb}
 use Rattle.route.specs.Route.{Answer}
-use Rattle.route.proofs.Tests.{lt-or-le, eq-or-ne, or-cases, true-false-absurd}
+use Rattle.laws.proofs.Tests.{lt-or-le, eq-or-ne, or-cases, true-false-absurd}
 use Rattle.reference.specs.State.{Machine, State, fresh, views}
 use Rattle.reference.specs.Step.{Step, plan, deliver, noKind, hasRoom, isOpen}
 use Rattle.reference.specs.Take.{isNews, planAs, newer, deliverTo, afterStep}

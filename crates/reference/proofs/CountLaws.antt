@@ -4,7 +4,7 @@ use native.Mathlib.Omega.{arith}
 use mathlib.Core.Bool.{true}
 use mathlib.Core.List.{List}
 use mathlib.Core.Path.{_≡_, refl}
-use Rattle.route.proofs.Tests.{true-false-absurd}
+use Rattle.laws.proofs.Tests.{true-false-absurd}
 use Rattle.reference.specs.State.{Machine, State, fresh, tick}
 use Rattle.reference.specs.Step.{Step, plan, deliver, noKind, named, isOpen}
 use Rattle.reference.specs.Take.{planAs, deliverTo, afterStep}

@@ -7,7 +7,7 @@ use mathlib.Core.List.{List, [], _∷_}
 use mathlib.Core.Path.{_≡_, refl, ap}
 use lib.ListN.{length}
 use Rattle.route.specs.Route.{Answer}
-use Rattle.route.proofs.Tests.{true-false-absurd}
+use Rattle.laws.proofs.Tests.{true-false-absurd}
 use Rattle.reference.specs.State.{State}
 use Rattle.reference.specs.Step.{isEmpty}
 use Rattle.reference.specs.Take.{newer, deliverTo}

@@ -5,7 +5,7 @@ use mathlib.Core.List.{List, [], _∷_}
 use mathlib.Core.Logic.{_⊎_, inl, inr, ⊎-elim}
 use mathlib.Core.Path.{_≡_, refl, _∙_}
 use Rattle.route.specs.Route.{Answer, none, route, View, heard}
-use Rattle.route.proofs.Tests.{eq-or-ne, true-false-absurd}
+use Rattle.laws.proofs.Tests.{eq-or-ne, true-false-absurd}
 use Rattle.reference.specs.State.{Machine, State, views, tick}
 use Rattle.reference.specs.Step.{plan, deliver, isEmpty, isOpen, sameAnswer}
 use Rattle.reference.specs.Take.{isNews, planAs, oldest, newer, deliverTo, afterStep}

@@ -7,7 +7,7 @@ use mathlib.Core.Logic.{_↔_}
 use mathlib.Core.Path.{_≡_, refl}
 use lib.Dec.{eqb}
 use borrow.Author.Tests.{eqb-true, eq-eqb}
-use Rattle.route.proofs.Tests.{and-fst, and-snd, not-true-is-false, true-false-absurd}
+use Rattle.laws.proofs.Tests.{and-fst, and-snd, not-true-is-false, true-false-absurd}
 use Rattle.reference.specs.State.{Machine, fresh}
 use Rattle.reference.specs.Step.{Step}
 use Rattle.reference.specs.Run.{Ran}

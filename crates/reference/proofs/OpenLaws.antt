@@ -6,7 +6,7 @@ use mathlib.Core.Path.{_≡_, refl}
 use lib.Dec.{ltb}
 use borrow.Author.Tests.{ltb-true, lt-ltb, not-true}
 use Rattle.route.specs.Route.{Answer}
-use Rattle.route.proofs.Tests.{and-both, and-fst, and-snd, true-false-absurd}
+use Rattle.laws.proofs.Tests.{and-both, and-fst, and-snd, true-false-absurd}
 use Rattle.reference.specs.State.{Machine, State}
 use Rattle.reference.specs.Step.{Step, plan, deliver, noKind, named, hasRoom, isEmpty, ready, isOpen}
 

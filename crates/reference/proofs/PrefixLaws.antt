@@ -7,7 +7,7 @@ use mathlib.Core.Logic.{⊎-elim}
 use mathlib.Core.Path.{_≡_, refl, _∙_}
 use Rattle.route.specs.Route.{Answer, heard}
 use Rattle.route.specs.Sequential.{sequential}
-use Rattle.route.proofs.Tests.{lt-or-le, true-false-absurd}
+use Rattle.laws.proofs.Tests.{lt-or-le, true-false-absurd}
 use Rattle.reference.specs.Ranges.{below}
 use Rattle.reference.specs.State.{Machine, State, views}
 use Rattle.reference.specs.Step.{Step, plan, deliver, noKind, isOpen}

@@ -7,7 +7,7 @@ use mathlib.Core.Path.{_≡_, refl}
 use lib.Dec.{leb, ltb}
 use lib.ListN.{length}
 use borrow.Author.Tests.{leb-false, lt-ltb, not-true, not-false}
-use Rattle.route.proofs.Tests.{and-both, and-fst, and-snd, or-inl, or-inr, not-true-is-false, true-or-false, true-false-absurd}
+use Rattle.laws.proofs.Tests.{and-both, and-fst, and-snd, or-inl, or-inr, not-true-is-false, true-or-false, true-false-absurd}
 use Rattle.reference.specs.Ranges.{each}
 use Rattle.reference.specs.State.{Machine, State}
 use Rattle.reference.specs.Step.{Step, plan, deliver, noKind, hasRoom, isEmpty, isOpen}

@@ -7,7 +7,7 @@ use mathlib.Core.List.{map, map-append}
 use mathlib.Core.Logic.{⊎-elim}
 use mathlib.Core.Path.{_≡_, refl}
 use borrow.Author.Tests.{eq-eqb, ne-eqb}
-use Rattle.route.proofs.Tests.{and-both, and-fst, and-snd, true-false-absurd}
+use Rattle.laws.proofs.Tests.{and-both, and-fst, and-snd, true-false-absurd}
 use Rattle.reference.specs.Ranges.{below, each, put, putPair}
 
 pub each-holds : (k : ℕ) (p : ℕ → Bool) → each k p ≡ true → (i : ℕ) → i < k → p i ≡ true

@@ -12,7 +12,7 @@ use Rattle.reference.specs.State.{Machine, State}
 use Rattle.reference.specs.Step.{Step, noKind, named, isOpen}
 use Rattle.reference.specs.Table.{Call, single, runOf, CallVerdict, refusal, ifLent, allNamed, openSingle, verdict}
 use Rattle.reference.specs.Refused.{FirstUnnamed, RefusedWith, short-single, short-run, unnamed-single, unnamed-run, not-open}
-use Rattle.route.proofs.Tests.{lt-or-le}
+use Rattle.laws.proofs.Tests.{lt-or-le}
 use Rattle.reference.proofs.TableLaws.{not-accepted, named-step, unnamed-step, single-unnamed, single-shut, single-passes}
 
 refusal-number : {a b p q : ℕ} → refusal a p ≡ refusal b q → a ≡ b

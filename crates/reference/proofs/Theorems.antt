@@ -6,7 +6,7 @@ use mathlib.Core.Logic.{_⊎_, inl, inr}
 use mathlib.Core.Path.{_≡_, refl, sym, _∙_}
 use lib.ListN.{take}
 use Rattle.route.specs.Sequential.{sequential}
-use Rattle.route.proofs.Tests.{not-true-is-false, true-false-absurd}
+use Rattle.laws.proofs.Tests.{not-true-is-false, true-false-absurd}
 use Rattle.reference.specs.Ranges.{below}
 use Rattle.reference.specs.State.{Machine, State, fresh}
 use Rattle.reference.specs.Step.{Step, isOpen}

@@ -4,7 +4,7 @@ use mathlib.Core.List.{List, [], _∷_, _++_}
 use mathlib.Core.Logic.{_⊎_, inl, inr, ⊎-elim}
 use mathlib.Core.Path.{_≡_}
 use Rattle.route.specs.Route.{Answer, none, View}
-use Rattle.route.proofs.Tests.{eq-or-ne}
+use Rattle.laws.proofs.Tests.{eq-or-ne}
 use Rattle.reference.specs.State.{Machine, State, fresh, views}
 use Rattle.reference.specs.Step.{Step, plan, deliver, noKind}
 use Rattle.reference.specs.Take.{planAs, oldest, newer, deliverTo, afterStep}

@@ -9,7 +9,7 @@ use borrow.Author.Tests.{eq-eqb, ne-eqb}
 use Rattle.route.specs.Route.{cellAt}
 use Rattle.route.specs.Best.{Arrives}
 use Rattle.route.specs.Arrival.{settled, arrivalOf}
-use Rattle.route.proofs.Tests.{lt-or-le, eq-or-ne}
+use Rattle.laws.proofs.Tests.{lt-or-le, eq-or-ne}
 
 module _ (goal : ℕ) (r : List ℕ) where
   pub settled-there : (n : ℕ) → cellAt r n ≡ goal → settled goal r (suc n) ≡ settled goal r n

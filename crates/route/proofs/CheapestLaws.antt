@@ -8,7 +8,7 @@ use mathlib.Core.Path.{_≡_, refl}
 use lib.Dec.{ltb}
 use borrow.Author.Tests.{ltb-true, ltb-false}
 use Rattle.route.specs.Search.{cost, cheaper, cheapest}
-use Rattle.route.proofs.Tests.{true-or-false}
+use Rattle.laws.proofs.Tests.{true-or-false}
 
 pub cost-allowed : (move : ℕ → Bool) (never : ℕ) (value : ℕ → ℕ) (d : ℕ) → move d ≡ true → cost move never value d ≡ value d
 unfolding cost

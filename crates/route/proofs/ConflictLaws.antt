@@ -11,7 +11,7 @@ use borrow.Author.Tests.{eqb-true, eq-eqb}
 use Rattle.route.specs.Route.{cellAt}
 use Rattle.route.specs.Conflict.{VertexConflict, SwapConflict, Conflict, ConflictFree}
 use Rattle.route.specs.Arrival.{meets, swaps, conflicts}
-use Rattle.route.proofs.Tests.{true-false-absurd, not-true-is-false, or-cases, or-inl, or-inr, eqbs-say, eqbs-hold}
+use Rattle.laws.proofs.Tests.{true-false-absurd, not-true-is-false, or-cases, or-inl, or-inr, eqbs-say, eqbs-hold}
 
 module _ (a b : List ℕ) where
   pub swap-says : (t : ℕ) → (eqb (cellAt a t) (cellAt b (suc t)) && eqb (cellAt a (suc t)) (cellAt b t)) ≡ true → SwapConflict a b t

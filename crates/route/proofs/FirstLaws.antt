@@ -7,7 +7,7 @@ use mathlib.Core.Logic.{_⊎_, inl, inr, ⊎-elim}
 use mathlib.Core.Path.{_≡_, sym}
 use lib.Dec.{eqb}
 use Rattle.route.specs.Search.{Rule, later, beatsFrom, val, walk}
-use Rattle.route.proofs.Tests.{lt-or-le}
+use Rattle.laws.proofs.Tests.{lt-or-le}
 use Rattle.route.proofs.CheapestLaws.{cost-allowed}
 use Rattle.route.proofs.Ways.{Way, Held, Inside, Same, Ahead, rest, way-rest, held-rest, held-rest-zero}
 use Rattle.route.proofs.ValLaws.{beats-cases, offer, val-least}

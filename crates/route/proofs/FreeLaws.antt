@@ -10,7 +10,7 @@ use borrow.Author.Tests.{le-ltb}
 use Rattle.route.specs.Route.{Answer, none, route, View, Task}
 use Rattle.route.specs.Moves.{standable, allowed, startClear}
 use Rattle.route.specs.Search.{Rule, val, walk, walkFrom, best}
-use Rattle.route.proofs.Tests.{lt-or-le}
+use Rattle.laws.proofs.Tests.{lt-or-le}
 
 -- The task with other free cells.
 abbrev pub withFree : Task → (ℕ → Bool) → Task

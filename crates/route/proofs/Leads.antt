@@ -10,7 +10,7 @@ use Rattle.route.specs.Route.{cellAt, View, Task}
 use Rattle.route.specs.Best.{Arrives, Before, Admissible, BestRoute}
 use Rattle.route.specs.Moves.{allowed}
 use Rattle.route.specs.Search.{Rule}
-use Rattle.route.proofs.Tests.{lt-or-le}
+use Rattle.laws.proofs.Tests.{lt-or-le}
 use Rattle.route.proofs.Ways.{Way, Held, Same, Ahead, way-same, held-same, held-after}
 use Rattle.route.proofs.AdmissibleLaws.{ByRule, admissible-by-rule, by-rule-admissible}
 

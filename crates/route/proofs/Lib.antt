@@ -1,5 +1,4 @@
 -- Laws of the definitions, the theory of ways over any rule, and the claims. What other crates cite is `pub`.
-pub mod Tests
 pub mod NearLaws
 pub mod MovesLaws
 pub mod ArrivalLaws

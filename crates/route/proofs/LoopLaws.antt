@@ -12,7 +12,7 @@ use borrow.Author.Tests.{ne-eqb}
 use Rattle.route.specs.Route.{cellAt}
 use Rattle.route.specs.Conflict.{VertexConflict, SwapConflict, Conflict}
 use Rattle.route.specs.Arrival.{settled, arrivalOf, meets, swaps, conflicts}
-use Rattle.route.proofs.Tests.{not-true-is-false}
+use Rattle.laws.proofs.Tests.{not-true-is-false}
 use Rattle.route.proofs.ArrivalLaws.{settled-there, settled-away}
 use Rattle.route.proofs.ConflictLaws.{swap-says, conflicts-holds}
 

@@ -11,7 +11,7 @@ use Rattle.route.specs.Route.{cellAt, View, Task}
 use Rattle.route.specs.Best.{Admissible, BestRoute, Best}
 use Rattle.route.specs.Moves.{allowed, startClear}
 use Rattle.route.specs.Search.{Rule, val, walkFrom, best}
-use Rattle.route.proofs.Tests.{true-or-false, true-false-absurd, and-both, and-fst, and-snd}
+use Rattle.laws.proofs.Tests.{true-or-false, true-false-absurd, and-both, and-fst, and-snd}
 use Rattle.route.proofs.Ways.{Inside, way-same, way-held-last}
 use Rattle.route.proofs.ValLaws.{val-least}
 use Rattle.route.proofs.WalkLaws.{trail, trail-start, walked}

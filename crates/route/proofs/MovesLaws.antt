@@ -8,7 +8,7 @@ use lib.Dec.{ltb, eqb}
 use borrow.Author.Tests.{ltb-true, lt-ltb, eqb-true, eq-eqb}
 use Rattle.route.specs.Route.{cellAt, none, route, View, unheard, heard, Task, SharesSide}
 use Rattle.route.specs.Moves.{near, vacant, passable, every, standable, allowed, startClear}
-use Rattle.route.proofs.Tests.{and-both, and-fst, and-snd, not-is-true, not-refutes, eqbs-say, eqbs-hold}
+use Rattle.laws.proofs.Tests.{and-both, and-fst, and-snd, not-is-true, not-refutes, eqbs-say, eqbs-hold}
 use Rattle.route.proofs.NearLaws.{near-says, near-holds}
 
 -- What it says that cell d may be stood on at beat t.

@@ -7,7 +7,7 @@ use lib.Dec.{eqb}
 use borrow.Author.Tests.{eqb-true, eq-eqb}
 use Rattle.route.specs.Route.{Neighbours, SharesSide}
 use Rattle.route.specs.Moves.{neighbours, near}
-use Rattle.route.proofs.Tests.{and-both, and-fst, and-snd, or-cases, or-inl, or-inr}
+use Rattle.laws.proofs.Tests.{and-both, and-fst, and-snd, or-cases, or-inl, or-inr}
 
 neighbours-says : (m n : ℕ) → neighbours m n ≡ true → Neighbours m n
 unfolding neighbours Neighbours

@@ -9,7 +9,7 @@ use Rattle.route.specs.Route.{cellAt, none, route, View, Task}
 use Rattle.route.specs.Best.{Admissible, BestRoute, Best}
 use Rattle.route.specs.Moves.{allowed, startClear}
 use Rattle.route.specs.Search.{Rule, best}
-use Rattle.route.proofs.Tests.{true-false-absurd}
+use Rattle.laws.proofs.Tests.{true-false-absurd}
 use Rattle.route.proofs.Ways.{Held, way-held-last}
 use Rattle.route.proofs.AdmissibleLaws.{ByRule, admissible-by-rule}
 use Rattle.route.proofs.Leads.{Leads, leads-best}

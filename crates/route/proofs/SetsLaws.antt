@@ -6,7 +6,7 @@ use mathlib.Core.Bool.{true}
 use mathlib.Core.Logic.{_⊎_, inl, inr, ⊎-elim}
 use mathlib.Core.Path.{_≡_, refl, sym, _∙_}
 use Rattle.route.specs.Search.{Rule}
-use Rattle.route.proofs.Tests.{lt-or-le}
+use Rattle.laws.proofs.Tests.{lt-or-le}
 use Rattle.route.proofs.Ways.{Way, Held, Same, Ahead}
 use Rattle.route.proofs.Leads.{Leads}
 use Rattle.route.proofs.Sets.{Sets, Reached, Leading, Forward, Holds, Reaches, Least, Backward, Greedy}

@@ -10,7 +10,7 @@ use Rattle.route.specs.Conflict.{ClearOfView, ClearOf}
 use Rattle.route.specs.Best.{Arrives, Before, Admissible, BestRoute, Best}
 use Rattle.route.specs.Arrival.{arrivalOf}
 use Rattle.route.specs.Search.{best}
-use Rattle.route.proofs.Tests.{lt-or-le}
+use Rattle.laws.proofs.Tests.{lt-or-le}
 use Rattle.route.proofs.ArrivalLaws.{arrival-arrives}
 use Rattle.route.proofs.Meets.{best-meets}
 

@@ -8,7 +8,7 @@ use lib.Dec.{eqb}
 use lib.ListN.{getD}
 use borrow.Author.Tests.{eqb-true}
 use Rattle.route.specs.Search.{Rule, later, cost, beatsFrom, val, walk}
-use Rattle.route.proofs.Tests.{true-or-false}
+use Rattle.laws.proofs.Tests.{true-or-false}
 use Rattle.route.proofs.CheapestLaws.{cost-allowed, cost-refused, Offer, cheapest-offer}
 use Rattle.route.proofs.Ways.{Way, Held}
 use Rattle.route.proofs.ValLaws.{beats-cases, offer}

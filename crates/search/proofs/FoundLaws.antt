@@ -13,7 +13,7 @@ use lib.ListN.{length, replicate, length-replicate}
 use Rattle.route.specs.Route.{cellAt, none, route, Task}
 use Rattle.route.specs.Moves.{passable, every, startClear}
 use Rattle.route.specs.Search.{Rule, best}
-use Rattle.route.proofs.Tests.{and-both, and-fst, and-snd, lt-or-le}
+use Rattle.laws.proofs.Tests.{and-both, and-fst, and-snd, lt-or-le}
 use Rattle.route.proofs.Sets.{Sets, Reaches, Greedy}
 use Rattle.route.proofs.SetsBest.{Found, found-best, not-found-best, start-taken-best}
 use Rattle.words.specs.Rows.{filled}

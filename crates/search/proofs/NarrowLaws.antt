@@ -9,8 +9,7 @@ use mathlib.Core.Path.{_≡_, refl}
 use borrow.Author.Tests.{eqb-true, eq-eqb}
 use lib.Dec.{eqb}
 use Rattle.route.specs.Search.{Rule}
-use Rattle.route.proofs.Tests.{and-both, and-fst, and-snd, or-cases, or-inl, or-inr, true-false-absurd}
-use Rattle.words.proofs.Tests.{same-test}
+use Rattle.laws.proofs.Tests.{and-both, and-fst, and-snd, or-cases, or-inl, or-inr, true-false-absurd, same-test}
 use Rattle.route.proofs.Sets.{Sets, Reached, Leading, Forward, Backward, Greedy}
 
 -- Some number below n passes the test.

@@ -13,7 +13,7 @@ use lib.Dec.{ltb}
 use Rattle.route.specs.Route.{Task}
 use Rattle.route.specs.Moves.{near, vacant, passable, every, standable, allowed}
 use Rattle.route.specs.Search.{Rule}
-use Rattle.route.proofs.Tests.{and-both, and-fst, and-snd}
+use Rattle.laws.proofs.Tests.{and-both, and-fst, and-snd}
 use Rattle.route.proofs.Sets.{Sets, Reached, Leading, Holds}
 use Rattle.words.specs.Rows.{has}
 use Rattle.words.proofs.RowsLaws.{place-row}

@@ -14,7 +14,7 @@ use Rattle.floor.specs.Accepted.{Accepted, Within}
 use Rattle.floor.proofs.VerdictLaws.{then-both, then-passed, demand-holds, demand-passes}
 use Rattle.floor.proofs.LimitsLaws.{Bounds, limited-bounds, room-passed}
 use Rattle.floor.proofs.Theorems.{theorems}
-use Rattle.route.proofs.Tests.{and-both, and-fst, and-snd}
+use Rattle.laws.proofs.Tests.{and-both, and-fst, and-snd}
 use Rattle.search.specs.Rows.{FreeRows, Searchable}
 use Rattle.search.specs.Search.{requestOf}
 use Rattle.search.specs.Refused.{Granted}

@@ -14,12 +14,11 @@ use Rattle.floor.specs.declared.Floor.{Floor}
 use Rattle.floor.specs.Checks.{among}
 use Rattle.route.specs.Route.{View}
 use Rattle.route.specs.Search.{best}
-use Rattle.route.proofs.Tests.{true-false-absurd, and-both, and-fst, and-snd, lt-or-le}
+use Rattle.laws.proofs.Tests.{true-false-absurd, and-both, and-fst, and-snd, lt-or-le, same-test}
 use Rattle.route.proofs.FreeLaws.{best-free}
 use Rattle.words.specs.Words.{digit, without}
 use Rattle.words.specs.Rows.{has, Clean}
 use Rattle.words.proofs.DigitLaws.{digit-without, digit-ones, digit-zero}
-use Rattle.words.proofs.Tests.{same-test}
 use Rattle.words.proofs.RowsLaws.{place-row, has-marked, length-marked}
 use Rattle.words.proofs.FillLaws.{has-zeros, length-filled, filled-in, filled-out, zeros-row}
 use Rattle.search.specs.Task.{taskOf, taskOfRows}

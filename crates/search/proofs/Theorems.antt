@@ -20,7 +20,7 @@ use Rattle.route.specs.Conflict.{ClearOf}
 use Rattle.route.specs.Best.{IsRoute, Arrives, Admissible, Best}
 use Rattle.route.specs.Arrival.{arrivalOf}
 use Rattle.route.specs.Search.{best}
-use Rattle.route.proofs.Tests.{and-both, and-fst, and-snd, not-true-is-false}
+use Rattle.laws.proofs.Tests.{and-both, and-fst, and-snd, not-true-is-false}
 use Rattle.route.proofs.Theorems.{theorems as route-theorems}
 use Rattle.route.specs.Views.{viewsOf}
 use Rattle.search.specs.Task.{taskOf}

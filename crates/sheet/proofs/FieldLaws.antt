@@ -14,8 +14,8 @@ use Rattle.floor.proofs.VerdictLaws.{then-both, demand-holds, demand-passes, th
 use Rattle.fields.specs.Field.{column, fieldOf, number, numberAt, isField}
 use Rattle.fields.specs.Form.{fieldForm}
 use Rattle.sheet.specs.Refused.{GoodField}
-use Rattle.memory.specs.Memory.{part}
-use Rattle.memory.proofs.PartLaws.{part-byte, part-reach, part-is}
+use Rattle.laws.specs.Memory.{part}
+use Rattle.laws.proofs.PartLaws.{part-byte, part-reach, part-is}
 
 -- The value of a column is the digit that it writes; a space counts as 0.
 column-value : (p v : ℕ) → column p v - 48 ≡ v / p % 10

@@ -26,8 +26,8 @@ use Rattle.sheet.proofs.CellLaws.{number-value, cell-of-cell}
 use Rattle.sheet.proofs.ListedLaws.{listed-at, upTo-at}
 use Rattle.sheet.proofs.LineLaws.{head-length, carrier-length, wall-length, lines-length}
 use Rattle.sheet.proofs.SheetLaws.{sheet-length}
-use Rattle.memory.specs.Memory.{part}
-use Rattle.memory.proofs.PartLaws.{part-whole, part-blocks}
+use Rattle.laws.specs.Memory.{part}
+use Rattle.laws.proofs.PartLaws.{part-whole, part-blocks}
 use Rattle.sheet.proofs.LineText.{numbersFrom, text-line}
 use Rattle.sheet.proofs.LinesText.{lines-parts}
 

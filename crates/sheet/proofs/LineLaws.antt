@@ -9,8 +9,8 @@ use lib.ListN.{length, set, length-append}
 use Rattle.floor.specs.declared.Floor.{Floor}
 use Rattle.fields.specs.Field.{fieldOf}
 use Rattle.sheet.specs.Text.{lineOf, linesOf, headLine, carrierLine, wallLine}
-use Rattle.memory.specs.Memory.{put}
-use Rattle.memory.proofs.PutLaws.{put-length, put-next, put-one}
+use Rattle.laws.specs.Memory.{put}
+use Rattle.laws.proofs.PutLaws.{put-length, put-next, put-one}
 
 pub field-length : (v : ℕ) → length (fieldOf v) ≡ 5
 unfolding fieldOf

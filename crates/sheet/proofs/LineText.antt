@@ -13,8 +13,8 @@ use Rattle.fields.specs.Field.{fieldOf, numberAt}
 use Rattle.sheet.specs.Text.{lineOf}
 use Rattle.fields.specs.Form.{fieldForm, newlineForm, lineForm}
 use Rattle.sheet.proofs.LineLaws.{field-length}
-use Rattle.memory.specs.Memory.{part}
-use Rattle.memory.proofs.PartLaws.{part-byte, part-reach, part-is, part-split, part-blocks}
+use Rattle.laws.specs.Memory.{part}
+use Rattle.laws.proofs.PartLaws.{part-byte, part-reach, part-is, part-split, part-blocks}
 use Rattle.sheet.proofs.FieldLaws.{field-text, text-field}
 
 -- The m numbers from a column on.

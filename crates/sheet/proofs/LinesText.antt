@@ -8,8 +8,8 @@ use mathlib.Core.List.{List, _++_}
 use lib.ListN.{length}
 use Rattle.sheet.specs.Text.{linesOf}
 use Rattle.sheet.proofs.LineLaws.{lines-length}
-use Rattle.memory.specs.Memory.{part}
-use Rattle.memory.proofs.PartLaws.{part-none, part-split, part-blocks}
+use Rattle.laws.specs.Memory.{part}
+use Rattle.laws.proofs.PartLaws.{part-none, part-split, part-blocks}
 
 -- Lines that agree make the same text.
 pub lines-same : (line line′ : ℕ → List ℕ) (k : ℕ) → ((i : ℕ) → i < k → line i ≡ line′ i) → linesOf line k ≡ linesOf line′ k

@@ -7,8 +7,8 @@ use mathlib.Core.List.{List, _++_, append-assoc}
 use lib.ListN.{length, getD, drop, length-append}
 use Rattle.floor.specs.declared.Floor.{Floor}
 use Rattle.sheet.specs.Text.{headLine, carrierLine, wallLine, carrierLines, wallLines, sheetOf, sheetLength, wallAt}
-use Rattle.memory.specs.Memory.{put}
-use Rattle.memory.proofs.PutLaws.{put-next}
+use Rattle.laws.specs.Memory.{put}
+use Rattle.laws.proofs.PutLaws.{put-next}
 use Rattle.sheet.proofs.LineLaws.{head-length, carrier-length, wall-length, lines-length}
 
 module _ (f : Floor) (ws : List ℕ) where

@@ -19,8 +19,8 @@ use Rattle.sheet.specs.Read.{formOf, sheetVerdict}
 use Rattle.sheet.proofs.CellLaws.{value-number, cell-tells, cell-column, cell-row}
 use Rattle.sheet.proofs.ListedLaws.{listed-at, upTo-at}
 use Rattle.sheet.proofs.FormLaws.{Formed, form-tells, checked-places}
-use Rattle.memory.specs.Memory.{part}
-use Rattle.memory.proofs.PartLaws.{part-split, part-whole}
+use Rattle.laws.specs.Memory.{part}
+use Rattle.laws.proofs.PartLaws.{part-split, part-whole}
 use Rattle.sheet.proofs.LineText.{numbersFrom, line-text}
 use Rattle.sheet.proofs.LinesText.{parts-lines}
 

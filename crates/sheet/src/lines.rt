@@ -6,7 +6,7 @@ ghost use lib.ListN.{length};
 ghost use Rattle.floor.specs.Checks.{startOf, goalOf};
 ghost use Rattle.fields.specs.Field.{fieldOf};
 ghost use Rattle.sheet.specs.Text.{headLine, carrierLine, wallLine, carrierLines, wallLines, sheetOf, sheetLength};
-ghost use Rattle.memory.specs.Memory.{put};
+ghost use Rattle.laws.specs.Memory.{put};
 use fields::put_field;
 use floor::Floor;
 

@@ -6,7 +6,7 @@ use mathlib.Core.Bool.{Bool, true, false, _&&_, not}
 use mathlib.Core.Path.{_≡_, refl, sym, _∙_, ap}
 use borrow.Author.Tests.{not-true, not-false, lt-ltb, le-ltb, le-leb, lt-leb, eq-eqb, ne-eqb}
 use borrow.Author.Needs.{needs}
-use Rattle.route.proofs.Tests.{and-both, not-true-is-false, true-false-absurd}
+use Rattle.laws.proofs.Tests.{and-both, not-true-is-false, true-false-absurd}
 use Rattle.reference.specs.Ranges.{each}
 use Rattle.reference.proofs.RangeLaws.{each-holds}
 

@@ -7,8 +7,8 @@ use mathlib.Core.Path.{_≡_, refl, sym, _∙_, ap, ap₂}
 use mathlib.Core.List.{List, [], _∷_, _++_, append-assoc}
 use lib.ListN.{length, replicate, length-append, length-replicate, replicate-append-replicate}
 use borrow.Author.Needs.{needs}
-use Rattle.memory.specs.Memory.{put}
-use Rattle.memory.proofs.PutLaws.{put-none, put-next}
+use Rattle.laws.specs.Memory.{put}
+use Rattle.laws.proofs.PutLaws.{put-none, put-next}
 use Rattle.planner.specs.Records.{recordOf}
 use Rattle.reference.specs.State.{fresh}
 use Rattle.layout.proofs.SplitLaws.{carrier-length}

@@ -10,8 +10,8 @@ use lib.ListN.{length, getD, set}
 use lib.Seq.{drop-cons}
 use borrow.Author.Tests.{eq-eqb, ne-eqb, lt-ltb, le-ltb}
 use borrow.Author.Needs.{needs}
-use Rattle.memory.specs.Memory.{put, part}
-use Rattle.memory.proofs.PutLaws.{put-one}
+use Rattle.laws.specs.Memory.{put, part}
+use Rattle.laws.proofs.PutLaws.{put-one}
 use Rattle.reference.specs.Step.{sameCells}
 use Rattle.layout.specs.Places.{plannedPlace, answerPlace, channelPlace}
 use Rattle.layout.specs.Steps.{moved, newsIn, pushed, pushedBelow, sentTo}

@@ -3,7 +3,7 @@ ghost use mathlib.Core.Path.{_≡_};
 ghost use mathlib.Core.List.{[], _∷_};
 ghost use Prim.Native.Nat.{_+_, _*_, _≤_, _<_};
 ghost use lib.ListN.{length, getD};
-ghost use Rattle.memory.specs.Memory.{put, part};
+ghost use Rattle.laws.specs.Memory.{put, part};
 ghost use Rattle.reference.specs.Step.{sameCells};
 ghost use Rattle.layout.specs.Places.{plannedPlace, duePlace};
 ghost use Rattle.layout.specs.Encode.{fit};

@@ -3,7 +3,7 @@ ghost use mathlib.Core.Path.{_≡_};
 ghost use mathlib.Core.List.{[], _∷_};
 ghost use Prim.Native.Nat.{_+_, _*_, _≤_, _<_};
 ghost use lib.ListN.{length, replicate};
-ghost use Rattle.memory.specs.Memory.{put};
+ghost use Rattle.laws.specs.Memory.{put};
 ghost use Rattle.reference.specs.State.{fresh};
 ghost use Rattle.layout.specs.Places.{plannedPlace, stateSize};
 ghost use Rattle.layout.specs.Encode.{encode, carrierBlock, blocks};

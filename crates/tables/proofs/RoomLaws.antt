@@ -11,13 +11,12 @@ use borrow.Author.Tests.{eqb-true, eq-eqb, ne-eqb, lt-ltb, le-ltb}
 use lib.Dec.{eqb, ltb}
 use lib.ListN.{length, getD, replicate, length-replicate}
 use Rattle.route.specs.Moves.{vacant, every}
-use Rattle.route.proofs.Tests.{and-fst, lt-or-le, true-false-absurd, eqbs-say, eqbs-hold}
+use Rattle.laws.proofs.Tests.{and-fst, lt-or-le, true-false-absurd, eqbs-say, eqbs-hold, same-test}
 use Rattle.words.specs.Words.{digit}
 use Rattle.words.specs.Rows.{has, droppedAt, Clean}
 use Rattle.words.proofs.DigitLaws.{digit-zero}
 use Rattle.words.proofs.FillLaws.{zeros-row}
 use Rattle.words.proofs.RowsLaws.{place-row, has-dropped, length-dropped, dropped-inside, dropped-outside}
-use Rattle.words.proofs.Tests.{same-test}
 use Rattle.tables.specs.declared.Scene.{Scene}
 use Rattle.route.specs.Views.{records, viewAt}
 use Rattle.tables.specs.Ways.{spotOf}

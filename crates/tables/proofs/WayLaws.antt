@@ -5,7 +5,7 @@ use mathlib.Core.List.{List}
 use mathlib.Core.Path.{_≡_, refl, sym, _∙_}
 use lib.Dec.{eqb}
 use Rattle.route.specs.Moves.{vacant, passable, every}
-use Rattle.route.proofs.Tests.{true-false-absurd, and-both, and-fst, and-snd}
+use Rattle.laws.proofs.Tests.{true-false-absurd, and-both, and-fst, and-snd}
 use Rattle.route.specs.Views.{viewAt, records}
 use Rattle.tables.specs.Ways.{spotOf, wayOpen}
 use Rattle.tables.proofs.ViewsLaws.{vacant-spot, passable-spot}

@@ -6,7 +6,7 @@ use mathlib.Core.Logic.{_⊎_, inl, inr, ⊎-elim}
 use mathlib.Core.Path.{_≡_, ap}
 use borrow.Author.Tests.{lt-ltb, le-ltb}
 use Rattle.route.specs.Route.{Neighbours}
-use Rattle.route.proofs.Tests.{lt-or-le}
+use Rattle.laws.proofs.Tests.{lt-or-le}
 use Rattle.tables.specs.Window.{gap, smaller, larger, spareOf, topOf, heightFor, heightOf, firstRow}
 
 -- Which of the two the smaller is.

@@ -6,8 +6,8 @@ use mathlib.Core.Path.{_≡_, refl, _∙_, ap, ap₂}
 use mathlib.Core.List.{List, [], _∷_, _++_, append-assoc}
 use lib.ListN.{length, take, drop, getD, length-append}
 use lib.Seq.{drop-cons, take-at, drop-at}
-use Rattle.memory.specs.Memory.{part, put}
-use Rattle.memory.proofs.PutLaws.{put-next}
+use Rattle.laws.specs.Memory.{part, put}
+use Rattle.laws.proofs.PutLaws.{put-next}
 use Rattle.floor.specs.declared.Floor.{Floor}
 use Rattle.wire.specs.Record.{floorOf, numbersOf}
 

@@ -2,7 +2,7 @@
 ghost use mathlib.Core.Path.{_≡_};
 ghost use Prim.Native.Nat.{_+_, _≤_};
 ghost use lib.ListN.{length};
-ghost use Rattle.memory.specs.Memory.{part, put};
+ghost use Rattle.laws.specs.Memory.{part, put};
 ghost use Rattle.wire.specs.Record.{floorOf, numbersOf};
 use floor::Floor;
 

@@ -11,7 +11,7 @@ use lib.ListN.{length, getD, set, replicate, length-set, length-replicate, getD-
 use lib.Seq.{getD-set-same, getD-set-other}
 use Rattle.words.specs.Rows.{has, filled, written}
 use Rattle.words.proofs.DigitLaws.{digit-zero}
-use Rattle.words.proofs.Tests.{lt-or-le}
+use Rattle.laws.proofs.Tests.{lt-or-le}
 
 module _ (s : List ℕ) (g : ℕ → ℕ) where
   pub length-filled : (n : ℕ) → length (filled s g n) ≡ length s

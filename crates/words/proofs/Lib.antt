@@ -1,5 +1,4 @@
 -- Laws of digits, of rows and of a step. What other crates cite is `pub`.
-pub mod Tests
 pub mod DigitLaws
 pub mod FillLaws
 pub mod RowsLaws

@@ -16,7 +16,7 @@ use lib.Seq.{getD-set-same, getD-set-other}
 use Rattle.words.specs.Words.{digit, without}
 use Rattle.words.specs.Rows.{has, added, dropped, droppedAt, marked}
 use Rattle.words.proofs.DigitLaws.{digit-or, digit-bit, digit-without}
-use Rattle.words.proofs.Tests.{eq-or-ne, lt-or-le, and-both, and-fst, and-snd, same-test}
+use Rattle.laws.proofs.Tests.{eq-or-ne, lt-or-le, and-both, and-fst, and-snd, same-test}
 
 -- The word with one digit, as the code makes it.
 pub bit-word : (k : ℕ) → k < 32 → 1 * 2 ^ k % 2 ^ 32 ≡ 2 ^ k

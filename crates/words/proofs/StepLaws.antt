@@ -11,7 +11,7 @@ use lib.ListN.{getD}
 use Rattle.words.specs.Words.{digit, without}
 use Rattle.words.specs.Rows.{has, narrowRow, Within}
 use Rattle.words.proofs.DigitLaws.{digit-or, digit-and, digit-without, digit-zero, digit-double, digit-double-first, or-none}
-use Rattle.words.proofs.Tests.{and-snd}
+use Rattle.laws.proofs.Tests.{and-snd}
 
 -- The test one place before, false at the first.
 unfoldable pub before : (ℕ → Bool) → ℕ → Bool

@@ -1,5 +1,5 @@
 -- `kalomivund::lay_lengths` meets its contract: the refusal as met, 9, or five numbers stored one behind the other.
-use Rattle.memory.proofs.PutLaws.{put-five}
+use Rattle.laws.proofs.PutLaws.{put-five}
 use mathlib.Core.Path.{refl, _∙_}
 use borrow.Author.Tests.{lt-leb, le-leb}
 use Rattle.floor.specs.Verdict.{demand}

@@ -7,7 +7,7 @@ use mathlib.Core.Path.{_∙_, sym, ap}
 use borrow.Author.Needs.{needs}
 use lib.Seq.{length-take-le}
 use denote.Ref.{now}
-use Rattle.memory.specs.Memory.{put}
+use Rattle.laws.specs.Memory.{put}
 use Rattle.planner.specs.Plan.{respondWith}
 use Rattle.planner.specs.Records.{answered}
 use Rattle.planner.proofs.RecordLaws.{found-record}

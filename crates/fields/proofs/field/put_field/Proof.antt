@@ -1,5 +1,5 @@
 -- `fields::field::put_field` meets its contract: five stores are a block of five bytes.
-use Rattle.memory.proofs.PutLaws.{put-five}
+use Rattle.laws.proofs.PutLaws.{put-five}
 use Rattle.fields.specs.Field.{fieldOf}
 use lib.ListN.{length-set}
 use native.Mathlib.Omega.{arith}

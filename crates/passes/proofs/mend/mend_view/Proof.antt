@@ -4,7 +4,7 @@ use native.Mathlib.Omega.{arith}
 use mathlib.Core.Path.{refl, sym, _∙_}
 use borrow.Author.Tests.{not-true}
 use borrow.Author.Needs.{needs}
-use Rattle.route.proofs.Tests.{true-false-absurd}
+use Rattle.laws.proofs.Tests.{true-false-absurd}
 use Rattle.tables.proofs.SetLaws.{set-cell}
 use Rattle.passes.proofs.MendLaws.{mended-same}
 use Rattle.passes.proofs.mend.mend_view.Statement.{statement}

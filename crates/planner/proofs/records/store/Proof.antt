@@ -1,6 +1,6 @@
 -- `planner::records::store` meets its contract: a tag and 64 cells, one behind the other.
 use denote.Ref.{now}
-use Rattle.memory.proofs.PutLaws.{put-one, put-next}
+use Rattle.laws.proofs.PutLaws.{put-one, put-next}
 use lib.ListN.{length-set}
 use mathlib.Core.List.{_∷_, []}
 use mathlib.Core.Path.{refl}

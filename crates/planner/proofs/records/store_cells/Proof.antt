@@ -1,6 +1,6 @@
 -- `planner::records::store_cells` meets its contract: invariant: the cells passed are stored.
-use Rattle.memory.proofs.PutLaws.{copy-start, copy-more, copy-keeps, copy-end}
-use Rattle.memory.specs.Memory.{put}
+use Rattle.laws.proofs.PutLaws.{copy-start, copy-more, copy-keeps, copy-end}
+use Rattle.laws.specs.Memory.{put}
 use lib.ListN.{length, take}
 use mathlib.Core.Path.{_≡_}
 use Prim.Native.Nat.{_-_, _≤_}

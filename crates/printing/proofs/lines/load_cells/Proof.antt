@@ -1,5 +1,5 @@
 -- `printing::lines::load_cells` meets its contract: invariant: the cells passed are loaded.
-use Rattle.memory.specs.Memory.{put}
+use Rattle.laws.specs.Memory.{put}
 use lib.ListN.{length, take, drop}
 use mathlib.Core.Path.{_≡_}
 use Prim.Native.Nat.{_≤_, _-_}

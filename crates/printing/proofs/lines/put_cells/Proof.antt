@@ -2,7 +2,7 @@
 use denote.Ref.{now}
 use Rattle.printing.proofs.FieldsLaws.{fields-start, fields-more, fields-keep, fields-end}
 use Rattle.printing.specs.Text.{fieldsOf}
-use Rattle.memory.specs.Memory.{put}
+use Rattle.laws.specs.Memory.{put}
 use lib.Seq.{length-take-le, getD-take}
 use lib.ListN.{length, take}
 use mathlib.Core.Path.{_≡_}

@@ -3,7 +3,7 @@ use Rattle.printing.specs.Text.{noneLine, noneWord}
 use Rattle.fields.specs.Field.{fieldOf}
 use mathlib.Core.Path.{refl}
 use lib.ListN.{length-set}
-use Rattle.memory.proofs.PutLaws.{put-next}
+use Rattle.laws.proofs.PutLaws.{put-next}
 use Rattle.sheet.proofs.LineLaws.{newline-next}
 use native.Mathlib.Omega.{arith}
 use borrow.Author.Needs.{needs}

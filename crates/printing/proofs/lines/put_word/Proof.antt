@@ -1,7 +1,7 @@
 -- `printing::lines::put_word` meets its contract: five stores are a block of five bytes.
 use Rattle.printing.specs.Text.{noneWord}
 use lib.ListN.{length-set}
-use Rattle.memory.proofs.PutLaws.{put-five}
+use Rattle.laws.proofs.PutLaws.{put-five}
 use native.Mathlib.Omega.{arith}
 use borrow.Author.Needs.{needs}
 use Rattle.printing.proofs.lines.put_word.Statement.{statement}

@@ -2,7 +2,7 @@
 use Rattle.floor.specs.Checks.{startOf, goalOf}
 use Rattle.sheet.specs.Text.{lineOf, carrierLine}
 use Rattle.sheet.proofs.LineLaws.{newline-next}
-use Rattle.memory.proofs.PutLaws.{put-next}
+use Rattle.laws.proofs.PutLaws.{put-next}
 use Rattle.fields.specs.Field.{fieldOf}
 use lib.ListN.{length-set}
 use mathlib.Core.Path.{refl}

@@ -1,8 +1,8 @@
 -- `sheet::lines::put_carriers` meets its contract: invariant: the lines passed stand one behind the other.
 use Rattle.sheet.specs.Text.{linesOf, carrierLine}
 use Rattle.sheet.proofs.LineLaws.{lines-next, lines-keep, lines-end, carrier-length}
-use Rattle.memory.proofs.PutLaws.{put-none}
-use Rattle.memory.specs.Memory.{put}
+use Rattle.laws.proofs.PutLaws.{put-none}
+use Rattle.laws.specs.Memory.{put}
 use mathlib.Core.Path.{_≡_, refl}
 use Prim.Native.Nat.{_-_, _≤_}
 use borrow.Author.Needs.{needs}

@@ -2,8 +2,8 @@
 use lib.ListN.{getD}
 use Rattle.sheet.specs.Text.{linesOf, wallLine, sheetLength, wallAt}
 use Rattle.sheet.proofs.LineLaws.{lines-next, lines-keep, lines-end, wall-length}
-use Rattle.memory.proofs.PutLaws.{put-none}
-use Rattle.memory.specs.Memory.{put}
+use Rattle.laws.proofs.PutLaws.{put-none}
+use Rattle.laws.specs.Memory.{put}
 use mathlib.Core.Path.{_≡_, refl}
 use Prim.Native.Nat.{ℕ, _-_, _≤_}
 use borrow.Author.Needs.{needs}

@@ -1,5 +1,5 @@
 -- `state::channels::pop` meets its contract: the shifted channel, with one message less counted.
-use Rattle.memory.proofs.PutLaws.{put-one}
+use Rattle.laws.proofs.PutLaws.{put-one}
 use mathlib.Core.Path.{refl, _∙_}
 use Rattle.layout.specs.Steps.{popped}
 use native.Mathlib.Omega.{arith}

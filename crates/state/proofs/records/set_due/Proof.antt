@@ -1,7 +1,7 @@
 -- `state::records::set_due` meets its contract: one number stored.
 use Prim.Native.Nat.{_+_, _*_}
 use Rattle.layout.specs.Places.{duePlace}
-use Rattle.memory.proofs.PutLaws.{put-one}
+use Rattle.laws.proofs.PutLaws.{put-one}
 use native.Mathlib.Omega.{arith}
 use borrow.Author.Needs.{needs}
 use Rattle.state.proofs.records.set_due.Statement.{statement}

@@ -1,6 +1,6 @@
 -- `state::start::write_carriers` meets its contract: the loop holds the fresh carriers so far, one behind the other.
 use Rattle.state.proofs.FreshLaws.{carriers-more, fresh-start}
-use Rattle.memory.specs.Memory.{put}
+use Rattle.laws.specs.Memory.{put}
 use lib.ListN.{length}
 use mathlib.Core.Path.{_≡_, _∙_}
 use Prim.Native.Nat.{_-_, _≤_}

@@ -1,6 +1,6 @@
 -- `state::start::write_zeros` meets its contract: the loop copies a list of zeros.
-use Rattle.memory.proofs.PutLaws.{copy-start, copy-more, copy-end}
-use Rattle.memory.specs.Memory.{put}
+use Rattle.laws.proofs.PutLaws.{copy-start, copy-more, copy-end}
+use Rattle.laws.specs.Memory.{put}
 use lib.ListN.{length, take, replicate, length-set, length-replicate, getD-replicate}
 use mathlib.Core.Path.{_≡_, refl}
 use Prim.Native.Nat.{ℕ, _-_, _≤_}

@@ -2,8 +2,8 @@
 use Prim.Native.Nat.{_-_, _≤_}
 use mathlib.Core.Path.{_≡_}
 use lib.ListN.{length, take}
-use Rattle.memory.specs.Memory.{put}
-use Rattle.memory.proofs.PutLaws.{copy-start, copy-more, copy-keeps, copy-end}
+use Rattle.laws.specs.Memory.{put}
+use Rattle.laws.proofs.PutLaws.{copy-start, copy-more, copy-keeps, copy-end}
 use borrow.Author.Needs.{needs}
 use native.Mathlib.Omega.{arith}
 use Rattle.wire.proofs.records.copy.Statement.{statement}

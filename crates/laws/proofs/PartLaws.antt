@@ -4,7 +4,7 @@ use native.Mathlib.Omega.{arith}
 use mathlib.Core.Path.{_≡_, refl, sym, _∙_, ap}
 use mathlib.Core.List.{List, [], _++_}
 use lib.ListN.{length, take, drop, getD, length-append, length-take, length-drop}
-use Rattle.memory.specs.Memory.{part}
+use Rattle.laws.specs.Memory.{part}
 use lib.Seq.{getD-take, getD-drop, take-add, drop-drop, ext-getD, take-at, drop-at, take-all, length-take-le}
 
 module _ (text : List ℕ) where

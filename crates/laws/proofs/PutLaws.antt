@@ -7,7 +7,7 @@ use mathlib.Core.Path.{_≡_, sym, _∙_, ap, ap₂}
 use mathlib.Core.List.{List, [], _∷_, _++_, append-assoc}
 use lib.ListN.{length, take, drop, getD, set, length-append, length-take, length-drop, take-append-drop}
 use lib.Seq.{take-suc, take-all, set-split, take-at, drop-at, length-take-le, drop-drop, sets-eq}
-use Rattle.memory.specs.Memory.{put}
+use Rattle.laws.specs.Memory.{put}
 
 -- An empty block changes nothing.
 pub put-none : (m : List ℕ) (at : ℕ) → m ≡ put m at []
