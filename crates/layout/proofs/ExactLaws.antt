@@ -1,5 +1,5 @@
 -- A memory that is long enough is valid exactly if its front is the encoding of a state within the ranges; and how long that is.
-use Prim.Native.Nat.{ℕ, zero, suc, _+_, _*_, _≤_}
+use Prim.Native.Nat.{ℕ, zero, suc, _*_, _≤_}
 use native.Mathlib.Omega.{arith}
 use mathlib.Core.Bool.{true, false, _&&_}
 use mathlib.Core.List.{List, _++_}
@@ -73,7 +73,7 @@ zeros-refused f k l =
     (zeros-fail f k))
 
 -- More carriers have more pairs.
-pairs-grow : (k n : ℕ) → n ≤ k → pairsBefore n ≤ pairsBefore k
+pub pairs-grow : (k n : ℕ) → n ≤ k → pairsBefore n ≤ pairsBefore k
 unfolding pairsBefore
 pairs-grow zero zero l = omega arith
 pairs-grow zero (suc n) l = absurd (omega arith)

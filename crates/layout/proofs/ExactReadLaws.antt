@@ -1,11 +1,9 @@
 -- The memory of a state within the ranges shows that state in every part: two such states have one memory exactly if they are alike.
 use Prim.Native.Nat.{ℕ, zero, suc, _+_, _*_, _/_, _%_, _≤_, _<_}
 use native.Mathlib.Omega.{arith}
-use mathlib.Core.Bool.{Bool, true, false}
 use mathlib.Core.List.{List, [], _∷_, _++_}
 use mathlib.Core.Logic.{_↔_}
 use mathlib.Core.Path.{_≡_, refl, sym, _∙_, ap, ap₂}
-use lib.Dec.{eqb}
 use lib.ListN.{length, getD}
 use Rattle.laws.specs.Memory.{part}
 use Rattle.floor.specs.declared.Floor.{Floor}
@@ -13,11 +11,12 @@ use Rattle.route.specs.Route.{Answer, heard}
 use Rattle.reference.specs.State.{State}
 use Rattle.reference.specs.Bounds.{AllOf, ShownOf}
 use Rattle.layout.specs.Places.{answerPlace, viewPlace, channelPlace}
-use Rattle.layout.specs.Encode.{flag, slot, slots, channelBlock, carrierBlock, countBlock, blocks, pairs, encode}
+use Rattle.layout.specs.Encode.{slot, slots, channelBlock, carrierBlock, countBlock, blocks, pairs, encode}
 use Rattle.layout.specs.Decode.{recordAt, shown, messages, decode}
 use Rattle.layout.specs.Fits.{Sound, Fits}
 use Rattle.layout.specs.Alike.{Alike}
 use Rattle.layout.proofs.SplitLaws.{slots-length, blocks-same}
+use Rattle.layout.proofs.OpenLaws.{flag-set}
 use Rattle.layout.proofs.ReadLaws.{read-thousands, read-rest, read-planned, read-due, read-answer, read-view, read-channel}
 use Rattle.layout.proofs.RecordLaws.{record-shows, sound-whole, shown-whole}
 use Rattle.layout.proofs.ValidChannelLaws.{first-next, count-read, places-read}
@@ -44,12 +43,7 @@ channel-back : (f : Floor) (m : List ℕ) (at : ℕ) (l : List Answer) → part 
     → messages m (at + 1) (getD m at 0) ≡ l
 channel-back f m at l e b h = rw (count-read m at l e) (messages-back f m 4 (at + 1) l b (places-read m at l e) h)
 
--- A flag is read back, and so is the count.
-flag-back : (b : Bool) → eqb (flag b) 1 ≡ b
-unfolding flag
-flag-back true = refl
-flag-back false = refl
-
+-- The count is read back.
 count-back : (t : ℕ) → 1000 * (t / 1000) + t % 1000 ≡ t
 count-back t = omega arith
 
@@ -61,8 +55,8 @@ encode-shows f s rest d h =
     let n = f .carriers in
     let m = encode n s ++ rest in
     record {
-      same-planned = λ i l. rw (read-planned n s rest i l) (flag-back (s .planned i));
-      same-due = λ i l. rw (read-due n s rest i l) (flag-back (s .due i));
+      same-planned = λ i l. rw (read-planned n s rest i l) (flag-set (s .planned i));
+      same-due = λ i l. rw (read-due n s rest i l) (flag-set (s .due i));
       same-answer = λ i l. answer-back f m (answerPlace i) (s .answer i) (read-answer n s rest i l) (h .answers i l);
       same-view =
           λ i j a b.

@@ -4,7 +4,7 @@ use native.Mathlib.Omega.{arith}
 use native.Mathlib.Nat.{add-zero}
 use mathlib.Core.Bool.{true}
 use mathlib.Core.List.{List, [], _∷_}
-use mathlib.Core.Logic.{_⊎_, ⊎-elim}
+use mathlib.Core.Logic.{⊎-elim}
 use mathlib.Core.Path.{_≡_, refl, sym, _∙_, ap}
 use borrow.Author.Tests.{ltb-true, leb-true, eqb-true, lt-ltb, le-ltb, le-leb, eq-eqb}
 use lib.Dec.{leb, ltb, eqb}
@@ -141,29 +141,16 @@ part-slot m at v l e h = part-is m at 65 (slot v) l (slot-length v) same
         let place : at + suc t ≡ at + 1 + t = omega arith in
         rw place (h t (omega arith) ∙ sym (slot-number v t (omega arith)))
 
--- What a view is, told by the tag.
-view-route : (tag : ℕ) (cells : List ℕ) → tag ≡ 2 → viewOf tag cells ≡ heard (route cells)
-unfolding viewOf
-view-route tag cells e = rw e
-
-view-none : (tag : ℕ) (cells : List ℕ) → tag ≡ 1 → viewOf tag cells ≡ heard none
-unfolding viewOf
-view-none tag cells e = rw e
-
-view-unheard : (tag : ℕ) (cells : List ℕ) → tag ≡ 0 → viewOf tag cells ≡ unheard
-unfolding viewOf
-view-unheard tag cells e = rw e
-
 -- The record of a view whose answer is whole shows that view.
 pub record-shows : (m : List ℕ) (at : ℕ) (v : View) → part m at 65 ≡ slot v → ShownOf Whole v → recordAt m at ≡ v
-unfolding recordAt tagOf numberOf ShownOf recordOf
-record-shows m at unheard e h = view-unheard (getD m at 0) (part m (at + 1) 64) (tag-read m at unheard e)
-record-shows m at (heard none) e h = view-none (getD m at 0) (part m (at + 1) 64) (tag-read m at (heard none) e)
+unfolding recordAt viewOf tagOf numberOf ShownOf recordOf
+record-shows m at unheard e h = rw (tag-read m at unheard e)
+record-shows m at (heard none) e h = rw (tag-read m at (heard none) e)
 record-shows m at (heard (route r)) e h =
     let v = heard (route r) in
     let reach : at + 65 ≤ length m = part-reach m at 65 (omega arith) (ap length e ∙ slot-length v) in
     let cells : part m (at + 1) 64 ≡ r = part-is m (at + 1) 64 r (omega arith) (omega (arith, h)) (number-read m at v e) in
-    view-route (getD m at 0) (part m (at + 1) 64) (tag-read m at v e) ∙ ap (λ (c : List ℕ). heard (route c)) cells
+    rw (tag-read m at v e, cells)
 
 -- A sound answer is whole, and so is the sound answer that a view shows.
 pub sound-whole : (f : Floor) (a : Answer) → Sound f a → Whole a
@@ -229,24 +216,22 @@ module _ (f : Floor) (m : List ℕ) (at low high : ℕ) (short : f .horizon ≤ 
       })
 
   recorded-unheard : tag ≡ 0 → Recorded f m at low high (recordAt m at)
-  unfolding recordAt tagOf numberOf usedBy ShownOf
-  recorded-unheard q =
-      recorded unheard (view-unheard (tag) (part m (at + 1) 64) q) q (λ t l. zero-behind 0 (rw q) t (omega arith) l) tt
+  unfolding recordAt viewOf tagOf numberOf usedBy ShownOf
+  recorded-unheard q = recorded unheard (rw q) q (λ t l. zero-behind 0 (rw q) t (omega arith) l) tt
 
   recorded-none : tag ≡ 1 → Recorded f m at low high (recordAt m at)
-  unfolding recordAt tagOf numberOf usedBy ShownOf Sound
-  recorded-none q =
-      recorded (heard none) (view-none (tag) (part m (at + 1) 64) q) q (λ t l. zero-behind 0 (rw q) t (omega arith) l) tt
+  unfolding recordAt viewOf tagOf numberOf usedBy ShownOf Sound
+  recorded-none q = recorded (heard none) (rw q) q (λ t l. zero-behind 0 (rw q) t (omega arith) l) tt
 
   -- The cells of a route.
   recorded-route : tag ≡ 2 → Recorded f m at low high (recordAt m at)
-  unfolding recordAt tagOf numberOf usedBy ShownOf Sound
+  unfolding recordAt viewOf tagOf numberOf usedBy ShownOf Sound
   recorded-route q =
       let r = part m (at + 1) 64 in
       let used : usedBy tag (f .horizon) ≡ f .horizon + 1 = rw q in
       let same : (t : ℕ) → t < 64 → getD m (at + 1 + t) 0 ≡ getD r t 0 = λ t l. sym (part-byte m (at + 1) 64 t l) in
       let size : length r ≡ 64 = part-length m (at + 1) 64 (omega arith) in
-      recorded (heard (route r)) (view-route tag r q) q same
+      recorded (heard (route r)) (rw q) q same
       (record {
         long = size;
         inside = λ t l. rw (← same t (omega arith)) (cell-inside (f .horizon + 1) used t (omega arith) (omega arith));

@@ -28,11 +28,11 @@ pub record SameRun (n : ℕ) (rest : List ℕ) (r : RanIn) (q : Ran) : Type 0 wh
   pub unread : r .unread ≡ q .unread
 
 module _ (M : Machine) (m : List ℕ) (x : Step) (xs : List Step) (b : ℕ) where
-  took-in : openIn M m x ≡ true → runIn M m (x ∷ xs) (suc b) ≡ withFirst (took x) (runIn M (takenIn M m x) xs b)
+  pub took-in : openIn M m x ≡ true → runIn M m (x ∷ xs) (suc b) ≡ withFirst (took x) (runIn M (takenIn M m x) xs b)
   unfolding runIn
   took-in e = rw (e, runIn)
 
-  passed-in : openIn M m x ≡ false → runIn M m (x ∷ xs) (suc b) ≡ withFirst (passed x) (runIn M m xs (suc b))
+  pub passed-in : openIn M m x ≡ false → runIn M m (x ∷ xs) (suc b) ≡ withFirst (passed x) (runIn M m xs (suc b))
   unfolding runIn
   passed-in e = rw (e, runIn)
 

@@ -57,12 +57,9 @@ module _ (chan : ℕ → ℕ → List Answer) (i : ℕ) (a : Answer) where
       ⊎-elim
       (λ (e : r ≡ k).
       before-it k r j l ∙ sym (send-same r j (λ u v. h e u (rw e at v))) ∙ sym (after-it (suc k) r j (omega arith)))
-      (λ (e : r ≡ k → ⊥). before-it k r j l ∙ sym (before-it (suc k) r j (above l e)))
+      (λ (e : r ≡ k → ⊥). before-it k r j l ∙ sym (before-it (suc k) r j (omega arith)))
       (eq-or-ne r k))
       (lt-or-le r k)
-    where
-      above : {x y : ℕ} → x ≤ y → (y ≡ x → ⊥) → x < y
-      above l e = omega arith
 
 -- The encoding depends on the channels of pairs only.
 channels-same : (n : ℕ) (s : State) (g h : ℕ → ℕ → List Answer) → ((k l : ℕ) → l < k → k < n → g k l ≡ h k l) →

@@ -1,5 +1,5 @@
 -- Where each block of an encoding stands: blocks one behind the other, blocks of pairs, and the four kinds of blocks of a state.
-use Prim.Native.Nat.{ℕ, zero, suc, _+_, _*_, _≤_, _<_}
+use Prim.Native.Nat.{ℕ, zero, suc, _+_, _*_, _<_}
 use native.Mathlib.Omega.{arith}
 use native.Mathlib.Nat.{eq-or-lt-of-le}
 use mathlib.Core.Path.{_≡_, refl, sym, _∙_, ap}
@@ -40,10 +40,7 @@ module _ (at : ℕ → ℕ) (none : at 0 ≡ 0) where
       (λ (q : k < n).
       rw (sym (e n (omega arith) (λ r. omega arith)))
       (window-front (f n) (blocks-window n f g k q (λ i a. h i (omega arith)) (λ i a. e i (omega arith)))))
-      (eq-or-lt-of-le (below-suc l))
-    where
-      below-suc : {a b : ℕ} → a < suc b → a ≤ b
-      below-suc h = omega arith
+      (eq-or-lt-of-le (omega arith))
 
 -- Blocks of pairs, each w long.
 module _ (w n : ℕ) (f : ℕ → ℕ → List ℕ) (long : (i j : ℕ) → j < i → i < n → length (f i j) ≡ w) where

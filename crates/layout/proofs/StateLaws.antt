@@ -38,7 +38,7 @@ module _ (n : ℕ) (s : State) where
   carrier-sums : (i : ℕ) → i < n → 67 * suc i ≡ 67 * i + length (carrierBlock s i)
   carrier-sums i l = omega (arith, carrier-length s i)
 
-  carriers-length : length (blocks n (carrierBlock s)) ≡ 67 * n
+  pub carriers-length : length (blocks n (carrierBlock s)) ≡ 67 * n
   carriers-length = blocks-length (λ k. 67 * k) refl n (carrierBlock s) carrier-sums
 
   view-long : (i j : ℕ) → j < i → i < n → length (slot (s .view i j)) ≡ 65

@@ -40,12 +40,14 @@ first-next m at k v rest s e =
     let n : 65 * suc k ≡ 65 + 65 * k = omega arith in
     part-blocks m (slot v) rest at 65 (65 * k) (slot-length v) s (omega arith) (rw n at e)
 
+-- The place behind the first, counted from the next record on.
+next : (at q : ℕ) → at + 65 * suc q ≡ at + 65 + 65 * q
+next at q = omega arith
+
 -- A place behind the first is a place of what lies behind the first record.
 place-next : (f : Floor) (m : List ℕ) (at count q : ℕ) → placeValid f m at (suc count) (suc q) ≡ placeValid f m (at + 65) count q
 unfolding placeValid
-place-next f m at count q =
-    let place : at + 65 * suc q ≡ at + 65 + 65 * q = omega arith in
-    rw (place, leb·suc-suc (suc q) count)
+place-next f m at count q = rw (next at q, leb·suc-suc (suc q) count)
 
 -- The places of k records that hold messages with sound cells are valid.
 places-valid : (f : Floor) (m : List ℕ) (at k : ℕ) (l : List Answer) → part m at (65 * k) ≡ slots k l → AllOf (Sound f) l
@@ -57,9 +59,8 @@ places-valid f m at (suc k) [] e h zero b =
     ∙ rw add-zero (unused-valid f m at ((first-next m at k unheard (slots k []) (slots-length k []) e) .0))
 places-valid f m at (suc k) [] e h (suc q) b =
     let r = (first-next m at k unheard (slots k []) (slots-length k []) e) .1 in
-    let place : at + 65 * suc q ≡ at + 65 + 65 * q = omega arith in
     place-unused f m at 0 (suc q) (omega arith)
-    ∙ ap (λ (p : ℕ). recordValid f m p 0 0) place
+    ∙ ap (λ (p : ℕ). recordValid f m p 0 0) (next at q)
     ∙ sym (place-unused f m (at + 65) 0 q (omega arith))
     ∙ places-valid f m (at + 65) k [] r tt q (omega arith)
 places-valid f m at (suc k) (a ∷ l) e h zero b =
@@ -89,10 +90,6 @@ module _ (m : List ℕ) (at : ℕ) (l : List Answer) (e : part m at 261 ≡ chan
   channel-valid f d h =
       let places = places-valid f m (at + 1) 4 l (both .1) h in
       rw count-read (and-both (le-leb (length l) (f .depth) d) (each-true 4 (placeValid f m (at + 1) (length l)) places))
-
--- The place behind the first, counted from the next record on.
-next : (at q : ℕ) → at + 65 * suc q ≡ at + 65 + 65 * q
-next at q = omega arith
 
 -- A record and the k records behind it are k + 1 records.
 one-more : (m : List ℕ) (at k : ℕ) (a b : List ℕ) → part m at 65 ≡ a → part m (at + 65) (65 * k) ≡ b → part m at (65 * suc k) ≡ a ++ b

@@ -40,10 +40,7 @@ pub pair-below : (n i j : ℕ) → j < i → i < n → pairsBefore i + j < pairs
 unfolding pairsBefore
 pair-below zero i j a b = absurd (omega arith)
 pair-below (suc n) i j a b =
-    ⊎-elim (λ (e : i ≡ n). rw e (omega arith)) (λ (l : i < n). omega (arith, pair-below n i j a l)) (eq-or-lt-of-le (below-suc b))
-  where
-    below-suc : {x y : ℕ} → x < suc y → x ≤ y
-    below-suc h = omega arith
+    ⊎-elim (λ (e : i ≡ n). rw e (omega arith)) (λ (l : i < n). omega (arith, pair-below n i j a l)) (eq-or-lt-of-le (omega arith))
 
 -- A part of one number.
 pub part-one : (m : List ℕ) (at : ℕ) → at < length m → part m at 1 ≡ getD m at 0 ∷ []

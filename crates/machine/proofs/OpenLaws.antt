@@ -1,21 +1,17 @@
 -- Steps as numbers, and which steps are there and open: a law a case of the code.
-use Prim.Native.Nat.{ℕ, _+_, _*_, _-_, _/_, _%_, _≤_, _<_}
+use Prim.Native.Nat.{ℕ, _-_, _/_, _%_, _≤_, _<_}
 use native.Mathlib.Omega.{arith}
-use mathlib.Core.Bool.{Bool, true, false, not}
+use mathlib.Core.Bool.{false}
 use mathlib.Core.List.{List}
 use mathlib.Core.Path.{_≡_, refl}
-use lib.Dec.{eqb}
-use lib.ListN.{getD}
-use borrow.Author.Tests.{lt-ltb, le-ltb, le-leb, lt-leb, eq-eqb, ne-eqb}
+use borrow.Author.Tests.{le-leb, lt-leb}
 use Rattle.floor.specs.declared.Floor.{Floor}
 use Rattle.floor.specs.Checks.{within}
-use Rattle.reference.specs.Ranges.{each}
 use Rattle.reference.specs.Step.{Step, plan, deliver, noKind, named}
-use Rattle.layout.specs.Places.{duePlace, channelPlace}
 use Rattle.layout.specs.Numbers.{way, stepOf}
 use Rattle.layout.specs.Calls.{machineOf}
 use Rattle.layout.specs.Steps.{roomIn, readyIn, openIn, noneOpenIn, silentIn}
-use Rattle.machine.specs.Inner.{machineWith, bare, roomAt}
+use Rattle.machine.specs.Inner.{machineWith, bare}
 
 module _ (x : ℕ) where
   pub low-none : x < 101 → noKind ≡ stepOf x
@@ -42,33 +38,10 @@ module _ (x : ℕ) where
   unfolding stepOf within way
   deliver-is l h k o z = rw (le-leb 101 x l, lt-leb x 109 h, le-leb 210 x k, le-leb x 299 o, le-leb 1 (x % 10) z) refl
 
+-- A law a case of the number.
+pub ruleset step-cases = (low-none, plan-is, middle-none, high-none, ten-none, deliver-is)
+
 module _ (f : Floor) (m : List ℕ) where
-  pub plan-away : (i : ℕ) → f .carriers ≤ i → false ≡ openIn (bare f) m (plan i)
-  unfolding openIn named bare machineWith
-  plan-away i l = rw (le-ltb i (f .carriers) l) refl
-
-  pub plan-rests : (i : ℕ) → i < f .carriers → (getD m (3 + 67 * i) 0 ≡ 1 → ⊥) → false ≡ openIn (bare f) m (plan i)
-  unfolding openIn named readyIn bare machineWith duePlace
-  plan-rests i l h = rw (lt-ltb i (f .carriers) l, ne-eqb (getD m (3 + 67 * i) 0) 1 h) refl
-
-  pub plan-due : {b : Bool} (i : ℕ) → i < f .carriers → getD m (3 + 67 * i) 0 ≡ 1 → b ≡ each (f .carriers) (roomAt f m i) →
-      b ≡ openIn (bare f) m (plan i)
-  unfolding openIn named readyIn roomIn roomAt bare machineWith duePlace
-  plan-due i l h e = rw (lt-ltb i (f .carriers) l, eq-eqb (getD m (3 + 67 * i) 0) 1 h) e
-
-  pub deliver-up : (j i : ℕ) → i ≤ j → false ≡ openIn (bare f) m (deliver j i)
-  unfolding openIn named bare machineWith
-  deliver-up j i l = rw (le-ltb j i l) refl
-
-  pub deliver-away : (j i : ℕ) → j < i → f .carriers ≤ i → false ≡ openIn (bare f) m (deliver j i)
-  unfolding openIn named bare machineWith
-  deliver-away j i l h = rw (lt-ltb j i l, le-ltb i (f .carriers) h) refl
-
-  pub deliver-there : (j i c : ℕ) → j < i → i < f .carriers → c ≡ channelPlace (f .carriers) i j →
-      not (eqb (getD m c 0) 0) ≡ openIn (bare f) m (deliver j i)
-  unfolding openIn named readyIn bare machineWith
-  deliver-there j i c l h e = rw (lt-ltb j i l, lt-ltb i (f .carriers) h, e) refl
-
   pub none-shut : openIn (bare f) m noKind ≡ false
   unfolding openIn named
   none-shut = refl
@@ -95,9 +68,3 @@ unfolding named bare machineWith machineOf
 named-of f ws (plan i) = refl
 named-of f ws (deliver j i) = refl
 named-of f ws noKind = refl
-
-pub not-open : (b : Bool) → b ≡ true → not b ≡ false
-not-open b e = rw e refl
-
-pub not-shut : (b : Bool) → b ≡ false → not b ≡ true
-not-shut b e = rw e refl

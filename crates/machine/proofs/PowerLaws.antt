@@ -7,7 +7,7 @@ use borrow.Author.Tests.{le-leb, lt-leb}
 use Rattle.floor.specs.Verdict.{demand}
 use Rattle.floor.specs.Checks.{within}
 use Rattle.reference.specs.Quiet.{ceiling}
-use Rattle.machine.specs.Ceiling.{steps, turned, figureIf, mostSteps}
+use Rattle.machine.specs.Ceiling.{Figure, steps, turned, figureIf, mostSteps}
 use mathlib.Core.Path.{_≡_, refl, ap}
 
 pub power-more : (k p : ℕ) → p ≡ 2 ^ k → p * 2 ≡ 2 ^ (k + 1)
@@ -25,14 +25,16 @@ power-big (suc n) = omega (arith, power-big n, power-more (n + 1) (2 ^ (n + 1)) 
     swap n = omega arith
 
 module _ (n : ℕ) where
-  pub most-low : n < 1 → turned 2 5 ≡ mostSteps n
+  pub most-low : {v : Figure} → v ≡ turned 2 5 → n < 1 → v ≡ mostSteps n
   unfolding mostSteps figureIf demand within
-  most-low l = rw (lt-leb 1 n l) refl
+  most-low e l = rw (lt-leb 1 n l) e
 
-  pub most-high : 1 ≤ n → 8 < n → turned 2 5 ≡ mostSteps n
+  pub most-high : {v : Figure} → v ≡ turned 2 5 → 1 ≤ n → 8 < n → v ≡ mostSteps n
   unfolding mostSteps figureIf demand within
-  most-high l h = rw (le-leb 1 n l, lt-leb n 8 h) refl
+  most-high e l h = rw (le-leb 1 n l, lt-leb n 8 h) e
 
   pub most-is : (p : ℕ) → 1 ≤ n → n ≤ 8 → p ≡ 2 ^ (n + 1) → steps (p - n - 2) ≡ mostSteps n
   unfolding mostSteps figureIf demand within ceiling
   most-is p l h e = rw (le-leb 1 n l, le-leb n 8 h, e, add-one) refl
+
+pub ruleset most-cases = (most-low, most-high, most-is)

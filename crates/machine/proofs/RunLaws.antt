@@ -6,29 +6,21 @@ use native.Mathlib.Numerals.{add-one}
 use mathlib.Core.Bool.{Bool, true, false}
 use mathlib.Core.List.{List, [], _∷_, map}
 use mathlib.Core.Path.{_≡_, refl, sym, _∙_, ap}
+use lib.Dec.{ltb}
 use lib.ListN.{length, getD, drop, drop-of-length-le}
 use lib.Seq.{drop-cons}
 use borrow.Author.Tests.{lt-ltb, le-ltb, eq-eqb, ne-eqb}
 use Rattle.reference.specs.State.{Machine}
 use Rattle.reference.specs.Step.{Step}
-use Rattle.reference.specs.Run.{took, passed}
+use Rattle.reference.specs.Run.{Event, took, passed}
 use Rattle.reference.specs.History.{stepsTaken}
 use Rattle.reference.specs.Ending.{anyLeft, endsAs, silent, spent, ended}
 use Rattle.reference.specs.Calls.{ran}
 use Rattle.layout.specs.Numbers.{stepOf}
 use Rattle.layout.specs.Steps.{openIn, takenIn, silentIn}
 use Rattle.layout.specs.Runs.{RanIn, withFirst, runIn, numberTaken, endingIn}
+use Rattle.layout.proofs.RunLaws.{took-in, passed-in}
 use Rattle.machine.specs.Inner.{Running, Tried, took as Tried·took, passed as Tried·passed, Tallied, endsWith}
-
-module _ (M : Machine) (m : List ℕ) (x : Step) (xs : List Step) (b : ℕ) where
-  -- An open step is taken, any other is passed over.
-  run-took : openIn M m x ≡ true → runIn M m (x ∷ xs) (suc b) ≡ withFirst (took x) (runIn M (takenIn M m x) xs b)
-  unfolding runIn
-  run-took e = rw (e, runIn) refl
-
-  run-passed : openIn M m x ≡ false → runIn M m (x ∷ xs) (suc b) ≡ withFirst (passed x) (runIn M m xs (suc b))
-  unfolding runIn
-  run-passed e = rw (e, runIn) refl
 
 took-counts : (x : Step) (r : RanIn) → numberTaken (withFirst (took x) r) ≡ suc (numberTaken r)
 unfolding numberTaken withFirst stepsTaken
@@ -47,125 +39,88 @@ taken-within M m (x ∷ xs) (suc b) = go (openIn M m x) refl (taken-within M (ta
   where
     go : (t : Bool) → openIn M m x ≡ t → numberTaken (runIn M (takenIn M m x) xs b) ≤ b → numberTaken (runIn M m xs (suc b)) ≤ suc b →
         numberTaken (runIn M m (x ∷ xs) (suc b)) ≤ suc b
-    go true e p q = rw (run-took M m x xs b e) (omega (arith, took-counts x (runIn M (takenIn M m x) xs b)))
-    go false e p q = rw (run-passed M m x xs b e) (omega (arith, passed-counts x (runIn M m xs (suc b))))
+    go true e p q = rw (took-in M m x xs b e) (omega (arith, took-counts x (runIn M (takenIn M m x) xs b)))
+    go false e p q = rw (passed-in M m x xs b e) (omega (arith, passed-counts x (runIn M m xs (suc b))))
 
 -- A run that reads no further.
 abbrev stopped : List ℕ → List Step → RanIn
 stopped m xs = record { memory = m; history = []; unread = xs }
 
-run-stopped : (M : Machine) (m : List ℕ) (x : Step) (xs : List Step) → runIn M m (x ∷ xs) 0 ≡ stopped m (x ∷ xs)
-unfolding runIn
-run-stopped M m x xs = refl
-
-run-over : (M : Machine) (m : List ℕ) (b : ℕ) → runIn M m [] b ≡ stopped m []
-unfolding runIn
-run-over M m b = refl
-
 none-taken : (m : List ℕ) (xs : List Step) → numberTaken (stopped m xs) ≡ 0
 unfolding numberTaken stepsTaken
 none-taken m xs = refl
-
-some-left : (x : Step) (xs : List Step) → anyLeft (x ∷ xs) ≡ true
-unfolding anyLeft
-some-left x xs = refl
-
-none-left : anyLeft [] ≡ false
-unfolding anyLeft
-none-left = refl
 
 module _ (M : Machine) (m₀ xs : List ℕ) (b : ℕ) where
   pub running-start : Running M m₀ xs b m₀ 0 0
   running-start =
       let all : runIn M m₀ (map stepOf xs) b ≡ runIn M m₀ (map stepOf (drop 0 xs)) (b - 0) =
-      ap (λ (k : ℕ). runIn M m₀ (map stepOf xs) k) whole in
+      ap (λ (k : ℕ). runIn M m₀ (map stepOf xs) k) (omega arith) in
       record {
         kept = refl;
         memory = ap (λ (r : RanIn). r .memory) all;
         taken = ap numberTaken all ∙ sym (zero-add (numberTaken (runIn M m₀ (map stepOf (drop 0 xs)) (b - 0))));
         unread = ap (λ (r : RanIn). r .unread) all;
       }
-    where
-      whole : b ≡ b - 0
-      whole = omega arith
 
   -- The next step of the list.
   next : (p : ℕ) → p < length xs → map stepOf (drop p xs) ≡ stepOf (getD xs p 0) ∷ map stepOf (drop (p + 1) xs)
   next p l = rw (add-one, drop-cons xs p 0 l) refl
 
-  module _ (m m′ : List ℕ) (p t r : ℕ) (k : length m′ ≡ length m) (s : Running M m₀ xs b m p t) (x : Step) (rest : RanIn) where
-    more-took : r ≡ 1 → rest ≡ runIn M m′ (map stepOf (drop (p + 1) xs)) (b - (t + r)) →
-        runIn M m (map stepOf (drop p xs)) (b - t) ≡ withFirst (took x) rest → Running M m₀ xs b m′ (p + 1) (t + r)
+  -- One more step of the list, tried: what is left follows its event, which counts for r.
+  module _ (m m′ : List ℕ) (p t r : ℕ) (k : length m′ ≡ length m) (s : Running M m₀ xs b m p t) where
+    abbrev rest : RanIn
+    rest = runIn M m′ (map stepOf (drop (p + 1) xs)) (b - (t + r))
+
+    more : (e : Event) → ((q : RanIn) → numberTaken (withFirst e q) ≡ r + numberTaken q) →
+        runIn M m (map stepOf (drop p xs)) (b - t) ≡ withFirst e rest → Running M m₀ xs b m′ (p + 1) (t + r)
     unfolding withFirst
-    more-took one is step =
+    more e counts step =
         record {
           kept = k ∙ s .kept;
-          memory = s .memory ∙ ap (λ (q : RanIn). q .memory) step ∙ ap (λ (q : RanIn). q .memory) is;
-          taken = s .taken ∙ omega (arith, one, ap numberTaken step, took-counts x rest, ap numberTaken is);
-          unread = s .unread ∙ ap (λ (q : RanIn). q .unread) step ∙ ap (λ (q : RanIn). q .unread) is;
+          memory = s .memory ∙ ap (λ (q : RanIn). q .memory) step;
+          taken = s .taken ∙ omega (arith, ap numberTaken step, counts rest);
+          unread = s .unread ∙ ap (λ (q : RanIn). q .unread) step;
         }
 
-    more-passed : r ≡ 0 → rest ≡ runIn M m′ (map stepOf (drop (p + 1) xs)) (b - (t + r)) →
-        runIn M m (map stepOf (drop p xs)) (b - t) ≡ withFirst (passed x) rest → Running M m₀ xs b m′ (p + 1) (t + r)
-    unfolding withFirst
-    more-passed none is step =
-        record {
-          kept = k ∙ s .kept;
-          memory = s .memory ∙ ap (λ (q : RanIn). q .memory) step ∙ ap (λ (q : RanIn). q .memory) is;
-          taken = s .taken ∙ omega (arith, none, ap numberTaken step, passed-counts x rest, ap numberTaken is);
-          unread = s .unread ∙ ap (λ (q : RanIn). q .unread) step ∙ ap (λ (q : RanIn). q .unread) is;
-        }
-
-  -- One more step of the list, tried.
   pub running-more : (m m′ : List ℕ) (p t r : ℕ) → p < length xs → t < b → length m′ ≡ length m → Running M m₀ xs b m p t →
       Tried M m (stepOf (getD xs p 0)) r m′ → Running M m₀ xs b m′ (p + 1) (t + r)
   running-more m m′ p t r l h k s (Tried·took e one g) =
       let x = stepOf (getD xs p 0) in
-      let rest = runIn M m′ (map stepOf (drop (p + 1) xs)) (b - (t + r)) in
       let less : b - t ≡ suc (b - (t + 1)) = omega arith in
-      let step : runIn M m (map stepOf (drop p xs)) (b - t) ≡ withFirst (took x) rest =
-      rw (next p l, less, run-took M m x (map stepOf (drop (p + 1) xs)) (b - (t + 1)) e, one, sym g) refl in
-      more-took m m′ p t r k s x rest one refl step
+      more m m′ p t r k s (took x) (λ q. omega (arith, one, took-counts x q))
+      (rw (next p l, less, took-in M m x (map stepOf (drop (p + 1) xs)) (b - (t + 1)) e, one, sym g) refl)
   running-more m m′ p t r l h k s (Tried·passed e none g) =
       let x = stepOf (getD xs p 0) in
-      let rest = runIn M m′ (map stepOf (drop (p + 1) xs)) (b - (t + r)) in
       let less : b - t ≡ suc (b - (t + 1)) = omega arith in
       let same : b - (t + r) ≡ suc (b - (t + 1)) = omega arith in
-      let step : runIn M m (map stepOf (drop p xs)) (b - t) ≡ withFirst (passed x) rest =
-      rw (next p l, less, run-passed M m x (map stepOf (drop (p + 1) xs)) (b - (t + 1)) e, same, sym g) refl in
-      more-passed m m′ p t r k s x rest none refl step
+      more m m′ p t r k s (passed x) (λ q. omega (arith, none, passed-counts x q))
+      (rw (next p l, less, passed-in M m x (map stepOf (drop (p + 1) xs)) (b - (t + 1)) e, same, sym g) refl)
+
+  -- The run reads no further: what it has come to.
+  stops : (m : List ℕ) (ys : List Step) (p t : ℕ) → t ≤ b → Running M m₀ xs b m p t →
+      runIn M m (map stepOf (drop p xs)) (b - t) ≡ stopped m ys → ltb p (length xs) ≡ anyLeft ys →
+      Tallied (runIn M m₀ (map stepOf xs) b) b (length xs) t p m
+  stops m ys p t h s stop left =
+      record {
+        number = omega (arith, s .taken, ap numberTaken stop, none-taken m ys);
+        within = h;
+        left = left ∙ sym (ap anyLeft (s .unread ∙ ap (λ (q : RanIn). q .unread) stop));
+        memory = sym (s .memory ∙ ap (λ (q : RanIn). q .memory) stop);
+      }
 
   -- The budget is used up.
   pub running-spent : (m : List ℕ) (p t : ℕ) → p < length xs → t ≤ b → b ≤ t → Running M m₀ xs b m p t →
       Tallied (runIn M m₀ (map stepOf xs) b) b (length xs) t p m
+  unfolding runIn anyLeft
   running-spent m p t l h k s =
       let none : b - t ≡ 0 = omega arith in
-      let stop : runIn M m (map stepOf (drop p xs)) (b - t) ≡ stopped m (map stepOf (drop p xs)) =
-      rw (next p l, none) (run-stopped M m (stepOf (getD xs p 0)) (map stepOf (drop (p + 1) xs))) in
-      let left : anyLeft (runIn M m₀ (map stepOf xs) b .unread) ≡ true =
-      ap anyLeft (s .unread ∙ ap (λ (q : RanIn). q .unread) stop) ∙ rw (next p l)
-      (some-left (stepOf (getD xs p 0)) (map stepOf (drop (p + 1) xs))) in
-      record {
-        number = omega (arith, s .taken, ap numberTaken stop, none-taken m (map stepOf (drop p xs)));
-        within = h;
-        left = lt-ltb p (length xs) l ∙ sym left;
-        memory = sym (s .memory ∙ ap (λ (q : RanIn). q .memory) stop);
-      }
+      stops m (map stepOf (drop p xs)) p t h s (rw (next p l, none) refl) (rw (next p l) (lt-ltb p (length xs) l))
 
   -- The list is read to its end.
   pub running-end : (m : List ℕ) (p t : ℕ) → length xs ≤ p → t ≤ b → Running M m₀ xs b m p t →
       Tallied (runIn M m₀ (map stepOf xs) b) b (length xs) t p m
-  running-end m p t l h s =
-      let over : map stepOf (drop p xs) ≡ [] = rw (drop-of-length-le xs l) refl in
-      let stop : runIn M m (map stepOf (drop p xs)) (b - t) ≡ stopped m [] = rw over (run-over M m (b - t)) in
-      let left : anyLeft (runIn M m₀ (map stepOf xs) b .unread) ≡ false =
-      ap anyLeft (s .unread ∙ ap (λ (q : RanIn). q .unread) stop) ∙ none-left in
-      record {
-        number = omega (arith, s .taken, ap numberTaken stop, none-taken m []);
-        within = h;
-        left = le-ltb p (length xs) l ∙ sym left;
-        memory = sym (s .memory ∙ ap (λ (q : RanIn). q .memory) stop);
-      }
+  unfolding runIn anyLeft
+  running-end m p t l h s = stops m [] p t h s (rw (drop-of-length-le xs l) refl) (le-ltb p (length xs) l)
 
 -- A step tried takes one step at most.
 pub tried-one : {M : Machine} {m m′ : List ℕ} {x : Step} {r : ℕ} → Tried M m x r m′ → r ≤ 1
@@ -173,22 +128,24 @@ tried-one (Tried·took e one g) = omega (arith, one)
 tried-one (Tried·passed e none g) = omega (arith, none)
 
 -- How a run ends, a law a case of the code.
-module _ (b : Bool) (t bu r l : ℕ) where
-  pub ends-silent : b ≡ true → silent ≡ endsWith b t bu r l
+module _ {said b : Bool} (t bu r l : ℕ) (same : said ≡ b) where
+  pub ends-silent : said ≡ true → silent ≡ endsWith b t bu r l
   unfolding endsWith endsAs
-  ends-silent e = rw e refl
+  ends-silent e = rw (← same, e) refl
 
-  pub ends-unspent : b ≡ false → (t ≡ bu → ⊥) → ended ≡ endsWith b t bu r l
+  pub ends-unspent : said ≡ false → (t ≡ bu → ⊥) → ended ≡ endsWith b t bu r l
   unfolding endsWith endsAs
-  ends-unspent e h = rw (e, ne-eqb t bu h) refl
+  ends-unspent e h = rw (← same, e, ne-eqb t bu h) refl
 
-  pub ends-spent : b ≡ false → t ≡ bu → r < l → spent ≡ endsWith b t bu r l
+  pub ends-spent : said ≡ false → t ≡ bu → r < l → spent ≡ endsWith b t bu r l
   unfolding endsWith endsAs
-  ends-spent e h k = rw (e, eq-eqb t bu h, lt-ltb r l k) refl
+  ends-spent e h k = rw (← same, e, eq-eqb t bu h, lt-ltb r l k) refl
 
-  pub ends-read : b ≡ false → t ≡ bu → l ≤ r → ended ≡ endsWith b t bu r l
+  pub ends-read : said ≡ false → t ≡ bu → l ≤ r → ended ≡ endsWith b t bu r l
   unfolding endsWith endsAs
-  ends-read e h k = rw (e, eq-eqb t bu h, le-ltb r l k) refl
+  ends-read e h k = rw (← same, e, eq-eqb t bu h, le-ltb r l k) refl
+
+pub ruleset ending-cases = (ends-silent, ends-unspent, ends-spent, ends-read)
 
 -- The answer of a run, from what its loop has come to.
 pub ran-is : (M : Machine) (r : RanIn) (b listed taken read : ℕ) (m : List ℕ) → Tallied r b listed taken read m →

@@ -1,15 +1,17 @@
 -- What passed checks tell, and what the checks of an entry come to.
 use Prim.Native.Nat.{ℕ, _+_, _≤_}
 use native.Mathlib.Omega.{arith}
-use mathlib.Core.Bool.{Bool, true, false}
+use mathlib.Core.Bool.{Bool, true, false, not}
 use mathlib.Core.List.{List}
 use mathlib.Core.Path.{_≡_, refl, _∙_, ap, fun-ext}
 use lib.ListN.{length, getD}
+use borrow.Author.Tests.{not-true, not-false}
 use Rattle.floor.specs.declared.Floor.{Floor}
 use Rattle.floor.specs.Verdict.{Verdict, passed, refused, _then_, demand, each}
 use Rattle.floor.specs.Checks.{checkOf}
 use Rattle.floor.specs.Accepted.{Accepted}
 use Rattle.floor.proofs.VerdictLaws.{then-both, demand-holds}
+use Rattle.floor.proofs.AnswersLaws.{hands-on, ends-at}
 use Rattle.floor.proofs.LimitsLaws.{Bounds, limited-bounds, room-passed}
 use Rattle.floor.proofs.Theorems.{theorems}
 use Rattle.search.specs.Rows.{FreeRows}
@@ -62,11 +64,11 @@ unfolding stepVerdict
 single-is f ws m x = rw (named-of f ws (stepOf x), open-of f m ws (stepOf x)) refl
 
 -- The names of a list as the code tests them.
-pub names-are : (f : Floor) (ws xs : List ℕ) → each 7 0 (namedAt f xs) (length xs) ≡
-    each 7 0 (λ p. named (machineOf f ws) (stepOf (getD xs p 0))) (length xs)
+pub names-are : {v : Verdict} (f : Floor) (ws xs : List ℕ) → v ≡ each 7 0 (namedAt f xs) (length xs) →
+    v ≡ each 7 0 (λ p. named (machineOf f ws) (stepOf (getD xs p 0))) (length xs)
 unfolding namedAt
-names-are f ws xs =
-    ap (λ (ok : ℕ → Bool). each 7 0 ok (length xs)) (fun-ext (λ p. named-of f ws (stepOf (getD xs p 0))))
+names-are f ws xs e =
+    e ∙ ap (λ (ok : ℕ → Bool). each 7 0 ok (length xs)) (fun-ext (λ p. named-of f ws (stepOf (getD xs p 0))))
 
 -- Where the checks pass, the answer and the memory are those after the step; with a refusal, all is as it was.
 pub reply-passed : {r : Reply} (v : Verdict) (r′ : Reply) → v ≡ passed → r ≡ r′ → r ≡ replyIf v r′
@@ -85,14 +87,24 @@ pub memory-refused : (v : Verdict) (m old : List ℕ) (k p : ℕ) → v ≡ refu
 unfolding memoryIf
 memory-refused v m old k p e = rw e refl
 
--- 7, then 8: the first that is met.
-pub seven-stops : {v : Verdict} (b : Bool) (w : Verdict) → b ≡ false → v ≡ demand false 7 0 → v ≡ (demand b 7 0 then w)
-unfolding demand _then_
-seven-stops b w e g = rw e g
+-- A test in a chain of checks, last and with others behind it: its refusal, or what comes then.
+pub demand-yes : {b d : Bool} (k p : ℕ) → b ≡ d → b ≡ true → passed ≡ demand d k p
+unfolding demand
+demand-yes k p e h = rw (← e, h) refl
 
-pub eight-next : {v : Verdict} (b d : Bool) → b ≡ true → v ≡ demand d 8 0 → v ≡ (demand b 7 0 then demand d 8 0)
-unfolding _then_ demand
-eight-next b d e g = rw e g
+pub demand-no : {v : Verdict} {b d : Bool} (k p : ℕ) → b ≡ d → b ≡ false → v ≡ demand false k p → v ≡ demand d k p
+demand-no k p e h g = rw (← e, h) g
+
+pub then-yes : {v w : Verdict} {b d : Bool} (k p : ℕ) → b ≡ d → not b ≡ false → v ≡ w → v ≡ (demand d k p then w)
+unfolding demand _then_
+then-yes {b} k p e h g = rw (← e, not-false b h) g
+
+pub then-no : {v : Verdict} {b d : Bool} (k p : ℕ) (w : Verdict) → b ≡ d → not b ≡ true → v ≡ demand false k p → v ≡ (demand d k p then w)
+unfolding demand _then_
+then-no {b} k p w e h g = rw (← e, not-true b h) g
+
+-- What each answer of a chain of checks is found with.
+pub ruleset chain = (hands-on, ends-at, demand-yes, demand-no, then-yes, then-no)
 
 -- The checks of a single step stand for the number that names it.
 pub single-stands : {v : Verdict} (f : Floor) (ws m : List ℕ) (s : Step) (x : ℕ) → s ≡ stepOf x →

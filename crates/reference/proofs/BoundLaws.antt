@@ -18,8 +18,7 @@ use Rattle.reference.specs.Bounds.{InRange}
 use Rattle.reference.proofs.RangeLaws.{each-holds}
 use Rattle.reference.proofs.OpenLaws.{no-kind-shut, plan-room}
 use Rattle.reference.proofs.CountLaws.{step-counts}
-use Rattle.reference.proofs.TakeLaws.{plan-keeps, sent-below, chan-other, chan-above}
-use Rattle.reference.proofs.TakeLaws.{deliver-chan, deliver-chan-sender, deliver-chan-other}
+use Rattle.reference.proofs.TakeLaws.{plan-keeps, sent-below, chan-other, chan-above, deliver-chan}
 
 -- A channel after a plan of i: as it was, or from i to a carrier below with one message more.
 pub plan-chan-cases : (s : State) (i : ℕ) (a : Answer) (k j : ℕ) → (planAs s i a .chan k j ≡ s .chan k j) ⊎
@@ -40,9 +39,9 @@ deliver-chan-cases s j i k l = go (eq-or-ne k i) (eq-or-ne l j)
   where
     go : (k ≡ i) ⊎ (k ≡ i → ⊥) → (l ≡ j) ⊎ (l ≡ j → ⊥) → (deliverTo s j i .chan k l ≡ s .chan k l) ⊎
         (deliverTo s j i .chan k l ≡ newer (s .chan k l))
-    go (inr n) m = inl (rw (deliver-chan-other s j i k n))
-    go (inl q) (inl m) = inr (rw (q, m) (deliver-chan s j i))
-    go (inl q) (inr m) = inl (rw q (deliver-chan-sender s j i l m))
+    go (inr n) m = inl (rw (deliver-chan s j i .elsewhere k n))
+    go (inl q) (inl m) = inr (rw (q, m) (deliver-chan s j i .there))
+    go (inl q) (inr m) = inl (rw q (deliver-chan s j i .beside l m))
 
 newer-shorter : (l : List Answer) → length (newer l) ≤ length l
 unfolding newer

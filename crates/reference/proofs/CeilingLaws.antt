@@ -13,8 +13,7 @@ use Rattle.reference.specs.Table.{Call}
 use Rattle.reference.specs.Calls.{replies}
 use Rattle.reference.specs.Quiet.{takenInAll, ceiling}
 use Rattle.reference.proofs.OpenLaws.{no-kind-shut, plan-within, plan-due, deliver-above, deliver-within, deliver-full}
-use Rattle.reference.proofs.Potential.{potential}
-use Rattle.reference.proofs.Potential.{fresh-potential}
+use Rattle.reference.proofs.Potential.{potential, fresh-potential}
 use Rattle.reference.proofs.ReachLaws.{calls-reach}
 use Rattle.reference.proofs.PlanWeight.{plan-lowers}
 use Rattle.reference.proofs.DeliverWeight.{deliver-lowers}

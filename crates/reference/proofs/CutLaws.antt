@@ -28,10 +28,9 @@ same-test r q b l = go (eqb q (b - r)) refl
 module _ (M : Machine) where
   followed-none : (s : State) (b : ℕ) → Followed M s [] b (run M s [] b)
   unfolding Followed run
-  followed-none s b ys = rw whole (record { state = refl; history = refl; taken = omega arith; unread = refl })
-    where
-      whole : b - 0 ≡ b
-      whole = omega arith
+  followed-none s b ys =
+      let whole : b - 0 ≡ b = omega arith in
+      rw whole (record { state = refl; history = refl; taken = omega arith; unread = refl })
 
   followed-stopped : (s : State) (x : Step) (xs : List Step) → Followed M s (x ∷ xs) 0 (run M s (x ∷ xs) 0)
   unfolding Followed run
@@ -42,6 +41,8 @@ module _ (M : Machine) where
       Followed M (afterStep M s x) xs b r → Followed M s (x ∷ xs) (suc b) (tookFirst x r)
   unfolding Followed tookFirst
   followed-took s x xs b r e p ys =
+      let q = p ys in
+      let less : suc b - suc (r .taken) ≡ b - r .taken = omega arith in
       rw (run-took M s x (xs ++ ys) b e, less)
       (record {
         state = q .state;
@@ -49,12 +50,6 @@ module _ (M : Machine) where
         taken = omega (arith, q .taken);
         unread = q .unread;
       })
-    where
-      q : Joined (run M (afterStep M s x) (xs ++ ys) b) r (run M (r .state) ys (b - r .taken))
-      q = p ys
-
-      less : suc b - suc (r .taken) ≡ b - r .taken
-      less = omega arith
 
   followed-passed : (s : State) (x : Step) (xs : List Step) (b : ℕ) (r : Ran) → isOpen M s x ≡ false →
       Followed M s xs (suc b) r → Followed M s (x ∷ xs) (suc b) (passedFirst x r)
@@ -76,10 +71,9 @@ module _ (M : Machine) where
   -- The end of a joined run, where the first part r is read to its end.
   joined-ending : (b : ℕ) (w r q : Ran) → Joined w r q → r .taken ≤ b → r .unread ≡ [] → ending M b w ≡ ending M (b - r .taken) q
   unfolding ending
-  joined-ending b w r q j l e = rw (j .state, j .taken, same-test (r .taken) (q .taken) b l, left)
-    where
-      left : w .unread ≡ q .unread
-      left = rw (j .unread, e)
+  joined-ending b w r q j l e =
+      let left : w .unread ≡ q .unread = rw (j .unread, e) in
+      rw (j .state, j .taken, same-test (r .taken) (q .taken) b l, left)
 
   pub cut-ending : (s : State) (xs ys : List Step) (b : ℕ) → run M s xs b .unread ≡ [] →
       ending M b (run M s (xs ++ ys) b) ≡ ending M (b - run M s xs b .taken) (run M (run M s xs b .state) ys (b - run M s xs b .taken))

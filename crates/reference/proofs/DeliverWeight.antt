@@ -11,7 +11,7 @@ use Rattle.laws.proofs.Tests.{true-false-absurd}
 use Rattle.reference.specs.State.{State}
 use Rattle.reference.specs.Step.{isEmpty}
 use Rattle.reference.specs.Take.{newer, deliverTo}
-use Rattle.reference.proofs.TakeLaws.{deliver-due-other, deliver-chan, deliver-chan-sender, deliver-chan-other}
+use Rattle.reference.proofs.TakeLaws.{deliver-due, deliver-chan}
 use Rattle.reference.proofs.Sums.{sum-less}
 use Rattle.reference.proofs.Potential.{unit, unit-positive, dueWeight, messages, weightAt, potential}
 
@@ -28,17 +28,17 @@ due-most false u = omega arith
 module _ (n : ℕ) (s : State) (j i : ℕ) where
   messages-other : (m : ℕ) → (m ≡ i → ⊥) → messages (deliverTo s j i) m ≡ messages s m
   unfolding messages
-  messages-other m h = rw (deliver-chan-other s j i m h)
+  messages-other m h = rw (deliver-chan s j i .elsewhere m h)
 
   messages-less : j < i → isEmpty (s .chan i j) ≡ false → messages (deliverTo s j i) i + 1 ≡ messages s i
   unfolding messages
   messages-less l e =
       sum-less i j 1 (λ k. length (deliverTo s j i .chan i k)) (λ k. length (s .chan i k)) l
-      (rw (deliver-chan s j i) (newer-length (s .chan i j) e)) (λ k h q. ap length (deliver-chan-sender s j i k q))
+      (rw (deliver-chan s j i .there) (newer-length (s .chan i j) e)) (λ k h q. ap length (deliver-chan s j i .beside k q))
 
   weight-other : (m : ℕ) → (m ≡ i → ⊥) → weightAt n (deliverTo s j i) m ≡ weightAt n s m
   unfolding weightAt
-  weight-other m h = rw (deliver-due-other s j i m h, messages-other m h) refl
+  weight-other m h = rw (deliver-due s j i .elsewhere m h, messages-other m h) refl
 
   weight-less : j < i → isEmpty (s .chan i j) ≡ false → weightAt n (deliverTo s j i) i < weightAt n s i
   unfolding weightAt

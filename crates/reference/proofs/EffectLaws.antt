@@ -4,19 +4,15 @@ use mathlib.Core.Bool.{Bool, true, false}
 use mathlib.Core.List.{List, [], _∷_}
 use mathlib.Core.Logic.{_⊎_, inl, inr, ⊎-elim}
 use mathlib.Core.Path.{_≡_, refl, _∙_}
-use borrow.Author.Tests.{eq-eqb}
 use Rattle.route.specs.Route.{Answer, none, route, View, heard}
-use Rattle.laws.proofs.Tests.{and-both, eq-or-ne, true-false-absurd}
+use Rattle.laws.proofs.Tests.{eq-or-ne, true-false-absurd}
 use Rattle.reference.specs.State.{Machine, State, views, tick}
-use Rattle.reference.specs.Step.{plan, deliver, isEmpty, isOpen, sameCells, sameAnswer}
+use Rattle.reference.specs.Step.{plan, deliver, isEmpty, isOpen, sameAnswer}
 use Rattle.reference.specs.Take.{isNews, planAs, oldest, newer, deliverTo, afterStep}
 use Rattle.reference.specs.Effects.{Planned, Delivered}
 use Rattle.reference.proofs.OpenLaws.{deliver-full}
-use Rattle.reference.proofs.TakeLaws.{cells-same, no-news, plan-keeps, sent-below, chan-other, plan-view, plan-planned}
-use Rattle.reference.proofs.TakeLaws.{plan-planned-other}
-use Rattle.reference.proofs.TakeLaws.{plan-clears, plan-due-other, plan-answer, plan-answer-other, deliver-due, deliver-due-other}
-use Rattle.reference.proofs.TakeLaws.{deliver-planned, deliver-answer, deliver-chan, deliver-chan-sender, deliver-chan-other}
-use Rattle.reference.proofs.TakeLaws.{deliver-view, deliver-view-sender, deliver-view-other}
+use Rattle.reference.proofs.TakeLaws.{cells-same, no-news, plan-keeps, sent-below, chan-other, plan-view, plan-planned, plan-clears}
+use Rattle.reference.proofs.TakeLaws.{plan-answer, deliver-due, deliver-planned, deliver-answer, deliver-chan, deliver-view}
 
 answer-same : (a : Answer) → sameAnswer a a ≡ true
 unfolding sameAnswer
@@ -52,18 +48,18 @@ module _ (M : Machine) (s : State) where
   unfolding afterStep
   plan-does i =
       record {
-        best = plan-answer s i a;
-        cleared = plan-clears s i a;
-        planned = plan-planned s i a;
-        sends = λ h k l. rw (plan-answer s i a) (sent-below s i a (first-is-news s i a (rw (plan-answer s i a) at h)) k l);
-        keeps = λ p e k l. rw (plan-keeps s i a (again-no-news s i a p (e ∙ plan-answer s i a)));
+        best = plan-answer s i a .there;
+        cleared = plan-clears s i a .there;
+        planned = plan-planned s i a .there;
+        sends = λ h k l. rw (plan-answer s i a .there) (sent-below s i a (first-is-news s i a (rw (plan-answer s i a .there) at h)) k l);
+        keeps = λ p e k l. rw (plan-keeps s i a (again-no-news s i a p (e ∙ plan-answer s i a .there)));
         counted = plan-counted s i a;
         carriers =
             λ k n.
             record {
-              planned = plan-planned-other s i a k n;
-              due = plan-due-other s i a k n;
-              answer = plan-answer-other s i a k n;
+              planned = plan-planned s i a .elsewhere k n;
+              due = plan-clears s i a .elsewhere k n;
+              answer = plan-answer s i a .elsewhere k n;
             };
         channels = λ k j n. chan-other s i a k j n;
         seen = λ k j. rw (plan-view s i a);
@@ -82,15 +78,15 @@ module _ (M : Machine) (s : State) where
   deliver-does j i e =
       record {
         oldest = f .0;
-        leaves = rw (deliver-chan s j i) (f .1);
-        becomes = deliver-view s j i ∙ f .2;
-        due = deliver-due s j i;
+        leaves = rw (deliver-chan s j i .there) (f .1);
+        becomes = deliver-view s j i .there ∙ f .2;
+        due = deliver-due s j i .there;
         counted = deliver-counted s j i;
         carriers =
             λ k n.
             record {
               planned = rw (deliver-planned s j i);
-              due = deliver-due-other s j i k n;
+              due = deliver-due s j i .elsewhere k n;
               answer = rw (deliver-answer s j i);
             };
         receiver = (rw (deliver-planned s j i), rw (deliver-answer s j i));
@@ -102,11 +98,11 @@ module _ (M : Machine) (s : State) where
       f = oldest-first (s .view i j) (s .chan i j) (deliver-full M s j i e)
 
       channels : (k l : ℕ) → (k ≡ i → ⊥) ⊎ (l ≡ j → ⊥) → (k ≡ i) ⊎ (k ≡ i → ⊥) → deliverTo s j i .chan k l ≡ s .chan k l
-      channels k l (inl n) q = rw (deliver-chan-other s j i k n)
-      channels k l (inr n) (inl q) = rw q (deliver-chan-sender s j i l n)
-      channels k l (inr n) (inr q) = rw (deliver-chan-other s j i k q)
+      channels k l (inl n) q = rw (deliver-chan s j i .elsewhere k n)
+      channels k l (inr n) (inl q) = rw q (deliver-chan s j i .beside l n)
+      channels k l (inr n) (inr q) = rw (deliver-chan s j i .elsewhere k q)
 
       seen : (k l : ℕ) → (k ≡ i → ⊥) ⊎ (l ≡ j → ⊥) → (k ≡ i) ⊎ (k ≡ i → ⊥) → deliverTo s j i .view k l ≡ s .view k l
-      seen k l (inl n) q = rw (deliver-view-other s j i k n)
-      seen k l (inr n) (inl q) = rw q (deliver-view-sender s j i l n)
-      seen k l (inr n) (inr q) = rw (deliver-view-other s j i k q)
+      seen k l (inl n) q = rw (deliver-view s j i .elsewhere k n)
+      seen k l (inr n) (inl q) = rw q (deliver-view s j i .beside l n)
+      seen k l (inr n) (inr q) = rw (deliver-view s j i .elsewhere k q)

@@ -11,10 +11,8 @@ use Rattle.reference.specs.State.{Machine, State, fresh, views}
 use Rattle.reference.specs.Step.{Step, plan, deliver, noKind}
 use Rattle.reference.specs.Take.{isNews, planAs, oldest, newer, deliverTo, afterStep}
 use Rattle.reference.specs.History.{Reaches, stay, next}
-use Rattle.reference.proofs.TakeLaws.{no-news, plan-keeps, sent-below, chan-other, plan-view, plan-planned, plan-planned-other}
-use Rattle.reference.proofs.TakeLaws.{plan-due-other, plan-answer, plan-answer-other, deliver-due, deliver-due-other}
-use Rattle.reference.proofs.TakeLaws.{deliver-planned, deliver-answer, deliver-chan, deliver-chan-sender, deliver-chan-other}
-use Rattle.reference.proofs.TakeLaws.{deliver-view, deliver-view-sender, deliver-view-other}
+use Rattle.reference.proofs.TakeLaws.{no-news, plan-keeps, sent-below, chan-other, plan-view, plan-planned, plan-clears, plan-answer}
+use Rattle.reference.proofs.TakeLaws.{deliver-due, deliver-planned, deliver-answer, deliver-chan, deliver-view}
 
 -- What the receiver will have heard once every message is delivered.
 pub latest : View → List Answer → View
@@ -58,11 +56,11 @@ module _ (M : Machine) (s : State) (h : Sound M s) where
   module _ (i : ℕ) (a : Answer) where
     said-other : (j : ℕ) → (j ≡ i → ⊥) → said (planAs s i a) j ≡ said s j
     unfolding said
-    said-other j n = rw (plan-planned-other s i a j n, plan-answer-other s i a j n)
+    said-other j n = rw (plan-planned s i a .elsewhere j n, plan-answer s i a .elsewhere j n)
 
     said-plan : said (planAs s i a) i ≡ heard a
     unfolding said saidAs
-    said-plan = rw (plan-planned s i a, plan-answer s i a)
+    said-plan = rw (plan-planned s i a .there, plan-answer s i a .there)
 
     -- What is on the way from i after its plan: the news, or what it was, if that is what i answered before.
     plan-said : (k : ℕ) → i < k → latest (s .view k i) (planAs s i a .chan k i) ≡ heard a
@@ -85,13 +83,15 @@ module _ (M : Machine) (s : State) (h : Sound M s) where
 
       has-planned : (k : ℕ) → z .due k ≡ false → z .planned k ≡ true
       has-planned k e =
-          ⊎-elim (λ (q : k ≡ i). rw q (plan-planned s i a))
-          (λ (n : k ≡ i → ⊥). plan-planned-other s i a k n ∙ h .has-planned k (sym (plan-due-other s i a k n) ∙ e)) (eq-or-ne k i)
+          ⊎-elim (λ (q : k ≡ i). rw q (plan-planned s i a .there))
+          (λ (n : k ≡ i → ⊥). plan-planned s i a .elsewhere k n ∙ h .has-planned k (sym (plan-clears s i a .elsewhere k n) ∙ e))
+          (eq-or-ne k i)
 
       is-best : (k : ℕ) → z .due k ≡ false → z .answer k ≡ M .respond k (views z k)
       is-best k e =
-          ⊎-elim (λ (q : k ≡ i). rw (q, plan-view s i a) (plan-answer s i a))
-          (λ (n : k ≡ i → ⊥). rw (plan-view s i a) (plan-answer-other s i a k n ∙ h .is-best k (sym (plan-due-other s i a k n) ∙ e)))
+          ⊎-elim (λ (q : k ≡ i). rw (q, plan-view s i a) (plan-answer s i a .there))
+          (λ (n : k ≡ i → ⊥).
+          rw (plan-view s i a) (plan-answer s i a .elsewhere k n ∙ h .is-best k (sym (plan-clears s i a .elsewhere k n) ∙ e)))
           (eq-or-ne k i)
 
       is-said : (k j : ℕ) → j < k → latest (z .view k j) (z .chan k j) ≡ said z j
@@ -108,25 +108,26 @@ module _ (M : Machine) (s : State) (h : Sound M s) where
 
       was : (k : ℕ) → z .due k ≡ false → (k ≡ i → ⊥) × (s .due k ≡ false)
       was k e =
-          ⊎-elim (λ (q : k ≡ i). true-false-absurd (deliver-due s j i) (rw q at e))
-          (λ (n : k ≡ i → ⊥). (n, sym (deliver-due-other s j i k n) ∙ e)) (eq-or-ne k i)
+          ⊎-elim (λ (q : k ≡ i). true-false-absurd (deliver-due s j i .there) (rw q at e))
+          (λ (n : k ≡ i → ⊥). (n, sym (deliver-due s j i .elsewhere k n) ∙ e)) (eq-or-ne k i)
 
       has-planned : (k : ℕ) → z .due k ≡ false → z .planned k ≡ true
       has-planned k e = rw (deliver-planned s j i) (h .has-planned k (was k e .1))
 
       is-best : (k : ℕ) → z .due k ≡ false → z .answer k ≡ M .respond k (views z k)
-      is-best k e = rw (deliver-answer s j i, deliver-view-other s j i k (was k e .0)) (h .is-best k (was k e .1))
+      is-best k e = rw (deliver-answer s j i, deliver-view s j i .elsewhere k (was k e .0)) (h .is-best k (was k e .1))
 
       to-i : (m : ℕ) → m < i → (m ≡ j) ⊎ (m ≡ j → ⊥) → latest (z .view i m) (z .chan i m) ≡ said s m
       to-i m l (inl q) =
-          rw (q, deliver-view s j i, deliver-chan s j i, latest-delivered (s .view i j) (s .chan i j)) (h .is-said i j (rw q at l))
-      to-i m l (inr n) = rw (deliver-view-sender s j i m n, deliver-chan-sender s j i m n) (h .is-said i m l)
+          rw (q, deliver-view s j i .there, deliver-chan s j i .there, latest-delivered (s .view i j) (s .chan i j))
+          (h .is-said i j (rw q at l))
+      to-i m l (inr n) = rw (deliver-view s j i .beside m n, deliver-chan s j i .beside m n) (h .is-said i m l)
 
       is-said : (k m : ℕ) → m < k → latest (z .view k m) (z .chan k m) ≡ said z m
       is-said k m l =
           rw (deliver-planned s j i, deliver-answer s j i)
           (⊎-elim (λ (q : k ≡ i). rw q (to-i m (rw q at l) (eq-or-ne m j)))
-          (λ (n : k ≡ i → ⊥). rw (deliver-view-other s j i k n, deliver-chan-other s j i k n) (h .is-said k m l)) (eq-or-ne k i))
+          (λ (n : k ≡ i → ⊥). rw (deliver-view s j i .elsewhere k n, deliver-chan s j i .elsewhere k n) (h .is-said k m l)) (eq-or-ne k i))
 
   step-sound : (x : Step) → Sound M (afterStep M s x)
   unfolding afterStep

@@ -11,7 +11,7 @@ use lib.ListN.{length, length-append}
 use Rattle.route.specs.Route.{Answer}
 use Rattle.reference.specs.State.{State}
 use Rattle.reference.specs.Take.{isNews, planAs}
-use Rattle.reference.proofs.TakeLaws.{plan-keeps, sent-below, chan-other, chan-above, plan-clears, plan-due-other}
+use Rattle.reference.proofs.TakeLaws.{plan-keeps, sent-below, chan-other, chan-above, plan-clears}
 use Rattle.reference.proofs.Sums.{sumTo, sum-same, sum-less}
 use Rattle.reference.proofs.Potential.{unit, unit-double, unit-last, unit-positive, dueWeight, messages, weightAt, potential}
 
@@ -35,13 +35,9 @@ module _
 
   plan-total : (k : ℕ) → k ≡ n → i < k → sumTo k g < sumTo k f
   plan-total zero e l = absurd (omega arith)
-  plan-total (suc p) e l = omega (arith, plan-sum p (omega arith) (omega arith), two)
-    where
-      last : unit n (suc p) ≡ 1
-      last = rw e (unit-last n)
-
-      two : unit n p ≡ 2
-      two = omega (arith, unit-double n p (omega arith), last)
+  plan-total (suc p) e l =
+      let last : unit n (suc p) ≡ 1 = rw e (unit-last n) in
+      omega (arith, plan-sum p (omega arith) (omega arith), unit-double n p (omega arith))
 
 module _ (n : ℕ) (s : State) (i : ℕ) (a : Answer) where
   messages-above : (m : ℕ) → m ≤ i → messages (planAs s i a) m ≡ messages s m
@@ -57,26 +53,24 @@ module _ (n : ℕ) (s : State) (i : ℕ) (a : Answer) where
       go true e =
           omega (
             arith,
-            sum-less m i 1 (λ j. length (s .chan m j)) (λ j. length (planAs s i a .chan m j)) l (longer e)
+            sum-less m i 1 (λ j. length (s .chan m j)) (λ j. length (planAs s i a .chan m j)) l
+                (rw (sent-below s i a e m l) (omega (arith, length-append (s .chan m i) (a ∷ []))))
                 (λ j h q. ap length (sym (chan-other s i a m j q))),
           )
-        where
-          longer : isNews s i a ≡ true → length (s .chan m i) + 1 ≡ length (planAs s i a .chan m i)
-          longer e = rw (sent-below s i a e m l) (omega (arith, length-append (s .chan m i) (a ∷ [])))
       go false e = rw (plan-keeps s i a e) (omega arith)
 
   weight-above : (m : ℕ) → m < i → weightAt n (planAs s i a) m ≡ weightAt n s m
   unfolding weightAt
-  weight-above m l = rw (plan-due-other s i a m (λ q. omega arith), messages-above m (omega arith)) refl
+  weight-above m l = rw (plan-clears s i a .elsewhere m (λ q. omega arith), messages-above m (omega arith)) refl
 
   weight-own : s .due i ≡ true → weightAt n (planAs s i a) i + unit n i ≡ weightAt n s i + 1
   unfolding weightAt dueWeight
-  weight-own d = rw (plan-clears s i a, messages-above i (omega arith), d) (omega (arith, unit-positive n i))
+  weight-own d = rw (plan-clears s i a .there, messages-above i (omega arith), d) (omega (arith, unit-positive n i))
 
   weight-below : (m : ℕ) → i < m → weightAt n (planAs s i a) m ≤ weightAt n s m + unit n m
   unfolding weightAt
   weight-below m l =
-      rw (plan-due-other s i a m (λ q. omega arith))
+      rw (plan-clears s i a .elsewhere m (λ q. omega arith))
       (omega (arith, add-mul (messages s m) 1 (unit n m), one-mul (unit n m), mul-le-mul-right (unit n m) (messages-below m l)))
 
   pub plan-lowers : s .due i ≡ true → i < n → potential n (planAs s i a) < potential n s

@@ -15,24 +15,15 @@ unit n i = 2 ^ (n - i)
 
 pub unit-double : (n i : ℕ) → i < n → unit n i ≡ unit n (suc i) + unit n (suc i)
 unfolding unit
-unit-double n i l = rw more (two-pow-succ (n - suc i))
-  where
-    more : n - i ≡ suc (n - suc i)
-    more = omega arith
+unit-double n i l = let more : n - i ≡ suc (n - suc i) = omega arith in rw more (two-pow-succ (n - suc i))
 
 unit-first : (n : ℕ) → unit n 0 ≡ 2 ^ n
 unfolding unit
-unit-first n = rw all refl
-  where
-    all : n - 0 ≡ n
-    all = omega arith
+unit-first n = let all : n - 0 ≡ n = omega arith in rw all refl
 
 pub unit-last : (n : ℕ) → unit n n ≡ 1
 unfolding unit
-unit-last n = rw none refl
-  where
-    none : n - n ≡ 0
-    none = omega arith
+unit-last n = let none : n - n ≡ 0 = omega arith in rw none refl
 
 pub unit-positive : (n i : ℕ) → 1 ≤ unit n i
 unfolding unit

@@ -16,8 +16,7 @@ use Rattle.reference.specs.History.{Reaches, stay, next}
 use Rattle.reference.proofs.RangeLaws.{below-same, below-map}
 use Rattle.reference.proofs.OpenLaws.{nil-empty, no-kind-shut, plan-due, deliver-above, deliver-full}
 use Rattle.reference.proofs.QuietLaws.{Quiet}
-use Rattle.reference.proofs.TakeLaws.{chan-above, plan-due-other, plan-answer-other, deliver-due-other, deliver-answer}
-use Rattle.reference.proofs.TakeLaws.{deliver-chan-other}
+use Rattle.reference.proofs.TakeLaws.{chan-above, plan-clears, plan-answer, deliver-due, deliver-answer, deliver-chan}
 use Rattle.reference.proofs.Invariant.{Sound, view-heard}
 
 module _ (M : Machine) (s : State) where
@@ -52,16 +51,16 @@ module _ (M : Machine) (s : State) (k : ℕ) where
   plan-same : (i : ℕ) (a : Answer) → k ≤ i → SameBelow k s (planAs s i a)
   plan-same i a h =
       record {
-        due = λ m l. plan-due-other s i a m (λ q. omega arith);
+        due = λ m l. plan-clears s i a .elsewhere m (λ q. omega arith);
         chan = λ m j l. chan-above s i a m j (omega arith);
-        answer = λ m l. plan-answer-other s i a m (λ q. omega arith);
+        answer = λ m l. plan-answer s i a .elsewhere m (λ q. omega arith);
       }
 
   deliver-same : (j i : ℕ) → k ≤ i → SameBelow k s (deliverTo s j i)
   deliver-same j i h =
       record {
-        due = λ m l. deliver-due-other s j i m (λ q. omega arith);
-        chan = λ m n l. rw (deliver-chan-other s j i m (λ q. omega arith));
+        due = λ m l. deliver-due s j i .elsewhere m (λ q. omega arith);
+        chan = λ m n l. rw (deliver-chan s j i .elsewhere m (λ q. omega arith));
         answer = λ m l. rw (deliver-answer s j i);
       }
 

@@ -1,5 +1,5 @@
 -- Laws of lists and tests over the first carriers, and of pointwise updates.
-use Prim.Native.Nat.{ℕ, zero, suc, _≤_, _<_}
+use Prim.Native.Nat.{ℕ, zero, suc, _<_}
 use native.Mathlib.Omega.{arith}
 use native.Mathlib.Nat.{eq-or-lt-of-le}
 use mathlib.Core.Bool.{Bool, true, false}
@@ -15,10 +15,7 @@ unfolding each
 each-holds zero p e i l = absurd (omega arith)
 each-holds (suc k) p e i l =
     ⊎-elim (λ (h : i ≡ k). rw h (and-snd (each k p) (p k) e)) (λ (h : i < k). each-holds k p (and-fst (each k p) (p k) e) i h)
-    (eq-or-lt-of-le (below-suc l))
-  where
-    below-suc : {a b : ℕ} → a < suc b → a ≤ b
-    below-suc h = omega arith
+    (eq-or-lt-of-le (omega arith))
 
 pub each-true : (k : ℕ) (p : ℕ → Bool) → ((i : ℕ) → i < k → p i ≡ true) → each k p ≡ true
 unfolding each
@@ -64,6 +61,22 @@ module _ {A : Type 0} where
 
   pub pair-other : (f : ℕ → ℕ → A) (i j : ℕ) (a : A) (k : ℕ) → (k ≡ j → ⊥) → putPair f i j a i k ≡ f i k
   pair-other f i j a k h = rw (pair-row f i j a) (put-other (f i) j a k h)
+
+-- g is f but for a at place i; and but for a at place j of row i.
+pub record PutAt {A : Type 0} (f : ℕ → A) (i : ℕ) (a : A) (g : ℕ → A) : Type 0 where
+  pub there : g i ≡ a
+  pub elsewhere : (k : ℕ) → (k ≡ i → ⊥) → g k ≡ f k
+
+pub put-at : {A : Type 0} (f : ℕ → A) (i : ℕ) (a : A) → PutAt f i a (put f i a)
+put-at f i a = record { there = put-same f i a; elsewhere = put-other f i a }
+
+pub record PairAt {A : Type 0} (f : ℕ → ℕ → A) (i j : ℕ) (a : A) (g : ℕ → ℕ → A) : Type 0 where
+  pub there : g i j ≡ a
+  pub beside : (k : ℕ) → (k ≡ j → ⊥) → g i k ≡ f i k
+  pub elsewhere : (k : ℕ) → (k ≡ i → ⊥) → g k ≡ f k
+
+pub pair-at : {A : Type 0} (f : ℕ → ℕ → A) (i j : ℕ) (a : A) → PairAt f i j a (putPair f i j a)
+pair-at f i j a = record { there = pair-same f i j a; beside = pair-other f i j a; elsewhere = pair-other-row f i j a }
 
 pub below-map : {A B : Type 0} (g : A → B) (k : ℕ) (f : ℕ → A) → below k (λ i. g (f i)) ≡ map g (below k f)
 unfolding below

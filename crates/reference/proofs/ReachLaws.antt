@@ -15,14 +15,9 @@ use Rattle.reference.proofs.TableLaws.{single-open}
 
 module _ (M : Machine) where
   pub reaches-join : {s y z : State} {t u : ℕ} → Reaches M s y t → Reaches M y z u → Reaches M s z (t + u)
-  reaches-join {u = u} stay q = rw none q
-    where
-      none : 0 + u ≡ u
-      none = omega arith
-  reaches-join {u = u} (next {t = t} x e p) q = rw more (next x e (reaches-join p q))
-    where
-      more : suc t + u ≡ suc (t + u)
-      more = omega arith
+  reaches-join {u = u} stay q = let none : 0 + u ≡ u = omega arith in rw none q
+  reaches-join {u = u} (next {t = t} x e p) q =
+      let more : suc t + u ≡ suc (t + u) = omega arith in rw more (next x e (reaches-join p q))
 
   pub run-reaches : (s : State) (xs : List Step) (b : ℕ) → Reaches M s (run M s xs b .state) (run M s xs b .taken)
   unfolding run tookFirst passedFirst

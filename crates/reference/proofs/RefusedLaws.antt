@@ -108,10 +108,7 @@ module _ (M : Machine) where
         go false u h k = moved (sym (single-unnamed M s x h) ∙ e) (unnamed-single l h)
 
     run-row : (lent : ℕ) (xs : List Step) (b a p : ℕ) → M .needed ≤ lent → Found 0 xs a p → RefusedWith M s (runOf lent xs b) a p
-    run-row lent xs b a p l f = rw (f .number, there) (unnamed-run l (f .first))
-      where
-        there : p ≡ f .at
-        there = omega (arith, f .place)
+    run-row lent xs b a p l f = let there : p ≡ f .at = omega (arith, f .place) in rw (f .number, there) (unnamed-run l (f .first))
 
     -- Nothing else refuses.
     refused-row : (c : Call) (a p : ℕ) → verdict M s c ≡ refusal a p → RefusedWith M s c a p

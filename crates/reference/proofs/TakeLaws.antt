@@ -10,7 +10,7 @@ use Rattle.laws.proofs.Tests.{and-both, and-fst, and-snd, true-false-absurd}
 use Rattle.reference.specs.State.{State}
 use Rattle.reference.specs.Step.{sameCells, sameAnswer}
 use Rattle.reference.specs.Take.{isNews, send, planAs, oldest, newer, deliverTo}
-use Rattle.reference.proofs.RangeLaws.{put-same, put-other, pair-same, pair-other, pair-other-row}
+use Rattle.reference.proofs.RangeLaws.{PutAt, put-at, PairAt, pair-at}
 
 pub same-cells : (q r : List ℕ) → sameCells q r ≡ true → q ≡ r
 unfolding sameCells
@@ -36,13 +36,11 @@ module _ (s : State) (i : ℕ) (a : Answer) where
   -- An answer that is no news: the carrier has planned, and this was its answer.
   pub no-news : isNews s i a ≡ false → (s .planned i ≡ true) × (s .answer i ≡ a)
   unfolding isNews
-  no-news e = (and-fst (s .planned i) same both, same-answer (s .answer i) a (and-snd (s .planned i) same both))
-    where
-      same : Bool
-      same = sameAnswer (s .answer i) a
-
-      both : (s .planned i && same) ≡ true
-      both = not-false (s .planned i && same) e
+  no-news e =
+      let p = s .planned i in
+      let same = sameAnswer (s .answer i) a in
+      let both = not-false (p && same) e in
+      (and-fst p same both, same-answer (s .answer i) a (and-snd p same both))
 
   plan-sends : isNews s i a ≡ true → planAs s i a .chan ≡ send (s .chan) i a
   unfolding planAs
@@ -75,29 +73,18 @@ module _ (s : State) (i : ℕ) (a : Answer) where
       go true false e f = rw (plan-sends e) (rw (f, send) refl)
       go false u e f = rw (plan-keeps e)
 
-  pub plan-planned : planAs s i a .planned i ≡ true
+  -- Carrier i has planned, is no longer due and has this answer; the others are as they were.
+  pub plan-planned : PutAt (s .planned) i true (planAs s i a .planned)
   unfolding planAs
-  plan-planned = put-same (s .planned) i true
+  plan-planned = put-at (s .planned) i true
 
-  pub plan-planned-other : (k : ℕ) → (k ≡ i → ⊥) → planAs s i a .planned k ≡ s .planned k
+  pub plan-clears : PutAt (s .due) i false (planAs s i a .due)
   unfolding planAs
-  plan-planned-other k h = put-other (s .planned) i true k h
+  plan-clears = put-at (s .due) i false
 
-  pub plan-clears : planAs s i a .due i ≡ false
+  pub plan-answer : PutAt (s .answer) i a (planAs s i a .answer)
   unfolding planAs
-  plan-clears = put-same (s .due) i false
-
-  pub plan-due-other : (k : ℕ) → (k ≡ i → ⊥) → planAs s i a .due k ≡ s .due k
-  unfolding planAs
-  plan-due-other k h = put-other (s .due) i false k h
-
-  pub plan-answer : planAs s i a .answer i ≡ a
-  unfolding planAs
-  plan-answer = put-same (s .answer) i a
-
-  pub plan-answer-other : (k : ℕ) → (k ≡ i → ⊥) → planAs s i a .answer k ≡ s .answer k
-  unfolding planAs
-  plan-answer-other k h = put-other (s .answer) i a k h
+  plan-answer = put-at (s .answer) i a
 
   -- A plan changes no view.
   pub plan-view : planAs s i a .view ≡ s .view
@@ -106,13 +93,9 @@ module _ (s : State) (i : ℕ) (a : Answer) where
 
 -- A delivery changes one channel and one view, and makes its receiver due.
 module _ (s : State) (j i : ℕ) where
-  pub deliver-due : deliverTo s j i .due i ≡ true
+  pub deliver-due : PutAt (s .due) i true (deliverTo s j i .due)
   unfolding deliverTo
-  deliver-due = put-same (s .due) i true
-
-  pub deliver-due-other : (k : ℕ) → (k ≡ i → ⊥) → deliverTo s j i .due k ≡ s .due k
-  unfolding deliverTo
-  deliver-due-other k h = put-other (s .due) i true k h
+  deliver-due = put-at (s .due) i true
 
   pub deliver-planned : deliverTo s j i .planned ≡ s .planned
   unfolding deliverTo
@@ -122,26 +105,10 @@ module _ (s : State) (j i : ℕ) where
   unfolding deliverTo
   deliver-answer = refl
 
-  pub deliver-chan : deliverTo s j i .chan i j ≡ newer (s .chan i j)
+  pub deliver-chan : PairAt (s .chan) i j (newer (s .chan i j)) (deliverTo s j i .chan)
   unfolding deliverTo
-  deliver-chan = pair-same (s .chan) i j (newer (s .chan i j))
+  deliver-chan = pair-at (s .chan) i j (newer (s .chan i j))
 
-  pub deliver-chan-sender : (k : ℕ) → (k ≡ j → ⊥) → deliverTo s j i .chan i k ≡ s .chan i k
+  pub deliver-view : PairAt (s .view) i j (oldest (s .view i j) (s .chan i j)) (deliverTo s j i .view)
   unfolding deliverTo
-  deliver-chan-sender k h = pair-other (s .chan) i j (newer (s .chan i j)) k h
-
-  pub deliver-chan-other : (k : ℕ) → (k ≡ i → ⊥) → deliverTo s j i .chan k ≡ s .chan k
-  unfolding deliverTo
-  deliver-chan-other k h = pair-other-row (s .chan) i j (newer (s .chan i j)) k h
-
-  pub deliver-view : deliverTo s j i .view i j ≡ oldest (s .view i j) (s .chan i j)
-  unfolding deliverTo
-  deliver-view = pair-same (s .view) i j (oldest (s .view i j) (s .chan i j))
-
-  pub deliver-view-sender : (k : ℕ) → (k ≡ j → ⊥) → deliverTo s j i .view i k ≡ s .view i k
-  unfolding deliverTo
-  deliver-view-sender k h = pair-other (s .view) i j (oldest (s .view i j) (s .chan i j)) k h
-
-  pub deliver-view-other : (k : ℕ) → (k ≡ i → ⊥) → deliverTo s j i .view k ≡ s .view k
-  unfolding deliverTo
-  deliver-view-other k h = pair-other-row (s .view) i j (oldest (s .view i j) (s .chan i j)) k h
+  deliver-view = pair-at (s .view) i j (oldest (s .view i j) (s .chan i j))

@@ -10,8 +10,7 @@ use Rattle.reference.specs.Step.{Step, plan, deliver, noKind}
 use Rattle.reference.specs.Take.{planAs, oldest, newer, deliverTo, afterStep}
 use Rattle.reference.specs.History.{Reaches, stay, next}
 use Rattle.reference.specs.Bounds.{AllOf, ShownOf, Throughout}
-use Rattle.reference.proofs.TakeLaws.{plan-view, plan-answer, plan-answer-other, deliver-answer}
-use Rattle.reference.proofs.TakeLaws.{deliver-view, deliver-view-sender, deliver-view-other}
+use Rattle.reference.proofs.TakeLaws.{plan-view, plan-answer, deliver-answer, deliver-view}
 use Rattle.reference.proofs.BoundLaws.{plan-chan-cases, deliver-chan-cases}
 
 module _ (P : Answer → Type 0) where
@@ -40,7 +39,8 @@ module _ (P : Answer → Type 0) where
       where
         answers : (k : ℕ) → P (planAs s i a .answer k)
         answers k =
-            ⊎-elim (λ (q : k ≡ i). rw (q, plan-answer s i a) p) (λ (n : k ≡ i → ⊥). rw (plan-answer-other s i a k n) (h .answers k))
+            ⊎-elim (λ (q : k ≡ i). rw (q, plan-answer s i a .there) p)
+            (λ (n : k ≡ i → ⊥). rw (plan-answer s i a .elsewhere k n) (h .answers k))
             (eq-or-ne k i)
 
         messages : (k j : ℕ) → (planAs s i a .chan k j ≡ s .chan k j) ⊎
@@ -65,10 +65,10 @@ module _ (P : Answer → Type 0) where
         messages k l (inr q) = rw q (all-newer (s .chan k l) (h .messages k l))
 
         seen : (k l : ℕ) → (k ≡ i) ⊎ (k ≡ i → ⊥) → (l ≡ j) ⊎ (l ≡ j → ⊥) → ShownOf P (deliverTo s j i .view k l)
-        seen k l (inr n) m = rw (deliver-view-other s j i k n) (h .seen k l)
+        seen k l (inr n) m = rw (deliver-view s j i .elsewhere k n) (h .seen k l)
         seen k l (inl q) (inl m) =
-            rw (q, m, deliver-view s j i) (shown-oldest (s .view i j) (s .chan i j) (h .seen i j) (h .messages i j))
-        seen k l (inl q) (inr m) = rw (q, deliver-view-sender s j i l m) (h .seen i l)
+            rw (q, m, deliver-view s j i .there) (shown-oldest (s .view i j) (s .chan i j) (h .seen i j) (h .messages i j))
+        seen k l (inl q) (inr m) = rw (q, deliver-view s j i .beside l m) (h .seen i l)
 
   module _ (M : Machine) (best : (i : ℕ) (vs : List View) → P (M .respond i vs)) where
     step-throughout : (s : State) → Throughout P s → (x : Step) → Throughout P (afterStep M s x)

@@ -8,6 +8,7 @@ use mathlib.Core.Path.{_≡_, refl, sym, _∙_, ap}
 use mathlib.Core.List.{List}
 use lib.ListN.{length, getD, set, length-set}
 use lib.Seq.{getD-set-same, getD-set-other, ext-getD}
+use borrow.Author.Needs.{needs}
 use Rattle.laws.specs.Memory.{part}
 use Rattle.laws.proofs.PartLaws.{part-byte, part-length}
 use Rattle.reference.specs.Step.{sameCells}
@@ -19,6 +20,9 @@ pub record Copied (m : List ℕ) (at : ℕ) (cells : List ℕ) (t : ℕ) : Type 
   pub copied : (q : ℕ) → q < t → getD cells q 0 ≡ getD m (at + q) 0
 
 module _ (m : List ℕ) (at : ℕ) where
+  pub copied-start : (cells : List ℕ) → length cells ≡ 64 → Copied m at cells 0
+  copied-start cells e = record { long = e; copied = λ q l. absurd (omega arith) }
+
   pub copied-more : (cells : List ℕ) (t : ℕ) → t < 64 → Copied m at cells t → Copied m at (set cells t (getD m (at + t) 0)) (t + 1)
   copied-more cells t l h =
       record {
@@ -27,11 +31,8 @@ module _ (m : List ℕ) (at : ℕ) where
             ⊎-elim
             (λ (e : q ≡ t). rw e (getD-set-same cells t (getD m (at + t) 0) 0 (omega (arith, h .long))))
             (λ (b : q < t). getD-set-other cells t q (getD m (at + t) 0) 0 (λ e. omega arith) ∙ h .copied q b)
-            (eq-or-lt-of-le (below q k));
+            (eq-or-lt-of-le (omega arith));
       }
-    where
-      below : (q : ℕ) → q < t + 1 → q ≤ t
-      below q k = omega arith
 
   pub copied-end : (cells : List ℕ) (t : ℕ) → 64 ≤ t → at + 64 ≤ length m → Copied m at cells t → cells ≡ part m at 64
   copied-end cells t l s h =
@@ -44,11 +45,8 @@ module _ (m : List ℕ) (at : ℕ) where
       record {
         long = h .long;
         copied = λ q k.
-            ⊎-elim (λ (same : q ≡ t). rw same (sym e)) (λ (b : q < t). h .copied q b) (eq-or-lt-of-le (below q k));
+            ⊎-elim (λ (same : q ≡ t). rw same (sym e)) (λ (b : q < t). h .copied q b) (eq-or-lt-of-le (omega arith));
       }
-    where
-      below : (q : ℕ) → q < t + 1 → q ≤ t
-      below q k = omega arith
 
   pub same-end : (cells : List ℕ) (t : ℕ) → 64 ≤ t → at + 64 ≤ length m → Copied m at cells t → true ≡ sameCells (part m at 64) cells
   same-end cells t l s h = rw (sym (copied-end cells t l s h)) (sym (cells-same cells))
@@ -60,3 +58,8 @@ module _ (m : List ℕ) (at : ℕ) where
       go false e = sym e
       go true e =
           absurd (h (sym (part-byte m at 64 t l) ∙ ap (λ (xs : List ℕ). getD xs t 0) (same-cells (part m at 64) cells e)))
+
+-- What each answer of these loops is found with.
+pub ruleset copy-turn = (copied-start, copied-more, copied-end, needs)
+
+pub ruleset same-turn = (copied-start, same-more, same-end, same-stop, needs)

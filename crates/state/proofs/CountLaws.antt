@@ -5,6 +5,7 @@ use mathlib.Core.Path.{_≡_, refl}
 use mathlib.Core.List.{List, [], _∷_}
 use lib.ListN.{length, getD, set, length-set}
 use borrow.Author.Tests.{lt-ltb, le-ltb}
+use borrow.Author.Needs.{needs}
 use Rattle.laws.specs.Memory.{put}
 use Rattle.laws.proofs.PutLaws.{put-one, put-next}
 use Rattle.layout.specs.Steps.{ticked}
@@ -34,3 +35,5 @@ module _ (m : List ℕ) where
   pub tick-full : 999 ≤ getD m 1 0 → 999 ≤ getD m 0 0 → m ≡ ticked m
   unfolding ticked
   tick-full h k = rw (le-ltb (getD m 1 0) 999 h, le-ltb (getD m 0 0) 999 k) refl
+
+pub ruleset tick-cases = (tick-rest, tick-thousands, tick-full, needs)

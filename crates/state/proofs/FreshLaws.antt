@@ -6,26 +6,19 @@ use native.Mathlib.Numerals.{add-one}
 use mathlib.Core.Path.{_≡_, refl, sym, _∙_, ap, ap₂}
 use mathlib.Core.List.{List, [], _∷_, _++_, append-assoc}
 use lib.ListN.{length, replicate, length-append, length-replicate, replicate-append-replicate}
+use borrow.Author.Needs.{needs}
 use Rattle.laws.specs.Memory.{put}
-use Rattle.laws.proofs.PutLaws.{put-next}
+use Rattle.laws.proofs.PutLaws.{put-none, put-next}
 use Rattle.planner.specs.Records.{recordOf}
 use Rattle.reference.specs.State.{fresh}
+use Rattle.layout.proofs.SplitLaws.{carrier-length}
+use Rattle.layout.proofs.StateLaws.{carriers-length}
 use Rattle.layout.specs.Places.{pairsBefore, stateSize}
 use Rattle.layout.specs.Encode.{flag, fit, slot, slots, channelBlock, carrierBlock, countBlock, blocks, pairs, encode}
-
-carrier-length : (i : ℕ) → length (carrierBlock fresh i) ≡ 67
-unfolding carrierBlock fresh slot fit recordOf flag
-carrier-length i = refl
 
 pub carrier-is : (i : ℕ) → 0 ∷ (1 ∷ (1 ∷ replicate 64 0)) ≡ carrierBlock fresh i
 unfolding carrierBlock fresh slot fit recordOf flag
 carrier-is i = refl
-
-pub fresh-length : (i : ℕ) → length (blocks i (carrierBlock fresh)) ≡ 67 * i
-unfolding blocks
-fresh-length zero = refl
-fresh-length (suc i) =
-    length-append (blocks i (carrierBlock fresh)) (carrierBlock fresh i) ∙ omega (arith, fresh-length i, carrier-length i)
 
 -- Zeros by blocks, of all carriers and of all pairs.
 zero-blocks : (w k : ℕ) (b : ℕ → List ℕ) → ((i : ℕ) → b i ≡ replicate w 0) → blocks k b ≡ replicate (w * k) 0
@@ -47,8 +40,10 @@ pub carriers-more : (m m′ m″ : List ℕ) (i : ℕ) → 69 + 67 * i ≤ lengt
 unfolding blocks
 carriers-more m m′ m″ i l e g =
     rw add-one
-    (put-next m m′ m″ (blocks i (carrierBlock fresh)) (carrierBlock fresh i) 2 (2 + 67 * i) e g (omega (arith, fresh-length i))
-    (omega (arith, carrier-length i)))
+    (put-next m m′ m″ (blocks i (carrierBlock fresh)) (carrierBlock fresh i) 2 (2 + 67 * i) e g (omega (arith, carriers-length i fresh))
+    (omega (arith, carrier-length fresh i)))
+
+pub ruleset fresh-start = (put-none, needs)
 
 view-zeros : (i j : ℕ) → slot (fresh .view i j) ≡ replicate 65 0
 unfolding slot fresh fit
@@ -77,7 +72,7 @@ unfolding stateSize
 fresh-whole m m₁ m₂ m₃ n l e g h =
     let zeros : List ℕ = replicate (326 * pairsBefore n) 0 in
     let front : List ℕ = replicate 2 0 in
-    let size = fresh-length n in
+    let size = carriers-length n fresh in
     let one = put-next m m₁ m₂ front (blocks n (carrierBlock fresh)) 0 2 e g (omega arith) (omega arith) in
     let two = put-next m m₂ m₃ (front ++ blocks n (carrierBlock fresh)) zeros 0 (2 + 67 * n) one h
     (omega (arith, length-append front (blocks n (carrierBlock fresh))))

@@ -9,6 +9,7 @@ use lib.Dec.{eqb}
 use lib.ListN.{length, getD, set}
 use lib.Seq.{drop-cons}
 use borrow.Author.Tests.{eq-eqb, ne-eqb, lt-ltb, le-ltb}
+use borrow.Author.Needs.{needs}
 use Rattle.laws.specs.Memory.{put, part}
 use Rattle.laws.proofs.PutLaws.{put-one}
 use Rattle.reference.specs.Step.{sameCells}
@@ -46,6 +47,9 @@ module _ (m cells : List ℕ) (i tag : ℕ) where
       b ≡ sameCells (part m (5 + 67 * i) 64) cells → not b ≡ newsIn m i (tag ∷ cells)
   unfolding newsIn plannedPlace
   news-cells l e h b s = rw (eq-eqb (getD m (2 + 67 * i) 0) 1 e, old-record l, eq-eqb (getD m (4 + 67 * i) 0) tag h, s) refl
+
+-- What is answered where it is asked whether an answer is news.
+pub ruleset news-cases = (news-first, news-tag, news-cells, needs)
 
 module _ (m rec : List ℕ) (c : ℕ) where
   pub push-room : (m′ : List ℕ) → c < length m′ → getD m c 0 < 4 → m′ ≡ put m (c + 1 + 65 * getD m c 0) rec →

@@ -1,9 +1,7 @@
 -- The claims of the boundary, proved.
-use Prim.Native.Nat.{ℕ, _+_, _*_, _≤_, _<_}
+use Prim.Native.Nat.{ℕ, _*_, _≤_, _<_}
 use native.Mathlib.Omega.{arith}
 use native.Mathlib.Nat.{zero-add}
-use mathlib.Core.Path.{_≡_, refl}
-use mathlib.Core.List.{List}
 use Rattle.wire.specs.Word.{done, turned, wordOf}
 use Rattle.wire.specs.Claims.{Reads, Claims}
 use Rattle.wire.proofs.WordLaws.{capped-same, capped-most, packed}

@@ -1,31 +1,16 @@
 -- `kalomivund_step` meets its contract: the step on the floor that the numbers say, packed.
-use Rattle.reference.specs.Calls.{Reply}
-use Rattle.kalomivund.specs.Answers.{ofReply}
+use Rattle.kalomivund.proofs.EntryLaws.{too-short, says-lent, stores-lent}
 use Rattle.kalomivund.specs.Entries.{stepWord, stepStored}
-use Rattle.wire.specs.Word.{wordOf}
-use mathlib.Core.Path.{_∙_, ap}
-use Rattle.kalomivund.proofs.EntryLaws.{says-lent, says-short, stores-lent, stores-short}
 use borrow.Author.Needs.{needs}
 use Rattle.kalomivund.proofs.kalomivund_step.Statement.{statement}
 use Rattle.kalomivund.proofs.kalomivund_step.Tie as tie
 
-returns : tie.Need-returns
-unfolding stepWord stepStored
-returns c =
-    let l = c .before .if1 .taken in
-    (says-short _ l _ (c .too-short .ensures), stores-short _ l _ _)
-
 returns-2 : tie.Need-returns-2
 unfolding stepWord stepStored
-returns-2 c =
-    let after-step : tie.After-step = search in
-    let after-floor-of : tie.After-floor-of = search in
-    let else1 : tie.Else1 = search in
-    let l = else1 .if1 .left in
-    let done = c .of-step .ensures ∙ ap (λ (x : Reply). wordOf (ofReply x)) (after-step .step .ensures .0) in
-    rw (← after-floor-of .floor-of .ensures) (says-lent _ l _ done, stores-lent _ l _ (after-step .step .ensures .1))
+returns-2 c = (says-lent _ _ (search) (cc), stores-lent _ _ (search) (cc))
 
 pub kalomivund-step-spec : {M : Type 1} → statement M
+unfolding stepWord stepStored
 kalomivund-step-spec =
-    tie.close (tie.spec (λ c κs. search needs) returns (λ c κs. search needs) (λ c κs. search needs)
+    tie.close (tie.spec (λ c κs. search needs) (λ c. search too-short) (λ c κs. search needs) (λ c κs. search needs)
     (λ c κs. search needs) (λ c. search needs) returns-2)

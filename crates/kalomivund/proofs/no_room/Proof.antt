@@ -1,5 +1,4 @@
 -- `kalomivund::no_room` meets its contract: the floor's refusal, then 9.
-use mathlib.Core.Path.{refl}
 use Rattle.floor.specs.Answers.{verdictOf}
 use Rattle.floor.proofs.AnswersLaws.{hands-on, ends-at}
 use Rattle.kalomivund.specs.Entries.{noRoom}
@@ -9,11 +8,11 @@ use Rattle.kalomivund.proofs.no_room.Tie as tie
 
 returns : tie.Need-returns
 unfolding noRoom
-returns c = ends-at _ (c .before .before .check .ensures) (c .enum-told2 .given .1)
+returns c = search (hands-on, ends-at)
 
 returns-2 : tie.Need-returns-2
 unfolding noRoom verdictOf
-returns-2 c = hands-on (c .before .before .check .ensures) (c .enum-told .given .1) refl
+returns-2 c = search (hands-on, ends-at)
 
 pub no-room-spec : {M : Type 1} → statement M
 no-room-spec = tie.close (tie.spec (λ c κs. search needs) (λ c. search needs) (λ c. search needs) returns returns-2)

@@ -1,6 +1,5 @@
 -- `machine::run` meets its contract: a refusal leaves all as it was; otherwise the loop over the free rows is the run of the floor, and
 -- its tally decides the end.
--- its tally decides the end.
 use Rattle.floor.specs.Verdict.{Verdict}
 use Rattle.machine.proofs.VerdictLaws.{workable, reply-passed, memory-passed, reply-refused, memory-refused, run-tells}
 use Rattle.machine.proofs.TakeLaws.{machine-same}
@@ -8,7 +7,6 @@ use mathlib.Core.Bool.{Bool}
 use denote.Ref.{now}
 use lib.ListN.{length}
 use mathlib.Core.Path.{_∙_, ap}
-use Prim.Native.Nat.{_-_}
 use Rattle.reference.specs.Take.{kept}
 use Rattle.reference.specs.Calls.{ran}
 use Rattle.reference.specs.Ending.{ended}

@@ -5,7 +5,6 @@ use Rattle.machine.proofs.VerdictLaws.{step-tells, step-open}
 use Rattle.machine.proofs.TakeLaws.{machine-same, said-of, taken-of}
 use denote.Ref.{now}
 use mathlib.Core.Path.{_∙_, ap}
-use Prim.Native.Nat.{_-_}
 use Rattle.reference.specs.Take.{delivered}
 use Rattle.reference.specs.Calls.{stepped}
 use Rattle.floor.proofs.AnswersLaws.{passes, refuses}

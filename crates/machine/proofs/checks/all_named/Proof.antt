@@ -1,15 +1,13 @@
 -- `machine::checks::all_named` meets its contract: the loop holds that all steps so far are named; the first that is not has its position.
--- position.
 use native.Mathlib.Nat.{zero-add}
 use Rattle.floor.specs.Verdict.{each as inOrder, passed as ok, refused as turnedAway}
 use Rattle.floor.proofs.VerdictLaws.{each-none as names-none, each-more as names-more, each-stop as names-stop, each-end as names-end}
+use Rattle.state.proofs.EachLaws.{said-no, said-yes}
 use lib.ListN.{length}
-use borrow.Author.Tests.{not-true, not-false}
 use mathlib.Core.Path.{_≡_, sym, _∙_, ap}
 use Prim.Native.Nat.{_-_, _≤_}
-use Rattle.reference.specs.Step.{named}
 use Rattle.floor.specs.Answers.{verdictOf}
-use Rattle.machine.specs.Inner.{bare, namedAt}
+use Rattle.machine.specs.Inner.{namedAt}
 use borrow.Author.Needs.{needs}
 use native.Mathlib.Omega.{arith}
 use Rattle.machine.proofs.checks.all_named.Statement.{statement}
@@ -29,20 +27,16 @@ unfolding verdictOf namedAt
 returns c =
     let in-loop : tie.In-loop Inv-loop μ-loop = search in
     let at-loop : tie.At-loop Inv-loop μ-loop = search in
-    let start : tie.Start Inv-loop μ-loop = search in
-    let no = ap (named (bare (start .args .f))) (sym (c .before .before .step-of .ensures)) ∙ sym
-    (c .before .is-named .ensures) ∙ not-true _ (c .if1 .taken) in
+    let no = said-no (c .before .is-named .ensures) (c .if1 .taken) in
     ap (turnedAway 7) (sym (zero-add (at-loop .loop .p))) ∙ sym
-    (names-stop 7 0 _ _ _ (in-loop .loop-test .taken) (at-loop .loop .inv .1) no)
+    (names-stop 7 0 _ _ _ (in-loop .loop-test .taken) (at-loop .loop .inv .1) (rw (← c .before .before .step-of .ensures) no))
 
 loop-again : tie.Need-loop-again Inv-loop μ-loop
 unfolding namedAt
 loop-again c =
     let at-loop : tie.At-loop Inv-loop μ-loop = search in
-    let start : tie.Start Inv-loop μ-loop = search in
-    let yes = ap (named (bare (start .args .f))) (sym (c .before .before .step-of .ensures)) ∙ sym
-    (c .before .is-named .ensures) ∙ not-false _ (c .if1 .left) in
-    (search needs, names-more 7 0 _ _ (at-loop .loop .inv .1) yes)
+    let yes = said-yes (c .before .is-named .ensures) (c .if1 .left) in
+    (search needs, names-more 7 0 _ _ (at-loop .loop .inv .1) (rw (← c .before .before .step-of .ensures) yes))
 
 returns-2 : tie.Need-returns-2 Inv-loop μ-loop
 unfolding verdictOf

@@ -20,9 +20,6 @@ abbrev μ-loop : tie.MeasureT-loop
 loop-holds : tie.Need-loop-holds Inv-loop μ-loop
 loop-holds c = (omega arith, (omega arith, running-start _ _ _ _))
 
-same-length : tie.Need-same-length Inv-loop μ-loop
-same-length c = c .before .before .loop .inv .1 .1 .kept
-
 returns : tie.Need-returns Inv-loop μ-loop
 unfolding runWith
 returns c = running-spent _ _ _ _ _ _ _ (c .before .loop-test .taken) (c .before .before .loop .inv .0) (c .if1 .taken)
@@ -52,14 +49,11 @@ loop-again c =
       ),
     )
 
-same-length-2 : tie.Need-same-length-2 Inv-loop μ-loop
-same-length-2 c = c .before .loop .inv .1 .1 .kept
-
 returns-2 : tie.Need-returns-2 Inv-loop μ-loop
 unfolding runWith
 returns-2 c = running-end _ _ _ _ _ _ _ (c .loop-test .left) (c .before .loop .inv .0) (c .before .loop .inv .1 .1)
 
 pub run-all-spec : {M : Type 1} → statement M
 run-all-spec =
-    tie.close (tie.spec Inv-loop μ-loop loop-holds same-length returns (λ c. search needs) (λ c. search needs)
-    try-step-requires add-taken (λ c. search needs) (λ c. search needs) loop-again same-length-2 returns-2)
+    tie.close (tie.spec Inv-loop μ-loop loop-holds (λ c. search needs) returns (λ c. search needs) (λ c. search needs)
+    try-step-requires add-taken (λ c. search needs) (λ c. search needs) loop-again (λ c. search needs) returns-2)

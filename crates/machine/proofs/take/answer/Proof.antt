@@ -1,6 +1,5 @@
 -- `machine::take::answer` meets its contract: a case an answer.
 use mathlib.Core.Path.{refl}
-use Prim.Native.Nat.{_-_}
 use Rattle.machine.specs.Answers.{saidBy, steppedReply}
 use borrow.Author.Needs.{needs}
 use Rattle.machine.proofs.take.answer.Statement.{statement}

@@ -1,40 +1,11 @@
 -- `machine::take::deliver_now` meets its contract: the five stores in the order of the definition.
 use Rattle.machine.proofs.TakeLaws.{delivery-stored}
 use mathlib.Core.Path.{refl}
-use Prim.Native.Nat.{_-_}
-use Rattle.reference.specs.Take.{kept}
 use Rattle.layout.specs.Places.{stateSize}
 use Rattle.machine.specs.Answers.{saidBy}
-use native.Mathlib.Omega.{arith}
 use borrow.Author.Needs.{needs}
 use Rattle.machine.proofs.take.deliver_now.Statement.{statement}
 use Rattle.machine.proofs.take.deliver_now.Tie as tie
-
-set-due-requires : tie.Need-set-due-requires
-unfolding stateSize
-set-due-requires c κs =
-    let after-pop : tie.After-pop = search in
-    let after-move-record : tie.After-move-record = search in
-    let start : tie.Start = search in (
-      omega (arith, start .pre),
-      omega
-          (arith, after-pop .pop .kept .0, after-move-record .move-record .kept .0, start .pre),
-    )
-
-tick-requires : tie.Need-tick-requires
-unfolding stateSize
-tick-requires c κs =
-    let after-set-due : tie.After-set-due = search in
-    let after-pop : tie.After-pop = search in
-    let after-move-record : tie.After-move-record = search in
-    let start : tie.Start = search in
-    omega (
-      arith,
-      after-set-due .set-due .kept .0,
-      after-pop .pop .kept .0,
-      after-move-record .move-record .kept .0,
-      start .pre,
-    )
 
 returns : tie.Need-returns
 unfolding saidBy
@@ -51,6 +22,7 @@ returns c =
     )
 
 pub deliver-now-spec : {M : Type 1} → statement M
+unfolding stateSize
 deliver-now-spec =
     tie.close (tie.spec (λ c κs. search needs) (λ c κs. search needs) (λ c. search needs) (λ c κs. search needs)
-    (λ c κs. search needs) set-due-requires tick-requires (λ c. search needs) returns)
+    (λ c κs. search needs) (λ c κs. search needs) (λ c κs. search needs) (λ c. search needs) returns)

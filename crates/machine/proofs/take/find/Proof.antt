@@ -1,6 +1,5 @@
 -- `machine::take::find` meets its contract: the views of carrier i are one part of the state, and the search looks at just these.
 use mathlib.Core.Path.{sym}
-use Prim.Native.Nat.{_-_}
 use Rattle.machine.proofs.ViewLaws.{slice-long, slice-best}
 use denote.Ref.{now}
 use native.Mathlib.Omega.{arith}

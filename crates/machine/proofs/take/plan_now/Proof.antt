@@ -2,7 +2,7 @@
 use Rattle.machine.proofs.TakeLaws.{plan-stores, plan-sent, plan-kept}
 use mathlib.Core.List.{_∷_}
 use mathlib.Core.Path.{sym, _∙_, ap}
-use Prim.Native.Nat.{ℕ, _-_}
+use Prim.Native.Nat.{ℕ}
 use Rattle.planner.proofs.RecordLaws.{found-record}
 use Rattle.machine.specs.Answers.{saidBy}
 use borrow.Author.Needs.{needs}
@@ -15,11 +15,10 @@ returns c =
     let after-record-plan : tie.After-record-plan = search in
     let after-tag-of : tie.After-tag-of = search in
     let after-find : tie.After-find = search in
-    let same = ap (λ (t : ℕ). t ∷ after-find .find .result .route) (after-tag-of .tag-of .ensures) ∙ found-record (after-find .find .result) _
-    (after-find .find .ensures) in (
+    let found = after-find .find .result in
+    let same = ap (λ (t : ℕ). t ∷ found .route) (after-tag-of .tag-of .ensures) ∙ found-record found _ (after-find .find .ensures) in (
       plan-sent _ _ _ _ _ same (sym (after-record-plan .record-plan .ensures .0) ∙ c .if1 .taken),
-      plan-stores _ _ _ _ _ same
-          (after-record-plan .record-plan .ensures .1),
+      plan-stores _ _ _ _ _ same (after-record-plan .record-plan .ensures .1),
     )
 
 returns-2 : tie.Need-returns-2
@@ -28,11 +27,10 @@ returns-2 c =
     let after-record-plan : tie.After-record-plan = search in
     let after-tag-of : tie.After-tag-of = search in
     let after-find : tie.After-find = search in
-    let same = ap (λ (t : ℕ). t ∷ after-find .find .result .route) (after-tag-of .tag-of .ensures) ∙ found-record (after-find .find .result) _
-    (after-find .find .ensures) in (
+    let found = after-find .find .result in
+    let same = ap (λ (t : ℕ). t ∷ found .route) (after-tag-of .tag-of .ensures) ∙ found-record found _ (after-find .find .ensures) in (
       plan-kept _ _ _ _ _ same (sym (after-record-plan .record-plan .ensures .0) ∙ c .if1 .left),
-      plan-stores _ _ _ _ _ same
-          (after-record-plan .record-plan .ensures .1),
+      plan-stores _ _ _ _ _ same (after-record-plan .record-plan .ensures .1),
     )
 
 pub plan-now-spec : {M : Type 1} → statement M

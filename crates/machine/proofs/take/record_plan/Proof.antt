@@ -1,31 +1,10 @@
 -- `machine::take::record_plan` meets its contract: news are sent, anything else is only stored; each is counted.
 use Rattle.machine.proofs.TakeLaws.{news-stored, old-stored}
 use mathlib.Core.Path.{sym, _∙_}
-use Prim.Native.Nat.{_-_}
-use Rattle.reference.specs.Take.{kept}
 use Rattle.layout.specs.Places.{stateSize}
-use native.Mathlib.Omega.{arith}
 use borrow.Author.Needs.{needs}
 use Rattle.machine.proofs.take.record_plan.Statement.{statement}
 use Rattle.machine.proofs.take.record_plan.Tie as tie
-
-is-news-requires : tie.Need-is-news-requires
-unfolding stateSize
-is-news-requires c κs = (omega (arith, c .before .before .pre), omega (arith, c .before .before .pre))
-
-set-planned-requires : tie.Need-set-planned-requires
-unfolding stateSize
-set-planned-requires c κs =
-    let start : tie.Start = search in
-    (omega (arith, start .pre), omega (arith, start .pre))
-
-tick-requires : tie.Need-tick-requires
-unfolding stateSize
-tick-requires c κs =
-    let after-send : tie.After-send = search in
-    let after-set-planned : tie.After-set-planned = search in
-    let start : tie.Start = search in
-    omega (arith, after-send .send .kept .0, after-set-planned .set-planned .kept .0, start .pre)
 
 returns : tie.Need-returns
 returns c =
@@ -39,13 +18,6 @@ returns c =
           (c .before .before .tick .ensures),
     )
 
-tick-requires-2 : tie.Need-tick-requires-2
-unfolding stateSize
-tick-requires-2 c κs =
-    let after-set-planned : tie.After-set-planned = search in
-    let start : tie.Start = search in
-    omega (arith, after-set-planned .set-planned .kept .0, start .pre)
-
 returns-2 : tie.Need-returns-2
 returns-2 c =
     let else1 : tie.Else1 = search in
@@ -55,6 +27,7 @@ returns-2 c =
     (sym no, old-stored _ _ _ _ _ _ (after-set-planned .set-planned .ensures) no (c .before .before .tick2 .ensures))
 
 pub record-plan-spec : {M : Type 1} → statement M
+unfolding stateSize
 record-plan-spec =
-    tie.close (tie.spec is-news-requires set-planned-requires (λ c κs. search needs) tick-requires (λ c. search needs)
-    returns tick-requires-2 (λ c. search needs) returns-2)
+    tie.close (tie.spec (λ c κs. search needs) (λ c κs. search needs) (λ c κs. search needs) (λ c κs. search needs)
+    (λ c. search needs) returns (λ c κs. search needs) (λ c. search needs) returns-2)

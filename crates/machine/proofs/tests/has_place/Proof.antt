@@ -1,29 +1,20 @@
 -- `machine::tests::has_place` meets its contract: a carrier that is not below needs no place; otherwise the channel decides.
-use mathlib.Core.Bool.{not}
-use borrow.Author.Tests.{le-leb, lt-leb}
-use mathlib.Core.Path.{refl, sym}
-use Prim.Native.Nat.{_-_}
+use mathlib.Core.Path.{refl}
+use borrow.Author.Tests.{lt-leb}
+use Rattle.state.proofs.EachLaws.{tests}
 use Rattle.machine.specs.Inner.{roomAt}
 use borrow.Author.Needs.{needs}
 use Rattle.machine.proofs.tests.has_place.Statement.{statement}
 use Rattle.machine.proofs.tests.has_place.Tie as tie
 
-returns : tie.Need-returns
-unfolding roomAt
-returns c = rw (le-leb (c .before .before .args .k) (c .before .before .args .i) (c .if1 .taken)) refl
-
 returns-2 : tie.Need-returns-2
 unfolding roomAt
 returns-2 c =
     let else1 : tie.Else1 = search in
-    let start : tie.Start = search in
-    rw (
-      lt-leb (start .args .k) (start .args .i) (else1 .if1 .left),
-      sym
-          (c .before .before .channel-place .ensures .0),
-    ) refl
+    rw (lt-leb _ _ (else1 .if1 .left), ← c .before .before .channel-place .ensures .0) refl
 
 pub has-place-spec : {M : Type 1} → statement M
+unfolding roomAt
 has-place-spec =
-    tie.close (tie.spec returns (λ c. search needs) (λ c κs. search needs) (λ c. search needs) (λ c. search needs)
-    returns-2)
+    tie.close (tie.spec (λ c. search tests) (λ c. search needs) (λ c κs. search needs) (λ c. search needs)
+    (λ c. search needs) returns-2)

@@ -1,6 +1,5 @@
 -- `machine::tests::is_open` meets its contract: a case a kind of step.
 use mathlib.Core.Path.{refl, sym, _∙_}
-use Prim.Native.Nat.{_-_}
 use Rattle.machine.specs.Answers.{meant}
 use Rattle.machine.proofs.OpenLaws.{none-shut}
 use borrow.Author.Needs.{needs}

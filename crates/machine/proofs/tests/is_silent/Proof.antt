@@ -1,44 +1,20 @@
 -- `machine::tests::is_silent` meets its contract: the loop holds that nothing is open for the carriers so far.
-use mathlib.Core.Bool.{true}
-use borrow.Author.Tests.{not-true, not-false}
-use mathlib.Core.Path.{_≡_, refl, sym, _∙_}
-use Prim.Native.Nat.{_-_, _≤_}
+use Rattle.state.proofs.EachLaws.{Tested, each-turn}
+use Prim.Native.Nat.{_-_}
 use Rattle.layout.specs.Steps.{noneOpenIn, silentIn}
 use Rattle.machine.specs.Inner.{machineWith, bare}
-use Rattle.state.proofs.EachLaws.{each-more, each-stop, each-end}
-use Rattle.reference.specs.Ranges.{each}
 use borrow.Author.Needs.{needs}
-use native.Mathlib.Omega.{arith}
 use Rattle.machine.proofs.tests.is_silent.Statement.{statement}
 use Rattle.machine.proofs.tests.is_silent.Tie as tie
 
 abbrev Inv-loop : tie.InvT-loop
-Inv-loop f m n i₀ i = (i ≤ n) × (each i (noneOpenIn (bare f) m) ≡ true)
+Inv-loop f m n i₀ i = Tested (noneOpenIn (bare f) m) n i
 
 abbrev μ-loop : tie.MeasureT-loop
 μ-loop f m n i₀ i = n - i
 
-loop-holds : tie.Need-loop-holds Inv-loop μ-loop
-unfolding each
-loop-holds c = (omega arith, refl)
-
-returns : tie.Need-returns Inv-loop μ-loop
-unfolding silentIn bare machineWith
-returns c = each-stop _ _ _ (c .before .before .loop-test .taken) (sym (c .before .none-open .ensures) ∙ not-true _ (c .if1 .taken))
-
-loop-again : tie.Need-loop-again Inv-loop μ-loop
-loop-again c =
-    let at-loop : tie.At-loop Inv-loop μ-loop = search in (
-      search needs,
-      each-more _ _ (at-loop .loop .inv .1)
-          (sym (c .before .none-open .ensures) ∙ not-false _ (c .if1 .left)),
-    )
-
-returns-2 : tie.Need-returns-2 Inv-loop μ-loop
-unfolding silentIn bare machineWith
-returns-2 c = each-end _ _ _ (c .before .loop .inv .0) (omega arith) (c .before .loop .inv .1)
-
 pub is-silent-spec : {M : Type 1} → statement M
+unfolding silentIn bare machineWith
 is-silent-spec =
-    tie.close (tie.spec Inv-loop μ-loop (λ c. search needs) loop-holds (λ c κs. search needs) returns
-    (λ c. search needs) (λ c. search needs) loop-again returns-2)
+    tie.close (tie.spec Inv-loop μ-loop (λ c. search needs) (λ c. search each-turn) (λ c κs. search needs)
+    (λ c. search each-turn) (λ c. search needs) (λ c. search needs) (λ c. search each-turn) (λ c. search each-turn))

@@ -1,7 +1,6 @@
 -- `state::channels::pop` meets its contract: the shifted channel, with one message less counted.
 use Rattle.laws.proofs.PutLaws.{put-one}
 use mathlib.Core.Path.{refl, _∙_}
-use Prim.Native.Nat.{_-_}
 use Rattle.layout.specs.Steps.{popped}
 use native.Mathlib.Omega.{arith}
 use borrow.Author.Needs.{needs}

@@ -1,5 +1,4 @@
 -- `state::channels::push` meets its contract: with room the record stands behind the others and is counted; without, nothing changes.
-use Prim.Native.Nat.{_-_}
 use Rattle.state.proofs.RecordLaws.{push-room, push-full}
 use native.Mathlib.Omega.{arith}
 use borrow.Author.Needs.{needs}
@@ -11,11 +10,8 @@ returns c =
     let then1 : tie.Then1 = search in
     push-room _ _ _ _ (omega arith) (then1 .if1 .taken) (c .before .before .store .ensures)
 
-returns-2 : tie.Need-returns-2
-returns-2 c = push-full _ _ _ (c .if1 .left)
-
 pub push-spec : {M : Type 1} → statement M
 push-spec =
     tie.close (tie.spec (λ c. search needs) (λ c. search needs) (λ c. search needs) (λ c. search needs)
     (λ c. search needs) (λ c. search needs) (λ c κs. search needs) (λ c. search needs) (λ c. search needs)
-    (λ c. search needs) (λ c. search needs) returns returns-2)
+    (λ c. search needs) (λ c. search needs) returns (λ c. search push-full))

@@ -1,10 +1,10 @@
 -- `state::channels::send` meets its contract: after k carriers the memory is the one sent to the first k.
+use Rattle.state.proofs.RecordLaws.{send-more}
 use mathlib.Core.List.{_∷_}
 use lib.ListN.{length}
-use mathlib.Core.Path.{_≡_, refl, _∙_}
+use mathlib.Core.Path.{_≡_, _∙_}
 use Prim.Native.Nat.{_-_, _≤_}
 use Rattle.layout.specs.Steps.{sentTo}
-use Rattle.state.proofs.RecordLaws.{send-more}
 use borrow.Author.Needs.{needs}
 use native.Mathlib.Omega.{arith}
 use Rattle.state.proofs.channels.send.Statement.{statement}
@@ -16,35 +16,19 @@ Inv-loop m₀ n i tag cells k₀ m k = (k ≤ n) × ((length m ≡ length m₀) 
 abbrev μ-loop : tie.MeasureT-loop
 μ-loop m₀ n i tag cells k₀ m k = n - k
 
-loop-holds : tie.Need-loop-holds Inv-loop μ-loop
-unfolding sentTo
-loop-holds c = (omega arith, (refl, refl))
-
-push-below-requires : tie.Need-push-below-requires Inv-loop μ-loop
-push-below-requires c κs =
-    let start : tie.Start Inv-loop μ-loop = search in
-    (start .pre .0, c .before .loop-test .taken, start .pre .1, omega (arith, c .before .before .loop .inv .1 .0, start .pre .2))
-
 loop-again : tie.Need-loop-again Inv-loop μ-loop
 loop-again c =
-    let at-loop : tie.At-loop Inv-loop μ-loop = search in (
-      search needs,
-      (
-        c .before .before .push-below .kept .0 ∙ at-loop .loop .inv .1 .0,
-        send-more _ _ _ _ _ _ _
-            (at-loop .loop .inv .1 .1) (c .before .before .push-below .ensures),
-      ),
-    )
-
-same-length : tie.Need-same-length Inv-loop μ-loop
-same-length c = c .before .loop .inv .1 .0
+    let at-loop : tie.At-loop Inv-loop μ-loop = search in
+    (search needs, (c .before .before .push-below .kept .0 ∙ at-loop .loop .inv .1 .0, search send-more))
 
 returns : tie.Need-returns Inv-loop μ-loop
 returns c =
     let start : tie.Start Inv-loop μ-loop = search in
-    let same : c .before .loop .k ≡ start .args .n = omega arith in c .before .loop .inv .1 .1 ∙ rw same refl
+    let same : c .before .loop .k ≡ start .args .n = omega arith in
+    rw same at (c .before .loop .inv .1 .1)
 
 pub send-spec : {M : Type 1} → statement M
+unfolding sentTo
 send-spec =
-    tie.close (tie.spec Inv-loop μ-loop loop-holds push-below-requires (λ c. search needs) (λ c. search needs)
-    loop-again same-length returns)
+    tie.close (tie.spec Inv-loop μ-loop (λ c. search needs) (λ c κs. search needs) (λ c. search needs)
+    (λ c. search needs) loop-again (λ c. search needs) returns)

@@ -1,44 +1,21 @@
 -- `state::checks::cells_valid` meets its contract: the loop holds that all cells so far are valid.
-use borrow.Author.Tests.{not-true, not-false}
-use mathlib.Core.Bool.{true}
-use Rattle.reference.specs.Ranges.{each}
+use Rattle.state.proofs.EachLaws.{Tested, each-turn}
 use lib.ListN.{getD}
-use mathlib.Core.Path.{_≡_, refl, sym, _∙_}
-use Prim.Native.Nat.{_+_, _-_, _≤_}
+use Prim.Native.Nat.{_+_, _-_}
 use Rattle.layout.specs.Valid.{cellValid, cellsValid}
-use Rattle.state.proofs.EachLaws.{each-more, each-stop, each-end}
 use borrow.Author.Needs.{needs}
-use native.Mathlib.Omega.{arith}
 use Rattle.state.proofs.checks.cells_valid.Statement.{statement}
 use Rattle.state.proofs.checks.cells_valid.Tie as tie
 
 abbrev Inv-loop : tie.InvT-loop
-Inv-loop m at used cells t₀ t = (t ≤ 64) × (each t (λ q. cellValid used cells q (getD m (at + q) 0)) ≡ true)
+Inv-loop m at used cells t₀ t = Tested (λ q. cellValid used cells q (getD m (at + q) 0)) 64 t
 
 abbrev μ-loop : tie.MeasureT-loop
 μ-loop m at used cells t₀ t = 64 - t
 
-loop-holds : tie.Need-loop-holds Inv-loop μ-loop
-unfolding each
-loop-holds c = (omega arith, refl)
-
-returns : tie.Need-returns Inv-loop μ-loop
-unfolding cellsValid
-returns c =
-    let in-loop : tie.In-loop Inv-loop μ-loop = search in
-    each-stop _ _ _ (in-loop .loop-test .taken)
-    (sym (c .before .cell-valid .ensures) ∙ not-true _ (c .if1 .taken))
-
-loop-again : tie.Need-loop-again Inv-loop μ-loop
-loop-again c =
-    let at-loop : tie.At-loop Inv-loop μ-loop = search in
-    (search needs, each-more _ _ (at-loop .loop .inv .1) (sym (c .before .cell-valid .ensures) ∙ not-false _ (c .if1 .left)))
-
-returns-2 : tie.Need-returns-2 Inv-loop μ-loop
-unfolding cellsValid
-returns-2 c = each-end _ _ _ (c .before .loop .inv .0) (omega arith) (c .before .loop .inv .1)
-
 pub cells-valid-spec : {M : Type 1} → statement M
+unfolding cellsValid
 cells-valid-spec =
-    tie.close (tie.spec Inv-loop μ-loop loop-holds (λ c. search needs) (λ c. search needs) (λ c. search needs)
-    (λ c κs. search needs) returns (λ c. search needs) (λ c. search needs) loop-again returns-2)
+    tie.close (tie.spec Inv-loop μ-loop (λ c. search each-turn) (λ c. search needs) (λ c. search needs)
+    (λ c. search needs) (λ c κs. search needs) (λ c. search each-turn) (λ c. search needs) (λ c. search needs)
+    (λ c. search each-turn) (λ c. search each-turn))

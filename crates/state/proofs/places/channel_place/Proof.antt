@@ -1,8 +1,5 @@
 -- `state::places::channel_place` meets its contract: the number of the pair is below that of all pairs, so the channel ends within the
 -- state.
--- state.
-use mathlib.Core.Path.{refl}
-use Prim.Native.Nat.{_-_}
 use Rattle.layout.specs.Places.{channelPlace, stateSize}
 use Rattle.layout.proofs.ValidPartLaws.{pair-below}
 use native.Mathlib.Omega.{arith}
@@ -12,11 +9,10 @@ use Rattle.state.proofs.places.channel_place.Tie as tie
 
 returns : tie.Need-returns
 unfolding channelPlace stateSize
-returns c = let a = c .before .pairs-before .ensures in
-    let b = c .pairs-before2 .ensures in
-    let l = pair-below (c .before .before .args .n) (c .before .before .args .i) (c .before .before .args .j)
-    (c .before .before .pre .0) (c .before .before .pre .1) in
-    (rw (a .0, b .0) refl, omega arith, omega arith)
+returns c =
+    let pre = c .before .before .pre in
+    let below = pair-below _ _ _ (pre .0) (pre .1) in
+    omega arith
 
 pub channel-place-spec : {M : Type 1} → statement M
 channel-place-spec =

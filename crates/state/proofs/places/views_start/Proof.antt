@@ -1,7 +1,8 @@
 -- `state::places::views_start` meets its contract: the views of carrier i end where those of the next begin.
-use Prim.Native.Nat.{suc, _-_}
+use Prim.Native.Nat.{suc}
+use Rattle.layout.proofs.ExactLaws.{pairs-grow}
 use Rattle.layout.specs.Places.{viewPlace, stateSize}
-use Rattle.state.proofs.PlaceLaws.{pairs-next, pairs-rise}
+use Rattle.state.proofs.PlaceLaws.{pairs-next}
 use native.Mathlib.Omega.{arith}
 use borrow.Author.Needs.{needs}
 use Rattle.state.proofs.places.views_start.Statement.{statement}
@@ -9,10 +10,10 @@ use Rattle.state.proofs.places.views_start.Tie as tie
 
 returns : tie.Need-returns
 unfolding viewPlace stateSize
-returns c = let a = c .pairs-before .ensures in
-    let l = pairs-rise (suc (c .before .args .i)) (c .before .args .n) (c .before .pre .0) in
+returns c =
+    let rise = pairs-grow (c .before .args .n) (suc (c .before .args .i)) (c .before .pre .0) in
     let next = pairs-next (c .before .args .i) in
-    (rw (a .0) (omega arith), omega arith, omega arith)
+    omega arith
 
 pub views-start-spec : {M : Type 1} → statement M
 views-start-spec =

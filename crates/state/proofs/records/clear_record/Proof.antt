@@ -1,13 +1,9 @@
 -- `state::records::clear_record` meets its contract: a record of tag 0 and 64 zeros.
-use Prim.Native.Nat.{_-_}
 use Rattle.layout.specs.Encode.{fit}
 use borrow.Author.Needs.{needs}
 use Rattle.state.proofs.records.clear_record.Statement.{statement}
 use Rattle.state.proofs.records.clear_record.Tie as tie
 
-returns : tie.Need-returns
-unfolding fit
-returns c = c .before .before .store .ensures
-
 pub clear-record-spec : {M : Type 1} → statement M
-clear-record-spec = tie.close (tie.spec (λ c κs. search needs) (λ c. search needs) returns)
+unfolding fit
+clear-record-spec = tie.close (tie.spec (λ c κs. search needs) (λ c. search needs) (λ c. search needs))

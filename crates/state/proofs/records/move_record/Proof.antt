@@ -1,5 +1,4 @@
 -- `state::records::move_record` meets its contract: the tag and the cells together are the part that is copied.
-use Prim.Native.Nat.{_-_}
 use Rattle.state.proofs.RecordLaws.{moved-is}
 use native.Mathlib.Omega.{arith}
 use borrow.Author.Needs.{needs}

@@ -1,9 +1,9 @@
 -- `state::start::write_carrier` meets its contract: two numbers and a record of none are the fresh carrier.
 use mathlib.Core.List.{List, _∷_}
 use denote.Ref.{now}
-use lib.ListN.{set, replicate, length-set}
+use lib.ListN.{replicate, length-set}
 use mathlib.Core.Path.{refl, _∙_}
-use Prim.Native.Nat.{ℕ, _+_, _*_, _-_}
+use Prim.Native.Nat.{ℕ, _+_, _*_}
 use Rattle.state.proofs.FreshLaws.{carrier-is}
 use Rattle.state.proofs.CountLaws.{put-three}
 use native.Mathlib.Omega.{arith}
@@ -12,19 +12,13 @@ use Rattle.state.proofs.start.write_carrier.Statement.{statement}
 use Rattle.state.proofs.start.write_carrier.Tie as tie
 
 slice-write-m-2 : tie.Need-slice-write-m-2
-slice-write-m-2 c = omega (arith, length-set (c .before .args .m .now) (2 + 67 * c .before .args .i) 0, c .before .pre)
+slice-write-m-2 c = simp length-set (omega (arith, c .before .pre))
 
 store-requires : tie.Need-store-requires
-store-requires c κs = let m = c .before .before .args .m .now in
-    let i = c .before .before .args .i in
-    omega (arith, length-set (set m (2 + 67 * i) 0) (3 + 67 * i) 1, length-set m (2 + 67 * i) 0, c .before .before .pre)
+store-requires c κs = simp length-set (omega (arith, c .before .before .pre))
 
 same-length : tie.Need-same-length
-same-length c =
-    let start : tie.Start = search in
-    let m = start .args .m .now in
-    let i = start .args .i in
-    c .before .before .store .kept .0 ∙ length-set (set m (2 + 67 * i) 0) (3 + 67 * i) 1 ∙ length-set m (2 + 67 * i) 0
+same-length c = c .before .before .store .kept .0 ∙ simp length-set
 
 returns : tie.Need-returns
 returns c =

@@ -1,14 +1,10 @@
 -- `wire::word::done` meets its contract: the word is the sum that the definition writes.
-use mathlib.Core.Path.{refl}
 use Rattle.wire.specs.Word.{wordOf}
 use borrow.Author.Needs.{needs}
 use Rattle.wire.proofs.word.done.Statement.{statement}
 use Rattle.wire.proofs.word.done.Tie as tie
 
-returns : tie.Need-returns
-unfolding wordOf
-returns c = rw (c .fitting .ensures .0) refl
-
 pub done-spec : {M : Type 1} → statement M
+unfolding wordOf
 done-spec =
-    tie.close (tie.spec (λ c. search needs) (λ c κs. search needs) (λ c. search needs) (λ c. search needs) returns)
+    tie.close (tie.spec (λ c. search needs) (λ c κs. search needs) (λ c. search needs) (λ c. search needs) (λ c. cc))

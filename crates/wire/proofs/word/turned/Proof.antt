@@ -1,15 +1,11 @@
 -- `wire::word::turned` meets its contract: the word is the sum that the definition writes.
-use mathlib.Core.Path.{refl}
 use Rattle.wire.specs.Word.{wordOf}
 use borrow.Author.Needs.{needs}
 use Rattle.wire.proofs.word.turned.Statement.{statement}
 use Rattle.wire.proofs.word.turned.Tie as tie
 
-returns : tie.Need-returns
-unfolding wordOf
-returns c = rw (c .fitting .ensures .0) refl
-
 pub turned-spec : {M : Type 1} → statement M
+unfolding wordOf
 turned-spec =
     tie.close (tie.spec (λ c. search needs) (λ c. search needs) (λ c. search needs) (λ c κs. search needs)
-    (λ c. search needs) (λ c. search needs) returns)
+    (λ c. search needs) (λ c. search needs) (λ c. cc))
