@@ -1,4 +1,4 @@
--- What is told of the bytes that were moved.
+-- Laws of the number of bytes that were moved.
 use Prim.Native.Nat.{ℕ, _≤_, _-_}
 use mathlib.Core.Path.{_≡_, sym}
 use mathlib.Core.List.{List}
@@ -23,7 +23,7 @@ moved-from least a xs n r e w =
     let m = simp (length-take, length-drop) at (moved-within least _ n r e w) in
     (m .0, omega arith)
 
--- So many bytes within a memory stand in front of it.
+-- A number that is within a memory's length counts bytes in front of it.
 pub counts-within : (n : ℕ) (xs : List ℕ) → n ≤ length xs → Counts n xs
 counts-within n xs l = (l, sym (length-take-le n xs l))
 

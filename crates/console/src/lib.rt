@@ -1,6 +1,7 @@
 // Standard input and standard output, whole: all of the input into a lent buffer, all of a text to the output. A call that moves
-// only a part, that a signal interrupts or that finds nothing ready is gone on from, and a failure is told from the input's end. What
-// fails is said in a line on standard error. No contract can say which bytes a call of the C library moves.
+// only a part, that a signal interrupts or that finds nothing ready is followed by the next one, and a failure is told from the
+// input's end. A failure is said in a line on standard error. The contracts bound the number of bytes; the bytes that the C library
+// moves are outside any contract.
 ghost use lib.ListN.{length};
 ghost use Rattle.console.specs.Within.{InputWithin, PartWithin};
 use libc::EAGAIN;
@@ -9,15 +10,15 @@ use libc::STDERR_FILENO;
 use libc::STDIN_FILENO;
 use libc::STDOUT_FILENO;
 
-// What reading standard input says.
+// The answer of reading standard input.
 pub enum Input {
-    // So many bytes of input stand in front of the lent buffer: all of it, or, where the buffer is full, its first bytes.
+    // The number of bytes in front of the lent buffer: the whole input, or its first bytes where the buffer is full.
     Read(usize),
     // Reading failed, or nothing came for too long; standard error says which.
     Failed,
 }
 
-// What writing to standard output says.
+// The answer of writing to standard output.
 pub enum Output {
     // All of the text is written.
     Written,
@@ -25,9 +26,9 @@ pub enum Output {
     Failed,
 }
 
-// What came of a call that moves bytes.
+// The outcome of calls that move bytes.
 enum Part {
-    // So many bytes were moved.
+    // The number of bytes moved.
     Moved(usize),
     // Nothing was moved yet: a signal came between, or nothing is ready.
     NotYet,
@@ -35,15 +36,15 @@ enum Part {
     Failed,
 }
 
-// So many calls in a row may move nothing before the next one is given up.
-const TURNS: u64 = 1000000000;
+// The number of calls in a row that may move nothing before they are given up: some minutes of waiting.
+const TURNS: u64 = 200000000;
 
-// Lets others run before the next call.
+// Lets other processes run before the next call.
 fn pause() {
     libc::sched_yield();
 }
 
-// Whether a call that failed may be tried again: a signal interrupted it, or nothing is ready, which is waited for.
+// Whether the call that just failed may succeed later: a signal interrupted it, or nothing is ready yet.
 fn is_for_now() -> bool {
     let error = os::errno();
     if error == EAGAIN {
@@ -53,7 +54,7 @@ fn is_for_now() -> bool {
     error == EINTR
 }
 
-// One read of standard input; no bytes are moved at its end only.
+// One read of standard input; it moves 0 bytes only at the input's end.
 fn read_once(buf: &mut [u8]) -> Part
     ensures { λ r. ⌜ PartWithin 0 (length (now (buf .exit))) r ⌝ }
 {
@@ -68,7 +69,7 @@ fn read_once(buf: &mut [u8]) -> Part
     }
 }
 
-// One write to standard output; one that takes nothing is waited for.
+// One write to standard output; one that takes 0 bytes has moved nothing yet.
 fn write_once(text: &[u8]) -> Part
     ensures { λ r. ⌜ PartWithin 1 (length (now (text .entry))) r ⌝ }
 {
@@ -88,7 +89,7 @@ fn write_once(text: &[u8]) -> Part
     }
 }
 
-// Reads until a call moves something, finds the end or fails, or the turns are used up.
+// Reads until a call moves bytes, finds the input's end or fails, or the turns are used up.
 fn read_some(buf: &mut [u8]) -> Part
     ensures { λ r. ⌜ PartWithin 0 (length (now (buf .exit))) r ⌝ }
 {
@@ -103,7 +104,7 @@ fn read_some(buf: &mut [u8]) -> Part
     Part::NotYet
 }
 
-// Writes until a call moves something or fails, or the turns are used up.
+// Writes until a call moves bytes or fails, or the turns are used up.
 fn write_some(text: &[u8]) -> Part
     ensures { λ r. ⌜ PartWithin 1 (length (now (text .entry))) r ⌝ }
 {
@@ -118,7 +119,7 @@ fn write_some(text: &[u8]) -> Part
     Part::NotYet
 }
 
-// Reads part after part until the input ends or the buffer is full; so many bytes were moved then.
+// Reads part after part until the input ends or the buffer is full, and counts the bytes of all parts.
 fn read_all(buf: &mut [u8]) -> Part
     ensures { λ r. ⌜ PartWithin 0 (length (now (buf .exit))) r ⌝ }
 {
@@ -139,7 +140,7 @@ fn read_all(buf: &mut [u8]) -> Part
     Part::Moved(n)
 }
 
-// Writes part after part until all of the text is written; so many bytes were moved then.
+// Writes part after part until all of the text is written, and counts the bytes of all parts.
 fn write_all(text: &[u8]) -> Part
     ensures { λ r. ⌜ PartWithin (length (now (text .entry))) (length (now (text .entry))) r ⌝ }
 {
@@ -155,13 +156,13 @@ fn write_all(text: &[u8]) -> Part
     Part::Moved(n)
 }
 
-// Says on standard error that the turns were used up.
-fn give_up(what: &[u8]) {
-    io::write_all(STDERR_FILENO, what);
+// Says on standard error that the turns were used up, under the name of the input or output.
+fn give_up(name: &[u8]) {
+    io::write_all(STDERR_FILENO, name);
     io::write_all(STDERR_FILENO, b": not ready for too long, given up\n");
 }
 
-// Reads all of standard input into lent memory, or its first bytes where it is longer; a failure is said under a name.
+// Reads all of standard input into lent memory, or its first bytes where it is longer; a failure is said under the input's name.
 pub fn read(name: &[u8], buf: &mut [u8]) -> Input
     ensures { λ r. ⌜ InputWithin r (now (buf .exit)) ⌝ }
 {
@@ -179,7 +180,7 @@ pub fn read(name: &[u8], buf: &mut [u8]) -> Input
     }
 }
 
-// Writes all of a text to standard output; a failure is said under a name.
+// Writes all of a text to standard output; a failure is said under the output's name.
 pub fn write(name: &[u8], text: &[u8]) -> Output {
     let part = write_all(text);
     match part {

@@ -16,7 +16,7 @@ use floor::Checked;
 use floor::Floor;
 use floor::Refusal;
 
-// The longest sheet: 31 bytes, 21 for each of eight carriers, 11 for each of 1,023 walls.
+// The length of the longest sheet: 31 bytes, 21 for each of eight carriers, 11 for each of 1,023 walls.
 const SHEET_LENGTH: usize = 11452;
 
 // Room for the most walls that a floor can have.
@@ -50,7 +50,7 @@ fn put_refusal(x: Refusal, out: &mut [u8]) -> usize
     16
 }
 
-// Writes what a text says as a sheet again, whatever it says, into an array with room for every sheet; so many bytes of it are written.
+// Writes again any text that is a sheet, and of any other the line of its refusal; the number of written bytes is returned.
 fn print(text: &[u8], out: &mut [u8; SHEET_LENGTH]) -> usize
     ensures counts { λ r. ⌜ Counts r (now (out .exit)) ⌝ }
     ensures prints { λ r. ⌜ take r (now (out .exit)) ≡ orRefusal (sheetVerdict (now (text .entry))) (now (text .entry)) ⌝ }

@@ -7,10 +7,10 @@ ghost use Rattle.printing.specs.Print.{routesOf};
 use console::Input;
 use printing::Printed;
 
-// The longest printed text: 11 bytes, and 331 for each of eight carriers.
+// The length of the longest printed text: 11 bytes, and 331 for each of eight carriers.
 const TEXT_LENGTH: usize = 2659;
 
-// Prints what a text says as a sheet, whatever it says, into an array with room for every printed text; so many bytes of it are printed.
+// Prints the routes of any text that is a sheet, and of any other the line of its refusal; the number of printed bytes is returned.
 fn print(text: &[u8], out: &mut [u8; TEXT_LENGTH]) -> usize
     ensures counts { λ r. ⌜ Counts r (now (out .exit)) ⌝ }
     ensures prints { λ r. ⌜ take r (now (out .exit)) ≡ routesOf (now (text .entry)) ⌝ }
