@@ -1,65 +1,78 @@
-// Reads a sheet from standard input and writes the sheet of the floor that it read, which is the same sheet, or, of a
-// refused one, a line of 0, the refusal's number and its place.
+// Reads a sheet from standard input and writes the sheet of the floor that it read, which is the same sheet, or, of a refused one, the
+// line of its refusal. A failure of either is said on standard error.
+ghost use mathlib.Core.Path.{_≡_};
+ghost use Prim.Native.Nat.{_≤_};
+ghost use lib.ListN.{length, take};
+ghost use Rattle.io.specs.Counts.{Counts};
+ghost use Rattle.floor.specs.Checks.{checkOf};
+ghost use Rattle.floor.specs.Verdict.{passed};
+ghost use Rattle.sheet.specs.Text.{sheetOf};
+ghost use Rattle.sheet.specs.Read.{sheetVerdict};
+ghost use Rattle.printing.specs.Text.{refusalLine};
+ghost use Rattle.printing.specs.Print.{orRefusal};
+ghost use Rattle.printing.specs.Put.{TextPut};
+use console::Input;
 use floor::Checked;
 use floor::Floor;
 use floor::Refusal;
-use libc::STDIN_FILENO;
-use libc::STDOUT_FILENO;
 
-// A number as a field of five columns.
-fn print_field(n: u64) {
-    if n < 10000 {
-        io::write_all(STDOUT_FILENO, b" ");
-    }
-    if n < 1000 {
-        io::write_all(STDOUT_FILENO, b" ");
-    }
-    if n < 100 {
-        io::write_all(STDOUT_FILENO, b" ");
-    }
-    if n < 10 {
-        io::write_all(STDOUT_FILENO, b" ");
-    }
-    io::print_decimal(STDOUT_FILENO, n);
+// The length of the longest sheet: 31 bytes, 21 for each of eight carriers, 11 for each of 1,023 walls.
+const SHEET_LENGTH: usize = 11452;
+
+// Room for the most walls that a floor can have.
+fn no_walls() -> [u16; 1023]
+    ensures { λ r. ⌜ 1023 ≡ length r ⌝ }
+{
+    [0; 1023]
 }
 
-fn print_refusal(r: Refusal) {
-    print_field(0);
-    print_field(r.number as u64);
-    print_field(r.place as u64);
-    io::write_all(STDOUT_FILENO, b"\n");
+// Puts the sheet of a floor that was read, with its walls in front of `walls`; its length is returned.
+fn put_sheet(f: Floor, walls: &[u16], out: &mut [u8]) -> usize
+    requires { ⌜ checkOf f (take (f .walls) (now walls)) ≡ passed ⌝ }
+    requires { ⌜ f .walls ≤ length (now walls) ⌝ }
+    requires { ⌜ 11452 ≤ length (now out) ⌝ }
+    ensures { λ r. ⌜ TextPut (sheetOf f (take (f .walls) (now (walls .entry)))) (now (out .entry)) (now (out .exit)) r ⌝ }
+{
+    let k = f.walls as usize;
+    sheet::write(f, &walls[..k], out);
+    sheet::sheet_length(f)
 }
 
-// Writes the sheet of a floor through lent memory.
-fn print_sheet(f: Floor, walls: &[u16], out: &mut [u8]) {
-    let written = sheet::write(f, walls, out);
-    let Checked::Passed = written else {
-        return;
-    };
-    let n = sheet::sheet_length(f);
-    if out.len() < n {
-        return;
-    }
-    io::write_all(STDOUT_FILENO, &out[..n]);
+// Puts the line of a refused sheet; its length is returned.
+fn put_refusal(x: Refusal, out: &mut [u8]) -> usize
+    requires { ⌜ (x .place ≤ 65535) × (16 ≤ length (now out)) ⌝ }
+    ensures { λ r. ⌜ TextPut (refusalLine (x .number) (x .place)) (now (out .entry)) (now (out .exit)) r ⌝ }
+{
+    fields::put_field(out, 0, 0);
+    fields::put_field(out, 5, x.number);
+    fields::put_field(out, 10, x.place as u16);
+    out[15] = 10;
+    16
 }
 
-// Reads the text into lent wall memory and answers it.
-fn answer(text: &[u8], walls: &mut [u16]) {
-    let reading = sheet::read(text, walls);
+// Writes again any text that is a sheet, and of any other the line of its refusal; the number of written bytes is returned.
+fn print(text: &[u8], out: &mut [u8; SHEET_LENGTH]) -> usize
+    ensures counts { λ r. ⌜ Counts r (now (out .exit)) ⌝ }
+    ensures prints { λ r. ⌜ take r (now (out .exit)) ≡ orRefusal (sheetVerdict (now (text .entry))) (now (text .entry)) ⌝ }
+{
+    let mut walls = no_walls();
+    let reading = sheet::read(text, &mut walls);
     let checked = reading.answer;
-    match checked {
-        Checked::Passed => {
-            let mut out = io::large_buffer();
-            print_sheet(reading.floor, walls, &mut out);
-        }
-        Checked::Refused(r) => print_refusal(r),
-    }
+    let f = reading.floor;
+    let Checked::Refused(x) = checked else {
+        return put_sheet(f, &walls, out);
+    };
+    put_refusal(x, out)
 }
 
 // The longest sheet has 11,452 bytes; of a longer input the first 65,536 bytes hold the first extra byte.
 fn main() {
     let mut space = io::large_buffer();
-    let n = io::read_full(STDIN_FILENO, &mut space);
-    let mut walls = [0u16; 1023];
-    answer(&space[..n], &mut walls);
+    let input = console::read(b"resheet: standard input", &mut space);
+    let Input::Read(n) = input else {
+        return;
+    };
+    let mut out = [0u8; SHEET_LENGTH];
+    let printed = print(&space[..n], &mut out);
+    console::write(b"resheet: standard output", &out[..printed]);
 }

@@ -1,23 +1,35 @@
 // The program `routes` (document 01, 'The sheet'): a sheet from standard input, its printed routes to standard output, and nothing
-// else; of a refused sheet the line of its refusal.
-use libc::STDIN_FILENO;
-use libc::STDOUT_FILENO;
+// else; of a refused sheet the line of its refusal. A failure of either is said on standard error.
+ghost use mathlib.Core.Path.{_≡_};
+ghost use lib.ListN.{take};
+ghost use Rattle.io.specs.Counts.{Counts};
+ghost use Rattle.printing.specs.Print.{routesOf};
+use console::Input;
 use printing::Printed;
 
-// Writes what is printed for a text through lent memory, which is never too short at 2,659 bytes.
-fn answer(text: &[u8], out: &mut [u8]) {
+// The length of the longest printed text: 11 bytes, and 331 for each of eight carriers.
+const TEXT_LENGTH: usize = 2659;
+
+// Prints the routes of any text that is a sheet, and of any other the line of its refusal; the number of printed bytes is returned.
+fn print(text: &[u8], out: &mut [u8; TEXT_LENGTH]) -> usize
+    ensures counts { λ r. ⌜ Counts r (now (out .exit)) ⌝ }
+    ensures prints { λ r. ⌜ take r (now (out .exit)) ≡ routesOf (now (text .entry)) ⌝ }
+{
     let printed = printing::routes(text, out);
     let Printed::Written(n) = printed else {
-        return;
+        return 0;
     };
-    io::write_all(STDOUT_FILENO, &out[..n]);
+    n
 }
 
-// The longest sheet has 11,452 bytes; of a longer input the first 65,536 bytes hold the first extra byte. The longest text has 2,659
-// bytes.
+// The longest sheet has 11,452 bytes; of a longer input the first 65,536 bytes hold the first extra byte.
 fn main() {
     let mut space = io::large_buffer();
-    let n = io::read_full(STDIN_FILENO, &mut space);
-    let mut out = [0u8; 2659];
-    answer(&space[..n], &mut out);
+    let input = console::read(b"routes: standard input", &mut space);
+    let Input::Read(n) = input else {
+        return;
+    };
+    let mut out = [0u8; TEXT_LENGTH];
+    let printed = print(&space[..n], &mut out);
+    console::write(b"routes: standard output", &out[..printed]);
 }

@@ -1,0 +1,2 @@
+-- Laws of the console's definitions.
+pub mod WithinLaws

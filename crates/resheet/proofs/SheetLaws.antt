@@ -1,0 +1,85 @@
+-- A memory of 11,452 bytes holds every sheet: what is written stands in front.
+use Prim.Native.Nat.{ℕ, _+_, _≤_}
+use native.Mathlib.Omega.{arith}
+use mathlib.Core.Path.{_≡_, refl, sym, ap, _∙_}
+use mathlib.Core.List.{List, _++_}
+use borrow.Author.Tests.{le-leb}
+use lib.ListN.{length, take, drop}
+use lib.Seq.{take-at, length-take-le}
+use Rattle.io.specs.Counts.{Counts}
+use Rattle.laws.specs.Memory.{put}
+use Rattle.laws.proofs.PutLaws.{put-length}
+use Rattle.floor.specs.declared.Floor.{Floor}
+use Rattle.floor.specs.Verdict.{passed, refused, _then_}
+use Rattle.floor.specs.Checks.{checkOf, roomOf}
+use Rattle.floor.proofs.VerdictLaws.{demand-passes}
+use Rattle.floor.proofs.LimitsLaws.{check-tells}
+use Rattle.fields.specs.Field.{fieldOf}
+use Rattle.sheet.specs.Text.{sheetOf, sheetLength, wallAt, lineOf}
+use Rattle.sheet.specs.Values.{floorAt, wallsAt}
+use Rattle.sheet.specs.Read.{sheetVerdict, writeVerdict, writeSheet}
+use Rattle.sheet.proofs.ReadLaws.{chosen-passed}
+use Rattle.sheet.proofs.Theorems.{theorems}
+use Rattle.printing.specs.Text.{refusalLine}
+use Rattle.printing.specs.Print.{orRefusal}
+use Rattle.printing.specs.Put.{TextPut}
+use Rattle.printing.proofs.PrintLaws.{WasRead}
+
+-- The sheet of an accepted floor.
+module _ (f : Floor) (ws : List ℕ) (ok : checkOf f ws ≡ passed) where
+  sheet-short : sheetLength f ≤ 11452
+  unfolding sheetLength wallAt
+  sheet-short = let b = check-tells f ws ok .bounds in omega (arith, b .carriers .1, b .walls .1)
+
+  granted : (room : ℕ) → 11452 ≤ room → writeVerdict f ws room ≡ passed
+  unfolding writeVerdict roomOf _then_
+  granted room enough =
+      let fits : sheetLength f ≤ room = omega (arith, sheet-short) in
+      rw ok (demand-passes 9 0 (le-leb _ _ fits))
+
+  pub sheet-put : (old new : List ℕ) (n : ℕ) → 11452 ≤ length old → new ≡ writeSheet f ws old → n ≡ sheetLength f
+      → TextPut (sheetOf f ws) old new n
+  unfolding writeSheet put
+  sheet-put old new n enough e l =
+      let size = theorems .sheet-length f ws in
+      let behind : sheetLength f ≡ 0 + length (sheetOf f ws) = omega arith in
+      record {
+        bytes = e
+            ∙ chosen-passed _ _ (granted (length old) enough)
+            ∙ ap (λ (k : ℕ). sheetOf f ws ++ drop k old) behind;
+        size = l ∙ sym size;
+      }
+
+-- A text that was put in front of a memory stands there.
+module _ (text old new : List ℕ) (n : ℕ) (p : TextPut text old new n) (fits : length text ≤ length old) where
+  pub stands : take n new ≡ text
+  unfolding put
+  stands = rw (p .bytes) (take-at text _ n (sym (p .size)))
+
+  pub counts : Counts n new
+  counts =
+      let l : n ≤ length new = omega (arith, p .size, ap length (p .bytes), put-length old text 0 (omega arith)) in
+      (l, sym (length-take-le n new l))
+
+refusal-length : (k p : ℕ) → length (refusalLine k p) ≡ 16
+unfolding refusalLine lineOf fieldOf
+refusal-length k p = refl
+
+-- An accepted sheet is written again; a refused one has the line of its refusal.
+module _ (text old new : List ℕ) (n : ℕ) (enough : 11452 ≤ length old) where
+  pub accepted-again : (f : Floor) (walls : List ℕ) → WasRead text f walls → TextPut (sheetOf f (take (f .walls) walls)) old new n
+      → Counts n new × (take n new ≡ orRefusal (sheetVerdict text) text)
+  unfolding orRefusal
+  accepted-again f walls r t =
+      let same : sheetOf f (take (f .walls) walls) ≡ text = rw (r .front, r .floor) (theorems .sheet-returns text (r .accepted)) in
+      let fits : length (sheetOf f (take (f .walls) walls)) ≤ length old =
+      omega (arith, theorems .sheet-length f (take (f .walls) walls), sheet-short f _ (r .checked))
+      in
+      (counts _ _ _ _ t fits, rw (r .accepted) (stands _ _ _ _ t fits ∙ same))
+
+  pub refused-line : (k p : ℕ) → sheetVerdict text ≡ refused k p → TextPut (refusalLine k p) old new n
+      → Counts n new × (take n new ≡ orRefusal (sheetVerdict text) text)
+  unfolding orRefusal
+  refused-line k p v t =
+      let fits : length (refusalLine k p) ≤ length old = omega (arith, refusal-length k p) in
+      (counts _ _ _ _ t fits, rw v (stands _ _ _ _ t fits))

@@ -1,0 +1,48 @@
+-- A memory of 2,659 bytes holds every printed text: no text is refused there, and what is printed stands in front.
+use Prim.Native.Nat.{ℕ, _≤_}
+use native.Mathlib.Omega.{arith}
+use mathlib.Core.Path.{_≡_, refl, sym, ap, _∙_}
+use mathlib.Core.List.{List}
+use borrow.Author.Tests.{le-leb}
+use lib.ListN.{length, take, drop}
+use lib.Seq.{take-at, length-take-le}
+use Rattle.io.specs.Counts.{Counts}
+use Rattle.laws.specs.Memory.{put}
+use Rattle.floor.specs.declared.Refusal.{Refusal}
+use Rattle.printing.specs.declared.Printed.{Printed}
+use Rattle.printing.specs.declared.Printed.the-variants.{Written, Refused}
+use Rattle.printing.specs.Print.{written, turned, outcomeOf, routesOf, neededFor, routesOutcome, routesMemory}
+use Rattle.printing.proofs.Theorems.{theorems}
+
+module _ (text old new : List ℕ) (r : Printed) (enough : 2659 ≤ length old) (says : outcomeOf r ≡ routesOutcome text (length old))
+    (stores : new ≡ routesMemory text old) where
+  outcome : outcomeOf r ≡ written (length (routesOf text))
+  outcome = says ∙ theorems .always-written text (length old) enough
+
+  pub never-refused : (x : Refusal) → r ≡ Refused x → ⊥
+  unfolding outcomeOf
+  never-refused x e =
+      let h : turned (x .number) (x .place) ≡ written (length (routesOf text)) = sym (ap outcomeOf e) ∙ outcome in
+      let z : _≡_ {A = ℕ} 0 1 = cc in
+      omega arith
+
+  printed-length : (n : ℕ) → r ≡ Written n → n ≡ length (routesOf text)
+  unfolding outcomeOf
+  printed-length n e =
+      let h : written n ≡ written (length (routesOf text)) = sym (ap outcomeOf e) ∙ outcome in
+      cc
+
+  printed-put : new ≡ put old 0 (routesOf text)
+  unfolding routesMemory
+  printed-put =
+      let fits : neededFor text ≤ length old = omega (arith, theorems .routes-within text .1) in
+      stores ∙ rw (le-leb _ _ fits)
+
+  pub stands : (n : ℕ) → r ≡ Written n → take n new ≡ routesOf text
+  unfolding put
+  stands n e = rw printed-put (take-at (routesOf text) _ n (sym (printed-length n e)))
+
+  pub counts : (n : ℕ) → r ≡ Written n → length new ≡ length old → Counts n new
+  counts n e kept =
+      let l : n ≤ length new = omega (arith, printed-length n e, theorems .routes-within text) in
+      (l, sym (length-take-le n new l))
