@@ -1,10 +1,9 @@
 -- The claims of the printed routes, proved.
 use Prim.Native.Nat.{ℕ, _+_, _≤_, _<_}
 use native.Mathlib.Omega.{arith}
-use native.Mathlib.Decide.{decLe}
 use mathlib.Core.Path.{_≡_, refl, sym, _∙_, ap}
 use mathlib.Core.List.{List}
-use borrow.Author.Tests.{le-leb, lt-leb}
+use borrow.Author.Tests.{le-leb}
 use lib.ListN.{length, take, drop}
 use lib.Seq.{take-all}
 use Rattle.floor.specs.declared.Floor.{Floor}
@@ -23,12 +22,9 @@ use Rattle.planner.specs.Plan.{planOf, failingOf}
 use Rattle.planner.specs.Claims.{answerAt}
 use Rattle.planner.proofs.Theorems.{theorems as planner-theorems}
 use Rattle.printing.specs.Text.{noneLine, answerLine, firstLine, routesText, refusalLine}
-use Rattle.printing.specs.declared.Printed.{Printed}
-use Rattle.printing.specs.declared.Printed.the-variants.{Written}
-use Rattle.printing.specs.Print.{written, outcomeOf, printOf, textLength, orRefusal, routesOf, neededFor, shortOutcome, routesOutcome}
+use Rattle.printing.specs.Print.{written, printOf, textLength, orRefusal, routesOf, neededFor, routesOutcome}
 use Rattle.printing.specs.Claims.{Claims, columnOf}
 use Rattle.printing.proofs.PutLaws.{first-length, none-length}
-use Rattle.printing.proofs.PrintLaws.{short-turned}
 use Rattle.printing.proofs.LinesLaws.{line-at, text-within}
 
 -- Records that are the same floor have the same printed routes.
@@ -131,24 +127,6 @@ unfolding routesOutcome
 always-written text bytes l =
     let enough : neededFor text ≤ bytes = omega (arith, routes-within text .1) in
     rw (le-leb _ _ enough)
-
--- As many bytes as are written are there.
-written-within : (text : List ℕ) (bytes n : ℕ) → written n ≡ routesOutcome text bytes → n ≤ bytes
-unfolding routesOutcome shortOutcome
-written-within text bytes n e = go (decLe (neededFor text) bytes)
-  where
-    go : Dec (neededFor text ≤ bytes) → n ≤ bytes
-    go (yes h) =
-        let w : written n ≡ written (length (routesOf text)) = e ∙ rw (le-leb _ _ h) in
-        let s : n ≡ length (routesOf text) = cc in
-        omega (arith, routes-within text .0)
-    go (no h) =
-        let l : bytes < neededFor text = omega arith in
-        absurd (short-turned (sheetVerdict text) n (e ∙ rw (lt-leb _ _ l)))
-
-pub written-fits : (text : List ℕ) (bytes n : ℕ) (r : Printed) → outcomeOf r ≡ routesOutcome text bytes → r ≡ Written n → n ≤ bytes
-unfolding outcomeOf
-written-fits text bytes n r e g = written-within text bytes n (sym (ap outcomeOf g) ∙ e)
 
 pub theorems : Claims
 theorems =

@@ -1,5 +1,5 @@
 -- `resheet::print` meets its contract: the reader's verdict decides between the sheet and the refusal's line.
-use Rattle.floor.proofs.AnswersLaws.{passes, refuses}
+use Rattle.floor.proofs.AnswersLaws.{refuses}
 use Rattle.sheet.proofs.Theorems.{theorems}
 use Rattle.printing.proofs.PrintLaws.{was-read, read-refused}
 use Rattle.resheet.proofs.SheetLaws.{accepted-again, refused-line}
@@ -13,9 +13,8 @@ put-sheet-requires c κs =
     let after-enum-told : tie.After-enum-told = search in
     let after-read : tie.After-read = search in
     let after-no-walls : tie.After-no-walls = search in
-    let w = was-read _ _ _ _ (omega (arith, after-no-walls .no-walls .ensures)) (passes (after-read .read .ensures .0)
-    (after-enum-told .enum-told .given .1))
-    (after-read .read .ensures .1 .0) (after-read .read .ensures .1 .1) in
+    let w = was-read _ _ _ _ (omega (arith, after-no-walls .no-walls .ensures)) (after-read .read .ensures)
+    (after-enum-told .enum-told .given .1) in
     (w .checked, (w .lent, omega arith))
 
 returns : tie.Need-returns
@@ -24,9 +23,8 @@ returns c =
     let after-enum-told : tie.After-enum-told = search in
     let after-read : tie.After-read = search in
     let after-no-walls : tie.After-no-walls = search in
-    let w = was-read _ _ _ _ (omega (arith, after-no-walls .no-walls .ensures)) (passes (after-read .read .ensures .0)
-    (after-enum-told .enum-told .given .1))
-    (after-read .read .ensures .1 .0) (after-read .read .ensures .1 .1) in
+    let w = was-read _ _ _ _ (omega (arith, after-no-walls .no-walls .ensures)) (after-read .read .ensures)
+    (after-enum-told .enum-told .given .1) in
     accepted-again _ _ _ _ (omega arith) _ _ w (after-put-sheet .put-sheet .ensures)
 
 put-refusal-requires : tie.Need-put-refusal-requires
