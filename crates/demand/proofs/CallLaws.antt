@@ -6,9 +6,9 @@ use mathlib.Core.Logic.{⊎-elim}
 use mathlib.Core.Path.{_≡_, refl, sym, _∙_, ap, ap₂}
 use lib.ListN.{length, take, drop, take-append-drop}
 use Rattle.floor.specs.declared.Floor.{Floor}
-use Rattle.floor.specs.Verdict.{passed}
+use Rattle.laws.specs.Verdict.{passed}
 use Rattle.floor.specs.Checks.{checkOf}
-use Rattle.floor.proofs.VerdictLaws.{then-passed, then-refused}
+use Rattle.laws.proofs.VerdictLaws.{then-passed, then-refused}
 use Rattle.route.specs.Route.{none}
 use Rattle.planner.proofs.ViewLaws.{Whole}
 use Rattle.reference.specs.State.{Machine, State, fresh}

@@ -8,12 +8,12 @@ use lib.ListN.{length, take, length-take}
 use lib.Seq.{getD-take}
 use borrow.Author.Tests.{lt-leb}
 use Rattle.floor.specs.declared.Floor.{Floor}
-use Rattle.floor.specs.Verdict.{passed, refused}
+use Rattle.laws.specs.Verdict.{passed, refused}
 use Rattle.floor.specs.Checks.{checkOf, lentOf, roomOf, placesOf, among}
 use Rattle.floor.specs.Accepted.{SameFloor}
 use Rattle.floor.proofs.LimitsLaws.{CheckTells, check-tells}
 use Rattle.floor.proofs.SameLaws.{among-same, check-same}
-use Rattle.floor.proofs.VerdictLaws.{then-passed, then-refused, demand-refuses}
+use Rattle.laws.proofs.VerdictLaws.{then-passed, then-refused, demand-refuses}
 use Rattle.route.specs.Route.{Answer, none, route, View, cellAt}
 use Rattle.route.specs.Best.{IsRoute}
 use Rattle.route.specs.Search.{best}

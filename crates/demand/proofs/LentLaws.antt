@@ -10,9 +10,9 @@ use lib.ListN.{length, take, drop, length-take, length-append}
 use lib.Seq.{take-append-add, drop-append-add}
 use borrow.Author.Tests.{le-leb, lt-leb}
 use Rattle.floor.specs.declared.Floor.{Floor}
-use Rattle.floor.specs.Verdict.{passed, refused, demand}
+use Rattle.laws.specs.Verdict.{passed, refused, demand}
 use Rattle.floor.specs.Checks.{checkOf, roomOf}
-use Rattle.floor.proofs.VerdictLaws.{then-passed, then-refused, demand-passes, demand-refuses}
+use Rattle.laws.proofs.VerdictLaws.{then-passed, then-refused, demand-passes, demand-refuses}
 use Rattle.laws.proofs.Tests.{lt-or-le}
 use Rattle.reference.specs.State.{State}
 use Rattle.layout.specs.Places.{stateSize}

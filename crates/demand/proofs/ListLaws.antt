@@ -7,9 +7,9 @@ use mathlib.Core.Path.{_≡_, refl, sym, _∙_, ap}
 use lib.ListN.{length, drop, length-drop}
 use borrow.Author.Tests.{le-leb}
 use Rattle.floor.specs.declared.Floor.{Floor}
-use Rattle.floor.specs.Verdict.{passed}
+use Rattle.laws.specs.Verdict.{passed}
 use Rattle.floor.specs.Checks.{checkOf, roomOf}
-use Rattle.floor.proofs.VerdictLaws.{then-passed, demand-passes}
+use Rattle.laws.proofs.VerdictLaws.{then-passed, demand-passes}
 use Rattle.laws.specs.Memory.{put}
 use Rattle.reference.specs.State.{Machine, State, fresh}
 use Rattle.reference.specs.History.{Reaches, stay}

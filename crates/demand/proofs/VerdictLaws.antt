@@ -6,8 +6,8 @@ use mathlib.Core.Bool.{Bool, true, false}
 use mathlib.Core.List.{List, [], _∷_, map}
 use mathlib.Core.Path.{_≡_, refl, _∙_, ap}
 use lib.ListN.{length, getD}
-use Rattle.floor.specs.Verdict.{Verdict, passed, refused, _then_, demand, inTurn, each}
-use Rattle.floor.proofs.VerdictLaws.{then-assoc, each-none, refused-not-passed}
+use Rattle.laws.specs.Verdict.{Verdict, passed, refused, _then_, demand, inTurn, demandEach}
+use Rattle.laws.proofs.VerdictLaws.{then-assoc, each-none, refused-not-passed}
 use Rattle.reference.specs.State.{Machine, State}
 use Rattle.reference.specs.Step.{Step, named, isOpen}
 use Rattle.reference.specs.Table.{CallVerdict, accepted, refusal, allNamed, openSingle}
@@ -52,8 +52,8 @@ unfolding inTurn
 turn-same check other zero h = refl
 turn-same check other (suc m) h = rw (turn-same check other m h, h m)
 
-each-front : (k p : ℕ) (ok : ℕ → Bool) (m : ℕ) → each k p ok (suc m) ≡ (demand (ok 0) k p then each k (suc p) (λ i. ok (suc i)) m)
-unfolding each
+each-front : (k p : ℕ) (ok : ℕ → Bool) (m : ℕ) → demandEach k p ok (suc m) ≡ (demand (ok 0) k p then demandEach k (suc p) (λ i. ok (suc i)) m)
+unfolding demandEach
 each-front k p ok m =
     turn-front (λ i. demand (ok i) k (p + i)) m
     ∙ rw add-zero
@@ -64,12 +64,12 @@ each-front k p ok m =
 module _ (M : Machine) where
   -- 7 with the place of the first step that is not there.
   pub named-same : (p : ℕ) (xs : List ℕ) →
-      each 7 p (λ q. named M (stepOf (getD xs q 0))) (length xs) ≡ asCheck (allNamed M p (map stepOf xs))
+      demandEach 7 p (λ q. named M (stepOf (getD xs q 0))) (length xs) ≡ asCheck (allNamed M p (map stepOf xs))
   unfolding asCheck allNamed
   named-same p [] = each-none 7 p (λ q. named M (stepOf (getD {A = ℕ} [] q 0)))
   named-same p (x ∷ xs) =
       each-front 7 p (λ q. named M (stepOf (getD (x ∷ xs) q 0))) (length xs)
-      ∙ one-test (named M (stepOf x)) 7 p (each 7 (suc p) (λ q. named M (stepOf (getD xs q 0))) (length xs))
+      ∙ one-test (named M (stepOf x)) 7 p (demandEach 7 (suc p) (λ q. named M (stepOf (getD xs q 0))) (length xs))
       (allNamed M (suc p) (map stepOf xs)) (named-same (suc p) xs)
 
   -- 7, then 8, of a single step.

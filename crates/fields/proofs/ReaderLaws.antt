@@ -7,9 +7,9 @@ use Rattle.floor.specs.declared.Refusal.{Refusal}
 use Rattle.floor.specs.declared.Checked.{Checked}
 use Rattle.floor.specs.declared.Checked.the-variants.{Passed, Refused}
 use Rattle.floor.specs.Answers.{verdictOf}
-use Rattle.floor.specs.Verdict.{passed, _then_, inTurn}
+use Rattle.laws.specs.Verdict.{passed, _then_, inTurn}
 use Rattle.floor.proofs.AnswersLaws.{ends-at, turn-ends, passes}
-use Rattle.floor.proofs.VerdictLaws.{turn-none, turn-more, turn-end}
+use Rattle.laws.proofs.VerdictLaws.{turn-none, turn-more, turn-end}
 use Rattle.fields.specs.Form.{fieldForm, newlineForm, lineForm}
 
 -- The reader of a line of m fields that begins at a column: it is past the first i fields, which are in good form.

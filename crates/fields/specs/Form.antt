@@ -3,7 +3,7 @@ use Prim.Native.Nat.{ℕ, _+_, _*_}
 use mathlib.Core.List.{List}
 use lib.ListN.{length, getD}
 use lib.Dec.{leb, ltb, eqb}
-use Rattle.floor.specs.Verdict.{Verdict, _then_, demand, inTurn}
+use Rattle.laws.specs.Verdict.{Verdict, _then_, demand, inTurn}
 use Rattle.fields.specs.Field.{isField}
 
 -- A field: five bytes are there (a field cut short by the end gets the sheet's length), and they are a field.

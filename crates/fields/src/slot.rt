@@ -3,7 +3,7 @@ ghost use mathlib.Core.Path.{_≡_};
 ghost use Prim.Native.Nat.{_+_, _≤_, _<_};
 ghost use lib.ListN.{length};
 ghost use Rattle.floor.specs.Answers.{verdictOf};
-ghost use Rattle.floor.specs.Verdict.{refused};
+ghost use Rattle.laws.specs.Verdict.{refused};
 ghost use Rattle.fields.specs.Form.{fieldForm, newlineForm, endForm};
 use crate::field;
 use floor::Checked;

@@ -6,9 +6,9 @@ use mathlib.Core.Path.{_≡_, sym, _∙_}
 use Rattle.floor.specs.declared.Refusal.{Refusal}
 use Rattle.floor.specs.declared.Checked.{Checked}
 use Rattle.floor.specs.declared.Checked.the-variants.{Passed, Refused}
-use Rattle.floor.specs.Verdict.{Verdict, passed, refused, _then_, inTurn}
+use Rattle.laws.specs.Verdict.{Verdict, passed, refused, _then_, inTurn}
 use Rattle.floor.specs.Answers.{verdictOf}
-use Rattle.floor.proofs.VerdictLaws.{turn-none, turn-more, turn-stop, turn-end}
+use Rattle.laws.proofs.VerdictLaws.{turn-none, turn-more, turn-stop, turn-end}
 
 -- A check that passed hands on: what the rest answers, the whole answers.
 pub hands-on : {a : Checked} {u v w : Verdict} → verdictOf a ≡ v → a ≡ Passed → u ≡ w → u ≡ (v then w)

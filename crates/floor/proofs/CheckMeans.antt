@@ -7,10 +7,11 @@ use mathlib.Core.Logic.{_↔_}
 use mathlib.Core.List.{List}
 use borrow.Author.Tests.{ltb-true, lt-ltb, not-true}
 use lib.ListN.{getD}
+use Rattle.laws.proofs.Tests.{false-fails}
 use Rattle.floor.specs.declared.Floor.{Floor}
 use Rattle.floor.specs.Checks.{inGrid, carrierInGrid, rises, among, clearOfWalls, unshared}
 use Rattle.floor.specs.Accepted.{InGrid, CarrierInGrid, WallInGrid, Rises, Absent, ClearOfWalls, Unshared}
-use Rattle.floor.proofs.EachLaws.{Decides, false-fails}
+use Rattle.laws.proofs.EachLaws.{Decides}
 use Rattle.floor.proofs.AmongLaws.{among-found, absent-all}
 
 -- Two tests joined mean both statements.

@@ -11,10 +11,10 @@ use borrow.Author.Tests.{eqb-true, eqb-false}
 use lib.ListN.{getD}
 use lib.Dec.{eqb}
 use Rattle.floor.specs.declared.Floor.{Floor}
-use Rattle.floor.specs.Verdict.{passed}
+use Rattle.laws.specs.Verdict.{passed, All}
 use Rattle.floor.specs.Checks.{among, risingOf}
-use Rattle.floor.specs.Accepted.{All, Rises, Climbs}
-use Rattle.floor.proofs.EachLaws.{each-passed}
+use Rattle.floor.specs.Accepted.{Rises, Climbs}
+use Rattle.laws.proofs.EachLaws.{each-passed}
 use Rattle.floor.proofs.AmongLaws.{among-found, absent-all}
 use Rattle.floor.proofs.CheckMeans.{rises-means}
 

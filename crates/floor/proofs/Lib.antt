@@ -1,8 +1,6 @@
 -- Laws of the definitions that no single function owns.
 pub mod TestLaws
-pub mod VerdictLaws
 pub mod AnswersLaws
-pub mod EachLaws
 pub mod LimitsLaws
 pub mod AmongLaws
 pub mod RisesLaws

@@ -7,11 +7,11 @@ use mathlib.Core.Logic.{_↔_}
 use mathlib.Core.List.{List}
 use borrow.Author.Tests.{leb-true, le-leb}
 use Rattle.floor.specs.declared.Floor.{Floor}
-use Rattle.floor.specs.Verdict.{passed, _then_, inTurn, each}
+use Rattle.laws.specs.Verdict.{passed, _then_, inTurn, demandEach}
 use Rattle.floor.specs.Checks.{within, limitsOf, lentOf, roomOf, placesOf, checkOf}
 use Rattle.floor.specs.Accepted.{Within, FieldWithin, Limited, Lent}
-use Rattle.floor.proofs.VerdictLaws.{then-assoc, then-both, demand-holds}
-use Rattle.floor.proofs.EachLaws.{Decides, each-means}
+use Rattle.laws.proofs.VerdictLaws.{then-assoc, then-both, demand-holds}
+use Rattle.laws.proofs.EachLaws.{Decides, each-means}
 
 -- The test of a limit means the limit.
 within-means : (low high v : ℕ) → (within low high v ≡ true) ↔ Within low high v
@@ -40,8 +40,8 @@ field-means f (suc (suc (suc (suc zero)))) = within-means _ _ _
 field-means f (suc (suc (suc (suc (suc i))))) = within-means _ _ _
 
 -- Check 2 goes over the six fields in order.
-pub limits-each : (f : Floor) → limitsOf f ≡ each 2 1 (fieldWithin f) 6
-unfolding limitsOf each inTurn fieldWithin _then_
+pub limits-each : (f : Floor) → limitsOf f ≡ demandEach 2 1 (fieldWithin f) 6
+unfolding limitsOf demandEach inTurn fieldWithin _then_
 limits-each f = simp then-assoc
 
 -- Check 2 passes exactly if all six values are within their limits.

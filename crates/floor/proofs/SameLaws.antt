@@ -7,18 +7,18 @@ use mathlib.Core.List.{List}
 use borrow.Author.Tests.{le-leb}
 use lib.ListN.{getD}
 use Rattle.floor.specs.declared.Floor.{Floor}
-use Rattle.floor.specs.Verdict.{inTurn, each}
+use Rattle.laws.specs.Verdict.{inTurn, demandEach, All}
 use Rattle.floor.specs.Checks.{limitsOf, lentOf, roomOf, inGrid, carrierInGrid, startOf, goalOf, rises, among, clearOfWalls, unshared}
 use Rattle.floor.specs.Checks.{carriersOf, wallsOf, risingOf, clearOf, distinctOf, placesOf, checkOf}
-use Rattle.floor.specs.Accepted.{All, Lent, SameFloor}
+use Rattle.floor.specs.Accepted.{Lent, SameFloor}
 
 -- Tests that agree at each item make the same check.
 each-same : (k : ℕ) {p q : ℕ} (ok ok′ : ℕ → Bool) {m n : ℕ} → p ≡ q → m ≡ n → All (λ (i : ℕ). ok i ≡ ok′ i) m
-    → each k p ok m ≡ each k q ok′ n
-unfolding each inTurn
+    → demandEach k p ok m ≡ demandEach k q ok′ n
+unfolding demandEach inTurn
 each-same k {p} ok ok′ {m} e s a = rw (← e, ← s) (go m a)
   where
-    go : (m : ℕ) → All (λ (i : ℕ). ok i ≡ ok′ i) m → each k p ok m ≡ each k p ok′ m
+    go : (m : ℕ) → All (λ (i : ℕ). ok i ≡ ok′ i) m → demandEach k p ok m ≡ demandEach k p ok′ m
     go zero a = refl
     go (suc m) a = rw (go m (λ i l. a i (omega arith)), a m (omega arith))
 

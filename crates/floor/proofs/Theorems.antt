@@ -5,15 +5,15 @@ use mathlib.Core.Logic.{_↔_}
 use mathlib.Core.List.{List}
 use borrow.Author.Tests.{le-leb, lt-leb, leb-false}
 use Rattle.floor.specs.declared.Floor.{Floor}
-use Rattle.floor.specs.Verdict.{passed, refused, _then_, demand, inTurn, each}
+use Rattle.laws.specs.Verdict.{passed, refused, _then_, demand, inTurn, demandEach}
 use Rattle.floor.specs.Checks.{within, among, startOf, goalOf, limitsOf, lentOf, roomOf, carriersOf, wallsOf, risingOf, clearOf}
 use Rattle.floor.specs.Checks.{distinctOf, placesOf, checkOf, carrierInGrid, inGrid, rises, clearOfWalls, unshared}
 use Rattle.floor.specs.Fresh.{freshFloor}
 use Rattle.floor.specs.Accepted.{Accepted, Limited, Lent, CarriersInGrid, WallsInGrid, Rising, Clear, Distinct}
 use Rattle.floor.specs.Refused.{RefusedWith, outside-limit, few-walls, carrier-outside, wall-outside, not-rising, on-wall, shared}
 use Rattle.floor.specs.Claims.{Claims}
-use Rattle.floor.proofs.VerdictLaws.{then-both, then-refused, refused-by, demand-cases}
-use Rattle.floor.proofs.EachLaws.{each-means, each-refused, first-refuses}
+use Rattle.laws.proofs.VerdictLaws.{then-both, then-refused, refused-by, demand-cases}
+use Rattle.laws.proofs.EachLaws.{each-means, each-refused, first-refuses}
 use Rattle.floor.proofs.LimitsLaws.{field-means, limits-each, limits-mean, lent-passed}
 use Rattle.floor.proofs.SameLaws.{check-same}
 use Rattle.floor.proofs.CheckMeans.{carrier-in-grid-means, wall-in-grid-means, rises-means, clear-means, unshared-means}
@@ -130,7 +130,7 @@ module _ (f : Floor) (ws : List ℕ) where
       (first-refuses 6 1 _ _ (unshared-means f) _ _ h)
 
 pub theorems : Claims
-unfolding checkOf limitsOf lentOf roomOf placesOf carriersOf wallsOf risingOf clearOf distinctOf freshFloor _then_ demand each inTurn
+unfolding checkOf limitsOf lentOf roomOf placesOf carriersOf wallsOf risingOf clearOf distinctOf freshFloor _then_ demand demandEach inTurn
     within carrierInGrid inGrid startOf goalOf rises clearOfWalls among unshared
 theorems =
     record {

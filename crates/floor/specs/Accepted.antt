@@ -4,18 +4,9 @@ use Prim.Native.Nat.{ℕ, zero, suc, _*_, _≤_, _<_}
 use mathlib.Core.Path.{_≡_}
 use mathlib.Core.List.{List}
 use lib.ListN.{length, getD}
+use Rattle.laws.specs.Verdict.{All}
 use Rattle.floor.specs.declared.Floor.{Floor}
 use Rattle.floor.specs.Checks.{startOf, goalOf}
-
--- Each of the first m items is as P says.
-abbrev pub All : (ℕ → Type 0) → ℕ → Type 0
-All P m = (i : ℕ) → i < m → P i
-
--- Item i is the first of m that is not as P says.
-pub record First (P : ℕ → Type 0) (m i : ℕ) : Type 0 where
-  pub listed : i < m
-  pub fails : P i → ⊥
-  pub before : All P i
 
 -- v lies within low to high.
 abbrev pub Within : ℕ → ℕ → ℕ → Type 0

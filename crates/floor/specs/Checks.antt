@@ -6,7 +6,7 @@ use mathlib.Core.List.{List}
 use lib.ListN.{length, getD}
 use lib.Dec.{leb, ltb, eqb}
 use Rattle.floor.specs.declared.Floor.{Floor}
-use Rattle.floor.specs.Verdict.{Verdict, _then_, demand, each}
+use Rattle.laws.specs.Verdict.{Verdict, _then_, demand, demandEach}
 
 -- v lies within low to high.
 unfoldable pub within : ℕ → ℕ → ℕ → Bool
@@ -47,10 +47,10 @@ carrierInGrid f i = inGrid f (startOf f i) && inGrid f (goalOf f i)
 
 -- 3: every cell lies in the grid, the carriers' first (items 1 to n), then the walls'.
 unfoldable pub carriersOf : Floor → Verdict
-carriersOf f = each 3 1 (carrierInGrid f) (f .carriers)
+carriersOf f = demandEach 3 1 (carrierInGrid f) (f .carriers)
 
 unfoldable pub wallsOf : Floor → List ℕ → Verdict
-wallsOf f ws = each 3 (f .carriers + 1) (λ j. inGrid f (getD ws j 0)) (f .walls)
+wallsOf f ws = demandEach 3 (f .carriers + 1) (λ j. inGrid f (getD ws j 0)) (f .walls)
 
 -- Wall j is above the wall before it; the first has none before it.
 unfoldable pub rises : List ℕ → ℕ → Bool
@@ -59,7 +59,7 @@ rises ws (suc j) = ltb (getD ws j 0) (getD ws (suc j) 0)
 
 -- 4: the walls' cell numbers rise strictly; the items are those of 3.
 unfoldable pub risingOf : Floor → List ℕ → Verdict
-risingOf f ws = each 4 (f .carriers + 1) (rises ws) (f .walls)
+risingOf f ws = demandEach 4 (f .carriers + 1) (rises ws) (f .walls)
 
 -- c is among the first m numbers of xs.
 unfoldable pub among : List ℕ → ℕ → ℕ → Bool
@@ -72,7 +72,7 @@ clearOfWalls f ws i = not (among ws (f .walls) (startOf f i)) && not (among ws (
 
 -- 5: no carrier starts or ends on a wall.
 unfoldable pub clearOf : Floor → List ℕ → Verdict
-clearOf f ws = each 5 1 (clearOfWalls f ws) (f .carriers)
+clearOf f ws = demandEach 5 1 (clearOfWalls f ws) (f .carriers)
 
 -- No earlier carrier has the start of carrier i, and none has its goal.
 unfoldable pub unshared : Floor → ℕ → Bool
@@ -80,7 +80,7 @@ unshared f i = not (among (f .starts) i (startOf f i)) && not (among (f .goals) 
 
 -- 6: no two carriers share a start, and no two share a goal.
 unfoldable pub distinctOf : Floor → Verdict
-distinctOf f = each 6 1 (unshared f) (f .carriers)
+distinctOf f = demandEach 6 1 (unshared f) (f .carriers)
 
 -- The checks 3 to 6, which a sheet and a record have alike.
 unfoldable pub placesOf : Floor → List ℕ → Verdict

@@ -4,7 +4,8 @@ use Prim.Native.Nat.{ℕ, _+_, _<_}
 use mathlib.Core.List.{List}
 use lib.ListN.{length}
 use Rattle.floor.specs.declared.Floor.{Floor}
-use Rattle.floor.specs.Accepted.{First, FieldWithin, CarrierInGrid, WallInGrid, Rises, ClearOfWalls, Unshared, Limited, Lent}
+use Rattle.floor.specs.Accepted.{FieldWithin, CarrierInGrid, WallInGrid, Rises, ClearOfWalls, Unshared, Limited, Lent}
+use Rattle.laws.specs.Verdict.{First}
 use Rattle.floor.specs.Accepted.{CarriersInGrid, WallsInGrid, Rising, Clear}
 
 pub data RefusedWith (f : Floor) (ws : List ℕ) : ℕ → ℕ → Type 0 where

@@ -1,7 +1,7 @@
 // Refusal 2: the limits of line 1's six values.
 ghost use mathlib.Core.Path.{_≡_};
 ghost use Rattle.floor.specs.Answers.{verdictOf};
-ghost use Rattle.floor.specs.Verdict.{demand};
+ghost use Rattle.laws.specs.Verdict.{demand};
 ghost use Rattle.floor.specs.Checks.{within, limitsOf};
 use crate::Checked;
 use crate::Floor;

@@ -4,7 +4,7 @@ use mathlib.Core.Path.{_≡_, refl}
 use mathlib.Core.List.{List}
 use lib.ListN.{length}
 use borrow.Author.Tests.{le-leb, lt-leb}
-use Rattle.floor.specs.Verdict.{demand}
+use Rattle.laws.specs.Verdict.{demand}
 use Rattle.floor.specs.Checks.{roomOf}
 use Rattle.sheet.specs.Read.{chosen}
 use Rattle.wire.specs.Word.{Said, turned, wordOf}

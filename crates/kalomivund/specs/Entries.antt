@@ -6,7 +6,7 @@ use lib.Dec.{leb}
 use lib.ListN.{length}
 use Rattle.laws.specs.Memory.{put}
 use Rattle.floor.specs.declared.Floor.{Floor}
-use Rattle.floor.specs.Verdict.{Verdict, refused, _then_}
+use Rattle.laws.specs.Verdict.{Verdict, refused, _then_}
 use Rattle.floor.specs.Checks.{checkOf}
 use Rattle.sheet.specs.Text.{sheetLength}
 use Rattle.sheet.specs.Values.{floorAt}

@@ -17,6 +17,9 @@ pub not-true-is-false : (b : Bool) → (b ≡ true → ⊥) → b ≡ false
 not-true-is-false true h = absurd (h refl)
 not-true-is-false false h = refl
 
+pub false-fails : {b : Bool} → b ≡ false → b ≡ true → ⊥
+false-fails h t = true-false-absurd t h
+
 pub and-both : {a b : Bool} → a ≡ true → b ≡ true → (a && b) ≡ true
 and-both e h = rw (e, h)
 

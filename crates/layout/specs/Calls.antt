@@ -4,7 +4,7 @@ use mathlib.Core.List.{List, map}
 use lib.ListN.{length, getD}
 use Rattle.laws.specs.Memory.{put}
 use Rattle.floor.specs.declared.Floor.{Floor}
-use Rattle.floor.specs.Verdict.{Verdict, passed, refused, _then_, demand, each}
+use Rattle.laws.specs.Verdict.{Verdict, passed, refused, _then_, demand, demandEach}
 use Rattle.floor.specs.Checks.{checkOf, roomOf, within}
 use Rattle.planner.specs.Plan.{respondOf}
 use Rattle.reference.specs.State.{Machine, fresh}
@@ -38,7 +38,7 @@ stepVerdict f ws m x =
 -- The refusals of a run: the lent state's, then 7 with the position of the first step of the whole list that is not there.
 unfoldable pub runVerdict : Floor → List ℕ → List ℕ → List ℕ → Verdict
 runVerdict f ws m xs =
-    stateVerdict f ws m then each 7 0 (λ p. named (machineOf f ws) (stepOf (getD xs p 0))) (length xs)
+    stateVerdict f ws m then demandEach 7 0 (λ p. named (machineOf f ws) (stepOf (getD xs p 0))) (length xs)
 
 -- A reply where the checks find nothing; otherwise the refusal.
 unfoldable pub replyIf : Verdict → Reply → Reply

@@ -7,9 +7,9 @@ use mathlib.Core.Logic.{_↔_, ⊎-elim}
 use mathlib.Core.List.{List}
 use borrow.Author.Tests.{leb-false, lt-leb, le-leb}
 use Rattle.floor.specs.declared.Floor.{Floor}
-use Rattle.floor.specs.Verdict.{passed, refused, demand, _then_}
+use Rattle.laws.specs.Verdict.{passed, refused, demand, _then_}
 use Rattle.floor.specs.Checks.{checkOf, roomOf, within}
-use Rattle.floor.proofs.VerdictLaws.{then-cases, then-passed, then-refused, demand-cases, demand-refuses, demand-passes}
+use Rattle.laws.proofs.VerdictLaws.{then-cases, then-passed, then-refused, demand-cases, demand-refuses, demand-passes}
 use Rattle.floor.proofs.LimitsLaws.{check-tells}
 use Rattle.floor.specs.Refused.{RefusedWith, outside-limit, few-walls, carrier-outside, wall-outside, not-rising, on-wall, shared}
 use Rattle.sheet.specs.Refused.{RefusedSheet, head-form, rest-form, floor-row, outside-limit as outside-limit-row}

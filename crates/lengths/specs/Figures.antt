@@ -1,7 +1,7 @@
 -- The needed length of each lent buffer of a floor.
 use Prim.Native.Nat.{ℕ, _*_}
 use Rattle.floor.specs.declared.Floor.{Floor}
-use Rattle.floor.specs.Verdict.{Verdict, passed, refused}
+use Rattle.laws.specs.Verdict.{Verdict, passed, refused}
 use Rattle.floor.specs.Checks.{limitsOf}
 use Rattle.sheet.specs.Text.{sheetLength}
 use Rattle.printing.specs.Print.{textLength}

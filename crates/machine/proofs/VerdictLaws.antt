@@ -7,10 +7,10 @@ use mathlib.Core.Path.{_≡_, refl, _∙_, ap, fun-ext}
 use lib.ListN.{length, getD}
 use borrow.Author.Tests.{not-true, not-false}
 use Rattle.floor.specs.declared.Floor.{Floor}
-use Rattle.floor.specs.Verdict.{Verdict, passed, refused, _then_, demand, each}
+use Rattle.laws.specs.Verdict.{Verdict, passed, refused, _then_, demand, demandEach}
 use Rattle.floor.specs.Checks.{checkOf}
 use Rattle.floor.specs.Accepted.{Accepted}
-use Rattle.floor.proofs.VerdictLaws.{then-both, demand-holds}
+use Rattle.laws.proofs.VerdictLaws.{then-both, demand-holds}
 use Rattle.floor.proofs.AnswersLaws.{hands-on, ends-at}
 use Rattle.floor.proofs.LimitsLaws.{Bounds, limited-bounds, room-passed}
 use Rattle.floor.proofs.Theorems.{theorems}
@@ -64,11 +64,11 @@ unfolding stepVerdict
 single-is f ws m x = rw (named-of f ws (stepOf x), open-of f m ws (stepOf x)) refl
 
 -- The names of a list as the code tests them.
-pub names-are : {v : Verdict} (f : Floor) (ws xs : List ℕ) → v ≡ each 7 0 (namedAt f xs) (length xs) →
-    v ≡ each 7 0 (λ p. named (machineOf f ws) (stepOf (getD xs p 0))) (length xs)
+pub names-are : {v : Verdict} (f : Floor) (ws xs : List ℕ) → v ≡ demandEach 7 0 (namedAt f xs) (length xs) →
+    v ≡ demandEach 7 0 (λ p. named (machineOf f ws) (stepOf (getD xs p 0))) (length xs)
 unfolding namedAt
 names-are f ws xs e =
-    e ∙ ap (λ (ok : ℕ → Bool). each 7 0 ok (length xs)) (fun-ext (λ p. named-of f ws (stepOf (getD xs p 0))))
+    e ∙ ap (λ (ok : ℕ → Bool). demandEach 7 0 ok (length xs)) (fun-ext (λ p. named-of f ws (stepOf (getD xs p 0))))
 
 -- Where the checks pass, the answer and the memory are those after the step; with a refusal, all is as it was.
 pub reply-passed : {r : Reply} (v : Verdict) (r′ : Reply) → v ≡ passed → r ≡ r′ → r ≡ replyIf v r′

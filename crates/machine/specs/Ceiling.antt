@@ -1,6 +1,6 @@
 -- The step ceiling as an entry: the most steps for n carriers, or refusal 2, field 5.
 use Prim.Native.Nat.{ℕ}
-use Rattle.floor.specs.Verdict.{Verdict, passed, refused, demand}
+use Rattle.laws.specs.Verdict.{Verdict, passed, refused, demand}
 use Rattle.floor.specs.Checks.{within}
 use Rattle.reference.specs.Quiet.{ceiling}
 use Rattle.machine.specs.declared.Most.{Most}

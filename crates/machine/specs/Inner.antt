@@ -6,7 +6,7 @@ use mathlib.Core.Path.{_≡_}
 use lib.Dec.{eqb, leb, ltb}
 use lib.ListN.{length, getD, drop}
 use Rattle.floor.specs.declared.Floor.{Floor}
-use Rattle.floor.specs.Verdict.{Verdict, _then_, demand}
+use Rattle.laws.specs.Verdict.{Verdict, _then_, demand}
 use Rattle.search.specs.Rows.{Searchable}
 use Rattle.planner.specs.Plan.{respondWith}
 use Rattle.reference.specs.State.{Machine}

@@ -3,7 +3,7 @@ ghost use mathlib.Core.Path.{_≡_};
 ghost use mathlib.Core.Bool.{false};
 ghost use lib.ListN.{length};
 ghost use Rattle.floor.specs.Answers.{verdictOf};
-ghost use Rattle.floor.specs.Verdict.{demand, each};
+ghost use Rattle.laws.specs.Verdict.{demand, demandEach};
 ghost use Rattle.layout.specs.Calls.{placeVerdict, stateVerdict, runVerdict};
 ghost use Rattle.machine.specs.Answers.{meant};
 ghost use Rattle.machine.specs.Inner.{namedAt, singleVerdict};
@@ -66,7 +66,7 @@ pub fn single(f: Floor, walls: &[u16], m: &[u16], s: Asked) -> Checked
 
 // 7 with the position of the first step of a list that is not there.
 fn all_named(f: Floor, numbers: &[u16]) -> Checked
-    ensures { λ r. ⌜ verdictOf r ≡ each 7 0 (namedAt f (now (numbers .entry))) (length (now (numbers .entry))) ⌝ }
+    ensures { λ r. ⌜ verdictOf r ≡ demandEach 7 0 (namedAt f (now (numbers .entry))) (length (now (numbers .entry))) ⌝ }
 {
     let mut p: usize = 0;
     while p < numbers.len() {

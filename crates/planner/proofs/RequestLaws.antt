@@ -5,9 +5,9 @@ use mathlib.Core.Path.{_≡_, refl}
 use mathlib.Core.List.{List, map}
 use lib.ListN.{length}
 use Rattle.floor.specs.declared.Floor.{Floor}
-use Rattle.floor.specs.Verdict.{passed}
+use Rattle.laws.specs.Verdict.{passed}
 use Rattle.floor.specs.Accepted.{Accepted}
-use Rattle.floor.proofs.VerdictLaws.{then-both}
+use Rattle.laws.proofs.VerdictLaws.{then-both}
 use Rattle.floor.proofs.LimitsLaws.{Bounds, limited-bounds, room-passed}
 use Rattle.floor.proofs.Theorems.{theorems}
 use Rattle.route.specs.Route.{Answer, View, heard}

@@ -4,7 +4,7 @@ use mathlib.Core.Path.{_≡_, _∙_}
 use mathlib.Core.List.{List}
 use lib.ListN.{length}
 use Rattle.floor.specs.declared.Floor.{Floor}
-use Rattle.floor.specs.Verdict.{passed, refused}
+use Rattle.laws.specs.Verdict.{passed, refused}
 use Rattle.route.specs.Sequential.{sequential}
 use Rattle.search.specs.Task.{taskOf, taskOfRows}
 use Rattle.laws.specs.Memory.{put}

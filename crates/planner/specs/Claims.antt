@@ -5,9 +5,8 @@ use mathlib.Core.Logic.{_↔_}
 use mathlib.Core.List.{List, _∷_, map}
 use lib.ListN.{length, getD, take, drop, replicate}
 use Rattle.floor.specs.declared.Floor.{Floor}
-use Rattle.floor.specs.Verdict.{passed}
+use Rattle.laws.specs.Verdict.{passed, All}
 use Rattle.floor.specs.Checks.{checkOf, startOf, goalOf}
-use Rattle.floor.specs.Accepted.{All}
 use Rattle.route.specs.Route.{Answer, none, route, heard}
 use Rattle.route.specs.Conflict.{ConflictFree}
 use Rattle.route.specs.Best.{IsRoute, Best}

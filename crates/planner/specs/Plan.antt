@@ -2,7 +2,7 @@
 use Prim.Native.Nat.{ℕ, suc, _+_, _*_}
 use mathlib.Core.List.{List, [], _∷_}
 use Rattle.floor.specs.declared.Floor.{Floor}
-use Rattle.floor.specs.Verdict.{Verdict, _then_}
+use Rattle.laws.specs.Verdict.{Verdict, _then_}
 use Rattle.floor.specs.Checks.{checkOf, roomOf}
 use Rattle.route.specs.Route.{Answer, none, route, View}
 use Rattle.route.specs.Search.{best}

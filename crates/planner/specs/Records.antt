@@ -6,7 +6,7 @@ use lib.Dec.{eqb}
 use lib.ListN.{length, getD, take, replicate}
 use Rattle.laws.specs.Memory.{put}
 use Rattle.floor.specs.declared.Floor.{Floor}
-use Rattle.floor.specs.Verdict.{Verdict, passed, refused}
+use Rattle.laws.specs.Verdict.{Verdict, passed, refused}
 use Rattle.route.specs.Route.{Answer, none, route}
 use Rattle.search.specs.declared.Outcome.{Outcome}
 use Rattle.search.specs.declared.Outcome.the-variants.{Route, None, Refused}

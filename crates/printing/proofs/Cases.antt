@@ -2,7 +2,7 @@
 use Prim.Native.Nat.{ℕ}
 use mathlib.Core.Path.{_≡_, refl, _∙_, ap}
 use mathlib.Core.List.{List, [], _∷_}
-use Rattle.floor.specs.Verdict.{refused, passed, demand, _then_, inTurn, each}
+use Rattle.laws.specs.Verdict.{refused, passed, demand, _then_, inTurn, demandEach}
 use Rattle.floor.specs.Checks.{checkOf, limitsOf, within, lentOf, roomOf, placesOf, carriersOf, wallsOf, risingOf, clearOf, distinctOf}
 use Rattle.floor.specs.Checks.{startOf, goalOf, inGrid, carrierInGrid, rises, among, clearOfWalls, unshared}
 use Rattle.route.specs.Route.{cellAt}
@@ -31,7 +31,7 @@ documentRoutes =
 
 document-accepted : checkOf (sides 4) [] ≡ passed
 unfolding sides checkOf limitsOf within lentOf roomOf placesOf carriersOf wallsOf risingOf clearOf distinctOf startOf goalOf inGrid
-    carrierInGrid rises among clearOfWalls unshared demand _then_ inTurn each
+    carrierInGrid rises among clearOfWalls unshared demand _then_ inTurn demandEach
 document-accepted = refl
 
 document-sheet : sheetOf (sides 4) [] ≡ documentSheet

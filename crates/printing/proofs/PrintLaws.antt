@@ -10,9 +10,9 @@ use Rattle.floor.specs.declared.Floor.{Floor}
 use Rattle.floor.specs.declared.Checked.{Checked}
 use Rattle.floor.specs.declared.Checked.the-variants.{Passed}
 use Rattle.floor.specs.Answers.{verdictOf}
-use Rattle.floor.specs.Verdict.{Verdict, passed, refused, _then_}
+use Rattle.laws.specs.Verdict.{Verdict, passed, refused, _then_}
 use Rattle.floor.specs.Checks.{checkOf, roomOf}
-use Rattle.floor.proofs.VerdictLaws.{then-both, refused-by, then-passed, refused-not-passed, demand-passes}
+use Rattle.laws.proofs.VerdictLaws.{then-both, refused-by, then-passed, refused-not-passed, demand-passes}
 use Rattle.floor.proofs.AnswersLaws.{passes}
 use Rattle.floor.proofs.LimitsLaws.{Bounds, check-tells, room-passed}
 use Rattle.sheet.specs.Values.{floorAt, wallsAt}

@@ -7,7 +7,7 @@ use borrow.Author.Tests.{le-leb}
 use lib.ListN.{length, take, drop}
 use lib.Seq.{take-all}
 use Rattle.floor.specs.declared.Floor.{Floor}
-use Rattle.floor.specs.Verdict.{Verdict, passed, refused}
+use Rattle.laws.specs.Verdict.{Verdict, passed, refused}
 use Rattle.floor.specs.Checks.{checkOf}
 use Rattle.floor.specs.Accepted.{SameFloor}
 use Rattle.floor.proofs.LimitsLaws.{check-tells}

@@ -4,7 +4,7 @@ use mathlib.Core.Path.{_≡_}
 use mathlib.Core.List.{List}
 use lib.ListN.{length, take, drop}
 use Rattle.floor.specs.declared.Floor.{Floor}
-use Rattle.floor.specs.Verdict.{passed, refused}
+use Rattle.laws.specs.Verdict.{passed, refused}
 use Rattle.floor.specs.Checks.{checkOf}
 use Rattle.route.specs.Route.{none}
 use Rattle.sheet.specs.Text.{sheetOf, linesOf}

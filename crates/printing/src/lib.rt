@@ -7,7 +7,7 @@ ghost use Prim.Native.Nat.{_≤_};
 ghost use lib.ListN.{length, take};
 ghost use Rattle.floor.specs.Answers.{verdictOf};
 ghost use Rattle.floor.specs.Checks.{checkOf};
-ghost use Rattle.floor.specs.Verdict.{passed};
+ghost use Rattle.laws.specs.Verdict.{passed};
 ghost use Rattle.planner.specs.Plan.{planOf, planVerdict};
 ghost use Rattle.planner.specs.Records.{stored};
 ghost use Rattle.printing.specs.Print.{outcomeOf, writtenIf, printOf, textLength, printVerdict};

@@ -10,9 +10,9 @@ use Rattle.io.specs.Counts.{Counts}
 use Rattle.laws.specs.Memory.{put}
 use Rattle.laws.proofs.PutLaws.{put-length}
 use Rattle.floor.specs.declared.Floor.{Floor}
-use Rattle.floor.specs.Verdict.{passed, refused, _then_}
+use Rattle.laws.specs.Verdict.{passed, refused, _then_}
 use Rattle.floor.specs.Checks.{checkOf, roomOf}
-use Rattle.floor.proofs.VerdictLaws.{demand-passes}
+use Rattle.laws.proofs.VerdictLaws.{demand-passes}
 use Rattle.floor.proofs.LimitsLaws.{check-tells}
 use Rattle.fields.specs.Field.{fieldOf}
 use Rattle.sheet.specs.Text.{sheetOf, sheetLength, wallAt, lineOf}

@@ -5,7 +5,7 @@ ghost use Prim.Native.Nat.{_≤_};
 ghost use lib.ListN.{length, take};
 ghost use Rattle.io.specs.Counts.{Counts};
 ghost use Rattle.floor.specs.Checks.{checkOf};
-ghost use Rattle.floor.specs.Verdict.{passed};
+ghost use Rattle.laws.specs.Verdict.{passed};
 ghost use Rattle.sheet.specs.Text.{sheetOf};
 ghost use Rattle.sheet.specs.Read.{sheetVerdict};
 ghost use Rattle.printing.specs.Text.{refusalLine};

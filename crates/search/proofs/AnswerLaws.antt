@@ -2,7 +2,7 @@
 use Prim.Native.Nat.{ℕ}
 use mathlib.Core.List.{List}
 use mathlib.Core.Path.{_≡_, refl}
-use Rattle.floor.specs.Verdict.{Verdict, passed, refused}
+use Rattle.laws.specs.Verdict.{Verdict, passed, refused}
 use Rattle.route.specs.Route.{Answer, route}
 use Rattle.search.specs.declared.Outcome.the-variants.{Route}
 use Rattle.search.specs.declared.Found.{Found}

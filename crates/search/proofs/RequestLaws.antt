@@ -8,10 +8,10 @@ use borrow.Author.Tests.{leb-true, le-leb}
 use lib.Dec.{leb}
 use lib.ListN.{length}
 use Rattle.floor.specs.declared.Floor.{Floor}
-use Rattle.floor.specs.Verdict.{passed, demand, _then_}
+use Rattle.laws.specs.Verdict.{passed, demand, _then_}
 use Rattle.floor.specs.Checks.{checkOf, roomOf, within}
 use Rattle.floor.specs.Accepted.{Accepted, Within}
-use Rattle.floor.proofs.VerdictLaws.{then-both, then-passed, demand-holds, demand-passes}
+use Rattle.laws.proofs.VerdictLaws.{then-both, then-passed, demand-holds, demand-passes}
 use Rattle.floor.proofs.LimitsLaws.{Bounds, limited-bounds, room-passed}
 use Rattle.floor.proofs.Theorems.{theorems}
 use Rattle.laws.proofs.Tests.{and-both, and-fst, and-snd}

@@ -9,10 +9,10 @@ use borrow.Author.Tests.{leb-false, lt-leb, le-leb, leb-true}
 use lib.Dec.{leb}
 use lib.ListN.{length}
 use Rattle.floor.specs.declared.Floor.{Floor}
-use Rattle.floor.specs.Verdict.{Verdict, passed, refused, demand, _then_}
+use Rattle.laws.specs.Verdict.{Verdict, passed, refused, demand, _then_}
 use Rattle.floor.specs.Checks.{checkOf, within, roomOf}
 use Rattle.floor.specs.Accepted.{Accepted, Within}
-use Rattle.floor.proofs.VerdictLaws.{then-passed, then-refused, then-cases, demand-cases, demand-holds, demand-passes, demand-refuses}
+use Rattle.laws.proofs.VerdictLaws.{then-passed, then-refused, then-cases, demand-cases, demand-holds, demand-passes, demand-refuses}
 use Rattle.floor.proofs.LimitsLaws.{limited-bounds}
 use Rattle.floor.proofs.Theorems.{theorems as floor-theorems}
 use Rattle.route.specs.Route.{Answer, none, route}

@@ -3,7 +3,7 @@ use Prim.Native.Nat.{ℕ}
 use mathlib.Core.List.{List}
 use mathlib.Core.Path.{_≡_}
 use lib.ListN.{replicate}
-use Rattle.floor.specs.Verdict.{Verdict, passed, refused}
+use Rattle.laws.specs.Verdict.{Verdict, passed, refused}
 use Rattle.route.specs.Route.{Answer, none, route}
 use Rattle.search.specs.declared.Outcome.{Outcome}
 use Rattle.search.specs.declared.Outcome.the-variants.{Route, None, Refused}

@@ -3,7 +3,7 @@ use Prim.Native.Nat.{ℕ, _*_}
 use mathlib.Core.List.{List}
 use lib.ListN.{length}
 use Rattle.floor.specs.declared.Floor.{Floor}
-use Rattle.floor.specs.Verdict.{Verdict, demand, _then_}
+use Rattle.laws.specs.Verdict.{Verdict, demand, _then_}
 use Rattle.floor.specs.Checks.{checkOf, roomOf, within}
 use Rattle.route.specs.Search.{best}
 use Rattle.search.specs.Answers.{Result, answeredIf}

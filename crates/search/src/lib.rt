@@ -21,7 +21,7 @@ ghost use lib.ListN.{length, replicate};
 ghost use mathlib.Core.Bool.{true};
 ghost use mathlib.Core.List.{List};
 ghost use Rattle.floor.specs.Answers.{verdictOf};
-ghost use Rattle.floor.specs.Verdict.{demand};
+ghost use Rattle.laws.specs.Verdict.{demand};
 ghost use Rattle.floor.specs.Checks.{within};
 ghost use Rattle.route.specs.Route.{none as Route·none, route as Route·route};
 ghost use Rattle.route.specs.Search.{best};

@@ -4,7 +4,7 @@ use mathlib.Core.Path.{_≡_, refl}
 use mathlib.Core.List.{List, [], _∷_, _++_}
 use lib.ListN.{set, take}
 use Rattle.floor.specs.declared.Floor.{Floor}
-use Rattle.floor.specs.Verdict.{Verdict, passed, refused, _then_, demand, inTurn, each}
+use Rattle.laws.specs.Verdict.{Verdict, passed, refused, _then_, demand, inTurn, demandEach}
 use Rattle.floor.specs.Checks.{within, limitsOf, startOf, goalOf, inGrid, carrierInGrid, carriersOf, wallsOf, rises, risingOf, among}
 use Rattle.floor.specs.Checks.{clearOfWalls, clearOf, unshared, distinctOf, placesOf}
 use Rattle.fields.specs.Field.{column, fieldOf, number, numberAt, isField}
@@ -57,7 +57,7 @@ unfolding valued placesOf carriersOf wallsOf risingOf clearOf distinctOf carrier
 placed text = valued text
 
 verdict : List ℕ → Verdict
-unfolding placed limitsOf within demand _then_ inTurn each
+unfolding placed limitsOf within demand _then_ inTurn demandEach
 verdict text = placed text
 
 -- The sheet is read; nothing at all is refused at 0; cut inside its third field, with its length; a byte too many, at 73; a leading

@@ -9,8 +9,8 @@ use borrow.Author.Tests.{lt-ltb, le-ltb, eqb-true, eq-eqb, leb-true, le-leb}
 use native.Mathlib.Decide.{decLt}
 use lib.ListN.{length, getD}
 use lib.Dec.{ltb, lit<}
-use Rattle.floor.specs.Verdict.{passed}
-use Rattle.floor.proofs.VerdictLaws.{then-both, demand-holds, demand-passes, then-passed}
+use Rattle.laws.specs.Verdict.{passed}
+use Rattle.laws.proofs.VerdictLaws.{then-both, demand-holds, demand-passes, then-passed}
 use Rattle.fields.specs.Field.{column, fieldOf, number, numberAt, isField}
 use Rattle.fields.specs.Form.{fieldForm}
 use Rattle.sheet.specs.Refused.{GoodField}

@@ -8,10 +8,10 @@ use borrow.Author.Tests.{le-leb}
 use lib.ListN.{length, getD, length-append}
 use lib.Dec.{lit<}
 use Rattle.floor.specs.declared.Floor.{Floor}
-use Rattle.floor.specs.Verdict.{passed}
+use Rattle.laws.specs.Verdict.{passed}
 use Rattle.floor.specs.Checks.{startOf, goalOf, limitsOf, checkOf}
 use Rattle.floor.specs.Accepted.{Accepted, SameFloor}
-use Rattle.floor.proofs.VerdictLaws.{then-passed, demand-passes, turn-passes}
+use Rattle.laws.proofs.VerdictLaws.{then-passed, demand-passes, turn-passes}
 use Rattle.floor.proofs.LimitsLaws.{Bounds, limited-bounds, check-tells}
 use Rattle.floor.proofs.SameLaws.{places-same}
 use Rattle.floor.proofs.Theorems.{theorems}

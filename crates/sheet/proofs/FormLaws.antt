@@ -6,9 +6,9 @@ use mathlib.Core.List.{List, _++_}
 use borrow.Author.Tests.{leb-true, ltb-true, le-leb}
 use lib.ListN.{length, drop, length-append, List·getD-append}
 use Rattle.floor.specs.declared.Floor.{Floor}
-use Rattle.floor.specs.Verdict.{passed, _then_}
+use Rattle.laws.specs.Verdict.{passed, _then_}
 use Rattle.floor.specs.Checks.{limitsOf, lentOf, roomOf, placesOf, checkOf}
-use Rattle.floor.proofs.VerdictLaws.{then-both, demand-holds, demand-passes, turn-passed}
+use Rattle.laws.proofs.VerdictLaws.{then-both, demand-holds, demand-passes, turn-passed}
 use Rattle.floor.proofs.LimitsLaws.{Bounds, limits-passed}
 use Rattle.floor.proofs.SameLaws.{places-same}
 use Rattle.sheet.specs.Text.{carrierAt, wallAt}

@@ -7,8 +7,8 @@ use mathlib.Core.List.{List, [], _∷_, _++_}
 use borrow.Author.Tests.{ltb-true, eqb-true, lt-ltb, eq-eqb}
 use lib.ListN.{length, getD, length-append}
 use lib.Dec.{lit<}
-use Rattle.floor.specs.Verdict.{passed}
-use Rattle.floor.proofs.VerdictLaws.{then-both, then-passed, demand-holds, demand-passes, turn-passed, turn-passes}
+use Rattle.laws.specs.Verdict.{passed}
+use Rattle.laws.proofs.VerdictLaws.{then-both, then-passed, demand-holds, demand-passes, turn-passed, turn-passes}
 use Rattle.fields.specs.Field.{fieldOf, numberAt}
 use Rattle.sheet.specs.Text.{lineOf}
 use Rattle.fields.specs.Form.{fieldForm, newlineForm, lineForm}

@@ -7,7 +7,7 @@ use mathlib.Core.List.{List}
 use borrow.Author.Tests.{leb-false, ltb-false}
 use lib.ListN.{length}
 use Rattle.floor.specs.declared.Floor.{Floor}
-use Rattle.floor.specs.Verdict.{Verdict, passed, refused, _then_, demand, inTurn, each}
+use Rattle.laws.specs.Verdict.{Verdict, passed, refused, _then_, demand, inTurn, demandEach}
 use Rattle.floor.specs.Checks.{carriersOf, wallsOf, risingOf, clearOf, distinctOf, placesOf}
 use Rattle.floor.proofs.LimitsLaws.{Bounds, limits-passed, limits-each}
 use Rattle.sheet.specs.Text.{carrierAt, wallAt}
@@ -38,8 +38,8 @@ module _ (b : ℕ) where
   low-turn check zero h = tt
   low-turn check (suc m) h = low-then (inTurn check m) (check m) (low-turn check m (λ i l. h i (omega arith))) (λ e. h m (omega arith))
 
-  low-each : (k p : ℕ) (ok : ℕ → Bool) (m : ℕ) → p + m ≤ b → Low b (each k p ok m)
-  unfolding each
+  low-each : (k p : ℕ) (ok : ℕ → Bool) (m : ℕ) → p + m ≤ b → Low b (demandEach k p ok m)
+  unfolding demandEach
   low-each k p ok m l = low-turn (λ i. demand (ok i) k (p + i)) m (λ i h. low-demand (ok i) k (p + i) (λ e. omega arith))
 
   low-means : (v : Verdict) (k p : ℕ) → Low b v → v ≡ refused k p → p ≤ b

@@ -8,9 +8,9 @@ use Rattle.floor.specs.declared.Refusal.{Refusal}
 use Rattle.floor.specs.declared.Checked.{Checked}
 use Rattle.floor.specs.declared.Checked.the-variants.{Refused}
 use Rattle.floor.specs.Answers.{verdictOf}
-use Rattle.floor.specs.Verdict.{Verdict, passed, refused, _then_}
+use Rattle.laws.specs.Verdict.{Verdict, passed, refused, _then_}
 use Rattle.floor.specs.Checks.{placesOf, roomOf}
-use Rattle.floor.proofs.VerdictLaws.{then-both, then-assoc}
+use Rattle.laws.proofs.VerdictLaws.{then-both, then-assoc}
 use Rattle.floor.proofs.AnswersLaws.{refuses}
 use Rattle.floor.proofs.LimitsLaws.{room-passed}
 use Rattle.laws.specs.Memory.{put}

@@ -4,10 +4,10 @@ use native.Mathlib.Omega.{arith}
 use mathlib.Core.Path.{_≡_, sym, _∙_, ap₂}
 use mathlib.Core.List.{List, [], _++_, append-nil}
 use lib.ListN.{length, getD}
-use Rattle.floor.specs.Verdict.{passed}
+use Rattle.laws.specs.Verdict.{passed}
 use Rattle.floor.specs.Checks.{startOf, goalOf, placesOf, checkOf}
 use Rattle.floor.specs.Accepted.{Accepted}
-use Rattle.floor.proofs.VerdictLaws.{then-both, turn-passed}
+use Rattle.laws.proofs.VerdictLaws.{then-both, turn-passed}
 use Rattle.floor.proofs.LimitsLaws.{Bounds, limited-bounds}
 use Rattle.floor.proofs.Theorems.{theorems}
 use Rattle.fields.specs.Field.{numberAt}

@@ -3,8 +3,8 @@ use Prim.Native.Nat.{ℕ, zero, suc, _+_, _*_}
 use mathlib.Core.Path.{_≡_, refl, sym, _∙_, ap, ap₂}
 use mathlib.Core.List.{List, [], _∷_, _++_}
 use Rattle.floor.specs.declared.Floor.{Floor}
-use Rattle.floor.specs.Verdict.{Verdict, passed, refused, _then_, inTurn}
-use Rattle.floor.proofs.VerdictLaws.{then-assoc}
+use Rattle.laws.specs.Verdict.{Verdict, passed, refused, _then_, inTurn}
+use Rattle.laws.proofs.VerdictLaws.{then-assoc}
 use Rattle.sheet.specs.Text.{carrierAt, wallAt}
 use Rattle.fields.specs.Form.{fieldForm, lineForm, endForm}
 use Rattle.sheet.specs.Form.{linesForm, restForm}

@@ -4,10 +4,10 @@ use mathlib.Core.Path.{_≡_, refl, sym, _∙_}
 use mathlib.Core.List.{List, [], _∷_}
 use borrow.Author.Tests.{leb-true, leb-false, ltb-true, ltb-false, eqb-false, le-leb, lt-leb, lt-ltb, le-ltb, eq-eqb, ne-eqb}
 use lib.ListN.{length}
-use Rattle.floor.specs.Verdict.{Verdict, passed, refused, _then_}
-use Rattle.floor.proofs.VerdictLaws.{then-both, refused-by, then-passed, then-refused, demand-holds, demand-cases, demand-passes}
-use Rattle.floor.proofs.VerdictLaws.{demand-refuses, refused-not-passed}
-use Rattle.floor.proofs.EachLaws.{fails-false, false-fails}
+use Rattle.laws.proofs.Tests.{not-true-is-false, false-fails}
+use Rattle.laws.specs.Verdict.{Verdict, passed, refused, _then_}
+use Rattle.laws.proofs.VerdictLaws.{then-both, refused-by, then-passed, then-refused, demand-holds, demand-cases, demand-passes}
+use Rattle.laws.proofs.VerdictLaws.{demand-refuses, refused-not-passed}
 use Rattle.fields.specs.Field.{isField}
 use Rattle.fields.specs.Form.{fieldForm, newlineForm, endForm}
 use Rattle.sheet.specs.Refused.{Slot, field, newline, finish, Fine, Broken, cut, bad, ended, wrong, extra, AllFine, none-left}
@@ -65,7 +65,7 @@ module _ (text : List ℕ) where
   broken-slot s p (cut l) = then-refused _ (demand-refuses 1 _ (lt-leb _ _ l))
   broken-slot s p (bad {at} l n) =
       then-passed (demand-passes 1 _ (le-leb _ _ l))
-      ∙ demand-refuses 1 at (fails-false (isField text at) (λ t. n (is-field-good text at t)))
+      ∙ demand-refuses 1 at (not-true-is-false (isField text at) (λ t. n (is-field-good text at t)))
   broken-slot s p (ended l) = then-refused _ (demand-refuses 1 _ (le-ltb _ _ l))
   broken-slot s p (wrong l n) = then-passed (demand-passes 1 _ (lt-ltb _ _ l)) ∙ demand-refuses 1 _ (ne-eqb _ _ n)
   broken-slot s p (extra l) = demand-refuses 1 _ (lt-leb _ _ l)

@@ -4,11 +4,11 @@ use native.Mathlib.Omega.{arith}
 use mathlib.Core.Path.{_≡_, refl, sym, _∙_}
 use mathlib.Core.Logic.{_↔_}
 use mathlib.Core.List.{List}
-use Rattle.floor.specs.Verdict.{passed, refused, _then_}
+use Rattle.laws.specs.Verdict.{passed, refused, _then_}
 use Rattle.floor.specs.Checks.{limitsOf}
 use Rattle.floor.specs.Accepted.{FieldWithin, Limited}
-use Rattle.floor.proofs.VerdictLaws.{then-both, refused-by, then-passed, then-refused}
-use Rattle.floor.proofs.EachLaws.{each-refused, first-refuses}
+use Rattle.laws.proofs.VerdictLaws.{then-both, refused-by, then-passed, then-refused}
+use Rattle.laws.proofs.EachLaws.{each-refused, first-refuses}
 use Rattle.floor.proofs.LimitsLaws.{fieldWithin, field-means, limits-each, limits-mean}
 use Rattle.floor.proofs.Theorems.{theorems as floor-theorems}
 use Rattle.fields.specs.Field.{numberAt}

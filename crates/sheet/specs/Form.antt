@@ -2,7 +2,7 @@
 use Prim.Native.Nat.{ℕ}
 use mathlib.Core.List.{List}
 use Rattle.floor.specs.declared.Floor.{Floor}
-use Rattle.floor.specs.Verdict.{Verdict, _then_, inTurn}
+use Rattle.laws.specs.Verdict.{Verdict, _then_, inTurn}
 use Rattle.fields.specs.Form.{lineForm, endForm}
 use Rattle.sheet.specs.Text.{carrierAt, wallAt}
 

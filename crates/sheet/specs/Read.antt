@@ -3,7 +3,7 @@ use Prim.Native.Nat.{ℕ}
 use mathlib.Core.List.{List, _++_}
 use lib.ListN.{length, drop}
 use Rattle.floor.specs.declared.Floor.{Floor}
-use Rattle.floor.specs.Verdict.{Verdict, passed, refused, _then_}
+use Rattle.laws.specs.Verdict.{Verdict, passed, refused, _then_}
 use Rattle.floor.specs.Checks.{limitsOf, placesOf, checkOf, roomOf}
 use Rattle.floor.specs.Fresh.{freshFloor}
 use Rattle.sheet.specs.Text.{sheetOf, sheetLength}

@@ -5,7 +5,8 @@ use mathlib.Core.Path.{_≡_}
 use mathlib.Core.List.{List, [], _∷_, _++_}
 use lib.ListN.{length, getD}
 use Rattle.floor.specs.declared.Floor.{Floor}
-use Rattle.floor.specs.Accepted.{First, FieldWithin, Limited}
+use Rattle.floor.specs.Accepted.{FieldWithin, Limited}
+use Rattle.laws.specs.Verdict.{First}
 use Rattle.floor.specs.Refused.{RefusedWith}
 use Rattle.fields.specs.Field.{fieldOf}
 use Rattle.sheet.specs.Text.{carrierAt, wallAt}

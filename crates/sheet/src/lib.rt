@@ -6,7 +6,7 @@ mod values;
 // A field written into a buffer, for the crates that print.
 ghost use mathlib.Core.Path.{_≡_};
 ghost use lib.ListN.{length};
-ghost use Rattle.floor.specs.Verdict.{passed};
+ghost use Rattle.laws.specs.Verdict.{passed};
 ghost use Rattle.floor.specs.Answers.{verdictOf};
 ghost use Rattle.floor.specs.Checks.{placesOf};
 ghost use Rattle.sheet.specs.Values.{floorAt, wallsAt};

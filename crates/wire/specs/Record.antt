@@ -4,7 +4,7 @@ use mathlib.Core.List.{List, [], _∷_, _++_}
 use lib.ListN.{length, getD}
 use Rattle.laws.specs.Memory.{part}
 use Rattle.floor.specs.declared.Floor.{Floor}
-use Rattle.floor.specs.Verdict.{Verdict}
+use Rattle.laws.specs.Verdict.{Verdict}
 use Rattle.floor.specs.Checks.{roomOf}
 
 -- The floor that 22 numbers say.

@@ -2,7 +2,7 @@
 use Rattle.laws.proofs.PutLaws.{put-five}
 use mathlib.Core.Path.{refl, _∙_}
 use borrow.Author.Tests.{lt-leb, le-leb}
-use Rattle.floor.specs.Verdict.{demand}
+use Rattle.laws.specs.Verdict.{demand}
 use Rattle.floor.specs.Checks.{roomOf}
 use Rattle.sheet.specs.Read.{chosen}
 use Rattle.lengths.specs.Figures.{figuresOf}

@@ -1,6 +1,6 @@
 -- `machine::run` meets its contract: a refusal leaves all as it was; otherwise the loop over the free rows is the run of the floor, and
 -- its tally decides the end.
-use Rattle.floor.specs.Verdict.{Verdict}
+use Rattle.laws.specs.Verdict.{Verdict}
 use Rattle.machine.proofs.VerdictLaws.{workable, reply-passed, memory-passed, reply-refused, memory-refused, run-tells}
 use Rattle.machine.proofs.TakeLaws.{machine-same}
 use mathlib.Core.Bool.{Bool}

@@ -1,5 +1,5 @@
 -- `machine::step` meets its contract: a refusal leaves all as it was; otherwise the step over the free rows is the step of the floor.
-use Rattle.floor.specs.Verdict.{Verdict}
+use Rattle.laws.specs.Verdict.{Verdict}
 use Rattle.machine.proofs.VerdictLaws.{workable, reply-passed, memory-passed, reply-refused, memory-refused, single-stands}
 use Rattle.machine.proofs.VerdictLaws.{step-tells, step-open}
 use Rattle.machine.proofs.TakeLaws.{machine-same, said-of, taken-of}

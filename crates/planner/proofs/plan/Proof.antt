@@ -8,7 +8,7 @@ use Rattle.planner.specs.Plan.{failingOf}
 use mathlib.Core.List.{List}
 use Rattle.route.specs.Route.{Answer}
 use Rattle.floor.proofs.AnswersLaws.{passes, refuses}
-use Rattle.floor.specs.Verdict.{Verdict}
+use Rattle.laws.specs.Verdict.{Verdict}
 use denote.Ref.{now}
 use mathlib.Core.Path.{_∙_, ap}
 use native.Mathlib.Omega.{arith}

@@ -2,7 +2,7 @@
 use mathlib.Core.Path.{_∙_, sym, ap}
 use Rattle.printing.specs.Print.{writtenIf, printAnswers, printMemory}
 use Rattle.sheet.proofs.ReadLaws.{chosen-passed, chosen-refused}
-use Rattle.floor.specs.Verdict.{Verdict}
+use Rattle.laws.specs.Verdict.{Verdict}
 use Rattle.floor.proofs.AnswersLaws.{passes, refuses}
 use Rattle.printing.proofs.PrintLaws.{outcome-turned, outcome-written, print-granted}
 use borrow.Author.Needs.{needs}

@@ -1,7 +1,7 @@
 -- `search::listed` meets its contract. One return a case. Assumes nothing.
 use borrow.Author.Tests.{lt-leb, le-leb}
 use Rattle.floor.specs.Checks.{within}
-use Rattle.floor.specs.Verdict.{demand}
+use Rattle.laws.specs.Verdict.{demand}
 use Rattle.floor.specs.Answers.{verdictOf}
 use Rattle.search.proofs.listed.Statement.{statement}
 use Rattle.search.proofs.listed.Tie as tie

@@ -1,6 +1,6 @@
 -- `fields::slot::end_form` meets its contract: an extra byte, or none.
 use Rattle.fields.specs.Form.{endForm}
-use Rattle.floor.proofs.VerdictLaws.{demands}
+use Rattle.laws.proofs.VerdictLaws.{demands}
 use Rattle.floor.specs.Answers.{verdictOf}
 use borrow.Author.Needs.{needs}
 use Rattle.fields.proofs.slot.end_form.Statement.{statement}

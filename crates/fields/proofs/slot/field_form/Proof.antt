@@ -1,6 +1,6 @@
 -- `fields::slot::field_form` meets its contract: cut short, bad, or good.
 use Rattle.fields.specs.Form.{fieldForm}
-use Rattle.floor.proofs.VerdictLaws.{demands}
+use Rattle.laws.proofs.VerdictLaws.{demands}
 use Rattle.floor.specs.Answers.{verdictOf}
 use borrow.Author.Needs.{needs}
 use Rattle.fields.proofs.slot.field_form.Statement.{statement}

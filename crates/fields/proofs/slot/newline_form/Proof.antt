@@ -1,6 +1,6 @@
 -- `fields::slot::newline_form` meets its contract: ended, another byte, or good.
 use Rattle.fields.specs.Form.{newlineForm}
-use Rattle.floor.proofs.VerdictLaws.{demands}
+use Rattle.laws.proofs.VerdictLaws.{demands}
 use Rattle.floor.specs.Answers.{verdictOf}
 use borrow.Author.Needs.{needs}
 use Rattle.fields.proofs.slot.newline_form.Statement.{statement}

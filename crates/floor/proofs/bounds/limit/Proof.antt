@@ -1,7 +1,7 @@
 -- `floor::bounds::limit` meets its contract: each test has its own answer.
 use Rattle.floor.specs.Answers.{verdictOf}
 use Rattle.floor.specs.Checks.{within}
-use Rattle.floor.proofs.VerdictLaws.{demands}
+use Rattle.laws.proofs.VerdictLaws.{demands}
 use Rattle.floor.proofs.bounds.limit.Statement.{statement}
 use Rattle.floor.proofs.bounds.limit.Tie as tie
 

@@ -1,8 +1,8 @@
 -- `floor::checks::clear` meets its contract: invariant: the carriers passed stand and end on no wall.
 use Rattle.floor.specs.Checks.{clearOfWalls, clearOf}
-use Rattle.floor.proofs.VerdictLaws.{tests}
+use Rattle.laws.proofs.VerdictLaws.{tests}
 use Rattle.floor.specs.Answers.{verdictOf}
-use Rattle.floor.specs.Verdict.{passed, each}
+use Rattle.laws.specs.Verdict.{passed, demandEach}
 use mathlib.Core.Path.{_≡_}
 use Prim.Native.Nat.{_-_, _≤_}
 use borrow.Author.Needs.{needs}
@@ -10,7 +10,7 @@ use Rattle.floor.proofs.checks.clear.Statement.{statement}
 use Rattle.floor.proofs.checks.clear.Tie as tie
 
 abbrev Inv-loop : tie.InvT-loop
-Inv-loop f walls n i₀ i = (i ≤ n) × (each 5 1 (clearOfWalls f walls) i ≡ passed)
+Inv-loop f walls n i₀ i = (i ≤ n) × (demandEach 5 1 (clearOfWalls f walls) i ≡ passed)
 
 abbrev μ-loop : tie.MeasureT-loop
 μ-loop f walls n i₀ i = n - i

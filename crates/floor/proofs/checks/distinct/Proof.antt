@@ -1,8 +1,8 @@
 -- `floor::checks::distinct` meets its contract: invariant: the carriers passed share nothing with an earlier one.
 use Rattle.floor.specs.Checks.{unshared, distinctOf}
-use Rattle.floor.proofs.VerdictLaws.{tests}
+use Rattle.laws.proofs.VerdictLaws.{tests}
 use Rattle.floor.specs.Answers.{verdictOf}
-use Rattle.floor.specs.Verdict.{passed, each}
+use Rattle.laws.specs.Verdict.{passed, demandEach}
 use mathlib.Core.Path.{_≡_}
 use Prim.Native.Nat.{_-_, _≤_}
 use borrow.Author.Needs.{needs}
@@ -10,7 +10,7 @@ use Rattle.floor.proofs.checks.distinct.Statement.{statement}
 use Rattle.floor.proofs.checks.distinct.Tie as tie
 
 abbrev Inv-loop : tie.InvT-loop
-Inv-loop f n i₀ i = (i ≤ n) × (each 6 1 (unshared f) i ≡ passed)
+Inv-loop f n i₀ i = (i ≤ n) × (demandEach 6 1 (unshared f) i ≡ passed)
 
 abbrev μ-loop : tie.MeasureT-loop
 μ-loop f n i₀ i = n - i

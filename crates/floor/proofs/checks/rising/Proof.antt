@@ -1,8 +1,8 @@
 -- `floor::checks::rising` meets its contract: invariant: the walls passed rise.
 use Rattle.floor.specs.Checks.{rises, risingOf}
-use Rattle.floor.proofs.VerdictLaws.{tests}
+use Rattle.laws.proofs.VerdictLaws.{tests}
 use Rattle.floor.specs.Answers.{verdictOf}
-use Rattle.floor.specs.Verdict.{passed, each}
+use Rattle.laws.specs.Verdict.{passed, demandEach}
 use mathlib.Core.Path.{_≡_}
 use Prim.Native.Nat.{_-_, _≤_}
 use borrow.Author.Needs.{needs}
@@ -10,7 +10,7 @@ use Rattle.floor.proofs.checks.rising.Statement.{statement}
 use Rattle.floor.proofs.checks.rising.Tie as tie
 
 abbrev Inv-loop : tie.InvT-loop
-Inv-loop walls m base j₀ j = (j ≤ m) × (each 4 base (rises walls) j ≡ passed)
+Inv-loop walls m base j₀ j = (j ≤ m) × (demandEach 4 base (rises walls) j ≡ passed)
 
 abbrev μ-loop : tie.MeasureT-loop
 μ-loop walls m base j₀ j = m - j

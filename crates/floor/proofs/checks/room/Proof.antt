@@ -1,7 +1,7 @@
 -- `floor::checks::room` meets its contract: each test has its own answer.
 use Rattle.floor.specs.Answers.{verdictOf}
 use Rattle.floor.specs.Checks.{roomOf}
-use Rattle.floor.proofs.VerdictLaws.{demands}
+use Rattle.laws.proofs.VerdictLaws.{demands}
 use Rattle.floor.proofs.checks.room.Statement.{statement}
 use Rattle.floor.proofs.checks.room.Tie as tie
 

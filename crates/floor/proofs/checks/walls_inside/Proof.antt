@@ -1,8 +1,8 @@
 -- `floor::checks::walls_inside` meets its contract: invariant: the walls passed lie in the grid.
-use Rattle.floor.proofs.VerdictLaws.{tests}
+use Rattle.laws.proofs.VerdictLaws.{tests}
 use Rattle.floor.specs.Checks.{inGrid, wallsOf}
 use Rattle.floor.specs.Answers.{verdictOf}
-use Rattle.floor.specs.Verdict.{passed, each}
+use Rattle.laws.specs.Verdict.{passed, demandEach}
 use lib.ListN.{getD}
 use mathlib.Core.Path.{_≡_}
 use Prim.Native.Nat.{ℕ, _-_, _≤_}
@@ -11,7 +11,7 @@ use Rattle.floor.proofs.checks.walls_inside.Statement.{statement}
 use Rattle.floor.proofs.checks.walls_inside.Tie as tie
 
 abbrev Inv-loop : tie.InvT-loop
-Inv-loop f walls m base j₀ j = (j ≤ m) × (each 3 base (λ (k : ℕ). inGrid f (getD walls k 0)) j ≡ passed)
+Inv-loop f walls m base j₀ j = (j ≤ m) × (demandEach 3 base (λ (k : ℕ). inGrid f (getD walls k 0)) j ≡ passed)
 
 abbrev μ-loop : tie.MeasureT-loop
 μ-loop f walls m base j₀ j = m - j

@@ -1,6 +1,6 @@
 -- `kalomivund::answers::of_needed` meets its contract: case by case.
 use Rattle.wire.specs.Word.{wordOf, ofVerdict}
-use Rattle.floor.specs.Verdict.{demand}
+use Rattle.laws.specs.Verdict.{demand}
 use Rattle.floor.specs.Checks.{roomOf}
 use Rattle.lengths.specs.Figures.{figuresOf}
 use Rattle.kalomivund.specs.Answers.{ofFigures}

@@ -1,7 +1,7 @@
 -- `machine::checks::all_named` meets its contract: the loop holds that all steps so far are named; the first that is not has its position.
 use native.Mathlib.Nat.{zero-add}
-use Rattle.floor.specs.Verdict.{each as inOrder, passed as ok, refused as turnedAway}
-use Rattle.floor.proofs.VerdictLaws.{each-none as names-none, each-more as names-more, each-stop as names-stop, each-end as names-end}
+use Rattle.laws.specs.Verdict.{demandEach as inOrder, passed as ok, refused as turnedAway}
+use Rattle.laws.proofs.VerdictLaws.{each-none as names-none, each-more as names-more, each-stop as names-stop, each-end as names-end}
 use Rattle.state.proofs.EachLaws.{said-no, said-yes}
 use lib.ListN.{length}
 use mathlib.Core.Path.{_≡_, sym, _∙_, ap}

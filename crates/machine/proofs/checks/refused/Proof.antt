@@ -1,6 +1,6 @@
 -- `machine::checks::refused` meets its contract: the refusal with its number.
 use mathlib.Core.Path.{refl}
-use Rattle.floor.specs.Verdict.{demand}
+use Rattle.laws.specs.Verdict.{demand}
 use Rattle.floor.specs.Answers.{verdictOf}
 use Rattle.machine.proofs.checks.refused.Statement.{statement}
 use Rattle.machine.proofs.checks.refused.Tie as tie

@@ -3,7 +3,7 @@ use Rattle.fields.specs.Form.{lineForm}
 use Rattle.sheet.specs.Form.{linesForm}
 use Rattle.sheet.specs.Text.{carrierAt}
 use Rattle.floor.proofs.AnswersLaws.{turns}
-use Rattle.floor.specs.Verdict.{passed, inTurn}
+use Rattle.laws.specs.Verdict.{passed, inTurn}
 use Rattle.floor.specs.Answers.{verdictOf}
 use mathlib.Core.Path.{_≡_}
 use Prim.Native.Nat.{ℕ, _+_, _*_, _-_, _≤_}

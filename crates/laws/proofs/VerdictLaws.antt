@@ -9,7 +9,7 @@ use borrow.Author.Count.{below-more}
 use borrow.Author.Needs.{needs}
 use mathlib.Core.Logic.{_⊎_, ⊎-elim, inl, inr}
 use Rattle.floor.proofs.TestLaws.{code-holds, code-fails, decides}
-use Rattle.floor.specs.Verdict.{Verdict, passed, refused, _then_, demand, inTurn, each}
+use Rattle.laws.specs.Verdict.{Verdict, passed, refused, _then_, demand, inTurn, demandEach}
 
 -- A passed check hands on to the next.
 pub then-passed : {v w : Verdict} → v ≡ passed → (v then w) ≡ w
@@ -139,30 +139,30 @@ pub ruleset demands = (demand-on, demand-ends, demand-last, demand-fails, decide
 
 module _ (k p : ℕ) (ok : ℕ → Bool) where
   -- No item: nothing to refuse.
-  pub each-none : each k p ok 0 ≡ passed
-  unfolding each
+  pub each-none : demandEach k p ok 0 ≡ passed
+  unfolding demandEach
   each-none = turn-none _
 
   -- One more item that passes.
-  pub each-more : (i : ℕ) → each k p ok i ≡ passed → ok i ≡ true → each k p ok (i + 1) ≡ passed
-  unfolding each
+  pub each-more : (i : ℕ) → demandEach k p ok i ≡ passed → ok i ≡ true → demandEach k p ok (i + 1) ≡ passed
+  unfolding demandEach
   each-more i h t = turn-more _ i h (demand-passes k (p + i) t)
 
   -- The first item that fails is the refusal.
-  pub each-stop : (i m : ℕ) → i < m → each k p ok i ≡ passed → ok i ≡ false → each k p ok m ≡ refused k (p + i)
-  unfolding each
+  pub each-stop : (i m : ℕ) → i < m → demandEach k p ok i ≡ passed → ok i ≡ false → demandEach k p ok m ≡ refused k (p + i)
+  unfolding demandEach
   each-stop i m l h t = turn-stop _ i m k (p + i) l h (demand-refuses k (p + i) t)
 
   -- The loop's end: all m items pass.
-  pub each-end : (i m : ℕ) → i ≤ m → m ≤ i → each k p ok i ≡ passed → passed ≡ each k p ok m
-  unfolding each
+  pub each-end : (i m : ℕ) → i ≤ m → m ≤ i → demandEach k p ok i ≡ passed → passed ≡ demandEach k p ok m
+  unfolding demandEach
   each-end i m a b h = turn-end _ i m a b h
 
   -- A loop that tests the items one by one, t being what the code answers of item i: one more that passes, and the first that fails.
-  pub tests-go-on : {t : Bool} (i : ℕ) → each k p ok i ≡ passed → t ≡ ok i → not t ≡ false → each k p ok (i + 1) ≡ passed
+  pub tests-go-on : {t : Bool} (i : ℕ) → demandEach k p ok i ≡ passed → t ≡ ok i → not t ≡ false → demandEach k p ok (i + 1) ≡ passed
   tests-go-on i h e n = each-more i h (code-holds e n)
 
-  pub tests-stop : {t : Bool} (i m : ℕ) → each k p ok i ≡ passed → t ≡ ok i → not t ≡ true → i < m → refused k (p + i) ≡ each k p ok m
+  pub tests-stop : {t : Bool} (i m : ℕ) → demandEach k p ok i ≡ passed → t ≡ ok i → not t ≡ true → i < m → refused k (p + i) ≡ demandEach k p ok m
   tests-stop i m h e n l = sym (each-stop i m l h (code-fails e n))
 
 -- What such a loop's answers take.

@@ -1,5 +1,5 @@
 -- What a check says, and how checks follow one another (document 01, 'Refused': the first refusal met ends the check).
-use Prim.Native.Nat.{ℕ, suc, zero, _+_}
+use Prim.Native.Nat.{ℕ, suc, zero, _+_, _<_}
 use mathlib.Core.Bool.{Bool, true, false}
 
 -- A check finds nothing, or refuses with the number and the place of document 01's table.
@@ -24,5 +24,15 @@ inTurn check zero = passed
 inTurn check (suc m) = inTurn check m then check m
 
 -- The tests 0 to m − 1 in their order, test i having the place p + i.
-unfoldable pub each : ℕ → ℕ → (ℕ → Bool) → ℕ → Verdict
-each k p ok m = inTurn (λ i. demand (ok i) k (p + i)) m
+unfoldable pub demandEach : ℕ → ℕ → (ℕ → Bool) → ℕ → Verdict
+demandEach k p ok m = inTurn (λ i. demand (ok i) k (p + i)) m
+
+-- Each of the first m items is as P says.
+abbrev pub All : (ℕ → Type 0) → ℕ → Type 0
+All P m = (i : ℕ) → i < m → P i
+
+-- Item i is the first of m that is not as P says.
+pub record First (P : ℕ → Type 0) (m i : ℕ) : Type 0 where
+  pub listed : i < m
+  pub fails : P i → ⊥
+  pub before : All P i

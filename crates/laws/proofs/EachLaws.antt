@@ -1,48 +1,39 @@
 -- `each` as a statement: it passes if every test holds, and refuses at the first that does not.
 use Prim.Native.Nat.{ℕ, suc, zero, _+_}
 use native.Mathlib.Omega.{arith}
-use mathlib.Core.Path.{_≡_, refl, _∙_, sym}
-use mathlib.Core.Bool.{Bool, true, false, true≢false}
+use mathlib.Core.Path.{_≡_, refl, sym}
+use mathlib.Core.Bool.{Bool, true}
 use borrow.Author.Count.{below-more}
 use mathlib.Core.Logic.{_↔_}
-use Rattle.floor.specs.Verdict.{passed, refused, _then_, demand, inTurn, each}
-use Rattle.floor.specs.Accepted.{All, First}
-use Rattle.floor.proofs.VerdictLaws.{then-both, refused-by, demand-holds, demand-cases, refused-not-passed, each-stop}
+use Rattle.laws.proofs.Tests.{not-true-is-false, false-fails}
+use Rattle.laws.specs.Verdict.{passed, refused, _then_, demand, inTurn, demandEach, All, First}
+use Rattle.laws.proofs.VerdictLaws.{then-both, refused-by, demand-holds, demand-cases, refused-not-passed, each-stop}
 
 -- The tests of a check and what they mean.
 abbrev pub Decides : (ℕ → Bool) → (ℕ → Type 0) → Type 0
 Decides ok P = (i : ℕ) → (ok i ≡ true) ↔ P i
 
--- A test that does not hold is false.
-pub fails-false : (b : Bool) → (b ≡ true → ⊥) → b ≡ false
-fails-false true n = absurd (n refl)
-fails-false false n = refl
-
--- A test that is false does not hold.
-pub false-fails : {b : Bool} → b ≡ false → b ≡ true → ⊥
-false-fails h t = true≢false (sym t ∙ h)
-
 module _ (k p : ℕ) (ok : ℕ → Bool) (P : ℕ → Type 0) (means : Decides ok P) where
   -- All tests hold where the check passes.
-  pub each-passed : (m : ℕ) → each k p ok m ≡ passed → All P m
-  unfolding each inTurn
+  pub each-passed : (m : ℕ) → demandEach k p ok m ≡ passed → All P m
+  unfolding demandEach inTurn
   each-passed zero h i l = absurd (omega arith)
   each-passed (suc m) h i l =
-      let b = then-both (each k p ok m) (demand (ok m) k (p + m)) h in
+      let b = then-both (demandEach k p ok m) (demand (ok m) k (p + m)) h in
       below-more P m (each-passed m (b .0)) (means m .0 (demand-holds _ k (p + m) (b .1))) i (omega arith)
 
   -- The check passes where all tests hold.
-  pub all-passes : (m : ℕ) → All P m → each k p ok m ≡ passed
-  unfolding each inTurn demand _then_
+  pub all-passes : (m : ℕ) → All P m → demandEach k p ok m ≡ passed
+  unfolding demandEach inTurn demand _then_
   all-passes zero a = refl
   all-passes (suc m) a = rw (all-passes m (λ i l. a i (omega arith)), means m .1 (a m (omega arith)))
 
-  pub each-means : (m : ℕ) → (each k p ok m ≡ passed) ↔ All P m
+  pub each-means : (m : ℕ) → (demandEach k p ok m ≡ passed) ↔ All P m
   each-means m = (each-passed m, all-passes m)
 
   -- What follows from a refusal: it has the check's own number and the place of the first test that fails.
-  pub each-refused : (C : ℕ → ℕ → Type 0) (m a b : ℕ) → each k p ok m ≡ refused a b → ((i : ℕ) → First P m i → C k (p + i)) → C a b
-  unfolding each inTurn
+  pub each-refused : (C : ℕ → ℕ → Type 0) (m a b : ℕ) → demandEach k p ok m ≡ refused a b → ((i : ℕ) → First P m i → C k (p + i)) → C a b
+  unfolding demandEach inTurn
   each-refused C zero a b h f = absurd (refused-not-passed (sym h))
   each-refused C (suc m) a b h f =
       refused-by h
@@ -53,6 +44,6 @@ module _ (k p : ℕ) (ok : ℕ → Bool) (P : ℕ → Type 0) (means : Decides o
       (f m (record { listed = omega arith; fails = λ q. false-fails (d .0) (means m .1 q); before = each-passed m e })))
 
   -- The first failing test's refusal.
-  pub first-refuses : (m i : ℕ) → First P m i → each k p ok m ≡ refused k (p + i)
+  pub first-refuses : (m i : ℕ) → First P m i → demandEach k p ok m ≡ refused k (p + i)
   first-refuses m i h =
-      each-stop k p ok i m (h .listed) (all-passes i (h .before)) (fails-false (ok i) (λ t. h .fails (means i .0 t)))
+      each-stop k p ok i m (h .listed) (all-passes i (h .before)) (not-true-is-false (ok i) (λ t. h .fails (means i .0 t)))
