@@ -6,7 +6,7 @@ use mathlib.Core.List.{List}
 use borrow.Author.Tests.{eq-eqb, ne-eqb}
 use lib.ListN.{getD}
 use lib.Dec.{eqb}
-use Rattle.floor.proofs.TestLaws.{and-ends, and-on, is-true, is-false}
+use Rattle.laws.proofs.CodeTests.{and-ends, and-on, is-true, is-false}
 use Rattle.fields.specs.Field.{column, numberAt, isField}
 
 -- A byte that is the column r, and one that is not.

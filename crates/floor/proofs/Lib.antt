@@ -1,5 +1,4 @@
 -- Laws of the definitions that no single function owns.
-pub mod TestLaws
 pub mod AnswersLaws
 pub mod LimitsLaws
 pub mod AmongLaws

@@ -1,4 +1,4 @@
--- `each` as a statement: it passes if every test holds, and refuses at the first that does not.
+-- `demandEach` as a statement: it passes if every test holds, and refuses at the first that does not.
 use Prim.Native.Nat.{ℕ, suc, zero, _+_}
 use native.Mathlib.Omega.{arith}
 use mathlib.Core.Path.{_≡_, refl, sym}

@@ -1,4 +1,4 @@
--- Laws of verdicts: how one check follows another, and how a loop over items meets `each`.
+-- Laws of verdicts: how one check follows another, and how a loop over items meets `demandEach`.
 use Prim.Native.Nat.{ℕ, suc, zero, _+_, _-_, _≤_, _<_}
 use native.Mathlib.Omega.{arith}
 use native.Mathlib.Numerals.{add-one}
@@ -8,7 +8,7 @@ use mathlib.Core.Bool.{Bool, true, false, not}
 use borrow.Author.Count.{below-more}
 use borrow.Author.Needs.{needs}
 use mathlib.Core.Logic.{_⊎_, ⊎-elim, inl, inr}
-use Rattle.floor.proofs.TestLaws.{code-holds, code-fails, decides}
+use Rattle.laws.proofs.CodeTests.{code-holds, code-fails, decides}
 use Rattle.laws.specs.Verdict.{Verdict, passed, refused, _then_, demand, inTurn, demandEach}
 
 -- A passed check hands on to the next.

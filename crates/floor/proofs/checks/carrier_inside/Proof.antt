@@ -1,6 +1,6 @@
 -- `floor::checks::carrier_inside` meets its contract: the first cell decides, or the second does.
 use Rattle.floor.specs.Checks.{carrierInGrid, startOf, goalOf}
-use Rattle.floor.proofs.TestLaws.{decides}
+use Rattle.laws.proofs.CodeTests.{decides}
 use borrow.Author.Needs.{needs}
 use Rattle.floor.proofs.checks.carrier_inside.Statement.{statement}
 use Rattle.floor.proofs.checks.carrier_inside.Tie as tie

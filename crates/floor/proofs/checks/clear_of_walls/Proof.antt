@@ -1,6 +1,6 @@
 -- `floor::checks::clear_of_walls` meets its contract: the start decides, or the goal does.
 use Rattle.floor.specs.Checks.{clearOfWalls, startOf, goalOf}
-use Rattle.floor.proofs.TestLaws.{decides}
+use Rattle.laws.proofs.CodeTests.{decides}
 use borrow.Author.Needs.{needs}
 use Rattle.floor.proofs.checks.clear_of_walls.Statement.{statement}
 use Rattle.floor.proofs.checks.clear_of_walls.Tie as tie

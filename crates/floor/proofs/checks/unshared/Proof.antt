@@ -3,7 +3,7 @@ use Rattle.floor.specs.Checks.{unshared, startOf, goalOf}
 use lib.ListN.{length}
 use mathlib.Core.Path.{_≡_}
 use native.Mathlib.Omega.{arith}
-use Rattle.floor.proofs.TestLaws.{decides}
+use Rattle.laws.proofs.CodeTests.{decides}
 use borrow.Author.Needs.{needs}
 use Rattle.floor.proofs.checks.unshared.Statement.{statement}
 use Rattle.floor.proofs.checks.unshared.Tie as tie

@@ -1,4 +1,4 @@
--- Tests that the code makes one by one, each with its own `return`: what the answers of such a function take. It says nothing of a floor.
+-- Tests that the code makes one by one, each with its own `return`: what the answers of such a function take.
 use mathlib.Core.Path.{_≡_, sym, _∙_, ap}
 use mathlib.Core.Bool.{Bool, true, false, _&&_, not}
 use borrow.Author.Tests.{not-true, not-false, le-leb, lt-leb, lt-ltb, le-ltb, eq-eqb, ne-eqb}
