@@ -81,3 +81,7 @@ below-same m n b c e = and-same (ltb m n) b c (λ h. e (ltb-true m n h))
 
 pub inside-same : (m n : ℕ) (a b c : Bool) → (m < n → b ≡ c) → (ltb m n && a && b) ≡ (ltb m n && a && c)
 inside-same m n a b c e = and-same (ltb m n && a) b c (λ h. e (ltb-true m n (and-fst (ltb m n) a h)))
+
+pub and-fails : (a b : Bool) → (a && b) ≡ false → (a ≡ false) ⊎ (b ≡ false)
+and-fails true b e = inr e
+and-fails false b e = inl refl

@@ -4,17 +4,23 @@ use native.Mathlib.Omega.{arith}
 use native.Mathlib.Numerals.{add-one}
 use native.Mathlib.Nat.{zero-add, suc-add}
 use mathlib.Core.Path.{_≡_, refl, sym, _∙_}
-use mathlib.Core.Bool.{Bool, true, false, not}
+use mathlib.Core.Bool.{Bool, true, false, not, true≢false}
 use borrow.Author.Count.{below-more}
 use borrow.Author.Needs.{needs}
 use mathlib.Core.Logic.{_⊎_, ⊎-elim, inl, inr}
 use Rattle.laws.proofs.CodeTests.{code-holds, code-fails, decides}
-use Rattle.laws.specs.Verdict.{Verdict, passed, refused, _then_, demand, inTurn, demandEach}
+use Rattle.laws.specs.Verdict.{Verdict, passed, refused, _then_, demand, inTurn, demandEach, passes}
 
 -- A passed check hands on to the next.
 pub then-passed : {v w : Verdict} → v ≡ passed → (v then w) ≡ w
 unfolding _then_
 then-passed h = rw h
+
+-- The Bool of a verdict says whether it passed.
+pub passes-says : (v : Verdict) → passes v ≡ true → v ≡ passed
+unfolding passes
+passes-says passed h = refl
+passes-says (refused k p) h = absurd (true≢false (sym h))
 
 -- A refusal ends the checks.
 pub then-refused : {v : Verdict} {k p : ℕ} (w : Verdict) → v ≡ refused k p → (v then w) ≡ refused k p
@@ -24,6 +30,10 @@ then-refused w h = rw h
 -- A refusal is no pass.
 pub refused-not-passed : {k p : ℕ} → refused k p ≡ passed → ⊥
 refused-not-passed h = let z : _≡_ {A = ℕ} 0 1 = cc in omega arith
+
+-- Two refusals that are the same have one number and one place.
+pub refused-same : {a b p q : ℕ} → refused a p ≡ refused b q → (a ≡ b) × (p ≡ q)
+refused-same e = ((cc), (cc))
 
 -- A chain passes only if each of its checks does.
 pub then-both : (v w : Verdict) → (v then w) ≡ passed → (v ≡ passed) × (w ≡ passed)

@@ -27,6 +27,33 @@ inTurn check (suc m) = inTurn check m then check m
 unfoldable pub demandEach : ℕ → ℕ → (ℕ → Bool) → ℕ → Verdict
 demandEach k p ok m = inTurn (λ i. demand (ok i) k (p + i)) m
 
+-- The check finds nothing.
+unfoldable pub passes : Verdict → Bool
+passes passed = true
+passes (refused k p) = false
+
+-- What an entry answers: a value, or a refusal with its number and its place.
+pub data Outcome (A : Type 0) : Type 0 where
+  value : A → Outcome A
+  refusal : ℕ → ℕ → Outcome A
+
+infixr 29 _gives_
+-- The value where the checks find nothing; otherwise their refusal.
+unfoldable pub _gives_ : {A : Type 0} → Verdict → A → Outcome A
+_gives_ passed a = value a
+_gives_ (refused k p) a = refusal k p
+
+infixr 29 _thenAnswers_
+-- What is answered where the checks find nothing; otherwise their refusal.
+unfoldable pub _thenAnswers_ : {A : Type 0} → Verdict → Outcome A → Outcome A
+_thenAnswers_ passed r = r
+_thenAnswers_ (refused k p) r = refusal k p
+
+-- The new value where the checks find nothing; otherwise the old one, as it was.
+unfoldable pub whenPassed : {A : Type 0} → Verdict → A → A → A
+whenPassed passed new old = new
+whenPassed (refused k p) new old = old
+
 -- Each of the first m items is as P says.
 abbrev pub All : (ℕ → Type 0) → ℕ → Type 0
 All P m = (i : ℕ) → i < m → P i

@@ -11,12 +11,12 @@ use borrow.Author.Tests.{ltb-true, lt-leb}
 use Rattle.route.specs.Route.{Answer}
 use Rattle.laws.proofs.Tests.{lt-or-le, eq-or-ne, or-cases, true-false-absurd}
 use Rattle.reference.specs.State.{Machine, State, fresh, views}
-use Rattle.reference.specs.Step.{Step, plan, deliver, noKind, hasRoom, isOpen}
-use Rattle.reference.specs.Take.{isNews, planAs, newer, deliverTo, afterStep}
+use Rattle.reference.specs.Step.{Step, plan, deliver, hasCapacity, isOpen}
+use Rattle.reference.specs.Take.{isNews, planAs, newer, deliverTo, effect, counted, afterStep}
 use Rattle.reference.specs.History.{Reaches, stay, next}
 use Rattle.reference.specs.Bounds.{InRange}
 use Rattle.reference.proofs.RangeLaws.{each-holds}
-use Rattle.reference.proofs.OpenLaws.{no-kind-shut, plan-room}
+use Rattle.reference.proofs.OpenLaws.{plan-room}
 use Rattle.reference.proofs.CountLaws.{step-counts}
 use Rattle.reference.proofs.TakeLaws.{plan-keeps, sent-below, chan-other, chan-above, deliver-chan}
 
@@ -50,8 +50,8 @@ newer-shorter (a ∷ l) = omega arith
 
 module _ (M : Machine) (s : State) where
   -- Where i has room, each channel from it to a carrier below has fewer than depth messages.
-  pub room-says : (i k : ℕ) → hasRoom M s i ≡ true → i < k → k < M .carriers → length (s .chan k i) < M .depth
-  unfolding hasRoom
+  pub room-says : (i k : ℕ) → hasCapacity M s i ≡ true → i < k → k < M .carriers → length (s .chan k i) < M .depth
+  unfolding hasCapacity
   room-says i k e l h =
       ⊎-elim (λ (p : leb k i ≡ true). true-false-absurd p (lt-leb k i l))
       (λ (p : ltb (length (s .chan k i)) (M .depth) ≡ true). ltb-true (length (s .chan k i)) (M .depth) p)
@@ -60,7 +60,7 @@ module _ (M : Machine) (s : State) where
 
   step-channels : InRange M s → (x : Step) → isOpen M s x ≡ true → (k j : ℕ) → j < k → k < M .carriers →
       length (afterStep M s x .chan k j) ≤ M .depth
-  unfolding afterStep
+  unfolding afterStep effect counted
   step-channels r (plan i) e k j l h = go (plan-chan-cases s i a k j)
     where
       a : Answer
@@ -78,10 +78,9 @@ module _ (M : Machine) (s : State) where
           length (deliverTo s m i .chan k j) ≤ M .depth
       go (inl q) = rw q (r .channels k j l h)
       go (inr q) = rw q (omega (arith, newer-shorter (s .chan k j), r .channels k j l h))
-  step-channels r noKind e k j l h = true-false-absurd e (no-kind-shut M s)
 
-  step-in-range : InRange M s → (x : Step) → isOpen M s x ≡ true → InRange M (afterStep M s x)
-  step-in-range r x e = record { channels = step-channels r x e; counted = omega (arith, step-counts M s x e) }
+  pub step-in-range : InRange M s → (x : Step) → isOpen M s x ≡ true → InRange M (afterStep M s x)
+  step-in-range r x e = record { channels = step-channels r x e; counted = omega (arith, step-counts M s x) }
 
 pub fresh-in-range : (M : Machine) → InRange M fresh
 unfolding fresh

@@ -4,27 +4,32 @@ use native.Mathlib.Omega.{arith}
 use mathlib.Core.Bool.{true}
 use mathlib.Core.List.{List}
 use mathlib.Core.Path.{_≡_}
-use Rattle.laws.proofs.Tests.{true-false-absurd}
 use Rattle.reference.specs.State.{Machine, State, fresh, views}
-use Rattle.reference.specs.Step.{Step, plan, deliver, noKind, isOpen}
-use Rattle.reference.specs.Take.{afterStep}
+use Rattle.reference.specs.Step.{Step, plan, deliver, isOpen}
+use Rattle.reference.specs.Take.{effect, counted, afterStep}
 use Rattle.reference.specs.History.{Reaches, stay, next}
 use Rattle.reference.specs.Table.{Call}
 use Rattle.reference.specs.Calls.{replies}
-use Rattle.reference.specs.Quiet.{takenInAll, ceiling}
-use Rattle.reference.proofs.OpenLaws.{no-kind-shut, plan-within, plan-due, deliver-above, deliver-within, deliver-full}
-use Rattle.reference.proofs.Potential.{potential, fresh-potential}
+use Rattle.reference.specs.Quiet.{repliesCount, ceiling}
+use Rattle.reference.proofs.OpenLaws.{plan-within, plan-due, deliver-above, deliver-within, deliver-full}
+use Rattle.reference.proofs.Potential.{potential, weightAt, messages, fresh-potential}
 use Rattle.reference.proofs.ReachLaws.{calls-reach}
 use Rattle.reference.proofs.PlanWeight.{plan-lowers}
 use Rattle.reference.proofs.DeliverWeight.{deliver-lowers}
 
+-- The taken count has no weight.
+counted-weighs : (n : ℕ) (z : State) (w : ℕ) → potential n z < w → potential n (counted z) < w
+unfolding counted potential weightAt messages
+counted-weighs n z w l = l
+
 pub step-lowers : (M : Machine) (s : State) (x : Step) → isOpen M s x ≡ true →
     potential (M .carriers) (afterStep M s x) < potential (M .carriers) s
-unfolding afterStep
-step-lowers M s (plan i) e = plan-lowers (M .carriers) s i (M .respond i (views s i)) (plan-due M s i e) (plan-within M s i e)
+unfolding afterStep effect
+step-lowers M s (plan i) e =
+    counted-weighs (M .carriers) _ _ (plan-lowers (M .carriers) s i (M .respond i (views s i)) (plan-due M s i e) (plan-within M s i e))
 step-lowers M s (deliver j i) e =
-    deliver-lowers (M .carriers) s j i (deliver-above M s j i e) (deliver-within M s j i e) (deliver-full M s j i e)
-step-lowers M s noKind e = true-false-absurd e (no-kind-shut M s)
+    counted-weighs (M .carriers) _ _
+    (deliver-lowers (M .carriers) s j i (deliver-above M s j i e) (deliver-within M s j i e) (deliver-full M s j i e))
 
 pub reaches-lowers : (M : Machine) {s z : State} {t : ℕ} → Reaches M s z t →
     potential (M .carriers) z + t ≤ potential (M .carriers) s
@@ -32,6 +37,6 @@ reaches-lowers M stay = omega arith
 reaches-lowers M {s = s} (next x e p) = omega (arith, step-lowers M s x e, reaches-lowers M p)
 
 -- The step ceiling: from fresh, no list of calls takes more steps.
-pub calls-ceiling : (M : Machine) (cs : List Call) → takenInAll (replies M fresh cs) ≤ ceiling (M .carriers)
+pub calls-ceiling : (M : Machine) (cs : List Call) → repliesCount (replies M fresh cs) ≤ ceiling (M .carriers)
 unfolding ceiling
 calls-ceiling M cs = omega (arith, reaches-lowers M (calls-reach M fresh cs), fresh-potential (M .carriers))

@@ -1,31 +1,28 @@
 -- The taken count: the number of steps taken, or the largest count if that is more.
 use Prim.Native.Nat.{ℕ, suc, _+_, _≤_, min}
 use native.Mathlib.Omega.{arith}
-use mathlib.Core.Bool.{true}
 use mathlib.Core.List.{List}
 use mathlib.Core.Path.{_≡_, refl}
-use Rattle.laws.proofs.Tests.{true-false-absurd}
 use Rattle.reference.specs.State.{Machine, State, fresh, tick}
-use Rattle.reference.specs.Step.{Step, plan, deliver, noKind, named, isOpen}
-use Rattle.reference.specs.Take.{planAs, deliverTo, afterStep}
+use Rattle.reference.specs.Step.{Step, plan, deliver}
+use Rattle.reference.specs.Take.{planAs, deliverTo, effect, counted, afterStep}
 use Rattle.reference.specs.History.{Reaches, stay, next}
 use Rattle.reference.specs.Table.{Call}
 use Rattle.reference.specs.Calls.{replies, after}
-use Rattle.reference.specs.Quiet.{takenInAll}
+use Rattle.reference.specs.Quiet.{repliesCount}
 use Rattle.reference.proofs.ReachLaws.{calls-reach}
 
 module _ (M : Machine) where
-  pub step-counts : (s : State) (x : Step) → isOpen M s x ≡ true → afterStep M s x .taken ≡ min 999999 (suc (s .taken))
-  unfolding afterStep planAs deliverTo tick isOpen named
-  step-counts s (plan i) e = refl
-  step-counts s (deliver j i) e = refl
-  step-counts s noKind e = true-false-absurd e refl
+  pub step-counts : (s : State) (x : Step) → afterStep M s x .taken ≡ min 999999 (suc (s .taken))
+  unfolding afterStep effect counted planAs deliverTo tick
+  step-counts s (plan i) = refl
+  step-counts s (deliver j i) = refl
 
   pub reaches-counts : {s z : State} {t : ℕ} → s .taken ≤ 999999 → Reaches M s z t → z .taken ≡ min 999999 (s .taken + t)
   reaches-counts {s = s} l stay = omega arith
   reaches-counts {s = s} l (next x e p) =
-      omega (arith, step-counts s x e, reaches-counts (omega (arith, step-counts s x e)) p)
+      omega (arith, step-counts s x, reaches-counts (omega (arith, step-counts s x)) p)
 
-  pub calls-count : (cs : List Call) → after M fresh cs .taken ≡ min 999999 (takenInAll (replies M fresh cs))
+  pub calls-count : (cs : List Call) → after M fresh cs .taken ≡ min 999999 (repliesCount (replies M fresh cs))
   unfolding fresh
   calls-count cs = omega (arith, reaches-counts {s = fresh} (omega arith) (calls-reach M fresh cs))

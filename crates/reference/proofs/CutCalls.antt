@@ -1,52 +1,58 @@
 -- A run cut in two, as calls: the rest of the list, with what is left of the budget, as a later call.
 use Prim.Native.Nat.{ℕ, _-_, _≤_}
 use native.Mathlib.Omega.{arith}
-use borrow.Author.Tests.{le-leb}
 use mathlib.Core.List.{List, [], _∷_, _++_}
-use mathlib.Core.Path.{_≡_, refl}
+use mathlib.Core.Path.{_≡_, refl, _∙_}
+use Rattle.laws.specs.Verdict.{passed}
+use Rattle.laws.proofs.VerdictLaws.{then-passed}
 use Rattle.reference.specs.State.{Machine, State}
-use Rattle.reference.specs.Step.{Step}
 use Rattle.reference.specs.Run.{run}
-use Rattle.reference.specs.Table.{runOf, accepted, ifLent, allNamed, verdict}
-use Rattle.reference.specs.Calls.{answerTo, stateAfter, reply, afterCall, replies, after}
-use Rattle.reference.specs.Quiet.{takenIn, takenInAll}
-use Rattle.reference.proofs.TableLaws.{named-front, named-rest}
+use Rattle.reference.specs.Table.{Asked, runOf, stepsOf, allNamed, verdict}
+use Rattle.reference.specs.Calls.{stateAfter, reply, afterCall, replies, after}
+use Rattle.reference.specs.Quiet.{replyCount, repliesCount}
+use Rattle.reference.proofs.TableLaws.{enough-lent, named-front, named-rest, steps-append}
 use Rattle.reference.proofs.CutLaws.{run-cut}
-use Rattle.reference.proofs.ReachLaws.{reply-accepted, after-accepted}
+use Rattle.reference.proofs.ReachLaws.{run-reply, after-passed}
 
 module _ (M : Machine) (lent : ℕ) (enough : M .needed ≤ lent) where
-  run-accepted : (s : State) (xs : List Step) (b : ℕ) → allNamed M 0 xs ≡ accepted → verdict M s (runOf lent xs b) ≡ accepted
-  unfolding verdict ifLent
-  run-accepted s xs b e = rw (le-leb (M .needed) lent enough, ifLent) e
+  run-passes : (s : State) (xs : List Asked) (b : ℕ) → allNamed M xs ≡ passed → verdict M s (runOf lent xs b) ≡ passed
+  unfolding verdict
+  run-passes s xs b e = then-passed (enough-lent M lent enough) ∙ e
 
-  run-state : (s : State) (xs : List Step) (b : ℕ) → allNamed M 0 xs ≡ accepted → afterCall M s (runOf lent xs b) ≡ run M s xs b .state
+  run-state : (s : State) (xs : List Asked) (b : ℕ) → allNamed M xs ≡ passed →
+      afterCall M s (runOf lent xs b) ≡ run M s (stepsOf xs) b .state
   unfolding stateAfter
-  run-state s xs b e = after-accepted M s (runOf lent xs b) (run-accepted s xs b e)
+  run-state s xs b e = after-passed M s (runOf lent xs b) (run-passes s xs b e)
 
-  run-taken : (s : State) (xs : List Step) (b : ℕ) → allNamed M 0 xs ≡ accepted →
-      takenIn (reply M s (runOf lent xs b)) ≡ run M s xs b .taken
-  unfolding answerTo takenIn
-  run-taken s xs b e = rw (reply-accepted M s (runOf lent xs b) (run-accepted s xs b e)) refl
+  run-taken : (s : State) (xs : List Asked) (b : ℕ) → allNamed M xs ≡ passed →
+      replyCount (reply M s (runOf lent xs b)) ≡ run M s (stepsOf xs) b .taken
+  unfolding replyCount
+  run-taken s xs b e = rw (run-reply M s lent xs b (run-passes s xs b e)) refl
 
-  module _ (s : State) (xs ys : List Step) (b : ℕ) (e : allNamed M 0 (xs ++ ys) ≡ accepted) where
-    pub cut-state : after M s (runOf lent (xs ++ ys) b ∷ []) ≡ after M s (runOf lent xs b ∷ runOf lent ys (b - run M s xs b .taken) ∷ [])
+  module _ (s : State) (xs ys : List Asked) (b : ℕ) (e : allNamed M (xs ++ ys) ≡ passed) where
+    abbrev left : ℕ
+    left = b - run M s (stepsOf xs) b .taken
+
+    pub cut-state : after M s (runOf lent (xs ++ ys) b ∷ []) ≡ after M s (runOf lent xs b ∷ runOf lent ys left ∷ [])
     unfolding after
     cut-state =
         rw (
           run-state s (xs ++ ys) b e,
-          run-state s xs b (named-front M 0 xs ys e),
-          run-state (run M s xs b .state) ys (b - run M s xs b .taken) (named-rest M 0 0 xs ys e),
+          run-state s xs b (named-front M xs ys e),
+          run-state (run M s (stepsOf xs) b .state) ys left (named-rest M xs ys e),
+          steps-append xs ys,
         )
-        (run-cut M s xs ys b .state)
+        (run-cut M s (stepsOf xs) (stepsOf ys) b .state)
 
-    pub cut-taken : takenInAll (replies M s (runOf lent (xs ++ ys) b ∷ [])) ≡
-        takenInAll (replies M s (runOf lent xs b ∷ runOf lent ys (b - run M s xs b .taken) ∷ []))
-    unfolding replies takenInAll
+    pub cut-taken : repliesCount (replies M s (runOf lent (xs ++ ys) b ∷ [])) ≡
+        repliesCount (replies M s (runOf lent xs b ∷ runOf lent ys left ∷ []))
+    unfolding replies repliesCount
     cut-taken =
         rw (
           run-taken s (xs ++ ys) b e,
-          run-taken s xs b (named-front M 0 xs ys e),
-          run-state s xs b (named-front M 0 xs ys e),
-          run-taken (run M s xs b .state) ys (b - run M s xs b .taken) (named-rest M 0 0 xs ys e),
+          run-taken s xs b (named-front M xs ys e),
+          run-state s xs b (named-front M xs ys e),
+          run-taken (run M s (stepsOf xs) b .state) ys left (named-rest M xs ys e),
+          steps-append xs ys,
         )
-        (omega (arith, run-cut M s xs ys b .taken))
+        (omega (arith, run-cut M s (stepsOf xs) (stepsOf ys) b .taken))

@@ -9,13 +9,13 @@ use borrow.Author.Tests.{eqb-true, eqb-false, eq-eqb, ne-eqb}
 use Rattle.reference.specs.State.{Machine, State}
 use Rattle.reference.specs.Step.{Step, isOpen}
 use Rattle.reference.specs.Take.{afterStep}
-use Rattle.reference.specs.Run.{Event, took, passed, Ran, tookFirst, passedFirst, run}
+use Rattle.reference.specs.Run.{Event, took, skipped, RunResult, tookFirst, skippedFirst, run}
 use Rattle.reference.specs.Ending.{ending}
 use Rattle.reference.specs.History.{Joined}
-use Rattle.reference.proofs.RunLaws.{run-took, run-passed, run-induction, run-told}
+use Rattle.reference.proofs.RunLaws.{run-took, run-skipped, run-induction, run-faithful}
 
 -- Run r of the steps xs with budget b, followed by any further steps ys, is the run of both lists.
-Followed : Machine → State → List Step → ℕ → Ran → Type 0
+Followed : Machine → State → List Step → ℕ → RunResult → Type 0
 Followed M s xs b r = (ys : List Step) → Joined (run M s (xs ++ ys) b) r (run M (r .state) ys (b - r .taken))
 
 same-test : (r q b : ℕ) → r ≤ b → eqb (r + q) b ≡ eqb q (b - r)
@@ -37,7 +37,7 @@ module _ (M : Machine) where
   followed-stopped s x xs [] = record { state = refl; history = refl; taken = refl; unread = refl }
   followed-stopped s x xs (y ∷ ys) = record { state = refl; history = refl; taken = refl; unread = refl }
 
-  followed-took : (s : State) (x : Step) (xs : List Step) (b : ℕ) (r : Ran) → isOpen M s x ≡ true →
+  followed-took : (s : State) (x : Step) (xs : List Step) (b : ℕ) (r : RunResult) → isOpen M s x ≡ true →
       Followed M (afterStep M s x) xs b r → Followed M s (x ∷ xs) (suc b) (tookFirst x r)
   unfolding Followed tookFirst
   followed-took s x xs b r e p ys =
@@ -51,14 +51,14 @@ module _ (M : Machine) where
         unread = q .unread;
       })
 
-  followed-passed : (s : State) (x : Step) (xs : List Step) (b : ℕ) (r : Ran) → isOpen M s x ≡ false →
-      Followed M s xs (suc b) r → Followed M s (x ∷ xs) (suc b) (passedFirst x r)
-  unfolding Followed passedFirst
+  followed-passed : (s : State) (x : Step) (xs : List Step) (b : ℕ) (r : RunResult) → isOpen M s x ≡ false →
+      Followed M s xs (suc b) r → Followed M s (x ∷ xs) (suc b) (skippedFirst x r)
+  unfolding Followed skippedFirst
   followed-passed s x xs b r e p ys =
-      rw (run-passed M s x (xs ++ ys) b e)
+      rw (run-skipped M s x (xs ++ ys) b e)
       (record {
         state = (p ys) .state;
-        history = ap (λ (h : List Event). passed x ∷ h) ((p ys) .history);
+        history = ap (λ (h : List Event). skipped x ∷ h) ((p ys) .history);
         taken = (p ys) .taken;
         unread = (p ys) .unread;
       })
@@ -69,7 +69,7 @@ module _ (M : Machine) where
   run-cut s xs ys b = run-induction M (Followed M) followed-none followed-stopped followed-took followed-passed s xs b ys
 
   -- The end of a joined run, where the first part r is read to its end.
-  joined-ending : (b : ℕ) (w r q : Ran) → Joined w r q → r .taken ≤ b → r .unread ≡ [] → ending M b w ≡ ending M (b - r .taken) q
+  joined-ending : (b : ℕ) (w r q : RunResult) → Joined w r q → r .taken ≤ b → r .unread ≡ [] → ending M b w ≡ ending M (b - r .taken) q
   unfolding ending
   joined-ending b w r q j l e =
       let left : w .unread ≡ q .unread = rw (j .unread, e) in
@@ -79,4 +79,4 @@ module _ (M : Machine) where
       ending M b (run M s (xs ++ ys) b) ≡ ending M (b - run M s xs b .taken) (run M (run M s xs b .state) ys (b - run M s xs b .taken))
   cut-ending s xs ys b e =
       joined-ending b (run M s (xs ++ ys) b) (run M s xs b) (run M (run M s xs b .state) ys (b - run M s xs b .taken)) (run-cut s xs ys b)
-      (run-told M s xs b .within) e
+      (run-faithful M s xs b .within) e

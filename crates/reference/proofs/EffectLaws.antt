@@ -1,5 +1,5 @@
 -- The steps do what document 01 says.
-use Prim.Native.Nat.{ℕ, suc, min}
+use Prim.Native.Nat.{ℕ}
 use mathlib.Core.Bool.{Bool, true, false}
 use mathlib.Core.List.{List, [], _∷_}
 use mathlib.Core.Logic.{_⊎_, inl, inr, ⊎-elim}
@@ -8,7 +8,7 @@ use Rattle.route.specs.Route.{Answer, none, route, View, heard}
 use Rattle.laws.proofs.Tests.{eq-or-ne, true-false-absurd}
 use Rattle.reference.specs.State.{Machine, State, views, tick}
 use Rattle.reference.specs.Step.{plan, deliver, isEmpty, isOpen, sameAnswer}
-use Rattle.reference.specs.Take.{isNews, planAs, oldest, newer, deliverTo, afterStep}
+use Rattle.reference.specs.Take.{isNews, planAs, oldest, newer, deliverTo, effect, counted, afterStep}
 use Rattle.reference.specs.Effects.{Planned, Delivered}
 use Rattle.reference.proofs.OpenLaws.{deliver-full}
 use Rattle.reference.proofs.TakeLaws.{cells-same, no-news, plan-keeps, sent-below, chan-other, plan-view, plan-planned, plan-clears}
@@ -34,18 +34,9 @@ module _ (s : State) (i : ℕ) (a : Answer) where
   unfolding isNews
   again-no-news p e = rw (p, e, answer-same a) refl
 
-module _ (s : State) where
-  plan-counted : (i : ℕ) (a : Answer) → planAs s i a .taken ≡ min 999999 (suc (s .taken))
-  unfolding planAs tick
-  plan-counted i a = refl
-
-  deliver-counted : (j i : ℕ) → deliverTo s j i .taken ≡ min 999999 (suc (s .taken))
-  unfolding deliverTo tick
-  deliver-counted j i = refl
-
 module _ (M : Machine) (s : State) where
   pub plan-does : (i : ℕ) → Planned M s (afterStep M s (plan i)) i
-  unfolding afterStep
+  unfolding afterStep effect counted tick planAs deliverTo
   plan-does i =
       record {
         best = plan-answer s i a .there;
@@ -53,7 +44,7 @@ module _ (M : Machine) (s : State) where
         planned = plan-planned s i a .there;
         sends = λ h k l. rw (plan-answer s i a .there) (sent-below s i a (first-is-news s i a (rw (plan-answer s i a .there) at h)) k l);
         keeps = λ p e k l. rw (plan-keeps s i a (again-no-news s i a p (e ∙ plan-answer s i a .there)));
-        counted = plan-counted s i a;
+        counted = refl;
         carriers =
             λ k n.
             record {
@@ -74,14 +65,14 @@ module _ (M : Machine) (s : State) where
   oldest-first v (a ∷ l) e = (a, refl, refl)
 
   pub deliver-does : (j i : ℕ) → isOpen M s (deliver j i) ≡ true → Delivered s (afterStep M s (deliver j i)) j i
-  unfolding afterStep
+  unfolding afterStep effect counted tick planAs deliverTo
   deliver-does j i e =
       record {
         oldest = f .0;
         leaves = rw (deliver-chan s j i .there) (f .1);
         becomes = deliver-view s j i .there ∙ f .2;
         due = deliver-due s j i .there;
-        counted = deliver-counted s j i;
+        counted = refl;
         carriers =
             λ k n.
             record {

@@ -10,9 +10,11 @@ use borrow.Author.Tests.{eqb-true, eq-eqb}
 use Rattle.laws.proofs.Tests.{and-fst, and-snd, not-true-is-false, true-false-absurd}
 use Rattle.reference.specs.State.{Machine, fresh}
 use Rattle.reference.specs.Step.{Step}
-use Rattle.reference.specs.Run.{Ran}
-use Rattle.reference.specs.Ending.{isSilent, silent, spent, endsAs, anyLeft, ending}
-use Rattle.reference.proofs.QuietLaws.{silent-shut, shut-quiet}
+use Rattle.reference.specs.Run.{RunResult}
+use Rattle.reference.specs.Ranking.{isSilent}
+use Rattle.reference.specs.Ending.{silent, spent, endsAs, anyLeft, ending}
+use Rattle.reference.proofs.RankingLaws.{silent-shut}
+use Rattle.reference.proofs.QuietLaws.{shut-idle}
 
 ends-silent : (t u : Bool) → endsAs t u ≡ silent → t ≡ true
 unfolding endsAs
@@ -36,7 +38,7 @@ unfolding anyLeft
 some-left [] h = absurd (h refl)
 some-left (x ∷ l) h = refl
 
-module _ (M : Machine) (b : ℕ) (r : Ran) where
+module _ (M : Machine) (b : ℕ) (r : RunResult) where
   pub ending-silent : (ending M b r ≡ silent) ↔ (isSilent M (r .state) ≡ true)
   unfolding ending endsAs
   ending-silent = (λ e. ends-silent (isSilent M (r .state)) (eqb (r .taken) b && anyLeft (r .unread)) e, λ e. rw e)
@@ -58,4 +60,4 @@ pub fresh-not-silent : (M : Machine) → 1 ≤ M .carriers → 1 ≤ M .depth �
 unfolding fresh
 fresh-not-silent M l d =
     not-true-is-false (isSilent M fresh)
-    (λ (e : isSilent M fresh ≡ true). true-false-absurd refl ((shut-quiet M fresh d (silent-shut M fresh e)) .not-due 0 l))
+    (λ (e : isSilent M fresh ≡ true). true-false-absurd refl ((shut-idle M fresh d (silent-shut M fresh e)) .not-due 0 l))

@@ -8,8 +8,8 @@ use mathlib.Core.Path.{_≡_, refl, sym, _∙_}
 use Rattle.route.specs.Route.{Answer, View, unheard, heard}
 use Rattle.laws.proofs.Tests.{eq-or-ne, true-false-absurd}
 use Rattle.reference.specs.State.{Machine, State, fresh, views}
-use Rattle.reference.specs.Step.{Step, plan, deliver, noKind}
-use Rattle.reference.specs.Take.{isNews, planAs, oldest, newer, deliverTo, afterStep}
+use Rattle.reference.specs.Step.{Step, plan, deliver}
+use Rattle.reference.specs.Take.{isNews, planAs, oldest, newer, deliverTo, effect, counted, afterStep}
 use Rattle.reference.specs.History.{Reaches, stay, next}
 use Rattle.reference.proofs.TakeLaws.{no-news, plan-keeps, sent-below, chan-other, plan-view, plan-planned, plan-clears, plan-answer}
 use Rattle.reference.proofs.TakeLaws.{deliver-due, deliver-planned, deliver-answer, deliver-chan, deliver-view}
@@ -51,6 +51,11 @@ view-heard M s h i j l e d = rw (e, h .has-planned j d) at (h .is-said i j l)
 pub fresh-sound : (M : Machine) → Sound M fresh
 unfolding fresh latest said saidAs
 fresh-sound M = record { has-planned = λ i e. true-false-absurd refl e; is-best = λ i e. true-false-absurd refl e; is-said = λ i j l. refl }
+
+-- The taken count does not matter.
+counted-sound : (M : Machine) (s : State) → Sound M s → Sound M (counted s)
+unfolding counted views said
+counted-sound M s h = record { has-planned = h .has-planned; is-best = h .is-best; is-said = h .is-said }
 
 module _ (M : Machine) (s : State) (h : Sound M s) where
   module _ (i : ℕ) (a : Answer) where
@@ -130,10 +135,9 @@ module _ (M : Machine) (s : State) (h : Sound M s) where
           (λ (n : k ≡ i → ⊥). rw (deliver-view s j i .elsewhere k n, deliver-chan s j i .elsewhere k n) (h .is-said k m l)) (eq-or-ne k i))
 
   step-sound : (x : Step) → Sound M (afterStep M s x)
-  unfolding afterStep
-  step-sound (plan i) = plan-sound i
-  step-sound (deliver j i) = deliver-sound j i
-  step-sound noKind = h
+  unfolding afterStep effect
+  step-sound (plan i) = counted-sound M (planAs s i (M .respond i (views s i))) (plan-sound i)
+  step-sound (deliver j i) = counted-sound M (deliverTo s j i) (deliver-sound j i)
 
 pub reaches-sound : (M : Machine) {s z : State} {t : ℕ} → Sound M s → Reaches M s z t → Sound M z
 reaches-sound M h stay = h

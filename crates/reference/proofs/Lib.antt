@@ -1,6 +1,7 @@
 -- Laws of the definitions, the invariant, the potential, and the claims. What other crates cite is `pub`.
 pub mod RangeLaws
 pub mod OpenLaws
+pub mod RankingLaws
 pub mod TakeLaws
 mod EffectLaws
 pub mod TableLaws
@@ -22,5 +23,4 @@ pub mod Potential
 mod PlanWeight
 mod DeliverWeight
 pub mod CeilingLaws
-mod Cases
 pub mod Theorems

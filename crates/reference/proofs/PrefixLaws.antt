@@ -10,22 +10,22 @@ use Rattle.route.specs.Sequential.{sequential}
 use Rattle.laws.proofs.Tests.{lt-or-le, true-false-absurd}
 use Rattle.reference.specs.Ranges.{below}
 use Rattle.reference.specs.State.{Machine, State, views}
-use Rattle.reference.specs.Step.{Step, plan, deliver, noKind, isOpen}
-use Rattle.reference.specs.Take.{planAs, deliverTo, afterStep}
+use Rattle.reference.specs.Step.{Step, plan, deliver, isOpen}
+use Rattle.reference.specs.Take.{planAs, deliverTo, effect, counted, afterStep}
 use Rattle.reference.specs.History.{Reaches, stay, next}
 use Rattle.reference.proofs.RangeLaws.{below-same, below-map}
-use Rattle.reference.proofs.OpenLaws.{nil-empty, no-kind-shut, plan-due, deliver-above, deliver-full}
-use Rattle.reference.proofs.QuietLaws.{Quiet}
+use Rattle.reference.proofs.OpenLaws.{nil-empty, plan-due, deliver-above, deliver-full}
+use Rattle.reference.proofs.QuietLaws.{Idle}
 use Rattle.reference.proofs.TakeLaws.{chan-above, plan-clears, plan-answer, deliver-due, deliver-answer, deliver-chan}
 use Rattle.reference.proofs.Invariant.{Sound, view-heard}
 
 module _ (M : Machine) (s : State) where
-  quiet-shorter : (k : ℕ) → Quiet (suc k) s → Quiet k s
+  quiet-shorter : (k : ℕ) → Idle (suc k) s → Idle k s
   quiet-shorter k q =
       record { not-due = λ i l. q .not-due i (omega arith); no-message = λ i j a l. q .no-message i j a (omega arith) }
 
   -- Carrier k of a quiet prefix has heard the answers of all above it.
-  heard-all : Sound M s → (k : ℕ) → Quiet (suc k) s → views s k ≡ map heard (below k (s .answer))
+  heard-all : Sound M s → (k : ℕ) → Idle (suc k) s → views s k ≡ map heard (below k (s .answer))
   unfolding views
   heard-all h k q = below-same k (s .view k) (λ j. heard (s .answer j)) heard-one ∙ below-map heard k (s .answer)
     where
@@ -33,7 +33,7 @@ module _ (M : Machine) (s : State) where
       heard-one j l = view-heard M s h k j l (q .no-message k j l (omega arith)) (q .not-due j (omega arith))
 
   -- Each quiet carrier has answered best against the answers above it, which are the sequential planner's by induction.
-  pub quiet-sequential : Sound M s → (k : ℕ) → Quiet k s → below k (s .answer) ≡ sequential (M .respond) k
+  pub quiet-sequential : Sound M s → (k : ℕ) → Idle k s → below k (s .answer) ≡ sequential (M .respond) k
   unfolding below sequential
   quiet-sequential h zero q = refl
   quiet-sequential h (suc k) q = go (quiet-sequential h k (quiet-shorter k q))
@@ -64,27 +64,31 @@ module _ (M : Machine) (s : State) (k : ℕ) where
         answer = λ m l. rw (deliver-answer s j i);
       }
 
+  -- The taken count does not matter.
+  counted-same : {z : State} → SameBelow k s z → SameBelow k s (counted z)
+  unfolding counted
+  counted-same h = record { due = h .due; chan = h .chan; answer = h .answer }
+
   -- No step of a quiet carrier is open, and a step of a carrier below changes nothing among the first k.
-  step-same : Quiet k s → (x : Step) → isOpen M s x ≡ true → SameBelow k s (afterStep M s x)
-  unfolding afterStep
+  step-same : Idle k s → (x : Step) → isOpen M s x ≡ true → SameBelow k s (afterStep M s x)
+  unfolding afterStep effect
   step-same q (plan i) e =
       ⊎-elim (λ (l : i < k). true-false-absurd (plan-due M s i e) (q .not-due i l))
-      (λ (l : k ≤ i). plan-same i (M .respond i (views s i)) l) (lt-or-le i k)
+      (λ (l : k ≤ i). counted-same (plan-same i (M .respond i (views s i)) l)) (lt-or-le i k)
   step-same q (deliver j i) e =
       ⊎-elim
       (λ (l : i < k). true-false-absurd (nil-empty (s .chan i j) (q .no-message i j (deliver-above M s j i e) l)) (deliver-full M s j i e))
-      (λ (l : k ≤ i). deliver-same j i l) (lt-or-le i k)
-  step-same q noKind e = true-false-absurd e (no-kind-shut M s)
+      (λ (l : k ≤ i). counted-same (deliver-same j i l)) (lt-or-le i k)
 
-  same-quiet : {z : State} → Quiet k s → SameBelow k s z → Quiet k z
+  same-quiet : {z : State} → Idle k s → SameBelow k s z → Idle k z
   same-quiet q h =
       record {
         not-due = λ i l. h .due i l ∙ q .not-due i l;
         no-message = λ i j a l. h .chan i j l ∙ q .no-message i j a l;
       }
 
-pub reaches-quiet : (M : Machine) (k : ℕ) {s z : State} {t : ℕ} → Quiet k s → Reaches M s z t →
-    Quiet k z × ((i : ℕ) → i < k → z .answer i ≡ s .answer i)
+pub reaches-quiet : (M : Machine) (k : ℕ) {s z : State} {t : ℕ} → Idle k s → Reaches M s z t →
+    Idle k z × ((i : ℕ) → i < k → z .answer i ≡ s .answer i)
 reaches-quiet M k q stay = (q, λ i l. refl)
 reaches-quiet M k {s = s} q (next x e p) =
     let h = step-same M s k q x e in

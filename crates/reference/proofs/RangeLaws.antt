@@ -8,7 +8,7 @@ use mathlib.Core.Logic.{⊎-elim}
 use mathlib.Core.Path.{_≡_, refl}
 use borrow.Author.Tests.{eq-eqb, ne-eqb}
 use Rattle.laws.proofs.Tests.{and-both, and-fst, and-snd, true-false-absurd}
-use Rattle.reference.specs.Ranges.{below, each, put, putPair}
+use Rattle.reference.specs.Ranges.{below, each, update, updatePair}
 
 pub each-holds : (k : ℕ) (p : ℕ → Bool) → each k p ≡ true → (i : ℕ) → i < k → p i ≡ true
 unfolding each
@@ -21,6 +21,12 @@ pub each-true : (k : ℕ) (p : ℕ → Bool) → ((i : ℕ) → i < k → p i �
 unfolding each
 each-true zero p h = refl
 each-true (suc k) p h = and-both (each-true k p (λ i l. h i (omega arith))) (h k (omega arith))
+
+-- A test over the first k carriers depends on its values there only.
+pub each-same : (k : ℕ) (p q : ℕ → Bool) → ((i : ℕ) → i < k → p i ≡ q i) → each k p ≡ each k q
+unfolding each
+each-same zero p q h = refl
+each-same (suc k) p q h = rw (each-same k p q (λ i l. h i (omega arith)), h k (omega arith))
 
 -- Where the test does not hold at each place, there is a place where it does not.
 pub each-fails : (k : ℕ) (p : ℕ → Bool) → each k p ≡ false → (i : ℕ) × (i < k) × (p i ≡ false)
@@ -40,27 +46,27 @@ module _ {A : Type 0} where
   below-same zero f g h = refl
   below-same (suc k) f g h = rw (below-same k f g (λ i l. h i (omega arith)), h k (omega arith))
 
-  pub put-same : (f : ℕ → A) (i : ℕ) (a : A) → put f i a i ≡ a
-  unfolding put
-  put-same f i a = rw (eq-eqb i i refl, put)
+  pub update-same : (f : ℕ → A) (i : ℕ) (a : A) → update f i a i ≡ a
+  unfolding update
+  update-same f i a = rw (eq-eqb i i refl, update)
 
-  pub put-other : (f : ℕ → A) (i : ℕ) (a : A) (k : ℕ) → (k ≡ i → ⊥) → put f i a k ≡ f k
-  unfolding put
-  put-other f i a k h = rw (ne-eqb k i h, put)
+  pub update-other : (f : ℕ → A) (i : ℕ) (a : A) (k : ℕ) → (k ≡ i → ⊥) → update f i a k ≡ f k
+  unfolding update
+  update-other f i a k h = rw (ne-eqb k i h, update)
 
-  pub pair-other-row : (f : ℕ → ℕ → A) (i j : ℕ) (a : A) (k : ℕ) → (k ≡ i → ⊥) → putPair f i j a k ≡ f k
-  unfolding putPair put
-  pair-other-row f i j a k h = rw (ne-eqb k i h, put)
+  pub pair-other-row : (f : ℕ → ℕ → A) (i j : ℕ) (a : A) (k : ℕ) → (k ≡ i → ⊥) → updatePair f i j a k ≡ f k
+  unfolding updatePair update
+  pair-other-row f i j a k h = rw (ne-eqb k i h, update)
 
-  pub pair-row : (f : ℕ → ℕ → A) (i j : ℕ) (a : A) → putPair f i j a i ≡ put (f i) j a
-  unfolding putPair put
-  pair-row f i j a = rw (eq-eqb i i refl, put)
+  pub pair-row : (f : ℕ → ℕ → A) (i j : ℕ) (a : A) → updatePair f i j a i ≡ update (f i) j a
+  unfolding updatePair update
+  pair-row f i j a = rw (eq-eqb i i refl, update)
 
-  pub pair-same : (f : ℕ → ℕ → A) (i j : ℕ) (a : A) → putPair f i j a i j ≡ a
-  pair-same f i j a = rw (pair-row f i j a) (put-same (f i) j a)
+  pub pair-same : (f : ℕ → ℕ → A) (i j : ℕ) (a : A) → updatePair f i j a i j ≡ a
+  pair-same f i j a = rw (pair-row f i j a) (update-same (f i) j a)
 
-  pub pair-other : (f : ℕ → ℕ → A) (i j : ℕ) (a : A) (k : ℕ) → (k ≡ j → ⊥) → putPair f i j a i k ≡ f i k
-  pair-other f i j a k h = rw (pair-row f i j a) (put-other (f i) j a k h)
+  pub pair-other : (f : ℕ → ℕ → A) (i j : ℕ) (a : A) (k : ℕ) → (k ≡ j → ⊥) → updatePair f i j a i k ≡ f i k
+  pair-other f i j a k h = rw (pair-row f i j a) (update-other (f i) j a k h)
 
 -- g is f but for a at place i; and but for a at place j of row i.
 pub record PutAt {A : Type 0} (f : ℕ → A) (i : ℕ) (a : A) (g : ℕ → A) : Type 0 where

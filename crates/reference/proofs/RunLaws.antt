@@ -8,8 +8,8 @@ use mathlib.Core.Path.{_≡_, refl, ap}
 use Rattle.reference.specs.State.{Machine, State}
 use Rattle.reference.specs.Step.{Step, isOpen}
 use Rattle.reference.specs.Take.{afterStep}
-use Rattle.reference.specs.Run.{Ran, tookFirst, passedFirst, run}
-use Rattle.reference.specs.History.{Faithful, stepsRead, stepsTaken, afterSteps, Told}
+use Rattle.reference.specs.Run.{RunResult, tookFirst, skippedFirst, run}
+use Rattle.reference.specs.History.{Faithful, stepsRead, stepsTaken, afterSteps, FaithfulRun}
 
 module _ (M : Machine) where
   pub run-took : (s : State) (x : Step) (xs : List Step) (b : ℕ) → isOpen M s x ≡ true →
@@ -17,19 +17,19 @@ module _ (M : Machine) where
   unfolding run
   run-took s x xs b e = rw (e, run)
 
-  pub run-passed : (s : State) (x : Step) (xs : List Step) (b : ℕ) → isOpen M s x ≡ false →
-      run M s (x ∷ xs) (suc b) ≡ passedFirst x (run M s xs (suc b))
+  pub run-skipped : (s : State) (x : Step) (xs : List Step) (b : ℕ) → isOpen M s x ≡ false →
+      run M s (x ∷ xs) (suc b) ≡ skippedFirst x (run M s xs (suc b))
   unfolding run
-  run-passed s x xs b e = rw (e, run)
+  run-skipped s x xs b e = rw (e, run)
 
   -- A property of runs that holds where nothing is read, and that taking or passing over one more step keeps, holds of every run.
-  pub run-induction : (P : State → List Step → ℕ → Ran → Type 0) →
+  pub run-induction : (P : State → List Step → ℕ → RunResult → Type 0) →
       ((s : State) (b : ℕ) → P s [] b (run M s [] b)) →
       ((s : State) (x : Step) (xs : List Step) → P s (x ∷ xs) 0 (run M s (x ∷ xs) 0)) →
-      ((s : State) (x : Step) (xs : List Step) (b : ℕ) (r : Ran) → isOpen M s x ≡ true → P (afterStep M s x) xs b r →
+      ((s : State) (x : Step) (xs : List Step) (b : ℕ) (r : RunResult) → isOpen M s x ≡ true → P (afterStep M s x) xs b r →
       P s (x ∷ xs) (suc b) (tookFirst x r)) →
-      ((s : State) (x : Step) (xs : List Step) (b : ℕ) (r : Ran) → isOpen M s x ≡ false → P s xs (suc b) r →
-      P s (x ∷ xs) (suc b) (passedFirst x r)) →
+      ((s : State) (x : Step) (xs : List Step) (b : ℕ) (r : RunResult) → isOpen M s x ≡ false → P s xs (suc b) r →
+      P s (x ∷ xs) (suc b) (skippedFirst x r)) →
       (s : State) (xs : List Step) (b : ℕ) → P s xs b (run M s xs b)
   run-induction P done stop took passed s [] b = done s b
   run-induction P done stop took passed s (x ∷ xs) zero = stop s x xs
@@ -40,12 +40,12 @@ module _ (M : Machine) where
       split : (t : Bool) → isOpen M s x ≡ t → P (afterStep M s x) xs b (run M (afterStep M s x) xs b) →
           P s xs (suc b) (run M s xs (suc b)) → P s (x ∷ xs) (suc b) (run M s (x ∷ xs) (suc b))
       split true e p q = rw (run-took s x xs b e) (took s x xs b (run M (afterStep M s x) xs b) e p)
-      split false e p q = rw (run-passed s x xs b e) (passed s x xs b (run M s xs (suc b)) e q)
+      split false e p q = rw (run-skipped s x xs b e) (passed s x xs b (run M s xs (suc b)) e q)
 
-  pub run-told : (s : State) (xs : List Step) (b : ℕ) → Told M s xs b (run M s xs b)
-  unfolding run tookFirst passedFirst Faithful stepsRead stepsTaken afterSteps
-  run-told =
-      run-induction (Told M)
+  pub run-faithful : (s : State) (xs : List Step) (b : ℕ) → FaithfulRun M s xs b (run M s xs b)
+  unfolding run tookFirst skippedFirst Faithful stepsRead stepsTaken afterSteps
+  run-faithful =
+      run-induction (FaithfulRun M)
       (λ s b. record { faithful = tt; reads = refl; leads = refl; counts = refl; within = omega arith; stops = inl refl })
       (λ s x xs. record { faithful = tt; reads = refl; leads = refl; counts = refl; within = omega arith; stops = inr refl })
       (λ s x xs b r e p.
@@ -67,6 +67,6 @@ module _ (M : Machine) where
         stops = p .stops;
       })
     where
-      more : (x : Step) (r : Ran) (b : ℕ) → (r .unread ≡ []) ⊎ (r .taken ≡ b) → (r .unread ≡ []) ⊎ (suc (r .taken) ≡ suc b)
+      more : (x : Step) (r : RunResult) (b : ℕ) → (r .unread ≡ []) ⊎ (r .taken ≡ b) → (r .unread ≡ []) ⊎ (suc (r .taken) ≡ suc b)
       more x r b (inl e) = inl e
       more x r b (inr e) = inr (ap suc e)

@@ -1,77 +1,92 @@
--- Laws of the table of refusals: single steps, lists of named steps.
-use Prim.Native.Nat.{ℕ, suc}
+-- Laws of the table of refusals: what is lent, single steps, lists of named steps.
+use Prim.Native.Nat.{ℕ, zero, suc, _+_, _≤_, _<_}
 use native.Mathlib.Omega.{arith}
-use mathlib.Core.Bool.{Bool, true, false}
-use mathlib.Core.List.{List, [], _∷_, _++_}
-use mathlib.Core.Path.{_≡_, refl, sym, _∙_}
-use lib.Dec.{leb}
+use mathlib.Core.Bool.{Bool, true, false, not}
+use mathlib.Core.List.{List, [], _∷_, _++_, map}
+use mathlib.Core.Logic.{_↔_}
+use mathlib.Core.Path.{_≡_, refl, sym, _∙_, ap}
+use borrow.Author.Tests.{le-leb, lt-leb, leb-true}
+use lib.ListN.{length, getD, length-append, List·getD-append}
+use lib.Seq.{getD-append-add}
+use Rattle.laws.specs.Verdict.{Verdict, passed, refused, _then_, demand, passes, All}
+use Rattle.laws.proofs.Tests.{and-both, true-false-absurd}
+use Rattle.laws.proofs.VerdictLaws.{then-passed, then-both, demand-holds, demand-passes, demand-refuses}
+use Rattle.laws.proofs.EachLaws.{each-passed, all-passes}
 use Rattle.reference.specs.State.{Machine, State}
-use Rattle.reference.specs.Step.{Step, named, isOpen}
-use Rattle.reference.specs.Table.{single, CallVerdict, accepted, refusal, ifLent, allNamed, openSingle, verdict}
+use Rattle.reference.specs.Step.{Step, plan, deliver, isThere, hasCapacity, isEmpty, waitsFor, isOpen}
+use Rattle.reference.specs.Table.{Asked, step, noStep, isNamed, stepsOf, single, runOf, lentEnough, allNamed, openSingle, verdict}
+use Rattle.reference.proofs.OpenLaws.{ready-open}
 
-pub not-accepted : (v : CallVerdict) (a p : ℕ) → v ≡ refusal a p → v ≡ accepted → ⊥
-not-accepted v a p e h = let z : _≡_ {A = ℕ} 0 1 = cc in omega arith
+-- A test that refuses with 8, alone and before others that do.
+eights : (b : Bool) → passes (demand b 8 0) ≡ false → demand b 8 0 ≡ refused 8 0
+unfolding demand passes
+eights true f = true-false-absurd refl f
+eights false f = refl
+
+eight : (b : Bool) (v : Verdict) → (passes v ≡ false → v ≡ refused 8 0) → passes (demand b 8 0 then v) ≡ false →
+    (demand b 8 0 then v) ≡ refused 8 0
+unfolding demand _then_
+eight true v h f = h f
+eight false v h f = refl
 
 module _ (M : Machine) where
-  pub single-unnamed : (s : State) (x : Step) → named M x ≡ false → openSingle M s x ≡ refusal 7 0
-  unfolding openSingle
-  single-unnamed s x e = rw (e, openSingle)
+  pub enough-lent : (lent : ℕ) → M .needed ≤ lent → lentEnough M lent ≡ passed
+  unfolding lentEnough
+  enough-lent lent l = demand-passes 9 0 (le-leb (M .needed) lent l)
 
-  pub single-shut : (s : State) (x : Step) → named M x ≡ true → isOpen M s x ≡ false → openSingle M s x ≡ refusal 8 0
-  unfolding openSingle
-  single-shut s x e h = rw (e, h, openSingle)
+  pub lent-enough : (lent : ℕ) → lentEnough M lent ≡ passed → M .needed ≤ lent
+  unfolding lentEnough
+  lent-enough lent e = leb-true (M .needed) lent (demand-holds _ 9 0 e)
 
-  pub single-passes : (s : State) (x : Step) → named M x ≡ true → isOpen M s x ≡ true → openSingle M s x ≡ accepted
-  unfolding openSingle
-  single-passes s x e h = rw (e, h, openSingle)
+  pub short-lent : (lent : ℕ) → lent < M .needed → lentEnough M lent ≡ refused 9 0
+  unfolding lentEnough
+  short-lent lent l = demand-refuses 9 0 (lt-leb (M .needed) lent l)
 
   -- A single step that the table lets through is open.
-  let-through : (s : State) (enough : Bool) (x : Step) → ifLent enough (openSingle M s x) ≡ accepted → isOpen M s x ≡ true
-  unfolding ifLent
-  let-through s true x e = go (named M x) (isOpen M s x) refl refl
-    where
-      go : (p q : Bool) → named M x ≡ p → isOpen M s x ≡ q → isOpen M s x ≡ true
-      go true true a h = h
-      go true false a h = absurd (not-accepted (openSingle M s x) 8 0 (single-shut s x a h) e)
-      go false q a h = absurd (not-accepted (openSingle M s x) 7 0 (single-unnamed s x a) e)
-  let-through s false x e = absurd (not-accepted (refusal 9 0) 9 0 refl e)
+  pub single-open : (s : State) (lent : ℕ) (x : Step) → verdict M s (single lent (step x)) ≡ passed → isOpen M s x ≡ true
+  unfolding verdict openSingle
+  single-open s lent x e =
+      let v = then-both _ _ (then-both _ _ e .1) in
+      ready-open M s x (demand-holds (isThere M x) 7 0 (v .0)) (v .1)
 
-  pub single-open : (s : State) (lent : ℕ) (x : Step) → verdict M s (single lent x) ≡ accepted → isOpen M s x ≡ true
-  unfolding verdict
-  single-open s lent x e = let-through s (leb (M .needed) lent) x e
+  -- A step that is there and not open waits for something: 8, 0.
+  pub shut-waits : (s : State) (x : Step) → isThere M x ≡ true → isOpen M s x ≡ false → waitsFor M s x ≡ refused 8 0
+  unfolding isOpen waitsFor
+  shut-waits s (plan i) t e = eight (s .due i) (demand (hasCapacity M s i) 8 0) (eights (hasCapacity M s i)) (rw t at e)
+  shut-waits s (deliver j i) t e = eights (not (isEmpty (s .chan i j))) (rw t at e)
 
-  pub named-step : (p : ℕ) (x : Step) (xs : List Step) → named M x ≡ true → allNamed M p (x ∷ xs) ≡ allNamed M (suc p) xs
+  -- The list is let through exactly if each of its steps is there.
+  pub named-means : (xs : List Asked) (i : ℕ) → (isNamed M (getD xs i noStep) ≡ true) ↔ (isNamed M (getD xs i noStep) ≡ true)
+  named-means xs i = (λ h. h, λ h. h)
+
+  pub named-each : (xs : List Asked) → allNamed M xs ≡ passed → All (λ i. isNamed M (getD xs i noStep) ≡ true) (length xs)
   unfolding allNamed
-  named-step p x xs e = rw (e, allNamed)
+  named-each xs e = each-passed 7 0 _ _ (named-means xs) (length xs) e
 
-  pub unnamed-step : (p : ℕ) (x : Step) (xs : List Step) → named M x ≡ false → allNamed M p (x ∷ xs) ≡ refusal 7 p
+  pub each-named : (xs : List Asked) → All (λ i. isNamed M (getD xs i noStep) ≡ true) (length xs) → allNamed M xs ≡ passed
   unfolding allNamed
-  unnamed-step p x xs e = rw (e, allNamed)
+  each-named xs h = all-passes 7 0 _ _ (named-means xs) (length xs) h
 
-  -- A list that is accepted has a named first step, and its rest is accepted.
-  named-first : (p : ℕ) (x : Step) (xs : List Step) → allNamed M p (x ∷ xs) ≡ accepted →
-      (named M x ≡ true) × (allNamed M (suc p) xs ≡ accepted)
-  named-first p x xs e = go (named M x) refl
-    where
-      go : (t : Bool) → named M x ≡ t → (named M x ≡ true) × (allNamed M (suc p) xs ≡ accepted)
-      go true h = (h, sym (named-step p x xs h) ∙ e)
-      go false h = absurd (not-accepted (allNamed M p (x ∷ xs)) 7 p (unnamed-step p x xs h) e)
+  pub named-front : (xs ys : List Asked) → allNamed M (xs ++ ys) ≡ passed → allNamed M xs ≡ passed
+  named-front xs ys e =
+      each-named xs
+      (λ i l. rw (List·getD-append xs ys noStep i l) at (named-each (xs ++ ys) e i (omega (arith, length-append xs ys))))
 
-  -- Whether a list is accepted does not depend on where its places begin.
-  named-anywhere : (p q : ℕ) (xs : List Step) → allNamed M p xs ≡ accepted → allNamed M q xs ≡ accepted
-  unfolding allNamed
-  named-anywhere p q [] e = refl
-  named-anywhere p q (x ∷ xs) e =
-      let h = named-first p x xs e in
-      named-step q x xs (h .0) ∙ named-anywhere (suc p) (suc q) xs (h .1)
+  pub named-rest : (xs ys : List Asked) → allNamed M (xs ++ ys) ≡ passed → allNamed M ys ≡ passed
+  named-rest xs ys e =
+      each-named ys
+      (λ i l. rw (getD-append-add xs ys i noStep) at (named-each (xs ++ ys) e (length xs + i) (omega (arith, length-append xs ys))))
 
-  pub named-front : (p : ℕ) (xs ys : List Step) → allNamed M p (xs ++ ys) ≡ accepted → allNamed M p xs ≡ accepted
-  unfolding allNamed
-  named-front p [] ys e = refl
-  named-front p (x ∷ xs) ys e =
-      let h = named-first p x (xs ++ ys) e in
-      named-step p x xs (h .0) ∙ named-front (suc p) xs ys (h .1)
+  -- A list of named steps is the list of its steps.
+  pub all-steps : (xs : List Asked) → All (λ i. isNamed M (getD xs i noStep) ≡ true) (length xs) → map step (stepsOf xs) ≡ xs
+  unfolding stepsOf isNamed
+  all-steps [] h = refl
+  all-steps (step x ∷ xs) h = ap (λ (l : List Asked). step x ∷ l) (all-steps xs (λ i l. h (suc i) (omega arith)))
+  all-steps (noStep ∷ xs) h = true-false-absurd (h 0 (omega arith)) refl
 
-  pub named-rest : (p q : ℕ) (xs ys : List Step) → allNamed M p (xs ++ ys) ≡ accepted → allNamed M q ys ≡ accepted
-  named-rest p q [] ys e = named-anywhere p q ys e
-  named-rest p q (x ∷ xs) ys e = named-rest (suc p) q xs ys (named-first p x (xs ++ ys) e .1)
+-- The steps of two lists.
+pub steps-append : (xs ys : List Asked) → stepsOf (xs ++ ys) ≡ stepsOf xs ++ stepsOf ys
+unfolding stepsOf
+steps-append [] ys = refl
+steps-append (step x ∷ xs) ys = ap (λ (l : List Step). x ∷ l) (steps-append xs ys)
+steps-append (noStep ∷ xs) ys = steps-append xs ys

@@ -21,8 +21,8 @@ unfoldable pub ShownOf : (Answer → Type 0) → View → Type 0
 ShownOf P unheard = Unit {0}
 ShownOf P (heard a) = P a
 
--- P holds of every answer, message and heard view of the state.
-pub record Throughout (P : Answer → Type 0) (s : State) : Type 0 where
-  pub answers : (i : ℕ) → P (s .answer i)
-  pub messages : (i j : ℕ) → AllOf P (s .chan i j)
-  pub seen : (i j : ℕ) → ShownOf P (s .view i j)
+-- P holds of every answer, message and heard view of the first n carriers.
+pub record Throughout (n : ℕ) (P : Answer → Type 0) (s : State) : Type 0 where
+  pub answers : (i : ℕ) → i < n → P (s .answer i)
+  pub messages : (i j : ℕ) → j < i → i < n → AllOf P (s .chan i j)
+  pub seen : (i j : ℕ) → j < i → i < n → ShownOf P (s .view i j)

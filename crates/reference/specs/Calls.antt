@@ -1,37 +1,40 @@
 -- Lists of calls (document 01, 'What demand 3 compares'): the answer to a call, the state after it, and both for a list of calls.
 use Prim.Native.Nat.{ℕ}
 use mathlib.Core.List.{List, [], _∷_}
+use Rattle.laws.specs.Verdict.{Outcome, refusal, _gives_, _thenAnswers_, whenPassed}
 use Rattle.reference.specs.State.{Machine, State}
 use Rattle.reference.specs.Take.{afterStep, StepAnswer, stepAnswer}
 use Rattle.reference.specs.Run.{run}
 use Rattle.reference.specs.Ending.{Ending, ending}
-use Rattle.reference.specs.Table.{Call, single, runOf, accepted, refusal, verdict}
+use Rattle.reference.specs.Table.{step, noStep, Call, single, runOf, stepsOf, lentEnough, verdict}
 
--- The answer to a call: a step's answer, or the number taken by a run and how it ended, or refused with number and place.
-pub data Reply : Type 0 where
-  stepped : StepAnswer → Reply
-  ran : ℕ → Ending → Reply
-  refused : ℕ → ℕ → Reply
+-- What a call that is not refused tells: a step's answer, or the number taken by a run and how it ended.
+pub data Told : Type 0 where
+  stepped : StepAnswer → Told
+  ran : ℕ → Ending → Told
 
--- The answer to a call that is not refused.
-unfoldable pub answerTo : Machine → State → Call → Reply
-answerTo M s (single lent x) = stepped (stepAnswer M s x)
-answerTo M s (runOf lent xs b) = ran (run M s xs b .taken) (ending M b (run M s xs b))
-
--- The state after a call that is not refused.
-unfoldable pub stateAfter : Machine → State → Call → State
-stateAfter M s (single lent x) = afterStep M s x
-stateAfter M s (runOf lent xs b) = run M s xs b .state
+-- The answer to a call: what it tells, or refused with number and place.
+abbrev pub Reply : Type 0
+Reply = Outcome Told
 
 -- The answer to a call: if the table turns it away, that refusal.
 unfoldable pub reply : Machine → State → Call → Reply
-reply M s c = elim (verdict M s c) [ accepted ↦ answerTo M s c | refusal number place ↦ refused number place ]
+reply M s (single lent (step x)) = verdict M s (single lent (step x)) gives stepped (stepAnswer M s x)
+reply M s (single lent noStep) = lentEnough M lent thenAnswers refusal 7 0
+reply M s (runOf lent xs b) =
+    verdict M s (runOf lent xs b) gives ran (run M s (stepsOf xs) b .taken) (ending M b (run M s (stepsOf xs) b))
+
+-- The state after a call that is not turned away.
+unfoldable pub stateAfter : Machine → State → Call → State
+stateAfter M s (single lent (step x)) = afterStep M s x
+stateAfter M s (single lent noStep) = s
+stateAfter M s (runOf lent xs b) = run M s (stepsOf xs) b .state
 
 -- The state after a call: if the table turns it away, nothing changes.
 unfoldable pub afterCall : Machine → State → Call → State
-afterCall M s c = elim (verdict M s c) [ accepted ↦ stateAfter M s c | refusal number place ↦ s ]
+afterCall M s c = whenPassed (verdict M s c) (stateAfter M s c) s
 
--- The answers to a list of calls, in order; the first call gets state s, each later one the state as the call before it left it.
+-- The answers to a list of calls, in order; the first call gets state s, each later one the state xs the call before it left it.
 unfoldable pub replies : Machine → State → List Call → List Reply
 replies M s [] = []
 replies M s (c ∷ cs) = reply M s c ∷ replies M (afterCall M s c) cs

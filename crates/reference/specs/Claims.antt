@@ -1,9 +1,7 @@
 -- What is claimed of the reference machine; `proofs/Theorems.antt` has the proofs.
-use Rattle.reference.specs.Cases.{Cases}
 use Rattle.reference.specs.StepClaims.{StepClaims}
 use Rattle.reference.specs.CallClaims.{CallClaims}
 
 pub record Claims : Type 1 where
   pub steps : StepClaims
   pub calls : CallClaims
-  pub cases : Cases

@@ -1,20 +1,12 @@
--- Silence and the end of a run (document 01, 'The machine').
+-- The end of a run (document 01, 'The machine').
 use Prim.Native.Nat.{ℕ}
-use mathlib.Core.Bool.{Bool, true, false, _&&_, not}
+use mathlib.Core.Bool.{Bool, true, false, _&&_}
 use mathlib.Core.List.{List, [], _∷_}
 use lib.Dec.{eqb}
-use Rattle.reference.specs.Ranges.{each}
-use Rattle.reference.specs.State.{Machine, State}
-use Rattle.reference.specs.Step.{Step, plan, deliver, isOpen}
-use Rattle.reference.specs.Run.{Ran}
-
--- Neither the plan of carrier i nor a delivery to it is open.
-unfoldable pub noneOpenAt : Machine → State → ℕ → Bool
-noneOpenAt M s i = not (isOpen M s (plan i)) && each i (λ j. not (isOpen M s (deliver j i)))
-
--- Silent: no step is open.
-unfoldable pub isSilent : Machine → State → Bool
-isSilent M s = each (M .carriers) (noneOpenAt M s)
+use Rattle.reference.specs.State.{Machine}
+use Rattle.reference.specs.Step.{Step}
+use Rattle.reference.specs.Ranking.{isSilent}
+use Rattle.reference.specs.Run.{RunResult}
 
 -- How a run ends.
 pub data Ending : Type 0 where
@@ -34,5 +26,5 @@ endsAs false true = spent
 endsAs false false = ended
 
 -- The end of a run with budget b: it is used up if taken equals the budget and unread steps are left.
-unfoldable pub ending : Machine → ℕ → Ran → Ending
+unfoldable pub ending : Machine → ℕ → RunResult → Ending
 ending M b r = endsAs (isSilent M (r .state)) (eqb (r .taken) b && anyLeft (r .unread))

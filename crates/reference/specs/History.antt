@@ -8,25 +8,25 @@ use lib.ListN.{length}
 use Rattle.reference.specs.State.{Machine, State}
 use Rattle.reference.specs.Step.{Step, isOpen}
 use Rattle.reference.specs.Take.{afterStep}
-use Rattle.reference.specs.Run.{Event, took, passed, Ran}
+use Rattle.reference.specs.Run.{Event, took, skipped, RunResult}
 
 -- From state s, every taken step was open when it was taken, and no step was open when it was passed over.
 unfoldable pub Faithful : Machine → State → List Event → Type 0
 Faithful M s [] = Unit {0}
 Faithful M s (took x ∷ h) = (isOpen M s x ≡ true) × Faithful M (afterStep M s x) h
-Faithful M s (passed x ∷ h) = (isOpen M s x ≡ false) × Faithful M s h
+Faithful M s (skipped x ∷ h) = (isOpen M s x ≡ false) × Faithful M s h
 
 -- The steps read, in order.
 unfoldable pub stepsRead : List Event → List Step
 stepsRead [] = []
 stepsRead (took x ∷ h) = x ∷ stepsRead h
-stepsRead (passed x ∷ h) = x ∷ stepsRead h
+stepsRead (skipped x ∷ h) = x ∷ stepsRead h
 
 -- The steps taken, in order.
 unfoldable pub stepsTaken : List Event → List Step
 stepsTaken [] = []
 stepsTaken (took x ∷ h) = x ∷ stepsTaken h
-stepsTaken (passed x ∷ h) = stepsTaken h
+stepsTaken (skipped x ∷ h) = stepsTaken h
 
 -- The state after the steps of a list, each taken.
 unfoldable pub afterSteps : Machine → State → List Step → State
@@ -41,7 +41,7 @@ pub data Reaches (M : Machine) : State → State → ℕ → Type 0 where
 -- What the history of a run r of the steps xs with budget b says: it is faithful; it reads the list from the front; the state is
 -- the one after its taken steps; the number taken is how many they are, at most the budget; it stops at the list's end or with
 -- the budget used up.
-pub record Told (M : Machine) (s : State) (xs : List Step) (b : ℕ) (r : Ran) : Type 0 where
+pub record FaithfulRun (M : Machine) (s : State) (xs : List Step) (b : ℕ) (r : RunResult) : Type 0 where
   pub faithful : Faithful M s (r .history)
   pub reads : stepsRead (r .history) ++ r .unread ≡ xs
   pub leads : r .state ≡ afterSteps M s (stepsTaken (r .history))
@@ -50,7 +50,7 @@ pub record Told (M : Machine) (s : State) (xs : List Step) (b : ℕ) (r : Ran) :
   pub stops : (r .unread ≡ []) ⊎ (r .taken ≡ b)
 
 -- Run r is run p and then run q.
-pub record Joined (r p q : Ran) : Type 0 where
+pub record Joined (r p q : RunResult) : Type 0 where
   pub state : r .state ≡ q .state
   pub history : r .history ≡ p .history ++ q .history
   pub taken : r .taken ≡ p .taken + q .taken

@@ -1,7 +1,8 @@
--- In reading order: the state, the steps and what they do, the run and its history, the calls, quiet prefixes, the cases, the claims.
+-- In reading order: the state, the steps, their ranking and what they do, the run and its history, the calls, quiet prefixes, the claims.
 pub mod Ranges
 pub mod State
 pub mod Step
+pub mod Ranking
 pub mod Take
 pub mod Effects
 pub mod Run
@@ -12,8 +13,6 @@ pub mod Refused
 pub mod Calls
 pub mod Quiet
 pub mod Bounds
-pub mod Floors
-pub mod Cases
 pub mod StepClaims
 pub mod CallClaims
 pub mod Claims

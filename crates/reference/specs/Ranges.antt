@@ -9,15 +9,20 @@ unfoldable pub below : {A : Type 0} → ℕ → (ℕ → A) → List A
 below zero f = []
 below (suc k) f = below k f ++ (f k ∷ [])
 
+-- The lists f 0 to f (k − 1), one behind the other.
+unfoldable pub joined : {A : Type 0} → ℕ → (ℕ → List A) → List A
+joined zero f = []
+joined (suc k) f = joined k f ++ f k
+
 -- The test holds at 0 to k − 1.
 unfoldable pub each : ℕ → (ℕ → Bool) → Bool
 each zero p = true
 each (suc k) p = each k p && p k
 
 -- f with the value a at i.
-unfoldable pub put : {A : Type 0} → (ℕ → A) → ℕ → A → ℕ → A
-put f i a k = elim (eqb k i) [ true ↦ a | false ↦ f k ]
+unfoldable pub update : {A : Type 0} → (ℕ → A) → ℕ → A → ℕ → A
+update f i a k = elim (eqb k i) [ true ↦ a | false ↦ f k ]
 
 -- f with the value a at receiver i and sender j.
-unfoldable pub putPair : {A : Type 0} → (ℕ → ℕ → A) → ℕ → ℕ → A → ℕ → ℕ → A
-putPair f i j a = put f i (put (f i) j a)
+unfoldable pub updatePair : {A : Type 0} → (ℕ → ℕ → A) → ℕ → ℕ → A → ℕ → ℕ → A
+updatePair f i j a = update f i (update (f i) j a)

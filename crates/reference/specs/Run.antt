@@ -10,26 +10,26 @@ use Rattle.reference.specs.Take.{afterStep}
 -- What a run did with a step that it read.
 pub data Event : Type 0 where
   took : Step → Event
-  passed : Step → Event
+  skipped : Step → Event
 
 -- What a run comes to: the state after it, its history, the number taken, the steps that were not read.
-pub record Ran : Type 0 where
+pub record RunResult : Type 0 where
   pub state : State
   pub history : List Event
   pub taken : ℕ
   pub unread : List Step
 
 -- Run r with one more step taken at its front.
-unfoldable pub tookFirst : Step → Ran → Ran
+unfoldable pub tookFirst : Step → RunResult → RunResult
 tookFirst x r = record { state = r .state; history = took x ∷ r .history; taken = suc (r .taken); unread = r .unread }
 
 -- Run r with one more step passed over at its front.
-unfoldable pub passedFirst : Step → Ran → Ran
-passedFirst x r = record { state = r .state; history = passed x ∷ r .history; taken = r .taken; unread = r .unread }
+unfoldable pub skippedFirst : Step → RunResult → RunResult
+skippedFirst x r = record { state = r .state; history = skipped x ∷ r .history; taken = r .taken; unread = r .unread }
 
 -- The run of a list with a budget; the number taken counts the budget down.
-unfoldable pub run : Machine → State → List Step → ℕ → Ran
+unfoldable pub run : Machine → State → List Step → ℕ → RunResult
 run M s [] b = record { state = s; history = []; taken = 0; unread = [] }
 run M s (x ∷ xs) zero = record { state = s; history = []; taken = 0; unread = x ∷ xs }
 run M s (x ∷ xs) (suc b) =
-    elim (isOpen M s x) [ true ↦ tookFirst x (run M (afterStep M s x) xs b) | false ↦ passedFirst x (run M s xs (suc b)) ]
+    elim (isOpen M s x) [ true ↦ tookFirst x (run M (afterStep M s x) xs b) | false ↦ skippedFirst x (run M s xs (suc b)) ]

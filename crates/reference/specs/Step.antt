@@ -1,43 +1,41 @@
--- The steps (document 01, 'The machine'): which are there and which are open; and when two answers are the same.
+-- The steps (document 01, 'The machine'): which are there, what a step waits for, which are open; and when two answers are the same.
 use Prim.Native.Nat.{ℕ}
 use mathlib.Core.Bool.{Bool, true, false, _&&_, _||_, not}
 use mathlib.Core.List.{List, [], _∷_}
 use lib.Dec.{leb, ltb, eqb}
 use lib.ListN.{length}
+use Rattle.laws.specs.Verdict.{Verdict, _then_, demand, passes}
 use Rattle.route.specs.Route.{Answer, none, route}
 use Rattle.reference.specs.Ranges.{each}
 use Rattle.reference.specs.State.{Machine, State}
 
--- A step as it is asked for: plan i; deliver j to i; or something that names no kind of step.
+-- A step: plan i; deliver j to i.
 pub data Step : Type 0 where
   plan : ℕ → Step
   deliver : ℕ → ℕ → Step
-  noKind : Step
 
--- The step names a kind of step and carriers that are there, the sender above the receiver.
-unfoldable pub named : Machine → Step → Bool
-named M (plan i) = ltb i (M .carriers)
-named M (deliver j i) = ltb j i && ltb i (M .carriers)
-named M noKind = false
+-- The step is there: its carriers are, the sender above the receiver.
+unfoldable pub isThere : Machine → Step → Bool
+isThere M (plan i) = ltb i (M .carriers)
+isThere M (deliver j i) = ltb j i && ltb i (M .carriers)
 
 -- Every channel from i, to a carrier below it, has fewer than depth messages.
-unfoldable pub hasRoom : Machine → State → ℕ → Bool
-hasRoom M s i = each (M .carriers) (λ k. leb k i || ltb (length (s .chan k i)) (M .depth))
+unfoldable pub hasCapacity : Machine → State → ℕ → Bool
+hasCapacity M s i = each (M .carriers) (λ k. leb k i || ltb (length (s .chan k i)) (M .depth))
 
 -- The list is empty.
 unfoldable pub isEmpty : List Answer → Bool
 isEmpty [] = true
 isEmpty (a ∷ rest) = false
 
--- Plan i: i is due and every channel from i has room. Deliver j to i: the channel has a message.
-unfoldable pub ready : Machine → State → Step → Bool
-ready M s (plan i) = s .due i && hasRoom M s i
-ready M s (deliver j i) = not (isEmpty (s .chan i j))
-ready M s noKind = false
+-- What a step waits for, test by test. Plan i: that i is due and every channel from i has room. Deliver j to i: a message there.
+unfoldable pub waitsFor : Machine → State → Step → Verdict
+waitsFor M s (plan i) = demand (s .due i) 8 0 then demand (hasCapacity M s i) 8 0
+waitsFor M s (deliver j i) = demand (not (isEmpty (s .chan i j))) 8 0
 
--- The step is open: it is there, and ready.
+-- The step is open: it is there, and waits for nothing.
 unfoldable pub isOpen : Machine → State → Step → Bool
-isOpen M s x = named M x && ready M s x
+isOpen M s x = isThere M x && passes (waitsFor M s x)
 
 -- Two lists of cells are the same.
 unfoldable pub sameCells : List ℕ → List ℕ → Bool

@@ -9,10 +9,11 @@ use Rattle.reference.specs.State.{Machine, State, fresh}
 use Rattle.reference.specs.Step.{Step, plan, deliver, isOpen}
 use Rattle.reference.specs.Take.{afterStep}
 use Rattle.reference.specs.Effects.{Planned, Delivered}
-use Rattle.reference.specs.Run.{Ran, run}
-use Rattle.reference.specs.Ending.{isSilent, silent, spent, ending}
-use Rattle.reference.specs.History.{Told, Joined}
-use Rattle.reference.specs.Quiet.{quiet}
+use Rattle.reference.specs.Run.{RunResult, run}
+use Rattle.reference.specs.Ranking.{isSilent}
+use Rattle.reference.specs.Ending.{silent, spent, ending}
+use Rattle.reference.specs.History.{FaithfulRun, Joined}
+use Rattle.reference.specs.Quiet.{idle}
 
 pub record StepClaims : Type 0 where
   -- The steps do what document 01 says, and nothing else changes.
@@ -21,18 +22,18 @@ pub record StepClaims : Type 0 where
   -- Silent is said exactly if no step is open.
   pub silent-exactly : (M : Machine) (s : State) → (isSilent M s ≡ true) ↔ ((x : Step) → isOpen M s x ≡ false)
   -- Some step is open, or nobody is due and nothing is under way.
-  pub open-or-quiet : (M : Machine) (s : State) → 1 ≤ M .depth →
-      ((x : Step) × (isOpen M s x ≡ true)) ⊎ (quiet (M .carriers) s ≡ true)
+  pub progress : (M : Machine) (s : State) → 1 ≤ M .depth →
+      ((x : Step) × (isOpen M s x ≡ true)) ⊎ (idle (M .carriers) s ≡ true)
   -- The machine is silent exactly if nobody is due and nothing is under way.
-  pub silent-quiet : (M : Machine) (s : State) → 1 ≤ M .depth → isSilent M s ≡ quiet (M .carriers) s
+  pub silent-idle : (M : Machine) (s : State) → 1 ≤ M .depth → isSilent M s ≡ idle (M .carriers) s
   -- A fresh state is not silent.
   pub fresh-not-silent : (M : Machine) → 1 ≤ M .carriers → 1 ≤ M .depth → isSilent M fresh ≡ false
   -- Every step that a run took was open, no open step was passed over, and the number taken is the length of its history of taken
   -- steps, never above the budget.
-  pub run-told : (M : Machine) (s : State) (xs : List Step) (b : ℕ) → Told M s xs b (run M s xs b)
+  pub run-faithful : (M : Machine) (s : State) (xs : List Step) (b : ℕ) → FaithfulRun M s xs b (run M s xs b)
   -- A run ends silent exactly if no step is open then, and spent exactly if one is, taken equals the budget and unread steps are left.
-  pub ending-silent : (M : Machine) (b : ℕ) (r : Ran) → (ending M b r ≡ silent) ↔ (isSilent M (r .state) ≡ true)
-  pub ending-spent : (M : Machine) (b : ℕ) (r : Ran) →
+  pub ending-silent : (M : Machine) (b : ℕ) (r : RunResult) → (ending M b r ≡ silent) ↔ (isSilent M (r .state) ≡ true)
+  pub ending-spent : (M : Machine) (b : ℕ) (r : RunResult) →
       (ending M b r ≡ spent) ↔ ((isSilent M (r .state) ≡ false) × (r .taken ≡ b) × (r .unread ≡ [] → ⊥))
   -- A run cut in two is the run of the first part and then the run of the rest with what is left of the budget.
   pub run-cut : (M : Machine) (s : State) (xs ys : List Step) (b : ℕ) →

@@ -1,12 +1,12 @@
--- What an open step does and answers (document 01, 'The machine').
+-- What an open step does and answers, and that it is counted (document 01, 'The machine').
 use Prim.Native.Nat.{ℕ}
 use mathlib.Core.Bool.{Bool, true, false, _&&_, not}
 use mathlib.Core.List.{List, [], _∷_, _++_}
 use lib.Dec.{ltb, eqb}
 use Rattle.route.specs.Route.{Answer, View, heard}
-use Rattle.reference.specs.Ranges.{put, putPair}
+use Rattle.reference.specs.Ranges.{update, updatePair}
 use Rattle.reference.specs.State.{Machine, State, views, tick}
-use Rattle.reference.specs.Step.{Step, plan, deliver, noKind, sameAnswer}
+use Rattle.reference.specs.Step.{Step, plan, deliver, sameAnswer}
 
 -- Answer a of carrier i is news: i had not planned before, or its answer changed.
 unfoldable pub isNews : State → ℕ → Answer → Bool
@@ -20,12 +20,12 @@ send chan i a k j = elim (eqb j i && ltb i k) [ true ↦ chan k j ++ (a ∷ []) 
 unfoldable pub planAs : State → ℕ → Answer → State
 planAs s i a =
     record {
-      planned = put (s .planned) i true;
-      due = put (s .due) i false;
-      answer = put (s .answer) i a;
+      planned = update (s .planned) i true;
+      due = update (s .due) i false;
+      answer = update (s .answer) i a;
       view = s .view;
       chan = elim (isNews s i a) [ true ↦ send (s .chan) i a | false ↦ s .chan ];
-      taken = tick (s .taken);
+      taken = s .taken;
     }
 
 -- The view v after the oldest message of a channel.
@@ -43,18 +43,33 @@ unfoldable pub deliverTo : State → ℕ → ℕ → State
 deliverTo s j i =
     record {
       planned = s .planned;
-      due = put (s .due) i true;
+      due = update (s .due) i true;
       answer = s .answer;
-      view = putPair (s .view) i j (oldest (s .view i j) (s .chan i j));
-      chan = putPair (s .chan) i j (newer (s .chan i j));
+      view = updatePair (s .view) i j (oldest (s .view i j) (s .chan i j));
+      chan = updatePair (s .chan) i j (newer (s .chan i j));
+      taken = s .taken;
+    }
+
+-- What an open step does: a plan sets the best answer to the views.
+unfoldable pub effect : Machine → State → Step → State
+effect M s (plan i) = planAs s i (M .respond i (views s i))
+effect M s (deliver j i) = deliverTo s j i
+
+-- The state with one more step counted.
+unfoldable pub counted : State → State
+counted s =
+    record {
+      planned = s .planned;
+      due = s .due;
+      answer = s .answer;
+      view = s .view;
+      chan = s .chan;
       taken = tick (s .taken);
     }
 
--- The state after an open step: a plan sets the best answer to the views. What names no kind of step is never open.
+-- The state after an open step: its effect, and the step counted.
 unfoldable pub afterStep : Machine → State → Step → State
-afterStep M s (plan i) = planAs s i (M .respond i (views s i))
-afterStep M s (deliver j i) = deliverTo s j i
-afterStep M s noKind = s
+afterStep M s x = counted (effect M s x)
 
 -- The answers of an open step: planned and kept, planned and sent, delivered.
 pub data StepAnswer : Type 0 where
@@ -66,4 +81,3 @@ pub data StepAnswer : Type 0 where
 unfoldable pub stepAnswer : Machine → State → Step → StepAnswer
 stepAnswer M s (plan i) = elim (isNews s i (M .respond i (views s i))) [ true ↦ sent | false ↦ kept ]
 stepAnswer M s (deliver j i) = delivered
-stepAnswer M s noKind = delivered
