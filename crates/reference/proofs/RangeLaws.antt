@@ -69,19 +69,19 @@ module _ {A : Type 0} where
   pair-other f i j a k h = rw (pair-row f i j a) (update-other (f i) j a k h)
 
 -- g is f but for a at place i; and but for a at place j of row i.
-pub record PutAt {A : Type 0} (f : ℕ → A) (i : ℕ) (a : A) (g : ℕ → A) : Type 0 where
+pub record UpdatedAt {A : Type 0} (f : ℕ → A) (i : ℕ) (a : A) (g : ℕ → A) : Type 0 where
   pub there : g i ≡ a
   pub elsewhere : (k : ℕ) → (k ≡ i → ⊥) → g k ≡ f k
 
-pub put-at : {A : Type 0} (f : ℕ → A) (i : ℕ) (a : A) → PutAt f i a (put f i a)
-put-at f i a = record { there = put-same f i a; elsewhere = put-other f i a }
+pub update-at : {A : Type 0} (f : ℕ → A) (i : ℕ) (a : A) → UpdatedAt f i a (update f i a)
+update-at f i a = record { there = update-same f i a; elsewhere = update-other f i a }
 
 pub record PairAt {A : Type 0} (f : ℕ → ℕ → A) (i j : ℕ) (a : A) (g : ℕ → ℕ → A) : Type 0 where
   pub there : g i j ≡ a
   pub beside : (k : ℕ) → (k ≡ j → ⊥) → g i k ≡ f i k
   pub elsewhere : (k : ℕ) → (k ≡ i → ⊥) → g k ≡ f k
 
-pub pair-at : {A : Type 0} (f : ℕ → ℕ → A) (i j : ℕ) (a : A) → PairAt f i j a (putPair f i j a)
+pub pair-at : {A : Type 0} (f : ℕ → ℕ → A) (i j : ℕ) (a : A) → PairAt f i j a (updatePair f i j a)
 pair-at f i j a = record { there = pair-same f i j a; beside = pair-other f i j a; elsewhere = pair-other-row f i j a }
 
 pub below-map : {A B : Type 0} (g : A → B) (k : ℕ) (f : ℕ → A) → below k (λ i. g (f i)) ≡ map g (below k f)

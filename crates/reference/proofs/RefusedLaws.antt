@@ -1,21 +1,21 @@
 -- The table of refusals says of a call exactly what its rows say.
 use Prim.Native.Nat.{ℕ, _≤_, _<_}
 use native.Mathlib.Nat.{zero-add}
-use mathlib.Core.Bool.{Bool, true, false}
+use mathlib.Core.Bool.{false}
 use mathlib.Core.List.{List}
-use mathlib.Core.Logic.{_↔_, _⊎_, inl, inr, ⊎-elim}
+use mathlib.Core.Logic.{_↔_}
 use mathlib.Core.Path.{_≡_, refl, ap, sym, _∙_}
-use lib.ListN.{length, getD}
+use lib.ListN.{length}
 use borrow.Author.Tests.{leb-false}
-use Rattle.laws.specs.Verdict.{passed, refused, _then_, demand}
-use Rattle.laws.proofs.Tests.{not-true-is-false, true-false-absurd}
-use Rattle.laws.proofs.VerdictLaws.{refused-same, then-passed, then-refused, then-cases, demand-cases, demand-passes, demand-refuses}
+use Rattle.laws.specs.Verdict.{passed, refused, demand}
+use Rattle.laws.proofs.Tests.{not-true-is-false}
+use Rattle.laws.proofs.VerdictLaws.{refused-same, refused-by, then-passed, then-refused, demand-cases, demand-passes, demand-refuses}
 use Rattle.laws.proofs.VerdictLaws.{demand-holds, refused-not-passed}
-use Rattle.laws.proofs.EachLaws.{Stopped, each-refused, first-refuses}
+use Rattle.laws.proofs.EachLaws.{each-refused, first-refuses}
 use Rattle.reference.specs.State.{Machine, State}
-use Rattle.reference.specs.Step.{Step, isThere, waitsFor, isOpen}
+use Rattle.reference.specs.Step.{isThere, waitsFor, isOpen}
 use Rattle.reference.specs.Table.{Asked, step, noStep, isNamed, Call, single, runOf, lentEnough, allNamed, openSingle, verdict}
-use Rattle.reference.specs.Refused.{FirstUnnamed, RefusedWith, short-single, short-run, unnamed-single, unnamed-run, not-open}
+use Rattle.reference.specs.Refused.{RefusedWith, short-single, short-run, unnamed-single, unnamed-run, not-open}
 use Rattle.reference.proofs.OpenLaws.{open-ready}
 use Rattle.reference.proofs.TableLaws.{enough-lent, lent-enough, short-lent, shut-waits, named-means}
 
@@ -44,36 +44,34 @@ module _ (M : Machine) (s : State) where
   single-row : (lent : ℕ) (c : Asked) (a p : ℕ) → M .needed ≤ lent → openSingle M s c ≡ refused a p → RefusedWith M s (single lent c) a p
   unfolding openSingle isNamed
   single-row lent noStep a p l e = let q = refused-same e in rw (← q .0, ← q .1) (unnamed-single l refl)
-  single-row lent (step x) a p l e = ⊎-elim absent waiting (then-cases _ _ a p e)
+  single-row lent (step x) a p l e = refused-by e absent waiting
     where
       absent : demand (isThere M x) 7 0 ≡ refused a p → RefusedWith M s (single lent (step x)) a p
       absent h = let d = demand-cases (isThere M x) 7 0 a p h in rw (d .1, d .2) (unnamed-single l (d .0))
 
-      waiting : (demand (isThere M x) 7 0 ≡ passed) × (waitsFor M s x ≡ refused a p) → RefusedWith M s (single lent (step x)) a p
-      waiting h =
-          let there = demand-holds (isThere M x) 7 0 (h .0) in
-          let shut = not-true-is-false (isOpen M s x) (λ o. refused-not-passed (sym (h .1) ∙ open-ready M s x o)) in
-          let q = refused-same (sym (shut-waits M s x there shut) ∙ h .1) in
+      waiting : demand (isThere M x) 7 0 ≡ passed → waitsFor M s x ≡ refused a p → RefusedWith M s (single lent (step x)) a p
+      waiting h g =
+          let there = demand-holds (isThere M x) 7 0 h in
+          let shut = not-true-is-false (isOpen M s x) (λ o. refused-not-passed (sym g ∙ open-ready M s x o)) in
+          let q = refused-same (sym (shut-waits M s x there shut) ∙ g) in
           rw (← q .0, ← q .1) (not-open l there shut)
 
   run-row : (lent : ℕ) (xs : List Asked) (b a p : ℕ) → M .needed ≤ lent → allNamed M xs ≡ refused a p → RefusedWith M s (runOf lent xs b) a p
   unfolding allNamed
   run-row lent xs b a p l e =
-      let f = each-refused 7 0 _ _ (named-means M xs) (length xs) a p e in
-      rw (f .number, f .place ∙ zero-add (f .item)) (unnamed-run l (f .first))
+      each-refused 7 0 _ _ (named-means M xs) (RefusedWith M s (runOf lent xs b)) (length xs) a p e
+      (λ i f. rw zero-add (unnamed-run l f))
 
   refused-row : (c : Call) (a p : ℕ) → verdict M s c ≡ refused a p → RefusedWith M s c a p
   unfolding verdict
   refused-row (single lent c) a p e =
-      ⊎-elim
-      (λ (h : lentEnough M lent ≡ refused a p). let r = lent-row lent a p h in rw (r .1, r .2) (short-single (r .0)))
-      (λ (h : (lentEnough M lent ≡ passed) × (openSingle M s c ≡ refused a p)). single-row lent c a p (lent-enough M lent (h .0)) (h .1))
-      (then-cases _ _ a p e)
+      refused-by e
+      (λ h. let r = lent-row lent a p h in rw (r .1, r .2) (short-single (r .0)))
+      (λ h g. single-row lent c a p (lent-enough M lent h) g)
   refused-row (runOf lent xs b) a p e =
-      ⊎-elim
-      (λ (h : lentEnough M lent ≡ refused a p). let r = lent-row lent a p h in rw (r .1, r .2) (short-run (r .0)))
-      (λ (h : (lentEnough M lent ≡ passed) × (allNamed M xs ≡ refused a p)). run-row lent xs b a p (lent-enough M lent (h .0)) (h .1))
-      (then-cases _ _ a p e)
+      refused-by e
+      (λ h. let r = lent-row lent a p h in rw (r .1, r .2) (short-run (r .0)))
+      (λ h g. run-row lent xs b a p (lent-enough M lent h) g)
 
   pub refuses-exactly : (c : Call) (a p : ℕ) → (verdict M s c ≡ refused a p) ↔ RefusedWith M s c a p
   refuses-exactly c a p = (refused-row c a p, λ r. row-refuses r)

@@ -10,7 +10,7 @@ use Rattle.laws.proofs.Tests.{and-both, and-fst, and-snd, true-false-absurd}
 use Rattle.reference.specs.State.{State}
 use Rattle.reference.specs.Step.{sameCells, sameAnswer}
 use Rattle.reference.specs.Take.{isNews, send, planAs, oldest, newer, deliverTo}
-use Rattle.reference.proofs.RangeLaws.{PutAt, put-at, PairAt, pair-at}
+use Rattle.reference.proofs.RangeLaws.{UpdatedAt, update-at, PairAt, pair-at}
 
 pub same-cells : (q r : List ℕ) → sameCells q r ≡ true → q ≡ r
 unfolding sameCells
@@ -74,17 +74,17 @@ module _ (s : State) (i : ℕ) (a : Answer) where
       go false u e f = rw (plan-keeps e)
 
   -- Carrier i has planned, is no longer due and has this answer; the others are as they were.
-  pub plan-planned : PutAt (s .planned) i true (planAs s i a .planned)
+  pub plan-planned : UpdatedAt (s .planned) i true (planAs s i a .planned)
   unfolding planAs
-  plan-planned = put-at (s .planned) i true
+  plan-planned = update-at (s .planned) i true
 
-  pub plan-clears : PutAt (s .due) i false (planAs s i a .due)
+  pub plan-clears : UpdatedAt (s .due) i false (planAs s i a .due)
   unfolding planAs
-  plan-clears = put-at (s .due) i false
+  plan-clears = update-at (s .due) i false
 
-  pub plan-answer : PutAt (s .answer) i a (planAs s i a .answer)
+  pub plan-answer : UpdatedAt (s .answer) i a (planAs s i a .answer)
   unfolding planAs
-  plan-answer = put-at (s .answer) i a
+  plan-answer = update-at (s .answer) i a
 
   -- A plan changes no view.
   pub plan-view : planAs s i a .view ≡ s .view
@@ -93,9 +93,9 @@ module _ (s : State) (i : ℕ) (a : Answer) where
 
 -- A delivery changes one channel and one view, and makes its receiver due.
 module _ (s : State) (j i : ℕ) where
-  pub deliver-due : PutAt (s .due) i true (deliverTo s j i .due)
+  pub deliver-due : UpdatedAt (s .due) i true (deliverTo s j i .due)
   unfolding deliverTo
-  deliver-due = put-at (s .due) i true
+  deliver-due = update-at (s .due) i true
 
   pub deliver-planned : deliverTo s j i .planned ≡ s .planned
   unfolding deliverTo
