@@ -9,26 +9,27 @@ use lib.ListN.{length, take, replicate}
 use Rattle.floor.specs.declared.Floor.{Floor}
 use Rattle.reference.specs.State.{State, fresh}
 use Rattle.reference.specs.Step.{plan, deliver}
+use Rattle.reference.specs.Table.{step}
 use Rattle.layout.specs.Places.{stateSize}
 use Rattle.layout.specs.Encode.{encode}
 use Rattle.layout.specs.Decode.{decode}
 use Rattle.layout.specs.Valid.{valid}
-use Rattle.layout.specs.Fits.{Fits}
+use Rattle.layout.specs.Ranges.{WithinRanges}
 use Rattle.layout.specs.Alike.{Alike}
-use Rattle.layout.specs.Numbers.{stepOf}
+use Rattle.layout.specs.Numbers.{askedBy}
 
 pub record Claims : Type 0 where
   -- Refusal 10: a memory is valid exactly if its front is the encoding of a state within the ranges.
   pub valid-exactly : (f : Floor) (m : List ℕ) → f .depth ≤ 4 → f .horizon ≤ 63 → stateSize (f .carriers) ≤ length m →
-      (valid f m ≡ true) ↔ ((s : State) × (Fits f s) × (take (stateSize (f .carriers)) m ≡ encode (f .carriers) s))
+      (valid f m ≡ true) ↔ ((s : State) × (WithinRanges f s) × (take (stateSize (f .carriers)) m ≡ encode (f .carriers) s))
   -- A valid memory is the encoding of the state that it shows, and that state is within the ranges.
   pub decode-valid : (f : Floor) (m : List ℕ) → f .depth ≤ 4 → f .horizon ≤ 63 → stateSize (f .carriers) ≤ length m → valid f m ≡ true →
-      Fits f (decode (f .carriers) m) × (encode (f .carriers) (decode (f .carriers) m) ≡ take (stateSize (f .carriers)) m)
+      WithinRanges f (decode (f .carriers) m) × (encode (f .carriers) (decode (f .carriers) m) ≡ take (stateSize (f .carriers)) m)
   -- The memory of a state within the ranges shows that state in every part.
-  pub encode-shows : (f : Floor) (s : State) (rest : List ℕ) → f .depth ≤ 4 → Fits f s →
+  pub encode-shows : (f : Floor) (s : State) (rest : List ℕ) → f .depth ≤ 4 → WithinRanges f s →
       Alike (f .carriers) (decode (f .carriers) (encode (f .carriers) s ++ rest)) s
   -- Two such states have one memory exactly if they are the same in every part.
-  pub encode-exactly : (f : Floor) (s z : State) → f .depth ≤ 4 → Fits f s → Fits f z →
+  pub encode-exactly : (f : Floor) (s z : State) → f .depth ≤ 4 → WithinRanges f s → WithinRanges f z →
       (encode (f .carriers) s ≡ encode (f .carriers) z) ↔ Alike (f .carriers) s z
   -- A fresh state is valid; a memory of zeros is no state, since no answer has tag 0.
   pub fresh-valid : (f : Floor) (rest : List ℕ) → f .depth ≤ 4 → f .horizon ≤ 63 → valid f (encode (f .carriers) fresh ++ rest) ≡ true
@@ -39,6 +40,6 @@ pub record Claims : Type 0 where
   pub size-small : (f : Floor) → f .carriers ≤ 8 → 2 * stateSize (f .carriers) ≤ 65536
   pub size-most : stateSize 8 ≡ 9666
   -- The numbers of the plans are 101 to 109, and no others.
-  pub plan-number : (x i : ℕ) → (stepOf x ≡ plan i) ↔ ((i < 9) × (x ≡ 101 + i))
+  pub plan-number : (x i : ℕ) → (askedBy x ≡ step (plan i)) ↔ ((i < 9) × (x ≡ 101 + i))
   -- The numbers of the deliveries are those with digits 2, sender, receiver, both counted from 1, and no others.
-  pub deliver-number : (x j i : ℕ) → (stepOf x ≡ deliver j i) ↔ ((j < 9) × (i < 9) × (x ≡ 200 + 10 * (j + 1) + (i + 1)))
+  pub deliver-number : (x j i : ℕ) → (askedBy x ≡ step (deliver j i)) ↔ ((j < 9) × (i < 9) × (x ≡ 200 + 10 * (j + 1) + (i + 1)))

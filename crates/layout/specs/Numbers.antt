@@ -4,13 +4,14 @@ use Prim.Native.Nat.{ℕ, _-_, _/_, _%_}
 use mathlib.Core.Bool.{cond}
 use lib.Dec.{leb}
 use Rattle.floor.specs.Checks.{within}
-use Rattle.reference.specs.Step.{Step, plan, deliver, noKind}
+use Rattle.reference.specs.Step.{plan, deliver}
+use Rattle.reference.specs.Table.{Asked, step, noStep}
 
 -- A delivery from carrier j to carrier i, counted from 1; there is no carrier 0.
-unfoldable pub way : ℕ → ℕ → Step
-way j i = cond (leb 1 i) (deliver (j - 1) (i - 1)) noKind
+unfoldable pub deliveryOf : ℕ → ℕ → Asked
+deliveryOf j i = cond (leb 1 i) (step (deliver (j - 1) (i - 1))) noStep
 
--- The step that a number names.
-unfoldable pub stepOf : ℕ → Step
-stepOf x =
-    cond (within 101 109 x) (plan (x - 101)) (cond (within 210 299 x) (way ((x - 200) / 10) (x % 10)) noKind)
+-- The step that a number names, or that it names none.
+unfoldable pub askedBy : ℕ → Asked
+askedBy x =
+    cond (within 101 109 x) (step (plan (x - 101))) (cond (within 210 299 x) (deliveryOf ((x - 200) / 10) (x % 10)) noStep)

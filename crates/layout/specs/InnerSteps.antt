@@ -1,41 +1,50 @@
--- What the steps do to memory, number for number, for the reference machine M that the memory is a state of.
+-- Inner matter: nothing claimed rests on this. What the steps do to memory, number for number, for the reference machine M that the
+-- memory is a state of: the code's way to the reference machine's steps.
 use Prim.Native.Nat.{ℕ, zero, suc, _+_, _*_, _-_}
 use mathlib.Core.Bool.{Bool, true, false, _&&_, _||_, not, cond}
 use mathlib.Core.List.{List, [], _∷_}
 use lib.Dec.{leb, ltb, eqb}
 use lib.ListN.{getD}
+use Rattle.laws.specs.Verdict.{Verdict, _then_, demand, passes}
 use Rattle.laws.specs.Memory.{put, part}
 use Rattle.route.specs.Route.{Answer, View}
 use Rattle.planner.specs.Records.{recordOf}
 use Rattle.reference.specs.Ranges.{each, below}
 use Rattle.reference.specs.State.{Machine}
-use Rattle.reference.specs.Step.{Step, plan, deliver, noKind, named, sameCells}
+use Rattle.reference.specs.Step.{Step, plan, deliver, isThere, sameCells}
+use Rattle.reference.specs.Table.{Asked, step, noStep}
 use Rattle.reference.specs.Take.{StepAnswer, kept, sent, delivered}
 use Rattle.layout.specs.Places.{plannedPlace, duePlace, answerPlace, viewPlace, channelPlace}
 use Rattle.layout.specs.Encode.{fit}
 use Rattle.layout.specs.Decode.{recordAt}
 
 -- Every channel from carrier i, to a carrier k below it, has fewer than depth messages.
-unfoldable pub roomIn : Machine → List ℕ → ℕ → Bool
-roomIn M m i = each (M .carriers) (λ k. leb k i || ltb (getD m (channelPlace (M .carriers) k i) 0) (M .depth))
+unfoldable pub capacityIn : Machine → List ℕ → ℕ → Bool
+capacityIn M m i = each (M .carriers) (λ k. leb k i || ltb (getD m (channelPlace (M .carriers) k i) 0) (M .depth))
 
--- Plan i: i is due and every channel from i has room. Deliver j to i: the channel has a message.
-unfoldable pub readyIn : Machine → List ℕ → Step → Bool
-readyIn M m (plan i) = eqb (getD m (duePlace i) 0) 1 && roomIn M m i
-readyIn M m (deliver j i) = not (eqb (getD m (channelPlace (M .carriers) i j) 0) 0)
-readyIn M m noKind = false
+-- What a step waits for. Plan i: that i is due and every channel from i has room. Deliver j to i: a message there.
+unfoldable pub waitsIn : Machine → List ℕ → Step → Verdict
+waitsIn M m (plan i) = demand (eqb (getD m (duePlace i) 0) 1) 8 0 then demand (capacityIn M m i) 8 0
+waitsIn M m (deliver j i) = demand (not (eqb (getD m (channelPlace (M .carriers) i j) 0) 0)) 8 0
 
--- The step is open: it is there, and ready.
+-- The step is open: it is there, and waits for nothing.
 unfoldable pub openIn : Machine → List ℕ → Step → Bool
-openIn M m x = named M x && readyIn M m x
+openIn M m x = isThere M x && passes (waitsIn M m x)
 
--- Neither the plan of carrier i nor a delivery to it is open.
-unfoldable pub noneOpenIn : Machine → List ℕ → ℕ → Bool
-noneOpenIn M m i = not (openIn M m (plan i)) && each i (λ j. not (openIn M m (deliver j i)))
+-- What is asked for is a step that is open.
+unfoldable pub askedOpenIn : Machine → List ℕ → Asked → Bool
+askedOpenIn M m (step x) = openIn M m x
+askedOpenIn M m noStep = false
 
--- Silent: no step is open.
+-- The step is not open.
+unfoldable pub shutIn : Machine → List ℕ → Step → Bool
+shutIn M m x = not (openIn M m x)
+
+-- Silent: no plan is open, and no delivery from a sender to a receiver below it.
 unfoldable pub silentIn : Machine → List ℕ → Bool
-silentIn M m = each (M .carriers) (noneOpenIn M m)
+silentIn M m =
+    each (M .carriers) (λ i. shutIn M m (plan i))
+    && each (M .carriers) (λ j. each (M .carriers - suc j) (λ d. shutIn M m (deliver j (suc j + d))))
 
 -- One more step is counted; the count stays at 999,999 once there.
 unfoldable pub ticked : List ℕ → List ℕ
@@ -59,7 +68,7 @@ popped m c = put (shifted m c) c ((getD m c 0 - 1) ∷ [])
 -- The oldest message from j leaves its channel and becomes the view that i has of j; i becomes due.
 unfoldable pub deliveredIn : ℕ → List ℕ → ℕ → ℕ → List ℕ
 deliveredIn n m j i =
-    ticked (put (popped (moved m (channelPlace n i j + 1) (viewPlace n i j)) (channelPlace n i j)) (duePlace i) (1 ∷ []))
+    put (popped (moved m (channelPlace n i j + 1) (viewPlace n i j)) (channelPlace n i j)) (duePlace i) (1 ∷ [])
 
 -- A channel at place c with a record put last; a channel has four places.
 unfoldable pub pushed : List ℕ → ℕ → List ℕ → List ℕ
@@ -82,11 +91,10 @@ newsIn m i rec = not (eqb (getD m (plannedPlace i) 0) 1 && sameCells (part m (an
 -- Carrier i plans an answer with this record: it has planned, is no longer due, and sends the record if it is news.
 unfoldable pub plannedIn : ℕ → List ℕ → ℕ → List ℕ → List ℕ
 plannedIn n m i rec =
-    ticked
-    (cond
+    cond
     (newsIn m i rec)
     (sentTo n i rec (put m (plannedPlace i) (1 ∷ (0 ∷ rec))) n)
-    (put m (plannedPlace i) (1 ∷ (0 ∷ rec))))
+    (put m (plannedPlace i) (1 ∷ (0 ∷ rec)))
 
 -- The views of carrier i, of the carriers above it in their order.
 unfoldable pub viewsIn : ℕ → List ℕ → ℕ → List View
@@ -96,14 +104,15 @@ viewsIn n m i = below i (λ j. recordAt m (viewPlace n i j))
 unfoldable pub bestIn : Machine → List ℕ → ℕ → Answer
 bestIn M m i = M .respond i (viewsIn (M .carriers) m i)
 
--- The memory after an open step.
-unfoldable pub takenIn : Machine → List ℕ → Step → List ℕ
-takenIn M m (plan i) = plannedIn (M .carriers) m i (recordOf (bestIn M m i))
-takenIn M m (deliver j i) = deliveredIn (M .carriers) m j i
-takenIn M m noKind = m
+-- What an open step does, and the memory after it, the step being counted.
+unfoldable pub effectIn : Machine → List ℕ → Step → List ℕ
+effectIn M m (plan i) = plannedIn (M .carriers) m i (recordOf (bestIn M m i))
+effectIn M m (deliver j i) = deliveredIn (M .carriers) m j i
+
+unfoldable pub afterIn : Machine → List ℕ → Step → List ℕ
+afterIn M m x = ticked (effectIn M m x)
 
 -- The answer of an open step.
 unfoldable pub saidIn : Machine → List ℕ → Step → StepAnswer
 saidIn M m (plan i) = cond (newsIn m i (recordOf (bestIn M m i))) sent kept
 saidIn M m (deliver j i) = delivered
-saidIn M m noKind = delivered
