@@ -11,7 +11,7 @@ use Rattle.route.specs.Route.{Answer, unheard, heard}
 use Rattle.planner.specs.Records.{recordOf}
 use Rattle.reference.specs.Take.{newer}
 use Rattle.layout.specs.Encode.{fit, slot, slots, channelBlock}
-use Rattle.layout.specs.Steps.{moved, shifted, popped, pushed}
+use Rattle.layout.specs.InnerSteps.{moved, shifted, popped, pushed}
 use Rattle.layout.proofs.WindowLaws.{Window, Stands, window-whole, window-front, window-behind, window-inside, window-old}
 use Rattle.layout.proofs.WindowLaws.{window-part, window-number, window-put}
 use Rattle.layout.proofs.SplitLaws.{fit-length, fit-whole, slot-length}

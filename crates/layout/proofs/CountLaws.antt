@@ -9,7 +9,7 @@ use Rattle.laws.proofs.Tests.{lt-or-le}
 use Rattle.laws.specs.Memory.{put}
 use Rattle.reference.specs.State.{State, tick}
 use Rattle.layout.specs.Encode.{countBlock, encode}
-use Rattle.layout.specs.Steps.{ticked}
+use Rattle.layout.specs.InnerSteps.{ticked}
 use Rattle.layout.proofs.WindowLaws.{Window, window-whole, window-behind, window-inside, window-put}
 use Rattle.layout.proofs.StateLaws.{withTaken, count-window}
 use Rattle.layout.proofs.ReadLaws.{read-thousands, read-rest}

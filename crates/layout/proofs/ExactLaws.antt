@@ -5,23 +5,24 @@ use mathlib.Core.Bool.{true, false, _&&_}
 use mathlib.Core.List.{List, _++_}
 use mathlib.Core.Logic.{_↔_}
 use mathlib.Core.Path.{_≡_, refl, sym, _∙_, ap}
-use lib.ListN.{length, getD, replicate, take, drop, take-append-drop}
+use lib.ListN.{length, replicate, take, drop, take-append-drop}
+use Rattle.laws.proofs.Lists.{zeros-at}
 use Rattle.floor.specs.declared.Floor.{Floor}
 use Rattle.floor.specs.Checks.{within}
 use Rattle.laws.proofs.Tests.{and-fst, and-snd, not-true-is-false, true-false-absurd}
 use Rattle.reference.specs.State.{State, fresh}
 use Rattle.reference.specs.Ranges.{each}
-use Rattle.reference.specs.Bounds.{AllOf, ShownOf}
+use Rattle.reference.proofs.ThroughLaws.{fresh-throughout}
 use Rattle.reference.proofs.RangeLaws.{each-holds}
 use Rattle.layout.specs.Places.{pairsBefore, plannedPlace, duePlace, answerPlace, stateSize}
 use Rattle.layout.specs.Encode.{encode}
 use Rattle.layout.specs.Decode.{decode}
 use Rattle.layout.specs.Valid.{recordValid, carrierValid, pairValid, countValid, valid}
-use Rattle.layout.specs.Fits.{Sound, Fits}
+use Rattle.layout.specs.Ranges.{Sound, WithinRanges}
 use Rattle.layout.proofs.ValidLaws.{fits-valid, valid-fits}
 
 -- A memory whose front is the encoding of a state within the ranges is valid.
-front-valid : (f : Floor) (m : List ℕ) (s : State) → f .depth ≤ 4 → f .horizon ≤ 63 → Fits f s
+front-valid : (f : Floor) (m : List ℕ) (s : State) → f .depth ≤ 4 → f .horizon ≤ 63 → WithinRanges f s
     → take (stateSize (f .carriers)) m ≡ encode (f .carriers) s → valid f m ≡ true
 front-valid f m s d h k e =
     let n = stateSize (f .carriers) in
@@ -29,36 +30,28 @@ front-valid f m s d h k e =
     rw whole at (fits-valid f s (drop n m) d h k)
 
 pub valid-exactly : (f : Floor) (m : List ℕ) → f .depth ≤ 4 → f .horizon ≤ 63 → stateSize (f .carriers) ≤ length m
-    → (valid f m ≡ true) ↔ ((s : State) × (Fits f s) × (take (stateSize (f .carriers)) m ≡ encode (f .carriers) s))
+    → (valid f m ≡ true) ↔ ((s : State) × (WithinRanges f s) × (take (stateSize (f .carriers)) m ≡ encode (f .carriers) s))
 valid-exactly f m d h l = (
   λ e. let r = valid-fits f m d h l e in (decode (f .carriers) m, r .0, sym (r .1)),
   λ q. front-valid f m (q .0) d h (q .1) (q .2),
 )
 
 -- The fresh state is within the ranges.
-fresh-fits : (f : Floor) → Fits f fresh
-unfolding fresh Sound ShownOf AllOf
+pub fresh-fits : (f : Floor) → WithinRanges f fresh
+unfolding Sound fresh
 fresh-fits f =
     record {
       counted = omega arith;
-      answers = λ i l. tt;
-      seen = λ i j a b. tt;
       channels = λ i j a b. omega arith;
-      messages = λ i j a b. tt;
+      parts = fresh-throughout (f .carriers) (Sound f) tt;
     }
 
 pub fresh-valid : (f : Floor) (rest : List ℕ) → f .depth ≤ 4 → f .horizon ≤ 63 → valid f (encode (f .carriers) fresh ++ rest) ≡ true
 fresh-valid f rest d h = fits-valid f fresh rest d h (fresh-fits f)
 
--- A number of a memory of zeros is 0.
-zero-there : (k i : ℕ) → getD {A = ℕ} (replicate k 0) i 0 ≡ 0
-zero-there zero i = refl
-zero-there (suc k) zero = refl
-zero-there (suc k) (suc i) = zero-there k i
-
 zeros-fail : (f : Floor) (k : ℕ) → carrierValid f (replicate k 0) 0 ≡ false
 unfolding carrierValid recordValid within
-zeros-fail f k = rw (zero-there k (plannedPlace 0), zero-there k (duePlace 0), zero-there k (answerPlace 0))
+zeros-fail f k = rw (zeros-at k (plannedPlace 0), zeros-at k (duePlace 0), zeros-at k (answerPlace 0))
 
 pub zeros-refused : (f : Floor) (k : ℕ) → 1 ≤ f .carriers → valid f (replicate k 0) ≡ false
 unfolding valid

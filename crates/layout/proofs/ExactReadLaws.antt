@@ -13,7 +13,7 @@ use Rattle.reference.specs.Bounds.{AllOf, ShownOf}
 use Rattle.layout.specs.Places.{answerPlace, viewPlace, channelPlace}
 use Rattle.layout.specs.Encode.{slot, slots, channelBlock, carrierBlock, countBlock, blocks, pairs, encode}
 use Rattle.layout.specs.Decode.{recordAt, shown, messages, decode}
-use Rattle.layout.specs.Fits.{Sound, Fits}
+use Rattle.layout.specs.Ranges.{Sound, WithinRanges}
 use Rattle.layout.specs.Alike.{Alike}
 use Rattle.layout.proofs.SplitLaws.{slots-length, blocks-same}
 use Rattle.layout.proofs.OpenLaws.{flag-set}
@@ -48,7 +48,7 @@ count-back : (t : ℕ) → 1000 * (t / 1000) + t % 1000 ≡ t
 count-back t = omega arith
 
 -- The memory of a state shows that state.
-pub encode-shows : (f : Floor) (s : State) (rest : List ℕ) → f .depth ≤ 4 → Fits f s
+pub encode-shows : (f : Floor) (s : State) (rest : List ℕ) → f .depth ≤ 4 → WithinRanges f s
     → Alike (f .carriers) (decode (f .carriers) (encode (f .carriers) s ++ rest)) s
 unfolding decode
 encode-shows f s rest d h =
@@ -57,14 +57,14 @@ encode-shows f s rest d h =
     record {
       same-planned = λ i l. rw (read-planned n s rest i l) (flag-set (s .planned i));
       same-due = λ i l. rw (read-due n s rest i l) (flag-set (s .due i));
-      same-answer = λ i l. answer-back f m (answerPlace i) (s .answer i) (read-answer n s rest i l) (h .answers i l);
+      same-answer = λ i l. answer-back f m (answerPlace i) (s .answer i) (read-answer n s rest i l) (h .parts .answers i l);
       same-view =
           λ i j a b.
-          record-shows m (viewPlace n i j) (s .view i j) (read-view n s rest i j a b) (shown-whole f (s .view i j) (h .seen i j a b));
+          record-shows m (viewPlace n i j) (s .view i j) (read-view n s rest i j a b) (shown-whole f (s .view i j) (h .parts .seen i j a b));
       same-channel =
           λ i j a b.
           let few : length (s .chan i j) ≤ 4 = omega (arith, h .channels i j a b) in
-          channel-back f m (channelPlace n i j) (s .chan i j) (read-channel n s rest i j a b) few (h .messages i j a b);
+          channel-back f m (channelPlace n i j) (s .chan i j) (read-channel n s rest i j a b) few (h .parts .messages i j a b);
       same-taken = rw (read-thousands n s rest, read-rest n s rest) (count-back (s .taken));
     }
 
@@ -94,7 +94,7 @@ alike-encode n s z h =
     (pairs-same n (λ i j. channelBlock (s .chan i j)) (λ i j. channelBlock (z .chan i j))
     (λ i j a b. ap channelBlock (h .same-channel i j a b)))))
 
-pub encode-exactly : (f : Floor) (s z : State) → f .depth ≤ 4 → Fits f s → Fits f z
+pub encode-exactly : (f : Floor) (s z : State) → f .depth ≤ 4 → WithinRanges f s → WithinRanges f z
     → (encode (f .carriers) s ≡ encode (f .carriers) z) ↔ Alike (f .carriers) s z
 encode-exactly f s z d h k = (
   λ e.

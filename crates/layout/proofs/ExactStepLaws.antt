@@ -8,8 +8,9 @@ use borrow.Author.Tests.{leb-true, le-leb}
 use lib.Dec.{leb}
 use Rattle.floor.specs.Checks.{within}
 use Rattle.laws.proofs.Tests.{and-both, and-fst, and-snd, not-true-is-false}
-use Rattle.reference.specs.Step.{plan, deliver, noKind}
-use Rattle.layout.specs.Numbers.{way, stepOf}
+use Rattle.reference.specs.Step.{plan, deliver}
+use Rattle.reference.specs.Table.{step, noStep}
+use Rattle.layout.specs.Numbers.{deliveryOf, askedBy}
 
 -- A number within a range, and one above it.
 within-true : (low high x : ℕ) → low ≤ x → x ≤ high → within low high x ≡ true
@@ -24,14 +25,14 @@ above-false : (low high x : ℕ) → high < x → within low high x ≡ false
 above-false low high x l = not-true-is-false (within low high x) (λ e. omega (arith, within-says low high x e))
 
 -- The number of a plan, and that of a delivery.
-plan-named : (i : ℕ) → i < 9 → stepOf (101 + i) ≡ plan i
-unfolding stepOf
+plan-named : (i : ℕ) → i < 9 → askedBy (101 + i) ≡ step (plan i)
+unfolding askedBy
 plan-named i l =
     let less : 101 + i - 101 ≡ i = omega arith in
     rw (within-true 101 109 (101 + i) (omega arith) (omega arith)) (rw less)
 
-deliver-named : (j i : ℕ) → j < 9 → i < 9 → stepOf (200 + 10 * (j + 1) + (i + 1)) ≡ deliver j i
-unfolding stepOf way
+deliver-named : (j i : ℕ) → j < 9 → i < 9 → askedBy (200 + 10 * (j + 1) + (i + 1)) ≡ step (deliver j i)
+unfolding askedBy deliveryOf
 deliver-named j i a b =
     let x = 200 + 10 * (j + 1) + (i + 1) in
     let sender : (x - 200) / 10 - 1 ≡ j = omega arith in
@@ -43,12 +44,12 @@ deliver-named j i a b =
 
 -- What a number names: a plan, a delivery, or no kind of step.
 data Names (x : ℕ) : Type 0 where
-  a-plan : 101 ≤ x → x ≤ 109 → stepOf x ≡ plan (x - 101) → Names x
-  a-delivery : 210 ≤ x → x ≤ 299 → 1 ≤ x % 10 → stepOf x ≡ deliver ((x - 200) / 10 - 1) (x % 10 - 1) → Names x
-  nothing : stepOf x ≡ noKind → Names x
+  a-plan : 101 ≤ x → x ≤ 109 → askedBy x ≡ step (plan (x - 101)) → Names x
+  a-delivery : 210 ≤ x → x ≤ 299 → 1 ≤ x % 10 → askedBy x ≡ step (deliver ((x - 200) / 10 - 1) (x % 10 - 1)) → Names x
+  nothing : askedBy x ≡ noStep → Names x
 
 names : (x : ℕ) → Names x
-unfolding stepOf way
+unfolding askedBy deliveryOf
 names x = go (within 101 109 x) (within 210 299 x) (leb 1 (x % 10)) refl refl refl
   where
     go : (a b c : Bool) → within 101 109 x ≡ a → within 210 299 x ≡ b → leb 1 (x % 10) ≡ c → Names x
@@ -57,12 +58,12 @@ names x = go (within 101 109 x) (within 210 299 x) (leb 1 (x % 10)) refl refl re
     go false true false p q r = nothing (rw (p, q, r))
     go false false c p q r = nothing (rw (p, q))
 
-plan-means : (x i : ℕ) → Names x → stepOf x ≡ plan i → (i < 9) × (x ≡ 101 + i)
+plan-means : (x i : ℕ) → Names x → askedBy x ≡ step (plan i) → (i < 9) × (x ≡ 101 + i)
 plan-means x i (a-plan a b q) e = let s : x - 101 ≡ i = cc in (omega arith, omega arith)
 plan-means x i (a-delivery a b c q) e = let z : _≡_ {A = ℕ} 0 1 = cc in absurd (omega arith)
 plan-means x i (nothing q) e = let z : _≡_ {A = ℕ} 0 1 = cc in absurd (omega arith)
 
-deliver-means : (x j i : ℕ) → Names x → stepOf x ≡ deliver j i → (j < 9) × (i < 9) × (x ≡ 200 + 10 * (j + 1) + (i + 1))
+deliver-means : (x j i : ℕ) → Names x → askedBy x ≡ step (deliver j i) → (j < 9) × (i < 9) × (x ≡ 200 + 10 * (j + 1) + (i + 1))
 deliver-means x j i (a-plan a b q) e = let z : _≡_ {A = ℕ} 0 1 = cc in absurd (omega arith)
 deliver-means x j i (a-delivery a b c q) e =
     let s : (x - 200) / 10 - 1 ≡ j = cc in
@@ -70,8 +71,8 @@ deliver-means x j i (a-delivery a b c q) e =
     (omega arith, omega arith, omega arith)
 deliver-means x j i (nothing q) e = let z : _≡_ {A = ℕ} 0 1 = cc in absurd (omega arith)
 
-pub plan-number : (x i : ℕ) → (stepOf x ≡ plan i) ↔ ((i < 9) × (x ≡ 101 + i))
-plan-number x i = (plan-means x i (names x), λ h. ap stepOf (h .1) ∙ plan-named i (h .0))
+pub plan-number : (x i : ℕ) → (askedBy x ≡ step (plan i)) ↔ ((i < 9) × (x ≡ 101 + i))
+plan-number x i = (plan-means x i (names x), λ h. ap askedBy (h .1) ∙ plan-named i (h .0))
 
-pub deliver-number : (x j i : ℕ) → (stepOf x ≡ deliver j i) ↔ ((j < 9) × (i < 9) × (x ≡ 200 + 10 * (j + 1) + (i + 1)))
-deliver-number x j i = (deliver-means x j i (names x), λ h. ap stepOf (h .2) ∙ deliver-named j i (h .0) (h .1))
+pub deliver-number : (x j i : ℕ) → (askedBy x ≡ step (deliver j i)) ↔ ((j < 9) × (i < 9) × (x ≡ 200 + 10 * (j + 1) + (i + 1)))
+deliver-number x j i = (deliver-means x j i (names x), λ h. ap askedBy (h .2) ∙ deliver-named j i (h .0) (h .1))

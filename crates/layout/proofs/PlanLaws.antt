@@ -1,32 +1,31 @@
 -- A plan in memory is a plan: the views that it reads, whether its answer is news, what it stores and sends.
-use Prim.Native.Nat.{ℕ, _≤_, _<_}
+use Prim.Native.Nat.{ℕ, _<_}
 use mathlib.Core.Bool.{true, false}
 use mathlib.Core.List.{List, _∷_, _++_}
 use mathlib.Core.Logic.{⊎-elim}
 use mathlib.Core.Path.{_≡_, refl, sym, _∙_, ap}
 use lib.ListN.{length}
-use Rattle.laws.specs.Memory.{put as putBlock}
+use Rattle.laws.specs.Memory.{put}
 use Rattle.route.specs.Route.{Answer, none, route, heard}
 use Rattle.laws.proofs.Tests.{true-or-false}
 use Rattle.planner.specs.Records.{recordOf}
 use Rattle.planner.proofs.ViewLaws.{Whole}
-use Rattle.reference.specs.Ranges.{put}
-use Rattle.reference.specs.State.{State, views, tick}
+use Rattle.reference.specs.Ranges.{update}
+use Rattle.reference.specs.State.{State, views}
 use Rattle.reference.specs.Step.{sameCells, sameAnswer}
 use Rattle.reference.specs.Take.{isNews, send, planAs}
 use Rattle.reference.specs.Bounds.{ShownOf}
-use Rattle.reference.proofs.RangeLaws.{below-same, put-same, put-other}
+use Rattle.reference.proofs.RangeLaws.{below-same, update-same, update-other}
 use Rattle.layout.specs.Places.{plannedPlace, viewPlace}
 use Rattle.layout.specs.Encode.{flag, slot, carrierBlock, encode}
 use Rattle.layout.specs.Decode.{recordAt}
-use Rattle.layout.specs.Steps.{newsIn, plannedIn, viewsIn}
+use Rattle.layout.specs.InnerSteps.{newsIn, plannedIn, viewsIn}
 use Rattle.layout.proofs.WindowLaws.{window-put}
 use Rattle.layout.proofs.SplitLaws.{fit-whole, carrier-length}
-use Rattle.layout.proofs.StateLaws.{withTaken, withCarriers, withChans, carrier-window}
+use Rattle.layout.proofs.StateLaws.{withCarriers, withChans, carrier-window}
 use Rattle.layout.proofs.ReadLaws.{read-planned, read-answer, read-view}
 use Rattle.layout.proofs.RecordLaws.{record-shows}
 use Rattle.layout.proofs.OpenLaws.{flag-set}
-use Rattle.layout.proofs.CountLaws.{ticked-same}
 use Rattle.layout.proofs.SendLaws.{sent-same}
 
 -- The record of a whole answer as it lies in memory.
@@ -64,50 +63,45 @@ module _ (n : ℕ) (s : State) (rest : List ℕ) where
 
   -- Carrier i has planned, is no longer due, and has this answer.
   pub put-planned : (i : ℕ) (a : Answer) → i < n → Whole a →
-      putBlock (encode n s ++ rest) (plannedPlace i) (1 ∷ (0 ∷ recordOf a)) ≡
-      encode n (withCarriers s (put (s .planned) i true) (put (s .due) i false) (put (s .answer) i a)) ++ rest
+      put (encode n s ++ rest) (plannedPlace i) (1 ∷ (0 ∷ recordOf a)) ≡
+      encode n (withCarriers s (update (s .planned) i true) (update (s .due) i false) (update (s .answer) i a)) ++ rest
   unfolding flag carrierBlock withCarriers
   put-planned i a l w =
-      let p = put (s .planned) i true in
-      let d = put (s .due) i false in
-      let b = put (s .answer) i a in
+      let p = update (s .planned) i true in
+      let d = update (s .due) i false in
+      let b = update (s .answer) i a in
       let block : carrierBlock (withCarriers s p d b) i ≡ 1 ∷ (0 ∷ recordOf a) =
-      rw (put-same (s .planned) i true, put-same (s .due) i false, put-same (s .answer) i a, slot-record a w)
+      rw (update-same (s .planned) i true, update-same (s .due) i false, update-same (s .answer) i a, slot-record a w)
       in
       rw (← block)
       (window-put (carrier-length s i ∙ sym (carrier-length (withCarriers s p d b) i))
       (carrier-window n s rest p d b i l
-      (λ k x y. (sym (put-other (s .planned) i true k y), sym (put-other (s .due) i false k y), sym (put-other (s .answer) i a k y)))))
+      (λ k x y. (sym (update-other (s .planned) i true k y), sym (update-other (s .due) i false k y), sym (update-other (s .answer) i a k y)))))
 
 -- The changes of a plan, one after the other.
 module _ (n : ℕ) (s : State) (rest : List ℕ) (i : ℕ) (a : Answer) where
   -- The state with the answer stored, and the channels as given.
   planned-state : (ℕ → ℕ → List Answer) → State
-  planned-state h =
-      withTaken
-      (withChans (withCarriers s (put (s .planned) i true) (put (s .due) i false) (put (s .answer) i a)) h)
-      (tick (s .taken))
+  planned-state h = withChans (withCarriers s (update (s .planned) i true) (update (s .due) i false) (update (s .answer) i a)) h
 
   news-state : isNews s i a ≡ true → planned-state (send (s .chan) i a) ≡ planAs s i a
-  unfolding planned-state planAs withCarriers withChans withTaken
+  unfolding planned-state planAs withCarriers withChans
   news-state e = rw (e, planAs)
 
   kept-state : isNews s i a ≡ false → planned-state (s .chan) ≡ planAs s i a
-  unfolding planned-state planAs withCarriers withChans withTaken
+  unfolding planned-state planAs withCarriers withChans
   kept-state e = rw (e, planAs)
 
-  pub planned-same : i < n → Whole a → Whole (s .answer i) → s .taken ≤ 999999 →
-      ((k : ℕ) → i < k → k < n → length (s .chan k i) < 4) →
+  pub planned-same : i < n → Whole a → Whole (s .answer i) → ((k : ℕ) → i < k → k < n → length (s .chan k i) < 4) →
       plannedIn n (encode n s ++ rest) i (recordOf a) ≡ encode n (planAs s i a) ++ rest
   unfolding plannedIn planned-state withCarriers withChans
-  planned-same l w v t room =
-      let s₁ = withCarriers s (put (s .planned) i true) (put (s .due) i false) (put (s .answer) i a) in
-      let s₂ = withChans s₁ (send (s .chan) i a) in
+  planned-same l w v room =
+      let s₁ = withCarriers s (update (s .planned) i true) (update (s .due) i false) (update (s .answer) i a) in
       ⊎-elim
       (λ (e : isNews s i a ≡ true).
-      rw (news-same n s rest i a l v, put-planned n s rest i a l w, e, sent-same n s₁ rest i a w room, ticked-same n s₂ rest t)
+      rw (news-same n s rest i a l v, put-planned n s rest i a l w, e, sent-same n s₁ rest i a w room)
       (ap (λ (z : State). encode n z ++ rest) (news-state e)))
       (λ (e : isNews s i a ≡ false).
-      rw (news-same n s rest i a l v, put-planned n s rest i a l w, e, ticked-same n s₁ rest t)
+      rw (news-same n s rest i a l v, put-planned n s rest i a l w, e)
       (ap (λ (z : State). encode n z ++ rest) (kept-state e)))
       (true-or-false (isNews s i a))

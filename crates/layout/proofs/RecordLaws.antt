@@ -23,7 +23,7 @@ use Rattle.reference.proofs.RangeLaws.{each-holds, each-true}
 use Rattle.layout.specs.Encode.{fit, slot}
 use Rattle.layout.specs.Decode.{recordAt, shown}
 use Rattle.layout.specs.Valid.{usedBy, cellValid, cellsValid, recordValid}
-use Rattle.layout.specs.Fits.{Sound}
+use Rattle.layout.specs.Ranges.{Sound}
 use Rattle.layout.proofs.SplitLaws.{slot-length}
 
 -- The numbers of a list filled up with zeros.

@@ -14,7 +14,7 @@ use Rattle.planner.specs.Records.{recordOf}
 use Rattle.reference.specs.State.{State}
 use Rattle.reference.specs.Take.{send}
 use Rattle.layout.specs.Encode.{slot, channelBlock, carrierBlock, countBlock, blocks, pairs, encode}
-use Rattle.layout.specs.Steps.{pushedBelow, sentTo}
+use Rattle.layout.specs.InnerSteps.{pushedBelow, sentTo}
 use Rattle.layout.proofs.SplitLaws.{blocks-same}
 use Rattle.layout.proofs.StateLaws.{withChans, channel-window}
 use Rattle.layout.proofs.ChannelLaws.{pushed-is}

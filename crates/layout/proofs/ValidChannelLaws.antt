@@ -19,7 +19,7 @@ use Rattle.reference.proofs.RangeLaws.{each-holds, each-true}
 use Rattle.layout.specs.Encode.{slot, slots, channelBlock}
 use Rattle.layout.specs.Decode.{recordAt, shown, messages}
 use Rattle.layout.specs.Valid.{recordValid, placeValid, channelValid}
-use Rattle.layout.specs.Fits.{Sound}
+use Rattle.layout.specs.Ranges.{Sound}
 use Rattle.layout.proofs.SplitLaws.{slot-length, slots-length}
 use Rattle.layout.proofs.RecordLaws.{answer-valid, unused-valid, answer-told, unused-told}
 use Rattle.layout.proofs.ValidPartLaws.{part-one}

@@ -19,7 +19,7 @@ use Rattle.layout.specs.Places.{pairsBefore, plannedPlace, duePlace, ans
 use Rattle.layout.specs.Encode.{flag, slot, channelBlock, carrierBlock, countBlock, encode}
 use Rattle.layout.specs.Decode.{recordAt, shown, decode}
 use Rattle.layout.specs.Valid.{recordValid, channelValid, carrierValid, pairValid, countValid, valid}
-use Rattle.layout.specs.Fits.{Sound, Fits}
+use Rattle.layout.specs.Ranges.{Sound, WithinRanges}
 use Rattle.layout.proofs.RecordLaws.{Recorded, record-told, answer-told}
 use Rattle.layout.proofs.ValidChannelLaws.{Channelled, channel-told}
 use Rattle.layout.proofs.ValidPartLaws.{part-two, blocks-part, pairs-part, pair-below}
@@ -131,15 +131,18 @@ module _ (f : Floor) (m : List ℕ) (shallow : f .depth ≤ 4) (short : f .horiz
         (and-snd (recordValid f m (viewPlace n i j) 0 2) (channelValid f m (channelPlace n i j)) (pair-holds i j a b))
 
   -- The state is within the ranges.
-  pub state-fits : Fits f z
+  pub state-fits : WithinRanges f z
   unfolding decode
   state-fits =
       record {
         counted = omega (arith, count-holds);
-        answers = λ i l. (answer-is i l) .1;
-        seen = λ i j a b. view-is i j a b .sound;
         channels = λ i j a b. channel-is i j a b .most;
-        messages = λ i j a b. channel-is i j a b .sound;
+        parts =
+            record {
+              answers = λ i l. (answer-is i l) .1;
+              messages = λ i j a b. channel-is i j a b .sound;
+              seen = λ i j a b. view-is i j a b .sound;
+            };
       }
 
   -- The count is read back.

@@ -16,7 +16,7 @@ use Rattle.layout.specs.Places.{answerPlace, viewPlace, channelPlace, st
 use Rattle.layout.specs.Encode.{flag, encode}
 use Rattle.layout.specs.Decode.{decode}
 use Rattle.layout.specs.Valid.{carrierValid, pairValid, countValid, valid}
-use Rattle.layout.specs.Fits.{Fits}
+use Rattle.layout.specs.Ranges.{WithinRanges}
 use Rattle.layout.proofs.ReadLaws.{read-thousands, read-rest, read-planned, read-due, read-answer, read-view, read-channel}
 use Rattle.layout.proofs.RecordLaws.{seen-valid, answer-valid}
 use Rattle.layout.proofs.ValidChannelLaws.{channel-valid}
@@ -36,7 +36,7 @@ rest-below : (t : ℕ) → t % 1000 < 1000
 rest-below t = omega arith
 
 -- The tests on the encoding of a state within the ranges.
-module _ (f : Floor) (s : State) (rest : List ℕ) (h : Fits f s) where
+module _ (f : Floor) (s : State) (rest : List ℕ) (h : WithinRanges f s) where
   -- Its memory.
   abbrev m : List ℕ
   m = encode (f .carriers) s ++ rest
@@ -56,14 +56,14 @@ module _ (f : Floor) (s : State) (rest : List ℕ) (h : Fits f s) where
       rw (read-planned n s rest i l, read-due n s rest i l)
       (and-both (le-leb (flag (s .planned i)) 1 (flag-least (s .planned i)))
       (and-both (le-leb (flag (s .due i)) 1 (flag-least (s .due i)))
-      (answer-valid f m (answerPlace i) (s .answer i) (read-answer n s rest i l) (h .answers i l))))
+      (answer-valid f m (answerPlace i) (s .answer i) (read-answer n s rest i l) (h .parts .answers i l))))
 
   pair-fits : (i : ℕ) → i < f .carriers → (j : ℕ) → j < i → pairValid f m i j ≡ true
   unfolding pairValid
   pair-fits i b j a =
       let n = f .carriers in
-      and-both (seen-valid m (viewPlace n i j) (s .view i j) (read-view n s rest i j a b) f (h .seen i j a b))
-      (channel-valid m (channelPlace n i j) (s .chan i j) (read-channel n s rest i j a b) f (h .channels i j a b) (h .messages i j a b))
+      and-both (seen-valid m (viewPlace n i j) (s .view i j) (read-view n s rest i j a b) f (h .parts .seen i j a b))
+      (channel-valid m (channelPlace n i j) (s .chan i j) (read-channel n s rest i j a b) f (h .channels i j a b) (h .parts .messages i j a b))
 
   -- All of them.
   all-fit : valid f m ≡ true
@@ -74,12 +74,12 @@ module _ (f : Floor) (s : State) (rest : List ℕ) (h : Fits f s) where
       (each-true (f .carriers) (λ i. each i (pairValid f m i)) (λ i l. each-true i (pairValid f m i) (pair-fits i l))))
 
 -- The encoding of a state within the ranges is valid, whatever lies behind it.
-pub fits-valid : (f : Floor) (s : State) (rest : List ℕ) → f .depth ≤ 4 → f .horizon ≤ 63 → Fits f s
+pub fits-valid : (f : Floor) (s : State) (rest : List ℕ) → f .depth ≤ 4 → f .horizon ≤ 63 → WithinRanges f s
     → valid f (encode (f .carriers) s ++ rest) ≡ true
 fits-valid f s rest d k h = all-fit f s rest h
 
 -- A valid memory is the encoding of the state that it shows, and that state is within the ranges.
 pub valid-fits : (f : Floor) (m : List ℕ) → f .depth ≤ 4 → f .horizon ≤ 63 → stateSize (f .carriers) ≤ length m → valid f m ≡ true
-    → Fits f (decode (f .carriers) m) × (encode (f .carriers) (decode (f .carriers) m) ≡ take (stateSize (f .carriers)) m)
+    → WithinRanges f (decode (f .carriers) m) × (encode (f .carriers) (decode (f .carriers) m) ≡ take (stateSize (f .carriers)) m)
 unfolding part
 valid-fits f m d h l e = (state-fits f m d h l e, encode-is f m d h l e)
