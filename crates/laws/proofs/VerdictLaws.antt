@@ -9,7 +9,7 @@ use borrow.Author.Count.{below-more}
 use borrow.Author.Needs.{needs}
 use mathlib.Core.Logic.{_⊎_, ⊎-elim, inl, inr}
 use Rattle.laws.proofs.CodeTests.{code-holds, code-fails, decides}
-use Rattle.laws.specs.Verdict.{Verdict, passed, refused, _then_, demand, inTurn, demandEach, passes}
+use Rattle.laws.specs.Verdict.{Verdict, passed, refused, _then_, demand, inTurn, demandEach, passes, Outcome, value, refusal, _gives_, _thenAnswers_, whenPassed}
 
 -- A passed check hands on to the next.
 pub then-passed : {v w : Verdict} → v ≡ passed → (v then w) ≡ w
@@ -26,6 +26,31 @@ passes-says (refused k p) h = absurd (true≢false (sym h))
 pub then-refused : {v : Verdict} {k p : ℕ} (w : Verdict) → v ≡ refused k p → (v then w) ≡ refused k p
 unfolding _then_
 then-refused w h = rw h
+
+-- What is answered, and what is stored, where the checks find nothing and where they refuse.
+pub answers-passed : {A : Type 0} {v : Verdict} {r : Outcome A} → v ≡ passed → (v thenAnswers r) ≡ r
+unfolding _thenAnswers_
+answers-passed h = rw h
+
+pub answers-refused : {A : Type 0} {v : Verdict} {k p : ℕ} (r : Outcome A) → v ≡ refused k p → (v thenAnswers r) ≡ refusal k p
+unfolding _thenAnswers_
+answers-refused r h = rw h
+
+pub gives-passed : {A : Type 0} {v : Verdict} {a : A} → v ≡ passed → (v gives a) ≡ value a
+unfolding _gives_
+gives-passed h = rw h
+
+pub gives-refused : {A : Type 0} {v : Verdict} {k p : ℕ} (a : A) → v ≡ refused k p → (v gives a) ≡ refusal k p
+unfolding _gives_
+gives-refused a h = rw h
+
+pub when-passed : {A : Type 0} {v : Verdict} {new : A} (old : A) → v ≡ passed → whenPassed v new old ≡ new
+unfolding whenPassed
+when-passed old h = rw h
+
+pub when-refused : {A : Type 0} {v : Verdict} {old : A} {k p : ℕ} (new : A) → v ≡ refused k p → whenPassed v new old ≡ old
+unfolding whenPassed
+when-refused new h = rw h
 
 -- A refusal is no pass.
 pub refused-not-passed : {k p : ℕ} → refused k p ≡ passed → ⊥

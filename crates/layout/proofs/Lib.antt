@@ -19,4 +19,6 @@ pub mod ValidLaws
 pub mod ExactLaws
 pub mod ExactReadLaws
 pub mod ExactStepLaws
+pub mod FloorLaws
+pub mod SimulationLaws
 pub mod Theorems

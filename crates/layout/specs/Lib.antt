@@ -11,3 +11,4 @@ pub mod Calls
 pub mod Claims
 pub mod InnerSteps
 pub mod InnerRuns
+pub mod InnerCalls

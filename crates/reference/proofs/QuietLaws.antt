@@ -1,20 +1,18 @@
 -- Idle prefixes and silence: some step is open, or nobody is due and nothing is under way.
 use Prim.Native.Nat.{ℕ, _≤_, _<_}
-use mathlib.Core.Bool.{Bool, true, false, _&&_, _||_, not}
+use mathlib.Core.Bool.{Bool, true, false, _||_, not}
 use mathlib.Core.List.{[]}
-use mathlib.Core.Logic.{_⊎_, inl, inr, ⊎-elim}
+use mathlib.Core.Logic.{_⊎_, ⊎-elim}
 use mathlib.Core.Path.{_≡_, refl}
 use lib.Dec.{leb, ltb}
 use lib.ListN.{length}
-use borrow.Author.Tests.{leb-false, lt-ltb, not-true, not-false}
+use borrow.Author.Tests.{leb-false, lt-ltb, not-true}
 use Rattle.laws.proofs.Tests.{and-both, and-fst, and-snd, or-inl, or-inr, not-true-is-false, true-or-false, true-false-absurd}
 use Rattle.reference.specs.Ranges.{each}
 use Rattle.reference.specs.State.{Machine, State}
 use Rattle.reference.specs.Step.{Step, plan, deliver, hasCapacity, isEmpty, isOpen}
-use Rattle.reference.specs.Ranking.{isSilent}
-use Rattle.reference.proofs.RankingLaws.{shut-silent, silent-shut, some-open}
 use Rattle.reference.specs.Quiet.{idleAt, idle}
-use Rattle.reference.proofs.RangeLaws.{each-holds, each-true, each-fails}
+use Rattle.reference.proofs.RangeLaws.{each-holds, each-true}
 use Rattle.reference.proofs.OpenLaws.{empty-nil, nil-empty, plan-within, plan-due, plan-open}
 use Rattle.reference.proofs.OpenLaws.{deliver-above, deliver-within, deliver-full, deliver-open}
 

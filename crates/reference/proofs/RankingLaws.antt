@@ -1,17 +1,17 @@
 -- Silence: no ranked step is open exactly if no step is, since the ranking lists every step that is there.
-use Prim.Native.Nat.{ℕ, zero, suc, _+_, _-_, _≤_, _<_}
+use Prim.Native.Nat.{ℕ, zero, suc, _+_, _-_, _<_}
 use native.Mathlib.Omega.{arith}
 use mathlib.Core.Bool.{Bool, true, false, _&&_, not, and-assoc, and-true}
 use mathlib.Core.List.{List, [], _∷_, _++_}
 use mathlib.Core.Logic.{⊎-elim}
 use mathlib.Core.Path.{_≡_, refl, sym, _∙_, ap, ap₂}
 use borrow.Author.Tests.{not-true, not-false}
-use Rattle.laws.proofs.Tests.{and-both, and-fst, and-snd, and-fails, not-true-is-false, true-or-false, true-false-absurd}
+use Rattle.laws.proofs.Tests.{and-fst, and-snd, and-fails, not-true-is-false, true-false-absurd}
 use Rattle.reference.specs.Ranges.{below, joined, each}
 use Rattle.reference.specs.State.{Machine, State}
 use Rattle.reference.specs.Step.{Step, plan, deliver, isOpen}
 use Rattle.reference.specs.Ranking.{deliveriesFrom, ranking, noneOpen, isSilent}
-use Rattle.reference.proofs.RangeLaws.{each-holds, each-true, each-same}
+use Rattle.reference.proofs.RangeLaws.{each-holds, each-same}
 use Rattle.reference.proofs.OpenLaws.{plan-within, deliver-above, deliver-within}
 
 module _ (M : Machine) (s : State) where

@@ -60,7 +60,7 @@ module _ (M : Machine) where
   passed-reaches s (single lent noStep) e = absurd (refused-not-passed (then-both (lentEnough M lent) (refused 7 0) e .1))
   passed-reaches s (runOf lent xs b) e = rw e (run-reaches s (stepsOf xs) b)
 
-  call-reaches : (s : State) (c : Call) → Reaches M s (afterCall M s c) (replyCount (reply M s c))
+  pub call-reaches : (s : State) (c : Call) → Reaches M s (afterCall M s c) (replyCount (reply M s c))
   unfolding replyCount
   call-reaches s c = go (verdict M s c) refl
     where

@@ -1,20 +1,20 @@
 -- Laws of the table of refusals: what is lent, single steps, lists of named steps.
-use Prim.Native.Nat.{ℕ, zero, suc, _+_, _≤_, _<_}
+use Prim.Native.Nat.{ℕ, suc, _+_, _≤_, _<_}
 use native.Mathlib.Omega.{arith}
 use mathlib.Core.Bool.{Bool, true, false, not}
 use mathlib.Core.List.{List, [], _∷_, _++_, map}
 use mathlib.Core.Logic.{_↔_}
-use mathlib.Core.Path.{_≡_, refl, sym, _∙_, ap}
+use mathlib.Core.Path.{_≡_, refl, ap}
 use borrow.Author.Tests.{le-leb, lt-leb, leb-true}
 use lib.ListN.{length, getD, length-append, List·getD-append}
 use lib.Seq.{getD-append-add}
 use Rattle.laws.specs.Verdict.{Verdict, passed, refused, _then_, demand, passes, All}
-use Rattle.laws.proofs.Tests.{and-both, true-false-absurd}
-use Rattle.laws.proofs.VerdictLaws.{then-passed, then-both, demand-holds, demand-passes, demand-refuses}
+use Rattle.laws.proofs.Tests.{true-false-absurd}
+use Rattle.laws.proofs.VerdictLaws.{then-both, demand-holds, demand-passes, demand-refuses}
 use Rattle.laws.proofs.EachLaws.{each-passed, all-passes}
 use Rattle.reference.specs.State.{Machine, State}
 use Rattle.reference.specs.Step.{Step, plan, deliver, isThere, hasCapacity, isEmpty, waitsFor, isOpen}
-use Rattle.reference.specs.Table.{Asked, step, noStep, isNamed, stepsOf, single, runOf, lentEnough, allNamed, openSingle, verdict}
+use Rattle.reference.specs.Table.{Asked, step, noStep, isNamed, stepsOf, single, lentEnough, allNamed, openSingle, verdict}
 use Rattle.reference.proofs.OpenLaws.{ready-open}
 
 -- A test that refuses with 8, alone and before others that do.

@@ -3,7 +3,7 @@ use Prim.Native.Nat.{ℕ, _<_}
 use mathlib.Core.List.{List, [], _∷_, _++_}
 use mathlib.Core.Logic.{_⊎_, inl, inr, ⊎-elim}
 use mathlib.Core.Path.{_≡_}
-use Rattle.route.specs.Route.{Answer, none, View}
+use Rattle.route.specs.Route.{Answer, none, View, unheard, heard}
 use Rattle.laws.proofs.Tests.{eq-or-ne}
 use Rattle.reference.specs.State.{Machine, State, fresh, views}
 use Rattle.reference.specs.Step.{Step, plan, deliver}
@@ -85,3 +85,23 @@ module _ (n : ℕ) (P : Answer → Type 0) where
     pub reaches-throughout : {s z : State} {t : ℕ} → Throughout n P s → Reaches M s z t → Throughout n P z
     reaches-throughout h stay = h
     reaches-throughout {s = s} h (next x e p) = reaches-throughout (step-throughout s h x) p
+
+-- What follows of every answer follows of every part.
+module _ (n : ℕ) {P Q : Answer → Type 0} (more : (a : Answer) → P a → Q a) where
+  all-more : (l : List Answer) → AllOf P l → AllOf Q l
+  unfolding AllOf
+  all-more [] h = tt
+  all-more (a ∷ l) h = (more a (h .0), all-more l (h .1))
+
+  shown-more : (v : View) → ShownOf P v → ShownOf Q v
+  unfolding ShownOf
+  shown-more unheard h = tt
+  shown-more (heard a) h = more a h
+
+  pub throughout-more : (s : State) → Throughout n P s → Throughout n Q s
+  throughout-more s h =
+      record {
+        answers = λ i l. more (s .answer i) (h .answers i l);
+        messages = λ i j a b. all-more (s .chan i j) (h .messages i j a b);
+        seen = λ i j a b. shown-more (s .view i j) (h .seen i j a b);
+      }

@@ -21,11 +21,11 @@ use Rattle.route.proofs.Theorems.{theorems}
 use Rattle.search.specs.Task.{taskOf, taskWith}
 use Rattle.planner.specs.Plan.{respondOf}
 use Rattle.reference.specs.State.{Machine}
-use Rattle.layout.specs.Fits.{Sound}
+use Rattle.layout.specs.Ranges.{Sound}
 use Rattle.layout.specs.Places.{stateSize}
 use Rattle.layout.specs.Calls.{machineOf}
 use Rattle.layout.proofs.RecordLaws.{sound-whole}
 use Rattle.layout.proofs.StepLaws.{Storable}
 
 pub none-sound : (f : Floor) → Sound f none
 unfolding Sound
