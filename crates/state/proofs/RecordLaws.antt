@@ -14,7 +14,7 @@ use Rattle.laws.specs.Memory.{put, part}
 use Rattle.laws.proofs.PutLaws.{put-one}
 use Rattle.reference.specs.Step.{sameCells}
 use Rattle.layout.specs.Places.{plannedPlace, answerPlace, channelPlace}
-use Rattle.layout.specs.Steps.{moved, newsIn, pushed, pushedBelow, sentTo}
+use Rattle.layout.specs.InnerSteps.{moved, newsIn, pushed, pushedBelow, sentTo}
 
 -- A part is its first number and the part behind it.
 pub part-first : (m : List ℕ) (at k : ℕ) → at < length m → getD m at 0 ∷ part m (at + 1) k ≡ part m at (suc k)

@@ -4,7 +4,7 @@ ghost use mathlib.Core.List.{_∷_};
 ghost use Prim.Native.Nat.{_+_, _-_, _≤_, _<_};
 ghost use lib.ListN.{length};
 ghost use Rattle.layout.specs.Places.{stateSize};
-ghost use Rattle.layout.specs.Steps.{shifted, popped, pushed, pushedBelow, sentTo};
+ghost use Rattle.layout.specs.InnerSteps.{shifted, popped, pushed, pushedBelow, sentTo};
 use route::Route;
 
 // The messages behind the oldest move up, and the last place is cleared.

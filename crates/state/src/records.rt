@@ -7,7 +7,7 @@ ghost use Rattle.laws.specs.Memory.{put, part};
 ghost use Rattle.reference.specs.Step.{sameCells};
 ghost use Rattle.layout.specs.Places.{plannedPlace, duePlace};
 ghost use Rattle.layout.specs.Encode.{fit};
-ghost use Rattle.layout.specs.Steps.{moved, newsIn};
+ghost use Rattle.layout.specs.InnerSteps.{moved, newsIn};
 use route::Route;
 
 // The 64 cells at a place.

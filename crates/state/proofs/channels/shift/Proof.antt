@@ -1,5 +1,5 @@
 -- `state::channels::shift` meets its contract: three records moved up and one cleared, in the order of the definition.
-use Rattle.layout.specs.Steps.{shifted}
+use Rattle.layout.specs.InnerSteps.{shifted}
 use borrow.Author.Needs.{needs}
 use Rattle.state.proofs.channels.shift.Statement.{statement}
 use Rattle.state.proofs.channels.shift.Tie as tie
