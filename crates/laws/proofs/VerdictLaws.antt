@@ -202,3 +202,9 @@ module _ (k p : ℕ) (ok : ℕ → Bool) where
 
 -- What such a loop's answers take.
 pub ruleset tests = (needs, each-none, tests-go-on, tests-stop, each-end)
+
+-- A check over items depends on its tests there only.
+pub demand-same : (k p : ℕ) (ok also : ℕ → Bool) (m : ℕ) → ((i : ℕ) → i < m → ok i ≡ also i) → demandEach k p ok m ≡ demandEach k p also m
+unfolding demandEach inTurn
+demand-same k p ok also zero h = refl
+demand-same k p ok also (suc m) h = rw (demand-same k p ok also m (λ i l. h i (omega arith)), h m (omega arith))

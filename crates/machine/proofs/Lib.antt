@@ -5,3 +5,4 @@ pub mod OpenLaws
 pub mod PowerLaws
 pub mod TakeLaws
 pub mod VerdictLaws
+pub mod EntryLaws

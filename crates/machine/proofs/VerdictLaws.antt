@@ -1,91 +1,79 @@
 -- What passed checks tell, and what the checks of an entry come to.
-use Prim.Native.Nat.{ℕ, _+_, _≤_}
+use Prim.Native.Nat.{ℕ, zero, suc, _+_, _≤_, _<_}
 use native.Mathlib.Omega.{arith}
 use mathlib.Core.Bool.{Bool, true, false, not}
-use mathlib.Core.List.{List}
-use mathlib.Core.Path.{_≡_, refl, _∙_, ap, fun-ext}
-use lib.ListN.{length, getD}
+use mathlib.Core.List.{List, [], _∷_, map}
+use mathlib.Core.Path.{_≡_, refl, sym, _∙_, ap}
+use lib.ListN.{length, getD, length-map}
 use borrow.Author.Tests.{not-true, not-false}
+use Rattle.laws.specs.Verdict.{Verdict, passed, _then_, demand, demandEach}
+use Rattle.laws.proofs.VerdictLaws.{then-both, demand-same}
 use Rattle.floor.specs.declared.Floor.{Floor}
-use Rattle.laws.specs.Verdict.{Verdict, passed, refused, _then_, demand, demandEach}
 use Rattle.floor.specs.Checks.{checkOf}
-use Rattle.floor.specs.Accepted.{Accepted}
-use Rattle.laws.proofs.VerdictLaws.{then-both, demand-holds}
 use Rattle.floor.proofs.AnswersLaws.{hands-on, ends-at}
 use Rattle.floor.proofs.LimitsLaws.{Bounds, limited-bounds, room-passed}
 use Rattle.floor.proofs.Theorems.{theorems}
 use Rattle.search.specs.Rows.{FreeRows}
 use Rattle.search.proofs.RequestLaws.{accepted-searchable}
-use Rattle.reference.specs.Step.{Step, named}
-use Rattle.reference.specs.Calls.{Reply}
+use Rattle.reference.specs.Table.{noStep, isNamed, allNamed}
 use Rattle.layout.specs.Places.{stateSize}
-use Rattle.layout.specs.Numbers.{stepOf}
-use Rattle.layout.specs.Steps.{openIn}
-use Rattle.layout.specs.Calls.{machineOf, placeVerdict, stateVerdict, stepVerdict, runVerdict, replyIf, memoryIf}
-use Rattle.machine.specs.Inner.{bare, namedAt, singleVerdict, Workable}
-use Rattle.machine.proofs.OpenLaws.{named-of, open-of}
-
--- What a passed check of a lent place tells.
-pub record Placed (f : Floor) (ws : List ℕ) (room : ℕ) : Type 0 where
-  pub accepted : Accepted f ws
-  pub bounds : Bounds f
-  pub enough : stateSize (f .carriers) ≤ room
+use Rattle.layout.specs.Numbers.{askedBy}
+use Rattle.layout.specs.Calls.{machineOf, placeVerdict, stateVerdict}
+use Rattle.machine.specs.Inner.{namedAt, Placed, Workable}
+use Rattle.machine.proofs.OpenLaws.{named-of}
 
 pub checked-few : (f : Floor) (ws : List ℕ) → checkOf f ws ≡ passed → f .carriers ≤ 8
 checked-few f ws h = limited-bounds f (theorems .passes-exactly f ws .0 h .limited) .carriers .1
+
+-- The bounds of an accepted floor.
+pub placed-bounds : {f : Floor} {ws : List ℕ} {room : ℕ} → Placed f ws room → Bounds f
+placed-bounds {f} a = limited-bounds f (a .accepted .limited)
 
 pub place-tells : (f : Floor) (ws : List ℕ) (room : ℕ) → placeVerdict f ws room ≡ passed → Placed f ws room
 unfolding placeVerdict
 place-tells f ws room h =
     let a = then-both _ _ h in
-    let ok = theorems .passes-exactly f ws .0 (a .0) in
-    record { accepted = ok; bounds = limited-bounds f (ok .limited); enough = room-passed _ _ (a .1) }
+    record { accepted = theorems .passes-exactly f ws .0 (a .0); enough = room-passed _ _ (a .1) }
 
 pub state-tells : (f : Floor) (ws m : List ℕ) → stateVerdict f ws m ≡ passed → Placed f ws (length m)
 unfolding stateVerdict
 state-tells f ws m h = place-tells f ws (length m) (then-both _ _ h .0)
 
+-- There are eight carriers at most, and room for their state.
+pub placed-sized : {f : Floor} {ws : List ℕ} {room : ℕ} → Placed f ws room → (f .carriers ≤ 8) × (stateSize (f .carriers) ≤ room)
+placed-sized a = (placed-bounds a .carriers .1, a .enough)
+
+-- What the free rows require.
+pub placed-grid : {f : Floor} {ws : List ℕ} {room : ℕ} → Placed f ws room →
+    ((1 ≤ f .width) × (f .width ≤ 32) × (f .height ≤ 32)) × (f .walls ≤ length ws)
+placed-grid a = let b = placed-bounds a in ((b .width .0, b .width .1, b .height .1), a .accepted .lent)
+
 -- Every carrier of an accepted floor can be worked on with its free rows.
-pub workable : (f : Floor) (ws rows m : List ℕ) → Placed f ws (length m) → FreeRows f ws rows → Workable f rows m
+pub workable : (f : Floor) (ws rows m : List ℕ) → Placed f ws (length m) → FreeRows f ws rows → Workable f ws rows m
 workable f ws rows m a r =
+    let b = placed-bounds a in
     record {
-      few = a .bounds .carriers .1;
-      horizon = a .bounds .horizon .1;
+      few = b .carriers .1;
+      horizon = b .horizon .1;
       room = a .enough;
+      free = r;
       searchable = λ i views l s.
           accepted-searchable f ws (i + 1) views rows (a .accepted) (omega arith, omega arith) (omega arith) r;
     }
 
--- The refusals of a single step as the code makes them.
-pub single-is : (f : Floor) (ws m : List ℕ) (x : ℕ) →
-    (stateVerdict f ws m then demand (named (bare f) (stepOf x)) 7 0 then demand (openIn (bare f) m (stepOf x)) 8 0) ≡ stepVerdict f ws
-    m x
-unfolding stepVerdict
-single-is f ws m x = rw (named-of f ws (stepOf x), open-of f m ws (stepOf x)) refl
-
 -- The names of a list as the code tests them.
-pub names-are : {v : Verdict} (f : Floor) (ws xs : List ℕ) → v ≡ demandEach 7 0 (namedAt f xs) (length xs) →
-    v ≡ demandEach 7 0 (λ p. named (machineOf f ws) (stepOf (getD xs p 0))) (length xs)
-unfolding namedAt
-names-are f ws xs e =
-    e ∙ ap (λ (ok : ℕ → Bool). demandEach 7 0 ok (length xs)) (fun-ext (λ p. named-of f ws (stepOf (getD xs p 0))))
-
--- Where the checks pass, the answer and the memory are those after the step; with a refusal, all is as it was.
-pub reply-passed : {r : Reply} (v : Verdict) (r′ : Reply) → v ≡ passed → r ≡ r′ → r ≡ replyIf v r′
-unfolding replyIf
-reply-passed v r′ e g = rw e g
-
-pub memory-passed : {m : List ℕ} (v : Verdict) (m′ old : List ℕ) → v ≡ passed → m ≡ m′ → m ≡ memoryIf v m′ old
-unfolding memoryIf
-memory-passed v m′ old e g = rw e g
-
-pub reply-refused : {r : Reply} (v : Verdict) (r′ other : Reply) (k p : ℕ) → v ≡ refused k p → r ≡ replyIf v other → r ≡ replyIf v r′
-unfolding replyIf
-reply-refused v r′ other k p e g = g ∙ rw e refl
-
-pub memory-refused : (v : Verdict) (m old : List ℕ) (k p : ℕ) → v ≡ refused k p → old ≡ memoryIf v m old
-unfolding memoryIf
-memory-refused v m old k p e = rw e refl
+pub names-are : (f : Floor) (ws xs : List ℕ) →
+    demandEach 7 0 (namedAt f xs) (length xs) ≡ allNamed (machineOf f ws) (map askedBy xs)
+unfolding allNamed namedAt
+names-are f ws xs =
+    demand-same 7 0 (namedAt f xs) (λ p. isNamed (machineOf f ws) (getD (map askedBy xs) p noStep)) (length xs)
+    (λ p l. named-of f ws (askedBy (getD xs p 0)) ∙ ap (isNamed (machineOf f ws)) (sym (mapped xs p l)))
+    ∙ rw (length-map xs askedBy) refl
+  where
+    mapped : (ys : List ℕ) (p : ℕ) → p < length ys → getD (map askedBy ys) p noStep ≡ askedBy (getD ys p 0)
+    mapped [] p l = absurd (omega arith)
+    mapped (y ∷ ys) zero l = refl
+    mapped (y ∷ ys) (suc p) l = mapped ys p (omega arith)
 
 -- A test in a chain of checks, last and with others behind it: its refusal, or what comes then.
 pub demand-yes : {b d : Bool} (k p : ℕ) → b ≡ d → b ≡ true → passed ≡ demand d k p
@@ -105,21 +93,3 @@ then-no {b} k p w e h g = rw (← e, not-true b h) g
 
 -- What each answer of a chain of checks is found with.
 pub ruleset chain = (hands-on, ends-at, demand-yes, demand-no, then-yes, then-no)
-
--- The checks of a single step stand for the number that names it.
-pub single-stands : {v : Verdict} (f : Floor) (ws m : List ℕ) (s : Step) (x : ℕ) → s ≡ stepOf x →
-    v ≡ singleVerdict f ws m s → v ≡ stepVerdict f ws m x
-unfolding singleVerdict
-single-stands f ws m s x e g = g ∙ rw e (single-is f ws m x)
-
-pub step-tells : (f : Floor) (ws m : List ℕ) (x : ℕ) → stepVerdict f ws m x ≡ passed → Placed f ws (length m)
-unfolding stepVerdict
-step-tells f ws m x h = state-tells f ws m (then-both _ _ h .0)
-
-pub step-open : (f : Floor) (ws m : List ℕ) (x : ℕ) → stepVerdict f ws m x ≡ passed → openIn (machineOf f ws) m (stepOf x) ≡ true
-unfolding stepVerdict
-step-open f ws m x h = demand-holds _ 8 0 (then-both _ _ (then-both _ _ h .1) .1)
-
-pub run-tells : (f : Floor) (ws m xs : List ℕ) → runVerdict f ws m xs ≡ passed → Placed f ws (length m)
-unfolding runVerdict
-run-tells f ws m xs h = state-tells f ws m (then-both _ _ h .0)

@@ -13,14 +13,16 @@ use Rattle.floor.specs.declared.Floor.{Floor}
 use Rattle.route.specs.Route.{View}
 use Rattle.route.specs.Search.{best}
 use Rattle.route.proofs.Theorems.{theorems}
-use Rattle.search.specs.Task.{taskOfRows}
+use Rattle.search.specs.Rows.{FreeRows}
+use Rattle.search.specs.Task.{taskOf, taskOfRows}
 use Rattle.route.specs.Views.{viewOf, viewAt, records, viewsOf}
-use Rattle.planner.specs.Plan.{respondWith}
+use Rattle.planner.specs.Plan.{respondOf}
+use Rattle.planner.proofs.PlanLaws.{views-above}
 use Rattle.reference.specs.Ranges.{below}
 use Rattle.layout.specs.Places.{viewPlace}
 use Rattle.layout.specs.Decode.{recordAt}
-use Rattle.layout.specs.Steps.{viewsIn, bestIn}
-use Rattle.machine.specs.Inner.{machineWith}
+use Rattle.layout.specs.InnerSteps.{viewsIn, bestIn}
+use Rattle.layout.specs.Calls.{machineOf}
 
 -- A part of a part.
 part-part : (m : List ℕ) (a n k l : ℕ) → a + n ≤ length m → k + l ≤ n → part (part m a n) k l ≡ part m (a + k) l
@@ -66,26 +68,23 @@ module _ (b : List ℕ) (g : ℕ → View) where
       (λ (r : List·Memᴰ v (g k ∷ [])). List·Memᴰ·head (List·Memᴰ·eq-of-singleton r ∙ sym (h k (omega arith))))
       (List·Memᴰ·append-cases (below k g) q)
 
-views-above : (b : List ℕ) (i : ℕ) → viewsOf b (i + 1) ≡ records b i
-unfolding viewsOf
-views-above b i = let one : i + 1 - 1 ≡ i = omega arith in rw one
-
-rows-horizon : (f : Floor) (rows : List ℕ) (i : ℕ) → f .horizon ≤ 63 → taskOfRows f rows i .horizon ≤ 63
-unfolding taskOfRows
-rows-horizon f rows i h = h
-
 next-view : (n i j a : ℕ) → a ≡ viewPlace n i 0 → a + 65 * j ≡ viewPlace n i j
 unfolding viewPlace
 next-view n i j a e = omega (arith, e)
 
--- The best answer to the part that has the views of carrier i.
-part-best : (f : Floor) (rows m : List ℕ) (i a : ℕ) → f .horizon ≤ 63 → a ≡ viewPlace (f .carriers) i 0 → a + 65 * i ≤ length m →
-    best (taskOfRows f rows (i + 1)) (viewsOf (part m a (65 * i)) (i + 1)) ≡ bestIn (machineWith f rows) m i
-unfolding bestIn machineWith respondWith viewsIn
-part-best f rows m i a h e l =
+task-horizon : (f : Floor) (ws : List ℕ) (i : ℕ) → f .horizon ≤ 63 → taskOf f ws i .horizon ≤ 63
+unfolding taskOf
+task-horizon f ws i h = h
+
+-- The best answer to the part that has the views of carrier i, with the free cells as rows.
+part-best : (f : Floor) (ws rows m : List ℕ) (i a : ℕ) → FreeRows f ws rows → f .horizon ≤ 63 → a ≡ viewPlace (f .carriers) i 0 →
+    a + 65 * i ≤ length m → best (taskOfRows f rows (i + 1)) (viewsOf (part m a (65 * i)) (i + 1)) ≡ bestIn (machineOf f ws) m i
+unfolding bestIn machineOf respondOf viewsIn
+part-best f ws rows m i a free h e l =
     let b = part m a (65 * i) in
-    ap (best (taskOfRows f rows (i + 1))) (views-above b i)
-    ∙ theorems .best-same-views (taskOfRows f rows (i + 1)) (records b i) (below i seen) (rows-horizon f rows (i + 1) h)
+    free .same (i + 1) (viewsOf b (i + 1))
+    ∙ ap (best (taskOf f ws (i + 1))) (views-above b i)
+    ∙ theorems .best-same-views (taskOf f ws (i + 1)) (records b i) (below i seen) (task-horizon f ws (i + 1) h)
     (shown-below b seen i same) (below-shown b seen i same)
   where
     seen : ℕ → View
@@ -102,7 +101,8 @@ slice-part m a i = let size : a + 65 * i - a ≡ 65 * i = omega arith in rw size
 pub slice-long : (m : List ℕ) (a i : ℕ) → a + 65 * i ≤ length m → 65 * i ≤ length (take (a + 65 * i - a) (drop a m))
 slice-long m a i l = omega (arith, ap length (slice-part m a i), part-length m a (65 * i) l)
 
-pub slice-best : (f : Floor) (rows m : List ℕ) (i a : ℕ) → f .horizon ≤ 63 → a ≡ viewPlace (f .carriers) i 0 → a + 65 * i ≤ length m →
-    best (taskOfRows f rows (i + 1)) (viewsOf (take (a + 65 * i - a) (drop a m)) (i + 1)) ≡ bestIn (machineWith f rows) m i
-slice-best f rows m i a h e l =
-    ap (λ (b : List ℕ). best (taskOfRows f rows (i + 1)) (viewsOf b (i + 1))) (slice-part m a i) ∙ part-best f rows m i a h e l
+pub slice-best : (f : Floor) (ws rows m : List ℕ) (i a : ℕ) → FreeRows f ws rows → f .horizon ≤ 63 → a ≡ viewPlace (f .carriers) i 0 →
+    a + 65 * i ≤ length m →
+    best (taskOfRows f rows (i + 1)) (viewsOf (take (a + 65 * i - a) (drop a m)) (i + 1)) ≡ bestIn (machineOf f ws) m i
+slice-best f ws rows m i a free h e l =
+    ap (λ (b : List ℕ). best (taskOfRows f rows (i + 1)) (viewsOf b (i + 1))) (slice-part m a i) ∙ part-best f ws rows m i a free h e l

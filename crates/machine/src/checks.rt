@@ -1,13 +1,17 @@
 // The refusals of the entries, in document 01's order: the floor's, 9, 10, 7, 8.
 ghost use mathlib.Core.Path.{_≡_};
 ghost use mathlib.Core.Bool.{false};
+ghost use Prim.Native.Nat.{_≤_};
 ghost use lib.ListN.{length};
-ghost use Rattle.floor.specs.Answers.{verdictOf};
 ghost use Rattle.laws.specs.Verdict.{demand, demandEach};
-ghost use Rattle.layout.specs.Calls.{placeVerdict, stateVerdict, runVerdict};
-ghost use Rattle.machine.specs.Answers.{meant};
-ghost use Rattle.machine.specs.Inner.{namedAt, singleVerdict};
-use crate::Asked;
+ghost use Rattle.floor.specs.Answers.{verdictOf};
+ghost use Rattle.reference.specs.Table.{step};
+ghost use Rattle.layout.specs.Places.{stateSize};
+ghost use Rattle.layout.specs.Calls.{placeVerdict, stateVerdict};
+ghost use Rattle.layout.specs.InnerCalls.{singleVerdictIn};
+ghost use Rattle.machine.specs.Answers.{stepMeant};
+ghost use Rattle.machine.specs.Inner.{bare, namedAt};
+use crate::steps::Step;
 use floor::Checked;
 use floor::Floor;
 use floor::Refusal;
@@ -47,30 +51,24 @@ pub fn lent_state(f: Floor, walls: &[u16], m: &[u16]) -> Checked
     refused(10)
 }
 
-// The refusals of a single step.
-pub fn single(f: Floor, walls: &[u16], m: &[u16], s: Asked) -> Checked
-    ensures { λ r. ⌜ verdictOf r ≡ singleVerdict f (now (walls .entry)) (now (m .entry)) (meant s) ⌝ }
+// The refusals of a single step on a checked state: 7, then what it waits for.
+pub fn ready(f: Floor, m: &[u16], s: Step) -> Checked
+    requires { ⌜ (f .carriers ≤ 8) × (stateSize (f .carriers) ≤ length (now m)) ⌝ }
+    ensures { λ r. ⌜ verdictOf r ≡ singleVerdictIn (bare f) (now (m .entry)) (step (stepMeant s)) ⌝ }
 {
-    let sound = lent_state(f, walls, m);
-    let Checked::Passed = sound else {
-        return sound;
-    };
-    if !crate::steps::is_named(f, s) {
+    if !crate::steps::is_there(f, s) {
         return refused(7);
     }
-    if crate::tests::is_open(f, m, s) {
-        return Checked::Passed;
-    }
-    refused(8)
+    crate::openness::waits(f, m, s)
 }
 
-// 7 with the position of the first step of a list that is not there.
-fn all_named(f: Floor, numbers: &[u16]) -> Checked
+// 7 with the position of the first number of a list that names no step that is there.
+pub fn all_named(f: Floor, numbers: &[u16]) -> Checked
     ensures { λ r. ⌜ verdictOf r ≡ demandEach 7 0 (namedAt f (now (numbers .entry))) (length (now (numbers .entry))) ⌝ }
 {
     let mut p: usize = 0;
     while p < numbers.len() {
-        if !crate::steps::is_named(f, crate::steps::step_of(numbers[p])) {
+        if !crate::steps::is_named(f, numbers[p]) {
             return Checked::Refused(Refusal {
                 number: 7,
                 place: p,
@@ -79,15 +77,4 @@ fn all_named(f: Floor, numbers: &[u16]) -> Checked
         p += 1;
     }
     Checked::Passed
-}
-
-// The refusals of a run.
-pub fn listed(f: Floor, walls: &[u16], m: &[u16], numbers: &[u16]) -> Checked
-    ensures { λ r. ⌜ verdictOf r ≡ runVerdict f (now (walls .entry)) (now (m .entry)) (now (numbers .entry)) ⌝ }
-{
-    let sound = lent_state(f, walls, m);
-    let Checked::Passed = sound else {
-        return sound;
-    };
-    all_named(f, numbers)
 }

@@ -1,39 +1,24 @@
 // The machine of document 01 over lent memory: the fresh state, the single step, the run, the step ceiling.
 mod checks;
+mod openness;
 mod power;
 mod runs;
 mod steps;
 mod take;
-mod tests;
 
 ghost use mathlib.Core.Path.{_≡_};
 ghost use Prim.Native.Nat.{_≤_};
 ghost use lib.ListN.{length};
+ghost use Rattle.laws.specs.Verdict.{passed};
 ghost use Rattle.floor.specs.Answers.{verdictOf};
-ghost use Rattle.layout.specs.Calls.{placeVerdict, freshMemory, stepReply, stepMemory, runReply, runMemory, runOver};
-ghost use Rattle.layout.specs.Runs.{numberTaken};
-ghost use Rattle.machine.specs.Answers.{steppedReply, ranReply};
+ghost use Rattle.layout.specs.Calls.{machineOf, placeVerdict, stateVerdict, freshMemory, replyTo, memoryAfter, singleCall, runCall};
+ghost use Rattle.layout.specs.InnerCalls.{replyIn, memoryIn};
+ghost use Rattle.machine.specs.Answers.{steppedReply, ranReply, takenNumber};
 ghost use Rattle.machine.specs.Ceiling.{figureOf, mostSteps};
 use floor::Checked;
 use floor::Floor;
 use floor::Refusal;
-
-// A step as it is asked for; carriers count from 0.
-pub enum Asked {
-    // Carrier i plans.
-    Plan(usize),
-    // The oldest message from one carrier to another is delivered.
-    Deliver { from: usize, to: usize },
-    // The number names no kind of step.
-    NoKind,
-}
-
-// What a step that is taken answers.
-pub enum Taken {
-    KeptIt,
-    SentIt,
-    DeliveredIt,
-}
+use steps::Asked;
 
 // The answer to a single step.
 pub enum Stepped {
@@ -80,33 +65,72 @@ pub fn fresh(f: Floor, walls: &[u16], state: &mut [u16]) -> Checked
     placed
 }
 
+// A single step on a checked state.
+fn step_on(f: Floor, walls: &[u16], state: &mut [u16], number: u16) -> Stepped
+    requires { ⌜ stateVerdict f (now walls) (now state) ≡ passed ⌝ }
+    ensures answers { λ r. ⌜ steppedReply r ≡
+        replyIn (machineOf f (now (walls .entry))) (now (state .entry)) (singleCall (now (state .entry)) number) ⌝ }
+    ensures stores { λ r. ⌜ now (state .exit) ≡
+        memoryIn (machineOf f (now (walls .entry))) (now (state .entry)) (singleCall (now (state .entry)) number) ⌝ }
+{
+    let asked = steps::asked_by(number);
+    let Asked::Known(s) = asked else {
+        return Stepped::Refused(Refusal {
+            number: 7,
+            place: 0,
+        });
+    };
+    let ready = checks::ready(f, state, s);
+    let Checked::Refused(x) = ready else {
+        return take::take_single(f, walls, state, s);
+    };
+    Stepped::Refused(x)
+}
+
 // Takes a single step on a lent state: plan i is 100 + i, deliver j to i is 200 + 10 j + i.
 pub fn step(f: Floor, walls: &[u16], state: &mut [u16], number: u16) -> Stepped
-    ensures answers { λ r. ⌜ steppedReply r ≡ stepReply f (now (walls .entry)) (now (state .entry)) number ⌝ }
-    ensures stores { λ r. ⌜ now (state .exit) ≡ stepMemory f (now (walls .entry)) (now (state .entry)) number ⌝ }
+    ensures answers { λ r. ⌜ steppedReply r ≡ replyTo f (now (walls .entry)) (now (state .entry)) (singleCall (now (state .entry)) number) ⌝ }
+    ensures stores { λ r. ⌜ now (state .exit) ≡
+        memoryAfter f (now (walls .entry)) (now (state .entry)) (singleCall (now (state .entry)) number) ⌝ }
 {
-    let asked = steps::step_of(number);
-    let allowed = checks::single(f, walls, state, asked);
-    let Checked::Passed = allowed else {
-        return take::turned(allowed);
+    let sound = checks::lent_state(f, walls, state);
+    let Checked::Refused(x) = sound else {
+        return step_on(f, walls, state, number);
     };
-    let free = search::free_rows(f, walls);
-    take::answer(take::take_step(f, free, state, asked))
+    Stepped::Refused(x)
+}
+
+// A run on a checked state.
+fn run_on(f: Floor, walls: &[u16], state: &mut [u16], numbers: &[u16], budget: u16) -> Ran
+    requires { ⌜ stateVerdict f (now walls) (now state) ≡ passed ⌝ }
+    ensures answers { λ r. ⌜ ranReply r ≡
+        replyIn (machineOf f (now (walls .entry))) (now (state .entry)) (runCall (now (state .entry)) (now (numbers .entry)) budget) ⌝ }
+    ensures stores { λ r. ⌜ now (state .exit) ≡
+        memoryIn (machineOf f (now (walls .entry))) (now (state .entry)) (runCall (now (state .entry)) (now (numbers .entry)) budget) ⌝ }
+    ensures within { λ r. ⌜ takenNumber r ≤ budget ⌝ }
+{
+    let named = checks::all_named(f, numbers);
+    let Checked::Refused(x) = named else {
+        let free = search::free_rows(f, walls);
+        let tally = runs::run_all(f, walls, free, state, numbers, budget as usize);
+        return runs::ending(f, state, tally, budget as usize, numbers.len());
+    };
+    Ran::Refused(x)
 }
 
 // Takes a run on a lent state: the open steps of a list in turn, as many as the budget allows.
 pub fn run(f: Floor, walls: &[u16], state: &mut [u16], numbers: &[u16], budget: u16) -> Ran
-    ensures answers { λ r. ⌜ ranReply r ≡ runReply f (now (walls .entry)) (now (state .entry)) (now (numbers .entry)) budget ⌝ }
-    ensures stores { λ r. ⌜ now (state .exit) ≡ runMemory f (now (walls .entry)) (now (state .entry)) (now (numbers .entry)) budget ⌝ }
-    ensures within { λ r. ⌜ numberTaken (runOver f (now (walls .entry)) (now (state .entry)) (now (numbers .entry)) budget) ≤ budget ⌝ }
+    ensures answers { λ r. ⌜ ranReply r ≡
+        replyTo f (now (walls .entry)) (now (state .entry)) (runCall (now (state .entry)) (now (numbers .entry)) budget) ⌝ }
+    ensures stores { λ r. ⌜ now (state .exit) ≡
+        memoryAfter f (now (walls .entry)) (now (state .entry)) (runCall (now (state .entry)) (now (numbers .entry)) budget) ⌝ }
+    ensures within { λ r. ⌜ takenNumber r ≤ budget ⌝ }
 {
-    let allowed = checks::listed(f, walls, state, numbers);
-    let Checked::Passed = allowed else {
-        return runs::turned(allowed);
+    let sound = checks::lent_state(f, walls, state);
+    let Checked::Refused(x) = sound else {
+        return run_on(f, walls, state, numbers, budget);
     };
-    let free = search::free_rows(f, walls);
-    let tally = runs::run_all(f, free, state, numbers, budget as usize);
-    runs::ending(f, state, tally, budget as usize, numbers.len())
+    Ran::Refused(x)
 }
 
 // The most steps for n carriers.
@@ -116,7 +140,7 @@ pub fn ceiling(n: usize) -> Most
     if n < 1 {
         return power::refused();
     }
-    if n > 8 {
+    if n > Floor::MAX_CARRIERS as usize {
         return power::refused();
     }
     Most::Steps(power::two_to(n + 1) - n - 2)

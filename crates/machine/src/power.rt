@@ -1,7 +1,8 @@
 // The step ceiling, 2^(n + 1) − n − 2.
 ghost use mathlib.Core.Path.{_≡_};
 ghost use Prim.Native.Nat.{_^_, _≤_};
-ghost use Rattle.machine.specs.Ceiling.{figureOf, turned};
+ghost use Rattle.laws.specs.Verdict.{refusal};
+ghost use Rattle.machine.specs.Ceiling.{figureOf};
 use crate::Most;
 use floor::Refusal;
 
@@ -21,7 +22,7 @@ pub fn two_to(n: usize) -> usize
 
 // Refusal 2, field 5.
 pub fn refused() -> Most
-    ensures { λ r. ⌜ figureOf r ≡ turned 2 5 ⌝ }
+    ensures { λ r. ⌜ figureOf r ≡ refusal 2 5 ⌝ }
 {
     Most::Refused(Refusal {
         number: 2,

@@ -1,18 +1,19 @@
 // The run: the open steps of a list in turn, as many as the budget allows.
 ghost use mathlib.Core.Path.{_≡_};
+ghost use mathlib.Core.List.{map};
 ghost use Prim.Native.Nat.{_≤_};
 ghost use lib.ListN.{length};
-ghost use Rattle.floor.specs.Answers.{verdictOf};
-ghost use Rattle.reference.specs.Ending.{ended, endsAs};
+ghost use Rattle.laws.specs.Verdict.{value};
 ghost use Rattle.reference.specs.Calls.{ran};
 ghost use Rattle.layout.specs.Places.{stateSize};
-ghost use Rattle.layout.specs.Numbers.{stepOf};
-ghost use Rattle.layout.specs.Calls.{replyIf};
-ghost use Rattle.layout.specs.Steps.{silentIn};
+ghost use Rattle.layout.specs.Numbers.{askedBy};
+ghost use Rattle.layout.specs.Calls.{machineOf};
+ghost use Rattle.layout.specs.InnerSteps.{silentIn};
+ghost use Rattle.layout.specs.InnerRuns.{runIn};
 ghost use Rattle.machine.specs.Answers.{ranReply};
-ghost use Rattle.machine.specs.Inner.{machineWith, bare, runWith, Workable, Tried, Tallied, endsWith};
+ghost use Rattle.machine.specs.Inner.{bare, Workable, Tried, Tallied, endsWith};
 use crate::Ran;
-use floor::Checked;
+use crate::steps::Asked;
 use floor::Floor;
 
 // How far a run has come: the steps taken, and the steps read.
@@ -22,22 +23,32 @@ pub struct Tally {
 }
 
 // Takes the step that a number names if it is open, and passes over it otherwise; the number taken, 1 or 0.
-fn try_step(f: Floor, free: [u32; 32], m: &mut [u16], x: u16) -> usize
-    requires { ⌜ Workable f free (now m) ⌝ }
-    ensures { λ r. ⌜ Tried (machineWith f free) (now (m .entry)) (stepOf x) r (now (m .exit)) ⌝ }
+fn try_step(f: Floor, walls: &[u16], free: [u32; 32], m: &mut [u16], x: u16) -> usize
+    requires { ⌜ Workable f (now walls) free (now m) ⌝ }
+    ensures { λ r. ⌜ Tried (machineOf f (now (walls .entry))) (now (m .entry)) (askedBy x) r (now (m .exit)) ⌝ }
 {
-    let s = crate::steps::step_of(x);
-    if crate::tests::is_open(f, m, s) {
-        crate::take::take_step(f, free, m, s);
+    let asked = crate::steps::asked_by(x);
+    let Asked::Known(s) = asked else {
+        return 0;
+    };
+    if crate::openness::is_open(f, m, s) {
+        crate::take::take_step(f, walls, free, m, s);
         return 1;
     }
     0
 }
 
 // Reads the list from the front while steps are left and fewer are taken than the budget.
-pub fn run_all(f: Floor, free: [u32; 32], m: &mut [u16], numbers: &[u16], budget: usize) -> Tally
-    requires { ⌜ Workable f free (now m) ⌝ }
-    ensures { λ r. ⌜ Tallied (runWith f free (now (m .entry)) (now (numbers .entry)) budget) budget
+pub fn run_all(
+    f: Floor,
+    walls: &[u16],
+    free: [u32; 32],
+    m: &mut [u16],
+    numbers: &[u16],
+    budget: usize,
+) -> Tally
+    requires { ⌜ Workable f (now walls) free (now m) ⌝ }
+    ensures { λ r. ⌜ Tallied (runIn (machineOf f (now (walls .entry))) (now (m .entry)) (map askedBy (now (numbers .entry))) budget) budget
         (length (now (numbers .entry))) (r .taken) (r .read) (now (m .exit)) ⌝ }
 {
     let mut taken: usize = 0;
@@ -46,7 +57,7 @@ pub fn run_all(f: Floor, free: [u32; 32], m: &mut [u16], numbers: &[u16], budget
         if taken >= budget {
             return Tally { taken, read };
         }
-        taken += try_step(f, free, m, numbers[read]);
+        taken += try_step(f, walls, free, m, numbers[read]);
         read += 1;
     }
     Tally { taken, read }
@@ -56,10 +67,10 @@ pub fn run_all(f: Floor, free: [u32; 32], m: &mut [u16], numbers: &[u16], budget
 // ended.
 pub fn ending(f: Floor, m: &[u16], tally: Tally, budget: usize, listed: usize) -> Ran
     requires { ⌜ (f .carriers ≤ 8) × (stateSize (f .carriers) ≤ length (now m)) ⌝ }
-    ensures { λ r. ⌜ ranReply r ≡ ran (tally .taken)
-        (endsWith (silentIn (bare f) (now (m .entry))) (tally .taken) budget (tally .read) listed) ⌝ }
+    ensures { λ r. ⌜ ranReply r ≡ value (ran (tally .taken)
+        (endsWith (silentIn (bare f) (now (m .entry))) (tally .taken) budget (tally .read) listed)) ⌝ }
 {
-    if crate::tests::is_silent(f, m) {
+    if crate::openness::is_silent(f, m) {
         return Ran::Silent(tally.taken);
     }
     if tally.taken != budget {
@@ -69,14 +80,4 @@ pub fn ending(f: Floor, m: &[u16], tally: Tally, budget: usize, listed: usize) -
         return Ran::Spent(tally.taken);
     }
     Ran::Ended(tally.taken)
-}
-
-// The answer with the refusal of a check.
-pub fn turned(checked: Checked) -> Ran
-    ensures { λ r. ⌜ ranReply r ≡ replyIf (verdictOf checked) (ran 0 ended) ⌝ }
-{
-    match checked {
-        Checked::Refused(x) => Ran::Refused(x),
-        Checked::Passed => Ran::Ended(0),
-    }
 }

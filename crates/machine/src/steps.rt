@@ -2,22 +2,38 @@
 ghost use mathlib.Core.Path.{_≡_};
 ghost use mathlib.Core.Bool.{_&&_};
 ghost use lib.Dec.{ltb};
-ghost use Rattle.reference.specs.Step.{named};
-ghost use Rattle.layout.specs.Numbers.{stepOf};
-ghost use Rattle.machine.specs.Answers.{meant};
+ghost use Rattle.reference.specs.Step.{isThere};
+ghost use Rattle.layout.specs.Numbers.{askedBy};
+ghost use Rattle.reference.specs.Table.{isNamed};
+ghost use Rattle.machine.specs.Answers.{stepMeant, askedMeant};
 ghost use Rattle.machine.specs.Inner.{bare};
-use crate::Asked;
 use floor::Floor;
 
+// A step; carriers count from 0.
+pub enum Step {
+    // Carrier i plans.
+    Plan(usize),
+    // The oldest message from one carrier to another is delivered.
+    Deliver { from: usize, to: usize },
+}
+
+// A step as it is asked for.
+pub enum Asked {
+    // A step.
+    Known(Step),
+    // The number names no kind of step.
+    NoKind,
+}
+
 // The step that a number names.
-pub fn step_of(x: u16) -> Asked
-    ensures { λ r. ⌜ meant r ≡ stepOf x ⌝ }
+pub fn asked_by(x: u16) -> Asked
+    ensures { λ r. ⌜ askedMeant r ≡ askedBy x ⌝ }
 {
     if x < 101 {
         return Asked::NoKind;
     }
     if x <= 109 {
-        return Asked::Plan(x as usize - 101);
+        return Asked::Known(Step::Plan(x as usize - 101));
     }
     if x < 210 {
         return Asked::NoKind;
@@ -28,14 +44,14 @@ pub fn step_of(x: u16) -> Asked
     if x % 10 < 1 {
         return Asked::NoKind;
     }
-    Asked::Deliver {
+    Asked::Known(Step::Deliver {
         from: (x as usize - 200) / 10 - 1,
         to: x as usize % 10 - 1,
-    }
+    })
 }
 
 // Whether a delivery names a sender above a receiver that is there.
-fn way_named(from: usize, to: usize, n: usize) -> bool
+fn way_there(from: usize, to: usize, n: usize) -> bool
     ensures { λ r. ⌜ r ≡ (ltb from to && ltb to n) ⌝ }
 {
     if from < to {
@@ -45,12 +61,22 @@ fn way_named(from: usize, to: usize, n: usize) -> bool
 }
 
 // Whether a step is there on a floor.
-pub fn is_named(f: Floor, s: Asked) -> bool
-    ensures { λ r. ⌜ r ≡ named (bare f) (meant s) ⌝ }
+pub fn is_there(f: Floor, s: Step) -> bool
+    ensures { λ r. ⌜ r ≡ isThere (bare f) (stepMeant s) ⌝ }
 {
     match s {
-        Asked::Plan(i) => i < f.carriers as usize,
-        Asked::Deliver { from, to } => way_named(from, to, f.carriers as usize),
-        Asked::NoKind => false,
+        Step::Plan(i) => i < f.carriers as usize,
+        Step::Deliver { from, to } => way_there(from, to, f.carriers as usize),
     }
+}
+
+// Whether a number names a step that is there on a floor.
+pub fn is_named(f: Floor, x: u16) -> bool
+    ensures { λ r. ⌜ r ≡ isNamed (bare f) (askedBy x) ⌝ }
+{
+    let asked = asked_by(x);
+    let Asked::Known(s) = asked else {
+        return false;
+    };
+    is_there(f, s)
 }

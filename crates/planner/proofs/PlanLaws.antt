@@ -37,7 +37,7 @@ best-whole task vs h = go (best task vs) refl
     go (route r) e = route-whole r (theorems .best-is-route task vs r h e .0 .long)
 
 -- The views of the carriers above carrier k, counted from 0.
-views-above : (m : List ℕ) (k : ℕ) → viewsOf m (k + 1) ≡ records m k
+pub views-above : (m : List ℕ) (k : ℕ) → viewsOf m (k + 1) ≡ records m k
 unfolding viewsOf
 views-above m k = let one : k + 1 - 1 ≡ k = omega arith in rw one
 

@@ -19,5 +19,5 @@ sub-t6 c =
 pub ceiling-spec : {M : Type 1} → statement M
 unfolding figureOf
 ceiling-spec =
-    tie.close (tie.spec (λ c κs. search needs) (λ c. search most-cases) (λ c κs. search needs) (λ c. search most-cases)
-    (λ c. search needs) (λ c κs. search needs) sub-t5 sub-t6 (λ c. search most-cases))
+    tie.close (tie.spec (λ c κs. search needs) (λ c. search most-cases) (λ c. search needs) (λ c κs. search needs)
+    (λ c. search most-cases) (λ c. search needs) (λ c κs. search needs) sub-t5 sub-t6 (λ c. search most-cases))

@@ -1,5 +1,5 @@
 -- `machine::checks::lent_state` meets its contract: the lent place first, then the test of the state.
-use Rattle.machine.proofs.VerdictLaws.{chain, place-tells}
+use Rattle.machine.proofs.VerdictLaws.{chain, place-tells, placed-sized}
 use Rattle.floor.proofs.AnswersLaws.{passes}
 use Rattle.floor.specs.Answers.{verdictOf}
 use Rattle.layout.specs.Calls.{stateVerdict}
@@ -8,8 +8,7 @@ use Rattle.machine.proofs.checks.lent_state.Statement.{statement}
 use Rattle.machine.proofs.checks.lent_state.Tie as tie
 
 valid-requires : tie.Need-valid-requires
-valid-requires c κs = let a = place-tells _ _ _ (passes (c .before .before .lent-place .ensures) (c .enum-told .given .1)) in
-    (a .bounds .carriers .1, a .enough)
+valid-requires c κs = placed-sized (place-tells _ _ _ (passes (c .before .before .lent-place .ensures) (c .enum-told .given .1)))
 
 pub lent-state-spec : {M : Type 1} → statement M
 unfolding stateVerdict verdictOf

@@ -2,26 +2,25 @@
 use Rattle.machine.proofs.TakeLaws.{workable-same}
 use lib.ListN.{length}
 use Prim.Native.Nat.{_-_, _≤_}
-use Rattle.reference.specs.Take.{kept}
-use Rattle.machine.specs.Inner.{runWith, machineWith, Running}
+use Rattle.layout.specs.Calls.{machineOf}
+use Rattle.machine.specs.Inner.{Running}
 use Rattle.machine.proofs.RunLaws.{running-start, running-more, running-spent, running-end, tried-one}
-use borrow.Author.Needs.{needs}
 use native.Mathlib.Omega.{arith}
+use borrow.Author.Needs.{needs}
 use Rattle.machine.proofs.runs.run_all.Statement.{statement}
 use Rattle.machine.proofs.runs.run_all.Tie as tie
 
 abbrev Inv-loop : tie.InvT-loop
-Inv-loop f free m₀ numbers budget taken₀ read₀ m taken read = (taken ≤ budget) ×
-    ((read ≤ length numbers) × Running (machineWith f free) m₀ numbers budget m read taken)
+Inv-loop f walls free m₀ numbers budget taken₀ read₀ m taken read = (taken ≤ budget) ×
+    ((read ≤ length numbers) × Running (machineOf f walls) m₀ numbers budget m read taken)
 
 abbrev μ-loop : tie.MeasureT-loop
-μ-loop f free m₀ numbers budget taken₀ read₀ m taken read = length numbers - read
+μ-loop f walls free m₀ numbers budget taken₀ read₀ m taken read = length numbers - read
 
 loop-holds : tie.Need-loop-holds Inv-loop μ-loop
 loop-holds c = (omega arith, (omega arith, running-start _ _ _ _))
 
 returns : tie.Need-returns Inv-loop μ-loop
-unfolding runWith
 returns c = running-spent _ _ _ _ _ _ _ (c .before .loop-test .taken) (c .before .before .loop .inv .0) (c .if1 .taken)
     (c .before .before .loop .inv .1 .1)
 
@@ -29,7 +28,7 @@ try-step-requires : tie.Need-try-step-requires Inv-loop μ-loop
 try-step-requires c κs =
     let at-loop : tie.At-loop Inv-loop μ-loop = search in
     let start : tie.Start Inv-loop μ-loop = search in
-    workable-same _ _ _ _ (at-loop .loop .inv .1 .1 .kept) (start .pre)
+    workable-same _ _ _ _ _ (at-loop .loop .inv .1 .1 .kept) (start .pre)
 
 add-taken : tie.Need-add-taken Inv-loop μ-loop
 add-taken c = search (needs, tried-one (c .before .before .try-step .ensures))
@@ -44,13 +43,12 @@ loop-again c =
       (
         omega (arith, in-loop .loop-test .taken),
         running-more _ _ _ _ _ _ _ _ _ (in-loop .loop-test .taken) (else1 .if1 .left)
-            (c .before .before .try-step .kept .1 .1 .0) (at-loop .loop .inv .1 .1)
+            (c .before .before .try-step .kept .1 .1 .1 .0) (at-loop .loop .inv .1 .1)
             (c .before .before .try-step .ensures),
       ),
     )
 
 returns-2 : tie.Need-returns-2 Inv-loop μ-loop
-unfolding runWith
 returns-2 c = running-end _ _ _ _ _ _ _ (c .loop-test .left) (c .before .loop .inv .0) (c .before .loop .inv .1 .1)
 
 pub run-all-spec : {M : Type 1} → statement M

@@ -1,32 +1,51 @@
 -- `machine::runs::try_step` meets its contract: an open step is taken, any other passed over.
 use mathlib.Core.Path.{refl, sym, _∙_}
-use Rattle.machine.specs.Inner.{took, passed}
-use Rattle.machine.proofs.OpenLaws.{open-with}
+use Rattle.layout.specs.InnerSteps.{askedOpenIn}
+use Rattle.layout.specs.InnerRuns.{askedAfterIn}
+use Rattle.machine.specs.Answers.{askedMeant}
+use Rattle.machine.specs.Inner.{took, skipped}
+use Rattle.machine.proofs.OpenLaws.{open-of}
 use borrow.Author.Needs.{needs}
 use Rattle.machine.proofs.runs.try_step.Statement.{statement}
 use Rattle.machine.proofs.runs.try_step.Tie as tie
 
+returns : tie.Need-returns
+unfolding askedMeant askedOpenIn
+returns c =
+    let after-asked-by : tie.After-asked-by = search in
+    rw (← after-asked-by .asked-by .ensures, c .enum-told .given .1) (skipped refl refl refl)
+
+is-open-requires : tie.Need-is-open-requires
+is-open-requires c κs =
+    let start : tie.Start = search in
+    (start .pre .few, start .pre .room)
+
 take-step-requires : tie.Need-take-step-requires
 take-step-requires c κs =
     let start : tie.Start = search in
-    (sym (open-with _ _ _ _) ∙ sym (c .before .before .is-open .ensures) ∙ c .before .if1 .taken, start .pre)
-
-returns : tie.Need-returns
-returns c =
-    let then1 : tie.Then1 = search in
-    let after-is-open : tie.After-is-open = search in
-    let after-step-of : tie.After-step-of = search in
-    rw (sym (after-step-of .step-of .ensures))
-    (took (sym (open-with _ _ _ _) ∙ sym (after-is-open .is-open .ensures) ∙ then1 .if1 .taken) refl
-    (c .before .before .take-step .ensures .1))
+    (sym (c .before .before .is-open .ensures) ∙ c .before .if1 .taken, start .pre)
 
 returns-2 : tie.Need-returns-2
+unfolding askedMeant askedOpenIn askedAfterIn
 returns-2 c =
-    let after-step-of : tie.After-step-of = search in
-    rw (sym (after-step-of .step-of .ensures))
-    (passed (sym (open-with _ _ _ _) ∙ sym (c .before .is-open .ensures) ∙ c .if1 .left) refl refl)
+    let after-take-step : tie.After-take-step = search in
+    let then1 : tie.Then1 = search in
+    let after-is-open : tie.After-is-open = search in
+    let after-asked : tie.After-asked = search in
+    let after-asked-by : tie.After-asked-by = search in
+    rw (← after-asked-by .asked-by .ensures, after-asked .asked .given .1)
+    (took (sym (open-of _ _ _ _) ∙ sym (after-is-open .is-open .ensures) ∙ then1 .if1 .taken) refl
+    (after-take-step .take-step .ensures .stores))
+
+returns-3 : tie.Need-returns-3
+unfolding askedMeant askedOpenIn
+returns-3 c =
+    let after-asked : tie.After-asked = search in
+    let after-asked-by : tie.After-asked-by = search in
+    rw (← after-asked-by .asked-by .ensures, after-asked .asked .given .1)
+    (skipped (sym (open-of _ _ _ _) ∙ sym (c .before .is-open .ensures) ∙ c .if1 .left) refl refl)
 
 pub try-step-spec : {M : Type 1} → statement M
 try-step-spec =
-    tie.close (tie.spec (λ c κs. search needs) (λ c κs. search needs) take-step-requires (λ c. search needs) returns
-    (λ c. search needs) returns-2)
+    tie.close (tie.spec (λ c κs. search needs) (λ c. search needs) (λ c. search needs) returns is-open-requires
+    take-step-requires (λ c. search needs) returns-2 (λ c. search needs) returns-3)

@@ -1,13 +1,25 @@
--- `machine::steps::is_named` meets its contract: a case a kind of step.
-use Rattle.reference.specs.Step.{named}
-use Rattle.machine.specs.Answers.{meant}
-use Rattle.machine.specs.Inner.{machineWith, bare}
+-- `machine::steps::is_named` meets its contract: what names no kind of step is not there.
+use Rattle.reference.specs.Table.{isNamed}
+use Rattle.machine.specs.Answers.{askedMeant}
+use mathlib.Core.Path.{refl, sym, _∙_}
 use borrow.Author.Needs.{needs}
 use Rattle.machine.proofs.steps.is_named.Statement.{statement}
 use Rattle.machine.proofs.steps.is_named.Tie as tie
 
+returns : tie.Need-returns
+unfolding isNamed askedMeant
+returns c =
+    let after-asked-by : tie.After-asked-by = search in
+    rw (← after-asked-by .asked-by .ensures, c .enum-told .given .1) refl
+
+returns-2 : tie.Need-returns-2
+unfolding isNamed askedMeant
+returns-2 c =
+    let after-asked-by : tie.After-asked-by = search in
+    let after-asked : tie.After-asked = search in
+    rw (← after-asked-by .asked-by .ensures, after-asked .asked .given .1) (c .is-there .ensures)
+
 pub is-named-spec : {M : Type 1} → statement M
-unfolding meant named bare machineWith
 is-named-spec =
-    tie.close (tie.spec (λ c. search needs) (λ c. search needs) (λ c. search needs) (λ c. search needs)
-    (λ c κs. search needs) (λ c. search needs) (λ c. cc) (λ c. cc) (λ c. cc))
+    tie.close (tie.spec (λ c κs. search needs) (λ c. search needs) (λ c. search needs) returns (λ c κs. search needs)
+    returns-2)

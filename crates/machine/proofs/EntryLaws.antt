@@ -1,0 +1,87 @@
+-- What the entries come to on a checked state: a refusal, a step taken, a run.
+use Prim.Native.Nat.{ℕ, _≤_}
+use mathlib.Core.List.{List, map}
+use mathlib.Core.Path.{_≡_, refl, sym, _∙_, ap, ap₂}
+use lib.ListN.{length}
+use Rattle.laws.specs.Verdict.{Outcome, passed, refused, value, refusal, _then_, _gives_, _thenAnswers_, whenPassed}
+use Rattle.laws.proofs.VerdictLaws.{then-passed, gives-passed, gives-refused, when-passed, when-refused, answers-passed}
+use Rattle.floor.specs.declared.Floor.{Floor}
+use Rattle.reference.specs.Step.{Step}
+use Rattle.reference.specs.Table.{step, noStep, single, runOf, lentEnough, allNamed}
+use Rattle.reference.specs.Calls.{Told, stepped, ran}
+use Rattle.reference.proofs.TableLaws.{enough-lent}
+use Rattle.layout.specs.Numbers.{askedBy}
+use Rattle.layout.specs.Calls.{machineOf, stateVerdict, singleCall, runCall}
+use Rattle.layout.specs.InnerSteps.{silentIn, afterIn, saidIn}
+use Rattle.layout.specs.InnerRuns.{runIn, endingIn}
+use Rattle.layout.specs.InnerCalls.{singleVerdictIn, verdictIn, replyIn, takenIn, memoryIn}
+use Rattle.machine.specs.declared.Stepped.{Stepped}
+use Rattle.machine.specs.Answers.{steppedReply}
+use Rattle.machine.specs.Inner.{bare, namedAt, Took, Tallied, endsWith}
+use Rattle.machine.proofs.OpenLaws.{single-of, silent-of}
+use Rattle.machine.proofs.VerdictLaws.{state-tells, names-are}
+use Rattle.machine.proofs.RunLaws.{ran-is}
+
+module _ (f : Floor) (ws m : List ℕ) (sound : stateVerdict f ws m ≡ passed) where
+  lent : lentEnough (machineOf f ws) (length m) ≡ passed
+  unfolding machineOf
+  lent = enough-lent (machineOf f ws) (length m) (state-tells f ws m sound .enough)
+
+  -- A single step that names no kind of step.
+  pub step-unnamed : (x : ℕ) → noStep ≡ askedBy x →
+      (_≡_ {A = Outcome Told} (refusal 7 0) (replyIn (machineOf f ws) m (singleCall m x))) ×
+      (m ≡ memoryIn (machineOf f ws) m (singleCall m x))
+  unfolding singleCall replyIn memoryIn takenIn verdictIn singleVerdictIn
+  step-unnamed x e = (
+    rw (← e) (sym (answers-passed lent)),
+    rw (← e) (sym (when-refused m (then-passed lent))),
+  )
+
+  module _ (x : ℕ) (y : Step) (e : step y ≡ askedBy x) where
+    -- A single step that is refused.
+    pub step-refused : (k p : ℕ) → singleVerdictIn (bare f) m (step y) ≡ refused k p →
+        (_≡_ {A = Outcome Told} (refusal k p) (replyIn (machineOf f ws) m (singleCall m x))) ×
+        (m ≡ memoryIn (machineOf f ws) m (singleCall m x))
+    unfolding singleCall replyIn memoryIn takenIn verdictIn
+    step-refused k p h =
+        let v = then-passed lent ∙ sym (single-of f ws m (step y)) ∙ h in (
+          rw (← e) (sym (gives-refused (stepped (saidIn (machineOf f ws) m y)) v)),
+          rw (← e) (sym (when-refused (afterIn (machineOf f ws) m y) v)),
+        )
+
+    -- A single step that is taken.
+    pub step-taken : (r : Stepped) (m′ : List ℕ) → singleVerdictIn (bare f) m (step y) ≡ passed → Took (machineOf f ws) m y r m′ →
+        (steppedReply r ≡ replyIn (machineOf f ws) m (singleCall m x)) × (m′ ≡ memoryIn (machineOf f ws) m (singleCall m x))
+    unfolding singleCall replyIn memoryIn takenIn verdictIn
+    step-taken r m′ h t =
+        let v = then-passed lent ∙ sym (single-of f ws m (step y)) ∙ h in (
+          t .answers ∙ rw (← e) (sym (gives-passed v)),
+          t .stores ∙ rw (← e) (sym (when-passed m v)),
+        )
+
+  module _ (xs : List ℕ) (b : ℕ) where
+    -- A run that is refused.
+    pub run-refused : {k p : ℕ} → refused k p ≡ allNamed (machineOf f ws) (map askedBy xs) →
+        (_≡_ {A = Outcome Told} (refusal k p) (replyIn (machineOf f ws) m (runCall m xs b))) ×
+        (m ≡ memoryIn (machineOf f ws) m (runCall m xs b))
+    unfolding runCall replyIn memoryIn takenIn verdictIn
+    run-refused h =
+        let v = then-passed lent ∙ sym h in (
+          sym (gives-refused _ v),
+          sym (when-refused _ v),
+        )
+
+    -- A run that is made, from what its loop has come to.
+    pub run-taken : (taken read : ℕ) (m′ : List ℕ) → passed ≡ allNamed (machineOf f ws) (map askedBy xs) →
+        Tallied (runIn (machineOf f ws) m (map askedBy xs) b) b (length xs) taken read m′ →
+        (_≡_ {A = Outcome Told} (value (ran taken (endsWith (silentIn (bare f) m′) taken b read (length xs))))
+        (replyIn (machineOf f ws) m (runCall m xs b))) ×
+        (m′ ≡ memoryIn (machineOf f ws) m (runCall m xs b))
+    unfolding runCall replyIn memoryIn takenIn verdictIn
+    run-taken taken read m′ h t =
+        let v = then-passed lent ∙ sym h in
+        let M = machineOf f ws in (
+          rw (silent-of f ws m′)
+              (ap value (ran-is M (runIn M m (map askedBy xs) b) b (length xs) taken read m′ t) ∙ sym (gives-passed v)),
+          t .memory ∙ sym (when-passed m v),
+        )

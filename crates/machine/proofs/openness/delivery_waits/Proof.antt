@@ -1,0 +1,21 @@
+-- `machine::openness::delivery_waits` meets its contract: the channel decides.
+use mathlib.Core.Path.{_∙_, ap}
+use mathlib.Core.Bool.{Bool}
+use Rattle.laws.specs.Verdict.{demand}
+use Rattle.layout.specs.Calls.{machineOf}
+use Rattle.layout.specs.InnerSteps.{waitsIn}
+use Rattle.machine.specs.Inner.{bare}
+use borrow.Author.Needs.{needs}
+use Rattle.machine.proofs.openness.delivery_waits.Statement.{statement}
+use Rattle.machine.proofs.openness.delivery_waits.Tie as tie
+
+returns : tie.Need-returns
+unfolding waitsIn bare machineOf
+returns c =
+    let after-channel-place : tie.After-channel-place = search in
+    rw (← after-channel-place .channel-place .ensures .0) (c .eight .ensures)
+
+pub delivery-waits-spec : {M : Type 1} → statement M
+delivery-waits-spec =
+    tie.close (tie.spec (λ c. search needs) (λ c κs. search needs) (λ c. search needs) (λ c. search needs)
+    (λ c κs. search needs) returns)

@@ -1,0 +1,10 @@
+-- `machine::openness::eight` meets its contract: the test, or its refusal.
+use Rattle.machine.proofs.OpenLaws.{eight-cases}
+use Rattle.floor.specs.Answers.{verdictOf}
+use Rattle.machine.proofs.openness.eight.Statement.{statement}
+use Rattle.machine.proofs.openness.eight.Tie as tie
+
+pub eight-spec : {M : Type 1} → statement M
+unfolding verdictOf
+eight-spec =
+    tie.close (tie.spec (λ c. search eight-cases) (λ c. search eight-cases))

@@ -1,0 +1,57 @@
+-- `machine::step_on` meets its contract: no kind of step, a refusal, or an open step taken.
+use Rattle.floor.proofs.AnswersLaws.{passes, refuses}
+use Rattle.machine.specs.Answers.{askedMeant, steppedReply}
+use Rattle.machine.proofs.OpenLaws.{ready-open}
+use Rattle.machine.proofs.VerdictLaws.{state-tells, placed-sized}
+use Rattle.machine.proofs.EntryLaws.{step-unnamed, step-refused, step-taken}
+use mathlib.Core.Path.{sym, _∙_, ap}
+use borrow.Author.Needs.{needs}
+use Rattle.machine.proofs.step_on.Statement.{statement}
+use Rattle.machine.proofs.step_on.Tie as tie
+
+returns : tie.Need-returns
+unfolding askedMeant steppedReply
+returns c =
+    let start : tie.Start = search in
+    step-unnamed _ _ _ (start .pre) _ (rw (c .enum-told .given .1) at (c .before .before .asked-by .ensures))
+
+ready-requires : tie.Need-ready-requires
+ready-requires c κs =
+    let start : tie.Start = search in
+    placed-sized (state-tells _ _ _ (start .pre))
+
+take-single-requires : tie.Need-take-single-requires
+take-single-requires c κs =
+    let after-enum-told2 : tie.After-enum-told2 = search in
+    let after-ready : tie.After-ready = search in
+    let start : tie.Start = search in
+    (ready-open _ _ _ (passes (after-ready .ready .ensures) (after-enum-told2 .enum-told2 .given .1)), state-tells _ _ _ (start .pre))
+
+returns-2 : tie.Need-returns-2
+unfolding askedMeant
+returns-2 c =
+    let after-take-single : tie.After-take-single = search in
+    let after-enum-told2 : tie.After-enum-told2 = search in
+    let after-ready : tie.After-ready = search in
+    let after-asked : tie.After-asked = search in
+    let after-asked-by : tie.After-asked-by = search in
+    let start : tie.Start = search in
+    step-taken _ _ _ (start .pre) _ _ (rw (after-asked .asked .given .1) at (after-asked-by .asked-by .ensures)) _ _
+    (passes (after-ready .ready .ensures) (after-enum-told2 .enum-told2 .given .1)) (after-take-single .take-single .ensures)
+
+returns-3 : tie.Need-returns-3
+unfolding askedMeant steppedReply
+returns-3 c =
+    let after-ready2 : tie.After-ready2 = search in
+    let after-ready : tie.After-ready = search in
+    let after-asked : tie.After-asked = search in
+    let after-asked-by : tie.After-asked-by = search in
+    let start : tie.Start = search in
+    step-refused _ _ _ (start .pre) _ _ (rw (after-asked .asked .given .1) at (after-asked-by .asked-by .ensures)) _ _
+    (refuses (after-ready .ready .ensures) (after-ready2 .ready2 .given .1))
+
+pub step-on-spec : {M : Type 1} → statement M
+step-on-spec =
+    tie.close (tie.spec (λ c κs. search needs) (λ c. search needs) (λ c. search needs) returns ready-requires
+    (λ c. search needs) (λ c. search needs) take-single-requires (λ c. search needs) returns-2 (λ c. search needs)
+    returns-3)

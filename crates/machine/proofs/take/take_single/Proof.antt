@@ -1,0 +1,49 @@
+-- `machine::take::take_single` meets its contract: a case a kind of step; what is open is there, and a plan has its free cells made.
+use Rattle.machine.proofs.OpenLaws.{open-there, plan-there, deliver-there, delivery-of}
+use Rattle.machine.specs.Answers.{stepMeant}
+use Rattle.machine.proofs.VerdictLaws.{placed-sized, placed-grid, workable}
+use borrow.Author.Needs.{needs}
+use Rattle.machine.proofs.take.take_single.Statement.{statement}
+use Rattle.machine.proofs.take.take_single.Tie as tie
+
+free-rows-requires : tie.Need-free-rows-requires
+free-rows-requires c κs =
+    let start : tie.Start = search in
+    placed-grid (start .pre .1)
+
+plan-now-requires : tie.Need-plan-now-requires
+unfolding stepMeant
+plan-now-requires c κs =
+    let after-free-rows : tie.After-free-rows = search in
+    let after-s : tie.After-s = search in
+    let start : tie.Start = search in (
+      plan-there _ _ (open-there _ _ _ (rw (after-s .s .given .1) at (start .pre .0))),
+      workable _ _ _ _ (start .pre .1) (after-free-rows .free-rows .ensures),
+    )
+
+deliver-now-requires : tie.Need-deliver-now-requires
+unfolding stepMeant
+deliver-now-requires c κs =
+    let after-s2 : tie.After-s2 = search in
+    let start : tie.Start = search in
+    let there = deliver-there _ _ _ (open-there _ _ _ (rw (after-s2 .s2 .given .1) at (start .pre .0))) in
+    (there .0, there .1, placed-sized (start .pre .1) .0, placed-sized (start .pre .1) .1)
+
+returns : tie.Need-returns
+unfolding stepMeant
+returns c =
+    let after-plan-now : tie.After-plan-now = search in
+    let after-s : tie.After-s = search in
+    rw (after-s .s .given .1) (after-plan-now .plan-now .ensures)
+
+returns-2 : tie.Need-returns-2
+unfolding stepMeant
+returns-2 c =
+    let after-deliver-now : tie.After-deliver-now = search in
+    let after-s2 : tie.After-s2 = search in
+    rw (after-s2 .s2 .given .1) (delivery-of _ _ _ _ _ _ _ (after-deliver-now .deliver-now .ensures))
+
+pub take-single-spec : {M : Type 1} → statement M
+take-single-spec =
+    tie.close (tie.spec (λ c. search needs) free-rows-requires plan-now-requires (λ c. search needs)
+    deliver-now-requires (λ c. search needs) returns (λ c. search needs) returns-2)
