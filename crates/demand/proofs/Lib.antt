@@ -4,3 +4,4 @@ pub mod LentLaws
 pub mod ListLaws
 pub mod CutLaws
 pub mod Theorems
+pub mod Cases
