@@ -50,6 +50,7 @@ module _ (f : Floor) (ws m : List ℕ) (ok : checkOf f ws ≡ passed) (long : st
   abbrev parts : List ProgramCall
   parts = oneRun k l xs b ∷ oneRun k l ys (b - returned f ws m cs k l xs b) ∷ []
 
+  -- The whole run is lent enough, and its steps are there.
   passes : (lentEnough M lent ≡ passed) × (allNamed M (front ++ back) ≡ passed)
   unfolding referenceCall verdict
   passes =
@@ -66,6 +67,7 @@ module _ (f : Floor) (ws m : List ℕ) (ok : checkOf f ws ≡ passed) (long : st
       )
       refl
 
+  -- The run in one and in two as the reference machine is given it.
   reference-whole : referenceCalls f (length m) whole ≡ runOf lent (front ++ back) b ∷ []
   unfolding referenceCalls referenceCall
   reference-whole = rw map-append refl

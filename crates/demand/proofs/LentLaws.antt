@@ -5,7 +5,7 @@ use native.Mathlib.Omega.{arith}
 use mathlib.Core.List.{List, _++_, map, append-assoc}
 use mathlib.Core.Logic.{_⊎_, inl, inr}
 use mathlib.Core.Path.{_≡_, refl, _∙_, ap}
-use lib.ListN.{length, take, drop, take-append-drop, length-take}
+use lib.ListN.{length, take, drop, take-append-drop, length-take, length-append}
 use lib.Seq.{take-append-add, drop-append-add}
 use borrow.Author.Tests.{le-leb, lt-leb}
 use Rattle.laws.specs.Verdict.{passed, refused}
@@ -29,7 +29,8 @@ use Rattle.layout.proofs.SimulationLaws.{simulated-reply, simulated-memory}
 use Rattle.demand.specs.Lists.{ProgramCall, oneStep, oneRun, answerOf, leftBy, lentLength, referenceCall}
 use Rattle.demand.proofs.RefusalLaws.{reply-refused, state-kept}
 
-module _ (f : Floor) (ws : List ℕ) (ok : checkOf f ws ≡ passed) (s : State) (fits : WithinRanges f s) (rest : List ℕ) where
+module _ (f : Floor) (ws : List ℕ) (ok : checkOf f ws ≡ passed) (rest : List ℕ) (room : ℕ)
+    (fills : room ≡ stateSize (f .carriers) + length rest) (s : State) (fits : WithinRanges f s) where
   -- The reference machine, the needed length of its state, and the memory of the state.
   abbrev M : Machine
   M = machineOf f ws
@@ -46,11 +47,14 @@ module _ (f : Floor) (ws : List ℕ) (ok : checkOf f ws ≡ passed) (s : State) 
     Short = (k < f .walls) ⊎ ((f .walls ≤ k) × (l < size))
 
     -- Lent enough walls, the reference machine compares the length of what is lent.
-    lent-whole : f .walls ≤ k → lentLength f (length m) k l ≡ length (take l m)
+    lent-whole : f .walls ≤ k → lentLength f room k l ≡ length (take l m)
     unfolding lentLength
-    lent-whole h = rw (le-leb (f .walls) k h) (omega (arith, length-take l m))
+    lent-whole h =
+        rw (le-leb (f .walls) k h)
+        (omega (arith, length-take l m, length-append (encode (f .carriers) s) rest, encode-length (f .carriers) s))
 
-    lent-short : Short → lentLength f (length m) k l < size
+    -- Lent too little, it compares a length that is too short, and the program refuses with 9.
+    lent-short : Short → lentLength f room k l < size
     unfolding lentLength stateSize
     lent-short (inl h) = rw (lt-leb (f .walls) k h) (omega arith)
     lent-short (inr h) = rw (le-leb (f .walls) k (h .0)) (omega arith)
@@ -62,6 +66,28 @@ module _ (f : Floor) (ws : List ℕ) (ok : checkOf f ws ≡ passed) (s : State) 
         then-refused _
         (then-passed (check-lent f ws ok k (h .0)) ∙ demand-refuses 9 0 (lt-leb size (length (take l m)) (omega (arith, length-take l m))))
 
+    module _ (walls : f .walls ≤ k) (enough : size ≤ l) where
+      -- What of the memory behind the state is lent, and what is not.
+      split : l ≡ length (encode (f .carriers) s) + (l - size)
+      split = omega (arith, encode-length (f .carriers) s)
+
+      lent-memory : take l m ≡ encode (f .carriers) s ++ take (l - size) rest
+      lent-memory = ap (λ (i : ℕ). take i m) split ∙ take-append-add (encode (f .carriers) s) rest (l - size)
+
+      kept-memory : drop l m ≡ drop (l - size) rest
+      kept-memory = ap (λ (i : ℕ). drop i m) split ∙ drop-append-add (encode (f .carriers) s) rest (l - size)
+
+      -- Lent enough, a call is simulated, and what is not lent stays behind.
+      enough-reply : (c : Call) → replyTo f (take k ws) (take l m) c ≡ reply M s c
+      enough-reply c =
+          rw (lent-memory, ← machine-lent f ws k walls)
+          (simulated-reply f (take k ws) (check-lent f ws ok k walls) s fits (take (l - size) rest) c)
+
+      enough-memory : (c : Call) → memoryAfter f (take k ws) (take l m) c ++ drop l m ≡ encode (f .carriers) (afterCall M s c) ++ rest
+      enough-memory c =
+          rw (lent-memory, kept-memory, simulated-memory f (take k ws) (check-lent f ws ok k walls) s fits (take (l - size) rest) c)
+          (rw (machine-lent f ws k walls, append-assoc, take-append-drop (l - size) rest) refl)
+
     -- A call as it is made of the length lent; lent too little, the table refuses it with 9.
     module _ (call : ℕ → Call) (nine : (lent : ℕ) → lent < M .needed → verdict M s (call lent) ≡ refused 9 0) where
       -- The call that the program is given, and the one that the reference machine is given.
@@ -69,32 +95,7 @@ module _ (f : Floor) (ws : List ℕ) (ok : checkOf f ws ≡ passed) (s : State) 
       given = call (length (take l m))
 
       abbrev asked : Call
-      asked = call (lentLength f (length m) k l)
-
-      short-verdict : Short → verdict M s asked ≡ refused 9 0
-      unfolding machineOf
-      short-verdict h = nine (lentLength f (length m) k l) (lent-short h)
-
-      module _ (walls : f .walls ≤ k) (enough : size ≤ l) where
-        -- What of the memory behind the state is lent, and what is not.
-        split : l ≡ length (encode (f .carriers) s) + (l - size)
-        split = omega (arith, encode-length (f .carriers) s)
-
-        lent-memory : take l m ≡ encode (f .carriers) s ++ take (l - size) rest
-        lent-memory = ap (λ (i : ℕ). take i m) split ∙ take-append-add (encode (f .carriers) s) rest (l - size)
-
-        kept-memory : drop l m ≡ drop (l - size) rest
-        kept-memory = ap (λ (i : ℕ). drop i m) split ∙ drop-append-add (encode (f .carriers) s) rest (l - size)
-
-        enough-reply : (c : Call) → replyTo f (take k ws) (take l m) c ≡ reply M s c
-        enough-reply c =
-            rw (lent-memory, ← machine-lent f ws k walls)
-            (simulated-reply f (take k ws) (check-lent f ws ok k walls) s fits (take (l - size) rest) c)
-
-        enough-memory : (c : Call) → memoryAfter f (take k ws) (take l m) c ++ drop l m ≡ encode (f .carriers) (afterCall M s c) ++ rest
-        enough-memory c =
-            rw (lent-memory, kept-memory, simulated-memory f (take k ws) (check-lent f ws ok k walls) s fits (take (l - size) rest) c)
-            (rw (machine-lent f ws k walls, append-assoc, take-append-drop (l - size) rest) refl)
+      asked = call (lentLength f room k l)
 
       -- The answer and the memory are the reference machine's, lent enough or not.
       abbrev Same : Type 0
@@ -106,9 +107,9 @@ module _ (f : Floor) (ws : List ℕ) (ok : checkOf f ws ≡ passed) (s : State) 
       enough-same h e = rw (lent-whole h) (enough-reply h e given, enough-memory h e given)
 
       short-same : Short → Same
-      unfolding replyTo memoryAfter
+      unfolding replyTo memoryAfter machineOf
       short-same h =
-          let v = short-verdict h in
+          let v = nine (lentLength f room k l) (lent-short h) in
           rw (state-kept M s asked 9 0 v, reply-refused M s asked 9 0 v)
           (answers-refused _ (state-short h), rw (when-refused _ (state-short h)) (take-append-drop l m))
 
@@ -120,8 +121,9 @@ module _ (f : Floor) (ws : List ℕ) (ok : checkOf f ws ≡ passed) (s : State) 
           go (inr a) (inl b) = short-same (inr (a, b))
           go (inr a) (inr b) = enough-same a b
 
-  pub lent-same : (c : ProgramCall) → (answerOf f ws m c ≡ reply M s (referenceCall f (length m) c)) ×
-      (leftBy f ws m c ≡ encode (f .carriers) (afterCall M s (referenceCall f (length m) c)) ++ rest)
+  -- The answer to a call of the program, and the memory after it.
+  pub lent-same : (c : ProgramCall) → (answerOf f ws m c ≡ reply M s (referenceCall f room c)) ×
+      (leftBy f ws m c ≡ encode (f .carriers) (afterCall M s (referenceCall f room c)) ++ rest)
   unfolding answerOf leftBy referenceCall singleCall runCall
   lent-same (oneStep k l x) =
       call-same k l (λ lent. single lent (askedBy x)) (λ lent h. theorems .calls .refuses-exactly M s _ 9 0 .1 (short-single h))

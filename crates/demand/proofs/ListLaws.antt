@@ -3,8 +3,8 @@ use Prim.Native.Nat.{ℕ, _+_, _≤_}
 use native.Mathlib.Omega.{arith}
 use native.Mathlib.Nat.{zero-add}
 use mathlib.Core.List.{List, [], _∷_, _++_, map-append}
-use mathlib.Core.Path.{_≡_, refl, sym, _∙_, ap}
-use lib.ListN.{length, drop, length-drop, length-append}
+use mathlib.Core.Path.{_≡_, refl, sym, _∙_}
+use lib.ListN.{length, drop, length-drop}
 use borrow.Author.Tests.{le-leb}
 use Rattle.laws.specs.Verdict.{passed}
 use Rattle.laws.specs.Memory.{put}
@@ -13,7 +13,7 @@ use Rattle.floor.specs.declared.Floor.{Floor}
 use Rattle.floor.specs.Checks.{checkOf, roomOf}
 use Rattle.reference.specs.State.{Machine, State, fresh}
 use Rattle.reference.specs.Table.{Call}
-use Rattle.reference.specs.Calls.{Reply, reply, afterCall, replies, after}
+use Rattle.reference.specs.Calls.{reply, afterCall, replies, after}
 use Rattle.reference.specs.Quiet.{repliesCount}
 use Rattle.reference.proofs.ReachLaws.{after-join}
 use Rattle.layout.specs.Places.{stateSize}
@@ -41,35 +41,34 @@ module _ (f : Floor) (ws : List ℕ) (ok : checkOf f ws ≡ passed) (rest : List
   M = machineOf f ws
 
   -- The program's list of calls from the memory of a state, and the reference machine's from the state.
-  pub record ListSame (s : State) (cs : List ProgramCall) : Type 0 where
+  record ListSame (s : State) (cs : List ProgramCall) : Type 0 where
     pub answers : answersOf f ws (encode (f .carriers) s ++ rest) cs ≡ replies M s (referenceCalls f room cs)
     pub memory : memoryOf f ws (encode (f .carriers) s ++ rest) cs ≡ encode (f .carriers) (after M s (referenceCalls f room cs)) ++ rest
     pub within-ranges : WithinRanges f (after M s (referenceCalls f room cs))
 
+  -- The first call by what is lent to it, the others from the state that it leaves.
   list-same : (s : State) → WithinRanges f s → (cs : List ProgramCall) → ListSame s cs
   unfolding answersOf memoryOf referenceCalls replies after
   list-same s fits [] = record { answers = refl; memory = refl; within-ranges = fits }
   list-same s fits (c ∷ cs) =
-      let filled : length (encode (f .carriers) s ++ rest) ≡ room =
-      omega (arith, length-append (encode (f .carriers) s) rest, encode-length (f .carriers) s)
-      in
-      let first = rw filled at (lent-same f ws ok s fits rest c) in
+      let first = lent-same f ws ok rest room fills s fits c in
       let others = list-same (afterCall M s (referenceCall f room c)) (call-fits f ws ok s fits (referenceCall f room c)) cs in
       record {
-        answers = rw (first .0, first .1) (ap (λ (l : List Reply). reply M s (referenceCall f room c) ∷ l) (others .answers));
-        memory = rw (first .1) (others .memory);
+        answers = cc (first .0, first .1, others .answers);
+        memory = cc (first .1, others .memory);
         within-ranges = others .within-ranges;
       }
 
 -- From the fresh state in a memory that is long enough.
 module _ (f : Floor) (ws m : List ℕ) (ok : checkOf f ws ≡ passed) (long : stateSize (f .carriers) ≤ length m) where
   -- The memory behind the state.
-  abbrev pub behind : List ℕ
+  abbrev behind : List ℕ
   behind = drop (stateSize (f .carriers)) m
 
-  pub room-filled : length m ≡ stateSize (f .carriers) + length behind
+  room-filled : length m ≡ stateSize (f .carriers) + length behind
   room-filled = omega (arith, length-drop (stateSize (f .carriers)) m)
 
+  -- The fresh memory is that of the fresh state.
   fresh-same : freshMemory f ws m ≡ encode (f .carriers) fresh ++ behind
   unfolding freshMemory placeVerdict roomOf put
   fresh-same =
@@ -80,6 +79,7 @@ module _ (f : Floor) (ws m : List ℕ) (ok : checkOf f ws ≡ passed) (long : st
     from-fresh : ListSame f ws ok behind (length m) room-filled fresh cs
     from-fresh = list-same f ws ok behind (length m) room-filled fresh (fresh-fits f) cs
 
+    -- The answers, the memory, and the ranges after a list of calls.
     pub answers-same : programReplies f ws m cs ≡ referenceReplies f ws (length m) cs
     unfolding programReplies referenceReplies
     answers-same = rw fresh-same (from-fresh .answers)
@@ -95,12 +95,7 @@ module _ (f : Floor) (ws m : List ℕ) (ok : checkOf f ws ≡ passed) (long : st
     -- The answer to one more call.
     pub next-answer : (c : ProgramCall) → answerOf f ws (programMemory f ws m cs) c ≡
         reply (machineOf f ws) (referenceAfter f ws (length m) cs) (referenceCall f (length m) c)
-    next-answer c =
-        let s = referenceAfter f ws (length m) cs in
-        let filled : length (encode (f .carriers) s ++ behind) ≡ length m =
-        omega (arith, room-filled, length-append (encode (f .carriers) s) behind, encode-length (f .carriers) s)
-        in
-        rw memory-same (rw filled at (lent-same f ws ok s after-fits behind c .0))
+    next-answer c = rw memory-same (lent-same f ws ok behind (length m) room-filled (referenceAfter f ws (length m) cs) after-fits c .0)
 
     -- The state after more calls, and the steps that the longer list takes.
     pub more-state : (ds : List ProgramCall) → referenceAfter f ws (length m) (cs ++ ds) ≡

@@ -38,6 +38,7 @@ module _ (M : Machine) (s : State) where
   reply-gives (single lent noStep) = (ran 0 ended, answers-gives (lentEnough M lent) 7 0 (ran 0 ended))
   reply-gives (runOf lent xs b) = (_, refl)
 
+  -- A refused call has that refusal as its answer and changes nothing; a call with another answer has passed.
   pub reply-refused : (c : Call) (k p : ℕ) → verdict M s c ≡ refused k p → reply M s c ≡ refusal k p
   reply-refused c k p e = let g = reply-gives c in g .1 ∙ gives-refused (g .0) e
 
@@ -48,6 +49,7 @@ module _ (M : Machine) (s : State) where
   unfolding afterCall
   state-kept c k p e = when-refused _ e
 
+  -- No row of the table has the number 10.
   no-row-ten : {c : Call} {k p : ℕ} → RefusedWith M s c k p → k ≡ 10 → ⊥
   no-row-ten (short-single h) e = omega arith
   no-row-ten (short-run h) e = omega arith
