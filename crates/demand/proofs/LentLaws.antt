@@ -1,105 +1,131 @@
--- What a call is lent of the walls and of a state's memory: enough for the floor and the state, or too little of one of them.
-use Prim.Native.Nat.{ℕ, _+_, _-_, _≤_, _<_, min}
+-- A call on the memory of a state within the ranges, whatever is lent of the walls and of the memory: lent enough of both, it is the
+-- simulation; lent too little of one, it is refused with 9 on both sides.
+use Prim.Native.Nat.{ℕ, _+_, _-_, _≤_, _<_}
 use native.Mathlib.Omega.{arith}
-use mathlib.Core.Bool.{true, false}
-use mathlib.Core.List.{List, _++_}
+use mathlib.Core.List.{List, _++_, map, append-assoc}
 use mathlib.Core.Logic.{_⊎_, inl, inr}
-use mathlib.Core.Path.{_≡_, _∙_, ap}
-use lib.Dec.{leb}
-use lib.ListN.{length, take, drop, length-take, length-append}
+use mathlib.Core.Path.{_≡_, refl, _∙_, ap}
+use lib.ListN.{length, take, drop, take-append-drop, length-take, length-append}
 use lib.Seq.{take-append-add, drop-append-add}
 use borrow.Author.Tests.{le-leb, lt-leb}
-use Rattle.floor.specs.declared.Floor.{Floor}
-use Rattle.laws.specs.Verdict.{passed, refused, demand}
-use Rattle.floor.specs.Checks.{checkOf, roomOf}
-use Rattle.laws.proofs.VerdictLaws.{then-passed, then-refused, demand-passes, demand-refuses}
+use Rattle.laws.specs.Verdict.{passed, refused}
+use Rattle.laws.proofs.VerdictLaws.{then-passed, then-refused, demand-refuses, answers-refused, when-refused}
 use Rattle.laws.proofs.Tests.{lt-or-le}
-use Rattle.reference.specs.State.{State}
+use Rattle.floor.specs.declared.Floor.{Floor}
+use Rattle.floor.specs.Checks.{checkOf, roomOf}
+use Rattle.reference.specs.State.{Machine, State}
+use Rattle.reference.specs.Table.{Call, single, runOf, verdict}
+use Rattle.reference.specs.Refused.{short-single, short-run}
+use Rattle.reference.specs.Calls.{reply, afterCall}
+use Rattle.reference.proofs.Theorems.{theorems}
 use Rattle.layout.specs.Places.{stateSize}
 use Rattle.layout.specs.Encode.{encode}
-use Rattle.layout.specs.Valid.{valid}
-use Rattle.layout.specs.Fits.{Fits}
-use Rattle.layout.specs.Calls.{placeVerdict, stateVerdict}
+use Rattle.layout.specs.Ranges.{WithinRanges}
+use Rattle.layout.specs.Numbers.{askedBy}
+use Rattle.layout.specs.Calls.{machineOf, placeVerdict, stateVerdict, replyTo, memoryAfter, singleCall, runCall}
 use Rattle.layout.proofs.StateLaws.{encode-length}
-use Rattle.layout.proofs.ValidLaws.{fits-valid}
-use Rattle.demand.specs.Lists.{lentLength}
-use Rattle.demand.proofs.FloorLaws.{depth-few, horizon-short, check-lent, check-short}
+use Rattle.layout.proofs.FloorLaws.{machine-lent, check-lent, check-short}
+use Rattle.layout.proofs.SimulationLaws.{simulated-reply, simulated-memory}
+use Rattle.demand.specs.Lists.{ProgramCall, oneStep, oneRun, answerOf, leftBy, lentLength, referenceCall}
+use Rattle.demand.proofs.RefusalLaws.{reply-refused, state-kept}
 
--- The front of two lists together, and what is behind it, where the first is shorter than the front.
-take-over : (a b : List ℕ) (n l : ℕ) → length a ≡ n → n ≤ l → take l (a ++ b) ≡ a ++ take (l - n) b
-take-over a b n l e h =
-    let place : l ≡ length a + (l - n) = omega arith in
-    ap (λ (k : ℕ). take k (a ++ b)) place ∙ take-append-add a b (l - n)
+module _ (f : Floor) (ws : List ℕ) (ok : checkOf f ws ≡ passed) (rest : List ℕ) (room : ℕ)
+    (fills : room ≡ stateSize (f .carriers) + length rest) (s : State) (fits : WithinRanges f s) where
+  -- The reference machine, the needed length of its state, and the memory of the state.
+  abbrev M : Machine
+  M = machineOf f ws
 
-drop-over : (a b : List ℕ) (n l : ℕ) → length a ≡ n → n ≤ l → drop l (a ++ b) ≡ drop (l - n) b
-drop-over a b n l e h =
-    let place : l ≡ length a + (l - n) = omega arith in
-    ap (λ (k : ℕ). drop k (a ++ b)) place ∙ drop-append-add a b (l - n)
+  abbrev size : ℕ
+  size = stateSize (f .carriers)
 
--- What of the memory behind a state is lent with l numbers, and what is not.
-abbrev pub lentRest : Floor → List ℕ → ℕ → List ℕ
-lentRest f rest l = take (l - stateSize (f .carriers)) rest
-
-abbrev pub keptRest : Floor → List ℕ → ℕ → List ℕ
-keptRest f rest l = drop (l - stateSize (f .carriers)) rest
-
--- A call is lent enough, or too few walls, or too little memory.
-abbrev pub Enough : Floor → ℕ → ℕ → Type 0
-Enough f k l = (f .walls ≤ k) × (stateSize (f .carriers) ≤ l)
-
-abbrev pub Short : Floor → ℕ → ℕ → Type 0
-Short f k l = (k < f .walls) ⊎ ((f .walls ≤ k) × (l < stateSize (f .carriers)))
-
-pub enough-or-short : (f : Floor) (k l : ℕ) → Enough f k l ⊎ Short f k l
-enough-or-short f k l = go (lt-or-le k (f .walls)) (lt-or-le l (stateSize (f .carriers)))
-  where
-    go : (k < f .walls) ⊎ (f .walls ≤ k) → (l < stateSize (f .carriers)) ⊎ (stateSize (f .carriers) ≤ l) → Enough f k l ⊎ Short f k l
-    go (inl a) b = inr (inl a)
-    go (inr a) (inl b) = inr (inr (a, b))
-    go (inr a) (inr b) = inl (a, b)
-
-module _ (f : Floor) (rest : List ℕ) (room : ℕ) (size : room ≡ stateSize (f .carriers) + length rest) where
-  -- What the reference machine compares.
-  pub book-enough : (k l : ℕ) → Enough f k l → leb (stateSize (f .carriers)) (lentLength f room k l) ≡ true
-  unfolding lentLength
-  book-enough k l h = rw (le-leb (f .walls) k (h .0)) (le-leb (stateSize (f .carriers)) (min l room) (omega arith))
-
-  pub book-short : (k l : ℕ) → Short f k l → leb (stateSize (f .carriers)) (lentLength f room k l) ≡ false
-  unfolding lentLength stateSize
-  book-short k l (inl h) = rw (lt-leb (f .walls) k h) (lt-leb (stateSize (f .carriers)) 0 (omega arith))
-  book-short k l (inr h) = rw (le-leb (f .walls) k (h .0)) (lt-leb (stateSize (f .carriers)) (min l room) (omega arith))
-
-module _ (f : Floor) (ws : List ℕ) (ok : checkOf f ws ≡ passed) (s : State) (rest : List ℕ) where
-  -- The memory of the state.
   abbrev m : List ℕ
   m = encode (f .carriers) s ++ rest
 
-  -- The memory that is lent, and the memory that is not.
-  pub lent-memory : (l : ℕ) → stateSize (f .carriers) ≤ l → take l m ≡ encode (f .carriers) s ++ lentRest f rest l
-  lent-memory l h = take-over (encode (f .carriers) s) rest (stateSize (f .carriers)) l (encode-length (f .carriers) s) h
+  module _ (k l : ℕ) where
+    -- The call is lent too few walls, or too little memory.
+    abbrev Short : Type 0
+    Short = (k < f .walls) ⊎ ((f .walls ≤ k) × (l < size))
 
-  pub kept-memory : (l : ℕ) → stateSize (f .carriers) ≤ l → drop l m ≡ keptRest f rest l
-  kept-memory l h = drop-over (encode (f .carriers) s) rest (stateSize (f .carriers)) l (encode-length (f .carriers) s) h
+    -- Lent enough walls, the reference machine compares the length of what is lent.
+    lent-whole : f .walls ≤ k → lentLength f room k l ≡ length (take l m)
+    unfolding lentLength
+    lent-whole h =
+        rw (le-leb (f .walls) k h)
+        (omega (arith, length-take l m, length-append (encode (f .carriers) s) rest, encode-length (f .carriers) s))
 
-  -- A state that fits passes the checks where enough is lent.
-  pub state-passes : Fits f s → (k l : ℕ) → Enough f k l → stateVerdict f (take k ws) (take l m) ≡ passed
-  unfolding stateVerdict placeVerdict roomOf
-  state-passes fits k l h =
-      let e = lent-memory l (h .1) in
-      let long : stateSize (f .carriers) ≤ length (take l m) =
-      omega (arith, length-take l m, length-append (encode (f .carriers) s) rest, encode-length (f .carriers) s)
-      in
-      then-passed
-      (then-passed (check-lent f ws ok k (h .0)) ∙ demand-passes 9 0 (le-leb (stateSize (f .carriers)) (length (take l m)) long))
-      ∙ demand-passes 10 0 (rw e (fits-valid f s (lentRest f rest l) (depth-few f ws ok) (horizon-short f ws ok) fits))
+    -- Lent too little, it compares a length that is too short, and the program refuses with 9.
+    lent-short : Short → lentLength f room k l < size
+    unfolding lentLength stateSize
+    lent-short (inl h) = rw (lt-leb (f .walls) k h) (omega arith)
+    lent-short (inr h) = rw (le-leb (f .walls) k (h .0)) (omega arith)
 
-  -- Otherwise the first refusal is 9, 0.
-  pub state-short : (k l : ℕ) → Short f k l → stateVerdict f (take k ws) (take l m) ≡ refused 9 0
-  unfolding stateVerdict placeVerdict roomOf
-  state-short k l (inl h) =
-      then-refused (demand (valid f (take l m)) 10 0)
-      (then-refused (demand (leb (stateSize (f .carriers)) (length (take l m))) 9 0) (check-short f ws ok k h))
-  state-short k l (inr h) =
-      then-refused (demand (valid f (take l m)) 10 0)
-      (then-passed (check-lent f ws ok k (h .0))
-      ∙ demand-refuses 9 0 (lt-leb (stateSize (f .carriers)) (length (take l m)) (omega (arith, length-take l m))))
+    state-short : Short → stateVerdict f (take k ws) (take l m) ≡ refused 9 0
+    unfolding stateVerdict placeVerdict roomOf
+    state-short (inl h) = then-refused _ (then-refused _ (check-short f ws ok k h))
+    state-short (inr h) =
+        then-refused _
+        (then-passed (check-lent f ws ok k (h .0)) ∙ demand-refuses 9 0 (lt-leb size (length (take l m)) (omega (arith, length-take l m))))
+
+    module _ (walls : f .walls ≤ k) (enough : size ≤ l) where
+      -- What of the memory behind the state is lent, and what is not.
+      split : l ≡ length (encode (f .carriers) s) + (l - size)
+      split = omega (arith, encode-length (f .carriers) s)
+
+      lent-memory : take l m ≡ encode (f .carriers) s ++ take (l - size) rest
+      lent-memory = ap (λ (i : ℕ). take i m) split ∙ take-append-add (encode (f .carriers) s) rest (l - size)
+
+      kept-memory : drop l m ≡ drop (l - size) rest
+      kept-memory = ap (λ (i : ℕ). drop i m) split ∙ drop-append-add (encode (f .carriers) s) rest (l - size)
+
+      -- Lent enough, a call is simulated, and what is not lent stays behind.
+      enough-reply : (c : Call) → replyTo f (take k ws) (take l m) c ≡ reply M s c
+      enough-reply c =
+          rw (lent-memory, ← machine-lent f ws k walls)
+          (simulated-reply f (take k ws) (check-lent f ws ok k walls) s fits (take (l - size) rest) c)
+
+      enough-memory : (c : Call) → memoryAfter f (take k ws) (take l m) c ++ drop l m ≡ encode (f .carriers) (afterCall M s c) ++ rest
+      enough-memory c =
+          rw (lent-memory, kept-memory, simulated-memory f (take k ws) (check-lent f ws ok k walls) s fits (take (l - size) rest) c)
+          (rw (machine-lent f ws k walls, append-assoc, take-append-drop (l - size) rest) refl)
+
+    -- A call as it is made of the length lent; lent too little, the table refuses it with 9.
+    module _ (call : ℕ → Call) (nine : (lent : ℕ) → lent < M .needed → verdict M s (call lent) ≡ refused 9 0) where
+      -- The call that the program is given, and the one that the reference machine is given.
+      abbrev given : Call
+      given = call (length (take l m))
+
+      abbrev asked : Call
+      asked = call (lentLength f room k l)
+
+      -- The answer and the memory are the reference machine's, lent enough or not.
+      abbrev Same : Type 0
+      Same =
+          (replyTo f (take k ws) (take l m) given ≡ reply M s asked) ×
+          (memoryAfter f (take k ws) (take l m) given ++ drop l m ≡ encode (f .carriers) (afterCall M s asked) ++ rest)
+
+      enough-same : f .walls ≤ k → size ≤ l → Same
+      enough-same h e = rw (lent-whole h) (enough-reply h e given, enough-memory h e given)
+
+      short-same : Short → Same
+      unfolding replyTo memoryAfter machineOf
+      short-same h =
+          let v = nine (lentLength f room k l) (lent-short h) in
+          rw (state-kept M s asked 9 0 v, reply-refused M s asked 9 0 v)
+          (answers-refused _ (state-short h), rw (when-refused _ (state-short h)) (take-append-drop l m))
+
+      call-same : Same
+      call-same = go (lt-or-le k (f .walls)) (lt-or-le l size)
+        where
+          go : (k < f .walls) ⊎ (f .walls ≤ k) → (l < size) ⊎ (size ≤ l) → Same
+          go (inl a) b = short-same (inl a)
+          go (inr a) (inl b) = short-same (inr (a, b))
+          go (inr a) (inr b) = enough-same a b
+
+  -- The answer to a call of the program, and the memory after it.
+  pub lent-same : (c : ProgramCall) → (answerOf f ws m c ≡ reply M s (referenceCall f room c)) ×
+      (leftBy f ws m c ≡ encode (f .carriers) (afterCall M s (referenceCall f room c)) ++ rest)
+  unfolding answerOf leftBy referenceCall singleCall runCall
+  lent-same (oneStep k l x) =
+      call-same k l (λ lent. single lent (askedBy x)) (λ lent h. theorems .calls .refuses-exactly M s _ 9 0 .1 (short-single h))
+  lent-same (oneRun k l xs b) =
+      call-same k l (λ lent. runOf lent (map askedBy xs) b) (λ lent h. theorems .calls .refuses-exactly M s _ 9 0 .1 (short-run h))

@@ -1,8 +1,7 @@
--- The simulation of the reference machine by the memory, and the claim.
-pub mod FloorLaws
-pub mod VerdictLaws
+-- The lists of calls over the simulation, and the claim.
+pub mod RefusalLaws
 pub mod LentLaws
-pub mod CallLaws
 pub mod ListLaws
 pub mod CutLaws
 pub mod Theorems
+pub mod Cases

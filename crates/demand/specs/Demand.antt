@@ -2,95 +2,98 @@
 -- ones included, in any delivery order, from a fresh state in any memory that is long enough. The definitions folded over the list are
 -- those that the contracts of `machine::fresh`, `machine::step` and `machine::run` cite.
 use Prim.Native.Nat.{ℕ, _-_, _≤_, min}
-use mathlib.Core.Bool.{Bool, true, false}
-use mathlib.Core.List.{List, [], _∷_, _++_, map}
-use mathlib.Core.Logic.{_⊎_, _↔_}
+use mathlib.Core.Bool.{true}
+use mathlib.Core.List.{List, [], _∷_, _++_, List·Memᴰ}
+use mathlib.Core.Logic.{_⊎_}
 use mathlib.Core.Path.{_≡_}
 use lib.ListN.{length, take, drop}
+use Rattle.laws.specs.Verdict.{passed, value, refusal}
 use Rattle.floor.specs.declared.Floor.{Floor}
-use Rattle.laws.specs.Verdict.{passed}
 use Rattle.floor.specs.Checks.{checkOf}
 use Rattle.planner.specs.Plan.{planOf}
 use Rattle.reference.specs.Ranges.{below}
-use Rattle.reference.specs.State.{State, fresh}
+use Rattle.reference.specs.State.{Machine, State}
 use Rattle.reference.specs.Step.{Step, isOpen}
-use Rattle.reference.specs.Run.{run as runBook}
-use Rattle.reference.specs.Ending.{isSilent}
-use Rattle.reference.specs.History.{Told}
-use Rattle.reference.specs.Calls.{Reply, refused, replies, after}
-use Rattle.reference.specs.Quiet.{quiet, takenInAll, ceiling}
+use Rattle.reference.specs.Ranking.{isSilent}
+use Rattle.reference.specs.Run.{run}
+use Rattle.reference.specs.History.{FaithfulRun}
+use Rattle.reference.specs.Table.{Call}
+use Rattle.reference.specs.Calls.{Told, reply, afterCall}
+use Rattle.reference.specs.Quiet.{idle, quiet, replyCount, repliesCount, ceiling}
 use Rattle.layout.specs.Places.{stateSize}
 use Rattle.layout.specs.Encode.{encode}
-use Rattle.layout.specs.Numbers.{stepOf}
-use Rattle.layout.specs.Runs.{numberTaken}
-use Rattle.layout.specs.Calls.{machineOf, freshMemory, runVerdict, runOver}
-use Rattle.demand.specs.Lists.{Asked, run, answersOf, memoryOf, bookCalls}
+use Rattle.layout.specs.Ranges.{WithinRanges}
+use Rattle.layout.specs.Calls.{machineOf, replyTo, memoryAfter}
+use Rattle.demand.specs.Lists.{ProgramCall, oneRun, answerOf, programReplies, programMemory, referenceReplies, referenceAfter}
 
--- A reply that is no refusal 10.
-unfoldable pub NotTen : Reply → Type 0
-NotTen r = (p : ℕ) → r ≡ refused 10 p → ⊥
+module _ (f : Floor) (ws m : List ℕ) (cs : List ProgramCall) where
+  -- The reference machine of the floor, and its state after the calls.
+  abbrev M : Machine
+  M = machineOf f ws
 
--- It holds of every reply of a list.
-unfoldable pub AllReplies : (Reply → Type 0) → List Reply → Type 0
-AllReplies P [] = Unit {0}
-AllReplies P (r ∷ rs) = P r × AllReplies P rs
+  abbrev s : State
+  s = referenceAfter f ws (length m) cs
 
--- The state of the reference machine after a list of calls, memory for so many numbers being there.
-unfoldable pub bookAfter : Floor → List ℕ → ℕ → List Asked → State
-bookAfter f ws room cs = after (machineOf f ws) fresh (bookCalls f room cs)
+  -- What holds of a list of calls cs on floor f with walls ws, from the fresh state in memory m.
+  pub record Holds : Type 0 where
+    -- The program's answers, with number and place of each refusal, are the reference machine's in the same order.
+    pub answers : programReplies f ws m cs ≡ referenceReplies f ws (length m) cs
+    -- Its state is the reference machine's in every part, and memory beyond the needed length is as it was.
+    pub memory : programMemory f ws m cs ≡ encode (f .carriers) s ++ drop (stateSize (f .carriers)) m
+    -- That state is within the ranges, so that its memory shows every part of it.
+    pub within-ranges : WithinRanges f s
+    -- Refusal 10 never comes up.
+    pub never-ten : (p : ℕ) → List·Memᴰ (refusal 10 p) (programReplies f ws m cs) → ⊥
+    -- In a run after these calls every step taken was open, no open step was passed over, the list is read from the front, and the
+    -- number taken is that of its history, never above the budget.
+    pub faithful : (xs : List Step) (b : ℕ) → FaithfulRun M s xs b (run M s xs b)
+    -- The steps taken are at most 2^(n + 1) − n − 2.
+    pub ceiling-kept : repliesCount (programReplies f ws m cs) ≤ ceiling (f .carriers)
+    -- Some step is open, or the machine is silent.
+    pub progress : ((x : Step) × (isOpen M s x ≡ true)) ⊎ (isSilent M s ≡ true)
+    -- It is silent exactly if nobody is due and nothing is under way.
+    pub silent-idle : isSilent M s ≡ idle (f .carriers) s
+    -- Where carriers 1 to k are quiet, their answers are the sequential planner's,
+    pub quiet-answers : (k : ℕ) → k ≤ f .carriers → quiet k s ≡ true → below k (s .answer) ≡ take k (planOf f ws)
+    -- and are the same after every longer list that begins with this one.
+    pub quiet-answers-stay : (ds : List ProgramCall) (k : ℕ) → quiet k s ≡ true →
+        below k (referenceAfter f ws (length m) (cs ++ ds) .answer) ≡ below k (s .answer)
+    -- The taken count is the number of single steps taken plus the numbers that the runs returned, or 999,999 if that is more.
+    pub counted : s .taken ≡ min 999999 (repliesCount (programReplies f ws m cs))
 
--- What holds of a list of calls cs on floor f with walls ws, from the fresh state in memory m.
-pub record Holds (f : Floor) (ws m : List ℕ) (cs : List Asked) : Type 0 where
-  -- The program's answers, with number and place of each refusal, are the reference machine's in the same order.
-  pub answers : answersOf f ws (freshMemory f ws m) cs ≡ replies (machineOf f ws) fresh (bookCalls f (length m) cs)
-  -- Its state is the reference machine's in every part, and memory beyond the needed length is as it was.
-  pub memory : memoryOf f ws (freshMemory f ws m) cs ≡
-      encode (f .carriers) (bookAfter f ws (length m) cs) ++ drop (stateSize (f .carriers)) m
-  -- Refusal 10 never comes up.
-  pub never-ten : AllReplies NotTen (answersOf f ws (freshMemory f ws m) cs)
-  -- A run after these calls has the reference machine's history: every step taken was open, no open step was passed over, the list is
-  -- read from the front, and the number taken is that of its history, never above the budget.
-  pub told : (xs : List ℕ) (b : ℕ) →
-      Told (machineOf f ws) (bookAfter f ws (length m) cs) (map stepOf xs) b
-      (runBook (machineOf f ws) (bookAfter f ws (length m) cs) (map stepOf xs) b)
-  pub history : (xs : List ℕ) (b : ℕ) →
-      runOver f ws (memoryOf f ws (freshMemory f ws m) cs) xs b .history ≡
-      runBook (machineOf f ws) (bookAfter f ws (length m) cs) (map stepOf xs) b .history
-  -- The steps taken are at most 2^(n + 1) − n − 2.
-  pub ceiling-kept : takenInAll (answersOf f ws (freshMemory f ws m) cs) ≤ ceiling (f .carriers)
-  -- Some step is open, or the machine is silent.
-  pub open-or-silent : ((x : Step) × (isOpen (machineOf f ws) (bookAfter f ws (length m) cs) x ≡ true)) ⊎
-      (isSilent (machineOf f ws) (bookAfter f ws (length m) cs) ≡ true)
-  -- It is silent exactly if nobody is due and nothing is under way.
-  pub silent-quiet : isSilent (machineOf f ws) (bookAfter f ws (length m) cs) ≡ quiet (f .carriers) (bookAfter f ws (length m) cs)
-  -- Where carriers 1 to k are quiet, their answers are the sequential planner's,
-  pub quiet-answers : (k : ℕ) → k ≤ f .carriers → quiet k (bookAfter f ws (length m) cs) ≡ true →
-      below k (bookAfter f ws (length m) cs .answer) ≡ take k (planOf f ws)
-  -- and stay so after every longer list that begins with this one.
-  pub quiet-lasts : (ds : List Asked) (k : ℕ) → quiet k (bookAfter f ws (length m) cs) ≡ true →
-      (quiet k (bookAfter f ws (length m) (cs ++ ds)) ≡ true) ×
-      (below k (bookAfter f ws (length m) (cs ++ ds) .answer) ≡ below k (bookAfter f ws (length m) cs .answer))
-  -- The taken count is the number of single steps taken plus the numbers that the runs returned, or 999,999 if that is more.
-  pub counted : bookAfter f ws (length m) cs .taken ≡ min 999999 (takenInAll (answersOf f ws (freshMemory f ws m) cs))
+  -- The number that a run returns after the calls.
+  abbrev pub returned : ℕ → ℕ → List ℕ → ℕ → ℕ
+  returned k l xs b = replyCount (answerOf f ws (programMemory f ws m cs) (oneRun k l xs b))
 
--- The memory after the calls cs, and the number that a run of the steps xs then takes.
-unfoldable pub memoryAfter : Floor → List ℕ → List ℕ → List Asked → List ℕ
-memoryAfter f ws m cs = memoryOf f ws (freshMemory f ws m) cs
+  module _ (k l : ℕ) (xs ys : List ℕ) (b : ℕ) where
+    -- The calls and then a run of xs and ys; the calls and then a run of xs and one of ys with what is left of the budget.
+    abbrev whole : List ProgramCall
+    whole = cs ++ (oneRun k l (xs ++ ys) b ∷ [])
 
-unfoldable pub takenBy : Floor → List ℕ → List ℕ → List Asked → List ℕ → ℕ → ℕ
-takenBy f ws m cs xs b = numberTaken (runOver f ws (memoryAfter f ws m cs) xs b)
+    abbrev parts : List ProgramCall
+    parts = cs ++ (oneRun k l xs b ∷ oneRun k l ys (b - returned k l xs b) ∷ [])
 
--- A point inside a run that is not turned away is the end of the same run with its list cut there, and the rest of the list, with what
--- is left of the budget, counts as a later call: both ways lead to the same memory and the same number of steps taken.
-pub record Cut (f : Floor) (ws m : List ℕ) (cs : List Asked) (k l : ℕ) (xs ys : List ℕ) (b : ℕ) : Type 0 where
-  pub memory : memoryAfter f ws m (cs ++ (run k l (xs ++ ys) b ∷ [])) ≡
-      memoryAfter f ws m (cs ++ (run k l xs b ∷ (run k l ys (b - takenBy f ws m cs xs b) ∷ [])))
-  pub taken : takenInAll (answersOf f ws (freshMemory f ws m) (cs ++ (run k l (xs ++ ys) b ∷ []))) ≡
-      takenInAll (answersOf f ws (freshMemory f ws m) (cs ++ (run k l xs b ∷ (run k l ys (b - takenBy f ws m cs xs b) ∷ []))))
+    -- Both ways lead to the same memory, the same state of the reference machine and the same number of steps taken.
+    pub record Cut : Type 0 where
+      pub memory : programMemory f ws m whole ≡ programMemory f ws m parts
+      pub state : referenceAfter f ws (length m) whole ≡ referenceAfter f ws (length m) parts
+      pub taken : repliesCount (programReplies f ws m whole) ≡ repliesCount (programReplies f ws m parts)
 
--- Demand 3: all of this after every list of calls on every accepted floor, and at every point inside a run.
+-- A call c on the memory of state s, with any numbers behind it: the program simulates the reference machine.
+pub record Simulates (f : Floor) (ws : List ℕ) (s : State) (rest : List ℕ) (c : Call) : Type 0 where
+  pub answer : replyTo f ws (encode (f .carriers) s ++ rest) c ≡ reply (machineOf f ws) s c
+  pub memory : memoryAfter f ws (encode (f .carriers) s ++ rest) c ≡ encode (f .carriers) (afterCall (machineOf f ws) s c) ++ rest
+  pub within-ranges : WithinRanges f (afterCall (machineOf f ws) s c)
+
 pub record Demand3 : Type 0 where
-  pub holds : (f : Floor) (ws m : List ℕ) (cs : List Asked) → checkOf f ws ≡ passed → stateSize (f .carriers) ≤ length m → Holds f ws m cs
-  pub inside : (f : Floor) (ws m : List ℕ) (cs : List Asked) → checkOf f ws ≡ passed → stateSize (f .carriers) ≤ length m →
-      (k l : ℕ) (xs ys : List ℕ) (b : ℕ) → runVerdict f (take k ws) (take l (memoryAfter f ws m cs)) (xs ++ ys) ≡ passed →
+  -- All this after every list of calls on every accepted floor.
+  pub holds : (f : Floor) (ws m : List ℕ) → checkOf f ws ≡ passed → stateSize (f .carriers) ≤ length m → (cs : List ProgramCall) →
+      Holds f ws m cs
+  -- A point inside a run that is not turned away is the end of the same run with its list cut there, and the rest of the list, with
+  -- what is left of the budget, counts as a later call.
+  pub cut-anywhere : (f : Floor) (ws m : List ℕ) → checkOf f ws ≡ passed → stateSize (f .carriers) ≤ length m → (cs : List ProgramCall)
+      (k l : ℕ) (xs ys : List ℕ) (b : ℕ) (told : Told) → answerOf f ws (programMemory f ws m cs) (oneRun k l (xs ++ ys) b) ≡ value told →
       Cut f ws m cs k l xs ys b
+  -- The simulation from every state within the ranges, reached or not, one with a count of 999,999 included.
+  pub simulates : (f : Floor) (ws : List ℕ) → checkOf f ws ≡ passed → (s : State) → WithinRanges f s → (rest : List ℕ) (c : Call) →
+      Simulates f ws s rest c

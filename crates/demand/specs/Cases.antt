@@ -1,0 +1,75 @@
+-- Document 01's starred floors ('Floors to try') as one table about the definitions, with floors 10 and 12 and cases of refusals 7 and 9.
+-- Floor 11 is a sheet's.
+use mathlib.Core.Bool.{true}
+use mathlib.Core.List.{[], _∷_}
+use mathlib.Core.Path.{_≡_}
+use Rattle.laws.specs.Verdict.{passed, refused, value, refusal}
+use Rattle.floor.specs.Checks.{checkOf}
+use Rattle.route.specs.Route.{none}
+use Rattle.route.specs.Arrival.{arrivalOf}
+use Rattle.planner.specs.Plan.{planOf, failingOf}
+use Rattle.reference.specs.Ranges.{below}
+use Rattle.reference.specs.State.{fresh}
+use Rattle.reference.specs.Take.{kept, sent, delivered}
+use Rattle.reference.specs.Ranking.{isSilent}
+use Rattle.reference.specs.Ending.{silent, spent, ended}
+use Rattle.reference.specs.Table.{noStep, single, runOf}
+use Rattle.reference.specs.Calls.{stepped, ran, replies, after}
+use Rattle.layout.specs.Calls.{machineOf}
+use Rattle.demand.specs.Floors.{padded, floorOf, cell, sides, two, rows, three, routeOf, answers2, singles, running, calls4, calls5}
+
+pub record Cases : Type 0 where
+  -- 1: one cell, one carrier; arrival 0.
+  pub accepted-1 : checkOf cell [] ≡ passed
+  pub answers-1 : planOf cell [] ≡ routeOf [] ∷ []
+  pub arrival-1 : arrivalOf 0 (padded 64 []) 4 ≡ 0
+  pub failing-1 : failingOf (planOf cell []) ≡ 0
+  -- 2: the sheet; arrivals 2 and 4.
+  pub accepted-2 : checkOf (sides 4) [] ≡ passed
+  pub answers-2 : planOf (sides 4) [] ≡ answers2
+  pub arrivals-2 : (arrivalOf 2 (padded 64 (0 ∷ 1 ∷ 2 ∷ 2 ∷ 2 ∷ [])) 4 ≡ 2) × (arrivalOf 0 (padded 64 (2 ∷ 5 ∷ 4 ∷ 1 ∷ 0 ∷ [])) 4 ≡ 4)
+  pub failing-2 : failingOf (planOf (sides 4) []) ≡ 0
+  -- 3: with horizon 3 carrier 2 has none and is the failing carrier.
+  pub accepted-3 : checkOf (sides 3) [] ≡ passed
+  pub answers-3 : planOf (sides 3) [] ≡ routeOf (0 ∷ 1 ∷ 2 ∷ 2 ∷ []) ∷ none ∷ []
+  pub failing-3 : failingOf (planOf (sides 3) []) ≡ 2
+  -- 4: carrier 2 plans first, hears of carrier 1, and plans again; taken 4, silent.
+  pub replies-4 : replies two fresh calls4 ≡
+      value (stepped sent) ∷ value (stepped sent) ∷ value (stepped delivered) ∷ value (stepped sent) ∷ []
+  pub first-4 : after two fresh (singles (102 ∷ [])) .answer 1 ≡ routeOf (2 ∷ 1 ∷ [])
+  pub answers-4 : below 2 (after two fresh calls4 .answer) ≡ answers2
+  pub taken-4 : after two fresh calls4 .taken ≡ 4
+  pub silent-4 : isSilent two (after two fresh calls4) ≡ true
+  pub run-4 : replies two fresh (running (102 ∷ 101 ∷ 212 ∷ 102 ∷ []) 9) ≡ value (ran 4 silent) ∷ []
+  -- 5: carrier 2 plans once it has heard; taken 3, silent, same routes.
+  pub replies-5 : replies two fresh calls5 ≡ value (stepped sent) ∷ value (stepped delivered) ∷ value (stepped sent) ∷ []
+  pub answers-5 : below 2 (after two fresh calls5 .answer) ≡ answers2
+  pub taken-5 : after two fresh calls5 .taken ≡ 3
+  pub silent-5 : isSilent two (after two fresh calls5) ≡ true
+  -- 6: a delivery from an empty channel: 8, state unchanged.
+  pub reply-6 : replies two fresh (singles (212 ∷ [])) ≡ refusal 8 0 ∷ []
+  pub state-6 : after two fresh (singles (212 ∷ [])) ≡ fresh
+  -- 7: a run with budget 0 and one open step: taken 0, spent.
+  pub reply-7 : replies two fresh (running (101 ∷ []) 0) ≡ value (ran 0 spent) ∷ []
+  -- 8: a run of an empty list: taken 0, ended.
+  pub reply-8 : replies two fresh (running [] 0) ≡ value (ran 0 ended) ∷ []
+  -- 9: three carriers, depth 1: the channel from carrier 2 to carrier 3 is full.
+  pub accepted-9 : checkOf three [] ≡ passed
+  pub replies-9 : replies (machineOf three []) fresh calls4 ≡
+      value (stepped sent) ∷ value (stepped sent) ∷ value (stepped delivered) ∷ refusal 8 0 ∷ []
+  -- 10: horizon 63 is accepted, 64 is not; nor are 0 carriers.
+  pub accepted-10 : checkOf (sides 63) [] ≡ passed
+  pub horizon-10 : checkOf (sides 64) [] ≡ refused 2 3
+  pub carriers-10 : checkOf (floorOf 3 2 4 [] []) [] ≡ refused 2 5
+  -- 12: a delivery from a carrier to itself is no step.
+  pub reply-12 : replies two fresh (singles (222 ∷ [])) ≡ refusal 7 0 ∷ []
+  -- 7 in a run has the place of its first bad step, also past the budget; 9 comes first.
+  pub reply-named : replies two fresh (running (101 ∷ 103 ∷ 0 ∷ []) 0) ≡ refusal 7 1 ∷ []
+  pub reply-short : replies two fresh (runOf 461 (noStep ∷ []) 1 ∷ single 461 noStep ∷ single 462 noStep ∷ []) ≡
+      refusal 9 0 ∷ refusal 9 0 ∷ refusal 7 0 ∷ []
+  -- A plan that is not the first and has the same answer is 'kept': the carriers of this floor do not meet.
+  pub accepted-kept : checkOf rows [] ≡ passed
+  pub replies-kept : replies (machineOf rows []) fresh calls4 ≡
+      value (stepped sent) ∷ value (stepped sent) ∷ value (stepped delivered) ∷ value (stepped kept) ∷ []
+  -- A run passes over what is not open, and stops at its budget.
+  pub reply-passed : replies two fresh (running (212 ∷ 101 ∷ 101 ∷ 102 ∷ []) 1) ≡ value (ran 1 spent) ∷ []

@@ -1,0 +1,70 @@
+-- The floors of document 01's cases ('Floors to try'), none with a wall, their calls and their routes.
+use Prim.Native.Nat.{ℕ, _-_}
+use mathlib.Core.List.{List, [], _∷_, _++_, map}
+use lib.ListN.{length, replicate}
+use Rattle.floor.specs.declared.Floor.{Floor}
+use Rattle.route.specs.Route.{Answer, route}
+use Rattle.reference.specs.State.{Machine}
+use Rattle.reference.specs.Table.{Call, single, runOf}
+use Rattle.layout.specs.Numbers.{askedBy}
+use Rattle.layout.specs.Calls.{machineOf}
+
+-- A list filled up with zeros: the 8 places of starts and goals, and the 64 cells of a route.
+abbrev pub padded : ℕ → List ℕ → List ℕ
+padded k xs = xs ++ replicate (k - length xs) 0
+
+-- A floor of width by height with channels of depth 1: its horizon, and the starts and goals of its carriers.
+abbrev pub floorOf : ℕ → ℕ → ℕ → List ℕ → List ℕ → Floor
+floorOf width height horizon starts goals =
+    record {
+      width = width;
+      height = height;
+      horizon = horizon;
+      depth = 1;
+      carriers = length starts;
+      walls = 0;
+      starts = padded 8 starts;
+      goals = padded 8 goals;
+    }
+
+-- One cell, one carrier.
+abbrev pub cell : Floor
+cell = floorOf 1 1 4 (0 ∷ []) (0 ∷ [])
+
+-- The floor of document 01's sheet, for a horizon: two carriers change sides.
+abbrev pub sides : ℕ → Floor
+sides horizon = floorOf 3 2 horizon (0 ∷ 2 ∷ []) (2 ∷ 0 ∷ [])
+
+-- The reference machine of that sheet.
+abbrev pub two : Machine
+two = machineOf (sides 4) []
+
+-- Two carriers that do not meet: each goes along a row of its own.
+abbrev pub rows : Floor
+rows = floorOf 3 2 4 (0 ∷ 3 ∷ []) (2 ∷ 5 ∷ [])
+
+-- Three carriers.
+abbrev pub three : Floor
+three = floorOf 3 2 4 (0 ∷ 2 ∷ 3 ∷ []) (2 ∷ 0 ∷ 5 ∷ [])
+
+-- A route by its first cells.
+abbrev pub routeOf : List ℕ → Answer
+routeOf cells = route (padded 64 cells)
+
+-- The answers of floor 2.
+abbrev pub answers2 : List Answer
+answers2 = routeOf (0 ∷ 1 ∷ 2 ∷ 2 ∷ 2 ∷ []) ∷ routeOf (2 ∷ 5 ∷ 4 ∷ 1 ∷ 0 ∷ []) ∷ []
+
+-- Single steps, and a run, by the numbers of their steps (102 is plan 2, 212 is deliver 1 to 2), with memory enough for three carriers.
+abbrev pub singles : List ℕ → List Call
+singles xs = map (λ x. single 2000 (askedBy x)) xs
+
+abbrev pub running : List ℕ → ℕ → List Call
+running xs b = runOf 2000 (map askedBy xs) b ∷ []
+
+-- The calls of floors 4 and 9, and of floor 5.
+abbrev pub calls4 : List Call
+calls4 = singles (102 ∷ 101 ∷ 212 ∷ 102 ∷ [])
+
+abbrev pub calls5 : List Call
+calls5 = singles (101 ∷ 212 ∷ 102 ∷ [])
