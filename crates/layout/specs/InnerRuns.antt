@@ -5,7 +5,6 @@ use mathlib.Core.Bool.{Bool, true, false, _&&_}
 use mathlib.Core.List.{List, [], _∷_}
 use lib.Dec.{eqb}
 use Rattle.reference.specs.State.{Machine}
-use Rattle.reference.specs.Step.{Step}
 use Rattle.reference.specs.Table.{Asked, step, noStep}
 use Rattle.reference.specs.Ending.{Ending, endsAs}
 use Rattle.layout.specs.InnerSteps.{askedOpenIn, afterIn, silentIn}

@@ -1,7 +1,7 @@
 -- Inner matter: nothing claimed rests on this. What the steps do to memory, number for number, for the reference machine M that the
 -- memory is a state of: the code's way to the reference machine's steps.
 use Prim.Native.Nat.{ℕ, zero, suc, _+_, _*_, _-_}
-use mathlib.Core.Bool.{Bool, true, false, _&&_, _||_, not, cond}
+use mathlib.Core.Bool.{Bool, false, _&&_, _||_, not, cond}
 use mathlib.Core.List.{List, [], _∷_}
 use lib.Dec.{leb, ltb, eqb}
 use lib.ListN.{getD}

@@ -1,25 +1,25 @@
 -- What the entries come to on a checked state: a refusal, a step taken, a run.
-use Prim.Native.Nat.{ℕ, _≤_}
+use Prim.Native.Nat.{ℕ}
 use mathlib.Core.List.{List, map}
-use mathlib.Core.Path.{_≡_, refl, sym, _∙_, ap, ap₂}
+use mathlib.Core.Path.{_≡_, sym, _∙_, ap}
 use lib.ListN.{length}
-use Rattle.laws.specs.Verdict.{Outcome, passed, refused, value, refusal, _then_, _gives_, _thenAnswers_, whenPassed}
+use Rattle.laws.specs.Verdict.{Outcome, passed, refused, value, refusal}
 use Rattle.laws.proofs.VerdictLaws.{then-passed, gives-passed, gives-refused, when-passed, when-refused, answers-passed}
 use Rattle.floor.specs.declared.Floor.{Floor}
 use Rattle.reference.specs.Step.{Step}
-use Rattle.reference.specs.Table.{step, noStep, single, runOf, lentEnough, allNamed}
+use Rattle.reference.specs.Table.{step, noStep, single, lentEnough, allNamed}
 use Rattle.reference.specs.Calls.{Told, stepped, ran}
 use Rattle.reference.proofs.TableLaws.{enough-lent}
 use Rattle.layout.specs.Numbers.{askedBy}
 use Rattle.layout.specs.Calls.{machineOf, stateVerdict, singleCall, runCall}
 use Rattle.layout.specs.InnerSteps.{silentIn, afterIn, saidIn}
-use Rattle.layout.specs.InnerRuns.{runIn, endingIn}
+use Rattle.layout.specs.InnerRuns.{runIn}
 use Rattle.layout.specs.InnerCalls.{singleVerdictIn, verdictIn, replyIn, takenIn, memoryIn}
 use Rattle.machine.specs.declared.Stepped.{Stepped}
 use Rattle.machine.specs.Answers.{steppedReply}
-use Rattle.machine.specs.Inner.{bare, namedAt, Took, Tallied, endsWith}
+use Rattle.machine.specs.Inner.{bare, Took, Tallied, endsWith}
 use Rattle.machine.proofs.OpenLaws.{single-of, silent-of}
-use Rattle.machine.proofs.VerdictLaws.{state-tells, names-are}
+use Rattle.machine.proofs.VerdictLaws.{state-tells}
 use Rattle.machine.proofs.RunLaws.{ran-is}
 
 module _ (f : Floor) (ws m : List ℕ) (sound : stateVerdict f ws m ≡ passed) where

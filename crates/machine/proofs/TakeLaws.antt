@@ -5,13 +5,10 @@ use mathlib.Core.Bool.{true, false}
 use mathlib.Core.List.{List, [], _∷_}
 use mathlib.Core.Path.{_≡_, refl, sym, _∙_, ap}
 use lib.ListN.{length}
-use Rattle.laws.specs.Verdict.{value}
 use Rattle.laws.specs.Memory.{put}
 use Rattle.floor.specs.declared.Floor.{Floor}
 use Rattle.planner.specs.Records.{recordOf}
 use Rattle.reference.specs.Step.{plan, deliver}
-use Rattle.reference.specs.Take.{kept, sent, delivered}
-use Rattle.reference.specs.Calls.{stepped}
 use Rattle.layout.specs.Places.{plannedPlace, duePlace, viewPlace, channelPlace}
 use Rattle.layout.specs.Calls.{machineOf}
 use Rattle.layout.specs.InnerSteps.{ticked, moved, popped, deliveredIn, sentTo, newsIn, plannedIn, bestIn, effectIn, afterIn, saidIn}

@@ -1,7 +1,7 @@
 -- What is claimed of lists of calls, one field a claim, for any number of carriers, any best response, and any depth, at least 1 where
 -- it matters.
 use Prim.Native.Nat.{ℕ, _-_, _≤_, min}
-use mathlib.Core.Bool.{Bool, true}
+use mathlib.Core.Bool.{true}
 use mathlib.Core.List.{List, [], _∷_, _++_}
 use mathlib.Core.Logic.{_↔_}
 use mathlib.Core.Path.{_≡_}

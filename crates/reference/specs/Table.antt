@@ -1,7 +1,7 @@
 -- The calls and the table of refusals xs the reference machine is given it (document 01, 'Refused'): 9, then 7, then 8. A lent
 -- state of the machine's own is never refused with 10.
 use Prim.Native.Nat.{ℕ}
-use mathlib.Core.Bool.{Bool, true, false}
+use mathlib.Core.Bool.{Bool, false}
 use mathlib.Core.List.{List, [], _∷_}
 use lib.Dec.{leb}
 use lib.ListN.{length, getD}

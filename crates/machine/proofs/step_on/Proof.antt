@@ -4,7 +4,6 @@ use Rattle.machine.specs.Answers.{askedMeant, steppedReply}
 use Rattle.machine.proofs.OpenLaws.{ready-open}
 use Rattle.machine.proofs.VerdictLaws.{state-tells, placed-sized}
 use Rattle.machine.proofs.EntryLaws.{step-unnamed, step-refused, step-taken}
-use mathlib.Core.Path.{sym, _∙_, ap}
 use borrow.Author.Needs.{needs}
 use Rattle.machine.proofs.step_on.Statement.{statement}
 use Rattle.machine.proofs.step_on.Tie as tie

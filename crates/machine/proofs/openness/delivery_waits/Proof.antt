@@ -1,7 +1,4 @@
 -- `machine::openness::delivery_waits` meets its contract: the channel decides.
-use mathlib.Core.Path.{_∙_, ap}
-use mathlib.Core.Bool.{Bool}
-use Rattle.laws.specs.Verdict.{demand}
 use Rattle.layout.specs.Calls.{machineOf}
 use Rattle.layout.specs.InnerSteps.{waitsIn}
 use Rattle.machine.specs.Inner.{bare}

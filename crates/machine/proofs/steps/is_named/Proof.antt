@@ -1,7 +1,7 @@
 -- `machine::steps::is_named` meets its contract: what names no kind of step is not there.
 use Rattle.reference.specs.Table.{isNamed}
 use Rattle.machine.specs.Answers.{askedMeant}
-use mathlib.Core.Path.{refl, sym, _∙_}
+use mathlib.Core.Path.{refl}
 use borrow.Author.Needs.{needs}
 use Rattle.machine.proofs.steps.is_named.Statement.{statement}
 use Rattle.machine.proofs.steps.is_named.Tie as tie
