@@ -2,6 +2,7 @@
 use Prim.Native.Nat.{ℕ}
 use mathlib.Core.List.{List, [], _∷_}
 use lib.ListN.{length}
+use Rattle.laws.specs.Verdict.{Outcome, value, refusal}
 use Rattle.laws.specs.Memory.{put}
 use Rattle.floor.specs.Checks.{roomOf}
 use Rattle.sheet.specs.Read.{chosen}
@@ -12,8 +13,7 @@ use Rattle.lengths.specs.Figures.{Figures, known, withheld}
 use Rattle.planner.specs.Answers.{Result, made, turned as plan-turned}
 use Rattle.reference.specs.Take.{StepAnswer, kept, sent, delivered}
 use Rattle.reference.specs.Ending.{Ending, silent, spent, ended}
-use Rattle.reference.specs.Calls.{Reply, stepped, ran, refused as reply-refused}
-use Rattle.machine.specs.Ceiling.{Figure, steps, turned as figure-turned}
+use Rattle.reference.specs.Calls.{Reply, stepped, ran}
 use Rattle.wire.specs.Word.{Said, done, turned, ofVerdict}
 
 -- A search: 0 none, 1 a route.
@@ -62,11 +62,11 @@ endCase ended = 2
 
 -- A call of the machine: the step's case, or the end of a run with the number taken.
 unfoldable pub ofReply : Reply → Said
-ofReply (stepped a) = done (stepCase a) 0
-ofReply (ran t e) = done (endCase e) t
-ofReply (reply-refused k p) = turned k p
+ofReply (value (stepped a)) = done (stepCase a) 0
+ofReply (value (ran t e)) = done (endCase e) t
+ofReply (refusal k p) = turned k p
 
 -- The ceiling: case 0 with the most steps.
-unfoldable pub ofFigure : Figure → Said
-ofFigure (steps n) = done 0 n
-ofFigure (figure-turned k p) = turned k p
+unfoldable pub ofFigure : Outcome ℕ → Said
+ofFigure (value n) = done 0 n
+ofFigure (refusal k p) = turned k p

@@ -16,7 +16,7 @@ use Rattle.printing.specs.Print.{routesOutcome, routesMemory}
 use Rattle.lengths.specs.Figures.{figuresFor}
 use Rattle.planner.specs.Answers.{planResult}
 use Rattle.planner.specs.Records.{planMemory}
-use Rattle.layout.specs.Calls.{placeVerdict, freshMemory, stepReply, stepMemory, runReply, runMemory}
+use Rattle.layout.specs.Calls.{placeVerdict, freshMemory, replyTo, memoryAfter, singleCall, runCall}
 use Rattle.machine.specs.Ceiling.{mostSteps}
 use Rattle.wire.specs.Word.{Said, turned, wordOf}
 use Rattle.wire.specs.Record.{floorOf, numbersOf, recordLent}
@@ -99,14 +99,14 @@ freshStored xs ws old = storedFor xs (freshMemory (floorOf xs) ws old) old
 
 -- `kalomivund_step`.
 unfoldable pub stepWord : List ℕ → List ℕ → List ℕ → ℕ → ℕ
-stepWord xs ws m x = wordFor xs (ofReply (stepReply (floorOf xs) ws m x))
+stepWord xs ws m x = wordFor xs (ofReply (replyTo (floorOf xs) ws m (singleCall m x)))
 
 unfoldable pub stepStored : List ℕ → List ℕ → List ℕ → ℕ → List ℕ
-stepStored xs ws m x = storedFor xs (stepMemory (floorOf xs) ws m x) m
+stepStored xs ws m x = storedFor xs (memoryAfter (floorOf xs) ws m (singleCall m x)) m
 
 -- `kalomivund_run`.
 unfoldable pub runWord : List ℕ → List ℕ → List ℕ → List ℕ → ℕ → ℕ
-runWord xs ws m ss b = wordFor xs (ofReply (runReply (floorOf xs) ws m ss b))
+runWord xs ws m ss b = wordFor xs (ofReply (replyTo (floorOf xs) ws m (runCall m ss b)))
 
 unfoldable pub runStored : List ℕ → List ℕ → List ℕ → List ℕ → ℕ → List ℕ
-runStored xs ws m ss b = storedFor xs (runMemory (floorOf xs) ws m ss b) m
+runStored xs ws m ss b = storedFor xs (memoryAfter (floorOf xs) ws m (runCall m ss b)) m
