@@ -72,9 +72,12 @@ extern "C" {
 #define KALOMIVUND_SPENT 1     /* run: the budget is used up and steps are left unread */
 #define KALOMIVUND_ENDED 2     /* run: the list is read, and some step is open */
 
-/* Steps by their numbers; every other number names no step. */
-#define KALOMIVUND_PLAN(i) ((uint16_t)(100 + (i)))
-#define KALOMIVUND_DELIVER(j, i) ((uint16_t)(200 + 10 * (j) + (i))) /* from j to i, j above i */
+/* Steps by their numbers; every other number names no step. A carrier outside 1 to 9 gives 0, which names none, so that no carrier
+ * number can be taken for another step. Arguments are evaluated more than once. */
+#define KALOMIVUND_CARRIER(i) ((i) >= 1 && (i) <= 9)
+#define KALOMIVUND_PLAN(i) ((uint16_t)(KALOMIVUND_CARRIER(i) ? 100 + (i) : 0))
+#define KALOMIVUND_DELIVER(j, i) \
+    ((uint16_t)(KALOMIVUND_CARRIER(j) && KALOMIVUND_CARRIER(i) ? 200 + 10 * (j) + (i) : 0)) /* from j to i, j above i */
 
 /* Reads a sheet.
  * Takes   text, a sheet's bytes, any bytes and any length.

@@ -153,14 +153,19 @@ pub struct Ran {
     pub end: End,
 }
 
-/// The number of the step 'plan i'.
-pub const fn plan_step(i: u16) -> u16 {
-    100 + i
+/// Whether a carrier number has a digit of its own in a step's number.
+const fn is_digit(i: u16) -> bool {
+    1 <= i && i <= 9
 }
 
-/// The number of the step 'deliver j to i'.
+/// The number of the step 'plan i'; 0, which names no step, where i is outside 1 to 9.
+pub const fn plan_step(i: u16) -> u16 {
+    if is_digit(i) { 100 + i } else { 0 }
+}
+
+/// The number of the step 'deliver j to i'; 0, which names no step, where a carrier is outside 1 to 9.
 pub const fn deliver_step(j: u16, i: u16) -> u16 {
-    200 + 10 * j + i
+    if is_digit(j) && is_digit(i) { 200 + 10 * j + i } else { 0 }
 }
 
 /// Reads a sheet: its floor, and its walls into lent memory. Refusals 1 to 6, and 9 where the walls do not fit.

@@ -135,3 +135,17 @@ fn a_lost_order() {
     assert_eq!(board, keeper);
     assert_eq!(run(&floor, &[], &mut board, &[], 0), Ok(Ran { taken: 0, end: End::Silent }));
 }
+
+/// Only carriers 1 to 9 have a step's number; 112 is no plan that could be read as a delivery from 1 to 2.
+#[test]
+fn carriers_outside_the_digits_name_no_step() {
+    for i in [0, 10, 112, u16::MAX] {
+        assert_eq!(plan_step(i), 0);
+        assert_eq!(deliver_step(i, 2), 0);
+        assert_eq!(deliver_step(1, i), 0);
+    }
+    assert_eq!((plan_step(9), deliver_step(1, 2)), (109, 212));
+    let floor = floor_of(SHEET).unwrap();
+    let mut state = fresh_state(&floor);
+    assert_eq!(step(&floor, &[], &mut state, plan_step(112)), Err(Refusal { number: 7, place: 0 }));
+}
