@@ -1,9 +1,7 @@
 -- The views of a carrier, one part of the state, are what the search looks at.
 use Prim.Native.Nat.{ℕ, zero, suc, _+_, _*_, _-_, _≤_, _<_}
 use native.Mathlib.Omega.{arith}
-use mathlib.Core.List.{List, [], _∷_, List·Memᴰ, List·Memᴰ·head, List·Memᴰ·tail, List·Memᴰ·cases-cons, List·Memᴰ·append-cases}
-use mathlib.Core.List.{List·Memᴰ·eq-of-singleton, Memᴰ·append-left, Memᴰ·append-right}
-use mathlib.Core.Logic.{⊎-elim}
+use mathlib.Core.List.{List}
 use mathlib.Core.Path.{_≡_, refl, sym, _∙_, ap, ap₂}
 use lib.ListN.{length, getD, take, drop}
 use lib.Seq.{ext-getD}
@@ -12,7 +10,6 @@ use Rattle.laws.proofs.PartLaws.{part-byte, part-length}
 use Rattle.floor.specs.declared.Floor.{Floor}
 use Rattle.route.specs.Route.{View}
 use Rattle.route.specs.Search.{best}
-use Rattle.route.proofs.Theorems.{theorems}
 use Rattle.search.specs.Rows.{FreeRows}
 use Rattle.search.specs.Task.{taskOf, taskOfRows}
 use Rattle.route.specs.Views.{viewOf, viewAt, records, viewsOf}
@@ -48,44 +45,24 @@ view-part m a i j l h =
     let sum : a + (65 * j + 1) ≡ a + 65 * j + 1 = omega arith in
     ap₂ viewOf (part-byte m a (65 * i) (65 * j) (omega arith)) (cells-part m a i j l h ∙ ap (λ (k : ℕ). part m k 64) sum)
 
--- The same views, from the last to the first and from the first to the last.
-module _ (b : List ℕ) (g : ℕ → View) where
-  shown-below : (k : ℕ) → ((j : ℕ) → j < k → viewAt b j ≡ g j) → (v : View) → List·Memᴰ v (records b k) → List·Memᴰ v (below k g)
-  unfolding records below
-  shown-below zero h v q = q
-  shown-below (suc k) h v q =
-      ⊎-elim
-      (λ (e : v ≡ viewAt b k). Memᴰ·append-right (below k g) (List·Memᴰ·head (e ∙ h k (omega arith))))
-      (λ (r : List·Memᴰ v (records b k)). Memᴰ·append-left (g k ∷ []) (shown-below k (λ j l. h j (omega arith)) v r))
-      (List·Memᴰ·cases-cons q)
-
-  below-shown : (k : ℕ) → ((j : ℕ) → j < k → viewAt b j ≡ g j) → (v : View) → List·Memᴰ v (below k g) → List·Memᴰ v (records b k)
-  unfolding records below
-  below-shown zero h v q = q
-  below-shown (suc k) h v q =
-      ⊎-elim
-      (λ (r : List·Memᴰ v (below k g)). List·Memᴰ·tail (below-shown k (λ j l. h j (omega arith)) v r))
-      (λ (r : List·Memᴰ v (g k ∷ [])). List·Memᴰ·head (List·Memᴰ·eq-of-singleton r ∙ sym (h k (omega arith))))
-      (List·Memᴰ·append-cases (below k g) q)
+-- The views of the first k records, one by one.
+shown-below : (b : List ℕ) (g : ℕ → View) (k : ℕ) → ((j : ℕ) → j < k → viewAt b j ≡ g j) → records b k ≡ below k g
+unfolding records below
+shown-below b g zero h = refl
+shown-below b g (suc k) h = rw (shown-below b g k (λ j l. h j (omega arith)), h k (omega arith)) refl
 
 next-view : (n i j a : ℕ) → a ≡ viewPlace n i 0 → a + 65 * j ≡ viewPlace n i j
 unfolding viewPlace
 next-view n i j a e = omega (arith, e)
 
-task-horizon : (f : Floor) (ws : List ℕ) (i : ℕ) → f .horizon ≤ 63 → taskOf f ws i .horizon ≤ 63
-unfolding taskOf
-task-horizon f ws i h = h
-
 -- The best answer to the part that has the views of carrier i, with the free cells as rows.
-part-best : (f : Floor) (ws rows m : List ℕ) (i a : ℕ) → FreeRows f ws rows → f .horizon ≤ 63 → a ≡ viewPlace (f .carriers) i 0 →
+part-best : (f : Floor) (ws rows m : List ℕ) (i a : ℕ) → FreeRows f ws rows → a ≡ viewPlace (f .carriers) i 0 →
     a + 65 * i ≤ length m → best (taskOfRows f rows (i + 1)) (viewsOf (part m a (65 * i)) (i + 1)) ≡ bestIn (machineOf f ws) m i
 unfolding bestIn machineOf respondOf viewsIn
-part-best f ws rows m i a free h e l =
+part-best f ws rows m i a free e l =
     let b = part m a (65 * i) in
     free .same (i + 1) (viewsOf b (i + 1))
-    ∙ ap (best (taskOf f ws (i + 1))) (views-above b i)
-    ∙ theorems .best-same-views (taskOf f ws (i + 1)) (records b i) (below i seen) (task-horizon f ws (i + 1) h)
-    (shown-below b seen i same) (below-shown b seen i same)
+    ∙ ap (best (taskOf f ws (i + 1))) (views-above b i ∙ shown-below b seen i same)
   where
     seen : ℕ → View
     seen j = recordAt m (viewPlace (f .carriers) i j)
@@ -101,8 +78,8 @@ slice-part m a i = let size : a + 65 * i - a ≡ 65 * i = omega arith in rw size
 pub slice-long : (m : List ℕ) (a i : ℕ) → a + 65 * i ≤ length m → 65 * i ≤ length (take (a + 65 * i - a) (drop a m))
 slice-long m a i l = omega (arith, ap length (slice-part m a i), part-length m a (65 * i) l)
 
-pub slice-best : (f : Floor) (ws rows m : List ℕ) (i a : ℕ) → FreeRows f ws rows → f .horizon ≤ 63 → a ≡ viewPlace (f .carriers) i 0 →
+pub slice-best : (f : Floor) (ws rows m : List ℕ) (i a : ℕ) → FreeRows f ws rows → a ≡ viewPlace (f .carriers) i 0 →
     a + 65 * i ≤ length m →
     best (taskOfRows f rows (i + 1)) (viewsOf (take (a + 65 * i - a) (drop a m)) (i + 1)) ≡ bestIn (machineOf f ws) m i
-slice-best f ws rows m i a free h e l =
-    ap (λ (b : List ℕ). best (taskOfRows f rows (i + 1)) (viewsOf b (i + 1))) (slice-part m a i) ∙ part-best f ws rows m i a free h e l
+slice-best f ws rows m i a free e l =
+    ap (λ (b : List ℕ). best (taskOfRows f rows (i + 1)) (viewsOf b (i + 1))) (slice-part m a i) ∙ part-best f ws rows m i a free e l

@@ -18,7 +18,7 @@ use Rattle.laws.specs.Memory.{put}
 use Rattle.laws.proofs.PutLaws.{put-none, put-length, put-next}
 use Rattle.planner.specs.Plan.{respondWith}
 use Rattle.planner.specs.Records.{recordOf, recordsOf, stored}
-use Rattle.planner.proofs.ViewLaws.{Whole, records-snoc, plan-length, views-are, are-views}
+use Rattle.planner.proofs.ViewLaws.{Whole, records-snoc, plan-length, views-are}
 
 none-whole : Whole none
 unfolding recordOf
@@ -64,9 +64,7 @@ module _ (f : Floor) (rows : List ℕ) (horizon : f .horizon ≤ 63) where
   responds k =
       let whole-memory : recordsOf (answers k) ≡ recordsOf (answers k) ++ [] = sym (append-nil (recordsOf (answers k))) in
       ap (best (taskOfRows f rows (k + 1))) (views-above (recordsOf (answers k)) k)
-      ∙ theorems .best-same-views (taskOfRows f rows (k + 1)) (records (recordsOf (answers k)) k) (map heard (answers k)) horizon
-      (views-are (respondWith f rows) whole k (recordsOf (answers k)) [] whole-memory)
-      (are-views (respondWith f rows) whole k (recordsOf (answers k)) [] whole-memory)
+      ∙ ap (best (taskOfRows f rows (k + 1))) (views-are (respondWith f rows) whole k (recordsOf (answers k)) [] whole-memory)
 
   -- Before the first carrier.
   pub plan-start : (old : List ℕ) → old ≡ stored (answers 0) old

@@ -2,9 +2,7 @@
 use Prim.Native.Nat.{ℕ, zero, suc, _+_, _*_}
 use native.Mathlib.Omega.{arith}
 use mathlib.Core.Path.{_≡_, refl, sym, _∙_, ap, ap₂}
-use mathlib.Core.List.{List, [], _∷_, _++_, map, append-assoc, append-nil, List·Memᴰ, List·Memᴰ·head, List·Memᴰ·tail, List·Memᴰ·cases-cons}
-use mathlib.Core.List.{List·Memᴰ·append-cases, List·Memᴰ·eq-of-singleton, Memᴰ·append-left, Memᴰ·append-right}
-use mathlib.Core.Logic.{⊎-elim}
+use mathlib.Core.List.{List, [], _∷_, _++_, map, append-assoc, append-nil}
 use lib.ListN.{length, take, drop, length-append, replicate}
 use lib.Seq.{getD-at, drop-at, take-at, append-snoc}
 use Rattle.route.specs.Route.{Answer, none, route, View, heard}
@@ -80,26 +78,9 @@ module _ (respond : ℕ → List View → Answer) (whole : (k : ℕ) (vs : List 
       ap (λ (l : List ℕ). viewAt l k) (apart k m rest e)
       ∙ record-view (recordsOf (sequential respond k)) rest (next k) k (plan-length k) (whole k (map heard (sequential respond k)))
 
-  -- The views of the first k records are the answers of the first k carriers, and back.
-  pub views-are : (k : ℕ) (m rest : List ℕ) → m ≡ recordsOf (sequential respond k) ++ rest
-      → (v : View) → List·Memᴰ v (records m k) → List·Memᴰ v (map heard (sequential respond k))
+  -- The views of the first k records are the answers of the first k carriers.
+  pub views-are : (k : ℕ) (m rest : List ℕ) → m ≡ recordsOf (sequential respond k) ++ rest → records m k ≡ map heard (sequential respond k)
   unfolding sequential records next
-  views-are zero m rest e v h = h
-  views-are (suc k) m rest e v h =
-      rw (heard-snoc (sequential respond k) (next k))
-      (⊎-elim
-      (λ (q : v ≡ viewAt m k). Memᴰ·append-right (map heard (sequential respond k)) (List·Memᴰ·head (q ∙ last-view k m rest e)))
-      (λ (q : List·Memᴰ v (records m k)).
-      Memᴰ·append-left (heard (next k) ∷ []) (views-are k m (recordOf (next k) ++ rest) (apart k m rest e) v q))
-      (List·Memᴰ·cases-cons h))
-
-  pub are-views : (k : ℕ) (m rest : List ℕ) → m ≡ recordsOf (sequential respond k) ++ rest
-      → (v : View) → List·Memᴰ v (map heard (sequential respond k)) → List·Memᴰ v (records m k)
-  unfolding sequential records next
-  are-views zero m rest e v h = h
-  are-views (suc k) m rest e v h =
-      ⊎-elim
-      (λ (q : List·Memᴰ v (map heard (sequential respond k))).
-      List·Memᴰ·tail (are-views k m (recordOf (next k) ++ rest) (apart k m rest e) v q))
-      (λ (q : List·Memᴰ v (heard (next k) ∷ [])). List·Memᴰ·head (List·Memᴰ·eq-of-singleton q ∙ sym (last-view k m rest e)))
-      (List·Memᴰ·append-cases (map heard (sequential respond k)) (rw (heard-snoc (sequential respond k) (next k)) at h))
+  views-are zero m rest e = refl
+  views-are (suc k) m rest e =
+      rw (heard-snoc (sequential respond k) (next k), views-are k m (recordOf (next k) ++ rest) (apart k m rest e), last-view k m rest e) refl

@@ -14,6 +14,7 @@ mod WalkRoute
 pub mod Meets
 pub mod Unique
 pub mod FreeLaws
+pub mod ViewsLaws
 pub mod Theorems
 pub mod Sets
 pub mod SetsLaws

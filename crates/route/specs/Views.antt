@@ -1,7 +1,7 @@
 -- Views as they lie in memory: a record of 65 numbers each, a tag and 64 cells, record j − 1 being carrier j's (records count from 0).
 use Prim.Native.Nat.{ℕ, zero, suc, _+_, _*_, _-_}
 use mathlib.Core.Bool.{true, false}
-use mathlib.Core.List.{List, [], _∷_}
+use mathlib.Core.List.{List, [], _∷_, _++_}
 use lib.Dec.{eqb}
 use lib.ListN.{getD, take, drop}
 use Rattle.route.specs.Route.{none, route, View, unheard, heard}
@@ -14,10 +14,10 @@ viewOf tag cells = elim (eqb tag 2) [ true ↦ heard (route cells) | false ↦ e
 unfoldable pub viewAt : List ℕ → ℕ → View
 viewAt m j = viewOf (getD m (65 * j) 0) (take 64 (drop (65 * j + 1) m))
 
--- The views in the first k records, the last first.
+-- The views in the first k records, in carrier order.
 unfoldable pub records : List ℕ → ℕ → List View
 records m zero = []
-records m (suc k) = viewAt m k ∷ records m k
+records m (suc k) = records m k ++ (viewAt m k ∷ [])
 
 -- The views that a search for carrier i looks at: those of the carriers above it.
 unfoldable pub viewsOf : List ℕ → ℕ → List View

@@ -4,9 +4,10 @@ use native.Mathlib.Omega.{arith}
 use native.Mathlib.Numerals.{add-one}
 use mathlib.Core.Bool.{Bool, true, false, _&&_, not, and-true, and-comm, and-assoc}
 use mathlib.Core.List.{List}
-use mathlib.Core.Path.{_≡_, refl, sym, ap₂, _∙_}
+use mathlib.Core.Path.{_≡_, refl, sym, ap₂, _∙_, ap}
 use lib.Dec.{eqb, ltb}
 use lib.ListN.{getD}
+use Rattle.route.proofs.ViewsLaws.{every-more}
 use Rattle.tables.proofs.FreeLaws.{free-tidy}
 use Rattle.route.specs.Moves.{vacant, every}
 use Rattle.laws.proofs.Tests.{below-same, inside-same}
@@ -40,11 +41,12 @@ free-roomy g free m s n thin room late beats clean = record {
 -- What can be stood on among one more view.
 stands-more : (g : Scene) (free m : List ℕ) (j t c : ℕ) → g .width ≤ 32 → g .cells ≤ 32 * g .width → t < 64 →
     (standsAt g j free m t c && not (eqb c (spotOf m j t))) ≡ standsAt g (suc j) free m t c
-unfolding standsAt records every
+unfolding standsAt
 stands-more g free m j t c narrow room h =
     and-assoc (ltb c (g .cells) && here) old (not (eqb c (spotOf m j t)))
     ∙ inside-same c (g .cells) here (old && not (eqb c (spotOf m j t))) (vacant t c (viewAt m j) && old)
     (λ l. rw (← vacant-spot m j t c h (omega arith)) (and-comm old (vacant t c (viewAt m j))))
+    ∙ ap (λ (b : Bool). ltb c (g .cells) && here && b) (sym (every-more (vacant t c) m j))
   where
     here : Bool
     here = has free (c / g .width) (c % g .width)
@@ -74,12 +76,11 @@ vacant-same : (m q : List ℕ) (k t c : ℕ) → ((i : ℕ) → i < 65 * k → g
 unfolding every records
 vacant-same m q zero t c same h l = refl
 vacant-same m q (suc k) t c same h l =
-    rw (
-      vacant-spot m k t c h l,
-      vacant-spot q k t c h l,
-      spot-same m q k t (λ i u. same i (omega arith)) h,
-      vacant-same m q k t c (λ i u. same i (omega arith)) h l,
-    )
+    let here : vacant t c (viewAt m k) ≡ vacant t c (viewAt q k) =
+    vacant-spot m k t c h l ∙ rw (spot-same m q k t (λ i u. same i (omega arith)) h) (sym (vacant-spot q k t c h l))
+    in
+    every-more (vacant t c) m k
+    ∙ rw (here, vacant-same m q k t c (λ i u. same i (omega arith)) h l) (sym (every-more (vacant t c) q k))
 
 -- What can be stood on depends on the views' records alone.
 stands-same : (g : Scene) (free m q : List ℕ) (k t c : ℕ) → g .width ≤ 32 → g .cells ≤ 32 * g .width →

@@ -4,6 +4,7 @@ use mathlib.Core.Bool.{Bool, true, false, _&&_, not, and-comm}
 use mathlib.Core.List.{List}
 use mathlib.Core.Path.{_≡_, refl, sym, _∙_}
 use lib.Dec.{eqb}
+use Rattle.route.proofs.ViewsLaws.{every-more}
 use Rattle.route.specs.Moves.{vacant, passable, every}
 use Rattle.laws.proofs.Tests.{true-false-absurd, and-both, and-fst, and-snd}
 use Rattle.route.specs.Views.{viewAt, records}
@@ -15,22 +16,24 @@ module _ (m : List ℕ) (c d : ℕ) where
   pub way-forward : (t k : ℕ) → suc t < 64 → c < 65535 → every (passable t c d) (records m k) ≡ wayOpen m t (suc t) c d k
   unfolding every records wayOpen
   way-forward t zero h l = refl
-  way-forward t (suc k) h l = rw (passable-spot m k t c d h l, way-forward t k h l)
+  way-forward t (suc k) h l = every-more (passable t c d) m k ∙ rw (passable-spot m k t c d h l, way-forward t k h l)
 
   -- Backward, from c at beat t + 1 to d at beat t.
   pub way-backward : (t k : ℕ) → suc t < 64 → d < 65535 → every (passable t d c) (records m k) ≡ wayOpen m (suc t) t c d k
   unfolding every records wayOpen
   way-backward t zero h l = refl
   way-backward t (suc k) h l =
-      rw (passable-spot m k t d c h l, way-backward t k h l, and-comm (eqb d (spotOf m k (suc t))) (eqb c (spotOf m k t)))
+      every-more (passable t d c) m k
+      ∙ rw (passable-spot m k t d c h l, way-backward t k h l, and-comm (eqb d (spotOf m k (suc t))) (eqb c (spotOf m k t)))
 
 -- From where no view comes in every way is open.
 pub way-clear : (m : List ℕ) (a b c d k : ℕ) → b < 64 → c < 65535 → every (vacant b c) (records m k) ≡ true → wayOpen m a b c d k ≡ true
 unfolding every records wayOpen
 way-clear m a b c d zero h l e = refl
 way-clear m a b c d (suc k) h l e =
-    and-both (apart (eqb c (spotOf m k b)) (eqb d (spotOf m k a)) (sym (vacant-spot m k b c h l) ∙ and-fst (vacant b c (viewAt m k)) _ e))
-    (way-clear m a b c d k h l (and-snd (vacant b c (viewAt m k)) (every (vacant b c) (records m k)) e))
+    let f = sym (every-more (vacant b c) m k) ∙ e in
+    and-both (apart (eqb c (spotOf m k b)) (eqb d (spotOf m k a)) (sym (vacant-spot m k b c h l) ∙ and-fst (vacant b c (viewAt m k)) _ f))
+    (way-clear m a b c d k h l (and-snd (vacant b c (viewAt m k)) (every (vacant b c) (records m k)) f))
   where
     apart : (x y : Bool) → not x ≡ true → not (x && y) ≡ true
     apart true y q = true-false-absurd q refl

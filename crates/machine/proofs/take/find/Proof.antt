@@ -18,7 +18,7 @@ returns c =
     let start : tie.Start = search in
     let w = start .pre .1 in
     rw (sym (slice-best (start .args .f) (now (start .args .walls)) (start .args .free) (now (start .args .m)) (start .args .i)
-    (c .before .before .views-start .result) (w .free) (w .horizon) (c .before .before .views-start .ensures .0)
+    (c .before .before .views-start .result) (w .free) (c .before .before .views-start .ensures .0)
     (omega (arith, c .before .before .views-start .ensures, w .room)))) (c .best-route .ensures)
 
 pub find-spec : {M : Type 1} → statement M
