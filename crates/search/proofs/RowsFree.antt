@@ -23,7 +23,7 @@ use Rattle.words.proofs.DigitLaws.{digit-without, digit-ones, digit-zero}
 use Rattle.words.proofs.RowsLaws.{place-row, has-marked, length-marked}
 use Rattle.words.proofs.FillLaws.{has-zeros, length-filled, filled-in, filled-out}
 use Rattle.search.specs.Task.{taskOf, taskOfRows}
-use Rattle.search.specs.Rows.{wallRows, gridWithout, FreeRows}
+use Rattle.search.specs.Rows.{wallRows, gridWithout, FreeRows, freeRowsOf}
 
 wall-test : (c x cells : ℕ) → x < cells → (ltb c cells && true && eqb c x) ≡ eqb c x
 wall-test c x cells h = same-test (ltb c cells && true && eqb c x) (eqb c x) (and-snd (ltb c cells && true) (eqb c x)) back
@@ -99,9 +99,11 @@ module _ (f : Floor) (ws : List ℕ) (thin : 1 ≤ f .width) (high : f .height �
 
   pub free-rows-made : (set r : List ℕ) → set ≡ wallRows (f .width) (f .width * f .height) ws (f .walls) →
       r ≡ gridWithout (f .width) (f .height) set → FreeRows f ws r
+  unfolding freeRowsOf
   free-rows-made set r e h =
       rw (h, e)
       (record {
+        made = refl;
         long = length-grid (f .width) (f .height) (wallRows (f .width) (f .width * f .height) ws (f .walls)) high;
         clean = clean-grid (f .width) (f .height) (wallRows (f .width) (f .width * f .height) ws (f .walls)) high;
         same = same-best;

@@ -20,8 +20,13 @@ wallRows w cells ws (suc n) = marked w cells 0 (getD ws n 0) (wallRows w cells w
 unfoldable pub gridWithout : ℕ → ℕ → List ℕ → List ℕ
 gridWithout w h walls = filled (replicate 32 0) (λ r. without (2 ^ w - 1) (getD walls r 0)) h
 
--- Rows say which cells are free: every digit is a cell, and a search with them answers as with the walls.
+-- The free cells of a floor as rows: the grid without its walls.
+unfoldable pub freeRowsOf : Floor → List ℕ → List ℕ
+freeRowsOf f ws = gridWithout (f .width) (f .height) (wallRows (f .width) (f .width * f .height) ws (f .walls))
+
+-- The rows are the floor's free cells: every digit is a cell, and a search with them answers as with the walls.
 pub record FreeRows (f : Floor) (ws rows : List ℕ) : Type 0 where
+  pub made : rows ≡ freeRowsOf f ws
   pub long : length rows ≡ 32
   pub clean : Clean (f .width) (f .width * f .height) rows
   pub same : (i : ℕ) (vs : List View) → best (taskOfRows f rows i) vs ≡ best (taskOf f ws i) vs
