@@ -2,10 +2,9 @@
 use Prim.Native.Nat.{ℕ}
 use mathlib.Core.List.{List, [], _∷_}
 use lib.ListN.{length}
-use Rattle.laws.specs.Verdict.{Outcome, value, refusal}
+use Rattle.laws.specs.Verdict.{Outcome, value, refusal, whenPassed}
 use Rattle.laws.specs.Memory.{put}
 use Rattle.floor.specs.Checks.{roomOf}
-use Rattle.sheet.specs.Read.{chosen}
 use Rattle.route.specs.Route.{Answer, none, route}
 use Rattle.search.specs.Answers.{Result as Found, answered, turned as search-turned, cellsOf}
 use Rattle.printing.specs.Print.{Outcome as Printing, written, turned as print-turned}
@@ -40,7 +39,7 @@ ofFigures (withheld k p) room = turned k p
 -- The lent memory after them: walls, sheet, answers, text, state in front.
 unfoldable pub figuresStored : Figures → List ℕ → List ℕ
 figuresStored (known walls sheet answers text state) old =
-    chosen (roomOf 5 (length old)) (put old 0 (walls ∷ sheet ∷ answers ∷ text ∷ state ∷ [])) old
+    whenPassed (roomOf 5 (length old)) (put old 0 (walls ∷ sheet ∷ answers ∷ text ∷ state ∷ [])) old
 figuresStored (withheld k p) old = old
 
 -- A plan: case 0 with the failing carrier.

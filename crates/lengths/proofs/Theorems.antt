@@ -7,7 +7,7 @@ use mathlib.Core.Logic.{_↔_, ⊎-elim}
 use mathlib.Core.List.{List}
 use borrow.Author.Tests.{leb-false, lt-leb, le-leb}
 use Rattle.floor.specs.declared.Floor.{Floor}
-use Rattle.laws.specs.Verdict.{passed, refused, demand, _then_}
+use Rattle.laws.specs.Verdict.{passed, refused, demand, _then_, whenPassed}
 use Rattle.floor.specs.Checks.{checkOf, roomOf, within}
 use Rattle.laws.proofs.VerdictLaws.{then-cases, then-passed, then-refused, demand-cases, demand-refuses, demand-passes}
 use Rattle.floor.proofs.LimitsLaws.{check-tells}
@@ -17,7 +17,7 @@ use Rattle.sheet.proofs.FormLaws.{walls-length}
 use Rattle.sheet.specs.Values.{wallsAt, floorAt}
 use lib.ListN.{length}
 use Rattle.sheet.specs.Text.{sheetLength, wallAt}
-use Rattle.sheet.specs.Read.{sheetVerdict, readVerdict, writeVerdict, chosen}
+use Rattle.sheet.specs.Read.{sheetVerdict, readVerdict, writeVerdict}
 use Rattle.sheet.proofs.Theorems.{theorems as sheet-theorems}
 use Rattle.search.specs.Search.{requestOf}
 use Rattle.planner.specs.Plan.{planVerdict}
@@ -99,7 +99,7 @@ text-room f ws room bytes ok l =
 
 sheet-text-room : (text : List ℕ) (bytes : ℕ) → sheetVerdict text ≡ passed
     → (routesOutcome text bytes ≡ turned 9 0) ↔ (bytes < textLength (floorAt text))
-unfolding routesOutcome shortOutcome neededFor chosen writtenIf _then_
+unfolding routesOutcome shortOutcome neededFor whenPassed writtenIf _then_
 sheet-text-room text bytes ok = (λ h. short h (decLe (textLength (floorAt text)) bytes), λ l. rw (ok, lt-leb _ _ l))
   where
     short : routesOutcome text bytes ≡ turned 9 0 → Dec (textLength (floorAt text) ≤ bytes) → bytes < textLength (floorAt text)

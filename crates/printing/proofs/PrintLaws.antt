@@ -10,15 +10,14 @@ use Rattle.floor.specs.declared.Floor.{Floor}
 use Rattle.floor.specs.declared.Checked.{Checked}
 use Rattle.floor.specs.declared.Checked.the-variants.{Passed}
 use Rattle.floor.specs.Answers.{verdictOf}
-use Rattle.laws.specs.Verdict.{Verdict, passed, refused, _then_}
+use Rattle.laws.specs.Verdict.{Verdict, passed, refused, _then_, whenPassed}
 use Rattle.floor.specs.Checks.{checkOf, roomOf}
-use Rattle.laws.proofs.VerdictLaws.{then-both, refused-by, then-passed, refused-not-passed, demand-passes}
+use Rattle.laws.proofs.VerdictLaws.{then-both, refused-by, then-passed, refused-not-passed, demand-passes, when-passed}
 use Rattle.floor.proofs.AnswersLaws.{passes}
 use Rattle.floor.proofs.LimitsLaws.{Bounds, check-tells, room-passed}
 use Rattle.sheet.specs.Values.{floorAt, wallsAt}
-use Rattle.sheet.specs.Read.{sheetVerdict, readVerdict, readFloor, readWalls, chosen}
+use Rattle.sheet.specs.Read.{sheetVerdict, readVerdict, readFloor, readWalls}
 use Rattle.sheet.proofs.FormLaws.{walls-length}
-use Rattle.sheet.proofs.ReadLaws.{chosen-passed}
 use Rattle.sheet.proofs.Theorems.{theorems as sheet-theorems}
 use Rattle.planner.specs.declared.Planned.{Planned}
 use Rattle.planner.specs.declared.Planned.the-variants.{Failing, Refused}
@@ -135,8 +134,8 @@ unfolding readFloor readWalls
 was-read text old walls f wide r told =
     let ok = passes (r .0) told in
     let good = read-passed text (length old) wide ok in
-    let floor : f ≡ floorAt text = r .1 .0 ∙ chosen-passed _ _ ok in
-    let stored : walls ≡ wallsAt text ++ drop (floorAt text .walls) old = r .1 .1 ∙ chosen-passed _ _ ok in
+    let floor : f ≡ floorAt text = r .1 .0 ∙ when-passed _ ok in
+    let stored : walls ≡ wallsAt text ++ drop (floorAt text .walls) old = r .1 .1 ∙ when-passed _ ok in
     let count : f .walls ≡ floorAt text .walls = ap (λ (g : Floor). g .walls) floor in
     let front : take (f .walls) walls ≡ wallsAt text =
     ap (take (f .walls)) stored ∙ take-at (wallsAt text) _ (f .walls) (walls-length text ∙ sym count)
@@ -153,7 +152,7 @@ was-read text old walls f wide r told =
 module _ (text old new : List ℕ) (o : Outcome) where
   pub routes-accepted : (f : Floor) (walls : List ℕ) → WasRead text f walls
       → FloorPut f walls old new o → (o ≡ routesOutcome text (length old)) × (new ≡ routesMemory text old)
-  unfolding routesOutcome routesMemory routesOf orRefusal neededFor chosen shortOutcome writtenIf _then_ FloorPut
+  unfolding routesOutcome routesMemory routesOf orRefusal neededFor whenPassed shortOutcome writtenIf _then_ FloorPut
   routes-accepted f walls r t =
       let u : TextOrShort (printOf (floorAt text) (wallsAt text)) (textLength (floorAt text)) 9 0 old new o =
       rw (r .front, r .floor) at t
@@ -162,7 +161,7 @@ module _ (text old new : List ℕ) (o : Outcome) where
 
   pub routes-refused : (k p : ℕ) → sheetVerdict text ≡ refused k p → RefusalPut k p old new o
       → (o ≡ routesOutcome text (length old)) × (new ≡ routesMemory text old)
-  unfolding routesOutcome routesMemory routesOf orRefusal neededFor chosen shortOutcome writtenIf _then_ RefusalPut
+  unfolding routesOutcome routesMemory routesOf orRefusal neededFor whenPassed shortOutcome writtenIf _then_ RefusalPut
   routes-refused k p v t = (rw v (t .answers), rw v (t .stores))
 
 -- What is turned away for too little memory is never written.
