@@ -9,7 +9,6 @@ use Rattle.route.specs.Route.{Answer, none, route}
 use Rattle.search.specs.Answers.{Result as Found, answered, turned as search-turned, cellsOf}
 use Rattle.printing.specs.Print.{Outcome as Printing, written, turned as print-turned}
 use Rattle.lengths.specs.Figures.{Figures, known, withheld}
-use Rattle.planner.specs.Answers.{Result, made, turned as plan-turned}
 use Rattle.reference.specs.Take.{StepAnswer, kept, sent, delivered}
 use Rattle.reference.specs.Ending.{Ending, silent, spent, ended}
 use Rattle.reference.specs.Calls.{Reply, stepped, ran}
@@ -43,9 +42,9 @@ figuresStored (known walls sheet answers text state) old =
 figuresStored (withheld k p) old = old
 
 -- A plan: case 0 with the failing carrier.
-unfoldable pub ofPlan : Result → Said
-ofPlan (made i) = done 0 i
-ofPlan (plan-turned k p) = turned k p
+unfoldable pub ofPlan : Outcome ℕ → Said
+ofPlan (value i) = done 0 i
+ofPlan (refusal k p) = turned k p
 
 -- A step: 0 planned and kept, 1 planned and sent, 2 delivered.
 unfoldable pub stepCase : StepAnswer → ℕ

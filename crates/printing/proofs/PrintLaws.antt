@@ -10,9 +10,9 @@ use Rattle.floor.specs.declared.Floor.{Floor}
 use Rattle.floor.specs.declared.Checked.{Checked}
 use Rattle.floor.specs.declared.Checked.the-variants.{Passed}
 use Rattle.floor.specs.Answers.{verdictOf}
-use Rattle.laws.specs.Verdict.{Verdict, passed, refused, _then_, whenPassed}
+use Rattle.laws.specs.Verdict.{Verdict, passed, refused, _then_, whenPassed, value}
 use Rattle.floor.specs.Checks.{checkOf, roomOf}
-use Rattle.laws.proofs.VerdictLaws.{then-both, refused-by, then-passed, refused-not-passed, demand-passes, when-passed}
+use Rattle.laws.proofs.VerdictLaws.{then-both, refused-by, then-passed, refused-not-passed, demand-passes, when-passed, gives-passed}
 use Rattle.floor.proofs.AnswersLaws.{passes}
 use Rattle.floor.proofs.LimitsLaws.{Bounds, check-tells, room-passed}
 use Rattle.sheet.specs.Values.{floorAt, wallsAt}
@@ -22,8 +22,8 @@ use Rattle.sheet.proofs.Theorems.{theorems as sheet-theorems}
 use Rattle.planner.specs.declared.Planned.{Planned}
 use Rattle.planner.specs.declared.Planned.the-variants.{Failing, Refused}
 use Rattle.planner.specs.Plan.{planOf, planVerdict, failingOf}
-use Rattle.planner.specs.Records.{stored, storedIf, planMemory}
-use Rattle.planner.specs.Answers.{made, resultOf, madeIf, planResult}
+use Rattle.planner.specs.Records.{stored, planMemory}
+use Rattle.planner.specs.Answers.{resultOf, planResult}
 use Rattle.printing.specs.declared.Printed.the-variants.{Written}
 use Rattle.printing.specs.Print.{Outcome, written, turned, outcomeOf, writtenIf, printOf, textLength}
 use Rattle.printing.specs.Print.{printVerdict, printOutcome, orRefusal, routesOf, neededFor, shortOutcome, routesOutcome}
@@ -43,22 +43,22 @@ module _ (f : Floor) (ws : List ℕ) (room : ℕ) (ok : planVerdict f ws room �
 
   -- A plan that passes its checks is made.
   pub made-failing : (r : Planned) (i : ℕ) → resultOf r ≡ planResult f ws room → r ≡ Failing i → i ≡ failingOf (planOf f ws)
-  unfolding planResult madeIf resultOf
+  unfolding planResult resultOf
   made-failing r i e g =
-      let h : made i ≡ made (failingOf (planOf f ws)) = sym (ap resultOf g) ∙ e ∙ rw ok in
+      let h : value i ≡ value (failingOf (planOf f ws)) = sym (ap resultOf g) ∙ e ∙ gives-passed ok in
       cc
 
   pub never-turned : {r : Planned} {x : _} → resultOf r ≡ planResult f ws room → r ≡ Refused x → ⊥
-  unfolding planResult madeIf resultOf
+  unfolding planResult resultOf
   never-turned {r} {x} e g =
-      let h : resultOf (Refused x) ≡ made (failingOf (planOf f ws)) = sym (ap resultOf g) ∙ e ∙ rw ok in
+      let h : resultOf (Refused x) ≡ value (failingOf (planOf f ws)) = sym (ap resultOf g) ∙ e ∙ gives-passed ok in
       let z : _≡_ {A = ℕ} 0 1 = cc in
       omega arith
 
 pub memory-stored : (f : Floor) (ws old m : List ℕ) → planVerdict f ws (length old) ≡ passed → m ≡ planMemory f ws old
     → m ≡ stored (planOf f ws) old
-unfolding planMemory storedIf
-memory-stored f ws old m ok e = e ∙ rw ok
+unfolding planMemory
+memory-stored f ws old m ok e = e ∙ when-passed _ ok
 
 -- The answers stored and the text put, from the planner's memory.
 pub plan-put : (f : Floor) (ws old m out out′ : List ℕ) (i n : ℕ) → planVerdict f ws (length old) ≡ passed → m ≡ planMemory f ws old
