@@ -2,15 +2,13 @@
 use Prim.Native.Nat.{ℕ}
 use mathlib.Core.List.{List, [], _∷_}
 use lib.ListN.{length}
-use Rattle.laws.specs.Verdict.{Outcome, value, refusal}
+use Rattle.laws.specs.Verdict.{Outcome, value, refusal, whenPassed}
 use Rattle.laws.specs.Memory.{put}
 use Rattle.floor.specs.Checks.{roomOf}
-use Rattle.sheet.specs.Read.{chosen}
 use Rattle.route.specs.Route.{Answer, none, route}
 use Rattle.search.specs.Answers.{Result as Found, answered, turned as search-turned, cellsOf}
 use Rattle.printing.specs.Print.{Outcome as Printing, written, turned as print-turned}
-use Rattle.lengths.specs.Figures.{Figures, known, withheld}
-use Rattle.planner.specs.Answers.{Result, made, turned as plan-turned}
+use Rattle.lengths.specs.declared.Lengths.{Lengths}
 use Rattle.reference.specs.Take.{StepAnswer, kept, sent, delivered}
 use Rattle.reference.specs.Ending.{Ending, silent, spent, ended}
 use Rattle.reference.specs.Calls.{Reply, stepped, ran}
@@ -33,20 +31,20 @@ ofPrinted (written n) = done 0 n
 ofPrinted (print-turned k p) = turned k p
 
 -- Needed lengths: their refusal, then 9 where fewer than five numbers are lent.
-unfoldable pub ofFigures : Figures → ℕ → Said
-ofFigures (known walls sheet answers text state) room = ofVerdict (roomOf 5 room) 0
-ofFigures (withheld k p) room = turned k p
+unfoldable pub ofFigures : Outcome Lengths → ℕ → Said
+ofFigures (value l) room = ofVerdict (roomOf 5 room) 0
+ofFigures (refusal k p) room = turned k p
 
 -- The lent memory after them: walls, sheet, answers, text, state in front.
-unfoldable pub figuresStored : Figures → List ℕ → List ℕ
-figuresStored (known walls sheet answers text state) old =
-    chosen (roomOf 5 (length old)) (put old 0 (walls ∷ sheet ∷ answers ∷ text ∷ state ∷ [])) old
-figuresStored (withheld k p) old = old
+unfoldable pub figuresStored : Outcome Lengths → List ℕ → List ℕ
+figuresStored (value l) old =
+    whenPassed (roomOf 5 (length old)) (put old 0 (l .walls ∷ l .sheet ∷ l .answers ∷ l .text ∷ l .state ∷ [])) old
+figuresStored (refusal k p) old = old
 
 -- A plan: case 0 with the failing carrier.
-unfoldable pub ofPlan : Result → Said
-ofPlan (made i) = done 0 i
-ofPlan (plan-turned k p) = turned k p
+unfoldable pub ofPlan : Outcome ℕ → Said
+ofPlan (value i) = done 0 i
+ofPlan (refusal k p) = turned k p
 
 -- A step: 0 planned and kept, 1 planned and sent, 2 delivered.
 unfoldable pub stepCase : StepAnswer → ℕ

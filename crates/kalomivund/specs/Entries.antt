@@ -6,11 +6,11 @@ use lib.Dec.{leb}
 use lib.ListN.{length}
 use Rattle.laws.specs.Memory.{put}
 use Rattle.floor.specs.declared.Floor.{Floor}
-use Rattle.laws.specs.Verdict.{Verdict, refused, _then_}
+use Rattle.laws.specs.Verdict.{Verdict, refused, _then_, whenPassed}
 use Rattle.floor.specs.Checks.{checkOf}
 use Rattle.sheet.specs.Text.{sheetLength}
 use Rattle.sheet.specs.Values.{floorAt}
-use Rattle.sheet.specs.Read.{chosen, readVerdict, readWalls, writeVerdict, writeSheet}
+use Rattle.sheet.specs.Read.{readVerdict, readWalls, writeVerdict, writeSheet}
 use Rattle.search.specs.Search.{searchOf}
 use Rattle.printing.specs.Print.{routesOutcome, routesMemory}
 use Rattle.lengths.specs.Figures.{figuresFor}
@@ -25,18 +25,18 @@ use Rattle.kalomivund.specs.Answers.{ofSearch, routeStored, ofPrinted, o
 
 -- What is said of a floor record of enough numbers; 9, 0 of a shorter one.
 unfoldable pub wordFor : List ℕ → Said → ℕ
-wordFor xs s = wordOf (chosen (recordLent xs) s (turned 9 0))
+wordFor xs s = wordOf (whenPassed (recordLent xs) s (turned 9 0))
 
 -- Memory after a call with a floor record of enough numbers; as it was with a shorter one.
 unfoldable pub storedFor : List ℕ → List ℕ → List ℕ → List ℕ
-storedFor xs new old = chosen (recordLent xs) new old
+storedFor xs new old = whenPassed (recordLent xs) new old
 
 -- `kalomivund_read_sheet`: the word, the floor record and the wall memory.
 unfoldable pub readWord : List ℕ → List ℕ → ℕ → ℕ
 readWord text xs room = wordFor xs (ofVerdict (readVerdict text room) 0)
 
 unfoldable pub readRecord : List ℕ → List ℕ → ℕ → List ℕ
-readRecord text xs room = storedFor xs (chosen (readVerdict text room) (put xs 0 (numbersOf (floorAt text))) xs) xs
+readRecord text xs room = storedFor xs (whenPassed (readVerdict text room) (put xs 0 (numbersOf (floorAt text))) xs) xs
 
 unfoldable pub readStored : List ℕ → List ℕ → List ℕ → List ℕ
 readStored text xs old = storedFor xs (readWalls text old) old

@@ -7,9 +7,9 @@ use mathlib.Core.Logic.{_↔_, ⊎-elim}
 use mathlib.Core.List.{List}
 use borrow.Author.Tests.{leb-false, lt-leb, le-leb}
 use Rattle.floor.specs.declared.Floor.{Floor}
-use Rattle.laws.specs.Verdict.{passed, refused, demand, _then_}
+use Rattle.laws.specs.Verdict.{passed, refused, demand, _then_, whenPassed}
 use Rattle.floor.specs.Checks.{checkOf, roomOf, within}
-use Rattle.laws.proofs.VerdictLaws.{then-cases, then-passed, then-refused, demand-cases, demand-refuses, demand-passes}
+use Rattle.laws.proofs.VerdictLaws.{then-cases, then-passed, then-refused, demand-cases, demand-refuses, demand-passes, gives-passed}
 use Rattle.floor.proofs.LimitsLaws.{check-tells}
 use Rattle.floor.specs.Refused.{RefusedWith, outside-limit, few-walls, carrier-outside, wall-outside, not-rising, on-wall, shared}
 use Rattle.sheet.specs.Refused.{RefusedSheet, head-form, rest-form, floor-row, outside-limit as outside-limit-row}
@@ -17,7 +17,7 @@ use Rattle.sheet.proofs.FormLaws.{walls-length}
 use Rattle.sheet.specs.Values.{wallsAt, floorAt}
 use lib.ListN.{length}
 use Rattle.sheet.specs.Text.{sheetLength, wallAt}
-use Rattle.sheet.specs.Read.{sheetVerdict, readVerdict, writeVerdict, chosen}
+use Rattle.sheet.specs.Read.{sheetVerdict, readVerdict, writeVerdict}
 use Rattle.sheet.proofs.Theorems.{theorems as sheet-theorems}
 use Rattle.search.specs.Search.{requestOf}
 use Rattle.planner.specs.Plan.{planVerdict}
@@ -25,7 +25,7 @@ use Rattle.printing.specs.Print.{written, turned, writtenIf, textLength, printV
 use Rattle.layout.specs.Places.{stateSize}
 use Rattle.layout.specs.Calls.{placeVerdict}
 use Rattle.layout.proofs.Theorems.{theorems as layout-theorems}
-use Rattle.lengths.specs.Figures.{figuresFor, unless}
+use Rattle.lengths.specs.Figures.{figuresFor}
 use Rattle.lengths.specs.Claims.{Claims}
 
 -- A record is refused with 9 only where too few walls are lent.
@@ -99,7 +99,7 @@ text-room f ws room bytes ok l =
 
 sheet-text-room : (text : List ℕ) (bytes : ℕ) → sheetVerdict text ≡ passed
     → (routesOutcome text bytes ≡ turned 9 0) ↔ (bytes < textLength (floorAt text))
-unfolding routesOutcome shortOutcome neededFor chosen writtenIf _then_
+unfolding routesOutcome shortOutcome neededFor whenPassed writtenIf _then_
 sheet-text-room text bytes ok = (λ h. short h (decLe (textLength (floorAt text)) bytes), λ l. rw (ok, lt-leb _ _ l))
   where
     short : routesOutcome text bytes ≡ turned 9 0 → Dec (textLength (floorAt text) ≤ bytes) → bytes < textLength (floorAt text)
@@ -110,10 +110,10 @@ sheet-text-room text bytes ok = (λ h. short h (decLe (textLength (floorAt text)
         absurd (omega arith)
 
 pub theorems : Claims
-unfolding figuresFor unless sheetLength wallAt textLength
+unfolding figuresFor sheetLength wallAt textLength
 theorems =
     record {
-      accepted-known = λ f ws ok. rw (check-tells f ws ok .limited);
+      accepted-known = λ f ws ok. gives-passed (check-tells f ws ok .limited);
       walls-within = λ f ws ok. omega (arith, check-tells f ws ok .bounds .walls .1);
       sheet-within = λ f ws ok. let b = check-tells f ws ok .bounds in omega (arith, b .walls .1, b .carriers .1);
       answers-within = λ f ws ok. omega (arith, check-tells f ws ok .bounds .carriers .1);

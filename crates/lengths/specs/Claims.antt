@@ -5,7 +5,7 @@ use mathlib.Core.Logic.{_↔_}
 use mathlib.Core.List.{List}
 use lib.ListN.{length}
 use Rattle.floor.specs.declared.Floor.{Floor}
-use Rattle.laws.specs.Verdict.{passed, refused}
+use Rattle.laws.specs.Verdict.{passed, refused, value}
 use Rattle.floor.specs.Checks.{checkOf}
 use Rattle.sheet.specs.Text.{sheetLength}
 use Rattle.sheet.specs.Values.{floorAt}
@@ -15,12 +15,11 @@ use Rattle.planner.specs.Plan.{planVerdict}
 use Rattle.printing.specs.Print.{turned, textLength, printVerdict, routesOutcome}
 use Rattle.layout.specs.Places.{stateSize}
 use Rattle.layout.specs.Calls.{placeVerdict}
-use Rattle.lengths.specs.Figures.{figuresFor, known}
+use Rattle.lengths.specs.Figures.{figuresFor, lengthsOf}
 
 pub record Claims : Type 0 where
   -- An accepted floor has its lengths.
-  pub accepted-known : (f : Floor) (ws : List ℕ) → checkOf f ws ≡ passed
-      → figuresFor f ≡ known (f .walls) (sheetLength f) (65 * f .carriers) (textLength f) (stateSize (f .carriers))
+  pub accepted-known : (f : Floor) (ws : List ℕ) → checkOf f ws ≡ passed → figuresFor f ≡ value (lengthsOf f)
   -- None is over 65,536 bytes: two bytes a wall, the sheet, two bytes a number of answers, the text, two bytes a number
   -- of the state.
   pub walls-within : (f : Floor) (ws : List ℕ) → checkOf f ws ≡ passed → 2 * f .walls ≤ 65536

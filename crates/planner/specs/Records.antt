@@ -6,7 +6,7 @@ use lib.Dec.{eqb}
 use lib.ListN.{length, getD, take, replicate}
 use Rattle.laws.specs.Memory.{put}
 use Rattle.floor.specs.declared.Floor.{Floor}
-use Rattle.laws.specs.Verdict.{Verdict, passed, refused}
+use Rattle.laws.specs.Verdict.{whenPassed}
 use Rattle.route.specs.Route.{Answer, none, route}
 use Rattle.search.specs.declared.Outcome.{Outcome}
 use Rattle.search.specs.declared.Outcome.the-variants.{Route, None, Refused}
@@ -31,14 +31,9 @@ answered f rows i m = put m (65 * i) (recordOf (respondWith f rows i (viewsOf (t
 unfoldable pub stored : List Answer → List ℕ → List ℕ
 stored xs old = put old 0 (recordsOf xs)
 
--- The answers in front where the checks pass; all as it was with a refusal.
-unfoldable pub storedIf : Verdict → List Answer → List ℕ → List ℕ
-storedIf passed xs old = stored xs old
-storedIf (refused k p) xs old = old
-
--- The lent memory after planning.
+-- The lent memory after planning: the answers in front where the checks pass; all as it was with a refusal.
 unfoldable pub planMemory : Floor → List ℕ → List ℕ → List ℕ
-planMemory f ws old = storedIf (planVerdict f ws (length old)) (planOf f ws) old
+planMemory f ws old = whenPassed (planVerdict f ws (length old)) (stored (planOf f ws) old) old
 
 -- The tag of a search's outcome.
 unfoldable pub tagOf : Outcome → ℕ

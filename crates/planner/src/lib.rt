@@ -11,7 +11,7 @@ ghost use Rattle.tables.specs.Table.{sceneOf};
 ghost use Rattle.tables.specs.Room.{Roomy};
 ghost use Rattle.planner.specs.Plan.{respondWith, planVerdict};
 ghost use Rattle.planner.specs.Records.{answered, stored, planMemory};
-ghost use Rattle.planner.specs.Answers.{resultOf, madeIf, planResult, Plannable};
+ghost use Rattle.planner.specs.Answers.{resultOf, planResult, Plannable};
 use floor::Checked;
 use floor::Floor;
 use floor::Refusal;
@@ -69,26 +69,16 @@ fn plan_all(f: Floor, free: [u32; 32], answers: &mut [u16])
     }
 }
 
-// The answer with the refusal of a check.
-fn turned(checked: Checked) -> Planned
-    ensures { λ r. ⌜ resultOf r ≡ madeIf (verdictOf checked) 0 ⌝ }
-{
-    match checked {
-        Checked::Refused(x) => Planned::Refused(x),
-        Checked::Passed => Planned::Failing(0),
-    }
-}
-
 // Plans a floor: the answers of its carriers into lent memory, 65 numbers each, a tag (1 none, 2 a route) and 64 cells.
 pub fn plan(f: Floor, walls: &[u16], answers: &mut [u16]) -> Planned
     ensures answers { λ r. ⌜ resultOf r ≡ planResult f (now (walls .entry)) (length (now (answers .entry))) ⌝ }
     ensures stores { λ r. ⌜ now (answers .exit) ≡ planMemory f (now (walls .entry)) (now (answers .entry)) ⌝ }
 {
     let asked = request(f, walls, answers.len());
-    let Checked::Passed = asked else {
-        return turned(asked);
+    let Checked::Refused(x) = asked else {
+        let free = search::free_rows(f, walls);
+        plan_all(f, free, answers);
+        return Planned::Failing(records::failing(answers, f.carriers as usize));
     };
-    let free = search::free_rows(f, walls);
-    plan_all(f, free, answers);
-    Planned::Failing(records::failing(answers, f.carriers as usize))
+    Planned::Refused(x)
 }

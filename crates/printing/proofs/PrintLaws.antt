@@ -10,21 +10,20 @@ use Rattle.floor.specs.declared.Floor.{Floor}
 use Rattle.floor.specs.declared.Checked.{Checked}
 use Rattle.floor.specs.declared.Checked.the-variants.{Passed}
 use Rattle.floor.specs.Answers.{verdictOf}
-use Rattle.laws.specs.Verdict.{Verdict, passed, refused, _then_}
+use Rattle.laws.specs.Verdict.{Verdict, passed, refused, _then_, whenPassed, value}
 use Rattle.floor.specs.Checks.{checkOf, roomOf}
-use Rattle.laws.proofs.VerdictLaws.{then-both, refused-by, then-passed, refused-not-passed, demand-passes}
+use Rattle.laws.proofs.VerdictLaws.{then-both, refused-by, then-passed, refused-not-passed, demand-passes, when-passed, gives-passed}
 use Rattle.floor.proofs.AnswersLaws.{passes}
 use Rattle.floor.proofs.LimitsLaws.{Bounds, check-tells, room-passed}
 use Rattle.sheet.specs.Values.{floorAt, wallsAt}
-use Rattle.sheet.specs.Read.{sheetVerdict, readVerdict, readFloor, readWalls, chosen}
+use Rattle.sheet.specs.Read.{sheetVerdict, readVerdict, readFloor, readWalls}
 use Rattle.sheet.proofs.FormLaws.{walls-length}
-use Rattle.sheet.proofs.ReadLaws.{chosen-passed}
 use Rattle.sheet.proofs.Theorems.{theorems as sheet-theorems}
 use Rattle.planner.specs.declared.Planned.{Planned}
 use Rattle.planner.specs.declared.Planned.the-variants.{Failing, Refused}
 use Rattle.planner.specs.Plan.{planOf, planVerdict, failingOf}
-use Rattle.planner.specs.Records.{stored, storedIf, planMemory}
-use Rattle.planner.specs.Answers.{made, resultOf, madeIf, planResult}
+use Rattle.planner.specs.Records.{stored, planMemory}
+use Rattle.planner.specs.Answers.{resultOf, planResult}
 use Rattle.printing.specs.declared.Printed.the-variants.{Written}
 use Rattle.printing.specs.Print.{Outcome, written, turned, outcomeOf, writtenIf, printOf, textLength}
 use Rattle.printing.specs.Print.{printVerdict, printOutcome, orRefusal, routesOf, neededFor, shortOutcome, routesOutcome}
@@ -44,22 +43,22 @@ module _ (f : Floor) (ws : List ℕ) (room : ℕ) (ok : planVerdict f ws room �
 
   -- A plan that passes its checks is made.
   pub made-failing : (r : Planned) (i : ℕ) → resultOf r ≡ planResult f ws room → r ≡ Failing i → i ≡ failingOf (planOf f ws)
-  unfolding planResult madeIf resultOf
+  unfolding planResult resultOf
   made-failing r i e g =
-      let h : made i ≡ made (failingOf (planOf f ws)) = sym (ap resultOf g) ∙ e ∙ rw ok in
+      let h : value i ≡ value (failingOf (planOf f ws)) = sym (ap resultOf g) ∙ e ∙ gives-passed ok in
       cc
 
   pub never-turned : {r : Planned} {x : _} → resultOf r ≡ planResult f ws room → r ≡ Refused x → ⊥
-  unfolding planResult madeIf resultOf
+  unfolding planResult resultOf
   never-turned {r} {x} e g =
-      let h : resultOf (Refused x) ≡ made (failingOf (planOf f ws)) = sym (ap resultOf g) ∙ e ∙ rw ok in
+      let h : resultOf (Refused x) ≡ value (failingOf (planOf f ws)) = sym (ap resultOf g) ∙ e ∙ gives-passed ok in
       let z : _≡_ {A = ℕ} 0 1 = cc in
       omega arith
 
 pub memory-stored : (f : Floor) (ws old m : List ℕ) → planVerdict f ws (length old) ≡ passed → m ≡ planMemory f ws old
     → m ≡ stored (planOf f ws) old
-unfolding planMemory storedIf
-memory-stored f ws old m ok e = e ∙ rw ok
+unfolding planMemory
+memory-stored f ws old m ok e = e ∙ when-passed _ ok
 
 -- The answers stored and the text put, from the planner's memory.
 pub plan-put : (f : Floor) (ws old m out out′ : List ℕ) (i n : ℕ) → planVerdict f ws (length old) ≡ passed → m ≡ planMemory f ws old
@@ -135,8 +134,8 @@ unfolding readFloor readWalls
 was-read text old walls f wide r told =
     let ok = passes (r .0) told in
     let good = read-passed text (length old) wide ok in
-    let floor : f ≡ floorAt text = r .1 .0 ∙ chosen-passed _ _ ok in
-    let stored : walls ≡ wallsAt text ++ drop (floorAt text .walls) old = r .1 .1 ∙ chosen-passed _ _ ok in
+    let floor : f ≡ floorAt text = r .1 .0 ∙ when-passed _ ok in
+    let stored : walls ≡ wallsAt text ++ drop (floorAt text .walls) old = r .1 .1 ∙ when-passed _ ok in
     let count : f .walls ≡ floorAt text .walls = ap (λ (g : Floor). g .walls) floor in
     let front : take (f .walls) walls ≡ wallsAt text =
     ap (take (f .walls)) stored ∙ take-at (wallsAt text) _ (f .walls) (walls-length text ∙ sym count)
@@ -153,7 +152,7 @@ was-read text old walls f wide r told =
 module _ (text old new : List ℕ) (o : Outcome) where
   pub routes-accepted : (f : Floor) (walls : List ℕ) → WasRead text f walls
       → FloorPut f walls old new o → (o ≡ routesOutcome text (length old)) × (new ≡ routesMemory text old)
-  unfolding routesOutcome routesMemory routesOf orRefusal neededFor chosen shortOutcome writtenIf _then_ FloorPut
+  unfolding routesOutcome routesMemory routesOf orRefusal neededFor whenPassed shortOutcome writtenIf _then_ FloorPut
   routes-accepted f walls r t =
       let u : TextOrShort (printOf (floorAt text) (wallsAt text)) (textLength (floorAt text)) 9 0 old new o =
       rw (r .front, r .floor) at t
@@ -162,7 +161,7 @@ module _ (text old new : List ℕ) (o : Outcome) where
 
   pub routes-refused : (k p : ℕ) → sheetVerdict text ≡ refused k p → RefusalPut k p old new o
       → (o ≡ routesOutcome text (length old)) × (new ≡ routesMemory text old)
-  unfolding routesOutcome routesMemory routesOf orRefusal neededFor chosen shortOutcome writtenIf _then_ RefusalPut
+  unfolding routesOutcome routesMemory routesOf orRefusal neededFor whenPassed shortOutcome writtenIf _then_ RefusalPut
   routes-refused k p v t = (rw v (t .answers), rw v (t .stores))
 
 -- What is turned away for too little memory is never written.

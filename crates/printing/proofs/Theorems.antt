@@ -7,7 +7,7 @@ use borrow.Author.Tests.{le-leb}
 use lib.ListN.{length, take, drop}
 use lib.Seq.{take-all}
 use Rattle.floor.specs.declared.Floor.{Floor}
-use Rattle.laws.specs.Verdict.{Verdict, passed, refused}
+use Rattle.laws.specs.Verdict.{Verdict, passed, refused, whenPassed}
 use Rattle.floor.specs.Checks.{checkOf}
 use Rattle.floor.specs.Accepted.{SameFloor}
 use Rattle.floor.proofs.LimitsLaws.{check-tells}
@@ -15,7 +15,7 @@ use Rattle.route.specs.Route.{Answer, none, route}
 use Rattle.fields.specs.Field.{fieldOf}
 use Rattle.sheet.specs.Text.{sheetOf, lineOf}
 use Rattle.sheet.specs.Values.{floorAt, wallsAt}
-use Rattle.sheet.specs.Read.{sheetVerdict, chosen}
+use Rattle.sheet.specs.Read.{sheetVerdict}
 use Rattle.sheet.proofs.LinesText.{lines-same}
 use Rattle.sheet.proofs.Theorems.{theorems as sheet-theorems}
 use Rattle.planner.specs.Plan.{planOf, failingOf}
@@ -109,7 +109,7 @@ unfolding refusalLine lineOf fieldOf
 refusal-length k p = refl
 
 routes-within : (text : List ℕ) → (length (routesOf text) ≤ neededFor text) × (neededFor text ≤ 2659)
-unfolding routesOf orRefusal neededFor chosen textLength
+unfolding routesOf orRefusal neededFor whenPassed textLength
 routes-within text = go (sheetVerdict text) refl
   where
     accepted : sheetVerdict text ≡ passed

@@ -6,10 +6,10 @@ use lib.Dec.{leb}
 use lib.ListN.{length}
 use Rattle.laws.specs.Memory.{put}
 use Rattle.floor.specs.declared.Floor.{Floor}
-use Rattle.laws.specs.Verdict.{Verdict, passed, refused, _then_}
+use Rattle.laws.specs.Verdict.{Verdict, passed, refused, _then_, whenPassed}
 use Rattle.floor.specs.Checks.{roomOf}
 use Rattle.sheet.specs.Values.{floorAt, wallsAt}
-use Rattle.sheet.specs.Read.{sheetVerdict, chosen}
+use Rattle.sheet.specs.Read.{sheetVerdict}
 use Rattle.planner.specs.Plan.{planOf, planVerdict}
 use Rattle.planner.specs.Records.{stored}
 use Rattle.printing.specs.declared.Printed.{Printed}
@@ -49,10 +49,10 @@ printOutcome f ws room bytes = writtenIf (printVerdict f ws room bytes) (length 
 
 -- The lent memory for answers, and the lent text memory, after printing; both as they were with a refusal.
 unfoldable pub printAnswers : Floor → List ℕ → ℕ → List ℕ → List ℕ
-printAnswers f ws bytes old = chosen (printVerdict f ws (length old) bytes) (stored (planOf f ws) old) old
+printAnswers f ws bytes old = whenPassed (printVerdict f ws (length old) bytes) (stored (planOf f ws) old) old
 
 unfoldable pub printMemory : Floor → List ℕ → ℕ → List ℕ → List ℕ
-printMemory f ws room old = chosen (printVerdict f ws room (length old)) (put old 0 (printOf f ws)) old
+printMemory f ws room old = whenPassed (printVerdict f ws room (length old)) (put old 0 (printOf f ws)) old
 
 -- A text where a sheet is accepted; the line of its refusal where it is not.
 unfoldable pub orRefusal : Verdict → List ℕ → List ℕ
@@ -65,7 +65,7 @@ routesOf text = orRefusal (sheetVerdict text) (printOf (floorAt text) (wallsAt t
 
 -- The needed length of text memory for a sheet: its floor's, or the 16 bytes of a refusal's line.
 unfoldable pub neededFor : List ℕ → ℕ
-neededFor text = chosen (sheetVerdict text) (textLength (floorAt text)) 16
+neededFor text = whenPassed (sheetVerdict text) (textLength (floorAt text)) 16
 
 -- With too little text memory a sheet gets the first refusal of the order: its own, and 9 if it has none.
 unfoldable pub shortOutcome : List ℕ → Outcome

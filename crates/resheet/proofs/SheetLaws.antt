@@ -12,13 +12,12 @@ use Rattle.laws.proofs.PutLaws.{put-length}
 use Rattle.floor.specs.declared.Floor.{Floor}
 use Rattle.laws.specs.Verdict.{passed, refused, _then_}
 use Rattle.floor.specs.Checks.{checkOf, roomOf}
-use Rattle.laws.proofs.VerdictLaws.{demand-passes}
+use Rattle.laws.proofs.VerdictLaws.{demand-passes, when-passed}
 use Rattle.floor.proofs.LimitsLaws.{check-tells}
 use Rattle.fields.specs.Field.{fieldOf}
 use Rattle.sheet.specs.Text.{sheetOf, sheetLength, wallAt, lineOf}
 use Rattle.sheet.specs.Values.{floorAt, wallsAt}
 use Rattle.sheet.specs.Read.{sheetVerdict, writeVerdict, writeSheet}
-use Rattle.sheet.proofs.ReadLaws.{chosen-passed}
 use Rattle.sheet.proofs.Theorems.{theorems}
 use Rattle.printing.specs.Text.{refusalLine}
 use Rattle.printing.specs.Print.{orRefusal}
@@ -45,7 +44,7 @@ module _ (f : Floor) (ws : List ℕ) (ok : checkOf f ws ≡ passed) where
       let behind : sheetLength f ≡ 0 + length (sheetOf f ws) = omega arith in
       record {
         bytes = e
-            ∙ chosen-passed _ _ (granted (length old) enough)
+            ∙ when-passed _ (granted (length old) enough)
             ∙ ap (λ (k : ℕ). sheetOf f ws ++ drop k old) behind;
         size = l ∙ sym size;
       }

@@ -8,35 +8,27 @@ use Rattle.floor.specs.declared.Refusal.{Refusal}
 use Rattle.floor.specs.declared.Checked.{Checked}
 use Rattle.floor.specs.declared.Checked.the-variants.{Refused}
 use Rattle.floor.specs.Answers.{verdictOf}
-use Rattle.laws.specs.Verdict.{Verdict, passed, refused, _then_}
+use Rattle.laws.specs.Verdict.{Verdict, passed, _then_}
 use Rattle.floor.specs.Checks.{placesOf, roomOf}
-use Rattle.laws.proofs.VerdictLaws.{then-both, then-assoc}
+use Rattle.laws.proofs.VerdictLaws.{then-both, then-assoc, when-passed, when-refused}
 use Rattle.floor.proofs.AnswersLaws.{refuses}
 use Rattle.floor.proofs.LimitsLaws.{room-passed}
 use Rattle.laws.specs.Memory.{put}
 use Rattle.sheet.specs.Text.{sheetOf}
 use Rattle.sheet.specs.Values.{floorAt, wallsAt}
-use Rattle.sheet.specs.Read.{formOf, sheetVerdict, readVerdict, chosen, writeVerdict, writeSheet}
+use Rattle.sheet.specs.Read.{formOf, sheetVerdict, readVerdict, writeVerdict, writeSheet}
 use Rattle.sheet.proofs.SheetLaws.{sheet-front}
-
-pub chosen-passed : {A : Type 0} {v : Verdict} (a b : A) → v ≡ passed → chosen v a b ≡ a
-unfolding chosen
-chosen-passed a b h = rw h
-
-pub chosen-refused : {A : Type 0} {v : Verdict} {k p : ℕ} (a b : A) → v ≡ refused k p → chosen v a b ≡ b
-unfolding chosen
-chosen-refused a b h = rw h
 
 -- A pass puts the sheet in front, and a refusal leaves the sheet memory as it was.
 pub write-passed : (f : Floor) (ws old new : List ℕ) → passed ≡ writeVerdict f ws (length old) → new ≡ put old 0 (sheetOf f ws)
     → (passed ≡ writeVerdict f ws (length old)) × (new ≡ writeSheet f ws old)
 unfolding writeSheet
-write-passed f ws old new v e = (v, e ∙ sheet-front f ws old ∙ sym (chosen-passed _ _ (sym v)))
+write-passed f ws old new v e = (v, e ∙ sheet-front f ws old ∙ sym (when-passed _ (sym v)))
 
 pub write-refused : {a : Checked} {x : Refusal} (f : Floor) (ws old : List ℕ) → verdictOf a ≡ writeVerdict f ws (length old) → a ≡ Refused x
     → (verdictOf a ≡ writeVerdict f ws (length old)) × (old ≡ writeSheet f ws old)
 unfolding writeSheet
-write-refused f ws old v e = (v, sym (chosen-refused _ _ (refuses v e)))
+write-refused f ws old v e = (v, sym (when-refused _ (refuses v e)))
 
 -- Reading is a chain of three checks.
 pub read-chain : {u : Verdict} (text : List ℕ) (room : ℕ)

@@ -3,7 +3,7 @@ use Prim.Native.Nat.{ℕ}
 use mathlib.Core.List.{List, _++_}
 use lib.ListN.{length, drop}
 use Rattle.floor.specs.declared.Floor.{Floor}
-use Rattle.laws.specs.Verdict.{Verdict, passed, refused, _then_}
+use Rattle.laws.specs.Verdict.{Verdict, _then_, whenPassed}
 use Rattle.floor.specs.Checks.{limitsOf, placesOf, checkOf, roomOf}
 use Rattle.floor.specs.Fresh.{freshFloor}
 use Rattle.sheet.specs.Text.{sheetOf, sheetLength}
@@ -23,18 +23,13 @@ sheetVerdict text = formOf text then placesOf (floorAt text) (wallsAt text)
 unfoldable pub readVerdict : List ℕ → ℕ → Verdict
 readVerdict text room = sheetVerdict text then roomOf (floorAt text .walls) room
 
--- One thing on success, another on a refusal.
-unfoldable pub chosen : {A : Type 0} → Verdict → A → A → A
-chosen passed a b = a
-chosen (refused k p) a b = b
-
 -- The floor that reading hands back: the fresh floor with a refusal.
 unfoldable pub readFloor : List ℕ → ℕ → Floor
-readFloor text room = chosen (readVerdict text room) (floorAt text) freshFloor
+readFloor text room = whenPassed (readVerdict text room) (floorAt text) freshFloor
 
 -- The lent wall memory after reading: the walls in front, and the rest as it was; all as it was with a refusal.
 unfoldable pub readWalls : List ℕ → List ℕ → List ℕ
-readWalls text old = chosen (readVerdict text (length old)) (wallsAt text ++ drop (floorAt text .walls) old) old
+readWalls text old = whenPassed (readVerdict text (length old)) (wallsAt text ++ drop (floorAt text .walls) old) old
 
 -- Writing: the checks of the record, then 9 where fewer bytes are lent than the sheet has.
 unfoldable pub writeVerdict : Floor → List ℕ → ℕ → Verdict
@@ -42,4 +37,4 @@ writeVerdict f ws room = checkOf f ws then roomOf (sheetLength f) room
 
 -- The lent sheet memory after writing.
 unfoldable pub writeSheet : Floor → List ℕ → List ℕ → List ℕ
-writeSheet f ws old = chosen (writeVerdict f ws (length old)) (sheetOf f ws ++ drop (sheetLength f) old) old
+writeSheet f ws old = whenPassed (writeVerdict f ws (length old)) (sheetOf f ws ++ drop (sheetLength f) old) old

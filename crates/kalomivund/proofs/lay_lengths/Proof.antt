@@ -2,9 +2,8 @@
 use Rattle.laws.proofs.PutLaws.{put-five}
 use mathlib.Core.Path.{refl, _∙_}
 use borrow.Author.Tests.{lt-leb, le-leb}
-use Rattle.laws.specs.Verdict.{demand}
+use Rattle.laws.specs.Verdict.{demand, whenPassed}
 use Rattle.floor.specs.Checks.{roomOf}
-use Rattle.sheet.specs.Read.{chosen}
 use Rattle.lengths.specs.Figures.{figuresOf}
 use Rattle.wire.specs.Word.{ofVerdict}
 use Rattle.kalomivund.specs.Answers.{ofFigures, figuresStored}
@@ -19,7 +18,7 @@ unfolding ofFigures figuresStored figuresOf
 returns c = (c .of-needed .ensures ∙ rw (c .before .enum-told .given .1) refl, rw (c .before .enum-told .given .1) refl)
 
 returns-2 : tie.Need-returns-2
-unfolding ofFigures figuresStored figuresOf ofVerdict chosen roomOf demand
+unfolding ofFigures figuresStored figuresOf ofVerdict whenPassed roomOf demand
 returns-2 c =
     let after-needed : tie.After-needed = search in
     rw (after-needed .needed .given .1, lt-leb 5 _ (c .before .if1 .taken)) (c .too-short .ensures, refl)
@@ -34,7 +33,7 @@ slice-write-out-4 : tie.Need-slice-write-out-4
 slice-write-out-4 c = simp length-set (omega arith)
 
 returns-3 : tie.Need-returns-3
-unfolding ofFigures figuresStored figuresOf ofVerdict chosen roomOf demand
+unfolding ofFigures figuresStored figuresOf ofVerdict whenPassed roomOf demand
 returns-3 c =
     let after-needed : tie.After-needed = search in
     let l = c .before .if1 .left in

@@ -1,7 +1,10 @@
 -- `lengths::needed_lengths` meets its contract: each figure is the one that its crate states.
 use Rattle.floor.proofs.LimitsLaws.{limits-passed}
 use Rattle.floor.proofs.AnswersLaws.{passes, refuses}
-use Rattle.lengths.specs.Figures.{figuresOf, figuresFor, unless}
+use Rattle.lengths.specs.Figures.{figuresOf, figuresFor, lengthsOf}
+use Rattle.laws.specs.Verdict.{_gives_}
+use Rattle.laws.proofs.VerdictLaws.{gives-refused}
+use mathlib.Core.Path.{sym}
 use borrow.Author.Needs.{needs}
 use Rattle.lengths.proofs.needed_lengths.Statement.{statement}
 use Rattle.lengths.proofs.needed_lengths.Tie as tie
@@ -13,7 +16,7 @@ state-size-requires c κs =
     limits-passed _ (passes (after-limits .limits .ensures) (after-enum-told .enum-told .given .1)) .carriers .1
 
 returns : tie.Need-returns
-unfolding figuresOf figuresFor unless
+unfolding figuresOf figuresFor lengthsOf _gives_
 returns c =
     let after-sheet-length : tie.After-sheet-length = search in
     let after-enum-told : tie.After-enum-told = search in
@@ -26,10 +29,10 @@ returns c =
     )
 
 returns-2 : tie.Need-returns-2
-unfolding figuresOf figuresFor unless
+unfolding figuresOf figuresFor
 returns-2 c =
     let after-limits : tie.After-limits = search in
-    rw (refuses (after-limits .limits .ensures) (c .before .limited .given .1))
+    sym (gives-refused _ (refuses (after-limits .limits .ensures) (c .before .limited .given .1)))
 
 pub needed-lengths-spec : {M : Type 1} → statement M
 needed-lengths-spec =

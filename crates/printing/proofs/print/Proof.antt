@@ -1,7 +1,7 @@
 -- `printing::print` meets its contract: a refusal leaves all as it was; otherwise the plan is stored and its text put.
 use mathlib.Core.Path.{_∙_, sym, ap}
+use Rattle.laws.proofs.VerdictLaws.{when-passed, when-refused}
 use Rattle.printing.specs.Print.{writtenIf, printAnswers, printMemory}
-use Rattle.sheet.proofs.ReadLaws.{chosen-passed, chosen-refused}
 use Rattle.laws.specs.Verdict.{Verdict}
 use Rattle.floor.proofs.AnswersLaws.{passes, refuses}
 use Rattle.printing.proofs.PrintLaws.{outcome-turned, outcome-written, print-granted}
@@ -15,7 +15,7 @@ returns c =
     let after-request : tie.After-request = search in
     let no = refuses (after-request .request .ensures) (c .before .enum-told2 .given .1) in
     let v = c .turned-away .ensures ∙ ap (λ (v : Verdict). writtenIf v 0) (after-request .request .ensures) in
-    (outcome-turned _ _ _ _ _ _ no v, (sym (chosen-refused _ _ no), sym (chosen-refused _ _ no)))
+    (outcome-turned _ _ _ _ _ _ no v, (sym (when-refused _ no), sym (when-refused _ no)))
 
 put-plan-requires : tie.Need-put-plan-requires
 put-plan-requires c κs =
@@ -32,7 +32,7 @@ returns-2 c =
     let ok = passes (after-request .request .ensures) (after-enum-told .enum-told .given .1) in
     let p = after-put-plan .put-plan .ensures in (
       outcome-written _ _ _ _ _ ok (p .1 .size),
-      (p .0 ∙ sym (chosen-passed _ _ ok), p .1 .bytes ∙ sym (chosen-passed _ _ ok)),
+      (p .0 ∙ sym (when-passed _ ok), p .1 .bytes ∙ sym (when-passed _ ok)),
     )
 
 pub print-spec : {M : Type 1} → statement M

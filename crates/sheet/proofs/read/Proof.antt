@@ -1,5 +1,6 @@
 -- `sheet::read` meets its contract: a refusal leaves all as it was; a pass hands back the floor and stores its walls.
-use Rattle.sheet.proofs.ReadLaws.{chosen-passed, chosen-refused, read-tells}
+use Rattle.laws.proofs.VerdictLaws.{when-passed, when-refused}
+use Rattle.sheet.proofs.ReadLaws.{read-tells}
 use Rattle.sheet.specs.Read.{readFloor, readWalls}
 use Rattle.floor.proofs.AnswersLaws.{refuses, passes}
 use Rattle.floor.specs.Answers.{verdictOf}
@@ -14,7 +15,7 @@ unfolding readFloor readWalls
 returns c =
     let after-check : tie.After-check = search in
     let no = refuses (after-check .check .ensures) (c .before .enum-told2 .given .1) in
-    (after-check .check .ensures, (c .fresh .ensures ∙ sym (chosen-refused _ _ no), sym (chosen-refused _ _ no)))
+    (after-check .check .ensures, (c .fresh .ensures ∙ sym (when-refused _ no), sym (when-refused _ no)))
 
 floor-requires : tie.Need-floor-requires
 floor-requires c κs =
@@ -34,7 +35,7 @@ returns-2 c =
     let after-check : tie.After-check = search in
     let ok = passes (after-check .check .ensures) (after-enum-told .enum-told .given .1) in
     let f = after-floor .floor .ensures in
-    (sym ok, (f ∙ sym (chosen-passed _ _ ok), walls-read _ _ f (c .before .before .walls .ensures) ∙ sym (chosen-passed _ _ ok)))
+    (sym ok, (f ∙ sym (when-passed _ ok), walls-read _ _ f (c .before .before .walls .ensures) ∙ sym (when-passed _ ok)))
 
 pub read-spec : {M : Type 1} → statement M
 read-spec =
