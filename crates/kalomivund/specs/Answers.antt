@@ -7,7 +7,6 @@ use Rattle.laws.specs.Memory.{put}
 use Rattle.floor.specs.Checks.{roomOf}
 use Rattle.route.specs.Route.{Answer, none, route}
 use Rattle.search.specs.Answers.{Result as Found, answered, turned as search-turned, cellsOf}
-use Rattle.printing.specs.Print.{Outcome as Printing, written, turned as print-turned}
 use Rattle.lengths.specs.declared.Lengths.{Lengths}
 use Rattle.reference.specs.Take.{StepAnswer, kept, sent, delivered}
 use Rattle.reference.specs.Ending.{Ending, silent, spent, ended}
@@ -26,9 +25,9 @@ routeStored (answered x) old = put old 0 (cellsOf (answered x))
 routeStored (search-turned k p) old = old
 
 -- Printing: case 0 with the number of bytes.
-unfoldable pub ofPrinted : Printing → Said
-ofPrinted (written n) = done 0 n
-ofPrinted (print-turned k p) = turned k p
+unfoldable pub ofPrinted : Outcome ℕ → Said
+ofPrinted (value n) = done 0 n
+ofPrinted (refusal k p) = turned k p
 
 -- Needed lengths: their refusal, then 9 where fewer than five numbers are lent.
 unfoldable pub ofFigures : Outcome Lengths → ℕ → Said
