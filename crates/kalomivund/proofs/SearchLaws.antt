@@ -3,15 +3,16 @@ use Prim.Native.Nat.{ℕ}
 use mathlib.Core.Path.{_≡_, refl, _∙_}
 use mathlib.Core.List.{List}
 use Rattle.laws.specs.Memory.{put}
+use Rattle.laws.specs.Verdict.{Outcome}
 use Rattle.floor.specs.declared.Refusal.{Refusal}
-use Rattle.route.specs.Route.{route}
+use Rattle.route.specs.Route.{Answer}
 use Rattle.search.specs.declared.Found.{Found}
 use Rattle.search.specs.declared.Outcome.the-variants.{Route, None, Refused}
-use Rattle.search.specs.Answers.{Result, resultOf, outcomeOf, cellsOf, Says}
+use Rattle.search.specs.Answers.{resultOf, outcomeOf, cellsOf, Says}
 use Rattle.wire.specs.Word.{wordOf, done, turned as Said·turned}
 use Rattle.kalomivund.specs.Answers.{ofSearch, routeStored}
 
-module _ {x : Found} {result : Result} (s : Says x result) where
+module _ {x : Found} {result : Outcome Answer} (s : Says x result) where
   -- None and a route: their case, and 64 cells in front.
   pub none-says : {w : ℕ} → x .outcome ≡ None → w ≡ wordOf (done 0 0) → w ≡ wordOf (ofSearch result)
   unfolding ofSearch resultOf outcomeOf

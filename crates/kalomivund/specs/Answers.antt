@@ -6,8 +6,7 @@ use Rattle.laws.specs.Verdict.{Outcome, value, refusal, whenPassed}
 use Rattle.laws.specs.Memory.{put}
 use Rattle.floor.specs.Checks.{roomOf}
 use Rattle.route.specs.Route.{Answer, none, route}
-use Rattle.search.specs.Answers.{Result as Found, answered, turned as search-turned, cellsOf}
-use Rattle.printing.specs.Print.{Outcome as Printing, written, turned as print-turned}
+use Rattle.search.specs.Answers.{cellsOf}
 use Rattle.lengths.specs.declared.Lengths.{Lengths}
 use Rattle.reference.specs.Take.{StepAnswer, kept, sent, delivered}
 use Rattle.reference.specs.Ending.{Ending, silent, spent, ended}
@@ -15,20 +14,20 @@ use Rattle.reference.specs.Calls.{Reply, stepped, ran}
 use Rattle.wire.specs.Word.{Said, done, turned, ofVerdict}
 
 -- A search: 0 none, 1 a route.
-unfoldable pub ofSearch : Found → Said
-ofSearch (answered none) = done 0 0
-ofSearch (answered (route r)) = done 1 0
-ofSearch (search-turned k p) = turned k p
+unfoldable pub ofSearch : Outcome Answer → Said
+ofSearch (value none) = done 0 0
+ofSearch (value (route r)) = done 1 0
+ofSearch (refusal k p) = turned k p
 
 -- The lent route memory after a search: 64 cells in front, zeros where there is none; as it was with a refusal.
-unfoldable pub routeStored : Found → List ℕ → List ℕ
-routeStored (answered x) old = put old 0 (cellsOf (answered x))
-routeStored (search-turned k p) old = old
+unfoldable pub routeStored : Outcome Answer → List ℕ → List ℕ
+routeStored (value x) old = put old 0 (cellsOf (value x))
+routeStored (refusal k p) old = old
 
 -- Printing: case 0 with the number of bytes.
-unfoldable pub ofPrinted : Printing → Said
-ofPrinted (written n) = done 0 n
-ofPrinted (print-turned k p) = turned k p
+unfoldable pub ofPrinted : Outcome ℕ → Said
+ofPrinted (value n) = done 0 n
+ofPrinted (refusal k p) = turned k p
 
 -- Needed lengths: their refusal, then 9 where fewer than five numbers are lent.
 unfoldable pub ofFigures : Outcome Lengths → ℕ → Said

@@ -7,7 +7,7 @@ use mathlib.Core.Logic.{_↔_, ⊎-elim}
 use mathlib.Core.List.{List}
 use borrow.Author.Tests.{leb-false, lt-leb, le-leb}
 use Rattle.floor.specs.declared.Floor.{Floor}
-use Rattle.laws.specs.Verdict.{passed, refused, demand, _then_, whenPassed}
+use Rattle.laws.specs.Verdict.{passed, refused, demand, value, refusal, _thenAnswers_, whenPassed}
 use Rattle.floor.specs.Checks.{checkOf, roomOf, within}
 use Rattle.laws.proofs.VerdictLaws.{then-cases, then-passed, then-refused, demand-cases, demand-refuses, demand-passes, gives-passed}
 use Rattle.floor.proofs.LimitsLaws.{check-tells}
@@ -21,7 +21,7 @@ use Rattle.sheet.specs.Read.{sheetVerdict, readVerdict, writeVerdict}
 use Rattle.sheet.proofs.Theorems.{theorems as sheet-theorems}
 use Rattle.search.specs.Search.{requestOf}
 use Rattle.planner.specs.Plan.{planVerdict}
-use Rattle.printing.specs.Print.{written, turned, writtenIf, textLength, printVerdict, routesOf, neededFor, shortOutcome, routesOutcome}
+use Rattle.printing.specs.Print.{textLength, printVerdict, routesOf, neededFor, shortOutcome, routesOutcome}
 use Rattle.layout.specs.Places.{stateSize}
 use Rattle.layout.specs.Calls.{placeVerdict}
 use Rattle.layout.proofs.Theorems.{theorems as layout-theorems}
@@ -98,14 +98,14 @@ text-room f ws room bytes ok l =
     (λ h. room-means _ _ .0 (sym (then-passed planned) ∙ h), λ b. then-passed planned ∙ room-means _ _ .1 b)
 
 sheet-text-room : (text : List ℕ) (bytes : ℕ) → sheetVerdict text ≡ passed
-    → (routesOutcome text bytes ≡ turned 9 0) ↔ (bytes < textLength (floorAt text))
-unfolding routesOutcome shortOutcome neededFor whenPassed writtenIf _then_
+    → (routesOutcome text bytes ≡ refusal 9 0) ↔ (bytes < textLength (floorAt text))
+unfolding routesOutcome shortOutcome neededFor whenPassed _thenAnswers_
 sheet-text-room text bytes ok = (λ h. short h (decLe (textLength (floorAt text)) bytes), λ l. rw (ok, lt-leb _ _ l))
   where
-    short : routesOutcome text bytes ≡ turned 9 0 → Dec (textLength (floorAt text) ≤ bytes) → bytes < textLength (floorAt text)
+    short : routesOutcome text bytes ≡ refusal 9 0 → Dec (textLength (floorAt text) ≤ bytes) → bytes < textLength (floorAt text)
     short h (no q) = omega arith
     short h (yes q) =
-        let e : routesOutcome text bytes ≡ written (length (routesOf text)) = rw (ok, le-leb _ _ q) in
+        let e : routesOutcome text bytes ≡ value (length (routesOf text)) = rw (ok, le-leb _ _ q) in
         let z : _≡_ {A = ℕ} 0 1 = cc in
         absurd (omega arith)
 

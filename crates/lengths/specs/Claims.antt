@@ -5,14 +5,14 @@ use mathlib.Core.Logic.{_↔_}
 use mathlib.Core.List.{List}
 use lib.ListN.{length}
 use Rattle.floor.specs.declared.Floor.{Floor}
-use Rattle.laws.specs.Verdict.{passed, refused, value}
+use Rattle.laws.specs.Verdict.{passed, refused, value, refusal}
 use Rattle.floor.specs.Checks.{checkOf}
 use Rattle.sheet.specs.Text.{sheetLength}
 use Rattle.sheet.specs.Values.{floorAt}
 use Rattle.sheet.specs.Read.{sheetVerdict, readVerdict, writeVerdict}
 use Rattle.search.specs.Search.{requestOf}
 use Rattle.planner.specs.Plan.{planVerdict}
-use Rattle.printing.specs.Print.{turned, textLength, printVerdict, routesOutcome}
+use Rattle.printing.specs.Print.{textLength, printVerdict, routesOutcome}
 use Rattle.layout.specs.Places.{stateSize}
 use Rattle.layout.specs.Calls.{placeVerdict}
 use Rattle.lengths.specs.Figures.{figuresFor, lengthsOf}
@@ -43,7 +43,7 @@ pub record Claims : Type 0 where
       → (printVerdict f ws room bytes ≡ refused 9 0) ↔ (bytes < textLength f)
   -- Text memory of an accepted sheet is called too short exactly below the needed length of its floor.
   pub sheet-text-room : (text : List ℕ) (bytes : ℕ) → sheetVerdict text ≡ passed
-      → (routesOutcome text bytes ≡ turned 9 0) ↔ (bytes < textLength (floorAt text))
+      → (routesOutcome text bytes ≡ refusal 9 0) ↔ (bytes < textLength (floorAt text))
   -- Memory for a state of an accepted floor is called too short exactly below the needed length.
   pub state-room : (f : Floor) (ws : List ℕ) (room : ℕ) → checkOf f ws ≡ passed
       → (placeVerdict f ws room ≡ refused 9 0) ↔ (room < stateSize (f .carriers))

@@ -10,7 +10,7 @@ use Rattle.floor.specs.declared.Floor.{Floor}
 use Rattle.floor.specs.declared.Checked.{Checked}
 use Rattle.floor.specs.declared.Checked.the-variants.{Passed}
 use Rattle.floor.specs.Answers.{verdictOf}
-use Rattle.laws.specs.Verdict.{Verdict, passed, refused, _then_, whenPassed, value}
+use Rattle.laws.specs.Verdict.{Verdict, passed, refused, Outcome, value, refusal, _thenAnswers_, whenPassed}
 use Rattle.floor.specs.Checks.{checkOf, roomOf}
 use Rattle.laws.proofs.VerdictLaws.{then-both, refused-by, then-passed, refused-not-passed, demand-passes, when-passed, gives-passed}
 use Rattle.floor.proofs.AnswersLaws.{passes}
@@ -24,9 +24,8 @@ use Rattle.planner.specs.declared.Planned.the-variants.{Failing, Refused}
 use Rattle.planner.specs.Plan.{planOf, planVerdict, failingOf}
 use Rattle.planner.specs.Records.{stored, planMemory}
 use Rattle.planner.specs.Answers.{resultOf, planResult}
-use Rattle.printing.specs.declared.Printed.the-variants.{Written}
-use Rattle.printing.specs.Print.{Outcome, written, turned, outcomeOf, writtenIf, printOf, textLength}
-use Rattle.printing.specs.Print.{printVerdict, printOutcome, orRefusal, routesOf, neededFor, shortOutcome, routesOutcome}
+use Rattle.printing.specs.Print.{printOf, textLength}
+use Rattle.printing.specs.Print.{printVerdict, orRefusal, routesOf, neededFor, shortOutcome, routesOutcome}
 use Rattle.printing.specs.Print.{routesMemory}
 use Rattle.printing.specs.Put.{TextPut, TextOrShort, FloorPut, RefusalPut, textIn}
 use Rattle.printing.proofs.RecordLaws.{plan-text}
@@ -71,18 +70,8 @@ plan-put f ws old m out out′ i n ok e g t =
     in
     (planned, rw same at t)
 
--- A request that is turned away, and one that is granted.
+-- A request that is granted.
 module _ (f : Floor) (ws : List ℕ) where
-  pub outcome-turned : {o : Outcome} (room bytes k p : ℕ) → printVerdict f ws room bytes ≡ refused k p
-      → o ≡ writtenIf (printVerdict f ws room bytes) 0 → o ≡ printOutcome f ws room bytes
-  unfolding printOutcome writtenIf
-  outcome-turned room bytes k p v e = e ∙ rw v
-
-  pub outcome-written : (room bytes n : ℕ) → printVerdict f ws room bytes ≡ passed → n ≡ length (printOf f ws)
-      → outcomeOf (Written n) ≡ printOutcome f ws room bytes
-  unfolding printOutcome writtenIf outcomeOf
-  outcome-written room bytes n v e = rw (v, e)
-
   pub print-granted : (room bytes : ℕ) → printVerdict f ws room bytes ≡ passed → (planVerdict f ws room ≡ passed) × (textLength f ≤ bytes)
   unfolding printVerdict
   print-granted room bytes v = let b = then-both _ _ v in (b .0, room-passed _ _ (b .1))
@@ -96,11 +85,11 @@ module _ (f : Floor) (ws : List ℕ) where
 
 -- A buffer that is too short, and one that has room.
 module _ (text : List ℕ) (needed k p : ℕ) (old : List ℕ) where
-  pub text-short : length old < needed → TextOrShort text needed k p old old (turned k p)
+  pub text-short : length old < needed → TextOrShort text needed k p old old (refusal k p)
   text-short l = record { answers = rw (lt-leb _ _ l); stores = rw (lt-leb _ _ l) }
 
-  pub text-fits : (new : List ℕ) (n : ℕ) → needed ≤ length old → TextPut text old new n → TextOrShort text needed k p old new (written n)
-  text-fits new n l t = record { answers = rw (le-leb _ _ l) (ap written (t .size)); stores = rw (le-leb _ _ l) (t .bytes) }
+  pub text-fits : (new : List ℕ) (n : ℕ) → needed ≤ length old → TextPut text old new n → TextOrShort text needed k p old new (value n)
+  text-fits new n l t = record { answers = rw (le-leb _ _ l) (ap value (t .size)); stores = rw (le-leb _ _ l) (t .bytes) }
 
 -- With room for the most walls a sheet's own verdict is the reader's.
 module _ (text : List ℕ) (room : ℕ) (wide : 1023 ≤ room) where
@@ -149,10 +138,10 @@ was-read text old walls f wide r told =
     }
 
 -- From bytes to bytes: an accepted sheet, and a refused one.
-module _ (text old new : List ℕ) (o : Outcome) where
+module _ (text old new : List ℕ) (o : Outcome ℕ) where
   pub routes-accepted : (f : Floor) (walls : List ℕ) → WasRead text f walls
       → FloorPut f walls old new o → (o ≡ routesOutcome text (length old)) × (new ≡ routesMemory text old)
-  unfolding routesOutcome routesMemory routesOf orRefusal neededFor whenPassed shortOutcome writtenIf _then_ FloorPut
+  unfolding routesOutcome routesMemory routesOf orRefusal neededFor whenPassed shortOutcome _thenAnswers_ FloorPut
   routes-accepted f walls r t =
       let u : TextOrShort (printOf (floorAt text) (wallsAt text)) (textLength (floorAt text)) 9 0 old new o =
       rw (r .front, r .floor) at t
@@ -161,11 +150,5 @@ module _ (text old new : List ℕ) (o : Outcome) where
 
   pub routes-refused : (k p : ℕ) → sheetVerdict text ≡ refused k p → RefusalPut k p old new o
       → (o ≡ routesOutcome text (length old)) × (new ≡ routesMemory text old)
-  unfolding routesOutcome routesMemory routesOf orRefusal neededFor whenPassed shortOutcome writtenIf _then_ RefusalPut
+  unfolding routesOutcome routesMemory routesOf orRefusal neededFor whenPassed shortOutcome _thenAnswers_ RefusalPut
   routes-refused k p v t = (rw v (t .answers), rw v (t .stores))
-
--- What is turned away for too little memory is never written.
-pub short-turned : (v : Verdict) (n : ℕ) → written n ≡ writtenIf (v then refused 9 0) 0 → ⊥
-unfolding writtenIf _then_
-short-turned passed n e = let z : _≡_ {A = ℕ} 0 1 = cc in omega arith
-short-turned (refused k p) n e = let z : _≡_ {A = ℕ} 0 1 = cc in omega arith

@@ -7,7 +7,7 @@ use borrow.Author.Tests.{le-leb}
 use lib.ListN.{length, take, drop}
 use lib.Seq.{take-all}
 use Rattle.floor.specs.declared.Floor.{Floor}
-use Rattle.laws.specs.Verdict.{Verdict, passed, refused, whenPassed}
+use Rattle.laws.specs.Verdict.{Verdict, passed, refused, value, whenPassed}
 use Rattle.floor.specs.Checks.{checkOf}
 use Rattle.floor.specs.Accepted.{SameFloor}
 use Rattle.floor.proofs.LimitsLaws.{check-tells}
@@ -22,7 +22,7 @@ use Rattle.planner.specs.Plan.{planOf, failingOf}
 use Rattle.planner.specs.Claims.{answerAt}
 use Rattle.planner.proofs.Theorems.{theorems as planner-theorems}
 use Rattle.printing.specs.Text.{noneLine, answerLine, firstLine, routesText, refusalLine}
-use Rattle.printing.specs.Print.{written, printOf, textLength, orRefusal, routesOf, neededFor, routesOutcome}
+use Rattle.printing.specs.Print.{printOf, textLength, orRefusal, routesOf, neededFor, routesOutcome}
 use Rattle.printing.specs.Claims.{Claims, columnOf}
 use Rattle.printing.proofs.PutLaws.{first-length, none-length}
 use Rattle.printing.proofs.LinesLaws.{line-at, text-within}
@@ -122,7 +122,7 @@ routes-within text = go (sheetVerdict text) refl
     go passed e = rw e (accepted e)
     go (refused k p) e = rw e (omega (arith, refusal-length k p), omega arith)
 
-always-written : (text : List ℕ) (bytes : ℕ) → 2659 ≤ bytes → routesOutcome text bytes ≡ written (length (routesOf text))
+always-written : (text : List ℕ) (bytes : ℕ) → 2659 ≤ bytes → routesOutcome text bytes ≡ value (length (routesOf text))
 unfolding routesOutcome
 always-written text bytes l =
     let enough : neededFor text ≤ bytes = omega (arith, routes-within text .1) in

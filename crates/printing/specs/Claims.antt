@@ -4,7 +4,7 @@ use mathlib.Core.Path.{_≡_}
 use mathlib.Core.List.{List}
 use lib.ListN.{length, take, drop}
 use Rattle.floor.specs.declared.Floor.{Floor}
-use Rattle.laws.specs.Verdict.{passed, refused}
+use Rattle.laws.specs.Verdict.{passed, refused, value}
 use Rattle.floor.specs.Checks.{checkOf}
 use Rattle.route.specs.Route.{none}
 use Rattle.sheet.specs.Text.{sheetOf, linesOf}
@@ -13,7 +13,7 @@ use Rattle.sheet.specs.Read.{sheetVerdict}
 use Rattle.planner.specs.Plan.{planOf}
 use Rattle.planner.specs.Claims.{answerAt}
 use Rattle.printing.specs.Text.{noneLine, answerLine, routesText, refusalLine}
-use Rattle.printing.specs.Print.{written, printOf, textLength, routesOf, neededFor, routesOutcome}
+use Rattle.printing.specs.Print.{printOf, textLength, routesOf, neededFor, routesOutcome}
 
 -- The column at which the line of carrier k begins.
 unfoldable pub columnOf : Floor → List ℕ → ℕ → ℕ
@@ -38,4 +38,4 @@ pub record Claims : Type 0 where
   pub text-within : (f : Floor) (ws : List ℕ) → checkOf f ws ≡ passed → length (printOf f ws) ≤ textLength f
   pub routes-within : (text : List ℕ) → (length (routesOf text) ≤ neededFor text) × (neededFor text ≤ 2659)
   -- With 2,659 bytes of text memory every sheet is answered.
-  pub always-written : (text : List ℕ) (bytes : ℕ) → 2659 ≤ bytes → routesOutcome text bytes ≡ written (length (routesOf text))
+  pub always-written : (text : List ℕ) (bytes : ℕ) → 2659 ≤ bytes → routesOutcome text bytes ≡ value (length (routesOf text))

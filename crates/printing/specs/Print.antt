@@ -6,7 +6,7 @@ use lib.Dec.{leb}
 use lib.ListN.{length}
 use Rattle.laws.specs.Memory.{put}
 use Rattle.floor.specs.declared.Floor.{Floor}
-use Rattle.laws.specs.Verdict.{Verdict, passed, refused, _then_, whenPassed}
+use Rattle.laws.specs.Verdict.{Verdict, passed, refused, _then_, Outcome, value, refusal, _gives_, _thenAnswers_, whenPassed}
 use Rattle.floor.specs.Checks.{roomOf}
 use Rattle.sheet.specs.Values.{floorAt, wallsAt}
 use Rattle.sheet.specs.Read.{sheetVerdict}
@@ -16,20 +16,10 @@ use Rattle.printing.specs.declared.Printed.{Printed}
 use Rattle.printing.specs.declared.Printed.the-variants.{Written, Refused}
 use Rattle.printing.specs.Text.{routesText, refusalLine}
 
--- Bytes were written, so many, or the request was turned away with a number and a place.
-pub data Outcome : Type 0 where
-  written : (bytes : ℕ) → Outcome
-  turned : (number place : ℕ) → Outcome
-
--- What each case of the code's answer says.
-unfoldable pub outcomeOf : Printed → Outcome
-outcomeOf (Written n) = written n
-outcomeOf (Refused r) = turned (r .number) (r .place)
-
--- So many bytes where the checks pass.
-unfoldable pub writtenIf : Verdict → ℕ → Outcome
-writtenIf passed n = written n
-writtenIf (refused k p) n = turned k p
+-- What each case of the code's answer says: the number of bytes that were written, or the refusal.
+unfoldable pub outcomeOf : Printed → Outcome ℕ
+outcomeOf (Written n) = value n
+outcomeOf (Refused r) = refusal (r .number) (r .place)
 
 -- The routes of a floor as text.
 unfoldable pub printOf : Floor → List ℕ → List ℕ
@@ -44,8 +34,8 @@ unfoldable pub printVerdict : Floor → List ℕ → ℕ → ℕ → Verdict
 printVerdict f ws room bytes = planVerdict f ws room then roomOf (textLength f) bytes
 
 -- What printing a floor's routes answers, with room for so many numbers and so many bytes.
-unfoldable pub printOutcome : Floor → List ℕ → ℕ → ℕ → Outcome
-printOutcome f ws room bytes = writtenIf (printVerdict f ws room bytes) (length (printOf f ws))
+unfoldable pub printOutcome : Floor → List ℕ → ℕ → ℕ → Outcome ℕ
+printOutcome f ws room bytes = printVerdict f ws room bytes gives length (printOf f ws)
 
 -- The lent memory for answers, and the lent text memory, after printing; both as they were with a refusal.
 unfoldable pub printAnswers : Floor → List ℕ → ℕ → List ℕ → List ℕ
@@ -68,12 +58,12 @@ unfoldable pub neededFor : List ℕ → ℕ
 neededFor text = whenPassed (sheetVerdict text) (textLength (floorAt text)) 16
 
 -- With too little text memory a sheet gets the first refusal of the order: its own, and 9 if it has none.
-unfoldable pub shortOutcome : List ℕ → Outcome
-shortOutcome text = writtenIf (sheetVerdict text then refused 9 0) 0
+unfoldable pub shortOutcome : List ℕ → Outcome ℕ
+shortOutcome text = sheetVerdict text thenAnswers refusal 9 0
 
 -- What printing the routes of a sheet answers, with room for so many bytes.
-unfoldable pub routesOutcome : List ℕ → ℕ → Outcome
-routesOutcome text bytes = cond (leb (neededFor text) bytes) (written (length (routesOf text))) (shortOutcome text)
+unfoldable pub routesOutcome : List ℕ → ℕ → Outcome ℕ
+routesOutcome text bytes = cond (leb (neededFor text) bytes) (value (length (routesOf text))) (shortOutcome text)
 
 -- The lent text memory afterwards: what is printed in front, and the rest as it was.
 unfoldable pub routesMemory : List ℕ → List ℕ → List ℕ

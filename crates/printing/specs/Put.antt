@@ -6,11 +6,12 @@ use mathlib.Core.List.{List, _++_}
 use lib.Dec.{eqb, leb}
 use lib.ListN.{length, getD, take, drop}
 use Rattle.laws.specs.Memory.{put}
+use Rattle.laws.specs.Verdict.{Outcome, value, refusal}
 use Rattle.floor.specs.declared.Floor.{Floor}
 use Rattle.route.specs.Route.{Answer, none, route}
 use Rattle.sheet.specs.Text.{linesOf}
 use Rattle.printing.specs.Text.{answerLine, firstLine, refusalLine}
-use Rattle.printing.specs.Print.{Outcome, written, turned, printOf, textLength}
+use Rattle.printing.specs.Print.{printOf, textLength}
 
 -- The answer in record i of a memory: a route where its tag is 2, else none.
 unfoldable pub answerIn : List ℕ → ℕ → Answer
@@ -52,14 +53,14 @@ pub record Printable (f : Floor) (m out : List ℕ) : Type 0 where
   pub room : 11 + 331 * f .carriers ≤ length out
 
 -- A text stands in front of a buffer with room for so many bytes; a shorter buffer is as it was, with the refusal k, p.
-pub record TextOrShort (text : List ℕ) (needed k p : ℕ) (old new : List ℕ) (o : Outcome) : Type 0 where
-  pub answers : o ≡ cond (leb needed (length old)) (written (length text)) (turned k p)
+pub record TextOrShort (text : List ℕ) (needed k p : ℕ) (old new : List ℕ) (o : Outcome ℕ) : Type 0 where
+  pub answers : o ≡ cond (leb needed (length old)) (value (length text)) (refusal k p)
   pub stores : new ≡ cond (leb needed (length old)) (put old 0 text) old
 
 -- The same for the routes of a floor that was read, its walls standing in front of others.
-unfoldable pub FloorPut : Floor → List ℕ → List ℕ → List ℕ → Outcome → Type 0
+unfoldable pub FloorPut : Floor → List ℕ → List ℕ → List ℕ → Outcome ℕ → Type 0
 FloorPut f walls old new o = TextOrShort (printOf f (take (f .walls) walls)) (textLength f) 9 0 old new o
 
 -- The same for the line of a refused sheet.
-unfoldable pub RefusalPut : ℕ → ℕ → List ℕ → List ℕ → Outcome → Type 0
+unfoldable pub RefusalPut : ℕ → ℕ → List ℕ → List ℕ → Outcome ℕ → Type 0
 RefusalPut k p old new o = TextOrShort (refusalLine k p) 16 k p old new o

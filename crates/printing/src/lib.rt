@@ -10,7 +10,7 @@ ghost use Rattle.floor.specs.Checks.{checkOf};
 ghost use Rattle.laws.specs.Verdict.{passed};
 ghost use Rattle.planner.specs.Plan.{planOf, planVerdict};
 ghost use Rattle.planner.specs.Records.{stored};
-ghost use Rattle.printing.specs.Print.{outcomeOf, writtenIf, printOf, textLength, printVerdict};
+ghost use Rattle.printing.specs.Print.{outcomeOf, printOf, textLength, printVerdict};
 ghost use Rattle.printing.specs.Print.{printOutcome, printAnswers, printMemory, routesOutcome, routesMemory};
 ghost use Rattle.printing.specs.Put.{TextPut, FloorPut, RefusalPut};
 use floor::Checked;
@@ -58,16 +58,6 @@ fn put_plan(f: Floor, walls: &[u16], answers: &mut [u16], out: &mut [u8]) -> usi
     lines::put_routes(f, failing as u16, answers, out)
 }
 
-// The answer with the refusal of a check.
-fn turned_away(checked: Checked) -> Printed
-    ensures { λ r. ⌜ outcomeOf r ≡ writtenIf (verdictOf checked) 0 ⌝ }
-{
-    match checked {
-        Checked::Refused(x) => Printed::Refused(x),
-        Checked::Passed => Printed::Written(0),
-    }
-}
-
 // Plans a floor and prints its routes: the answers into lent memory as `planner::plan` stores them, the text into lent
 // memory.
 pub fn print(f: Floor, walls: &[u16], answers: &mut [u16], out: &mut [u8]) -> Printed
@@ -76,10 +66,10 @@ pub fn print(f: Floor, walls: &[u16], answers: &mut [u16], out: &mut [u8]) -> Pr
     ensures stores { λ r. ⌜ now (out .exit) ≡ printMemory f (now (walls .entry)) (length (now (answers .entry))) (now (out .entry)) ⌝ }
 {
     let asked = request(f, walls, answers.len(), out.len());
-    let Checked::Passed = asked else {
-        return turned_away(asked);
+    let Checked::Refused(x) = asked else {
+        return Printed::Written(put_plan(f, walls, answers, out));
     };
-    Printed::Written(put_plan(f, walls, answers, out))
+    Printed::Refused(x)
 }
 
 // Room for the most walls that a floor can have.

@@ -2,26 +2,17 @@
 use Prim.Native.Nat.{ℕ}
 use mathlib.Core.List.{List}
 use mathlib.Core.Path.{_≡_, refl}
-use Rattle.laws.specs.Verdict.{Verdict, passed, refused}
+use Rattle.laws.specs.Verdict.{Outcome}
 use Rattle.route.specs.Route.{Answer, route}
 use Rattle.search.specs.declared.Outcome.the-variants.{Route}
 use Rattle.search.specs.declared.Found.{Found}
-use Rattle.search.specs.Answers.{Result, answered, turned, resultOf, outcomeOf, cellsOf, answeredIf, Says}
+use Rattle.search.specs.Answers.{answered, resultOf, outcomeOf, cellsOf, Says}
 
 -- The same result under another name.
-pub says-same : {x : Found} {a b : Result} → Says x a → a ≡ b → Says x b
+pub says-same : {x : Found} {a b : Outcome Answer} → Says x a → a ≡ b → Says x b
 says-same s e = rw (← e) s
 
 -- A route that is the best one.
 pub says-route : {b : Answer} {r q : List ℕ} → b ≡ route r → q ≡ r → Says (record { outcome = Route; route = q }) (answered b)
 unfolding resultOf outcomeOf cellsOf
 says-route e h = rw (e, h) (record { answers = refl; stores = refl })
-
--- Where the checks pass, the answer is given, and where they refuse, the refusal.
-pub answered-passed : {v : Verdict} (b : Answer) → v ≡ passed → answered b ≡ answeredIf v b
-unfolding answeredIf
-answered-passed b e = rw e
-
-pub answered-refused : {v : Verdict} {n p : ℕ} (b : Answer) → v ≡ refused n p → turned n p ≡ answeredIf v b
-unfolding answeredIf
-answered-refused b e = rw e

@@ -9,10 +9,10 @@ use borrow.Author.Tests.{leb-false, lt-leb, le-leb, leb-true}
 use lib.Dec.{leb}
 use lib.ListN.{length}
 use Rattle.floor.specs.declared.Floor.{Floor}
-use Rattle.laws.specs.Verdict.{Verdict, passed, refused, demand, _then_}
+use Rattle.laws.specs.Verdict.{Verdict, passed, refused, demand, _then_, refusal, _gives_}
 use Rattle.floor.specs.Checks.{checkOf, within, roomOf}
 use Rattle.floor.specs.Accepted.{Accepted, Within}
-use Rattle.laws.proofs.VerdictLaws.{then-passed, then-refused, then-cases, demand-cases, demand-holds, demand-passes, demand-refuses}
+use Rattle.laws.proofs.VerdictLaws.{then-passed, then-refused, then-cases, demand-cases, demand-holds, demand-passes, demand-refuses, gives-passed, gives-refused}
 use Rattle.floor.proofs.LimitsLaws.{limited-bounds}
 use Rattle.floor.proofs.Theorems.{theorems as floor-theorems}
 use Rattle.route.specs.Route.{Answer, none, route}
@@ -24,21 +24,20 @@ use Rattle.laws.proofs.Tests.{and-both, and-fst, and-snd, not-true-is-false}
 use Rattle.route.proofs.Theorems.{theorems as route-theorems}
 use Rattle.route.specs.Views.{viewsOf}
 use Rattle.search.specs.Task.{taskOf}
-use Rattle.search.specs.Answers.{answered, turned, answeredIf}
+use Rattle.search.specs.Answers.{answered}
 use Rattle.search.specs.Search.{requestOf, searchOf}
 use Rattle.search.specs.Refused.{Granted, TurnedWith, floor-refused, few-views, no-carrier}
 use Rattle.search.specs.Claims.{Claims}
-use Rattle.search.proofs.AnswerLaws.{answered-passed, answered-refused}
 use Rattle.search.proofs.RequestLaws.{request-granted, granted-request}
 
 -- A result shows what the checks said and what was answered.
-turned-says : (v : Verdict) (x : Answer) (k p : ℕ) → answeredIf v x ≡ turned k p → v ≡ refused k p
-unfolding answeredIf
+turned-says : (v : Verdict) (x : Answer) (k p : ℕ) → (v gives x) ≡ refusal k p → v ≡ refused k p
+unfolding _gives_
 turned-says passed x k p e = let z : _≡_ {A = ℕ} 0 1 = cc in absurd (omega arith)
 turned-says (refused n q) x k p e = cc
 
-answered-says : (v : Verdict) (x y : Answer) → answeredIf v x ≡ answered y → (v ≡ passed) × (x ≡ y)
-unfolding answeredIf
+answered-says : (v : Verdict) (x y : Answer) → (v gives x) ≡ answered y → (v ≡ passed) × (x ≡ y)
+unfolding _gives_
 answered-says passed x y e = (refl, cc)
 answered-says (refused n q) x y e = let z : _≡_ {A = ℕ} 0 1 = cc in absurd (omega arith)
 
@@ -70,7 +69,7 @@ module _ (f : Floor) (ws : List ℕ) (i : ℕ) (m : List ℕ) where
 
   answers : Granted f ws i m → searchOf f ws i m ≡ answered (best (taskOf f ws i) (viewsOf m i))
   unfolding searchOf
-  answers g = sym (answered-passed (best (taskOf f ws i) (viewsOf m i)) (granted-request f ws i m g))
+  answers g = gives-passed (granted-request f ws i m g)
 
   short : Granted f ws i m → taskOf f ws i .horizon ≤ 63
   unfolding taskOf
@@ -135,11 +134,11 @@ module _ (f : Floor) (ws : List ℕ) (i : ℕ) (m : List ℕ) where
       ∙ then-passed (demand-passes 9 0 (le-leb (65 * f .carriers) (length m) h))
       ∙ demand-refuses 7 0 (within-holds f i n)
 
-  turned-exactly : (k p : ℕ) → (searchOf f ws i m ≡ turned k p) ↔ TurnedWith f ws i m k p
+  turned-exactly : (k p : ℕ) → (searchOf f ws i m ≡ refusal k p) ↔ TurnedWith f ws i m k p
   unfolding searchOf
   turned-exactly k p = (
     λ e. refused-says k p (turned-says (requestOf f ws i m) (best (taskOf f ws i) (viewsOf m i)) k p e),
-    λ h. sym (answered-refused (best (taskOf f ws i) (viewsOf m i)) (refused-holds h)),
+    λ h. gives-refused _ (refused-holds h),
   )
 
 pub theorems : Claims

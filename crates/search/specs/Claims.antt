@@ -4,6 +4,7 @@ use Prim.Native.Nat.{ℕ}
 use mathlib.Core.List.{List}
 use mathlib.Core.Logic.{_↔_}
 use mathlib.Core.Path.{_≡_}
+use Rattle.laws.specs.Verdict.{refusal}
 use Rattle.floor.specs.declared.Floor.{Floor}
 use Rattle.route.specs.Route.{Answer, none, route}
 use Rattle.route.specs.Conflict.{ClearOf}
@@ -11,7 +12,7 @@ use Rattle.route.specs.Best.{IsRoute, Arrives, Admissible, Best}
 use Rattle.route.specs.Arrival.{arrivalOf}
 use Rattle.route.specs.Views.{viewsOf}
 use Rattle.search.specs.Task.{taskOf}
-use Rattle.search.specs.Answers.{answered, turned}
+use Rattle.search.specs.Answers.{answered}
 use Rattle.search.specs.Search.{searchOf}
 use Rattle.search.specs.Refused.{Granted, TurnedWith}
 
@@ -32,4 +33,4 @@ pub record Claims : Type 0 where
       (searchOf f ws i m ≡ answered none) ↔ ((q : List ℕ) → Admissible (taskOf f ws i) (viewsOf m i) q → ⊥)
   -- Each refusal comes exactly under the condition of its row.
   pub refuses-exactly : (f : Floor) (ws : List ℕ) (i : ℕ) (m : List ℕ) (k p : ℕ) →
-      (searchOf f ws i m ≡ turned k p) ↔ TurnedWith f ws i m k p
+      (searchOf f ws i m ≡ refusal k p) ↔ TurnedWith f ws i m k p

@@ -3,10 +3,10 @@ use Prim.Native.Nat.{ℕ, _*_}
 use mathlib.Core.List.{List}
 use lib.ListN.{length}
 use Rattle.floor.specs.declared.Floor.{Floor}
-use Rattle.laws.specs.Verdict.{Verdict, demand, _then_}
+use Rattle.laws.specs.Verdict.{Verdict, demand, _then_, Outcome, _gives_}
 use Rattle.floor.specs.Checks.{checkOf, roomOf, within}
+use Rattle.route.specs.Route.{Answer}
 use Rattle.route.specs.Search.{best}
-use Rattle.search.specs.Answers.{Result, answeredIf}
 use Rattle.search.specs.Task.{taskOf}
 use Rattle.route.specs.Views.{viewsOf}
 
@@ -16,5 +16,5 @@ requestOf f ws i m =
     checkOf f ws then roomOf (65 * f .carriers) (length m) then demand (within 1 (f .carriers) i) 7 0
 
 -- What a search for carrier i answers, from the floor, the walls and the views in memory m.
-unfoldable pub searchOf : Floor → List ℕ → ℕ → List ℕ → Result
-searchOf f ws i m = answeredIf (requestOf f ws i m) (best (taskOf f ws i) (viewsOf m i))
+unfoldable pub searchOf : Floor → List ℕ → ℕ → List ℕ → Outcome Answer
+searchOf f ws i m = requestOf f ws i m gives best (taskOf f ws i) (viewsOf m i)

@@ -21,11 +21,11 @@ ghost use lib.ListN.{length, replicate};
 ghost use mathlib.Core.Bool.{true};
 ghost use mathlib.Core.List.{List};
 ghost use Rattle.floor.specs.Answers.{verdictOf};
-ghost use Rattle.laws.specs.Verdict.{demand};
+ghost use Rattle.laws.specs.Verdict.{demand, refusal};
 ghost use Rattle.floor.specs.Checks.{within};
 ghost use Rattle.route.specs.Route.{none as Route·none, route as Route·route};
 ghost use Rattle.route.specs.Search.{best};
-ghost use Rattle.search.specs.Answers.{answered, turned, Says};
+ghost use Rattle.search.specs.Answers.{answered, Says};
 ghost use Rattle.search.specs.Along.{Along};
 ghost use Rattle.words.specs.Rows.{filled, Clean};
 ghost use Rattle.tables.specs.Table.{sceneOf, Fits, Tidy, inSet};
@@ -64,7 +64,7 @@ fn none() -> Found
 
 // A refusal.
 fn refused(x: Refusal) -> Found
-    ensures { λ r. ⌜ Says r (turned (x .number) (x .place)) ⌝ }
+    ensures { λ r. ⌜ Says r (refusal (x .number) (x .place)) ⌝ }
 {
     Found {
         outcome: Outcome::Refused(x),
