@@ -10,7 +10,7 @@ use Rattle.floor.specs.declared.Floor.{Floor}
 use Rattle.floor.specs.declared.Checked.{Checked}
 use Rattle.floor.specs.declared.Checked.the-variants.{Passed}
 use Rattle.floor.specs.Answers.{verdictOf}
-use Rattle.laws.specs.Verdict.{Verdict, passed, refused, Outcome, value, refusal, _thenAnswers_, whenPassed}
+use Rattle.laws.specs.Verdict.{passed, refused, Outcome, value, refusal, _thenAnswers_, whenPassed}
 use Rattle.floor.specs.Checks.{checkOf, roomOf}
 use Rattle.laws.proofs.VerdictLaws.{then-both, refused-by, then-passed, refused-not-passed, demand-passes, when-passed, gives-passed}
 use Rattle.floor.proofs.AnswersLaws.{passes}
