@@ -1,6 +1,7 @@
 -- The table of document 01's starred floors, computed from the definitions.
-use mathlib.Core.Path.{refl}
-use Rattle.laws.specs.Verdict.{_then_, demand, inTurn, demandEach, passes, _gives_, _thenAnswers_, whenPassed}
+use mathlib.Core.Path.{_≡_, refl, _∙_}
+use mathlib.Core.List.{[]}
+use Rattle.laws.specs.Verdict.{passed, refused, _then_, demand, inTurn, demandEach, passes, _gives_, _thenAnswers_, whenPassed}
 use Rattle.floor.specs.Checks.{within, limitsOf, roomOf, lentOf, startOf, goalOf, inGrid, carrierInGrid, carriersOf, wallsOf}
 use Rattle.floor.specs.Checks.{rises, risingOf, among, clearOfWalls, clearOf, unshared, distinctOf, placesOf, checkOf}
 use Rattle.route.specs.Route.{cellAt}
@@ -9,6 +10,14 @@ use Rattle.route.specs.Search.{cost, cheaper, cheapest, beatsFrom, val, walk, w
 use Rattle.route.specs.Sequential.{sequential}
 use Rattle.route.specs.Arrival.{settled, arrivalOf}
 use Rattle.search.specs.Task.{taskOf}
+use Rattle.fields.specs.Field.{column, fieldOf}
+use Rattle.fields.specs.Form.{fieldForm, lineForm}
+use Rattle.sheet.specs.Text.{lineOf, linesOf, headLine, carrierLine, wallLine, sheetOf}
+use Rattle.sheet.specs.Read.{formOf, sheetVerdict}
+use Rattle.printing.specs.Text.{answerLine, firstLine, noneWord, noneLine, routesText, refusalLine}
+use Rattle.printing.specs.Print.{printOf, routesOf}
+use Rattle.printing.proofs.Theorems.{theorems}
+use Rattle.planner.specs.Claims.{answerAt}
 use Rattle.planner.specs.Plan.{respondOf, planOf, failingFrom, failingOf}
 use Rattle.reference.specs.Ranges.{below, joined, each, update, updatePair}
 use Rattle.reference.specs.State.{fresh, views, tick}
@@ -19,10 +28,46 @@ use Rattle.reference.specs.Run.{run, tookFirst, skippedFirst}
 use Rattle.reference.specs.Ending.{anyLeft, endsAs, ending}
 use Rattle.reference.specs.Table.{isNamed, stepsOf, lentEnough, allNamed, openSingle, verdict}
 use Rattle.reference.specs.Calls.{reply, stateAfter, afterCall, replies, after}
+use Rattle.reference.specs.Quiet.{ceiling}
 use Rattle.layout.specs.Places.{pairsBefore, stateSize}
 use Rattle.layout.specs.Numbers.{deliveryOf, askedBy}
 use Rattle.layout.specs.Calls.{machineOf}
+use Rattle.demand.specs.Floors.{sides}
+use Rattle.demand.specs.Texts.{sheet2, routes2, routes3, refused11}
 use Rattle.demand.specs.Cases.{Cases}
+
+-- The texts: what a floor's plan prints, and what the empty sheet does.
+accepted-2 : checkOf (sides 4) [] ≡ passed
+unfolding checkOf limitsOf within lentOf roomOf placesOf carriersOf wallsOf risingOf clearOf distinctOf startOf goalOf inGrid
+    carrierInGrid rises among clearOfWalls unshared demand _then_ inTurn demandEach
+accepted-2 = refl
+
+sheet-2 : sheetOf (sides 4) [] ≡ sheet2
+unfolding sheetOf headLine lineOf linesOf carrierLine wallLine fieldOf column startOf goalOf
+sheet-2 = refl
+
+text-2 : printOf (sides 4) [] ≡ routes2
+unfolding printOf routesText firstLine answerLine answerAt failingOf failingFrom arrivalOf settled cellAt goalOf
+    lineOf linesOf fieldOf column planOf sequential respondOf taskOf startOf among
+    neighbours near vacant passable every standable allowed startClear cost cheaper cheapest beatsFrom val walk walkFrom best
+text-2 = refl
+
+printed-2 : routesOf sheet2 ≡ routes2
+printed-2 = rw (← sheet-2) (theorems .routes-of-sheet (sides 4) [] accepted-2 ∙ text-2)
+
+printed-3 : printOf (sides 3) [] ≡ routes3
+unfolding printOf routesText firstLine answerLine noneWord noneLine answerAt failingOf failingFrom arrivalOf settled cellAt goalOf
+    lineOf linesOf fieldOf column planOf sequential respondOf taskOf startOf among
+    neighbours near vacant passable every standable allowed startClear cost cheaper cheapest beatsFrom val walk walkFrom best
+printed-3 = refl
+
+refused-11 : sheetVerdict [] ≡ refused 1 0
+unfolding sheetVerdict formOf lineForm fieldForm demand _then_ inTurn
+refused-11 = refl
+
+printed-11 : routesOf [] ≡ refused11
+unfolding refusalLine lineOf fieldOf column
+printed-11 = theorems .routes-refused [] 1 0 refused-11
 
 pub cases : Cases
 unfolding
@@ -34,7 +79,7 @@ unfolding
     below joined each update updatePair fresh views tick isThere hasCapacity isEmpty waitsFor isOpen sameCells sameAnswer
     deliveriesFrom ranking noneOpen isSilent isNews send planAs oldest newer deliverTo effect counted afterStep stepAnswer
     run tookFirst skippedFirst anyLeft endsAs ending isNamed stepsOf lentEnough allNamed openSingle verdict
-    reply stateAfter afterCall replies after pairsBefore stateSize deliveryOf askedBy machineOf
+    reply stateAfter afterCall replies after ceiling pairsBefore stateSize deliveryOf askedBy machineOf
 cases =
     record {
       accepted-1 = refl;
@@ -45,9 +90,12 @@ cases =
       answers-2 = refl;
       arrivals-2 = (refl, refl);
       failing-2 = refl;
+      sheet-2 = sheet-2;
+      printed-2 = printed-2;
       accepted-3 = refl;
       answers-3 = refl;
       failing-3 = refl;
+      printed-3 = printed-3;
       replies-4 = refl;
       first-4 = refl;
       answers-4 = refl;
@@ -67,10 +115,25 @@ cases =
       accepted-10 = refl;
       horizon-10 = refl;
       carriers-10 = refl;
+      refused-11 = refused-11;
+      printed-11 = printed-11;
       reply-12 = refl;
       reply-named = refl;
       reply-short = refl;
       accepted-kept = refl;
       replies-kept = refl;
       reply-passed = refl;
+      accepted-deep = refl;
+      replies-deep = refl;
+      accepted-walled = refl;
+      answers-walled = refl;
+      most-1 = refl;
+      most-2 = refl;
+      most-3 = refl;
+      fresh-due = λ i. refl;
+      fresh-planned = λ i. refl;
+      fresh-answer = λ i. refl;
+      fresh-view = λ i j. refl;
+      fresh-channel = λ i j. refl;
+      fresh-taken = refl;
     }

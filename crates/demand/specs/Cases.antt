@@ -1,13 +1,16 @@
--- Document 01's starred floors ('Floors to try') as one table about the definitions, with floors 10 and 12 and cases of refusals 7 and 9.
--- Floor 11 is a sheet's.
-use mathlib.Core.Bool.{true}
+-- Document 01's starred floors ('Floors to try') as one table about the definitions, with floors 10 to 12 and cases beside them.
+use Prim.Native.Nat.{ℕ}
+use mathlib.Core.Bool.{true, false}
 use mathlib.Core.List.{[], _∷_}
 use mathlib.Core.Path.{_≡_}
 use Rattle.laws.specs.Verdict.{passed, refused, value, refusal}
 use Rattle.floor.specs.Checks.{checkOf}
-use Rattle.route.specs.Route.{none}
+use Rattle.route.specs.Route.{none, unheard}
 use Rattle.route.specs.Arrival.{arrivalOf}
+use Rattle.sheet.specs.Text.{sheetOf}
+use Rattle.sheet.specs.Read.{sheetVerdict}
 use Rattle.planner.specs.Plan.{planOf, failingOf}
+use Rattle.printing.specs.Print.{printOf, routesOf}
 use Rattle.reference.specs.Ranges.{below}
 use Rattle.reference.specs.State.{fresh}
 use Rattle.reference.specs.Take.{kept, sent, delivered}
@@ -15,8 +18,11 @@ use Rattle.reference.specs.Ranking.{isSilent}
 use Rattle.reference.specs.Ending.{silent, spent, ended}
 use Rattle.reference.specs.Table.{noStep, single, runOf}
 use Rattle.reference.specs.Calls.{stepped, ran, replies, after}
+use Rattle.reference.specs.Quiet.{ceiling}
 use Rattle.layout.specs.Calls.{machineOf}
-use Rattle.demand.specs.Floors.{padded, floorOf, cell, sides, two, rows, three, routeOf, answers2, singles, running, calls4, calls5}
+use Rattle.demand.specs.Floors.{padded, floorOf, cell, sides, two, rows, three, walled, routeOf, answers2}
+use Rattle.demand.specs.Floors.{singles, running, calls4, calls5, longest}
+use Rattle.demand.specs.Texts.{sheet2, routes2, routes3, refused11}
 
 pub record Cases : Type 0 where
   -- 1: one cell, one carrier; arrival 0.
@@ -29,10 +35,13 @@ pub record Cases : Type 0 where
   pub answers-2 : planOf (sides 4) [] ≡ answers2
   pub arrivals-2 : (arrivalOf 2 (padded 64 (0 ∷ 1 ∷ 2 ∷ 2 ∷ 2 ∷ [])) 4 ≡ 2) × (arrivalOf 0 (padded 64 (2 ∷ 5 ∷ 4 ∷ 1 ∷ 0 ∷ [])) 4 ≡ 4)
   pub failing-2 : failingOf (planOf (sides 4) []) ≡ 0
+  pub sheet-2 : sheetOf (sides 4) [] ≡ sheet2
+  pub printed-2 : routesOf sheet2 ≡ routes2
   -- 3: with horizon 3 carrier 2 has none and is the failing carrier.
   pub accepted-3 : checkOf (sides 3) [] ≡ passed
   pub answers-3 : planOf (sides 3) [] ≡ routeOf (0 ∷ 1 ∷ 2 ∷ 2 ∷ []) ∷ none ∷ []
   pub failing-3 : failingOf (planOf (sides 3) []) ≡ 2
+  pub printed-3 : printOf (sides 3) [] ≡ routes3
   -- 4: carrier 2 plans first, hears of carrier 1, and plans again; taken 4, silent.
   pub replies-4 : replies two fresh calls4 ≡
       value (stepped sent) ∷ value (stepped sent) ∷ value (stepped delivered) ∷ value (stepped sent) ∷ []
@@ -54,13 +63,16 @@ pub record Cases : Type 0 where
   -- 8: a run of an empty list: taken 0, ended.
   pub reply-8 : replies two fresh (running [] 0) ≡ value (ran 0 ended) ∷ []
   -- 9: three carriers, depth 1: the channel from carrier 2 to carrier 3 is full.
-  pub accepted-9 : checkOf three [] ≡ passed
-  pub replies-9 : replies (machineOf three []) fresh calls4 ≡
+  pub accepted-9 : checkOf (three 1) [] ≡ passed
+  pub replies-9 : replies (machineOf (three 1) []) fresh calls4 ≡
       value (stepped sent) ∷ value (stepped sent) ∷ value (stepped delivered) ∷ refusal 8 0 ∷ []
   -- 10: horizon 63 is accepted, 64 is not; nor are 0 carriers.
   pub accepted-10 : checkOf (sides 63) [] ≡ passed
   pub horizon-10 : checkOf (sides 64) [] ≡ refused 2 3
-  pub carriers-10 : checkOf (floorOf 3 2 4 [] []) [] ≡ refused 2 5
+  pub carriers-10 : checkOf (floorOf 3 2 4 1 0 [] []) [] ≡ refused 2 5
+  -- 11: an empty sheet: 1, offset 0.
+  pub refused-11 : sheetVerdict [] ≡ refused 1 0
+  pub printed-11 : routesOf [] ≡ refused11
   -- 12: a delivery from a carrier to itself is no step.
   pub reply-12 : replies two fresh (singles (222 ∷ [])) ≡ refusal 7 0 ∷ []
   -- 7 in a run has the place of its first bad step, also past the budget; 9 comes first.
@@ -73,3 +85,21 @@ pub record Cases : Type 0 where
       value (stepped sent) ∷ value (stepped sent) ∷ value (stepped delivered) ∷ value (stepped kept) ∷ []
   -- A run passes over what is not open, and stops at its budget.
   pub reply-passed : replies two fresh (running (212 ∷ 101 ∷ 101 ∷ 102 ∷ []) 1) ≡ value (ran 1 spent) ∷ []
+  -- With depth 2 the channel that is full in 9 has room for a second message.
+  pub accepted-deep : checkOf (three 2) [] ≡ passed
+  pub replies-deep : replies (machineOf (three 2) []) fresh calls4 ≡
+      value (stepped sent) ∷ value (stepped sent) ∷ value (stepped delivered) ∷ value (stepped sent) ∷ []
+  -- A wall in cell 1 is gone round.
+  pub accepted-walled : checkOf walled (1 ∷ []) ≡ passed
+  pub answers-walled : planOf walled (1 ∷ []) ≡ routeOf (0 ∷ 3 ∷ 4 ∷ 5 ∷ 2 ∷ []) ∷ []
+  -- The ceiling is reached, by one, two and three carriers.
+  pub most-1 : after (machineOf cell []) fresh (singles (101 ∷ [])) .taken ≡ ceiling 1
+  pub most-2 : after two fresh calls4 .taken ≡ ceiling 2
+  pub most-3 : after (machineOf (three 1) []) fresh longest .taken ≡ ceiling 3
+  -- The fresh state: all due, none planned, answers none, views not heard, channels empty, count 0.
+  pub fresh-due : (i : ℕ) → fresh .due i ≡ true
+  pub fresh-planned : (i : ℕ) → fresh .planned i ≡ false
+  pub fresh-answer : (i : ℕ) → fresh .answer i ≡ none
+  pub fresh-view : (i j : ℕ) → fresh .view i j ≡ unheard
+  pub fresh-channel : (i j : ℕ) → fresh .chan i j ≡ []
+  pub fresh-taken : fresh .taken ≡ 0

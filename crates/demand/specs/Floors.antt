@@ -1,4 +1,4 @@
--- The floors of document 01's cases ('Floors to try'), none with a wall, their calls and their routes.
+-- The floors of document 01's cases ('Floors to try'), their calls and their routes.
 use Prim.Native.Nat.{ℕ, _-_}
 use mathlib.Core.List.{List, [], _∷_, _++_, map}
 use lib.ListN.{length, replicate}
@@ -13,27 +13,27 @@ use Rattle.layout.specs.Calls.{machineOf}
 abbrev pub padded : ℕ → List ℕ → List ℕ
 padded k xs = xs ++ replicate (k - length xs) 0
 
--- A floor of width by height with channels of depth 1: its horizon, and the starts and goals of its carriers.
-abbrev pub floorOf : ℕ → ℕ → ℕ → List ℕ → List ℕ → Floor
-floorOf width height horizon starts goals =
+-- A floor of width by height: its horizon, the depth of its channels, how many walls, and the starts and goals of its carriers.
+abbrev pub floorOf : ℕ → ℕ → ℕ → ℕ → ℕ → List ℕ → List ℕ → Floor
+floorOf width height horizon depth walls starts goals =
     record {
       width = width;
       height = height;
       horizon = horizon;
-      depth = 1;
+      depth = depth;
       carriers = length starts;
-      walls = 0;
+      walls = walls;
       starts = padded 8 starts;
       goals = padded 8 goals;
     }
 
 -- One cell, one carrier.
 abbrev pub cell : Floor
-cell = floorOf 1 1 4 (0 ∷ []) (0 ∷ [])
+cell = floorOf 1 1 4 1 0 (0 ∷ []) (0 ∷ [])
 
 -- The floor of document 01's sheet, for a horizon: two carriers change sides.
 abbrev pub sides : ℕ → Floor
-sides horizon = floorOf 3 2 horizon (0 ∷ 2 ∷ []) (2 ∷ 0 ∷ [])
+sides horizon = floorOf 3 2 horizon 1 0 (0 ∷ 2 ∷ []) (2 ∷ 0 ∷ [])
 
 -- The reference machine of that sheet.
 abbrev pub two : Machine
@@ -41,11 +41,15 @@ two = machineOf (sides 4) []
 
 -- Two carriers that do not meet: each goes along a row of its own.
 abbrev pub rows : Floor
-rows = floorOf 3 2 4 (0 ∷ 3 ∷ []) (2 ∷ 5 ∷ [])
+rows = floorOf 3 2 4 1 0 (0 ∷ 3 ∷ []) (2 ∷ 5 ∷ [])
 
--- Three carriers.
-abbrev pub three : Floor
-three = floorOf 3 2 4 (0 ∷ 2 ∷ 3 ∷ []) (2 ∷ 0 ∷ 5 ∷ [])
+-- Three carriers, for a depth.
+abbrev pub three : ℕ → Floor
+three depth = floorOf 3 2 4 depth 0 (0 ∷ 2 ∷ 3 ∷ []) (2 ∷ 0 ∷ 5 ∷ [])
+
+-- One carrier beside one wall.
+abbrev pub walled : Floor
+walled = floorOf 3 2 4 1 1 (0 ∷ []) (2 ∷ [])
 
 -- A route by its first cells.
 abbrev pub routeOf : List ℕ → Answer
@@ -68,3 +72,7 @@ calls4 = singles (102 ∷ 101 ∷ 212 ∷ 102 ∷ [])
 
 abbrev pub calls5 : List Call
 calls5 = singles (101 ∷ 212 ∷ 102 ∷ [])
+
+-- The longest that three carriers can go on: each message of a carrier is heard before it plans again.
+abbrev pub longest : List Call
+longest = singles (103 ∷ 102 ∷ 223 ∷ 103 ∷ 101 ∷ 212 ∷ 102 ∷ 223 ∷ 103 ∷ 213 ∷ 103 ∷ [])

@@ -2,4 +2,5 @@
 pub mod Lists
 pub mod Demand
 pub mod Floors
+pub mod Texts
 pub mod Cases

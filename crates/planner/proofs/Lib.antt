@@ -11,4 +11,3 @@ pub mod SequentialLaws
 pub mod DependsLaws
 pub mod StoredLaws
 pub mod Theorems
-pub mod Cases

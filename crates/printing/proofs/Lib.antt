@@ -6,4 +6,3 @@ pub mod RecordLaws
 pub mod PrintLaws
 pub mod LinesLaws
 pub mod Theorems
-pub mod Cases
