@@ -1,5 +1,8 @@
 -- The lists of calls over the simulation, and the claim.
+pub mod RowLaws
 pub mod RefusalLaws
+pub mod EntryLaws
+pub mod Demand1
 pub mod LentLaws
 pub mod ListLaws
 pub mod CutLaws
