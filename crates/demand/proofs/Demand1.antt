@@ -16,7 +16,6 @@ use Rattle.laws.proofs.VerdictLaws.{then-both, then-assoc, when-passed, when-re
 use Rattle.floor.specs.declared.Floor.{Floor}
 use Rattle.floor.specs.Checks.{checkOf, limitsOf, roomOf, within}
 use Rattle.floor.proofs.LimitsLaws.{check-tells, room-passed}
-use Rattle.floor.proofs.Theorems.{theorems as floor-theorems}
 use Rattle.sheet.specs.Text.{sheetOf, sheetLength}
 use Rattle.sheet.specs.Values.{floorAt, wallsAt}
 use Rattle.sheet.specs.Read.{sheetVerdict, readVerdict, readWalls, writeVerdict, writeSheet}
@@ -49,7 +48,7 @@ use Rattle.machine.specs.Ceiling.{mostSteps}
 use Rattle.demand.specs.Rows.{Table, Row, row, Short, _orElse_, earlier, later, Refuses, Answers, Keeps}
 use Rattle.demand.specs.Demand1.{HoldsState, ReadRows, WriteRows, PlanRows, PrintRows, SearchRows, FreshRows, StateRows, CallRows}
 use Rattle.demand.specs.Demand1.{RoutesRows, Demand1}
-use Rattle.demand.proofs.RowLaws.{then-rows, answers-rows, gives-rows, demand-row, short-row, keeps-when, value-no-refusal, no-row-passes, refusal-row}
+use Rattle.demand.proofs.RowLaws.{then-rows, answers-rows, gives-rows, demand-row, short-row, keeps-when, value-no-refusal, no-row-passes, passes-exactly, refusal-row}
 use Rattle.demand.proofs.EntryLaws.{front-beyond, put-beyond, floor-rows, lent-rows, outside-row, limit-rows}
 use Rattle.demand.proofs.RefusalLaws.{reply-rows, state-kept}
 
@@ -216,7 +215,9 @@ unfolding figuresFor lengthsOf mostSteps
 theorem =
     record {
       check = floor-rows;
-      accepted = floor-theorems .passes-exactly;
+      accepted = λ f ws. passes-exactly (checkOf f ws) (floor-rows f ws);
+      sheet = sheet-theorems .refuses-exactly;
+      sheet-accepted = λ text. passes-exactly (sheetVerdict text) (sheet-theorems .refuses-exactly text);
       read = read;
       read-keeps = read-keeps;
       write = write;

@@ -2,8 +2,7 @@
 use Prim.Native.Nat.{ℕ, _+_, _*_, _-_, _≤_, _<_}
 use native.Mathlib.Omega.{arith}
 use native.Mathlib.Nat.{zero-add}
-use mathlib.Core.Bool.{true, false, and-eq-true-iff}
-use lib.Dec.{leb}
+use mathlib.Core.Bool.{true, false}
 use mathlib.Core.List.{List, _++_}
 use mathlib.Core.Logic.{_↔_, ⊎-elim}
 use mathlib.Core.Path.{_≡_, refl, sym, _∙_, ap}
@@ -19,19 +18,11 @@ use Rattle.floor.specs.declared.Floor.{Floor}
 use Rattle.floor.specs.Checks.{checkOf, limitsOf, roomOf, within}
 use Rattle.floor.specs.Accepted.{Within}
 use Rattle.floor.specs.Refused.{RefusedWith as RefusedFloor}
-use Rattle.floor.proofs.LimitsLaws.{field-means, limits-each, check-tells, room-passed}
+use Rattle.floor.proofs.LimitsLaws.{field-means, limits-each, check-tells, room-passed, within-means}
 use Rattle.floor.proofs.Theorems.{theorems as floor-theorems}
 use Rattle.demand.specs.Rows.{Table, Row, Short, _orElse_, Refuses, Answers, Keeps}
 use Rattle.demand.specs.Demand1.{OutsideLimit, outside}
 use Rattle.demand.proofs.RowLaws.{then-rows, demand-row, short-row}
-
--- TEMPORARY COPY
-within-means : (low high v : ℕ) → (within low high v ≡ true) ↔ Within low high v
-unfolding within
-within-means low high v = (
-  λ h. let b = and-eq-true-iff (leb low v) (leb v high) .0 h in (leb-true low v (b .0), leb-true v high (b .1)),
-  λ h. rw (le-leb low v (h .0), le-leb v high (h .1)),
-)
 
 -- Memory behind a block in its front is as it was.
 pub front-beyond : (old b : List ℕ) (needed : ℕ) → length b ≤ needed → drop needed (b ++ drop (length b) old) ≡ drop needed old

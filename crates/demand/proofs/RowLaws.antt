@@ -29,6 +29,9 @@ no-row-passes (refused a b) t n = absurd (n a b (t a b .0 refl))
 pub passes-no-row : {R : Table} {v : Verdict} → Refuses v R → v ≡ passed → (a b : ℕ) → R a b → ⊥
 passes-no-row t e a b r = refused-not-passed (sym (t a b .1 r) ∙ e)
 
+pub passes-exactly : {R : Table} (v : Verdict) → Refuses v R → (v ≡ passed) ↔ ((a b : ℕ) → R a b → ⊥)
+passes-exactly v t = (passes-no-row t, no-row-passes v t)
+
 -- One check after another; the second needs to be looked at only where the first passes.
 pub then-rows : {R S : Table} (v w : Verdict) → Refuses v R → (v ≡ passed → Refuses w S) → Refuses (v then w) (R orElse S)
 then-rows {R} {S} v w t u k p = (

@@ -8,10 +8,10 @@ use lib.ListN.{length, take}
 use Rattle.laws.specs.Verdict.{First, passed, value}
 use Rattle.floor.specs.declared.Floor.{Floor}
 use Rattle.floor.specs.Checks.{checkOf}
-use Rattle.floor.specs.Accepted.{FieldWithin, Within, Accepted}
+use Rattle.floor.specs.Accepted.{FieldWithin, Within}
 use Rattle.floor.specs.Refused.{RefusedWith as RefusedFloor}
 use Rattle.sheet.specs.Values.{floorAt}
-use Rattle.sheet.specs.Read.{readVerdict, readWalls, writeVerdict, writeSheet}
+use Rattle.sheet.specs.Read.{sheetVerdict, readVerdict, readWalls, writeVerdict, writeSheet}
 use Rattle.sheet.specs.Refused.{RefusedSheet}
 use Rattle.search.specs.Search.{searchOf}
 use Rattle.planner.specs.Answers.{planResult}
@@ -68,7 +68,10 @@ RoutesRows text bytes k p = (bytes < neededFor text) × (RefusedSheet text orEls
 pub record Demand1 : Type 0 where
   -- A floor as a record; an accepted one is what no row refuses.
   pub check : (f : Floor) (ws : List ℕ) → Refuses (checkOf f ws) (RefusedFloor f ws)
-  pub accepted : (f : Floor) (ws : List ℕ) → (checkOf f ws ≡ passed) ↔ Accepted f ws
+  pub accepted : (f : Floor) (ws : List ℕ) → (checkOf f ws ≡ passed) ↔ ((k p : ℕ) → RefusedFloor f ws k p → ⊥)
+  -- A sheet, likewise.
+  pub sheet : (text : List ℕ) → Refuses (sheetVerdict text) (RefusedSheet text)
+  pub sheet-accepted : (text : List ℕ) → (sheetVerdict text ≡ passed) ↔ ((k p : ℕ) → RefusedSheet text k p → ⊥)
   -- Reading a sheet, and writing one.
   pub read : (text : List ℕ) (room : ℕ) → Refuses (readVerdict text room) (ReadRows text room)
   pub read-keeps : (text old : List ℕ) → Keeps (ReadRows text (length old)) (lengthsOf (floorAt text) .walls) old (readWalls text old)

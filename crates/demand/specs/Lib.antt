@@ -2,6 +2,7 @@
 pub mod Lists
 pub mod Rows
 pub mod Demand1
+pub mod Demand2
 pub mod Demand3
 pub mod Floors
 pub mod Texts

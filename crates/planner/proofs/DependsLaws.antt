@@ -35,7 +35,7 @@ module _ (k : ℕ) (f : Floor) (ws : List ℕ) (g : Floor) (vs : List ℕ) (agre
   free-same : _≡_ {A = ℕ → Bool} (λ c. not (among ws (f .walls) c)) (λ c. not (among vs (g .walls) c))
   free-same = fun-ext (λ c. rw (among-same ws vs (f .walls) c (agree .cells), agree .walls))
 
-  task-same : (i : ℕ) → i < k → taskOf f ws (i + 1) ≡ taskOf g vs (i + 1)
+  pub task-same : (i : ℕ) → i < k → taskOf f ws (i + 1) ≡ taskOf g vs (i + 1)
   unfolding taskOf
   task-same i l =
       let one : i + 1 - 1 ≡ i = omega arith in

@@ -29,7 +29,7 @@ use Rattle.printing.proofs.LinesLaws.{line-at, text-within}
 
 -- Records that are the same floor have the same printed routes.
 module _ (f : Floor) (ws : List ℕ) (g : Floor) (vs : List ℕ) (same : SameFloor f ws g vs) where
-  plans-same : planOf f ws ≡ planOf g vs
+  pub plans-same : planOf f ws ≡ planOf g vs
   plans-same =
       let n = f .carriers in
       sym (take-all n (planOf f ws) (omega (arith, planner-theorems .answers-all f ws)))
@@ -59,7 +59,7 @@ module _ (f : Floor) (ws : List ℕ) (g : Floor) (vs : List ℕ) (same : SameFlo
         same .carriers,
       )
 
-  print-same : printOf f ws ≡ printOf g vs
+  pub print-same : printOf f ws ≡ printOf g vs
   unfolding printOf
   print-same = text-same (planOf f ws) ∙ ap (routesText g) plans-same
 
