@@ -10,6 +10,7 @@ mod desk;
 mod drawn;
 mod draws;
 mod orders;
+mod pairs;
 mod play;
 mod routes;
 mod sheets;

@@ -2,6 +2,7 @@
 use crate::answers;
 use crate::calls;
 use crate::desk;
+use crate::pairs;
 use script::look;
 use script::look::both;
 use script::show;
@@ -112,8 +113,8 @@ pub fn second_says(desk: &[u16], m: &[u16], from: usize, stride: usize) -> bool 
     answers_are(m, from, stride, look::wide_at(desk, 4), &other)
 }
 
-// An order that came to silence after so many steps. What must be: the answers are both planners', the taken count in memory is the
-// number of steps that were answered as taken, that number is at most the ceiling, and the state is at rest.
+// An order that came to silence after so many steps. What must be: the answers are both planners', no two of them in conflict, the taken
+// count in memory is the number of steps that were answered as taken, that number is at most the ceiling, and the state is at rest.
 fn judged(t: Tally, desk: &[u16], m: &[u16], taken: usize) -> Tally {
     let n = look::wide_at(desk, 4);
     let most = answers::number(calls::ceiling(n));
@@ -124,7 +125,8 @@ fn judged(t: Tally, desk: &[u16], m: &[u16], taken: usize) -> Tally {
         answers_are(m, 4, 67, n, &planned),
         second_says(desk, m, 4, 67),
     );
-    let right = both(both(as_planned, counted), at_rest(m, n));
+    let free = pairs::are_free(desk, &planned);
+    let right = both(both(as_planned, free), both(counted, at_rest(m, n)));
     Tally {
         orders: look::count(t.orders, true),
         right: look::count(t.right, right),

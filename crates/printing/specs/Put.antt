@@ -1,5 +1,5 @@
 -- What the printing functions put into a buffer, from the answers as they lie in memory. Only contracts cite this file.
-use Prim.Native.Nat.{ℕ, _+_, _*_, _≤_}
+use Prim.Native.Nat.{ℕ, _+_, _*_, _≤_, min}
 use mathlib.Core.Bool.{cond}
 use mathlib.Core.Path.{_≡_}
 use mathlib.Core.List.{List, _++_}
@@ -61,6 +61,6 @@ pub record TextOrShort (text : List ℕ) (needed k p : ℕ) (old new : List ℕ)
 unfoldable pub FloorPut : Floor → List ℕ → List ℕ → List ℕ → Outcome ℕ → Type 0
 FloorPut f walls old new o = TextOrShort (printOf f (take (f .walls) walls)) (textLength f) 9 0 old new o
 
--- The same for the line of a refused sheet.
+-- The same for the line of a refused sheet, a place over 65,535 printed as that.
 unfoldable pub RefusalPut : ℕ → ℕ → List ℕ → List ℕ → Outcome ℕ → Type 0
-RefusalPut k p old new o = TextOrShort (refusalLine k p) 16 k p old new o
+RefusalPut k p old new o = TextOrShort (refusalLine k (min p 65535)) 16 k p old new o

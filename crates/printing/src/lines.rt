@@ -8,7 +8,6 @@ ghost use Rattle.sheet.specs.Text.{lineOf};
 ghost use Rattle.printing.specs.Text.{fieldsOf, noneWord, noneLine, firstLine, refusalLine};
 ghost use Rattle.printing.specs.Put.{textIn, TextPut, LinePut, LinesPut, Printable};
 use floor::Floor;
-use floor::Refusal;
 use route::Route;
 
 // The first n cells of a route, a field each.
@@ -140,14 +139,14 @@ pub fn put_routes(f: Floor, failing: u16, answers: &[u16], out: &mut [u8]) -> us
     put_answers(f, answers, out)
 }
 
-// The line of a refused sheet; its length is returned.
-pub fn put_refusal(x: Refusal, out: &mut [u8]) -> usize
-    requires { ⌜ (x .place ≤ 65535) × (16 ≤ length (now out)) ⌝ }
-    ensures { λ r. ⌜ TextPut (refusalLine (x .number) (x .place)) (now (out .entry)) (now (out .exit)) r ⌝ }
+// The line of a refusal, its number and its place; its length is returned.
+pub fn put_refusal(number: u16, place: u16, out: &mut [u8]) -> usize
+    requires { ⌜ 16 ≤ length (now out) ⌝ }
+    ensures { λ r. ⌜ TextPut (refusalLine number place) (now (out .entry)) (now (out .exit)) r ⌝ }
 {
     fields::put_field(out, 0, 0);
-    fields::put_field(out, 5, x.number);
-    fields::put_field(out, 10, x.place as u16);
+    fields::put_field(out, 5, number);
+    fields::put_field(out, 10, place);
     out[15] = 10;
     16
 }
