@@ -11,7 +11,7 @@ use Rattle.laws.proofs.VerdictLaws.{then-passed, then-both, demand-passes, when
 use Rattle.floor.specs.declared.Floor.{Floor}
 use Rattle.floor.specs.Checks.{checkOf, roomOf}
 use Rattle.floor.specs.Accepted.{SameFloor}
-use Rattle.floor.proofs.SameLaws.{check-same}
+use Rattle.floor.proofs.SameLaws.{walls-agree, check-same}
 use Rattle.sheet.specs.Text.{sheetOf, sheetLength}
 use Rattle.sheet.specs.Values.{floorAt, wallsAt}
 use Rattle.sheet.specs.Read.{sheetVerdict, readVerdict, readFloor, readWalls, writeVerdict, writeSheet}
@@ -61,20 +61,6 @@ floor-returns f ws old lent ok l w =
     rw (front, read)
     (more-walls f ws (floorAt text) (wallsAt text) (drop (floorAt text .walls) lent) same (omega (arith, same .walls, walls-length text)))
 
-itself : (f : Floor) (ws : List ℕ) → SameFloor f ws f ws
-itself f ws =
-    record {
-      width = refl;
-      height = refl;
-      horizon = refl;
-      depth = refl;
-      carriers = refl;
-      walls = refl;
-      starts = λ i h. refl;
-      goals = λ i h. refl;
-      cells = λ i h. refl;
-    }
-
 -- A sheet that is accepted, written from what was read of it.
 written-again : (text rest old : List ℕ) → sheetVerdict text ≡ passed → length text ≤ length old
     → take (length text) (writeSheet (floorAt text) (wallsAt text ++ rest) old) ≡ text
@@ -82,7 +68,7 @@ written-again text rest old ok l =
     let g = floorAt text in
     let ws = wallsAt text in
     let long : g .walls ≤ length ws = omega (arith, walls-length text) in
-    let same = more-walls g ws g ws rest (itself g ws) long in
+    let same = walls-agree g ws (ws ++ rest) (λ j h. sym (List·getD-append ws rest 0 j (omega arith))) in
     let back : sheetOf g ws ≡ text = sheet-theorems .sheet-returns text ok in
     let size : sheetLength g ≡ length text = sym (sheet-theorems .sheet-length g ws) ∙ ap length back in
     let checked : checkOf g (ws ++ rest) ≡ passed =

@@ -5,7 +5,8 @@ use mathlib.Core.Bool.{Bool}
 use mathlib.Core.List.{List, _++_}
 use mathlib.Core.Path.{_≡_, refl, sym, _∙_, ap, ap₂}
 use lib.ListN.{length, getD}
-use Rattle.laws.specs.Verdict.{Verdict, passed, refused, value, _gives_, Outcome}
+use Rattle.laws.specs.Verdict.{Verdict, passed, _gives_}
+use Rattle.laws.proofs.VerdictLaws.{gives-same}
 use Rattle.floor.specs.declared.Floor.{Floor}
 use Rattle.floor.specs.Checks.{checkOf, limitsOf, roomOf, startOf, goalOf}
 use Rattle.floor.specs.Accepted.{Lent, SameFloor}
@@ -22,8 +23,7 @@ use Rattle.route.specs.Views.{viewsOf}
 use Rattle.planner.specs.Plan.{respondOf, planOf, planVerdict}
 use Rattle.planner.specs.Answers.{planResult}
 use Rattle.planner.specs.Records.{planMemory}
-use Rattle.planner.specs.Claims.{AgreeUpTo}
-use Rattle.planner.proofs.DependsLaws.{task-same}
+use Rattle.planner.proofs.DependsLaws.{same-agrees, task-same}
 use Rattle.printing.specs.Print.{printOf, textLength, printVerdict, printOutcome, printAnswers, printMemory}
 use Rattle.printing.proofs.Theorems.{plans-same, print-same}
 use Rattle.lengths.specs.Figures.{figuresFor, lengthsOf}
@@ -35,12 +35,6 @@ use Rattle.layout.specs.Places.{stateSize}
 use Rattle.layout.specs.Valid.{recordValid, carrierValid, placeValid, channelValid, pairValid, valid}
 use Rattle.layout.specs.Calls.{machineOf, placeVerdict, stateVerdict, stateIn, withState, freshMemory, replyTo, memoryAfter}
 use Rattle.demand.specs.Demand2.{SameAnswers}
-
--- The same value under the same verdict, where it matters.
-gives-same : {A : Type 0} (v : Verdict) (a b : A) → (v ≡ passed → a ≡ b) → _≡_ {A = Outcome A} (v gives a) (v gives b)
-unfolding _gives_
-gives-same passed a b h = ap value (h refl)
-gives-same (refused k p) a b h = refl
 
 module _ (f : Floor) (ws : List ℕ) (g : Floor) (vs : List ℕ) (same : SameFloor f ws g vs) where
   pub length-same : sheetLength f ≡ sheetLength g
@@ -66,20 +60,8 @@ module _ (f : Floor) (ws : List ℕ) (g : Floor) (vs : List ℕ) (same : SameFlo
           ∙ ap (λ (n : ℕ). linesOf (λ j. wallLine (g .width) (getD vs j 0)) n) (same .walls)
 
   -- The task of a carrier that is there is the same.
-  agree : AgreeUpTo (f .carriers) f ws g vs
-  agree =
-      record {
-        width = same .width;
-        height = same .height;
-        horizon = same .horizon;
-        walls = same .walls;
-        cells = same .cells;
-        starts = same .starts;
-        goals = same .goals;
-      }
-
   tasks-same : (i : ℕ) → i < f .carriers → taskOf f ws (i + 1) ≡ taskOf g vs (i + 1)
-  tasks-same = task-same (f .carriers) f ws g vs agree
+  tasks-same = task-same (f .carriers) f ws g vs (same-agrees f ws g vs same)
 
   respond-same : (i : ℕ) (views : List View) → i < f .carriers → respondOf f ws i views ≡ respondOf g vs i views
   unfolding respondOf

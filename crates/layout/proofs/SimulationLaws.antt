@@ -11,7 +11,7 @@ use lib.ListN.{length, take, drop, take-append-drop, length-append}
 use borrow.Author.Tests.{le-leb}
 use Rattle.laws.specs.Verdict.{Verdict, passed, refused, Outcome, value, _then_, demand, _gives_, _thenAnswers_, whenPassed}
 use Rattle.laws.specs.Memory.{put}
-use Rattle.laws.proofs.VerdictLaws.{then-passed, then-both, demand-holds, demand-passes, answers-passed, when-passed}
+use Rattle.laws.proofs.VerdictLaws.{then-passed, then-both, demand-holds, demand-passes, answers-passed, gives-same, when-passed}
 use Rattle.floor.specs.declared.Floor.{Floor}
 use Rattle.floor.specs.Checks.{checkOf, roomOf}
 use Rattle.floor.proofs.LimitsLaws.{room-passed}
@@ -45,12 +45,6 @@ use Rattle.layout.proofs.FloorLaws.{depth-few, horizon-short, respond-s
 
 ran-both : {t u : ℕ} {x y : Ending} → t ≡ u → x ≡ y → ran t x ≡ ran u y
 ran-both e h = rw (e, h)
-
--- The same answer under the same verdict, where it matters.
-gives-same : (v : Verdict) (a b : Told) → (v ≡ passed → a ≡ b) → _≡_ {A = Outcome Told} (v gives a) (v gives b)
-unfolding _gives_
-gives-same passed a b h = ap value (h refl)
-gives-same (refused k p) a b h = refl
 
 module _ (f : Floor) (ws : List ℕ) (ok : checkOf f ws ≡ passed) where
   abbrev M : Machine

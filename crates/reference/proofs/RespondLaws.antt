@@ -5,8 +5,8 @@ use mathlib.Core.List.{List, [], _∷_}
 use mathlib.Core.Logic.{_⊎_, inl, inr}
 use mathlib.Core.Path.{_≡_, refl, sym, _∙_, ap}
 use lib.ListN.{length, getD}
-use Rattle.laws.specs.Verdict.{Verdict, passed, refused, value, _gives_, whenPassed}
-use Rattle.laws.proofs.VerdictLaws.{demand-same}
+use Rattle.laws.specs.Verdict.{Verdict, passed, _gives_, whenPassed}
+use Rattle.laws.proofs.VerdictLaws.{demand-same, gives-same, when-same}
 use Rattle.route.specs.Route.{Answer, View}
 use Rattle.reference.specs.State.{Machine, State, views}
 use Rattle.reference.specs.Step.{Step, plan, deliver, isThere, hasCapacity, waitsFor, isOpen}
@@ -15,22 +15,11 @@ use Rattle.reference.specs.Take.{effect, afterStep, stepAnswer}
 use Rattle.reference.specs.Run.{RunResult, run, tookFirst, skippedFirst}
 use Rattle.reference.specs.Ending.{ending}
 use Rattle.reference.specs.Table.{Asked, step, noStep, isNamed, stepsOf, Call, single, runOf, lentEnough, allNamed, openSingle, verdict}
-use Rattle.reference.specs.Calls.{Told, stepped, Reply, reply, stateAfter, afterCall}
+use Rattle.reference.specs.Calls.{stepped, reply, stateAfter, afterCall}
 use Rattle.reference.proofs.OpenLaws.{plan-within}
 use Rattle.reference.proofs.RunLaws.{run-took, run-skipped}
 use Rattle.reference.proofs.TableLaws.{single-open}
 use Rattle.laws.proofs.Tests.{true-or-false}
-
--- The same under the same verdict, where it matters.
-when-same : (v : Verdict) (a b old : State) → (v ≡ passed → a ≡ b) → whenPassed v a old ≡ whenPassed v b old
-unfolding whenPassed
-when-same passed a b old h = h refl
-when-same (refused k p) a b old h = refl
-
-gives-same : (v : Verdict) (a b : Told) → (v ≡ passed → a ≡ b) → _≡_ {A = Reply} (v gives a) (v gives b)
-unfolding _gives_
-gives-same passed a b h = ap value (h refl)
-gives-same (refused k p) a b h = refl
 
 module _ (n d k : ℕ) (p q : ℕ → List View → Answer) (agree : (i : ℕ) (vs : List View) → i < n → p i vs ≡ q i vs) where
   abbrev M : Machine
