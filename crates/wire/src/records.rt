@@ -72,3 +72,15 @@ pub fn store(out: &mut [u16], f: Floor)
     put_cells(out, 6, starts);
     put_cells(out, 14, goals);
 }
+
+// Puts figures in front.
+pub fn copy_figures(out: &mut [u64], xs: &[u64])
+    requires { ⌜ length (now xs) ≤ length (now out) ⌝ }
+    ensures { λ r. ⌜ now (out .exit) ≡ put (now (out .entry)) 0 (now (xs .entry)) ⌝ }
+{
+    let mut t: usize = 0;
+    while t < xs.len() {
+        out[t] = xs[t];
+        t += 1;
+    }
+}

@@ -1,13 +1,12 @@
 -- `kalomivund::answers::of_ceiling` meets its contract: case by case.
-use Rattle.wire.specs.Word.{wordOf}
+use Rattle.wire.specs.Word.{wordOf, ofNumber, mapOutcome}
 use Rattle.machine.specs.Ceiling.{figureOf}
-use Rattle.kalomivund.specs.Answers.{ofFigure}
 use borrow.Author.Needs.{needs}
 use Rattle.kalomivund.proofs.answers.of_ceiling.Statement.{statement}
 use Rattle.kalomivund.proofs.answers.of_ceiling.Tie as tie
 
 pub of-ceiling-spec : {M : Type 1} → statement M
-unfolding ofFigure figureOf wordOf
+unfolding ofNumber mapOutcome figureOf wordOf
 of-ceiling-spec =
     tie.close (tie.spec (λ c. search needs) (λ c κs. search needs) (λ c. search needs) (λ c κs. search needs) (λ c. cc)
     (λ c. cc))

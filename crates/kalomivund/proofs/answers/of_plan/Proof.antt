@@ -1,13 +1,12 @@
 -- `kalomivund::answers::of_plan` meets its contract: case by case.
-use Rattle.wire.specs.Word.{wordOf}
+use Rattle.wire.specs.Word.{wordOf, ofNumber, mapOutcome}
 use Rattle.planner.specs.Answers.{resultOf}
-use Rattle.kalomivund.specs.Answers.{ofPlan}
 use borrow.Author.Needs.{needs}
 use Rattle.kalomivund.proofs.answers.of_plan.Statement.{statement}
 use Rattle.kalomivund.proofs.answers.of_plan.Tie as tie
 
 pub of-plan-spec : {M : Type 1} → statement M
-unfolding ofPlan resultOf wordOf
+unfolding ofNumber mapOutcome resultOf wordOf
 of-plan-spec =
     tie.close (tie.spec (λ c. search needs) (λ c κs. search needs) (λ c. search needs) (λ c κs. search needs) (λ c. cc)
     (λ c. cc))

@@ -1,13 +1,12 @@
 -- `kalomivund::answers::of_print` meets its contract: case by case.
-use Rattle.wire.specs.Word.{wordOf}
+use Rattle.wire.specs.Word.{wordOf, ofNumber, mapOutcome}
 use Rattle.printing.specs.Print.{outcomeOf}
-use Rattle.kalomivund.specs.Answers.{ofPrinted}
 use borrow.Author.Needs.{needs}
 use Rattle.kalomivund.proofs.answers.of_print.Statement.{statement}
 use Rattle.kalomivund.proofs.answers.of_print.Tie as tie
 
 pub of-print-spec : {M : Type 1} → statement M
-unfolding ofPrinted outcomeOf wordOf
+unfolding ofNumber mapOutcome outcomeOf wordOf
 of-print-spec =
     tie.close (tie.spec (λ c. search needs) (λ c κs. search needs) (λ c. search needs) (λ c κs. search needs) (λ c. cc)
     (λ c. cc))

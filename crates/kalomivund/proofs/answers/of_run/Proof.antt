@@ -1,13 +1,13 @@
 -- `kalomivund::answers::of_run` meets its contract: case by case.
-use Rattle.wire.specs.Word.{wordOf}
+use Rattle.wire.specs.Word.{wordOf, mapOutcome}
 use Rattle.machine.specs.Answers.{ranReply}
-use Rattle.kalomivund.specs.Answers.{ofReply, endCase}
+use Rattle.kalomivund.specs.Answers.{ofReply, toldDone, endCase}
 use borrow.Author.Needs.{needs}
 use Rattle.kalomivund.proofs.answers.of_run.Statement.{statement}
 use Rattle.kalomivund.proofs.answers.of_run.Tie as tie
 
 pub of-run-spec : {M : Type 1} → statement M
-unfolding ofReply endCase ranReply wordOf
+unfolding ofReply mapOutcome toldDone endCase ranReply wordOf
 of-run-spec =
     tie.close (tie.spec (λ c. search needs) (λ c κs. search needs) (λ c. search needs) (λ c κs. search needs)
     (λ c. search needs) (λ c κs. search needs) (λ c. search needs) (λ c κs. search needs) (λ c. cc) (λ c. cc) (λ c. cc)

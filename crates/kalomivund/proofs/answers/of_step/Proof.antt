@@ -1,13 +1,13 @@
 -- `kalomivund::answers::of_step` meets its contract: case by case.
-use Rattle.wire.specs.Word.{wordOf}
+use Rattle.wire.specs.Word.{wordOf, mapOutcome}
 use Rattle.machine.specs.Answers.{steppedReply}
-use Rattle.kalomivund.specs.Answers.{ofReply, stepCase}
+use Rattle.kalomivund.specs.Answers.{ofReply, toldDone, stepCase}
 use borrow.Author.Needs.{needs}
 use Rattle.kalomivund.proofs.answers.of_step.Statement.{statement}
 use Rattle.kalomivund.proofs.answers.of_step.Tie as tie
 
 pub of-step-spec : {M : Type 1} → statement M
-unfolding ofReply stepCase steppedReply wordOf
+unfolding ofReply mapOutcome toldDone stepCase steppedReply wordOf
 of-step-spec =
     tie.close (tie.spec (λ c. search needs) (λ c κs. search needs) (λ c. search needs) (λ c κs. search needs)
     (λ c. search needs) (λ c κs. search needs) (λ c. search needs) (λ c κs. search needs) (λ c. cc) (λ c. cc) (λ c. cc)
