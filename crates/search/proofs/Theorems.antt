@@ -22,7 +22,7 @@ use Rattle.route.specs.Arrival.{arrivalOf}
 use Rattle.route.specs.Search.{best}
 use Rattle.laws.proofs.Tests.{and-both, and-fst, and-snd, not-true-is-false}
 use Rattle.route.proofs.Theorems.{theorems as route-theorems}
-use Rattle.route.specs.Views.{viewsOf}
+use Rattle.records.specs.Records.{viewsOf}
 use Rattle.search.specs.Task.{taskOf}
 use Rattle.search.specs.Answers.{answered}
 use Rattle.search.specs.Search.{requestOf, searchOf}
