@@ -14,7 +14,7 @@ use Rattle.layout.specs.Numbers.{askedBy}
 use Rattle.layout.specs.Calls.{machineOf, stateVerdict, singleCall, runCall}
 use Rattle.layout.specs.InnerSteps.{silentIn, afterIn, saidIn}
 use Rattle.layout.specs.InnerRuns.{runIn}
-use Rattle.layout.specs.InnerCalls.{singleVerdictIn, verdictIn, replyIn, takenIn, memoryIn}
+use Rattle.layout.specs.InnerCalls.{singleVerdictIn, verdictIn, replyIn, grantedMemory, memoryIn}
 use Rattle.machine.specs.declared.Stepped.{Stepped}
 use Rattle.machine.specs.Answers.{steppedReply}
 use Rattle.machine.specs.Inner.{bare, Took, Tallied, endsWith}
@@ -31,7 +31,7 @@ module _ (f : Floor) (ws m : List ℕ) (sound : stateVerdict f ws m ≡ passed) 
   pub step-unnamed : (x : ℕ) → noStep ≡ askedBy x →
       (_≡_ {A = Outcome Told} (refusal 7 0) (replyIn (machineOf f ws) m (singleCall m x))) ×
       (m ≡ memoryIn (machineOf f ws) m (singleCall m x))
-  unfolding singleCall replyIn memoryIn takenIn verdictIn singleVerdictIn
+  unfolding singleCall replyIn memoryIn grantedMemory verdictIn singleVerdictIn
   step-unnamed x e = (
     rw (← e) (sym (answers-passed lent)),
     rw (← e) (sym (when-refused m (then-passed lent))),
@@ -42,7 +42,7 @@ module _ (f : Floor) (ws m : List ℕ) (sound : stateVerdict f ws m ≡ passed) 
     pub step-refused : (k p : ℕ) → singleVerdictIn (bare f) m (step y) ≡ refused k p →
         (_≡_ {A = Outcome Told} (refusal k p) (replyIn (machineOf f ws) m (singleCall m x))) ×
         (m ≡ memoryIn (machineOf f ws) m (singleCall m x))
-    unfolding singleCall replyIn memoryIn takenIn verdictIn
+    unfolding singleCall replyIn memoryIn grantedMemory verdictIn
     step-refused k p h =
         let v = then-passed lent ∙ sym (single-of f ws m (step y)) ∙ h in (
           rw (← e) (sym (gives-refused (stepped (saidIn (machineOf f ws) m y)) v)),
@@ -52,7 +52,7 @@ module _ (f : Floor) (ws m : List ℕ) (sound : stateVerdict f ws m ≡ passed) 
     -- A single step that is taken.
     pub step-taken : (r : Stepped) (m′ : List ℕ) → singleVerdictIn (bare f) m (step y) ≡ passed → Took (machineOf f ws) m y r m′ →
         (steppedReply r ≡ replyIn (machineOf f ws) m (singleCall m x)) × (m′ ≡ memoryIn (machineOf f ws) m (singleCall m x))
-    unfolding singleCall replyIn memoryIn takenIn verdictIn
+    unfolding singleCall replyIn memoryIn grantedMemory verdictIn
     step-taken r m′ h t =
         let v = then-passed lent ∙ sym (single-of f ws m (step y)) ∙ h in (
           t .answers ∙ rw (← e) (sym (gives-passed v)),
@@ -64,7 +64,7 @@ module _ (f : Floor) (ws m : List ℕ) (sound : stateVerdict f ws m ≡ passed) 
     pub run-refused : {k p : ℕ} → refused k p ≡ allNamed (machineOf f ws) (map askedBy xs) →
         (_≡_ {A = Outcome Told} (refusal k p) (replyIn (machineOf f ws) m (runCall m xs b))) ×
         (m ≡ memoryIn (machineOf f ws) m (runCall m xs b))
-    unfolding runCall replyIn memoryIn takenIn verdictIn
+    unfolding runCall replyIn memoryIn grantedMemory verdictIn
     run-refused h =
         let v = then-passed lent ∙ sym h in (
           sym (gives-refused _ v),
@@ -77,7 +77,7 @@ module _ (f : Floor) (ws m : List ℕ) (sound : stateVerdict f ws m ≡ passed) 
         (_≡_ {A = Outcome Told} (value (ran taken (endsWith (silentIn (bare f) m′) taken b read (length xs))))
         (replyIn (machineOf f ws) m (runCall m xs b))) ×
         (m′ ≡ memoryIn (machineOf f ws) m (runCall m xs b))
-    unfolding runCall replyIn memoryIn takenIn verdictIn
+    unfolding runCall replyIn memoryIn grantedMemory verdictIn
     run-taken taken read m′ h t =
         let v = then-passed lent ∙ sym h in
         let M = machineOf f ws in (

@@ -7,11 +7,11 @@ use mathlib.Core.Path.{_≡_, refl, sym, _∙_, ap}
 use lib.ListN.{length}
 use Rattle.laws.specs.Memory.{put}
 use Rattle.floor.specs.declared.Floor.{Floor}
-use Rattle.planner.specs.Records.{recordOf}
+use Rattle.records.specs.Records.{recordOf, moved}
 use Rattle.reference.specs.Step.{plan, deliver}
 use Rattle.layout.specs.Places.{plannedPlace, duePlace, viewPlace, channelPlace}
 use Rattle.layout.specs.Calls.{machineOf}
-use Rattle.layout.specs.InnerSteps.{ticked, moved, popped, deliveredIn, sentTo, newsIn, plannedIn, bestIn, effectIn, afterIn, saidIn}
+use Rattle.layout.specs.InnerSteps.{ticked, popped, deliveredIn, sentTo, newsIn, plannedIn, bestIn, effectIn, afterIn, saidIn}
 use Rattle.machine.specs.declared.Stepped.the-variants.{Kept, Sent, Delivered}
 use Rattle.machine.specs.Answers.{steppedReply}
 use Rattle.machine.specs.Inner.{bare, Workable, Took}

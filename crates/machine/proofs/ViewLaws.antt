@@ -2,48 +2,23 @@
 use Prim.Native.Nat.{ℕ, zero, suc, _+_, _*_, _-_, _≤_, _<_}
 use native.Mathlib.Omega.{arith}
 use mathlib.Core.List.{List}
-use mathlib.Core.Path.{_≡_, refl, sym, _∙_, ap, ap₂}
-use lib.ListN.{length, getD, take, drop}
-use lib.Seq.{ext-getD}
+use mathlib.Core.Path.{_≡_, refl, _∙_, ap}
+use lib.ListN.{length, take, drop}
 use Rattle.laws.specs.Memory.{part}
-use Rattle.laws.proofs.PartLaws.{part-byte, part-length}
+use Rattle.laws.proofs.PartLaws.{part-length}
 use Rattle.floor.specs.declared.Floor.{Floor}
 use Rattle.route.specs.Route.{View}
 use Rattle.route.specs.Search.{best}
 use Rattle.search.specs.Rows.{FreeRows}
 use Rattle.search.specs.Task.{taskOf, taskOfRows}
-use Rattle.route.specs.Views.{viewOf, viewAt, records, viewsOf}
+use Rattle.records.specs.Records.{viewAt, records, viewsOf, recordAt}
 use Rattle.planner.specs.Plan.{respondOf}
-use Rattle.planner.proofs.PlanLaws.{views-above}
+use Rattle.records.proofs.RecordLaws.{views-above}
+use Rattle.records.proofs.PartLaws.{view-part}
 use Rattle.reference.specs.Ranges.{below}
 use Rattle.layout.specs.Places.{viewPlace}
-use Rattle.layout.specs.Decode.{recordAt}
 use Rattle.layout.specs.InnerSteps.{viewsIn, bestIn}
 use Rattle.layout.specs.Calls.{machineOf}
-
--- A part of a part.
-part-part : (m : List ℕ) (a n k l : ℕ) → a + n ≤ length m → k + l ≤ n → part (part m a n) k l ≡ part m (a + k) l
-part-part m a n k l h s =
-    ext-getD 0 (part (part m a n) k l) (part m (a + k) l)
-    (part-length (part m a n) k l (omega (arith, part-length m a n h)) ∙ sym (part-length m (a + k) l (omega arith)))
-    (λ i b. go i (omega (arith, part-length (part m a n) k l (omega (arith, part-length m a n h)))))
-  where
-    go : (i : ℕ) → i < l → getD (part (part m a n) k l) i 0 ≡ getD (part m (a + k) l) i 0
-    go i b =
-        let sum : a + (k + i) ≡ a + k + i = omega arith in
-        part-byte (part m a n) k l i b ∙ part-byte m a n (k + i) (omega arith) ∙ rw sum refl ∙ sym (part-byte m (a + k) l i b)
-
--- The view in record j of a part.
-cells-part : (m : List ℕ) (a i j : ℕ) → j < i → a + 65 * i ≤ length m →
-    take 64 (drop (65 * j + 1) (part m a (65 * i))) ≡ part m (a + (65 * j + 1)) 64
-unfolding part
-cells-part m a i j l h = part-part m a (65 * i) (65 * j + 1) 64 h (omega arith)
-
-view-part : (m : List ℕ) (a i j : ℕ) → j < i → a + 65 * i ≤ length m → viewAt (part m a (65 * i)) j ≡ recordAt m (a + 65 * j)
-unfolding viewAt recordAt
-view-part m a i j l h =
-    let sum : a + (65 * j + 1) ≡ a + 65 * j + 1 = omega arith in
-    ap₂ viewOf (part-byte m a (65 * i) (65 * j) (omega arith)) (cells-part m a i j l h ∙ ap (λ (k : ℕ). part m k 64) sum)
 
 -- The views of the first k records, one by one.
 shown-below : (b : List ℕ) (g : ℕ → View) (k : ℕ) → ((j : ℕ) → j < k → viewAt b j ≡ g j) → records b k ≡ below k g

@@ -15,6 +15,7 @@ ghost use Rattle.machine.specs.Inner.{bare, Workable, Tried, Tallied, en
 use crate::Ran;
 use crate::steps::Asked;
 use floor::Floor;
+use search::Rows;
 
 // How far a run has come: the steps taken, and the steps read.
 pub struct Tally {
@@ -23,7 +24,7 @@ pub struct Tally {
 }
 
 // Takes the step that a number names if it is open, and passes over it otherwise; the number taken, 1 or 0.
-fn try_step(f: Floor, walls: &[u16], free: [u32; 32], m: &mut [u16], x: u16) -> usize
+fn try_step(f: Floor, walls: &[u16], free: Rows, m: &mut [u16], x: u16) -> usize
     requires { ⌜ Workable f (now walls) free (now m) ⌝ }
     ensures { λ r. ⌜ Tried (machineOf f (now (walls .entry))) (now (m .entry)) (askedBy x) r (now (m .exit)) ⌝ }
 {
@@ -42,7 +43,7 @@ fn try_step(f: Floor, walls: &[u16], free: [u32; 32], m: &mut [u16], x: u16) -> 
 pub fn run_all(
     f: Floor,
     walls: &[u16],
-    free: [u32; 32],
+    free: Rows,
     m: &mut [u16],
     numbers: &[u16],
     budget: usize,

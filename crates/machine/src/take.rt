@@ -16,9 +16,10 @@ use crate::steps::Step;
 use floor::Floor;
 use route::Route;
 use search::Found;
+use search::Rows;
 
 // The best answer of carrier i to its views; `free` is made of the floor and its walls once.
-fn find(f: Floor, walls: &[u16], free: [u32; 32], m: &[u16], i: usize) -> Found
+fn find(f: Floor, walls: &[u16], free: Rows, m: &[u16], i: usize) -> Found
     requires { ⌜ i < f .carriers ⌝ }
     requires { ⌜ Workable f (now walls) free (now m) ⌝ }
     ensures { λ r. ⌜ Says r (answered (bestIn (machineOf f (now (walls .entry))) (now (m .entry)) i)) ⌝ }
@@ -44,7 +45,7 @@ fn record_plan(m: &mut [u16], n: usize, i: usize, tag: u16, cells: Route) -> boo
 }
 
 // Carrier i plans, and the step is counted.
-pub fn plan_now(f: Floor, walls: &[u16], free: [u32; 32], m: &mut [u16], i: usize) -> Stepped
+pub fn plan_now(f: Floor, walls: &[u16], free: Rows, m: &mut [u16], i: usize) -> Stepped
     requires { ⌜ i < f .carriers ⌝ }
     requires { ⌜ Workable f (now walls) free (now m) ⌝ }
     ensures { λ r. ⌜ Took (machineOf f (now (walls .entry))) (now (m .entry)) (plan i) r (now (m .exit)) ⌝ }
@@ -68,7 +69,7 @@ fn move_message(m: &mut [u16], n: usize, j: usize, i: usize)
 {
     let v = state::view_place(n, i, j);
     let c = state::channel_place(n, i, j);
-    state::move_record(m, c + 1, v);
+    records::copy(m, c + 1, v);
     state::pop(m, c);
     state::set_due(m, i);
 }
@@ -84,7 +85,7 @@ pub fn deliver_now(f: Floor, m: &mut [u16], j: usize, i: usize) -> Stepped
 }
 
 // Takes an open step of a run, for which the free cells are made already.
-pub fn take_step(f: Floor, walls: &[u16], free: [u32; 32], m: &mut [u16], s: Step) -> Stepped
+pub fn take_step(f: Floor, walls: &[u16], free: Rows, m: &mut [u16], s: Step) -> Stepped
     requires { ⌜ openIn (bare f) (now m) (stepMeant s) ≡ true ⌝ }
     requires { ⌜ Workable f (now walls) free (now m) ⌝ }
     ensures { λ r. ⌜ Took (machineOf f (now (walls .entry))) (now (m .entry)) (stepMeant s) r (now (m .exit)) ⌝ }

@@ -22,7 +22,8 @@ use Rattle.sheet.proofs.Theorems.{theorems as sheet-theorems}
 use Rattle.planner.specs.declared.Planned.{Planned}
 use Rattle.planner.specs.declared.Planned.the-variants.{Failing, Refused}
 use Rattle.planner.specs.Plan.{planOf, planVerdict, failingOf}
-use Rattle.planner.specs.Records.{stored, planMemory}
+use Rattle.planner.specs.Records.{planMemory}
+use Rattle.records.specs.Records.{stored}
 use Rattle.planner.specs.Answers.{resultOf, planResult}
 use Rattle.printing.specs.Text.{refusalLine}
 use Rattle.printing.specs.Print.{printOf, textLength}

@@ -3,19 +3,15 @@ use Prim.Native.Nat.{ℕ, _+_, _*_, _≤_, min}
 use mathlib.Core.Bool.{cond}
 use mathlib.Core.Path.{_≡_}
 use mathlib.Core.List.{List, _++_}
-use lib.Dec.{eqb, leb}
-use lib.ListN.{length, getD, take, drop}
+use lib.Dec.{leb}
+use lib.ListN.{length, take}
 use Rattle.laws.specs.Memory.{put}
 use Rattle.laws.specs.Verdict.{Outcome, value, refusal}
 use Rattle.floor.specs.declared.Floor.{Floor}
-use Rattle.route.specs.Route.{Answer, none, route}
+use Rattle.records.specs.Records.{answerIn}
 use Rattle.sheet.specs.Text.{linesOf}
 use Rattle.printing.specs.Text.{answerLine, firstLine, refusalLine}
 use Rattle.printing.specs.Print.{printOf, textLength}
-
--- The answer in record i of a memory: a route where its tag is 2, else none.
-unfoldable pub answerIn : List ℕ → ℕ → Answer
-answerIn m i = cond (eqb (getD m (65 * i) 0) 2) (route (take 64 (drop (65 * i + 1) m))) none
 
 -- The line of carrier i, and the lines of the first k carriers, for the answers in a memory.
 unfoldable pub lineIn : Floor → List ℕ → ℕ → List ℕ

@@ -9,7 +9,7 @@ ghost use Rattle.floor.specs.Answers.{verdictOf};
 ghost use Rattle.floor.specs.Checks.{checkOf};
 ghost use Rattle.laws.specs.Verdict.{passed};
 ghost use Rattle.planner.specs.Plan.{planOf, planVerdict};
-ghost use Rattle.planner.specs.Records.{stored};
+ghost use Rattle.records.specs.Records.{stored};
 ghost use Rattle.printing.specs.Print.{outcomeOf, printOf, textLength, printVerdict};
 ghost use Rattle.printing.specs.Print.{printOutcome, printAnswers, printMemory, routesOutcome, routesMemory};
 ghost use Rattle.printing.specs.Put.{TextPut, FloorPut, RefusalPut};

@@ -14,7 +14,7 @@ use Rattle.route.specs.Best.{IsRoute, Arrives, Admissible, Best}
 use Rattle.route.specs.Arrival.{arrivalOf}
 use Rattle.route.specs.Search.{best}
 use Rattle.route.proofs.Theorems.{theorems as route-theorems}
-use Rattle.route.specs.Views.{viewsOf}
+use Rattle.records.specs.Records.{viewsOf}
 use Rattle.search.specs.Task.{taskOf}
 use Rattle.search.specs.Answers.{answered}
 use Rattle.search.specs.Search.{requestOf, searchOf}

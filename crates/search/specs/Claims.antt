@@ -9,7 +9,7 @@ use Rattle.route.specs.Route.{Answer, none, route}
 use Rattle.route.specs.Conflict.{ClearOf}
 use Rattle.route.specs.Best.{IsRoute, Arrives, Admissible, Best}
 use Rattle.route.specs.Arrival.{arrivalOf}
-use Rattle.route.specs.Views.{viewsOf}
+use Rattle.records.specs.Records.{viewsOf}
 use Rattle.search.specs.Task.{taskOf}
 use Rattle.search.specs.Answers.{answered}
 use Rattle.search.specs.Search.{searchOf}

@@ -3,7 +3,8 @@
 use Rattle.planner.proofs.ResultLaws.{plan-fails}
 use Rattle.planner.proofs.RequestLaws.{asked, plannable, plan-same}
 use Rattle.planner.specs.Answers.{resultOf, planResult}
-use Rattle.planner.specs.Records.{stored, planMemory}
+use Rattle.planner.specs.Records.{planMemory}
+use Rattle.records.specs.Records.{stored}
 use Rattle.planner.specs.Plan.{failingOf}
 use mathlib.Core.List.{List}
 use Rattle.route.specs.Route.{Answer}
