@@ -26,9 +26,10 @@ use Rattle.search.specs.Search.{requestOf, searchOf}
 use Rattle.planner.specs.Plan.{respondOf, planOf, planVerdict}
 use Rattle.search.specs.Task.{taskOf}
 use Rattle.planner.proofs.PlanLaws.{best-whole}
-use Rattle.planner.proofs.ViewLaws.{plan-length}
+use Rattle.records.proofs.RecordLaws.{plan-length}
 use Rattle.planner.specs.Answers.{planResult}
-use Rattle.planner.specs.Records.{recordsOf, stored, planMemory}
+use Rattle.records.specs.Records.{recordsOf, stored}
+use Rattle.planner.specs.Records.{planMemory}
 use Rattle.printing.specs.Print.{printOf, textLength, printVerdict, printOutcome, printAnswers, printMemory}
 use Rattle.printing.specs.Print.{routesOf, neededFor, shortOutcome, routesOutcome, routesMemory}
 use Rattle.printing.proofs.Theorems.{theorems as printing-theorems}

@@ -15,16 +15,17 @@ use Rattle.floor.specs.declared.Floor.{Floor}
 use Rattle.floor.specs.Checks.{checkOf, roomOf}
 use Rattle.floor.proofs.LimitsLaws.{check-tells}
 use Rattle.route.specs.Route.{Answer, none, View, heard}
-use Rattle.route.specs.Views.{records}
+use Rattle.records.specs.Records.{records}
 use Rattle.route.specs.Best.{Admissible, Best}
 use Rattle.route.specs.Search.{best}
 use Rattle.route.proofs.Theorems.{theorems as route-theorems}
 use Rattle.search.specs.Task.{taskOf}
 use Rattle.planner.specs.Plan.{respondOf, planOf, planVerdict}
-use Rattle.planner.specs.Records.{recordsOf, stored, planMemory}
+use Rattle.records.specs.Records.{recordsOf, stored}
+use Rattle.planner.specs.Records.{planMemory}
 use Rattle.planner.specs.Claims.{answerAt}
 use Rattle.planner.proofs.PlanLaws.{best-whole}
-use Rattle.planner.proofs.ViewLaws.{views-are}
+use Rattle.records.proofs.RecordLaws.{views-are}
 use Rattle.planner.proofs.Theorems.{theorems as planner-theorems}
 use Rattle.demand.specs.Demand2.{Prioritized}
 

@@ -19,7 +19,7 @@ use Rattle.route.specs.Search.{best}
 use Rattle.search.specs.Task.{taskOf}
 use Rattle.search.specs.Search.{requestOf, searchOf}
 use Rattle.search.proofs.RequestLaws.{request-granted}
-use Rattle.route.specs.Views.{viewsOf}
+use Rattle.records.specs.Records.{viewsOf}
 use Rattle.planner.specs.Plan.{respondOf, planOf, planVerdict}
 use Rattle.planner.specs.Answers.{planResult}
 use Rattle.planner.specs.Records.{planMemory}

@@ -13,7 +13,7 @@ use Rattle.floor.specs.Accepted.{Absent, Lent, SameFloor}
 use Rattle.route.specs.Route.{Answer, none, View, heard, Task}
 use Rattle.route.specs.Best.{Arrives, Admissible, Best}
 use Rattle.route.specs.Arrival.{arrivalOf}
-use Rattle.route.specs.Views.{records, viewsOf}
+use Rattle.records.specs.Records.{records, viewsOf}
 use Rattle.sheet.specs.Text.{sheetLength}
 use Rattle.sheet.specs.Values.{floorAt, wallsAt}
 use Rattle.sheet.specs.Read.{sheetVerdict, readVerdict, readFloor, readWalls, writeVerdict, writeSheet}
