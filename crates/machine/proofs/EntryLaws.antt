@@ -7,7 +7,7 @@ use Rattle.laws.specs.Verdict.{Outcome, passed, refused, value, refusal}
 use Rattle.laws.proofs.VerdictLaws.{then-passed, gives-passed, gives-refused, when-passed, when-refused, answers-passed}
 use Rattle.floor.specs.declared.Floor.{Floor}
 use Rattle.reference.specs.Step.{Step}
-use Rattle.reference.specs.Table.{step, noStep, single, lentEnough, allNamed}
+use Rattle.reference.specs.Table.{step, noStep, lentEnough, allNamed}
 use Rattle.reference.specs.Calls.{Told, stepped, ran}
 use Rattle.reference.proofs.TableLaws.{enough-lent}
 use Rattle.layout.specs.Numbers.{askedBy}
