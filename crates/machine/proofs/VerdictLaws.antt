@@ -16,8 +16,9 @@ use Rattle.floor.proofs.Theorems.{theorems}
 use Rattle.reference.specs.Table.{noStep, isNamed, allNamed}
 use Rattle.layout.specs.Numbers.{askedBy}
 use Rattle.layout.specs.Calls.{machineOf, placeVerdict, stateVerdict}
-use Rattle.machine.specs.Inner.{namedAt, Placed}
-use Rattle.machine.proofs.OpenLaws.{named-of}
+use Rattle.steps.specs.Inner.{Placed}
+use Rattle.steps.proofs.OpenLaws.{named-of}
+use Rattle.machine.specs.Inner.{namedAt}
 
 pub checked-few : (f : Floor) (ws : List ℕ) → checkOf f ws ≡ passed → f .carriers ≤ 8
 checked-few f ws h = limited-bounds f (theorems .passes-exactly f ws .0 h .limited) .carriers .1

@@ -11,6 +11,7 @@ use Rattle.reference.specs.Ending.{Ending, endsAs}
 use Rattle.reference.specs.Table.{Asked, isNamed}
 use Rattle.layout.specs.Numbers.{askedBy}
 use Rattle.layout.specs.InnerSteps.{askedOpenIn}
+use Rattle.steps.specs.Inner.{bare}
 use Rattle.layout.specs.InnerRuns.{RanIn, askedAfterIn, runIn}
 
 -- The number at a position of a list names a step that is there.
