@@ -4,15 +4,17 @@ use mathlib.Core.List.{List, map}
 use mathlib.Core.Path.{_≡_, sym, _∙_, ap}
 use lib.ListN.{length}
 use Rattle.laws.specs.Verdict.{Outcome, passed, refused, value, refusal}
-use Rattle.laws.proofs.VerdictLaws.{then-passed, gives-passed, gives-refused, when-passed, when-refused, answers-passed}
+use Rattle.laws.proofs.VerdictLaws.{then-passed, gives-passed, gives-refused, when-passed, when-refused}
+use Rattle.laws.proofs.VerdictLaws.{answers-passed, answers-refused}
 use Rattle.floor.specs.declared.Floor.{Floor}
 use Rattle.reference.specs.Step.{Step}
 use Rattle.reference.specs.Take.{StepAnswer}
-use Rattle.reference.specs.Table.{step, noStep, lentEnough, allNamed}
+use Rattle.reference.specs.Table.{step, noStep, lentEnough, allNamed, Call}
 use Rattle.reference.specs.Calls.{Told, stepped, ran}
 use Rattle.reference.proofs.TableLaws.{enough-lent}
 use Rattle.layout.specs.Numbers.{askedBy}
-use Rattle.layout.specs.Calls.{machineOf, stateVerdict, singleCall, runCall}
+use Rattle.layout.specs.Calls.{machineOf, stateVerdict, replyTo, memoryAfter, singleCall, runCall}
+use Rattle.layout.proofs.SimulationLaws.{reply-in, memory-in}
 use Rattle.layout.specs.InnerSteps.{silentIn, afterIn, saidIn}
 use Rattle.layout.specs.InnerRuns.{runIn}
 use Rattle.layout.specs.InnerCalls.{singleVerdictIn, verdictIn, replyIn, grantedMemory, memoryIn}
@@ -23,6 +25,20 @@ use Rattle.steps.proofs.OpenLaws.{single-of, silent-of}
 use Rattle.machine.specs.Inner.{Tallied, endsWith}
 use Rattle.machine.proofs.VerdictLaws.{state-tells}
 use Rattle.machine.proofs.RunLaws.{ran-is}
+
+-- An entry on a lent state: what passes its checks goes on number by number, and a refusal leaves all as it was.
+module _ (f : Floor) (ws m : List ℕ) (c : Call) where
+  pub entry-made : {r : Outcome Told} (m′ : List ℕ) → stateVerdict f ws m ≡ passed → r ≡ replyIn (machineOf f ws) m c →
+      m′ ≡ memoryIn (machineOf f ws) m c → (r ≡ replyTo f ws m c) × (m′ ≡ memoryAfter f ws m c)
+  entry-made m′ ok answers stores = (
+    answers ∙ sym (answers-passed ok) ∙ reply-in f ws m c,
+    stores ∙ sym (when-passed m ok) ∙ memory-in f ws m c,
+  )
+
+  pub entry-refused : (k p : ℕ) → stateVerdict f ws m ≡ refused k p →
+      (_≡_ {A = Outcome Told} (refusal k p) (replyTo f ws m c)) × (m ≡ memoryAfter f ws m c)
+  unfolding replyTo memoryAfter
+  entry-refused k p h = (sym (answers-refused _ h), sym (when-refused _ h))
 
 module _ (f : Floor) (ws m : List ℕ) (sound : stateVerdict f ws m ≡ passed) where
   lent : lentEnough (machineOf f ws) (length m) ≡ passed

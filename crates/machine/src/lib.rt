@@ -146,9 +146,9 @@ pub fn run(f: Floor, walls: &[u16], state: &mut [u16], numbers: &[u16], budget: 
         memoryAfter f (now (walls .entry)) (now (state .entry)) (runCall (now (state .entry)) (now (numbers .entry)) budget) ⌝ }
     ensures within { λ r. ⌜ takenNumber r ≤ budget ⌝ }
 {
-    let sound = checks::lent_state(f, walls, state);
+    let lent = checks::lent_state(f, walls, state);
     let named = checks::all_named(f, numbers);
-    let Checked::Refused(x) = sound else {
+    let Checked::Refused(x) = lent else {
         return run_on(f, walls, state, numbers, budget, named);
     };
     Ran::Refused(x)

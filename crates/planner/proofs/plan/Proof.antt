@@ -58,7 +58,7 @@ returns-2 : tie.Need-returns-2
 unfolding resultOf planResult planMemory
 returns-2 c =
     let after-request : tie.After-request = search in
-    let no = refuses (after-request .request .ensures) (c .before .plan-granted .given .1) in
+    let no = refuses (after-request .request .ensures) (c .before .asked .given .1) in
     (sym (gives-refused _ no), sym (when-refused _ no))
 
 pub plan-spec : {M : Type 1} → statement M
