@@ -1,10 +1,10 @@
--- `cases::draws::draw_walls` is safe and ends: each cell in turn.
+-- `script::draws::draw_walls` is safe and ends: each cell in turn.
 use Prim.Native.Nat.{_-_}
 use mathlib.Core.Path.{_≡_}
 use lib.ListN.{length}
 use borrow.Author.Needs.{needs}
-use Rattle.cases.proofs.draws.draw_walls.Statement.{statement}
-use Rattle.cases.proofs.draws.draw_walls.Tie as tie
+use Rattle.script.proofs.draws.draw_walls.Statement.{statement}
+use Rattle.script.proofs.draws.draw_walls.Tie as tie
 
 abbrev Inv-loop : tie.InvT-loop
 Inv-loop desk₀ cells seed s₀ count₀ c₀ desk s count c = length desk ≡ length desk₀

@@ -1,8 +1,9 @@
-// Drawn floors and lists of steps. The numbers come from one generator: the next is the last times 16807 modulo 2^31 - 1.
+// Drawn floors and lists of steps, as numbers of a desk: how many walls there are, at 5; starts and goals in turn, from 6 on; how many steps
+// there are to choose among, at 100, and these; the walls, from 201 on. What is drawn comes from one generator: the next number is the
+// last times 16807 modulo 2^31 - 1.
 ghost use mathlib.Core.Path.{_≡_};
 ghost use lib.ListN.{length};
-use crate::desk;
-use script::look;
+use crate::look;
 
 // The next number.
 pub fn next(seed: usize) -> usize {
@@ -74,9 +75,14 @@ pub fn draw_floor(desk: &mut [u16], cells: usize, seed: usize) {
     look::put(desk, 5, look::narrow(count));
 }
 
+// Step k of those to choose among, from 0.
+pub fn choice(desk: &[u16], k: usize) -> u16 {
+    look::at(desk, look::plus(101, k))
+}
+
 // A step drawn from those of the desk.
 pub fn draw_step(desk: &[u16], seed: usize) -> u16 {
-    desk::choice(desk, below(seed, look::wide_at(desk, 100)))
+    choice(desk, below(seed, look::wide_at(desk, 100)))
 }
 
 // A list of steps drawn from those of the desk.

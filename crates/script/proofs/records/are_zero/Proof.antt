@@ -1,8 +1,8 @@
--- `cases::tally::are_zero` is safe and ends: each number in turn.
+-- `script::records::are_zero` is safe and ends: each number in turn.
 use Prim.Native.Nat.{_-_}
 use borrow.Author.Needs.{needs}
-use Rattle.cases.proofs.tally.are_zero.Statement.{statement}
-use Rattle.cases.proofs.tally.are_zero.Tie as tie
+use Rattle.script.proofs.records.are_zero.Statement.{statement}
+use Rattle.script.proofs.records.are_zero.Tie as tie
 
 abbrev Inv-loop : tie.InvT-loop
 Inv-loop m from stride n p₀ i₀ p i = Unit {0}

@@ -1,10 +1,10 @@
--- `cases::draws::draw_list` is safe and ends: each of 32 places in turn.
+-- `script::draws::draw_list` is safe and ends: each of 32 places in turn.
 use Prim.Native.Nat.{_-_}
 use mathlib.Core.Path.{_≡_}
 use lib.ListN.{length}
 use borrow.Author.Needs.{needs}
-use Rattle.cases.proofs.draws.draw_list.Statement.{statement}
-use Rattle.cases.proofs.draws.draw_list.Tie as tie
+use Rattle.script.proofs.draws.draw_list.Statement.{statement}
+use Rattle.script.proofs.draws.draw_list.Tie as tie
 
 abbrev Inv-loop : tie.InvT-loop
 Inv-loop desk seed list₀ s₀ k₀ list s k = length list ≡ 32

@@ -1,8 +1,8 @@
--- `cases::tally::answers_are` is safe and ends: each carrier in turn.
+-- `script::records::answers_are` is safe and ends: each carrier in turn.
 use Prim.Native.Nat.{_-_}
 use borrow.Author.Needs.{needs}
-use Rattle.cases.proofs.tally.answers_are.Statement.{statement}
-use Rattle.cases.proofs.tally.answers_are.Tie as tie
+use Rattle.script.proofs.records.answers_are.Statement.{statement}
+use Rattle.script.proofs.records.answers_are.Tie as tie
 
 abbrev Inv-loop : tie.InvT-loop
 Inv-loop m from stride n answers p₀ q₀ i₀ p q i = Unit {0}

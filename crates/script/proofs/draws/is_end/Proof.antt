@@ -1,8 +1,8 @@
--- `cases::draws::is_end` is safe and ends: each start and goal in turn.
+-- `script::draws::is_end` is safe and ends: each start and goal in turn.
 use Prim.Native.Nat.{_-_}
 use borrow.Author.Needs.{needs}
-use Rattle.cases.proofs.draws.is_end.Statement.{statement}
-use Rattle.cases.proofs.draws.is_end.Tie as tie
+use Rattle.script.proofs.draws.is_end.Statement.{statement}
+use Rattle.script.proofs.draws.is_end.Tie as tie
 
 abbrev Inv-loop : tie.InvT-loop
 Inv-loop desk c i₀ i = Unit {0}

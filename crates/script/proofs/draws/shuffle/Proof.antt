@@ -1,10 +1,10 @@
--- `cases::draws::shuffle` is safe and ends: each cell in turn.
+-- `script::draws::shuffle` is safe and ends: each cell in turn.
 use Prim.Native.Nat.{_-_}
 use mathlib.Core.Path.{_≡_}
 use lib.ListN.{length}
 use borrow.Author.Needs.{needs}
-use Rattle.cases.proofs.draws.shuffle.Statement.{statement}
-use Rattle.cases.proofs.draws.shuffle.Tie as tie
+use Rattle.script.proofs.draws.shuffle.Statement.{statement}
+use Rattle.script.proofs.draws.shuffle.Tie as tie
 
 abbrev Inv-loop : tie.InvT-loop
 Inv-loop desk₀ from cells seed s₀ to₀ i₀ desk s to i = length desk ≡ length desk₀
