@@ -6,12 +6,15 @@ use mathlib.Core.Path.{_≡_, refl, sym, _∙_, ap}
 use mathlib.Core.List.{List, _∷_, _++_}
 use borrow.Author.Needs.{needs}
 use borrow.Author.Tests.{eq-eqb, ne-eqb}
+use mathlib.Core.Bool.{Bool, true, false}
+use lib.Dec.{eqb}
 use lib.ListN.{length, getD, take, length-append}
 use lib.Seq.{length-take-le}
 use Rattle.laws.specs.Memory.{put, part}
 use Rattle.laws.proofs.PutLaws.{put-none, put-length, put-next}
 use Rattle.floor.specs.declared.Floor.{Floor}
 use Rattle.floor.specs.Checks.{goalOf}
+use Rattle.route.specs.Route.{none, route, View, unheard, heard}
 use Rattle.route.specs.Arrival.{arrivalOf}
 use Rattle.fields.specs.Field.{fieldOf}
 use Rattle.sheet.specs.Text.{lineOf, linesOf}
@@ -24,17 +27,34 @@ pub none-length : (number : ℕ) → length (noneLine number) ≡ 11
 unfolding noneLine noneWord fieldOf
 none-length number = refl
 
+-- The view that a record shows, by the two tests of its tag: only where the first holds it has a route.
+seen : Bool → Bool → List ℕ → View
+seen b e q = elim b [ true ↦ heard (route q) | false ↦ elim e [ true ↦ heard none | false ↦ unheard ] ]
+
+seen-none : (e : Bool) (q : List ℕ) → shown (seen false e q) ≡ none
+unfolding shown seen
+seen-none true q = refl
+seen-none false q = refl
+
+shows-route : (tag : ℕ) (cells : List ℕ) → tag ≡ 2 → shown (viewOf tag cells) ≡ route cells
+unfolding viewOf shown seen
+shows-route tag cells h = ap (λ (b : Bool). shown (seen b (eqb tag 1) cells)) (eq-eqb tag 2 h)
+
+shows-none : (tag : ℕ) (cells : List ℕ) → (tag ≡ 2 → ⊥) → shown (viewOf tag cells) ≡ none
+unfolding viewOf seen
+shows-none tag cells h = ap (λ (b : Bool). shown (seen b (eqb tag 1) cells)) (ne-eqb tag 2 h) ∙ seen-none (eqb tag 1) cells
+
 module _ (f : Floor) (i : ℕ) (m : List ℕ) where
   -- The line where the tag is no route's.
   line-none : (getD m (65 * i) 0 ≡ 2 → ⊥) → lineIn f m i ≡ noneLine (i + 1)
-  unfolding lineIn answerIn viewAt recordAt viewOf shown answerLine
-  line-none h = rw (ne-eqb _ 2 h)
+  unfolding lineIn answerIn viewAt recordAt answerLine
+  line-none h = ap (answerLine f i) (shows-none (getD m (65 * i) 0) (part m (65 * i + 1) 64) h)
 
   -- The line where it is.
   line-route : (cells : List ℕ) → getD m (65 * i) 0 ≡ 2 → cells ≡ part m (65 * i + 1) 64
       → lineIn f m i ≡ lineOf ((i + 1) ∷ arrivalOf (goalOf f i) cells (f .horizon) ∷ take (f .horizon + 1) cells)
-  unfolding lineIn answerIn viewAt recordAt viewOf shown answerLine
-  line-route cells h e = rw (eq-eqb _ 2 h, e)
+  unfolding lineIn answerIn viewAt recordAt answerLine
+  line-route cells h e = rw e (ap (answerLine f i) (shows-route (getD m (65 * i) 0) (part m (65 * i + 1) 64) h))
 
   pub none-put : (old new : List ℕ) (at : ℕ) → (getD m (65 * i) 0 ≡ 2 → ⊥) → new ≡ put old at (noneLine (i + 1))
       → LinePut f i m old at new (at + 11)
