@@ -12,7 +12,7 @@ use Rattle.layout.specs.Places.{stateSize}
 use Rattle.reference.specs.Calls.{afterCall}
 use Rattle.layout.specs.Encode.{encode}
 use Rattle.layout.specs.Calls.{machineOf, stateVerdict, stateIn, replyTo, memoryAfter, singleCall, runCall}
-use Rattle.layout.specs.InnerCalls.{verdictIn, replyIn, takenIn, memoryIn}
+use Rattle.layout.specs.InnerCalls.{verdictIn, replyIn, grantedMemory, memoryIn}
 use Rattle.layout.proofs.SimulationLaws.{reply-in, memory-in}
 use Rattle.layout.proofs.Theorems.{theorems as layout-theorems}
 use Rattle.wire.specs.Word.{wordOf, mapOutcome}
@@ -30,7 +30,7 @@ same-kept (refused k p) m = refl
 
 -- A call that is refused changes no number.
 inner-kept : (M : Machine) (m : List ℕ) (c : Call) → Refuses (wordOf (mapOutcome toldDone (replyIn M m c))) → memoryIn M m c ≡ m
-unfolding memoryIn replyIn takenIn
+unfolding memoryIn replyIn grantedMemory
 inner-kept M m (single lent (Asked·step x)) h = checked-kept toldDone (verdictIn M m (single lent (Asked·step x))) _ _ m h
 inner-kept M m (single lent noStep) h = same-kept (verdictIn M m (single lent noStep)) m
 inner-kept M m (runOf lent xs b) h = checked-kept toldDone (verdictIn M m (runOf lent xs b)) _ _ m h

@@ -25,8 +25,9 @@ use Rattle.search.proofs.Theorems.{theorems as search-theorems}
 use Rattle.search.specs.Task.{taskOf}
 use Rattle.planner.specs.Plan.{respondOf, planOf, planVerdict}
 use Rattle.planner.specs.Answers.{planResult}
-use Rattle.planner.specs.Records.{recordsOf, stored, planMemory}
-use Rattle.planner.proofs.ViewLaws.{plan-length}
+use Rattle.records.specs.Records.{recordsOf, stored}
+use Rattle.planner.specs.Records.{planMemory}
+use Rattle.records.proofs.RecordLaws.{plan-length}
 use Rattle.planner.proofs.PlanLaws.{best-whole}
 use Rattle.printing.specs.Print.{routesOf, neededFor, routesOutcome, routesMemory, shortOutcome}
 use Rattle.printing.proofs.Theorems.{theorems as printing-theorems}
