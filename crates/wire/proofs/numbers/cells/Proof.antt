@@ -1,9 +1,9 @@
--- `wire::records::cells` meets its contract: eight numbers, one by one.
+-- `wire::numbers::cells` meets its contract: eight numbers, one by one.
 use mathlib.Core.Path.{sym}
 use Rattle.wire.proofs.RecordLaws.{part-eight}
 use borrow.Author.Needs.{needs}
-use Rattle.wire.proofs.records.cells.Statement.{statement}
-use Rattle.wire.proofs.records.cells.Tie as tie
+use Rattle.wire.proofs.numbers.cells.Statement.{statement}
+use Rattle.wire.proofs.numbers.cells.Tie as tie
 
 returns : tie.Need-returns
 returns c =

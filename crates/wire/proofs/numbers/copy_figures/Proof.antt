@@ -1,4 +1,4 @@
--- `wire::records::copy_figures` meets its contract: after t turns t numbers are in place.
+-- `wire::numbers::copy_figures` meets its contract: after t turns t numbers are in place.
 use Prim.Native.Nat.{_-_, _≤_}
 use mathlib.Core.Path.{_≡_}
 use lib.ListN.{length, take}
@@ -7,8 +7,8 @@ use Rattle.laws.proofs.PutLaws.{copy-start, copy-more, copy-keeps, copy-end}
 use native.Mathlib.Nat.{zero-add}
 use borrow.Author.Needs.{needs}
 use native.Mathlib.Omega.{arith}
-use Rattle.wire.proofs.records.copy_figures.Statement.{statement}
-use Rattle.wire.proofs.records.copy_figures.Tie as tie
+use Rattle.wire.proofs.numbers.copy_figures.Statement.{statement}
+use Rattle.wire.proofs.numbers.copy_figures.Tie as tie
 
 abbrev Inv-loop : tie.InvT-loop
 Inv-loop out₀ xs t₀ out t = (t ≤ length xs) × (out ≡ put out₀ 0 (take t xs))

@@ -1,11 +1,11 @@
--- `wire::records::store` meets its contract: three blocks, one behind the other.
+-- `wire::numbers::store` meets its contract: three blocks, one behind the other.
 use Rattle.wire.proofs.RecordLaws.{three-blocks}
 use Rattle.wire.specs.Record.{numbersOf}
 use mathlib.Core.Path.{refl}
 use native.Mathlib.Omega.{arith}
 use borrow.Author.Needs.{needs}
-use Rattle.wire.proofs.records.store.Statement.{statement}
-use Rattle.wire.proofs.records.store.Tie as tie
+use Rattle.wire.proofs.numbers.store.Statement.{statement}
+use Rattle.wire.proofs.numbers.store.Tie as tie
 
 put-cells-requires : tie.Need-put-cells-requires
 put-cells-requires c κs =

@@ -1,9 +1,9 @@
--- `wire::records::floor_of` meets its contract: each field from its place.
+-- `wire::numbers::floor_of` meets its contract: each field from its place.
 use Rattle.wire.specs.Record.{floorOf}
 use mathlib.Core.Path.{refl}
 use borrow.Author.Needs.{needs}
-use Rattle.wire.proofs.records.floor_of.Statement.{statement}
-use Rattle.wire.proofs.records.floor_of.Tie as tie
+use Rattle.wire.proofs.numbers.floor_of.Statement.{statement}
+use Rattle.wire.proofs.numbers.floor_of.Tie as tie
 
 returns : tie.Need-returns
 unfolding floorOf

@@ -1,4 +1,4 @@
--- `wire::records::copy` meets its contract: after t turns t numbers are in place.
+-- `wire::numbers::copy` meets its contract: after t turns t numbers are in place.
 use Prim.Native.Nat.{_-_, _≤_}
 use mathlib.Core.Path.{_≡_}
 use lib.ListN.{length, take}
@@ -6,8 +6,8 @@ use Rattle.laws.specs.Memory.{put}
 use Rattle.laws.proofs.PutLaws.{copy-start, copy-more, copy-keeps, copy-end}
 use borrow.Author.Needs.{needs}
 use native.Mathlib.Omega.{arith}
-use Rattle.wire.proofs.records.copy.Statement.{statement}
-use Rattle.wire.proofs.records.copy.Tie as tie
+use Rattle.wire.proofs.numbers.copy.Statement.{statement}
+use Rattle.wire.proofs.numbers.copy.Tie as tie
 
 abbrev Inv-loop : tie.InvT-loop
 Inv-loop out₀ at xs t₀ out t = (t ≤ length xs) × (out ≡ put out₀ at (take t xs))
