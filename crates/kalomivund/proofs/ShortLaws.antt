@@ -5,33 +5,28 @@ use mathlib.Core.Path.{_≡_, sym, _∙_}
 use mathlib.Core.Logic.{_↔_, ⊎-elim}
 use mathlib.Core.List.{List}
 use lib.ListN.{length}
-use borrow.Author.Tests.{leb-false, lt-leb, le-leb}
+use borrow.Author.Tests.{le-leb}
 use Rattle.laws.specs.Verdict.{Verdict, passed, refused, _then_, refusal}
-use Rattle.laws.proofs.VerdictLaws.{then-passed, answers-refused, demand-cases, demand-refuses, demand-passes}
+use Rattle.laws.proofs.VerdictLaws.{then-passed, answers-refused, demand-passes}
 use Rattle.floor.specs.declared.Floor.{Floor}
 use Rattle.floor.specs.Checks.{checkOf, limitsOf, roomOf}
 use Rattle.sheet.specs.Values.{floorAt}
 use Rattle.sheet.specs.Read.{sheetVerdict, readVerdict}
 use Rattle.search.specs.Search.{searchOf, requestOf}
 use Rattle.laws.proofs.Tests.{lt-or-le}
-use Rattle.lengths.proofs.Theorems.{theorems as lengths-theorems}
+use Rattle.lengths.proofs.Theorems.{theorems as lengths-theorems, room-means}
 use Rattle.wire.specs.Record.{recordLent}
 use Rattle.kalomivund.specs.Entries.{readLent, neededVerdict, searchLent}
 use Rattle.kalomivund.proofs.SearchLaws.{search-long}
 use Rattle.kalomivund.proofs.LengthsLaws.{given-refusal}
 
--- Memory is too short exactly below its needed length.
-room-short : (needed lent : ℕ) → (roomOf needed lent ≡ refused 9 0) ↔ (lent < needed)
-unfolding roomOf
-room-short needed lent = (λ h. leb-false _ _ (demand-cases _ 9 0 9 0 h .0), λ l. demand-refuses 9 0 (lt-leb _ _ l))
-
--- So it is behind checks that find nothing.
+-- Behind checks that find nothing, memory is too short exactly below its needed length.
 behind-short : (v : Verdict) (needed lent : ℕ) → v ≡ passed → ((v then roomOf needed lent) ≡ refused 9 0) ↔ (lent < needed)
-behind-short v needed lent ok = rw (then-passed {w = roomOf needed lent} ok) (room-short needed lent)
+behind-short v needed lent ok = rw (then-passed {w = roomOf needed lent} ok) (room-means needed lent)
 
 pub record-short : (xs : List ℕ) → (recordLent xs ≡ refused 9 0) ↔ (length xs < 22)
 unfolding recordLent
-record-short xs = room-short 22 (length xs)
+record-short xs = room-means 22 (length xs)
 
 pub read-record-short : (text : List ℕ) (lent room : ℕ) → sheetVerdict text ≡ passed → floorAt text .walls ≤ room
     → (readLent text lent room ≡ refused 9 0) ↔ (lent < 22)

@@ -9,7 +9,7 @@ returns : tie.Need-returns
 unfolding floorOf
 returns c =
     let after-cells : tie.After-cells = search in
-    rw (← after-cells .cells .ensures, ← c .cells2 .ensures) refl
+    rw (after-cells .cells .ensures, c .cells2 .ensures) refl
 
 pub floor-of-spec : {M : Type 1} → statement M
 floor-of-spec =
