@@ -69,7 +69,8 @@ module _ (f : Floor) (ws m : List ℕ) (sound : stateVerdict f ws m ≡ passed) 
 
     -- A single step that is taken.
     pub step-taken : (r : Taken) (m′ : List ℕ) → singleVerdictIn (bare f) m (step y) ≡ passed → Took (machineOf f ws) m y r m′ →
-        (_≡_ {A = Outcome Told} (value (stepped (takenMeant r))) (replyIn (machineOf f ws) m (singleCall m x))) × (m′ ≡ memoryIn (machineOf f ws) m (singleCall m x))
+        (_≡_ {A = Outcome Told} (value (stepped (takenMeant r))) (replyIn (machineOf f ws) m (singleCall m x))) ×
+        (m′ ≡ memoryIn (machineOf f ws) m (singleCall m x))
     unfolding singleCall replyIn memoryIn grantedMemory verdictIn
     step-taken r m′ h t =
         let v = then-passed lent ∙ sym (single-of f ws m (step y)) ∙ h in (

@@ -1,4 +1,4 @@
--- `steps::taking::deliver_now` meets its contract: the oldest message becomes the view and leaves its channel, and the receiver becomes due.
+-- `steps::taking::deliver_now` meets its contract: the oldest message becomes the view and leaves its channel, the receiver becomes due.
 use Rattle.steps.proofs.TakeLaws.{delivery-stored}
 use Rattle.layout.specs.Places.{stateSize}
 use borrow.Author.Needs.{needs}
@@ -13,7 +13,8 @@ returns c =
     let after-channel-place : tie.After-channel-place = search in
     let after-view-place : tie.After-view-place = search in
     let after-message-place : tie.After-message-place = search in
-    delivery-stored _ _ _ _ _ _ _ _ _ _ (after-message-place .message-place .ensures .0) (after-view-place .view-place .ensures .0) (after-channel-place .channel-place .ensures .0)
+    delivery-stored _ _ _ _ _ _ _ _ _ _ (after-message-place .message-place .ensures .0)
+    (after-view-place .view-place .ensures .0) (after-channel-place .channel-place .ensures .0)
     (after-copy .copy .ensures) (after-pop .pop .ensures) (after-set-due .set-due .ensures)
 
 pub deliver-now-spec : {M : Type 1} → statement M
