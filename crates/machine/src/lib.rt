@@ -19,6 +19,10 @@ use floor::Checked;
 use floor::Floor;
 use floor::Refusal;
 use steps::Asked;
+pub use checks::lent_place;
+pub use openness::is_open;
+pub use steps::Step;
+pub use take::take_step;
 
 // The answer to a single step.
 pub enum Stepped {

@@ -16,12 +16,12 @@ use Rattle.reference.proofs.RankingLaws.{some-open}
 use Rattle.reference.proofs.Potential.{fresh-potential}
 use Rattle.reference.proofs.CeilingLaws.{step-lowers, reaches-lowers}
 use Rattle.orders.specs.Orders.{Order, openAt, chosen, startOf, remembered, first, round, drawn}
-use Rattle.orders.specs.Trial.{Entry, Tried, nextStep, entryOf, reported, tryFrom, trial, stepsIn}
+use Rattle.orders.specs.Trial.{Entry, TrialResult, nextStep, entryOf, reported, tryFrom, trial, stepsIn}
 use Rattle.orders.specs.Rules.{TakenBy, ByRule}
 use Rattle.orders.proofs.RuleLaws.{Memory, Takes, some-place, chosen-takes}
 
 -- A trial that takes no step.
-abbrev stopped : State → Tried
+abbrev stopped : State → TrialResult
 stopped s = record { report = []; state = s }
 
 -- At its start an order remembers what it may.
@@ -42,9 +42,9 @@ module _ (o : Order) (M : Machine) where
   try-step c s b e = rw (e, tryFrom)
 
   -- What holds of a trial that stops, and that one more step in front keeps, holds of every trial.
-  module _ (P : ℕ → State → ℕ → Tried → Type 0) (spent : (c : ℕ) (s : State) → P c s 0 (stopped s))
+  module _ (P : ℕ → State → ℕ → TrialResult → Type 0) (spent : (c : ℕ) (s : State) → P c s 0 (stopped s))
       (silent : (c : ℕ) (s : State) (b : ℕ) → isSilent M s ≡ true → P c s (suc b) (stopped s))
-      (more : (c : ℕ) (s : State) (b : ℕ) (t : Tried) → Takes o M s c (chosen o M s c) →
+      (more : (c : ℕ) (s : State) (b : ℕ) (t : TrialResult) → Takes o M s c (chosen o M s c) →
       P (remembered o c (chosen o M s c)) (afterStep M s (nextStep o M s c)) b t →
       P c s (suc b) (reported (entryOf M s (nextStep o M s c)) t)) where
     pub try-induction : (c : ℕ) (s : State) (b : ℕ) → Memory o M c → P c s b (tryFrom o M c s b)
@@ -63,7 +63,7 @@ module _ (o : Order) (M : Machine) where
             let r = chosen-takes M s o c h (some-place M s e) in rw (try-step c s b e) (more c s b _ r (k (r .next)))
 
   -- What holds of a trial of at most b steps.
-  pub record Holds (c : ℕ) (s : State) (b : ℕ) (t : Tried) : Type 0 where
+  pub record Holds (c : ℕ) (s : State) (b : ℕ) (t : TrialResult) : Type 0 where
     pub by-rule : ByRule o M c s (t .report)
     pub leads : t .state ≡ afterSteps M s (stepsIn (t .report))
     pub within : length (t .report) ≤ b
@@ -80,7 +80,7 @@ module _ (o : Order) (M : Machine) where
       stops-more b k q (inl e) = inl (ap suc e)
       stops-more b k q (inr e) = inr e
 
-      more : (c : ℕ) (s : State) (b : ℕ) (t : Tried) → Takes o M s c (chosen o M s c) →
+      more : (c : ℕ) (s : State) (b : ℕ) (t : TrialResult) → Takes o M s c (chosen o M s c) →
           Holds (remembered o c (chosen o M s c)) (afterStep M s (nextStep o M s c)) b t →
           Holds c s (suc b) (reported (entryOf M s (nextStep o M s c)) t)
       more c s b t r h =

@@ -15,7 +15,7 @@ pub record Entry : Type 0 where
   pub answer : StepAnswer
 
 -- What a trial comes to: its report, and the state after it.
-pub record Tried : Type 0 where
+pub record TrialResult : Type 0 where
   pub report : List Entry
   pub state : State
 
@@ -28,11 +28,11 @@ unfoldable pub entryOf : Machine → State → Step → Entry
 entryOf M s x = record { taken = x; answer = stepAnswer M s x }
 
 -- A trial with one more line in front.
-unfoldable pub reported : Entry → Tried → Tried
+unfoldable pub reported : Entry → TrialResult → TrialResult
 reported e t = record { report = e ∷ t .report; state = t .state }
 
 -- At most b steps in an order that remembers c, from state s, until none is open.
-unfoldable pub tryFrom : Order → Machine → ℕ → State → ℕ → Tried
+unfoldable pub tryFrom : Order → Machine → ℕ → State → ℕ → TrialResult
 tryFrom o M c s zero = record { report = []; state = s }
 tryFrom o M c s (suc b) =
     elim
@@ -43,7 +43,7 @@ tryFrom o M c s (suc b) =
     ]
 
 -- The trial from fresh, with as many steps as the ceiling has.
-unfoldable pub trial : Order → Machine → ℕ → Tried
+unfoldable pub trial : Order → Machine → ℕ → TrialResult
 trial o M seed = tryFrom o M (startOf o seed) fresh (ceiling (M .carriers))
 
 -- The steps of a report, in order.

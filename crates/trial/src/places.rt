@@ -1,0 +1,65 @@
+// The places of the ranking of steps, and steps as numbers.
+ghost use mathlib.Core.Path.{_≡_};
+ghost use mathlib.Core.Bool.{true};
+ghost use Prim.Native.Nat.{_≤_, _<_};
+ghost use Rattle.reference.specs.Step.{isThere};
+ghost use Rattle.reference.specs.Take.{StepAnswer};
+ghost use Rattle.machine.specs.Answers.{stepMeant};
+ghost use Rattle.machine.specs.Inner.{bare};
+ghost use Rattle.orders.specs.Orders.{places, stepAt};
+ghost use Rattle.trial.specs.Report.{numberOf};
+ghost use Rattle.trial.specs.Inner.{Tells};
+use floor::Floor;
+use machine::Step;
+use machine::Stepped;
+
+// How many steps n carriers have.
+pub fn count(n: usize) -> usize
+    requires { ⌜ n ≤ 8 ⌝ }
+    ensures { λ r. ⌜ (r ≡ places n) × (r ≤ 36) ⌝ }
+{
+    n * (n + 1) / 2
+}
+
+// The step at a place: the plans, then the deliveries of each sender.
+pub fn step_at(n: usize, p: usize) -> Step
+    requires { ⌜ (n ≤ 8) × (p < places n) ⌝ }
+    ensures { λ r. ⌜ stepMeant r ≡ stepAt n p ⌝ }
+{
+    if p < n {
+        return Step::Plan(p);
+    }
+    let mut j: usize = 0;
+    let mut d: usize = p - n;
+    while d >= n - (j + 1) {
+        d -= n - (j + 1);
+        j += 1;
+    }
+    Step::Deliver {
+        from: j,
+        to: j + 1 + d,
+    }
+}
+
+// A step that is there as a number: plan i is 100 + i, deliver j to i is 200 + 10 j + i, carriers counted from 1.
+pub fn number_of(f: Floor, s: Step) -> u16
+    requires { ⌜ (isThere (bare f) (stepMeant s) ≡ true) × (f .carriers ≤ 8) ⌝ }
+    ensures { λ r. ⌜ r ≡ numberOf (stepMeant s) ⌝ }
+{
+    match s {
+        Step::Plan(i) => 101 + i as u16,
+        Step::Deliver { from, to } => 200 + 10 * (from as u16 + 1) + (to as u16 + 1),
+    }
+}
+
+// The answer of a step as a number: 0 kept, 1 sent, 2 delivered.
+pub fn answer_number(r: Stepped) -> u16
+    ensures { λ k. ⌜ Tells r k ⌝ }
+{
+    match r {
+        Stepped::Kept => 0,
+        Stepped::Sent => 1,
+        Stepped::Delivered => 2,
+        Stepped::Refused(x) => 3,
+    }
+}
