@@ -39,7 +39,8 @@ pub record Lent (f : Floor) (ws : List ℕ) (state report : ℕ) : Type 0 where
   pub placed : Placed f ws state
   pub wide : reportSize (f .carriers) ≤ report
 
-pub trial-tells : (f : Floor) (ws : List ℕ) (order state report : ℕ) → trialVerdict f ws order state report ≡ passed → Lent f ws state report
+pub trial-tells : (f : Floor) (ws : List ℕ) (order state report : ℕ) → trialVerdict f ws order state report ≡ passed →
+    Lent f ws state report
 unfolding trialVerdict placeVerdict
 trial-tells f ws order state report h =
     let a = then-both _ _ h in

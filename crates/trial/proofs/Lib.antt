@@ -7,3 +7,4 @@ pub mod ShownLaws
 pub mod ReportLaws
 pub mod PlayLaws
 pub mod EntryLaws
+pub mod Theorems

@@ -70,7 +70,8 @@ module _ (f : Floor) (ws : List ℕ) (ok : checkOf f ws ≡ passed) (s : State) 
   step-says rest x e = said-same M (storable f ws ok) s in-range whole rest x e
 
 -- A trial that stops is the state that it has.
-try-stopped : (o : Order) (M : Machine) (c : ℕ) (s : State) (b : ℕ) → isSilent M s ≡ true → tryFrom o M c s b ≡ record { report = []; state = s }
+try-stopped : (o : Order) (M : Machine) (c : ℕ) (s : State) (b : ℕ) → isSilent M s ≡ true →
+    tryFrom o M c s b ≡ record { report = []; state = s }
 unfolding tryFrom
 try-stopped o M c s zero e = refl
 try-stopped o M c s (suc b) e = try-silent o M c s b e
@@ -135,7 +136,8 @@ module _ (f : Floor) (ws : List ℕ) (o : Order) (seed : ℕ) (m₀ report₀ : 
     takes l = chosen-takes N s o c (p .keeps) (rw (← shown-count) l)
 
     -- One more step.
-    module _ (some : 0 < countIn f m (places (f .carriers))) (less : t < ceiling (f .carriers)) (room : reportSize (f .carriers) ≤ length report₀)
+    module _ (some : 0 < countIn f m (places (f .carriers))) (less : t < ceiling (f .carriers))
+        (room : reportSize (f .carriers) ≤ length report₀)
         {next : ℕ} {m′ report′ : List ℕ} (kept : length m′ ≡ length m) (a : Advanced o f ws m report c t next m′ report′) where
       abbrev x : Step
       x = nextStep o N s c
@@ -207,7 +209,8 @@ module _ (f : Floor) (ws : List ℕ) (o : Order) (seed : ℕ) (m₀ report₀ : 
       told-more : trial o N seed .report ≡ (p .entries ++ (line ∷ [])) ++ left .report
       unfolding reported
       told-more =
-          p .told ∙ ap (λ (r : TrialResult). p .entries ++ r .report) goes-there ∙ sym (append-assoc (p .entries) (line ∷ []) (left .report))
+          p .told ∙ ap (λ (r : TrialResult). p .entries ++ r .report) goes-there
+          ∙ sym (append-assoc (p .entries) (line ∷ []) (left .report))
 
       leads-more : trial o N seed .state ≡ left .state
       unfolding reported
@@ -247,7 +250,8 @@ module _ (f : Floor) (ws : List ℕ) (o : Order) (seed : ℕ) (m₀ report₀ : 
         )
 
     -- It stops where no place is open, and after the ceiling's number of steps.
-    pub stops-silent : countIn f m (places (f .carriers)) ≡ 0 → tryFrom o N c s (ceiling (f .carriers) - t) ≡ record { report = []; state = s }
+    pub stops-silent : countIn f m (places (f .carriers)) ≡ 0 →
+        tryFrom o N c s (ceiling (f .carriers) - t) ≡ record { report = []; state = s }
     stops-silent e = try-stopped o N c s (ceiling (f .carriers) - t) (no-place N s (sym shown-count ∙ e))
 
     pub stops-spent : ceiling (f .carriers) ≤ t → tryFrom o N c s (ceiling (f .carriers) - t) ≡ record { report = []; state = s }

@@ -25,7 +25,8 @@ take-all-requires c κs =
     let start : tie.Start = search in
     let lent = trial-tells _ _ _ _ _ (start .pre) in
     let works = workable _ _ _ (now (start .args .m)) (lent .placed) (after-free-rows .free-rows .ensures) in
-    (lent .checked, (workable-same _ _ _ _ _ (after-write-fresh .write-fresh .kept .0) works, (front-fresh _ _ _ (after-write-fresh .write-fresh .ensures), lent .wide)))
+    let works-then = workable-same _ _ _ _ _ (after-write-fresh .write-fresh .kept .0) works in
+    (lent .checked, (works-then, (front-fresh _ _ _ (after-write-fresh .write-fresh .ensures), lent .wide)))
 
 returns : tie.Need-returns
 returns c =
