@@ -10,7 +10,7 @@ mod paper;
 
 use std::collections::VecDeque;
 
-use paper::{calls, Answer, End, Floor, State, Step, View};
+use paper::{calls, Answer, End, Floor, Route, State, Step, View};
 
 const SCRIPT: &str = include_str!("../../crates/cases/stdin");
 const EXPECTED: &str = include_str!("../../crates/cases/stdout");
@@ -96,6 +96,27 @@ fn written_out(numbers: &[Number], length: usize) -> Vec<u16> {
     memory
 }
 
+// ---- Conflicts ----
+
+/// Whether two routes are in one cell at a beat, or change places between two.
+fn in_conflict(a: &Route, b: &Route, horizon: usize) -> bool {
+    let meet = (0..=horizon).any(|t| a[t] == b[t]);
+    let swap = (0..horizon).any(|t| a[t] == b[t + 1] && a[t + 1] == b[t]);
+    meet || swap
+}
+
+/// The pairs of carriers that both have a route.
+fn pairs_of(answers: &[Answer]) -> Vec<(Route, Route)> {
+    let routes: Vec<Route> = answers.iter().flatten().copied().collect();
+    let above = |i: usize| routes[..i].iter().map(move |&r| r);
+    (0..routes.len()).flat_map(|i| above(i).map(|r| (routes[i], r)).collect::<Vec<_>>()).collect()
+}
+
+/// How many pairs are in conflict.
+fn conflicts_of(answers: &[Answer], horizon: usize) -> usize {
+    pairs_of(answers).iter().filter(|(a, b)| in_conflict(a, b, horizon)).count()
+}
+
 // ---- Orders ----
 
 /// Of how many orders each thing holds.
@@ -115,7 +136,8 @@ impl Tally {
         let most = (1 << (floor.carriers() + 1)) - floor.carriers() - 2;
         let answers: Vec<Answer> = state.carriers.iter().map(|carrier| carrier.answer).collect();
         let rests = state.carriers.iter().all(|carrier| !carrier.due && carrier.channels.iter().all(VecDeque::is_empty));
-        let right = answers == planned && state.taken as usize == taken && taken <= most && rests;
+        let free = conflicts_of(&planned, floor.horizon) == 0;
+        let right = answers == planned && free && state.taken as usize == taken && taken <= most && rests;
         self.orders += 1;
         self.right += right as usize;
         self.full += (taken == most) as usize;
@@ -373,6 +395,19 @@ impl Desk {
         answers == self.lent
     }
 
+    /// The answers in lent memory: a route where the tag is 2.
+    fn answers(&self) -> Vec<Answer> {
+        let record = |i: usize| self.lent[65 * i] == 2;
+        let cells = |i: usize| self.lent[65 * i + 1..65 * i + 65].try_into().unwrap();
+        (0..self.set[4] as usize).map(|i| record(i).then(|| cells(i))).collect()
+    }
+
+    /// How many pairs of routes there are in lent memory, and how many of them are in conflict.
+    fn conflicts(&self) -> String {
+        let answers = self.answers();
+        format!("pairs {} conflicts {}", pairs_of(&answers).len(), conflicts_of(&answers, self.set[2] as usize))
+    }
+
     /// A carrier's arrival and its first cells, at most eight; or none.
     fn route_told(&self, carrier: usize, answer: Answer) -> String {
         let floor = self.floor();
@@ -438,6 +473,7 @@ impl Desk {
             b'h' => told("steps", calls::ceiling(first as u16)),
             b'm' => either(self.lent == written_out(numbers, self.lent.len()), "the same", "OTHERWISE"),
             b'a' => either(self.is_planned(), "the same", "OTHERWISE"),
+            b'v' => self.conflicts(),
             b'S' => self.search(first),
             b't' => self.sheet(&rest.as_bytes()[..first]),
             b'C' => passed(calls::check_floor(&record, &walls)),

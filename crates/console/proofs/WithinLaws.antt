@@ -5,6 +5,7 @@ use mathlib.Core.List.{List}
 use lib.ListN.{length, take, drop, length-take, length-drop}
 use lib.Seq.{length-take-le}
 use native.Mathlib.Omega.{arith}
+use borrow.Author.Needs.{needs}
 use Rattle.io.specs.Counts.{Counts}
 use Rattle.console.specs.declared.Input.{Input}
 use Rattle.console.specs.declared.Input.the-variants.{Read}
@@ -28,5 +29,13 @@ pub counts-within : (n : ℕ) (xs : List ℕ) → n ≤ length xs → Counts n x
 counts-within n xs l = (l, sym (length-take-le n xs l))
 
 -- The bytes that were read stand in front of the memory.
-pub read-within : (n : ℕ) (r : Input) (xs : List ℕ) → r ≡ Read n → InputWithin r xs → Counts n xs
-read-within n r xs e w = rw e at w
+pub read-within : {n : ℕ} {r : Input} (xs : List ℕ) → r ≡ Read n → InputWithin r xs → n ≤ length xs
+unfolding InputWithin
+read-within xs e w = (rw e at w) .0
+
+pub read-counted : {n : ℕ} {r : Input} (xs : List ℕ) → r ≡ Read n → InputWithin r xs → n ≡ length (take n xs)
+unfolding InputWithin
+read-counted xs e w = (rw e at w) .1
+
+-- What a program that reads its input takes.
+pub ruleset reading = (needs, read-within, read-counted)

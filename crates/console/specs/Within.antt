@@ -8,7 +8,7 @@ use Rattle.console.specs.declared.Part.{Part}
 use Rattle.console.specs.declared.Part.the-variants as part
 
 -- The bytes that were read stand in front of a memory.
-abbrev pub InputWithin : Input → List ℕ → Type 0
+unfoldable pub InputWithin : Input → List ℕ → Type 0
 InputWithin (input.Read n) xs = Counts n xs
 InputWithin input.Failed xs = Unit {0}
 

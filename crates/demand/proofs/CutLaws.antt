@@ -20,7 +20,7 @@ use Rattle.layout.specs.Numbers.{askedBy}
 use Rattle.layout.specs.Calls.{machineOf}
 use Rattle.demand.specs.Lists.{ProgramCall, oneRun, answerOf, programMemory}
 use Rattle.demand.specs.Lists.{lentLength, referenceCall, referenceCalls, referenceAfter}
-use Rattle.demand.specs.Demand.{returned, Cut}
+use Rattle.demand.specs.Demand3.{returned, Cut}
 use Rattle.demand.proofs.RefusalLaws.{reply-value}
 use Rattle.demand.proofs.ListLaws.{answers-same, memory-same, next-answer, more-state, more-taken}
 

@@ -1,5 +1,12 @@
 -- The lists of calls over the simulation, and the claim.
+pub mod RowLaws
 pub mod RefusalLaws
+pub mod EntryLaws
+pub mod PlanLaws
+pub mod SameFloorLaws
+pub mod RoundTripLaws
+pub mod Demand1
+pub mod Demand2
 pub mod LentLaws
 pub mod ListLaws
 pub mod CutLaws

@@ -12,6 +12,8 @@ use Rattle.reference.specs.Table.{step, noStep, Call, single, runOf, lentEnough
 use Rattle.reference.specs.Refused.{RefusedWith, short-single, short-run, unnamed-single, unnamed-run, not-open}
 use Rattle.reference.specs.Calls.{Told, ran, Reply, reply, afterCall, replies}
 use Rattle.reference.proofs.Theorems.{theorems}
+use Rattle.demand.specs.Rows.{Answers}
+use Rattle.demand.proofs.RowLaws.{gives-rows}
 
 -- A value that is given has passed the checks, a refusal is theirs.
 gives-value : (v : Verdict) (a b : Told) → _≡_ {A = Reply} (v gives a) (value b) → v ≡ passed
@@ -44,6 +46,12 @@ module _ (M : Machine) (s : State) where
 
   pub reply-value : (c : Call) (told : Told) → reply M s c ≡ value told → verdict M s c ≡ passed
   reply-value c told e = let g = reply-gives c in gives-value (verdict M s c) (g .0) told (sym (g .1) ∙ e)
+
+  -- The answer to a call is refused exactly under the rows of the table.
+  pub reply-rows : (c : Call) → Answers (reply M s c) (RefusedWith M s c)
+  reply-rows c =
+      let g = reply-gives c in
+      rw (g .1) (gives-rows (verdict M s c) (g .0) (theorems .calls .refuses-exactly M s c))
 
   pub state-kept : (c : Call) (k p : ℕ) → verdict M s c ≡ refused k p → afterCall M s c ≡ s
   unfolding afterCall

@@ -21,7 +21,7 @@ use Rattle.layout.specs.Calls.{machineOf}
 use Rattle.layout.proofs.FloorLaws.{depth-some}
 use Rattle.layout.proofs.SimulationLaws.{call-fits, simulated-reply, simulated-memory}
 use Rattle.demand.specs.Lists.{ProgramCall, programReplies, referenceCall, referenceCalls, referenceReplies, referenceAfter}
-use Rattle.demand.specs.Demand.{Holds, Demand3}
+use Rattle.demand.specs.Demand3.{Holds, Demand3}
 use Rattle.demand.proofs.RefusalLaws.{replies-not-ten}
 use Rattle.demand.proofs.ListLaws.{answers-same, memory-same, after-fits}
 use Rattle.demand.proofs.CutLaws.{cut-there}

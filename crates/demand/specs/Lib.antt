@@ -1,6 +1,9 @@
 -- In reading order: the calls on the program's side and on the reference machine's, and the claim; then document 01's cases.
 pub mod Lists
-pub mod Demand
+pub mod Rows
+pub mod Demand1
+pub mod Demand2
+pub mod Demand3
 pub mod Floors
 pub mod Texts
 pub mod Cases

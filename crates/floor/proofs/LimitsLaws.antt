@@ -14,7 +14,7 @@ use Rattle.laws.proofs.VerdictLaws.{then-assoc, then-both, demand-holds}
 use Rattle.laws.proofs.EachLaws.{Decides, each-means}
 
 -- The test of a limit means the limit.
-within-means : (low high v : ℕ) → (within low high v ≡ true) ↔ Within low high v
+pub within-means : (low high v : ℕ) → (within low high v ≡ true) ↔ Within low high v
 unfolding within
 within-means low high v = (
   λ h. let b = and-eq-true-iff (leb low v) (leb v high) .0 h in (leb-true low v (b .0), leb-true v high (b .1)),

@@ -33,6 +33,21 @@ unfolding rises
 rises-same ws vs m zero l a = refl
 rises-same ws vs m (suc j) l a = rw (a j (omega arith), a (suc j) l)
 
+-- A record with two lists of walls that agree up to its count of walls is the same floor.
+pub walls-agree : (f : Floor) (ws vs : List ℕ) → All (λ (j : ℕ). getD ws j 0 ≡ getD vs j 0) (f .walls) → SameFloor f ws f vs
+walls-agree f ws vs a =
+    record {
+      width = refl;
+      height = refl;
+      horizon = refl;
+      depth = refl;
+      carriers = refl;
+      walls = refl;
+      starts = λ i l. refl;
+      goals = λ i l. refl;
+      cells = a;
+    }
+
 module _ (f : Floor) (ws : List ℕ) (g : Floor) (vs : List ℕ) (same : SameFloor f ws g vs) where
   in-grid-same : (c : ℕ) → inGrid f c ≡ inGrid g c
   unfolding inGrid

@@ -4,25 +4,26 @@ use mathlib.Core.Path.{_≡_, refl}
 use mathlib.Core.List.{List}
 use lib.ListN.{length}
 use borrow.Author.Tests.{le-leb, lt-leb}
-use Rattle.laws.specs.Verdict.{demand, whenPassed}
+use Rattle.laws.specs.Verdict.{Verdict, passed, refused, _then_, demand, Outcome, refusal, _thenAnswers_, whenPassed}
 use Rattle.floor.specs.Checks.{roomOf}
-use Rattle.wire.specs.Word.{Said, turned, wordOf}
+use Rattle.sheet.specs.Read.{readVerdict}
+use Rattle.wire.specs.Word.{Done, wordOf}
 use Rattle.wire.specs.Record.{recordLent}
-use Rattle.kalomivund.specs.Entries.{wordFor, storedFor}
+use Rattle.kalomivund.specs.Entries.{wordFor, storedFor, readLent}
 
 -- The word and the memory are those of the call.
-pub says-lent : {w : ℕ} (xs : List ℕ) (s : Said) → 22 ≤ length xs → w ≡ wordOf s → w ≡ wordFor xs s
-unfolding wordFor whenPassed recordLent roomOf demand
-says-lent xs s l e = rw (le-leb 22 (length xs) l) e
+pub says-lent : {w : ℕ} (xs : List ℕ) (o : Outcome Done) → 22 ≤ length xs → w ≡ wordOf o → w ≡ wordFor xs o
+unfolding wordFor _thenAnswers_ recordLent roomOf demand
+says-lent xs o l e = rw (le-leb 22 (length xs) l) e
 
 pub stores-lent : {m new : List ℕ} (xs old : List ℕ) → 22 ≤ length xs → m ≡ new → m ≡ storedFor xs new old
 unfolding storedFor whenPassed recordLent roomOf demand
 stores-lent xs old l e = rw (le-leb 22 (length xs) l) e
 
 -- The word is the refusal's, 9, 0, and the memory is as it was.
-pub says-short : {w : ℕ} (xs : List ℕ) (s : Said) → length xs < 22 → w ≡ wordOf (turned 9 0) → w ≡ wordFor xs s
-unfolding wordFor whenPassed recordLent roomOf demand
-says-short xs s l e = rw (lt-leb 22 (length xs) l) e
+pub says-short : {w : ℕ} (xs : List ℕ) (o : Outcome Done) → length xs < 22 → w ≡ wordOf (refusal 9 0) → w ≡ wordFor xs o
+unfolding wordFor _thenAnswers_ recordLent roomOf demand
+says-short xs o l e = rw (lt-leb 22 (length xs) l) e
 
 pub stores-short : (xs new old : List ℕ) → length xs < 22 → old ≡ storedFor xs new old
 unfolding storedFor whenPassed recordLent roomOf demand
@@ -30,3 +31,25 @@ stores-short xs new old l = rw (lt-leb 22 (length xs) l) refl
 
 -- What is answered to a record that is too short.
 pub ruleset too-short = (says-short, stores-short)
+
+-- Checks, then output memory that is too short: nothing is stored.
+pub short-keeps : (v : Verdict) (new old : List ℕ) → whenPassed (v then refused 9 0) new old ≡ old
+unfolding whenPassed _then_
+short-keeps passed new old = refl
+short-keeps (refused k p) new old = refl
+
+-- A check that finds nothing adds nothing to those before it.
+then-nothing : (v : Verdict) → (v then passed) ≡ v
+unfolding _then_
+then-nothing passed = refl
+then-nothing (refused k p) = refl
+
+-- Reading a sheet into a record that is too short, and into one of enough numbers.
+module _ (text : List ℕ) {lent : ℕ} (room : ℕ) where
+  pub read-short : lent < 22 → readLent text lent room ≡ (readVerdict text room then refused 9 0)
+  unfolding readLent roomOf demand
+  read-short l = rw (lt-leb 22 lent l) refl
+
+  pub read-long : 22 ≤ lent → readLent text lent room ≡ readVerdict text room
+  unfolding readLent roomOf demand
+  read-long l = rw (le-leb 22 lent l) (then-nothing (readVerdict text room))

@@ -1,25 +1,30 @@
 -- Laws of a search into lent memory: what each case of the code's answer says and stores.
-use Prim.Native.Nat.{ℕ}
-use mathlib.Core.Path.{_≡_, refl, _∙_}
+use Prim.Native.Nat.{ℕ, _≤_, _<_}
+use mathlib.Core.Path.{_≡_, refl, sym, _∙_}
 use mathlib.Core.List.{List}
 use Rattle.laws.specs.Memory.{put}
-use Rattle.laws.specs.Verdict.{Outcome}
+use Rattle.laws.specs.Verdict.{Verdict, passed, refused, demand, _then_, Outcome, value, refusal, _gives_, _thenAnswers_}
+use borrow.Author.Tests.{le-leb, lt-leb}
+use Rattle.floor.specs.declared.Floor.{Floor}
+use Rattle.floor.specs.Checks.{checkOf, roomOf}
+use Rattle.search.specs.Search.{searchOf, requestOf}
 use Rattle.floor.specs.declared.Refusal.{Refusal}
 use Rattle.route.specs.Route.{Answer}
 use Rattle.search.specs.declared.Found.{Found}
 use Rattle.search.specs.declared.Outcome.the-variants.{Route, None, Refused}
 use Rattle.search.specs.Answers.{resultOf, outcomeOf, cellsOf, Says}
-use Rattle.wire.specs.Word.{wordOf, done, turned as Said·turned}
-use Rattle.kalomivund.specs.Answers.{ofSearch, routeStored}
+use Rattle.wire.specs.Word.{wordOf, done, mapOutcome, ofNumber}
+use Rattle.kalomivund.specs.Answers.{ofSearch, answerDone, routeStored}
+use Rattle.kalomivund.specs.Entries.{searchLent}
 
 module _ {x : Found} {result : Outcome Answer} (s : Says x result) where
   -- None and a route: their case, and 64 cells in front.
-  pub none-says : {w : ℕ} → x .outcome ≡ None → w ≡ wordOf (done 0 0) → w ≡ wordOf (ofSearch result)
-  unfolding ofSearch resultOf outcomeOf
+  pub none-says : {w : ℕ} → x .outcome ≡ None → w ≡ wordOf (value (done 0 0)) → w ≡ wordOf (ofSearch result)
+  unfolding ofSearch mapOutcome answerDone resultOf outcomeOf
   none-says e h = rw (← s .answers, e) h
 
-  pub route-says : {w : ℕ} → x .outcome ≡ Route → w ≡ wordOf (done 1 0) → w ≡ wordOf (ofSearch result)
-  unfolding ofSearch resultOf outcomeOf
+  pub route-says : {w : ℕ} → x .outcome ≡ Route → w ≡ wordOf (value (done 1 0)) → w ≡ wordOf (ofSearch result)
+  unfolding ofSearch mapOutcome answerDone resultOf outcomeOf
   route-says e h = rw (← s .answers, e) h
 
   pub none-stores : {m : List ℕ} (old : List ℕ) → x .outcome ≡ None → m ≡ put old 0 (x .route) → m ≡ routeStored result old
@@ -31,9 +36,9 @@ module _ {x : Found} {result : Outcome Answer} (s : Says x result) where
   route-stores old e h = h ∙ rw (← s .answers, e) refl
 
   -- A refusal: as met, and the memory as it was.
-  pub refused-says : {w : ℕ} {r : Refusal} → x .outcome ≡ Refused r → w ≡ wordOf (Said·turned (r .number) (r .place))
+  pub refused-says : {w : ℕ} {r : Refusal} → x .outcome ≡ Refused r → w ≡ wordOf (refusal (r .number) (r .place))
       → w ≡ wordOf (ofSearch result)
-  unfolding ofSearch resultOf outcomeOf
+  unfolding ofSearch mapOutcome answerDone resultOf outcomeOf
   refused-says e h = rw (← s .answers, e) h
 
   pub refused-stores : {r : Refusal} (old : List ℕ) → x .outcome ≡ Refused r → old ≡ routeStored result old
@@ -41,3 +46,35 @@ module _ {x : Found} {result : Outcome Answer} (s : Says x result) where
   refused-stores old e = rw (← s .answers, e) refl
 
 pub ruleset found-cases = (none-says, route-says, none-stores, route-stores, refused-says, refused-stores)
+
+-- A search into route memory that is too short, after the floor's checks v, and into memory of enough numbers.
+short-word : (v : Verdict) (o : Outcome Answer)
+    → wordOf (ofNumber ((v then refused 9 0) gives 0)) ≡ wordOf (ofSearch ((v then refused 9 0) thenAnswers o))
+unfolding _then_ _gives_ _thenAnswers_ ofNumber ofSearch mapOutcome
+short-word passed o = refl
+short-word (refused k p) o = refl
+
+short-route : (v : Verdict) (o : Outcome Answer) (old : List ℕ) → routeStored ((v then refused 9 0) thenAnswers o) old ≡ old
+unfolding _then_ _thenAnswers_ routeStored
+short-route passed o old = refl
+short-route (refused k p) o old = refl
+
+checked-twice : (v w : Verdict) (x : Answer)
+    → _≡_ {A = Outcome Answer} ((v then passed) thenAnswers ((v then w) gives x)) ((v then w) gives x)
+unfolding _then_ _gives_ _thenAnswers_
+checked-twice passed w x = refl
+checked-twice (refused k p) w x = refl
+
+module _ (f : Floor) (ws : List ℕ) (i : ℕ) (m : List ℕ) {room : ℕ} where
+  pub search-short-says : {w : ℕ} → room < 64 → w ≡ wordOf (ofNumber ((checkOf f ws then refused 9 0) gives 0))
+      → w ≡ wordOf (ofSearch (searchLent f ws i m room))
+  unfolding searchLent roomOf demand
+  search-short-says l e = rw (lt-leb 64 room l) (e ∙ short-word (checkOf f ws) (searchOf f ws i m))
+
+  pub search-short-stores : (old : List ℕ) → room < 64 → old ≡ routeStored (searchLent f ws i m room) old
+  unfolding searchLent roomOf demand
+  search-short-stores old l = rw (lt-leb 64 room l) (sym (short-route (checkOf f ws) (searchOf f ws i m) old))
+
+  pub search-long : 64 ≤ room → searchLent f ws i m room ≡ searchOf f ws i m
+  unfolding searchLent searchOf requestOf roomOf demand
+  search-long l = rw (le-leb 64 room l) (checked-twice (checkOf f ws) _ _)

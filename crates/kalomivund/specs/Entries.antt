@@ -1,98 +1,103 @@
 -- The word that each exported function answers, and what it leaves in lent memory, from the definitions of the entry that it calls.
 use Prim.Native.Nat.{ℕ}
-use mathlib.Core.Bool.{cond}
-use mathlib.Core.List.{List}
-use lib.Dec.{leb}
-use lib.ListN.{length}
+use mathlib.Core.List.{List, _++_}
+use lib.ListN.{length, drop}
 use Rattle.laws.specs.Memory.{put}
 use Rattle.floor.specs.declared.Floor.{Floor}
-use Rattle.laws.specs.Verdict.{Verdict, refused, _then_, whenPassed}
-use Rattle.floor.specs.Checks.{checkOf}
+use Rattle.laws.specs.Verdict.{Verdict, _then_, Outcome, _gives_, _thenAnswers_, whenPassed}
+use Rattle.floor.specs.Checks.{checkOf, limitsOf, roomOf}
+use Rattle.route.specs.Route.{Answer}
 use Rattle.sheet.specs.Text.{sheetLength}
-use Rattle.sheet.specs.Values.{floorAt}
-use Rattle.sheet.specs.Read.{readVerdict, readWalls, writeVerdict, writeSheet}
+use Rattle.sheet.specs.Values.{floorAt, wallsAt}
+use Rattle.sheet.specs.Read.{readVerdict, writeVerdict, writeSheet}
 use Rattle.search.specs.Search.{searchOf}
 use Rattle.printing.specs.Print.{routesOutcome, routesMemory}
-use Rattle.lengths.specs.Figures.{figuresFor}
+use Rattle.lengths.specs.Figures.{lengthsOf}
 use Rattle.planner.specs.Answers.{planResult}
 use Rattle.planner.specs.Records.{planMemory}
 use Rattle.layout.specs.Calls.{placeVerdict, freshMemory, replyTo, memoryAfter, singleCall, runCall}
 use Rattle.machine.specs.Ceiling.{mostSteps}
-use Rattle.wire.specs.Word.{Said, turned, wordOf}
+use Rattle.wire.specs.Word.{Done, wordOf, ofNumber}
 use Rattle.wire.specs.Record.{floorOf, numbersOf, recordLent}
-use Rattle.wire.specs.Word.{ofVerdict}
-use Rattle.kalomivund.specs.Answers.{ofSearch, routeStored, ofPrinted, ofFigures, figuresStored, ofPlan, ofReply, ofFigure}
+use Rattle.kalomivund.specs.Answers.{ofSearch, routeStored, figureList, ofReply}
 
--- What is said of a floor record of enough numbers; 9, 0 of a shorter one.
-unfoldable pub wordFor : List ℕ → Said → ℕ
-wordFor xs s = wordOf (whenPassed (recordLent xs) s (turned 9 0))
+-- The word of a call with a floor record of enough numbers; 9, 0 of one with fewer.
+unfoldable pub wordFor : List ℕ → Outcome Done → ℕ
+wordFor xs o = wordOf (recordLent xs thenAnswers o)
 
--- Memory after a call with a floor record of enough numbers; as it was with a shorter one.
+-- Memory after a call with a floor record of enough numbers; as it was with fewer.
 unfoldable pub storedFor : List ℕ → List ℕ → List ℕ → List ℕ
 storedFor xs new old = whenPassed (recordLent xs) new old
 
+-- Reading a sheet into a record and wall memory of so many numbers: the sheet's refusals, then 9 for either.
+unfoldable pub readLent : List ℕ → ℕ → ℕ → Verdict
+readLent text lent room = readVerdict text room then roomOf 22 lent
+
 -- `kalomivund_read_sheet`: the word, the floor record and the wall memory.
-unfoldable pub readWord : List ℕ → List ℕ → ℕ → ℕ
-readWord text xs room = wordFor xs (ofVerdict (readVerdict text room) 0)
+unfoldable pub readWord : List ℕ → ℕ → ℕ → ℕ
+readWord text lent room = wordOf (ofNumber (readLent text lent room gives 0))
 
 unfoldable pub readRecord : List ℕ → List ℕ → ℕ → List ℕ
-readRecord text xs room = storedFor xs (whenPassed (readVerdict text room) (put xs 0 (numbersOf (floorAt text))) xs) xs
+readRecord text xs room = whenPassed (readLent text (length xs) room) (put xs 0 (numbersOf (floorAt text))) xs
 
-unfoldable pub readStored : List ℕ → List ℕ → List ℕ → List ℕ
-readStored text xs old = storedFor xs (readWalls text old) old
+unfoldable pub readStored : List ℕ → ℕ → List ℕ → List ℕ
+readStored text lent old = whenPassed (readLent text lent (length old)) (wallsAt text ++ drop (floorAt text .walls) old) old
 
 -- `kalomivund_write_sheet`.
 unfoldable pub writeWord : List ℕ → List ℕ → ℕ → ℕ
-writeWord xs ws room = wordFor xs (ofVerdict (writeVerdict (floorOf xs) ws room) (sheetLength (floorOf xs)))
+writeWord xs ws room = wordFor xs (ofNumber (writeVerdict (floorOf xs) ws room gives sheetLength (floorOf xs)))
 
 unfoldable pub writeStored : List ℕ → List ℕ → List ℕ → List ℕ
 writeStored xs ws old = storedFor xs (writeSheet (floorOf xs) ws old) old
 
+-- The refusals of needed lengths: the limits of line 1, then 9 where fewer numbers are lent than there are figures.
+unfoldable pub neededVerdict : Floor → ℕ → Verdict
+neededVerdict f room = limitsOf f then roomOf 8 room
+
 -- `kalomivund_needed_lengths`.
 unfoldable pub neededWord : List ℕ → ℕ → ℕ
-neededWord xs room = wordFor xs (ofFigures (figuresFor (floorOf xs)) room)
+neededWord xs room = wordFor xs (ofNumber (neededVerdict (floorOf xs) room gives 0))
 
 unfoldable pub neededStored : List ℕ → List ℕ → List ℕ
-neededStored xs old = storedFor xs (figuresStored (figuresFor (floorOf xs)) old) old
+neededStored xs old =
+    storedFor xs (whenPassed (neededVerdict (floorOf xs) (length old)) (put old 0 (figureList (lengthsOf (floorOf xs)))) old) old
 
--- A search with no room for its route gets the floor's refusal, and 9 if it has none.
-unfoldable pub noRoom : Floor → List ℕ → Verdict
-noRoom f ws = checkOf f ws then refused 9 0
+-- A search into route memory of so many numbers: the floor's refusals, then 9, then the search's own answer.
+unfoldable pub searchLent : Floor → List ℕ → ℕ → List ℕ → ℕ → Outcome Answer
+searchLent f ws i m room = (checkOf f ws then roomOf 64 room) thenAnswers searchOf f ws i m
 
 -- `kalomivund_search`.
 unfoldable pub searchWord : List ℕ → List ℕ → ℕ → List ℕ → ℕ → ℕ
-searchWord xs ws i m room =
-    wordFor xs (cond (leb 64 room) (ofSearch (searchOf (floorOf xs) ws i m)) (ofVerdict (noRoom (floorOf xs) ws) 0))
+searchWord xs ws i m room = wordFor xs (ofSearch (searchLent (floorOf xs) ws i m room))
 
 unfoldable pub searchStored : List ℕ → List ℕ → ℕ → List ℕ → List ℕ → List ℕ
-searchStored xs ws i m old =
-    storedFor xs (cond (leb 64 (length old)) (routeStored (searchOf (floorOf xs) ws i m) old) old) old
+searchStored xs ws i m old = storedFor xs (routeStored (searchLent (floorOf xs) ws i m (length old)) old) old
 
 -- `kalomivund_print_routes`.
 unfoldable pub printWord : List ℕ → ℕ → ℕ
-printWord text room = wordOf (ofPrinted (routesOutcome text room))
+printWord text room = wordOf (ofNumber (routesOutcome text room))
 
 unfoldable pub printStored : List ℕ → List ℕ → List ℕ
 printStored text old = routesMemory text old
 
 -- `kalomivund_ceiling`.
 unfoldable pub ceilingWord : ℕ → ℕ
-ceilingWord n = wordOf (ofFigure (mostSteps n))
+ceilingWord n = wordOf (ofNumber (mostSteps n))
 
 -- `kalomivund_check_floor`.
 unfoldable pub checkWord : List ℕ → List ℕ → ℕ
-checkWord xs ws = wordFor xs (ofVerdict (checkOf (floorOf xs) ws) 0)
+checkWord xs ws = wordFor xs (ofNumber (checkOf (floorOf xs) ws gives 0))
 
 -- `kalomivund_plan`.
 unfoldable pub planWord : List ℕ → List ℕ → ℕ → ℕ
-planWord xs ws room = wordFor xs (ofPlan (planResult (floorOf xs) ws room))
+planWord xs ws room = wordFor xs (ofNumber (planResult (floorOf xs) ws room))
 
 unfoldable pub planStored : List ℕ → List ℕ → List ℕ → List ℕ
 planStored xs ws old = storedFor xs (planMemory (floorOf xs) ws old) old
 
 -- `kalomivund_fresh`.
 unfoldable pub freshWord : List ℕ → List ℕ → ℕ → ℕ
-freshWord xs ws room = wordFor xs (ofVerdict (placeVerdict (floorOf xs) ws room) 0)
+freshWord xs ws room = wordFor xs (ofNumber (placeVerdict (floorOf xs) ws room gives 0))
 
 unfoldable pub freshStored : List ℕ → List ℕ → List ℕ → List ℕ
 freshStored xs ws old = storedFor xs (freshMemory (floorOf xs) ws old) old

@@ -2,47 +2,35 @@
 ghost use mathlib.Core.Path.{_≡_};
 ghost use Rattle.planner.specs.Answers.{resultOf};
 ghost use Rattle.printing.specs.Print.{outcomeOf};
-ghost use Rattle.lengths.specs.Figures.{figuresOf};
 ghost use Rattle.machine.specs.Answers.{steppedReply, ranReply};
 ghost use Rattle.machine.specs.Ceiling.{figureOf};
-ghost use Rattle.wire.specs.Word.{wordOf};
-ghost use Rattle.kalomivund.specs.Answers.{ofPlan, ofPrinted, ofFigures, ofReply, ofFigure};
-use lengths::Needed;
+ghost use Rattle.wire.specs.Word.{wordOf, ofNumber};
+ghost use Rattle.kalomivund.specs.Answers.{ofReply};
 use machine::Most;
 use machine::Ran;
 use machine::Stepped;
 use planner::Planned;
 use printing::Printed;
 use wire::word::done;
-use wire::word::turned;
-
-// The word of the needed lengths where there is room for them, or of their refusal.
-pub fn of_needed(x: Needed) -> u64
-    ensures { λ r. ⌜ r ≡ wordOf (ofFigures (figuresOf x) 5) ⌝ }
-{
-    match x {
-        Needed::Known(_) => done(0, 0),
-        Needed::Refused(r) => turned(r),
-    }
-}
+use wire::word::refused;
 
 // The word of printing.
 pub fn of_print(x: Printed) -> u64
-    ensures { λ r. ⌜ r ≡ wordOf (ofPrinted (outcomeOf x)) ⌝ }
+    ensures { λ r. ⌜ r ≡ wordOf (ofNumber (outcomeOf x)) ⌝ }
 {
     match x {
         Printed::Written(n) => done(0, n),
-        Printed::Refused(r) => turned(r),
+        Printed::Refused(r) => refused(r),
     }
 }
 
 // The word of a plan.
 pub fn of_plan(x: Planned) -> u64
-    ensures { λ r. ⌜ r ≡ wordOf (ofPlan (resultOf x)) ⌝ }
+    ensures { λ r. ⌜ r ≡ wordOf (ofNumber (resultOf x)) ⌝ }
 {
     match x {
         Planned::Failing(i) => done(0, i),
-        Planned::Refused(r) => turned(r),
+        Planned::Refused(r) => refused(r),
     }
 }
 
@@ -54,7 +42,7 @@ pub fn of_step(x: Stepped) -> u64
         Stepped::Kept => done(0, 0),
         Stepped::Sent => done(1, 0),
         Stepped::Delivered => done(2, 0),
-        Stepped::Refused(r) => turned(r),
+        Stepped::Refused(r) => refused(r),
     }
 }
 
@@ -66,16 +54,16 @@ pub fn of_run(x: Ran) -> u64
         Ran::Silent(n) => done(0, n),
         Ran::Spent(n) => done(1, n),
         Ran::Ended(n) => done(2, n),
-        Ran::Refused(r) => turned(r),
+        Ran::Refused(r) => refused(r),
     }
 }
 
 // The word of the ceiling.
 pub fn of_ceiling(x: Most) -> u64
-    ensures { λ r. ⌜ r ≡ wordOf (ofFigure (figureOf x)) ⌝ }
+    ensures { λ r. ⌜ r ≡ wordOf (ofNumber (figureOf x)) ⌝ }
 {
     match x {
         Most::Steps(n) => done(0, n),
-        Most::Refused(r) => turned(r),
+        Most::Refused(r) => refused(r),
     }
 }

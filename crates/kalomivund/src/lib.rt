@@ -7,21 +7,22 @@ mod answers;
 ghost use mathlib.Core.Path.{_≡_};
 ghost use Prim.Native.Nat.{_≤_};
 ghost use lib.ListN.{length};
-ghost use Rattle.floor.specs.Answers.{verdictOf};
+ghost use Rattle.laws.specs.Memory.{put};
+ghost use Rattle.laws.specs.Verdict.{_gives_, whenPassed};
+ghost use Rattle.floor.specs.Checks.{roomOf};
 ghost use Rattle.search.specs.Search.{searchOf};
-ghost use Rattle.lengths.specs.Figures.{figuresOf};
-ghost use Rattle.wire.specs.Word.{wordOf};
-ghost use Rattle.kalomivund.specs.Answers.{ofSearch, routeStored, ofFigures, figuresStored};
+ghost use Rattle.wire.specs.Word.{wordOf, ofNumber};
+ghost use Rattle.kalomivund.specs.Answers.{ofSearch, routeStored, figureList};
 ghost use Rattle.kalomivund.specs.Entries.{readWord, readRecord, readStored, writeWord, writeStored, checkWord};
-ghost use Rattle.kalomivund.specs.Entries.{neededWord, neededStored, noRoom, searchWord, searchStored, planWord, planStored};
+ghost use Rattle.kalomivund.specs.Entries.{neededWord, neededStored, searchWord, searchStored, planWord, planStored};
 ghost use Rattle.kalomivund.specs.Entries.{printWord, printStored, freshWord, freshStored, stepWord, stepStored};
 ghost use Rattle.kalomivund.specs.Entries.{runWord, runStored, ceilingWord};
 use floor::Checked;
 use floor::Floor;
-use floor::Refusal;
+use lengths::Lengths;
 use lengths::Needed;
 use search::Outcome;
-use wire::records;
+use wire::numbers;
 use wire::word;
 
 // The most steps for so many carriers.
@@ -40,18 +41,18 @@ pub extern "C" fn kalomivund_check_floor(f: &[u16], walls: &[u16]) -> u64
     if f.len() < 22 {
         return word::too_short();
     }
-    word::of_check(floor::check(records::floor_of(f), walls), 0)
+    word::of_check(floor::check(numbers::floor_of(f), walls), 0)
 }
 
 // Reads a sheet: its floor record and its walls into lent memory.
 #[no_mangle]
 pub extern "C" fn kalomivund_read_sheet(text: &[u8], f: &mut [u16], walls: &mut [u16]) -> u64
-    ensures says { λ r. ⌜ r ≡ readWord (now (text .entry)) (now (f .entry)) (length (now (walls .entry))) ⌝ }
+    ensures says { λ r. ⌜ r ≡ readWord (now (text .entry)) (length (now (f .entry))) (length (now (walls .entry))) ⌝ }
     ensures records { λ r. ⌜ now (f .exit) ≡ readRecord (now (text .entry)) (now (f .entry)) (length (now (walls .entry))) ⌝ }
-    ensures stores { λ r. ⌜ now (walls .exit) ≡ readStored (now (text .entry)) (now (f .entry)) (now (walls .entry)) ⌝ }
+    ensures stores { λ r. ⌜ now (walls .exit) ≡ readStored (now (text .entry)) (length (now (f .entry))) (now (walls .entry)) ⌝ }
 {
     if f.len() < 22 {
-        return word::too_short();
+        return word::of_check_in_short(sheet::check(text, walls.len()));
     }
     let reading = sheet::read(text, walls);
     let checked = reading.answer;
@@ -59,7 +60,7 @@ pub extern "C" fn kalomivund_read_sheet(text: &[u8], f: &mut [u16], walls: &mut 
     let Checked::Passed = checked else {
         return word::of_check(checked, 0);
     };
-    records::store(f, found);
+    numbers::store(f, found);
     word::done(0, 0)
 }
 
@@ -72,30 +73,34 @@ pub extern "C" fn kalomivund_write_sheet(f: &[u16], walls: &[u16], out: &mut [u8
     if f.len() < 22 {
         return word::too_short();
     }
-    let found = records::floor_of(f);
+    let found = numbers::floor_of(f);
     word::of_check(sheet::write(found, walls, out), sheet::sheet_length(found))
 }
 
-// The needed lengths as they come from their entry, into lent memory of enough numbers.
-fn lay_lengths(needed: Needed, out: &mut [u64]) -> u64
-    ensures says { λ r. ⌜ r ≡ wordOf (ofFigures (figuresOf needed) (length (now (out .entry)))) ⌝ }
-    ensures stores { λ r. ⌜ now (out .exit) ≡ figuresStored (figuresOf needed) (now (out .entry)) ⌝ }
+// Needed lengths into lent memory of enough numbers.
+fn store_lengths(l: Lengths, out: &mut [u64]) -> u64
+    ensures says { λ r. ⌜ r ≡ wordOf (ofNumber (roomOf 8 (length (now (out .entry))) gives 0)) ⌝ }
+    ensures stores { λ r. ⌜ now (out .exit)
+        ≡ whenPassed (roomOf 8 (length (now (out .entry)))) (put (now (out .entry)) 0 (figureList l)) (now (out .entry)) ⌝ }
 {
-    let Needed::Known(l) = needed else {
-        return answers::of_needed(needed);
-    };
-    if out.len() < 5 {
+    if out.len() < 8 {
         return word::too_short();
     }
-    out[0] = l.walls as u64;
-    out[1] = l.sheet as u64;
-    out[2] = l.answers as u64;
-    out[3] = l.text as u64;
-    out[4] = l.state as u64;
+    let figures = [
+        l.walls as u64,
+        l.sheet as u64,
+        l.answers as u64,
+        l.text as u64,
+        l.state as u64,
+        l.route as u64,
+        l.floor as u64,
+        l.figures as u64,
+    ];
+    numbers::copy_figures(out, &figures);
     word::done(0, 0)
 }
 
-// The needed length of each lent buffer of a floor: walls, sheet, answers, text, state.
+// The needed length of each lent buffer of a floor: walls, sheet, answers, text, state, route, floor record, figures.
 #[no_mangle]
 pub extern "C" fn kalomivund_needed_lengths(f: &[u16], out: &mut [u64]) -> u64
     ensures says { λ r. ⌜ r ≡ neededWord (now (f .entry)) (length (now (out .entry))) ⌝ }
@@ -104,21 +109,11 @@ pub extern "C" fn kalomivund_needed_lengths(f: &[u16], out: &mut [u64]) -> u64
     if f.len() < 22 {
         return word::too_short();
     }
-    lay_lengths(lengths::needed_lengths(records::floor_of(f)), out)
-}
-
-// What a search answers that has no room for a route: the floor's refusal, and 9 if it has none.
-fn no_room(f: Floor, walls: &[u16]) -> Checked
-    ensures { λ r. ⌜ verdictOf r ≡ noRoom f (now (walls .entry)) ⌝ }
-{
-    let checked = floor::check(f, walls);
-    let Checked::Passed = checked else {
-        return checked;
-    };
-    Checked::Refused(Refusal {
-        number: 9,
-        place: 0,
-    })
+    let needed = lengths::needed_lengths(numbers::floor_of(f));
+    match needed {
+        Needed::Known(l) => store_lengths(l, out),
+        Needed::Refused(x) => word::refused(x),
+    }
 }
 
 // A search with room for its route.
@@ -133,14 +128,14 @@ fn search_into(f: Floor, walls: &[u16], carrier: u16, views: &[u16], route: &mut
     let cells = found.route;
     match outcome {
         Outcome::None => {
-            records::copy(route, 0, &cells);
+            numbers::copy(route, 0, &cells);
             word::done(0, 0)
         }
         Outcome::Route => {
-            records::copy(route, 0, &cells);
+            numbers::copy(route, 0, &cells);
             word::done(1, 0)
         }
-        Outcome::Refused(x) => word::turned(x),
+        Outcome::Refused(x) => word::refused(x),
     }
 }
 
@@ -161,9 +156,9 @@ pub extern "C" fn kalomivund_search(
     if f.len() < 22 {
         return word::too_short();
     }
-    let found = records::floor_of(f);
+    let found = numbers::floor_of(f);
     if route.len() < 64 {
-        return word::of_check(no_room(found, walls), 0);
+        return word::of_check_in_short(floor::check(found, walls));
     }
     search_into(found, walls, carrier, views, route)
 }
@@ -177,7 +172,7 @@ pub extern "C" fn kalomivund_plan(f: &[u16], walls: &[u16], answers: &mut [u16])
     if f.len() < 22 {
         return word::too_short();
     }
-    answers::of_plan(planner::plan(records::floor_of(f), walls, answers))
+    answers::of_plan(planner::plan(numbers::floor_of(f), walls, answers))
 }
 
 // From a sheet's bytes to its printed routes, or the line of its refusal, in lent memory.
@@ -198,7 +193,7 @@ pub extern "C" fn kalomivund_fresh(f: &[u16], walls: &[u16], state: &mut [u16]) 
     if f.len() < 22 {
         return word::too_short();
     }
-    word::of_check(machine::fresh(records::floor_of(f), walls, state), 0)
+    word::of_check(machine::fresh(numbers::floor_of(f), walls, state), 0)
 }
 
 // Takes a single step on a lent state.
@@ -210,7 +205,7 @@ pub extern "C" fn kalomivund_step(f: &[u16], walls: &[u16], state: &mut [u16], s
     if f.len() < 22 {
         return word::too_short();
     }
-    answers::of_step(machine::step(records::floor_of(f), walls, state, step))
+    answers::of_step(machine::step(numbers::floor_of(f), walls, state, step))
 }
 
 // Takes a run on a lent state: the open steps of a list in turn, as many as the budget allows.
@@ -229,5 +224,5 @@ pub extern "C" fn kalomivund_run(
     if f.len() < 22 {
         return word::too_short();
     }
-    answers::of_run(machine::run(records::floor_of(f), walls, state, steps, budget))
+    answers::of_run(machine::run(numbers::floor_of(f), walls, state, steps, budget))
 }

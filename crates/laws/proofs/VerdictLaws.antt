@@ -3,7 +3,7 @@ use Prim.Native.Nat.{ℕ, suc, zero, _+_, _-_, _≤_, _<_}
 use native.Mathlib.Omega.{arith}
 use native.Mathlib.Numerals.{add-one}
 use native.Mathlib.Nat.{zero-add, suc-add}
-use mathlib.Core.Path.{_≡_, refl, sym, _∙_}
+use mathlib.Core.Path.{_≡_, refl, sym, _∙_, ap}
 use mathlib.Core.Bool.{Bool, true, false, not, true≢false}
 use borrow.Author.Count.{below-more}
 use borrow.Author.Needs.{needs}
@@ -51,6 +51,17 @@ when-passed old h = rw h
 pub when-refused : {A : Type 0} {v : Verdict} {old : A} {k p : ℕ} (new : A) → v ≡ refused k p → whenPassed v new old ≡ old
 unfolding whenPassed
 when-refused new h = rw h
+
+-- The same under the same verdict, where it matters.
+pub gives-same : {A : Type 0} (v : Verdict) (a b : A) → (v ≡ passed → a ≡ b) → _≡_ {A = Outcome A} (v gives a) (v gives b)
+unfolding _gives_
+gives-same passed a b h = ap value (h refl)
+gives-same (refused k p) a b h = refl
+
+pub when-same : {A : Type 0} (v : Verdict) (a b old : A) → (v ≡ passed → a ≡ b) → whenPassed v a old ≡ whenPassed v b old
+unfolding whenPassed
+when-same passed a b old h = h refl
+when-same (refused k p) a b old h = refl
 
 -- A refusal is no pass.
 pub refused-not-passed : {k p : ℕ} → refused k p ≡ passed → ⊥

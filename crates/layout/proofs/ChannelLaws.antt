@@ -8,13 +8,13 @@ use lib.ListN.{length, getD, length-append}
 use borrow.Author.Tests.{lt-ltb}
 use Rattle.laws.specs.Memory.{put}
 use Rattle.route.specs.Route.{Answer, unheard, heard}
-use Rattle.planner.specs.Records.{recordOf}
+use Rattle.records.specs.Records.{recordOf, fit, slot, moved}
 use Rattle.reference.specs.Take.{newer}
-use Rattle.layout.specs.Encode.{fit, slot, slots, channelBlock}
-use Rattle.layout.specs.InnerSteps.{moved, shifted, popped, pushed}
+use Rattle.layout.specs.Encode.{slots, channelBlock}
+use Rattle.layout.specs.InnerSteps.{shifted, popped, pushed}
 use Rattle.layout.proofs.WindowLaws.{Window, Stands, window-whole, window-front, window-behind, window-inside, window-old}
 use Rattle.layout.proofs.WindowLaws.{window-part, window-number, window-put}
-use Rattle.layout.proofs.SplitLaws.{fit-length, fit-whole, slot-length}
+use Rattle.records.proofs.SlotLaws.{fit-length, fit-whole, slot-length}
 
 -- A record that stands at place q moved to place r.
 pub moved-is : {q r : ℕ} {m m′ b d : List ℕ} → Stands q m b → Window r m m′ d b → length b ≡ 65 → length d ≡ 65 → moved m q r ≡ m′

@@ -16,10 +16,11 @@ use Rattle.reference.specs.Take.{oldest, newer, deliverTo}
 use Rattle.reference.proofs.RangeLaws.{update-same, update-other, pair-same, pair-other, pair-other-row}
 use Rattle.reference.proofs.OpenLaws.{nil-empty}
 use Rattle.layout.specs.Places.{plannedPlace, duePlace, viewPlace, channelPlace}
-use Rattle.layout.specs.Encode.{flag, slot, carrierBlock, encode}
-use Rattle.layout.specs.InnerSteps.{moved, popped, deliveredIn}
+use Rattle.layout.specs.Encode.{flag, carrierBlock, encode}
+use Rattle.records.specs.Records.{slot, moved}
+use Rattle.layout.specs.InnerSteps.{popped, deliveredIn}
 use Rattle.layout.proofs.WindowLaws.{Window, window-whole, window-front, window-behind, window-inside, window-put}
-use Rattle.layout.proofs.SplitLaws.{slot-length}
+use Rattle.records.proofs.SlotLaws.{slot-length}
 use Rattle.layout.proofs.StateLaws.{withCarriers, withViews, withChans, carrier-window, view-window, channel-window}
 use Rattle.layout.proofs.ReadLaws.{channel-here}
 use Rattle.layout.proofs.ChannelLaws.{moved-is, popped-is, oldest-stands}

@@ -11,8 +11,9 @@ use Rattle.route.specs.Route.{Answer, heard}
 use Rattle.reference.specs.State.{State}
 use Rattle.reference.specs.Bounds.{AllOf, ShownOf}
 use Rattle.layout.specs.Places.{answerPlace, viewPlace, channelPlace}
-use Rattle.layout.specs.Encode.{slot, slots, channelBlock, carrierBlock, countBlock, blocks, pairs, encode}
-use Rattle.layout.specs.Decode.{recordAt, shown, messages, decode}
+use Rattle.layout.specs.Encode.{slots, channelBlock, carrierBlock, countBlock, blocks, pairs, encode}
+use Rattle.records.specs.Records.{slot, recordAt, shown}
+use Rattle.layout.specs.Decode.{messages, decode}
 use Rattle.layout.specs.Ranges.{Sound, WithinRanges}
 use Rattle.layout.specs.Alike.{Alike}
 use Rattle.layout.proofs.SplitLaws.{slots-length, blocks-same}

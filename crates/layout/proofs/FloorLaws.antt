@@ -12,7 +12,7 @@ use Rattle.laws.specs.Verdict.{passed, refused}
 use Rattle.floor.specs.Checks.{checkOf, lentOf, roomOf, placesOf, among}
 use Rattle.floor.specs.Accepted.{SameFloor}
 use Rattle.floor.proofs.LimitsLaws.{CheckTells, check-tells}
-use Rattle.floor.proofs.SameLaws.{among-same, check-same}
+use Rattle.floor.proofs.SameLaws.{among-same, walls-agree, check-same}
 use Rattle.laws.proofs.VerdictLaws.{then-passed, then-refused, demand-refuses}
 use Rattle.route.specs.Route.{Answer, none, route, View, cellAt}
 use Rattle.route.specs.Best.{IsRoute}
@@ -63,18 +63,7 @@ machineWith f free =
 module _ (f : Floor) (ws : List ℕ) where
   -- Where enough walls are lent, the floor with fewer of the others is the same, and so is its machine.
   lent-floor : (k : ℕ) → f .walls ≤ k → SameFloor f (take k ws) f ws
-  lent-floor k l =
-      record {
-        width = refl;
-        height = refl;
-        horizon = refl;
-        depth = refl;
-        carriers = refl;
-        walls = refl;
-        starts = λ i h. refl;
-        goals = λ i h. refl;
-        cells = λ i h. getD-take k ws i 0 (omega arith);
-      }
+  lent-floor k l = walls-agree f (take k ws) ws (λ i h. getD-take k ws i 0 (omega arith))
 
   pub machine-lent : (k : ℕ) → f .walls ≤ k → machineOf f (take k ws) ≡ machineOf f ws
   unfolding machineOf respondOf taskOf

@@ -8,8 +8,8 @@ use lib.ListN.{length}
 use Rattle.laws.specs.Memory.{put}
 use Rattle.route.specs.Route.{Answer, none, route, heard}
 use Rattle.laws.proofs.Tests.{true-or-false}
-use Rattle.planner.specs.Records.{recordOf}
-use Rattle.planner.proofs.ViewLaws.{Whole}
+use Rattle.records.specs.Records.{recordOf, slot, recordAt}
+use Rattle.records.proofs.RecordLaws.{Whole}
 use Rattle.reference.specs.Ranges.{update}
 use Rattle.reference.specs.State.{State, views}
 use Rattle.reference.specs.Step.{sameCells, sameAnswer}
@@ -17,11 +17,11 @@ use Rattle.reference.specs.Take.{isNews, send, planAs}
 use Rattle.reference.specs.Bounds.{ShownOf}
 use Rattle.reference.proofs.RangeLaws.{below-same, update-same, update-other}
 use Rattle.layout.specs.Places.{plannedPlace, viewPlace}
-use Rattle.layout.specs.Encode.{flag, slot, carrierBlock, encode}
-use Rattle.layout.specs.Decode.{recordAt}
+use Rattle.layout.specs.Encode.{flag, carrierBlock, encode}
 use Rattle.layout.specs.InnerSteps.{newsIn, plannedIn, viewsIn}
 use Rattle.layout.proofs.WindowLaws.{window-put}
-use Rattle.layout.proofs.SplitLaws.{fit-whole, carrier-length}
+use Rattle.layout.proofs.SplitLaws.{carrier-length}
+use Rattle.records.proofs.SlotLaws.{fit-whole}
 use Rattle.layout.proofs.StateLaws.{withCarriers, withChans, carrier-window}
 use Rattle.layout.proofs.ReadLaws.{read-planned, read-answer, read-view}
 use Rattle.layout.proofs.RecordLaws.{record-shows}

@@ -9,9 +9,11 @@ use Rattle.laws.specs.Memory.{part}
 use Rattle.route.specs.Route.{heard}
 use Rattle.reference.specs.State.{State}
 use Rattle.layout.specs.Places.{plannedPlace, duePlace, answerPlace, viewPlace, channelPlace}
-use Rattle.layout.specs.Encode.{flag, slot, channelBlock, carrierBlock, countBlock, encode}
+use Rattle.layout.specs.Encode.{flag, channelBlock, carrierBlock, countBlock, encode}
+use Rattle.records.specs.Records.{slot}
 use Rattle.layout.proofs.WindowLaws.{Stands, window-whole, window-behind, window-inside, window-part, window-number, window-old}
-use Rattle.layout.proofs.SplitLaws.{slot-length, channel-length}
+use Rattle.layout.proofs.SplitLaws.{channel-length}
+use Rattle.records.proofs.SlotLaws.{slot-length}
 use Rattle.layout.proofs.StateLaws.{count-window, carrier-window, view-window, channel-window}
 
 -- The record of a carrier's answer behind its two flags.

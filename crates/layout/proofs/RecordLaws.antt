@@ -1,64 +1,27 @@
 -- What a record shows, and which records are valid: those of a view with sound cells, and no others.
-use Prim.Native.Nat.{ℕ, zero, suc, _+_, _*_, _≤_, _<_}
+use Prim.Native.Nat.{ℕ, _+_, _*_, _≤_, _<_}
 use native.Mathlib.Omega.{arith}
-use native.Mathlib.Nat.{add-zero}
 use mathlib.Core.Bool.{true}
-use mathlib.Core.List.{List, [], _∷_}
+use mathlib.Core.List.{List}
 use mathlib.Core.Logic.{⊎-elim}
 use mathlib.Core.Path.{_≡_, refl, sym, _∙_, ap}
 use borrow.Author.Tests.{ltb-true, leb-true, eqb-true, lt-ltb, le-ltb, le-leb, eq-eqb}
 use lib.Dec.{leb, ltb, eqb}
-use lib.ListN.{length, getD, getD-replicate, List·getD-eq-default}
+use lib.ListN.{length, getD, List·getD-eq-default}
 use Rattle.laws.specs.Memory.{part}
 use Rattle.laws.proofs.PartLaws.{part-byte, part-length, part-is, part-reach}
 use Rattle.floor.specs.declared.Floor.{Floor}
 use Rattle.floor.specs.Checks.{within}
 use Rattle.route.specs.Route.{Answer, none, route, View, unheard, heard}
 use Rattle.laws.proofs.Tests.{and-both, and-fst, and-snd, lt-or-le, eq-or-ne}
-use Rattle.route.specs.Views.{viewOf}
-use Rattle.planner.specs.Records.{recordOf}
-use Rattle.planner.proofs.ViewLaws.{Whole}
+use Rattle.records.specs.Records.{viewOf, recordOf, slot, recordAt, shown}
+use Rattle.records.proofs.RecordLaws.{Whole}
 use Rattle.reference.specs.Bounds.{ShownOf}
 use Rattle.reference.proofs.RangeLaws.{each-holds, each-true}
-use Rattle.layout.specs.Encode.{fit, slot}
-use Rattle.layout.specs.Decode.{recordAt, shown}
 use Rattle.layout.specs.Valid.{usedBy, cellValid, cellsValid, recordValid}
 use Rattle.layout.specs.Ranges.{Sound}
-use Rattle.layout.proofs.SplitLaws.{slot-length}
-
--- The numbers of a list filled up with zeros.
-fit-number : (k : ℕ) (xs : List ℕ) (i : ℕ) → i < k → getD (fit k xs) i 0 ≡ getD xs i 0
-unfolding fit
-fit-number zero xs i l = absurd (omega arith)
-fit-number (suc k) [] zero l = refl
-fit-number (suc k) [] (suc i) l = fit-number k [] i (omega arith)
-fit-number (suc k) (x ∷ xs) zero l = refl
-fit-number (suc k) (x ∷ xs) (suc i) l = fit-number k xs i (omega arith)
-
--- The tag of a view, and its number at beat t.
-unfoldable pub tagOf : View → ℕ
-tagOf unheard = 0
-tagOf (heard none) = 1
-tagOf (heard (route r)) = 2
-
-unfoldable pub numberOf : View → ℕ → ℕ
-numberOf unheard t = 0
-numberOf (heard none) t = 0
-numberOf (heard (route r)) t = getD r t 0
-
--- The record of a view begins with its tag.
-pub slot-tag : (v : View) → getD (slot v) 0 0 ≡ tagOf v
-unfolding slot tagOf recordOf
-slot-tag unheard = fit-number 65 [] 0 (omega arith)
-slot-tag (heard none) = fit-number 65 (recordOf none) 0 (omega arith)
-slot-tag (heard (route r)) = fit-number 65 (recordOf (route r)) 0 (omega arith)
-
--- Behind it come its numbers.
-pub slot-number : (v : View) (t : ℕ) → t < 64 → getD (slot v) (suc t) 0 ≡ numberOf v t
-unfolding slot numberOf recordOf
-slot-number unheard t l = fit-number 65 [] (suc t) (omega arith)
-slot-number (heard none) t l = fit-number 65 (recordOf none) (suc t) (omega arith) ∙ getD-replicate 64 t 0 0 l
-slot-number (heard (route r)) t l = fit-number 65 (recordOf (route r)) (suc t) (omega arith)
+use Rattle.records.proofs.SlotLaws.{slot-length, viewTag, viewNumber, tag-most, heard-least, tag-read, number-read}
+use Rattle.records.proofs.SlotLaws.{part-slot, shows-answer, shows-nothing}
 
 -- A number of a record is valid: below the used ones a cell of the grid, behind them 0.
 cell-used : (used cells t v : ℕ) → t < used → cellValid used cells t v ≡ ltb v cells
@@ -69,21 +32,10 @@ cell-unused : (used cells t v : ℕ) → used ≤ t → cellValid used cells t v
 unfolding cellValid
 cell-unused used cells t v l = rw (le-ltb t used l)
 
-tag-most : (v : View) → tagOf v ≤ 2
-unfolding tagOf
-tag-most unheard = omega arith
-tag-most (heard none) = omega arith
-tag-most (heard (route r)) = omega arith
-
-heard-least : (a : Answer) → 1 ≤ tagOf (heard a)
-unfolding tagOf
-heard-least none = omega arith
-heard-least (route r) = omega arith
-
 -- Every number of a view with sound cells is valid.
 number-valid : (f : Floor) (v : View) (t : ℕ) → ShownOf (Sound f) v
-    → cellValid (usedBy (tagOf v) (f .horizon)) (f .width * f .height) t (numberOf v t) ≡ true
-unfolding tagOf numberOf usedBy ShownOf Sound
+    → cellValid (usedBy (viewTag v) (f .horizon)) (f .width * f .height) t (viewNumber v t) ≡ true
+unfolding viewTag viewNumber usedBy ShownOf Sound
 number-valid f unheard t h = cell-unused 0 (f .width * f .height) t 0 (omega arith)
 number-valid f (heard none) t h = cell-unused 0 (f .width * f .height) t 0 (omega arith)
 number-valid f (heard (route r)) t h =
@@ -93,27 +45,15 @@ number-valid f (heard (route r)) t h =
     ⊎-elim (λ (l : t < used). cell-used used cells t v l ∙ lt-ltb v cells (h .inside t (omega arith)))
     (λ (l : used ≤ t). cell-unused used cells t v l ∙ eq-eqb v 0 (h .behind t (omega arith))) (lt-or-le t used)
 
--- A record that lies at a place: the tag and the numbers there.
 module _ (m : List ℕ) (at : ℕ) (v : View) (e : part m at 65 ≡ slot v) where
-  slot-read : (i : ℕ) → i < 65 → getD m (at + i) 0 ≡ getD (slot v) i 0
-  slot-read i l = sym (part-byte m at 65 i l) ∙ ap (λ (b : List ℕ). getD b i 0) e
-
-  tag-read : getD m at 0 ≡ tagOf v
-  tag-read = rw add-zero at (slot-read 0 (omega arith)) ∙ slot-tag v
-
-  number-read : (t : ℕ) → t < 64 → getD m (at + 1 + t) 0 ≡ numberOf v t
-  number-read t l =
-      let place : at + 1 + t ≡ at + suc t = omega arith in
-      ap (λ (p : ℕ). getD m p 0) place ∙ slot-read (suc t) (omega arith) ∙ slot-number v t l
-
   -- The record of a view with sound cells is valid where its tag may stand.
-  pub view-valid : (f : Floor) (low high : ℕ) → ShownOf (Sound f) v → low ≤ tagOf v → tagOf v ≤ high → recordValid f m at low high ≡ true
+  pub view-valid : (f : Floor) (low high : ℕ) → ShownOf (Sound f) v → low ≤ viewTag v → viewTag v ≤ high → recordValid f m at low high ≡ true
   unfolding recordValid within cellsValid
   view-valid f low high h a b =
-      rw tag-read
-      (and-both (and-both (le-leb low (tagOf v) a) (le-leb (tagOf v) high b))
-      (each-true 64 (λ t. cellValid (usedBy (tagOf v) (f .horizon)) (f .width * f .height) t (getD m (at + 1 + t) 0))
-      (λ t l. rw (number-read t l) (number-valid f v t h))))
+      rw (tag-read m at v e)
+      (and-both (and-both (le-leb low (viewTag v) a) (le-leb (viewTag v) high b))
+      (each-true 64 (λ t. cellValid (usedBy (viewTag v) (f .horizon)) (f .width * f .height) t (getD m (at + 1 + t) 0))
+      (λ t l. rw (number-read m at v e t l) (number-valid f v t h))))
 
   -- The record of a view is valid,
   pub seen-valid : (f : Floor) → ShownOf (Sound f) v → recordValid f m at 0 2 ≡ true
@@ -127,23 +67,12 @@ answer-valid f m at a e h = view-valid m at (heard a) e f 1 2 h (heard-least a) 
 
 -- and that of an unused place.
 pub unused-valid : (f : Floor) (m : List ℕ) (at : ℕ) → part m at 65 ≡ slot unheard → recordValid f m at 0 0 ≡ true
-unfolding tagOf ShownOf
+unfolding viewTag ShownOf
 unused-valid f m at e = view-valid m at unheard e f 0 0 tt (omega arith) (omega arith)
-
--- A part is the record of a view if its tag and its numbers are.
-part-slot : (m : List ℕ) (at : ℕ) (v : View) → at + 65 ≤ length m → getD m at 0 ≡ tagOf v
-    → ((t : ℕ) → t < 64 → getD m (at + 1 + t) 0 ≡ numberOf v t) → part m at 65 ≡ slot v
-part-slot m at v l e h = part-is m at 65 (slot v) l (slot-length v) same
-  where
-    same : (i : ℕ) → i < 65 → getD m (at + i) 0 ≡ getD (slot v) i 0
-    same zero k = rw add-zero (e ∙ sym (slot-tag v))
-    same (suc t) k =
-        let place : at + suc t ≡ at + 1 + t = omega arith in
-        rw place (h t (omega arith) ∙ sym (slot-number v t (omega arith)))
 
 -- The record of a view whose answer is whole shows that view.
 pub record-shows : (m : List ℕ) (at : ℕ) (v : View) → part m at 65 ≡ slot v → ShownOf Whole v → recordAt m at ≡ v
-unfolding recordAt viewOf tagOf numberOf ShownOf recordOf
+unfolding recordAt viewOf viewTag viewNumber ShownOf recordOf
 record-shows m at unheard e h = rw (tag-read m at unheard e)
 record-shows m at (heard none) e h = rw (tag-read m at (heard none) e)
 record-shows m at (heard (route r)) e h =
@@ -167,8 +96,8 @@ shown-whole f (heard a) h = sound-whole f a h
 pub record Recorded (f : Floor) (m : List ℕ) (at low high : ℕ) (v : View) : Type 0 where
   pub same : part m at 65 ≡ slot v
   pub sound : ShownOf (Sound f) v
-  pub least : low ≤ tagOf v
-  pub most : tagOf v ≤ high
+  pub least : low ≤ viewTag v
+  pub most : viewTag v ≤ high
 
 module _ (f : Floor) (m : List ℕ) (at low high : ℕ) (short : f .horizon ≤ 63) (long : at + 65 ≤ length m) (small : high ≤ 2)
     (e : recordValid f m at low high ≡ true) where
@@ -204,7 +133,7 @@ module _ (f : Floor) (m : List ℕ) (at low high : ℕ) (short : f .horizon ≤ 
       let v = getD m (at + 1 + t) 0 in
       ltb-true v cells (sym (cell-used used cells t v b) ∙ number-holds used q t l)
 
-  recorded : (v : View) → recordAt m at ≡ v → tag ≡ tagOf v → ((t : ℕ) → t < 64 → getD m (at + 1 + t) 0 ≡ numberOf v t)
+  recorded : (v : View) → recordAt m at ≡ v → tag ≡ viewTag v → ((t : ℕ) → t < 64 → getD m (at + 1 + t) 0 ≡ viewNumber v t)
       → ShownOf (Sound f) v → Recorded f m at low high (recordAt m at)
   recorded v q s h k =
       rw q
@@ -216,16 +145,16 @@ module _ (f : Floor) (m : List ℕ) (at low high : ℕ) (short : f .horizon ≤ 
       })
 
   recorded-unheard : tag ≡ 0 → Recorded f m at low high (recordAt m at)
-  unfolding recordAt viewOf tagOf numberOf usedBy ShownOf
+  unfolding recordAt viewOf viewTag viewNumber usedBy ShownOf
   recorded-unheard q = recorded unheard (rw q) q (λ t l. zero-behind 0 (rw q) t (omega arith) l) tt
 
   recorded-none : tag ≡ 1 → Recorded f m at low high (recordAt m at)
-  unfolding recordAt viewOf tagOf numberOf usedBy ShownOf Sound
+  unfolding recordAt viewOf viewTag viewNumber usedBy ShownOf Sound
   recorded-none q = recorded (heard none) (rw q) q (λ t l. zero-behind 0 (rw q) t (omega arith) l) tt
 
   -- The cells of a route.
   recorded-route : tag ≡ 2 → Recorded f m at low high (recordAt m at)
-  unfolding recordAt viewOf tagOf numberOf usedBy ShownOf Sound
+  unfolding recordAt viewOf viewTag viewNumber usedBy ShownOf Sound
   recorded-route q =
       let r = part m (at + 1) 64 in
       let used : usedBy tag (f .horizon) ≡ f .horizon + 1 = rw q in
@@ -247,19 +176,6 @@ module _ (f : Floor) (m : List ℕ) (at low high : ℕ) (short : f .horizon ≤ 
       (λ (n : tag ≡ 2 → ⊥).
       ⊎-elim (λ (q : tag ≡ 1). recorded-none q) (λ (k : tag ≡ 1 → ⊥). recorded-unheard (omega (arith, tag-within))) (eq-or-ne tag 1))
       (eq-or-ne tag 2)
-
--- A view with a tag of 1 or more shows an answer.
-pub shows-answer : (v : View) → 1 ≤ tagOf v → heard (shown v) ≡ v
-unfolding tagOf shown
-shows-answer unheard l = absurd (omega arith)
-shows-answer (heard a) l = refl
-
--- A view with tag 0 is not heard.
-pub shows-nothing : (v : View) → tagOf v ≤ 0 → v ≡ unheard
-unfolding tagOf
-shows-nothing unheard l = refl
-shows-nothing (heard none) l = absurd (omega arith)
-shows-nothing (heard (route r)) l = absurd (omega arith)
 
 -- What is shown is sound; nothing shown counts as none.
 shown-sound : (f : Floor) (v : View) → ShownOf (Sound f) v → Sound f (shown v)

@@ -10,10 +10,10 @@ use lib.ListN.{length}
 use borrow.Author.Tests.{lt-ltb, le-ltb, eq-eqb, ne-eqb}
 use Rattle.route.specs.Route.{Answer}
 use Rattle.laws.proofs.Tests.{eq-or-ne, lt-or-le}
-use Rattle.planner.specs.Records.{recordOf}
+use Rattle.records.specs.Records.{recordOf, slot}
 use Rattle.reference.specs.State.{State}
 use Rattle.reference.specs.Take.{send}
-use Rattle.layout.specs.Encode.{slot, channelBlock, carrierBlock, countBlock, blocks, pairs, encode}
+use Rattle.layout.specs.Encode.{channelBlock, carrierBlock, countBlock, blocks, pairs, encode}
 use Rattle.layout.specs.InnerSteps.{pushedBelow, sentTo}
 use Rattle.layout.proofs.SplitLaws.{blocks-same}
 use Rattle.layout.proofs.StateLaws.{withChans, channel-window}

@@ -11,15 +11,14 @@ use lib.ListN.{length, take, drop, take-append-drop, length-append}
 use borrow.Author.Tests.{le-leb}
 use Rattle.laws.specs.Verdict.{Verdict, passed, refused, Outcome, value, _then_, demand, _gives_, _thenAnswers_, whenPassed}
 use Rattle.laws.specs.Memory.{put}
-use Rattle.laws.proofs.VerdictLaws.{then-passed, then-both, demand-holds, demand-passes, answers-passed, when-passed}
+use Rattle.laws.proofs.VerdictLaws.{then-passed, then-both, demand-holds, demand-passes, answers-passed, gives-same, when-passed}
 use Rattle.floor.specs.declared.Floor.{Floor}
 use Rattle.floor.specs.Checks.{checkOf, roomOf}
 use Rattle.floor.proofs.LimitsLaws.{room-passed}
-use Rattle.planner.proofs.ViewLaws.{Whole}
+use Rattle.records.proofs.RecordLaws.{Whole}
 use Rattle.reference.specs.State.{Machine, State}
 use Rattle.reference.specs.Step.{isThere, waitsFor}
 use Rattle.reference.specs.Take.{stepAnswer}
-use Rattle.reference.specs.Run.{run}
 use Rattle.reference.specs.Ending.{Ending}
 use Rattle.reference.specs.Table.{Asked, step, noStep, Call, single, runOf, stepsOf, lentEnough, allNamed, openSingle, verdict}
 use Rattle.reference.specs.Calls.{Reply, Told, stepped, ran, reply, stateAfter, afterCall}
@@ -34,7 +33,7 @@ use Rattle.layout.specs.Valid.{valid}
 use Rattle.layout.specs.Ranges.{Sound, WithinRanges}
 use Rattle.layout.specs.Calls.{machineOf, placeVerdict, stateVerdict, stateIn, withState, replyTo, memoryAfter}
 use Rattle.layout.specs.InnerSteps.{waitsIn, saidIn}
-use Rattle.layout.specs.InnerCalls.{singleVerdictIn, verdictIn, replyIn, takenIn, memoryIn}
+use Rattle.layout.specs.InnerCalls.{singleVerdictIn, verdictIn, replyIn, grantedMemory, memoryIn}
 use Rattle.layout.proofs.StateLaws.{encode-length}
 use Rattle.layout.proofs.RecordLaws.{sound-whole}
 use Rattle.layout.proofs.OpenLaws.{waits-same}
@@ -45,12 +44,6 @@ use Rattle.layout.proofs.FloorLaws.{depth-few, horizon-short, respond-s
 
 ran-both : {t u : ℕ} {x y : Ending} → t ≡ u → x ≡ y → ran t x ≡ ran u y
 ran-both e h = rw (e, h)
-
--- The same answer under the same verdict, where it matters.
-gives-same : (v : Verdict) (a b : Told) → (v ≡ passed → a ≡ b) → _≡_ {A = Outcome Told} (v gives a) (v gives b)
-unfolding _gives_
-gives-same passed a b h = ap value (h refl)
-gives-same (refused k p) a b h = refl
 
 module _ (f : Floor) (ws : List ℕ) (ok : checkOf f ws ≡ passed) where
   abbrev M : Machine
@@ -117,8 +110,8 @@ module _ (f : Floor) (ws : List ℕ) (ok : checkOf f ws ≡ passed) where
           let q = ending-same M (storable f ws ok) rest s (stepsOf xs) b in-range whole in
           rw (steps-there lent xs b e) at (ran-both (r .taken) q)))
 
-      taken-same : (c : Call) → verdict M s c ≡ passed → takenIn M m c ≡ encode n (stateAfter M s c) ++ rest
-      unfolding takenIn stateAfter machineOf
+      taken-same : (c : Call) → verdict M s c ≡ passed → grantedMemory M m c ≡ encode n (stateAfter M s c) ++ rest
+      unfolding grantedMemory stateAfter machineOf
       taken-same (single lent noStep) e = refl
       taken-same (single lent (step x)) e = after-same M (storable f ws ok) s in-range whole rest x (single-open M s lent x e)
       taken-same (runOf lent xs b) e =
@@ -128,8 +121,8 @@ module _ (f : Floor) (ws : List ℕ) (ok : checkOf f ws ≡ passed) where
       unfolding memoryIn afterCall whenPassed
       memory-same c = rw (verdict-same c) (go (verdict M s c) (taken-same c))
         where
-          go : (v : Verdict) → (v ≡ passed → takenIn M m c ≡ encode n (stateAfter M s c) ++ rest) →
-              whenPassed v (takenIn M m c) m ≡ encode n (whenPassed v (stateAfter M s c) s) ++ rest
+          go : (v : Verdict) → (v ≡ passed → grantedMemory M m c ≡ encode n (stateAfter M s c) ++ rest) →
+              whenPassed v (grantedMemory M m c) m ≡ encode n (whenPassed v (stateAfter M s c) s) ++ rest
           go passed h = h refl
           go (refused k p) h = refl
 

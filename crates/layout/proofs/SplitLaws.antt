@@ -6,11 +6,12 @@ use mathlib.Core.Path.{_≡_, refl, sym, _∙_, ap}
 use mathlib.Core.List.{List, [], _∷_}
 use mathlib.Core.Logic.{⊎-elim}
 use lib.ListN.{length, length-append}
-use Rattle.route.specs.Route.{Answer, View, unheard, heard}
-use Rattle.planner.specs.Records.{recordOf}
+use Rattle.route.specs.Route.{Answer, unheard, heard}
+use Rattle.records.specs.Records.{slot}
+use Rattle.records.proofs.SlotLaws.{slot-length}
 use Rattle.reference.specs.State.{State}
 use Rattle.layout.specs.Places.{pairsBefore}
-use Rattle.layout.specs.Encode.{fit, slot, slots, channelBlock, carrierBlock, countBlock, blocks, pairs}
+use Rattle.layout.specs.Encode.{slots, channelBlock, carrierBlock, countBlock, blocks, pairs}
 use Rattle.layout.proofs.WindowLaws.{Window, window-whole, window-front, window-behind, window-inside}
 
 -- Blocks depend on their function below their number only.
@@ -67,26 +68,6 @@ module _ (w n : ℕ) (f : ℕ → ℕ → List ℕ) (long : (i j : ℕ) → j < 
       (blocks-window (λ k. w * pairsBefore k) (omega arith) n (λ k. blocks k (f k)) (λ k. blocks k (g k)) i b pair-sums
       (λ k l q. blocks-same k (f k) (g k) (λ x y. e k x y l (λ u v. q u))))
       (blocks-window (λ k. w * k) (omega arith) i (f i) (g i) j a (row-sums i b) (λ l x y. e i l x b (λ u v. y v)))
-
--- A list that is cut or filled up has just so many numbers.
-pub fit-length : (k : ℕ) (xs : List ℕ) → length (fit k xs) ≡ k
-unfolding fit
-fit-length zero xs = refl
-fit-length (suc k) [] = ap suc (fit-length k [])
-fit-length (suc k) (x ∷ xs) = ap suc (fit-length k xs)
-
--- A list of just so many numbers stays as it is.
-pub fit-whole : (k : ℕ) (xs : List ℕ) → length xs ≡ k → fit k xs ≡ xs
-unfolding fit
-fit-whole zero [] e = refl
-fit-whole zero (x ∷ xs) e = absurd (omega arith)
-fit-whole (suc k) [] e = absurd (omega arith)
-fit-whole (suc k) (x ∷ xs) e = ap (λ (l : List ℕ). x ∷ l) (fit-whole k xs (omega arith))
-
-pub slot-length : (v : View) → length (slot v) ≡ 65
-unfolding slot
-slot-length unheard = fit-length 65 []
-slot-length (heard a) = fit-length 65 (recordOf a)
 
 pub slots-length : (k : ℕ) (l : List Answer) → length (slots k l) ≡ 65 * k
 unfolding slots

@@ -8,9 +8,11 @@ use lib.ListN.{length, length-append}
 use Rattle.route.specs.Route.{Answer, View}
 use Rattle.reference.specs.State.{State}
 use Rattle.layout.specs.Places.{pairsBefore, plannedPlace, viewPlace, channelPlace, stateSize}
-use Rattle.layout.specs.Encode.{slot, channelBlock, carrierBlock, countBlock, blocks, pairs, encode}
+use Rattle.layout.specs.Encode.{channelBlock, carrierBlock, countBlock, blocks, pairs, encode}
+use Rattle.records.specs.Records.{slot}
 use Rattle.layout.proofs.WindowLaws.{Window, window-whole, window-front, window-behind}
-use Rattle.layout.proofs.SplitLaws.{blocks-length, blocks-window, pairs-length, pairs-window, slot-length, channel-length}
+use Rattle.layout.proofs.SplitLaws.{blocks-length, blocks-window, pairs-length, pairs-window, channel-length}
+use Rattle.records.proofs.SlotLaws.{slot-length}
 use Rattle.layout.proofs.SplitLaws.{carrier-length, count-length}
 
 -- The state s with another taken count, with other carriers, other views, other channels.

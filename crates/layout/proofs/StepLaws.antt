@@ -8,8 +8,8 @@ use mathlib.Core.Path.{_≡_, refl, _∙_, ap}
 use lib.ListN.{length}
 use Rattle.route.specs.Route.{Answer, View}
 use Rattle.laws.proofs.Tests.{true-or-false}
-use Rattle.planner.specs.Records.{recordOf}
-use Rattle.planner.proofs.ViewLaws.{Whole}
+use Rattle.records.specs.Records.{recordOf}
+use Rattle.records.proofs.RecordLaws.{Whole}
 use Rattle.reference.specs.State.{Machine, State, views}
 use Rattle.reference.specs.Step.{Step, plan, deliver, isOpen}
 use Rattle.reference.specs.Take.{isNews, planAs, deliverTo, effect, counted, afterStep, stepAnswer}

@@ -16,11 +16,13 @@ use Rattle.laws.proofs.Tests.{and-both, and-fst, and-snd}
 use Rattle.reference.specs.Ranges.{each}
 use Rattle.reference.specs.Bounds.{AllOf}
 use Rattle.reference.proofs.RangeLaws.{each-holds, each-true}
-use Rattle.layout.specs.Encode.{slot, slots, channelBlock}
-use Rattle.layout.specs.Decode.{recordAt, shown, messages}
+use Rattle.layout.specs.Encode.{slots, channelBlock}
+use Rattle.records.specs.Records.{slot, recordAt, shown}
+use Rattle.layout.specs.Decode.{messages}
 use Rattle.layout.specs.Valid.{recordValid, placeValid, channelValid}
 use Rattle.layout.specs.Ranges.{Sound}
-use Rattle.layout.proofs.SplitLaws.{slot-length, slots-length}
+use Rattle.layout.proofs.SplitLaws.{slots-length}
+use Rattle.records.proofs.SlotLaws.{slot-length}
 use Rattle.layout.proofs.RecordLaws.{answer-valid, unused-valid, answer-told, unused-told}
 use Rattle.layout.proofs.ValidPartLaws.{part-one}
 

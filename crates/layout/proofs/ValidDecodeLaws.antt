@@ -16,8 +16,9 @@ use Rattle.reference.specs.Ranges.{each}
 use Rattle.reference.specs.State.{State}
 use Rattle.reference.proofs.RangeLaws.{each-holds}
 use Rattle.layout.specs.Places.{pairsBefore, plannedPlace, duePlace, answerPlace, viewPlace, channelPlace, stateSize}
-use Rattle.layout.specs.Encode.{flag, slot, channelBlock, carrierBlock, countBlock, encode}
-use Rattle.layout.specs.Decode.{recordAt, shown, decode}
+use Rattle.layout.specs.Encode.{flag, channelBlock, carrierBlock, countBlock, encode}
+use Rattle.records.specs.Records.{slot, recordAt, shown}
+use Rattle.layout.specs.Decode.{decode}
 use Rattle.layout.specs.Valid.{recordValid, channelValid, carrierValid, pairValid, countValid, valid}
 use Rattle.layout.specs.Ranges.{Sound, WithinRanges}
 use Rattle.layout.proofs.RecordLaws.{Recorded, record-told, answer-told}

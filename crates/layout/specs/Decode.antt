@@ -3,20 +3,10 @@ use Prim.Native.Nat.{ℕ, zero, suc, _+_, _*_}
 use mathlib.Core.List.{List, [], _∷_}
 use lib.Dec.{eqb}
 use lib.ListN.{getD}
-use Rattle.laws.specs.Memory.{part}
-use Rattle.route.specs.Route.{Answer, none, View, unheard, heard}
-use Rattle.route.specs.Views.{viewOf}
+use Rattle.route.specs.Route.{Answer}
+use Rattle.records.specs.Records.{recordAt, shown}
 use Rattle.reference.specs.State.{State}
 use Rattle.layout.specs.Places.{plannedPlace, duePlace, answerPlace, viewPlace, channelPlace}
-
--- The view in the record at a place.
-unfoldable pub recordAt : List ℕ → ℕ → View
-recordAt m at = viewOf (getD m at 0) (part m (at + 1) 64)
-
--- The answer that a view shows; none where nothing is heard.
-unfoldable pub shown : View → Answer
-shown unheard = none
-shown (heard a) = a
 
 -- The messages in k records from a place on.
 unfoldable pub messages : List ℕ → ℕ → ℕ → List Answer

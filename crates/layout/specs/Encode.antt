@@ -3,25 +3,14 @@ use Prim.Native.Nat.{ℕ, zero, suc, _+_, _/_, _%_}
 use mathlib.Core.Bool.{Bool, true, false}
 use mathlib.Core.List.{List, [], _∷_, _++_}
 use lib.ListN.{length}
-use Rattle.route.specs.Route.{Answer, View, unheard, heard}
-use Rattle.planner.specs.Records.{recordOf}
+use Rattle.route.specs.Route.{Answer, unheard, heard}
+use Rattle.records.specs.Records.{slot}
 use Rattle.reference.specs.State.{State}
 
 -- A flag: 0 or 1.
 unfoldable pub flag : Bool → ℕ
 flag false = 0
 flag true = 1
-
--- A list cut or filled up with zeros to k numbers.
-unfoldable pub fit : ℕ → List ℕ → List ℕ
-fit zero xs = []
-fit (suc k) [] = 0 ∷ fit k []
-fit (suc k) (x ∷ xs) = x ∷ fit k xs
-
--- The record of a view: zeros where nothing is heard, otherwise the record of the answer.
-unfoldable pub slot : View → List ℕ
-slot unheard = fit 65 []
-slot (heard a) = fit 65 (recordOf a)
 
 -- The first k places of a channel: its messages, oldest first, then zeros.
 unfoldable pub slots : ℕ → List Answer → List ℕ

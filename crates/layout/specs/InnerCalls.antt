@@ -26,10 +26,10 @@ replyIn M m (single lent noStep) = lentEnough M lent thenAnswers refusal 7 0
 replyIn M m (runOf lent xs b) = verdictIn M m (runOf lent xs b) gives ran (runIn M m xs b .taken) (endingIn M b (runIn M m xs b))
 
 -- The memory after a call that is not turned away, and after any call.
-unfoldable pub takenIn : Machine → List ℕ → Call → List ℕ
-takenIn M m (single lent (step x)) = afterIn M m x
-takenIn M m (single lent noStep) = m
-takenIn M m (runOf lent xs b) = runIn M m xs b .memory
+unfoldable pub grantedMemory : Machine → List ℕ → Call → List ℕ
+grantedMemory M m (single lent (step x)) = afterIn M m x
+grantedMemory M m (single lent noStep) = m
+grantedMemory M m (runOf lent xs b) = runIn M m xs b .memory
 
 unfoldable pub memoryIn : Machine → List ℕ → Call → List ℕ
-memoryIn M m c = whenPassed (verdictIn M m c) (takenIn M m c) m
+memoryIn M m c = whenPassed (verdictIn M m c) (grantedMemory M m c) m

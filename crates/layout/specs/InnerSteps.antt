@@ -8,15 +8,13 @@ use lib.ListN.{getD}
 use Rattle.laws.specs.Verdict.{Verdict, _then_, demand, passes}
 use Rattle.laws.specs.Memory.{put, part}
 use Rattle.route.specs.Route.{Answer, View}
-use Rattle.planner.specs.Records.{recordOf}
+use Rattle.records.specs.Records.{recordOf, recordAt, fit, moved}
 use Rattle.reference.specs.Ranges.{each, below}
 use Rattle.reference.specs.State.{Machine}
 use Rattle.reference.specs.Step.{Step, plan, deliver, isThere, sameCells}
 use Rattle.reference.specs.Table.{Asked, step, noStep}
 use Rattle.reference.specs.Take.{StepAnswer, kept, sent, delivered}
 use Rattle.layout.specs.Places.{plannedPlace, duePlace, answerPlace, viewPlace, channelPlace}
-use Rattle.layout.specs.Encode.{fit}
-use Rattle.layout.specs.Decode.{recordAt}
 
 -- Every channel from carrier i, to a carrier k below it, has fewer than depth messages.
 unfoldable pub capacityIn : Machine → List ℕ → ℕ → Bool
@@ -53,10 +51,6 @@ ticked m =
     (ltb (getD m 1 0) 999)
     (put m 1 ((getD m 1 0 + 1) ∷ []))
     (cond (ltb (getD m 0 0) 999) (put m 0 ((getD m 0 0 + 1) ∷ (0 ∷ []))) m)
-
--- The record at one place copied to another.
-unfoldable pub moved : List ℕ → ℕ → ℕ → List ℕ
-moved m from to = put m to (part m from 65)
 
 -- A channel at place c without its oldest message: the others move up, the last place is cleared.
 unfoldable pub shifted : List ℕ → ℕ → List ℕ

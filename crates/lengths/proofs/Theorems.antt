@@ -25,7 +25,7 @@ use Rattle.printing.specs.Print.{textLength, printVerdict, routesOf, neededFor,
 use Rattle.layout.specs.Places.{stateSize}
 use Rattle.layout.specs.Calls.{placeVerdict}
 use Rattle.layout.proofs.Theorems.{theorems as layout-theorems}
-use Rattle.lengths.specs.Figures.{figuresFor}
+use Rattle.lengths.specs.Figures.{figuresFor, lengthsOf}
 use Rattle.lengths.specs.Claims.{Claims}
 
 -- A record is refused with 9 only where too few walls are lent.
@@ -46,7 +46,7 @@ sheet-nine text k p (rest-form a l b) n = omega arith
 sheet-nine text k p (floor-row a l b r) n = record-nine (floorAt text) (wallsAt text) k p (omega (arith, walls-length text)) r n
 
 -- Memory is too short exactly below its needed length.
-room-means : (needed lent : ℕ) → (roomOf needed lent ≡ refused 9 0) ↔ (lent < needed)
+pub room-means : (needed lent : ℕ) → (roomOf needed lent ≡ refused 9 0) ↔ (lent < needed)
 unfolding roomOf
 room-means needed lent = (λ h. leb-false _ _ (demand-cases _ 9 0 9 0 h .0), λ l. demand-refuses 9 0 (lt-leb _ _ l))
 
@@ -110,7 +110,7 @@ sheet-text-room text bytes ok = (λ h. short h (decLe (textLength (floorAt text)
         absurd (omega arith)
 
 pub theorems : Claims
-unfolding figuresFor sheetLength wallAt textLength
+unfolding figuresFor lengthsOf sheetLength wallAt textLength
 theorems =
     record {
       accepted-known = λ f ws ok. gives-passed (check-tells f ws ok .limited);
@@ -119,6 +119,9 @@ theorems =
       answers-within = λ f ws ok. omega (arith, check-tells f ws ok .bounds .carriers .1);
       text-within = λ f ws ok. omega (arith, check-tells f ws ok .bounds .carriers .1);
       state-within = λ f ws ok. layout-theorems .size-small f (check-tells f ws ok .bounds .carriers .1);
+      route-within = λ f. omega arith;
+      floor-within = λ f. omega arith;
+      figures-within = λ f. omega arith;
       answers-room = answers-room;
       views-room = views-room;
       walls-room = walls-room;

@@ -20,13 +20,16 @@ use Rattle.lengths.specs.Figures.{figuresFor, lengthsOf}
 pub record Claims : Type 0 where
   -- An accepted floor has its lengths.
   pub accepted-known : (f : Floor) (ws : List ℕ) → checkOf f ws ≡ passed → figuresFor f ≡ value (lengthsOf f)
-  -- None is over 65,536 bytes: two bytes a wall, the sheet, two bytes a number of answers, the text, two bytes a number
-  -- of the state.
+  -- None is over 65,536 bytes: two bytes a wall, the sheet, two bytes a number of answers, the text, two bytes a number of the state,
+  -- of a route and of a record, eight bytes a figure.
   pub walls-within : (f : Floor) (ws : List ℕ) → checkOf f ws ≡ passed → 2 * f .walls ≤ 65536
   pub sheet-within : (f : Floor) (ws : List ℕ) → checkOf f ws ≡ passed → sheetLength f ≤ 65536
   pub answers-within : (f : Floor) (ws : List ℕ) → checkOf f ws ≡ passed → 2 * (65 * f .carriers) ≤ 65536
   pub text-within : (f : Floor) (ws : List ℕ) → checkOf f ws ≡ passed → textLength f ≤ 65536
   pub state-within : (f : Floor) (ws : List ℕ) → checkOf f ws ≡ passed → 2 * stateSize (f .carriers) ≤ 65536
+  pub route-within : (f : Floor) → 2 * lengthsOf f .route ≤ 65536
+  pub floor-within : (f : Floor) → 2 * lengthsOf f .floor ≤ 65536
+  pub figures-within : (f : Floor) → 8 * lengthsOf f .figures ≤ 65536
   -- Memory for answers is called too short exactly below the needed length, and so is memory for views.
   pub answers-room : (f : Floor) (ws : List ℕ) (room : ℕ) → checkOf f ws ≡ passed
       → (planVerdict f ws room ≡ refused 9 0) ↔ (room < 65 * f .carriers)

@@ -15,8 +15,9 @@ unfoldable pub figuresOf : Needed → Outcome Lengths
 figuresOf (Known l) = value l
 figuresOf (Refused r) = refusal (r .number) (r .place)
 
--- As many cell numbers as the floor has walls, the sheet's length in bytes, 65 numbers a carrier for answers or views, and 11 bytes and
--- 331 a carrier for printed routes, and the numbers of the machine's state.
+-- As many cell numbers as the floor has walls, the sheet's length in bytes, 65 numbers a carrier for answers or views, 11 bytes and
+-- 331 a carrier for printed routes, the numbers of the machine's state, 64 cells of a route, 22 numbers of a floor record, and as many
+-- numbers as there are figures.
 unfoldable pub lengthsOf : Floor → Lengths
 lengthsOf f =
     record {
@@ -25,6 +26,9 @@ lengthsOf f =
       answers = 65 * f .carriers;
       text = textLength f;
       state = stateSize (f .carriers);
+      route = 64;
+      floor = 22;
+      figures = 8;
     }
 
 -- What the entry answers: the lengths of a floor within its limits.

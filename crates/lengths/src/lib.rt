@@ -8,13 +8,17 @@ use floor::Refusal;
 
 // The needed lengths: `walls` in cell numbers of two bytes, `sheet` in bytes, `answers` in numbers of two bytes (the
 // answers of a planner, and the views lent to a search), `text` in bytes (the printed routes), `state` in numbers of two
-// bytes (the state of the machine).
+// bytes (the state of the machine), `route` in cell numbers of two bytes (what a search answers), `floor` in numbers of
+// two bytes (a floor record), `figures` in numbers of eight bytes (these lengths themselves). Later figures stand behind.
 pub struct Lengths {
     pub walls: usize,
     pub sheet: usize,
     pub answers: usize,
     pub text: usize,
     pub state: usize,
+    pub route: usize,
+    pub floor: usize,
+    pub figures: usize,
 }
 
 // What the entry answers.
@@ -37,6 +41,9 @@ pub fn needed_lengths(f: Floor) -> Needed
             answers: 65 * f.carriers as usize,
             text: printing::text_length(f),
             state: state::state_size(f.carriers as usize),
+            route: 64,
+            floor: 22,
+            figures: 8,
         });
     };
     Needed::Refused(refusal)

@@ -12,8 +12,8 @@ use Rattle.words.specs.Rows.{has}
 use Rattle.words.proofs.RowsLaws.{place-same}
 use Rattle.tables.specs.declared.Scene.{Scene}
 use Rattle.tables.specs.declared.Place.{Place}
-use Rattle.route.specs.Views.{records}
-use Rattle.tables.specs.Ways.{spotOf, wayOpen}
+use Rattle.records.specs.Records.{records, viewCell}
+use Rattle.tables.specs.Ways.{wayOpen}
 use Rattle.tables.specs.Table.{Grid, PlaceOf, Fits, Tidy, inSet}
 use Rattle.tables.specs.Room.{Roomy, standsAt}
 use Rattle.passes.specs.Walk.{Stands}
@@ -54,7 +54,7 @@ set-not g s t c e = rw e (and-false (ltb c (g .cells)))
 pub way-swap : (m : List ℕ) (a b c d k : ℕ) → wayOpen m a b c d k ≡ wayOpen m b a d c k
 unfolding wayOpen
 way-swap m a b c d zero = refl
-way-swap m a b c d (suc k) = rw (way-swap m a b c d k, and-comm (eqb c (spotOf m k b)) (eqb d (spotOf m k a)))
+way-swap m a b c d (suc k) = rw (way-swap m a b c d k, and-comm (eqb c (viewCell m k b)) (eqb d (viewCell m k a)))
 
 module _ (g : Scene) (k : ℕ) (free m room : List ℕ) (fits : Fits g k m) (roomy : Roomy g k free m room) where
   -- Where the room has a cell no view is.

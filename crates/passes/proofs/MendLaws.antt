@@ -13,7 +13,8 @@ use Rattle.laws.proofs.Tests.{and-both, and-fst, and-snd, lt-or-le, eq-or-ne, t
 use Rattle.words.specs.Rows.{has, dropped}
 use Rattle.words.proofs.RowsLaws.{has-dropped, length-dropped, place-row}
 use Rattle.tables.specs.declared.Scene.{Scene}
-use Rattle.tables.specs.Ways.{spotOf, wayOpen}
+use Rattle.tables.specs.Ways.{wayOpen}
+use Rattle.records.specs.Records.{viewCell}
 use Rattle.tables.specs.Table.{Fits, Tidy, inSet}
 use Rattle.passes.specs.Steps.{Apart, Entered, Mended, MendedCell}
 use Rattle.passes.specs.Walk.{nextOf, leadsOf}
@@ -163,7 +164,7 @@ module _ (g : Scene) (k : ℕ) (m s : List ℕ) (a b : ℕ) (differ : a ≡ b �
         gone = λ j d h e i. absurd (omega arith);
       }
 
-  pub mended-more : (n : ℕ) (q r : List ℕ) → Mended g k m s a b n q → MendedCell g k m q a b (spotOf m n a) r →
+  pub mended-more : (n : ℕ) (q r : List ℕ) → Mended g k m s a b n q → MendedCell g k m q a b (viewCell m n a) r →
       Mended g k m s a b (n + 1) r
   mended-more n q r x y =
       record {
@@ -182,13 +183,13 @@ module _ (g : Scene) (k : ℕ) (m s : List ℕ) (a b : ℕ) (differ : a ≡ b �
 
       holds : (d : ℕ) → inSet g s b d ≡ true → Entered g k m s a b d → inSet g r b d ≡ true
       holds d e p =
-          ⊎-elim (λ (h : d ≡ spotOf m n a). rw h (y .holds (rw h at (x .holds d e p)) (rw h at (to-q d p))))
-          (λ (h : d ≡ spotOf m n a → ⊥). y .other b d (inr h) ∙ x .holds d e p) (eq-or-ne d (spotOf m n a))
+          ⊎-elim (λ (h : d ≡ viewCell m n a). rw h (y .holds (rw h at (x .holds d e p)) (rw h at (to-q d p))))
+          (λ (h : d ≡ viewCell m n a → ⊥). y .other b d (inr h) ∙ x .holds d e p) (eq-or-ne d (viewCell m n a))
 
       lesser : (d : ℕ) → inSet g r b d ≡ true → inSet g q b d ≡ true
       lesser d e = set-holds g q b d (set-cell g r b d e) (y .fewer (b * 36 + 1 + d / g .width) (d % g .width) (set-has g r b d e))
 
-      gone : (j d : ℕ) → j < n + 1 → spotOf m j a ≡ d → inSet g r b d ≡ true → Entered g k m s a b d
+      gone : (j d : ℕ) → j < n + 1 → viewCell m j a ≡ d → inSet g r b d ≡ true → Entered g k m s a b d
       gone j d h e i =
-          ⊎-elim (λ (p : j ≡ n). let z : spotOf m n a ≡ d = rw p at e in rw z at (of-q (spotOf m n a) (y .gone (rw z i))))
+          ⊎-elim (λ (p : j ≡ n). let z : viewCell m n a ≡ d = rw p at e in rw z at (of-q (viewCell m n a) (y .gone (rw z i))))
           (λ (p : j < n). x .gone j d p e (lesser d i)) (eq-or-lt-of-le (omega arith))

@@ -19,7 +19,8 @@ use Rattle.words.proofs.RowsLaws.{place-row}
 use Rattle.words.proofs.StepLaws.{brought, narrow-digit, narrow-masked}
 use Rattle.tables.specs.declared.Scene.{Scene}
 use Rattle.tables.specs.declared.window.Window.{Window}
-use Rattle.tables.specs.Ways.{spotOf, wayOpen}
+use Rattle.tables.specs.Ways.{wayOpen}
+use Rattle.records.specs.Records.{viewCell}
 use Rattle.tables.specs.Table.{Fits, Tidy, Rewritten, inSet}
 use Rattle.tables.specs.Room.{Roomy}
 use Rattle.tables.specs.Windowed.{Fitting, Windowed, Inside, firstAt}
@@ -32,22 +33,22 @@ use Rattle.passes.proofs.EndLaws.{fewer-windowed}
 use Rattle.passes.proofs.MendLaws.{apart-differ, entered-same}
 
 -- A way is open, or a view is at its end at beat a.
-way-or-spot : (m : List ℕ) (a b c d k : ℕ) → (wayOpen m a b c d k ≡ true) ⊎ ((j : ℕ) × (j < k) × (spotOf m j a ≡ d))
+way-or-cell : (m : List ℕ) (a b c d k : ℕ) → (wayOpen m a b c d k ≡ true) ⊎ ((j : ℕ) × (j < k) × (viewCell m j a ≡ d))
 unfolding wayOpen
-way-or-spot m a b c d zero = inl refl
-way-or-spot m a b c d (suc k) =
-    ⊎-elim (λ (h : wayOpen m a b c d k ≡ true). last (eqb d (spotOf m k a)) refl h)
-    (λ (x : (j : ℕ) × (j < k) × (spotOf m j a ≡ d)). inr (x .0, omega (arith, x .1), x .2)) (way-or-spot m a b c d k)
+way-or-cell m a b c d zero = inl refl
+way-or-cell m a b c d (suc k) =
+    ⊎-elim (λ (h : wayOpen m a b c d k ≡ true). last (eqb d (viewCell m k a)) refl h)
+    (λ (x : (j : ℕ) × (j < k) × (viewCell m j a ≡ d)). inr (x .0, omega (arith, x .1), x .2)) (way-or-cell m a b c d k)
   where
     apart : (x : Bool) → not (x && false) ≡ true
     apart true = refl
     apart false = refl
 
-    last : (x : Bool) → eqb d (spotOf m k a) ≡ x → wayOpen m a b c d k ≡ true →
-        ((not (eqb c (spotOf m k b) && eqb d (spotOf m k a)) && wayOpen m a b c d k) ≡ true) ⊎ ((j : ℕ) × (j < suc k) × (spotOf m j a ≡ d))
-    last true e h = inr (k, omega arith, sym (eqb-true d (spotOf m k a) e))
+    last : (x : Bool) → eqb d (viewCell m k a) ≡ x → wayOpen m a b c d k ≡ true →
+        ((not (eqb c (viewCell m k b) && eqb d (viewCell m k a)) && wayOpen m a b c d k) ≡ true) ⊎ ((j : ℕ) × (j < suc k) × (viewCell m j a ≡ d))
+    last true e h = inr (k, omega arith, sym (eqb-true d (viewCell m k a) e))
     last false e h =
-        let o : not (eqb c (spotOf m k b) && eqb d (spotOf m k a)) ≡ true = rw e (apart (eqb c (spotOf m k b))) in
+        let o : not (eqb c (viewCell m k b) && eqb d (viewCell m k a)) ≡ true = rw e (apart (eqb c (viewCell m k b))) in
         inl (and-both o h)
 
 -- Near cells are in the same row or in neighbouring ones.
@@ -219,6 +220,6 @@ module _ (g : Scene) (k : ℕ) (v : Window) (m s q : List ℕ) (a b : ℕ) (fits
           Entered g k m s a b d
       entered d i (e, h, n) =
           ⊎-elim (λ (o : wayOpen m a b e d k ≡ true). record { from = e; inset = h; beside = n; way = o })
-          (λ (z : (j : ℕ) × (j < k) × (spotOf m j a ≡ d)). entered-same g k m s q a b d
+          (λ (z : (j : ℕ) × (j < k) × (viewCell m j a ≡ d)). entered-same g k m s q a b d
           (λ c. quick-other a c (apart-differ a b apart)) (y .gone (z .0) d (z .1) (z .2) i))
-          (way-or-spot m a b e d k)
+          (way-or-cell m a b e d k)

@@ -8,7 +8,8 @@ use Rattle.route.specs.Moves.{near}
 use Rattle.words.specs.Rows.{has}
 use Rattle.tables.specs.declared.Scene.{Scene}
 use Rattle.tables.specs.declared.window.Window.{Window}
-use Rattle.tables.specs.Ways.{spotOf, wayOpen}
+use Rattle.tables.specs.Ways.{wayOpen}
+use Rattle.records.specs.Records.{viewCell}
 use Rattle.tables.specs.Table.{inSet, Tidy}
 use Rattle.tables.specs.Windowed.{Windowed}
 
@@ -37,7 +38,7 @@ pub record Mended (g : Scene) (k : ℕ) (m s : List ℕ) (a b n : ℕ) (q : List
   pub fewer : (i j : ℕ) → has q i j ≡ true → has s i j ≡ true
   pub other : (t c : ℕ) → (t ≡ b → ⊥) → inSet g q t c ≡ inSet g s t c
   pub holds : (d : ℕ) → inSet g s b d ≡ true → Entered g k m s a b d → inSet g q b d ≡ true
-  pub gone : (j d : ℕ) → j < n → spotOf m j a ≡ d → inSet g q b d ≡ true → Entered g k m s a b d
+  pub gone : (j d : ℕ) → j < n → viewCell m j a ≡ d → inSet g q b d ≡ true → Entered g k m s a b d
 
 -- q is s, but that cell d may be gone from the set of beat b, and is gone exactly if no open way leads to it from the set of beat a.
 pub record MendedCell (g : Scene) (k : ℕ) (m s : List ℕ) (a b d : ℕ) (q : List ℕ) : Type 0 where

@@ -4,12 +4,12 @@ ghost use Prim.Native.Nat.{ℕ, _+_, _*_, _≤_, _<_};
 ghost use Rattle.tables.specs.Table.{Fits, Tidy};
 ghost use Rattle.tables.specs.Room.{Roomy};
 ghost use Rattle.passes.specs.Steps.{Mended, MendedCell, Apart};
-ghost use Rattle.tables.specs.Ways.{spotOf};
+ghost use Rattle.records.specs.Records.{viewCell};
 use crate::next::next;
+use records::view_cell;
 use tables::Scene;
 use tables::place_of;
 use tables::table::member;
-use tables::views::spot;
 
 // Takes cell d out of the set of beat b if no open way leads to it from the set of beat a.
 fn mend_cell(
@@ -45,9 +45,9 @@ fn mend_view(
 )
     requires { ⌜ Fits g k (now views) × (a ≤ g .horizon) × (b ≤ g .horizon) × Apart (a * 36) (b * 36) × (j < k) ⌝ }
     requires { ⌜ ((free : List ℕ) × Roomy g k free (now views) (now room)) × Tidy g (now sets) ⌝ }
-    ensures { λ r. ⌜ MendedCell g k (now (views .entry)) (now (sets .entry)) a b (spotOf (now (views .entry)) j a) (now (sets .exit)) ⌝ }
+    ensures { λ r. ⌜ MendedCell g k (now (views .entry)) (now (sets .entry)) a b (viewCell (now (views .entry)) j a) (now (sets .exit)) ⌝ }
 {
-    let d = spot(views, j, a);
+    let d = view_cell(views, j, a);
     if g.cells <= d {
         return;
     }

@@ -7,6 +7,7 @@ use mathlib.Core.List.{List, map}
 use lib.ListN.{take}
 use Rattle.floor.specs.declared.Floor.{Floor}
 use Rattle.floor.specs.Checks.{startOf, goalOf, among}
+use Rattle.floor.specs.Accepted.{SameFloor}
 use Rattle.floor.proofs.SameLaws.{among-same}
 use Rattle.route.specs.Route.{Answer, View, heard, Task}
 use Rattle.route.specs.Search.{best}
@@ -30,12 +31,25 @@ parts-same : {w w′ c c′ h h′ s s′ g g′ : ℕ} {free free′ : ℕ → 
     (record { width = w′; cells = c′; horizon = h′; start = s′; goal = g′; free = free′ })
 parts-same a b c d e f = rw (a, b, c, d, e, f)
 
+-- Records that are the same floor agree up to their last carrier.
+pub same-agrees : (f : Floor) (ws : List ℕ) (g : Floor) (vs : List ℕ) → SameFloor f ws g vs → AgreeUpTo (f .carriers) f ws g vs
+same-agrees f ws g vs same =
+    record {
+      width = same .width;
+      height = same .height;
+      horizon = same .horizon;
+      walls = same .walls;
+      cells = same .cells;
+      starts = same .starts;
+      goals = same .goals;
+    }
+
 module _ (k : ℕ) (f : Floor) (ws : List ℕ) (g : Floor) (vs : List ℕ) (agree : AgreeUpTo k f ws g vs) where
   -- The cells that are no wall are the same.
   free-same : _≡_ {A = ℕ → Bool} (λ c. not (among ws (f .walls) c)) (λ c. not (among vs (g .walls) c))
   free-same = fun-ext (λ c. rw (among-same ws vs (f .walls) c (agree .cells), agree .walls))
 
-  task-same : (i : ℕ) → i < k → taskOf f ws (i + 1) ≡ taskOf g vs (i + 1)
+  pub task-same : (i : ℕ) → i < k → taskOf f ws (i + 1) ≡ taskOf g vs (i + 1)
   unfolding taskOf
   task-same i l =
       let one : i + 1 - 1 ≡ i = omega arith in

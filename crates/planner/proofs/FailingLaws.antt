@@ -10,8 +10,9 @@ use lib.Seq.{getD-at}
 use Rattle.route.specs.Route.{Answer, none, route, View}
 use Rattle.route.specs.Sequential.{sequential}
 use Rattle.planner.specs.Plan.{failingFrom, failingOf}
-use Rattle.planner.specs.Records.{recordOf, recordsOf, firstFrom}
-use Rattle.planner.proofs.ViewLaws.{Whole}
+use Rattle.planner.specs.Records.{firstFrom}
+use Rattle.records.specs.Records.{recordOf, recordsOf}
+use Rattle.records.proofs.RecordLaws.{Whole}
 
 -- All records are whole.
 abbrev pub AllWhole : List Answer → Type 0

@@ -1,7 +1,6 @@
 -- Laws of the definitions that no single function owns.
 pub mod FirstLaws
 pub mod RecordLaws
-pub mod ViewLaws
 pub mod RoomLaws
 pub mod PlanLaws
 pub mod FailingLaws

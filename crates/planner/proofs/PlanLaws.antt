@@ -1,5 +1,5 @@
 -- The planner's loop: one more answer stored behind those of the carriers above.
-use Prim.Native.Nat.{ℕ, suc, _+_, _*_, _-_, _≤_}
+use Prim.Native.Nat.{ℕ, _+_, _*_, _-_, _≤_}
 use native.Mathlib.Omega.{arith}
 use native.Mathlib.Nat.{zero-add}
 use native.Mathlib.Numerals.{add-one}
@@ -12,21 +12,12 @@ use Rattle.route.specs.Route.{Answer, none, route, View, heard, Task}
 use Rattle.route.specs.Search.{best}
 use Rattle.route.specs.Sequential.{sequential}
 use Rattle.route.proofs.Theorems.{theorems}
-use Rattle.route.specs.Views.{viewsOf, records}
+use Rattle.records.specs.Records.{viewsOf, recordOf, recordsOf, stored}
 use Rattle.search.specs.Task.{taskOfRows}
 use Rattle.laws.specs.Memory.{put}
 use Rattle.laws.proofs.PutLaws.{put-none, put-length, put-next}
 use Rattle.planner.specs.Plan.{respondWith}
-use Rattle.planner.specs.Records.{recordOf, recordsOf, stored}
-use Rattle.planner.proofs.ViewLaws.{Whole, records-snoc, plan-length, views-are}
-
-none-whole : Whole none
-unfolding recordOf
-none-whole = refl
-
-route-whole : (r : List ℕ) → length r ≡ 64 → Whole (route r)
-unfolding recordOf
-route-whole r e = ap suc e
+use Rattle.records.proofs.RecordLaws.{Whole, none-whole, route-whole, records-snoc, views-above, plan-length, views-are}
 
 -- A best answer has a whole record.
 pub best-whole : (task : Task) (vs : List View) → task .horizon ≤ 63 → Whole (best task vs)
@@ -35,11 +26,6 @@ best-whole task vs h = go (best task vs) refl
     go : (x : Answer) → best task vs ≡ x → Whole x
     go none e = none-whole
     go (route r) e = route-whole r (theorems .best-is-route task vs r h e .0 .long)
-
--- The views of the carriers above carrier k, counted from 0.
-pub views-above : (m : List ℕ) (k : ℕ) → viewsOf m (k + 1) ≡ records m k
-unfolding viewsOf
-views-above m k = let one : k + 1 - 1 ≡ k = omega arith in rw one
 
 module _ (f : Floor) (rows : List ℕ) (horizon : f .horizon ≤ 63) where
   whole : (k : ℕ) (vs : List View) → Whole (respondWith f rows k vs)

@@ -8,7 +8,8 @@ use Rattle.search.specs.declared.Outcome.{Outcome}
 use Rattle.search.specs.declared.Outcome.the-variants.{Route, None, Refused}
 use Rattle.search.specs.declared.Found.{Found}
 use Rattle.search.specs.Answers.{answered, outcomeOf, resultOf, cellsOf, Says}
-use Rattle.planner.specs.Records.{recordOf, tagOf}
+use Rattle.planner.specs.Records.{tagOf}
+use Rattle.records.specs.Records.{recordOf}
 
 tag-record : (o : Outcome) (r : List ℕ) (x : Answer) → outcomeOf o r ≡ answered x → r ≡ cellsOf (answered x) → tagOf o ∷ r ≡ recordOf x
 unfolding outcomeOf cellsOf tagOf recordOf

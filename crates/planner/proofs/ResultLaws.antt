@@ -7,7 +7,8 @@ use Rattle.route.specs.Sequential.{sequential}
 use Rattle.search.specs.Task.{taskOf, taskOfRows}
 use Rattle.laws.specs.Memory.{put}
 use Rattle.planner.specs.Plan.{respondOf, respondWith, planOf, failingOf}
-use Rattle.planner.specs.Records.{stored, firstFrom}
+use Rattle.planner.specs.Records.{firstFrom}
+use Rattle.records.specs.Records.{stored}
 use Rattle.planner.proofs.PlanLaws.{best-whole}
 use Rattle.planner.proofs.FailingLaws.{AllWhole, first-failing, plan-whole, plan-count}
 

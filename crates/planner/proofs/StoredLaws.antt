@@ -7,7 +7,7 @@ use lib.ListN.{length, take, drop, length-append}
 use lib.Seq.{take-at, drop-at}
 use Rattle.laws.specs.Memory.{put}
 use Rattle.route.specs.Route.{Answer}
-use Rattle.planner.specs.Records.{recordOf, recordsOf, stored}
+use Rattle.records.specs.Records.{recordOf, recordsOf, stored}
 use Rattle.planner.specs.Claims.{answerAt}
 use Rattle.planner.proofs.FailingLaws.{AllWhole}
 

@@ -16,7 +16,7 @@ use Rattle.route.specs.Search.{best}
 use Rattle.route.proofs.Theorems.{theorems as route-theorems}
 use Rattle.search.specs.Task.{taskOf}
 use Rattle.planner.specs.Plan.{planOf, respondOf, failingOf, failingFrom}
-use Rattle.planner.specs.Records.{recordOf, stored}
+use Rattle.records.specs.Records.{recordOf, stored}
 use Rattle.planner.specs.Claims.{Claims, answerAt}
 use Rattle.planner.proofs.FailingLaws.{plan-count}
 use Rattle.planner.proofs.ResultLaws.{plan-all-whole}

@@ -12,7 +12,7 @@ use Rattle.route.specs.Conflict.{ConflictFree}
 use Rattle.route.specs.Best.{IsRoute, Best}
 use Rattle.search.specs.Task.{taskOf}
 use Rattle.planner.specs.Plan.{planOf, failingOf}
-use Rattle.planner.specs.Records.{stored}
+use Rattle.records.specs.Records.{stored}
 
 -- The answer of carrier k in a plan.
 unfoldable pub answerAt : List Answer → ℕ → Answer

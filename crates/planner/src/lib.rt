@@ -1,5 +1,5 @@
 // The sequential planner of document 01: carriers 1 to n, each best against the answers above it, none included.
-mod records;
+mod tags;
 
 ghost use mathlib.Core.Path.{_≡_};
 ghost use Prim.Native.Nat.{_+_, _*_, _≤_, _<_};
@@ -10,13 +10,14 @@ ghost use Rattle.search.specs.Rows.{Searchable};
 ghost use Rattle.tables.specs.Table.{sceneOf};
 ghost use Rattle.tables.specs.Room.{Roomy};
 ghost use Rattle.planner.specs.Plan.{respondWith, planVerdict};
-ghost use Rattle.planner.specs.Records.{answered, stored, planMemory};
+ghost use Rattle.planner.specs.Records.{answered, planMemory};
+ghost use Rattle.records.specs.Records.{stored};
 ghost use Rattle.planner.specs.Answers.{resultOf, planResult, Plannable};
 use floor::Checked;
 use floor::Floor;
 use floor::Refusal;
-pub use records::store;
-pub use records::tag_of;
+use search::Rows;
+pub use tags::tag_of;
 
 // What planning says.
 pub enum Planned {
@@ -34,28 +35,28 @@ pub fn request(f: Floor, walls: &[u16], room: usize) -> Checked
     let Checked::Passed = checked else {
         return checked;
     };
-    floor::room(65 * f.carriers as usize, room)
+    floor::room(records::SIZE * f.carriers as usize, room)
 }
 
 // The answer of the carrier with i carriers above it, whose answers stand in front; it is stored behind them, and its route is taken
 // out of the room.
-fn plan_one(f: Floor, free: [u32; 32], i: u16, room: &mut [u32], answers: &mut [u16])
+fn plan_one(f: Floor, free: Rows, i: u16, room: &mut [u32], answers: &mut [u16])
     requires { ⌜ (i < 8) × (65 * i + 65 ≤ length (now answers)) ⌝ }
     requires { ⌜ Searchable f free (i + 1) (take (65 * i) (now answers)) ⌝ }
     requires { ⌜ Roomy (sceneOf f) i free (now answers) (now room) ⌝ }
     ensures answers { λ r. ⌜ now (answers .exit) ≡ answered f free i (now (answers .entry)) ⌝ }
     ensures room { λ r. ⌜ Roomy (sceneOf f) (i + 1) free (now (answers .exit)) (now (room .exit)) ⌝ }
 {
-    let at = 65 * i as usize;
+    let at = records::SIZE * i as usize;
     let found = search::route_in(f, free, room, i + 1, &answers[..at]);
     let outcome = found.outcome;
     let cells = found.route;
-    records::store(answers, at, records::tag_of(outcome), cells);
+    records::store(answers, at, tags::tag_of(outcome), cells);
     search::take_route(f, room, answers, i as usize);
 }
 
 // The carriers in turn, each best against the answers above it, in the room that these leave.
-fn plan_all(f: Floor, free: [u32; 32], answers: &mut [u16])
+fn plan_all(f: Floor, free: Rows, answers: &mut [u16])
     requires { ⌜ Plannable f free (now answers) ⌝ }
     ensures { λ r. ⌜ now (answers .exit) ≡ stored (sequential (respondWith f free) (f .carriers)) (now (answers .entry)) ⌝ }
 {
@@ -78,7 +79,7 @@ pub fn plan(f: Floor, walls: &[u16], answers: &mut [u16]) -> Planned
     let Checked::Refused(x) = asked else {
         let free = search::free_rows(f, walls);
         plan_all(f, free, answers);
-        return Planned::Failing(records::failing(answers, f.carriers as usize));
+        return Planned::Failing(tags::failing(answers, f.carriers as usize));
     };
     Planned::Refused(x)
 }

@@ -1,6 +1,5 @@
 -- Laws of the definitions that no single function owns.
 pub mod FieldsLaws
-pub mod LoadLaws
 pub mod PutLaws
 pub mod RecordLaws
 pub mod PrintLaws

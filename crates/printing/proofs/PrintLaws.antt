@@ -1,5 +1,5 @@
 -- Printing with a refusal and without, and the path from a sheet's bytes.
-use Prim.Native.Nat.{ℕ, _+_, _*_, _≤_, _<_}
+use Prim.Native.Nat.{ℕ, _+_, _*_, _≤_, _<_, min}
 use native.Mathlib.Omega.{arith}
 use mathlib.Core.Path.{_≡_, sym, _∙_, ap}
 use mathlib.Core.List.{List, _++_}
@@ -22,8 +22,10 @@ use Rattle.sheet.proofs.Theorems.{theorems as sheet-theorems}
 use Rattle.planner.specs.declared.Planned.{Planned}
 use Rattle.planner.specs.declared.Planned.the-variants.{Failing, Refused}
 use Rattle.planner.specs.Plan.{planOf, planVerdict, failingOf}
-use Rattle.planner.specs.Records.{stored, planMemory}
+use Rattle.planner.specs.Records.{planMemory}
+use Rattle.records.specs.Records.{stored}
 use Rattle.planner.specs.Answers.{resultOf, planResult}
+use Rattle.printing.specs.Text.{refusalLine}
 use Rattle.printing.specs.Print.{printOf, textLength}
 use Rattle.printing.specs.Print.{printVerdict, orRefusal, routesOf, neededFor, shortOutcome, routesOutcome}
 use Rattle.printing.specs.Print.{routesMemory}
@@ -137,6 +139,10 @@ was-read text old walls f wide r told =
       checked = rw (front, floor) (sheet-theorems .read-accepted text good);
     }
 
+-- The place of a refused sheet is printed whole.
+pub place-printed : (text : List ℕ) (k p : ℕ) → sheetVerdict text ≡ refused k p → min p 65535 ≡ p
+place-printed text k p v = let low = sheet-theorems .place-low text k p v in omega arith
+
 -- From bytes to bytes: an accepted sheet, and a refused one.
 module _ (text old new : List ℕ) (o : Outcome ℕ) where
   pub routes-accepted : (f : Floor) (walls : List ℕ) → WasRead text f walls
@@ -151,4 +157,6 @@ module _ (text old new : List ℕ) (o : Outcome ℕ) where
   pub routes-refused : (k p : ℕ) → sheetVerdict text ≡ refused k p → RefusalPut k p old new o
       → (o ≡ routesOutcome text (length old)) × (new ≡ routesMemory text old)
   unfolding routesOutcome routesMemory routesOf orRefusal neededFor whenPassed shortOutcome _thenAnswers_ RefusalPut
-  routes-refused k p v t = (rw v (t .answers), rw v (t .stores))
+  routes-refused k p v t =
+      let u : TextOrShort (refusalLine k p) 16 k p old new o = rw (place-printed text k p v) at t in
+      (rw v (u .answers), rw v (u .stores))

@@ -4,35 +4,26 @@ use native.Mathlib.Omega.{arith}
 use native.Mathlib.Nat.{add-zero}
 use mathlib.Core.Path.{_≡_, refl, sym, _∙_, ap}
 use mathlib.Core.List.{List, [], _∷_, _++_, append-assoc}
-use borrow.Author.Tests.{eq-eqb, ne-eqb}
-use lib.ListN.{length, getD, take, drop, length-append}
+use lib.ListN.{length, length-append}
 use Rattle.laws.specs.Memory.{put}
 use Rattle.floor.specs.declared.Floor.{Floor}
 use Rattle.route.specs.Route.{Answer, none, route}
 use Rattle.sheet.proofs.LinesText.{lines-same}
 use Rattle.planner.specs.Plan.{respondOf, planOf, failingFrom, failingOf}
-use Rattle.planner.specs.Records.{recordOf, recordsOf, stored}
+use Rattle.records.specs.Records.{recordOf, recordsOf, stored, shown, viewAt, answerIn}
 use Rattle.planner.specs.Claims.{answerAt}
-use Rattle.planner.proofs.ViewLaws.{Whole, cells-behind}
-use Rattle.planner.proofs.FailingLaws.{AllWhole, plan-count, tag-none, tag-route, front}
+use Rattle.records.proofs.RecordLaws.{Whole, record-view}
+use Rattle.planner.proofs.FailingLaws.{AllWhole, plan-count, front}
 use Rattle.planner.proofs.ResultLaws.{plan-all-whole}
 use Rattle.printing.specs.Text.{answerLine, firstLine, routesText}
 use Rattle.printing.specs.Print.{printOf}
-use Rattle.printing.specs.Put.{answerIn, lineIn, linesIn, textIn}
+use Rattle.printing.specs.Put.{lineIn, linesIn, textIn}
 
 -- The answer in a record is the answer whose record it is.
 answer-front : (x : Answer) (m pre rest : List ℕ) (i : ℕ) → m ≡ pre ++ (recordOf x ++ rest) → length pre ≡ 65 * i → Whole x
     → answerIn m i ≡ x
-unfolding answerIn recordOf
-answer-front none m pre rest i e s w =
-    let tag : getD m (65 * i) 0 ≡ 1 = ap (λ (l : List ℕ). getD l (65 * i) 0) e ∙ tag-none pre rest (65 * i) s in
-    rw (ne-eqb (getD m (65 * i) 0) 2 (λ q. omega arith))
-answer-front (route r) m pre rest i e s w =
-    let tag : getD m (65 * i) 0 ≡ 2 = ap (λ (l : List ℕ). getD l (65 * i) 0) e ∙ tag-route pre r rest (65 * i) s in
-    let cells : take 64 (drop (65 * i + 1) m) ≡ r =
-    ap (λ (l : List ℕ). take 64 (drop (65 * i + 1) l)) e ∙ cells-behind pre r rest 2 (65 * i) s (omega (arith, w))
-    in
-    rw (eq-eqb (getD m (65 * i) 0) 2 tag, cells)
+unfolding answerIn shown
+answer-front x m pre rest i e s w = ap (λ (l : List ℕ). shown (viewAt l i)) e ∙ ap shown (record-view pre rest x i s w)
 
 -- Record k of a plan's records, which begin at record i of a memory, has the plan's answer k.
 answers-in : (xs : List Answer) (m pre rest : List ℕ) (i k : ℕ) → m ≡ pre ++ (recordsOf xs ++ rest) → length pre ≡ 65 * i → AllWhole xs

@@ -20,6 +20,7 @@ use Rattle.sheet.proofs.LinesText.{lines-same}
 use Rattle.sheet.proofs.Theorems.{theorems as sheet-theorems}
 use Rattle.planner.specs.Plan.{planOf, failingOf}
 use Rattle.planner.specs.Claims.{answerAt}
+use Rattle.planner.proofs.DependsLaws.{same-agrees}
 use Rattle.planner.proofs.Theorems.{theorems as planner-theorems}
 use Rattle.printing.specs.Text.{noneLine, answerLine, firstLine, routesText, refusalLine}
 use Rattle.printing.specs.Print.{printOf, textLength, orRefusal, routesOf, neededFor, routesOutcome}
@@ -29,20 +30,12 @@ use Rattle.printing.proofs.LinesLaws.{line-at, text-within}
 
 -- Records that are the same floor have the same printed routes.
 module _ (f : Floor) (ws : List ℕ) (g : Floor) (vs : List ℕ) (same : SameFloor f ws g vs) where
-  plans-same : planOf f ws ≡ planOf g vs
+  pub plans-same : planOf f ws ≡ planOf g vs
   plans-same =
       let n = f .carriers in
       sym (take-all n (planOf f ws) (omega (arith, planner-theorems .answers-all f ws)))
       ∙ planner-theorems .depends-on-above n f ws g vs (omega arith) (omega (arith, same .carriers))
-      (record {
-        width = same .width;
-        height = same .height;
-        horizon = same .horizon;
-        walls = same .walls;
-        cells = same .cells;
-        starts = same .starts;
-        goals = same .goals;
-      })
+      (same-agrees f ws g vs same)
       ∙ take-all n (planOf g vs) (omega (arith, planner-theorems .answers-all g vs, same .carriers))
 
   answer-same : (i : ℕ) (x : Answer) → i < f .carriers → answerLine f i x ≡ answerLine g i x
@@ -59,7 +52,7 @@ module _ (f : Floor) (ws : List ℕ) (g : Floor) (vs : List ℕ) (same : SameFlo
         same .carriers,
       )
 
-  print-same : printOf f ws ≡ printOf g vs
+  pub print-same : printOf f ws ≡ printOf g vs
   unfolding printOf
   print-same = text-same (planOf f ws) ∙ ap (routesText g) plans-same
 

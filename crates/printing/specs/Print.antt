@@ -11,7 +11,7 @@ use Rattle.floor.specs.Checks.{roomOf}
 use Rattle.sheet.specs.Values.{floorAt, wallsAt}
 use Rattle.sheet.specs.Read.{sheetVerdict}
 use Rattle.planner.specs.Plan.{planOf, planVerdict}
-use Rattle.planner.specs.Records.{stored}
+use Rattle.records.specs.Records.{stored}
 use Rattle.printing.specs.declared.Printed.{Printed}
 use Rattle.printing.specs.declared.Printed.the-variants.{Written, Refused}
 use Rattle.printing.specs.Text.{routesText, refusalLine}

@@ -1,21 +1,17 @@
 -- What the printing functions put into a buffer, from the answers as they lie in memory. Only contracts cite this file.
-use Prim.Native.Nat.{ℕ, _+_, _*_, _≤_}
+use Prim.Native.Nat.{ℕ, _+_, _*_, _≤_, min}
 use mathlib.Core.Bool.{cond}
 use mathlib.Core.Path.{_≡_}
 use mathlib.Core.List.{List, _++_}
-use lib.Dec.{eqb, leb}
-use lib.ListN.{length, getD, take, drop}
+use lib.Dec.{leb}
+use lib.ListN.{length, take}
 use Rattle.laws.specs.Memory.{put}
 use Rattle.laws.specs.Verdict.{Outcome, value, refusal}
 use Rattle.floor.specs.declared.Floor.{Floor}
-use Rattle.route.specs.Route.{Answer, none, route}
+use Rattle.records.specs.Records.{answerIn}
 use Rattle.sheet.specs.Text.{linesOf}
 use Rattle.printing.specs.Text.{answerLine, firstLine, refusalLine}
 use Rattle.printing.specs.Print.{printOf, textLength}
-
--- The answer in record i of a memory: a route where its tag is 2, else none.
-unfoldable pub answerIn : List ℕ → ℕ → Answer
-answerIn m i = cond (eqb (getD m (65 * i) 0) 2) (route (take 64 (drop (65 * i + 1) m))) none
 
 -- The line of carrier i, and the lines of the first k carriers, for the answers in a memory.
 unfoldable pub lineIn : Floor → List ℕ → ℕ → List ℕ
@@ -61,6 +57,6 @@ pub record TextOrShort (text : List ℕ) (needed k p : ℕ) (old new : List ℕ)
 unfoldable pub FloorPut : Floor → List ℕ → List ℕ → List ℕ → Outcome ℕ → Type 0
 FloorPut f walls old new o = TextOrShort (printOf f (take (f .walls) walls)) (textLength f) 9 0 old new o
 
--- The same for the line of a refused sheet.
+-- The same for the line of a refused sheet, a place over 65,535 printed as that.
 unfoldable pub RefusalPut : ℕ → ℕ → List ℕ → List ℕ → Outcome ℕ → Type 0
-RefusalPut k p old new o = TextOrShort (refusalLine k p) 16 k p old new o
+RefusalPut k p old new o = TextOrShort (refusalLine k (min p 65535)) 16 k p old new o

@@ -3,13 +3,13 @@
 mod lines;
 
 ghost use mathlib.Core.Path.{_≡_};
-ghost use Prim.Native.Nat.{_≤_};
+ghost use Prim.Native.Nat.{_≤_, min};
 ghost use lib.ListN.{length, take};
 ghost use Rattle.floor.specs.Answers.{verdictOf};
 ghost use Rattle.floor.specs.Checks.{checkOf};
 ghost use Rattle.laws.specs.Verdict.{passed};
 ghost use Rattle.planner.specs.Plan.{planOf, planVerdict};
-ghost use Rattle.planner.specs.Records.{stored};
+ghost use Rattle.records.specs.Records.{stored};
 ghost use Rattle.printing.specs.Print.{outcomeOf, printOf, textLength, printVerdict};
 ghost use Rattle.printing.specs.Print.{printOutcome, printAnswers, printMemory, routesOutcome, routesMemory};
 ghost use Rattle.printing.specs.Put.{TextPut, FloorPut, RefusalPut};
@@ -103,15 +103,22 @@ fn print_read(f: Floor, walls: &[u16], out: &mut [u8]) -> Printed
     Printed::Written(put_plan(f, &walls[..k], &mut answers, out))
 }
 
-// The line of a refused sheet.
-fn print_refusal(x: Refusal, out: &mut [u8]) -> Printed
-    requires { ⌜ x .place ≤ 65535 ⌝ }
+// A place as it is printed: one over 65,535 as that.
+fn printed_place(place: usize) -> u16
+    ensures { λ r. ⌜ r ≡ min place 65535 ⌝ }
+{
+    if place < 65535 { place as u16 } else { 65535 }
+}
+
+// The line of a refused sheet; with less than 16 bytes of text memory the refusal itself.
+pub fn print_refusal(x: Refusal, out: &mut [u8]) -> Printed
     ensures { λ r. ⌜ RefusalPut (x .number) (x .place) (now (out .entry)) (now (out .exit)) (outcomeOf r) ⌝ }
 {
     if out.len() < 16 {
         return Printed::Refused(x);
     }
-    Printed::Written(lines::put_refusal(x, out))
+    let place = printed_place(x.place);
+    Printed::Written(lines::put_refusal(x.number, place, out))
 }
 
 // From a sheet's bytes to the printed bytes: the routes of its floor, or the line of its refusal. With too little text

@@ -1,14 +1,13 @@
 // The lines of printed routes.
 ghost use mathlib.Core.Path.{_≡_};
-ghost use mathlib.Core.List.{_∷_, []};
+ghost use mathlib.Core.List.{_∷_};
 ghost use Prim.Native.Nat.{_+_, _*_, _≤_, _<_};
-ghost use lib.ListN.{length, take, drop};
+ghost use lib.ListN.{length, take};
 ghost use Rattle.laws.specs.Memory.{put};
 ghost use Rattle.sheet.specs.Text.{lineOf};
 ghost use Rattle.printing.specs.Text.{fieldsOf, noneWord, noneLine, firstLine, refusalLine};
 ghost use Rattle.printing.specs.Put.{textIn, TextPut, LinePut, LinesPut, Printable};
 use floor::Floor;
-use floor::Refusal;
 use route::Route;
 
 // The first n cells of a route, a field each.
@@ -58,27 +57,6 @@ fn put_none(out: &mut [u8], at: usize, number: u16)
     out[at + 10] = 10;
 }
 
-// No cells yet.
-fn no_cells() -> Route
-    ensures { λ r. ⌜ length r ≡ 64 ⌝ }
-{
-    [0; 64]
-}
-
-// The 64 cells from a place on.
-fn load_cells(answers: &[u16], at: usize) -> Route
-    requires { ⌜ at + 64 ≤ length (now answers) ⌝ }
-    ensures { λ r. ⌜ r ≡ take 64 (drop at (now (answers .entry))) ⌝ }
-{
-    let mut cells = no_cells();
-    let mut t: usize = 0;
-    while t < 64 {
-        cells[t] = answers[at + t];
-        t += 1;
-    }
-    cells
-}
-
 // The line of carrier i, counted from 0, for its answer in memory; the column behind it is returned.
 fn put_answer(f: Floor, i: usize, answers: &[u16], out: &mut [u8], at: usize) -> usize
     requires { ⌜ (i < 8) × (f .horizon ≤ 63) ⌝ }
@@ -93,7 +71,7 @@ fn put_answer(f: Floor, i: usize, answers: &[u16], out: &mut [u8], at: usize) ->
     }
     let horizon = f.horizon;
     let goal = f.goals[i];
-    let cells = load_cells(answers, 65 * i + 1);
+    let cells = records::load(answers, 65 * i + 1);
     let n = horizon as usize + 1;
     put_route(
         out,
@@ -140,14 +118,14 @@ pub fn put_routes(f: Floor, failing: u16, answers: &[u16], out: &mut [u8]) -> us
     put_answers(f, answers, out)
 }
 
-// The line of a refused sheet; its length is returned.
-pub fn put_refusal(x: Refusal, out: &mut [u8]) -> usize
-    requires { ⌜ (x .place ≤ 65535) × (16 ≤ length (now out)) ⌝ }
-    ensures { λ r. ⌜ TextPut (refusalLine (x .number) (x .place)) (now (out .entry)) (now (out .exit)) r ⌝ }
+// The line of a refusal, its number and its place; its length is returned.
+pub fn put_refusal(number: u16, place: u16, out: &mut [u8]) -> usize
+    requires { ⌜ 16 ≤ length (now out) ⌝ }
+    ensures { λ r. ⌜ TextPut (refusalLine number place) (now (out .entry)) (now (out .exit)) r ⌝ }
 {
     fields::put_field(out, 0, 0);
-    fields::put_field(out, 5, x.number);
-    fields::put_field(out, 10, x.place as u16);
+    fields::put_field(out, 5, number);
+    fields::put_field(out, 10, place);
     out[15] = 10;
     16
 }

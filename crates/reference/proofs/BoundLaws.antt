@@ -7,15 +7,15 @@ use mathlib.Core.Logic.{_⊎_, inl, inr, ⊎-elim}
 use mathlib.Core.Path.{_≡_, refl}
 use lib.Dec.{leb, ltb}
 use lib.ListN.{length, length-append}
-use borrow.Author.Tests.{ltb-true, lt-leb}
+use borrow.Author.Tests.{ltb-true, lt-leb, lt-ltb, le-leb}
 use Rattle.route.specs.Route.{Answer}
-use Rattle.laws.proofs.Tests.{lt-or-le, eq-or-ne, or-cases, true-false-absurd}
+use Rattle.laws.proofs.Tests.{lt-or-le, eq-or-ne, or-cases, or-inl, or-inr, true-false-absurd}
 use Rattle.reference.specs.State.{Machine, State, fresh, views}
 use Rattle.reference.specs.Step.{Step, plan, deliver, hasCapacity, isOpen}
 use Rattle.reference.specs.Take.{isNews, planAs, newer, deliverTo, effect, counted, afterStep}
 use Rattle.reference.specs.History.{Reaches, stay, next}
 use Rattle.reference.specs.Bounds.{InRange}
-use Rattle.reference.proofs.RangeLaws.{each-holds}
+use Rattle.reference.proofs.RangeLaws.{each-holds, each-true}
 use Rattle.reference.proofs.OpenLaws.{plan-room}
 use Rattle.reference.proofs.CountLaws.{step-counts}
 use Rattle.reference.proofs.TakeLaws.{plan-keeps, sent-below, chan-other, chan-above, deliver-chan}
@@ -57,6 +57,15 @@ module _ (M : Machine) (s : State) where
       (λ (p : ltb (length (s .chan k i)) (M .depth) ≡ true). ltb-true (length (s .chan k i)) (M .depth) p)
       (or-cases (leb k i) (ltb (length (s .chan k i)) (M .depth))
       (each-holds (M .carriers) (λ k. leb k i || ltb (length (s .chan k i)) (M .depth)) e k h))
+
+  pub says-room : (i : ℕ) → ((k : ℕ) → i < k → k < M .carriers → length (s .chan k i) < M .depth) → hasCapacity M s i ≡ true
+  unfolding hasCapacity
+  says-room i h =
+      each-true (M .carriers) (λ k. leb k i || ltb (length (s .chan k i)) (M .depth)) (λ k l.
+      ⊎-elim
+      (λ (a : i < k). or-inr (leb k i) _ (lt-ltb _ _ (h k a l)))
+      (λ (a : k ≤ i). or-inl (leb k i) _ (le-leb k i a))
+      (lt-or-le i k))
 
   step-channels : InRange M s → (x : Step) → isOpen M s x ≡ true → (k j : ℕ) → j < k → k < M .carriers →
       length (afterStep M s x .chan k j) ≤ M .depth

@@ -7,6 +7,7 @@ mod EffectLaws
 pub mod TableLaws
 mod RefusedLaws
 pub mod RunLaws
+pub mod RespondLaws
 pub mod CutLaws
 pub mod ReachLaws
 mod CutCalls

@@ -1,15 +1,15 @@
 -- The claims, proved.
-use Prim.Native.Nat.{ℕ, _≤_}
+use Prim.Native.Nat.{ℕ, _≤_, _<_}
 use mathlib.Core.Bool.{true, false}
-use mathlib.Core.List.{List, _++_}
-use mathlib.Core.Logic.{_⊎_, inl, inr, ⊎-elim}
+use mathlib.Core.List.{List, [], _++_}
+use mathlib.Core.Logic.{_⊎_, inl, inr, ⊎-elim, _↔_}
 use mathlib.Core.Path.{_≡_, sym, _∙_}
-use lib.ListN.{take}
+use lib.ListN.{length, take}
 use Rattle.route.specs.Sequential.{sequential}
-use Rattle.laws.proofs.Tests.{true-or-false, same-test}
+use Rattle.laws.proofs.Tests.{true-or-false, same-test, false-fails, not-true-is-false}
 use Rattle.reference.specs.Ranges.{below}
 use Rattle.reference.specs.State.{Machine, State, fresh}
-use Rattle.reference.specs.Step.{Step, isOpen}
+use Rattle.reference.specs.Step.{Step, plan, deliver, isOpen, isEmpty}
 use Rattle.reference.specs.Ranking.{isSilent}
 use Rattle.reference.specs.Table.{Call}
 use Rattle.reference.specs.Calls.{after}
@@ -18,6 +18,8 @@ use Rattle.reference.specs.StepClaims.{StepClaims}
 use Rattle.reference.specs.CallClaims.{CallClaims}
 use Rattle.reference.specs.Claims.{Claims}
 use Rattle.reference.proofs.RangeLaws.{below-same}
+use Rattle.reference.proofs.OpenLaws.{empty-nil, nil-empty, plan-within, plan-due, plan-room, plan-open}
+use Rattle.reference.proofs.OpenLaws.{deliver-above, deliver-within, deliver-full, deliver-open}
 use Rattle.reference.proofs.RunLaws.{run-faithful}
 use Rattle.reference.proofs.CutLaws.{run-cut, cut-ending}
 use Rattle.reference.proofs.ReachLaws.{calls-reach, after-join}
@@ -25,14 +27,14 @@ use Rattle.reference.proofs.TableLaws.{single-open}
 use Rattle.reference.proofs.CountLaws.{calls-count}
 use Rattle.reference.proofs.RankingLaws.{shut-silent, silent-shut, some-open}
 use Rattle.reference.proofs.QuietLaws.{idle-says, idle-holds, idle-shut, shut-idle}
-use Rattle.reference.proofs.Invariant.{fresh-sound, reaches-sound}
+use Rattle.reference.proofs.Invariant.{fresh-coherent, reaches-coherent}
 use Rattle.reference.proofs.SequentialLaws.{sequential-prefix}
 use Rattle.reference.proofs.PrefixLaws.{quiet-sequential, reaches-quiet}
 use Rattle.reference.proofs.CeilingLaws.{calls-ceiling}
 use Rattle.reference.proofs.EffectLaws.{plan-does, deliver-does}
 use Rattle.reference.proofs.EndingLaws.{ending-silent, ending-spent, fresh-not-silent}
 use Rattle.reference.proofs.CutCalls.{cut-state, cut-taken}
-use Rattle.reference.proofs.BoundLaws.{fresh-in-range, reaches-in-range}
+use Rattle.reference.proofs.BoundLaws.{room-says, says-room, fresh-in-range, reaches-in-range}
 use Rattle.reference.proofs.ThroughLaws.{fresh-throughout, reaches-throughout}
 use Rattle.reference.proofs.RefusedLaws.{refuses-exactly}
 
@@ -52,7 +54,7 @@ module _ (M : Machine) where
       below k (after M fresh cs .answer) ≡ take k (sequential (M .respond) (M .carriers))
   unfolding quiet
   quiet-answers cs k l e =
-      quiet-sequential M z (reaches-sound M (fresh-sound M) (calls-reach M fresh cs)) k (idle-says k z e)
+      quiet-sequential M z (reaches-coherent M (fresh-coherent M) (calls-reach M fresh cs)) k (idle-says k z e)
       ∙ sym (sequential-prefix (M .respond) k (M .carriers) l)
     where
       z : State
@@ -67,9 +69,26 @@ module _ (M : Machine) where
       rw (after-join M fresh cs ds)
       (below-same k (z .answer) (s .answer) (reaches-quiet M k (idle-says k s e) (calls-reach M s ds) .1))
 
+-- What openness means.
+module _ (M : Machine) (s : State) where
+  plan-exactly : (i : ℕ) → (isOpen M s (plan i) ≡ true) ↔
+      ((i < M .carriers) × (s .due i ≡ true) × ((k : ℕ) → i < k → k < M .carriers → length (s .chan k i) < M .depth))
+  plan-exactly i = (
+    λ o. (plan-within M s i o, plan-due M s i o, λ k l h. room-says M s i k (plan-room M s i o) l h),
+    λ h. plan-open M s i (h .0) (h .1) (says-room M s i (h .2)),
+  )
+
+  deliver-exactly : (j i : ℕ) → (isOpen M s (deliver j i) ≡ true) ↔ ((j < i) × (i < M .carriers) × (s .chan i j ≡ [] → ⊥))
+  deliver-exactly j i = (
+    λ o. (deliver-above M s j i o, deliver-within M s j i o, λ e. false-fails (deliver-full M s j i o) (nil-empty (s .chan i j) e)),
+    λ h. deliver-open M s j i (h .0) (h .1) (not-true-is-false (isEmpty (s .chan i j)) (λ e. h .2 (empty-nil (s .chan i j) e))),
+  )
+
 step-claims : StepClaims
 step-claims =
     record {
+      plan-open = plan-exactly;
+      deliver-open = deliver-exactly;
       plan-does = plan-does;
       deliver-does = deliver-does;
       silent-exactly = λ M s. (silent-shut M s, shut-silent M s);

@@ -1,10 +1,11 @@
 -- What is claimed of steps and runs, one field a claim, for any number of carriers, any best response, and any depth, at least 1 where
 -- it matters.
-use Prim.Native.Nat.{ℕ, _-_, _≤_}
+use Prim.Native.Nat.{ℕ, _-_, _≤_, _<_}
 use mathlib.Core.Bool.{true, false}
 use mathlib.Core.List.{List, [], _++_}
 use mathlib.Core.Logic.{_⊎_, _↔_}
 use mathlib.Core.Path.{_≡_}
+use lib.ListN.{length}
 use Rattle.reference.specs.State.{Machine, State, fresh}
 use Rattle.reference.specs.Step.{Step, plan, deliver, isOpen}
 use Rattle.reference.specs.Take.{afterStep}
@@ -16,6 +17,11 @@ use Rattle.reference.specs.History.{FaithfulRun, Joined}
 use Rattle.reference.specs.Quiet.{idle}
 
 pub record StepClaims : Type 0 where
+  -- Plan i is open exactly if i is due and every channel from i has fewer than depth messages; a delivery exactly if a message is there.
+  pub plan-open : (M : Machine) (s : State) (i : ℕ) → (isOpen M s (plan i) ≡ true) ↔
+      ((i < M .carriers) × (s .due i ≡ true) × ((k : ℕ) → i < k → k < M .carriers → length (s .chan k i) < M .depth))
+  pub deliver-open : (M : Machine) (s : State) (j i : ℕ) → (isOpen M s (deliver j i) ≡ true) ↔
+      ((j < i) × (i < M .carriers) × (s .chan i j ≡ [] → ⊥))
   -- The steps do what document 01 says, and nothing else changes.
   pub plan-does : (M : Machine) (s : State) (i : ℕ) → Planned M s (afterStep M s (plan i)) i
   pub deliver-does : (M : Machine) (s : State) (j i : ℕ) → isOpen M s (deliver j i) ≡ true → Delivered s (afterStep M s (deliver j i)) j i

@@ -8,13 +8,12 @@ ghost use Rattle.floor.specs.Checks.{checkOf};
 ghost use Rattle.laws.specs.Verdict.{passed};
 ghost use Rattle.sheet.specs.Text.{sheetOf};
 ghost use Rattle.sheet.specs.Read.{sheetVerdict};
-ghost use Rattle.printing.specs.Text.{refusalLine};
 ghost use Rattle.printing.specs.Print.{orRefusal};
 ghost use Rattle.printing.specs.Put.{TextPut};
 use console::Input;
 use floor::Checked;
 use floor::Floor;
-use floor::Refusal;
+use printing::Printed;
 
 // The length of the longest sheet: 31 bytes, 21 for each of eight carriers, 11 for each of 1,023 walls.
 const SHEET_LENGTH: usize = 11452;
@@ -38,18 +37,6 @@ fn put_sheet(f: Floor, walls: &[u16], out: &mut [u8]) -> usize
     sheet::sheet_length(f)
 }
 
-// Puts the line of a refused sheet; its length is returned.
-fn put_refusal(x: Refusal, out: &mut [u8]) -> usize
-    requires { ⌜ (x .place ≤ 65535) × (16 ≤ length (now out)) ⌝ }
-    ensures { λ r. ⌜ TextPut (refusalLine (x .number) (x .place)) (now (out .entry)) (now (out .exit)) r ⌝ }
-{
-    fields::put_field(out, 0, 0);
-    fields::put_field(out, 5, x.number);
-    fields::put_field(out, 10, x.place as u16);
-    out[15] = 10;
-    16
-}
-
 // Writes again any text that is a sheet, and of any other the line of its refusal; the number of written bytes is returned.
 fn print(text: &[u8], out: &mut [u8; SHEET_LENGTH]) -> usize
     ensures counts { λ r. ⌜ Counts r (now (out .exit)) ⌝ }
@@ -62,7 +49,11 @@ fn print(text: &[u8], out: &mut [u8; SHEET_LENGTH]) -> usize
     let Checked::Refused(x) = checked else {
         return put_sheet(f, &walls, out);
     };
-    put_refusal(x, out)
+    let printed = printing::print_refusal(x, out);
+    let Printed::Written(n) = printed else {
+        return 0;
+    };
+    n
 }
 
 // The longest sheet has 11,452 bytes; of a longer input the first 65,536 bytes hold the first extra byte.

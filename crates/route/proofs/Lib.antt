@@ -14,7 +14,6 @@ mod WalkRoute
 pub mod Meets
 pub mod Unique
 pub mod FreeLaws
-pub mod ViewsLaws
 pub mod Theorems
 pub mod Sets
 pub mod SetsLaws

@@ -1,13 +1,14 @@
 -- A memory of 2,659 bytes holds every printed text: no text is refused there, and what is printed stands in front.
 use Prim.Native.Nat.{ℕ, _≤_}
 use native.Mathlib.Omega.{arith}
-use mathlib.Core.Path.{_≡_, refl, sym, ap, _∙_}
+use mathlib.Core.Path.{_≡_, sym, ap, _∙_}
 use mathlib.Core.List.{List}
 use borrow.Author.Tests.{le-leb}
-use lib.ListN.{length, take, drop}
-use lib.Seq.{take-at, length-take-le}
+use lib.ListN.{length, take}
 use Rattle.io.specs.Counts.{Counts}
 use Rattle.laws.specs.Memory.{put}
+use Rattle.laws.proofs.PutLaws.{put-front}
+use Rattle.console.proofs.WithinLaws.{counts-within}
 use Rattle.laws.specs.Verdict.{value, refusal}
 use Rattle.floor.specs.declared.Refusal.{Refusal}
 use Rattle.printing.specs.declared.Printed.{Printed}
@@ -39,11 +40,9 @@ module _ (text old new : List ℕ) (r : Printed) (enough : 2659 ≤ length old) 
       let fits : neededFor text ≤ length old = omega (arith, theorems .routes-within text .1) in
       stores ∙ rw (le-leb _ _ fits)
 
-  pub stands : (n : ℕ) → r ≡ Written n → take n new ≡ routesOf text
-  unfolding put
-  stands n e = rw printed-put (take-at (routesOf text) _ n (sym (printed-length n e)))
-
-  pub counts : (n : ℕ) → r ≡ Written n → length new ≡ length old → Counts n new
-  counts n e kept =
-      let l : n ≤ length new = omega (arith, printed-length n e, theorems .routes-within text) in
-      (l, sym (length-take-le n new l))
+  -- So what is printed is counted in front.
+  pub counted : (n : ℕ) → r ≡ Written n → Counts n new × (take n new ≡ routesOf text)
+  counted n e =
+      let within = theorems .routes-within text in
+      let f = put-front old new (routesOf text) n printed-put (printed-length n e) (omega arith) in
+      (counts-within _ _ (f .0), f .1)

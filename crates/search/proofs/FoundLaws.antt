@@ -21,7 +21,7 @@ use Rattle.words.specs.Rows.{filled}
 use Rattle.words.proofs.FillLaws.{length-filled, filled-in, filled-out}
 use Rattle.tables.specs.declared.Scene.{Scene}
 use Rattle.tables.specs.declared.window.Window.{Window}
-use Rattle.route.specs.Views.{records}
+use Rattle.records.specs.Records.{records}
 use Rattle.tables.specs.Ways.{wayOpen}
 use Rattle.tables.specs.Table.{inSet}
 use Rattle.tables.specs.Window.{apart}

@@ -19,7 +19,7 @@ use Rattle.words.specs.Rows.{has}
 use Rattle.words.proofs.RowsLaws.{place-row}
 use Rattle.tables.specs.declared.Scene.{Scene}
 use Rattle.tables.specs.declared.window.Window.{Window}
-use Rattle.route.specs.Views.{records}
+use Rattle.records.specs.Records.{records}
 use Rattle.tables.specs.Table.{inSet}
 use Rattle.tables.specs.Room.{standsAt, Roomy}
 use Rattle.tables.specs.Window.{apart}

@@ -13,13 +13,13 @@ use Rattle.words.specs.Rows.{filled, Clean}
 use Rattle.words.proofs.RowsLaws.{place-row}
 use Rattle.tables.specs.declared.Scene.{Scene}
 use Rattle.tables.specs.declared.window.Window.{Window}
-use Rattle.route.specs.Views.{records, viewsOf}
+use Rattle.records.specs.Records.{records, viewsOf}
 use Rattle.search.specs.Task.{taskOfRows}
 use Rattle.search.specs.Rows.{Searchable}
 use Rattle.tables.specs.Window.{apart}
 use Rattle.tables.specs.Table.{sceneOf, inSet, Fits}
 use Rattle.tables.specs.Room.{Roomy}
-use Rattle.tables.specs.Windowed.{firstAt, Inside, Fitting, WindowOf, Windowed}
+use Rattle.tables.specs.Windowed.{firstAt, Inside, Fitting, WindowOf}
 use Rattle.passes.specs.Passes.{Made, Traced}
 use Rattle.passes.specs.Passes.{Made, lastNot, Earliest, arrivable}
 use Rattle.passes.specs.Walk.{pathOf}

@@ -4,17 +4,16 @@ use Prim.Native.Nat.{ℕ}
 use mathlib.Core.List.{List}
 use mathlib.Core.Logic.{_↔_}
 use mathlib.Core.Path.{_≡_}
-use Rattle.laws.specs.Verdict.{refusal}
 use Rattle.floor.specs.declared.Floor.{Floor}
 use Rattle.route.specs.Route.{Answer, none, route}
 use Rattle.route.specs.Conflict.{ClearOf}
 use Rattle.route.specs.Best.{IsRoute, Arrives, Admissible, Best}
 use Rattle.route.specs.Arrival.{arrivalOf}
-use Rattle.route.specs.Views.{viewsOf}
+use Rattle.records.specs.Records.{viewsOf}
 use Rattle.search.specs.Task.{taskOf}
 use Rattle.search.specs.Answers.{answered}
 use Rattle.search.specs.Search.{searchOf}
-use Rattle.search.specs.Refused.{Granted, TurnedWith}
+use Rattle.search.specs.Refused.{Granted}
 
 pub record Claims : Type 0 where
   -- Of every floor that the checks pass and every carrier of it, the answer is the best one against the views above.
@@ -31,6 +30,3 @@ pub record Claims : Type 0 where
   -- None is answered exactly if the request is granted and no route is without conflict with every view.
   pub none-exactly : (f : Floor) (ws : List ℕ) (i : ℕ) (m : List ℕ) → Granted f ws i m →
       (searchOf f ws i m ≡ answered none) ↔ ((q : List ℕ) → Admissible (taskOf f ws i) (viewsOf m i) q → ⊥)
-  -- Each refusal comes exactly under the condition of its row.
-  pub refuses-exactly : (f : Floor) (ws : List ℕ) (i : ℕ) (m : List ℕ) (k p : ℕ) →
-      (searchOf f ws i m ≡ refusal k p) ↔ TurnedWith f ws i m k p

@@ -8,7 +8,7 @@ use Rattle.floor.specs.Checks.{checkOf, roomOf, within}
 use Rattle.route.specs.Route.{Answer}
 use Rattle.route.specs.Search.{best}
 use Rattle.search.specs.Task.{taskOf}
-use Rattle.route.specs.Views.{viewsOf}
+use Rattle.records.specs.Records.{viewsOf}
 
 -- The refusals of a search: the floor's, 9 if too few numbers of views are lent, 7 if there is no such carrier.
 unfoldable pub requestOf : Floor → List ℕ → ℕ → List ℕ → Verdict

@@ -23,18 +23,21 @@ ghost use mathlib.Core.List.{List};
 ghost use Rattle.floor.specs.Answers.{verdictOf};
 ghost use Rattle.laws.specs.Verdict.{demand, refusal};
 ghost use Rattle.floor.specs.Checks.{within};
-ghost use Rattle.route.specs.Route.{none as Route·none, route as Route·route};
+ghost use Rattle.route.specs.Route.{none as Route·none};
 ghost use Rattle.route.specs.Search.{best};
 ghost use Rattle.search.specs.Answers.{answered, Says};
 ghost use Rattle.search.specs.Along.{Along};
-ghost use Rattle.words.specs.Rows.{filled, Clean};
+ghost use Rattle.words.specs.Rows.{Clean};
 ghost use Rattle.tables.specs.Table.{sceneOf, Fits, Tidy, inSet};
 ghost use Rattle.tables.specs.Room.{Roomy, OneMore};
 ghost use Rattle.tables.specs.Windowed.{Fitting, Windowed};
 ghost use Rattle.search.specs.Search.{requestOf, searchOf};
 ghost use Rattle.search.specs.Task.{taskOfRows};
-ghost use Rattle.route.specs.Views.{viewsOf};
+ghost use Rattle.records.specs.Records.{viewsOf};
 ghost use Rattle.search.specs.Rows.{Searchable};
+
+// The free cells of a floor: a word a row of the largest grid.
+pub type Rows = [u32; Floor::MAX_HEIGHT as usize];
 
 // What a search finds.
 pub enum Outcome {
@@ -58,7 +61,7 @@ fn none() -> Found
 {
     Found {
         outcome: Outcome::None,
-        route: [0u16; 64],
+        route: [0u16; records::CELLS],
     }
 }
 
@@ -68,7 +71,7 @@ fn refused(x: Refusal) -> Found
 {
     Found {
         outcome: Outcome::Refused(x),
-        route: [0u16; 64],
+        route: [0u16; records::CELLS],
     }
 }
 
@@ -97,7 +100,7 @@ fn along(
 }
 
 // The best route of a carrier of a checked floor, in the room that its free cells and the carriers above it leave.
-pub fn route_in(f: Floor, free: [u32; 32], room: &[u32], carrier: u16, views: &[u16]) -> Found
+pub fn route_in(f: Floor, free: Rows, room: &[u32], carrier: u16, views: &[u16]) -> Found
     requires { ⌜ Searchable f free carrier (now views) ⌝ }
     requires { ⌜ Roomy (sceneOf f) (carrier - 1) free (now views) (now room) ⌝ }
     ensures { λ r. ⌜ Says r (answered (best (taskOfRows f free carrier) (viewsOf (now (views .entry)) carrier))) ⌝ }
@@ -134,7 +137,7 @@ pub fn route_in(f: Floor, free: [u32; 32], room: &[u32], carrier: u16, views: &[
 }
 
 // The best route of a carrier of a checked floor, with its free cells as rows and the views of the carriers above it.
-pub fn best_route(f: Floor, free: [u32; 32], carrier: u16, views: &[u16]) -> Found
+pub fn best_route(f: Floor, free: Rows, carrier: u16, views: &[u16]) -> Found
     requires { ⌜ Searchable f free carrier (now views) ⌝ }
     ensures { λ r. ⌜ Says r (answered (best (taskOfRows f free carrier) (viewsOf (now (views .entry)) carrier))) ⌝ }
 {
@@ -170,7 +173,7 @@ fn request(f: Floor, walls: &[u16], carrier: u16, views: &[u16]) -> Checked
     let Checked::Passed = checked else {
         return checked;
     };
-    let shown = floor::room(65 * f.carriers as usize, views.len());
+    let shown = floor::room(records::SIZE * f.carriers as usize, views.len());
     let Checked::Passed = shown else {
         return shown;
     };
@@ -190,14 +193,14 @@ pub fn search(f: Floor, walls: &[u16], carrier: u16, views: &[u16]) -> Found
 }
 
 // A table of empty sets, for a room.
-pub fn no_room() -> [u32; 2304]
+pub fn no_room() -> [u32; table::WORDS]
     ensures { λ r. ⌜ r ≡ replicate 2304 0 ⌝ }
 {
     table::empty()
 }
 
 // The room that the free cells of a floor leave, in an empty table.
-pub fn fill_room(f: Floor, free: [u32; 32], room: &mut [u32])
+pub fn fill_room(f: Floor, free: Rows, room: &mut [u32])
     requires { ⌜ (1 ≤ f .width) × (f .width ≤ 32) × (f .height ≤ 32) × (f .horizon ≤ 63) ⌝ }
     requires { ⌜ (length free ≡ 32) × Clean (f .width) (f .width * f .height) free × (now room ≡ replicate 2304 0) ⌝ }
     ensures { λ r. ⌜ ((m : List ℕ) → Roomy (sceneOf f) 0 free m (now (room .exit))) ⌝ }

@@ -10,9 +10,11 @@ mod walk;
 
 use arrivals::fill;
 use floor::Floor;
+use offers::conflicts;
 use places::at;
 use places::wide;
 use route::Route;
+use table::after;
 use table::value;
 use views::met;
 use views::tell;
@@ -56,6 +58,22 @@ pub fn second_route(f: Floor, walls: &[u16], carrier: u16, views: &[u16]) -> Pla
         found: true,
         route: route,
     }
+}
+
+// Whether a route conflicts with one of the first k routes that were told, by the test that this planner makes of each move.
+pub fn second_conflict(views: &[u16], k: usize, r: Route, horizon: u16) -> bool {
+    if met(views, k, at(&r, 0)) {
+        return true;
+    }
+    let last = wide(horizon);
+    let mut t: usize = 0;
+    while t < last {
+        if conflicts(views, k, t, at(&r, t), at(&r, after(t))) {
+            return true;
+        }
+        t += 1;
+    }
+    false
 }
 
 // The carriers in turn, each against what those above it told.

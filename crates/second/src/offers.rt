@@ -9,7 +9,7 @@ use crate::views::told;
 use floor::Floor;
 
 // Whether a route that was told is in cell d at the next beat, or goes from d to c.
-fn conflicts(views: &[u16], k: usize, t: usize, c: usize, d: usize) -> bool {
+pub fn conflicts(views: &[u16], k: usize, t: usize, c: usize, d: usize) -> bool {
     let next = after(t);
     let mut j: usize = 0;
     while j < k {

@@ -10,7 +10,7 @@ use Rattle.laws.specs.Verdict.{passed, _then_}
 use Rattle.floor.specs.Checks.{limitsOf, lentOf, roomOf, placesOf, checkOf}
 use Rattle.laws.proofs.VerdictLaws.{then-both, demand-holds, demand-passes, turn-passed}
 use Rattle.floor.proofs.LimitsLaws.{Bounds, limits-passed}
-use Rattle.floor.proofs.SameLaws.{places-same}
+use Rattle.floor.proofs.SameLaws.{places-same, walls-agree}
 use Rattle.sheet.specs.Text.{carrierAt, wallAt}
 use Rattle.fields.specs.Form.{newlineForm, lineForm, endForm}
 use Rattle.sheet.specs.Form.{linesForm, restForm}
@@ -95,14 +95,5 @@ checked-places text rest h =
     in
     rw (limits, demand-passes 9 0 (le-leb _ _ lent))
     (places-same (floorAt text) (wallsAt text ++ rest) (floorAt text) (wallsAt text)
-    (record {
-      width = refl;
-      height = refl;
-      horizon = refl;
-      depth = refl;
-      carriers = refl;
-      walls = refl;
-      starts = λ i l. refl;
-      goals = λ i l. refl;
-      cells = λ j l. List·getD-append (wallsAt text) rest 0 j (rw (walls-length text) l);
-    }))
+    (walls-agree (floorAt text) (wallsAt text ++ rest) (wallsAt text)
+    (λ j l. List·getD-append (wallsAt text) rest 0 j (rw (walls-length text) l))))

@@ -29,9 +29,9 @@ cellAt text width height at = cellOf width height (valueAt text at) (valueAt tex
 unfoldable pub upTo : ℕ → (ℕ → ℕ) → ℕ → ℕ
 upTo n g i = cond (ltb i n) (g i) 0
 
--- Line 1, with no carrier placed yet.
-unfoldable pub headAt : List ℕ → Floor
-headAt text =
+-- Line 1, with the carriers placed as given.
+abbrev pub lineOneAt : List ℕ → List ℕ → List ℕ → Floor
+lineOneAt text starts goals =
     record {
       width = valueAt text 0;
       height = valueAt text 5;
@@ -39,9 +39,13 @@ headAt text =
       depth = valueAt text 15;
       carriers = valueAt text 20;
       walls = valueAt text 25;
-      starts = replicate 8 0;
-      goals = replicate 8 0;
+      starts = starts;
+      goals = goals;
     }
+
+-- Line 1, with no carrier placed yet.
+unfoldable pub headAt : List ℕ → Floor
+headAt text = lineOneAt text (replicate 8 0) (replicate 8 0)
 
 -- The cells of the carriers of a floor, from the columns given, in a list of eight; 0 past the carrier count.
 unfoldable pub cellsAt : List ℕ → Floor → (ℕ → ℕ) → List ℕ
@@ -49,17 +53,7 @@ cellsAt text f at = listed (upTo (f .carriers) (λ i. cellAt text (f .width) (f 
 
 -- The floor that the text says: line 1, and each carrier's cells from its line.
 unfoldable pub floorAt : List ℕ → Floor
-floorAt text =
-    record {
-      width = valueAt text 0;
-      height = valueAt text 5;
-      horizon = valueAt text 10;
-      depth = valueAt text 15;
-      carriers = valueAt text 20;
-      walls = valueAt text 25;
-      starts = cellsAt text (headAt text) carrierAt;
-      goals = cellsAt text (headAt text) goalAt;
-    }
+floorAt text = lineOneAt text (cellsAt text (headAt text) carrierAt) (cellsAt text (headAt text) goalAt)
 
 -- The walls that the text says, for the counts and the grid of a floor.
 unfoldable pub wallsFrom : List ℕ → Floor → List ℕ

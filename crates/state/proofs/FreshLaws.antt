@@ -1,5 +1,5 @@
 -- The fresh state as numbers: two zeros, a block a carrier, and zeros.
-use Prim.Native.Nat.{ℕ, zero, suc, _+_, _*_, _≤_}
+use Prim.Native.Nat.{ℕ, zero, suc, _+_, _*_, _-_, _≤_}
 use native.Mathlib.Omega.{arith}
 use native.Mathlib.Nat.{mul-zero, mul-suc, mul-add}
 use native.Mathlib.Numerals.{add-one}
@@ -9,12 +9,12 @@ use lib.ListN.{length, replicate, length-append, length-replicate, replicate-app
 use borrow.Author.Needs.{needs}
 use Rattle.laws.specs.Memory.{put}
 use Rattle.laws.proofs.PutLaws.{put-none, put-next}
-use Rattle.planner.specs.Records.{recordOf}
+use Rattle.records.specs.Records.{recordOf, fit, slot}
 use Rattle.reference.specs.State.{fresh}
 use Rattle.layout.proofs.SplitLaws.{carrier-length}
 use Rattle.layout.proofs.StateLaws.{carriers-length}
 use Rattle.layout.specs.Places.{pairsBefore, stateSize}
-use Rattle.layout.specs.Encode.{flag, fit, slot, slots, channelBlock, carrierBlock, countBlock, blocks, pairs, encode}
+use Rattle.layout.specs.Encode.{flag, slots, channelBlock, carrierBlock, countBlock, blocks, pairs, encode}
 
 pub carrier-is : (i : ℕ) → 0 ∷ (1 ∷ (1 ∷ replicate 64 0)) ≡ carrierBlock fresh i
 unfolding carrierBlock fresh slot fit recordOf flag
@@ -65,11 +65,13 @@ fresh-is n =
     ∙ ap (λ (k : ℕ). replicate k 0) sum in
     ap (λ (b : List ℕ). 0 ∷ (0 ∷ (blocks n (carrierBlock fresh) ++ b))) tail
 
-pub fresh-whole : (m m₁ m₂ m₃ : List ℕ) (n : ℕ) → stateSize n ≤ length m → m₁ ≡ put m 0 (replicate 2 0) →
-    m₂ ≡ put m₁ 2 (blocks n (carrierBlock fresh)) → m₃ ≡ put m₂ (2 + 67 * n) (replicate (326 * pairsBefore n) 0) → m₃ ≡ put m 0
-    (encode n fresh)
+pub fresh-whole : (m m₁ m₂ m₃ : List ℕ) (n a b : ℕ) → stateSize n ≤ length m → m₁ ≡ put m 0 (replicate 2 0) →
+    m₂ ≡ put m₁ 2 (blocks n (carrierBlock fresh)) → a ≡ 2 + 67 * n → b ≡ stateSize n → m₃ ≡ put m₂ a (replicate (b - a) 0) →
+    m₃ ≡ put m 0 (encode n fresh)
 unfolding stateSize
-fresh-whole m m₁ m₂ m₃ n l e g h =
+fresh-whole m m₁ m₂ m₃ n a b l e g from to k =
+    let rest : b - a ≡ 326 * pairsBefore n = omega arith in
+    let h : m₃ ≡ put m₂ (2 + 67 * n) (replicate (326 * pairsBefore n) 0) = k ∙ rw (rest, from) refl in
     let zeros : List ℕ = replicate (326 * pairsBefore n) 0 in
     let front : List ℕ = replicate 2 0 in
     let size = carriers-length n fresh in

@@ -5,17 +5,24 @@ ghost use Prim.Native.Nat.{_+_, _-_, _≤_, _<_};
 ghost use lib.ListN.{length};
 ghost use Rattle.layout.specs.Places.{stateSize};
 ghost use Rattle.layout.specs.InnerSteps.{shifted, popped, pushed, pushedBelow, sentTo};
+use crate::places::channel_place;
+use crate::places::message_place;
+use floor::Floor;
 use route::Route;
 
 // The messages behind the oldest move up, and the last place is cleared.
 fn shift(m: &mut [u16], c: usize)
-    requires { ⌜ c + 261 ≤ length (now m) ⌝ }
+    requires { ⌜ (c + 261 ≤ length (now m)) × (c ≤ 9665) ⌝ }
     ensures { λ r. ⌜ now (m .exit) ≡ shifted (now (m .entry)) c ⌝ }
 {
-    crate::records::move_record(m, c + 66, c + 1);
-    crate::records::move_record(m, c + 131, c + 66);
-    crate::records::move_record(m, c + 196, c + 131);
-    crate::records::clear_record(m, c + 196);
+    let first = message_place(c, 0);
+    let second = message_place(c, 1);
+    let third = message_place(c, 2);
+    let fourth = message_place(c, 3);
+    records::copy(m, second, first);
+    records::copy(m, third, second);
+    records::copy(m, fourth, third);
+    records::clear(m, fourth);
 }
 
 // One less; 0 stays 0.
@@ -30,7 +37,7 @@ fn one_less(count: u16) -> u16
 
 // The oldest message leaves the channel at place c.
 pub fn pop(m: &mut [u16], c: usize)
-    requires { ⌜ c + 261 ≤ length (now m) ⌝ }
+    requires { ⌜ (c + 261 ≤ length (now m)) × (c ≤ 9665) ⌝ }
     ensures { λ r. ⌜ now (m .exit) ≡ popped (now (m .entry)) c ⌝ }
 {
     let count = m[c];
@@ -40,12 +47,13 @@ pub fn pop(m: &mut [u16], c: usize)
 
 // Puts an answer last on the channel at place c, if it has room.
 fn push(m: &mut [u16], c: usize, tag: u16, cells: Route)
-    requires { ⌜ c + 261 ≤ length (now m) ⌝ }
+    requires { ⌜ (c + 261 ≤ length (now m)) × (c ≤ 9665) ⌝ }
     ensures { λ r. ⌜ now (m .exit) ≡ pushed (now (m .entry)) c (tag ∷ cells) ⌝ }
 {
     let count = m[c];
-    if count < 4 {
-        planner::store(m, c + 1 + 65 * count as usize, tag, cells);
+    if count < Floor::MAX_DEPTH {
+        let at = message_place(c, count as usize);
+        records::store(m, at, tag, cells);
         m[c] = count + 1;
         return;
     }
@@ -57,7 +65,7 @@ fn push_below(m: &mut [u16], n: usize, i: usize, k: usize, tag: u16, cells: Rout
     ensures { λ r. ⌜ now (m .exit) ≡ pushedBelow n i (tag ∷ cells) (now (m .entry)) k ⌝ }
 {
     if i < k {
-        let c = crate::places::channel_place(n, k, i);
+        let c = channel_place(n, k, i);
         push(m, c, tag, cells);
         return;
     }

@@ -8,6 +8,13 @@ ghost use Rattle.reference.specs.Ranges.{each};
 ghost use Rattle.layout.specs.Places.{stateSize};
 ghost use Rattle.layout.specs.Valid.{usedBy, cellValid, cellsValid, recordValid, carrierValid, placeValid};
 ghost use Rattle.layout.specs.Valid.{channelValid, pairValid, valid as Valid·valid};
+use crate::places::PLACES;
+use crate::places::answer_place;
+use crate::places::channel_place;
+use crate::places::due_place;
+use crate::places::message_place;
+use crate::places::planned_place;
+use crate::places::view_place;
 use floor::Floor;
 
 // The number at beat t is a cell of the grid while cells are used, and 0 behind.
@@ -26,7 +33,7 @@ fn cells_valid(m: &[u16], at: usize, used: usize, cells: usize) -> bool
     ensures { λ r. ⌜ r ≡ cellsValid (now (m .entry)) at used cells ⌝ }
 {
     let mut t: usize = 0;
-    while t < 64 {
+    while t < records::CELLS {
         if !cell_valid(used, cells, t, m[at + t]) {
             return false;
         }
@@ -70,34 +77,37 @@ fn carrier_valid(f: Floor, m: &[u16], i: usize) -> bool
     requires { ⌜ (i < 8) × (69 + 67 * i ≤ length (now m)) ⌝ }
     ensures { λ r. ⌜ r ≡ carrierValid f (now (m .entry)) i ⌝ }
 {
-    if m[2 + 67 * i] > 1 {
+    let p = planned_place(i);
+    if m[p] > 1 {
         return false;
     }
-    if m[3 + 67 * i] > 1 {
+    let d = due_place(i);
+    if m[d] > 1 {
         return false;
     }
-    record_valid(f, m, 4 + 67 * i, 1, 2)
+    record_valid(f, m, answer_place(i), 1, 2)
 }
 
-// Place q of a channel with so many messages.
-fn place_valid(f: Floor, m: &[u16], at: usize, count: usize, q: usize) -> bool
-    requires { ⌜ (q < 4) × (at + 260 ≤ length (now m)) ⌝ }
-    ensures { λ r. ⌜ r ≡ placeValid f (now (m .entry)) at count q ⌝ }
+// Place q of the channel at place c, which has so many messages.
+fn place_valid(f: Floor, m: &[u16], c: usize, count: usize, q: usize) -> bool
+    requires { ⌜ (q < 4) × (c + 261 ≤ length (now m)) × (c ≤ 9665) ⌝ }
+    ensures { λ r. ⌜ r ≡ placeValid f (now (m .entry)) (c + 1) count q ⌝ }
 {
+    let at = message_place(c, q);
     if q < count {
-        return record_valid(f, m, at + 65 * q, 1, 2);
+        return record_valid(f, m, at, 1, 2);
     }
-    record_valid(f, m, at + 65 * q, 0, 0)
+    record_valid(f, m, at, 0, 0)
 }
 
-// The four places of a channel with so many messages.
-fn places_valid(f: Floor, m: &[u16], at: usize, count: usize) -> bool
-    requires { ⌜ at + 260 ≤ length (now m) ⌝ }
-    ensures { λ r. ⌜ r ≡ each 4 (placeValid f (now (m .entry)) at count) ⌝ }
+// The places of the channel at place c, which has so many messages.
+fn places_valid(f: Floor, m: &[u16], c: usize, count: usize) -> bool
+    requires { ⌜ (c + 261 ≤ length (now m)) × (c ≤ 9665) ⌝ }
+    ensures { λ r. ⌜ r ≡ each 4 (placeValid f (now (m .entry)) (c + 1) count) ⌝ }
 {
     let mut q: usize = 0;
-    while q < 4 {
-        if !place_valid(f, m, at, count, q) {
+    while q < PLACES {
+        if !place_valid(f, m, c, count, q) {
             return false;
         }
         q += 1;
@@ -105,16 +115,16 @@ fn places_valid(f: Floor, m: &[u16], at: usize, count: usize) -> bool
     true
 }
 
-// The channel at a place.
-fn channel_valid(f: Floor, m: &[u16], at: usize) -> bool
-    requires { ⌜ at + 261 ≤ length (now m) ⌝ }
-    ensures { λ r. ⌜ r ≡ channelValid f (now (m .entry)) at ⌝ }
+// The channel at place c.
+fn channel_valid(f: Floor, m: &[u16], c: usize) -> bool
+    requires { ⌜ (c + 261 ≤ length (now m)) × (c ≤ 9665) ⌝ }
+    ensures { λ r. ⌜ r ≡ channelValid f (now (m .entry)) c ⌝ }
 {
-    let count = m[at];
+    let count = m[c];
     if f.depth < count {
         return false;
     }
-    places_valid(f, m, at + 1, count as usize)
+    places_valid(f, m, c, count as usize)
 }
 
 // The view that carrier i has of carrier j, and the channel between them.
@@ -123,11 +133,11 @@ fn pair_valid(f: Floor, m: &[u16], i: usize, j: usize) -> bool
     ensures { λ r. ⌜ r ≡ pairValid f (now (m .entry)) i j ⌝ }
 {
     let n = f.carriers as usize;
-    let v = crate::places::view_place(n, i, j);
+    let v = view_place(n, i, j);
     if !record_valid(f, m, v, 0, 2) {
         return false;
     }
-    let c = crate::places::channel_place(n, i, j);
+    let c = channel_place(n, i, j);
     channel_valid(f, m, c)
 }
 

@@ -1,7 +1,28 @@
-// Where each part of a state lies.
+// Where each part of a state lies. The offsets of the state stand here and nowhere else in the code.
 ghost use mathlib.Core.Path.{_≡_};
 ghost use Prim.Native.Nat.{_+_, _*_, _≤_, _<_};
-ghost use Rattle.layout.specs.Places.{pairsBefore, viewPlace, channelPlace, stateSize};
+ghost use Rattle.layout.specs.Places.{pairsBefore, plannedPlace, duePlace, answerPlace, viewPlace, channelPlace, stateSize};
+use floor::Floor;
+
+// The places of a channel: as many as the largest depth.
+pub const PLACES: usize = Floor::MAX_DEPTH as usize;
+
+// The numbers of the taken count.
+pub const COUNT: usize = 2;
+
+// The flag due, and the answer, of the first carrier.
+const DUE: usize = COUNT + 1;
+
+const ANSWER: usize = COUNT + 2;
+
+// The numbers of a carrier: planned, due, its answer.
+const CARRIER: usize = 2 + records::SIZE;
+
+// The numbers of a channel: its length and its places.
+const CHANNEL: usize = 1 + PLACES * records::SIZE;
+
+// The numbers of a pair: a view and a channel.
+const PAIR: usize = records::SIZE + CHANNEL;
 
 // The pairs with a receiver below i.
 pub fn pairs_before(i: usize) -> usize
@@ -17,12 +38,44 @@ pub fn pairs_before(i: usize) -> usize
     p
 }
 
+// The flag planned of carrier i.
+pub fn planned_place(i: usize) -> usize
+    requires { ⌜ i < 8 ⌝ }
+    ensures { λ r. ⌜ (r ≡ plannedPlace i) × (r ≡ 2 + 67 * i) ⌝ }
+{
+    COUNT + CARRIER * i
+}
+
+// The flag due of carrier i.
+pub fn due_place(i: usize) -> usize
+    requires { ⌜ i < 8 ⌝ }
+    ensures { λ r. ⌜ (r ≡ duePlace i) × (r ≡ 3 + 67 * i) ⌝ }
+{
+    DUE + CARRIER * i
+}
+
+// The answer of carrier i.
+pub fn answer_place(i: usize) -> usize
+    requires { ⌜ i < 8 ⌝ }
+    ensures { λ r. ⌜ (r ≡ answerPlace i) × (r ≡ 4 + 67 * i) ⌝ }
+{
+    ANSWER + CARRIER * i
+}
+
+// The first view of n carriers, right behind the carriers.
+pub fn pairs_place(n: usize) -> usize
+    requires { ⌜ n ≤ 8 ⌝ }
+    ensures { λ r. ⌜ r ≡ 2 + 67 * n ⌝ }
+{
+    COUNT + CARRIER * n
+}
+
 // The view that carrier i has of carrier j.
 pub fn view_place(n: usize, i: usize, j: usize) -> usize
     requires { ⌜ (j < i) × (i < n) × (n ≤ 8) ⌝ }
     ensures { λ r. ⌜ (r ≡ viewPlace n i j) × (r + 65 ≤ stateSize n) × (r ≤ 9665) ⌝ }
 {
-    2 + 67 * n + 65 * (pairs_before(i) + j)
+    COUNT + CARRIER * n + records::SIZE * (pairs_before(i) + j)
 }
 
 // The first view that carrier i has; the views of carrier i stand one behind the other.
@@ -30,7 +83,15 @@ pub fn views_start(n: usize, i: usize) -> usize
     requires { ⌜ (i < n) × (n ≤ 8) ⌝ }
     ensures { λ r. ⌜ (r ≡ viewPlace n i 0) × (r + 65 * i ≤ stateSize n) × (r ≤ 9665) ⌝ }
 {
-    2 + 67 * n + 65 * pairs_before(i)
+    COUNT + CARRIER * n + records::SIZE * pairs_before(i)
+}
+
+// The place behind the last view that carrier i has.
+pub fn views_end(n: usize, i: usize) -> usize
+    requires { ⌜ (i < n) × (n ≤ 8) ⌝ }
+    ensures { λ r. ⌜ (r ≡ viewPlace n i 0 + 65 * i) × (r ≤ stateSize n) ⌝ }
+{
+    views_start(n, i) + records::SIZE * i
 }
 
 // The channel from carrier j to carrier i.
@@ -38,7 +99,15 @@ pub fn channel_place(n: usize, i: usize, j: usize) -> usize
     requires { ⌜ (j < i) × (i < n) × (n ≤ 8) ⌝ }
     ensures { λ r. ⌜ (r ≡ channelPlace n i j) × (r + 261 ≤ stateSize n) × (r ≤ 9665) ⌝ }
 {
-    2 + 67 * n + 65 * pairs_before(n) + 261 * (pairs_before(i) + j)
+    COUNT + CARRIER * n + records::SIZE * pairs_before(n) + CHANNEL * (pairs_before(i) + j)
+}
+
+// Place q of the channel at place c; the oldest message stands in place 0.
+pub fn message_place(c: usize, q: usize) -> usize
+    requires { ⌜ (c ≤ 9665) × (q < 4) ⌝ }
+    ensures { λ r. ⌜ (r ≡ c + 1 + 65 * q) × (r + 65 ≤ c + 261) ⌝ }
+{
+    c + 1 + records::SIZE * q
 }
 
 // The needed length of a state.
@@ -46,5 +115,5 @@ pub fn state_size(n: usize) -> usize
     requires { ⌜ n ≤ 8 ⌝ }
     ensures { λ r. ⌜ (r ≡ stateSize n) × (r ≤ 9666) ⌝ }
 {
-    2 + 67 * n + 326 * pairs_before(n)
+    COUNT + CARRIER * n + PAIR * pairs_before(n)
 }

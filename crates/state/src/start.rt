@@ -1,21 +1,29 @@
 // The fresh state: all due, none planned, answers none, views not heard, channels empty, count 0.
 ghost use mathlib.Core.Path.{_≡_};
-ghost use mathlib.Core.List.{[], _∷_};
 ghost use Prim.Native.Nat.{_+_, _*_, _≤_, _<_};
 ghost use lib.ListN.{length, replicate};
 ghost use Rattle.laws.specs.Memory.{put};
 ghost use Rattle.reference.specs.State.{fresh};
-ghost use Rattle.layout.specs.Places.{plannedPlace, stateSize};
+ghost use Rattle.layout.specs.Places.{stateSize};
 ghost use Rattle.layout.specs.Encode.{encode, carrierBlock, blocks};
+use crate::places::COUNT;
+use crate::places::answer_place;
+use crate::places::due_place;
+use crate::places::pairs_place;
+use crate::places::planned_place;
+use crate::places::state_size;
 
 // Carrier i, fresh.
 fn write_carrier(m: &mut [u16], i: usize)
     requires { ⌜ (i < 8) × (69 + 67 * i ≤ length (now m)) ⌝ }
     ensures { λ r. ⌜ now (m .exit) ≡ put (now (m .entry)) (2 + 67 * i) (carrierBlock fresh i) ⌝ }
 {
-    m[2 + 67 * i] = 0;
-    m[3 + 67 * i] = 1;
-    planner::store(m, 4 + 67 * i, 1, [0u16; 64]);
+    let p = planned_place(i);
+    let d = due_place(i);
+    let a = answer_place(i);
+    m[p] = 0;
+    m[d] = 1;
+    records::store(m, a, 1, [0u16; records::CELLS]);
 }
 
 // The first n carriers, fresh.
@@ -47,8 +55,9 @@ pub fn write_fresh(m: &mut [u16], n: usize)
     requires { ⌜ (n ≤ 8) × (stateSize n ≤ length (now m)) ⌝ }
     ensures { λ r. ⌜ now (m .exit) ≡ put (now (m .entry)) 0 (encode n fresh) ⌝ }
 {
-    write_zeros(m, 0, 2);
+    write_zeros(m, 0, COUNT);
     write_carriers(m, n);
-    let pairs = crate::places::pairs_before(n);
-    write_zeros(m, 2 + 67 * n, 326 * pairs);
+    let a = pairs_place(n);
+    let e = state_size(n);
+    write_zeros(m, a, e - a);
 }

@@ -8,7 +8,8 @@ use mathlib.Core.List.{List}
 use mathlib.Core.Path.{_≡_, refl, sym, ap, _∙_}
 use borrow.Author.Tests.{eq-eqb, ne-eqb}
 use lib.Dec.{eqb}
-use Rattle.tables.specs.Ways.{spotOf, wayOpen}
+use Rattle.tables.specs.Ways.{wayOpen}
+use Rattle.records.specs.Records.{viewCell}
 
 -- The view is in c: what is left to ask is whether it is in d.
 pub cross-there : (c d x y p q : ℕ) → c ≡ p → p ≡ x → q ≡ y → eqb d q ≡ (eqb c x && eqb d y)
@@ -25,20 +26,20 @@ module _ (m : List ℕ) (a b c d : ℕ) where
   ways-none = refl
 
   -- One more view that does not shut the way.
-  pub ways-more : (j : ℕ) (x : Bool) → wayOpen m a b c d j ≡ true → x ≡ (eqb c (spotOf m j b) && eqb d (spotOf m j a)) → x ≡ false →
+  pub ways-more : (j : ℕ) (x : Bool) → wayOpen m a b c d j ≡ true → x ≡ (eqb c (viewCell m j b) && eqb d (viewCell m j a)) → x ≡ false →
       wayOpen m a b c d (j + 1) ≡ true
   unfolding wayOpen
   ways-more j x e h l = rw (add-one, wayOpen) (rw (sym h ∙ l) e)
 
   -- A view that shuts the way, and n views after it.
-  ways-shut : (j n : ℕ) → (eqb c (spotOf m j b) && eqb d (spotOf m j a)) ≡ true → wayOpen m a b c d (n + suc j) ≡ false
+  ways-shut : (j n : ℕ) → (eqb c (viewCell m j b) && eqb d (viewCell m j a)) ≡ true → wayOpen m a b c d (n + suc j) ≡ false
   unfolding wayOpen
   ways-shut j zero h = rw (zero-add, h)
   ways-shut j (suc n) h =
-      rw suc-add (rw (ways-shut j n h) (and-false (not (eqb c (spotOf m (n + suc j) b) && eqb d (spotOf m (n + suc j) a)))))
+      rw suc-add (rw (ways-shut j n h) (and-false (not (eqb c (viewCell m (n + suc j) b) && eqb d (viewCell m (n + suc j) a)))))
 
   -- A view among the first k that shuts the way.
-  pub ways-found : (j k : ℕ) (x : Bool) → j < k → x ≡ (eqb c (spotOf m j b) && eqb d (spotOf m j a)) → x ≡ true →
+  pub ways-found : (j k : ℕ) (x : Bool) → j < k → x ≡ (eqb c (viewCell m j b) && eqb d (viewCell m j a)) → x ≡ true →
       true ≡ not (wayOpen m a b c d k)
   ways-found j k x l h e =
       let s : (k - suc j) + suc j ≡ k = omega arith in

@@ -7,19 +7,17 @@ use mathlib.Core.List.{List}
 use mathlib.Core.Path.{_≡_, refl, sym, ap₂, _∙_, ap}
 use lib.Dec.{eqb, ltb}
 use lib.ListN.{getD}
-use Rattle.route.proofs.ViewsLaws.{every-more}
+use Rattle.records.proofs.ViewsLaws.{every-more}
 use Rattle.tables.proofs.FreeLaws.{free-tidy}
 use Rattle.route.specs.Moves.{vacant, every}
 use Rattle.laws.proofs.Tests.{below-same, inside-same}
-use Rattle.words.specs.Words.{digit}
 use Rattle.words.specs.Rows.{has, Clean}
 use Rattle.words.proofs.RowsLaws.{place-row}
 use Rattle.tables.specs.declared.Scene.{Scene}
-use Rattle.route.specs.Views.{records, viewAt}
-use Rattle.tables.specs.Ways.{spotOf}
+use Rattle.records.specs.Records.{records, viewAt, viewCell}
 use Rattle.tables.specs.Table.{inSet}
 use Rattle.tables.specs.Room.{FreeBeats, TakenBeats, standsAt, Roomy}
-use Rattle.tables.proofs.ViewsLaws.{vacant-spot}
+use Rattle.records.proofs.CellLaws.{vacant-cell}
 
 -- What can be stood on among no views is what is free.
 free-stands : (g : Scene) (free m s : List ℕ) (t c : ℕ) → 1 ≤ g .width → g .cells ≤ 32 * g .width →
@@ -40,12 +38,12 @@ free-roomy g free m s n thin room late beats clean = record {
 
 -- What can be stood on among one more view.
 stands-more : (g : Scene) (free m : List ℕ) (j t c : ℕ) → g .width ≤ 32 → g .cells ≤ 32 * g .width → t < 64 →
-    (standsAt g j free m t c && not (eqb c (spotOf m j t))) ≡ standsAt g (suc j) free m t c
+    (standsAt g j free m t c && not (eqb c (viewCell m j t))) ≡ standsAt g (suc j) free m t c
 unfolding standsAt
 stands-more g free m j t c narrow room h =
-    and-assoc (ltb c (g .cells) && here) old (not (eqb c (spotOf m j t)))
-    ∙ inside-same c (g .cells) here (old && not (eqb c (spotOf m j t))) (vacant t c (viewAt m j) && old)
-    (λ l. rw (← vacant-spot m j t c h (omega arith)) (and-comm old (vacant t c (viewAt m j))))
+    and-assoc (ltb c (g .cells) && here) old (not (eqb c (viewCell m j t)))
+    ∙ inside-same c (g .cells) here (old && not (eqb c (viewCell m j t))) (vacant t c (viewAt m j) && old)
+    (λ l. rw (← vacant-cell m j t c h (omega arith)) (and-comm old (vacant t c (viewAt m j))))
     ∙ ap (λ (b : Bool). ltb c (g .cells) && here && b) (sym (every-more (vacant t c) m j))
   where
     here : Bool
@@ -64,9 +62,9 @@ roomy-more g free m s q j narrow room short gone old = record { tidy = gone .tid
         gone .taken t c (omega arith) ∙ rw (old .agrees t c h, add-one) (stands-more g free m j t c narrow room (omega arith))
 
 -- A view's cell depends on its record alone.
-spot-same : (m q : List ℕ) (j t : ℕ) → ((i : ℕ) → i < 65 * j + 65 → getD m i 0 ≡ getD q i 0) → t < 64 → spotOf m j t ≡ spotOf q j t
-unfolding spotOf
-spot-same m q j t same h =
+cell-same : (m q : List ℕ) (j t : ℕ) → ((i : ℕ) → i < 65 * j + 65 → getD m i 0 ≡ getD q i 0) → t < 64 → viewCell m j t ≡ viewCell q j t
+unfolding viewCell
+cell-same m q j t same h =
     ap₂ (λ (tag cell : ℕ). elim (eqb tag 2) [ true ↦ cell | false ↦ 65535 ]) (same (65 * j) (omega arith))
     (same (65 * j + 1 + t) (omega arith))
 
@@ -77,7 +75,7 @@ unfolding every records
 vacant-same m q zero t c same h l = refl
 vacant-same m q (suc k) t c same h l =
     let here : vacant t c (viewAt m k) ≡ vacant t c (viewAt q k) =
-    vacant-spot m k t c h l ∙ rw (spot-same m q k t (λ i u. same i (omega arith)) h) (sym (vacant-spot q k t c h l))
+    vacant-cell m k t c h l ∙ rw (cell-same m q k t (λ i u. same i (omega arith)) h) (sym (vacant-cell q k t c h l))
     in
     every-more (vacant t c) m k
     ∙ rw (here, vacant-same m q k t c (λ i u. same i (omega arith)) h l) (sym (every-more (vacant t c) q k))

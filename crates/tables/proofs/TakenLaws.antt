@@ -10,11 +10,10 @@ use borrow.Author.Tests.{eqb-true, eq-eqb, ne-eqb}
 use lib.Dec.{eqb, ltb}
 use lib.ListN.{length}
 use Rattle.laws.proofs.Tests.{and-fst, lt-or-le, eqbs-say, eqbs-hold, same-test, below-same}
-use Rattle.words.specs.Words.{digit}
 use Rattle.words.specs.Rows.{has, droppedAt}
 use Rattle.words.proofs.RowsLaws.{place-row, has-dropped, length-dropped, dropped-inside, dropped-outside}
 use Rattle.tables.specs.declared.Scene.{Scene}
-use Rattle.tables.specs.Ways.{spotOf}
+use Rattle.records.specs.Records.{viewCell}
 use Rattle.tables.specs.Table.{inSet, Tidy}
 use Rattle.tables.specs.Room.{TakenBeats}
 
@@ -127,33 +126,33 @@ module _ (g : Scene) (m s q : List ℕ) (j n : ℕ) (thin : 1 ≤ g .width) (roo
     (old : TakenBeats g m j n s q) where
   -- The table with one more beat of it taken out.
   after : List ℕ
-  after = less g q n (spotOf m j n) thin room (old .tidy) h
+  after = less g q n (viewCell m j n) thin room (old .tidy) h
 
   -- What it has at the beats passed.
-  after-taken : (t c : ℕ) → t < n + 1 → inSet g after t c ≡ (inSet g s t c && not (eqb c (spotOf m j t)))
+  after-taken : (t c : ℕ) → t < n + 1 → inSet g after t c ≡ (inSet g s t c && not (eqb c (viewCell m j t)))
   unfolding after
   after-taken t c l = ⊎-elim last before (eq-or-lt-of-le (omega arith))
     where
-      last : t ≡ n → inSet g after t c ≡ (inSet g s t c && not (eqb c (spotOf m j t)))
-      last u = rw u (less-here g q n (spotOf m j n) thin room (old .tidy) h c ∙ rw (old .left n c (omega arith)))
+      last : t ≡ n → inSet g after t c ≡ (inSet g s t c && not (eqb c (viewCell m j t)))
+      last u = rw u (less-here g q n (viewCell m j n) thin room (old .tidy) h c ∙ rw (old .left n c (omega arith)))
 
-      before : t < n → inSet g after t c ≡ (inSet g s t c && not (eqb c (spotOf m j t)))
-      before u = less-there g q n (spotOf m j n) thin room (old .tidy) h t c (λ p. omega arith) ∙ old .taken t c u
+      before : t < n → inSet g after t c ≡ (inSet g s t c && not (eqb c (viewCell m j t)))
+      before u = less-there g q n (viewCell m j n) thin room (old .tidy) h t c (λ p. omega arith) ∙ old .taken t c u
 
   -- What it has at the others.
   after-left : (t c : ℕ) → n + 1 ≤ t → inSet g after t c ≡ inSet g s t c
   unfolding after
   after-left t c l =
-      less-there g q n (spotOf m j n) thin room (old .tidy) h t c (λ p. omega arith) ∙ old .left t c (omega arith)
+      less-there g q n (viewCell m j n) thin room (old .tidy) h t c (λ p. omega arith) ∙ old .left t c (omega arith)
 
   -- It is tidy.
   after-tidy : Tidy g after
   unfolding after
-  after-tidy = less-tidy g q n (spotOf m j n) thin room (old .tidy) h
+  after-tidy = less-tidy g q n (viewCell m j n) thin room (old .tidy) h
 
 -- One more beat of it.
 pub taken-more : (g : Scene) (m s q r : List ℕ) (j n x : ℕ) → 1 ≤ g .width → g .cells ≤ 32 * g .width → n < 64 →
-    TakenBeats g m j n s q → x ≡ spotOf m j n → r ≡ droppedAt (g .width) (g .cells) (n * 36 + 1) x q → TakenBeats g m j (n + 1) s r
+    TakenBeats g m j n s q → x ≡ viewCell m j n → r ≡ droppedAt (g .width) (g .cells) (n * 36 + 1) x q → TakenBeats g m j (n + 1) s r
 unfolding after less
 taken-more g m s q r j n x thin room h old e d =
     rw (d, e)

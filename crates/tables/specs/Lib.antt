@@ -1,4 +1,4 @@
--- In reading order: where views are and the ways they shut, tables of sets, rows carried beside one, the room in one, windows of rows.
+-- In reading order: the ways that views shut, tables of sets, rows carried beside one, the room in one, windows of rows.
 pub mod Ways
 pub mod Table
 pub mod Carried

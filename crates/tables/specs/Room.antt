@@ -9,8 +9,7 @@ use lib.ListN.{length, getD}
 use Rattle.route.specs.Moves.{vacant, every}
 use Rattle.words.specs.Rows.{has}
 use Rattle.tables.specs.declared.Scene.{Scene}
-use Rattle.route.specs.Views.{records}
-use Rattle.tables.specs.Ways.{spotOf}
+use Rattle.records.specs.Records.{records, viewCell}
 use Rattle.tables.specs.Table.{inSet, Tidy}
 
 -- Cell c can be stood on at beat t: it is in the grid, free, and none of the first k views is there then.
@@ -36,5 +35,5 @@ pub record FreeBeats (free : List ℕ) (n : ℕ) (s : List ℕ) : Type 0 where
 -- q is s without the cells of view j at the first n beats.
 pub record TakenBeats (g : Scene) (m : List ℕ) (j n : ℕ) (s q : List ℕ) : Type 0 where
   pub tidy : Tidy g q
-  pub taken : (t c : ℕ) → t < n → inSet g q t c ≡ (inSet g s t c && not (eqb c (spotOf m j t)))
+  pub taken : (t c : ℕ) → t < n → inSet g q t c ≡ (inSet g s t c && not (eqb c (viewCell m j t)))
   pub left : (t c : ℕ) → n ≤ t → inSet g q t c ≡ inSet g s t c

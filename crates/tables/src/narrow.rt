@@ -6,6 +6,8 @@ ghost use Prim.Native.Nat.{_+_, _≤_};
 ghost use lib.ListN.{length};
 ghost use Rattle.tables.specs.Table.{Shows};
 ghost use Rattle.tables.specs.Carried.{Carries, Stepped};
+use crate::table::EDGED;
+use crate::table::ROWS;
 
 // Four rows of a table, from row `place` on.
 pub struct Carried {
@@ -72,9 +74,9 @@ fn narrow_all(sets: &mut [u32], room: &[u32], at: usize, to: usize) -> Moved
     requires { ⌜ (length (now sets) ≡ 2304) × (length (now room) ≡ 2304) × (at + 34 ≤ 2304) × (to + 34 ≤ 2304) ⌝ }
     ensures { λ r. ⌜ Stepped (now (sets .entry)) (now (room .entry)) at to 32 r (now (sets .exit)) ⌝ }
 {
-    let z = words::narrowed_rows(sets, sets, at, to + 1, 32);
-    let met = words::meets(sets, room, at, to, 34);
-    words::put_rows(sets, to + 1, z, 32);
+    let z = words::narrowed_rows(sets, sets, at, to + 1, ROWS);
+    let met = words::meets(sets, room, at, to, EDGED);
+    words::put_rows(sets, to + 1, z, ROWS);
     let next = four(sets, to + 1);
     Moved {
         next: next,

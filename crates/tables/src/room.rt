@@ -6,8 +6,10 @@ ghost use Rattle.words.specs.Rows.{Clean};
 ghost use Rattle.tables.specs.Table.{Grid, Fits, Tidy};
 ghost use Rattle.tables.specs.Room.{Roomy, OneMore, FreeBeats, TakenBeats};
 use crate::Scene;
+use crate::table::ROWS;
+use crate::table::STRIDE;
 use crate::table::copy_rows;
-use crate::views::spot;
+use records::view_cell;
 
 // The free cells at the first n beats of an empty table.
 pub fn fill_free(room: &mut [u32], free: &[u32], n: usize)
@@ -16,7 +18,7 @@ pub fn fill_free(room: &mut [u32], free: &[u32], n: usize)
 {
     let mut t: usize = 0;
     while t < n {
-        copy_rows(room, t * 36 + 1, free, 0, 32);
+        copy_rows(room, t * STRIDE + 1, free, 0, ROWS);
         t += 1;
     }
 }
@@ -31,8 +33,8 @@ fn take_view(g: Scene, room: &mut [u32], views: &[u16], j: usize, n: usize)
     let cells = g.cells;
     let mut t: usize = 0;
     while t < n {
-        let c = spot(views, j, t);
-        words::drop_at(room, t * 36 + 1, w, scale, cells, c);
+        let c = view_cell(views, j, t);
+        words::drop_at(room, t * STRIDE + 1, w, scale, cells, c);
         t += 1;
     }
 }

@@ -1,7 +1,7 @@
 // Tables of sets of cells, 36 rows a beat: reading a cell, laying the room of a window.
 ghost use mathlib.Core.Path.{_≡_};
 ghost use mathlib.Core.Logic.{_⊎_};
-ghost use Prim.Native.Nat.{_+_, _*_, _/_, _≤_, _<_};
+ghost use Prim.Native.Nat.{_+_, _*_, _≤_, _<_};
 ghost use lib.ListN.{length, getD, replicate};
 ghost use Rattle.tables.specs.Table.{Grid, Rewritten, inSet};
 ghost use Rattle.tables.specs.Windowed.{LaidRows};
@@ -9,12 +9,25 @@ use crate::Scene;
 use crate::place_of;
 use crate::window::Window;
 use crate::window::first_row;
+use floor::Floor;
+
+// The rows of the largest grid, a word each.
+pub const ROWS: usize = Floor::MAX_HEIGHT as usize;
+
+// The rows of the largest grid and the two beside them.
+pub const EDGED: usize = ROWS + 2;
+
+// The rows of one beat: an empty one, those of the grid, three more.
+pub const STRIDE: usize = ROWS + 4;
+
+// The words of a table: the rows of every beat up to the largest horizon.
+pub const WORDS: usize = STRIDE * records::CELLS;
 
 // A table of empty sets.
-pub fn empty() -> [u32; 2304]
+pub fn empty() -> [u32; WORDS]
     ensures { λ r. ⌜ r ≡ replicate 2304 0 ⌝ }
 {
-    [0u32; 2304]
+    [0u32; WORDS]
 }
 
 // Whether cell c is in the set of beat t.
@@ -23,7 +36,7 @@ pub fn member(g: Scene, s: &[u32], t: usize, c: usize) -> bool
     ensures { λ r. ⌜ r ≡ inSet g (now (s .entry)) t c ⌝ }
 {
     let p = place_of(g, c);
-    words::has(s, t * 36 + 1 + p.row, p.column)
+    words::has(s, t * STRIDE + 1 + p.row, p.column)
 }
 
 // Copies n rows of one table from row j on into another from row i on.
@@ -45,7 +58,7 @@ fn lay_rows(sets: &mut [u32], room: &[u32], i: usize, height: usize)
         copy_rows(sets, i, room, i, 4);
         return;
     }
-    copy_rows(sets, i, room, i, 32);
+    copy_rows(sets, i, room, i, ROWS);
 }
 
 // Lays the room of the window at beats 1 to the limit into an empty table.
@@ -58,6 +71,6 @@ pub fn lay(v: Window, sets: &mut [u32], room: &[u32])
     while t < v.limit {
         t += 1;
         let first = first_row(v, t);
-        lay_rows(sets, room, t * 36 + 1 + first, v.height);
+        lay_rows(sets, room, t * STRIDE + 1 + first, v.height);
     }
 }

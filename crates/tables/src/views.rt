@@ -1,29 +1,20 @@
-// The lent views: 65 numbers a record, a tag and 64 cells.
+// The ways that the lent views shut.
 ghost use mathlib.Core.Path.{_≡_};
 ghost use mathlib.Core.Bool.{not, _&&_};
 ghost use Prim.Native.Nat.{_+_, _*_, _≤_, _<_};
 ghost use lib.Dec.{eqb};
 ghost use lib.ListN.{length};
-ghost use Rattle.tables.specs.Ways.{spotOf, wayOpen};
-
-// The cell of the route in record j at beat t, a number that is no cell where there is no route.
-pub fn spot(views: &[u16], j: usize, t: usize) -> usize
-    requires { ⌜ (65 * j + 65 ≤ length (now views)) × (t < 64) ⌝ }
-    ensures { λ r. ⌜ (r ≡ spotOf (now (views .entry)) j t) × (r < 65536) ⌝ }
-{
-    if views[65 * j] == 2 {
-        return views[65 * j + 1 + t] as usize;
-    }
-    65535
-}
+ghost use Rattle.tables.specs.Ways.{wayOpen};
+ghost use Rattle.records.specs.Records.{viewCell};
+use records::view_cell;
 
 // Whether view j is in d at beat a and in c at beat b.
 fn crosses(views: &[u16], j: usize, a: usize, b: usize, c: usize, d: usize) -> bool
     requires { ⌜ (65 * j + 65 ≤ length (now views)) × (a < 64) × (b < 64) ⌝ }
-    ensures { λ r. ⌜ r ≡ (eqb c (spotOf (now (views .entry)) j b) && eqb d (spotOf (now (views .entry)) j a)) ⌝ }
+    ensures { λ r. ⌜ r ≡ (eqb c (viewCell (now (views .entry)) j b) && eqb d (viewCell (now (views .entry)) j a)) ⌝ }
 {
-    if c == spot(views, j, b) {
-        return d == spot(views, j, a);
+    if c == view_cell(views, j, b) {
+        return d == view_cell(views, j, a);
     }
     false
 }

@@ -7,6 +7,7 @@ ghost use Rattle.tables.specs.Window.{gap as Window·gap, smaller as Win
 ghost use Rattle.tables.specs.Windowed.{firstAt, Fitting, WindowOf};
 use crate::Scene;
 use crate::place_of;
+use crate::table::ROWS;
 
 // A window: the limit, the rows of start and goal, the first row of all, and how many rows a beat has.
 pub struct Window {
@@ -62,7 +63,7 @@ pub fn first_row(v: Window, t: usize) -> usize
 {
     let from = larger(v.top, minus(v.start, t));
     let first = larger(from, minus(v.goal, minus(v.limit, t)));
-    smaller(first, 32 - v.height)
+    smaller(first, ROWS - v.height)
 }
 
 // The height of a window of n + 1 rows or more: four rows, or all.
@@ -72,7 +73,7 @@ fn height_for(n: usize) -> usize
     if n < 4 {
         return 4;
     }
-    32
+    ROWS
 }
 
 // How many beats a way from the start to the goal takes at least.

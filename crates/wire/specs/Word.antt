@@ -2,23 +2,34 @@
 use Prim.Native.Nat.{ℕ, _+_, _*_}
 use mathlib.Core.Bool.{cond}
 use lib.Dec.{ltb}
-use Rattle.laws.specs.Verdict.{Verdict, passed, refused}
+use Rattle.laws.specs.Verdict.{Outcome, value, refusal}
 
--- What a function says: done, with a case and a number; or turned away, with a refusal's number and place.
-pub data Said : Type 0 where
-  done : (case number : ℕ) → Said
-  turned : (number place : ℕ) → Said
+-- What a word tells of a call that is done: its case, and a number.
+pub record Done : Type 0 where
+  pub case : ℕ
+  pub number : ℕ
 
--- A number as a word has it: those past 2^32 − 1 are told as 2^32 − 1.
-unfoldable pub capped : ℕ → ℕ
-capped n = cond (ltb 4294967295 n) 4294967295 n
+abbrev pub done : ℕ → ℕ → Done
+done c n = record { case = c; number = n }
+
+-- An outcome with its value taken to another; a refusal stays what it is.
+unfoldable pub mapOutcome : {A B : Type 0} → (A → B) → Outcome A → Outcome B
+mapOutcome g (value a) = value (g a)
+mapOutcome g (refusal k p) = refusal k p
+
+-- A number as it is told where there is room up to a largest one: a larger number is told as the largest.
+unfoldable pub cappedAt : ℕ → ℕ → ℕ
+cappedAt most n = cond (ltb most n) most n
+
+-- Bits 0 to 7, bits 8 to 15 (up to 255) and bits 16 to 63 (up to 2^48 − 1) of a word.
+unfoldable pub packed : ℕ → ℕ → ℕ → ℕ
+packed low second rest = low + 256 * cappedAt 255 second + 65536 * cappedAt 281474976710655 rest
 
 -- The word: the low byte 0 done or 1 refused, the next the case or the refusal, from bit 16 on the number or the place.
-unfoldable pub wordOf : Said → ℕ
-wordOf (done c n) = 256 * c + 65536 * capped n
-wordOf (turned k p) = 1 + 256 * k + 65536 * capped p
+unfoldable pub wordOf : Outcome Done → ℕ
+wordOf (value d) = packed 0 (d .case) (d .number)
+wordOf (refusal k p) = packed 1 k p
 
--- A check: case 0 with a number, or its refusal.
-unfoldable pub ofVerdict : Verdict → ℕ → Said
-ofVerdict passed n = done 0 n
-ofVerdict (refused k p) n = turned k p
+-- An answer that is a number: case 0 with that number.
+unfoldable pub ofNumber : Outcome ℕ → Outcome Done
+ofNumber o = mapOutcome (done 0) o

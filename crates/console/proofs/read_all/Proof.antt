@@ -20,34 +20,23 @@ returns c =
     let at-loop : tie.At-loop Inv-loop μ-loop = search in
     (omega arith, omega (arith, after-buf .buf .given .1, at-loop .loop .inv .1))
 
-add-n : tie.Need-add-n Inv-loop μ-loop
-add-n c =
-    let after-part : tie.After-part Inv-loop μ-loop = search in
+-- A turn reads no more bytes than are left.
+turn : (c : tie.After-part Inv-loop μ-loop) →
+    let at-loop : tie.At-loop Inv-loop μ-loop = search in
+    let start : tie.Start Inv-loop μ-loop = search in
+    c .part .given .0 .0 ≤ length (start .args .buf .now) - at-loop .loop .n
+turn c =
     let after-buf : tie.After-buf Inv-loop μ-loop = search in
     let after-read-some : tie.After-read-some Inv-loop μ-loop = search in
+    let at-loop : tie.At-loop Inv-loop μ-loop = search in
     let rest = simp (length-take, length-drop) at (after-buf .buf .given .0) in
-    let moved = moved-within 0 (length (after-read-some .read-some .last .0)) _ _ (after-part .part .given .1)
-    (after-read-some .read-some .ensures) in
-    omega arith
-
-loop-less : tie.Need-loop-less Inv-loop μ-loop
-loop-less c =
-    let after-buf : tie.After-buf Inv-loop μ-loop = search in
-    omega (arith, after-buf .buf .given .1)
-
-loop-again : tie.Need-loop-again Inv-loop μ-loop
-loop-again c =
-    let after-part : tie.After-part Inv-loop μ-loop = search in
-    let after-buf : tie.After-buf Inv-loop μ-loop = search in
-    let after-read-some : tie.After-read-some Inv-loop μ-loop = search in
-    let rest = simp (length-take, length-drop) at (after-buf .buf .given .0) in
-    let moved = moved-within 0 (length (after-read-some .read-some .last .0)) _ _ (after-part .part .given .1)
-    (after-read-some .read-some .ensures) in
-    (search needs, omega (arith, after-buf .buf .given .1))
+    let most = length (after-read-some .read-some .last .0) in
+    let moved = moved-within 0 most _ _ (c .part .given .1) (after-read-some .read-some .ensures) in
+    omega (arith, at-loop .loop .inv .0)
 
 pub read-all-spec : {M : Type 1} → statement M
 read-all-spec =
     tie.close (tie.spec Inv-loop μ-loop (λ c. search needs) (λ c. search needs) (λ c. search needs) (λ c. search needs)
-    (λ c κs. search needs) (λ c. search needs) (λ c. search needs) returns add-n loop-less loop-again (λ c. search needs)
-    (λ c. search needs) (λ c. search needs) (λ c. search needs) (λ c. search needs) (λ c. search needs) (λ c. search needs)
-    (λ c. search needs))
+    (λ c κs. search needs) (λ c. search needs) (λ c. search needs) returns (λ c. omega (arith, turn search))
+    (λ c. omega (arith, turn search)) (λ c. (search needs, omega (arith, turn search))) (λ c. search needs) (λ c. search needs)
+    (λ c. search needs) (λ c. search needs) (λ c. search needs) (λ c. search needs) (λ c. search needs) (λ c. search needs))

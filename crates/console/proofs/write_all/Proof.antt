@@ -13,44 +13,21 @@ Inv-loop text n₀ n = n ≤ length text
 abbrev μ-loop : tie.MeasureT-loop
 μ-loop text n₀ n = length text - n
 
-add-n : tie.Need-add-n Inv-loop μ-loop
-add-n c =
-    let after-part : tie.After-part Inv-loop μ-loop = search in
+-- A turn writes at least one byte, and no more than are left.
+turn : (c : tie.After-part Inv-loop μ-loop) →
+    let at-loop : tie.At-loop Inv-loop μ-loop = search in
+    let start : tie.Start Inv-loop μ-loop = search in
+    let more = c .part .given .0 .0 in
+    (1 ≤ more) × (more ≤ length (start .args .text .now) - at-loop .loop .n)
+turn c =
     let after-write-some : tie.After-write-some Inv-loop μ-loop = search in
     let at-loop : tie.At-loop Inv-loop μ-loop = search in
     let start : tie.Start Inv-loop μ-loop = search in
-    omega (
-      arith,
-      moved-from 1 (at-loop .loop .n) (start .args .text .now) _ _ (after-part .part .given .1)
-          (after-write-some .write-some .ensures),
-    )
-
-loop-less : tie.Need-loop-less Inv-loop μ-loop
-loop-less c =
-    let after-part : tie.After-part Inv-loop μ-loop = search in
-    let after-write-some : tie.After-write-some Inv-loop μ-loop = search in
-    let at-loop : tie.At-loop Inv-loop μ-loop = search in
-    let start : tie.Start Inv-loop μ-loop = search in
-    omega (
-      arith,
-      moved-from 1 (at-loop .loop .n) (start .args .text .now) _ _ (after-part .part .given .1)
-          (after-write-some .write-some .ensures),
-    )
-
-loop-again : tie.Need-loop-again Inv-loop μ-loop
-loop-again c =
-    let after-part : tie.After-part Inv-loop μ-loop = search in
-    let after-write-some : tie.After-write-some Inv-loop μ-loop = search in
-    let at-loop : tie.At-loop Inv-loop μ-loop = search in
-    let start : tie.Start Inv-loop μ-loop = search in
-    omega (
-      arith,
-      moved-from 1 (at-loop .loop .n) (start .args .text .now) _ _ (after-part .part .given .1)
-          (after-write-some .write-some .ensures),
-    )
+    moved-from 1 (at-loop .loop .n) (start .args .text .now) _ _ (c .part .given .1) (after-write-some .write-some .ensures)
 
 pub write-all-spec : {M : Type 1} → statement M
 write-all-spec =
     tie.close (tie.spec Inv-loop μ-loop (λ c. search needs) (λ c. search needs) (λ c. search needs) (λ c. search needs)
-    (λ c κs. search needs) (λ c. search needs) add-n loop-less loop-again (λ c. search needs) (λ c. search needs)
-    (λ c. search needs) (λ c. search needs) (λ c. search needs))
+    (λ c κs. search needs) (λ c. search needs) (λ c. omega (arith, turn search)) (λ c. omega (arith, turn search))
+    (λ c. omega (arith, turn search)) (λ c. search needs) (λ c. search needs) (λ c. search needs) (λ c. search needs)
+    (λ c. (omega arith, omega arith)))

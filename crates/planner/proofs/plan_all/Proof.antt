@@ -11,7 +11,8 @@ use Rattle.route.specs.Sequential.{sequential}
 use Rattle.tables.specs.Table.{sceneOf}
 use Rattle.tables.specs.Room.{Roomy}
 use Rattle.planner.specs.Plan.{respondWith}
-use Rattle.planner.specs.Records.{answered, stored}
+use Rattle.planner.specs.Records.{answered}
+use Rattle.records.specs.Records.{stored}
 use Rattle.planner.proofs.PlanLaws.{plan-start, plan-more, plan-keeps, plan-end}
 use Rattle.planner.proofs.plan_all.Statement.{statement}
 use Rattle.planner.proofs.plan_all.Tie as tie

@@ -14,7 +14,9 @@ returns-2 : tie.Need-returns-2
 unfolding outcomeOf RefusalPut
 returns-2 c =
     let else1 : tie.Else1 = search in
-    text-fits _ _ _ _ _ _ _ (else1 .if1 .left) (c .before .before .put-refusal .ensures)
+    let after-printed-place : tie.After-printed-place = search in
+    let same = after-printed-place .printed-place .ensures in
+    text-fits _ _ _ _ _ _ _ (else1 .if1 .left) (rw same at (c .before .before .put-refusal .ensures))
 
 pub print-refusal-spec : {M : Type 1} → statement M
-print-refusal-spec = tie.close (tie.spec returns (λ c κs. search needs) (λ c. search needs) returns-2)
+print-refusal-spec = tie.close (tie.spec returns (λ c κs. search needs) (λ c κs. search needs) (λ c. search needs) returns-2)

@@ -1,5 +1,4 @@
 -- `printing::routes` meets its contract: the reader's verdict decides between the routes and the refusal's line.
-use Rattle.sheet.proofs.Theorems.{theorems}
 use Rattle.floor.proofs.AnswersLaws.{refuses}
 use Rattle.printing.proofs.PrintLaws.{was-read, read-refused, routes-accepted, routes-refused}
 use native.Mathlib.Omega.{arith}
@@ -24,14 +23,6 @@ returns c =
     (after-enum-told .enum-told .given .1) in
     routes-accepted _ _ _ _ _ _ w (c .before .before .print-read .ensures)
 
-print-refusal-requires : tie.Need-print-refusal-requires
-print-refusal-requires c κs =
-    let after-read : tie.After-read = search in
-    let after-no-walls : tie.After-no-walls = search in
-    let no = read-refused _ _ (omega (arith, after-no-walls .no-walls .ensures)) _ _ (refuses (after-read .read .ensures .0)
-    (c .before .before .checked .given .1)) in
-    omega (arith, theorems .place-low _ _ _ no)
-
 returns-2 : tie.Need-returns-2
 returns-2 c =
     let after-checked : tie.After-checked = search in
@@ -44,5 +35,5 @@ returns-2 c =
 pub routes-spec : {M : Type 1} → statement M
 routes-spec =
     tie.close (tie.spec (λ c κs. search needs) (λ c. search needs) (λ c κs. search needs) (λ c. search needs)
-    (λ c. search needs) (λ c. search needs) print-read-requires (λ c. search needs) returns print-refusal-requires
+    (λ c. search needs) (λ c. search needs) print-read-requires (λ c. search needs) returns (λ c κs. search needs)
     (λ c. search needs) returns-2)

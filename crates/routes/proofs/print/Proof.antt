@@ -1,5 +1,5 @@
 -- `routes::print` meets its contract: its array is never too short.
-use Rattle.routes.proofs.PrintedLaws.{never-refused, stands, counts}
+use Rattle.routes.proofs.PrintedLaws.{never-refused, counted}
 use native.Mathlib.Omega.{arith}
 use borrow.Author.Needs.{needs}
 use Rattle.routes.proofs.print.Statement.{statement}
@@ -15,11 +15,7 @@ returns-2 : tie.Need-returns-2
 returns-2 c =
     let after-printed : tie.After-printed = search in
     let after-routes : tie.After-routes = search in
-    let says = after-routes .routes .ensures .0 in
-    let stores = after-routes .routes .ensures .1 in (
-      counts _ _ _ _ (omega arith) says stores _ (after-printed .printed .given .1) (omega arith),
-      stands _ _ _ _ (omega arith) says stores _ (after-printed .printed .given .1),
-    )
+    counted _ _ _ _ (omega arith) (after-routes .routes .ensures .0) (after-routes .routes .ensures .1) _ (after-printed .printed .given .1)
 
 pub print-spec : {M : Type 1} → statement M
 print-spec =

@@ -10,8 +10,8 @@ use Rattle.passes.proofs.MendLaws.{mended-same}
 use Rattle.passes.proofs.mend.mend_view.Statement.{statement}
 use Rattle.passes.proofs.mend.mend_view.Tie as tie
 
-spot-requires : tie.Need-spot-requires
-spot-requires c κs =
+view-cell-requires : tie.Need-view-cell-requires
+view-cell-requires c κs =
     let start : tie.Start = search in
     let pre = start .pre in
     (omega (arith, pre .0 .0 .lent, pre .0 .4), omega (arith, pre .0 .1, pre .0 .0 .short))
@@ -21,7 +21,7 @@ returns c =
     let start : tie.Start = search in
     let pre = start .pre in
     mended-same _ _ _ _ _ _ _ (pre .1 .1)
-    (λ i. absurd (omega (arith, set-cell _ _ _ _ i, c .if1 .taken, c .before .before .spot .ensures .0)))
+    (λ i. absurd (omega (arith, set-cell _ _ _ _ i, c .if1 .taken, c .before .before .view-cell .ensures .0)))
 
 member-requires : tie.Need-member-requires
 member-requires c κs =
@@ -34,10 +34,10 @@ same-length c = refl
 
 returns-2 : tie.Need-returns-2
 returns-2 c =
-    let after-spot : tie.After-spot = search in
+    let after-view-cell : tie.After-view-cell = search in
     let start : tie.Start = search in
     mended-same _ _ _ _ _ _ _ (start .pre .1 .1)
-    (λ i. true-false-absurd (rw (← after-spot .spot .ensures .0) at i) (sym (c .before .member .ensures) ∙ not-true _ (c .if2 .taken)))
+    (λ i. true-false-absurd (rw (← after-view-cell .view-cell .ensures .0) at i) (sym (c .before .member .ensures) ∙ not-true _ (c .if2 .taken)))
 
 mend-cell-requires : tie.Need-mend-cell-requires
 mend-cell-requires c κs =
@@ -48,10 +48,10 @@ mend-cell-requires c κs =
 
 returns-3 : tie.Need-returns-3
 returns-3 c =
-    let after-spot : tie.After-spot = search in
-    rw (after-spot .spot .ensures .0) at (c .before .before .mend-cell .ensures)
+    let after-view-cell : tie.After-view-cell = search in
+    rw (after-view-cell .view-cell .ensures .0) at (c .before .before .mend-cell .ensures)
 
 pub mend-view-spec : {M : Type 1} → statement M
 mend-view-spec =
-    tie.close (tie.spec spot-requires returns member-requires same-length returns-2 mend-cell-requires
+    tie.close (tie.spec view-cell-requires returns member-requires same-length returns-2 mend-cell-requires
     (λ c. search needs) returns-3)

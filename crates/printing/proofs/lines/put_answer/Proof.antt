@@ -16,11 +16,11 @@ returns-2 : tie.Need-returns-2
 unfolding goalOf
 returns-2 c =
     let after-arrival : tie.After-arrival = search in
-    let after-load-cells : tie.After-load-cells = search in
+    let after-load : tie.After-load = search in
     let else1 : tie.Else1 = search in
     let start : tie.Start = search in
-    let long : length (after-load-cells .load-cells .result) ≡ 64 = search needs in
-    route-put _ _ _ _ _ _ _ _ (else1 .if1 .left) (after-load-cells .load-cells .ensures) long
+    let long : length (after-load .load .result) ≡ 64 = search needs in
+    route-put _ _ _ _ _ _ _ _ (else1 .if1 .left) (after-load .load .ensures) long
     (start .pre .0 .1) (after-arrival .arrival .ensures) (c .before .before .put-route .ensures)
 
 pub put-answer-spec : {M : Type 1} → statement M

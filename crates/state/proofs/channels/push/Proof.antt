@@ -7,11 +7,13 @@ use Rattle.state.proofs.channels.push.Tie as tie
 
 returns : tie.Need-returns
 returns c =
+    let after-message-place : tie.After-message-place = search in
     let then1 : tie.Then1 = search in
-    push-room _ _ _ _ (omega arith) (then1 .if1 .taken) (c .before .before .store .ensures)
+    push-room _ _ _ _ _ (omega arith) (then1 .if1 .taken) (after-message-place .message-place .ensures .0)
+    (c .before .before .store .ensures)
 
 pub push-spec : {M : Type 1} → statement M
 push-spec =
-    tie.close (tie.spec (λ c. search needs) (λ c. search needs) (λ c. search needs) (λ c. search needs)
-    (λ c. search needs) (λ c. search needs) (λ c κs. search needs) (λ c. search needs) (λ c. search needs)
-    (λ c. search needs) (λ c. search needs) returns (λ c. search push-full))
+    tie.close (tie.spec (λ c. search needs) (λ c. search needs) (λ c. search needs) (λ c κs. search needs)
+    (λ c κs. search needs) (λ c. search needs) (λ c. search needs) (λ c. search needs) (λ c. search needs) returns
+    (λ c. search push-full))

@@ -9,4 +9,4 @@ pub channel-valid-spec : {M : Type 1} → statement M
 unfolding channelValid
 channel-valid-spec =
     tie.close (tie.spec (λ c. search needs) (λ c. search needs) (λ c. search tests) (λ c. search needs)
-    (λ c. search needs) (λ c κs. search needs) (λ c. search tests))
+    (λ c κs. search needs) (λ c. search tests))

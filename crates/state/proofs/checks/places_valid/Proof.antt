@@ -1,16 +1,16 @@
 -- `state::checks::places_valid` meets its contract: the loop holds that all places so far are valid.
 use Rattle.state.proofs.EachLaws.{Tested, each-turn}
-use Prim.Native.Nat.{_-_}
+use Prim.Native.Nat.{_+_, _-_}
 use Rattle.layout.specs.Valid.{placeValid}
 use borrow.Author.Needs.{needs}
 use Rattle.state.proofs.checks.places_valid.Statement.{statement}
 use Rattle.state.proofs.checks.places_valid.Tie as tie
 
 abbrev Inv-loop : tie.InvT-loop
-Inv-loop f m at count q₀ q = Tested (placeValid f m at count) 4 q
+Inv-loop f m c count q₀ q = Tested (placeValid f m (c + 1) count) 4 q
 
 abbrev μ-loop : tie.MeasureT-loop
-μ-loop f m at count q₀ q = 4 - q
+μ-loop f m c count q₀ q = 4 - q
 
 pub places-valid-spec : {M : Type 1} → statement M
 places-valid-spec =

@@ -32,12 +32,12 @@ loop-less c = omega arith
 
 loop-again : tie.Need-loop-again Inv-loop μ-loop
 loop-again c =
-    let after-spot : tie.After-spot Inv-loop μ-loop = search in
+    let after-view-cell : tie.After-view-cell Inv-loop μ-loop = search in
     let at-loop : tie.At-loop Inv-loop μ-loop = search in
     let start : tie.Start Inv-loop μ-loop = search in (
       search needs,
       taken-more _ _ _ _ _ _ _ _ (start .pre .0 .thin) (start .pre .0 .room) (omega arith) (at-loop .loop .inv .1)
-          (after-spot .spot .ensures .0) (c .before .before .drop-at .ensures),
+          (after-view-cell .view-cell .ensures .0) (c .before .before .drop-at .ensures),
     )
 
 same-length : tie.Need-same-length Inv-loop μ-loop

@@ -1,4 +1,4 @@
--- `wire::word::done` meets its contract: the word is the sum that the definition writes.
+-- `wire::word::done` meets its contract: the parts of the definition.
 use Rattle.wire.specs.Word.{wordOf}
 use borrow.Author.Needs.{needs}
 use Rattle.wire.proofs.word.done.Statement.{statement}
@@ -6,5 +6,4 @@ use Rattle.wire.proofs.word.done.Tie as tie
 
 pub done-spec : {M : Type 1} → statement M
 unfolding wordOf
-done-spec =
-    tie.close (tie.spec (λ c. search needs) (λ c κs. search needs) (λ c. search needs) (λ c. search needs) (λ c. cc))
+done-spec = tie.close (tie.spec (λ c κs. search needs) (λ c. c .packed .ensures))

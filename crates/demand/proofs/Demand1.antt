@@ -1,0 +1,248 @@
+-- Demand 1, proved.
+use Prim.Native.Nat.{ℕ, _+_, _*_, _≤_, _<_}
+use native.Mathlib.Omega.{arith}
+use native.Mathlib.Nat.{zero-add}
+use mathlib.Core.Bool.{true, false, cond}
+use mathlib.Core.List.{List, _++_}
+use mathlib.Core.Logic.{_↔_, _⊎_, inl, inr}
+use mathlib.Core.Path.{_≡_, refl, _∙_, ap}
+use lib.Dec.{leb}
+use lib.ListN.{length, take, drop, take-append-drop}
+use borrow.Author.Tests.{le-leb, lt-leb}
+use Rattle.laws.specs.Memory.{put}
+use Rattle.laws.specs.Verdict.{Verdict, passed, refused, _then_, demand, Outcome, value, refusal, _thenAnswers_, whenPassed}
+use Rattle.laws.proofs.Tests.{lt-or-le, not-true-is-false, false-fails}
+use Rattle.laws.proofs.VerdictLaws.{then-both, then-assoc, when-passed, when-refused, demand-holds}
+use Rattle.floor.specs.declared.Floor.{Floor}
+use Rattle.floor.specs.Checks.{checkOf, limitsOf, roomOf, within}
+use Rattle.floor.proofs.LimitsLaws.{check-tells, room-passed}
+use Rattle.sheet.specs.Text.{sheetOf, sheetLength}
+use Rattle.sheet.specs.Values.{floorAt, wallsAt}
+use Rattle.sheet.specs.Read.{sheetVerdict, readVerdict, readWalls, writeVerdict, writeSheet}
+use Rattle.sheet.specs.Refused.{RefusedSheet}
+use Rattle.sheet.proofs.FormLaws.{walls-length}
+use Rattle.sheet.proofs.Theorems.{theorems as sheet-theorems}
+use Rattle.search.specs.Search.{requestOf, searchOf}
+use Rattle.planner.specs.Plan.{respondOf, planOf, planVerdict}
+use Rattle.search.specs.Task.{taskOf}
+use Rattle.planner.proofs.PlanLaws.{best-whole}
+use Rattle.records.proofs.RecordLaws.{plan-length}
+use Rattle.planner.specs.Answers.{planResult}
+use Rattle.records.specs.Records.{recordsOf, stored}
+use Rattle.planner.specs.Records.{planMemory}
+use Rattle.printing.specs.Print.{printOf, textLength, printVerdict, printOutcome, printAnswers, printMemory}
+use Rattle.printing.specs.Print.{routesOf, neededFor, shortOutcome, routesOutcome, routesMemory}
+use Rattle.printing.proofs.Theorems.{theorems as printing-theorems}
+use Rattle.lengths.specs.Figures.{figuresFor, lengthsOf}
+use Rattle.lengths.proofs.Theorems.{theorems as lengths-theorems}
+use Rattle.reference.specs.State.{State, fresh}
+use Rattle.reference.specs.Table.{Call, verdict}
+use Rattle.reference.specs.Refused.{RefusedWith as RefusedCall}
+use Rattle.reference.specs.Calls.{reply, afterCall}
+use Rattle.reference.proofs.Theorems.{theorems as reference-theorems}
+use Rattle.layout.specs.Encode.{encode}
+use Rattle.layout.specs.Places.{stateSize}
+use Rattle.layout.specs.Valid.{valid}
+use Rattle.layout.specs.Calls.{machineOf, placeVerdict, stateVerdict, stateIn, withState, freshMemory, replyTo, memoryAfter}
+use Rattle.layout.proofs.Theorems.{theorems as layout-theorems}
+use Rattle.machine.specs.Ceiling.{mostSteps}
+use Rattle.demand.specs.Rows.{Table, Row, row, Short, _orElse_, earlier, later, Refuses, Answers, Keeps}
+use Rattle.demand.specs.Demand1.{HoldsState, ReadRows, WriteRows, PlanRows, PrintRows, SearchRows, FreshRows, StateRows, CallRows}
+use Rattle.demand.specs.Demand1.{RoutesRows, Demand1}
+use Rattle.demand.proofs.RowLaws.{then-rows, answers-rows, gives-rows, demand-row, short-row, keeps-when, value-no-refusal, no-row-passes, passes-exactly, refusal-row}
+use Rattle.demand.proofs.EntryLaws.{front-beyond, put-beyond, floor-rows, lent-rows, outside-row, limit-rows}
+use Rattle.demand.proofs.RefusalLaws.{reply-rows, state-kept}
+
+module _ (text : List ℕ) where
+  read : (room : ℕ) → Refuses (readVerdict text room) (ReadRows text room)
+  unfolding readVerdict lengthsOf
+  read room = then-rows (sheetVerdict text) _ (sheet-theorems .refuses-exactly text) (λ e. short-row _ room)
+
+  read-keeps : (old : List ℕ) → Keeps (ReadRows text (length old)) (lengthsOf (floorAt text) .walls) old (readWalls text old)
+  unfolding readWalls lengthsOf
+  read-keeps old =
+      keeps-when _ (readVerdict text (length old)) (read (length old))
+      (λ e. rw (← walls-length text) (front-beyond old (wallsAt text) (length (wallsAt text)) (omega arith)))
+
+module _ (f : Floor) (ws : List ℕ) where
+  write : (room : ℕ) → Refuses (writeVerdict f ws room) (WriteRows f ws room)
+  unfolding writeVerdict lengthsOf
+  write room = lent-rows f ws (sheetLength f) room
+
+  write-keeps : (old : List ℕ) → Keeps (WriteRows f ws (length old)) (lengthsOf f .sheet) old (writeSheet f ws old)
+  unfolding writeSheet lengthsOf
+  write-keeps old =
+      keeps-when _ (writeVerdict f ws (length old)) (write (length old))
+      (λ e. rw (← sheet-theorems .sheet-length f ws) (front-beyond old (sheetOf f ws) (length (sheetOf f ws)) (omega arith)))
+
+  plan-rows : (room : ℕ) → Refuses (planVerdict f ws room) (PlanRows f ws room)
+  unfolding planVerdict lengthsOf
+  plan-rows room = lent-rows f ws (65 * f .carriers) room
+
+  search : (i : ℕ) (views : List ℕ) → Answers (searchOf f ws i views) (SearchRows f ws i (length views))
+  unfolding searchOf requestOf planVerdict
+  search i views =
+      rw (← then-assoc (checkOf f ws) (roomOf (65 * f .carriers) (length views)) (demand (within 1 (f .carriers) i) 7 0))
+      (gives-rows _ _ (then-rows (planVerdict f ws (length views)) _ (plan-rows (length views)) (λ e. outside-row 1 (f .carriers) i 7 0)))
+
+  plan : (room : ℕ) → Answers (planResult f ws room) (PlanRows f ws room)
+  unfolding planResult
+  plan room = gives-rows (planVerdict f ws room) _ (plan-rows room)
+
+  -- The answers of an accepted floor have the needed length.
+  answers-long : (room : ℕ) → planVerdict f ws room ≡ passed → length (recordsOf (planOf f ws)) ≤ 65 * f .carriers
+  unfolding planVerdict planOf respondOf taskOf
+  answers-long room e =
+      let h = check-tells f ws (then-both _ _ e .0) .bounds .horizon .1 in
+      omega (arith, plan-length (respondOf f ws) (λ k vs. best-whole (taskOf f ws (k + 1)) vs h) (f .carriers))
+
+  plan-keeps : (old : List ℕ) → Keeps (PlanRows f ws (length old)) (lengthsOf f .answers) old (planMemory f ws old)
+  unfolding planMemory lengthsOf stored
+  plan-keeps old =
+      keeps-when _ (planVerdict f ws (length old)) (plan-rows (length old))
+      (λ e. put-beyond old (recordsOf (planOf f ws)) (65 * f .carriers) (answers-long (length old) e))
+
+  print-rows : (room bytes : ℕ) → Refuses (printVerdict f ws room bytes) (PrintRows f ws room bytes)
+  unfolding printVerdict lengthsOf
+  print-rows room bytes = then-rows (planVerdict f ws room) _ (plan-rows room) (λ e. short-row (textLength f) bytes)
+
+  print : (room bytes : ℕ) → Answers (printOutcome f ws room bytes) (PrintRows f ws room bytes)
+  unfolding printOutcome
+  print room bytes = gives-rows (printVerdict f ws room bytes) _ (print-rows room bytes)
+
+  print-keeps-answers : (bytes : ℕ) (old : List ℕ)
+      → Keeps (PrintRows f ws (length old) bytes) (lengthsOf f .answers) old (printAnswers f ws bytes old)
+  unfolding printAnswers lengthsOf stored printVerdict
+  print-keeps-answers bytes old =
+      keeps-when _ (printVerdict f ws (length old) bytes) (print-rows (length old) bytes)
+      (λ e. put-beyond old (recordsOf (planOf f ws)) (65 * f .carriers) (answers-long (length old) (then-both _ _ e .0)))
+
+  print-keeps-text : (room : ℕ) (old : List ℕ)
+      → Keeps (PrintRows f ws room (length old)) (lengthsOf f .text) old (printMemory f ws room old)
+  unfolding printMemory lengthsOf printVerdict planVerdict
+  print-keeps-text room old =
+      keeps-when _ (printVerdict f ws room (length old)) (print-rows room (length old))
+      (λ e. put-beyond old (printOf f ws) (textLength f) (printing-theorems .text-within f ws (then-both _ _ (then-both _ _ e .0) .0)))
+
+  fresh-rows : (room : ℕ) → Refuses (placeVerdict f ws room) (FreshRows f ws room)
+  unfolding placeVerdict lengthsOf
+  fresh-rows room = lent-rows f ws (stateSize (f .carriers)) room
+
+  state-beyond : (s : State) (m : List ℕ) → drop (stateSize (f .carriers)) (withState f m s) ≡ drop (stateSize (f .carriers)) m
+  state-beyond s m = put-beyond m (encode (f .carriers) s) (stateSize (f .carriers)) (omega (arith, layout-theorems .encode-length (f .carriers) s))
+
+  fresh-keeps : (old : List ℕ) → Keeps (FreshRows f ws (length old)) (lengthsOf f .state) old (freshMemory f ws old)
+  unfolding freshMemory lengthsOf
+  fresh-keeps old = keeps-when _ (placeVerdict f ws (length old)) (fresh-rows (length old)) (λ e. state-beyond fresh old)
+
+  module _ (m : List ℕ) where
+    -- A memory in a place for a state is refused with 10 exactly if its front is no state within the ranges.
+    state-rows : Refuses (stateVerdict f ws m) (StateRows f ws m)
+    unfolding stateVerdict placeVerdict lengthsOf
+    state-rows =
+        then-rows (placeVerdict f ws (length m)) _ (fresh-rows (length m)) (λ e.
+        let a = then-both (checkOf f ws) _ e in
+        let b = check-tells f ws (a .0) .bounds in
+        let v = layout-theorems .valid-exactly f m (b .depth .1) (b .horizon .1) (room-passed _ _ (a .1)) in
+        demand-row (valid f m) 10 0 (
+          λ z h. false-fails z (v .1 h),
+          λ n. not-true-is-false (valid f m) (λ t. n (v .0 t)),
+        ))
+
+    call : (c : Call) → Answers (replyTo f ws m c) (CallRows f ws m c)
+    unfolding replyTo
+    call c = answers-rows (stateVerdict f ws m) _ state-rows (λ e. reply-rows (machineOf f ws) (stateIn f m) c)
+
+    -- A memory that is a state and is given its own state again is as it was.
+    same-state : stateVerdict f ws m ≡ passed → withState f m (stateIn f m) ≡ m
+    unfolding stateVerdict placeVerdict put
+    same-state e =
+        let a = then-both (placeVerdict f ws (length m)) (demand (valid f m) 10 0) e in
+        let b = then-both (checkOf f ws) _ (a .0) in
+        let t = check-tells f ws (b .0) .bounds in
+        let d = layout-theorems .decode-valid f m (t .depth .1) (t .horizon .1) (room-passed _ _ (b .1)) (demand-holds _ 10 0 (a .1)) .1 in
+        rw (layout-theorems .encode-length (f .carriers) (stateIn f m), zero-add, d) (take-append-drop (stateSize (f .carriers)) m)
+
+    module _ (c : Call) where
+      call-as-found : (k p : ℕ) → CallRows f ws m c k p → memoryAfter f ws m c ≡ m
+      unfolding memoryAfter
+      call-as-found k p (earlier r) = when-refused _ (state-rows k p .1 r)
+      call-as-found k p (later n r) =
+          let e = no-row-passes (stateVerdict f ws m) state-rows n in
+          when-passed m e
+          ∙ ap (withState f m) (state-kept (machineOf f ws) (stateIn f m) c k p
+          (reference-theorems .calls .refuses-exactly (machineOf f ws) (stateIn f m) c k p .1 r))
+          ∙ same-state e
+
+      call-beyond : (v : Verdict) → drop (stateSize (f .carriers)) (whenPassed v (withState f m (afterCall (machineOf f ws) (stateIn f m) c)) m)
+          ≡ drop (stateSize (f .carriers)) m
+      unfolding whenPassed
+      call-beyond passed = state-beyond (afterCall (machineOf f ws) (stateIn f m) c) m
+      call-beyond (refused k p) = refl
+
+      call-keeps : Keeps (CallRows f ws m c) (lengthsOf f .state) m (memoryAfter f ws m c)
+      unfolding memoryAfter lengthsOf
+      call-keeps = record { as-found = call-as-found; beyond = call-beyond (stateVerdict f ws m) }
+
+module _ (text : List ℕ) where
+  -- With too little text memory the answer is the sheet's refusal, or 9.
+  short-rows : Answers (shortOutcome text) (RefusedSheet text orElse Row 9 0 (Unit {0}))
+  unfolding shortOutcome
+  short-rows = answers-rows (sheetVerdict text) (refusal 9 0) (sheet-theorems .refuses-exactly text) (λ e. refusal-row 9 0)
+
+  routes : (bytes : ℕ) → Answers (routesOutcome text bytes) (RoutesRows text bytes)
+  unfolding routesOutcome
+  routes bytes k p = go (lt-or-le bytes (neededFor text))
+    where
+      go : (bytes < neededFor text) ⊎ (neededFor text ≤ bytes) → (routesOutcome text bytes ≡ refusal k p) ↔ RoutesRows text bytes k p
+      go (inl l) = rw (lt-leb _ _ l) (λ h. (l, short-rows k p .0 h), λ r. short-rows k p .1 (r .1))
+      go (inr l) = rw (le-leb _ _ l) (λ h. absurd (value-no-refusal h), λ r. absurd (omega (arith, r .0)))
+
+  routes-keeps : (old : List ℕ) → Keeps (RoutesRows text (length old)) (neededFor text) old (routesMemory text old)
+  unfolding routesMemory
+  routes-keeps old = go (lt-or-le (length old) (neededFor text))
+    where
+      go : (length old < neededFor text) ⊎ (neededFor text ≤ length old) → Keeps (RoutesRows text (length old)) (neededFor text) old (routesMemory text old)
+      go (inl l) = rw (lt-leb _ _ l) (record { as-found = λ k p r. refl; beyond = refl })
+      go (inr l) =
+          rw (le-leb _ _ l)
+          (record {
+            as-found = λ k p r. absurd (omega (arith, r .0));
+            beyond = put-beyond old (routesOf text) (neededFor text) (printing-theorems .routes-within text .0);
+          })
+
+pub theorem : Demand1
+unfolding figuresFor lengthsOf mostSteps
+theorem =
+    record {
+      check = floor-rows;
+      accepted = λ f ws. passes-exactly (checkOf f ws) (floor-rows f ws);
+      sheet = sheet-theorems .refuses-exactly;
+      sheet-accepted = λ text. passes-exactly (sheetVerdict text) (sheet-theorems .refuses-exactly text);
+      read = read;
+      read-keeps = read-keeps;
+      write = write;
+      write-keeps = write-keeps;
+      search = search;
+      plan = plan;
+      plan-keeps = plan-keeps;
+      print = print;
+      print-keeps-answers = print-keeps-answers;
+      print-keeps-text = print-keeps-text;
+      routes = routes;
+      routes-keeps = routes-keeps;
+      lengths = λ f. gives-rows (limitsOf f) _ (limit-rows f);
+      lengths-told = lengths-theorems .accepted-known;
+      lengths-small = λ f ws ok. (
+        lengths-theorems .walls-within f ws ok,
+        lengths-theorems .sheet-within f ws ok,
+        lengths-theorems .answers-within f ws ok,
+        lengths-theorems .text-within f ws ok,
+        lengths-theorems .state-within f ws ok,
+      );
+      fresh = fresh-rows;
+      fresh-keeps = fresh-keeps;
+      call = call;
+      call-keeps = call-keeps;
+      ceiling = λ n. gives-rows _ _ (outside-row 1 8 n 2 5);
+    }

@@ -1,0 +1,91 @@
+-- The plan of a floor is the one list of answers that prioritized planning allows, and its memory shows it.
+use Prim.Native.Nat.{ℕ, zero, suc, _+_, _*_, _≤_, _<_}
+use native.Mathlib.Omega.{arith}
+use native.Mathlib.Nat.{zero-add}
+use mathlib.Core.List.{List, _++_, _∷_, [], map}
+use mathlib.Core.Logic.{_↔_}
+use mathlib.Core.Path.{_≡_, refl, sym, _∙_, ap, ap₂}
+use lib.ListN.{length, take, drop}
+use lib.Seq.{take-all, take-suc}
+use borrow.Author.Tests.{le-leb}
+use Rattle.laws.specs.Memory.{put}
+use Rattle.laws.specs.Verdict.{passed}
+use Rattle.laws.proofs.VerdictLaws.{then-passed, demand-passes, when-passed}
+use Rattle.floor.specs.declared.Floor.{Floor}
+use Rattle.floor.specs.Checks.{checkOf, roomOf}
+use Rattle.floor.proofs.LimitsLaws.{check-tells}
+use Rattle.route.specs.Route.{Answer, none, View, heard}
+use Rattle.records.specs.Records.{records}
+use Rattle.route.specs.Best.{Admissible, Best}
+use Rattle.route.specs.Search.{best}
+use Rattle.route.proofs.Theorems.{theorems as route-theorems}
+use Rattle.search.specs.Task.{taskOf}
+use Rattle.planner.specs.Plan.{respondOf, planOf, planVerdict}
+use Rattle.records.specs.Records.{recordsOf, stored}
+use Rattle.planner.specs.Records.{planMemory}
+use Rattle.planner.specs.Claims.{answerAt}
+use Rattle.planner.proofs.PlanLaws.{best-whole}
+use Rattle.records.proofs.RecordLaws.{views-are}
+use Rattle.planner.proofs.Theorems.{theorems as planner-theorems}
+use Rattle.demand.specs.Demand2.{Prioritized}
+
+module _ (f : Floor) (ws : List ℕ) (ok : checkOf f ws ≡ passed) where
+  short : (i : ℕ) → taskOf f ws i .horizon ≤ 63
+  unfolding taskOf
+  short i = check-tells f ws ok .bounds .horizon .1
+
+  pub respond-best : (i : ℕ) (vs : List View) → Best (taskOf f ws (i + 1)) vs (respondOf f ws i vs)
+  unfolding respondOf
+  respond-best i vs = route-theorems .best-meets (taskOf f ws (i + 1)) vs (short (i + 1))
+
+  plan-prioritized : Prioritized f ws (planOf f ws)
+  plan-prioritized = record { every = planner-theorems .answers-all f ws; best = λ k l. planner-theorems .each-best f ws k ok l }
+
+  -- The first k answers are the plan's, one after the other.
+  first-same : (xs : List Answer) → Prioritized f ws xs → (k : ℕ) → k ≤ f .carriers → take k xs ≡ take k (planOf f ws)
+  unfolding answerAt
+  first-same xs h zero l = refl
+  first-same xs h (suc k) l =
+      let front = first-same xs h k (omega arith) in
+      let here : Best (taskOf f ws (k + 1)) (map heard (take k (planOf f ws))) (answerAt xs k) = rw front at (h .best k (omega arith)) in
+      let same = route-theorems .best-unique (taskOf f ws (k + 1)) (map heard (take k (planOf f ws))) _ _ here
+      (planner-theorems .each-best f ws k ok (omega arith))
+      in
+      take-suc xs k none (omega (arith, h .every))
+      ∙ ap₂ (λ (front : List Answer) (x : Answer). front ++ (x ∷ [])) front same
+      ∙ sym (take-suc (planOf f ws) k none (omega (arith, planner-theorems .answers-all f ws)))
+
+  pub plan-exactly : (xs : List Answer) → Prioritized f ws xs ↔ (xs ≡ planOf f ws)
+  plan-exactly xs = (
+    λ h.
+        let n = f .carriers in
+        sym (take-all n xs (omega (arith, h .every)))
+        ∙ first-same xs h n (omega arith)
+        ∙ take-all n (planOf f ws) (omega (arith, planner-theorems .answers-all f ws)),
+    λ e. rw e plan-prioritized,
+  )
+
+  -- The best answer is none exactly if no route is admissible.
+  pub none-exactly : (k : ℕ) → k < f .carriers →
+      (answerAt (planOf f ws) k ≡ none) ↔ ((q : List ℕ) → Admissible (taskOf f ws (k + 1)) (map heard (take k (planOf f ws))) q → ⊥)
+  unfolding Best
+  none-exactly k l =
+      let b = planner-theorems .each-best f ws k ok l in (
+        λ e.
+            let n : Best (taskOf f ws (k + 1)) (map heard (take k (planOf f ws))) none = rw e at b in
+            n,
+        λ h. route-theorems .best-unique (taskOf f ws (k + 1)) (map heard (take k (planOf f ws))) _ none b h,
+      )
+
+  -- With memory for its answers a plan is made.
+  pub granted : (room : ℕ) → 65 * f .carriers ≤ room → planVerdict f ws room ≡ passed
+  unfolding planVerdict roomOf
+  granted room l = then-passed ok ∙ demand-passes 9 0 (le-leb _ _ l)
+
+  -- The memory of the plan shows its answers.
+  pub stored-heard : (old : List ℕ) → 65 * f .carriers ≤ length old → records (planMemory f ws old) (f .carriers) ≡ map heard (planOf f ws)
+  unfolding planMemory planVerdict stored put planOf respondOf taskOf
+  stored-heard old l =
+      let h = check-tells f ws ok .bounds .horizon .1 in
+      views-are (respondOf f ws) (λ k vs. best-whole (taskOf f ws (k + 1)) vs h) (f .carriers) _ _
+      (when-passed old (granted (length old) l))

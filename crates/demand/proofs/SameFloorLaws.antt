@@ -1,0 +1,172 @@
+-- Records that are the same floor get the same answers from every entry.
+use Prim.Native.Nat.{ℕ, _+_, _*_, _-_, _≤_, _<_}
+use native.Mathlib.Omega.{arith}
+use mathlib.Core.Bool.{Bool}
+use mathlib.Core.List.{List, _++_}
+use mathlib.Core.Path.{_≡_, refl, sym, _∙_, ap, ap₂}
+use lib.ListN.{length, getD}
+use Rattle.laws.specs.Verdict.{Verdict, passed, _gives_}
+use Rattle.laws.proofs.VerdictLaws.{gives-same}
+use Rattle.floor.specs.declared.Floor.{Floor}
+use Rattle.floor.specs.Checks.{checkOf, limitsOf, roomOf, startOf, goalOf}
+use Rattle.floor.specs.Accepted.{Lent, SameFloor}
+use Rattle.floor.proofs.SameLaws.{check-same}
+use Rattle.sheet.specs.Text.{headLine, carrierLine, carrierLines, wallLine, wallLines, sheetOf, sheetLength, wallAt, linesOf}
+use Rattle.sheet.specs.Read.{writeVerdict, writeSheet}
+use Rattle.sheet.proofs.LinesText.{lines-same}
+use Rattle.route.specs.Route.{View, Task}
+use Rattle.route.specs.Search.{best}
+use Rattle.search.specs.Task.{taskOf}
+use Rattle.search.specs.Search.{requestOf, searchOf}
+use Rattle.search.proofs.RequestLaws.{request-granted}
+use Rattle.records.specs.Records.{viewsOf}
+use Rattle.planner.specs.Plan.{respondOf, planOf, planVerdict}
+use Rattle.planner.specs.Answers.{planResult}
+use Rattle.planner.specs.Records.{planMemory}
+use Rattle.planner.proofs.DependsLaws.{same-agrees, task-same}
+use Rattle.printing.specs.Print.{printOf, textLength, printVerdict, printOutcome, printAnswers, printMemory}
+use Rattle.printing.proofs.Theorems.{plans-same, print-same}
+use Rattle.lengths.specs.Figures.{figuresFor, lengthsOf}
+use Rattle.reference.specs.State.{Machine, State}
+use Rattle.reference.specs.Table.{Call}
+use Rattle.reference.specs.Calls.{reply, afterCall}
+use Rattle.reference.proofs.RespondLaws.{reply-same, after-call-same}
+use Rattle.layout.specs.Places.{stateSize}
+use Rattle.layout.specs.Valid.{recordValid, carrierValid, placeValid, channelValid, pairValid, valid}
+use Rattle.layout.specs.Calls.{machineOf, placeVerdict, stateVerdict, stateIn, withState, freshMemory, replyTo, memoryAfter}
+use Rattle.demand.specs.Demand2.{SameAnswers}
+
+module _ (f : Floor) (ws : List ℕ) (g : Floor) (vs : List ℕ) (same : SameFloor f ws g vs) where
+  pub length-same : sheetLength f ≡ sheetLength g
+  unfolding sheetLength wallAt
+  length-same = rw (same .carriers, same .walls)
+
+  pub sheet-same : sheetOf f ws ≡ sheetOf g vs
+  unfolding sheetOf headLine carrierLine
+  sheet-same = ap₂ (λ (a b : List ℕ). a ++ b) head (ap₂ (λ (a b : List ℕ). a ++ b) carriers walls)
+    where
+      head : headLine f ≡ headLine g
+      head = rw (same .width, same .height, same .horizon, same .depth, same .carriers, same .walls)
+
+      carriers : carrierLines f ≡ carrierLines g
+      carriers =
+          lines-same (carrierLine f) (carrierLine g) (f .carriers) (λ i l. rw (same .starts i l, same .goals i l, same .width))
+          ∙ ap (λ (n : ℕ). linesOf (carrierLine g) n) (same .carriers)
+
+      walls : wallLines f ws ≡ wallLines g vs
+      walls =
+          lines-same (λ j. wallLine (f .width) (getD ws j 0)) (λ j. wallLine (g .width) (getD vs j 0)) (f .walls)
+          (λ j l. rw (same .width, same .cells j l))
+          ∙ ap (λ (n : ℕ). linesOf (λ j. wallLine (g .width) (getD vs j 0)) n) (same .walls)
+
+  -- The task of a carrier that is there is the same.
+  tasks-same : (i : ℕ) → i < f .carriers → taskOf f ws (i + 1) ≡ taskOf g vs (i + 1)
+  tasks-same = task-same (f .carriers) f ws g vs (same-agrees f ws g vs same)
+
+  respond-same : (i : ℕ) (views : List View) → i < f .carriers → respondOf f ws i views ≡ respondOf g vs i views
+  unfolding respondOf
+  respond-same i views l = ap (λ (task : Task). best task views) (tasks-same i l)
+
+  module _ (lent : Lent f ws) (lent′ : Lent g vs) where
+    checks : checkOf f ws ≡ checkOf g vs
+    checks = check-same f ws g vs same lent lent′
+
+    lengths : figuresFor f ≡ figuresFor g
+    unfolding figuresFor limitsOf lengthsOf sheetLength wallAt textLength
+    lengths = rw (same .width, same .height, same .horizon, same .depth, same .carriers, same .walls)
+
+    write : (room : ℕ) → writeVerdict f ws room ≡ writeVerdict g vs room
+    unfolding writeVerdict
+    write room = rw (checks, length-same)
+
+    sheet : (old : List ℕ) → writeSheet f ws old ≡ writeSheet g vs old
+    unfolding writeSheet
+    sheet old = rw (write (length old), sheet-same, length-same)
+
+    -- A search that is granted is for a carrier that is there.
+    requests : (i : ℕ) (m : List ℕ) → requestOf f ws i m ≡ requestOf g vs i m
+    unfolding requestOf
+    requests i m = rw (checks, same .carriers)
+
+    granted-task : (i : ℕ) (m : List ℕ) → requestOf f ws i m ≡ passed → taskOf f ws i ≡ taskOf g vs i
+    granted-task i m e =
+        let listed = request-granted f ws i m e .listed in
+        let one : i - 1 + 1 ≡ i = omega (arith, listed .0) in
+        rw one at (tasks-same (i - 1) (omega (arith, listed .0, listed .1)))
+
+    search : (i : ℕ) (m : List ℕ) → searchOf f ws i m ≡ searchOf g vs i m
+    unfolding searchOf
+    search i m =
+        gives-same (requestOf f ws i m) _ _ (λ e. ap (λ (task : Task). best task (viewsOf m i)) (granted-task i m e))
+        ∙ ap (λ (v : Verdict). v gives best (taskOf g vs i) (viewsOf m i)) (requests i m)
+
+    plan-verdict : (room : ℕ) → planVerdict f ws room ≡ planVerdict g vs room
+    unfolding planVerdict
+    plan-verdict room = rw (checks, same .carriers)
+
+    plans : planOf f ws ≡ planOf g vs
+    plans = plans-same f ws g vs same
+
+    plan : (room : ℕ) → planResult f ws room ≡ planResult g vs room
+    unfolding planResult
+    plan room = rw (plan-verdict room, plans)
+
+    answers : (old : List ℕ) → planMemory f ws old ≡ planMemory g vs old
+    unfolding planMemory
+    answers old = rw (plan-verdict (length old), plans)
+
+    texts : printOf f ws ≡ printOf g vs
+    texts = print-same f ws g vs same
+
+    print-verdict : (room bytes : ℕ) → printVerdict f ws room bytes ≡ printVerdict g vs room bytes
+    unfolding printVerdict textLength
+    print-verdict room bytes = rw (plan-verdict room, same .carriers)
+
+    place : (room : ℕ) → placeVerdict f ws room ≡ placeVerdict g vs room
+    unfolding placeVerdict
+    place room = rw (checks, same .carriers)
+
+    states : (m : List ℕ) → stateVerdict f ws m ≡ stateVerdict g vs m
+    unfolding stateVerdict valid carrierValid pairValid channelValid placeValid recordValid
+    states m = rw (place (length m), same .width, same .height, same .horizon, same .depth, same .carriers)
+
+    -- The two machines differ only in the responses of carriers that are not there.
+    replies : (s : State) (c : Call) → reply (machineOf f ws) s c ≡ reply (machineOf g vs) s c
+    unfolding machineOf
+    replies s c =
+        reply-same (f .carriers) (f .depth) (stateSize (f .carriers)) (respondOf f ws) (respondOf g vs) respond-same s c
+        ∙ rw (same .carriers, same .depth) refl
+
+    next-states : (s : State) (c : Call) → afterCall (machineOf f ws) s c ≡ afterCall (machineOf g vs) s c
+    unfolding machineOf
+    next-states s c =
+        after-call-same (f .carriers) (f .depth) (stateSize (f .carriers)) (respondOf f ws) (respondOf g vs) respond-same s c
+        ∙ rw (same .carriers, same .depth) refl
+
+    call : (m : List ℕ) (c : Call) → replyTo f ws m c ≡ replyTo g vs m c
+    unfolding replyTo
+    call m c = rw (states m, replies (stateIn f m) c, same .carriers)
+
+    memory : (m : List ℕ) (c : Call) → memoryAfter f ws m c ≡ memoryAfter g vs m c
+    unfolding memoryAfter
+    memory m c = rw (states m, next-states (stateIn f m) c, same .carriers)
+
+    pub same-answers : SameAnswers f ws g vs
+    unfolding printOutcome printAnswers printMemory freshMemory
+    same-answers =
+        record {
+          check = checks;
+          lengths = lengths;
+          write = write;
+          sheet = sheet;
+          search = search;
+          plan = plan;
+          answers = answers;
+          print = λ room bytes. rw (print-verdict room bytes, texts);
+          printed-answers = λ bytes old. rw (print-verdict (length old) bytes, plans);
+          text = λ room old. rw (print-verdict room (length old), texts);
+          fresh = place;
+          fresh-memory = λ old. rw (place (length old), same .carriers);
+          call = call;
+          memory = memory;
+        }

@@ -1,0 +1,89 @@
+-- Demand 2: each accepted floor gets exactly the routes of prioritized planning; none exactly where no route exists, never taken for not
+-- heard; sheets and floors survive the round trip; and the same floor gets the same answers. Carriers count from 0, in tasks from 1.
+use Prim.Native.Nat.{ℕ, suc, _+_, _*_, _≤_, _<_}
+use mathlib.Core.Bool.{true}
+use mathlib.Core.List.{List, map}
+use mathlib.Core.Logic.{_↔_}
+use mathlib.Core.Path.{_≡_}
+use lib.ListN.{length, take}
+use Rattle.laws.specs.Verdict.{passed, refused, value}
+use Rattle.floor.specs.declared.Floor.{Floor}
+use Rattle.floor.specs.Checks.{checkOf}
+use Rattle.floor.specs.Accepted.{Absent, Lent, SameFloor}
+use Rattle.route.specs.Route.{Answer, none, View, heard, Task}
+use Rattle.route.specs.Best.{Arrives, Admissible, Best}
+use Rattle.route.specs.Arrival.{arrivalOf}
+use Rattle.records.specs.Records.{records, viewsOf}
+use Rattle.sheet.specs.Text.{sheetLength}
+use Rattle.sheet.specs.Values.{floorAt, wallsAt}
+use Rattle.sheet.specs.Read.{sheetVerdict, readVerdict, readFloor, readWalls, writeVerdict, writeSheet}
+use Rattle.search.specs.Task.{taskOf}
+use Rattle.search.specs.Search.{searchOf}
+use Rattle.planner.specs.Plan.{respondOf, planOf, failingOf}
+use Rattle.planner.specs.Answers.{planResult}
+use Rattle.planner.specs.Records.{planMemory}
+use Rattle.planner.specs.Claims.{answerAt}
+use Rattle.printing.specs.Text.{routesText, refusalLine}
+use Rattle.printing.specs.Print.{printOutcome, printAnswers, printMemory, routesOf}
+use Rattle.lengths.specs.Figures.{figuresFor}
+use Rattle.reference.specs.Table.{Call}
+use Rattle.layout.specs.Calls.{placeVerdict, freshMemory, replyTo, memoryAfter}
+
+-- Prioritized planning (document 01, 'The sequential planner'): each carrier in turn has the best answer against the answers above it.
+pub record Prioritized (f : Floor) (ws : List ℕ) (xs : List Answer) : Type 0 where
+  pub every : length xs ≡ f .carriers
+  pub best : (k : ℕ) → k < f .carriers → Best (taskOf f ws (k + 1)) (map heard (take k xs)) (answerAt xs k)
+
+-- Two floors get the same answers, and leave the same in lent memory, from every entry.
+pub record SameAnswers (f : Floor) (ws : List ℕ) (g : Floor) (vs : List ℕ) : Type 0 where
+  pub check : checkOf f ws ≡ checkOf g vs
+  pub lengths : figuresFor f ≡ figuresFor g
+  pub write : (room : ℕ) → writeVerdict f ws room ≡ writeVerdict g vs room
+  pub sheet : (old : List ℕ) → writeSheet f ws old ≡ writeSheet g vs old
+  pub search : (i : ℕ) (views : List ℕ) → searchOf f ws i views ≡ searchOf g vs i views
+  pub plan : (room : ℕ) → planResult f ws room ≡ planResult g vs room
+  pub answers : (old : List ℕ) → planMemory f ws old ≡ planMemory g vs old
+  pub print : (room bytes : ℕ) → printOutcome f ws room bytes ≡ printOutcome g vs room bytes
+  pub printed-answers : (bytes : ℕ) (old : List ℕ) → printAnswers f ws bytes old ≡ printAnswers g vs bytes old
+  pub text : (room : ℕ) (old : List ℕ) → printMemory f ws room old ≡ printMemory g vs room old
+  pub fresh : (room : ℕ) → placeVerdict f ws room ≡ placeVerdict g vs room
+  pub fresh-memory : (old : List ℕ) → freshMemory f ws old ≡ freshMemory g vs old
+  pub call : (m : List ℕ) (c : Call) → replyTo f ws m c ≡ replyTo g vs m c
+  pub memory : (m : List ℕ) (c : Call) → memoryAfter f ws m c ≡ memoryAfter g vs m c
+
+pub record Demand2 : Type 0 where
+  -- The plan of an accepted floor is what prioritized planning gives, and nothing else is.
+  pub plan-exactly : (f : Floor) (ws : List ℕ) (xs : List Answer) → checkOf f ws ≡ passed → Prioritized f ws xs ↔ (xs ≡ planOf f ws)
+  -- Every best response is the best answer, and there is one best answer only; a cell is free exactly if it is no wall.
+  pub respond-best : (f : Floor) (ws : List ℕ) (i : ℕ) (vs : List View) → checkOf f ws ≡ passed →
+      Best (taskOf f ws (i + 1)) vs (respondOf f ws i vs)
+  pub best-unique : (task : Task) (vs : List View) (x y : Answer) → Best task vs x → Best task vs y → x ≡ y
+  pub free-exactly : (f : Floor) (ws : List ℕ) (i c : ℕ) → (taskOf f ws i .free c ≡ true) ↔ Absent ws (f .walls) c
+  -- A search answers the best answer against the views that its memory shows.
+  pub search-best : (f : Floor) (ws : List ℕ) (i : ℕ) (m : List ℕ) (x : Answer) → searchOf f ws i m ≡ value x →
+      Best (taskOf f ws i) (viewsOf m i) x
+  -- None is answered exactly if no route is free of conflict with the answers above.
+  pub none-exactly : (f : Floor) (ws : List ℕ) (k : ℕ) → checkOf f ws ≡ passed → k < f .carriers →
+      (answerAt (planOf f ws) k ≡ none) ↔ ((q : List ℕ) → Admissible (taskOf f ws (k + 1)) (map heard (take k (planOf f ws))) q → ⊥)
+  -- The stored plan shows every answer as heard, none as none.
+  pub stored-heard : (f : Floor) (ws old : List ℕ) → checkOf f ws ≡ passed → 65 * f .carriers ≤ length old →
+      records (planMemory f ws old) (f .carriers) ≡ map heard (planOf f ws)
+  -- The failing carrier, counted from 1, is the first with none; 0 exactly if there is none.
+  pub failing : (f : Floor) (ws : List ℕ) (room : ℕ) → checkOf f ws ≡ passed → 65 * f .carriers ≤ room →
+      planResult f ws room ≡ value (failingOf (planOf f ws))
+  pub failing-first : (f : Floor) (ws : List ℕ) (k : ℕ) → failingOf (planOf f ws) ≡ suc k →
+      (k < f .carriers) × (answerAt (planOf f ws) k ≡ none) × ((j : ℕ) → j < k → answerAt (planOf f ws) j ≡ none → ⊥)
+  pub failing-none : (f : Floor) (ws : List ℕ) →
+      (failingOf (planOf f ws) ≡ 0) ↔ ((j : ℕ) → j < f .carriers → answerAt (planOf f ws) j ≡ none → ⊥)
+  -- What is printed for a sheet: the plan of its floor, with arrivals; or the line of its refusal.
+  pub printed : (text : List ℕ) → sheetVerdict text ≡ passed → routesOf text ≡ routesText (floorAt text) (planOf (floorAt text) (wallsAt text))
+  pub printed-refusal : (text : List ℕ) (k p : ℕ) → sheetVerdict text ≡ refused k p → routesOf text ≡ refusalLine k p
+  pub arrival-exactly : (goal H : ℕ) (r : List ℕ) (a : ℕ) → Arrives goal H r a ↔ ((a ≡ arrivalOf goal r H) × (a ≤ H))
+  -- A floor written and read is the same floor; a sheet read and written is the same sheet; memory may be longer than needed.
+  pub floor-returns : (f : Floor) (ws old lent : List ℕ) → checkOf f ws ≡ passed → sheetLength f ≤ length old → f .walls ≤ length lent →
+      SameFloor f ws (readFloor (take (sheetLength f) (writeSheet f ws old)) (length lent))
+      (readWalls (take (sheetLength f) (writeSheet f ws old)) lent)
+  pub sheet-returns : (text lent old : List ℕ) → readVerdict text (length lent) ≡ passed → length text ≤ length old →
+      take (length text) (writeSheet (readFloor text (length lent)) (readWalls text lent) old) ≡ text
+  -- The same floor gets the same answers: record places past the carriers and walls past the count change nothing.
+  pub same-floor : (f : Floor) (ws : List ℕ) (g : Floor) (vs : List ℕ) → SameFloor f ws g vs → Lent f ws → Lent g vs → SameAnswers f ws g vs

@@ -1,0 +1,60 @@
+-- Laws of the needed lengths into lent memory: known, they go there if there is room; refused, nothing does.
+use Prim.Native.Nat.{ℕ}
+use native.Mathlib.Omega.{arith}
+use mathlib.Core.Path.{_≡_, refl, sym, _∙_}
+use mathlib.Core.List.{List}
+use Rattle.laws.specs.Verdict.{Verdict, passed, refused, _then_, Outcome, value, refusal, _gives_, whenPassed}
+use Rattle.laws.specs.Memory.{put}
+use Rattle.laws.proofs.VerdictLaws.{then-passed, then-refused, gives-refused, when-refused}
+use Rattle.floor.specs.declared.Floor.{Floor}
+use Rattle.floor.specs.declared.Refusal.{Refusal}
+use Rattle.floor.specs.Checks.{limitsOf, roomOf}
+use Rattle.lengths.specs.declared.Lengths.{Lengths}
+use Rattle.lengths.specs.declared.Needed.{Needed}
+use Rattle.lengths.specs.declared.Needed.the-variants.{Known, Refused}
+use Rattle.lengths.specs.Figures.{figuresOf, figuresFor, lengthsOf}
+use Rattle.wire.specs.Word.{wordOf, ofNumber, mapOutcome}
+use Rattle.kalomivund.specs.Answers.{figureList}
+use Rattle.kalomivund.specs.Entries.{neededVerdict}
+
+-- A value that checks give is the one behind them, which they let through; a refusal is theirs.
+given-value : {A : Type 0} (v : Verdict) (a b : A) → _≡_ {A = Outcome A} (value b) (v gives a) → (v ≡ passed) × (a ≡ b)
+unfolding _gives_
+given-value passed a b e = (refl, (cc))
+given-value (refused k p) a b e = absurd (let z : _≡_ {A = ℕ} 0 1 = cc in omega arith)
+
+pub given-refusal : {A : Type 0} (v : Verdict) (a : A) (k p : ℕ) → _≡_ {A = Outcome A} (refusal k p) (v gives a) → v ≡ refused k p
+unfolding _gives_
+given-refusal passed a k p e = absurd (let z : _≡_ {A = ℕ} 0 1 = cc in omega arith)
+given-refusal (refused i q) a k p e = (cc)
+
+module _ {x : Needed} (f : Floor) (h : figuresOf x ≡ figuresFor f) (room : ℕ) where
+  known-lengths : {l : Lengths} → x ≡ Known l → (limitsOf f ≡ passed) × (lengthsOf f ≡ l)
+  unfolding figuresOf figuresFor
+  known-lengths {l} e = given-value (limitsOf f) (lengthsOf f) l (rw e at h)
+
+  known-verdict : {l : Lengths} → x ≡ Known l → neededVerdict f room ≡ roomOf 8 room
+  unfolding neededVerdict
+  known-verdict e = then-passed (known-lengths e .0)
+
+  refused-verdict : {r : Refusal} → x ≡ Refused r → neededVerdict f room ≡ refused (r .number) (r .place)
+  unfolding neededVerdict figuresOf figuresFor
+  refused-verdict {r} e = then-refused _ (given-refusal (limitsOf f) (lengthsOf f) (r .number) (r .place) (rw e at h))
+
+  -- Known: the word and the memory are those of the room for them.
+  pub known-says : {w : ℕ} {l : Lengths} → x ≡ Known l → w ≡ wordOf (ofNumber (roomOf 8 room gives 0))
+      → w ≡ wordOf (ofNumber (neededVerdict f room gives 0))
+  known-says e s = rw (known-verdict e) s
+
+  pub known-stores : {m : List ℕ} {l : Lengths} (old : List ℕ) → x ≡ Known l → m ≡ whenPassed (roomOf 8 room) (put old 0 (figureList l)) old
+      → m ≡ whenPassed (neededVerdict f room) (put old 0 (figureList (lengthsOf f))) old
+  known-stores old e s = rw (known-verdict e, known-lengths e .1) s
+
+  -- Refused: the refusal as met, and the memory as it was.
+  pub refused-says : {w : ℕ} {r : Refusal} → x ≡ Refused r → w ≡ wordOf (refusal (r .number) (r .place))
+      → w ≡ wordOf (ofNumber (neededVerdict f room gives 0))
+  unfolding ofNumber mapOutcome
+  refused-says e s = rw (gives-refused {A = ℕ} 0 (refused-verdict e)) s
+
+  pub refused-stores : {r : Refusal} (new old : List ℕ) → x ≡ Refused r → old ≡ whenPassed (neededVerdict f room) new old
+  refused-stores new old e = sym (when-refused new (refused-verdict e))

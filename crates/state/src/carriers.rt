@@ -1,0 +1,66 @@
+// A carrier's part of the state: planned, due, its answer.
+ghost use mathlib.Core.Path.{_≡_};
+ghost use mathlib.Core.List.{[], _∷_};
+ghost use Prim.Native.Nat.{_+_, _*_, _≤_, _<_};
+ghost use lib.ListN.{length};
+ghost use Rattle.laws.specs.Memory.{put, part};
+ghost use Rattle.reference.specs.Step.{sameCells};
+ghost use Rattle.layout.specs.Places.{plannedPlace, duePlace};
+ghost use Rattle.layout.specs.InnerSteps.{newsIn};
+use crate::places::answer_place;
+use crate::places::due_place;
+use crate::places::planned_place;
+use route::Route;
+
+// Whether 64 cells stand at a place.
+fn same_cells(m: &[u16], at: usize, cells: Route) -> bool
+    requires { ⌜ at + 64 ≤ length (now m) ⌝ }
+    ensures { λ r. ⌜ r ≡ sameCells (part (now (m .entry)) at 64) cells ⌝ }
+{
+    let mut t: usize = 0;
+    while t < records::CELLS {
+        if m[at + t] != cells[t] {
+            return false;
+        }
+        t += 1;
+    }
+    true
+}
+
+// Whether an answer is news from carrier i: it had not planned before, or its answer changed.
+pub fn is_news(m: &[u16], i: usize, tag: u16, cells: Route) -> bool
+    requires { ⌜ (i < 8) × (69 + 67 * i ≤ length (now m)) ⌝ }
+    ensures { λ r. ⌜ r ≡ newsIn (now (m .entry)) i (tag ∷ cells) ⌝ }
+{
+    let p = planned_place(i);
+    if m[p] != 1 {
+        return true;
+    }
+    let a = answer_place(i);
+    if m[a] != tag {
+        return true;
+    }
+    !same_cells(m, a + 1, cells)
+}
+
+// Carrier i has planned this answer and is no longer due.
+pub fn set_planned(m: &mut [u16], i: usize, tag: u16, cells: Route)
+    requires { ⌜ (i < 8) × (69 + 67 * i ≤ length (now m)) ⌝ }
+    ensures { λ r. ⌜ now (m .exit) ≡ put (now (m .entry)) (plannedPlace i) (1 ∷ (0 ∷ (tag ∷ cells))) ⌝ }
+{
+    let p = planned_place(i);
+    let d = due_place(i);
+    let a = answer_place(i);
+    m[p] = 1;
+    m[d] = 0;
+    records::store(m, a, tag, cells);
+}
+
+// Carrier i becomes due.
+pub fn set_due(m: &mut [u16], i: usize)
+    requires { ⌜ (i < 8) × (69 + 67 * i ≤ length (now m)) ⌝ }
+    ensures { λ r. ⌜ now (m .exit) ≡ put (now (m .entry)) (duePlace i) (1 ∷ []) ⌝ }
+{
+    let d = due_place(i);
+    m[d] = 1;
+}
