@@ -1,19 +1,18 @@
 -- Each order takes what its rule says. The open places before place p number as many as those before it in the list of open places; so
 -- the first of the list has none before it, and the one behind those before c is the first from c on.
-use Prim.Native.Nat.{ℕ, zero, suc, _%_, _≤_, _<_}
+use Prim.Native.Nat.{ℕ, _%_, _≤_, _<_}
 use native.Mathlib.Omega.{arith}
 use native.Mathlib.Nat.{eq-or-lt-of-le, mod-lt, mod-eq-of-lt, mod-self}
 use mathlib.Core.Bool.{Bool, true, false}
-use mathlib.Core.List.{List}
 use mathlib.Core.Logic.{⊎-elim}
-use mathlib.Core.Path.{_≡_, refl, sym, _∙_}
+use mathlib.Core.Path.{_≡_, refl}
 use lib.ListN.{length, getD}
 use Rattle.laws.specs.Verdict.{passes}
 use Rattle.laws.proofs.Tests.{and-fst, lt-or-le, true-false-absurd, true-or-false}
 use Rattle.reference.specs.State.{Machine, State}
 use Rattle.reference.specs.Step.{Step, isThere, waitsFor, isOpen}
 use Rattle.reference.specs.Ranking.{isSilent}
-use Rattle.reference.proofs.RankingLaws.{silent-shut, shut-silent, some-open}
+use Rattle.reference.proofs.RankingLaws.{silent-shut, some-open}
 use Rattle.orders.specs.Generator.{drawnBy}
 use Rattle.orders.specs.Orders.{Order, first, round, drawn, places, stepAt, openAt, passing, openPlaces, turn, chosen, remembered}
 use Rattle.orders.specs.Rules.{FirstRound, onward, around, Rule}

@@ -8,7 +8,7 @@ use lib.ListN.{length}
 use Rattle.laws.specs.Verdict.{value}
 use Rattle.route.specs.Sequential.{sequential}
 use Rattle.reference.specs.Ranges.{below}
-use Rattle.reference.specs.State.{Machine, State, fresh}
+use Rattle.reference.specs.State.{Machine, fresh}
 use Rattle.reference.specs.Step.{Step, isThere}
 use Rattle.reference.specs.Ranking.{isSilent}
 use Rattle.reference.specs.History.{afterSteps}
@@ -16,7 +16,7 @@ use Rattle.reference.specs.Table.{Call, single, step}
 use Rattle.reference.specs.Calls.{Reply, stepped, replies, after}
 use Rattle.reference.specs.Quiet.{ceiling}
 use Rattle.orders.specs.Generator.{nextNumber, drawnBy}
-use Rattle.orders.specs.Orders.{Order, round, places, stepAt, startOf}
+use Rattle.orders.specs.Orders.{Order, round, places, stepAt, startMemory}
 use Rattle.orders.specs.Trial.{Entry, trial, stepsIn}
 use Rattle.orders.specs.Rules.{ByRule, PassedOver}
 
@@ -36,7 +36,7 @@ pub record Claims : Type 0 where
   pub number-fits : (x : ℕ) → nextNumber x < 4294967296
   pub drawn-fits : (x : ℕ) → drawnBy x < 65536
   -- Every reported step was open when it was taken, and is the one that the order's rule takes.
-  pub by-rule : (o : Order) (M : Machine) (seed : ℕ) → ByRule o M (startOf o seed) fresh (trial o M seed .report)
+  pub by-rule : (o : Order) (M : Machine) (seed : ℕ) → ByRule o M (startMemory o seed) fresh (trial o M seed .report)
   -- The state is the one after the reported steps.
   pub leads : (o : Order) (M : Machine) (seed : ℕ) → trial o M seed .state ≡ afterSteps M fresh (stepsIn (trial o M seed .report))
   -- The trial ends silent, after at most the ceiling's number of steps.

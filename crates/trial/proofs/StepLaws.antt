@@ -5,9 +5,9 @@ use native.Mathlib.Nat.{mul-le-mul, div-le-of-le-mul, eq-or-lt-of-le}
 use native.Mathlib.Numerals.{add-one}
 use mathlib.Core.Bool.{true}
 use mathlib.Core.Logic.{⊎-elim}
-use mathlib.Core.Path.{_≡_, refl, sym, _∙_, ap}
+use mathlib.Core.Path.{_≡_, sym, ap}
 use Rattle.floor.specs.declared.Floor.{Floor}
-use Rattle.reference.specs.Step.{Step, plan, deliver, isThere}
+use Rattle.reference.specs.Step.{plan, deliver, isThere}
 use Rattle.layout.specs.Calls.{machineOf}
 use Rattle.steps.specs.Inner.{bare}
 use Rattle.orders.specs.Orders.{places, stepAt}

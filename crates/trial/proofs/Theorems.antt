@@ -1,15 +1,14 @@
 -- The claims, proved.
 use Prim.Native.Nat.{ℕ, suc, _+_, _*_, _≤_, _<_}
 use native.Mathlib.Omega.{arith}
-use mathlib.Core.Bool.{Bool, true, false, _&&_}
+use mathlib.Core.Bool.{true, false}
 use mathlib.Core.List.{List}
-use mathlib.Core.Logic.{_⊎_, inl, inr, ⊎-elim, _↔_}
+use mathlib.Core.Logic.{_⊎_, inl, inr, ⊎-elim}
 use mathlib.Core.Path.{_≡_, refl, sym, _∙_}
 use lib.Dec.{leb, ltb}
-use lib.ListN.{length}
 use borrow.Author.Tests.{leb-false, le-leb, ltb-true}
 use Rattle.laws.specs.Verdict.{passed, refused, _then_, demand}
-use Rattle.laws.proofs.Tests.{and-fst, and-snd, and-fails, lt-or-le}
+use Rattle.laws.proofs.Tests.{and-fst, and-snd, and-fails}
 use Rattle.laws.proofs.VerdictLaws.{then-passed, then-both, then-cases, demand-cases, demand-passes}
 use Rattle.floor.specs.declared.Floor.{Floor}
 use Rattle.floor.specs.Checks.{checkOf, roomOf, within}
@@ -26,7 +25,7 @@ use Rattle.layout.proofs.FloorLaws.{depth-some}
 use Rattle.layout.proofs.ExactStepLaws.{plan-number, deliver-number}
 use Rattle.machine.proofs.PowerLaws.{power-most}
 use Rattle.orders.proofs.Theorems.{theorems as orders-theorems}
-use Rattle.trial.specs.Report.{numberOf, numbersOf, reportSize}
+use Rattle.trial.specs.Report.{numberOf, reportSize}
 use Rattle.trial.specs.Entry.{orderBy, trialVerdict, trialOf}
 use Rattle.trial.specs.Claims.{Ends, Claims}
 use Rattle.trial.proofs.ReportLaws.{numbers-length}

@@ -2,10 +2,10 @@
 -- silent with the sequential planner's answers is claimed in the crate `orders`, for every machine, and so for that of a floor.
 use Prim.Native.Nat.{ℕ, _*_, _≤_, _<_}
 use mathlib.Core.Bool.{true}
-use mathlib.Core.List.{List, _++_}
+use mathlib.Core.List.{List}
 use mathlib.Core.Logic.{_⊎_, _↔_}
 use mathlib.Core.Path.{_≡_}
-use lib.ListN.{length, take, drop}
+use lib.ListN.{length}
 use Rattle.laws.specs.Verdict.{passed, refused}
 use Rattle.floor.specs.declared.Floor.{Floor}
 use Rattle.floor.specs.Checks.{checkOf}
@@ -17,9 +17,8 @@ use Rattle.reference.specs.Ranking.{isSilent}
 use Rattle.reference.specs.Table.{step}
 use Rattle.reference.specs.Quiet.{ceiling}
 use Rattle.layout.specs.Places.{stateSize}
-use Rattle.layout.specs.Ranges.{WithinRanges}
 use Rattle.layout.specs.Numbers.{askedBy}
-use Rattle.layout.specs.Calls.{machineOf, placeVerdict}
+use Rattle.layout.specs.Calls.{machineOf}
 use Rattle.trial.specs.Report.{numberOf, numbersOf, reportSize}
 use Rattle.trial.specs.Entry.{trialVerdict, trialOf}
 

@@ -1,16 +1,11 @@
 -- Inner matter: nothing claimed rests on this. What the inner functions are proved against.
-use Prim.Native.Nat.{ℕ, _+_, _*_, _%_, _≤_, _<_}
+use Prim.Native.Nat.{ℕ, _*_, _%_}
 use mathlib.Core.Bool.{Bool}
-use mathlib.Core.List.{List, [], _∷_, _++_}
+use mathlib.Core.List.{List, [], _∷_}
 use mathlib.Core.Path.{_≡_}
-use lib.ListN.{length, getD, drop}
-use Rattle.laws.specs.Verdict.{passed}
+use lib.ListN.{length, getD}
 use Rattle.laws.specs.Memory.{put}
 use Rattle.floor.specs.declared.Floor.{Floor}
-use Rattle.floor.specs.Checks.{checkOf}
-use Rattle.reference.specs.State.{fresh}
-use Rattle.layout.specs.Places.{stateSize}
-use Rattle.layout.specs.Encode.{encode}
 use Rattle.layout.specs.Calls.{machineOf}
 use Rattle.layout.specs.InnerSteps.{openIn, afterIn, saidIn}
 use Rattle.steps.specs.Inner.{bare}

@@ -1,5 +1,4 @@
 -- `trial::play::play` meets its contract: the fresh state is written, and the loop plays from there.
-use native.Mathlib.Omega.{arith}
 use denote.Ref.{now}
 use Rattle.steps.specs.Inner.{Workable}
 use Rattle.steps.proofs.PlacedLaws.{placed-sized, placed-grid, workable-same}
