@@ -99,4 +99,7 @@ returns c =
     plan-end _ _ (p .horizon) (c .before .loop .i) _ _ _ (c .before .loop .inv .0) (c .loop-test .left) (c .before .loop .inv .1)
 
 pub plan-all-spec : {M : Type 1} → statement M
-plan-all-spec = ?
+plan-all-spec =
+    tie.close (tie.spec Inv-loop μ-loop (λ c κs. search needs) slice-aggregate-fill-room fill-room-requires (λ c κs. search needs) loop-holds
+    slice-aggregate-plan-one slice-aggregate-plan-one-2 plan-one-requires (λ c. search needs) (λ c. search needs) loop-again same-length
+    returns)

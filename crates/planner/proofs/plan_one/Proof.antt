@@ -31,7 +31,7 @@ take-route-requires c κs =
     let start : tie.Start = search in
     let able = start .pre .1 .0 .0 in (
       (able .width .0, able .width .1, able .height, able .horizon),
-      (omega (arith, start .pre .0, after-store-seen .store-seen .kept .0), start .pre .1 .1 .tidy),
+      (omega (arith, start .pre .0, after-store-seen .store-seen .kept .1 .1 .1 .0), start .pre .1 .1 .tidy),
     )
 
 returns : tie.Need-returns
@@ -61,4 +61,7 @@ returns c =
     )
 
 pub plan-one-spec : {M : Type 1} → statement M
-plan-one-spec = ?
+plan-one-spec =
+    tie.close (tie.spec (λ c. search needs) route-in-requires (λ c. search needs) (λ c κs. search needs)
+    (λ c κs. search needs) store-seen-requires take-route-requires (λ c. search needs) (λ c. search needs)
+    (λ c. search needs) returns)
