@@ -19,10 +19,10 @@
  * THE ANSWER of every function is one word, see KALOMIVUND_REFUSED and those below it:
  *   done     low byte 0, bits 8 to 15 the case, bits 16 and up a number
  *   refused  low byte 1, bits 8 to 15 the refusal, bits 16 and up its place
- * A number or place above 2^32 - 1 is told as 2^32 - 1.
+ * A number or place above 2^48 - 1 is told as 2^48 - 1.
  *
  * REFUSALS, in the order in which they are looked for; the first one met is the answer.
- *   9, 0         the lent floor has fewer than 22 numbers; before anything else
+ *   9, 0         the lent floor has fewer than 22 numbers; before anything else (not for read_sheet, which writes it)
  *   1, offset    form of a sheet's line 1 (see kalomivund_read_sheet)
  *   2, field     line 1, field 1 to 6: outside its limits
  *   1, offset    form of a sheet's other lines
@@ -31,7 +31,7 @@
  *   4, item      a wall is not above the one before
  *   5, carrier   its start or goal is a wall
  *   6, carrier   an earlier carrier has the same start, or the same goal
- *   9, 0         other lent memory is too short
+ *   9, 0         other lent memory is too short (for read_sheet the floor and the walls)
  *   10, 0        the lent state is no state of this floor
  *   7, position  a number that names no step of this floor (position in its list, from 0; a single step has 0); a search's carrier
  *   8, 0         a single step is not open
@@ -50,7 +50,7 @@ extern "C" {
 #define KALOMIVUND_FLOOR 22        /* numbers of a floor record */
 #define KALOMIVUND_ROUTE 64        /* cells of a route */
 #define KALOMIVUND_RECORD 65       /* numbers of an answer or a view */
-#define KALOMIVUND_LENGTHS 5       /* figures of kalomivund_needed_lengths */
+#define KALOMIVUND_LENGTHS 8       /* figures of kalomivund_needed_lengths */
 #define KALOMIVUND_MOST_WALLS 1023 /* cells */
 #define KALOMIVUND_MOST_SHEET 11452 /* bytes */
 #define KALOMIVUND_MOST_ANSWERS 520 /* numbers */
@@ -83,8 +83,8 @@ extern "C" {
  * Takes   text, a sheet's bytes, any bytes and any length.
  * Writes  the first 22 numbers of floor, starts and goals past the carriers being 0; the floor's walls to the front of walls.
  * Done    case 0, number 0.
- * Refused 9 (floor shorter than 22); 1 with a byte offset: a field's first column, a wrong newline, the first extra byte, the text's
- *         length where it ends early; 2 to 6; 9 (walls shorter than the sheet counts), after 6. */
+ * Refused 1 with a byte offset: a field's first column, a wrong newline, the first extra byte, the text's length where it ends early; 2
+ *         to 6; 9 (walls shorter than the sheet counts, floor shorter than 22), after 6. */
 uint64_t kalomivund_read_sheet(const uint8_t *text, size_t text_len, uint16_t *floor, size_t floor_len, uint16_t *walls,
                                size_t walls_len);
 
@@ -101,14 +101,18 @@ uint64_t kalomivund_write_sheet(const uint16_t *floor, size_t floor_len, const u
 uint64_t kalomivund_check_floor(const uint16_t *floor, size_t floor_len, const uint16_t *walls, size_t walls_len);
 
 /* The needed length of each lent buffer of a floor, from its first six numbers alone.
- * Writes  five figures to the front of out, in elements of each buffer:
+ * Writes  eight figures to the front of out, in elements of each buffer:
  *           walls    walls
  *           sheet    31 + 21 x carriers + 11 x walls, bytes
  *           answers  65 x carriers, numbers; also the views lent to a search
  *           text     11 + 331 x carriers, bytes
  *           state    2 + 67 x carriers + 326 x carriers x (carriers - 1) / 2, numbers
+ *           route    64, cells
+ *           floor    22, numbers
+ *           figures  8, numbers of eight bytes: these
+ *         Later figures stand behind these.
  * Done    case 0, number 0.
- * Refused 9 (floor shorter than 22); 2; 9 (out shorter than 5). */
+ * Refused 9 (floor shorter than 22); 2; 9 (out shorter than 8). */
 uint64_t kalomivund_needed_lengths(const uint16_t *floor, size_t floor_len, uint64_t *out, size_t out_len);
 
 /* The best route of a carrier against what it has heard of the carriers above it.

@@ -16,6 +16,8 @@ pub mod raw;
 
 /// The numbers of a floor record.
 pub const RECORD: usize = 22;
+/// The figures of the needed lengths.
+pub const LENGTHS: usize = 8;
 /// The most walls that a floor has.
 pub const MOST_WALLS: usize = 1023;
 /// The most numbers that the answers of a floor take.
@@ -71,11 +73,11 @@ impl Floor {
     }
 }
 
-/// A refusal of document 01's table: its number, and the place that the table says.
+/// A refusal of document 01's table: its number, and the place that the table says, up to 2^48 − 1.
 #[derive(Clone, Copy, PartialEq, Eq, Debug)]
 pub struct Refusal {
     pub number: u8,
-    pub place: u32,
+    pub place: u64,
 }
 
 impl std::fmt::Display for Refusal {
@@ -105,7 +107,7 @@ pub fn answer_of(word: u64) -> Result<(u8, u64), Refusal> {
     if word as u8 == 0 {
         Ok((second, word >> 16))
     } else {
-        Err(Refusal { number: second, place: (word >> 16) as u32 })
+        Err(Refusal { number: second, place: word >> 16 })
     }
 }
 
@@ -122,6 +124,12 @@ pub struct Lengths {
     pub text: usize,
     /// Numbers of a state.
     pub state: usize,
+    /// Cells of a route.
+    pub route: usize,
+    /// Numbers of a floor record.
+    pub floor: usize,
+    /// Figures, these included.
+    pub figures: usize,
 }
 
 /// What a taken step was.
@@ -187,10 +195,10 @@ pub fn check_floor(floor: &Floor, walls: &[u16]) -> Result<(), Refusal> {
 
 /// The needed length of each lent buffer. Refusal 2.
 pub fn needed_lengths(floor: &Floor) -> Result<Lengths, Refusal> {
-    let mut out = [0; 5];
+    let mut out = [0; LENGTHS];
     answer_of(calls::needed_lengths(&floor.record(), &mut out))?;
-    let [walls, sheet, answers, text, state] = out.map(|length| length as usize);
-    Ok(Lengths { walls, sheet, answers, text, state })
+    let [walls, sheet, answers, text, state, route, floor, figures] = out.map(|length| length as usize);
+    Ok(Lengths { walls, sheet, answers, text, state, route, floor, figures })
 }
 
 /// The best route of a carrier (from 1) against the views of the carriers above it; `None` is the paper's none. A view with tag 1, none,

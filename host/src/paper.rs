@@ -634,7 +634,7 @@ pub mod calls {
     }
 
     fn refused(refusal: Refusal) -> u64 {
-        let place = refusal.place.min(u32::MAX as usize) as u64;
+        let place = (refusal.place as u64).min((1 << 48) - 1);
         1 | (refusal.number as u64) << 8 | place << 16
     }
 
@@ -671,9 +671,8 @@ pub mod calls {
 
     pub fn read_sheet(text: &[u8], floor: &mut [u16], walls: &mut [u16]) -> u64 {
         word((|| {
-            whole_record(floor)?;
             let read = floor_of_sheet(text)?;
-            long_enough(walls.len() < read.walls.len())?;
+            long_enough(walls.len() < read.walls.len() || floor.len() < 22)?;
             floor[..22].copy_from_slice(&record_of(&read));
             for (k, &c) in read.walls.iter().enumerate() {
                 walls[k] = c as u16;
@@ -700,11 +699,11 @@ pub mod calls {
             whole_record(floor)?;
             let at = |k: usize| floor[k] as usize;
             limits(&[at(0), at(1), at(2), at(3), at(4), at(5)])?;
-            long_enough(out.len() < 5)?;
+            long_enough(out.len() < 8)?;
             let (n, count) = (at(4), at(5));
             let sheet = 31 + 21 * n + 11 * count;
-            let lengths = [count, sheet, 65 * n, text_length(n), state_length(n)];
-            for k in 0..5 {
+            let lengths = [count, sheet, 65 * n, text_length(n), state_length(n), 64, 22, 8];
+            for k in 0..8 {
                 out[k] = lengths[k] as u64;
             }
             Ok(done(0, 0))

@@ -29,7 +29,7 @@ fn answer(state: &[u16], i: usize) -> &[u16] {
     &state[2 + 67 * (i - 1) + 2..2 + 67 * i]
 }
 
-fn refused<T: std::fmt::Debug>(result: Result<T, Refusal>) -> (u8, u32) {
+fn refused<T: std::fmt::Debug>(result: Result<T, Refusal>) -> (u8, u64) {
     let refusal = result.unwrap_err();
     (refusal.number, refusal.place)
 }
@@ -111,6 +111,29 @@ fn floors_10_and_11_and_refusals() {
     assert_eq!(ceiling(8), Ok(502));
     assert_eq!(refused(ceiling(9)), (2, 5));
     assert_eq!(ceiling(9).unwrap_err().to_string(), "refusal 2: line 1 is outside its limits in field 5");
+}
+
+/// The record that `read_sheet` writes is told too short after the sheet's own refusals; every other call takes it, and tells it first.
+#[test]
+fn a_short_record() {
+    let (mut record, mut walls) = ([7; 21], [7; 1]);
+    let short = |word| refused(answer_of(word));
+    assert_eq!(short(calls::read_sheet(b"", &mut record, &mut walls)), (1, 0));
+    assert_eq!(short(calls::read_sheet(&edited("    4", "   64"), &mut record, &mut walls)), (2, 3));
+    assert_eq!(short(calls::read_sheet(SHEET, &mut record, &mut walls)), (9, 0));
+    assert_eq!((record, walls), ([7; 21], [7; 1]));
+    assert_eq!(short(calls::check_floor(&[0; 21], &walls)), (9, 0));
+}
+
+/// Every lent buffer has its figure; places are told up to 2^48 − 1.
+#[test]
+fn lengths_and_places() {
+    let lengths = needed_lengths(&floor_of(SHEET).unwrap()).unwrap();
+    let all = Lengths { walls: 0, sheet: 73, answers: 130, text: 673, state: 462, route: 64, floor: RECORD, figures: LENGTHS };
+    assert_eq!(lengths, all);
+    let (few, floor) = (&mut [0; LENGTHS - 1], floor_of(SHEET).unwrap().record());
+    assert_eq!(refused(answer_of(calls::needed_lengths(&floor, few))), (9, 0));
+    assert_eq!(refused(answer_of(u64::MAX << 16 | 7 << 8 | 1)), (7, (1 << 48) - 1));
 }
 
 /// The worked example of docs/FIRMWARE.md: board 2 misses the order 'plan 1' and catches up.

@@ -33,11 +33,6 @@ pub fn walls_of(desk: &[u16]) -> &[u16] {
     look::part(desk, 201, look::wide_at(desk, 200))
 }
 
-// Step k of those to choose among, from 0.
-pub fn choice(desk: &[u16], k: usize) -> u16 {
-    look::at(desk, look::plus(101, k))
-}
-
 // The walls that are lent become the cells 0, 1, 2 and so on.
 pub fn rising_walls(desk: &mut [u16], n: usize) {
     look::put(desk, 200, look::narrow(n));

@@ -5,9 +5,9 @@ use crate::answers::SILENT;
 use crate::answers::SPENT;
 use crate::calls;
 use crate::desk;
-use crate::draws;
 use crate::tally;
 use crate::tally::Tally;
+use script::draws;
 use script::fields::field;
 use script::look;
 

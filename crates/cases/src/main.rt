@@ -8,7 +8,6 @@ mod answers;
 mod calls;
 mod desk;
 mod drawn;
-mod draws;
 mod orders;
 mod pairs;
 mod play;

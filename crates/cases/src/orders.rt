@@ -5,9 +5,9 @@ use crate::answers::ENDED;
 use crate::answers::SILENT;
 use crate::answers::SPENT;
 use crate::calls;
-use crate::desk;
 use crate::tally;
 use crate::tally::Tally;
+use script::draws;
 use script::look;
 
 // Where a refusal after k steps leads: silent if no step is open, ended if another one is; spent if the answer is not 8, 0.
@@ -21,7 +21,7 @@ fn follow(desk: &[u16], m: &mut [u16], choices: &[u16]) -> usize {
     calls::fresh(desk, m);
     let mut k: usize = 0;
     while k < 16 {
-        let x = desk::choice(desk, look::wide_at(choices, k));
+        let x = draws::choice(desk, look::wide_at(choices, k));
         let came = calls::step(desk, m, x);
         if answers::is_refused(came) {
             return stopped(came, calls::is_silent(desk, m), k);

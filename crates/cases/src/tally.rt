@@ -5,6 +5,7 @@ use crate::desk;
 use crate::pairs;
 use script::look;
 use script::look::both;
+use script::records;
 use script::show;
 
 // How many orders came to silence, and of how many each of the other things holds.
@@ -35,82 +36,11 @@ pub fn nothing() -> Tally {
     }
 }
 
-// Whether the records of n carriers in a memory, from a place on and each so many numbers behind the one before, are these answers.
-pub fn answers_are(m: &[u16], from: usize, stride: usize, n: usize, answers: &[u16]) -> bool {
-    let mut p = from;
-    let mut q: usize = 0;
-    let mut i: usize = 0;
-    while i < n {
-        if !look::same_part(m, p, answers, q, 65) {
-            return false;
-        }
-        p = look::plus(p, stride);
-        q = look::plus(q, 65);
-        i += 1;
-    }
-    true
-}
-
-// Whether n numbers, the first at a place and each so many behind the one before, are all 0.
-fn are_zero(m: &[u16], from: usize, stride: usize, n: usize) -> bool {
-    let mut p = from;
-    let mut i: usize = 0;
-    while i < n {
-        if look::at(m, p) != 0 {
-            return false;
-        }
-        p = look::plus(p, stride);
-        i += 1;
-    }
-    true
-}
-
-// The pairs of n carriers.
-fn pairs(n: usize) -> usize {
-    match n {
-        1 => 0,
-        2 => 1,
-        3 => 3,
-        4 => 6,
-        5 => 10,
-        6 => 15,
-        7 => 21,
-        _ => 28,
-    }
-}
-
-// The place of the first channel: behind the count (2 numbers), the carriers (67 each) and the views (65 a pair).
-fn first_channel(n: usize) -> usize {
-    match n {
-        1 => 69,
-        2 => 201,
-        3 => 398,
-        4 => 660,
-        5 => 987,
-        6 => 1379,
-        7 => 1836,
-        _ => 2358,
-    }
-}
-
-// Whether nobody is due, from 3 on, and every channel, of 261 numbers, is empty.
-fn at_rest(m: &[u16], n: usize) -> bool {
-    both(
-        are_zero(m, 3, 67, n),
-        are_zero(m, first_channel(n), 261, pairs(n)),
-    )
-}
-
-// The taken count in memory: thousands and rest.
-fn taken_in(m: &[u16]) -> usize {
-    1000 * look::wide_at(m, 0) + look::wide_at(m, 1)
-}
-
 // another planner: whether the second planner's answers are the records from a place on, each so many numbers behind the one before.
 pub fn second_says(desk: &[u16], m: &[u16], from: usize, stride: usize) -> bool {
     let mut other = look::zeros();
     second::second_plan(desk::floor_of(desk), desk::walls_of(desk), &mut other);
-    answers_are(m, from, stride, look::wide_at(desk, 4), &other)
+    records::answers_are(m, from, stride, look::wide_at(desk, 4), &other)
 }
 
 // An order that came to silence after so many steps. What must be: the answers are both planners', no two of them in conflict, the taken
@@ -120,13 +50,16 @@ fn judged(t: Tally, desk: &[u16], m: &[u16], taken: usize) -> Tally {
     let most = answers::number(calls::ceiling(n));
     let mut planned = look::zeros();
     let failing = answers::number(calls::plan(desk, &mut planned));
-    let counted = both(taken_in(m) == taken, taken <= most);
+    let counted = both(records::taken_in(m) == taken, taken <= most);
     let as_planned = both(
-        answers_are(m, 4, 67, n, &planned),
+        records::answers_are(m, 4, 67, n, &planned),
         second_says(desk, m, 4, 67),
     );
     let free = pairs::are_free(desk, &planned);
-    let right = both(both(as_planned, free), both(counted, at_rest(m, n)));
+    let right = both(
+        both(as_planned, free),
+        both(counted, records::at_rest(m, n)),
+    );
     Tally {
         orders: look::count(t.orders, true),
         right: look::count(t.right, right),

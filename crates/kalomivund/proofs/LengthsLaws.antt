@@ -23,7 +23,7 @@ unfolding _gives_
 given-value passed a b e = (refl, (cc))
 given-value (refused k p) a b e = absurd (let z : _≡_ {A = ℕ} 0 1 = cc in omega arith)
 
-given-refusal : {A : Type 0} (v : Verdict) (a : A) (k p : ℕ) → _≡_ {A = Outcome A} (refusal k p) (v gives a) → v ≡ refused k p
+pub given-refusal : {A : Type 0} (v : Verdict) (a : A) (k p : ℕ) → _≡_ {A = Outcome A} (refusal k p) (v gives a) → v ≡ refused k p
 unfolding _gives_
 given-refusal passed a k p e = absurd (let z : _≡_ {A = ℕ} 0 1 = cc in omega arith)
 given-refusal (refused i q) a k p e = (cc)

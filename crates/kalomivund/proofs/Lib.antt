@@ -1,4 +1,9 @@
--- Laws that the proofs of the exported functions cite.
+-- Laws that the proofs of the exported functions cite, laws of lent memory, and the claims.
 mod EntryLaws
 mod SearchLaws
 mod LengthsLaws
+mod KeepLaws
+mod LentLaws
+mod CallLaws
+mod ShortLaws
+pub mod Theorems

@@ -59,7 +59,8 @@ unfolding _then_ _thenAnswers_ routeStored
 short-route passed o old = refl
 short-route (refused k p) o old = refl
 
-checked-twice : (v w : Verdict) (x : Answer) → _≡_ {A = Outcome Answer} ((v then passed) thenAnswers ((v then w) gives x)) ((v then w) gives x)
+checked-twice : (v w : Verdict) (x : Answer)
+    → _≡_ {A = Outcome Answer} ((v then passed) thenAnswers ((v then w) gives x)) ((v then w) gives x)
 unfolding _then_ _gives_ _thenAnswers_
 checked-twice passed w x = refl
 checked-twice (refused k p) w x = refl

@@ -22,7 +22,7 @@ use floor::Floor;
 use lengths::Lengths;
 use lengths::Needed;
 use search::Outcome;
-use wire::records;
+use wire::numbers;
 use wire::word;
 
 // The most steps for so many carriers.
@@ -41,7 +41,7 @@ pub extern "C" fn kalomivund_check_floor(f: &[u16], walls: &[u16]) -> u64
     if f.len() < 22 {
         return word::too_short();
     }
-    word::of_check(floor::check(records::floor_of(f), walls), 0)
+    word::of_check(floor::check(numbers::floor_of(f), walls), 0)
 }
 
 // Reads a sheet: its floor record and its walls into lent memory.
@@ -60,7 +60,7 @@ pub extern "C" fn kalomivund_read_sheet(text: &[u8], f: &mut [u16], walls: &mut 
     let Checked::Passed = checked else {
         return word::of_check(checked, 0);
     };
-    records::store(f, found);
+    numbers::store(f, found);
     word::done(0, 0)
 }
 
@@ -73,7 +73,7 @@ pub extern "C" fn kalomivund_write_sheet(f: &[u16], walls: &[u16], out: &mut [u8
     if f.len() < 22 {
         return word::too_short();
     }
-    let found = records::floor_of(f);
+    let found = numbers::floor_of(f);
     word::of_check(sheet::write(found, walls, out), sheet::sheet_length(found))
 }
 
@@ -96,7 +96,7 @@ fn store_lengths(l: Lengths, out: &mut [u64]) -> u64
         l.floor as u64,
         l.figures as u64,
     ];
-    records::copy_figures(out, &figures);
+    numbers::copy_figures(out, &figures);
     word::done(0, 0)
 }
 
@@ -109,7 +109,7 @@ pub extern "C" fn kalomivund_needed_lengths(f: &[u16], out: &mut [u64]) -> u64
     if f.len() < 22 {
         return word::too_short();
     }
-    let needed = lengths::needed_lengths(records::floor_of(f));
+    let needed = lengths::needed_lengths(numbers::floor_of(f));
     match needed {
         Needed::Known(l) => store_lengths(l, out),
         Needed::Refused(x) => word::refused(x),
@@ -128,11 +128,11 @@ fn search_into(f: Floor, walls: &[u16], carrier: u16, views: &[u16], route: &mut
     let cells = found.route;
     match outcome {
         Outcome::None => {
-            records::copy(route, 0, &cells);
+            numbers::copy(route, 0, &cells);
             word::done(0, 0)
         }
         Outcome::Route => {
-            records::copy(route, 0, &cells);
+            numbers::copy(route, 0, &cells);
             word::done(1, 0)
         }
         Outcome::Refused(x) => word::refused(x),
@@ -156,7 +156,7 @@ pub extern "C" fn kalomivund_search(
     if f.len() < 22 {
         return word::too_short();
     }
-    let found = records::floor_of(f);
+    let found = numbers::floor_of(f);
     if route.len() < 64 {
         return word::of_check_in_short(floor::check(found, walls));
     }
@@ -172,7 +172,7 @@ pub extern "C" fn kalomivund_plan(f: &[u16], walls: &[u16], answers: &mut [u16])
     if f.len() < 22 {
         return word::too_short();
     }
-    answers::of_plan(planner::plan(records::floor_of(f), walls, answers))
+    answers::of_plan(planner::plan(numbers::floor_of(f), walls, answers))
 }
 
 // From a sheet's bytes to its printed routes, or the line of its refusal, in lent memory.
@@ -193,7 +193,7 @@ pub extern "C" fn kalomivund_fresh(f: &[u16], walls: &[u16], state: &mut [u16]) 
     if f.len() < 22 {
         return word::too_short();
     }
-    word::of_check(machine::fresh(records::floor_of(f), walls, state), 0)
+    word::of_check(machine::fresh(numbers::floor_of(f), walls, state), 0)
 }
 
 // Takes a single step on a lent state.
@@ -205,7 +205,7 @@ pub extern "C" fn kalomivund_step(f: &[u16], walls: &[u16], state: &mut [u16], s
     if f.len() < 22 {
         return word::too_short();
     }
-    answers::of_step(machine::step(records::floor_of(f), walls, state, step))
+    answers::of_step(machine::step(numbers::floor_of(f), walls, state, step))
 }
 
 // Takes a run on a lent state: the open steps of a list in turn, as many as the budget allows.
@@ -224,5 +224,5 @@ pub extern "C" fn kalomivund_run(
     if f.len() < 22 {
         return word::too_short();
     }
-    answers::of_run(machine::run(records::floor_of(f), walls, state, steps, budget))
+    answers::of_run(machine::run(numbers::floor_of(f), walls, state, steps, budget))
 }

@@ -46,7 +46,7 @@ sheet-nine text k p (rest-form a l b) n = omega arith
 sheet-nine text k p (floor-row a l b r) n = record-nine (floorAt text) (wallsAt text) k p (omega (arith, walls-length text)) r n
 
 -- Memory is too short exactly below its needed length.
-room-means : (needed lent : ℕ) → (roomOf needed lent ≡ refused 9 0) ↔ (lent < needed)
+pub room-means : (needed lent : ℕ) → (roomOf needed lent ≡ refused 9 0) ↔ (lent < needed)
 unfolding roomOf
 room-means needed lent = (λ h. leb-false _ _ (demand-cases _ 9 0 9 0 h .0), λ l. demand-refuses 9 0 (lt-leb _ _ l))
 

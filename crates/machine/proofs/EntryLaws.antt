@@ -4,23 +4,41 @@ use mathlib.Core.List.{List, map}
 use mathlib.Core.Path.{_≡_, sym, _∙_, ap}
 use lib.ListN.{length}
 use Rattle.laws.specs.Verdict.{Outcome, passed, refused, value, refusal}
-use Rattle.laws.proofs.VerdictLaws.{then-passed, gives-passed, gives-refused, when-passed, when-refused, answers-passed}
+use Rattle.laws.proofs.VerdictLaws.{then-passed, gives-passed, gives-refused, when-passed, when-refused}
+use Rattle.laws.proofs.VerdictLaws.{answers-passed, answers-refused}
 use Rattle.floor.specs.declared.Floor.{Floor}
 use Rattle.reference.specs.Step.{Step}
-use Rattle.reference.specs.Table.{step, noStep, single, lentEnough, allNamed}
+use Rattle.reference.specs.Take.{StepAnswer}
+use Rattle.reference.specs.Table.{step, noStep, lentEnough, allNamed, Call}
 use Rattle.reference.specs.Calls.{Told, stepped, ran}
 use Rattle.reference.proofs.TableLaws.{enough-lent}
 use Rattle.layout.specs.Numbers.{askedBy}
-use Rattle.layout.specs.Calls.{machineOf, stateVerdict, singleCall, runCall}
+use Rattle.layout.specs.Calls.{machineOf, stateVerdict, replyTo, memoryAfter, singleCall, runCall}
+use Rattle.layout.proofs.SimulationLaws.{reply-in, memory-in}
 use Rattle.layout.specs.InnerSteps.{silentIn, afterIn, saidIn}
 use Rattle.layout.specs.InnerRuns.{runIn}
 use Rattle.layout.specs.InnerCalls.{singleVerdictIn, verdictIn, replyIn, grantedMemory, memoryIn}
-use Rattle.machine.specs.declared.Stepped.{Stepped}
-use Rattle.machine.specs.Answers.{steppedReply}
-use Rattle.machine.specs.Inner.{bare, Took, Tallied, endsWith}
-use Rattle.machine.proofs.OpenLaws.{single-of, silent-of}
+use Rattle.steps.specs.declared.Taken.{Taken}
+use Rattle.steps.specs.Answers.{takenMeant}
+use Rattle.steps.specs.Inner.{bare, Took}
+use Rattle.steps.proofs.OpenLaws.{single-of, silent-of}
+use Rattle.machine.specs.Inner.{Tallied, endsWith}
 use Rattle.machine.proofs.VerdictLaws.{state-tells}
 use Rattle.machine.proofs.RunLaws.{ran-is}
+
+-- An entry on a lent state: what passes its checks goes on number by number, and a refusal leaves all as it was.
+module _ (f : Floor) (ws m : List ℕ) (c : Call) where
+  pub entry-made : {r : Outcome Told} (m′ : List ℕ) → stateVerdict f ws m ≡ passed → r ≡ replyIn (machineOf f ws) m c →
+      m′ ≡ memoryIn (machineOf f ws) m c → (r ≡ replyTo f ws m c) × (m′ ≡ memoryAfter f ws m c)
+  entry-made m′ ok answers stores = (
+    answers ∙ sym (answers-passed ok) ∙ reply-in f ws m c,
+    stores ∙ sym (when-passed m ok) ∙ memory-in f ws m c,
+  )
+
+  pub entry-refused : (k p : ℕ) → stateVerdict f ws m ≡ refused k p →
+      (_≡_ {A = Outcome Told} (refusal k p) (replyTo f ws m c)) × (m ≡ memoryAfter f ws m c)
+  unfolding replyTo memoryAfter
+  entry-refused k p h = (sym (answers-refused _ h), sym (when-refused _ h))
 
 module _ (f : Floor) (ws m : List ℕ) (sound : stateVerdict f ws m ≡ passed) where
   lent : lentEnough (machineOf f ws) (length m) ≡ passed
@@ -50,12 +68,13 @@ module _ (f : Floor) (ws m : List ℕ) (sound : stateVerdict f ws m ≡ passed) 
         )
 
     -- A single step that is taken.
-    pub step-taken : (r : Stepped) (m′ : List ℕ) → singleVerdictIn (bare f) m (step y) ≡ passed → Took (machineOf f ws) m y r m′ →
-        (steppedReply r ≡ replyIn (machineOf f ws) m (singleCall m x)) × (m′ ≡ memoryIn (machineOf f ws) m (singleCall m x))
+    pub step-taken : (r : Taken) (m′ : List ℕ) → singleVerdictIn (bare f) m (step y) ≡ passed → Took (machineOf f ws) m y r m′ →
+        (_≡_ {A = Outcome Told} (value (stepped (takenMeant r))) (replyIn (machineOf f ws) m (singleCall m x))) ×
+        (m′ ≡ memoryIn (machineOf f ws) m (singleCall m x))
     unfolding singleCall replyIn memoryIn grantedMemory verdictIn
     step-taken r m′ h t =
         let v = then-passed lent ∙ sym (single-of f ws m (step y)) ∙ h in (
-          t .answers ∙ rw (← e) (sym (gives-passed v)),
+          ap (λ (a : StepAnswer). value (stepped a)) (t .answers) ∙ rw (← e) (sym (gives-passed v)),
           t .stores ∙ rw (← e) (sym (when-passed m v)),
         )
 

@@ -37,4 +37,5 @@ module _ (n : ℕ) where
   unfolding mostSteps _gives_ demand within ceiling
   most-is p l h e = rw (le-leb 1 n l, le-leb n 8 h, e, add-one) refl
 
-pub ruleset most-cases = (most-low, most-high, most-is)
+-- The refusals, a law a test.
+pub ruleset most-cases = (most-low, most-high)

@@ -9,12 +9,13 @@ ghost use Rattle.reference.specs.Table.{step};
 ghost use Rattle.layout.specs.Places.{stateSize};
 ghost use Rattle.layout.specs.Calls.{placeVerdict, stateVerdict};
 ghost use Rattle.layout.specs.InnerCalls.{singleVerdictIn};
-ghost use Rattle.machine.specs.Answers.{stepMeant};
-ghost use Rattle.machine.specs.Inner.{bare, namedAt};
-use crate::steps::Step;
+ghost use Rattle.steps.specs.Answers.{stepMeant};
+ghost use Rattle.steps.specs.Inner.{bare};
+ghost use Rattle.machine.specs.Inner.{namedAt};
 use floor::Checked;
 use floor::Floor;
 use floor::Refusal;
+use steps::Step;
 
 // A refusal with place 0.
 fn refused(number: u16) -> Checked
@@ -56,10 +57,10 @@ pub fn ready(f: Floor, m: &[u16], s: Step) -> Checked
     requires { ⌜ (f .carriers ≤ 8) × (stateSize (f .carriers) ≤ length (now m)) ⌝ }
     ensures { λ r. ⌜ verdictOf r ≡ singleVerdictIn (bare f) (now (m .entry)) (step (stepMeant s)) ⌝ }
 {
-    if !crate::steps::is_there(f, s) {
+    if !steps::is_there(f, s) {
         return refused(7);
     }
-    crate::openness::waits(f, m, s)
+    steps::waits(f, m, s)
 }
 
 // 7 with the position of the first number of a list that names no step that is there.
@@ -68,7 +69,7 @@ pub fn all_named(f: Floor, numbers: &[u16]) -> Checked
 {
     let mut p: usize = 0;
     while p < numbers.len() {
-        if !crate::steps::is_named(f, numbers[p]) {
+        if !steps::is_named(f, numbers[p]) {
             return Checked::Refused(Refusal {
                 number: 7,
                 place: p,

@@ -1,24 +1,25 @@
 // The machine of document 01 over lent memory: the fresh state, the single step, the run, the step ceiling.
 mod checks;
-mod openness;
 mod power;
 mod runs;
-mod steps;
-mod take;
 
 ghost use mathlib.Core.Path.{_≡_};
 ghost use Prim.Native.Nat.{_≤_};
 ghost use lib.ListN.{length};
-ghost use Rattle.laws.specs.Verdict.{passed};
+ghost use Rattle.laws.specs.Verdict.{passed, value, demandEach};
 ghost use Rattle.floor.specs.Answers.{verdictOf};
+ghost use Rattle.reference.specs.Calls.{stepped};
 ghost use Rattle.layout.specs.Calls.{machineOf, placeVerdict, stateVerdict, freshMemory, replyTo, memoryAfter, singleCall, runCall};
 ghost use Rattle.layout.specs.InnerCalls.{replyIn, memoryIn};
+ghost use Rattle.steps.specs.Answers.{takenMeant};
 ghost use Rattle.machine.specs.Answers.{steppedReply, ranReply, takenNumber};
+ghost use Rattle.machine.specs.Inner.{namedAt};
 ghost use Rattle.machine.specs.Ceiling.{figureOf, mostSteps};
 use floor::Checked;
 use floor::Floor;
 use floor::Refusal;
 use steps::Asked;
+use steps::Taken;
 
 // The answer to a single step.
 pub enum Stepped {
@@ -65,6 +66,17 @@ pub fn fresh(f: Floor, walls: &[u16], state: &mut [u16]) -> Checked
     placed
 }
 
+// The answer to a single step that was taken.
+fn answer_of(taken: Taken) -> Stepped
+    ensures { λ r. ⌜ steppedReply r ≡ value (stepped (takenMeant taken)) ⌝ }
+{
+    match taken {
+        Taken::Kept => Stepped::Kept,
+        Taken::Sent => Stepped::Sent,
+        Taken::Delivered => Stepped::Delivered,
+    }
+}
+
 // A single step on a checked state.
 fn step_on(f: Floor, walls: &[u16], state: &mut [u16], number: u16) -> Stepped
     requires { ⌜ stateVerdict f (now walls) (now state) ≡ passed ⌝ }
@@ -82,7 +94,8 @@ fn step_on(f: Floor, walls: &[u16], state: &mut [u16], number: u16) -> Stepped
     };
     let ready = checks::ready(f, state, s);
     let Checked::Refused(x) = ready else {
-        return take::take_single(f, walls, state, s);
+        let free = steps::rows_for(f, walls, s);
+        return answer_of(steps::take(f, walls, free, state, s));
     };
     Stepped::Refused(x)
 }
@@ -100,16 +113,23 @@ pub fn step(f: Floor, walls: &[u16], state: &mut [u16], number: u16) -> Stepped
     Stepped::Refused(x)
 }
 
-// A run on a checked state.
-fn run_on(f: Floor, walls: &[u16], state: &mut [u16], numbers: &[u16], budget: u16) -> Ran
+// A run on a checked state; `named` says whether its list names steps.
+fn run_on(
+    f: Floor,
+    walls: &[u16],
+    state: &mut [u16],
+    numbers: &[u16],
+    budget: u16,
+    named: Checked,
+) -> Ran
     requires { ⌜ stateVerdict f (now walls) (now state) ≡ passed ⌝ }
+    requires { ⌜ verdictOf named ≡ demandEach 7 0 (namedAt f (now numbers)) (length (now numbers)) ⌝ }
     ensures answers { λ r. ⌜ ranReply r ≡
         replyIn (machineOf f (now (walls .entry))) (now (state .entry)) (runCall (now (state .entry)) (now (numbers .entry)) budget) ⌝ }
     ensures stores { λ r. ⌜ now (state .exit) ≡
         memoryIn (machineOf f (now (walls .entry))) (now (state .entry)) (runCall (now (state .entry)) (now (numbers .entry)) budget) ⌝ }
     ensures within { λ r. ⌜ takenNumber r ≤ budget ⌝ }
 {
-    let named = checks::all_named(f, numbers);
     let Checked::Refused(x) = named else {
         let free = search::free_rows(f, walls);
         let tally = runs::run_all(f, walls, free, state, numbers, budget as usize);
@@ -126,9 +146,10 @@ pub fn run(f: Floor, walls: &[u16], state: &mut [u16], numbers: &[u16], budget: 
         memoryAfter f (now (walls .entry)) (now (state .entry)) (runCall (now (state .entry)) (now (numbers .entry)) budget) ⌝ }
     ensures within { λ r. ⌜ takenNumber r ≤ budget ⌝ }
 {
-    let sound = checks::lent_state(f, walls, state);
-    let Checked::Refused(x) = sound else {
-        return run_on(f, walls, state, numbers, budget);
+    let lent = checks::lent_state(f, walls, state);
+    let named = checks::all_named(f, numbers);
+    let Checked::Refused(x) = lent else {
+        return run_on(f, walls, state, numbers, budget, named);
     };
     Ran::Refused(x)
 }

@@ -11,11 +11,12 @@ ghost use Rattle.layout.specs.Calls.{machineOf};
 ghost use Rattle.layout.specs.InnerSteps.{silentIn};
 ghost use Rattle.layout.specs.InnerRuns.{runIn};
 ghost use Rattle.machine.specs.Answers.{ranReply};
-ghost use Rattle.machine.specs.Inner.{bare, Workable, Tried, Tallied, endsWith};
+ghost use Rattle.steps.specs.Inner.{bare, Workable};
+ghost use Rattle.machine.specs.Inner.{Tried, Tallied, endsWith};
 use crate::Ran;
-use crate::steps::Asked;
 use floor::Floor;
 use search::Rows;
+use steps::Asked;
 
 // How far a run has come: the steps taken, and the steps read.
 pub struct Tally {
@@ -28,12 +29,12 @@ fn try_step(f: Floor, walls: &[u16], free: Rows, m: &mut [u16], x: u16) -> usize
     requires { ⌜ Workable f (now walls) free (now m) ⌝ }
     ensures { λ r. ⌜ Tried (machineOf f (now (walls .entry))) (now (m .entry)) (askedBy x) r (now (m .exit)) ⌝ }
 {
-    let asked = crate::steps::asked_by(x);
+    let asked = steps::asked_by(x);
     let Asked::Known(s) = asked else {
         return 0;
     };
-    if crate::openness::is_open(f, m, s) {
-        crate::take::take_step(f, walls, free, m, s);
+    if steps::is_open(f, m, s) {
+        steps::take(f, walls, free, m, s);
         return 1;
     }
     0
@@ -71,7 +72,7 @@ pub fn ending(f: Floor, m: &[u16], tally: Tally, budget: usize, listed: usize) -
     ensures { λ r. ⌜ ranReply r ≡ value (ran (tally .taken)
         (endsWith (silentIn (bare f) (now (m .entry))) (tally .taken) budget (tally .read) listed)) ⌝ }
 {
-    if crate::openness::is_silent(f, m) {
+    if steps::is_silent(f, m) {
         return Ran::Silent(tally.taken);
     }
     if tally.taken != budget {

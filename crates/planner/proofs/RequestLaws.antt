@@ -19,20 +19,20 @@ use Rattle.planner.specs.Plan.{planVerdict, planOf, respondOf, respondWi
 use Rattle.planner.specs.Answers.{Plannable}
 
 -- What a passed request tells.
-pub record Asked (f : Floor) (ws : List ℕ) (room : ℕ) : Type 0 where
+pub record PlanGranted (f : Floor) (ws : List ℕ) (room : ℕ) : Type 0 where
   pub accepted : Accepted f ws
   pub bounds : Bounds f
   pub enough : 65 * f .carriers ≤ room
 
-pub asked : (f : Floor) (ws : List ℕ) (room : ℕ) → planVerdict f ws room ≡ passed → Asked f ws room
+pub plan-granted : (f : Floor) (ws : List ℕ) (room : ℕ) → planVerdict f ws room ≡ passed → PlanGranted f ws room
 unfolding planVerdict
-asked f ws room h =
+plan-granted f ws room h =
     let a = then-both _ _ h in
     let ok = theorems .passes-exactly f ws .0 (a .0) in
     record { accepted = ok; bounds = limited-bounds f (ok .limited); enough = room-passed _ _ (a .1) }
 
 -- Every carrier of an accepted floor can be planned with its free rows.
-pub plannable : (f : Floor) (ws rows m : List ℕ) → Asked f ws (length m) → FreeRows f ws rows → Plannable f rows m
+pub plannable : (f : Floor) (ws rows m : List ℕ) → PlanGranted f ws (length m) → FreeRows f ws rows → Plannable f rows m
 plannable f ws rows m a r =
     record {
       some = a .bounds .carriers .0;

@@ -2,7 +2,12 @@
 use Prim.Native.Nat.{ℕ, _+_, _*_, _≤_, min}
 use native.Mathlib.Omega.{arith}
 use native.Mathlib.Numerals.{add-one}
+use mathlib.Core.Bool.{true, false}
+use mathlib.Core.Logic.{⊎-elim}
 use mathlib.Core.Path.{_≡_, refl, sym, _∙_, ap}
+use lib.Dec.{eqb}
+use Rattle.laws.proofs.Tests.{true-or-false}
+use Rattle.route.specs.Route.{none, route}
 use mathlib.Core.List.{List, _∷_, _++_}
 use borrow.Author.Needs.{needs}
 use borrow.Author.Tests.{eq-eqb, ne-eqb}
@@ -24,17 +29,27 @@ pub none-length : (number : ℕ) → length (noneLine number) ≡ 11
 unfolding noneLine noneWord fieldOf
 none-length number = refl
 
+-- What a record with a tag shows: none where the tag is no route's.
+tag-none : (tag : ℕ) (cells : List ℕ) → eqb tag 2 ≡ false → shown (viewOf tag cells) ≡ none
+unfolding viewOf shown
+tag-none tag cells e =
+    ⊎-elim (λ (h : eqb tag 1 ≡ true). rw (e, viewOf, h)) (λ (h : eqb tag 1 ≡ false). rw (e, viewOf, h)) (true-or-false (eqb tag 1))
+
+tag-route : (tag : ℕ) (cells : List ℕ) → eqb tag 2 ≡ true → shown (viewOf tag cells) ≡ route cells
+unfolding viewOf shown
+tag-route tag cells e = rw (e, viewOf)
+
 module _ (f : Floor) (i : ℕ) (m : List ℕ) where
   -- The line where the tag is no route's.
   line-none : (getD m (65 * i) 0 ≡ 2 → ⊥) → lineIn f m i ≡ noneLine (i + 1)
-  unfolding lineIn answerIn viewAt recordAt viewOf shown answerLine
-  line-none h = rw (ne-eqb _ 2 h)
+  unfolding lineIn answerIn viewAt recordAt answerLine
+  line-none h = ap (answerLine f i) (tag-none _ _ (ne-eqb _ 2 h))
 
   -- The line where it is.
   line-route : (cells : List ℕ) → getD m (65 * i) 0 ≡ 2 → cells ≡ part m (65 * i + 1) 64
       → lineIn f m i ≡ lineOf ((i + 1) ∷ arrivalOf (goalOf f i) cells (f .horizon) ∷ take (f .horizon + 1) cells)
-  unfolding lineIn answerIn viewAt recordAt viewOf shown answerLine
-  line-route cells h e = rw (eq-eqb _ 2 h, e)
+  unfolding lineIn answerIn viewAt recordAt answerLine
+  line-route cells h e = ap (answerLine f i) (tag-route _ _ (eq-eqb _ 2 h) ∙ ap route (sym e))
 
   pub none-put : (old new : List ℕ) (at : ℕ) → (getD m (65 * i) 0 ≡ 2 → ⊥) → new ≡ put old at (noneLine (i + 1))
       → LinePut f i m old at new (at + 11)

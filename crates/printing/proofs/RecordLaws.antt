@@ -10,7 +10,7 @@ use Rattle.floor.specs.declared.Floor.{Floor}
 use Rattle.route.specs.Route.{Answer, none, route}
 use Rattle.sheet.proofs.LinesText.{lines-same}
 use Rattle.planner.specs.Plan.{respondOf, planOf, failingFrom, failingOf}
-use Rattle.records.specs.Records.{recordOf, recordsOf, stored, answerIn}
+use Rattle.records.specs.Records.{recordOf, recordsOf, stored, shown, viewAt, answerIn}
 use Rattle.planner.specs.Claims.{answerAt}
 use Rattle.records.proofs.RecordLaws.{Whole, record-view}
 use Rattle.planner.proofs.FailingLaws.{AllWhole, plan-count, front}

@@ -37,27 +37,27 @@ saidAs false a = unheard
 pub said : State → ℕ → View
 said s j = saidAs (s .planned j) (s .answer j)
 
-pub record Sound (M : Machine) (s : State) : Type 0 where
+pub record Coherent (M : Machine) (s : State) : Type 0 where
   pub has-planned : (i : ℕ) → s .due i ≡ false → s .planned i ≡ true
   pub is-best : (i : ℕ) → s .due i ≡ false → s .answer i ≡ M .respond i (views s i)
   pub is-said : (i j : ℕ) → j < i → latest (s .view i j) (s .chan i j) ≡ said s j
 
 -- Where the channel is empty and the sender has planned, the view is the sender's answer.
-pub view-heard : (M : Machine) (s : State) → Sound M s → (i j : ℕ) → j < i → s .chan i j ≡ [] → s .due j ≡ false →
+pub view-heard : (M : Machine) (s : State) → Coherent M s → (i j : ℕ) → j < i → s .chan i j ≡ [] → s .due j ≡ false →
     s .view i j ≡ heard (s .answer j)
 unfolding latest said saidAs
 view-heard M s h i j l e d = rw (e, h .has-planned j d) at (h .is-said i j l)
 
-pub fresh-sound : (M : Machine) → Sound M fresh
+pub fresh-coherent : (M : Machine) → Coherent M fresh
 unfolding fresh latest said saidAs
-fresh-sound M = record { has-planned = λ i e. true-false-absurd refl e; is-best = λ i e. true-false-absurd refl e; is-said = λ i j l. refl }
+fresh-coherent M = record { has-planned = λ i e. true-false-absurd refl e; is-best = λ i e. true-false-absurd refl e; is-said = λ i j l. refl }
 
 -- The taken count does not matter.
-counted-sound : (M : Machine) (s : State) → Sound M s → Sound M (counted s)
+counted-coherent : (M : Machine) (s : State) → Coherent M s → Coherent M (counted s)
 unfolding counted views said
-counted-sound M s h = record { has-planned = h .has-planned; is-best = h .is-best; is-said = h .is-said }
+counted-coherent M s h = record { has-planned = h .has-planned; is-best = h .is-best; is-said = h .is-said }
 
-module _ (M : Machine) (s : State) (h : Sound M s) where
+module _ (M : Machine) (s : State) (h : Coherent M s) where
   module _ (i : ℕ) (a : Answer) where
     said-other : (j : ℕ) → (j ≡ i → ⊥) → said (planAs s i a) j ≡ said s j
     unfolding said
@@ -76,9 +76,9 @@ module _ (M : Machine) (s : State) (h : Sound M s) where
         go true e = rw (sent-below s i a e k l) (latest-sent (s .view k i) (s .chan k i) a)
         go false e = rw (plan-keeps s i a e) (rw (no-news s i a e .0, no-news s i a e .1) at (h .is-said k i l))
 
-  plan-sound : (i : ℕ) → Sound M (planAs s i (M .respond i (views s i)))
+  plan-coherent : (i : ℕ) → Coherent M (planAs s i (M .respond i (views s i)))
   unfolding views
-  plan-sound i = record { has-planned = has-planned; is-best = is-best; is-said = is-said }
+  plan-coherent i = record { has-planned = has-planned; is-best = is-best; is-said = is-said }
     where
       a : Answer
       a = M .respond i (views s i)
@@ -104,9 +104,9 @@ module _ (M : Machine) (s : State) (h : Sound M s) where
           ⊎-elim (λ (q : j ≡ i). rw (q, said-plan i a, plan-view s i a) (plan-said i a k (rw q at l)))
           (λ (n : j ≡ i → ⊥). rw (said-other i a j n, plan-view s i a, chan-other s i a k j n) (h .is-said k j l)) (eq-or-ne j i)
 
-  deliver-sound : (j i : ℕ) → Sound M (deliverTo s j i)
+  deliver-coherent : (j i : ℕ) → Coherent M (deliverTo s j i)
   unfolding views said
-  deliver-sound j i = record { has-planned = has-planned; is-best = is-best; is-said = is-said }
+  deliver-coherent j i = record { has-planned = has-planned; is-best = is-best; is-said = is-said }
     where
       z : State
       z = deliverTo s j i
@@ -134,11 +134,11 @@ module _ (M : Machine) (s : State) (h : Sound M s) where
           (⊎-elim (λ (q : k ≡ i). rw q (to-i m (rw q at l) (eq-or-ne m j)))
           (λ (n : k ≡ i → ⊥). rw (deliver-view s j i .elsewhere k n, deliver-chan s j i .elsewhere k n) (h .is-said k m l)) (eq-or-ne k i))
 
-  step-sound : (x : Step) → Sound M (afterStep M s x)
+  step-coherent : (x : Step) → Coherent M (afterStep M s x)
   unfolding afterStep effect
-  step-sound (plan i) = counted-sound M (planAs s i (M .respond i (views s i))) (plan-sound i)
-  step-sound (deliver j i) = counted-sound M (deliverTo s j i) (deliver-sound j i)
+  step-coherent (plan i) = counted-coherent M (planAs s i (M .respond i (views s i))) (plan-coherent i)
+  step-coherent (deliver j i) = counted-coherent M (deliverTo s j i) (deliver-coherent j i)
 
-pub reaches-sound : (M : Machine) {s z : State} {t : ℕ} → Sound M s → Reaches M s z t → Sound M z
-reaches-sound M h stay = h
-reaches-sound M {s = s} h (next x e p) = reaches-sound M (step-sound M s h x) p
+pub reaches-coherent : (M : Machine) {s z : State} {t : ℕ} → Coherent M s → Reaches M s z t → Coherent M z
+reaches-coherent M h stay = h
+reaches-coherent M {s = s} h (next x e p) = reaches-coherent M (step-coherent M s h x) p

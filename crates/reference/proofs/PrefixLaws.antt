@@ -17,7 +17,7 @@ use Rattle.reference.proofs.RangeLaws.{below-same, below-map}
 use Rattle.reference.proofs.OpenLaws.{nil-empty, plan-due, deliver-above, deliver-full}
 use Rattle.reference.proofs.QuietLaws.{Idle}
 use Rattle.reference.proofs.TakeLaws.{chan-above, plan-clears, plan-answer, deliver-due, deliver-answer, deliver-chan}
-use Rattle.reference.proofs.Invariant.{Sound, view-heard}
+use Rattle.reference.proofs.Invariant.{Coherent, view-heard}
 
 module _ (M : Machine) (s : State) where
   quiet-shorter : (k : ℕ) → Idle (suc k) s → Idle k s
@@ -25,7 +25,7 @@ module _ (M : Machine) (s : State) where
       record { not-due = λ i l. q .not-due i (omega arith); no-message = λ i j a l. q .no-message i j a (omega arith) }
 
   -- Carrier k of a quiet prefix has heard the answers of all above it.
-  heard-all : Sound M s → (k : ℕ) → Idle (suc k) s → views s k ≡ map heard (below k (s .answer))
+  heard-all : Coherent M s → (k : ℕ) → Idle (suc k) s → views s k ≡ map heard (below k (s .answer))
   unfolding views
   heard-all h k q = below-same k (s .view k) (λ j. heard (s .answer j)) heard-one ∙ below-map heard k (s .answer)
     where
@@ -33,7 +33,7 @@ module _ (M : Machine) (s : State) where
       heard-one j l = view-heard M s h k j l (q .no-message k j l (omega arith)) (q .not-due j (omega arith))
 
   -- Each quiet carrier has answered best against the answers above it, which are the sequential planner's by induction.
-  pub quiet-sequential : Sound M s → (k : ℕ) → Idle k s → below k (s .answer) ≡ sequential (M .respond) k
+  pub quiet-sequential : Coherent M s → (k : ℕ) → Idle k s → below k (s .answer) ≡ sequential (M .respond) k
   unfolding below sequential
   quiet-sequential h zero q = refl
   quiet-sequential h (suc k) q = go (quiet-sequential h k (quiet-shorter k q))

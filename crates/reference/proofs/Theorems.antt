@@ -27,7 +27,7 @@ use Rattle.reference.proofs.TableLaws.{single-open}
 use Rattle.reference.proofs.CountLaws.{calls-count}
 use Rattle.reference.proofs.RankingLaws.{shut-silent, silent-shut, some-open}
 use Rattle.reference.proofs.QuietLaws.{idle-says, idle-holds, idle-shut, shut-idle}
-use Rattle.reference.proofs.Invariant.{fresh-sound, reaches-sound}
+use Rattle.reference.proofs.Invariant.{fresh-coherent, reaches-coherent}
 use Rattle.reference.proofs.SequentialLaws.{sequential-prefix}
 use Rattle.reference.proofs.PrefixLaws.{quiet-sequential, reaches-quiet}
 use Rattle.reference.proofs.CeilingLaws.{calls-ceiling}
@@ -54,7 +54,7 @@ module _ (M : Machine) where
       below k (after M fresh cs .answer) ≡ take k (sequential (M .respond) (M .carriers))
   unfolding quiet
   quiet-answers cs k l e =
-      quiet-sequential M z (reaches-sound M (fresh-sound M) (calls-reach M fresh cs)) k (idle-says k z e)
+      quiet-sequential M z (reaches-coherent M (fresh-coherent M) (calls-reach M fresh cs)) k (idle-says k z e)
       ∙ sym (sequential-prefix (M .respond) k (M .carriers) l)
     where
       z : State

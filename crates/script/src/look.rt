@@ -80,14 +80,6 @@ pub fn plus(a: usize, b: usize) -> usize {
     65536
 }
 
-// A difference of places, 0 where the second is the larger.
-pub fn less(a: usize, b: usize) -> usize {
-    if a < b {
-        return 0;
-    }
-    a - b
-}
-
 // Writes v at a place, where there is one.
 pub fn put(m: &mut [u16], i: usize, v: u16) {
     if i < m.len() {

@@ -1,3 +1,3 @@
 // What crosses the boundary to C and Rust as numbers: a floor record as 22 numbers, and an answer as one word. Helpers of `kalomivund`.
-pub mod records;
+pub mod numbers;
 pub mod word;

@@ -551,7 +551,7 @@ fn sheet_case(seed: u64, tally: &mut Tally) -> bool {
     let margin = draw.next() as u16;
     let (record, walls) = (Lent::of(&record, margin), Lent::of(&walls, margin));
     tally.compare(Call::CheckFloor { floor: record.clone(), walls: walls.clone() });
-    let length = about(draw, 5);
+    let length = about(draw, 8);
     let out = Lent::of(&vec![draw.next(); length], 77);
     tally.compare(Call::NeededLengths { floor: record.clone(), out });
     let length = about(draw, bytes.len());

@@ -116,6 +116,15 @@ mod tests {
         assert_eq!(read(""), refused(1, 0));
     }
 
+    /// A record that is too short to be written is told after what is wrong with the sheet.
+    #[test]
+    fn short_record_after_the_sheet() {
+        let mut record = [7; 21];
+        assert_eq!(calls::read_sheet(b"", &mut record, &mut []), refused(1, 0));
+        assert_eq!(calls::read_sheet(SHEET.as_bytes(), &mut record, &mut []), refused(9, 0));
+        assert_eq!(record, [7; 21]);
+    }
+
     #[test]
     fn forms_of_a_sheet() {
         let place = |text: &str| paper::floor_of_sheet(text.as_bytes()).map_err(|r| (r.number, r.place)).err();
@@ -144,9 +153,9 @@ mod tests {
         let full = bare(32, 32, 63, 4, &[(0, 1), (1, 2), (2, 3), (3, 4), (4, 5), (5, 6), (6, 7), (7, 8)]);
         let mut record = paper::record_of(&full);
         record[5] = 1023;
-        let mut out = [9; 6];
+        let mut out = [9; 9];
         assert_eq!(calls::needed_lengths(&record, &mut out), done(0, 0));
-        assert_eq!(out, [1023, 11452, 520, 2659, 9666, 9]);
+        assert_eq!(out, [1023, 11452, 520, 2659, 9666, 64, 22, 8, 9]);
         assert_eq!(calls::ceiling(8), done(0, 502));
         assert_eq!(calls::ceiling(1), done(0, 1));
         assert_eq!(calls::ceiling(0), refused(2, 5));

@@ -30,12 +30,13 @@ turn c =
     let after-read-some : tie.After-read-some Inv-loop μ-loop = search in
     let at-loop : tie.At-loop Inv-loop μ-loop = search in
     let rest = simp (length-take, length-drop) at (after-buf .buf .given .0) in
-    let moved = moved-within 0 (length (after-read-some .read-some .last .0)) _ _ (c .part .given .1) (after-read-some .read-some .ensures) in
+    let most = length (after-read-some .read-some .last .0) in
+    let moved = moved-within 0 most _ _ (c .part .given .1) (after-read-some .read-some .ensures) in
     omega (arith, at-loop .loop .inv .0)
 
 pub read-all-spec : {M : Type 1} → statement M
 read-all-spec =
     tie.close (tie.spec Inv-loop μ-loop (λ c. search needs) (λ c. search needs) (λ c. search needs) (λ c. search needs)
-    (λ c κs. search needs) (λ c. search needs) (λ c. search needs) returns (λ c. omega (arith, turn search)) (λ c. omega (arith, turn search)) (λ c. (search needs, omega (arith, turn search))) (λ c. search needs)
-    (λ c. search needs) (λ c. search needs) (λ c. search needs) (λ c. search needs) (λ c. search needs) (λ c. search needs)
-    (λ c. search needs))
+    (λ c κs. search needs) (λ c. search needs) (λ c. search needs) returns (λ c. omega (arith, turn search))
+    (λ c. omega (arith, turn search)) (λ c. (search needs, omega (arith, turn search))) (λ c. search needs) (λ c. search needs)
+    (λ c. search needs) (λ c. search needs) (λ c. search needs) (λ c. search needs) (λ c. search needs) (λ c. search needs))

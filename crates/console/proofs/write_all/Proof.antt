@@ -28,5 +28,6 @@ turn c =
 pub write-all-spec : {M : Type 1} → statement M
 write-all-spec =
     tie.close (tie.spec Inv-loop μ-loop (λ c. search needs) (λ c. search needs) (λ c. search needs) (λ c. search needs)
-    (λ c κs. search needs) (λ c. search needs) (λ c. omega (arith, turn search)) (λ c. omega (arith, turn search)) (λ c. omega (arith, turn search)) (λ c. search needs) (λ c. search needs)
-    (λ c. search needs) (λ c. search needs) (λ c. search needs))
+    (λ c κs. search needs) (λ c. search needs) (λ c. omega (arith, turn search)) (λ c. omega (arith, turn search))
+    (λ c. omega (arith, turn search)) (λ c. search needs) (λ c. search needs) (λ c. search needs) (λ c. search needs)
+    (λ c. (omega arith, omega arith)))

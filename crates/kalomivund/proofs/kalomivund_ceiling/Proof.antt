@@ -6,4 +6,4 @@ use Rattle.kalomivund.proofs.kalomivund_ceiling.Tie as tie
 
 pub kalomivund-ceiling-spec : {M : Type 1} → statement M
 unfolding ceilingWord
-kalomivund-ceiling-spec = tie.close (tie.spec (λ c κs. search needs) (λ c κs. search needs) (λ c. cc))
+kalomivund-ceiling-spec = tie.close (tie.spec (λ c κs. search needs) (λ c κs. search needs) (λ c. rw (c .before .ceiling .ensures) at (c .of-ceiling .ensures)))

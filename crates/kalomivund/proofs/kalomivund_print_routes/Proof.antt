@@ -6,7 +6,11 @@ use Rattle.kalomivund.proofs.kalomivund_print_routes.Tie as tie
 
 returns : tie.Need-returns
 unfolding printWord printStored
-returns c = (cc, cc)
+returns c =
+    let after-of-print : tie.After-of-print = search in
+    let after-routes : tie.After-routes = search in
+    let done = after-routes .routes .ensures in
+    (rw (done .0) at (after-of-print .of-print .ensures), done .1)
 
 pub kalomivund-print-routes-spec : {M : Type 1} → statement M
 kalomivund-print-routes-spec =

@@ -1,5 +1,5 @@
 -- `machine::ceiling` meets its contract: the two bounds, then the power less n and 2, which it is above.
-use Rattle.machine.proofs.PowerLaws.{most-cases, power-big}
+use Rattle.machine.proofs.PowerLaws.{most-cases, most-is, power-big}
 use native.Mathlib.Omega.{arith}
 use Rattle.machine.specs.Ceiling.{figureOf}
 use borrow.Author.Needs.{needs}
@@ -16,8 +16,16 @@ sub-t6 c =
     let start : tie.Start = search in
     omega (arith, power-big (start .args .n), c .two-to .ensures .0)
 
+returns-3 : tie.Need-returns-3
+unfolding figureOf
+returns-3 c =
+    let after-two-to : tie.After-two-to = search in
+    let else2 : tie.Else2 = search in
+    let else1 : tie.Else1 = search in
+    most-is _ _ (else1 .if1 .left) (else2 .if2 .left) (after-two-to .two-to .ensures .0)
+
 pub ceiling-spec : {M : Type 1} → statement M
 unfolding figureOf
 ceiling-spec =
     tie.close (tie.spec (λ c κs. search needs) (λ c. search most-cases) (λ c. search needs) (λ c κs. search needs)
-    (λ c. search most-cases) (λ c. search needs) (λ c κs. search needs) sub-t5 sub-t6 (λ c. search most-cases))
+    (λ c. search most-cases) (λ c. search needs) (λ c κs. search needs) sub-t5 sub-t6 returns-3)

@@ -1,5 +1,6 @@
 -- `machine::fresh` meets its contract: a refusal leaves all as it was; otherwise the fresh state is written.
-use Rattle.machine.proofs.VerdictLaws.{place-tells, placed-sized}
+use Rattle.machine.proofs.VerdictLaws.{place-tells}
+use Rattle.steps.proofs.PlacedLaws.{placed-sized}
 use Rattle.laws.proofs.VerdictLaws.{when-passed, when-refused}
 use mathlib.Core.Path.{sym, _∙_}
 use Rattle.floor.proofs.AnswersLaws.{passes, refuses}

@@ -1,10 +1,7 @@
 -- `machine::step` meets its contract: a refusal leaves all as it was; otherwise the step on the checked state.
 use Rattle.floor.proofs.AnswersLaws.{passes, refuses}
-use Rattle.laws.proofs.VerdictLaws.{answers-passed, answers-refused, when-passed, when-refused}
-use Rattle.layout.specs.Calls.{replyTo, memoryAfter}
-use Rattle.layout.proofs.SimulationLaws.{reply-in, memory-in}
+use Rattle.machine.proofs.EntryLaws.{entry-made, entry-refused}
 use Rattle.machine.specs.Answers.{steppedReply}
-use mathlib.Core.Path.{sym, _∙_}
 use borrow.Author.Needs.{needs}
 use Rattle.machine.proofs.step.Statement.{statement}
 use Rattle.machine.proofs.step.Tie as tie
@@ -20,18 +17,15 @@ returns c =
     let after-step-on : tie.After-step-on = search in
     let after-enum-told : tie.After-enum-told = search in
     let after-lent-state : tie.After-lent-state = search in
-    let ok = passes (after-lent-state .lent-state .ensures) (after-enum-told .enum-told .given .1) in (
-      after-step-on .step-on .ensures .0 ∙ sym (answers-passed ok) ∙ reply-in _ _ _ _,
-      after-step-on .step-on .ensures .1 ∙ sym (when-passed _ ok) ∙ memory-in _ _ _ _,
-    )
+    entry-made _ _ _ _ _ (passes (after-lent-state .lent-state .ensures) (after-enum-told .enum-told .given .1))
+    (after-step-on .step-on .ensures .0) (after-step-on .step-on .ensures .1)
 
 returns-2 : tie.Need-returns-2
-unfolding replyTo memoryAfter steppedReply
+unfolding steppedReply
 returns-2 c =
     let after-sound : tie.After-sound = search in
     let after-lent-state : tie.After-lent-state = search in
-    let no = refuses (after-lent-state .lent-state .ensures) (after-sound .sound .given .1) in
-    (sym (answers-refused _ no), sym (when-refused _ no))
+    entry-refused _ _ _ _ _ _ (refuses (after-lent-state .lent-state .ensures) (after-sound .sound .given .1))
 
 pub step-spec : {M : Type 1} → statement M
 step-spec =

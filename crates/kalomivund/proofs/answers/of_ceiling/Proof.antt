@@ -1,12 +1,22 @@
 -- `kalomivund::answers::of_ceiling` meets its contract: case by case.
-use Rattle.wire.specs.Word.{wordOf, ofNumber, mapOutcome}
+use Rattle.wire.specs.Word.{ofNumber, mapOutcome}
 use Rattle.machine.specs.Ceiling.{figureOf}
 use borrow.Author.Needs.{needs}
 use Rattle.kalomivund.proofs.answers.of_ceiling.Statement.{statement}
 use Rattle.kalomivund.proofs.answers.of_ceiling.Tie as tie
 
+returns : tie.Need-returns
+unfolding ofNumber mapOutcome figureOf
+returns c =
+    let after-x : tie.After-x = search in
+    rw (after-x .x .given .1) (c .done .ensures)
+
+returns-2 : tie.Need-returns-2
+unfolding ofNumber mapOutcome figureOf
+returns-2 c =
+    let after-x2 : tie.After-x2 = search in
+    rw (after-x2 .x2 .given .1) (c .refused .ensures)
+
 pub of-ceiling-spec : {M : Type 1} → statement M
-unfolding ofNumber mapOutcome figureOf wordOf
 of-ceiling-spec =
-    tie.close (tie.spec (λ c. search needs) (λ c κs. search needs) (λ c. search needs) (λ c κs. search needs) (λ c. cc)
-    (λ c. cc))
+    tie.close (tie.spec (λ c. search needs) (λ c κs. search needs) (λ c. search needs) (λ c κs. search needs) returns returns-2)

@@ -1,5 +1,6 @@
 -- `machine::checks::lent_state` meets its contract: the lent place first, then the test of the state.
-use Rattle.machine.proofs.VerdictLaws.{chain, place-tells, placed-sized}
+use Rattle.machine.proofs.VerdictLaws.{chain, place-tells}
+use Rattle.steps.proofs.PlacedLaws.{placed-sized}
 use Rattle.floor.proofs.AnswersLaws.{passes}
 use Rattle.floor.specs.Answers.{verdictOf}
 use Rattle.layout.specs.Calls.{stateVerdict}

@@ -1,5 +1,4 @@
 -- `machine::runs::run_all` meets its contract: what is left of the list leads where the whole run leads.
-use Rattle.machine.proofs.TakeLaws.{workable-same}
 use lib.ListN.{length}
 use Prim.Native.Nat.{_-_, _≤_}
 use Rattle.layout.specs.Calls.{machineOf}
@@ -28,7 +27,12 @@ try-step-requires : tie.Need-try-step-requires Inv-loop μ-loop
 try-step-requires c κs =
     let at-loop : tie.At-loop Inv-loop μ-loop = search in
     let start : tie.Start Inv-loop μ-loop = search in
-    workable-same _ _ _ _ _ (at-loop .loop .inv .1 .1 .kept) (start .pre)
+    let placed = start .pre .placed in
+    let kept = at-loop .loop .inv .1 .1 .kept in
+    record {
+      placed = record { accepted = placed .accepted; enough = omega (arith, kept, placed .enough) };
+      free = start .pre .free;
+    }
 
 add-taken : tie.Need-add-taken Inv-loop μ-loop
 add-taken c = search (needs, tried-one (c .before .before .try-step .ensures))

@@ -2,9 +2,10 @@
 use mathlib.Core.Path.{refl, sym, _∙_}
 use Rattle.layout.specs.InnerSteps.{askedOpenIn}
 use Rattle.layout.specs.InnerRuns.{askedAfterIn}
-use Rattle.machine.specs.Answers.{askedMeant}
+use Rattle.steps.specs.Answers.{askedMeant}
+use Rattle.steps.proofs.PlacedLaws.{placed-sized, rows-serve}
 use Rattle.machine.specs.Inner.{took, skipped}
-use Rattle.machine.proofs.OpenLaws.{open-of}
+use Rattle.steps.proofs.OpenLaws.{open-of}
 use borrow.Author.Needs.{needs}
 use Rattle.machine.proofs.runs.try_step.Statement.{statement}
 use Rattle.machine.proofs.runs.try_step.Tie as tie
@@ -18,24 +19,26 @@ returns c =
 is-open-requires : tie.Need-is-open-requires
 is-open-requires c κs =
     let start : tie.Start = search in
-    (start .pre .few, start .pre .room)
+    placed-sized (start .pre .placed)
 
-take-step-requires : tie.Need-take-step-requires
-take-step-requires c κs =
-    let start : tie.Start = search in
-    (sym (c .before .before .is-open .ensures) ∙ c .before .if1 .taken, start .pre)
+take-requires : tie.Need-take-requires
+take-requires c κs =
+    let start : tie.Start = search in (
+      sym (c .before .before .is-open .ensures) ∙ c .before .if1 .taken,
+      (start .pre .placed, rows-serve _ (start .pre .free)),
+    )
 
 returns-2 : tie.Need-returns-2
 unfolding askedMeant askedOpenIn askedAfterIn
 returns-2 c =
-    let after-take-step : tie.After-take-step = search in
+    let after-take : tie.After-take = search in
     let then1 : tie.Then1 = search in
     let after-is-open : tie.After-is-open = search in
     let after-asked : tie.After-asked = search in
     let after-asked-by : tie.After-asked-by = search in
     rw (← after-asked-by .asked-by .ensures, after-asked .asked .given .1)
     (took (sym (open-of _ _ _ _) ∙ sym (after-is-open .is-open .ensures) ∙ then1 .if1 .taken) refl
-    (after-take-step .take-step .ensures .stores))
+    (after-take .take .ensures .stores))
 
 returns-3 : tie.Need-returns-3
 unfolding askedMeant askedOpenIn
@@ -48,4 +51,4 @@ returns-3 c =
 pub try-step-spec : {M : Type 1} → statement M
 try-step-spec =
     tie.close (tie.spec (λ c κs. search needs) (λ c. search needs) (λ c. search needs) returns is-open-requires
-    take-step-requires (λ c. search needs) returns-2 (λ c. search needs) returns-3)
+    take-requires (λ c. search needs) returns-2 (λ c. search needs) returns-3)

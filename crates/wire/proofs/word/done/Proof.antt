@@ -6,4 +6,4 @@ use Rattle.wire.proofs.word.done.Tie as tie
 
 pub done-spec : {M : Type 1} → statement M
 unfolding wordOf
-done-spec = tie.close (tie.spec (λ c κs. search needs) (λ c. cc))
+done-spec = tie.close (tie.spec (λ c κs. search needs) (λ c. c .packed .ensures))

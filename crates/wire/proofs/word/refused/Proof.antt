@@ -6,4 +6,4 @@ use Rattle.wire.proofs.word.refused.Tie as tie
 
 pub refused-spec : {M : Type 1} → statement M
 unfolding wordOf
-refused-spec = tie.close (tie.spec (λ c κs. search needs) (λ c. cc))
+refused-spec = tie.close (tie.spec (λ c κs. search needs) (λ c. c .packed .ensures))

@@ -6,4 +6,4 @@ use Rattle.wire.proofs.word.too_short.Tie as tie
 
 pub too-short-spec : {M : Type 1} → statement M
 unfolding wordOf
-too-short-spec = tie.close (tie.spec (λ c κs. search needs) (λ c. cc))
+too-short-spec = tie.close (tie.spec (λ c κs. search needs) (λ c. c .packed .ensures))

@@ -1,0 +1,63 @@
+-- The lent state of a call of the machine: kept with a refusal, and never written beyond its needed length.
+use Prim.Native.Nat.{ℕ}
+use native.Mathlib.Omega.{arith}
+use mathlib.Core.Path.{_≡_, refl, sym, _∙_}
+use mathlib.Core.List.{List}
+use lib.ListN.{drop}
+use Rattle.laws.specs.Verdict.{Verdict, passed, refused, whenPassed}
+use Rattle.floor.specs.declared.Floor.{Floor}
+use Rattle.reference.specs.State.{Machine}
+use Rattle.reference.specs.Table.{Call, single, runOf, step as Asked·step, noStep}
+use Rattle.layout.specs.Places.{stateSize}
+use Rattle.reference.specs.Calls.{afterCall}
+use Rattle.layout.specs.Encode.{encode}
+use Rattle.layout.specs.Calls.{machineOf, stateVerdict, stateIn, replyTo, memoryAfter, singleCall, runCall}
+use Rattle.layout.specs.InnerCalls.{verdictIn, replyIn, grantedMemory, memoryIn}
+use Rattle.layout.proofs.SimulationLaws.{reply-in, memory-in}
+use Rattle.layout.proofs.Theorems.{theorems as layout-theorems}
+use Rattle.wire.specs.Word.{wordOf, mapOutcome}
+use Rattle.wire.specs.Record.{floorOf}
+use Rattle.kalomivund.specs.Answers.{ofReply, toldDone}
+use Rattle.kalomivund.specs.Entries.{stepWord, stepStored, runWord, runStored}
+use Rattle.kalomivund.specs.Claims.{Refuses, Lent}
+use Rattle.kalomivund.proofs.KeepLaws.{put-beyond, checked-kept, after-kept, checked-beyond, record-lent}
+
+-- A memory that is left or kept is itself.
+same-kept : (v : Verdict) (m : List ℕ) → whenPassed v m m ≡ m
+unfolding whenPassed
+same-kept passed m = refl
+same-kept (refused k p) m = refl
+
+-- A call that is refused changes no number.
+inner-kept : (M : Machine) (m : List ℕ) (c : Call) → Refuses (wordOf (mapOutcome toldDone (replyIn M m c))) → memoryIn M m c ≡ m
+unfolding memoryIn replyIn grantedMemory
+inner-kept M m (single lent (Asked·step x)) h = checked-kept toldDone (verdictIn M m (single lent (Asked·step x))) _ _ m h
+inner-kept M m (single lent noStep) h = same-kept (verdictIn M m (single lent noStep)) m
+inner-kept M m (runOf lent xs b) h = checked-kept toldDone (verdictIn M m (runOf lent xs b)) _ _ m h
+
+module _ (f : Floor) (ws m : List ℕ) (c : Call) where
+  -- The number-by-number way to the same memory keeps it with a refusal.
+  call-kept : Refuses (wordOf (mapOutcome toldDone (replyTo f ws m c))) → memoryAfter f ws m c ≡ m
+  call-kept h =
+      let M = machineOf f ws in
+      sym (memory-in f ws m c)
+      ∙ after-kept toldDone (stateVerdict f ws m) (replyIn M m c) (memoryIn M m c) m (inner-kept M m c) (rw (← reply-in f ws m c) at h)
+
+  call-beyond : drop (stateSize (f .carriers)) (memoryAfter f ws m c) ≡ drop (stateSize (f .carriers)) m
+  unfolding memoryAfter
+  call-beyond =
+      let z = afterCall (machineOf f ws) (stateIn f m) c in
+      checked-beyond (stateVerdict f ws m) (stateSize (f .carriers)) _ m
+      (λ e. put-beyond (stateSize (f .carriers)) m (encode (f .carriers) z) (omega (arith, layout-theorems .encode-length (f .carriers) z)))
+
+  call-lent : Lent (stateSize (f .carriers)) (wordOf (ofReply (replyTo f ws m c))) (memoryAfter f ws m c) m
+  unfolding ofReply
+  call-lent = record { kept = call-kept; beyond = call-beyond }
+
+pub step : (xs ws m : List ℕ) (x : ℕ) → Lent (stateSize (floorOf xs .carriers)) (stepWord xs ws m x) (stepStored xs ws m x) m
+unfolding stepWord stepStored
+step xs ws m x = record-lent xs _ _ m (call-lent (floorOf xs) ws m (singleCall m x))
+
+pub run : (xs ws m ss : List ℕ) (b : ℕ) → Lent (stateSize (floorOf xs .carriers)) (runWord xs ws m ss b) (runStored xs ws m ss b) m
+unfolding runWord runStored
+run xs ws m ss b = record-lent xs _ _ m (call-lent (floorOf xs) ws m (runCall m ss b))

@@ -1,0 +1,65 @@
+-- Laws of lent memory: an entry of verdict v that stores `whenPassed v new old` keeps the memory with a refusal, and what is stored in
+-- front leaves the rest.
+use Prim.Native.Nat.{ℕ, _+_, _-_, _≤_}
+use native.Mathlib.Omega.{arith}
+use mathlib.Core.Path.{_≡_, refl, _∙_, ap}
+use mathlib.Core.List.{List, _++_}
+use lib.ListN.{length, drop}
+use lib.Seq.{drop-append-add, drop-drop}
+use Rattle.laws.specs.Verdict.{Verdict, passed, refused, Outcome, value, refusal, _gives_, _thenAnswers_, whenPassed}
+use Rattle.laws.specs.Memory.{put}
+use Rattle.wire.specs.Word.{Done, wordOf, mapOutcome}
+use Rattle.wire.proofs.Theorems.{theorems as wire-theorems}
+use Rattle.wire.specs.Record.{recordLent}
+use Rattle.kalomivund.specs.Entries.{wordFor, storedFor}
+use Rattle.kalomivund.specs.Claims.{Refuses, Lent}
+
+-- A word of what is done says not refused.
+pub done-not-refused : (d : Done) → Refuses (wordOf (value d)) → ⊥
+unfolding wordOf
+done-not-refused d e = omega (arith, wire-theorems .done-low (d .case) (d .number) .0)
+
+-- A block in front of a memory leaves what lies behind it.
+pub put-beyond : (n : ℕ) (old b : List ℕ) → length b ≤ n → drop n (put old 0 b) ≡ drop n old
+unfolding put
+put-beyond n old b l =
+    let size : n ≡ length b + (n - length b) = omega arith in
+    let sum : (0 + length b) + (n - length b) ≡ n = omega arith in
+    ap (λ (i : ℕ). drop i (b ++ drop (0 + length b) old)) size
+    ∙ drop-append-add b (drop (0 + length b) old) (n - length b)
+    ∙ drop-drop (n - length b) (0 + length b) old
+    ∙ ap (λ (i : ℕ). drop i old) sum
+
+-- An entry whose checks are v: a refusal is theirs, and with it the old memory stays.
+pub checked-kept : {A : Type 0} (g : A → Done) (v : Verdict) (a : A) (new old : List ℕ) → Refuses (wordOf (mapOutcome g (v gives a)))
+    → whenPassed v new old ≡ old
+unfolding mapOutcome _gives_ whenPassed
+checked-kept g passed a new old e = absurd (done-not-refused (g a) e)
+checked-kept g (refused k p) a new old e = refl
+
+-- Checks v before an entry that answers o.
+pub after-kept : {A : Type 0} (g : A → Done) (v : Verdict) (o : Outcome A) (new old : List ℕ) → (Refuses (wordOf (mapOutcome g o)) → new ≡ old)
+    → Refuses (wordOf (mapOutcome g (v thenAnswers o))) → whenPassed v new old ≡ old
+unfolding mapOutcome _thenAnswers_ whenPassed
+after-kept g passed o new old h e = h e
+after-kept g (refused k p) o new old h e = refl
+
+-- What is stored where checks pass leaves what it leaves where they refuse.
+pub checked-beyond : (v : Verdict) (n : ℕ) (new old : List ℕ) → (v ≡ passed → drop n new ≡ drop n old) → drop n (whenPassed v new old) ≡ drop n old
+unfolding whenPassed
+checked-beyond passed n new old h = h refl
+checked-beyond (refused k p) n new old h = refl
+
+pub checked-lent : {A : Type 0} {needed : ℕ} (g : A → Done) (v : Verdict) (a : A) (new old : List ℕ)
+    → (v ≡ passed → drop needed new ≡ drop needed old) → Lent needed (wordOf (mapOutcome g (v gives a))) (whenPassed v new old) old
+checked-lent {needed = n} g v a new old h = record { kept = checked-kept g v a new old; beyond = checked-beyond v n new old h }
+
+-- A call with a floor record that may be too short.
+pub record-lent : {needed : ℕ} (xs : List ℕ) (o : Outcome Done) (new old : List ℕ)
+    → Lent needed (wordOf o) new old → Lent needed (wordFor xs o) (storedFor xs new old) old
+unfolding wordFor storedFor _thenAnswers_ whenPassed
+record-lent {needed} xs o new old h = go (recordLent xs)
+  where
+    go : (v : Verdict) → Lent needed (wordOf (v thenAnswers o)) (whenPassed v new old) old
+    go passed = h
+    go (refused k p) = record { kept = λ e. refl; beyond = refl }

@@ -1,0 +1,54 @@
+-- Which lent memory is called too short: exactly what lies below its figure.
+use Prim.Native.Nat.{ℕ, _*_, _≤_, _<_}
+use native.Mathlib.Omega.{arith}
+use mathlib.Core.Path.{_≡_, sym, _∙_}
+use mathlib.Core.Logic.{_↔_, ⊎-elim}
+use mathlib.Core.List.{List}
+use lib.ListN.{length}
+use borrow.Author.Tests.{le-leb}
+use Rattle.laws.specs.Verdict.{Verdict, passed, refused, _then_, refusal}
+use Rattle.laws.proofs.VerdictLaws.{then-passed, answers-refused, demand-passes}
+use Rattle.floor.specs.declared.Floor.{Floor}
+use Rattle.floor.specs.Checks.{checkOf, limitsOf, roomOf}
+use Rattle.sheet.specs.Values.{floorAt}
+use Rattle.sheet.specs.Read.{sheetVerdict, readVerdict}
+use Rattle.search.specs.Search.{searchOf, requestOf}
+use Rattle.laws.proofs.Tests.{lt-or-le}
+use Rattle.lengths.proofs.Theorems.{theorems as lengths-theorems, room-means}
+use Rattle.wire.specs.Record.{recordLent}
+use Rattle.kalomivund.specs.Entries.{readLent, neededVerdict, searchLent}
+use Rattle.kalomivund.proofs.SearchLaws.{search-long}
+use Rattle.kalomivund.proofs.LengthsLaws.{given-refusal}
+
+-- Behind checks that find nothing, memory is too short exactly below its needed length.
+behind-short : (v : Verdict) (needed lent : ℕ) → v ≡ passed → ((v then roomOf needed lent) ≡ refused 9 0) ↔ (lent < needed)
+behind-short v needed lent ok = rw (then-passed {w = roomOf needed lent} ok) (room-means needed lent)
+
+pub record-short : (xs : List ℕ) → (recordLent xs ≡ refused 9 0) ↔ (length xs < 22)
+unfolding recordLent
+record-short xs = room-means 22 (length xs)
+
+pub read-record-short : (text : List ℕ) (lent room : ℕ) → sheetVerdict text ≡ passed → floorAt text .walls ≤ room
+    → (readLent text lent room ≡ refused 9 0) ↔ (lent < 22)
+unfolding readLent readVerdict roomOf
+read-record-short text lent room ok l =
+    behind-short (readVerdict text room) 22 lent (then-passed ok ∙ demand-passes 9 0 (le-leb _ _ l))
+
+pub figures-short : (f : Floor) (room : ℕ) → limitsOf f ≡ passed → (neededVerdict f room ≡ refused 9 0) ↔ (room < 8)
+unfolding neededVerdict
+figures-short f room ok = behind-short (limitsOf f) 8 room ok
+
+-- Route memory of 64 numbers or more leaves a search to its own refusals, and 9 among those is for views.
+pub route-short : (f : Floor) (ws : List ℕ) (i : ℕ) (m : List ℕ) (room : ℕ) → checkOf f ws ≡ passed → 65 * f .carriers ≤ length m
+    → (searchLent f ws i m room ≡ refusal 9 0) ↔ (room < 64)
+unfolding searchLent searchOf
+route-short f ws i m room ok l = (
+  λ h.
+      ⊎-elim
+      (λ (below : room < 64). below)
+      (λ (enough : 64 ≤ room).
+      let own = given-refusal (requestOf f ws i m) _ 9 0 (sym (sym (search-long f ws i m enough) ∙ h)) in
+      absurd (omega (arith, lengths-theorems .views-room f ws i m ok .0 own)))
+      (lt-or-le room 64),
+  λ b. answers-refused _ (behind-short (checkOf f ws) 64 room ok .1 b),
+)

@@ -1,0 +1,55 @@
+-- The claims of the exported functions, proved.
+use Prim.Native.Nat.{ℕ, _+_, _*_, _≤_}
+use native.Mathlib.Omega.{arith}
+use native.Mathlib.Nat.{zero-add}
+use mathlib.Core.Path.{_≡_, refl, _∙_}
+use Rattle.laws.specs.Verdict.{demand, _gives_}
+use Rattle.floor.specs.Checks.{within}
+use Rattle.lengths.specs.Figures.{lengthsOf}
+use Rattle.reference.specs.Quiet.{ceiling}
+use Rattle.machine.specs.Ceiling.{mostSteps}
+use Rattle.wire.specs.Word.{packed, cappedAt, wordOf, mapOutcome, ofNumber}
+use Rattle.wire.proofs.WordLaws.{capped-same}
+use Rattle.kalomivund.specs.Answers.{ofSearch, answerDone, ofReply, toldDone, stepCase, endCase}
+use Rattle.kalomivund.specs.Entries.{ceilingWord}
+use Rattle.kalomivund.specs.Claims.{Claims}
+use Rattle.kalomivund.proofs.LentLaws.{read-record, read-walls, write-sheet, needed-lengths, search, plan, fresh, print-routes}
+use Rattle.kalomivund.proofs.CallLaws.{step, run}
+use Rattle.kalomivund.proofs.ShortLaws.{record-short, read-record-short, route-short, figures-short}
+
+-- A run's number has room in a word.
+run-word : (c t : ℕ) → c ≤ 2 → t ≤ 65535 → packed 0 c t ≡ 256 * c + 65536 * t
+unfolding packed
+run-word c t lc lt = rw (capped-same 255 c (omega arith), capped-same 281474976710655 t (omega arith)) (omega arith)
+
+pub theorems : Claims
+unfolding lengthsOf ceilingWord mostSteps ceiling demand within _gives_ ofNumber ofSearch answerDone ofReply toldDone stepCase endCase
+    mapOutcome wordOf packed cappedAt
+theorems =
+    record {
+      read-record = read-record;
+      read-walls = read-walls;
+      write-sheet = write-sheet;
+      needed-lengths = needed-lengths;
+      search = search;
+      plan = plan;
+      fresh = fresh;
+      step = step;
+      run = run;
+      print-routes = print-routes;
+      record-short = λ f. record-short;
+      read-record-short = read-record-short;
+      route-short = route-short;
+      figures-short = figures-short;
+      kept-word = refl;
+      sent-word = refl;
+      delivered-word = refl;
+      silent-word = λ t l. run-word 0 t (omega arith) l ∙ zero-add (65536 * t);
+      spent-word = λ t l. run-word 1 t (omega arith) l;
+      ended-word = λ t l. run-word 2 t (omega arith) l;
+      none-word = refl;
+      route-word = λ r. refl;
+      shut-word = refl;
+      short-word = refl;
+      ceiling-words = (refl, refl, refl);
+    }

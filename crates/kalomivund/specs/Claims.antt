@@ -1,0 +1,74 @@
+-- The claims about the exported functions; `proofs/Theorems.antt` inhabits the record.
+use Prim.Native.Nat.{ℕ, _+_, _*_, _%_, _≤_, _<_}
+use mathlib.Core.Path.{_≡_}
+use mathlib.Core.Logic.{_↔_}
+use mathlib.Core.List.{List}
+use lib.ListN.{length, drop}
+use Rattle.laws.specs.Verdict.{passed, refused, value, refusal}
+use Rattle.floor.specs.declared.Floor.{Floor}
+use Rattle.floor.specs.Checks.{checkOf, limitsOf}
+use Rattle.route.specs.Route.{none, route}
+use Rattle.sheet.specs.Values.{floorAt}
+use Rattle.sheet.specs.Read.{sheetVerdict}
+use Rattle.printing.specs.Print.{neededFor}
+use Rattle.lengths.specs.Figures.{lengthsOf}
+use Rattle.reference.specs.Take.{kept, sent, delivered}
+use Rattle.reference.specs.Ending.{silent, spent, ended}
+use Rattle.reference.specs.Calls.{stepped, ran}
+use Rattle.wire.specs.Word.{wordOf}
+use Rattle.wire.specs.Record.{floorOf, recordLent}
+use Rattle.kalomivund.specs.Answers.{ofSearch, ofReply}
+use Rattle.kalomivund.specs.Entries.{readLent, readWord, readRecord, readStored, writeWord, writeStored}
+use Rattle.kalomivund.specs.Entries.{neededVerdict, neededWord, neededStored, searchLent, searchWord, searchStored}
+use Rattle.kalomivund.specs.Entries.{planWord, planStored, printWord, printStored, freshWord, freshStored}
+use Rattle.kalomivund.specs.Entries.{stepWord, stepStored, runWord, runStored, ceilingWord}
+
+-- A word says refused: its low byte is 1.
+abbrev pub Refuses : ℕ → Type 0
+Refuses w = w % 256 ≡ 1
+
+-- A call with word w that finds memory `old` and leaves `new`: a refusal leaves it as it was found, and what lies beyond the needed
+-- length stays in any case.
+pub record Lent (needed w : ℕ) (new old : List ℕ) : Type 0 where
+  pub kept : Refuses w → new ≡ old
+  pub beyond : drop needed new ≡ drop needed old
+
+pub record Claims : Type 0 where
+  -- Each lent memory that an exported function writes, with the needed length that `lengths::needed_lengths` gives.
+  pub read-record : (text xs : List ℕ) (room : ℕ)
+      → Lent (lengthsOf (floorAt text) .floor) (readWord text (length xs) room) (readRecord text xs room) xs
+  pub read-walls : (text old : List ℕ) (lent : ℕ)
+      → Lent (lengthsOf (floorAt text) .walls) (readWord text lent (length old)) (readStored text lent old) old
+  pub write-sheet : (xs ws old : List ℕ) → Lent (lengthsOf (floorOf xs) .sheet) (writeWord xs ws (length old)) (writeStored xs ws old) old
+  pub needed-lengths : (xs old : List ℕ) → Lent (lengthsOf (floorOf xs) .figures) (neededWord xs (length old)) (neededStored xs old) old
+  pub search : (xs ws : List ℕ) (i : ℕ) (m old : List ℕ)
+      → Lent (lengthsOf (floorOf xs) .route) (searchWord xs ws i m (length old)) (searchStored xs ws i m old) old
+  pub plan : (xs ws old : List ℕ) → Lent (lengthsOf (floorOf xs) .answers) (planWord xs ws (length old)) (planStored xs ws old) old
+  pub fresh : (xs ws old : List ℕ) → Lent (lengthsOf (floorOf xs) .state) (freshWord xs ws (length old)) (freshStored xs ws old) old
+  pub step : (xs ws m : List ℕ) (x : ℕ) → Lent (lengthsOf (floorOf xs) .state) (stepWord xs ws m x) (stepStored xs ws m x) m
+  pub run : (xs ws m ss : List ℕ) (b : ℕ) → Lent (lengthsOf (floorOf xs) .state) (runWord xs ws m ss b) (runStored xs ws m ss b) m
+  -- Text memory: the floor's figure for an accepted sheet, 16 bytes for a refused one (`neededFor`).
+  pub print-routes : (text old : List ℕ) → Lent (neededFor text) (printWord text (length old)) (printStored text old) old
+  -- A floor record is called too short exactly below its figure: as input before all else, as output of `kalomivund_read_sheet` where
+  -- nothing else is wrong.
+  pub record-short : (f : Floor) (xs : List ℕ) → (recordLent xs ≡ refused 9 0) ↔ (length xs < lengthsOf f .floor)
+  pub read-record-short : (text : List ℕ) (lent room : ℕ) → sheetVerdict text ≡ passed → floorAt text .walls ≤ room
+      → (readLent text lent room ≡ refused 9 0) ↔ (lent < lengthsOf (floorAt text) .floor)
+  -- Memory for a route is, on an accepted floor with views of the needed length.
+  pub route-short : (f : Floor) (ws : List ℕ) (i : ℕ) (m : List ℕ) (room : ℕ) → checkOf f ws ≡ passed → lengthsOf f .answers ≤ length m
+      → (searchLent f ws i m room ≡ refusal 9 0) ↔ (room < lengthsOf f .route)
+  -- Memory for the figures is, of a floor within its limits.
+  pub figures-short : (f : Floor) (room : ℕ) → limitsOf f ≡ passed → (neededVerdict f room ≡ refused 9 0) ↔ (room < lengthsOf f .figures)
+  -- The words of the cases: 256 times the case, with the number taken from bit 16 on.
+  pub kept-word : wordOf (ofReply (value (stepped kept))) ≡ 0
+  pub sent-word : wordOf (ofReply (value (stepped sent))) ≡ 256
+  pub delivered-word : wordOf (ofReply (value (stepped delivered))) ≡ 512
+  pub silent-word : (t : ℕ) → t ≤ 65535 → wordOf (ofReply (value (ran t silent))) ≡ 65536 * t
+  pub spent-word : (t : ℕ) → t ≤ 65535 → wordOf (ofReply (value (ran t spent))) ≡ 256 + 65536 * t
+  pub ended-word : (t : ℕ) → t ≤ 65535 → wordOf (ofReply (value (ran t ended))) ≡ 512 + 65536 * t
+  pub none-word : wordOf (ofSearch (value none)) ≡ 0
+  pub route-word : (r : List ℕ) → wordOf (ofSearch (value (route r))) ≡ 256
+  -- Refusal 8, 0; refusal 9, 0; the ceiling of three carriers, 11; refusal 2, field 5, of none and of nine.
+  pub shut-word : wordOf (refusal 8 0) ≡ 1 + 256 * 8
+  pub short-word : wordOf (refusal 9 0) ≡ 1 + 256 * 9
+  pub ceiling-words : (ceilingWord 3 ≡ 65536 * 11) × (ceilingWord 0 ≡ 1 + 256 * 2 + 65536 * 5) × (ceilingWord 9 ≡ 1 + 256 * 2 + 65536 * 5)

@@ -1,0 +1,122 @@
+// Taking an open step: a plan or a delivery, its answer, and the memory after it.
+ghost use mathlib.Core.Path.{_≡_};
+ghost use mathlib.Core.Bool.{true, cond};
+ghost use mathlib.Core.List.{_∷_};
+ghost use Prim.Native.Nat.{_≤_, _<_};
+ghost use lib.ListN.{length};
+ghost use Rattle.search.specs.Answers.{answered, Says};
+ghost use Rattle.reference.specs.Step.{plan};
+ghost use Rattle.reference.specs.Take.{sent, kept};
+ghost use Rattle.layout.specs.Places.{stateSize};
+ghost use Rattle.layout.specs.Calls.{machineOf};
+ghost use Rattle.layout.specs.InnerSteps.{newsIn, plannedIn, deliveredIn, bestIn, openIn};
+ghost use Rattle.steps.specs.Answers.{stepMeant, takenMeant};
+ghost use Rattle.steps.specs.Inner.{bare, Placed, Workable, RowsFor, Did, Took};
+use crate::Step;
+use crate::Taken;
+use floor::Floor;
+use route::Route;
+use search::Found;
+use search::Rows;
+
+// The best answer of carrier i to its views; `free` is made of the floor and its walls once.
+fn find(f: Floor, walls: &[u16], free: Rows, m: &[u16], i: usize) -> Found
+    requires { ⌜ i < f .carriers ⌝ }
+    requires { ⌜ Workable f (now walls) free (now m) ⌝ }
+    ensures { λ r. ⌜ Says r (answered (bestIn (machineOf f (now (walls .entry))) (now (m .entry)) i)) ⌝ }
+{
+    let n = f.carriers as usize;
+    let a = state::views_start(n, i);
+    let e = state::views_end(n, i);
+    search::best_route(f, free, i as u16 + 1, &m[a..e])
+}
+
+// Carrier i plans an answer: whether it is news, which is then sent.
+fn record_plan(m: &mut [u16], n: usize, i: usize, tag: u16, cells: Route) -> bool
+    requires { ⌜ (i < n) × (n ≤ 8) × (stateSize n ≤ length (now m)) ⌝ }
+    ensures answers { λ r. ⌜ r ≡ newsIn (now (m .entry)) i (tag ∷ cells) ⌝ }
+    ensures stores { λ r. ⌜ now (m .exit) ≡ plannedIn n (now (m .entry)) i (tag ∷ cells) ⌝ }
+{
+    let news = state::is_news(m, i, tag, cells);
+    state::set_planned(m, i, tag, cells);
+    if news {
+        state::send(m, n, i, tag, cells);
+        return true;
+    }
+    false
+}
+
+// The answer of a plan: sent if it is news, otherwise kept.
+fn sent_or_kept(news: bool) -> Taken
+    ensures { λ r. ⌜ takenMeant r ≡ cond news sent kept ⌝ }
+{
+    if news {
+        return Taken::Sent;
+    }
+    Taken::Kept
+}
+
+// Carrier i plans.
+fn plan_now(f: Floor, walls: &[u16], free: Rows, m: &mut [u16], i: usize) -> Taken
+    requires { ⌜ i < f .carriers ⌝ }
+    requires { ⌜ Workable f (now walls) free (now m) ⌝ }
+    ensures { λ r. ⌜ Did (machineOf f (now (walls .entry))) (now (m .entry)) (plan i) r (now (m .exit)) ⌝ }
+{
+    let found = find(f, walls, free, m, i);
+    let outcome = found.outcome;
+    let cells = found.route;
+    let tag = planner::tag_of(outcome);
+    sent_or_kept(record_plan(m, f.carriers as usize, i, tag, cells))
+}
+
+// The oldest message from carrier j to carrier i is delivered.
+fn deliver_now(m: &mut [u16], n: usize, j: usize, i: usize)
+    requires { ⌜ (j < i) × (i < n) × (n ≤ 8) × (stateSize n ≤ length (now m)) ⌝ }
+    ensures { λ r. ⌜ now (m .exit) ≡ deliveredIn n (now (m .entry)) j i ⌝ }
+{
+    let v = state::view_place(n, i, j);
+    let c = state::channel_place(n, i, j);
+    let oldest = state::message_place(c, 0);
+    records::copy(m, oldest, v);
+    state::pop(m, c);
+    state::set_due(m, i);
+}
+
+// The free cells where a step needs them: a plan does, a delivery does not.
+pub fn rows_for(f: Floor, walls: &[u16], s: Step) -> Rows
+    requires { ⌜ ((1 ≤ f .width) × (f .width ≤ 32) × (f .height ≤ 32)) × (f .walls ≤ length (now walls)) ⌝ }
+    ensures { λ r. ⌜ RowsFor f (now (walls .entry)) r (stepMeant s) ⌝ }
+{
+    match s {
+        Step::Plan(_) => search::free_rows(f, walls),
+        Step::Deliver { .. } => [0u32; Floor::MAX_HEIGHT as usize],
+    }
+}
+
+// What an open step does.
+fn act(f: Floor, walls: &[u16], free: Rows, m: &mut [u16], s: Step) -> Taken
+    requires { ⌜ openIn (bare f) (now m) (stepMeant s) ≡ true ⌝ }
+    requires { ⌜ Placed f (now walls) (length (now m)) ⌝ }
+    requires { ⌜ RowsFor f (now walls) free (stepMeant s) ⌝ }
+    ensures { λ r. ⌜ Did (machineOf f (now (walls .entry))) (now (m .entry)) (stepMeant s) r (now (m .exit)) ⌝ }
+{
+    match s {
+        Step::Plan(i) => plan_now(f, walls, free, m, i),
+        Step::Deliver { from, to } => {
+            deliver_now(m, f.carriers as usize, from, to);
+            Taken::Delivered
+        }
+    }
+}
+
+// Takes an open step, and counts it.
+pub fn take(f: Floor, walls: &[u16], free: Rows, m: &mut [u16], s: Step) -> Taken
+    requires { ⌜ openIn (bare f) (now m) (stepMeant s) ≡ true ⌝ }
+    requires { ⌜ Placed f (now walls) (length (now m)) ⌝ }
+    requires { ⌜ RowsFor f (now walls) free (stepMeant s) ⌝ }
+    ensures { λ r. ⌜ Took (machineOf f (now (walls .entry))) (now (m .entry)) (stepMeant s) r (now (m .exit)) ⌝ }
+{
+    let taken = act(f, walls, free, m, s);
+    state::tick(m);
+    taken
+}
