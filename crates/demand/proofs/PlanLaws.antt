@@ -48,9 +48,12 @@ module _ (f : Floor) (ws : List ℕ) (ok : checkOf f ws ≡ passed) where
 
   -- Not heard may be left out.
   pub unheard-left-out : (i : ℕ) (vs us : List View) →
-      respondOf f ws i (vs ++ (unheard ∷ us)) ≡ best (taskOf f ws (i + 1)) (seen f vs ++ seenFrom f (suc (length vs)) us)
+      Best (taskOf f ws (i + 1)) (seen f vs ++ seenFrom f (suc (length vs)) us) (respondOf f ws i (vs ++ (unheard ∷ us)))
   unfolding respondOf
-  unheard-left-out i vs us = unheard-out f (taskOf f ws (i + 1)) vs us (short (i + 1))
+  unheard-left-out i vs us =
+      let others = seen f vs ++ seenFrom f (suc (length vs)) us in
+      rw (unheard-out f (taskOf f ws (i + 1)) vs us (short (i + 1)))
+      (route-theorems .best-meets (taskOf f ws (i + 1)) others (short (i + 1)))
 
   plan-prioritized : Prioritized f ws (planOf f ws)
   plan-prioritized = record { every = planner-theorems .answers-all f ws; best = λ k l. planner-theorems .each-best f ws k ok l }

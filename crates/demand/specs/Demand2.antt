@@ -12,7 +12,6 @@ use Rattle.floor.specs.Checks.{checkOf, startOf}
 use Rattle.floor.specs.Accepted.{Absent, Lent, SameFloor}
 use Rattle.route.specs.Route.{cellAt, Answer, none, route, View, unheard, heard, Task}
 use Rattle.route.specs.Best.{Arrives, Admissible, Best}
-use Rattle.route.specs.Search.{best}
 use Rattle.route.specs.Arrival.{arrivalOf}
 use Rattle.records.specs.Records.{records, viewsOf}
 use Rattle.records.specs.Seen.{seenFrom, seen}
@@ -73,7 +72,7 @@ pub record Demand2 : Type 0 where
   pub none-occupies : (f : Floor) (ws : List ℕ) (i : ℕ) (vs : List View) (j t : ℕ) (r : List ℕ) → checkOf f ws ≡ passed →
       getD vs j unheard ≡ heard none → respondOf f ws i vs ≡ route r → t ≤ f .horizon → cellAt r t ≡ startOf f j → ⊥
   pub unheard-left-out : (f : Floor) (ws : List ℕ) (i : ℕ) (vs us : List View) → checkOf f ws ≡ passed →
-      respondOf f ws i (vs ++ (unheard ∷ us)) ≡ best (taskOf f ws (i + 1)) (seen f vs ++ seenFrom f (suc (length vs)) us)
+      Best (taskOf f ws (i + 1)) (seen f vs ++ seenFrom f (suc (length vs)) us) (respondOf f ws i (vs ++ (unheard ∷ us)))
   -- No route of a plan is at any beat in the start of a carrier above it that has none.
   pub stranded-avoided : (f : Floor) (ws : List ℕ) (j k t : ℕ) (r : List ℕ) → checkOf f ws ≡ passed → j < k → k < f .carriers →
       answerAt (planOf f ws) j ≡ none → answerAt (planOf f ws) k ≡ route r → t ≤ f .horizon → cellAt r t ≡ startOf f j → ⊥
@@ -92,7 +91,8 @@ pub record Demand2 : Type 0 where
   pub failing-none : (f : Floor) (ws : List ℕ) →
       (failingOf (planOf f ws) ≡ 0) ↔ ((j : ℕ) → j < f .carriers → answerAt (planOf f ws) j ≡ none → ⊥)
   -- What is printed for a sheet: the plan of its floor, with arrivals; or the line of its refusal.
-  pub printed : (text : List ℕ) → sheetVerdict text ≡ passed → routesOf text ≡ routesText (floorAt text) (planOf (floorAt text) (wallsAt text))
+  pub printed : (text : List ℕ) → sheetVerdict text ≡ passed →
+      routesOf text ≡ routesText (floorAt text) (planOf (floorAt text) (wallsAt text))
   pub printed-refusal : (text : List ℕ) (k p : ℕ) → sheetVerdict text ≡ refused k p → routesOf text ≡ refusalLine k p
   pub arrival-exactly : (goal H : ℕ) (r : List ℕ) (a : ℕ) → Arrives goal H r a ↔ ((a ≡ arrivalOf goal r H) × (a ≤ H))
   -- A floor written and read is the same floor; a sheet read and written is the same sheet; memory may be longer than needed.
