@@ -30,8 +30,8 @@ pub routes-seen : (f : Floor) (xs : List Answer) (k : ℕ) → ((j : ℕ) → j 
 routes-seen f xs k h l =
     plain-seen f (map heard (take k xs))
     (λ j b e.
-        let low : j < k = omega (arith, length-map (take k xs) heard, length-take-le k xs l) in
-        h j low (heard-same (answerAt xs j) (sym (told-answer xs j k low l) ∙ e)))
+    let low : j < k = omega (arith, length-map (take k xs) heard, length-take-le k xs l) in
+    h j low (heard-same (answerAt xs j) (sym (told-answer xs j k low l) ∙ e)))
 
 -- Two responses that agree where views are seen as they are make the same plan, if the first one leaves nobody with none.
 pub rules-agree : (f : Floor) (p q : ℕ → List View → Answer) (k : ℕ) → ((i : ℕ) (vs : List View) → seen f vs ≡ vs → p i vs ≡ q i vs) →

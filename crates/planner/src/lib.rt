@@ -41,14 +41,7 @@ pub fn request(f: Floor, walls: &[u16], room: usize) -> Checked
 
 // The answer of the carrier with i carriers above it, whose answers stand in front and are shown as they are seen; it is stored behind
 // them, shown as it is seen, and what it occupies is taken out of the room.
-fn plan_one(
-    f: Floor,
-    free: Rows,
-    i: u16,
-    room: &mut [u32],
-    shown: &mut [u16],
-    answers: &mut [u16],
-)
+fn plan_one(f: Floor, free: Rows, i: u16, room: &mut [u32], shown: &mut [u16], answers: &mut [u16])
     requires { ⌜ (i < 8) × (65 * i + 65 ≤ length (now answers)) × (65 * i + 65 ≤ length (now shown)) ⌝ }
     requires { ⌜ Searchable f free (i + 1) (now shown) × (records (now shown) i ≡ seen f (records (now answers) i)) ⌝ }
     requires { ⌜ Roomy (sceneOf f) i free (now shown) (now room) ⌝ }
@@ -59,7 +52,12 @@ fn plan_one(
     let found = search::route_in(f, free, room, i + 1, shown);
     let outcome = found.outcome;
     let cells = found.route;
-    records::store(answers, records::SIZE * i as usize, tags::tag_of(outcome), cells);
+    records::store(
+        answers,
+        records::SIZE * i as usize,
+        tags::tag_of(outcome),
+        cells,
+    );
     records::store_seen(f, answers, i as usize, shown);
     search::take_route(f, room, shown, i as usize);
 }

@@ -138,8 +138,8 @@ view-same m q j l h same =
     ap₂ viewOf (same (65 * j) (omega arith))
     (ext-getD 0 (part m at 64) (part q at 64) (part-length m at 64 (omega arith) ∙ sym (part-length q at 64 (omega arith)))
     (λ i k.
-        let b : i < 64 = omega (arith, part-length m at 64 (omega arith)) in
-        part-byte m at 64 i b ∙ same (at + i) (omega arith) ∙ sym (part-byte q at 64 i b)))
+    let b : i < 64 = omega (arith, part-length m at 64 (omega arith)) in
+    part-byte m at 64 i b ∙ same (at + i) (omega arith) ∙ sym (part-byte q at 64 i b)))
 
 pub records-same : (m q : List ℕ) (k : ℕ) → 65 * k ≤ length m → 65 * k ≤ length q → ((i : ℕ) → i < 65 * k → getD m i 0 ≡ getD q i 0) →
     records m k ≡ records q k

@@ -10,7 +10,7 @@ ghost use Rattle.laws.specs.Memory.{put, part};
 ghost use Rattle.records.specs.Records.{fit, moved, viewCell};
 use floor::Floor;
 use route::Route;
-pub use seen::ALL;
+pub use seen::TEAM;
 pub use seen::blank;
 pub use seen::seen_records;
 pub use seen::store_seen;

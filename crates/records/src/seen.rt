@@ -14,13 +14,13 @@ use floor::Floor;
 use route::Route;
 
 // The numbers of a record for each carrier.
-pub const ALL: usize = SIZE * Floor::MAX_CARRIERS as usize;
+pub const TEAM: usize = SIZE * Floor::MAX_CARRIERS as usize;
 
 // A record for each carrier, nothing heard.
-pub fn blank() -> [u16; ALL]
+pub fn blank() -> [u16; TEAM]
     ensures { λ r. ⌜ r ≡ replicate 520 0 ⌝ }
 {
-    [0u16; ALL]
+    [0u16; TEAM]
 }
 
 // The route that stays in a cell through the last beat.
@@ -52,7 +52,7 @@ pub fn store_seen(f: Floor, m: &[u16], j: usize, shown: &mut [u16])
 }
 
 // The first k records of a memory as they are seen.
-pub fn seen_records(f: Floor, m: &[u16], k: usize) -> [u16; ALL]
+pub fn seen_records(f: Floor, m: &[u16], k: usize) -> [u16; TEAM]
     requires { ⌜ (k ≤ 8) × (f .horizon ≤ 63) × (65 * k ≤ length (now m)) ⌝ }
     ensures { λ r. ⌜ (length r ≡ 520) × (records r k ≡ seen f (records (now (m .entry)) k)) ⌝ }
 {

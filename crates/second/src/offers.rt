@@ -9,14 +9,7 @@ use crate::views::told;
 use floor::Floor;
 
 // Whether one of the first k carriers is in cell d at the next beat, or goes from d to c, by what it told.
-pub fn conflicts(
-    starts: &[u16],
-    views: &[u16],
-    k: usize,
-    t: usize,
-    c: usize,
-    d: usize,
-) -> bool {
+pub fn conflicts(starts: &[u16], views: &[u16], k: usize, t: usize, c: usize, d: usize) -> bool {
     let next = after(t);
     let mut j: usize = 0;
     while j < k {
