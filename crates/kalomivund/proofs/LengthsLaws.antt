@@ -1,9 +1,9 @@
 -- Laws of the needed lengths into lent memory: known, they go there if there is room; refused, nothing does.
 use Prim.Native.Nat.{ℕ}
 use native.Mathlib.Omega.{arith}
-use mathlib.Core.Path.{_≡_, refl, sym, _∙_}
+use mathlib.Core.Path.{_≡_, refl, sym}
 use mathlib.Core.List.{List}
-use Rattle.laws.specs.Verdict.{Verdict, passed, refused, _then_, Outcome, value, refusal, _gives_, whenPassed}
+use Rattle.laws.specs.Verdict.{Verdict, passed, refused, Outcome, value, refusal, _gives_, whenPassed}
 use Rattle.laws.specs.Memory.{put}
 use Rattle.laws.proofs.VerdictLaws.{then-passed, then-refused, gives-refused, when-refused}
 use Rattle.floor.specs.declared.Floor.{Floor}

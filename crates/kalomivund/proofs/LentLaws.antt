@@ -55,7 +55,8 @@ unfolding readWord readRecord ofNumber
 read-record text xs room =
     checked-lent (done 0) (readLent text (length xs) room) 0 _ xs (λ e. put-beyond 22 xs _ (omega (arith, record-size text)))
 
-pub read-walls : (text old : List ℕ) (lent : ℕ) → Lent (floorAt text .walls) (readWord text lent (length old)) (readStored text lent old) old
+pub read-walls : (text old : List ℕ) (lent : ℕ)
+    → Lent (floorAt text .walls) (readWord text lent (length old)) (readStored text lent old) old
 unfolding readWord readStored ofNumber
 read-walls text old lent =
     checked-lent (done 0) (readLent text lent (length old)) 0 _ old (λ e. drop-at (wallsAt text) _ _ (walls-length text))
@@ -102,7 +103,8 @@ unfolding printWord printStored routesOutcome routesMemory ofNumber mapOutcome
 print-routes text old = go (leb (neededFor text) (length old))
   where
     go : (b : Bool) → Lent (neededFor text)
-        (wordOf (mapOutcome (done 0) (cond b (value (length (routesOf text))) (shortOutcome text)))) (cond b (put old 0 (routesOf text)) old) old
+        (wordOf (mapOutcome (done 0) (cond b (value (length (routesOf text))) (shortOutcome text))))
+        (cond b (put old 0 (routesOf text)) old) old
     go true =
         record {
           kept = λ e. absurd (done-not-refused _ e);
