@@ -23,6 +23,7 @@ use Rattle.sheet.specs.Refused.{RefusedSheet}
 use Rattle.sheet.proofs.FormLaws.{walls-length}
 use Rattle.sheet.proofs.Theorems.{theorems as sheet-theorems}
 use Rattle.search.specs.Search.{requestOf, searchOf}
+use Rattle.records.specs.Seen.{seen}
 use Rattle.planner.specs.Plan.{respondOf, planOf, planVerdict}
 use Rattle.search.specs.Task.{taskOf}
 use Rattle.planner.proofs.PlanLaws.{best-whole}
@@ -94,7 +95,7 @@ module _ (f : Floor) (ws : List ℕ) where
   unfolding planVerdict planOf respondOf taskOf
   answers-long room e =
       let h = check-tells f ws (then-both _ _ e .0) .bounds .horizon .1 in
-      omega (arith, plan-length (respondOf f ws) (λ k vs. best-whole (taskOf f ws (k + 1)) vs h) (f .carriers))
+      omega (arith, plan-length (respondOf f ws) (λ k vs. best-whole (taskOf f ws (k + 1)) (seen f vs) h) (f .carriers))
 
   plan-keeps : (old : List ℕ) → Keeps (PlanRows f ws (length old)) (lengthsOf f .answers) old (planMemory f ws old)
   unfolding planMemory lengthsOf stored

@@ -26,6 +26,7 @@ use Rattle.search.specs.Task.{taskOf}
 use Rattle.planner.specs.Plan.{respondOf, planOf, planVerdict}
 use Rattle.planner.specs.Answers.{planResult}
 use Rattle.records.specs.Records.{recordsOf, stored}
+use Rattle.records.specs.Seen.{seen}
 use Rattle.planner.specs.Records.{planMemory}
 use Rattle.records.proofs.RecordLaws.{plan-length}
 use Rattle.planner.proofs.PlanLaws.{best-whole}
@@ -79,7 +80,8 @@ needed-lengths xs old =
 plan-size : (f : Floor) (ws : List ℕ) → checkOf f ws ≡ passed → length (recordsOf (planOf f ws)) ≡ 65 * f .carriers
 unfolding planOf respondOf taskOf
 plan-size f ws ok =
-    plan-length (respondOf f ws) (λ k vs. best-whole (taskOf f ws (k + 1)) vs (check-tells f ws ok .bounds .horizon .1)) (f .carriers)
+    let h = check-tells f ws ok .bounds .horizon .1 in
+    plan-length (respondOf f ws) (λ k vs. best-whole (taskOf f ws (k + 1)) (seen f vs) h) (f .carriers)
 
 pub plan : (xs ws old : List ℕ) → Lent (65 * floorOf xs .carriers) (planWord xs ws (length old)) (planStored xs ws old) old
 unfolding planWord planStored planResult planMemory stored planVerdict ofNumber

@@ -9,6 +9,7 @@ use Rattle.laws.specs.Memory.{put}
 use Rattle.planner.specs.Plan.{respondOf, respondWith, planOf, failingOf}
 use Rattle.planner.specs.Records.{firstFrom}
 use Rattle.records.specs.Records.{stored}
+use Rattle.records.specs.Seen.{seen}
 use Rattle.planner.proofs.PlanLaws.{best-whole}
 use Rattle.planner.proofs.FailingLaws.{AllWhole, first-failing, plan-whole, plan-count}
 
@@ -19,9 +20,9 @@ pub plan-fails : (f : Floor) (rows : List ℕ) → f .horizon ≤ 63 → (n : �
 unfolding stored put respondWith taskOfRows
 plan-fails f rows h n old m e =
     first-failing (sequential (respondWith f rows) n) m _ n e (plan-count (respondWith f rows) n)
-    (plan-whole (respondWith f rows) (λ k vs. best-whole (taskOfRows f rows (k + 1)) vs h) n)
+    (plan-whole (respondWith f rows) (λ k vs. best-whole (taskOfRows f rows (k + 1)) (seen f vs) h) n)
 
 -- All records of a plan are whole.
 pub plan-all-whole : (f : Floor) (ws : List ℕ) → f .horizon ≤ 63 → AllWhole (planOf f ws)
 unfolding planOf respondOf taskOf
-plan-all-whole f ws h = plan-whole (respondOf f ws) (λ k vs. best-whole (taskOf f ws (k + 1)) vs h) (f .carriers)
+plan-all-whole f ws h = plan-whole (respondOf f ws) (λ k vs. best-whole (taskOf f ws (k + 1)) (seen f vs) h) (f .carriers)
