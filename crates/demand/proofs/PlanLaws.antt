@@ -26,7 +26,7 @@ use Rattle.planner.specs.Plan.{respondOf, planOf, planVerdict}
 use Rattle.records.specs.Records.{recordsOf, stored}
 use Rattle.planner.specs.Records.{planMemory}
 use Rattle.planner.specs.Claims.{answerAt}
-use Rattle.planner.proofs.PlanLaws.{best-whole}
+use Rattle.planner.proofs.PlanLaws.{respond-whole}
 use Rattle.records.proofs.RecordLaws.{views-are}
 use Rattle.planner.proofs.Theorems.{theorems as planner-theorems}
 use Rattle.demand.specs.Demand2.{Prioritized}
@@ -103,8 +103,8 @@ module _ (f : Floor) (ws : List ℕ) (ok : checkOf f ws ≡ passed) where
 
   -- The memory of the plan shows its answers.
   pub stored-heard : (old : List ℕ) → 65 * f .carriers ≤ length old → records (planMemory f ws old) (f .carriers) ≡ map heard (planOf f ws)
-  unfolding planMemory planVerdict stored put planOf respondOf taskOf
+  unfolding planMemory planVerdict stored put planOf
   stored-heard old l =
       let h = check-tells f ws ok .bounds .horizon .1 in
-      views-are (respondOf f ws) (λ k vs. best-whole (taskOf f ws (k + 1)) (seen f vs) h) (f .carriers) _ _
+      views-are (respondOf f ws) (respond-whole f ws h) (f .carriers) _ _
       (when-passed old (granted (length old) l))

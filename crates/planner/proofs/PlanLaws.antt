@@ -1,10 +1,10 @@
 -- The planner's loop: one more answer stored behind those of the carriers above.
-use Prim.Native.Nat.{ℕ, _+_, _*_, _-_, _≤_}
+use Prim.Native.Nat.{ℕ, _+_, _*_, _≤_}
 use native.Mathlib.Omega.{arith}
 use native.Mathlib.Nat.{zero-add}
 use native.Mathlib.Numerals.{add-one}
 use mathlib.Core.Path.{_≡_, refl, sym, _∙_, ap}
-use mathlib.Core.List.{List, [], _++_, map}
+use mathlib.Core.List.{List, map}
 use lib.ListN.{length}
 use Rattle.floor.specs.declared.Floor.{Floor}
 use Rattle.route.specs.Route.{Answer, none, route, View, heard, Task}
@@ -13,10 +13,10 @@ use Rattle.route.specs.Sequential.{sequential}
 use Rattle.route.proofs.Theorems.{theorems}
 use Rattle.records.specs.Records.{records, viewsOf, recordOf, recordsOf, stored}
 use Rattle.records.specs.Seen.{seen}
-use Rattle.search.specs.Task.{taskOfRows}
+use Rattle.search.specs.Task.{taskOf, taskOfRows}
 use Rattle.laws.specs.Memory.{put}
 use Rattle.laws.proofs.PutLaws.{put-none, put-length, put-next}
-use Rattle.planner.specs.Plan.{respondWith}
+use Rattle.planner.specs.Plan.{respondOf, respondWith}
 use Rattle.planner.specs.Records.{answered}
 use Rattle.records.proofs.RecordLaws.{Whole, none-whole, route-whole, records-snoc, views-above, plan-length, views-are}
 use Rattle.records.proofs.SeenLaws.{put-records}
@@ -28,6 +28,11 @@ best-whole task vs h = go (best task vs) refl
     go : (x : Answer) → best task vs ≡ x → Whole x
     go none e = none-whole
     go (route r) e = route-whole r (theorems .best-is-route task vs r h e .0 .long)
+
+-- Every best response has one.
+pub respond-whole : (f : Floor) (ws : List ℕ) → f .horizon ≤ 63 → (k : ℕ) (vs : List View) → Whole (respondOf f ws k vs)
+unfolding respondOf taskOf
+respond-whole f ws h k vs = best-whole (taskOf f ws (k + 1)) (seen f vs) h
 
 module _ (f : Floor) (rows : List ℕ) (horizon : f .horizon ≤ 63) where
   whole : (k : ℕ) (vs : List View) → Whole (respondWith f rows k vs)

@@ -1,8 +1,8 @@
 -- Answers among which nobody has none are seen as they are, so that both rules make the same plan of them.
 use Prim.Native.Nat.{ℕ, zero, suc, _≤_, _<_}
 use native.Mathlib.Omega.{arith}
-use mathlib.Core.Path.{_≡_, refl, sym, _∙_, ap}
-use mathlib.Core.List.{List, [], _∷_, _++_, map}
+use mathlib.Core.Path.{_≡_, refl, sym, _∙_}
+use mathlib.Core.List.{List, [], _∷_, map}
 use lib.ListN.{length, getD, take, length-map, List·getD-append}
 use lib.Seq.{take-all, length-take-le}
 use Rattle.floor.specs.declared.Floor.{Floor}

@@ -10,7 +10,6 @@ use Rattle.floor.specs.declared.Floor.{Floor}
 use Rattle.floor.specs.Checks.{startOf}
 use Rattle.route.specs.Route.{cellAt, Answer, none, route, View, unheard, heard, Task}
 use Rattle.route.specs.Conflict.{Silent}
-use Rattle.route.specs.Best.{HeldFrom}
 use Rattle.route.specs.Search.{best}
 use Rattle.route.proofs.Theorems.{theorems}
 use Rattle.records.specs.Seen.{parked, seenAs, seenFrom, seen}

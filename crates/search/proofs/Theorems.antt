@@ -15,7 +15,7 @@ use Rattle.route.specs.Best.{IsRoute, Arrives, Admissible, Best}
 use Rattle.route.specs.Arrival.{arrivalOf}
 use Rattle.route.specs.Search.{best}
 use Rattle.route.proofs.Theorems.{theorems as route-theorems}
-use Rattle.records.specs.Records.{viewsOf, viewAt, records}
+use Rattle.records.specs.Records.{viewsOf, viewAt}
 use Rattle.records.specs.Seen.{seen}
 use Rattle.records.proofs.SeenLaws.{records-view}
 use Rattle.search.specs.Task.{taskOf}

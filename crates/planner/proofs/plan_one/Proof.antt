@@ -5,7 +5,7 @@ use native.Mathlib.Omega.{arith}
 use mathlib.Core.List.{_∷_}
 use mathlib.Core.Path.{_∙_, ap}
 use borrow.Author.Needs.{needs}
-use Rattle.records.proofs.SeenLaws.{seen-step, seen-keeps}
+use Rattle.records.proofs.SeenLaws.{seen-step}
 use Rattle.planner.proofs.RecordLaws.{found-record}
 use Rattle.planner.proofs.PlanLaws.{shown-stored, still-long, still-shows}
 use Rattle.planner.proofs.RoomLaws.{room-above, room-stored}
