@@ -15,7 +15,8 @@ use Rattle.sheet.specs.Text.{lineOf, linesOf}
 use Rattle.sheet.proofs.LineText.{line-length}
 use Rattle.sheet.proofs.LineLaws.{field-length, field-next, newline-next}
 use Rattle.printing.proofs.LinesLaws.{lines-within}
-use Rattle.reporting.specs.Text.{keptWord, sentWord, deliveredWord, answerWord, stepLine, entryLine, entries, reportText, reportLength}
+use Rattle.reporting.specs.Text.{keptWord, sentWord, deliveredWord, answerWord, stepLine}
+use Rattle.reporting.specs.Text.{entryLine, entries, reportText, reportLength}
 use Rattle.reporting.specs.Put.{PutAt}
 
 -- Bytes copied to their end stand at their column.
@@ -105,8 +106,13 @@ entries-within xs k = lines-within (entryLine xs) 21 k (entry-within xs)
 pub report-within : (carriers order : ℕ) (xs : List ℕ) → length (reportText carriers order xs) ≤ reportLength (entries xs)
 unfolding reportText reportLength
 report-within carriers order xs =
-    let first = line-length (carriers ∷ order ∷ entries xs ∷ []) in
-    omega (arith, entries-within xs (entries xs), length-append (lineOf (carriers ∷ order ∷ entries xs ∷ [])) (linesOf (entryLine xs) (entries xs)))
+    let first = lineOf (carriers ∷ order ∷ entries xs ∷ []) in
+    omega (
+      arith,
+      line-length (carriers ∷ order ∷ entries xs ∷ []),
+      entries-within xs (entries xs),
+      length-append first (linesOf (entryLine xs) (entries xs)),
+    )
 
 -- A loop that puts the lines of a report's entries from a column on: before the first, one more, its length, and after the last.
 abbrev pub EntriesPut : (xs old : List ℕ) (at k : ℕ) (new : List ℕ) (next : ℕ) → Type 0
@@ -137,9 +143,10 @@ module _ (xs old : List ℕ) (at : ℕ) where
       rw same at e
 
 -- Line 1 and the entries' lines behind it.
-pub report-put : (carriers order : ℕ) (xs old mid new : List ℕ) (n : ℕ) → mid ≡ put old 0 (lineOf (carriers ∷ order ∷ entries xs ∷ []))
-    → EntriesPut xs mid 16 (entries xs) new n → reportLength (entries xs) ≤ length old → PutAt (reportText carriers order xs) old 0 new n
+pub report-put : (carriers order : ℕ) (xs old mid new : List ℕ) (k n : ℕ)
+    → PutAt (lineOf (carriers ∷ order ∷ entries xs ∷ [])) old 0 mid k → EntriesPut xs mid 16 (entries xs) new n
+    → reportLength (entries xs) ≤ length old → PutAt (reportText carriers order xs) old 0 new n
 unfolding reportText reportLength
-report-put carriers order xs old mid new n e p l =
-    let size = line-length (carriers ∷ order ∷ entries xs ∷ []) in
-    put-behind (record { bytes = e; behind = omega arith }) p (omega (arith, entries-short xs mid 16 _ _ _ p))
+report-put carriers order xs old mid new k n e p l =
+    let sixteen : k ≡ 16 = omega (arith, e .behind, line-length (carriers ∷ order ∷ entries xs ∷ [])) in
+    put-behind e (rw sixteen p) (omega (arith, entries-short xs mid 16 _ _ _ p))

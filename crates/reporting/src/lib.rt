@@ -68,15 +68,16 @@ fn put_entries(report: &[u16], out: &mut [u8]) -> usize
     at
 }
 
-// Puts line 1.
-fn put_first(carriers: u16, order: u16, steps: u16, out: &mut [u8])
+// Puts a line of three numbers in front of a buffer; its length is returned.
+pub fn put_line(a: u16, b: u16, c: u16, out: &mut [u8]) -> usize
     requires { ⌜ 16 ≤ length (now out) ⌝ }
-    ensures { λ r. ⌜ now (out .exit) ≡ put (now (out .entry)) 0 (lineOf (carriers ∷ order ∷ steps ∷ [])) ⌝ }
+    ensures { λ r. ⌜ PutAt (lineOf (a ∷ b ∷ c ∷ [])) (now (out .entry)) 0 (now (out .exit)) r ⌝ }
 {
-    fields::put_field(out, 0, carriers);
-    fields::put_field(out, 5, order);
-    fields::put_field(out, 10, steps);
+    fields::put_field(out, 0, a);
+    fields::put_field(out, 5, b);
+    fields::put_field(out, 10, c);
     out[15] = 10;
+    16
 }
 
 // Puts the text of a report, two numbers an entry, in front of a buffer; its length is returned.
@@ -84,6 +85,6 @@ pub fn put_report(carriers: u16, order: u16, report: &[u16], out: &mut [u8]) -> 
     requires { ⌜ (entries (now report) < 65536) × (reportLength (entries (now report)) ≤ length (now out)) ⌝ }
     ensures { λ r. ⌜ PutAt (reportText carriers order (now (report .entry))) (now (out .entry)) 0 (now (out .exit)) r ⌝ }
 {
-    put_first(carriers, order, (report.len() / 2) as u16, out);
+    put_line(carriers, order, (report.len() / 2) as u16, out);
     put_entries(report, out)
 }

@@ -10,9 +10,10 @@ returns : tie.Need-returns
 unfolding entries
 returns c =
     let after-put-entries : tie.After-put-entries = search in
-    let after-put-first : tie.After-put-first = search in
+    let after-put-line : tie.After-put-line = search in
     let start : tie.Start = search in
-    report-put _ _ (start .args .report .now) _ _ _ _ (after-put-first .put-first .ensures) (after-put-entries .put-entries .ensures) (start .pre .1)
+    report-put _ _ (start .args .report .now) _ _ _ _ _ (after-put-line .put-line .ensures) (after-put-entries .put-entries .ensures)
+    (start .pre .1)
 
 pub put-report-spec : {M : Type 1} → statement M
 unfolding entries reportLength

@@ -1,4 +1,4 @@
--- `reporting::put_first` meets its contract: three fields and a newline, one behind the other.
+-- `reporting::put_line` meets its contract: three fields and a newline, one behind the other.
 use mathlib.Core.Path.{refl}
 use lib.ListN.{length-set}
 use Rattle.fields.specs.Field.{fieldOf}
@@ -6,8 +6,8 @@ use Rattle.sheet.specs.Text.{lineOf}
 use Rattle.sheet.proofs.LineLaws.{field-next, newline-next}
 use native.Mathlib.Omega.{arith}
 use borrow.Author.Needs.{needs}
-use Rattle.reporting.proofs.put_first.Statement.{statement}
-use Rattle.reporting.proofs.put_first.Tie as tie
+use Rattle.reporting.proofs.put_line.Statement.{statement}
+use Rattle.reporting.proofs.put_line.Tie as tie
 
 returns : tie.Need-returns
 unfolding lineOf fieldOf
@@ -19,9 +19,9 @@ returns c =
     let room = start .pre in
     let two = field-next _ _ _ _ 0 5 _ (after-put-field .put-field .ensures) (after-put-field2 .put-field2 .ensures) refl (omega arith) in
     let three = field-next _ _ _ _ 0 10 _ two (after-put-field3 .put-field3 .ensures) refl (omega arith) in
-    newline-next _ _ _ 0 15 three refl (omega arith)
+    record { bytes = newline-next _ _ _ 0 15 three refl (omega arith); behind = refl }
 
-pub put-first-spec : {M : Type 1} → statement M
-put-first-spec =
+pub put-line-spec : {M : Type 1} → statement M
+put-line-spec =
     tie.close (tie.spec (λ c κs. search needs) (λ c κs. search needs) (λ c κs. search needs) (λ c. search needs)
     (λ c. simp length-set (omega arith)) returns)
