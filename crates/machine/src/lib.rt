@@ -15,12 +15,12 @@ ghost use Rattle.layout.specs.Calls.{machineOf, placeVerdict, stateVerdict, fre
 ghost use Rattle.layout.specs.InnerCalls.{replyIn, memoryIn};
 ghost use Rattle.machine.specs.Answers.{steppedReply, ranReply, takenNumber};
 ghost use Rattle.machine.specs.Ceiling.{figureOf, mostSteps};
+pub use checks::lent_place;
 use floor::Checked;
 use floor::Floor;
 use floor::Refusal;
-use steps::Asked;
-pub use checks::lent_place;
 pub use openness::is_open;
+use steps::Asked;
 pub use steps::Step;
 pub use take::take_step;
 

@@ -40,6 +40,12 @@ module _ (test : ℕ → Bool) where
       ⊎-elim (λ (e : test k ≡ true). omega (arith, count-yes k e)) (λ (e : test k ≡ false). omega (arith, count-no k e))
       (true-or-false (test k))
 
+  pub count-within : (k : ℕ) → count k ≤ k
+  count-within zero = omega (arith, count-none)
+  count-within (suc k) =
+      ⊎-elim (λ (e : test k ≡ true). omega (arith, count-yes k e, count-within k))
+      (λ (e : test k ≡ false). omega (arith, count-no k e, count-within k)) (true-or-false (test k))
+
   pub count-mono : (k n : ℕ) → k ≤ n → count k ≤ count n
   count-mono k zero l = let e : k ≡ 0 = omega arith in rw e (omega arith)
   count-mono k (suc n) l =

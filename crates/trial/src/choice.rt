@@ -85,7 +85,10 @@ pub fn choose(f: Floor, m: &[u16], order: u16, c: u32, candidates: usize) -> usi
 pub fn start(order: u16, seed: u32) -> u32
     ensures { λ r. ⌜ r ≡ startOf (orderBy order) seed ⌝ }
 {
-    if order <= 2 {
+    if order == 1 {
+        return 0;
+    }
+    if order == 2 {
         return 0;
     }
     seed

@@ -2,8 +2,7 @@
 ghost use mathlib.Core.Path.{_≡_};
 ghost use mathlib.Core.Bool.{true};
 ghost use Prim.Native.Nat.{_≤_, _<_};
-ghost use Rattle.reference.specs.Step.{isThere};
-ghost use Rattle.reference.specs.Take.{StepAnswer};
+ghost use Rattle.reference.specs.Step.{plan, deliver, isThere};
 ghost use Rattle.machine.specs.Answers.{stepMeant};
 ghost use Rattle.machine.specs.Inner.{bare};
 ghost use Rattle.orders.specs.Orders.{places, stepAt};
@@ -41,14 +40,30 @@ pub fn step_at(n: usize, p: usize) -> Step
     }
 }
 
-// A step that is there as a number: plan i is 100 + i, deliver j to i is 200 + 10 j + i, carriers counted from 1.
+// Plan i as a number, 100 + i with carriers counted from 1.
+fn plan_number(i: usize) -> u16
+    requires { ⌜ i < 8 ⌝ }
+    ensures { λ r. ⌜ r ≡ numberOf (plan i) ⌝ }
+{
+    (101 + i) as u16
+}
+
+// Deliver j to i as a number, 200 + 10 j + i with carriers counted from 1.
+fn delivery_number(j: usize, i: usize) -> u16
+    requires { ⌜ (j < 8) × (i < 8) ⌝ }
+    ensures { λ r. ⌜ r ≡ numberOf (deliver j i) ⌝ }
+{
+    (200 + 10 * (j + 1) + (i + 1)) as u16
+}
+
+// A step that is there as a number.
 pub fn number_of(f: Floor, s: Step) -> u16
     requires { ⌜ (isThere (bare f) (stepMeant s) ≡ true) × (f .carriers ≤ 8) ⌝ }
     ensures { λ r. ⌜ r ≡ numberOf (stepMeant s) ⌝ }
 {
     match s {
-        Step::Plan(i) => 101 + i as u16,
-        Step::Deliver { from, to } => 200 + 10 * (from as u16 + 1) + (to as u16 + 1),
+        Step::Plan(i) => plan_number(i),
+        Step::Deliver { from, to } => delivery_number(from, to),
     }
 }
 

@@ -1,6 +1,6 @@
 // The trial's loop: steps are taken in an order until none is open.
 ghost use mathlib.Core.Path.{_≡_};
-ghost use mathlib.Core.List.{_++_};
+ghost use mathlib.Core.List.{[], _∷_, _++_};
 ghost use Prim.Native.Nat.{_+_, _*_, _≤_, _<_};
 ghost use lib.ListN.{length, drop};
 ghost use Rattle.laws.specs.Verdict.{passed};
@@ -30,6 +30,16 @@ pub fn most_steps(n: usize) -> usize
     t
 }
 
+// Line t of the report.
+fn write_line(report: &mut [u16], t: usize, number: u16, answer: u16)
+    requires { ⌜ (t < 512) × (2 * t + 2 ≤ length (now report)) ⌝ }
+    ensures { λ r. ⌜ now (report .exit) ≡ put (now (report .entry)) (2 * t) (number ∷ (answer ∷ [])) ⌝ }
+{
+    let at = 2 * t;
+    report[at] = number;
+    report[at + 1] = answer;
+}
+
 // Takes the step that the order takes, and reports it as line t; what the order remembers then.
 fn advance(
     f: Floor,
@@ -53,8 +63,7 @@ fn advance(
     let s = crate::places::step_at(f.carriers as usize, p);
     let number = crate::places::number_of(f, s);
     let stepped = machine::take_step(f, walls, free, m, s);
-    report[2 * t] = number;
-    report[2 * t + 1] = crate::places::answer_number(stepped);
+    write_line(report, t, number, crate::places::answer_number(stepped));
     crate::choice::next(order, c, p)
 }
 

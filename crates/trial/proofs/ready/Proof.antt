@@ -1,78 +1,50 @@
-use native.Mathlib.Omega.{arith}
+-- `trial::ready` meets its contract: each check hands on to the next.
+use mathlib.Core.Path.{_∙_}
+use Rattle.floor.proofs.AnswersLaws.{hands-on, ends-at, passes}
+use Rattle.machine.proofs.VerdictLaws.{place-tells, placed-bounds}
+use Rattle.trial.specs.Entry.{trialVerdict}
+use Rattle.trial.proofs.EntryLaws.{report-room}
 use borrow.Author.Needs.{needs}
 use Rattle.trial.proofs.ready.Statement.{statement}
 use Rattle.trial.proofs.ready.Tie as tie
-use Rattle.trial.proofs.ready.Reads as reads
-use Rattle.trial.proofs.ready.Lts as lts
-use Rattle.floor.proofs.room.Reads as room-reads
-use Rattle.machine.proofs.lent_place.Reads as lent-place-reads
-use Rattle.trial.proofs.known.Reads as known-reads
-use Rattle.trial.proofs.play.most_steps.Reads as most-steps-reads
 
--- src/lib.rt:45:9
-lent-place-requires : tie.Need-lent-place-requires
-lent-place-requires c κs = search needs
-
-enum-told : tie.Need-enum-told
-enum-told c = search needs
-
--- src/lib.rt:47:9
-enum-told-2 : tie.Need-enum-told-2
-enum-told-2 c = search needs
-
--- src/lib.rt:47:9
 returns : tie.Need-returns
-returns c = search needs
+unfolding trialVerdict
+returns c =
+    let after-enum-told2 : tie.After-enum-told2 = search in
+    let after-lent-place : tie.After-lent-place = search in
+    ends-at _ (after-lent-place .lent-place .ensures) (after-enum-told2 .enum-told2 .given .1)
 
--- src/lib.rt:49:53
-cast-most-steps : tie.Need-cast-most-steps
-cast-most-steps c = search needs
-
--- src/lib.rt:49:36
-most-steps-requires : tie.Need-most-steps-requires
-most-steps-requires c κs = search needs
-
--- src/lib.rt:49:32
-mul-room : tie.Need-mul-room
-mul-room c = search needs
-
--- src/lib.rt:49:9
-room-requires : tie.Need-room-requires
-room-requires c κs = search needs
-
-enum-told-3 : tie.Need-enum-told-3
-enum-told-3 c = search needs
-
--- src/lib.rt:51:9
-enum-told-4 : tie.Need-enum-told-4
-enum-told-4 c = search needs
-
--- src/lib.rt:51:9
 returns-2 : tie.Need-returns-2
-returns-2 c = search needs
+unfolding trialVerdict
+returns-2 c =
+    let after-enum-told4 : tie.After-enum-told4 = search in
+    let after-room : tie.After-room = search in
+    let after-most-steps : tie.After-most-steps = search in
+    let after-enum-told : tie.After-enum-told = search in
+    let after-lent-place : tie.After-lent-place = search in
+    let placed = passes (after-lent-place .lent-place .ensures) (after-enum-told .enum-told .given .1) in
+    let n = placed-bounds (place-tells _ _ _ placed) .carriers in
+    let most = after-most-steps .most-steps .ensures .0 (n .0) (n .1) in
+    hands-on (after-lent-place .lent-place .ensures) (after-enum-told .enum-told .given .1)
+    (ends-at _ (after-room .room .ensures ∙ report-room _ _ _ most) (after-enum-told4 .enum-told4 .given .1))
 
--- src/lib.rt:53:5
-known-requires : tie.Need-known-requires
-known-requires c κs = search needs
-
--- src/lib.rt:42:1
 returns-3 : tie.Need-returns-3
-returns-3 c = search needs
+unfolding trialVerdict
+returns-3 c =
+    let after-enum-told3 : tie.After-enum-told3 = search in
+    let after-room : tie.After-room = search in
+    let after-most-steps : tie.After-most-steps = search in
+    let after-enum-told : tie.After-enum-told = search in
+    let after-lent-place : tie.After-lent-place = search in
+    let placed = passes (after-lent-place .lent-place .ensures) (after-enum-told .enum-told .given .1) in
+    let n = placed-bounds (place-tells _ _ _ placed) .carriers in
+    let most = after-most-steps .most-steps .ensures .0 (n .0) (n .1) in
+    hands-on (after-lent-place .lent-place .ensures) (after-enum-told .enum-told .given .1)
+    (hands-on (after-room .room .ensures ∙ report-room _ _ _ most) (after-enum-told3 .enum-told3 .given .1) (c .known .ensures))
 
 pub ready-spec : {M : Type 1} → statement M
 ready-spec =
-    tie.close
-    (tie.spec
-    lent-place-requires
-    enum-told
-    enum-told-2
-    returns
-    cast-most-steps
-    most-steps-requires
-    mul-room
-    room-requires
-    enum-told-3
-    enum-told-4
-    returns-2
-    known-requires
-    returns-3)
+    tie.close (tie.spec (λ c κs. search needs) (λ c. search needs) (λ c. search needs) returns (λ c. search needs)
+    (λ c κs. search needs) (λ c. search needs) (λ c κs. search needs) (λ c. search needs) (λ c. search needs) returns-2
+    (λ c κs. search needs) returns-3)

@@ -1,17 +1,9 @@
+-- `trial::choice::start` meets its contract: a law an order.
+use Rattle.trial.proofs.OrderLaws.{start-first, start-round, start-drawn}
 use borrow.Author.Needs.{needs}
-use native.Mathlib.Omega.{arith}
 use Rattle.trial.proofs.choice.start.Statement.{statement}
 use Rattle.trial.proofs.choice.start.Tie as tie
-use Rattle.trial.proofs.choice.start.Reads as reads
-use Rattle.trial.proofs.choice.start.Lts as lts
-
--- src/choice.rt:89:9
-returns : tie.Need-returns
-returns c = search needs
-
--- src/choice.rt:85:1
-returns-2 : tie.Need-returns-2
-returns-2 c = search needs
 
 pub start-spec : {M : Type 1} → statement M
-start-spec = tie.close (tie.spec returns returns-2)
+start-spec =
+    tie.close (tie.spec (λ c. search (needs, start-first)) (λ c. search (needs, start-round)) (λ c. search (needs, start-drawn)))

@@ -1,21 +1,17 @@
+-- `trial::places::count` meets its contract: n (n + 1) / 2 is the length of the ranking.
 use native.Mathlib.Omega.{arith}
+use mathlib.Core.Path.{sym}
+use Rattle.orders.proofs.PlaceLaws.{places-half}
+use Rattle.trial.proofs.StepLaws.{count-fits, count-most}
 use borrow.Author.Needs.{needs}
 use Rattle.trial.proofs.places.count.Statement.{statement}
 use Rattle.trial.proofs.places.count.Tie as tie
-use Rattle.trial.proofs.places.count.Reads as reads
-use Rattle.trial.proofs.places.count.Lts as lts
 
--- src/places.rt:21:10
-add-result : tie.Need-add-result
-add-result c = search needs
-
--- src/places.rt:21:5
 mul-result : tie.Need-mul-result
-mul-result c = search needs
+mul-result c = search (needs, count-fits _ (c .pre))
 
--- src/places.rt:17:1
 returns : tie.Need-returns
-returns c = search needs
+returns c = (sym (places-half _), count-most _ (c .pre))
 
 pub count-spec : {M : Type 1} → statement M
-count-spec = tie.close (tie.spec add-result mul-result returns)
+count-spec = tie.close (tie.spec (λ c. search needs) mul-result returns)

@@ -1,76 +1,40 @@
+-- `trial::places::number_of` meets its contract: a case a kind of step; the carriers of a step that is there are below 8.
 use native.Mathlib.Omega.{arith}
+use Rattle.machine.specs.Answers.{stepMeant}
+use Rattle.machine.proofs.OpenLaws.{plan-there, deliver-there}
 use borrow.Author.Needs.{needs}
 use Rattle.trial.proofs.places.number_of.Statement.{statement}
 use Rattle.trial.proofs.places.number_of.Tie as tie
-use Rattle.trial.proofs.places.number_of.Reads as reads
-use Rattle.trial.proofs.places.number_of.Lts as lts
 
--- src/places.rt:50:20
-enum-known-s : tie.Need-enum-known-s
-enum-known-s c = search needs
+plan-number-requires : tie.Need-plan-number-requires
+unfolding stepMeant
+plan-number-requires c κs =
+    let after-s : tie.After-s = search in
+    let start : tie.Start = search in
+    omega (arith, plan-there _ _ (rw (after-s .s .given .1) at (start .pre .0)))
 
--- src/places.rt:50:32
-cast-result : tie.Need-cast-result
-cast-result c = search needs
+delivery-number-requires : tie.Need-delivery-number-requires
+unfolding stepMeant
+delivery-number-requires c κs =
+    let after-s2 : tie.After-s2 = search in
+    let start : tie.Start = search in
+    let there = deliver-there _ _ _ (rw (after-s2 .s2 .given .1) at (start .pre .0)) in
+    (omega (arith, there .0, there .1, start .pre .1), omega (arith, there .1, start .pre .1))
 
--- src/places.rt:50:26
-add-result : tie.Need-add-result
-add-result c = search needs
-
--- src/places.rt:51:25
-enum-known-s-2 : tie.Need-enum-known-s-2
-enum-known-s-2 c = search needs
-
--- src/places.rt:51:51
-cast-result-2 : tie.Need-cast-result-2
-cast-result-2 c = search needs
-
--- src/places.rt:51:51
-add-result-2 : tie.Need-add-result-2
-add-result-2 c = search needs
-
--- src/places.rt:51:45
-mul-result : tie.Need-mul-result
-mul-result c = search needs
-
--- src/places.rt:51:39
-add-result-3 : tie.Need-add-result-3
-add-result-3 c = search needs
-
--- src/places.rt:51:71
-cast-result-3 : tie.Need-cast-result-3
-cast-result-3 c = search needs
-
--- src/places.rt:51:71
-add-result-4 : tie.Need-add-result-4
-add-result-4 c = search needs
-
--- src/places.rt:51:39
-add-result-5 : tie.Need-add-result-5
-add-result-5 c = search needs
-
--- src/places.rt:45:1
 returns : tie.Need-returns
-returns c = search needs
+unfolding stepMeant
+returns c =
+    let after-plan-number : tie.After-plan-number = search in
+    let after-s : tie.After-s = search in
+    rw (after-s .s .given .1) (after-plan-number .plan-number .ensures)
 
--- src/places.rt:45:1
 returns-2 : tie.Need-returns-2
-returns-2 c = search needs
+unfolding stepMeant
+returns-2 c =
+    let after-delivery-number : tie.After-delivery-number = search in
+    let after-s2 : tie.After-s2 = search in
+    rw (after-s2 .s2 .given .1) (after-delivery-number .delivery-number .ensures)
 
 pub number-of-spec : {M : Type 1} → statement M
 number-of-spec =
-    tie.close
-    (tie.spec
-    enum-known-s
-    cast-result
-    add-result
-    enum-known-s-2
-    cast-result-2
-    add-result-2
-    mul-result
-    add-result-3
-    cast-result-3
-    add-result-4
-    add-result-5
-    returns
-    returns-2)
+    tie.close (tie.spec (λ c. search needs) plan-number-requires (λ c. search needs) delivery-number-requires returns returns-2)

@@ -1,84 +1,38 @@
-use borrow.Author.Needs.{needs}
+-- `trial::places::step_at` meets its contract: a plan, or the loop, which counts down the deliveries of the senders before.
+use Prim.Native.Nat.{_-_}
+use Rattle.machine.specs.Answers.{stepMeant}
+use Rattle.trial.proofs.StepLaws.{Behind, behind-start, behind-more, behind-end, plan-is}
 use native.Mathlib.Omega.{arith}
+use borrow.Author.Needs.{needs}
 use Rattle.trial.proofs.places.step_at.Statement.{statement}
 use Rattle.trial.proofs.places.step_at.Tie as tie
-use Rattle.trial.proofs.places.step_at.Reads as reads
-use Rattle.trial.proofs.places.step_at.Lts as lts
 
 abbrev Inv-loop : tie.InvT-loop
-Inv-loop n p j₀ d₀ j d = ?
+Inv-loop n p j₀ d₀ j d = Behind n p j d
 
 abbrev μ-loop : tie.MeasureT-loop
-μ-loop n p j₀ d₀ j d = ?
+μ-loop n p j₀ d₀ j d = n - j
 
--- src/places.rt:30:9
 returns : tie.Need-returns Inv-loop μ-loop
-returns c = search needs
+unfolding stepMeant
+returns c = plan-is _ _ (c .before .pre .1) (c .if1 .taken)
 
--- src/places.rt:34:5
 loop-holds : tie.Need-loop-holds Inv-loop μ-loop
-loop-holds c = search needs
+loop-holds c = behind-start _ _ (c .before .pre .1) (c .if1 .left)
 
--- src/places.rt:34:21
-add-loop : tie.Need-add-loop Inv-loop μ-loop
-add-loop c = search needs
-
--- src/places.rt:34:16
-sub-loop : tie.Need-sub-loop Inv-loop μ-loop
-sub-loop c = search needs
-
--- src/places.rt:35:19
-add-d : tie.Need-add-d Inv-loop μ-loop
-add-d c = search needs
-
--- src/places.rt:35:14
-sub-d : tie.Need-sub-d Inv-loop μ-loop
-sub-d c = search needs
-
--- src/places.rt:35:9
-sub-d-2 : tie.Need-sub-d-2 Inv-loop μ-loop
-sub-d-2 c = search needs
-
--- src/places.rt:36:9
-add-j : tie.Need-add-j Inv-loop μ-loop
-add-j c = search needs
-
--- src/places.rt:34:5
-loop-less : tie.Need-loop-less Inv-loop μ-loop
-loop-less c = search needs
-
--- src/places.rt:34:5
 loop-again : tie.Need-loop-again Inv-loop μ-loop
-loop-again c = search needs
+loop-again c =
+    let start : tie.Start Inv-loop μ-loop = search in
+    behind-more _ _ (start .pre .1) _ _ (c .before .loop .inv) (c .loop-test .taken)
 
--- src/places.rt:40:13
-add-t9 : tie.Need-add-t9 Inv-loop μ-loop
-add-t9 c = search needs
-
--- src/places.rt:40:13
-add-t10 : tie.Need-add-t10 Inv-loop μ-loop
-add-t10 c = search needs
-
--- src/places.rt:25:1
 returns-2 : tie.Need-returns-2 Inv-loop μ-loop
-returns-2 c = search needs
+unfolding stepMeant
+returns-2 c =
+    let start : tie.Start Inv-loop μ-loop = search in
+    behind-end _ _ (start .pre .1) _ _ (c .before .loop .inv) (c .loop-test .left)
 
 pub step-at-spec : {M : Type 1} → statement M
 step-at-spec =
-    tie.close
-    (tie.spec
-    Inv-loop
-    μ-loop
-    returns
-    loop-holds
-    add-loop
-    sub-loop
-    add-d
-    sub-d
-    sub-d-2
-    add-j
-    loop-less
-    loop-again
-    add-t9
-    add-t10
-    returns-2)
+    tie.close (tie.spec Inv-loop μ-loop returns loop-holds (λ c. search needs) (λ c. search needs) (λ c. search needs)
+    (λ c. search needs) (λ c. search needs) (λ c. search needs) (λ c. search needs) loop-again (λ c. search needs)
+    (λ c. search needs) returns-2)

@@ -1,30 +1,23 @@
-use native.Mathlib.Omega.{arith}
+-- `trial::play::most_steps` meets its contract: the ceiling is told, or refused where there is none.
+use Rattle.machine.specs.Ceiling.{figureOf}
+use Rattle.trial.proofs.OrderLaws.{most-told, most-refused}
 use borrow.Author.Needs.{needs}
 use Rattle.trial.proofs.play.most_steps.Statement.{statement}
 use Rattle.trial.proofs.play.most_steps.Tie as tie
-use Rattle.trial.proofs.play.most_steps.Reads as reads
-use Rattle.trial.proofs.play.most_steps.Lts as lts
-use Rattle.machine.proofs.ceiling.Reads as ceiling-reads
 
--- src/play.rt:26:9
-ceiling-requires : tie.Need-ceiling-requires
-ceiling-requires c κs = search needs
-
--- src/play.rt:27:21
-enum-known-most : tie.Need-enum-known-most
-enum-known-most c = search needs
-
--- src/play.rt:28:9
-enum-told : tie.Need-enum-told
-enum-told c = search needs
-
--- src/play.rt:28:9
 returns : tie.Need-returns
-returns c = search needs
+unfolding figureOf
+returns c =
+    let after-ceiling : tie.After-ceiling = search in
+    most-refused _ _ _ (rw (c .enum-told .given .1) at (after-ceiling .ceiling .ensures))
 
--- src/play.rt:23:1
 returns-2 : tie.Need-returns-2
-returns-2 c = search needs
+unfolding figureOf
+returns-2 c =
+    let after-ceiling : tie.After-ceiling = search in
+    let after-most : tie.After-most = search in
+    most-told _ _ (rw (after-most .most .given .1) at (after-ceiling .ceiling .ensures))
 
 pub most-steps-spec : {M : Type 1} → statement M
-most-steps-spec = tie.close (tie.spec ceiling-requires enum-known-most enum-told returns returns-2)
+most-steps-spec =
+    tie.close (tie.spec (λ c κs. search needs) (λ c. search needs) (λ c. search needs) returns returns-2)
