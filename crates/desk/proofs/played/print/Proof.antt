@@ -1,65 +1,52 @@
+-- `desk::played::print` meets its contract: the reader's verdict decides between the trial and the refusal's line.
+use Rattle.floor.proofs.AnswersLaws.{refuses}
+use Rattle.sheet.proofs.Theorems.{theorems}
+use Rattle.printing.proofs.PrintLaws.{was-read, read-refused}
+use Rattle.desk.proofs.PlayedLaws.{read-printed, refused-printed}
 use native.Mathlib.Omega.{arith}
 use borrow.Author.Needs.{needs}
 use Rattle.desk.proofs.played.print.Statement.{statement}
 use Rattle.desk.proofs.played.print.Tie as tie
-use Rattle.desk.proofs.played.print.Reads as reads
-use Rattle.desk.proofs.played.print.Lts as lts
-use Rattle.desk.proofs.played.no_walls.Reads as no-walls-reads
-use Rattle.desk.proofs.played.put_refusal.Reads as put-refusal-reads
-use Rattle.desk.proofs.played.put_trial.Reads as put-trial-reads
-use Rattle.sheet.proofs.read.Reads as read-reads
 
--- src/played.rt:105:21
-no-walls-requires : tie.Need-no-walls-requires
-no-walls-requires c κs = search needs
-
--- src/played.rt:106:37
-slice-aggregate-read : tie.Need-slice-aggregate-read
-slice-aggregate-read c = search needs
-
--- src/played.rt:106:9
-read-requires : tie.Need-read-requires
-read-requires c κs = search needs
-
--- src/played.rt:109:26
-enum-known-checked : tie.Need-enum-known-checked
-enum-known-checked c = search needs
-
--- src/played.rt:110:29
-enum-told : tie.Need-enum-told
-enum-told c = search needs
-
--- src/played.rt:110:29
-slice-aggregate-put-trial : tie.Need-slice-aggregate-put-trial
-slice-aggregate-put-trial c = search needs
-
--- src/played.rt:110:9
 put-trial-requires : tie.Need-put-trial-requires
-put-trial-requires c κs = search needs
+put-trial-requires c κs =
+    let after-enum-told : tie.After-enum-told = search in
+    let after-read : tie.After-read = search in
+    let after-no-walls : tie.After-no-walls = search in
+    let w = was-read _ _ _ _ (omega (arith, after-no-walls .no-walls .ensures)) (after-read .read .ensures)
+    (after-enum-told .enum-told .given .1) in
+    (w .checked, (w .lent, omega arith))
 
--- src/played.rt:110:9
 returns : tie.Need-returns
-returns c = search needs
+returns c =
+    let after-put-trial : tie.After-put-trial = search in
+    let after-enum-told : tie.After-enum-told = search in
+    let after-read : tie.After-read = search in
+    let after-no-walls : tie.After-no-walls = search in
+    let w = was-read _ _ _ _ (omega (arith, after-no-walls .no-walls .ensures)) (after-read .read .ensures)
+    (after-enum-told .enum-told .given .1) in
+    read-printed _ _ _ _ _ _ (omega arith) _ _ w (after-put-trial .put-trial .ensures)
 
--- src/played.rt:112:5
 put-refusal-requires : tie.Need-put-refusal-requires
-put-refusal-requires c κs = search needs
+put-refusal-requires c κs =
+    let after-checked : tie.After-checked = search in
+    let after-read : tie.After-read = search in
+    let after-no-walls : tie.After-no-walls = search in
+    let told = read-refused _ _ (omega (arith, after-no-walls .no-walls .ensures)) _ _ (refuses (after-read .read .ensures .0)
+    (after-checked .checked .given .1)) in
+    (omega (arith, theorems .place-low _ _ _ told), omega arith)
 
--- src/played.rt:101:1
 returns-2 : tie.Need-returns-2
-returns-2 c = search needs
+returns-2 c =
+    let after-put-refusal : tie.After-put-refusal = search in
+    let after-checked : tie.After-checked = search in
+    let after-read : tie.After-read = search in
+    let after-no-walls : tie.After-no-walls = search in
+    let told = read-refused _ _ (omega (arith, after-no-walls .no-walls .ensures)) _ _ (refuses (after-read .read .ensures .0)
+    (after-checked .checked .given .1)) in
+    refused-printed _ _ _ _ _ _ (omega arith) _ _ told (after-put-refusal .put-refusal .ensures)
 
 pub print-spec : {M : Type 1} → statement M
 print-spec =
-    tie.close
-    (tie.spec
-    no-walls-requires
-    slice-aggregate-read
-    read-requires
-    enum-known-checked
-    enum-told
-    slice-aggregate-put-trial
-    put-trial-requires
-    returns
-    put-refusal-requires
-    returns-2)
+    tie.close (tie.spec (λ c κs. search needs) (λ c. search needs) (λ c κs. search needs) (λ c. search needs) (λ c. search needs)
+    (λ c. search needs) put-trial-requires returns put-refusal-requires returns-2)

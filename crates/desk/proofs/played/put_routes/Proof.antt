@@ -1,5 +1,6 @@
 -- `desk::played::put_routes` meets its contract: its memory is never too short.
 use Rattle.desk.proofs.TextLaws.{never-refused, routes-put}
+use mathlib.Core.List.{[]}
 use native.Mathlib.Omega.{arith}
 use borrow.Author.Needs.{needs}
 use Rattle.desk.proofs.played.put_routes.Statement.{statement}
@@ -10,7 +11,7 @@ returns c =
     let after-print : tie.After-print = search in
     let after-no-answers : tie.After-no-answers = search in
     let start : tie.Start = search in
-    absurd (never-refused _ _ _ _ _ _ (start .pre .0) (omega (arith, after-no-answers .no-answers .ensures)) (start .pre .1)
+    absurd (never-refused _ _ (start .args .out .now) [] _ _ (start .pre .0) (omega (arith, after-no-answers .no-answers .ensures)) (start .pre .1)
     (after-print .print .ensures .0) _ (c .enum-told .given .1))
 
 returns-2 : tie.Need-returns-2
