@@ -172,7 +172,7 @@ module _ (text old new : List ℕ) (order seed n : ℕ) (enough : 13217 ≤ leng
   unfolding trialText
   read-printed f walls r t =
       let same : orRefusal (orderVerdict order) (playedText f (take (f .walls) walls) order seed)
-          ≡ orRefusal (sheetVerdict text then orderVerdict order) (playedText (floorAt text) (wallsAt text) order seed) =
+      ≡ orRefusal (sheetVerdict text then orderVerdict order) (playedText (floorAt text) (wallsAt text) order seed) =
       rw (then-passed {w = orderVerdict order} (r .accepted), r .front, r .floor) refl
       in
       let fits : length (orRefusal (orderVerdict order) (playedText f (take (f .walls) walls) order seed)) ≤ length old =

@@ -3,9 +3,9 @@
 mod arguments;
 mod played;
 
+use arguments::Decimal;
 use console::Input;
 use libc::STDERR_FILENO;
-use arguments::Decimal;
 
 // The commands.
 enum Command {

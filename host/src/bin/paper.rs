@@ -1,4 +1,5 @@
-//! The routes program over `paper.rs` alone: a sheet on standard input, its routes on standard output. It needs no archive.
+//! The routes program over `paper.rs` alone: a sheet on standard input, its routes on standard output; with the arguments
+//! `trial ORDER SEED` the text of a trial. It needs no archive.
 //! Its tests (`cargo test --bin paper`) hold `paper.rs` to document 01's twelve floors, its search to a search of all routes, and the
 //! benchmark's other planners to `paper.rs`.
 
@@ -19,7 +20,14 @@ use std::io::{Read, Write};
 fn main() -> std::io::Result<()> {
     let mut text = Vec::new();
     std::io::stdin().read_to_end(&mut text)?;
-    std::io::stdout().write_all(paper::print_routes(&text).as_bytes())
+    let words: Vec<String> = std::env::args().skip(1).collect();
+    let number = |k: usize| words.get(k).and_then(|w| w.parse().ok()).unwrap_or(0u64);
+    let out = if words.first().map(String::as_str) == Some("trial") {
+        paper::print_trial(&text, number(1), number(2) as u32)
+    } else {
+        paper::print_routes(&text)
+    };
+    std::io::stdout().write_all(out.as_bytes())
 }
 
 #[cfg(test)]
