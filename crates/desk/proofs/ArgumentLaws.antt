@@ -1,19 +1,17 @@
 -- Numbers in decimal digits: what a digit is, and one more digit.
-use Prim.Native.Nat.{ℕ, zero, suc, _+_, _-_, _*_, _≤_, _<_, min}
+use Prim.Native.Nat.{ℕ, _+_, _-_, _*_, _≤_, _<_, min}
 use native.Mathlib.Omega.{arith}
 use native.Mathlib.Numerals.{add-one}
-use mathlib.Core.Bool.{Bool, true, false, _&&_}
-use mathlib.Core.Path.{_≡_, refl, sym, _∙_, ap}
+use mathlib.Core.Bool.{true, false}
+use mathlib.Core.Path.{_≡_, refl}
 use mathlib.Core.List.{List}
 use borrow.Author.Tests.{leb-true}
 use lib.Dec.{leb}
 use lib.ListN.{length, getD}
-use Rattle.laws.proofs.Tests.{and-fst, and-snd, true-false-absurd}
-use Rattle.reference.specs.Ranges.{each}
+use Rattle.laws.proofs.Tests.{and-fst, true-false-absurd}
 use Rattle.reference.proofs.RangeLaws.{each-holds}
-use Rattle.desk.specs.declared.arguments.Decimal.{Decimal}
 use Rattle.desk.specs.declared.arguments.Decimal.the-variants.{Number, Other}
-use Rattle.desk.specs.Arguments.{isDigit, allDigits, IsDecimal, valueIn, Reads}
+use Rattle.desk.specs.Arguments.{isDigit, allDigits, valueIn, Reads}
 
 pub digit-low : (b : ℕ) → isDigit b ≡ true → 48 ≤ b
 unfolding isDigit

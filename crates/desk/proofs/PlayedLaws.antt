@@ -1,15 +1,15 @@
 -- A trial in memory for the most carriers: only its order can be refused, and its text fits 13,217 bytes.
-use Prim.Native.Nat.{ℕ, suc, _+_, _-_, _*_, _/_, _^_, _≤_, _<_}
+use Prim.Native.Nat.{ℕ, suc, _*_, _^_, _≤_, _<_}
 use native.Mathlib.Omega.{arith}
 use native.Mathlib.Nat.{pow-le-pow-right}
 use mathlib.Core.Path.{_≡_, refl, sym, ap, _∙_}
-use mathlib.Core.List.{List, [], _∷_, _++_}
+use mathlib.Core.List.{List, _++_}
 use mathlib.Core.Logic.{⊎-elim}
 use borrow.Author.Tests.{le-leb}
-use lib.ListN.{length, take, drop, length-append}
-use lib.Seq.{take-at, length-take-le}
+use lib.ListN.{length, take, length-append}
+use lib.Seq.{take-at}
 use Rattle.laws.specs.Memory.{put}
-use Rattle.laws.specs.Verdict.{Verdict, Outcome, value, refusal, passed, refused, _then_, _gives_, whenPassed, demand}
+use Rattle.laws.specs.Verdict.{Verdict, value, refusal, passed, refused, _then_, _gives_}
 use Rattle.laws.proofs.Tests.{lt-or-le}
 use Rattle.laws.proofs.VerdictLaws.{then-passed, demand-passes, demand-cases, when-passed}
 use Rattle.floor.specs.declared.Floor.{Floor}

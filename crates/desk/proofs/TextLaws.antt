@@ -9,7 +9,7 @@ use lib.ListN.{length, take, drop, length-append, length-take, length-drop}
 use lib.Seq.{take-at, take-all, drop-drop, drop-length, length-take-le}
 use Rattle.io.specs.Counts.{Counts}
 use Rattle.laws.specs.Memory.{put}
-use Rattle.laws.specs.Verdict.{value, refusal, passed, refused, _then_, _gives_, whenPassed, demand}
+use Rattle.laws.specs.Verdict.{value, refusal, passed}
 use Rattle.laws.proofs.PutLaws.{put-length, put-next}
 use Rattle.laws.proofs.VerdictLaws.{then-passed, demand-passes, when-passed, gives-passed}
 use Rattle.floor.specs.declared.Floor.{Floor}

@@ -1,9 +1,9 @@
 -- Texts put one behind the other, and the lengths of a report's lines.
-use Prim.Native.Nat.{ℕ, zero, suc, _+_, _*_, _≤_, _<_}
+use Prim.Native.Nat.{ℕ, _+_, _*_, _≤_, _<_}
 use native.Mathlib.Omega.{arith}
 use native.Mathlib.Numerals.{add-one}
 use mathlib.Core.Bool.{Bool, true, false, cond}
-use mathlib.Core.Path.{_≡_, refl, sym, _∙_, ap}
+use mathlib.Core.Path.{_≡_, sym, _∙_, ap}
 use mathlib.Core.List.{List, [], _∷_, _++_}
 use borrow.Author.Tests.{eq-eqb, ne-eqb}
 use lib.Dec.{eqb}
@@ -13,7 +13,7 @@ use Rattle.laws.proofs.PutLaws.{put-none, put-length, put-next, put-one, copy-e
 use Rattle.fields.specs.Field.{fieldOf}
 use Rattle.sheet.specs.Text.{lineOf, linesOf}
 use Rattle.sheet.proofs.LineText.{line-length}
-use Rattle.sheet.proofs.LineLaws.{field-length, field-next, newline-next}
+use Rattle.sheet.proofs.LineLaws.{field-length, field-next}
 use Rattle.printing.proofs.LinesLaws.{lines-within}
 use Rattle.reporting.specs.Text.{keptWord, sentWord, deliveredWord, answerWord, stepLine}
 use Rattle.reporting.specs.Text.{entryLine, entries, reportText, reportLength}

@@ -1,10 +1,8 @@
 // The report of a trial as text (document 02, slip 1): carriers, order and steps taken, then a line a step: its place from 1 and its
 // number as fields of five columns, a space, the word of its answer. Helpers of the program `desk`.
-ghost use mathlib.Core.Path.{_≡_};
 ghost use mathlib.Core.List.{_∷_, []};
 ghost use Prim.Native.Nat.{_+_, _*_, _≤_, _<_};
 ghost use lib.ListN.{length};
-ghost use Rattle.laws.specs.Memory.{put};
 ghost use Rattle.sheet.specs.Text.{lineOf, linesOf};
 ghost use Rattle.reporting.specs.Text.{answerWord, stepLine, entryLine, entries, reportText, reportLength};
 ghost use Rattle.reporting.specs.Put.{PutAt};

@@ -1,7 +1,6 @@
 -- `reporting::put_report` meets its contract: line 1 and the lines of the entries behind it.
 use Rattle.reporting.specs.Text.{entries, reportLength}
 use Rattle.reporting.proofs.ReportLaws.{report-put}
-use native.Mathlib.Omega.{arith}
 use borrow.Author.Needs.{needs}
 use Rattle.reporting.proofs.put_report.Statement.{statement}
 use Rattle.reporting.proofs.put_report.Tie as tie

@@ -11,8 +11,8 @@ returns c =
     let after-print : tie.After-print = search in
     let after-no-answers : tie.After-no-answers = search in
     let start : tie.Start = search in
-    absurd (never-refused _ _ (start .args .out .now) [] _ _ (start .pre .0) (omega (arith, after-no-answers .no-answers .ensures)) (start .pre .1)
-    (after-print .print .ensures .0) _ (c .enum-told .given .1))
+    absurd (never-refused _ _ (start .args .out .now) [] _ _ (start .pre .0) (omega (arith, after-no-answers .no-answers .ensures))
+    (start .pre .1) (after-print .print .ensures .0) _ (c .enum-told .given .1))
 
 returns-2 : tie.Need-returns-2
 returns-2 c =

@@ -104,5 +104,5 @@ pub put-trial-spec : {M : Type 1} → statement M
 put-trial-spec =
     tie.close (tie.spec (λ c. search needs) (λ c κs. search needs) (λ c κs. search needs) slice-aggregate-trial (λ c. search needs)
     (λ c. search needs) (λ c κs. search needs) (λ c. search needs) slice-aggregate-put-played mul-report array-share-prefix-report
-    slice-aggregate-put-played-2 put-played-requires (λ c. search needs) put-refusal-requires (λ c. search needs) returns (λ c. search needs)
-    returns-2)
+    slice-aggregate-put-played-2 put-played-requires (λ c. search needs) put-refusal-requires (λ c. search needs) returns
+    (λ c. search needs) returns-2)
