@@ -72,6 +72,23 @@ mod tests {
         assert_eq!(paper::print_routes(short.as_bytes()), "    2    2\n    1    2    0    1    2    2\n    2 none\n");
     }
 
+    /// Document 02, slip 1. By hand: from seed 0 the first number is 1,013,904,223, which draws 15,470, even, and so plan 1 of two open
+    /// plans; from seed 4,294,967,295 it is 1,012,239,698, which draws 15,445, odd, and so plan 2.
+    #[test]
+    fn trials() {
+        let floor = paper::floor_of_sheet(SHEET.as_bytes()).unwrap();
+        let numbers = |order, seed| -> Vec<u16> { paper::trial(&floor, order, seed).iter().map(|line| line.0).collect() };
+        assert_eq!(numbers(1, 0), [101, 102, 212, 102]);
+        assert_eq!(numbers(2, 0), [101, 102, 212, 102]);
+        assert_eq!(numbers(3, 0)[0], 101);
+        assert_eq!(numbers(3, u32::MAX)[0], 102);
+        let text = paper::print_trial(SHEET.as_bytes(), 1, 0);
+        let report = "    2    1    4\n    1  101 sent\n    2  102 sent\n    3  212 delivered\n    4  102 sent\n";
+        assert_eq!(text, report.to_string() + &paper::print_routes(SHEET.as_bytes()));
+        assert_eq!(paper::print_trial(SHEET.as_bytes(), 4, 0), "    0   11    0\n");
+        assert_eq!(paper::print_trial(b"", 4, 0), "    0    1    0\n");
+    }
+
     #[test]
     fn floors_4_to_6_and_12() {
         let floor = paper::floor_of_sheet(SHEET.as_bytes()).unwrap();
