@@ -1,5 +1,5 @@
 -- The text of a trial in a memory of 13,217 bytes, which holds every such text.
-use Prim.Native.Nat.{ℕ, _+_, _-_, _*_, _≤_}
+use Prim.Native.Nat.{ℕ, _+_, _-_, _*_, _≤_, min}
 use native.Mathlib.Omega.{arith}
 use native.Mathlib.Nat.{zero-add}
 use mathlib.Core.Path.{_≡_, refl, sym, ap, ap₂, _∙_}
@@ -22,14 +22,31 @@ use Rattle.printing.specs.declared.Printed.{Printed}
 use Rattle.printing.specs.declared.Printed.the-variants.{Written, Refused}
 use Rattle.printing.specs.Text.{refusalLine}
 use Rattle.printing.specs.Print.{outcomeOf, printOf, textLength, printVerdict, printOutcome, printMemory}
-use Rattle.printing.specs.Put.{TextPut}
+use Rattle.printing.specs.Put.{TextPut, TextOrShort, RefusalPut}
 use Rattle.printing.proofs.PrintLaws.{plan-granted}
 use Rattle.reporting.specs.Put.{PutAt}
 
--- A line of three numbers is the line of a refusal.
-pub refusal-put : (k p n : ℕ) (old new : List ℕ) → PutAt (lineOf (0 ∷ k ∷ p ∷ [])) old 0 new n → TextPut (refusalLine k p) old new n
-unfolding refusalLine
-refusal-put k p n old new a = record { bytes = a .bytes; size = omega (arith, a .behind) }
+-- The line of a refusal in a memory of 16 bytes.
+module _ (k p : ℕ) (old new : List ℕ) (r : Printed) (low : p ≤ 65535) (enough : 16 ≤ length old)
+    (done : RefusalPut k p old new (outcomeOf r)) where
+  whole : TextOrShort (refusalLine k p) 16 k p old new (outcomeOf r)
+  unfolding RefusalPut
+  whole = let e : min p 65535 ≡ p = omega arith in rw e at done
+
+  pub refusal-put : (n : ℕ) → r ≡ Written n → TextPut (refusalLine k p) old new n
+  unfolding outcomeOf
+  refusal-put n e =
+      let told : value n ≡ value (length (refusalLine k p)) = sym (ap outcomeOf e) ∙ (rw (le-leb 16 (length old) enough) at (whole .answers)) in
+      record { bytes = rw (le-leb 16 (length old) enough) at (whole .stores); size = cc }
+
+  pub refusal-fits : (x : Refusal) → r ≡ Refused x → ⊥
+  unfolding outcomeOf
+  refusal-fits x e =
+      let told : refusal (x .number) (x .place) ≡ value (length (refusalLine k p)) =
+      sym (ap outcomeOf e) ∙ (rw (le-leb 16 (length old) enough) at (whole .answers))
+      in
+      let z : _≡_ {A = ℕ} 0 1 = cc in
+      omega arith
 
 -- The routes of an accepted floor in a memory of 2,659 bytes.
 module _ (f : Floor) (ws old new : List ℕ) (room : ℕ) (r : Printed) (ok : checkOf f ws ≡ passed) (wide : 520 ≤ room)

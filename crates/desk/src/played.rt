@@ -54,7 +54,11 @@ fn put_refusal(x: Refusal, out: &mut [u8]) -> usize
     requires { ⌜ (x .place ≤ 65535) × (16 ≤ length (now out)) ⌝ }
     ensures { λ r. ⌜ TextPut (refusalLine (x .number) (x .place)) (now (out .entry)) (now (out .exit)) r ⌝ }
 {
-    reporting::put_line(0, x.number, x.place as u16, out)
+    let printed = printing::print_refusal(x, out);
+    let Printed::Written(n) = printed else {
+        return 0;
+    };
+    n
 }
 
 // Puts the routes of an accepted floor; their length is returned.
