@@ -1,17 +1,17 @@
 -- The report of a trial as a list of single calls on the reference machine: the same answers, the same state.
 use Prim.Native.Nat.{ℕ, _≤_}
 use mathlib.Core.Bool.{true}
-use mathlib.Core.List.{List, [], _∷_, map}
+use mathlib.Core.List.{List, [], _∷_}
 use mathlib.Core.Path.{_≡_, refl, _∙_, ap}
 use borrow.Author.Tests.{le-leb}
-use Rattle.laws.specs.Verdict.{passed, value, _then_, passes, _gives_}
+use Rattle.laws.specs.Verdict.{passed, value, passes}
 use Rattle.laws.proofs.Tests.{and-fst}
 use Rattle.laws.proofs.VerdictLaws.{then-passed, demand-passes, gives-passed}
 use Rattle.reference.specs.State.{Machine, State}
 use Rattle.reference.specs.Step.{Step, isOpen, isThere, waitsFor}
 use Rattle.reference.specs.Take.{afterStep, stepAnswer}
 use Rattle.reference.specs.History.{afterSteps}
-use Rattle.reference.specs.Table.{Call, single, step, lentEnough, openSingle, verdict}
+use Rattle.reference.specs.Table.{single, step, lentEnough, openSingle, verdict}
 use Rattle.reference.specs.Calls.{Reply, stepped, reply, stateAfter, afterCall, replies, after}
 use Rattle.reference.proofs.OpenLaws.{open-ready}
 use Rattle.reference.proofs.ReachLaws.{after-passed}

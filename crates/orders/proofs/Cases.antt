@@ -13,7 +13,7 @@ use Rattle.reference.specs.Ranking.{deliveriesFrom, ranking, noneOpen, isSilent
 use Rattle.reference.specs.Quiet.{ceiling}
 use Rattle.orders.specs.Generator.{nextNumber, drawnBy}
 use Rattle.orders.specs.Orders.{Order, first, round, drawn, places, stepAt, openAt, passing, openPlaces}
-use Rattle.orders.specs.Orders.{turn, chosen, startOf, remembered}
+use Rattle.orders.specs.Orders.{turn, chosen, startMemory, remembered}
 use Rattle.orders.specs.Trial.{Entry, nextStep, entryOf, reported, tryFrom, trial, stepsIn}
 
 -- Seed 0: 0 × 1664525 + 1013904223 = 1013904223 = 15470 × 65536 + 62303.
@@ -54,7 +54,9 @@ record Trials : Type 0 where
   told : answers round 3 0 ≡ (sent ∷ sent ∷ sent ∷ delivered ∷ delivered ∷ delivered ∷ kept ∷ kept ∷ [])
 
 trials : Trials
-unfolding passes demand _then_ below joined each update updatePair fresh views tick isThere hasCapacity isEmpty waitsFor isOpen
-    sameCells sameAnswer isNews send planAs oldest newer deliverTo effect counted afterStep stepAnswer deliveriesFrom ranking
-    noneOpen isSilent ceiling nextNumber drawnBy places stepAt openAt passing openPlaces turn chosen startOf remembered nextStep entryOf reported tryFrom trial stepsIn
+unfolding
+    passes demand _then_ below joined each update updatePair fresh views tick isThere hasCapacity isEmpty waitsFor isOpen
+    sameCells sameAnswer isNews send planAs oldest newer deliverTo effect counted afterStep stepAnswer
+    deliveriesFrom ranking noneOpen isSilent ceiling nextNumber drawnBy
+    places stepAt openAt passing openPlaces turn chosen startMemory remembered nextStep entryOf reported tryFrom trial stepsIn
 trials = record { first-of-three = refl; round-of-three = refl; drawn-odd = refl; drawn-even = refl; told = refl }

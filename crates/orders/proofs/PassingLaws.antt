@@ -1,12 +1,12 @@
 -- The places below k that pass a test: the list for more places goes on from the list for fewer, and item i of it is the place that
 -- passes and has i such places before it.
-use Prim.Native.Nat.{ℕ, zero, suc, _+_, _%_, _≤_, _<_}
+use Prim.Native.Nat.{ℕ, zero, suc, _≤_, _<_}
 use native.Mathlib.Omega.{arith}
 use native.Mathlib.Nat.{eq-or-lt-of-le}
 use mathlib.Core.Bool.{Bool, true, false}
-use mathlib.Core.List.{List, [], _∷_, _++_, append-nil}
+use mathlib.Core.List.{[], _∷_, _++_, append-nil}
 use mathlib.Core.Logic.{⊎-elim}
-use mathlib.Core.Path.{_≡_, refl, sym, _∙_, ap}
+use mathlib.Core.Path.{_≡_, refl, _∙_, ap}
 use lib.ListN.{length, getD, length-append, List·getD-append}
 use lib.Seq.{getD-at}
 use Rattle.laws.proofs.Tests.{lt-or-le, true-or-false, not-true-is-false}
@@ -39,12 +39,6 @@ module _ (test : ℕ → Bool) where
   count-grows k =
       ⊎-elim (λ (e : test k ≡ true). omega (arith, count-yes k e)) (λ (e : test k ≡ false). omega (arith, count-no k e))
       (true-or-false (test k))
-
-  pub count-within : (k : ℕ) → count k ≤ k
-  count-within zero = omega (arith, count-none)
-  count-within (suc k) =
-      ⊎-elim (λ (e : test k ≡ true). omega (arith, count-yes k e, count-within k))
-      (λ (e : test k ≡ false). omega (arith, count-no k e, count-within k)) (true-or-false (test k))
 
   pub count-mono : (k n : ℕ) → k ≤ n → count k ≤ count n
   count-mono k zero l = let e : k ≡ 0 = omega arith in rw e (omega arith)

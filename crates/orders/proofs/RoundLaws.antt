@@ -1,20 +1,20 @@
 -- Order 2 is fair: going round, the way from the remembered place to the place q of a step that stays open grows shorter with every
 -- step taken, as long as it is not that step. The way is shorter than the ranking at first, so the stretch is.
-use Prim.Native.Nat.{ℕ, zero, suc, _+_, _-_, _≤_, _<_}
+use Prim.Native.Nat.{ℕ, suc, _+_, _-_, _≤_, _<_}
 use native.Mathlib.Omega.{arith}
 use mathlib.Core.Bool.{true, false}
-use mathlib.Core.List.{List, [], _∷_, _++_, map}
+use mathlib.Core.List.{List, [], _∷_, _++_}
 use mathlib.Core.Logic.{_⊎_, inl, inr, ⊎-elim}
-use mathlib.Core.Path.{_≡_, refl, sym, _∙_, ap}
+use mathlib.Core.Path.{_≡_, sym, _∙_, ap}
 use lib.ListN.{length}
-use Rattle.laws.proofs.Tests.{lt-or-le, true-false-absurd, eq-or-ne}
+use Rattle.laws.proofs.Tests.{lt-or-le, true-false-absurd}
 use Rattle.reference.specs.State.{Machine, State}
-use Rattle.reference.specs.Step.{Step, isOpen}
+use Rattle.reference.specs.Step.{Step}
 use Rattle.reference.specs.Take.{afterStep}
 use Rattle.reference.specs.History.{afterSteps}
 use Rattle.orders.specs.Orders.{round, places, stepAt, openAt, remembered}
 use Rattle.orders.specs.Trial.{Entry, stepsIn}
-use Rattle.orders.specs.Rules.{FirstRound, onward, around, Rule, TakenBy, ByRule, PassedOver}
+use Rattle.orders.specs.Rules.{FirstRound, onward, around, Rule, ByRule, PassedOver}
 use Rattle.orders.proofs.PlaceLaws.{places-split}
 use Rattle.orders.proofs.RuleLaws.{open-place}
 

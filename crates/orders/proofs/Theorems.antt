@@ -17,13 +17,13 @@ use Rattle.reference.specs.Calls.{after}
 use Rattle.reference.specs.Quiet.{idle, quiet}
 use Rattle.reference.proofs.Theorems.{theorems as reference-theorems, silent-idle}
 use Rattle.orders.specs.Generator.{nextNumber, drawnBy}
-use Rattle.orders.specs.Orders.{Order, round, startOf}
+use Rattle.orders.specs.Orders.{Order, round, startMemory}
 use Rattle.orders.specs.Trial.{Entry, trial, stepsIn}
 use Rattle.orders.specs.Rules.{PassedOver}
 use Rattle.orders.specs.Claims.{callsOf, Claims}
 use Rattle.orders.proofs.PlaceLaws.{places-half, ranking-lists}
-use Rattle.orders.proofs.TrialLaws.{Holds, trial-holds, ends-silent, start-memory}
-use Rattle.orders.proofs.RuleLaws.{Memory}
+use Rattle.orders.proofs.TrialLaws.{trial-holds, ends-silent, start-memory}
+use Rattle.orders.proofs.RuleLaws.{Memory, open-listed, open-rising}
 use Rattle.orders.proofs.CallLaws.{calls-reply, calls-lead}
 use Rattle.orders.proofs.RoundLaws.{round-fair}
 
@@ -38,7 +38,7 @@ module _ (o : Order) (M : Machine) (seed : ℕ) where
 
   state-same : (lent : ℕ) → M .needed ≤ lent → after M fresh (callsOf lent report) ≡ trial o M seed .state
   state-same lent l =
-      let h = trial-holds o M seed in calls-lead M lent l o (startOf o seed) fresh report (h .by-rule) ∙ sym (h .leads)
+      let h = trial-holds o M seed in calls-lead M lent l o (startMemory o seed) fresh report (h .by-rule) ∙ sym (h .leads)
 
   -- All are quiet where the trial ends, and the first n of n answers are all of them.
   sequential-answers : 1 ≤ M .depth → below (M .carriers) (trial o M seed .state .answer) ≡ sequential (M .respond) (M .carriers)
@@ -71,7 +71,7 @@ within-a-round : (M : Machine) (seed : ℕ) (x : Step) (xs ys zs : List Step) �
 unfolding Memory
 within-a-round M seed x xs ys zs n e over =
     rw (← places-half (M .carriers))
-    (round-fair M (startOf round seed) fresh (trial round M seed .report) x xs ys zs n (start-memory round M seed)
+    (round-fair M (startMemory round seed) fresh (trial round M seed .report) x xs ys zs n (start-memory round M seed)
     (trial-holds round M seed .by-rule) e over)
 
 pub theorems : Claims
@@ -79,6 +79,8 @@ theorems =
     record {
       ranking-length = places-half;
       ranking-lists = ranking-lists;
+      open-listed = open-listed;
+      open-rising = open-rising;
       number-fits = number-fits;
       drawn-fits = drawn-fits;
       by-rule = λ o M seed. trial-holds o M seed .by-rule;
@@ -86,7 +88,7 @@ theorems =
       ends-silent = ends-silent;
       within-ceiling = λ o M seed. trial-holds o M seed .within;
       replies-same = λ o M seed lent l.
-          calls-reply M lent l o (startOf o seed) fresh (trial o M seed .report) (trial-holds o M seed .by-rule);
+          calls-reply M lent l o (startMemory o seed) fresh (trial o M seed .report) (trial-holds o M seed .by-rule);
       state-same = state-same;
       sequential-answers = sequential-answers;
       within-a-round = within-a-round;

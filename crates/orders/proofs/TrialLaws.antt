@@ -1,10 +1,10 @@
 -- A trial: it goes by the order's rule, leads to its state, and ends silent, since every step lowers the potential of the state.
-use Prim.Native.Nat.{ℕ, zero, suc, _≤_, _<_}
+use Prim.Native.Nat.{ℕ, zero, suc, _≤_}
 use native.Mathlib.Omega.{arith}
 use mathlib.Core.Bool.{Bool, true, false}
-use mathlib.Core.List.{List, [], _∷_, map}
+use mathlib.Core.List.{[]}
 use mathlib.Core.Logic.{_⊎_, inl, inr, ⊎-elim}
-use mathlib.Core.Path.{_≡_, refl, sym, _∙_, ap}
+use mathlib.Core.Path.{_≡_, refl, ap}
 use lib.ListN.{length}
 use Rattle.laws.proofs.Tests.{true-or-false}
 use Rattle.reference.specs.State.{Machine, State, fresh}
@@ -15,9 +15,9 @@ use Rattle.reference.specs.Quiet.{ceiling}
 use Rattle.reference.proofs.RankingLaws.{some-open}
 use Rattle.reference.proofs.Potential.{fresh-potential}
 use Rattle.reference.proofs.CeilingLaws.{step-lowers, reaches-lowers}
-use Rattle.orders.specs.Orders.{Order, openAt, chosen, startOf, remembered, first, round, drawn}
-use Rattle.orders.specs.Trial.{Entry, TrialResult, nextStep, entryOf, reported, tryFrom, trial, stepsIn}
-use Rattle.orders.specs.Rules.{TakenBy, ByRule}
+use Rattle.orders.specs.Orders.{Order, openAt, chosen, startMemory, remembered, first, round, drawn}
+use Rattle.orders.specs.Trial.{TrialResult, nextStep, entryOf, reported, tryFrom, trial, stepsIn}
+use Rattle.orders.specs.Rules.{ByRule}
 use Rattle.orders.proofs.RuleLaws.{Memory, Takes, some-place, chosen-takes}
 
 -- A trial that takes no step.
@@ -25,8 +25,8 @@ abbrev stopped : State → TrialResult
 stopped s = record { report = []; state = s }
 
 -- At its start an order remembers what it may.
-pub start-memory : (o : Order) (M : Machine) (seed : ℕ) → Memory o M (startOf o seed)
-unfolding Memory startOf
+pub start-memory : (o : Order) (M : Machine) (seed : ℕ) → Memory o M (startMemory o seed)
+unfolding Memory startMemory
 start-memory first M seed = tt
 start-memory round M seed = omega arith
 start-memory drawn M seed = tt
@@ -96,9 +96,9 @@ module _ (o : Order) (M : Machine) where
             stops = stops-more b (length (t .report)) (isSilent M (t .state)) (h .stops);
           }
 
-  pub trial-holds : (seed : ℕ) → Holds (startOf o seed) fresh (ceiling (M .carriers)) (trial o M seed)
+  pub trial-holds : (seed : ℕ) → Holds (startMemory o seed) fresh (ceiling (M .carriers)) (trial o M seed)
   unfolding trial
-  trial-holds seed = try-holds (startOf o seed) fresh (ceiling (M .carriers)) (start-memory o M seed)
+  trial-holds seed = try-holds (startMemory o seed) fresh (ceiling (M .carriers)) (start-memory o M seed)
 
   -- A state that is not silent after the ceiling's number of steps would have one step too many.
   pub ends-silent : (seed : ℕ) → isSilent M (trial o M seed .state) ≡ true
@@ -108,7 +108,7 @@ module _ (o : Order) (M : Machine) where
       z : State
       z = trial o M seed .state
 
-      h : Holds (startOf o seed) fresh (ceiling (M .carriers)) (trial o M seed)
+      h : Holds (startMemory o seed) fresh (ceiling (M .carriers)) (trial o M seed)
       h = trial-holds seed
 
       full : length (trial o M seed .report) ≡ ceiling (M .carriers) → isSilent M z ≡ true

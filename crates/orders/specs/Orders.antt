@@ -48,10 +48,10 @@ unfoldable pub chosen : Order → Machine → State → ℕ → ℕ
 chosen o M s c = getD (openPlaces M s) (turn o M s c % length (openPlaces M s)) 0
 
 -- What an order remembers when it starts: order 3 the seed.
-unfoldable pub startOf : Order → ℕ → ℕ
-startOf first seed = 0
-startOf round seed = 0
-startOf drawn seed = seed
+unfoldable pub startMemory : Order → ℕ → ℕ
+startMemory first seed = 0
+startMemory round seed = 0
+startMemory drawn seed = seed
 
 -- What an order remembers after it took place p: order 2 the place behind it, order 3 the generator's next number.
 unfoldable pub remembered : Order → ℕ → ℕ → ℕ

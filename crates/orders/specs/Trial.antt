@@ -7,7 +7,7 @@ use Rattle.reference.specs.Step.{Step}
 use Rattle.reference.specs.Take.{afterStep, StepAnswer, stepAnswer}
 use Rattle.reference.specs.Ranking.{isSilent}
 use Rattle.reference.specs.Quiet.{ceiling}
-use Rattle.orders.specs.Orders.{Order, stepAt, chosen, startOf, remembered}
+use Rattle.orders.specs.Orders.{Order, stepAt, chosen, startMemory, remembered}
 
 -- A line of the report: the step taken and its answer.
 pub record Entry : Type 0 where
@@ -44,7 +44,7 @@ tryFrom o M c s (suc b) =
 
 -- The trial from fresh, with as many steps as the ceiling has.
 unfoldable pub trial : Order → Machine → ℕ → TrialResult
-trial o M seed = tryFrom o M (startOf o seed) fresh (ceiling (M .carriers))
+trial o M seed = tryFrom o M (startMemory o seed) fresh (ceiling (M .carriers))
 
 -- The steps of a report, in order.
 unfoldable pub stepsIn : List Entry → List Step

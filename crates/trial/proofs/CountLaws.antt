@@ -3,11 +3,10 @@ use Prim.Native.Nat.{ℕ, suc, _+_, _≤_, _<_}
 use native.Mathlib.Omega.{arith}
 use native.Mathlib.Numerals.{add-one}
 use mathlib.Core.Bool.{Bool, true, false}
-use mathlib.Core.List.{List}
-use mathlib.Core.Path.{_≡_, refl, sym, _∙_, ap}
+use mathlib.Core.Path.{_≡_, sym, _∙_, ap}
 use lib.ListN.{length, getD}
 use Rattle.orders.specs.Orders.{passing}
-use Rattle.orders.proofs.PassingLaws.{count-none, count-yes, count-no, count-within, passing-at}
+use Rattle.orders.proofs.PassingLaws.{count-none, count-yes, count-no, passing-at}
 
 -- After p of k places, so many were found to pass.
 pub record Counted (test : ℕ → Bool) (k p found : ℕ) : Type 0 where

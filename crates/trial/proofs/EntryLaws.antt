@@ -3,17 +3,17 @@ use Prim.Native.Nat.{ℕ, _+_, _*_, _≤_, _<_}
 use native.Mathlib.Omega.{arith}
 use native.Mathlib.Nat.{zero-add}
 use mathlib.Core.List.{List, [], _∷_, _++_}
-use mathlib.Core.Path.{_≡_, refl, sym, _∙_, ap}
-use lib.ListN.{length, drop}
+use mathlib.Core.Path.{_≡_, sym, _∙_, ap}
+use lib.ListN.{drop}
 use lib.Seq.{drop-at}
-use Rattle.laws.specs.Verdict.{passed, _then_, demand}
+use Rattle.laws.specs.Verdict.{passed}
 use Rattle.laws.specs.Memory.{put}
 use Rattle.laws.proofs.VerdictLaws.{then-both}
 use Rattle.floor.specs.declared.Floor.{Floor}
-use Rattle.floor.specs.Checks.{checkOf, roomOf, within}
+use Rattle.floor.specs.Checks.{checkOf, roomOf}
 use Rattle.floor.proofs.LimitsLaws.{limited-bounds, room-passed}
 use Rattle.floor.proofs.Theorems.{theorems}
-use Rattle.reference.specs.State.{State, fresh, Machine}
+use Rattle.reference.specs.State.{State, fresh}
 use Rattle.reference.specs.Step.{Step}
 use Rattle.reference.specs.Quiet.{ceiling}
 use Rattle.layout.specs.Places.{stateSize}

@@ -8,3 +8,4 @@ pub mod ReportLaws
 pub mod PlayLaws
 pub mod EntryLaws
 pub mod Theorems
+mod Cases

@@ -1,21 +1,21 @@
 -- Which order a number names, and what that order takes and remembers, a law a case of the code.
-use Prim.Native.Nat.{ℕ, suc, _+_, _*_, _≤_, _<_}
+use Prim.Native.Nat.{ℕ, suc, _+_, _≤_, _<_}
 use native.Mathlib.Omega.{arith}
 use native.Mathlib.Numerals.{add-one}
 use mathlib.Core.Bool.{Bool, true, false}
 use mathlib.Core.List.{List}
-use mathlib.Core.Path.{_≡_, refl, sym, _∙_, ap}
-use lib.Dec.{eqb, leb}
+use mathlib.Core.Path.{_≡_, refl, _∙_}
+use lib.Dec.{leb}
 use borrow.Author.Tests.{eq-eqb, ne-eqb, le-leb, lt-leb, leb-true}
 use Rattle.laws.proofs.Tests.{and-snd}
-use Rattle.laws.specs.Verdict.{Outcome, value, refusal, passed, refused, demand, _gives_}
+use Rattle.laws.specs.Verdict.{value, refusal, passed, refused, demand, _gives_}
 use Rattle.floor.specs.declared.Floor.{Floor}
 use Rattle.floor.specs.Checks.{within}
 use Rattle.reference.specs.Quiet.{ceiling}
 use Rattle.machine.specs.Ceiling.{mostSteps}
 use Rattle.machine.proofs.PowerLaws.{power-most}
 use Rattle.orders.specs.Generator.{nextNumber, drawnBy}
-use Rattle.orders.specs.Orders.{Order, first, round, drawn, startOf, remembered}
+use Rattle.orders.specs.Orders.{first, round, drawn, startMemory, remembered}
 use Rattle.trial.specs.Entry.{orderBy}
 use Rattle.trial.specs.Inner.{countIn, turnIn}
 
@@ -33,16 +33,16 @@ module _ (k : ℕ) where
   order-drawn h g = rw (ne-eqb k 1 h, ne-eqb k 2 g)
 
   -- What an order remembers at first.
-  pub start-first : (seed : ℕ) → k ≡ 1 → 0 ≡ startOf (orderBy k) seed
-  unfolding startOf
+  pub start-first : (seed : ℕ) → k ≡ 1 → 0 ≡ startMemory (orderBy k) seed
+  unfolding startMemory
   start-first seed e = rw (order-first e)
 
-  pub start-round : (seed : ℕ) → k ≡ 2 → 0 ≡ startOf (orderBy k) seed
-  unfolding startOf
+  pub start-round : (seed : ℕ) → k ≡ 2 → 0 ≡ startMemory (orderBy k) seed
+  unfolding startMemory
   start-round seed e = rw (order-round e)
 
-  pub start-drawn : (seed : ℕ) → (k ≡ 1 → ⊥) → (k ≡ 2 → ⊥) → seed ≡ startOf (orderBy k) seed
-  unfolding startOf
+  pub start-drawn : (seed : ℕ) → (k ≡ 1 → ⊥) → (k ≡ 2 → ⊥) → seed ≡ startMemory (orderBy k) seed
+  unfolding startMemory
   start-drawn seed h g = rw (order-drawn h g)
 
   -- What an order remembers after a step.

@@ -1,8 +1,7 @@
 -- The trial's loop: the memory is that of the state so far, the report has the lines so far, and the rest of the trial goes on from there.
 use Prim.Native.Nat.{ℕ, zero, suc, _+_, _*_, _-_, _≤_, _<_}
 use native.Mathlib.Omega.{arith}
-use native.Mathlib.Numerals.{add-one}
-use mathlib.Core.Bool.{true, false}
+use mathlib.Core.Bool.{true}
 use mathlib.Core.List.{List, [], _∷_, _++_, append-assoc, append-nil}
 use mathlib.Core.Path.{_≡_, refl, sym, _∙_, ap, subst}
 use lib.ListN.{length, drop, length-append}
@@ -29,7 +28,7 @@ use Rattle.layout.proofs.RecordLaws.{sound-whole}
 use Rattle.layout.proofs.ExactLaws.{fresh-fits}
 use Rattle.layout.proofs.FloorLaws.{respond-sound, storable}
 use Rattle.layout.proofs.StepLaws.{after-same, said-same}
-use Rattle.orders.specs.Orders.{Order, places, stepAt, openAt, passing, chosen, startOf, remembered}
+use Rattle.orders.specs.Orders.{Order, places, stepAt, openAt, passing, chosen, startMemory, remembered}
 use Rattle.orders.specs.Trial.{Entry, TrialResult, nextStep, entryOf, reported, tryFrom, trial}
 use Rattle.orders.proofs.RuleLaws.{Memory, Takes, no-place, place-not-silent, chosen-takes}
 use Rattle.orders.proofs.TrialLaws.{start-memory, try-silent, try-step}
@@ -92,7 +91,7 @@ module _ (f : Floor) (ws : List ℕ) (o : Order) (seed : ℕ) (m₀ report₀ : 
         entries ++ tryFrom o (machineOf f ws) c state (ceiling (f .carriers) - t) .report
     pub leads : trial o (machineOf f ws) seed .state ≡ tryFrom o (machineOf f ws) c state (ceiling (f .carriers) - t) .state
 
-  pub playing-start : m₀ ≡ encode (f .carriers) fresh ++ drop (stateSize (f .carriers)) m₀ → Playing m₀ report₀ (startOf o seed) 0
+  pub playing-start : m₀ ≡ encode (f .carriers) fresh ++ drop (stateSize (f .carriers)) m₀ → Playing m₀ report₀ (startMemory o seed) 0
   unfolding trial machineOf numbersOf
   playing-start e =
       record {
@@ -109,9 +108,9 @@ module _ (f : Floor) (ws : List ℕ) (o : Order) (seed : ℕ) (m₀ report₀ : 
         leads = ap (λ (r : TrialResult). r .state) all;
       }
     where
-      all : tryFrom o (machineOf f ws) (startOf o seed) fresh (ceiling (f .carriers)) ≡
-          tryFrom o (machineOf f ws) (startOf o seed) fresh (ceiling (f .carriers) - 0)
-      all = ap (tryFrom o (machineOf f ws) (startOf o seed) fresh) (omega arith)
+      all : tryFrom o (machineOf f ws) (startMemory o seed) fresh (ceiling (f .carriers)) ≡
+          tryFrom o (machineOf f ws) (startMemory o seed) fresh (ceiling (f .carriers) - 0)
+      all = ap (tryFrom o (machineOf f ws) (startMemory o seed) fresh) (omega arith)
 
   module _ (ok : checkOf f ws ≡ passed) {m report : List ℕ} {c t : ℕ} (p : Playing m report c t) where
     abbrev N : Machine

@@ -5,15 +5,12 @@ use native.Mathlib.Nat.{mul-le-mul, div-le-of-le-mul, eq-or-lt-of-le}
 use native.Mathlib.Numerals.{add-one}
 use mathlib.Core.Bool.{true}
 use mathlib.Core.Logic.{⊎-elim}
-use mathlib.Core.Path.{_≡_, refl, sym, _∙_, ap}
-use Rattle.laws.specs.Verdict.{value}
+use mathlib.Core.Path.{_≡_, sym, ap}
 use Rattle.floor.specs.declared.Floor.{Floor}
-use Rattle.reference.specs.Step.{Step, plan, deliver, isThere}
-use Rattle.reference.specs.Take.{StepAnswer, kept, sent, delivered}
-use Rattle.reference.specs.Calls.{stepped}
+use Rattle.reference.specs.Step.{plan, deliver, isThere}
+use Rattle.reference.specs.Take.{kept, sent, delivered}
 use Rattle.layout.specs.Calls.{machineOf}
-use Rattle.machine.specs.declared.Stepped.{Stepped}
-use Rattle.machine.specs.declared.Stepped.the-variants.{Kept, Sent, Delivered, Refused}
+use Rattle.machine.specs.declared.Stepped.the-variants.{Kept, Sent, Delivered}
 use Rattle.machine.specs.Answers.{steppedReply}
 use Rattle.machine.specs.Inner.{bare}
 use Rattle.orders.specs.Orders.{places, stepAt}

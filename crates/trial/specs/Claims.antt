@@ -2,10 +2,10 @@
 -- silent with the sequential planner's answers is claimed in the crate `orders`, for every machine, and so for that of a floor.
 use Prim.Native.Nat.{ℕ, _*_, _≤_, _<_}
 use mathlib.Core.Bool.{true}
-use mathlib.Core.List.{List, _++_}
+use mathlib.Core.List.{List}
 use mathlib.Core.Logic.{_⊎_, _↔_}
 use mathlib.Core.Path.{_≡_}
-use lib.ListN.{length, take, drop}
+use lib.ListN.{length}
 use Rattle.laws.specs.Verdict.{passed, refused}
 use Rattle.floor.specs.declared.Floor.{Floor}
 use Rattle.floor.specs.Checks.{checkOf}
@@ -19,7 +19,7 @@ use Rattle.reference.specs.Quiet.{ceiling}
 use Rattle.layout.specs.Places.{stateSize}
 use Rattle.layout.specs.Ranges.{WithinRanges}
 use Rattle.layout.specs.Numbers.{askedBy}
-use Rattle.layout.specs.Calls.{machineOf, placeVerdict}
+use Rattle.layout.specs.Calls.{machineOf}
 use Rattle.trial.specs.Report.{numberOf, numbersOf, reportSize}
 use Rattle.trial.specs.Entry.{trialVerdict, trialOf}
 
@@ -29,6 +29,7 @@ pub record Ends (f : Floor) (ws : List ℕ) (order seed : ℕ) : Type 0 where
   pub silent : isSilent (machineOf f ws) (trialOf f ws order seed .state) ≡ true
   pub within : length (trialOf f ws order seed .report) ≤ ceiling (f .carriers)
   pub sequential-answers : below (f .carriers) (trialOf f ws order seed .state .answer) ≡ sequential (respondOf f ws) (f .carriers)
+  pub within-ranges : WithinRanges f (trialOf f ws order seed .state)
   pub fits : length (numbersOf (trialOf f ws order seed .report)) ≤ reportSize (f .carriers)
 
 pub record Claims : Type 0 where

@@ -1,18 +1,14 @@
 -- Inner matter: nothing claimed rests on this. What the inner functions are proved against.
-use Prim.Native.Nat.{ℕ, _+_, _*_, _%_, _≤_, _<_}
+use Prim.Native.Nat.{ℕ, _*_, _%_}
 use mathlib.Core.Bool.{Bool}
-use mathlib.Core.List.{List, [], _∷_, _++_}
+use mathlib.Core.List.{List, [], _∷_}
 use mathlib.Core.Path.{_≡_}
-use lib.ListN.{length, getD, drop}
-use Rattle.laws.specs.Verdict.{value, passed}
+use lib.ListN.{length, getD}
+use Rattle.laws.specs.Verdict.{value}
 use Rattle.laws.specs.Memory.{put}
 use Rattle.floor.specs.declared.Floor.{Floor}
-use Rattle.floor.specs.Checks.{checkOf}
-use Rattle.reference.specs.State.{fresh}
 use Rattle.reference.specs.Take.{StepAnswer}
 use Rattle.reference.specs.Calls.{stepped}
-use Rattle.layout.specs.Places.{stateSize}
-use Rattle.layout.specs.Encode.{encode}
 use Rattle.layout.specs.Calls.{machineOf}
 use Rattle.layout.specs.InnerSteps.{openIn, afterIn, saidIn}
 use Rattle.machine.specs.declared.Stepped.{Stepped}

@@ -3,7 +3,7 @@ ghost use mathlib.Core.Path.{_≡_};
 ghost use Prim.Native.Nat.{_≤_, _<_};
 ghost use lib.ListN.{length, getD};
 ghost use Rattle.layout.specs.Places.{stateSize};
-ghost use Rattle.orders.specs.Orders.{round, places, startOf, remembered, passing};
+ghost use Rattle.orders.specs.Orders.{round, places, startMemory, remembered, passing};
 ghost use Rattle.trial.specs.Entry.{orderBy};
 ghost use Rattle.trial.specs.Inner.{opensIn, countIn, turnIn, chosenIn};
 use floor::Floor;
@@ -83,7 +83,7 @@ pub fn choose(f: Floor, m: &[u16], order: u16, c: u32, candidates: usize) -> usi
 
 // What an order remembers when it starts.
 pub fn start(order: u16, seed: u32) -> u32
-    ensures { λ r. ⌜ r ≡ startOf (orderBy order) seed ⌝ }
+    ensures { λ r. ⌜ r ≡ startMemory (orderBy order) seed ⌝ }
 {
     if order == 1 {
         return 0;

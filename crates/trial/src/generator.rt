@@ -1,6 +1,6 @@
 // The generator of order 3: the last number × 1664525 + 1013904223, modulo 2^32.
 ghost use mathlib.Core.Path.{_≡_};
-ghost use Prim.Native.Nat.{_*_, _%_, _<_};
+ghost use Prim.Native.Nat.{_*_, _%_};
 ghost use Rattle.orders.specs.Generator.{nextNumber, drawnBy};
 
 // The product modulo 2^32.

@@ -1,5 +1,5 @@
 -- `trial::trial` meets its contract: a refusal leaves all as it was; otherwise the trial is played.
-use mathlib.Core.Path.{refl, sym, _∙_, ap}
+use mathlib.Core.Path.{sym, _∙_, ap}
 use Rattle.floor.proofs.AnswersLaws.{passes, refuses}
 use Rattle.laws.specs.Verdict.{value}
 use Rattle.laws.proofs.VerdictLaws.{gives-passed, gives-refused, when-passed, when-refused}

@@ -1,5 +1,4 @@
 -- `trial::choice::choose` meets its contract: the turn modulo the number of open places is one of them.
-use native.Mathlib.Omega.{arith}
 use native.Mathlib.Nat.{mod-lt}
 use mathlib.Core.Path.{refl, _∙_}
 use Rattle.trial.specs.Inner.{chosenIn}

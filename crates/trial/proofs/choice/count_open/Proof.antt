@@ -2,7 +2,6 @@
 use Prim.Native.Nat.{_-_}
 use mathlib.Core.Logic.{⊎-elim}
 use mathlib.Core.Path.{sym, _∙_}
-use native.Mathlib.Omega.{arith}
 use Rattle.trial.specs.Inner.{opensIn, countIn}
 use Rattle.trial.proofs.CountLaws.{Counted, counted-start, counted-yes, counted-no, counted-end}
 use borrow.Author.Needs.{needs}

@@ -1,4 +1,5 @@
 -- `trial::choice::turn` meets its contract: a law an order.
+use native.Mathlib.Omega.{arith}
 use Rattle.trial.proofs.OrderLaws.{order-round, turn-first, turn-round, turn-drawn}
 use borrow.Author.Needs.{needs}
 use Rattle.trial.proofs.choice.turn.Statement.{statement}
@@ -8,7 +9,7 @@ count-open-requires : tie.Need-count-open-requires
 count-open-requires c κs =
     let then2 : tie.Then2 = search in
     let start : tie.Start = search in
-    (start .pre .0 (order-round _ (then2 .if2 .taken)), start .pre .1)
+    (omega (arith, start .pre .0 (order-round _ (then2 .if2 .taken))), start .pre .1)
 
 returns-2 : tie.Need-returns-2
 returns-2 c =

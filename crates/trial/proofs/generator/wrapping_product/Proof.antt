@@ -1,5 +1,4 @@
 -- `trial::generator::wrapping_product` meets its contract: the product fits 64 bits, and its remainder 32.
-use native.Mathlib.Omega.{arith}
 use native.Mathlib.Nat.{mod-lt}
 use Rattle.trial.proofs.GeneratorLaws.{product-fits}
 use borrow.Author.Needs.{needs}

@@ -1,5 +1,4 @@
 -- `trial::places::count` meets its contract: n (n + 1) / 2 is the length of the ranking.
-use native.Mathlib.Omega.{arith}
 use mathlib.Core.Path.{sym}
 use Rattle.orders.proofs.PlaceLaws.{places-half}
 use Rattle.trial.proofs.StepLaws.{count-fits, count-most}

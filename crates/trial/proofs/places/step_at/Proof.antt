@@ -2,7 +2,6 @@
 use Prim.Native.Nat.{_-_}
 use Rattle.machine.specs.Answers.{stepMeant}
 use Rattle.trial.proofs.StepLaws.{Behind, behind-start, behind-more, behind-end, plan-is}
-use native.Mathlib.Omega.{arith}
 use borrow.Author.Needs.{needs}
 use Rattle.trial.proofs.places.step_at.Statement.{statement}
 use Rattle.trial.proofs.places.step_at.Tie as tie

@@ -1,5 +1,4 @@
 -- `trial::play::play` meets its contract: the fresh state is written, and the loop plays from there.
-use native.Mathlib.Omega.{arith}
 use denote.Ref.{now}
 use Rattle.machine.proofs.TakeLaws.{workable-same}
 use Rattle.machine.proofs.VerdictLaws.{placed-sized, placed-grid, workable}
