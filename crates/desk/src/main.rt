@@ -4,6 +4,8 @@ mod arguments;
 mod played;
 
 use arguments::Decimal;
+ghost use mathlib.Core.Path.{_≡_};
+ghost use Prim.Native.Nat.{min};
 use console::Input;
 use libc::STDERR_FILENO;
 
@@ -39,7 +41,9 @@ fn seed_argument() -> Decimal {
 }
 
 // An order as the trial takes it: every number above 65,535 is as little an order as that one.
-fn order_of(n: u64) -> u16 {
+fn order_of(n: u64) -> u16
+    ensures { λ r. ⌜ r ≡ min n 65535 ⌝ }
+{
     if n > 65535 { 65535 } else { n as u16 }
 }
 
