@@ -14,7 +14,8 @@ returns-2 c =
     let else1 : tie.Else1 = search in
     let l = else1 .if1 .left in
     let done = rw (after-floor-of .floor-of .ensures) at (after-trial .trial .ensures) in
-    (says-lent _ _ l (rw (done .0) at (after-of-trial .of-trial .ensures)), (stores-lent _ _ l (done .1 .0), stores-lent _ _ l (done .1 .1)))
+    let word = rw (done .0) at (after-of-trial .of-trial .ensures) in
+    (says-lent _ _ l word, (stores-lent _ _ l (done .1 .0), stores-lent _ _ l (done .1 .1)))
 
 pub kalomivund-trial-spec : {M : Type 1} → statement M
 unfolding trialWord trialStateStored trialReportStored

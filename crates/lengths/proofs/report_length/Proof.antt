@@ -13,7 +13,8 @@ unfolding figureOf
 returns c =
     let after-ceiling : tie.After-ceiling = search in
     let start : tie.Start = search in
-    report-refused _ (start .pre .0) (start .pre .1) (most-refused _ _ _ (rw (c .enum-told .given .1) at (after-ceiling .ceiling .ensures)) .0)
+    let none = most-refused _ _ _ (rw (c .enum-told .given .1) at (after-ceiling .ceiling .ensures)) in
+    report-refused _ (start .pre .0) (start .pre .1) (none .0)
 
 mul-result : tie.Need-mul-result
 unfolding figureOf
