@@ -69,11 +69,11 @@ write-sheet xs ws old =
     (checked-lent (done 0) (writeVerdict f ws (length old)) (sheetLength f) _ old
     (λ e. drop-at (sheetOf f ws) _ _ (sheet-theorems .sheet-length f ws)))
 
-pub needed-lengths : (xs old : List ℕ) → Lent 8 (neededWord xs (length old)) (neededStored xs old) old
+pub needed-lengths : (xs old : List ℕ) → Lent 9 (neededWord xs (length old)) (neededStored xs old) old
 unfolding neededWord neededStored ofNumber figureList
 needed-lengths xs old =
     record-lent xs _ _ old
-    (checked-lent (done 0) (neededVerdict (floorOf xs) (length old)) 0 _ old (λ e. put-beyond 8 old _ (omega arith)))
+    (checked-lent (done 0) (neededVerdict (floorOf xs) (length old)) 0 _ old (λ e. put-beyond 9 old _ (omega arith)))
 
 -- A plan has 65 numbers a carrier.
 plan-size : (f : Floor) (ws : List ℕ) → checkOf f ws ≡ passed → length (recordsOf (planOf f ws)) ≡ 65 * f .carriers
