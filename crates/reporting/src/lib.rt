@@ -67,7 +67,7 @@ fn put_entries(report: &[u16], out: &mut [u8]) -> usize
 }
 
 // Puts a line of three numbers in front of a buffer; its length is returned.
-pub fn put_line(a: u16, b: u16, c: u16, out: &mut [u8]) -> usize
+fn put_line(a: u16, b: u16, c: u16, out: &mut [u8]) -> usize
     requires { ⌜ 16 ≤ length (now out) ⌝ }
     ensures { λ r. ⌜ PutAt (lineOf (a ∷ b ∷ c ∷ [])) (now (out .entry)) 0 (now (out .exit)) r ⌝ }
 {
