@@ -20,7 +20,7 @@ use Rattle.reference.specs.Calls.{replies}
 use Rattle.reference.specs.Quiet.{ceiling}
 use Rattle.layout.specs.Encode.{encode}
 use Rattle.layout.specs.Calls.{machineOf}
-use Rattle.orders.specs.Orders.{Order, startOf}
+use Rattle.orders.specs.Orders.{Order, startMemory}
 use Rattle.orders.specs.Trial.{Entry, stepsIn}
 use Rattle.orders.specs.Rules.{ByRule, PassedOver}
 use Rattle.orders.specs.Claims.{callsOf, repliesOf}
@@ -41,7 +41,7 @@ module _ (f : Floor) (ws : List ℕ) (order seed : ℕ) where
   -- What holds of the trial of an accepted floor.
   pub record Tries : Type 0 where
     -- Every step reported was open when it was taken, is the one that the order's rule takes, and has the machine's answer.
-    pub by-rule : ByRule (orderBy order) M (startOf (orderBy order) seed) fresh report
+    pub by-rule : ByRule (orderBy order) M (startMemory (orderBy order) seed) fresh report
     -- The steps lead from fresh to the last state; single calls of them are answered as reported.
     pub leads : last ≡ afterSteps M fresh (stepsIn report)
     pub answered : (lent : ℕ) → lengthsOf f .state ≤ lent → replies M fresh (callsOf lent report) ≡ repliesOf report
