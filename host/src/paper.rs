@@ -510,6 +510,63 @@ impl State {
     }
 }
 
+// ---- The trial (document 02, slip 1) ----
+
+/// The place that an order takes, of the open places of the ranking (none is empty): `last` is the place taken before, `number` the
+/// generator's last number, which order 3 moves on.
+fn chosen(order: u16, open: &[usize], last: Option<usize>, number: &mut u32) -> usize {
+    match order {
+        1 => open[0],
+        2 => {
+            let onward = last.and_then(|p| open.iter().copied().find(|&q| q > p));
+            onward.unwrap_or(open[0])
+        }
+        _ => {
+            *number = ((*number as u64 * 1_664_525 + 1_013_904_223) % (1 << 32)) as u32;
+            open[(*number / 65_536) as usize % open.len()]
+        }
+    }
+}
+
+/// A whole run from fresh to silent in an order, 1 to 3: each step taken, by its number, with its answer.
+pub fn trial(floor: &Floor, order: u16, seed: u32) -> Vec<(u16, Stepped)> {
+    let mut ranking = steps_of(floor.carriers());
+    ranking.sort_by_key(|&(number, _)| number);
+    let mut state = fresh(floor.carriers());
+    let (mut report, mut last, mut number) = (Vec::new(), None, seed);
+    loop {
+        let open: Vec<usize> = (0..ranking.len()).filter(|&p| state.is_open(floor, ranking[p].1)).collect();
+        if open.is_empty() {
+            return report;
+        }
+        let place = chosen(order, &open, last, &mut number);
+        report.push((ranking[place].0, state.take(floor, ranking[place].1)));
+        last = Some(place);
+    }
+}
+
+/// What `desk trial ORDER SEED` prints for a sheet.
+pub fn print_trial(text: &[u8], order: u64, seed: u32) -> String {
+    let floor = match floor_of_sheet(text) {
+        Ok(floor) => floor,
+        Err(r) => return text_line(&[0, r.number as usize, r.place]),
+    };
+    if !(1..=3).contains(&order) {
+        return text_line(&[0, 11, 0]);
+    }
+    let report = trial(&floor, order as u16, seed);
+    let mut out = text_line(&[floor.carriers(), order as usize, report.len()]);
+    for (k, &(number, answer)) in report.iter().enumerate() {
+        let word = match answer {
+            Stepped::Kept => "kept",
+            Stepped::Sent => "sent",
+            Stepped::Delivered => "delivered",
+        };
+        out += &format!("{:5}{:5} {}\n", k + 1, number, word);
+    }
+    out + &print_routes(text)
+}
+
 // ---- The state in numbers ----
 
 /// The pairs of a receiver and a sender above it, in the order of memory.

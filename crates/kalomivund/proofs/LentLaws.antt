@@ -67,11 +67,11 @@ write-sheet xs ws old =
     (checked-lent (done 0) (writeVerdict f ws (length old)) (sheetLength f) _ old
     (λ e. drop-at (sheetOf f ws) _ _ (sheet-theorems .sheet-length f ws)))
 
-pub needed-lengths : (xs old : List ℕ) → Lent 8 (neededWord xs (length old)) (neededStored xs old) old
+pub needed-lengths : (xs old : List ℕ) → Lent 9 (neededWord xs (length old)) (neededStored xs old) old
 unfolding neededWord neededStored ofNumber figureList
 needed-lengths xs old =
     record-lent xs _ _ old
-    (checked-lent (done 0) (neededVerdict (floorOf xs) (length old)) 0 _ old (λ e. put-beyond 8 old _ (omega arith)))
+    (checked-lent (done 0) (neededVerdict (floorOf xs) (length old)) 0 _ old (λ e. put-beyond 9 old _ (omega arith)))
 
 pub plan : (xs ws old : List ℕ) → Lent (65 * floorOf xs .carriers) (planWord xs ws (length old)) (planStored xs ws old) old
 unfolding planWord planStored planResult planMemory stored planVerdict ofNumber

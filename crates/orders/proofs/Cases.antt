@@ -54,7 +54,9 @@ record Trials : Type 0 where
   told : answers round 3 0 ≡ (sent ∷ sent ∷ sent ∷ delivered ∷ delivered ∷ delivered ∷ kept ∷ kept ∷ [])
 
 trials : Trials
-unfolding passes demand _then_ below joined each update updatePair fresh views tick isThere hasCapacity isEmpty waitsFor isOpen
-    sameCells sameAnswer isNews send planAs oldest newer deliverTo effect counted afterStep stepAnswer deliveriesFrom ranking
-    noneOpen isSilent ceiling nextNumber drawnBy places stepAt openAt passing openPlaces turn chosen startMemory remembered nextStep entryOf reported tryFrom trial stepsIn
+unfolding
+    passes demand _then_ below joined each update updatePair fresh views tick isThere hasCapacity isEmpty waitsFor isOpen
+    sameCells sameAnswer isNews send planAs oldest newer deliverTo effect counted afterStep stepAnswer
+    deliveriesFrom ranking noneOpen isSilent ceiling nextNumber drawnBy
+    places stepAt openAt passing openPlaces turn chosen startMemory remembered nextStep entryOf reported tryFrom trial stepsIn
 trials = record { first-of-three = refl; round-of-three = refl; drawn-odd = refl; drawn-even = refl; told = refl }

@@ -4,7 +4,7 @@ use Prim.Native.Nat.{ℕ, _%_, _≤_, _<_}
 use native.Mathlib.Omega.{arith}
 use native.Mathlib.Nat.{eq-or-lt-of-le, mod-lt, mod-eq-of-lt, mod-self}
 use mathlib.Core.Bool.{Bool, true, false}
-use mathlib.Core.Logic.{⊎-elim}
+use mathlib.Core.Logic.{_↔_, ⊎-elim}
 use mathlib.Core.Path.{_≡_, refl}
 use lib.ListN.{length, getD}
 use Rattle.laws.specs.Verdict.{passes}
@@ -64,6 +64,25 @@ module _ (M : Machine) (s : State) where
       let x = stepAt (M .carriers) (getD (passing opens n) 0 0) in
       ⊎-elim (λ (h : isSilent M s ≡ true). true-false-absurd (r .passes) (silent-shut M s h x))
       (λ (h : isSilent M s ≡ false). h) (true-or-false (isSilent M s))
+
+  -- The list of open places.
+  pub open-listed : (p : ℕ) →
+      ((p < n) × (opens p ≡ true)) ↔ ((i : ℕ) × (i < length (openPlaces M s)) × (getD (openPlaces M s) i 0 ≡ p))
+  unfolding openPlaces
+  open-listed p = (λ h. let r = passing-at opens n p (h .0) (h .1) in (count opens p, r .0, r .1), back)
+    where
+      back : ((i : ℕ) × (i < count opens n) × (getD (passing opens n) i 0 ≡ p)) → (p < n) × (opens p ≡ true)
+      back h = let r = passing-item opens n (h .0) (h .1) in (rw (h .2) at (r .listed), rw (h .2) at (r .passes))
+
+  pub open-rising : (i j : ℕ) → i < j → j < length (openPlaces M s) → getD (openPlaces M s) i 0 < getD (openPlaces M s) j 0
+  unfolding openPlaces
+  open-rising i j l h =
+      let a = passing-item opens n i (omega arith) in
+      let b = passing-item opens n j h in
+      ⊎-elim (λ (r : getD (passing opens n) i 0 < getD (passing opens n) j 0). r)
+      (λ (r : getD (passing opens n) j 0 ≤ getD (passing opens n) i 0).
+      absurd (omega (arith, count-mono opens _ _ r, a .before, b .before)))
+      (lt-or-le (getD (passing opens n) i 0) (getD (passing opens n) j 0))
 
   -- The first open place.
   first-rule : (p : ℕ) → ItemAt opens n 0 p → (q : ℕ) → 0 ≤ q → q < p → opens q ≡ false

@@ -23,7 +23,7 @@ use Rattle.orders.specs.Rules.{PassedOver}
 use Rattle.orders.specs.Claims.{callsOf, Claims}
 use Rattle.orders.proofs.PlaceLaws.{places-half, ranking-lists}
 use Rattle.orders.proofs.TrialLaws.{trial-holds, ends-silent, start-memory}
-use Rattle.orders.proofs.RuleLaws.{Memory}
+use Rattle.orders.proofs.RuleLaws.{Memory, open-listed, open-rising}
 use Rattle.orders.proofs.CallLaws.{calls-reply, calls-lead}
 use Rattle.orders.proofs.RoundLaws.{round-fair}
 
@@ -79,6 +79,8 @@ theorems =
     record {
       ranking-length = places-half;
       ranking-lists = ranking-lists;
+      open-listed = open-listed;
+      open-rising = open-rising;
       number-fits = number-fits;
       drawn-fits = drawn-fits;
       by-rule = λ o M seed. trial-holds o M seed .by-rule;

@@ -4,11 +4,11 @@ use mathlib.Core.Bool.{true}
 use mathlib.Core.List.{List, _++_, map}
 use mathlib.Core.Logic.{_↔_}
 use mathlib.Core.Path.{_≡_}
-use lib.ListN.{length}
+use lib.ListN.{length, getD}
 use Rattle.laws.specs.Verdict.{value}
 use Rattle.route.specs.Sequential.{sequential}
 use Rattle.reference.specs.Ranges.{below}
-use Rattle.reference.specs.State.{Machine, fresh}
+use Rattle.reference.specs.State.{Machine, State, fresh}
 use Rattle.reference.specs.Step.{Step, isThere}
 use Rattle.reference.specs.Ranking.{isSilent}
 use Rattle.reference.specs.History.{afterSteps}
@@ -16,7 +16,7 @@ use Rattle.reference.specs.Table.{Call, single, step}
 use Rattle.reference.specs.Calls.{Reply, stepped, replies, after}
 use Rattle.reference.specs.Quiet.{ceiling}
 use Rattle.orders.specs.Generator.{nextNumber, drawnBy}
-use Rattle.orders.specs.Orders.{Order, round, places, stepAt, startMemory}
+use Rattle.orders.specs.Orders.{Order, round, places, stepAt, openAt, openPlaces, startMemory}
 use Rattle.orders.specs.Trial.{Entry, trial, stepsIn}
 use Rattle.orders.specs.Rules.{ByRule, PassedOver}
 
@@ -32,6 +32,11 @@ pub record Claims : Type 0 where
   pub ranking-length : (n : ℕ) → places n ≡ n * (n + 1) / 2
   pub ranking-lists : (M : Machine) (x : Step) →
       (isThere M x ≡ true) ↔ ((p : ℕ) × (p < places (M .carriers)) × (stepAt (M .carriers) p ≡ x))
+  -- The list of open places has every place whose step is open, and no other, in rising order.
+  pub open-listed : (M : Machine) (s : State) (p : ℕ) →
+      ((p < places (M .carriers)) × (openAt M s p ≡ true)) ↔ ((i : ℕ) × (i < length (openPlaces M s)) × (getD (openPlaces M s) i 0 ≡ p))
+  pub open-rising : (M : Machine) (s : State) (i j : ℕ) → i < j → j < length (openPlaces M s) →
+      getD (openPlaces M s) i 0 < getD (openPlaces M s) j 0
   -- The generator's numbers are below 2^32, and what is drawn from them below 2^16.
   pub number-fits : (x : ℕ) → nextNumber x < 4294967296
   pub drawn-fits : (x : ℕ) → drawnBy x < 65536

@@ -18,12 +18,16 @@ use Rattle.floor.proofs.Theorems.{theorems as floor-theorems}
 use Rattle.reference.specs.Step.{Step, plan, deliver, isThere}
 use Rattle.reference.specs.Table.{step}
 use Rattle.reference.specs.Quiet.{ceiling}
+use Rattle.reference.proofs.BoundLaws.{fresh-in-range, reaches-in-range}
+use Rattle.reference.proofs.ThroughLaws.{fresh-throughout, reaches-throughout}
 use Rattle.layout.specs.Places.{stateSize}
 use Rattle.layout.specs.Numbers.{askedBy}
 use Rattle.layout.specs.Calls.{machineOf, placeVerdict}
-use Rattle.layout.proofs.FloorLaws.{depth-some}
+use Rattle.layout.specs.Ranges.{Sound}
+use Rattle.layout.proofs.FloorLaws.{none-sound, depth-some, respond-sound}
 use Rattle.layout.proofs.ExactStepLaws.{plan-number, deliver-number}
 use Rattle.machine.proofs.PowerLaws.{power-most}
+use Rattle.orders.proofs.TrialLaws.{trial-holds}
 use Rattle.orders.proofs.Theorems.{theorems as orders-theorems}
 use Rattle.trial.specs.Report.{numberOf, reportSize}
 use Rattle.trial.specs.Entry.{orderBy, trialVerdict, trialOf}
@@ -37,10 +41,19 @@ ends f ws order seed ok =
     let M = machineOf f ws in
     let o = orderBy order in
     let within = orders-theorems .within-ceiling o M seed in
+    let reached = trial-holds o M seed .reaches in
+    let range = reaches-in-range M (fresh-in-range M) reached in
+    let none-first = fresh-throughout (f .carriers) (Sound f) (none-sound f) in
     record {
       silent = orders-theorems .ends-silent o M seed;
       within = within;
       sequential-answers = orders-theorems .sequential-answers o M seed (depth-some f ws ok);
+      within-ranges =
+          record {
+            counted = range .counted;
+            channels = range .channels;
+            parts = reaches-throughout (f .carriers) (Sound f) M (respond-sound f ws ok) none-first reached;
+          };
       fits = omega (arith, numbers-length (trialOf f ws order seed .report));
     }
 

@@ -17,6 +17,7 @@ use Rattle.reference.specs.Ranking.{isSilent}
 use Rattle.reference.specs.Table.{step}
 use Rattle.reference.specs.Quiet.{ceiling}
 use Rattle.layout.specs.Places.{stateSize}
+use Rattle.layout.specs.Ranges.{WithinRanges}
 use Rattle.layout.specs.Numbers.{askedBy}
 use Rattle.layout.specs.Calls.{machineOf}
 use Rattle.trial.specs.Report.{numberOf, numbersOf, reportSize}
@@ -28,6 +29,7 @@ pub record Ends (f : Floor) (ws : List ℕ) (order seed : ℕ) : Type 0 where
   pub silent : isSilent (machineOf f ws) (trialOf f ws order seed .state) ≡ true
   pub within : length (trialOf f ws order seed .report) ≤ ceiling (f .carriers)
   pub sequential-answers : below (f .carriers) (trialOf f ws order seed .state .answer) ≡ sequential (respondOf f ws) (f .carriers)
+  pub within-ranges : WithinRanges f (trialOf f ws order seed .state)
   pub fits : length (numbersOf (trialOf f ws order seed .report)) ≤ reportSize (f .carriers)
 
 pub record Claims : Type 0 where
