@@ -501,6 +501,63 @@ impl State {
     }
 }
 
+// ---- The trial (document 02, slip 1) ----
+
+/// The place that an order takes, of the open places of the ranking (none is empty): `last` is the place taken before, `number` the
+/// generator's last number, which order 3 moves on.
+fn chosen(order: u16, open: &[usize], last: Option<usize>, number: &mut u32) -> usize {
+    match order {
+        1 => open[0],
+        2 => {
+            let onward = last.and_then(|p| open.iter().copied().find(|&q| q > p));
+            onward.unwrap_or(open[0])
+        }
+        _ => {
+            *number = ((*number as u64 * 1_664_525 + 1_013_904_223) % (1 << 32)) as u32;
+            open[(*number / 65_536) as usize % open.len()]
+        }
+    }
+}
+
+/// A whole run from fresh to silent in an order, 1 to 3: each step taken, by its number, with its answer.
+pub fn trial(floor: &Floor, order: u16, seed: u32) -> Vec<(u16, Stepped)> {
+    let mut ranking = steps_of(floor.carriers());
+    ranking.sort_by_key(|&(number, _)| number);
+    let mut state = fresh(floor.carriers());
+    let (mut report, mut last, mut number) = (Vec::new(), None, seed);
+    loop {
+        let open: Vec<usize> = (0..ranking.len()).filter(|&p| state.is_open(floor, ranking[p].1)).collect();
+        if open.is_empty() {
+            return report;
+        }
+        let place = chosen(order, &open, last, &mut number);
+        report.push((ranking[place].0, state.take(floor, ranking[place].1)));
+        last = Some(place);
+    }
+}
+
+/// What `desk trial ORDER SEED` prints for a sheet.
+pub fn print_trial(text: &[u8], order: u64, seed: u32) -> String {
+    let floor = match floor_of_sheet(text) {
+        Ok(floor) => floor,
+        Err(r) => return text_line(&[0, r.number as usize, r.place]),
+    };
+    if !(1..=3).contains(&order) {
+        return text_line(&[0, 11, 0]);
+    }
+    let report = trial(&floor, order as u16, seed);
+    let mut out = text_line(&[floor.carriers(), order as usize, report.len()]);
+    for (k, &(number, answer)) in report.iter().enumerate() {
+        let word = match answer {
+            Stepped::Kept => "kept",
+            Stepped::Sent => "sent",
+            Stepped::Delivered => "delivered",
+        };
+        out += &format!("{:5}{:5} {}\n", k + 1, number, word);
+    }
+    out + &print_routes(text)
+}
+
 // ---- The state in numbers ----
 
 /// The pairs of a receiver and a sender above it, in the order of memory.
@@ -690,11 +747,11 @@ pub mod calls {
             whole_record(floor)?;
             let at = |k: usize| floor[k] as usize;
             limits(&[at(0), at(1), at(2), at(3), at(4), at(5)])?;
-            long_enough(out.len() < 8)?;
+            long_enough(out.len() < 9)?;
             let (n, count) = (at(4), at(5));
             let sheet = 31 + 21 * n + 11 * count;
-            let lengths = [count, sheet, 65 * n, text_length(n), state_length(n), 64, 22, 8];
-            for k in 0..8 {
+            let lengths = [count, sheet, 65 * n, text_length(n), state_length(n), 64, 22, 9, report_length(n)];
+            for k in 0..9 {
                 out[k] = lengths[k] as u64;
             }
             Ok(done(0, 0))
@@ -729,6 +786,12 @@ pub mod calls {
             store_answers(&planned, answers);
             Ok(done(0, failing))
         })())
+    }
+
+    /// The needed length of a trial's report: two numbers for each of the most steps, of which each carrier has twice as many as the one
+    /// above it and one more.
+    fn report_length(n: usize) -> usize {
+        2 * (0..n).map(|i| (2 << i) - 1).sum::<usize>()
     }
 
     /// The needed length of text memory for n carriers: two fields and a newline, and for each carrier 66 fields and a newline.
@@ -799,6 +862,27 @@ pub mod calls {
             let (taken, end) = now.run(&floor, &named, budget as usize);
             state[..state_length(floor.carriers())].copy_from_slice(&encode(&now));
             Ok(done(end as u64, taken))
+        })())
+    }
+
+    /// The state after a trial is the one after its steps.
+    pub fn trial(floor: &[u16], walls: &[u16], order: u16, seed: u32, state: &mut [u16], report: &mut [u16]) -> u64 {
+        word((|| {
+            let floor = lent(floor, walls)?;
+            let n = floor.carriers();
+            long_enough(state.len() < state_length(n) || report.len() < report_length(n))?;
+            if order == 0 || order > 3 {
+                return refuse(11, 0);
+            }
+            let lines = super::trial(&floor, order, seed);
+            let mut now = super::fresh(n);
+            for (k, &(number, answer)) in lines.iter().enumerate() {
+                now.take(&floor, step_named(number, n).expect("a reported step is named"));
+                report[2 * k] = number;
+                report[2 * k + 1] = answer as u16;
+            }
+            state[..state_length(n)].copy_from_slice(&encode(&now));
+            Ok(done(0, lines.len()))
         })())
     }
 

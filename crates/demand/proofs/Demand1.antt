@@ -46,9 +46,12 @@ use Rattle.layout.specs.Valid.{valid}
 use Rattle.layout.specs.Calls.{machineOf, placeVerdict, stateVerdict, stateIn, withState, freshMemory, replyTo, memoryAfter}
 use Rattle.layout.proofs.Theorems.{theorems as layout-theorems}
 use Rattle.machine.specs.Ceiling.{mostSteps}
+use Rattle.trial.specs.Report.{numbersOf, reportSize}
+use Rattle.trial.specs.Entry.{trialVerdict, trialOf, trialOutcome, stateTried, reportTried}
+use Rattle.trial.proofs.Theorems.{theorems as trial-theorems}
 use Rattle.demand.specs.Rows.{Table, Row, row, Short, _orElse_, earlier, later, Refuses, Answers, Keeps}
 use Rattle.demand.specs.Demand1.{HoldsState, ReadRows, WriteRows, PlanRows, PrintRows, SearchRows, FreshRows, StateRows, CallRows}
-use Rattle.demand.specs.Demand1.{RoutesRows, Demand1}
+use Rattle.demand.specs.Demand1.{TrialRows, RoutesRows, Demand1}
 use Rattle.demand.proofs.RowLaws.{then-rows, answers-rows, gives-rows, demand-row, short-row, keeps-when, value-no-refusal, no-row-passes, passes-exactly, refusal-row}
 use Rattle.demand.proofs.EntryLaws.{front-beyond, put-beyond, floor-rows, lent-rows, outside-row, limit-rows}
 use Rattle.demand.proofs.RefusalLaws.{reply-rows, state-kept}
@@ -134,6 +137,32 @@ module _ (f : Floor) (ws : List ℕ) where
   fresh-keeps : (old : List ℕ) → Keeps (FreshRows f ws (length old)) (lengthsOf f .state) old (freshMemory f ws old)
   unfolding freshMemory lengthsOf
   fresh-keeps old = keeps-when _ (placeVerdict f ws (length old)) (fresh-rows (length old)) (λ e. state-beyond fresh old)
+
+  trial-rows : (order state report : ℕ) → Refuses (trialVerdict f ws order state report) (TrialRows f ws order state report)
+  unfolding trialVerdict lengthsOf
+  trial-rows order state report =
+      then-rows (placeVerdict f ws state) _ (fresh-rows state) (λ e.
+      then-rows (roomOf (reportSize (f .carriers)) report) _ (short-row (reportSize (f .carriers)) report) (λ h. outside-row 1 3 order 11 0))
+
+  trial : (order seed state report : ℕ) → Answers (trialOutcome f ws order seed state report) (TrialRows f ws order state report)
+  unfolding trialOutcome
+  trial order seed state report = gives-rows (trialVerdict f ws order state report) _ (trial-rows order state report)
+
+  trial-keeps-state : (order seed : ℕ) (old : List ℕ) (report : ℕ)
+      → Keeps (TrialRows f ws order (length old) report) (lengthsOf f .state) old (stateTried f ws order seed old report)
+  unfolding stateTried lengthsOf
+  trial-keeps-state order seed old report =
+      keeps-when _ (trialVerdict f ws order (length old) report) (trial-rows order (length old) report)
+      (λ e. state-beyond (trialOf f ws order seed .state) old)
+
+  trial-keeps-report : (order seed state : ℕ) (old : List ℕ)
+      → Keeps (TrialRows f ws order state (length old)) (lengthsOf f .report) old (reportTried f ws order seed state old)
+  unfolding reportTried lengthsOf trialVerdict placeVerdict
+  trial-keeps-report order seed state old =
+      keeps-when _ (trialVerdict f ws order state (length old)) (trial-rows order state (length old)) (λ e.
+      let ok = then-both _ _ (then-both _ _ e .0) .0 in
+      put-beyond old (numbersOf (trialOf f ws order seed .report)) (reportSize (f .carriers))
+      (trial-theorems .ends f ws order seed ok .fits))
 
   module _ (m : List ℕ) where
     -- A memory in a place for a state is refused with 10 exactly if its front is no state within the ranges.
@@ -239,10 +268,14 @@ theorem =
         lengths-theorems .answers-within f ws ok,
         lengths-theorems .text-within f ws ok,
         lengths-theorems .state-within f ws ok,
+        lengths-theorems .report-within f ws ok,
       );
       fresh = fresh-rows;
       fresh-keeps = fresh-keeps;
       call = call;
       call-keeps = call-keeps;
       ceiling = λ n. gives-rows _ _ (outside-row 1 8 n 2 5);
+      trial = trial;
+      trial-keeps-state = trial-keeps-state;
+      trial-keeps-report = trial-keeps-report;
     }

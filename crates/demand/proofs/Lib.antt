@@ -7,6 +7,7 @@ pub mod SameFloorLaws
 pub mod RoundTripLaws
 pub mod Demand1
 pub mod Demand2
+pub mod Trials
 pub mod LentLaws
 pub mod ListLaws
 pub mod CutLaws

@@ -25,6 +25,7 @@ use Rattle.layout.specs.Encode.{encode}
 use Rattle.layout.specs.Ranges.{WithinRanges}
 use Rattle.layout.specs.Calls.{machineOf, placeVerdict, stateIn, freshMemory, replyTo, memoryAfter}
 use Rattle.machine.specs.Ceiling.{mostSteps}
+use Rattle.trial.specs.Entry.{trialOutcome, stateTried, reportTried}
 use Rattle.demand.specs.Rows.{Table, Row, Short, _orElse_, Refuses, Answers, Keeps}
 
 -- 2, field: a value of line 1 is outside its limits; the first such field.
@@ -57,6 +58,10 @@ module _ (f : Floor) (ws : List ℕ) where
 
   abbrev pub CallRows : List ℕ → Call → Table
   CallRows m c = StateRows m orElse RefusedCall (machineOf f ws) (stateIn f m) c
+
+  -- 11, 0: an order other than 1 to 3 (document 02, slip 1).
+  abbrev pub TrialRows : (order state report : ℕ) → Table
+  TrialRows order state report = FreshRows state orElse Short report (lengthsOf f .report) orElse Row 11 0 (Within 1 3 order → ⊥)
 
 abbrev pub ReadRows : List ℕ → ℕ → Table
 ReadRows text room = RefusedSheet text orElse Short room (lengthsOf (floorAt text) .walls)
@@ -94,6 +99,7 @@ pub record Demand1 : Type 0 where
   pub lengths-told : (f : Floor) (ws : List ℕ) → checkOf f ws ≡ passed → figuresFor f ≡ value (lengthsOf f)
   pub lengths-small : (f : Floor) (ws : List ℕ) → checkOf f ws ≡ passed → (2 * lengthsOf f .walls ≤ 65536) × (lengthsOf f .sheet ≤ 65536)
       × (2 * lengthsOf f .answers ≤ 65536) × (lengthsOf f .text ≤ 65536) × (2 * lengthsOf f .state ≤ 65536)
+      × (2 * lengthsOf f .report ≤ 65536)
   -- The fresh state, and every call on a lent state: single steps and runs.
   pub fresh : (f : Floor) (ws : List ℕ) (room : ℕ) → Refuses (placeVerdict f ws room) (FreshRows f ws room)
   pub fresh-keeps : (f : Floor) (ws old : List ℕ) → Keeps (FreshRows f ws (length old)) (lengthsOf f .state) old (freshMemory f ws old)
@@ -101,3 +107,10 @@ pub record Demand1 : Type 0 where
   pub call-keeps : (f : Floor) (ws m : List ℕ) (c : Call) → Keeps (CallRows f ws m c) (lengthsOf f .state) m (memoryAfter f ws m c)
   -- The step ceiling.
   pub ceiling : (n : ℕ) → Answers (mostSteps n) (Row 2 5 (Within 1 8 n → ⊥))
+  -- A trial, with its state and its report.
+  pub trial : (f : Floor) (ws : List ℕ) (order seed state report : ℕ)
+      → Answers (trialOutcome f ws order seed state report) (TrialRows f ws order state report)
+  pub trial-keeps-state : (f : Floor) (ws : List ℕ) (order seed : ℕ) (old : List ℕ) (report : ℕ)
+      → Keeps (TrialRows f ws order (length old) report) (lengthsOf f .state) old (stateTried f ws order seed old report)
+  pub trial-keeps-report : (f : Floor) (ws : List ℕ) (order seed state : ℕ) (old : List ℕ)
+      → Keeps (TrialRows f ws order state (length old)) (lengthsOf f .report) old (reportTried f ws order seed state old)

@@ -6,7 +6,7 @@ use mathlib.Core.Path.{_≡_, refl, _∙_, ap}
 use mathlib.Core.List.{List, _++_}
 use lib.ListN.{length, drop}
 use lib.Seq.{drop-append-add, drop-drop}
-use Rattle.laws.specs.Verdict.{Verdict, passed, refused, Outcome, value, refusal, _gives_, _thenAnswers_, whenPassed}
+use Rattle.laws.specs.Verdict.{Verdict, passed, refused, Outcome, value, _gives_, _thenAnswers_, whenPassed}
 use Rattle.laws.specs.Memory.{put}
 use Rattle.wire.specs.Word.{Done, wordOf, mapOutcome}
 use Rattle.wire.proofs.Theorems.{theorems as wire-theorems}
@@ -38,14 +38,15 @@ checked-kept g passed a new old e = absurd (done-not-refused (g a) e)
 checked-kept g (refused k p) a new old e = refl
 
 -- Checks v before an entry that answers o.
-pub after-kept : {A : Type 0} (g : A → Done) (v : Verdict) (o : Outcome A) (new old : List ℕ) → (Refuses (wordOf (mapOutcome g o)) → new ≡ old)
-    → Refuses (wordOf (mapOutcome g (v thenAnswers o))) → whenPassed v new old ≡ old
+pub after-kept : {A : Type 0} (g : A → Done) (v : Verdict) (o : Outcome A) (new old : List ℕ)
+    → (Refuses (wordOf (mapOutcome g o)) → new ≡ old) → Refuses (wordOf (mapOutcome g (v thenAnswers o))) → whenPassed v new old ≡ old
 unfolding mapOutcome _thenAnswers_ whenPassed
 after-kept g passed o new old h e = h e
 after-kept g (refused k p) o new old h e = refl
 
 -- What is stored where checks pass leaves what it leaves where they refuse.
-pub checked-beyond : (v : Verdict) (n : ℕ) (new old : List ℕ) → (v ≡ passed → drop n new ≡ drop n old) → drop n (whenPassed v new old) ≡ drop n old
+pub checked-beyond : (v : Verdict) (n : ℕ) (new old : List ℕ) → (v ≡ passed → drop n new ≡ drop n old)
+    → drop n (whenPassed v new old) ≡ drop n old
 unfolding whenPassed
 checked-beyond passed n new old h = h refl
 checked-beyond (refused k p) n new old h = refl

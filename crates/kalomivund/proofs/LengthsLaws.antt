@@ -1,9 +1,9 @@
 -- Laws of the needed lengths into lent memory: known, they go there if there is room; refused, nothing does.
 use Prim.Native.Nat.{ℕ}
 use native.Mathlib.Omega.{arith}
-use mathlib.Core.Path.{_≡_, refl, sym, _∙_}
+use mathlib.Core.Path.{_≡_, refl, sym}
 use mathlib.Core.List.{List}
-use Rattle.laws.specs.Verdict.{Verdict, passed, refused, _then_, Outcome, value, refusal, _gives_, whenPassed}
+use Rattle.laws.specs.Verdict.{Verdict, passed, refused, Outcome, value, refusal, _gives_, whenPassed}
 use Rattle.laws.specs.Memory.{put}
 use Rattle.laws.proofs.VerdictLaws.{then-passed, then-refused, gives-refused, when-refused}
 use Rattle.floor.specs.declared.Floor.{Floor}
@@ -33,7 +33,7 @@ module _ {x : Needed} (f : Floor) (h : figuresOf x ≡ figuresFor f) (room : ℕ
   unfolding figuresOf figuresFor
   known-lengths {l} e = given-value (limitsOf f) (lengthsOf f) l (rw e at h)
 
-  known-verdict : {l : Lengths} → x ≡ Known l → neededVerdict f room ≡ roomOf 8 room
+  known-verdict : {l : Lengths} → x ≡ Known l → neededVerdict f room ≡ roomOf 9 room
   unfolding neededVerdict
   known-verdict e = then-passed (known-lengths e .0)
 
@@ -42,11 +42,11 @@ module _ {x : Needed} (f : Floor) (h : figuresOf x ≡ figuresFor f) (room : ℕ
   refused-verdict {r} e = then-refused _ (given-refusal (limitsOf f) (lengthsOf f) (r .number) (r .place) (rw e at h))
 
   -- Known: the word and the memory are those of the room for them.
-  pub known-says : {w : ℕ} {l : Lengths} → x ≡ Known l → w ≡ wordOf (ofNumber (roomOf 8 room gives 0))
+  pub known-says : {w : ℕ} {l : Lengths} → x ≡ Known l → w ≡ wordOf (ofNumber (roomOf 9 room gives 0))
       → w ≡ wordOf (ofNumber (neededVerdict f room gives 0))
   known-says e s = rw (known-verdict e) s
 
-  pub known-stores : {m : List ℕ} {l : Lengths} (old : List ℕ) → x ≡ Known l → m ≡ whenPassed (roomOf 8 room) (put old 0 (figureList l)) old
+  pub known-stores : {m : List ℕ} {l : Lengths} (old : List ℕ) → x ≡ Known l → m ≡ whenPassed (roomOf 9 room) (put old 0 (figureList l)) old
       → m ≡ whenPassed (neededVerdict f room) (put old 0 (figureList (lengthsOf f))) old
   known-stores old e s = rw (known-verdict e, known-lengths e .1) s
 

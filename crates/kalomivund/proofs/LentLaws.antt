@@ -55,7 +55,8 @@ unfolding readWord readRecord ofNumber
 read-record text xs room =
     checked-lent (done 0) (readLent text (length xs) room) 0 _ xs (λ e. put-beyond 22 xs _ (omega (arith, record-size text)))
 
-pub read-walls : (text old : List ℕ) (lent : ℕ) → Lent (floorAt text .walls) (readWord text lent (length old)) (readStored text lent old) old
+pub read-walls : (text old : List ℕ) (lent : ℕ)
+    → Lent (floorAt text .walls) (readWord text lent (length old)) (readStored text lent old) old
 unfolding readWord readStored ofNumber
 read-walls text old lent =
     checked-lent (done 0) (readLent text lent (length old)) 0 _ old (λ e. drop-at (wallsAt text) _ _ (walls-length text))
@@ -68,11 +69,11 @@ write-sheet xs ws old =
     (checked-lent (done 0) (writeVerdict f ws (length old)) (sheetLength f) _ old
     (λ e. drop-at (sheetOf f ws) _ _ (sheet-theorems .sheet-length f ws)))
 
-pub needed-lengths : (xs old : List ℕ) → Lent 8 (neededWord xs (length old)) (neededStored xs old) old
+pub needed-lengths : (xs old : List ℕ) → Lent 9 (neededWord xs (length old)) (neededStored xs old) old
 unfolding neededWord neededStored ofNumber figureList
 needed-lengths xs old =
     record-lent xs _ _ old
-    (checked-lent (done 0) (neededVerdict (floorOf xs) (length old)) 0 _ old (λ e. put-beyond 8 old _ (omega arith)))
+    (checked-lent (done 0) (neededVerdict (floorOf xs) (length old)) 0 _ old (λ e. put-beyond 9 old _ (omega arith)))
 
 -- A plan has 65 numbers a carrier.
 plan-size : (f : Floor) (ws : List ℕ) → checkOf f ws ≡ passed → length (recordsOf (planOf f ws)) ≡ 65 * f .carriers
@@ -102,7 +103,8 @@ unfolding printWord printStored routesOutcome routesMemory ofNumber mapOutcome
 print-routes text old = go (leb (neededFor text) (length old))
   where
     go : (b : Bool) → Lent (neededFor text)
-        (wordOf (mapOutcome (done 0) (cond b (value (length (routesOf text))) (shortOutcome text)))) (cond b (put old 0 (routesOf text)) old) old
+        (wordOf (mapOutcome (done 0) (cond b (value (length (routesOf text))) (shortOutcome text))))
+        (cond b (put old 0 (routesOf text)) old) old
     go true =
         record {
           kept = λ e. absurd (done-not-refused _ e);

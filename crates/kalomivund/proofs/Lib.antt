@@ -5,5 +5,6 @@ mod LengthsLaws
 mod KeepLaws
 mod LentLaws
 mod CallLaws
+mod TrialLaws
 mod ShortLaws
 pub mod Theorems

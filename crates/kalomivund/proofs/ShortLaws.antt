@@ -34,9 +34,9 @@ unfolding readLent readVerdict roomOf
 read-record-short text lent room ok l =
     behind-short (readVerdict text room) 22 lent (then-passed ok ∙ demand-passes 9 0 (le-leb _ _ l))
 
-pub figures-short : (f : Floor) (room : ℕ) → limitsOf f ≡ passed → (neededVerdict f room ≡ refused 9 0) ↔ (room < 8)
+pub figures-short : (f : Floor) (room : ℕ) → limitsOf f ≡ passed → (neededVerdict f room ≡ refused 9 0) ↔ (room < 9)
 unfolding neededVerdict
-figures-short f room ok = behind-short (limitsOf f) 8 room ok
+figures-short f room ok = behind-short (limitsOf f) 9 room ok
 
 -- Route memory of 64 numbers or more leaves a search to its own refusals, and 9 among those is for views.
 pub route-short : (f : Floor) (ws : List ℕ) (i : ℕ) (m : List ℕ) (room : ℕ) → checkOf f ws ≡ passed → 65 * f .carriers ≤ length m

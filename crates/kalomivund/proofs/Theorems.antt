@@ -15,6 +15,7 @@ use Rattle.kalomivund.specs.Entries.{ceilingWord}
 use Rattle.kalomivund.specs.Claims.{Claims}
 use Rattle.kalomivund.proofs.LentLaws.{read-record, read-walls, write-sheet, needed-lengths, search, plan, fresh, print-routes}
 use Rattle.kalomivund.proofs.CallLaws.{step, run}
+use Rattle.kalomivund.proofs.TrialLaws.{trial-state, trial-report}
 use Rattle.kalomivund.proofs.ShortLaws.{record-short, read-record-short, route-short, figures-short}
 
 -- A run's number has room in a word.
@@ -36,6 +37,8 @@ theorems =
       fresh = fresh;
       step = step;
       run = run;
+      trial-state = trial-state;
+      trial-report = trial-report;
       print-routes = print-routes;
       record-short = λ f. record-short;
       read-record-short = read-record-short;
@@ -47,9 +50,11 @@ theorems =
       silent-word = λ t l. run-word 0 t (omega arith) l ∙ zero-add (65536 * t);
       spent-word = λ t l. run-word 1 t (omega arith) l;
       ended-word = λ t l. run-word 2 t (omega arith) l;
+      trial-word = λ t l. run-word 0 t (omega arith) l ∙ zero-add (65536 * t);
       none-word = refl;
       route-word = λ r. refl;
       shut-word = refl;
       short-word = refl;
+      order-word = refl;
       ceiling-words = (refl, refl, refl);
     }

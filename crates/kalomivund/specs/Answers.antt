@@ -26,7 +26,7 @@ routeStored (refusal k p) old = old
 
 -- The figures of the needed lengths in their order.
 unfoldable pub figureList : Lengths → List ℕ
-figureList l = l .walls ∷ l .sheet ∷ l .answers ∷ l .text ∷ l .state ∷ l .route ∷ l .floor ∷ l .figures ∷ []
+figureList l = l .walls ∷ l .sheet ∷ l .answers ∷ l .text ∷ l .state ∷ l .route ∷ l .floor ∷ l .figures ∷ l .report ∷ []
 
 -- A step: case 0 planned and kept, 1 planned and sent, 2 delivered.
 unfoldable pub stepCase : StepAnswer → ℕ

@@ -15,13 +15,14 @@ use Rattle.lengths.specs.Figures.{lengthsOf}
 use Rattle.reference.specs.Take.{kept, sent, delivered}
 use Rattle.reference.specs.Ending.{silent, spent, ended}
 use Rattle.reference.specs.Calls.{stepped, ran}
-use Rattle.wire.specs.Word.{wordOf}
+use Rattle.wire.specs.Word.{wordOf, ofNumber}
 use Rattle.wire.specs.Record.{floorOf, recordLent}
 use Rattle.kalomivund.specs.Answers.{ofSearch, ofReply}
 use Rattle.kalomivund.specs.Entries.{readLent, readWord, readRecord, readStored, writeWord, writeStored}
 use Rattle.kalomivund.specs.Entries.{neededVerdict, neededWord, neededStored, searchLent, searchWord, searchStored}
 use Rattle.kalomivund.specs.Entries.{planWord, planStored, printWord, printStored, freshWord, freshStored}
 use Rattle.kalomivund.specs.Entries.{stepWord, stepStored, runWord, runStored, ceilingWord}
+use Rattle.kalomivund.specs.Entries.{trialWord, trialStateStored, trialReportStored}
 
 -- A word says refused: its low byte is 1.
 abbrev pub Refuses : ℕ → Type 0
@@ -47,6 +48,10 @@ pub record Claims : Type 0 where
   pub fresh : (xs ws old : List ℕ) → Lent (lengthsOf (floorOf xs) .state) (freshWord xs ws (length old)) (freshStored xs ws old) old
   pub step : (xs ws m : List ℕ) (x : ℕ) → Lent (lengthsOf (floorOf xs) .state) (stepWord xs ws m x) (stepStored xs ws m x) m
   pub run : (xs ws m ss : List ℕ) (b : ℕ) → Lent (lengthsOf (floorOf xs) .state) (runWord xs ws m ss b) (runStored xs ws m ss b) m
+  pub trial-state : (xs ws : List ℕ) (order seed : ℕ) (m : List ℕ) (report : ℕ) → Lent (lengthsOf (floorOf xs) .state)
+      (trialWord xs ws order seed (length m) report) (trialStateStored xs ws order seed m report) m
+  pub trial-report : (xs ws : List ℕ) (order seed state : ℕ) (m : List ℕ) → Lent (lengthsOf (floorOf xs) .report)
+      (trialWord xs ws order seed state (length m)) (trialReportStored xs ws order seed state m) m
   -- Text memory: the floor's figure for an accepted sheet, 16 bytes for a refused one (`neededFor`).
   pub print-routes : (text old : List ℕ) → Lent (neededFor text) (printWord text (length old)) (printStored text old) old
   -- A floor record is called too short exactly below its figure: as input before all else, as output of `kalomivund_read_sheet` where
@@ -66,9 +71,11 @@ pub record Claims : Type 0 where
   pub silent-word : (t : ℕ) → t ≤ 65535 → wordOf (ofReply (value (ran t silent))) ≡ 65536 * t
   pub spent-word : (t : ℕ) → t ≤ 65535 → wordOf (ofReply (value (ran t spent))) ≡ 256 + 65536 * t
   pub ended-word : (t : ℕ) → t ≤ 65535 → wordOf (ofReply (value (ran t ended))) ≡ 512 + 65536 * t
+  pub trial-word : (t : ℕ) → t ≤ 65535 → wordOf (ofNumber (value t)) ≡ 65536 * t
   pub none-word : wordOf (ofSearch (value none)) ≡ 0
   pub route-word : (r : List ℕ) → wordOf (ofSearch (value (route r))) ≡ 256
-  -- Refusal 8, 0; refusal 9, 0; the ceiling of three carriers, 11; refusal 2, field 5, of none and of nine.
+  -- Refusal 8, 0; refusal 9, 0; refusal 11, 0; the ceiling of three carriers, 11; refusal 2, field 5, of none and of nine.
   pub shut-word : wordOf (refusal 8 0) ≡ 1 + 256 * 8
   pub short-word : wordOf (refusal 9 0) ≡ 1 + 256 * 9
+  pub order-word : wordOf (refusal 11 0) ≡ 1 + 256 * 11
   pub ceiling-words : (ceilingWord 3 ≡ 65536 * 11) × (ceilingWord 0 ≡ 1 + 256 * 2 + 65536 * 5) × (ceilingWord 9 ≡ 1 + 256 * 2 + 65536 * 5)

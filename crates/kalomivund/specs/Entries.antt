@@ -17,6 +17,7 @@ use Rattle.planner.specs.Answers.{planResult}
 use Rattle.planner.specs.Records.{planMemory}
 use Rattle.layout.specs.Calls.{placeVerdict, freshMemory, replyTo, memoryAfter, singleCall, runCall}
 use Rattle.machine.specs.Ceiling.{mostSteps}
+use Rattle.trial.specs.Entry.{trialOutcome, stateTried, reportTried}
 use Rattle.wire.specs.Word.{Done, wordOf, ofNumber}
 use Rattle.wire.specs.Record.{floorOf, numbersOf, recordLent}
 use Rattle.kalomivund.specs.Answers.{ofSearch, routeStored, figureList, ofReply}
@@ -52,7 +53,7 @@ writeStored xs ws old = storedFor xs (writeSheet (floorOf xs) ws old) old
 
 -- The refusals of needed lengths: the limits of line 1, then 9 where fewer numbers are lent than there are figures.
 unfoldable pub neededVerdict : Floor → ℕ → Verdict
-neededVerdict f room = limitsOf f then roomOf 8 room
+neededVerdict f room = limitsOf f then roomOf 9 room
 
 -- `kalomivund_needed_lengths`.
 unfoldable pub neededWord : List ℕ → ℕ → ℕ
@@ -115,3 +116,13 @@ runWord xs ws m ss b = wordFor xs (ofReply (replyTo (floorOf xs) ws m (runCall m
 
 unfoldable pub runStored : List ℕ → List ℕ → List ℕ → List ℕ → ℕ → List ℕ
 runStored xs ws m ss b = storedFor xs (memoryAfter (floorOf xs) ws m (runCall m ss b)) m
+
+-- `kalomivund_trial`: the word with the number of steps taken, the state memory and the report memory.
+unfoldable pub trialWord : List ℕ → List ℕ → (order seed state report : ℕ) → ℕ
+trialWord xs ws order seed state report = wordFor xs (ofNumber (trialOutcome (floorOf xs) ws order seed state report))
+
+unfoldable pub trialStateStored : List ℕ → List ℕ → (order seed : ℕ) → List ℕ → (report : ℕ) → List ℕ
+trialStateStored xs ws order seed m report = storedFor xs (stateTried (floorOf xs) ws order seed m report) m
+
+unfoldable pub trialReportStored : List ℕ → List ℕ → (order seed state : ℕ) → List ℕ → List ℕ
+trialReportStored xs ws order seed state m = storedFor xs (reportTried (floorOf xs) ws order seed state m) m

@@ -4,6 +4,7 @@ ghost use Rattle.planner.specs.Answers.{resultOf};
 ghost use Rattle.printing.specs.Print.{outcomeOf};
 ghost use Rattle.machine.specs.Answers.{steppedReply, ranReply};
 ghost use Rattle.machine.specs.Ceiling.{figureOf};
+ghost use Rattle.trial.specs.Entry.{triedOutcome};
 ghost use Rattle.wire.specs.Word.{wordOf, ofNumber};
 ghost use Rattle.kalomivund.specs.Answers.{ofReply};
 use machine::Most;
@@ -11,6 +12,7 @@ use machine::Ran;
 use machine::Stepped;
 use planner::Planned;
 use printing::Printed;
+use trial::Tried;
 use wire::word::done;
 use wire::word::refused;
 
@@ -65,5 +67,15 @@ pub fn of_ceiling(x: Most) -> u64
     match x {
         Most::Steps(n) => done(0, n),
         Most::Refused(r) => refused(r),
+    }
+}
+
+// The word of a trial.
+pub fn of_trial(x: Tried) -> u64
+    ensures { λ r. ⌜ r ≡ wordOf (ofNumber (triedOutcome x)) ⌝ }
+{
+    match x {
+        Tried::Steps(n) => done(0, n),
+        Tried::Refused(r) => refused(r),
     }
 }

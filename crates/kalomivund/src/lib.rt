@@ -17,6 +17,7 @@ ghost use Rattle.kalomivund.specs.Entries.{readWord, readRecord, readSto
 ghost use Rattle.kalomivund.specs.Entries.{neededWord, neededStored, searchWord, searchStored, planWord, planStored};
 ghost use Rattle.kalomivund.specs.Entries.{printWord, printStored, freshWord, freshStored, stepWord, stepStored};
 ghost use Rattle.kalomivund.specs.Entries.{runWord, runStored, ceilingWord};
+ghost use Rattle.kalomivund.specs.Entries.{trialWord, trialStateStored, trialReportStored};
 use floor::Checked;
 use floor::Floor;
 use lengths::Lengths;
@@ -79,11 +80,11 @@ pub extern "C" fn kalomivund_write_sheet(f: &[u16], walls: &[u16], out: &mut [u8
 
 // Needed lengths into lent memory of enough numbers.
 fn store_lengths(l: Lengths, out: &mut [u64]) -> u64
-    ensures says { λ r. ⌜ r ≡ wordOf (ofNumber (roomOf 8 (length (now (out .entry))) gives 0)) ⌝ }
+    ensures says { λ r. ⌜ r ≡ wordOf (ofNumber (roomOf 9 (length (now (out .entry))) gives 0)) ⌝ }
     ensures stores { λ r. ⌜ now (out .exit)
-        ≡ whenPassed (roomOf 8 (length (now (out .entry)))) (put (now (out .entry)) 0 (figureList l)) (now (out .entry)) ⌝ }
+        ≡ whenPassed (roomOf 9 (length (now (out .entry)))) (put (now (out .entry)) 0 (figureList l)) (now (out .entry)) ⌝ }
 {
-    if out.len() < 8 {
+    if out.len() < 9 {
         return word::too_short();
     }
     let figures = [
@@ -95,12 +96,13 @@ fn store_lengths(l: Lengths, out: &mut [u64]) -> u64
         l.route as u64,
         l.floor as u64,
         l.figures as u64,
+        l.report as u64,
     ];
     numbers::copy_figures(out, &figures);
     word::done(0, 0)
 }
 
-// The needed length of each lent buffer of a floor: walls, sheet, answers, text, state, route, floor record, figures.
+// The needed length of each lent buffer of a floor: walls, sheet, answers, text, state, route, floor record, figures, report.
 #[no_mangle]
 pub extern "C" fn kalomivund_needed_lengths(f: &[u16], out: &mut [u64]) -> u64
     ensures says { λ r. ⌜ r ≡ neededWord (now (f .entry)) (length (now (out .entry))) ⌝ }
@@ -225,4 +227,27 @@ pub extern "C" fn kalomivund_run(
         return word::too_short();
     }
     answers::of_run(machine::run(numbers::floor_of(f), walls, state, steps, budget))
+}
+
+// Plays a whole run of a floor from fresh to silent in one of three orders, every step taken reported with its answer.
+#[no_mangle]
+pub extern "C" fn kalomivund_trial(
+    f: &[u16],
+    walls: &[u16],
+    order: u16,
+    seed: u32,
+    state: &mut [u16],
+    report: &mut [u16],
+) -> u64
+    ensures says { λ r. ⌜ r ≡ trialWord (now (f .entry)) (now (walls .entry)) order seed
+        (length (now (state .entry))) (length (now (report .entry))) ⌝ }
+    ensures stores { λ r. ⌜ now (state .exit) ≡ trialStateStored (now (f .entry)) (now (walls .entry)) order seed
+        (now (state .entry)) (length (now (report .entry))) ⌝ }
+    ensures reports { λ r. ⌜ now (report .exit) ≡ trialReportStored (now (f .entry)) (now (walls .entry)) order seed
+        (length (now (state .entry))) (now (report .entry)) ⌝ }
+{
+    if f.len() < 22 {
+        return word::too_short();
+    }
+    answers::of_trial(trial::trial(numbers::floor_of(f), walls, order, seed, state, report))
 }

@@ -1,2 +1,3 @@
--- The claims, proved.
+-- The length of a report, and the claims, proved.
+mod ReportLaws
 pub mod Theorems

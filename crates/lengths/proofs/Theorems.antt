@@ -25,6 +25,9 @@ use Rattle.printing.specs.Print.{textLength, printVerdict, routesOf, neededFor,
 use Rattle.layout.specs.Places.{stateSize}
 use Rattle.layout.specs.Calls.{placeVerdict}
 use Rattle.layout.proofs.Theorems.{theorems as layout-theorems}
+use Rattle.trial.specs.Report.{reportSize}
+use Rattle.trial.specs.Entry.{trialVerdict}
+use Rattle.trial.proofs.Theorems.{theorems as trial-theorems}
 use Rattle.lengths.specs.Figures.{figuresFor, lengthsOf}
 use Rattle.lengths.specs.Claims.{Claims}
 
@@ -90,6 +93,21 @@ state-room : (f : Floor) (ws : List ℕ) (room : ℕ) → checkOf f ws ≡ passe
 unfolding placeVerdict
 state-room f ws room ok = (λ h. room-means _ _ .0 (sym (then-passed ok) ∙ h), λ l. then-passed ok ∙ room-means _ _ .1 l)
 
+report-room : (f : Floor) (ws : List ℕ) (order state report : ℕ) → checkOf f ws ≡ passed → stateSize (f .carriers) ≤ state
+    → (trialVerdict f ws order state report ≡ refused 9 0) ↔ (report < reportSize (f .carriers))
+unfolding trialVerdict placeVerdict roomOf
+report-room f ws order state report ok l =
+    let placed : placeVerdict f ws state ≡ passed = then-passed ok ∙ demand-passes 9 0 (le-leb _ _ l) in
+    let room = roomOf (reportSize (f .carriers)) report in
+    let known = demand (within 1 3 order) 11 0 in (
+      λ h.
+          ⊎-elim
+          (λ (e : room ≡ refused 9 0). room-means _ _ .0 e)
+          (λ (e : (room ≡ passed) × (known ≡ refused 9 0)). absurd (omega (arith, demand-cases _ 11 0 9 0 (e .1) .1)))
+          (then-cases room known 9 0 (sym (then-passed placed) ∙ h)),
+      λ b. then-passed placed ∙ then-refused _ (room-means _ _ .1 b),
+    )
+
 text-room : (f : Floor) (ws : List ℕ) (room bytes : ℕ) → checkOf f ws ≡ passed → 65 * f .carriers ≤ room
     → (printVerdict f ws room bytes ≡ refused 9 0) ↔ (bytes < textLength f)
 unfolding printVerdict planVerdict roomOf
@@ -122,6 +140,7 @@ theorems =
       route-within = λ f. omega arith;
       floor-within = λ f. omega arith;
       figures-within = λ f. omega arith;
+      report-within = λ f ws ok. trial-theorems .report-small (f .carriers) (check-tells f ws ok .bounds .carriers .1);
       answers-room = answers-room;
       views-room = views-room;
       walls-room = walls-room;
@@ -129,4 +148,5 @@ theorems =
       text-room = text-room;
       sheet-text-room = sheet-text-room;
       state-room = state-room;
+      report-room = report-room;
     }

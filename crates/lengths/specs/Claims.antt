@@ -15,13 +15,15 @@ use Rattle.planner.specs.Plan.{planVerdict}
 use Rattle.printing.specs.Print.{textLength, printVerdict, routesOutcome}
 use Rattle.layout.specs.Places.{stateSize}
 use Rattle.layout.specs.Calls.{placeVerdict}
+use Rattle.trial.specs.Report.{reportSize}
+use Rattle.trial.specs.Entry.{trialVerdict}
 use Rattle.lengths.specs.Figures.{figuresFor, lengthsOf}
 
 pub record Claims : Type 0 where
   -- An accepted floor has its lengths.
   pub accepted-known : (f : Floor) (ws : List ℕ) → checkOf f ws ≡ passed → figuresFor f ≡ value (lengthsOf f)
   -- None is over 65,536 bytes: two bytes a wall, the sheet, two bytes a number of answers, the text, two bytes a number of the state,
-  -- of a route and of a record, eight bytes a figure.
+  -- of a route and of a record, eight bytes a figure, two bytes a number of a report.
   pub walls-within : (f : Floor) (ws : List ℕ) → checkOf f ws ≡ passed → 2 * f .walls ≤ 65536
   pub sheet-within : (f : Floor) (ws : List ℕ) → checkOf f ws ≡ passed → sheetLength f ≤ 65536
   pub answers-within : (f : Floor) (ws : List ℕ) → checkOf f ws ≡ passed → 2 * (65 * f .carriers) ≤ 65536
@@ -30,6 +32,7 @@ pub record Claims : Type 0 where
   pub route-within : (f : Floor) → 2 * lengthsOf f .route ≤ 65536
   pub floor-within : (f : Floor) → 2 * lengthsOf f .floor ≤ 65536
   pub figures-within : (f : Floor) → 8 * lengthsOf f .figures ≤ 65536
+  pub report-within : (f : Floor) (ws : List ℕ) → checkOf f ws ≡ passed → 2 * reportSize (f .carriers) ≤ 65536
   -- Memory for answers is called too short exactly below the needed length, and so is memory for views.
   pub answers-room : (f : Floor) (ws : List ℕ) (room : ℕ) → checkOf f ws ≡ passed
       → (planVerdict f ws room ≡ refused 9 0) ↔ (room < 65 * f .carriers)
@@ -50,3 +53,6 @@ pub record Claims : Type 0 where
   -- Memory for a state of an accepted floor is called too short exactly below the needed length.
   pub state-room : (f : Floor) (ws : List ℕ) (room : ℕ) → checkOf f ws ≡ passed
       → (placeVerdict f ws room ≡ refused 9 0) ↔ (room < stateSize (f .carriers))
+  -- Memory for the report of a trial whose state has room is called too short exactly below the needed length.
+  pub report-room : (f : Floor) (ws : List ℕ) (order state report : ℕ) → checkOf f ws ≡ passed → stateSize (f .carriers) ≤ state
+      → (trialVerdict f ws order state report ≡ refused 9 0) ↔ (report < reportSize (f .carriers))

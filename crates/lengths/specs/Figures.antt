@@ -6,6 +6,7 @@ use Rattle.floor.specs.Checks.{limitsOf}
 use Rattle.sheet.specs.Text.{sheetLength}
 use Rattle.printing.specs.Print.{textLength}
 use Rattle.layout.specs.Places.{stateSize}
+use Rattle.trial.specs.Report.{reportSize}
 use Rattle.lengths.specs.declared.Lengths.{Lengths}
 use Rattle.lengths.specs.declared.Needed.{Needed}
 use Rattle.lengths.specs.declared.Needed.the-variants.{Known, Refused}
@@ -16,8 +17,8 @@ figuresOf (Known l) = value l
 figuresOf (Refused r) = refusal (r .number) (r .place)
 
 -- As many cell numbers as the floor has walls, the sheet's length in bytes, 65 numbers a carrier for answers or views, 11 bytes and
--- 331 a carrier for printed routes, the numbers of the machine's state, 64 cells of a route, 22 numbers of a floor record, and as many
--- numbers as there are figures.
+-- 331 a carrier for printed routes, the numbers of the machine's state, 64 cells of a route, 22 numbers of a floor record, as many
+-- numbers as there are figures, and the numbers of a trial's report.
 unfoldable pub lengthsOf : Floor → Lengths
 lengthsOf f =
     record {
@@ -28,7 +29,8 @@ lengthsOf f =
       state = stateSize (f .carriers);
       route = 64;
       floor = 22;
-      figures = 8;
+      figures = 9;
+      report = reportSize (f .carriers);
     }
 
 -- What the entry answers: the lengths of a floor within its limits.

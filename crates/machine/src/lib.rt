@@ -15,6 +15,7 @@ ghost use Rattle.steps.specs.Answers.{takenMeant};
 ghost use Rattle.machine.specs.Answers.{steppedReply, ranReply, takenNumber};
 ghost use Rattle.machine.specs.Inner.{namedAt};
 ghost use Rattle.machine.specs.Ceiling.{figureOf, mostSteps};
+pub use checks::lent_place;
 use floor::Checked;
 use floor::Floor;
 use floor::Refusal;

@@ -1,4 +1,5 @@
-//! The routes program over `paper.rs` alone: a sheet on standard input, its routes on standard output. It needs no archive.
+//! The routes program over `paper.rs` alone: a sheet on standard input, its routes on standard output; with the arguments
+//! `trial ORDER SEED` the text of a trial. It needs no archive.
 //! Its tests (`cargo test --bin paper`) hold `paper.rs` to document 01's twelve floors, its search to a search of all routes, and the
 //! benchmark's other planners to `paper.rs`.
 
@@ -19,7 +20,14 @@ use std::io::{Read, Write};
 fn main() -> std::io::Result<()> {
     let mut text = Vec::new();
     std::io::stdin().read_to_end(&mut text)?;
-    std::io::stdout().write_all(paper::print_routes(&text).as_bytes())
+    let words: Vec<String> = std::env::args().skip(1).collect();
+    let number = |k: usize| words.get(k).and_then(|w| w.parse().ok()).unwrap_or(0u64);
+    let out = if words.first().map(String::as_str) == Some("trial") {
+        paper::print_trial(&text, number(1), number(2) as u32)
+    } else {
+        paper::print_routes(&text)
+    };
+    std::io::stdout().write_all(out.as_bytes())
 }
 
 #[cfg(test)]
@@ -62,6 +70,23 @@ mod tests {
         assert_eq!(paper::print_routes(SHEET.as_bytes()), three);
         let short = SHEET.replacen("    4", "    3", 1);
         assert_eq!(paper::print_routes(short.as_bytes()), "    2    2\n    1    2    0    1    2    2\n    2 none\n");
+    }
+
+    /// Document 02, slip 1. By hand: from seed 0 the first number is 1,013,904,223, which draws 15,470, even, and so plan 1 of two open
+    /// plans; from seed 4,294,967,295 it is 1,012,239,698, which draws 15,445, odd, and so plan 2.
+    #[test]
+    fn trials() {
+        let floor = paper::floor_of_sheet(SHEET.as_bytes()).unwrap();
+        let numbers = |order, seed| -> Vec<u16> { paper::trial(&floor, order, seed).iter().map(|line| line.0).collect() };
+        assert_eq!(numbers(1, 0), [101, 102, 212, 102]);
+        assert_eq!(numbers(2, 0), [101, 102, 212, 102]);
+        assert_eq!(numbers(3, 0)[0], 101);
+        assert_eq!(numbers(3, u32::MAX)[0], 102);
+        let text = paper::print_trial(SHEET.as_bytes(), 1, 0);
+        let report = "    2    1    4\n    1  101 sent\n    2  102 sent\n    3  212 delivered\n    4  102 sent\n";
+        assert_eq!(text, report.to_string() + &paper::print_routes(SHEET.as_bytes()));
+        assert_eq!(paper::print_trial(SHEET.as_bytes(), 4, 0), "    0   11    0\n");
+        assert_eq!(paper::print_trial(b"", 4, 0), "    0    1    0\n");
     }
 
     #[test]
@@ -153,9 +178,9 @@ mod tests {
         let full = bare(32, 32, 63, 4, &[(0, 1), (1, 2), (2, 3), (3, 4), (4, 5), (5, 6), (6, 7), (7, 8)]);
         let mut record = paper::record_of(&full);
         record[5] = 1023;
-        let mut out = [9; 9];
+        let mut out = [7; 10];
         assert_eq!(calls::needed_lengths(&record, &mut out), done(0, 0));
-        assert_eq!(out, [1023, 11452, 520, 2659, 9666, 64, 22, 8, 9]);
+        assert_eq!(out, [1023, 11452, 520, 2659, 9666, 64, 22, 9, 1004, 7]);
         assert_eq!(calls::ceiling(8), done(0, 502));
         assert_eq!(calls::ceiling(1), done(0, 1));
         assert_eq!(calls::ceiling(0), refused(2, 5));

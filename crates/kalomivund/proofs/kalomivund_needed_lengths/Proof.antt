@@ -1,9 +1,7 @@
 -- `kalomivund_needed_lengths` meets its contract: the needed lengths of the floor that the numbers say.
 use Rattle.kalomivund.proofs.EntryLaws.{too-short, says-lent, stores-lent}
 use Rattle.kalomivund.proofs.LengthsLaws.{known-says, known-stores, refused-says, refused-stores}
-use Rattle.lengths.specs.Figures.{figuresOf, figuresFor}
 use Rattle.kalomivund.specs.Entries.{neededWord, neededStored}
-use mathlib.Core.Path.{_≡_}
 use borrow.Author.Needs.{needs}
 use Rattle.kalomivund.proofs.kalomivund_needed_lengths.Statement.{statement}
 use Rattle.kalomivund.proofs.kalomivund_needed_lengths.Tie as tie

@@ -11,14 +11,14 @@ use Rattle.kalomivund.proofs.store_lengths.Tie as tie
 
 returns : tie.Need-returns
 unfolding roomOf demand _gives_ whenPassed ofNumber mapOutcome
-returns c = rw (lt-leb 8 _ (c .before .if1 .taken)) (c .too-short .ensures, refl)
+returns c = rw (lt-leb 9 _ (c .before .if1 .taken)) (c .too-short .ensures, refl)
 
 returns-2 : tie.Need-returns-2
 unfolding roomOf demand _gives_ whenPassed ofNumber mapOutcome figureList
 returns-2 c =
     let after-copy-figures : tie.After-copy-figures = search in
     let else1 : tie.Else1 = search in
-    rw (le-leb 8 _ (else1 .if1 .left)) (c .done .ensures, after-copy-figures .copy-figures .ensures)
+    rw (le-leb 9 _ (else1 .if1 .left)) (c .done .ensures, after-copy-figures .copy-figures .ensures)
 
 pub store-lengths-spec : {M : Type 1} → statement M
 store-lengths-spec =

@@ -1,0 +1,188 @@
+-- A trial in memory for the most carriers: only its order can be refused, and its text fits 13,217 bytes.
+use Prim.Native.Nat.{ℕ, suc, _*_, _^_, _≤_, _<_}
+use native.Mathlib.Omega.{arith}
+use native.Mathlib.Nat.{pow-le-pow-right}
+use mathlib.Core.Path.{_≡_, refl, sym, ap, _∙_}
+use mathlib.Core.List.{List, _++_}
+use mathlib.Core.Logic.{⊎-elim}
+use borrow.Author.Tests.{le-leb}
+use lib.ListN.{length, take, length-append}
+use lib.Seq.{take-at}
+use Rattle.laws.specs.Memory.{put}
+use Rattle.laws.specs.Verdict.{Verdict, value, refusal, passed, refused, _then_, _gives_}
+use Rattle.laws.proofs.Tests.{lt-or-le}
+use Rattle.laws.proofs.VerdictLaws.{then-passed, demand-passes, demand-cases, when-passed}
+use Rattle.floor.specs.declared.Floor.{Floor}
+use Rattle.floor.specs.declared.Refusal.{Refusal}
+use Rattle.floor.specs.Checks.{checkOf, roomOf, within}
+use Rattle.floor.proofs.LimitsLaws.{check-tells}
+use Rattle.reference.specs.Quiet.{ceiling}
+use Rattle.layout.specs.Places.{stateSize}
+use Rattle.layout.specs.Calls.{placeVerdict}
+use Rattle.state.proofs.PlaceLaws.{pairs-most}
+use Rattle.printing.specs.Print.{printOf, textLength, orRefusal}
+use Rattle.printing.specs.Put.{TextPut}
+use Rattle.printing.specs.Text.{refusalLine}
+use Rattle.printing.proofs.Theorems.{theorems as printing-theorems}
+use Rattle.reporting.specs.Text.{entries, reportText, reportLength}
+use Rattle.reporting.specs.Put.{PutAt}
+use Rattle.reporting.proofs.ReportLaws.{report-within}
+use Rattle.trial.specs.declared.Tried.{Tried}
+use Rattle.trial.specs.declared.Tried.the-variants.{Steps, Refused}
+use Rattle.trial.specs.Report.{numbersOf, reportSize}
+use Rattle.trial.specs.Entry.{trialVerdict, trialOf, triedOutcome, trialOutcome, reportTried}
+use Rattle.trial.proofs.ReportLaws.{numbers-length}
+use Rattle.trial.proofs.Theorems.{theorems as trial-theorems}
+use Rattle.sheet.specs.Values.{floorAt, wallsAt}
+use Rattle.sheet.specs.Read.{sheetVerdict}
+use Rattle.printing.proofs.PrintLaws.{WasRead}
+use Rattle.io.specs.Counts.{Counts}
+use Rattle.desk.specs.Text.{orderVerdict, playedText, trialText}
+use Rattle.desk.proofs.TextLaws.{stands, counts, refusal-length}
+
+-- The largest figures.
+ceiling-most : (n : ℕ) → n ≤ 8 → ceiling n ≤ 502
+unfolding ceiling
+ceiling-most n l =
+    ⊎-elim (λ (h : n < 8). let l : suc n ≤ 8 = omega arith in omega (arith, low (suc n) l))
+    (λ (h : 8 ≤ n). let e : n ≡ 8 = omega arith in rw e (omega arith)) (lt-or-le n 8)
+  where
+    low : (k : ℕ) → k ≤ 8 → 2 ^ k ≤ 256
+    low k l = pow-le-pow-right (omega arith) l
+
+size-most : (n : ℕ) → n ≤ 8 → stateSize n ≤ 9666
+unfolding stateSize
+size-most n l = omega (arith, pairs-most n l)
+
+module _ (f : Floor) (ws : List ℕ) (ok : checkOf f ws ≡ passed) where
+  few : f .carriers ≤ 8
+  few = check-tells f ws ok .bounds .carriers .1
+
+  -- In that memory only the order is refused.
+  order-decides : (order state report : ℕ) → 9666 ≤ state → 1004 ≤ report → trialVerdict f ws order state report ≡ orderVerdict order
+  unfolding trialVerdict orderVerdict placeVerdict roomOf reportSize
+  order-decides order state report s r =
+      let size : stateSize (f .carriers) ≤ state = omega (arith, size-most (f .carriers) few) in
+      let lines : 2 * ceiling (f .carriers) ≤ report = omega (arith, ceiling-most (f .carriers) few) in
+      then-passed (then-passed ok ∙ demand-passes 9 0 (le-leb _ _ size)) ∙ then-passed (demand-passes 9 0 (le-leb _ _ lines))
+
+  -- A report has at most 502 lines.
+  pub report-short : (order seed : ℕ) → length (trialOf f ws order seed .report) ≤ 502
+  report-short order seed = omega (arith, trial-theorems .ends f ws order seed ok .within, ceiling-most (f .carriers) few)
+
+  -- Steps taken, or a refusal.
+  module _ (order seed state report : ℕ) (r : Tried) (wide : 9666 ≤ state) (long : 1004 ≤ report)
+      (answers : triedOutcome r ≡ trialOutcome f ws order seed state report) where
+    said : triedOutcome r ≡ (orderVerdict order gives length (trialOf f ws order seed .report))
+    unfolding trialOutcome
+    said = answers ∙ ap (λ (v : Verdict). v gives length (trialOf f ws order seed .report)) (order-decides order state report wide long)
+
+    pub steps-told : (t : ℕ) → r ≡ Steps t → (orderVerdict order ≡ passed) × (t ≡ length (trialOf f ws order seed .report))
+    unfolding triedOutcome _gives_
+    steps-told t e = go (orderVerdict order) refl
+      where
+        go : (v : Verdict) → orderVerdict order ≡ v → (orderVerdict order ≡ passed) × (t ≡ length (trialOf f ws order seed .report))
+        go passed h =
+            let same : value t ≡ value (length (trialOf f ws order seed .report)) = sym (ap triedOutcome e) ∙ said ∙ rw h in
+            (h, cc)
+        go (refused k p) h =
+            let same : value t ≡ refusal k p = sym (ap triedOutcome e) ∙ said ∙ rw h in
+            let z : _≡_ {A = ℕ} 0 1 = cc in
+            absurd (omega arith)
+
+    pub steps-low : (t : ℕ) → r ≡ Steps t → t ≤ 502
+    steps-low t e = omega (arith, steps-told t e .1, report-short order seed)
+
+    pub refusal-told : (x : Refusal) → r ≡ Refused x → (orderVerdict order ≡ refused (x .number) (x .place)) × (x .place ≡ 0)
+    unfolding orderVerdict triedOutcome _gives_
+    refusal-told x e = go (orderVerdict order) refl
+      where
+        told : triedOutcome r ≡ refusal (x .number) (x .place)
+        told = ap triedOutcome e
+
+        go : (v : Verdict) → orderVerdict order ≡ v → (orderVerdict order ≡ refused (x .number) (x .place)) × (x .place ≡ 0)
+        go passed h =
+            let same : refusal (x .number) (x .place) ≡ value (length (trialOf f ws order seed .report)) = sym told ∙ said ∙ rw h in
+            let z : _≡_ {A = ℕ} 0 1 = cc in
+            absurd (omega arith)
+        go (refused a b) h =
+            let same : refusal (x .number) (x .place) ≡ refusal a b = sym told ∙ said ∙ rw h in
+            let number : x .number ≡ a = cc in
+            let place : x .place ≡ b = cc in
+            let no = demand-cases (within 1 3 order) 11 0 a b h in
+            (rw (number, place) h, omega (arith, no))
+
+    -- The report's numbers stand in front of its memory.
+    pub report-front : (old new : List ℕ) (t : ℕ) → r ≡ Steps t → report ≡ length old → new ≡ reportTried f ws order seed state old
+        → take (2 * t) new ≡ numbersOf (trialOf f ws order seed .report)
+    unfolding reportTried put
+    report-front old new t e l stores =
+        let told = steps-told t e in
+        let ok = order-decides order state report wide long ∙ told .0 in
+        let es = trialOf f ws order seed .report in
+        let same : trialVerdict f ws order state (length old) ≡ passed = rw (← l) ok in
+        rw (stores ∙ when-passed _ same) (take-at (numbersOf es) _ (2 * t) (omega (arith, numbers-length es, told .1)))
+
+  -- The whole text has at most 13,217 bytes.
+  pub routes-short : length (printOf f ws) ≤ 2659
+  unfolding textLength
+  routes-short = omega (arith, printing-theorems .text-within f ws ok, few)
+
+  pub text-short : (order : ℕ) (xs : List ℕ) → length xs ≤ 1004 → length (reportText (f .carriers) order xs ++ printOf f ws) ≤ 13217
+  unfolding reportLength entries
+  text-short order xs l =
+      omega (arith, report-within (f .carriers) order xs, routes-short, length-append (reportText (f .carriers) order xs) (printOf f ws))
+
+-- A report of at most 502 lines ends by column 10,558.
+pub report-room : (carriers order : ℕ) (xs old new : List ℕ) (n : ℕ) → PutAt (reportText carriers order xs) old 0 new n → length xs ≤ 1004
+    → n ≤ 10558
+unfolding reportLength entries
+report-room carriers order xs old new n p l = omega (arith, p .behind, report-within carriers order xs)
+
+-- A text that was put is the trial's, or its refusal's.
+module _ (f : Floor) (ws old new : List ℕ) (order seed n : ℕ) where
+  pub played-put : (xs : List ℕ) → orderVerdict order ≡ passed → xs ≡ numbersOf (trialOf f ws order seed .report)
+      → TextPut (reportText (f .carriers) order xs ++ printOf f ws) old new n
+      → TextPut (orRefusal (orderVerdict order) (playedText f ws order seed)) old new n
+  unfolding orRefusal playedText
+  played-put xs ok e p = rw (ok, ← e) p
+
+  pub refused-put : (k p : ℕ) → orderVerdict order ≡ refused k p → TextPut (refusalLine k p) old new n
+      → TextPut (orRefusal (orderVerdict order) (playedText f ws order seed)) old new n
+  unfolding orRefusal
+  refused-put k p h t = rw h t
+
+-- The text of a trial or of its refusal has at most 13,217 bytes.
+either-short : (f : Floor) (ws : List ℕ) → checkOf f ws ≡ passed → (order seed : ℕ)
+    → length (orRefusal (orderVerdict order) (playedText f ws order seed)) ≤ 13217
+unfolding orRefusal playedText
+either-short f ws ok order seed = go (orderVerdict order)
+  where
+    go : (v : Verdict) → length (orRefusal v (playedText f ws order seed)) ≤ 13217
+    go passed =
+        let es = trialOf f ws order seed .report in
+        text-short f ws ok order (numbersOf es) (omega (arith, numbers-length es, report-short f ws ok order seed))
+    go (refused k p) = omega (arith, refusal-length k p)
+
+-- What is printed for a sheet, where it was read and where it was refused.
+module _ (text old new : List ℕ) (order seed n : ℕ) (enough : 13217 ≤ length old) where
+  pub read-printed : (f : Floor) (walls : List ℕ) → WasRead text f walls
+      → TextPut (orRefusal (orderVerdict order) (playedText f (take (f .walls) walls) order seed)) old new n
+      → Counts n new × (take n new ≡ trialText text order seed)
+  unfolding trialText
+  read-printed f walls r t =
+      let same : orRefusal (orderVerdict order) (playedText f (take (f .walls) walls) order seed)
+      ≡ orRefusal (sheetVerdict text then orderVerdict order) (playedText (floorAt text) (wallsAt text) order seed) =
+      rw (then-passed {w = orderVerdict order} (r .accepted), r .front, r .floor) refl
+      in
+      let fits : length (orRefusal (orderVerdict order) (playedText f (take (f .walls) walls) order seed)) ≤ length old =
+      omega (arith, either-short f (take (f .walls) walls) (r .checked) order seed)
+      in
+      (counts _ _ _ _ t fits, stands _ _ _ _ t fits ∙ same)
+
+  pub refused-printed : (k p : ℕ) → sheetVerdict text ≡ refused k p → TextPut (refusalLine k p) old new n
+      → Counts n new × (take n new ≡ trialText text order seed)
+  unfolding trialText orRefusal _then_
+  refused-printed k p h t =
+      let fits : length (refusalLine k p) ≤ length old = omega (arith, refusal-length k p) in
+      (counts _ _ _ _ t fits, rw h (stands _ _ _ _ t fits))

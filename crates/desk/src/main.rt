@@ -1,0 +1,96 @@
+// The program `desk`: tools over a sheet from standard input, each a command named by the first argument. What is wrong with an
+// argument or a command is said in words on standard error.
+mod arguments;
+mod played;
+
+use arguments::Decimal;
+ghost use mathlib.Core.Path.{_≡_};
+ghost use Prim.Native.Nat.{min};
+use console::Input;
+use libc::STDERR_FILENO;
+
+// The commands.
+enum Command {
+    // `trial ORDER [SEED]`: plays a trial and prints its report and the routes.
+    Trial,
+    // No command, or none of that name.
+    Unknown,
+}
+
+// The command of a name.
+fn command_named(name: &[u8]) -> Command {
+    if arguments::same(name, b"trial") {
+        return Command::Trial;
+    }
+    Command::Unknown
+}
+
+// An argument as a number; one that is missing or longer than the buffer is none.
+fn argument(i: usize) -> Decimal {
+    let mut buf = io::buffer();
+    let n = os::arg(i, &mut buf);
+    arguments::read_decimal(&buf[..n])
+}
+
+// The seed: the third argument, 0 where it is left out.
+fn seed_argument() -> Decimal {
+    if os::arg_count() < 4 {
+        return Decimal::Number(0);
+    }
+    argument(3)
+}
+
+// An order as the trial takes it: every number above 65,535 is as little an order as that one.
+fn order_of(n: u64) -> u16
+    ensures { λ r. ⌜ r ≡ min n 65535 ⌝ }
+{
+    if n > 65535 { 65535 } else { n as u16 }
+}
+
+// Says how `trial` is called.
+fn trial_usage() {
+    io::write_all(STDERR_FILENO, b"desk: trial ORDER [SEED] < sheet\n");
+}
+
+// Plays the trial of the sheet from standard input, and prints its text. The longest sheet has 11,452 bytes; of a longer input the
+// first 65,536 bytes hold the first extra byte.
+fn play(order: u16, seed: u32) {
+    let mut space = io::large_buffer();
+    let input = console::read(b"desk: standard input", &mut space);
+    let Input::Read(n) = input else {
+        return;
+    };
+    let mut out = [0u8; played::TEXT_LENGTH];
+    let printed = played::print(&space[..n], order, seed, &mut out);
+    console::write(b"desk: standard output", &out[..printed]);
+}
+
+// The command `trial`.
+fn trial_command() {
+    if os::arg_count() > 4 {
+        return trial_usage();
+    }
+    let order = argument(2);
+    let Decimal::Number(o) = order else {
+        return trial_usage();
+    };
+    let seed = seed_argument();
+    let Decimal::Number(s) = seed else {
+        return trial_usage();
+    };
+    if s > 4294967295 {
+        return trial_usage();
+    }
+    play(order_of(o), s as u32)
+}
+
+fn main() {
+    let mut name = io::buffer();
+    let n = os::arg(1, &mut name);
+    match command_named(&name[..n]) {
+        Command::Trial => trial_command(),
+        Command::Unknown => {
+            io::write_all(STDERR_FILENO, b"desk: no such command; commands: trial\n");
+        }
+    }
+}

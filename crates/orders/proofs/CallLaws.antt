@@ -1,0 +1,53 @@
+-- The report of a trial as a list of single calls on the reference machine: the same answers, the same state.
+use Prim.Native.Nat.{ℕ, _≤_}
+use mathlib.Core.Bool.{true}
+use mathlib.Core.List.{List, [], _∷_}
+use mathlib.Core.Path.{_≡_, refl, _∙_, ap}
+use borrow.Author.Tests.{le-leb}
+use Rattle.laws.specs.Verdict.{passed, value, passes}
+use Rattle.laws.proofs.Tests.{and-fst}
+use Rattle.laws.proofs.VerdictLaws.{then-passed, demand-passes, gives-passed}
+use Rattle.reference.specs.State.{Machine, State}
+use Rattle.reference.specs.Step.{Step, isOpen, isThere, waitsFor}
+use Rattle.reference.specs.Take.{afterStep, stepAnswer}
+use Rattle.reference.specs.History.{afterSteps}
+use Rattle.reference.specs.Table.{single, step, lentEnough, openSingle, verdict}
+use Rattle.reference.specs.Calls.{Reply, stepped, reply, stateAfter, afterCall, replies, after}
+use Rattle.reference.proofs.OpenLaws.{open-ready}
+use Rattle.reference.proofs.ReachLaws.{after-passed}
+use Rattle.orders.specs.Orders.{Order, remembered}
+use Rattle.orders.specs.Trial.{Entry, stepsIn}
+use Rattle.orders.specs.Rules.{ByRule}
+use Rattle.orders.specs.Claims.{callsOf, repliesOf}
+
+module _ (M : Machine) (lent : ℕ) (l : M .needed ≤ lent) where
+  -- An open step passes as a single call.
+  single-passes : (s : State) (x : Step) → isOpen M s x ≡ true → verdict M s (single lent (step x)) ≡ passed
+  unfolding verdict lentEnough openSingle isOpen
+  single-passes s x e =
+      then-passed (demand-passes 9 0 (le-leb (M .needed) lent l))
+      ∙ then-passed (demand-passes 7 0 (and-fst (isThere M x) (passes (waitsFor M s x)) e)) ∙ open-ready M s x e
+
+  single-reply : (s : State) (x : Step) → isOpen M s x ≡ true → reply M s (single lent (step x)) ≡ value (stepped (stepAnswer M s x))
+  unfolding reply
+  single-reply s x e = gives-passed (single-passes s x e)
+
+  single-after : (s : State) (x : Step) → isOpen M s x ≡ true → afterCall M s (single lent (step x)) ≡ afterStep M s x
+  unfolding stateAfter
+  single-after s x e = after-passed M s (single lent (step x)) (single-passes s x e)
+
+  module _ (o : Order) where
+    pub calls-reply : (c : ℕ) (s : State) (es : List Entry) → ByRule o M c s es → replies M s (callsOf lent es) ≡ repliesOf es
+    unfolding ByRule replies callsOf repliesOf
+    calls-reply c s [] h = refl
+    calls-reply c s (e ∷ es) h =
+        rw (single-reply s (e .taken) (h .1 .isOpen), single-after s (e .taken) (h .1 .isOpen), ← h .1 .answer)
+        (ap (λ (rs : List Reply). value (stepped (e .answer)) ∷ rs)
+        (calls-reply (remembered o c (h .0)) (afterStep M s (e .taken)) es (h .2)))
+
+    pub calls-lead : (c : ℕ) (s : State) (es : List Entry) → ByRule o M c s es → after M s (callsOf lent es) ≡ afterSteps M s (stepsIn es)
+    unfolding ByRule after callsOf afterSteps stepsIn
+    calls-lead c s [] h = refl
+    calls-lead c s (e ∷ es) h =
+        ap (λ (z : State). after M z (callsOf lent es)) (single-after s (e .taken) (h .1 .isOpen))
+        ∙ calls-lead (remembered o c (h .0)) (afterStep M s (e .taken)) es (h .2)

@@ -1,0 +1,146 @@
+-- The places of the ranking: how many there are, which step is where, and that every step that is there has a place.
+use Prim.Native.Nat.{ℕ, zero, suc, _+_, _*_, _-_, _/_, _≤_, _<_}
+use native.Mathlib.Omega.{arith}
+use native.Mathlib.Nat.{eq-or-lt-of-le, div-eq-of-eq-mul-right}
+use mathlib.Core.Bool.{true}
+use mathlib.Core.List.{List, [], _∷_}
+use mathlib.Core.Logic.{⊎-elim, _↔_}
+use mathlib.Core.Path.{_≡_, refl, sym, _∙_, ap}
+use lib.Dec.{ltb}
+use lib.ListN.{length, getD, length-append, List·getD-append}
+use lib.Seq.{getD-append-add, getD-at}
+use borrow.Author.Tests.{ltb-true, lt-ltb}
+use Rattle.laws.proofs.Tests.{lt-or-le, and-both, and-fst, and-snd}
+use Rattle.reference.specs.Ranges.{below, joined}
+use Rattle.reference.specs.State.{Machine}
+use Rattle.reference.specs.Step.{Step, plan, deliver, isThere}
+use Rattle.reference.specs.Ranking.{deliveriesFrom, ranking}
+use Rattle.orders.specs.Orders.{places, stepAt}
+
+module _ {A : Type 0} where
+  pub below-length : (k : ℕ) (f : ℕ → A) → length (below k f) ≡ k
+  unfolding below
+  below-length zero f = refl
+  below-length (suc k) f = rw (length-append, below-length k f) (omega arith)
+
+  pub below-at : (k : ℕ) (f : ℕ → A) (d : A) (i : ℕ) → i < k → getD (below k f) i d ≡ f i
+  unfolding below
+  below-at zero f d i l = absurd (omega arith)
+  below-at (suc k) f d i l =
+      ⊎-elim (λ (e : i ≡ k). rw e (getD-at (below k f) (f k) [] d k (below-length k f)))
+      (λ (h : i < k). List·getD-append (below k f) (f k ∷ []) d i (omega (arith, below-length k f)) ∙ below-at k f d i h)
+      (eq-or-lt-of-le (omega arith))
+
+  -- Item d of list j stands behind the lists before it.
+  pub joined-at : (k : ℕ) (f : ℕ → List A) (a : A) (j d : ℕ) → j < k → d < length (f j) →
+      (length (joined j f) + d < length (joined k f)) × (getD (joined k f) (length (joined j f) + d) a ≡ getD (f j) d a)
+  unfolding joined
+  joined-at zero f a j d l h = absurd (omega arith)
+  joined-at (suc k) f a j d l h =
+      ⊎-elim
+      (λ (e : j ≡ k). rw e (omega (arith, length-append (joined k f) (f k), rw e at h), getD-append-add (joined k f) (f k) d a))
+      (λ (b : j < k).
+      let r = joined-at k f a j d b h in (
+        omega (arith, length-append (joined k f) (f k), r .0),
+        List·getD-append (joined k f) (f k) a (length (joined j f) + d) (r .0) ∙ r .1,
+      ))
+      (eq-or-lt-of-le (omega arith))
+
+  -- Every place of the joined lists is that of an item of one of them.
+  pub joined-place : (k : ℕ) (f : ℕ → List A) (p : ℕ) → p < length (joined k f) →
+      (j : ℕ) × (d : ℕ) × (j < k) × (d < length (f j)) × (p ≡ length (joined j f) + d)
+  unfolding joined
+  joined-place zero f p l = absurd (omega arith)
+  joined-place (suc k) f p l =
+      ⊎-elim
+      (λ (h : p < length (joined k f)).
+      let r = joined-place k f p h in (r .0, r .1, omega (arith, r .2), r .3, r .4))
+      (λ (h : length (joined k f) ≤ p).
+      (k, p - length (joined k f), omega arith, omega (arith, length-append (joined k f) (f k)), omega arith))
+      (lt-or-le p (length (joined k f)))
+
+-- The deliveries of the senders before j, of n carriers.
+abbrev pub deliveriesBefore : ℕ → ℕ → ℕ
+deliveriesBefore n j = length (joined j (deliveriesFrom n))
+
+module _ (n : ℕ) where
+  pub from-length : (j : ℕ) → length (deliveriesFrom n j) ≡ n - suc j
+  unfolding deliveriesFrom
+  from-length j = below-length (n - suc j) (λ d. deliver j (suc j + d))
+
+  pub before-none : deliveriesBefore n 0 ≡ 0
+  unfolding joined
+  before-none = refl
+
+  pub before-more : (j : ℕ) → deliveriesBefore n (suc j) ≡ deliveriesBefore n j + (n - suc j)
+  unfolding joined
+  before-more j = length-append (joined j (deliveriesFrom n)) (deliveriesFrom n j) ∙ rw (from-length j)
+
+  -- Twice the deliveries of the first k senders, and k (k + 1), are 2 k n.
+  before-twice : (k : ℕ) → k ≤ n → 2 * deliveriesBefore n k + k * (k + 1) ≡ 2 * (k * n)
+  before-twice zero l = rw before-none (omega arith)
+  before-twice (suc k) l = omega (arith, before-more k, before-twice k (omega arith))
+
+  pub places-split : places n ≡ n + deliveriesBefore n n
+  unfolding places ranking
+  places-split = length-append (below n plan) (joined n (deliveriesFrom n)) ∙ rw (below-length n plan)
+
+  pub places-half : places n ≡ n * (n + 1) / 2
+  places-half = sym (div-eq-of-eq-mul-right (omega arith) (omega (arith, places-split, before-twice n (omega arith))))
+
+  pub plan-at : (i : ℕ) → i < n → stepAt n i ≡ plan i
+  unfolding stepAt ranking
+  plan-at i l =
+      List·getD-append (below n plan) (joined n (deliveriesFrom n)) (plan 0) i (omega (arith, below-length n plan))
+      ∙ below-at n plan (plan 0) i l
+
+  pub deliver-at : (j d : ℕ) → j < n → d < n - suc j →
+      (n + deliveriesBefore n j + d < places n) × (stepAt n (n + deliveriesBefore n j + d) ≡ deliver j (suc j + d))
+  unfolding stepAt ranking deliveriesFrom
+  deliver-at j d l h =
+      let r = joined-at n (deliveriesFrom n) (plan 0) j d l (omega (arith, from-length j)) in
+      let here : n + deliveriesBefore n j + d ≡ length (below n plan) + (deliveriesBefore n j + d) = omega (arith, below-length n plan) in (
+        omega (arith, places-split, r .0),
+        ap (λ (p : ℕ). getD (ranking n) p (plan 0)) here
+            ∙ getD-append-add (below n plan) (joined n (deliveriesFrom n)) (deliveriesBefore n j + d) (plan 0)
+            ∙ r .1 ∙ below-at (n - suc j) (λ d. deliver j (suc j + d)) (plan 0) d h,
+      )
+
+-- A place of the ranking with its step.
+abbrev pub PlaceOf : ℕ → Step → Type 0
+PlaceOf n x = (p : ℕ) × (p < places n) × (stepAt n p ≡ x)
+
+module _ (M : Machine) where
+  abbrev n : ℕ
+  n = M .carriers
+
+  pub there-place : (x : Step) → isThere M x ≡ true → PlaceOf n x
+  unfolding isThere
+  there-place (plan i) e =
+      let l : i < n = ltb-true i n e in (i, omega (arith, places-split n), plan-at n i l)
+  there-place (deliver j i) e =
+      let a : j < i = ltb-true j i (and-fst (ltb j i) (ltb i n) e) in
+      let b : i < n = ltb-true i n (and-snd (ltb j i) (ltb i n) e) in
+      let here : suc j + (i - suc j) ≡ i = omega arith in
+      let r = deliver-at n j (i - suc j) (omega arith) (omega arith) in
+      (n + deliveriesBefore n j + (i - suc j), r .0, r .1 ∙ ap (deliver j) here)
+
+  pub at-there : (p : ℕ) → p < places n → isThere M (stepAt n p) ≡ true
+  unfolding isThere
+  at-there p l = ⊎-elim plans deliveries (lt-or-le p n)
+    where
+      plans : p < n → isThere M (stepAt n p) ≡ true
+      plans h = rw (plan-at n p h) (lt-ltb p n h)
+
+      delivery : (j d : ℕ) → j < n → d < n - suc j → isThere M (deliver j (suc j + d)) ≡ true
+      delivery j d a h = and-both (lt-ltb j (suc j + d) (omega arith)) (lt-ltb (suc j + d) n (omega arith))
+
+      deliveries : n ≤ p → isThere M (stepAt n p) ≡ true
+      deliveries h =
+          let r = joined-place n (deliveriesFrom n) (p - n) (omega (arith, places-split n)) in
+          let short : r .1 < n - suc (r .0) = omega (arith, r .3, from-length n (r .0)) in
+          let here : p ≡ n + deliveriesBefore n (r .0) + r .1 = omega (arith, r .4) in
+          rw (here, deliver-at n (r .0) (r .1) (r .2) short .1) (delivery (r .0) (r .1) (r .2) short)
+
+  pub ranking-lists : (x : Step) → (isThere M x ≡ true) ↔ PlaceOf n x
+  ranking-lists x = (there-place x, λ r. rw (r .2) at (at-there (r .0) (r .1)))

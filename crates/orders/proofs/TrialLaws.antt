@@ -1,0 +1,120 @@
+-- A trial: it goes by the order's rule, leads to its state, and ends silent, since every step lowers the potential of the state.
+use Prim.Native.Nat.{ℕ, zero, suc, _≤_}
+use native.Mathlib.Omega.{arith}
+use mathlib.Core.Bool.{Bool, true, false}
+use mathlib.Core.List.{[]}
+use mathlib.Core.Logic.{_⊎_, inl, inr, ⊎-elim}
+use mathlib.Core.Path.{_≡_, refl, ap}
+use lib.ListN.{length}
+use Rattle.laws.proofs.Tests.{true-or-false}
+use Rattle.reference.specs.State.{Machine, State, fresh}
+use Rattle.reference.specs.Take.{afterStep}
+use Rattle.reference.specs.Ranking.{isSilent}
+use Rattle.reference.specs.History.{Reaches, stay, next, afterSteps}
+use Rattle.reference.specs.Quiet.{ceiling}
+use Rattle.reference.proofs.RankingLaws.{some-open}
+use Rattle.reference.proofs.Potential.{fresh-potential}
+use Rattle.reference.proofs.CeilingLaws.{step-lowers, reaches-lowers}
+use Rattle.orders.specs.Orders.{Order, openAt, chosen, startMemory, remembered, first, round, drawn}
+use Rattle.orders.specs.Trial.{TrialResult, nextStep, entryOf, reported, tryFrom, trial, stepsIn}
+use Rattle.orders.specs.Rules.{ByRule}
+use Rattle.orders.proofs.RuleLaws.{Memory, Takes, some-place, chosen-takes}
+
+-- A trial that takes no step.
+abbrev stopped : State → TrialResult
+stopped s = record { report = []; state = s }
+
+-- At its start an order remembers what it may.
+pub start-memory : (o : Order) (M : Machine) (seed : ℕ) → Memory o M (startMemory o seed)
+unfolding Memory startMemory
+start-memory first M seed = tt
+start-memory round M seed = omega arith
+start-memory drawn M seed = tt
+
+module _ (o : Order) (M : Machine) where
+  pub try-silent : (c : ℕ) (s : State) (b : ℕ) → isSilent M s ≡ true → tryFrom o M c s (suc b) ≡ stopped s
+  unfolding tryFrom
+  try-silent c s b e = rw (e, tryFrom)
+
+  pub try-step : (c : ℕ) (s : State) (b : ℕ) → isSilent M s ≡ false → tryFrom o M c s (suc b) ≡
+      reported (entryOf M s (nextStep o M s c)) (tryFrom o M (remembered o c (chosen o M s c)) (afterStep M s (nextStep o M s c)) b)
+  unfolding tryFrom
+  try-step c s b e = rw (e, tryFrom)
+
+  -- What holds of a trial that stops, and that one more step in front keeps, holds of every trial.
+  module _ (P : ℕ → State → ℕ → TrialResult → Type 0) (spent : (c : ℕ) (s : State) → P c s 0 (stopped s))
+      (silent : (c : ℕ) (s : State) (b : ℕ) → isSilent M s ≡ true → P c s (suc b) (stopped s))
+      (more : (c : ℕ) (s : State) (b : ℕ) (t : TrialResult) → Takes o M s c (chosen o M s c) →
+      P (remembered o c (chosen o M s c)) (afterStep M s (nextStep o M s c)) b t →
+      P c s (suc b) (reported (entryOf M s (nextStep o M s c)) t)) where
+    pub try-induction : (c : ℕ) (s : State) (b : ℕ) → Memory o M c → P c s b (tryFrom o M c s b)
+    unfolding tryFrom
+    try-induction c s zero h = spent c s
+    try-induction c s (suc b) h =
+        go (isSilent M s) refl
+        (λ (k : Memory o M (remembered o c (chosen o M s c))).
+        try-induction (remembered o c (chosen o M s c)) (afterStep M s (nextStep o M s c)) b k)
+      where
+        go : (t : Bool) → isSilent M s ≡ t → (Memory o M (remembered o c (chosen o M s c)) →
+            P (remembered o c (chosen o M s c)) (afterStep M s (nextStep o M s c)) b
+            (tryFrom o M (remembered o c (chosen o M s c)) (afterStep M s (nextStep o M s c)) b)) → P c s (suc b) (tryFrom o M c s (suc b))
+        go true e k = rw (try-silent c s b e) (silent c s b e)
+        go false e k =
+            let r = chosen-takes M s o c h (some-place M s e) in rw (try-step c s b e) (more c s b _ r (k (r .next)))
+
+  -- What holds of a trial of at most b steps.
+  pub record Holds (c : ℕ) (s : State) (b : ℕ) (t : TrialResult) : Type 0 where
+    pub by-rule : ByRule o M c s (t .report)
+    pub leads : t .state ≡ afterSteps M s (stepsIn (t .report))
+    pub within : length (t .report) ≤ b
+    pub reaches : Reaches M s (t .state) (length (t .report))
+    pub stops : (length (t .report) ≡ b) ⊎ (isSilent M (t .state) ≡ true)
+
+  pub try-holds : (c : ℕ) (s : State) (b : ℕ) → Memory o M c → Holds c s b (tryFrom o M c s b)
+  unfolding ByRule afterSteps stepsIn reported entryOf nextStep openAt
+  try-holds =
+      try-induction Holds (λ c s. record { by-rule = tt; leads = refl; within = omega arith; reaches = stay; stops = inl refl })
+      (λ c s b e. record { by-rule = tt; leads = refl; within = omega arith; reaches = stay; stops = inr e }) more
+    where
+      stops-more : (b k : ℕ) (q : Bool) → (k ≡ b) ⊎ (q ≡ true) → (suc k ≡ suc b) ⊎ (q ≡ true)
+      stops-more b k q (inl e) = inl (ap suc e)
+      stops-more b k q (inr e) = inr e
+
+      more : (c : ℕ) (s : State) (b : ℕ) (t : TrialResult) → Takes o M s c (chosen o M s c) →
+          Holds (remembered o c (chosen o M s c)) (afterStep M s (nextStep o M s c)) b t →
+          Holds c s (suc b) (reported (entryOf M s (nextStep o M s c)) t)
+      more c s b t r h =
+          record {
+            by-rule = (
+              chosen o M s c,
+              record { listed = r .listed; step = refl; isOpen = r .opened; rule = r .rule; answer = refl },
+              h .by-rule,
+            );
+            leads = h .leads;
+            within = omega (arith, h .within);
+            reaches = next (nextStep o M s c) (r .opened) (h .reaches);
+            stops = stops-more b (length (t .report)) (isSilent M (t .state)) (h .stops);
+          }
+
+  pub trial-holds : (seed : ℕ) → Holds (startMemory o seed) fresh (ceiling (M .carriers)) (trial o M seed)
+  unfolding trial
+  trial-holds seed = try-holds (startMemory o seed) fresh (ceiling (M .carriers)) (start-memory o M seed)
+
+  -- A state that is not silent after the ceiling's number of steps would have one step too many.
+  pub ends-silent : (seed : ℕ) → isSilent M (trial o M seed .state) ≡ true
+  unfolding ceiling
+  ends-silent seed = ⊎-elim full (λ (e : isSilent M z ≡ true). e) (h .stops)
+    where
+      z : State
+      z = trial o M seed .state
+
+      h : Holds (startMemory o seed) fresh (ceiling (M .carriers)) (trial o M seed)
+      h = trial-holds seed
+
+      full : length (trial o M seed .report) ≡ ceiling (M .carriers) → isSilent M z ≡ true
+      full q =
+          ⊎-elim (λ (e : isSilent M z ≡ true). e)
+          (λ (e : isSilent M z ≡ false).
+          let x = some-open M z e in
+          absurd (omega (arith, q, step-lowers M z (x .0) (x .1), reaches-lowers M (h .reaches), fresh-potential (M .carriers))))
+          (true-or-false (isSilent M z))

@@ -1,0 +1,47 @@
+-- What the three orders may take, in the words of document 02's slip 1.
+use Prim.Native.Nat.{ℕ, _%_, _≤_, _<_}
+use mathlib.Core.Bool.{true, false}
+use mathlib.Core.List.{List, [], _∷_}
+use mathlib.Core.Path.{_≡_}
+use lib.ListN.{length, getD}
+use Rattle.reference.specs.State.{Machine, State}
+use Rattle.reference.specs.Step.{Step, isOpen}
+use Rattle.reference.specs.Take.{afterStep, stepAnswer}
+use Rattle.orders.specs.Generator.{drawnBy}
+use Rattle.orders.specs.Orders.{Order, first, round, drawn, places, stepAt, openAt, openPlaces, remembered}
+use Rattle.orders.specs.Trial.{Entry}
+
+-- The steps at places a to b − 1 are not open.
+abbrev pub ShutFrom : Machine → State → ℕ → ℕ → Type 0
+ShutFrom M s a b = (q : ℕ) → a ≤ q → q < b → openAt M s q ≡ false
+
+-- Going round the ranking from place c, the step at place p is the first that is open: before it come the places from c up to p, or,
+-- where p is before c, those from c to the end and then those from the top up to p.
+pub data FirstRound (M : Machine) (s : State) (c p : ℕ) : Type 0 where
+  onward : c ≤ p → ShutFrom M s c p → FirstRound M s c p
+  around : p < c → ShutFrom M s c (places (M .carriers)) → ShutFrom M s 0 p → FirstRound M s c p
+
+-- An order that remembers c may take place p. Order 1: the first open one. Order 2: the first open one going round. Order 3: with m
+-- open ones, the one at the drawn number modulo m.
+unfoldable pub Rule : Order → Machine → State → ℕ → ℕ → Type 0
+Rule first M s c p = ShutFrom M s 0 p
+Rule round M s c p = FirstRound M s c p
+Rule drawn M s c p = p ≡ getD (openPlaces M s) (drawnBy c % length (openPlaces M s)) 0
+
+-- A line of the report is that of a step, open when it was taken, at a place that the order may take; with the machine's answer.
+pub record TakenBy (o : Order) (M : Machine) (c : ℕ) (s : State) (e : Entry) (p : ℕ) : Type 0 where
+  pub listed : p < places (M .carriers)
+  pub step : e .taken ≡ stepAt (M .carriers) p
+  pub isOpen : isOpen M s (e .taken) ≡ true
+  pub rule : Rule o M s c p
+  pub answer : e .answer ≡ stepAnswer M s (e .taken)
+
+-- From state s on, each line of a report is that of a step that the order takes, which remembers c at first.
+unfoldable pub ByRule : Order → Machine → ℕ → State → List Entry → Type 0
+ByRule o M c s [] = Unit {0}
+ByRule o M c s (e ∷ es) = (p : ℕ) × TakenBy o M c s e p × ByRule o M (remembered o c p) (afterStep M s (e .taken)) es
+
+-- From state s on, step x is open each time that a step of the list is taken, and is not taken itself.
+unfoldable pub PassedOver : Machine → Step → State → List Step → Type 0
+PassedOver M x s [] = Unit {0}
+PassedOver M x s (y ∷ ys) = (isOpen M s x ≡ true) × (y ≡ x → ⊥) × PassedOver M x (afterStep M s y) ys

@@ -1,0 +1,2 @@
+-- Laws of a report's text.
+pub mod ReportLaws

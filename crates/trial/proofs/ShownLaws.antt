@@ -1,0 +1,60 @@
+-- What an order takes, as the memory of a state shows it, is what it takes in that state.
+use Prim.Native.Nat.{ℕ, zero, suc, _%_, _<_}
+use native.Mathlib.Nat.{mod-lt}
+use mathlib.Core.Bool.{Bool, true}
+use mathlib.Core.List.{List, _++_}
+use mathlib.Core.Path.{_≡_, refl, _∙_, ap}
+use lib.ListN.{length}
+use Rattle.floor.specs.declared.Floor.{Floor}
+use Rattle.reference.specs.State.{Machine, State}
+use Rattle.layout.specs.Encode.{encode}
+use Rattle.layout.specs.Calls.{machineOf}
+use Rattle.layout.specs.InnerSteps.{openIn}
+use Rattle.layout.proofs.OpenLaws.{open-same}
+use Rattle.steps.specs.Inner.{bare}
+use Rattle.steps.proofs.OpenLaws.{open-of}
+use Rattle.orders.specs.Orders.{Order, first, round, drawn, places, stepAt, openAt, passing, openPlaces, turn, chosen}
+use Rattle.orders.proofs.PassingLaws.{passing-item}
+use Rattle.trial.specs.Inner.{opensIn, countIn, turnIn, chosenIn}
+
+-- Two tests that agree pass the same places.
+passing-same : (p q : ℕ → Bool) → ((i : ℕ) → p i ≡ q i) → (k : ℕ) → passing p k ≡ passing q k
+unfolding passing
+passing-same p q h zero = refl
+passing-same p q h (suc k) = rw (passing-same p q h k, h k)
+
+-- The place that an order takes is open.
+pub chosen-opens : (o : Order) (f : Floor) (m : List ℕ) (c : ℕ) → 0 < countIn f m (places (f .carriers)) →
+    openIn (bare f) m (stepAt (f .carriers) (chosenIn o f m c)) ≡ true
+unfolding chosenIn countIn opensIn
+chosen-opens o f m c l =
+    passing-item (opensIn f m) (places (f .carriers)) (turnIn o f m c % countIn f m (places (f .carriers)))
+    (mod-lt (turnIn o f m c) l) .passes
+
+module _ (f : Floor) (ws : List ℕ) (s : State) (rest : List ℕ) where
+  abbrev M : Machine
+  M = machineOf f ws
+
+  abbrev m : List ℕ
+  m = encode (f .carriers) s ++ rest
+
+  opens-same : (p : ℕ) → opensIn f m p ≡ openAt M s p
+  unfolding opensIn openAt machineOf
+  opens-same p = open-of f ws m (stepAt (f .carriers) p) ∙ open-same M s rest (stepAt (f .carriers) p)
+
+  listed-same : (k : ℕ) → passing (opensIn f m) k ≡ passing (openAt M s) k
+  listed-same = passing-same (opensIn f m) (openAt M s) opens-same
+
+  pub count-same : (k : ℕ) → countIn f m k ≡ length (passing (openAt M s) k)
+  unfolding countIn
+  count-same k = ap length (listed-same k)
+
+  turn-same : (o : Order) (c : ℕ) → turnIn o f m c ≡ turn o M s c
+  unfolding turnIn turn
+  turn-same first c = refl
+  turn-same round c = count-same c
+  turn-same drawn c = refl
+
+  pub chosen-same : (o : Order) (c : ℕ) → chosenIn o f m c ≡ chosen o M s c
+  unfolding chosenIn chosen openPlaces machineOf
+  chosen-same o c = rw (listed-same (places (f .carriers)), turn-same o c, count-same (places (f .carriers)))

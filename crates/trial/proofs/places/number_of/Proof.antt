@@ -1,0 +1,40 @@
+-- `trial::places::number_of` meets its contract: a case a kind of step; the carriers of a step that is there are below 8.
+use native.Mathlib.Omega.{arith}
+use Rattle.steps.specs.Answers.{stepMeant}
+use Rattle.steps.proofs.OpenLaws.{plan-there, deliver-there}
+use borrow.Author.Needs.{needs}
+use Rattle.trial.proofs.places.number_of.Statement.{statement}
+use Rattle.trial.proofs.places.number_of.Tie as tie
+
+plan-number-requires : tie.Need-plan-number-requires
+unfolding stepMeant
+plan-number-requires c κs =
+    let after-s : tie.After-s = search in
+    let start : tie.Start = search in
+    omega (arith, plan-there _ _ (rw (after-s .s .given .1) at (start .pre .0)))
+
+delivery-number-requires : tie.Need-delivery-number-requires
+unfolding stepMeant
+delivery-number-requires c κs =
+    let after-s2 : tie.After-s2 = search in
+    let start : tie.Start = search in
+    let there = deliver-there _ _ _ (rw (after-s2 .s2 .given .1) at (start .pre .0)) in
+    (omega (arith, there .0, there .1, start .pre .1), omega (arith, there .1, start .pre .1))
+
+returns : tie.Need-returns
+unfolding stepMeant
+returns c =
+    let after-plan-number : tie.After-plan-number = search in
+    let after-s : tie.After-s = search in
+    rw (after-s .s .given .1) (after-plan-number .plan-number .ensures)
+
+returns-2 : tie.Need-returns-2
+unfolding stepMeant
+returns-2 c =
+    let after-delivery-number : tie.After-delivery-number = search in
+    let after-s2 : tie.After-s2 = search in
+    rw (after-s2 .s2 .given .1) (after-delivery-number .delivery-number .ensures)
+
+pub number-of-spec : {M : Type 1} → statement M
+number-of-spec =
+    tie.close (tie.spec (λ c. search needs) plan-number-requires (λ c. search needs) delivery-number-requires returns returns-2)
