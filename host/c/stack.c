@@ -19,6 +19,7 @@ static uint16_t walls[KALOMIVUND_MOST_WALLS];
 static uint16_t answers[KALOMIVUND_MOST_ANSWERS];
 static uint16_t route[KALOMIVUND_ROUTE];
 static uint16_t state[KALOMIVUND_MOST_STATE];
+static uint16_t report[KALOMIVUND_MOST_REPORT];
 static uint16_t steps[STEPS];
 static uint16_t read_floor[KALOMIVUND_FLOOR];
 static uint64_t lengths[KALOMIVUND_LENGTHS];
@@ -53,6 +54,9 @@ static uint64_t step_deliver(void) {
     return kalomivund_step(FLOOR, state, KALOMIVUND_MOST_STATE, KALOMIVUND_DELIVER(1, 2));
 }
 static uint64_t run(void) { return kalomivund_run(FLOOR, state, KALOMIVUND_MOST_STATE, steps, STEPS, 65535); }
+static uint64_t trial(void) {
+    return kalomivund_trial(FLOOR, 3, 1, state, KALOMIVUND_MOST_STATE, report, KALOMIVUND_MOST_REPORT);
+}
 static uint64_t ceiling(void) { return kalomivund_ceiling(8); }
 
 struct job {
@@ -101,7 +105,8 @@ int main(void) {
     } calls[] = {
         {"write_sheet", write_sheet}, {"read_sheet", read_sheet}, {"check_floor", check_floor},
         {"needed_lengths", needed_lengths}, {"plan", plan}, {"search", search}, {"print_routes", print_routes},
-        {"fresh", fresh}, {"step (plan)", step_plan}, {"step (deliver)", step_deliver}, {"run", run}, {"ceiling", ceiling},
+        {"fresh", fresh}, {"step (plan)", step_plan}, {"step (deliver)", step_deliver}, {"run", run}, {"trial", trial},
+        {"ceiling", ceiling},
     };
     /* Walls: the last cells of the grid but for the starts and goals there, so that a floor of many walls is read. */
     for (uint16_t c = 544; c < 1024; c++) {

@@ -35,6 +35,7 @@
  *   10, 0        the lent state is no state of this floor
  *   7, position  a number that names no step of this floor (position in its list, from 0; a single step has 0); a search's carrier
  *   8, 0         a single step is not open
+ *   11, 0        a trial's order is none of 1 to 3
  * "The floor's refusals" below are 9 (22 numbers), 2, 9 (walls), 3, 4, 5, 6. */
 #ifndef KALOMIVUND_H
 #define KALOMIVUND_H
@@ -50,12 +51,13 @@ extern "C" {
 #define KALOMIVUND_FLOOR 22        /* numbers of a floor record */
 #define KALOMIVUND_ROUTE 64        /* cells of a route */
 #define KALOMIVUND_RECORD 65       /* numbers of an answer or a view */
-#define KALOMIVUND_LENGTHS 8       /* figures of kalomivund_needed_lengths */
+#define KALOMIVUND_LENGTHS 9       /* figures of kalomivund_needed_lengths */
 #define KALOMIVUND_MOST_WALLS 1023 /* cells */
 #define KALOMIVUND_MOST_SHEET 11452 /* bytes */
 #define KALOMIVUND_MOST_ANSWERS 520 /* numbers */
 #define KALOMIVUND_MOST_TEXT 2659  /* bytes */
 #define KALOMIVUND_MOST_STATE 9666 /* numbers, 19,332 bytes */
+#define KALOMIVUND_MOST_REPORT 1004 /* numbers */
 
 /* Parts of an answer word. */
 #define KALOMIVUND_REFUSED(word) ((unsigned)((word) & 0xff))       /* 0 done, 1 refused */
@@ -101,7 +103,7 @@ uint64_t kalomivund_write_sheet(const uint16_t *floor, size_t floor_len, const u
 uint64_t kalomivund_check_floor(const uint16_t *floor, size_t floor_len, const uint16_t *walls, size_t walls_len);
 
 /* The needed length of each lent buffer of a floor, from its first six numbers alone.
- * Writes  eight figures to the front of out, in elements of each buffer:
+ * Writes  nine figures to the front of out, in elements of each buffer:
  *           walls    walls
  *           sheet    31 + 21 x carriers + 11 x walls, bytes
  *           answers  65 x carriers, numbers; also the views lent to a search
@@ -109,10 +111,11 @@ uint64_t kalomivund_check_floor(const uint16_t *floor, size_t floor_len, const u
  *           state    2 + 67 x carriers + 326 x carriers x (carriers - 1) / 2, numbers
  *           route    64, cells
  *           floor    22, numbers
- *           figures  8, numbers of eight bytes: these
+ *           figures  9, numbers of eight bytes: these
+ *           report   2 x (2^(carriers + 1) - carriers - 2), numbers
  *         Later figures stand behind these.
  * Done    case 0, number 0.
- * Refused 9 (floor shorter than 22); 2; 9 (out shorter than 8). */
+ * Refused 9 (floor shorter than 22); 2; 9 (out shorter than 9). */
 uint64_t kalomivund_needed_lengths(const uint16_t *floor, size_t floor_len, uint64_t *out, size_t out_len);
 
 /* The best route of a carrier against what it has heard of the carriers above it.
@@ -172,6 +175,18 @@ uint64_t kalomivund_step(const uint16_t *floor, size_t floor_len, const uint16_t
  * Refused the floor's refusals; 9 (state too short); 10; 7 with the first position in the whole list that names no step. */
 uint64_t kalomivund_run(const uint16_t *floor, size_t floor_len, const uint16_t *walls, size_t walls_len, uint16_t *state,
                         size_t state_len, const uint16_t *steps, size_t steps_len, uint16_t budget);
+
+/* A trial: plays a whole run from the fresh state until no step is open, in one of three orders. Steps are ranked plans by carrier, then
+ * deliveries by sender, then by receiver. Order 1 takes the first open step; order 2 goes round the ranking, each search starting behind
+ * the step last taken, the first at the top; order 3 draws: the next number is the last x 1664525 + 1013904223 modulo 2^32, the seed
+ * being the number before the first, and of m open steps it takes the one at place (number / 65536) mod m, from 0.
+ * Takes   order, 1 to 3; seed, looked at by order 3 alone. What state and report hold is not looked at.
+ * Writes  the needed length of state: the silent state; two numbers a step taken to the front of report: the step's number, and its
+ *         answer, 0 kept, 1 sent, 2 delivered. The rest of report stays.
+ * Done    case 0, number the steps taken.
+ * Refused the floor's refusals; 9 (state or report too short); 11, 0. */
+uint64_t kalomivund_trial(const uint16_t *floor, size_t floor_len, const uint16_t *walls, size_t walls_len, uint16_t order,
+                          uint32_t seed, uint16_t *state, size_t state_len, uint16_t *report, size_t report_len);
 
 /* The most steps that so many carriers can take from the fresh state, 2^(n + 1) - n - 2.
  * Done    case 0, number the steps.

@@ -71,6 +71,23 @@ pub fn run(floor: &[u16], walls: &[u16], state: &mut [u16], steps: &[u16], budge
     }
 }
 
+pub fn trial(floor: &[u16], walls: &[u16], order: u16, seed: u32, state: &mut [u16], report: &mut [u16]) -> u64 {
+    unsafe {
+        raw::kalomivund_trial(
+            floor.as_ptr(),
+            floor.len(),
+            walls.as_ptr(),
+            walls.len(),
+            order,
+            seed,
+            state.as_mut_ptr(),
+            state.len(),
+            report.as_mut_ptr(),
+            report.len(),
+        )
+    }
+}
+
 pub fn ceiling(carriers: u16) -> u64 {
     unsafe { raw::kalomivund_ceiling(carriers) }
 }

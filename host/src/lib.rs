@@ -17,7 +17,7 @@ pub mod raw;
 /// The numbers of a floor record.
 pub const RECORD: usize = 22;
 /// The figures of the needed lengths.
-pub const LENGTHS: usize = 8;
+pub const LENGTHS: usize = 9;
 /// The most walls that a floor has.
 pub const MOST_WALLS: usize = 1023;
 /// The most numbers that the answers of a floor take.
@@ -28,6 +28,8 @@ pub const MOST_SHEET: usize = 11_452;
 pub const MOST_TEXT: usize = 2_659;
 /// The most numbers that a state takes.
 pub const MOST_STATE: usize = 9_666;
+/// The most numbers that the report of a trial takes.
+pub const MOST_REPORT: usize = 1_004;
 
 /// A route: a cell for each beat, 0 after the horizon.
 pub type Route = [u16; 64];
@@ -73,7 +75,7 @@ impl Floor {
     }
 }
 
-/// A refusal of document 01's table: its number, and the place that the table says, up to 2^48 − 1.
+/// A refusal of document 01's table, or of a change request's row behind it: its number, and the place that the table says, up to 2^48 − 1.
 #[derive(Clone, Copy, PartialEq, Eq, Debug)]
 pub struct Refusal {
     pub number: u8,
@@ -93,6 +95,7 @@ impl std::fmt::Display for Refusal {
             8 => "the step is not open: place",
             9 => "lent memory is too short: place",
             10 => "the lent state is no state: place",
+            11 => "no such order of a trial: place",
             _ => "refused: place",
         };
         write!(f, "refusal {}: {} {}", self.number, why, self.place)
@@ -130,6 +133,8 @@ pub struct Lengths {
     pub floor: usize,
     /// Figures, these included.
     pub figures: usize,
+    /// Numbers of a trial's report.
+    pub report: usize,
 }
 
 /// What a taken step was.
@@ -197,8 +202,8 @@ pub fn check_floor(floor: &Floor, walls: &[u16]) -> Result<(), Refusal> {
 pub fn needed_lengths(floor: &Floor) -> Result<Lengths, Refusal> {
     let mut out = [0; LENGTHS];
     answer_of(calls::needed_lengths(&floor.record(), &mut out))?;
-    let [walls, sheet, answers, text, state, route, floor, figures] = out.map(|length| length as usize);
-    Ok(Lengths { walls, sheet, answers, text, state, route, floor, figures })
+    let [walls, sheet, answers, text, state, route, floor, figures, report] = out.map(|length| length as usize);
+    Ok(Lengths { walls, sheet, answers, text, state, route, floor, figures, report })
 }
 
 /// The best route of a carrier (from 1) against the views of the carriers above it; `None` is the paper's none. A view with tag 1, none,
@@ -236,6 +241,20 @@ pub fn step(floor: &Floor, walls: &[u16], state: &mut [u16], step: u16) -> Resul
 pub fn run(floor: &Floor, walls: &[u16], state: &mut [u16], steps: &[u16], budget: u16) -> Result<Ran, Refusal> {
     let (case, taken) = answer_of(calls::run(&floor.record(), walls, state, steps, budget))?;
     Ok(Ran { taken: taken as u16, end: [End::Silent, End::Spent, End::Ended][case as usize] })
+}
+
+/// Plays a whole run from fresh to silent in an order, 1 to 3 (order 3 draws from the seed): the number of steps taken. The report gets
+/// two numbers a step, its number and its answer (0 kept, 1 sent, 2 delivered); the state is the silent one afterwards. Refusal 11 for
+/// another order, after all others.
+pub fn trial(
+    floor: &Floor,
+    walls: &[u16],
+    order: u16,
+    seed: u32,
+    state: &mut [u16],
+    report: &mut [u16],
+) -> Result<usize, Refusal> {
+    answer_of(calls::trial(&floor.record(), walls, order, seed, state, report)).map(|(_, steps)| steps as usize)
 }
 
 /// The most steps that n carriers can take. Refusal 2, field 5.

@@ -756,11 +756,11 @@ pub mod calls {
             whole_record(floor)?;
             let at = |k: usize| floor[k] as usize;
             limits(&[at(0), at(1), at(2), at(3), at(4), at(5)])?;
-            long_enough(out.len() < 8)?;
+            long_enough(out.len() < 9)?;
             let (n, count) = (at(4), at(5));
             let sheet = 31 + 21 * n + 11 * count;
-            let lengths = [count, sheet, 65 * n, text_length(n), state_length(n), 64, 22, 8];
-            for k in 0..8 {
+            let lengths = [count, sheet, 65 * n, text_length(n), state_length(n), 64, 22, 9, report_length(n)];
+            for k in 0..9 {
                 out[k] = lengths[k] as u64;
             }
             Ok(done(0, 0))
@@ -797,6 +797,12 @@ pub mod calls {
             store_answers(&planned, answers);
             Ok(done(0, failing))
         })())
+    }
+
+    /// The needed length of a trial's report: two numbers for each of the most steps, of which each carrier has twice as many as the one
+    /// above it and one more.
+    fn report_length(n: usize) -> usize {
+        2 * (0..n).map(|i| (2 << i) - 1).sum::<usize>()
     }
 
     /// The needed length of text memory for n carriers: two fields and a newline, and for each carrier 66 fields and a newline.
@@ -867,6 +873,27 @@ pub mod calls {
             let (taken, end) = now.run(&floor, &named, budget as usize);
             state[..state_length(floor.carriers())].copy_from_slice(&encode(&now));
             Ok(done(end as u64, taken))
+        })())
+    }
+
+    /// The state after a trial is the one after its steps.
+    pub fn trial(floor: &[u16], walls: &[u16], order: u16, seed: u32, state: &mut [u16], report: &mut [u16]) -> u64 {
+        word((|| {
+            let floor = lent(floor, walls)?;
+            let n = floor.carriers();
+            long_enough(state.len() < state_length(n) || report.len() < report_length(n))?;
+            if order == 0 || order > 3 {
+                return refuse(11, 0);
+            }
+            let lines = super::trial(&floor, order, seed);
+            let mut now = super::fresh(n);
+            for (k, &(number, answer)) in lines.iter().enumerate() {
+                now.take(&floor, step_named(number, n).expect("a reported step is named"));
+                report[2 * k] = number;
+                report[2 * k + 1] = answer as u16;
+            }
+            state[..state_length(n)].copy_from_slice(&encode(&now));
+            Ok(done(0, lines.len()))
         })())
     }
 

@@ -79,5 +79,18 @@ extern "C" {
         budget: u16,
     ) -> u64;
 
+    pub fn kalomivund_trial(
+        floor: *const u16,
+        floor_len: usize,
+        walls: *const u16,
+        walls_len: usize,
+        order: u16,
+        seed: u32,
+        state: *mut u16,
+        state_len: usize,
+        report: *mut u16,
+        report_len: usize,
+    ) -> u64;
+
     pub fn kalomivund_ceiling(carriers: u16) -> u64;
 }

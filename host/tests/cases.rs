@@ -319,13 +319,13 @@ fn unfit(desk: &Desk, numbers: &[Number]) -> usize {
     (0..with.len()).filter(is_refused).count()
 }
 
-/// How many numbers get a kind of answer as a step on the fresh state: 20 is sent, 7 and 8 are refusals.
+/// How many numbers get a kind of answer as a step on the fresh state: 40 is sent, 7 and 8 are refusals.
 fn kinds(floor: &Floor, kind: usize) -> usize {
     let state = paper::fresh(floor.carriers());
     let kind_of = |number: u16| match paper::step_named(number, floor.carriers()) {
         None => 7,
         Some(step) if !state.is_open(floor, step) => 8,
-        Some(step) => 19 + state.clone().take(floor, step) as usize,
+        Some(step) => 39 + state.clone().take(floor, step) as usize,
     };
     (0..=65535).filter(|&number| kind_of(number) == kind).count()
 }
@@ -386,6 +386,22 @@ impl Desk {
     fn run(&mut self, numbers: &[Number]) -> String {
         let list: Vec<u16> = numbers[1..].iter().map(|number| number.value as u16).collect();
         ran(calls::run(&self.record(), &self.walls(), &mut self.lent, &list, numbers[0].value as u16))
+    }
+
+    /// A trial whose report is lent memory. Its state is left alone, or is silent with the planner's answers and the count of the steps.
+    fn trial(&mut self, numbers: &[Number]) -> String {
+        let at = |k: usize| numbers[k].value;
+        let (mut state, seed) = (vec![LENT; at(3)], (at(1) << 16 | at(2)) as u32);
+        let word = calls::trial(&self.record(), &self.walls(), at(0) as u16, seed, &mut state, &mut self.lent);
+        if word as u8 == 1 {
+            assert!(state.iter().all(|&number| number == LENT));
+        } else {
+            let floor = self.floor();
+            let last = paper::decode(&floor, &state[..paper::state_length(floor.carriers())]).expect("a trial leaves a state");
+            let answers: Vec<Answer> = last.carriers.iter().map(|carrier| carrier.answer).collect();
+            assert!(last.is_silent(&floor) && answers == paper::plan(&floor).0 && last.taken as u64 == word >> 16);
+        }
+        told("steps", word)
     }
 
     /// Whether the answers in lent memory are the planner's.
@@ -470,6 +486,7 @@ impl Desk {
             b's' => stepped(calls::step(&record, &walls, &mut self.lent, first as u16)),
             b'r' => self.run(numbers),
             b'p' => told("failing carrier", calls::plan(&record, &walls, &mut self.lent)),
+            b'T' => self.trial(numbers),
             b'h' => told("steps", calls::ceiling(first as u16)),
             b'm' => either(self.lent == written_out(numbers, self.lent.len()), "the same", "OTHERWISE"),
             b'a' => either(self.is_planned(), "the same", "OTHERWISE"),

@@ -129,11 +129,38 @@ fn a_short_record() {
 #[test]
 fn lengths_and_places() {
     let lengths = needed_lengths(&floor_of(SHEET).unwrap()).unwrap();
-    let all = Lengths { walls: 0, sheet: 73, answers: 130, text: 673, state: 462, route: 64, floor: RECORD, figures: LENGTHS };
+    let all = Lengths { walls: 0, sheet: 73, answers: 130, text: 673, state: 462, route: 64, floor: RECORD, figures: LENGTHS, report: 8 };
     assert_eq!(lengths, all);
     let (few, floor) = (&mut [0; LENGTHS - 1], floor_of(SHEET).unwrap().record());
     assert_eq!(refused(answer_of(calls::needed_lengths(&floor, few))), (9, 0));
     assert_eq!(refused(answer_of(u64::MAX << 16 | 7 << 8 | 1)), (7, (1 << 48) - 1));
+}
+
+/// Document 01's floor in the three orders: from seed 2 the first draw is 15,521, so that of two open plans the second is taken.
+#[test]
+fn trials_in_three_orders() {
+    let floor = floor_of(SHEET).unwrap();
+    let lengths = needed_lengths(&floor).unwrap();
+    let mut planned = vec![0; lengths.answers];
+    plan(&floor, &[], &mut planned).unwrap();
+    let taken = |order: u16, seed: u32| {
+        let (mut state, mut report) = (vec![7; lengths.state], vec![7; lengths.report]);
+        let steps = trial(&floor, &[], order, seed, &mut state, &mut report).unwrap();
+        assert_eq!([answer(&state, 1), answer(&state, 2)].concat(), planned);
+        assert!(report[2 * steps..].iter().all(|&left| left == 7));
+        report.truncate(2 * steps);
+        report
+    };
+    assert_eq!(taken(1, 2), [101, 1, 102, 1, 212, 2, 102, 1]);
+    assert_eq!(taken(2, 2), [101, 1, 102, 1, 212, 2, 102, 1]);
+    assert_eq!(taken(3, 2)[..2], [102, 1]);
+    assert_eq!(taken(3, 1)[..2], [101, 1]);
+    let (mut state, mut report) = (vec![7; lengths.state], vec![7; lengths.report]);
+    for order in [0, 4] {
+        assert_eq!(refused(trial(&floor, &[], order, 1, &mut state, &mut report)), (11, 0));
+        assert_eq!(refused(trial(&floor, &[], order, 1, &mut state, &mut report[1..])), (9, 0));
+    }
+    assert!(state.iter().chain(&report).all(|&left| left == 7));
 }
 
 /// The worked example of docs/FIRMWARE.md: board 2 misses the order 'plan 1' and catches up.

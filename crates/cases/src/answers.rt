@@ -1,5 +1,5 @@
 // An answer as one number that can be compared and printed: its kind times 1,000,000, and a number. A plain number has kind 0. A refusal's
-// kind is its number in document 01's table, 1 to 10, and its number is its place; the other kinds are those below.
+// kind is its number in document 01's table and its later rows, up to 30, and its number is its place; the other kinds are those below.
 use floor::Checked;
 use floor::Refusal;
 use script::look;
@@ -7,37 +7,37 @@ use script::pages;
 use script::show;
 
 // Of a run, with the number taken.
-pub const SILENT: usize = 11;
+pub const SILENT: usize = 31;
 
-pub const SPENT: usize = 12;
+pub const SPENT: usize = 32;
 
-pub const ENDED: usize = 13;
+pub const ENDED: usize = 33;
 // Of a plan, with the failing carrier.
-pub const FAILING: usize = 14;
-// Of the ceiling, with the most steps.
-pub const STEPS: usize = 15;
+pub const FAILING: usize = 34;
+// Of the ceiling, with the most steps; of a trial, with the steps taken.
+pub const STEPS: usize = 35;
 // Of printed routes, with the number of bytes.
-pub const PRINTED: usize = 16;
+pub const PRINTED: usize = 36;
 // Of a check; this and the others come without a number.
-pub const PASSED: usize = 17;
+pub const PASSED: usize = 37;
 // Of a sheet that was read and written again.
-pub const WRITTEN: usize = 18;
+pub const WRITTEN: usize = 38;
 // Of a step.
-pub const KEPT: usize = 19;
+pub const KEPT: usize = 39;
 
-pub const SENT: usize = 20;
+pub const SENT: usize = 40;
 
-pub const DELIVERED: usize = 21;
+pub const DELIVERED: usize = 41;
 // Of a comparison.
-pub const SAME: usize = 22;
+pub const SAME: usize = 42;
 
-pub const OTHERWISE: usize = 23;
+pub const OTHERWISE: usize = 43;
 // Nothing is left to show.
-pub const SHOWN: usize = 24;
+pub const SHOWN: usize = 44;
 
 // An answer of a kind with a number.
 pub fn answer(kind: usize, number: usize) -> usize {
-    kind % 25 * 1000000 + number % 1000000
+    kind % 45 * 1000000 + number % 1000000
 }
 
 // The kind of an answer.
@@ -113,7 +113,7 @@ pub fn show(came: usize) {
     let kind = kind(came);
     show_word(kind);
     match kind {
-        1..=10 => show::number(kind),
+        1..=30 => show::number(kind),
         _ => {}
     }
     if kind < PASSED {

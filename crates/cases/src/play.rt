@@ -10,6 +10,7 @@ use crate::sheets;
 use crate::spoilt;
 use crate::states;
 use crate::tally;
+use crate::trials;
 use floor::Floor;
 use script::fields;
 use script::fields::field;
@@ -52,7 +53,7 @@ fn called(s: &[u8], desk: &[u16], m: &mut [u16]) -> usize {
 }
 
 // Commands that try lent memory in many ways: text of a sheet, unfit numbers in each place, kinds of answers to all numbers as steps, all
-// orders, drawn orders.
+// orders, drawn orders, a Trial.
 fn tried(s: &[u8], desk: &[u16], m: &mut [u16]) -> usize {
     match byte(s, 0) {
         b't' => sheets::text(s, m),
@@ -60,6 +61,7 @@ fn tried(s: &[u8], desk: &[u16], m: &mut [u16]) -> usize {
         b'k' => spoilt::numbers(desk, m, field(s, 0)),
         b'o' => tally::say(orders::every(desk, m)),
         b'd' => tally::say(drawn::drawn(s, desk, m)),
+        b'T' => trials::trial(s, desk, m),
         _ => looked(s, desk, m),
     }
 }

@@ -1,11 +1,13 @@
 //! Compares the library with `paper.rs`, an independent implementation of document 01: answer words, and every number of lent memory,
 //! also outside the part that is lent. Seeds are fixed; a case that fails is printed with the command that replays it.
 //!
-//!     compare                          everything: 100,000 sheets, 20,000 lists of calls
+//!     compare                          everything: 100,000 sheets, 20,000 lists of calls, 10,000 trials
 //!     compare sheets FROM COUNT        some of the sheets, by their seeds
 //!     compare lists FROM COUNT         some of the lists
+//!     compare trials FROM COUNT        some of the trials
 //!     compare sheet SEED               one case, each call printed with its answer
 //!     compare list SEED
+//!     compare trial SEED
 
 #[path = "../draw.rs"]
 mod draw;
@@ -20,6 +22,7 @@ use std::time::Instant;
 
 const SHEETS: u64 = 100_000;
 const LISTS: u64 = 20_000;
+const TRIALS: u64 = 10_000;
 
 // ---- Lent memory and calls ----
 
@@ -79,6 +82,7 @@ enum Call {
     Fresh { floor: Lent<u16>, walls: Lent<u16>, state: Lent<u16> },
     Step { floor: Lent<u16>, walls: Lent<u16>, state: Lent<u16>, step: u16 },
     Run { floor: Lent<u16>, walls: Lent<u16>, state: Lent<u16>, steps: Lent<u16>, budget: u16 },
+    Trial { floor: Lent<u16>, walls: Lent<u16>, order: u16, seed: u32, state: Lent<u16>, report: Lent<u16> },
     Ceiling { carriers: u16 },
 }
 
@@ -121,6 +125,9 @@ impl Call {
             Call::Run { floor, walls, state, steps, budget } => {
                 entry!(who, run(floor.part(), walls.part(), state.part_mut(), steps.part(), *budget))
             }
+            Call::Trial { floor, walls, order, seed, state, report } => {
+                entry!(who, trial(floor.part(), walls.part(), *order, *seed, state.part_mut(), report.part_mut()))
+            }
             Call::Ceiling { carriers } => entry!(who, ceiling(*carriers)),
         }
     }
@@ -137,6 +144,7 @@ impl Call {
             Call::Fresh { .. } => "fresh",
             Call::Step { .. } => "step",
             Call::Run { .. } => "run",
+            Call::Trial { .. } => "trial",
             Call::Ceiling { .. } => "ceiling",
         }
     }
@@ -163,6 +171,9 @@ impl Call {
             }
             Call::Run { floor: f, walls: w, state, steps, budget } => {
                 format!("{} state of {} steps {:?} budget {budget}", floor(f, w), state.length, steps.part())
+            }
+            Call::Trial { floor: f, walls: w, order, seed, state, report } => {
+                format!("{} order {order} seed {seed} state of {} report of {}", floor(f, w), state.length, report.length)
             }
             Call::Ceiling { carriers } => format!("{carriers}"),
         }
@@ -237,6 +248,7 @@ impl Tally {
             ("fresh", vec![0], with(&[])),
             ("step", vec![0, 1, 2], with(&[7, 8, 10])),
             ("run", vec![0, 1, 2], with(&[7, 10])),
+            ("trial", vec![0], with(&[11])),
             ("ceiling", vec![0], vec![2]),
         ];
         let mut keys = Vec::new();
@@ -280,6 +292,7 @@ fn numbers(call: &Call) -> Vec<u64> {
         Call::Fresh { floor, walls, state } => [wide(floor), wide(walls), wide(state)].concat(),
         Call::Step { floor, walls, state, .. } => [wide(floor), wide(walls), wide(state)].concat(),
         Call::Run { floor, walls, state, steps, .. } => [wide(floor), wide(walls), wide(state), wide(steps)].concat(),
+        Call::Trial { floor, walls, state, report, .. } => [wide(floor), wide(walls), wide(state), wide(report)].concat(),
         Call::Ceiling { .. } => Vec::new(),
     }
 }
@@ -551,7 +564,7 @@ fn sheet_case(seed: u64, tally: &mut Tally) -> bool {
     let margin = draw.next() as u16;
     let (record, walls) = (Lent::of(&record, margin), Lent::of(&walls, margin));
     tally.compare(Call::CheckFloor { floor: record.clone(), walls: walls.clone() });
-    let length = about(draw, 8);
+    let length = about(draw, 9);
     let out = Lent::of(&vec![draw.next(); length], 77);
     tally.compare(Call::NeededLengths { floor: record.clone(), out });
     let length = about(draw, bytes.len());
@@ -712,6 +725,27 @@ fn list_case(seed: u64, tally: &mut Tally) {
     }
 }
 
+/// A trial of a floor with every order, 0, 4 and 65535 among them: memory too short and spoilt floors included.
+fn trial_case(seed: u64, tally: &mut Tally) {
+    let draw = &mut Draw(seed.wrapping_mul(0x9e37_79b9_7f4a_7c15) ^ 0x7a1a);
+    let most = draw.of(&[4, 5, 5, 8, 10]);
+    let floor = draw_floor(draw, most);
+    let (mut record, mut walls) = draw_record(draw, &floor);
+    if draw.percent(10) && record.len() >= 22 && walls.len() >= floor.walls.len() {
+        spoil_record(draw, &mut record, &mut walls, &floor);
+    }
+    let margin = draw.next() as u16;
+    let n = floor.carriers();
+    let steps = (2 << n) - n - 2;
+    let (state_length, report_length) = (about(draw, paper::state_length(n)), about(draw, 2 * steps));
+    let (state, report) = (junk(draw, state_length), junk(draw, report_length));
+    let order = draw.of(&[1, 1, 1, 2, 2, 2, 2, 3, 3, 3, 3, 3, 3, 3, 0, 4, 65535]);
+    let any = draw.next() as u32;
+    let seed = draw.of(&[any, any, any, any, 0, 1, u32::MAX]);
+    let (record, walls) = (Lent::of(&record, margin), Lent::of(&walls, margin));
+    tally.compare(Call::Trial { floor: record, walls, order, seed, state, report });
+}
+
 /// The ceiling of every number of carriers.
 fn ceilings(tally: &mut Tally) {
     tally.replay = "".into();
@@ -731,18 +765,21 @@ fn main() {
     };
     let whole = words.is_empty();
     let mut tally = Tally::default();
-    let (sheets, lists) = match words[..] {
-        [] => ((1, SHEETS), (1, LISTS)),
-        ["sheets", from, count] => ((number(from), number(count)), (1, 0)),
-        ["lists", from, count] => ((1, 0), (number(from), number(count))),
-        ["sheet", seed] => ((number(seed), 1), (1, 0)),
-        ["list", seed] => ((1, 0), (number(seed), 1)),
+    let none = (1, 0);
+    let (sheets, lists, trials) = match words[..] {
+        [] => ((1, SHEETS), (1, LISTS), (1, TRIALS)),
+        ["sheets", from, count] => ((number(from), number(count)), none, none),
+        ["lists", from, count] => (none, (number(from), number(count)), none),
+        ["trials", from, count] => (none, none, (number(from), number(count))),
+        ["sheet", seed] => ((number(seed), 1), none, none),
+        ["list", seed] => (none, (number(seed), 1), none),
+        ["trial", seed] => (none, none, (number(seed), 1)),
         _ => {
-            eprintln!("usage: compare [sheets FROM COUNT | lists FROM COUNT | sheet SEED | list SEED]");
+            eprintln!("usage: compare [sheets FROM COUNT | lists FROM COUNT | trials FROM COUNT | sheet SEED | list SEED | trial SEED]");
             exit(2);
         }
     };
-    tally.verbose = matches!(words[..], ["sheet" | "list", _]);
+    tally.verbose = matches!(words[..], ["sheet" | "list" | "trial", _]);
     let begin = Instant::now();
     let mut accepted = 0;
     for seed in sheets.0..sheets.0 + sheets.1 {
@@ -755,15 +792,20 @@ fn main() {
         list_case(seed, &mut tally);
     }
     let by_lists = tally.calls - by_sheets;
+    for seed in trials.0..trials.0 + trials.1 {
+        tally.replay = format!("trial {seed}");
+        trial_case(seed, &mut tally);
+    }
     if whole {
         ceilings(&mut tally);
     }
     tally.print();
     println!(
-        "compare: {} sheets ({accepted} read, {} calls), {} lists ({by_lists} calls), {} calls in all: library and paper agree, in {:.1} s",
+        "compare: {} sheets ({accepted} read, {by_sheets} calls), {} lists ({by_lists} calls), {} trials, {} calls in all: library and \
+         paper agree, in {:.1} s",
         sheets.1,
-        by_sheets,
         lists.1,
+        trials.1,
         tally.calls,
         begin.elapsed().as_secs_f64()
     );

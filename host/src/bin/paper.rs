@@ -178,9 +178,9 @@ mod tests {
         let full = bare(32, 32, 63, 4, &[(0, 1), (1, 2), (2, 3), (3, 4), (4, 5), (5, 6), (6, 7), (7, 8)]);
         let mut record = paper::record_of(&full);
         record[5] = 1023;
-        let mut out = [9; 9];
+        let mut out = [7; 10];
         assert_eq!(calls::needed_lengths(&record, &mut out), done(0, 0));
-        assert_eq!(out, [1023, 11452, 520, 2659, 9666, 64, 22, 8, 9]);
+        assert_eq!(out, [1023, 11452, 520, 2659, 9666, 64, 22, 9, 1004, 7]);
         assert_eq!(calls::ceiling(8), done(0, 502));
         assert_eq!(calls::ceiling(1), done(0, 1));
         assert_eq!(calls::ceiling(0), refused(2, 5));

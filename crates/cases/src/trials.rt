@@ -1,0 +1,53 @@
+// Trials in the three orders: the report is the memory that is lent, the state is a memory of its own.
+use crate::answers;
+use crate::answers::SILENT;
+use crate::answers::STEPS;
+use crate::desk::floor_of;
+use crate::desk::walls_of;
+use crate::tally;
+use script::fields::field;
+use script::look;
+use trial::Tried;
+
+// A seed from its high and its low half.
+fn seed_of(high: u16, low: u16) -> u32 {
+    high as u32 * 65536 + low as u32
+}
+
+// The trial: the number of steps, or the refusal.
+fn tried(desk: &[u16], order: u16, seed: u32, state: &mut [u16], report: &mut [u16]) -> usize {
+    let a = trial::trial(floor_of(desk), walls_of(desk), order, seed, state, report);
+    match a {
+        Tried::Steps(n) => answers::answer(STEPS, n),
+        Tried::Refused(r) => answers::refused(r),
+    }
+}
+
+// Whether a state is as it was lent.
+fn is_lent(state: &[u16]) -> bool {
+    let room = look::room();
+    look::same(state, &room)
+}
+
+// Whether a state after so many steps is silent as every order's must be.
+fn is_right(desk: &[u16], state: &[u16], steps: usize) -> bool {
+    let t = tally::noted(
+        tally::nothing(),
+        desk,
+        state,
+        answers::answer(SILENT, steps),
+    );
+    t.right == 1
+}
+
+// Trial: an order, the high and the low half of a seed, and how many numbers are lent for the state.
+pub fn trial(s: &[u8], desk: &[u16], m: &mut [u16]) -> usize {
+    let mut space = look::room();
+    let state = look::front(&mut space, field(s, 3));
+    let seed = seed_of(look::narrow(field(s, 1)), look::narrow(field(s, 2)));
+    let came = tried(desk, look::narrow(field(s, 0)), seed, state, m);
+    if answers::is_refused(came) {
+        return answers::only_if(is_lent(state), came);
+    }
+    answers::only_if(is_right(desk, state, answers::number(came)), came)
+}
