@@ -138,7 +138,8 @@ module _ (f : Floor) (ws : List ℕ) where
   unfolding trialVerdict lengthsOf
   trial-rows order state report =
       then-rows (placeVerdict f ws state) _ (fresh-rows state) (λ e.
-      then-rows (roomOf (reportSize (f .carriers)) report) _ (short-row (reportSize (f .carriers)) report) (λ h. outside-row 1 3 order 11 0))
+      then-rows (roomOf (reportSize (f .carriers)) report) _ (short-row (reportSize (f .carriers)) report)
+      (λ h. outside-row 1 3 order 11 0))
 
   trial : (order seed state report : ℕ) → Answers (trialOutcome f ws order seed state report) (TrialRows f ws order state report)
   unfolding trialOutcome

@@ -3,6 +3,7 @@ pub mod RowLaws
 pub mod RefusalLaws
 pub mod EntryLaws
 pub mod PlanLaws
+pub mod SameTrialLaws
 pub mod SameFloorLaws
 pub mod RoundTripLaws
 pub mod Demand1

@@ -37,7 +37,9 @@ use Rattle.reference.proofs.RespondLaws.{reply-same, after-call-same}
 use Rattle.layout.specs.Places.{stateSize}
 use Rattle.layout.specs.Valid.{recordValid, carrierValid, placeValid, channelValid, pairValid, valid}
 use Rattle.layout.specs.Calls.{machineOf, placeVerdict, stateVerdict, stateIn, withState, freshMemory, replyTo, memoryAfter}
+use Rattle.trial.specs.Entry.{orderBy, trialVerdict, trialOf, trialOutcome, stateTried, reportTried}
 use Rattle.demand.specs.Demand2.{SameAnswers}
+use Rattle.demand.proofs.SameTrialLaws.{trial-same}
 
 module _ (f : Floor) (ws : List ℕ) (g : Floor) (vs : List ℕ) (same : SameFloor f ws g vs) where
   pub length-same : sheetLength f ≡ sheetLength g
@@ -159,6 +161,29 @@ module _ (f : Floor) (ws : List ℕ) (g : Floor) (vs : List ℕ) (same : SameFlo
     unfolding memoryAfter
     memory m c = rw (states m, next-states (stateIn f m) c, same .carriers)
 
+    trials : (order seed : ℕ) → trialOf f ws order seed ≡ trialOf g vs order seed
+    unfolding trialOf machineOf
+    trials order seed =
+        trial-same (f .carriers) (f .depth) (stateSize (f .carriers)) (respondOf f ws) (respondOf g vs) respond-same (orderBy order) seed
+        ∙ rw (same .carriers, same .depth) refl
+
+    trial-verdict : (order state report : ℕ) → trialVerdict f ws order state report ≡ trialVerdict g vs order state report
+    unfolding trialVerdict
+    trial-verdict order state report = rw (place state, same .carriers)
+
+    trial : (order seed state report : ℕ) → trialOutcome f ws order seed state report ≡ trialOutcome g vs order seed state report
+    unfolding trialOutcome
+    trial order seed state report = rw (trial-verdict order state report, trials order seed)
+
+    trial-state : (order seed : ℕ) (old : List ℕ) (report : ℕ)
+        → stateTried f ws order seed old report ≡ stateTried g vs order seed old report
+    unfolding stateTried
+    trial-state order seed old report = rw (trial-verdict order (length old) report, trials order seed, same .carriers)
+
+    trial-report : (order seed state : ℕ) (old : List ℕ) → reportTried f ws order seed state old ≡ reportTried g vs order seed state old
+    unfolding reportTried
+    trial-report order seed state old = rw (trial-verdict order state (length old), trials order seed)
+
     pub same-answers : SameAnswers f ws g vs
     unfolding printOutcome printAnswers printMemory freshMemory
     same-answers =
@@ -177,4 +202,7 @@ module _ (f : Floor) (ws : List ℕ) (g : Floor) (vs : List ℕ) (same : SameFlo
           fresh-memory = λ old. rw (place (length old), same .carriers);
           call = call;
           memory = memory;
+          trial = trial;
+          trial-state = trial-state;
+          trial-report = trial-report;
         }

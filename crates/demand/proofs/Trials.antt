@@ -1,7 +1,8 @@
 -- Trials, proved: what holds of every machine's trials, for the machine of an accepted floor.
 use Prim.Native.Nat.{ℕ, _+_, _*_, _≤_}
 use native.Mathlib.Nat.{zero-add}
-use mathlib.Core.List.{List, _++_}
+use native.Mathlib.Omega.{arith}
+use mathlib.Core.List.{List, [], _∷_, _++_}
 use mathlib.Core.Path.{_≡_, refl, _∙_}
 use lib.ListN.{length, drop}
 use borrow.Author.Tests.{le-leb}
@@ -14,16 +15,37 @@ use Rattle.floor.specs.Accepted.{Within}
 use Rattle.floor.proofs.LimitsLaws.{check-tells, within-means}
 use Rattle.planner.specs.Plan.{planOf}
 use Rattle.lengths.specs.Figures.{lengthsOf}
+use Rattle.reference.specs.State.{State, fresh}
+use Rattle.reference.specs.Table.{Call}
+use Rattle.reference.specs.Calls.{after, afterCall}
 use Rattle.layout.specs.Calls.{machineOf, placeVerdict}
+use Rattle.layout.specs.Ranges.{WithinRanges}
 use Rattle.layout.proofs.FloorLaws.{depth-some}
+use Rattle.layout.proofs.ExactLaws.{fresh-fits}
+use Rattle.layout.proofs.SimulationLaws.{call-fits}
 use Rattle.orders.specs.Orders.{round}
-use Rattle.orders.specs.Trial.{Entry}
+use Rattle.orders.specs.Trial.{Entry, trial}
+use Rattle.orders.specs.Claims.{callsOf}
 use Rattle.orders.proofs.Theorems.{theorems as orders-theorems}
 use Rattle.trial.specs.Report.{numbersOf}
 use Rattle.trial.specs.Entry.{orderBy, trialVerdict, trialOf, trialOutcome, stateTried, reportTried}
 use Rattle.trial.proofs.ReportLaws.{numbers-length}
 use Rattle.trial.proofs.EntryLaws.{front-is}
 use Rattle.demand.specs.Trials.{Tries, Tells, Trials}
+
+-- Calls keep a state within the ranges, and a trial is a list of calls from fresh.
+calls-fit : (f : Floor) (ws : List ℕ) → checkOf f ws ≡ passed → (s : State) → WithinRanges f s → (cs : List Call)
+    → WithinRanges f (after (machineOf f ws) s cs)
+unfolding after
+calls-fit f ws ok s fits [] = fits
+calls-fit f ws ok s fits (c ∷ cs) = calls-fit f ws ok (afterCall (machineOf f ws) s c) (call-fits f ws ok s fits c) cs
+
+last-fits : (f : Floor) (ws : List ℕ) (order seed : ℕ) → checkOf f ws ≡ passed → WithinRanges f (trialOf f ws order seed .state)
+unfolding trialOf
+last-fits f ws order seed ok =
+    let M = machineOf f ws in
+    let same = orders-theorems .state-same (orderBy order) M seed (M .needed) (omega arith) in
+    rw (← same) (calls-fit f ws ok fresh (fresh-fits f) (callsOf (M .needed) (trial (orderBy order) M seed .report)))
 
 tries : (f : Floor) (ws : List ℕ) (order seed : ℕ) → checkOf f ws ≡ passed → Tries f ws order seed
 unfolding trialOf machineOf planOf lengthsOf
@@ -36,6 +58,7 @@ tries f ws order seed ok =
       answered = λ lent l. orders-theorems .replies-same o M seed lent l;
       silent = orders-theorems .ends-silent o M seed;
       within-ceiling = orders-theorems .within-ceiling o M seed;
+      within-ranges = last-fits f ws order seed ok;
       plan-answers = orders-theorems .sequential-answers o M seed (depth-some f ws ok);
     }
 

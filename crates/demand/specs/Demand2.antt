@@ -29,6 +29,7 @@ use Rattle.printing.specs.Print.{printOutcome, printAnswers, printMemory, route
 use Rattle.lengths.specs.Figures.{figuresFor}
 use Rattle.reference.specs.Table.{Call}
 use Rattle.layout.specs.Calls.{placeVerdict, freshMemory, replyTo, memoryAfter}
+use Rattle.trial.specs.Entry.{trialOutcome, stateTried, reportTried}
 
 -- Prioritized planning (document 01, 'The sequential planner'; document 02, slip 2): each carrier in turn has the best answer against the
 -- answers above it, one with none staying at its start.
@@ -52,6 +53,10 @@ pub record SameAnswers (f : Floor) (ws : List ℕ) (g : Floor) (vs : List ℕ) :
   pub fresh-memory : (old : List ℕ) → freshMemory f ws old ≡ freshMemory g vs old
   pub call : (m : List ℕ) (c : Call) → replyTo f ws m c ≡ replyTo g vs m c
   pub memory : (m : List ℕ) (c : Call) → memoryAfter f ws m c ≡ memoryAfter g vs m c
+  pub trial : (order seed state report : ℕ) → trialOutcome f ws order seed state report ≡ trialOutcome g vs order seed state report
+  pub trial-state : (order seed : ℕ) (old : List ℕ) (report : ℕ) →
+      stateTried f ws order seed old report ≡ stateTried g vs order seed old report
+  pub trial-report : (order seed state : ℕ) (old : List ℕ) → reportTried f ws order seed state old ≡ reportTried g vs order seed state old
 
 pub record Demand2 : Type 0 where
   -- The plan of an accepted floor is what prioritized planning gives, and nothing else is.

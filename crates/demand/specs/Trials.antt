@@ -19,6 +19,7 @@ use Rattle.reference.specs.History.{afterSteps}
 use Rattle.reference.specs.Calls.{replies}
 use Rattle.reference.specs.Quiet.{ceiling}
 use Rattle.layout.specs.Encode.{encode}
+use Rattle.layout.specs.Ranges.{WithinRanges}
 use Rattle.layout.specs.Calls.{machineOf}
 use Rattle.orders.specs.Orders.{Order, startMemory}
 use Rattle.orders.specs.Trial.{Entry, stepsIn}
@@ -48,6 +49,8 @@ module _ (f : Floor) (ws : List ℕ) (order seed : ℕ) where
     -- The last state is silent, after at most the ceiling's number of steps.
     pub silent : isSilent M last ≡ true
     pub within-ceiling : length report ≤ ceiling (f .carriers)
+    -- It is within the ranges, so that its memory shows every part of it.
+    pub within-ranges : WithinRanges f last
     -- Its answers are the sequential planner's.
     pub plan-answers : below (f .carriers) (last .answer) ≡ planOf f ws
 
