@@ -11,7 +11,7 @@ use Rattle.reference.specs.Ranking.{ranking, noneOpen, isSilent}
 use Rattle.reference.specs.Take.{effect, afterStep, stepAnswer}
 use Rattle.reference.specs.Quiet.{ceiling}
 use Rattle.reference.proofs.OpenLaws.{plan-within}
-use Rattle.orders.specs.Orders.{Order, first, round, drawn, places, stepAt, openAt, passing, openPlaces, turn, chosen, startOf, remembered}
+use Rattle.orders.specs.Orders.{Order, first, round, drawn, places, stepAt, openAt, passing, openPlaces, turn, chosen, startMemory, remembered}
 use Rattle.orders.specs.Trial.{TrialResult, nextStep, entryOf, reported, tryFrom, trial}
 use Rattle.orders.proofs.RuleLaws.{some-place, chosen-item}
 use Rattle.orders.proofs.TrialLaws.{try-silent, try-step}
@@ -94,4 +94,4 @@ module _ (n d k : ℕ) (p q : ℕ → List View → Answer) (agree : (i : ℕ) (
 
   pub trial-same : (o : Order) (seed : ℕ) → trial o M seed ≡ trial o N seed
   unfolding trial
-  trial-same o seed = try-same o (startOf o seed) fresh (ceiling n)
+  trial-same o seed = try-same o (startMemory o seed) fresh (ceiling n)
