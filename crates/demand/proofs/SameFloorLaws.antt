@@ -164,7 +164,7 @@ module _ (f : Floor) (ws : List ℕ) (g : Floor) (vs : List ℕ) (same : SameFlo
     trials : (order seed : ℕ) → trialOf f ws order seed ≡ trialOf g vs order seed
     unfolding trialOf machineOf
     trials order seed =
-        trial-same (f .carriers) (f .depth) (stateSize (f .carriers)) (respondOf f ws) (respondOf g vs) respond-same (orderBy order) seed
+        trial-same (f .carriers) (f .depth) (stateSize (f .carriers)) (respondOf f ws) (respondOf g vs) responses (orderBy order) seed
         ∙ rw (same .carriers, same .depth) refl
 
     trial-verdict : (order state report : ℕ) → trialVerdict f ws order state report ≡ trialVerdict g vs order state report

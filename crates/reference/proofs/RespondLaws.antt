@@ -51,7 +51,7 @@ module _ (n d k : ℕ) (p q : ℕ → List View → Answer) (agree : (i : ℕ) (
   waits-same s (plan i) = refl
   waits-same s (deliver j i) = refl
 
-  open-same : (s : State) (x : Step) → isOpen M s x ≡ isOpen N s x
+  pub open-same : (s : State) (x : Step) → isOpen M s x ≡ isOpen N s x
   unfolding isOpen
   open-same s x = rw (there-same x, waits-same s x)
 
@@ -60,11 +60,11 @@ module _ (n d k : ℕ) (p q : ℕ → List View → Answer) (agree : (i : ℕ) (
   effect-same s (plan i) o = rw (agree i (views s i) (plan-within M s i o) (views-count s i))
   effect-same s (deliver j i) o = refl
 
-  after-same : (s : State) (x : Step) → isOpen M s x ≡ true → afterStep M s x ≡ afterStep N s x
+  pub after-same : (s : State) (x : Step) → isOpen M s x ≡ true → afterStep M s x ≡ afterStep N s x
   unfolding afterStep
   after-same s x o = rw (effect-same s x o)
 
-  answer-same : (s : State) (x : Step) → isOpen M s x ≡ true → stepAnswer M s x ≡ stepAnswer N s x
+  pub answer-same : (s : State) (x : Step) → isOpen M s x ≡ true → stepAnswer M s x ≡ stepAnswer N s x
   unfolding stepAnswer
   answer-same s (plan i) o = rw (agree i (views s i) (plan-within M s i o) (views-count s i), stepAnswer)
   answer-same s (deliver j i) o = refl
@@ -86,7 +86,7 @@ module _ (n d k : ℕ) (p q : ℕ → List View → Answer) (agree : (i : ℕ) (
   run-same s (x ∷ xs) (suc b) =
       step-same s x xs b (λ z. run-same z xs b) (run-same s xs (suc b)) (true-or-false (isOpen M s x))
 
-  none-same : (s : State) (xs : List Step) → noneOpen M s xs ≡ noneOpen N s xs
+  pub none-same : (s : State) (xs : List Step) → noneOpen M s xs ≡ noneOpen N s xs
   unfolding noneOpen
   none-same s [] = refl
   none-same s (x ∷ xs) = rw (open-same s x, none-same s xs)
