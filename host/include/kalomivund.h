@@ -120,14 +120,16 @@ uint64_t kalomivund_needed_lengths(const uint16_t *floor, size_t floor_len, uint
 
 /* The best route of a carrier against what it has heard of the carriers above it.
  * Takes   views, 65 numbers a carrier, record j - 1 being carrier j's view; only those above the carrier are looked at. A tag of 2 is
- *         a route, whose cells are taken as they stand; any other tag occupies nothing.
+ *         a route, whose cells are taken as they stand; a tag of 1, none, occupies carrier j's start at every beat 0 to horizon; any
+ *         other tag is not heard and occupies nothing.
  * Writes  64 cells to the front of route, all 0 where there is none.
  * Done    case 0 none, 1 a route; number 0.
  * Refused the floor's refusals; 9 (views shorter than 65 x carriers, route shorter than 64); 7, 0 (no such carrier). */
 uint64_t kalomivund_search(const uint16_t *floor, size_t floor_len, const uint16_t *walls, size_t walls_len, uint16_t carrier,
                            const uint16_t *views, size_t views_len, uint16_t *route, size_t route_len);
 
-/* The sequential planner: carriers 1 to n, each best against the answers above it.
+/* The sequential planner: carriers 1 to n, each best against the answers above it; a carrier with none stays at its start, which those
+ * below it keep off at every beat and one above it may still cross.
  * Writes  65 x carriers numbers to the front of answers: carrier i's answer is record i - 1, tag 1 none or 2 a route.
  * Done    case 0, number the failing carrier: the first with none, 0 if all have routes.
  * Refused the floor's refusals; 9 (answers too short). */

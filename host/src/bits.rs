@@ -218,7 +218,7 @@ impl Planner {
         self.above += 1;
     }
 
-    /// The sequential plan: answers as 65 numbers a carrier; the failing carrier.
+    /// The sequential plan: answers as 65 numbers a carrier, one with none staying at its start; the failing carrier.
     pub fn plan(&mut self, answers: &mut [u16]) -> usize {
         let mut failing = 0;
         for (i, record) in answers.chunks_exact_mut(65).take(self.carriers).enumerate() {
@@ -233,6 +233,9 @@ impl Planner {
                 *tag = 1;
                 if failing == 0 {
                     failing = i + 1;
+                }
+                if i + 1 < self.carriers {
+                    self.reserve(&[self.starts[i]; 64]);
                 }
             }
         }

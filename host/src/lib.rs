@@ -206,14 +206,16 @@ pub fn needed_lengths(floor: &Floor) -> Result<Lengths, Refusal> {
     Ok(Lengths { walls, sheet, answers, text, state, route, floor, figures, report })
 }
 
-/// The best route of a carrier (from 1) against the views of the carriers above it; `None` is the paper's none.
+/// The best route of a carrier (from 1) against the views of the carriers above it; `None` is the paper's none. A view with tag 1, none,
+/// occupies its carrier's start at every beat.
 pub fn search(floor: &Floor, walls: &[u16], carrier: u16, views: &[u16]) -> Result<Option<Route>, Refusal> {
     let mut route = [0; 64];
     let (case, _) = answer_of(calls::search(&floor.record(), walls, carrier, views, &mut route))?;
     Ok((case == 1).then_some(route))
 }
 
-/// Plans all carriers in turn into lent memory, 65 numbers a carrier (1 none, 2 a route; 64 cells): the failing carrier, or 0.
+/// Plans all carriers in turn into lent memory, 65 numbers a carrier (1 none, 2 a route; 64 cells): the failing carrier, or 0. A carrier with
+/// none stays at its start: those below it keep off it, one above it may still cross it.
 pub fn plan(floor: &Floor, walls: &[u16], answers: &mut [u16]) -> Result<u16, Refusal> {
     answer_of(calls::plan(&floor.record(), walls, answers)).map(|(_, failing)| failing as u16)
 }

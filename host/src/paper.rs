@@ -321,11 +321,16 @@ pub fn best_route(floor: &Floor, start: usize, goal: usize, against: &[Route]) -
     Some(route)
 }
 
-/// The sequential planner: each carrier best against the answers above it; with it the failing carrier.
+/// Where a carrier (from 0) is for those below it, by its answer: on its route, or at its start at every beat if it has none.
+pub fn occupied(floor: &Floor, carrier: usize, answer: Answer) -> Route {
+    answer.unwrap_or([floor.starts[carrier] as u16; 64])
+}
+
+/// The sequential planner: each carrier best against the answers above it, one with none staying at its start; with it the failing carrier.
 pub fn plan(floor: &Floor) -> (Vec<Answer>, usize) {
     let mut answers: Vec<Answer> = Vec::new();
     for i in 0..floor.carriers() {
-        let above: Vec<Route> = answers.iter().flatten().copied().collect();
+        let above: Vec<Route> = answers.iter().enumerate().map(|(j, &answer)| occupied(floor, j, answer)).collect();
         answers.push(best_route(floor, floor.starts[i], floor.goals[i], &above));
     }
     let failing = answers.iter().position(|a| a.is_none()).map_or(0, |i| i + 1);
@@ -462,8 +467,12 @@ impl State {
                 Stepped::Delivered
             }
             Step::Plan(i) => {
-                let heard = |view: &View| if let View::Heard(Some(route)) = view { Some(*route) } else { None };
-                let against: Vec<Route> = self.carriers[i].views.iter().filter_map(heard).collect();
+                let mut against: Vec<Route> = Vec::new();
+                for (j, view) in self.carriers[i].views.iter().enumerate() {
+                    if let View::Heard(answer) = view {
+                        against.push(occupied(floor, j, *answer));
+                    }
+                }
                 let answer = best_route(floor, floor.starts[i], floor.goals[i], &against);
                 let carrier = &mut self.carriers[i];
                 let sends = !carrier.planned || carrier.answer != answer;
@@ -767,9 +776,11 @@ pub mod calls {
                 return refuse(7, 0);
             }
             let mut against: Vec<Route> = Vec::new();
-            for record in views.chunks(65).take(carrier - 1) {
-                if record[0] == 2 {
-                    against.push(record[1..].try_into().expect("a record has 64 cells"));
+            for (j, record) in views.chunks(65).take(carrier - 1).enumerate() {
+                match record[0] {
+                    1 => against.push(super::occupied(&floor, j, None)),
+                    2 => against.push(record[1..].try_into().expect("a record has 64 cells")),
+                    _ => {}
                 }
             }
             let best = best_route(&floor, floor.starts[carrier - 1], floor.goals[carrier - 1], &against);

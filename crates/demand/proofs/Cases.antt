@@ -9,6 +9,7 @@ use Rattle.route.specs.Moves.{neighbours, near, vacant, passable, every, standa
 use Rattle.route.specs.Search.{cost, cheaper, cheapest, beatsFrom, val, walk, walkFrom, best}
 use Rattle.route.specs.Sequential.{sequential}
 use Rattle.route.specs.Arrival.{settled, arrivalOf}
+use Rattle.records.specs.Seen.{parked, seenAs, seenFrom, seen}
 use Rattle.search.specs.Task.{taskOf}
 use Rattle.fields.specs.Field.{column, fieldOf}
 use Rattle.fields.specs.Form.{fieldForm, lineForm}
@@ -17,7 +18,7 @@ use Rattle.sheet.specs.Read.{formOf, sheetVerdict}
 use Rattle.printing.specs.Text.{answerLine, firstLine, noneWord, noneLine, routesText, refusalLine}
 use Rattle.printing.specs.Print.{printOf, routesOf}
 use Rattle.printing.proofs.Theorems.{theorems}
-use Rattle.planner.specs.Claims.{answerAt}
+use Rattle.planner.specs.Claims.{answerAt, planUnseen}
 use Rattle.planner.specs.Plan.{respondOf, planOf, failingFrom, failingOf}
 use Rattle.reference.specs.Ranges.{below, joined, each, update, updatePair}
 use Rattle.reference.specs.State.{fresh, views, tick}
@@ -48,7 +49,7 @@ sheet-2 = refl
 
 text-2 : printOf (sides 4) [] ≡ routes2
 unfolding printOf routesText firstLine answerLine answerAt failingOf failingFrom arrivalOf settled cellAt goalOf
-    lineOf linesOf fieldOf column planOf sequential respondOf taskOf startOf among
+    lineOf linesOf fieldOf column planOf sequential respondOf seen seenFrom seenAs parked taskOf startOf among
     neighbours near vacant passable every standable allowed startClear cost cheaper cheapest beatsFrom val walk walkFrom best
 text-2 = refl
 
@@ -57,7 +58,7 @@ printed-2 = rw (← sheet-2) (theorems .routes-of-sheet (sides 4) [] accepted-2 
 
 printed-3 : printOf (sides 3) [] ≡ routes3
 unfolding printOf routesText firstLine answerLine noneWord noneLine answerAt failingOf failingFrom arrivalOf settled cellAt goalOf
-    lineOf linesOf fieldOf column planOf sequential respondOf taskOf startOf among
+    lineOf linesOf fieldOf column planOf sequential respondOf seen seenFrom seenAs parked taskOf startOf among
     neighbours near vacant passable every standable allowed startClear cost cheaper cheapest beatsFrom val walk walkFrom best
 printed-3 = refl
 
@@ -75,7 +76,7 @@ unfolding
     within limitsOf roomOf lentOf startOf goalOf inGrid carrierInGrid carriersOf wallsOf rises risingOf
     among clearOfWalls clearOf unshared distinctOf placesOf checkOf
     cellAt neighbours near vacant passable every standable allowed startClear cost cheaper cheapest beatsFrom val walk walkFrom best
-    sequential settled arrivalOf taskOf respondOf planOf failingFrom failingOf
+    sequential settled arrivalOf taskOf seen seenFrom seenAs parked respondOf planOf planUnseen failingFrom failingOf
     below joined each update updatePair fresh views tick isThere hasCapacity isEmpty waitsFor isOpen sameCells sameAnswer
     deliveriesFrom ranking noneOpen isSilent isNews send planAs oldest newer deliverTo effect counted afterStep stepAnswer
     run tookFirst skippedFirst anyLeft endsAs ending isNamed stepsOf lentEnough allNamed openSingle verdict
@@ -127,6 +128,19 @@ cases =
       replies-deep = refl;
       accepted-walled = refl;
       answers-walled = refl;
+      accepted-stranded = (refl, refl);
+      answers-stranded = refl;
+      unseen-stranded = refl;
+      answers-goal = refl;
+      accepted-corridor = refl;
+      answers-corridor = refl;
+      accepted-round = refl;
+      answers-round = refl;
+      first-round = refl;
+      replies-round = refl;
+      heard-round = refl;
+      accepted-crossed = refl;
+      answers-crossed = refl;
       most-1 = refl;
       most-2 = refl;
       most-3 = refl;

@@ -23,10 +23,8 @@ use Rattle.sheet.specs.Refused.{RefusedSheet}
 use Rattle.sheet.proofs.FormLaws.{walls-length}
 use Rattle.sheet.proofs.Theorems.{theorems as sheet-theorems}
 use Rattle.search.specs.Search.{requestOf, searchOf}
-use Rattle.planner.specs.Plan.{respondOf, planOf, planVerdict}
-use Rattle.search.specs.Task.{taskOf}
-use Rattle.planner.proofs.PlanLaws.{best-whole}
-use Rattle.records.proofs.RecordLaws.{plan-length}
+use Rattle.planner.specs.Plan.{planOf, planVerdict}
+use Rattle.planner.proofs.ResultLaws.{plan-size}
 use Rattle.planner.specs.Answers.{planResult}
 use Rattle.records.specs.Records.{recordsOf, stored}
 use Rattle.planner.specs.Records.{planMemory}
@@ -94,10 +92,8 @@ module _ (f : Floor) (ws : List ℕ) where
 
   -- The answers of an accepted floor have the needed length.
   answers-long : (room : ℕ) → planVerdict f ws room ≡ passed → length (recordsOf (planOf f ws)) ≤ 65 * f .carriers
-  unfolding planVerdict planOf respondOf taskOf
-  answers-long room e =
-      let h = check-tells f ws (then-both _ _ e .0) .bounds .horizon .1 in
-      omega (arith, plan-length (respondOf f ws) (λ k vs. best-whole (taskOf f ws (k + 1)) vs h) (f .carriers))
+  unfolding planVerdict
+  answers-long room e = omega (arith, plan-size f ws (check-tells f ws (then-both _ _ e .0) .bounds .horizon .1))
 
   plan-keeps : (old : List ℕ) → Keeps (PlanRows f ws (length old)) (lengthsOf f .answers) old (planMemory f ws old)
   unfolding planMemory lengthsOf stored

@@ -15,7 +15,8 @@ use Rattle.planner.specs.Answers.{planResult}
 use Rattle.planner.proofs.Theorems.{theorems as planner-theorems}
 use Rattle.printing.proofs.Theorems.{theorems as printing-theorems}
 use Rattle.demand.specs.Demand2.{Demand2}
-use Rattle.demand.proofs.PlanLaws.{plan-exactly, respond-best, none-exactly, stored-heard, granted}
+use Rattle.demand.proofs.PlanLaws.{plan-exactly, respond-best, none-exactly, none-occupies, unheard-left-out}
+use Rattle.demand.proofs.PlanLaws.{stored-heard, granted}
 use Rattle.demand.proofs.SameFloorLaws.{same-answers}
 use Rattle.demand.proofs.RoundTripLaws.{floor-returns, sheet-returns}
 
@@ -33,6 +34,10 @@ theorem =
       free-exactly = free-exactly;
       search-best = search-theorems .answers-best;
       none-exactly = λ f ws k ok l. none-exactly f ws ok k l;
+      none-occupies = λ f ws i vs j t r ok. none-occupies f ws ok i vs j t r;
+      unheard-left-out = λ f ws i vs us ok. unheard-left-out f ws ok i vs us;
+      stranded-avoided = planner-theorems .stranded-avoided;
+      unstranded-best = planner-theorems .unstranded-best;
       stored-heard = λ f ws old ok l. stored-heard f ws ok old l;
       failing = λ f ws room ok l. gives-passed (granted f ws ok room l);
       failing-first = planner-theorems .failing-first;

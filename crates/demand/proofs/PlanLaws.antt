@@ -5,26 +5,28 @@ use native.Mathlib.Nat.{zero-add}
 use mathlib.Core.List.{List, _++_, _∷_, [], map}
 use mathlib.Core.Logic.{_↔_}
 use mathlib.Core.Path.{_≡_, refl, sym, _∙_, ap, ap₂}
-use lib.ListN.{length, take, drop}
+use lib.ListN.{length, getD, take, drop}
 use lib.Seq.{take-all, take-suc}
 use borrow.Author.Tests.{le-leb}
 use Rattle.laws.specs.Memory.{put}
 use Rattle.laws.specs.Verdict.{passed}
 use Rattle.laws.proofs.VerdictLaws.{then-passed, demand-passes, when-passed}
 use Rattle.floor.specs.declared.Floor.{Floor}
-use Rattle.floor.specs.Checks.{checkOf, roomOf}
+use Rattle.floor.specs.Checks.{checkOf, roomOf, startOf}
 use Rattle.floor.proofs.LimitsLaws.{check-tells}
-use Rattle.route.specs.Route.{Answer, none, View, heard}
+use Rattle.route.specs.Route.{cellAt, Answer, none, route, View, unheard, heard}
 use Rattle.records.specs.Records.{records}
+use Rattle.records.specs.Seen.{seenFrom, seen}
 use Rattle.route.specs.Best.{Admissible, Best}
 use Rattle.route.specs.Search.{best}
 use Rattle.route.proofs.Theorems.{theorems as route-theorems}
 use Rattle.search.specs.Task.{taskOf}
+use Rattle.search.proofs.SeenLaws.{kept-off, unheard-out}
 use Rattle.planner.specs.Plan.{respondOf, planOf, planVerdict}
 use Rattle.records.specs.Records.{recordsOf, stored}
 use Rattle.planner.specs.Records.{planMemory}
 use Rattle.planner.specs.Claims.{answerAt}
-use Rattle.planner.proofs.PlanLaws.{best-whole}
+use Rattle.planner.proofs.PlanLaws.{respond-whole}
 use Rattle.records.proofs.RecordLaws.{views-are}
 use Rattle.planner.proofs.Theorems.{theorems as planner-theorems}
 use Rattle.demand.specs.Demand2.{Prioritized}
@@ -34,9 +36,24 @@ module _ (f : Floor) (ws : List ℕ) (ok : checkOf f ws ≡ passed) where
   unfolding taskOf
   short i = check-tells f ws ok .bounds .horizon .1
 
-  pub respond-best : (i : ℕ) (vs : List View) → Best (taskOf f ws (i + 1)) vs (respondOf f ws i vs)
+  pub respond-best : (i : ℕ) (vs : List View) → Best (taskOf f ws (i + 1)) (seen f vs) (respondOf f ws i vs)
   unfolding respondOf
-  respond-best i vs = route-theorems .best-meets (taskOf f ws (i + 1)) vs (short (i + 1))
+  respond-best i vs = route-theorems .best-meets (taskOf f ws (i + 1)) (seen f vs) (short (i + 1))
+
+  -- None, once heard, keeps the response off the start of the carrier that told it.
+  pub none-occupies : (i : ℕ) (vs : List View) (j t : ℕ) (r : List ℕ) → getD vs j unheard ≡ heard none → respondOf f ws i vs ≡ route r →
+      t ≤ f .horizon → cellAt r t ≡ startOf f j → ⊥
+  unfolding respondOf taskOf
+  none-occupies i vs j t r e b = kept-off f (taskOf f ws (i + 1)) vs j t r refl (check-tells f ws ok .bounds .horizon .1) e b
+
+  -- Not heard may be left out.
+  pub unheard-left-out : (i : ℕ) (vs us : List View) →
+      Best (taskOf f ws (i + 1)) (seen f vs ++ seenFrom f (suc (length vs)) us) (respondOf f ws i (vs ++ (unheard ∷ us)))
+  unfolding respondOf
+  unheard-left-out i vs us =
+      let others = seen f vs ++ seenFrom f (suc (length vs)) us in
+      rw (unheard-out f (taskOf f ws (i + 1)) vs us (short (i + 1)))
+      (route-theorems .best-meets (taskOf f ws (i + 1)) others (short (i + 1)))
 
   plan-prioritized : Prioritized f ws (planOf f ws)
   plan-prioritized = record { every = planner-theorems .answers-all f ws; best = λ k l. planner-theorems .each-best f ws k ok l }
@@ -47,8 +64,9 @@ module _ (f : Floor) (ws : List ℕ) (ok : checkOf f ws ≡ passed) where
   first-same xs h zero l = refl
   first-same xs h (suc k) l =
       let front = first-same xs h k (omega arith) in
-      let here : Best (taskOf f ws (k + 1)) (map heard (take k (planOf f ws))) (answerAt xs k) = rw front at (h .best k (omega arith)) in
-      let same = route-theorems .best-unique (taskOf f ws (k + 1)) (map heard (take k (planOf f ws))) _ _ here
+      let here : Best (taskOf f ws (k + 1)) (seen f (map heard (take k (planOf f ws)))) (answerAt xs k) =
+      rw front at (h .best k (omega arith)) in
+      let same = route-theorems .best-unique (taskOf f ws (k + 1)) (seen f (map heard (take k (planOf f ws)))) _ _ here
       (planner-theorems .each-best f ws k ok (omega arith))
       in
       take-suc xs k none (omega (arith, h .every))
@@ -67,14 +85,15 @@ module _ (f : Floor) (ws : List ℕ) (ok : checkOf f ws ≡ passed) where
 
   -- The best answer is none exactly if no route is admissible.
   pub none-exactly : (k : ℕ) → k < f .carriers →
-      (answerAt (planOf f ws) k ≡ none) ↔ ((q : List ℕ) → Admissible (taskOf f ws (k + 1)) (map heard (take k (planOf f ws))) q → ⊥)
+      (answerAt (planOf f ws) k ≡ none)
+      ↔ ((q : List ℕ) → Admissible (taskOf f ws (k + 1)) (seen f (map heard (take k (planOf f ws)))) q → ⊥)
   unfolding Best
   none-exactly k l =
       let b = planner-theorems .each-best f ws k ok l in (
         λ e.
-            let n : Best (taskOf f ws (k + 1)) (map heard (take k (planOf f ws))) none = rw e at b in
+            let n : Best (taskOf f ws (k + 1)) (seen f (map heard (take k (planOf f ws)))) none = rw e at b in
             n,
-        λ h. route-theorems .best-unique (taskOf f ws (k + 1)) (map heard (take k (planOf f ws))) _ none b h,
+        λ h. route-theorems .best-unique (taskOf f ws (k + 1)) (seen f (map heard (take k (planOf f ws)))) _ none b h,
       )
 
   -- With memory for its answers a plan is made.
@@ -84,8 +103,8 @@ module _ (f : Floor) (ws : List ℕ) (ok : checkOf f ws ≡ passed) where
 
   -- The memory of the plan shows its answers.
   pub stored-heard : (old : List ℕ) → 65 * f .carriers ≤ length old → records (planMemory f ws old) (f .carriers) ≡ map heard (planOf f ws)
-  unfolding planMemory planVerdict stored put planOf respondOf taskOf
+  unfolding planMemory planVerdict stored put planOf
   stored-heard old l =
       let h = check-tells f ws ok .bounds .horizon .1 in
-      views-are (respondOf f ws) (λ k vs. best-whole (taskOf f ws (k + 1)) vs h) (f .carriers) _ _
+      views-are (respondOf f ws) (respond-whole f ws h) (f .carriers) _ _
       (when-passed old (granted (length old) l))

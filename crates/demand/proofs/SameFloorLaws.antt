@@ -14,16 +14,19 @@ use Rattle.floor.proofs.SameLaws.{check-same}
 use Rattle.sheet.specs.Text.{headLine, carrierLine, carrierLines, wallLine, wallLines, sheetOf, sheetLength, wallAt, linesOf}
 use Rattle.sheet.specs.Read.{writeVerdict, writeSheet}
 use Rattle.sheet.proofs.LinesText.{lines-same}
-use Rattle.route.specs.Route.{View, Task}
+use Rattle.route.specs.Route.{View}
 use Rattle.route.specs.Search.{best}
 use Rattle.search.specs.Task.{taskOf}
 use Rattle.search.specs.Search.{requestOf, searchOf}
 use Rattle.search.proofs.RequestLaws.{request-granted}
-use Rattle.records.specs.Records.{viewsOf}
+use Rattle.search.proofs.SeenLaws.{seen-same}
+use Rattle.records.specs.Records.{records, viewsOf}
+use Rattle.records.specs.Seen.{seen}
+use Rattle.records.proofs.SeenLaws.{records-length}
 use Rattle.planner.specs.Plan.{respondOf, planOf, planVerdict}
 use Rattle.planner.specs.Answers.{planResult}
 use Rattle.planner.specs.Records.{planMemory}
-use Rattle.planner.proofs.DependsLaws.{same-agrees, task-same}
+use Rattle.planner.proofs.DependsLaws.{same-agrees, task-same, respond-same}
 use Rattle.printing.specs.Print.{printOf, textLength, printVerdict, printOutcome, printAnswers, printMemory}
 use Rattle.printing.proofs.Theorems.{plans-same, print-same}
 use Rattle.lengths.specs.Figures.{figuresFor, lengthsOf}
@@ -65,9 +68,8 @@ module _ (f : Floor) (ws : List ℕ) (g : Floor) (vs : List ℕ) (same : SameFlo
   tasks-same : (i : ℕ) → i < f .carriers → taskOf f ws (i + 1) ≡ taskOf g vs (i + 1)
   tasks-same = task-same (f .carriers) f ws g vs (same-agrees f ws g vs same)
 
-  respond-same : (i : ℕ) (views : List View) → i < f .carriers → respondOf f ws i views ≡ respondOf g vs i views
-  unfolding respondOf
-  respond-same i views l = ap (λ (task : Task). best task views) (tasks-same i l)
+  responses : (i : ℕ) (views : List View) → i < f .carriers → length views ≡ i → respondOf f ws i views ≡ respondOf g vs i views
+  responses i views l e = respond-same (f .carriers) f ws g vs (same-agrees f ws g vs same) i views l (omega arith)
 
   module _ (lent : Lent f ws) (lent′ : Lent g vs) where
     checks : checkOf f ws ≡ checkOf g vs
@@ -96,11 +98,17 @@ module _ (f : Floor) (ws : List ℕ) (g : Floor) (vs : List ℕ) (same : SameFlo
         let one : i - 1 + 1 ≡ i = omega (arith, listed .0) in
         rw one at (tasks-same (i - 1) (omega (arith, listed .0, listed .1)))
 
+    granted-views : (i : ℕ) (m : List ℕ) → requestOf f ws i m ≡ passed → seen f (viewsOf m i) ≡ seen g (viewsOf m i)
+    unfolding viewsOf
+    granted-views i m e =
+        seen-same f g (f .carriers) (records m (i - 1)) (same .horizon) (same .starts)
+        (omega (arith, records-length m (i - 1), request-granted f ws i m e .listed))
+
     search : (i : ℕ) (m : List ℕ) → searchOf f ws i m ≡ searchOf g vs i m
     unfolding searchOf
     search i m =
-        gives-same (requestOf f ws i m) _ _ (λ e. ap (λ (task : Task). best task (viewsOf m i)) (granted-task i m e))
-        ∙ ap (λ (v : Verdict). v gives best (taskOf g vs i) (viewsOf m i)) (requests i m)
+        gives-same (requestOf f ws i m) _ _ (λ e. ap₂ best (granted-task i m e) (granted-views i m e))
+        ∙ ap (λ (v : Verdict). v gives best (taskOf g vs i) (seen g (viewsOf m i))) (requests i m)
 
     plan-verdict : (room : ℕ) → planVerdict f ws room ≡ planVerdict g vs room
     unfolding planVerdict
@@ -136,13 +144,13 @@ module _ (f : Floor) (ws : List ℕ) (g : Floor) (vs : List ℕ) (same : SameFlo
     replies : (s : State) (c : Call) → reply (machineOf f ws) s c ≡ reply (machineOf g vs) s c
     unfolding machineOf
     replies s c =
-        reply-same (f .carriers) (f .depth) (stateSize (f .carriers)) (respondOf f ws) (respondOf g vs) respond-same s c
+        reply-same (f .carriers) (f .depth) (stateSize (f .carriers)) (respondOf f ws) (respondOf g vs) responses s c
         ∙ rw (same .carriers, same .depth) refl
 
     next-states : (s : State) (c : Call) → afterCall (machineOf f ws) s c ≡ afterCall (machineOf g vs) s c
     unfolding machineOf
     next-states s c =
-        after-call-same (f .carriers) (f .depth) (stateSize (f .carriers)) (respondOf f ws) (respondOf g vs) respond-same s c
+        after-call-same (f .carriers) (f .depth) (stateSize (f .carriers)) (respondOf f ws) (respondOf g vs) responses s c
         ∙ rw (same .carriers, same .depth) refl
 
     call : (m : List ℕ) (c : Call) → replyTo f ws m c ≡ replyTo g vs m c
@@ -156,7 +164,7 @@ module _ (f : Floor) (ws : List ℕ) (g : Floor) (vs : List ℕ) (same : SameFlo
     trials : (order seed : ℕ) → trialOf f ws order seed ≡ trialOf g vs order seed
     unfolding trialOf machineOf
     trials order seed =
-        trial-same (f .carriers) (f .depth) (stateSize (f .carriers)) (respondOf f ws) (respondOf g vs) respond-same (orderBy order) seed
+        trial-same (f .carriers) (f .depth) (stateSize (f .carriers)) (respondOf f ws) (respondOf g vs) responses (orderBy order) seed
         ∙ rw (same .carriers, same .depth) refl
 
     trial-verdict : (order state report : ℕ) → trialVerdict f ws order state report ≡ trialVerdict g vs order state report

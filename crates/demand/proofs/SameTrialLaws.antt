@@ -2,45 +2,36 @@
 -- takes the same one, and an open step is planned by a carrier that is there.
 use Prim.Native.Nat.{ℕ, zero, suc, _<_}
 use mathlib.Core.Bool.{Bool, true, false}
-use mathlib.Core.List.{List, [], _∷_}
+use mathlib.Core.List.{List}
+use lib.ListN.{length}
 use mathlib.Core.Path.{_≡_, refl, sym, _∙_, ap}
 use Rattle.route.specs.Route.{Answer, View}
-use Rattle.reference.specs.State.{Machine, State, views, fresh}
-use Rattle.reference.specs.Step.{Step, plan, deliver, isThere, hasCapacity, waitsFor, isOpen}
-use Rattle.reference.specs.Ranking.{ranking, noneOpen, isSilent}
-use Rattle.reference.specs.Take.{effect, afterStep, stepAnswer}
+use Rattle.reference.specs.State.{Machine, State, fresh}
+use Rattle.reference.specs.Step.{Step, isOpen}
+use Rattle.reference.specs.Ranking.{ranking, isSilent}
+use Rattle.reference.specs.Take.{afterStep}
 use Rattle.reference.specs.Quiet.{ceiling}
-use Rattle.reference.proofs.OpenLaws.{plan-within}
+use Rattle.reference.proofs.RespondLaws.{open-same, after-same, answer-same, none-same}
 use Rattle.orders.specs.Orders.{Order, first, round, drawn, places, stepAt, openAt, passing, openPlaces, turn, chosen, startMemory, remembered}
 use Rattle.orders.specs.Trial.{TrialResult, nextStep, entryOf, reported, tryFrom, trial}
 use Rattle.orders.proofs.RuleLaws.{some-place, chosen-item}
 use Rattle.orders.proofs.TrialLaws.{try-silent, try-step}
 
-module _ (n d k : ℕ) (p q : ℕ → List View → Answer) (agree : (i : ℕ) (vs : List View) → i < n → p i vs ≡ q i vs) where
+module _ (n d k : ℕ) (p q : ℕ → List View → Answer) (agree : (i : ℕ) (vs : List View) → i < n → length vs ≡ i → p i vs ≡ q i vs) where
   abbrev M : Machine
   M = record { carriers = n; depth = d; needed = k; respond = p }
 
   abbrev N : Machine
   N = record { carriers = n; depth = d; needed = k; respond = q }
 
-  open-same : (s : State) (x : Step) → isOpen M s x ≡ isOpen N s x
-  unfolding isOpen isThere waitsFor hasCapacity
-  open-same s (plan i) = refl
-  open-same s (deliver j i) = refl
-
-  none-same : (s : State) (xs : List Step) → noneOpen M s xs ≡ noneOpen N s xs
-  unfolding noneOpen
-  none-same s [] = refl
-  none-same s (x ∷ xs) = rw (open-same s x, none-same s xs)
-
   silent-same : (s : State) → isSilent M s ≡ isSilent N s
   unfolding isSilent
-  silent-same s = none-same s (ranking n)
+  silent-same s = none-same n d k p q agree s (ranking n)
 
   passing-same : (s : State) (c : ℕ) → passing (openAt M s) c ≡ passing (openAt N s) c
   unfolding passing openAt
   passing-same s zero = refl
-  passing-same s (suc c) = rw (passing-same s c, open-same s (stepAt n c))
+  passing-same s (suc c) = rw (passing-same s c, open-same n d k p q agree s (stepAt n c))
 
   turn-same : (o : Order) (s : State) (c : ℕ) → turn o M s c ≡ turn o N s c
   unfolding turn
@@ -56,15 +47,9 @@ module _ (n d k : ℕ) (p q : ℕ → List View → Answer) (agree : (i : ℕ) (
   unfolding nextStep
   next-same o s c = ap (stepAt n) (chosen-same o s c)
 
-  after-same : (s : State) (x : Step) → isOpen M s x ≡ true → afterStep M s x ≡ afterStep N s x
-  unfolding afterStep effect
-  after-same s (plan i) e = rw (agree i (views s i) (plan-within M s i e))
-  after-same s (deliver j i) e = refl
-
   entry-same : (s : State) (x : Step) → isOpen M s x ≡ true → entryOf M s x ≡ entryOf N s x
-  unfolding entryOf stepAnswer
-  entry-same s (plan i) e = rw (agree i (views s i) (plan-within M s i e), stepAnswer)
-  entry-same s (deliver j i) e = refl
+  unfolding entryOf
+  entry-same s x e = rw (answer-same n d k p q agree s x e)
 
   -- The step that an order takes is open where the machine is not silent.
   next-open : (o : Order) (s : State) (c : ℕ) → isSilent M s ≡ false → isOpen M s (nextStep o M s c) ≡ true
@@ -85,7 +70,7 @@ module _ (n d k : ℕ) (p q : ℕ → List View → Answer) (agree : (i : ℕ) (
           let y = remembered o c (chosen o M s c) in
           try-step o M c s b e
           ∙ ap (reported (entryOf M s x)) (rest y (afterStep M s x))
-          ∙ ap (λ z. reported (entryOf M s x) (tryFrom o N y z b)) (after-same s x opened)
+          ∙ ap (λ z. reported (entryOf M s x) (tryFrom o N y z b)) (after-same n d k p q agree s x opened)
           ∙ ap (λ z. reported z (tryFrom o N y (afterStep N s x) b)) (entry-same s x opened)
           ∙ ap (λ z. reported (entryOf N s z) (tryFrom o N y (afterStep N s z) b)) (next-same o s c)
           ∙ ap (λ z. reported (entryOf N s (nextStep o N s c)) (tryFrom o N (remembered o c z) (afterStep N s (nextStep o N s c)) b))

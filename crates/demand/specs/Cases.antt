@@ -1,4 +1,5 @@
--- Document 01's starred floors ('Floors to try') as one table about the definitions, with floors 10 to 12 and cases beside them.
+-- Document 01's starred floors ('Floors to try') as one table about the definitions, with floors 10 to 12 and cases beside them; then
+-- those of document 02, slip 2.
 use Prim.Native.Nat.{ℕ}
 use mathlib.Core.Bool.{true, false}
 use mathlib.Core.List.{[], _∷_}
@@ -10,6 +11,7 @@ use Rattle.route.specs.Arrival.{arrivalOf}
 use Rattle.sheet.specs.Text.{sheetOf}
 use Rattle.sheet.specs.Read.{sheetVerdict}
 use Rattle.planner.specs.Plan.{planOf, failingOf}
+use Rattle.planner.specs.Claims.{planUnseen}
 use Rattle.printing.specs.Print.{printOf, routesOf}
 use Rattle.reference.specs.Ranges.{below}
 use Rattle.reference.specs.State.{fresh}
@@ -21,6 +23,7 @@ use Rattle.reference.specs.Calls.{stepped, ran, replies, after}
 use Rattle.reference.specs.Quiet.{ceiling}
 use Rattle.layout.specs.Calls.{machineOf}
 use Rattle.demand.specs.Floors.{padded, floorOf, cell, sides, two, rows, three, walled, routeOf, answers2}
+use Rattle.demand.specs.Floors.{walledOff, corridor, shutGoal, crossed}
 use Rattle.demand.specs.Floors.{singles, running, calls4, calls5, longest}
 use Rattle.demand.specs.Texts.{sheet2, routes2, routes3, refused11}
 
@@ -92,6 +95,25 @@ pub record Cases : Type 0 where
   -- A wall in cell 1 is gone round.
   pub accepted-walled : checkOf walled (1 ∷ []) ≡ passed
   pub answers-walled : planOf walled (1 ∷ []) ≡ routeOf (0 ∷ 3 ∷ 4 ∷ 5 ∷ 2 ∷ []) ∷ []
+  -- Document 02, slip 2. All stranded: carrier 1 is walled off and stays in carrier 2's way; were none nowhere, 2 would go through it.
+  pub accepted-stranded : (checkOf (walledOff 2) (3 ∷ []) ≡ passed) × (checkOf (walledOff 1) (3 ∷ []) ≡ passed)
+  pub answers-stranded : planOf (walledOff 2) (3 ∷ []) ≡ none ∷ none ∷ []
+  pub unseen-stranded : planUnseen (walledOff 2) (3 ∷ []) ≡ none ∷ routeOf (0 ∷ 1 ∷ 2 ∷ 2 ∷ 2 ∷ []) ∷ []
+  -- None in the goal of the carrier below: it has none too.
+  pub answers-goal : planOf (walledOff 1) (3 ∷ []) ≡ none ∷ none ∷ []
+  -- None in the middle of a corridor: the carrier below has none, though it would have a way to its goal.
+  pub accepted-corridor : checkOf corridor [] ≡ passed
+  pub answers-corridor : planOf corridor [] ≡ routeOf (3 ∷ 3 ∷ 3 ∷ []) ∷ none ∷ none ∷ []
+  -- None is gone round. On the radio it is heard late: carrier 2 plans through carrier 1's start first, and round it once it has heard.
+  pub accepted-round : checkOf shutGoal (2 ∷ 7 ∷ []) ≡ passed
+  pub answers-round : planOf shutGoal (2 ∷ 7 ∷ []) ≡ none ∷ routeOf (0 ∷ 4 ∷ 5 ∷ 6 ∷ 6 ∷ []) ∷ []
+  pub first-round : after (machineOf shutGoal (2 ∷ 7 ∷ [])) fresh (singles (102 ∷ [])) .answer 1 ≡ routeOf (0 ∷ 1 ∷ 5 ∷ 6 ∷ 6 ∷ [])
+  pub replies-round : replies (machineOf shutGoal (2 ∷ 7 ∷ [])) fresh calls4 ≡
+      value (stepped sent) ∷ value (stepped sent) ∷ value (stepped delivered) ∷ value (stepped sent) ∷ []
+  pub heard-round : below 2 (after (machineOf shutGoal (2 ∷ 7 ∷ [])) fresh calls4 .answer) ≡ none ∷ routeOf (0 ∷ 4 ∷ 5 ∷ 6 ∷ 6 ∷ []) ∷ []
+  -- A carrier above crosses a stranded one below, in cell 1 at beat 1.
+  pub accepted-crossed : checkOf crossed [] ≡ passed
+  pub answers-crossed : planOf crossed [] ≡ routeOf (0 ∷ 1 ∷ 2 ∷ []) ∷ none ∷ []
   -- The ceiling is reached, by one, two and three carriers.
   pub most-1 : after (machineOf cell []) fresh (singles (101 ∷ [])) .taken ≡ ceiling 1
   pub most-2 : after two fresh calls4 .taken ≡ ceiling 2

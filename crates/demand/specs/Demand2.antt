@@ -2,18 +2,19 @@
 -- heard; sheets and floors survive the round trip; and the same floor gets the same answers. Carriers count from 0, in tasks from 1.
 use Prim.Native.Nat.{ℕ, suc, _+_, _*_, _≤_, _<_}
 use mathlib.Core.Bool.{true}
-use mathlib.Core.List.{List, map}
+use mathlib.Core.List.{List, _∷_, _++_, map}
 use mathlib.Core.Logic.{_↔_}
 use mathlib.Core.Path.{_≡_}
-use lib.ListN.{length, take}
+use lib.ListN.{length, getD, take}
 use Rattle.laws.specs.Verdict.{passed, refused, value}
 use Rattle.floor.specs.declared.Floor.{Floor}
-use Rattle.floor.specs.Checks.{checkOf}
+use Rattle.floor.specs.Checks.{checkOf, startOf}
 use Rattle.floor.specs.Accepted.{Absent, Lent, SameFloor}
-use Rattle.route.specs.Route.{Answer, none, View, heard, Task}
+use Rattle.route.specs.Route.{cellAt, Answer, none, route, View, unheard, heard, Task}
 use Rattle.route.specs.Best.{Arrives, Admissible, Best}
 use Rattle.route.specs.Arrival.{arrivalOf}
 use Rattle.records.specs.Records.{records, viewsOf}
+use Rattle.records.specs.Seen.{seenFrom, seen}
 use Rattle.sheet.specs.Text.{sheetLength}
 use Rattle.sheet.specs.Values.{floorAt, wallsAt}
 use Rattle.sheet.specs.Read.{sheetVerdict, readVerdict, readFloor, readWalls, writeVerdict, writeSheet}
@@ -30,10 +31,11 @@ use Rattle.reference.specs.Table.{Call}
 use Rattle.layout.specs.Calls.{placeVerdict, freshMemory, replyTo, memoryAfter}
 use Rattle.trial.specs.Entry.{trialOutcome, stateTried, reportTried}
 
--- Prioritized planning (document 01, 'The sequential planner'): each carrier in turn has the best answer against the answers above it.
+-- Prioritized planning (document 01, 'The sequential planner'; document 02, slip 2): each carrier in turn has the best answer against the
+-- answers above it, one with none staying at its start.
 pub record Prioritized (f : Floor) (ws : List ℕ) (xs : List Answer) : Type 0 where
   pub every : length xs ≡ f .carriers
-  pub best : (k : ℕ) → k < f .carriers → Best (taskOf f ws (k + 1)) (map heard (take k xs)) (answerAt xs k)
+  pub best : (k : ℕ) → k < f .carriers → Best (taskOf f ws (k + 1)) (seen f (map heard (take k xs))) (answerAt xs k)
 
 -- Two floors get the same answers, and leave the same in lent memory, from every entry.
 pub record SameAnswers (f : Floor) (ws : List ℕ) (g : Floor) (vs : List ℕ) : Type 0 where
@@ -61,15 +63,28 @@ pub record Demand2 : Type 0 where
   pub plan-exactly : (f : Floor) (ws : List ℕ) (xs : List Answer) → checkOf f ws ≡ passed → Prioritized f ws xs ↔ (xs ≡ planOf f ws)
   -- Every best response is the best answer, and there is one best answer only; a cell is free exactly if it is no wall.
   pub respond-best : (f : Floor) (ws : List ℕ) (i : ℕ) (vs : List View) → checkOf f ws ≡ passed →
-      Best (taskOf f ws (i + 1)) vs (respondOf f ws i vs)
+      Best (taskOf f ws (i + 1)) (seen f vs) (respondOf f ws i vs)
   pub best-unique : (task : Task) (vs : List View) (x y : Answer) → Best task vs x → Best task vs y → x ≡ y
   pub free-exactly : (f : Floor) (ws : List ℕ) (i c : ℕ) → (taskOf f ws i .free c ≡ true) ↔ Absent ws (f .walls) c
-  -- A search answers the best answer against the views that its memory shows.
+  -- A search answers the best answer against the views that its memory shows, as they are seen.
   pub search-best : (f : Floor) (ws : List ℕ) (i : ℕ) (m : List ℕ) (x : Answer) → searchOf f ws i m ≡ value x →
-      Best (taskOf f ws i) (viewsOf m i) x
-  -- None is answered exactly if no route is free of conflict with the answers above.
+      Best (taskOf f ws i) (seen f (viewsOf m i)) x
+  -- None is answered exactly if no route is free of conflict with the answers above, as they are seen.
   pub none-exactly : (f : Floor) (ws : List ℕ) (k : ℕ) → checkOf f ws ≡ passed → k < f .carriers →
-      (answerAt (planOf f ws) k ≡ none) ↔ ((q : List ℕ) → Admissible (taskOf f ws (k + 1)) (map heard (take k (planOf f ws))) q → ⊥)
+      (answerAt (planOf f ws) k ≡ none)
+      ↔ ((q : List ℕ) → Admissible (taskOf f ws (k + 1)) (seen f (map heard (take k (planOf f ws)))) q → ⊥)
+  -- None, once heard, keeps every response off the start of the carrier that told it, at every beat; not heard may be left out.
+  pub none-occupies : (f : Floor) (ws : List ℕ) (i : ℕ) (vs : List View) (j t : ℕ) (r : List ℕ) → checkOf f ws ≡ passed →
+      getD vs j unheard ≡ heard none → respondOf f ws i vs ≡ route r → t ≤ f .horizon → cellAt r t ≡ startOf f j → ⊥
+  pub unheard-left-out : (f : Floor) (ws : List ℕ) (i : ℕ) (vs us : List View) → checkOf f ws ≡ passed →
+      Best (taskOf f ws (i + 1)) (seen f vs ++ seenFrom f (suc (length vs)) us) (respondOf f ws i (vs ++ (unheard ∷ us)))
+  -- No route of a plan is at any beat in the start of a carrier above it that has none.
+  pub stranded-avoided : (f : Floor) (ws : List ℕ) (j k t : ℕ) (r : List ℕ) → checkOf f ws ≡ passed → j < k → k < f .carriers →
+      answerAt (planOf f ws) j ≡ none → answerAt (planOf f ws) k ≡ route r → t ≤ f .horizon → cellAt r t ≡ startOf f j → ⊥
+  -- Where no carrier above has none, the answer is best against the answers above as they are: nobody stranded, document 01's answers.
+  pub unstranded-best : (f : Floor) (ws : List ℕ) (k : ℕ) → checkOf f ws ≡ passed → k < f .carriers →
+      ((j : ℕ) → j < k → answerAt (planOf f ws) j ≡ none → ⊥) →
+      Best (taskOf f ws (k + 1)) (map heard (take k (planOf f ws))) (answerAt (planOf f ws) k)
   -- The stored plan shows every answer as heard, none as none.
   pub stored-heard : (f : Floor) (ws old : List ℕ) → checkOf f ws ≡ passed → 65 * f .carriers ≤ length old →
       records (planMemory f ws old) (f .carriers) ≡ map heard (planOf f ws)
@@ -81,7 +96,8 @@ pub record Demand2 : Type 0 where
   pub failing-none : (f : Floor) (ws : List ℕ) →
       (failingOf (planOf f ws) ≡ 0) ↔ ((j : ℕ) → j < f .carriers → answerAt (planOf f ws) j ≡ none → ⊥)
   -- What is printed for a sheet: the plan of its floor, with arrivals; or the line of its refusal.
-  pub printed : (text : List ℕ) → sheetVerdict text ≡ passed → routesOf text ≡ routesText (floorAt text) (planOf (floorAt text) (wallsAt text))
+  pub printed : (text : List ℕ) → sheetVerdict text ≡ passed →
+      routesOf text ≡ routesText (floorAt text) (planOf (floorAt text) (wallsAt text))
   pub printed-refusal : (text : List ℕ) (k p : ℕ) → sheetVerdict text ≡ refused k p → routesOf text ≡ refusalLine k p
   pub arrival-exactly : (goal H : ℕ) (r : List ℕ) (a : ℕ) → Arrives goal H r a ↔ ((a ≡ arrivalOf goal r H) × (a ≤ H))
   -- A floor written and read is the same floor; a sheet read and written is the same sheet; memory may be longer than needed.

@@ -47,6 +47,22 @@ rows = floorOf 3 2 4 1 0 (0 ∷ 3 ∷ []) (2 ∷ 5 ∷ [])
 abbrev pub three : ℕ → Floor
 three depth = floorOf 3 2 4 depth 0 (0 ∷ 2 ∷ 3 ∷ []) (2 ∷ 0 ∷ 5 ∷ [])
 
+-- A corridor of five cells with a wall in cell 3: carrier 1, in cell 1, has its goal behind it; carrier 2 goes from cell 0 to a goal.
+abbrev pub walledOff : ℕ → Floor
+walledOff goal = floorOf 5 1 4 1 1 (1 ∷ 0 ∷ []) (4 ∷ goal ∷ [])
+
+-- A corridor of five cells: carrier 1 stands in cell 3, carrier 2 in cell 1 has its goal behind it, carrier 3 has cell 1 before it.
+abbrev pub corridor : Floor
+corridor = floorOf 5 1 2 1 0 (3 ∷ 1 ∷ 0 ∷ []) (3 ∷ 4 ∷ 2 ∷ [])
+
+-- Two rows of four cells with walls in 2 and 7, which shut in carrier 1's goal, 3; carrier 1's start is on carrier 2's way.
+abbrev pub shutGoal : Floor
+shutGoal = floorOf 4 2 4 1 2 (1 ∷ 0 ∷ []) (3 ∷ 6 ∷ [])
+
+-- A corridor of three cells: carrier 1 goes through, and carrier 2 in its middle cannot get past it.
+abbrev pub crossed : Floor
+crossed = floorOf 3 1 2 1 0 (0 ∷ 1 ∷ []) (2 ∷ 0 ∷ [])
+
 -- One carrier beside one wall.
 abbrev pub walled : Floor
 walled = floorOf 3 2 4 1 1 (0 ∷ []) (2 ∷ [])

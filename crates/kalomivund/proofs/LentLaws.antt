@@ -22,13 +22,11 @@ use Rattle.sheet.proofs.FormLaws.{walls-length}
 use Rattle.sheet.proofs.Theorems.{theorems as sheet-theorems}
 use Rattle.search.specs.Answers.{cellsOf}
 use Rattle.search.proofs.Theorems.{theorems as search-theorems}
-use Rattle.search.specs.Task.{taskOf}
-use Rattle.planner.specs.Plan.{respondOf, planOf, planVerdict}
+use Rattle.planner.specs.Plan.{planVerdict}
 use Rattle.planner.specs.Answers.{planResult}
-use Rattle.records.specs.Records.{recordsOf, stored}
+use Rattle.records.specs.Records.{stored}
 use Rattle.planner.specs.Records.{planMemory}
-use Rattle.records.proofs.RecordLaws.{plan-length}
-use Rattle.planner.proofs.PlanLaws.{best-whole}
+use Rattle.planner.proofs.ResultLaws.{plan-size}
 use Rattle.printing.specs.Print.{routesOf, neededFor, routesOutcome, routesMemory, shortOutcome}
 use Rattle.printing.proofs.Theorems.{theorems as printing-theorems}
 use Rattle.reference.specs.State.{fresh as freshState}
@@ -75,19 +73,15 @@ needed-lengths xs old =
     record-lent xs _ _ old
     (checked-lent (done 0) (neededVerdict (floorOf xs) (length old)) 0 _ old (λ e. put-beyond 9 old _ (omega arith)))
 
--- A plan has 65 numbers a carrier.
-plan-size : (f : Floor) (ws : List ℕ) → checkOf f ws ≡ passed → length (recordsOf (planOf f ws)) ≡ 65 * f .carriers
-unfolding planOf respondOf taskOf
-plan-size f ws ok =
-    plan-length (respondOf f ws) (λ k vs. best-whole (taskOf f ws (k + 1)) vs (check-tells f ws ok .bounds .horizon .1)) (f .carriers)
-
 pub plan : (xs ws old : List ℕ) → Lent (65 * floorOf xs .carriers) (planWord xs ws (length old)) (planStored xs ws old) old
 unfolding planWord planStored planResult planMemory stored planVerdict ofNumber
 plan xs ws old =
     let f = floorOf xs in
     record-lent xs _ _ old
     (checked-lent (done 0) (planVerdict f ws (length old)) _ _ old
-    (λ e. put-beyond (65 * f .carriers) old _ (omega (arith, plan-size f ws (then-both (checkOf f ws) _ e .0)))))
+    (λ e.
+    let h = check-tells f ws (then-both (checkOf f ws) _ e .0) .bounds .horizon .1 in
+    put-beyond (65 * f .carriers) old _ (omega (arith, plan-size f ws h))))
 
 pub fresh : (xs ws old : List ℕ) → Lent (stateSize (floorOf xs .carriers)) (freshWord xs ws (length old)) (freshStored xs ws old) old
 unfolding freshWord freshStored freshMemory ofNumber

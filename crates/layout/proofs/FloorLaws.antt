@@ -18,6 +18,7 @@ use Rattle.route.specs.Route.{Answer, none, route, View, cellAt}
 use Rattle.route.specs.Best.{IsRoute}
 use Rattle.route.specs.Search.{best}
 use Rattle.route.proofs.Theorems.{theorems}
+use Rattle.records.specs.Seen.{seen}
 use Rattle.search.specs.Task.{taskOf, taskWith}
 use Rattle.planner.specs.Plan.{respondOf}
 use Rattle.reference.specs.State.{Machine}
@@ -43,12 +44,12 @@ task-horizon f ws i h = h
 -- A best answer is within the ranges of its floor.
 best-sound : (f : Floor) (ws : List ℕ) → f .horizon ≤ 63 → (i : ℕ) (vs : List View) → Sound f (respondOf f ws i vs)
 unfolding respondOf
-best-sound f ws h i vs = go (best (taskOf f ws (i + 1)) vs) refl
+best-sound f ws h i vs = go (best (taskOf f ws (i + 1)) (seen f vs)) refl
   where
-    go : (a : Answer) → best (taskOf f ws (i + 1)) vs ≡ a → Sound f a
+    go : (a : Answer) → best (taskOf f ws (i + 1)) (seen f vs) ≡ a → Sound f a
     go none e = none-sound f
     go (route r) e =
-        route-sound f ws (i + 1) r (theorems .best-is-route (taskOf f ws (i + 1)) vs r (task-horizon f ws (i + 1) h) e .0)
+        route-sound f ws (i + 1) r (theorems .best-is-route (taskOf f ws (i + 1)) (seen f vs) r (task-horizon f ws (i + 1) h) e .0)
 
 -- The machine of a floor with these cells free.
 abbrev machineWith : Floor → (ℕ → Bool) → Machine
@@ -57,7 +58,7 @@ machineWith f free =
       carriers = f .carriers;
       depth = f .depth;
       needed = stateSize (f .carriers);
-      respond = λ i vs. best (taskWith f (i + 1) free) vs;
+      respond = λ i vs. best (taskWith f (i + 1) free) (seen f vs);
     }
 
 module _ (f : Floor) (ws : List ℕ) where

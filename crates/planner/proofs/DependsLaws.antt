@@ -4,7 +4,7 @@ use native.Mathlib.Omega.{arith}
 use mathlib.Core.Path.{_≡_, refl, sym, _∙_, ap, ap₂, fun-ext}
 use mathlib.Core.Bool.{Bool, not}
 use mathlib.Core.List.{List, map}
-use lib.ListN.{take}
+use lib.ListN.{length, take, length-map}
 use Rattle.floor.specs.declared.Floor.{Floor}
 use Rattle.floor.specs.Checks.{startOf, goalOf, among}
 use Rattle.floor.specs.Accepted.{SameFloor}
@@ -13,17 +13,26 @@ use Rattle.route.specs.Route.{Answer, View, heard, Task}
 use Rattle.route.specs.Search.{best}
 use Rattle.route.specs.Sequential.{sequential}
 use Rattle.search.specs.Task.{taskOf}
+use Rattle.search.proofs.SeenLaws.{seen-same}
 use Rattle.planner.specs.Plan.{respondOf, planOf}
 use Rattle.planner.specs.Claims.{AgreeUpTo}
+use Rattle.planner.proofs.FailingLaws.{plan-count}
 use Rattle.planner.proofs.SequentialLaws.{plan-prefix}
 
--- Responses that agree below k make the same first k answers.
-sequential-below : (p q : ℕ → List View → Answer) (k : ℕ) → ((i : ℕ) (vs : List View) → i < k → p i vs ≡ q i vs)
+-- As many views as answers above.
+views-count : (q : ℕ → List View → Answer) (k : ℕ) → length (map heard (sequential q k)) ≡ k
+views-count q k = length-map (sequential q k) heard ∙ plan-count q k
+
+-- Responses that agree below k, to as many views as there are carriers above, make the same first k answers.
+sequential-below : (p q : ℕ → List View → Answer) (k : ℕ) → ((i : ℕ) (vs : List View) → i < k → length vs ≡ i → p i vs ≡ q i vs)
     → sequential p k ≡ sequential q k
 unfolding sequential
 sequential-below p q zero h = refl
 sequential-below p q (suc k) h =
-    rw (sequential-below p q k (λ i vs l. h i vs (omega arith)), h k (map heard (sequential q k)) (omega arith))
+    rw (
+      sequential-below p q k (λ i vs l e. h i vs (omega arith) e),
+      h k (map heard (sequential q k)) (omega arith) (views-count q k),
+    )
 
 -- Tasks with the same parts are the same.
 parts-same : {w w′ c c′ h h′ s s′ g g′ : ℕ} {free free′ : ℕ → Bool} → w ≡ w′ → c ≡ c′ → h ≡ h′ → s ≡ s′ → g ≡ g′ → free ≡ free′
@@ -57,10 +66,15 @@ module _ (k : ℕ) (f : Floor) (ws : List ℕ) (g : Floor) (vs : List ℕ) (agre
       (ap (startOf f) one ∙ agree .starts i l ∙ ap (startOf g) (sym one))
       (ap (goalOf f) one ∙ agree .goals i l ∙ ap (goalOf g) (sym one)) free-same
 
+  -- A carrier responds alike to as many views as there are carriers above it.
+  pub respond-same : (i : ℕ) (views : List View) → i < k → length views ≤ k → respondOf f ws i views ≡ respondOf g vs i views
+  unfolding respondOf
+  respond-same i views l h = ap₂ best (task-same i l) (seen-same f g k views (agree .horizon) (agree .starts) h)
+
   pub plan-depends : k ≤ f .carriers → k ≤ g .carriers → take k (planOf f ws) ≡ take k (planOf g vs)
-  unfolding planOf respondOf
+  unfolding planOf
   plan-depends a b =
       plan-prefix (respondOf f ws) (f .carriers) k a
       ∙ sequential-below (respondOf f ws) (respondOf g vs) k
-      (λ i views l. ap (λ (task : Task). best task views) (task-same i l))
+      (λ i views l e. respond-same i views l (omega arith))
       ∙ sym (plan-prefix (respondOf g vs) (g .carriers) k b)

@@ -8,5 +8,6 @@ pub mod RequestLaws
 pub mod ResultLaws
 pub mod SequentialLaws
 pub mod DependsLaws
+pub mod StrandedLaws
 pub mod StoredLaws
 pub mod Theorems

@@ -12,6 +12,7 @@ use Rattle.floor.proofs.LimitsLaws.{Bounds, limited-bounds, room-passed}
 use Rattle.floor.proofs.Theorems.{theorems}
 use Rattle.route.specs.Route.{Answer, View, heard}
 use Rattle.route.specs.Sequential.{sequential}
+use Rattle.records.specs.Seen.{seen}
 use Rattle.search.specs.Rows.{FreeRows}
 use Rattle.search.proofs.RequestLaws.{accepted-searchable}
 use Rattle.planner.specs.Plan.{planVerdict, planOf, respondOf, respondWith}
@@ -52,4 +53,4 @@ sequential-same p q h (suc k) = rw (sequential-same p q h k, h k (map heard (seq
 -- The plan with the free rows is the plan with the walls.
 pub plan-same : (f : Floor) (ws rows : List ℕ) → FreeRows f ws rows → sequential (respondWith f rows) (f .carriers) ≡ planOf f ws
 unfolding planOf respondOf respondWith
-plan-same f ws rows r = sequential-same (respondWith f rows) (respondOf f ws) (λ k vs. r .same (k + 1) vs) (f .carriers)
+plan-same f ws rows r = sequential-same (respondWith f rows) (respondOf f ws) (λ k vs. r .same (k + 1) (seen f vs)) (f .carriers)

@@ -1,23 +1,17 @@
 -- The room that the answers in memory leave depends on those answers alone.
 use Prim.Native.Nat.{ℕ, _+_, _*_, _-_, _≤_, _<_}
 use native.Mathlib.Omega.{arith}
-use mathlib.Core.Path.{_≡_, sym, _∙_}
-use mathlib.Core.List.{List, _++_}
-use lib.ListN.{length, getD, take, drop, List·getD-append}
-use lib.Seq.{getD-take, length-take-le}
+use mathlib.Core.Path.{_≡_, sym}
+use mathlib.Core.List.{List}
+use lib.ListN.{length, getD}
 use Rattle.floor.specs.declared.Floor.{Floor}
 use Rattle.laws.specs.Memory.{put}
+use Rattle.records.proofs.SeenLaws.{put-before}
 use Rattle.search.specs.Rows.{Searchable}
 use Rattle.tables.specs.Table.{sceneOf}
 use Rattle.tables.specs.Room.{Roomy}
 use Rattle.tables.proofs.GridLaws.{grid-room}
 use Rattle.tables.proofs.RoomLaws.{roomy-same}
-
--- What stands in front of a part that is stored is as it was.
-put-front : (m b : List ℕ) (at j : ℕ) → at ≤ length m → j < at → getD (put m at b) j 0 ≡ getD m j 0
-unfolding put
-put-front m b at j l h =
-    List·getD-append (take at m) (b ++ drop (at + length b) m) 0 j (omega (arith, length-take-le at m l)) ∙ getD-take at m j 0 h
 
 module _ (f : Floor) (free s : List ℕ) (i k : ℕ) (v : List ℕ) (able : Searchable f free k v) where
   -- The same room in a memory with the same answers in front.
@@ -27,13 +21,13 @@ module _ (f : Floor) (free s : List ℕ) (i k : ℕ) (v : List ℕ) (able : Sear
   room-same m q same old =
       roomy-same (sceneOf f) free m q s i (able .width .1) (grid-room (f .width) (f .height) (able .height)) (able .horizon) same old
 
-  -- The room of the answers alone.
-  pub room-above : (m : List ℕ) → Roomy (sceneOf f) i free m s → Roomy (sceneOf f) (i + 1 - 1) free (take (65 * i) m) s
+  -- The room for the carrier below them.
+  pub room-above : (m : List ℕ) → Roomy (sceneOf f) i free m s → Roomy (sceneOf f) (i + 1 - 1) free m s
   room-above m old =
       let e : i + 1 - 1 ≡ i = omega arith in
-      rw e (room-same m (take (65 * i) m) (λ j h. sym (getD-take (65 * i) m j 0 h)) old)
+      rw e old
 
   -- The room with one more answer behind them.
   pub room-stored : (m q b : List ℕ) → 65 * i ≤ length m → q ≡ put m (65 * i) b → Roomy (sceneOf f) i free m s →
       Roomy (sceneOf f) i free q s
-  room-stored m q b l e old = rw e (room-same m (put m (65 * i) b) (λ j h. sym (put-front m b (65 * i) j l h)) old)
+  room-stored m q b l e old = rw e (room-same m (put m (65 * i) b) (λ j h. sym (put-before m b (65 * i) j l h)) old)

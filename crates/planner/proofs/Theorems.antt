@@ -2,55 +2,75 @@
 use Prim.Native.Nat.{ℕ, zero, suc, _+_, _*_, _≤_, _<_}
 use native.Mathlib.Omega.{arith}
 use native.Mathlib.Nat.{zero-add}
+use mathlib.Core.Logic.{_⊎_, inl, inr}
 use mathlib.Core.Path.{_≡_, refl, sym, _∙_, ap}
-use mathlib.Core.List.{List, [], _∷_, map, List·Memᴰ, List·Memᴰ·head, List·Memᴰ·tail}
-use lib.ListN.{length, take, drop, replicate}
+use mathlib.Core.List.{List, [], _∷_, map}
+use lib.ListN.{length, getD, take, drop, replicate}
 use Rattle.floor.specs.declared.Floor.{Floor}
 use Rattle.laws.specs.Verdict.{passed}
-use Rattle.floor.specs.Checks.{checkOf}
+use Rattle.floor.specs.Checks.{checkOf, startOf}
 use Rattle.floor.proofs.LimitsLaws.{check-tells}
-use Rattle.route.specs.Route.{Answer, none, route, View, heard, Task}
+use Rattle.route.specs.Route.{cellAt, Answer, none, route, View, unheard, heard, Task}
 use Rattle.route.specs.Conflict.{ConflictFree, ClearOf, ClearOfView}
 use Rattle.route.specs.Best.{IsRoute, Best}
 use Rattle.route.specs.Search.{best}
 use Rattle.route.proofs.Theorems.{theorems as route-theorems}
 use Rattle.search.specs.Task.{taskOf}
+use Rattle.search.proofs.SeenLaws.{route-among, kept-off}
 use Rattle.planner.specs.Plan.{planOf, respondOf, failingOf, failingFrom}
 use Rattle.records.specs.Records.{recordOf, stored}
-use Rattle.planner.specs.Claims.{Claims, answerAt}
+use Rattle.records.specs.Seen.{seen}
+use Rattle.planner.specs.Claims.{Claims, answerAt, planUnseen}
 use Rattle.planner.proofs.FailingLaws.{plan-count}
 use Rattle.planner.proofs.ResultLaws.{plan-all-whole}
 use Rattle.planner.proofs.SequentialLaws.{plan-prefix, plan-answer}
 use Rattle.planner.proofs.DependsLaws.{plan-depends}
+use Rattle.planner.proofs.StrandedLaws.{told-answer, routes-seen, rules-agree}
 use Rattle.planner.proofs.StoredLaws.{record-stored}
 
--- An answer of a list is heard among the answers of its front.
-heard-among : (xs : List Answer) (j k : ℕ) (q : List ℕ) → j < k → answerAt xs j ≡ route q
-    → List·Memᴰ (heard (route q)) (map heard (take k xs))
-unfolding answerAt
-heard-among [] j k q l e = absurd (let z : _≡_ {A = ℕ} 0 1 = cc in omega arith)
-heard-among (x ∷ xs) j zero q l e = absurd (omega arith)
-heard-among (x ∷ xs) zero (suc k) q l e = List·Memᴰ·head (ap heard (sym e))
-heard-among (x ∷ xs) (suc j) (suc k) q l e = List·Memᴰ·tail (heard-among xs j k q (omega arith) e)
+answers-all : (f : Floor) (ws : List ℕ) → length (planOf f ws) ≡ f .carriers
+unfolding planOf
+answers-all f ws = plan-count (respondOf f ws) (f .carriers)
 
 module _ (f : Floor) (ws : List ℕ) (k : ℕ) (ok : checkOf f ws ≡ passed) (l : k < f .carriers) where
-  response : answerAt (planOf f ws) k ≡ best (taskOf f ws (k + 1)) (map heard (take k (planOf f ws)))
+  -- The answers above, as they are told.
+  abbrev above : List View
+  above = map heard (take k (planOf f ws))
+
+  -- View j is answer j.
+  told : (j : ℕ) → j < k → getD above j unheard ≡ heard (answerAt (planOf f ws) j)
+  told j h = told-answer (planOf f ws) j k h (omega (arith, answers-all f ws))
+
+  response : answerAt (planOf f ws) k ≡ best (taskOf f ws (k + 1)) (seen f above)
   unfolding planOf respondOf
   response =
       plan-answer (respondOf f ws) (f .carriers) k l
       ∙ ap (λ (xs : List Answer). respondOf f ws k (map heard xs)) (sym (plan-prefix (respondOf f ws) (f .carriers) k (omega arith)))
 
-  each-best : Best (taskOf f ws (k + 1)) (map heard (take k (planOf f ws))) (answerAt (planOf f ws) k)
+  short : taskOf f ws (k + 1) .horizon ≤ 63
   unfolding taskOf
-  each-best = rw response (route-theorems .best-meets (taskOf f ws (k + 1)) (map heard (take k (planOf f ws)))
-      (check-tells f ws ok .bounds .horizon .1))
+  short = check-tells f ws ok .bounds .horizon .1
+
+  each-best : Best (taskOf f ws (k + 1)) (seen f above) (answerAt (planOf f ws) k)
+  each-best = rw response (route-theorems .best-meets (taskOf f ws (k + 1)) (seen f above) short)
 
   clear-of-above : (r q : List ℕ) (j : ℕ) → j < k → answerAt (planOf f ws) j ≡ route q → answerAt (planOf f ws) k ≡ route r
       → ConflictFree (f .horizon) r q
   unfolding taskOf Best ClearOf ClearOfView
   clear-of-above r q j h e g =
-      let b : Best (taskOf f ws (k + 1)) (map heard (take k (planOf f ws))) (route r) = rw g at each-best in
-      b .admissible .clear (heard (route q)) (heard-among (planOf f ws) j k q h e)
+      let b : Best (taskOf f ws (k + 1)) (seen f above) (route r) = rw g at each-best in
+      b .admissible .clear (heard (route q)) (route-among f above j q (told j h ∙ ap heard e))
+
+  stranded-avoided : (j t : ℕ) (r : List ℕ) → j < k → answerAt (planOf f ws) j ≡ none → answerAt (planOf f ws) k ≡ route r →
+      t ≤ f .horizon → cellAt r t ≡ startOf f j → ⊥
+  unfolding taskOf
+  stranded-avoided j t r h e g =
+      kept-off f (taskOf f ws (k + 1)) above j t r refl (check-tells f ws ok .bounds .horizon .1) (told j h ∙ ap heard e) (sym response ∙ g)
+
+  unstranded-best : ((j : ℕ) → j < k → answerAt (planOf f ws) j ≡ none → ⊥) → Best (taskOf f ws (k + 1)) above (answerAt (planOf f ws) k)
+  unstranded-best h =
+      let same : seen f above ≡ above = routes-seen f (planOf f ws) k h (omega (arith, answers-all f ws)) in
+      rw same at each-best
 
 -- A failing carrier is not below the first that is looked at.
 failing-low : (xs : List Answer) (m v : ℕ) → failingFrom (suc m) xs ≡ suc v → m ≤ v
@@ -90,10 +110,6 @@ zero-failing [] i h = refl
 zero-failing (none ∷ xs) i h = absurd (h 0 (omega arith) refl)
 zero-failing (route r ∷ xs) i h = zero-failing xs (suc i) (λ j l n. h (suc j) (omega arith) n)
 
-answers-all : (f : Floor) (ws : List ℕ) → length (planOf f ws) ≡ f .carriers
-unfolding planOf
-answers-all f ws = plan-count (respondOf f ws) (f .carriers)
-
 -- The best answer is a route of the task where it is a route.
 best-admissible : (task : Task) (vs : List View) (r : List ℕ) → Best task vs (route r) → IsRoute task r
 unfolding Best
@@ -104,7 +120,7 @@ none-answered : (f : Floor) (ws : List ℕ) (k : ℕ) → checkOf f ws ≡ passe
     → ((r : List ℕ) → IsRoute (taskOf f ws (k + 1)) r → ⊥) → answerAt (planOf f ws) k ≡ none
 none-answered f ws k ok l lacks = go (answerAt (planOf f ws) k) (each-best f ws k ok l)
   where
-    go : (x : Answer) → Best (taskOf f ws (k + 1)) (map heard (take k (planOf f ws))) x → x ≡ none
+    go : (x : Answer) → Best (taskOf f ws (k + 1)) (seen f (map heard (take k (planOf f ws)))) x → x ≡ none
     go none b = refl
     go (route r) b = absurd (lacks r (best-admissible (taskOf f ws (k + 1)) _ r b))
 
@@ -123,6 +139,20 @@ all-none f ws ok lacks =
       first-none (planOf f ws) (omega (arith, answers-all f ws)) (none-answered f ws 0 ok (omega arith) (λ r h. lacks 0 r (omega arith) h)),
     )
 
+-- A plan without a failing carrier has no none, so that both rules give it.
+unstranded-plan : (f : Floor) (ws : List ℕ) → (failingOf (planOf f ws) ≡ 0) ⊎ (failingOf (planUnseen f ws) ≡ 0) →
+    planOf f ws ≡ planUnseen f ws
+unfolding planOf planUnseen respondOf failingOf
+unstranded-plan f ws (inl e) =
+    rules-agree f (λ i vs. best (taskOf f ws (i + 1)) (seen f vs)) (λ i vs. best (taskOf f ws (i + 1)) vs) (f .carriers)
+    (λ i vs same. ap (best (taskOf f ws (i + 1))) same)
+    (λ j l. failing-zero _ 0 e j (omega (arith, plan-count (λ i vs. best (taskOf f ws (i + 1)) (seen f vs)) (f .carriers))))
+unstranded-plan f ws (inr e) =
+    sym
+    (rules-agree f (λ i vs. best (taskOf f ws (i + 1)) vs) (λ i vs. best (taskOf f ws (i + 1)) (seen f vs)) (f .carriers)
+    (λ i vs same. ap (best (taskOf f ws (i + 1))) (sym same))
+    (λ j l. failing-zero _ 0 e j (omega (arith, plan-count (λ i vs. best (taskOf f ws (i + 1)) vs) (f .carriers)))))
+
 none-stored : (f : Floor) (ws : List ℕ) (k : ℕ) (old : List ℕ) → checkOf f ws ≡ passed → k < f .carriers
     → answerAt (planOf f ws) k ≡ none → take 65 (drop (65 * k) (stored (planOf f ws) old)) ≡ 1 ∷ replicate 64 0
 unfolding recordOf
@@ -137,6 +167,9 @@ theorems =
       answers-all = answers-all;
       each-best = each-best;
       conflict-free = λ f ws j k r q ok h l e g. clear-of-above f ws k ok l r q j h e g;
+      stranded-avoided = λ f ws j k t r ok h l. stranded-avoided f ws k ok l j t r h;
+      unstranded-best = λ f ws k ok l. unstranded-best f ws k ok l;
+      unstranded-plan = unstranded-plan;
       failing-first = λ f ws k e.
           let t = failing-tells (planOf f ws) 0 k (e ∙ ap suc (sym (zero-add k))) in
           (omega (arith, t .0, answers-all f ws), t .1, t .2);

@@ -1,4 +1,5 @@
--- The sequential planner (document 01): carriers 1 to n, each best against the answers above it, none included.
+-- The sequential planner (document 01): carriers 1 to n, each best against the answers above it; one with none stays at its start
+-- (document 02, slip 2).
 use Prim.Native.Nat.{ℕ, suc, _+_, _*_}
 use mathlib.Core.List.{List, [], _∷_}
 use Rattle.floor.specs.declared.Floor.{Floor}
@@ -7,15 +8,16 @@ use Rattle.floor.specs.Checks.{checkOf, roomOf}
 use Rattle.route.specs.Route.{Answer, none, route, View}
 use Rattle.route.specs.Search.{best}
 use Rattle.route.specs.Sequential.{sequential}
+use Rattle.records.specs.Seen.{seen}
 use Rattle.search.specs.Task.{taskOf, taskOfRows}
 
--- The best response of a carrier, counted from 0, to the views of the carriers above it.
+-- The best response of a carrier, counted from 0, to the views of the carriers above it, as they are seen: none as a carrier that stays.
 unfoldable pub respondOf : Floor → List ℕ → ℕ → List View → Answer
-respondOf f ws i vs = best (taskOf f ws (i + 1)) vs
+respondOf f ws i vs = best (taskOf f ws (i + 1)) (seen f vs)
 
 -- The same with the floor's free cells as rows of words.
 unfoldable pub respondWith : Floor → List ℕ → ℕ → List View → Answer
-respondWith f rows i vs = best (taskOfRows f rows (i + 1)) vs
+respondWith f rows i vs = best (taskOfRows f rows (i + 1)) (seen f vs)
 
 -- The answers of all carriers.
 unfoldable pub planOf : Floor → List ℕ → List Answer

@@ -3,18 +3,18 @@ use Prim.Native.Nat.{ℕ, zero, suc, _+_, _*_}
 use mathlib.Core.List.{List}
 use mathlib.Core.Bool.{cond}
 use lib.Dec.{eqb}
-use lib.ListN.{length, getD, take}
+use lib.ListN.{length, getD}
 use Rattle.laws.specs.Memory.{put}
 use Rattle.floor.specs.declared.Floor.{Floor}
 use Rattle.laws.specs.Verdict.{whenPassed}
 use Rattle.search.specs.declared.Outcome.{Outcome}
 use Rattle.search.specs.declared.Outcome.the-variants.{Route, None, Refused}
-use Rattle.records.specs.Records.{viewsOf, recordOf, stored}
+use Rattle.records.specs.Records.{records, recordOf, stored}
 use Rattle.planner.specs.Plan.{respondWith, planOf, planVerdict}
 
 -- The memory with the best response of carrier i, counted from 0, stored behind the answers above it, which it shows.
 unfoldable pub answered : Floor → List ℕ → ℕ → List ℕ → List ℕ
-answered f rows i m = put m (65 * i) (recordOf (respondWith f rows i (viewsOf (take (65 * i) m) (i + 1))))
+answered f rows i m = put m (65 * i) (recordOf (respondWith f rows i (records m i)))
 
 -- The lent memory after planning: the answers in front where the checks pass; all as it was with a refusal.
 unfoldable pub planMemory : Floor → List ℕ → List ℕ → List ℕ

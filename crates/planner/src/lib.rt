@@ -1,9 +1,9 @@
-// The sequential planner of document 01: carriers 1 to n, each best against the answers above it, none included.
+// The sequential planner of document 01: carriers 1 to n, each best against the answers above it; one with none stays at its start.
 mod tags;
 
 ghost use mathlib.Core.Path.{_≡_};
 ghost use Prim.Native.Nat.{_+_, _*_, _≤_, _<_};
-ghost use lib.ListN.{length, take};
+ghost use lib.ListN.{length};
 ghost use Rattle.floor.specs.Answers.{verdictOf};
 ghost use Rattle.route.specs.Sequential.{sequential};
 ghost use Rattle.search.specs.Rows.{Searchable};
@@ -11,7 +11,8 @@ ghost use Rattle.tables.specs.Table.{sceneOf};
 ghost use Rattle.tables.specs.Room.{Roomy};
 ghost use Rattle.planner.specs.Plan.{respondWith, planVerdict};
 ghost use Rattle.planner.specs.Records.{answered, planMemory};
-ghost use Rattle.records.specs.Records.{stored};
+ghost use Rattle.records.specs.Records.{records, stored};
+ghost use Rattle.records.specs.Seen.{seen};
 ghost use Rattle.planner.specs.Answers.{resultOf, planResult, Plannable};
 use floor::Checked;
 use floor::Floor;
@@ -38,21 +39,27 @@ pub fn request(f: Floor, walls: &[u16], room: usize) -> Checked
     floor::room(records::SIZE * f.carriers as usize, room)
 }
 
-// The answer of the carrier with i carriers above it, whose answers stand in front; it is stored behind them, and its route is taken
-// out of the room.
-fn plan_one(f: Floor, free: Rows, i: u16, room: &mut [u32], answers: &mut [u16])
-    requires { ⌜ (i < 8) × (65 * i + 65 ≤ length (now answers)) ⌝ }
-    requires { ⌜ Searchable f free (i + 1) (take (65 * i) (now answers)) ⌝ }
-    requires { ⌜ Roomy (sceneOf f) i free (now answers) (now room) ⌝ }
+// The answer of the carrier with i carriers above it, whose answers stand in front and are shown as they are seen; it is stored behind
+// them, shown as it is seen, and what it occupies is taken out of the room.
+fn plan_one(f: Floor, free: Rows, i: u16, room: &mut [u32], shown: &mut [u16], answers: &mut [u16])
+    requires { ⌜ (i < 8) × (65 * i + 65 ≤ length (now answers)) × (65 * i + 65 ≤ length (now shown)) ⌝ }
+    requires { ⌜ Searchable f free (i + 1) (now shown) × (records (now shown) i ≡ seen f (records (now answers) i)) ⌝ }
+    requires { ⌜ Roomy (sceneOf f) i free (now shown) (now room) ⌝ }
     ensures answers { λ r. ⌜ now (answers .exit) ≡ answered f free i (now (answers .entry)) ⌝ }
-    ensures room { λ r. ⌜ Roomy (sceneOf f) (i + 1) free (now (answers .exit)) (now (room .exit)) ⌝ }
+    ensures shown { λ r. ⌜ records (now (shown .exit)) (i + 1) ≡ seen f (records (now (answers .exit)) (i + 1)) ⌝ }
+    ensures room { λ r. ⌜ Roomy (sceneOf f) (i + 1) free (now (shown .exit)) (now (room .exit)) ⌝ }
 {
-    let at = records::SIZE * i as usize;
-    let found = search::route_in(f, free, room, i + 1, &answers[..at]);
+    let found = search::route_in(f, free, room, i + 1, shown);
     let outcome = found.outcome;
     let cells = found.route;
-    records::store(answers, at, tags::tag_of(outcome), cells);
-    search::take_route(f, room, answers, i as usize);
+    records::store(
+        answers,
+        records::SIZE * i as usize,
+        tags::tag_of(outcome),
+        cells,
+    );
+    records::store_seen(f, answers, i as usize, shown);
+    search::take_route(f, room, shown, i as usize);
 }
 
 // The carriers in turn, each best against the answers above it, in the room that these leave.
@@ -63,9 +70,10 @@ fn plan_all(f: Floor, free: Rows, answers: &mut [u16])
     let n = f.carriers;
     let mut room = search::no_room();
     search::fill_room(f, free, &mut room);
+    let mut shown = records::blank();
     let mut i: u16 = 0;
     while i < n {
-        plan_one(f, free, i, &mut room, answers);
+        plan_one(f, free, i, &mut room, &mut shown, answers);
         i += 1;
     }
 }

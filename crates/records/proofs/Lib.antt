@@ -5,3 +5,4 @@ pub mod ViewsLaws
 pub mod CellLaws
 pub mod PartLaws
 pub mod LoadLaws
+pub mod SeenLaws

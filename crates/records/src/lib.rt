@@ -1,5 +1,7 @@
 // The record of an answer, a view or a message in lent memory: 65 numbers, a tag (0 not heard, 1 none, 2 a route) and 64 cells. A route
 // goes by value from place to place. The functions are helpers between crates: what they require is checked by the entries above.
+mod seen;
+
 ghost use mathlib.Core.Path.{_≡_};
 ghost use mathlib.Core.List.{[], _∷_};
 ghost use Prim.Native.Nat.{_+_, _*_, _≤_, _<_};
@@ -8,6 +10,10 @@ ghost use Rattle.laws.specs.Memory.{put, part};
 ghost use Rattle.records.specs.Records.{fit, moved, viewCell};
 use floor::Floor;
 use route::Route;
+pub use seen::TEAM;
+pub use seen::blank;
+pub use seen::seen_records;
+pub use seen::store_seen;
 
 // The cells of a route: one for each beat up to the largest horizon.
 pub const CELLS: usize = Floor::MAX_HORIZON as usize + 1;

@@ -1,13 +1,16 @@
--- Machines that differ only in the responses of carriers that are not there give the same answers and the same states.
+-- Machines that differ only in the responses of carriers that are not there, or to lists of views that no carrier has, give the same
+-- answers and the same states.
 use Prim.Native.Nat.{ℕ, zero, suc, _<_}
+use native.Mathlib.Omega.{arith}
 use mathlib.Core.Bool.{Bool, true, false, _&&_, not}
 use mathlib.Core.List.{List, [], _∷_}
 use mathlib.Core.Logic.{_⊎_, inl, inr}
 use mathlib.Core.Path.{_≡_, refl, sym, _∙_, ap}
-use lib.ListN.{length, getD}
+use lib.ListN.{length, getD, length-append}
 use Rattle.laws.specs.Verdict.{Verdict, passed, _gives_, whenPassed}
 use Rattle.laws.proofs.VerdictLaws.{demand-same, gives-same, when-same}
 use Rattle.route.specs.Route.{Answer, View}
+use Rattle.reference.specs.Ranges.{below}
 use Rattle.reference.specs.State.{Machine, State, views}
 use Rattle.reference.specs.Step.{Step, plan, deliver, isThere, hasCapacity, waitsFor, isOpen}
 use Rattle.reference.specs.Ranking.{ranking, noneOpen, isSilent}
@@ -21,7 +24,17 @@ use Rattle.reference.proofs.RunLaws.{run-took, run-skipped}
 use Rattle.reference.proofs.TableLaws.{single-open}
 use Rattle.laws.proofs.Tests.{true-or-false}
 
-module _ (n d k : ℕ) (p q : ℕ → List View → Answer) (agree : (i : ℕ) (vs : List View) → i < n → p i vs ≡ q i vs) where
+below-length : {A : Type 0} (k : ℕ) (g : ℕ → A) → length (below k g) ≡ k
+unfolding below
+below-length zero g = refl
+below-length (suc k) g = length-append (below k g) (g k ∷ []) ∙ omega (arith, below-length k g)
+
+-- A carrier has a view of each carrier above it.
+views-count : (s : State) (i : ℕ) → length (views s i) ≡ i
+unfolding views
+views-count s i = below-length i (s .view i)
+
+module _ (n d k : ℕ) (p q : ℕ → List View → Answer) (agree : (i : ℕ) (vs : List View) → i < n → length vs ≡ i → p i vs ≡ q i vs) where
   abbrev M : Machine
   M = record { carriers = n; depth = d; needed = k; respond = p }
 
@@ -38,22 +51,22 @@ module _ (n d k : ℕ) (p q : ℕ → List View → Answer) (agree : (i : ℕ) (
   waits-same s (plan i) = refl
   waits-same s (deliver j i) = refl
 
-  open-same : (s : State) (x : Step) → isOpen M s x ≡ isOpen N s x
+  pub open-same : (s : State) (x : Step) → isOpen M s x ≡ isOpen N s x
   unfolding isOpen
   open-same s x = rw (there-same x, waits-same s x)
 
   effect-same : (s : State) (x : Step) → isOpen M s x ≡ true → effect M s x ≡ effect N s x
   unfolding effect
-  effect-same s (plan i) o = rw (agree i (views s i) (plan-within M s i o))
+  effect-same s (plan i) o = rw (agree i (views s i) (plan-within M s i o) (views-count s i))
   effect-same s (deliver j i) o = refl
 
-  after-same : (s : State) (x : Step) → isOpen M s x ≡ true → afterStep M s x ≡ afterStep N s x
+  pub after-same : (s : State) (x : Step) → isOpen M s x ≡ true → afterStep M s x ≡ afterStep N s x
   unfolding afterStep
   after-same s x o = rw (effect-same s x o)
 
-  answer-same : (s : State) (x : Step) → isOpen M s x ≡ true → stepAnswer M s x ≡ stepAnswer N s x
+  pub answer-same : (s : State) (x : Step) → isOpen M s x ≡ true → stepAnswer M s x ≡ stepAnswer N s x
   unfolding stepAnswer
-  answer-same s (plan i) o = rw (agree i (views s i) (plan-within M s i o), stepAnswer)
+  answer-same s (plan i) o = rw (agree i (views s i) (plan-within M s i o) (views-count s i), stepAnswer)
   answer-same s (deliver j i) o = refl
 
   -- One step read: taken by both, or passed over by both.
@@ -73,7 +86,7 @@ module _ (n d k : ℕ) (p q : ℕ → List View → Answer) (agree : (i : ℕ) (
   run-same s (x ∷ xs) (suc b) =
       step-same s x xs b (λ z. run-same z xs b) (run-same s xs (suc b)) (true-or-false (isOpen M s x))
 
-  none-same : (s : State) (xs : List Step) → noneOpen M s xs ≡ noneOpen N s xs
+  pub none-same : (s : State) (xs : List Step) → noneOpen M s xs ≡ noneOpen N s xs
   unfolding noneOpen
   none-same s [] = refl
   none-same s (x ∷ xs) = rw (open-same s x, none-same s xs)

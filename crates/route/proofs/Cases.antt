@@ -40,7 +40,7 @@ second-carrier-short : best (small 3 2 0) (heard (route (0 ∷ 1 ∷ 2 ∷ 2 ∷
 unfolding cellAt neighbours near vacant passable every standable allowed startClear cost cheaper cheapest beatsFrom val walk walkFrom best
 second-carrier-short = refl
 
--- Not heard and none occupy nothing.
+-- Not heard occupies nothing, nor does none as it stands; what a heard none is seen as is said in crate `records`.
 unheard-not-blocked : best (small 4 2 0) (unheard ∷ heard none ∷ []) ≡ route (five 2 1 0 0 0)
 unfolding cellAt neighbours near vacant passable every standable allowed startClear cost cheaper cheapest beatsFrom val walk walkFrom best
 unheard-not-blocked = refl

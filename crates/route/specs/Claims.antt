@@ -27,7 +27,7 @@ pub record Claims : Type 0 where
   -- A heard route that has arrived still occupies its goal g.
   pub goal-occupied : (task : Task) (vs : List View) (r q : List ℕ) (g a t : ℕ) → task .horizon ≤ 63 → List·Memᴰ (heard (route q)) vs →
       HeldFrom g (task .horizon) q a → best task vs ≡ route r → a ≤ t → t ≤ task .horizon → cellAt r t ≡ g → ⊥
-  -- None and not heard occupy nothing: such a view may be left out.
+  -- A view that shows no route may be left out; a heard none does show one once it is seen as a route (`seenAs`, crate `records`).
   pub silent-left-out : (task : Task) (vs ws : List View) (v : View) → task .horizon ≤ 63 → Silent v →
       best task (vs ++ (v ∷ ws)) ≡ best task (vs ++ ws)
   -- `arrivalOf` is the arrival where there is one, else past the horizon.

@@ -26,7 +26,8 @@ pub record ConflictFree (H : ℕ) (a b : List ℕ) : Type 0 where
 unfoldable pub Silent : View → Type 0
 Silent v = (v ≡ unheard) ⊎ (v ≡ heard none)
 
--- Route r has no conflict with what a view shows; none and not heard occupy nothing.
+-- Route r has no conflict with the route that a view shows. Not heard occupies nothing; what a heard none occupies is said above, where
+-- it is seen as a route (`seenAs`, crate `records`).
 unfoldable pub ClearOfView : ℕ → List ℕ → View → Type 0
 ClearOfView H r unheard = Unit {0}
 ClearOfView H r (heard none) = Unit {0}

@@ -13,6 +13,7 @@ use Rattle.route.specs.Route.{cellAt, none, route}
 use Rattle.route.specs.Moves.{neighbours, near, vacant, passable, every, standable, allowed, startClear}
 use Rattle.route.specs.Search.{cost, cheaper, cheapest, beatsFrom, val, walk, walkFrom, best}
 use Rattle.records.specs.Records.{viewOf, recordAt, viewAt, records, viewsOf}
+use Rattle.records.specs.Seen.{parked, seenAs, seenFrom, seen}
 use Rattle.search.specs.Task.{taskOf}
 use Rattle.search.specs.Answers.{answered}
 use Rattle.search.specs.Search.{requestOf, searchOf}
@@ -38,33 +39,38 @@ told tag a b c d e = tag ∷ a ∷ b ∷ c ∷ d ∷ e ∷ replicate 124 0
 -- Floor 2: carrier 1 goes straight, carrier 2 round it.
 first-carrier : searchOf (sides 4) [] 1 (told 0 0 0 0 0 0) ≡ answered (route (0 ∷ 1 ∷ 2 ∷ 2 ∷ 2 ∷ replicate 59 0))
 unfolding searchOf _gives_ requestOf checkOf limitsOf lentOf roomOf placesOf carriersOf wallsOf risingOf clearOf distinctOf within demand
-    _then_ demandEach inTurn inGrid carrierInGrid startOf goalOf clearOfWalls among unshared taskOf viewsOf records viewAt recordAt viewOf part cellAt
+    _then_ demandEach inTurn inGrid carrierInGrid startOf goalOf clearOfWalls among unshared taskOf viewsOf records viewAt recordAt viewOf
+    part seenAs seenFrom seen parked cellAt
     neighbours near vacant passable every standable allowed startClear cost cheaper cheapest beatsFrom val walk walkFrom best
 first-carrier = refl
 
 second-carrier : searchOf (sides 4) [] 2 (told 2 0 1 2 2 2) ≡ answered (route (2 ∷ 5 ∷ 4 ∷ 1 ∷ 0 ∷ replicate 59 0))
 unfolding searchOf _gives_ requestOf checkOf limitsOf lentOf roomOf placesOf carriersOf wallsOf risingOf clearOf distinctOf within demand
-    _then_ demandEach inTurn inGrid carrierInGrid startOf goalOf clearOfWalls among unshared taskOf viewsOf records viewAt recordAt viewOf part cellAt
+    _then_ demandEach inTurn inGrid carrierInGrid startOf goalOf clearOfWalls among unshared taskOf viewsOf records viewAt recordAt viewOf
+    part seenAs seenFrom seen parked cellAt
     neighbours near vacant passable every standable allowed startClear cost cheaper cheapest beatsFrom val walk walkFrom best
 second-carrier = refl
 
 -- Floor 3: with horizon 3 there is no way round.
 second-carrier-short : searchOf (sides 3) [] 2 (told 2 0 1 2 2 0) ≡ answered none
 unfolding searchOf _gives_ requestOf checkOf limitsOf lentOf roomOf placesOf carriersOf wallsOf risingOf clearOf distinctOf within demand
-    _then_ demandEach inTurn inGrid carrierInGrid startOf goalOf clearOfWalls among unshared taskOf viewsOf records viewAt recordAt viewOf part cellAt
+    _then_ demandEach inTurn inGrid carrierInGrid startOf goalOf clearOfWalls among unshared taskOf viewsOf records viewAt recordAt viewOf
+    part seenAs seenFrom seen parked cellAt
     neighbours near vacant passable every standable allowed startClear cost cheaper cheapest beatsFrom val walk walkFrom best
 second-carrier-short = refl
 
--- Heard none, and not heard with any numbers beside the tag, occupy nothing.
-heard-none : searchOf (sides 4) [] 2 (told 1 0 1 2 2 2) ≡ answered (route (2 ∷ 1 ∷ 0 ∷ 0 ∷ 0 ∷ replicate 59 0))
+-- Not heard, with any numbers beside the tag, occupies nothing. Heard none occupies carrier 1's start, which is carrier 2's goal.
+heard-none : searchOf (sides 4) [] 2 (told 1 0 1 2 2 2) ≡ answered none
 unfolding searchOf _gives_ requestOf checkOf limitsOf lentOf roomOf placesOf carriersOf wallsOf risingOf clearOf distinctOf within demand
-    _then_ demandEach inTurn inGrid carrierInGrid startOf goalOf clearOfWalls among unshared taskOf viewsOf records viewAt recordAt viewOf part cellAt
+    _then_ demandEach inTurn inGrid carrierInGrid startOf goalOf clearOfWalls among unshared taskOf viewsOf records viewAt recordAt viewOf
+    part seenAs seenFrom seen parked cellAt
     neighbours near vacant passable every standable allowed startClear cost cheaper cheapest beatsFrom val walk walkFrom best
 heard-none = refl
 
 not-heard : searchOf (sides 4) [] 2 (told 7 0 1 2 2 2) ≡ answered (route (2 ∷ 1 ∷ 0 ∷ 0 ∷ 0 ∷ replicate 59 0))
 unfolding searchOf _gives_ requestOf checkOf limitsOf lentOf roomOf placesOf carriersOf wallsOf risingOf clearOf distinctOf within demand
-    _then_ demandEach inTurn inGrid carrierInGrid startOf goalOf clearOfWalls among unshared taskOf viewsOf records viewAt recordAt viewOf part cellAt
+    _then_ demandEach inTurn inGrid carrierInGrid startOf goalOf clearOfWalls among unshared taskOf viewsOf records viewAt recordAt viewOf
+    part seenAs seenFrom seen parked cellAt
     neighbours near vacant passable every standable allowed startClear cost cheaper cheapest beatsFrom val walk walkFrom best
 not-heard = refl
 
@@ -75,12 +81,14 @@ long-horizon = refl
 
 few-views : searchOf (sides 4) [] 3 (replicate 129 0) ≡ refusal 9 0
 unfolding searchOf _gives_ requestOf checkOf limitsOf lentOf roomOf placesOf carriersOf wallsOf risingOf clearOf distinctOf within demand
-    _then_ demandEach inTurn inGrid carrierInGrid startOf goalOf clearOfWalls among unshared taskOf viewsOf records viewAt recordAt viewOf part cellAt
+    _then_ demandEach inTurn inGrid carrierInGrid startOf goalOf clearOfWalls among unshared taskOf viewsOf records viewAt recordAt viewOf
+    part seenAs seenFrom seen parked cellAt
     neighbours near vacant passable every standable allowed startClear cost cheaper cheapest beatsFrom val walk walkFrom best
 few-views = refl
 
 no-carrier : searchOf (sides 4) [] 3 (replicate 130 0) ≡ refusal 7 0
 unfolding searchOf _gives_ requestOf checkOf limitsOf lentOf roomOf placesOf carriersOf wallsOf risingOf clearOf distinctOf within demand
-    _then_ demandEach inTurn inGrid carrierInGrid startOf goalOf clearOfWalls among unshared taskOf viewsOf records viewAt recordAt viewOf part cellAt
+    _then_ demandEach inTurn inGrid carrierInGrid startOf goalOf clearOfWalls among unshared taskOf viewsOf records viewAt recordAt viewOf
+    part seenAs seenFrom seen parked cellAt
     neighbours near vacant passable every standable allowed startClear cost cheaper cheapest beatsFrom val walk walkFrom best
 no-carrier = refl

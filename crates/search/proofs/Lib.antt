@@ -8,5 +8,6 @@ pub mod GroundLaws
 pub mod RowsFree
 pub mod AnswerLaws
 pub mod RequestLaws
+pub mod SeenLaws
 pub mod Theorems
 mod Cases

@@ -1,19 +1,22 @@
 -- The outcomes of the search of a checked floor, each the best answer.
-use Prim.Native.Nat.{ℕ, _+_, _-_, _/_, _%_, _≤_, _<_}
+use Prim.Native.Nat.{ℕ, _+_, _*_, _-_, _/_, _%_, _≤_, _<_}
 use native.Mathlib.Omega.{arith}
 use mathlib.Core.Bool.{true, false}
 use mathlib.Core.List.{List}
-use mathlib.Core.Path.{_≡_, refl, _∙_}
-use lib.ListN.{replicate}
+use mathlib.Core.Path.{_≡_, refl, _∙_, ap}
+use lib.ListN.{length, replicate}
+use Rattle.laws.specs.Verdict.{Outcome}
 use Rattle.floor.specs.declared.Floor.{Floor}
 use Rattle.floor.specs.Checks.{startOf, goalOf}
-use Rattle.route.specs.Route.{none, route}
+use Rattle.route.specs.Route.{Answer, none, route, View}
 use Rattle.route.specs.Search.{best}
 use Rattle.words.specs.Rows.{filled, Clean}
 use Rattle.words.proofs.RowsLaws.{place-row}
 use Rattle.tables.specs.declared.Scene.{Scene}
 use Rattle.tables.specs.declared.window.Window.{Window}
 use Rattle.records.specs.Records.{records, viewsOf}
+use Rattle.records.specs.Seen.{seen}
+use Rattle.search.specs.Answers.{answered}
 use Rattle.search.specs.Task.{taskOfRows}
 use Rattle.search.specs.Rows.{Searchable}
 use Rattle.tables.specs.Window.{apart}
@@ -129,3 +132,26 @@ module _ {f : Floor} {rows : List ℕ} {i : ℕ} {m room : List ℕ} (s : Search
         same
         ∙ route-best setting fit win (made .laid) (made .reached .limited) (made .reached .advanced) hold held e
         (made .reached .found (omega (arith, win .limited))) earliest traced
+
+-- A carrier that can be searched for with some views can be with others.
+pub other-views : {f : Floor} {rows : List ℕ} {i : ℕ} {m q : List ℕ} → Searchable f rows i m → 65 * (i - 1) ≤ length q →
+    Searchable f rows i q
+other-views s l =
+    record {
+      width = s .width;
+      height = s .height;
+      horizon = s .horizon;
+      listed = s .listed;
+      start = s .start;
+      goal = s .goal;
+      lent = l;
+      long = s .long;
+      clean = s .clean;
+    }
+
+-- The search against records as they are seen is the one against the views as they are seen.
+pub shown-best : (f : Floor) (rows : List ℕ) (i : ℕ) (m q : List ℕ) → records q (i - 1) ≡ seen f (records m (i - 1)) →
+    _≡_ {A = Outcome Answer} (answered (best (taskOfRows f rows i) (viewsOf q i)))
+    (answered (best (taskOfRows f rows i) (seen f (viewsOf m i))))
+unfolding viewsOf
+shown-best f rows i m q e = ap (λ (vs : List View). answered (best (taskOfRows f rows i) vs)) e

@@ -34,6 +34,7 @@ ghost use Rattle.tables.specs.Windowed.{Fitting, Windowed};
 ghost use Rattle.search.specs.Search.{requestOf, searchOf};
 ghost use Rattle.search.specs.Task.{taskOfRows};
 ghost use Rattle.records.specs.Records.{viewsOf};
+ghost use Rattle.records.specs.Seen.{seen};
 ghost use Rattle.search.specs.Rows.{Searchable};
 
 // The free cells of a floor: a word a row of the largest grid.
@@ -99,7 +100,7 @@ fn along(
     }
 }
 
-// The best route of a carrier of a checked floor, in the room that its free cells and the carriers above it leave.
+// The best route of a carrier of a checked floor against the views as they stand, in the room that these and its free cells leave.
 pub fn route_in(f: Floor, free: Rows, room: &[u32], carrier: u16, views: &[u16]) -> Found
     requires { ⌜ Searchable f free carrier (now views) ⌝ }
     requires { ⌜ Roomy (sceneOf f) (carrier - 1) free (now views) (now room) ⌝ }
@@ -136,14 +137,24 @@ pub fn route_in(f: Floor, free: Rows, room: &[u32], carrier: u16, views: &[u16])
     along(g, k, all, &mut sets, room, views, start, goal, b)
 }
 
-// The best route of a carrier of a checked floor, with its free cells as rows and the views of the carriers above it.
-pub fn best_route(f: Floor, free: Rows, carrier: u16, views: &[u16]) -> Found
+// The best route of a carrier of a checked floor, with its free cells as rows, against the views as they stand.
+fn best_against(f: Floor, free: Rows, carrier: u16, views: &[u16]) -> Found
     requires { ⌜ Searchable f free carrier (now views) ⌝ }
     ensures { λ r. ⌜ Says r (answered (best (taskOfRows f free carrier) (viewsOf (now (views .entry)) carrier))) ⌝ }
 {
     let mut room = table::empty();
     room::make(scene_of(f), carrier as usize - 1, &mut room, &free, views);
     route_in(f, free, &room, carrier, views)
+}
+
+// The best route of a carrier of a checked floor, with its free cells as rows, against the views of the carriers above it as they are
+// seen: one that has told none stays at its start.
+pub fn best_route(f: Floor, free: Rows, carrier: u16, views: &[u16]) -> Found
+    requires { ⌜ Searchable f free carrier (now views) ⌝ }
+    ensures { λ r. ⌜ Says r (answered (best (taskOfRows f free carrier) (seen f (viewsOf (now (views .entry)) carrier)))) ⌝ }
+{
+    let shown = records::seen_records(f, views, carrier as usize - 1);
+    best_against(f, free, carrier, &shown)
 }
 
 // 7: the floor has such a carrier.
@@ -181,7 +192,8 @@ fn request(f: Floor, walls: &[u16], carrier: u16, views: &[u16]) -> Checked
 }
 
 // The search: any floor record, walls, carrier number and views. Views are 65 numbers a carrier, a tag (1 none, 2 a route, any other
-// not heard) and 64 cells, record j − 1 being carrier j's; only those of the carriers above are looked at.
+// not heard) and 64 cells, record j − 1 being carrier j's; only those of the carriers above are looked at. One that has told none stays at
+// its start.
 pub fn search(f: Floor, walls: &[u16], carrier: u16, views: &[u16]) -> Found
     ensures { λ r. ⌜ Says r (searchOf f (now (walls .entry)) carrier (now (views .entry))) ⌝ }
 {

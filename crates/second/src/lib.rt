@@ -1,4 +1,4 @@
-// A second planner, for tests: it knows nothing of sets of cells. It fills a table of least arrivals from the horizon down, a number a
+// A second planner, for tests: it knows nothing of sets of cells, and asks of each carrier where it is by what it told. It fills a table of least arrivals from the horizon down, a number a
 // beat and cell, and walks along it. Every function answers for any numbers, so none has a `requires`.
 mod arrivals;
 mod ground;
@@ -45,7 +45,7 @@ pub fn second_route(f: Floor, walls: &[u16], carrier: u16, views: &[u16]) -> Pla
     let start = at(&starts, k);
     let goals = f.goals;
     let goal = at(&goals, k);
-    if met(views, k, start) {
+    if met(&starts, views, k, start) {
         return none();
     }
     let mut table = io::large_buffer();
@@ -60,15 +60,17 @@ pub fn second_route(f: Floor, walls: &[u16], carrier: u16, views: &[u16]) -> Pla
     }
 }
 
-// Whether a route conflicts with one of the first k routes that were told, by the test that this planner makes of each move.
+// Whether a route conflicts with one of the first k routes that were told, by the test that this planner makes of each move; a carrier
+// that told none is nowhere here.
 pub fn second_conflict(views: &[u16], k: usize, r: Route, horizon: u16) -> bool {
-    if met(views, k, at(&r, 0)) {
+    let nowhere = [65535u16; 8];
+    if met(&nowhere, views, k, at(&r, 0)) {
         return true;
     }
     let last = wide(horizon);
     let mut t: usize = 0;
     while t < last {
-        if conflicts(views, k, t, at(&r, t), at(&r, after(t))) {
+        if conflicts(&nowhere, views, k, t, at(&r, t), at(&r, after(t))) {
             return true;
         }
         t += 1;

@@ -8,16 +8,16 @@ use crate::table::value;
 use crate::views::told;
 use floor::Floor;
 
-// Whether a route that was told is in cell d at the next beat, or goes from d to c.
-pub fn conflicts(views: &[u16], k: usize, t: usize, c: usize, d: usize) -> bool {
+// Whether one of the first k carriers is in cell d at the next beat, or goes from d to c, by what it told.
+pub fn conflicts(starts: &[u16], views: &[u16], k: usize, t: usize, c: usize, d: usize) -> bool {
     let next = after(t);
     let mut j: usize = 0;
     while j < k {
-        if told(views, j, next) == d {
+        if told(starts, views, j, next) == d {
             return true;
         }
-        if told(views, j, next) == c {
-            if told(views, j, t) == d {
+        if told(starts, views, j, next) == c {
+            if told(starts, views, j, t) == d {
                 return true;
             }
         }
@@ -43,7 +43,8 @@ fn offer(
     if wall(walls, wide(f.walls), d) {
         return 255;
     }
-    if conflicts(views, k, t, c, d) {
+    let starts = f.starts;
+    if conflicts(&starts, views, k, t, c, d) {
         return 255;
     }
     value(table, after(t), d)

@@ -5,23 +5,26 @@ use crate::Plan;
 use crate::places::at;
 use crate::places::store;
 
-// The cell of carrier j + 1 at beat t as it was told, where it was told a route.
-pub fn told(views: &[u16], j: usize, t: usize) -> usize {
+// The cell of carrier j + 1 at beat t as it was told: that of its route, or its start if it told none.
+pub fn told(starts: &[u16], views: &[u16], j: usize, t: usize) -> usize {
     if j < 8 {
         if t < 64 {
             if at(views, 65 * j) == 2 {
                 return at(views, 65 * j + 1 + t);
+            }
+            if at(views, 65 * j) == 1 {
+                return at(starts, j);
             }
         }
     }
     65535
 }
 
-// Whether a route that was told is in cell c at beat 0.
-pub fn met(views: &[u16], k: usize, c: usize) -> bool {
+// Whether one of the first k carriers is in cell c at beat 0 by what it told.
+pub fn met(starts: &[u16], views: &[u16], k: usize, c: usize) -> bool {
     let mut j: usize = 0;
     while j < k {
-        if told(views, j, 0) == c {
+        if told(starts, views, j, 0) == c {
             return true;
         }
         j += 1;

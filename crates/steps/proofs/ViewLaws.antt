@@ -12,6 +12,7 @@ use Rattle.route.specs.Search.{best}
 use Rattle.search.specs.Rows.{FreeRows}
 use Rattle.search.specs.Task.{taskOf, taskOfRows}
 use Rattle.records.specs.Records.{viewAt, records, viewsOf, recordAt}
+use Rattle.records.specs.Seen.{seen}
 use Rattle.planner.specs.Plan.{respondOf}
 use Rattle.records.proofs.RecordLaws.{views-above}
 use Rattle.records.proofs.PartLaws.{view-part}
@@ -32,17 +33,17 @@ next-view n i j a e = omega (arith, e)
 
 -- The best answer to the part that has the views of carrier i, with the free cells as rows.
 part-best : (f : Floor) (ws rows m : List ℕ) (i a : ℕ) → FreeRows f ws rows → a ≡ viewPlace (f .carriers) i 0 →
-    a + 65 * i ≤ length m → best (taskOfRows f rows (i + 1)) (viewsOf (part m a (65 * i)) (i + 1)) ≡ bestIn (machineOf f ws) m i
+    a + 65 * i ≤ length m → best (taskOfRows f rows (i + 1)) (seen f (viewsOf (part m a (65 * i)) (i + 1))) ≡ bestIn (machineOf f ws) m i
 unfolding bestIn machineOf respondOf viewsIn
 part-best f ws rows m i a free e l =
     let b = part m a (65 * i) in
-    free .same (i + 1) (viewsOf b (i + 1))
-    ∙ ap (best (taskOf f ws (i + 1))) (views-above b i ∙ shown-below b seen i same)
+    free .same (i + 1) (seen f (viewsOf b (i + 1)))
+    ∙ ap (λ (vs : List View). best (taskOf f ws (i + 1)) (seen f vs)) (views-above b i ∙ shown-below b view i same)
   where
-    seen : ℕ → View
-    seen j = recordAt m (viewPlace (f .carriers) i j)
+    view : ℕ → View
+    view j = recordAt m (viewPlace (f .carriers) i j)
 
-    same : (j : ℕ) → j < i → viewAt (part m a (65 * i)) j ≡ seen j
+    same : (j : ℕ) → j < i → viewAt (part m a (65 * i)) j ≡ view j
     same j k = view-part m a i j k l ∙ ap (recordAt m) (next-view (f .carriers) i j a e)
 
 -- The part as the code takes it, from the first view to the place behind the last.
@@ -55,7 +56,7 @@ slice-long m a e i h l = omega (arith, ap length (slice-part m a e i h), part-le
 
 pub slice-best : (f : Floor) (ws rows m : List ℕ) (i a e : ℕ) → FreeRows f ws rows → a ≡ viewPlace (f .carriers) i 0 →
     e ≡ a + 65 * i → e ≤ length m →
-    best (taskOfRows f rows (i + 1)) (viewsOf (take (e - a) (drop a m)) (i + 1)) ≡ bestIn (machineOf f ws) m i
+    best (taskOfRows f rows (i + 1)) (seen f (viewsOf (take (e - a) (drop a m)) (i + 1))) ≡ bestIn (machineOf f ws) m i
 slice-best f ws rows m i a e free at h l =
-    ap (λ (b : List ℕ). best (taskOfRows f rows (i + 1)) (viewsOf b (i + 1))) (slice-part m a e i h)
+    ap (λ (b : List ℕ). best (taskOfRows f rows (i + 1)) (seen f (viewsOf b (i + 1)))) (slice-part m a e i h)
     ∙ part-best f ws rows m i a free at (omega arith)

@@ -12,6 +12,7 @@ use Rattle.route.specs.Route.{cellAt}
 use Rattle.route.specs.Moves.{neighbours, near, vacant, passable, every, standable, allowed, startClear}
 use Rattle.route.specs.Search.{cost, cheaper, cheapest, beatsFrom, val, walk, walkFrom, best}
 use Rattle.search.specs.Task.{taskOf}
+use Rattle.records.specs.Seen.{parked, seenAs, seenFrom, seen}
 use Rattle.planner.specs.Plan.{respondOf}
 use Rattle.reference.specs.Ranges.{below, joined, each, update, updatePair}
 use Rattle.reference.specs.State.{fresh, views, tick}
@@ -66,6 +67,7 @@ record Cases : Type 0 where
 
 cases : Cases
 unfolding
+    seen seenFrom seenAs parked
     _then_ demand inTurn demandEach passes _gives_ whenPassed put
     within limitsOf roomOf lentOf startOf goalOf inGrid carrierInGrid carriersOf wallsOf rises risingOf
     among clearOfWalls clearOf unshared distinctOf placesOf checkOf

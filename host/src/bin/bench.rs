@@ -207,6 +207,11 @@ impl Lent {
         (record[0] == 2).then_some(&record[1..])
     }
 
+    /// Where the carrier is for those below it.
+    fn occupied(&self, i: usize) -> paper::Route {
+        paper::occupied(&self.floor, i, self.route(i).map(|route| route.try_into().unwrap()))
+    }
+
     fn arrival(&self, i: usize) -> Option<usize> {
         self.route(i).map(|route| paper::arrival_of(route.try_into().unwrap(), self.floor.goals[i], self.floor.horizon))
     }
@@ -217,9 +222,7 @@ impl Lent {
         (0..self.floor.carriers())
             .map(|i| {
                 let found = table.search(&self.floor, self.floor.starts[i], self.floor.goals[i]);
-                if let Some(route) = self.route(i) {
-                    table.reserve(&self.floor, route);
-                }
+                table.reserve(&self.floor, &self.occupied(i));
                 found.map(|(arrival, _)| arrival)
             })
             .collect()
@@ -230,9 +233,7 @@ impl Lent {
         (0..self.floor.carriers())
             .map(|i| {
                 let found = table.search(&self.floor, self.floor.starts[i], self.floor.goals[i]);
-                if let Some(route) = self.route(i) {
-                    table.reserve(&self.floor, i, route);
-                }
+                table.reserve(&self.floor, i, &self.occupied(i));
                 found.map(|(arrival, _)| arrival)
             })
             .collect()
@@ -243,14 +244,10 @@ impl Lent {
         let mut table = astar::Flat::new(&self.floor);
         let mut answers = Vec::with_capacity(self.answers.len());
         for i in 0..self.floor.carriers() {
-            match table.best(&self.floor, self.floor.starts[i], self.floor.goals[i]) {
-                None => answers.extend([&[1][..], &[0; 64]].concat()),
-                Some((_, route)) => {
-                    table.reserve(&self.floor, i, &route);
-                    answers.push(2);
-                    answers.extend(route);
-                }
-            }
+            let found = table.best(&self.floor, self.floor.starts[i], self.floor.goals[i]).map(|(_, route)| route);
+            table.reserve(&self.floor, i, &paper::occupied(&self.floor, i, found));
+            answers.push(if found.is_some() { 2 } else { 1 });
+            answers.extend(found.unwrap_or([0; 64]));
         }
         answers
     }

@@ -316,10 +316,9 @@ mod tests {
                 assert_eq!(hashed.search(&floor, start, goal).map(|found| found.0), arrival, "{floor:?}");
                 assert_eq!(flat.search(&floor, start, goal).map(|found| found.0), arrival, "{floor:?}");
                 assert_eq!(flat.best(&floor, start, goal).map(|found| found.1), answers[i], "{floor:?}");
-                if let Some(route) = answers[i] {
-                    hashed.reserve(&floor, &route);
-                    flat.reserve(&floor, i, &route);
-                }
+                let route = paper::occupied(&floor, i, answers[i]);
+                hashed.reserve(&floor, &route);
+                flat.reserve(&floor, i, &route);
             }
         }
         assert!(routes > 2000, "{routes} routes");

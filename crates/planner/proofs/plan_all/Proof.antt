@@ -1,28 +1,30 @@
--- `planner::plan_all` meets its contract. The loop's invariant: the answers of the carriers passed stand in front, and the room is what
--- they leave. The measure is what is left of the carriers. Assumes nothing.
-use Prim.Native.Nat.{ℕ, _*_, _-_, _≤_}
+-- `planner::plan_all` meets its contract. The loop's invariant: the answers of the carriers passed stand in front, are shown as they are
+-- seen, and the room is what they leave. The measure is what is left of the carriers. Assumes nothing.
+use Prim.Native.Nat.{ℕ, _-_, _≤_}
 use native.Mathlib.Omega.{arith}
 use mathlib.Core.List.{[]}
 use mathlib.Core.Path.{_≡_, sym, ap, _∙_}
 use borrow.Author.Needs.{needs}
 use lib.ListN.{length, length-replicate}
-use lib.Seq.{length-take-le}
 use Rattle.route.specs.Sequential.{sequential}
 use Rattle.tables.specs.Table.{sceneOf}
 use Rattle.tables.specs.Room.{Roomy}
+use Rattle.records.specs.Records.{records, stored}
+use Rattle.records.specs.Seen.{seen}
+use Rattle.records.proofs.SeenLaws.{seen-start}
 use Rattle.planner.specs.Plan.{respondWith}
 use Rattle.planner.specs.Records.{answered}
-use Rattle.records.specs.Records.{stored}
 use Rattle.planner.proofs.PlanLaws.{plan-start, plan-more, plan-keeps, plan-end}
 use Rattle.planner.proofs.plan_all.Statement.{statement}
 use Rattle.planner.proofs.plan_all.Tie as tie
 
 abbrev Inv-loop : tie.InvT-loop
-Inv-loop f free answers₀ n room₀ i₀ answers room i =
-    (i ≤ n) × (answers ≡ stored (sequential (respondWith f free) i) answers₀) × Roomy (sceneOf f) i free answers room
+Inv-loop f free answers₀ n room₀ shown₀ i₀ answers room shown i =
+    (i ≤ n) × (answers ≡ stored (sequential (respondWith f free) i) answers₀) × Roomy (sceneOf f) i free shown room
+    × (length shown ≡ 520) × (records shown i ≡ seen f (records answers i))
 
 abbrev μ-loop : tie.MeasureT-loop
-μ-loop f free answers₀ n room₀ i₀ answers room i = n - i
+μ-loop f free answers₀ n room₀ shown₀ i₀ answers room shown i = n - i
 
 slice-aggregate-fill-room : tie.Need-slice-aggregate-fill-room Inv-loop μ-loop
 slice-aggregate-fill-room c = sym (ap length (c .before .no-room .ensures) ∙ length-replicate {A = ℕ} 2304 0)
@@ -36,25 +38,37 @@ fill-room-requires c κs =
 
 loop-holds : tie.Need-loop-holds Inv-loop μ-loop
 loop-holds c =
-    let start : tie.Start Inv-loop μ-loop = search in
-    (search needs, plan-start _ _ (start .pre .horizon) _, c .before .fill-room .ensures _)
+    let after-blank : tie.After-blank Inv-loop μ-loop = search in
+    let after-fill-room : tie.After-fill-room Inv-loop μ-loop = search in
+    let start : tie.Start Inv-loop μ-loop = search in (
+      search needs,
+      plan-start _ _ (start .pre .horizon) _,
+      after-fill-room .fill-room .ensures _,
+      ap length (after-blank .blank .ensures) ∙ length-replicate {A = ℕ} 520 0,
+      seen-start _ _ _,
+    )
 
 slice-aggregate-plan-one : tie.Need-slice-aggregate-plan-one Inv-loop μ-loop
-slice-aggregate-plan-one c = sym (c .before .before .loop .inv .2 .tidy .long)
+slice-aggregate-plan-one c =
+    let at-loop : tie.At-loop Inv-loop μ-loop = search in
+    sym (at-loop .loop .inv .2 .tidy .long)
+
+slice-aggregate-plan-one-2 : tie.Need-slice-aggregate-plan-one-2 Inv-loop μ-loop
+slice-aggregate-plan-one-2 c =
+    let at-loop : tie.At-loop Inv-loop μ-loop = search in
+    sym (at-loop .loop .inv .3)
 
 plan-one-requires : tie.Need-plan-one-requires Inv-loop μ-loop
 plan-one-requires c κs =
+    let in-loop : tie.In-loop Inv-loop μ-loop = search in
     let at-loop : tie.At-loop Inv-loop μ-loop = search in
     let start : tie.Start Inv-loop μ-loop = search in
     let p = start .pre in
     let i = at-loop .loop .i in
-    let size = plan-keeps _ _ (p .horizon) i _ _ (omega (arith, p .room)) (at-loop .loop .inv .1) in (
-      (omega (arith, p .few), omega (arith, p .room)),
-      (
-        p .searchable i _ (c .before .before .loop-test .taken)
-            (omega (arith, length-take-le (65 * i) (at-loop .loop .answers) (omega (arith, p .room)))),
-        at-loop .loop .inv .2,
-      ),
+    let inv = at-loop .loop .inv in
+    let size = plan-keeps _ _ (p .horizon) i _ _ (omega (arith, p .room)) (inv .1) in (
+      (omega (arith, p .few), omega (arith, p .room), omega (arith, p .few, inv .3)),
+      ((p .searchable i _ (in-loop .loop-test .taken) (omega (arith, p .few, inv .3)), inv .4), inv .2),
     )
 
 loop-again : tie.Need-loop-again Inv-loop μ-loop
@@ -63,11 +77,13 @@ loop-again c =
     let after-plan-one : tie.After-plan-one Inv-loop μ-loop = search in
     let at-loop : tie.At-loop Inv-loop μ-loop = search in
     let start : tie.Start Inv-loop μ-loop = search in
-    let p = start .pre in (
+    let p = start .pre in
+    let made = after-plan-one .plan-one .ensures in (
       search needs,
-      plan-more _ _ (p .horizon) (at-loop .loop .i) _ _ _ (omega (arith, p .room)) (at-loop .loop .inv .1)
-          (after-plan-one .plan-one .ensures .0),
-      after-plan-one .plan-one .ensures .1,
+      plan-more _ _ (p .horizon) (at-loop .loop .i) _ _ _ (omega (arith, p .room)) (at-loop .loop .inv .1) (made .0),
+      made .1 .1,
+      search needs,
+      made .1 .0,
     )
 
 same-length : tie.Need-same-length Inv-loop μ-loop
@@ -84,5 +100,6 @@ returns c =
 
 pub plan-all-spec : {M : Type 1} → statement M
 plan-all-spec =
-    tie.close (tie.spec Inv-loop μ-loop (λ c κs. search needs) slice-aggregate-fill-room fill-room-requires loop-holds
-    slice-aggregate-plan-one plan-one-requires (λ c. search needs) (λ c. search needs) loop-again same-length returns)
+    tie.close (tie.spec Inv-loop μ-loop (λ c κs. search needs) slice-aggregate-fill-room fill-room-requires (λ c κs. search needs) loop-holds
+    slice-aggregate-plan-one slice-aggregate-plan-one-2 plan-one-requires (λ c. search needs) (λ c. search needs) loop-again same-length
+    returns)

@@ -1,60 +1,67 @@
--- `planner::plan_one` meets its contract: what the search found, stored with its tag, is the record of its answer, and the room without
--- it is that of one more answer. Assumes nothing.
-use Prim.Native.Nat.{ℕ, _*_}
+-- `planner::plan_one` meets its contract: what the search found, stored with its tag, is the record of its answer; as it is seen it stands
+-- beside the others, and the room without it is that of one more answer. Assumes nothing.
+use Prim.Native.Nat.{ℕ}
 use native.Mathlib.Omega.{arith}
 use mathlib.Core.List.{_∷_}
-use mathlib.Core.Path.{_∙_, sym, ap}
+use mathlib.Core.Path.{_∙_, ap}
 use borrow.Author.Needs.{needs}
-use lib.Seq.{length-take-le}
-use denote.Ref.{now}
-use Rattle.laws.specs.Memory.{put}
-use Rattle.planner.specs.Plan.{respondWith}
-use Rattle.planner.specs.Records.{answered}
+use Rattle.records.proofs.SeenLaws.{seen-step}
 use Rattle.planner.proofs.RecordLaws.{found-record}
+use Rattle.planner.proofs.PlanLaws.{shown-stored, still-long, still-shows}
 use Rattle.planner.proofs.RoomLaws.{room-above, room-stored}
 use Rattle.planner.proofs.plan_one.Statement.{statement}
 use Rattle.planner.proofs.plan_one.Tie as tie
 
-slice-aggregate-route-in : tie.Need-slice-aggregate-route-in
-slice-aggregate-route-in c =
-    let start : tie.Start = search in
-    sym (length-take-le _ _ (omega (arith, start .pre .0)))
-
 route-in-requires : tie.Need-route-in-requires
 route-in-requires c κs =
     let start : tie.Start = search in
-    let p = start .pre .1 in
-    (p .0, room-above _ _ _ _ _ _ (p .0) _ (p .1))
+    let p = start .pre in
+    (p .1 .0 .0, room-above _ _ _ _ _ _ (p .1 .0 .0) _ (p .1 .1))
+
+store-seen-requires : tie.Need-store-seen-requires
+store-seen-requires c κs =
+    let after-store : tie.After-store = search in
+    let start : tie.Start = search in
+    let p = start .pre in
+    (p .0 .0, p .1 .0 .0 .horizon, omega (arith, p .0, after-store .store .kept .0), p .0 .2)
 
 take-route-requires : tie.Need-take-route-requires
 take-route-requires c κs =
-    let after-store : tie.After-store = search in
+    let after-store-seen : tie.After-store-seen = search in
     let start : tie.Start = search in
-    let able = start .pre .1 .0 in (
+    let able = start .pre .1 .0 .0 in (
       (able .width .0, able .width .1, able .height, able .horizon),
-      (omega (arith, start .pre .0, after-store .store .kept .0), start .pre .1 .1 .tidy),
+      (omega (arith, start .pre .0, after-store-seen .store-seen .kept .1 .1 .1 .0), start .pre .1 .1 .tidy),
     )
 
 returns : tie.Need-returns
-unfolding answered respondWith
 returns c =
+    let after-take-route : tie.After-take-route = search in
+    let after-store-seen : tie.After-store-seen = search in
     let after-store : tie.After-store = search in
     let after-tag-of : tie.After-tag-of = search in
     let after-route-in : tie.After-route-in = search in
     let start : tie.Start = search in
     let found = after-route-in .route-in in
-    let at = 65 * start .args .i in
-    let old = now (start .args .answers) in (
-      after-store .store .ensures
-          ∙ ap (λ (tag : ℕ). put old at (tag ∷ found .result .route)) (after-tag-of .tag-of .ensures)
-          ∙ ap (put old at) (found-record (found .result) _ (found .ensures)),
-      c .before .before .take-route .ensures _
-          (room-stored _ _ _ _ _ _ (start .pre .1 .0) _ _ _ (omega (arith, start .pre .0)) (after-store .store .ensures)
-          (start .pre .1 .1)),
+    let p = start .pre in
+    let able = p .1 .0 .0 in
+    let before = p .1 .0 .1 in
+    let rec = ap (λ (tag : ℕ). tag ∷ found .result .route) (after-tag-of .tag-of .ensures)
+    ∙ found-record (found .result) _ (found .ensures) in
+    let e = shown-stored _ _ (start .args .i) _ _ _ (able .horizon) (p .0 .1) before _ rec (after-store .store .ensures) in
+    let long = still-long _ _ (start .args .i) _ _ _ (able .horizon) (p .0 .1) before e in
+    let shows = still-shows _ _ (start .args .i) _ _ _ (able .horizon) (p .0 .1) before e in (
+      e,
+      (
+        seen-step _ _ _ _ (start .args .i) (able .horizon) (p .0 .2) (omega (arith, p .0, long))
+            (after-store-seen .store-seen .ensures) shows,
+        after-take-route .take-route .ensures _
+            (room-stored _ _ _ _ _ _ able _ _ _ (omega (arith, p .0)) (after-store-seen .store-seen .ensures) (p .1 .1)),
+      ),
     )
 
 pub plan-one-spec : {M : Type 1} → statement M
 plan-one-spec =
-    tie.close (tie.spec (λ c. search needs) (λ c. search needs) (λ c. search needs) slice-aggregate-route-in
-    route-in-requires (λ c κs. search needs) (λ c κs. search needs) take-route-requires (λ c. search needs)
+    tie.close (tie.spec (λ c. search needs) route-in-requires (λ c. search needs) (λ c κs. search needs)
+    (λ c κs. search needs) store-seen-requires take-route-requires (λ c. search needs) (λ c. search needs)
     (λ c. search needs) returns)

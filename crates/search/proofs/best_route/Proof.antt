@@ -1,32 +1,37 @@
--- `search::best_route` meets its contract: the room of the floor is made, and the search is in it. Assumes nothing.
-use Rattle.search.proofs.SearchLaws.{scene-fits, scene-clean, room-scene}
+-- `search::best_route` meets its contract: the records as they are seen show the views as they are seen. Assumes nothing.
+use Rattle.search.proofs.SearchLaws.{other-views, shown-best}
+use Rattle.search.proofs.AnswerLaws.{says-same}
+use native.Mathlib.Omega.{arith}
+use mathlib.Core.Path.{sym}
 use borrow.Author.Needs.{needs}
 use Rattle.search.proofs.best_route.Statement.{statement}
 use Rattle.search.proofs.best_route.Tie as tie
 
-scene-of-requires : tie.Need-scene-of-requires
-scene-of-requires c κs =
-    let p = c .before .before .pre in
-    (p .width .0, p .width .1, p .height)
-
-make-requires : tie.Need-make-requires
-make-requires c κs =
-    let after-empty : tie.After-empty = search in
+seen-records-requires : tie.Need-seen-records-requires
+seen-records-requires c κs =
     let start : tie.Start = search in
     let p = start .pre in
-    let q = c .before .before .scene-of .ensures in
-    ((scene-fits p q, scene-clean p q, p .long), after-empty .empty .ensures)
+    (omega (arith, p .listed), p .horizon, p .lent)
 
-route-in-requires : tie.Need-route-in-requires
-route-in-requires c κs =
-    let after-scene-of : tie.After-scene-of = search in
+slice-aggregate-best-against : tie.Need-slice-aggregate-best-against
+slice-aggregate-best-against c =
+    let after-seen-records : tie.After-seen-records = search in
+    sym (after-seen-records .seen-records .ensures .0)
+
+best-against-requires : tie.Need-best-against-requires
+best-against-requires c κs =
+    let after-seen-records : tie.After-seen-records = search in
     let start : tie.Start = search in
-    (start .pre, room-scene _ (after-scene-of .scene-of .ensures) (c .before .before .make .ensures))
+    let p = start .pre in
+    other-views p (omega (arith, p .listed, after-seen-records .seen-records .ensures .0))
 
 returns : tie.Need-returns
-returns c = c .route-in .ensures
+returns c =
+    let after-best-against : tie.After-best-against = search in
+    let after-seen-records : tie.After-seen-records = search in
+    says-same (after-best-against .best-against .ensures) (shown-best _ _ _ _ _ (after-seen-records .seen-records .ensures .1))
 
 pub best-route-spec : {M : Type 1} → statement M
 best-route-spec =
-    tie.close (tie.spec (λ c κs. search needs) scene-of-requires (λ c. search needs) (λ c. search needs)
-    (λ c. search needs) make-requires (λ c. search needs) route-in-requires returns)
+    tie.close (tie.spec (λ c. search needs) seen-records-requires slice-aggregate-best-against
+    best-against-requires returns)

@@ -5,10 +5,10 @@ use Rattle.second.proofs.views.met.Statement.{statement}
 use Rattle.second.proofs.views.met.Tie as tie
 
 abbrev Inv-loop : tie.InvT-loop
-Inv-loop views k c j₀ j = Unit {0}
+Inv-loop starts views k c j₀ j = Unit {0}
 
 abbrev μ-loop : tie.MeasureT-loop
-μ-loop views k c j₀ j = k - j
+μ-loop starts views k c j₀ j = k - j
 
 pub met-spec : {M : Type 1} → statement M
 met-spec =
