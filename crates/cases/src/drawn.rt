@@ -1,12 +1,12 @@
 // Drawn orders of drawn floors: half by single steps, half by runs.
-use crate::answers;
-use crate::answers::PASSED;
-use crate::answers::SILENT;
-use crate::answers::SPENT;
 use crate::calls;
-use crate::desk;
 use crate::tally;
 use crate::tally::Tally;
+use commands::answers;
+use commands::answers::PASSED;
+use commands::answers::SILENT;
+use commands::answers::SPENT;
+use commands::desk;
 use script::draws;
 use script::fields::field;
 use script::look;

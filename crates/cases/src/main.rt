@@ -4,15 +4,10 @@
 // answer stands by its reason; `host/tests/cases.rs` has the same answers from an independent implementation of document 01.
 //
 // A line's first letter is its command, and its numbers are the arguments; all other letters are for the reader.
-mod answers;
 mod calls;
-mod desk;
 mod drawn;
 mod orders;
-mod pairs;
 mod play;
-mod routes;
-mod sheets;
 mod spoilt;
 mod states;
 mod tally;

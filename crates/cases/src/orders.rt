@@ -1,12 +1,12 @@
 // Every order of the steps of a small floor: all sequences of open steps until silence, depth first. A list of choices among the steps of
 // the desk is followed from the fresh state; where it leads to a step that is not open, or to silence, its last choice moves on.
-use crate::answers;
-use crate::answers::ENDED;
-use crate::answers::SILENT;
-use crate::answers::SPENT;
 use crate::calls;
 use crate::tally;
 use crate::tally::Tally;
+use commands::answers;
+use commands::answers::ENDED;
+use commands::answers::SILENT;
+use commands::answers::SPENT;
 use script::draws;
 use script::look;
 

@@ -1,16 +1,16 @@
 // The lines of the script, each with its command.
-use crate::answers;
 use crate::calls;
-use crate::desk;
 use crate::drawn;
 use crate::orders;
-use crate::pairs;
-use crate::routes;
-use crate::sheets;
 use crate::spoilt;
 use crate::states;
 use crate::tally;
 use crate::trials;
+use commands::answers;
+use commands::desk;
+use commands::pairs;
+use commands::routes;
+use commands::sheets;
 use floor::Floor;
 use script::fields;
 use script::fields::field;

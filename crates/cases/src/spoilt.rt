@@ -1,6 +1,6 @@
 // One thing changed at a time: each number of a valid state, and the number of a step.
-use crate::answers;
 use crate::calls;
+use commands::answers;
 use script::fields::field;
 use script::look;
 use script::look::both;

@@ -1,6 +1,6 @@
 // Commands on the memory that is lent: states and plans.
-use crate::answers;
 use crate::calls;
+use commands::answers;
 use script::fields::field;
 use script::fields::write;
 use script::look;

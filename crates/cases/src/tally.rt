@@ -1,8 +1,8 @@
 // What is looked at where an order has come to silence.
-use crate::answers;
 use crate::calls;
-use crate::desk;
-use crate::pairs;
+use commands::answers;
+use commands::desk;
+use commands::pairs;
 use script::look;
 use script::look::both;
 use script::records;

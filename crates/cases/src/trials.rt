@@ -1,10 +1,10 @@
 // Trials in the three orders: the report is the memory that is lent, the state is a memory of its own.
-use crate::answers;
-use crate::answers::SILENT;
-use crate::answers::STEPS;
-use crate::desk::floor_of;
-use crate::desk::walls_of;
 use crate::tally;
+use commands::answers;
+use commands::answers::SILENT;
+use commands::answers::STEPS;
+use commands::desk::floor_of;
+use commands::desk::walls_of;
 use script::fields::field;
 use script::look;
 use trial::Tried;

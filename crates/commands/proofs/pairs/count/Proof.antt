@@ -1,8 +1,8 @@
--- `cases::pairs::count` is safe and ends: each pair in turn.
+-- `commands::pairs::count` is safe and ends: each pair in turn.
 use Prim.Native.Nat.{_-_}
 use borrow.Author.Needs.{needs}
-use Rattle.cases.proofs.pairs.count.Statement.{statement}
-use Rattle.cases.proofs.pairs.count.Tie as tie
+use Rattle.commands.proofs.pairs.count.Statement.{statement}
+use Rattle.commands.proofs.pairs.count.Tie as tie
 
 abbrev Inv-loop : tie.InvT-loop
 Inv-loop desk m kind n₀ k₀ n k = Unit {0}

@@ -1,10 +1,10 @@
--- `cases::desk::rising_walls` is safe and ends: each wall in turn.
+-- `commands::desk::rising_walls` is safe and ends: each wall in turn.
 use Prim.Native.Nat.{_-_}
 use mathlib.Core.Path.{_≡_}
 use lib.ListN.{length}
 use borrow.Author.Needs.{needs}
-use Rattle.cases.proofs.desk.rising_walls.Statement.{statement}
-use Rattle.cases.proofs.desk.rising_walls.Tie as tie
+use Rattle.commands.proofs.desk.rising_walls.Statement.{statement}
+use Rattle.commands.proofs.desk.rising_walls.Tie as tie
 
 abbrev Inv-loop : tie.InvT-loop
 Inv-loop desk₀ n i₀ desk i = length desk ≡ length desk₀
