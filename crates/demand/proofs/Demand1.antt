@@ -42,6 +42,7 @@ use Rattle.layout.specs.Encode.{encode}
 use Rattle.layout.specs.Places.{stateSize}
 use Rattle.layout.specs.Valid.{valid}
 use Rattle.layout.specs.Calls.{machineOf, placeVerdict, stateVerdict, stateIn, withState, freshMemory, replyTo, memoryAfter}
+use Rattle.layout.proofs.StateLaws.{encode-beyond}
 use Rattle.layout.proofs.Theorems.{theorems as layout-theorems}
 use Rattle.machine.specs.Ceiling.{mostSteps}
 use Rattle.trial.specs.Report.{numbersOf, reportSize}
@@ -51,7 +52,8 @@ use Rattle.demand.specs.Rows.{Table, Row, row, Short, _orElse_, earlier,
 use Rattle.demand.specs.Demand1.{HoldsState, ReadRows, WriteRows, PlanRows, PrintRows, SearchRows, FreshRows, StateRows, CallRows}
 use Rattle.demand.specs.Demand1.{TrialRows, RoutesRows, Demand1}
 use Rattle.demand.proofs.RowLaws.{then-rows, answers-rows, gives-rows, demand-row, short-row, keeps-when, value-no-refusal, no-row-passes, passes-exactly, refusal-row}
-use Rattle.demand.proofs.EntryLaws.{front-beyond, put-beyond, floor-rows, lent-rows, outside-row, limit-rows}
+use Rattle.laws.proofs.PutLaws.{front-beyond, put-beyond}
+use Rattle.demand.proofs.EntryLaws.{floor-rows, lent-rows, outside-row, limit-rows}
 use Rattle.demand.proofs.RefusalLaws.{reply-rows, state-kept}
 
 module _ (text : List ℕ) where
@@ -128,7 +130,7 @@ module _ (f : Floor) (ws : List ℕ) where
   fresh-rows room = lent-rows f ws (stateSize (f .carriers)) room
 
   state-beyond : (s : State) (m : List ℕ) → drop (stateSize (f .carriers)) (withState f m s) ≡ drop (stateSize (f .carriers)) m
-  state-beyond s m = put-beyond m (encode (f .carriers) s) (stateSize (f .carriers)) (omega (arith, layout-theorems .encode-length (f .carriers) s))
+  state-beyond s m = encode-beyond (f .carriers) s m
 
   fresh-keeps : (old : List ℕ) → Keeps (FreshRows f ws (length old)) (lengthsOf f .state) old (freshMemory f ws old)
   unfolding freshMemory lengthsOf

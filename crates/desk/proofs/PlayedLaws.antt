@@ -9,9 +9,9 @@ use borrow.Author.Tests.{le-leb}
 use lib.ListN.{length, take, length-append}
 use lib.Seq.{take-at}
 use Rattle.laws.specs.Memory.{put}
-use Rattle.laws.specs.Verdict.{Verdict, value, refusal, passed, refused, _then_, _gives_}
+use Rattle.laws.specs.Verdict.{Verdict, passed, refused, _then_, _gives_}
 use Rattle.laws.proofs.Tests.{lt-or-le}
-use Rattle.laws.proofs.VerdictLaws.{then-passed, demand-passes, demand-cases, when-passed}
+use Rattle.laws.proofs.VerdictLaws.{then-passed, demand-passes, demand-cases, when-passed, given-value, given-refusal}
 use Rattle.floor.specs.declared.Floor.{Floor}
 use Rattle.floor.specs.declared.Refusal.{Refusal}
 use Rattle.floor.specs.Checks.{checkOf, roomOf, within}
@@ -35,10 +35,10 @@ use Rattle.trial.proofs.ReportLaws.{numbers-length}
 use Rattle.trial.proofs.Theorems.{theorems as trial-theorems}
 use Rattle.sheet.specs.Values.{floorAt, wallsAt}
 use Rattle.sheet.specs.Read.{sheetVerdict}
-use Rattle.printing.proofs.PrintLaws.{WasRead}
+use Rattle.printing.proofs.PrintLaws.{WasRead, refusal-length}
 use Rattle.io.specs.Counts.{Counts}
 use Rattle.desk.specs.Text.{orderVerdict, playedText, trialText}
-use Rattle.desk.proofs.TextLaws.{stands, counts, refusal-length}
+use Rattle.desk.proofs.TextLaws.{counted}
 
 -- The largest figures.
 ceiling-most : (n : ℕ) → n ≤ 8 → ceiling n ≤ 502
@@ -70,63 +70,46 @@ module _ (f : Floor) (ws : List ℕ) (ok : checkOf f ws ≡ passed) where
   pub report-short : (order seed : ℕ) → length (trialOf f ws order seed .report) ≤ 502
   report-short order seed = omega (arith, trial-theorems .ends f ws order seed ok .within, ceiling-most (f .carriers) few)
 
-  -- Steps taken, or a refusal.
-  module _ (order seed state report : ℕ) (r : Tried) (wide : 9666 ≤ state) (long : 1004 ≤ report)
-      (answers : triedOutcome r ≡ trialOutcome f ws order seed state report) where
-    said : triedOutcome r ≡ (orderVerdict order gives length (trialOf f ws order seed .report))
-    unfolding trialOutcome
-    said = answers ∙ ap (λ (v : Verdict). v gives length (trialOf f ws order seed .report)) (order-decides order state report wide long)
+  -- In that memory the answer is the order's verdict, or all steps.
+  pub order-says : (order seed state report : ℕ) (r : Tried) → 9666 ≤ state → 1004 ≤ report
+      → triedOutcome r ≡ trialOutcome f ws order seed state report
+      → triedOutcome r ≡ (orderVerdict order gives length (trialOf f ws order seed .report))
+  unfolding trialOutcome
+  order-says order seed state report r wide long e =
+      e ∙ ap (λ (v : Verdict). v gives length (trialOf f ws order seed .report)) (order-decides order state report wide long)
 
+  -- Steps taken, or a refusal.
+  module _ (order seed : ℕ) (r : Tried) (said : triedOutcome r ≡ (orderVerdict order gives length (trialOf f ws order seed .report))) where
     pub steps-told : (t : ℕ) → r ≡ Steps t → (orderVerdict order ≡ passed) × (t ≡ length (trialOf f ws order seed .report))
-    unfolding triedOutcome _gives_
-    steps-told t e = go (orderVerdict order) refl
-      where
-        go : (v : Verdict) → orderVerdict order ≡ v → (orderVerdict order ≡ passed) × (t ≡ length (trialOf f ws order seed .report))
-        go passed h =
-            let same : value t ≡ value (length (trialOf f ws order seed .report)) = sym (ap triedOutcome e) ∙ said ∙ rw h in
-            (h, cc)
-        go (refused k p) h =
-            let same : value t ≡ refusal k p = sym (ap triedOutcome e) ∙ said ∙ rw h in
-            let z : _≡_ {A = ℕ} 0 1 = cc in
-            absurd (omega arith)
+    unfolding triedOutcome
+    steps-told t e = given-value (orderVerdict order) _ t (sym (ap triedOutcome e) ∙ said)
 
     pub steps-low : (t : ℕ) → r ≡ Steps t → t ≤ 502
     steps-low t e = omega (arith, steps-told t e .1, report-short order seed)
 
     pub refusal-told : (x : Refusal) → r ≡ Refused x → (orderVerdict order ≡ refused (x .number) (x .place)) × (x .place ≡ 0)
-    unfolding orderVerdict triedOutcome _gives_
-    refusal-told x e = go (orderVerdict order) refl
-      where
-        told : triedOutcome r ≡ refusal (x .number) (x .place)
-        told = ap triedOutcome e
+    unfolding orderVerdict triedOutcome
+    refusal-told x e =
+        let told = given-refusal (orderVerdict order) _ (x .number) (x .place) (sym (ap triedOutcome e) ∙ said) in
+        (told, omega (arith, demand-cases (within 1 3 order) 11 0 (x .number) (x .place) told))
 
-        go : (v : Verdict) → orderVerdict order ≡ v → (orderVerdict order ≡ refused (x .number) (x .place)) × (x .place ≡ 0)
-        go passed h =
-            let same : refusal (x .number) (x .place) ≡ value (length (trialOf f ws order seed .report)) = sym told ∙ said ∙ rw h in
-            let z : _≡_ {A = ℕ} 0 1 = cc in
-            absurd (omega arith)
-        go (refused a b) h =
-            let same : refusal (x .number) (x .place) ≡ refusal a b = sym told ∙ said ∙ rw h in
-            let number : x .number ≡ a = cc in
-            let place : x .place ≡ b = cc in
-            let no = demand-cases (within 1 3 order) 11 0 a b h in
-            (rw (number, place) h, omega (arith, no))
-
-    -- The report's numbers stand in front of its memory.
-    pub report-front : (old new : List ℕ) (t : ℕ) → r ≡ Steps t → report ≡ length old → new ≡ reportTried f ws order seed state old
-        → take (2 * t) new ≡ numbersOf (trialOf f ws order seed .report)
-    unfolding reportTried put
-    report-front old new t e l stores =
-        let told = steps-told t e in
-        let ok = order-decides order state report wide long ∙ told .0 in
-        let es = trialOf f ws order seed .report in
-        let same : trialVerdict f ws order state (length old) ≡ passed = rw (← l) ok in
-        rw (stores ∙ when-passed _ same) (take-at (numbersOf es) _ (2 * t) (omega (arith, numbers-length es, told .1)))
+  -- The report's numbers stand in front of its memory.
+  pub report-front : (order seed state : ℕ) (old new : List ℕ) (t : ℕ) → 9666 ≤ state → 1004 ≤ length old
+      → (orderVerdict order ≡ passed) × (t ≡ length (trialOf f ws order seed .report)) → new ≡ reportTried f ws order seed state old
+      → take (2 * t) new ≡ numbersOf (trialOf f ws order seed .report)
+  unfolding reportTried put
+  report-front order seed state old new t wide long told stores =
+      let ok = order-decides order state (length old) wide long ∙ told .0 in
+      let es = trialOf f ws order seed .report in
+      rw (stores ∙ when-passed _ ok) (take-at (numbersOf es) _ (2 * t) (omega (arith, numbers-length es, told .1)))
 
   -- The whole text has at most 13,217 bytes.
-  pub routes-short : length (printOf f ws) ≤ 2659
+  pub routes-room : textLength f ≤ 2659
   unfolding textLength
-  routes-short = omega (arith, printing-theorems .text-within f ws ok, few)
+  routes-room = omega (arith, few)
+
+  pub routes-short : length (printOf f ws) ≤ 2659
+  routes-short = omega (arith, printing-theorems .text-within f ws ok, routes-room)
 
   pub text-short : (order : ℕ) (xs : List ℕ) → length xs ≤ 1004 → length (reportText (f .carriers) order xs ++ printOf f ws) ≤ 13217
   unfolding reportLength entries
@@ -178,11 +161,12 @@ module _ (text old new : List ℕ) (order seed n : ℕ) (enough : 13217 ≤ leng
       let fits : length (orRefusal (orderVerdict order) (playedText f (take (f .walls) walls) order seed)) ≤ length old =
       omega (arith, either-short f (take (f .walls) walls) (r .checked) order seed)
       in
-      (counts _ _ _ _ t fits, stands _ _ _ _ t fits ∙ same)
+      let c = counted _ _ _ _ t fits in
+      (c .0, c .1 ∙ same)
 
   pub refused-printed : (k p : ℕ) → sheetVerdict text ≡ refused k p → TextPut (refusalLine k p) old new n
       → Counts n new × (take n new ≡ trialText text order seed)
   unfolding trialText orRefusal _then_
   refused-printed k p h t =
-      let fits : length (refusalLine k p) ≤ length old = omega (arith, refusal-length k p) in
-      (counts _ _ _ _ t fits, rw h (stands _ _ _ _ t fits))
+      let c = counted _ _ _ _ t (omega (arith, refusal-length k p)) in
+      (c .0, rw h (c .1))

@@ -6,34 +6,17 @@ ghost use lib.ListN.{length, take};
 ghost use Rattle.io.specs.Counts.{Counts};
 ghost use Rattle.laws.specs.Verdict.{passed};
 ghost use Rattle.floor.specs.Checks.{checkOf};
-ghost use Rattle.printing.specs.Text.{refusalLine};
 ghost use Rattle.printing.specs.Print.{printOf, orRefusal};
 ghost use Rattle.printing.specs.Put.{TextPut};
 ghost use Rattle.reporting.specs.Text.{reportText};
 ghost use Rattle.desk.specs.Text.{orderVerdict, playedText, trialText};
 use floor::Checked;
 use floor::Floor;
-use floor::Refusal;
-use printing::Printed;
 use trial::Tried;
 
 // The length of the longest text: the report of 502 steps (16 bytes, and 21 a step), the routes of eight carriers (11 bytes, and 331 a
 // carrier).
 pub const TEXT_LENGTH: usize = 13217;
-
-// Room for the most walls that a floor can have.
-fn no_walls() -> [u16; 1023]
-    ensures { λ r. ⌜ 1023 ≡ length r ⌝ }
-{
-    [0; 1023]
-}
-
-// Room for the answers of the most carriers.
-fn no_answers() -> [u16; 520]
-    ensures { λ r. ⌜ 520 ≡ length r ⌝ }
-{
-    [0; 520]
-}
 
 // Room for the state of the most carriers.
 fn no_state() -> [u16; 9666]
@@ -49,31 +32,6 @@ fn no_report() -> [u16; 1004]
     [0; 1004]
 }
 
-// Puts the line of a refusal; its length is returned.
-fn put_refusal(x: Refusal, out: &mut [u8]) -> usize
-    requires { ⌜ (x .place ≤ 65535) × (16 ≤ length (now out)) ⌝ }
-    ensures { λ r. ⌜ TextPut (refusalLine (x .number) (x .place)) (now (out .entry)) (now (out .exit)) r ⌝ }
-{
-    let printed = printing::print_refusal(x, out);
-    let Printed::Written(n) = printed else {
-        return 0;
-    };
-    n
-}
-
-// Puts the routes of an accepted floor; their length is returned.
-fn put_routes(f: Floor, walls: &[u16], out: &mut [u8]) -> usize
-    requires { ⌜ (checkOf f (now walls) ≡ passed) × (2659 ≤ length (now out)) ⌝ }
-    ensures { λ r. ⌜ TextPut (printOf f (now (walls .entry))) (now (out .entry)) (now (out .exit)) r ⌝ }
-{
-    let mut answers = no_answers();
-    let printed = printing::print(f, walls, &mut answers, out);
-    let Printed::Written(n) = printed else {
-        return 0;
-    };
-    n
-}
-
 // Puts a report and, behind it, the routes of its floor; the length of both is returned.
 fn put_played(f: Floor, walls: &[u16], order: u16, report: &[u16], out: &mut [u8]) -> usize
     requires { ⌜ (checkOf f (now walls) ≡ passed) × ((length (now report) ≤ 1004) × (13217 ≤ length (now out))) ⌝ }
@@ -81,7 +39,7 @@ fn put_played(f: Floor, walls: &[u16], order: u16, report: &[u16], out: &mut [u8
         (now (out .entry)) (now (out .exit)) r ⌝ }
 {
     let n = reporting::put_report(f.carriers, order, report, out);
-    n + put_routes(f, walls, &mut out[n..])
+    n + printing::put_routes(f, walls, &mut out[n..])
 }
 
 // Plays a trial of a floor that was read, with its walls in front of `walls`, and puts its text; its length is returned.
@@ -97,7 +55,7 @@ fn put_trial(f: Floor, walls: &[u16], order: u16, seed: u32, out: &mut [u8]) -> 
     let tried = trial::trial(f, &walls[..k], order, seed, &mut state, &mut report);
     match tried {
         Tried::Steps(t) => put_played(f, &walls[..k], order, &report[..2 * t], out),
-        Tried::Refused(x) => put_refusal(x, out),
+        Tried::Refused(x) => printing::put_refusal(x, out),
     }
 }
 
@@ -107,12 +65,12 @@ pub fn print(text: &[u8], order: u16, seed: u32, out: &mut [u8; TEXT_LENGTH]) ->
     ensures counts { λ r. ⌜ Counts r (now (out .exit)) ⌝ }
     ensures prints { λ r. ⌜ take r (now (out .exit)) ≡ trialText (now (text .entry)) order seed ⌝ }
 {
-    let mut walls = no_walls();
+    let mut walls = sheet::no_walls();
     let reading = sheet::read(text, &mut walls);
     let checked = reading.answer;
     let f = reading.floor;
     let Checked::Refused(x) = checked else {
         return put_trial(f, &walls, order, seed, out);
     };
-    put_refusal(x, out)
+    printing::put_refusal(x, out)
 }

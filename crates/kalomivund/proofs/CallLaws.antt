@@ -1,6 +1,5 @@
 -- The lent state of a call of the machine: kept with a refusal, and never written beyond its needed length.
 use Prim.Native.Nat.{ℕ}
-use native.Mathlib.Omega.{arith}
 use mathlib.Core.Path.{_≡_, refl, sym, _∙_}
 use mathlib.Core.List.{List}
 use lib.ListN.{drop}
@@ -10,17 +9,16 @@ use Rattle.reference.specs.State.{Machine}
 use Rattle.reference.specs.Table.{Call, single, runOf, step as Asked·step, noStep}
 use Rattle.layout.specs.Places.{stateSize}
 use Rattle.reference.specs.Calls.{afterCall}
-use Rattle.layout.specs.Encode.{encode}
 use Rattle.layout.specs.Calls.{machineOf, stateVerdict, stateIn, replyTo, memoryAfter, singleCall, runCall}
 use Rattle.layout.specs.InnerCalls.{verdictIn, replyIn, grantedMemory, memoryIn}
 use Rattle.layout.proofs.SimulationLaws.{reply-in, memory-in}
-use Rattle.layout.proofs.Theorems.{theorems as layout-theorems}
+use Rattle.layout.proofs.StateLaws.{encode-beyond}
 use Rattle.wire.specs.Word.{wordOf, mapOutcome}
 use Rattle.wire.specs.Record.{floorOf}
 use Rattle.kalomivund.specs.Answers.{ofReply, toldDone}
 use Rattle.kalomivund.specs.Entries.{stepWord, stepStored, runWord, runStored}
 use Rattle.kalomivund.specs.Claims.{Refuses, Lent}
-use Rattle.kalomivund.proofs.KeepLaws.{put-beyond, checked-kept, after-kept, checked-beyond, record-lent}
+use Rattle.kalomivund.proofs.KeepLaws.{checked-kept, after-kept, checked-beyond, record-lent}
 
 -- A memory that is left or kept is itself.
 same-kept : (v : Verdict) (m : List ℕ) → whenPassed v m m ≡ m
@@ -48,7 +46,7 @@ module _ (f : Floor) (ws m : List ℕ) (c : Call) where
   call-beyond =
       let z = afterCall (machineOf f ws) (stateIn f m) c in
       checked-beyond (stateVerdict f ws m) (stateSize (f .carriers)) _ m
-      (λ e. put-beyond (stateSize (f .carriers)) m (encode (f .carriers) z) (omega (arith, layout-theorems .encode-length (f .carriers) z)))
+      (λ e. encode-beyond (f .carriers) z m)
 
   call-lent : Lent (stateSize (f .carriers)) (wordOf (ofReply (replyTo f ws m c))) (memoryAfter f ws m c) m
   unfolding ofReply

@@ -1,13 +1,11 @@
 -- Laws of lent memory: an entry of verdict v that stores `whenPassed v new old` keeps the memory with a refusal, and what is stored in
 -- front leaves the rest.
-use Prim.Native.Nat.{ℕ, _+_, _-_, _≤_}
+use Prim.Native.Nat.{ℕ, _-_}
 use native.Mathlib.Omega.{arith}
-use mathlib.Core.Path.{_≡_, refl, _∙_, ap}
-use mathlib.Core.List.{List, _++_}
-use lib.ListN.{length, drop}
-use lib.Seq.{drop-append-add, drop-drop}
+use mathlib.Core.Path.{_≡_, refl}
+use mathlib.Core.List.{List}
+use lib.ListN.{drop}
 use Rattle.laws.specs.Verdict.{Verdict, passed, refused, Outcome, value, _gives_, _thenAnswers_, whenPassed}
-use Rattle.laws.specs.Memory.{put}
 use Rattle.wire.specs.Word.{Done, wordOf, mapOutcome}
 use Rattle.wire.proofs.Theorems.{theorems as wire-theorems}
 use Rattle.wire.specs.Record.{recordLent}
@@ -18,17 +16,6 @@ use Rattle.kalomivund.specs.Claims.{Refuses, Lent}
 pub done-not-refused : (d : Done) → Refuses (wordOf (value d)) → ⊥
 unfolding wordOf
 done-not-refused d e = omega (arith, wire-theorems .done-low (d .case) (d .number) .0)
-
--- A block in front of a memory leaves what lies behind it.
-pub put-beyond : (n : ℕ) (old b : List ℕ) → length b ≤ n → drop n (put old 0 b) ≡ drop n old
-unfolding put
-put-beyond n old b l =
-    let size : n ≡ length b + (n - length b) = omega arith in
-    let sum : (0 + length b) + (n - length b) ≡ n = omega arith in
-    ap (λ (i : ℕ). drop i (b ++ drop (0 + length b) old)) size
-    ∙ drop-append-add b (drop (0 + length b) old) (n - length b)
-    ∙ drop-drop (n - length b) (0 + length b) old
-    ∙ ap (λ (i : ℕ). drop i old) sum
 
 -- An entry whose checks are v: a refusal is theirs, and with it the old memory stays.
 pub checked-kept : {A : Type 0} (g : A → Done) (v : Verdict) (a : A) (new old : List ℕ) → Refuses (wordOf (mapOutcome g (v gives a)))

@@ -1,11 +1,10 @@
 -- Laws of the needed lengths into lent memory: known, they go there if there is room; refused, nothing does.
 use Prim.Native.Nat.{ℕ}
-use native.Mathlib.Omega.{arith}
-use mathlib.Core.Path.{_≡_, refl, sym}
+use mathlib.Core.Path.{_≡_, sym}
 use mathlib.Core.List.{List}
-use Rattle.laws.specs.Verdict.{Verdict, passed, refused, Outcome, value, refusal, _gives_, whenPassed}
+use Rattle.laws.specs.Verdict.{passed, refused, refusal, _gives_, whenPassed}
 use Rattle.laws.specs.Memory.{put}
-use Rattle.laws.proofs.VerdictLaws.{then-passed, then-refused, gives-refused, when-refused}
+use Rattle.laws.proofs.VerdictLaws.{then-passed, then-refused, gives-refused, given-value, given-refusal, when-refused}
 use Rattle.floor.specs.declared.Floor.{Floor}
 use Rattle.floor.specs.declared.Refusal.{Refusal}
 use Rattle.floor.specs.Checks.{limitsOf, roomOf}
@@ -17,19 +16,8 @@ use Rattle.wire.specs.Word.{wordOf, ofNumber, mapOutcome}
 use Rattle.kalomivund.specs.Answers.{figureList}
 use Rattle.kalomivund.specs.Entries.{neededVerdict}
 
--- A value that checks give is the one behind them, which they let through; a refusal is theirs.
-given-value : {A : Type 0} (v : Verdict) (a b : A) → _≡_ {A = Outcome A} (value b) (v gives a) → (v ≡ passed) × (a ≡ b)
-unfolding _gives_
-given-value passed a b e = (refl, (cc))
-given-value (refused k p) a b e = absurd (let z : _≡_ {A = ℕ} 0 1 = cc in omega arith)
-
-pub given-refusal : {A : Type 0} (v : Verdict) (a : A) (k p : ℕ) → _≡_ {A = Outcome A} (refusal k p) (v gives a) → v ≡ refused k p
-unfolding _gives_
-given-refusal passed a k p e = absurd (let z : _≡_ {A = ℕ} 0 1 = cc in omega arith)
-given-refusal (refused i q) a k p e = (cc)
-
 module _ {x : Needed} (f : Floor) (h : figuresOf x ≡ figuresFor f) (room : ℕ) where
-  known-lengths : {l : Lengths} → x ≡ Known l → (limitsOf f ≡ passed) × (lengthsOf f ≡ l)
+  known-lengths : {l : Lengths} → x ≡ Known l → (limitsOf f ≡ passed) × (l ≡ lengthsOf f)
   unfolding figuresOf figuresFor
   known-lengths {l} e = given-value (limitsOf f) (lengthsOf f) l (rw e at h)
 
@@ -48,7 +36,7 @@ module _ {x : Needed} (f : Floor) (h : figuresOf x ≡ figuresFor f) (room : ℕ
 
   pub known-stores : {m : List ℕ} {l : Lengths} (old : List ℕ) → x ≡ Known l → m ≡ whenPassed (roomOf 9 room) (put old 0 (figureList l)) old
       → m ≡ whenPassed (neededVerdict f room) (put old 0 (figureList (lengthsOf f))) old
-  known-stores old e s = rw (known-verdict e, known-lengths e .1) s
+  known-stores old e s = rw (known-verdict e, ← known-lengths e .1) s
 
   -- Refused: the refusal as met, and the memory as it was.
   pub refused-says : {w : ℕ} {r : Refusal} → x ≡ Refused r → w ≡ wordOf (refusal (r .number) (r .place))

@@ -1,5 +1,5 @@
 -- The lent memory of each exported function: kept with a refusal, and never written beyond its needed length.
-use Prim.Native.Nat.{ℕ, _+_, _*_}
+use Prim.Native.Nat.{ℕ, _*_}
 use native.Mathlib.Omega.{arith}
 use mathlib.Core.Bool.{Bool, true, false, cond}
 use mathlib.Core.Path.{_≡_, refl}
@@ -9,6 +9,7 @@ use lib.ListN.{length, length-append, replicate}
 use lib.Seq.{drop-at}
 use Rattle.laws.specs.Verdict.{Verdict, passed, refused, Outcome, value, refusal, _thenAnswers_}
 use Rattle.laws.specs.Memory.{put}
+use Rattle.laws.proofs.PutLaws.{put-beyond}
 use Rattle.laws.proofs.VerdictLaws.{then-both}
 use Rattle.floor.specs.declared.Floor.{Floor}
 use Rattle.floor.specs.Checks.{checkOf}
@@ -31,9 +32,8 @@ use Rattle.printing.specs.Print.{routesOf, neededFor, routesOutcome, routesMemo
 use Rattle.printing.proofs.Theorems.{theorems as printing-theorems}
 use Rattle.reference.specs.State.{fresh as freshState}
 use Rattle.layout.specs.Places.{stateSize}
-use Rattle.layout.specs.Encode.{encode}
 use Rattle.layout.specs.Calls.{placeVerdict, freshMemory}
-use Rattle.layout.proofs.Theorems.{theorems as layout-theorems}
+use Rattle.layout.proofs.StateLaws.{encode-beyond}
 use Rattle.wire.specs.Word.{done, wordOf, mapOutcome, ofNumber}
 use Rattle.wire.specs.Record.{floorOf, numbersOf}
 use Rattle.kalomivund.specs.Answers.{ofSearch, answerDone, routeStored, figureList}
@@ -41,7 +41,7 @@ use Rattle.kalomivund.specs.Entries.{readLent, readWord, readRecord, rea
 use Rattle.kalomivund.specs.Entries.{neededVerdict, neededWord, neededStored, searchLent, searchWord, searchStored}
 use Rattle.kalomivund.specs.Entries.{planWord, planStored, printWord, printStored, freshWord, freshStored}
 use Rattle.kalomivund.specs.Claims.{Lent}
-use Rattle.kalomivund.proofs.KeepLaws.{done-not-refused, put-beyond, checked-lent, record-lent}
+use Rattle.kalomivund.proofs.KeepLaws.{done-not-refused, checked-lent, record-lent}
 
 -- A record that is read has 22 numbers.
 record-size : (text : List ℕ) → length (numbersOf (floorAt text)) ≡ 22
@@ -51,7 +51,7 @@ record-size text = simp (length-append, listed-length) refl
 pub read-record : (text xs : List ℕ) (room : ℕ) → Lent 22 (readWord text (length xs) room) (readRecord text xs room) xs
 unfolding readWord readRecord ofNumber
 read-record text xs room =
-    checked-lent (done 0) (readLent text (length xs) room) 0 _ xs (λ e. put-beyond 22 xs _ (omega (arith, record-size text)))
+    checked-lent (done 0) (readLent text (length xs) room) 0 _ xs (λ e. put-beyond xs _ 22 (omega (arith, record-size text)))
 
 pub read-walls : (text old : List ℕ) (lent : ℕ)
     → Lent (floorAt text .walls) (readWord text lent (length old)) (readStored text lent old) old
@@ -71,7 +71,7 @@ pub needed-lengths : (xs old : List ℕ) → Lent 9 (neededWord xs (length old))
 unfolding neededWord neededStored ofNumber figureList
 needed-lengths xs old =
     record-lent xs _ _ old
-    (checked-lent (done 0) (neededVerdict (floorOf xs) (length old)) 0 _ old (λ e. put-beyond 9 old _ (omega arith)))
+    (checked-lent (done 0) (neededVerdict (floorOf xs) (length old)) 0 _ old (λ e. put-beyond old _ 9 (omega arith)))
 
 pub plan : (xs ws old : List ℕ) → Lent (65 * floorOf xs .carriers) (planWord xs ws (length old)) (planStored xs ws old) old
 unfolding planWord planStored planResult planMemory stored planVerdict ofNumber
@@ -81,7 +81,7 @@ plan xs ws old =
     (checked-lent (done 0) (planVerdict f ws (length old)) _ _ old
     (λ e.
     let h = check-tells f ws (then-both (checkOf f ws) _ e .0) .bounds .horizon .1 in
-    put-beyond (65 * f .carriers) old _ (omega (arith, plan-size f ws h))))
+    put-beyond old _ (65 * f .carriers) (omega (arith, plan-size f ws h))))
 
 pub fresh : (xs ws old : List ℕ) → Lent (stateSize (floorOf xs .carriers)) (freshWord xs ws (length old)) (freshStored xs ws old) old
 unfolding freshWord freshStored freshMemory ofNumber
@@ -89,8 +89,7 @@ fresh xs ws old =
     let f = floorOf xs in
     record-lent xs _ _ old
     (checked-lent (done 0) (placeVerdict f ws (length old)) 0 _ old
-    (λ e. put-beyond (stateSize (f .carriers)) old (encode (f .carriers) freshState)
-    (omega (arith, layout-theorems .encode-length (f .carriers) freshState))))
+    (λ e. encode-beyond (f .carriers) freshState old))
 
 pub print-routes : (text old : List ℕ) → Lent (neededFor text) (printWord text (length old)) (printStored text old) old
 unfolding printWord printStored routesOutcome routesMemory ofNumber mapOutcome
@@ -102,7 +101,7 @@ print-routes text old = go (leb (neededFor text) (length old))
     go true =
         record {
           kept = λ e. absurd (done-not-refused _ e);
-          beyond = put-beyond (neededFor text) old (routesOf text) (printing-theorems .routes-within text .0);
+          beyond = put-beyond old (routesOf text) (neededFor text) (printing-theorems .routes-within text .0);
         }
     go false = record { kept = λ e. refl; beyond = refl }
 
@@ -121,8 +120,8 @@ search xs ws i m old = record-lent xs _ _ old (go (searchLent f ws i m (length o
 
     go : (o : Outcome Answer) → searchLent f ws i m (length old) ≡ o → Lent 64 (wordOf (mapOutcome answerDone o)) (routeStored o old) old
     go (value none) e =
-        record { kept = λ h. absurd (done-not-refused _ h); beyond = put-beyond 64 old (replicate 64 0) (omega arith) }
+        record { kept = λ h. absurd (done-not-refused _ h); beyond = put-beyond old (replicate 64 0) 64 (omega arith) }
     go (value (route r)) e =
         let long = search-theorems .answers-route f ws i m r (answered-through _ _ (route r) e) .0 .long in
-        record { kept = λ h. absurd (done-not-refused _ h); beyond = put-beyond 64 old r (omega arith) }
+        record { kept = λ h. absurd (done-not-refused _ h); beyond = put-beyond old r 64 (omega arith) }
     go (refusal k p) e = record { kept = λ h. refl; beyond = refl }

@@ -18,7 +18,7 @@ use Rattle.lengths.proofs.Theorems.{theorems as lengths-theorems, room-means}
 use Rattle.wire.specs.Record.{recordLent}
 use Rattle.kalomivund.specs.Entries.{readLent, neededVerdict, searchLent}
 use Rattle.kalomivund.proofs.SearchLaws.{search-long}
-use Rattle.kalomivund.proofs.LengthsLaws.{given-refusal}
+use Rattle.laws.proofs.VerdictLaws.{given-refusal}
 
 -- Behind checks that find nothing, memory is too short exactly below its needed length.
 behind-short : (v : Verdict) (needed lent : ℕ) → v ≡ passed → ((v then roomOf needed lent) ≡ refused 9 0) ↔ (lent < needed)

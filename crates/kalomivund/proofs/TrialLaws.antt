@@ -1,15 +1,12 @@
 -- The lent memories of a trial: kept with a refusal, and never written beyond their needed lengths.
 use Prim.Native.Nat.{ℕ}
-use native.Mathlib.Omega.{arith}
 use mathlib.Core.List.{List}
 use lib.ListN.{length}
-use Rattle.laws.specs.Verdict.{Verdict, passed}
+use Rattle.laws.proofs.PutLaws.{put-beyond}
 use Rattle.laws.proofs.VerdictLaws.{then-both}
-use Rattle.floor.specs.declared.Floor.{Floor}
 use Rattle.layout.specs.Places.{stateSize}
-use Rattle.layout.specs.Encode.{encode}
-use Rattle.layout.specs.Calls.{withState, placeVerdict}
-use Rattle.layout.proofs.Theorems.{theorems as layout-theorems}
+use Rattle.layout.specs.Calls.{placeVerdict}
+use Rattle.layout.proofs.StateLaws.{encode-beyond}
 use Rattle.trial.specs.Report.{reportSize, numbersOf}
 use Rattle.trial.specs.Entry.{trialVerdict, trialOf, trialOutcome, stateTried, reportTried}
 use Rattle.trial.proofs.Theorems.{theorems as trial-theorems}
@@ -17,7 +14,7 @@ use Rattle.wire.specs.Word.{done, ofNumber}
 use Rattle.wire.specs.Record.{floorOf}
 use Rattle.kalomivund.specs.Entries.{trialWord, trialStateStored, trialReportStored}
 use Rattle.kalomivund.specs.Claims.{Lent}
-use Rattle.kalomivund.proofs.KeepLaws.{put-beyond, checked-lent, record-lent}
+use Rattle.kalomivund.proofs.KeepLaws.{checked-lent, record-lent}
 
 pub trial-state : (xs ws : List ℕ) (order seed : ℕ) (m : List ℕ) (report : ℕ) → Lent (stateSize (floorOf xs .carriers))
     (trialWord xs ws order seed (length m) report) (trialStateStored xs ws order seed m report) m
@@ -27,7 +24,7 @@ trial-state xs ws order seed m report =
     let s = trialOf f ws order seed .state in
     record-lent xs _ _ m
     (checked-lent (done 0) (trialVerdict f ws order (length m) report) _ _ m
-    (λ e. put-beyond (stateSize (f .carriers)) m (encode (f .carriers) s) (omega (arith, layout-theorems .encode-length (f .carriers) s))))
+    (λ e. encode-beyond (f .carriers) s m))
 
 pub trial-report : (xs ws : List ℕ) (order seed state : ℕ) (m : List ℕ) → Lent (reportSize (floorOf xs .carriers))
     (trialWord xs ws order seed state (length m)) (trialReportStored xs ws order seed state m) m
@@ -38,4 +35,4 @@ trial-report xs ws order seed state m =
     (checked-lent (done 0) (trialVerdict f ws order state (length m)) _ _ m
     (λ e.
     let ok = then-both _ _ (then-both _ _ e .0) .0 in
-    put-beyond (reportSize (f .carriers)) m (numbersOf (trialOf f ws order seed .report)) (trial-theorems .ends f ws order seed ok .fits)))
+    put-beyond m (numbersOf (trialOf f ws order seed .report)) (reportSize (f .carriers)) (trial-theorems .ends f ws order seed ok .fits)))

@@ -1,12 +1,12 @@
 -- Laws of a block in a memory: its length, and blocks put one behind the other.
-use Prim.Native.Nat.{ℕ, _+_, _≤_, _<_}
+use Prim.Native.Nat.{ℕ, _+_, _-_, _≤_, _<_}
 use native.Mathlib.Omega.{arith}
-use native.Mathlib.Nat.{add-zero}
+use native.Mathlib.Nat.{add-zero, zero-add}
 use native.Mathlib.Numerals.{add-one, add-two, add-three, add-four}
 use mathlib.Core.Path.{_≡_, sym, _∙_, ap, ap₂}
 use mathlib.Core.List.{List, [], _∷_, _++_, append-assoc}
 use lib.ListN.{length, take, drop, getD, set, length-append, length-take, length-drop, take-append-drop}
-use lib.Seq.{take-suc, take-all, set-split, take-at, drop-at, length-take-le, drop-drop, sets-eq}
+use lib.Seq.{take-suc, take-all, set-split, take-at, drop-at, length-take-le, drop-append-add, drop-drop, sets-eq}
 use Rattle.laws.specs.Memory.{put}
 
 -- An empty block changes nothing.
@@ -49,6 +49,17 @@ pub put-next : (m m′ m″ a b : List ℕ) (at n : ℕ) → m′ ≡ put m at a
     → m″ ≡ put m at (a ++ b)
 put-next m m′ m″ a b at n e f s l =
     f ∙ rw (e, ← s) (put-put m a b at (omega arith))
+
+-- A block in front of a memory leaves what lies behind it.
+pub front-beyond : (old b : List ℕ) (needed : ℕ) → length b ≤ needed → drop needed (b ++ drop (length b) old) ≡ drop needed old
+front-beyond old b needed l =
+    let d = needed - length b in
+    let e : needed ≡ length b + d = omega arith in
+    rw e (drop-append-add b (drop (length b) old) d ∙ drop-drop d (length b) old)
+
+pub put-beyond : (old b : List ℕ) (needed : ℕ) → length b ≤ needed → drop needed (put old 0 b) ≡ drop needed old
+unfolding put
+put-beyond old b needed l = rw zero-add (front-beyond old b needed l)
 
 -- One element stored.
 pub put-one : (m : List ℕ) (at v : ℕ) → at < length m → set m at v ≡ put m at (v ∷ [])

@@ -44,6 +44,17 @@ pub gives-refused : {A : Type 0} {v : Verdict} {k p : ℕ} (a : A) → v ≡ ref
 unfolding _gives_
 gives-refused a h = rw h
 
+-- A value that checks give is the one behind them, which they let through; a refusal is theirs.
+pub given-value : {A : Type 0} (v : Verdict) (a b : A) → _≡_ {A = Outcome A} (value b) (v gives a) → (v ≡ passed) × (b ≡ a)
+unfolding _gives_
+given-value passed a b e = (refl, (cc))
+given-value (refused k p) a b e = absurd (let z : _≡_ {A = ℕ} 0 1 = cc in omega arith)
+
+pub given-refusal : {A : Type 0} (v : Verdict) (a : A) (k p : ℕ) → _≡_ {A = Outcome A} (refusal k p) (v gives a) → v ≡ refused k p
+unfolding _gives_
+given-refusal passed a k p e = absurd (let z : _≡_ {A = ℕ} 0 1 = cc in omega arith)
+given-refusal (refused i q) a k p e = (cc)
+
 pub when-passed : {A : Type 0} {v : Verdict} {new : A} (old : A) → v ≡ passed → whenPassed v new old ≡ new
 unfolding whenPassed
 when-passed old h = rw h

@@ -4,7 +4,9 @@ use native.Mathlib.Omega.{arith}
 use mathlib.Core.Bool.{Bool}
 use mathlib.Core.Path.{_≡_, refl, _∙_, ap}
 use mathlib.Core.List.{List, _++_}
-use lib.ListN.{length, length-append}
+use lib.ListN.{length, drop, length-append}
+use Rattle.laws.specs.Memory.{put}
+use Rattle.laws.proofs.PutLaws.{put-beyond}
 use Rattle.route.specs.Route.{Answer, View}
 use Rattle.reference.specs.State.{State}
 use Rattle.layout.specs.Places.{pairsBefore, plannedPlace, viewPlace, channelPlace, stateSize}
@@ -64,6 +66,10 @@ module _ (n : ℕ) (s : State) where
       let h = pairs n (chanBlocks (s .chan)) in
       length-append (countBlock (s .taken)) (c ++ (v ++ h))
       ∙ omega (arith, count-length (s .taken), length-append c (v ++ h), length-append v h, carriers-length, views-length, chans-length)
+
+  -- A state in the front of a memory leaves what lies behind it.
+  pub encode-beyond : (m : List ℕ) → drop (stateSize n) (put m 0 (encode n s)) ≡ drop (stateSize n) m
+  encode-beyond m = put-beyond m (encode n s) (stateSize n) (omega (arith, encode-length))
 
   module _ (rest : List ℕ) where
     -- The taken count stands in front.

@@ -1,26 +1,29 @@
 -- Printing with a refusal and without, and the path from a sheet's bytes.
 use Prim.Native.Nat.{ℕ, _+_, _*_, _≤_, _<_, min}
 use native.Mathlib.Omega.{arith}
-use mathlib.Core.Path.{_≡_, sym, _∙_, ap}
+use mathlib.Core.Path.{_≡_, refl, sym, _∙_, ap}
 use mathlib.Core.List.{List, _++_}
 use borrow.Author.Tests.{le-leb, lt-leb}
 use lib.ListN.{length, take, drop, length-append}
 use lib.Seq.{take-at}
 use Rattle.floor.specs.declared.Floor.{Floor}
 use Rattle.floor.specs.declared.Checked.{Checked}
-use Rattle.floor.specs.declared.Checked.the-variants.{Passed}
+use Rattle.floor.specs.declared.Checked.the-variants.{Passed, Refused}
+use Rattle.floor.specs.declared.Refusal.{Refusal}
 use Rattle.floor.specs.Answers.{verdictOf}
 use Rattle.laws.specs.Verdict.{passed, refused, Outcome, value, refusal, _thenAnswers_, whenPassed}
 use Rattle.floor.specs.Checks.{checkOf, roomOf}
 use Rattle.laws.proofs.VerdictLaws.{then-both, refused-by, then-passed, refused-not-passed, demand-passes, when-passed, gives-passed}
-use Rattle.floor.proofs.AnswersLaws.{passes}
+use Rattle.floor.proofs.AnswersLaws.{passes, refuses}
 use Rattle.floor.proofs.LimitsLaws.{Bounds, check-tells, room-passed}
+use Rattle.fields.specs.Field.{fieldOf}
+use Rattle.sheet.specs.Text.{lineOf}
 use Rattle.sheet.specs.Values.{floorAt, wallsAt}
 use Rattle.sheet.specs.Read.{sheetVerdict, readVerdict, readFloor, readWalls}
 use Rattle.sheet.proofs.FormLaws.{walls-length}
 use Rattle.sheet.proofs.Theorems.{theorems as sheet-theorems}
 use Rattle.planner.specs.declared.Planned.{Planned}
-use Rattle.planner.specs.declared.Planned.the-variants.{Failing, Refused}
+use Rattle.planner.specs.declared.Planned.the-variants.{Failing, Refused as Turned}
 use Rattle.planner.specs.Plan.{planOf, planVerdict, failingOf}
 use Rattle.planner.specs.Records.{planMemory}
 use Rattle.records.specs.Records.{stored}
@@ -49,10 +52,10 @@ module _ (f : Floor) (ws : List ℕ) (room : ℕ) (ok : planVerdict f ws room �
       let h : value i ≡ value (failingOf (planOf f ws)) = sym (ap resultOf g) ∙ e ∙ gives-passed ok in
       cc
 
-  pub never-turned : {r : Planned} {x : _} → resultOf r ≡ planResult f ws room → r ≡ Refused x → ⊥
+  pub never-turned : {r : Planned} {x : _} → resultOf r ≡ planResult f ws room → r ≡ Turned x → ⊥
   unfolding planResult resultOf
   never-turned {r} {x} e g =
-      let h : resultOf (Refused x) ≡ value (failingOf (planOf f ws)) = sym (ap resultOf g) ∙ e ∙ gives-passed ok in
+      let h : resultOf (Turned x) ≡ value (failingOf (planOf f ws)) = sym (ap resultOf g) ∙ e ∙ gives-passed ok in
       let z : _≡_ {A = ℕ} 0 1 = cc in
       omega arith
 
@@ -118,26 +121,40 @@ pub record WasRead (text : List ℕ) (f : Floor) (walls : List ℕ) : Type 0 whe
   pub lent : f .walls ≤ length walls
   pub checked : checkOf f (take (f .walls) walls) ≡ passed
 
-pub was-read : {a : Checked} (text old walls : List ℕ) (f : Floor) → 1023 ≤ length old
-    → (verdictOf a ≡ readVerdict text (length old)) × ((f ≡ readFloor text (length old)) × (walls ≡ readWalls text old)) → a ≡ Passed
-    → WasRead text f walls
-unfolding readFloor readWalls
-was-read text old walls f wide r told =
-    let ok = passes (r .0) told in
-    let good = read-passed text (length old) wide ok in
-    let floor : f ≡ floorAt text = r .1 .0 ∙ when-passed _ ok in
-    let stored : walls ≡ wallsAt text ++ drop (floorAt text .walls) old = r .1 .1 ∙ when-passed _ ok in
-    let count : f .walls ≡ floorAt text .walls = ap (λ (g : Floor). g .walls) floor in
-    let front : take (f .walls) walls ≡ wallsAt text =
-    ap (take (f .walls)) stored ∙ take-at (wallsAt text) _ (f .walls) (walls-length text ∙ sym count)
-    in
-    record {
-      accepted = good;
-      floor = floor;
-      front = front;
-      lent = omega (arith, ap length stored, length-append (wallsAt text) (drop (floorAt text .walls) old), walls-length text);
-      checked = rw (front, floor) (sheet-theorems .read-accepted text good);
-    }
+-- A text that is read into memory for the most walls: accepted, or refused with a place that can be printed.
+module _ {a : Checked} (text old walls : List ℕ) (f : Floor) (wide : 1023 ≡ length old)
+    (r : (verdictOf a ≡ readVerdict text (length old)) × ((f ≡ readFloor text (length old)) × (walls ≡ readWalls text old))) where
+  pub was-read : a ≡ Passed → WasRead text f walls
+  unfolding readFloor readWalls
+  was-read told =
+      let ok = passes (r .0) told in
+      let good = read-passed text (length old) (omega arith) ok in
+      let floor : f ≡ floorAt text = r .1 .0 ∙ when-passed _ ok in
+      let stored : walls ≡ wallsAt text ++ drop (floorAt text .walls) old = r .1 .1 ∙ when-passed _ ok in
+      let count : f .walls ≡ floorAt text .walls = ap (λ (g : Floor). g .walls) floor in
+      let front : take (f .walls) walls ≡ wallsAt text =
+      ap (take (f .walls)) stored ∙ take-at (wallsAt text) _ (f .walls) (walls-length text ∙ sym count)
+      in
+      record {
+        accepted = good;
+        floor = floor;
+        front = front;
+        lent = omega (arith, ap length stored, length-append (wallsAt text) (drop (floorAt text .walls) old), walls-length text);
+        checked = rw (front, floor) (sheet-theorems .read-accepted text good);
+      }
+
+module _ {a : Checked} {x : Refusal} (text old : List ℕ) (wide : 1023 ≡ length old) (r : verdictOf a ≡ readVerdict text (length old))
+    (told : a ≡ Refused x) where
+  pub was-refused : sheetVerdict text ≡ refused (x .number) (x .place)
+  was-refused = read-refused text (length old) (omega arith) _ _ (refuses r told)
+
+  pub place-small : x .place ≤ 65535
+  place-small = omega (arith, sheet-theorems .place-low text _ _ was-refused)
+
+-- The line of a refusal has 16 bytes.
+pub refusal-length : (k p : ℕ) → length (refusalLine k p) ≡ 16
+unfolding refusalLine lineOf fieldOf
+refusal-length k p = refl
 
 -- The place of a refused sheet is printed whole.
 pub place-printed : (text : List ℕ) (k p : ℕ) → sheetVerdict text ≡ refused k p → min p 65535 ≡ p

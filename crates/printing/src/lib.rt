@@ -12,6 +12,7 @@ ghost use Rattle.planner.specs.Plan.{planOf, planVerdict};
 ghost use Rattle.records.specs.Records.{stored};
 ghost use Rattle.printing.specs.Print.{outcomeOf, printOf, textLength, printVerdict};
 ghost use Rattle.printing.specs.Print.{printOutcome, printAnswers, printMemory, routesOutcome, routesMemory};
+ghost use Rattle.printing.specs.Text.{refusalLine};
 ghost use Rattle.printing.specs.Put.{TextPut, FloorPut, RefusalPut};
 use floor::Checked;
 use floor::Floor;
@@ -72,18 +73,21 @@ pub fn print(f: Floor, walls: &[u16], answers: &mut [u16], out: &mut [u8]) -> Pr
     Printed::Refused(x)
 }
 
-// Room for the most walls that a floor can have.
-fn no_walls() -> [u16; 1023]
-    ensures { λ r. ⌜ 1023 ≡ length r ⌝ }
-{
-    [0; 1023]
-}
-
 // Room for the answers of the most carriers.
 fn no_answers() -> [u16; 520]
     ensures { λ r. ⌜ 520 ≡ length r ⌝ }
 {
     [0; 520]
+}
+
+// Plans an accepted floor and puts its routes; their length is returned.
+pub fn put_routes(f: Floor, walls: &[u16], out: &mut [u8]) -> usize
+    requires { ⌜ checkOf f (now walls) ≡ passed ⌝ }
+    requires { ⌜ textLength f ≤ length (now out) ⌝ }
+    ensures { λ r. ⌜ TextPut (printOf f (now (walls .entry))) (now (out .entry)) (now (out .exit)) r ⌝ }
+{
+    let mut answers = no_answers();
+    put_plan(f, walls, &mut answers, out)
 }
 
 // The routes of a floor that was read, with its walls in front of `walls`.
@@ -99,8 +103,7 @@ fn print_read(f: Floor, walls: &[u16], out: &mut [u8]) -> Printed
         });
     }
     let k = f.walls as usize;
-    let mut answers = no_answers();
-    Printed::Written(put_plan(f, &walls[..k], &mut answers, out))
+    Printed::Written(put_routes(f, &walls[..k], out))
 }
 
 // A place as it is printed: one over 65,535 as that.
@@ -108,6 +111,14 @@ fn printed_place(place: usize) -> u16
     ensures { λ r. ⌜ r ≡ min place 65535 ⌝ }
 {
     if place < 65535 { place as u16 } else { 65535 }
+}
+
+// Puts the line of a refusal; its length is returned.
+pub fn put_refusal(x: Refusal, out: &mut [u8]) -> usize
+    requires { ⌜ (x .place ≤ 65535) × (16 ≤ length (now out)) ⌝ }
+    ensures { λ r. ⌜ TextPut (refusalLine (x .number) (x .place)) (now (out .entry)) (now (out .exit)) r ⌝ }
+{
+    lines::put_refusal(x.number, x.place as u16, out)
 }
 
 // The line of a refused sheet; with less than 16 bytes of text memory the refusal itself.
@@ -127,7 +138,7 @@ pub fn routes(text: &[u8], out: &mut [u8]) -> Printed
     ensures says { λ r. ⌜ outcomeOf r ≡ routesOutcome (now (text .entry)) (length (now (out .entry))) ⌝ }
     ensures stores { λ r. ⌜ now (out .exit) ≡ routesMemory (now (text .entry)) (now (out .entry)) ⌝ }
 {
-    let mut walls = no_walls();
+    let mut walls = sheet::no_walls();
     let reading = sheet::read(text, &mut walls);
     let checked = reading.answer;
     let f = reading.floor;

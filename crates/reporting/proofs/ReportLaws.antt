@@ -1,5 +1,5 @@
 -- Texts put one behind the other, and the lengths of a report's lines.
-use Prim.Native.Nat.{ℕ, _+_, _*_, _≤_, _<_}
+use Prim.Native.Nat.{ℕ, _+_, _*_, _≤_}
 use native.Mathlib.Omega.{arith}
 use native.Mathlib.Numerals.{add-one}
 use mathlib.Core.Bool.{Bool, true, false, cond}
@@ -9,11 +9,11 @@ use borrow.Author.Tests.{eq-eqb, ne-eqb}
 use lib.Dec.{eqb}
 use lib.ListN.{length, getD, take, set, length-append}
 use Rattle.laws.specs.Memory.{put}
-use Rattle.laws.proofs.PutLaws.{put-none, put-length, put-next, put-one, copy-end}
+use Rattle.laws.proofs.PutLaws.{put-none, put-length, put-next, copy-end}
 use Rattle.fields.specs.Field.{fieldOf}
 use Rattle.sheet.specs.Text.{lineOf, linesOf}
 use Rattle.sheet.proofs.LineText.{line-length}
-use Rattle.sheet.proofs.LineLaws.{field-length, field-next}
+use Rattle.sheet.proofs.LineLaws.{field-length, field-next, byte-next, newline-next}
 use Rattle.printing.proofs.LinesLaws.{lines-within}
 use Rattle.reporting.specs.Text.{keptWord, sentWord, deliveredWord, answerWord, stepLine}
 use Rattle.reporting.specs.Text.{entryLine, entries, reportText, reportLength}
@@ -34,27 +34,17 @@ put-behind {a} {b} {old} {mid} {new} {at} {n} {next} x y l =
     }
 
 -- The three words.
-word-kept : (a : ℕ) → a ≡ 0 → answerWord a ≡ keptWord
+pub word-kept : (a : ℕ) → a ≡ 0 → answerWord a ≡ keptWord
 unfolding answerWord
 word-kept a e = rw (eq-eqb _ _ e)
 
-word-sent : (a : ℕ) → (a ≡ 0 → ⊥) → a ≡ 1 → answerWord a ≡ sentWord
+pub word-sent : (a : ℕ) → (a ≡ 0 → ⊥) → a ≡ 1 → answerWord a ≡ sentWord
 unfolding answerWord
 word-sent a z e = rw (ne-eqb _ _ z, eq-eqb _ _ e)
 
-word-delivered : (a : ℕ) → (a ≡ 0 → ⊥) → (a ≡ 1 → ⊥) → answerWord a ≡ deliveredWord
+pub word-delivered : (a : ℕ) → (a ≡ 0 → ⊥) → (a ≡ 1 → ⊥) → answerWord a ≡ deliveredWord
 unfolding answerWord
 word-delivered a z e = rw (ne-eqb _ _ z, ne-eqb _ _ e)
-
-module _ (a : ℕ) {old new : List ℕ} {at next : ℕ} where
-  pub kept-put : a ≡ 0 → PutAt keptWord old at new next → PutAt (answerWord a) old at new next
-  kept-put e p = rw (word-kept a e) p
-
-  pub sent-put : (a ≡ 0 → ⊥) → a ≡ 1 → PutAt sentWord old at new next → PutAt (answerWord a) old at new next
-  sent-put z e p = rw (word-sent a z e) p
-
-  pub delivered-put : (a ≡ 0 → ⊥) → (a ≡ 1 → ⊥) → PutAt deliveredWord old at new next → PutAt (answerWord a) old at new next
-  delivered-put z e p = rw (word-delivered a z e) p
 
 -- A word has at most 9 letters, an entry's line at most 21 bytes.
 pub word-within : (a : ℕ) → length (answerWord a) ≤ 9
@@ -66,12 +56,10 @@ word-within a = either (eqb a 0) (eqb a 1)
     either false true = omega arith
     either false false = omega arith
 
--- A byte stored behind a text.
-byte-behind : (old mid a : List ℕ) (at n v : ℕ) → mid ≡ put old at a → at + length a ≡ n → n < length old
-    → set mid n v ≡ put old at (a ++ (v ∷ []))
-byte-behind old mid a at n v e s l =
-    let size : length mid ≡ length old = ap length e ∙ put-length old a at (omega arith) in
-    put-next old mid (set mid n v) a (v ∷ []) at n e (put-one mid n v (omega arith)) s (rw add-one l)
+-- The word of an answer, put.
+pub word-put : (a : ℕ) {w old new : List ℕ} {at next : ℕ} → answerWord a ≡ w → PutAt w old at new next
+    → PutAt (answerWord a) old at new next × (next ≤ at + 9)
+word-put a e p = (rw e p, omega (arith, p .behind, ap length e, word-within a))
 
 -- The line of a step, put piece by piece.
 pub step-put : (m m₁ m₂ m₃ : List ℕ) (at p number a next : ℕ) → m₁ ≡ put m at (fieldOf p) → m₂ ≡ put m₁ (at + 5) (fieldOf number)
@@ -81,13 +69,13 @@ unfolding stepLine
 step-put m m₁ m₂ m₃ at p number a next e₁ e₂ w short l =
     let two = field-next m m₁ m₂ (fieldOf p) at (at + 5) number e₁ e₂ (rw field-length) (omega arith) in
     let both : length (fieldOf p ++ fieldOf number) ≡ 10 = rw (length-append, field-length, field-length) in
-    let space = byte-behind m m₂ (fieldOf p ++ fieldOf number) at (at + 10) 32 two (omega arith) (omega arith) in
+    let space = byte-next 32 m m₂ (fieldOf p ++ fieldOf number) at (at + 10) two (omega arith) (omega arith) in
     let eleven : length ((fieldOf p ++ fieldOf number) ++ (32 ∷ [])) ≡ 11 = rw (length-append, both) in
     let front : PutAt ((fieldOf p ++ fieldOf number) ++ (32 ∷ [])) m at (set m₂ (at + 10) 32) (at + 11) =
     record { bytes = space; behind = omega arith }
     in
     let word = put-behind front w (omega arith) in
-    let last = byte-behind m m₃ (((fieldOf p ++ fieldOf number) ++ (32 ∷ [])) ++ answerWord a) at next 10 (word .bytes) (sym (word .behind))
+    let last = newline-next m m₃ (((fieldOf p ++ fieldOf number) ++ (32 ∷ [])) ++ answerWord a) at next (word .bytes) (sym (word .behind))
     (omega arith) in
     let line = ((fieldOf p ++ fieldOf number) ++ (32 ∷ [])) ++ answerWord a in
     let size : length (line ++ (10 ∷ [])) ≡ length line + 1 = rw length-append in

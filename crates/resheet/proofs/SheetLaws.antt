@@ -1,7 +1,7 @@
 -- A memory of 11,452 bytes holds every sheet: what is written stands in front.
-use Prim.Native.Nat.{ℕ, _+_, _≤_, min}
+use Prim.Native.Nat.{ℕ, _+_, _≤_}
 use native.Mathlib.Omega.{arith}
-use mathlib.Core.Path.{_≡_, refl, sym, ap, _∙_}
+use mathlib.Core.Path.{_≡_, sym, ap, _∙_}
 use mathlib.Core.List.{List, _++_}
 use borrow.Author.Tests.{le-leb}
 use lib.ListN.{length, take, drop}
@@ -9,23 +9,18 @@ use Rattle.io.specs.Counts.{Counts}
 use Rattle.laws.specs.Memory.{put}
 use Rattle.laws.proofs.PutLaws.{put-front}
 use Rattle.floor.specs.declared.Floor.{Floor}
-use Rattle.laws.specs.Verdict.{passed, refused, _then_, value, refusal}
+use Rattle.laws.specs.Verdict.{passed, refused, _then_}
 use Rattle.console.proofs.WithinLaws.{counts-within}
 use Rattle.floor.specs.Checks.{checkOf, roomOf}
 use Rattle.laws.proofs.VerdictLaws.{demand-passes, when-passed}
 use Rattle.floor.proofs.LimitsLaws.{check-tells}
-use Rattle.fields.specs.Field.{fieldOf}
-use Rattle.sheet.specs.Text.{sheetOf, sheetLength, wallAt, lineOf}
-use Rattle.sheet.specs.Values.{floorAt, wallsAt}
+use Rattle.sheet.specs.Text.{sheetOf, sheetLength, wallAt}
 use Rattle.sheet.specs.Read.{sheetVerdict, writeVerdict, writeSheet}
 use Rattle.sheet.proofs.Theorems.{theorems}
 use Rattle.printing.specs.Text.{refusalLine}
-use Rattle.floor.specs.declared.Refusal.{Refusal}
-use Rattle.printing.specs.declared.Printed.{Printed}
-use Rattle.printing.specs.declared.Printed.the-variants.{Written, Refused}
-use Rattle.printing.specs.Print.{orRefusal, outcomeOf}
-use Rattle.printing.specs.Put.{TextPut, RefusalPut}
-use Rattle.printing.proofs.PrintLaws.{WasRead, place-printed}
+use Rattle.printing.specs.Print.{orRefusal}
+use Rattle.printing.specs.Put.{TextPut}
+use Rattle.printing.proofs.PrintLaws.{WasRead, refusal-length}
 
 -- The sheet of an accepted floor.
 module _ (f : Floor) (ws : List ℕ) (ok : checkOf f ws ≡ passed) where
@@ -58,10 +53,6 @@ counted text old new n p fits =
     let f = put-front old new text n (p .bytes) (p .size) fits in
     (counts-within _ _ (f .0), f .1)
 
-refusal-length : (k p : ℕ) → length (refusalLine k p) ≡ 16
-unfolding refusalLine lineOf fieldOf
-refusal-length k p = refl
-
 -- An accepted sheet is written again; a refused one has the line of its refusal.
 module _ (text old new : List ℕ) (n : ℕ) (enough : 11452 ≤ length old) where
   pub accepted-again : (f : Floor) (walls : List ℕ) → WasRead text f walls → TextPut (sheetOf f (take (f .walls) walls)) old new n
@@ -75,29 +66,9 @@ module _ (text old new : List ℕ) (n : ℕ) (enough : 11452 ≤ length old) whe
       let c = counted _ _ _ _ t fits in
       (c .0, rw (r .accepted) (c .1 ∙ same))
 
-  -- The line of a refused sheet is written.
-  module _ (k p : ℕ) (v : sheetVerdict text ≡ refused k p) (r : Printed) (w : RefusalPut k p old new (outcomeOf r)) where
-    fits : 16 ≤ length old
-    fits = omega arith
-
-    outcome : outcomeOf r ≡ value (length (refusalLine k p))
-    unfolding RefusalPut
-    outcome = w .answers ∙ rw (le-leb _ _ fits, place-printed text k p v)
-
-    line-put : new ≡ put old 0 (refusalLine k p)
-    unfolding RefusalPut
-    line-put = w .stores ∙ rw (le-leb _ _ fits, place-printed text k p v)
-
-    pub never-short : (x : Refusal) → r ≡ Refused x → ⊥
-    unfolding outcomeOf
-    never-short x e =
-        let h : refusal (x .number) (x .place) ≡ value (length (refusalLine k p)) = sym (ap outcomeOf e) ∙ outcome in
-        let z : _≡_ {A = ℕ} 0 1 = cc in
-        omega arith
-
-    pub refused-line : r ≡ Written n → Counts n new × (take n new ≡ orRefusal (sheetVerdict text) text)
-    unfolding orRefusal outcomeOf
-    refused-line e =
-        let h : value n ≡ value (length (refusalLine k p)) = sym (ap outcomeOf e) ∙ outcome in
-        let c = counted _ old new n (record { bytes = line-put; size = cc }) (omega (arith, refusal-length k p)) in
-        (c .0, rw v (c .1))
+  pub refused-line : (k p : ℕ) → sheetVerdict text ≡ refused k p → TextPut (refusalLine k p) old new n
+      → Counts n new × (take n new ≡ orRefusal (sheetVerdict text) text)
+  unfolding orRefusal
+  refused-line k p v t =
+      let c = counted _ _ _ _ t (omega (arith, refusal-length k p)) in
+      (c .0, rw v (c .1))

@@ -13,17 +13,9 @@ ghost use Rattle.printing.specs.Put.{TextPut};
 use console::Input;
 use floor::Checked;
 use floor::Floor;
-use printing::Printed;
 
 // The length of the longest sheet: 31 bytes, 21 for each of eight carriers, 11 for each of 1,023 walls.
 const SHEET_LENGTH: usize = 11452;
-
-// Room for the most walls that a floor can have.
-fn no_walls() -> [u16; 1023]
-    ensures { λ r. ⌜ 1023 ≡ length r ⌝ }
-{
-    [0; 1023]
-}
 
 // Puts the sheet of a floor that was read, with its walls in front of `walls`; its length is returned.
 fn put_sheet(f: Floor, walls: &[u16], out: &mut [u8]) -> usize
@@ -42,18 +34,14 @@ fn print(text: &[u8], out: &mut [u8; SHEET_LENGTH]) -> usize
     ensures counts { λ r. ⌜ Counts r (now (out .exit)) ⌝ }
     ensures prints { λ r. ⌜ take r (now (out .exit)) ≡ orRefusal (sheetVerdict (now (text .entry))) (now (text .entry)) ⌝ }
 {
-    let mut walls = no_walls();
+    let mut walls = sheet::no_walls();
     let reading = sheet::read(text, &mut walls);
     let checked = reading.answer;
     let f = reading.floor;
     let Checked::Refused(x) = checked else {
         return put_sheet(f, &walls, out);
     };
-    let printed = printing::print_refusal(x, out);
-    let Printed::Written(n) = printed else {
-        return 0;
-    };
-    n
+    printing::put_refusal(x, out)
 }
 
 // The longest sheet has 11,452 bytes; of a longer input the first 65,536 bytes hold the first extra byte.

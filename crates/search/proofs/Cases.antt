@@ -36,59 +36,35 @@ sides h =
 abbrev told : ℕ → ℕ → ℕ → ℕ → ℕ → ℕ → List ℕ
 told tag a b c d e = tag ∷ a ∷ b ∷ c ∷ d ∷ e ∷ replicate 124 0
 
--- Floor 2: carrier 1 goes straight, carrier 2 round it.
-first-carrier : searchOf (sides 4) [] 1 (told 0 0 0 0 0 0) ≡ answered (route (0 ∷ 1 ∷ 2 ∷ 2 ∷ 2 ∷ replicate 59 0))
+-- Floor 2: carrier 1 goes straight, carrier 2 round it. Floor 3: with horizon 3 there is no way round. Heard none occupies carrier 1's
+-- start, which is carrier 2's goal; not heard, with any numbers beside the tag, occupies nothing. Too few views: 9. A carrier that is not
+-- there: 7.
+record Cases : Type 0 where
+  first-carrier : searchOf (sides 4) [] 1 (told 0 0 0 0 0 0) ≡ answered (route (0 ∷ 1 ∷ 2 ∷ 2 ∷ 2 ∷ replicate 59 0))
+  second-carrier : searchOf (sides 4) [] 2 (told 2 0 1 2 2 2) ≡ answered (route (2 ∷ 5 ∷ 4 ∷ 1 ∷ 0 ∷ replicate 59 0))
+  second-carrier-short : searchOf (sides 3) [] 2 (told 2 0 1 2 2 0) ≡ answered none
+  heard-none : searchOf (sides 4) [] 2 (told 1 0 1 2 2 2) ≡ answered none
+  not-heard : searchOf (sides 4) [] 2 (told 7 0 1 2 2 2) ≡ answered (route (2 ∷ 1 ∷ 0 ∷ 0 ∷ 0 ∷ replicate 59 0))
+  few-views : searchOf (sides 4) [] 3 (replicate 129 0) ≡ refusal 9 0
+  no-carrier : searchOf (sides 4) [] 3 (replicate 130 0) ≡ refusal 7 0
+
+cases : Cases
 unfolding searchOf _gives_ requestOf checkOf limitsOf lentOf roomOf placesOf carriersOf wallsOf risingOf clearOf distinctOf within demand
     _then_ demandEach inTurn inGrid carrierInGrid startOf goalOf clearOfWalls among unshared taskOf viewsOf records viewAt recordAt viewOf
     part seenAs seenFrom seen parked cellAt
     neighbours near vacant passable every standable allowed startClear cost cheaper cheapest beatsFrom val walk walkFrom best
-first-carrier = refl
+cases =
+    record {
+      first-carrier = refl;
+      second-carrier = refl;
+      second-carrier-short = refl;
+      heard-none = refl;
+      not-heard = refl;
+      few-views = refl;
+      no-carrier = refl;
+    }
 
-second-carrier : searchOf (sides 4) [] 2 (told 2 0 1 2 2 2) ≡ answered (route (2 ∷ 5 ∷ 4 ∷ 1 ∷ 0 ∷ replicate 59 0))
-unfolding searchOf _gives_ requestOf checkOf limitsOf lentOf roomOf placesOf carriersOf wallsOf risingOf clearOf distinctOf within demand
-    _then_ demandEach inTurn inGrid carrierInGrid startOf goalOf clearOfWalls among unshared taskOf viewsOf records viewAt recordAt viewOf
-    part seenAs seenFrom seen parked cellAt
-    neighbours near vacant passable every standable allowed startClear cost cheaper cheapest beatsFrom val walk walkFrom best
-second-carrier = refl
-
--- Floor 3: with horizon 3 there is no way round.
-second-carrier-short : searchOf (sides 3) [] 2 (told 2 0 1 2 2 0) ≡ answered none
-unfolding searchOf _gives_ requestOf checkOf limitsOf lentOf roomOf placesOf carriersOf wallsOf risingOf clearOf distinctOf within demand
-    _then_ demandEach inTurn inGrid carrierInGrid startOf goalOf clearOfWalls among unshared taskOf viewsOf records viewAt recordAt viewOf
-    part seenAs seenFrom seen parked cellAt
-    neighbours near vacant passable every standable allowed startClear cost cheaper cheapest beatsFrom val walk walkFrom best
-second-carrier-short = refl
-
--- Not heard, with any numbers beside the tag, occupies nothing. Heard none occupies carrier 1's start, which is carrier 2's goal.
-heard-none : searchOf (sides 4) [] 2 (told 1 0 1 2 2 2) ≡ answered none
-unfolding searchOf _gives_ requestOf checkOf limitsOf lentOf roomOf placesOf carriersOf wallsOf risingOf clearOf distinctOf within demand
-    _then_ demandEach inTurn inGrid carrierInGrid startOf goalOf clearOfWalls among unshared taskOf viewsOf records viewAt recordAt viewOf
-    part seenAs seenFrom seen parked cellAt
-    neighbours near vacant passable every standable allowed startClear cost cheaper cheapest beatsFrom val walk walkFrom best
-heard-none = refl
-
-not-heard : searchOf (sides 4) [] 2 (told 7 0 1 2 2 2) ≡ answered (route (2 ∷ 1 ∷ 0 ∷ 0 ∷ 0 ∷ replicate 59 0))
-unfolding searchOf _gives_ requestOf checkOf limitsOf lentOf roomOf placesOf carriersOf wallsOf risingOf clearOf distinctOf within demand
-    _then_ demandEach inTurn inGrid carrierInGrid startOf goalOf clearOfWalls among unshared taskOf viewsOf records viewAt recordAt viewOf
-    part seenAs seenFrom seen parked cellAt
-    neighbours near vacant passable every standable allowed startClear cost cheaper cheapest beatsFrom val walk walkFrom best
-not-heard = refl
-
--- A horizon of 64: 2, field 3. Too few views: 9. A carrier that is not there: 7.
+-- A horizon of 64: 2, field 3.
 long-horizon : searchOf (sides 64) [] 1 [] ≡ refusal 2 3
 unfolding searchOf _gives_ requestOf checkOf limitsOf within demand _then_
 long-horizon = refl
-
-few-views : searchOf (sides 4) [] 3 (replicate 129 0) ≡ refusal 9 0
-unfolding searchOf _gives_ requestOf checkOf limitsOf lentOf roomOf placesOf carriersOf wallsOf risingOf clearOf distinctOf within demand
-    _then_ demandEach inTurn inGrid carrierInGrid startOf goalOf clearOfWalls among unshared taskOf viewsOf records viewAt recordAt viewOf
-    part seenAs seenFrom seen parked cellAt
-    neighbours near vacant passable every standable allowed startClear cost cheaper cheapest beatsFrom val walk walkFrom best
-few-views = refl
-
-no-carrier : searchOf (sides 4) [] 3 (replicate 130 0) ≡ refusal 7 0
-unfolding searchOf _gives_ requestOf checkOf limitsOf lentOf roomOf placesOf carriersOf wallsOf risingOf clearOf distinctOf within demand
-    _then_ demandEach inTurn inGrid carrierInGrid startOf goalOf clearOfWalls among unshared taskOf viewsOf records viewAt recordAt viewOf
-    part seenAs seenFrom seen parked cellAt
-    neighbours near vacant passable every standable allowed startClear cost cheaper cheapest beatsFrom val walk walkFrom best
-no-carrier = refl

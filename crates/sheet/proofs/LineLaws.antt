@@ -22,12 +22,16 @@ pub field-next : (m m′ m″ a : List ℕ) (at n v : ℕ) → m′ ≡ put m at
     → m″ ≡ put m at (a ++ fieldOf v)
 field-next m m′ m″ a at n v e f s l = put-next m m′ m″ a (fieldOf v) at n e f s (rw field-length l)
 
--- A newline behind a block.
+-- A byte behind a block, and a newline.
+pub byte-next : (v : ℕ) (m m′ a : List ℕ) (at n : ℕ) → m′ ≡ put m at a → at + length a ≡ n → n < length m
+    → set m′ n v ≡ put m at (a ++ (v ∷ []))
+byte-next v m m′ a at n e s l =
+    let size : length m′ ≡ length m = ap length e ∙ put-length m a at (omega arith) in
+    put-next m m′ (set m′ n v) a (v ∷ []) at n e (put-one m′ n v (omega arith)) s (rw add-one l)
+
 pub newline-next : (m m′ a : List ℕ) (at n : ℕ) → m′ ≡ put m at a → at + length a ≡ n → n < length m
     → set m′ n 10 ≡ put m at (a ++ (10 ∷ []))
-newline-next m m′ a at n e s l =
-    let size : length m′ ≡ length m = ap length e ∙ put-length m a at (omega arith) in
-    put-next m m′ (set m′ n 10) a (10 ∷ []) at n e (put-one m′ n 10 (omega arith)) s (rw add-one l)
+newline-next = byte-next 10
 
 -- Lines of one length.
 pub lines-length : (line : ℕ → List ℕ) (w : ℕ) → ((i : ℕ) → length (line i) ≡ w) → (k : ℕ) → length (linesOf line k) ≡ w * k

@@ -39,7 +39,7 @@ fn form_of(text: &[u8]) -> Checked
 }
 
 // Room for the most walls that a floor can have.
-fn no_walls() -> [u16; 1023]
+pub fn no_walls() -> [u16; 1023]
     ensures { λ r. ⌜ 1023 ≡ length r ⌝ }
 {
     [0; 1023]

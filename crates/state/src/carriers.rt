@@ -43,17 +43,25 @@ pub fn is_news(m: &[u16], i: usize, tag: u16, cells: Route) -> bool
     !same_cells(m, a + 1, cells)
 }
 
+// Carrier i's part: whether it has planned, whether it is due, and its answer.
+pub fn write(m: &mut [u16], i: usize, planned: u16, due: u16, tag: u16, cells: Route)
+    requires { ⌜ (i < 8) × (69 + 67 * i ≤ length (now m)) ⌝ }
+    ensures { λ r. ⌜ now (m .exit) ≡ put (now (m .entry)) (plannedPlace i) (planned ∷ (due ∷ (tag ∷ cells))) ⌝ }
+{
+    let p = planned_place(i);
+    let d = due_place(i);
+    let a = answer_place(i);
+    m[p] = planned;
+    m[d] = due;
+    records::store(m, a, tag, cells);
+}
+
 // Carrier i has planned this answer and is no longer due.
 pub fn set_planned(m: &mut [u16], i: usize, tag: u16, cells: Route)
     requires { ⌜ (i < 8) × (69 + 67 * i ≤ length (now m)) ⌝ }
     ensures { λ r. ⌜ now (m .exit) ≡ put (now (m .entry)) (plannedPlace i) (1 ∷ (0 ∷ (tag ∷ cells))) ⌝ }
 {
-    let p = planned_place(i);
-    let d = due_place(i);
-    let a = answer_place(i);
-    m[p] = 1;
-    m[d] = 0;
-    records::store(m, a, tag, cells);
+    write(m, i, 1, 0, tag, cells);
 }
 
 // Carrier i becomes due.

@@ -7,10 +7,7 @@ ghost use Rattle.reference.specs.State.{fresh};
 ghost use Rattle.layout.specs.Places.{stateSize};
 ghost use Rattle.layout.specs.Encode.{encode, carrierBlock, blocks};
 use crate::places::COUNT;
-use crate::places::answer_place;
-use crate::places::due_place;
 use crate::places::pairs_place;
-use crate::places::planned_place;
 use crate::places::state_size;
 
 // Carrier i, fresh.
@@ -18,12 +15,7 @@ fn write_carrier(m: &mut [u16], i: usize)
     requires { ⌜ (i < 8) × (69 + 67 * i ≤ length (now m)) ⌝ }
     ensures { λ r. ⌜ now (m .exit) ≡ put (now (m .entry)) (2 + 67 * i) (carrierBlock fresh i) ⌝ }
 {
-    let p = planned_place(i);
-    let d = due_place(i);
-    let a = answer_place(i);
-    m[p] = 0;
-    m[d] = 1;
-    records::store(m, a, 1, [0u16; records::CELLS]);
+    crate::carriers::write(m, i, 0, 1, 1, [0u16; records::CELLS]);
 }
 
 // The first n carriers, fresh.

@@ -21,45 +21,23 @@ unfolding larger
 larger-cases m n =
     ⊎-elim (λ (h : m < n). inl (h, rw (lt-ltb m n h, larger))) (λ (h : n ≤ m). inr (h, rw (le-ltb m n h, larger))) (lt-or-le m n)
 
--- The smaller is not above either.
+-- The smaller is not above either, and the larger not below.
 pub smaller-says : (m n : ℕ) → (smaller m n ≤ m) × (smaller m n ≤ n)
-smaller-says m n = go (smaller-cases m n)
-  where
-    go : ((m < n) × (smaller m n ≡ m)) ⊎ ((n ≤ m) × (smaller m n ≡ n)) → (smaller m n ≤ m) × (smaller m n ≤ n)
-    go (inl h) = omega arith
-    go (inr h) = omega arith
+smaller-says m n = ⊎-elim (λ h. omega arith) (λ h. omega arith) (smaller-cases m n)
 
--- The smaller is one of the two.
-pub smaller-is : (m n : ℕ) → (smaller m n ≡ m) ⊎ (smaller m n ≡ n)
-smaller-is m n = go (smaller-cases m n)
-  where
-    go : ((m < n) × (smaller m n ≡ m)) ⊎ ((n ≤ m) × (smaller m n ≡ n)) → (smaller m n ≡ m) ⊎ (smaller m n ≡ n)
-    go (inl h) = inl (h .1)
-    go (inr h) = inr (h .1)
-
--- The larger is not below either.
 pub larger-says : (m n : ℕ) → (m ≤ larger m n) × (n ≤ larger m n)
-larger-says m n = go (larger-cases m n)
-  where
-    go : ((m < n) × (larger m n ≡ n)) ⊎ ((n ≤ m) × (larger m n ≡ m)) → (m ≤ larger m n) × (n ≤ larger m n)
-    go (inl h) = omega arith
-    go (inr h) = omega arith
+larger-says m n = ⊎-elim (λ h. omega arith) (λ h. omega arith) (larger-cases m n)
 
--- The larger is one of the two.
+-- Each is one of the two.
+pub smaller-is : (m n : ℕ) → (smaller m n ≡ m) ⊎ (smaller m n ≡ n)
+smaller-is m n = ⊎-elim (λ h. inl (omega arith)) (λ h. inr (omega arith)) (smaller-cases m n)
+
 pub larger-is : (m n : ℕ) → (larger m n ≡ m) ⊎ (larger m n ≡ n)
-larger-is m n = go (larger-cases m n)
-  where
-    go : ((m < n) × (larger m n ≡ n)) ⊎ ((n ≤ m) × (larger m n ≡ m)) → (larger m n ≡ m) ⊎ (larger m n ≡ n)
-    go (inl h) = inr (h .1)
-    go (inr h) = inl (h .1)
+larger-is m n = ⊎-elim (λ h. inr (omega arith)) (λ h. inl (omega arith)) (larger-cases m n)
 
 -- The larger of two numbers that are not above a bound is not above it.
 larger-below : (m n k : ℕ) → m ≤ k → n ≤ k → larger m n ≤ k
-larger-below m n k h l = go (larger-is m n)
-  where
-    go : (larger m n ≡ m) ⊎ (larger m n ≡ n) → larger m n ≤ k
-    go (inl q) = omega arith
-    go (inr q) = omega arith
+larger-below m n k h l = ⊎-elim (λ q. omega arith) (λ q. omega arith) (larger-is m n)
 
 -- Neither of two numbers is above the other by more than the gap.
 pub gap-says : (m n : ℕ) → (m ≤ n + gap m n) × (n ≤ m + gap m n)
@@ -84,19 +62,12 @@ gap-sym m n = omega arith
 -- The smaller of two numbers twice, with the gap, is their sum.
 pub smaller-gap : (m n : ℕ) → smaller m n + (smaller m n + gap m n) ≡ m + n
 unfolding gap
-smaller-gap m n = go (smaller-cases m n)
-  where
-    go : ((m < n) × (smaller m n ≡ m)) ⊎ ((n ≤ m) × (smaller m n ≡ n)) → smaller m n + (smaller m n + gap m n) ≡ m + n
-    go (inl h) = omega arith
-    go (inr h) = omega arith
+smaller-gap m n = ⊎-elim (λ h. omega arith) (λ h. omega arith) (smaller-cases m n)
 
 -- Going by way of k is no shorter.
 pub gap-between : (m k n : ℕ) → gap m n ≤ gap m k + gap k n
-gap-between m k n = go (gap-is m n)
-  where
-    go : (m + gap m n ≡ n) ⊎ (n + gap m n ≡ m) → gap m n ≤ gap m k + gap k n
-    go (inl q) = omega (arith, gap-says m k, gap-says k n)
-    go (inr q) = omega (arith, gap-says m k, gap-says k n)
+gap-between m k n =
+    ⊎-elim (λ q. omega (arith, gap-says m k, gap-says k n)) (λ q. omega (arith, gap-says m k, gap-says k n)) (gap-is m n)
 
 -- Neighbouring numbers are nearly as far from a third.
 pub gap-next : (x m n : ℕ) → Neighbours m n → gap x n ≤ suc (gap x m)
@@ -130,11 +101,7 @@ height-sized n = ⊎-elim (λ (h : (n < 4) × (heightFor n ≡ 4)). inl (h .1)) 
 
 -- It has n + 1 rows, or all.
 enough-rows : (n r f : ℕ) → r < 32 → r ≤ f + n → r < f + heightFor n
-enough-rows n r f h l = go (height-cases n)
-  where
-    go : ((n < 4) × (heightFor n ≡ 4)) ⊎ (heightFor n ≡ 32) → r < f + heightFor n
-    go (inl q) = omega (arith, q .0, q .1)
-    go (inr q) = omega arith
+enough-rows n r f h l = ⊎-elim (λ q. omega arith) (λ q. omega arith) (height-cases n)
 
 module _ (sr sc gr gc limit t r q : ℕ) (row : r < 32) (within : t ≤ limit) (before : gap sr r + gap sc q ≤ t)
     (after : gap r gr + gap q gc ≤ limit - t) where

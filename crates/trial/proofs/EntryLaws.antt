@@ -5,11 +5,14 @@ use native.Mathlib.Nat.{zero-add}
 use mathlib.Core.List.{List, [], _∷_, _++_}
 use mathlib.Core.Path.{_≡_, sym, _∙_, ap}
 use lib.ListN.{drop}
-use lib.Seq.{drop-at}
 use Rattle.laws.specs.Verdict.{passed}
 use Rattle.laws.specs.Memory.{put}
 use Rattle.laws.proofs.VerdictLaws.{then-both}
 use Rattle.floor.specs.declared.Floor.{Floor}
+use Rattle.floor.specs.declared.Checked.{Checked}
+use Rattle.floor.specs.declared.Checked.the-variants.{Passed}
+use Rattle.floor.specs.Answers.{verdictOf}
+use Rattle.floor.proofs.AnswersLaws.{passes}
 use Rattle.floor.specs.Checks.{checkOf, roomOf}
 use Rattle.floor.proofs.LimitsLaws.{limited-bounds, room-passed}
 use Rattle.floor.proofs.Theorems.{theorems}
@@ -20,8 +23,9 @@ use Rattle.layout.specs.Places.{stateSize}
 use Rattle.layout.specs.Encode.{encode}
 use Rattle.layout.specs.Calls.{machineOf, placeVerdict}
 use Rattle.layout.specs.InnerSteps.{afterIn, saidIn}
-use Rattle.layout.proofs.StateLaws.{encode-length}
+use Rattle.layout.proofs.StateLaws.{encode-length, encode-beyond}
 use Rattle.steps.specs.Inner.{Placed}
+use Rattle.steps.proofs.PlacedLaws.{placed-bounds}
 use Rattle.machine.proofs.VerdictLaws.{place-tells}
 use Rattle.orders.specs.Orders.{Order, round, places, stepAt, remembered}
 use Rattle.orders.proofs.RuleLaws.{Memory}
@@ -47,10 +51,14 @@ trial-tells f ws order state report h =
     let b = then-both _ _ (a .1) in
     record { checked = then-both _ _ (a .0) .0; placed = place-tells f ws state (a .0); wide = room-passed _ _ (b .0) }
 
--- The needed length of a report as the code computes it.
-pub report-room : (n most report : ℕ) → most ≡ ceiling n → roomOf (2 * most) report ≡ roomOf (reportSize n) report
+-- The room for a report, as the code asks for it behind a check of the floor and its state that passed.
+pub report-room : {a : Checked} (b : Checked) (f : Floor) (ws : List ℕ) (state most report : ℕ) → verdictOf a ≡ placeVerdict f ws state → a ≡ Passed →
+    (1 ≤ f .carriers → f .carriers ≤ 8 → most ≡ ceiling (f .carriers)) × (most ≤ 512) → verdictOf b ≡ roomOf (2 * most) report →
+    verdictOf b ≡ roomOf (reportSize (f .carriers)) report
 unfolding reportSize
-report-room n most report e = rw e
+report-room b f ws state most report v e m h =
+    let n = placed-bounds (place-tells f ws state (passes v e)) .carriers in
+    h ∙ rw (m .0 (n .0) (n .1))
 
 -- Line t of a report is within its needed length.
 pub report-left : (n t most wide lent : ℕ) → most ≡ ceiling n → t < most → reportSize n ≤ lent → wide ≡ lent → 2 * t + 2 ≤ wide
@@ -69,9 +77,7 @@ module _ (n : ℕ) (m : List ℕ) where
 
   module _ (m′ : List ℕ) (e : m′ ≡ put m 0 (encode n fresh)) where
     front-rest : drop (stateSize n) m′ ≡ drop (stateSize n) m
-    front-rest =
-        ap (drop (stateSize n)) (e ∙ front-is fresh)
-        ∙ drop-at (encode n fresh) (drop (stateSize n) m) (stateSize n) (encode-length n fresh)
+    front-rest = rw e (encode-beyond n fresh m)
 
     pub front-fresh : m′ ≡ encode n fresh ++ drop (stateSize n) m′
     front-fresh = e ∙ front-is fresh ∙ ap (λ (l : List ℕ). encode n fresh ++ l) (sym front-rest)

@@ -4,9 +4,7 @@ use borrow.Author.Needs.{needs}
 use Rattle.kalomivund.proofs.kalomivund_ceiling.Statement.{statement}
 use Rattle.kalomivund.proofs.kalomivund_ceiling.Tie as tie
 
-returns : tie.Need-returns
-unfolding ceilingWord
-returns c = rw (c .before .ceiling .ensures) at (c .of-ceiling .ensures)
-
 pub kalomivund-ceiling-spec : {M : Type 1} → statement M
-kalomivund-ceiling-spec = tie.close (tie.spec (λ c κs. search needs) (λ c κs. search needs) returns)
+unfolding ceilingWord
+kalomivund-ceiling-spec = tie.close (tie.spec (λ c κs. search needs) (λ c κs. search needs)
+    (λ c. cc))

@@ -3,7 +3,7 @@ use Rattle.printing.specs.Print.{outcomeOf}
 use mathlib.Core.Path.{sym}
 use lib.Seq.{length-take-le}
 use Rattle.printing.specs.Put.{FloorPut}
-use Rattle.printing.proofs.PrintLaws.{text-short, text-fits, plan-granted}
+use Rattle.printing.proofs.PrintLaws.{text-short, text-fits}
 use native.Mathlib.Omega.{arith}
 use borrow.Author.Needs.{needs}
 use Rattle.printing.proofs.print_read.Statement.{statement}
@@ -13,31 +13,28 @@ returns : tie.Need-returns
 unfolding outcomeOf FloorPut
 returns c = text-short _ _ _ _ _ (omega (arith, c .if1 .taken, c .before .text-length .ensures))
 
-slice-aggregate-put-plan : tie.Need-slice-aggregate-put-plan
-slice-aggregate-put-plan c =
+slice-aggregate-put-routes : tie.Need-slice-aggregate-put-routes
+slice-aggregate-put-routes c =
     let start : tie.Start = search in
     sym (length-take-le _ _ (start .pre .1))
 
-put-plan-requires : tie.Need-put-plan-requires
-put-plan-requires c κs =
-    let after-no-answers : tie.After-no-answers = search in
+put-routes-requires : tie.Need-put-routes-requires
+put-routes-requires c κs =
     let else1 : tie.Else1 = search in
     let after-text-length : tie.After-text-length = search in
-    let start : tie.Start = search in (
-      plan-granted _ _ _ (start .pre .0) (omega (arith, after-no-answers .no-answers .ensures)),
-      omega (arith, else1 .if1 .left, after-text-length .text-length .ensures),
-    )
+    let start : tie.Start = search in
+    (start .pre .0, omega (arith, else1 .if1 .left, after-text-length .text-length .ensures))
 
 returns-2 : tie.Need-returns-2
 unfolding outcomeOf FloorPut
 returns-2 c =
-    let after-put-plan : tie.After-put-plan = search in
+    let after-put-routes : tie.After-put-routes = search in
     let else1 : tie.Else1 = search in
     let after-text-length : tie.After-text-length = search in
     text-fits _ _ _ _ _ _ _ (omega (arith, else1 .if1 .left, after-text-length .text-length .ensures))
-    (after-put-plan .put-plan .ensures .1)
+    (after-put-routes .put-routes .ensures)
 
 pub print-read-spec : {M : Type 1} → statement M
 print-read-spec =
-    tie.close (tie.spec (λ c κs. search needs) returns (λ c. search needs) (λ c κs. search needs)
-    slice-aggregate-put-plan (λ c. search needs) put-plan-requires (λ c. search needs) returns-2)
+    tie.close (tie.spec (λ c κs. search needs) returns (λ c. search needs) slice-aggregate-put-routes put-routes-requires
+    (λ c. search needs) returns-2)

@@ -1,6 +1,6 @@
 -- `words::drop_at` meets its contract. A cell's row and column are found without a division; a number that is no cell changes nothing.
 -- Assumes nothing.
-use Prim.Native.Nat.{_*_, _-_, _%_}
+use Prim.Native.Nat.{_*_, _-_, _%_, _<_}
 use native.Mathlib.Nat.{mod-lt}
 use native.Mathlib.Omega.{arith}
 use mathlib.Core.Path.{_≡_, _∙_}
@@ -9,37 +9,14 @@ use Rattle.words.proofs.RowsLaws.{dropped-inside, dropped-outside, plac
 use Rattle.words.proofs.drop_at.Statement.{statement}
 use Rattle.words.proofs.drop_at.Tie as tie
 
-add-drop : tie.Need-add-drop
-add-drop c =
+-- The row of a cell is one of 32, and its column is within the width.
+inside : (c : tie.After-row-of) →
     let start : tie.Start = search in
-    let h = place-row (start .args .w) (start .args .c) (omega arith) (omega arith) in
-    let e = c .before .row-of .ensures .0 in
-    let q = mod-lt (start .args .c) {m = start .args .w} (omega arith) in
-    omega arith
-
-mul-drop : tie.Need-mul-drop
-mul-drop c =
+    (c .row-of .result < 32) × (start .args .c % start .args .w < start .args .w)
+inside c =
     let start : tie.Start = search in
-    let h = place-row (start .args .w) (start .args .c) (omega arith) (omega arith) in
-    let e = c .before .row-of .ensures .0 in
-    let q = mod-lt (start .args .c) {m = start .args .w} (omega arith) in
-    omega arith
-
-sub-drop : tie.Need-sub-drop
-sub-drop c =
-    let start : tie.Start = search in
-    let h = place-row (start .args .w) (start .args .c) (omega arith) (omega arith) in
-    let e = c .before .row-of .ensures .0 in
-    let q = mod-lt (start .args .c) {m = start .args .w} (omega arith) in
-    omega arith
-
-drop-requires : tie.Need-drop-requires
-drop-requires c κs =
-    let start : tie.Start = search in
-    let h = place-row (start .args .w) (start .args .c) (omega arith) (omega arith) in
-    let e = c .before .row-of .ensures .0 in
-    let q = mod-lt (start .args .c) {m = start .args .w} (omega arith) in
-    (omega arith, omega arith)
+    let row = place-row (start .args .w) (start .args .c) (omega arith) (omega arith) in
+    (rw (c .row-of .ensures .0) row, mod-lt (start .args .c) {m = start .args .w} (omega arith))
 
 returns : tie.Need-returns
 returns c =
@@ -49,10 +26,8 @@ returns c =
     let q : start .args .c - after-row-of .row-of .result * start .args .w ≡ start .args .c % start .args .w = omega arith in
     c .before .before .drop .ensures ∙ (rw (q, after-row-of .row-of .ensures .0) (dropped-inside _ _ _ _ _ (then1 .if1 .taken)))
 
-returns-2 : tie.Need-returns-2
-returns-2 c = dropped-outside _ _ _ _ _ (c .if1 .left)
-
 pub drop-at-spec : {M : Type 1} → statement M
 drop-at-spec =
-    tie.close (tie.spec (λ c κs. search needs) add-drop mul-drop sub-drop drop-requires (λ c. search needs) returns
-    returns-2)
+    tie.close (tie.spec (λ c κs. search needs) (λ c. omega (arith, inside search)) (λ c. omega (arith, inside search))
+    (λ c. omega (arith, inside search)) (λ c κs. (omega (arith, inside search), omega (arith, inside search)))
+    (λ c. search needs) returns (λ c. dropped-outside _ _ _ _ _ (c .if1 .left)))

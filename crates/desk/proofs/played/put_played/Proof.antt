@@ -3,7 +3,7 @@ use mathlib.Core.Path.{refl}
 use lib.ListN.{length-take, length-drop}
 use Rattle.reporting.specs.Text.{entries, reportLength}
 use Rattle.desk.proofs.TextLaws.{both-put}
-use Rattle.desk.proofs.PlayedLaws.{routes-short, report-room}
+use Rattle.desk.proofs.PlayedLaws.{routes-room, routes-short, report-room}
 use native.Mathlib.Omega.{arith}
 use borrow.Author.Needs.{needs}
 use Rattle.desk.proofs.played.put_played.Statement.{statement}
@@ -33,7 +33,7 @@ put-routes-requires c κs =
     let after-put-report : tie.After-put-report = search in
     let start : tie.Start = search in
     let n = report-room _ _ _ _ _ _ (after-put-report .put-report .ensures) (start .pre .1 .0) in
-    (start .pre .0, simp (length-take, length-drop) (omega (arith, start .pre .1 .1)))
+    (start .pre .0, simp (length-take, length-drop) (omega (arith, start .pre .1 .1, routes-room _ _ (start .pre .0))))
 
 add-result : tie.Need-add-result
 add-result c =

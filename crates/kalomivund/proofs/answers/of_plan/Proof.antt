@@ -5,18 +5,9 @@ use borrow.Author.Needs.{needs}
 use Rattle.kalomivund.proofs.answers.of_plan.Statement.{statement}
 use Rattle.kalomivund.proofs.answers.of_plan.Tie as tie
 
-returns : tie.Need-returns
-unfolding ofNumber mapOutcome resultOf
-returns c =
-    let after-x : tie.After-x = search in
-    rw (after-x .x .given .1) (c .done .ensures)
-
-returns-2 : tie.Need-returns-2
-unfolding ofNumber mapOutcome resultOf
-returns-2 c =
-    let after-x2 : tie.After-x2 = search in
-    rw (after-x2 .x2 .given .1) (c .refused .ensures)
-
 pub of-plan-spec : {M : Type 1} → statement M
+unfolding ofNumber mapOutcome resultOf
 of-plan-spec =
-    tie.close (tie.spec (λ c. search needs) (λ c κs. search needs) (λ c. search needs) (λ c κs. search needs) returns returns-2)
+    tie.close (tie.spec (λ c. search needs) (λ c κs. search needs) (λ c. search needs) (λ c κs. search needs)
+    (λ c. let told : tie.After-x = search in rw (told .x .given .1) (c .done .ensures))
+    (λ c. let told : tie.After-x2 = search in rw (told .x2 .given .1) (c .refused .ensures)))

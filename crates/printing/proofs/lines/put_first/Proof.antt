@@ -10,9 +10,6 @@ use borrow.Author.Needs.{needs}
 use Rattle.printing.proofs.lines.put_first.Statement.{statement}
 use Rattle.printing.proofs.lines.put_first.Tie as tie
 
-same-length : tie.Need-same-length
-same-length c = simp length-set (omega arith)
-
 returns : tie.Need-returns
 unfolding firstLine lineOf fieldOf
 returns c =
@@ -24,4 +21,4 @@ returns c =
 
 pub put-first-spec : {M : Type 1} → statement M
 put-first-spec =
-    tie.close (tie.spec (λ c κs. search needs) (λ c κs. search needs) (λ c. search needs) same-length returns)
+    tie.close (tie.spec (λ c κs. search needs) (λ c κs. search needs) (λ c. search needs) (λ c. simp length-set (omega arith)) returns)

@@ -10,9 +10,6 @@ use borrow.Author.Needs.{needs}
 use Rattle.printing.proofs.lines.put_none.Statement.{statement}
 use Rattle.printing.proofs.lines.put_none.Tie as tie
 
-same-length : tie.Need-same-length
-same-length c = simp length-set (omega arith)
-
 returns : tie.Need-returns
 unfolding noneLine noneWord fieldOf
 returns c =
@@ -25,4 +22,4 @@ returns c =
 pub put-none-spec : {M : Type 1} → statement M
 put-none-spec =
     tie.close (tie.spec (λ c κs. search needs) (λ c. search needs) (λ c κs. search needs) (λ c. search needs)
-    (λ c. search needs) same-length returns)
+    (λ c. search needs) (λ c. simp length-set (omega arith)) returns)

@@ -11,9 +11,6 @@ use borrow.Author.Needs.{needs}
 use Rattle.sheet.proofs.lines.put_carrier.Statement.{statement}
 use Rattle.sheet.proofs.lines.put_carrier.Tie as tie
 
-same-length : tie.Need-same-length
-same-length c = simp length-set (omega arith)
-
 returns : tie.Need-returns
 unfolding carrierLine lineOf fieldOf startOf goalOf
 returns c =
@@ -27,4 +24,4 @@ pub put-carrier-spec : {M : Type 1} → statement M
 put-carrier-spec =
     tie.close (tie.spec (λ c. search needs) (λ c. search needs) (λ c. search needs) (λ c. search needs)
     (λ c κs. search needs) (λ c. search needs) (λ c κs. search needs) (λ c. search needs) (λ c. search needs)
-    same-length returns)
+    (λ c. simp length-set (omega arith)) returns)

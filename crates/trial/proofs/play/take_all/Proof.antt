@@ -1,7 +1,9 @@
 -- `trial::play::take_all` meets its contract: the loop has played the trial so far.
 use Prim.Native.Nat.{_-_, _≤_}
 use native.Mathlib.Omega.{arith}
-use mathlib.Core.Path.{sym, _∙_}
+use mathlib.Core.Path.{_≡_, sym, _∙_}
+use Rattle.reference.specs.Quiet.{ceiling}
+use Rattle.orders.specs.Orders.{places}
 use Rattle.steps.proofs.PlacedLaws.{placed-sized, workable-same}
 use Rattle.trial.specs.Entry.{orderBy, trialOf}
 use Rattle.trial.proofs.EntryLaws.{checked-carriers, memory-round, report-left, some-open}
@@ -11,8 +13,8 @@ use Rattle.trial.proofs.play.take_all.Statement.{statement}
 use Rattle.trial.proofs.play.take_all.Tie as tie
 
 abbrev Inv-loop : tie.InvT-loop
-Inv-loop f walls free order seed m₀ report₀ all most c₀ t₀ m report c t = (t ≤ most) ×
-    Playing f walls (orderBy order) seed m₀ report₀ m report c t
+Inv-loop f walls free order seed m₀ report₀ all most c₀ t₀ m report c t =
+    (t ≤ most) × (all ≡ places (f .carriers)) × (most ≡ ceiling (f .carriers)) × Playing f walls (orderBy order) seed m₀ report₀ m report c t
 
 abbrev μ-loop : tie.MeasureT-loop
 μ-loop f walls free order seed m₀ report₀ all most c₀ t₀ m report c t = most - t
@@ -24,8 +26,15 @@ count-requires c κs =
 
 loop-holds : tie.Need-loop-holds Inv-loop μ-loop
 loop-holds c =
+    let after-most-steps : tie.After-most-steps Inv-loop μ-loop = search in
+    let after-count : tie.After-count Inv-loop μ-loop = search in
     let start : tie.Start Inv-loop μ-loop = search in
-    (omega arith, rw (c .start .ensures) (playing-start _ _ _ _ _ _ (start .pre .1 .1 .0)))
+    let n = checked-carriers _ _ (start .pre .0) in (
+      omega arith,
+      after-count .count .ensures .0,
+      after-most-steps .most-steps .ensures .0 (n .0) (n .1),
+      rw (c .start .ensures) (playing-start _ _ _ _ _ _ (start .pre .1 .1 .0)),
+    )
 
 count-open-requires : tie.Need-count-open-requires Inv-loop μ-loop
 count-open-requires c κs =
@@ -33,18 +42,18 @@ count-open-requires c κs =
     let after-count : tie.After-count Inv-loop μ-loop = search in
     let start : tie.Start Inv-loop μ-loop = search in (
       omega (arith, after-count .count .ensures .0),
-      (placed-sized (start .pre .1 .0 .placed) .0, omega (arith, at-loop .loop .inv .1 .long, start .pre .1 .0 .placed .enough)),
+      (placed-sized (start .pre .1 .0 .placed) .0, omega (arith, at-loop .loop .inv .3 .long, start .pre .1 .0 .placed .enough)),
     )
 
 same-length : tie.Need-same-length Inv-loop μ-loop
 same-length c =
     let at-loop : tie.At-loop Inv-loop μ-loop = search in
-    at-loop .loop .inv .1 .long
+    at-loop .loop .inv .3 .long
 
 same-length-2 : tie.Need-same-length-2 Inv-loop μ-loop
 same-length-2 c =
     let at-loop : tie.At-loop Inv-loop μ-loop = search in
-    at-loop .loop .inv .1 .wide
+    at-loop .loop .inv .3 .wide
 
 returns : tie.Need-returns Inv-loop μ-loop
 unfolding trialOf
@@ -52,11 +61,10 @@ returns c =
     let then1 : tie.Then1 Inv-loop μ-loop = search in
     let after-count-open : tie.After-count-open Inv-loop μ-loop = search in
     let at-loop : tie.At-loop Inv-loop μ-loop = search in
-    let after-count : tie.After-count Inv-loop μ-loop = search in
     let start : tie.Start Inv-loop μ-loop = search in
-    let p = at-loop .loop .inv .1 in
+    let inv = at-loop .loop .inv in
     let none = sym (after-count-open .count-open .ensures .0) ∙ then1 .if1 .taken in
-    stopped _ _ _ _ _ _ (start .pre .0) p (stops-silent _ _ _ _ _ _ (start .pre .0) p (rw (after-count .count .ensures .0) at none))
+    stopped _ _ _ _ _ _ (start .pre .0) (inv .3) (stops-silent _ _ _ _ _ _ (start .pre .0) (inv .3) (rw (inv .1) at none))
 
 advance-requires : tie.Need-advance-requires Inv-loop μ-loop
 advance-requires c κs =
@@ -65,20 +73,16 @@ advance-requires c κs =
     let in-loop : tie.In-loop Inv-loop μ-loop = search in
     let at-loop : tie.At-loop Inv-loop μ-loop = search in
     let after-most-steps : tie.After-most-steps Inv-loop μ-loop = search in
-    let after-count : tie.After-count Inv-loop μ-loop = search in
     let start : tie.Start Inv-loop μ-loop = search in
-    let p = at-loop .loop .inv .1 in
-    let n = checked-carriers _ _ (start .pre .0) in
-    let most = after-most-steps .most-steps .ensures .0 (n .0) (n .1) in
-    let opened = rw (after-count .count .ensures .0) at (after-count-open .count-open .ensures .0) in (
-      (opened, omega (arith, else1 .if1 .left)),
+    let inv = at-loop .loop .inv in (
+      (rw (inv .1) at (after-count-open .count-open .ensures .0), omega (arith, else1 .if1 .left)),
       (
-        memory-round _ _ _ _ (p .keeps),
+        memory-round _ _ _ _ (inv .3 .keeps),
         (
-          workable-same (p .long) (start .pre .1 .0),
+          workable-same (inv .3 .long) (start .pre .1 .0),
           (
             omega (arith, in-loop .loop-test .taken, after-most-steps .most-steps .ensures .1),
-            report-left _ _ _ _ _ most (in-loop .loop-test .taken) (start .pre .1 .1 .1) (p .wide),
+            report-left _ _ _ _ _ (inv .2) (in-loop .loop-test .taken) (start .pre .1 .1 .1) (inv .3 .wide),
           ),
         ),
       ),
@@ -91,38 +95,34 @@ loop-again c =
     let after-count-open : tie.After-count-open Inv-loop μ-loop = search in
     let in-loop : tie.In-loop Inv-loop μ-loop = search in
     let at-loop : tie.At-loop Inv-loop μ-loop = search in
-    let after-most-steps : tie.After-most-steps Inv-loop μ-loop = search in
     let after-count : tie.After-count Inv-loop μ-loop = search in
     let start : tie.Start Inv-loop μ-loop = search in
-    let p = at-loop .loop .inv .1 in
-    let n = checked-carriers _ _ (start .pre .0) in
-    let most = after-most-steps .most-steps .ensures .0 (n .0) (n .1) in
-    let opened = rw (after-count .count .ensures .0) at (after-count-open .count-open .ensures .0) in (
+    let inv = at-loop .loop .inv in
+    let some = some-open (rw (inv .1) at (after-count-open .count-open .ensures .0)) (else1 .if1 .left) in (
       omega (arith, in-loop .loop-test .taken),
-      playing-more _ _ _ _ _ _ (start .pre .0) p (some-open opened (else1 .if1 .left)) (rw most at (in-loop .loop-test .taken))
+      inv .1,
+      inv .2,
+      playing-more _ _ _ _ _ _ (start .pre .0) (inv .3) some (rw (inv .2) at (in-loop .loop-test .taken))
           (start .pre .1 .1 .1) (after-advance .advance .kept .1 .1 .1 .1 .1 .1 .1 .0) (after-advance .advance .ensures),
     )
 
 same-length-3 : tie.Need-same-length-3 Inv-loop μ-loop
 same-length-3 c =
     let at-loop : tie.At-loop Inv-loop μ-loop = search in
-    at-loop .loop .inv .1 .long
+    at-loop .loop .inv .3 .long
 
 same-length-4 : tie.Need-same-length-4 Inv-loop μ-loop
 same-length-4 c =
     let at-loop : tie.At-loop Inv-loop μ-loop = search in
-    at-loop .loop .inv .1 .wide
+    at-loop .loop .inv .3 .wide
 
 returns-2 : tie.Need-returns-2 Inv-loop μ-loop
 unfolding trialOf
 returns-2 c =
     let at-loop : tie.At-loop Inv-loop μ-loop = search in
-    let after-most-steps : tie.After-most-steps Inv-loop μ-loop = search in
     let start : tie.Start Inv-loop μ-loop = search in
-    let p = at-loop .loop .inv .1 in
-    let n = checked-carriers _ _ (start .pre .0) in
-    let most = after-most-steps .most-steps .ensures .0 (n .0) (n .1) in
-    stopped _ _ _ _ _ _ (start .pre .0) p (stops-spent _ _ _ _ _ _ (start .pre .0) p (rw most at (c .loop-test .left)))
+    let inv = at-loop .loop .inv in
+    stopped _ _ _ _ _ _ (start .pre .0) (inv .3) (stops-spent _ _ _ _ _ _ (start .pre .0) (inv .3) (rw (inv .2) at (c .loop-test .left)))
 
 pub take-all-spec : {M : Type 1} → statement M
 take-all-spec =
