@@ -170,8 +170,8 @@ pub room-stop : {t : Bool} (ok : ℕ → Bool) (k n : ℕ) → demandEach 13 1 o
 room-stop ok k n h e s l = demand-refuses 13 (1 + k) (lt-leb n k l) ∙ tests-stop 13 1 ok k n h e s l
 
 pub room-end : (ok : ℕ → Bool) (k n : ℕ) → demandEach 13 1 ok k ≡ passed → k ≤ n → n ≤ k →
-    demand (leb n k) 13 (1 + k) ≡ demandEach 13 1 ok n
-room-end ok k n h a b = demand-passes 13 (1 + k) (le-leb n k b) ∙ each-end 13 1 ok k n a b h
+    demand (leb n n) 13 (1 + n) ≡ demandEach 13 1 ok n
+room-end ok k n h a b = demand-passes 13 (1 + n) (le-leb n n (omega arith)) ∙ each-end 13 1 ok k n a b h
 
 pub ruleset full-search = (room-start, tests-go-on, room-stop, room-end, needs)
 

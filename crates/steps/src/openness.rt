@@ -2,14 +2,14 @@
 ghost use mathlib.Core.Path.{_≡_};
 ghost use mathlib.Core.Bool.{true, false};
 ghost use Prim.Native.Nat.{_+_, _≤_, _<_, _-_};
-ghost use lib.Dec.{leb};
-ghost use lib.ListN.{length};
+ghost use lib.Dec.{leb, eqb};
+ghost use lib.ListN.{length, getD};
 ghost use Rattle.laws.specs.Verdict.{demand, demandEach};
 ghost use Rattle.floor.specs.Answers.{verdictOf};
 ghost use Rattle.reference.specs.Ranges.{each};
 ghost use Rattle.reference.specs.Step.{plan, deliver, isThere};
-ghost use Rattle.layout.specs.Places.{stateSize};
-ghost use Rattle.layout.specs.InnerSteps.{waitsIn, openIn, silentIn};
+ghost use Rattle.layout.specs.Places.{duePlace, stateSize};
+ghost use Rattle.layout.specs.InnerSteps.{roomIn, waitsIn, openIn, silentIn};
 ghost use Rattle.steps.specs.Answers.{stepMeant};
 ghost use Rattle.steps.specs.Inner.{bare, roomAt, planShut, senderShut};
 use crate::Step;
@@ -38,7 +38,7 @@ fn first_full(n: usize, depth: u16, m: &[u16], i: usize) -> usize
         }
         k += 1;
     }
-    k
+    n
 }
 
 // Whether the plan of carrier i is open: it is there and due, and no channel from it is full.
@@ -84,27 +84,47 @@ pub fn is_open(f: Floor, m: &[u16], s: Step) -> bool
     }
 }
 
-// What the plan of carrier i waits for: 8 unless it is due, then 13 with the smallest receiver whose channel is full.
+// 8 unless carrier i is due.
+fn due_waits(f: Floor, m: &[u16], i: usize) -> Checked
+    requires { ⌜ (i < f .carriers) × (f .carriers ≤ 8) × (stateSize (f .carriers) ≤ length (now m)) ⌝ }
+    ensures { λ r. ⌜ verdictOf r ≡ demand (eqb (getD (now (m .entry)) (duePlace i) 0) 1) 8 0 ⌝ }
+{
+    let d = state::due_place(i);
+    if m[d] == 1 {
+        return Checked::Passed;
+    }
+    Checked::Refused(Refusal {
+        number: 8,
+        place: 0,
+    })
+}
+
+// 13 with the smallest receiver whose channel from carrier i is full.
+fn room_waits(f: Floor, m: &[u16], i: usize) -> Checked
+    requires { ⌜ (i < f .carriers) × (f .carriers ≤ 8) × (stateSize (f .carriers) ≤ length (now m)) ⌝ }
+    ensures { λ r. ⌜ verdictOf r ≡ demandEach 13 1 (roomIn (bare f) (now (m .entry)) i) (f .carriers) ⌝ }
+{
+    let n = f.carriers as usize;
+    let k = first_full(n, f.depth, m, i);
+    if k >= n {
+        return Checked::Passed;
+    }
+    Checked::Refused(Refusal {
+        number: 13,
+        place: 1 + k,
+    })
+}
+
+// What the plan of carrier i waits for: that it is due, then room in its channels.
 fn plan_waits(f: Floor, m: &[u16], i: usize) -> Checked
     requires { ⌜ (i < f .carriers) × (f .carriers ≤ 8) × (stateSize (f .carriers) ≤ length (now m)) ⌝ }
     ensures { λ r. ⌜ verdictOf r ≡ waitsIn (bare f) (now (m .entry)) (plan i) ⌝ }
 {
-    let n = f.carriers as usize;
-    let d = state::due_place(i);
-    if m[d] != 1 {
-        return Checked::Refused(Refusal {
-            number: 8,
-            place: 0,
-        });
-    }
-    let k = first_full(n, f.depth, m, i);
-    if k < n {
-        return Checked::Refused(Refusal {
-            number: 13,
-            place: 1 + k,
-        });
-    }
-    Checked::Passed
+    let due = due_waits(f, m, i);
+    let Checked::Passed = due else {
+        return due;
+    };
+    room_waits(f, m, i)
 }
 
 // What the delivery from carrier j to carrier i waits for: 12 with the addressee unless a message is there.
@@ -113,13 +133,13 @@ fn delivery_waits(f: Floor, m: &[u16], j: usize, i: usize) -> Checked
     ensures { λ r. ⌜ verdictOf r ≡ waitsIn (bare f) (now (m .entry)) (deliver j i) ⌝ }
 {
     let c = state::channel_place(f.carriers as usize, i, j);
-    if m[c] == 0 {
-        return Checked::Refused(Refusal {
-            number: 12,
-            place: 1 + i,
-        });
+    if m[c] != 0 {
+        return Checked::Passed;
     }
-    Checked::Passed
+    Checked::Refused(Refusal {
+        number: 12,
+        place: 1 + i,
+    })
 }
 
 // What a step that is there waits for.
