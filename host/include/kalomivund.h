@@ -34,7 +34,10 @@
  *   9, 0         other lent memory is too short (for read_sheet the floor and the walls)
  *   10, 0        the lent state is no state of this floor
  *   7, position  a number that names no step of this floor (position in its list, from 0; a single step has 0); a search's carrier
- *   8, 0         a single step is not open
+ *   8, 0         a single step, a plan, of a carrier that is not due
+ *   12, carrier  a single step, a delivery, of a channel on which nothing is under way: its addressee
+ *   13, carrier  a single step, a plan, of a carrier that is due and has a full channel: the smallest receiver whose channel is full
+ *                (8, 12 and 13 are tested in one place; a carrier that is not due gets 8, full or not)
  *   11, 0        a trial's order is none of 1 to 3
  * "The floor's refusals" below are 9 (22 numbers), 2, 9 (walls), 3, 4, 5, 6. */
 #ifndef KALOMIVUND_H
@@ -164,7 +167,7 @@ uint64_t kalomivund_fresh(const uint16_t *floor, size_t floor_len, const uint16_
 /* Takes one step, KALOMIVUND_PLAN(i) or KALOMIVUND_DELIVER(j, i).
  * Writes  state.
  * Done    case 0 kept, 1 sent, 2 delivered; number 0.
- * Refused the floor's refusals; 9 (state too short); 10; 7, 0; 8. */
+ * Refused the floor's refusals; 9 (state too short); 10; 7, 0; a plan 8, 0 or 13 with the receiver; a delivery 12 with the addressee. */
 uint64_t kalomivund_step(const uint16_t *floor, size_t floor_len, const uint16_t *walls, size_t walls_len, uint16_t *state,
                          size_t state_len, uint16_t step);
 
@@ -172,7 +175,8 @@ uint64_t kalomivund_step(const uint16_t *floor, size_t floor_len, const uint16_t
  * list ends.
  * Writes  state.
  * Done    case 0 silent, 1 spent, 2 ended; number the steps taken.
- * Refused the floor's refusals; 9 (state too short); 10; 7 with the first position in the whole list that names no step. */
+ * Refused the floor's refusals; 9 (state too short); 10; 7 with the first position in the whole list that names no step. Never 8, 12
+ *         or 13: a run passes over a step that waits. */
 uint64_t kalomivund_run(const uint16_t *floor, size_t floor_len, const uint16_t *walls, size_t walls_len, uint16_t *state,
                         size_t state_len, const uint16_t *steps, size_t steps_len, uint16_t budget);
 

@@ -92,10 +92,12 @@ impl std::fmt::Display for Refusal {
             5 => "a start or goal is a wall: carrier",
             6 => "an earlier carrier has the same start or goal: carrier",
             7 => "no such step or carrier: position",
-            8 => "the step is not open: place",
+            8 => "the carrier is not due: place",
             9 => "lent memory is too short: place",
             10 => "the lent state is no state: place",
             11 => "no such order of a trial: place",
+            12 => "nothing is under way to carrier",
+            13 => "a channel is full, the one to carrier",
             _ => "refused: place",
         };
         write!(f, "refusal {}: {} {}", self.number, why, self.place)

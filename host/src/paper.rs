@@ -450,6 +450,20 @@ impl State {
         }
     }
 
+    /// The refusal that says what a step waits for (document 02, slip 3): 8 for a plan that is not due, 13 with the smallest receiver whose
+    /// channel is full, 12 with the addressee of a delivery without a message.
+    pub fn waits(&self, floor: &Floor, step: Step) -> Result<(), Refusal> {
+        match step {
+            Step::Plan(i) if !self.carriers[i].due => refuse(8, 0),
+            Step::Plan(i) => match (i + 1..self.carriers.len()).find(|&k| self.carriers[k].channels[i].len() == floor.depth) {
+                Some(k) => refuse(13, k + 1),
+                None => Ok(()),
+            },
+            Step::Deliver { from, to } if self.carriers[to].channels[from].is_empty() => refuse(12, to + 1),
+            Step::Deliver { .. } => Ok(()),
+        }
+    }
+
     /// Whether no step is open.
     pub fn is_silent(&self, floor: &Floor) -> bool {
         steps_of(floor.carriers()).iter().all(|&(_, step)| !self.is_open(floor, step))
@@ -851,9 +865,7 @@ pub mod calls {
             let Some(step) = step_named(step, floor.carriers()) else {
                 return refuse(7, 0);
             };
-            if !now.is_open(&floor, step) {
-                return refuse(8, 0);
-            }
+            now.waits(&floor, step)?;
             let stepped = now.take(&floor, step);
             state[..state_length(floor.carriers())].copy_from_slice(&encode(&now));
             Ok(done(stepped as u64, 0))

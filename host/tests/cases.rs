@@ -319,15 +319,16 @@ fn unfit(desk: &Desk, numbers: &[Number]) -> usize {
     (0..with.len()).filter(is_refused).count()
 }
 
-/// How many numbers get a kind of answer as a step on the fresh state: 40 is sent, 7 and 8 are refusals.
-fn kinds(floor: &Floor, kind: usize) -> usize {
+/// How many numbers get an answer as a step on the fresh state: 40 is sent, 7 a number that names no step, 12 with the addressee a delivery.
+fn kinds(floor: &Floor, numbers: &[Number]) -> usize {
     let state = paper::fresh(floor.carriers());
-    let kind_of = |number: u16| match paper::step_named(number, floor.carriers()) {
-        None => 7,
-        Some(step) if !state.is_open(floor, step) => 8,
-        Some(step) => 39 + state.clone().take(floor, step) as usize,
+    let answer = |number: u16| match paper::step_named(number, floor.carriers()) {
+        None => (7, 0),
+        Some(Step::Deliver { to, .. }) => (12, to + 1),
+        Some(step) => (39 + state.clone().take(floor, step) as usize, 0),
     };
-    (0..=65535).filter(|&number| kind_of(number) == kind).count()
+    let wanted = (numbers[0].value, numbers.get(1).map_or(0, |number| number.value));
+    (0..=65535).filter(|&number| answer(number) == wanted).count()
 }
 
 // ---- Sheets ----
@@ -507,7 +508,7 @@ impl Desk {
         match command {
             b'l' => paper::state_length(floor.carriers()).to_string(),
             b'u' => unfit(self, numbers).to_string(),
-            b'k' => kinds(&floor, numbers[0].value).to_string(),
+            b'k' => kinds(&floor, numbers).to_string(),
             b'o' => {
                 self.has_all_steps(&floor);
                 all_orders(&floor)

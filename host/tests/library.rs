@@ -80,7 +80,7 @@ fn floors_6_to_9_and_12_steps_and_runs() {
     let floor = floor_of(SHEET).unwrap();
     let mut state = fresh_state(&floor);
     let before = state.clone();
-    assert_eq!(refused(step(&floor, &[], &mut state, deliver_step(1, 2))), (8, 0));
+    assert_eq!(refused(step(&floor, &[], &mut state, deliver_step(1, 2))), (12, 2));
     assert_eq!(refused(step(&floor, &[], &mut state, deliver_step(2, 2))), (7, 0));
     assert_eq!(refused(run(&floor, &[], &mut state, &[101, 102, 222], 0)), (7, 2));
     assert_eq!(run(&floor, &[], &mut state, &[101], 0), Ok(Ran { taken: 0, end: End::Spent }));
@@ -94,7 +94,9 @@ fn floors_6_to_9_and_12_steps_and_runs() {
     for open in [plan_step(2), plan_step(1), deliver_step(1, 2)] {
         step(&three, &[], &mut state, open).unwrap();
     }
-    assert_eq!(refused(step(&three, &[], &mut state, plan_step(2))), (8, 0));
+    assert_eq!(refused(step(&three, &[], &mut state, plan_step(2))), (13, 3));
+    assert_eq!(refused(step(&three, &[], &mut state, plan_step(1))), (8, 0));
+    assert_eq!(Refusal { number: 13, place: 3 }.to_string(), "refusal 13: a channel is full, the one to carrier 3");
 }
 
 #[test]
@@ -176,7 +178,7 @@ fn a_lost_order() {
     assert_eq!(step(&floor, &[], &mut board, orders[0]), Ok(Stepped::Sent));
     assert_eq!(answer(&board, 2)[..6], [2, 2, 1, 0, 0, 0]);
     let before = board.clone();
-    assert_eq!(refused(step(&floor, &[], &mut board, orders[2])), (8, 0));
+    assert_eq!(refused(step(&floor, &[], &mut board, orders[2])), (12, 2));
     assert_eq!(board, before);
     assert_eq!(step(&floor, &[], &mut board, orders[1]), Ok(Stepped::Sent));
     assert_eq!(step(&floor, &[], &mut board, orders[2]), Ok(Stepped::Delivered));

@@ -11,10 +11,11 @@ use script::draws;
 use script::fields::field;
 use script::look;
 
-// How many steps an answer says were taken: none by a step that is not open (8, 0), and by any other refusal more than there can be.
-fn gained(came: usize) -> usize {
+// How many steps an answer to step x, or to a run where x is 0, says were taken: none by a step that waits, and by any other refusal more
+// than there can be.
+fn gained(x: usize, came: usize) -> usize {
     if answers::is_refused(came) {
-        return look::choose(came == answers::answer(8, 0), 0, 65536);
+        return look::choose(answers::waits(x, came), 0, 65536);
     }
     if answers::kind(came) < PASSED {
         return answers::number(came);
@@ -33,12 +34,13 @@ fn one_run(desk: &[u16], m: &mut [u16], seed: usize) -> usize {
     )
 }
 
-// A run; or a single step, drawn from those of the desk.
+// A run; or a single step, drawn from those of the desk: the steps taken.
 fn one(desk: &[u16], m: &mut [u16], seed: usize, runs: bool) -> usize {
     if runs {
-        return one_run(desk, m, draws::beside(seed, 4));
+        return gained(0, one_run(desk, m, draws::beside(seed, 4)));
     }
-    calls::step(desk, m, draws::draw_step(desk, seed))
+    let x = draws::draw_step(desk, seed);
+    gained(look::wide(x), calls::step(desk, m, x))
 }
 
 // To silence from the fresh state, by runs where the seed is even, by single steps where it is odd: silent after so many steps; spent where
@@ -53,7 +55,7 @@ fn go(desk: &[u16], m: &mut [u16], seed: usize) -> usize {
             return answers::answer(SILENT, taken);
         }
         s = draws::next(s);
-        taken = look::plus(taken, gained(one(desk, m, s, seed % 2 == 0)));
+        taken = look::plus(taken, one(desk, m, s, seed % 2 == 0));
         turn += 1;
     }
     answers::answer(SPENT, taken)

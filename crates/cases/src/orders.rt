@@ -10,10 +10,10 @@ use commands::answers::SPENT;
 use script::draws;
 use script::look;
 
-// Where a refusal after k steps leads: silent if no step is open, ended if another one is; spent if the answer is not 8, 0.
-fn stopped(came: usize, silent: bool, k: usize) -> usize {
+// Where a refusal after k steps leads: silent if no step is open, ended if another one is; spent if it does not say what the step waits for.
+fn stopped(waits: bool, silent: bool, k: usize) -> usize {
     let open = look::choose(silent, SILENT, ENDED);
-    answers::answer(look::choose(came == answers::answer(8, 0), open, SPENT), k)
+    answers::answer(look::choose(waits, open, SPENT), k)
 }
 
 // Follows a list of choices from the fresh state by single steps to one that is refused; spent where there is no end.
@@ -24,7 +24,8 @@ fn follow(desk: &[u16], m: &mut [u16], choices: &[u16]) -> usize {
         let x = draws::choice(desk, look::wide_at(choices, k));
         let came = calls::step(desk, m, x);
         if answers::is_refused(came) {
-            return stopped(came, calls::is_silent(desk, m), k);
+            let waits = answers::waits(look::wide(x), came);
+            return stopped(waits, calls::is_silent(desk, m), k);
         }
         k += 1;
     }

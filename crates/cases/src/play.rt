@@ -58,7 +58,7 @@ fn tried(s: &[u8], desk: &[u16], m: &mut [u16]) -> usize {
     match byte(s, 0) {
         b't' => sheets::text(s, m),
         b'u' => spoilt::unfit(s, desk, m),
-        b'k' => spoilt::numbers(desk, m, field(s, 0)),
+        b'k' => spoilt::numbers(desk, m, answers::answer(field(s, 0), field(s, 1))),
         b'o' => tally::say(orders::every(desk, m)),
         b'd' => tally::say(drawn::drawn(s, desk, m)),
         b'T' => trials::trial(s, desk, m),

@@ -54,9 +54,8 @@ pub fn unfit(s: &[u8], desk: &[u16], m: &mut [u16]) -> usize {
     n
 }
 
-// How many of all numbers get a kind of answer as a step on a fresh state.
-pub fn numbers(desk: &[u16], m: &mut [u16], kind: usize) -> usize {
-    let wanted = answers::answer(kind, 0);
+// How many of all numbers get an answer as a step on a fresh state.
+pub fn numbers(desk: &[u16], m: &mut [u16], wanted: usize) -> usize {
     let mut n: usize = 0;
     let mut x: usize = 0;
     while x < 65536 {

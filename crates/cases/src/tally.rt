@@ -20,7 +20,7 @@ pub struct Tally {
     pub failing: usize,
     // All steps taken.
     pub steps: usize,
-    // Orders that did not come to silence, or met an answer that is neither taken nor 8, 0.
+    // Orders that did not come to silence, or met an answer that is neither taken nor what the step waits for.
     pub odd: usize,
 }
 

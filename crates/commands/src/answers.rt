@@ -55,6 +55,17 @@ pub fn is_refused(came: usize) -> bool {
     kind(came) < SILENT
 }
 
+// Whether an answer names what step x waits for: of a plan, 100 and its carrier, 8 with 0, or 13 with a carrier below; of a delivery, 200,
+// ten times its sender and its addressee, 12 with that. Of no other number.
+pub fn waits(x: usize, came: usize) -> bool {
+    match kind(came) {
+        8 => look::both(x / 100 == 1, number(came) == 0),
+        12 => look::both(x / 100 == 2, number(came) == x % 10),
+        13 => look::both(x / 100 == 1, x % 10 < number(came)),
+        _ => false,
+    }
+}
+
 // A refusal as an answer.
 pub fn refused(r: Refusal) -> usize {
     answer(look::wide(r.number), r.place)

@@ -22,7 +22,7 @@ use Rattle.planner.specs.Claims.{answerAt, planUnseen}
 use Rattle.planner.specs.Plan.{respondOf, planOf, failingFrom, failingOf}
 use Rattle.reference.specs.Ranges.{below, joined, each, update, updatePair}
 use Rattle.reference.specs.State.{fresh, views, tick}
-use Rattle.reference.specs.Step.{isThere, hasCapacity, isEmpty, waitsFor, isOpen, sameCells, sameAnswer}
+use Rattle.reference.specs.Step.{isThere, hasRoom, isEmpty, waitsFor, isOpen, sameCells, sameAnswer}
 use Rattle.reference.specs.Ranking.{deliveriesFrom, ranking, noneOpen, isSilent}
 use Rattle.reference.specs.Take.{isNews, send, planAs, oldest, newer, deliverTo, effect, counted, afterStep, stepAnswer}
 use Rattle.reference.specs.Run.{run, tookFirst, skippedFirst}
@@ -77,7 +77,7 @@ unfolding
     among clearOfWalls clearOf unshared distinctOf placesOf checkOf
     cellAt neighbours near vacant passable every standable allowed startClear cost cheaper cheapest beatsFrom val walk walkFrom best
     sequential settled arrivalOf taskOf seen seenFrom seenAs parked respondOf planOf planUnseen failingFrom failingOf
-    below joined each update updatePair fresh views tick isThere hasCapacity isEmpty waitsFor isOpen sameCells sameAnswer
+    below joined each update updatePair fresh views tick isThere hasRoom isEmpty waitsFor isOpen sameCells sameAnswer
     deliveriesFrom ranking noneOpen isSilent isNews send planAs oldest newer deliverTo effect counted afterStep stepAnswer
     run tookFirst skippedFirst anyLeft endsAs ending isNamed stepsOf lentEnough allNamed openSingle verdict
     reply stateAfter afterCall replies after ceiling pairsBefore stateSize deliveryOf askedBy machineOf
@@ -141,6 +141,10 @@ cases =
       heard-round = refl;
       accepted-crossed = refl;
       answers-crossed = refl;
+      replies-empty = refl;
+      replies-early = refl;
+      replies-crowded = refl;
+      run-crowded = refl;
       most-1 = refl;
       most-2 = refl;
       most-3 = refl;

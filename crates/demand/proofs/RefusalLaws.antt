@@ -9,7 +9,8 @@ use Rattle.laws.proofs.VerdictLaws.{gives-refused, when-refused}
 use Rattle.reference.specs.State.{Machine, State}
 use Rattle.reference.specs.Ending.{ended}
 use Rattle.reference.specs.Table.{step, noStep, Call, single, runOf, lentEnough, openSingle, verdict}
-use Rattle.reference.specs.Refused.{RefusedWith, short-single, short-run, unnamed-single, unnamed-run, not-open}
+use Rattle.reference.specs.Refused.{not-due, nothing-under-way, channel-full}
+use Rattle.reference.specs.Refused.{RefusedWith, short-single, short-run, unnamed-single, unnamed-run, waiting}
 use Rattle.reference.specs.Calls.{Told, ran, Reply, reply, afterCall, replies}
 use Rattle.reference.proofs.Theorems.{theorems}
 use Rattle.demand.specs.Rows.{Answers}
@@ -63,7 +64,9 @@ module _ (M : Machine) (s : State) where
   no-row-ten (short-run h) e = omega arith
   no-row-ten (unnamed-single h q) e = omega arith
   no-row-ten (unnamed-run h q) e = omega arith
-  no-row-ten (not-open h q r) e = omega arith
+  no-row-ten (waiting h q (not-due d)) e = omega arith
+  no-row-ten (waiting h q (nothing-under-way d)) e = omega arith
+  no-row-ten (waiting h q (channel-full d r)) e = omega arith
 
   reply-not-ten : (c : Call) (p : ℕ) → reply M s c ≡ refusal 10 p → ⊥
   reply-not-ten c p e =

@@ -103,4 +103,5 @@ theorem =
             memory = simulated-memory f ws ok s fits rest c;
             within-ranges = call-fits f ws ok s fits c;
           };
+      open-exactly = theorems .steps .open-exactly;
     }

@@ -1,5 +1,5 @@
 -- Document 01's starred floors ('Floors to try') as one table about the definitions, with floors 10 to 12 and cases beside them; then
--- those of document 02, slip 2.
+-- those of document 02, slips 2 and 3.
 use Prim.Native.Nat.{ℕ}
 use mathlib.Core.Bool.{true, false}
 use mathlib.Core.List.{[], _∷_}
@@ -23,7 +23,7 @@ use Rattle.reference.specs.Calls.{stepped, ran, replies, after}
 use Rattle.reference.specs.Quiet.{ceiling}
 use Rattle.layout.specs.Calls.{machineOf}
 use Rattle.demand.specs.Floors.{padded, floorOf, cell, sides, two, rows, three, walled, routeOf, answers2}
-use Rattle.demand.specs.Floors.{walledOff, corridor, shutGoal, crossed}
+use Rattle.demand.specs.Floors.{walledOff, corridor, shutGoal, crossed, crowded}
 use Rattle.demand.specs.Floors.{singles, running, calls4, calls5, longest}
 use Rattle.demand.specs.Texts.{sheet2, routes2, routes3, refused11}
 
@@ -58,17 +58,17 @@ pub record Cases : Type 0 where
   pub answers-5 : below 2 (after two fresh calls5 .answer) ≡ answers2
   pub taken-5 : after two fresh calls5 .taken ≡ 3
   pub silent-5 : isSilent two (after two fresh calls5) ≡ true
-  -- 6: a delivery from an empty channel: 8, state unchanged.
-  pub reply-6 : replies two fresh (singles (212 ∷ [])) ≡ refusal 8 0 ∷ []
+  -- 6: a delivery from an empty channel: 12 with the addressee, carrier 2; state unchanged.
+  pub reply-6 : replies two fresh (singles (212 ∷ [])) ≡ refusal 12 2 ∷ []
   pub state-6 : after two fresh (singles (212 ∷ [])) ≡ fresh
   -- 7: a run with budget 0 and one open step: taken 0, spent.
   pub reply-7 : replies two fresh (running (101 ∷ []) 0) ≡ value (ran 0 spent) ∷ []
   -- 8: a run of an empty list: taken 0, ended.
   pub reply-8 : replies two fresh (running [] 0) ≡ value (ran 0 ended) ∷ []
-  -- 9: three carriers, depth 1: the channel from carrier 2 to carrier 3 is full.
+  -- 9: three carriers, depth 1: the channel from carrier 2 to carrier 3 is full, 13 with the receiver.
   pub accepted-9 : checkOf (three 1) [] ≡ passed
   pub replies-9 : replies (machineOf (three 1) []) fresh calls4 ≡
-      value (stepped sent) ∷ value (stepped sent) ∷ value (stepped delivered) ∷ refusal 8 0 ∷ []
+      value (stepped sent) ∷ value (stepped sent) ∷ value (stepped delivered) ∷ refusal 13 3 ∷ []
   -- 10: horizon 63 is accepted, 64 is not; nor are 0 carriers.
   pub accepted-10 : checkOf (sides 63) [] ≡ passed
   pub horizon-10 : checkOf (sides 64) [] ≡ refused 2 3
@@ -114,6 +114,14 @@ pub record Cases : Type 0 where
   -- A carrier above crosses a stranded one below, in cell 1 at beat 1.
   pub accepted-crossed : checkOf crossed [] ≡ passed
   pub answers-crossed : planOf crossed [] ≡ routeOf (0 ∷ 1 ∷ 2 ∷ []) ∷ none ∷ []
+  -- Document 02, slip 3. 12 has the addressee for its place, whoever is the sender.
+  pub replies-empty : replies (machineOf (three 1) []) fresh (singles (212 ∷ 213 ∷ 223 ∷ [])) ≡
+      refusal 12 2 ∷ refusal 12 3 ∷ refusal 12 3 ∷ []
+  -- Carrier 1 is no longer due and its channel is full: 8.
+  pub replies-early : replies two fresh (singles (101 ∷ 101 ∷ [])) ≡ value (stepped sent) ∷ refusal 8 0 ∷ []
+  -- All due and every channel full: 13 has the smallest receiver for its place, and a run passes over.
+  pub replies-crowded : replies (machineOf (three 1) []) crowded (singles (101 ∷ 102 ∷ [])) ≡ refusal 13 2 ∷ refusal 13 3 ∷ []
+  pub run-crowded : replies (machineOf (three 1) []) crowded (running (101 ∷ 102 ∷ []) 9) ≡ value (ran 0 ended) ∷ []
   -- The ceiling is reached, by one, two and three carriers.
   pub most-1 : after (machineOf cell []) fresh (singles (101 ∷ [])) .taken ≡ ceiling 1
   pub most-2 : after two fresh calls4 .taken ≡ ceiling 2

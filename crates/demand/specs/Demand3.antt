@@ -4,7 +4,7 @@
 use Prim.Native.Nat.{ℕ, _-_, _≤_, min}
 use mathlib.Core.Bool.{true}
 use mathlib.Core.List.{List, [], _∷_, _++_, List·Memᴰ}
-use mathlib.Core.Logic.{_⊎_}
+use mathlib.Core.Logic.{_⊎_, _↔_}
 use mathlib.Core.Path.{_≡_}
 use lib.ListN.{length, take, drop}
 use Rattle.laws.specs.Verdict.{passed, value, refusal}
@@ -13,11 +13,12 @@ use Rattle.floor.specs.Checks.{checkOf}
 use Rattle.planner.specs.Plan.{planOf}
 use Rattle.reference.specs.Ranges.{below}
 use Rattle.reference.specs.State.{Machine, State}
-use Rattle.reference.specs.Step.{Step, isOpen}
+use Rattle.reference.specs.Step.{Step, isThere, isOpen}
 use Rattle.reference.specs.Ranking.{isSilent}
 use Rattle.reference.specs.Run.{run}
 use Rattle.reference.specs.History.{FaithfulRun}
 use Rattle.reference.specs.Table.{Call}
+use Rattle.reference.specs.Refused.{Waits}
 use Rattle.reference.specs.Calls.{Told, reply, afterCall}
 use Rattle.reference.specs.Quiet.{idle, quiet, replyCount, repliesCount, ceiling}
 use Rattle.layout.specs.Places.{stateSize}
@@ -97,3 +98,6 @@ pub record Demand3 : Type 0 where
   -- The simulation from every state within the ranges, reached or not, one with a count of 999,999 included.
   pub simulates : (f : Floor) (ws : List ℕ) → checkOf f ws ≡ passed → (s : State) → WithinRanges f s → (rest : List ℕ) (c : Call) →
       Simulates f ws s rest c
+  -- A step is open exactly if it is there and waits for none of the things that refusals 8, 12 and 13 name (document 02, slip 3).
+  pub open-exactly : (M : Machine) (s : State) (x : Step) → (isOpen M s x ≡ true) ↔
+      ((isThere M x ≡ true) × ((a p : ℕ) → Waits M s x a p → ⊥))

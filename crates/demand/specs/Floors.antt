@@ -1,10 +1,11 @@
 -- The floors of document 01's cases ('Floors to try'), their calls and their routes.
 use Prim.Native.Nat.{ℕ, _-_}
+use mathlib.Core.Bool.{true, false}
 use mathlib.Core.List.{List, [], _∷_, _++_, map}
 use lib.ListN.{length, replicate}
 use Rattle.floor.specs.declared.Floor.{Floor}
-use Rattle.route.specs.Route.{Answer, route}
-use Rattle.reference.specs.State.{Machine}
+use Rattle.route.specs.Route.{Answer, none, route, unheard}
+use Rattle.reference.specs.State.{Machine, State}
 use Rattle.reference.specs.Table.{Call, single, runOf}
 use Rattle.layout.specs.Numbers.{askedBy}
 use Rattle.layout.specs.Calls.{machineOf}
@@ -62,6 +63,18 @@ shutGoal = floorOf 4 2 4 1 2 (1 ∷ 0 ∷ []) (3 ∷ 6 ∷ [])
 -- A corridor of three cells: carrier 1 goes through, and carrier 2 in its middle cannot get past it.
 abbrev pub crossed : Floor
 crossed = floorOf 3 1 2 1 0 (0 ∷ 1 ∷ []) (2 ∷ 0 ∷ [])
+
+-- The fresh state with none under way on every channel.
+abbrev pub crowded : State
+crowded =
+    record {
+      planned = λ i. false;
+      due = λ i. true;
+      answer = λ i. none;
+      view = λ i j. unheard;
+      chan = λ i j. none ∷ [];
+      taken = 0;
+    }
 
 -- One carrier beside one wall.
 abbrev pub walled : Floor

@@ -53,8 +53,10 @@ theorems =
       trial-word = λ t l. run-word 0 t (omega arith) l ∙ zero-add (65536 * t);
       none-word = refl;
       route-word = λ r. refl;
-      shut-word = refl;
+      early-word = refl;
       short-word = refl;
       order-word = refl;
+      empty-word = refl;
+      full-word = refl;
       ceiling-words = (refl, refl, refl);
     }

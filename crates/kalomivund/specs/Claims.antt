@@ -74,8 +74,10 @@ pub record Claims : Type 0 where
   pub trial-word : (t : ℕ) → t ≤ 65535 → wordOf (ofNumber (value t)) ≡ 65536 * t
   pub none-word : wordOf (ofSearch (value none)) ≡ 0
   pub route-word : (r : List ℕ) → wordOf (ofSearch (value (route r))) ≡ 256
-  -- Refusal 8, 0; refusal 9, 0; refusal 11, 0; the ceiling of three carriers, 11; refusal 2, field 5, of none and of nine.
-  pub shut-word : wordOf (refusal 8 0) ≡ 1 + 256 * 8
+  -- Refusal 8, 0; 9, 0; 11, 0; 12, carrier 2; 13, carrier 3; the ceiling of three carriers, 11; refusal 2, field 5, of none and of nine.
+  pub early-word : wordOf (refusal 8 0) ≡ 1 + 256 * 8
   pub short-word : wordOf (refusal 9 0) ≡ 1 + 256 * 9
   pub order-word : wordOf (refusal 11 0) ≡ 1 + 256 * 11
+  pub empty-word : wordOf (refusal 12 2) ≡ 1 + 256 * 12 + 65536 * 2
+  pub full-word : wordOf (refusal 13 3) ≡ 1 + 256 * 13 + 65536 * 3
   pub ceiling-words : (ceilingWord 3 ≡ 65536 * 11) × (ceilingWord 0 ≡ 1 + 256 * 2 + 65536 * 5) × (ceilingWord 9 ≡ 1 + 256 * 2 + 65536 * 5)

@@ -15,7 +15,6 @@ use Rattle.reference.specs.Step.{Step, plan, deliver, isOpen}
 use Rattle.reference.specs.Take.{isNews, planAs, deliverTo, effect, counted, afterStep, stepAnswer}
 use Rattle.reference.specs.Bounds.{InRange, Throughout}
 use Rattle.reference.proofs.OpenLaws.{plan-within, plan-room, deliver-above, deliver-within, deliver-full}
-use Rattle.reference.proofs.BoundLaws.{room-says}
 use Rattle.layout.specs.Encode.{encode}
 use Rattle.layout.specs.InnerSteps.{ticked, newsIn, plannedIn, bestIn, effectIn, afterIn, saidIn}
 use Rattle.layout.proofs.StateLaws.{withTaken}
@@ -43,7 +42,7 @@ module _ (M : Machine) (fit : Storable M) (s : State) (range : InRange M s) (who
 
   -- A channel from i to a carrier below has a place for a message where i has room.
   room-left : (i : ℕ) → isOpen M s (plan i) ≡ true → (k : ℕ) → i < k → k < n → length (s .chan k i) < 4
-  room-left i e k a b = omega (arith, room-says M s i k (plan-room M s i e) a b, fit .shallow)
+  room-left i e k a b = omega (arith, plan-room M s i k e a b, fit .shallow)
 
   -- What an open step does.
   effect-same : (x : Step) → isOpen M s x ≡ true → effectIn M m x ≡ encode n (effect M s x) ++ rest

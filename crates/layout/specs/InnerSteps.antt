@@ -5,7 +5,7 @@ use mathlib.Core.Bool.{Bool, false, _&&_, _||_, not, cond}
 use mathlib.Core.List.{List, [], _∷_}
 use lib.Dec.{leb, ltb, eqb}
 use lib.ListN.{getD}
-use Rattle.laws.specs.Verdict.{Verdict, _then_, demand, passes}
+use Rattle.laws.specs.Verdict.{Verdict, _then_, demand, demandEach, passes}
 use Rattle.laws.specs.Memory.{put, part}
 use Rattle.route.specs.Route.{Answer, View}
 use Rattle.records.specs.Records.{recordOf, recordAt, fit, moved}
@@ -16,14 +16,14 @@ use Rattle.reference.specs.Table.{Asked, step, noStep}
 use Rattle.reference.specs.Take.{StepAnswer, kept, sent, delivered}
 use Rattle.layout.specs.Places.{plannedPlace, duePlace, answerPlace, viewPlace, channelPlace}
 
--- Every channel from carrier i, to a carrier k below it, has fewer than depth messages.
-unfoldable pub capacityIn : Machine → List ℕ → ℕ → Bool
-capacityIn M m i = each (M .carriers) (λ k. leb k i || ltb (getD m (channelPlace (M .carriers) k i) 0) (M .depth))
+-- The channel from carrier i to carrier k has fewer than depth messages; a carrier that is not below i has no such channel.
+unfoldable pub roomIn : Machine → List ℕ → ℕ → ℕ → Bool
+roomIn M m i k = leb k i || ltb (getD m (channelPlace (M .carriers) k i) 0) (M .depth)
 
--- What a step waits for. Plan i: that i is due and every channel from i has room. Deliver j to i: a message there.
+-- What a step waits for. Plan i: that i is due, then room in each channel from i. Deliver j to i: a message there.
 unfoldable pub waitsIn : Machine → List ℕ → Step → Verdict
-waitsIn M m (plan i) = demand (eqb (getD m (duePlace i) 0) 1) 8 0 then demand (capacityIn M m i) 8 0
-waitsIn M m (deliver j i) = demand (not (eqb (getD m (channelPlace (M .carriers) i j) 0) 0)) 8 0
+waitsIn M m (plan i) = demand (eqb (getD m (duePlace i) 0) 1) 8 0 then demandEach 13 1 (roomIn M m i) (M .carriers)
+waitsIn M m (deliver j i) = demand (not (eqb (getD m (channelPlace (M .carriers) i j) 0) 0)) 12 (1 + i)
 
 -- The step is open: it is there, and waits for nothing.
 unfoldable pub openIn : Machine → List ℕ → Step → Bool

@@ -1,4 +1,4 @@
-// The refusals of the entries, in document 01's order: the floor's, 9, 10, 7, 8.
+// The refusals of the entries, in document 01's order: the floor's, 9, 10, 7, then what a single step waits for: 8, 12, 13.
 ghost use mathlib.Core.Path.{_≡_};
 ghost use mathlib.Core.Bool.{false};
 ghost use Prim.Native.Nat.{_≤_};

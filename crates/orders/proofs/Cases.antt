@@ -2,11 +2,11 @@
 use Prim.Native.Nat.{ℕ}
 use mathlib.Core.List.{List, [], _∷_, map}
 use mathlib.Core.Path.{_≡_, refl}
-use Rattle.laws.specs.Verdict.{passes, demand, _then_}
+use Rattle.laws.specs.Verdict.{passes, demand, _then_, inTurn, demandEach}
 use Rattle.route.specs.Route.{none}
-use Rattle.reference.specs.Ranges.{below, joined, each, update, updatePair}
+use Rattle.reference.specs.Ranges.{below, joined, update, updatePair}
 use Rattle.reference.specs.State.{Machine, fresh, views, tick}
-use Rattle.reference.specs.Step.{Step, plan, deliver, isThere, hasCapacity, isEmpty, waitsFor, isOpen, sameCells, sameAnswer}
+use Rattle.reference.specs.Step.{Step, plan, deliver, isThere, hasRoom, isEmpty, waitsFor, isOpen, sameCells, sameAnswer}
 use Rattle.reference.specs.Take.{isNews, send, planAs, oldest, newer, deliverTo, effect, counted, afterStep}
 use Rattle.reference.specs.Take.{StepAnswer, kept, sent, delivered, stepAnswer}
 use Rattle.reference.specs.Ranking.{deliveriesFrom, ranking, noneOpen, isSilent}
@@ -55,7 +55,7 @@ record Trials : Type 0 where
 
 trials : Trials
 unfolding
-    passes demand _then_ below joined each update updatePair fresh views tick isThere hasCapacity isEmpty waitsFor isOpen
+    passes demand _then_ inTurn demandEach below joined update updatePair fresh views tick isThere hasRoom isEmpty waitsFor isOpen
     sameCells sameAnswer isNews send planAs oldest newer deliverTo effect counted afterStep stepAnswer
     deliveriesFrom ranking noneOpen isSilent ceiling nextNumber drawnBy
     places stepAt openAt passing openPlaces turn chosen startMemory remembered nextStep entryOf reported tryFrom trial stepsIn

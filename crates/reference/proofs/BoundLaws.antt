@@ -1,21 +1,18 @@
 -- Reached states are in range: no channel has more than depth messages, and the count is at most 999,999.
 use Prim.Native.Nat.{ℕ, _≤_, _<_}
 use native.Mathlib.Omega.{arith}
-use mathlib.Core.Bool.{Bool, true, false, _||_}
+use mathlib.Core.Bool.{Bool, true, false}
 use mathlib.Core.List.{List, [], _∷_, _++_}
-use mathlib.Core.Logic.{_⊎_, inl, inr, ⊎-elim}
+use mathlib.Core.Logic.{_⊎_, inl, inr}
 use mathlib.Core.Path.{_≡_, refl}
-use lib.Dec.{leb, ltb}
 use lib.ListN.{length, length-append}
-use borrow.Author.Tests.{ltb-true, lt-leb, lt-ltb, le-leb}
 use Rattle.route.specs.Route.{Answer}
-use Rattle.laws.proofs.Tests.{lt-or-le, eq-or-ne, or-cases, or-inl, or-inr, true-false-absurd}
+use Rattle.laws.proofs.Tests.{lt-or-le, eq-or-ne}
 use Rattle.reference.specs.State.{Machine, State, fresh, views}
-use Rattle.reference.specs.Step.{Step, plan, deliver, hasCapacity, isOpen}
+use Rattle.reference.specs.Step.{Step, plan, deliver, isOpen}
 use Rattle.reference.specs.Take.{isNews, planAs, newer, deliverTo, effect, counted, afterStep}
 use Rattle.reference.specs.History.{Reaches, stay, next}
 use Rattle.reference.specs.Bounds.{InRange}
-use Rattle.reference.proofs.RangeLaws.{each-holds, each-true}
 use Rattle.reference.proofs.OpenLaws.{plan-room}
 use Rattle.reference.proofs.CountLaws.{step-counts}
 use Rattle.reference.proofs.TakeLaws.{plan-keeps, sent-below, chan-other, chan-above, deliver-chan}
@@ -49,24 +46,6 @@ newer-shorter [] = omega arith
 newer-shorter (a ∷ l) = omega arith
 
 module _ (M : Machine) (s : State) where
-  -- Where i has room, each channel from it to a carrier below has fewer than depth messages.
-  pub room-says : (i k : ℕ) → hasCapacity M s i ≡ true → i < k → k < M .carriers → length (s .chan k i) < M .depth
-  unfolding hasCapacity
-  room-says i k e l h =
-      ⊎-elim (λ (p : leb k i ≡ true). true-false-absurd p (lt-leb k i l))
-      (λ (p : ltb (length (s .chan k i)) (M .depth) ≡ true). ltb-true (length (s .chan k i)) (M .depth) p)
-      (or-cases (leb k i) (ltb (length (s .chan k i)) (M .depth))
-      (each-holds (M .carriers) (λ k. leb k i || ltb (length (s .chan k i)) (M .depth)) e k h))
-
-  pub says-room : (i : ℕ) → ((k : ℕ) → i < k → k < M .carriers → length (s .chan k i) < M .depth) → hasCapacity M s i ≡ true
-  unfolding hasCapacity
-  says-room i h =
-      each-true (M .carriers) (λ k. leb k i || ltb (length (s .chan k i)) (M .depth)) (λ k l.
-      ⊎-elim
-      (λ (a : i < k). or-inr (leb k i) _ (lt-ltb _ _ (h k a l)))
-      (λ (a : k ≤ i). or-inl (leb k i) _ (le-leb k i a))
-      (lt-or-le i k))
-
   step-channels : InRange M s → (x : Step) → isOpen M s x ≡ true → (k j : ℕ) → j < k → k < M .carriers →
       length (afterStep M s x .chan k j) ≤ M .depth
   unfolding afterStep effect counted
@@ -80,7 +59,7 @@ module _ (M : Machine) (s : State) where
       go (inl q) = rw q (r .channels k j l h)
       go (inr q) =
           rw (q .2, q .0)
-          (omega (arith, length-append (s .chan k i) (a ∷ []), room-says i k (plan-room M s i e) (q .1) h))
+          (omega (arith, length-append (s .chan k i) (a ∷ []), plan-room M s i k e (q .1) h))
   step-channels r (deliver m i) e k j l h = go (deliver-chan-cases s m i k j)
     where
       go : (deliverTo s m i .chan k j ≡ s .chan k j) ⊎ (deliverTo s m i .chan k j ≡ newer (s .chan k j)) →

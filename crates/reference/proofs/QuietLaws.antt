@@ -1,16 +1,15 @@
 -- Idle prefixes and silence: some step is open, or nobody is due and nothing is under way.
 use Prim.Native.Nat.{ℕ, _≤_, _<_}
-use mathlib.Core.Bool.{Bool, true, false, _||_, not}
+use mathlib.Core.Bool.{Bool, true, false, not}
 use mathlib.Core.List.{[]}
 use mathlib.Core.Logic.{_⊎_, ⊎-elim}
-use mathlib.Core.Path.{_≡_, refl}
-use lib.Dec.{leb, ltb}
+use mathlib.Core.Path.{_≡_}
 use lib.ListN.{length}
-use borrow.Author.Tests.{leb-false, lt-ltb, not-true}
-use Rattle.laws.proofs.Tests.{and-both, and-fst, and-snd, or-inl, or-inr, not-true-is-false, true-or-false, true-false-absurd}
+use borrow.Author.Tests.{not-true}
+use Rattle.laws.proofs.Tests.{and-both, and-fst, and-snd, not-true-is-false, true-or-false, true-false-absurd}
 use Rattle.reference.specs.Ranges.{each}
 use Rattle.reference.specs.State.{Machine, State}
-use Rattle.reference.specs.Step.{Step, plan, deliver, hasCapacity, isEmpty, isOpen}
+use Rattle.reference.specs.Step.{Step, plan, deliver, isEmpty, isOpen}
 use Rattle.reference.specs.Quiet.{idleAt, idle}
 use Rattle.reference.proofs.RangeLaws.{each-holds, each-true}
 use Rattle.reference.proofs.OpenLaws.{empty-nil, nil-empty, plan-within, plan-due, plan-open}
@@ -57,7 +56,6 @@ module _ (M : Machine) (s : State) where
 
   -- Where no step is open the channels are empty, since no delivery is open; so every channel has room, and nobody is due.
   pub shut-idle : 1 ≤ M .depth → ((x : Step) → isOpen M s x ≡ false) → Idle (M .carriers) s
-  unfolding hasCapacity
   shut-idle d h = record { not-due = not-due; no-message = no-message }
     where
       no-message : (i j : ℕ) → j < i → i < M .carriers → s .chan i j ≡ []
@@ -66,13 +64,8 @@ module _ (M : Machine) (s : State) where
           (λ (e : isEmpty (s .chan i j) ≡ false). true-false-absurd (deliver-open M s j i a l e) (h (deliver j i)))
           (true-or-false (isEmpty (s .chan i j)))
 
-      room : (i : ℕ) → hasCapacity M s i ≡ true
-      room i = each-true (M .carriers) (λ k. leb k i || ltb (length (s .chan k i)) (M .depth)) (λ k l. at k l (leb k i) refl)
-        where
-          at : (k : ℕ) → k < M .carriers → (t : Bool) → leb k i ≡ t → (leb k i || ltb (length (s .chan k i)) (M .depth)) ≡ true
-          at k l true e = or-inl (leb k i) (ltb (length (s .chan k i)) (M .depth)) e
-          at k l false e =
-              or-inr (leb k i) (ltb (length (s .chan k i)) (M .depth)) (rw (no-message k i (leb-false k i e) l) (lt-ltb 0 (M .depth) d))
+      room : (i k : ℕ) → i < k → k < M .carriers → length (s .chan k i) < M .depth
+      room i k a l = rw (no-message k i a l) d
 
       not-due : (i : ℕ) → i < M .carriers → s .due i ≡ false
       not-due i l = not-true-is-false (s .due i) (λ e. true-false-absurd (plan-open M s i l e (room i)) (h (plan i)))

@@ -1,25 +1,59 @@
--- The table of refusals says of a call exactly what its rows say.
-use Prim.Native.Nat.{ℕ, _≤_, _<_}
+-- The table of refusals says of a call exactly what its rows say; a step is open exactly if no row says what it waits for.
+use Prim.Native.Nat.{ℕ, _+_, _≤_, _<_}
 use native.Mathlib.Nat.{zero-add}
-use mathlib.Core.Bool.{false}
+use mathlib.Core.Bool.{true, false, not}
 use mathlib.Core.List.{List}
 use mathlib.Core.Logic.{_↔_}
 use mathlib.Core.Path.{_≡_, refl, ap, sym, _∙_}
 use lib.ListN.{length}
-use borrow.Author.Tests.{leb-false}
-use Rattle.laws.specs.Verdict.{passed, refused, demand}
-use Rattle.laws.proofs.Tests.{not-true-is-false}
+use borrow.Author.Tests.{leb-false, not-false}
+use Rattle.laws.specs.Verdict.{Verdict, passed, refused, demand}
 use Rattle.laws.proofs.VerdictLaws.{refused-same, refused-by, then-passed, then-refused, demand-cases, demand-passes, demand-refuses}
 use Rattle.laws.proofs.VerdictLaws.{demand-holds, refused-not-passed}
 use Rattle.laws.proofs.EachLaws.{each-refused, first-refuses}
 use Rattle.reference.specs.State.{Machine, State}
-use Rattle.reference.specs.Step.{isThere, waitsFor, isOpen}
+use Rattle.reference.specs.Step.{Step, plan, deliver, isThere, isEmpty, waitsFor, isOpen}
 use Rattle.reference.specs.Table.{Asked, step, noStep, isNamed, Call, single, runOf, lentEnough, allNamed, openSingle, verdict}
-use Rattle.reference.specs.Refused.{RefusedWith, short-single, short-run, unnamed-single, unnamed-run, not-open}
-use Rattle.reference.proofs.OpenLaws.{open-ready}
-use Rattle.reference.proofs.TableLaws.{enough-lent, lent-enough, short-lent, shut-waits, named-means}
+use Rattle.reference.specs.Refused.{Waits, not-due, nothing-under-way, channel-full}
+use Rattle.reference.specs.Refused.{RefusedWith, short-single, short-run, unnamed-single, unnamed-run, waiting}
+use Rattle.reference.proofs.OpenLaws.{empty-nil, nil-empty, open-there, open-ready, ready-open, room-means}
+use Rattle.reference.proofs.TableLaws.{enough-lent, lent-enough, short-lent, named-means}
+
+-- A check that refuses with no number passes.
+never-refuses : (v : Verdict) → ((k p : ℕ) → v ≡ refused k p → ⊥) → v ≡ passed
+never-refuses passed h = refl
+never-refuses (refused k p) h = absurd (h k p refl)
 
 module _ (M : Machine) (s : State) where
+  -- A step waits for exactly what the rows say.
+  row-waits : {x : Step} {a p : ℕ} → Waits M s x a p → waitsFor M s x ≡ refused a p
+  unfolding waitsFor
+  row-waits (not-due h) = then-refused _ (demand-refuses 8 0 h)
+  row-waits (nothing-under-way {j} {i} h) = demand-refuses 12 (1 + i) (ap not (nil-empty (s .chan i j) h))
+  row-waits (channel-full {i} {k} h f) =
+      then-passed (demand-passes 8 0 h) ∙ first-refuses 13 1 _ _ (room-means M s i) (M .carriers) k f
+
+  waits-row : (x : Step) (a p : ℕ) → waitsFor M s x ≡ refused a p → Waits M s x a p
+  unfolding waitsFor
+  waits-row (plan i) a p e =
+      refused-by e
+      (λ h. let d = demand-cases (s .due i) 8 0 a p h in rw (d .1, d .2) (not-due (d .0)))
+      (λ h g.
+      each-refused 13 1 _ _ (room-means M s i) (Waits M s (plan i)) (M .carriers) a p g
+      (λ k f. channel-full (demand-holds (s .due i) 8 0 h) f))
+  waits-row (deliver j i) a p e =
+      let d = demand-cases (not (isEmpty (s .chan i j))) 12 (1 + i) a p e in
+      rw (d .1, d .2) (nothing-under-way (empty-nil (s .chan i j) (not-false (isEmpty (s .chan i j)) (d .0))))
+
+  pub waits-exactly : (x : Step) (a p : ℕ) → (waitsFor M s x ≡ refused a p) ↔ Waits M s x a p
+  waits-exactly x a p = (waits-row x a p, λ w. row-waits w)
+
+  pub open-exactly : (x : Step) → (isOpen M s x ≡ true) ↔ ((isThere M x ≡ true) × ((a p : ℕ) → Waits M s x a p → ⊥))
+  open-exactly x = (
+    λ o. (open-there M s x o, λ a p w. refused-not-passed (sym (row-waits w) ∙ open-ready M s x o)),
+    λ h. ready-open M s x (h .0) (never-refuses (waitsFor M s x) (λ a p e. h .1 a p (waits-row x a p e))),
+  )
+
   -- Each row refuses.
   unnamed : (a : Asked) → isNamed M a ≡ false → openSingle M s a ≡ refused 7 0
   unfolding openSingle isNamed
@@ -33,8 +67,8 @@ module _ (M : Machine) (s : State) where
   row-refuses (unnamed-single {lent} {a} l h) = then-passed (enough-lent M lent l) ∙ unnamed a h
   row-refuses (unnamed-run {lent} {xs} {b} {p} l f) =
       then-passed (enough-lent M lent l) ∙ first-refuses 7 0 _ _ (named-means M xs) (length xs) p f ∙ ap (refused 7) (zero-add p)
-  row-refuses (not-open {lent} {x} l h k) =
-      then-passed (enough-lent M lent l) ∙ then-passed (demand-passes 7 0 h) ∙ shut-waits M s x h k
+  row-refuses (waiting {lent} l h w) =
+      then-passed (enough-lent M lent l) ∙ then-passed (demand-passes 7 0 h) ∙ row-waits w
 
   -- Nothing else refuses.
   lent-row : (lent a p : ℕ) → lentEnough M lent ≡ refused a p → (lent < M .needed) × (a ≡ 9) × (p ≡ 0)
@@ -44,17 +78,11 @@ module _ (M : Machine) (s : State) where
   single-row : (lent : ℕ) (c : Asked) (a p : ℕ) → M .needed ≤ lent → openSingle M s c ≡ refused a p → RefusedWith M s (single lent c) a p
   unfolding openSingle isNamed
   single-row lent noStep a p l e = let q = refused-same e in rw (← q .0, ← q .1) (unnamed-single l refl)
-  single-row lent (step x) a p l e = refused-by e absent waiting
+  single-row lent (step x) a p l e =
+      refused-by e absent (λ h g. waiting l (demand-holds (isThere M x) 7 0 h) (waits-row x a p g))
     where
       absent : demand (isThere M x) 7 0 ≡ refused a p → RefusedWith M s (single lent (step x)) a p
       absent h = let d = demand-cases (isThere M x) 7 0 a p h in rw (d .1, d .2) (unnamed-single l (d .0))
-
-      waiting : demand (isThere M x) 7 0 ≡ passed → waitsFor M s x ≡ refused a p → RefusedWith M s (single lent (step x)) a p
-      waiting h g =
-          let there = demand-holds (isThere M x) 7 0 h in
-          let shut = not-true-is-false (isOpen M s x) (λ o. refused-not-passed (sym g ∙ open-ready M s x o)) in
-          let q = refused-same (sym (shut-waits M s x there shut) ∙ g) in
-          rw (← q .0, ← q .1) (not-open l there shut)
 
   run-row : (lent : ℕ) (xs : List Asked) (b a p : ℕ) → M .needed ≤ lent → allNamed M xs ≡ refused a p → RefusedWith M s (runOf lent xs b) a p
   unfolding allNamed

@@ -1,33 +1,21 @@
 -- Laws of the table of refusals: what is lent, single steps, lists of named steps.
 use Prim.Native.Nat.{ℕ, suc, _+_, _≤_, _<_}
 use native.Mathlib.Omega.{arith}
-use mathlib.Core.Bool.{Bool, true, false, not}
+use mathlib.Core.Bool.{true}
 use mathlib.Core.List.{List, [], _∷_, _++_, map}
 use mathlib.Core.Logic.{_↔_}
 use mathlib.Core.Path.{_≡_, refl, ap}
 use borrow.Author.Tests.{le-leb, lt-leb, leb-true}
 use lib.ListN.{length, getD, length-append, List·getD-append}
 use lib.Seq.{getD-append-add}
-use Rattle.laws.specs.Verdict.{Verdict, passed, refused, _then_, demand, passes, All}
+use Rattle.laws.specs.Verdict.{passed, refused, All}
 use Rattle.laws.proofs.Tests.{true-false-absurd}
 use Rattle.laws.proofs.VerdictLaws.{then-both, demand-holds, demand-passes, demand-refuses}
 use Rattle.laws.proofs.EachLaws.{each-passed, all-passes}
 use Rattle.reference.specs.State.{Machine, State}
-use Rattle.reference.specs.Step.{Step, plan, deliver, isThere, hasCapacity, isEmpty, waitsFor, isOpen}
+use Rattle.reference.specs.Step.{Step, isThere, isOpen}
 use Rattle.reference.specs.Table.{Asked, step, noStep, isNamed, stepsOf, single, lentEnough, allNamed, openSingle, verdict}
 use Rattle.reference.proofs.OpenLaws.{ready-open}
-
--- A test that refuses with 8, alone and before others that do.
-eights : (b : Bool) → passes (demand b 8 0) ≡ false → demand b 8 0 ≡ refused 8 0
-unfolding demand passes
-eights true f = true-false-absurd refl f
-eights false f = refl
-
-eight : (b : Bool) (v : Verdict) → (passes v ≡ false → v ≡ refused 8 0) → passes (demand b 8 0 then v) ≡ false →
-    (demand b 8 0 then v) ≡ refused 8 0
-unfolding demand _then_
-eight true v h f = h f
-eight false v h f = refl
 
 module _ (M : Machine) where
   pub enough-lent : (lent : ℕ) → M .needed ≤ lent → lentEnough M lent ≡ passed
@@ -48,12 +36,6 @@ module _ (M : Machine) where
   single-open s lent x e =
       let v = then-both _ _ (then-both _ _ e .1) in
       ready-open M s x (demand-holds (isThere M x) 7 0 (v .0)) (v .1)
-
-  -- A step that is there and not open waits for something: 8, 0.
-  pub shut-waits : (s : State) (x : Step) → isThere M x ≡ true → isOpen M s x ≡ false → waitsFor M s x ≡ refused 8 0
-  unfolding isOpen waitsFor
-  shut-waits s (plan i) t e = eight (s .due i) (demand (hasCapacity M s i) 8 0) (eights (hasCapacity M s i)) (rw t at e)
-  shut-waits s (deliver j i) t e = eights (not (isEmpty (s .chan i j))) (rw t at e)
 
   -- The list is let through exactly if each of its steps is there.
   pub named-means : (xs : List Asked) (i : ℕ) → (isNamed M (getD xs i noStep) ≡ true) ↔ (isNamed M (getD xs i noStep) ≡ true)

@@ -34,9 +34,9 @@ use Rattle.reference.proofs.CeilingLaws.{calls-ceiling}
 use Rattle.reference.proofs.EffectLaws.{plan-does, deliver-does}
 use Rattle.reference.proofs.EndingLaws.{ending-silent, ending-spent, fresh-not-silent}
 use Rattle.reference.proofs.CutCalls.{cut-state, cut-taken}
-use Rattle.reference.proofs.BoundLaws.{room-says, says-room, fresh-in-range, reaches-in-range}
+use Rattle.reference.proofs.BoundLaws.{fresh-in-range, reaches-in-range}
 use Rattle.reference.proofs.ThroughLaws.{fresh-throughout, reaches-throughout}
-use Rattle.reference.proofs.RefusedLaws.{refuses-exactly}
+use Rattle.reference.proofs.RefusedLaws.{waits-exactly, open-exactly, refuses-exactly}
 
 module _ (M : Machine) where
   pub silent-idle : (s : State) → 1 ≤ M .depth → isSilent M s ≡ idle (M .carriers) s
@@ -74,8 +74,8 @@ module _ (M : Machine) (s : State) where
   plan-exactly : (i : ℕ) → (isOpen M s (plan i) ≡ true) ↔
       ((i < M .carriers) × (s .due i ≡ true) × ((k : ℕ) → i < k → k < M .carriers → length (s .chan k i) < M .depth))
   plan-exactly i = (
-    λ o. (plan-within M s i o, plan-due M s i o, λ k l h. room-says M s i k (plan-room M s i o) l h),
-    λ h. plan-open M s i (h .0) (h .1) (says-room M s i (h .2)),
+    λ o. (plan-within M s i o, plan-due M s i o, λ k l h. plan-room M s i k o l h),
+    λ h. plan-open M s i (h .0) (h .1) (h .2),
   )
 
   deliver-exactly : (j i : ℕ) → (isOpen M s (deliver j i) ≡ true) ↔ ((j < i) × (i < M .carriers) × (s .chan i j ≡ [] → ⊥))
@@ -89,6 +89,8 @@ step-claims =
     record {
       plan-open = plan-exactly;
       deliver-open = deliver-exactly;
+      waits-exactly = waits-exactly;
+      open-exactly = open-exactly;
       plan-does = plan-does;
       deliver-does = deliver-does;
       silent-exactly = λ M s. (silent-shut M s, shut-silent M s);

@@ -34,7 +34,7 @@ stateAfter M s (runOf lent xs b) = run M s (stepsOf xs) b .state
 unfoldable pub afterCall : Machine → State → Call → State
 afterCall M s c = whenPassed (verdict M s c) (stateAfter M s c) s
 
--- The answers to a list of calls, in order; the first call gets state s, each later one the state xs the call before it left it.
+-- The answers to a list of calls, in order; the first call gets state s, each later one the state as the call before it left it.
 unfoldable pub replies : Machine → State → List Call → List Reply
 replies M s [] = []
 replies M s (c ∷ cs) = reply M s c ∷ replies M (afterCall M s c) cs

@@ -1,12 +1,11 @@
 -- The steps (document 01, 'The machine'): which are there, what a step waits for, which are open; and when two answers are the same.
-use Prim.Native.Nat.{ℕ}
+use Prim.Native.Nat.{ℕ, _+_}
 use mathlib.Core.Bool.{Bool, true, false, _&&_, _||_, not}
 use mathlib.Core.List.{List, [], _∷_}
 use lib.Dec.{leb, ltb, eqb}
 use lib.ListN.{length}
-use Rattle.laws.specs.Verdict.{Verdict, _then_, demand, passes}
+use Rattle.laws.specs.Verdict.{Verdict, _then_, demand, demandEach, passes}
 use Rattle.route.specs.Route.{Answer, none, route}
-use Rattle.reference.specs.Ranges.{each}
 use Rattle.reference.specs.State.{Machine, State}
 
 -- A step: plan i; deliver j to i.
@@ -19,19 +18,20 @@ unfoldable pub isThere : Machine → Step → Bool
 isThere M (plan i) = ltb i (M .carriers)
 isThere M (deliver j i) = ltb j i && ltb i (M .carriers)
 
--- Every channel from i, to a carrier below it, has fewer than depth messages.
-unfoldable pub hasCapacity : Machine → State → ℕ → Bool
-hasCapacity M s i = each (M .carriers) (λ k. leb k i || ltb (length (s .chan k i)) (M .depth))
+-- The channel from i to carrier k has fewer than depth messages; a carrier that is not below i has no such channel.
+unfoldable pub hasRoom : Machine → State → ℕ → ℕ → Bool
+hasRoom M s i k = leb k i || ltb (length (s .chan k i)) (M .depth)
 
 -- The list is empty.
 unfoldable pub isEmpty : List Answer → Bool
 isEmpty [] = true
 isEmpty (a ∷ rest) = false
 
--- What a step waits for, test by test. Plan i: that i is due and every channel from i has room. Deliver j to i: a message there.
+-- What a step waits for, test by test. Plan i: that i is due (8), then room in each channel from i (13, the receiver). Deliver j to i: a
+-- message there (12, the addressee). Places are carrier numbers from 1 (document 02, slip 3).
 unfoldable pub waitsFor : Machine → State → Step → Verdict
-waitsFor M s (plan i) = demand (s .due i) 8 0 then demand (hasCapacity M s i) 8 0
-waitsFor M s (deliver j i) = demand (not (isEmpty (s .chan i j))) 8 0
+waitsFor M s (plan i) = demand (s .due i) 8 0 then demandEach 13 1 (hasRoom M s i) (M .carriers)
+waitsFor M s (deliver j i) = demand (not (isEmpty (s .chan i j))) 12 (1 + i)
 
 -- The step is open: it is there, and waits for nothing.
 unfoldable pub isOpen : Machine → State → Step → Bool

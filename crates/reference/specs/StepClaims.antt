@@ -7,13 +7,15 @@ use mathlib.Core.Logic.{_⊎_, _↔_}
 use mathlib.Core.Path.{_≡_}
 use lib.ListN.{length}
 use Rattle.reference.specs.State.{Machine, State, fresh}
-use Rattle.reference.specs.Step.{Step, plan, deliver, isOpen}
+use Rattle.laws.specs.Verdict.{refused}
+use Rattle.reference.specs.Step.{Step, plan, deliver, isThere, waitsFor, isOpen}
 use Rattle.reference.specs.Take.{afterStep}
 use Rattle.reference.specs.Effects.{Planned, Delivered}
 use Rattle.reference.specs.Run.{RunResult, run}
 use Rattle.reference.specs.Ranking.{isSilent}
 use Rattle.reference.specs.Ending.{silent, spent, ending}
 use Rattle.reference.specs.History.{FaithfulRun, Joined}
+use Rattle.reference.specs.Refused.{Waits}
 use Rattle.reference.specs.Quiet.{idle}
 
 pub record StepClaims : Type 0 where
@@ -22,6 +24,11 @@ pub record StepClaims : Type 0 where
       ((i < M .carriers) × (s .due i ≡ true) × ((k : ℕ) → i < k → k < M .carriers → length (s .chan k i) < M .depth))
   pub deliver-open : (M : Machine) (s : State) (j i : ℕ) → (isOpen M s (deliver j i) ≡ true) ↔
       ((j < i) × (i < M .carriers) × (s .chan i j ≡ [] → ⊥))
+  -- A step waits for a thing exactly under the condition of its row, with its number and place; it is open exactly if it is there and no
+  -- row holds.
+  pub waits-exactly : (M : Machine) (s : State) (x : Step) (a p : ℕ) → (waitsFor M s x ≡ refused a p) ↔ Waits M s x a p
+  pub open-exactly : (M : Machine) (s : State) (x : Step) → (isOpen M s x ≡ true) ↔
+      ((isThere M x ≡ true) × ((a p : ℕ) → Waits M s x a p → ⊥))
   -- The steps do what document 01 says, and nothing else changes.
   pub plan-does : (M : Machine) (s : State) (i : ℕ) → Planned M s (afterStep M s (plan i)) i
   pub deliver-does : (M : Machine) (s : State) (j i : ℕ) → isOpen M s (deliver j i) ≡ true → Delivered s (afterStep M s (deliver j i)) j i

@@ -1,5 +1,5 @@
--- The calls and the table of refusals xs the reference machine is given it (document 01, 'Refused'): 9, then 7, then 8. A lent
--- state of the machine's own is never refused with 10.
+-- The calls and the table of refusals as the reference machine is given it (document 01, 'Refused'): 9, then 7, then what a single step
+-- waits for. A lent state of the machine's own is never refused with 10.
 use Prim.Native.Nat.{ℕ}
 use mathlib.Core.Bool.{Bool, false}
 use mathlib.Core.List.{List, [], _∷_}
@@ -9,7 +9,7 @@ use Rattle.laws.specs.Verdict.{Verdict, refused, _then_, demand, demandEach}
 use Rattle.reference.specs.State.{Machine, State}
 use Rattle.reference.specs.Step.{Step, isThere, waitsFor}
 
--- A step xs it is asked for: a step, or what names no kind of step.
+-- A step as it is asked for: a step, or what names no kind of step.
 pub data Asked : Type 0 where
   step : Step → Asked
   noStep : Asked

@@ -2,29 +2,29 @@
 use Prim.Native.Nat.{ℕ, suc, _+_, _-_, _/_, _%_, _≤_, _<_}
 use native.Mathlib.Omega.{arith}
 use native.Mathlib.Numerals.{add-one}
-use mathlib.Core.Bool.{Bool, true, false, _&&_, not}
+use mathlib.Core.Bool.{Bool, true, false, _&&_, not, and-false}
 use mathlib.Core.List.{List}
-use mathlib.Core.Path.{_≡_, refl, ap, _∙_}
-use lib.Dec.{ltb}
-use borrow.Author.Tests.{le-leb, lt-leb, ltb-true, not-true, not-false}
-use Rattle.laws.specs.Verdict.{passed, refused, _then_, demand, passes}
-use Rattle.laws.proofs.Tests.{and-both, and-fst, and-snd}
-use Rattle.laws.proofs.VerdictLaws.{then-both, demand-holds}
+use mathlib.Core.Path.{_≡_, refl, sym, ap, _∙_}
+use lib.Dec.{leb, ltb, eqb}
+use lib.ListN.{getD}
+use borrow.Author.Tests.{le-leb, lt-leb, lt-ltb, le-ltb, ltb-true, eq-eqb, ne-eqb}
+use borrow.Author.Needs.{needs}
+use Rattle.laws.specs.Verdict.{Verdict, passed, refused, _then_, demand, demandEach, passes}
+use Rattle.laws.proofs.Tests.{and-both, and-fst, and-snd, or-inl}
+use Rattle.laws.proofs.VerdictLaws.{then-both, then-passed, demand-holds, demand-passes, demand-refuses, tests-go-on, tests-stop, each-end}
+use Rattle.laws.proofs.EachLaws.{all-passes}
 use Rattle.floor.specs.declared.Floor.{Floor}
-use Rattle.floor.specs.declared.Refusal.{Refusal}
-use Rattle.floor.specs.declared.Checked.{Checked}
-use Rattle.floor.specs.declared.Checked.the-variants.{Passed, Refused}
-use Rattle.floor.specs.Answers.{verdictOf}
 use Rattle.floor.specs.Checks.{within}
 use Rattle.reference.specs.Ranges.{each}
 use Rattle.reference.proofs.RangeLaws.{each-same}
 use Rattle.reference.specs.Step.{Step, plan, deliver, isThere}
 use Rattle.reference.specs.Table.{Asked, step, noStep, isNamed}
+use Rattle.layout.specs.Places.{duePlace, channelPlace}
 use Rattle.layout.specs.Numbers.{deliveryOf, askedBy}
 use Rattle.layout.specs.Calls.{machineOf}
-use Rattle.layout.specs.InnerSteps.{capacityIn, waitsIn, openIn, shutIn, silentIn}
+use Rattle.layout.specs.InnerSteps.{roomIn, waitsIn, openIn, shutIn, silentIn}
 use Rattle.layout.specs.InnerCalls.{singleVerdictIn}
-use Rattle.steps.specs.Inner.{bare, planShut, deliveryShut, senderShut}
+use Rattle.steps.specs.Inner.{bare, roomAt, planShut, deliveryShut, senderShut}
 
 module _ (x : ℕ) where
   pub low-none : x < 101 → noStep ≡ askedBy x
@@ -68,7 +68,7 @@ module _ (f : Floor) (ws : List ℕ) where
 
   module _ (m : List ℕ) where
     waits-of : (x : Step) → waitsIn (bare f) m x ≡ waitsIn (machineOf f ws) m x
-    unfolding waitsIn capacityIn bare machineOf
+    unfolding waitsIn roomIn bare machineOf
     waits-of (plan i) = refl
     waits-of (deliver j i) = refl
 
@@ -82,7 +82,7 @@ module _ (f : Floor) (ws : List ℕ) where
     open-of x = rw (there-of x, waits-of x) refl
 
     pub silent-of : silentIn (bare f) m ≡ silentIn (machineOf f ws) m
-    unfolding silentIn shutIn openIn isThere waitsIn capacityIn bare machineOf
+    unfolding silentIn shutIn openIn isThere waitsIn roomIn bare machineOf
     silent-of = refl
 
 -- A step that is there has its carriers there.
@@ -95,6 +95,14 @@ module _ (f : Floor) where
   unfolding isThere bare machineOf
   deliver-there j i e =
       (ltb-true j i (and-fst (ltb j i) (ltb i (f .carriers)) e), ltb-true i (f .carriers) (and-snd (ltb j i) (ltb i (f .carriers)) e))
+
+  pub plan-named : (i : ℕ) → i < f .carriers → isThere (bare f) (plan i) ≡ true
+  unfolding isThere bare machineOf
+  plan-named i l = lt-ltb i (f .carriers) l
+
+  pub delivery-named : (j i : ℕ) → j < i → i < f .carriers → isThere (bare f) (deliver j i) ≡ true
+  unfolding isThere bare machineOf
+  delivery-named j i a l = and-both (lt-ltb j i a) (lt-ltb i (f .carriers) l)
 
 -- A step that is open is there.
 module _ (f : Floor) (m : List ℕ) where
@@ -109,33 +117,63 @@ module _ (f : Floor) (m : List ℕ) where
       let v = then-both _ _ e in
       and-both (demand-holds (isThere (bare f) x) 7 0 (v .0)) (rw (v .1))
 
-  -- The cases of the test that a step is open.
-  pub open-absent : {t : Bool} (x : Step) → t ≡ isThere (bare f) x → not t ≡ true → false ≡ openIn (bare f) m x
+  -- What is not there is not open.
+  pub plan-absent : (i : ℕ) → f .carriers ≤ i → false ≡ openIn (bare f) m (plan i)
+  unfolding openIn isThere bare machineOf
+  plan-absent i l = rw (le-ltb i (f .carriers) l) refl
+
+  pub upward-absent : (j i : ℕ) → i ≤ j → false ≡ openIn (bare f) m (deliver j i)
+  unfolding openIn isThere
+  upward-absent j i l = rw (le-ltb j i l) refl
+
+  pub receiver-absent : (j i : ℕ) → f .carriers ≤ i → false ≡ openIn (bare f) m (deliver j i)
+  unfolding openIn isThere bare machineOf
+  receiver-absent j i l = rw (le-ltb i (f .carriers) l, and-false (ltb j i)) refl
+
+  -- A step that is there is open if it waits for nothing.
+  pub open-waits : (x : Step) (v : Verdict) → isThere (bare f) x ≡ true → v ≡ waitsIn (bare f) m x → passes v ≡ openIn (bare f) m x
   unfolding openIn
-  open-absent {t} x e h = rw (← e, not-true t h) refl
+  open-waits x v t e = rw (t, e) refl
 
-  pub open-waiting : {a : Checked} {y : Refusal} {t : Bool} (x : Step) → t ≡ isThere (bare f) x → not t ≡ false →
-      verdictOf a ≡ waitsIn (bare f) m x → a ≡ Refused y → false ≡ openIn (bare f) m x
-  unfolding openIn passes verdictOf
-  open-waiting {t = t} x e h v r = rw (← e, not-false t h, ← v, r) refl
+  -- What a plan waits for: 8 where it is not due; otherwise what the search for a full channel has found.
+  pub plan-early : (i : ℕ) → (getD m (duePlace i) 0 ≡ 1 → ⊥) → refused 8 0 ≡ waitsIn (bare f) m (plan i)
+  unfolding waitsIn demand _then_
+  plan-early i h = rw (ne-eqb _ 1 h) refl
 
-  pub open-ready : {a : Checked} {t : Bool} (x : Step) → t ≡ isThere (bare f) x → not t ≡ false →
-      verdictOf a ≡ waitsIn (bare f) m x → a ≡ Passed → true ≡ openIn (bare f) m x
-  unfolding openIn passes verdictOf
-  open-ready {t = t} x e h v r = rw (← e, not-false t h, ← v, r) refl
+  pub plan-due : (i r : ℕ) → getD m (duePlace i) 0 ≡ 1 →
+      demand (leb (f .carriers) r) 13 (1 + r) ≡ demandEach 13 1 (roomAt (f .carriers) (f .depth) m i) (f .carriers) →
+      demand (leb (f .carriers) r) 13 (1 + r) ≡ waitsIn (bare f) m (plan i)
+  unfolding waitsIn roomIn roomAt bare machineOf
+  plan-due i r h e = e ∙ sym (then-passed (demand-passes 8 0 (eq-eqb _ 1 h)))
 
-pub ruleset open-cases = (open-absent, open-waiting, open-ready)
+  -- What a delivery waits for.
+  pub delivery-waits : (j i : ℕ) →
+      demand (not (eqb (getD m (channelPlace (f .carriers) i j) 0) 0)) 12 (1 + i) ≡ waitsIn (bare f) m (deliver j i)
+  unfolding waitsIn bare machineOf
+  delivery-waits j i = refl
 
--- A test with refusal 8, and the two answers of the code.
-pub eight-yes : {b : Bool} → b ≡ true → passed ≡ demand b 8 0
-unfolding demand
-eight-yes e = rw e
+-- A single test passes if it holds.
+pub demand-test : (b : Bool) (k p : ℕ) → passes (demand b k p) ≡ b
+unfolding passes demand
+demand-test true k p = refl
+demand-test false k p = refl
 
-pub eight-no : {b : Bool} → b ≡ false → refused 8 0 ≡ demand b 8 0
-unfolding demand
-eight-no e = rw e
+-- The search for the first full channel from i: no carrier up to i has one; one more that has room; the first that has none; the end.
+pub room-start : (n depth : ℕ) (m : List ℕ) (i : ℕ) → demandEach 13 1 (roomAt n depth m i) (i + 1) ≡ passed
+unfolding roomAt
+room-start n depth m i =
+    all-passes 13 1 _ (λ k. roomAt n depth m i k ≡ true) (λ k. (λ h. h, λ h. h)) (i + 1)
+    (λ k l. or-inl (leb k i) _ (le-leb k i (omega arith)))
 
-pub ruleset eight-cases = (eight-yes, eight-no)
+pub room-stop : {t : Bool} (ok : ℕ → Bool) (k n : ℕ) → demandEach 13 1 ok k ≡ passed → t ≡ ok k → not t ≡ true → k < n →
+    demand (leb n k) 13 (1 + k) ≡ demandEach 13 1 ok n
+room-stop ok k n h e s l = demand-refuses 13 (1 + k) (lt-leb n k l) ∙ tests-stop 13 1 ok k n h e s l
+
+pub room-end : (ok : ℕ → Bool) (k n : ℕ) → demandEach 13 1 ok k ≡ passed → k ≤ n → n ≤ k →
+    demand (leb n n) 13 (1 + n) ≡ demandEach 13 1 ok n
+room-end ok k n h a b = demand-passes 13 (1 + n) (le-leb n n (omega arith)) ∙ each-end 13 1 ok k n a b h
+
+pub ruleset full-search = (room-start, tests-go-on, room-stop, room-end, needs)
 
 -- Silence as the code tests it: the plans, then the deliveries of each sender.
 pub silent-is : (f : Floor) (m : List ℕ) →

@@ -21,9 +21,9 @@ use Rattle.steps.specs.Answers.{takenMeant}
 unfoldable pub bare : Floor → Machine
 bare f = machineOf f []
 
--- The channel from carrier i to carrier k, if k is below i, has fewer than depth messages.
-unfoldable pub capacityAt : Floor → List ℕ → ℕ → ℕ → Bool
-capacityAt f m i k = leb k i || ltb (getD m (channelPlace (f .carriers) k i) 0) (f .depth)
+-- Of n carriers, the channel from carrier i to carrier k has fewer than depth messages; a carrier that is not below i has no such channel.
+unfoldable pub roomAt : (n depth : ℕ) → List ℕ → ℕ → ℕ → Bool
+roomAt n depth m i k = leb k i || ltb (getD m (channelPlace n k i) 0) depth
 
 -- The plan of carrier i is not open; the delivery from j to the carrier d + 1 below it is not; no delivery from j is.
 unfoldable pub planShut : Floor → List ℕ → ℕ → Bool

@@ -1,26 +1,96 @@
-// Which steps are open in a state, and whether any is.
+// Which steps are open in a state, what a step waits for, and whether any is open.
 ghost use mathlib.Core.Path.{_≡_};
 ghost use mathlib.Core.Bool.{true, false};
-ghost use Prim.Native.Nat.{_≤_, _<_, _-_};
-ghost use lib.ListN.{length};
-ghost use Rattle.laws.specs.Verdict.{demand};
+ghost use Prim.Native.Nat.{_+_, _≤_, _<_, _-_};
+ghost use lib.Dec.{leb, eqb};
+ghost use lib.ListN.{length, getD};
+ghost use Rattle.laws.specs.Verdict.{demand, demandEach};
 ghost use Rattle.floor.specs.Answers.{verdictOf};
 ghost use Rattle.reference.specs.Ranges.{each};
 ghost use Rattle.reference.specs.Step.{plan, deliver, isThere};
-ghost use Rattle.layout.specs.Places.{stateSize};
-ghost use Rattle.layout.specs.InnerSteps.{waitsIn, openIn, silentIn};
+ghost use Rattle.layout.specs.Places.{duePlace, stateSize};
+ghost use Rattle.layout.specs.InnerSteps.{roomIn, waitsIn, openIn, silentIn};
 ghost use Rattle.steps.specs.Answers.{stepMeant};
-ghost use Rattle.steps.specs.Inner.{bare, capacityAt, planShut, senderShut};
+ghost use Rattle.steps.specs.Inner.{bare, roomAt, planShut, senderShut};
 use crate::Step;
 use floor::Checked;
 use floor::Floor;
 use floor::Refusal;
 
-// 8, 0 unless a test holds.
-fn eight(holds: bool) -> Checked
-    ensures { λ r. ⌜ verdictOf r ≡ demand holds 8 0 ⌝ }
+// Whether the channel from carrier i to carrier k below it has fewer than depth messages.
+fn has_room(n: usize, depth: u16, m: &[u16], i: usize, k: usize) -> bool
+    requires { ⌜ (i < k) × (k < n) × (n ≤ 8) × (stateSize n ≤ length (now m)) ⌝ }
+    ensures { λ r. ⌜ r ≡ roomAt n depth (now (m .entry)) i k ⌝ }
 {
-    if holds {
+    let c = state::channel_place(n, k, i);
+    m[c] < depth
+}
+
+// The smallest carrier to which the channel from carrier i is full; n if none is.
+fn first_full(n: usize, depth: u16, m: &[u16], i: usize) -> usize
+    requires { ⌜ (i < n) × (n ≤ 8) × (stateSize n ≤ length (now m)) ⌝ }
+    ensures { λ r. ⌜ (r ≤ n) × (demand (leb n r) 13 (1 + r) ≡ demandEach 13 1 (roomAt n depth (now (m .entry)) i) n) ⌝ }
+{
+    let mut k: usize = i + 1;
+    while k < n {
+        if !has_room(n, depth, m, i, k) {
+            return k;
+        }
+        k += 1;
+    }
+    n
+}
+
+// Whether the plan of carrier i is open: it is there and due, and no channel from it is full.
+fn plan_open(f: Floor, m: &[u16], i: usize) -> bool
+    requires { ⌜ (f .carriers ≤ 8) × (stateSize (f .carriers) ≤ length (now m)) ⌝ }
+    ensures { λ r. ⌜ r ≡ openIn (bare f) (now (m .entry)) (plan i) ⌝ }
+{
+    let n = f.carriers as usize;
+    if i >= n {
+        return false;
+    }
+    let d = state::due_place(i);
+    if m[d] != 1 {
+        return false;
+    }
+    first_full(n, f.depth, m, i) >= n
+}
+
+// Whether the delivery from carrier j to carrier i is open: it is there, and so is a message.
+fn delivery_open(f: Floor, m: &[u16], j: usize, i: usize) -> bool
+    requires { ⌜ (f .carriers ≤ 8) × (stateSize (f .carriers) ≤ length (now m)) ⌝ }
+    ensures { λ r. ⌜ r ≡ openIn (bare f) (now (m .entry)) (deliver j i) ⌝ }
+{
+    let n = f.carriers as usize;
+    if j >= i {
+        return false;
+    }
+    if i >= n {
+        return false;
+    }
+    let c = state::channel_place(n, i, j);
+    m[c] != 0
+}
+
+// Whether a step is open.
+pub fn is_open(f: Floor, m: &[u16], s: Step) -> bool
+    requires { ⌜ (f .carriers ≤ 8) × (stateSize (f .carriers) ≤ length (now m)) ⌝ }
+    ensures { λ r. ⌜ r ≡ openIn (bare f) (now (m .entry)) (stepMeant s) ⌝ }
+{
+    match s {
+        Step::Plan(i) => plan_open(f, m, i),
+        Step::Deliver { from, to } => delivery_open(f, m, from, to),
+    }
+}
+
+// 8 unless carrier i is due.
+fn due_waits(f: Floor, m: &[u16], i: usize) -> Checked
+    requires { ⌜ (i < f .carriers) × (f .carriers ≤ 8) × (stateSize (f .carriers) ≤ length (now m)) ⌝ }
+    ensures { λ r. ⌜ verdictOf r ≡ demand (eqb (getD (now (m .entry)) (duePlace i) 0) 1) 8 0 ⌝ }
+{
+    let d = state::due_place(i);
+    if m[d] == 1 {
         return Checked::Passed;
     }
     Checked::Refused(Refusal {
@@ -29,32 +99,20 @@ fn eight(holds: bool) -> Checked
     })
 }
 
-// Whether the channel from carrier i to carrier k, if k is below i, has fewer than depth messages.
-fn has_place(f: Floor, m: &[u16], i: usize, k: usize) -> bool
-    requires { ⌜ (k < f .carriers) × (f .carriers ≤ 8) × (stateSize (f .carriers) ≤ length (now m)) ⌝ }
-    ensures { λ r. ⌜ r ≡ capacityAt f (now (m .entry)) i k ⌝ }
-{
-    if k <= i {
-        return true;
-    }
-    let c = state::channel_place(f.carriers as usize, k, i);
-    m[c] < f.depth
-}
-
-// Whether every channel from carrier i has room.
-fn has_capacity(f: Floor, m: &[u16], i: usize) -> bool
-    requires { ⌜ (f .carriers ≤ 8) × (stateSize (f .carriers) ≤ length (now m)) ⌝ }
-    ensures { λ r. ⌜ r ≡ each (f .carriers) (capacityAt f (now (m .entry)) i) ⌝ }
+// 13 with the smallest receiver whose channel from carrier i is full.
+fn room_waits(f: Floor, m: &[u16], i: usize) -> Checked
+    requires { ⌜ (i < f .carriers) × (f .carriers ≤ 8) × (stateSize (f .carriers) ≤ length (now m)) ⌝ }
+    ensures { λ r. ⌜ verdictOf r ≡ demandEach 13 1 (roomIn (bare f) (now (m .entry)) i) (f .carriers) ⌝ }
 {
     let n = f.carriers as usize;
-    let mut k: usize = 0;
-    while k < n {
-        if !has_place(f, m, i, k) {
-            return false;
-        }
-        k += 1;
+    let k = first_full(n, f.depth, m, i);
+    if k >= n {
+        return Checked::Passed;
     }
-    true
+    Checked::Refused(Refusal {
+        number: 13,
+        place: 1 + k,
+    })
 }
 
 // What the plan of carrier i waits for: that it is due, then room in its channels.
@@ -62,21 +120,26 @@ fn plan_waits(f: Floor, m: &[u16], i: usize) -> Checked
     requires { ⌜ (i < f .carriers) × (f .carriers ≤ 8) × (stateSize (f .carriers) ≤ length (now m)) ⌝ }
     ensures { λ r. ⌜ verdictOf r ≡ waitsIn (bare f) (now (m .entry)) (plan i) ⌝ }
 {
-    let d = state::due_place(i);
-    let due = eight(m[d] == 1);
+    let due = due_waits(f, m, i);
     let Checked::Passed = due else {
         return due;
     };
-    eight(has_capacity(f, m, i))
+    room_waits(f, m, i)
 }
 
-// What the delivery from carrier j to carrier i waits for: a message.
+// What the delivery from carrier j to carrier i waits for: 12 with the addressee unless a message is there.
 fn delivery_waits(f: Floor, m: &[u16], j: usize, i: usize) -> Checked
     requires { ⌜ (j < i) × (i < f .carriers) × (f .carriers ≤ 8) × (stateSize (f .carriers) ≤ length (now m)) ⌝ }
     ensures { λ r. ⌜ verdictOf r ≡ waitsIn (bare f) (now (m .entry)) (deliver j i) ⌝ }
 {
     let c = state::channel_place(f.carriers as usize, i, j);
-    eight(m[c] != 0)
+    if m[c] != 0 {
+        return Checked::Passed;
+    }
+    Checked::Refused(Refusal {
+        number: 12,
+        place: 1 + i,
+    })
 }
 
 // What a step that is there waits for.
@@ -91,21 +154,6 @@ pub fn waits(f: Floor, m: &[u16], s: Step) -> Checked
     }
 }
 
-// Whether a step is open.
-pub fn is_open(f: Floor, m: &[u16], s: Step) -> bool
-    requires { ⌜ (f .carriers ≤ 8) × (stateSize (f .carriers) ≤ length (now m)) ⌝ }
-    ensures { λ r. ⌜ r ≡ openIn (bare f) (now (m .entry)) (stepMeant s) ⌝ }
-{
-    if !crate::naming::is_there(f, s) {
-        return false;
-    }
-    let waiting = waits(f, m, s);
-    let Checked::Passed = waiting else {
-        return false;
-    };
-    true
-}
-
 // Whether no plan is open.
 fn plans_shut(f: Floor, m: &[u16]) -> bool
     requires { ⌜ (f .carriers ≤ 8) × (stateSize (f .carriers) ≤ length (now m)) ⌝ }
@@ -114,7 +162,7 @@ fn plans_shut(f: Floor, m: &[u16]) -> bool
     let n = f.carriers as usize;
     let mut i: usize = 0;
     while i < n {
-        if is_open(f, m, Step::Plan(i)) {
+        if plan_open(f, m, i) {
             return false;
         }
         i += 1;
@@ -130,14 +178,7 @@ fn sender_shut(f: Floor, m: &[u16], j: usize) -> bool
     let below = f.carriers as usize - (j + 1);
     let mut d: usize = 0;
     while d < below {
-        if is_open(
-            f,
-            m,
-            Step::Deliver {
-                from: j,
-                to: j + 1 + d,
-            },
-        ) {
+        if delivery_open(f, m, j, j + 1 + d) {
             return false;
         }
         d += 1;

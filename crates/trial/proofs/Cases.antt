@@ -16,7 +16,7 @@ use Rattle.records.specs.Seen.{parked, seenAs, seenFrom, seen}
 use Rattle.planner.specs.Plan.{respondOf}
 use Rattle.reference.specs.Ranges.{below, joined, each, update, updatePair}
 use Rattle.reference.specs.State.{fresh, views, tick}
-use Rattle.reference.specs.Step.{isThere, hasCapacity, isEmpty, waitsFor, isOpen, sameCells, sameAnswer}
+use Rattle.reference.specs.Step.{isThere, hasRoom, isEmpty, waitsFor, isOpen, sameCells, sameAnswer}
 use Rattle.reference.specs.Take.{isNews, send, planAs, oldest, newer, deliverTo, effect, counted, afterStep, stepAnswer}
 use Rattle.reference.specs.Ranking.{deliveriesFrom, ranking, noneOpen, isSilent}
 use Rattle.reference.specs.Quiet.{ceiling}
@@ -73,7 +73,7 @@ unfolding
     among clearOfWalls clearOf unshared distinctOf placesOf checkOf
     cellAt neighbours near vacant passable every standable allowed startClear cost cheaper cheapest beatsFrom val walk walkFrom best
     taskOf respondOf
-    below joined each update updatePair fresh views tick isThere hasCapacity isEmpty waitsFor isOpen sameCells sameAnswer
+    below joined each update updatePair fresh views tick isThere hasRoom isEmpty waitsFor isOpen sameCells sameAnswer
     deliveriesFrom ranking noneOpen isSilent isNews send planAs oldest newer deliverTo effect counted afterStep stepAnswer
     ceiling pairsBefore stateSize machineOf placeVerdict nextNumber drawnBy
     places stepAt openAt passing openPlaces turn chosen startMemory remembered nextStep entryOf reported tryFrom trial

@@ -246,7 +246,7 @@ impl Tally {
             ("plan", vec![0], with(&[])),
             ("print_routes", vec![0], vec![1, 2, 3, 4, 5, 6, 9]),
             ("fresh", vec![0], with(&[])),
-            ("step", vec![0, 1, 2], with(&[7, 8, 10])),
+            ("step", vec![0, 1, 2], with(&[7, 8, 10, 12, 13])),
             ("run", vec![0, 1, 2], with(&[7, 10])),
             ("trial", vec![0], with(&[11])),
             ("ceiling", vec![0], vec![2]),

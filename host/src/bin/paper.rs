@@ -95,7 +95,7 @@ mod tests {
         let record = paper::record_of(&floor);
         let mut memory = fresh_memory(&record);
         let before = memory.clone();
-        assert_eq!(calls::step(&record, &[], &mut memory, 212), refused(8, 0));
+        assert_eq!(calls::step(&record, &[], &mut memory, 212), refused(12, 2));
         assert_eq!(calls::step(&record, &[], &mut memory, 222), refused(7, 0));
         assert_eq!(memory, before);
 
@@ -125,7 +125,26 @@ mod tests {
         let three = paper::record_of(&bare(4, 4, 9, 1, &[(0, 3), (4, 7), (8, 11)]));
         let mut memory = fresh_memory(&three);
         let words: Vec<u64> = [102, 101, 212, 102].map(|s| calls::step(&three, &[], &mut memory, s)).to_vec();
-        assert_eq!(words, [done(1, 0), done(1, 0), done(2, 0), refused(8, 0)]);
+        assert_eq!(words, [done(1, 0), done(1, 0), done(2, 0), refused(13, 3)]);
+    }
+
+    /// Document 02, slip 3: of four carriers the second has two receivers below it, of which the smaller with a full channel is named; it is
+    /// open exactly once neither is full. A carrier that is not due gets 8, full or not.
+    #[test]
+    fn which_thing_the_step_waits_for() {
+        let floor = bare(4, 4, 9, 1, &[(0, 3), (4, 7), (8, 11), (12, 15)]);
+        let four = paper::record_of(&floor);
+        let mut memory = fresh_memory(&four);
+        let mut step = |number: u16| {
+            let open = paper::decode(&floor, &memory).unwrap().is_open(&floor, paper::step_named(number, 4).unwrap());
+            let word = calls::step(&four, &[], &mut memory, number);
+            assert_eq!(open, word & 255 == 0);
+            word
+        };
+        assert_eq!([214, 234].map(&mut step), [refused(12, 4), refused(12, 4)]);
+        assert_eq!([102, 102, 101, 212, 102].map(&mut step), [done(1, 0), refused(8, 0), done(1, 0), done(2, 0), refused(13, 3)]);
+        assert_eq!([224, 102, 223, 102].map(&mut step), [done(2, 0), refused(13, 3), done(2, 0), done(0, 0)]);
+        assert_eq!([102, 101].map(&mut step), [refused(8, 0), refused(8, 0)]);
     }
 
     #[test]

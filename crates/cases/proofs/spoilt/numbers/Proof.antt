@@ -7,13 +7,13 @@ use Rattle.cases.proofs.spoilt.numbers.Statement.{statement}
 use Rattle.cases.proofs.spoilt.numbers.Tie as tie
 
 abbrev Inv-loop : tie.InvT-loop
-Inv-loop desk m₀ kind wanted n₀ x₀ m n x = length m ≡ length m₀
+Inv-loop desk m₀ wanted n₀ x₀ m n x = length m ≡ length m₀
 
 abbrev μ-loop : tie.MeasureT-loop
-μ-loop desk m₀ kind wanted n₀ x₀ m n x = 65536 - x
+μ-loop desk m₀ wanted n₀ x₀ m n x = 65536 - x
 
 pub numbers-spec : {M : Type 1} → statement M
 numbers-spec =
-    tie.close (tie.spec Inv-loop μ-loop (λ c κs. search needs) (λ c. search needs) (λ c κs. search needs)
-    (λ c κs. search needs) (λ c κs. search needs) (λ c κs. search needs) (λ c. search needs) (λ c. search needs)
-    (λ c. search needs) (λ c. search needs) (λ c. search needs))
+    tie.close (tie.spec Inv-loop μ-loop (λ c. search needs) (λ c κs. search needs) (λ c κs. search needs)
+    (λ c κs. search needs) (λ c κs. search needs) (λ c. search needs) (λ c. search needs) (λ c. search needs)
+    (λ c. search needs) (λ c. search needs))
