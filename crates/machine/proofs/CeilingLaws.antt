@@ -1,6 +1,7 @@
 -- The handbook's figures are the formula's values; what the ceiling's entry answers.
-use Prim.Native.Nat.{ℕ, suc, _-_, _≤_, _<_}
+use Prim.Native.Nat.{ℕ, suc, _-_, _^_, _≤_, _<_}
 use native.Mathlib.Omega.{arith}
+use native.Mathlib.Nat.{pow-le-pow-right}
 use borrow.Author.Tests.{le-leb, lt-leb, eqb-true}
 use mathlib.Core.Bool.{true}
 use mathlib.Core.List.{List, [], _∷_}
@@ -28,6 +29,10 @@ pub figure-right : (n : ℕ) → 1 ≤ n → n ≤ 8 → getD figures (n - 1) 0 
 figure-right n l h =
     let same : suc (n - 1) ≡ n = omega arith in
     eqb-true _ _ (each-holds 8 (λ k. eqb (getD figures k 0) (ceiling (suc k))) all-right (n - 1) (omega arith)) ∙ ap ceiling same
+
+-- How large the formula's power is.
+pub power-most : (k : ℕ) → k ≤ 9 → 2 ^ k ≤ 512
+power-most k l = pow-le-pow-right (omega arith) l
 
 module _ (n : ℕ) where
   pub most-low : {v : Outcome ℕ} → v ≡ refusal 2 5 → n < 1 → v ≡ mostSteps n
