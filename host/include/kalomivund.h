@@ -192,7 +192,8 @@ uint64_t kalomivund_run(const uint16_t *floor, size_t floor_len, const uint16_t 
 uint64_t kalomivund_trial(const uint16_t *floor, size_t floor_len, const uint16_t *walls, size_t walls_len, uint16_t order,
                           uint32_t seed, uint16_t *state, size_t state_len, uint16_t *report, size_t report_len);
 
-/* The most steps that so many carriers can take from the fresh state, 2^(n + 1) - n - 2.
+/* The most steps that so many carriers can take from the fresh state, 2^(n + 1) - n - 2:
+ * 1, 4, 11, 26, 57, 120, 247, 502 for 1 to 8, as the commissioning handbook prints them.
  * Done    case 0, number the steps.
  * Refused 2, field 5 (carriers outside 1 to 8). */
 uint64_t kalomivund_ceiling(uint16_t carriers);

@@ -110,7 +110,9 @@ fn floors_10_and_11_and_refusals() {
     assert_eq!(refused(fresh(&floor, &[], &mut [0; 461])), (9, 0));
     assert_eq!(refused(step(&floor, &[], &mut [1000; 462], plan_step(1))), (10, 0));
     assert_eq!(refused(search(&floor, &[], 3, &[0; 130])), (7, 0));
-    assert_eq!(ceiling(8), Ok(502));
+    let handbook = [1, 4, 11, 26, 57, 120, 247, 502];
+    assert_eq!((1..=8).map(|n| ceiling(n).unwrap()).collect::<Vec<u32>>(), handbook);
+    assert_eq!(refused(ceiling(0)), (2, 5));
     assert_eq!(refused(ceiling(9)), (2, 5));
     assert_eq!(ceiling(9).unwrap_err().to_string(), "refusal 2: line 1 is outside its limits in field 5");
 }

@@ -1,5 +1,5 @@
 -- Laws that the functions' proofs cite.
 pub mod RunLaws
-pub mod PowerLaws
+pub mod CeilingLaws
 pub mod VerdictLaws
 pub mod EntryLaws

@@ -1,6 +1,6 @@
 // The machine of document 01 over lent memory: the fresh state, the single step, the run, the step ceiling.
 mod checks;
-mod power;
+mod handbook;
 mod runs;
 
 ghost use mathlib.Core.Path.{_≡_};
@@ -155,15 +155,15 @@ pub fn run(f: Floor, walls: &[u16], state: &mut [u16], numbers: &[u16], budget: 
     Ran::Refused(x)
 }
 
-// The most steps for n carriers.
+// The most steps for n carriers, read from the handbook's table.
 pub fn ceiling(n: usize) -> Most
     ensures { λ r. ⌜ figureOf r ≡ mostSteps n ⌝ }
 {
     if n < 1 {
-        return power::refused();
+        return handbook::refused();
     }
     if n > Floor::MAX_CARRIERS as usize {
-        return power::refused();
+        return handbook::refused();
     }
-    Most::Steps(power::two_to(n + 1) - n - 2)
+    Most::Steps(handbook::most_steps(n))
 }

@@ -13,7 +13,7 @@ use Rattle.floor.specs.declared.Floor.{Floor}
 use Rattle.floor.specs.Checks.{within}
 use Rattle.reference.specs.Quiet.{ceiling}
 use Rattle.machine.specs.Ceiling.{mostSteps}
-use Rattle.machine.proofs.PowerLaws.{power-most}
+use Rattle.machine.proofs.CeilingLaws.{power-most}
 use Rattle.orders.specs.Generator.{nextNumber, drawnBy}
 use Rattle.orders.specs.Orders.{first, round, drawn, startMemory, remembered}
 use Rattle.trial.specs.Entry.{orderBy}

@@ -26,7 +26,7 @@ use Rattle.layout.specs.Calls.{machineOf, placeVerdict}
 use Rattle.layout.specs.Ranges.{Sound}
 use Rattle.layout.proofs.FloorLaws.{none-sound, depth-some, respond-sound}
 use Rattle.layout.proofs.ExactStepLaws.{plan-number, deliver-number}
-use Rattle.machine.proofs.PowerLaws.{power-most}
+use Rattle.machine.proofs.CeilingLaws.{power-most}
 use Rattle.orders.proofs.TrialLaws.{trial-holds}
 use Rattle.orders.proofs.Theorems.{theorems as orders-theorems}
 use Rattle.trial.specs.Report.{numberOf, reportSize}
