@@ -79,10 +79,11 @@ module _ (claims : StepClaims) (M : Machine) where
       let j = run-stopped s xs x (y ∷ ys) b e in
       let k = run-stopped s xs y (x ∷ ys) b e in
       let t : run M s (xs ++ (x ∷ (y ∷ ys))) b .taken ≡ run M s (xs ++ (y ∷ (x ∷ ys))) b .taken = omega (arith, j .taken, k .taken) in
+      let left = run M s xs b .unread in
       record {
         state = j .state ∙ sym (k .state);
         taken = t;
-        ending = rw (t, j .state, k .state, j .unread, k .unread, some-left (run M s xs b .unread) x (y ∷ ys), some-left (run M s xs b .unread) y (x ∷ ys));
+        ending = rw (t, j .state, k .state, j .unread, k .unread, some-left left x (y ∷ ys), some-left left y (x ∷ ys));
       }
 
   exchanged-state : {s : State} {xs ys : List Step} → Exchanged M s xs ys → afterSteps M s xs ≡ afterSteps M s ys

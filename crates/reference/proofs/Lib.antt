@@ -17,7 +17,7 @@ pub mod QuietLaws
 mod EndingLaws
 pub mod Invariant
 pub mod BoundLaws
-mod ApartLaws
+pub mod ApartLaws
 mod ExchangeLaws
 pub mod ThroughLaws
 mod SequentialLaws

@@ -22,7 +22,7 @@ unfolding isEmpty
 nil-empty l e = rw e
 
 module _ (M : Machine) (s : State) where
-  open-there : (x : Step) → isOpen M s x ≡ true → isThere M x ≡ true
+  pub open-there : (x : Step) → isOpen M s x ≡ true → isThere M x ≡ true
   unfolding isOpen
   open-there x e = and-fst (isThere M x) (passes (waitsFor M s x)) e
 
