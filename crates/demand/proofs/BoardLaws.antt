@@ -1,21 +1,21 @@
 -- Steps at different boards on the program's memory (document 02, slip 5): the simulation, and what holds of the reference machine.
 use Prim.Native.Nat.{ℕ, zero, suc, _+_, _≤_}
 use native.Mathlib.Omega.{arith}
-use mathlib.Core.Bool.{Bool, true}
+use mathlib.Core.Bool.{true}
 use mathlib.Core.List.{List, [], _∷_, _++_, map, map-append}
 use mathlib.Core.Path.{_≡_, refl, sym, _∙_, ap, ap₂}
 use lib.ListN.{length, getD}
 use borrow.Author.Tests.{le-leb}
-use Rattle.laws.specs.Verdict.{Verdict, value, _then_, _gives_, whenPassed}
+use Rattle.laws.specs.Verdict.{Verdict, value, _gives_}
 use Rattle.laws.proofs.VerdictLaws.{demand-same}
 use Rattle.floor.specs.declared.Floor.{Floor}
 use Rattle.reference.specs.State.{Machine, State}
 use Rattle.reference.specs.Step.{Step}
 use Rattle.reference.specs.Take.{afterStep, stepAnswer}
-use Rattle.reference.specs.Run.{RunResult, took, run}
+use Rattle.reference.specs.Run.{took, run}
 use Rattle.reference.specs.Ending.{ending}
 use Rattle.reference.specs.History.{Faithful, afterSteps}
-use Rattle.reference.specs.Table.{Asked, step, noStep, isNamed, stepsOf, Call, single, runOf, lentEnough, allNamed, verdict}
+use Rattle.reference.specs.Table.{Asked, step, noStep, isNamed, stepsOf, Call, single, runOf, allNamed, verdict}
 use Rattle.reference.specs.Calls.{stepped, Told, ran, reply, stateAfter, afterCall, replies, after}
 use Rattle.reference.specs.Meeting.{Apart, Exchanged, SameRun}
 use Rattle.reference.proofs.OpenLaws.{open-there}
@@ -89,7 +89,7 @@ module _ (M : Machine) (s : State) (lent : ℕ) (xs ys : List Asked) (b : ℕ) (
         let z = run M s (stepsOf xs) b .state in
         rw (
           demand-same 7 0 _ _ (length whole)
-            (λ i l. exchanged-named M xs (step p) (step q) ys (open-there M z p (h .one-open)) (open-there M z q (h .other-open)) i),
+              (λ i l. exchanged-named M xs (step p) (step q) ys (open-there M z p (h .one-open)) (open-there M z q (h .other-open)) i),
           exchanged-length xs (step p) (step q) ys,
         )
 

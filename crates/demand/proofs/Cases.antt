@@ -1,4 +1,5 @@
 -- The table of document 01's starred floors, computed from the definitions.
+use Prim.Native.Nat.{ℕ}
 use native.Mathlib.Omega.{arith}
 use mathlib.Core.Path.{_≡_, refl, _∙_}
 use mathlib.Core.List.{[]}
@@ -23,7 +24,7 @@ use Rattle.planner.specs.Claims.{answerAt, planUnseen}
 use Rattle.planner.specs.Plan.{respondOf, planOf, failingFrom, failingOf}
 use Rattle.reference.specs.Ranges.{below, joined, each, update, updatePair}
 use Rattle.reference.specs.State.{fresh, views, tick}
-use Rattle.reference.specs.Step.{isThere, hasCapacity, isEmpty, waitsFor, isOpen, sameCells, sameAnswer}
+use Rattle.reference.specs.Step.{plan, deliver, isThere, hasCapacity, isEmpty, waitsFor, isOpen, sameCells, sameAnswer}
 use Rattle.reference.specs.Ranking.{deliveriesFrom, ranking, noneOpen, isSilent}
 use Rattle.reference.specs.Take.{isNews, send, planAs, oldest, newer, deliverTo, effect, counted, afterStep, stepAnswer}
 use Rattle.reference.specs.Run.{run, tookFirst, skippedFirst}
@@ -33,7 +34,7 @@ use Rattle.reference.specs.Calls.{reply, stateAfter, afterCall, replies, after}
 use Rattle.reference.specs.Quiet.{ceiling}
 use Rattle.layout.specs.Places.{pairsBefore, stateSize}
 use Rattle.layout.specs.Numbers.{deliveryOf, askedBy}
-use Rattle.reference.specs.Meeting.{meet}
+use Rattle.reference.specs.Meeting.{meet, swapped}
 use Rattle.layout.specs.Ranges.{WithinRanges}
 use Rattle.layout.specs.Calls.{machineOf}
 use Rattle.layout.proofs.ExactLaws.{fresh-fits}
@@ -110,6 +111,13 @@ full-within =
       };
     }
 
+-- A plan of another carrier, and a delivery, is another step.
+other-plan : plan 0 ≡ plan 1 → ⊥
+other-plan e = let z : _≡_ {A = ℕ} 0 1 = cc in omega arith
+
+other-kind : plan 1 ≡ deliver 1 2 → ⊥
+other-kind e = let z : _≡_ {A = ℕ} 0 1 = cc in omega arith
+
 pub cases : Cases
 unfolding
     _then_ demand inTurn demandEach passes _gives_ _thenAnswers_ whenPassed
@@ -185,6 +193,9 @@ cases =
       meeting = refl;
       planned-first = (refl, refl);
       heard-first = (refl, refl);
+      apart-fresh = record { one-open = refl; other-open = refl; different = other-plan; unmet = refl };
+      exchanged-fresh = swapped (record { one-open = refl; other-open = refl; different = other-plan; unmet = refl });
+      apart-channel = record { one-open = refl; other-open = refl; different = other-kind; unmet = refl };
       pushed-first = refl;
       taken-first = refl;
       channel-pushed = refl;

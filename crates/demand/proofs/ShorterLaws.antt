@@ -1,24 +1,22 @@
 -- A floor without its last carrier (document 02, slip 5).
-use Prim.Native.Nat.{ℕ, zero, suc, _+_, _*_, _-_, _≤_, _<_}
+use Prim.Native.Nat.{ℕ, zero, suc, _+_, _-_, _≤_, _<_}
 use native.Mathlib.Omega.{arith}
-use mathlib.Core.Bool.{Bool, true, false, cond}
 use mathlib.Core.List.{List, [], _∷_, _++_, append-assoc}
 use mathlib.Core.Path.{_≡_, refl, sym, _∙_, ap, ap₂}
-use lib.Dec.{eqb}
-use lib.ListN.{length, getD, take, drop, length-append}
-use lib.Seq.{take-all, take-suc, take-at, drop-at, getD-take}
+use lib.ListN.{length, take, drop, length-append}
+use lib.Seq.{take-all, take-suc, take-at, drop-at}
 use borrow.Author.Tests.{eq-eqb, ne-eqb}
 use Rattle.laws.specs.Verdict.{passed, All}
 use Rattle.floor.specs.declared.Floor.{Floor}
 use Rattle.floor.specs.Checks.{checkOf, startOf, goalOf}
-use Rattle.floor.specs.Accepted.{Accepted, FieldWithin, SameFloor}
+use Rattle.floor.specs.Accepted.{FieldWithin}
 use Rattle.floor.proofs.Theorems.{theorems as floor-theorems}
 use Rattle.route.specs.Route.{Answer, none, route}
 use Rattle.sheet.specs.Text.{linesOf}
 use Rattle.planner.specs.Plan.{planOf, failingFrom, failingOf}
 use Rattle.planner.specs.Claims.{AgreeUpTo, answerAt}
 use Rattle.planner.proofs.Theorems.{theorems as planner-theorems}
-use Rattle.demand.specs.Shorter.{dropLast, withoutLast, failingWithout, LastLineGone, Shortened, ShortenedSheet}
+use Rattle.demand.specs.Shorter.{dropLast, failingWithout}
 
 -- The floor without its last carrier has the other carriers, and all else, of the floor.
 module _ (f : Floor) (ws : List ℕ) (ok : checkOf f ws ≡ passed) (more : 1 < f .carriers) where

@@ -1,11 +1,11 @@
 -- The sheet and the printed routes of a floor without its last carrier (document 02, slip 5).
-use Prim.Native.Nat.{ℕ, suc, _+_, _*_, _-_, _≤_, _<_}
+use Prim.Native.Nat.{ℕ, _+_, _*_, _-_, _≤_, _<_}
 use native.Mathlib.Omega.{arith}
-use mathlib.Core.List.{List, [], _∷_, _++_, append-assoc}
-use mathlib.Core.Path.{_≡_, refl, sym, _∙_, ap, ap₂}
+use mathlib.Core.List.{List, [], _∷_, _++_}
+use mathlib.Core.Path.{_≡_, refl, sym, _∙_, ap}
 use lib.ListN.{length, take, drop, length-append}
 use lib.Seq.{take-at, getD-take}
-use Rattle.laws.specs.Verdict.{passed, _then_, whenPassed}
+use Rattle.laws.specs.Verdict.{passed, whenPassed}
 use Rattle.laws.proofs.VerdictLaws.{then-passed, then-both}
 use Rattle.floor.specs.declared.Floor.{Floor}
 use Rattle.floor.specs.Checks.{checkOf, startOf, goalOf, roomOf}
@@ -13,19 +13,19 @@ use Rattle.floor.specs.Accepted.{SameFloor}
 use Rattle.floor.proofs.LimitsLaws.{room-passed}
 use Rattle.route.specs.Route.{Answer, none, route}
 use Rattle.fields.specs.Field.{fieldOf}
-use Rattle.sheet.specs.Text.{lineOf, linesOf, headLine, carrierLine, carrierLines, wallLines, sheetOf, sheetLength, wallAt, carrierAt}
+use Rattle.sheet.specs.Text.{lineOf, linesOf, headLine, carrierLine, wallLines, sheetOf, sheetLength, wallAt, carrierAt}
 use Rattle.sheet.specs.Values.{floorAt, wallsAt}
 use Rattle.sheet.specs.Read.{sheetVerdict, readVerdict, readFloor, readWalls, writeSheet}
 use Rattle.sheet.proofs.LineLaws.{field-length, carrier-length, lines-length}
 use Rattle.sheet.proofs.LinesText.{lines-same}
 use Rattle.sheet.proofs.FormLaws.{walls-length}
 use Rattle.sheet.proofs.Theorems.{theorems as sheet-theorems}
-use Rattle.planner.specs.Plan.{planOf, failingOf}
+use Rattle.planner.specs.Plan.{planOf}
 use Rattle.planner.specs.Claims.{answerAt}
 use Rattle.printing.specs.Text.{answerLine, firstLine, routesText}
 use Rattle.printing.specs.Print.{printOf, routesOf}
 use Rattle.printing.proofs.Theorems.{theorems as printing-theorems}
-use Rattle.demand.specs.Shorter.{dropLast, withoutLast, failingWithout, LastLineGone, Shortened, ShortenedSheet}
+use Rattle.demand.specs.Shorter.{dropLast, withoutLast, LastLineGone, Shortened, ShortenedSheet}
 use Rattle.demand.proofs.RoundTripLaws.{roomy, written, other-walls, walls-behind}
 use Rattle.demand.proofs.ShorterLaws.{lines-last, field-changed, drop-accepted, drop-answers, drop-failing}
 

@@ -22,7 +22,7 @@ use Rattle.reference.specs.Ending.{silent, spent, ended}
 use Rattle.reference.specs.Table.{noStep, single, runOf}
 use Rattle.reference.specs.Calls.{stepped, ran, replies, after}
 use Rattle.reference.specs.Quiet.{ceiling}
-use Rattle.reference.specs.Meeting.{meet}
+use Rattle.reference.specs.Meeting.{meet, Apart, Exchanged}
 use Rattle.layout.specs.Ranges.{WithinRanges}
 use Rattle.layout.specs.Calls.{machineOf}
 use Rattle.demand.specs.Shorter.{dropLast, withoutLast}
@@ -125,7 +125,11 @@ pub record Cases : Type 0 where
   pub planned-first : (after two fresh (singles (101 ∷ 102 ∷ 212 ∷ [])) .answer 1 ≡ routeOf (2 ∷ 1 ∷ []))
       × (after two fresh (singles (101 ∷ 102 ∷ 212 ∷ [])) .due 1 ≡ true)
   pub heard-first : (after two fresh calls5 .answer 1 ≡ routeOf (2 ∷ 5 ∷ 4 ∷ 1 ∷ 0 ∷ [])) × (after two fresh calls5 .due 1 ≡ false)
+  -- The two plans stand apart when fresh, and may be exchanged in a history.
+  pub apart-fresh : Apart two fresh (plan 0) (plan 1)
+  pub exchanged-fresh : Exchanged two fresh (plan 0 ∷ (plan 1 ∷ (deliver 0 1 ∷ []))) (plan 1 ∷ (plan 0 ∷ (deliver 0 1 ∷ [])))
   -- A message is put on the channel from 2 to 3 and another taken from it, in either order.
+  pub apart-channel : Apart (machineOf (three 2) []) (after (machineOf (three 2) []) fresh (singles heardAgain)) (plan 1) (deliver 1 2)
   pub pushed-first : replies (machineOf (three 2) []) (after (machineOf (three 2) []) fresh (singles heardAgain)) (singles (102 ∷ 223 ∷ []))
       ≡ value (stepped sent) ∷ value (stepped delivered) ∷ []
   pub taken-first : replies (machineOf (three 2) []) (after (machineOf (three 2) []) fresh (singles heardAgain)) (singles (223 ∷ 102 ∷ []))

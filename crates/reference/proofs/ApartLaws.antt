@@ -1,23 +1,22 @@
 -- Steps that stand apart (document 02, slip 5): each is still open after the other, with the same answer, and both orders lead to the same
 -- state. That a step is open is used as the claims word it; what it does, part by part of the state.
-use Prim.Native.Nat.{ℕ, suc, _≤_, _<_}
+use Prim.Native.Nat.{ℕ, _≤_, _<_}
 use native.Mathlib.Omega.{arith}
 use mathlib.Core.Bool.{Bool, true, false}
 use mathlib.Core.List.{List, [], _∷_, _++_}
 use mathlib.Core.Logic.{_⊎_, inl, inr}
 use mathlib.Core.Path.{_≡_, refl, sym, _∙_, ap, ap₂}
-use lib.Dec.{eqb}
 use lib.ListN.{length, length-append}
-use borrow.Author.Tests.{eqb-true, eqb-false, eq-eqb, ne-eqb}
-use Rattle.route.specs.Route.{Answer, View}
+use borrow.Author.Tests.{eq-eqb}
+use Rattle.route.specs.Route.{Answer}
 use Rattle.laws.proofs.Tests.{true-false-absurd}
-use Rattle.reference.specs.Ranges.{below, update, updatePair}
-use Rattle.reference.specs.State.{Machine, State, views, tick}
-use Rattle.reference.specs.Step.{Step, plan, deliver, isOpen, sameAnswer}
-use Rattle.reference.specs.Take.{isNews, send, planAs, oldest, newer, deliverTo, effect, counted, afterStep, stepAnswer}
+use Rattle.reference.specs.Ranges.{update, updatePair}
+use Rattle.reference.specs.State.{Machine, State, views}
+use Rattle.reference.specs.Step.{Step, plan, deliver, isOpen}
+use Rattle.reference.specs.Take.{isNews, planAs, newer, deliverTo, effect, counted, afterStep, stepAnswer}
 use Rattle.reference.specs.StepClaims.{StepClaims}
 use Rattle.reference.specs.Meeting.{meet, Apart}
-use Rattle.reference.proofs.RangeLaws.{update-same, update-other, pair-other-row}
+use Rattle.reference.proofs.RangeLaws.{update-other, pair-other-row}
 use Rattle.reference.proofs.TakeLaws.{chan-other, plan-clears, deliver-due}
 use Rattle.reference.proofs.BoundLaws.{plan-chan-cases, deliver-chan-cases, newer-shorter}
 use Rattle.reference.proofs.SwapLaws.{update-swap, value-swap, pair-else, pair-swap, sentIf, sent-swap, sent-take, oldest-kept}

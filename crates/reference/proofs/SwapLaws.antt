@@ -1,12 +1,11 @@
 -- Changes in either order: pointwise updates, messages sent by different carriers, and a message that is sent where one is taken.
 use Prim.Native.Nat.{ℕ}
-use native.Mathlib.Omega.{arith}
 use mathlib.Core.Bool.{Bool, true, false, _&&_}
 use mathlib.Core.List.{List, [], _∷_, _++_}
 use mathlib.Core.Logic.{_⊎_, inl, inr}
 use mathlib.Core.Path.{_≡_, refl, sym, _∙_, ap, fun-ext}
 use lib.Dec.{eqb, ltb}
-use borrow.Author.Tests.{eqb-true, eqb-false}
+use borrow.Author.Tests.{eqb-true}
 use Rattle.route.specs.Route.{Answer, View}
 use Rattle.laws.proofs.Tests.{eq-or-ne}
 use Rattle.reference.specs.Ranges.{update, updatePair}
