@@ -190,6 +190,41 @@ fn a_lost_order() {
     assert_eq!(run(&floor, &[], &mut board, &[], 0), Ok(Ran { taken: 0, end: End::Silent }));
 }
 
+/// Every two steps that are open in any state which three carriers reach: both orders leave the same numbers, and each step gets the same
+/// answer in both, unless one plans the carrier that the other delivers to; there some orders differ.
+#[test]
+fn two_boards_in_one_beat() {
+    let mut floor = Floor { width: 3, height: 3, horizon: 6, depth: 2, carriers: 3, ..Floor::default() };
+    floor.starts[..3].copy_from_slice(&[0, 2, 3]);
+    floor.goals[..3].copy_from_slice(&[2, 0, 5]);
+    let steps = [plan_step(1), plan_step(2), plan_step(3), deliver_step(1, 2), deliver_step(1, 3), deliver_step(2, 3)];
+    let taken = |state: &[u16], x: u16| {
+        let mut next = state.to_vec();
+        step(&floor, &[], &mut next, x).ok().map(|answer| (next, answer))
+    };
+    let (mut reached, mut at, mut apart, mut differ) = (vec![fresh_state(&floor)], 0, 0, 0);
+    while at < reached.len() {
+        let state = reached[at].clone();
+        at += 1;
+        let open: Vec<_> = steps.iter().filter_map(|&x| Some((x, taken(&state, x)?))).collect();
+        for (x, (after_x, told_x)) in &open {
+            if !reached.contains(after_x) {
+                reached.push(after_x.clone());
+            }
+            for (y, (after_y, told_y)) in open.iter().filter(|(y, _)| x < y) {
+                let (one, other) = (taken(after_x, *y).unwrap(), taken(after_y, *x).unwrap());
+                if *x < 200 && *y >= 200 && x % 10 == y % 10 {
+                    differ += usize::from(one.0 != other.0);
+                } else {
+                    assert_eq!((&one.0, one.1, other.1), (&other.0, *told_y, *told_x), "{x} and {y}");
+                    apart += 1;
+                }
+            }
+        }
+    }
+    assert!(apart > 0 && differ > 0, "{} states, {apart} pairs apart, {differ} that meet and differ", reached.len());
+}
+
 /// Only carriers 1 to 9 have a step's number; 112 is no plan that could be read as a delivery from 1 to 2.
 #[test]
 fn carriers_outside_the_digits_name_no_step() {

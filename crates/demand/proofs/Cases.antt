@@ -1,4 +1,6 @@
 -- The table of document 01's starred floors, computed from the definitions.
+use Prim.Native.Nat.{ℕ}
+use native.Mathlib.Omega.{arith}
 use mathlib.Core.Path.{_≡_, refl, _∙_}
 use mathlib.Core.List.{[]}
 use Rattle.laws.specs.Verdict.{passed, refused, _then_, demand, inTurn, demandEach, passes, _gives_, _thenAnswers_, whenPassed}
@@ -13,7 +15,7 @@ use Rattle.records.specs.Seen.{parked, seenAs, seenFrom, seen}
 use Rattle.search.specs.Task.{taskOf}
 use Rattle.fields.specs.Field.{column, fieldOf}
 use Rattle.fields.specs.Form.{fieldForm, lineForm}
-use Rattle.sheet.specs.Text.{lineOf, linesOf, headLine, carrierLine, wallLine, sheetOf}
+use Rattle.sheet.specs.Text.{lineOf, linesOf, headLine, carrierLine, wallLine, sheetOf, carrierAt}
 use Rattle.sheet.specs.Read.{formOf, sheetVerdict}
 use Rattle.printing.specs.Text.{answerLine, firstLine, noneWord, noneLine, routesText, refusalLine}
 use Rattle.printing.specs.Print.{printOf, routesOf}
@@ -22,7 +24,7 @@ use Rattle.planner.specs.Claims.{answerAt, planUnseen}
 use Rattle.planner.specs.Plan.{respondOf, planOf, failingFrom, failingOf}
 use Rattle.reference.specs.Ranges.{below, joined, each, update, updatePair}
 use Rattle.reference.specs.State.{fresh, views, tick}
-use Rattle.reference.specs.Step.{isThere, hasRoom, isEmpty, waitsFor, isOpen, sameCells, sameAnswer}
+use Rattle.reference.specs.Step.{plan, deliver, isThere, hasRoom, isEmpty, waitsFor, isOpen, sameCells, sameAnswer}
 use Rattle.reference.specs.Ranking.{deliveriesFrom, ranking, noneOpen, isSilent}
 use Rattle.reference.specs.Take.{isNews, send, planAs, oldest, newer, deliverTo, effect, counted, afterStep, stepAnswer}
 use Rattle.reference.specs.Run.{run, tookFirst, skippedFirst}
@@ -32,9 +34,13 @@ use Rattle.reference.specs.Calls.{reply, stateAfter, afterCall, replies, after}
 use Rattle.reference.specs.Quiet.{ceiling}
 use Rattle.layout.specs.Places.{pairsBefore, stateSize}
 use Rattle.layout.specs.Numbers.{deliveryOf, askedBy}
+use Rattle.reference.specs.Meeting.{meet, swapped}
+use Rattle.layout.specs.Ranges.{WithinRanges}
 use Rattle.layout.specs.Calls.{machineOf}
-use Rattle.demand.specs.Floors.{sides}
-use Rattle.demand.specs.Texts.{sheet2, routes2, routes3, refused11}
+use Rattle.layout.proofs.ExactLaws.{fresh-fits}
+use Rattle.demand.specs.Shorter.{dropLast, withoutLast}
+use Rattle.demand.specs.Floors.{sides, full}
+use Rattle.demand.specs.Texts.{sheet2, routes2, routes3, refused11, sheet2short, routes2short}
 use Rattle.demand.specs.Cases.{Cases}
 
 -- The texts: what a floor's plan prints, and what the empty sheet does.
@@ -70,6 +76,48 @@ printed-11 : routesOf [] ≡ refused11
 unfolding refusalLine lineOf fieldOf column
 printed-11 = theorems .routes-refused [] 1 0 refused-11
 
+-- The sheet without carrier 2, and its routes.
+dropped-sheet : withoutLast 2 sheet2 ≡ sheet2short
+unfolding withoutLast carrierAt fieldOf column
+dropped-sheet = refl
+
+short-accepted : checkOf (dropLast (sides 4)) [] ≡ passed
+unfolding checkOf limitsOf within lentOf roomOf placesOf carriersOf wallsOf risingOf clearOf distinctOf startOf goalOf inGrid
+    carrierInGrid rises among clearOfWalls unshared demand _then_ inTurn demandEach dropLast
+short-accepted = refl
+
+short-sheet : sheetOf (dropLast (sides 4)) [] ≡ sheet2short
+unfolding sheetOf headLine lineOf linesOf carrierLine wallLine fieldOf column startOf goalOf dropLast
+short-sheet = refl
+
+short-text : printOf (dropLast (sides 4)) [] ≡ routes2short
+unfolding printOf routesText firstLine answerLine answerAt failingOf failingFrom arrivalOf settled cellAt goalOf dropLast
+    lineOf linesOf fieldOf column planOf sequential respondOf seen seenFrom seenAs parked taskOf startOf among
+    neighbours near vacant passable every standable allowed startClear cost cheaper cheapest beatsFrom val walk walkFrom best
+short-text = refl
+
+dropped-printed : routesOf sheet2short ≡ routes2short
+dropped-printed = rw (← short-sheet) (theorems .routes-of-sheet (dropLast (sides 4)) [] short-accepted ∙ short-text)
+
+full-within : WithinRanges (sides 4) full
+full-within =
+    record {
+      counted = omega arith;
+      channels = fresh-fits (sides 4) .channels;
+      parts = record {
+        answers = fresh-fits (sides 4) .parts .answers;
+        messages = fresh-fits (sides 4) .parts .messages;
+        seen = fresh-fits (sides 4) .parts .seen;
+      };
+    }
+
+-- A plan of another carrier, and a delivery, is another step.
+other-plan : plan 0 ≡ plan 1 → ⊥
+other-plan e = let z : _≡_ {A = ℕ} 0 1 = cc in omega arith
+
+other-kind : plan 1 ≡ deliver 1 2 → ⊥
+other-kind e = let z : _≡_ {A = ℕ} 0 1 = cc in omega arith
+
 pub cases : Cases
 unfolding
     _then_ demand inTurn demandEach passes _gives_ _thenAnswers_ whenPassed
@@ -80,7 +128,7 @@ unfolding
     below joined each update updatePair fresh views tick isThere hasRoom isEmpty waitsFor isOpen sameCells sameAnswer
     deliveriesFrom ranking noneOpen isSilent isNews send planAs oldest newer deliverTo effect counted afterStep stepAnswer
     run tookFirst skippedFirst anyLeft endsAs ending isNamed stepsOf lentEnough allNamed openSingle verdict
-    reply stateAfter afterCall replies after ceiling pairsBefore stateSize deliveryOf askedBy machineOf
+    reply stateAfter afterCall replies after ceiling pairsBefore stateSize deliveryOf askedBy machineOf meet dropLast
 cases =
     record {
       accepted-1 = refl;
@@ -145,6 +193,26 @@ cases =
       replies-early = refl;
       replies-crowded = refl;
       run-crowded = refl;
+      open-meeting = (refl, refl);
+      meeting = refl;
+      planned-first = (refl, refl);
+      heard-first = (refl, refl);
+      apart-fresh = record { one-open = refl; other-open = refl; different = other-plan; unmet = refl };
+      exchanged-fresh = swapped (record { one-open = refl; other-open = refl; different = other-plan; unmet = refl });
+      apart-channel = record { one-open = refl; other-open = refl; different = other-kind; unmet = refl };
+      pushed-first = refl;
+      taken-first = refl;
+      channel-pushed = refl;
+      channel-taken = refl;
+      full-within = full-within;
+      full-orders = (refl, refl);
+      full-answers = (refl, refl);
+      budget-one = (refl, refl);
+      dropped-3 = refl;
+      dropped-failing = refl;
+      dropped-sheet = dropped-sheet;
+      dropped-printed = dropped-printed;
+      first-matters = refl;
       most-1 = refl;
       most-2 = refl;
       most-3 = refl;

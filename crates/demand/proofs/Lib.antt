@@ -12,5 +12,9 @@ pub mod Trials
 pub mod LentLaws
 pub mod ListLaws
 pub mod CutLaws
+pub mod BoardLaws
+pub mod ShorterLaws
+pub mod ShorterText
+pub mod Boards
 pub mod Theorems
 pub mod Cases

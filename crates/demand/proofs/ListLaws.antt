@@ -41,13 +41,13 @@ module _ (f : Floor) (ws : List ℕ) (ok : checkOf f ws ≡ passed) (rest : List
   M = machineOf f ws
 
   -- The program's list of calls from the memory of a state, and the reference machine's from the state.
-  record ListSame (s : State) (cs : List ProgramCall) : Type 0 where
+  pub record ListSame (s : State) (cs : List ProgramCall) : Type 0 where
     pub answers : answersOf f ws (encode (f .carriers) s ++ rest) cs ≡ replies M s (referenceCalls f room cs)
     pub memory : memoryOf f ws (encode (f .carriers) s ++ rest) cs ≡ encode (f .carriers) (after M s (referenceCalls f room cs)) ++ rest
     pub within-ranges : WithinRanges f (after M s (referenceCalls f room cs))
 
   -- The first call by what is lent to it, the others from the state that it leaves.
-  list-same : (s : State) → WithinRanges f s → (cs : List ProgramCall) → ListSame s cs
+  pub list-same : (s : State) → WithinRanges f s → (cs : List ProgramCall) → ListSame s cs
   unfolding answersOf memoryOf referenceCalls replies after
   list-same s fits [] = record { answers = refl; memory = refl; within-ranges = fits }
   list-same s fits (c ∷ cs) =

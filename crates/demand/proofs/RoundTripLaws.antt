@@ -1,12 +1,12 @@
 -- The round trips of demand 2: a floor written and read, and a sheet read and written, in memory that may be longer than needed.
-use Prim.Native.Nat.{ℕ, _≤_, _<_}
+use Prim.Native.Nat.{ℕ, _≤_}
 use native.Mathlib.Omega.{arith}
 use mathlib.Core.List.{List, _++_}
 use mathlib.Core.Path.{_≡_, refl, sym, _∙_, ap}
-use lib.ListN.{length, take, drop, length-append, List·getD-append}
+use lib.ListN.{length, getD, take, drop, length-append, List·getD-append}
 use lib.Seq.{take-at}
 use borrow.Author.Tests.{le-leb}
-use Rattle.laws.specs.Verdict.{passed, _then_, whenPassed}
+use Rattle.laws.specs.Verdict.{passed, All, whenPassed}
 use Rattle.laws.proofs.VerdictLaws.{then-passed, then-both, demand-passes, when-passed}
 use Rattle.floor.specs.declared.Floor.{Floor}
 use Rattle.floor.specs.Checks.{checkOf, roomOf}
@@ -20,13 +20,14 @@ use Rattle.sheet.proofs.Theorems.{theorems as sheet-theorems}
 use Rattle.demand.proofs.SameFloorLaws.{sheet-same}
 
 -- A check and then enough memory.
-roomy : (needed lent : ℕ) → needed ≤ lent → roomOf needed lent ≡ passed
+pub roomy : (needed lent : ℕ) → needed ≤ lent → roomOf needed lent ≡ passed
 unfolding roomOf
 roomy needed lent l = demand-passes 9 0 (le-leb needed lent l)
 
--- Walls behind those that a floor counts are no part of it.
-more-walls : (f : Floor) (ws : List ℕ) (g : Floor) (vs rest : List ℕ) → SameFloor f ws g vs → f .walls ≤ length vs → SameFloor f ws g (vs ++ rest)
-more-walls f ws g vs rest same l =
+-- Two records of one floor with other walls, which agree with theirs up to the count; walls behind the count are no part of it.
+pub other-walls : (f : Floor) (ws : List ℕ) (g : Floor) (vs us ts : List ℕ) → SameFloor f ws g vs
+    → All (λ j. getD us j 0 ≡ getD ws j 0) (f .walls) → All (λ j. getD ts j 0 ≡ getD vs j 0) (f .walls) → SameFloor f us g ts
+other-walls f ws g vs us ts same one other =
     record {
       width = same .width;
       height = same .height;
@@ -36,11 +37,14 @@ more-walls f ws g vs rest same l =
       walls = same .walls;
       starts = same .starts;
       goals = same .goals;
-      cells = λ j h. same .cells j h ∙ sym (List·getD-append vs rest 0 j (omega arith));
+      cells = λ j h. one j h ∙ same .cells j h ∙ sym (other j h);
     }
 
+pub walls-behind : (vs rest : List ℕ) (n : ℕ) → n ≤ length vs → All (λ j. getD (vs ++ rest) j 0 ≡ getD vs j 0) n
+walls-behind vs rest n l j h = List·getD-append vs rest 0 j (omega arith)
+
 -- What is written into enough memory has the sheet in front.
-written : (f : Floor) (ws old : List ℕ) → checkOf f ws ≡ passed → sheetLength f ≤ length old
+pub written : (f : Floor) (ws old : List ℕ) → checkOf f ws ≡ passed → sheetLength f ≤ length old
     → writeSheet f ws old ≡ sheetOf f ws ++ drop (sheetLength f) old
 unfolding writeSheet writeVerdict
 written f ws old ok l = when-passed old (then-passed ok ∙ roomy _ _ l)
@@ -59,7 +63,8 @@ floor-returns f ws old lent ok l w =
     then-passed (sheet-theorems .has-sheet f ws ok) ∙ roomy _ _ (omega (arith, same .walls))
     in
     rw (front, read)
-    (more-walls f ws (floorAt text) (wallsAt text) (drop (floorAt text .walls) lent) same (omega (arith, same .walls, walls-length text)))
+    (other-walls f ws (floorAt text) (wallsAt text) ws _ same (λ j h. refl)
+    (walls-behind (wallsAt text) (drop (floorAt text .walls) lent) (f .walls) (omega (arith, same .walls, walls-length text))))
 
 -- A sheet that is accepted, written from what was read of it.
 written-again : (text rest old : List ℕ) → sheetVerdict text ≡ passed → length text ≤ length old
@@ -68,7 +73,7 @@ written-again text rest old ok l =
     let g = floorAt text in
     let ws = wallsAt text in
     let long : g .walls ≤ length ws = omega (arith, walls-length text) in
-    let same = walls-agree g ws (ws ++ rest) (λ j h. sym (List·getD-append ws rest 0 j (omega arith))) in
+    let same = walls-agree g ws (ws ++ rest) (λ j h. sym (walls-behind ws rest (g .walls) long j h)) in
     let back : sheetOf g ws ≡ text = sheet-theorems .sheet-returns text ok in
     let size : sheetLength g ≡ length text = sym (sheet-theorems .sheet-length g ws) ∙ ap length back in
     let checked : checkOf g (ws ++ rest) ≡ passed =

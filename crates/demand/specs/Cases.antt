@@ -1,5 +1,5 @@
 -- Document 01's starred floors ('Floors to try') as one table about the definitions, with floors 10 to 12 and cases beside them; then
--- those of document 02, slips 2 and 3.
+-- those of document 02, slips 2, 3 and 5.
 use Prim.Native.Nat.{ℕ}
 use mathlib.Core.Bool.{true, false}
 use mathlib.Core.List.{[], _∷_}
@@ -15,17 +15,21 @@ use Rattle.planner.specs.Claims.{planUnseen}
 use Rattle.printing.specs.Print.{printOf, routesOf}
 use Rattle.reference.specs.Ranges.{below}
 use Rattle.reference.specs.State.{fresh}
+use Rattle.reference.specs.Step.{plan, deliver, isOpen}
 use Rattle.reference.specs.Take.{kept, sent, delivered}
 use Rattle.reference.specs.Ranking.{isSilent}
 use Rattle.reference.specs.Ending.{silent, spent, ended}
 use Rattle.reference.specs.Table.{noStep, single, runOf}
 use Rattle.reference.specs.Calls.{stepped, ran, replies, after}
 use Rattle.reference.specs.Quiet.{ceiling}
+use Rattle.reference.specs.Meeting.{meet, Apart, Exchanged}
+use Rattle.layout.specs.Ranges.{WithinRanges}
 use Rattle.layout.specs.Calls.{machineOf}
+use Rattle.demand.specs.Shorter.{dropLast, withoutLast}
 use Rattle.demand.specs.Floors.{padded, floorOf, cell, sides, two, rows, three, walled, routeOf, answers2}
 use Rattle.demand.specs.Floors.{walledOff, corridor, shutGoal, crossed, crowded}
-use Rattle.demand.specs.Floors.{singles, running, calls4, calls5, longest}
-use Rattle.demand.specs.Texts.{sheet2, routes2, routes3, refused11}
+use Rattle.demand.specs.Floors.{singles, running, calls4, calls5, longest, heardAgain, full}
+use Rattle.demand.specs.Texts.{sheet2, routes2, routes3, refused11, sheet2short, routes2short}
 
 pub record Cases : Type 0 where
   -- 1: one cell, one carrier; arrival 0.
@@ -122,6 +126,41 @@ pub record Cases : Type 0 where
   -- All due and every channel full: 13 has the smallest receiver for its place, and a run passes over.
   pub replies-crowded : replies (machineOf (three 1) []) crowded (singles (101 ∷ 102 ∷ [])) ≡ refusal 13 2 ∷ refusal 13 3 ∷ []
   pub run-crowded : replies (machineOf (three 1) []) crowded (running (101 ∷ 102 ∷ []) 9) ≡ value (ran 0 ended) ∷ []
+  -- Document 02, slip 5. After plan 1, plan 2 and deliver 1 to 2 are both open. They meet, and the two orders lead to different states.
+  pub open-meeting : (isOpen two (after two fresh (singles (101 ∷ []))) (plan 1) ≡ true)
+      × (isOpen two (after two fresh (singles (101 ∷ []))) (deliver 0 1) ≡ true)
+  pub meeting : meet (plan 1) (deliver 0 1) ≡ true
+  pub planned-first : (after two fresh (singles (101 ∷ 102 ∷ 212 ∷ [])) .answer 1 ≡ routeOf (2 ∷ 1 ∷ []))
+      × (after two fresh (singles (101 ∷ 102 ∷ 212 ∷ [])) .due 1 ≡ true)
+  pub heard-first : (after two fresh calls5 .answer 1 ≡ routeOf (2 ∷ 5 ∷ 4 ∷ 1 ∷ 0 ∷ [])) × (after two fresh calls5 .due 1 ≡ false)
+  -- The two plans stand apart when fresh, and may be exchanged in a history.
+  pub apart-fresh : Apart two fresh (plan 0) (plan 1)
+  pub exchanged-fresh : Exchanged two fresh (plan 0 ∷ (plan 1 ∷ (deliver 0 1 ∷ []))) (plan 1 ∷ (plan 0 ∷ (deliver 0 1 ∷ [])))
+  -- A message is put on the channel from 2 to 3 and another taken from it, in either order.
+  pub apart-channel : Apart (machineOf (three 2) []) (after (machineOf (three 2) []) fresh (singles heardAgain)) (plan 1) (deliver 1 2)
+  pub pushed-first : replies (machineOf (three 2) []) (after (machineOf (three 2) []) fresh (singles heardAgain)) (singles (102 ∷ 223 ∷ []))
+      ≡ value (stepped sent) ∷ value (stepped delivered) ∷ []
+  pub taken-first : replies (machineOf (three 2) []) (after (machineOf (three 2) []) fresh (singles heardAgain)) (singles (223 ∷ 102 ∷ []))
+      ≡ value (stepped delivered) ∷ value (stepped sent) ∷ []
+  pub channel-pushed : after (machineOf (three 2) []) (after (machineOf (three 2) []) fresh (singles heardAgain)) (singles (102 ∷ 223 ∷ []))
+      .chan 2 1 ≡ routeOf (2 ∷ 5 ∷ 4 ∷ 1 ∷ 0 ∷ []) ∷ []
+  pub channel-taken : after (machineOf (three 2) []) (after (machineOf (three 2) []) fresh (singles heardAgain)) (singles (223 ∷ 102 ∷ []))
+      .chan 2 1 ≡ routeOf (2 ∷ 5 ∷ 4 ∷ 1 ∷ 0 ∷ []) ∷ []
+  -- At the count 999,999, which stays: a state within the ranges, and both orders of plan 1 and plan 2.
+  pub full-within : WithinRanges (sides 4) full
+  pub full-orders : (after two full (singles (101 ∷ 102 ∷ [])) .taken ≡ 999999) × (after two full (singles (102 ∷ 101 ∷ [])) .taken ≡ 999999)
+  pub full-answers : (below 2 (after two full (singles (101 ∷ 102 ∷ [])) .answer) ≡ routeOf (0 ∷ 1 ∷ 2 ∷ 2 ∷ 2 ∷ []) ∷ routeOf (2 ∷ 1 ∷ []) ∷ [])
+      × (below 2 (after two full (singles (102 ∷ 101 ∷ [])) .answer) ≡ routeOf (0 ∷ 1 ∷ 2 ∷ 2 ∷ 2 ∷ []) ∷ routeOf (2 ∷ 1 ∷ []) ∷ [])
+  -- With budget for one, the two orders of a run differ.
+  pub budget-one : (after two fresh (running (101 ∷ 102 ∷ []) 1) .planned 0 ≡ true)
+      × (after two fresh (running (102 ∷ 101 ∷ []) 1) .planned 0 ≡ false)
+  -- Without its last carrier the floor of three is that of document 01's sheet; a failing carrier that is dropped fails no more.
+  pub dropped-3 : planOf (dropLast (three 1)) [] ≡ answers2
+  pub dropped-failing : failingOf (planOf (dropLast (sides 3)) []) ≡ 0
+  pub dropped-sheet : withoutLast 2 sheet2 ≡ sheet2short
+  pub dropped-printed : routesOf sheet2short ≡ routes2short
+  -- Without the first carrier the second would not go round it.
+  pub first-matters : planOf (floorOf 3 2 4 1 0 (2 ∷ []) (0 ∷ [])) [] ≡ routeOf (2 ∷ 1 ∷ []) ∷ []
   -- The ceiling is reached, by one, two and three carriers.
   pub most-1 : after (machineOf cell []) fresh (singles (101 ∷ [])) .taken ≡ ceiling 1
   pub most-2 : after two fresh calls4 .taken ≡ ceiling 2

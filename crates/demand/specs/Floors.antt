@@ -5,7 +5,7 @@ use mathlib.Core.List.{List, [], _∷_, _++_, map}
 use lib.ListN.{length, replicate}
 use Rattle.floor.specs.declared.Floor.{Floor}
 use Rattle.route.specs.Route.{Answer, none, route, unheard}
-use Rattle.reference.specs.State.{Machine, State}
+use Rattle.reference.specs.State.{Machine, State, fresh}
 use Rattle.reference.specs.Table.{Call, single, runOf}
 use Rattle.layout.specs.Numbers.{askedBy}
 use Rattle.layout.specs.Calls.{machineOf}
@@ -105,3 +105,19 @@ calls5 = singles (101 ∷ 212 ∷ 102 ∷ [])
 -- The longest that three carriers can go on: each message of a carrier is heard before it plans again.
 abbrev pub longest : List Call
 longest = singles (103 ∷ 102 ∷ 223 ∷ 103 ∷ 101 ∷ 212 ∷ 102 ∷ 223 ∷ 103 ∷ 213 ∷ 103 ∷ [])
+
+-- Three carriers with depth 2: carrier 2 has sent its first route to carrier 3 and is due again, since it has heard of carrier 1.
+abbrev pub heardAgain : List ℕ
+heardAgain = 102 ∷ 101 ∷ 212 ∷ []
+
+-- The fresh state with the largest count.
+abbrev pub full : State
+full =
+    record {
+      planned = fresh .planned;
+      due = fresh .due;
+      answer = fresh .answer;
+      view = fresh .view;
+      chan = fresh .chan;
+      taken = 999999;
+    }

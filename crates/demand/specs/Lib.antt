@@ -5,6 +5,8 @@ pub mod Demand1
 pub mod Demand2
 pub mod Demand3
 pub mod Trials
+pub mod Shorter
+pub mod Boards
 pub mod Floors
 pub mod Texts
 pub mod Cases

@@ -40,7 +40,7 @@ deliver-chan-cases s j i k l = go (eq-or-ne k i) (eq-or-ne l j)
     go (inl q) (inl m) = inr (rw (q, m) (deliver-chan s j i .there))
     go (inl q) (inr m) = inl (rw q (deliver-chan s j i .beside l m))
 
-newer-shorter : (l : List Answer) → length (newer l) ≤ length l
+pub newer-shorter : (l : List Answer) → length (newer l) ≤ length l
 unfolding newer
 newer-shorter [] = omega arith
 newer-shorter (a ∷ l) = omega arith

@@ -3,6 +3,7 @@ pub mod RangeLaws
 pub mod OpenLaws
 pub mod RankingLaws
 pub mod TakeLaws
+mod SwapLaws
 mod EffectLaws
 pub mod TableLaws
 mod RefusedLaws
@@ -16,6 +17,8 @@ pub mod QuietLaws
 mod EndingLaws
 pub mod Invariant
 pub mod BoundLaws
+pub mod ApartLaws
+mod ExchangeLaws
 pub mod ThroughLaws
 mod SequentialLaws
 mod PrefixLaws

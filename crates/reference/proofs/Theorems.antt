@@ -37,6 +37,7 @@ use Rattle.reference.proofs.CutCalls.{cut-state, cut-taken}
 use Rattle.reference.proofs.BoundLaws.{fresh-in-range, reaches-in-range}
 use Rattle.reference.proofs.ThroughLaws.{fresh-throughout, reaches-throughout}
 use Rattle.reference.proofs.RefusedLaws.{waits-exactly, open-exactly, refuses-exactly}
+use Rattle.reference.proofs.ExchangeLaws.{meeting-claims}
 
 module _ (M : Machine) where
   pub silent-idle : (s : State) → 1 ≤ M .depth → isSilent M s ≡ idle (M .carriers) s
@@ -121,4 +122,4 @@ call-claims =
     }
 
 pub theorems : Claims
-theorems = record { steps = step-claims; calls = call-claims }
+theorems = record { steps = step-claims; calls = call-claims; meetings = meeting-claims step-claims }

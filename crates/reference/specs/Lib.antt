@@ -1,4 +1,5 @@
--- In reading order: the state, the steps, their ranking and what they do, the run and its history, the calls, quiet prefixes, the claims.
+-- In reading order: the state, the steps, their ranking and what they do, the run and its history, the calls, quiet prefixes, steps that
+-- stand apart, the claims.
 pub mod Ranges
 pub mod State
 pub mod Step
@@ -13,6 +14,8 @@ pub mod Refused
 pub mod Calls
 pub mod Quiet
 pub mod Bounds
+pub mod Meeting
 pub mod StepClaims
 pub mod CallClaims
+pub mod MeetingClaims
 pub mod Claims
