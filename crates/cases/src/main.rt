@@ -13,10 +13,19 @@ mod states;
 mod tally;
 mod trials;
 
+ghost use mathlib.Core.Path.{_≡_};
+ghost use lib.ListN.{length};
 use libc::STDIN_FILENO;
 
+// Room for the script: twice a large buffer.
+fn script_room() -> [u8; 131072]
+    ensures { λ r. ⌜ 131072 ≡ length r ⌝ }
+{
+    [0; 131072]
+}
+
 fn main() {
-    let mut space = io::large_buffer();
+    let mut space = script_room();
     let n = io::read_full(STDIN_FILENO, &mut space);
     play::play(&space[..n]);
 }
