@@ -1,3 +1,4 @@
--- In reading order: lines of runs; then what the inner functions are proved against.
+-- In reading order: lines of runs, what the entry answers and stores, what is claimed; then what the inner functions are proved against.
 pub mod Lines
+pub mod Entry
 pub mod Inner

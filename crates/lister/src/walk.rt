@@ -60,9 +60,9 @@ pub fn beside(
     if p == trial::count(f.carriers as usize) {
         return rank;
     }
-    if !crate::node::open_at(f, node, p) {
-        return beside(f, walls, free, node, left, p + 1, first, rank, lines);
+    if crate::node::open_at(f, node, p) {
+        let behind = follow(f, walls, free, node, left, p, first, rank, lines);
+        return beside(f, walls, free, node, left, p + 1, first, behind, lines);
     }
-    let behind = follow(f, walls, free, node, left, p, first, rank, lines);
-    beside(f, walls, free, node, left, p + 1, first, behind, lines)
+    beside(f, walls, free, node, left, p + 1, first, rank, lines)
 }

@@ -4,8 +4,7 @@ use native.Mathlib.Omega.{arith}
 use native.Mathlib.Nat.{suc-mul, pow-succ', one-le-pow, mul-le-mul-left}
 use mathlib.Core.Bool.{Bool, true, false}
 use mathlib.Core.List.{List, [], _∷_, _++_, map}
-use mathlib.Core.Logic.{⊎-elim}
-use mathlib.Core.Path.{_≡_, refl, sym, _∙_, ap}
+use mathlib.Core.Path.{_≡_, refl, sym, _∙_, ap, ap₂}
 use lib.ListN.{length, getD, length-append, length-map}
 use borrow.Author.Tests.{lt-ltb}
 use Rattle.laws.proofs.Tests.{and-both, true-false-absurd, not-true-is-false}
@@ -45,6 +44,18 @@ module _ (opens : Step → Bool) (onward : Step → List Run) where
         go : (b : Bool) → opens x ≡ b → P xs (beginning opens onward xs) → P (x ∷ xs) (beginning opens onward (x ∷ xs))
         go true e h = rw (begin-open x xs e) (opened x xs (beginning opens onward xs) e h)
         go false e h = rw (begin-shut x xs e) (shut x xs (beginning opens onward xs) e h)
+
+-- Tests that agree, and runs that agree behind each open step, make the same list.
+pub begin-same : (p q : Step → Bool) (g h : Step → List Run) → ((x : Step) → p x ≡ q x) → ((x : Step) → q x ≡ true → g x ≡ h x) →
+    (xs : List Step) → beginning p g xs ≡ beginning q h xs
+unfolding beginning
+begin-same p q g h same goes [] = refl
+begin-same p q g h same goes (x ∷ xs) = go (q x) refl (begin-same p q g h same goes xs)
+  where
+    go : (b : Bool) → q x ≡ b → beginning p g xs ≡ beginning q h xs → beginning p g (x ∷ xs) ≡ beginning q h (x ∷ xs)
+    go true e rest =
+        begin-open p g x xs (same x ∙ e) ∙ ap₂ _++_ (ap (behind x) (goes x e)) rest ∙ sym (begin-open q h x xs e)
+    go false e rest = begin-shut p g x xs (same x ∙ e) ∙ rest ∙ sym (begin-shut q h x xs e)
 
 module _ (M : Machine) where
   pub runs-silent : (left : ℕ) (s : State) → isSilent M s ≡ true → runsFrom M left s ≡ [] ∷ []
