@@ -13,7 +13,7 @@ use borrow.Author.Tests.{leb-true, lt-ltb, le-ltb}
 use Rattle.laws.specs.Verdict.{Outcome, value, refusal, passed, refused, _then_, demand, _gives_, whenPassed}
 use Rattle.laws.specs.Memory.{put}
 use Rattle.laws.proofs.PutLaws.{put-length, copy-start, copy-more, copy-keeps, copy-end}
-use Rattle.laws.proofs.VerdictLaws.{then-both, then-passed, demand-holds, gives-passed, gives-refused, when-passed, when-refused}
+use Rattle.laws.proofs.VerdictLaws.{then-both, then-passed, demand-holds, demand-passes, gives-passed, gives-refused, when-passed, when-refused}
 use Rattle.floor.specs.declared.Floor.{Floor}
 use Rattle.floor.specs.Checks.{checkOf}
 use Rattle.floor.proofs.LimitsLaws.{room-passed}
@@ -137,14 +137,14 @@ pub record FoundLine (f : Floor) (ws : List ℕ) (rank : ℕ) (line : List ℕ) 
   pub size : length (runNumbers f ws rank) ≡ 2 * length (runOf f ws rank)
   pub short : length (runOf f ws rank) ≤ ceiling (f .carriers)
 
+pub size-of : (f : Floor) (ws : List ℕ) (rank : ℕ) → length (runNumbers f ws rank) ≡ 2 * length (runOf f ws rank)
+unfolding runNumbers
+size-of f ws rank = report-length (machineOf f ws) (runOf f ws rank)
+
 module _ (f : Floor) (ws : List ℕ) (few : f .carriers ≤ 3) (rank : ℕ) (below : rank < totalOf f ws) where
   run-short : length (runOf f ws rank) ≤ ceiling (f .carriers)
   unfolding runOf totalOf machineOf
   run-short = listing-theorems .within-ceiling (machineOf f ws) rank below
-
-  size-of : length (runNumbers f ws rank) ≡ 2 * length (runOf f ws rank)
-  unfolding runNumbers
-  size-of = report-length (machineOf f ws) (runOf f ws rank)
 
   line-is : (line₀ line : List ℕ) → length line₀ ≡ 23 → line ≡ listedFrom (machineOf f ws) rank 0 (runsOf (machineOf f ws)) line₀ →
       line ≡ put line₀ 0 (length (runOf f ws rank) ∷ runNumbers f ws rank)
@@ -160,7 +160,7 @@ module _ (f : Floor) (ws : List ℕ) (few : f .carriers ≤ 3) (rank : ℕ) (bel
   unfolding put
   found-line line₀ line long e =
       let is = line-is line₀ line long e in
-      let sized = size-of in
+      let sized = size-of f ws rank in
       record {
         steps = ap (λ (l : List ℕ). getD l 0 0) is;
         numbers = ap (λ (l : List ℕ). take (2 * length (runOf f ws rank)) (drop 1 l)) is
@@ -189,3 +189,72 @@ module _ (report₀ numbers : List ℕ) where
 
     pub writing-end : length numbers ≤ t → report ≡ put report₀ 0 numbers
     writing-end l = copy-end report₀ report numbers 0 t (w .stored) l
+
+-- The numbers of a line behind its first, as the code takes them.
+pub part-is : (report report′ line : List ℕ) (k : ℕ) → report′ ≡ put report 0 (take (2 * k + 1 - 1) (drop 1 line)) →
+    report′ ≡ put report 0 (take (2 * k) (drop 1 line))
+part-is report report′ line k e =
+    let less : 2 * k + 1 - 1 ≡ 2 * k = omega arith in e ∙ ap (λ (n : ℕ). put report 0 (take n (drop 1 line))) less
+
+-- A rank is below the total that the code counted, or not.
+pub not-below : {all total rank : ℕ} → all ≡ total → all ≤ rank → total ≤ rank
+not-below e l = omega arith
+
+pub is-below : {all total rank : ℕ} → all ≡ total → rank < all → rank < total
+is-below e l = omega arith
+
+-- The entry on a small floor, by whether the rank is below the total.
+module _ (f : Floor) (ws : List ℕ) (rank : ℕ) (m : List ℕ) (ok : smallVerdict f ws (length m) ≡ passed) where
+  module _ (beyond : totalOf f ws ≤ rank) where
+    no-run : rankVerdict f ws rank (length m) ≡ refused 15 0
+    unfolding rankVerdict demand
+    no-run = then-passed ok ∙ rw (le-ltb rank (totalOf f ws) beyond) refl
+
+    pub refused-answer : refusal 15 0 ≡ rankOutcome f ws rank (length m)
+    unfolding rankOutcome
+    refused-answer = sym (gives-refused _ no-run)
+
+    pub refused-report : m ≡ reportListed f ws rank m
+    unfolding reportListed
+    refused-report = sym (when-refused _ no-run)
+
+  module _ (below : rank < totalOf f ws) where
+    a-run : rankVerdict f ws rank (length m) ≡ passed
+    unfolding rankVerdict
+    a-run = then-passed ok ∙ demand-passes 15 0 (lt-ltb rank (totalOf f ws) below)
+
+    pub found-answer : (all steps : ℕ) → all ≡ totalOf f ws → steps ≡ length (runOf f ws rank) →
+        _≡_ {A = Outcome Figures} (value (record { runs = all; steps = steps })) (rankOutcome f ws rank (length m))
+    unfolding rankOutcome
+    found-answer all steps e h = rw (e, h) (sym (gives-passed a-run))
+
+    pub found-report : (m′ : List ℕ) → m′ ≡ put m 0 (runNumbers f ws rank) → m′ ≡ reportListed f ws rank m
+    unfolding reportListed
+    found-report m′ e = e ∙ sym (when-passed _ a-run)
+
+-- A refusal before 15 is the entry's.
+module _ (f : Floor) (ws : List ℕ) (rank : ℕ) (m : List ℕ) (k p : ℕ) (no : smallVerdict f ws (length m) ≡ refused k p) where
+  turned : rankVerdict f ws rank (length m) ≡ refused k p
+  unfolding rankVerdict _then_
+  turned = rw no refl
+
+  pub turned-answer : refusal k p ≡ rankOutcome f ws rank (length m)
+  unfolding rankOutcome
+  turned-answer = sym (gives-refused _ turned)
+
+  pub turned-report : m ≡ reportListed f ws rank m
+  unfolding reportListed
+  turned-report = sym (when-refused _ turned)
+
+-- What the report of the run of a rank requires of its line, and that it is the run.
+module _ (f : Floor) (ws : List ℕ) (rank lent : ℕ) (small : Small f ws lent) (line : List ℕ) (found : FoundLine f ws rank line) where
+  pub line-serves : (getD line 0 0 ≤ 11) × (2 * getD line 0 0 ≤ lent)
+  unfolding reportSize
+  line-serves =
+      let most = ceiling-few (f .carriers) (small .few) in
+      (omega (arith, found .steps, found .short, most), omega (arith, found .steps, found .short, small .wide))
+
+  pub line-report : (report report′ : List ℕ) → report′ ≡ put report 0 (take (2 * getD line 0 0) (drop 1 line)) →
+      report′ ≡ put report 0 (runNumbers f ws rank)
+  line-report report report′ e =
+      e ∙ ap (λ (k : ℕ). put report 0 (take (2 * k) (drop 1 line))) (found .steps) ∙ ap (put report 0) (found .numbers)

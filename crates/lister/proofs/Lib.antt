@@ -4,3 +4,4 @@ pub mod NodeLaws
 pub mod WalkLaws
 pub mod SameLaws
 pub mod EntryLaws
+pub mod Theorems

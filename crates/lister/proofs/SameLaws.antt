@@ -119,7 +119,7 @@ ceiling-few (suc (suc (suc (suc n)))) l = absurd (omega arith)
 some-place : (M : Machine) → 1 ≤ M .carriers → 1 ≤ places (M .carriers)
 some-place M l = omega (arith, places-split (M .carriers))
 
-pub total-fits : (M : Machine) → 1 ≤ M .carriers → M .carriers ≤ 3 → total M < 18446744073709551616
+pub total-fits : (M : Machine) → 1 ≤ M .carriers → M .carriers ≤ 3 → total M < 4294967296
 unfolding total runsOf
 total-fits M l h =
     let six = places-six (M .carriers) h in

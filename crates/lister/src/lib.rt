@@ -5,15 +5,15 @@ mod node;
 mod walk;
 
 ghost use mathlib.Core.Path.{_≡_};
-ghost use Prim.Native.Nat.{_≤_, _<_};
-ghost use lib.ListN.{length};
+ghost use Prim.Native.Nat.{_*_, _≤_};
+ghost use lib.Dec.{leb};
+ghost use lib.ListN.{length, getD, take, drop};
 ghost use Rattle.laws.specs.Verdict.{passed, demand};
 ghost use Rattle.laws.specs.Memory.{put};
 ghost use Rattle.floor.specs.Answers.{verdictOf};
 ghost use Rattle.floor.specs.Checks.{checkOf};
 ghost use Rattle.layout.specs.Calls.{machineOf};
 ghost use Rattle.listing.specs.Runs.{runsOf};
-ghost use lib.Dec.{leb};
 ghost use Rattle.lister.specs.Lines.{listedFrom};
 ghost use Rattle.lister.specs.Entry.{totalOf, smallVerdict, listedOutcome, rankOutcome, reportListed};
 use floor::Checked;
@@ -24,7 +24,7 @@ pub use lines::LINE;
 // The answer of the lister.
 pub enum Listed {
     // How many runs there are, and how many steps the run of the rank has.
-    Run { total: u64, steps: usize },
+    Run { total: u64, steps: u16 },
     // Turned away.
     Refused(Refusal),
 }
@@ -89,6 +89,18 @@ fn write_numbers(report: &mut [u16], numbers: &[u16])
     }
 }
 
+// Reports the run of a line; how many steps it has.
+fn report_line(report: &mut [u16], line: &[u16]) -> u16
+    requires { ⌜ (getD (now line) 0 0 ≤ 11) × ((length (now line) ≡ 23) × (2 * getD (now line) 0 0 ≤ length (now report))) ⌝ }
+    ensures answers { λ r. ⌜ r ≡ getD (now (line .entry)) 0 0 ⌝ }
+    ensures reports { λ r. ⌜ now (report .exit) ≡
+        put (now (report .entry)) 0 (take (2 * getD (now (line .entry)) 0 0) (drop 1 (now (line .entry)))) ⌝ }
+{
+    let steps = line[0];
+    write_numbers(report, &line[1..2 * steps as usize + 1]);
+    steps
+}
+
 // Finds the run of a rank of a small floor, and reports it; 15 where there is none.
 fn find(f: Floor, walls: &[u16], rank: u64, report: &mut [u16]) -> Listed
     requires { ⌜ smallVerdict f (now walls) (length (now report)) ≡ passed ⌝ }
@@ -103,11 +115,9 @@ fn find(f: Floor, walls: &[u16], rank: u64, report: &mut [u16]) -> Listed
             place: 0,
         });
     }
-    let steps = line[0] as usize;
-    write_numbers(report, &line[1..2 * steps + 1]);
     Listed::Run {
         total: total,
-        steps: steps,
+        steps: report_line(report, &line),
     }
 }
 

@@ -3,13 +3,21 @@ use Prim.Native.Nat.{ℕ, _≤_, _<_}
 use native.Mathlib.Omega.{arith}
 use native.Mathlib.Nat.{eq-or-lt-of-le}
 use mathlib.Core.Logic.{⊎-elim, _↔_}
-use mathlib.Core.List.{[]}
+use mathlib.Core.Bool.{true}
+use mathlib.Core.List.{List, [], _∷_}
 use mathlib.Core.Path.{_≡_, refl, sym, _∙_, ap, subst}
 use lib.ListN.{length, getD}
 use Rattle.laws.proofs.Tests.{lt-or-le}
-use Rattle.reference.specs.State.{Machine, fresh}
+use Rattle.reference.specs.State.{Machine, State, fresh}
+use Rattle.reference.specs.Take.{afterStep}
+use Rattle.reference.specs.Ranking.{isSilent}
+use Rattle.reference.specs.History.{afterSteps}
 use Rattle.reference.specs.Quiet.{ceiling}
 use Rattle.reference.proofs.Potential.{potential, fresh-potential}
+use Rattle.orders.specs.Orders.{first, startMemory, remembered}
+use Rattle.orders.specs.Trial.{Entry, trial, stepsIn}
+use Rattle.orders.specs.Rules.{ByRule}
+use Rattle.orders.proofs.Theorems.{theorems as orders-theorems}
 use Rattle.listing.specs.Runs.{Run, runsFrom, runsOf, total, runAt}
 use Rattle.listing.specs.Order.{Complete, Earlier}
 use Rattle.listing.specs.Claims.{Claims}
@@ -66,6 +74,23 @@ module _ (M : Machine) where
   within-ceiling : (r : ℕ) → r < total M → length (runAt M r) ≤ ceiling (M .carriers)
   within-ceiling r l = omega (arith, complete-short M fresh (runAt M r) (listed-complete r l), fresh-ceiling)
 
+-- A trial in order 1 is a complete run.
+trial-complete : (M : Machine) (c : ℕ) (s : State) (es : List Entry) → ByRule first M c s es →
+    isSilent M (afterSteps M s (stepsIn es)) ≡ true → Complete M s (stepsIn es)
+unfolding ByRule stepsIn afterSteps Complete
+trial-complete M c s [] h e = e
+trial-complete M c s (x ∷ es) h e =
+    (h .1 .isOpen, trial-complete M (remembered first c (h .0)) (afterStep M s (x .taken)) es (h .2) e)
+
+pub some-run : (M : Machine) → 0 < total M
+some-run M =
+    let t = trial first M 0 in
+    let silent : isSilent M (afterSteps M fresh (stepsIn (t .report))) ≡ true =
+    ap (isSilent M) (sym (orders-theorems .leads first M 0)) ∙ orders-theorems .ends-silent first M 0 in
+    let r = complete-exactly M (stepsIn (t .report)) .0
+    (trial-complete M (startMemory first 0) fresh (t .report) (orders-theorems .by-rule first M 0) silent) in
+    omega (arith, r .1)
+
 pub theorems : Claims
 theorems =
     record {
@@ -74,4 +99,5 @@ theorems =
       one-rank = one-rank;
       ranked = ranked;
       within-ceiling = within-ceiling;
+      some-run = some-run;
     }

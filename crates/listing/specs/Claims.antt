@@ -21,3 +21,5 @@ pub record Claims : Type 0 where
   pub ranked : (M : Machine) (r q : ℕ) → r < total M → q < total M → (r < q) ↔ Earlier (M .carriers) (runAt M r) (runAt M q)
   -- A run has at most as many steps as the ceiling.
   pub within-ceiling : (M : Machine) (r : ℕ) → r < total M → length (runAt M r) ≤ ceiling (M .carriers)
+  -- There is a run.
+  pub some-run : (M : Machine) → 0 < total M
