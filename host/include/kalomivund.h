@@ -36,6 +36,8 @@
  *   7, position  a number that names no step of this floor (position in its list, from 0; a single step has 0); a search's carrier
  *   8, 0         a single step is not open
  *   11, 0        a trial's order is none of 1 to 3
+ *   14, 0        runs are asked for of more than three carriers
+ *   15, 0        the rank of a run is not below the number of runs
  * "The floor's refusals" below are 9 (22 numbers), 2, 9 (walls), 3, 4, 5, 6. */
 #ifndef KALOMIVUND_H
 #define KALOMIVUND_H
@@ -57,7 +59,7 @@ extern "C" {
 #define KALOMIVUND_MOST_ANSWERS 520 /* numbers */
 #define KALOMIVUND_MOST_TEXT 2659  /* bytes */
 #define KALOMIVUND_MOST_STATE 9666 /* numbers, 19,332 bytes */
-#define KALOMIVUND_MOST_REPORT 1004 /* numbers */
+#define KALOMIVUND_MOST_REPORT 1004 /* numbers; of a listed run 22 */
 
 /* Parts of an answer word. */
 #define KALOMIVUND_REFUSED(word) ((unsigned)((word) & 0xff))       /* 0 done, 1 refused */
@@ -187,6 +189,15 @@ uint64_t kalomivund_run(const uint16_t *floor, size_t floor_len, const uint16_t 
  * Refused the floor's refusals; 9 (state or report too short); 11, 0. */
 uint64_t kalomivund_trial(const uint16_t *floor, size_t floor_len, const uint16_t *walls, size_t walls_len, uint16_t order,
                           uint32_t seed, uint16_t *state, size_t state_len, uint16_t *report, size_t report_len);
+
+/* Every run of a small floor: of the complete runs of at most three carriers, each from the fresh state until no step is open, the one of
+ * a rank. Runs are ranked by their first differing step, steps being ranked as for a trial.
+ * Takes   rank, from 0. What report holds is not looked at.
+ * Writes  two numbers a step of the run to the front of report, as kalomivund_trial does; its needed length is that of a trial's report.
+ * Done    case the steps of the run (1 to 11), number how many runs there are.
+ * Refused the floor's refusals; 9 (report too short); 14, 0; 15, 0. */
+uint64_t kalomivund_run_of_rank(const uint16_t *floor, size_t floor_len, const uint16_t *walls, size_t walls_len, uint64_t rank,
+                                uint16_t *report, size_t report_len);
 
 /* The most steps that so many carriers can take from the fresh state, 2^(n + 1) - n - 2.
  * Done    case 0, number the steps.

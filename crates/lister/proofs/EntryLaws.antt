@@ -31,7 +31,7 @@ use Rattle.listing.specs.Runs.{Run, runsOf, total, runAt, reportFrom}
 use Rattle.listing.proofs.Theorems.{theorems as listing-theorems}
 use Rattle.reference.specs.Quiet.{ceiling}
 use Rattle.lister.specs.Lines.{written, listedFrom}
-use Rattle.lister.specs.Entry.{totalOf, runOf, smallVerdict, rankVerdict, Figures, rankOutcome, runNumbers, reportListed}
+use Rattle.lister.specs.Entry.{totalOf, runOf, smallVerdict, listVerdict, rankVerdict, Figures, rankOutcome, runNumbers, reportListed}
 use Rattle.lister.specs.declared.node.Node.{Node}
 use Rattle.lister.specs.Inner.{Rooted, Branch}
 use Rattle.lister.proofs.SameLaws.{ceiling-few}
@@ -53,6 +53,11 @@ small-tells f ws report h =
       wide = room-passed _ _ (b .0);
       few = leb-true (f .carriers) 3 (demand-holds (leb (f .carriers) 3) 14 0 (b .1));
     }
+
+pub list-tells : (f : Floor) (ws : List ℕ) → listVerdict f ws ≡ passed → (checkOf f ws ≡ passed) × (f .carriers ≤ 3)
+unfolding listVerdict
+list-tells f ws h =
+    let a = then-both _ _ h in (a .0, leb-true (f .carriers) 3 (demand-holds (leb (f .carriers) 3) 14 0 (a .1)))
 
 -- The report of a run has an entry a step.
 entries : (M : Machine) (s : State) (ys : Run) → length (reportFrom M s ys) ≡ length ys

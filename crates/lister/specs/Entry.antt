@@ -10,9 +10,12 @@ use Rattle.floor.specs.Checks.{checkOf, roomOf}
 use Rattle.reference.specs.State.{fresh}
 use Rattle.layout.specs.Calls.{machineOf}
 use Rattle.trial.specs.Report.{numbersOf, reportSize}
-use Rattle.listing.specs.Runs.{Run, total, runAt, reportFrom}
+use Rattle.listing.specs.Runs.{Run, runsOf, total, runAt, reportFrom}
 use Rattle.lister.specs.declared.Listed.{Listed}
 use Rattle.lister.specs.declared.Listed.the-variants.{Run as Found, Refused}
+use Rattle.lister.specs.declared.Counted.{Counted}
+use Rattle.lister.specs.declared.Counted.the-variants.{Total, Refused as NotCounted}
+use Rattle.lister.specs.Lines.{listedFrom}
 
 -- The number of runs of a floor, and its run of a rank.
 unfoldable pub totalOf : Floor → List ℕ → ℕ
@@ -51,3 +54,18 @@ runNumbers f ws rank = numbersOf (reportFrom (machineOf f ws) fresh (runOf f ws 
 -- The lent report afterwards: the run's numbers in its front, the rest as it was; all as it was with a refusal.
 unfoldable pub reportListed : Floor → List ℕ → (rank : ℕ) → List ℕ → List ℕ
 reportListed f ws rank m = whenPassed (rankVerdict f ws rank (length m)) (put m 0 (runNumbers f ws rank)) m
+
+-- The listing of many runs, for the desk: the floor's refusals, then 14; the total, and the lines of the runs from a rank on.
+unfoldable pub listVerdict : Floor → List ℕ → Verdict
+listVerdict f ws = checkOf f ws then demand (leb (f .carriers) 3) 14 0
+
+unfoldable pub countedOutcome : Counted → Outcome ℕ
+countedOutcome (Total n) = value n
+countedOutcome (NotCounted r) = refusal (r .number) (r .place)
+
+unfoldable pub listOutcome : Floor → List ℕ → Outcome ℕ
+listOutcome f ws = listVerdict f ws gives totalOf f ws
+
+unfoldable pub linesListed : Floor → List ℕ → (first : ℕ) → List ℕ → List ℕ
+linesListed f ws first lines =
+    whenPassed (listVerdict f ws) (listedFrom (machineOf f ws) first 0 (runsOf (machineOf f ws)) lines) lines

@@ -16,6 +16,7 @@ ghost use Rattle.layout.specs.Calls.{machineOf};
 ghost use Rattle.listing.specs.Runs.{runsOf};
 ghost use Rattle.lister.specs.Lines.{listedFrom};
 ghost use Rattle.lister.specs.Entry.{totalOf, smallVerdict, listedOutcome, rankOutcome, reportListed};
+ghost use Rattle.lister.specs.Entry.{listVerdict, countedOutcome, listOutcome, linesListed};
 use floor::Checked;
 use floor::Floor;
 use floor::Refusal;
@@ -25,6 +26,14 @@ pub use lines::LINE;
 pub enum Listed {
     // How many runs there are, and how many steps the run of the rank has.
     Run { total: u64, steps: u16 },
+    // Turned away.
+    Refused(Refusal),
+}
+
+// The answer of a listing of many runs.
+pub enum Counted {
+    // How many runs there are.
+    Total(u64),
     // Turned away.
     Refused(Refusal),
 }
@@ -58,7 +67,7 @@ fn ready(f: Floor, walls: &[u16], report: usize) -> Checked
 }
 
 // Lists the runs of a checked floor: the lines get the runs from rank `first` on, as many as there are lines; the total is returned.
-pub fn list(f: Floor, walls: &[u16], first: u64, lines: &mut [u16]) -> u64
+fn list(f: Floor, walls: &[u16], first: u64, lines: &mut [u16]) -> u64
     requires { ⌜ (checkOf f (now walls) ≡ passed) × (f .carriers ≤ 3) ⌝ }
     ensures counts { λ r. ⌜ r ≡ totalOf f (now (walls .entry)) ⌝ }
     ensures lists { λ r. ⌜ now (lines .exit) ≡
@@ -132,4 +141,27 @@ pub fn run_of_rank(f: Floor, walls: &[u16], rank: u64, report: &mut [u16]) -> Li
         return find(f, walls, rank, report);
     };
     Listed::Refused(x)
+}
+
+// The refusals of a listing of many runs: the floor's, 14.
+fn listable(f: Floor, walls: &[u16]) -> Checked
+    ensures { λ r. ⌜ verdictOf r ≡ listVerdict f (now (walls .entry)) ⌝ }
+{
+    let checked = floor::check(f, walls);
+    let Checked::Passed = checked else {
+        return checked;
+    };
+    small(f.carriers)
+}
+
+// How many runs there are, and the runs of the ranks from `first` on, a line each: as many as the lent lines hold, 23 numbers a line.
+pub fn runs_from(f: Floor, walls: &[u16], first: u64, lines: &mut [u16]) -> Counted
+    ensures answers { λ r. ⌜ countedOutcome r ≡ listOutcome f (now (walls .entry)) ⌝ }
+    ensures lists { λ r. ⌜ now (lines .exit) ≡ linesListed f (now (walls .entry)) first (now (lines .entry)) ⌝ }
+{
+    let checked = listable(f, walls);
+    let Checked::Refused(x) = checked else {
+        return Counted::Total(list(f, walls, first, lines));
+    };
+    Counted::Refused(x)
 }
