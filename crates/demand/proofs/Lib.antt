@@ -4,6 +4,7 @@ pub mod RefusalLaws
 pub mod EntryLaws
 pub mod PlanLaws
 pub mod SameTrialLaws
+pub mod SameRunLaws
 pub mod SameFloorLaws
 pub mod RoundTripLaws
 pub mod RankLaws

@@ -83,6 +83,9 @@ fn put_number(out: &mut [u8], at: usize, n: u64) -> usize
 {
     let mut digits = [0u8; 20];
     let k = io::decimal(n, &mut digits);
+    if k > 20 {
+        return at;
+    }
     put_bytes(out, at, &digits[..k])
 }
 
