@@ -1,7 +1,7 @@
 // The complete runs of a floor as text: the total on a line, then a line a run, its rank and the numbers of its steps, separated by
 // single spaces. The contracts bound the lengths; what is printed is tested.
 ghost use mathlib.Core.Path.{_≡_};
-ghost use Prim.Native.Nat.{_+_, _*_, _≤_};
+ghost use Prim.Native.Nat.{_+_, _*_, _≤_, _<_};
 ghost use lib.ListN.{length};
 use console::Output;
 use floor::Floor;
@@ -109,6 +109,13 @@ fn steps_in(line: &[u16]) -> usize
     line[0] as usize
 }
 
+// The number of step k of a line.
+fn step_number(line: &[u16], k: usize) -> u64
+    requires { ⌜ (k < 11) × (23 ≤ length (now line)) ⌝ }
+{
+    line[2 * k + 1] as u64
+}
+
 // Puts the text of a run of a rank, whose line has the number of its steps in front and then two numbers a step; its length is returned.
 fn put_run(out: &mut [u8], rank: u64, line: &[u16]) -> usize
     requires { ⌜ (252 ≤ length (now out)) × (23 ≤ length (now line)) ⌝ }
@@ -118,7 +125,7 @@ fn put_run(out: &mut [u8], rank: u64, line: &[u16]) -> usize
     let mut k: usize = 0;
     while k < steps {
         out[at] = b' ';
-        at = put_number(out, at + 1, line[2 * k + 1] as u64);
+        at = put_number(out, at + 1, step_number(line, k));
         k += 1;
     }
     out[at] = 10;

@@ -140,7 +140,10 @@ fn main() {
         Command::Trial => trial_command(),
         Command::Runs => runs_command(),
         Command::Unknown => {
-            io::write_all(STDERR_FILENO, b"desk: no such command; commands: trial, runs\n");
+            io::write_all(
+                STDERR_FILENO,
+                b"desk: no such command; commands: trial, runs\n",
+            );
         }
     }
 }

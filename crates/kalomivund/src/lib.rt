@@ -255,7 +255,12 @@ pub extern "C" fn kalomivund_trial(
 
 // The complete run of a rank, from 0, of a floor of at most three carriers, and how many runs there are.
 #[no_mangle]
-pub extern "C" fn kalomivund_run_of_rank(f: &[u16], walls: &[u16], rank: u64, report: &mut [u16]) -> u64
+pub extern "C" fn kalomivund_run_of_rank(
+    f: &[u16],
+    walls: &[u16],
+    rank: u64,
+    report: &mut [u16],
+) -> u64
     ensures says { λ r. ⌜ r ≡ rankWord (now (f .entry)) (now (walls .entry)) rank (length (now (report .entry))) ⌝ }
     ensures reports { λ r. ⌜ now (report .exit) ≡ rankStored (now (f .entry)) (now (walls .entry)) rank (now (report .entry)) ⌝ }
 {

@@ -124,8 +124,13 @@ unfolding total runsOf
 total-fits M l h =
     let six = places-six (M .carriers) h in
     let most : 6 ^ 11 ≡ 362797056 = refl in
-    omega (arith, runs-few M (some-place M l) (ceiling (M .carriers)) fresh, pow-le-pow-left six (ceiling (M .carriers)),
-    pow-le-pow-right {n = 6} (omega arith) (ceiling-few (M .carriers) h), most)
+    omega (
+      arith,
+      runs-few M (some-place M l) (ceiling (M .carriers)) fresh,
+      pow-le-pow-left six (ceiling (M .carriers)),
+      pow-le-pow-right {n = 6} (omega arith) (ceiling-few (M .carriers) h),
+      most,
+    )
 
 -- The walk from the root, with as many steps left as the ceiling has, lists all runs.
 module _ (f : Floor) (ws : List ℕ) (ok : checkOf f ws ≡ passed) (node : Node) (rooted : Rooted (f .carriers) node) where

@@ -76,7 +76,17 @@ fn list(f: Floor, walls: &[u16], first: u64, lines: &mut [u16]) -> u64
     let n = f.carriers as usize;
     let root = node::root(n);
     let free = search::free_rows(f, walls);
-    walk::beside(f, walls, free, root, trial::most_steps(n), 0, first, 0, lines)
+    walk::beside(
+        f,
+        walls,
+        free,
+        root,
+        trial::most_steps(n),
+        0,
+        first,
+        0,
+        lines,
+    )
 }
 
 // Room for one line.

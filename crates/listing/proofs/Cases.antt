@@ -33,9 +33,9 @@ changer n depth = record { carriers = n; depth = depth; needed = 0; respond = ch
 record Cases : Type 0 where
   -- Plan 1, plan 2, deliver, plan 2; plan 1, deliver, plan 2; plan 2, plan 1, deliver, plan 2.
   two : runsOf (idler 2 1) ≡ (
-    (plan 0 ∷ plan 1 ∷ deliver 0 1 ∷ plan 1 ∷ []) ∷
-    (plan 0 ∷ deliver 0 1 ∷ plan 1 ∷ []) ∷
-    (plan 1 ∷ plan 0 ∷ deliver 0 1 ∷ plan 1 ∷ []) ∷ [])
+      (plan 0 ∷ plan 1 ∷ deliver 0 1 ∷ plan 1 ∷ []) ∷
+      (plan 0 ∷ deliver 0 1 ∷ plan 1 ∷ []) ∷
+      (plan 1 ∷ plan 0 ∷ deliver 0 1 ∷ plan 1 ∷ []) ∷ [])
   one : runsOf (idler 1 1) ≡ ((plan 0 ∷ []) ∷ [])
   -- Three carriers that keep their answers, and three of which carrier 2 changes its own on hearing carrier 1; channels of one place and of two.
   kept-1 : total (idler 3 1) ≡ 495

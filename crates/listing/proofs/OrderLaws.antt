@@ -68,14 +68,21 @@ module _ (n : ℕ) where
 
   before-apart : (x y : Step) → Before n x y → x ≡ y → ⊥
   before-apart x y b e =
-      omega (arith, b .before,
-      one-place (b .first) (b .second) (omega (arith, b .before, b .listed)) (b .listed) (b .first-is ∙ e ∙ sym (b .second-is)))
+      omega (
+        arith,
+        b .before,
+        one-place (b .first) (b .second) (omega (arith, b .before, b .listed)) (b .listed) (b .first-is ∙ e ∙ sym (b .second-is)),
+      )
 
   before-one-way : (x y : Step) → Before n x y → Before n y x → ⊥
   before-one-way x y b c =
-      omega (arith, b .before, c .before,
-      one-place (b .first) (c .second) (omega (arith, b .before, b .listed)) (c .listed) (b .first-is ∙ sym (c .second-is)),
-      one-place (b .second) (c .first) (b .listed) (omega (arith, c .before, c .listed)) (b .second-is ∙ sym (c .first-is)))
+      omega (
+        arith,
+        b .before,
+        c .before,
+        one-place (b .first) (c .second) (omega (arith, b .before, b .listed)) (c .listed) (b .first-is ∙ sym (c .second-is)),
+        one-place (b .second) (c .first) (b .listed) (omega (arith, c .before, c .listed)) (b .second-is ∙ sym (c .first-is)),
+      )
 
   -- Of two runs one is not both earlier and later.
   pub earlier-one-way : (xs ys : Run) → Earlier n xs ys → Earlier n ys xs → ⊥

@@ -58,15 +58,17 @@ module _ (M : Machine) where
       (lt-or-le r q)
 
   ranked : (r q : ℕ) → r < total M → q < total M → (r < q) ↔ Earlier (M .carriers) (runAt M r) (runAt M q)
-  ranked r q l h =
-      (λ g. earlier r q g h, λ (e : Earlier (M .carriers) (runAt M r) (runAt M q)).
-      ⊎-elim (λ (g : r < q). g)
-      (λ (g : q ≤ r).
-      ⊎-elim
-      (λ (k : q ≡ r). absurd (earlier-one-way (M .carriers) (runAt M r) (runAt M q) e (itself k e)))
-      (λ (k : q < r). absurd (earlier-one-way (M .carriers) (runAt M r) (runAt M q) e (earlier q r k l)))
-      (eq-or-lt-of-le g))
-      (lt-or-le r q))
+  ranked r q l h = (
+    λ g. earlier r q g h,
+    λ (e : Earlier (M .carriers) (runAt M r) (runAt M q)).
+        ⊎-elim (λ (g : r < q). g)
+        (λ (g : q ≤ r).
+        ⊎-elim
+        (λ (k : q ≡ r). absurd (earlier-one-way (M .carriers) (runAt M r) (runAt M q) e (itself k e)))
+        (λ (k : q < r). absurd (earlier-one-way (M .carriers) (runAt M r) (runAt M q) e (earlier q r k l)))
+        (eq-or-lt-of-le g))
+        (lt-or-le r q),
+  )
     where
       itself : q ≡ r → Earlier (M .carriers) (runAt M r) (runAt M q) → Earlier (M .carriers) (runAt M q) (runAt M r)
       itself k e = rw k (rw k at e)

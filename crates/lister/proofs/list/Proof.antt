@@ -26,8 +26,10 @@ beside-requires c κs =
     let start : tie.Start = search in
     let n = checked-carriers _ _ (start .pre .0) in
     let most = after-most-steps .most-steps .ensures .0 (n .0) (n .1) in (
-      (root-branch _ _ (start .pre .0) (start .pre .1) _ _ _ (after-root .root .ensures) (after-free-rows .free-rows .ensures) most,
-      omega arith),
+      (
+        root-branch _ _ (start .pre .0) (start .pre .1) _ _ _ (after-root .root .ensures) (after-free-rows .free-rows .ensures) most,
+        omega arith,
+      ),
       root-fits _ _ (start .pre .0) _ (after-root .root .ensures) _ most (start .pre .1),
     )
 

@@ -155,8 +155,10 @@ module _ (t : ℕ) where
       let opened = sym (after-open-at .open-at .ensures) ∙ then3 .if3 .taken in
       let some : 1 ≤ start .args .left = omega (arith, else1 .if1 .left) in (
         falls-along _ _ _ _ (start .pre .0) l (places-six _ (start .pre .1 .0 .0 .few)),
-        ((start .pre .1 .0 .0, next-place l),
-        fits-rest _ _ _ _ _ _ _ some l opened (start .pre .1 .1) _ (after-follow .follow .ensures .counts)),
+        (
+          (start .pre .1 .0 .0, next-place l),
+          fits-rest _ _ _ _ _ _ _ some l opened (start .pre .1 .1) _ (after-follow .follow .ensures .counts),
+        ),
       )
 
   beside-same-length : beside-lts.Need-same-length callees (beside-at t) beside.Post
@@ -307,8 +309,10 @@ module _ (t : ℕ) where
       let onward = sym (after-is-silent .is-silent .ensures) ∙ else1 .if1 .left in
       let moved = after-after .after .ensures in (
         falls-below _ _ (start .pre .0) (start .pre .1 .0 .1),
-        ((branch-below _ _ _ 0 _ _ moved _ _ (start .pre .1 .0 .0) (start .pre .1 .0 .1), omega arith),
-        fits-below _ _ _ _ _ (followed-onward _ _ _ 0 _ _ moved _ onward) (start .pre .1 .1 .1)),
+        (
+          (branch-below _ _ _ 0 _ _ moved _ _ (start .pre .1 .0 .0) (start .pre .1 .0 .1), omega arith),
+          fits-below _ _ _ _ _ (followed-onward _ _ _ 0 _ _ moved _ onward) (start .pre .1 .1 .1),
+        ),
       )
 
   follow-same-length-2 : follow-lts.Need-same-length-2 followers (follow-at t) follow.Post
