@@ -4,6 +4,7 @@
 //! `calls`, at the end, has the library's entries over the same lent memory.
 #![allow(dead_code)]
 
+use std::cell::RefCell;
 use std::collections::VecDeque;
 
 /// A route, whole: a cell for each beat, 0 after the horizon.
@@ -547,8 +548,11 @@ pub fn trial(floor: &Floor, order: u16, seed: u32) -> Vec<(u16, Stepped)> {
 
 // ---- Every run of a small floor (document 02, slip 6) ----
 
-/// The complete runs from a state, with what was taken before them: each step by its number, with its answer.
-fn runs_from(floor: &Floor, state: &State, before: &[(u16, Stepped)], runs: &mut Vec<Vec<(u16, Stepped)>>) {
+/// A run: each step by its number, with its answer.
+pub type Run = Vec<(u16, Stepped)>;
+
+/// The complete runs from a state, with what was taken before them.
+fn runs_from(floor: &Floor, state: &State, before: &[(u16, Stepped)], runs: &mut Vec<Run>) {
     let mut ranking = steps_of(floor.carriers());
     ranking.sort_by_key(|&(number, _)| number);
     let open: Vec<(u16, Step)> = ranking.into_iter().filter(|&(_, step)| state.is_open(floor, step)).collect();
@@ -563,10 +567,22 @@ fn runs_from(floor: &Floor, state: &State, before: &[(u16, Stepped)], runs: &mut
 }
 
 /// All complete runs, from fresh to silent, in the order of their first differing step.
-pub fn runs(floor: &Floor) -> Vec<Vec<(u16, Stepped)>> {
+pub fn runs(floor: &Floor) -> Vec<Run> {
     let mut runs = Vec::new();
     runs_from(floor, &fresh(floor.carriers()), &[], &mut runs);
     runs
+}
+
+/// The number of runs and the run of a rank. The runs of the floor asked for last are kept, since many ranks of one floor are asked for.
+fn run_at(floor: &Floor, rank: u64) -> (usize, Option<Run>) {
+    thread_local!(static LAST: RefCell<Option<(Floor, Vec<Run>)>> = const { RefCell::new(None) });
+    LAST.with_borrow_mut(|last| {
+        if last.as_ref().is_none_or(|(known, _)| known != floor) {
+            *last = Some((floor.clone(), runs(floor)));
+        }
+        let runs = &last.as_ref().expect("runs are kept").1;
+        (runs.len(), usize::try_from(rank).ok().and_then(|rank| runs.get(rank).cloned()))
+    })
 }
 
 /// What `desk runs [RANK]` prints for a sheet.
@@ -953,16 +969,15 @@ pub mod calls {
             if floor.carriers() > 3 {
                 return refuse(14, 0);
             }
-            let runs = super::runs(&floor);
-            if rank >= runs.len() as u64 {
+            let (total, run) = super::run_at(&floor, rank);
+            let Some(run) = run else {
                 return refuse(15, 0);
-            }
-            let run = &runs[rank as usize];
+            };
             for (k, &(number, answer)) in run.iter().enumerate() {
                 report[2 * k] = number;
                 report[2 * k + 1] = answer as u16;
             }
-            Ok(done(run.len() as u64, runs.len()))
+            Ok(done(run.len() as u64, total))
         })())
     }
 

@@ -1,7 +1,7 @@
 //! Compares the library with `paper.rs`, an independent implementation of document 01: answer words, and every number of lent memory,
 //! also outside the part that is lent. Seeds are fixed; a case that fails is printed with the command that replays it.
 //!
-//!     compare                          everything: 100,000 sheets, 20,000 lists of calls, 10,000 trials, all ranks of 400 floors
+//!     compare                          everything: 100,000 sheets, 20,000 lists of calls, 10,000 trials, runs of 400 floors
 //!     compare sheets FROM COUNT        some of the sheets, by their seeds
 //!     compare lists FROM COUNT         some of the lists
 //!     compare trials FROM COUNT        some of the trials
@@ -25,7 +25,7 @@ use std::time::Instant;
 const SHEETS: u64 = 100_000;
 const LISTS: u64 = 20_000;
 const TRIALS: u64 = 10_000;
-/// The floors whose runs are listed, each at every rank.
+/// The floors whose runs are listed.
 const RANKS: u64 = 400;
 
 // ---- Lent memory and calls ----
@@ -760,7 +760,7 @@ fn trial_case(seed: u64, tally: &mut Tally) {
     tally.compare(Call::Trial { floor: record, walls, order, seed, state, report });
 }
 
-/// The runs of a floor, at most three carriers as a rule: every rank of a small total and some of a large one, ranks not below the total,
+/// The runs of a floor, at most three carriers as a rule: every rank of a small total and 40 of a large one, ranks not below the total,
 /// memory too short and spoilt floors included.
 fn rank_case(seed: u64, tally: &mut Tally) {
     let draw = &mut Draw(seed.wrapping_mul(0x9e37_79b9_7f4a_7c15) ^ 0x6a6e);
@@ -790,6 +790,18 @@ fn rank_case(seed: u64, tally: &mut Tally) {
     for rank in (0..total).step_by(step as usize).chain([total - 1, total, total + 1, u64::MAX]) {
         let report = junk(draw, needed);
         tally.compare(call(rank, report));
+    }
+}
+
+/// Every rank of a floor of three carriers, the shortest run of six steps and the first rank that is refused among them.
+fn all_ranks(tally: &mut Tally) {
+    tally.replay = "".into();
+    let (starts, goals) = (vec![0, 8, 16], vec![7, 15, 23]);
+    let floor = Floor { width: 8, height: 3, horizon: 10, depth: 1, starts, goals, walls: Vec::new() };
+    let (record, walls) = (Lent::of(&paper::record_of(&floor), 7), Lent::of(&[0u16; 0], 7));
+    for rank in 0..=495u64 {
+        let report = Lent::of(&[9u16; 22], 7);
+        tally.compare(Call::RunOfRank { floor: record.clone(), walls: walls.clone(), rank, report });
     }
 }
 
@@ -852,6 +864,7 @@ fn main() {
     }
     let by_ranks = tally.calls - by_trials;
     if whole {
+        all_ranks(&mut tally);
         ceilings(&mut tally);
     }
     tally.print();
