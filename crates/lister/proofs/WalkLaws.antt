@@ -211,8 +211,8 @@ module _ (left p places t : ℕ) where
   pub falls-to : 8 * left + (6 - p) ≡ t → p < places → places ≤ 6 → 8 * left < t
   falls-to e l h = omega arith
 
-pub falls-below : (left t : ℕ) → 8 * left ≡ t → 1 ≤ left → 8 * (left - 1) + (6 - 0) < t
-falls-below left t e l = omega arith
+pub falls-below : (left siblings t : ℕ) → siblings ≤ 6 → 8 * left ≡ t → 1 ≤ left → 8 * (left - 1) + siblings < t
+falls-below left siblings t few e l = omega arith
 
 -- A place that is not behind the last one is one of the ranking.
 pub place-listed : (p places end : ℕ) → p ≤ places → end ≡ places → (p ≡ end → ⊥) → p < places
