@@ -136,7 +136,8 @@ module _ (M : Machine) where
   -- The runs that begin at place p or behind it are ordered, and begin so.
   begin-sorted : (s : State) (onward : Step → List Run) → ((x : Step) → Sorted (Earlier n) (onward x)) →
       (k p : ℕ) → p + k ≡ places n →
-      Sorted (Earlier n) (beginning (isOpen M s) onward (drop p (ranking n))) × All (StartsFrom n p) (beginning (isOpen M s) onward (drop p (ranking n)))
+      Sorted (Earlier n) (beginning (isOpen M s) onward (drop p (ranking n))) ×
+      All (StartsFrom n p) (beginning (isOpen M s) onward (drop p (ranking n)))
   unfolding places stepAt
   begin-sorted s onward h zero p e = rw (drop-of-length-le (ranking n) {i = p} (omega arith)) (nothing s onward p)
   begin-sorted s onward h (suc k) p e =
