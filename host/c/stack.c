@@ -57,6 +57,13 @@ static uint64_t run(void) { return kalomivund_run(FLOOR, state, KALOMIVUND_MOST_
 static uint64_t trial(void) {
     return kalomivund_trial(FLOOR, 3, 1, state, KALOMIVUND_MOST_STATE, report, KALOMIVUND_MOST_REPORT);
 }
+/* Three of the crossing's carriers. */
+static uint64_t run_of_rank(void) {
+    static uint16_t three[KALOMIVUND_FLOOR];
+    memcpy(three, crossing, sizeof three);
+    three[4] = 3;
+    return kalomivund_run_of_rank(three, KALOMIVUND_FLOOR, walls, KALOMIVUND_MOST_WALLS, 0, report, KALOMIVUND_MOST_REPORT);
+}
 static uint64_t ceiling(void) { return kalomivund_ceiling(8); }
 
 struct job {
@@ -106,7 +113,7 @@ int main(void) {
         {"write_sheet", write_sheet}, {"read_sheet", read_sheet}, {"check_floor", check_floor},
         {"needed_lengths", needed_lengths}, {"plan", plan}, {"search", search}, {"print_routes", print_routes},
         {"fresh", fresh}, {"step (plan)", step_plan}, {"step (deliver)", step_deliver}, {"run", run}, {"trial", trial},
-        {"ceiling", ceiling},
+        {"run_of_rank", run_of_rank}, {"ceiling", ceiling},
     };
     /* Walls: the last cells of the grid but for the starts and goals there, so that a floor of many walls is read. */
     for (uint16_t c = 544; c < 1024; c++) {

@@ -39,6 +39,8 @@
  *   13, carrier  a single step, a plan, of a carrier that is due and has a full channel: the smallest receiver whose channel is full
  *                (8, 12 and 13 are tested in one place; a carrier that is not due gets 8, full or not)
  *   11, 0        a trial's order is none of 1 to 3
+ *   14, 0        runs are asked for of more than three carriers
+ *   15, 0        the rank of a run is not below the number of runs
  * "The floor's refusals" below are 9 (22 numbers), 2, 9 (walls), 3, 4, 5, 6. */
 #ifndef KALOMIVUND_H
 #define KALOMIVUND_H
@@ -60,7 +62,7 @@ extern "C" {
 #define KALOMIVUND_MOST_ANSWERS 520 /* numbers */
 #define KALOMIVUND_MOST_TEXT 2659  /* bytes */
 #define KALOMIVUND_MOST_STATE 9666 /* numbers, 19,332 bytes */
-#define KALOMIVUND_MOST_REPORT 1004 /* numbers */
+#define KALOMIVUND_MOST_REPORT 1004 /* numbers; of a listed run 22 */
 
 /* Parts of an answer word. */
 #define KALOMIVUND_REFUSED(word) ((unsigned)((word) & 0xff))       /* 0 done, 1 refused */
@@ -191,6 +193,15 @@ uint64_t kalomivund_run(const uint16_t *floor, size_t floor_len, const uint16_t 
  * Refused the floor's refusals; 9 (state or report too short); 11, 0. */
 uint64_t kalomivund_trial(const uint16_t *floor, size_t floor_len, const uint16_t *walls, size_t walls_len, uint16_t order,
                           uint32_t seed, uint16_t *state, size_t state_len, uint16_t *report, size_t report_len);
+
+/* Every run of a small floor: of the complete runs of at most three carriers, each from the fresh state until no step is open, the one of
+ * a rank. Runs are ranked by their first differing step, steps being ranked as for a trial.
+ * Takes   rank, from 0. What report holds is not looked at.
+ * Writes  two numbers a step of the run to the front of report, as kalomivund_trial does; its needed length is that of a trial's report.
+ * Done    case the steps of the run (1 to 11), number how many runs there are.
+ * Refused the floor's refusals; 9 (report too short); 14, 0; 15, 0. */
+uint64_t kalomivund_run_of_rank(const uint16_t *floor, size_t floor_len, const uint16_t *walls, size_t walls_len, uint64_t rank,
+                                uint16_t *report, size_t report_len);
 
 /* The most steps that so many carriers can take from the fresh state, 2^(n + 1) - n - 2:
  * 1, 4, 11, 26, 57, 120, 247, 502 for 1 to 8, as the commissioning handbook prints them.

@@ -71,6 +71,20 @@ pub fn run(floor: &[u16], walls: &[u16], state: &mut [u16], steps: &[u16], budge
     }
 }
 
+pub fn run_of_rank(floor: &[u16], walls: &[u16], rank: u64, report: &mut [u16]) -> u64 {
+    unsafe {
+        raw::kalomivund_run_of_rank(
+            floor.as_ptr(),
+            floor.len(),
+            walls.as_ptr(),
+            walls.len(),
+            rank,
+            report.as_mut_ptr(),
+            report.len(),
+        )
+    }
+}
+
 pub fn trial(floor: &[u16], walls: &[u16], order: u16, seed: u32, state: &mut [u16], report: &mut [u16]) -> u64 {
     unsafe {
         raw::kalomivund_trial(

@@ -28,7 +28,7 @@ pub const MOST_SHEET: usize = 11_452;
 pub const MOST_TEXT: usize = 2_659;
 /// The most numbers that a state takes.
 pub const MOST_STATE: usize = 9_666;
-/// The most numbers that the report of a trial takes.
+/// The most numbers that the report of a trial, or of a listed run, takes.
 pub const MOST_REPORT: usize = 1_004;
 
 /// A route: a cell for each beat, 0 after the horizon.
@@ -98,6 +98,8 @@ impl std::fmt::Display for Refusal {
             11 => "no such order of a trial: place",
             12 => "nothing is under way to carrier",
             13 => "a channel is full, the one to carrier",
+            14 => "more than three carriers: place",
+            15 => "no run of that rank: place",
             _ => "refused: place",
         };
         write!(f, "refusal {}: {} {}", self.number, why, self.place)
@@ -135,7 +137,7 @@ pub struct Lengths {
     pub floor: usize,
     /// Figures, these included.
     pub figures: usize,
-    /// Numbers of a trial's report.
+    /// Numbers of a trial's report, and of a listed run's.
     pub report: usize,
 }
 
@@ -257,6 +259,20 @@ pub fn trial(
     report: &mut [u16],
 ) -> Result<usize, Refusal> {
     answer_of(calls::trial(&floor.record(), walls, order, seed, state, report)).map(|(_, steps)| steps as usize)
+}
+
+/// What the lister tells: how many complete runs a floor has, and how many steps the run of the asked rank takes.
+#[derive(Clone, Copy, PartialEq, Eq, Debug)]
+pub struct Listed {
+    pub total: u64,
+    pub steps: usize,
+}
+
+/// The complete run, from fresh to silent, of a rank from 0, of a floor of at most three carriers. The report gets two numbers a step, as
+/// that of a trial, and needs its length. Refusal 14 for more carriers, then 15 for a rank not below the total, after all others.
+pub fn run_of_rank(floor: &Floor, walls: &[u16], rank: u64, report: &mut [u16]) -> Result<Listed, Refusal> {
+    let (steps, total) = answer_of(calls::run_of_rank(&floor.record(), walls, rank, report))?;
+    Ok(Listed { total, steps: steps as usize })
 }
 
 /// The most steps that n carriers can take. Refusal 2, field 5.

@@ -4,6 +4,7 @@
 //! `calls`, at the end, has the library's entries over the same lent memory.
 #![allow(dead_code)]
 
+use std::cell::RefCell;
 use std::collections::VecDeque;
 
 /// A route, whole: a cell for each beat, 0 after the horizon.
@@ -559,6 +560,69 @@ pub fn trial(floor: &Floor, order: u16, seed: u32) -> Vec<(u16, Stepped)> {
     }
 }
 
+// ---- Every run of a small floor (document 02, slip 6) ----
+
+/// A run: each step by its number, with its answer.
+pub type Run = Vec<(u16, Stepped)>;
+
+/// The complete runs from a state, with what was taken before them.
+fn runs_from(floor: &Floor, state: &State, before: &[(u16, Stepped)], runs: &mut Vec<Run>) {
+    let mut ranking = steps_of(floor.carriers());
+    ranking.sort_by_key(|&(number, _)| number);
+    let open: Vec<(u16, Step)> = ranking.into_iter().filter(|&(_, step)| state.is_open(floor, step)).collect();
+    if open.is_empty() {
+        runs.push(before.to_vec());
+    }
+    for (number, step) in open {
+        let mut next = state.clone();
+        let answer = next.take(floor, step);
+        runs_from(floor, &next, &[before, &[(number, answer)]].concat(), runs);
+    }
+}
+
+/// All complete runs, from fresh to silent, in the order of their first differing step.
+pub fn runs(floor: &Floor) -> Vec<Run> {
+    let mut runs = Vec::new();
+    runs_from(floor, &fresh(floor.carriers()), &[], &mut runs);
+    runs
+}
+
+/// The number of runs and the run of a rank. The runs of the floor asked for last are kept, since many ranks of one floor are asked for.
+fn run_at(floor: &Floor, rank: u64) -> (usize, Option<Run>) {
+    thread_local!(static LAST: RefCell<Option<(Floor, Vec<Run>)>> = const { RefCell::new(None) });
+    LAST.with_borrow_mut(|last| {
+        if last.as_ref().is_none_or(|(known, _)| known != floor) {
+            *last = Some((floor.clone(), runs(floor)));
+        }
+        let runs = &last.as_ref().expect("runs are kept").1;
+        (runs.len(), usize::try_from(rank).ok().and_then(|rank| runs.get(rank).cloned()))
+    })
+}
+
+/// What `desk runs [RANK]` prints for a sheet.
+pub fn print_runs(text: &[u8], rank: Option<u64>) -> String {
+    let floor = match floor_of_sheet(text) {
+        Ok(floor) => floor,
+        Err(r) => return text_line(&[0, r.number as usize, r.place]),
+    };
+    if floor.carriers() > 3 {
+        return text_line(&[0, 14, 0]);
+    }
+    let runs = runs(&floor);
+    if rank.is_some_and(|rank| rank >= runs.len() as u64) {
+        return text_line(&[0, 15, 0]);
+    }
+    let mut out = format!("{}\n", runs.len());
+    for (k, run) in runs.iter().enumerate().filter(|&(k, _)| rank.is_none_or(|rank| rank == k as u64)) {
+        out += &k.to_string();
+        for (number, _) in run {
+            out += &format!(" {number}");
+        }
+        out += "\n";
+    }
+    out
+}
+
 /// What `desk trial ORDER SEED` prints for a sheet.
 pub fn print_trial(text: &[u8], order: u64, seed: u32) -> String {
     let floor = match floor_of_sheet(text) {
@@ -906,6 +970,26 @@ pub mod calls {
             }
             state[..state_length(n)].copy_from_slice(&encode(&now));
             Ok(done(0, lines.len()))
+        })())
+    }
+
+    /// A run of a rank: the case is how many steps it has.
+    pub fn run_of_rank(floor: &[u16], walls: &[u16], rank: u64, report: &mut [u16]) -> u64 {
+        word((|| {
+            let floor = lent(floor, walls)?;
+            long_enough(report.len() < report_length(floor.carriers()))?;
+            if floor.carriers() > 3 {
+                return refuse(14, 0);
+            }
+            let (total, run) = super::run_at(&floor, rank);
+            let Some(run) = run else {
+                return refuse(15, 0);
+            };
+            for (k, &(number, answer)) in run.iter().enumerate() {
+                report[2 * k] = number;
+                report[2 * k + 1] = answer as u16;
+            }
+            Ok(done(run.len() as u64, total))
         })())
     }
 

@@ -79,6 +79,16 @@ extern "C" {
         budget: u16,
     ) -> u64;
 
+    pub fn kalomivund_run_of_rank(
+        floor: *const u16,
+        floor_len: usize,
+        walls: *const u16,
+        walls_len: usize,
+        rank: u64,
+        report: *mut u16,
+        report_len: usize,
+    ) -> u64;
+
     pub fn kalomivund_trial(
         floor: *const u16,
         floor_len: usize,

@@ -167,6 +167,35 @@ fn trials_in_three_orders() {
     assert!(state.iter().chain(&report).all(|&left| left == 7));
 }
 
+/// Document 02, slip 6: the three runs of document 01's floor, each at its rank; refusals in their order, memory as found.
+#[test]
+fn every_run_of_two_carriers() {
+    let floor = floor_of(SHEET).unwrap();
+    let lengths = needed_lengths(&floor).unwrap();
+    let steps = |rank: u64| {
+        let mut report = vec![7; lengths.report];
+        let listed = run_of_rank(&floor, &[], rank, &mut report).unwrap();
+        assert_eq!(listed.total, 3);
+        assert!(report[2 * listed.steps..].iter().all(|&left| left == 7));
+        report.truncate(2 * listed.steps);
+        report
+    };
+    assert_eq!(steps(0), [101, 1, 102, 1, 212, 2, 102, 1]);
+    assert_eq!(steps(1), [101, 1, 212, 2, 102, 1]);
+    assert_eq!(steps(2), [102, 1, 101, 1, 212, 2, 102, 1]);
+    let mut report = vec![7; lengths.report];
+    assert_eq!(refused(run_of_rank(&floor, &[], 3, &mut report)), (15, 0));
+    assert_eq!(refused(run_of_rank(&floor, &[], u64::MAX, &mut report)), (15, 0));
+    assert_eq!(refused(run_of_rank(&floor, &[], 3, &mut report[1..])), (9, 0));
+    let mut four = floor;
+    four.carriers = 4;
+    four.starts[2..4].copy_from_slice(&[3, 4]);
+    four.goals[2..4].copy_from_slice(&[3, 4]);
+    let mut wide = vec![7; 52];
+    assert_eq!(refused(run_of_rank(&four, &[], u64::MAX, &mut wide)), (14, 0));
+    assert!(report.iter().chain(&wide).all(|&left| left == 7));
+}
+
 /// The worked example of docs/FIRMWARE.md: board 2 misses the order 'plan 1' and catches up.
 #[test]
 fn a_lost_order() {

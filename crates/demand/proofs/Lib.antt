@@ -4,11 +4,14 @@ pub mod RefusalLaws
 pub mod EntryLaws
 pub mod PlanLaws
 pub mod SameTrialLaws
+pub mod SameRunLaws
 pub mod SameFloorLaws
 pub mod RoundTripLaws
+pub mod RankLaws
 pub mod Demand1
 pub mod Demand2
 pub mod Trials
+pub mod Runs
 pub mod LentLaws
 pub mod ListLaws
 pub mod CutLaws

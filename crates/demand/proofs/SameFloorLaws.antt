@@ -2,7 +2,7 @@
 use Prim.Native.Nat.{ℕ, _+_, _*_, _-_, _≤_, _<_}
 use native.Mathlib.Omega.{arith}
 use mathlib.Core.Bool.{Bool}
-use mathlib.Core.List.{List, _++_}
+use mathlib.Core.List.{List, [], _++_}
 use mathlib.Core.Path.{_≡_, refl, sym, _∙_, ap, ap₂}
 use lib.ListN.{length, getD}
 use Rattle.laws.specs.Verdict.{Verdict, passed, _gives_}
@@ -39,7 +39,11 @@ use Rattle.layout.specs.Valid.{recordValid, carrierValid, placeValid, channelVa
 use Rattle.layout.specs.Calls.{machineOf, placeVerdict, stateVerdict, stateIn, withState, freshMemory, replyTo, memoryAfter}
 use Rattle.trial.specs.Entry.{orderBy, trialVerdict, trialOf, trialOutcome, stateTried, reportTried}
 use Rattle.demand.specs.Demand2.{SameAnswers}
+use Rattle.trial.specs.Report.{numbersOf}
+use Rattle.listing.specs.Runs.{Run, runsOf, total, runAt}
+use Rattle.lister.specs.Entry.{totalOf, runOf, runNumbers, smallVerdict, rankVerdict, rankOutcome, reportListed}
 use Rattle.demand.proofs.SameTrialLaws.{trial-same}
+use Rattle.demand.proofs.SameRunLaws.{runs-same, reports-same}
 
 module _ (f : Floor) (ws : List ℕ) (g : Floor) (vs : List ℕ) (same : SameFloor f ws g vs) where
   pub length-same : sheetLength f ≡ sheetLength g
@@ -184,6 +188,39 @@ module _ (f : Floor) (ws : List ℕ) (g : Floor) (vs : List ℕ) (same : SameFlo
     unfolding reportTried
     trial-report order seed state old = rw (trial-verdict order state (length old), trials order seed)
 
+    all-runs : runsOf (machineOf f ws) ≡ runsOf (machineOf g vs)
+    unfolding machineOf
+    all-runs =
+        runs-same (f .carriers) (f .depth) (stateSize (f .carriers)) (respondOf f ws) (respondOf g vs) responses
+        ∙ rw (same .carriers, same .depth) refl
+
+    totals : totalOf f ws ≡ totalOf g vs
+    unfolding totalOf total
+    totals = ap length all-runs
+
+    listed : (rank : ℕ) → runOf f ws rank ≡ runOf g vs rank
+    unfolding runOf runAt
+    listed rank = ap (λ (rs : List Run). getD rs rank []) all-runs
+
+    run-numbers : (rank : ℕ) → runNumbers f ws rank ≡ runNumbers g vs rank
+    unfolding runNumbers runOf machineOf
+    run-numbers rank =
+        ap numbersOf
+        (reports-same (f .carriers) (f .depth) (stateSize (f .carriers)) (respondOf f ws) (respondOf g vs) responses rank
+        ∙ rw (same .carriers, same .depth) refl)
+
+    rank-verdict : (rank report : ℕ) → rankVerdict f ws rank report ≡ rankVerdict g vs rank report
+    unfolding rankVerdict smallVerdict
+    rank-verdict rank report = rw (checks, totals, same .carriers)
+
+    run-of-rank : (rank report : ℕ) → rankOutcome f ws rank report ≡ rankOutcome g vs rank report
+    unfolding rankOutcome
+    run-of-rank rank report = rw (rank-verdict rank report, totals, listed rank)
+
+    run-report : (rank : ℕ) (old : List ℕ) → reportListed f ws rank old ≡ reportListed g vs rank old
+    unfolding reportListed
+    run-report rank old = rw (rank-verdict rank (length old), run-numbers rank)
+
     pub same-answers : SameAnswers f ws g vs
     unfolding printOutcome printAnswers printMemory freshMemory
     same-answers =
@@ -205,4 +242,6 @@ module _ (f : Floor) (ws : List ℕ) (g : Floor) (vs : List ℕ) (same : SameFlo
           trial = trial;
           trial-state = trial-state;
           trial-report = trial-report;
+          run-of-rank = run-of-rank;
+          run-report = run-report;
         }

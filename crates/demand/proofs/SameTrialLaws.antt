@@ -24,7 +24,7 @@ module _ (n d k : ℕ) (p q : ℕ → List View → Answer) (agree : (i : ℕ) (
   abbrev N : Machine
   N = record { carriers = n; depth = d; needed = k; respond = q }
 
-  silent-same : (s : State) → isSilent M s ≡ isSilent N s
+  pub silent-same : (s : State) → isSilent M s ≡ isSilent N s
   unfolding isSilent
   silent-same s = none-same n d k p q agree s (ranking n)
 
@@ -47,7 +47,7 @@ module _ (n d k : ℕ) (p q : ℕ → List View → Answer) (agree : (i : ℕ) (
   unfolding nextStep
   next-same o s c = ap (stepAt n) (chosen-same o s c)
 
-  entry-same : (s : State) (x : Step) → isOpen M s x ≡ true → entryOf M s x ≡ entryOf N s x
+  pub entry-same : (s : State) (x : Step) → isOpen M s x ≡ true → entryOf M s x ≡ entryOf N s x
   unfolding entryOf
   entry-same s x e = rw (answer-same n d k p q agree s x e)
 

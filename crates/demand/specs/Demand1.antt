@@ -26,6 +26,7 @@ use Rattle.layout.specs.Ranges.{WithinRanges}
 use Rattle.layout.specs.Calls.{machineOf, placeVerdict, stateIn, freshMemory, replyTo, memoryAfter}
 use Rattle.machine.specs.Ceiling.{mostSteps}
 use Rattle.trial.specs.Entry.{trialOutcome, stateTried, reportTried}
+use Rattle.lister.specs.Entry.{totalOf, rankOutcome, reportListed}
 use Rattle.demand.specs.Rows.{Table, Row, Short, _orElse_, Refuses, Answers, Keeps}
 
 -- 2, field: a value of line 1 is outside its limits; the first such field.
@@ -62,6 +63,13 @@ module _ (f : Floor) (ws : List ℕ) where
   -- 11, 0: an order other than 1 to 3 (document 02, slip 1).
   abbrev pub TrialRows : (order state report : ℕ) → Table
   TrialRows order state report = FreshRows state orElse Short report (lengthsOf f .report) orElse Row 11 0 (Within 1 3 order → ⊥)
+
+  -- 14, 0: more than three carriers; 15, 0: a rank not below the total (document 02, slip 6).
+  abbrev pub SmallRows : (report : ℕ) → Table
+  SmallRows report = RefusedFloor f ws orElse Short report (lengthsOf f .report) orElse Row 14 0 (3 < f .carriers)
+
+  abbrev pub RankRows : (rank report : ℕ) → Table
+  RankRows rank report = SmallRows report orElse Row 15 0 (totalOf f ws ≤ rank)
 
 abbrev pub ReadRows : List ℕ → ℕ → Table
 ReadRows text room = RefusedSheet text orElse Short room (lengthsOf (floorAt text) .walls)
@@ -114,3 +122,7 @@ pub record Demand1 : Type 0 where
       → Keeps (TrialRows f ws order (length old) report) (lengthsOf f .state) old (stateTried f ws order seed old report)
   pub trial-keeps-report : (f : Floor) (ws : List ℕ) (order seed state : ℕ) (old : List ℕ)
       → Keeps (TrialRows f ws order state (length old)) (lengthsOf f .report) old (reportTried f ws order seed state old)
+  -- The run of a rank, with its report.
+  pub run-of-rank : (f : Floor) (ws : List ℕ) (rank report : ℕ) → Answers (rankOutcome f ws rank report) (RankRows f ws rank report)
+  pub run-keeps-report : (f : Floor) (ws : List ℕ) (rank : ℕ) (old : List ℕ)
+      → Keeps (RankRows f ws rank (length old)) (lengthsOf f .report) old (reportListed f ws rank old)

@@ -30,6 +30,7 @@ use Rattle.lengths.specs.Figures.{figuresFor}
 use Rattle.reference.specs.Table.{Call}
 use Rattle.layout.specs.Calls.{placeVerdict, freshMemory, replyTo, memoryAfter}
 use Rattle.trial.specs.Entry.{trialOutcome, stateTried, reportTried}
+use Rattle.lister.specs.Entry.{rankOutcome, reportListed}
 
 -- Prioritized planning (document 01, 'The sequential planner'; document 02, slip 2): each carrier in turn has the best answer against the
 -- answers above it, one with none staying at its start.
@@ -57,6 +58,8 @@ pub record SameAnswers (f : Floor) (ws : List ℕ) (g : Floor) (vs : List ℕ) :
   pub trial-state : (order seed : ℕ) (old : List ℕ) (report : ℕ) →
       stateTried f ws order seed old report ≡ stateTried g vs order seed old report
   pub trial-report : (order seed state : ℕ) (old : List ℕ) → reportTried f ws order seed state old ≡ reportTried g vs order seed state old
+  pub run-of-rank : (rank report : ℕ) → rankOutcome f ws rank report ≡ rankOutcome g vs rank report
+  pub run-report : (rank : ℕ) (old : List ℕ) → reportListed f ws rank old ≡ reportListed g vs rank old
 
 pub record Demand2 : Type 0 where
   -- The plan of an accepted floor is what prioritized planning gives, and nothing else is.

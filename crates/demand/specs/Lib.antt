@@ -1,4 +1,4 @@
--- In reading order: the calls on the program's side and on the reference machine's, and the claims; trials; then document 01's cases.
+-- In reading order: the calls on the program's side and on the reference machine's, and the claims; trials; listed runs; then document 01's cases.
 pub mod Lists
 pub mod Rows
 pub mod Demand1
@@ -7,6 +7,7 @@ pub mod Demand3
 pub mod Trials
 pub mod Shorter
 pub mod Boards
+pub mod Runs
 pub mod Floors
 pub mod Texts
 pub mod Cases

@@ -2,3 +2,4 @@
 pub mod ArgumentLaws
 pub mod TextLaws
 pub mod PlayedLaws
+mod ListedLaws

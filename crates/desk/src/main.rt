@@ -1,18 +1,22 @@
 // The program `desk`: tools over a sheet from standard input, each a command named by the first argument. What is wrong with an
 // argument or a command is said in words on standard error.
 mod arguments;
+mod listed;
 mod played;
 
 use arguments::Decimal;
 ghost use mathlib.Core.Path.{_≡_};
 ghost use Prim.Native.Nat.{min};
 use console::Input;
+use floor::Checked;
 use libc::STDERR_FILENO;
 
 // The commands.
 enum Command {
     // `trial ORDER [SEED]`: plays a trial and prints its report and the routes.
     Trial,
+    // `runs [RANK]`: prints the number of complete runs, then the run of that rank, or all.
+    Runs,
     // No command, or none of that name.
     Unknown,
 }
@@ -21,6 +25,9 @@ enum Command {
 fn command_named(name: &[u8]) -> Command {
     if arguments::same(name, b"trial") {
         return Command::Trial;
+    }
+    if arguments::same(name, b"runs") {
+        return Command::Runs;
     }
     Command::Unknown
 }
@@ -84,13 +91,59 @@ fn trial_command() {
     play(order_of(o), s as u32)
 }
 
+// Says how `runs` is called.
+fn runs_usage() {
+    io::write_all(STDERR_FILENO, b"desk: runs [RANK] < sheet\n");
+}
+
+// Lists the runs of a text that is a sheet, all of them or that of a rank; of any other text prints the line of its refusal.
+fn list_text(text: &[u8], all: bool, rank: u64) {
+    let mut walls = listed::no_walls();
+    let reading = sheet::read(text, &mut walls);
+    let checked = reading.answer;
+    let f = reading.floor;
+    let Checked::Refused(x) = checked else {
+        return listed::list_floor(f, &walls, all, rank);
+    };
+    listed::print_refusal(x)
+}
+
+// Lists the runs of the sheet from standard input.
+fn list_input(all: bool, rank: u64) {
+    let mut space = io::large_buffer();
+    let input = console::read(b"desk: standard input", &mut space);
+    let Input::Read(n) = input else {
+        return;
+    };
+    list_text(&space[..n], all, rank)
+}
+
+// The command `runs`.
+fn runs_command() {
+    if os::arg_count() > 3 {
+        return runs_usage();
+    }
+    if os::arg_count() < 3 {
+        return list_input(true, 0);
+    }
+    let rank = argument(2);
+    let Decimal::Number(r) = rank else {
+        return runs_usage();
+    };
+    list_input(false, r)
+}
+
 fn main() {
     let mut name = io::buffer();
     let n = os::arg(1, &mut name);
     match command_named(&name[..n]) {
         Command::Trial => trial_command(),
+        Command::Runs => runs_command(),
         Command::Unknown => {
-            io::write_all(STDERR_FILENO, b"desk: no such command; commands: trial\n");
+            io::write_all(
+                STDERR_FILENO,
+                b"desk: no such command; commands: trial, runs\n",
+            );
         }
     }
 }

@@ -6,5 +6,6 @@ mod KeepLaws
 mod LentLaws
 mod CallLaws
 mod TrialLaws
+mod RankLaws
 mod ShortLaws
 pub mod Theorems

@@ -10,12 +10,13 @@ use Rattle.reference.specs.Quiet.{ceiling}
 use Rattle.machine.specs.Ceiling.{mostSteps}
 use Rattle.wire.specs.Word.{packed, cappedAt, wordOf, mapOutcome, ofNumber}
 use Rattle.wire.proofs.WordLaws.{capped-same}
-use Rattle.kalomivund.specs.Answers.{ofSearch, answerDone, ofReply, toldDone, stepCase, endCase}
+use Rattle.kalomivund.specs.Answers.{ofSearch, answerDone, ofReply, toldDone, stepCase, endCase, ofRank, figuresDone}
 use Rattle.kalomivund.specs.Entries.{ceilingWord}
 use Rattle.kalomivund.specs.Claims.{Claims}
 use Rattle.kalomivund.proofs.LentLaws.{read-record, read-walls, write-sheet, needed-lengths, search, plan, fresh, print-routes}
 use Rattle.kalomivund.proofs.CallLaws.{step, run}
 use Rattle.kalomivund.proofs.TrialLaws.{trial-state, trial-report}
+use Rattle.kalomivund.proofs.RankLaws.{run-report}
 use Rattle.kalomivund.proofs.ShortLaws.{record-short, read-record-short, route-short, figures-short}
 
 -- A run's number has room in a word.
@@ -25,7 +26,7 @@ run-word c t lc lt = rw (capped-same 255 c (omega arith), capped-same 2814749767
 
 pub theorems : Claims
 unfolding lengthsOf ceilingWord mostSteps ceiling demand within _gives_ ofNumber ofSearch answerDone ofReply toldDone stepCase endCase
-    mapOutcome wordOf packed cappedAt
+    ofRank figuresDone mapOutcome wordOf packed cappedAt
 theorems =
     record {
       read-record = read-record;
@@ -39,6 +40,7 @@ theorems =
       run = run;
       trial-state = trial-state;
       trial-report = trial-report;
+      run-report = run-report;
       print-routes = print-routes;
       record-short = λ f. record-short;
       read-record-short = read-record-short;
@@ -51,6 +53,7 @@ theorems =
       spent-word = λ t l. run-word 1 t (omega arith) l;
       ended-word = λ t l. run-word 2 t (omega arith) l;
       trial-word = λ t l. run-word 0 t (omega arith) l ∙ zero-add (65536 * t);
+      run-word = refl;
       none-word = refl;
       route-word = λ r. refl;
       early-word = refl;
@@ -58,5 +61,7 @@ theorems =
       order-word = refl;
       empty-word = refl;
       full-word = refl;
+      small-word = refl;
+      rank-word = refl;
       ceiling-words = (refl, refl, refl);
     }

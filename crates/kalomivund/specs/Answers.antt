@@ -9,6 +9,7 @@ use Rattle.lengths.specs.declared.Lengths.{Lengths}
 use Rattle.reference.specs.Take.{StepAnswer, kept, sent, delivered}
 use Rattle.reference.specs.Ending.{Ending, silent, spent, ended}
 use Rattle.reference.specs.Calls.{Told, Reply, stepped, ran}
+use Rattle.lister.specs.Entry.{Figures}
 use Rattle.wire.specs.Word.{Done, done, mapOutcome}
 
 -- A search: case 0 none, case 1 a route.
@@ -47,3 +48,10 @@ toldDone (ran t e) = done (endCase e) t
 
 unfoldable pub ofReply : Reply → Outcome Done
 ofReply o = mapOutcome toldDone o
+
+-- The run of a rank: the case is how many steps it has, the number how many runs there are.
+unfoldable pub figuresDone : Figures → Done
+figuresDone x = done (x .steps) (x .runs)
+
+unfoldable pub ofRank : Outcome Figures → Outcome Done
+ofRank o = mapOutcome figuresDone o

@@ -17,12 +17,12 @@ use Rattle.reference.specs.Ending.{silent, spent, ended}
 use Rattle.reference.specs.Calls.{stepped, ran}
 use Rattle.wire.specs.Word.{wordOf, ofNumber}
 use Rattle.wire.specs.Record.{floorOf, recordLent}
-use Rattle.kalomivund.specs.Answers.{ofSearch, ofReply}
+use Rattle.kalomivund.specs.Answers.{ofSearch, ofReply, ofRank}
 use Rattle.kalomivund.specs.Entries.{readLent, readWord, readRecord, readStored, writeWord, writeStored}
 use Rattle.kalomivund.specs.Entries.{neededVerdict, neededWord, neededStored, searchLent, searchWord, searchStored}
 use Rattle.kalomivund.specs.Entries.{planWord, planStored, printWord, printStored, freshWord, freshStored}
 use Rattle.kalomivund.specs.Entries.{stepWord, stepStored, runWord, runStored, ceilingWord}
-use Rattle.kalomivund.specs.Entries.{trialWord, trialStateStored, trialReportStored}
+use Rattle.kalomivund.specs.Entries.{trialWord, trialStateStored, trialReportStored, rankWord, rankStored}
 
 -- A word says refused: its low byte is 1.
 abbrev pub Refuses : ℕ → Type 0
@@ -52,6 +52,8 @@ pub record Claims : Type 0 where
       (trialWord xs ws order seed (length m) report) (trialStateStored xs ws order seed m report) m
   pub trial-report : (xs ws : List ℕ) (order seed state : ℕ) (m : List ℕ) → Lent (lengthsOf (floorOf xs) .report)
       (trialWord xs ws order seed state (length m)) (trialReportStored xs ws order seed state m) m
+  pub run-report : (xs ws : List ℕ) (rank : ℕ) (m : List ℕ) → Lent (lengthsOf (floorOf xs) .report)
+      (rankWord xs ws rank (length m)) (rankStored xs ws rank m) m
   -- Text memory: the floor's figure for an accepted sheet, 16 bytes for a refused one (`neededFor`).
   pub print-routes : (text old : List ℕ) → Lent (neededFor text) (printWord text (length old)) (printStored text old) old
   -- A floor record is called too short exactly below its figure: as input before all else, as output of `kalomivund_read_sheet` where
@@ -74,10 +76,14 @@ pub record Claims : Type 0 where
   pub trial-word : (t : ℕ) → t ≤ 65535 → wordOf (ofNumber (value t)) ≡ 65536 * t
   pub none-word : wordOf (ofSearch (value none)) ≡ 0
   pub route-word : (r : List ℕ) → wordOf (ofSearch (value (route r))) ≡ 256
-  -- Refusal 8, 0; 9, 0; 11, 0; 12, carrier 2; 13, carrier 3; the ceiling of three carriers, 11; refusal 2, field 5, of none and of nine.
+  -- The run of a rank: 256 times its steps, with the total from bit 16 on; a two-carrier floor's first run.
+  pub run-word : wordOf (ofRank (value (record { runs = 3; steps = 4 }))) ≡ 256 * 4 + 65536 * 3
+  -- Refusal 8, 0; 9, 0; 11, 0; 12, carrier 2; 13, carrier 3; 14, 0; 15, 0; the ceiling of three carriers, 11; refusal 2, field 5, of none and of nine.
   pub early-word : wordOf (refusal 8 0) ≡ 1 + 256 * 8
   pub short-word : wordOf (refusal 9 0) ≡ 1 + 256 * 9
   pub order-word : wordOf (refusal 11 0) ≡ 1 + 256 * 11
   pub empty-word : wordOf (refusal 12 2) ≡ 1 + 256 * 12 + 65536 * 2
   pub full-word : wordOf (refusal 13 3) ≡ 1 + 256 * 13 + 65536 * 3
+  pub small-word : wordOf (refusal 14 0) ≡ 1 + 256 * 14
+  pub rank-word : wordOf (refusal 15 0) ≡ 1 + 256 * 15
   pub ceiling-words : (ceilingWord 3 ≡ 65536 * 11) × (ceilingWord 0 ≡ 1 + 256 * 2 + 65536 * 5) × (ceilingWord 9 ≡ 1 + 256 * 2 + 65536 * 5)

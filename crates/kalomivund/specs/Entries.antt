@@ -18,9 +18,10 @@ use Rattle.planner.specs.Records.{planMemory}
 use Rattle.layout.specs.Calls.{placeVerdict, freshMemory, replyTo, memoryAfter, singleCall, runCall}
 use Rattle.machine.specs.Ceiling.{mostSteps}
 use Rattle.trial.specs.Entry.{trialOutcome, stateTried, reportTried}
+use Rattle.lister.specs.Entry.{rankOutcome, reportListed}
 use Rattle.wire.specs.Word.{Done, wordOf, ofNumber}
 use Rattle.wire.specs.Record.{floorOf, numbersOf, recordLent}
-use Rattle.kalomivund.specs.Answers.{ofSearch, routeStored, figureList, ofReply}
+use Rattle.kalomivund.specs.Answers.{ofSearch, routeStored, figureList, ofReply, ofRank}
 
 -- The word of a call with a floor record of enough numbers; 9, 0 of one with fewer.
 unfoldable pub wordFor : List ℕ → Outcome Done → ℕ
@@ -126,3 +127,10 @@ trialStateStored xs ws order seed m report = storedFor xs (stateTried (floorOf x
 
 unfoldable pub trialReportStored : List ℕ → List ℕ → (order seed state : ℕ) → List ℕ → List ℕ
 trialReportStored xs ws order seed state m = storedFor xs (reportTried (floorOf xs) ws order seed state m) m
+
+-- `kalomivund_run_of_rank`: the word with the steps of the run and the total, and the report memory.
+unfoldable pub rankWord : List ℕ → List ℕ → (rank report : ℕ) → ℕ
+rankWord xs ws rank report = wordFor xs (ofRank (rankOutcome (floorOf xs) ws rank report))
+
+unfoldable pub rankStored : List ℕ → List ℕ → (rank : ℕ) → List ℕ → List ℕ
+rankStored xs ws rank m = storedFor xs (reportListed (floorOf xs) ws rank m) m

@@ -5,8 +5,10 @@ ghost use Rattle.printing.specs.Print.{outcomeOf};
 ghost use Rattle.machine.specs.Answers.{steppedReply, ranReply};
 ghost use Rattle.machine.specs.Ceiling.{figureOf};
 ghost use Rattle.trial.specs.Entry.{triedOutcome};
+ghost use Rattle.lister.specs.Entry.{listedOutcome};
 ghost use Rattle.wire.specs.Word.{wordOf, ofNumber};
-ghost use Rattle.kalomivund.specs.Answers.{ofReply};
+ghost use Rattle.kalomivund.specs.Answers.{ofReply, ofRank};
+use lister::Listed;
 use machine::Most;
 use machine::Ran;
 use machine::Stepped;
@@ -77,5 +79,15 @@ pub fn of_trial(x: Tried) -> u64
     match x {
         Tried::Steps(n) => done(0, n),
         Tried::Refused(r) => refused(r),
+    }
+}
+
+// The word of the run of a rank.
+pub fn of_listed(x: Listed) -> u64
+    ensures { λ r. ⌜ r ≡ wordOf (ofRank (listedOutcome x)) ⌝ }
+{
+    match x {
+        Listed::Run { total, steps } => done(steps, total as usize),
+        Listed::Refused(r) => refused(r),
     }
 }

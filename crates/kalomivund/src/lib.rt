@@ -18,6 +18,7 @@ ghost use Rattle.kalomivund.specs.Entries.{neededWord, neededStored, sea
 ghost use Rattle.kalomivund.specs.Entries.{printWord, printStored, freshWord, freshStored, stepWord, stepStored};
 ghost use Rattle.kalomivund.specs.Entries.{runWord, runStored, ceilingWord};
 ghost use Rattle.kalomivund.specs.Entries.{trialWord, trialStateStored, trialReportStored};
+ghost use Rattle.kalomivund.specs.Entries.{rankWord, rankStored};
 use floor::Checked;
 use floor::Floor;
 use lengths::Lengths;
@@ -250,4 +251,21 @@ pub extern "C" fn kalomivund_trial(
         return word::too_short();
     }
     answers::of_trial(trial::trial(numbers::floor_of(f), walls, order, seed, state, report))
+}
+
+// The complete run of a rank, from 0, of a floor of at most three carriers, and how many runs there are.
+#[no_mangle]
+pub extern "C" fn kalomivund_run_of_rank(
+    f: &[u16],
+    walls: &[u16],
+    rank: u64,
+    report: &mut [u16],
+) -> u64
+    ensures says { λ r. ⌜ r ≡ rankWord (now (f .entry)) (now (walls .entry)) rank (length (now (report .entry))) ⌝ }
+    ensures reports { λ r. ⌜ now (report .exit) ≡ rankStored (now (f .entry)) (now (walls .entry)) rank (now (report .entry)) ⌝ }
+{
+    if f.len() < 22 {
+        return word::too_short();
+    }
+    answers::of_listed(lister::run_of_rank(numbers::floor_of(f), walls, rank, report))
 }

@@ -49,7 +49,7 @@ module _ (f : Floor) (ws : List ℕ) (ok : checkOf f ws ≡ passed) (s : State) 
   whole : Throughout (f .carriers) Whole s
   whole = throughout-more (f .carriers) (sound-whole f) s (fits .parts)
 
-  step-fits : (x : Step) → isOpen M s x ≡ true → WithinRanges f (afterStep M s x)
+  pub step-fits : (x : Step) → isOpen M s x ≡ true → WithinRanges f (afterStep M s x)
   unfolding machineOf
   step-fits x e =
       let range = step-in-range M s in-range x e in
@@ -59,12 +59,12 @@ module _ (f : Floor) (ws : List ℕ) (ok : checkOf f ws ≡ passed) (s : State) 
         parts = step-throughout (f .carriers) (Sound f) M (respond-sound f ws ok) s (fits .parts) x;
       }
 
-  step-stores : (rest : List ℕ) (x : Step) → isOpen M s x ≡ true →
+  pub step-stores : (rest : List ℕ) (x : Step) → isOpen M s x ≡ true →
       afterIn M (encode (f .carriers) s ++ rest) x ≡ encode (f .carriers) (afterStep M s x) ++ rest
   unfolding machineOf
   step-stores rest x e = after-same M (storable f ws ok) s in-range whole rest x e
 
-  step-says : (rest : List ℕ) (x : Step) → isOpen M s x ≡ true → saidIn M (encode (f .carriers) s ++ rest) x ≡ stepAnswer M s x
+  pub step-says : (rest : List ℕ) (x : Step) → isOpen M s x ≡ true → saidIn M (encode (f .carriers) s ++ rest) x ≡ stepAnswer M s x
   unfolding machineOf
   step-says rest x e = said-same M (storable f ws ok) s in-range whole rest x e
 

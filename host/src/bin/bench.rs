@@ -494,6 +494,42 @@ fn sheets(all: &[Lent], rounds: usize) {
     }
 }
 
+// ---- Every run of a small floor ----
+
+/// Three carriers far from each other, whose answers stay, and three of which the first two come nose to nose.
+fn small_floors() -> Vec<(&'static str, usize, Floor)> {
+    let apart = floor(32, 32, 63, &[((0, 0), (31, 0)), ((0, 15), (31, 15)), ((0, 31), (31, 31))]);
+    let meeting = floor(32, 32, 63, &[((0, 15), (31, 15)), ((31, 15), (0, 15)), ((0, 31), (31, 31))]);
+    [("answers stay", apart), ("carrier 2 changes its answer", meeting)]
+        .into_iter()
+        .flat_map(|(name, floor)| [1, 2, 4].map(|depth| (name, depth, Floor { depth, ..floor.clone() })))
+        .collect()
+}
+
+/// A call finds the run of one rank and counts them all, so every rank costs a walk over all runs.
+fn listing(rounds: usize) {
+    println!("\nEvery run of a small floor, microseconds: best (median)\n");
+    println!("| floor, 32 by 32, horizon 63, 3 carriers | depth | runs | the run of a rank | a run of the walk, nanoseconds | all ranks, one call each, seconds |");
+    println!("|---|---|---|---|---|---|");
+    for (name, depth, floor) in small_floors() {
+        let (record, walls) = bits::numbers(&floor);
+        let mut report = [0; 22];
+        let total = done(calls::run_of_rank(&record, &walls, 0, &mut report), "run_of_rank");
+        let times = measure(
+            rounds,
+            &mut [&mut || {
+                black_box(calls::run_of_rank(black_box(&record), &walls, total - 1, &mut report));
+            }],
+        );
+        println!(
+            "| {name} | {depth} | {total} | {} | {:.0} | {:.2} |",
+            micro(times[0]),
+            times[0].best / total as f64,
+            times[0].best * total as f64 / 1e9
+        );
+    }
+}
+
 fn main() {
     let rounds = std::env::args().nth(1).map_or(15, |word| word.parse().expect("a number of rounds"));
     let all: Vec<Lent> = floors().into_iter().map(|(name, floor)| Lent::of(name, floor)).collect();
@@ -505,4 +541,5 @@ fn main() {
     plans(&all, rounds);
     machine(&all, rounds);
     sheets(&all, rounds);
+    listing(rounds);
 }

@@ -1,13 +1,15 @@
 //! Compares the library with `paper.rs`, an independent implementation of document 01: answer words, and every number of lent memory,
 //! also outside the part that is lent. Seeds are fixed; a case that fails is printed with the command that replays it.
 //!
-//!     compare                          everything: 100,000 sheets, 20,000 lists of calls, 10,000 trials
+//!     compare                          everything: 100,000 sheets, 20,000 lists of calls, 10,000 trials, runs of 400 floors
 //!     compare sheets FROM COUNT        some of the sheets, by their seeds
 //!     compare lists FROM COUNT         some of the lists
 //!     compare trials FROM COUNT        some of the trials
+//!     compare ranks FROM COUNT         some of the floors whose runs are listed
 //!     compare sheet SEED               one case, each call printed with its answer
 //!     compare list SEED
 //!     compare trial SEED
+//!     compare rank SEED
 
 #[path = "../draw.rs"]
 mod draw;
@@ -23,6 +25,8 @@ use std::time::Instant;
 const SHEETS: u64 = 100_000;
 const LISTS: u64 = 20_000;
 const TRIALS: u64 = 10_000;
+/// The floors whose runs are listed.
+const RANKS: u64 = 400;
 
 // ---- Lent memory and calls ----
 
@@ -83,6 +87,7 @@ enum Call {
     Step { floor: Lent<u16>, walls: Lent<u16>, state: Lent<u16>, step: u16 },
     Run { floor: Lent<u16>, walls: Lent<u16>, state: Lent<u16>, steps: Lent<u16>, budget: u16 },
     Trial { floor: Lent<u16>, walls: Lent<u16>, order: u16, seed: u32, state: Lent<u16>, report: Lent<u16> },
+    RunOfRank { floor: Lent<u16>, walls: Lent<u16>, rank: u64, report: Lent<u16> },
     Ceiling { carriers: u16 },
 }
 
@@ -128,6 +133,9 @@ impl Call {
             Call::Trial { floor, walls, order, seed, state, report } => {
                 entry!(who, trial(floor.part(), walls.part(), *order, *seed, state.part_mut(), report.part_mut()))
             }
+            Call::RunOfRank { floor, walls, rank, report } => {
+                entry!(who, run_of_rank(floor.part(), walls.part(), *rank, report.part_mut()))
+            }
             Call::Ceiling { carriers } => entry!(who, ceiling(*carriers)),
         }
     }
@@ -145,6 +153,7 @@ impl Call {
             Call::Step { .. } => "step",
             Call::Run { .. } => "run",
             Call::Trial { .. } => "trial",
+            Call::RunOfRank { .. } => "run_of_rank",
             Call::Ceiling { .. } => "ceiling",
         }
     }
@@ -174,6 +183,9 @@ impl Call {
             }
             Call::Trial { floor: f, walls: w, order, seed, state, report } => {
                 format!("{} order {order} seed {seed} state of {} report of {}", floor(f, w), state.length, report.length)
+            }
+            Call::RunOfRank { floor: f, walls: w, rank, report } => {
+                format!("{} rank {rank} report of {}", floor(f, w), report.length)
             }
             Call::Ceiling { carriers } => format!("{carriers}"),
         }
@@ -249,6 +261,7 @@ impl Tally {
             ("step", vec![0, 1, 2], with(&[7, 8, 10, 12, 13])),
             ("run", vec![0, 1, 2], with(&[7, 10])),
             ("trial", vec![0], with(&[11])),
+            ("run_of_rank", vec![1, 3, 4, 6, 7, 8, 9, 10, 11], with(&[14, 15])),
             ("ceiling", vec![0], vec![2]),
         ];
         let mut keys = Vec::new();
@@ -293,6 +306,7 @@ fn numbers(call: &Call) -> Vec<u64> {
         Call::Step { floor, walls, state, .. } => [wide(floor), wide(walls), wide(state)].concat(),
         Call::Run { floor, walls, state, steps, .. } => [wide(floor), wide(walls), wide(state), wide(steps)].concat(),
         Call::Trial { floor, walls, state, report, .. } => [wide(floor), wide(walls), wide(state), wide(report)].concat(),
+        Call::RunOfRank { floor, walls, report, .. } => [wide(floor), wide(walls), wide(report)].concat(),
         Call::Ceiling { .. } => Vec::new(),
     }
 }
@@ -746,6 +760,51 @@ fn trial_case(seed: u64, tally: &mut Tally) {
     tally.compare(Call::Trial { floor: record, walls, order, seed, state, report });
 }
 
+/// The runs of a floor, at most three carriers as a rule: every rank of a small total and 40 of a large one, ranks not below the total,
+/// memory too short and spoilt floors included.
+fn rank_case(seed: u64, tally: &mut Tally) {
+    let draw = &mut Draw(seed.wrapping_mul(0x9e37_79b9_7f4a_7c15) ^ 0x6a6e);
+    let mut floor = draw_floor(draw, 5);
+    let most = draw.of(&[1, 2, 2, 3, 3, 3, 3, 3, 3, 8]);
+    floor.starts.truncate(most);
+    floor.goals.truncate(most);
+    let n = floor.carriers();
+    let (mut record, mut walls) = draw_record(draw, &floor);
+    if draw.percent(10) && record.len() >= 22 && walls.len() >= floor.walls.len() {
+        spoil_record(draw, &mut record, &mut walls, &floor);
+    }
+    let margin = draw.next() as u16;
+    let needed = 2 * ((2 << n) - n - 2);
+    let (record, walls) = (Lent::of(&record, margin), Lent::of(&walls, margin));
+    let call = |rank: u64, report: Lent<u16>| Call::RunOfRank { floor: record.clone(), walls: walls.clone(), rank, report };
+    let length = about(draw, needed);
+    let short = junk(draw, length);
+    let any = draw.next();
+    tally.compare(call(any, short));
+    let (word, _) = tally.compare(call(0, Lent::of(&vec![7; needed], margin)));
+    if word & 255 != 0 {
+        return;
+    }
+    let total = word >> 16;
+    let step = 1 + total / 40;
+    for rank in (0..total).step_by(step as usize).chain([total - 1, total, total + 1, u64::MAX]) {
+        let report = junk(draw, needed);
+        tally.compare(call(rank, report));
+    }
+}
+
+/// Every rank of a floor of three carriers, the shortest run of six steps and the first rank that is refused among them.
+fn all_ranks(tally: &mut Tally) {
+    tally.replay = "".into();
+    let (starts, goals) = (vec![0, 8, 16], vec![7, 15, 23]);
+    let floor = Floor { width: 8, height: 3, horizon: 10, depth: 1, starts, goals, walls: Vec::new() };
+    let (record, walls) = (Lent::of(&paper::record_of(&floor), 7), Lent::of(&[0u16; 0], 7));
+    for rank in 0..=495u64 {
+        let report = Lent::of(&[9u16; 22], 7);
+        tally.compare(Call::RunOfRank { floor: record.clone(), walls: walls.clone(), rank, report });
+    }
+}
+
 /// The ceiling of every number of carriers.
 fn ceilings(tally: &mut Tally) {
     tally.replay = "".into();
@@ -766,20 +825,22 @@ fn main() {
     let whole = words.is_empty();
     let mut tally = Tally::default();
     let none = (1, 0);
-    let (sheets, lists, trials) = match words[..] {
-        [] => ((1, SHEETS), (1, LISTS), (1, TRIALS)),
-        ["sheets", from, count] => ((number(from), number(count)), none, none),
-        ["lists", from, count] => (none, (number(from), number(count)), none),
-        ["trials", from, count] => (none, none, (number(from), number(count))),
-        ["sheet", seed] => ((number(seed), 1), none, none),
-        ["list", seed] => (none, (number(seed), 1), none),
-        ["trial", seed] => (none, none, (number(seed), 1)),
+    let (sheets, lists, trials, ranks) = match words[..] {
+        [] => ((1, SHEETS), (1, LISTS), (1, TRIALS), (1, RANKS)),
+        ["sheets", from, count] => ((number(from), number(count)), none, none, none),
+        ["lists", from, count] => (none, (number(from), number(count)), none, none),
+        ["trials", from, count] => (none, none, (number(from), number(count)), none),
+        ["ranks", from, count] => (none, none, none, (number(from), number(count))),
+        ["sheet", seed] => ((number(seed), 1), none, none, none),
+        ["list", seed] => (none, (number(seed), 1), none, none),
+        ["trial", seed] => (none, none, (number(seed), 1), none),
+        ["rank", seed] => (none, none, none, (number(seed), 1)),
         _ => {
-            eprintln!("usage: compare [sheets FROM COUNT | lists FROM COUNT | trials FROM COUNT | sheet SEED | list SEED | trial SEED]");
+            eprintln!("usage: compare [sheets | lists | trials | ranks FROM COUNT] | [sheet | list | trial | rank SEED]");
             exit(2);
         }
     };
-    tally.verbose = matches!(words[..], ["sheet" | "list" | "trial", _]);
+    tally.verbose = matches!(words[..], ["sheet" | "list" | "trial" | "rank", _]);
     let begin = Instant::now();
     let mut accepted = 0;
     for seed in sheets.0..sheets.0 + sheets.1 {
@@ -796,16 +857,24 @@ fn main() {
         tally.replay = format!("trial {seed}");
         trial_case(seed, &mut tally);
     }
+    let by_trials = tally.calls;
+    for seed in ranks.0..ranks.0 + ranks.1 {
+        tally.replay = format!("rank {seed}");
+        rank_case(seed, &mut tally);
+    }
+    let by_ranks = tally.calls - by_trials;
     if whole {
+        all_ranks(&mut tally);
         ceilings(&mut tally);
     }
     tally.print();
     println!(
-        "compare: {} sheets ({accepted} read, {by_sheets} calls), {} lists ({by_lists} calls), {} trials, {} calls in all: library and \
-         paper agree, in {:.1} s",
+        "compare: {} sheets ({accepted} read, {by_sheets} calls), {} lists ({by_lists} calls), {} trials, the runs of {} floors \
+         ({by_ranks} calls), {} calls in all: library and paper agree, in {:.1} s",
         sheets.1,
         lists.1,
         trials.1,
+        ranks.1,
         tally.calls,
         begin.elapsed().as_secs_f64()
     );

@@ -1,5 +1,5 @@
 //! The routes program over `paper.rs` alone: a sheet on standard input, its routes on standard output; with the arguments
-//! `trial ORDER SEED` the text of a trial. It needs no archive.
+//! `trial ORDER SEED` the text of a trial, with `runs [RANK]` that of the complete runs. It needs no archive.
 //! Its tests (`cargo test --bin paper`) hold `paper.rs` to document 01's twelve floors, its search to a search of all routes, and the
 //! benchmark's other planners to `paper.rs`.
 
@@ -24,6 +24,8 @@ fn main() -> std::io::Result<()> {
     let number = |k: usize| words.get(k).and_then(|w| w.parse().ok()).unwrap_or(0u64);
     let out = if words.first().map(String::as_str) == Some("trial") {
         paper::print_trial(&text, number(1), number(2) as u32)
+    } else if words.first().map(String::as_str) == Some("runs") {
+        paper::print_runs(&text, (words.len() > 1).then(|| number(1)))
     } else {
         paper::print_routes(&text)
     };
@@ -87,6 +89,22 @@ mod tests {
         assert_eq!(text, report.to_string() + &paper::print_routes(SHEET.as_bytes()));
         assert_eq!(paper::print_trial(SHEET.as_bytes(), 4, 0), "    0   11    0\n");
         assert_eq!(paper::print_trial(b"", 4, 0), "    0    1    0\n");
+    }
+
+    /// Document 02, slip 6: the three runs of two carriers; the totals of three, by depth and by whether carrier 2's answer changes on
+    /// hearing carrier 1.
+    #[test]
+    fn runs() {
+        let three = "3\n0 101 102 212 102\n1 101 212 102\n2 102 101 212 102\n";
+        assert_eq!(paper::print_runs(SHEET.as_bytes(), None), three);
+        assert_eq!(paper::print_runs(SHEET.as_bytes(), Some(1)), "3\n1 101 212 102\n");
+        assert_eq!(paper::print_runs(SHEET.as_bytes(), Some(3)), "    0   15    0\n");
+        assert_eq!(paper::print_runs(b"", None), "    0    1    0\n");
+        let total = |depth, pairs: &[(usize, usize)]| paper::runs(&bare(8, 3, 10, depth, pairs)).len();
+        let (apart, crossing) = ([(0, 7), (8, 15), (16, 23)], [(0, 7), (7, 0), (16, 23)]);
+        assert_eq!([total(1, &apart), total(2, &apart), total(4, &apart)], [495, 620, 620]);
+        assert_eq!([total(1, &crossing), total(2, &crossing), total(4, &crossing)], [888, 1186, 1186]);
+        assert_eq!(total(1, &[(0, 1)]), 1);
     }
 
     #[test]

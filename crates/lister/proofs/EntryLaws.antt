@@ -1,0 +1,270 @@
+-- What passed checks of the lister tell, and what is in the one line of a window after a listing.
+use Prim.Native.Nat.{ℕ, zero, suc, _+_, _*_, _-_, _/_, _≤_, _<_}
+use native.Mathlib.Omega.{arith}
+use native.Mathlib.Nat.{eq-or-lt-of-le}
+use mathlib.Core.Bool.{true, false}
+use mathlib.Core.List.{List, [], _∷_, _++_}
+use mathlib.Core.Logic.{⊎-elim}
+use mathlib.Core.Path.{_≡_, refl, sym, _∙_, ap}
+use lib.Dec.{leb, ltb}
+use lib.ListN.{length, getD, take, drop, set}
+use lib.Seq.{take-at}
+use borrow.Author.Tests.{leb-true, lt-ltb, le-ltb}
+use Rattle.laws.specs.Verdict.{Outcome, value, refusal, passed, refused, _then_, demand, _gives_, whenPassed}
+use Rattle.laws.specs.Memory.{put}
+use Rattle.laws.proofs.PutLaws.{put-length, copy-start, copy-more, copy-keeps, copy-end}
+use Rattle.laws.proofs.VerdictLaws.{then-both, then-passed, demand-holds, demand-passes, gives-passed, gives-refused, when-passed, when-refused}
+use Rattle.floor.specs.declared.Floor.{Floor}
+use Rattle.floor.specs.Checks.{checkOf, roomOf}
+use Rattle.floor.proofs.LimitsLaws.{room-passed}
+use Rattle.floor.proofs.Theorems.{theorems as floor-theorems}
+use Rattle.reference.specs.State.{Machine, State, fresh}
+use Rattle.reference.specs.Take.{afterStep}
+use Rattle.layout.specs.Places.{pairsBefore, stateSize}
+use Rattle.layout.specs.Calls.{machineOf}
+use Rattle.search.specs.Rows.{FreeRows}
+use Rattle.steps.specs.Inner.{Placed}
+use Rattle.orders.specs.Trial.{Entry}
+use Rattle.trial.specs.Report.{numbersOf, reportSize}
+use Rattle.trial.proofs.ReportLaws.{numbers-length}
+use Rattle.listing.specs.Runs.{Run, runsOf, total, runAt, reportFrom}
+use Rattle.listing.proofs.Theorems.{theorems as listing-theorems}
+use Rattle.reference.specs.Quiet.{ceiling}
+use Rattle.lister.specs.Lines.{written, listedFrom}
+use Rattle.lister.specs.Entry.{totalOf, runOf, smallVerdict, listVerdict, rankVerdict, Figures, rankOutcome, runNumbers, reportListed}
+use Rattle.lister.specs.declared.node.Node.{Node}
+use Rattle.lister.specs.Inner.{Rooted, Branch}
+use Rattle.lister.proofs.SameLaws.{ceiling-few}
+use Rattle.lister.proofs.LineLaws.{written-before, written-behind, written-there}
+
+-- What passed checks tell: an accepted floor, room for the report, three carriers at most.
+pub record Small (f : Floor) (ws : List ℕ) (report : ℕ) : Type 0 where
+  pub checked : checkOf f ws ≡ passed
+  pub wide : reportSize (f .carriers) ≤ report
+  pub few : f .carriers ≤ 3
+
+pub small-tells : (f : Floor) (ws : List ℕ) (report : ℕ) → smallVerdict f ws report ≡ passed → Small f ws report
+unfolding smallVerdict
+small-tells f ws report h =
+    let a = then-both _ _ h in
+    let b = then-both _ _ (a .1) in
+    record {
+      checked = a .0;
+      wide = room-passed _ _ (b .0);
+      few = leb-true (f .carriers) 3 (demand-holds (leb (f .carriers) 3) 14 0 (b .1));
+    }
+
+-- The needed length of a report as the code computes it.
+pub report-asked : (n most report : ℕ) → most ≡ ceiling n → roomOf (2 * most) report ≡ roomOf (reportSize n) report
+unfolding reportSize
+report-asked n most report e = rw e
+
+pub list-tells : (f : Floor) (ws : List ℕ) → listVerdict f ws ≡ passed → (checkOf f ws ≡ passed) × (f .carriers ≤ 3)
+unfolding listVerdict
+list-tells f ws h =
+    let a = then-both _ _ h in (a .0, leb-true (f .carriers) 3 (demand-holds (leb (f .carriers) 3) 14 0 (a .1)))
+
+-- The report of a run has an entry a step.
+entries : (M : Machine) (s : State) (ys : Run) → length (reportFrom M s ys) ≡ length ys
+unfolding reportFrom
+entries M s [] = refl
+entries M s (y ∷ ys) = ap suc (entries M (afterStep M s y) ys)
+
+pub report-length : (M : Machine) (xs : Run) → length (numbersOf (reportFrom M fresh xs)) ≡ 2 * length xs
+report-length M xs = numbers-length (reportFrom M fresh xs) ∙ ap (λ (k : ℕ). 2 * k) (entries M fresh xs)
+
+-- A window of one line: it gets the run of its rank.
+module _ (M : Machine) where
+  abbrev Numbers : Run → List ℕ
+  Numbers xs = numbersOf (reportFrom M fresh xs)
+
+  one : (lines : List ℕ) → length lines ≡ 23 → length lines / 23 ≡ 1
+  one lines e = rw e refl
+
+  -- Runs behind the window's rank are not written.
+  lines-behind : (first rank : ℕ) (rs : List Run) (lines : List ℕ) → length lines ≡ 23 → first < rank → listedFrom M first rank rs lines ≡ lines
+  unfolding listedFrom
+  lines-behind first rank [] lines long l = refl
+  lines-behind first rank (xs ∷ rs) lines long l =
+      ap (listedFrom M first (suc rank) rs)
+      (sym (written-behind first rank (length xs) (Numbers xs) lines (omega arith) (omega (arith, one lines long))))
+      ∙ lines-behind first (suc rank) rs lines long (omega arith)
+
+  pub lines-one : (first rank : ℕ) (rs : List Run) (lines : List ℕ) → length lines ≡ 23 → rank ≤ first → first - rank < length rs →
+      length (getD rs (first - rank) []) ≤ 11 →
+      listedFrom M first rank rs lines ≡ put lines 0 (length (getD rs (first - rank) []) ∷ Numbers (getD rs (first - rank) []))
+  unfolding listedFrom
+  lines-one first rank [] lines long l h few = absurd (omega arith)
+  lines-one first rank (xs ∷ rs) lines long l h few =
+      ⊎-elim (λ (e : rank ≡ first). here e)
+      (λ (k : rank < first).
+      let less : first - rank ≡ suc (first - suc rank) = omega arith in
+      ap (listedFrom M first (suc rank) rs) (sym (written-before first rank (length xs) (Numbers xs) lines k))
+      ∙ lines-one first (suc rank) rs lines long (omega arith) (omega arith) (rw less at few)
+      ∙ rw less refl)
+      (eq-or-lt-of-le l)
+    where
+      here : rank ≡ first → listedFrom M first (suc rank) rs (written first rank (length xs) (Numbers xs) lines) ≡
+          put lines 0 (length (getD (xs ∷ rs) (first - rank) []) ∷ Numbers (getD (xs ∷ rs) (first - rank) []))
+      here e =
+          let none : first - rank ≡ 0 = omega arith in
+          let zeroth : 23 * (rank - first) ≡ 0 = omega arith in
+          let there = written-there first rank (length xs) (Numbers xs) lines (omega arith) (omega (arith, one lines long)) in
+          let stays : length (put lines 0 (length xs ∷ Numbers xs)) ≡ 23 =
+          put-length lines (length xs ∷ Numbers xs) 0 (omega (arith, report-length M xs, rw none at few)) ∙ long
+          in
+          ap (listedFrom M first (suc rank) rs) (there ∙ ap (λ (at : ℕ). put lines at (length xs ∷ Numbers xs)) zeroth)
+          ∙ lines-behind first (suc rank) rs (put lines 0 (length xs ∷ Numbers xs)) stays (omega arith)
+          ∙ rw none refl
+
+-- The state of three carriers has 1,181 numbers.
+pub state-small : (n : ℕ) → n ≤ 3 → stateSize n ≤ 1181
+unfolding stateSize pairsBefore
+state-small zero l = omega arith
+state-small (suc zero) l = omega arith
+state-small (suc (suc zero)) l = omega arith
+state-small (suc (suc (suc zero))) l = omega arith
+state-small (suc (suc (suc (suc n)))) l = absurd (omega arith)
+
+-- What the walk from the root requires.
+module _ (f : Floor) (ws : List ℕ) (ok : checkOf f ws ≡ passed) (few : f .carriers ≤ 3) where
+  pub root-placed : Placed f ws 1181
+  root-placed = record { accepted = floor-theorems .passes-exactly f ws .0 ok; enough = state-small (f .carriers) few }
+
+  pub root-branch : (rows : List ℕ) (node : Node) (left : ℕ) → Rooted (f .carriers) node → FreeRows f ws rows → left ≡ ceiling (f .carriers) →
+      Branch f ws rows node left
+  root-branch rows node left rooted free e =
+      record {
+        works = record { placed = rw (rooted .long) root-placed; free = free };
+        few = few;
+        short = omega (arith, rooted .none, e, ceiling-few (f .carriers) few);
+      }
+
+-- The line of the run of a rank below the total.
+pub record FoundLine (f : Floor) (ws : List ℕ) (rank : ℕ) (line : List ℕ) : Type 0 where
+  pub steps : getD line 0 0 ≡ length (runOf f ws rank)
+  pub numbers : take (2 * length (runOf f ws rank)) (drop 1 line) ≡ runNumbers f ws rank
+  pub size : length (runNumbers f ws rank) ≡ 2 * length (runOf f ws rank)
+  pub short : length (runOf f ws rank) ≤ ceiling (f .carriers)
+
+pub size-of : (f : Floor) (ws : List ℕ) (rank : ℕ) → length (runNumbers f ws rank) ≡ 2 * length (runOf f ws rank)
+unfolding runNumbers
+size-of f ws rank = report-length (machineOf f ws) (runOf f ws rank)
+
+module _ (f : Floor) (ws : List ℕ) (few : f .carriers ≤ 3) (rank : ℕ) (below : rank < totalOf f ws) where
+  run-short : length (runOf f ws rank) ≤ ceiling (f .carriers)
+  unfolding runOf totalOf machineOf
+  run-short = listing-theorems .within-ceiling (machineOf f ws) rank below
+
+  line-is : (line₀ line : List ℕ) → length line₀ ≡ 23 → line ≡ listedFrom (machineOf f ws) rank 0 (runsOf (machineOf f ws)) line₀ →
+      line ≡ put line₀ 0 (length (runOf f ws rank) ∷ runNumbers f ws rank)
+  unfolding runOf runAt runNumbers totalOf total
+  line-is line₀ line long e =
+      let same : rank - 0 ≡ rank = omega arith in
+      e ∙ rw same at
+      (lines-one (machineOf f ws) rank 0 (runsOf (machineOf f ws)) line₀ long (omega arith) (omega arith)
+      (rw same (omega (arith, run-short, ceiling-few (f .carriers) few))))
+
+  pub found-line : (line₀ line : List ℕ) → length line₀ ≡ 23 →
+      line ≡ listedFrom (machineOf f ws) rank 0 (runsOf (machineOf f ws)) line₀ → FoundLine f ws rank line
+  unfolding put
+  found-line line₀ line long e =
+      let is = line-is line₀ line long e in
+      let sized = size-of f ws rank in
+      record {
+        steps = ap (λ (l : List ℕ). getD l 0 0) is;
+        numbers = ap (λ (l : List ℕ). take (2 * length (runOf f ws rank)) (drop 1 l)) is
+            ∙ take-at (runNumbers f ws rank) (drop (0 + suc (length (runNumbers f ws rank))) line₀) (2 * length (runOf f ws rank)) sized;
+        size = sized;
+        short = run-short;
+      }
+
+-- After t numbers are written in front of a report.
+pub record Writing (report₀ numbers report : List ℕ) (t : ℕ) : Type 0 where
+  pub within : t ≤ length numbers
+  pub stored : report ≡ put report₀ 0 (take t numbers)
+
+module _ (report₀ numbers : List ℕ) where
+  pub writing-start : Writing report₀ numbers report₀ 0
+  writing-start = record { within = omega arith; stored = copy-start report₀ numbers 0 }
+
+  module _ (room : length numbers ≤ length report₀) {report : List ℕ} {t : ℕ} (w : Writing report₀ numbers report t) where
+    pub writing-keeps : length report ≡ length report₀
+    writing-keeps = copy-keeps report₀ report numbers 0 t (w .stored) (w .within) (omega arith)
+
+    pub writing-more : t < length numbers → Writing report₀ numbers (set report t (getD numbers t 0)) (t + 1)
+    writing-more l =
+        let same : 0 + t ≡ t = omega arith in
+        record { within = omega arith; stored = rw same at (copy-more report₀ report numbers 0 t (w .stored) l (omega arith)) }
+
+    pub writing-end : length numbers ≤ t → report ≡ put report₀ 0 numbers
+    writing-end l = copy-end report₀ report numbers 0 t (w .stored) l
+
+-- The numbers of a line behind its first, as the code takes them.
+pub part-is : (report report′ line : List ℕ) (k : ℕ) → report′ ≡ put report 0 (take (2 * k + 1 - 1) (drop 1 line)) →
+    report′ ≡ put report 0 (take (2 * k) (drop 1 line))
+part-is report report′ line k e =
+    let less : 2 * k + 1 - 1 ≡ 2 * k = omega arith in e ∙ ap (λ (n : ℕ). put report 0 (take n (drop 1 line))) less
+
+-- A rank is below the total that the code counted, or not.
+pub not-below : {all total rank : ℕ} → all ≡ total → all ≤ rank → total ≤ rank
+not-below e l = omega arith
+
+pub is-below : {all total rank : ℕ} → all ≡ total → rank < all → rank < total
+is-below e l = omega arith
+
+-- The entry on a small floor, by whether the rank is below the total.
+module _ (f : Floor) (ws : List ℕ) (rank : ℕ) (m : List ℕ) (ok : smallVerdict f ws (length m) ≡ passed) where
+  module _ (beyond : totalOf f ws ≤ rank) where
+    no-run : rankVerdict f ws rank (length m) ≡ refused 15 0
+    unfolding rankVerdict demand
+    no-run = then-passed ok ∙ rw (le-ltb rank (totalOf f ws) beyond) refl
+
+    pub refused-answer : refusal 15 0 ≡ rankOutcome f ws rank (length m)
+    unfolding rankOutcome
+    refused-answer = sym (gives-refused _ no-run)
+
+    pub refused-report : m ≡ reportListed f ws rank m
+    unfolding reportListed
+    refused-report = sym (when-refused _ no-run)
+
+  module _ (below : rank < totalOf f ws) where
+    a-run : rankVerdict f ws rank (length m) ≡ passed
+    unfolding rankVerdict
+    a-run = then-passed ok ∙ demand-passes 15 0 (lt-ltb rank (totalOf f ws) below)
+
+    pub found-answer : (all steps : ℕ) → all ≡ totalOf f ws → steps ≡ length (runOf f ws rank) →
+        _≡_ {A = Outcome Figures} (value (record { runs = all; steps = steps })) (rankOutcome f ws rank (length m))
+    unfolding rankOutcome
+    found-answer all steps e h = rw (e, h) (sym (gives-passed a-run))
+
+    pub found-report : (m′ : List ℕ) → m′ ≡ put m 0 (runNumbers f ws rank) → m′ ≡ reportListed f ws rank m
+    unfolding reportListed
+    found-report m′ e = e ∙ sym (when-passed _ a-run)
+
+-- A refusal before 15 is the entry's.
+module _ (f : Floor) (ws : List ℕ) (rank : ℕ) (m : List ℕ) (k p : ℕ) (no : smallVerdict f ws (length m) ≡ refused k p) where
+  turned : rankVerdict f ws rank (length m) ≡ refused k p
+  unfolding rankVerdict _then_
+  turned = rw no refl
+
+  pub turned-answer : refusal k p ≡ rankOutcome f ws rank (length m)
+  unfolding rankOutcome
+  turned-answer = sym (gives-refused _ turned)
+
+  pub turned-report : m ≡ reportListed f ws rank m
+  unfolding reportListed
+  turned-report = sym (when-refused _ turned)
+
+-- What the report of the run of a rank requires of its line, and that it is the run.
+module _ (f : Floor) (ws : List ℕ) (rank lent : ℕ) (small : Small f ws lent) (line : List ℕ) (found : FoundLine f ws rank line) where
+  pub line-serves : (getD line 0 0 ≤ 11) × (2 * getD line 0 0 ≤ lent)
+  unfolding reportSize
+  line-serves =
+      let most = ceiling-few (f .carriers) (small .few) in
+      (omega (arith, found .steps, found .short, most), omega (arith, found .steps, found .short, small .wide))
+
+  pub line-report : (report report′ : List ℕ) → report′ ≡ put report 0 (take (2 * getD line 0 0) (drop 1 line)) →
+      report′ ≡ put report 0 (runNumbers f ws rank)
+  line-report report report′ e =
+      e ∙ ap (λ (k : ℕ). put report 0 (take (2 * k) (drop 1 line))) (found .steps) ∙ ap (put report 0) (found .numbers)

@@ -1,0 +1,183 @@
+-- The complete runs: every listed one is complete, every complete one is listed, and there are only so many.
+use Prim.Native.Nat.{ℕ, zero, suc, _+_, _*_, _^_, _≤_, _<_}
+use native.Mathlib.Omega.{arith}
+use native.Mathlib.Nat.{suc-mul, pow-succ', one-le-pow, mul-le-mul-left}
+use mathlib.Core.Bool.{Bool, true, false}
+use mathlib.Core.List.{List, [], _∷_, _++_, map}
+use mathlib.Core.Path.{_≡_, refl, sym, _∙_, ap, ap₂}
+use lib.ListN.{length, getD, length-append, length-map}
+use borrow.Author.Tests.{lt-ltb}
+use Rattle.laws.proofs.Tests.{and-both, true-false-absurd, not-true-is-false}
+use Rattle.reference.specs.State.{Machine, State, fresh}
+use Rattle.reference.specs.Step.{Step, plan, deliver, isOpen, isThere}
+use Rattle.reference.specs.Take.{afterStep}
+use Rattle.reference.specs.Ranking.{ranking, isSilent}
+use Rattle.reference.proofs.OpenLaws.{plan-within, deliver-above, deliver-within}
+use Rattle.reference.proofs.RankingLaws.{silent-shut}
+use Rattle.reference.proofs.Potential.{potential}
+use Rattle.reference.proofs.CeilingLaws.{step-lowers}
+use Rattle.orders.specs.Orders.{places, stepAt}
+use Rattle.orders.proofs.PlaceLaws.{PlaceOf, there-place}
+use Rattle.listing.specs.Runs.{Run, behind, beginning, runsFrom}
+use Rattle.listing.specs.Order.{Complete}
+use Rattle.listing.proofs.ListLaws.{All, all-append, all-map, Placed, placed-left, placed-right, placed-map}
+
+module _ (opens : Step → Bool) (onward : Step → List Run) where
+  pub begin-open : (x : Step) (xs : List Step) → opens x ≡ true →
+      beginning opens onward (x ∷ xs) ≡ behind x (onward x) ++ beginning opens onward xs
+  unfolding beginning
+  begin-open x xs e = rw e
+
+  pub begin-shut : (x : Step) (xs : List Step) → opens x ≡ false → beginning opens onward (x ∷ xs) ≡ beginning opens onward xs
+  unfolding beginning
+  begin-shut x xs e = rw e
+
+  -- What holds of no run, and of the runs that begin with an open step in front of others, holds of the runs that begin with any.
+  module _ (P : List Step → List Run → Type 0) (none : P [] [])
+      (opened : (x : Step) (xs : List Step) (rs : List Run) → opens x ≡ true → P xs rs → P (x ∷ xs) (behind x (onward x) ++ rs))
+      (shut : (x : Step) (xs : List Step) (rs : List Run) → opens x ≡ false → P xs rs → P (x ∷ xs) rs) where
+    pub begin-induction : (xs : List Step) → P xs (beginning opens onward xs)
+    unfolding beginning
+    begin-induction [] = none
+    begin-induction (x ∷ xs) = go (opens x) refl (begin-induction xs)
+      where
+        go : (b : Bool) → opens x ≡ b → P xs (beginning opens onward xs) → P (x ∷ xs) (beginning opens onward (x ∷ xs))
+        go true e h = rw (begin-open x xs e) (opened x xs (beginning opens onward xs) e h)
+        go false e h = rw (begin-shut x xs e) (shut x xs (beginning opens onward xs) e h)
+
+-- Tests that agree, and runs that agree behind each open step, make the same list.
+pub begin-same : (p q : Step → Bool) (g h : Step → List Run) → ((x : Step) → p x ≡ q x) → ((x : Step) → q x ≡ true → g x ≡ h x) →
+    (xs : List Step) → beginning p g xs ≡ beginning q h xs
+unfolding beginning
+begin-same p q g h same goes [] = refl
+begin-same p q g h same goes (x ∷ xs) = go (q x) refl (begin-same p q g h same goes xs)
+  where
+    go : (b : Bool) → q x ≡ b → beginning p g xs ≡ beginning q h xs → beginning p g (x ∷ xs) ≡ beginning q h (x ∷ xs)
+    go true e rest =
+        begin-open p g x xs (same x ∙ e) ∙ ap₂ _++_ (ap (behind x) (goes x e)) rest ∙ sym (begin-open q h x xs e)
+    go false e rest = begin-shut p g x xs (same x ∙ e) ∙ rest ∙ sym (begin-shut q h x xs e)
+
+module _ (M : Machine) where
+  pub runs-silent : (left : ℕ) (s : State) → isSilent M s ≡ true → runsFrom M left s ≡ [] ∷ []
+  unfolding runsFrom
+  runs-silent zero s e = rw (e, runsFrom)
+  runs-silent (suc left) s e = rw (e, runsFrom)
+
+  pub runs-spent : (s : State) → isSilent M s ≡ false → runsFrom M 0 s ≡ []
+  unfolding runsFrom
+  runs-spent s e = rw (e, runsFrom)
+
+  pub runs-more : (left : ℕ) (s : State) → isSilent M s ≡ false →
+      runsFrom M (suc left) s ≡ beginning (isOpen M s) (λ x. runsFrom M left (afterStep M s x)) (ranking (M .carriers))
+  unfolding runsFrom
+  runs-more left s e = rw (e, runsFrom)
+
+  -- What holds of the runs from a silent state, from a state with no steps left and from a state whose open steps are gone on from.
+  module _ (P : ℕ → State → List Run → Type 0) (silent : (left : ℕ) (s : State) → isSilent M s ≡ true → P left s ([] ∷ []))
+      (spent : (s : State) → isSilent M s ≡ false → P 0 s [])
+      (more : (left : ℕ) (s : State) (onward : Step → List Run) → isSilent M s ≡ false →
+      ((x : Step) → P left (afterStep M s x) (onward x)) → P (suc left) s (beginning (isOpen M s) onward (ranking (M .carriers)))) where
+    pub runs-induction : (left : ℕ) (s : State) → P left s (runsFrom M left s)
+    unfolding runsFrom
+    runs-induction zero s = go (isSilent M s) refl
+      where
+        go : (b : Bool) → isSilent M s ≡ b → P 0 s (runsFrom M 0 s)
+        go true e = rw (runs-silent 0 s e) (silent 0 s e)
+        go false e = rw (runs-spent s e) (spent s e)
+    runs-induction (suc left) s = go (isSilent M s) refl (λ x. runs-induction left (afterStep M s x))
+      where
+        go : (b : Bool) → isSilent M s ≡ b → ((x : Step) → P left (afterStep M s x) (runsFrom M left (afterStep M s x))) →
+            P (suc left) s (runsFrom M (suc left) s)
+        go true e h = rw (runs-silent (suc left) s e) (silent (suc left) s e)
+        go false e h = rw (runs-more left s e) (more left s (λ x. runsFrom M left (afterStep M s x)) e h)
+
+  -- Every listed run is complete.
+  pub runs-complete : (left : ℕ) (s : State) → All (Complete M s) (runsFrom M left s)
+  unfolding All Complete behind
+  runs-complete =
+      runs-induction (λ left s rs. All (Complete M s) rs) (λ left s e. (e, tt)) (λ s e. tt)
+      (λ left s onward e h.
+      begin-induction (isOpen M s) onward (λ xs rs. All (Complete M s) rs) tt
+      (λ x xs rs o g.
+      all-append (Complete M s) (behind x (onward x)) rs (goes-on s x o (onward x) (h x)) g)
+      (λ x xs rs o g. g) (ranking (M .carriers)))
+    where
+      goes-on : (s : State) (x : Step) → isOpen M s x ≡ true → (rs : List Run) → All (Complete M (afterStep M s x)) rs →
+          All (Complete M s) (behind x rs)
+      goes-on s x o [] h = tt
+      goes-on s x o (xs ∷ rs) h = ((o, h .0), goes-on s x o rs (h .1))
+
+  -- A run that begins with an open step of the list, and goes on as one of those behind it, has a place.
+  begin-placed : (s : State) (onward : Step → List Run) (x : Step) (ys : Run) → isOpen M s x ≡ true → Placed [] ys (onward x) →
+      (xs : List Step) (p : ℕ) → p < length xs → getD xs p (plan 0) ≡ x → Placed [] (x ∷ ys) (beginning (isOpen M s) onward xs)
+  unfolding behind
+  begin-placed s onward x ys o h [] p l e = absurd (omega arith)
+  begin-placed s onward x ys o h (y ∷ xs) zero l e =
+      rw (e, begin-open (isOpen M s) onward x xs o)
+      (placed-left [] (x ∷ ys) (behind x (onward x)) (beginning (isOpen M s) onward xs) (in-front x (onward x) h))
+    where
+      in-front : (x : Step) (rs : List Run) → Placed [] ys rs → Placed [] (x ∷ ys) (behind x rs)
+      in-front x rs h = placed-map (λ (zs : Run). x ∷ zs) [] ys [] rs h
+  begin-placed s onward x ys o h (y ∷ xs) (suc p) l e =
+      go (isOpen M s y) refl (begin-placed s onward x ys o h xs p (omega arith) e)
+    where
+      go : (b : Bool) → isOpen M s y ≡ b → Placed [] (x ∷ ys) (beginning (isOpen M s) onward xs) →
+          Placed [] (x ∷ ys) (beginning (isOpen M s) onward (y ∷ xs))
+      go true q g = rw (begin-open (isOpen M s) onward y xs q) (placed-right [] (x ∷ ys) (behind y (onward y)) (beginning (isOpen M s) onward xs) g)
+      go false q g = rw (begin-shut (isOpen M s) onward y xs q) g
+
+  -- An open step is there.
+  open-there : (s : State) (x : Step) → isOpen M s x ≡ true → isThere M x ≡ true
+  unfolding isThere
+  open-there s (plan i) e = lt-ltb i (M .carriers) (plan-within M s i e)
+  open-there s (deliver j i) e = and-both (lt-ltb j i (deliver-above M s j i e)) (lt-ltb i (M .carriers) (deliver-within M s j i e))
+
+  -- A state with an open step is not silent.
+  open-not-silent : (s : State) (x : Step) → isOpen M s x ≡ true → isSilent M s ≡ false
+  open-not-silent s x o = not-true-is-false (isSilent M s) (λ (e : isSilent M s ≡ true). true-false-absurd o (silent-shut M s e x))
+
+  -- Every complete run is listed, if as many steps are left as the state's potential tells.
+  pub complete-placed : (left : ℕ) (s : State) (xs : Run) → Complete M s xs → potential (M .carriers) s ≤ left →
+      Placed [] xs (runsFrom M left s)
+  unfolding Complete Placed places stepAt
+  complete-placed left s [] c l = rw (runs-silent left s c) (0, omega arith, refl)
+  complete-placed zero s (x ∷ xs) c l = absurd (omega (arith, step-lowers M s x (c .0)))
+  complete-placed (suc left) s (x ∷ xs) c l =
+      let place = there-place M x (open-there s x (c .0)) in
+      let rest = complete-placed left (afterStep M s x) xs (c .1) (omega (arith, step-lowers M s x (c .0))) in
+      rw (runs-more left s (open-not-silent s x (c .0)))
+      (begin-placed s (λ y. runsFrom M left (afterStep M s y)) x xs (c .0) rest (ranking (M .carriers)) (place .0) (at-place place) (is-step place))
+    where
+      at-place : (p : PlaceOf (M .carriers) x) → p .0 < length (ranking (M .carriers))
+      at-place p = p .1
+
+      is-step : (p : PlaceOf (M .carriers) x) → getD (ranking (M .carriers)) (p .0) (plan 0) ≡ x
+      is-step p = p .2
+
+  -- A complete run has at most as many steps as the state's potential tells.
+  pub complete-short : (s : State) (xs : Run) → Complete M s xs → length xs ≤ potential (M .carriers) s
+  unfolding Complete
+  complete-short s [] c = omega arith
+  complete-short s (x ∷ xs) c = omega (arith, complete-short (afterStep M s x) xs (c .1), step-lowers M s x (c .0))
+
+  -- With at most b runs behind each step of a list, so many times b begin with one of them.
+  begin-few : (s : State) (onward : Step → List Run) (b : ℕ) → ((x : Step) → length (onward x) ≤ b) → (xs : List Step) →
+      length (beginning (isOpen M s) onward xs) ≤ length xs * b
+  unfolding behind
+  begin-few s onward b h =
+      begin-induction (isOpen M s) onward (λ xs rs. length rs ≤ length xs * b) (omega arith)
+      (λ x xs rs o g. omega (arith, length-append (behind x (onward x)) rs, in-front x (onward x), h x, g, suc-mul (length xs) b))
+      (λ x xs rs o g. omega (arith, g, suc-mul (length xs) b))
+    where
+      in-front : (x : Step) (rs : List Run) → length (behind x rs) ≡ length rs
+      in-front x rs = length-map rs (λ (zs : Run). x ∷ zs)
+
+  -- There are at most as many runs as choices of a ranked step for each step that is left.
+  pub runs-few : 1 ≤ places (M .carriers) → (left : ℕ) (s : State) → length (runsFrom M left s) ≤ places (M .carriers) ^ left
+  unfolding places
+  runs-few l =
+      runs-induction (λ left s rs. length rs ≤ places (M .carriers) ^ left)
+      (λ left s e. one-le-pow left (places (M .carriers)) l) (λ s e. omega arith)
+      (λ left s onward e h.
+      rw (pow-succ' (places (M .carriers)) left)
+      (begin-few s onward (places (M .carriers) ^ left) h (ranking (M .carriers))))

@@ -1,0 +1,105 @@
+-- The claims, proved.
+use Prim.Native.Nat.{ℕ, _≤_, _<_}
+use native.Mathlib.Omega.{arith}
+use native.Mathlib.Nat.{eq-or-lt-of-le}
+use mathlib.Core.Logic.{⊎-elim, _↔_}
+use mathlib.Core.Bool.{true}
+use mathlib.Core.List.{List, [], _∷_}
+use mathlib.Core.Path.{_≡_, refl, sym, _∙_, ap, subst}
+use lib.ListN.{length, getD}
+use Rattle.laws.proofs.Tests.{lt-or-le}
+use Rattle.reference.specs.State.{Machine, State, fresh}
+use Rattle.reference.specs.Take.{afterStep}
+use Rattle.reference.specs.Ranking.{isSilent}
+use Rattle.reference.specs.History.{afterSteps}
+use Rattle.reference.specs.Quiet.{ceiling}
+use Rattle.reference.proofs.Potential.{potential, fresh-potential}
+use Rattle.orders.specs.Orders.{first, startMemory, remembered}
+use Rattle.orders.specs.Trial.{Entry, trial, stepsIn}
+use Rattle.orders.specs.Rules.{ByRule}
+use Rattle.orders.proofs.Theorems.{theorems as orders-theorems}
+use Rattle.listing.specs.Runs.{Run, runsFrom, runsOf, total, runAt}
+use Rattle.listing.specs.Order.{Complete, Earlier}
+use Rattle.listing.specs.Claims.{Claims}
+use Rattle.listing.proofs.ListLaws.{all-at, sorted-at, Placed}
+use Rattle.listing.proofs.RunLaws.{runs-complete, complete-placed, complete-short}
+use Rattle.listing.proofs.OrderLaws.{one-place, earlier-one-way, runs-sorted}
+
+module _ (M : Machine) where
+  -- The potential of the fresh state is the ceiling.
+  fresh-ceiling : potential (M .carriers) fresh ≤ ceiling (M .carriers)
+  unfolding ceiling
+  fresh-ceiling = omega (arith, fresh-potential (M .carriers))
+
+  listed-complete : (r : ℕ) → r < total M → Complete M fresh (runAt M r)
+  unfolding total runAt runsOf
+  listed-complete r l = all-at (Complete M fresh) [] (runsOf M) (runs-complete M (ceiling (M .carriers)) fresh) r l
+
+  complete-exactly : (xs : Run) → Complete M fresh xs ↔ ((rank : ℕ) × (rank < total M) × (runAt M rank ≡ xs))
+  unfolding total runAt runsOf Placed
+  complete-exactly xs =
+      (λ c. complete-placed M (ceiling (M .carriers)) fresh xs c fresh-ceiling, λ h. subst (Complete M fresh) (h .2) (listed-complete (h .0) (h .1)))
+
+  earlier : (r q : ℕ) → r < q → q < total M → Earlier (M .carriers) (runAt M r) (runAt M q)
+  unfolding total runAt runsOf
+  earlier r q l h = sorted-at (Earlier (M .carriers)) [] (runsOf M) (runs-sorted M (ceiling (M .carriers)) fresh) r q l h
+
+  -- No run is earlier than itself.
+  not-itself : (r q : ℕ) → r < q → q < total M → runAt M r ≡ runAt M q → ⊥
+  not-itself r q l h e =
+      let g = earlier r q l h in
+      earlier-one-way (M .carriers) (runAt M r) (runAt M q) g
+      (subst (λ (xs : Run). Earlier (M .carriers) xs (runAt M r)) e (subst (λ (ys : Run). Earlier (M .carriers) (runAt M r) ys) (sym e) g))
+
+  one-rank : (r q : ℕ) → r < total M → q < total M → runAt M r ≡ runAt M q → r ≡ q
+  one-rank r q l h e =
+      ⊎-elim (λ (g : r < q). absurd (not-itself r q g h e))
+      (λ (g : q ≤ r). ⊎-elim (λ (k : q ≡ r). sym k) (λ (k : q < r). absurd (not-itself q r k l (sym e))) (eq-or-lt-of-le g))
+      (lt-or-le r q)
+
+  ranked : (r q : ℕ) → r < total M → q < total M → (r < q) ↔ Earlier (M .carriers) (runAt M r) (runAt M q)
+  ranked r q l h = (
+    λ g. earlier r q g h,
+    λ (e : Earlier (M .carriers) (runAt M r) (runAt M q)).
+        ⊎-elim (λ (g : r < q). g)
+        (λ (g : q ≤ r).
+        ⊎-elim
+        (λ (k : q ≡ r). absurd (earlier-one-way (M .carriers) (runAt M r) (runAt M q) e (itself k e)))
+        (λ (k : q < r). absurd (earlier-one-way (M .carriers) (runAt M r) (runAt M q) e (earlier q r k l)))
+        (eq-or-lt-of-le g))
+        (lt-or-le r q),
+  )
+    where
+      itself : q ≡ r → Earlier (M .carriers) (runAt M r) (runAt M q) → Earlier (M .carriers) (runAt M q) (runAt M r)
+      itself k e = rw k (rw k at e)
+
+  within-ceiling : (r : ℕ) → r < total M → length (runAt M r) ≤ ceiling (M .carriers)
+  within-ceiling r l = omega (arith, complete-short M fresh (runAt M r) (listed-complete r l), fresh-ceiling)
+
+-- A trial in order 1 is a complete run.
+trial-complete : (M : Machine) (c : ℕ) (s : State) (es : List Entry) → ByRule first M c s es →
+    isSilent M (afterSteps M s (stepsIn es)) ≡ true → Complete M s (stepsIn es)
+unfolding ByRule stepsIn afterSteps Complete
+trial-complete M c s [] h e = e
+trial-complete M c s (x ∷ es) h e =
+    (h .1 .isOpen, trial-complete M (remembered first c (h .0)) (afterStep M s (x .taken)) es (h .2) e)
+
+pub some-run : (M : Machine) → 0 < total M
+some-run M =
+    let t = trial first M 0 in
+    let silent : isSilent M (afterSteps M fresh (stepsIn (t .report))) ≡ true =
+    ap (isSilent M) (sym (orders-theorems .leads first M 0)) ∙ orders-theorems .ends-silent first M 0 in
+    let r = complete-exactly M (stepsIn (t .report)) .0
+    (trial-complete M (startMemory first 0) fresh (t .report) (orders-theorems .by-rule first M 0) silent) in
+    omega (arith, r .1)
+
+pub theorems : Claims
+theorems =
+    record {
+      one-place = one-place;
+      complete-exactly = complete-exactly;
+      one-rank = one-rank;
+      ranked = ranked;
+      within-ceiling = within-ceiling;
+      some-run = some-run;
+    }

@@ -1,0 +1,25 @@
+-- What is claimed of the complete runs, for any number of carriers, any depth and any best response; `proofs/Theorems.antt` has the proofs.
+use Prim.Native.Nat.{ℕ, _≤_, _<_}
+use mathlib.Core.Logic.{_↔_}
+use mathlib.Core.Path.{_≡_}
+use lib.ListN.{length}
+use Rattle.reference.specs.State.{Machine, fresh}
+use Rattle.reference.specs.Quiet.{ceiling}
+use Rattle.orders.specs.Orders.{places, stepAt}
+use Rattle.listing.specs.Runs.{Run, total, runAt}
+use Rattle.listing.specs.Order.{Complete, Earlier}
+
+pub record Claims : Type 0 where
+  -- A step has one place of the ranking.
+  pub one-place : (n p q : ℕ) → p < places n → q < places n → stepAt n p ≡ stepAt n q → p ≡ q
+  -- A run is complete from fresh exactly if it is the run of a rank below the total.
+  pub complete-exactly : (M : Machine) (xs : Run) →
+      Complete M fresh xs ↔ ((rank : ℕ) × (rank < total M) × (runAt M rank ≡ xs))
+  -- A run has one rank; so the total is the number of complete runs.
+  pub one-rank : (M : Machine) (r q : ℕ) → r < total M → q < total M → runAt M r ≡ runAt M q → r ≡ q
+  -- A smaller rank is an earlier run, and the other way round.
+  pub ranked : (M : Machine) (r q : ℕ) → r < total M → q < total M → (r < q) ↔ Earlier (M .carriers) (runAt M r) (runAt M q)
+  -- A run has at most as many steps as the ceiling.
+  pub within-ceiling : (M : Machine) (r : ℕ) → r < total M → length (runAt M r) ≤ ceiling (M .carriers)
+  -- There is a run.
+  pub some-run : (M : Machine) → 0 < total M
