@@ -57,6 +57,9 @@ static uint64_t run(void) { return kalomivund_run(FLOOR, state, KALOMIVUND_MOST_
 static uint64_t trial(void) {
     return kalomivund_trial(FLOOR, 3, 1, state, KALOMIVUND_MOST_STATE, report, KALOMIVUND_MOST_REPORT);
 }
+static uint64_t conflict(void) {
+    return kalomivund_conflict(answers + 1, KALOMIVUND_ROUTE, answers + 1 + KALOMIVUND_RECORD, KALOMIVUND_ROUTE, 63);
+}
 static uint64_t ceiling(void) { return kalomivund_ceiling(8); }
 
 struct job {
@@ -106,7 +109,7 @@ int main(void) {
         {"write_sheet", write_sheet}, {"read_sheet", read_sheet}, {"check_floor", check_floor},
         {"needed_lengths", needed_lengths}, {"plan", plan}, {"search", search}, {"print_routes", print_routes},
         {"fresh", fresh}, {"step (plan)", step_plan}, {"step (deliver)", step_deliver}, {"run", run}, {"trial", trial},
-        {"ceiling", ceiling},
+        {"conflict", conflict}, {"ceiling", ceiling},
     };
     /* Walls: the last cells of the grid but for the starts and goals there, so that a floor of many walls is read. */
     for (uint16_t c = 544; c < 1024; c++) {

@@ -321,6 +321,20 @@ pub fn best_route(floor: &Floor, start: usize, goal: usize, against: &[Route]) -
     Some(route)
 }
 
+/// A kind of conflict, in the order of those at one beat.
+#[derive(Clone, Copy, PartialEq, Eq, PartialOrd, Ord, Debug)]
+pub enum Kind {
+    SameCell,
+    ChangeOfPlaces,
+}
+
+/// The first conflict of two routes over beats 0 to the horizon (document 02, slip 7): the least of all that there are, by beat and kind.
+pub fn first_conflict(a: &[u16], b: &[u16], horizon: usize) -> Option<(usize, Kind)> {
+    let same = (0..=horizon).filter(|&t| a[t] == b[t]).map(|t| (t, Kind::SameCell));
+    let change = (0..horizon).filter(|&t| a[t] == b[t + 1] && a[t + 1] == b[t]).map(|t| (t, Kind::ChangeOfPlaces));
+    same.chain(change).min()
+}
+
 /// Where a carrier (from 0) is for those below it, by its answer: on its route, or at its start at every beat if it has none.
 pub fn occupied(floor: &Floor, carrier: usize, answer: Answer) -> Route {
     answer.unwrap_or([floor.starts[carrier] as u16; 64])
@@ -894,6 +908,17 @@ pub mod calls {
             }
             state[..state_length(n)].copy_from_slice(&encode(&now));
             Ok(done(0, lines.len()))
+        })())
+    }
+
+    pub fn conflict(a: &[u16], b: &[u16], horizon: u16) -> u64 {
+        word((|| {
+            long_enough(a.len() < 64 || b.len() < 64)?;
+            Ok(match first_conflict(a, b, (horizon as usize).min(63)) {
+                None => done(0, 0),
+                Some((beat, Kind::SameCell)) => done(1, beat),
+                Some((beat, Kind::ChangeOfPlaces)) => done(2, beat),
+            })
         })())
     }
 

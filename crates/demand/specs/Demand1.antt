@@ -13,6 +13,7 @@ use Rattle.floor.specs.Refused.{RefusedWith as RefusedFloor}
 use Rattle.sheet.specs.Values.{floorAt}
 use Rattle.sheet.specs.Read.{sheetVerdict, readVerdict, readWalls, writeVerdict, writeSheet}
 use Rattle.sheet.specs.Refused.{RefusedSheet}
+use Rattle.conflict.specs.Entry.{conflictOutcome}
 use Rattle.search.specs.Search.{searchOf}
 use Rattle.planner.specs.Answers.{planResult}
 use Rattle.planner.specs.Records.{planMemory}
@@ -62,6 +63,10 @@ module _ (f : Floor) (ws : List ℕ) where
   -- 11, 0: an order other than 1 to 3 (document 02, slip 1).
   abbrev pub TrialRows : (order state report : ℕ) → Table
   TrialRows order state report = FreshRows state orElse Short report (lengthsOf f .report) orElse Row 11 0 (Within 1 3 order → ⊥)
+
+-- The conflict test of two lent routes (document 02, slip 7): 9 for either, below the figure for a route.
+abbrev pub ConflictRows : Floor → (first second : ℕ) → Table
+ConflictRows f first second = Short first (lengthsOf f .route) orElse Short second (lengthsOf f .route)
 
 abbrev pub ReadRows : List ℕ → ℕ → Table
 ReadRows text room = RefusedSheet text orElse Short room (lengthsOf (floorAt text) .walls)
@@ -114,3 +119,5 @@ pub record Demand1 : Type 0 where
       → Keeps (TrialRows f ws order (length old) report) (lengthsOf f .state) old (stateTried f ws order seed old report)
   pub trial-keeps-report : (f : Floor) (ws : List ℕ) (order seed state : ℕ) (old : List ℕ)
       → Keeps (TrialRows f ws order state (length old)) (lengthsOf f .report) old (reportTried f ws order seed state old)
+  -- The conflict test of two lent routes, which writes no memory.
+  pub conflict : (f : Floor) (a b : List ℕ) (horizon : ℕ) → Answers (conflictOutcome a b horizon) (ConflictRows f (length a) (length b))

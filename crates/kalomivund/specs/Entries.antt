@@ -10,6 +10,7 @@ use Rattle.route.specs.Route.{Answer}
 use Rattle.sheet.specs.Text.{sheetLength}
 use Rattle.sheet.specs.Values.{floorAt, wallsAt}
 use Rattle.sheet.specs.Read.{readVerdict, writeVerdict, writeSheet}
+use Rattle.conflict.specs.Entry.{conflictOutcome}
 use Rattle.search.specs.Search.{searchOf}
 use Rattle.printing.specs.Print.{routesOutcome, routesMemory}
 use Rattle.lengths.specs.Figures.{lengthsOf}
@@ -20,7 +21,7 @@ use Rattle.machine.specs.Ceiling.{mostSteps}
 use Rattle.trial.specs.Entry.{trialOutcome, stateTried, reportTried}
 use Rattle.wire.specs.Word.{Done, wordOf, ofNumber}
 use Rattle.wire.specs.Record.{floorOf, numbersOf, recordLent}
-use Rattle.kalomivund.specs.Answers.{ofSearch, routeStored, figureList, ofReply}
+use Rattle.kalomivund.specs.Answers.{ofSearch, routeStored, figureList, ofReply, ofConflict}
 
 -- The word of a call with a floor record of enough numbers; 9, 0 of one with fewer.
 unfoldable pub wordFor : List ℕ → Outcome Done → ℕ
@@ -126,3 +127,7 @@ trialStateStored xs ws order seed m report = storedFor xs (stateTried (floorOf x
 
 unfoldable pub trialReportStored : List ℕ → List ℕ → (order seed state : ℕ) → List ℕ → List ℕ
 trialReportStored xs ws order seed state m = storedFor xs (reportTried (floorOf xs) ws order seed state m) m
+
+-- `kalomivund_conflict`: two lent routes and a horizon.
+unfoldable pub conflictWord : List ℕ → List ℕ → ℕ → ℕ
+conflictWord a b horizon = wordOf (ofConflict (conflictOutcome a b horizon))

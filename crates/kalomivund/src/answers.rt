@@ -1,12 +1,14 @@
 // The answers of the library's entries as words.
 ghost use mathlib.Core.Path.{_≡_};
+ghost use Rattle.conflict.specs.Entry.{comparedOutcome};
 ghost use Rattle.planner.specs.Answers.{resultOf};
 ghost use Rattle.printing.specs.Print.{outcomeOf};
 ghost use Rattle.machine.specs.Answers.{steppedReply, ranReply};
 ghost use Rattle.machine.specs.Ceiling.{figureOf};
 ghost use Rattle.trial.specs.Entry.{triedOutcome};
 ghost use Rattle.wire.specs.Word.{wordOf, ofNumber};
-ghost use Rattle.kalomivund.specs.Answers.{ofReply};
+ghost use Rattle.kalomivund.specs.Answers.{ofReply, ofConflict};
+use conflict::Compared;
 use machine::Most;
 use machine::Ran;
 use machine::Stepped;
@@ -77,5 +79,17 @@ pub fn of_trial(x: Tried) -> u64
     match x {
         Tried::Steps(n) => done(0, n),
         Tried::Refused(r) => refused(r),
+    }
+}
+
+// The word of the conflict test.
+pub fn of_conflict(x: Compared) -> u64
+    ensures { λ r. ⌜ r ≡ wordOf (ofConflict (comparedOutcome x)) ⌝ }
+{
+    match x {
+        Compared::Free => done(0, 0),
+        Compared::SameCell(t) => done(1, t),
+        Compared::ChangeOfPlaces(t) => done(2, t),
+        Compared::Refused(r) => refused(r),
     }
 }

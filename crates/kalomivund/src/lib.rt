@@ -17,7 +17,7 @@ ghost use Rattle.kalomivund.specs.Entries.{readWord, readRecord, readSto
 ghost use Rattle.kalomivund.specs.Entries.{neededWord, neededStored, searchWord, searchStored, planWord, planStored};
 ghost use Rattle.kalomivund.specs.Entries.{printWord, printStored, freshWord, freshStored, stepWord, stepStored};
 ghost use Rattle.kalomivund.specs.Entries.{runWord, runStored, ceilingWord};
-ghost use Rattle.kalomivund.specs.Entries.{trialWord, trialStateStored, trialReportStored};
+ghost use Rattle.kalomivund.specs.Entries.{trialWord, trialStateStored, trialReportStored, conflictWord};
 use floor::Checked;
 use floor::Floor;
 use lengths::Lengths;
@@ -250,4 +250,12 @@ pub extern "C" fn kalomivund_trial(
         return word::too_short();
     }
     answers::of_trial(trial::trial(numbers::floor_of(f), walls, order, seed, state, report))
+}
+
+// The first conflict of two lent routes of 64 cells through a horizon: free, same cell or change of places, with the beat.
+#[no_mangle]
+pub extern "C" fn kalomivund_conflict(a: &[u16], b: &[u16], horizon: u16) -> u64
+    ensures { λ r. ⌜ r ≡ conflictWord (now (a .entry)) (now (b .entry)) horizon ⌝ }
+{
+    answers::of_conflict(conflict::conflict(a, b, horizon))
 }

@@ -1,13 +1,15 @@
 //! Compares the library with `paper.rs`, an independent implementation of document 01: answer words, and every number of lent memory,
 //! also outside the part that is lent. Seeds are fixed; a case that fails is printed with the command that replays it.
 //!
-//!     compare                          everything: 100,000 sheets, 20,000 lists of calls, 10,000 trials
+//!     compare                          everything: 100,000 sheets, 20,000 lists of calls, 10,000 trials, 100,000 pairs of routes
 //!     compare sheets FROM COUNT        some of the sheets, by their seeds
 //!     compare lists FROM COUNT         some of the lists
 //!     compare trials FROM COUNT        some of the trials
+//!     compare pairs FROM COUNT         some of the pairs
 //!     compare sheet SEED               one case, each call printed with its answer
 //!     compare list SEED
 //!     compare trial SEED
+//!     compare pair SEED
 
 #[path = "../draw.rs"]
 mod draw;
@@ -23,6 +25,7 @@ use std::time::Instant;
 const SHEETS: u64 = 100_000;
 const LISTS: u64 = 20_000;
 const TRIALS: u64 = 10_000;
+const PAIRS: u64 = 100_000;
 
 // ---- Lent memory and calls ----
 
@@ -83,6 +86,7 @@ enum Call {
     Step { floor: Lent<u16>, walls: Lent<u16>, state: Lent<u16>, step: u16 },
     Run { floor: Lent<u16>, walls: Lent<u16>, state: Lent<u16>, steps: Lent<u16>, budget: u16 },
     Trial { floor: Lent<u16>, walls: Lent<u16>, order: u16, seed: u32, state: Lent<u16>, report: Lent<u16> },
+    Conflict { a: Lent<u16>, b: Lent<u16>, horizon: u16 },
     Ceiling { carriers: u16 },
 }
 
@@ -128,6 +132,7 @@ impl Call {
             Call::Trial { floor, walls, order, seed, state, report } => {
                 entry!(who, trial(floor.part(), walls.part(), *order, *seed, state.part_mut(), report.part_mut()))
             }
+            Call::Conflict { a, b, horizon } => entry!(who, conflict(a.part(), b.part(), *horizon)),
             Call::Ceiling { carriers } => entry!(who, ceiling(*carriers)),
         }
     }
@@ -145,6 +150,7 @@ impl Call {
             Call::Step { .. } => "step",
             Call::Run { .. } => "run",
             Call::Trial { .. } => "trial",
+            Call::Conflict { .. } => "conflict",
             Call::Ceiling { .. } => "ceiling",
         }
     }
@@ -175,6 +181,7 @@ impl Call {
             Call::Trial { floor: f, walls: w, order, seed, state, report } => {
                 format!("{} order {order} seed {seed} state of {} report of {}", floor(f, w), state.length, report.length)
             }
+            Call::Conflict { a, b, horizon } => format!("{:?} {:?} horizon {horizon}", a.part(), b.part()),
             Call::Ceiling { carriers } => format!("{carriers}"),
         }
     }
@@ -249,6 +256,7 @@ impl Tally {
             ("step", vec![0, 1, 2], with(&[7, 8, 10])),
             ("run", vec![0, 1, 2], with(&[7, 10])),
             ("trial", vec![0], with(&[11])),
+            ("conflict", vec![0, 1, 2], vec![9]),
             ("ceiling", vec![0], vec![2]),
         ];
         let mut keys = Vec::new();
@@ -293,6 +301,7 @@ fn numbers(call: &Call) -> Vec<u64> {
         Call::Step { floor, walls, state, .. } => [wide(floor), wide(walls), wide(state)].concat(),
         Call::Run { floor, walls, state, steps, .. } => [wide(floor), wide(walls), wide(state), wide(steps)].concat(),
         Call::Trial { floor, walls, state, report, .. } => [wide(floor), wide(walls), wide(state), wide(report)].concat(),
+        Call::Conflict { a, b, .. } => [wide(a), wide(b)].concat(),
         Call::Ceiling { .. } => Vec::new(),
     }
 }
@@ -746,6 +755,57 @@ fn trial_case(seed: u64, tally: &mut Tally) {
     tally.compare(Call::Trial { floor: record, walls, order, seed, state, report });
 }
 
+/// So many cells of a walk on a grid, with jumps and numbers outside it in so many of a hundred moves.
+fn draw_walk(draw: &mut Draw, length: usize, width: usize, cells: usize, wild: usize) -> Vec<u16> {
+    let mut c = draw.below(cells);
+    let mut walk = Vec::new();
+    for _ in 0..length {
+        walk.push(c as u16);
+        let near = draw.of(&[c.wrapping_sub(width), c.wrapping_sub(1), c, c + 1, c + width]);
+        let jump = draw.below(cells);
+        if draw.percent(wild) {
+            c = draw.of(&[jump, cells, 65535]);
+        } else if near < cells {
+            c = near;
+        }
+    }
+    walk
+}
+
+/// Two routes and a horizon: walks that cross, or walks far apart that are made to meet at one beat in one way, around the horizon too.
+fn pair_case(seed: u64, tally: &mut Tally) {
+    let draw = &mut Draw(seed.wrapping_mul(0x2545_f491_4f6c_dd1d) ^ 0x9a1c);
+    let (cells, wild) = (draw.of(&[2, 3, 4, 6, 9, 30, 1024]), draw.of(&[0, 0, 2, 30]));
+    let width = draw.between(1, cells.min(32));
+    let any = draw.below(66);
+    let horizon = draw.of(&[0, 1, 2, 3, 8, 31, 62, 63, 64, 65535, any, any, any]);
+    let (first, second) = (about(draw, 64), about(draw, 64));
+    let mut a = draw_walk(draw, first, width, cells, wild);
+    let mut b = draw_walk(draw, second, width, cells, wild);
+    if draw.percent(60) {
+        b.iter_mut().for_each(|c| *c = c.wrapping_add(3000));
+        let last = horizon.min(63);
+        let beat = draw.of(&[draw.0 as usize % 64, last.saturating_sub(1), last, last + 1]);
+        if beat + 1 < a.len().min(b.len()) {
+            let way = draw.below(4);
+            if way != 1 {
+                b[beat] = a[beat];
+            }
+            if way == 1 || way == 2 {
+                (b[beat], b[beat + 1]) = (a[beat + 1], a[beat]);
+            }
+            if way == 3 {
+                a[beat + 1] = a[beat];
+                b[beat + 1] = a[beat];
+            }
+        }
+    }
+    let margin = draw.next() as u16;
+    let (a, b) = (Lent::of(&a, margin), Lent::of(&b, margin));
+    tally.compare(Call::Conflict { a: a.clone(), b: b.clone(), horizon: horizon as u16 });
+    tally.compare(Call::Conflict { a: b, b: a, horizon: horizon as u16 });
+}
+
 /// The ceiling of every number of carriers.
 fn ceilings(tally: &mut Tally) {
     tally.replay = "".into();
@@ -766,20 +826,22 @@ fn main() {
     let whole = words.is_empty();
     let mut tally = Tally::default();
     let none = (1, 0);
-    let (sheets, lists, trials) = match words[..] {
-        [] => ((1, SHEETS), (1, LISTS), (1, TRIALS)),
-        ["sheets", from, count] => ((number(from), number(count)), none, none),
-        ["lists", from, count] => (none, (number(from), number(count)), none),
-        ["trials", from, count] => (none, none, (number(from), number(count))),
-        ["sheet", seed] => ((number(seed), 1), none, none),
-        ["list", seed] => (none, (number(seed), 1), none),
-        ["trial", seed] => (none, none, (number(seed), 1)),
+    let (sheets, lists, trials, pairs) = match words[..] {
+        [] => ((1, SHEETS), (1, LISTS), (1, TRIALS), (1, PAIRS)),
+        ["sheets", from, count] => ((number(from), number(count)), none, none, none),
+        ["lists", from, count] => (none, (number(from), number(count)), none, none),
+        ["trials", from, count] => (none, none, (number(from), number(count)), none),
+        ["pairs", from, count] => (none, none, none, (number(from), number(count))),
+        ["sheet", seed] => ((number(seed), 1), none, none, none),
+        ["list", seed] => (none, (number(seed), 1), none, none),
+        ["trial", seed] => (none, none, (number(seed), 1), none),
+        ["pair", seed] => (none, none, none, (number(seed), 1)),
         _ => {
-            eprintln!("usage: compare [sheets FROM COUNT | lists FROM COUNT | trials FROM COUNT | sheet SEED | list SEED | trial SEED]");
+            eprintln!("usage: compare [sheets | lists | trials | pairs FROM COUNT, or sheet | list | trial | pair SEED]");
             exit(2);
         }
     };
-    tally.verbose = matches!(words[..], ["sheet" | "list" | "trial", _]);
+    tally.verbose = matches!(words[..], ["sheet" | "list" | "trial" | "pair", _]);
     let begin = Instant::now();
     let mut accepted = 0;
     for seed in sheets.0..sheets.0 + sheets.1 {
@@ -796,16 +858,21 @@ fn main() {
         tally.replay = format!("trial {seed}");
         trial_case(seed, &mut tally);
     }
+    for seed in pairs.0..pairs.0 + pairs.1 {
+        tally.replay = format!("pair {seed}");
+        pair_case(seed, &mut tally);
+    }
     if whole {
         ceilings(&mut tally);
     }
     tally.print();
     println!(
-        "compare: {} sheets ({accepted} read, {by_sheets} calls), {} lists ({by_lists} calls), {} trials, {} calls in all: library and \
-         paper agree, in {:.1} s",
+        "compare: {} sheets ({accepted} read, {by_sheets} calls), {} lists ({by_lists} calls), {} trials, {} pairs of routes, {} calls in all: \
+         library and paper agree, in {:.1} s",
         sheets.1,
         lists.1,
         trials.1,
+        pairs.1,
         tally.calls,
         begin.elapsed().as_secs_f64()
     );
