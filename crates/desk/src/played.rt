@@ -22,7 +22,7 @@ use trial::Tried;
 pub const TEXT_LENGTH: usize = 13217;
 
 // Room for the most walls that a floor can have.
-fn no_walls() -> [u16; 1023]
+pub fn no_walls() -> [u16; 1023]
     ensures { λ r. ⌜ 1023 ≡ length r ⌝ }
 {
     [0; 1023]
@@ -50,7 +50,7 @@ fn no_report() -> [u16; 1004]
 }
 
 // Puts the line of a refusal; its length is returned.
-fn put_refusal(x: Refusal, out: &mut [u8]) -> usize
+pub fn put_refusal(x: Refusal, out: &mut [u8]) -> usize
     requires { ⌜ (x .place ≤ 65535) × (16 ≤ length (now out)) ⌝ }
     ensures { λ r. ⌜ TextPut (refusalLine (x .number) (x .place)) (now (out .entry)) (now (out .exit)) r ⌝ }
 {
