@@ -1,5 +1,3 @@
--- Laws of the arguments' numbers, of texts put into a memory, and of a trial and a meeting there.
+-- Laws of the arguments' numbers, and of a trial's text.
 pub mod ArgumentLaws
-pub mod TextLaws
 pub mod PlayedLaws
-pub mod MeetingLaws

@@ -38,7 +38,7 @@ use Rattle.sheet.specs.Read.{sheetVerdict}
 use Rattle.printing.proofs.PrintLaws.{WasRead}
 use Rattle.io.specs.Counts.{Counts}
 use Rattle.desk.specs.Text.{orderVerdict, playedText, trialText}
-use Rattle.desk.proofs.TextLaws.{stands, counts, refusal-length}
+use Rattle.reporting.proofs.TextLaws.{stands, counts, refusal-length}
 
 -- The largest figures.
 ceiling-most : (n : ℕ) → n ≤ 8 → ceiling n ≤ 502

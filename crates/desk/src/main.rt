@@ -1,7 +1,6 @@
 // The program `desk`: tools over a sheet from standard input, each a command named by the first argument. What is wrong with an
 // argument or a command is said in words on standard error.
 mod arguments;
-mod meeting;
 mod played;
 
 use arguments::Decimal;

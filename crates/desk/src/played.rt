@@ -6,15 +6,14 @@ ghost use lib.ListN.{length, take};
 ghost use Rattle.io.specs.Counts.{Counts};
 ghost use Rattle.laws.specs.Verdict.{passed};
 ghost use Rattle.floor.specs.Checks.{checkOf};
-ghost use Rattle.printing.specs.Text.{refusalLine};
 ghost use Rattle.printing.specs.Print.{printOf, orRefusal};
 ghost use Rattle.printing.specs.Put.{TextPut};
 ghost use Rattle.reporting.specs.Text.{reportText};
 ghost use Rattle.desk.specs.Text.{orderVerdict, playedText, trialText};
 use floor::Checked;
 use floor::Floor;
-use floor::Refusal;
 use printing::Printed;
+use reporting::put_refusal;
 use trial::Tried;
 
 // The length of the longest text: the report of 502 steps (16 bytes, and 21 a step), the routes of eight carriers (11 bytes, and 331 a
@@ -22,7 +21,7 @@ use trial::Tried;
 pub const TEXT_LENGTH: usize = 13217;
 
 // Room for the most walls that a floor can have.
-pub fn no_walls() -> [u16; 1023]
+fn no_walls() -> [u16; 1023]
     ensures { λ r. ⌜ 1023 ≡ length r ⌝ }
 {
     [0; 1023]
@@ -47,18 +46,6 @@ fn no_report() -> [u16; 1004]
     ensures { λ r. ⌜ 1004 ≡ length r ⌝ }
 {
     [0; 1004]
-}
-
-// Puts the line of a refusal; its length is returned.
-pub fn put_refusal(x: Refusal, out: &mut [u8]) -> usize
-    requires { ⌜ (x .place ≤ 65535) × (16 ≤ length (now out)) ⌝ }
-    ensures { λ r. ⌜ TextPut (refusalLine (x .number) (x .place)) (now (out .entry)) (now (out .exit)) r ⌝ }
-{
-    let printed = printing::print_refusal(x, out);
-    let Printed::Written(n) = printed else {
-        return 0;
-    };
-    n
 }
 
 // Puts the routes of an accepted floor; their length is returned.

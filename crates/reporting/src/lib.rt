@@ -4,8 +4,12 @@ ghost use mathlib.Core.List.{_∷_, []};
 ghost use Prim.Native.Nat.{_+_, _*_, _≤_, _<_};
 ghost use lib.ListN.{length};
 ghost use Rattle.sheet.specs.Text.{lineOf, linesOf};
+ghost use Rattle.printing.specs.Text.{refusalLine};
+ghost use Rattle.printing.specs.Put.{TextPut};
 ghost use Rattle.reporting.specs.Text.{answerWord, stepLine, entryLine, entries, reportText, reportLength};
 ghost use Rattle.reporting.specs.Put.{PutAt};
+use floor::Refusal;
+use printing::Printed;
 
 // Puts bytes from a column on; the column behind them is returned.
 pub fn put_bytes(out: &mut [u8], at: usize, bytes: &[u8]) -> usize
@@ -85,4 +89,16 @@ pub fn put_report(carriers: u16, order: u16, report: &[u16], out: &mut [u8]) -> 
 {
     put_line(carriers, order, (report.len() / 2) as u16, out);
     put_entries(report, out)
+}
+
+// Puts the line of a refusal; its length is returned.
+pub fn put_refusal(x: Refusal, out: &mut [u8]) -> usize
+    requires { ⌜ (x .place ≤ 65535) × (16 ≤ length (now out)) ⌝ }
+    ensures { λ r. ⌜ TextPut (refusalLine (x .number) (x .place)) (now (out .entry)) (now (out .exit)) r ⌝ }
+{
+    let printed = printing::print_refusal(x, out);
+    let Printed::Written(n) = printed else {
+        return 0;
+    };
+    n
 }

@@ -1,5 +1,5 @@
 -- `desk::played::put_routes` meets its contract: its memory is never too short.
-use Rattle.desk.proofs.TextLaws.{never-refused, routes-put}
+use Rattle.reporting.proofs.TextLaws.{never-refused, routes-put}
 use mathlib.Core.List.{[]}
 use native.Mathlib.Omega.{arith}
 use borrow.Author.Needs.{needs}

@@ -1,7 +1,7 @@
 -- `desk::played::put_trial` meets its contract: the memory is for the most carriers, so that only the order decides.
 use mathlib.Core.Path.{refl, sym}
 use lib.Seq.{length-take-le}
-use Rattle.desk.proofs.TextLaws.{numbers-few}
+use Rattle.reporting.proofs.TextLaws.{numbers-few}
 use Rattle.desk.proofs.PlayedLaws.{steps-told, steps-low, refusal-told, report-front, played-put, refused-put}
 use native.Mathlib.Omega.{arith}
 use borrow.Author.Needs.{needs}
