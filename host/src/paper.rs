@@ -372,6 +372,40 @@ pub fn print_routes(text: &[u8]) -> String {
     out
 }
 
+/// What `desk meeting I J` prints for a sheet: where the best routes of two carriers, each against nobody, meet, and the floor then.
+pub fn print_meeting(text: &[u8], i: u64, j: u64) -> String {
+    let floor = match floor_of_sheet(text) {
+        Ok(floor) => floor,
+        Err(r) => return text_line(&[0, r.number as usize, r.place]),
+    };
+    let there = 1..=floor.carriers() as u64;
+    if !there.contains(&i) || !there.contains(&j) {
+        return text_line(&[0, 7, 0]);
+    }
+    let alone = |k: u64| best_route(&floor, floor.starts[k as usize - 1], floor.goals[k as usize - 1], &[]);
+    let Some(a) = alone(i) else { return format!("carrier {i} has no route\n") };
+    let Some(b) = alone(j) else { return format!("carrier {j} has no route\n") };
+    let (mut out, beat) = match first_conflict(&a, &b, floor.horizon) {
+        None => return "free\n".into(),
+        Some((beat, Kind::SameCell)) => (format!("same cell at beat {beat}\n"), beat),
+        Some((beat, Kind::ChangeOfPlaces)) => (format!("change of places after beat {beat}\n"), beat),
+    };
+    for row in 0..floor.height {
+        for column in 0..floor.width {
+            let c = row * floor.width + column;
+            out += &match (a[beat] as usize == c, b[beat] as usize == c) {
+                _ if floor.walls.contains(&c) => "#".into(),
+                (true, true) => "*".into(),
+                (true, false) => i.to_string(),
+                (false, true) => j.to_string(),
+                (false, false) => ".".to_string(),
+            };
+        }
+        out.push('\n');
+    }
+    out
+}
+
 // ---- The machine ----
 
 /// What a carrier has heard of a carrier above it.

@@ -58,11 +58,15 @@ module _ (f : Floor) (ws places : List ℕ) where
   bytes-end old new k n e a b s = let same : k ≡ (f .width + 1) * f .height = omega arith in rw same at e
 
 -- A cell number in a drawing fits its type.
-pub cell-low : (w k : ℕ) → w ≤ 32 → k ≤ 1056 → k / (w + 1) * w ≤ 33792
-cell-low w k l h = omega (arith, mul-le-mul (div-le-self k (w + 1)) l)
+pub record LowCell (w k : ℕ) : Type 0 where
+  pub row : k / (w + 1) * w ≤ 33792
+  pub column : k % (w + 1) ≤ w
+  pub narrow : w ≤ 32
 
-pub column-low : (w k : ℕ) → k % (w + 1) ≤ w
-column-low w k = let l = mod-lt k {m = w + 1} (omega arith) in omega arith
+pub low-cell : (w k : ℕ) → w ≤ 32 → k ≤ 1056 → LowCell w k
+low-cell w k l h =
+    let below = mod-lt k {m = w + 1} (omega arith) in
+    record { row = omega (arith, mul-le-mul (div-le-self k (w + 1)) l); column = omega arith; narrow = l }
 
 pub grid-low : (w h : ℕ) → w ≤ 32 → h ≤ 32 → (w + 1) * h ≤ 1056
 grid-low w h l k =
