@@ -97,7 +97,9 @@ mod tests {
         let four = "    4    2    5    1    3    1\n    0    0    3    0\n    3    0    0    0\n    0    1    3    1\n    1    1\n";
         assert_eq!(meeting(four, 1, 2), "change of places after beat 1\n.12.\n.#..\n");
         assert_eq!(meeting(four, 2, 1), meeting(four, 1, 2));
-        assert_eq!(meeting(four, 3, 1), "free\n");
+        assert_eq!(meeting(four, 3, 1), "same cell at beat 4\n...*\n.#..\n");
+        let rows = "    3    2    4    1    2    0\n    0    0    2    0\n    0    1    2    1\n";
+        assert_eq!(meeting(rows, 1, 2), "free\n");
         let shut = four.replace("    5    1    3    1", "    4    1    3    1");
         assert_eq!(meeting(&shut, 1, 3), "carrier 3 has no route\n");
         assert_eq!(meeting(&shut, 3, 1), "carrier 3 has no route\n");

@@ -47,10 +47,11 @@ loop-again-2 c =
 returns-3 : tie.Need-returns-3 Inv-loop μ-loop
 unfolding conflictTold
 returns-3 c =
+    let after-loop : tie.After-loop Inv-loop μ-loop = search in
     let at-loop : tie.At-loop Inv-loop μ-loop = search in
     let after-last-beat : tie.After-last-beat Inv-loop μ-loop = search in
-    let after-loop : tie.After-loop Inv-loop μ-loop = search in
-    rw (← after-last-beat .last-beat .ensures .0) (last-found _ _ _ _ (at-loop .loop .inv .1) (at-loop .loop .inv .0) (after-loop .loop-test .left) (c .if4 .taken))
+    rw (← after-last-beat .last-beat .ensures .0)
+    (last-found _ _ _ _ (at-loop .loop .inv .1) (at-loop .loop .inv .0) (after-loop .loop-test .left) (c .if4 .taken))
 
 returns-4 : tie.Need-returns-4 Inv-loop μ-loop
 unfolding conflictTold
