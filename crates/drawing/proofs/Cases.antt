@@ -1,6 +1,5 @@
 -- Drawings computed from the definitions: document 01's grid of 3 by 2 with a wall in cell 4.
-use Prim.Native.Nat.{ℕ}
-use mathlib.Core.List.{List, [], _∷_}
+use mathlib.Core.List.{[], _∷_}
 use mathlib.Core.Path.{_≡_, refl}
 use lib.ListN.{replicate}
 use Rattle.floor.specs.declared.Floor.{Floor}

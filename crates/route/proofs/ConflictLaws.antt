@@ -2,13 +2,12 @@
 use Prim.Native.Nat.{ℕ, zero, suc, _≤_, _<_}
 use native.Mathlib.Omega.{arith}
 use native.Mathlib.Nat.{eq-or-lt-of-le, le-of-suc-le-suc}
-use mathlib.Core.Bool.{Bool, true, false, cond, _&&_}
-use mathlib.Core.List.{List, [], _∷_}
+use mathlib.Core.Bool.{Bool, true, false, cond}
+use mathlib.Core.List.{List}
 use mathlib.Core.Logic.{_⊎_, inl, inr}
 use mathlib.Core.Path.{_≡_, refl, sym}
-use lib.Dec.{eqb, ltb}
+use lib.Dec.{ltb}
 use borrow.Author.Tests.{eqb-true, eq-eqb, ltb-true, lt-ltb}
-use Rattle.route.specs.Route.{cellAt}
 use Rattle.route.specs.Conflict.{VertexConflict, SwapConflict, Conflict, ConflictFree}
 use Rattle.route.specs.FirstConflict.{ConflictKind, sameCell, changeOfPlaces, rankOf, ConflictAt, FirstAt}
 use Rattle.route.specs.FirstConflict.{ConflictAnswer, free, dated}
