@@ -64,6 +64,10 @@ static uint64_t run_of_rank(void) {
     three[4] = 3;
     return kalomivund_run_of_rank(three, KALOMIVUND_FLOOR, walls, KALOMIVUND_MOST_WALLS, 0, report, KALOMIVUND_MOST_REPORT);
 }
+
+static uint64_t conflict(void) {
+    return kalomivund_conflict(answers + 1, KALOMIVUND_ROUTE, answers + 1 + KALOMIVUND_RECORD, KALOMIVUND_ROUTE, 63);
+}
 static uint64_t ceiling(void) { return kalomivund_ceiling(8); }
 
 struct job {
@@ -113,7 +117,7 @@ int main(void) {
         {"write_sheet", write_sheet}, {"read_sheet", read_sheet}, {"check_floor", check_floor},
         {"needed_lengths", needed_lengths}, {"plan", plan}, {"search", search}, {"print_routes", print_routes},
         {"fresh", fresh}, {"step (plan)", step_plan}, {"step (deliver)", step_deliver}, {"run", run}, {"trial", trial},
-        {"run_of_rank", run_of_rank}, {"ceiling", ceiling},
+        {"run_of_rank", run_of_rank}, {"conflict", conflict}, {"ceiling", ceiling},
     };
     /* Walls: the last cells of the grid but for the starts and goals there, so that a floor of many walls is read. */
     for (uint16_t c = 544; c < 1024; c++) {

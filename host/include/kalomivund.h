@@ -78,6 +78,9 @@ extern "C" {
 #define KALOMIVUND_SILENT 0    /* run: no step is open */
 #define KALOMIVUND_SPENT 1     /* run: the budget is used up and steps are left unread */
 #define KALOMIVUND_ENDED 2     /* run: the list is read, and some step is open */
+#define KALOMIVUND_FREE 0      /* conflict: there is none */
+#define KALOMIVUND_SAME_CELL 1 /* conflict: both routes are in one cell at the beat */
+#define KALOMIVUND_CHANGE_OF_PLACES 2 /* conflict: the routes change places between the beat and the next */
 
 /* Steps by their numbers; every other number names no step. A carrier outside 1 to 9 gives 0, which names none, so that no carrier
  * number can be taken for another step. Arguments are evaluated more than once. */
@@ -202,6 +205,13 @@ uint64_t kalomivund_trial(const uint16_t *floor, size_t floor_len, const uint16_
  * Refused the floor's refusals; 9 (report too short); 14, 0; 15, 0. */
 uint64_t kalomivund_run_of_rank(const uint16_t *floor, size_t floor_len, const uint16_t *walls, size_t walls_len, uint64_t rank,
                                 uint16_t *report, size_t report_len);
+
+/* The first conflict of two routes over beats 0 to horizon; at one beat same cell comes before change of places. A horizon above 63
+ * counts as 63. Writes nothing.
+ * Takes   a and b, 64 cells each, any numbers, jumps and cells outside every grid included; numbers past 64 are not looked at.
+ * Done    case 0 free, number 0; case 1 same cell, number the beat; case 2 change of places, number the beat before it.
+ * Refused 9 (a or b shorter than 64). */
+uint64_t kalomivund_conflict(const uint16_t *a, size_t a_len, const uint16_t *b, size_t b_len, uint16_t horizon);
 
 /* The most steps that so many carriers can take from the fresh state, 2^(n + 1) - n - 2:
  * 1, 4, 11, 26, 57, 120, 247, 502 for 1 to 8, as the commissioning handbook prints them.

@@ -102,6 +102,10 @@ pub fn trial(floor: &[u16], walls: &[u16], order: u16, seed: u32, state: &mut [u
     }
 }
 
+pub fn conflict(a: &[u16], b: &[u16], horizon: u16) -> u64 {
+    unsafe { raw::kalomivund_conflict(a.as_ptr(), a.len(), b.as_ptr(), b.len(), horizon) }
+}
+
 pub fn ceiling(carriers: u16) -> u64 {
     unsafe { raw::kalomivund_ceiling(carriers) }
 }

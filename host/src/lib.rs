@@ -170,6 +170,15 @@ pub struct Ran {
     pub end: End,
 }
 
+/// The first conflict of two routes, with its beat.
+#[derive(Clone, Copy, PartialEq, Eq, Debug)]
+pub enum Conflict {
+    /// Both are in one cell at this beat.
+    SameCell(usize),
+    /// They change places between this beat and the next.
+    ChangeOfPlaces(usize),
+}
+
 /// Whether a carrier number has a digit of its own in a step's number.
 const fn is_digit(i: u16) -> bool {
     1 <= i && i <= 9
@@ -273,6 +282,16 @@ pub struct Listed {
 pub fn run_of_rank(floor: &Floor, walls: &[u16], rank: u64, report: &mut [u16]) -> Result<Listed, Refusal> {
     let (steps, total) = answer_of(calls::run_of_rank(&floor.record(), walls, rank, report))?;
     Ok(Listed { total, steps: steps as usize })
+}
+
+/// The first conflict of two routes over beats 0 to the horizon, one above 63 counting as 63; `None` if they are free. At one beat same
+/// cell comes before change of places. Any 64 numbers are taken as they stand.
+pub fn conflict(a: &Route, b: &Route, horizon: u16) -> Option<Conflict> {
+    match answer_of(calls::conflict(a, b, horizon)) {
+        Ok((1, beat)) => Some(Conflict::SameCell(beat as usize)),
+        Ok((2, beat)) => Some(Conflict::ChangeOfPlaces(beat as usize)),
+        _ => None,
+    }
 }
 
 /// The most steps that n carriers can take. Refusal 2, field 5.

@@ -322,6 +322,20 @@ pub fn best_route(floor: &Floor, start: usize, goal: usize, against: &[Route]) -
     Some(route)
 }
 
+/// A kind of conflict, in the order of those at one beat.
+#[derive(Clone, Copy, PartialEq, Eq, PartialOrd, Ord, Debug)]
+pub enum Kind {
+    SameCell,
+    ChangeOfPlaces,
+}
+
+/// The first conflict of two routes over beats 0 to the horizon (document 02, slip 7): the least of all that there are, by beat and kind.
+pub fn first_conflict(a: &[u16], b: &[u16], horizon: usize) -> Option<(usize, Kind)> {
+    let same = (0..=horizon).filter(|&t| a[t] == b[t]).map(|t| (t, Kind::SameCell));
+    let change = (0..horizon).filter(|&t| a[t] == b[t + 1] && a[t + 1] == b[t]).map(|t| (t, Kind::ChangeOfPlaces));
+    same.chain(change).min()
+}
+
 /// Where a carrier (from 0) is for those below it, by its answer: on its route, or at its start at every beat if it has none.
 pub fn occupied(floor: &Floor, carrier: usize, answer: Answer) -> Route {
     answer.unwrap_or([floor.starts[carrier] as u16; 64])
@@ -355,6 +369,40 @@ pub fn print_routes(text: &[u8]) -> String {
                 out += &text_line(&fields);
             }
         }
+    }
+    out
+}
+
+/// What `desk meeting I J` prints for a sheet: where the best routes of two carriers, each against nobody, meet, and the floor then.
+pub fn print_meeting(text: &[u8], i: u64, j: u64) -> String {
+    let floor = match floor_of_sheet(text) {
+        Ok(floor) => floor,
+        Err(r) => return text_line(&[0, r.number as usize, r.place]),
+    };
+    let there = 1..=floor.carriers() as u64;
+    if !there.contains(&i) || !there.contains(&j) {
+        return text_line(&[0, 7, 0]);
+    }
+    let alone = |k: u64| best_route(&floor, floor.starts[k as usize - 1], floor.goals[k as usize - 1], &[]);
+    let Some(a) = alone(i) else { return format!("carrier {i} has no route\n") };
+    let Some(b) = alone(j) else { return format!("carrier {j} has no route\n") };
+    let (mut out, beat) = match first_conflict(&a, &b, floor.horizon) {
+        None => return "free\n".into(),
+        Some((beat, Kind::SameCell)) => (format!("same cell at beat {beat}\n"), beat),
+        Some((beat, Kind::ChangeOfPlaces)) => (format!("change of places after beat {beat}\n"), beat),
+    };
+    for row in 0..floor.height {
+        for column in 0..floor.width {
+            let c = row * floor.width + column;
+            out += &match (a[beat] as usize == c, b[beat] as usize == c) {
+                _ if floor.walls.contains(&c) => "#".into(),
+                (true, true) => "*".into(),
+                (true, false) => i.to_string(),
+                (false, true) => j.to_string(),
+                (false, false) => ".".to_string(),
+            };
+        }
+        out.push('\n');
     }
     out
 }
@@ -990,6 +1038,17 @@ pub mod calls {
                 report[2 * k + 1] = answer as u16;
             }
             Ok(done(run.len() as u64, total))
+        })())
+    }
+
+    pub fn conflict(a: &[u16], b: &[u16], horizon: u16) -> u64 {
+        word((|| {
+            long_enough(a.len() < 64 || b.len() < 64)?;
+            Ok(match first_conflict(a, b, (horizon as usize).min(63)) {
+                None => done(0, 0),
+                Some((beat, Kind::SameCell)) => done(1, beat),
+                Some((beat, Kind::ChangeOfPlaces)) => done(2, beat),
+            })
         })())
     }
 

@@ -102,5 +102,7 @@ extern "C" {
         report_len: usize,
     ) -> u64;
 
+    pub fn kalomivund_conflict(a: *const u16, a_len: usize, b: *const u16, b_len: usize, horizon: u16) -> u64;
+
     pub fn kalomivund_ceiling(carriers: u16) -> u64;
 }

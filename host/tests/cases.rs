@@ -10,7 +10,7 @@ mod paper;
 
 use std::collections::VecDeque;
 
-use paper::{calls, Answer, End, Floor, Route, State, Step, View};
+use paper::{calls, Answer, End, Floor, Kind, Route, State, Step, View};
 
 const SCRIPT: &str = include_str!("../../crates/cases/stdin");
 const EXPECTED: &str = include_str!("../../crates/cases/stdout");
@@ -98,13 +98,6 @@ fn written_out(numbers: &[Number], length: usize) -> Vec<u16> {
 
 // ---- Conflicts ----
 
-/// Whether two routes are in one cell at a beat, or change places between two.
-fn in_conflict(a: &Route, b: &Route, horizon: usize) -> bool {
-    let meet = (0..=horizon).any(|t| a[t] == b[t]);
-    let swap = (0..horizon).any(|t| a[t] == b[t + 1] && a[t + 1] == b[t]);
-    meet || swap
-}
-
 /// The pairs of carriers that both have a route.
 fn pairs_of(answers: &[Answer]) -> Vec<(Route, Route)> {
     let routes: Vec<Route> = answers.iter().flatten().copied().collect();
@@ -114,7 +107,7 @@ fn pairs_of(answers: &[Answer]) -> Vec<(Route, Route)> {
 
 /// How many pairs are in conflict.
 fn conflicts_of(answers: &[Answer], horizon: usize) -> usize {
-    pairs_of(answers).iter().filter(|(a, b)| in_conflict(a, b, horizon)).count()
+    pairs_of(answers).iter().filter(|(a, b)| paper::first_conflict(a, b, horizon).is_some()).count()
 }
 
 // ---- Orders ----
@@ -425,6 +418,16 @@ impl Desk {
         format!("pairs {} conflicts {}", pairs_of(&answers).len(), conflicts_of(&answers, self.set[2] as usize))
     }
 
+    /// The first conflict of two carriers' routes in lent memory.
+    fn first_conflict(&self, numbers: &[Number]) -> String {
+        let cells = |k: usize| &self.lent[65 * numbers[k].value - 64..65 * numbers[k].value];
+        match paper::first_conflict(cells(0), cells(1), (self.set[2] as usize).min(63)) {
+            None => "free".into(),
+            Some((beat, Kind::SameCell)) => format!("same cell at beat {beat}"),
+            Some((beat, Kind::ChangeOfPlaces)) => format!("change of places after beat {beat}"),
+        }
+    }
+
     /// A carrier's arrival and its first cells, at most eight; or none.
     fn route_told(&self, carrier: usize, answer: Answer) -> String {
         let floor = self.floor();
@@ -492,6 +495,7 @@ impl Desk {
             b'm' => either(self.lent == written_out(numbers, self.lent.len()), "the same", "OTHERWISE"),
             b'a' => either(self.is_planned(), "the same", "OTHERWISE"),
             b'v' => self.conflicts(),
+            b'V' => self.first_conflict(numbers),
             b'S' => self.search(first),
             b't' => self.sheet(&rest.as_bytes()[..first]),
             b'C' => passed(calls::check_floor(&record, &walls)),

@@ -196,6 +196,30 @@ fn every_run_of_two_carriers() {
     assert!(report.iter().chain(&wide).all(|&left| left == 7));
 }
 
+/// The first conflict of two routes: the beat, and the kind; at one beat same cell first; the horizon's own beat counts, the next does not.
+#[test]
+fn conflicts_of_two_routes() {
+    let route = |cells: &[u16]| {
+        let mut route = [0; 64];
+        route[..cells.len()].copy_from_slice(cells);
+        route
+    };
+    let first = |a: &[u16], b: &[u16], horizon| conflict(&route(a), &route(b), horizon);
+    assert_eq!(first(&[0, 1, 2], &[2, 1, 0], 2), Some(Conflict::SameCell(1)));
+    assert_eq!(first(&[0, 1, 2], &[3, 2, 1], 2), Some(Conflict::ChangeOfPlaces(1)));
+    assert_eq!(first(&[0, 1, 2], &[3, 2, 1], 1), None);
+    assert_eq!(first(&[5, 5, 0], &[5, 5, 1], 2), Some(Conflict::SameCell(0)));
+    assert_eq!(first(&[0, 1, 7], &[3, 4, 7], 2), Some(Conflict::SameCell(2)));
+    assert_eq!(first(&[0, 1, 7], &[3, 4, 7], 1), None);
+    assert_eq!(first(&[0, 1, 2], &[1, 2, 3], 2), None);
+    let (mut a, b) = ([7; 64], [8; 64]);
+    assert_eq!(conflict(&a, &b, u16::MAX), None);
+    a[63] = 8;
+    assert_eq!(conflict(&a, &b, u16::MAX), Some(Conflict::SameCell(63)));
+    assert_eq!(refused(answer_of(calls::conflict(&a[1..], &b, 4))), (9, 0));
+    assert_eq!(refused(answer_of(calls::conflict(&a, &b[1..], 4))), (9, 0));
+}
+
 /// The worked example of docs/FIRMWARE.md: board 2 misses the order 'plan 1' and catches up.
 #[test]
 fn a_lost_order() {

@@ -66,12 +66,14 @@ fn tried(s: &[u8], desk: &[u16], m: &mut [u16]) -> usize {
     }
 }
 
-// Commands that look at lent memory: memory, another planner, vertex and swap conflicts of each pair, Search for a carrier.
+// Commands that look at lent memory: memory, another planner, vertex and swap conflicts of each pair, Vertex or swap conflict that is a
+// pair's first, Search for a carrier.
 fn looked(s: &[u8], desk: &[u16], m: &[u16]) -> usize {
     match byte(s, 0) {
         b'm' => states::memory(s, m),
         b'a' => answers::compared(tally::second_says(desk, m, 0, 65)),
         b'v' => pairs::say(desk, m),
+        b'V' => pairs::say_first(s, desk, m),
         b'S' => routes::search(s, desk, m),
         _ => asked(s, desk),
     }

@@ -1,6 +1,8 @@
 // Every pair of routes in lent memory, by the conflict test of the entry and by the second planner's.
 use crate::answers;
+use route::FirstConflict;
 use route::Route;
+use script::fields::field;
 use script::look;
 use script::show;
 
@@ -30,14 +32,27 @@ fn has_route(m: &[u16], i: usize) -> bool {
     look::at(m, place_of(i)) == 2
 }
 
-// Two routes by both tests.
-fn tested(m: &[u16], horizon: u16, i: usize, j: usize) -> usize {
-    let a = cells_of(m, i);
-    let other = second::second_conflict(look::part(m, place_of(j), 65), 1, a, horizon);
-    if route::conflict(a, cells_of(m, j), horizon) {
-        return look::choose(other, CONFLICT, ODD);
+// The number of a conflict, as the second planner counts: 0 for none, 1 + 2 t for the same cell at beat t, 2 + 2 t for a change of places.
+fn number_of(found: FirstConflict) -> usize {
+    match found {
+        FirstConflict::Free => 0,
+        FirstConflict::SameCell(t) => look::plus(look::plus(t, t), 1),
+        FirstConflict::ChangeOfPlaces(t) => look::plus(look::plus(t, t), 2),
     }
-    look::choose(other, ODD, FREE)
+}
+
+// The number of the first conflict of carriers i and j by the entry's test.
+fn first_of(m: &[u16], horizon: u16, i: usize, j: usize) -> usize {
+    number_of(route::first_conflict(cells_of(m, i), cells_of(m, j), horizon))
+}
+
+// Two routes by both tests, whose beats and kinds must be the same.
+fn tested(m: &[u16], horizon: u16, i: usize, j: usize) -> usize {
+    let first = first_of(m, horizon, i, j);
+    if second::second_conflict(look::part(m, place_of(j), 65), cells_of(m, i), horizon) != first {
+        return ODD;
+    }
+    look::choose(first == 0, FREE, CONFLICT)
 }
 
 // What the pair of carriers i and j is.
@@ -80,4 +95,29 @@ pub fn say(desk: &[u16], m: &[u16]) -> usize {
     show::text(b" conflicts");
     show::number(conflicts);
     answers::only_if(count(desk, m, ODD) == 0, answers::answer(answers::SHOWN, 0))
+}
+
+// The first conflict as words: its kind and its beat.
+fn show_first(first: usize) {
+    if first == 0 {
+        return show::text(b" free");
+    }
+    if first % 2 == 1 {
+        show::text(b" same cell at beat");
+        return show::number(first / 2);
+    }
+    show::text(b" change of places after beat");
+    show::number((first - 1) / 2)
+}
+
+// Vertex or swap conflict that is the first of two carriers that have routes, where both tests agree.
+pub fn say_first(s: &[u8], desk: &[u16], m: &[u16]) -> usize {
+    let i = look::plus(field(s, 0), 7);
+    let j = look::plus(field(s, 1), 7);
+    let horizon = look::at(desk, 2);
+    show_first(first_of(m, horizon, i, j));
+    answers::only_if(
+        tested(m, horizon, i, j) != ODD,
+        answers::answer(answers::SHOWN, 0),
+    )
 }

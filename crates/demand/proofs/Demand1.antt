@@ -22,6 +22,7 @@ use Rattle.sheet.specs.Read.{sheetVerdict, readVerdict, readWalls, writeVerdict
 use Rattle.sheet.specs.Refused.{RefusedSheet}
 use Rattle.sheet.proofs.FormLaws.{walls-length}
 use Rattle.sheet.proofs.Theorems.{theorems as sheet-theorems}
+use Rattle.conflict.specs.Entry.{routesLent, conflictOutcome}
 use Rattle.search.specs.Search.{requestOf, searchOf}
 use Rattle.planner.specs.Plan.{planOf, planVerdict}
 use Rattle.planner.proofs.ResultLaws.{plan-size}
@@ -50,7 +51,7 @@ use Rattle.trial.specs.Entry.{trialVerdict, trialOf, trialOutcome, stateTried, 
 use Rattle.trial.proofs.Theorems.{theorems as trial-theorems}
 use Rattle.demand.specs.Rows.{Table, Row, row, Short, _orElse_, earlier, later, Refuses, Answers, Keeps}
 use Rattle.demand.specs.Demand1.{HoldsState, ReadRows, WriteRows, PlanRows, PrintRows, SearchRows, FreshRows, StateRows, CallRows}
-use Rattle.demand.specs.Demand1.{TrialRows, RoutesRows, Demand1}
+use Rattle.demand.specs.Demand1.{TrialRows, RoutesRows, ConflictRows, Demand1}
 use Rattle.demand.proofs.RankLaws.{run-of-rank, run-keeps-report}
 use Rattle.demand.proofs.RowLaws.{then-rows, answers-rows, gives-rows, demand-row, short-row, keeps-when, value-no-refusal, no-row-passes, passes-exactly, refusal-row}
 use Rattle.laws.proofs.PutLaws.{front-beyond, put-beyond}
@@ -240,6 +241,11 @@ module _ (text : List ℕ) where
             beyond = put-beyond old (routesOf text) (neededFor text) (printing-theorems .routes-within text .0);
           })
 
+conflict : (f : Floor) (a b : List ℕ) (horizon : ℕ) → Answers (conflictOutcome a b horizon) (ConflictRows f (length a) (length b))
+unfolding conflictOutcome routesLent lengthsOf
+conflict f a b horizon =
+    gives-rows (routesLent a b) _ (then-rows (roomOf 64 (length a)) _ (short-row 64 (length a)) (λ e. short-row 64 (length b)))
+
 pub theorem : Demand1
 unfolding figuresFor lengthsOf mostSteps
 theorem =
@@ -280,4 +286,5 @@ theorem =
       trial-keeps-report = trial-keeps-report;
       run-of-rank = run-of-rank;
       run-keeps-report = run-keeps-report;
+      conflict = conflict;
     }

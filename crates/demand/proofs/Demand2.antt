@@ -47,5 +47,8 @@ theorem =
       arrival-exactly = route-theorems .arrival-agrees;
       floor-returns = floor-returns;
       sheet-returns = sheet-returns;
+      conflict-test = route-theorems .conflict-test;
+      plan-free = λ f ws j k r q ok l h e g.
+          route-theorems .conflict-test (f .horizon) r q .free-exactly .1 (planner-theorems .conflict-free f ws j k r q ok l h e g);
       same-floor = λ f ws g vs same lent lent′. same-answers f ws g vs same lent lent′;
     }

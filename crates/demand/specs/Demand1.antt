@@ -13,6 +13,7 @@ use Rattle.floor.specs.Refused.{RefusedWith as RefusedFloor}
 use Rattle.sheet.specs.Values.{floorAt}
 use Rattle.sheet.specs.Read.{sheetVerdict, readVerdict, readWalls, writeVerdict, writeSheet}
 use Rattle.sheet.specs.Refused.{RefusedSheet}
+use Rattle.conflict.specs.Entry.{conflictOutcome}
 use Rattle.search.specs.Search.{searchOf}
 use Rattle.planner.specs.Answers.{planResult}
 use Rattle.planner.specs.Records.{planMemory}
@@ -71,6 +72,10 @@ module _ (f : Floor) (ws : List ℕ) where
   abbrev pub RankRows : (rank report : ℕ) → Table
   RankRows rank report = SmallRows report orElse Row 15 0 (totalOf f ws ≤ rank)
 
+-- The conflict test of two lent routes (document 02, slip 7): 9 for either, below the figure for a route.
+abbrev pub ConflictRows : Floor → (first second : ℕ) → Table
+ConflictRows f first second = Short first (lengthsOf f .route) orElse Short second (lengthsOf f .route)
+
 abbrev pub ReadRows : List ℕ → ℕ → Table
 ReadRows text room = RefusedSheet text orElse Short room (lengthsOf (floorAt text) .walls)
 
@@ -126,3 +131,5 @@ pub record Demand1 : Type 0 where
   pub run-of-rank : (f : Floor) (ws : List ℕ) (rank report : ℕ) → Answers (rankOutcome f ws rank report) (RankRows f ws rank report)
   pub run-keeps-report : (f : Floor) (ws : List ℕ) (rank : ℕ) (old : List ℕ)
       → Keeps (RankRows f ws rank (length old)) (lengthsOf f .report) old (reportListed f ws rank old)
+  -- The conflict test of two lent routes, which writes no memory.
+  pub conflict : (f : Floor) (a b : List ℕ) (horizon : ℕ) → Answers (conflictOutcome a b horizon) (ConflictRows f (length a) (length b))

@@ -13,6 +13,8 @@ use Rattle.floor.specs.Accepted.{Absent, Lent, SameFloor}
 use Rattle.route.specs.Route.{cellAt, Answer, none, route, View, unheard, heard, Task}
 use Rattle.route.specs.Best.{Arrives, Admissible, Best}
 use Rattle.route.specs.Arrival.{arrivalOf}
+use Rattle.route.specs.FirstConflict.{free}
+use Rattle.route.specs.ConflictTest.{firstConflict, TestedFor}
 use Rattle.records.specs.Records.{records, viewsOf}
 use Rattle.records.specs.Seen.{seenFrom, seen}
 use Rattle.sheet.specs.Text.{sheetLength}
@@ -111,3 +113,8 @@ pub record Demand2 : Type 0 where
       take (length text) (writeSheet (readFloor text (length lent)) (readWalls text lent) old) ≡ text
   -- The same floor gets the same answers: record places past the carriers and walls past the count change nothing.
   pub same-floor : (f : Floor) (ws : List ℕ) (g : Floor) (vs : List ℕ) → SameFloor f ws g vs → Lent f ws → Lent g vs → SameAnswers f ws g vs
+  -- The conflict test answers free exactly if two routes have no conflict, otherwise the first one with its beat and kind; any two routes
+  -- of a plan are free.
+  pub conflict-test : (H : ℕ) (a b : List ℕ) → TestedFor H a b
+  pub plan-free : (f : Floor) (ws : List ℕ) (j k : ℕ) (r q : List ℕ) → checkOf f ws ≡ passed → j < k → k < f .carriers →
+      answerAt (planOf f ws) j ≡ route q → answerAt (planOf f ws) k ≡ route r → firstConflict (f .horizon) r q ≡ free

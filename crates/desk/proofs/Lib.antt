@@ -1,5 +1,4 @@
--- Laws of the arguments' numbers, of texts put into a memory, and of a trial played there.
+-- Laws of the arguments' numbers, and of a trial's text.
 pub mod ArgumentLaws
-pub mod TextLaws
 pub mod PlayedLaws
 mod ListedLaws

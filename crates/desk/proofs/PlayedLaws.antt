@@ -38,7 +38,7 @@ use Rattle.sheet.specs.Read.{sheetVerdict}
 use Rattle.printing.proofs.PrintLaws.{WasRead, refusal-length}
 use Rattle.io.specs.Counts.{Counts}
 use Rattle.desk.specs.Text.{orderVerdict, playedText, trialText}
-use Rattle.desk.proofs.TextLaws.{counted}
+use Rattle.reporting.proofs.TextLaws.{counted}
 
 -- The largest figures.
 ceiling-most : (n : ℕ) → n ≤ 8 → ceiling n ≤ 502

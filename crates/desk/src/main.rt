@@ -17,6 +17,8 @@ enum Command {
     Trial,
     // `runs [RANK]`: prints the number of complete runs, then the run of that rank, or all.
     Runs,
+    // `meeting I J`: prints where the best routes of two carriers, each against nobody, meet.
+    Meeting,
     // No command, or none of that name.
     Unknown,
 }
@@ -28,6 +30,9 @@ fn command_named(name: &[u8]) -> Command {
     }
     if arguments::same(name, b"runs") {
         return Command::Runs;
+    }
+    if arguments::same(name, b"meeting") {
+        return Command::Meeting;
     }
     Command::Unknown
 }
@@ -47,8 +52,8 @@ fn seed_argument() -> Decimal {
     argument(3)
 }
 
-// An order as the trial takes it: every number above 65,535 is as little an order as that one.
-fn order_of(n: u64) -> u16
+// An order or a carrier as the tools take it: every number above 65,535 is as little one as that.
+fn number_of(n: u64) -> u16
     ensures { λ r. ⌜ r ≡ min n 65535 ⌝ }
 {
     if n > 65535 { 65535 } else { n as u16 }
@@ -88,7 +93,7 @@ fn trial_command() {
     if s > 4294967295 {
         return trial_usage();
     }
-    play(order_of(o), s as u32)
+    play(number_of(o), s as u32)
 }
 
 // Says how `runs` is called.
@@ -133,16 +138,56 @@ fn runs_command() {
     list_input(false, r)
 }
 
+// Says how `meeting` is called.
+fn meeting_usage() {
+    io::write_all(
+        STDERR_FILENO,
+        b"desk: meeting I J < sheet, I and J two carriers\n",
+    );
+}
+
+// Prints the meeting of two carriers of the sheet from standard input.
+fn meet(i: u16, j: u16) {
+    let mut space = io::large_buffer();
+    let input = console::read(b"desk: standard input", &mut space);
+    let Input::Read(n) = input else {
+        return;
+    };
+    let mut out = [0u8; meeting::TEXT_LENGTH];
+    let printed = meeting::print(&space[..n], i, j, &mut out);
+    console::write(b"desk: standard output", &out[..printed]);
+}
+
+// The command `meeting`.
+fn meeting_command() {
+    if os::arg_count() != 4 {
+        return meeting_usage();
+    }
+    let first = argument(2);
+    let Decimal::Number(i) = first else {
+        return meeting_usage();
+    };
+    let second = argument(3);
+    let Decimal::Number(j) = second else {
+        return meeting_usage();
+    };
+    if i == j {
+        return meeting_usage();
+    }
+    meet(number_of(i), number_of(j))
+}
+
 fn main() {
     let mut name = io::buffer();
     let n = os::arg(1, &mut name);
     match command_named(&name[..n]) {
         Command::Trial => trial_command(),
         Command::Runs => runs_command(),
+        Command::Meeting => meeting_command(),
         Command::Unknown => {
             io::write_all(
                 STDERR_FILENO,
-                b"desk: no such command; commands: trial, runs\n",
+                b"desk: no such command; commands: trial, runs, meeting\n",
             );
         }
     }

@@ -10,7 +10,7 @@ use Rattle.reference.specs.Quiet.{ceiling}
 use Rattle.machine.specs.Ceiling.{mostSteps}
 use Rattle.wire.specs.Word.{packed, cappedAt, wordOf, mapOutcome, ofNumber}
 use Rattle.wire.proofs.WordLaws.{capped-same}
-use Rattle.kalomivund.specs.Answers.{ofSearch, answerDone, ofReply, toldDone, stepCase, endCase, ofRank, figuresDone}
+use Rattle.kalomivund.specs.Answers.{ofSearch, answerDone, ofReply, toldDone, stepCase, endCase, ofRank, figuresDone, ofConflict, conflictDone}
 use Rattle.kalomivund.specs.Entries.{ceilingWord}
 use Rattle.kalomivund.specs.Claims.{Claims}
 use Rattle.kalomivund.proofs.LentLaws.{read-record, read-walls, write-sheet, needed-lengths, search, plan, fresh, print-routes}
@@ -26,7 +26,7 @@ run-word c t lc lt = rw (capped-same 255 c (omega arith), capped-same 2814749767
 
 pub theorems : Claims
 unfolding lengthsOf ceilingWord mostSteps ceiling demand within _gives_ ofNumber ofSearch answerDone ofReply toldDone stepCase endCase
-    ofRank figuresDone mapOutcome wordOf packed cappedAt
+    ofRank figuresDone ofConflict conflictDone mapOutcome wordOf packed cappedAt
 theorems =
     record {
       read-record = read-record;
@@ -56,6 +56,9 @@ theorems =
       run-word = refl;
       none-word = refl;
       route-word = λ r. refl;
+      free-word = refl;
+      same-cell-word = λ t l. run-word 1 t (omega arith) (omega arith);
+      change-word = λ t l. run-word 2 t (omega arith) (omega arith);
       early-word = refl;
       short-word = refl;
       order-word = refl;

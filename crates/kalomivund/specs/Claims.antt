@@ -8,6 +8,7 @@ use Rattle.laws.specs.Verdict.{passed, refused, value, refusal}
 use Rattle.floor.specs.declared.Floor.{Floor}
 use Rattle.floor.specs.Checks.{checkOf, limitsOf}
 use Rattle.route.specs.Route.{none, route}
+use Rattle.route.specs.FirstConflict.{sameCell, changeOfPlaces, free, dated}
 use Rattle.sheet.specs.Values.{floorAt}
 use Rattle.sheet.specs.Read.{sheetVerdict}
 use Rattle.printing.specs.Print.{neededFor}
@@ -17,7 +18,7 @@ use Rattle.reference.specs.Ending.{silent, spent, ended}
 use Rattle.reference.specs.Calls.{stepped, ran}
 use Rattle.wire.specs.Word.{wordOf, ofNumber}
 use Rattle.wire.specs.Record.{floorOf, recordLent}
-use Rattle.kalomivund.specs.Answers.{ofSearch, ofReply, ofRank}
+use Rattle.kalomivund.specs.Answers.{ofSearch, ofReply, ofRank, ofConflict}
 use Rattle.kalomivund.specs.Entries.{readLent, readWord, readRecord, readStored, writeWord, writeStored}
 use Rattle.kalomivund.specs.Entries.{neededVerdict, neededWord, neededStored, searchLent, searchWord, searchStored}
 use Rattle.kalomivund.specs.Entries.{planWord, planStored, printWord, printStored, freshWord, freshStored}
@@ -78,6 +79,9 @@ pub record Claims : Type 0 where
   pub route-word : (r : List ℕ) → wordOf (ofSearch (value (route r))) ≡ 256
   -- The run of a rank: 256 times its steps, with the total from bit 16 on; a two-carrier floor's first run.
   pub run-word : wordOf (ofRank (value (record { runs = 3; steps = 4 }))) ≡ 256 * 4 + 65536 * 3
+  pub free-word : wordOf (ofConflict (value free)) ≡ 0
+  pub same-cell-word : (t : ℕ) → t ≤ 63 → wordOf (ofConflict (value (dated t sameCell))) ≡ 256 + 65536 * t
+  pub change-word : (t : ℕ) → t ≤ 63 → wordOf (ofConflict (value (dated t changeOfPlaces))) ≡ 512 + 65536 * t
   -- Refusal 8, 0; 9, 0; 11, 0; 12, carrier 2; 13, carrier 3; 14, 0; 15, 0; the ceiling of three carriers, 11; refusal 2, field 5, of none and of nine.
   pub early-word : wordOf (refusal 8 0) ≡ 1 + 256 * 8
   pub short-word : wordOf (refusal 9 0) ≡ 1 + 256 * 9

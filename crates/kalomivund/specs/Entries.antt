@@ -10,6 +10,7 @@ use Rattle.route.specs.Route.{Answer}
 use Rattle.sheet.specs.Text.{sheetLength}
 use Rattle.sheet.specs.Values.{floorAt, wallsAt}
 use Rattle.sheet.specs.Read.{readVerdict, writeVerdict, writeSheet}
+use Rattle.conflict.specs.Entry.{conflictOutcome}
 use Rattle.search.specs.Search.{searchOf}
 use Rattle.printing.specs.Print.{routesOutcome, routesMemory}
 use Rattle.lengths.specs.Figures.{lengthsOf}
@@ -21,7 +22,7 @@ use Rattle.trial.specs.Entry.{trialOutcome, stateTried, reportTried}
 use Rattle.lister.specs.Entry.{rankOutcome, reportListed}
 use Rattle.wire.specs.Word.{Done, wordOf, ofNumber}
 use Rattle.wire.specs.Record.{floorOf, numbersOf, recordLent}
-use Rattle.kalomivund.specs.Answers.{ofSearch, routeStored, figureList, ofReply, ofRank}
+use Rattle.kalomivund.specs.Answers.{ofSearch, routeStored, figureList, ofReply, ofRank, ofConflict}
 
 -- The word of a call with a floor record of enough numbers; 9, 0 of one with fewer.
 unfoldable pub wordFor : List ℕ → Outcome Done → ℕ
@@ -134,3 +135,7 @@ rankWord xs ws rank report = wordFor xs (ofRank (rankOutcome (floorOf xs) ws ran
 
 unfoldable pub rankStored : List ℕ → List ℕ → (rank : ℕ) → List ℕ → List ℕ
 rankStored xs ws rank m = storedFor xs (reportListed (floorOf xs) ws rank m) m
+
+-- `kalomivund_conflict`: two lent routes and a horizon.
+unfoldable pub conflictWord : List ℕ → List ℕ → ℕ → ℕ
+conflictWord a b horizon = wordOf (ofConflict (conflictOutcome a b horizon))

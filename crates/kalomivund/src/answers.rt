@@ -1,5 +1,6 @@
 // The answers of the library's entries as words.
 ghost use mathlib.Core.Path.{_≡_};
+ghost use Rattle.conflict.specs.Entry.{comparedOutcome};
 ghost use Rattle.planner.specs.Answers.{resultOf};
 ghost use Rattle.printing.specs.Print.{outcomeOf};
 ghost use Rattle.machine.specs.Answers.{steppedReply, ranReply};
@@ -7,7 +8,8 @@ ghost use Rattle.machine.specs.Ceiling.{figureOf};
 ghost use Rattle.trial.specs.Entry.{triedOutcome};
 ghost use Rattle.lister.specs.Entry.{listedOutcome};
 ghost use Rattle.wire.specs.Word.{wordOf, ofNumber};
-ghost use Rattle.kalomivund.specs.Answers.{ofReply, ofRank};
+ghost use Rattle.kalomivund.specs.Answers.{ofReply, ofRank, ofConflict};
+use conflict::Compared;
 use lister::Listed;
 use machine::Most;
 use machine::Ran;
@@ -89,5 +91,17 @@ pub fn of_listed(x: Listed) -> u64
     match x {
         Listed::Run { total, steps } => done(steps, total as usize),
         Listed::Refused(r) => refused(r),
+    }
+}
+
+// The word of the conflict test.
+pub fn of_conflict(x: Compared) -> u64
+    ensures { λ r. ⌜ r ≡ wordOf (ofConflict (comparedOutcome x)) ⌝ }
+{
+    match x {
+        Compared::Free => done(0, 0),
+        Compared::SameCell(t) => done(1, t),
+        Compared::ChangeOfPlaces(t) => done(2, t),
+        Compared::Refused(r) => refused(r),
     }
 }

@@ -19,6 +19,7 @@ ghost use Rattle.kalomivund.specs.Entries.{printWord, printStored, fresh
 ghost use Rattle.kalomivund.specs.Entries.{runWord, runStored, ceilingWord};
 ghost use Rattle.kalomivund.specs.Entries.{trialWord, trialStateStored, trialReportStored};
 ghost use Rattle.kalomivund.specs.Entries.{rankWord, rankStored};
+ghost use Rattle.kalomivund.specs.Entries.{conflictWord};
 use floor::Checked;
 use floor::Floor;
 use lengths::Lengths;
@@ -268,4 +269,12 @@ pub extern "C" fn kalomivund_run_of_rank(
         return word::too_short();
     }
     answers::of_listed(lister::run_of_rank(numbers::floor_of(f), walls, rank, report))
+}
+
+// The first conflict of two lent routes of 64 cells through a horizon: free, same cell or change of places, with the beat.
+#[no_mangle]
+pub extern "C" fn kalomivund_conflict(a: &[u16], b: &[u16], horizon: u16) -> u64
+    ensures { λ r. ⌜ r ≡ conflictWord (now (a .entry)) (now (b .entry)) horizon ⌝ }
+{
+    answers::of_conflict(conflict::conflict(a, b, horizon))
 }

@@ -1,2 +1,3 @@
--- Laws of a report's text.
+-- Laws of a report's text, and of texts put into a memory.
 pub mod ReportLaws
+pub mod TextLaws

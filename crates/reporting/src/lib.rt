@@ -8,7 +8,7 @@ ghost use Rattle.reporting.specs.Text.{answerWord, stepLine, entryLine, 
 ghost use Rattle.reporting.specs.Put.{PutAt};
 
 // Puts bytes from a column on; the column behind them is returned.
-fn put_bytes(out: &mut [u8], at: usize, bytes: &[u8]) -> usize
+pub fn put_bytes(out: &mut [u8], at: usize, bytes: &[u8]) -> usize
     requires { ⌜ at + length (now bytes) ≤ length (now out) ⌝ }
     ensures { λ r. ⌜ PutAt (now (bytes .entry)) (now (out .entry)) at (now (out .exit)) r ⌝ }
 {

@@ -1,97 +1,158 @@
--- `conflicts` is the conflict of two routes.
+-- The conflict test finds the first conflict of two routes, or that they are free.
 use Prim.Native.Nat.{ℕ, zero, suc, _≤_, _<_}
 use native.Mathlib.Omega.{arith}
 use native.Mathlib.Nat.{eq-or-lt-of-le, le-of-suc-le-suc}
-use mathlib.Core.Bool.{Bool, true, false, _&&_, _||_}
+use mathlib.Core.Bool.{Bool, true, false, cond}
 use mathlib.Core.List.{List}
 use mathlib.Core.Logic.{_⊎_, inl, inr}
-use mathlib.Core.Path.{_≡_, refl}
-use lib.Dec.{eqb}
-use borrow.Author.Tests.{eqb-true, eq-eqb}
-use Rattle.route.specs.Route.{cellAt}
+use mathlib.Core.Path.{_≡_, refl, sym}
+use lib.Dec.{ltb}
+use borrow.Author.Tests.{eqb-true, eq-eqb, ltb-true, lt-ltb}
 use Rattle.route.specs.Conflict.{VertexConflict, SwapConflict, Conflict, ConflictFree}
-use Rattle.route.specs.Arrival.{meets, swaps, conflicts}
-use Rattle.laws.proofs.Tests.{true-false-absurd, not-true-is-false, or-cases, or-inl, or-inr, eqbs-say, eqbs-hold}
+use Rattle.route.specs.FirstConflict.{ConflictKind, sameCell, changeOfPlaces, rankOf, ConflictAt, FirstAt}
+use Rattle.route.specs.FirstConflict.{ConflictAnswer, free, dated}
+use Rattle.route.specs.ConflictTest.{isConflict, kinds, firstKind, orNext, firstBelow, firstConflict, TestedFor}
+use Rattle.laws.proofs.Tests.{true-false-absurd, and-both, and-fst, and-snd, eqbs-say, eqbs-hold, lt-or-le}
 
-module _ (a b : List ℕ) where
-  pub swap-says : (t : ℕ) → (eqb (cellAt a t) (cellAt b (suc t)) && eqb (cellAt a (suc t)) (cellAt b t)) ≡ true → SwapConflict a b t
-  unfolding SwapConflict
-  swap-says t e = eqbs-say (cellAt a t) (cellAt b (suc t)) (cellAt a (suc t)) (cellAt b t) e
+-- A kind is told by its place in the order.
+rank-tells : (j k : ConflictKind) → rankOf j ≡ rankOf k → j ≡ k
+unfolding rankOf
+rank-tells sameCell sameCell e = refl
+rank-tells sameCell changeOfPlaces e = absurd (omega arith)
+rank-tells changeOfPlaces sameCell e = absurd (omega arith)
+rank-tells changeOfPlaces changeOfPlaces e = refl
 
-  pub swap-holds : (t : ℕ) → SwapConflict a b t → (eqb (cellAt a t) (cellAt b (suc t)) && eqb (cellAt a (suc t)) (cellAt b t)) ≡ true
-  unfolding SwapConflict
-  swap-holds t h = eqbs-hold (cellAt a t) (cellAt b (suc t)) (cellAt a (suc t)) (cellAt b t) h
+module _ (H : ℕ) (a b : List ℕ) where
+  -- The test of a kind at a beat up to H is the conflict of that kind.
+  test-says : (t : ℕ) (k : ConflictKind) → t ≤ H → isConflict H a b t k ≡ true → ConflictAt H a b t k
+  unfolding isConflict ConflictAt VertexConflict SwapConflict
+  test-says t sameCell l e = (l, eqb-true _ _ e)
+  test-says t changeOfPlaces l e = (ltb-true t H (and-fst (ltb t H) _ e), eqbs-say _ _ _ _ (and-snd (ltb t H) _ e))
 
-  meets-says : (n : ℕ) → meets a b n ≡ true → (t : ℕ) × (t < n) × VertexConflict a b t
-  unfolding meets VertexConflict
-  meets-says zero e = true-false-absurd e refl
-  meets-says (suc n) e = split (or-cases (meets a b n) (eqb (cellAt a n) (cellAt b n)) e) (λ (h : meets a b n ≡ true). meets-says n h)
+  test-holds : (t : ℕ) (k : ConflictKind) → ConflictAt H a b t k → isConflict H a b t k ≡ true
+  unfolding isConflict ConflictAt VertexConflict SwapConflict
+  test-holds t sameCell c = eq-eqb _ _ (c .1)
+  test-holds t changeOfPlaces c = and-both (lt-ltb t H (c .0)) (eqbs-hold _ _ _ _ (c .1))
+
+  at-most : (t : ℕ) (k : ConflictKind) → ConflictAt H a b t k → t ≤ H
+  unfolding ConflictAt
+  at-most t sameCell c = c .0
+  at-most t changeOfPlaces c = omega (arith, c .0)
+
+  -- Beat u and kind j come before beat t and kind k.
+  abbrev Earlier : ℕ → ConflictKind → ℕ → ConflictKind → Type 0
+  Earlier u j t k = (u < t) ⊎ ((u ≡ t) × (rankOf j < rankOf k))
+
+  -- What an answer tells of the first n beats.
+  unfoldable Tells : ℕ → ConflictAnswer → Type 0
+  Tells n free = (u : ℕ) (j : ConflictKind) → u < n → isConflict H a b u j ≡ false
+  Tells n (dated t k) =
+      (t < n) × (isConflict H a b t k ≡ true) × ((u : ℕ) (j : ConflictKind) → Earlier u j t k → isConflict H a b u j ≡ false)
+
+  -- One more beat: its kinds in their order, where nothing was found before.
+  beat-tells : (n : ℕ) → Tells n free → (x y : Bool) → isConflict H a b n sameCell ≡ x → isConflict H a b n changeOfPlaces ≡ y →
+      Tells (suc n) (cond x (dated n sameCell) (cond y (dated n changeOfPlaces) free))
+  unfolding Tells rankOf
+  beat-tells n h true y e f = (omega arith, e, earlier)
     where
-      split : (meets a b n ≡ true) ⊎ (eqb (cellAt a n) (cellAt b n) ≡ true) →
-          (meets a b n ≡ true → (t : ℕ) × (t < n) × VertexConflict a b t) → (t : ℕ) × (t < suc n) × VertexConflict a b t
-      split (inl h) below = ((below h) .0, omega (arith, (below h) .1), (below h) .2)
-      split (inr h) below = (n, omega arith, eqb-true (cellAt a n) (cellAt b n) h)
-
-  pub meets-holds : (n t : ℕ) → t < n → VertexConflict a b t → meets a b n ≡ true
-  unfolding meets VertexConflict
-  meets-holds zero t h e = absurd (omega arith)
-  meets-holds (suc n) t h e = split (eq-or-lt-of-le (le-of-suc-le-suc h)) (λ (l : t < n). meets-holds n t l e)
+      earlier : (u : ℕ) (j : ConflictKind) → Earlier u j n sameCell → isConflict H a b u j ≡ false
+      earlier u j (inl l) = h u j l
+      earlier u j (inr p) = absurd (omega (arith, p .1))
+  beat-tells n h false true e f = (omega arith, f, earlier)
     where
-      split : (t ≡ n) ⊎ (t < n) → (t < n → meets a b n ≡ true) → (meets a b n || eqb (cellAt a n) (cellAt b n)) ≡ true
-      split (inl q) below = or-inr (meets a b n) (eqb (cellAt a n) (cellAt b n)) (eq-eqb (cellAt a n) (cellAt b n) (rw q at e))
-      split (inr l) below = or-inl (meets a b n) (eqb (cellAt a n) (cellAt b n)) (below l)
-
-  swaps-says : (n : ℕ) → swaps a b n ≡ true → (t : ℕ) × (t < n) × SwapConflict a b t
-  unfolding swaps
-  swaps-says zero e = true-false-absurd e refl
-  swaps-says (suc n) e = split (or-cases (swaps a b n) here e) (λ (h : swaps a b n ≡ true). swaps-says n h)
+      earlier : (u : ℕ) (j : ConflictKind) → Earlier u j n changeOfPlaces → isConflict H a b u j ≡ false
+      earlier u j (inl l) = h u j l
+      earlier u sameCell (inr p) = rw (p .0) e
+      earlier u changeOfPlaces (inr p) = absurd (omega (arith, p .1))
+  beat-tells n h false false e f = none
     where
-      here : Bool
-      here = eqb (cellAt a n) (cellAt b (suc n)) && eqb (cellAt a (suc n)) (cellAt b n)
+      here : (u : ℕ) (j : ConflictKind) → (u ≡ n) ⊎ (u < n) → isConflict H a b u j ≡ false
+      here u j (inr l) = h u j l
+      here u sameCell (inl q) = rw q e
+      here u changeOfPlaces (inl q) = rw q f
 
-      split : (swaps a b n ≡ true) ⊎ (here ≡ true) → (swaps a b n ≡ true → (t : ℕ) × (t < n) × SwapConflict a b t) →
-          (t : ℕ) × (t < suc n) × SwapConflict a b t
-      split (inl h) below = ((below h) .0, omega (arith, (below h) .1), (below h) .2)
-      split (inr h) below = (n, omega arith, swap-says n h)
+      none : (u : ℕ) (j : ConflictKind) → u < suc n → isConflict H a b u j ≡ false
+      none u j l = here u j (eq-or-lt-of-le (le-of-suc-le-suc l))
 
-  pub swaps-holds : (n t : ℕ) → t < n → SwapConflict a b t → swaps a b n ≡ true
-  unfolding swaps
-  swaps-holds zero t h e = absurd (omega arith)
-  swaps-holds (suc n) t h e = split (eq-or-lt-of-le (le-of-suc-le-suc h)) (λ (l : t < n). swaps-holds n t l e)
-    where
-      here : Bool
-      here = eqb (cellAt a n) (cellAt b (suc n)) && eqb (cellAt a (suc n)) (cellAt b n)
+  next-tells : (n : ℕ) (x : ConflictAnswer) → Tells n x → Tells (suc n) (orNext x (firstKind H a b n kinds))
+  unfolding Tells orNext firstKind kinds
+  next-tells n free h = beat-tells n h (isConflict H a b n sameCell) (isConflict H a b n changeOfPlaces) refl refl
+  next-tells n (dated t k) h = (omega (arith, h .0), h .1, h .2)
 
-      split : (t ≡ n) ⊎ (t < n) → (t < n → swaps a b n ≡ true) → (swaps a b n || here) ≡ true
-      split (inl q) below = or-inr (swaps a b n) here (swap-holds n (rw q at e))
-      split (inr l) below = or-inl (swaps a b n) here (below l)
+  below-tells : (n : ℕ) → Tells n (firstBelow H a b n)
+  unfolding Tells firstBelow
+  below-tells zero = λ u j l. absurd (omega arith)
+  below-tells (suc n) = next-tells n (firstBelow H a b n) (below-tells n)
 
-  pub conflicts-says : (H : ℕ) → conflicts H a b ≡ true → Conflict H a b
-  unfolding conflicts Conflict
-  conflicts-says H e = split (or-cases (meets a b (suc H)) (swaps a b H) e)
-    where
-      split : (meets a b (suc H) ≡ true) ⊎ (swaps a b H ≡ true) →
-          ((t : ℕ) × (t ≤ H) × VertexConflict a b t) ⊎ ((t : ℕ) × (t < H) × SwapConflict a b t)
-      split (inl h) = inl ((meets-says (suc H) h) .0, omega (arith, (meets-says (suc H) h) .1), (meets-says (suc H) h) .2)
-      split (inr h) = inr (swaps-says H h)
+  test-tells : Tells (suc H) (firstConflict H a b)
+  unfolding firstConflict
+  test-tells = below-tells (suc H)
 
-  pub conflicts-holds : (H : ℕ) → Conflict H a b → conflicts H a b ≡ true
-  unfolding conflicts Conflict
-  conflicts-holds H (inl h) = or-inl (meets a b (suc H)) (swaps a b H) (meets-holds (suc H) (h .0) (omega (arith, h .1)) (h .2))
-  conflicts-holds H (inr h) = or-inr (meets a b (suc H)) (swaps a b H) (swaps-holds H (h .0) (h .1) (h .2))
+  -- What `free` and a dated answer say, and that what is so is the answer.
+  tells-none : Tells (suc H) free → (t : ℕ) (k : ConflictKind) → ConflictAt H a b t k → ⊥
+  unfolding Tells
+  tells-none h t k c = true-false-absurd (test-holds t k c) (h t k (omega (arith, at-most t k c)))
 
-  pub conflicts-free : (H : ℕ) → conflicts H a b ≡ false → ConflictFree H a b
-  unfolding Conflict
-  conflicts-free H e =
+  tells-first : (t : ℕ) (k : ConflictKind) → Tells (suc H) (dated t k) → FirstAt H a b t k
+  unfolding Tells
+  tells-first t k h =
       record {
-        no-vertex = λ t h k. true-false-absurd (conflicts-holds H (inl (t, h, k))) e;
-        no-swap = λ t h k. true-false-absurd (conflicts-holds H (inr (t, h, k))) e;
+        there = test-says t k (omega (arith, h .0)) (h .1);
+        first = λ u j e c. true-false-absurd (test-holds u j c) (h .2 u j e);
       }
 
-  pub free-conflicts : (H : ℕ) → ConflictFree H a b → conflicts H a b ≡ false
-  unfolding Conflict
-  free-conflicts H f = not-true-is-false (conflicts H a b) (λ e. refute (conflicts-says H e))
+  no-conflict : ConflictFree H a b → (t : ℕ) (k : ConflictKind) → ConflictAt H a b t k → ⊥
+  unfolding ConflictAt
+  no-conflict f t sameCell c = f .no-vertex t (c .0) (c .1)
+  no-conflict f t changeOfPlaces c = f .no-swap t (c .0) (c .1)
+
+  none-free : ((t : ℕ) (k : ConflictKind) → ConflictAt H a b t k → ⊥) → ConflictFree H a b
+  unfolding ConflictAt
+  none-free h = record { no-vertex = λ t l c. h t sameCell (l, c); no-swap = λ t l c. h t changeOfPlaces (l, c) }
+
+  is-free : ConflictFree H a b → (x : ConflictAnswer) → Tells (suc H) x → x ≡ free
+  is-free f free h = refl
+  is-free f (dated t k) h = absurd (no-conflict f t k (tells-first t k h .there))
+
+  -- Two first conflicts are one: neither comes before the other.
+  is-first : (t : ℕ) (k : ConflictKind) → FirstAt H a b t k → (x : ConflictAnswer) → Tells (suc H) x → x ≡ dated t k
+  is-first t k f free h = absurd (tells-none h t k (f .there))
+  is-first t k f (dated u j) h = beats (lt-or-le u t) (lt-or-le t u)
     where
-      refute : ((t : ℕ) × (t ≤ H) × VertexConflict a b t) ⊎ ((t : ℕ) × (t < H) × SwapConflict a b t) → ⊥
-      refute (inl h) = f .no-vertex (h .0) (h .1) (h .2)
-      refute (inr h) = f .no-swap (h .0) (h .1) (h .2)
+      g : FirstAt H a b u j
+      g = tells-first u j h
+
+      ranks : u ≡ t → (rankOf j < rankOf k) ⊎ (rankOf k ≤ rankOf j) → (rankOf k < rankOf j) ⊎ (rankOf j ≤ rankOf k) → dated u j ≡ dated t k
+      ranks e (inl l) m = absurd (f .first u j (inr (e, l)) (g .there))
+      ranks e (inr l) (inl m) = absurd (g .first t k (inr (sym e, m)) (f .there))
+      ranks e (inr l) (inr m) = rw (e, rank-tells j k (omega arith))
+
+      beats : (u < t) ⊎ (t ≤ u) → (t < u) ⊎ (u ≤ t) → dated u j ≡ dated t k
+      beats (inl l) m = absurd (f .first u j (inl l) (g .there))
+      beats (inr l) (inl m) = absurd (g .first t k (inl m) (f .there))
+      beats (inr l) (inr m) = ranks (omega arith) (lt-or-le (rankOf j) (rankOf k)) (lt-or-le (rankOf k) (rankOf j))
+
+  conflict-of : (t : ℕ) (k : ConflictKind) → ConflictAt H a b t k → Conflict H a b
+  unfolding ConflictAt Conflict
+  conflict-of t sameCell c = inl (t, c .0, c .1)
+  conflict-of t changeOfPlaces c = inr (t, c .0, c .1)
+
+  any-conflict : (x : ConflictAnswer) → Tells (suc H) x → (x ≡ free → ⊥) → Conflict H a b
+  any-conflict free h n = absurd (n refl)
+  any-conflict (dated t k) h n = conflict-of t k (tells-first t k h .there)
+
+  free-refutes : ConflictFree H a b → Conflict H a b → ⊥
+  unfolding Conflict
+  free-refutes f (inl h) = f .no-vertex (h .0) (h .1) (h .2)
+  free-refutes f (inr h) = f .no-swap (h .0) (h .1) (h .2)
+
+  says-free : firstConflict H a b ≡ free → ConflictFree H a b
+  says-free e = none-free (tells-none (rw e at test-tells))
+
+  pub tested : TestedFor H a b
+  tested =
+      record {
+        free-exactly = (says-free, λ f. is-free f (firstConflict H a b) test-tells);
+        first-exactly = λ t k. (λ e. tells-first t k (rw e at test-tells), λ f. is-first t k f (firstConflict H a b) test-tells);
+        conflict-exactly = (any-conflict (firstConflict H a b) test-tells, λ c e. free-refutes (says-free e) c);
+      }

@@ -20,3 +20,4 @@ pub mod SetsLaws
 pub mod SetsBest
 mod LoopLaws
 mod Cases
+mod ConflictCases

@@ -1,20 +1,21 @@
--- The turns and the ends of the loops in `arrival` and `conflict`, over plain lists and numbers.
-use Prim.Native.Nat.{ℕ, suc, _+_, _≤_, _<_}
+-- The turns and the ends of the loops in `arrival` and `first_conflict`, over plain lists and numbers.
+use Prim.Native.Nat.{ℕ, zero, suc, _+_, _≤_, _<_}
 use native.Mathlib.Omega.{arith}
+use native.Mathlib.Nat.{eq-or-lt-of-le}
 use native.Mathlib.Numerals.{add-one}
-use mathlib.Core.Bool.{Bool, true, false, _&&_, _||_, or-false}
+use mathlib.Core.Bool.{true, false}
 use mathlib.Core.List.{List}
-use mathlib.Core.Logic.{inl, inr}
+use mathlib.Core.Logic.{_⊎_, inl, inr}
 use mathlib.Core.Path.{_≡_, refl, sym, ap, _∙_}
-use lib.Dec.{eqb}
+use lib.Dec.{eqb, ltb}
 use lib.ListN.{getD}
-use borrow.Author.Tests.{ne-eqb}
+use borrow.Author.Tests.{eq-eqb, ne-eqb, lt-ltb, ltb-true}
 use Rattle.route.specs.Route.{cellAt}
-use Rattle.route.specs.Conflict.{VertexConflict, SwapConflict, Conflict}
-use Rattle.route.specs.Arrival.{settled, arrivalOf, meets, swaps, conflicts}
-use Rattle.laws.proofs.Tests.{not-true-is-false}
+use Rattle.route.specs.Arrival.{settled, arrivalOf}
+use Rattle.route.specs.FirstConflict.{ConflictKind, sameCell, changeOfPlaces, free, dated}
+use Rattle.route.specs.ConflictTest.{isConflict, kinds, firstKind, orNext, firstBelow, firstConflict}
+use Rattle.laws.proofs.Tests.{not-true-is-false, and-both, and-fst, and-snd, eqbs-say, eqbs-hold}
 use Rattle.route.proofs.ArrivalLaws.{settled-there, settled-away}
-use Rattle.route.proofs.ConflictLaws.{swap-says, conflicts-holds}
 
 module _ (goal : ℕ) (r : List ℕ) where
   pub settled-turn-away : (t : ℕ) → (getD r t 0 ≡ goal → ⊥) → t + 1 ≡ settled goal r (t + 1)
@@ -29,50 +30,63 @@ module _ (goal : ℕ) (r : List ℕ) where
   unfolding arrivalOf
   settled-ends t last h a upto past e s = s ∙ ap (settled goal r) (omega arith)
 
-module _ (a b : List ℕ) where
-  pub meets-none : meets a b 0 ≡ false
-  unfolding meets
-  meets-none = refl
+module _ (H : ℕ) (a b : List ℕ) where
+  pub found-none : firstBelow H a b 0 ≡ free
+  unfolding firstBelow
+  found-none = refl
 
-  pub swaps-none : swaps a b 0 ≡ false
-  unfolding swaps
-  swaps-none = refl
-
-  pub meets-turn : (t : ℕ) → meets a b t ≡ false → (getD a t 0 ≡ getD b t 0 → ⊥) → meets a b (t + 1) ≡ false
-  unfolding meets cellAt
-  meets-turn t e h = rw (add-one, meets) (rw (e, ne-eqb (getD a t 0) (getD b t 0) h))
-
-  pub swaps-turn : (t : ℕ) → swaps a b t ≡ false → ((getD a t 0 ≡ getD b (t + 1) 0) × (getD a (t + 1) 0 ≡ getD b t 0) → ⊥) →
-      swaps a b (t + 1) ≡ false
-  unfolding swaps cellAt SwapConflict
-  swaps-turn t e h = rw (add-one, swaps) (rw e (not-true-is-false here (λ k. (rw add-one at h) (swap-says a b t k))))
+  -- What is found at the first beats stays the answer.
+  found-stays : (n m t : ℕ) (k : ConflictKind) → firstBelow H a b n ≡ dated t k → n ≤ m → firstBelow H a b m ≡ dated t k
+  unfolding firstBelow orNext
+  found-stays n zero t k e l = let same : n ≡ 0 = omega arith in rw same at e
+  found-stays n (suc m) t k e l = split (eq-or-lt-of-le l) (λ (h : n ≤ m). found-stays n m t k e h)
     where
-      here : Bool
-      here = eqb (getD a t 0) (getD b (suc t) 0) && eqb (getD a (suc t) 0) (getD b t 0)
+      split : (n ≡ suc m) ⊎ (n < suc m) → (n ≤ m → firstBelow H a b m ≡ dated t k) →
+          orNext (firstBelow H a b m) (firstKind H a b m kinds) ≡ dated t k
+      split (inl q) below = rw q at e
+      split (inr h) below = rw (below (omega arith))
 
-  pub vertex-found : (t last h : ℕ) → t < last → last ≡ h → getD a t 0 ≡ getD b t 0 → true ≡ conflicts h a b
-  unfolding cellAt VertexConflict Conflict
-  vertex-found t last h l q e = sym (conflicts-holds a b h (inl (t, omega arith, e)))
+  -- The two tests of a swap at beat t, both or not both.
+  no-swap : (t : ℕ) → ((getD a t 0 ≡ getD b (t + 1) 0) × (getD a (t + 1) 0 ≡ getD b t 0) → ⊥) → isConflict H a b t changeOfPlaces ≡ false
+  unfolding isConflict cellAt
+  no-swap t s = not-true-is-false _ (λ k. (rw add-one at s) (eqbs-say _ _ _ _ (and-snd (ltb t H) _ k)))
 
-  pub swap-found : (t last h : ℕ) → t < last → last ≡ h → getD a t 0 ≡ getD b (t + 1) 0 → getD a (t + 1) 0 ≡ getD b t 0 →
-      true ≡ conflicts h a b
-  unfolding cellAt SwapConflict Conflict
-  swap-found t last h l q e f = sym (conflicts-holds a b h (inr (t, omega arith, (rw add-one at e, rw add-one at f))))
+  is-swap : (t : ℕ) → t < H → getD a t 0 ≡ getD b (t + 1) 0 → getD a (t + 1) 0 ≡ getD b t 0 → isConflict H a b t changeOfPlaces ≡ true
+  unfolding isConflict cellAt
+  is-swap t l p q = and-both (lt-ltb t H l) (eqbs-hold _ _ _ _ (rw add-one at p, rw add-one at q))
 
-  pub last-decides : (t last h : ℕ) → t ≤ last → last ≤ t → last ≡ h → meets a b t ≡ false → swaps a b t ≡ false →
-      eqb (getD a last 0) (getD b last 0) ≡ conflicts h a b
-  unfolding conflicts meets cellAt
-  last-decides t last h l k q m s =
-      rw q (sym (ap (λ (x : Bool). x || here || swaps a b h) no-meet ∙ ap (λ (x : Bool). here || x) no-swap ∙ or-false here))
-    where
-      same : t ≡ h
-      same = omega arith
+  no-vertex : (t : ℕ) → (getD a t 0 ≡ getD b t 0 → ⊥) → isConflict H a b t sameCell ≡ false
+  unfolding isConflict cellAt
+  no-vertex t n = ne-eqb _ _ n
 
-      here : Bool
-      here = eqb (getD a h 0) (getD b h 0)
+  is-vertex : (t : ℕ) → getD a t 0 ≡ getD b t 0 → isConflict H a b t sameCell ≡ true
+  unfolding isConflict cellAt
+  is-vertex t e = eq-eqb _ _ e
 
-      no-meet : meets a b h ≡ false
-      no-meet = rw same at m
+  -- One more beat: none of both, same cell, or a change of places.
+  pub found-turn : (t : ℕ) → firstBelow H a b t ≡ free → (getD a t 0 ≡ getD b t 0 → ⊥) →
+      ((getD a t 0 ≡ getD b (t + 1) 0) × (getD a (t + 1) 0 ≡ getD b t 0) → ⊥) → firstBelow H a b (t + 1) ≡ free
+  unfolding firstBelow orNext firstKind kinds
+  found-turn t e n s = rw (add-one, firstBelow) (rw (e, no-vertex t n, no-swap t s))
 
-      no-swap : swaps a b h ≡ false
-      no-swap = rw same at s
+  pub vertex-found : (t : ℕ) → firstBelow H a b t ≡ free → t ≤ H → getD a t 0 ≡ getD b t 0 → dated t sameCell ≡ firstConflict H a b
+  unfolding firstConflict firstBelow orNext firstKind kinds
+  vertex-found t e l q = sym (found-stays (suc t) (suc H) t sameCell (rw (e, is-vertex t q)) (omega arith))
+
+  pub swap-found : (t : ℕ) → firstBelow H a b t ≡ free → t < H → (getD a t 0 ≡ getD b t 0 → ⊥) → getD a t 0 ≡ getD b (t + 1) 0 →
+      getD a (t + 1) 0 ≡ getD b t 0 → dated t changeOfPlaces ≡ firstConflict H a b
+  unfolding firstConflict firstBelow orNext firstKind kinds
+  swap-found t e l n p q =
+      sym (found-stays (suc t) (suc H) t changeOfPlaces (rw (e, no-vertex t n, is-swap t l p q)) (omega arith))
+
+  -- After the last beat no change of places begins.
+  past-swap : isConflict H a b H changeOfPlaces ≡ false
+  unfolding isConflict
+  past-swap = not-true-is-false _ (λ k. absurd (omega (arith, ltb-true H H (and-fst (ltb H H) _ k))))
+
+  pub last-found : (t : ℕ) → firstBelow H a b t ≡ free → t ≤ H → H ≤ t → getD a H 0 ≡ getD b H 0 → dated H sameCell ≡ firstConflict H a b
+  last-found t e l k q = let same : t ≡ H = omega arith in vertex-found H (rw same at e) (omega arith) q
+
+  pub found-end : (t : ℕ) → firstBelow H a b t ≡ free → t ≤ H → H ≤ t → (getD a H 0 ≡ getD b H 0 → ⊥) → free ≡ firstConflict H a b
+  unfolding firstConflict firstBelow orNext firstKind kinds
+  found-end t e l k n = let same : t ≡ H = omega arith in let f = rw same at e in sym (rw (f, no-vertex H n, past-swap))

@@ -10,7 +10,7 @@ use Rattle.route.specs.Search.{best}
 use Rattle.route.specs.Arrival.{arrivalOf}
 use Rattle.route.specs.Claims.{Claims}
 use Rattle.route.proofs.ArrivalLaws.{arrival-arrives, arrives-arrival, arrival-within, arrival-beyond}
-use Rattle.route.proofs.ConflictLaws.{conflicts-says, conflicts-holds, conflicts-free, free-conflicts}
+use Rattle.route.proofs.ConflictLaws.{tested}
 use Rattle.route.proofs.Meets.{best-meets}
 use Rattle.route.proofs.Unique.{best-unique, best-same-views, best-left-out}
 
@@ -59,6 +59,5 @@ theorems =
       silent-left-out = λ task vs ws v short silent. best-left-out task short vs ws v (silent-clear (task .horizon) v silent);
       arrival-agrees = λ goal H r a. (λ h. (arrives-arrival goal r H a h, h .stays .within), λ h. arrival-within goal r H a (h .0) (h .1));
       arrival-beyond = λ goal H r. arrival-beyond goal r H;
-      conflict-agrees = λ H a b. (conflicts-says a b H, conflicts-holds a b H);
-      conflict-free-agrees = λ H a b. (conflicts-free a b H, free-conflicts a b H);
+      conflict-test = tested;
     }

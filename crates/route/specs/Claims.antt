@@ -1,15 +1,15 @@
 -- What is claimed of routes, one field a claim; `proofs/Theorems.antt` has the proofs. A task is any numbers and any walls
 -- with a horizon of at most 63, and views hold any lists of numbers.
 use Prim.Native.Nat.{ℕ, suc, _≤_}
-use mathlib.Core.Bool.{true, false}
 use mathlib.Core.List.{List, _∷_, _++_, List·Memᴰ}
 use mathlib.Core.Logic.{_↔_}
 use mathlib.Core.Path.{_≡_}
 use Rattle.route.specs.Route.{cellAt, Answer, none, route, View, heard, Task}
-use Rattle.route.specs.Conflict.{Conflict, ConflictFree, Silent}
+use Rattle.route.specs.Conflict.{Silent}
 use Rattle.route.specs.Best.{IsRoute, HeldFrom, Arrives, Admissible, Best}
 use Rattle.route.specs.Search.{best}
-use Rattle.route.specs.Arrival.{arrivalOf, conflicts}
+use Rattle.route.specs.Arrival.{arrivalOf}
+use Rattle.route.specs.ConflictTest.{TestedFor}
 
 pub record Claims : Type 0 where
   -- `best` answers the best route, or none where there is none.
@@ -33,6 +33,5 @@ pub record Claims : Type 0 where
   -- `arrivalOf` is the arrival where there is one, else past the horizon.
   pub arrival-agrees : (goal H : ℕ) (r : List ℕ) (a : ℕ) → Arrives goal H r a ↔ ((a ≡ arrivalOf goal r H) × (a ≤ H))
   pub arrival-beyond : (goal H : ℕ) (r : List ℕ) → (cellAt r H ≡ goal → ⊥) → arrivalOf goal r H ≡ suc H
-  -- `conflicts` is true of routes that conflict, and false of those that do not.
-  pub conflict-agrees : (H : ℕ) (a b : List ℕ) → (conflicts H a b ≡ true) ↔ Conflict H a b
-  pub conflict-free-agrees : (H : ℕ) (a b : List ℕ) → (conflicts H a b ≡ false) ↔ ConflictFree H a b
+  -- The conflict test of any two lists of numbers, over any horizon, finds the first conflict, or that they are free.
+  pub conflict-test : (H : ℕ) (a b : List ℕ) → TestedFor H a b

@@ -1,9 +1,11 @@
 -- In reading order: the nouns, relations, the function `best`, the sequential planner, what the code computes, claims.
 pub mod Route
 pub mod Conflict
+pub mod FirstConflict
 pub mod Best
 pub mod Moves
 pub mod Search
 pub mod Sequential
 pub mod Arrival
+pub mod ConflictTest
 pub mod Claims

@@ -70,14 +70,14 @@ pub fn narrow(x: usize) -> u16 {
     65535
 }
 
-// A sum of places, 65,536 where one of them is no place of these memories.
+// A sum of places, 131,072 where one of them is no place of these memories or of the script, which has at most so many bytes.
 pub fn plus(a: usize, b: usize) -> usize {
-    if a < 65536 {
-        if b < 65536 {
+    if a < 131072 {
+        if b < 131072 {
             return a + b;
         }
     }
-    65536
+    131072
 }
 
 // Writes v at a place, where there is one.

@@ -18,6 +18,7 @@ use table::after;
 use table::value;
 use views::met;
 use views::tell;
+use views::told;
 ghost use mathlib.Core.Path.{_≡_};
 ghost use lib.ListN.{length};
 
@@ -60,22 +61,36 @@ pub fn second_route(f: Floor, walls: &[u16], carrier: u16, views: &[u16]) -> Pla
     }
 }
 
-// Whether a route conflicts with one of the first k routes that were told, by the test that this planner makes of each move; a carrier
-// that told none is nowhere here.
-pub fn second_conflict(views: &[u16], k: usize, r: Route, horizon: u16) -> bool {
-    let nowhere = [65535u16; 8];
-    if met(&nowhere, views, k, at(&r, 0)) {
-        return true;
+// The last beat that counts.
+fn last_beat(horizon: u16) -> usize {
+    if horizon < 63 { wide(horizon) } else { 63 }
+}
+
+// The number of a conflict that a move from beat t has: 1 + 2 u for the same cell at beat u, 2 + 2 u for a change of places after it.
+fn number_of(view: &[u16], r: Route, t: usize) -> usize {
+    let next = after(t);
+    if told(&[65535u16; 8], view, 0, next) == at(&r, next) {
+        return 2 * next + 1;
     }
-    let last = wide(horizon);
+    2 * next
+}
+
+// The number of the first conflict of a route with one that was told, by the test that this planner makes of each move; 0 for none. A
+// carrier that told none is nowhere here.
+pub fn second_conflict(view: &[u16], r: Route, horizon: u16) -> usize {
+    let nowhere = [65535u16; 8];
+    if met(&nowhere, view, 1, at(&r, 0)) {
+        return 1;
+    }
+    let last = last_beat(horizon);
     let mut t: usize = 0;
     while t < last {
-        if conflicts(&nowhere, views, k, t, at(&r, t), at(&r, after(t))) {
-            return true;
+        if conflicts(&nowhere, view, 1, t, at(&r, t), at(&r, after(t))) {
+            return number_of(view, r, t);
         }
         t += 1;
     }
-    false
+    0
 }
 
 // The carriers in turn, each against what those above it told.

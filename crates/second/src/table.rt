@@ -1,9 +1,12 @@
 // The table of least arrivals: a number a beat and cell.
 ghost use mathlib.Core.Path.{_≡_};
+ghost use Prim.Native.Nat.{_≤_};
 ghost use lib.ListN.{length};
 
 // The beat after t.
-pub fn after(t: usize) -> usize {
+pub fn after(t: usize) -> usize
+    ensures { λ r. ⌜ r ≤ 64 ⌝ }
+{
     if t < 64 {
         return t + 1;
     }

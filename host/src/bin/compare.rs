@@ -1,15 +1,18 @@
 //! Compares the library with `paper.rs`, an independent implementation of document 01: answer words, and every number of lent memory,
 //! also outside the part that is lent. Seeds are fixed; a case that fails is printed with the command that replays it.
 //!
-//!     compare                          everything: 100,000 sheets, 20,000 lists of calls, 10,000 trials, runs of 400 floors
+//!     compare                          everything: 100,000 sheets, 20,000 lists of calls, 10,000 trials, runs of 400 floors,
+//!                                      100,000 pairs of routes
 //!     compare sheets FROM COUNT        some of the sheets, by their seeds
 //!     compare lists FROM COUNT         some of the lists
 //!     compare trials FROM COUNT        some of the trials
 //!     compare ranks FROM COUNT         some of the floors whose runs are listed
+//!     compare pairs FROM COUNT         some of the pairs
 //!     compare sheet SEED               one case, each call printed with its answer
 //!     compare list SEED
 //!     compare trial SEED
 //!     compare rank SEED
+//!     compare pair SEED
 
 #[path = "../draw.rs"]
 mod draw;
@@ -27,6 +30,7 @@ const LISTS: u64 = 20_000;
 const TRIALS: u64 = 10_000;
 /// The floors whose runs are listed.
 const RANKS: u64 = 400;
+const PAIRS: u64 = 100_000;
 
 // ---- Lent memory and calls ----
 
@@ -88,6 +92,7 @@ enum Call {
     Run { floor: Lent<u16>, walls: Lent<u16>, state: Lent<u16>, steps: Lent<u16>, budget: u16 },
     Trial { floor: Lent<u16>, walls: Lent<u16>, order: u16, seed: u32, state: Lent<u16>, report: Lent<u16> },
     RunOfRank { floor: Lent<u16>, walls: Lent<u16>, rank: u64, report: Lent<u16> },
+    Conflict { a: Lent<u16>, b: Lent<u16>, horizon: u16 },
     Ceiling { carriers: u16 },
 }
 
@@ -136,6 +141,7 @@ impl Call {
             Call::RunOfRank { floor, walls, rank, report } => {
                 entry!(who, run_of_rank(floor.part(), walls.part(), *rank, report.part_mut()))
             }
+            Call::Conflict { a, b, horizon } => entry!(who, conflict(a.part(), b.part(), *horizon)),
             Call::Ceiling { carriers } => entry!(who, ceiling(*carriers)),
         }
     }
@@ -154,6 +160,7 @@ impl Call {
             Call::Run { .. } => "run",
             Call::Trial { .. } => "trial",
             Call::RunOfRank { .. } => "run_of_rank",
+            Call::Conflict { .. } => "conflict",
             Call::Ceiling { .. } => "ceiling",
         }
     }
@@ -187,6 +194,7 @@ impl Call {
             Call::RunOfRank { floor: f, walls: w, rank, report } => {
                 format!("{} rank {rank} report of {}", floor(f, w), report.length)
             }
+            Call::Conflict { a, b, horizon } => format!("{:?} {:?} horizon {horizon}", a.part(), b.part()),
             Call::Ceiling { carriers } => format!("{carriers}"),
         }
     }
@@ -262,6 +270,7 @@ impl Tally {
             ("run", vec![0, 1, 2], with(&[7, 10])),
             ("trial", vec![0], with(&[11])),
             ("run_of_rank", vec![1, 3, 4, 6, 7, 8, 9, 10, 11], with(&[14, 15])),
+            ("conflict", vec![0, 1, 2], vec![9]),
             ("ceiling", vec![0], vec![2]),
         ];
         let mut keys = Vec::new();
@@ -307,6 +316,7 @@ fn numbers(call: &Call) -> Vec<u64> {
         Call::Run { floor, walls, state, steps, .. } => [wide(floor), wide(walls), wide(state), wide(steps)].concat(),
         Call::Trial { floor, walls, state, report, .. } => [wide(floor), wide(walls), wide(state), wide(report)].concat(),
         Call::RunOfRank { floor, walls, report, .. } => [wide(floor), wide(walls), wide(report)].concat(),
+        Call::Conflict { a, b, .. } => [wide(a), wide(b)].concat(),
         Call::Ceiling { .. } => Vec::new(),
     }
 }
@@ -805,6 +815,57 @@ fn all_ranks(tally: &mut Tally) {
     }
 }
 
+/// So many cells of a walk on a grid, with jumps and numbers outside it in so many of a hundred moves.
+fn draw_walk(draw: &mut Draw, length: usize, width: usize, cells: usize, wild: usize) -> Vec<u16> {
+    let mut c = draw.below(cells);
+    let mut walk = Vec::new();
+    for _ in 0..length {
+        walk.push(c as u16);
+        let near = draw.of(&[c.wrapping_sub(width), c.wrapping_sub(1), c, c + 1, c + width]);
+        let jump = draw.below(cells);
+        if draw.percent(wild) {
+            c = draw.of(&[jump, cells, 65535]);
+        } else if near < cells {
+            c = near;
+        }
+    }
+    walk
+}
+
+/// Two routes and a horizon: walks that cross, or walks far apart that are made to meet at one beat in one way, around the horizon too.
+fn pair_case(seed: u64, tally: &mut Tally) {
+    let draw = &mut Draw(seed.wrapping_mul(0x2545_f491_4f6c_dd1d) ^ 0x9a1c);
+    let (cells, wild) = (draw.of(&[2, 3, 4, 6, 9, 30, 1024]), draw.of(&[0, 0, 2, 30]));
+    let width = draw.between(1, cells.min(32));
+    let any = draw.below(66);
+    let horizon = draw.of(&[0, 1, 2, 3, 8, 31, 62, 63, 64, 65535, any, any, any]);
+    let (first, second) = (about(draw, 64), about(draw, 64));
+    let mut a = draw_walk(draw, first, width, cells, wild);
+    let mut b = draw_walk(draw, second, width, cells, wild);
+    if draw.percent(60) {
+        b.iter_mut().for_each(|c| *c = c.wrapping_add(3000));
+        let last = horizon.min(63);
+        let beat = draw.of(&[draw.0 as usize % 64, last.saturating_sub(1), last, last + 1]);
+        if beat + 1 < a.len().min(b.len()) {
+            let way = draw.below(4);
+            if way != 1 {
+                b[beat] = a[beat];
+            }
+            if way == 1 || way == 2 {
+                (b[beat], b[beat + 1]) = (a[beat + 1], a[beat]);
+            }
+            if way == 3 {
+                a[beat + 1] = a[beat];
+                b[beat + 1] = a[beat];
+            }
+        }
+    }
+    let margin = draw.next() as u16;
+    let (a, b) = (Lent::of(&a, margin), Lent::of(&b, margin));
+    tally.compare(Call::Conflict { a: a.clone(), b: b.clone(), horizon: horizon as u16 });
+    tally.compare(Call::Conflict { a: b, b: a, horizon: horizon as u16 });
+}
+
 /// The ceiling of every number of carriers.
 fn ceilings(tally: &mut Tally) {
     tally.replay = "".into();
@@ -825,22 +886,24 @@ fn main() {
     let whole = words.is_empty();
     let mut tally = Tally::default();
     let none = (1, 0);
-    let (sheets, lists, trials, ranks) = match words[..] {
-        [] => ((1, SHEETS), (1, LISTS), (1, TRIALS), (1, RANKS)),
-        ["sheets", from, count] => ((number(from), number(count)), none, none, none),
-        ["lists", from, count] => (none, (number(from), number(count)), none, none),
-        ["trials", from, count] => (none, none, (number(from), number(count)), none),
-        ["ranks", from, count] => (none, none, none, (number(from), number(count))),
-        ["sheet", seed] => ((number(seed), 1), none, none, none),
-        ["list", seed] => (none, (number(seed), 1), none, none),
-        ["trial", seed] => (none, none, (number(seed), 1), none),
-        ["rank", seed] => (none, none, none, (number(seed), 1)),
+    let (sheets, lists, trials, ranks, pairs) = match words[..] {
+        [] => ((1, SHEETS), (1, LISTS), (1, TRIALS), (1, RANKS), (1, PAIRS)),
+        ["sheets", from, count] => ((number(from), number(count)), none, none, none, none),
+        ["lists", from, count] => (none, (number(from), number(count)), none, none, none),
+        ["trials", from, count] => (none, none, (number(from), number(count)), none, none),
+        ["ranks", from, count] => (none, none, none, (number(from), number(count)), none),
+        ["pairs", from, count] => (none, none, none, none, (number(from), number(count))),
+        ["sheet", seed] => ((number(seed), 1), none, none, none, none),
+        ["list", seed] => (none, (number(seed), 1), none, none, none),
+        ["trial", seed] => (none, none, (number(seed), 1), none, none),
+        ["rank", seed] => (none, none, none, (number(seed), 1), none),
+        ["pair", seed] => (none, none, none, none, (number(seed), 1)),
         _ => {
-            eprintln!("usage: compare [sheets | lists | trials | ranks FROM COUNT] | [sheet | list | trial | rank SEED]");
+            eprintln!("usage: compare [sheets | lists | trials | ranks | pairs FROM COUNT] | [sheet | list | trial | rank | pair SEED]");
             exit(2);
         }
     };
-    tally.verbose = matches!(words[..], ["sheet" | "list" | "trial" | "rank", _]);
+    tally.verbose = matches!(words[..], ["sheet" | "list" | "trial" | "rank" | "pair", _]);
     let begin = Instant::now();
     let mut accepted = 0;
     for seed in sheets.0..sheets.0 + sheets.1 {
@@ -863,6 +926,10 @@ fn main() {
         rank_case(seed, &mut tally);
     }
     let by_ranks = tally.calls - by_trials;
+    for seed in pairs.0..pairs.0 + pairs.1 {
+        tally.replay = format!("pair {seed}");
+        pair_case(seed, &mut tally);
+    }
     if whole {
         all_ranks(&mut tally);
         ceilings(&mut tally);
@@ -870,11 +937,12 @@ fn main() {
     tally.print();
     println!(
         "compare: {} sheets ({accepted} read, {by_sheets} calls), {} lists ({by_lists} calls), {} trials, the runs of {} floors \
-         ({by_ranks} calls), {} calls in all: library and paper agree, in {:.1} s",
+         ({by_ranks} calls), {} pairs of routes, {} calls in all: library and paper agree, in {:.1} s",
         sheets.1,
         lists.1,
         trials.1,
         ranks.1,
+        pairs.1,
         tally.calls,
         begin.elapsed().as_secs_f64()
     );

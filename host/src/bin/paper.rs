@@ -1,5 +1,6 @@
 //! The routes program over `paper.rs` alone: a sheet on standard input, its routes on standard output; with the arguments
-//! `trial ORDER SEED` the text of a trial, with `runs [RANK]` that of the complete runs. It needs no archive.
+//! `trial ORDER SEED` the text of a trial, with `runs [RANK]` that of the complete runs, with `meeting I J` that of
+//! a meeting. It needs no archive.
 //! Its tests (`cargo test --bin paper`) hold `paper.rs` to document 01's twelve floors, its search to a search of all routes, and the
 //! benchmark's other planners to `paper.rs`.
 
@@ -22,12 +23,11 @@ fn main() -> std::io::Result<()> {
     std::io::stdin().read_to_end(&mut text)?;
     let words: Vec<String> = std::env::args().skip(1).collect();
     let number = |k: usize| words.get(k).and_then(|w| w.parse().ok()).unwrap_or(0u64);
-    let out = if words.first().map(String::as_str) == Some("trial") {
-        paper::print_trial(&text, number(1), number(2) as u32)
-    } else if words.first().map(String::as_str) == Some("runs") {
-        paper::print_runs(&text, (words.len() > 1).then(|| number(1)))
-    } else {
-        paper::print_routes(&text)
+    let out = match words.first().map(String::as_str) {
+        Some("trial") => paper::print_trial(&text, number(1), number(2) as u32),
+        Some("runs") => paper::print_runs(&text, (words.len() > 1).then(|| number(1))),
+        Some("meeting") => paper::print_meeting(&text, number(1), number(2)),
+        _ => paper::print_routes(&text),
     };
     std::io::stdout().write_all(out.as_bytes())
 }
@@ -105,6 +105,25 @@ mod tests {
         assert_eq!([total(1, &apart), total(2, &apart), total(4, &apart)], [495, 620, 620]);
         assert_eq!([total(1, &crossing), total(2, &crossing), total(4, &crossing)], [888, 1186, 1186]);
         assert_eq!(total(1, &[(0, 1)]), 1);
+    }
+
+    /// Document 02, slip 7: the kinds and the beat before a change, the floor then, a carrier without a route, one that is not there.
+    #[test]
+    fn meetings() {
+        let meeting = |sheet: &str, i, j| paper::print_meeting(sheet.as_bytes(), i, j);
+        assert_eq!(meeting(SHEET, 1, 2), "same cell at beat 1\n.*.\n...\n");
+        let four = "    4    2    5    1    3    1\n    0    0    3    0\n    3    0    0    0\n    0    1    3    1\n    1    1\n";
+        assert_eq!(meeting(four, 1, 2), "change of places after beat 1\n.12.\n.#..\n");
+        assert_eq!(meeting(four, 2, 1), meeting(four, 1, 2));
+        assert_eq!(meeting(four, 3, 1), "same cell at beat 4\n...*\n.#..\n");
+        let rows = "    3    2    4    1    2    0\n    0    0    2    0\n    0    1    2    1\n";
+        assert_eq!(meeting(rows, 1, 2), "free\n");
+        let shut = four.replace("    5    1    3    1", "    4    1    3    1");
+        assert_eq!(meeting(&shut, 1, 3), "carrier 3 has no route\n");
+        assert_eq!(meeting(&shut, 3, 1), "carrier 3 has no route\n");
+        assert_eq!(meeting(SHEET, 1, 3), "    0    7    0\n");
+        assert_eq!(meeting(SHEET, 0, 1), "    0    7    0\n");
+        assert_eq!(meeting("", 0, 1), "    0    1    0\n");
     }
 
     #[test]

@@ -5,15 +5,15 @@ use Rattle.second.proofs.second_conflict.Statement.{statement}
 use Rattle.second.proofs.second_conflict.Tie as tie
 
 abbrev Inv-loop : tie.InvT-loop
-Inv-loop views k horizon r nowhere last t₀ t = Unit {0}
+Inv-loop view horizon r nowhere last t₀ t = Unit {0}
 
 abbrev μ-loop : tie.MeasureT-loop
-μ-loop views k horizon r nowhere last t₀ t = last - t
+μ-loop view horizon r nowhere last t₀ t = last - t
 
 pub second-conflict-spec : {M : Type 1} → statement M
 second-conflict-spec =
-    tie.close (tie.spec Inv-loop μ-loop (λ c. search needs) (λ c. search needs) (λ c κs. search needs)
-    (λ c κs. search needs) (λ c. search needs) (λ c κs. search needs) (λ c. search needs) (λ c. search needs)
-    (λ c. search needs) (λ c κs. search needs) (λ c. search needs) (λ c κs. search needs) (λ c κs. search needs)
+    tie.close (tie.spec Inv-loop μ-loop (λ c. search needs) (λ c. search needs) (λ c κs. search needs) (λ c κs. search needs)
+    (λ c. search needs) (λ c κs. search needs) (λ c. search needs) (λ c. search needs) (λ c. search needs)
+    (λ c κs. search needs) (λ c. search needs) (λ c κs. search needs) (λ c κs. search needs) (λ c κs. search needs)
     (λ c κs. search needs) (λ c. search needs) (λ c. search needs) (λ c. search needs) (λ c. search needs)
     (λ c. search needs))

@@ -2,7 +2,7 @@
 use mathlib.Core.Path.{refl}
 use lib.ListN.{length-take, length-drop}
 use Rattle.reporting.specs.Text.{entries, reportLength}
-use Rattle.desk.proofs.TextLaws.{both-put}
+use Rattle.reporting.proofs.TextLaws.{both-put}
 use Rattle.desk.proofs.PlayedLaws.{routes-room, routes-short, report-room}
 use native.Mathlib.Omega.{arith}
 use borrow.Author.Needs.{needs}

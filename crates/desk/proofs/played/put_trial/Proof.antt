@@ -5,7 +5,7 @@ use Rattle.laws.specs.Verdict.{_gives_}
 use Rattle.trial.specs.Entry.{trialOf, triedOutcome}
 use Rattle.desk.specs.Text.{orderVerdict}
 use lib.Seq.{length-take-le}
-use Rattle.desk.proofs.TextLaws.{numbers-few}
+use Rattle.reporting.proofs.TextLaws.{numbers-few}
 use Rattle.desk.proofs.PlayedLaws.{order-says, steps-told, steps-low, refusal-told, report-front, played-put, refused-put}
 use native.Mathlib.Omega.{arith}
 use borrow.Author.Needs.{needs}

@@ -1,17 +1,16 @@
--- The text of a trial in a memory of 13,217 bytes, which holds every such text.
+-- Texts put into a memory, one behind the other or in front of it.
 use Prim.Native.Nat.{ℕ, _+_, _-_, _*_, _≤_}
 use native.Mathlib.Omega.{arith}
 use native.Mathlib.Nat.{zero-add}
 use mathlib.Core.Path.{_≡_, sym, ap, ap₂, _∙_}
 use mathlib.Core.List.{List, [], _++_, append-nil}
 use lib.ListN.{length, take, drop, length-append, length-take, length-drop}
-use lib.Seq.{take-all, drop-drop, drop-length}
+use lib.Seq.{take-all, drop-drop, drop-length, length-take-le}
 use Rattle.io.specs.Counts.{Counts}
 use Rattle.laws.specs.Memory.{put}
 use Rattle.laws.proofs.PutLaws.{put-front, put-length, put-next}
-use Rattle.console.proofs.WithinLaws.{counts-within}
 use Rattle.printing.specs.Put.{TextPut}
 use Rattle.reporting.specs.Put.{PutAt}
 
 -- A text in front of the part of a memory from a place on stands at that place.
 pub suffix-put : (m t ys : List ℕ) (n : ℕ) → n ≤ length m → ys ≡ put (take (length m - n) (drop n m)) 0 t
@@ -45,7 +44,7 @@ both-put a b old mid ys new n k p t e l =
 pub counted : (text old new : List ℕ) (n : ℕ) → TextPut text old new n → length text ≤ length old → Counts n new × (take n new ≡ text)
 counted text old new n p fits =
     let f = put-front old new text n (p .bytes) (p .size) fits in
-    (counts-within _ _ (f .0), f .1)
+    ((f .0, sym (length-take-le n new (f .0))), f .1)
 
 -- The numbers of at most 502 lines are at most 1,004.
 pub numbers-few : (t : ℕ) (xs : List ℕ) → t ≤ 502 → length (take (2 * t) xs) ≤ 1004

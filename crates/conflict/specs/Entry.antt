@@ -1,0 +1,26 @@
+-- The conflict test of two lent routes as an entry (document 02, slip 7): its refusal, and its answer.
+use Prim.Native.Nat.{ℕ, min}
+use mathlib.Core.List.{List}
+use lib.ListN.{length}
+use Rattle.laws.specs.Memory.{part}
+use Rattle.laws.specs.Verdict.{Verdict, _then_, Outcome, value, refusal, _gives_}
+use Rattle.floor.specs.Checks.{roomOf}
+use Rattle.route.specs.FirstConflict.{sameCell, changeOfPlaces, ConflictAnswer, free, dated}
+use Rattle.route.specs.ConflictTest.{firstConflict}
+use Rattle.conflict.specs.declared.Compared.{Compared}
+use Rattle.conflict.specs.declared.Compared.the-variants.{Free, SameCell, ChangeOfPlaces, Refused}
+
+-- What each case of the code's answer says.
+unfoldable pub comparedOutcome : Compared → Outcome ConflictAnswer
+comparedOutcome Free = value free
+comparedOutcome (SameCell t) = value (dated t sameCell)
+comparedOutcome (ChangeOfPlaces t) = value (dated t changeOfPlaces)
+comparedOutcome (Refused r) = refusal (r .number) (r .place)
+
+-- 9, 0: a lent route has fewer than 64 numbers.
+unfoldable pub routesLent : List ℕ → List ℕ → Verdict
+routesLent a b = roomOf 64 (length a) then roomOf 64 (length b)
+
+-- What the entry answers: the first conflict of the first 64 numbers of each, through the horizon, one above 63 counting as 63.
+unfoldable pub conflictOutcome : List ℕ → List ℕ → ℕ → Outcome ConflictAnswer
+conflictOutcome a b horizon = routesLent a b gives firstConflict (min horizon 63) (part a 0 64) (part b 0 64)

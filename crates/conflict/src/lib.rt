@@ -1,0 +1,54 @@
+// The conflict test of two lent routes as an entry (document 02, slip 7): the first conflict with its beat and its kind, or free.
+ghost use mathlib.Core.Path.{_≡_};
+ghost use Rattle.laws.specs.Verdict.{value, refusal};
+ghost use Rattle.route.specs.ConflictTest.{conflictTold};
+ghost use Rattle.conflict.specs.Entry.{comparedOutcome, conflictOutcome};
+use floor::Refusal;
+use records::CELLS;
+use route::FirstConflict;
+
+// What the entry answers, with the beat of a conflict.
+pub enum Compared {
+    // No conflict.
+    Free,
+    // Both are in one cell at this beat.
+    SameCell(usize),
+    // They change places between this beat and the next.
+    ChangeOfPlaces(usize),
+    // Turned away.
+    Refused(Refusal),
+}
+
+// What the conflict test found as an answer.
+fn told(found: FirstConflict) -> Compared
+    ensures { λ r. ⌜ comparedOutcome r ≡ value (conflictTold found) ⌝ }
+{
+    match found {
+        FirstConflict::Free => Compared::Free,
+        FirstConflict::SameCell(t) => Compared::SameCell(t),
+        FirstConflict::ChangeOfPlaces(t) => Compared::ChangeOfPlaces(t),
+    }
+}
+
+// A lent route that is too short: 9, 0.
+fn too_short() -> Compared
+    ensures { λ r. ⌜ comparedOutcome r ≡ refusal 9 0 ⌝ }
+{
+    Compared::Refused(Refusal {
+        number: 9,
+        place: 0,
+    })
+}
+
+// The first conflict of two lent routes through the horizon, of which 64 cells each are read; a horizon above 63 counts as 63.
+pub fn conflict(a: &[u16], b: &[u16], horizon: u16) -> Compared
+    ensures answers { λ r. ⌜ comparedOutcome r ≡ conflictOutcome (now (a .entry)) (now (b .entry)) horizon ⌝ }
+{
+    if a.len() < CELLS {
+        return too_short();
+    }
+    if b.len() < CELLS {
+        return too_short();
+    }
+    told(route::first_conflict(records::load(a, 0), records::load(b, 0), horizon))
+}

@@ -1,0 +1,3 @@
+-- Laws of a drawn floor, and drawings computed from the definitions.
+pub mod DrawingLaws
+mod Cases

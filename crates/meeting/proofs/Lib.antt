@@ -1,0 +1,2 @@
+-- Laws of a meeting's text.
+mod MeetingLaws

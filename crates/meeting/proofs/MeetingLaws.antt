@@ -1,0 +1,293 @@
+-- The text of a meeting in a memory of 1,087 bytes, which holds every such text.
+use Prim.Native.Nat.{ℕ, zero, suc, _+_, _*_, _/_, _%_, _≤_, _<_, min}
+use native.Mathlib.Omega.{arith}
+use mathlib.Core.Bool.{Bool, true, false, cond}
+use mathlib.Core.Path.{_≡_, refl, sym, ap, _∙_}
+use mathlib.Core.List.{List, [], _∷_, _++_, append-nil}
+use borrow.Author.Tests.{le-leb, leb-true, lt-ltb, le-ltb}
+use lib.Dec.{ltb, leb}
+use lib.ListN.{length, getD, take, replicate, length-append, length-replicate}
+use Rattle.io.specs.Counts.{Counts}
+use Rattle.laws.specs.Memory.{put}
+use Rattle.laws.specs.Verdict.{Verdict, passed, refused, value, refusal, demand, _then_}
+use Rattle.laws.proofs.PutLaws.{put-none}
+use Rattle.laws.proofs.Tests.{and-fst, and-snd}
+use Rattle.laws.proofs.VerdictLaws.{then-passed, then-refused, then-both, demand-passes, demand-holds, demand-cases, gives-passed}
+use Rattle.floor.specs.declared.Floor.{Floor}
+use Rattle.floor.specs.declared.Refusal.{Refusal}
+use Rattle.floor.specs.Checks.{checkOf, roomOf, within}
+use Rattle.floor.proofs.LimitsLaws.{check-tells}
+use Rattle.route.specs.Route.{Answer, none, route, View, unheard}
+use Rattle.route.specs.FirstConflict.{ConflictKind, sameCell, changeOfPlaces, ConflictAt, ConflictAnswer, free, dated}
+use Rattle.route.specs.ConflictTest.{firstConflict}
+use Rattle.route.specs.Search.{best}
+use Rattle.route.proofs.Theorems.{theorems as route-theorems}
+use Rattle.records.specs.Records.{viewOf, recordAt, viewAt, records, viewsOf}
+use Rattle.records.specs.Seen.{seenFrom, seen}
+use Rattle.search.specs.Task.{taskOf}
+use Rattle.search.specs.Search.{requestOf, searchOf}
+use Rattle.search.specs.Answers.{outcomeOf, resultOf, Says}
+use Rattle.search.specs.declared.Outcome.{Outcome as CodeOutcome}
+use Rattle.search.specs.declared.Outcome.the-variants.{Route, None, Refused}
+use Rattle.search.specs.declared.Found.{Found}
+use Rattle.search.proofs.Theorems.{theorems as search-theorems}
+use Rattle.sheet.specs.Values.{floorAt, wallsAt}
+use Rattle.sheet.specs.Read.{sheetVerdict}
+use Rattle.printing.specs.Print.{orRefusal}
+use Rattle.printing.specs.Text.{refusalLine}
+use Rattle.printing.proofs.PrintLaws.{WasRead, refusal-length}
+use Rattle.printing.specs.Put.{TextPut}
+use Rattle.reporting.specs.Put.{PutAt}
+use Rattle.reporting.proofs.ReportLaws.{put-behind}
+use Rattle.reporting.proofs.TextLaws.{counted}
+use Rattle.drawing.specs.Drawing.{drawnFloor}
+use Rattle.drawing.proofs.DrawingLaws.{bytes-length, grid-low}
+use Rattle.meeting.specs.Text.{aloneOf, pairVerdict, decimal, numberLine, freeLine, sameCellWords, changeWords, carrierWords}
+use Rattle.meeting.specs.Text.{noRouteWords, conflictLine, noRouteLine, Early, conflictDrawing, metText, pairText, meetingText}
+
+-- Zeros show no view.
+zeros-unheard : (n j : ℕ) → viewAt (replicate n 0) j ≡ unheard
+unfolding viewAt recordAt viewOf
+zeros-unheard n j = rw (zero-at n (65 * j))
+  where
+    zero-at : (n i : ℕ) → _≡_ {A = ℕ} (getD (replicate n 0) i 0) 0
+    zero-at zero i = refl
+    zero-at (suc n) zero = refl
+    zero-at (suc n) (suc i) = zero-at n i
+
+module _ (f : Floor) (ws : List ℕ) (ok : checkOf f ws ≡ passed) where
+  pub short : f .horizon ≤ 63
+  short = check-tells f ws ok .bounds .horizon .1
+
+  few : f .carriers ≤ 8
+  few = check-tells f ws ok .bounds .carriers .1
+
+  -- Against views of which none is heard a carrier answers as against nobody.
+  unheard-alone : (i n k : ℕ) → best (taskOf f ws i) (seen f (records (replicate n 0) k)) ≡ best (taskOf f ws i) []
+  unfolding records seen seenFrom
+  unheard-alone i n zero = refl
+  unheard-alone i n (suc k) =
+      ap (λ (v : View). best (taskOf f ws i) (seen f (records (replicate n 0) k ++ (v ∷ [])))) (zeros-unheard n k)
+      ∙ search-theorems .unheard-left-out f ws i (records (replicate n 0) k) [] short
+      ∙ ap (best (taskOf f ws i)) (append-nil _)
+      ∙ unheard-alone i n k
+
+  pub alone-found : (i : ℕ) → demand (within 1 (f .carriers) i) 7 0 ≡ passed → searchOf f ws i (replicate 520 0) ≡ value (aloneOf f ws i)
+  unfolding searchOf requestOf aloneOf viewsOf roomOf
+  alone-found i there =
+      let room : 65 * f .carriers ≤ length (replicate {A = ℕ} 520 0) = omega (arith, few, length-replicate {A = ℕ} 520 0) in
+      gives-passed (then-passed ok ∙ then-passed (demand-passes 9 0 (le-leb _ _ room)) ∙ there) ∙ ap value (unheard-alone i 520 _)
+
+  -- What a drawing asks for.
+  pub drawn-low : (f .width ≤ 32) × (f .height ≤ 32) × (f .walls ≤ length ws) × ((f .width + 1) * f .height ≤ 1056)
+  drawn-low =
+      let b = check-tells f ws ok .bounds in
+      (b .width .1, b .height .1, check-tells f ws ok .lent, grid-low _ _ (b .width .1) (b .height .1))
+
+  pub drawn-put : (places old new : List ℕ) (n : ℕ) → new ≡ put old 0 (drawnFloor f ws places) → n ≡ (f .width + 1) * f .height
+      → TextPut (drawnFloor f ws places) old new n
+  unfolding drawnFloor
+  drawn-put places old new n e s = record { bytes = e; size = s ∙ sym (bytes-length f ws places ((f .width + 1) * f .height)) }
+
+  drawing-short : (places : List ℕ) → length (drawnFloor f ws places) ≤ 1056
+  unfolding drawnFloor
+  drawing-short places = omega (arith, bytes-length f ws places ((f .width + 1) * f .height), drawn-low .3)
+
+  -- Two carriers that are there.
+  module _ (i j : ℕ) (there : pairVerdict f i j ≡ passed) where
+    pub first-there : demand (within 1 (f .carriers) i) 7 0 ≡ passed
+    unfolding pairVerdict
+    first-there = then-both _ _ there .0
+
+    pub second-there : demand (within 1 (f .carriers) j) 7 0 ≡ passed
+    unfolding pairVerdict
+    second-there = then-both _ _ there .1
+
+    digit : (k : ℕ) → demand (within 1 (f .carriers) k) 7 0 ≡ passed → (1 ≤ k) × (k ≤ 8)
+    unfolding within
+    digit k h =
+        let t = demand-holds _ 7 0 h in (
+          leb-true 1 k (and-fst (leb 1 k) (leb k (f .carriers)) t),
+          omega (arith, few, leb-true k (f .carriers) (and-snd (leb 1 k) (leb k (f .carriers)) t)),
+        )
+
+    pub first-digit : (1 ≤ i) × (i ≤ 8)
+    first-digit = digit i first-there
+
+    pub second-digit : (1 ≤ j) × (j ≤ 8)
+    second-digit = digit j second-there
+
+-- The beat of a first conflict is at most 63.
+conflict-low : (H : ℕ) (a b : List ℕ) (t : ℕ) (k : ConflictKind) → ConflictAt (min H 63) a b t k → t ≤ 63
+unfolding ConflictAt
+conflict-low H a b t sameCell c = omega (arith, c .0)
+conflict-low H a b t changeOfPlaces c = omega (arith, c .0)
+
+pub found-early : (H : ℕ) (a b : List ℕ) (x : ConflictAnswer) → x ≡ firstConflict (min H 63) a b → Early x
+unfolding Early
+found-early H a b free e = tt
+found-early H a b (dated t k) e = conflict-low H a b t k (route-theorems .conflict-test (min H 63) a b .first-exactly t k .0 (sym e) .there)
+
+-- Numbers in digits, and lines with a number in them.
+pub one-digit : (n : ℕ) → n < 10 → decimal n ≡ (48 + n) ∷ []
+unfolding decimal
+one-digit n l = rw (lt-ltb n 10 l)
+
+pub two-digits : (n : ℕ) → 10 ≤ n → decimal n ≡ (48 + n / 10) ∷ (48 + n % 10) ∷ []
+unfolding decimal
+two-digits n l = rw (le-ltb n 10 l)
+
+pub decimal-short : (n : ℕ) → length (decimal n) ≤ 2
+unfolding decimal
+decimal-short n = go (ltb n 10)
+  where
+    go : (x : Bool) → length (cond x ((48 + n) ∷ []) ((48 + n / 10) ∷ (48 + n % 10) ∷ [])) ≤ 2
+    go true = omega arith
+    go false = omega arith
+
+pub line-put : (words end old m₁ m₂ m₃ : List ℕ) (n at behind next : ℕ) → PutAt words old 0 m₁ at → PutAt (decimal n) m₁ at m₂ behind
+    → PutAt end m₂ behind m₃ next → length words + 2 + length end ≤ length old → PutAt (numberLine words n end) old 0 m₃ next
+unfolding numberLine
+line-put words end old m₁ m₂ m₃ n at behind next p q r l =
+    let d = decimal-short n in
+    put-behind (put-behind p q (omega (arith, p .behind, q .behind))) r (omega (arith, p .behind, q .behind, r .behind))
+
+line-short : (words : List ℕ) (n : ℕ) (end : List ℕ) → length (numberLine words n end) ≤ length words + 2 + length end
+unfolding numberLine
+line-short words n end =
+    omega (arith, length-append (words ++ decimal n) end, length-append words (decimal n), decimal-short n)
+
+pub conflict-short : (x : ConflictAnswer) → length (conflictLine x) ≤ 31
+unfolding conflictLine freeLine sameCellWords changeWords
+conflict-short free = omega arith
+conflict-short (dated t sameCell) = omega (arith, line-short sameCellWords t (10 ∷ []))
+conflict-short (dated t changeOfPlaces) = omega (arith, line-short changeWords t (10 ∷ []))
+
+none-short : (i : ℕ) → length (noRouteLine i) ≤ 31
+unfolding noRouteLine carrierWords noRouteWords
+none-short i = omega (arith, line-short carrierWords i noRouteWords)
+
+-- What was put in front of a memory.
+pub front-put : {text old new : List ℕ} {n : ℕ} → PutAt text old 0 new n → TextPut text old new n
+front-put p = record { bytes = p .bytes; size = omega (arith, p .behind) }
+
+pub nothing-put : (old : List ℕ) → TextPut [] old old 0
+nothing-put old = record { bytes = put-none old 0; size = refl }
+
+-- A search that answers says by its case whether there is a route, which stands beside it.
+module _ (x : Found) (y : Answer) (says : Says x (value y)) where
+  pub route-found : x .outcome ≡ Route → y ≡ route (x .route)
+  unfolding resultOf outcomeOf
+  route-found e =
+      let told : value (route (x .route)) ≡ value y = ap (λ (o : CodeOutcome). outcomeOf o (x .route)) (sym e) ∙ says .answers in
+      cc
+
+  pub none-found : x .outcome ≡ None → y ≡ none
+  unfolding resultOf outcomeOf
+  none-found e =
+      let told : value none ≡ value y = ap (λ (o : CodeOutcome). outcomeOf o (x .route)) (sym e) ∙ says .answers in
+      cc
+
+  pub never-refused : (r : Refusal) → x .outcome ≡ Refused r → ⊥
+  unfolding resultOf outcomeOf
+  never-refused r e =
+      let told : refusal (r .number) (r .place) ≡ value y = ap (λ (o : CodeOutcome). outcomeOf o (x .route)) (sym e) ∙ says .answers in
+      let z : _≡_ {A = ℕ} 0 1 = cc in
+      omega arith
+
+-- The text for two answers, by its cases.
+module _ (f : Floor) (ws : List ℕ) (i j : ℕ) (x y : Answer) (old new : List ℕ) (n : ℕ) where
+  pub first-none : x ≡ none → TextPut (noRouteLine i) old new n → TextPut (metText f ws i j x y) old new n
+  unfolding metText
+  first-none e t = rw e t
+
+  pub first-route : (r : List ℕ) → x ≡ route r → TextPut (metText f ws i j (route r) y) old new n → TextPut (metText f ws i j x y) old new n
+  first-route r e t = rw e t
+
+module _ (f : Floor) (ws : List ℕ) (i j : ℕ) (r : List ℕ) (y : Answer) (old new : List ℕ) (n : ℕ) where
+  pub second-none : y ≡ none → TextPut (noRouteLine j) old new n → TextPut (metText f ws i j (route r) y) old new n
+  unfolding metText
+  second-none h t = rw h t
+
+  pub second-route : (q : List ℕ) → y ≡ route q → TextPut (metText f ws i j (route r) (route q)) old new n
+      → TextPut (metText f ws i j (route r) y) old new n
+  second-route q h t = rw h t
+
+pub met-put : (f : Floor) (ws : List ℕ) (i j : ℕ) (a b : List ℕ) (x : ConflictAnswer) (old new : List ℕ) (n : ℕ) → f .horizon ≤ 63
+    → x ≡ firstConflict (min (f .horizon) 63) a b → TextPut (conflictLine x ++ conflictDrawing f ws i j a b x) old new n
+    → TextPut (metText f ws i j (route a) (route b)) old new n
+unfolding metText
+met-put f ws i j a b x old new n l e t =
+    let same : min (f .horizon) 63 ≡ f .horizon = omega arith in
+    let found : x ≡ firstConflict (f .horizon) a b = rw same at e in
+    rw (← found) t
+
+-- The line ends by column 31.
+pub line-room : (x : ConflictAnswer) (old new : List ℕ) (n : ℕ) → PutAt (conflictLine x) old 0 new n → n ≤ 31
+line-room x old new n p = omega (arith, p .behind, conflict-short x)
+
+-- No text has more than 1,087 bytes.
+module _ (f : Floor) (ws : List ℕ) (ok : checkOf f ws ≡ passed) (i j : ℕ) where
+  pub met-drawing-short : (r q : List ℕ) (x : ConflictAnswer) → length (conflictDrawing f ws i j r q x) ≤ 1056
+  unfolding conflictDrawing
+  met-drawing-short r q free = omega arith
+  met-drawing-short r q (dated t k) = drawing-short f ws ok _
+
+  met-short : (x y : Answer) → length (metText f ws i j x y) ≤ 1087
+  unfolding metText
+  met-short none y = omega (arith, none-short i)
+  met-short (route r) none = omega (arith, none-short j)
+  met-short (route r) (route q) =
+      let x = firstConflict (f .horizon) r q in
+      omega (arith, length-append (conflictLine x) (conflictDrawing f ws i j r q x), conflict-short x, met-drawing-short r q x)
+
+  pub pair-short : length (pairText f ws i j) ≤ 1087
+  unfolding pairText orRefusal
+  pair-short = go (pairVerdict f i j)
+    where
+      go : (v : Verdict) → length (orRefusal v (metText f ws i j (aloneOf f ws i) (aloneOf f ws j))) ≤ 1087
+      go passed = met-short (aloneOf f ws i) (aloneOf f ws j)
+      go (refused k p) = omega (arith, refusal-length k p)
+
+-- The text for two carriers, of which one may not be there.
+module _ (f : Floor) (ws : List ℕ) (i j : ℕ) (old new : List ℕ) (n : ℕ) where
+  pub pair-put : pairVerdict f i j ≡ passed → TextPut (metText f ws i j (aloneOf f ws i) (aloneOf f ws j)) old new n
+      → TextPut (pairText f ws i j) old new n
+  unfolding pairText orRefusal
+  pair-put e t = rw e t
+
+  pub pair-refused : (k p : ℕ) → pairVerdict f i j ≡ refused k p → TextPut (refusalLine k p) old new n → TextPut (pairText f ws i j) old new n
+  unfolding pairText orRefusal
+  pair-refused k p e t = rw e t
+
+-- The refusal of a carrier that is not there has place 0.
+pub pair-place : (f : Floor) (i j k p : ℕ) → pairVerdict f i j ≡ refused k p → p ≡ 0
+unfolding pairVerdict
+pair-place f i j k p e = go (demand (within 1 (f .carriers) i) 7 0) refl
+  where
+    go : (v : Verdict) → demand (within 1 (f .carriers) i) 7 0 ≡ v → p ≡ 0
+    go passed h = demand-cases (within 1 (f .carriers) j) 7 0 k p (sym (then-passed h) ∙ e) .2
+    go (refused a b) h =
+        let same : refused a b ≡ refused k p = sym (then-refused _ h) ∙ e in
+        let place : b ≡ p = cc in
+        omega (arith, demand-cases (within 1 (f .carriers) i) 7 0 a b h .2)
+
+-- What is printed for a sheet, where it was read and where it was refused.
+module _ (text old new : List ℕ) (i j n : ℕ) (enough : 1087 ≤ length old) where
+  pub read-printed : (f : Floor) (walls : List ℕ) → WasRead text f walls → TextPut (pairText f (take (f .walls) walls) i j) old new n
+      → Counts n new × (take n new ≡ meetingText text i j)
+  unfolding meetingText orRefusal
+  read-printed f walls r t =
+      let same : pairText f (take (f .walls) walls) i j ≡ pairText (floorAt text) (wallsAt text) i j = rw (r .front, r .floor) refl in
+      let fits : length (pairText f (take (f .walls) walls) i j) ≤ length old =
+      omega (arith, pair-short f (take (f .walls) walls) (r .checked) i j)
+      in
+      let c = counted _ _ _ _ t fits in
+      (c .0, rw (r .accepted) (c .1 ∙ same))
+
+  pub refused-printed : (k p : ℕ) → sheetVerdict text ≡ refused k p → TextPut (refusalLine k p) old new n
+      → Counts n new × (take n new ≡ meetingText text i j)
+  unfolding meetingText orRefusal
+  refused-printed k p h t =
+      let c = counted _ _ _ _ t (omega (arith, refusal-length k p)) in
+      (c .0, rw h (c .1))

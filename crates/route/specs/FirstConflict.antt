@@ -1,0 +1,32 @@
+-- The first conflict of two routes (document 02, slip 7), declared: its kind and its beat. H is the horizon, a beat itself. A further kind
+-- is a constructor with its place in the order and a line of `ConflictAt`; of the test, a line of `isConflict` and a name in `kinds`.
+use Prim.Native.Nat.{ℕ, _≤_, _<_}
+use mathlib.Core.List.{List}
+use mathlib.Core.Logic.{_⊎_}
+use mathlib.Core.Path.{_≡_}
+use Rattle.route.specs.Conflict.{VertexConflict, SwapConflict}
+
+-- The kinds of conflict: vertex conflict (the paper's 'same cell'), swap conflict (its 'change of places').
+pub data ConflictKind : Type 0 where
+  sameCell : ConflictKind
+  changeOfPlaces : ConflictKind
+
+-- The place of a kind in the order of those at one beat.
+unfoldable pub rankOf : ConflictKind → ℕ
+rankOf sameCell = 0
+rankOf changeOfPlaces = 1
+
+-- Routes a and b have a conflict of a kind at beat t, through beat H; a change of places is dated by the beat before it.
+unfoldable pub ConflictAt : ℕ → List ℕ → List ℕ → ℕ → ConflictKind → Type 0
+ConflictAt H a b t sameCell = (t ≤ H) × VertexConflict a b t
+ConflictAt H a b t changeOfPlaces = (t < H) × SwapConflict a b t
+
+-- The conflict at beat t of kind k is the first: there is none at an earlier beat, and none of an earlier kind at that beat.
+pub record FirstAt (H : ℕ) (a b : List ℕ) (t : ℕ) (k : ConflictKind) : Type 0 where
+  pub there : ConflictAt H a b t k
+  pub first : (u : ℕ) (j : ConflictKind) → (u < t) ⊎ ((u ≡ t) × (rankOf j < rankOf k)) → ConflictAt H a b u j → ⊥
+
+-- The answer of the conflict test: free, or a beat with a kind.
+pub data ConflictAnswer : Type 0 where
+  free : ConflictAnswer
+  dated : ℕ → ConflictKind → ConflictAnswer
