@@ -398,6 +398,12 @@ impl Desk {
         told("steps", word)
     }
 
+    /// The run of a rank, whose report is lent memory; the line gives the total too.
+    fn listed(&mut self, numbers: &[Number]) -> String {
+        let word = calls::run_of_rank(&self.record(), &self.walls(), numbers[0].value as u64, &mut self.lent);
+        refusal(word).unwrap_or_else(|| either(word >> 16 == numbers[1].value as u64, &format!("steps {}", word >> 8 & 255), "OTHERWISE"))
+    }
+
     /// Whether the answers in lent memory are the planner's.
     fn is_planned(&self) -> bool {
         let mut answers = vec![LENT; self.lent.len()];
@@ -491,6 +497,7 @@ impl Desk {
             b'r' => self.run(numbers),
             b'p' => told("failing carrier", calls::plan(&record, &walls, &mut self.lent)),
             b'T' => self.trial(numbers),
+            b'L' => self.listed(numbers),
             b'h' => told("steps", calls::ceiling(first as u16)),
             b'm' => either(self.lent == written_out(numbers, self.lent.len()), "the same", "OTHERWISE"),
             b'a' => either(self.is_planned(), "the same", "OTHERWISE"),

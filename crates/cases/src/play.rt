@@ -1,6 +1,7 @@
 // The lines of the script, each with its command.
 use crate::calls;
 use crate::drawn;
+use crate::listed;
 use crate::orders;
 use crate::spoilt;
 use crate::states;
@@ -53,7 +54,7 @@ fn called(s: &[u8], desk: &[u16], m: &mut [u16]) -> usize {
 }
 
 // Commands that try lent memory in many ways: text of a sheet, unfit numbers in each place, kinds of answers to all numbers as steps, all
-// orders, drawn orders, a Trial.
+// orders, drawn orders, a Trial, a Listed run.
 fn tried(s: &[u8], desk: &[u16], m: &mut [u16]) -> usize {
     match byte(s, 0) {
         b't' => sheets::text(s, m),
@@ -62,6 +63,7 @@ fn tried(s: &[u8], desk: &[u16], m: &mut [u16]) -> usize {
         b'o' => tally::say(orders::every(desk, m)),
         b'd' => tally::say(drawn::drawn(s, desk, m)),
         b'T' => trials::trial(s, desk, m),
+        b'L' => listed::list(s, desk, m),
         _ => looked(s, desk, m),
     }
 }

@@ -13,6 +13,7 @@ use lister::Counted;
 use lister::LINE;
 use lister::Listed;
 use printing::Printed;
+use reporting::put_bytes;
 
 // The lines that are listed at a time.
 const LINES: usize = 2048;
@@ -28,13 +29,6 @@ fn no_lines() -> [u16; LINES * LINE]
     ensures { λ r. ⌜ 47104 ≡ length r ⌝ }
 {
     [0; LINES * LINE]
-}
-
-// Room for the most walls that a floor can have.
-pub fn no_walls() -> [u16; 1023]
-    ensures { λ r. ⌜ 1023 ≡ length r ⌝ }
-{
-    [0; 1023]
 }
 
 // Room for the report of the most steps.
@@ -60,20 +54,6 @@ fn write_front(text: &[u8], n: usize) -> bool {
         Output::Written => true,
         Output::Failed => false,
     }
-}
-
-// Puts bytes from a column on; the column behind them is returned.
-fn put_bytes(out: &mut [u8], at: usize, bytes: &[u8]) -> usize
-    requires { ⌜ at + length (now bytes) ≤ length (now out) ⌝ }
-    ensures { λ r. ⌜ r ≡ at + length (now (bytes .entry)) ⌝ }
-{
-    let n = bytes.len();
-    let mut t: usize = 0;
-    while t < n {
-        out[at + t] = bytes[t];
-        t += 1;
-    }
-    at + n
 }
 
 // Puts a number in decimal digits from a column on; the column behind it is returned.

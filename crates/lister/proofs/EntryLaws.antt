@@ -15,7 +15,11 @@ use Rattle.laws.specs.Memory.{put}
 use Rattle.laws.proofs.PutLaws.{put-length, copy-start, copy-more, copy-keeps, copy-end}
 use Rattle.laws.proofs.VerdictLaws.{then-both, then-passed, demand-holds, demand-passes, gives-passed, gives-refused, when-passed, when-refused}
 use Rattle.floor.specs.declared.Floor.{Floor}
+use Rattle.floor.specs.declared.Checked.{Checked}
+use Rattle.floor.specs.declared.Checked.the-variants.{Passed}
+use Rattle.floor.specs.Answers.{verdictOf}
 use Rattle.floor.specs.Checks.{checkOf, roomOf}
+use Rattle.floor.proofs.AnswersLaws.{passes}
 use Rattle.floor.proofs.LimitsLaws.{room-passed}
 use Rattle.floor.proofs.Theorems.{theorems as floor-theorems}
 use Rattle.reference.specs.State.{Machine, State, fresh}
@@ -26,6 +30,7 @@ use Rattle.search.specs.Rows.{FreeRows}
 use Rattle.steps.specs.Inner.{Placed}
 use Rattle.orders.specs.Trial.{Entry}
 use Rattle.trial.specs.Report.{numbersOf, reportSize}
+use Rattle.trial.proofs.EntryLaws.{checked-carriers}
 use Rattle.trial.proofs.ReportLaws.{numbers-length}
 use Rattle.listing.specs.Runs.{Run, runsOf, total, runAt, reportFrom}
 use Rattle.listing.proofs.Theorems.{theorems as listing-theorems}
@@ -54,10 +59,12 @@ small-tells f ws report h =
       few = leb-true (f .carriers) 3 (demand-holds (leb (f .carriers) 3) 14 0 (b .1));
     }
 
--- The needed length of a report as the code computes it.
-pub report-asked : (n most report : ℕ) → most ≡ ceiling n → roomOf (2 * most) report ≡ roomOf (reportSize n) report
+-- The room for a report, as the code asks for it behind a check of the floor that passed.
+pub report-asked : {a : Checked} (b : Checked) (f : Floor) (ws : List ℕ) (most report : ℕ) → verdictOf a ≡ checkOf f ws → a ≡ Passed →
+    (1 ≤ f .carriers → f .carriers ≤ 8 → most ≡ ceiling (f .carriers)) × (most ≤ 512) → verdictOf b ≡ roomOf (2 * most) report →
+    verdictOf b ≡ roomOf (reportSize (f .carriers)) report
 unfolding reportSize
-report-asked n most report e = rw e
+report-asked b f ws most report v e m h = let n = checked-carriers f ws (passes v e) in h ∙ rw (m .0 (n .0) (n .1))
 
 pub list-tells : (f : Floor) (ws : List ℕ) → listVerdict f ws ≡ passed → (checkOf f ws ≡ passed) × (f .carriers ≤ 3)
 unfolding listVerdict

@@ -43,7 +43,7 @@ use Rattle.reporting.proofs.TextLaws.{counted}
 use Rattle.drawing.specs.Drawing.{drawnFloor}
 use Rattle.drawing.proofs.DrawingLaws.{bytes-length, grid-low}
 use Rattle.meeting.specs.Text.{aloneOf, pairVerdict, decimal, numberLine, freeLine, sameCellWords, changeWords, carrierWords}
-use Rattle.meeting.specs.Text.{noRouteWords, conflictLine, noRouteLine, Early, conflictDrawing, metText, pairText, meetingText}
+use Rattle.meeting.specs.Text.{noRouteWords, conflictLine, noRouteLine, Early, conflictDrawing, answerIf, metText, pairText, meetingText}
 
 -- Zeros show no view.
 zeros-unheard : (n j : ℕ) → viewAt (replicate n 0) j ≡ unheard
@@ -174,44 +174,39 @@ front-put p = record { bytes = p .bytes; size = omega (arith, p .behind) }
 pub nothing-put : (old : List ℕ) → TextPut [] old old 0
 nothing-put old = record { bytes = put-none old 0; size = refl }
 
--- A search that answers says by its case whether there is a route, which stands beside it.
-module _ (x : Found) (y : Answer) (says : Says x (value y)) where
-  pub route-found : x .outcome ≡ Route → y ≡ route (x .route)
-  unfolding resultOf outcomeOf
-  route-found e =
-      let told : value (route (x .route)) ≡ value y = ap (λ (o : CodeOutcome). outcomeOf o (x .route)) (sym e) ∙ says .answers in
-      cc
+-- What the outcome of a search that answers says of its answer.
+pub route-told : (cells : List ℕ) (y : Answer) → outcomeOf Route cells ≡ value y → y ≡ answerIf true cells
+unfolding outcomeOf answerIf
+route-told cells y e = cc
 
-  pub none-found : x .outcome ≡ None → y ≡ none
-  unfolding resultOf outcomeOf
-  none-found e =
-      let told : value none ≡ value y = ap (λ (o : CodeOutcome). outcomeOf o (x .route)) (sym e) ∙ says .answers in
-      cc
+pub none-told : (cells : List ℕ) (y : Answer) → outcomeOf None cells ≡ value y → y ≡ answerIf false cells
+unfolding outcomeOf answerIf
+none-told cells y e = cc
 
-  pub never-refused : (r : Refusal) → x .outcome ≡ Refused r → ⊥
-  unfolding resultOf outcomeOf
-  never-refused r e =
-      let told : refusal (r .number) (r .place) ≡ value y = ap (λ (o : CodeOutcome). outcomeOf o (x .route)) (sym e) ∙ says .answers in
-      let z : _≡_ {A = ℕ} 0 1 = cc in
-      omega arith
+pub refusal-told : (r : Refusal) (cells : List ℕ) (y : Answer) → outcomeOf (Refused r) cells ≡ value y → y ≡ answerIf false cells
+unfolding outcomeOf
+refusal-told r cells y e = let z : _≡_ {A = ℕ} 0 1 = cc in absurd (omega arith)
+
+-- The answer of a search whose outcome is told by whether it has a route.
+pub answer-told : (x : Found) (y : Answer) {b c : Bool} → b ≡ c → Says x (value y) →
+    ((cells : List ℕ) (z : Answer) → outcomeOf (x .outcome) cells ≡ value z → z ≡ answerIf b cells) → y ≡ answerIf c (x .route)
+unfolding resultOf
+answer-told x y e says h = rw (← e) (h (x .route) y (says .answers))
 
 -- The text for two answers, by its cases.
-module _ (f : Floor) (ws : List ℕ) (i j : ℕ) (x y : Answer) (old new : List ℕ) (n : ℕ) where
-  pub first-none : x ≡ none → TextPut (noRouteLine i) old new n → TextPut (metText f ws i j x y) old new n
-  unfolding metText
+module _ (f : Floor) (ws : List ℕ) (i j : ℕ) (x y : Answer) (r q : List ℕ) {old new : List ℕ} {n : ℕ} where
+  pub first-none : x ≡ answerIf false r → TextPut (noRouteLine i) old new n → TextPut (metText f ws i j x y) old new n
+  unfolding metText answerIf
   first-none e t = rw e t
 
-  pub first-route : (r : List ℕ) → x ≡ route r → TextPut (metText f ws i j (route r) y) old new n → TextPut (metText f ws i j x y) old new n
-  first-route r e t = rw e t
+  pub second-none : x ≡ answerIf true r → y ≡ answerIf false q → TextPut (noRouteLine j) old new n → TextPut (metText f ws i j x y) old new n
+  unfolding metText answerIf
+  second-none e h t = rw (e, h) t
 
-module _ (f : Floor) (ws : List ℕ) (i j : ℕ) (r : List ℕ) (y : Answer) (old new : List ℕ) (n : ℕ) where
-  pub second-none : y ≡ none → TextPut (noRouteLine j) old new n → TextPut (metText f ws i j (route r) y) old new n
-  unfolding metText
-  second-none h t = rw h t
-
-  pub second-route : (q : List ℕ) → y ≡ route q → TextPut (metText f ws i j (route r) (route q)) old new n
-      → TextPut (metText f ws i j (route r) y) old new n
-  second-route q h t = rw h t
+  pub both-routes : x ≡ answerIf true r → y ≡ answerIf true q → TextPut (metText f ws i j (route r) (route q)) old new n →
+      TextPut (metText f ws i j x y) old new n
+  unfolding answerIf
+  both-routes e h t = rw (e, h) t
 
 pub met-put : (f : Floor) (ws : List ℕ) (i j : ℕ) (a b : List ℕ) (x : ConflictAnswer) (old new : List ℕ) (n : ℕ) → f .horizon ≤ 63
     → x ≡ firstConflict (min (f .horizon) 63) a b → TextPut (conflictLine x ++ conflictDrawing f ws i j a b x) old new n

@@ -1,7 +1,7 @@
 -- The printed text of `desk meeting I J` (document 02, slip 7), from a sheet's bytes and two carriers, counted from 1: where the best
 -- routes of the two, each against nobody, meet, and the floor at that beat.
 use Prim.Native.Nat.{ℕ, _+_, _-_, _/_, _%_, _≤_}
-use mathlib.Core.Bool.{cond}
+use mathlib.Core.Bool.{Bool, true, false, cond}
 use mathlib.Core.List.{List, [], _∷_, _++_}
 use lib.Dec.{ltb}
 use lib.ListN.{replicate, set}
@@ -61,6 +61,11 @@ conflictLine (dated t changeOfPlaces) = numberLine changeWords t (10 ∷ [])
 
 unfoldable pub noRouteLine : ℕ → List ℕ
 noRouteLine i = numberLine carrierWords i noRouteWords
+
+-- The answer of a search that has a route, or none; only contracts cite this.
+unfoldable pub answerIf : Bool → List ℕ → Answer
+answerIf true r = route r
+answerIf false r = none
 
 -- A conflict's beat is at most 63; only contracts cite this.
 unfoldable pub Early : ConflictAnswer → Type 0

@@ -1,20 +1,21 @@
 // Where the best routes of two carriers, each against nobody, meet (document 02, slip 7), as text over fixed arrays: one line, and the
 // floor at that beat; of a refused sheet, or a carrier that is not there, the line of the refusal. For the program `desk`.
 ghost use mathlib.Core.Path.{_≡_};
-ghost use Prim.Native.Nat.{_+_, _≤_, _<_};
+ghost use Prim.Native.Nat.{ℕ, _+_, _≤_, _<_};
+ghost use mathlib.Core.List.{List};
 ghost use lib.ListN.{length, take};
 ghost use Rattle.io.specs.Counts.{Counts};
 ghost use Rattle.laws.specs.Verdict.{passed, demand, value};
 ghost use Rattle.floor.specs.Answers.{verdictOf};
 ghost use Rattle.floor.specs.Checks.{checkOf, within};
-ghost use Rattle.route.specs.Route.{cellAt, route as Answer·route};
+ghost use Rattle.route.specs.Route.{cellAt, Answer, route as Answer·route};
 ghost use Rattle.route.specs.ConflictTest.{conflictTold};
-ghost use Rattle.search.specs.Answers.{Says};
+ghost use Rattle.search.specs.Answers.{Says, outcomeOf};
 ghost use Rattle.printing.specs.Put.{TextPut};
 ghost use Rattle.reporting.specs.Put.{PutAt};
 ghost use Rattle.drawing.specs.Drawing.{drawnFloor};
 ghost use Rattle.meeting.specs.Text.{aloneOf, pairVerdict, decimal, numberLine, conflictLine, noRouteLine};
-ghost use Rattle.meeting.specs.Text.{twoPlaces, conflictDrawing, metText, pairText, meetingText, Early};
+ghost use Rattle.meeting.specs.Text.{answerIf, twoPlaces, conflictDrawing, metText, pairText, meetingText, Early};
 use drawing::Places;
 use floor::Checked;
 use floor::Floor;
@@ -173,19 +174,14 @@ fn put_none(i: u16, out: &mut [u8]) -> usize
     put_line(b"carrier ", i as usize, b" has no route\n", out)
 }
 
-// Puts what a route and the best route of carrier j against nobody come to; the length of the text is returned.
-fn put_second(f: Floor, walls: &[u16], i: u16, j: u16, a: Route, out: &mut [u8]) -> usize
-    requires { ⌜ (checkOf f (now walls) ≡ passed) × (pairVerdict f i j ≡ passed) × (1087 ≤ length (now out)) ⌝ }
-    ensures { λ r. ⌜ TextPut (metText f (now (walls .entry)) i j (Answer·route a) (aloneOf f (now (walls .entry)) j))
-        (now (out .entry)) (now (out .exit)) r ⌝ }
+// Whether a search that was not refused found a route; otherwise it found none.
+fn has_route(outcome: Outcome) -> bool
+    ensures { λ r. ⌜ ((cells : List ℕ) (y : Answer) → outcomeOf outcome cells ≡ value y → y ≡ answerIf r cells) ⌝ }
 {
-    let other = alone(f, walls, j);
-    let outcome = other.outcome;
-    let b = other.route;
     match outcome {
-        Outcome::Route => put_met(f, walls, i, j, a, b, out),
-        Outcome::None => put_none(j, out),
-        Outcome::Refused(x) => 0,
+        Outcome::Route => true,
+        Outcome::None => false,
+        Outcome::Refused(_) => false,
     }
 }
 
@@ -196,13 +192,18 @@ fn put_meeting(f: Floor, walls: &[u16], i: u16, j: u16, out: &mut [u8]) -> usize
         (now (out .entry)) (now (out .exit)) r ⌝ }
 {
     let one = alone(f, walls, i);
-    let outcome = one.outcome;
+    let first = one.outcome;
     let a = one.route;
-    match outcome {
-        Outcome::Route => put_second(f, walls, i, j, a, out),
-        Outcome::None => put_none(i, out),
-        Outcome::Refused(x) => 0,
+    if !has_route(first) {
+        return put_none(i, out);
     }
+    let other = alone(f, walls, j);
+    let second = other.outcome;
+    let b = other.route;
+    if !has_route(second) {
+        return put_none(j, out);
+    }
+    put_met(f, walls, i, j, a, b, out)
 }
 
 // Puts the meeting of two carriers of a floor that was read, with its walls in front of `walls`; its length is returned.
