@@ -1,4 +1,4 @@
--- The entry's memory and answers: the plan in memory of its own, the numbers written in front, the tag of the carrier's answer, the refusals.
+-- The entry's memory and answers: numbers written in front, the plan in memory of its own, the tag of the carrier's answer, the refusals.
 use Prim.Native.Nat.{ℕ, zero, suc, _+_, _*_, _-_, _≤_, _<_}
 use native.Mathlib.Omega.{arith}
 use native.Mathlib.Nat.{add-zero, sub-zero}
@@ -12,8 +12,8 @@ use Rattle.laws.specs.Memory.{put, part}
 use Rattle.laws.specs.Verdict.{Verdict, passed, refused, Outcome, value, refusal, demand}
 use Rattle.laws.proofs.PutLaws.{put-length, put-front, copy-keeps, copy-more}
 use Rattle.laws.proofs.PartLaws.{part-byte}
-use Rattle.laws.proofs.VerdictLaws.{then-passed, then-refused, then-both, demand-holds, demand-passes, demand-refuses, gives-passed, gives-refused}
-use Rattle.laws.proofs.VerdictLaws.{when-passed, when-refused}
+use Rattle.laws.proofs.VerdictLaws.{then-passed, then-refused, then-both, demand-holds, demand-passes, demand-refuses}
+use Rattle.laws.proofs.VerdictLaws.{gives-passed, gives-refused, when-passed, when-refused}
 use Rattle.floor.specs.declared.Floor.{Floor}
 use Rattle.floor.specs.Checks.{checkOf, roomOf, within}
 use Rattle.floor.specs.Accepted.{Accepted, Within}
@@ -200,6 +200,7 @@ module _ (f : Floor) (ws : List ℕ) (carrier : ℕ) (m : List ℕ) where
     unfolding blockersOutcome blockersMemory blockersVerdict blockersOf
     shut-in e s vs m′ views left stores =
         let yes = then-passed ok ∙ demand-passes 16 0 e in (
-          ap value (left ∙ ap (λ (us : List View). setOf (leftAfter (respondOf f ws (carrier - 1)) (carrier - 1) us)) views) ∙ sym (gives-passed yes),
+          ap value (left ∙ ap (λ (us : List View). setOf (leftAfter (respondOf f ws (carrier - 1)) (carrier - 1) us)) views)
+              ∙ sym (gives-passed yes),
           stores ∙ sym (when-passed m yes),
         )

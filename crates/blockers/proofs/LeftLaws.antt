@@ -61,7 +61,8 @@ module _ (respond : List View → Answer) (xs : List Answer) where
   unfolding leftPart
   left-falls k zero j e = rw (add-zero k) at e
   left-falls k (suc d) j e =
-      left-falls k d j (kept-shut (respond (viewsIn (minus (leftPart (k + d)) (k + d)) xs)) (leftPart (k + d)) (k + d) j (rw (add-suc k d) at e))
+      let n = k + d in
+      left-falls k d j (kept-shut (respond (viewsIn (minus (leftPart n) n) xs)) (leftPart n) n j (rw (add-suc k d) at e))
 
   pub left-before : (k n j : ℕ) → k ≤ n → leftPart n j ≡ true → leftPart k j ≡ true
   left-before k n j l e =

@@ -4,4 +4,6 @@ pub mod SetLaws
 pub mod LeftLaws
 pub mod RecordLaws
 pub mod EntryLaws
+pub mod SameLaws
+mod Cases
 pub mod Theorems

@@ -59,7 +59,8 @@ cleared-records m i j l h =
     ext-getD unheard (records (set m (65 * j) 0) i) (set (records m i) j unheard) (records-length (set m (65 * j) 0) i ∙ sym long)
     (λ k b. go k (omega (arith, records-length (set m (65 * j) 0) i)) (eq-or-ne k j))
   where
-    go : (k : ℕ) → k < i → (k ≡ j) ⊎ (k ≡ j → ⊥) → getD (records (set m (65 * j) 0) i) k unheard ≡ getD (set (records m i) j unheard) k unheard
+    go : (k : ℕ) → k < i → (k ≡ j) ⊎ (k ≡ j → ⊥) →
+        getD (records (set m (65 * j) 0) i) k unheard ≡ getD (set (records m i) j unheard) k unheard
     go k low (inl e) =
         rw e
         (records-view (set m (65 * j) 0) i j l
@@ -95,7 +96,9 @@ module _ (f : Floor) (rows : List ℕ) (i : ℕ) (m : List ℕ) (j : ℕ) (l : j
 
   pub stays-out : (tagOf (found .outcome) ≡ 2 → ⊥) → records (set m (65 * j) 0) i ≡ tried (respondWith f rows i) j (records m i)
   unfolding tried
-  stays-out not-two = cleared-records m i j l h ∙ sym (by-outcome (found .outcome) (found .route) _ (without j (records m i)) (records m i) answer .1 not-two)
+  stays-out not-two =
+      cleared-records m i j l h
+      ∙ sym (by-outcome (found .outcome) (found .route) _ (without j (records m i)) (records m i) answer .1 not-two)
 
   pub put-back : tagOf (found .outcome) ≡ 2 →
       records (set (set m (65 * j) 0) (65 * j) (getD m (65 * j) 0)) i ≡ tried (respondWith f rows i) j (records m i)

@@ -1,5 +1,5 @@
--- What is claimed of the carriers that shut one in; `proofs/Theorems.antt` inhabits the record. Carriers count from 0; the floor is any that
--- the checks pass, and the carrier any that has none in the sequential result.
+-- What is claimed of the carriers that shut one in; `proofs/Theorems.antt` inhabits the record. Carriers count from 0; the floor is any
+-- that the checks pass, and the carrier any that has none in the sequential result.
 use Prim.Native.Nat.{ℕ, zero, suc, _+_, _<_}
 use mathlib.Core.Bool.{Bool, true, false, cond}
 use mathlib.Core.List.{List, [], _∷_, List·Memᴰ}
