@@ -35,6 +35,7 @@ use Rattle.planner.proofs.StoredLaws.{record-stored}
 use Rattle.planner.proofs.StrandedLaws.{told-answer}
 use Rattle.planner.proofs.Theorems.{theorems as planner-theorems}
 use Rattle.blockers.specs.Blockers.{leftAfter, setOf, above, blockersOf}
+use Rattle.blockers.specs.Inner.{PlanIn}
 use Rattle.blockers.specs.Entry.{isNone, carrierVerdict, blockersVerdict, blockersOutcome, blockersMemory}
 
 -- Numbers written one by one in front of a memory.
@@ -96,20 +97,23 @@ module _ (f : Floor) (ws : List ℕ) (ok : checkOf f ws ≡ passed) where
   zeros : length {A = ℕ} (replicate 520 0) ≡ 520
   zeros = length-replicate {A = ℕ} 520 0
 
-  pub own-plan : (old m : List ℕ) → old ≡ replicate 520 0 → m ≡ planMemory f ws old →
-      (length m ≡ 520) × (m ≡ stored (planOf f ws) (replicate 520 0))
+  pub own-plan : (old m : List ℕ) → old ≡ replicate 520 0 → m ≡ planMemory f ws old → PlanIn f ws m
   unfolding planMemory planVerdict roomOf stored
   own-plan old m e g =
       let long : length old ≡ 520 = ap length e ∙ zeros in
       let enough : 65 * f .carriers ≤ length old = omega (arith, bounds .carriers .1) in
       let passes : planVerdict f ws (length old) ≡ passed =
       then-passed ok ∙ demand-passes 9 0 (le-leb (65 * f .carriers) (length old) enough) in
-      let made : m ≡ stored (planOf f ws) old = g ∙ when-passed old passes in (
-        ap length made ∙ put-length old (recordsOf (planOf f ws)) 0 (omega (arith, size)) ∙ long,
-        made ∙ ap (stored (planOf f ws)) e,
-      )
+      let made : m ≡ stored (planOf f ws) old = g ∙ when-passed old passes in
+      record {
+        long = ap length made ∙ put-length old (recordsOf (planOf f ws)) 0 (omega (arith, size)) ∙ long;
+        stores = made ∙ ap (stored (planOf f ws)) e;
+      }
 
-  module _ {m : List ℕ} (long : length m ≡ 520) (e : m ≡ stored (planOf f ws) (replicate 520 0)) where
+  module _ {m : List ℕ} (own : PlanIn f ws m) where
+    e : m ≡ stored (planOf f ws) (replicate 520 0)
+    e = own .stores
+
     -- Its front is the plan, and so is any memory with that front written.
     pub own-front : (answers answers′ : List ℕ) → answers′ ≡ put answers 0 (take (65 * f .carriers - 0) m) →
         answers′ ≡ stored (planOf f ws) answers
@@ -132,7 +136,7 @@ module _ (f : Floor) (ws : List ℕ) (ok : checkOf f ws ≡ passed) where
       has-none = by-tag (answerAt (planOf f ws) i) (getD m (65 * i) 0) (stored-tag (planOf f ws) m (replicate 520 0) i whole low e) .1
 
       -- The first records are the views of the answers above.
-      pub own-views : records m i ≡ map heard (above f ws i)
+      own-views : records m i ≡ map heard (above f ws i)
       unfolding above
       own-views =
           let many : length (map heard (take i (planOf f ws))) ≡ i =
@@ -143,8 +147,13 @@ module _ (f : Floor) (ws : List ℕ) (ok : checkOf f ws ≡ passed) where
           go : (j : ℕ) → j < i → getD (records m i) j unheard ≡ getD (map heard (take i (planOf f ws))) j unheard
           go j h =
               records-view m i j h
-              ∙ stored-view (planOf f ws) m (replicate 520 0) j whole (omega (arith, low)) (omega (arith, bounds .carriers .1, l)) e
+              ∙ stored-view (planOf f ws) m (replicate 520 0) j whole (omega (arith, low)) (omega (arith, bounds .carriers .1, l, own .long)) e
               ∙ sym (told-answer (planOf f ws) j i h (omega (arith, low)))
+
+      -- What the procedure leaves of them is the set.
+      pub own-set : (s : ℕ) → s ≡ setOf (leftAfter (respondOf f ws i) i (records m i)) → s ≡ blockersOf f ws i
+      unfolding blockersOf
+      own-set s g = g ∙ ap (λ (vs : List View). setOf (leftAfter (respondOf f ws i) i vs)) own-views
 
   -- A carrier of it can be searched for.
   pub own-searchable : (rows m : List ℕ) (i : ℕ) → i < f .carriers → 65 * i ≤ length m → FreeRows f ws rows → Searchable f rows (i + 1) m
@@ -193,14 +202,12 @@ module _ (f : Floor) (ws : List ℕ) (carrier : ℕ) (m : List ℕ) where
         let no = then-passed ok ∙ demand-refuses 16 0 e in
         (sym (gives-refused _ no), sym (when-refused _ no))
 
-    pub shut-in : isNone (answerAt (planOf f ws) (carrier - 1)) ≡ true → (s : ℕ) (vs : List View) (m′ : List ℕ) →
-        vs ≡ map heard (above f ws (carrier - 1)) → s ≡ setOf (leftAfter (respondOf f ws (carrier - 1)) (carrier - 1) vs) →
+    pub shut-in : isNone (answerAt (planOf f ws) (carrier - 1)) ≡ true → (s : ℕ) (m′ : List ℕ) → s ≡ blockersOf f ws (carrier - 1) →
         m′ ≡ stored (planOf f ws) m →
         (value s ≡ blockersOutcome f ws carrier (length m)) × (m′ ≡ blockersMemory f ws carrier m)
-    unfolding blockersOutcome blockersMemory blockersVerdict blockersOf
-    shut-in e s vs m′ views left stores =
+    unfolding blockersOutcome blockersMemory blockersVerdict
+    shut-in e s m′ set stores =
         let yes = then-passed ok ∙ demand-passes 16 0 e in (
-          ap value (left ∙ ap (λ (us : List View). setOf (leftAfter (respondOf f ws (carrier - 1)) (carrier - 1) us)) views)
-              ∙ sym (gives-passed yes),
+          ap value set ∙ sym (gives-passed yes),
           stores ∙ sym (when-passed m yes),
         )

@@ -4,15 +4,16 @@ mod leave;
 
 ghost use mathlib.Core.Path.{_≡_};
 ghost use Prim.Native.Nat.{_+_, _*_, _≤_, _<_};
-ghost use lib.ListN.{length, replicate};
+ghost use lib.ListN.{length};
 ghost use Rattle.laws.specs.Verdict.{passed, demand};
 ghost use Rattle.laws.specs.Memory.{put};
 ghost use Rattle.floor.specs.Answers.{verdictOf};
 ghost use Rattle.floor.specs.Checks.{checkOf, within};
-ghost use Rattle.records.specs.Records.{records, stored};
-ghost use Rattle.planner.specs.Plan.{respondOf, planOf};
-ghost use Rattle.blockers.specs.Blockers.{leftAfter, setOf};
+ghost use Rattle.records.specs.Records.{records};
+ghost use Rattle.planner.specs.Plan.{respondOf};
+ghost use Rattle.blockers.specs.Blockers.{leftAfter, setOf, blockersOf};
 ghost use Rattle.blockers.specs.Entry.{carrierVerdict, blockedOutcome, blockersOutcome, blockersMemory};
+ghost use Rattle.blockers.specs.Inner.{PlanIn};
 use floor::Checked;
 use floor::Floor;
 use floor::Refusal;
@@ -57,10 +58,10 @@ fn request(f: Floor, walls: &[u16], carrier: u16, room: usize) -> Checked
     listed(f, carrier)
 }
 
-// The sequential answers of a checked floor, in memory of the entry's own.
-fn plan_own(f: Floor, walls: &[u16]) -> [u16; TEAM]
+// The sequential answers of a checked floor, in memory of its own.
+pub fn plan_own(f: Floor, walls: &[u16]) -> [u16; TEAM]
     requires { ⌜ checkOf f (now walls) ≡ passed ⌝ }
-    ensures { λ r. ⌜ (length r ≡ 520) × (r ≡ stored (planOf f (now (walls .entry))) (replicate 520 0)) ⌝ }
+    ensures { λ r. ⌜ PlanIn f (now (walls .entry)) r ⌝ }
 {
     let mut own = records::blank();
     planner::plan(f, walls, &mut own);
@@ -89,6 +90,15 @@ fn shut_by(f: Floor, walls: &[u16], i: u16, views: &mut [u16]) -> u16
     leave::set_of(views, i as usize)
 }
 
+// The carriers that shut the carrier with i above it in, from the sequential answers of a checked floor.
+pub fn set_for(f: Floor, walls: &[u16], own: [u16; TEAM], i: u16) -> u16
+    requires { ⌜ (checkOf f (now walls) ≡ passed) × (i < f .carriers) × PlanIn f (now walls) own ⌝ }
+    ensures { λ r. ⌜ r ≡ blockersOf f (now (walls .entry)) i ⌝ }
+{
+    let mut views = own;
+    shut_by(f, walls, i, &mut views)
+}
+
 // Finds who shuts a carrier of a checked floor in, and stores the sequential answers; 16 where the carrier has a route.
 fn find(f: Floor, walls: &[u16], carrier: u16, answers: &mut [u16]) -> Blocked
     requires { ⌜ carrierVerdict f (now walls) carrier (length (now answers)) ≡ passed ⌝ }
@@ -97,7 +107,7 @@ fn find(f: Floor, walls: &[u16], carrier: u16, answers: &mut [u16]) -> Blocked
 {
     let i = carrier - 1;
     let at = SIZE * i as usize;
-    let mut own = plan_own(f, walls);
+    let own = plan_own(f, walls);
     if own[at] == 2 {
         return Blocked::Refused(Refusal {
             number: 16,
@@ -105,7 +115,7 @@ fn find(f: Floor, walls: &[u16], carrier: u16, answers: &mut [u16]) -> Blocked
         });
     }
     write_front(answers, &own[0..SIZE * f.carriers as usize]);
-    Blocked::Shut(shut_by(f, walls, i, &mut own))
+    Blocked::Shut(set_for(f, walls, own, i))
 }
 
 // Who shuts a carrier in: begin with all carriers above it and, from carrier 1 downwards in rank, leave out each that can go. The
