@@ -147,5 +147,8 @@ theorems =
       only-above = λ f ws i j s. only-above f ws i s j;
       suffices = suffices;
       smallest = smallest;
-      empty-exactly = λ f ws i s. (empty-shuts f ws i s, shut-empty f ws i s);
+      empty-exactly =
+          λ f ws i s.
+          let exactly = route-theorems .none-exactly (taskOf f ws (i + 1)) [] (short f ws i s) in
+          (λ e. exactly .0 (empty-shuts f ws i s e), λ h. shut-empty f ws i s (exactly .1 h));
     }

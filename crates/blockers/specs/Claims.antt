@@ -11,7 +11,6 @@ use Rattle.floor.specs.Checks.{checkOf}
 use Rattle.route.specs.Route.{Answer, none, View, unheard, heard, Task}
 use Rattle.route.specs.Conflict.{Silent}
 use Rattle.route.specs.Best.{Admissible}
-use Rattle.route.specs.Search.{best}
 use Rattle.records.specs.Seen.{seen}
 use Rattle.words.specs.Words.{digit}
 use Rattle.search.specs.Task.{taskOf}
@@ -52,4 +51,4 @@ pub record Claims : Type 0 where
       (q : List ℕ) × RouteAgainst f ws i p q
   -- It is empty exactly if there is no route on the empty floor.
   pub empty-exactly : (f : Floor) (ws : List ℕ) (i : ℕ) → Stranded f ws i →
-      (blockersOf f ws i ≡ 0) ↔ (best (taskOf f ws (i + 1)) [] ≡ none)
+      (blockersOf f ws i ≡ 0) ↔ ((q : List ℕ) → Admissible (taskOf f ws (i + 1)) [] q → ⊥)

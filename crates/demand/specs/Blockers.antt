@@ -8,10 +8,9 @@ use mathlib.Core.Path.{_≡_}
 use lib.ListN.{length}
 use Rattle.laws.specs.Verdict.{value}
 use Rattle.floor.specs.declared.Floor.{Floor}
-use Rattle.route.specs.Route.{none, View, Task}
+use Rattle.route.specs.Route.{View, Task}
 use Rattle.route.specs.Conflict.{Silent}
 use Rattle.route.specs.Best.{Admissible}
-use Rattle.route.specs.Search.{best}
 use Rattle.search.specs.Task.{taskOf}
 use Rattle.planner.specs.Records.{planMemory}
 use Rattle.lengths.specs.Figures.{lengthsOf}
@@ -39,7 +38,7 @@ pub record Blockers : Type 0 where
       (q : List ℕ) × RouteAgainst f ws i p q
   -- It is empty, walls or the horizon being the cause, exactly if there is no route on the empty floor.
   pub empty-exactly : (f : Floor) (ws : List ℕ) (i : ℕ) → Stranded f ws i →
-      (blockersOf f ws i ≡ 0) ↔ (best (taskOf f ws (i + 1)) [] ≡ none)
+      (blockersOf f ws i ≡ 0) ↔ ((q : List ℕ) → Admissible (taskOf f ws (i + 1)) [] q → ⊥)
   -- Fewer views never take a route away: one that is admissible stays so against views each of which was there, or shows nothing.
   pub fewer-views : (task : Task) (vs us : List View) (q : List ℕ) → ((v : View) → List·Memᴰ v us → Silent v ⊎ List·Memᴰ v vs) →
       Admissible task vs q → Admissible task us q

@@ -25,7 +25,14 @@ use reporting::put_bytes;
 pub const TEXT_LENGTH: usize = 1416;
 
 // Puts the line of the carrier with i above it, if it has no route; the column behind it is returned.
-fn put_carrier(f: Floor, walls: &[u16], own: [u16; TEAM], i: u16, out: &mut [u8], at: usize) -> usize
+fn put_carrier(
+    f: Floor,
+    walls: &[u16],
+    own: [u16; TEAM],
+    i: u16,
+    out: &mut [u8],
+    at: usize,
+) -> usize
     requires { ⌜ (checkOf f (now walls) ≡ passed) × (i < f .carriers) × PlanIn f (now walls) own × (at + 45 ≤ length (now out)) ⌝ }
     ensures { λ r. ⌜ PutAt (carrierText f (now (walls .entry)) i) (now (out .entry)) at (now (out .exit)) r ⌝ }
 {
