@@ -38,16 +38,6 @@ use Rattle.blockers.specs.Blockers.{leftAfter, setOf, above, blockersOf}
 use Rattle.blockers.specs.Inner.{PlanIn}
 use Rattle.blockers.specs.Entry.{isNone, carrierVerdict, blockersVerdict, blockersOutcome, blockersMemory}
 
--- Numbers written one by one in front of a memory.
-module _ (m₀ xs : List ℕ) (room : length xs ≤ length m₀) {m : List ℕ} {t : ℕ} (e : m ≡ put m₀ 0 (take t xs)) where
-  pub front-keeps : t ≤ length xs → length m ≡ length m₀
-  front-keeps l = copy-keeps m₀ m xs 0 t e l (omega arith)
-
-  pub front-more : t < length xs → set m t (getD xs t 0) ≡ put m₀ 0 (take (t + 1) xs)
-  front-more l =
-      let same : 0 + t ≡ t = omega arith in
-      rw same at (copy-more m₀ m xs 0 t e l (omega arith))
-
 -- Record j of a memory with a plan in front is the view of answer j.
 whole-at : (xs : List Answer) (j : ℕ) → AllWhole xs → j < length xs → Whole (answerAt xs j)
 unfolding answerAt

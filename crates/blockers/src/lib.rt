@@ -28,25 +28,6 @@ pub enum Blocked {
     Refused(Refusal),
 }
 
-// 7: the floor has such a carrier.
-fn listed(f: Floor, carrier: u16) -> Checked
-    ensures { λ r. ⌜ verdictOf r ≡ demand (within 1 (f .carriers) carrier) 7 0 ⌝ }
-{
-    if carrier < 1 {
-        return Checked::Refused(Refusal {
-            number: 7,
-            place: 0,
-        });
-    }
-    if f.carriers < carrier {
-        return Checked::Refused(Refusal {
-            number: 7,
-            place: 0,
-        });
-    }
-    Checked::Passed
-}
-
 // The refusals but 16, in their order.
 fn request(f: Floor, walls: &[u16], carrier: u16, room: usize) -> Checked
     ensures { λ r. ⌜ verdictOf r ≡ carrierVerdict f (now (walls .entry)) carrier room ⌝ }
@@ -55,7 +36,7 @@ fn request(f: Floor, walls: &[u16], carrier: u16, room: usize) -> Checked
     let Checked::Passed = planned else {
         return planned;
     };
-    listed(f, carrier)
+    search::listed(f, carrier)
 }
 
 // The sequential answers of a checked floor, in memory of its own.
@@ -66,18 +47,6 @@ pub fn plan_own(f: Floor, walls: &[u16]) -> [u16; TEAM]
     let mut own = records::blank();
     planner::plan(f, walls, &mut own);
     own
-}
-
-// Writes numbers in front of a memory.
-fn write_front(m: &mut [u16], numbers: &[u16])
-    requires { ⌜ length (now numbers) ≤ length (now m) ⌝ }
-    ensures { λ r. ⌜ now (m .exit) ≡ put (now (m .entry)) 0 (now (numbers .entry)) ⌝ }
-{
-    let mut t: usize = 0;
-    while t < numbers.len() {
-        m[t] = numbers[t];
-        t += 1;
-    }
 }
 
 // The set that is left of the carriers in the first i records, for the carrier below them.
@@ -114,7 +83,7 @@ fn find(f: Floor, walls: &[u16], carrier: u16, answers: &mut [u16]) -> Blocked
             place: 0,
         });
     }
-    write_front(answers, &own[0..SIZE * f.carriers as usize]);
+    records::write_front(answers, &own[0..SIZE * f.carriers as usize]);
     Blocked::Shut(set_for(f, walls, own, i))
 }
 
