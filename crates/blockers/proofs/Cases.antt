@@ -1,15 +1,14 @@
 -- Cases computed from the definitions: corridors and a floor of two rows, each with who shuts its last carrier in.
-use Prim.Native.Nat.{ℕ, zero, suc, _+_, _*_, _-_}
+use Prim.Native.Nat.{ℕ, _-_}
 use mathlib.Core.List.{List, [], _∷_, _++_, map}
 use mathlib.Core.Path.{_≡_, refl}
-use lib.ListN.{length, replicate, set}
+use lib.ListN.{length, replicate}
 use Rattle.floor.specs.declared.Floor.{Floor}
-use Rattle.laws.specs.Memory.{put, part}
 use Rattle.laws.specs.Verdict.{_then_, _gives_, value, refusal, demand, inTurn, demandEach}
 use Rattle.floor.specs.Checks.{within, limitsOf, lentOf, roomOf, startOf, goalOf}
 use Rattle.floor.specs.Checks.{inGrid, carrierInGrid, carriersOf, wallsOf, risingOf, among, rises}
 use Rattle.floor.specs.Checks.{clearOfWalls, clearOf, unshared, distinctOf, placesOf, checkOf}
-use Rattle.route.specs.Route.{cellAt, Answer, none, route, View, heard}
+use Rattle.route.specs.Route.{cellAt, Answer, View, heard}
 use Rattle.route.specs.Moves.{neighbours, near, vacant, passable, every, standable, allowed, startClear}
 use Rattle.route.specs.Search.{cost, cheaper, cheapest, beatsFrom, val, walk, walkFrom, best}
 use Rattle.route.specs.Sequential.{sequential}
@@ -76,10 +75,11 @@ record Cases : Type 0 where
   too-short : blockersOutcome (stood 4) [] 1 129 ≡ refusal 9 0
 
 cases : Cases
-unfolding blockersOutcome blockersVerdict carrierVerdict isNone answerAt planVerdict _gives_ checkOf limitsOf lentOf roomOf placesOf carriersOf
-    wallsOf risingOf rises clearOf distinctOf within demand _then_ demandEach inTurn inGrid carrierInGrid startOf goalOf clearOfWalls among unshared
-    taskOf respondOf planOf sequential blockersOf above leftAfter tried ifNone without setOf inOrder seenAs seenFrom seen parked cellAt
-    neighbours near vacant passable every standable allowed startClear cost cheaper cheapest beatsFrom val walk walkFrom best
+unfolding blockersOutcome blockersVerdict carrierVerdict isNone answerAt planVerdict _gives_ checkOf limitsOf lentOf roomOf placesOf
+    carriersOf wallsOf risingOf rises clearOf distinctOf within demand _then_ demandEach inTurn inGrid carrierInGrid startOf goalOf
+    clearOfWalls among unshared taskOf respondOf planOf sequential blockersOf above leftAfter tried ifNone without setOf inOrder seenAs
+    seenFrom seen parked cellAt neighbours near vacant passable every standable allowed startClear cost cheaper cheapest beatsFrom val
+    walk walkFrom best
 cases =
     record {
       by-one = refl;

@@ -2,21 +2,21 @@
 use Prim.Native.Nat.{ℕ, zero, suc, _+_, _*_, _-_, _≤_, _<_}
 use native.Mathlib.Omega.{arith}
 use native.Mathlib.Nat.{add-zero, sub-zero}
-use mathlib.Core.Bool.{Bool, true, false}
+use mathlib.Core.Bool.{true, false}
 use mathlib.Core.List.{List, [], _∷_, _++_, map}
 use mathlib.Core.Path.{_≡_, refl, sym, _∙_, ap, fun-ext}
 use borrow.Author.Tests.{le-leb}
 use lib.ListN.{length, getD, set, take, drop, replicate, length-replicate, length-map, take-append-drop}
 use lib.Seq.{ext-getD, length-take-le}
 use Rattle.laws.specs.Memory.{put, part}
-use Rattle.laws.specs.Verdict.{Verdict, passed, refused, Outcome, value, refusal, demand}
+use Rattle.laws.specs.Verdict.{passed, refused, value, refusal, demand}
 use Rattle.laws.proofs.PutLaws.{put-length, put-front, copy-keeps, copy-more}
 use Rattle.laws.proofs.PartLaws.{part-byte}
 use Rattle.laws.proofs.VerdictLaws.{then-passed, then-refused, then-both, demand-holds, demand-passes, demand-refuses}
 use Rattle.laws.proofs.VerdictLaws.{gives-passed, gives-refused, when-passed, when-refused}
 use Rattle.floor.specs.declared.Floor.{Floor}
-use Rattle.floor.specs.Checks.{checkOf, roomOf, within}
-use Rattle.floor.specs.Accepted.{Accepted, Within}
+use Rattle.floor.specs.Checks.{checkOf, roomOf}
+use Rattle.floor.specs.Accepted.{Within}
 use Rattle.floor.proofs.LimitsLaws.{Bounds, check-tells, room-passed, within-means}
 use Rattle.floor.proofs.Theorems.{theorems as floor-theorems}
 use Rattle.route.specs.Route.{Answer, none, route, View, unheard, heard}
@@ -137,7 +137,8 @@ module _ (f : Floor) (ws : List ℕ) (ok : checkOf f ws ≡ passed) where
           go : (j : ℕ) → j < i → getD (records m i) j unheard ≡ getD (map heard (take i (planOf f ws))) j unheard
           go j h =
               records-view m i j h
-              ∙ stored-view (planOf f ws) m (replicate 520 0) j whole (omega (arith, low)) (omega (arith, bounds .carriers .1, l, own .long)) e
+              ∙ stored-view (planOf f ws) m (replicate 520 0) j whole (omega (arith, low))
+              (omega (arith, bounds .carriers .1, l, own .long)) e
               ∙ sym (told-answer (planOf f ws) j i h (omega (arith, low)))
 
       -- What the procedure leaves of them is the set.

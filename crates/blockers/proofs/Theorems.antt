@@ -1,16 +1,16 @@
 -- The claims, proved.
 use Prim.Native.Nat.{ℕ, suc, _+_, _≤_, _<_}
 use native.Mathlib.Omega.{arith}
-use mathlib.Core.Bool.{Bool, true, false}
+use mathlib.Core.Bool.{true, false}
 use mathlib.Core.List.{List, [], map, List·Memᴰ, List·Memᴰ·not-nil}
 use mathlib.Core.Logic.{_⊎_, inl, inr, ⊎-elim}
-use mathlib.Core.Path.{_≡_, refl, sym, _∙_, ap}
-use lib.ListN.{length, take}
+use mathlib.Core.Path.{_≡_, sym, _∙_, ap}
+use lib.ListN.{length}
 use lib.Seq.{length-take-le}
 use Rattle.laws.proofs.Tests.{true-false-absurd, lt-or-le}
 use Rattle.floor.specs.declared.Floor.{Floor}
 use Rattle.floor.proofs.LimitsLaws.{check-tells}
-use Rattle.route.specs.Route.{Answer, none, route, View, unheard, heard, Task}
+use Rattle.route.specs.Route.{Answer, none, route, View, heard, Task}
 use Rattle.route.specs.Conflict.{ClearOf, ClearOfView, Silent}
 use Rattle.route.specs.Best.{Admissible, Best}
 use Rattle.route.specs.Search.{best}
@@ -20,10 +20,9 @@ use Rattle.words.specs.Words.{digit}
 use Rattle.words.proofs.DigitLaws.{digit-zero}
 use Rattle.search.specs.Task.{taskOf}
 use Rattle.planner.specs.Plan.{respondOf, planOf}
-use Rattle.planner.specs.Claims.{answerAt}
 use Rattle.planner.proofs.SequentialLaws.{plan-prefix, plan-answer}
 use Rattle.planner.proofs.Theorems.{theorems as planner-theorems}
-use Rattle.blockers.specs.Blockers.{leftAfter, setOf, above, blockersOf}
+use Rattle.blockers.specs.Blockers.{setOf, above, blockersOf}
 use Rattle.blockers.specs.Claims.{Claims, viewsIn, RouteAgainst, shutsIn, Stranded}
 use Rattle.blockers.proofs.PartLaws.{Part, views-same, minus, part-minus, seen-part, seen-nobody}
 use Rattle.blockers.proofs.SetLaws.{set-digit, set-beyond, set-nobody}

@@ -1,7 +1,7 @@
 -- The rows of the entry that tells who shuts a carrier in, and its memory: kept with a refusal, and never written beyond its needed length.
 use Prim.Native.Nat.{ℕ, _*_, _-_, _≤_}
 use native.Mathlib.Omega.{arith}
-use mathlib.Core.Bool.{true, false}
+use mathlib.Core.Bool.{false}
 use mathlib.Core.List.{List}
 use mathlib.Core.Path.{_≡_, refl}
 use lib.ListN.{length}

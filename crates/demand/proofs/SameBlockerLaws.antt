@@ -29,7 +29,8 @@ module _ (f : Floor) (ws : List ℕ) (g : Floor) (vs : List ℕ) (plans : planOf
       ∙ ap (λ (ys : List Answer). setOf (leftAfter (respondOf g vs i) i (map heard (take i ys)))) plans
 
   -- Where the entry does not refuse, the carrier is there.
-  pub set-same : (carrier room : ℕ) → blockersVerdict f ws carrier room ≡ passed → blockersOf f ws (carrier - 1) ≡ blockersOf g vs (carrier - 1)
+  pub set-same : (carrier room : ℕ) → blockersVerdict f ws carrier room ≡ passed →
+      blockersOf f ws (carrier - 1) ≡ blockersOf g vs (carrier - 1)
   unfolding blockersVerdict
   set-same carrier room e =
       let listed = carrier-granted f ws carrier room (then-both _ _ e .0) .listed in

@@ -1,5 +1,5 @@
--- Who shuts a carrier in (document 02, slip 8): the set that the entry answers suffices, is smallest and is what the slip's procedure gives.
--- The definitions are those that the contract of `blockers::blockers` cites. Carriers count from 0, those of the entry from 1.
+-- Who shuts a carrier in (document 02, slip 8): the set that the entry answers suffices, is smallest, and is what the slip's procedure
+-- gives. The definitions are those that the contract of `blockers::blockers` cites. Carriers count from 0, those of the entry from 1.
 use Prim.Native.Nat.{ℕ, _+_, _≤_, _<_}
 use mathlib.Core.Bool.{Bool, true, false}
 use mathlib.Core.List.{List, [], List·Memᴰ}

@@ -88,8 +88,8 @@ pub record Claims : Type 0 where
   -- Who shuts a carrier in: carriers 1 and 3 as a set, the bits 0 and 2 of the number from bit 16 on; walls or the horizon.
   pub set-word : wordOf (ofNumber (value 5)) ≡ 65536 * 5
   pub cause-word : wordOf (ofNumber (value 0)) ≡ 0
-  -- Refusal 8, 0; 9, 0; 11, 0; 12, carrier 2; 13, carrier 3; 14, 0; 15, 0; 16, 0; the ceiling of three carriers, 11; refusal 2, field 5, of none
-  -- and of nine.
+  -- Refusal 8, 0; 9, 0; 11, 0; 12, carrier 2; 13, carrier 3; 14, 0; 15, 0; 16, 0; the ceiling of three carriers, 11; refusal 2, field 5, of
+  -- none and of nine.
   pub early-word : wordOf (refusal 8 0) ≡ 1 + 256 * 8
   pub short-word : wordOf (refusal 9 0) ≡ 1 + 256 * 9
   pub order-word : wordOf (refusal 11 0) ≡ 1 + 256 * 11

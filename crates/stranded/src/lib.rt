@@ -62,7 +62,8 @@ fn put_carriers(f: Floor, walls: &[u16], own: [u16; TEAM], out: &mut [u8]) -> us
 // Puts these lines, or that nobody is stranded; the column behind them is returned.
 fn put_lines(f: Floor, walls: &[u16], own: [u16; TEAM], out: &mut [u8]) -> usize
     requires { ⌜ (checkOf f (now walls) ≡ passed) × PlanIn f (now walls) own × (360 ≤ length (now out)) ⌝ }
-    ensures { λ r. ⌜ PutAt (orNobody (linesOf (carrierText f (now (walls .entry))) (f .carriers))) (now (out .entry)) 0 (now (out .exit)) r ⌝ }
+    ensures { λ r. ⌜ PutAt (orNobody (linesOf (carrierText f (now (walls .entry))) (f .carriers)))
+        (now (out .entry)) 0 (now (out .exit)) r ⌝ }
 {
     let n = put_carriers(f, walls, own, out);
     if n == 0 {

@@ -1,7 +1,6 @@
 -- `stranded::places` meets its contract: the cells of the carriers passed are filled.
 use Prim.Native.Nat.{_-_, _≤_}
-use native.Mathlib.Omega.{arith}
-use mathlib.Core.Path.{_≡_, refl, ap, _∙_}
+use mathlib.Core.Path.{_≡_, refl}
 use Rattle.stranded.specs.Inner.{placesIn}
 use Rattle.stranded.proofs.StrandedLaws.{places-more, places-end}
 use borrow.Author.Needs.{needs}

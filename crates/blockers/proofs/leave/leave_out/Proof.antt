@@ -1,6 +1,5 @@
 -- `blockers::leave::leave_out` meets its contract: the carriers passed were tried.
 use Prim.Native.Nat.{_-_, _≤_}
-use native.Mathlib.Omega.{arith}
 use mathlib.Core.Path.{_≡_, refl, _∙_}
 use lib.ListN.{length}
 use Rattle.records.specs.Records.{records}

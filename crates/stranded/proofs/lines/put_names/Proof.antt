@@ -1,7 +1,6 @@
 -- `stranded::lines::put_names` meets its contract: the carriers passed stand behind the column.
 use Prim.Native.Nat.{_-_, _≤_}
 use native.Mathlib.Omega.{arith}
-use denote.Ref.{now}
 use Rattle.sheet.specs.Text.{linesOf}
 use Rattle.reporting.specs.Put.{PutAt}
 use Rattle.stranded.specs.Text.{nameOf}
