@@ -622,7 +622,14 @@ fn sheet_case(seed: u64, tally: &mut Tally) -> bool {
 }
 
 /// Who shuts in every stranded carrier of a floor that was planned, and one carrier more: with a route, not there, or on a refused floor.
-fn blockers_cases(draw: &mut Draw, floor: &Floor, planned: (u64, Call), record: &Lent<u16>, walls: &Lent<u16>, tally: &mut Tally) {
+fn blockers_cases(
+    draw: &mut Draw,
+    floor: &Floor,
+    planned: (u64, Call),
+    record: &Lent<u16>,
+    walls: &Lent<u16>,
+    tally: &mut Tally,
+) {
     let n = floor.carriers();
     let mut carriers: Vec<u16> = Vec::new();
     if let (0, Call::Plan { answers, .. }) = (planned.0 & 255, planned.1) {

@@ -120,7 +120,8 @@ mod tests {
         assert_eq!(shown(stranded), "carrier 1 is shut in by walls or the horizon\ncarrier 2 is shut in by 1\n21.#.\n");
         let walls = "    4    1    3    1    2    1\n    0    0    0    0\n    1    0    3    0\n    2    0\n";
         assert_eq!(shown(walls), "carrier 2 is shut in by walls or the horizon\n.2#.\n");
-        assert_eq!(shown(&one.replace("    4    1    2", "    1    1    2")), "carrier 2 is shut in by walls or the horizon\n2..\n");
+        let short = one.replace("    4    1    2", "    1    1    2");
+        assert_eq!(shown(&short), "carrier 2 is shut in by walls or the horizon\n2..\n");
         let row = "    4    1    3    1    3    0\n    1    0    1    0\n    2    0    2    0\n    0    0    3    0\n";
         assert_eq!(shown(row), "carrier 3 is shut in by 2\n3...\n");
         assert_eq!(shown(SHEET), "no carrier is stranded\n...\n...\n");
