@@ -64,6 +64,15 @@ static uint64_t run_of_rank(void) {
     three[4] = 3;
     return kalomivund_run_of_rank(three, KALOMIVUND_FLOOR, walls, KALOMIVUND_MOST_WALLS, 0, report, KALOMIVUND_MOST_REPORT);
 }
+/* Carrier 8 starts in a corner whose two sides are walls. */
+static uint64_t blockers(void) {
+    static uint16_t shut[KALOMIVUND_FLOOR];
+    static const uint16_t sides[2] = {1, 32};
+    memcpy(shut, crossing, sizeof shut);
+    shut[5] = 2;
+    shut[13] = 0;
+    return kalomivund_blockers(shut, KALOMIVUND_FLOOR, sides, 2, 8, answers, KALOMIVUND_MOST_ANSWERS);
+}
 
 static uint64_t conflict(void) {
     return kalomivund_conflict(answers + 1, KALOMIVUND_ROUTE, answers + 1 + KALOMIVUND_RECORD, KALOMIVUND_ROUTE, 63);
@@ -117,7 +126,7 @@ int main(void) {
         {"write_sheet", write_sheet}, {"read_sheet", read_sheet}, {"check_floor", check_floor},
         {"needed_lengths", needed_lengths}, {"plan", plan}, {"search", search}, {"print_routes", print_routes},
         {"fresh", fresh}, {"step (plan)", step_plan}, {"step (deliver)", step_deliver}, {"run", run}, {"trial", trial},
-        {"run_of_rank", run_of_rank}, {"conflict", conflict}, {"ceiling", ceiling},
+        {"run_of_rank", run_of_rank}, {"blockers", blockers}, {"conflict", conflict}, {"ceiling", ceiling},
     };
     /* Walls: the last cells of the grid but for the starts and goals there, so that a floor of many walls is read. */
     for (uint16_t c = 544; c < 1024; c++) {

@@ -33,7 +33,8 @@
  *   6, carrier   an earlier carrier has the same start, or the same goal
  *   9, 0         other lent memory is too short (for read_sheet the floor and the walls)
  *   10, 0        the lent state is no state of this floor
- *   7, position  a number that names no step of this floor (position in its list, from 0; a single step has 0); a search's carrier
+ *   7, position  a number that names no step of this floor (position in its list, from 0; a single step has 0); the carrier of
+ *                search or blockers, 0
  *   8, 0         a single step, a plan, of a carrier that is not due
  *   12, carrier  a single step, a delivery, of a channel on which nothing is under way: its addressee
  *   13, carrier  a single step, a plan, of a carrier that is due and has a full channel: the smallest receiver whose channel is full
@@ -41,6 +42,7 @@
  *   11, 0        a trial's order is none of 1 to 3
  *   14, 0        runs are asked for of more than three carriers
  *   15, 0        the rank of a run is not below the number of runs
+ *   16, 0        the carrier has a route (kalomivund_blockers)
  * "The floor's refusals" below are 9 (22 numbers), 2, 9 (walls), 3, 4, 5, 6. */
 #ifndef KALOMIVUND_H
 #define KALOMIVUND_H
@@ -143,6 +145,15 @@ uint64_t kalomivund_search(const uint16_t *floor, size_t floor_len, const uint16
  * Refused the floor's refusals; 9 (answers too short). */
 uint64_t kalomivund_plan(const uint16_t *floor, size_t floor_len, const uint16_t *walls, size_t walls_len, uint16_t *answers,
                          size_t answers_len);
+
+/* Who shuts a carrier in: for a carrier with none in the sequential result, a set of carriers above it. Against their answers alone
+ * there is still no route; against any smaller part of the set there is one. It begins with all above and, from carrier 1 downwards in
+ * rank, leaves out each that can go. An answer none that is kept occupies its carrier's start, one that is left out nothing.
+ * Writes  65 x carriers numbers to the front of answers, as kalomivund_plan does.
+ * Done    case 0, number the set: bit j - 1 is carrier j's. 0: walls or the horizon are the cause.
+ * Refused the floor's refusals; 9 (answers too short); 7, 0 (no such carrier); 16, 0 (the carrier has a route). */
+uint64_t kalomivund_blockers(const uint16_t *floor, size_t floor_len, const uint16_t *walls, size_t walls_len, uint16_t carrier,
+                             uint16_t *answers, size_t answers_len);
 
 /* From a sheet's bytes to its printed routes: carriers and failing carrier; per carrier its number, its arrival and its cells at
  * beats 0 to horizon, or its number and " none". A refused sheet prints one line: 0, the refusal, its place.

@@ -41,6 +41,20 @@ pub fn plan(floor: &[u16], walls: &[u16], answers: &mut [u16]) -> u64 {
     unsafe { raw::kalomivund_plan(floor.as_ptr(), floor.len(), walls.as_ptr(), walls.len(), answers.as_mut_ptr(), answers.len()) }
 }
 
+pub fn blockers(floor: &[u16], walls: &[u16], carrier: u16, answers: &mut [u16]) -> u64 {
+    unsafe {
+        raw::kalomivund_blockers(
+            floor.as_ptr(),
+            floor.len(),
+            walls.as_ptr(),
+            walls.len(),
+            carrier,
+            answers.as_mut_ptr(),
+            answers.len(),
+        )
+    }
+}
+
 pub fn print_routes(text: &[u8], out: &mut [u8]) -> u64 {
     unsafe { raw::kalomivund_print_routes(text.as_ptr(), text.len(), out.as_mut_ptr(), out.len()) }
 }

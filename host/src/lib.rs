@@ -100,6 +100,7 @@ impl std::fmt::Display for Refusal {
             13 => "a channel is full, the one to carrier",
             14 => "more than three carriers: place",
             15 => "no run of that rank: place",
+            16 => "the carrier has a route: place",
             _ => "refused: place",
         };
         write!(f, "refusal {}: {} {}", self.number, why, self.place)
@@ -231,6 +232,15 @@ pub fn search(floor: &Floor, walls: &[u16], carrier: u16, views: &[u16]) -> Resu
 /// none stays at its start: those below it keep off it, one above it may still cross it.
 pub fn plan(floor: &Floor, walls: &[u16], answers: &mut [u16]) -> Result<u16, Refusal> {
     answer_of(calls::plan(&floor.record(), walls, answers)).map(|(_, failing)| failing as u16)
+}
+
+/// Who shuts in a carrier (from 1) that has none in the sequential result: the carriers above it against whose answers alone there is still
+/// no route, and against any smaller part of which there is one. Empty: walls or the horizon are the cause. From carrier 1 downwards in rank,
+/// each that can go is left out. The answers go into lent memory as [`plan`] leaves them. Refusal 7 for a carrier that is not there, then 16
+/// for one that has a route, after all others.
+pub fn blockers(floor: &Floor, walls: &[u16], carrier: u16, answers: &mut [u16]) -> Result<Vec<u16>, Refusal> {
+    let (_, set) = answer_of(calls::blockers(&floor.record(), walls, carrier, answers))?;
+    Ok((1..=8).filter(|j| set >> (j - 1) & 1 == 1).collect())
 }
 
 /// Prints the routes of a sheet, or its refusal's line, into lent memory: the number of bytes. Memory of [`MOST_TEXT`] bytes serves

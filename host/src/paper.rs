@@ -352,6 +352,51 @@ pub fn plan(floor: &Floor) -> (Vec<Answer>, usize) {
     (answers, failing)
 }
 
+/// Who shuts in a carrier (from 0) that has none among these sequential answers: begin with all above it and, from the first downwards in
+/// rank, leave out each without whom there is still no route against those that are left.
+pub fn blockers(floor: &Floor, answers: &[Answer], carrier: usize) -> Vec<usize> {
+    let mut left: Vec<usize> = (0..carrier).collect();
+    for tried in 0..carrier {
+        let without: Vec<usize> = left.iter().copied().filter(|&j| j != tried).collect();
+        let against: Vec<Route> = without.iter().map(|&j| occupied(floor, j, answers[j])).collect();
+        if best_route(floor, floor.starts[carrier], floor.goals[carrier], &against).is_none() {
+            left = without;
+        }
+    }
+    left
+}
+
+/// What `desk blockers` prints for a sheet: who shuts each stranded carrier in, and the floor with these at their starts.
+pub fn print_blockers(text: &[u8]) -> String {
+    let floor = match floor_of_sheet(text) {
+        Ok(floor) => floor,
+        Err(r) => return text_line(&[0, r.number as usize, r.place]),
+    };
+    let (answers, _) = plan(&floor);
+    let stranded: Vec<usize> = (0..answers.len()).filter(|&i| answers[i].is_none()).collect();
+    let mut out = String::new();
+    for &i in &stranded {
+        let names: Vec<String> = blockers(&floor, &answers, i).iter().map(|j| (j + 1).to_string()).collect();
+        let cause = if names.is_empty() { "walls or the horizon".into() } else { names.join(" ") };
+        out += &format!("carrier {} is shut in by {cause}\n", i + 1);
+    }
+    if stranded.is_empty() {
+        out += "no carrier is stranded\n";
+    }
+    for row in 0..floor.height {
+        for column in 0..floor.width {
+            let c = row * floor.width + column;
+            out += &match stranded.iter().find(|&&i| floor.starts[i] == c) {
+                _ if floor.walls.contains(&c) => "#".into(),
+                Some(i) => (i + 1).to_string(),
+                None => ".".to_string(),
+            };
+        }
+        out.push('\n');
+    }
+    out
+}
+
 /// What the routes program prints for a sheet.
 pub fn print_routes(text: &[u8]) -> String {
     let floor = match floor_of_sheet(text) {
@@ -922,6 +967,23 @@ pub mod calls {
             let (planned, failing) = super::plan(&floor);
             store_answers(&planned, answers);
             Ok(done(0, failing))
+        })())
+    }
+
+    pub fn blockers(floor: &[u16], walls: &[u16], carrier: u16, answers: &mut [u16]) -> u64 {
+        word((|| {
+            let floor = lent(floor, walls)?;
+            long_enough(answers.len() < 65 * floor.carriers())?;
+            let carrier = carrier as usize;
+            if carrier < 1 || carrier > floor.carriers() {
+                return refuse(7, 0);
+            }
+            let (planned, _) = super::plan(&floor);
+            if planned[carrier - 1].is_some() {
+                return refuse(16, 0);
+            }
+            store_answers(&planned, answers);
+            Ok(done(0, super::blockers(&floor, &planned, carrier - 1).iter().map(|j| 1 << j).sum()))
         })())
     }
 

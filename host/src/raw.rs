@@ -46,6 +46,16 @@ extern "C" {
         answers_len: usize,
     ) -> u64;
 
+    pub fn kalomivund_blockers(
+        floor: *const u16,
+        floor_len: usize,
+        walls: *const u16,
+        walls_len: usize,
+        carrier: u16,
+        answers: *mut u16,
+        answers_len: usize,
+    ) -> u64;
+
     pub fn kalomivund_print_routes(text: *const u8, text_len: usize, out: *mut u8, out_len: usize) -> u64;
 
     pub fn kalomivund_fresh(

@@ -496,6 +496,7 @@ impl Desk {
             b's' => stepped(calls::step(&record, &walls, &mut self.lent, first as u16)),
             b'r' => self.run(numbers),
             b'p' => told("failing carrier", calls::plan(&record, &walls, &mut self.lent)),
+            b'B' => told("set", calls::blockers(&record, &walls, first as u16, &mut self.lent)),
             b'T' => self.trial(numbers),
             b'L' => self.listed(numbers),
             b'h' => told("steps", calls::ceiling(first as u16)),

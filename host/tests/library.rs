@@ -220,6 +220,35 @@ fn conflicts_of_two_routes() {
     assert_eq!(refused(answer_of(calls::conflict(&a, &b[1..], 4))), (9, 0));
 }
 
+/// Who shuts a carrier in: one, two together, walls or the horizon, the one that the order keeps; 7 before 16, and memory as found.
+#[test]
+fn who_shuts_a_carrier_in() {
+    let floor = |width, height, horizon, pairs: &[(u16, u16)]| {
+        let (mut starts, mut goals) = ([0; 8], [0; 8]);
+        for (k, &(start, goal)) in pairs.iter().enumerate() {
+            (starts[k], goals[k]) = (start, goal);
+        }
+        Floor { width, height, horizon, depth: 1, carriers: pairs.len() as u16, walls: 0, starts, goals }
+    };
+    let of = |floor: &Floor, carrier| blockers(floor, &[], carrier, &mut vec![7; needed_lengths(floor).unwrap().answers]);
+    let (one, gate) = ([(1, 1), (0, 2)], [(1, 1), (4, 4), (0, 2)]);
+    assert_eq!(of(&floor(3, 1, 4, &one), 2), Ok(vec![1]));
+    assert_eq!(of(&floor(3, 1, 1, &one), 2), Ok(vec![]));
+    assert_eq!(of(&floor(3, 2, 4, &gate), 3), Ok(vec![1, 2]));
+    let row = floor(4, 1, 3, &[(1, 1), (2, 2), (0, 3)]);
+    assert_eq!(of(&row, 3), Ok(vec![2]));
+    let (mut planned, mut told) = (vec![7; 200], vec![7; 200]);
+    plan(&row, &[], &mut planned).unwrap();
+    blockers(&row, &[], 3, &mut told).unwrap();
+    assert_eq!(told, planned);
+    let mut answers = [7; 195];
+    assert_eq!(refused(blockers(&row, &[], 2, &mut answers)), (16, 0));
+    assert_eq!(refused(blockers(&row, &[], 0, &mut answers)), (7, 0));
+    assert_eq!(refused(blockers(&row, &[], 4, &mut answers)), (7, 0));
+    assert_eq!(refused(blockers(&row, &[], 2, &mut answers[1..])), (9, 0));
+    assert!(answers.iter().all(|&left| left == 7));
+}
+
 /// The worked example of docs/FIRMWARE.md: board 2 misses the order 'plan 1' and catches up.
 #[test]
 fn a_lost_order() {

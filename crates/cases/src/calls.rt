@@ -1,4 +1,5 @@
 // The entries on the floor and the walls of the desk, each answer as one number.
+use blockers::Blocked;
 use commands::answers::DELIVERED;
 use commands::answers::ENDED;
 use commands::answers::FAILING;
@@ -17,6 +18,9 @@ use machine::Most;
 use machine::Ran;
 use machine::Stepped;
 use planner::Planned;
+use script::fields::field;
+use script::look;
+use script::show;
 
 // The fresh state, into lent memory.
 pub fn fresh(desk: &[u16], m: &mut [u16]) -> usize {
@@ -59,6 +63,19 @@ pub fn plan(desk: &[u16], m: &mut [u16]) -> usize {
     match a {
         Planned::Failing(k) => answer(FAILING, k),
         Planned::Refused(r) => refused(r),
+    }
+}
+
+// Who shuts a carrier in, as a set, with the sequential plan in lent memory.
+pub fn shut_in(s: &[u8], desk: &[u16], m: &mut [u16]) -> usize {
+    let carrier = look::narrow(field(s, 0));
+    let a = blockers::blockers(floor_of(desk), walls_of(desk), carrier, m);
+    match a {
+        Blocked::Shut(set) => {
+            show::text(b" set");
+            answer(0, look::wide(set))
+        }
+        Blocked::Refused(r) => refused(r),
     }
 }
 

@@ -42,13 +42,14 @@ fn set_memory(s: &[u8], room: &mut [u16]) {
     }
 }
 
-// Commands that call an entry with lent memory: new state, step, run, plan.
+// Commands that call an entry with lent memory: new state, step, run, plan, Blockers of a carrier.
 fn called(s: &[u8], desk: &[u16], m: &mut [u16]) -> usize {
     match byte(s, 0) {
         b'n' => calls::fresh(desk, m),
         b's' => calls::step(desk, m, look::narrow(field(s, 0))),
         b'r' => states::run(s, desk, m),
         b'p' => calls::plan(desk, m),
+        b'B' => calls::shut_in(s, desk, m),
         _ => tried(s, desk, m),
     }
 }

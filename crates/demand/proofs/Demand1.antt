@@ -53,6 +53,7 @@ use Rattle.demand.specs.Rows.{Table, Row, row, Short, _orElse_, earlier,
 use Rattle.demand.specs.Demand1.{HoldsState, ReadRows, WriteRows, PlanRows, PrintRows, SearchRows, FreshRows, StateRows, CallRows}
 use Rattle.demand.specs.Demand1.{TrialRows, RoutesRows, ConflictRows, Demand1}
 use Rattle.demand.proofs.RankLaws.{run-of-rank, run-keeps-report}
+use Rattle.demand.proofs.BlockerLaws.{blockers, blockers-keeps}
 use Rattle.demand.proofs.RowLaws.{then-rows, answers-rows, gives-rows, demand-row, short-row, keeps-when, value-no-refusal, no-row-passes, passes-exactly, refusal-row}
 use Rattle.laws.proofs.PutLaws.{front-beyond, put-beyond}
 use Rattle.demand.proofs.EntryLaws.{floor-rows, lent-rows, outside-row, limit-rows}
@@ -286,5 +287,7 @@ theorem =
       trial-keeps-report = trial-keeps-report;
       run-of-rank = run-of-rank;
       run-keeps-report = run-keeps-report;
+      blockers = blockers;
+      blockers-keeps = blockers-keeps;
       conflict = conflict;
     }

@@ -5,13 +5,16 @@ pub mod EntryLaws
 pub mod PlanLaws
 pub mod SameTrialLaws
 pub mod SameRunLaws
+pub mod SameBlockerLaws
 pub mod SameFloorLaws
 pub mod RoundTripLaws
 pub mod RankLaws
+pub mod BlockerLaws
 pub mod Demand1
 pub mod Demand2
 pub mod Trials
 pub mod Runs
+pub mod Blockers
 pub mod LentLaws
 pub mod ListLaws
 pub mod CutLaws

@@ -42,6 +42,9 @@ use Rattle.demand.specs.Demand2.{SameAnswers}
 use Rattle.trial.specs.Report.{numbersOf}
 use Rattle.listing.specs.Runs.{Run, runsOf, total, runAt}
 use Rattle.lister.specs.Entry.{totalOf, runOf, runNumbers, smallVerdict, rankVerdict, rankOutcome, reportListed}
+use Rattle.blockers.specs.Blockers.{blockersOf}
+use Rattle.blockers.specs.Entry.{carrierVerdict, blockersVerdict, blockersOutcome, blockersMemory}
+use Rattle.demand.proofs.SameBlockerLaws.{set-same}
 use Rattle.demand.proofs.SameTrialLaws.{trial-same}
 use Rattle.demand.proofs.SameRunLaws.{runs-same, reports-same}
 
@@ -221,8 +224,18 @@ module _ (f : Floor) (ws : List ℕ) (g : Floor) (vs : List ℕ) (same : SameFlo
     unfolding reportListed
     run-report rank old = rw (rank-verdict rank (length old), run-numbers rank)
 
+    blockers-verdict : (carrier room : ℕ) → blockersVerdict f ws carrier room ≡ blockersVerdict g vs carrier room
+    unfolding blockersVerdict carrierVerdict
+    blockers-verdict carrier room = rw (plan-verdict room, plans, same .carriers)
+
+    blockers : (carrier room : ℕ) → blockersOutcome f ws carrier room ≡ blockersOutcome g vs carrier room
+    unfolding blockersOutcome
+    blockers carrier room =
+        gives-same (blockersVerdict f ws carrier room) _ _ (set-same f ws g vs plans responses carrier room)
+        ∙ ap (λ (v : Verdict). v gives blockersOf g vs (carrier - 1)) (blockers-verdict carrier room)
+
     pub same-answers : SameAnswers f ws g vs
-    unfolding printOutcome printAnswers printMemory freshMemory
+    unfolding printOutcome printAnswers printMemory freshMemory blockersMemory
     same-answers =
         record {
           check = checks;
@@ -244,4 +257,6 @@ module _ (f : Floor) (ws : List ℕ) (g : Floor) (vs : List ℕ) (same : SameFlo
           trial-report = trial-report;
           run-of-rank = run-of-rank;
           run-report = run-report;
+          blockers = blockers;
+          blockers-answers = λ carrier old. rw (blockers-verdict carrier (length old), plans);
         }

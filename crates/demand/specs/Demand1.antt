@@ -1,6 +1,6 @@
 -- Demand 1: every entry refuses exactly under the rows of document 01's table, in its order and with its first place; with a refusal all
 -- lent memory is as it was found, and memory beyond the needed length, which one entry tells, is never written.
-use Prim.Native.Nat.{ℕ, _+_, _*_, _≤_, _<_}
+use Prim.Native.Nat.{ℕ, _+_, _*_, _-_, _≤_, _<_}
 use mathlib.Core.List.{List}
 use mathlib.Core.Logic.{_↔_}
 use mathlib.Core.Path.{_≡_}
@@ -13,10 +13,14 @@ use Rattle.floor.specs.Refused.{RefusedWith as RefusedFloor}
 use Rattle.sheet.specs.Values.{floorAt}
 use Rattle.sheet.specs.Read.{sheetVerdict, readVerdict, readWalls, writeVerdict, writeSheet}
 use Rattle.sheet.specs.Refused.{RefusedSheet}
+use Rattle.route.specs.Route.{none}
 use Rattle.conflict.specs.Entry.{conflictOutcome}
 use Rattle.search.specs.Search.{searchOf}
 use Rattle.planner.specs.Answers.{planResult}
 use Rattle.planner.specs.Records.{planMemory}
+use Rattle.planner.specs.Plan.{planOf}
+use Rattle.planner.specs.Claims.{answerAt}
+use Rattle.blockers.specs.Entry.{blockersOutcome, blockersMemory}
 use Rattle.printing.specs.Print.{printOutcome, printAnswers, printMemory, neededFor, routesOutcome, routesMemory}
 use Rattle.lengths.specs.Figures.{figuresFor, lengthsOf}
 use Rattle.reference.specs.State.{State}
@@ -51,6 +55,10 @@ module _ (f : Floor) (ws : List ℕ) where
 
   abbrev pub SearchRows : ℕ → ℕ → Table
   SearchRows i room = PlanRows room orElse Row 7 0 (Within 1 (f .carriers) i → ⊥)
+
+  -- 16, 0: the carrier has a route (document 02, slip 8).
+  abbrev pub BlockersRows : (carrier room : ℕ) → Table
+  BlockersRows carrier room = SearchRows carrier room orElse Row 16 0 (answerAt (planOf f ws) (carrier - 1) ≡ none → ⊥)
 
   abbrev pub FreshRows : ℕ → Table
   FreshRows room = RefusedFloor f ws orElse Short room (lengthsOf f .state)
@@ -131,5 +139,9 @@ pub record Demand1 : Type 0 where
   pub run-of-rank : (f : Floor) (ws : List ℕ) (rank report : ℕ) → Answers (rankOutcome f ws rank report) (RankRows f ws rank report)
   pub run-keeps-report : (f : Floor) (ws : List ℕ) (rank : ℕ) (old : List ℕ)
       → Keeps (RankRows f ws rank (length old)) (lengthsOf f .report) old (reportListed f ws rank old)
+  -- Who shuts a carrier in, with the sequential answers.
+  pub blockers : (f : Floor) (ws : List ℕ) (carrier room : ℕ) → Answers (blockersOutcome f ws carrier room) (BlockersRows f ws carrier room)
+  pub blockers-keeps : (f : Floor) (ws : List ℕ) (carrier : ℕ) (old : List ℕ)
+      → Keeps (BlockersRows f ws carrier (length old)) (lengthsOf f .answers) old (blockersMemory f ws carrier old)
   -- The conflict test of two lent routes, which writes no memory.
   pub conflict : (f : Floor) (a b : List ℕ) (horizon : ℕ) → Answers (conflictOutcome a b horizon) (ConflictRows f (length a) (length b))

@@ -33,6 +33,7 @@ use Rattle.reference.specs.Table.{Call}
 use Rattle.layout.specs.Calls.{placeVerdict, freshMemory, replyTo, memoryAfter}
 use Rattle.trial.specs.Entry.{trialOutcome, stateTried, reportTried}
 use Rattle.lister.specs.Entry.{rankOutcome, reportListed}
+use Rattle.blockers.specs.Entry.{blockersOutcome, blockersMemory}
 
 -- Prioritized planning (document 01, 'The sequential planner'; document 02, slip 2): each carrier in turn has the best answer against the
 -- answers above it, one with none staying at its start.
@@ -62,6 +63,8 @@ pub record SameAnswers (f : Floor) (ws : List ℕ) (g : Floor) (vs : List ℕ) :
   pub trial-report : (order seed state : ℕ) (old : List ℕ) → reportTried f ws order seed state old ≡ reportTried g vs order seed state old
   pub run-of-rank : (rank report : ℕ) → rankOutcome f ws rank report ≡ rankOutcome g vs rank report
   pub run-report : (rank : ℕ) (old : List ℕ) → reportListed f ws rank old ≡ reportListed g vs rank old
+  pub blockers : (carrier room : ℕ) → blockersOutcome f ws carrier room ≡ blockersOutcome g vs carrier room
+  pub blockers-answers : (carrier : ℕ) (old : List ℕ) → blockersMemory f ws carrier old ≡ blockersMemory g vs carrier old
 
 pub record Demand2 : Type 0 where
   -- The plan of an accepted floor is what prioritized planning gives, and nothing else is.

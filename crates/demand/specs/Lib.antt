@@ -1,4 +1,5 @@
--- In reading order: the calls on the program's side and on the reference machine's, and the claims; trials; listed runs; then document 01's cases.
+-- In reading order: the calls on the program's side and on the reference machine's, and the claims; trials; listed runs; who
+-- shuts a carrier in; then document 01's cases.
 pub mod Lists
 pub mod Rows
 pub mod Demand1
@@ -8,6 +9,7 @@ pub mod Trials
 pub mod Shorter
 pub mod Boards
 pub mod Runs
+pub mod Blockers
 pub mod Floors
 pub mod Texts
 pub mod Cases

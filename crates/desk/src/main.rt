@@ -19,6 +19,8 @@ enum Command {
     Runs,
     // `meeting I J`: prints where the best routes of two carriers, each against nobody, meet.
     Meeting,
+    // `blockers`: prints who shuts each stranded carrier in.
+    Blockers,
     // No command, or none of that name.
     Unknown,
 }
@@ -33,6 +35,9 @@ fn command_named(name: &[u8]) -> Command {
     }
     if arguments::same(name, b"meeting") {
         return Command::Meeting;
+    }
+    if arguments::same(name, b"blockers") {
+        return Command::Blockers;
     }
     Command::Unknown
 }
@@ -177,6 +182,31 @@ fn meeting_command() {
     meet(number_of(i), number_of(j))
 }
 
+// Says how `blockers` is called.
+fn blockers_usage() {
+    io::write_all(STDERR_FILENO, b"desk: blockers < sheet\n");
+}
+
+// Prints who shuts the stranded carriers of the sheet from standard input in.
+fn show_stranded() {
+    let mut space = io::large_buffer();
+    let input = console::read(b"desk: standard input", &mut space);
+    let Input::Read(n) = input else {
+        return;
+    };
+    let mut out = [0u8; stranded::TEXT_LENGTH];
+    let printed = stranded::print(&space[..n], &mut out);
+    console::write(b"desk: standard output", &out[..printed]);
+}
+
+// The command `blockers`.
+fn blockers_command() {
+    if os::arg_count() != 2 {
+        return blockers_usage();
+    }
+    show_stranded()
+}
+
 fn main() {
     let mut name = io::buffer();
     let n = os::arg(1, &mut name);
@@ -184,10 +214,11 @@ fn main() {
         Command::Trial => trial_command(),
         Command::Runs => runs_command(),
         Command::Meeting => meeting_command(),
+        Command::Blockers => blockers_command(),
         Command::Unknown => {
             io::write_all(
                 STDERR_FILENO,
-                b"desk: no such command; commands: trial, runs, meeting\n",
+                b"desk: no such command; commands: trial, runs, meeting, blockers\n",
             );
         }
     }

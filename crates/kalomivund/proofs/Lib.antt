@@ -7,5 +7,6 @@ mod LentLaws
 mod CallLaws
 mod TrialLaws
 mod RankLaws
+mod BlockerLaws
 mod ShortLaws
 pub mod Theorems

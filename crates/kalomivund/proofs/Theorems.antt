@@ -17,6 +17,7 @@ use Rattle.kalomivund.proofs.LentLaws.{read-record, read-walls, write-s
 use Rattle.kalomivund.proofs.CallLaws.{step, run}
 use Rattle.kalomivund.proofs.TrialLaws.{trial-state, trial-report}
 use Rattle.kalomivund.proofs.RankLaws.{run-report}
+use Rattle.kalomivund.proofs.BlockerLaws.{blockers}
 use Rattle.kalomivund.proofs.ShortLaws.{record-short, read-record-short, route-short, figures-short}
 
 -- A run's number has room in a word.
@@ -41,6 +42,7 @@ theorems =
       trial-state = trial-state;
       trial-report = trial-report;
       run-report = run-report;
+      blockers = blockers;
       print-routes = print-routes;
       record-short = λ f. record-short;
       read-record-short = read-record-short;
@@ -59,6 +61,8 @@ theorems =
       free-word = refl;
       same-cell-word = λ t l. run-word 1 t (omega arith) (omega arith);
       change-word = λ t l. run-word 2 t (omega arith) (omega arith);
+      set-word = refl;
+      cause-word = refl;
       early-word = refl;
       short-word = refl;
       order-word = refl;
@@ -66,5 +70,6 @@ theorems =
       full-word = refl;
       small-word = refl;
       rank-word = refl;
+      has-route-word = refl;
       ceiling-words = (refl, refl, refl);
     }

@@ -24,6 +24,7 @@ use Rattle.kalomivund.specs.Entries.{neededVerdict, neededWord, neededSt
 use Rattle.kalomivund.specs.Entries.{planWord, planStored, printWord, printStored, freshWord, freshStored}
 use Rattle.kalomivund.specs.Entries.{stepWord, stepStored, runWord, runStored, ceilingWord}
 use Rattle.kalomivund.specs.Entries.{trialWord, trialStateStored, trialReportStored, rankWord, rankStored}
+use Rattle.kalomivund.specs.Entries.{blockersWord, blockersStored}
 
 -- A word says refused: its low byte is 1.
 abbrev pub Refuses : ℕ → Type 0
@@ -55,6 +56,8 @@ pub record Claims : Type 0 where
       (trialWord xs ws order seed state (length m)) (trialReportStored xs ws order seed state m) m
   pub run-report : (xs ws : List ℕ) (rank : ℕ) (m : List ℕ) → Lent (lengthsOf (floorOf xs) .report)
       (rankWord xs ws rank (length m)) (rankStored xs ws rank m) m
+  pub blockers : (xs ws : List ℕ) (carrier : ℕ) (m : List ℕ) → Lent (lengthsOf (floorOf xs) .answers)
+      (blockersWord xs ws carrier (length m)) (blockersStored xs ws carrier m) m
   -- Text memory: the floor's figure for an accepted sheet, 16 bytes for a refused one (`neededFor`).
   pub print-routes : (text old : List ℕ) → Lent (neededFor text) (printWord text (length old)) (printStored text old) old
   -- A floor record is called too short exactly below its figure: as input before all else, as output of `kalomivund_read_sheet` where
@@ -82,7 +85,11 @@ pub record Claims : Type 0 where
   pub free-word : wordOf (ofConflict (value free)) ≡ 0
   pub same-cell-word : (t : ℕ) → t ≤ 63 → wordOf (ofConflict (value (dated t sameCell))) ≡ 256 + 65536 * t
   pub change-word : (t : ℕ) → t ≤ 63 → wordOf (ofConflict (value (dated t changeOfPlaces))) ≡ 512 + 65536 * t
-  -- Refusal 8, 0; 9, 0; 11, 0; 12, carrier 2; 13, carrier 3; 14, 0; 15, 0; the ceiling of three carriers, 11; refusal 2, field 5, of none and of nine.
+  -- Who shuts a carrier in: carriers 1 and 3 as a set, the bits 0 and 2 of the number from bit 16 on; walls or the horizon.
+  pub set-word : wordOf (ofNumber (value 5)) ≡ 65536 * 5
+  pub cause-word : wordOf (ofNumber (value 0)) ≡ 0
+  -- Refusal 8, 0; 9, 0; 11, 0; 12, carrier 2; 13, carrier 3; 14, 0; 15, 0; 16, 0; the ceiling of three carriers, 11; refusal 2, field 5, of
+  -- none and of nine.
   pub early-word : wordOf (refusal 8 0) ≡ 1 + 256 * 8
   pub short-word : wordOf (refusal 9 0) ≡ 1 + 256 * 9
   pub order-word : wordOf (refusal 11 0) ≡ 1 + 256 * 11
@@ -90,4 +97,5 @@ pub record Claims : Type 0 where
   pub full-word : wordOf (refusal 13 3) ≡ 1 + 256 * 13 + 65536 * 3
   pub small-word : wordOf (refusal 14 0) ≡ 1 + 256 * 14
   pub rank-word : wordOf (refusal 15 0) ≡ 1 + 256 * 15
+  pub has-route-word : wordOf (refusal 16 0) ≡ 1 + 256 * 16
   pub ceiling-words : (ceilingWord 3 ≡ 65536 * 11) × (ceilingWord 0 ≡ 1 + 256 * 2 + 65536 * 5) × (ceilingWord 9 ≡ 1 + 256 * 2 + 65536 * 5)

@@ -12,6 +12,7 @@ use Rattle.sheet.specs.Values.{floorAt, wallsAt}
 use Rattle.sheet.specs.Read.{readVerdict, writeVerdict, writeSheet}
 use Rattle.conflict.specs.Entry.{conflictOutcome}
 use Rattle.search.specs.Search.{searchOf}
+use Rattle.blockers.specs.Entry.{blockersOutcome, blockersMemory}
 use Rattle.printing.specs.Print.{routesOutcome, routesMemory}
 use Rattle.lengths.specs.Figures.{lengthsOf}
 use Rattle.planner.specs.Answers.{planResult}
@@ -139,3 +140,10 @@ rankStored xs ws rank m = storedFor xs (reportListed (floorOf xs) ws rank m) m
 -- `kalomivund_conflict`: two lent routes and a horizon.
 unfoldable pub conflictWord : List ℕ → List ℕ → ℕ → ℕ
 conflictWord a b horizon = wordOf (ofConflict (conflictOutcome a b horizon))
+
+-- `kalomivund_blockers`: the word with the set as its number, and the answers' memory.
+unfoldable pub blockersWord : List ℕ → List ℕ → (carrier room : ℕ) → ℕ
+blockersWord xs ws carrier room = wordFor xs (ofNumber (blockersOutcome (floorOf xs) ws carrier room))
+
+unfoldable pub blockersStored : List ℕ → List ℕ → (carrier : ℕ) → List ℕ → List ℕ
+blockersStored xs ws carrier old = storedFor xs (blockersMemory (floorOf xs) ws carrier old) old

@@ -1,5 +1,6 @@
 // The answers of the library's entries as words.
 ghost use mathlib.Core.Path.{_≡_};
+ghost use Rattle.blockers.specs.Entry.{blockedOutcome};
 ghost use Rattle.conflict.specs.Entry.{comparedOutcome};
 ghost use Rattle.planner.specs.Answers.{resultOf};
 ghost use Rattle.printing.specs.Print.{outcomeOf};
@@ -9,6 +10,7 @@ ghost use Rattle.trial.specs.Entry.{triedOutcome};
 ghost use Rattle.lister.specs.Entry.{listedOutcome};
 ghost use Rattle.wire.specs.Word.{wordOf, ofNumber};
 ghost use Rattle.kalomivund.specs.Answers.{ofReply, ofRank, ofConflict};
+use blockers::Blocked;
 use conflict::Compared;
 use lister::Listed;
 use machine::Most;
@@ -103,5 +105,15 @@ pub fn of_conflict(x: Compared) -> u64
         Compared::SameCell(t) => done(1, t),
         Compared::ChangeOfPlaces(t) => done(2, t),
         Compared::Refused(r) => refused(r),
+    }
+}
+
+// The word of the carriers that shut one in.
+pub fn of_blocked(x: Blocked) -> u64
+    ensures { λ r. ⌜ r ≡ wordOf (ofNumber (blockedOutcome x)) ⌝ }
+{
+    match x {
+        Blocked::Shut(set) => done(0, set as usize),
+        Blocked::Refused(r) => refused(r),
     }
 }

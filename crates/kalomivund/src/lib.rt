@@ -20,6 +20,7 @@ ghost use Rattle.kalomivund.specs.Entries.{runWord, runStored, ceilingWo
 ghost use Rattle.kalomivund.specs.Entries.{trialWord, trialStateStored, trialReportStored};
 ghost use Rattle.kalomivund.specs.Entries.{rankWord, rankStored};
 ghost use Rattle.kalomivund.specs.Entries.{conflictWord};
+ghost use Rattle.kalomivund.specs.Entries.{blockersWord, blockersStored};
 use floor::Checked;
 use floor::Floor;
 use lengths::Lengths;
@@ -277,4 +278,22 @@ pub extern "C" fn kalomivund_conflict(a: &[u16], b: &[u16], horizon: u16) -> u64
     ensures { λ r. ⌜ r ≡ conflictWord (now (a .entry)) (now (b .entry)) horizon ⌝ }
 {
     answers::of_conflict(conflict::conflict(a, b, horizon))
+}
+
+// Who shuts a carrier in that has none in the sequential result: a bit a carrier above it, bit j − 1 being carrier j's; the sequential
+// answers into lent memory.
+#[no_mangle]
+pub extern "C" fn kalomivund_blockers(
+    f: &[u16],
+    walls: &[u16],
+    carrier: u16,
+    answers: &mut [u16],
+) -> u64
+    ensures says { λ r. ⌜ r ≡ blockersWord (now (f .entry)) (now (walls .entry)) carrier (length (now (answers .entry))) ⌝ }
+    ensures stores { λ r. ⌜ now (answers .exit) ≡ blockersStored (now (f .entry)) (now (walls .entry)) carrier (now (answers .entry)) ⌝ }
+{
+    if f.len() < 22 {
+        return word::too_short();
+    }
+    answers::of_blocked(blockers::blockers(numbers::floor_of(f), walls, carrier, answers))
 }

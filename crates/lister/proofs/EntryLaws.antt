@@ -12,7 +12,7 @@ use lib.Seq.{take-at}
 use borrow.Author.Tests.{leb-true, lt-ltb, le-ltb}
 use Rattle.laws.specs.Verdict.{Outcome, value, refusal, passed, refused, _then_, demand, _gives_, whenPassed}
 use Rattle.laws.specs.Memory.{put}
-use Rattle.laws.proofs.PutLaws.{put-length, copy-start, copy-more, copy-keeps, copy-end}
+use Rattle.laws.proofs.PutLaws.{put-length}
 use Rattle.laws.proofs.VerdictLaws.{then-both, then-passed, demand-holds, demand-passes, gives-passed, gives-refused, when-passed, when-refused}
 use Rattle.floor.specs.declared.Floor.{Floor}
 use Rattle.floor.specs.declared.Checked.{Checked}
@@ -185,27 +185,6 @@ module _ (f : Floor) (ws : List ℕ) (few : f .carriers ≤ 3) (rank : ℕ) (bel
         size = sized;
         short = run-short;
       }
-
--- After t numbers are written in front of a report.
-pub record Writing (report₀ numbers report : List ℕ) (t : ℕ) : Type 0 where
-  pub within : t ≤ length numbers
-  pub stored : report ≡ put report₀ 0 (take t numbers)
-
-module _ (report₀ numbers : List ℕ) where
-  pub writing-start : Writing report₀ numbers report₀ 0
-  writing-start = record { within = omega arith; stored = copy-start report₀ numbers 0 }
-
-  module _ (room : length numbers ≤ length report₀) {report : List ℕ} {t : ℕ} (w : Writing report₀ numbers report t) where
-    pub writing-keeps : length report ≡ length report₀
-    writing-keeps = copy-keeps report₀ report numbers 0 t (w .stored) (w .within) (omega arith)
-
-    pub writing-more : t < length numbers → Writing report₀ numbers (set report t (getD numbers t 0)) (t + 1)
-    writing-more l =
-        let same : 0 + t ≡ t = omega arith in
-        record { within = omega arith; stored = rw same at (copy-more report₀ report numbers 0 t (w .stored) l (omega arith)) }
-
-    pub writing-end : length numbers ≤ t → report ≡ put report₀ 0 numbers
-    writing-end l = copy-end report₀ report numbers 0 t (w .stored) l
 
 -- The numbers of a line behind its first, as the code takes them.
 pub part-is : (report report′ line : List ℕ) (k : ℕ) → report′ ≡ put report 0 (take (2 * k + 1 - 1) (drop 1 line)) →

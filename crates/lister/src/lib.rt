@@ -96,18 +96,6 @@ fn no_line() -> [u16; LINE]
     [0; LINE]
 }
 
-// Writes numbers in front of a report.
-fn write_numbers(report: &mut [u16], numbers: &[u16])
-    requires { ⌜ length (now numbers) ≤ length (now report) ⌝ }
-    ensures { λ r. ⌜ now (report .exit) ≡ put (now (report .entry)) 0 (now (numbers .entry)) ⌝ }
-{
-    let mut t: usize = 0;
-    while t < numbers.len() {
-        report[t] = numbers[t];
-        t += 1;
-    }
-}
-
 // Reports the run of a line; how many steps it has.
 fn report_line(report: &mut [u16], line: &[u16]) -> u16
     requires { ⌜ (getD (now line) 0 0 ≤ 11) × ((length (now line) ≡ 23) × (2 * getD (now line) 0 0 ≤ length (now report))) ⌝ }
@@ -116,7 +104,7 @@ fn report_line(report: &mut [u16], line: &[u16]) -> u16
         put (now (report .entry)) 0 (take (2 * getD (now (line .entry)) 0 0) (drop 1 (now (line .entry)))) ⌝ }
 {
     let steps = line[0];
-    write_numbers(report, &line[1..2 * steps as usize + 1]);
+    records::write_front(report, &line[1..2 * steps as usize + 1]);
     steps
 }
 

@@ -29,34 +29,15 @@ use search::Outcome;
 // The length of the longest text: a line of 31 bytes, and 32 rows of 33.
 pub const TEXT_LENGTH: usize = 1087;
 
-// Refusal 7, 0 for a carrier that is not there.
-fn listed(f: Floor, i: u16) -> Checked
-    ensures { λ r. ⌜ verdictOf r ≡ demand (within 1 (f .carriers) i) 7 0 ⌝ }
-{
-    if i < 1 {
-        return Checked::Refused(Refusal {
-            number: 7,
-            place: 0,
-        });
-    }
-    if f.carriers < i {
-        return Checked::Refused(Refusal {
-            number: 7,
-            place: 0,
-        });
-    }
-    Checked::Passed
-}
-
-// The same for two carriers.
+// Refusal 7, 0 for a carrier that is not there, of two.
 fn pair_listed(f: Floor, i: u16, j: u16) -> Checked
     ensures { λ r. ⌜ verdictOf r ≡ pairVerdict f i j ⌝ }
 {
-    let first = listed(f, i);
+    let first = search::listed(f, i);
     let Checked::Passed = first else {
         return first;
     };
-    listed(f, j)
+    search::listed(f, j)
 }
 
 // The best route of a carrier of an accepted floor against nobody.

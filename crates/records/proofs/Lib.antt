@@ -6,3 +6,4 @@ pub mod CellLaws
 pub mod PartLaws
 pub mod LoadLaws
 pub mod SeenLaws
+mod FrontLaws

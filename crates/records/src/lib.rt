@@ -84,3 +84,15 @@ pub fn view_cell(views: &[u16], j: usize, t: usize) -> usize
     }
     65535
 }
+
+// Writes numbers in front of a memory.
+pub fn write_front(m: &mut [u16], numbers: &[u16])
+    requires { ⌜ length (now numbers) ≤ length (now m) ⌝ }
+    ensures { λ r. ⌜ now (m .exit) ≡ put (now (m .entry)) 0 (now (numbers .entry)) ⌝ }
+{
+    let mut t: usize = 0;
+    while t < numbers.len() {
+        m[t] = numbers[t];
+        t += 1;
+    }
+}

@@ -158,7 +158,7 @@ pub fn best_route(f: Floor, free: Rows, carrier: u16, views: &[u16]) -> Found
 }
 
 // 7: the floor has such a carrier.
-fn listed(f: Floor, carrier: u16) -> Checked
+pub fn listed(f: Floor, carrier: u16) -> Checked
     ensures { λ r. ⌜ verdictOf r ≡ demand (within 1 (f .carriers) carrier) 7 0 ⌝ }
 {
     if carrier < 1 {

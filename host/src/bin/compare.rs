@@ -86,6 +86,7 @@ enum Call {
     NeededLengths { floor: Lent<u16>, out: Lent<u64> },
     Search { floor: Lent<u16>, walls: Lent<u16>, carrier: u16, views: Lent<u16>, route: Lent<u16> },
     Plan { floor: Lent<u16>, walls: Lent<u16>, answers: Lent<u16> },
+    Blockers { floor: Lent<u16>, walls: Lent<u16>, carrier: u16, answers: Lent<u16> },
     PrintRoutes { text: Lent<u8>, out: Lent<u8> },
     Fresh { floor: Lent<u16>, walls: Lent<u16>, state: Lent<u16> },
     Step { floor: Lent<u16>, walls: Lent<u16>, state: Lent<u16>, step: u16 },
@@ -127,6 +128,9 @@ impl Call {
                 entry!(who, search(floor.part(), walls.part(), *carrier, views.part(), route.part_mut()))
             }
             Call::Plan { floor, walls, answers } => entry!(who, plan(floor.part(), walls.part(), answers.part_mut())),
+            Call::Blockers { floor, walls, carrier, answers } => {
+                entry!(who, blockers(floor.part(), walls.part(), *carrier, answers.part_mut()))
+            }
             Call::PrintRoutes { text, out } => entry!(who, print_routes(text.part(), out.part_mut())),
             Call::Fresh { floor, walls, state } => entry!(who, fresh(floor.part(), walls.part(), state.part_mut())),
             Call::Step { floor, walls, state, step } => {
@@ -154,6 +158,7 @@ impl Call {
             Call::NeededLengths { .. } => "needed_lengths",
             Call::Search { .. } => "search",
             Call::Plan { .. } => "plan",
+            Call::Blockers { .. } => "blockers",
             Call::PrintRoutes { .. } => "print_routes",
             Call::Fresh { .. } => "fresh",
             Call::Step { .. } => "step",
@@ -180,6 +185,9 @@ impl Call {
                 format!("{} carrier {carrier} views {:?} route of {}", floor(f, w), views.part(), route.length)
             }
             Call::Plan { floor: f, walls: w, answers } => format!("{} answers of {}", floor(f, w), answers.length),
+            Call::Blockers { floor: f, walls: w, carrier, answers } => {
+                format!("{} carrier {carrier} answers of {}", floor(f, w), answers.length)
+            }
             Call::PrintRoutes { text: t, out } => format!("{} out of {}", text(t), out.length),
             Call::Fresh { floor: f, walls: w, state } => format!("{} state of {}", floor(f, w), state.length),
             Call::Step { floor: f, walls: w, state, step } => {
@@ -264,6 +272,7 @@ impl Tally {
             ("needed_lengths", vec![0], vec![2, 9]),
             ("search", vec![0, 1], with(&[7])),
             ("plan", vec![0], with(&[])),
+            ("blockers", vec![0], with(&[7, 16])),
             ("print_routes", vec![0], vec![1, 2, 3, 4, 5, 6, 9]),
             ("fresh", vec![0], with(&[])),
             ("step", vec![0, 1, 2], with(&[7, 8, 10, 12, 13])),
@@ -310,6 +319,7 @@ fn numbers(call: &Call) -> Vec<u64> {
         Call::NeededLengths { floor, out } => [wide(floor), out.all.clone()].concat(),
         Call::Search { floor, walls, views, route, .. } => [wide(floor), wide(walls), wide(views), wide(route)].concat(),
         Call::Plan { floor, walls, answers } => [wide(floor), wide(walls), wide(answers)].concat(),
+        Call::Blockers { floor, walls, answers, .. } => [wide(floor), wide(walls), wide(answers)].concat(),
         Call::PrintRoutes { text, out } => [wide(text), wide(out)].concat(),
         Call::Fresh { floor, walls, state } => [wide(floor), wide(walls), wide(state)].concat(),
         Call::Step { floor, walls, state, .. } => [wide(floor), wide(walls), wide(state)].concat(),
@@ -596,7 +606,8 @@ fn sheet_case(seed: u64, tally: &mut Tally) -> bool {
 
     let answers_length = about(draw, 65 * floor.carriers());
     let answers = junk(draw, answers_length);
-    tally.compare(Call::Plan { floor: record.clone(), walls: walls.clone(), answers });
+    let (word, call) = tally.compare(Call::Plan { floor: record.clone(), walls: walls.clone(), answers });
+    blockers_cases(draw, &floor, (word, call), &record, &walls, tally);
     for _ in 0..3 {
         let mut views = draw_views(draw, &floor);
         views.resize(answers_length, 2);
@@ -608,6 +619,28 @@ fn sheet_case(seed: u64, tally: &mut Tally) -> bool {
         tally.compare(Call::Search { floor: record.clone(), walls: walls.clone(), carrier, views, route });
     }
     accepted
+}
+
+/// Who shuts in every stranded carrier of a floor that was planned, and one carrier more: with a route, not there, or on a refused floor.
+fn blockers_cases(
+    draw: &mut Draw,
+    floor: &Floor,
+    planned: (u64, Call),
+    record: &Lent<u16>,
+    walls: &Lent<u16>,
+    tally: &mut Tally,
+) {
+    let n = floor.carriers();
+    let mut carriers: Vec<u16> = Vec::new();
+    if let (0, Call::Plan { answers, .. }) = (planned.0 & 255, planned.1) {
+        carriers.extend((0..n).filter(|i| answers.part()[65 * i] == 1).map(|i| i as u16 + 1));
+    }
+    carriers.push(draw.of(&[n, n, 1, 0, n + 1, 65535]) as u16);
+    for carrier in carriers {
+        let length = about(draw, 65 * n);
+        let answers = junk(draw, length);
+        tally.compare(Call::Blockers { floor: record.clone(), walls: walls.clone(), carrier, answers });
+    }
 }
 
 /// A number for a step: open, named, or naming nothing.

@@ -1,6 +1,6 @@
 //! The routes program over `paper.rs` alone: a sheet on standard input, its routes on standard output; with the arguments
 //! `trial ORDER SEED` the text of a trial, with `runs [RANK]` that of the complete runs, with `meeting I J` that of
-//! a meeting. It needs no archive.
+//! a meeting, with `blockers` that of the stranded carriers. It needs no archive.
 //! Its tests (`cargo test --bin paper`) hold `paper.rs` to document 01's twelve floors, its search to a search of all routes, and the
 //! benchmark's other planners to `paper.rs`.
 
@@ -27,6 +27,7 @@ fn main() -> std::io::Result<()> {
         Some("trial") => paper::print_trial(&text, number(1), number(2) as u32),
         Some("runs") => paper::print_runs(&text, (words.len() > 1).then(|| number(1))),
         Some("meeting") => paper::print_meeting(&text, number(1), number(2)),
+        Some("blockers") => paper::print_blockers(&text),
         _ => paper::print_routes(&text),
     };
     std::io::stdout().write_all(out.as_bytes())
@@ -105,6 +106,26 @@ mod tests {
         assert_eq!([total(1, &apart), total(2, &apart), total(4, &apart)], [495, 620, 620]);
         assert_eq!([total(1, &crossing), total(2, &crossing), total(4, &crossing)], [888, 1186, 1186]);
         assert_eq!(total(1, &[(0, 1)]), 1);
+    }
+
+    /// Document 02, slip 8: by one, by two together, by a stranded one, by walls, by the horizon, an order that matters; nobody; refused.
+    #[test]
+    fn blockers() {
+        let shown = |sheet: &str| paper::print_blockers(sheet.as_bytes());
+        let one = "    3    1    4    1    2    0\n    1    0    1    0\n    0    0    2    0\n";
+        assert_eq!(shown(one), "carrier 2 is shut in by 1\n2..\n");
+        let two = "    3    2    4    1    3    0\n    1    0    1    0\n    1    1    1    1\n    0    0    2    0\n";
+        assert_eq!(shown(two), "carrier 3 is shut in by 1 2\n3..\n...\n");
+        let stranded = "    5    1    2    1    2    1\n    1    0    4    0\n    0    0    2    0\n    3    0\n";
+        assert_eq!(shown(stranded), "carrier 1 is shut in by walls or the horizon\ncarrier 2 is shut in by 1\n21.#.\n");
+        let walls = "    4    1    3    1    2    1\n    0    0    0    0\n    1    0    3    0\n    2    0\n";
+        assert_eq!(shown(walls), "carrier 2 is shut in by walls or the horizon\n.2#.\n");
+        let short = one.replace("    4    1    2", "    1    1    2");
+        assert_eq!(shown(&short), "carrier 2 is shut in by walls or the horizon\n2..\n");
+        let row = "    4    1    3    1    3    0\n    1    0    1    0\n    2    0    2    0\n    0    0    3    0\n";
+        assert_eq!(shown(row), "carrier 3 is shut in by 2\n3...\n");
+        assert_eq!(shown(SHEET), "no carrier is stranded\n...\n...\n");
+        assert_eq!(shown(""), "    0    1    0\n");
     }
 
     /// Document 02, slip 7: the kinds and the beat before a change, the floor then, a carrier without a route, one that is not there.

@@ -9,10 +9,10 @@ use Rattle.lister.proofs.report_line.Tie as tie
 
 returns : tie.Need-returns
 returns c =
-    let after-write-numbers : tie.After-write-numbers = search in
+    let after-write-front : tie.After-write-front = search in
     let start : tie.Start = search in
     let line = now (start .args .line) in
-    (refl, part-is _ _ line (getD line 0 0) (after-write-numbers .write-numbers .ensures))
+    (refl, part-is _ _ line (getD line 0 0) (after-write-front .write-front .ensures))
 
 pub report-line-spec : {M : Type 1} → statement M
 report-line-spec =

@@ -1,20 +1,20 @@
--- `lister::write_numbers` meets its contract: the numbers passed are written.
+-- `records::write_front` meets its contract: the numbers passed are written.
 use Prim.Native.Nat.{_-_}
 use native.Mathlib.Omega.{arith}
 use lib.ListN.{length}
-use Rattle.lister.proofs.EntryLaws.{Writing, writing-start, writing-keeps, writing-more, writing-end}
+use Rattle.records.proofs.FrontLaws.{Writing, writing-start, writing-keeps, writing-more, writing-end}
 use borrow.Author.Needs.{needs}
-use Rattle.lister.proofs.write_numbers.Statement.{statement}
-use Rattle.lister.proofs.write_numbers.Tie as tie
+use Rattle.records.proofs.write_front.Statement.{statement}
+use Rattle.records.proofs.write_front.Tie as tie
 
 abbrev Inv-loop : tie.InvT-loop
-Inv-loop report₀ numbers t₀ report t = Writing report₀ numbers report t
+Inv-loop m₀ numbers t₀ m t = Writing m₀ numbers m t
 
 abbrev μ-loop : tie.MeasureT-loop
-μ-loop report₀ numbers t₀ report t = length numbers - t
+μ-loop m₀ numbers t₀ m t = length numbers - t
 
-slice-write-report : tie.Need-slice-write-report Inv-loop μ-loop
-slice-write-report c =
+slice-write-m : tie.Need-slice-write-m Inv-loop μ-loop
+slice-write-m c =
     let in-loop : tie.In-loop Inv-loop μ-loop = search in
     let at-loop : tie.At-loop Inv-loop μ-loop = search in
     let start : tie.Start Inv-loop μ-loop = search in
@@ -39,7 +39,7 @@ returns c =
     let start : tie.Start Inv-loop μ-loop = search in
     writing-end _ _ (start .pre) (at-loop .loop .inv) (c .loop-test .left)
 
-pub write-numbers-spec : {M : Type 1} → statement M
-write-numbers-spec =
+pub write-front-spec : {M : Type 1} → statement M
+write-front-spec =
     tie.close (tie.spec Inv-loop μ-loop (λ c. writing-start _ _) (λ c. search needs) (λ c. search needs) (λ c. search needs)
-    slice-write-report (λ c. search needs) (λ c. search needs) loop-again same-length returns)
+    slice-write-m (λ c. search needs) (λ c. search needs) loop-again same-length returns)

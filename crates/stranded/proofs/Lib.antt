@@ -1,0 +1,3 @@
+-- Laws of the text of stranded carriers.
+mod LineLaws
+mod StrandedLaws
