@@ -12,8 +12,8 @@ use Rattle.route.specs.Apart.{Apart}
 use Rattle.laws.proofs.Tests.{eq-or-ne}
 
 -- Where a is at t + 1 the cell of b at t, there is one cell at t or at t + 1, or a follows b.
-at-left : {A : Type 0} (a b : List ℕ) (t : ℕ) → cellAt a (suc t) ≡ cellAt b t → (VertexConflict a b t → A) → (VertexConflict a b (suc t) → A) →
-    (Follows a b t → A) → A
+at-left : {A : Type 0} (a b : List ℕ) (t : ℕ) → cellAt a (suc t) ≡ cellAt b t → (VertexConflict a b t → A) →
+    (VertexConflict a b (suc t) → A) → (Follows a b t → A) → A
 unfolding VertexConflict Follows
 at-left {A} a b t e here there follows =
     stays (eq-or-ne (cellAt a (suc t)) (cellAt a t)) (eq-or-ne (cellAt b (suc t)) (cellAt b t))

@@ -1,6 +1,6 @@
 -- The tests of two moves say what their conflicts say.
 use Prim.Native.Nat.{ℕ, suc}
-use mathlib.Core.Bool.{true, _&&_, not}
+use mathlib.Core.Bool.{Bool, true, _&&_, not}
 use mathlib.Core.List.{List}
 use mathlib.Core.Logic.{_⊎_, inl, inr}
 use mathlib.Core.Path.{_≡_}
@@ -24,9 +24,12 @@ unequal-holds m n h = not-is-true (eqb m n) (λ e. h (eqb-true m n e))
 enters-says : (c d x y : ℕ) → enters c d x y ≡ true → Enters c d x y
 unfolding enters
 enters-says c d x y e =
-    (eqb-true d x (and-fst (eqb d x) _ e), unequal-says d c (and-fst (not (eqb d c)) _ rest), unequal-says y x (and-snd (not (eqb d c)) _ rest))
+    (eqb-true d x (and-fst (eqb d x) _ e), unequal-says d c (and-fst away _ rest), unequal-says y x (and-snd away _ rest))
   where
-    rest : (not (eqb d c) && not (eqb y x)) ≡ true
+    away : Bool
+    away = not (eqb d c)
+
+    rest : (away && not (eqb y x)) ≡ true
     rest = and-snd (eqb d x) _ e
 
 enters-holds : (c d x y : ℕ) → Enters c d x y → enters c d x y ≡ true

@@ -45,7 +45,7 @@ every-holds p (x ∷ vs) h = and-both (h x (List·Memᴰ·head refl)) (every-hol
 
 module _ (H t d : ℕ) where
   -- The three tests of a heard route.
-  route-vacant : (q : List ℕ) → vacant H t d (heard (route q)) ≡ true → Vacant H t d q
+  pub route-vacant : (q : List ℕ) → vacant H t d (heard (route q)) ≡ true → Vacant H t d q
   unfolding vacant
   route-vacant q e =
       record {
@@ -69,7 +69,7 @@ module _ (H t d : ℕ) where
       before : (u : ℕ) → t ≡ suc u → d ≡ cellAt q u → past ≡ true
       before u s h = let one : t - 1 ≡ u = omega arith in and-both (lt-ltb 0 t (omega arith)) (eq-eqb d (cellAt q (t - 1)) (rw one h))
 
-  vacant-route : (q : List ℕ) → Vacant H t d q → vacant H t d (heard (route q)) ≡ true
+  pub vacant-route : (q : List ℕ) → Vacant H t d q → vacant H t d (heard (route q)) ≡ true
   unfolding vacant
   vacant-route q v =
       and-both

@@ -1,12 +1,13 @@
--- The first conflict of two routes (document 02, slips 7 and 9), declared: its kind and its beat. H is the horizon, a beat itself. A further kind
--- is a constructor with its place in the order and a line of `ConflictAt`; of the test, a line of `isConflict` and a name in `kinds`.
+-- The first conflict of two routes (document 02, slips 7 and 9), declared: its kind and its beat. H is the horizon, a beat itself. A
+-- further kind is a constructor with its place in the order and a line of `ConflictAt`; of the test, a line of `isConflict` and a name in
+-- `kinds`.
 use Prim.Native.Nat.{ℕ, _≤_, _<_}
 use mathlib.Core.List.{List}
 use mathlib.Core.Logic.{_⊎_}
 use mathlib.Core.Path.{_≡_}
 use Rattle.route.specs.Conflict.{VertexConflict, SwapConflict, FollowingConflict}
 
--- The kinds of conflict: vertex conflict (the paper's 'same cell'), swap conflict (its 'change of places'), following conflict ('following').
+-- The kinds of conflict: vertex conflict (the paper's 'same cell'), swap conflict (its 'change of places'), following conflict.
 pub data ConflictKind : Type 0 where
   sameCell : ConflictKind
   changeOfPlaces : ConflictKind
