@@ -1,6 +1,5 @@
 -- Laws of the definitions and of the loops. What other crates cite is `pub`.
 pub mod GridLaws
-pub mod WayLaws
 pub mod CrossLaws
 pub mod SetLaws
 pub mod PlaceLaws
