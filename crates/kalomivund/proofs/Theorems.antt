@@ -59,6 +59,7 @@ theorems =
       free-word = refl;
       same-cell-word = λ t l. run-word 1 t (omega arith) (omega arith);
       change-word = λ t l. run-word 2 t (omega arith) (omega arith);
+      following-word = λ t l. run-word 3 t (omega arith) (omega arith);
       early-word = refl;
       short-word = refl;
       order-word = refl;

@@ -8,7 +8,7 @@ use Rattle.laws.specs.Verdict.{passed, refused, value, refusal}
 use Rattle.floor.specs.declared.Floor.{Floor}
 use Rattle.floor.specs.Checks.{checkOf, limitsOf}
 use Rattle.route.specs.Route.{none, route}
-use Rattle.route.specs.FirstConflict.{sameCell, changeOfPlaces, free, dated}
+use Rattle.route.specs.FirstConflict.{sameCell, changeOfPlaces, following, free, dated}
 use Rattle.sheet.specs.Values.{floorAt}
 use Rattle.sheet.specs.Read.{sheetVerdict}
 use Rattle.printing.specs.Print.{neededFor}
@@ -82,6 +82,7 @@ pub record Claims : Type 0 where
   pub free-word : wordOf (ofConflict (value free)) ≡ 0
   pub same-cell-word : (t : ℕ) → t ≤ 63 → wordOf (ofConflict (value (dated t sameCell))) ≡ 256 + 65536 * t
   pub change-word : (t : ℕ) → t ≤ 63 → wordOf (ofConflict (value (dated t changeOfPlaces))) ≡ 512 + 65536 * t
+  pub following-word : (t : ℕ) → t ≤ 63 → wordOf (ofConflict (value (dated t following))) ≡ 768 + 65536 * t
   -- Refusal 8, 0; 9, 0; 11, 0; 12, carrier 2; 13, carrier 3; 14, 0; 15, 0; the ceiling of three carriers, 11; refusal 2, field 5, of none and of nine.
   pub early-word : wordOf (refusal 8 0) ≡ 1 + 256 * 8
   pub short-word : wordOf (refusal 9 0) ≡ 1 + 256 * 9

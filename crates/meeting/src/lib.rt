@@ -1,4 +1,4 @@
-// Where the best routes of two carriers, each against nobody, meet (document 02, slip 7), as text over fixed arrays: one line, and the
+// Where the best routes of two carriers, each against nobody, meet (document 02, slips 7 and 9), as text over fixed arrays: one line, and the
 // floor at that beat; of a refused sheet, or a carrier that is not there, the line of the refusal. For the program `desk`.
 ghost use mathlib.Core.Path.{_≡_};
 ghost use Prim.Native.Nat.{_+_, _≤_, _<_};
@@ -101,6 +101,7 @@ fn put_conflict(found: FirstConflict, out: &mut [u8]) -> usize
             b"\n",
             out,
         ),
+        FirstConflict::Following(t) => put_line(b"following after beat ", t, b"\n", out),
     }
 }
 
@@ -152,6 +153,7 @@ fn put_drawing(
         FirstConflict::Free => 0,
         FirstConflict::SameCell(t) => put_beat(f, walls, i, j, a, b, t, out),
         FirstConflict::ChangeOfPlaces(t) => put_beat(f, walls, i, j, a, b, t, out),
+        FirstConflict::Following(t) => put_beat(f, walls, i, j, a, b, t, out),
     }
 }
 
