@@ -13,10 +13,10 @@ use Rattle.words.specs.Words.{digit}
 use Rattle.words.specs.Rows.{has}
 use Rattle.words.proofs.RowsLaws.{place-same}
 use Rattle.words.proofs.StepLaws.{before, brought}
 use Rattle.tables.specs.declared.Scene.{Scene}
 use Rattle.tables.specs.Table.{Tidy, inSet}
 use Rattle.tables.proofs.SetLaws.{set-has, set-at}
-use Rattle.passes.proofs.MemberLaws.{near-row, near-column, near-same, before-says, before-holds, Five, five-says, five-holds}
+use Rattle.tables.proofs.MemberLaws.{near-row, near-column, near-same, before-says, before-holds, Five, five-says, five-holds}
 
 module _ (g : Scene) (s : List ℕ) (a r q : ℕ) (tidy : Tidy g s) (thin : 0 < g .width) (row : r < 32) (column : q < g .width) where
   -- The rows above, here and below.
