@@ -9,7 +9,7 @@ use Rattle.tables.proofs.room.take_one.Tie as tie
 take-view-requires : tie.Need-take-view-requires
 take-view-requires c κs =
     let start : tie.Start = search in
-    (start .pre .0, omega arith, omega arith, start .pre .3)
+    (start .pre .0, omega arith, omega arith, start .pre .2, start .pre .3)
 
 same-length : tie.Need-same-length
 same-length c = c .before .before .take-view .kept .1 .0
