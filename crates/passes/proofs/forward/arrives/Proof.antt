@@ -1,9 +1,10 @@
--- `passes::step::arrives` meets its contract. Before beat `hold` nothing is asked. Assumes nothing.
-use borrow.Author.Needs.{needs}
+-- `passes::forward::arrives` meets its contract. Before beat `hold` nothing is asked. Assumes nothing.
 use Rattle.passes.specs.Passes.{arrivable}
-use Rattle.passes.proofs.TurnLaws.{hold-late, hold-past}
-use Rattle.passes.proofs.step.arrives.Statement.{statement}
-use Rattle.passes.proofs.step.arrives.Tie as tie
+use Rattle.passes.proofs.PassLaws.{hold-late, hold-past}
+use native.Mathlib.Omega.{arith}
+use borrow.Author.Needs.{needs}
+use Rattle.passes.proofs.forward.arrives.Statement.{statement}
+use Rattle.passes.proofs.forward.arrives.Tie as tie
 
 returns : tie.Need-returns
 unfolding arrivable
