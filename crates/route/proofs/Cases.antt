@@ -80,7 +80,8 @@ left-in-front : best (grid 3 3 2 1 2) (heard (route (three 0 0 1)) ∷ []) ≡ r
 unfolding cellAt neighbours near vacant every standable allowed startClear cost cheaper cheapest beatsFrom val walk walkFrom best
 left-in-front = refl
 
--- So not where the carrier would leave at the horizon too, as cell 2 is another's until beat 0.
+-- Not so where a third was in cell 2 at beat 0, which shuts it at beat 1: the carrier could leave cell 1 only at the horizon, as the other
+-- comes in.
 kept-in-front-last : best (grid 3 3 2 1 2) (heard (route (three 0 0 1)) ∷ heard (route (three 2 65535 65535)) ∷ []) ≡ none
 unfolding cellAt neighbours near vacant every standable allowed startClear cost cheaper cheapest beatsFrom val walk walkFrom best
 kept-in-front-last = refl
