@@ -49,7 +49,12 @@ fn kind_of(c: usize, d: usize, x: usize, y: usize) -> usize {
 
 // The kind of conflict of going from c at beat t to d at the next with what carrier j + 1 told.
 pub fn kind_with(starts: &[u16], views: &[u16], j: usize, t: usize, c: usize, d: usize) -> usize {
-    kind_of(c, d, told(starts, views, j, t), told(starts, views, j, after(t)))
+    kind_of(
+        c,
+        d,
+        told(starts, views, j, t),
+        told(starts, views, j, after(t)),
+    )
 }
 
 // Whether going from c at beat t to d at the next is in conflict with one of the first k carriers, by what it told.
