@@ -11,7 +11,7 @@ use Rattle.route.specs.Moves.{standable}
 use Rattle.route.specs.Search.{best}
 use Rattle.words.specs.Rows.{has, Clean}
 use Rattle.tables.specs.declared.Scene.{Scene}
-use Rattle.tables.specs.Table.{sceneOf, Fits}
+use Rattle.tables.specs.Table.{sceneOf, Fits, Tidy}
 use Rattle.tables.specs.Room.{standsAt, Roomy}
 use Rattle.tables.proofs.GridLaws.{scene-grid}
 use Rattle.records.specs.Records.{records, viewsOf}
@@ -42,10 +42,13 @@ module _ {f : Floor} {rows : List ℕ} {i : ℕ} {m : List ℕ} (s : Searchable 
   unfolding sceneOf
   scene-goal = rw q (s .goal)
 
--- A room of the scene is one of the floor's.
+-- A room of the scene is one of the floor's, and a tidy table too.
 pub room-scene : (f : Floor) {g : Scene} {k : ℕ} {rows m room : List ℕ} → g ≡ sceneOf f → Roomy g k rows m room →
     Roomy (sceneOf f) k rows m room
 room-scene f q r = rw q at r
+
+pub tidy-scene : (f : Floor) {g : Scene} {s : List ℕ} → g ≡ sceneOf f → Tidy g s → Tidy (sceneOf f) s
+tidy-scene f q t = rw q at t
 
 -- What is best in such a room is the best answer against the views.
 pub best-views : (f : Floor) (rows : List ℕ) (i : ℕ) (m room : List ℕ) (g : Scene) (r : Found) → g ≡ sceneOf f →

@@ -97,17 +97,25 @@ fn seek(g: Scene, sets: &mut [u32], room: &[u32], start: usize, goal: usize) -> 
     }
 }
 
-// The best route of a carrier of a checked floor against the views as they stand, in the room that these and its free cells leave.
-pub fn route_in(f: Floor, free: Rows, room: &[u32], carrier: u16, views: &[u16]) -> Found
-    requires { ⌜ Searchable f free carrier (now views) ⌝ }
+// The best route of a carrier of a checked floor against the views as they stand, in the room that these and its free cells leave; the
+// sets are a table to work in.
+pub fn route_in(
+    f: Floor,
+    free: Rows,
+    room: &[u32],
+    sets: &mut [u32],
+    carrier: u16,
+    views: &[u16],
+) -> Found
+    requires { ⌜ Searchable f free carrier (now views) × Tidy (sceneOf f) (now sets) ⌝ }
     requires { ⌜ Roomy (sceneOf f) (carrier - 1) free (now views) (now room) ⌝ }
-    ensures { λ r. ⌜ Says r (answered (best (taskOfRows f free carrier) (viewsOf (now (views .entry)) carrier))) ⌝ }
+    ensures tidy { λ r. ⌜ Tidy (sceneOf f) (now (sets .exit)) ⌝ }
+    ensures best { λ r. ⌜ Says r (answered (best (taskOfRows f free carrier) (viewsOf (now (views .entry)) carrier))) ⌝ }
 {
     let k = carrier as usize - 1;
     let start = f.starts[k] as usize;
     let goal = f.goals[k] as usize;
-    let mut sets = table::empty();
-    seek(scene_of(f), &mut sets, room, start, goal)
+    seek(scene_of(f), sets, room, start, goal)
 }
 
 // The best route of a carrier of a checked floor, with its free cells as rows, against the views as they stand.
@@ -117,7 +125,8 @@ fn best_against(f: Floor, free: Rows, carrier: u16, views: &[u16]) -> Found
 {
     let mut room = table::empty();
     room::make(scene_of(f), carrier as usize - 1, &mut room, &free, views);
-    route_in(f, free, &room, carrier, views)
+    let mut sets = table::empty();
+    route_in(f, free, &room, &mut sets, carrier, views)
 }
 
 // The best route of a carrier of a checked floor, with its free cells as rows, against the views of the carriers above it as they are
@@ -177,7 +186,7 @@ pub fn search(f: Floor, walls: &[u16], carrier: u16, views: &[u16]) -> Found
     refused(x)
 }
 
-// A table of empty sets, for a room.
+// A table of empty sets, for a room or to work in.
 pub fn no_room() -> [u32; table::WORDS]
     ensures { λ r. ⌜ r ≡ replicate 2304 0 ⌝ }
 {
