@@ -94,7 +94,8 @@ pub fn are_free(desk: &[u16], m: &[u16]) -> bool {
     look::plus(count(desk, m, CONFLICT), count(desk, m, ODD)) == 0
 }
 
-// vertex, swap and following conflicts of each pair: how many pairs of routes there are and how many of them are in conflict, where both tests agree.
+// vertex, swap and following conflicts of each pair: how many pairs of routes there are and how many of them are in conflict, where both
+// tests agree.
 pub fn say(desk: &[u16], m: &[u16]) -> usize {
     let conflicts = count(desk, m, CONFLICT);
     show::text(b" pairs");

@@ -167,7 +167,8 @@ pub record Cases : Type 0 where
   pub answers-behind : planOf (behind 2) [] ≡ routeOf (1 ∷ 2 ∷ 2 ∷ []) ∷ routeOf (0 ∷ 0 ∷ 1 ∷ []) ∷ []
   pub short-behind : planOf (behind 1) [] ≡ routeOf (1 ∷ 2 ∷ []) ∷ none ∷ []
   pub first-behind : after (machineOf (behind 2) []) fresh (singles (102 ∷ [])) .answer 1 ≡ routeOf (0 ∷ 1 ∷ 1 ∷ [])
-  pub heard-behind : below 2 (after (machineOf (behind 2) []) fresh calls4 .answer) ≡ routeOf (1 ∷ 2 ∷ 2 ∷ []) ∷ routeOf (0 ∷ 0 ∷ 1 ∷ []) ∷ []
+  pub heard-behind : below 2 (after (machineOf (behind 2) []) fresh calls4 .answer) ≡
+      routeOf (1 ∷ 2 ∷ 2 ∷ []) ∷ routeOf (0 ∷ 0 ∷ 1 ∷ []) ∷ []
   -- Nor may carrier 2 leave a cell in the beat in which carrier 1 enters it.
   pub answers-in-front : planOf (inFront 2) [] ≡ routeOf (0 ∷ 1 ∷ 1 ∷ []) ∷ none ∷ []
   -- The ceiling is reached, by one, two and three carriers.

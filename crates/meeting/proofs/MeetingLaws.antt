@@ -42,7 +42,8 @@ use Rattle.reporting.proofs.ReportLaws.{put-behind}
 use Rattle.reporting.proofs.TextLaws.{counted}
 use Rattle.drawing.specs.Drawing.{drawnFloor}
 use Rattle.drawing.proofs.DrawingLaws.{bytes-length, grid-low}
-use Rattle.meeting.specs.Text.{aloneOf, pairVerdict, decimal, numberLine, freeLine, sameCellWords, changeWords, followingWords, carrierWords}
+use Rattle.meeting.specs.Text.{aloneOf, pairVerdict, decimal, numberLine, freeLine}
+use Rattle.meeting.specs.Text.{sameCellWords, changeWords, followingWords, carrierWords}
 use Rattle.meeting.specs.Text.{noRouteWords, conflictLine, noRouteLine, Early, conflictDrawing, metText, pairText, meetingText}
 
 -- Zeros show no view.

@@ -1,5 +1,5 @@
--- The printed text of `desk meeting I J` (document 02, slips 7 and 9), from a sheet's bytes and two carriers, counted from 1: where the best
--- routes of the two, each against nobody, meet, and the floor at that beat.
+-- The printed text of `desk meeting I J` (document 02, slips 7 and 9), from a sheet's bytes and two carriers, counted from 1: where the
+-- best routes of the two, each against nobody, meet, and the floor at that beat.
 use Prim.Native.Nat.{ℕ, _+_, _-_, _/_, _%_, _≤_}
 use mathlib.Core.Bool.{cond}
 use mathlib.Core.List.{List, [], _∷_, _++_}

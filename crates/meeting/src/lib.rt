@@ -1,5 +1,5 @@
-// Where the best routes of two carriers, each against nobody, meet (document 02, slips 7 and 9), as text over fixed arrays: one line, and the
-// floor at that beat; of a refused sheet, or a carrier that is not there, the line of the refusal. For the program `desk`.
+// Where the best routes of two carriers, each against nobody, meet (document 02, slips 7 and 9), as text over fixed arrays: one line, and
+// the floor at that beat; of a refused sheet, or a carrier that is not there, the line of the refusal. For the program `desk`.
 ghost use mathlib.Core.Path.{_≡_};
 ghost use Prim.Native.Nat.{_+_, _≤_, _<_};
 ghost use lib.ListN.{length, take};

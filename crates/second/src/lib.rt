@@ -1,6 +1,6 @@
-// A second planner, for tests: it knows nothing of sets of cells, and asks of each move, by the three kinds of conflict, what carriers told.
-// It fills a table of least arrivals from the horizon down, a number a beat and cell, and walks along it. Every function answers for any
-// numbers, so none has a `requires`.
+// A second planner, for tests: it knows nothing of sets of cells, and asks of each move, by the three kinds of conflict, what carriers
+// told. It fills a table of least arrivals from the horizon down, a number a beat and cell, and walks along it. Every function answers
+// for any numbers, so none has a `requires`.
 mod arrivals;
 mod ground;
 mod offers;

@@ -102,7 +102,8 @@ vacant-same m q (suc k) H t c same short h l =
     here : vacant H t c (viewAt m k) ≡ vacant H t c (viewAt q k)
     here =
         same-test _ _
-        (λ e. (vacant-cell q k H t c short h l) .1 (λ u b up down p. (vacant-cell m k H t c short h l) .0 e u b up down (p ∙ sym (cell u b))))
+        (λ e. (vacant-cell q k H t c short h l) .1
+        (λ u b up down p. (vacant-cell m k H t c short h l) .0 e u b up down (p ∙ sym (cell u b))))
         (λ e. (vacant-cell m k H t c short h l) .1 (λ u b up down p. (vacant-cell q k H t c short h l) .0 e u b up down (p ∙ cell u b)))
 
 -- What can be stood on depends on the views' records alone.

@@ -9,7 +9,8 @@ use mathlib.Core.Path.{_≡_, refl, sym, ap, _∙_}
 use borrow.Author.Tests.{eqb-true, eq-eqb, ne-eqb}
 use lib.Dec.{eqb, ltb}
 use lib.ListN.{length}
-use Rattle.laws.proofs.Tests.{and-both, and-fst, and-snd, not-is-true, not-refutes, lt-or-le, eq-or-ne, eqbs-say, eqbs-hold, same-test, below-same}
+use Rattle.laws.proofs.Tests.{and-both, and-fst, and-snd, not-is-true, not-refutes, lt-or-le, eq-or-ne}
+use Rattle.laws.proofs.Tests.{eqbs-say, eqbs-hold, same-test, below-same}
 use Rattle.words.specs.Rows.{has, droppedAt}
 use Rattle.words.proofs.RowsLaws.{place-row, has-dropped, length-dropped, dropped-inside, dropped-outside}
 use Rattle.tables.specs.declared.Scene.{Scene}

@@ -61,6 +61,6 @@ returns-4 c =
 pub put-conflict-spec : {M : Type 1} → statement M
 put-conflict-spec =
     tie.close (tie.spec (λ c. search needs) (λ c. search needs) (λ c κs. search needs) (λ c. search needs) (λ c. search needs)
-    (λ c. search needs) put-line-requires (λ c. search needs) (λ c. search needs) (λ c. search needs) put-line-requires-2 (λ c. search needs)
-    (λ c. search needs) (λ c. search needs) put-line-requires-3 (λ c. search needs) returns (λ c. search needs) returns-2
+    (λ c. search needs) put-line-requires (λ c. search needs) (λ c. search needs) (λ c. search needs) put-line-requires-2
+    (λ c. search needs) (λ c. search needs) (λ c. search needs) put-line-requires-3 (λ c. search needs) returns (λ c. search needs) returns-2
     (λ c. search needs) returns-3 (λ c. search needs) returns-4)

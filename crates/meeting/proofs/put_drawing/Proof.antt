@@ -59,5 +59,5 @@ returns-4 c =
 
 pub put-drawing-spec : {M : Type 1} → statement M
 put-drawing-spec =
-    tie.close (tie.spec (λ c. search needs) (λ c. search needs) put-beat-requires (λ c. search needs) put-beat-requires-2 (λ c. search needs)
-    put-beat-requires-3 returns (λ c. search needs) returns-2 (λ c. search needs) returns-3 (λ c. search needs) returns-4)
+    tie.close (tie.spec (λ c. search needs) (λ c. search needs) put-beat-requires (λ c. search needs) put-beat-requires-2
+    (λ c. search needs) put-beat-requires-3 returns (λ c. search needs) returns-2 (λ c. search needs) returns-3 (λ c. search needs) returns-4)

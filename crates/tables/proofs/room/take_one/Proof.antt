@@ -17,7 +17,8 @@ same-length c = c .before .before .take-view .kept .1 .0
 returns : tie.Need-returns
 returns c =
     let start : tie.Start = search in
-    λ free old. roomy-more _ _ _ _ _ _ (start .pre .0 .narrow) (start .pre .0 .room) (start .pre .2) (c .before .before .take-view .ensures) old
+    let taken = c .before .before .take-view .ensures in
+    λ free old. roomy-more _ _ _ _ _ _ (start .pre .0 .narrow) (start .pre .0 .room) (start .pre .2) taken old
 
 pub take-one-spec : {M : Type 1} → statement M
 take-one-spec = tie.close (tie.spec (λ c. search needs) take-view-requires same-length returns)

@@ -30,7 +30,9 @@ loop-again : tie.Need-loop-again Inv-loop μ-loop
 loop-again c =
     let after-view-cell : tie.After-view-cell Inv-loop μ-loop = search in
     let at-loop : tie.At-loop Inv-loop μ-loop = search in
-    (search needs, taken-more _ _ _ _ _ _ _ _ (at-loop .loop .inv .1) (after-view-cell .view-cell .ensures .0) (c .before .before .take-cell .ensures))
+    let after-take-cell : tie.After-take-cell Inv-loop μ-loop = search in
+    let more = taken-more _ _ _ _ _ _ _ _ (at-loop .loop .inv .1) (after-view-cell .view-cell .ensures .0) in
+    (search needs, more (after-take-cell .take-cell .ensures))
 
 same-length : tie.Need-same-length Inv-loop μ-loop
 same-length c =
@@ -44,5 +46,5 @@ returns c =
 
 pub take-view-spec : {M : Type 1} → statement M
 take-view-spec =
-    tie.close (tie.spec Inv-loop μ-loop loop-holds (λ c κs. search needs) take-cell-requires (λ c. search needs) (λ c. omega arith) loop-again
-    same-length returns)
+    tie.close (tie.spec Inv-loop μ-loop loop-holds (λ c κs. search needs) take-cell-requires (λ c. search needs) (λ c. omega arith)
+    loop-again same-length returns)
