@@ -7,11 +7,11 @@ use mathlib.Core.Path.{_≡_, refl}
 use lib.ListN.{length}
 use Rattle.route.specs.Route.{cellAt, none, route, View, unheard, heard, Task}
 use Rattle.route.specs.Conflict.{ClearOfView, ClearOf}
-use Rattle.route.specs.Apart.{Apart}
+use Rattle.route.specs.Spaced.{Spaced}
 use Rattle.route.specs.Best.{Admissible}
 use Rattle.route.specs.Moves.{allowed, startClear}
 use Rattle.route.proofs.Ways.{Way}
-use Rattle.route.proofs.ApartLaws.{free-apart, apart-free}
+use Rattle.route.proofs.SpacedLaws.{free-spaced, spaced-free}
 use Rattle.route.proofs.MovesLaws.{Vacant, Standable, Allowed, allowed-says, allowed-holds, start-clear-says, start-clear-holds}
 
 -- r by the rule of moves.
@@ -23,18 +23,18 @@ pub record ByRule (task : Task) (vs : List View) (r : List ℕ) : Type 0 where
   pub blank : (t : ℕ) → task .horizon < t → cellAt r t ≡ 0
 
 module _ (task : Task) (vs : List View) (r : List ℕ) where
-  clear-route : Admissible task vs r → (q : List ℕ) → List·Memᴰ (heard (route q)) vs → Apart (task .horizon) r q
+  clear-route : Admissible task vs r → (q : List ℕ) → List·Memᴰ (heard (route q)) vs → Spaced (task .horizon) r q
   unfolding ClearOf ClearOfView
-  clear-route a q m = free-apart (task .horizon) r q (a .clear (heard (route q)) m)
+  clear-route a q m = free-spaced (task .horizon) r q (a .clear (heard (route q)) m)
 
-  apart-vacant : (q : List ℕ) → Apart (task .horizon) r q → (t : ℕ) → t ≤ task .horizon → Vacant (task .horizon) t (cellAt r t) q
-  apart-vacant q p t h = record { now = p .at-once t h; next = p .before t; past = past }
+  spaced-vacant : (q : List ℕ) → Spaced (task .horizon) r q → (t : ℕ) → t ≤ task .horizon → Vacant (task .horizon) t (cellAt r t) q
+  spaced-vacant q p t h = record { now = p .at-once t h; next = p .before t; past = past }
     where
       past : (u : ℕ) → t ≡ suc u → cellAt r t ≡ cellAt q u → ⊥
       past u s e = p .behind u (omega arith) (rw s at e)
 
-  vacant-apart : (q : List ℕ) → ((t : ℕ) → t ≤ task .horizon → Vacant (task .horizon) t (cellAt r t) q) → Apart (task .horizon) r q
-  vacant-apart q v =
+  vacant-spaced : (q : List ℕ) → ((t : ℕ) → t ≤ task .horizon → Vacant (task .horizon) t (cellAt r t) q) → Spaced (task .horizon) r q
+  vacant-spaced q v =
       record {
         at-once = λ t h. (v t h) .now;
         behind = λ t l. (v (suc t) l) .past t refl;
@@ -56,7 +56,7 @@ module _ (task : Task) (vs : List View) (r : List ℕ) where
           record {
             inside = a .is-route .inside t h;
             off-wall = a .is-route .off-walls t h;
-            clear = λ q m. apart-vacant q (clear-route a q m) t h;
+            clear = λ q m. spaced-vacant q (clear-route a q m) t h;
           }
 
       step : (t : ℕ) → t < task .horizon → Allowed task vs t (cellAt r t) (cellAt r (suc t))
@@ -91,4 +91,4 @@ module _ (task : Task) (vs : List View) (r : List ℕ) where
       clear : (v : View) → List·Memᴰ v vs → ClearOfView (task .horizon) r v
       clear unheard m = tt
       clear (heard none) m = tt
-      clear (heard (route q)) m = apart-free (task .horizon) r q (vacant-apart q (λ t h. (stands t h) .clear q m))
+      clear (heard (route q)) m = spaced-free (task .horizon) r q (vacant-spaced q (λ t h. (stands t h) .clear q m))

@@ -4,7 +4,7 @@ pub mod MovesLaws
 pub mod ArrivalLaws
 mod FollowLaws
 pub mod ConflictLaws
-pub mod ApartLaws
+pub mod SpacedLaws
 pub mod Ways
 mod CheapestLaws
 mod ValLaws

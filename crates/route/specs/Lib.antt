@@ -2,7 +2,7 @@
 pub mod Route
 pub mod Conflict
 pub mod FirstConflict
-pub mod Apart
+pub mod Spaced
 pub mod Best
 pub mod Moves
 pub mod Search
