@@ -11,7 +11,7 @@ use lib.Dec.{leb}
 use Rattle.laws.proofs.Tests.{true-false-absurd}
 use Rattle.tables.specs.declared.Scene.{Scene}
 use Rattle.tables.specs.Table.{inSet}
-use Rattle.tables.specs.Step.{ChangedAt, Alone, Beside, Follows}
+use Rattle.tables.specs.Step.{ChangedAt, Alone, Beside, Spread}
 use Rattle.passes.specs.Passes.{Reached, Leading, Earliest, arrivable}
 
 module _ (g : Scene) (room s q : List ℕ) (n : ℕ) (only : ChangedAt g s n q) where
@@ -19,8 +19,8 @@ module _ (g : Scene) (room s q : List ℕ) (n : ℕ) (only : ChangedAt g s n q) 
   alone-kept : (t c : ℕ) → (t ≡ n → ⊥) → Alone g s t c → Alone g q t c
   alone-kept t c h x = record { says = λ d e. x .says d (sym (only .other t d h) ∙ e); holds = only .other t c h ∙ x .holds }
 
-  follows-kept : (a b : ℕ) → (a ≡ n → ⊥) → (b ≡ n → ⊥) → Follows g room s a b → Follows g room q a b
-  follows-kept a b h l x =
+  spread-kept : (a b : ℕ) → (a ≡ n → ⊥) → (b ≡ n → ⊥) → Spread g room s a b → Spread g room q a b
+  spread-kept a b h l x =
       record {
         says = λ d e. let y = x .says d (sym (only .other b d l) ∙ e) in (y .0, to-new d (y .1));
         holds = λ d i y. only .other b d l ∙ x .holds d i (to-old d y);
@@ -37,13 +37,13 @@ pub reached-none : (g : Scene) (room s q : List ℕ) (start : ℕ) → ChangedAt
 reached-none g room s q start only alone = record { tidy = only .tidy; begins = alone; spreads = λ t h. absurd (omega arith) }
 
 pub reached-more : (g : Scene) (room s q : List ℕ) (start n : ℕ) → Reached g room start n s → ChangedAt g s (n + 1) q →
-    Follows g room q n (n + 1) → Reached g room start (n + 1) q
+    Spread g room q n (n + 1) → Reached g room start (n + 1) q
 reached-more g room s q start n x only new =
     record {
       tidy = only .tidy;
       begins = alone-kept g room s q (n + 1) only 0 start (λ e. omega arith) (x .begins);
       spreads = λ t h. ⊎-elim (λ (e : t ≡ n). rw e new)
-          (λ (e : t < n). follows-kept g room s q (n + 1) only t (t + 1) (λ u. omega arith) (λ u. omega arith) (x .spreads t e))
+          (λ (e : t < n). spread-kept g room s q (n + 1) only t (t + 1) (λ u. omega arith) (λ u. omega arith) (x .spreads t e))
           (eq-or-lt-of-le (omega arith));
     }
 
@@ -56,13 +56,13 @@ pub leading-none : (g : Scene) (room s q : List ℕ) (goal a : ℕ) → ChangedA
 leading-none g room s q goal a only alone = record { tidy = only .tidy; ends = alone; spreads = λ t h l. absurd (omega arith) }
 
 pub leading-more : (g : Scene) (room s q : List ℕ) (goal a n : ℕ) → n < a → Leading g room goal a (n + 1) s → ChangedAt g s n q →
-    Follows g room q (n + 1) n → Leading g room goal a n q
+    Spread g room q (n + 1) n → Leading g room goal a n q
 leading-more g room s q goal a n early x only new =
     record {
       tidy = only .tidy;
       ends = alone-kept g room s q n only a goal (λ e. omega arith) (x .ends);
       spreads = λ t h l. ⊎-elim (λ (e : n ≡ t). rw (← e) new)
-          (λ (e : n < t). follows-kept g room s q n only (t + 1) t (λ u. omega arith) (λ u. omega arith) (x .spreads t (omega arith) l))
+          (λ (e : n < t). spread-kept g room s q n only (t + 1) t (λ u. omega arith) (λ u. omega arith) (x .spreads t (omega arith) l))
           (eq-or-lt-of-le h);
     }
 

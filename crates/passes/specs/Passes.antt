@@ -7,13 +7,13 @@ use mathlib.Core.Path.{_≡_}
 use lib.Dec.{leb}
 use Rattle.tables.specs.declared.Scene.{Scene}
 use Rattle.tables.specs.Table.{inSet, Tidy}
-use Rattle.tables.specs.Step.{Alone, Follows}
+use Rattle.tables.specs.Step.{Alone, Spread}
 
 -- The sets of s through beat n are what the start reaches in the room.
 pub record Reached (g : Scene) (room : List ℕ) (start n : ℕ) (s : List ℕ) : Type 0 where
   pub tidy : Tidy g s
   pub begins : Alone g s 0 start
-  pub spreads : (t : ℕ) → t < n → Follows g room s t (t + 1)
+  pub spreads : (t : ℕ) → t < n → Spread g room s t (t + 1)
 
 -- The same through beat r, or through the horizon where r is past that.
 abbrev pub ReachedTo : Scene → List ℕ → ℕ → ℕ → List ℕ → Type 0
@@ -23,7 +23,7 @@ ReachedTo g room start r s = (n : ℕ) → n ≤ r → n ≤ g .horizon → Reac
 pub record Leading (g : Scene) (room : List ℕ) (goal a n : ℕ) (s : List ℕ) : Type 0 where
   pub tidy : Tidy g s
   pub ends : Alone g s a goal
-  pub spreads : (t : ℕ) → n ≤ t → t < a → Follows g room s (t + 1) t
+  pub spreads : (t : ℕ) → n ≤ t → t < a → Spread g room s (t + 1) t
 
 -- The last beat from 1 to n that fails the test, or 0.
 unfoldable pub lastNot : (ℕ → Bool) → ℕ → ℕ

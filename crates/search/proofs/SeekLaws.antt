@@ -21,7 +21,7 @@ use Rattle.words.specs.Rows.{filled}
 use Rattle.words.proofs.FillLaws.{length-filled, filled-in, filled-out}
 use Rattle.tables.specs.declared.Scene.{Scene}
 use Rattle.tables.specs.Table.{inSet}
-use Rattle.tables.specs.Step.{Beside, Follows}
+use Rattle.tables.specs.Step.{Beside, Spread}
 use Rattle.tables.proofs.MemberLaws.{near-same, near-turn}
 use Rattle.passes.specs.Passes.{Reached, Leading, lastNot, arrivable, Earliest}
 use Rattle.passes.specs.Walk.{nextOf, pathOf}
@@ -63,7 +63,7 @@ module _ (g : Scene) (room : List ℕ) (start goal : ℕ) (free : ℕ → Bool) 
     F : Sets
     F = inSet g s
 
-    next : (t : ℕ) → t < n → Follows g room s t (suc t)
+    next : (t : ℕ) → t < n → Spread g room s t (suc t)
     next t h = rw add-one at (reached .spreads t h)
 
     -- The sets are those that the start reaches.
@@ -127,7 +127,7 @@ module _ (g : Scene) (room : List ℕ) (start goal : ℕ) (free : ℕ → Bool) 
         reaches : Reaches ok goal (g .horizon) F n
         reaches = arrives n (earliest .passes (omega arith))
 
-        back : (t : ℕ) → t < n → Follows g room T (suc t) t
+        back : (t : ℕ) → t < n → Spread g room T (suc t) t
         back t h = rw add-one at (leading .spreads t (omega arith) h)
 
         -- What leads to the goal is in the room.

@@ -15,7 +15,7 @@ use Rattle.words.proofs.RowsLaws.{place-row}
 use Rattle.words.proofs.StepLaws.{brought, narrow-digit, narrow-masked}
 use Rattle.tables.specs.declared.Scene.{Scene}
 use Rattle.tables.specs.Table.{Grid, Tidy, Rewritten, inSet}
-use Rattle.tables.specs.Step.{ChangedAt, Beside, Follows}
+use Rattle.tables.specs.Step.{ChangedAt, Beside, Spread}
 use Rattle.tables.proofs.AloneLaws.{beat-apart}
 use Rattle.tables.proofs.BroughtLaws.{brought-says, brought-holds}
 use Rattle.tables.proofs.SetLaws.{set-cell, set-has, set-holds, set-same}
@@ -121,5 +121,5 @@ module _ (g : Scene) (room s q : List ℕ) (a b : ℕ) (grid : Grid g) (old : Ti
         (set-has g room b d i))
 
   -- The set of beat b follows that of beat a.
-  pub step-follows : Follows g room q a b
-  step-follows = record { says = λ d e. new-says d (set-cell g q b d e) e; holds = λ d i. new-holds d (set-cell g room b d i) i }
+  pub step-spreads : Spread g room q a b
+  step-spreads = record { says = λ d e. new-says d (set-cell g q b d e) e; holds = λ d i. new-holds d (set-cell g room b d i) i }

@@ -22,6 +22,6 @@ abbrev pub Beside : Scene → List ℕ → ℕ → ℕ → Type 0
 Beside g s t d = (c : ℕ) × (inSet g s t c ≡ true) × (near (g .width) c d ≡ true)
 
 -- The set of beat b has those cells of the room then that are near a cell of the set of beat a.
-pub record Follows (g : Scene) (room s : List ℕ) (a b : ℕ) : Type 0 where
+pub record Spread (g : Scene) (room s : List ℕ) (a b : ℕ) : Type 0 where
   pub says : (d : ℕ) → inSet g s b d ≡ true → (inSet g room b d ≡ true) × Beside g s a d
   pub holds : (d : ℕ) → inSet g room b d ≡ true → Beside g s a d → inSet g s b d ≡ true

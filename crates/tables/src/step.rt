@@ -5,7 +5,7 @@ ghost use Prim.Native.Nat.{_+_, _≤_, _<_};
 ghost use lib.ListN.{length};
 ghost use Rattle.words.specs.Rows.{narrowAt};
 ghost use Rattle.tables.specs.Table.{Grid, Tidy, Rewritten};
-ghost use Rattle.tables.specs.Step.{ChangedAt, Follows};
+ghost use Rattle.tables.specs.Step.{ChangedAt, Spread};
 use crate::Scene;
 use crate::table::ROWS;
 use crate::table::STRIDE;
@@ -33,7 +33,7 @@ fn step_rows(sets: &mut [u32], room: &[u32], at: usize, to: usize)
 pub fn step(g: Scene, sets: &mut [u32], room: &[u32], a: usize, b: usize)
     requires { ⌜ Grid g × Tidy g (now sets) × Tidy g (now room) × (a < 64) × (b < 64) × (a ≡ b → ⊥) ⌝ }
     ensures only { λ r. ⌜ ChangedAt g (now (sets .entry)) b (now (sets .exit)) ⌝ }
-    ensures follows { λ r. ⌜ Follows g (now (room .entry)) (now (sets .exit)) a b ⌝ }
+    ensures spreads { λ r. ⌜ Spread g (now (room .entry)) (now (sets .exit)) a b ⌝ }
 {
     step_rows(sets, room, a * STRIDE, b * STRIDE + 1);
 }

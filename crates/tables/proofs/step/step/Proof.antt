@@ -1,5 +1,5 @@
 -- `tables::step::step` meets its contract: the rows that are written have the cells of the step. Assumes nothing.
-use Rattle.tables.proofs.StepLaws.{step-apart, step-changed, step-follows}
+use Rattle.tables.proofs.StepLaws.{step-apart, step-changed, step-spreads}
 use native.Mathlib.Omega.{arith}
 use borrow.Author.Needs.{needs}
 use Rattle.tables.proofs.step.step.Statement.{statement}
@@ -22,7 +22,7 @@ returns c =
     let start : tie.Start = search in
     let p = start .pre in
     let x = after-step-rows .step-rows .ensures in
-    (step-changed _ _ _ _ _ _ (p .0) (p .1) (p .2) (p .5) x, step-follows _ _ _ _ _ _ (p .0) (p .1) (p .2) (p .5) x)
+    (step-changed _ _ _ _ _ _ (p .0) (p .1) (p .2) (p .5) x, step-spreads _ _ _ _ _ _ (p .0) (p .1) (p .2) (p .5) x)
 
 pub step-spec : {M : Type 1} → statement M
 step-spec =
