@@ -120,7 +120,11 @@ module _ (g : Scene) (s p : List ℕ) (t c : ℕ) (grid : Grid g) (old : Tidy g 
   -- The cell is in the set, and nothing else is.
   end-alone : Alone g end t c
   unfolding at
-  end-alone = record { says = says; holds = set-holds g end t c inside (end-has at (c % g .width) ∙ or-inr (has p at (c % g .width)) _ here) }
+  end-alone =
+      record {
+        says = says;
+        holds = set-holds g end t c inside (end-has at (c % g .width) ∙ or-inr (has p at (c % g .width)) _ here);
+      }
     where
       here : (eqb at at && eqb (c % g .width) (c % g .width)) ≡ true
       here = and-both (eq-eqb at at refl) (eq-eqb (c % g .width) (c % g .width) refl)

@@ -89,7 +89,10 @@ module _ (g : Scene) (room s q : List ℕ) (a b n : ℕ) (grid : Grid g) (old : 
     -- What the step brings is near a cell of the set that it comes from, and in the room.
     new-says : inSet g q b d ≡ true → (inSet g room b d ≡ true) × Beside g q a d
     unfolding has
-    new-says e = (set-holds g room b d inside (and-snd come (digit (getD room (b * 36 + 1 + d / g .width) 0) (d % g .width)) both), came (rw whole at from))
+    new-says e = (
+      set-holds g room b d inside (and-snd come (digit (getD room (b * 36 + 1 + d / g .width) 0) (d % g .width)) both),
+      came (rw whole at from),
+    )
       where
         both : (come && digit (getD room (b * 36 + 1 + d / g .width) 0) (d % g .width)) ≡ true
         both = sym new-digit ∙ set-has g q b d e
