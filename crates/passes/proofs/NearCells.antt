@@ -134,7 +134,8 @@ module _ (w c : ℕ) (thin : 0 < w) where
             test = and-both (lt-ltb 0 (c % w) h) (rw q at good)
         go (here q) =
             pick-both Taken _ _ _ (up-taken (omega arith))
-            (pick-both Taken _ _ _ (left-taken (omega arith)) (pick-first Taken _ _ _ (rw q at good) (here-taken (omega arith) (rw q at good))))
+            (pick-both Taken _ _ _ (left-taken (omega arith))
+            (pick-first Taken _ _ _ (rw q at good) (here-taken (omega arith) (rw q at good))))
         go (right h q) =
             pick-both Taken _ _ _ (up-taken (omega arith))
             (pick-both Taken _ _ _ (left-taken (omega arith))

@@ -22,11 +22,18 @@ use Rattle.tables.specs.Step.{ChangedAt, Alone}
 use Rattle.tables.proofs.SetLaws.{set-cell, set-has, set-holds, set-same}
 
 -- Rows of different beats are apart.
-pub beat-apart : (t u r : ℕ) → (t ≡ u → ⊥) → r < 32 → (t * 36 + 1 + r < u * 36 + 1) ⊎ (u * 36 + 1 + 32 ≤ t * 36 + 1 + r)
-beat-apart t u r apart low = ⊎-elim (λ (l : t < u). inl (omega arith)) after (lt-or-le t u)
+pub beat-apart : (t u r n : ℕ) → (t ≡ u → ⊥) → r < 32 → n ≤ 32 → (t * 36 + 1 + r < u * 36 + 1) ⊎ (u * 36 + 1 + n ≤ t * 36 + 1 + r)
+beat-apart t u r n apart low few = ⊎-elim (λ (l : t < u). inl (omega arith)) after (lt-or-le t u)
   where
-    after : u ≤ t → (t * 36 + 1 + r < u * 36 + 1) ⊎ (u * 36 + 1 + 32 ≤ t * 36 + 1 + r)
+    after : u ≤ t → (t * 36 + 1 + r < u * 36 + 1) ⊎ (u * 36 + 1 + n ≤ t * 36 + 1 + r)
     after l = ⊎-elim (λ (h : u < t). inr (omega arith)) (λ (h : t ≤ u). absurd (apart (omega arith))) (lt-or-le u t)
+
+-- So are those that a step looks at and those that it writes.
+pub step-apart : (a b n : ℕ) → (a ≡ b → ⊥) → n ≤ 32 → (a * 36 + n + 2 ≤ b * 36 + 1) ⊎ (b * 36 + 1 + n ≤ a * 36)
+step-apart a b n apart few = ⊎-elim (λ (l : a < b). inl (omega arith)) after (lt-or-le a b)
+  where
+    after : b ≤ a → (a * 36 + n + 2 ≤ b * 36 + 1) ⊎ (b * 36 + 1 + n ≤ a * 36)
+    after l = ⊎-elim (λ (h : b < a). inr (omega arith)) (λ (h : a ≤ b). absurd (apart (omega arith))) (lt-or-le b a)
 
 module _ (g : Scene) (s p : List ℕ) (t c : ℕ) (grid : Grid g) (old : Tidy g s) (early : t < 64) (inside : c < g .cells)
     (wiped : Rewritten s (λ j. 0) (t * 36 + 1) 32 p) where
@@ -105,7 +112,7 @@ module _ (g : Scene) (s p : List ℕ) (t c : ℕ) (grid : Grid g) (old : Tidy g 
   unfolding end added at
   end-other u r n h =
       getD-set-other p (t * 36 + 1 + c / g .width) (u * 36 + 1 + r) _ 0 (λ e. n (omega (arith, row c inside)))
-      ∙ wiped .outside (u * 36 + 1 + r) (beat-apart u t r n h)
+      ∙ wiped .outside (u * 36 + 1 + r) (beat-apart u t r 32 n h (omega arith))
 
   end-changed : ChangedAt g s t end
   end-changed = record { tidy = end-tidy; other = λ u d n. set-same g s end u d (grid .thin) (grid .room) (λ r h. end-other u r n h) }
@@ -113,7 +120,11 @@ module _ (g : Scene) (s p : List ℕ) (t c : ℕ) (grid : Grid g) (old : Tidy g 
   -- The cell is in the set, and nothing else is.
   end-alone : Alone g end t c
   unfolding at
-  end-alone = record { says = says; holds = set-holds g end t c inside (end-has at (c % g .width) ∙ or-inr (has p at (c % g .width)) _ here) }
+  end-alone =
+      record {
+        says = says;
+        holds = set-holds g end t c inside (end-has at (c % g .width) ∙ or-inr (has p at (c % g .width)) _ here);
+      }
     where
       here : (eqb at at && eqb (c % g .width) (c % g .width)) ≡ true
       here = and-both (eq-eqb at at refl) (eq-eqb (c % g .width) (c % g .width) refl)

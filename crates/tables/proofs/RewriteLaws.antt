@@ -56,12 +56,12 @@ rewritten-more s q f i n x fits h e = record { long = length-set q (i + n) x ∙
     outside j (inr l) = getD-set-other q (i + n) j x 0 (λ u. omega arith) ∙ h .outside j (inr (omega arith))
 
 -- A row that a step brings from rows that stay as they are.
-pub narrowed-more : (s room q : List ℕ) (at to n x : ℕ) → (at + 34 ≤ to) ⊎ (to + 32 ≤ at) → n < 32 → to + 32 ≤ length s →
+pub narrowed-more : (s room q : List ℕ) (at to n m x : ℕ) → (at + m + 2 ≤ to) ⊎ (to + m ≤ at) → n < m → to + m ≤ length s →
     Rewritten s (narrowAt s room at to) to n q →
     x ≡ narrowRow (getD q (at + n) 0) (getD q (at + n + 1) 0) (getD q (at + n + 2) 0) (getD room (to + n) 0) →
     Rewritten s (narrowAt s room at to) to (n + 1) (set q (to + n) x)
 unfolding narrowAt
-narrowed-more s room q at to n x apart l fits h e =
+narrowed-more s room q at to n m x apart l fits h e =
     rewritten-more s q (narrowAt s room at to) to n x (omega arith) h
     (e ∙ rw (
       kept (at + n) (omega arith) (omega arith),
@@ -70,5 +70,6 @@ narrowed-more s room q at to n x apart l fits h e =
           (omega arith),
     ))
   where
-    kept : (j : ℕ) → at ≤ j → j < at + 34 → getD q j 0 ≡ getD s j 0
-    kept j u v = h .outside j (⊎-elim (λ (k : at + 34 ≤ to). inl (omega arith)) (λ (k : to + 32 ≤ at). inr (omega arith)) apart)
+    kept : (j : ℕ) → at ≤ j → j < at + m + 2 → getD q j 0 ≡ getD s j 0
+    kept j u v =
+        h .outside j (⊎-elim (λ (k : at + m + 2 ≤ to). inl (omega arith)) (λ (k : to + m ≤ at). inr (omega arith)) apart)

@@ -1,7 +1,7 @@
 -- One step of a whole set, from the rows that it writes to the cells of the two sets.
 use Prim.Native.Nat.{ℕ, _+_, _*_, _-_, _/_, _%_, _≤_, _<_}
 use native.Mathlib.Omega.{arith}
-use native.Mathlib.Nat.{mod-lt, div-add-mod'}
+use native.Mathlib.Nat.{mod-lt, div-add-mod', div-lt-iff-lt-mul}
 use mathlib.Core.Bool.{Bool, true, _&&_}
 use mathlib.Core.List.{List}
 use mathlib.Core.Logic.{_⊎_, inl, inr, ⊎-elim}
@@ -11,7 +11,6 @@ use Rattle.route.specs.Moves.{near}
 use Rattle.laws.proofs.Tests.{and-both, and-fst, and-snd, lt-or-le}
 use Rattle.words.specs.Words.{digit}
 use Rattle.words.specs.Rows.{has, narrowRow, narrowAt}
-use Rattle.words.proofs.RowsLaws.{place-row}
 use Rattle.words.proofs.StepLaws.{brought, narrow-digit, narrow-masked}
 use Rattle.tables.specs.declared.Scene.{Scene}
 use Rattle.tables.specs.Table.{Grid, Tidy, Rewritten, inSet}
@@ -20,17 +19,10 @@ use Rattle.tables.proofs.AloneLaws.{beat-apart}
 use Rattle.tables.proofs.BroughtLaws.{brought-says, brought-holds}
 use Rattle.tables.proofs.SetLaws.{set-cell, set-has, set-holds, set-same}
 
--- The rows that a step looks at are apart from those that it writes.
-pub step-apart : (a b : ℕ) → (a ≡ b → ⊥) → (a * 36 + 34 ≤ b * 36 + 1) ⊎ (b * 36 + 1 + 32 ≤ a * 36)
-step-apart a b apart = ⊎-elim (λ (l : a < b). inl (omega arith)) after (lt-or-le a b)
-  where
-    after : b ≤ a → (a * 36 + 34 ≤ b * 36 + 1) ⊎ (b * 36 + 1 + 32 ≤ a * 36)
-    after l = ⊎-elim (λ (h : b < a). inr (omega arith)) (λ (h : a ≤ b). absurd (apart (omega arith))) (lt-or-le b a)
-
-module _ (g : Scene) (room s q : List ℕ) (a b : ℕ) (grid : Grid g) (old : Tidy g s) (ground : Tidy g room) (apart : a ≡ b → ⊥)
-    (x : Rewritten s (narrowAt s room (a * 36) (b * 36 + 1)) (b * 36 + 1) 32 q) where
+module _ (g : Scene) (room s q : List ℕ) (a b n : ℕ) (grid : Grid g) (old : Tidy g s) (ground : Tidy g room) (apart : a ≡ b → ⊥)
+    (few : n ≤ 32) (tall : g .cells ≤ n * g .width) (x : Rewritten s (narrowAt s room (a * 36) (b * 36 + 1)) (b * 36 + 1) n q) where
   -- A row that the step writes.
-  row-new : (r : ℕ) → r < 32 → getD q (b * 36 + 1 + r) 0 ≡
+  row-new : (r : ℕ) → r < n → getD q (b * 36 + 1 + r) 0 ≡
       narrowRow (getD s (a * 36 + r) 0) (getD s (a * 36 + r + 1) 0) (getD s (a * 36 + r + 2) 0) (getD room (b * 36 + 1 + r) 0)
   unfolding narrowAt
   row-new r h = x .inside r h
@@ -40,15 +32,15 @@ module _ (g : Scene) (room s q : List ℕ) (a b : ℕ) (grid : Grid g) (old : Ti
   unfolding has
   either i k e = ⊎-elim (λ (h : i < b * 36 + 1). inl (rw (← x .outside i (inl h)) e)) after (lt-or-le i (b * 36 + 1))
     where
-      written : (r : ℕ) → r < 32 → i ≡ b * 36 + 1 + r → digit (getD room i 0) k ≡ true
+      written : (r : ℕ) → r < n → i ≡ b * 36 + 1 + r → digit (getD room i 0) k ≡ true
       written r h p =
           rw p
           (narrow-masked _ _ _ (getD room (b * 36 + 1 + r) 0) k (ap (λ (y : ℕ). digit y k) (sym (row-new r h)) ∙ rw p at e))
 
       after : b * 36 + 1 ≤ i → (digit (getD s i 0) k ≡ true) ⊎ (digit (getD room i 0) k ≡ true)
       after h =
-          ⊎-elim (λ (l : i < b * 36 + 1 + 32). inr (written (i - (b * 36 + 1)) (omega arith) (omega arith)))
-          (λ (l : b * 36 + 1 + 32 ≤ i). inl (rw (← x .outside i (inr l)) e)) (lt-or-le i (b * 36 + 1 + 32))
+          ⊎-elim (λ (l : i < b * 36 + 1 + n). inr (written (i - (b * 36 + 1)) (omega arith) (omega arith)))
+          (λ (l : b * 36 + 1 + n ≤ i). inl (rw (← x .outside i (inr l)) e)) (lt-or-le i (b * 36 + 1 + n))
 
   new-tidy : Tidy g q
   new-tidy =
@@ -65,7 +57,7 @@ module _ (g : Scene) (room s q : List ℕ) (a b : ℕ) (grid : Grid g) (old : Ti
       record {
         tidy = new-tidy;
         other = λ t c u. set-same g s q t c (grid .thin) (grid .room)
-            (λ r h. x .outside (t * 36 + 1 + r) (beat-apart t b r u h));
+            (λ r h. x .outside (t * 36 + 1 + r) (beat-apart t b r n u h few));
       }
 
   same : (c : ℕ) → inSet g q a c ≡ inSet g s a c
@@ -78,8 +70,8 @@ module _ (g : Scene) (room s q : List ℕ) (a b : ℕ) (grid : Grid g) (old : Ti
     column : d % g .width < g .width
     column = mod-lt d (grid .thin)
 
-    row : d / g .width < 32
-    row = place-row (g .width) d (grid .thin) (omega (arith, grid .room))
+    row : d / g .width < n
+    row = (div-lt-iff-lt-mul (grid .thin)) .1 (omega (arith, tall))
 
     -- The step brings something to the cell.
     abbrev come : Bool
@@ -97,14 +89,17 @@ module _ (g : Scene) (room s q : List ℕ) (a b : ℕ) (grid : Grid g) (old : Ti
     -- What the step brings is near a cell of the set that it comes from, and in the room.
     new-says : inSet g q b d ≡ true → (inSet g room b d ≡ true) × Beside g q a d
     unfolding has
-    new-says e = (set-holds g room b d inside (and-snd come (digit (getD room (b * 36 + 1 + d / g .width) 0) (d % g .width)) both), came (rw whole at from))
+    new-says e = (
+      set-holds g room b d inside (and-snd come (digit (getD room (b * 36 + 1 + d / g .width) 0) (d % g .width)) both),
+      came (rw whole at from),
+    )
       where
         both : (come && digit (getD room (b * 36 + 1 + d / g .width) 0) (d % g .width)) ≡ true
         both = sym new-digit ∙ set-has g q b d e
 
         from : (c : ℕ) × (inSet g s a c ≡ true) × (near (g .width) c (d / g .width * g .width + d % g .width) ≡ true)
         from =
-            brought-says g s a (d / g .width) (d % g .width) old (grid .thin) row column
+            brought-says g s a (d / g .width) (d % g .width) old (grid .thin) (omega (arith, row, few)) column
             (and-fst come (digit (getD room (b * 36 + 1 + d / g .width) 0) (d % g .width)) both)
 
         came : (c : ℕ) × (inSet g s a c ≡ true) × (near (g .width) c d ≡ true) → Beside g q a d
@@ -116,7 +111,7 @@ module _ (g : Scene) (room s q : List ℕ) (a b : ℕ) (grid : Grid g) (old : Ti
         set-holds g q b d inside
         (new-digit
         ∙ and-both
-        (brought-holds g s a (d / g .width) (d % g .width) old (grid .thin) row column c (sym (same c) ∙ e)
+        (brought-holds g s a (d / g .width) (d % g .width) old (grid .thin) (omega (arith, row, few)) column c (sym (same c) ∙ e)
         (rw whole h))
         (set-has g room b d i))
 

@@ -10,15 +10,15 @@ use crate::Scene;
 use crate::table::ROWS;
 use crate::table::STRIDE;
 
-// What a step brings to the rows of the room from row `to` on, written there; the rows that it comes from begin at row `at`, one before
-// the first. All rows of the largest grid are looked at: a number that the compiler knows, in words of four rows.
-fn step_rows(sets: &mut [u32], room: &[u32], at: usize, to: usize)
-    requires { ⌜ (length (now sets) ≡ 2304) × (length (now room) ≡ 2304) × (at + 34 ≤ 2304) × (to + 32 ≤ 2304) ⌝ }
-    requires { ⌜ ((at + 34 ≤ to) ⊎ (to + 32 ≤ at)) ⌝ }
-    ensures { λ r. ⌜ Rewritten (now (sets .entry)) (narrowAt (now (sets .entry)) (now (room .entry)) at to) to 32 (now (sets .exit)) ⌝ }
+// What a step brings to n rows of the room from row `to` on, written there; the rows that it comes from begin at row `at`, one before
+// the first of the n.
+fn step_rows(sets: &mut [u32], room: &[u32], at: usize, to: usize, n: usize)
+    requires { ⌜ (length (now sets) ≡ 2304) × (length (now room) ≡ 2304) × (at + n + 2 ≤ 2304) × (to + n ≤ 2304) ⌝ }
+    requires { ⌜ ((at + n + 2 ≤ to) ⊎ (to + n ≤ at)) ⌝ }
+    ensures { λ r. ⌜ Rewritten (now (sets .entry)) (narrowAt (now (sets .entry)) (now (room .entry)) at to) to n (now (sets .exit)) ⌝ }
 {
     let mut r: usize = 0;
-    while r < ROWS {
+    while r < n {
         sets[to + r] = words::narrow_row(
             sets[at + r],
             sets[at + r + 1],
@@ -29,11 +29,16 @@ fn step_rows(sets: &mut [u32], room: &[u32], at: usize, to: usize)
     }
 }
 
-// The set of beat b becomes the cells of the room then that are near a cell of the set of beat a.
+// The set of beat b becomes the cells of the room then that are near a cell of the set of beat a. The rows of the grid are among the
+// first eight or all, numbers that the compiler knows.
 pub fn step(g: Scene, sets: &mut [u32], room: &[u32], a: usize, b: usize)
     requires { ⌜ Grid g × Tidy g (now sets) × Tidy g (now room) × (a < 64) × (b < 64) × (a ≡ b → ⊥) ⌝ }
     ensures only { λ r. ⌜ ChangedAt g (now (sets .entry)) b (now (sets .exit)) ⌝ }
     ensures spreads { λ r. ⌜ Spread g (now (room .entry)) (now (sets .exit)) a b ⌝ }
 {
-    step_rows(sets, room, a * STRIDE, b * STRIDE + 1);
+    if g.cells <= 8 * g.width {
+        step_rows(sets, room, a * STRIDE, b * STRIDE + 1, 8);
+        return;
+    }
+    step_rows(sets, room, a * STRIDE, b * STRIDE + 1, ROWS);
 }

@@ -73,7 +73,8 @@ returns-3 c =
     let r = f .0 (start .args .g .horizon) (omega arith) (omega arith) in (
       r .tidy,
       λ free vs h. says-same (c .none3 .ensures) (ap answered (sym
-          (never _ _ _ _ free vs h (p .0 .1) (p .0 .0 .thin) _ _ (omega arith) r _ (after-hold-from .hold-from .ensures) _ (omega arith) (f .1) l))),
+          (never _ _ _ _ free vs h (p .0 .1) (p .0 .0 .thin) _ _ (omega arith) r _ (after-hold-from .hold-from .ensures) _ (omega arith)
+          (f .1) l))),
     )
 
 backward-requires : tie.Need-backward-requires

@@ -11,10 +11,10 @@ use Rattle.tables.proofs.step.step_rows.Statement.{statement}
 use Rattle.tables.proofs.step.step_rows.Tie as tie
 
 abbrev Inv-loop : tie.InvT-loop
-Inv-loop sets₀ room at to r₀ sets r = (r ≤ 32) × Rewritten sets₀ (narrowAt sets₀ room at to) to r sets
+Inv-loop sets₀ room at to n r₀ sets r = (r ≤ n) × Rewritten sets₀ (narrowAt sets₀ room at to) to r sets
 
 abbrev μ-loop : tie.MeasureT-loop
-μ-loop sets₀ room at to r₀ sets r = 32 - r
+μ-loop sets₀ room at to n r₀ sets r = n - r
 
 loop-holds : tie.Need-loop-holds Inv-loop μ-loop
 loop-holds c = (search needs, rewritten-none _ _ _)
@@ -25,7 +25,7 @@ loop-again c =
     let start : tie.Start Inv-loop μ-loop = search in
     let h = at-loop .loop .inv .1 in (
       search needs,
-      narrowed-more _ _ _ _ _ _ _ (start .pre .1) (omega arith) (omega arith) h (c .narrow-row .ensures),
+      narrowed-more _ _ _ _ _ _ _ _ (start .pre .1) (omega arith) (omega arith) h (c .narrow-row .ensures),
     )
 
 same-length : tie.Need-same-length Inv-loop μ-loop
@@ -33,7 +33,8 @@ same-length c = c .before .loop .inv .1 .long
 
 returns : tie.Need-returns Inv-loop μ-loop
 returns c =
-    let e : c .before .loop .r ≡ 32 = omega arith in
+    let start : tie.Start Inv-loop μ-loop = search in
+    let e : c .before .loop .r ≡ start .args .n = omega arith in
     rw e at (c .before .loop .inv .1)
 
 pub step-rows-spec : {M : Type 1} → statement M
