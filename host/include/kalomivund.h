@@ -83,6 +83,7 @@ extern "C" {
 #define KALOMIVUND_FREE 0      /* conflict: there is none */
 #define KALOMIVUND_SAME_CELL 1 /* conflict: both routes are in one cell at the beat */
 #define KALOMIVUND_CHANGE_OF_PLACES 2 /* conflict: the routes change places between the beat and the next */
+#define KALOMIVUND_FOLLOWING 3 /* conflict: one route enters, between the beat and the next, the cell that the other leaves */
 
 /* Steps by their numbers; every other number names no step. A carrier outside 1 to 9 gives 0, which names none, so that no carrier
  * number can be taken for another step. Arguments are evaluated more than once. */
@@ -217,10 +218,10 @@ uint64_t kalomivund_trial(const uint16_t *floor, size_t floor_len, const uint16_
 uint64_t kalomivund_run_of_rank(const uint16_t *floor, size_t floor_len, const uint16_t *walls, size_t walls_len, uint64_t rank,
                                 uint16_t *report, size_t report_len);
 
-/* The first conflict of two routes over beats 0 to horizon; at one beat same cell comes before change of places. A horizon above 63
- * counts as 63. Writes nothing.
+/* The first conflict of two routes over beats 0 to horizon; at one beat same cell comes before change of places, and this before
+ * following. A horizon above 63 counts as 63. Writes nothing.
  * Takes   a and b, 64 cells each, any numbers, jumps and cells outside every grid included; numbers past 64 are not looked at.
- * Done    case 0 free, number 0; case 1 same cell, number the beat; case 2 change of places, number the beat before it.
+ * Done    case 0 free, number 0; case 1 same cell, number the beat; case 2 change of places, case 3 following, number the beat before it.
  * Refused 9 (a or b shorter than 64). */
 uint64_t kalomivund_conflict(const uint16_t *a, size_t a_len, const uint16_t *b, size_t b_len, uint16_t horizon);
 

@@ -1,6 +1,7 @@
 //! Space-time A* as textbooks have it, three times: with hash tables, with flat arrays, and with flat arrays to the paper's best route.
 //! States are (beat, cell), a move or a wait costs one beat, the heuristic is the distance without walls, and a reservation table holds
-//! the cells and the moves of the carriers above. The goal is taken at the first beat from which it stays free.
+//! the cells of the carriers above: a cell is not entered where one of them is then or was the beat before, nor left where one comes in.
+//! The goal is taken at the first beat from which it stays free.
 
 use crate::paper::{Floor, Route};
 use std::cmp::Reverse;
@@ -25,20 +26,16 @@ fn distance(floor: &Floor, c: usize, d: usize) -> usize {
 pub struct Hashed {
     walls: HashSet<usize>,
     cells: HashSet<(usize, usize)>,
-    moves: HashSet<(usize, usize, usize)>,
 }
 
 impl Hashed {
     pub fn new(floor: &Floor) -> Hashed {
-        Hashed { walls: floor.walls.iter().copied().collect(), cells: HashSet::new(), moves: HashSet::new() }
+        Hashed { walls: floor.walls.iter().copied().collect(), cells: HashSet::new() }
     }
 
     pub fn reserve(&mut self, floor: &Floor, route: &[u16]) {
         for t in 0..=floor.horizon {
             self.cells.insert((t, route[t] as usize));
-            if t < floor.horizon {
-                self.moves.insert((t, route[t] as usize, route[t + 1] as usize));
-            }
         }
     }
 
@@ -65,7 +62,8 @@ impl Hashed {
                 continue;
             }
             for d in beside(floor, c) {
-                let blocked = self.walls.contains(&d) || self.cells.contains(&(t + 1, d)) || self.moves.contains(&(t, d, c));
+                let taken = |beat: usize, cell: usize| self.cells.contains(&(beat, cell));
+                let blocked = self.walls.contains(&d) || taken(t + 1, d) || d != c && (taken(t, d) || taken(t + 1, c));
                 let last = t + 1 + distance(floor, d, goal);
                 if !blocked && last <= h && !closed.contains(&(t + 1, d)) && !parent.contains_key(&(t + 1, d)) {
                     parent.insert((t + 1, d), c);
@@ -80,8 +78,8 @@ impl Hashed {
 /// The same with flat arrays, kept from search to search.
 pub struct Flat {
     wall: Vec<bool>,
-    /// Which carrier is in a cell at a beat, from 1; 0 nobody.
-    who: Vec<u8>,
+    /// Whether a carrier is in a cell at a beat.
+    taken: Vec<bool>,
     /// The search that last saw a state, and the way by which it came there.
     seen: Vec<u32>,
     parent: Vec<u16>,
@@ -100,7 +98,7 @@ impl Flat {
         let states = 64 * floor.cells();
         Flat {
             wall,
-            who: vec![0; states],
+            taken: vec![false; states],
             seen: vec![0; states],
             parent: vec![0; states],
             leads: vec![0; states],
@@ -110,21 +108,21 @@ impl Flat {
         }
     }
 
-    pub fn reserve(&mut self, floor: &Floor, carrier: usize, route: &[u16]) {
+    pub fn reserve(&mut self, floor: &Floor, route: &[u16]) {
         for t in 0..=floor.horizon {
-            self.who[t * floor.cells() + route[t] as usize] = carrier as u8 + 1;
+            self.taken[t * floor.cells() + route[t] as usize] = true;
         }
     }
 
     fn free(&self, cells: usize, t: usize, c: usize, d: usize) -> bool {
-        let comes = self.who[(t + 1) * cells + c];
-        !self.wall[d] && self.who[(t + 1) * cells + d] == 0 && (comes == 0 || self.who[t * cells + d] != comes)
+        let taken = |beat: usize, cell: usize| self.taken[beat * cells + cell];
+        !self.wall[d] && !taken(t + 1, d) && (d == c || !taken(t, d) && !taken(t + 1, c))
     }
 
     fn held(&self, floor: &Floor, start: usize, goal: usize) -> Option<usize> {
         let cells = floor.cells();
-        let held = (0..=floor.horizon).rev().take_while(|&t| self.who[t * cells + goal] == 0).last()?;
-        (self.who[start] == 0).then_some(held)
+        let held = (0..=floor.horizon).rev().take_while(|&t| !self.taken[t * cells + goal]).last()?;
+        (!self.taken[start]).then_some(held)
     }
 
     /// Puts on the open list, once each, the states after (t, c) from which the goal can still be reached by the horizon. The way back is

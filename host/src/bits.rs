@@ -1,7 +1,7 @@
 //! The competitor: a bit-parallel sequential planner in Rust, a word a row, written for speed and without any check.
 //! Forward sets of cells from the start give the least arrival; going back from there each set keeps the cells that still lead to the
-//! goal; the route takes the smallest of them, beat for beat. What is free at each beat is kept as rows for the whole plan, so that a
-//! planned route is taken out of it once; a swap is an exception, tested for each carrier above and beat.
+//! goal; the route takes the smallest of them, beat for beat. What is open at each beat is kept as rows for the whole plan, so that a
+//! planned route is taken out of it once, each of its cells at its beat and the beats beside it; no move needs a test.
 
 use crate::paper::Floor;
 
@@ -15,15 +15,10 @@ pub struct Planner {
     carriers: usize,
     starts: [u16; 8],
     goals: [u16; 8],
-    /// No wall and no carrier above, by beat.
+    /// No wall, and no carrier above at that beat or beside it, by beat.
     open: [Rows; 64],
     /// Forward sets, and then in their place the sets that lead to the goal.
     sets: [Rows; 64],
-    /// Row (counted from 1) and bit of each planned carrier, by beat.
-    row: [[u8; 8]; 64],
-    bit: [[u32; 8]; 64],
-    /// Carriers above that have a route.
-    above: usize,
 }
 
 /// A block of eight rows after one beat, where nothing is in the way but what is not open.
@@ -42,13 +37,6 @@ fn block_of(rows: &Rows, block: usize) -> &[u32; 8] {
 #[inline(always)]
 fn block_mut(rows: &mut Rows, block: usize) -> &mut [u32; 8] {
     (&mut rows[8 * block + 1..8 * block + 9]).try_into().unwrap()
-}
-
-/// Whether a cell has a neighbour in the set other than one, which a carrier above would change places with it.
-#[inline(always)]
-fn joined(set: &Rows, row: usize, bit: u32, but_row: usize, but_bit: u32) -> bool {
-    let without = |r: usize| if r == but_row { set[r] & !but_bit } else { set[r] };
-    without(row) & (bit << 1 | bit | bit >> 1) | (without(row - 1) | without(row + 1)) & bit != 0
 }
 
 impl Planner {
@@ -81,26 +69,12 @@ impl Planner {
             goals,
             open: [free; 64],
             sets: [[0; 34]; 64],
-            row: [[0; 8]; 64],
-            bit: [[0; 8]; 64],
-            above: 0,
         }
-    }
-
-    /// Whether a carrier above goes from (row, bit) at beat t to (to_row, to_bit) at t + 1.
-    #[inline(always)]
-    fn goes(&self, t: usize, row: usize, bit: u32, to_row: usize, to_bit: u32) -> bool {
-        (0..self.above).any(|j| {
-            self.bit[t][j] == bit
-                && self.row[t][j] as usize == row
-                && self.bit[t + 1][j] == to_bit
-                && self.row[t + 1][j] as usize == to_row
-        })
     }
 
     /// The best route of a carrier against those above it, and its arrival.
     pub fn search(&mut self, carrier: usize, route: &mut [u16]) -> Option<usize> {
-        let (w, h, blocks, k) = (self.width, self.horizon, self.blocks, self.above);
+        let (w, h, blocks) = (self.width, self.horizon, self.blocks);
         let start = self.starts[carrier] as usize;
         let goal = self.goals[carrier] as usize;
         let (start_row, start_bit) = (start / w + 1, 1u32 << (start % w));
@@ -128,17 +102,6 @@ impl Planner {
             for b in 0..blocks {
                 *block_mut(next, b) = spread(now, block_of(&self.open[t + 1], b), b);
             }
-            let (to, to_bit, from, from_bit) = (&self.row[t + 1], &self.bit[t + 1], &self.row[t], &self.bit[t]);
-            for j in 0..k {
-                // Somebody may be where carrier j goes; then the cell that j leaves is not entered from there.
-                let (row, bit) = (to[j] as usize, to_bit[j]);
-                if now[row] & bit != 0 {
-                    let (left, left_bit) = (from[j] as usize, from_bit[j]);
-                    if !joined(now, left, left_bit, row, bit) {
-                        next[left] &= !left_bit;
-                    }
-                }
-            }
             t += 1;
         }
         let arrival = t;
@@ -150,16 +113,6 @@ impl Planner {
             for b in 0..blocks {
                 let rows = block_mut(now, b);
                 *rows = spread(next, rows, b);
-            }
-            let (to, to_bit, from, from_bit) = (&self.row[t + 1], &self.bit[t + 1], &self.row[t], &self.bit[t]);
-            for j in 0..k {
-                let (row, bit) = (to[j] as usize, to_bit[j]);
-                if now[row] & bit != 0 {
-                    let (left, left_bit) = (from[j] as usize, from_bit[j]);
-                    if !joined(next, row, bit, left, left_bit) {
-                        now[row] &= !bit;
-                    }
-                }
             }
         }
         self.walk(start, arrival, route);
@@ -176,14 +129,7 @@ impl Planner {
             let set = &self.sets[t + 1];
             let level = set[row] & (bit >> 1 | bit | bit << 1);
             let side = level & level.wrapping_neg();
-            // Only where somebody comes in can there be a swap.
-            if self.open[t + 1][row] & bit == 0 {
-                let candidates = [(row - 1, bit, cell.wrapping_sub(w)), (row, bit >> 1, cell.wrapping_sub(1)), (row, bit, cell)];
-                let rest = [(row, bit << 1, cell + 1), (row + 1, bit, cell + w)];
-                let ways = candidates.iter().chain(&rest);
-                let way = ways.copied().find(|&(r, b, _)| set[r] & b != 0 && !self.goes(t, r, b, row, bit));
-                (row, bit, cell) = way.expect("a cell that leads on");
-            } else if set[row - 1] & bit != 0 {
+            if set[row - 1] & bit != 0 {
                 (row, cell) = (row - 1, cell - w);
             } else if side != 0 {
                 cell = cell + side.trailing_zeros() as usize - bit.trailing_zeros() as usize;
@@ -195,12 +141,11 @@ impl Planner {
         }
     }
 
-    /// Takes a carrier's route out of what is open.
+    /// Takes a carrier's route out of what is open: each cell at its beat and at those beside it, from 0 to the horizon.
     fn reserve(&mut self, route: &[u16]) {
-        let j = self.above;
-        let w = self.width;
+        let (w, h) = (self.width, self.horizon);
         let (mut row, mut column, mut cell) = (route[0] as usize / w + 1, route[0] as usize % w, route[0] as usize);
-        for t in 0..=self.horizon {
+        for t in 0..=h {
             let next = route[t] as usize;
             // One beat goes one cell at most.
             if next == cell + w && next != cell + 1 || w == 1 && next > cell {
@@ -211,11 +156,11 @@ impl Planner {
                 column = (column + next) - cell;
             }
             cell = next;
-            self.row[t][j] = row as u8;
-            self.bit[t][j] = 1 << column;
-            self.open[t][row] &= !(1 << column);
+            let others = !(1 << column);
+            self.open[t.saturating_sub(1)][row] &= others;
+            self.open[t][row] &= others;
+            self.open[(t + 1).min(h)][row] &= others;
         }
-        self.above += 1;
     }
 
     /// The sequential plan: answers as 65 numbers a carrier, one with none staying at its start; the failing carrier.

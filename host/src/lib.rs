@@ -178,6 +178,8 @@ pub enum Conflict {
     SameCell(usize),
     /// They change places between this beat and the next.
     ChangeOfPlaces(usize),
+    /// One enters, between this beat and the next, the cell that the other leaves.
+    Following(usize),
 }
 
 /// Whether a carrier number has a digit of its own in a step's number.
@@ -295,11 +297,12 @@ pub fn run_of_rank(floor: &Floor, walls: &[u16], rank: u64, report: &mut [u16]) 
 }
 
 /// The first conflict of two routes over beats 0 to the horizon, one above 63 counting as 63; `None` if they are free. At one beat same
-/// cell comes before change of places. Any 64 numbers are taken as they stand.
+/// cell comes before change of places, and this before following. Any 64 numbers are taken as they stand.
 pub fn conflict(a: &Route, b: &Route, horizon: u16) -> Option<Conflict> {
     match answer_of(calls::conflict(a, b, horizon)) {
         Ok((1, beat)) => Some(Conflict::SameCell(beat as usize)),
         Ok((2, beat)) => Some(Conflict::ChangeOfPlaces(beat as usize)),
+        Ok((3, beat)) => Some(Conflict::Following(beat as usize)),
         _ => None,
     }
 }

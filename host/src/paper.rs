@@ -244,6 +244,26 @@ pub fn arrival_of(route: &Route, goal: usize, horizon: usize) -> usize {
     arrival
 }
 
+/// Two moves, each from a cell to a cell between the same two beats, that change places.
+fn change_places(a: (usize, usize), b: (usize, usize)) -> bool {
+    a.0 == b.1 && a.1 == b.0
+}
+
+/// The first move enters a cell in the beat in which the second leaves it (document 02, slip 9).
+fn enters_left(a: (usize, usize), b: (usize, usize)) -> bool {
+    let enters = a.0 != a.1;
+    let leaves = b.0 != b.1;
+    enters && leaves && a.1 == b.0
+}
+
+fn follow(a: (usize, usize), b: (usize, usize)) -> bool {
+    enters_left(a, b) || enters_left(b, a)
+}
+
+fn moves_conflict(a: (usize, usize), b: (usize, usize)) -> bool {
+    change_places(a, b) || follow(a, b)
+}
+
 /// The best route from a start to a goal against a set of routes.
 ///
 /// `reached[t][c]`: some legal path from the start is in c at beat t. The arrival is the least beat at which the goal is reached and
@@ -264,7 +284,8 @@ pub fn best_route(floor: &Floor, start: usize, goal: usize, against: &[Route]) -
             }
         }
     }
-    let swaps = |t: usize, c: usize, d: usize| against.iter().any(|r| r[t] as usize == d && r[t + 1] as usize == c);
+    // Going from c at beat t to d at the next is a conflict with a route: they change places, or one enters what the other leaves.
+    let barred = |t: usize, c: usize, d: usize| against.iter().any(|r| moves_conflict((c, d), (r[t] as usize, r[t + 1] as usize)));
     // The cells to which one may stay or go from c, by rising cell number.
     let beside: Vec<Vec<usize>> = (0..cells)
         .map(|c| {
@@ -292,7 +313,7 @@ pub fn best_route(floor: &Floor, start: usize, goal: usize, against: &[Route]) -
         for c in 0..cells {
             if reached[t][c] {
                 for &d in &beside[c] {
-                    if free[t + 1][d] && !swaps(t, c, d) {
+                    if free[t + 1][d] && !barred(t, c, d) {
                         reached[t + 1][d] = true;
                     }
                 }
@@ -306,14 +327,14 @@ pub fn best_route(floor: &Floor, start: usize, goal: usize, against: &[Route]) -
     leads[arrival][goal] = true;
     for t in (0..arrival).rev() {
         for c in 0..cells {
-            leads[t][c] = free[t][c] && beside[c].iter().any(|&d| leads[t + 1][d] && !swaps(t, c, d));
+            leads[t][c] = free[t][c] && beside[c].iter().any(|&d| leads[t + 1][d] && !barred(t, c, d));
         }
     }
     let mut route = [0; 64];
     let mut c = start;
     route[0] = c as u16;
     for t in 0..arrival {
-        c = *beside[c].iter().find(|&&d| leads[t + 1][d] && !swaps(t, c, d)).expect("a reached goal is led to");
+        c = *beside[c].iter().find(|&&d| leads[t + 1][d] && !barred(t, c, d)).expect("a reached goal is led to");
         route[t + 1] = c as u16;
     }
     for t in arrival..=horizon {
@@ -327,13 +348,17 @@ pub fn best_route(floor: &Floor, start: usize, goal: usize, against: &[Route]) -
 pub enum Kind {
     SameCell,
     ChangeOfPlaces,
+    Following,
 }
 
-/// The first conflict of two routes over beats 0 to the horizon (document 02, slip 7): the least of all that there are, by beat and kind.
+/// The first conflict of two routes over beats 0 to the horizon (document 02, slips 7 and 9): the least of all that there are, by beat and
+/// kind.
 pub fn first_conflict(a: &[u16], b: &[u16], horizon: usize) -> Option<(usize, Kind)> {
     let same = (0..=horizon).filter(|&t| a[t] == b[t]).map(|t| (t, Kind::SameCell));
-    let change = (0..horizon).filter(|&t| a[t] == b[t + 1] && a[t + 1] == b[t]).map(|t| (t, Kind::ChangeOfPlaces));
-    same.chain(change).min()
+    let moves = |t: usize| ((a[t] as usize, a[t + 1] as usize), (b[t] as usize, b[t + 1] as usize));
+    let change = (0..horizon).filter(|&t| change_places(moves(t).0, moves(t).1)).map(|t| (t, Kind::ChangeOfPlaces));
+    let following = (0..horizon).filter(|&t| follow(moves(t).0, moves(t).1)).map(|t| (t, Kind::Following));
+    same.chain(change).chain(following).min()
 }
 
 /// Where a carrier (from 0) is for those below it, by its answer: on its route, or at its start at every beat if it has none.
@@ -435,6 +460,7 @@ pub fn print_meeting(text: &[u8], i: u64, j: u64) -> String {
         None => return "free\n".into(),
         Some((beat, Kind::SameCell)) => (format!("same cell at beat {beat}\n"), beat),
         Some((beat, Kind::ChangeOfPlaces)) => (format!("change of places after beat {beat}\n"), beat),
+        Some((beat, Kind::Following)) => (format!("following after beat {beat}\n"), beat),
     };
     for row in 0..floor.height {
         for column in 0..floor.width {
@@ -1110,6 +1136,7 @@ pub mod calls {
                 None => done(0, 0),
                 Some((beat, Kind::SameCell)) => done(1, beat),
                 Some((beat, Kind::ChangeOfPlaces)) => done(2, beat),
+                Some((beat, Kind::Following)) => done(3, beat),
             })
         })())
     }

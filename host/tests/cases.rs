@@ -431,6 +431,7 @@ impl Desk {
             None => "free".into(),
             Some((beat, Kind::SameCell)) => format!("same cell at beat {beat}"),
             Some((beat, Kind::ChangeOfPlaces)) => format!("change of places after beat {beat}"),
+            Some((beat, Kind::Following)) => format!("following after beat {beat}"),
         }
     }
 

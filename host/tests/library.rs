@@ -196,7 +196,8 @@ fn every_run_of_two_carriers() {
     assert!(report.iter().chain(&wide).all(|&left| left == 7));
 }
 
-/// The first conflict of two routes: the beat, and the kind; at one beat same cell first; the horizon's own beat counts, the next does not.
+/// The first conflict of two routes: the beat, and the kind; at one beat same cell first, following last; the horizon's own beat counts,
+/// the next does not.
 #[test]
 fn conflicts_of_two_routes() {
     let route = |cells: &[u16]| {
@@ -211,7 +212,11 @@ fn conflicts_of_two_routes() {
     assert_eq!(first(&[5, 5, 0], &[5, 5, 1], 2), Some(Conflict::SameCell(0)));
     assert_eq!(first(&[0, 1, 7], &[3, 4, 7], 2), Some(Conflict::SameCell(2)));
     assert_eq!(first(&[0, 1, 7], &[3, 4, 7], 1), None);
-    assert_eq!(first(&[0, 1, 2], &[1, 2, 3], 2), None);
+    assert_eq!(first(&[0, 1, 2], &[1, 2, 3], 2), Some(Conflict::Following(0)));
+    assert_eq!(first(&[1, 1, 2], &[0, 0, 1], 2), Some(Conflict::Following(1)));
+    assert_eq!(first(&[1, 1, 2], &[0, 0, 1], 1), None);
+    assert_eq!(first(&[0, 1, 1], &[1, 1, 1], 2), Some(Conflict::SameCell(1)));
+    assert_eq!(first(&[0, 0, 1], &[1, 2, 2], 2), None);
     let (mut a, b) = ([7; 64], [8; 64]);
     assert_eq!(conflict(&a, &b, u16::MAX), None);
     a[63] = 8;

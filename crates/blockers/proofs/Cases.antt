@@ -9,7 +9,7 @@ use Rattle.floor.specs.Checks.{within, limitsOf, lentOf, roomOf, startOf, goalO
 use Rattle.floor.specs.Checks.{inGrid, carrierInGrid, carriersOf, wallsOf, risingOf, among, rises}
 use Rattle.floor.specs.Checks.{clearOfWalls, clearOf, unshared, distinctOf, placesOf, checkOf}
 use Rattle.route.specs.Route.{cellAt, Answer, View, heard}
-use Rattle.route.specs.Moves.{neighbours, near, vacant, passable, every, standable, allowed, startClear}
+use Rattle.route.specs.Moves.{neighbours, near, vacant, every, standable, allowed, startClear}
 use Rattle.route.specs.Search.{cost, cheaper, cheapest, beatsFrom, val, walk, walkFrom, best}
 use Rattle.route.specs.Sequential.{sequential}
 use Rattle.records.specs.Seen.{parked, seenAs, seenFrom, seen}
@@ -78,7 +78,7 @@ cases : Cases
 unfolding blockersOutcome blockersVerdict carrierVerdict isNone answerAt planVerdict _gives_ checkOf limitsOf lentOf roomOf placesOf
     carriersOf wallsOf risingOf rises clearOf distinctOf within demand _then_ demandEach inTurn inGrid carrierInGrid startOf goalOf
     clearOfWalls among unshared taskOf respondOf planOf sequential blockersOf above leftAfter tried ifNone without setOf inOrder seenAs
-    seenFrom seen parked cellAt neighbours near vacant passable every standable allowed startClear cost cheaper cheapest beatsFrom val
+    seenFrom seen parked cellAt neighbours near vacant every standable allowed startClear cost cheaper cheapest beatsFrom val
     walk walkFrom best
 cases =
     record {

@@ -69,8 +69,8 @@ fn tried(s: &[u8], desk: &[u16], m: &mut [u16]) -> usize {
     }
 }
 
-// Commands that look at lent memory: memory, another planner, vertex and swap conflicts of each pair, Vertex or swap conflict that is a
-// pair's first, Search for a carrier.
+// Commands that look at lent memory: memory, another planner, vertex, swap and following conflicts of each pair, Vertex, swap or following
+// conflict that is a pair's first, Search for a carrier.
 fn looked(s: &[u8], desk: &[u16], m: &[u16]) -> usize {
     match byte(s, 0) {
         b'm' => states::memory(s, m),

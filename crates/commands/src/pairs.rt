@@ -32,12 +32,19 @@ fn has_route(m: &[u16], i: usize) -> bool {
     look::at(m, place_of(i)) == 2
 }
 
-// The number of a conflict, as the second planner counts: 0 for none, 1 + 2 t for the same cell at beat t, 2 + 2 t for a change of places.
+// Three times a beat and a kind.
+fn numbered(t: usize, kind: usize) -> usize {
+    look::plus(look::plus(look::plus(t, t), t), kind)
+}
+
+// The number of a conflict, as the second planner counts: 0 for none, 1 + 3 t for the same cell at beat t, 2 + 3 t for a change of places,
+// 3 + 3 t for a following.
 fn number_of(found: FirstConflict) -> usize {
     match found {
         FirstConflict::Free => 0,
-        FirstConflict::SameCell(t) => look::plus(look::plus(t, t), 1),
-        FirstConflict::ChangeOfPlaces(t) => look::plus(look::plus(t, t), 2),
+        FirstConflict::SameCell(t) => numbered(t, 1),
+        FirstConflict::ChangeOfPlaces(t) => numbered(t, 2),
+        FirstConflict::Following(t) => numbered(t, 3),
     }
 }
 
@@ -87,7 +94,8 @@ pub fn are_free(desk: &[u16], m: &[u16]) -> bool {
     look::plus(count(desk, m, CONFLICT), count(desk, m, ODD)) == 0
 }
 
-// vertex and swap conflicts of each pair: how many pairs of routes there are and how many of them are in conflict, where both tests agree.
+// vertex, swap and following conflicts of each pair: how many pairs of routes there are and how many of them are in conflict, where both
+// tests agree.
 pub fn say(desk: &[u16], m: &[u16]) -> usize {
     let conflicts = count(desk, m, CONFLICT);
     show::text(b" pairs");
@@ -97,20 +105,27 @@ pub fn say(desk: &[u16], m: &[u16]) -> usize {
     answers::only_if(count(desk, m, ODD) == 0, answers::answer(answers::SHOWN, 0))
 }
 
+// A kind of conflict as words, by its number's rest by 3.
+fn show_kind(kind: usize) {
+    if kind == 1 {
+        return show::text(b" same cell at beat");
+    }
+    if kind == 2 {
+        return show::text(b" change of places after beat");
+    }
+    show::text(b" following after beat")
+}
+
 // The first conflict as words: its kind and its beat.
 fn show_first(first: usize) {
     if first == 0 {
         return show::text(b" free");
     }
-    if first % 2 == 1 {
-        show::text(b" same cell at beat");
-        return show::number(first / 2);
-    }
-    show::text(b" change of places after beat");
-    show::number((first - 1) / 2)
+    show_kind(first % 3);
+    show::number((first - 1) / 3)
 }
 
-// Vertex or swap conflict that is the first of two carriers that have routes, where both tests agree.
+// Vertex, swap or following conflict that is the first of two carriers that have routes, where both tests agree.
 pub fn say_first(s: &[u8], desk: &[u16], m: &[u16]) -> usize {
     let i = look::plus(field(s, 0), 7);
     let j = look::plus(field(s, 1), 7);

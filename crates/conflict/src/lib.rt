@@ -1,4 +1,4 @@
-// The conflict test of two lent routes as an entry (document 02, slip 7): the first conflict with its beat and its kind, or free.
+// The conflict test of two lent routes as an entry (document 02, slips 7 and 9): the first conflict with its beat and its kind, or free.
 ghost use mathlib.Core.Path.{_≡_};
 ghost use Rattle.laws.specs.Verdict.{value, refusal};
 ghost use Rattle.route.specs.ConflictTest.{conflictTold};
@@ -15,6 +15,8 @@ pub enum Compared {
     SameCell(usize),
     // They change places between this beat and the next.
     ChangeOfPlaces(usize),
+    // One enters, between this beat and the next, the cell that the other leaves.
+    Following(usize),
     // Turned away.
     Refused(Refusal),
 }
@@ -27,6 +29,7 @@ fn told(found: FirstConflict) -> Compared
         FirstConflict::Free => Compared::Free,
         FirstConflict::SameCell(t) => Compared::SameCell(t),
         FirstConflict::ChangeOfPlaces(t) => Compared::ChangeOfPlaces(t),
+        FirstConflict::Following(t) => Compared::Following(t),
     }
 }
 

@@ -7,7 +7,7 @@ use Rattle.laws.specs.Verdict.{passed, refused, _then_, demand, inTurn, demandE
 use Rattle.floor.specs.Checks.{within, limitsOf, roomOf, lentOf, startOf, goalOf, inGrid, carrierInGrid, carriersOf, wallsOf}
 use Rattle.floor.specs.Checks.{rises, risingOf, among, clearOfWalls, clearOf, unshared, distinctOf, placesOf, checkOf}
 use Rattle.route.specs.Route.{cellAt}
-use Rattle.route.specs.Moves.{neighbours, near, vacant, passable, every, standable, allowed, startClear}
+use Rattle.route.specs.Moves.{neighbours, near, vacant, every, standable, allowed, startClear}
 use Rattle.route.specs.Search.{cost, cheaper, cheapest, beatsFrom, val, walk, walkFrom, best}
 use Rattle.route.specs.Sequential.{sequential}
 use Rattle.route.specs.Arrival.{settled, arrivalOf}
@@ -56,7 +56,7 @@ sheet-2 = refl
 text-2 : printOf (sides 4) [] ≡ routes2
 unfolding printOf routesText firstLine answerLine answerAt failingOf failingFrom arrivalOf settled cellAt goalOf
     lineOf linesOf fieldOf column planOf sequential respondOf seen seenFrom seenAs parked taskOf startOf among
-    neighbours near vacant passable every standable allowed startClear cost cheaper cheapest beatsFrom val walk walkFrom best
+    neighbours near vacant every standable allowed startClear cost cheaper cheapest beatsFrom val walk walkFrom best
 text-2 = refl
 
 printed-2 : routesOf sheet2 ≡ routes2
@@ -65,7 +65,7 @@ printed-2 = rw (← sheet-2) (theorems .routes-of-sheet (sides 4) [] accepted-2 
 printed-3 : printOf (sides 3) [] ≡ routes3
 unfolding printOf routesText firstLine answerLine noneWord noneLine answerAt failingOf failingFrom arrivalOf settled cellAt goalOf
     lineOf linesOf fieldOf column planOf sequential respondOf seen seenFrom seenAs parked taskOf startOf among
-    neighbours near vacant passable every standable allowed startClear cost cheaper cheapest beatsFrom val walk walkFrom best
+    neighbours near vacant every standable allowed startClear cost cheaper cheapest beatsFrom val walk walkFrom best
 printed-3 = refl
 
 refused-11 : sheetVerdict [] ≡ refused 1 0
@@ -93,7 +93,7 @@ short-sheet = refl
 short-text : printOf (dropLast (sides 4)) [] ≡ routes2short
 unfolding printOf routesText firstLine answerLine answerAt failingOf failingFrom arrivalOf settled cellAt goalOf dropLast
     lineOf linesOf fieldOf column planOf sequential respondOf seen seenFrom seenAs parked taskOf startOf among
-    neighbours near vacant passable every standable allowed startClear cost cheaper cheapest beatsFrom val walk walkFrom best
+    neighbours near vacant every standable allowed startClear cost cheaper cheapest beatsFrom val walk walkFrom best
 short-text = refl
 
 dropped-printed : routesOf sheet2short ≡ routes2short
@@ -123,7 +123,7 @@ unfolding
     _then_ demand inTurn demandEach passes _gives_ _thenAnswers_ whenPassed
     within limitsOf roomOf lentOf startOf goalOf inGrid carrierInGrid carriersOf wallsOf rises risingOf
     among clearOfWalls clearOf unshared distinctOf placesOf checkOf
-    cellAt neighbours near vacant passable every standable allowed startClear cost cheaper cheapest beatsFrom val walk walkFrom best
+    cellAt neighbours near vacant every standable allowed startClear cost cheaper cheapest beatsFrom val walk walkFrom best
     sequential settled arrivalOf taskOf seen seenFrom seenAs parked respondOf planOf planUnseen failingFrom failingOf
     below joined each update updatePair fresh views tick isThere hasRoom isEmpty waitsFor isOpen sameCells sameAnswer
     deliveriesFrom ranking noneOpen isSilent isNews send planAs oldest newer deliverTo effect counted afterStep stepAnswer
@@ -213,6 +213,12 @@ cases =
       dropped-sheet = dropped-sheet;
       dropped-printed = dropped-printed;
       first-matters = refl;
+      accepted-behind = (refl, refl);
+      answers-behind = refl;
+      short-behind = refl;
+      first-behind = refl;
+      heard-behind = refl;
+      answers-in-front = refl;
       most-1 = refl;
       most-2 = refl;
       most-3 = refl;

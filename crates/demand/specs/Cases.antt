@@ -1,5 +1,5 @@
 -- Document 01's starred floors ('Floors to try') as one table about the definitions, with floors 10 to 12 and cases beside them; then
--- those of document 02, slips 2, 3 and 5.
+-- those of document 02, slips 2, 3, 5 and 9.
 use Prim.Native.Nat.{ℕ}
 use mathlib.Core.Bool.{true, false}
 use mathlib.Core.List.{[], _∷_}
@@ -27,7 +27,7 @@ use Rattle.layout.specs.Ranges.{WithinRanges}
 use Rattle.layout.specs.Calls.{machineOf}
 use Rattle.demand.specs.Shorter.{dropLast, withoutLast}
 use Rattle.demand.specs.Floors.{padded, floorOf, cell, sides, two, rows, three, walled, routeOf, answers2}
-use Rattle.demand.specs.Floors.{walledOff, corridor, shutGoal, crossed, crowded}
+use Rattle.demand.specs.Floors.{walledOff, corridor, shutGoal, crossed, behind, inFront, crowded}
 use Rattle.demand.specs.Floors.{singles, running, calls4, calls5, longest, heardAgain, full}
 use Rattle.demand.specs.Texts.{sheet2, routes2, routes3, refused11, sheet2short, routes2short}
 
@@ -161,6 +161,16 @@ pub record Cases : Type 0 where
   pub dropped-printed : routesOf sheet2short ≡ routes2short
   -- Without the first carrier the second would not go round it.
   pub first-matters : planOf (floorOf 3 2 4 1 0 (2 ∷ []) (0 ∷ [])) [] ≡ routeOf (2 ∷ 1 ∷ []) ∷ []
+  -- Document 02, slip 9. Carrier 2 enters the cell that carrier 1 leaves a beat later; with horizon 1 it has none. The radio comes to the
+  -- same, though carrier 2 plans to go at once before it has heard.
+  pub accepted-behind : (checkOf (behind 2) [] ≡ passed) × (checkOf (inFront 2) [] ≡ passed)
+  pub answers-behind : planOf (behind 2) [] ≡ routeOf (1 ∷ 2 ∷ 2 ∷ []) ∷ routeOf (0 ∷ 0 ∷ 1 ∷ []) ∷ []
+  pub short-behind : planOf (behind 1) [] ≡ routeOf (1 ∷ 2 ∷ []) ∷ none ∷ []
+  pub first-behind : after (machineOf (behind 2) []) fresh (singles (102 ∷ [])) .answer 1 ≡ routeOf (0 ∷ 1 ∷ 1 ∷ [])
+  pub heard-behind : below 2 (after (machineOf (behind 2) []) fresh calls4 .answer) ≡
+      routeOf (1 ∷ 2 ∷ 2 ∷ []) ∷ routeOf (0 ∷ 0 ∷ 1 ∷ []) ∷ []
+  -- Nor may carrier 2 leave a cell in the beat in which carrier 1 enters it.
+  pub answers-in-front : planOf (inFront 2) [] ≡ routeOf (0 ∷ 1 ∷ 1 ∷ []) ∷ none ∷ []
   -- The ceiling is reached, by one, two and three carriers.
   pub most-1 : after (machineOf cell []) fresh (singles (101 ∷ [])) .taken ≡ ceiling 1
   pub most-2 : after two fresh calls4 .taken ≡ ceiling 2

@@ -64,6 +64,14 @@ shutGoal = floorOf 4 2 4 1 2 (1 ∷ 0 ∷ []) (3 ∷ 6 ∷ [])
 abbrev pub crossed : Floor
 crossed = floorOf 3 1 2 1 0 (0 ∷ 1 ∷ []) (2 ∷ 0 ∷ [])
 
+-- The floor of document 02's slip 9, for a horizon: a corridor of three cells, carrier 2 behind carrier 1.
+abbrev pub behind : ℕ → Floor
+behind horizon = floorOf 3 1 horizon 1 0 (1 ∷ 0 ∷ []) (2 ∷ 1 ∷ [])
+
+-- The same with carrier 1 behind carrier 2.
+abbrev pub inFront : ℕ → Floor
+inFront horizon = floorOf 3 1 horizon 1 0 (0 ∷ 1 ∷ []) (1 ∷ 2 ∷ [])
+
 -- The fresh state with none under way on every channel.
 abbrev pub crowded : State
 crowded =

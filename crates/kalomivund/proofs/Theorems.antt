@@ -21,7 +21,7 @@ use Rattle.kalomivund.proofs.BlockerLaws.{blockers}
 use Rattle.kalomivund.proofs.ShortLaws.{record-short, read-record-short, route-short, figures-short}
 
 -- A run's number has room in a word.
-run-word : (c t : ℕ) → c ≤ 2 → t ≤ 65535 → packed 0 c t ≡ 256 * c + 65536 * t
+run-word : (c t : ℕ) → c ≤ 3 → t ≤ 65535 → packed 0 c t ≡ 256 * c + 65536 * t
 unfolding packed
 run-word c t lc lt = rw (capped-same 255 c (omega arith), capped-same 281474976710655 t (omega arith)) (omega arith)
 
@@ -61,6 +61,7 @@ theorems =
       free-word = refl;
       same-cell-word = λ t l. run-word 1 t (omega arith) (omega arith);
       change-word = λ t l. run-word 2 t (omega arith) (omega arith);
+      following-word = λ t l. run-word 3 t (omega arith) (omega arith);
       set-word = refl;
       cause-word = refl;
       early-word = refl;

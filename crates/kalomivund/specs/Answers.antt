@@ -4,7 +4,7 @@ use mathlib.Core.List.{List, [], _∷_}
 use Rattle.laws.specs.Verdict.{Outcome, value, refusal}
 use Rattle.laws.specs.Memory.{put}
 use Rattle.route.specs.Route.{Answer, none, route}
-use Rattle.route.specs.FirstConflict.{sameCell, changeOfPlaces, ConflictAnswer, free, dated}
+use Rattle.route.specs.FirstConflict.{sameCell, changeOfPlaces, following, ConflictAnswer, free, dated}
 use Rattle.search.specs.Answers.{cellsOf}
 use Rattle.lengths.specs.declared.Lengths.{Lengths}
 use Rattle.reference.specs.Take.{StepAnswer, kept, sent, delivered}
@@ -57,11 +57,12 @@ figuresDone x = done (x .steps) (x .runs)
 unfoldable pub ofRank : Outcome Figures → Outcome Done
 ofRank o = mapOutcome figuresDone o
 
--- The conflict test: case 0 free, 1 same cell, 2 change of places, with the beat.
+-- The conflict test: case 0 free, 1 same cell, 2 change of places, 3 following, with the beat.
 unfoldable pub conflictDone : ConflictAnswer → Done
 conflictDone free = done 0 0
 conflictDone (dated t sameCell) = done 1 t
 conflictDone (dated t changeOfPlaces) = done 2 t
+conflictDone (dated t following) = done 3 t
 
 unfoldable pub ofConflict : Outcome ConflictAnswer → Outcome Done
 ofConflict o = mapOutcome conflictDone o

@@ -8,7 +8,7 @@ use Rattle.laws.specs.Verdict.{passed, refused, value, refusal}
 use Rattle.floor.specs.declared.Floor.{Floor}
 use Rattle.floor.specs.Checks.{checkOf, limitsOf}
 use Rattle.route.specs.Route.{none, route}
-use Rattle.route.specs.FirstConflict.{sameCell, changeOfPlaces, free, dated}
+use Rattle.route.specs.FirstConflict.{sameCell, changeOfPlaces, following, free, dated}
 use Rattle.sheet.specs.Values.{floorAt}
 use Rattle.sheet.specs.Read.{sheetVerdict}
 use Rattle.printing.specs.Print.{neededFor}
@@ -85,6 +85,7 @@ pub record Claims : Type 0 where
   pub free-word : wordOf (ofConflict (value free)) ≡ 0
   pub same-cell-word : (t : ℕ) → t ≤ 63 → wordOf (ofConflict (value (dated t sameCell))) ≡ 256 + 65536 * t
   pub change-word : (t : ℕ) → t ≤ 63 → wordOf (ofConflict (value (dated t changeOfPlaces))) ≡ 512 + 65536 * t
+  pub following-word : (t : ℕ) → t ≤ 63 → wordOf (ofConflict (value (dated t following))) ≡ 768 + 65536 * t
   -- Who shuts a carrier in: carriers 1 and 3 as a set, the bits 0 and 2 of the number from bit 16 on; walls or the horizon.
   pub set-word : wordOf (ofNumber (value 5)) ≡ 65536 * 5
   pub cause-word : wordOf (ofNumber (value 0)) ≡ 0

@@ -104,6 +104,7 @@ pub fn of_conflict(x: Compared) -> u64
         Compared::Free => done(0, 0),
         Compared::SameCell(t) => done(1, t),
         Compared::ChangeOfPlaces(t) => done(2, t),
+        Compared::Following(t) => done(3, t),
         Compared::Refused(r) => refused(r),
     }
 }

@@ -272,7 +272,8 @@ pub extern "C" fn kalomivund_run_of_rank(
     answers::of_listed(lister::run_of_rank(numbers::floor_of(f), walls, rank, report))
 }
 
-// The first conflict of two lent routes of 64 cells through a horizon: free, same cell or change of places, with the beat.
+// The first conflict of two lent routes of 64 cells through a horizon: free, same cell, change of places or following, with
+// the beat.
 #[no_mangle]
 pub extern "C" fn kalomivund_conflict(a: &[u16], b: &[u16], horizon: u16) -> u64
     ensures { λ r. ⌜ r ≡ conflictWord (now (a .entry)) (now (b .entry)) horizon ⌝ }

@@ -18,7 +18,7 @@ use Rattle.floor.specs.declared.Refusal.{Refusal}
 use Rattle.floor.specs.Checks.{checkOf, roomOf, within}
 use Rattle.floor.proofs.LimitsLaws.{check-tells}
 use Rattle.route.specs.Route.{Answer, none, route, View, unheard}
-use Rattle.route.specs.FirstConflict.{ConflictKind, sameCell, changeOfPlaces, ConflictAt, ConflictAnswer, free, dated}
+use Rattle.route.specs.FirstConflict.{ConflictKind, sameCell, changeOfPlaces, following, ConflictAt, ConflictAnswer, free, dated}
 use Rattle.route.specs.ConflictTest.{firstConflict}
 use Rattle.route.specs.Search.{best}
 use Rattle.route.proofs.Theorems.{theorems as route-theorems}
@@ -42,7 +42,8 @@ use Rattle.reporting.proofs.ReportLaws.{put-behind}
 use Rattle.reporting.proofs.TextLaws.{counted}
 use Rattle.drawing.specs.Drawing.{drawnFloor}
 use Rattle.drawing.proofs.DrawingLaws.{bytes-length, grid-low}
-use Rattle.meeting.specs.Text.{aloneOf, pairVerdict, decimal, numberLine, freeLine, sameCellWords, changeWords, carrierWords}
+use Rattle.meeting.specs.Text.{aloneOf, pairVerdict, decimal, numberLine, freeLine}
+use Rattle.meeting.specs.Text.{sameCellWords, changeWords, followingWords, carrierWords}
 use Rattle.meeting.specs.Text.{noRouteWords, conflictLine, noRouteLine, Early, conflictDrawing, answerIf, metText, pairText, meetingText}
 
 -- Zeros show no view.
@@ -122,6 +123,7 @@ conflict-low : (H : ℕ) (a b : List ℕ) (t : ℕ) (k : ConflictKind) → Confl
 unfolding ConflictAt
 conflict-low H a b t sameCell c = omega (arith, c .0)
 conflict-low H a b t changeOfPlaces c = omega (arith, c .0)
+conflict-low H a b t following c = omega (arith, c .0)
 
 pub found-early : (H : ℕ) (a b : List ℕ) (x : ConflictAnswer) → x ≡ firstConflict (min H 63) a b → Early x
 unfolding Early
@@ -158,10 +160,11 @@ line-short words n end =
     omega (arith, length-append (words ++ decimal n) end, length-append words (decimal n), decimal-short n)
 
 pub conflict-short : (x : ConflictAnswer) → length (conflictLine x) ≤ 31
-unfolding conflictLine freeLine sameCellWords changeWords
+unfolding conflictLine freeLine sameCellWords changeWords followingWords
 conflict-short free = omega arith
 conflict-short (dated t sameCell) = omega (arith, line-short sameCellWords t (10 ∷ []))
 conflict-short (dated t changeOfPlaces) = omega (arith, line-short changeWords t (10 ∷ []))
+conflict-short (dated t following) = omega (arith, line-short followingWords t (10 ∷ []))
 
 none-short : (i : ℕ) → length (noRouteLine i) ≤ 31
 unfolding noRouteLine carrierWords noRouteWords

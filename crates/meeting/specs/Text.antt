@@ -1,5 +1,5 @@
--- The printed text of `desk meeting I J` (document 02, slip 7), from a sheet's bytes and two carriers, counted from 1: where the best
--- routes of the two, each against nobody, meet, and the floor at that beat.
+-- The printed text of `desk meeting I J` (document 02, slips 7 and 9), from a sheet's bytes and two carriers, counted from 1: where the
+-- best routes of the two, each against nobody, meet, and the floor at that beat.
 use Prim.Native.Nat.{ℕ, _+_, _-_, _/_, _%_, _≤_}
 use mathlib.Core.Bool.{Bool, true, false, cond}
 use mathlib.Core.List.{List, [], _∷_, _++_}
@@ -9,7 +9,7 @@ use Rattle.laws.specs.Verdict.{Verdict, _then_, demand}
 use Rattle.floor.specs.declared.Floor.{Floor}
 use Rattle.floor.specs.Checks.{within}
 use Rattle.route.specs.Route.{cellAt, Answer, none, route}
-use Rattle.route.specs.FirstConflict.{sameCell, changeOfPlaces, ConflictAnswer, free, dated}
+use Rattle.route.specs.FirstConflict.{sameCell, changeOfPlaces, following, ConflictAnswer, free, dated}
 use Rattle.route.specs.ConflictTest.{firstConflict}
 use Rattle.route.specs.Search.{best}
 use Rattle.search.specs.Task.{taskOf}
@@ -34,8 +34,8 @@ decimal n = cond (ltb n 10) ((48 + n) ∷ []) ((48 + n / 10) ∷ (48 + n % 10) �
 unfoldable pub numberLine : List ℕ → ℕ → List ℕ → List ℕ
 numberLine words n end = (words ++ decimal n) ++ end
 
--- `free`, `same cell at beat `, `change of places after beat `, `carrier ` and ` has no route`, letter by letter, with a newline at a
--- line's end.
+-- `free`, `same cell at beat `, `change of places after beat `, `following after beat `, `carrier ` and ` has no route`, letter by letter,
+-- with a newline at a line's end.
 unfoldable pub freeLine : List ℕ
 freeLine = 102 ∷ 114 ∷ 101 ∷ 101 ∷ 10 ∷ []
 
@@ -46,6 +46,10 @@ unfoldable pub changeWords : List ℕ
 changeWords =
     99 ∷ 104 ∷ 97 ∷ 110 ∷ 103 ∷ 101 ∷ 32 ∷ 111 ∷ 102 ∷ 32 ∷ 112 ∷ 108 ∷ 97 ∷ 99 ∷ 101 ∷ 115 ∷ 32 ∷ 97 ∷ 102 ∷ 116 ∷ 101 ∷ 114 ∷ 32 ∷ 98
     ∷ 101 ∷ 97 ∷ 116 ∷ 32 ∷ []
+
+unfoldable pub followingWords : List ℕ
+followingWords =
+    102 ∷ 111 ∷ 108 ∷ 108 ∷ 111 ∷ 119 ∷ 105 ∷ 110 ∷ 103 ∷ 32 ∷ 97 ∷ 102 ∷ 116 ∷ 101 ∷ 114 ∷ 32 ∷ 98 ∷ 101 ∷ 97 ∷ 116 ∷ 32 ∷ []
 
 unfoldable pub carrierWords : List ℕ
 carrierWords = 99 ∷ 97 ∷ 114 ∷ 114 ∷ 105 ∷ 101 ∷ 114 ∷ 32 ∷ []
@@ -58,6 +62,7 @@ unfoldable pub conflictLine : ConflictAnswer → List ℕ
 conflictLine free = freeLine
 conflictLine (dated t sameCell) = numberLine sameCellWords t (10 ∷ [])
 conflictLine (dated t changeOfPlaces) = numberLine changeWords t (10 ∷ [])
+conflictLine (dated t following) = numberLine followingWords t (10 ∷ [])
 
 unfoldable pub noRouteLine : ℕ → List ℕ
 noRouteLine i = numberLine carrierWords i noRouteWords

@@ -1,5 +1,5 @@
-// Where the best routes of two carriers, each against nobody, meet (document 02, slip 7), as text over fixed arrays: one line, and the
-// floor at that beat; of a refused sheet, or a carrier that is not there, the line of the refusal. For the program `desk`.
+// Where the best routes of two carriers, each against nobody, meet (document 02, slips 7 and 9), as text over fixed arrays: one line, and
+// the floor at that beat; of a refused sheet, or a carrier that is not there, the line of the refusal. For the program `desk`.
 ghost use mathlib.Core.Path.{_≡_};
 ghost use Prim.Native.Nat.{ℕ, _+_, _≤_, _<_};
 ghost use mathlib.Core.List.{List};
@@ -83,6 +83,7 @@ fn put_conflict(found: FirstConflict, out: &mut [u8]) -> usize
             b"\n",
             out,
         ),
+        FirstConflict::Following(t) => put_line(b"following after beat ", t, b"\n", out),
     }
 }
 
@@ -134,6 +135,7 @@ fn put_drawing(
         FirstConflict::Free => 0,
         FirstConflict::SameCell(t) => put_beat(f, walls, i, j, a, b, t, out),
         FirstConflict::ChangeOfPlaces(t) => put_beat(f, walls, i, j, a, b, t, out),
+        FirstConflict::Following(t) => put_beat(f, walls, i, j, a, b, t, out),
     }
 }
 

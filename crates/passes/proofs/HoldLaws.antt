@@ -1,11 +1,10 @@
 -- The last number that fails a test.
-use Prim.Native.Nat.{ℕ, zero, suc, _+_, _≤_, _<_}
+use Prim.Native.Nat.{ℕ, zero, suc, _-_, _≤_, _<_}
 use native.Mathlib.Omega.{arith}
-use native.Mathlib.Numerals.{add-one}
 use native.Mathlib.Nat.{eq-or-lt-of-le}
 use mathlib.Core.Bool.{Bool, true, false}
 use mathlib.Core.Logic.{⊎-elim}
-use mathlib.Core.Path.{_≡_, refl, _∙_}
+use mathlib.Core.Path.{_≡_, refl}
 use Rattle.laws.proofs.Tests.{lt-or-le, true-false-absurd}
 use Rattle.passes.specs.Passes.{lastNot}
 
@@ -29,15 +28,19 @@ module _ (p : ℕ → Bool) where
       cases true e ih = ih
       cases false e ih = ⊎-elim (λ (s : n < a). s) (λ (s : a ≤ n). absurd (true-false-absurd (h n s (omega arith)) e)) (lt-or-le n a)
 
-  -- The turns of the loop that looks for it.
-  pub last-none : 0 ≡ lastNot p 0
+  -- The turns of the loop that looks for it, downwards.
+  pub last-below : (n : ℕ) → 0 < n → p n ≡ true → lastNot p n ≡ lastNot p (n - 1)
+  unfolding lastNot
+  last-below zero l h = absurd (omega arith)
+  last-below (suc n) l h =
+      let z : suc n - 1 ≡ n = omega arith in
+      rw (z, h, lastNot)
+
+  pub last-here : (n : ℕ) → 0 < n → p n ≡ false → lastNot p n ≡ n
+  unfolding lastNot
+  last-here zero l h = absurd (omega arith)
+  last-here (suc n) l h = rw (h, lastNot)
+
+  pub last-none : lastNot p 0 ≡ 0
   unfolding lastNot
   last-none = refl
-
-  pub last-kept : (n x : ℕ) → x ≡ lastNot p n → p (n + 1) ≡ true → x ≡ lastNot p (n + 1)
-  unfolding lastNot
-  last-kept n x e h = e ∙ rw (add-one, lastNot) (rw (rw add-one at h))
-
-  pub last-here : (n : ℕ) → p (n + 1) ≡ false → n + 1 ≡ lastNot p (n + 1)
-  unfolding lastNot
-  last-here n h = rw (add-one, lastNot) (rw (rw add-one at h))

@@ -1,5 +1,3 @@
--- In reading order: one step of a set, steps in a row, the passes over a table, the walk along its sets.
-pub mod Steps
-pub mod Sweep
+-- In reading order: the passes over a table, the walk along its sets.
 pub mod Passes
 pub mod Walk

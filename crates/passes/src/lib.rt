@@ -2,7 +2,4 @@
 // walk along them. Helpers of the search: what they require is checked by its entry.
 pub mod backward;
 pub mod forward;
-mod mend;
-mod next;
-mod step;
 pub mod walk;

@@ -1,59 +1,88 @@
-// The route along the sets of a table: at each beat the smallest cell that still leads to the goal by the arrival.
+// The walk along the sets of a table: at each beat the smallest near cell of the next set.
 ghost use mathlib.Core.Path.{_≡_};
-ghost use mathlib.Core.List.{List};
-ghost use Prim.Native.Nat.{ℕ, _+_, _<_};
-ghost use lib.ListN.{replicate};
-ghost use Rattle.words.specs.Rows.{filled};
-ghost use Rattle.tables.specs.Table.{Fits, Tidy};
-ghost use Rattle.tables.specs.Room.{Roomy};
-ghost use Rattle.passes.specs.Walk.{stepOf, pathOf};
-use crate::next::next;
+ghost use mathlib.Core.Bool.{_&&_};
+ghost use Prim.Native.Nat.{_+_, _-_, _≤_, _<_};
+ghost use lib.Dec.{ltb};
+ghost use lib.ListN.{length, replicate};
+ghost use Rattle.words.specs.Rows.{filled, has as Rows·has};
+ghost use Rattle.tables.specs.Table.{Grid, Tidy};
+ghost use Rattle.passes.specs.Walk.{nextOf, stepOf, pathOf};
 use route::Route;
 use tables::Scene;
+use tables::place_of;
+use tables::table::STRIDE;
 
-// The cell after cell c at beat t: before the arrival the smallest that leads there, then the goal.
-fn follow(
-    g: Scene,
-    k: usize,
-    sets: &[u32],
-    room: &[u32],
-    views: &[u16],
-    goal: usize,
-    a: usize,
-    t: usize,
-    c: usize,
-) -> usize
-    requires { ⌜ Fits g k (now views) × Tidy g (now sets) × (t < g .horizon) × (c < g .cells) × (goal < g .cells) ⌝ }
-    requires { ⌜ ((free : List ℕ) × Roomy g k free (now views) (now room)) ⌝ }
-    ensures { λ r. ⌜ (r ≡ stepOf g k (now (views .entry)) (now (sets .entry)) goal a t c) × (r < g .cells) ⌝ }
+// Whether the digit left of column k is in row i.
+fn has_left(s: &[u32], i: usize, k: usize) -> bool
+    requires { ⌜ (i < length (now s)) × (k < 32) ⌝ }
+    ensures { λ r. ⌜ r ≡ (ltb 0 k && Rows·has (now (s .entry)) i (k - 1)) ⌝ }
 {
-    if t + 1 < a {
-        return next(g, k, sets, room, views, t + 1, t, c, c);
+    if 0 < k {
+        return words::has(s, i, k - 1);
     }
-    goal
+    false
 }
 
-// The route from the start, 0 after the horizon.
-pub fn walk(
-    g: Scene,
-    k: usize,
-    sets: &[u32],
-    room: &[u32],
-    views: &[u16],
-    start: usize,
-    goal: usize,
-    a: usize,
-) -> Route
-    requires { ⌜ Fits g k (now views) × Tidy g (now sets) × (start < g .cells) × (goal < g .cells) ⌝ }
-    requires { ⌜ ((free : List ℕ) × Roomy g k free (now views) (now room)) ⌝ }
-    ensures { λ r. ⌜ r ≡ filled (replicate 64 0) (pathOf g k (now (views .entry)) (now (sets .entry)) start goal a) (g .horizon + 1) ⌝ }
+// Whether the digit right of column k is in row i of a grid of width w.
+fn has_right(s: &[u32], i: usize, k: usize, w: usize) -> bool
+    requires { ⌜ (i < length (now s)) × (k < 32) × (w ≤ 32) ⌝ }
+    ensures { λ r. ⌜ r ≡ (ltb (k + 1) w && Rows·has (now (s .entry)) i (k + 1)) ⌝ }
+{
+    if k + 1 < w {
+        return words::has(s, i, k + 1);
+    }
+    false
+}
+
+// The smallest near cell of c in the set of beat t; c itself where there is none.
+fn next(g: Scene, sets: &[u32], t: usize, c: usize) -> usize
+    requires { ⌜ Grid g × Tidy g (now sets) × (t < 64) × (c < g .cells) ⌝ }
+    ensures { λ r. ⌜ r ≡ nextOf g (now (sets .entry)) t c ⌝ }
+{
+    let w = g.width;
+    let p = place_of(g, c);
+    let k = p.column;
+    let i = t * STRIDE + 1 + p.row;
+    if words::has(sets, i - 1, k) {
+        return c - w;
+    }
+    if has_left(sets, i, k) {
+        return c - 1;
+    }
+    if words::has(sets, i, k) {
+        return c;
+    }
+    if has_right(sets, i, k, w) {
+        return c + 1;
+    }
+    if words::has(sets, i + 1, k) {
+        return c + w;
+    }
+    c
+}
+
+// The cell after cell c at beat t: before beat a the smallest near one of the next set, then c.
+fn follow(g: Scene, sets: &[u32], a: usize, t: usize, c: usize) -> usize
+    requires { ⌜ Grid g × Tidy g (now sets) × (t < 63) × (c < g .cells) ⌝ }
+    ensures { λ r. ⌜ (r ≡ stepOf g (now (sets .entry)) a t c) × (r < g .cells) ⌝ }
+{
+    if t < a {
+        return next(g, sets, t + 1, c);
+    }
+    c
+}
+
+// The route from the start along the sets through beat a, where it stays; 0 after the horizon.
+pub fn walk(g: Scene, sets: &[u32], start: usize, a: usize) -> Route
+    requires { ⌜ Grid g × Tidy g (now sets) × (g .horizon ≤ 63) × (start < g .cells) ⌝ }
+    ensures { λ r. ⌜ r ≡ filled (replicate 64 0) (pathOf g (now (sets .entry)) start a) (g .horizon + 1) ⌝ }
 {
     let mut r = [0u16; 64];
     r[0] = start as u16;
     let mut c = start;
     let mut t: usize = 0;
     while t < g.horizon {
-        c = follow(g, k, sets, room, views, goal, a, t, c);
+        c = follow(g, sets, a, t, c);
         t += 1;
         r[t] = c as u16;
     }

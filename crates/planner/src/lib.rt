@@ -7,7 +7,7 @@ ghost use lib.ListN.{length};
 ghost use Rattle.floor.specs.Answers.{verdictOf};
 ghost use Rattle.route.specs.Sequential.{sequential};
 ghost use Rattle.search.specs.Rows.{Searchable};
-ghost use Rattle.tables.specs.Table.{sceneOf};
+ghost use Rattle.tables.specs.Table.{sceneOf, Tidy};
 ghost use Rattle.tables.specs.Room.{Roomy};
 ghost use Rattle.planner.specs.Plan.{respondWith, planVerdict};
 ghost use Rattle.planner.specs.Records.{answered, planMemory};
@@ -40,16 +40,25 @@ pub fn request(f: Floor, walls: &[u16], room: usize) -> Checked
 }
 
 // The answer of the carrier with i carriers above it, whose answers stand in front and are shown as they are seen; it is stored behind
-// them, shown as it is seen, and what it occupies is taken out of the room.
-fn plan_one(f: Floor, free: Rows, i: u16, room: &mut [u32], shown: &mut [u16], answers: &mut [u16])
+// them, shown as it is seen, and what it occupies is taken out of the room. The sets are a table to work in.
+fn plan_one(
+    f: Floor,
+    free: Rows,
+    i: u16,
+    room: &mut [u32],
+    sets: &mut [u32],
+    shown: &mut [u16],
+    answers: &mut [u16],
+)
     requires { ⌜ (i < 8) × (65 * i + 65 ≤ length (now answers)) × (65 * i + 65 ≤ length (now shown)) ⌝ }
     requires { ⌜ Searchable f free (i + 1) (now shown) × (records (now shown) i ≡ seen f (records (now answers) i)) ⌝ }
-    requires { ⌜ Roomy (sceneOf f) i free (now shown) (now room) ⌝ }
+    requires { ⌜ Roomy (sceneOf f) i free (now shown) (now room) × Tidy (sceneOf f) (now sets) ⌝ }
     ensures answers { λ r. ⌜ now (answers .exit) ≡ answered f free i (now (answers .entry)) ⌝ }
     ensures shown { λ r. ⌜ records (now (shown .exit)) (i + 1) ≡ seen f (records (now (answers .exit)) (i + 1)) ⌝ }
     ensures room { λ r. ⌜ Roomy (sceneOf f) (i + 1) free (now (shown .exit)) (now (room .exit)) ⌝ }
+    ensures tidy { λ r. ⌜ Tidy (sceneOf f) (now (sets .exit)) ⌝ }
 {
-    let found = search::route_in(f, free, room, i + 1, shown);
+    let found = search::route_in(f, free, room, sets, i + 1, shown);
     let outcome = found.outcome;
     let cells = found.route;
     records::store(
@@ -70,10 +79,11 @@ fn plan_all(f: Floor, free: Rows, answers: &mut [u16])
     let n = f.carriers;
     let mut room = search::no_room();
     search::fill_room(f, free, &mut room);
+    let mut sets = search::no_room();
     let mut shown = records::blank();
     let mut i: u16 = 0;
     while i < n {
-        plan_one(f, free, i, &mut room, &mut shown, answers);
+        plan_one(f, free, i, &mut room, &mut sets, &mut shown, answers);
         i += 1;
     }
 }

@@ -1,8 +1,9 @@
 -- An answer, a view and a message lie in memory as one record of 65 numbers: a tag (0 not heard, 1 none, 2 a route) and 64 cells, 0 where
 -- there is no route. Rows of records go carrier by carrier, record j − 1 being carrier j's (records count from 0).
-use Prim.Native.Nat.{ℕ, zero, suc, _+_, _*_, _-_}
+use Prim.Native.Nat.{ℕ, zero, suc, _+_, _*_, _-_, _≤_, _<_}
 use mathlib.Core.Bool.{true, false}
 use mathlib.Core.List.{List, [], _∷_, _++_}
+use mathlib.Core.Path.{_≡_}
 use lib.Dec.{eqb}
 use lib.ListN.{getD, replicate}
 use Rattle.laws.specs.Memory.{put, part}
@@ -41,6 +42,10 @@ answerIn m i = shown (viewAt m i)
 -- The cell of the route in record j at beat t; a number that is no cell where the record has no route.
 unfoldable pub viewCell : List ℕ → ℕ → ℕ → ℕ
 viewCell m j t = elim (eqb (getD m (65 * j) 0) 2) [ true ↦ getD m (65 * j + 1 + t) 0 | false ↦ 65535 ]
+
+-- Cell c is not that of record j at any of the first n beats that is t or beside t.
+abbrev pub Away : List ℕ → ℕ → ℕ → ℕ → ℕ → Type 0
+Away m j n t c = (u : ℕ) → u < n → u ≤ suc t → t ≤ suc u → c ≡ viewCell m j u → ⊥
 
 -- The record of an answer.
 unfoldable pub recordOf : Answer → List ℕ

@@ -3,14 +3,16 @@ use Prim.Native.Nat.{ℕ, zero, suc, _≤_, _<_}
 use native.Mathlib.Omega.{arith}
 use mathlib.Core.Bool.{true}
 use mathlib.Core.List.{List, List·Memᴰ}
-use mathlib.Core.Path.{_≡_}
+use mathlib.Core.Path.{_≡_, refl}
 use lib.ListN.{length}
 use Rattle.route.specs.Route.{cellAt, none, route, View, unheard, heard, Task}
-use Rattle.route.specs.Conflict.{VertexConflict, SwapConflict, ConflictFree, ClearOfView, ClearOf}
+use Rattle.route.specs.Conflict.{ClearOfView, ClearOf}
+use Rattle.route.specs.Spaced.{Spaced}
 use Rattle.route.specs.Best.{Admissible}
 use Rattle.route.specs.Moves.{allowed, startClear}
 use Rattle.route.proofs.Ways.{Way}
-use Rattle.route.proofs.MovesLaws.{Standable, Allowed, allowed-says, allowed-holds, start-clear-says, start-clear-holds}
+use Rattle.route.proofs.SpacedLaws.{free-spaced, spaced-free}
+use Rattle.route.proofs.MovesLaws.{Vacant, Standable, Allowed, allowed-says, allowed-holds, start-clear-says, start-clear-holds}
 
 -- r by the rule of moves.
 pub record ByRule (task : Task) (vs : List View) (r : List ℕ) : Type 0 where
@@ -21,12 +23,25 @@ pub record ByRule (task : Task) (vs : List View) (r : List ℕ) : Type 0 where
   pub blank : (t : ℕ) → task .horizon < t → cellAt r t ≡ 0
 
 module _ (task : Task) (vs : List View) (r : List ℕ) where
-  clear-route : Admissible task vs r → (q : List ℕ) → List·Memᴰ (heard (route q)) vs → ConflictFree (task .horizon) r q
+  clear-route : Admissible task vs r → (q : List ℕ) → List·Memᴰ (heard (route q)) vs → Spaced (task .horizon) r q
   unfolding ClearOf ClearOfView
-  clear-route a q m = a .clear (heard (route q)) m
+  clear-route a q m = free-spaced (task .horizon) r q (a .clear (heard (route q)) m)
+
+  spaced-vacant : (q : List ℕ) → Spaced (task .horizon) r q → (t : ℕ) → t ≤ task .horizon → Vacant (task .horizon) t (cellAt r t) q
+  spaced-vacant q p t h = record { now = p .at-once t h; next = p .before t; past = past }
+    where
+      past : (u : ℕ) → t ≡ suc u → cellAt r t ≡ cellAt q u → ⊥
+      past u s e = p .behind u (omega arith) (rw s at e)
+
+  vacant-spaced : (q : List ℕ) → ((t : ℕ) → t ≤ task .horizon → Vacant (task .horizon) t (cellAt r t) q) → Spaced (task .horizon) r q
+  vacant-spaced q v =
+      record {
+        at-once = λ t h. (v t h) .now;
+        behind = λ t l. (v (suc t) l) .past t refl;
+        before = λ t l. (v t (omega arith)) .next l;
+      }
 
   pub admissible-by-rule : Admissible task vs r → ByRule task vs r
-  unfolding VertexConflict SwapConflict
   admissible-by-rule a =
       record {
         long = a .is-route .long;
@@ -41,19 +56,14 @@ module _ (task : Task) (vs : List View) (r : List ℕ) where
           record {
             inside = a .is-route .inside t h;
             off-wall = a .is-route .off-walls t h;
-            no-vertex = λ q m e. (clear-route a q m) .no-vertex t h e;
+            clear = λ q m. spaced-vacant q (clear-route a q m) t h;
           }
 
       step : (t : ℕ) → t < task .horizon → Allowed task vs t (cellAt r t) (cellAt r (suc t))
-      step t h =
-          record {
-            beside = a .is-route .moves t h;
-            stands = stands (suc t) h;
-            no-swap = λ q m e. (clear-route a q m) .no-swap t h e;
-          }
+      step t h = record { beside = a .is-route .moves t h; stands = stands (suc t) h }
 
   pub by-rule-admissible : ByRule task vs r → Admissible task vs r
-  unfolding VertexConflict SwapConflict ClearOf ClearOfView
+  unfolding ClearOf ClearOfView
   by-rule-admissible b =
       record {
         is-route = record {
@@ -81,5 +91,4 @@ module _ (task : Task) (vs : List View) (r : List ℕ) where
       clear : (v : View) → List·Memᴰ v vs → ClearOfView (task .horizon) r v
       clear unheard m = tt
       clear (heard none) m = tt
-      clear (heard (route q)) m =
-          record { no-vertex = λ t h e. (stands t h) .no-vertex q m e; no-swap = λ t h e. (step t h) .no-swap q m e }
+      clear (heard (route q)) m = spaced-free (task .horizon) r q (vacant-spaced q (λ t h. (stands t h) .clear q m))

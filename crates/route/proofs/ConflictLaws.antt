@@ -9,10 +9,11 @@ use mathlib.Core.Path.{_≡_, refl, sym}
 use lib.Dec.{ltb}
 use borrow.Author.Tests.{eqb-true, eq-eqb, ltb-true, lt-ltb}
 use Rattle.route.specs.Conflict.{VertexConflict, SwapConflict, Conflict, ConflictFree}
-use Rattle.route.specs.FirstConflict.{ConflictKind, sameCell, changeOfPlaces, rankOf, ConflictAt, FirstAt}
+use Rattle.route.specs.FirstConflict.{ConflictKind, sameCell, changeOfPlaces, following, rankOf, ConflictAt, FirstAt}
 use Rattle.route.specs.FirstConflict.{ConflictAnswer, free, dated}
-use Rattle.route.specs.ConflictTest.{isConflict, kinds, firstKind, orNext, firstBelow, firstConflict, TestedFor}
+use Rattle.route.specs.ConflictTest.{changes, isConflict, kinds, firstKind, orNext, firstBelow, firstConflict, TestedFor}
 use Rattle.laws.proofs.Tests.{true-false-absurd, and-both, and-fst, and-snd, eqbs-say, eqbs-hold, lt-or-le}
+use Rattle.route.proofs.FollowLaws.{following-says, following-holds}
 
 -- A kind is told by its place in the order.
 rank-tells : (j k : ConflictKind) → rankOf j ≡ rankOf k → j ≡ k
@@ -21,23 +22,31 @@ rank-tells sameCell sameCell e = refl
 rank-tells sameCell changeOfPlaces e = absurd (omega arith)
 rank-tells changeOfPlaces sameCell e = absurd (omega arith)
 rank-tells changeOfPlaces changeOfPlaces e = refl
+rank-tells sameCell following e = absurd (omega arith)
+rank-tells changeOfPlaces following e = absurd (omega arith)
+rank-tells following sameCell e = absurd (omega arith)
+rank-tells following changeOfPlaces e = absurd (omega arith)
+rank-tells following following e = refl
 
 module _ (H : ℕ) (a b : List ℕ) where
   -- The test of a kind at a beat up to H is the conflict of that kind.
   test-says : (t : ℕ) (k : ConflictKind) → t ≤ H → isConflict H a b t k ≡ true → ConflictAt H a b t k
-  unfolding isConflict ConflictAt VertexConflict SwapConflict
+  unfolding changes isConflict ConflictAt VertexConflict SwapConflict
   test-says t sameCell l e = (l, eqb-true _ _ e)
   test-says t changeOfPlaces l e = (ltb-true t H (and-fst (ltb t H) _ e), eqbs-say _ _ _ _ (and-snd (ltb t H) _ e))
+  test-says t following l e = (ltb-true t H (and-fst (ltb t H) _ e), following-says a b t (and-snd (ltb t H) _ e))
 
   test-holds : (t : ℕ) (k : ConflictKind) → ConflictAt H a b t k → isConflict H a b t k ≡ true
-  unfolding isConflict ConflictAt VertexConflict SwapConflict
+  unfolding changes isConflict ConflictAt VertexConflict SwapConflict
   test-holds t sameCell c = eq-eqb _ _ (c .1)
   test-holds t changeOfPlaces c = and-both (lt-ltb t H (c .0)) (eqbs-hold _ _ _ _ (c .1))
+  test-holds t following c = and-both (lt-ltb t H (c .0)) (following-holds a b t (c .1))
 
   at-most : (t : ℕ) (k : ConflictKind) → ConflictAt H a b t k → t ≤ H
   unfolding ConflictAt
   at-most t sameCell c = c .0
   at-most t changeOfPlaces c = omega (arith, c .0)
+  at-most t following c = omega (arith, c .0)
 
   -- Beat u and kind j come before beat t and kind k.
   abbrev Earlier : ℕ → ConflictKind → ℕ → ConflictKind → Type 0
@@ -50,33 +59,44 @@ module _ (H : ℕ) (a b : List ℕ) where
       (t < n) × (isConflict H a b t k ≡ true) × ((u : ℕ) (j : ConflictKind) → Earlier u j t k → isConflict H a b u j ≡ false)
 
   -- One more beat: its kinds in their order, where nothing was found before.
-  beat-tells : (n : ℕ) → Tells n free → (x y : Bool) → isConflict H a b n sameCell ≡ x → isConflict H a b n changeOfPlaces ≡ y →
-      Tells (suc n) (cond x (dated n sameCell) (cond y (dated n changeOfPlaces) free))
+  beat-tells : (n : ℕ) → Tells n free → (x y z : Bool) → isConflict H a b n sameCell ≡ x → isConflict H a b n changeOfPlaces ≡ y →
+      isConflict H a b n following ≡ z →
+      Tells (suc n) (cond x (dated n sameCell) (cond y (dated n changeOfPlaces) (cond z (dated n following) free)))
   unfolding Tells rankOf
-  beat-tells n h true y e f = (omega arith, e, earlier)
+  beat-tells n h true y z e f g = (omega arith, e, earlier)
     where
       earlier : (u : ℕ) (j : ConflictKind) → Earlier u j n sameCell → isConflict H a b u j ≡ false
       earlier u j (inl l) = h u j l
       earlier u j (inr p) = absurd (omega (arith, p .1))
-  beat-tells n h false true e f = (omega arith, f, earlier)
+  beat-tells n h false true z e f g = (omega arith, f, earlier)
     where
       earlier : (u : ℕ) (j : ConflictKind) → Earlier u j n changeOfPlaces → isConflict H a b u j ≡ false
       earlier u j (inl l) = h u j l
       earlier u sameCell (inr p) = rw (p .0) e
       earlier u changeOfPlaces (inr p) = absurd (omega (arith, p .1))
-  beat-tells n h false false e f = none
+      earlier u following (inr p) = absurd (omega (arith, p .1))
+  beat-tells n h false false true e f g = (omega arith, g, earlier)
+    where
+      earlier : (u : ℕ) (j : ConflictKind) → Earlier u j n following → isConflict H a b u j ≡ false
+      earlier u j (inl l) = h u j l
+      earlier u sameCell (inr p) = rw (p .0) e
+      earlier u changeOfPlaces (inr p) = rw (p .0) f
+      earlier u following (inr p) = absurd (omega (arith, p .1))
+  beat-tells n h false false false e f g = none
     where
       here : (u : ℕ) (j : ConflictKind) → (u ≡ n) ⊎ (u < n) → isConflict H a b u j ≡ false
       here u j (inr l) = h u j l
       here u sameCell (inl q) = rw q e
       here u changeOfPlaces (inl q) = rw q f
+      here u following (inl q) = rw q g
 
       none : (u : ℕ) (j : ConflictKind) → u < suc n → isConflict H a b u j ≡ false
       none u j l = here u j (eq-or-lt-of-le (le-of-suc-le-suc l))
 
   next-tells : (n : ℕ) (x : ConflictAnswer) → Tells n x → Tells (suc n) (orNext x (firstKind H a b n kinds))
   unfolding Tells orNext firstKind kinds
-  next-tells n free h = beat-tells n h (isConflict H a b n sameCell) (isConflict H a b n changeOfPlaces) refl refl
+  next-tells n free h =
+      beat-tells n h (isConflict H a b n sameCell) (isConflict H a b n changeOfPlaces) (isConflict H a b n following) refl refl refl
   next-tells n (dated t k) h = (omega (arith, h .0), h .1, h .2)
 
   below-tells : (n : ℕ) → Tells n (firstBelow H a b n)
@@ -105,10 +125,16 @@ module _ (H : ℕ) (a b : List ℕ) where
   unfolding ConflictAt
   no-conflict f t sameCell c = f .no-vertex t (c .0) (c .1)
   no-conflict f t changeOfPlaces c = f .no-swap t (c .0) (c .1)
+  no-conflict f t following c = f .no-following t (c .0) (c .1)
 
   none-free : ((t : ℕ) (k : ConflictKind) → ConflictAt H a b t k → ⊥) → ConflictFree H a b
   unfolding ConflictAt
-  none-free h = record { no-vertex = λ t l c. h t sameCell (l, c); no-swap = λ t l c. h t changeOfPlaces (l, c) }
+  none-free h =
+      record {
+        no-vertex = λ t l c. h t sameCell (l, c);
+        no-swap = λ t l c. h t changeOfPlaces (l, c);
+        no-following = λ t l c. h t following (l, c);
+      }
 
   is-free : ConflictFree H a b → (x : ConflictAnswer) → Tells (suc H) x → x ≡ free
   is-free f free h = refl
@@ -135,7 +161,8 @@ module _ (H : ℕ) (a b : List ℕ) where
   conflict-of : (t : ℕ) (k : ConflictKind) → ConflictAt H a b t k → Conflict H a b
   unfolding ConflictAt Conflict
   conflict-of t sameCell c = inl (t, c .0, c .1)
-  conflict-of t changeOfPlaces c = inr (t, c .0, c .1)
+  conflict-of t changeOfPlaces c = inr (inl (t, c .0, c .1))
+  conflict-of t following c = inr (inr (t, c .0, c .1))
 
   any-conflict : (x : ConflictAnswer) → Tells (suc H) x → (x ≡ free → ⊥) → Conflict H a b
   any-conflict free h n = absurd (n refl)
@@ -144,7 +171,8 @@ module _ (H : ℕ) (a b : List ℕ) where
   free-refutes : ConflictFree H a b → Conflict H a b → ⊥
   unfolding Conflict
   free-refutes f (inl h) = f .no-vertex (h .0) (h .1) (h .2)
-  free-refutes f (inr h) = f .no-swap (h .0) (h .1) (h .2)
+  free-refutes f (inr (inl h)) = f .no-swap (h .0) (h .1) (h .2)
+  free-refutes f (inr (inr h)) = f .no-following (h .0) (h .1) (h .2)
 
   says-free : firstConflict H a b ≡ free → ConflictFree H a b
   says-free e = none-free (tells-none (rw e at test-tells))

@@ -2,7 +2,9 @@
 pub mod NearLaws
 pub mod MovesLaws
 pub mod ArrivalLaws
+mod FollowLaws
 pub mod ConflictLaws
+pub mod SpacedLaws
 pub mod Ways
 mod CheapestLaws
 mod ValLaws

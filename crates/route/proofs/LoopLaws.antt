@@ -3,7 +3,7 @@ use Prim.Native.Nat.{ℕ, zero, suc, _+_, _≤_, _<_}
 use native.Mathlib.Omega.{arith}
 use native.Mathlib.Nat.{eq-or-lt-of-le}
 use native.Mathlib.Numerals.{add-one}
-use mathlib.Core.Bool.{true, false}
+use mathlib.Core.Bool.{Bool, true, false, _&&_}
 use mathlib.Core.List.{List}
 use mathlib.Core.Logic.{_⊎_, inl, inr}
 use mathlib.Core.Path.{_≡_, refl, sym, ap, _∙_}
@@ -12,9 +12,9 @@ use lib.ListN.{getD}
 use borrow.Author.Tests.{eq-eqb, ne-eqb, lt-ltb, ltb-true}
 use Rattle.route.specs.Route.{cellAt}
 use Rattle.route.specs.Arrival.{settled, arrivalOf}
-use Rattle.route.specs.FirstConflict.{ConflictKind, sameCell, changeOfPlaces, free, dated}
-use Rattle.route.specs.ConflictTest.{isConflict, kinds, firstKind, orNext, firstBelow, firstConflict}
-use Rattle.laws.proofs.Tests.{not-true-is-false, and-both, and-fst, and-snd, eqbs-say, eqbs-hold}
+use Rattle.route.specs.FirstConflict.{ConflictKind, sameCell, changeOfPlaces, following, free, dated}
+use Rattle.route.specs.ConflictTest.{changes, follows, isConflict, kinds, firstKind, orNext, firstBelow, firstConflict}
+use Rattle.laws.proofs.Tests.{not-true-is-false, false-fails, and-both, and-fst, and-snd}
 use Rattle.route.proofs.ArrivalLaws.{settled-there, settled-away}
 
 module _ (goal : ℕ) (r : List ℕ) where
@@ -46,14 +46,19 @@ module _ (H : ℕ) (a b : List ℕ) where
       split (inl q) below = rw q at e
       split (inr h) below = rw (below (omega arith))
 
-  -- The two tests of a swap at beat t, both or not both.
-  no-swap : (t : ℕ) → ((getD a t 0 ≡ getD b (t + 1) 0) × (getD a (t + 1) 0 ≡ getD b t 0) → ⊥) → isConflict H a b t changeOfPlaces ≡ false
-  unfolding isConflict cellAt
-  no-swap t s = not-true-is-false _ (λ k. (rw add-one at s) (eqbs-say _ _ _ _ (and-snd (ltb t H) _ k)))
+  -- A test of the moves that both make after beat t.
+  abbrev moving : (ℕ → ℕ → ℕ → ℕ → Bool) → ℕ → Bool
+  moving p t = p (getD a t 0) (getD a (t + 1) 0) (getD b t 0) (getD b (t + 1) 0)
 
-  is-swap : (t : ℕ) → t < H → getD a t 0 ≡ getD b (t + 1) 0 → getD a (t + 1) 0 ≡ getD b t 0 → isConflict H a b t changeOfPlaces ≡ true
-  unfolding isConflict cellAt
-  is-swap t l p q = and-both (lt-ltb t H l) (eqbs-hold _ _ _ _ (rw add-one at p, rw add-one at q))
+  no-move : (p : ℕ → ℕ → ℕ → ℕ → Bool) (t : ℕ) → moving p t ≡ false →
+      (ltb t H && p (cellAt a t) (cellAt a (suc t)) (cellAt b t) (cellAt b (suc t))) ≡ false
+  unfolding cellAt
+  no-move p t e = not-true-is-false _ (λ k. false-fails (rw add-one at e) (and-snd (ltb t H) _ k))
+
+  is-move : (p : ℕ → ℕ → ℕ → ℕ → Bool) (t : ℕ) → t < H → moving p t ≡ true →
+      (ltb t H && p (cellAt a t) (cellAt a (suc t)) (cellAt b t) (cellAt b (suc t))) ≡ true
+  unfolding cellAt
+  is-move p t l e = and-both (lt-ltb t H l) (rw add-one at e)
 
   no-vertex : (t : ℕ) → (getD a t 0 ≡ getD b t 0 → ⊥) → isConflict H a b t sameCell ≡ false
   unfolding isConflict cellAt
@@ -63,30 +68,35 @@ module _ (H : ℕ) (a b : List ℕ) where
   unfolding isConflict cellAt
   is-vertex t e = eq-eqb _ _ e
 
-  -- One more beat: none of both, same cell, or a change of places.
-  pub found-turn : (t : ℕ) → firstBelow H a b t ≡ free → (getD a t 0 ≡ getD b t 0 → ⊥) →
-      ((getD a t 0 ≡ getD b (t + 1) 0) × (getD a (t + 1) 0 ≡ getD b t 0) → ⊥) → firstBelow H a b (t + 1) ≡ free
-  unfolding firstBelow orNext firstKind kinds
-  found-turn t e n s = rw (add-one, firstBelow) (rw (e, no-vertex t n, no-swap t s))
+  -- One more beat: none of the three, same cell, a change of places, or a following.
+  pub found-turn : (t : ℕ) → firstBelow H a b t ≡ free → (getD a t 0 ≡ getD b t 0 → ⊥) → moving changes t ≡ false →
+      moving follows t ≡ false → firstBelow H a b (t + 1) ≡ free
+  unfolding isConflict firstBelow orNext firstKind kinds
+  found-turn t e n s f = rw (add-one, firstBelow) (rw (e, no-vertex t n, no-move changes t s, no-move follows t f))
 
   pub vertex-found : (t : ℕ) → firstBelow H a b t ≡ free → t ≤ H → getD a t 0 ≡ getD b t 0 → dated t sameCell ≡ firstConflict H a b
   unfolding firstConflict firstBelow orNext firstKind kinds
   vertex-found t e l q = sym (found-stays (suc t) (suc H) t sameCell (rw (e, is-vertex t q)) (omega arith))
 
-  pub swap-found : (t : ℕ) → firstBelow H a b t ≡ free → t < H → (getD a t 0 ≡ getD b t 0 → ⊥) → getD a t 0 ≡ getD b (t + 1) 0 →
-      getD a (t + 1) 0 ≡ getD b t 0 → dated t changeOfPlaces ≡ firstConflict H a b
-  unfolding firstConflict firstBelow orNext firstKind kinds
-  swap-found t e l n p q =
-      sym (found-stays (suc t) (suc H) t changeOfPlaces (rw (e, no-vertex t n, is-swap t l p q)) (omega arith))
+  pub swap-found : (t : ℕ) → firstBelow H a b t ≡ free → t < H → (getD a t 0 ≡ getD b t 0 → ⊥) → moving changes t ≡ true →
+      dated t changeOfPlaces ≡ firstConflict H a b
+  unfolding isConflict firstConflict firstBelow orNext firstKind kinds
+  swap-found t e l n s =
+      sym (found-stays (suc t) (suc H) t changeOfPlaces (rw (e, no-vertex t n, is-move changes t l s)) (omega arith))
 
-  -- After the last beat no change of places begins.
-  past-swap : isConflict H a b H changeOfPlaces ≡ false
-  unfolding isConflict
-  past-swap = not-true-is-false _ (λ k. absurd (omega (arith, ltb-true H H (and-fst (ltb H H) _ k))))
+  pub following-found : (t : ℕ) → firstBelow H a b t ≡ free → t < H → (getD a t 0 ≡ getD b t 0 → ⊥) → moving changes t ≡ false →
+      moving follows t ≡ true → dated t following ≡ firstConflict H a b
+  unfolding isConflict firstConflict firstBelow orNext firstKind kinds
+  following-found t e l n s f =
+      sym (found-stays (suc t) (suc H) t following (rw (e, no-vertex t n, no-move changes t s, is-move follows t l f)) (omega arith))
+
+  -- After the last beat nothing moves.
+  past-move : (p : Bool) → (ltb H H && p) ≡ false
+  past-move p = not-true-is-false _ (λ k. absurd (omega (arith, ltb-true H H (and-fst (ltb H H) p k))))
 
   pub last-found : (t : ℕ) → firstBelow H a b t ≡ free → t ≤ H → H ≤ t → getD a H 0 ≡ getD b H 0 → dated H sameCell ≡ firstConflict H a b
   last-found t e l k q = let same : t ≡ H = omega arith in vertex-found H (rw same at e) (omega arith) q
 
   pub found-end : (t : ℕ) → firstBelow H a b t ≡ free → t ≤ H → H ≤ t → (getD a H 0 ≡ getD b H 0 → ⊥) → free ≡ firstConflict H a b
-  unfolding firstConflict firstBelow orNext firstKind kinds
-  found-end t e l k n = let same : t ≡ H = omega arith in let f = rw same at e in sym (rw (f, no-vertex H n, past-swap))
+  unfolding isConflict firstConflict firstBelow orNext firstKind kinds
+  found-end t e l k n = let same : t ≡ H = omega arith in let f = rw same at e in sym (rw (f, no-vertex H n, past-move _, past-move _))

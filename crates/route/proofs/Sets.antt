@@ -1,5 +1,5 @@
 -- A search by sets of cells, over any rule of moves: what its passes have to show. F t is the set of cells that can be reached
--- by beat t, B t the set of cells from which the goal can be reached by the arrival. `SetsBest.antt` has what follows.
+-- by beat t, B t a set of cells from which the goal can be reached by the arrival. `SetsBest.antt` has what follows.
 use Prim.Native.Nat.{ℕ, suc, _≤_, _<_}
 use mathlib.Core.Bool.{Bool, true}
 use mathlib.Core.Logic.{_↔_}
@@ -38,14 +38,15 @@ pub record Least (ok : Rule) (goal H : ℕ) (F : Sets) (a : ℕ) : Type 0 where
   pub reaches : Reaches ok goal H F a
   pub none-before : (b : ℕ) → b < a → Reaches ok goal H F b → ⊥
 
--- Backward pass: B holds the cells that lead to the goal at beat a.
-pub record Backward (ok : Rule) (goal a : ℕ) (B : Sets) : Type 0 where
+-- Backward pass: B holds only cells that lead to the goal at beat a, and all of F that do.
+pub record Backward (ok : Rule) (goal a : ℕ) (F B : Sets) : Type 0 where
   pub begins : (c : ℕ) → (B a c ≡ true) ↔ (c ≡ goal)
-  pub spreads : (t c : ℕ) → t < a → (B t c ≡ true) ↔ Leading ok B t c
+  pub leads : (t c : ℕ) → t < a → B t c ≡ true → Leading ok B t c
+  pub holds : (t c : ℕ) → t < a → F t c ≡ true → Leading ok B t c → B t c ≡ true
 
--- Greedy walk: where some allowed cell of B comes next, x takes the smallest; from beat a through H it is at the goal.
-pub record Greedy (ok : Rule) (start goal H a : ℕ) (B : Sets) (x : ℕ → ℕ) : Type 0 where
+-- Greedy walk: where some allowed cell of B comes next, x takes the smallest; from beat a through H it stays.
+pub record Greedy (ok : Rule) (start H a : ℕ) (B : Sets) (x : ℕ → ℕ) : Type 0 where
   pub begins : x 0 ≡ start
   pub takes : (t d : ℕ) → t < a → ok t (x t) d ≡ true → B (suc t) d ≡ true →
       (ok t (x t) (x (suc t)) ≡ true) × (B (suc t) (x (suc t)) ≡ true) × (x (suc t) ≤ d)
-  pub stays : (t : ℕ) → a ≤ t → t ≤ H → x t ≡ goal
+  pub stays : (t : ℕ) → a ≤ t → t < H → x (suc t) ≡ x t

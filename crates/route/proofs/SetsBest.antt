@@ -1,15 +1,15 @@
 -- A search by sets of cells answers the best route, or none where there is none. By uniqueness it equals `best`.
-use Prim.Native.Nat.{ℕ, _≤_, _<_}
+use Prim.Native.Nat.{ℕ, zero, suc, _≤_, _<_}
 use native.Mathlib.Omega.{arith}
 use mathlib.Core.Bool.{true, false}
 use mathlib.Core.List.{List}
-use mathlib.Core.Path.{_≡_}
+use mathlib.Core.Path.{_≡_, refl, sym, ap, _∙_}
 use lib.ListN.{length}
 use Rattle.route.specs.Route.{cellAt, none, route, View, Task}
 use Rattle.route.specs.Best.{Admissible, BestRoute, Best}
-use Rattle.route.specs.Moves.{allowed, startClear}
+use Rattle.route.specs.Moves.{near, standable, allowed, startClear}
 use Rattle.route.specs.Search.{Rule, best}
-use Rattle.laws.proofs.Tests.{true-false-absurd}
+use Rattle.laws.proofs.Tests.{and-snd, true-false-absurd}
 use Rattle.route.proofs.Ways.{Held, way-held-last}
 use Rattle.route.proofs.AdmissibleLaws.{ByRule, admissible-by-rule}
 use Rattle.route.proofs.Leads.{Leads, leads-best}
@@ -23,8 +23,8 @@ pub record Found (task : Task) (vs : List View) (F B : Sets) (a : ℕ) (r : List
   pub clear : startClear task vs ≡ true
   pub forward : Forward (allowed task vs) (task .start) a F
   pub least : Least (allowed task vs) (task .goal) (task .horizon) F a
-  pub backward : Backward (allowed task vs) (task .goal) a B
-  pub greedy : Greedy (allowed task vs) (task .start) (task .goal) (task .horizon) a B (cellAt r)
+  pub backward : Backward (allowed task vs) (task .goal) a F B
+  pub greedy : Greedy (allowed task vs) (task .start) (task .horizon) a B (cellAt r)
   pub long : length r ≡ 64
   pub blank : (t : ℕ) → task .horizon < t → cellAt r t ≡ 0
 
@@ -67,7 +67,7 @@ module _ (task : Task) (vs : List View) where
       last : Held goal H (cellAt q) H
       last = way-held-last (by .way)
 
-  -- The three outcomes of a search, each equal to `best`.
+  -- The outcomes of a search, each equal to `best`.
   pub found-best : task .horizon ≤ 63 → (F B : Sets) (a : ℕ) (r : List ℕ) → Found task vs F B a r → best task vs ≡ route r
   unfolding Best
   found-best short F B a r f = best-unique task vs (best task vs) (route r) (best-meets task vs short) (found-best-route F B a r f)
@@ -81,3 +81,21 @@ module _ (task : Task) (vs : List View) where
   start-taken-best short e =
       best-unique task vs (best task vs) none (best-meets task vs short)
       (λ q adm. true-false-absurd ((admissible-by-rule task vs q adm) .starts) e)
+
+  -- An admissible route stands on the goal at the horizon.
+  goal-stood : (H : ℕ) (q : List ℕ) → task .horizon ≡ H → ByRule task vs q → standable task vs H (task .goal) ≡ true
+  unfolding startClear allowed
+  goal-stood zero q e by =
+      let p : task .start ≡ task .goal = sym (by .begins) ∙ rw e at (by .way .ends) in
+      ap (λ (c : ℕ). standable task vs 0 c) (sym p) ∙ by .starts
+  goal-stood (suc t) q e by =
+      let p : cellAt q (suc t) ≡ task .goal = rw e at (by .way .ends) in
+      rw p at
+      (and-snd (near (task .width) (cellAt q t) (cellAt q (suc t))) (standable task vs (suc t) (cellAt q (suc t)))
+      (by .way .steps t (omega arith)))
+
+  pub goal-shut-best : task .horizon ≤ 63 → standable task vs (task .horizon) (task .goal) ≡ false → best task vs ≡ none
+  unfolding Best
+  goal-shut-best short e =
+      best-unique task vs (best task vs) none (best-meets task vs short)
+      (λ q adm. true-false-absurd (goal-stood (task .horizon) q refl (admissible-by-rule task vs q adm)) e)

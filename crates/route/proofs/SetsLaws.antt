@@ -35,11 +35,11 @@ module _ (ok : Rule) (start goal H : ℕ) where
   module _
       (a : ℕ) (F B : Sets) (x : ℕ → ℕ)
       (forward : Forward ok start a F) (least : Least ok goal H F a)
-      (backward : Backward ok goal a B) (greedy : Greedy ok start goal H a B x) where
+      (backward : Backward ok goal a F B) (greedy : Greedy ok start H a B x) where
     -- The passes meet: going down from the goal at beat a, some cell is in both sets, at beat 0 the start.
     meet : (t c : ℕ) → t ≤ a → F t c ≡ true → B t c ≡ true → B 0 start ≡ true
     meet zero c l f b = rw ((forward .begins c) .0 f) at b
-    meet (suc t) c l f b = meet t (from .0) (omega arith) (from .1) ((backward .spreads t (from .0) l) .1 (c, from .2, b))
+    meet (suc t) c l f b = meet t (from .0) (omega arith) (from .1) (backward .holds t (from .0) l (from .1) (c, from .2, b))
       where
         from : Reached ok F t c
         from = (forward .spreads t c l) .0 f
@@ -52,7 +52,7 @@ module _ (ok : Rule) (start goal H : ℕ) where
     walk-next t l b = (taken .0, taken .1)
       where
         next : Leading ok B t (x t)
-        next = (backward .spreads t (x t) l) .0 b
+        next = backward .leads t (x t) l b
 
         taken : (ok t (x t) (x (suc t)) ≡ true) × (B (suc t) (x (suc t)) ≡ true) × (x (suc t) ≤ next .0)
         taken = greedy .takes t (next .0) l (next .1) (next .2)
@@ -61,6 +61,15 @@ module _ (ok : Rule) (start goal H : ℕ) where
     walk-in-backward zero l = rw (greedy .begins) starts
     walk-in-backward (suc t) l = (walk-next t l (walk-in-backward t (omega arith))) .1
 
+    -- At beat a the walk is at the goal, and it stays there.
+    at-goal : (t : ℕ) → a ≤ t → t ≤ H → x t ≡ goal
+    at-goal zero l h =
+        let e : a ≡ 0 = omega arith in
+        rw e at ((backward .begins (x a)) .0 (walk-in-backward a (omega arith)))
+    at-goal (suc t) l h =
+        ⊎-elim (λ (e : a ≡ suc t). rw e at ((backward .begins (x a)) .0 (walk-in-backward a (omega arith))))
+        (λ (e : a < suc t). greedy .stays t (omega arith) h ∙ at-goal t (omega arith) (omega arith)) (eq-or-lt-of-le l)
+
     walk-step : (t : ℕ) → t < H → ok t (x t) (x (suc t)) ≡ true
     walk-step t h = ⊎-elim before after (lt-or-le t a)
       where
@@ -68,7 +77,7 @@ module _ (ok : Rule) (start goal H : ℕ) where
         before l = (walk-next t l (walk-in-backward t (omega arith))) .0
 
         after : a ≤ t → ok t (x t) (x (suc t)) ≡ true
-        after l = rw (greedy .stays t l (omega arith), greedy .stays (suc t) (omega arith) h) (least .reaches .holds t l h)
+        after l = rw (at-goal t l (omega arith), at-goal (suc t) (omega arith) h) (least .reaches .holds t l h)
 
     -- No way from the start is at the goal for good before a.
     no-earlier : (p : ℕ → ℕ) (b : ℕ) → Way goal H ok p → p 0 ≡ start → Held goal H p b → a ≤ b
@@ -78,14 +87,14 @@ module _ (ok : Rule) (start goal H : ℕ) where
         early l = least .none-before b l (held-reaches a F p b forward w e h (omega arith))
 
     -- A way that is at the goal at beat a is in the backward sets, going down from there.
-    way-in-backward : (p : ℕ → ℕ) → Way goal H ok p → p a ≡ goal → (k t : ℕ) → t + k ≡ a → B t (p t) ≡ true
-    way-in-backward p w e zero t q = rw last ((backward .begins (p a)) .1 e)
+    way-in-backward : (p : ℕ → ℕ) → Way goal H ok p → p 0 ≡ start → p a ≡ goal → (k t : ℕ) → t + k ≡ a → B t (p t) ≡ true
+    way-in-backward p w s e zero t q = rw last ((backward .begins (p a)) .1 e)
       where
         last : t ≡ a
         last = omega arith
-    way-in-backward p w e (suc k) t q =
-        (backward .spreads t (p t) (omega arith)) .1
-        (p (suc t), w .steps t (omega (arith, least .within)), way-in-backward p w e k (suc t) (omega arith))
+    way-in-backward p w s e (suc k) t q =
+        backward .holds t (p t) (omega arith) (way-in-forward a F p forward w s t (omega arith) (omega (arith, least .within)))
+        (p (suc t), w .steps t (omega (arith, least .within)), way-in-backward p w s e k (suc t) (omega arith))
 
     -- The walk against another way, beat by beat: the same so far, or the walk is ahead.
     compare : (p : ℕ → ℕ) → Way goal H ok p → p 0 ≡ start → p a ≡ goal → (t : ℕ) → t ≤ a → Same t p x ⊎ Ahead t x p
@@ -97,7 +106,7 @@ module _ (ok : Rule) (start goal H : ℕ) where
     compare p w e g (suc t) l = go (compare p w e g t (omega arith))
       where
         smallest : p t ≡ x t → x (suc t) ≤ p (suc t)
-        smallest q = (greedy .takes t (p (suc t)) l move (way-in-backward p w g (a - suc t) (suc t) (omega arith))) .2
+        smallest q = (greedy .takes t (p (suc t)) l move (way-in-backward p w e g (a - suc t) (suc t) (omega arith))) .2
           where
             move : ok t (x t) (p (suc t)) ≡ true
             move = rw q at (w .steps t (omega (arith, least .within)))
@@ -117,15 +126,15 @@ module _ (ok : Rule) (start goal H : ℕ) where
     through p h (inl s) = inl all
       where
         all : Same H p x
-        all i l = ⊎-elim (λ (k : i < a). s i (omega arith)) (λ (k : a ≤ i). h .held i k l ∙ sym (greedy .stays i k l)) (lt-or-le i a)
+        all i l = ⊎-elim (λ (k : i < a). s i (omega arith)) (λ (k : a ≤ i). h .held i k l ∙ sym (at-goal i k l)) (lt-or-le i a)
     through p h (inr k) =
         inr (record { beat = k .beat; within = omega (arith, k .within, least .within); smaller = k .smaller; same = k .same })
 
     pub greedy-leads : Leads goal H ok start a x
     greedy-leads =
         record {
-          way = record { steps = walk-step; ends = greedy .stays H (least .within) (omega arith) };
-          held = record { within = least .within; held = greedy .stays };
+          way = record { steps = walk-step; ends = at-goal H (least .within) (omega arith) };
+          held = record { within = least .within; held = at-goal };
           least = no-earlier;
           first = λ p w e h. through p h (compare p w e (h .held a (omega arith) (least .within)) a (omega arith));
         }

@@ -1,4 +1,4 @@
--- Conflicts of two routes, by beat (document 01, 'Routes'). H is the horizon, a beat itself.
+-- Conflicts of two routes, by beat (document 01, 'Routes'; document 02, slip 9). H is the horizon, a beat itself.
 use Prim.Native.Nat.{ℕ, suc, _≤_, _<_}
 use mathlib.Core.List.{List, List·Memᴰ}
 use mathlib.Core.Logic.{_⊎_}
@@ -13,14 +13,25 @@ VertexConflict a b t = cellAt a t ≡ cellAt b t
 unfoldable pub SwapConflict : List ℕ → List ℕ → ℕ → Type 0
 SwapConflict a b t = (cellAt a t ≡ cellAt b (suc t)) × (cellAt a (suc t) ≡ cellAt b t)
 
+-- Route a enters, between beats t and t + 1, the cell that b leaves: it is then where b was, a moves, and b does not stay.
+unfoldable pub Follows : List ℕ → List ℕ → ℕ → Type 0
+Follows a b t = (cellAt a (suc t) ≡ cellAt b t) × (cellAt a (suc t) ≡ cellAt a t → ⊥) × (cellAt b (suc t) ≡ cellAt b t → ⊥)
+
+-- Following conflict (the paper's 'following') between beats t and t + 1, whichever enters.
+unfoldable pub FollowingConflict : List ℕ → List ℕ → ℕ → Type 0
+FollowingConflict a b t = Follows a b t ⊎ Follows b a t
+
 -- Routes a and b conflict through beat H.
 unfoldable pub Conflict : ℕ → List ℕ → List ℕ → Type 0
-Conflict H a b = ((t : ℕ) × (t ≤ H) × VertexConflict a b t) ⊎ ((t : ℕ) × (t < H) × SwapConflict a b t)
+Conflict H a b =
+    ((t : ℕ) × (t ≤ H) × VertexConflict a b t) ⊎
+    (((t : ℕ) × (t < H) × SwapConflict a b t) ⊎ ((t : ℕ) × (t < H) × FollowingConflict a b t))
 
--- Routes a and b have neither conflict through beat H.
+-- Routes a and b have none of these conflicts through beat H.
 pub record ConflictFree (H : ℕ) (a b : List ℕ) : Type 0 where
   pub no-vertex : (t : ℕ) → t ≤ H → VertexConflict a b t → ⊥
   pub no-swap : (t : ℕ) → t < H → SwapConflict a b t → ⊥
+  pub no-following : (t : ℕ) → t < H → FollowingConflict a b t → ⊥
 
 -- The view shows no route.
 unfoldable pub Silent : View → Type 0

@@ -1,30 +1,44 @@
 -- The conflict test of two routes as it is computed, beat by beat and kind by kind; and what the test of two routes is.
 use Prim.Native.Nat.{ℕ, zero, suc}
-use mathlib.Core.Bool.{Bool, cond, _&&_}
+use mathlib.Core.Bool.{Bool, cond, _&&_, _||_, not}
 use mathlib.Core.List.{List, [], _∷_}
 use mathlib.Core.Logic.{_↔_}
 use mathlib.Core.Path.{_≡_}
 use lib.Dec.{eqb, ltb}
 use Rattle.route.specs.Route.{cellAt}
 use Rattle.route.specs.Conflict.{Conflict, ConflictFree}
-use Rattle.route.specs.FirstConflict.{ConflictKind, sameCell, changeOfPlaces, FirstAt, ConflictAnswer, free, dated}
+use Rattle.route.specs.FirstConflict.{ConflictKind, sameCell, changeOfPlaces, following, FirstAt, ConflictAnswer, free, dated}
 use Rattle.route.specs.declared.FirstConflict.{FirstConflict}
-use Rattle.route.specs.declared.FirstConflict.the-variants.{Free, SameCell, ChangeOfPlaces}
+use Rattle.route.specs.declared.FirstConflict.the-variants.{Free, SameCell, ChangeOfPlaces, Following}
 
 -- What each case of the code's answer says.
 unfoldable pub conflictTold : FirstConflict → ConflictAnswer
 conflictTold Free = free
 conflictTold (SameCell t) = dated t sameCell
 conflictTold (ChangeOfPlaces t) = dated t changeOfPlaces
+conflictTold (Following t) = dated t following
+
+-- A move from c to d and one from x to y change places.
+unfoldable pub changes : ℕ → ℕ → ℕ → ℕ → Bool
+changes c d x y = eqb c y && eqb d x
+
+-- A move from c to d enters the cell that a move from x to y leaves.
+unfoldable pub enters : ℕ → ℕ → ℕ → ℕ → Bool
+enters c d x y = eqb d x && (not (eqb d c) && not (eqb y x))
+
+-- Of a move from c to d and one from x to y, one enters the cell that the other leaves.
+unfoldable pub follows : ℕ → ℕ → ℕ → ℕ → Bool
+follows c d x y = enters c d x y || enters x y c d
 
 -- The test of a kind at a beat up to H.
 unfoldable pub isConflict : ℕ → List ℕ → List ℕ → ℕ → ConflictKind → Bool
 isConflict H a b t sameCell = eqb (cellAt a t) (cellAt b t)
-isConflict H a b t changeOfPlaces = ltb t H && (eqb (cellAt a t) (cellAt b (suc t)) && eqb (cellAt a (suc t)) (cellAt b t))
+isConflict H a b t changeOfPlaces = ltb t H && changes (cellAt a t) (cellAt a (suc t)) (cellAt b t) (cellAt b (suc t))
+isConflict H a b t following = ltb t H && follows (cellAt a t) (cellAt a (suc t)) (cellAt b t) (cellAt b (suc t))
 
 -- The kinds in their order.
 unfoldable pub kinds : List ConflictKind
-kinds = sameCell ∷ changeOfPlaces ∷ []
+kinds = sameCell ∷ changeOfPlaces ∷ following ∷ []
 
 -- The first kind of a list whose test holds at beat t.
 unfoldable pub firstKind : ℕ → List ℕ → List ℕ → ℕ → List ConflictKind → ConflictAnswer

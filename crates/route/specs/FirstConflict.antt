@@ -1,25 +1,30 @@
--- The first conflict of two routes (document 02, slip 7), declared: its kind and its beat. H is the horizon, a beat itself. A further kind
--- is a constructor with its place in the order and a line of `ConflictAt`; of the test, a line of `isConflict` and a name in `kinds`.
+-- The first conflict of two routes (document 02, slips 7 and 9), declared: its kind and its beat. H is the horizon, a beat itself. A
+-- further kind is a constructor with its place in the order and a line of `ConflictAt`; of the test, a line of `isConflict` and a name in
+-- `kinds`.
 use Prim.Native.Nat.{ℕ, _≤_, _<_}
 use mathlib.Core.List.{List}
 use mathlib.Core.Logic.{_⊎_}
 use mathlib.Core.Path.{_≡_}
-use Rattle.route.specs.Conflict.{VertexConflict, SwapConflict}
+use Rattle.route.specs.Conflict.{VertexConflict, SwapConflict, FollowingConflict}
 
--- The kinds of conflict: vertex conflict (the paper's 'same cell'), swap conflict (its 'change of places').
+-- The kinds of conflict: vertex conflict (the paper's 'same cell'), swap conflict (its 'change of places'), following conflict.
 pub data ConflictKind : Type 0 where
   sameCell : ConflictKind
   changeOfPlaces : ConflictKind
+  following : ConflictKind
 
 -- The place of a kind in the order of those at one beat.
 unfoldable pub rankOf : ConflictKind → ℕ
 rankOf sameCell = 0
 rankOf changeOfPlaces = 1
+rankOf following = 2
 
--- Routes a and b have a conflict of a kind at beat t, through beat H; a change of places is dated by the beat before it.
+-- Routes a and b have a conflict of a kind at beat t, through beat H; a change of places and a following are dated by the
+-- beat before it.
 unfoldable pub ConflictAt : ℕ → List ℕ → List ℕ → ℕ → ConflictKind → Type 0
 ConflictAt H a b t sameCell = (t ≤ H) × VertexConflict a b t
 ConflictAt H a b t changeOfPlaces = (t < H) × SwapConflict a b t
+ConflictAt H a b t following = (t < H) × FollowingConflict a b t
 
 -- The conflict at beat t of kind k is the first: there is none at an earlier beat, and none of an earlier kind at that beat.
 pub record FirstAt (H : ℕ) (a b : List ℕ) (t : ℕ) (k : ConflictKind) : Type 0 where

@@ -2,6 +2,7 @@
 pub mod Route
 pub mod Conflict
 pub mod FirstConflict
+pub mod Spaced
 pub mod Best
 pub mod Moves
 pub mod Search

@@ -1,5 +1,5 @@
 -- The rule of moves: which cell may follow which, at which beat. A Bool, so that a search computes with it.
-use Prim.Native.Nat.{ℕ, suc, _/_, _%_}
+use Prim.Native.Nat.{ℕ, suc, _-_, _/_, _%_}
 use mathlib.Core.Bool.{Bool, true, _&&_, _||_, not}
 use mathlib.Core.List.{List, [], _∷_}
 use lib.Dec.{ltb, eqb}
@@ -13,30 +13,25 @@ neighbours m n = eqb m (suc n) || eqb n (suc m)
 unfoldable pub near : ℕ → ℕ → ℕ → Bool
 near w c d = eqb d c || (eqb (c / w) (d / w) && neighbours (c % w) (d % w)) || (eqb (c % w) (d % w) && neighbours (c / w) (d / w))
 
--- Cell d is not the view's at beat t.
-unfoldable pub vacant : ℕ → ℕ → View → Bool
-vacant t d unheard = true
-vacant t d (heard none) = true
-vacant t d (heard (route q)) = not (eqb d (cellAt q t))
-
--- The view does not go from d to c between beats t and t + 1.
-unfoldable pub passable : ℕ → ℕ → ℕ → View → Bool
-passable t c d unheard = true
-passable t c d (heard none) = true
-passable t c d (heard (route q)) = not (eqb c (cellAt q (suc t)) && eqb d (cellAt q t))
+-- Cell d is not the view's at beat t, nor at the next one up to the horizon H, nor at the one before. Numbers after beat H are not read.
+unfoldable pub vacant : ℕ → ℕ → ℕ → View → Bool
+vacant H t d unheard = true
+vacant H t d (heard none) = true
+vacant H t d (heard (route q)) =
+    not (eqb d (cellAt q t)) && not (ltb t H && eqb d (cellAt q (suc t))) && not (ltb 0 t && eqb d (cellAt q (t - 1)))
 
 -- The test holds of every view of a list.
 unfoldable pub every : (View → Bool) → List View → Bool
 every p [] = true
 every p (v ∷ vs) = p v && every p vs
 
--- Cell d may be stood on at beat t: it is in the grid, no wall, and no view's then.
+-- Cell d may be stood on at beat t: it is in the grid, no wall, and no view's then or at a beat beside it.
 unfoldable pub standable : Task → List View → ℕ → ℕ → Bool
-standable task vs t d = ltb d (task .cells) && task .free d && every (vacant t d) vs
+standable task vs t d = ltb d (task .cells) && task .free d && every (vacant (task .horizon) t d) vs
 
--- From cell c at beat t to cell d at beat t + 1 is allowed.
+-- From cell c at beat t to cell d at beat t + 1 is allowed: no move as such is forbidden, only where it leads.
 unfoldable pub allowed : Task → List View → ℕ → ℕ → ℕ → Bool
-allowed task vs t c d = near (task .width) c d && standable task vs (suc t) d && every (passable t c d) vs
+allowed task vs t c d = near (task .width) c d && standable task vs (suc t) d
 
 -- The start may be stood on at beat 0, which no move looks at.
 unfoldable pub startClear : Task → List View → Bool

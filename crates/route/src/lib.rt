@@ -1,9 +1,9 @@
-// Routes: the conflict test of two routes and the arrival of a route (document 01, 'Routes'; document 02, slip 7).
+// Routes: the conflict test of two routes and the arrival of a route (document 01, 'Routes'; document 02, slips 7 and 9).
 // A route is 64 cell numbers, one a beat; a horizon above 63 counts as 63.
 ghost use mathlib.Core.Path.{_≡_};
 ghost use Prim.Native.Nat.{_≤_, min};
 ghost use Rattle.route.specs.Arrival.{arrivalOf};
-ghost use Rattle.route.specs.ConflictTest.{conflictTold, firstConflict};
+ghost use Rattle.route.specs.ConflictTest.{conflictTold, changes, enters, follows, firstConflict};
 
 // A route, handed about whole: its cell at each beat, 0 after the horizon.
 pub type Route = [u16; 64];
@@ -23,9 +23,41 @@ pub enum FirstConflict {
     SameCell(usize),
     // They change places between this beat and the next.
     ChangeOfPlaces(usize),
+    // One enters, between this beat and the next, the cell that the other leaves.
+    Following(usize),
 }
 
-// The first conflict of two routes through the horizon; at one beat same cell comes before change of places.
+// Whether a move from c to d and one from x to y change places.
+fn change_places(c: u16, d: u16, x: u16, y: u16) -> bool
+    ensures { λ r. ⌜ r ≡ changes c d x y ⌝ }
+{
+    if c == y { d == x } else { false }
+}
+
+// Whether a move from c to d enters the cell that a move from x to y leaves.
+fn enters_left(c: u16, d: u16, x: u16, y: u16) -> bool
+    ensures { λ r. ⌜ r ≡ enters c d x y ⌝ }
+{
+    if d != x {
+        return false;
+    }
+    if d == c {
+        return false;
+    }
+    y != x
+}
+
+// Whether, of a move from c to d and one from x to y, one enters the cell that the other leaves.
+fn following(c: u16, d: u16, x: u16, y: u16) -> bool
+    ensures { λ r. ⌜ r ≡ follows c d x y ⌝ }
+{
+    if enters_left(c, d, x, y) {
+        return true;
+    }
+    enters_left(x, y, c, d)
+}
+
+// The first conflict of two routes through the horizon; at one beat same cell comes before change of places, and this before following.
 pub fn first_conflict(a: Route, b: Route, horizon: u16) -> FirstConflict
     ensures answers { λ r. ⌜ conflictTold r ≡ firstConflict (min horizon 63) a b ⌝ }
 {
@@ -33,13 +65,18 @@ pub fn first_conflict(a: Route, b: Route, horizon: u16) -> FirstConflict
     let mut t: usize = 0;
     while t < last {
         let next = t + 1;
-        if a[t] == b[t] {
+        let c = a[t];
+        let d = a[next];
+        let x = b[t];
+        let y = b[next];
+        if c == x {
             return FirstConflict::SameCell(t);
         }
-        if a[t] == b[next] {
-            if a[next] == b[t] {
-                return FirstConflict::ChangeOfPlaces(t);
-            }
+        if change_places(c, d, x, y) {
+            return FirstConflict::ChangeOfPlaces(t);
+        }
+        if following(c, d, x, y) {
+            return FirstConflict::Following(t);
         }
         t = next;
     }

@@ -10,7 +10,7 @@ use Rattle.floor.specs.Checks.{within, limitsOf, lentOf, roomOf, startOf, goalO
 use Rattle.floor.specs.Checks.{inGrid, carrierInGrid, carriersOf, wallsOf, risingOf, among}
 use Rattle.floor.specs.Checks.{clearOfWalls, clearOf, unshared, distinctOf, placesOf, checkOf}
 use Rattle.route.specs.Route.{cellAt, none, route}
-use Rattle.route.specs.Moves.{neighbours, near, vacant, passable, every, standable, allowed, startClear}
+use Rattle.route.specs.Moves.{neighbours, near, vacant, every, standable, allowed, startClear}
 use Rattle.route.specs.Search.{cost, cheaper, cheapest, beatsFrom, val, walk, walkFrom, best}
 use Rattle.records.specs.Records.{viewOf, recordAt, viewAt, records, viewsOf}
 use Rattle.records.specs.Seen.{parked, seenAs, seenFrom, seen}
@@ -52,7 +52,7 @@ cases : Cases
 unfolding searchOf _gives_ requestOf checkOf limitsOf lentOf roomOf placesOf carriersOf wallsOf risingOf clearOf distinctOf within demand
     _then_ demandEach inTurn inGrid carrierInGrid startOf goalOf clearOfWalls among unshared taskOf viewsOf records viewAt recordAt viewOf
     part seenAs seenFrom seen parked cellAt
-    neighbours near vacant passable every standable allowed startClear cost cheaper cheapest beatsFrom val walk walkFrom best
+    neighbours near vacant every standable allowed startClear cost cheaper cheapest beatsFrom val walk walkFrom best
 cases =
     record {
       first-carrier = refl;

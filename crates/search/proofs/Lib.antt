@@ -1,8 +1,5 @@
 -- Laws of the definitions, of the loops, and the claims. What other crates cite is `pub`.
-pub mod NarrowLaws
-pub mod ApartLaws
-pub mod PassLaws
-pub mod FoundLaws
+pub mod SeekLaws
 pub mod SearchLaws
 pub mod GroundLaws
 pub mod RowsFree

@@ -4,6 +4,6 @@ pub mod Task
 pub mod Answers
 pub mod Search
 pub mod Rows
-pub mod Along
+pub mod Seek
 pub mod Refused
 pub mod Claims

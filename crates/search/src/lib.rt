@@ -13,12 +13,9 @@ use tables::Scene;
 use tables::room;
 use tables::scene_of;
 use tables::table;
-use tables::window;
-use tables::window::Window;
 ghost use mathlib.Core.Path.{_≡_};
 ghost use Prim.Native.Nat.{ℕ, _+_, _-_, _*_, _≤_, _<_};
 ghost use lib.ListN.{length, replicate};
-ghost use mathlib.Core.Bool.{true};
 ghost use mathlib.Core.List.{List};
 ghost use Rattle.floor.specs.Answers.{verdictOf};
 ghost use Rattle.laws.specs.Verdict.{demand, refusal};
@@ -26,11 +23,10 @@ ghost use Rattle.floor.specs.Checks.{within};
 ghost use Rattle.route.specs.Route.{none as Route·none};
 ghost use Rattle.route.specs.Search.{best};
 ghost use Rattle.search.specs.Answers.{answered, Says};
-ghost use Rattle.search.specs.Along.{Along};
+ghost use Rattle.search.specs.Seek.{BestIn};
 ghost use Rattle.words.specs.Rows.{Clean};
-ghost use Rattle.tables.specs.Table.{sceneOf, Fits, Tidy, inSet};
+ghost use Rattle.tables.specs.Table.{sceneOf, Grid, Tidy};
 ghost use Rattle.tables.specs.Room.{Roomy, OneMore};
-ghost use Rattle.tables.specs.Windowed.{Fitting, Windowed};
 ghost use Rattle.search.specs.Search.{requestOf, searchOf};
 ghost use Rattle.search.specs.Task.{taskOfRows};
 ghost use Rattle.records.specs.Records.{viewsOf};
@@ -76,65 +72,50 @@ fn refused(x: Refusal) -> Found
     }
 }
 
-// The route to the goal with its least arrival a, along a table of the sets that the start reaches.
-fn along(
-    g: Scene,
-    k: usize,
-    v: Window,
-    sets: &mut [u32],
-    room: &[u32],
-    views: &[u16],
-    start: usize,
-    goal: usize,
-    a: usize,
-) -> Found
-    requires { ⌜ Fits g k (now views) × Fitting g v × (start < g .cells) × (goal < g .cells) × (a ≤ v .limit) ⌝ }
-    requires { ⌜ ((free : List ℕ) × Roomy g k free (now views) (now room)) ⌝ }
-    requires { ⌜ Windowed g v (now sets) × (inSet g (now sets) a goal ≡ true) ⌝ }
-    ensures { λ r. ⌜ Along g k v (now (views .entry)) (now (sets .entry)) start goal a r ⌝ }
+// The best route from the start to the goal in a room; the sets are a table to work in.
+fn seek(g: Scene, sets: &mut [u32], room: &[u32], start: usize, goal: usize) -> Found
+    requires { ⌜ Grid g × (g .horizon ≤ 63) × (start < g .cells) × (goal < g .cells) ⌝ }
+    requires { ⌜ Tidy g (now sets) × Tidy g (now room) ⌝ }
+    ensures tidy { λ r. ⌜ Tidy g (now (sets .exit)) ⌝ }
+    ensures best { λ r. ⌜ BestIn g (now (room .entry)) start goal r ⌝ }
 {
-    backward::leading(g, k, v, sets, room, views, goal, a);
+    if !table::member(g, room, 0, start) {
+        return none();
+    }
+    if !table::member(g, room, g.horizon, goal) {
+        return none();
+    }
+    let hold = forward::hold_from(g, room, goal);
+    let a = forward::forward(g, sets, room, start, goal, hold);
+    if g.horizon < a {
+        return none();
+    }
+    backward::backward(g, sets, room, goal, a);
     Found {
         outcome: Outcome::Route,
-        route: walk::walk(g, k, sets, room, views, start, goal, a),
+        route: walk::walk(g, sets, start, a),
     }
 }
 
-// The best route of a carrier of a checked floor against the views as they stand, in the room that these and its free cells leave.
-pub fn route_in(f: Floor, free: Rows, room: &[u32], carrier: u16, views: &[u16]) -> Found
-    requires { ⌜ Searchable f free carrier (now views) ⌝ }
+// The best route of a carrier of a checked floor against the views as they stand, in the room that these and its free cells leave; the
+// sets are a table to work in.
+pub fn route_in(
+    f: Floor,
+    free: Rows,
+    room: &[u32],
+    sets: &mut [u32],
+    carrier: u16,
+    views: &[u16],
+) -> Found
+    requires { ⌜ Searchable f free carrier (now views) × Tidy (sceneOf f) (now sets) ⌝ }
     requires { ⌜ Roomy (sceneOf f) (carrier - 1) free (now views) (now room) ⌝ }
-    ensures { λ r. ⌜ Says r (answered (best (taskOfRows f free carrier) (viewsOf (now (views .entry)) carrier))) ⌝ }
+    ensures tidy { λ r. ⌜ Tidy (sceneOf f) (now (sets .exit)) ⌝ }
+    ensures best { λ r. ⌜ Says r (answered (best (taskOfRows f free carrier) (viewsOf (now (views .entry)) carrier))) ⌝ }
 {
     let k = carrier as usize - 1;
     let start = f.starts[k] as usize;
     let goal = f.goals[k] as usize;
-    let g = scene_of(f);
-    if !table::member(g, room, 0, start) {
-        return none();
-    }
-    let far = window::far(g, start, goal);
-    if g.horizon < far {
-        return none();
-    }
-    let hold = forward::hold_from(g, room, goal);
-    let near = window::near_limit(g, far, hold);
-    let v = window::around(g, start, goal, near);
-    let mut sets = table::empty();
-    let a = forward::reach(g, k, v, &mut sets, room, views, start, goal, hold);
-    if a <= near {
-        return along(g, k, v, &mut sets, room, views, start, goal, a);
-    }
-    if g.horizon <= near {
-        return none();
-    }
-    let all = window::around(g, start, goal, g.horizon);
-    sets = table::empty();
-    let b = forward::reach(g, k, all, &mut sets, room, views, start, goal, hold);
-    if g.horizon < b {
-        return none();
-    }
-    along(g, k, all, &mut sets, room, views, start, goal, b)
+    seek(scene_of(f), sets, room, start, goal)
 }
 
 // The best route of a carrier of a checked floor, with its free cells as rows, against the views as they stand.
@@ -144,7 +125,8 @@ fn best_against(f: Floor, free: Rows, carrier: u16, views: &[u16]) -> Found
 {
     let mut room = table::empty();
     room::make(scene_of(f), carrier as usize - 1, &mut room, &free, views);
-    route_in(f, free, &room, carrier, views)
+    let mut sets = table::empty();
+    route_in(f, free, &room, &mut sets, carrier, views)
 }
 
 // The best route of a carrier of a checked floor, with its free cells as rows, against the views of the carriers above it as they are
@@ -204,7 +186,7 @@ pub fn search(f: Floor, walls: &[u16], carrier: u16, views: &[u16]) -> Found
     refused(x)
 }
 
-// A table of empty sets, for a room.
+// A table of empty sets, for a room or to work in.
 pub fn no_room() -> [u32; table::WORDS]
     ensures { λ r. ⌜ r ≡ replicate 2304 0 ⌝ }
 {

@@ -1,5 +1,6 @@
-// A second planner, for tests: it knows nothing of sets of cells, and asks of each carrier where it is by what it told. It fills a table of least arrivals from the horizon down, a number a
-// beat and cell, and walks along it. Every function answers for any numbers, so none has a `requires`.
+// A second planner, for tests: it knows nothing of sets of cells, and asks of each move, by the three kinds of conflict, what carriers
+// told. It fills a table of least arrivals from the horizon down, a number a beat and cell, and walks along it. Every function answers
+// for any numbers, so none has a `requires`.
 mod arrivals;
 mod ground;
 mod offers;
@@ -10,7 +11,10 @@ mod walk;
 
 use arrivals::fill;
 use floor::Floor;
-use offers::conflicts;
+use offers::CHANGE_OF_PLACES;
+use offers::CLEAR;
+use offers::SAME_CELL;
+use offers::kind_with;
 use places::at;
 use places::wide;
 use route::Route;
@@ -18,7 +22,6 @@ use table::after;
 use table::value;
 use views::met;
 use views::tell;
-use views::told;
 ghost use mathlib.Core.Path.{_≡_};
 ghost use lib.ListN.{length};
 
@@ -66,13 +69,25 @@ fn last_beat(horizon: u16) -> usize {
     if horizon < 63 { wide(horizon) } else { 63 }
 }
 
-// The number of a conflict that a move from beat t has: 1 + 2 u for the same cell at beat u, 2 + 2 u for a change of places after it.
-fn number_of(view: &[u16], r: Route, t: usize) -> usize {
-    let next = after(t);
-    if told(&[65535u16; 8], view, 0, next) == at(&r, next) {
-        return 2 * next + 1;
+// The number one less, 0 at the least.
+fn before(n: usize) -> usize {
+    if n == 0 {
+        return 0;
     }
-    2 * next
+    n - 1
+}
+
+// The number of a conflict of a kind that a move from beat t has: 1 + 3 u for the same cell at beat u, 2 + 3 u for a change of places after
+// it, 3 + 3 u for a following after it.
+fn number_of(t: usize, kind: usize) -> usize {
+    let next = 3 * after(t);
+    if kind == SAME_CELL {
+        return next + 1;
+    }
+    if kind == CHANGE_OF_PLACES {
+        return before(next);
+    }
+    next
 }
 
 // The number of the first conflict of a route with one that was told, by the test that this planner makes of each move; 0 for none. A
@@ -85,8 +100,9 @@ pub fn second_conflict(view: &[u16], r: Route, horizon: u16) -> usize {
     let last = last_beat(horizon);
     let mut t: usize = 0;
     while t < last {
-        if conflicts(&nowhere, view, 1, t, at(&r, t), at(&r, after(t))) {
-            return number_of(view, r, t);
+        let kind = kind_with(&nowhere, view, 0, t, at(&r, t), at(&r, after(t)));
+        if kind != CLEAR {
+            return number_of(t, kind);
         }
         t += 1;
     }

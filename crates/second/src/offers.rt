@@ -8,18 +8,61 @@ use crate::table::value;
 use crate::views::told;
 use floor::Floor;
 
-// Whether one of the first k carriers is in cell d at the next beat, or goes from d to c, by what it told.
-pub fn conflicts(starts: &[u16], views: &[u16], k: usize, t: usize, c: usize, d: usize) -> bool {
-    let next = after(t);
+// No conflict of two moves.
+pub const CLEAR: usize = 0;
+// Same cell, at the later beat.
+pub const SAME_CELL: usize = 1;
+// Change of places, dated by the earlier beat.
+pub const CHANGE_OF_PLACES: usize = 2;
+// Following, dated by the earlier beat.
+const FOLLOWING: usize = 3;
+
+// Whether a move from c to d enters a cell that a move from x to y leaves: it is a move, not a stay, and so is the other.
+fn enters(c: usize, d: usize, x: usize, y: usize) -> bool {
+    if d != x {
+        return false;
+    }
+    if c == d {
+        return false;
+    }
+    x != y
+}
+
+// The kind of conflict of a move from c to d with one from x to y, by the three kinds: those dated by the earlier beat first.
+fn kind_of(c: usize, d: usize, x: usize, y: usize) -> usize {
+    if c == y {
+        if d == x {
+            return CHANGE_OF_PLACES;
+        }
+    }
+    if enters(c, d, x, y) {
+        return FOLLOWING;
+    }
+    if enters(x, y, c, d) {
+        return FOLLOWING;
+    }
+    if d == y {
+        return SAME_CELL;
+    }
+    CLEAR
+}
+
+// The kind of conflict of going from c at beat t to d at the next with what carrier j + 1 told.
+pub fn kind_with(starts: &[u16], views: &[u16], j: usize, t: usize, c: usize, d: usize) -> usize {
+    kind_of(
+        c,
+        d,
+        told(starts, views, j, t),
+        told(starts, views, j, after(t)),
+    )
+}
+
+// Whether going from c at beat t to d at the next is in conflict with one of the first k carriers, by what it told.
+fn conflicts(starts: &[u16], views: &[u16], k: usize, t: usize, c: usize, d: usize) -> bool {
     let mut j: usize = 0;
     while j < k {
-        if told(starts, views, j, next) == d {
+        if kind_with(starts, views, j, t, c, d) != CLEAR {
             return true;
-        }
-        if told(starts, views, j, next) == c {
-            if told(starts, views, j, t) == d {
-                return true;
-            }
         }
         j += 1;
     }

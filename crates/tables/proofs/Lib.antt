@@ -1,14 +1,12 @@
 -- Laws of the definitions and of the loops. What other crates cite is `pub`.
 pub mod GridLaws
-pub mod WayLaws
-pub mod CrossLaws
 pub mod SetLaws
 pub mod PlaceLaws
 pub mod RewriteLaws
-pub mod CarryLaws
+pub mod AloneLaws
+pub mod MemberLaws
+pub mod BroughtLaws
+pub mod StepLaws
 pub mod FreeLaws
 pub mod TakenLaws
 pub mod RoomLaws
-pub mod WindowLaws
-pub mod AroundLaws
-pub mod LayLaws

@@ -2,19 +2,22 @@
 use Prim.Native.Nat.{ℕ, zero, suc, _+_, _*_, _-_, _/_, _%_, _≤_, _<_}
 use native.Mathlib.Omega.{arith}
 use native.Mathlib.Numerals.{add-one}
-use mathlib.Core.Bool.{Bool, true, false, _&&_, not, and-true, and-comm, and-assoc}
+use mathlib.Core.Bool.{Bool, true, false, _&&_, and-true, and-comm, and-assoc}
 use mathlib.Core.List.{List}
+use mathlib.Core.Logic.{_↔_}
 use mathlib.Core.Path.{_≡_, refl, sym, ap₂, _∙_, ap}
+use borrow.Author.Tests.{ltb-true}
 use lib.Dec.{eqb, ltb}
 use lib.ListN.{getD}
 use Rattle.records.proofs.ViewsLaws.{every-more}
 use Rattle.tables.proofs.FreeLaws.{free-tidy}
+use Rattle.route.specs.Route.{View}
 use Rattle.route.specs.Moves.{vacant, every}
-use Rattle.laws.proofs.Tests.{below-same, inside-same}
+use Rattle.laws.proofs.Tests.{and-both, and-fst, and-snd, same-test, below-same, inside-same}
 use Rattle.words.specs.Rows.{has, Clean}
 use Rattle.words.proofs.RowsLaws.{place-row}
 use Rattle.tables.specs.declared.Scene.{Scene}
-use Rattle.records.specs.Records.{records, viewAt, viewCell}
+use Rattle.records.specs.Records.{records, viewAt, viewCell, Away}
 use Rattle.tables.specs.Table.{inSet}
 use Rattle.tables.specs.Room.{FreeBeats, TakenBeats, standsAt, Roomy}
 use Rattle.records.proofs.CellLaws.{vacant-cell}
@@ -37,20 +40,23 @@ free-roomy g free m s n thin room late beats clean = record {
 }
 
 -- What can be stood on among one more view.
-stands-more : (g : Scene) (free m : List ℕ) (j t c : ℕ) → g .width ≤ 32 → g .cells ≤ 32 * g .width → t < 64 →
-    (standsAt g j free m t c && not (eqb c (viewCell m j t))) ≡ standsAt g (suc j) free m t c
+stands-more : (g : Scene) (free m : List ℕ) (j t c : ℕ) → standsAt g (suc j) free m t c ≡
+    (standsAt g j free m t c && vacant (g .horizon) t c (viewAt m j))
 unfolding standsAt
-stands-more g free m j t c narrow room h =
-    and-assoc (ltb c (g .cells) && here) old (not (eqb c (viewCell m j t)))
-    ∙ inside-same c (g .cells) here (old && not (eqb c (viewCell m j t))) (vacant t c (viewAt m j) && old)
-    (λ l. rw (← vacant-cell m j t c h (omega arith)) (and-comm old (vacant t c (viewAt m j))))
-    ∙ ap (λ (b : Bool). ltb c (g .cells) && here && b) (sym (every-more (vacant t c) m j))
+stands-more g free m j t c =
+    ap (λ (b : Bool). here && b) (every-more p m j ∙ and-comm (p (viewAt m j)) (every p (records m j)))
+    ∙ sym (and-assoc here (every p (records m j)) (p (viewAt m j)))
   where
-    here : Bool
-    here = has free (c / g .width) (c % g .width)
+    p : View → Bool
+    p = vacant (g .horizon) t c
 
-    old : Bool
-    old = every (vacant t c) (records m j)
+    here : Bool
+    here = ltb c (g .cells) && has free (c / g .width) (c % g .width)
+
+-- What is in a set is a cell of the grid.
+set-cell : (g : Scene) (s : List ℕ) (t c : ℕ) → inSet g s t c ≡ true → c < g .cells
+unfolding inSet
+set-cell g s t c e = ltb-true c (g .cells) (and-fst (ltb c (g .cells)) _ e)
 
 -- The room of one more view.
 pub roomy-more : (g : Scene) (free m s q : List ℕ) (j : ℕ) → g .width ≤ 32 → g .cells ≤ 32 * g .width → g .horizon ≤ 63 →
@@ -58,8 +64,21 @@ pub roomy-more : (g : Scene) (free m s q : List ℕ) (j : ℕ) → g .width ≤ 
 roomy-more g free m s q j narrow room short gone old = record { tidy = gone .tidy; agrees = agrees }
   where
     agrees : (t c : ℕ) → t ≤ g .horizon → inSet g q t c ≡ standsAt g (j + 1) free m t c
-    agrees t c h =
-        gone .taken t c (omega arith) ∙ rw (old .agrees t c h, add-one) (stands-more g free m j t c narrow room (omega arith))
+    agrees t c h = rw (add-one, stands-more g free m j t c, ← old .agrees t c h) (same-test _ _ says back)
+      where
+        vacancy : c < g .cells → (vacant (g .horizon) t c (viewAt m j) ≡ true) ↔ Away m j (suc (g .horizon)) t c
+        vacancy l = vacant-cell m j (g .horizon) t c short h (omega arith)
+
+        says : inSet g q t c ≡ true → (inSet g s t c && vacant (g .horizon) t c (viewAt m j)) ≡ true
+        says e =
+            let p = (gone .taken t c h) .0 e in
+            and-both (p .0) ((vacancy (set-cell g s t c (p .0))) .1 (λ u l. p .1 u (omega arith)))
+
+        back : (inSet g s t c && vacant (g .horizon) t c (viewAt m j)) ≡ true → inSet g q t c ≡ true
+        back e =
+            let there = and-fst (inSet g s t c) _ e in
+            (gone .taken t c h) .1
+            (there, λ u l. (vacancy (set-cell g s t c there)) .0 (and-snd (inSet g s t c) _ e) u (omega arith))
 
 -- A view's cell depends on its record alone.
 cell-same : (m q : List ℕ) (j t : ℕ) → ((i : ℕ) → i < 65 * j + 65 → getD m i 0 ≡ getD q i 0) → t < 64 → viewCell m j t ≡ viewCell q j t
@@ -69,29 +88,36 @@ cell-same m q j t same h =
     (same (65 * j + 1 + t) (omega arith))
 
 -- A cell is vacant among the first k views as their records say.
-vacant-same : (m q : List ℕ) (k t c : ℕ) → ((i : ℕ) → i < 65 * k → getD m i 0 ≡ getD q i 0) → t < 64 → c < 65535 →
-    every (vacant t c) (records m k) ≡ every (vacant t c) (records q k)
+vacant-same : (m q : List ℕ) (k H t c : ℕ) → ((i : ℕ) → i < 65 * k → getD m i 0 ≡ getD q i 0) → H ≤ 63 → t ≤ H → c < 65535 →
+    every (vacant H t c) (records m k) ≡ every (vacant H t c) (records q k)
 unfolding every records
-vacant-same m q zero t c same h l = refl
-vacant-same m q (suc k) t c same h l =
-    let here : vacant t c (viewAt m k) ≡ vacant t c (viewAt q k) =
-    vacant-cell m k t c h l ∙ rw (cell-same m q k t (λ i u. same i (omega arith)) h) (sym (vacant-cell q k t c h l))
-    in
-    every-more (vacant t c) m k
-    ∙ rw (here, vacant-same m q k t c (λ i u. same i (omega arith)) h l) (sym (every-more (vacant t c) q k))
+vacant-same m q zero H t c same short h l = refl
+vacant-same m q (suc k) H t c same short h l =
+    every-more (vacant H t c) m k
+    ∙ rw (here, vacant-same m q k H t c (λ i u. same i (omega arith)) short h l) (sym (every-more (vacant H t c) q k))
+  where
+    cell : (u : ℕ) → u < suc H → viewCell m k u ≡ viewCell q k u
+    cell u b = cell-same m q k u (λ i v. same i (omega arith)) (omega arith)
+
+    here : vacant H t c (viewAt m k) ≡ vacant H t c (viewAt q k)
+    here =
+        same-test _ _
+        (λ e. (vacant-cell q k H t c short h l) .1
+        (λ u b up down p. (vacant-cell m k H t c short h l) .0 e u b up down (p ∙ sym (cell u b))))
+        (λ e. (vacant-cell m k H t c short h l) .1 (λ u b up down p. (vacant-cell q k H t c short h l) .0 e u b up down (p ∙ cell u b)))
 
 -- What can be stood on depends on the views' records alone.
 stands-same : (g : Scene) (free m q : List ℕ) (k t c : ℕ) → g .width ≤ 32 → g .cells ≤ 32 * g .width →
-    ((i : ℕ) → i < 65 * k → getD m i 0 ≡ getD q i 0) → t < 64 → standsAt g k free m t c ≡ standsAt g k free q t c
+    ((i : ℕ) → i < 65 * k → getD m i 0 ≡ getD q i 0) → g .horizon ≤ 63 → t ≤ g .horizon → standsAt g k free m t c ≡ standsAt g k free q t c
 unfolding standsAt
-stands-same g free m q k t c narrow room same h =
-    inside-same c (g .cells) (has free (c / g .width) (c % g .width)) (every (vacant t c) (records m k)) (every (vacant t c) (records q k))
-    (λ l. vacant-same m q k t c same h (omega arith))
+stands-same g free m q k t c narrow room same short h =
+    inside-same c (g .cells) (has free (c / g .width) (c % g .width)) _ _
+    (λ l. vacant-same m q k (g .horizon) t c same short h (omega arith))
 
 -- The room among the first k views is the same in any memory with the same records of them.
 pub roomy-same : (g : Scene) (free m q s : List ℕ) (k : ℕ) → g .width ≤ 32 → g .cells ≤ 32 * g .width → g .horizon ≤ 63 →
     ((i : ℕ) → i < 65 * k → getD m i 0 ≡ getD q i 0) → Roomy g k free m s → Roomy g k free q s
 roomy-same g free m q s k narrow room short same old = record {
   tidy = old .tidy;
-  agrees = λ t c h. old .agrees t c h ∙ stands-same g free m q k t c narrow room same (omega arith);
+  agrees = λ t c h. old .agrees t c h ∙ stands-same g free m q k t c narrow room same short h;
 }

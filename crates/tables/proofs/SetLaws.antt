@@ -7,13 +7,14 @@ use mathlib.Core.Logic.{⊎-elim}
 use mathlib.Core.Path.{_≡_, refl}
 use borrow.Author.Tests.{ltb-true, lt-ltb, le-ltb}
 use lib.Dec.{ltb}
-use lib.ListN.{getD}
-use Rattle.laws.proofs.Tests.{and-both, and-fst, and-snd, lt-or-le}
+use lib.ListN.{getD, replicate, length-replicate}
+use Rattle.laws.proofs.Tests.{and-both, and-fst, and-snd, lt-or-le, true-false-absurd}
 use Rattle.words.specs.Words.{digit}
 use Rattle.words.specs.Rows.{has}
+use Rattle.words.proofs.FillLaws.{has-zeros}
 use Rattle.words.proofs.RowsLaws.{place-same, place-row}
 use Rattle.tables.specs.declared.Scene.{Scene}
-use Rattle.tables.specs.Table.{inSet}
+use Rattle.tables.specs.Table.{inSet, Tidy}
 
 module _ (g : Scene) (s : List ℕ) where
   pub set-cell : (t c : ℕ) → inSet g s t c ≡ true → c < g .cells
@@ -54,3 +55,14 @@ set-same g s q t c thin room same = ⊎-elim inside outside (lt-or-le c (g .cell
     outside : g .cells ≤ c → (ltb c (g .cells) && digit (getD q (t * 36 + 1 + c / g .width) 0) (c % g .width)) ≡
         (ltb c (g .cells) && digit (getD s (t * 36 + 1 + c / g .width) 0) (c % g .width))
     outside h = rw (le-ltb c (g .cells) h)
+
+-- A table of empty sets is tidy.
+pub empty-tidy : (g : Scene) (s : List ℕ) → s ≡ replicate 2304 0 → Tidy g s
+empty-tidy g s e =
+    rw e
+    (record {
+      long = length-replicate {A = ℕ} 2304 0;
+      thin = λ i k h. true-false-absurd h (has-zeros 2304 i k);
+      rows = λ t r k l h. true-false-absurd h (has-zeros 2304 (t * 36 + 1 + r) k);
+      edge = λ t k h. true-false-absurd h (has-zeros 2304 (t * 36) k);
+    })

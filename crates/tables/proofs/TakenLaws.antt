@@ -1,21 +1,22 @@
--- A cell taken out of a table at one beat, and the cells of a view at each beat.
-use Prim.Native.Nat.{ℕ, _+_, _*_, _-_, _/_, _%_, _≤_, _<_}
+-- A cell taken out of a table at one beat and at those beside it, and the cells of a view at each beat.
+use Prim.Native.Nat.{ℕ, suc, _+_, _*_, _-_, _/_, _%_, _≤_, _<_, min}
 use native.Mathlib.Omega.{arith}
 use native.Mathlib.Nat.{div-add-mod', eq-or-lt-of-le}
 use mathlib.Core.Bool.{true, _&&_, not, and-true, and-assoc}
 use mathlib.Core.List.{List}
-use mathlib.Core.Logic.{_⊎_, ⊎-elim}
+use mathlib.Core.Logic.{_⊎_, ⊎-elim, _↔_}
 use mathlib.Core.Path.{_≡_, refl, sym, ap, _∙_}
 use borrow.Author.Tests.{eqb-true, eq-eqb, ne-eqb}
 use lib.Dec.{eqb, ltb}
 use lib.ListN.{length}
-use Rattle.laws.proofs.Tests.{and-fst, lt-or-le, eqbs-say, eqbs-hold, same-test, below-same}
+use Rattle.laws.proofs.Tests.{and-both, and-fst, and-snd, not-is-true, not-refutes, lt-or-le, eq-or-ne}
+use Rattle.laws.proofs.Tests.{eqbs-say, eqbs-hold, same-test, below-same}
 use Rattle.words.specs.Rows.{has, droppedAt}
 use Rattle.words.proofs.RowsLaws.{place-row, has-dropped, length-dropped, dropped-inside, dropped-outside}
 use Rattle.tables.specs.declared.Scene.{Scene}
-use Rattle.records.specs.Records.{viewCell}
+use Rattle.records.specs.Records.{viewCell, Away}
 use Rattle.tables.specs.Table.{inSet, Tidy}
-use Rattle.tables.specs.Room.{TakenBeats}
+use Rattle.tables.specs.Room.{TakenCell, TakenBeats}
 
 module _ (g : Scene) (s : List ℕ) (a x : ℕ) (thin : 1 ≤ g .width) (room : g .cells ≤ 32 * g .width) (tidy : Tidy g s) (here : a < 64) where
   -- The table without cell x at beat a.
@@ -118,63 +119,86 @@ module _ (g : Scene) (s : List ℕ) (a x : ℕ) (thin : 1 ≤ g .width) (room : 
       other : g .cells ≤ x → has less i j ≡ has s i j
       other u = rw (less-same u)
 
+  -- A cell of it is one of the table's, and not x at beat a.
+  less-member : (t c : ℕ) → (inSet g less t c ≡ true) ↔ ((inSet g s t c ≡ true) × (t ≡ a → c ≡ x → ⊥))
+  less-member t c = ⊎-elim at-beat elsewhere (eq-or-ne t a)
+    where
+      at-beat : t ≡ a → (inSet g less t c ≡ true) ↔ ((inSet g s t c ≡ true) × (t ≡ a → c ≡ x → ⊥))
+      at-beat e = (says, λ p. rw e (less-here c ∙ and-both (rw e at (p .0)) (not-is-true (eqb c x) (λ k. p .1 e (eqb-true c x k)))))
+        where
+          says : inSet g less t c ≡ true → (inSet g s t c ≡ true) × (t ≡ a → c ≡ x → ⊥)
+          says h =
+              let both = sym (less-here c) ∙ (rw e at h) in (
+                rw e (and-fst (inSet g s a c) (not (eqb c x)) both),
+                λ _ k. not-refutes (eqb c x) (and-snd (inSet g s a c) (not (eqb c x)) both) (eq-eqb c x k),
+              )
+
+      elsewhere : (t ≡ a → ⊥) → (inSet g less t c ≡ true) ↔ ((inSet g s t c ≡ true) × (t ≡ a → c ≡ x → ⊥))
+      elsewhere n = (λ h. (sym (less-there t c n) ∙ h, λ e. absurd (n e)), λ p. less-there t c n ∙ p .0)
+
+-- q is s without cell x at beat a.
+record Without (g : Scene) (a x : ℕ) (s q : List ℕ) : Type 0 where
+  tidy : Tidy g q
+  member : (t c : ℕ) → (inSet g q t c ≡ true) ↔ ((inSet g s t c ≡ true) × (t ≡ a → c ≡ x → ⊥))
+
+dropped-without : (g : Scene) (s q : List ℕ) (a x : ℕ) → 1 ≤ g .width → g .cells ≤ 32 * g .width → Tidy g s → a < 64 →
+    q ≡ droppedAt (g .width) (g .cells) (a * 36 + 1) x s → Without g a x s q
+unfolding less
+dropped-without g s q a x thin room tidy here e =
+    rw e (record { tidy = less-tidy g s a x thin room tidy here; member = less-member g s a x thin room tidy here })
+
+-- A cell taken out at three beats, a and those beside it.
+without-thrice : (g : Scene) (s q r z : List ℕ) (a b d x : ℕ) → a ≤ g .horizon → b ≡ a - 1 → d ≡ min (a + 1) (g .horizon) →
+    Without g b x s q → Without g a x q r → Without g d x r z → TakenCell g a x s z
+without-thrice g s q r z a b d x l before after one two three =
+    record { tidy = three .tidy; taken = λ t c h. (says t c h, back t c h) }
+  where
+    beat : (t : ℕ) → t ≤ g .horizon → a ≤ suc t → t ≤ suc a → (t ≡ b → ⊥) → (t ≡ a → ⊥) → (t ≡ d → ⊥) → ⊥
+    beat t h up down p q r = omega arith
+
+    says : (t c : ℕ) → t ≤ g .horizon → inSet g z t c ≡ true → (inSet g s t c ≡ true) × (a ≤ suc t → t ≤ suc a → c ≡ x → ⊥)
+    says t c h e =
+        let w = (three .member t c) .0 e in
+        let v = (two .member t c) .0 (w .0) in
+        let u = (one .member t c) .0 (v .0) in
+        (u .0, λ up down p. beat t h up down (λ k. u .1 k p) (λ k. v .1 k p) (λ k. w .1 k p))
+
+    back : (t c : ℕ) → t ≤ g .horizon → (inSet g s t c ≡ true) × (a ≤ suc t → t ≤ suc a → c ≡ x → ⊥) → inSet g z t c ≡ true
+    back t c h p =
+        let u = (one .member t c) .1 (p .0, λ k. p .1 (omega arith) (omega arith)) in
+        let v = (two .member t c) .1 (u, λ k. p .1 (omega arith) (omega arith)) in
+        (three .member t c) .1 (v, λ k. p .1 (omega arith) (omega arith))
+
+pub cell-taken : (g : Scene) (s q r z : List ℕ) (a b d x : ℕ) → 1 ≤ g .width → g .cells ≤ 32 * g .width → a ≤ g .horizon → g .horizon ≤ 63 →
+    Tidy g s → b ≡ a - 1 → d ≡ min (a + 1) (g .horizon) → q ≡ droppedAt (g .width) (g .cells) (b * 36 + 1) x s →
+    r ≡ droppedAt (g .width) (g .cells) (a * 36 + 1) x q → z ≡ droppedAt (g .width) (g .cells) (d * 36 + 1) x r → TakenCell g a x s z
+cell-taken g s q r z a b d x thin room l short tidy before after e f h =
+    let one = dropped-without g s q b x thin room tidy (omega arith) e in
+    let two = dropped-without g q r a x thin room (one .tidy) (omega arith) f in
+    let three = dropped-without g r z d x thin room (two .tidy) (omega arith) h in
+    without-thrice g s q r z a b d x l before after one two three
+
 -- No beat of a view taken out.
 pub taken-none : (g : Scene) (m s : List ℕ) (j : ℕ) → Tidy g s → TakenBeats g m j 0 s s
-taken-none g m s j tidy = record { tidy = tidy; taken = λ t c h. absurd (omega arith); left = λ t c h. refl }
-
-module _ (g : Scene) (m s q : List ℕ) (j n : ℕ) (thin : 1 ≤ g .width) (room : g .cells ≤ 32 * g .width) (h : n < 64)
-    (old : TakenBeats g m j n s q) where
-  -- The table with one more beat of it taken out.
-  after : List ℕ
-  after = less g q n (viewCell m j n) thin room (old .tidy) h
-
-  -- What it has at the beats passed.
-  after-taken : (t c : ℕ) → t < n + 1 → inSet g after t c ≡ (inSet g s t c && not (eqb c (viewCell m j t)))
-  unfolding after
-  after-taken t c l = ⊎-elim last before (eq-or-lt-of-le (omega arith))
-    where
-      last : t ≡ n → inSet g after t c ≡ (inSet g s t c && not (eqb c (viewCell m j t)))
-      last u = rw u (less-here g q n (viewCell m j n) thin room (old .tidy) h c ∙ rw (old .left n c (omega arith)))
-
-      before : t < n → inSet g after t c ≡ (inSet g s t c && not (eqb c (viewCell m j t)))
-      before u = less-there g q n (viewCell m j n) thin room (old .tidy) h t c (λ p. omega arith) ∙ old .taken t c u
-
-  -- What it has at the others.
-  after-left : (t c : ℕ) → n + 1 ≤ t → inSet g after t c ≡ inSet g s t c
-  unfolding after
-  after-left t c l =
-      less-there g q n (viewCell m j n) thin room (old .tidy) h t c (λ p. omega arith) ∙ old .left t c (omega arith)
-
-  -- It is tidy.
-  after-tidy : Tidy g after
-  unfolding after
-  after-tidy = less-tidy g q n (viewCell m j n) thin room (old .tidy) h
+taken-none g m s j tidy = record { tidy = tidy; taken = λ t c h. (λ e. (e, λ u l. absurd (omega arith)), λ p. p .0) }
 
 -- One more beat of it.
-pub taken-more : (g : Scene) (m s q r : List ℕ) (j n x : ℕ) → 1 ≤ g .width → g .cells ≤ 32 * g .width → n < 64 →
-    TakenBeats g m j n s q → x ≡ viewCell m j n → r ≡ droppedAt (g .width) (g .cells) (n * 36 + 1) x q → TakenBeats g m j (n + 1) s r
-unfolding after less
-taken-more g m s q r j n x thin room h old e d =
-    rw (d, e)
-    (record {
-      tidy = after-tidy g m s q j n thin room h old;
-      taken = after-taken g m s q j n thin room h old;
-      left = after-left g m s q j n thin room h old;
-    })
-
--- A scene with another horizon.
-unfoldable pub within : Scene → ℕ → Scene
-within g h = record { width = g .width; scale = g .scale; cells = g .cells; horizon = h }
-
--- What is taken out of a table does not depend on the horizon.
-pub taken-within : (g : Scene) (h : ℕ) (m s q : List ℕ) (j n : ℕ) → TakenBeats (within g h) m j n s q → TakenBeats g m j n s q
-unfolding within inSet
-taken-within g h m s q j n x = record { tidy = tidy; taken = x .taken; left = x .left }
+pub taken-more : (g : Scene) (m s q r : List ℕ) (j n x : ℕ) → TakenBeats g m j n s q → x ≡ viewCell m j n → TakenCell g n x q r →
+    TakenBeats g m j (n + 1) s r
+taken-more g m s q r j n x old e new = record { tidy = new .tidy; taken = λ t c h. (says t c h, back t c h) }
   where
-    tidy : Tidy g q
-    tidy = record { long = x .tidy .long; thin = x .tidy .thin; rows = x .tidy .rows; edge = x .tidy .edge }
+    away : (t c : ℕ) → Away m j n t c → (n ≤ suc t → t ≤ suc n → c ≡ x → ⊥) → Away m j (n + 1) t c
+    away t c before last u l up down p =
+        ⊎-elim (λ (v : u ≡ n). last (omega arith) (omega arith) ((rw v at p) ∙ sym e)) (λ (v : u < n). before u v up down p)
+        (eq-or-lt-of-le (omega arith))
 
--- Nor does it depend on the horizon that a table is tidy.
-pub tidy-within : (g : Scene) (h : ℕ) (s : List ℕ) → Tidy g s → Tidy (within g h) s
-unfolding within
-tidy-within g h s x = record { long = x .long; thin = x .thin; rows = x .rows; edge = x .edge }
+    says : (t c : ℕ) → t ≤ g .horizon → inSet g r t c ≡ true → (inSet g s t c ≡ true) × Away m j (n + 1) t c
+    says t c h k =
+        let last = (new .taken t c h) .0 k in
+        let before = (old .taken t c h) .0 (last .0) in
+        (before .0, away t c (before .1) (last .1))
+
+    back : (t c : ℕ) → t ≤ g .horizon → (inSet g s t c ≡ true) × Away m j (n + 1) t c → inSet g r t c ≡ true
+    back t c h p =
+        let before = (old .taken t c h) .1 (p .0, λ u l. p .1 u (omega arith)) in
+        (new .taken t c h) .1 (before, λ up down k. p .1 n (omega arith) (omega arith) (omega arith) (k ∙ e))

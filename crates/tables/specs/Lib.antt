@@ -1,7 +1,4 @@
--- In reading order: the ways that views shut, tables of sets, rows carried beside one, the room in one, windows of rows.
-pub mod Ways
+-- In reading order: tables of sets, one step of a set, the room in a table.
 pub mod Table
-pub mod Carried
+pub mod Step
 pub mod Room
-pub mod Window
-pub mod Windowed

@@ -1,20 +1,21 @@
--- The room of a search: a table of the cells that can be stood on at each beat, and how the code makes one.
-use Prim.Native.Nat.{ℕ, _+_, _*_, _/_, _%_, _≤_, _<_}
-use mathlib.Core.Bool.{Bool, _&&_, not}
+-- The room of a search: a table of the cells that can be stood on at each beat, and how the code makes one. A view's cell is taken out at
+-- its beat and at the beats beside it, within 0 to the horizon.
+use Prim.Native.Nat.{ℕ, suc, _+_, _*_, _/_, _%_, _≤_, _<_}
+use mathlib.Core.Bool.{Bool, true, _&&_}
 use mathlib.Core.List.{List}
-use mathlib.Core.Logic.{_⊎_}
+use mathlib.Core.Logic.{_⊎_, _↔_}
 use mathlib.Core.Path.{_≡_}
-use lib.Dec.{ltb, eqb}
+use lib.Dec.{ltb}
 use lib.ListN.{length, getD}
 use Rattle.route.specs.Moves.{vacant, every}
 use Rattle.words.specs.Rows.{has}
 use Rattle.tables.specs.declared.Scene.{Scene}
-use Rattle.records.specs.Records.{records, viewCell}
+use Rattle.records.specs.Records.{records, Away}
 use Rattle.tables.specs.Table.{inSet, Tidy}
 
--- Cell c can be stood on at beat t: it is in the grid, free, and none of the first k views is there then.
+-- Cell c can be stood on at beat t: it is in the grid, free, and none of the first k views is there then or at a beat beside t.
 unfoldable pub standsAt : Scene → ℕ → List ℕ → List ℕ → ℕ → ℕ → Bool
-standsAt g k free m t c = ltb c (g .cells) && has free (c / g .width) (c % g .width) && every (vacant t c) (records m k)
+standsAt g k free m t c = ltb c (g .cells) && has free (c / g .width) (c % g .width) && every (vacant (g .horizon) t c) (records m k)
 
 -- The table has at each beat the cells that can be stood on.
 pub record Roomy (g : Scene) (k : ℕ) (free m room : List ℕ) : Type 0 where
@@ -32,8 +33,13 @@ pub record FreeBeats (free : List ℕ) (n : ℕ) (s : List ℕ) : Type 0 where
   pub hidden : (t r : ℕ) → r < 35 → (n ≤ t) ⊎ (32 ≤ r) → getD s (t * 36 + 1 + r) 0 ≡ 0
   pub edge : (t : ℕ) → getD s (t * 36) 0 ≡ 0
 
--- q is s without the cells of view j at the first n beats.
+-- q is s without cell x at beat a and the beats beside it.
+pub record TakenCell (g : Scene) (a x : ℕ) (s q : List ℕ) : Type 0 where
+  pub tidy : Tidy g q
+  pub taken : (t c : ℕ) → t ≤ g .horizon →
+      (inSet g q t c ≡ true) ↔ ((inSet g s t c ≡ true) × (a ≤ suc t → t ≤ suc a → c ≡ x → ⊥))
+
+-- q is s without the cells of view j at its first n beats, each at its beat and the beats beside it.
 pub record TakenBeats (g : Scene) (m : List ℕ) (j n : ℕ) (s q : List ℕ) : Type 0 where
   pub tidy : Tidy g q
-  pub taken : (t c : ℕ) → t < n → inSet g q t c ≡ (inSet g s t c && not (eqb c (viewCell m j t)))
-  pub left : (t c : ℕ) → n ≤ t → inSet g q t c ≡ inSet g s t c
+  pub taken : (t c : ℕ) → t ≤ g .horizon → (inSet g q t c ≡ true) ↔ ((inSet g s t c ≡ true) × Away m j n t c)

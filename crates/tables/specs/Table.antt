@@ -53,7 +53,3 @@ pub record Rewritten (s : List ℕ) (f : ℕ → ℕ) (i n : ℕ) (q : List ℕ)
   pub long : length q ≡ length s
   pub inside : (r : ℕ) → r < n → getD q (i + r) 0 ≡ f r
   pub outside : (j : ℕ) → (j < i) ⊎ (i + n ≤ j) → getD q j 0 ≡ getD s j 0
-
--- x has n rows of s, from row i on.
-abbrev pub Shows : List ℕ → ℕ → ℕ → List ℕ → Type 0
-Shows s i n x = (j : ℕ) → j < n → getD x j 0 ≡ getD s (i + j) 0

@@ -1,10 +1,8 @@
-// Tables of sets of cells over the beats of a search: the grid they are of, the views and the room they leave, a window of rows, and the
-// narrowing of a set by its neighbour. Helpers of the search below `passes`: what they require is checked by the entries above.
-pub mod narrow;
+// Tables of sets of cells over the beats of a search: the grid they are of, the room that views leave, and one step of a whole set.
+// Helpers of the search below `passes`: what they require is checked by the entries above.
 pub mod room;
+pub mod step;
 pub mod table;
-pub mod views;
-pub mod window;
 
 use floor::Floor;
 ghost use mathlib.Core.Path.{_≡_};

@@ -1,10 +1,10 @@
 // The room of a search: a table of the cells that can be stood on at each beat, made of the free cells and the views.
 ghost use mathlib.Core.Path.{_≡_};
-ghost use Prim.Native.Nat.{_+_, _*_, _≤_};
+ghost use Prim.Native.Nat.{_+_, _*_, _-_, _≤_, min};
 ghost use lib.ListN.{length, replicate};
 ghost use Rattle.words.specs.Rows.{Clean};
 ghost use Rattle.tables.specs.Table.{Grid, Fits, Tidy};
-ghost use Rattle.tables.specs.Room.{Roomy, OneMore, FreeBeats, TakenBeats};
+ghost use Rattle.tables.specs.Room.{Roomy, OneMore, FreeBeats, TakenCell, TakenBeats};
 use crate::Scene;
 use crate::table::ROWS;
 use crate::table::STRIDE;
@@ -23,18 +23,43 @@ pub fn fill_free(room: &mut [u32], free: &[u32], n: usize)
     }
 }
 
-// Takes the cells of view j out of the first n beats.
-fn take_view(g: Scene, room: &mut [u32], views: &[u16], j: usize, n: usize)
-    requires { ⌜ Grid g × (65 * j + 65 ≤ length (now views)) × (n ≤ 64) × Tidy g (now room) ⌝ }
-    ensures { λ r. ⌜ TakenBeats g (now (views .entry)) j n (now (room .entry)) (now (room .exit)) ⌝ }
+// The beat before t, or 0.
+fn beat_before(t: usize) -> usize
+    ensures { λ r. ⌜ r ≡ t - 1 ⌝ }
+{
+    if 0 < t { t - 1 } else { 0 }
+}
+
+// The beat after t, at most h.
+fn beat_after(t: usize, h: usize) -> usize
+    ensures { λ r. ⌜ r ≡ min (t + 1) h ⌝ }
+{
+    if t < h { t + 1 } else { h }
+}
+
+// Takes cell c out of beat t and the beats beside it, from 0 to the horizon.
+fn take_cell(g: Scene, room: &mut [u32], t: usize, c: usize)
+    requires { ⌜ Grid g × (t ≤ g .horizon) × (g .horizon ≤ 63) × Tidy g (now room) ⌝ }
+    ensures { λ r. ⌜ TakenCell g t c (now (room .entry)) (now (room .exit)) ⌝ }
 {
     let w = g.width;
     let scale = g.scale;
     let cells = g.cells;
+    let before = beat_before(t);
+    let after = beat_after(t, g.horizon);
+    words::drop_at(room, before * STRIDE + 1, w, scale, cells, c);
+    words::drop_at(room, t * STRIDE + 1, w, scale, cells, c);
+    words::drop_at(room, after * STRIDE + 1, w, scale, cells, c);
+}
+
+// Takes the cells of view j at the first n beats out of the room.
+fn take_view(g: Scene, room: &mut [u32], views: &[u16], j: usize, n: usize)
+    requires { ⌜ Grid g × (65 * j + 65 ≤ length (now views)) × (n ≤ g .horizon + 1) × (g .horizon ≤ 63) × Tidy g (now room) ⌝ }
+    ensures { λ r. ⌜ TakenBeats g (now (views .entry)) j n (now (room .entry)) (now (room .exit)) ⌝ }
+{
     let mut t: usize = 0;
     while t < n {
-        let c = view_cell(views, j, t);
-        words::drop_at(room, t * STRIDE + 1, w, scale, cells, c);
+        take_cell(g, room, t, view_cell(views, j, t));
         t += 1;
     }
 }

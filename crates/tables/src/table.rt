@@ -1,21 +1,15 @@
-// Tables of sets of cells, 36 rows a beat: reading a cell, laying the room of a window.
+// Tables of sets of cells, 36 rows a beat: reading a cell, copying rows, a set of one cell.
 ghost use mathlib.Core.Path.{_≡_};
-ghost use mathlib.Core.Logic.{_⊎_};
 ghost use Prim.Native.Nat.{_+_, _*_, _≤_, _<_};
 ghost use lib.ListN.{length, getD, replicate};
-ghost use Rattle.tables.specs.Table.{Grid, Rewritten, inSet};
-ghost use Rattle.tables.specs.Windowed.{LaidRows};
+ghost use Rattle.tables.specs.Table.{Grid, Rewritten, Tidy, inSet};
+ghost use Rattle.tables.specs.Step.{ChangedAt, Alone};
 use crate::Scene;
 use crate::place_of;
-use crate::window::Window;
-use crate::window::first_row;
 use floor::Floor;
 
 // The rows of the largest grid, a word each.
 pub const ROWS: usize = Floor::MAX_HEIGHT as usize;
-
-// The rows of the largest grid and the two beside them.
-pub const EDGED: usize = ROWS + 2;
 
 // The rows of one beat: an empty one, those of the grid, three more.
 pub const STRIDE: usize = ROWS + 4;
@@ -48,29 +42,13 @@ pub fn copy_rows(to: &mut [u32], i: usize, from: &[u32], j: usize, n: usize)
     words::put_rows(to, i, x, n);
 }
 
-// Copies the rows of a window at one beat from the room, from row i on.
-fn lay_rows(sets: &mut [u32], room: &[u32], i: usize, height: usize)
-    requires { ⌜ (length (now sets) ≡ 2304) × (length (now room) ≡ 2304) × (i + height ≤ 2304) ⌝ }
-    requires { ⌜ ((height ≡ 4) ⊎ (height ≡ 32)) ⌝ }
-    ensures { λ r. ⌜ Rewritten (now (sets .entry)) (λ j. getD (now (room .entry)) (i + j) 0) i height (now (sets .exit)) ⌝ }
+// The set of beat t becomes cell c alone.
+pub fn put_alone(g: Scene, s: &mut [u32], t: usize, c: usize)
+    requires { ⌜ Grid g × Tidy g (now s) × (t < 64) × (c < g .cells) ⌝ }
+    ensures only { λ r. ⌜ ChangedAt g (now (s .entry)) t (now (s .exit)) ⌝ }
+    ensures alone { λ r. ⌜ Alone g (now (s .exit)) t c ⌝ }
 {
-    if height == 4 {
-        copy_rows(sets, i, room, i, 4);
-        return;
-    }
-    copy_rows(sets, i, room, i, ROWS);
-}
-
-// Lays the room of the window at beats 1 to the limit into an empty table.
-pub fn lay(v: Window, sets: &mut [u32], room: &[u32])
-    requires { ⌜ ((v .height ≡ 4) ⊎ (v .height ≡ 32)) × (v .limit ≤ 63) ⌝ }
-    requires { ⌜ (now sets ≡ replicate 2304 0) × (length (now room) ≡ 2304) ⌝ }
-    ensures { λ r. ⌜ LaidRows v (now (room .entry)) (v .limit) (now (sets .exit)) ⌝ }
-{
-    let mut t: usize = 0;
-    while t < v.limit {
-        t += 1;
-        let first = first_row(v, t);
-        lay_rows(sets, room, t * STRIDE + 1 + first, v.height);
-    }
+    words::put_rows(s, t * STRIDE + 1, [0u32; ROWS], ROWS);
+    let p = place_of(g, c);
+    words::add(s, t * STRIDE + 1 + p.row, p.column);
 }

@@ -9,7 +9,7 @@ use Rattle.floor.specs.declared.Floor.{Floor}
 use Rattle.floor.specs.Checks.{within, limitsOf, roomOf, lentOf, startOf, goalOf, inGrid, carrierInGrid, carriersOf, wallsOf, rises}
 use Rattle.floor.specs.Checks.{risingOf, among, clearOfWalls, clearOf, unshared, distinctOf, placesOf, checkOf}
 use Rattle.route.specs.Route.{cellAt}
-use Rattle.route.specs.Moves.{neighbours, near, vacant, passable, every, standable, allowed, startClear}
+use Rattle.route.specs.Moves.{neighbours, near, vacant, every, standable, allowed, startClear}
 use Rattle.route.specs.Search.{cost, cheaper, cheapest, beatsFrom, val, walk, walkFrom, best}
 use Rattle.search.specs.Task.{taskOf}
 use Rattle.records.specs.Seen.{parked, seenAs, seenFrom, seen}
@@ -71,7 +71,7 @@ unfolding
     _then_ demand inTurn demandEach passes _gives_ whenPassed put
     within limitsOf roomOf lentOf startOf goalOf inGrid carrierInGrid carriersOf wallsOf rises risingOf
     among clearOfWalls clearOf unshared distinctOf placesOf checkOf
-    cellAt neighbours near vacant passable every standable allowed startClear cost cheaper cheapest beatsFrom val walk walkFrom best
+    cellAt neighbours near vacant every standable allowed startClear cost cheaper cheapest beatsFrom val walk walkFrom best
     taskOf respondOf
     below joined each update updatePair fresh views tick isThere hasRoom isEmpty waitsFor isOpen sameCells sameAnswer
     deliveriesFrom ranking noneOpen isSilent isNews send planAs oldest newer deliverTo effect counted afterStep stepAnswer

@@ -134,7 +134,3 @@ digit-ones (suc n) (suc k) =
   where
     back : (m : ℕ) → 0 < m → (m * 2 - 1) / 2 ≡ m - 1
     back m h = omega arith
-
--- An or is 0 only of two zeros.
-pub or-none : (x y : ℕ) → bitOr x y ≡ 0 → (x ≡ 0) × (y ≡ 0)
-or-none x y e = (omega (arith, or-add-and x y, and-le-l x y, and-le-r x y), omega (arith, or-add-and x y, and-le-l x y, and-le-r x y))

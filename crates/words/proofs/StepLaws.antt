@@ -1,16 +1,11 @@
 -- One step of a set into a mask, digit by digit.
-use Prim.Native.Nat.{ℕ, zero, suc, _+_, _*_, _/_, _%_, _^_, _<_}
-use native.Mathlib.Omega.{arith}
-use native.Mathlib.Nat.{eq-or-lt-of-le}
-use mathlib.Core.Bool.{Bool, true, false, _&&_, _||_, not, true≢false}
-use mathlib.Core.List.{List}
-use mathlib.Core.Logic.{⊎-elim}
-use mathlib.Core.Path.{_≡_, refl, sym, ap, _∙_}
+use Prim.Native.Nat.{ℕ, zero, suc, _*_, _/_, _%_, _^_, _<_}
+use mathlib.Core.Bool.{Bool, true, false, _&&_, _||_}
+use mathlib.Core.Path.{_≡_, refl}
 use lib.Bits.{bitOr}
-use lib.ListN.{getD}
-use Rattle.words.specs.Words.{digit, without}
-use Rattle.words.specs.Rows.{has, narrowRow, Within}
-use Rattle.words.proofs.DigitLaws.{digit-or, digit-and, digit-without, digit-zero, digit-double, digit-double-first, or-none}
+use Rattle.words.specs.Words.{digit}
+use Rattle.words.specs.Rows.{narrowRow}
+use Rattle.words.proofs.DigitLaws.{digit-or, digit-and, digit-double, digit-double-first}
 use Rattle.laws.proofs.Tests.{and-snd}
 
 -- The test one place before, false at the first.
@@ -41,26 +36,3 @@ pub narrow-masked : (over here under mask k : ℕ) → digit (narrowRow over her
 unfolding narrowRow
 narrow-masked over here under mask k e =
     and-snd (digit (bitOr (bitOr (bitOr (bitOr here (here * 2 % 2 ^ 32)) (here / 2)) over) under) k) (digit mask k) (rw digit-and at e)
-
--- The turns of the loop that looks for a digit outside.
-pub within-none : (s room : List ℕ) (at to : ℕ) → Within s room at to 0
-unfolding Within
-within-none s room at to r k h e = absurd (omega arith)
-
-pub within-more : (s room : List ℕ) (at to n x y z : ℕ) → y ≡ without (getD s (at + n) 0) (getD room (to + n) 0) → z ≡ bitOr x y →
-    (x ≡ 0 → Within s room at to n) → z ≡ 0 → Within s room at to (n + 1)
-unfolding Within has
-within-more s room at to n x y z q p ih e r k h d =
-    ⊎-elim (λ (i : r ≡ n). rw i (kept (digit (getD s (at + n) 0) k) (digit (getD room (to + n) 0) k) (rw i at d) gone))
-    (λ (i : r < n). ih (none .0) r k i d) (eq-or-lt-of-le (omega arith))
-  where
-    none : (x ≡ 0) × (y ≡ 0)
-    none = or-none x y (sym p ∙ e)
-
-    gone : (digit (getD s (at + n) 0) k && not (digit (getD room (to + n) 0) k)) ≡ false
-    gone = sym (digit-without k (getD s (at + n) 0) (getD room (to + n) 0)) ∙ ap (λ (i : ℕ). digit i k) (sym q ∙ none .1) ∙ digit-zero k
-
-    kept : (a b : Bool) → a ≡ true → (a && not b) ≡ false → b ≡ true
-    kept true true u v = refl
-    kept true false u v = sym v
-    kept false b u v = absurd (true≢false (sym u))

@@ -51,7 +51,3 @@ narrowRow over here under mask = bitAnd (bitOr (bitOr (bitOr (bitOr here (here *
 -- What a step brings to row r of the masks from row `to` on, from the rows of s that begin at row `at`, one before the first.
 unfoldable pub narrowAt : List ℕ → List ℕ → ℕ → ℕ → ℕ → ℕ
 narrowAt s masks at to r = narrowRow (getD s (at + r) 0) (getD s (at + r + 1) 0) (getD s (at + r + 2) 0) (getD masks (to + r) 0)
-
--- None of n rows of s from row `at` on has a digit that the row of `room` has not, which begin at row `to`.
-unfoldable pub Within : List ℕ → List ℕ → ℕ → ℕ → ℕ → Type 0
-Within s room at to n = (r k : ℕ) → r < n → has s (at + r) k ≡ true → has room (to + r) k ≡ true

@@ -3,9 +3,8 @@
 ghost use mathlib.Core.Path.{_≡_};
 ghost use Prim.Native.Nat.{_+_, _*_, _-_, _/_, _%_, _^_, _≤_, _<_};
 ghost use lib.ListN.{length, getD, replicate};
-ghost use mathlib.Core.Bool.{false};
 ghost use Rattle.words.specs.Words.{without as Words·without};
-ghost use Rattle.words.specs.Rows.{added, dropped, droppedAt, marked, written, filled, narrowRow, narrowAt, Within};
+ghost use Rattle.words.specs.Rows.{added, dropped, droppedAt, marked, written, filled, narrowRow};
 ghost use Rattle.words.specs.Rows.{has as Rows·has};
 
 // The word with the digit at place k.
@@ -115,37 +114,8 @@ pub fn put_rows(table: &mut [u32], i: usize, x: [u32; 32], n: usize)
 }
 
 // The digits of a mask that a step brings to a row from the row above, itself and the row below.
-fn narrow_row(over: u32, here: u32, under: u32, mask: u32) -> u32
+pub fn narrow_row(over: u32, here: u32, under: u32, mask: u32) -> u32
     ensures { λ r. ⌜ r ≡ narrowRow over here under mask ⌝ }
 {
     (here | here << 1 | here >> 1 | over | under) & mask
-}
-
-// What a step brings to n rows of masks from row `to` on; the rows of s that it comes from begin at row `at`, one before the first of
-// the n.
-pub fn narrowed_rows(s: &[u32], masks: &[u32], at: usize, to: usize, n: usize) -> [u32; 32]
-    requires { ⌜ (n ≤ 32) × (at + n + 2 ≤ length (now s)) × (to + n ≤ length (now masks)) ⌝ }
-    ensures { λ x. ⌜ x ≡ filled (replicate 32 0) (narrowAt (now (s .entry)) (now (masks .entry)) at to) n ⌝ }
-{
-    let mut x = [0u32; 32];
-    let mut r: usize = 0;
-    while r < n {
-        x[r] = narrow_row(s[at + r], s[at + r + 1], s[at + r + 2], masks[to + r]);
-        r += 1;
-    }
-    x
-}
-
-// Whether some of the n rows of s from row `at` on has a digit that the row of `room` has not, which begin at row `to`.
-pub fn meets(s: &[u32], room: &[u32], at: usize, to: usize, n: usize) -> bool
-    requires { ⌜ (at + n ≤ length (now s)) × (to + n ≤ length (now room)) ⌝ }
-    ensures { λ x. ⌜ (x ≡ false → Within (now (s .entry)) (now (room .entry)) at to n) ⌝ }
-{
-    let mut x: u32 = 0;
-    let mut r: usize = 0;
-    while r < n {
-        x = x | without(s[at + r], room[to + r]);
-        r += 1;
-    }
-    x != 0
 }

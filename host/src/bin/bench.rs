@@ -233,7 +233,7 @@ impl Lent {
         (0..self.floor.carriers())
             .map(|i| {
                 let found = table.search(&self.floor, self.floor.starts[i], self.floor.goals[i]);
-                table.reserve(&self.floor, i, &self.occupied(i));
+                table.reserve(&self.floor, &self.occupied(i));
                 found.map(|(arrival, _)| arrival)
             })
             .collect()
@@ -245,7 +245,7 @@ impl Lent {
         let mut answers = Vec::with_capacity(self.answers.len());
         for i in 0..self.floor.carriers() {
             let found = table.best(&self.floor, self.floor.starts[i], self.floor.goals[i]).map(|(_, route)| route);
-            table.reserve(&self.floor, i, &paper::occupied(&self.floor, i, found));
+            table.reserve(&self.floor, &paper::occupied(&self.floor, i, found));
             answers.push(if found.is_some() { 2 } else { 1 });
             answers.extend(found.unwrap_or([0; 64]));
         }

@@ -279,7 +279,7 @@ impl Tally {
             ("run", vec![0, 1, 2], with(&[7, 10])),
             ("trial", vec![0], with(&[11])),
             ("run_of_rank", vec![1, 3, 4, 6, 7, 8, 9, 10, 11], with(&[14, 15])),
-            ("conflict", vec![0, 1, 2], vec![9]),
+            ("conflict", vec![0, 1, 2, 3], vec![9]),
             ("ceiling", vec![0], vec![2]),
         ];
         let mut keys = Vec::new();
@@ -880,8 +880,8 @@ fn pair_case(seed: u64, tally: &mut Tally) {
         let last = horizon.min(63);
         let beat = draw.of(&[draw.0 as usize % 64, last.saturating_sub(1), last, last + 1]);
         if beat + 1 < a.len().min(b.len()) {
-            let way = draw.below(4);
-            if way != 1 {
+            let way = draw.below(6);
+            if way == 0 || way == 2 || way == 3 {
                 b[beat] = a[beat];
             }
             if way == 1 || way == 2 {
@@ -890,6 +890,12 @@ fn pair_case(seed: u64, tally: &mut Tally) {
             if way == 3 {
                 a[beat + 1] = a[beat];
                 b[beat + 1] = a[beat];
+            }
+            if way == 4 {
+                b[beat + 1] = a[beat];
+            }
+            if way == 5 {
+                b[beat] = a[beat + 1];
             }
         }
     }

@@ -128,6 +128,24 @@ mod tests {
         assert_eq!(shown(""), "    0    1    0\n");
     }
 
+    /// Document 02, slip 9, by hand: the slip's floor; one beat short of it; a siding, which is left only when the other has left the cell
+    /// before it; an aisle of eight, each of which waits a beat more than the one in front.
+    #[test]
+    fn longer_carriers() {
+        let routes = |floor: &Floor| -> Vec<Vec<u16>> { paper::plan(floor).0.iter().map(|answer| cells(answer, floor.horizon)).collect() };
+        assert_eq!(routes(&bare(3, 1, 2, 1, &[(1, 2), (0, 1)])), [[1, 2, 2], [0, 0, 1]]);
+        assert_eq!(paper::plan(&bare(3, 1, 1, 1, &[(1, 2), (0, 1)])).1, 2);
+        let mut siding = bare(5, 2, 8, 1, &[(0, 4), (4, 0)]);
+        siding.walls = vec![5, 6, 7, 9];
+        assert_eq!(routes(&siding), [[0, 1, 2, 3, 4, 4, 4, 4, 4], [4, 3, 8, 8, 8, 3, 2, 1, 0]]);
+        let aisle = bare(32, 1, 31, 1, &[(24, 0), (25, 1), (26, 2), (27, 3), (28, 4), (29, 5), (30, 6), (31, 7)]);
+        for (i, route) in routes(&aisle).iter().enumerate() {
+            let cell = |t: usize| (24 + i).saturating_sub(t.saturating_sub(i)).max(i) as u16;
+            assert_eq!(*route, (0..32).map(cell).collect::<Vec<u16>>());
+        }
+        assert_eq!(paper::plan(&Floor { horizon: 30, ..aisle }).1, 8);
+    }
+
     /// Document 02, slip 7: the kinds and the beat before a change, the floor then, a carrier without a route, one that is not there.
     #[test]
     fn meetings() {
@@ -136,7 +154,9 @@ mod tests {
         let four = "    4    2    5    1    3    1\n    0    0    3    0\n    3    0    0    0\n    0    1    3    1\n    1    1\n";
         assert_eq!(meeting(four, 1, 2), "change of places after beat 1\n.12.\n.#..\n");
         assert_eq!(meeting(four, 2, 1), meeting(four, 1, 2));
-        assert_eq!(meeting(four, 3, 1), "same cell at beat 4\n...*\n.#..\n");
+        assert_eq!(meeting(four, 3, 2), "same cell at beat 2\n.*..\n.#..\n");
+        assert_eq!(meeting(four, 3, 1), "following after beat 0\n1...\n3#..\n");
+        assert_eq!(meeting(four, 1, 3), meeting(four, 3, 1));
         let rows = "    3    2    4    1    2    0\n    0    0    2    0\n    0    1    2    1\n";
         assert_eq!(meeting(rows, 1, 2), "free\n");
         let shut = four.replace("    5    1    3    1", "    4    1    3    1");
@@ -273,7 +293,9 @@ mod tests {
             (x - u).abs() + (y - v).abs() <= 1 && !floor.walls.contains(&d)
         };
         let conflict = |a: &Route, b: &Route| {
-            (0..=h).any(|t| a[t] == b[t]) || (0..h).any(|t| a[t] != a[t + 1] && a[t] == b[t + 1] && a[t + 1] == b[t])
+            let changes = |t: usize| a[t] == b[t + 1] && a[t + 1] == b[t];
+            let enters = |a: &Route, b: &Route, t: usize| a[t + 1] != a[t] && a[t + 1] == b[t] && b[t + 1] != b[t];
+            (0..=h).any(|t| a[t] == b[t]) || (0..h).any(|t| changes(t) || enters(a, b, t) || enters(b, a, t))
         };
         let mut best: Option<(usize, Route)> = None;
         let mut paths = vec![vec![start]];
@@ -395,7 +417,7 @@ mod tests {
                 assert_eq!(flat.best(&floor, start, goal).map(|found| found.1), answers[i], "{floor:?}");
                 let route = paper::occupied(&floor, i, answers[i]);
                 hashed.reserve(&floor, &route);
-                flat.reserve(&floor, i, &route);
+                flat.reserve(&floor, &route);
             }
         }
         assert!(routes > 2000, "{routes} routes");

@@ -22,5 +22,13 @@ returns-3 c =
     let after-found2 : tie.After-found2 = search in
     rw (after-found2 .found2 .given .1) refl
 
+returns-4 : tie.Need-returns-4
+unfolding conflictTold comparedOutcome
+returns-4 c =
+    let after-found3 : tie.After-found3 = search in
+    rw (after-found3 .found3 .given .1) refl
+
 pub told-spec : {M : Type 1} → statement M
-told-spec = tie.close (tie.spec (λ c. search needs) (λ c. search needs) (λ c. search needs) returns returns-2 returns-3)
+told-spec =
+    tie.close (tie.spec (λ c. search needs) (λ c. search needs) (λ c. search needs) (λ c. search needs) returns returns-2 returns-3
+    returns-4)

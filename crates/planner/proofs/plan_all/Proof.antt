@@ -7,8 +7,9 @@ use mathlib.Core.Path.{_≡_, sym, ap, _∙_}
 use borrow.Author.Needs.{needs}
 use lib.ListN.{length, length-replicate}
 use Rattle.route.specs.Sequential.{sequential}
-use Rattle.tables.specs.Table.{sceneOf}
+use Rattle.tables.specs.Table.{sceneOf, Tidy}
 use Rattle.tables.specs.Room.{Roomy}
+use Rattle.tables.proofs.SetLaws.{empty-tidy}
 use Rattle.records.specs.Records.{records, stored}
 use Rattle.records.specs.Seen.{seen}
 use Rattle.records.proofs.SeenLaws.{seen-start}
@@ -19,12 +20,12 @@ use Rattle.planner.proofs.plan_all.Statement.{statement}
 use Rattle.planner.proofs.plan_all.Tie as tie
 
 abbrev Inv-loop : tie.InvT-loop
-Inv-loop f free answers₀ n room₀ shown₀ i₀ answers room shown i =
+Inv-loop f free answers₀ n room₀ sets₀ shown₀ i₀ answers room sets shown i =
     (i ≤ n) × (answers ≡ stored (sequential (respondWith f free) i) answers₀) × Roomy (sceneOf f) i free shown room
-    × (length shown ≡ 520) × (records shown i ≡ seen f (records answers i))
+    × (length shown ≡ 520) × (records shown i ≡ seen f (records answers i)) × Tidy (sceneOf f) sets
 
 abbrev μ-loop : tie.MeasureT-loop
-μ-loop f free answers₀ n room₀ shown₀ i₀ answers room shown i = n - i
+μ-loop f free answers₀ n room₀ sets₀ shown₀ i₀ answers room sets shown i = n - i
 
 slice-aggregate-fill-room : tie.Need-slice-aggregate-fill-room Inv-loop μ-loop
 slice-aggregate-fill-room c = sym (ap length (c .before .no-room .ensures) ∙ length-replicate {A = ℕ} 2304 0)
@@ -39,6 +40,7 @@ fill-room-requires c κs =
 loop-holds : tie.Need-loop-holds Inv-loop μ-loop
 loop-holds c =
     let after-blank : tie.After-blank Inv-loop μ-loop = search in
+    let after-no-room2 : tie.After-no-room2 Inv-loop μ-loop = search in
     let after-fill-room : tie.After-fill-room Inv-loop μ-loop = search in
     let start : tie.Start Inv-loop μ-loop = search in (
       search needs,
@@ -46,6 +48,7 @@ loop-holds c =
       after-fill-room .fill-room .ensures _,
       ap length (after-blank .blank .ensures) ∙ length-replicate {A = ℕ} 520 0,
       seen-start _ _ _,
+      empty-tidy _ _ (after-no-room2 .no-room2 .ensures),
     )
 
 slice-aggregate-plan-one : tie.Need-slice-aggregate-plan-one Inv-loop μ-loop
@@ -55,6 +58,11 @@ slice-aggregate-plan-one c =
 
 slice-aggregate-plan-one-2 : tie.Need-slice-aggregate-plan-one-2 Inv-loop μ-loop
 slice-aggregate-plan-one-2 c =
+    let at-loop : tie.At-loop Inv-loop μ-loop = search in
+    sym (at-loop .loop .inv .5 .long)
+
+slice-aggregate-plan-one-3 : tie.Need-slice-aggregate-plan-one-3 Inv-loop μ-loop
+slice-aggregate-plan-one-3 c =
     let at-loop : tie.At-loop Inv-loop μ-loop = search in
     sym (at-loop .loop .inv .3)
 
@@ -68,7 +76,7 @@ plan-one-requires c κs =
     let inv = at-loop .loop .inv in
     let size = plan-keeps _ _ (p .horizon) i _ _ (omega (arith, p .room)) (inv .1) in (
       (omega (arith, p .few), omega (arith, p .room), omega (arith, p .few, inv .3)),
-      ((p .searchable i _ (in-loop .loop-test .taken) (omega (arith, p .few, inv .3)), inv .4), inv .2),
+      ((p .searchable i _ (in-loop .loop-test .taken) (omega (arith, p .few, inv .3)), inv .4), (inv .2, inv .5)),
     )
 
 loop-again : tie.Need-loop-again Inv-loop μ-loop
@@ -81,9 +89,10 @@ loop-again c =
     let made = after-plan-one .plan-one .ensures in (
       search needs,
       plan-more _ _ (p .horizon) (at-loop .loop .i) _ _ _ (omega (arith, p .room)) (at-loop .loop .inv .1) (made .0),
-      made .1 .1,
+      made .1 .1 .0,
       search needs,
       made .1 .0,
+      made .1 .1 .1,
     )
 
 same-length : tie.Need-same-length Inv-loop μ-loop
@@ -100,6 +109,6 @@ returns c =
 
 pub plan-all-spec : {M : Type 1} → statement M
 plan-all-spec =
-    tie.close (tie.spec Inv-loop μ-loop (λ c κs. search needs) slice-aggregate-fill-room fill-room-requires (λ c κs. search needs) loop-holds
-    slice-aggregate-plan-one slice-aggregate-plan-one-2 plan-one-requires (λ c. search needs) (λ c. search needs) loop-again same-length
-    returns)
+    tie.close (tie.spec Inv-loop μ-loop (λ c κs. search needs) slice-aggregate-fill-room fill-room-requires (λ c κs. search needs)
+    (λ c κs. search needs) loop-holds slice-aggregate-plan-one slice-aggregate-plan-one-2 slice-aggregate-plan-one-3 plan-one-requires
+    (λ c. search needs) (λ c. search needs) loop-again same-length returns)

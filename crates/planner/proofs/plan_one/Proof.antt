@@ -16,7 +16,7 @@ route-in-requires : tie.Need-route-in-requires
 route-in-requires c κs =
     let start : tie.Start = search in
     let p = start .pre in
-    (p .1 .0 .0, room-above _ _ _ _ _ _ (p .1 .0 .0) _ (p .1 .1))
+    ((p .1 .0 .0, p .1 .1 .1), room-above _ _ _ _ _ _ (p .1 .0 .0) _ (p .1 .1 .0))
 
 store-seen-requires : tie.Need-store-seen-requires
 store-seen-requires c κs =
@@ -28,26 +28,27 @@ store-seen-requires c κs =
 take-route-requires : tie.Need-take-route-requires
 take-route-requires c κs =
     let after-store-seen : tie.After-store-seen = search in
+    let after-route-in : tie.After-route-in = search in
     let start : tie.Start = search in
     let able = start .pre .1 .0 .0 in (
       (able .width .0, able .width .1, able .height, able .horizon),
-      (omega (arith, start .pre .0, after-store-seen .store-seen .kept .1 .1 .1 .0), start .pre .1 .1 .tidy),
+      (omega (arith, start .pre .0, after-store-seen .store-seen .kept .1 .1 .1 .0), start .pre .1 .1 .0 .tidy),
     )
 
 returns : tie.Need-returns
 returns c =
+    let after-route-in : tie.After-route-in = search in
+    let start : tie.Start = search in
     let after-take-route : tie.After-take-route = search in
     let after-store-seen : tie.After-store-seen = search in
     let after-store : tie.After-store = search in
     let after-tag-of : tie.After-tag-of = search in
-    let after-route-in : tie.After-route-in = search in
-    let start : tie.Start = search in
     let found = after-route-in .route-in in
     let p = start .pre in
     let able = p .1 .0 .0 in
     let before = p .1 .0 .1 in
     let rec = ap (λ (tag : ℕ). tag ∷ found .result .route) (after-tag-of .tag-of .ensures)
-    ∙ found-record (found .result) _ (found .ensures) in
+    ∙ found-record (found .result) _ (found .ensures .1) in
     let e = shown-stored _ _ (start .args .i) _ _ _ (able .horizon) (p .0 .1) before _ rec (after-store .store .ensures) in
     let long = still-long _ _ (start .args .i) _ _ _ (able .horizon) (p .0 .1) before e in
     let shows = still-shows _ _ (start .args .i) _ _ _ (able .horizon) (p .0 .1) before e in (
@@ -55,8 +56,11 @@ returns c =
       (
         seen-step _ _ _ _ (start .args .i) (able .horizon) (p .0 .2) (omega (arith, p .0, long))
             (after-store-seen .store-seen .ensures) shows,
-        after-take-route .take-route .ensures _
-            (room-stored _ _ _ _ _ _ able _ _ _ (omega (arith, p .0)) (after-store-seen .store-seen .ensures) (p .1 .1)),
+        (
+          after-take-route .take-route .ensures _
+              (room-stored _ _ _ _ _ _ able _ _ _ (omega (arith, p .0)) (after-store-seen .store-seen .ensures) (p .1 .1 .0)),
+          found .ensures .0,
+        ),
       ),
     )
 
@@ -64,4 +68,4 @@ pub plan-one-spec : {M : Type 1} → statement M
 plan-one-spec =
     tie.close (tie.spec (λ c. search needs) route-in-requires (λ c. search needs) (λ c κs. search needs)
     (λ c κs. search needs) store-seen-requires take-route-requires (λ c. search needs) (λ c. search needs)
-    (λ c. search needs) returns)
+    (λ c. search needs) (λ c. search needs) returns)

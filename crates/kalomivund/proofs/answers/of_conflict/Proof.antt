@@ -28,10 +28,16 @@ returns-4 : tie.Need-returns-4
 unfolding ofConflict mapOutcome conflictDone comparedOutcome
 returns-4 c =
     let after-x3 : tie.After-x3 = search in
-    rw (after-x3 .x3 .given .1) (c .refused .ensures)
+    rw (after-x3 .x3 .given .1) (c .done4 .ensures)
+
+returns-5 : tie.Need-returns-5
+unfolding ofConflict mapOutcome conflictDone comparedOutcome
+returns-5 c =
+    let after-x4 : tie.After-x4 = search in
+    rw (after-x4 .x4 .given .1) (c .refused .ensures)
 
 pub of-conflict-spec : {M : Type 1} → statement M
 of-conflict-spec =
     tie.close (tie.spec (λ c. search needs) (λ c κs. search needs) (λ c. search needs) (λ c κs. search needs)
-    (λ c. search needs) (λ c κs. search needs) (λ c. search needs) (λ c κs. search needs) returns returns-2 returns-3
-    returns-4)
+    (λ c. search needs) (λ c κs. search needs) (λ c. search needs) (λ c κs. search needs) (λ c. search needs) (λ c κs. search needs) returns
+    returns-2 returns-3 returns-4 returns-5)

@@ -5,13 +5,12 @@ use Rattle.second.proofs.offers.conflicts.Statement.{statement}
 use Rattle.second.proofs.offers.conflicts.Tie as tie
 
 abbrev Inv-loop : tie.InvT-loop
-Inv-loop starts views k t c d next j₀ j = Unit {0}
+Inv-loop starts views k t c d j₀ j = Unit {0}
 
 abbrev μ-loop : tie.MeasureT-loop
-μ-loop starts views k t c d next j₀ j = k - j
+μ-loop starts views k t c d j₀ j = k - j
 
 pub conflicts-spec : {M : Type 1} → statement M
 conflicts-spec =
-    tie.close (tie.spec Inv-loop μ-loop (λ c κs. search needs) (λ c. search needs) (λ c κs. search needs)
-    (λ c. search needs) (λ c κs. search needs) (λ c κs. search needs) (λ c. search needs) (λ c. search needs)
+    tie.close (tie.spec Inv-loop μ-loop (λ c. search needs) (λ c κs. search needs) (λ c. search needs) (λ c. search needs)
     (λ c. search needs) (λ c. search needs) (λ c. search needs))

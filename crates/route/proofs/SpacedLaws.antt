@@ -1,0 +1,48 @@
+-- Two lists of numbers are free of all conflicts through H exactly if they are spaced, jumps included. If a is at t + 1 where b is at t:
+-- it was there already, which is one cell at t; or it entered, and b stayed, which is one cell at t + 1, or left, which is following.
+-- The other way round likewise; and a change of places is both.
+use Prim.Native.Nat.{ℕ, suc, _≤_, _<_}
+use native.Mathlib.Omega.{arith}
+use mathlib.Core.List.{List}
+use mathlib.Core.Logic.{_⊎_, inl, inr, _↔_}
+use mathlib.Core.Path.{_≡_, sym, _∙_}
+use Rattle.route.specs.Route.{cellAt}
+use Rattle.route.specs.Conflict.{VertexConflict, SwapConflict, Follows, FollowingConflict, ConflictFree}
+use Rattle.route.specs.Spaced.{Spaced}
+use Rattle.laws.proofs.Tests.{eq-or-ne}
+
+-- Where a is at t + 1 the cell of b at t, there is one cell at t or at t + 1, or a follows b.
+at-left : {A : Type 0} (a b : List ℕ) (t : ℕ) → cellAt a (suc t) ≡ cellAt b t → (VertexConflict a b t → A) →
+    (VertexConflict a b (suc t) → A) → (Follows a b t → A) → A
+unfolding VertexConflict Follows
+at-left {A} a b t e here there follows =
+    stays (eq-or-ne (cellAt a (suc t)) (cellAt a t)) (eq-or-ne (cellAt b (suc t)) (cellAt b t))
+  where
+    stays : (cellAt a (suc t) ≡ cellAt a t) ⊎ (cellAt a (suc t) ≡ cellAt a t → ⊥) →
+        (cellAt b (suc t) ≡ cellAt b t) ⊎ (cellAt b (suc t) ≡ cellAt b t → ⊥) → A
+    stays (inl p) q = here (sym p ∙ e)
+    stays (inr p) (inl q) = there (e ∙ sym q)
+    stays (inr p) (inr q) = follows (e, p, q)
+
+module _ (H : ℕ) (a b : List ℕ) where
+  pub free-spaced : ConflictFree H a b → Spaced H a b
+  unfolding VertexConflict FollowingConflict
+  free-spaced f =
+      record {
+        at-once = f .no-vertex;
+        behind = λ t l e. at-left a b t e (f .no-vertex t (omega arith)) (f .no-vertex (suc t) l) (λ w. f .no-following t l (inl w));
+        before =
+            λ t l e. at-left b a t (sym e) (λ v. f .no-vertex t (omega arith) (sym v)) (λ v. f .no-vertex (suc t) l (sym v))
+            (λ w. f .no-following t l (inr w));
+      }
+
+  pub spaced-free : Spaced H a b → ConflictFree H a b
+  unfolding VertexConflict SwapConflict FollowingConflict Follows
+  spaced-free p = record { no-vertex = p .at-once; no-swap = λ t l s. p .behind t l (s .1); no-following = no-following }
+    where
+      no-following : (t : ℕ) → t < H → FollowingConflict a b t → ⊥
+      no-following t l (inl w) = p .behind t l (w .0)
+      no-following t l (inr w) = p .before t l (sym (w .0))
+
+  pub free-is-spaced : ConflictFree H a b ↔ Spaced H a b
+  free-is-spaced = (free-spaced, spaced-free)

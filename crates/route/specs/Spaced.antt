@@ -1,0 +1,12 @@
+-- Two routes spaced: no beat's cell of one is the other's at that beat or at one beside it. It says the same as `ConflictFree`
+-- (`proofs/SpacedLaws.antt`), of any two lists of numbers, and a search computes with it. Nothing claimed rests on this.
+use Prim.Native.Nat.{ℕ, suc, _≤_, _<_}
+use mathlib.Core.List.{List}
+use mathlib.Core.Path.{_≡_}
+use Rattle.route.specs.Route.{cellAt}
+
+-- Through beat H, a and b are in different cells, a is not where b was one beat before, and not where b is one beat later.
+pub record Spaced (H : ℕ) (a b : List ℕ) : Type 0 where
+  pub at-once : (t : ℕ) → t ≤ H → cellAt a t ≡ cellAt b t → ⊥
+  pub behind : (t : ℕ) → t < H → cellAt a (suc t) ≡ cellAt b t → ⊥
+  pub before : (t : ℕ) → t < H → cellAt a t ≡ cellAt b (suc t) → ⊥

@@ -1,0 +1,27 @@
+-- The search in a room: what it answers, whatever was free and whoever is seen, where the room has what can be stood on.
+use Prim.Native.Nat.{ℕ, _≤_}
+use mathlib.Core.Bool.{Bool}
+use mathlib.Core.List.{List}
+use mathlib.Core.Path.{_≡_}
+use Rattle.route.specs.Route.{Task, View}
+use Rattle.route.specs.Moves.{standable}
+use Rattle.route.specs.Search.{best}
+use Rattle.tables.specs.declared.Scene.{Scene}
+use Rattle.tables.specs.Table.{inSet}
+use Rattle.search.specs.declared.Found.{Found}
+use Rattle.search.specs.Answers.{answered, Says}
+
+-- The task from start to goal in a scene, with the cells that are no wall.
+abbrev pub taskIn : Scene → ℕ → ℕ → (ℕ → Bool) → Task
+taskIn g start goal free =
+    record { width = g .width; cells = g .cells; horizon = g .horizon; start = start; goal = goal; free = free }
+
+-- The room has at each beat the cells that can be stood on.
+abbrev pub Agrees : Scene → List ℕ → Task → List View → Type 0
+Agrees g room task vs = (t c : ℕ) → t ≤ g .horizon → inSet g room t c ≡ standable task vs t c
+
+-- r is the best answer of every task and views with such a room.
+abbrev pub BestIn : Scene → List ℕ → ℕ → ℕ → Found → Type 0
+BestIn g room start goal r =
+    (free : ℕ → Bool) (vs : List View) → Agrees g room (taskIn g start goal free) vs →
+    Says r (answered (best (taskIn g start goal free) vs))
