@@ -12,7 +12,7 @@ use lib.ListN.{length}
 use Rattle.laws.proofs.Tests.{and-both, and-fst, and-snd, not-is-true, not-refutes, lt-or-le, eq-or-ne}
 use Rattle.laws.proofs.Tests.{eqbs-say, eqbs-hold, same-test, below-same}
 use Rattle.words.specs.Rows.{has, droppedAt}
-use Rattle.words.proofs.RowsLaws.{place-row, has-dropped, length-dropped, dropped-inside, dropped-outside}
+use Rattle.words.proofs.RowsLaws.{place-row, has-dropped, dropped-inside, dropped-outside, fewer-at, length-at}
 use Rattle.tables.specs.declared.Scene.{Scene}
 use Rattle.records.specs.Records.{viewCell, Away}
 use Rattle.tables.specs.Table.{inSet, Tidy}
@@ -38,21 +38,13 @@ module _ (g : Scene) (s : List ℕ) (a x : ℕ) (thin : 1 ≤ g .width) (room : 
 
   -- It has no digit more.
   less-fewer : (i j : ℕ) → has less i j ≡ true → has s i j ≡ true
-  less-fewer i j e =
-      ⊎-elim
-      (λ (l : x < g .cells).
-      and-fst (has s i j) (not (eqb i (a * 36 + 1 + x / g .width) && eqb j (x % g .width))) (sym (less-has i j l) ∙ e))
-      (λ (l : g .cells ≤ x). rw (less-same l) at e) (lt-or-le x (g .cells))
+  unfolding less
+  less-fewer i j e = fewer-at (g .width) (g .cells) thin room s (a * 36 + 1) x (omega (arith, tidy .long)) i j e
 
   -- It is as long.
   less-length : length less ≡ length s
   unfolding less
-  less-length =
-      ⊎-elim
-      (λ (l : x < g .cells).
-      ap length (sym (dropped-inside (g .width) (g .cells) (a * 36 + 1) x s l))
-      ∙ length-dropped s (a * 36 + 1 + x / g .width) (x % g .width))
-      (λ (l : g .cells ≤ x). ap length (less-same l)) (lt-or-le x (g .cells))
+  less-length = length-at (g .width) (g .cells) (a * 36 + 1) x s
 
   -- It is tidy.
   less-tidy : Tidy g less
