@@ -20,10 +20,14 @@ pub stores-lent : {m new : List ℕ} (xs old : List ℕ) → 22 ≤ length xs �
 unfolding storedFor whenPassed recordLent roomOf demand
 stores-lent xs old l e = rw (le-leb 22 (length xs) l) e
 
--- The word of an answer that is packed, told what the entry answers on the floor that the numbers say.
+-- The word of an entry whose answer is packed, and the same for an entry on the floor that the numbers say.
+pub says-told : {A : Type 0} {w : ℕ} {told a : Outcome A} (h : A → Done) → w ≡ wordOf (mapOutcome h told) → told ≡ a
+    → w ≡ wordOf (mapOutcome h a)
+says-told h s e = rw e at s
+
 pub says-packed : {A : Type 0} {w : ℕ} {told a : Outcome A} (h : A → Done) (xs : List ℕ) → 22 ≤ length xs
     → w ≡ wordOf (mapOutcome h told) → told ≡ a → w ≡ wordFor xs (mapOutcome h a)
-says-packed h xs l s e = says-lent xs _ l (rw e at s)
+says-packed h xs l s e = says-lent xs _ l (says-told h s e)
 
 -- The answer of checks, with a number where they pass.
 pub told-checks : {A : Type 0} {t v : Verdict} {n k : A} → t ≡ v → n ≡ k → (t gives n) ≡ (v gives k)
