@@ -33,6 +33,11 @@ says-packed h xs l s e = says-lent xs _ l (says-told h s e)
 pub told-checks : {A : Type 0} {t v : Verdict} {n k : A} → t ≡ v → n ≡ k → (t gives n) ≡ (v gives k)
 told-checks e d = rw (e, d)
 
+-- The word of one case of an answer.
+pub says-case : {X A : Type 0} (o : X → Outcome A) (h : A → Done) (w : ℕ) (x v : X) → x ≡ v → w ≡ wordOf (mapOutcome h (o v))
+    → w ≡ wordOf (mapOutcome h (o x))
+says-case o h w x v e s = rw e s
+
 -- What is answered to a record of enough numbers.
 pub ruleset handed-on = (says-packed, told-checks, stores-lent)
 
