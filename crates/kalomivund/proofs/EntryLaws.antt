@@ -38,7 +38,8 @@ pub says-case : {X A : Type 0} (o : X → Outcome A) (h : A → Done) (w : ℕ) 
     → w ≡ wordOf (mapOutcome h (o x))
 says-case o h w x v e s = rw e s
 
--- What is answered to a record of enough numbers.
+-- What is answered to a record of enough numbers, said over the floor that was read of it: the packer tells the word of what the entry
+-- answered, and the entry left the memory.
 pub ruleset handed-on = (says-packed, told-checks, stores-lent)
 
 -- The word is the refusal's, 9, 0, and the memory is as it was.

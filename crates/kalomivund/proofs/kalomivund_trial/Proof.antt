@@ -11,4 +11,4 @@ unfolding trialWord trialStateStored trialReportStored ofNumber
 kalomivund-trial-spec =
     tie.close (tie.spec (λ c κs. search needs) (λ c. search too-short) (λ c κs. search needs) (λ c κs. search needs)
     (λ c κs. search needs) (λ c. search needs) (λ c. search needs)
-    (λ c. let floor : tie.After-floor-of = search in rw (← floor .floor-of .ensures) (search handed-on)))
+    (λ c. let after-floor-of : tie.After-floor-of = search in rw (← after-floor-of .floor-of .ensures) (search handed-on)))
