@@ -41,7 +41,7 @@ use Rattle.reporting.specs.Put.{PutAt}
 use Rattle.reporting.proofs.ReportLaws.{put-behind}
 use Rattle.reporting.proofs.PrintedLaws.{Within}
 use Rattle.drawing.specs.Drawing.{drawnFloor}
-use Rattle.drawing.proofs.DrawingLaws.{bytes-length, grid-low}
+use Rattle.drawing.proofs.DrawnLaws.{drawn-length, drawn-short}
 use Rattle.meeting.specs.Text.{aloneOf, pairVerdict, decimal, numberLine, freeLine}
 use Rattle.meeting.specs.Text.{sameCellWords, changeWords, followingWords, carrierWords}
 use Rattle.meeting.specs.Text.{noRouteWords, conflictLine, noRouteLine, Early, conflictDrawing, answerIf, metText, pairText, meetingText}
@@ -79,21 +79,6 @@ module _ (f : Floor) (ws : List ℕ) (ok : checkOf f ws ≡ passed) where
       let room : 65 * f .carriers ≤ length (replicate {A = ℕ} 520 0) = omega (arith, few, length-replicate {A = ℕ} 520 0) in
       gives-passed (then-passed ok ∙ then-passed (demand-passes 9 0 (le-leb _ _ room)) ∙ there) ∙ ap value (unheard-alone i 520 _)
 
-  -- What a drawing asks for.
-  pub drawn-low : (f .width ≤ 32) × (f .height ≤ 32) × (f .walls ≤ length ws) × ((f .width + 1) * f .height ≤ 1056)
-  drawn-low =
-      let b = check-tells f ws ok .bounds in
-      (b .width .1, b .height .1, check-tells f ws ok .lent, grid-low _ _ (b .width .1) (b .height .1))
-
-  pub drawn-put : (places old new : List ℕ) (n : ℕ) → new ≡ put old 0 (drawnFloor f ws places) → n ≡ (f .width + 1) * f .height
-      → TextPut (drawnFloor f ws places) old new n
-  unfolding drawnFloor
-  drawn-put places old new n e s = record { bytes = e; size = s ∙ sym (bytes-length f ws places ((f .width + 1) * f .height)) }
-
-  drawing-short : (places : List ℕ) → length (drawnFloor f ws places) ≤ 1056
-  unfolding drawnFloor
-  drawing-short places = omega (arith, bytes-length f ws places ((f .width + 1) * f .height), drawn-low .3)
-
   -- Two carriers that are there.
   module _ (i j : ℕ) (there : pairVerdict f i j ≡ passed) where
     pub first-there : demand (within 1 (f .carriers) i) 7 0 ≡ passed
@@ -117,6 +102,11 @@ module _ (f : Floor) (ws : List ℕ) (ok : checkOf f ws ≡ passed) where
 
     pub second-digit : (1 ≤ j) × (j ≤ 8)
     second-digit = digit j second-there
+
+-- A drawing that was put.
+pub drawn-put : (f : Floor) (ws places old new : List ℕ) (n : ℕ) → new ≡ put old 0 (drawnFloor f ws places) → n ≡ (f .width + 1) * f .height
+    → TextPut (drawnFloor f ws places) old new n
+drawn-put f ws places old new n e s = record { bytes = e; size = s ∙ sym (drawn-length f ws places) }
 
 -- The beat of a first conflict is at most 63.
 conflict-low : (H : ℕ) (a b : List ℕ) (t : ℕ) (k : ConflictKind) → ConflictAt (min H 63) a b t k → t ≤ 63
@@ -229,7 +219,7 @@ module _ (f : Floor) (ws : List ℕ) (ok : checkOf f ws ≡ passed) (i j : ℕ) 
   pub met-drawing-short : (r q : List ℕ) (x : ConflictAnswer) → length (conflictDrawing f ws i j r q x) ≤ 1056
   unfolding conflictDrawing
   met-drawing-short r q free = omega arith
-  met-drawing-short r q (dated t k) = drawing-short f ws ok _
+  met-drawing-short r q (dated t k) = drawn-short f ws ok _
 
   met-short : (x y : Answer) → length (metText f ws i j x y) ≤ 1087
   unfolding metText
