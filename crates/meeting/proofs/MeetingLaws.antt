@@ -19,7 +19,9 @@ use Rattle.floor.specs.Checks.{checkOf, roomOf, within}
 use Rattle.floor.proofs.LimitsLaws.{check-tells}
 use Rattle.route.specs.Route.{Answer, none, route, View, unheard}
 use Rattle.route.specs.FirstConflict.{ConflictKind, sameCell, changeOfPlaces, following, ConflictAt, ConflictAnswer, free, dated}
-use Rattle.route.specs.ConflictTest.{firstConflict}
+use Rattle.route.specs.ConflictTest.{firstConflict, conflictTold}
+use Rattle.route.specs.declared.FirstConflict.{FirstConflict}
+use Rattle.route.specs.declared.FirstConflict.the-variants.{SameCell, ChangeOfPlaces, Following}
 use Rattle.route.specs.Search.{best}
 use Rattle.route.proofs.Theorems.{theorems as route-theorems}
 use Rattle.records.specs.Records.{viewOf, recordAt, viewAt, records, viewsOf}
@@ -119,6 +121,34 @@ pub found-early : (H : ℕ) (a b : List ℕ) (x : ConflictAnswer) → x ≡ firs
 unfolding Early
 found-early H a b free e = tt
 found-early H a b (dated t k) e = conflict-low H a b t k (route-theorems .conflict-test (min H 63) a b .first-exactly t k .0 (sym e) .there)
+
+-- A conflict that is told is early: by its kind, and so in two digits.
+module _ {x : FirstConflict} {t : ℕ} (e : Early (conflictTold x)) where
+  pub same-early : x ≡ SameCell t → t ≤ 63
+  unfolding Early conflictTold
+  same-early h = rw h at e
+
+  pub change-early : x ≡ ChangeOfPlaces t → t ≤ 63
+  unfolding Early conflictTold
+  change-early h = rw h at e
+
+  pub following-early : x ≡ Following t → t ≤ 63
+  unfolding Early conflictTold
+  following-early h = rw h at e
+
+pub early-digits : {t : ℕ} → t ≤ 63 → t < 100
+early-digits l = omega arith
+
+pub ruleset early = (same-early, change-early, following-early, early-digits)
+
+-- What is put for one case of what was found.
+pub line-case : (x v : FirstConflict) (old new : List ℕ) (n : ℕ) → x ≡ v → PutAt (conflictLine (conflictTold v)) old 0 new n
+    → PutAt (conflictLine (conflictTold x)) old 0 new n
+line-case x v old new n e p = rw e p
+
+pub drawing-case : (f : Floor) (ws : List ℕ) (i j : ℕ) (a b : List ℕ) (x v : FirstConflict) (old new : List ℕ) (n : ℕ) → x ≡ v
+    → TextPut (conflictDrawing f ws i j a b (conflictTold v)) old new n → TextPut (conflictDrawing f ws i j a b (conflictTold x)) old new n
+drawing-case f ws i j a b x v old new n e p = rw e p
 
 -- Numbers in digits, and lines with a number in them.
 pub one-digit : (n : ℕ) → n < 10 → decimal n ≡ (48 + n) ∷ []
