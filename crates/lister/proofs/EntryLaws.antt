@@ -229,18 +229,12 @@ module _ (f : Floor) (ws : List ℕ) (rank : ℕ) (m : List ℕ) (ok : smallVerd
     found-report m′ e = e ∙ sym (when-passed _ a-run)
 
 -- A refusal before 15 is the entry's.
-module _ (f : Floor) (ws : List ℕ) (rank : ℕ) (m : List ℕ) (k p : ℕ) (no : smallVerdict f ws (length m) ≡ refused k p) where
-  turned : rankVerdict f ws rank (length m) ≡ refused k p
-  unfolding rankVerdict _then_
-  turned = rw no refl
-
-  pub turned-answer : refusal k p ≡ rankOutcome f ws rank (length m)
-  unfolding rankOutcome
-  turned-answer = sym (gives-refused _ turned)
-
-  pub turned-report : m ≡ reportListed f ws rank m
-  unfolding reportListed
-  turned-report = sym (when-refused _ turned)
+pub turned-away : (f : Floor) (ws : List ℕ) (rank : ℕ) (m : List ℕ) {k p : ℕ} → smallVerdict f ws (length m) ≡ refused k p →
+    (refusal k p ≡ rankOutcome f ws rank (length m)) × (m ≡ reportListed f ws rank m)
+unfolding rankOutcome reportListed rankVerdict _then_
+turned-away f ws rank m {k} {p} no =
+    let turned : rankVerdict f ws rank (length m) ≡ refused k p = rw no refl in
+    (sym (gives-refused _ turned), sym (when-refused _ turned))
 
 -- What the report of the run of a rank requires of its line, and that it is the run.
 module _ (f : Floor) (ws : List ℕ) (rank lent : ℕ) (small : Small f ws lent) (line : List ℕ) (found : FoundLine f ws rank line) where
