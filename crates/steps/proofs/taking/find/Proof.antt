@@ -8,16 +8,6 @@ use borrow.Author.Needs.{needs}
 use Rattle.steps.proofs.taking.find.Statement.{statement}
 use Rattle.steps.proofs.taking.find.Tie as tie
 
-views-start-requires : tie.Need-views-start-requires
-views-start-requires c κs =
-    let start : tie.Start = search in
-    (start .pre .0, placed-sized (start .pre .1 .placed) .0)
-
-views-end-requires : tie.Need-views-end-requires
-views-end-requires c κs =
-    let start : tie.Start = search in
-    (start .pre .0, placed-sized (start .pre .1 .placed) .0)
-
 best-route-requires : tie.Need-best-route-requires
 best-route-requires c κs =
     let after-views-end : tie.After-views-end = search in
@@ -44,6 +34,8 @@ returns c =
 
 pub find-spec : {M : Type 1} → statement M
 find-spec =
-    tie.close (tie.spec (λ c. search needs) views-start-requires views-end-requires (λ c. search needs)
+    tie.close (tie.spec (λ c. search needs)
+    (λ c κs. let start : tie.Start = search in (start .pre .0, placed-sized (start .pre .1 .placed) .0))
+    (λ c κs. let start : tie.Start = search in (start .pre .0, placed-sized (start .pre .1 .placed) .0)) (λ c. search needs)
     (λ c. search needs) (λ c. search needs) (λ c. search needs) (λ c. search needs) (λ c. search needs)
     best-route-requires returns)
