@@ -2,15 +2,14 @@
 use Prim.Native.Nat.{ℕ, zero, suc, _+_, _*_, _-_, _/_, _≤_, _<_}
 use native.Mathlib.Omega.{arith}
 use native.Mathlib.Nat.{eq-or-lt-of-le}
-use mathlib.Core.Bool.{true, false}
-use mathlib.Core.List.{List, [], _∷_, _++_}
+use mathlib.Core.List.{List, [], _∷_}
 use mathlib.Core.Logic.{⊎-elim}
 use mathlib.Core.Path.{_≡_, refl, sym, _∙_, ap}
-use lib.Dec.{leb, ltb}
-use lib.ListN.{length, getD, take, drop, set}
+use lib.Dec.{leb}
+use lib.ListN.{length, getD, take, drop}
 use lib.Seq.{take-at}
 use borrow.Author.Tests.{leb-true, lt-ltb, le-ltb}
-use Rattle.laws.specs.Verdict.{Outcome, value, refusal, passed, refused, _then_, demand, _gives_, whenPassed}
+use Rattle.laws.specs.Verdict.{Outcome, value, refusal, passed, refused, _then_, demand, _gives_}
 use Rattle.laws.specs.Memory.{put}
 use Rattle.laws.proofs.PutLaws.{put-length}
 use Rattle.laws.proofs.VerdictLaws.{then-both, then-passed, demand-holds, demand-passes, gives-passed, gives-refused, when-passed, when-refused}
@@ -28,7 +27,6 @@ use Rattle.layout.specs.Places.{pairsBefore, stateSize}
 use Rattle.layout.specs.Calls.{machineOf}
 use Rattle.search.specs.Rows.{FreeRows}
 use Rattle.steps.specs.Inner.{Placed}
-use Rattle.orders.specs.Trial.{Entry}
 use Rattle.trial.specs.Report.{numbersOf, reportSize}
 use Rattle.trial.proofs.EntryLaws.{checked-carriers}
 use Rattle.trial.proofs.ReportLaws.{numbers-length}

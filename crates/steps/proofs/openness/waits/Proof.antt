@@ -22,4 +22,5 @@ pub waits-spec : {M : Type 1} → statement M
 unfolding stepMeant
 waits-spec =
     tie.close (tie.spec (λ c. search needs) plan-waits-requires (λ c. search needs) delivery-waits-requires
-    (λ c. rw (c .before .before .s .given .1) (c .plan-waits .ensures)) (λ c. rw (c .before .before .s2 .given .1) (c .delivery-waits .ensures)))
+    (λ c. rw (c .before .before .s .given .1) (c .plan-waits .ensures))
+    (λ c. rw (c .before .before .s2 .given .1) (c .delivery-waits .ensures)))

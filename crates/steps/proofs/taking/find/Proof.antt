@@ -1,5 +1,5 @@
 -- `steps::taking::find` meets its contract: the views of carrier i are one part of the state, and the search looks at just these.
-use mathlib.Core.Path.{sym, _∙_}
+use mathlib.Core.Path.{sym}
 use Rattle.steps.proofs.ViewLaws.{slice-long, slice-best}
 use Rattle.steps.proofs.PlacedLaws.{placed-sized, placed-searchable}
 use denote.Ref.{now}
