@@ -2,7 +2,7 @@
 use Prim.Native.Nat.{ℕ, suc, _*_, _^_, _≤_, _<_}
 use native.Mathlib.Omega.{arith}
 use native.Mathlib.Nat.{pow-le-pow-right}
-use mathlib.Core.Path.{_≡_, refl, sym, ap, _∙_}
+use mathlib.Core.Path.{_≡_, sym, ap, _∙_}
 use mathlib.Core.List.{List, _++_}
 use mathlib.Core.Logic.{⊎-elim}
 use borrow.Author.Tests.{le-leb}
@@ -33,11 +33,8 @@ use Rattle.trial.specs.Report.{numbersOf, reportSize}
 use Rattle.trial.specs.Entry.{trialVerdict, trialOf, triedOutcome, trialOutcome, reportTried}
 use Rattle.trial.proofs.ReportLaws.{numbers-length}
 use Rattle.trial.proofs.Theorems.{theorems as trial-theorems}
-use Rattle.sheet.specs.Values.{floorAt, wallsAt}
-use Rattle.sheet.specs.Read.{sheetVerdict}
-use Rattle.printing.proofs.PrintLaws.{WasRead, refusal-length}
-use Rattle.io.specs.Counts.{Counts}
-use Rattle.desk.specs.Text.{orderVerdict, playedText, trialText}
+use Rattle.printing.proofs.PrintLaws.{refusal-length}
+use Rattle.desk.specs.Text.{orderVerdict, playedText}
 use Rattle.reporting.proofs.PrintedLaws.{Within}
 
 -- The largest figures.

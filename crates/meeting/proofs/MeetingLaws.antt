@@ -6,10 +6,9 @@ use mathlib.Core.Path.{_≡_, refl, sym, ap, _∙_}
 use mathlib.Core.List.{List, [], _∷_, _++_, append-nil}
 use borrow.Author.Tests.{le-leb, leb-true, lt-ltb, le-ltb}
 use lib.Dec.{ltb, leb}
-use lib.ListN.{length, getD, take, replicate, length-append, length-replicate}
-use Rattle.io.specs.Counts.{Counts}
+use lib.ListN.{length, getD, replicate, length-append, length-replicate}
 use Rattle.laws.specs.Memory.{put}
-use Rattle.laws.specs.Verdict.{Verdict, passed, refused, value, refusal, demand, _then_}
+use Rattle.laws.specs.Verdict.{Verdict, passed, refused, value, demand, _then_}
 use Rattle.laws.proofs.PutLaws.{put-none}
 use Rattle.laws.proofs.Tests.{and-fst, and-snd}
 use Rattle.laws.proofs.VerdictLaws.{then-passed, then-refused, then-both, demand-passes, demand-holds, demand-cases, gives-passed}
@@ -29,15 +28,12 @@ use Rattle.records.specs.Seen.{seenFrom, seen}
 use Rattle.search.specs.Task.{taskOf}
 use Rattle.search.specs.Search.{requestOf, searchOf}
 use Rattle.search.specs.Answers.{outcomeOf, resultOf, Says}
-use Rattle.search.specs.declared.Outcome.{Outcome as CodeOutcome}
 use Rattle.search.specs.declared.Outcome.the-variants.{Route, None, Refused}
 use Rattle.search.specs.declared.Found.{Found}
 use Rattle.search.proofs.Theorems.{theorems as search-theorems}
-use Rattle.sheet.specs.Values.{floorAt, wallsAt}
-use Rattle.sheet.specs.Read.{sheetVerdict}
 use Rattle.printing.specs.Print.{orRefusal}
 use Rattle.printing.specs.Text.{refusalLine}
-use Rattle.printing.proofs.PrintLaws.{WasRead, refusal-length}
+use Rattle.printing.proofs.PrintLaws.{refusal-length}
 use Rattle.printing.specs.Put.{TextPut}
 use Rattle.reporting.specs.Put.{PutAt}
 use Rattle.reporting.proofs.ReportLaws.{put-behind}
@@ -46,7 +42,7 @@ use Rattle.drawing.specs.Drawing.{drawnFloor}
 use Rattle.drawing.proofs.DrawnLaws.{drawn-length, drawn-short}
 use Rattle.meeting.specs.Text.{aloneOf, pairVerdict, decimal, numberLine, freeLine}
 use Rattle.meeting.specs.Text.{sameCellWords, changeWords, followingWords, carrierWords}
-use Rattle.meeting.specs.Text.{noRouteWords, conflictLine, noRouteLine, Early, conflictDrawing, answerIf, metText, pairText, meetingText}
+use Rattle.meeting.specs.Text.{noRouteWords, conflictLine, noRouteLine, Early, conflictDrawing, answerIf, metText, pairText}
 
 -- Zeros show no view.
 zeros-unheard : (n j : ℕ) → viewAt (replicate n 0) j ≡ unheard

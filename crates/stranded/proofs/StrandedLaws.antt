@@ -8,31 +8,25 @@ use mathlib.Core.Path.{_≡_, refl, sym, _∙_, ap, ap₂}
 use borrow.Author.Tests.{eqb-true, eqb-false}
 use lib.Dec.{eqb}
 use lib.ListN.{length, getD, take, drop, set, length-append}
-use Rattle.io.specs.Counts.{Counts}
 use Rattle.laws.specs.Memory.{put}
-use Rattle.laws.specs.Verdict.{passed, refused}
+use Rattle.laws.specs.Verdict.{passed}
 use Rattle.floor.specs.declared.Floor.{Floor}
 use Rattle.floor.specs.Checks.{checkOf, startOf}
 use Rattle.floor.proofs.LimitsLaws.{check-tells}
 use Rattle.sheet.specs.Text.{linesOf}
-use Rattle.sheet.specs.Values.{floorAt, wallsAt}
-use Rattle.sheet.specs.Read.{sheetVerdict}
 use Rattle.planner.specs.Plan.{planOf}
 use Rattle.planner.specs.Claims.{answerAt}
-use Rattle.printing.specs.Print.{orRefusal}
-use Rattle.printing.specs.Text.{refusalLine}
 use Rattle.printing.specs.Put.{TextPut}
 use Rattle.printing.proofs.LinesLaws.{lines-within}
-use Rattle.printing.proofs.PrintLaws.{WasRead, refusal-length}
 use Rattle.reporting.specs.Put.{PutAt}
-use Rattle.reporting.proofs.TextLaws.{both-put, counted}
+use Rattle.reporting.proofs.TextLaws.{both-put}
 use Rattle.drawing.specs.Drawing.{drawnFloor}
 use Rattle.drawing.proofs.DrawnLaws.{drawn-length, drawn-short}
 use Rattle.reporting.proofs.PrintedLaws.{Within}
 use Rattle.blockers.specs.Blockers.{ifNone}
 use Rattle.blockers.specs.Inner.{PlanIn}
 use Rattle.blockers.proofs.EntryLaws.{has-route, has-none}
-use Rattle.stranded.specs.Text.{carrierText, orNobody, strandedPlaces, strandedText, blockersText}
+use Rattle.stranded.specs.Text.{carrierText, orNobody, strandedPlaces, strandedText}
 use Rattle.stranded.specs.Inner.{placeIn, placesIn}
 use Rattle.stranded.proofs.LineLaws.{carrier-short, place-none, place-route, or-short}
 

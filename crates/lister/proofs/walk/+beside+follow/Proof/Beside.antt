@@ -110,7 +110,10 @@ module _ (t : ℕ) where
       let start : Start = search in
       let here = looked-at after-open-at (then3 .if3 .taken) in (
         falls-to _ _ _ _ (start .pre .0) (here .listed) (places-six _ (start .pre .1 .0 .0 .few)),
-        ((start .pre .1 .0 .0, here .some), ((here .listed, here .told), fits-part _ _ _ _ _ _ _ (here .some) (here .listed) (here .told) (start .pre .1 .1))),
+        (
+          (start .pre .1 .0 .0, here .some),
+          ((here .listed, here .told), fits-part _ _ _ _ _ _ _ (here .some) (here .listed) (here .told) (start .pre .1 .1)),
+        ),
       )
 
   pub beside-add-beside : beside-lts.Need-add-beside (callees t) (beside-at t) beside.Post
@@ -146,7 +149,8 @@ module _ (t : ℕ) where
       let after-open-at : After-open-at = search in
       let start : Start = search in
       let here = looked-at after-open-at (then3 .if3 .taken) in
-      tallied-join _ _ _ _ (beside-open _ _ _ _ _ (here .some) (here .listed) (here .told)) (after-follow .follow .ensures) (after-beside .beside .ensures)
+      tallied-join _ _ _ _ (beside-open _ _ _ _ _ (here .some) (here .listed) (here .told)) (after-follow .follow .ensures)
+      (after-beside .beside .ensures)
 
   pub beside-add-beside-2 : beside-lts.Need-add-beside-2 (callees t) (beside-at t) beside.Post
   beside-add-beside-2 c =
@@ -160,7 +164,10 @@ module _ (t : ℕ) where
       let start : Start = search in
       let here = looked-at after-open-at (else3 .if3 .left) in (
         falls-along _ _ _ _ (start .pre .0) (here .listed) (places-six _ (start .pre .1 .0 .0 .few)),
-        ((start .pre .1 .0 .0, next-place (here .listed)), fits-same _ _ _ _ (beside-shut _ _ _ _ _ (here .listed) (here .told)) (start .pre .1 .1)),
+        (
+          (start .pre .1 .0 .0, next-place (here .listed)),
+          fits-same _ _ _ _ (beside-shut _ _ _ _ _ (here .listed) (here .told)) (start .pre .1 .1),
+        ),
       )
 
   pub beside-same-length-2 : beside-lts.Need-same-length-2 (callees t) (beside-at t) beside.Post
