@@ -18,6 +18,8 @@ use Rattle.laws.proofs.VerdictLaws.{then-both, then-refused, refused-by, demand
 use Rattle.laws.proofs.EachLaws.{each-means, each-refused, first-refuses}
 use Rattle.floor.proofs.LimitsLaws.{field-means, limits-each, limits-mean, lent-passed}
 use Rattle.floor.proofs.SameLaws.{check-same}
+use Rattle.floor.proofs.OrderLaws.{order-same}
+use Rattle.floor.proofs.OneDockLaws.{still-accepted, still-refused, still-six}
 use Rattle.floor.proofs.CheckMeans.{carrier-in-grid-means, wall-in-grid-means, rises-means, clear-means, unshared-means, unrepeated-means}
 
 module _ (f : Floor) (ws : List ℕ) where
@@ -163,4 +165,8 @@ theorems =
       refuses-exactly = λ f ws k p. (row f ws k p, refusal f ws k p);
       fresh-accepted = refl;
       same-verdict = λ f ws g vs same. check-same f ws g vs same;
+      order-nothing = λ f g ws same. order-same f g ws same;
+      earlier-accepted = λ e ws. still-accepted e ws;
+      earlier-refused = λ e ws. still-refused e ws;
+      earlier-start = λ e ws. still-six e ws;
     }
