@@ -12,11 +12,11 @@ use Rattle.laws.proofs.PartLaws.{part-byte}
 use Rattle.laws.proofs.Tests.{and-fst, not-refutes}
 use Rattle.laws.proofs.EachLaws.{Decides, each-passed, all-passes, each-refused, first-refuses}
 use Rattle.laws.proofs.VerdictLaws.{then-both, then-assoc, then-passed, then-refused, refused-by, demand-same, demand-passes, turn-passes}
-use Rattle.floor.specs.Checks.{within, among, every, startOf, countOf, docksOf, dockOf, inGrid, docksInGrid, carrierInGrid, docksClear}
-use Rattle.floor.specs.Checks.{clearOfWalls, unshared, unrepeated, limitsOf, lentOf, roomOf, carriersOf, wallsOf, risingOf, clearOf}
+use Rattle.floor.specs.Checks.{within, among, every, startOf, countOf, docksOf, dockOf, inGrid, docksInGrid, carrierInGrid}
+use Rattle.floor.specs.Checks.{docksClear, clearOfWalls, unshared, unrepeated, limitsOf, lentOf, roomOf, carriersOf, wallsOf, risingOf, clearOf}
 use Rattle.floor.specs.Checks.{distinctOf, unrepeatedOf, placesOf, checkOf}
-use Rattle.floor.specs.OneDock.{Earlier, oneEach, withOneDock, earlierLimits, earlierInside, bothInside, earlierCarriers, earlierWalls}
-use Rattle.floor.specs.OneDock.{earlierRising, bothClear, earlierClear, neitherShared, earlierDistinct, earlierCheck}
+use Rattle.floor.specs.OneDock.{Earlier, oneEach, withOneDock, earlierLimits, earlierInside, bothInside, earlierCarriers}
+use Rattle.floor.specs.OneDock.{earlierWalls, earlierRising, bothClear, earlierClear, neitherShared, earlierDistinct, earlierCheck}
 use Rattle.floor.proofs.LimitsLaws.{limits-passed}
 
 -- Every fourth place has a goal.

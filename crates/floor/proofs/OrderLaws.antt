@@ -93,7 +93,8 @@ apart-too xs ys zero inside apart k l j h e = absurd (omega arith)
 apart-too xs ys (suc m) inside apart k l j h e =
     let place : (a : ℕ) → a < suc m → ℕ = λ a b. among-place ys (getD xs a 0) (suc m) (inside a b) .0 in
     let low : (a : ℕ) (b : a < suc m) → place a b < suc m = λ a b. among-place ys (getD xs a 0) (suc m) (inside a b) .1 in
-    let here : (a : ℕ) (b : a < suc m) → getD ys (place a b) 0 ≡ getD xs a 0 = λ a b. among-place ys (getD xs a 0) (suc m) (inside a b) .2 in
+    let here : (a : ℕ) (b : a < suc m) → getD ys (place a b) 0 ≡ getD xs a 0 =
+    λ a b. among-place ys (getD xs a 0) (suc m) (inside a b) .2 in
     let at : (a : ℕ) → a < suc m → ℕ = λ a b. instead j k (place a b) in
     let few =
     pigeons (suc m) m (λ a b. squeeze k (at a b))
