@@ -10,14 +10,14 @@ use tables::table::member;
 use tables::table::put_more;
 use tables::table::put_none;
 
-// As many docks as a carrier may have.
-pub type Cells = [usize; 4];
+// As many cells as a carrier may have docks.
+pub type Cells = [u16; 4];
 
 // The first `count` cells are docks, each with the least beat from which it is in the room through the horizon.
 pub struct Docks {
     pub count: usize,
     pub cells: Cells,
-    pub holds: Cells,
+    pub holds: [usize; 4],
 }
 
 // The least beat from which a cell is in the room through the horizon; one past the horizon where it is not there then.
@@ -43,7 +43,7 @@ pub fn hold_docks(g: Scene, room: &[u32], count: usize, cells: Cells) -> Docks
     let mut holds = [0usize; 4];
     let mut k: usize = 0;
     while k < count {
-        holds[k] = hold_from(g, room, cells[k]);
+        holds[k] = hold_from(g, room, cells[k] as usize);
         k += 1;
     }
     Docks {
@@ -77,7 +77,7 @@ fn arrives_at(g: Scene, sets: &[u32], ds: Docks, t: usize, k: usize) -> bool
     if t < ds.holds[k] {
         return false;
     }
-    member(g, sets, t, ds.cells[k])
+    member(g, sets, t, ds.cells[k] as usize)
 }
 
 // Whether some dock that can be held from beat t on is in the set of beat t.
@@ -105,7 +105,7 @@ fn put_dock(g: Scene, sets: &mut [u32], ds: Docks, a: usize, k: usize)
     if a < ds.holds[k] {
         return;
     }
-    put_more(g, sets, a, ds.cells[k]);
+    put_more(g, sets, a, ds.cells[k] as usize);
 }
 
 // The set of beat a becomes the docks that can be held from then on.

@@ -171,11 +171,10 @@ more-made g s q t c l grid old early inside place e =
 -- A set that is emptied, and that a cell joins then, has this cell alone.
 pub alone-made : (g : Scene) (s p q : List ℕ) (t c : ℕ) → ChangedAt g s t p → Empty g p t → ChangedAt g p t q → Joined g p t c q →
     ChangedAt g s t q × Alone g q t c
-alone-made g s p q t c wiped none only joined =
-    (
-      record { tidy = only .tidy; other = λ u d n. only .other u d n ∙ wiped .other u d n },
-      record {
-        says = λ d e. ⊎-elim (λ (h : inSet g p t d ≡ true). absurd (none d h)) (λ (h : d ≡ c). h) (joined .says d e);
-        holds = joined .holds;
-      },
-    )
+alone-made g s p q t c wiped none only joined = (
+  record { tidy = only .tidy; other = λ u d n. only .other u d n ∙ wiped .other u d n },
+  record {
+    says = λ d e. ⊎-elim (λ (h : inSet g p t d ≡ true). absurd (none d h)) (λ (h : d ≡ c). h) (joined .says d e);
+    holds = joined .holds;
+  },
+)

@@ -29,4 +29,4 @@ returns-2 c =
 pub arrives-at-spec : {M : Type 1} → statement M
 arrives-at-spec =
     tie.close (tie.spec (λ c. search needs) element-copy-out-if1 (λ c. hold-late _ _ _ _ _ (c .if1 .taken)) (λ c. search needs)
-    element-copy-out-member member-requires returns-2)
+    element-copy-out-member (λ c. search needs) member-requires returns-2)

@@ -50,5 +50,5 @@ returns c =
 
 pub hold-docks-spec : {M : Type 1} → statement M
 hold-docks-spec =
-    tie.close (tie.spec Inv-loop μ-loop (λ c. (search needs, filled-none _ _)) (λ c. search needs) array-read-hold-from hold-from-requires
+    tie.close (tie.spec Inv-loop μ-loop (λ c. (search needs, filled-none _ _)) (λ c. search needs) array-read-hold-from (λ c. search needs) hold-from-requires
     (λ c. search needs) array-write-holds (λ c. search needs) (λ c. search needs) loop-again returns)
