@@ -7,6 +7,7 @@ pub mod SameTrialLaws
 pub mod SameRunLaws
 pub mod SameBlockerLaws
 pub mod SameFloorLaws
+pub mod SameSheetLaws
 pub mod RoundTripLaws
 pub mod RankLaws
 pub mod BlockerLaws
