@@ -62,7 +62,7 @@ module _ (f : Floor) (ws : List ℕ) (g : Floor) (vs : List ℕ) (same : SameFlo
       record {
         outcomes = same-outcomes f ws g vs docks (same .cells) checks;
         sheet = λ old.
-        rw (write f ws g vs docks (same .cells) checks (length old), sheet-same, length-same f ws g vs docks (same .cells));
+            rw (write f ws g vs docks (same .cells) checks (length old), sheet-same, length-same f ws g vs docks (same .cells));
       }
 
 -- Records that differ in the order of docks get the same answers, but for the sheet.
