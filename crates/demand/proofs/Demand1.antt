@@ -54,8 +54,7 @@ use Rattle.demand.specs.Demand1.{HoldsState, ReadRows, WriteRows, PlanRo
 use Rattle.demand.specs.Demand1.{TrialRows, RoutesRows, ConflictRows, Demand1}
 use Rattle.demand.proofs.RankLaws.{run-of-rank, run-keeps-report}
 use Rattle.demand.proofs.BlockerLaws.{blockers, blockers-keeps}
-use Rattle.demand.proofs.RowLaws.{then-rows, answers-rows, gives-rows, demand-row, short-row, keeps-when, value-no-refusal}
-use Rattle.demand.proofs.RowLaws.{no-row-passes, passes-exactly, refusal-row}
+use Rattle.demand.proofs.RowLaws.{then-rows, answers-rows, gives-rows, demand-row, short-row, keeps-when, value-no-refusal, no-row-passes, passes-exactly, refusal-row}
 use Rattle.laws.proofs.PutLaws.{front-beyond, put-beyond}
 use Rattle.demand.proofs.EntryLaws.{floor-rows, lent-rows, outside-row, limit-rows}
 use Rattle.demand.proofs.RefusalLaws.{reply-rows, state-kept}

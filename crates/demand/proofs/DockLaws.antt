@@ -71,12 +71,23 @@ module _ (e : Earlier) (ws : List ℕ) (ok : earlierCheck e ws ≡ passed) where
       route-theorems .one-dock (taskOf (withOneDock e) ws (k + 1)) (getD (e .goals) k 0) vs x
       (λ c. task-docks (withOneDock e) ws k c ∙ one-is-dock e ws few k c l)
 
-  pub one-dock-plan : (xs : List Answer) → EarlierPlan e ws xs ↔ (xs ≡ planOf (withOneDock e) ws)
+  to-plan : (xs : List Answer) → EarlierPlan e ws xs → Prioritized (withOneDock e) ws xs
   unfolding withOneDock
-  one-dock-plan xs = (
-    λ p. plan-exactly (withOneDock e) ws now xs .0
-        (record { every = p .every; best = λ k l. to-goal k l (seen (withOneDock e) (map heard (take k xs))) (answerAt xs k) .1 (p .best k l) }),
-    λ q.
-        let p = plan-exactly (withOneDock e) ws now xs .1 q in
-        record { every = p .every; best = λ k l. to-goal k l (seen (withOneDock e) (map heard (take k xs))) (answerAt xs k) .0 (p .best k l) },
-  )
+  to-plan xs p =
+      record {
+        every = p .every;
+        best = λ k l. to-goal k l (seen (withOneDock e) (map heard (take k xs))) (answerAt xs k) .1 (p .best k l);
+      }
+
+  from-plan : (xs : List Answer) → Prioritized (withOneDock e) ws xs → EarlierPlan e ws xs
+  unfolding withOneDock
+  from-plan xs p =
+      record {
+        every = p .every;
+        best = λ k l. to-goal k l (seen (withOneDock e) (map heard (take k xs))) (answerAt xs k) .0 (p .best k l);
+      }
+
+  pub one-dock-plan : (xs : List Answer) → EarlierPlan e ws xs ↔ (xs ≡ planOf (withOneDock e) ws)
+  one-dock-plan xs =
+      let plan = plan-exactly (withOneDock e) ws now xs in
+      (λ p. plan .0 (to-plan xs p), λ q. from-plan xs (plan .1 q))

@@ -12,8 +12,7 @@ use Rattle.reference.specs.Ranking.{ranking, isSilent}
 use Rattle.reference.specs.Take.{afterStep}
 use Rattle.reference.specs.Quiet.{ceiling}
 use Rattle.reference.proofs.RespondLaws.{open-same, after-same, answer-same, none-same}
-use Rattle.orders.specs.Orders.{Order, first, round, drawn, places, stepAt, openAt, passing, openPlaces, turn, chosen, startMemory}
-use Rattle.orders.specs.Orders.{remembered}
+use Rattle.orders.specs.Orders.{Order, first, round, drawn, places, stepAt, openAt, passing, openPlaces, turn, chosen, startMemory, remembered}
 use Rattle.orders.specs.Trial.{TrialResult, nextStep, entryOf, reported, tryFrom, trial}
 use Rattle.orders.proofs.RuleLaws.{some-place, chosen-item}
 use Rattle.orders.proofs.TrialLaws.{try-silent, try-step}

@@ -122,8 +122,8 @@ pub record Demand2 : Type 0 where
       routesOf text ≡ routesText (floorAt text) (planOf (floorAt text) (wallsAt text))
   pub printed-refusal : (text : List ℕ) (k p : ℕ) → sheetVerdict text ≡ refused k p → routesOf text ≡ refusalLine k p
   pub arrival-exactly : (H : ℕ) (r : List ℕ) (a : ℕ) → Arrives H r a ↔ (a ≡ arrivalOf r H)
-  -- With several docks (document 02, slip 10) the answer is none exactly if it is none with each dock alone. A route that is answered ends at
-  -- a dock, is the answer with that dock alone, and arrives no later than the answer with any other.
+  -- With several docks (document 02, slip 10) the answer is none exactly if it is none with each dock alone. A route that is answered ends
+  -- at a dock, is the answer with that dock alone, and arrives no later than the answer with any other.
   pub docks-none : (f : Floor) (ws : List ℕ) (i : ℕ) (vs : List View) → checkOf f ws ≡ passed →
       (respondOf f ws i vs ≡ none) ↔ ((c : ℕ) → isDock f i c ≡ true → best (alone (taskOf f ws (i + 1)) c) (seen f vs) ≡ none)
   pub docks-own : (f : Floor) (ws : List ℕ) (i : ℕ) (vs : List View) (r : List ℕ) → checkOf f ws ≡ passed → respondOf f ws i vs ≡ route r →
