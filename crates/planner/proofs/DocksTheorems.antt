@@ -6,8 +6,9 @@ use mathlib.Core.Path.{_≡_, refl, sym, _∙_, ap}
 use mathlib.Core.Logic.{_↔_}
 use mathlib.Core.List.{List, map}
 use lib.Dec.{eqb}
+use borrow.Author.Tests.{eqb-true}
 use lib.ListN.{length, getD, take}
-use Rattle.laws.specs.Verdict.{passed}
+use Rattle.laws.specs.Verdict.{passed, value}
 use Rattle.floor.specs.declared.Floor.{Floor}
 use Rattle.floor.specs.Checks.{checkOf, isDock}
 use Rattle.floor.specs.Accepted.{SameDocks}
@@ -20,10 +21,13 @@ use Rattle.route.specs.Best.{Best}
 use Rattle.route.specs.Search.{best}
 use Rattle.route.specs.Arrival.{arrivalOf}
 use Rattle.route.specs.Docks.{alone}
-use Rattle.route.specs.OneGoal.{BestTo}
+use Rattle.route.specs.OneGoal.{ArrivesAt, BestTo}
 use Rattle.route.proofs.Theorems.{theorems as route-theorems}
+use Rattle.records.specs.Records.{viewsOf}
 use Rattle.records.specs.Seen.{seen}
 use Rattle.search.specs.Task.{taskOf}
+use Rattle.search.specs.Search.{searchOf}
+use Rattle.search.proofs.Theorems.{theorems as search-theorems}
 use Rattle.planner.specs.Plan.{respondOf, planOf}
 use Rattle.planner.specs.Claims.{answerAt, AgreeUpTo}
 use Rattle.planner.specs.DocksClaims.{PrioritizedTo, DocksClaims}
@@ -80,12 +84,18 @@ module _ (e : Earlier) (ws : List ℕ) (ok : earlierCheck e ws ≡ passed) where
   unfolding withOneDock
   few = check-tells (withOneDock e) ws accepted .bounds .carriers .1
 
-  -- The best answer is document 01's best answer to the goal.
+  -- The best answer is document 01's best answer to the goal; carriers count from 1 here, as in tasks.
+  goal-task : (i : ℕ) → i - 1 < e .carriers → (vs : List View) (x : Answer) →
+      Best (taskOf (withOneDock e) ws i) vs x ↔ BestTo (getD (e .goals) (i - 1) 0) (taskOf (withOneDock e) ws i) vs x
+  unfolding taskOf
+  goal-task i l vs x =
+      route-theorems .one-dock (taskOf (withOneDock e) ws i) (getD (e .goals) (i - 1) 0) vs x (λ c. one-is-dock e ws few (i - 1) c l)
+
   to-goal : (k : ℕ) → k < e .carriers → (vs : List View) (x : Answer) →
       Best (taskOf (withOneDock e) ws (k + 1)) vs x ↔ BestTo (getD (e .goals) k 0) (taskOf (withOneDock e) ws (k + 1)) vs x
   to-goal k l vs x =
-      route-theorems .one-dock (taskOf (withOneDock e) ws (k + 1)) (getD (e .goals) k 0) vs x
-      (λ c. task-docks (withOneDock e) ws k c ∙ one-is-dock e ws few k c l)
+      let one : k + 1 - 1 ≡ k = omega arith in
+      rw one at (goal-task (k + 1) (omega arith) vs x)
 
   earlier-response : (i : ℕ) (vs : List View) (x : Answer) → i < e .carriers →
       BestTo (getD (e .goals) i 0) (taskOf (withOneDock e) ws (i + 1)) (seen (withOneDock e) vs) x ↔ (x ≡ respondOf (withOneDock e) ws i vs)
@@ -93,6 +103,25 @@ module _ (e : Earlier) (ws : List ℕ) (ok : earlierCheck e ws ≡ passed) where
     λ b. responds-only (withOneDock e) ws accepted i vs x (to-goal i l (seen (withOneDock e) vs) x .1 b),
     λ q. rw q (to-goal i l (seen (withOneDock e) vs) (respondOf (withOneDock e) ws i vs) .0 (responds (withOneDock e) ws accepted i vs)),
   )
+
+  earlier-search : (i : ℕ) (m : List ℕ) (x : Answer) → searchOf (withOneDock e) ws i m ≡ value x →
+      BestTo (getD (e .goals) (i - 1) 0) (taskOf (withOneDock e) ws i) (seen (withOneDock e) (viewsOf m i)) x
+  unfolding withOneDock
+  earlier-search i m x s =
+      let listed = search-theorems .answers-exactly (withOneDock e) ws i m .0 (x, s) .listed in
+      goal-task i (omega (arith, listed .0, listed .1)) (seen (withOneDock e) (viewsOf m i)) x .0
+      (search-theorems .answers-best (withOneDock e) ws i m x s)
+
+  earlier-arrival : (i : ℕ) (vs : List View) (r : List ℕ) → i < e .carriers → respondOf (withOneDock e) ws i vs ≡ route r →
+      ArrivesAt (getD (e .goals) i 0) (e .horizon) r (arrivalOf r (e .horizon))
+  unfolding withOneDock
+  earlier-arrival i vs r l s =
+      let last = cellAt r (e .horizon) in
+      let there : eqb last (getD (e .goals) i 0) ≡ true =
+      sym (one-is-dock e ws few i last l) ∙ ends-at-dock (withOneDock e) ws accepted i vs r s
+      in
+      route-theorems .one-arrival (getD (e .goals) i 0) (e .horizon) r (arrivalOf r (e .horizon)) .1
+      (refl, eqb-true last (getD (e .goals) i 0) there)
 
   goals-planned : PrioritizedTo e ws (planOf (withOneDock e) ws)
   unfolding withOneDock
@@ -131,6 +160,8 @@ theorems =
     record {
       earlier-plan = λ e ws xs ok. earlier-plan e ws ok xs;
       earlier-response = λ e ws i vs x ok l. earlier-response e ws ok i vs x l;
+      earlier-search = λ e ws i m x ok. earlier-search e ws ok i m x;
+      earlier-arrival = λ e ws i vs r ok l. earlier-arrival e ws ok i vs r l;
       order-plan = λ f g ws same. plans-agree f ws g ws (agrees f g ws same) (same .carriers);
       order-response = λ f g ws i vs same l h. respond-same (f .carriers) f ws g ws (agrees f g ws same) i vs l h;
       order-search = λ f g ws i m same.

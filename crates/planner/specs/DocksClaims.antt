@@ -1,12 +1,12 @@
 -- The claims of document 02's slip 10 (several docks) about plans, responses and searches; `proofs/DocksTheorems.antt` inhabits the record.
 -- Carriers count from 0, in tasks and searches from 1.
-use Prim.Native.Nat.{ℕ, _+_, _≤_, _<_}
+use Prim.Native.Nat.{ℕ, _+_, _-_, _≤_, _<_}
 use mathlib.Core.Bool.{true}
 use mathlib.Core.Path.{_≡_}
 use mathlib.Core.Logic.{_↔_}
 use mathlib.Core.List.{List, map}
 use lib.ListN.{length, getD, take}
-use Rattle.laws.specs.Verdict.{passed}
+use Rattle.laws.specs.Verdict.{passed, value}
 use Rattle.floor.specs.declared.Floor.{Floor}
 use Rattle.floor.specs.Checks.{checkOf, isDock}
 use Rattle.floor.specs.Accepted.{SameDocks}
@@ -15,7 +15,8 @@ use Rattle.route.specs.Route.{cellAt, Answer, none, route, View, heard}
 use Rattle.route.specs.Search.{best}
 use Rattle.route.specs.Arrival.{arrivalOf}
 use Rattle.route.specs.Docks.{alone}
-use Rattle.route.specs.OneGoal.{BestTo}
+use Rattle.route.specs.OneGoal.{ArrivesAt, BestTo}
+use Rattle.records.specs.Records.{viewsOf}
 use Rattle.records.specs.Seen.{seen}
 use Rattle.search.specs.Task.{taskOf}
 use Rattle.search.specs.Search.{searchOf}
@@ -37,6 +38,12 @@ pub record DocksClaims : Type 0 where
   -- So is every response, to any views; the machine, trials, listed runs and blockers know the search only by its responses.
   pub earlier-response : (e : Earlier) (ws : List ℕ) (i : ℕ) (vs : List View) (x : Answer) → earlierCheck e ws ≡ passed → i < e .carriers →
       BestTo (getD (e .goals) i 0) (taskOf (withOneDock e) ws (i + 1)) (seen (withOneDock e) vs) x ↔ (x ≡ respondOf (withOneDock e) ws i vs)
+  -- So is every search, to the views that its memory shows, and the arrival of a route that is answered is document 01's.
+  pub earlier-search : (e : Earlier) (ws : List ℕ) (i : ℕ) (m : List ℕ) (x : Answer) → earlierCheck e ws ≡ passed →
+      searchOf (withOneDock e) ws i m ≡ value x →
+      BestTo (getD (e .goals) (i - 1) 0) (taskOf (withOneDock e) ws i) (seen (withOneDock e) (viewsOf m i)) x
+  pub earlier-arrival : (e : Earlier) (ws : List ℕ) (i : ℕ) (vs : List View) (r : List ℕ) → earlierCheck e ws ≡ passed → i < e .carriers →
+      respondOf (withOneDock e) ws i vs ≡ route r → ArrivesAt (getD (e .goals) i 0) (e .horizon) r (arrivalOf r (e .horizon))
   -- The order of a carrier's docks changes no plan, no response to views of carriers that are there, and no search.
   pub order-plan : (f g : Floor) (ws : List ℕ) → SameDocks f g → planOf f ws ≡ planOf g ws
   pub order-response : (f g : Floor) (ws : List ℕ) (i : ℕ) (vs : List View) → SameDocks f g → i < f .carriers → length vs ≤ f .carriers →
