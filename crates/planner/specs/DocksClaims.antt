@@ -31,8 +31,8 @@ pub record PrioritizedTo (e : Earlier) (ws : List ℕ) (xs : List Answer) : Type
       BestTo (getD (e .goals) k 0) (taskOf (withOneDock e) ws (k + 1)) (seen (withOneDock e) (map heard (take k xs))) (answerAt xs k)
 
 pub record DocksClaims : Type 0 where
-  -- On every floor that document 01 accepts, with its goal as the one dock of a carrier, the plan is what document 01 gives with a goal, and
-  -- nothing else is.
+  -- On every floor that document 01 accepts, with its goal as the one dock of a carrier, the plan is what document 01 gives with a goal,
+  -- and nothing else is.
   pub earlier-plan : (e : Earlier) (ws : List ℕ) (xs : List Answer) → earlierCheck e ws ≡ passed →
       PrioritizedTo e ws xs ↔ (xs ≡ planOf (withOneDock e) ws)
   -- So is every response, to any views; the machine, trials, listed runs and blockers know the search only by its responses.
@@ -52,12 +52,12 @@ pub record DocksClaims : Type 0 where
   -- A response is none exactly if it is none with each of the carrier's docks alone.
   pub none-each : (f : Floor) (ws : List ℕ) (k : ℕ) (vs : List View) → checkOf f ws ≡ passed →
       (respondOf f ws k vs ≡ none) ↔ ((d : ℕ) → isDock f k d ≡ true → best (alone (taskOf f ws (k + 1)) d) (seen f vs) ≡ none)
-  -- A route that is answered ends at a dock of the carrier, is the answer with that dock alone, and arrives no later than the answer with any
-  -- other of its docks alone.
-  pub ends-at-dock : (f : Floor) (ws : List ℕ) (k : ℕ) (vs : List View) (r : List ℕ) → checkOf f ws ≡ passed → respondOf f ws k vs ≡ route r →
-      isDock f k (cellAt r (f .horizon)) ≡ true
-  pub own-dock : (f : Floor) (ws : List ℕ) (k : ℕ) (vs : List View) (r : List ℕ) → checkOf f ws ≡ passed → respondOf f ws k vs ≡ route r →
-      best (alone (taskOf f ws (k + 1)) (cellAt r (f .horizon))) (seen f vs) ≡ route r
+  -- A route that is answered ends at a dock of the carrier, is the answer with that dock alone, and arrives no later than the answer with
+  -- any other of its docks alone.
+  pub ends-at-dock : (f : Floor) (ws : List ℕ) (k : ℕ) (vs : List View) (r : List ℕ) → checkOf f ws ≡ passed →
+      respondOf f ws k vs ≡ route r → isDock f k (cellAt r (f .horizon)) ≡ true
+  pub own-dock : (f : Floor) (ws : List ℕ) (k : ℕ) (vs : List View) (r : List ℕ) → checkOf f ws ≡ passed →
+      respondOf f ws k vs ≡ route r → best (alone (taskOf f ws (k + 1)) (cellAt r (f .horizon))) (seen f vs) ≡ route r
   pub arrival-least : (f : Floor) (ws : List ℕ) (k : ℕ) (vs : List View) (r q : List ℕ) (d : ℕ) → checkOf f ws ≡ passed →
       respondOf f ws k vs ≡ route r → isDock f k d ≡ true → best (alone (taskOf f ws (k + 1)) d) (seen f vs) ≡ route q →
       arrivalOf r (f .horizon) ≤ arrivalOf q (f .horizon)
