@@ -17,6 +17,8 @@ pub mod Demand2
 pub mod Trials
 pub mod Runs
 pub mod Blockers
+pub mod EarlierLaws
+pub mod Docks
 pub mod LentLaws
 pub mod ListLaws
 pub mod CutLaws

@@ -31,7 +31,7 @@ views-count : (q : ℕ → List View → Answer) (k : ℕ) → length (map heard
 views-count q k = length-map (sequential q k) heard ∙ plan-count q k
 
 -- Responses that agree below k, to as many views as there are carriers above, make the same first k answers.
-sequential-below : (p q : ℕ → List View → Answer) (k : ℕ) → ((i : ℕ) (vs : List View) → i < k → length vs ≡ i → p i vs ≡ q i vs)
+pub sequential-below : (p q : ℕ → List View → Answer) (k : ℕ) → ((i : ℕ) (vs : List View) → i < k → length vs ≡ i → p i vs ≡ q i vs)
     → sequential p k ≡ sequential q k
 unfolding sequential
 sequential-below p q zero h = refl
