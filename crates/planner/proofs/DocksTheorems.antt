@@ -7,7 +7,7 @@ use mathlib.Core.Logic.{_↔_}
 use mathlib.Core.List.{List, map}
 use lib.Dec.{eqb}
 use borrow.Author.Tests.{eqb-true}
-use lib.ListN.{length, getD, take}
+use lib.ListN.{getD, take}
 use Rattle.laws.specs.Verdict.{passed, value}
 use Rattle.floor.specs.declared.Floor.{Floor}
 use Rattle.floor.specs.Checks.{checkOf, isDock}
@@ -50,7 +50,7 @@ module _ (f : Floor) (ws : List ℕ) (ok : checkOf f ws ≡ passed) (k : ℕ) (v
   responds = route-theorems .best-meets (taskOf f ws (k + 1)) (seen f vs) short
 
   -- There is no other best answer.
-  responds-only : (x : Answer) → Best (taskOf f ws (k + 1)) (seen f vs) x → x ≡ respondOf f ws k vs
+  pub responds-only : (x : Answer) → Best (taskOf f ws (k + 1)) (seen f vs) x → x ≡ respondOf f ws k vs
   responds-only x b = route-theorems .best-unique (taskOf f ws (k + 1)) (seen f vs) x (respondOf f ws k vs) b responds
 
   none-each : (respondOf f ws k vs ≡ none) ↔ ((d : ℕ) → isDock f k d ≡ true → best (alone (taskOf f ws (k + 1)) d) (seen f vs) ≡ none)
