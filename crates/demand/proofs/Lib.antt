@@ -3,7 +3,6 @@ pub mod RowLaws
 pub mod RefusalLaws
 pub mod EntryLaws
 pub mod PlanLaws
-pub mod DockLaws
 pub mod SameTrialLaws
 pub mod SameRunLaws
 pub mod SameBlockerLaws
