@@ -67,6 +67,8 @@ module _ (text : List ℕ) (at : ℕ) {form : Reached} {x v : ℕ} (field : form
   pub count-good : 1 ≤ v → v ≤ 4 → form ≡ reachedOf (countForm text at) (at + 5)
   unfolding countForm
   count-good l g =
-      rw (then-passed {w = demand (within 1 4 (numberAt text at)) 1 at} good,
-      demand-passes 1 at (within-holds 1 4 (numberAt text at) (omega (arith, l, number)) (omega (arith, g, number))))
+      rw (
+        then-passed {w = demand (within 1 4 (numberAt text at)) 1 at} good,
+        demand-passes 1 at (within-holds 1 4 (numberAt text at) (omega (arith, l, number)) (omega (arith, g, number))),
+      )
       (rw good at field)

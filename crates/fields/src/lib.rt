@@ -10,6 +10,6 @@ pub use field::put_field;
 pub use line::line_form;
 pub use reader::counted_lines;
 pub use reader::pair_lines;
+pub use slot::Reached;
 pub use slot::checked;
 pub use slot::end_form;
-pub use slot::Reached;

@@ -59,10 +59,8 @@ pub fn pair<'a>(r: Reader<'a>) -> Reached
 // n counted lines from a column on, one behind the other.
 pub fn counted_lines(text: &[u8], at: usize, n: usize) -> Reached
     requires { ⌜ (at ≤ 60000) × (n ≤ 8) ⌝ }
-    ensures {
-        λ r. ⌜ r ≡ reachedOf (linesForm (countedForm (now (text .entry))) (pastCounted (now (text .entry))) at n)
-            (columnPast (pastCounted (now (text .entry))) at n) ⌝
-    }
+    ensures { λ r. ⌜ r ≡ reachedOf (linesForm (countedForm (now (text .entry))) (pastCounted (now (text .entry))) at n)
+        (columnPast (pastCounted (now (text .entry))) at n) ⌝ }
 {
     let mut r = begin(text, at);
     let mut i: usize = 0;
@@ -80,9 +78,7 @@ pub fn counted_lines(text: &[u8], at: usize, n: usize) -> Reached
 // k lines of two fields from a column on, one behind the other.
 pub fn pair_lines(text: &[u8], at: usize, k: usize) -> Reached
     requires { ⌜ (at ≤ 50000) × (k ≤ 1023) ⌝ }
-    ensures {
-        λ r. ⌜ r ≡ reachedOf (linesForm (λ c. lineForm (now (text .entry)) c 2) pastPair at k) (columnPast pastPair at k) ⌝
-    }
+    ensures { λ r. ⌜ r ≡ reachedOf (linesForm (λ c. lineForm (now (text .entry)) c 2) pastPair at k) (columnPast pastPair at k) ⌝ }
 {
     let mut r = begin(text, at);
     let mut i: usize = 0;
