@@ -2,7 +2,6 @@
 use Rattle.wire.proofs.RecordLaws.{Copied, copied-start, copied-more, copied-end}
 use Prim.Native.Nat.{_-_}
 use borrow.Author.Needs.{needs}
-use native.Mathlib.Omega.{arith}
 use Rattle.wire.proofs.numbers.docks.Statement.{statement}
 use Rattle.wire.proofs.numbers.docks.Tie as tie
 
