@@ -31,6 +31,14 @@ struct Dock {
     held: usize,
 }
 
+impl Dock {
+    /// Whether a set of a beat has the dock, and it can be held from then on.
+    #[inline(always)]
+    fn arrives(&self, set: &Rows, t: usize) -> bool {
+        t >= self.held && set[self.row] & self.bit != 0
+    }
+}
+
 /// A block of eight rows after one beat, where nothing is in the way but what is not open.
 #[inline(always)]
 fn spread(set: &Rows, open: &[u32; 8], block: usize) -> [u32; 8] {
@@ -102,6 +110,25 @@ impl Planner {
         (docks, count)
     }
 
+    /// Fills the forward sets up to the first beat at which a route may end: that beat.
+    #[inline(always)]
+    fn forward(&mut self, arrives: impl Fn(&Rows, usize) -> bool) -> Option<usize> {
+        let (h, blocks) = (self.horizon, self.blocks);
+        let mut t = 0;
+        while !arrives(&self.sets[t], t) {
+            if t == h {
+                return None;
+            }
+            let (before, after) = self.sets.split_at_mut(t + 1);
+            let (now, next) = (&before[t], &mut after[0]);
+            for b in 0..blocks {
+                *block_mut(next, b) = spread(now, block_of(&self.open[t + 1], b), b);
+            }
+            t += 1;
+        }
+        Some(t)
+    }
+
     /// The best route of a carrier against those above it, and its arrival.
     pub fn search(&mut self, carrier: usize, route: &mut [u16]) -> Option<usize> {
         let (w, h, blocks) = (self.width, self.horizon, self.blocks);
@@ -114,23 +141,10 @@ impl Planner {
         }
         self.sets[0] = [0; 34];
         self.sets[0][start_row] = start_bit;
-        let mut t = 0;
-        loop {
-            let set = &self.sets[t];
-            if docks.iter().any(|dock| t >= dock.held && set[dock.row] & dock.bit != 0) {
-                break;
-            }
-            if t == h {
-                return None;
-            }
-            let (before, after) = self.sets.split_at_mut(t + 1);
-            let (now, next) = (&before[t], &mut after[0]);
-            for b in 0..blocks {
-                *block_mut(next, b) = spread(now, block_of(&self.open[t + 1], b), b);
-            }
-            t += 1;
-        }
-        let arrival = t;
+        let arrival = match docks {
+            [dock] => self.forward(|set, t| dock.arrives(set, t)),
+            _ => self.forward(|set, t| docks.iter().any(|dock| dock.arrives(set, t))),
+        }?;
         self.sets[arrival] = [0; 34];
         for dock in docks.iter().filter(|dock| dock.held <= arrival) {
             self.sets[arrival][dock.row] |= dock.bit;
