@@ -59,14 +59,7 @@ fn fill_last(table: &mut [u8], f: Floor, k: usize)
 }
 
 // The values of all cells at beat t, from those of the next beat.
-fn fill_beat(
-    table: &mut [u8],
-    f: Floor,
-    walls: &[u16],
-    views: &[u16],
-    k: usize,
-    t: usize,
-)
+fn fill_beat(table: &mut [u8], f: Floor, walls: &[u16], views: &[u16], k: usize, t: usize)
     ensures { λ r. ⌜ length (now (table .exit)) ≡ length (now (table .entry)) ⌝ }
 {
     let cells = size(f);
