@@ -21,7 +21,8 @@ pub four-part : (xs : List ℕ) (at : ℕ) → at + 4 ≤ length xs
     → (getD xs at 0 ∷ getD xs (at + 1) 0 ∷ getD xs (at + 2) 0 ∷ getD xs (at + 3) 0 ∷ []) ≡ part xs at 4
 four-part xs at l = sym (part-is xs at 4 _ l refl each)
   where
-    each : (i : ℕ) → i < 4 → getD xs (at + i) 0 ≡ getD (getD xs at 0 ∷ getD xs (at + 1) 0 ∷ getD xs (at + 2) 0 ∷ getD xs (at + 3) 0 ∷ []) i 0
+    each : (i : ℕ) → i < 4
+        → getD xs (at + i) 0 ≡ getD (getD xs at 0 ∷ getD xs (at + 1) 0 ∷ getD xs (at + 2) 0 ∷ getD xs (at + 3) 0 ∷ []) i 0
     each zero h = rw add-zero
     each (suc zero) h = refl
     each (suc (suc zero)) h = refl

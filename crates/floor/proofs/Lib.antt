@@ -8,4 +8,6 @@ pub mod SameLaws
 pub mod CheckMeans
 pub mod DockLaws
 pub mod ClimbLaws
+pub mod OrderLaws
+pub mod OneDockLaws
 pub mod Theorems

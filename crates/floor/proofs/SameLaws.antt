@@ -8,14 +8,14 @@ use borrow.Author.Tests.{le-leb}
 use lib.ListN.{getD}
 use Rattle.floor.specs.declared.Floor.{Floor}
 use Rattle.laws.specs.Verdict.{inTurn, demandEach, All}
-use Rattle.floor.specs.Checks.{startOf, countOf, docksOf, dockOf, limitsOf, lentOf, roomOf, within, inGrid, docksInGrid}
+use Rattle.floor.specs.Checks.{startOf, countOf, docksOf, dockOf, limitsOf, lentOf, roomOf, inGrid, docksInGrid}
 use Rattle.floor.specs.Checks.{carrierInGrid, rises, among, every, docksClear, clearOfWalls, unshared, unrepeated}
 use Rattle.floor.specs.Checks.{carriersOf, wallsOf, risingOf, clearOf, distinctOf, unrepeatedOf, placesOf, checkOf}
 use Rattle.floor.specs.Accepted.{Lent, SameFloor}
 use Rattle.floor.proofs.EveryLaws.{every-same}
 
 -- Tests that agree at each item make the same check.
-each-same : (k : ℕ) {p q : ℕ} (ok ok′ : ℕ → Bool) {m n : ℕ} → p ≡ q → m ≡ n → All (λ (i : ℕ). ok i ≡ ok′ i) m
+pub each-same : (k : ℕ) {p q : ℕ} (ok ok′ : ℕ → Bool) {m n : ℕ} → p ≡ q → m ≡ n → All (λ (i : ℕ). ok i ≡ ok′ i) m
     → demandEach k p ok m ≡ demandEach k q ok′ n
 unfolding demandEach inTurn
 each-same k {p} ok ok′ {m} e s a = rw (← e, ← s) (go m a)
@@ -60,7 +60,7 @@ module _ (f : Floor) (ws : List ℕ) (g : Floor) (vs : List ℕ) (same : SameFlo
   items : f .carriers + 1 ≡ g .carriers + 1
   items = rw (same .carriers)
 
-  limits-same : limitsOf f ≡ limitsOf g
+  pub limits-same : limitsOf f ≡ limitsOf g
   unfolding limitsOf
   limits-same = rw (same .width, same .height, same .horizon, same .depth, same .carriers, same .walls)
 

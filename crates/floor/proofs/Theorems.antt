@@ -7,18 +7,22 @@ use borrow.Author.Tests.{le-leb, lt-leb, leb-false}
 use Rattle.floor.specs.declared.Floor.{Floor}
 use Rattle.laws.specs.Verdict.{passed, refused, _then_, demand, inTurn, demandEach}
 use Rattle.floor.specs.Checks.{within, among, every, startOf, countOf, docksOf, dockOf, limitsOf, lentOf, roomOf, carriersOf, wallsOf}
-use Rattle.floor.specs.Checks.{risingOf, clearOf, distinctOf, unrepeatedOf, placesOf, checkOf, docksInGrid, carrierInGrid, inGrid, rises}
-use Rattle.floor.specs.Checks.{docksClear, clearOfWalls, unshared, unrepeated}
+use Rattle.floor.specs.Checks.{risingOf, clearOf, distinctOf, unrepeatedOf, placesOf, checkOf, docksInGrid, carrierInGrid, inGrid}
+use Rattle.floor.specs.Checks.{rises, docksClear, clearOfWalls, unshared, unrepeated}
 use Rattle.laws.specs.Memory.{part}
 use Rattle.floor.specs.Fresh.{freshFloor}
 use Rattle.floor.specs.Accepted.{Accepted, Limited, Lent, CarriersInGrid, WallsInGrid, Rising, Clear, Distinct, AllUnrepeated}
-use Rattle.floor.specs.Refused.{RefusedWith, outside-limit, few-walls, carrier-outside, wall-outside, not-rising, on-wall, shared, repeated}
+use Rattle.floor.specs.Refused.{RefusedWith, outside-limit, few-walls, carrier-outside, wall-outside, not-rising, on-wall}
+use Rattle.floor.specs.Refused.{shared, repeated}
 use Rattle.floor.specs.Claims.{Claims}
 use Rattle.laws.proofs.VerdictLaws.{then-both, then-refused, refused-by, demand-cases}
 use Rattle.laws.proofs.EachLaws.{each-means, each-refused, first-refuses}
 use Rattle.floor.proofs.LimitsLaws.{field-means, limits-each, limits-mean, lent-passed}
 use Rattle.floor.proofs.SameLaws.{check-same}
-use Rattle.floor.proofs.CheckMeans.{carrier-in-grid-means, wall-in-grid-means, rises-means, clear-means, unshared-means, unrepeated-means}
+use Rattle.floor.proofs.OrderLaws.{order-same}
+use Rattle.floor.proofs.OneDockLaws.{still-accepted, still-refused, still-six}
+use Rattle.floor.proofs.CheckMeans.{carrier-in-grid-means, wall-in-grid-means, rises-means, clear-means}
+use Rattle.floor.proofs.CheckMeans.{unshared-means, unrepeated-means}
 
 module _ (f : Floor) (ws : List ℕ) where
   lent-means : (lentOf f ws ≡ passed) ↔ Lent f ws
@@ -163,4 +167,8 @@ theorems =
       refuses-exactly = λ f ws k p. (row f ws k p, refusal f ws k p);
       fresh-accepted = refl;
       same-verdict = λ f ws g vs same. check-same f ws g vs same;
+      order-nothing = λ f g ws same. order-same f g ws same;
+      earlier-accepted = λ e ws. still-accepted e ws;
+      earlier-refused = λ e ws. still-refused e ws;
+      earlier-start = λ e ws. still-six e ws;
     }

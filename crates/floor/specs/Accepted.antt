@@ -6,7 +6,6 @@ use mathlib.Core.List.{List}
 use lib.ListN.{length, getD}
 use Rattle.laws.specs.Verdict.{All}
 use Rattle.floor.specs.declared.Floor.{Floor}
-use mathlib.Core.Bool.{Bool}
 use Rattle.floor.specs.Checks.{startOf, countOf, docksOf, dockOf, isDock}
 
 -- v lies within low to high.

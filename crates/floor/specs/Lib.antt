@@ -3,7 +3,7 @@
 pub mod Checks
 pub mod Answers
 pub mod Fresh
-pub mod OneDock
 pub mod Accepted
 pub mod Refused
+pub mod OneDock
 pub mod Claims

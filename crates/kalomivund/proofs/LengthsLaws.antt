@@ -15,6 +15,7 @@ use Rattle.lengths.specs.Figures.{figuresOf, figuresFor, lengthsOf}
 use Rattle.wire.specs.Word.{wordOf, ofNumber, mapOutcome}
 use Rattle.kalomivund.specs.Answers.{figureList}
 use Rattle.kalomivund.specs.Entries.{neededVerdict}
+use Rattle.kalomivund.proofs.EntryLaws.{says-lent, stores-lent}
 
 module _ {x : Needed} (f : Floor) (h : figuresOf x ≡ figuresFor f) (room : ℕ) where
   known-lengths : {l : Lengths} → x ≡ Known l → (limitsOf f ≡ passed) × (l ≡ lengthsOf f)
@@ -46,3 +47,6 @@ module _ {x : Needed} (f : Floor) (h : figuresOf x ≡ figuresFor f) (room : ℕ
 
   pub refused-stores : {r : Refusal} (new old : List ℕ) → x ≡ Refused r → old ≡ whenPassed (neededVerdict f room) new old
   refused-stores new old e = sym (when-refused new (refused-verdict e))
+
+-- What is answered to a record of enough numbers.
+pub ruleset lengths-lent = (says-lent, stores-lent, known-says, known-stores, refused-says, refused-stores)

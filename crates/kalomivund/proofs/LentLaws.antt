@@ -43,15 +43,15 @@ use Rattle.kalomivund.specs.Entries.{planWord, planStored, printWord, pr
 use Rattle.kalomivund.specs.Claims.{Lent}
 use Rattle.kalomivund.proofs.KeepLaws.{done-not-refused, checked-lent, record-lent}
 
--- A record that is read has 22 numbers.
-record-size : (text : List ℕ) → length (numbersOf (floorAt text)) ≡ 22
+-- A record that is read has 54 numbers.
+record-size : (text : List ℕ) → length (numbersOf (floorAt text)) ≡ 54
 unfolding numbersOf floorAt cellsAt
 record-size text = simp (length-append, listed-length) refl
 
-pub read-record : (text xs : List ℕ) (room : ℕ) → Lent 22 (readWord text (length xs) room) (readRecord text xs room) xs
+pub read-record : (text xs : List ℕ) (room : ℕ) → Lent 54 (readWord text (length xs) room) (readRecord text xs room) xs
 unfolding readWord readRecord ofNumber
 read-record text xs room =
-    checked-lent (done 0) (readLent text (length xs) room) 0 _ xs (λ e. put-beyond xs _ 22 (omega (arith, record-size text)))
+    checked-lent (done 0) (readLent text (length xs) room) 0 _ xs (λ e. put-beyond xs _ 54 (omega (arith, record-size text)))
 
 pub read-walls : (text old : List ℕ) (lent : ℕ)
     → Lent (floorAt text .walls) (readWord text lent (length old)) (readStored text lent old) old

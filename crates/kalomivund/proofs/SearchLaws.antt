@@ -16,6 +16,7 @@ use Rattle.search.specs.Answers.{resultOf, outcomeOf, cellsOf, Says}
 use Rattle.wire.specs.Word.{wordOf, done, mapOutcome, ofNumber}
 use Rattle.kalomivund.specs.Answers.{ofSearch, answerDone, routeStored}
 use Rattle.kalomivund.specs.Entries.{searchLent}
+use Rattle.kalomivund.proofs.EntryLaws.{says-lent, stores-lent}
 
 module _ {x : Found} {result : Outcome Answer} (s : Says x result) where
   -- None and a route: their case, and 64 cells in front.
@@ -66,15 +67,25 @@ checked-twice passed w x = refl
 checked-twice (refused k p) w x = refl
 
 module _ (f : Floor) (ws : List ℕ) (i : ℕ) (m : List ℕ) {room : ℕ} where
-  pub search-short-says : {w : ℕ} → room < 64 → w ≡ wordOf (ofNumber ((checkOf f ws then refused 9 0) gives 0))
+  pub short-says : {w : ℕ} {t : Verdict} → room < 64 → w ≡ wordOf (ofNumber ((t then refused 9 0) gives 0)) → t ≡ checkOf f ws
       → w ≡ wordOf (ofSearch (searchLent f ws i m room))
   unfolding searchLent roomOf demand
-  search-short-says l e = rw (lt-leb 64 room l) (e ∙ short-word (checkOf f ws) (searchOf f ws i m))
+  short-says l s e = rw (lt-leb 64 room l) ((rw e at s) ∙ short-word (checkOf f ws) (searchOf f ws i m))
 
-  pub search-short-stores : (old : List ℕ) → room < 64 → old ≡ routeStored (searchLent f ws i m room) old
+  pub short-stores : (old : List ℕ) → room < 64 → old ≡ routeStored (searchLent f ws i m room) old
   unfolding searchLent roomOf demand
-  search-short-stores old l = rw (lt-leb 64 room l) (sym (short-route (checkOf f ws) (searchOf f ws i m) old))
+  short-stores old l = rw (lt-leb 64 room l) (sym (short-route (checkOf f ws) (searchOf f ws i m) old))
 
   pub search-long : 64 ≤ room → searchLent f ws i m room ≡ searchOf f ws i m
   unfolding searchLent searchOf requestOf roomOf demand
   search-long l = rw (le-leb 64 room l) (checked-twice (checkOf f ws) _ _)
+
+  pub long-says : {w : ℕ} → 64 ≤ room → w ≡ wordOf (ofSearch (searchOf f ws i m)) → w ≡ wordOf (ofSearch (searchLent f ws i m room))
+  long-says l s = rw (search-long l) s
+
+  pub long-stores : {n : List ℕ} (old : List ℕ) → 64 ≤ room → n ≡ routeStored (searchOf f ws i m) old
+      → n ≡ routeStored (searchLent f ws i m room) old
+  long-stores old l s = rw (search-long l) s
+
+-- What is answered to a record of enough numbers: the floor's refusals and 9 without room for a route, the search with it.
+pub ruleset search-lent = (says-lent, stores-lent, short-says, short-stores, long-says, long-stores)

@@ -11,7 +11,7 @@ use Rattle.laws.specs.Verdict.{passed, refused, demand, value, refusal, _thenAn
 use Rattle.floor.specs.Checks.{checkOf, roomOf, within}
 use Rattle.laws.proofs.VerdictLaws.{then-cases, then-passed, then-refused, demand-cases, demand-refuses, demand-passes, gives-passed}
 use Rattle.floor.proofs.LimitsLaws.{check-tells}
-use Rattle.floor.specs.Refused.{RefusedWith, outside-limit, few-walls, carrier-outside, wall-outside, not-rising, on-wall, shared}
+use Rattle.floor.specs.Refused.{RefusedWith, outside-limit, few-walls, carrier-outside, wall-outside, not-rising, on-wall, shared, repeated}
 use Rattle.sheet.specs.Refused.{RefusedSheet, head-form, rest-form, floor-row, outside-limit as outside-limit-row}
 use Rattle.sheet.proofs.FormLaws.{walls-length}
 use Rattle.sheet.specs.Values.{wallsAt, floorAt}
@@ -40,6 +40,7 @@ record-nine f ws k p e (wall-outside l m a h) n = omega arith
 record-nine f ws k p e (not-rising l m a b h) n = omega arith
 record-nine f ws k p e (on-wall l m a b c h) n = omega arith
 record-nine f ws k p e (shared l m a b c d h) n = omega arith
+record-nine f ws k p e (repeated l m a b c d g h) n = omega arith
 
 -- A sheet is never refused with 9 before its room is looked at.
 sheet-nine : (text : List ℕ) (k p : ℕ) → RefusedSheet text k p → k ≡ 9 → ⊥

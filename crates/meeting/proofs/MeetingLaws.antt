@@ -39,7 +39,7 @@ use Rattle.printing.proofs.PrintLaws.{WasRead, refusal-length}
 use Rattle.printing.specs.Put.{TextPut}
 use Rattle.reporting.specs.Put.{PutAt}
 use Rattle.reporting.proofs.ReportLaws.{put-behind}
-use Rattle.reporting.proofs.TextLaws.{counted}
+use Rattle.reporting.proofs.PrintedLaws.{Within}
 use Rattle.drawing.specs.Drawing.{drawnFloor}
 use Rattle.drawing.proofs.DrawingLaws.{bytes-length, grid-low}
 use Rattle.meeting.specs.Text.{aloneOf, pairVerdict, decimal, numberLine, freeLine}
@@ -239,13 +239,16 @@ module _ (f : Floor) (ws : List ℕ) (ok : checkOf f ws ≡ passed) (i j : ℕ) 
       let x = firstConflict (f .horizon) r q in
       omega (arith, length-append (conflictLine x) (conflictDrawing f ws i j r q x), conflict-short x, met-drawing-short r q x)
 
-  pub pair-short : length (pairText f ws i j) ≤ 1087
+  pair-short : length (pairText f ws i j) ≤ 1087
   unfolding pairText orRefusal
   pair-short = go (pairVerdict f i j)
     where
       go : (v : Verdict) → length (orRefusal v (metText f ws i j (aloneOf f ws i) (aloneOf f ws j))) ≤ 1087
       go passed = met-short (aloneOf f ws i) (aloneOf f ws j)
       go (refused k p) = omega (arith, refusal-length k p)
+
+pub pair-within : (i j : ℕ) → Within (λ f ws. pairText f ws i j) 1087
+pair-within i j = record { short = λ f ws ok. pair-short f ws ok i j }
 
 -- The text for two carriers, of which one may not be there.
 module _ (f : Floor) (ws : List ℕ) (i j : ℕ) (old new : List ℕ) (n : ℕ) where
@@ -269,23 +272,3 @@ pair-place f i j k p e = go (demand (within 1 (f .carriers) i) 7 0) refl
         let same : refused a b ≡ refused k p = sym (then-refused _ h) ∙ e in
         let place : b ≡ p = cc in
         omega (arith, demand-cases (within 1 (f .carriers) i) 7 0 a b h .2)
-
--- What is printed for a sheet, where it was read and where it was refused.
-module _ (text old new : List ℕ) (i j n : ℕ) (enough : 1087 ≤ length old) where
-  pub read-printed : (f : Floor) (walls : List ℕ) → WasRead text f walls → TextPut (pairText f (take (f .walls) walls) i j) old new n
-      → Counts n new × (take n new ≡ meetingText text i j)
-  unfolding meetingText orRefusal
-  read-printed f walls r t =
-      let same : pairText f (take (f .walls) walls) i j ≡ pairText (floorAt text) (wallsAt text) i j = rw (r .front, r .floor) refl in
-      let fits : length (pairText f (take (f .walls) walls) i j) ≤ length old =
-      omega (arith, pair-short f (take (f .walls) walls) (r .checked) i j)
-      in
-      let c = counted _ _ _ _ t fits in
-      (c .0, rw (r .accepted) (c .1 ∙ same))
-
-  pub refused-printed : (k p : ℕ) → sheetVerdict text ≡ refused k p → TextPut (refusalLine k p) old new n
-      → Counts n new × (take n new ≡ meetingText text i j)
-  unfolding meetingText orRefusal
-  refused-printed k p h t =
-      let c = counted _ _ _ _ t (omega (arith, refusal-length k p)) in
-      (c .0, rw h (c .1))

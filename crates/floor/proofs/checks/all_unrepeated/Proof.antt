@@ -4,7 +4,6 @@ use Rattle.laws.proofs.VerdictLaws.{tests}
 use Rattle.floor.specs.Answers.{verdictOf}
 use Rattle.laws.specs.Verdict.{passed, demandEach}
 use mathlib.Core.Path.{_≡_}
-use native.Mathlib.Omega.{arith}
 use Prim.Native.Nat.{_-_, _≤_}
 use borrow.Author.Needs.{needs}
 use Rattle.floor.proofs.checks.all_unrepeated.Statement.{statement}

@@ -1,4 +1,5 @@
 -- `kalomivund::answers::of_print` meets its contract: case by case.
+use Rattle.kalomivund.proofs.EntryLaws.{says-case}
 use Rattle.wire.specs.Word.{ofNumber, mapOutcome}
 use Rattle.printing.specs.Print.{outcomeOf}
 use borrow.Author.Needs.{needs}
@@ -9,5 +10,4 @@ pub of-print-spec : {M : Type 1} → statement M
 unfolding ofNumber mapOutcome outcomeOf
 of-print-spec =
     tie.close (tie.spec (λ c. search needs) (λ c κs. search needs) (λ c. search needs) (λ c κs. search needs)
-    (λ c. let told : tie.After-x = search in rw (told .x .given .1) (c .done .ensures))
-    (λ c. let told : tie.After-x2 = search in rw (told .x2 .given .1) (c .refused .ensures)))
+    (λ c. search (says-case outcomeOf)) (λ c. search (says-case outcomeOf)))

@@ -1,4 +1,5 @@
 -- `kalomivund::answers::of_step` meets its contract: case by case.
+use Rattle.kalomivund.proofs.EntryLaws.{says-case}
 use Rattle.wire.specs.Word.{mapOutcome}
 use Rattle.machine.specs.Answers.{steppedReply}
 use Rattle.kalomivund.specs.Answers.{ofReply, toldDone, stepCase}
@@ -11,7 +12,5 @@ unfolding ofReply mapOutcome toldDone stepCase steppedReply
 of-step-spec =
     tie.close (tie.spec (λ c. search needs) (λ c κs. search needs) (λ c. search needs) (λ c κs. search needs)
     (λ c. search needs) (λ c κs. search needs) (λ c. search needs) (λ c κs. search needs)
-    (λ c. let told : tie.After-enum-told = search in rw (told .enum-told .given .1) (c .done .ensures))
-    (λ c. let told : tie.After-enum-told2 = search in rw (told .enum-told2 .given .1) (c .done2 .ensures))
-    (λ c. let told : tie.After-enum-told3 = search in rw (told .enum-told3 .given .1) (c .done3 .ensures))
-    (λ c. let told : tie.After-x = search in rw (told .x .given .1) (c .refused .ensures)))
+    (λ c. search (says-case steppedReply)) (λ c. search (says-case steppedReply))
+    (λ c. search (says-case steppedReply)) (λ c. search (says-case steppedReply)))
