@@ -36,7 +36,8 @@ other-walls f ws g vs us ts same one other =
       carriers = same .carriers;
       walls = same .walls;
       starts = same .starts;
-      goals = same .goals;
+      counts = same .counts;
+      docks = same .docks;
       cells = λ j h. one j h ∙ same .cells j h ∙ sym (other j h);
     }
 

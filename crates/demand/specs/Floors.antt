@@ -4,6 +4,7 @@ use mathlib.Core.Bool.{true, false}
 use mathlib.Core.List.{List, [], _∷_, _++_, map}
 use lib.ListN.{length, replicate}
 use Rattle.floor.specs.declared.Floor.{Floor}
+use Rattle.floor.specs.OneDock.{withOneDock}
 use Rattle.route.specs.Route.{Answer, none, route, unheard}
 use Rattle.reference.specs.State.{Machine, State, fresh}
 use Rattle.reference.specs.Table.{Call, single, runOf}
@@ -14,10 +15,11 @@ use Rattle.layout.specs.Calls.{machineOf}
 abbrev pub padded : ℕ → List ℕ → List ℕ
 padded k xs = xs ++ replicate (k - length xs) 0
 
--- A floor of width by height: its horizon, the depth of its channels, how many walls, and the starts and goals of its carriers.
+-- A floor of width by height: its horizon, the depth of its channels, how many walls, and the starts of its carriers with one dock each, its
+-- goal.
 abbrev pub floorOf : ℕ → ℕ → ℕ → ℕ → ℕ → List ℕ → List ℕ → Floor
 floorOf width height horizon depth walls starts goals =
-    record {
+    withOneDock (record {
       width = width;
       height = height;
       horizon = horizon;
@@ -26,7 +28,7 @@ floorOf width height horizon depth walls starts goals =
       walls = walls;
       starts = padded 8 starts;
       goals = padded 8 goals;
-    }
+    })
 
 -- One cell, one carrier.
 abbrev pub cell : Floor
