@@ -4,7 +4,7 @@ use mathlib.Core.Bool.{true, false}
 use mathlib.Core.List.{List, [], _∷_, _++_, map}
 use lib.ListN.{length, replicate}
 use Rattle.floor.specs.declared.Floor.{Floor}
-use Rattle.floor.specs.OneDock.{withOneDock}
+use Rattle.floor.specs.OneDock.{Earlier, withOneDock}
 use Rattle.route.specs.Route.{Answer, none, route, unheard}
 use Rattle.reference.specs.State.{Machine, State, fresh}
 use Rattle.reference.specs.Table.{Call, single, runOf}
@@ -29,6 +29,44 @@ floorOf width height horizon depth walls starts goals =
       starts = padded 8 starts;
       goals = padded 8 goals;
     })
+
+-- Lists of docks in a record: four places each, filled up with zeros.
+unfoldable pub docksIn : List (List ℕ) → List ℕ
+docksIn [] = []
+docksIn (ds ∷ dss) = padded 4 ds ++ docksIn dss
+
+-- A grid of 3 by 2 for a number of walls, with a list of docks a carrier (document 02, slip 10), the dock counts as given.
+abbrev pub countedOf : ℕ → List ℕ → List ℕ → List (List ℕ) → Floor
+countedOf walls starts counts docks =
+    record {
+      width = 3;
+      height = 2;
+      horizon = 4;
+      depth = 1;
+      carriers = length starts;
+      walls = walls;
+      starts = padded 8 starts;
+      counts = padded 8 counts;
+      docks = padded 32 (docksIn docks);
+    }
+
+-- The same with each list's length as its dock count.
+abbrev pub dockedOf : ℕ → List ℕ → List (List ℕ) → Floor
+dockedOf walls starts docks = countedOf walls starts (map length docks) docks
+
+-- Two carriers with one goal cell in common, by document 01.
+abbrev pub common : Earlier
+common =
+    record {
+      width = 3;
+      height = 2;
+      horizon = 4;
+      depth = 1;
+      carriers = 2;
+      walls = 0;
+      starts = padded 8 (0 ∷ 3 ∷ []);
+      goals = padded 8 (2 ∷ 2 ∷ []);
+    }
 
 -- One cell, one carrier.
 abbrev pub cell : Floor

@@ -72,14 +72,7 @@ fn put_answer(f: Floor, i: usize, answers: &[u16], out: &mut [u8], at: usize) ->
     let horizon = f.horizon;
     let cells = records::load(answers, 65 * i + 1);
     let n = horizon as usize + 1;
-    put_route(
-        out,
-        at,
-        number,
-        route::arrival(cells, horizon),
-        cells,
-        n,
-    );
+    put_route(out, at, number, route::arrival(cells, horizon), cells, n);
     at + 11 + 5 * n
 }
 
