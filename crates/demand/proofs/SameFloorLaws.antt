@@ -51,7 +51,7 @@ use Rattle.demand.proofs.SameTrialLaws.{trial-same}
 use Rattle.demand.proofs.SameRunLaws.{runs-same, reports-same}
 
 -- Lines of as many docks begin at the same columns.
-columns-same : (f g : Floor) (n : ℕ) → All (λ (i : ℕ). countOf f i ≡ countOf g i) n → carrierAt f n ≡ carrierAt g n
+pub columns-same : (f g : Floor) (n : ℕ) → All (λ (i : ℕ). countOf f i ≡ countOf g i) n → carrierAt f n ≡ carrierAt g n
 unfolding carrierAt
 columns-same f g zero a = refl
 columns-same f g (suc n) a = rw (columns-same f g n (λ i l. a i (omega arith)), a n (omega arith))
