@@ -163,7 +163,8 @@ module _ {M : Type 1} (𝓤 : URA M) (H : Heap 𝓤) (A : Atoms 𝓤) (W : Given
           → r ≡ reachedOf (linesForm (form (s .now)) (past (s .now)) at m) (columnPast (past (s .now)) at m)
           → Sq W
           (‵ (S.the-row .own r (u ∷ [])) ∷ Tok ∷ ‵ Own
-          ∷ Locals (‵ (froom word l₇ 0)) (‵ (froom answer l₆ 0)) (‵ (froom word l₅ 0)) (‵ (froom reader l₄ 0)) (‵ (froom word l₃ 0)) (‵ (froom word l₂ 0))
+          ∷ Locals (‵ (froom word l₇ 0)) (‵ (froom answer l₆ 0)) (‵ (froom word l₅ 0)) (‵ (froom reader l₄ 0)) (‵ (froom word l₃ 0))
+          (‵ (froom word l₂ 0))
           (‵ (froom slice l₁ 0)))
           (frees En (prop (Post u)))
       freed r u e =
@@ -192,7 +193,8 @@ module _ {M : Type 1} (𝓤 : URA M) (H : Heap 𝓤) (A : Atoms 𝓤) (W : Given
       answered t l (At c) is e =
           first ! $ switches-on ! (load ! (from ! (vrt ! refl (fld ! refl (stop !)))) (look-tag ! 14 (whole !))) $
           exec ! C Λ En takes (anyQ (afterSeq 𝓤 H (Wp 𝓤 H C Λ En onward (Turned t)) (Turned t))) $
-          assigns-last ! (of-opd ! (load ! (from ! (vrt ! refl (fld ! refl (stop !)))) (look-in ! 14 (in-variant ! 0 0 refl refl (whole !)))))
+          assigns-last !
+          (of-opd ! (load ! (from ! (vrt ! refl (fld ! refl (stop !)))) (look-in ! 14 (in-variant ! 0 0 refl refl (whole !)))))
           (from ! (stop !)) (init ! 12 refl (tt, record { fits = column-fits c is })) $
           exec ! C Λ En onward (anyQ (Turned t)) $ drop ! $ forget ! 13 refl $
           assigns ! (of-opd ! (load ! (from ! (stop !)) (look ! 17 refl))) (from ! (stop !)) (init ! 5 refl (t .typed)) $

@@ -1,4 +1,4 @@
--- A memory of 11,452 bytes holds every sheet: what is written stands in front.
+-- A memory of 11,732 bytes holds every sheet: what is written stands in front.
 use Prim.Native.Nat.{ℕ, _+_, _≤_}
 use native.Mathlib.Omega.{arith}
 use mathlib.Core.Path.{_≡_, sym, ap, _∙_}
@@ -17,6 +17,8 @@ use Rattle.floor.proofs.LimitsLaws.{check-tells}
 use Rattle.sheet.specs.Text.{sheetOf, sheetLength, wallAt}
 use Rattle.sheet.specs.Read.{sheetVerdict, writeVerdict, writeSheet}
 use Rattle.sheet.proofs.Theorems.{theorems}
+use Rattle.sheet.proofs.DockLaws.{carriers-high}
+use Rattle.sheet.proofs.ReadLaws.{accepted-counts}
 use Rattle.printing.specs.Text.{refusalLine}
 use Rattle.printing.specs.Print.{orRefusal}
 use Rattle.printing.specs.Put.{TextPut}
@@ -24,17 +26,20 @@ use Rattle.printing.proofs.PrintLaws.{WasRead, refusal-length}
 
 -- The sheet of an accepted floor.
 module _ (f : Floor) (ws : List ℕ) (ok : checkOf f ws ≡ passed) where
-  sheet-short : sheetLength f ≤ 11452
+  sheet-short : sheetLength f ≤ 11732
   unfolding sheetLength wallAt
-  sheet-short = let b = check-tells f ws ok .bounds in omega (arith, b .carriers .1, b .walls .1)
+  sheet-short =
+      let b = check-tells f ws ok .bounds in
+      let high = carriers-high f (f .carriers) (λ i l. accepted-counts f ws ok i l .1) in
+      omega (arith, b .carriers .1, b .walls .1, high)
 
-  granted : (room : ℕ) → 11452 ≤ room → writeVerdict f ws room ≡ passed
+  granted : (room : ℕ) → 11732 ≤ room → writeVerdict f ws room ≡ passed
   unfolding writeVerdict roomOf _then_
   granted room enough =
       let fits : sheetLength f ≤ room = omega (arith, sheet-short) in
       rw ok (demand-passes 9 0 (le-leb _ _ fits))
 
-  pub sheet-put : (old new : List ℕ) (n : ℕ) → 11452 ≤ length old → new ≡ writeSheet f ws old → n ≡ sheetLength f
+  pub sheet-put : (old new : List ℕ) (n : ℕ) → 11732 ≤ length old → new ≡ writeSheet f ws old → n ≡ sheetLength f
       → TextPut (sheetOf f ws) old new n
   unfolding writeSheet put
   sheet-put old new n enough e l =
@@ -54,7 +59,7 @@ counted text old new n p fits =
     (counts-within _ _ (f .0), f .1)
 
 -- An accepted sheet is written again; a refused one has the line of its refusal.
-module _ (text old new : List ℕ) (n : ℕ) (enough : 11452 ≤ length old) where
+module _ (text old new : List ℕ) (n : ℕ) (enough : 11732 ≤ length old) where
   pub accepted-again : (f : Floor) (walls : List ℕ) → WasRead text f walls → TextPut (sheetOf f (take (f .walls) walls)) old new n
       → Counts n new × (take n new ≡ orRefusal (sheetVerdict text) text)
   unfolding orRefusal

@@ -44,8 +44,8 @@ documentSheet =
 
 -- The text of the floor is the sheet that the paper prints.
 document-written : sheetOf documentFloor [] ≡ documentSheet
-unfolding documentFloor documentSheet sheetOf headLine lineOf linesOf cellNumbers carrierLine wallLine fieldOf column startOf countOf docksOf
-    dockOf part withOneDock oneEach
+unfolding documentFloor documentSheet sheetOf headLine lineOf linesOf cellNumbers carrierLine wallLine fieldOf column startOf countOf
+    docksOf dockOf part withOneDock oneEach
 document-written = refl
 
 -- What reading says of a text, with what it computes by: the form and the values, the checks of line 1, the checks of places.

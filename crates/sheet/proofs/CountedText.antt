@@ -19,7 +19,8 @@ use Rattle.sheet.proofs.LineText.{numbersFrom, line-text, Small, LineTe
 -- A counted line in good form is the text of its numbers.
 pub counted-text : (text : List ℕ) (at : ℕ) → countedForm text at ≡ passed
     → part text at (countedLength (numberAt text (at + 10)))
-    ≡ lineOf (numberAt text at ∷ numberAt text (at + 5) ∷ numberAt text (at + 10) ∷ numbersFrom text (at + 15) (2 * numberAt text (at + 10)))
+    ≡ lineOf
+    (numberAt text at ∷ numberAt text (at + 5) ∷ numberAt text (at + 10) ∷ numbersFrom text (at + 15) (2 * numberAt text (at + 10)))
 unfolding countedForm countForm countedLength lineOf
 counted-text text at h =
     let c = numberAt text (at + 10) in
@@ -88,7 +89,8 @@ text-counted text at a b c vs small n least most e =
           ∙ then-passed (r .fields 1 (omega arith))
           ∙ then-passed
           (then-passed (r .fields 2 (omega arith))
-          ∙ demand-passes 1 (at + 10) (within-means 1 4 (numberAt text (at + 10)) .1 (omega (arith, third, least), omega (arith, third, most))))
+          ∙ demand-passes 1 (at + 10)
+          (within-means 1 4 (numberAt text (at + 10)) .1 (omega (arith, third, least), omega (arith, third, most))))
           ∙ rw third
           (then-passed
           (turn-passes _ (2 * c)

@@ -113,7 +113,8 @@ dock-put m m′ at width h p = rw h p
 
 -- A carrier's line as it is put: the start, the dock count, the docks and a newline.
 pub carrier-put : (f : Floor) (i : ℕ)
-    → (cellText (f .width) (startOf f i) ++ fieldOf (countOf f i)) ++ (linesOf (λ (k : ℕ). cellText (f .width) (dockOf f i k)) (countOf f i) ++ (10 ∷ []))
+    → (cellText (f .width) (startOf f i) ++ fieldOf (countOf f i))
+    ++ (linesOf (λ (k : ℕ). cellText (f .width) (dockOf f i k)) (countOf f i) ++ (10 ∷ []))
     ≡ carrierLine f i
 unfolding carrierLine lineOf
 carrier-put f i =
@@ -153,7 +154,9 @@ carrier-puts f i at m₀ m₁ m₂ m₃ l a b c =
     lines-length (λ (k : ℕ). cellText (f .width) (dockOf f i k)) 10 (λ k. cell-text-length (f .width) (dockOf f i k)) n
     in
     let two = field-next m₀ m₁ m₂ (cellText (f .width) (startOf f i)) at (at + 10) n a b (omega (arith, start)) (omega (arith, l)) in
-    let size : length (cellText (f .width) (startOf f i) ++ fieldOf n) ≡ 15 = length-append (cellText (f .width) (startOf f i)) (fieldOf n) ∙ omega (arith, start, field-length n) in
+    let size : length (cellText (f .width) (startOf f i) ++ fieldOf n) ≡ 15 =
+    length-append (cellText (f .width) (startOf f i)) (fieldOf n) ∙ omega (arith, start, field-length n)
+    in
     let three = put-next m₀ m₂ m₃ (cellText (f .width) (startOf f i) ++ fieldOf n) docks at (at + 15) two c (omega (arith, size))
     (omega (arith, long, l)) in
     let front = cellText (f .width) (startOf f i) ++ fieldOf n in

@@ -76,7 +76,8 @@ module _ (text : List ℕ) where
         reach = counted-reach _ good;
         least = omega (arith, v, c .0);
         most = omega (arith, v, c .1);
-        column-low = counted-columns text 31 i (turns-before (λ (k : ℕ). countedForm text (columnPast (pastCounted text) 31 k)) i n (omega arith) h);
+        column-low = counted-columns text 31 i
+            (turns-before (λ (k : ℕ). countedForm text (columnPast (pastCounted text) 31 k)) i n (omega arith) h);
         count-number = v;
       }
 

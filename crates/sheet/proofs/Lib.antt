@@ -16,6 +16,7 @@ pub mod SlotLaws
 pub mod SlotForms
 pub mod CountedText
 pub mod SheetText
+pub mod FloorLines
 pub mod FloorText
 pub mod Theorems
 pub mod Cases

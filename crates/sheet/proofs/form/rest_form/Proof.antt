@@ -16,7 +16,8 @@ pair-lines-requires c κs =
     let after-counted-lines : tie.After-counted-lines = search in
     let after-carriers : tie.After-carriers = search in
     let start : tie.Start = search in
-    (walls-low _ (start .args .f) (after-counted-lines .counted-lines .ensures) (after-carriers .carriers .given .1) (start .pre .0), start .pre .1)
+    let lines = after-counted-lines .counted-lines .ensures in
+    (walls-low _ (start .args .f) lines (after-carriers .carriers .given .1) (start .pre .0), start .pre .1)
 
 returns-2 : tie.Need-returns-2
 returns-2 c =

@@ -1,7 +1,8 @@
 -- `sheet::lines::put_carriers` meets its contract: invariant: the lines passed stand one behind the other.
 use Rattle.sheet.specs.Text.{linesOf, carrierLine, carrierAt}
 use Rattle.sheet.proofs.LineLaws.{lines, lines-next, lines-keep, lines-end}
-use Rattle.sheet.proofs.DockLaws.{carrier-first, carrier-next, carrier-end, carriers-behind, carrier-step, carriers-high, whole-lines}
+use Rattle.sheet.proofs.DockLaws.{carrier-first, carrier-next, carrier-end, carriers-behind, carrier-step, carriers-high}
+use Rattle.sheet.proofs.DockLaws.{whole-lines}
 use Rattle.laws.specs.Memory.{put}
 use mathlib.Core.Path.{_≡_}
 use Prim.Native.Nat.{_-_, _≤_}
@@ -28,7 +29,8 @@ put-carrier-requires c κs =
     let end = carrier-end (start .args .f) i in
     let size = lines-keep _ (carrierAt (start .args .f)) (carriers-behind _) _ _ i (omega (arith, end, step, start .pre .1 .1))
     (at-loop .loop .inv .1 .1) in
-    ((omega (arith, l, start .pre .0 .0), start .pre .0 .1), (start .pre .1 .0 i l .1, omega (arith, here, end, step, size, start .pre .1 .1)))
+    ((omega (arith, l, start .pre .0 .0), start .pre .0 .1),
+    (start .pre .1 .0 i l .1, omega (arith, here, end, step, size, start .pre .1 .1)))
 
 add-at-2 : tie.Need-add-at-2 Inv-loop μ-loop
 add-at-2 c =

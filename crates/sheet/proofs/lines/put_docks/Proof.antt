@@ -23,8 +23,8 @@ put-cell-requires c κs =
     let in-loop : tie.In-loop Inv-loop μ-loop = search in
     let at-loop : tie.At-loop Inv-loop μ-loop = search in
     let start : tie.Start Inv-loop μ-loop = search in
-    let size = even-keep _ 10 _ (λ (e : ℕ). cell-text-length _ _) _ _ (at-loop .loop .k) (omega (arith, start .pre, in-loop .loop-test .taken))
-    (at-loop .loop .inv .1) in
+    let size = even-keep _ 10 _ (λ (e : ℕ). cell-text-length _ _) _ _ (at-loop .loop .k)
+    (omega (arith, start .pre, in-loop .loop-test .taken)) (at-loop .loop .inv .1) in
     (omega (arith, size, start .pre, in-loop .loop-test .taken), start .pre .0 .1)
 
 loop-again : tie.Need-loop-again Inv-loop μ-loop
