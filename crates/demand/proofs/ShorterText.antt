@@ -18,7 +18,7 @@ use Rattle.sheet.specs.Values.{floorAt, wallsAt}
 use Rattle.sheet.specs.Read.{sheetVerdict, readVerdict, readFloor, readWalls, writeSheet}
 use Rattle.sheet.proofs.LineLaws.{field-length, lines-span}
 use Rattle.sheet.proofs.DockLaws.{carriers-behind}
-use Rattle.sheet.proofs.FloorText.{columns-same as columns-of-sheet}
+use Rattle.sheet.proofs.FloorLines.{columns-same as columns-of-sheet}
 use Rattle.sheet.proofs.LinesText.{lines-same}
 use Rattle.sheet.proofs.FormLaws.{walls-length}
 use Rattle.sheet.proofs.Theorems.{theorems as sheet-theorems}
