@@ -227,11 +227,11 @@ module _ (f : Floor) (ws : List ℕ) (rank : ℕ) (m : List ℕ) (ok : smallVerd
     found-report m′ e = e ∙ sym (when-passed _ a-run)
 
 -- A refusal before 15 is the entry's.
-pub turned-away : (f : Floor) (ws : List ℕ) (rank : ℕ) (m : List ℕ) {k p : ℕ} → smallVerdict f ws (length m) ≡ refused k p →
+pub turned-away : {k p : ℕ} (f : Floor) (ws : List ℕ) (rank : ℕ) (m : List ℕ) → smallVerdict f ws (length m) ≡ refused k p →
     (refusal k p ≡ rankOutcome f ws rank (length m)) × (m ≡ reportListed f ws rank m)
 unfolding rankOutcome reportListed rankVerdict _then_
-turned-away f ws rank m {k} {p} no =
-    let turned : rankVerdict f ws rank (length m) ≡ refused k p = rw no refl in
+turned-away {k} {p} f ws rank m e =
+    let turned : rankVerdict f ws rank (length m) ≡ refused k p = rw e refl in
     (sym (gives-refused _ turned), sym (when-refused _ turned))
 
 -- What the report of the run of a rank requires of its line, and that it is the run.
