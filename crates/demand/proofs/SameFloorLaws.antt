@@ -14,7 +14,7 @@ use Rattle.sheet.specs.Read.{writeVerdict}
 use Rattle.sheet.proofs.LinesText.{lines-same}
 use Rattle.route.specs.Route.{View, Answer, none, route}
 use Rattle.search.specs.Search.{searchOf}
-use Rattle.planner.specs.Plan.{respondOf, planOf, planVerdict}
+use Rattle.planner.specs.Plan.{respondOf, planOf, planVerdict, failingOf}
 use Rattle.planner.specs.Answers.{planResult}
 use Rattle.planner.specs.Records.{planMemory}
 use Rattle.planner.specs.Claims.{AgreeUpTo, answerAt}
@@ -76,14 +76,20 @@ module _ (f : Floor) (ws : List ℕ) (g : Floor) (vs : List ℕ) (same : SameDoc
   line-same i none = refl
   line-same i (route r) = rw (same .horizon)
 
-  texts : printOf f ws ≡ printOf g vs
-  unfolding printOf routesText firstLine
-  texts =
-      ap₂ (λ (a b : List ℕ). a ++ b)
-      (rw (plans, same .carriers))
-      (lines-same _ (λ i. answerLine g i (answerAt (planOf g vs) i)) (f .carriers)
+  first-same : firstLine f (failingOf (planOf f ws)) ≡ firstLine g (failingOf (planOf g vs))
+  unfolding firstLine
+  first-same = rw (plans, same .carriers)
+
+  others-same : linesOf (λ i. answerLine f i (answerAt (planOf f ws) i)) (f .carriers) ≡
+      linesOf (λ i. answerLine g i (answerAt (planOf g vs) i)) (g .carriers)
+  others-same =
+      lines-same (λ i. answerLine f i (answerAt (planOf f ws) i)) (λ i. answerLine g i (answerAt (planOf g vs) i)) (f .carriers)
       (λ i l. line-same i (answerAt (planOf f ws) i) ∙ ap (λ (xs : List Answer). answerLine g i (answerAt xs i)) plans)
-      ∙ ap (linesOf (λ i. answerLine g i (answerAt (planOf g vs) i))) (same .carriers))
+      ∙ ap (λ (n : ℕ). linesOf (λ i. answerLine g i (answerAt (planOf g vs) i)) n) (same .carriers)
+
+  texts : printOf f ws ≡ printOf g vs
+  unfolding printOf routesText
+  texts = ap₂ (λ (a b : List ℕ). a ++ b) first-same others-same
 
   module _ (checks : checkOf f ws ≡ checkOf g vs) where
     lengths : figuresFor f ≡ figuresFor g
