@@ -29,6 +29,9 @@ if [ "$what" != bench ]; then
     2    4    2    5    4    1    0
 LINES
     echo "as document 01 prints it"
+    "$built/plan" < "$root/samples/docks.sheet" | tee "$built/docks.routes"
+    diff "$built/docks.routes" <(cd "$host" && cargo run --offline --release --quiet --bin paper < "$root/samples/docks.sheet")
+    echo "as paper.rs prints it"
 
     echo "== C: the deepest stack of each entry"
     cc "${flags[@]}" -pthread "$host/c/stack.c" "$archive" -o "$built/stack"

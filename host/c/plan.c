@@ -7,7 +7,7 @@ int main(void) {
     static uint8_t text[65536];
     static uint8_t out[KALOMIVUND_MOST_TEXT];
 
-    /* The longest sheet has 11,452 bytes, so what is wrong with a longer text lies in what is read of it. */
+    /* The longest sheet has 11,732 bytes, so what is wrong with a longer text lies in what is read of it. */
     size_t length = fread(text, 1, sizeof text, stdin);
     if (ferror(stdin)) {
         perror("plan: standard input");

@@ -1,5 +1,5 @@
 /* The deepest stack of each entry: each call runs in a thread of its own, on a stack that is painted before it. The floor is eight
- * carriers crossing on 32 by 32 with horizon 63, with 450 walls. */
+ * carriers crossing on 32 by 32 with horizon 63, with 450 walls; each has four docks, the cell across and three that others have too. */
 #define _POSIX_C_SOURCE 200809L
 #include <pthread.h>
 #include <stdio.h>
@@ -13,7 +13,9 @@ enum { STACK = 1 << 20, PAINT = 0xa5, NEAR = 256, STEPS = 36 };
 static uint16_t crossing[KALOMIVUND_FLOOR] = {
     32, 32, 63, 4, 8, 0,
     480, 511, 15, 1007, 512, 543, 16, 1008,
-    511, 480, 1007, 15, 543, 512, 1008, 16,
+    4, 4, 4, 4, 4, 4, 4, 4,
+    511, 543, 510, 542, 480, 512, 481, 513, 1007, 1008, 975, 976, 15, 16, 47, 48,
+    543, 511, 542, 510, 512, 480, 513, 481, 1008, 1007, 976, 975, 16, 15, 48, 47,
 };
 static uint16_t walls[KALOMIVUND_MOST_WALLS];
 static uint16_t answers[KALOMIVUND_MOST_ANSWERS];
@@ -70,7 +72,7 @@ static uint64_t blockers(void) {
     static const uint16_t sides[2] = {1, 32};
     memcpy(shut, crossing, sizeof shut);
     shut[5] = 2;
-    shut[13] = 0;
+    shut[KALOMIVUND_START(8)] = 0;
     return kalomivund_blockers(shut, KALOMIVUND_FLOOR, sides, 2, 8, answers, KALOMIVUND_MOST_ANSWERS);
 }
 
@@ -128,7 +130,7 @@ int main(void) {
         {"fresh", fresh}, {"step (plan)", step_plan}, {"step (deliver)", step_deliver}, {"run", run}, {"trial", trial},
         {"run_of_rank", run_of_rank}, {"blockers", blockers}, {"conflict", conflict}, {"ceiling", ceiling},
     };
-    /* Walls: the last cells of the grid but for the starts and goals there, so that a floor of many walls is read. */
+    /* Walls: the last cells of the grid but for the starts and docks there, so that a floor of many walls is read. */
     for (uint16_t c = 544; c < 1024; c++) {
         if (c % 32 != 15 && c % 32 != 16) walls[crossing[5]++] = c;
     }

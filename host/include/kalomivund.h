@@ -12,9 +12,11 @@
  * rest 0. A RECORD of an answer or a view is 65 numbers: 0 not heard, 1 none or 2 a route, and then the route's 64 cells, which are 0
  * where there is no route.
  *
- * A FLOOR is 22 numbers: width (1 to 32), height (1 to 32), horizon (1 to 63), depth (1 to 4), carriers (1 to 8), walls (0 to 1023),
- * eight starts, eight goals; starts and goals past the carriers are not looked at. Its WALLS are lent beside it: cells, strictly
- * rising, as many as the floor counts or more, those beyond not looked at. Carriers count from 1; 1 ranks highest.
+ * A FLOOR is 54 numbers: width (1 to 32), height (1 to 32), horizon (1 to 63), depth (1 to 4), carriers (1 to 8), walls (0 to 1023),
+ * eight starts, eight dock counts (1 to 4), four docks of each of eight carriers; see KALOMIVUND_START and those behind it. A carrier's
+ * route may end at any of its docks. Places past the carriers, and docks past a carrier's count, are not looked at. Its WALLS are lent
+ * beside it: cells, strictly rising, as many as the floor counts or more, those beyond not looked at. Carriers count from 1; 1 ranks
+ * highest.
  *
  * THE ANSWER of every function is one word, see KALOMIVUND_REFUSED and those below it:
  *   done     low byte 0, bits 8 to 15 the case, bits 16 and up a number
@@ -22,15 +24,17 @@
  * A number or place above 2^48 - 1 is told as 2^48 - 1.
  *
  * REFUSALS, in the order in which they are looked for; the first one met is the answer.
- *   9, 0         the lent floor has fewer than 22 numbers; before anything else (not for read_sheet, which writes it)
+ *   9, 0         the lent floor has fewer than 54 numbers; before anything else (not for read_sheet, which writes it)
  *   1, offset    form of a sheet's line 1 (see kalomivund_read_sheet)
  *   2, field     line 1, field 1 to 6: outside its limits
- *   1, offset    form of a sheet's other lines
+ *   1, offset    form of a sheet's other lines; a dock count outside 1 to 4 is a bad field
  *   9, 0         fewer walls are lent than the floor counts (right after 2; not for read_sheet)
- *   3, item      a cell outside the grid; carriers are items 1 to n, walls follow
+ *   3, item      a start, a dock or a wall outside the grid, or a record's dock count outside 1 to 4; carriers are items 1 to n, walls
+ *                follow
  *   4, item      a wall is not above the one before
- *   5, carrier   its start or goal is a wall
- *   6, carrier   an earlier carrier has the same start, or the same goal
+ *   5, carrier   its start or one of its docks is a wall
+ *   6, carrier   an earlier carrier has the same start (docks may be common to several carriers)
+ *   17, carrier  a dock is twice in its list
  *   9, 0         other lent memory is too short (for read_sheet the floor and the walls)
  *   10, 0        the lent state is no state of this floor
  *   7, position  a number that names no step of this floor (position in its list, from 0; a single step has 0); the carrier of
@@ -43,7 +47,7 @@
  *   14, 0        runs are asked for of more than three carriers
  *   15, 0        the rank of a run is not below the number of runs
  *   16, 0        the carrier has a route (kalomivund_blockers)
- * "The floor's refusals" below are 9 (22 numbers), 2, 9 (walls), 3, 4, 5, 6. */
+ * "The floor's refusals" below are 9 (54 numbers), 2, 9 (walls), 3, 4, 5, 6, 17. */
 #ifndef KALOMIVUND_H
 #define KALOMIVUND_H
 
@@ -55,16 +59,22 @@ extern "C" {
 #endif
 
 /* Lengths that serve every floor. */
-#define KALOMIVUND_FLOOR 22        /* numbers of a floor record */
+#define KALOMIVUND_FLOOR 54        /* numbers of a floor record */
+#define KALOMIVUND_DOCKS 4         /* docks of a carrier */
 #define KALOMIVUND_ROUTE 64        /* cells of a route */
 #define KALOMIVUND_RECORD 65       /* numbers of an answer or a view */
 #define KALOMIVUND_LENGTHS 9       /* figures of kalomivund_needed_lengths */
 #define KALOMIVUND_MOST_WALLS 1023 /* cells */
-#define KALOMIVUND_MOST_SHEET 11452 /* bytes */
+#define KALOMIVUND_MOST_SHEET 11732 /* bytes */
 #define KALOMIVUND_MOST_ANSWERS 520 /* numbers */
 #define KALOMIVUND_MOST_TEXT 2659  /* bytes */
 #define KALOMIVUND_MOST_STATE 9666 /* numbers, 19,332 bytes */
 #define KALOMIVUND_MOST_REPORT 1004 /* numbers; of a listed run 22 */
+
+/* Places of a floor record, for carrier i from 1 to 8: its start, its dock count, and its docks, k from 1 to 4. */
+#define KALOMIVUND_START(i) (6 + (i) - 1)
+#define KALOMIVUND_COUNT(i) (14 + (i) - 1)
+#define KALOMIVUND_DOCK(i, k) (22 + KALOMIVUND_DOCKS * ((i) - 1) + (k) - 1)
 
 /* Parts of an answer word. */
 #define KALOMIVUND_REFUSED(word) ((unsigned)((word) & 0xff))       /* 0 done, 1 refused */
@@ -94,15 +104,19 @@ extern "C" {
 
 /* Reads a sheet.
  * Takes   text, a sheet's bytes, any bytes and any length.
- * Writes  the first 22 numbers of floor, starts and goals past the carriers being 0; the floor's walls to the front of walls.
+ *         Fields are five columns. Line 1: width, height, horizon, depth, carriers, walls. Per carrier: start column, start row, dock
+ *         count (1 to 4), then the column and the row of each dock. Per wall: column, row.
+ * Writes  the first 54 numbers of floor, places past the carriers and docks past a count being 0; the floor's walls to the front of
+ *         walls.
  * Done    case 0, number 0.
- * Refused 1 with a byte offset: a field's first column, a wrong newline, the first extra byte, the text's length where it ends early; 2
- *         to 6; 9 (walls shorter than the sheet counts, floor shorter than 22), after 6. */
+ * Refused 1 with a byte offset: a field's first column (a dock count outside 1 to 4 included, before the line's later fields), a wrong
+ *         newline, the first extra byte, the text's length where it ends early; 2 to 6; 17; 9 (walls shorter than the sheet counts, floor
+ *         shorter than 54), after 17. */
 uint64_t kalomivund_read_sheet(const uint8_t *text, size_t text_len, uint16_t *floor, size_t floor_len, uint16_t *walls,
                                size_t walls_len);
 
 /* Writes a floor's sheet.
- * Writes  31 + 21 x carriers + 11 x walls bytes to the front of out (at most 11,452).
+ * Writes  31 bytes, 16 + 10 x docks a carrier and 11 a wall to the front of out (at most 11,732).
  * Done    case 0, number the bytes written.
  * Refused the floor's refusals; 9 (out too short). */
 uint64_t kalomivund_write_sheet(const uint16_t *floor, size_t floor_len, const uint16_t *walls, size_t walls_len, uint8_t *out,
@@ -113,23 +127,25 @@ uint64_t kalomivund_write_sheet(const uint16_t *floor, size_t floor_len, const u
  * Refused the floor's refusals. */
 uint64_t kalomivund_check_floor(const uint16_t *floor, size_t floor_len, const uint16_t *walls, size_t walls_len);
 
-/* The needed length of each lent buffer of a floor, from its first six numbers alone.
+/* The needed length of each lent buffer of a floor, from its first six numbers and its dock counts alone; the counts are taken as they
+ * stand.
  * Writes  nine figures to the front of out, in elements of each buffer:
  *           walls    walls
- *           sheet    31 + 21 x carriers + 11 x walls, bytes
+ *           sheet    31, 16 + 10 x docks a carrier, 11 a wall, bytes
  *           answers  65 x carriers, numbers; also the views lent to a search
  *           text     11 + 331 x carriers, bytes
  *           state    2 + 67 x carriers + 326 x carriers x (carriers - 1) / 2, numbers
  *           route    64, cells
- *           floor    22, numbers
+ *           floor    54, numbers
  *           figures  9, numbers of eight bytes: these
  *           report   2 x (2^(carriers + 1) - carriers - 2), numbers
  *         Later figures stand behind these.
  * Done    case 0, number 0.
- * Refused 9 (floor shorter than 22); 2; 9 (out shorter than 9). */
+ * Refused 9 (floor shorter than 54); 2; 9 (out shorter than 9). */
 uint64_t kalomivund_needed_lengths(const uint16_t *floor, size_t floor_len, uint64_t *out, size_t out_len);
 
-/* The best route of a carrier against what it has heard of the carriers above it.
+/* The best route of a carrier, to any of its docks, against what it has heard of the carriers above it: of least arrival, the beat from which
+ * it stays at the dock where it ends; of those the one with the smaller cell at the first beat where they differ.
  * Takes   views, 65 numbers a carrier, record j - 1 being carrier j's view; only those above the carrier are looked at. A tag of 2 is
  *         a route, whose cells are taken as they stand; a tag of 1, none, occupies carrier j's start at every beat 0 to horizon; any
  *         other tag is not heard and occupies nothing.
@@ -161,8 +177,8 @@ uint64_t kalomivund_blockers(const uint16_t *floor, size_t floor_len, const uint
  * Takes   text, any bytes and any length.
  * Writes  the printed bytes to the front of out.
  * Done    case 0, number the bytes written; also for a refused sheet.
- * Refused 9 (an accepted sheet, out shorter than 11 + 331 x carriers); the sheet's own refusal, 1 to 6 (a refused sheet, out shorter
- *         than the 16 bytes of its line). An out of KALOMIVUND_MOST_TEXT bytes is never too short. */
+ * Refused 9 (an accepted sheet, out shorter than 11 + 331 x carriers); the sheet's own refusal, 1 to 6 or 17 (a refused sheet,
+ *         out shorter than the 16 bytes of its line). An out of KALOMIVUND_MOST_TEXT bytes is never too short. */
 uint64_t kalomivund_print_routes(const uint8_t *text, size_t text_len, uint8_t *out, size_t out_len);
 
 /* A STATE is as many numbers as kalomivund_needed_lengths says, in this order, with n carriers counted here from 0:

@@ -1,7 +1,8 @@
 //! The competitor: a bit-parallel sequential planner in Rust, a word a row, written for speed and without any check.
-//! Forward sets of cells from the start give the least arrival; going back from there each set keeps the cells that still lead to the
-//! goal; the route takes the smallest of them, beat for beat. What is open at each beat is kept as rows for the whole plan, so that a
-//! planned route is taken out of it once, each of its cells at its beat and the beats beside it; no move needs a test.
+//! Forward sets of cells from the start give the least arrival, at whichever dock can be held from then on; going back from there each set
+//! keeps the cells that still lead to such a dock; the route takes the smallest of them, beat for beat. What is open at each beat is kept as
+//! rows for the whole plan, so that a planned route is taken out of it once, each of its cells at its beat and the beats beside it; no move
+//! needs a test.
 
 use crate::paper::Floor;
 
@@ -14,11 +15,28 @@ pub struct Planner {
     horizon: usize,
     carriers: usize,
     starts: [u16; 8],
-    goals: [u16; 8],
+    counts: [u16; 8],
+    docks: [u16; 32],
     /// No wall, and no carrier above at that beat or beside it, by beat.
     open: [Rows; 64],
-    /// Forward sets, and then in their place the sets that lead to the goal.
+    /// Forward sets, and then in their place the sets that lead to a dock.
     sets: [Rows; 64],
+}
+
+/// A dock as a row and a bit, with the first beat from which it is open through the horizon.
+#[derive(Clone, Copy, Default)]
+struct Dock {
+    row: usize,
+    bit: u32,
+    held: usize,
+}
+
+impl Dock {
+    /// Whether a set of a beat has the dock, and it can be held from then on.
+    #[inline(always)]
+    fn arrives(&self, set: &Rows, t: usize) -> bool {
+        t >= self.held && set[self.row] & self.bit != 0
+    }
 }
 
 /// A block of eight rows after one beat, where nothing is in the way but what is not open.
@@ -57,43 +75,47 @@ impl Planner {
             free[row] &= !(1 << (wall - first));
         }
         let mut starts = [0; 8];
-        let mut goals = [0; 8];
+        let (mut counts, mut docks) = ([0; 8], [0; 32]);
         starts.copy_from_slice(&record[6..14]);
-        goals.copy_from_slice(&record[14..22]);
+        counts.copy_from_slice(&record[14..22]);
+        docks.copy_from_slice(&record[22..54]);
         Planner {
             width,
             blocks: height.div_ceil(8),
             horizon: record[2] as usize,
             carriers: record[4] as usize,
             starts,
-            goals,
+            counts,
+            docks,
             open: [free; 64],
             sets: [[0; 34]; 64],
         }
     }
 
-    /// The best route of a carrier against those above it, and its arrival.
-    pub fn search(&mut self, carrier: usize, route: &mut [u16]) -> Option<usize> {
-        let (w, h, blocks) = (self.width, self.horizon, self.blocks);
-        let start = self.starts[carrier] as usize;
-        let goal = self.goals[carrier] as usize;
-        let (start_row, start_bit) = (start / w + 1, 1u32 << (start % w));
-        let (goal_row, goal_bit) = (goal / w + 1, 1u32 << (goal % w));
-
-        let mut held = h + 1;
-        while held > 0 && self.open[held - 1][goal_row] & goal_bit != 0 {
-            held -= 1;
-        }
-        if held > h || self.open[0][start_row] & start_bit == 0 {
-            return None;
-        }
-        self.sets[0] = [0; 34];
-        self.sets[0][start_row] = start_bit;
-        let mut t = 0;
-        loop {
-            if t >= held && self.sets[t][goal_row] & goal_bit != 0 {
-                break;
+    /// The docks of a carrier that are open at the horizon, in front, and how many these are.
+    fn held_docks(&self, carrier: usize) -> ([Dock; 4], usize) {
+        let (mut docks, mut count) = ([Dock::default(); 4], 0);
+        for k in 0..self.counts[carrier] as usize {
+            let cell = self.docks[4 * carrier + k] as usize;
+            let (row, bit) = (cell / self.width + 1, 1u32 << (cell % self.width));
+            let mut held = self.horizon + 1;
+            while held > 0 && self.open[held - 1][row] & bit != 0 {
+                held -= 1;
             }
+            if held <= self.horizon {
+                docks[count] = Dock { row, bit, held };
+                count += 1;
+            }
+        }
+        (docks, count)
+    }
+
+    /// Fills the forward sets up to the first beat at which a route may end: that beat.
+    #[inline(always)]
+    fn forward(&mut self, arrives: impl Fn(&Rows, usize) -> bool) -> Option<usize> {
+        let (h, blocks) = (self.horizon, self.blocks);
+        let mut t = 0;
+        while !arrives(&self.sets[t], t) {
             if t == h {
                 return None;
             }
@@ -104,9 +126,29 @@ impl Planner {
             }
             t += 1;
         }
-        let arrival = t;
+        Some(t)
+    }
+
+    /// The best route of a carrier against those above it, and its arrival.
+    pub fn search(&mut self, carrier: usize, route: &mut [u16]) -> Option<usize> {
+        let (w, h, blocks) = (self.width, self.horizon, self.blocks);
+        let start = self.starts[carrier] as usize;
+        let (start_row, start_bit) = (start / w + 1, 1u32 << (start % w));
+        let (docks, count) = self.held_docks(carrier);
+        let docks = &docks[..count];
+        if count == 0 || self.open[0][start_row] & start_bit == 0 {
+            return None;
+        }
+        self.sets[0] = [0; 34];
+        self.sets[0][start_row] = start_bit;
+        let arrival = match docks {
+            [dock] => self.forward(|set, t| dock.arrives(set, t)),
+            _ => self.forward(|set, t| docks.iter().any(|dock| dock.arrives(set, t))),
+        }?;
         self.sets[arrival] = [0; 34];
-        self.sets[arrival][goal_row] = goal_bit;
+        for dock in docks.iter().filter(|dock| dock.held <= arrival) {
+            self.sets[arrival][dock.row] |= dock.bit;
+        }
         for t in (0..arrival).rev() {
             let (before, after) = self.sets.split_at_mut(t + 1);
             let (now, next) = (&mut before[t], &after[0]);
@@ -115,13 +157,13 @@ impl Planner {
                 *rows = spread(next, rows, b);
             }
         }
-        self.walk(start, arrival, route);
-        route[arrival..=h].fill(goal as u16);
+        let last = self.walk(start, arrival, route);
+        route[arrival..=h].fill(last as u16);
         Some(arrival)
     }
 
-    /// The smallest cell that leads to the goal, beat for beat.
-    fn walk(&self, start: usize, arrival: usize, route: &mut [u16]) {
+    /// The smallest cell that leads to a dock, beat for beat; the last of them.
+    fn walk(&self, start: usize, arrival: usize, route: &mut [u16]) -> usize {
         let w = self.width;
         let (mut row, mut bit, mut cell) = (start / w + 1, 1u32 << (start % w), start);
         route[0] = start as u16;
@@ -139,6 +181,7 @@ impl Planner {
             }
             route[t + 1] = cell as u16;
         }
+        cell
     }
 
     /// Takes a carrier's route out of what is open: each cell at its beat and at those beside it, from 0 to the horizon.
@@ -194,6 +237,6 @@ pub fn plan(record: &[u16], walls: &[u16], answers: &mut [u16]) -> usize {
 }
 
 /// The record and walls of a floor.
-pub fn numbers(floor: &Floor) -> ([u16; 22], Vec<u16>) {
+pub fn numbers(floor: &Floor) -> ([u16; crate::paper::RECORD], Vec<u16>) {
     (crate::paper::record_of(floor), floor.walls.iter().map(|&c| c as u16).collect())
 }

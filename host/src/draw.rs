@@ -32,6 +32,20 @@ impl Draw {
         list[self.below(list.len())]
     }
 
+    /// A list of docks, different cells below the bound: one in half of the draws, else up to four; at times each the neighbour of the one before.
+    pub fn docks(&mut self, cells: usize) -> Vec<usize> {
+        let count = if self.percent(50) { 1 } else { self.between(1, 4) }.min(cells);
+        if self.percent(25) {
+            let first = self.below(cells - count + 1);
+            let mut row: Vec<usize> = (first..first + count).collect();
+            if self.percent(50) {
+                row.reverse();
+            }
+            return row;
+        }
+        self.different(count, cells)
+    }
+
     /// So many different numbers below the bound, in the order drawn.
     pub fn different(&mut self, count: usize, bound: usize) -> Vec<usize> {
         let mut all: Vec<usize> = (0..bound).collect();

@@ -1,4 +1,5 @@
-//! Safe Rust over the proved planning library: routes for up to eight tote carriers on a floor of cells (document 01).
+//! Safe Rust over the proved planning library: routes for up to eight tote carriers on a floor of cells (document 01), each to any of up to
+//! four docks (document 02, slip 10).
 //!
 //! Memory is always lent by the caller, and a refused call leaves it as it was. [`needed_lengths`] says how much each buffer needs.
 //!
@@ -15,7 +16,9 @@ pub mod calls;
 pub mod raw;
 
 /// The numbers of a floor record.
-pub const RECORD: usize = 22;
+pub const RECORD: usize = 54;
+/// The most docks that a carrier has.
+pub const MOST_DOCKS: usize = 4;
 /// The figures of the needed lengths.
 pub const LENGTHS: usize = 9;
 /// The most walls that a floor has.
@@ -23,7 +26,7 @@ pub const MOST_WALLS: usize = 1023;
 /// The most numbers that the answers of a floor take.
 pub const MOST_ANSWERS: usize = 520;
 /// The most bytes that a sheet takes.
-pub const MOST_SHEET: usize = 11_452;
+pub const MOST_SHEET: usize = 11_732;
 /// The most bytes that printed routes take.
 pub const MOST_TEXT: usize = 2_659;
 /// The most numbers that a state takes.
@@ -34,7 +37,8 @@ pub const MOST_REPORT: usize = 1_004;
 /// A route: a cell for each beat, 0 after the horizon.
 pub type Route = [u16; 64];
 
-/// A floor record: walls count the cells of a slice that is lent beside it. Cells are row × width + column.
+/// A floor record: walls count the cells of a slice that is lent beside it. Cells are row × width + column. The route of a carrier may end
+/// at any of its docks, of which it has 1 to 4; those past its count are no part of the floor.
 #[derive(Clone, Copy, PartialEq, Eq, Debug, Default)]
 pub struct Floor {
     pub width: u16,
@@ -44,21 +48,25 @@ pub struct Floor {
     pub carriers: u16,
     pub walls: u16,
     pub starts: [u16; 8],
-    pub goals: [u16; 8],
+    /// How many docks each carrier has.
+    pub counts: [u16; 8],
+    /// The docks of each carrier.
+    pub docks: [[u16; MOST_DOCKS]; 8],
 }
 
 impl Floor {
-    /// The 22 numbers of the record. `record_of` of `paper.rs` does the same and is apart on purpose: what the library is compared with
+    /// The numbers of the record. `record_of` of `paper.rs` does the same and is apart on purpose: what the library is compared with
     /// shares no code with it.
     pub fn record(&self) -> [u16; RECORD] {
         let mut record = [0; RECORD];
         record[..6].copy_from_slice(&[self.width, self.height, self.horizon, self.depth, self.carriers, self.walls]);
         record[6..14].copy_from_slice(&self.starts);
-        record[14..].copy_from_slice(&self.goals);
+        record[14..22].copy_from_slice(&self.counts);
+        record[22..].copy_from_slice(self.docks.as_flattened());
         record
     }
 
-    /// The record that 22 numbers are.
+    /// The record that so many numbers are.
     pub fn of_record(record: &[u16; RECORD]) -> Floor {
         let mut floor = Floor {
             width: record[0],
@@ -70,8 +78,22 @@ impl Floor {
             ..Floor::default()
         };
         floor.starts.copy_from_slice(&record[6..14]);
-        floor.goals.copy_from_slice(&record[14..]);
+        floor.counts.copy_from_slice(&record[14..22]);
+        floor.docks.as_flattened_mut().copy_from_slice(&record[22..]);
         floor
+    }
+
+    /// Gives a carrier (from 1 to 8) its docks; a list that is empty or longer than four makes a floor that is refused with 3.
+    pub fn set_docks(&mut self, carrier: usize, docks: &[u16]) {
+        let kept = docks.len().min(MOST_DOCKS);
+        self.counts[carrier - 1] = u16::try_from(docks.len()).unwrap_or(u16::MAX);
+        self.docks[carrier - 1] = [0; MOST_DOCKS];
+        self.docks[carrier - 1][..kept].copy_from_slice(&docks[..kept]);
+    }
+
+    /// The docks of a carrier (from 1 to 8), as far as the record counts and holds them.
+    pub fn docks_of(&self, carrier: usize) -> &[u16] {
+        &self.docks[carrier - 1][..(self.counts[carrier - 1] as usize).min(MOST_DOCKS)]
     }
 }
 
@@ -87,10 +109,10 @@ impl std::fmt::Display for Refusal {
         let why = match self.number {
             1 => "the sheet's form is wrong at byte",
             2 => "line 1 is outside its limits in field",
-            3 => "a cell lies outside the grid: item",
+            3 => "a cell lies outside the grid, or a dock count outside 1 to 4: item",
             4 => "a wall is not above the one before: item",
-            5 => "a start or goal is a wall: carrier",
-            6 => "an earlier carrier has the same start or goal: carrier",
+            5 => "a start or a dock is a wall: carrier",
+            6 => "an earlier carrier has the same start: carrier",
             7 => "no such step or carrier: position",
             8 => "the carrier is not due: place",
             9 => "lent memory is too short: place",
@@ -101,6 +123,7 @@ impl std::fmt::Display for Refusal {
             14 => "more than three carriers: place",
             15 => "no run of that rank: place",
             16 => "the carrier has a route: place",
+            17 => "a dock is twice in its list: carrier",
             _ => "refused: place",
         };
         write!(f, "refusal {}: {} {}", self.number, why, self.place)
@@ -197,7 +220,7 @@ pub const fn deliver_step(j: u16, i: u16) -> u16 {
     if is_digit(j) && is_digit(i) { 200 + 10 * j + i } else { 0 }
 }
 
-/// Reads a sheet: its floor, and its walls into lent memory. Refusals 1 to 6, and 9 where the walls do not fit.
+/// Reads a sheet: its floor, and its walls into lent memory. Refusals 1 to 6 and 17, and 9 where the walls do not fit.
 pub fn read_sheet(text: &[u8], walls: &mut [u16]) -> Result<Floor, Refusal> {
     let mut record = [0; RECORD];
     answer_of(calls::read_sheet(text, &mut record, walls))?;
@@ -209,7 +232,7 @@ pub fn write_sheet(floor: &Floor, walls: &[u16], out: &mut [u8]) -> Result<usize
     answer_of(calls::write_sheet(&floor.record(), walls, out)).map(|(_, bytes)| bytes as usize)
 }
 
-/// Checks a floor record and its walls.
+/// Checks a floor record and its walls. Refusals 2, 9 (walls), 3 to 6 and 17.
 pub fn check_floor(floor: &Floor, walls: &[u16]) -> Result<(), Refusal> {
     answer_of(calls::check_floor(&floor.record(), walls)).map(|_| ())
 }
@@ -222,8 +245,8 @@ pub fn needed_lengths(floor: &Floor) -> Result<Lengths, Refusal> {
     Ok(Lengths { walls, sheet, answers, text, state, route, floor, figures, report })
 }
 
-/// The best route of a carrier (from 1) against the views of the carriers above it; `None` is the paper's none. A view with tag 1, none,
-/// occupies its carrier's start at every beat.
+/// The best route of a carrier (from 1) to any of its docks against the views of the carriers above it; `None` is the paper's none. A view
+/// with tag 1, none, occupies its carrier's start at every beat.
 pub fn search(floor: &Floor, walls: &[u16], carrier: u16, views: &[u16]) -> Result<Option<Route>, Refusal> {
     let mut route = [0; 64];
     let (case, _) = answer_of(calls::search(&floor.record(), walls, carrier, views, &mut route))?;

@@ -1,4 +1,5 @@
-//! Document 01, 'Routes for tote carriers on a cell floor', in plain Rust, written from the paper and not from the proved code.
+//! Document 01, 'Routes for tote carriers on a cell floor', with the change requests of document 02, in plain Rust, written from the papers
+//! and not from the proved code.
 //! It is what the library is compared with, so it prefers the obvious way to the fast one: a floor is vectors of cells, a search is a
 //! table over (beat, cell), a state is a struct that is decoded from its numbers before each call and encoded after it.
 //! `calls`, at the end, has the library's entries over the same lent memory.
@@ -34,7 +35,8 @@ pub struct Floor {
     pub horizon: usize,
     pub depth: usize,
     pub starts: Vec<usize>,
-    pub goals: Vec<usize>,
+    /// Of each carrier, the cells at any of which its route may end (document 02, slip 10).
+    pub docks: Vec<Vec<usize>>,
     pub walls: Vec<usize>,
 }
 
@@ -59,7 +61,12 @@ fn limits(line: &[usize; 6]) -> Result<(), Refusal> {
     Ok(())
 }
 
-/// Refusals 4, 5 and 6 of a floor whose cells all lie in the grid.
+/// Whether a list has a dock twice.
+fn has_twice(docks: &[usize]) -> bool {
+    (0..docks.len()).any(|k| docks[..k].contains(&docks[k]))
+}
+
+/// Refusals 4, 5, 6 and 17 of a floor whose cells all lie in the grid.
 fn apart(floor: &Floor) -> Result<(), Refusal> {
     let n = floor.carriers();
     for k in 1..floor.walls.len() {
@@ -68,19 +75,28 @@ fn apart(floor: &Floor) -> Result<(), Refusal> {
         }
     }
     for i in 0..n {
-        if floor.walls.contains(&floor.starts[i]) || floor.walls.contains(&floor.goals[i]) {
+        if floor.walls.contains(&floor.starts[i]) || floor.docks[i].iter().any(|dock| floor.walls.contains(dock)) {
             return refuse(5, i + 1);
         }
     }
     for i in 0..n {
-        if floor.starts[..i].contains(&floor.starts[i]) || floor.goals[..i].contains(&floor.goals[i]) {
+        if floor.starts[..i].contains(&floor.starts[i]) {
             return refuse(6, i + 1);
+        }
+    }
+    for i in 0..n {
+        if has_twice(&floor.docks[i]) {
+            return refuse(17, i + 1);
         }
     }
     Ok(())
 }
 
-/// The floor that a record of 22 numbers and its walls are: refusals 2, 9 (walls), 3, 4, 5, 6.
+/// The numbers of a record: line 1, eight starts, eight dock counts, four docks of each of eight carriers.
+pub const RECORD: usize = 6 + 8 + 8 + 4 * 8;
+
+/// The floor that the numbers of a record and its walls are: refusals 2, 9 (walls), 3, 4, 5, 6, 17. A dock count outside 1 to 4 gets 3 with
+/// the carrier's item; docks past the count are no part of the floor.
 pub fn floor_of_record(record: &[u16], walls: &[u16]) -> Result<Floor, Refusal> {
     let at = |k: usize| record[k] as usize;
     let line = [at(0), at(1), at(2), at(3), at(4), at(5)];
@@ -89,17 +105,22 @@ pub fn floor_of_record(record: &[u16], walls: &[u16]) -> Result<Floor, Refusal> 
     if walls.len() < count {
         return refuse(9, 0);
     }
-    let floor = Floor {
+    let mut floor = Floor {
         width,
         height,
         horizon,
         depth,
         starts: (0..n).map(|i| at(6 + i)).collect(),
-        goals: (0..n).map(|i| at(14 + i)).collect(),
+        docks: Vec::new(),
         walls: walls[..count].iter().map(|&c| c as usize).collect(),
     };
     for i in 0..n {
-        if floor.starts[i] >= floor.cells() || floor.goals[i] >= floor.cells() {
+        let docks = at(14 + i);
+        if !(1..=4).contains(&docks) {
+            return refuse(3, i + 1);
+        }
+        floor.docks.push((0..docks).map(|k| at(22 + 4 * i + k)).collect());
+        if floor.starts[i] >= floor.cells() || floor.docks[i].iter().any(|&dock| dock >= floor.cells()) {
             return refuse(3, i + 1);
         }
     }
@@ -112,10 +133,10 @@ pub fn floor_of_record(record: &[u16], walls: &[u16]) -> Result<Floor, Refusal> 
     Ok(floor)
 }
 
-/// The record of a floor; places past its carriers are 0. `Floor::record` of the library does the same and is apart on purpose: this file
-/// shares no code with the library.
-pub fn record_of(floor: &Floor) -> [u16; 22] {
-    let mut record = [0; 22];
+/// The record of a floor; places past its carriers, and past a carrier's docks, are 0. `Floor::record` of the library does the same and is
+/// apart on purpose: this file shares no code with the library.
+pub fn record_of(floor: &Floor) -> [u16; RECORD] {
+    let mut record = [0; RECORD];
     let n = floor.carriers();
     let line = [floor.width, floor.height, floor.horizon, floor.depth, n, floor.walls.len()];
     for k in 0..6 {
@@ -123,7 +144,10 @@ pub fn record_of(floor: &Floor) -> [u16; 22] {
     }
     for i in 0..n {
         record[6 + i] = floor.starts[i] as u16;
-        record[14 + i] = floor.goals[i] as u16;
+        record[14 + i] = floor.docks[i].len() as u16;
+        for (k, &dock) in floor.docks[i].iter().enumerate() {
+            record[22 + 4 * i + k] = dock as u16;
+        }
     }
     record
 }
@@ -155,22 +179,45 @@ impl Reader<'_> {
         Ok(digits.iter().fold(0, |value, &b| value * 10 + (b - b'0') as usize))
     }
 
+    fn newline(&mut self) -> Result<(), Refusal> {
+        match self.text.get(self.next) {
+            None => return refuse(1, self.text.len()),
+            Some(b'\n') => self.next += 1,
+            Some(_) => return refuse(1, self.next),
+        }
+        Ok(())
+    }
+
     /// A line: its fields and one newline.
     fn line<const N: usize>(&mut self) -> Result<[usize; N], Refusal> {
         let mut fields = [0; N];
         for field in fields.iter_mut() {
             *field = self.field()?;
         }
-        match self.text.get(self.next) {
-            None => return refuse(1, self.text.len()),
-            Some(b'\n') => self.next += 1,
-            Some(_) => return refuse(1, self.next),
-        }
+        self.newline()?;
         Ok(fields)
+    }
+
+    /// A column and a row.
+    fn pair(&mut self) -> Result<(usize, usize), Refusal> {
+        Ok((self.field()?, self.field()?))
+    }
+
+    /// A carrier's line: its start, its dock count, which is a bad field outside 1 to 4, and its docks.
+    fn carrier(&mut self) -> Result<((usize, usize), Vec<(usize, usize)>), Refusal> {
+        let start = self.pair()?;
+        let here = self.next;
+        let count = self.field()?;
+        if !(1..=4).contains(&count) {
+            return refuse(1, here);
+        }
+        let docks = (0..count).map(|_| self.pair()).collect::<Result<Vec<_>, Refusal>>()?;
+        self.newline()?;
+        Ok((start, docks))
     }
 }
 
-/// The floor that a sheet is: line 1's form, 2, the other lines' form, 3, 4, 5, 6.
+/// The floor that a sheet is: line 1's form, 2, the other lines' form, 3, 4, 5, 6, 17.
 pub fn floor_of_sheet(text: &[u8]) -> Result<Floor, Refusal> {
     let mut reader = Reader { text, next: 0 };
     let line = reader.line::<6>()?;
@@ -178,7 +225,7 @@ pub fn floor_of_sheet(text: &[u8]) -> Result<Floor, Refusal> {
     let [width, height, horizon, depth, n, count] = line;
     let mut carriers = Vec::new();
     for _ in 0..n {
-        carriers.push(reader.line::<4>()?);
+        carriers.push(reader.carrier()?);
     }
     let mut walls = Vec::new();
     for _ in 0..count {
@@ -187,25 +234,25 @@ pub fn floor_of_sheet(text: &[u8]) -> Result<Floor, Refusal> {
     if reader.next < text.len() {
         return refuse(1, reader.next);
     }
-    let outside = |column: usize, row: usize| column >= width || row >= height;
-    for i in 0..n {
-        let [a, b, c, d] = carriers[i];
-        if outside(a, b) || outside(c, d) {
+    let outside = |(column, row): (usize, usize)| column >= width || row >= height;
+    for (i, (start, docks)) in carriers.iter().enumerate() {
+        if outside(*start) || docks.iter().any(|&dock| outside(dock)) {
             return refuse(3, i + 1);
         }
     }
     for k in 0..count {
-        if outside(walls[k][0], walls[k][1]) {
+        if outside((walls[k][0], walls[k][1])) {
             return refuse(3, n + k + 1);
         }
     }
+    let cell = |(column, row): (usize, usize)| row * width + column;
     let floor = Floor {
         width,
         height,
         horizon,
         depth,
-        starts: carriers.iter().map(|c| c[1] * width + c[0]).collect(),
-        goals: carriers.iter().map(|c| c[3] * width + c[2]).collect(),
+        starts: carriers.iter().map(|carrier| cell(carrier.0)).collect(),
+        docks: carriers.iter().map(|carrier| carrier.1.iter().map(|&dock| cell(dock)).collect()).collect(),
         walls: walls.iter().map(|c| c[1] * width + c[0]).collect(),
     };
     apart(&floor)?;
@@ -224,8 +271,10 @@ pub fn sheet_of(floor: &Floor) -> String {
     let w = floor.width;
     let mut text = text_line(&[w, floor.height, floor.horizon, floor.depth, floor.carriers(), floor.walls.len()]);
     for i in 0..floor.carriers() {
-        let (s, g) = (floor.starts[i], floor.goals[i]);
-        text += &text_line(&[s % w, s / w, g % w, g / w]);
+        let start = floor.starts[i];
+        let mut fields = vec![start % w, start / w, floor.docks[i].len()];
+        fields.extend(floor.docks[i].iter().flat_map(|&dock| [dock % w, dock / w]));
+        text += &text_line(&fields);
     }
     for &c in &floor.walls {
         text += &text_line(&[c % w, c / w]);
@@ -235,10 +284,10 @@ pub fn sheet_of(floor: &Floor) -> String {
 
 // ---- Routes and the best route ----
 
-/// The least beat from which a route is at its goal through the horizon.
-pub fn arrival_of(route: &Route, goal: usize, horizon: usize) -> usize {
+/// The least beat from which a route stays, through the horizon, at the cell where it ends.
+pub fn arrival_of(route: &Route, horizon: usize) -> usize {
     let mut arrival = horizon;
-    while arrival > 0 && route[arrival - 1] as usize == goal {
+    while arrival > 0 && route[arrival - 1] == route[horizon] {
         arrival -= 1;
     }
     arrival
@@ -264,12 +313,12 @@ fn moves_conflict(a: (usize, usize), b: (usize, usize)) -> bool {
     change_places(a, b) || follow(a, b)
 }
 
-/// The best route from a start to a goal against a set of routes.
+/// The best route from a start to any of the docks against a set of routes.
 ///
-/// `reached[t][c]`: some legal path from the start is in c at beat t. The arrival is the least beat at which the goal is reached and
-/// from which it stays free. `leads[t][c]`: some legal path from c at beat t is at the goal from the arrival on. The route takes the
-/// smallest cell that still leads there, beat for beat.
-pub fn best_route(floor: &Floor, start: usize, goal: usize, against: &[Route]) -> Answer {
+/// `reached[t][c]`: some legal path from the start is in c at beat t. The arrival is the least beat at which a dock is reached that stays free
+/// from then on. `leads[t][c]`: some legal path from c at beat t is at one such dock from the arrival on. The route takes the smallest cell
+/// that still leads there, beat for beat, and stays in the one where it is at the arrival.
+pub fn best_route(floor: &Floor, start: usize, docks: &[usize], against: &[Route]) -> Answer {
     let (w, cells, horizon) = (floor.width, floor.cells(), floor.horizon);
     let mut free = vec![vec![true; cells]; horizon + 1];
     for beat in free.iter_mut() {
@@ -320,11 +369,13 @@ pub fn best_route(floor: &Floor, start: usize, goal: usize, against: &[Route]) -
             }
         }
     }
-    let stays_free = |from: usize| (from..=horizon).all(|t| free[t][goal]);
-    let arrival = (0..=horizon).find(|&t| reached[t][goal] && stays_free(t))?;
+    let stays_free = |from: usize, dock: usize| (from..=horizon).all(|t| free[t][dock]);
+    let arrival = (0..=horizon).find(|&t| docks.iter().any(|&dock| reached[t][dock] && stays_free(t, dock)))?;
 
     let mut leads = vec![vec![false; cells]; arrival + 1];
-    leads[arrival][goal] = true;
+    for &dock in docks {
+        leads[arrival][dock] = stays_free(arrival, dock);
+    }
     for t in (0..arrival).rev() {
         for c in 0..cells {
             leads[t][c] = free[t][c] && beside[c].iter().any(|&d| leads[t + 1][d] && !barred(t, c, d));
@@ -334,11 +385,11 @@ pub fn best_route(floor: &Floor, start: usize, goal: usize, against: &[Route]) -
     let mut c = start;
     route[0] = c as u16;
     for t in 0..arrival {
-        c = *beside[c].iter().find(|&&d| leads[t + 1][d] && !barred(t, c, d)).expect("a reached goal is led to");
+        c = *beside[c].iter().find(|&&d| leads[t + 1][d] && !barred(t, c, d)).expect("a reached dock is led to");
         route[t + 1] = c as u16;
     }
     for t in arrival..=horizon {
-        route[t] = goal as u16;
+        route[t] = c as u16;
     }
     Some(route)
 }
@@ -371,7 +422,7 @@ pub fn plan(floor: &Floor) -> (Vec<Answer>, usize) {
     let mut answers: Vec<Answer> = Vec::new();
     for i in 0..floor.carriers() {
         let above: Vec<Route> = answers.iter().enumerate().map(|(j, &answer)| occupied(floor, j, answer)).collect();
-        answers.push(best_route(floor, floor.starts[i], floor.goals[i], &above));
+        answers.push(best_route(floor, floor.starts[i], &floor.docks[i], &above));
     }
     let failing = answers.iter().position(|a| a.is_none()).map_or(0, |i| i + 1);
     (answers, failing)
@@ -384,7 +435,7 @@ pub fn blockers(floor: &Floor, answers: &[Answer], carrier: usize) -> Vec<usize>
     for tried in 0..carrier {
         let without: Vec<usize> = left.iter().copied().filter(|&j| j != tried).collect();
         let against: Vec<Route> = without.iter().map(|&j| occupied(floor, j, answers[j])).collect();
-        if best_route(floor, floor.starts[carrier], floor.goals[carrier], &against).is_none() {
+        if best_route(floor, floor.starts[carrier], &floor.docks[carrier], &against).is_none() {
             left = without;
         }
     }
@@ -434,7 +485,7 @@ pub fn print_routes(text: &[u8]) -> String {
         match answer {
             None => out += &format!("{:5} none\n", i + 1),
             Some(route) => {
-                let mut fields = vec![i + 1, arrival_of(route, floor.goals[i], floor.horizon)];
+                let mut fields = vec![i + 1, arrival_of(route, floor.horizon)];
                 fields.extend(route[..=floor.horizon].iter().map(|&c| c as usize));
                 out += &text_line(&fields);
             }
@@ -453,7 +504,7 @@ pub fn print_meeting(text: &[u8], i: u64, j: u64) -> String {
     if !there.contains(&i) || !there.contains(&j) {
         return text_line(&[0, 7, 0]);
     }
-    let alone = |k: u64| best_route(&floor, floor.starts[k as usize - 1], floor.goals[k as usize - 1], &[]);
+    let alone = |k: u64| best_route(&floor, floor.starts[k as usize - 1], &floor.docks[k as usize - 1], &[]);
     let Some(a) = alone(i) else { return format!("carrier {i} has no route\n") };
     let Some(b) = alone(j) else { return format!("carrier {j} has no route\n") };
     let (mut out, beat) = match first_conflict(&a, &b, floor.horizon) {
@@ -607,7 +658,7 @@ impl State {
                         against.push(occupied(floor, j, *answer));
                     }
                 }
-                let answer = best_route(floor, floor.starts[i], floor.goals[i], &against);
+                let answer = best_route(floor, floor.starts[i], &floor.docks[i], &against);
                 let carrier = &mut self.carriers[i];
                 let sends = !carrier.planned || carrier.answer != answer;
                 carrier.answer = answer;
@@ -897,7 +948,7 @@ pub mod calls {
     }
 
     fn whole_record(floor: &[u16]) -> Result<(), Refusal> {
-        if floor.len() < 22 {
+        if floor.len() < RECORD {
             refuse(9, 0)
         } else {
             Ok(())
@@ -926,8 +977,8 @@ pub mod calls {
     pub fn read_sheet(text: &[u8], floor: &mut [u16], walls: &mut [u16]) -> u64 {
         word((|| {
             let read = floor_of_sheet(text)?;
-            long_enough(walls.len() < read.walls.len() || floor.len() < 22)?;
-            floor[..22].copy_from_slice(&record_of(&read));
+            long_enough(walls.len() < read.walls.len() || floor.len() < RECORD)?;
+            floor[..RECORD].copy_from_slice(&record_of(&read));
             for (k, &c) in read.walls.iter().enumerate() {
                 walls[k] = c as u16;
             }
@@ -955,8 +1006,8 @@ pub mod calls {
             limits(&[at(0), at(1), at(2), at(3), at(4), at(5)])?;
             long_enough(out.len() < 9)?;
             let (n, count) = (at(4), at(5));
-            let sheet = 31 + 21 * n + 11 * count;
-            let lengths = [count, sheet, 65 * n, text_length(n), state_length(n), 64, 22, 9, report_length(n)];
+            let sheet = 31 + (0..n).map(|i| 16 + 10 * at(14 + i)).sum::<usize>() + 11 * count;
+            let lengths = [count, sheet, 65 * n, text_length(n), state_length(n), 64, RECORD, 9, report_length(n)];
             for k in 0..9 {
                 out[k] = lengths[k] as u64;
             }
@@ -980,7 +1031,7 @@ pub mod calls {
                     _ => {}
                 }
             }
-            let best = best_route(&floor, floor.starts[carrier - 1], floor.goals[carrier - 1], &against);
+            let best = best_route(&floor, floor.starts[carrier - 1], &floor.docks[carrier - 1], &against);
             route[..64].copy_from_slice(&best.unwrap_or([0; 64]));
             Ok(done(best.is_some() as u64, 0))
         })())

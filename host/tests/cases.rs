@@ -37,9 +37,9 @@ fn numbers_of(line: &str) -> Vec<Number> {
     numbers
 }
 
-/// What a line finds: the numbers that lines set (a floor's line 1 and each carrier's start and goal; how many numbers of memory are
-/// lent, at 90; how many steps there are to choose among, at 100, and these; how many walls are lent, at 200, and these), and the memory
-/// that is lent.
+/// What a line finds: the numbers that lines set (a floor's line 1, each carrier's start and first dock; how many numbers of memory are
+/// lent, at 90; how many steps there are to choose among, at 100, and these; each carrier's dock count, from 140 on, at first 1; its docks
+/// behind the first, from 151, 155, 159 on and so forth; how many walls are lent, at 200, and these), and the memory that is lent.
 struct Desk {
     set: [u16; 1224],
     lent: Vec<u16>,
@@ -188,21 +188,22 @@ fn shuffled(cells: usize, mut seed: u64) -> Vec<usize> {
     order
 }
 
-/// A floor with drawn starts and goals, and one in six of the other cells a wall (eight starts and goals are drawn, whatever the number of
-/// carriers).
+/// A floor with drawn starts and docks, and one in six of the other cells a wall. Eight starts and eight docks are drawn, whatever the number
+/// of carriers; a carrier's first dock is the one in its own place, its others are those behind it, round the eight.
 fn draw_floor(like: &Floor, seed: u64) -> Floor {
     let c = next(next(seed));
-    let (starts, goals) = (shuffled(like.cells(), beside(c, 1)), shuffled(like.cells(), beside(c, 2)));
+    let (starts, ends) = (shuffled(like.cells(), beside(c, 1)), shuffled(like.cells(), beside(c, 2)));
     let mut draw = beside(c, 3);
     let mut walls = Vec::new();
     for cell in 0..like.cells() {
         draw = next(draw);
-        if !starts.contains(&cell) && !goals.contains(&cell) && draw % 6 == 0 {
+        if !starts.contains(&cell) && !ends.contains(&cell) && draw % 6 == 0 {
             walls.push(cell);
         }
     }
+    let docks = |i: usize| (0..like.docks[i].len()).map(|k| ends[(i + k) % 8]).collect();
     let n = like.carriers();
-    Floor { starts: starts[..n].to_vec(), goals: goals[..n].to_vec(), walls, ..like.clone() }
+    Floor { starts: starts[..n].to_vec(), docks: (0..n).map(docks).collect(), walls, ..like.clone() }
 }
 
 /// A step drawn from all that there are, by rising number.
@@ -326,8 +327,13 @@ fn kinds(floor: &Floor, numbers: &[Number]) -> usize {
 
 // ---- Sheets ----
 
-/// The record of the fresh floor: one cell, one beat, one message, one carrier that is at its goal, no wall.
-const SMALLEST: [u16; 22] = [1, 1, 1, 1, 1, 0, 0, 0, 0, 0, 0, 0, 0, 0, 0, 0, 0, 0, 0, 0, 0, 0];
+/// The record of the fresh floor: one cell, one beat, one message, one carrier that is at its dock, no wall.
+fn smallest() -> [u16; paper::RECORD] {
+    let mut record = [0; paper::RECORD];
+    record[..5].fill(1);
+    record[14..22].fill(1);
+    record
+}
 
 /// What is printed for the sheet below, which must be the text behind it: its length.
 fn printed(numbers: &[Number], rest: &str) -> String {
@@ -340,14 +346,20 @@ fn printed(numbers: &[Number], rest: &str) -> String {
 
 impl Desk {
     /// The record of the floor.
-    fn record(&self) -> [u16; 22] {
-        let mut record = [0; 22];
+    fn record(&self) -> [u16; paper::RECORD] {
+        let mut record = [0; paper::RECORD];
         record[..6].copy_from_slice(&self.set[..6]);
         for i in 0..8 {
             record[6 + i] = self.set[6 + 2 * i];
-            record[14 + i] = self.set[7 + 2 * i];
+            record[14 + i] = self.set[140 + i];
+            (0..4).for_each(|k| record[22 + 4 * i + k] = self.dock(i, k));
         }
         record
+    }
+
+    /// Dock k of carrier i, both from 0.
+    fn dock(&self, i: usize, k: usize) -> u16 {
+        self.set[if k == 0 { 7 + 2 * i } else { 150 + 4 * i + k }]
     }
 
     /// The walls that are lent.
@@ -355,17 +367,17 @@ impl Desk {
         self.set[201..201 + self.set[200] as usize].to_vec()
     }
 
-    /// The floor of a record that is accepted, or would be with other starts and goals.
+    /// The floor of a record that is accepted, or would be with other starts and docks.
     fn floor(&self) -> Floor {
         let at = |k: usize| self.set[k] as usize;
-        let carriers = |from: usize| (0..at(4)).map(|i| at(from + 2 * i)).collect();
+        let docks = |i: usize| (0..at(140 + i)).map(|k| self.dock(i, k) as usize).collect();
         Floor {
             width: at(0),
             height: at(1),
             horizon: at(2),
             depth: at(3),
-            starts: carriers(6),
-            goals: carriers(7),
+            starts: (0..at(4)).map(|i| at(6 + 2 * i)).collect(),
+            docks: (0..at(4)).map(docks).collect(),
             walls: Vec::new(),
         }
     }
@@ -435,11 +447,11 @@ impl Desk {
         }
     }
 
-    /// A carrier's arrival and its first cells, at most eight; or none.
-    fn route_told(&self, carrier: usize, answer: Answer) -> String {
+    /// A route's arrival and its first cells, at most eight; or none.
+    fn route_told(&self, answer: Answer) -> String {
         let floor = self.floor();
         let Some(route) = answer else { return "none".into() };
-        let arrival = paper::arrival_of(&route, floor.goals[carrier - 1], floor.horizon);
+        let arrival = paper::arrival_of(&route, floor.horizon);
         let cells: Vec<String> = route[..=floor.horizon].iter().take(8).map(u16::to_string).collect();
         format!("arrival {arrival} cells {}", cells.join(" "))
     }
@@ -448,13 +460,13 @@ impl Desk {
     fn search(&self, carrier: usize) -> String {
         let mut route = [LENT; 64];
         let word = calls::search(&self.record(), &self.walls(), carrier as u16, &self.lent, &mut route);
-        refusal(word).unwrap_or_else(|| format!("{} the same", self.route_told(carrier, (word >> 8 & 255 == 1).then_some(route))))
+        refusal(word).unwrap_or_else(|| format!("{} the same", self.route_told((word >> 8 & 255 == 1).then_some(route))))
     }
 
     /// A sheet read into lent wall memory. One that is accepted is the text of its floor.
     fn sheet(&mut self, text: &[u8]) -> String {
         let before = self.lent.clone();
-        let read = refusal(calls::read_sheet(text, &mut [0; 22], &mut self.lent));
+        let read = refusal(calls::read_sheet(text, &mut [0; paper::RECORD], &mut self.lent));
         if let Some(refused) = read {
             assert!(self.lent == before);
             return refused;
@@ -508,7 +520,7 @@ impl Desk {
             b'S' => self.search(first),
             b't' => self.sheet(&rest.as_bytes()[..first]),
             b'C' => passed(calls::check_floor(&record, &walls)),
-            b'F' => passed(calls::check_floor(&SMALLEST, &walls)),
+            b'F' => passed(calls::check_floor(&smallest(), &walls)),
             b'W' => self.writing(numbers, rest),
             b'P' => printed(numbers, rest),
             _ => self.figures(command, numbers),
@@ -540,6 +552,7 @@ impl Desk {
 #[test]
 fn every_line_of_the_program_cases() {
     let mut desk = Desk { set: [0; 1224], lent: Vec::new() };
+    desk.set[140..148].fill(1);
     let (mut rest, mut wrong) = (SCRIPT, Vec::new());
     let mut expected = EXPECTED.strip_suffix('\n').unwrap().split('\n');
     while let Some((line, behind)) = rest.split_once('\n') {

@@ -2,7 +2,7 @@
 
 use kalomivund::*;
 
-const SHEET: &[u8] = b"    3    2    4    1    2    0\n    0    0    2    0\n    2    0    0    0\n";
+const SHEET: &[u8] = b"    3    2    4    1    2    0\n    0    0    1    2    0\n    2    0    1    0    0\n";
 
 fn floor_of(sheet: &[u8]) -> Result<Floor, Refusal> {
     read_sheet(sheet, &mut [0; MOST_WALLS])
@@ -36,7 +36,7 @@ fn refused<T: std::fmt::Debug>(result: Result<T, Refusal>) -> (u8, u64) {
 
 #[test]
 fn floor_1_one_cell() {
-    let sheet = b"    1    1    1    1    1    0\n    0    0    0    0\n";
+    let sheet = b"    1    1    1    1    1    0\n    0    0    1    0    0\n";
     assert_eq!(printed(sheet), "    1    0\n    1    0    0    0\n");
 }
 
@@ -50,9 +50,9 @@ fn floors_2_and_3_the_papers_sheet() {
     assert_eq!(answers[65..71], [2, 2, 5, 4, 1, 0]);
     let route = search(&floor, &[], 2, &answers).unwrap().unwrap();
     assert_eq!(route[..], answers[66..]);
-    let mut out = [0; 80];
-    assert_eq!(write_sheet(&floor, &[], &mut out), Ok(73));
-    assert_eq!(&out[..73], SHEET);
+    let mut out = [0; 90];
+    assert_eq!(write_sheet(&floor, &[], &mut out), Ok(83));
+    assert_eq!(&out[..83], SHEET);
 }
 
 #[test]
@@ -89,7 +89,7 @@ fn floors_6_to_9_and_12_steps_and_runs() {
 
     let mut three = Floor { width: 4, height: 4, horizon: 9, depth: 1, carriers: 3, ..Floor::default() };
     three.starts[..3].copy_from_slice(&[0, 4, 8]);
-    three.goals[..3].copy_from_slice(&[3, 7, 11]);
+    [3, 7, 11].iter().enumerate().for_each(|(k, &dock)| three.set_docks(k + 1, &[dock]));
     let mut state = fresh_state(&three);
     for open in [plan_step(2), plan_step(1), deliver_step(1, 2)] {
         step(&three, &[], &mut state, open).unwrap();
@@ -120,20 +120,20 @@ fn floors_10_and_11_and_refusals() {
 /// The record that `read_sheet` writes is told too short after the sheet's own refusals; every other call takes it, and tells it first.
 #[test]
 fn a_short_record() {
-    let (mut record, mut walls) = ([7; 21], [7; 1]);
+    let (mut record, mut walls) = ([7; RECORD - 1], [7; 1]);
     let short = |word| refused(answer_of(word));
     assert_eq!(short(calls::read_sheet(b"", &mut record, &mut walls)), (1, 0));
     assert_eq!(short(calls::read_sheet(&edited("    4", "   64"), &mut record, &mut walls)), (2, 3));
     assert_eq!(short(calls::read_sheet(SHEET, &mut record, &mut walls)), (9, 0));
-    assert_eq!((record, walls), ([7; 21], [7; 1]));
-    assert_eq!(short(calls::check_floor(&[0; 21], &walls)), (9, 0));
+    assert_eq!((record, walls), ([7; RECORD - 1], [7; 1]));
+    assert_eq!(short(calls::check_floor(&[0; RECORD - 1], &walls)), (9, 0));
 }
 
 /// Every lent buffer has its figure; places are told up to 2^48 − 1.
 #[test]
 fn lengths_and_places() {
     let lengths = needed_lengths(&floor_of(SHEET).unwrap()).unwrap();
-    let all = Lengths { walls: 0, sheet: 73, answers: 130, text: 673, state: 462, route: 64, floor: RECORD, figures: LENGTHS, report: 8 };
+    let all = Lengths { walls: 0, sheet: 83, answers: 130, text: 673, state: 462, route: 64, floor: RECORD, figures: LENGTHS, report: 8 };
     assert_eq!(lengths, all);
     let (few, floor) = (&mut [0; LENGTHS - 1], floor_of(SHEET).unwrap().record());
     assert_eq!(refused(answer_of(calls::needed_lengths(&floor, few))), (9, 0));
@@ -190,7 +190,7 @@ fn every_run_of_two_carriers() {
     let mut four = floor;
     four.carriers = 4;
     four.starts[2..4].copy_from_slice(&[3, 4]);
-    four.goals[2..4].copy_from_slice(&[3, 4]);
+    (3..=4).for_each(|carrier| four.set_docks(carrier, &[carrier as u16]));
     let mut wide = vec![7; 52];
     assert_eq!(refused(run_of_rank(&four, &[], u64::MAX, &mut wide)), (14, 0));
     assert!(report.iter().chain(&wide).all(|&left| left == 7));
@@ -229,11 +229,12 @@ fn conflicts_of_two_routes() {
 #[test]
 fn who_shuts_a_carrier_in() {
     let floor = |width, height, horizon, pairs: &[(u16, u16)]| {
-        let (mut starts, mut goals) = ([0; 8], [0; 8]);
-        for (k, &(start, goal)) in pairs.iter().enumerate() {
-            (starts[k], goals[k]) = (start, goal);
+        let mut floor = Floor { width, height, horizon, depth: 1, carriers: pairs.len() as u16, ..Floor::default() };
+        for (k, &(start, dock)) in pairs.iter().enumerate() {
+            floor.starts[k] = start;
+            floor.set_docks(k + 1, &[dock]);
         }
-        Floor { width, height, horizon, depth: 1, carriers: pairs.len() as u16, walls: 0, starts, goals }
+        floor
     };
     let of = |floor: &Floor, carrier| blockers(floor, &[], carrier, &mut vec![7; needed_lengths(floor).unwrap().answers]);
     let (one, gate) = ([(1, 1), (0, 2)], [(1, 1), (4, 4), (0, 2)]);
@@ -252,6 +253,36 @@ fn who_shuts_a_carrier_in() {
     assert_eq!(refused(blockers(&row, &[], 4, &mut answers)), (7, 0));
     assert_eq!(refused(blockers(&row, &[], 2, &mut answers[1..])), (9, 0));
     assert!(answers.iter().all(|&left| left == 7));
+}
+
+/// Any of several docks: the record and its lists, a count of the wrong size, the table's 17, a route to the nearer dock and to the other one
+/// when that is taken.
+#[test]
+fn any_of_several_docks() {
+    let sheet = b"    5    1    4    1    2    0\n    3    0    1    3    0\n    2    0    2    3    0    0    0\n";
+    let floor = floor_of(sheet).unwrap();
+    assert_eq!((floor.docks_of(1), floor.docks_of(2)), (&[3][..], &[3, 0][..]));
+    assert_eq!(Floor::of_record(&floor.record()), floor);
+    assert_eq!(printed(sheet), "    2    0\n    1    0    3    3    3    3    3\n    2    2    2    1    0    0    0\n");
+    assert_eq!(needed_lengths(&floor).unwrap().sheet, sheet.len());
+    let alone = search(&floor, &[], 2, &[0; 130]).unwrap().unwrap();
+    assert_eq!(alone[..5], [2, 3, 3, 3, 3]);
+    let with = |docks: &[u16]| {
+        let mut floor = floor;
+        floor.set_docks(2, docks);
+        check_floor(&floor, &[])
+    };
+    assert_eq!(with(&[4, 3, 2, 1]), Ok(()));
+    assert_eq!(refused(with(&[])), (3, 2));
+    assert_eq!(refused(with(&[0, 1, 2, 3, 4])), (3, 2));
+    assert_eq!(refused(with(&[0, 1, 2, 5])), (3, 2));
+    assert_eq!(refused(with(&[0, 1, 2, 1])), (17, 2));
+    assert_eq!(with(&[0, 1, 2, 1]).unwrap_err().to_string(), "refusal 17: a dock is twice in its list: carrier 2");
+    let column = |count: &str| {
+        let text = String::from_utf8(sheet.to_vec()).unwrap().replacen("    2    3", &format!("{count}    3"), 1);
+        refused(floor_of(text.as_bytes()))
+    };
+    assert_eq!((column("    0"), column("    5")), ((1, 67), (1, 67)));
 }
 
 /// The worked example of docs/FIRMWARE.md: board 2 misses the order 'plan 1' and catches up.
@@ -283,7 +314,7 @@ fn a_lost_order() {
 fn two_boards_in_one_beat() {
     let mut floor = Floor { width: 3, height: 3, horizon: 6, depth: 2, carriers: 3, ..Floor::default() };
     floor.starts[..3].copy_from_slice(&[0, 2, 3]);
-    floor.goals[..3].copy_from_slice(&[2, 0, 5]);
+    [2, 0, 5].iter().enumerate().for_each(|(k, &dock)| floor.set_docks(k + 1, &[dock]));
     let steps = [plan_step(1), plan_step(2), plan_step(3), deliver_step(1, 2), deliver_step(1, 3), deliver_step(2, 3)];
     let taken = |state: &[u16], x: u16| {
         let mut next = state.to_vec();

@@ -61,7 +61,7 @@ fn go(desk: &[u16], m: &mut [u16], seed: usize) -> usize {
     answers::answer(SPENT, taken)
 }
 
-// One drawn order of a floor with drawn starts, goals and walls.
+// One drawn order of a floor with drawn starts, docks and walls.
 fn draw_one(t: Tally, desk: &[u16], m: &mut [u16], cells: usize, seed: usize) -> Tally {
     let mut drawn = desk::cleared();
     look::copy(desk, &mut drawn, 201);

@@ -8,12 +8,10 @@ use script::look;
 use script::show;
 use search::Outcome;
 
-// Shows the arrival of carrier i's route and its first cells, at most eight.
-fn show_route(desk: &[u16], i: usize, r: Route) {
-    let horizon = look::at(desk, 2);
-    let goal = look::at(desk, look::plus(look::plus(5, i), i));
+// Shows the arrival of a route and its first cells, at most eight.
+fn show_route(horizon: u16, r: Route) {
     show::text(b" arrival");
-    show::number(look::wide(route::arrival(r, goal, horizon)));
+    show::number(look::wide(route::arrival(r, horizon)));
     show::text(b" cells");
     show::numbers(
         &r,
@@ -43,7 +41,7 @@ pub fn search(s: &[u8], desk: &[u16], m: &[u16]) -> usize {
             answers::compared(!other.found)
         }
         Outcome::Route => {
-            show_route(desk, look::wide(i), route);
+            show_route(look::at(desk, 2), route);
             answers::compared(look::both(other.found, same_route(route, other_route)))
         }
     }

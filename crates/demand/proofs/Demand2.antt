@@ -17,7 +17,7 @@ use Rattle.printing.proofs.Theorems.{theorems as printing-theorems}
 use Rattle.demand.specs.Demand2.{Demand2}
 use Rattle.demand.proofs.PlanLaws.{plan-exactly, respond-best, none-exactly, none-occupies, unheard-left-out}
 use Rattle.demand.proofs.PlanLaws.{stored-heard, granted}
-use Rattle.demand.proofs.SameFloorLaws.{same-answers}
+use Rattle.demand.proofs.SameSheetLaws.{same-answers}
 use Rattle.demand.proofs.RoundTripLaws.{floor-returns, sheet-returns}
 
 free-exactly : (f : Floor) (ws : List ℕ) (i c : ℕ) → (taskOf f ws i .free c ≡ true) ↔ Absent ws (f .walls) c

@@ -7,6 +7,7 @@ pub mod SameTrialLaws
 pub mod SameRunLaws
 pub mod SameBlockerLaws
 pub mod SameFloorLaws
+pub mod SameSheetLaws
 pub mod RoundTripLaws
 pub mod RankLaws
 pub mod BlockerLaws
@@ -15,6 +16,8 @@ pub mod Demand2
 pub mod Trials
 pub mod Runs
 pub mod Blockers
+pub mod EarlierLaws
+pub mod Docks
 pub mod LentLaws
 pub mod ListLaws
 pub mod CutLaws

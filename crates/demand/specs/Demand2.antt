@@ -41,12 +41,11 @@ pub record Prioritized (f : Floor) (ws : List ℕ) (xs : List Answer) : Type 0 w
   pub every : length xs ≡ f .carriers
   pub best : (k : ℕ) → k < f .carriers → Best (taskOf f ws (k + 1)) (seen f (map heard (take k xs))) (answerAt xs k)
 
--- Two floors get the same answers, and leave the same in lent memory, from every entry.
-pub record SameAnswers (f : Floor) (ws : List ℕ) (g : Floor) (vs : List ℕ) : Type 0 where
+-- Two floors get the same answers from every entry, and leave the same in lent memory, but for the sheet that is written.
+pub record SameOutcomes (f : Floor) (ws : List ℕ) (g : Floor) (vs : List ℕ) : Type 0 where
   pub check : checkOf f ws ≡ checkOf g vs
   pub lengths : figuresFor f ≡ figuresFor g
   pub write : (room : ℕ) → writeVerdict f ws room ≡ writeVerdict g vs room
-  pub sheet : (old : List ℕ) → writeSheet f ws old ≡ writeSheet g vs old
   pub search : (i : ℕ) (views : List ℕ) → searchOf f ws i views ≡ searchOf g vs i views
   pub plan : (room : ℕ) → planResult f ws room ≡ planResult g vs room
   pub answers : (old : List ℕ) → planMemory f ws old ≡ planMemory g vs old
@@ -65,6 +64,11 @@ pub record SameAnswers (f : Floor) (ws : List ℕ) (g : Floor) (vs : List ℕ) :
   pub run-report : (rank : ℕ) (old : List ℕ) → reportListed f ws rank old ≡ reportListed g vs rank old
   pub blockers : (carrier room : ℕ) → blockersOutcome f ws carrier room ≡ blockersOutcome g vs carrier room
   pub blockers-answers : (carrier : ℕ) (old : List ℕ) → blockersMemory f ws carrier old ≡ blockersMemory g vs carrier old
+
+-- With the sheet.
+pub record SameAnswers (f : Floor) (ws : List ℕ) (g : Floor) (vs : List ℕ) : Type 0 where
+  pub outcomes : SameOutcomes f ws g vs
+  pub sheet : (old : List ℕ) → writeSheet f ws old ≡ writeSheet g vs old
 
 pub record Demand2 : Type 0 where
   -- The plan of an accepted floor is what prioritized planning gives, and nothing else is.
@@ -107,7 +111,7 @@ pub record Demand2 : Type 0 where
   pub printed : (text : List ℕ) → sheetVerdict text ≡ passed →
       routesOf text ≡ routesText (floorAt text) (planOf (floorAt text) (wallsAt text))
   pub printed-refusal : (text : List ℕ) (k p : ℕ) → sheetVerdict text ≡ refused k p → routesOf text ≡ refusalLine k p
-  pub arrival-exactly : (goal H : ℕ) (r : List ℕ) (a : ℕ) → Arrives goal H r a ↔ ((a ≡ arrivalOf goal r H) × (a ≤ H))
+  pub arrival-exactly : (H : ℕ) (r : List ℕ) (a : ℕ) → Arrives H r a ↔ (a ≡ arrivalOf r H)
   -- A floor written and read is the same floor; a sheet read and written is the same sheet; memory may be longer than needed.
   pub floor-returns : (f : Floor) (ws old lent : List ℕ) → checkOf f ws ≡ passed → sheetLength f ≤ length old → f .walls ≤ length lent →
       SameFloor f ws (readFloor (take (sheetLength f) (writeSheet f ws old)) (length lent))

@@ -4,11 +4,14 @@ use native.Mathlib.Omega.{arith}
 use native.Mathlib.Numerals.{add-one}
 use native.Mathlib.Nat.{zero-add, suc-add}
 use borrow.Author.Needs.{needs}
-use borrow.Author.Tests.{eq-eqb, ne-eqb}
+use borrow.Author.Tests.{eq-eqb, ne-eqb, eqb-true}
 use mathlib.Core.Path.{_≡_, refl, sym}
-use mathlib.Core.Bool.{true, false, or-true}
+use mathlib.Core.Bool.{true, false, or-true, true≢false}
+use mathlib.Core.Logic.{⊎-elim}
 use mathlib.Core.List.{List}
 use lib.ListN.{getD}
+use lib.Dec.{eqb}
+use Rattle.laws.proofs.Tests.{or-cases}
 use Rattle.floor.specs.Checks.{among}
 use Rattle.floor.specs.Accepted.{Absent}
 
@@ -49,6 +52,14 @@ module _ (xs : List ℕ) (c : ℕ) where
   -- A loop's answer where it meets c.
   pub among-met : (i m : ℕ) → getD xs i 0 ≡ c → i < m → true ≡ among xs m c
   among-met i m e l = sym (among-found i m l e)
+
+  -- A number among them has a place.
+  pub among-place : (m : ℕ) → among xs m c ≡ true → (k : ℕ) × (k < m) × (getD xs k 0 ≡ c)
+  unfolding among
+  among-place zero h = absurd (true≢false (sym h))
+  among-place (suc m) h =
+      ⊎-elim (λ (e : among xs m c ≡ true). let p = among-place m e in (p .0, omega (arith, p .1), p .2))
+      (λ (e : eqb (getD xs m 0) c ≡ true). (m, omega arith, eqb-true _ _ e)) (or-cases (among xs m c) (eqb (getD xs m 0) c) h)
 
   -- A number that is at none of the places is not among them.
   pub absent-all : (m : ℕ) → Absent xs m c → among xs m c ≡ false

@@ -9,10 +9,13 @@ use borrow.Author.Tests.{ltb-true, lt-ltb, not-true}
 use lib.ListN.{getD}
 use Rattle.laws.proofs.Tests.{false-fails}
 use Rattle.floor.specs.declared.Floor.{Floor}
-use Rattle.floor.specs.Checks.{inGrid, carrierInGrid, rises, among, clearOfWalls, unshared}
-use Rattle.floor.specs.Accepted.{InGrid, CarrierInGrid, WallInGrid, Rises, Absent, ClearOfWalls, Unshared}
+use Rattle.floor.specs.Checks.{docksOf, dockOf, inGrid, docksInGrid, carrierInGrid, rises, among, docksClear, clearOfWalls, unshared}
+use Rattle.floor.specs.Checks.{unrepeated}
+use Rattle.floor.specs.Accepted.{InGrid, CarrierInGrid, WallInGrid, Rises, Absent, ClearOfWalls, Unshared, Unrepeated}
 use Rattle.laws.proofs.EachLaws.{Decides}
 use Rattle.floor.proofs.AmongLaws.{among-found, absent-all}
+use Rattle.floor.proofs.EveryLaws.{every-means}
+use Rattle.floor.proofs.LimitsLaws.{within-means}
 
 -- Two tests joined mean both statements.
 both-mean : {a b : Bool} {A B : Type 0} → (a ≡ true) ↔ A → (b ≡ true) ↔ B → ((a && b) ≡ true) ↔ (A × B)
@@ -26,8 +29,10 @@ unfolding inGrid
 in-grid-means f c = (ltb-true _ _, lt-ltb _ _)
 
 pub carrier-in-grid-means : (f : Floor) → Decides (carrierInGrid f) (CarrierInGrid f)
-unfolding carrierInGrid
-carrier-in-grid-means f i = both-mean (in-grid-means f _) (in-grid-means f _)
+unfolding carrierInGrid docksInGrid
+carrier-in-grid-means f i =
+    both-mean (within-means 1 4 _)
+    (both-mean (in-grid-means f _) (every-means _ (λ (k : ℕ). InGrid f (dockOf f i k)) (λ k. in-grid-means f _) _))
 
 pub wall-in-grid-means : (f : Floor) (ws : List ℕ) → Decides (λ j. inGrid f (getD ws j 0)) (WallInGrid f ws)
 wall-in-grid-means f ws j = in-grid-means f _
@@ -44,9 +49,15 @@ absent-means xs m c = (
 )
 
 pub clear-means : (f : Floor) (ws : List ℕ) → Decides (clearOfWalls f ws) (ClearOfWalls f ws)
-unfolding clearOfWalls
-clear-means f ws i = both-mean (absent-means ws _ _) (absent-means ws _ _)
+unfolding clearOfWalls docksClear
+clear-means f ws i =
+    both-mean (absent-means ws _ _)
+    (every-means _ (λ (k : ℕ). Absent ws (f .walls) (dockOf f i k)) (λ k. absent-means ws _ _) _)
 
 pub unshared-means : (f : Floor) → Decides (unshared f) (Unshared f)
 unfolding unshared
-unshared-means f i = both-mean (absent-means (f .starts) _ _) (absent-means (f .goals) _ _)
+unshared-means f i = absent-means (f .starts) _ _
+
+pub unrepeated-means : (f : Floor) → Decides (unrepeated f) (Unrepeated f)
+unfolding unrepeated
+unrepeated-means f i = every-means _ (λ (k : ℕ). Absent (docksOf f i) k (dockOf f i k)) (λ k. absent-means (docksOf f i) _ _) _

@@ -6,7 +6,7 @@ use mathlib.Core.List.{List}
 use lib.ListN.{length, getD}
 use Rattle.laws.specs.Verdict.{All}
 use Rattle.floor.specs.declared.Floor.{Floor}
-use Rattle.floor.specs.Checks.{startOf, goalOf}
+use Rattle.floor.specs.Checks.{startOf, countOf, docksOf, dockOf, isDock}
 
 -- v lies within low to high.
 abbrev pub Within : ℕ → ℕ → ℕ → Type 0
@@ -25,9 +25,13 @@ FieldWithin f (suc (suc (suc (suc (suc i))))) = Within 0 1023 (f .walls)
 abbrev pub InGrid : Floor → ℕ → Type 0
 InGrid f c = c < f .width * f .height
 
--- Both cells of carrier i lie in the grid; wall j does.
+-- The dock count of carrier i is within its limits.
+abbrev pub CountWithin : Floor → ℕ → Type 0
+CountWithin f i = Within 1 4 (countOf f i)
+
+-- Carrier i has 1 to 4 docks, and its start and every dock lie in the grid; wall j does.
 abbrev pub CarrierInGrid : Floor → ℕ → Type 0
-CarrierInGrid f i = InGrid f (startOf f i) × InGrid f (goalOf f i)
+CarrierInGrid f i = CountWithin f i × (InGrid f (startOf f i) × All (λ (k : ℕ). InGrid f (dockOf f i k)) (countOf f i))
 
 abbrev pub WallInGrid : Floor → List ℕ → ℕ → Type 0
 WallInGrid f ws j = InGrid f (getD ws j 0)
@@ -44,13 +48,17 @@ Climbs xs m = (i j : ℕ) → i < j → j < m → getD xs i 0 < getD xs j 0
 abbrev pub Absent : List ℕ → ℕ → ℕ → Type 0
 Absent xs m c = All (λ (i : ℕ). getD xs i 0 ≡ c → ⊥) m
 
--- Neither the start nor the goal of carrier i is a wall.
+-- Neither the start nor a dock of carrier i is a wall.
 abbrev pub ClearOfWalls : Floor → List ℕ → ℕ → Type 0
-ClearOfWalls f ws i = Absent ws (f .walls) (startOf f i) × Absent ws (f .walls) (goalOf f i)
+ClearOfWalls f ws i = Absent ws (f .walls) (startOf f i) × All (λ (k : ℕ). Absent ws (f .walls) (dockOf f i k)) (countOf f i)
 
--- No earlier carrier has the start of carrier i, and none has its goal.
+-- No earlier carrier has the start of carrier i.
 abbrev pub Unshared : Floor → ℕ → Type 0
-Unshared f i = Absent (f .starts) i (startOf f i) × Absent (f .goals) i (goalOf f i)
+Unshared f i = Absent (f .starts) i (startOf f i)
+
+-- No dock of carrier i stands before in its list.
+abbrev pub Unrepeated : Floor → ℕ → Type 0
+Unrepeated f i = All (λ (k : ℕ). Absent (docksOf f i) k (dockOf f i k)) (countOf f i)
 
 -- What each check asks, in the order of the checks.
 abbrev pub Limited : Floor → Type 0
@@ -58,6 +66,9 @@ Limited f = All (FieldWithin f) 6
 
 abbrev pub Lent : Floor → List ℕ → Type 0
 Lent f ws = f .walls ≤ length ws
+
+abbrev pub Counted : Floor → Type 0
+Counted f = All (CountWithin f) (f .carriers)
 
 abbrev pub CarriersInGrid : Floor → Type 0
 CarriersInGrid f = All (CarrierInGrid f) (f .carriers)
@@ -74,6 +85,9 @@ Clear f ws = All (ClearOfWalls f ws) (f .carriers)
 abbrev pub Distinct : Floor → Type 0
 Distinct f = All (Unshared f) (f .carriers)
 
+abbrev pub AllUnrepeated : Floor → Type 0
+AllUnrepeated f = All (Unrepeated f) (f .carriers)
+
 -- A floor in which the checks find nothing.
 pub record Accepted (f : Floor) (ws : List ℕ) : Type 0 where
   pub limited : Limited f
@@ -83,9 +97,10 @@ pub record Accepted (f : Floor) (ws : List ℕ) : Type 0 where
   pub rising : Rising f ws
   pub clear : Clear f ws
   pub distinct : Distinct f
+  pub unrepeated : AllUnrepeated f
 
 -- Two records with their walls are the same floor: they agree in all that is part of it, which the places of a record past the
--- carrier count and of the walls past the wall count are not.
+-- carrier count, of a carrier's docks past its dock count and of the walls past the wall count are not.
 pub record SameFloor (f : Floor) (ws : List ℕ) (g : Floor) (vs : List ℕ) : Type 0 where
   pub width : f .width ≡ g .width
   pub height : f .height ≡ g .height
@@ -94,5 +109,18 @@ pub record SameFloor (f : Floor) (ws : List ℕ) (g : Floor) (vs : List ℕ) : T
   pub carriers : f .carriers ≡ g .carriers
   pub walls : f .walls ≡ g .walls
   pub starts : All (λ (i : ℕ). startOf f i ≡ startOf g i) (f .carriers)
-  pub goals : All (λ (i : ℕ). goalOf f i ≡ goalOf g i) (f .carriers)
+  pub counts : All (λ (i : ℕ). countOf f i ≡ countOf g i) (f .carriers)
+  pub docks : All (λ (i : ℕ). All (λ (k : ℕ). dockOf f i k ≡ dockOf g i k) (countOf f i)) (f .carriers)
   pub cells : All (λ (j : ℕ). getD ws j 0 ≡ getD vs j 0) (f .walls)
+
+-- Two records are floors that differ at most in the order of each carrier's docks.
+pub record SameDocks (f g : Floor) : Type 0 where
+  pub width : f .width ≡ g .width
+  pub height : f .height ≡ g .height
+  pub horizon : f .horizon ≡ g .horizon
+  pub depth : f .depth ≡ g .depth
+  pub carriers : f .carriers ≡ g .carriers
+  pub walls : f .walls ≡ g .walls
+  pub starts : All (λ (i : ℕ). startOf f i ≡ startOf g i) (f .carriers)
+  pub counts : All (λ (i : ℕ). countOf f i ≡ countOf g i) (f .carriers)
+  pub docks : All (λ (i : ℕ). (c : ℕ) → isDock f i c ≡ isDock g i c) (f .carriers)

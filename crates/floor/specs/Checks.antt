@@ -6,6 +6,7 @@ use mathlib.Core.List.{List}
 use lib.ListN.{length, getD}
 use lib.Dec.{leb, ltb, eqb}
 use Rattle.floor.specs.declared.Floor.{Floor}
+use Rattle.laws.specs.Memory.{part}
 use Rattle.laws.specs.Verdict.{Verdict, _then_, demand, demandEach}
 
 -- v lies within low to high.
@@ -30,22 +31,48 @@ roomOf needed lent = demand (leb needed lent) 9 0
 unfoldable pub lentOf : Floor → List ℕ → Verdict
 lentOf f ws = roomOf (f .walls) (length ws)
 
--- The start and the goal of a carrier, and the cell of a wall.
+-- The start of carrier i, and its dock count.
 unfoldable pub startOf : Floor → ℕ → ℕ
 startOf f i = getD (f .starts) i 0
 
-unfoldable pub goalOf : Floor → ℕ → ℕ
-goalOf f i = getD (f .goals) i 0
+unfoldable pub countOf : Floor → ℕ → ℕ
+countOf f i = getD (f .counts) i 0
+
+-- The four places of the docks of carrier i; those past its dock count are no part of the floor.
+unfoldable pub docksOf : Floor → ℕ → List ℕ
+docksOf f i = part (f .docks) (4 * i) 4
+
+-- Dock k of carrier i.
+unfoldable pub dockOf : Floor → ℕ → ℕ → ℕ
+dockOf f i k = getD (docksOf f i) k 0
+
+-- c is among the first m numbers of xs.
+unfoldable pub among : List ℕ → ℕ → ℕ → Bool
+among xs zero c = false
+among xs (suc m) c = among xs m c || eqb (getD xs m 0) c
+
+-- c is one of the docks of carrier i.
+unfoldable pub isDock : Floor → ℕ → ℕ → Bool
+isDock f i c = among (docksOf f i) (countOf f i) c
+
+-- Each of the first m tests holds.
+unfoldable pub every : ℕ → (ℕ → Bool) → Bool
+every zero p = true
+every (suc m) p = every m p && p m
 
 -- A cell number lies in the grid.
 unfoldable pub inGrid : Floor → ℕ → Bool
 inGrid f c = ltb c (f .width * f .height)
 
--- Both cells of carrier i lie in the grid.
-unfoldable pub carrierInGrid : Floor → ℕ → Bool
-carrierInGrid f i = inGrid f (startOf f i) && inGrid f (goalOf f i)
+-- Every dock of carrier i lies in the grid.
+unfoldable pub docksInGrid : Floor → ℕ → Bool
+docksInGrid f i = every (countOf f i) (λ k. inGrid f (dockOf f i k))
 
--- 3: every cell lies in the grid, the carriers' first (items 1 to n), then the walls'.
+-- Carrier i has 1 to 4 docks, and its start and every dock lie in the grid.
+unfoldable pub carrierInGrid : Floor → ℕ → Bool
+carrierInGrid f i = within 1 4 (countOf f i) && (inGrid f (startOf f i) && docksInGrid f i)
+
+-- 3: every dock count is within its limits and every cell lies in the grid, the carriers' first (items 1 to n), then the walls'.
 unfoldable pub carriersOf : Floor → Verdict
 carriersOf f = demandEach 3 1 (carrierInGrid f) (f .carriers)
 
@@ -61,30 +88,37 @@ rises ws (suc j) = ltb (getD ws j 0) (getD ws (suc j) 0)
 unfoldable pub risingOf : Floor → List ℕ → Verdict
 risingOf f ws = demandEach 4 (f .carriers + 1) (rises ws) (f .walls)
 
--- c is among the first m numbers of xs.
-unfoldable pub among : List ℕ → ℕ → ℕ → Bool
-among xs zero c = false
-among xs (suc m) c = among xs m c || eqb (getD xs m 0) c
+-- No dock of carrier i is a wall.
+unfoldable pub docksClear : Floor → List ℕ → ℕ → Bool
+docksClear f ws i = every (countOf f i) (λ k. not (among ws (f .walls) (dockOf f i k)))
 
--- Neither the start nor the goal of carrier i is a wall.
+-- Neither the start nor a dock of carrier i is a wall.
 unfoldable pub clearOfWalls : Floor → List ℕ → ℕ → Bool
-clearOfWalls f ws i = not (among ws (f .walls) (startOf f i)) && not (among ws (f .walls) (goalOf f i))
+clearOfWalls f ws i = not (among ws (f .walls) (startOf f i)) && docksClear f ws i
 
--- 5: no carrier starts or ends on a wall.
+-- 5: no carrier starts on a wall or has a dock on one.
 unfoldable pub clearOf : Floor → List ℕ → Verdict
 clearOf f ws = demandEach 5 1 (clearOfWalls f ws) (f .carriers)
 
--- No earlier carrier has the start of carrier i, and none has its goal.
+-- No earlier carrier has the start of carrier i.
 unfoldable pub unshared : Floor → ℕ → Bool
-unshared f i = not (among (f .starts) i (startOf f i)) && not (among (f .goals) i (goalOf f i))
+unshared f i = not (among (f .starts) i (startOf f i))
 
--- 6: no two carriers share a start, and no two share a goal.
+-- 6: no two carriers share a start.
 unfoldable pub distinctOf : Floor → Verdict
 distinctOf f = demandEach 6 1 (unshared f) (f .carriers)
 
--- The checks 3 to 6, which a sheet and a record have alike.
+-- No dock of carrier i stands before in its list.
+unfoldable pub unrepeated : Floor → ℕ → Bool
+unrepeated f i = every (countOf f i) (λ k. not (among (docksOf f i) k (dockOf f i k)))
+
+-- 17: no carrier has a dock twice in its list.
+unfoldable pub unrepeatedOf : Floor → Verdict
+unrepeatedOf f = demandEach 17 1 (unrepeated f) (f .carriers)
+
+-- The checks 3 to 6 and 17, which a sheet and a record have alike.
 unfoldable pub placesOf : Floor → List ℕ → Verdict
-placesOf f ws = carriersOf f then wallsOf f ws then risingOf f ws then clearOf f ws then distinctOf f
+placesOf f ws = carriersOf f then wallsOf f ws then risingOf f ws then clearOf f ws then distinctOf f then unrepeatedOf f
 
 -- All checks of a floor given as a record, in their order.
 unfoldable pub checkOf : Floor → List ℕ → Verdict

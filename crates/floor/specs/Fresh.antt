@@ -2,7 +2,7 @@
 use lib.ListN.{replicate}
 use Rattle.floor.specs.declared.Floor.{Floor}
 
--- One cell, one beat, one message, one carrier that is at its goal, no wall.
+-- One cell, one beat, one message, one carrier that is at its one dock, no wall.
 unfoldable pub freshFloor : Floor
 freshFloor =
     record {
@@ -13,5 +13,6 @@ freshFloor =
       carriers = 1;
       walls = 0;
       starts = replicate 8 0;
-      goals = replicate 8 0;
+      counts = replicate 8 1;
+      docks = replicate 32 0;
     }

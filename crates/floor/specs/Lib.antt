@@ -5,4 +5,5 @@ pub mod Answers
 pub mod Fresh
 pub mod Accepted
 pub mod Refused
+pub mod OneDock
 pub mod Claims

@@ -4,11 +4,13 @@ ghost use mathlib.Core.Path.{_≡_};
 ghost use mathlib.Core.Bool.{true};
 ghost use Prim.Native.Nat.{_+_, _≤_, _<_};
 ghost use lib.ListN.{length};
-ghost use Rattle.floor.specs.Accepted.{Climbs};
+ghost use Rattle.floor.specs.Accepted.{Climbs, Counted};
 ghost use Rattle.floor.specs.Answers.{verdictOf};
-ghost use Rattle.floor.specs.Checks.{inGrid, carrierInGrid, clearOfWalls, roomOf};
-ghost use Rattle.floor.specs.Checks.{carriersOf, wallsOf, risingOf, clearOf, distinctOf, placesOf};
-ghost use Rattle.floor.specs.Checks.{among as Checks·among, rises as Checks·rises, unshared as Checks·unshared};
+ghost use Rattle.floor.specs.Checks.{countOf, docksOf, within, inGrid, docksInGrid, carrierInGrid, roomOf};
+ghost use Rattle.floor.specs.Checks.{docksClear, clearOfWalls};
+ghost use Rattle.floor.specs.Checks.{carriersOf, wallsOf, risingOf, clearOf, distinctOf, unrepeatedOf, placesOf};
+ghost use Rattle.floor.specs.Checks.{among as Checks·among, rises as Checks·rises};
+ghost use Rattle.floor.specs.Checks.{unshared as Checks·unshared, unrepeated as Checks·unrepeated};
 use crate::Checked;
 use crate::Floor;
 use crate::Refusal;
@@ -49,19 +51,61 @@ fn in_grid(f: Floor, c: u16) -> bool
     c < f.width * f.height
 }
 
-// Whether both cells of carrier i lie in the grid.
+// The four places of the docks of carrier i.
+pub fn docks_of(f: Floor, i: usize) -> [u16; 4]
+    requires { ⌜ i < 8 ⌝ }
+    ensures { λ r. ⌜ r ≡ docksOf f i ⌝ }
+{
+    let docks = f.docks;
+    let at = 4 * i;
+    [docks[at], docks[at + 1], docks[at + 2], docks[at + 3]]
+}
+
+// Whether a dock count is within its limits.
+fn counted(count: u16) -> bool
+    ensures { λ r. ⌜ r ≡ within 1 4 count ⌝ }
+{
+    if count < 1 {
+        return false;
+    }
+    count <= Floor::MAX_DOCKS
+}
+
+// Whether every dock of carrier i lies in the grid.
+fn docks_inside(f: Floor, i: usize) -> bool
+    requires { ⌜ (f .width ≤ 32) × (f .height ≤ 32) ⌝ }
+    requires { ⌜ i < 8 ⌝ }
+    requires { ⌜ countOf f i ≤ 4 ⌝ }
+    ensures { λ r. ⌜ r ≡ docksInGrid f i ⌝ }
+{
+    let docks = docks_of(f, i);
+    let m = f.counts[i] as usize;
+    let mut k: usize = 0;
+    while k < m {
+        if !in_grid(f, docks[k]) {
+            return false;
+        }
+        k += 1;
+    }
+    true
+}
+
+// Whether carrier i has a dock count within its limits and its cells lie in the grid.
 fn carrier_inside(f: Floor, i: usize) -> bool
     requires { ⌜ (f .width ≤ 32) × (f .height ≤ 32) ⌝ }
     requires { ⌜ i < 8 ⌝ }
     ensures { λ r. ⌜ r ≡ carrierInGrid f i ⌝ }
 {
-    if in_grid(f, f.starts[i]) {
-        return in_grid(f, f.goals[i]);
+    if !counted(f.counts[i]) {
+        return false;
     }
-    false
+    if !in_grid(f, f.starts[i]) {
+        return false;
+    }
+    docks_inside(f, i)
 }
 
-// 3, for the carriers: both cells of each lie in the grid.
+// 3, for the carriers: each has a dock count within its limits, and its cells lie in the grid.
 fn carriers_inside(f: Floor) -> Checked
     requires { ⌜ (f .width ≤ 32) × (f .height ≤ 32) ⌝ }
     requires { ⌜ f .carriers ≤ 8 ⌝ }
@@ -155,9 +199,31 @@ fn is_wall(walls: &[u16], m: usize, c: u16) -> bool
     walls[low] == c
 }
 
-// Whether neither cell of carrier i is a wall.
+// Whether no dock of carrier i is a wall.
+fn docks_clear(f: Floor, walls: &[u16], i: usize) -> bool
+    requires { ⌜ i < 8 ⌝ }
+    requires { ⌜ countOf f i ≤ 4 ⌝ }
+    requires { ⌜ f .walls ≤ length (now walls) ⌝ }
+    requires { ⌜ Climbs (now walls) (f .walls) ⌝ }
+    ensures { λ r. ⌜ r ≡ docksClear f (now (walls .entry)) i ⌝ }
+{
+    let docks = docks_of(f, i);
+    let w = f.walls as usize;
+    let m = f.counts[i] as usize;
+    let mut k: usize = 0;
+    while k < m {
+        if is_wall(walls, w, docks[k]) {
+            return false;
+        }
+        k += 1;
+    }
+    true
+}
+
+// Whether neither the start nor a dock of carrier i is a wall.
 fn clear_of_walls(f: Floor, walls: &[u16], i: usize) -> bool
     requires { ⌜ i < 8 ⌝ }
+    requires { ⌜ countOf f i ≤ 4 ⌝ }
     requires { ⌜ f .walls ≤ length (now walls) ⌝ }
     requires { ⌜ Climbs (now walls) (f .walls) ⌝ }
     ensures { λ r. ⌜ r ≡ clearOfWalls f (now (walls .entry)) i ⌝ }
@@ -166,12 +232,13 @@ fn clear_of_walls(f: Floor, walls: &[u16], i: usize) -> bool
     if is_wall(walls, m, f.starts[i]) {
         return false;
     }
-    !is_wall(walls, m, f.goals[i])
+    docks_clear(f, walls, i)
 }
 
-// 5: no carrier starts or ends on a wall.
+// 5: no carrier starts on a wall or has a dock on one.
 fn clear(f: Floor, walls: &[u16]) -> Checked
     requires { ⌜ f .carriers ≤ 8 ⌝ }
+    requires { ⌜ Counted f ⌝ }
     requires { ⌜ f .walls ≤ length (now walls) ⌝ }
     requires { ⌜ Climbs (now walls) (f .walls) ⌝ }
     ensures { λ r. ⌜ verdictOf r ≡ clearOf f (now (walls .entry)) ⌝ }
@@ -190,22 +257,17 @@ fn clear(f: Floor, walls: &[u16]) -> Checked
     Checked::Passed
 }
 
-// Whether no carrier before carrier i has its start, and none has its goal.
+// Whether no carrier before carrier i has its start.
 fn unshared(f: Floor, i: usize) -> bool
     requires { ⌜ i < 8 ⌝ }
     ensures { λ r. ⌜ r ≡ Checks·unshared f i ⌝ }
 {
     let starts = f.starts;
     let start = starts[i];
-    if among(&starts, i, start) {
-        return false;
-    }
-    let goals = f.goals;
-    let goal = goals[i];
-    !among(&goals, i, goal)
+    !among(&starts, i, start)
 }
 
-// 6: no two carriers share a start, and no two share a goal.
+// 6: no two carriers share a start.
 fn distinct(f: Floor) -> Checked
     requires { ⌜ f .carriers ≤ 8 ⌝ }
     ensures { λ r. ⌜ verdictOf r ≡ distinctOf f ⌝ }
@@ -224,7 +286,46 @@ fn distinct(f: Floor) -> Checked
     Checked::Passed
 }
 
-// 3 to 6, in this order.
+// Whether no cell is twice among the docks of carrier i.
+fn unrepeated(f: Floor, i: usize) -> bool
+    requires { ⌜ i < 8 ⌝ }
+    requires { ⌜ countOf f i ≤ 4 ⌝ }
+    ensures { λ r. ⌜ r ≡ Checks·unrepeated f i ⌝ }
+{
+    let docks = docks_of(f, i);
+    let m = f.counts[i] as usize;
+    let mut k: usize = 0;
+    while k < m {
+        let dock = docks[k];
+        if among(&docks, k, dock) {
+            return false;
+        }
+        k += 1;
+    }
+    true
+}
+
+// 17: no carrier has a dock twice in its list.
+fn all_unrepeated(f: Floor) -> Checked
+    requires { ⌜ f .carriers ≤ 8 ⌝ }
+    requires { ⌜ Counted f ⌝ }
+    ensures { λ r. ⌜ verdictOf r ≡ unrepeatedOf f ⌝ }
+{
+    let n = f.carriers as usize;
+    let mut i: usize = 0;
+    while i < n {
+        if !unrepeated(f, i) {
+            return Checked::Refused(Refusal {
+                number: 17,
+                place: 1 + i,
+            });
+        }
+        i += 1;
+    }
+    Checked::Passed
+}
+
+// 3 to 6 and 17, in this order.
 pub fn places(f: Floor, walls: &[u16]) -> Checked
     requires { ⌜ (f .width ≤ 32) × (f .height ≤ 32) ⌝ }
     requires { ⌜ f .carriers ≤ 8 ⌝ }
@@ -247,5 +348,9 @@ pub fn places(f: Floor, walls: &[u16]) -> Checked
     let Checked::Passed = off else {
         return off;
     };
-    distinct(f)
+    let apart = distinct(f);
+    let Checked::Passed = apart else {
+        return apart;
+    };
+    all_unrepeated(f)
 }

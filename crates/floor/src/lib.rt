@@ -1,9 +1,10 @@
-// The floor of document 01: the record, its limits, and the checks 2 to 6 of a floor given as a record (with 9 for
+// The floor of document 01: the record, its limits, and the checks 2 to 6 and 17 of a floor given as a record (with 9 for
 // walls that are counted and not lent). Knows nothing of text, routes or messages.
 mod bounds;
 mod checks;
 
 pub use bounds::limits;
+pub use checks::docks_of;
 pub use checks::room;
 ghost use mathlib.Core.Path.{_≡_};
 ghost use Rattle.floor.specs.Answers.{verdictOf};
@@ -11,8 +12,9 @@ ghost use Rattle.floor.specs.Checks.{checkOf};
 ghost use Rattle.floor.specs.Fresh.{freshFloor};
 
 // A floor by value. Cells are cell numbers, row × width + column; the walls lie in a slice that the caller lends,
-// by strictly rising cell number. Places of starts and goals past the carrier count are no part of the floor, and
-// neither are walls past the wall count.
+// by strictly rising cell number. A carrier may end at any of its docks: those of carrier i, counted from 0, are at 4 × i
+// and on, as many as its dock count says. Places past the carrier count, a dock count or the wall count are no part of the
+// floor.
 pub struct Floor {
     pub width: u16,
     pub height: u16,
@@ -21,7 +23,8 @@ pub struct Floor {
     pub carriers: u16,
     pub walls: u16,
     pub starts: [u16; 8],
-    pub goals: [u16; 8],
+    pub counts: [u16; 8],
+    pub docks: [u16; 32],
 }
 
 impl Floor {
@@ -38,7 +41,9 @@ impl Floor {
 
     pub const MAX_WALLS: u16 = 1023;
 
-    // The smallest floor: one cell, one beat, one message, one carrier that is at its goal, no wall.
+    pub const MAX_DOCKS: u16 = 4;
+
+    // The smallest floor: one cell, one beat, one message, one carrier that is at its one dock, no wall.
     pub fn fresh() -> Self
         ensures { λ r. ⌜ r ≡ freshFloor ⌝ }
     {
@@ -50,7 +55,8 @@ impl Floor {
             carriers: 1,
             walls: 0,
             starts: [0; 8],
-            goals: [0; 8],
+            counts: [1; 8],
+            docks: [0; 32],
         }
     }
 }
@@ -69,7 +75,8 @@ pub enum Checked {
     Refused(Refusal),
 }
 
-// Checks a floor given as a record, with its walls: 2, then 9 if fewer walls are lent than counted, then 3, 4, 5, 6.
+// Checks a floor given as a record, with its walls: 2, then 9 if fewer walls are lent than counted, then 3, 4, 5, 6,
+// 17.
 pub fn check(f: Floor, walls: &[u16]) -> Checked
     ensures { λ r. ⌜ verdictOf r ≡ checkOf f (now (walls .entry)) ⌝ }
 {

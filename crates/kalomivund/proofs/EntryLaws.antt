@@ -12,20 +12,20 @@ use Rattle.wire.specs.Record.{recordLent}
 use Rattle.kalomivund.specs.Entries.{wordFor, storedFor, readLent}
 
 -- The word and the memory are those of the call.
-pub says-lent : {w : ℕ} (xs : List ℕ) (o : Outcome Done) → 22 ≤ length xs → w ≡ wordOf o → w ≡ wordFor xs o
+pub says-lent : {w : ℕ} (xs : List ℕ) (o : Outcome Done) → 54 ≤ length xs → w ≡ wordOf o → w ≡ wordFor xs o
 unfolding wordFor _thenAnswers_ recordLent roomOf demand
-says-lent xs o l e = rw (le-leb 22 (length xs) l) e
+says-lent xs o l e = rw (le-leb 54 (length xs) l) e
 
-pub stores-lent : {m new : List ℕ} (xs old : List ℕ) → 22 ≤ length xs → m ≡ new → m ≡ storedFor xs new old
+pub stores-lent : {m new : List ℕ} (xs old : List ℕ) → 54 ≤ length xs → m ≡ new → m ≡ storedFor xs new old
 unfolding storedFor whenPassed recordLent roomOf demand
-stores-lent xs old l e = rw (le-leb 22 (length xs) l) e
+stores-lent xs old l e = rw (le-leb 54 (length xs) l) e
 
 -- The word of an entry whose answer is packed, and the same for an entry on the floor that the numbers say.
 pub says-told : {A : Type 0} {w : ℕ} {told a : Outcome A} (h : A → Done) → w ≡ wordOf (mapOutcome h told) → told ≡ a
     → w ≡ wordOf (mapOutcome h a)
 says-told h s e = rw e at s
 
-pub says-packed : {A : Type 0} {w : ℕ} {told a : Outcome A} (h : A → Done) (xs : List ℕ) → 22 ≤ length xs
+pub says-packed : {A : Type 0} {w : ℕ} {told a : Outcome A} (h : A → Done) (xs : List ℕ) → 54 ≤ length xs
     → w ≡ wordOf (mapOutcome h told) → told ≡ a → w ≡ wordFor xs (mapOutcome h a)
 says-packed h xs l s e = says-lent xs _ l (says-told h s e)
 
@@ -43,13 +43,13 @@ says-case o h w x v e s = rw e s
 pub ruleset handed-on = (says-packed, told-checks, stores-lent)
 
 -- The word is the refusal's, 9, 0, and the memory is as it was.
-pub says-short : {w : ℕ} (xs : List ℕ) (o : Outcome Done) → length xs < 22 → w ≡ wordOf (refusal 9 0) → w ≡ wordFor xs o
+pub says-short : {w : ℕ} (xs : List ℕ) (o : Outcome Done) → length xs < 54 → w ≡ wordOf (refusal 9 0) → w ≡ wordFor xs o
 unfolding wordFor _thenAnswers_ recordLent roomOf demand
-says-short xs o l e = rw (lt-leb 22 (length xs) l) e
+says-short xs o l e = rw (lt-leb 54 (length xs) l) e
 
-pub stores-short : (xs new old : List ℕ) → length xs < 22 → old ≡ storedFor xs new old
+pub stores-short : (xs new old : List ℕ) → length xs < 54 → old ≡ storedFor xs new old
 unfolding storedFor whenPassed recordLent roomOf demand
-stores-short xs new old l = rw (lt-leb 22 (length xs) l) refl
+stores-short xs new old l = rw (lt-leb 54 (length xs) l) refl
 
 -- What is answered to a record that is too short.
 pub ruleset too-short = (says-short, stores-short)
@@ -68,10 +68,10 @@ then-nothing (refused k p) = refl
 
 -- Reading a sheet into a record that is too short, and into one of enough numbers.
 module _ (text : List ℕ) {lent : ℕ} (room : ℕ) where
-  pub read-short : lent < 22 → readLent text lent room ≡ (readVerdict text room then refused 9 0)
+  pub read-short : lent < 54 → readLent text lent room ≡ (readVerdict text room then refused 9 0)
   unfolding readLent roomOf demand
-  read-short l = rw (lt-leb 22 lent l) refl
+  read-short l = rw (lt-leb 54 lent l) refl
 
-  pub read-long : 22 ≤ lent → readLent text lent room ≡ readVerdict text room
+  pub read-long : 54 ≤ lent → readLent text lent room ≡ readVerdict text room
   unfolding readLent roomOf demand
-  read-long l = rw (le-leb 22 lent l) (then-nothing (readVerdict text room))
+  read-long l = rw (le-leb 54 lent l) (then-nothing (readVerdict text room))

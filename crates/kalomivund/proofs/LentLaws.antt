@@ -16,7 +16,7 @@ use Rattle.floor.specs.Checks.{checkOf}
 use Rattle.floor.proofs.LimitsLaws.{check-tells}
 use Rattle.route.specs.Route.{Answer, none, route}
 use Rattle.sheet.specs.Text.{sheetOf, sheetLength}
-use Rattle.sheet.specs.Values.{floorAt, wallsAt, cellsAt}
+use Rattle.sheet.specs.Values.{floorAt, wallsAt, startsAt, countsAt, docksAt}
 use Rattle.sheet.specs.Read.{writeVerdict, writeSheet}
 use Rattle.sheet.proofs.ListedLaws.{listed-length}
 use Rattle.sheet.proofs.FormLaws.{walls-length}
@@ -43,15 +43,15 @@ use Rattle.kalomivund.specs.Entries.{planWord, planStored, printWord, pr
 use Rattle.kalomivund.specs.Claims.{Lent}
 use Rattle.kalomivund.proofs.KeepLaws.{done-not-refused, checked-lent, record-lent}
 
--- A record that is read has 22 numbers.
-record-size : (text : List ℕ) → length (numbersOf (floorAt text)) ≡ 22
-unfolding numbersOf floorAt cellsAt
+-- A record that is read has 54 numbers.
+record-size : (text : List ℕ) → length (numbersOf (floorAt text)) ≡ 54
+unfolding numbersOf floorAt startsAt countsAt docksAt
 record-size text = simp (length-append, listed-length) refl
 
-pub read-record : (text xs : List ℕ) (room : ℕ) → Lent 22 (readWord text (length xs) room) (readRecord text xs room) xs
+pub read-record : (text xs : List ℕ) (room : ℕ) → Lent 54 (readWord text (length xs) room) (readRecord text xs room) xs
 unfolding readWord readRecord ofNumber
 read-record text xs room =
-    checked-lent (done 0) (readLent text (length xs) room) 0 _ xs (λ e. put-beyond xs _ 22 (omega (arith, record-size text)))
+    checked-lent (done 0) (readLent text (length xs) room) 0 _ xs (λ e. put-beyond xs _ 54 (omega (arith, record-size text)))
 
 pub read-walls : (text old : List ℕ) (lent : ℕ)
     → Lent (floorAt text .walls) (readWord text lent (length old)) (readStored text lent old) old

@@ -24,15 +24,15 @@ use Rattle.laws.proofs.VerdictLaws.{given-refusal}
 behind-short : (v : Verdict) (needed lent : ℕ) → v ≡ passed → ((v then roomOf needed lent) ≡ refused 9 0) ↔ (lent < needed)
 behind-short v needed lent ok = rw (then-passed {w = roomOf needed lent} ok) (room-means needed lent)
 
-pub record-short : (xs : List ℕ) → (recordLent xs ≡ refused 9 0) ↔ (length xs < 22)
+pub record-short : (xs : List ℕ) → (recordLent xs ≡ refused 9 0) ↔ (length xs < 54)
 unfolding recordLent
-record-short xs = room-means 22 (length xs)
+record-short xs = room-means 54 (length xs)
 
 pub read-record-short : (text : List ℕ) (lent room : ℕ) → sheetVerdict text ≡ passed → floorAt text .walls ≤ room
-    → (readLent text lent room ≡ refused 9 0) ↔ (lent < 22)
+    → (readLent text lent room ≡ refused 9 0) ↔ (lent < 54)
 unfolding readLent readVerdict roomOf
 read-record-short text lent room ok l =
-    behind-short (readVerdict text room) 22 lent (then-passed ok ∙ demand-passes 9 0 (le-leb _ _ l))
+    behind-short (readVerdict text room) 54 lent (then-passed ok ∙ demand-passes 9 0 (le-leb _ _ l))
 
 pub figures-short : (f : Floor) (room : ℕ) → limitsOf f ≡ passed → (neededVerdict f room ≡ refused 9 0) ↔ (room < 9)
 unfolding neededVerdict

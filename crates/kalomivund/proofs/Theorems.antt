@@ -72,5 +72,6 @@ theorems =
       small-word = refl;
       rank-word = refl;
       has-route-word = refl;
+      dock-twice-word = refl;
       ceiling-words = (refl, refl, refl);
     }

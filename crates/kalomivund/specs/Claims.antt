@@ -89,8 +89,8 @@ pub record Claims : Type 0 where
   -- Who shuts a carrier in: carriers 1 and 3 as a set, the bits 0 and 2 of the number from bit 16 on; walls or the horizon.
   pub set-word : wordOf (ofNumber (value 5)) ≡ 65536 * 5
   pub cause-word : wordOf (ofNumber (value 0)) ≡ 0
-  -- Refusal 8, 0; 9, 0; 11, 0; 12, carrier 2; 13, carrier 3; 14, 0; 15, 0; 16, 0; the ceiling of three carriers, 11; refusal 2, field 5, of
-  -- none and of nine.
+  -- Refusal 8, 0; 9, 0; 11, 0; 12, carrier 2; 13, carrier 3; 14, 0; 15, 0; 16, 0; 17, carrier 2; the ceiling of three carriers, 11;
+  -- refusal 2, field 5, of none and of nine.
   pub early-word : wordOf (refusal 8 0) ≡ 1 + 256 * 8
   pub short-word : wordOf (refusal 9 0) ≡ 1 + 256 * 9
   pub order-word : wordOf (refusal 11 0) ≡ 1 + 256 * 11
@@ -99,4 +99,5 @@ pub record Claims : Type 0 where
   pub small-word : wordOf (refusal 14 0) ≡ 1 + 256 * 14
   pub rank-word : wordOf (refusal 15 0) ≡ 1 + 256 * 15
   pub has-route-word : wordOf (refusal 16 0) ≡ 1 + 256 * 16
+  pub dock-twice-word : wordOf (refusal 17 2) ≡ 1 + 256 * 17 + 65536 * 2
   pub ceiling-words : (ceilingWord 3 ≡ 65536 * 11) × (ceilingWord 0 ≡ 1 + 256 * 2 + 65536 * 5) × (ceilingWord 9 ≡ 1 + 256 * 2 + 65536 * 5)

@@ -35,7 +35,7 @@ storedFor xs new old = whenPassed (recordLent xs) new old
 
 -- Reading a sheet into a record and wall memory of so many numbers: the sheet's refusals, then 9 for either.
 unfoldable pub readLent : List ℕ → ℕ → ℕ → Verdict
-readLent text lent room = readVerdict text room then roomOf 22 lent
+readLent text lent room = readVerdict text room then roomOf 54 lent
 
 -- `kalomivund_read_sheet`: the word, the floor record and the wall memory.
 unfoldable pub readWord : List ℕ → ℕ → ℕ → ℕ

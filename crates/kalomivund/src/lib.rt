@@ -1,7 +1,7 @@
 // The boundary to C and Rust: each entry of the library as an exported function over numbers and slices, none with a `requires`.
-// A floor record is 22 numbers: width, height, horizon, depth, carriers, walls, eight starts, eight goals. Every function answers
-// one word: low byte 0 done or 1 refused, the next byte the case or the refusal, then the number or the place. Nothing is decided
-// here: each function hands its slices to the entry of its name and packs the answer.
+// A floor record is 54 numbers: width, height, horizon, depth, carriers, walls, eight starts, eight dock counts, thirty-two docks (four
+// places a carrier). Every function answers one word: low byte 0 done or 1 refused, the next byte the case or the refusal, then the
+// number or the place. Nothing is decided here: each function hands its slices to the entry of its name and packs the answer.
 mod answers;
 
 ghost use mathlib.Core.Path.{_≡_};
@@ -42,7 +42,7 @@ pub extern "C" fn kalomivund_ceiling(carriers: u16) -> u64
 pub extern "C" fn kalomivund_check_floor(f: &[u16], walls: &[u16]) -> u64
     ensures { λ r. ⌜ r ≡ checkWord (now (f .entry)) (now (walls .entry)) ⌝ }
 {
-    if f.len() < 22 {
+    if f.len() < 54 {
         return word::too_short();
     }
     word::of_check(floor::check(numbers::floor_of(f), walls), 0)
@@ -55,7 +55,7 @@ pub extern "C" fn kalomivund_read_sheet(text: &[u8], f: &mut [u16], walls: &mut 
     ensures records { λ r. ⌜ now (f .exit) ≡ readRecord (now (text .entry)) (now (f .entry)) (length (now (walls .entry))) ⌝ }
     ensures stores { λ r. ⌜ now (walls .exit) ≡ readStored (now (text .entry)) (length (now (f .entry))) (now (walls .entry)) ⌝ }
 {
-    if f.len() < 22 {
+    if f.len() < 54 {
         return word::of_check_in_short(sheet::check(text, walls.len()));
     }
     let reading = sheet::read(text, walls);
@@ -74,7 +74,7 @@ pub extern "C" fn kalomivund_write_sheet(f: &[u16], walls: &[u16], out: &mut [u8
     ensures says { λ r. ⌜ r ≡ writeWord (now (f .entry)) (now (walls .entry)) (length (now (out .entry))) ⌝ }
     ensures stores { λ r. ⌜ now (out .exit) ≡ writeStored (now (f .entry)) (now (walls .entry)) (now (out .entry)) ⌝ }
 {
-    if f.len() < 22 {
+    if f.len() < 54 {
         return word::too_short();
     }
     let found = numbers::floor_of(f);
@@ -111,7 +111,7 @@ pub extern "C" fn kalomivund_needed_lengths(f: &[u16], out: &mut [u64]) -> u64
     ensures says { λ r. ⌜ r ≡ neededWord (now (f .entry)) (length (now (out .entry))) ⌝ }
     ensures stores { λ r. ⌜ now (out .exit) ≡ neededStored (now (f .entry)) (now (out .entry)) ⌝ }
 {
-    if f.len() < 22 {
+    if f.len() < 54 {
         return word::too_short();
     }
     let needed = lengths::needed_lengths(numbers::floor_of(f));
@@ -158,7 +158,7 @@ pub extern "C" fn kalomivund_search(
     ensures stores { λ r. ⌜ now (route .exit)
         ≡ searchStored (now (f .entry)) (now (walls .entry)) carrier (now (views .entry)) (now (route .entry)) ⌝ }
 {
-    if f.len() < 22 {
+    if f.len() < 54 {
         return word::too_short();
     }
     let found = numbers::floor_of(f);
@@ -174,7 +174,7 @@ pub extern "C" fn kalomivund_plan(f: &[u16], walls: &[u16], answers: &mut [u16])
     ensures says { λ r. ⌜ r ≡ planWord (now (f .entry)) (now (walls .entry)) (length (now (answers .entry))) ⌝ }
     ensures stores { λ r. ⌜ now (answers .exit) ≡ planStored (now (f .entry)) (now (walls .entry)) (now (answers .entry)) ⌝ }
 {
-    if f.len() < 22 {
+    if f.len() < 54 {
         return word::too_short();
     }
     answers::of_plan(planner::plan(numbers::floor_of(f), walls, answers))
@@ -195,7 +195,7 @@ pub extern "C" fn kalomivund_fresh(f: &[u16], walls: &[u16], state: &mut [u16]) 
     ensures says { λ r. ⌜ r ≡ freshWord (now (f .entry)) (now (walls .entry)) (length (now (state .entry))) ⌝ }
     ensures stores { λ r. ⌜ now (state .exit) ≡ freshStored (now (f .entry)) (now (walls .entry)) (now (state .entry)) ⌝ }
 {
-    if f.len() < 22 {
+    if f.len() < 54 {
         return word::too_short();
     }
     word::of_check(machine::fresh(numbers::floor_of(f), walls, state), 0)
@@ -207,7 +207,7 @@ pub extern "C" fn kalomivund_step(f: &[u16], walls: &[u16], state: &mut [u16], s
     ensures says { λ r. ⌜ r ≡ stepWord (now (f .entry)) (now (walls .entry)) (now (state .entry)) step ⌝ }
     ensures stores { λ r. ⌜ now (state .exit) ≡ stepStored (now (f .entry)) (now (walls .entry)) (now (state .entry)) step ⌝ }
 {
-    if f.len() < 22 {
+    if f.len() < 54 {
         return word::too_short();
     }
     answers::of_step(machine::step(numbers::floor_of(f), walls, state, step))
@@ -226,7 +226,7 @@ pub extern "C" fn kalomivund_run(
     ensures stores { λ r. ⌜ now (state .exit)
         ≡ runStored (now (f .entry)) (now (walls .entry)) (now (state .entry)) (now (steps .entry)) budget ⌝ }
 {
-    if f.len() < 22 {
+    if f.len() < 54 {
         return word::too_short();
     }
     answers::of_run(machine::run(numbers::floor_of(f), walls, state, steps, budget))
@@ -249,7 +249,7 @@ pub extern "C" fn kalomivund_trial(
     ensures reports { λ r. ⌜ now (report .exit) ≡ trialReportStored (now (f .entry)) (now (walls .entry)) order seed
         (length (now (state .entry))) (now (report .entry)) ⌝ }
 {
-    if f.len() < 22 {
+    if f.len() < 54 {
         return word::too_short();
     }
     answers::of_trial(trial::trial(numbers::floor_of(f), walls, order, seed, state, report))
@@ -266,7 +266,7 @@ pub extern "C" fn kalomivund_run_of_rank(
     ensures says { λ r. ⌜ r ≡ rankWord (now (f .entry)) (now (walls .entry)) rank (length (now (report .entry))) ⌝ }
     ensures reports { λ r. ⌜ now (report .exit) ≡ rankStored (now (f .entry)) (now (walls .entry)) rank (now (report .entry)) ⌝ }
 {
-    if f.len() < 22 {
+    if f.len() < 54 {
         return word::too_short();
     }
     answers::of_listed(lister::run_of_rank(numbers::floor_of(f), walls, rank, report))
@@ -293,7 +293,7 @@ pub extern "C" fn kalomivund_blockers(
     ensures says { λ r. ⌜ r ≡ blockersWord (now (f .entry)) (now (walls .entry)) carrier (length (now (answers .entry))) ⌝ }
     ensures stores { λ r. ⌜ now (answers .exit) ≡ blockersStored (now (f .entry)) (now (walls .entry)) carrier (now (answers .entry)) ⌝ }
 {
-    if f.len() < 22 {
+    if f.len() < 54 {
         return word::too_short();
     }
     answers::of_blocked(blockers::blockers(numbers::floor_of(f), walls, carrier, answers))

@@ -17,7 +17,7 @@ figuresOf (Known l) = value l
 figuresOf (Refused r) = refusal (r .number) (r .place)
 
 -- As many cell numbers as the floor has walls, the sheet's length in bytes, 65 numbers a carrier for answers or views, 11 bytes and
--- 331 a carrier for printed routes, the numbers of the machine's state, 64 cells of a route, 22 numbers of a floor record, as many
+-- 331 a carrier for printed routes, the numbers of the machine's state, 64 cells of a route, 54 numbers of a floor record, as many
 -- numbers as there are figures, and the numbers of a trial's report.
 unfoldable pub lengthsOf : Floor → Lengths
 lengthsOf f =
@@ -28,7 +28,7 @@ lengthsOf f =
       text = textLength f;
       state = stateSize (f .carriers);
       route = 64;
-      floor = 22;
+      floor = 54;
       figures = 9;
       report = reportSize (f .carriers);
     }

@@ -59,7 +59,7 @@ pub fn needed_lengths(f: Floor) -> Needed
             text: printing::text_length(f),
             state: state::state_size(f.carriers as usize),
             route: 64,
-            floor: 22,
+            floor: 54,
             figures: 9,
             report: report_length(f.carriers as usize),
         });

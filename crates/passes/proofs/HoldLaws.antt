@@ -1,4 +1,4 @@
--- The last number that fails a test.
+-- The least number from which all below another pass a test.
 use Prim.Native.Nat.{ℕ, zero, suc, _-_, _≤_, _<_}
 use native.Mathlib.Omega.{arith}
 use native.Mathlib.Nat.{eq-or-lt-of-le}
@@ -6,41 +6,45 @@ use mathlib.Core.Bool.{Bool, true, false}
 use mathlib.Core.Logic.{⊎-elim}
 use mathlib.Core.Path.{_≡_, refl}
 use Rattle.laws.proofs.Tests.{lt-or-le, true-false-absurd}
-use Rattle.passes.specs.Passes.{lastNot}
+use Rattle.passes.specs.Docks.{heldFrom}
 
 module _ (p : ℕ → Bool) where
-  pub last-says : (a n : ℕ) → lastNot p n ≤ a → (t : ℕ) → a ≤ t → t < n → p (suc t) ≡ true
-  unfolding lastNot
-  last-says a zero h t l u = absurd (omega arith)
-  last-says a (suc n) h t l u = cases (p (suc n)) refl h (last-says a n)
+  pub held-says : (a n : ℕ) → heldFrom p n ≤ a → (t : ℕ) → a ≤ t → t < n → p t ≡ true
+  unfolding heldFrom
+  held-says a zero h t l u = absurd (omega arith)
+  held-says a (suc n) h t l u = cases (p n) refl h (held-says a n)
     where
-      cases : (b : Bool) → p (suc n) ≡ b → elim b [ true ↦ lastNot p n | false ↦ suc n ] ≤ a →
-          (lastNot p n ≤ a → (t : ℕ) → a ≤ t → t < n → p (suc t) ≡ true) → p (suc t) ≡ true
+      cases : (b : Bool) → p n ≡ b → elim b [ true ↦ heldFrom p n | false ↦ suc n ] ≤ a →
+          (heldFrom p n ≤ a → (t : ℕ) → a ≤ t → t < n → p t ≡ true) → p t ≡ true
       cases true e q ih = ⊎-elim (λ (s : t ≡ n). rw s e) (λ (s : t < n). ih q t l s) (eq-or-lt-of-le (omega arith))
       cases false e q ih = absurd (omega arith)
 
-  pub last-least : (a n : ℕ) → ((t : ℕ) → a ≤ t → t < n → p (suc t) ≡ true) → lastNot p n ≤ a
-  unfolding lastNot
-  last-least a zero h = omega arith
-  last-least a (suc n) h = cases (p (suc n)) refl (last-least a n (λ t l u. h t l (omega arith)))
+  pub held-least : (a n : ℕ) → ((t : ℕ) → a ≤ t → t < n → p t ≡ true) → heldFrom p n ≤ a
+  unfolding heldFrom
+  held-least a zero h = omega arith
+  held-least a (suc n) h = cases (p n) refl (held-least a n (λ t l u. h t l (omega arith)))
     where
-      cases : (b : Bool) → p (suc n) ≡ b → lastNot p n ≤ a → elim b [ true ↦ lastNot p n | false ↦ suc n ] ≤ a
+      cases : (b : Bool) → p n ≡ b → heldFrom p n ≤ a → elim b [ true ↦ heldFrom p n | false ↦ suc n ] ≤ a
       cases true e ih = ih
       cases false e ih = ⊎-elim (λ (s : n < a). s) (λ (s : a ≤ n). absurd (true-false-absurd (h n s (omega arith)) e)) (lt-or-le n a)
 
   -- The turns of the loop that looks for it, downwards.
-  pub last-below : (n : ℕ) → 0 < n → p n ≡ true → lastNot p n ≡ lastNot p (n - 1)
-  unfolding lastNot
-  last-below zero l h = absurd (omega arith)
-  last-below (suc n) l h =
+  pub held-below : (n : ℕ) → 0 < n → p (n - 1) ≡ true → heldFrom p n ≡ heldFrom p (n - 1)
+  unfolding heldFrom
+  held-below zero l h = absurd (omega arith)
+  held-below (suc n) l h =
       let z : suc n - 1 ≡ n = omega arith in
-      rw (z, h, lastNot)
+      let e : p n ≡ true = rw z at h in
+      rw (z, e, heldFrom)
 
-  pub last-here : (n : ℕ) → 0 < n → p n ≡ false → lastNot p n ≡ n
-  unfolding lastNot
-  last-here zero l h = absurd (omega arith)
-  last-here (suc n) l h = rw (h, lastNot)
+  pub held-here : (n : ℕ) → 0 < n → p (n - 1) ≡ false → heldFrom p n ≡ n
+  unfolding heldFrom
+  held-here zero l h = absurd (omega arith)
+  held-here (suc n) l h =
+      let z : suc n - 1 ≡ n = omega arith in
+      let e : p n ≡ false = rw z at h in
+      rw (e, heldFrom)
 
-  pub last-none : lastNot p 0 ≡ 0
-  unfolding lastNot
-  last-none = refl
+  pub held-none : heldFrom p 0 ≡ 0
+  unfolding heldFrom
+  held-none = refl

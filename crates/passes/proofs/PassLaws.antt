@@ -2,17 +2,18 @@
 use Prim.Native.Nat.{ℕ, _+_, _≤_, _<_}
 use native.Mathlib.Omega.{arith}
 use native.Mathlib.Nat.{eq-or-lt-of-le}
-use mathlib.Core.Bool.{Bool, true, false, _&&_}
+use mathlib.Core.Bool.{Bool, true, false}
 use mathlib.Core.List.{List}
 use mathlib.Core.Logic.{⊎-elim}
-use mathlib.Core.Path.{_≡_, sym, _∙_}
-use borrow.Author.Tests.{le-leb, lt-leb}
-use lib.Dec.{leb}
+use mathlib.Core.Path.{_≡_, refl, sym, ap, fun-ext, _∙_}
+use lib.ListN.{getD}
 use Rattle.laws.proofs.Tests.{true-false-absurd}
 use Rattle.tables.specs.declared.Scene.{Scene}
-use Rattle.tables.specs.Table.{inSet}
+use Rattle.tables.specs.Table.{inSet, Tidy}
 use Rattle.tables.specs.Step.{ChangedAt, Alone, Beside, Spread}
-use Rattle.passes.specs.Passes.{Reached, Leading, Earliest, arrivable}
+use Rattle.passes.specs.Passes.{Reached, Leading, Earliest}
+use Rattle.passes.specs.declared.docks.Docks.{Docks}
+use Rattle.passes.specs.Docks.{anyOf, arrivableAt, arrivable, EndsAt}
 
 module _ (g : Scene) (room s q : List ℕ) (n : ℕ) (only : ChangedAt g s n q) where
   -- What is said of other beats stays.
@@ -51,45 +52,54 @@ reached-more g room s q start n x only new =
 pub reached-fewer : (g : Scene) (room s : List ℕ) (start n m : ℕ) → m ≤ n → Reached g room start n s → Reached g room start m s
 reached-fewer g room s start n m h x = record { tidy = x .tidy; begins = x .begins; spreads = λ t l. x .spreads t (omega arith) }
 
--- The backward pass: the goal alone, then one set more before.
-pub leading-none : (g : Scene) (room s q : List ℕ) (goal a : ℕ) → ChangedAt g s a q → Alone g q a goal → Leading g room goal a a q
-leading-none g room s q goal a only alone = record { tidy = only .tidy; ends = alone; spreads = λ t h l. absurd (omega arith) }
+-- The backward pass from the set that s has at beat a: q has it then, and its sets from beat n on lead there.
+pub record Led (g : Scene) (room : List ℕ) (a n : ℕ) (s q : List ℕ) : Type 0 where
+  pub tidy : Tidy g q
+  pub kept : (c : ℕ) → inSet g q a c ≡ inSet g s a c
+  pub spreads : (t : ℕ) → n ≤ t → t < a → Spread g room q (t + 1) t
 
-pub leading-more : (g : Scene) (room s q : List ℕ) (goal a n : ℕ) → n < a → Leading g room goal a (n + 1) s → ChangedAt g s n q →
-    Spread g room q (n + 1) n → Leading g room goal a n q
-leading-more g room s q goal a n early x only new =
+-- Nothing yet, then one set more before, and the set of beat a being the docks.
+pub led-none : (g : Scene) (room s : List ℕ) (a : ℕ) → Tidy g s → Led g room a a s s
+led-none g room s a tidy = record { tidy = tidy; kept = λ c. refl; spreads = λ t h l. absurd (omega arith) }
+
+pub led-more : (g : Scene) (room s p q : List ℕ) (a n : ℕ) → n < a → Led g room a (n + 1) s p → ChangedAt g p n q →
+    Spread g room q (n + 1) n → Led g room a n s q
+led-more g room s p q a n early x only new =
     record {
       tidy = only .tidy;
-      ends = alone-kept g room s q n only a goal (λ e. omega arith) (x .ends);
+      kept = λ c. only .other a c (λ e. omega arith) ∙ x .kept c;
       spreads = λ t h l. ⊎-elim (λ (e : n ≡ t). rw (← e) new)
-          (λ (e : n < t). spread-kept g room s q n only (t + 1) t (λ u. omega arith) (λ u. omega arith) (x .spreads t (omega arith) l))
+          (λ (e : n < t). spread-kept g room p q n only (t + 1) t (λ u. omega arith) (λ u. omega arith) (x .spreads t (omega arith) l))
           (eq-or-lt-of-le h);
     }
 
--- Before beat `hold` nothing arrives, and from then on the set tells.
-pub hold-late : (hold t : ℕ) (b : Bool) → t < hold → false ≡ (leb hold t && b)
-hold-late hold t b h = rw (lt-leb hold t h)
+pub led-leading : (g : Scene) (room s q : List ℕ) (ds : Docks) (a n : ℕ) → EndsAt g s ds a (ds .count) → Led g room a n s q →
+    Leading g room ds a n q
+led-leading g room s q ds a n ends x = record { tidy = x .tidy; ends = λ c. x .kept c ∙ ends c; spreads = x .spreads }
 
-pub hold-past : (hold t : ℕ) (x b : Bool) → hold ≤ t → x ≡ b → x ≡ (leb hold t && b)
-hold-past hold t x b h e = e ∙ rw (le-leb hold t h)
+-- An arrival of another beat stays one.
+arrivable-kept : (g : Scene) (s q : List ℕ) (ds : Docks) (n t : ℕ) → ChangedAt g s n q → (t ≡ n → ⊥) →
+    arrivable g q ds t ≡ arrivable g s ds t
+unfolding arrivable arrivableAt
+arrivable-kept g s q ds n t only h =
+    ap (λ (p : ℕ → Bool). anyOf p (ds .count)) (fun-ext (λ k. rw (only .other t (getD (ds .cells) k 0) h)))
 
 -- No beat below n is an arrival.
-abbrev pub NoneBefore : Scene → List ℕ → ℕ → ℕ → ℕ → Type 0
-NoneBefore g s goal hold n = (b : ℕ) → b < n → arrivable g s goal hold b ≡ true → ⊥
+abbrev pub NoneBefore : Scene → List ℕ → Docks → ℕ → Type 0
+NoneBefore g s ds n = (b : ℕ) → b < n → arrivable g s ds b ≡ true → ⊥
 
-module _ (g : Scene) (s : List ℕ) (goal hold n : ℕ) (none : NoneBefore g s goal hold n) where
+module _ (g : Scene) (s : List ℕ) (ds : Docks) (n : ℕ) (none : NoneBefore g s ds n) where
   -- One beat more.
-  none-here : arrivable g s goal hold n ≡ false → NoneBefore g s goal hold (n + 1)
+  none-here : arrivable g s ds n ≡ false → NoneBefore g s ds (n + 1)
   none-here e b h i =
       ⊎-elim (λ (u : b ≡ n). true-false-absurd (rw u at i) e) (λ (u : b < n). none b u i) (eq-or-lt-of-le (omega arith))
 
-  pub none-more : (q : List ℕ) → ChangedAt g s (n + 1) q → arrivable g s goal hold n ≡ false → NoneBefore g q goal hold (n + 1)
-  unfolding arrivable
-  none-more q only e b h i = none-here e b h (rw (only .other b goal (λ u. omega arith)) at i)
+  pub none-more : (q : List ℕ) → ChangedAt g s (n + 1) q → arrivable g s ds n ≡ false → NoneBefore g q ds (n + 1)
+  none-more q only e b h i = none-here e b h (sym (arrivable-kept g s q ds (n + 1) b only (λ u. omega arith)) ∙ i)
 
   -- What the pass finds at beat n: nothing, at the last one, or the least arrival.
-  pub found-nothing : (m : ℕ) → n ≡ m → arrivable g s goal hold n ≡ false → Earliest (arrivable g s goal hold) (m + 1) (n + 1)
+  pub found-nothing : (m : ℕ) → n ≡ m → arrivable g s ds n ≡ false → Earliest (arrivable g s ds) (m + 1) (n + 1)
   found-nothing m q e = record { upto = omega arith; none-before = none-here e; passes = λ h. absurd (omega arith) }
 
-  pub found-least : (m : ℕ) → n ≤ m → arrivable g s goal hold n ≡ true → Earliest (arrivable g s goal hold) (m + 1) n
+  pub found-least : (m : ℕ) → n ≤ m → arrivable g s ds n ≡ true → Earliest (arrivable g s ds) (m + 1) n
   found-least m h e = record { upto = omega arith; none-before = none; passes = λ l. e }

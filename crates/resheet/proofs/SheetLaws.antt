@@ -1,4 +1,4 @@
--- A memory of 11,452 bytes holds every sheet: what is written stands in front.
+-- A memory of 11,732 bytes holds every sheet: what is written stands in front.
 use Prim.Native.Nat.{ℕ, _+_, _≤_}
 use native.Mathlib.Omega.{arith}
 use mathlib.Core.Path.{_≡_, refl, sym, ap, _∙_}
@@ -15,23 +15,28 @@ use Rattle.sheet.specs.Text.{sheetOf, sheetLength, wallAt}
 use Rattle.sheet.specs.Values.{floorAt, wallsAt}
 use Rattle.sheet.specs.Read.{sheetVerdict, writeVerdict, writeSheet}
 use Rattle.sheet.proofs.Theorems.{theorems}
+use Rattle.sheet.proofs.DockLaws.{carriers-high}
+use Rattle.sheet.proofs.ReadLaws.{accepted-counts}
 use Rattle.printing.specs.Print.{orRefusal}
 use Rattle.printing.specs.Put.{TextPut}
 use Rattle.reporting.proofs.PrintedLaws.{Within}
 
 -- The sheet of an accepted floor.
 module _ (f : Floor) (ws : List ℕ) (ok : checkOf f ws ≡ passed) where
-  sheet-short : sheetLength f ≤ 11452
+  sheet-short : sheetLength f ≤ 11732
   unfolding sheetLength wallAt
-  sheet-short = let b = check-tells f ws ok .bounds in omega (arith, b .carriers .1, b .walls .1)
+  sheet-short =
+      let b = check-tells f ws ok .bounds in
+      let high = carriers-high f (f .carriers) (λ i l. accepted-counts f ws ok i l .1) in
+      omega (arith, b .carriers .1, b .walls .1, high)
 
-  granted : (room : ℕ) → 11452 ≤ room → writeVerdict f ws room ≡ passed
+  granted : (room : ℕ) → 11732 ≤ room → writeVerdict f ws room ≡ passed
   unfolding writeVerdict roomOf _then_
   granted room enough =
       let fits : sheetLength f ≤ room = omega (arith, sheet-short) in
       rw ok (demand-passes 9 0 (le-leb _ _ fits))
 
-  pub sheet-put : (old new : List ℕ) (n : ℕ) → 11452 ≤ length old → new ≡ writeSheet f ws old → n ≡ sheetLength f
+  pub sheet-put : (old new : List ℕ) (n : ℕ) → 11732 ≤ length old → new ≡ writeSheet f ws old → n ≡ sheetLength f
       → TextPut (sheetOf f ws) old new n
   unfolding writeSheet put
   sheet-put old new n enough e l =
@@ -44,7 +49,7 @@ module _ (f : Floor) (ws : List ℕ) (ok : checkOf f ws ≡ passed) where
         size = l ∙ sym size;
       }
 
-pub sheet-within : Within sheetOf 11452
+pub sheet-within : Within sheetOf 11732
 sheet-within = record { short = λ f ws ok. omega (arith, theorems .sheet-length f ws, sheet-short f ws ok) }
 
 -- The sheet of what was read is the text.

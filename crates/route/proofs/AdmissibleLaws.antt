@@ -1,4 +1,4 @@
--- A route is admissible exactly if it starts clear, takes allowed moves to the goal, and is blank after the horizon.
+-- A route is admissible exactly if it starts clear, takes allowed moves to a dock, and is blank after the horizon.
 use Prim.Native.Nat.{ℕ, zero, suc, _≤_, _<_}
 use native.Mathlib.Omega.{arith}
 use mathlib.Core.Bool.{true}
@@ -19,7 +19,7 @@ pub record ByRule (task : Task) (vs : List View) (r : List ℕ) : Type 0 where
   pub long : length r ≡ 64
   pub starts : startClear task vs ≡ true
   pub begins : cellAt r 0 ≡ task .start
-  pub way : Way (task .goal) (task .horizon) (allowed task vs) (cellAt r)
+  pub way : Way (task .dock) (task .horizon) (allowed task vs) (cellAt r)
   pub blank : (t : ℕ) → task .horizon < t → cellAt r t ≡ 0
 
 module _ (task : Task) (vs : List View) (r : List ℕ) where

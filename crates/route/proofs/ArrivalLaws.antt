@@ -4,71 +4,68 @@ use native.Mathlib.Omega.{arith}
 use native.Mathlib.Nat.{eq-or-lt-of-le, le-of-suc-le-suc}
 use mathlib.Core.List.{List}
 use mathlib.Core.Logic.{_⊎_, inl, inr, ⊎-elim}
-use mathlib.Core.Path.{_≡_}
+use mathlib.Core.Path.{_≡_, refl}
 use borrow.Author.Tests.{eq-eqb, ne-eqb}
 use Rattle.route.specs.Route.{cellAt}
-use Rattle.route.specs.Best.{Arrives}
+use Rattle.route.specs.Best.{HeldFrom, Arrives}
 use Rattle.route.specs.Arrival.{settled, arrivalOf}
 use Rattle.laws.proofs.Tests.{lt-or-le, eq-or-ne}
 
-module _ (goal : ℕ) (r : List ℕ) where
-  pub settled-there : (n : ℕ) → cellAt r n ≡ goal → settled goal r (suc n) ≡ settled goal r n
+-- Of a list r and a cell d.
+module _ (d : ℕ) (r : List ℕ) where
+  pub settled-there : (n : ℕ) → cellAt r n ≡ d → settled d r (suc n) ≡ settled d r n
   unfolding settled
-  settled-there n e = rw (eq-eqb (cellAt r n) goal e, settled)
+  settled-there n e = rw (eq-eqb (cellAt r n) d e, settled)
 
-  pub settled-away : (n : ℕ) → (cellAt r n ≡ goal → ⊥) → settled goal r (suc n) ≡ suc n
+  pub settled-away : (n : ℕ) → (cellAt r n ≡ d → ⊥) → settled d r (suc n) ≡ suc n
   unfolding settled
-  settled-away n h = rw (ne-eqb (cellAt r n) goal h, settled)
+  settled-away n h = rw (ne-eqb (cellAt r n) d h, settled)
 
-  pub settled-le : (n : ℕ) → settled goal r n ≤ n
+  pub settled-le : (n : ℕ) → settled d r n ≤ n
   unfolding settled
   settled-le zero = omega arith
   settled-le (suc n) =
-      ⊎-elim (λ (e : cellAt r n ≡ goal). omega (arith, settled-there n e, settled-le n))
-      (λ (e : cellAt r n ≡ goal → ⊥). omega (arith, settled-away n e)) (eq-or-ne (cellAt r n) goal)
+      ⊎-elim (λ (e : cellAt r n ≡ d). omega (arith, settled-there n e, settled-le n))
+      (λ (e : cellAt r n ≡ d → ⊥). omega (arith, settled-away n e)) (eq-or-ne (cellAt r n) d)
 
-  pub settled-held : (n t : ℕ) → settled goal r n ≤ t → t < n → cellAt r t ≡ goal
+  pub settled-held : (n t : ℕ) → settled d r n ≤ t → t < n → cellAt r t ≡ d
   settled-held zero t l h = absurd (omega arith)
-  settled-held (suc n) t l h = split (eq-or-ne (cellAt r n) goal) (λ (a : settled goal r n ≤ t) (b : t < n). settled-held n t a b)
+  settled-held (suc n) t l h = split (eq-or-ne (cellAt r n) d) (λ (a : settled d r n ≤ t) (b : t < n). settled-held n t a b)
     where
-      split : (cellAt r n ≡ goal) ⊎ (cellAt r n ≡ goal → ⊥) → (settled goal r n ≤ t → t < n → cellAt r t ≡ goal) → cellAt r t ≡ goal
+      split : (cellAt r n ≡ d) ⊎ (cellAt r n ≡ d → ⊥) → (settled d r n ≤ t → t < n → cellAt r t ≡ d) → cellAt r t ≡ d
       split (inl e) below =
           ⊎-elim (λ (q : t ≡ n). rw q e) (λ (b : t < n). below (omega (arith, settled-there n e)) b) (eq-or-lt-of-le (le-of-suc-le-suc h))
       split (inr e) below = absurd (omega (arith, settled-away n e))
 
-  pub settled-least : (n b : ℕ) → ((t : ℕ) → b ≤ t → t < n → cellAt r t ≡ goal) → settled goal r n ≤ b
+  pub settled-least : (n b : ℕ) → ((t : ℕ) → b ≤ t → t < n → cellAt r t ≡ d) → settled d r n ≤ b
   unfolding settled
   settled-least zero b h = omega arith
-  settled-least (suc n) b h = split (eq-or-ne (cellAt r n) goal) (settled-least n b (λ t l k. h t l (omega arith)))
+  settled-least (suc n) b h = split (eq-or-ne (cellAt r n) d) (settled-least n b (λ t l k. h t l (omega arith)))
     where
-      late : (cellAt r n ≡ goal → ⊥) → n < b
+      late : (cellAt r n ≡ d → ⊥) → n < b
       late e = ⊎-elim (λ (k : n < b). k) (λ (k : b ≤ n). absurd (e (h n k (omega arith)))) (lt-or-le n b)
 
-      split : (cellAt r n ≡ goal) ⊎ (cellAt r n ≡ goal → ⊥) → settled goal r n ≤ b → settled goal r (suc n) ≤ b
+      split : (cellAt r n ≡ d) ⊎ (cellAt r n ≡ d → ⊥) → settled d r n ≤ b → settled d r (suc n) ≤ b
       split (inl e) below = omega (arith, settled-there n e)
       split (inr e) below = omega (arith, settled-away n e, late e)
 
-  pub arrival-arrives : (H : ℕ) → cellAt r H ≡ goal → Arrives goal H r (arrivalOf goal r H)
+module _ (r : List ℕ) (H : ℕ) where
+  pub arrival-within : arrivalOf r H ≤ H
   unfolding arrivalOf
-  arrival-arrives H e =
+  arrival-within = settled-le (cellAt r H) r H
+
+  pub arrival-arrives : Arrives H r (arrivalOf r H)
+  unfolding arrivalOf
+  arrival-arrives =
       record {
-        stays = record { within = omega (arith, settled-there H e, settled-le H); held = λ t l h. settled-held (suc H) t l (omega arith) };
-        least = λ b h. settled-least (suc H) b (λ t l k. h .held t l (omega arith));
+        stays = record { within = settled-le (cellAt r H) r H; held = held };
+        least = λ b h. settled-least (cellAt r H) r H b (λ t l k. h .held t l (omega arith));
       }
-
-  pub arrives-at-goal : (H a : ℕ) → Arrives goal H r a → cellAt r H ≡ goal
-  arrives-at-goal H a h = h .stays .held H (h .stays .within) (omega arith)
-
-  pub arrives-arrival : (H a : ℕ) → Arrives goal H r a → a ≡ arrivalOf goal r H
-  arrives-arrival H a h = omega (arith, h .least (arrivalOf goal r H) (again .stays), again .least a (h .stays))
     where
-      again : Arrives goal H r (arrivalOf goal r H)
-      again = arrival-arrives H (arrives-at-goal H a h)
+      held : (t : ℕ) → settled (cellAt r H) r H ≤ t → t ≤ H → cellAt r t ≡ cellAt r H
+      held t l h =
+          ⊎-elim (λ (e : t ≡ H). rw e refl) (λ (b : t < H). settled-held (cellAt r H) r H t l b) (eq-or-lt-of-le h)
 
-  pub arrival-within : (H a : ℕ) → a ≡ arrivalOf goal r H → a ≤ H → Arrives goal H r a
-  unfolding arrivalOf
-  arrival-within H a e h = rw e (arrival-arrives H (settled-held (suc H) H (omega arith) (omega arith)))
-
-  pub arrival-beyond : (H : ℕ) → (cellAt r H ≡ goal → ⊥) → arrivalOf goal r H ≡ suc H
-  unfolding arrivalOf
-  arrival-beyond H e = settled-away H e
+  pub arrives-arrival : (a : ℕ) → Arrives H r a → a ≡ arrivalOf r H
+  arrives-arrival a h =
+      omega (arith, h .least (arrivalOf r H) (arrival-arrives .stays), arrival-arrives .least a (h .stays))

@@ -1,39 +1,25 @@
--- The walk over any rule comes first among the ways from its cell that are at the goal as early.
+-- The walk over any rule comes first among the ways from its cell that are where they end as early.
 use Prim.Native.Nat.{ℕ, zero, suc, _≤_, _<_}
 use native.Mathlib.Omega.{arith}
 use native.Mathlib.Nat.{eq-or-lt-of-le}
-use mathlib.Core.Bool.{true}
+use mathlib.Core.Bool.{Bool, true, false}
 use mathlib.Core.Logic.{_⊎_, inl, inr, ⊎-elim}
-use mathlib.Core.Path.{_≡_, sym}
-use lib.Dec.{eqb}
-use Rattle.route.specs.Search.{Rule, later, beatsFrom, val, walk}
-use Rattle.laws.proofs.Tests.{lt-or-le}
+use mathlib.Core.Path.{_≡_, sym, _∙_}
+use Rattle.route.specs.Search.{Rule, later, ended, val}
+use Rattle.laws.proofs.Tests.{lt-or-le, true-or-false}
 use Rattle.route.proofs.CheapestLaws.{cost-allowed}
-use Rattle.route.proofs.Ways.{Way, Held, Inside, Same, Ahead, rest, way-rest, held-rest, held-rest-zero}
-use Rattle.route.proofs.ValLaws.{beats-cases, offer, val-least}
-use Rattle.route.proofs.WalkLaws.{trail, trail-start, Next, next-small, next-of}
+use Rattle.route.proofs.Ways.{Way, Held, Inside, Same, Ahead, rest, way-rest, held-rest}
+use Rattle.route.proofs.ValLaws.{offer, val-ended, val-more, val-least}
+use Rattle.route.proofs.WalkLaws.{trail, trail-start, trail-next, ended-stays, Next, next-of}
 
-module _ (cells goal : ℕ) where
-  -- What is at the goal from `val` on is there, without its first beat, from the next cell's value on.
-  held-next : (k : ℕ) (ok : Rule) (c : ℕ) (p : ℕ → ℕ) → Held goal (suc k) p (val cells goal (suc k) ok c) →
-      Held goal k (rest p) ((offer cells goal k ok c) .1)
-  unfolding val
-  held-next k ok c p h = split (beats-cases (eqb c goal) m)
-    where
-      m : ℕ
-      m = (offer cells goal k ok c) .1
-
-      split : ((eqb c goal ≡ true) × (m ≡ 0) × (beatsFrom (eqb c goal) m ≡ 0)) ⊎ (beatsFrom (eqb c goal) m ≡ suc m) → Held goal k (rest p) m
-      split (inl e) = rw (e .1) (held-rest-zero (rw (e .2) at h))
-      split (inr e) = held-rest (rw e at h)
-
-  -- The next cell of a way that is at the goal from `val` on is not before the walk's: it has the least value too.
-  next-le : (k : ℕ) (ok : Rule) (c : ℕ) (p : ℕ → ℕ) → Next cells goal k ok c → Inside cells ok → Way goal (suc k) ok p → p 0 ≡ c →
-      Held goal k (rest p) ((offer cells goal k ok c) .1) → (offer cells goal k ok c) .0 ≤ p 1
+module _ (cells : ℕ) (dock : ℕ → Bool) where
+  -- The next cell of a way that is where it ends from the walk's arrival on is not before the walk's: it has the least value too.
+  next-le : (k : ℕ) (ok : Rule) (c : ℕ) (p : ℕ → ℕ) → Next cells dock k ok c → Inside cells ok → Way dock (suc k) ok p → p 0 ≡ c →
+      Held k (rest p) ((offer cells dock k ok c) .1) → (offer cells dock k ok c) .0 ≤ p 1
   next-le k ok c p next ins w e h = ⊎-elim (λ (l : p 1 < n). absurd (earlier l)) (λ (l : n ≤ p 1). l) (lt-or-le (p 1) n)
     where
       n : ℕ
-      n = (offer cells goal k ok c) .0
+      n = (offer cells dock k ok c) .0
 
       move : ok 0 c (p 1) ≡ true
       move = rw e at (w .steps 0 (omega arith))
@@ -43,70 +29,95 @@ module _ (cells goal : ℕ) where
           omega (
             arith,
             next .first (p 1) l,
-            cost-allowed (ok 0 c) (suc k) (val cells goal k (later ok)) (p 1) move,
-            val-least cells goal k (later ok) (rest p) ((offer cells goal k ok c) .1) (λ t. ins (suc t)) (way-rest w) h,
+            cost-allowed (ok 0 c) (suc k) (val cells dock k (later ok)) (p 1) move,
+            val-least cells dock k (later ok) (rest p) ((offer cells dock k ok c) .1) (λ t. ins (suc t)) (way-rest w) h,
           )
 
   -- A way from c whose next cell is the walk's compares with the walk as its rest does.
-  compare-rest : (k : ℕ) (ok : Rule) (c : ℕ) (p : ℕ → ℕ) → p 0 ≡ c →
-      Same k (rest p) (trail cells goal k (later ok) ((offer cells goal k ok c) .0)) ⊎ Ahead k
-      (trail cells goal k (later ok) ((offer cells goal k ok c) .0)) (rest p) →
-      Same (suc k) p (trail cells goal (suc k) ok c) ⊎ Ahead (suc k) (trail cells goal (suc k) ok c) p
-  unfolding walk
-  compare-rest k ok c p e (inl s) = inl all
+  compare-rest : (k : ℕ) (ok : Rule) (c : ℕ) (p : ℕ → ℕ) → ended dock (suc k) ok c ≡ false → p 0 ≡ c →
+      Same k (rest p) (trail cells dock k (later ok) ((offer cells dock k ok c) .0)) ⊎ Ahead k
+      (trail cells dock k (later ok) ((offer cells dock k ok c) .0)) (rest p) →
+      Same (suc k) p (trail cells dock (suc k) ok c) ⊎ Ahead (suc k) (trail cells dock (suc k) ok c) p
+  compare-rest k ok c p more e (inl s) = inl all
     where
-      all : Same (suc k) p (trail cells goal (suc k) ok c)
-      all zero l = e
-      all (suc i) l = s i (omega arith)
-  compare-rest k ok c p e (inr a) =
-      inr (record { beat = suc (a .beat); within = omega (arith, a .within); smaller = a .smaller; same = all })
+      all : Same (suc k) p (trail cells dock (suc k) ok c)
+      all zero l = e ∙ sym (trail-start cells dock (suc k) ok c)
+      all (suc i) l = s i (omega arith) ∙ sym (trail-next cells dock k ok c more i)
+  compare-rest k ok c p more e (inr a) =
+      inr
+      (record {
+        beat = suc (a .beat);
+        within = omega (arith, a .within);
+        smaller = rw (trail-next cells dock k ok c more (a .beat)) (a .smaller);
+        same = all;
+      })
     where
-      all : (i : ℕ) → i < suc (a .beat) → trail cells goal (suc k) ok c i ≡ p i
-      all zero l = sym e
-      all (suc i) l = a .same i (omega arith)
+      all : (i : ℕ) → i < suc (a .beat) → trail cells dock (suc k) ok c i ≡ p i
+      all zero l = trail-start cells dock (suc k) ok c ∙ sym e
+      all (suc i) l = trail-next cells dock k ok c more i ∙ a .same i (omega arith)
 
-  ahead-next : (k : ℕ) (ok : Rule) (c : ℕ) (p : ℕ → ℕ) → p 0 ≡ c → (offer cells goal k ok c) .0 < p 1 →
-      Ahead (suc k) (trail cells goal (suc k) ok c) p
-  unfolding walk
-  ahead-next k ok c p e l =
-      record { beat = 1; within = omega arith; smaller = rw (trail-start cells goal k (later ok) n) l; same = all }
+  ahead-next : (k : ℕ) (ok : Rule) (c : ℕ) (p : ℕ → ℕ) → ended dock (suc k) ok c ≡ false → p 0 ≡ c → (offer cells dock k ok c) .0 < p 1 →
+      Ahead (suc k) (trail cells dock (suc k) ok c) p
+  ahead-next k ok c p more e l =
+      record {
+        beat = 1;
+        within = omega arith;
+        smaller = rw (trail-next cells dock k ok c more 0, trail-start cells dock k (later ok) n) l;
+        same = all;
+      }
     where
       n : ℕ
-      n = (offer cells goal k ok c) .0
+      n = (offer cells dock k ok c) .0
 
-      all : (i : ℕ) → i < 1 → trail cells goal (suc k) ok c i ≡ p i
-      all zero h = sym e
+      all : (i : ℕ) → i < 1 → trail cells dock (suc k) ok c i ≡ p i
+      all zero h = trail-start cells dock (suc k) ok c ∙ sym e
       all (suc i) h = absurd (omega arith)
 
-  -- Another way from c that is at the goal from `val` on is the walk, or the walk is ahead of it. Its next cell has the least
+  -- A way from a cell where it has ended, and is from the first beat on, is the walk, which stays.
+  ended-first : (k : ℕ) (ok : Rule) (c : ℕ) (p : ℕ → ℕ) → ended dock k ok c ≡ true → p 0 ≡ c → Held k p (val cells dock k ok c) →
+      Same k p (trail cells dock k ok c)
+  ended-first k ok c p has e h i l = at i l ∙ sym (at 0 (omega arith)) ∙ e ∙ sym (ended-stays cells dock k ok c has i l)
+    where
+      at : (j : ℕ) → j ≤ k → p j ≡ p k
+      at j b = h .held j (omega (arith, val-ended cells dock k ok c has)) b
+
+  -- Another way from c that is where it ends from `val` on is the walk, or the walk is ahead of it. Its next cell has the least
   -- value too, so it is not before the walk's, which is the first such cell; where it is the same, the rest decides.
-  pub walk-first : (k : ℕ) (ok : Rule) (c : ℕ) (p : ℕ → ℕ) → Inside cells ok → Way goal k ok p → p 0 ≡ c →
-      Held goal k p (val cells goal k ok c) → val cells goal k ok c ≤ k →
-      Same k p (trail cells goal k ok c) ⊎ Ahead k (trail cells goal k ok c) p
-  unfolding walk
+  pub walk-first : (k : ℕ) (ok : Rule) (c : ℕ) (p : ℕ → ℕ) → Inside cells ok → Way dock k ok p → p 0 ≡ c →
+      Held k p (val cells dock k ok c) → val cells dock k ok c ≤ k →
+      Same k p (trail cells dock k ok c) ⊎ Ahead k (trail cells dock k ok c) p
   walk-first zero ok c p ins w e h b = inl last
     where
-      last : Same 0 p (trail cells goal 0 ok c)
-      last zero l = e
+      last : Same 0 p (trail cells dock 0 ok c)
+      last zero l = e ∙ sym (trail-start cells dock 0 ok c)
       last (suc i) l = absurd (omega arith)
   walk-first (suc k) ok c p ins w e h b =
-      split (eq-or-lt-of-le (next-le k ok c p next ins w e later-held))
-      (λ (q : p 1 ≡ n). walk-first k (later ok) n (rest p) (λ t. ins (suc t)) (way-rest w) q (rw (next .value) later-held) small)
+      split (true-or-false (ended dock (suc k) ok c))
+      (λ (q : p 1 ≡ n) (g : Held k (rest p) (val cells dock k (later ok) n)) (l : val cells dock k (later ok) n ≤ k).
+      walk-first k (later ok) n (rest p) (λ t. ins (suc t)) (way-rest w) q g l)
     where
       n : ℕ
-      n = (offer cells goal k ok c) .0
+      n = (offer cells dock k ok c) .0
 
-      next : Next cells goal k ok c
-      next = next-of cells goal k ok c (next-small cells goal k ok c b)
+      -- How the way compares with the walk from the next cell on.
+      Below : Type 0
+      Below =
+          p 1 ≡ n → Held k (rest p) (val cells dock k (later ok) n) → val cells dock k (later ok) n ≤ k →
+          Same k (rest p) (trail cells dock k (later ok) n) ⊎ Ahead k (trail cells dock k (later ok) n) (rest p)
 
-      small : val cells goal k (later ok) n ≤ k
-      small = omega (arith, next .value, next .small)
+      on : ended dock (suc k) ok c ≡ false → Next cells dock k ok c → Below →
+          Same (suc k) p (trail cells dock (suc k) ok c) ⊎ Ahead (suc k) (trail cells dock (suc k) ok c) p
+      on more next below = choose (eq-or-lt-of-le (next-le k ok c p next ins w e later-held))
+        where
+          later-held : Held k (rest p) ((offer cells dock k ok c) .1)
+          later-held = held-rest (rw (val-more cells dock k ok c more) at h)
 
-      later-held : Held goal k (rest p) ((offer cells goal k ok c) .1)
-      later-held = held-next k ok c p h
+          choose : (n ≡ p 1) ⊎ (n < p 1) → Same (suc k) p (trail cells dock (suc k) ok c) ⊎ Ahead (suc k) (trail cells dock (suc k) ok c) p
+          choose (inl q) =
+              compare-rest k ok c p more e (below (sym q) (rw (next .value) later-held) (omega (arith, next .value, next .small)))
+          choose (inr l) = inr (ahead-next k ok c p more e l)
 
-      split : (n ≡ p 1) ⊎ (n < p 1) →
-          (p 1 ≡ n → Same k (rest p) (trail cells goal k (later ok) n) ⊎ Ahead k (trail cells goal k (later ok) n) (rest p)) →
-          Same (suc k) p (trail cells goal (suc k) ok c) ⊎ Ahead (suc k) (trail cells goal (suc k) ok c) p
-      split (inl q) below = compare-rest k ok c p e (below (sym q))
-      split (inr l) below = inr (ahead-next k ok c p e l)
+      split : (ended dock (suc k) ok c ≡ true) ⊎ (ended dock (suc k) ok c ≡ false) → Below →
+          Same (suc k) p (trail cells dock (suc k) ok c) ⊎ Ahead (suc k) (trail cells dock (suc k) ok c) p
+      split (inl has) below = inl (ended-first (suc k) ok c p has e h)
+      split (inr more) below = on more (next-of cells dock k ok c (omega (arith, val-more cells dock k ok c more))) below

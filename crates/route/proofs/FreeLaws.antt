@@ -20,15 +20,15 @@ withFree task f =
       cells = task .cells;
       horizon = task .horizon;
       start = task .start;
-      goal = task .goal;
+      dock = task .dock;
       free = f;
     }
 
 -- `best` over a test of the start and a rule.
 answerBy : Task → Bool → Rule → Answer
 answerBy task clear ok =
-    elim (clear && leb (val (task .cells) (task .goal) (task .horizon) ok (task .start)) (task .horizon))
-    [ true ↦ route (walk (task .cells) (task .goal) (task .horizon) ok (task .start) ++ replicate (63 - task .horizon) 0) | false ↦ none ]
+    elim (clear && leb (val (task .cells) (task .dock) (task .horizon) ok (task .start)) (task .horizon))
+    [ true ↦ route (walk (task .cells) (task .dock) (task .horizon) ok (task .start) ++ replicate (63 - task .horizon) 0) | false ↦ none ]
 
 module _ (task : Task) (vs : List View) (f g : ℕ → Bool) (agree : (c : ℕ) → c < task .cells → f c ≡ g c) where
   standable-free : (t d : ℕ) → standable (withFree task f) vs t d ≡ standable (withFree task g) vs t d

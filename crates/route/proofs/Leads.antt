@@ -1,6 +1,7 @@
 -- What makes a route the best one, over ways: any search shows `Leads` of its route, and this file makes `BestRoute` of it.
 use Prim.Native.Nat.{ℕ, _≤_, _<_}
 use native.Mathlib.Omega.{arith}
+use mathlib.Core.Bool.{Bool}
 use mathlib.Core.List.{List}
 use mathlib.Core.Logic.{_⊎_, inl, inr, ⊎-elim}
 use mathlib.Core.Path.{_≡_, sym, _∙_}
@@ -14,15 +15,16 @@ use Rattle.laws.proofs.Tests.{lt-or-le}
 use Rattle.route.proofs.Ways.{Way, Held, Same, Ahead, way-same, held-same, held-after}
 use Rattle.route.proofs.AdmissibleLaws.{ByRule, admissible-by-rule, by-rule-admissible}
 
--- x is a way that is at the goal from beat a on, no way from the start is there for good earlier, and x is ahead of every other
--- that is there from a on.
-pub record Leads (goal H : ℕ) (ok : Rule) (start a : ℕ) (x : ℕ → ℕ) : Type 0 where
-  pub way : Way goal H ok x
-  pub held : Held goal H x a
-  pub least : (p : ℕ → ℕ) (b : ℕ) → Way goal H ok p → p 0 ≡ start → Held goal H p b → a ≤ b
-  pub first : (p : ℕ → ℕ) → Way goal H ok p → p 0 ≡ start → Held goal H p a → Same H p x ⊎ Ahead H x p
+-- x is a way that is where it ends from beat a on, no way from the start is where it ends for good earlier, and x is ahead of every
+-- other that is there from a on.
+pub record Leads (dock : ℕ → Bool) (H : ℕ) (ok : Rule) (start a : ℕ) (x : ℕ → ℕ) : Type 0 where
+  pub way : Way dock H ok x
+  pub held : Held H x a
+  pub least : (p : ℕ → ℕ) (b : ℕ) → Way dock H ok p → p 0 ≡ start → Held H p b → a ≤ b
+  pub first : (p : ℕ → ℕ) → Way dock H ok p → p 0 ≡ start → Held H p a → Same H p x ⊎ Ahead H x p
 
-pub leads-same : {goal H : ℕ} {ok : Rule} {start a : ℕ} {x y : ℕ → ℕ} → Leads goal H ok start a x → Same H y x → Leads goal H ok start a y
+pub leads-same : {dock : ℕ → Bool} {H : ℕ} {ok : Rule} {start a : ℕ} {x y : ℕ → ℕ} → Leads dock H ok start a x → Same H y x →
+    Leads dock H ok start a y
 leads-same {H} {x} {y} l s =
     record {
       way = way-same (l .way) s;
@@ -52,7 +54,7 @@ same-route H q r lq lr s bq br = ext-getD 0 q r (lq ∙ sym lr) at
     at t h = ⊎-elim (λ (k : H < t). bq t k ∙ sym (br t k)) (λ (k : t ≤ H). s t k) (lt-or-le H t)
 
 module _ (task : Task) (vs : List View) (r : List ℕ) (a : ℕ) where
-  pub leads-best : ByRule task vs r → Leads (task .goal) (task .horizon) (allowed task vs) (task .start) a (cellAt r) → BestRoute task vs r
+  pub leads-best : ByRule task vs r → Leads (task .dock) (task .horizon) (allowed task vs) (task .start) a (cellAt r) → BestRoute task vs r
   leads-best rule leads =
       record {
         admissible = by-rule-admissible task vs r rule;
@@ -63,17 +65,17 @@ module _ (task : Task) (vs : List View) (r : List ℕ) (a : ℕ) where
       by : (q : List ℕ) → Admissible task vs q → ByRule task vs q
       by q adm = admissible-by-rule task vs q adm
 
-      settles : (b : ℕ) → Arrives (task .goal) (task .horizon) r b → b ≤ a
+      settles : (b : ℕ) → Arrives (task .horizon) r b → b ≤ a
       settles b h = h .least a (record { within = leads .held .within; held = leads .held .held })
 
-      from : (q : List ℕ) (b : ℕ) → Arrives (task .goal) (task .horizon) q b → Held (task .goal) (task .horizon) (cellAt q) b
+      from : (q : List ℕ) (b : ℕ) → Arrives (task .horizon) q b → Held (task .horizon) (cellAt q) b
       from q b h = record { within = h .stays .within; held = h .stays .held }
 
-      held : (q : List ℕ) (b : ℕ) → Arrives (task .goal) (task .horizon) r b → Arrives (task .goal) (task .horizon) q b →
-          Held (task .goal) (task .horizon) (cellAt q) a
+      held : (q : List ℕ) (b : ℕ) → Arrives (task .horizon) r b → Arrives (task .horizon) q b →
+          Held (task .horizon) (cellAt q) a
       held q b hr hq = held-after (from q b hq) (settles b hr) (leads .held .within)
 
-      no-earlier : (q : List ℕ) (b : ℕ) → Admissible task vs q → Arrives (task .goal) (task .horizon) q b → a ≤ b
+      no-earlier : (q : List ℕ) (b : ℕ) → Admissible task vs q → Arrives (task .horizon) q b → a ≤ b
       no-earlier q b adm h = leads .least (cellAt q) b ((by q adm) .way) (adm .is-route .begins) (from q b h)
 
       compare : (q : List ℕ) → Admissible task vs q →

@@ -7,6 +7,7 @@ pub mod ConflictLaws
 pub mod SpacedLaws
 pub mod Ways
 mod CheapestLaws
+mod EndedLaws
 mod ValLaws
 mod WalkLaws
 mod FirstLaws
@@ -16,6 +17,8 @@ mod WalkRoute
 pub mod Meets
 pub mod Unique
 pub mod FreeLaws
+pub mod DocksLaws
+mod OneGoalLaws
 pub mod Theorems
 pub mod Sets
 pub mod SetsLaws

@@ -17,18 +17,19 @@ use Rattle.route.specs.ConflictTest.{changes, follows, isConflict, kinds
 use Rattle.laws.proofs.Tests.{not-true-is-false, false-fails, and-both, and-fst, and-snd}
 use Rattle.route.proofs.ArrivalLaws.{settled-there, settled-away}
 
-module _ (goal : ℕ) (r : List ℕ) where
-  pub settled-turn-away : (t : ℕ) → (getD r t 0 ≡ goal → ⊥) → t + 1 ≡ settled goal r (t + 1)
+module _ (d : ℕ) (r : List ℕ) where
+  pub settled-turn-away : (t : ℕ) → (getD r t 0 ≡ d → ⊥) → t + 1 ≡ settled d r (t + 1)
   unfolding cellAt
-  settled-turn-away t h = rw add-one (sym (settled-away goal r t h))
+  settled-turn-away t h = rw add-one (sym (settled-away d r t h))
 
-  pub settled-turn-there : (t : ℕ) → getD r t 0 ≡ goal → settled goal r t ≡ settled goal r (t + 1)
+  pub settled-turn-there : (t : ℕ) → getD r t 0 ≡ d → settled d r t ≡ settled d r (t + 1)
   unfolding cellAt
-  settled-turn-there t e = rw add-one (sym (settled-there goal r t e))
+  settled-turn-there t e = rw add-one (sym (settled-there d r t e))
 
-  pub settled-ends : (t last h a : ℕ) → t ≤ last + 1 → last < t → last ≡ h → a ≡ settled goal r t → a ≡ arrivalOf goal r h
-  unfolding arrivalOf
-  settled-ends t last h a upto past e s = s ∙ ap (settled goal r) (omega arith)
+pub settled-ends : (r : List ℕ) (d t last h a : ℕ) → d ≡ getD r last 0 → t ≤ last → last ≤ t → last ≡ h → a ≡ settled d r t →
+    a ≡ arrivalOf r h
+unfolding arrivalOf cellAt
+settled-ends r d t last h a there upto past e s = let same : t ≡ h = omega arith in s ∙ rw (there, e, same)
 
 module _ (H : ℕ) (a b : List ℕ) where
   pub found-none : firstBelow H a b 0 ≡ free

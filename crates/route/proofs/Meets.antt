@@ -12,7 +12,7 @@ use Rattle.route.specs.Best.{Admissible, BestRoute, Best}
 use Rattle.route.specs.Moves.{allowed, startClear}
 use Rattle.route.specs.Search.{Rule, val, walkFrom, best}
 use Rattle.laws.proofs.Tests.{true-or-false, true-false-absurd, and-both, and-fst, and-snd}
-use Rattle.route.proofs.Ways.{Inside, way-same, way-held-last}
+use Rattle.route.proofs.Ways.{Inside, way-same, held-last}
 use Rattle.route.proofs.ValLaws.{val-least}
 use Rattle.route.proofs.WalkLaws.{trail, trail-start, walked}
 use Rattle.route.proofs.FirstLaws.{walk-first}
@@ -21,15 +21,15 @@ use Rattle.route.proofs.AdmissibleLaws.{ByRule, admissible-by-rule}
 use Rattle.route.proofs.Leads.{Leads, leads-same, leads-best}
 use Rattle.route.proofs.WalkRoute.{route-length, route-at, route-blank}
 
--- The walk over any rule leads to the goal.
-walk-leads : (cells goal H : ℕ) (ok : Rule) (c : ℕ) → Inside cells ok → val cells goal H ok c ≤ H →
-    Leads goal H ok c (val cells goal H ok c) (trail cells goal H ok c)
-walk-leads cells goal H ok c ins reached =
+-- The walk over any rule leads to a dock.
+walk-leads : (cells : ℕ) (dock : ℕ → Bool) (H : ℕ) (ok : Rule) (c : ℕ) → Inside cells ok → val cells dock H ok c ≤ H →
+    Leads dock H ok c (val cells dock H ok c) (trail cells dock H ok c)
+walk-leads cells dock H ok c ins reached =
     record {
-      way = (walked cells goal H ok c reached) .way;
-      held = (walked cells goal H ok c reached) .held;
-      least = λ p b w e h. rw e at (val-least cells goal H ok p b ins w h);
-      first = λ p w e h. walk-first cells goal H ok c p ins w e h reached;
+      way = (walked cells dock H ok c reached) .way;
+      held = (walked cells dock H ok c reached) .held;
+      least = λ p b w e h. rw e at (val-least cells dock H ok p b ins w h);
+      first = λ p w e h. walk-first cells dock H ok c p ins w e h reached;
     }
 
 module _ (task : Task) (vs : List View) where
@@ -39,11 +39,11 @@ module _ (task : Task) (vs : List View) where
 
   -- The walk from the start, by beat.
   abbrev along : ℕ → ℕ
-  along = trail (task .cells) (task .goal) (task .horizon) ok (task .start)
+  along = trail (task .cells) (task .dock) (task .horizon) ok (task .start)
 
   -- The least arrival that the search finds.
   abbrev value : ℕ
-  value = val (task .cells) (task .goal) (task .horizon) ok (task .start)
+  value = val (task .cells) (task .dock) (task .horizon) ok (task .start)
 
   -- The test of `best`.
   abbrev found : Bool
@@ -55,15 +55,15 @@ module _ (task : Task) (vs : List View) where
   walk-best : task .horizon ≤ 63 → startClear task vs ≡ true → value ≤ task .horizon → BestRoute task vs (walkFrom task ok)
   walk-best short clear reached = leads-best task vs (walkFrom task ok) value rule (leads-same leads (route-at task ok))
     where
-      leads : Leads (task .goal) (task .horizon) ok (task .start) value along
-      leads = walk-leads (task .cells) (task .goal) (task .horizon) ok (task .start) allowed-inside reached
+      leads : Leads (task .dock) (task .horizon) ok (task .start) value along
+      leads = walk-leads (task .cells) (task .dock) (task .horizon) ok (task .start) allowed-inside reached
 
       rule : ByRule task vs (walkFrom task ok)
       rule =
           record {
             long = route-length task ok short;
             starts = clear;
-            begins = route-at task ok 0 (omega arith) ∙ trail-start (task .cells) (task .goal) (task .horizon) ok (task .start);
+            begins = route-at task ok 0 (omega arith) ∙ trail-start (task .cells) (task .dock) (task .horizon) ok (task .start);
             way = way-same (leads .way) (route-at task ok);
             blank = route-blank task ok;
           }
@@ -75,10 +75,9 @@ module _ (task : Task) (vs : List View) where
       by : ByRule task vs q
       by = admissible-by-rule task vs q adm
 
-      least : val (task .cells) (task .goal) (task .horizon) ok (cellAt q 0) ≤ task .horizon
+      least : val (task .cells) (task .dock) (task .horizon) ok (cellAt q 0) ≤ task .horizon
       least =
-          val-least (task .cells) (task .goal) (task .horizon) ok (cellAt q) (task .horizon) allowed-inside (by .way)
-          (way-held-last (by .way))
+          val-least (task .cells) (task .dock) (task .horizon) ok (cellAt q) (task .horizon) allowed-inside (by .way) held-last
 
   pub best-meets : task .horizon ≤ 63 → Best task vs (best task vs)
   unfolding best Best

@@ -1,5 +1,5 @@
 -- A search by sets of cells, over any rule of moves: what its passes have to show. F t is the set of cells that can be reached
--- by beat t, B t a set of cells from which the goal can be reached by the arrival. `SetsBest.antt` has what follows.
+-- by beat t, B t a set of cells from which a dock can be reached by the arrival. `SetsBest.antt` has what follows.
 use Prim.Native.Nat.{ℕ, suc, _≤_, _<_}
 use mathlib.Core.Bool.{Bool, true}
 use mathlib.Core.Logic.{_↔_}
@@ -23,24 +23,27 @@ pub record Forward (ok : Rule) (start n : ℕ) (F : Sets) : Type 0 where
   pub begins : (c : ℕ) → (F 0 c ≡ true) ↔ (c ≡ start)
   pub spreads : (t d : ℕ) → t < n → (F (suc t) d ≡ true) ↔ Reached ok F t d
 
--- The goal can be held from beat a through beat H.
-abbrev pub Holds : Rule → ℕ → ℕ → ℕ → Type 0
-Holds ok goal H a = (t : ℕ) → a ≤ t → t < H → ok t goal goal ≡ true
+-- Cell d is a dock and can be held from beat a through beat H.
+pub record Ending (ok : Rule) (dock : ℕ → Bool) (H a d : ℕ) : Type 0 where
+  pub docks : dock d ≡ true
+  pub holds : (t : ℕ) → a ≤ t → t < H → ok t d d ≡ true
 
--- Beat a is an arrival: the goal is reached by then and can be held from then on.
-pub record Reaches (ok : Rule) (goal H : ℕ) (F : Sets) (a : ℕ) : Type 0 where
-  pub reached : F a goal ≡ true
-  pub holds : Holds ok goal H a
+-- Beat a is an arrival: a dock is reached by then that can be held from then on.
+pub record Reaches (ok : Rule) (dock : ℕ → Bool) (H : ℕ) (F : Sets) (a : ℕ) : Type 0 where
+  pub where-to : ℕ
+  pub reached : F a where-to ≡ true
+  pub ending : Ending ok dock H a where-to
 
 -- Beat a is the least arrival.
-pub record Least (ok : Rule) (goal H : ℕ) (F : Sets) (a : ℕ) : Type 0 where
+pub record Least (ok : Rule) (dock : ℕ → Bool) (H : ℕ) (F : Sets) (a : ℕ) : Type 0 where
   pub within : a ≤ H
-  pub reaches : Reaches ok goal H F a
-  pub none-before : (b : ℕ) → b < a → Reaches ok goal H F b → ⊥
+  pub reaches : Reaches ok dock H F a
+  pub none-before : (b : ℕ) → b < a → Reaches ok dock H F b → ⊥
 
--- Backward pass: B holds only cells that lead to the goal at beat a, and all of F that do.
-pub record Backward (ok : Rule) (goal a : ℕ) (F B : Sets) : Type 0 where
-  pub begins : (c : ℕ) → (B a c ≡ true) ↔ (c ≡ goal)
+-- Backward pass: B holds only cells that lead to a dock that can be held from beat a on, and all of F that do.
+pub record Backward (ok : Rule) (dock : ℕ → Bool) (H a : ℕ) (F B : Sets) : Type 0 where
+  pub ends : (c : ℕ) → B a c ≡ true → Ending ok dock H a c
+  pub begins : (c : ℕ) → F a c ≡ true → Ending ok dock H a c → B a c ≡ true
   pub leads : (t c : ℕ) → t < a → B t c ≡ true → Leading ok B t c
   pub holds : (t c : ℕ) → t < a → F t c ≡ true → Leading ok B t c → B t c ≡ true
 

@@ -1,42 +1,45 @@
--- The passes of a search by sets, over any rule: the greedy walk leads to the goal.
+-- The passes of a search by sets, over any rule: the greedy walk leads to a dock.
 use Prim.Native.Nat.{ℕ, zero, suc, _+_, _-_, _≤_, _<_}
 use native.Mathlib.Omega.{arith}
 use native.Mathlib.Nat.{eq-or-lt-of-le}
-use mathlib.Core.Bool.{true}
+use mathlib.Core.Bool.{Bool, true}
 use mathlib.Core.Logic.{_⊎_, inl, inr, ⊎-elim}
 use mathlib.Core.Path.{_≡_, refl, sym, _∙_}
 use Rattle.route.specs.Search.{Rule}
 use Rattle.laws.proofs.Tests.{lt-or-le}
 use Rattle.route.proofs.Ways.{Way, Held, Same, Ahead}
 use Rattle.route.proofs.Leads.{Leads}
-use Rattle.route.proofs.Sets.{Sets, Reached, Leading, Forward, Holds, Reaches, Least, Backward, Greedy}
+use Rattle.route.proofs.Sets.{Sets, Reached, Leading, Forward, Ending, Reaches, Least, Backward, Greedy}
 
-module _ (ok : Rule) (start goal H : ℕ) where
+module _ (ok : Rule) (start : ℕ) (dock : ℕ → Bool) (H : ℕ) where
   -- A way from the start is in the forward sets.
-  pub way-in-forward : (n : ℕ) (F : Sets) (p : ℕ → ℕ) → Forward ok start n F → Way goal H ok p → p 0 ≡ start → (t : ℕ) → t ≤ n → t ≤ H →
+  pub way-in-forward : (n : ℕ) (F : Sets) (p : ℕ → ℕ) → Forward ok start n F → Way dock H ok p → p 0 ≡ start → (t : ℕ) → t ≤ n → t ≤ H →
       F t (p t) ≡ true
   way-in-forward n F p f w e zero l h = (f .begins (p 0)) .1 e
   way-in-forward n F p f w e (suc t) l h =
       (f .spreads t (p (suc t)) l) .1 (p t, way-in-forward n F p f w e t (omega arith) (omega arith), w .steps t h)
 
-  -- A way that is at the goal from beat b on shows that the goal can be held from then on.
-  held-holds : (p : ℕ → ℕ) (b : ℕ) → Way goal H ok p → Held goal H p b → Holds ok goal H b
-  held-holds p b w h t l k = rw (h .held t l (omega arith), h .held (suc t) (omega arith) k) at (w .steps t k)
+  -- A way that is where it ends from beat b on shows that its last cell can be held from then on.
+  held-ending : (p : ℕ → ℕ) (b : ℕ) → Way dock H ok p → Held H p b → Ending ok dock H b (p b)
+  held-ending p b w h = record { docks = rw here (w .ends); holds = hold }
+    where
+      here : p b ≡ p H
+      here = h .held b (omega arith) (h .within)
 
-  -- A way from the start that is at the goal for good from b on: b is an arrival.
-  pub held-reaches : (n : ℕ) (F : Sets) (p : ℕ → ℕ) (b : ℕ) → Forward ok start n F → Way goal H ok p → p 0 ≡ start → Held goal H p b →
-      b ≤ n → Reaches ok goal H F b
+      hold : (t : ℕ) → b ≤ t → t < H → ok t (p b) (p b) ≡ true
+      hold t l k = rw here (rw (h .held t l (omega arith), h .held (suc t) (omega arith) k) at (w .steps t k))
+
+  -- A way from the start that is where it ends for good from b on: b is an arrival.
+  pub held-reaches : (n : ℕ) (F : Sets) (p : ℕ → ℕ) (b : ℕ) → Forward ok start n F → Way dock H ok p → p 0 ≡ start → Held H p b →
+      b ≤ n → Reaches ok dock H F b
   held-reaches n F p b f w e h l =
-      record {
-        reached = rw (h .held b (omega arith) (h .within)) at (way-in-forward n F p f w e b l (h .within));
-        holds = held-holds p b w h;
-      }
+      record { where-to = p b; reached = way-in-forward n F p f w e b l (h .within); ending = held-ending p b w h }
 
   module _
       (a : ℕ) (F B : Sets) (x : ℕ → ℕ)
-      (forward : Forward ok start a F) (least : Least ok goal H F a)
-      (backward : Backward ok goal a F B) (greedy : Greedy ok start H a B x) where
-    -- The passes meet: going down from the goal at beat a, some cell is in both sets, at beat 0 the start.
+      (forward : Forward ok start a F) (least : Least ok dock H F a)
+      (backward : Backward ok dock H a F B) (greedy : Greedy ok start H a B x) where
+    -- The passes meet: going down from a dock at beat a, some cell is in both sets, at beat 0 the start.
     meet : (t c : ℕ) → t ≤ a → F t c ≡ true → B t c ≡ true → B 0 start ≡ true
     meet zero c l f b = rw ((forward .begins c) .0 f) at b
     meet (suc t) c l f b = meet t (from .0) (omega arith) (from .1) (backward .holds t (from .0) l (from .1) (c, from .2, b))
@@ -45,7 +48,9 @@ module _ (ok : Rule) (start goal H : ℕ) where
         from = (forward .spreads t c l) .0 f
 
     starts : B 0 start ≡ true
-    starts = meet a goal (omega arith) (least .reaches .reached) ((backward .begins goal) .1 refl)
+    starts =
+        meet a (least .reaches .where-to) (omega arith) (least .reaches .reached)
+        (backward .begins (least .reaches .where-to) (least .reaches .reached) (least .reaches .ending))
 
     -- From a cell of the backward set the walk goes on to the smallest allowed cell of the next one.
     walk-next : (t : ℕ) → t < a → B t (x t) ≡ true → (ok t (x t) (x (suc t)) ≡ true) × (B (suc t) (x (suc t)) ≡ true)
@@ -61,14 +66,15 @@ module _ (ok : Rule) (start goal H : ℕ) where
     walk-in-backward zero l = rw (greedy .begins) starts
     walk-in-backward (suc t) l = (walk-next t l (walk-in-backward t (omega arith))) .1
 
-    -- At beat a the walk is at the goal, and it stays there.
-    at-goal : (t : ℕ) → a ≤ t → t ≤ H → x t ≡ goal
-    at-goal zero l h =
-        let e : a ≡ 0 = omega arith in
-        rw e at ((backward .begins (x a)) .0 (walk-in-backward a (omega arith)))
-    at-goal (suc t) l h =
-        ⊎-elim (λ (e : a ≡ suc t). rw e at ((backward .begins (x a)) .0 (walk-in-backward a (omega arith))))
-        (λ (e : a < suc t). greedy .stays t (omega arith) h ∙ at-goal t (omega arith) (omega arith)) (eq-or-lt-of-le l)
+    -- At beat a the walk is at a dock that can be held, and it stays there.
+    at-dock : Ending ok dock H a (x a)
+    at-dock = backward .ends (x a) (walk-in-backward a (omega arith))
+
+    stays : (t : ℕ) → a ≤ t → t ≤ H → x t ≡ x a
+    stays zero l h = let e : a ≡ 0 = omega arith in rw e refl
+    stays (suc t) l h =
+        ⊎-elim (λ (e : a ≡ suc t). rw e refl) (λ (e : a < suc t). greedy .stays t (omega arith) h ∙ stays t (omega arith) (omega arith))
+        (eq-or-lt-of-le l)
 
     walk-step : (t : ℕ) → t < H → ok t (x t) (x (suc t)) ≡ true
     walk-step t h = ⊎-elim before after (lt-or-le t a)
@@ -77,27 +83,28 @@ module _ (ok : Rule) (start goal H : ℕ) where
         before l = (walk-next t l (walk-in-backward t (omega arith))) .0
 
         after : a ≤ t → ok t (x t) (x (suc t)) ≡ true
-        after l = rw (at-goal t l (omega arith), at-goal (suc t) (omega arith) h) (least .reaches .holds t l h)
+        after l = rw (stays t l (omega arith), stays (suc t) (omega arith) h) (at-dock .holds t l h)
 
-    -- No way from the start is at the goal for good before a.
-    no-earlier : (p : ℕ → ℕ) (b : ℕ) → Way goal H ok p → p 0 ≡ start → Held goal H p b → a ≤ b
+    -- No way from the start is where it ends for good before a.
+    no-earlier : (p : ℕ → ℕ) (b : ℕ) → Way dock H ok p → p 0 ≡ start → Held H p b → a ≤ b
     no-earlier p b w e h = ⊎-elim (λ (l : b < a). absurd (early l)) (λ (l : a ≤ b). l) (lt-or-le b a)
       where
         early : b < a → ⊥
         early l = least .none-before b l (held-reaches a F p b forward w e h (omega arith))
 
-    -- A way that is at the goal at beat a is in the backward sets, going down from there.
-    way-in-backward : (p : ℕ → ℕ) → Way goal H ok p → p 0 ≡ start → p a ≡ goal → (k t : ℕ) → t + k ≡ a → B t (p t) ≡ true
-    way-in-backward p w s e zero t q = rw last ((backward .begins (p a)) .1 e)
+    -- A way that is where it ends from beat a on is in the backward sets, going down from there.
+    way-in-backward : (p : ℕ → ℕ) → Way dock H ok p → p 0 ≡ start → Held H p a → (k t : ℕ) → t + k ≡ a → B t (p t) ≡ true
+    way-in-backward p w s h zero t q =
+        rw last (backward .begins (p a) (way-in-forward a F p forward w s a (omega arith) (least .within)) (held-ending p a w h))
       where
         last : t ≡ a
         last = omega arith
-    way-in-backward p w s e (suc k) t q =
+    way-in-backward p w s h (suc k) t q =
         backward .holds t (p t) (omega arith) (way-in-forward a F p forward w s t (omega arith) (omega (arith, least .within)))
-        (p (suc t), w .steps t (omega (arith, least .within)), way-in-backward p w s e k (suc t) (omega arith))
+        (p (suc t), w .steps t (omega (arith, least .within)), way-in-backward p w s h k (suc t) (omega arith))
 
     -- The walk against another way, beat by beat: the same so far, or the walk is ahead.
-    compare : (p : ℕ → ℕ) → Way goal H ok p → p 0 ≡ start → p a ≡ goal → (t : ℕ) → t ≤ a → Same t p x ⊎ Ahead t x p
+    compare : (p : ℕ → ℕ) → Way dock H ok p → p 0 ≡ start → Held H p a → (t : ℕ) → t ≤ a → Same t p x ⊎ Ahead t x p
     compare p w e g zero l = inl only
       where
         only : Same 0 p x
@@ -122,19 +129,25 @@ module _ (ok : Rule) (start goal H : ℕ) where
         go (inl s) = step s (eq-or-lt-of-le (smallest (s t (omega arith))))
         go (inr k) = inr (record { beat = k .beat; within = omega (arith, k .within); smaller = k .smaller; same = k .same })
 
-    through : (p : ℕ → ℕ) → Held goal H p a → Same a p x ⊎ Ahead a x p → Same H p x ⊎ Ahead H x p
+    through : (p : ℕ → ℕ) → Held H p a → Same a p x ⊎ Ahead a x p → Same H p x ⊎ Ahead H x p
     through p h (inl s) = inl all
       where
         all : Same H p x
-        all i l = ⊎-elim (λ (k : i < a). s i (omega arith)) (λ (k : a ≤ i). h .held i k l ∙ sym (at-goal i k l)) (lt-or-le i a)
+        all i l = ⊎-elim (λ (k : i < a). s i (omega arith)) (λ (k : a ≤ i). past i k l) (lt-or-le i a)
+          where
+            past : (j : ℕ) → a ≤ j → j ≤ H → p j ≡ x j
+            past j k b = h .held j k b ∙ sym (h .held a (omega arith) (least .within)) ∙ s a (omega arith) ∙ sym (stays j k b)
     through p h (inr k) =
         inr (record { beat = k .beat; within = omega (arith, k .within, least .within); smaller = k .smaller; same = k .same })
 
-    pub greedy-leads : Leads goal H ok start a x
+    pub greedy-leads : Leads dock H ok start a x
     greedy-leads =
         record {
-          way = record { steps = walk-step; ends = at-goal H (least .within) (omega arith) };
-          held = record { within = least .within; held = at-goal };
+          way = record { steps = walk-step; ends = rw (stays H (least .within) (omega arith)) (at-dock .docks) };
+          held = record {
+            within = least .within;
+            held = λ i l h. stays i l h ∙ sym (stays H (least .within) (omega arith));
+          };
           least = no-earlier;
-          first = λ p w e h. through p h (compare p w e (h .held a (omega arith) (least .within)) a (omega arith));
+          first = λ p w e h. through p h (compare p w e h a (omega arith));
         }

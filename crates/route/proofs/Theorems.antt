@@ -3,61 +3,53 @@ use Prim.Native.Nat.{ℕ, _≤_}
 use mathlib.Core.List.{List, List·Memᴰ}
 use mathlib.Core.Logic.{inl, inr}
 use mathlib.Core.Path.{_≡_, sym, _∙_}
-use Rattle.route.specs.Route.{cellAt, none, route, View, heard, Task}
+use Rattle.route.specs.Route.{cellAt, route, View, heard, Task}
 use Rattle.route.specs.Conflict.{VertexConflict, ClearOfView, ClearOf, Silent}
-use Rattle.route.specs.Best.{IsRoute, HeldFrom, Arrives, Admissible, Best}
+use Rattle.route.specs.Best.{IsRoute, HeldFrom, Arrives, Admissible}
 use Rattle.route.specs.Search.{best}
 use Rattle.route.specs.Arrival.{arrivalOf}
 use Rattle.route.specs.Claims.{Claims}
-use Rattle.route.proofs.ArrivalLaws.{arrival-arrives, arrives-arrival, arrival-within, arrival-beyond}
+use Rattle.route.proofs.ArrivalLaws.{arrival-arrives, arrives-arrival, arrival-within}
 use Rattle.route.proofs.ConflictLaws.{tested}
 use Rattle.route.proofs.Meets.{best-meets}
-use Rattle.route.proofs.Unique.{best-unique, best-same-views, best-left-out}
-
-best-admissible : (task : Task) (vs : List View) (r : List ℕ) → Best task vs (route r) → Admissible task vs r
-unfolding Best
-best-admissible task vs r h = h .admissible
-
-best-none : (task : Task) (vs : List View) → Best task vs none → (q : List ℕ) → Admissible task vs q → ⊥
-unfolding Best
-best-none task vs h = h
-
-none-best : (task : Task) (vs : List View) → ((q : List ℕ) → Admissible task vs q → ⊥) → Best task vs none
-unfolding Best
-none-best task vs h = h
+use Rattle.route.proofs.Unique.{best-unique, best-same-views, best-left-out, none-exactly, route-exactly}
+use Rattle.route.proofs.DocksLaws.{none-alone, earliest-alone, own-dock-alone, docks-only}
+use Rattle.route.proofs.OneGoalLaws.{one-dock, one-arrival}
 
 answered : (task : Task) (vs : List View) (r : List ℕ) → task .horizon ≤ 63 → best task vs ≡ route r → Admissible task vs r
-answered task vs r short e = best-admissible task vs r (rw e at (best-meets task vs short))
+answered task vs r short e = ((route-exactly task vs r short) .0 e) .admissible
 
 answered-route : (task : Task) (vs : List View) (r : List ℕ) → Admissible task vs r →
-    IsRoute task r × Arrives (task .goal) (task .horizon) r (arrivalOf (task .goal) r (task .horizon))
-answered-route task vs r adm = (adm .is-route, arrival-arrives (task .goal) r (task .horizon) (adm .is-route .ends))
+    IsRoute task r × Arrives (task .horizon) r (arrivalOf r (task .horizon))
+answered-route task vs r adm = (adm .is-route, arrival-arrives r (task .horizon))
 
 silent-clear : (H : ℕ) (v : View) → Silent v → (r : List ℕ) → ClearOfView H r v
 unfolding Silent ClearOfView
 silent-clear H v (inl e) r = rw e tt
 silent-clear H v (inr e) r = rw e tt
 
-occupied : (task : Task) (vs : List View) (r q : List ℕ) (g a t : ℕ) → Admissible task vs r → List·Memᴰ (heard (route q)) vs →
-    HeldFrom g (task .horizon) q a → a ≤ t → t ≤ task .horizon → cellAt r t ≡ g → ⊥
+occupied : (task : Task) (vs : List View) (r q : List ℕ) (a t : ℕ) → Admissible task vs r → List·Memᴰ (heard (route q)) vs →
+    HeldFrom (task .horizon) q a → a ≤ t → t ≤ task .horizon → cellAt r t ≡ cellAt q (task .horizon) → ⊥
 unfolding ClearOf ClearOfView VertexConflict
-occupied task vs r q g a t adm m held l h e = (adm .clear (heard (route q)) m) .no-vertex t h (e ∙ sym (held .held t l h))
+occupied task vs r q a t adm m held l h e = (adm .clear (heard (route q)) m) .no-vertex t h (e ∙ sym (held .held t l h))
 
 pub theorems : Claims
 theorems =
     record {
       best-meets = best-meets;
-      none-exactly =
-          λ task vs short. (
-            λ e. best-none task vs (rw e at (best-meets task vs short)),
-            λ h. best-unique task vs (best task vs) none (best-meets task vs short) (none-best task vs h),
-          );
+      none-exactly = none-exactly;
       best-unique = best-unique;
       best-is-route = λ task vs r short e. answered-route task vs r (answered task vs r short e);
       best-same-views = λ task vs ws short. best-same-views task short vs ws;
-      goal-occupied = λ task vs r q g a t short m held e l h. occupied task vs r q g a t (answered task vs r short e) m held l h;
+      dock-occupied = λ task vs r q a t short m held e l h. occupied task vs r q a t (answered task vs r short e) m held l h;
       silent-left-out = λ task vs ws v short silent. best-left-out task short vs ws v (silent-clear (task .horizon) v silent);
-      arrival-agrees = λ goal H r a. (λ h. (arrives-arrival goal r H a h, h .stays .within), λ h. arrival-within goal r H a (h .0) (h .1));
-      arrival-beyond = λ goal H r. arrival-beyond goal r H;
+      none-alone = none-alone;
+      earliest-alone = earliest-alone;
+      own-dock-alone = own-dock-alone;
+      docks-only = λ task dock vs. docks-only task vs dock;
+      one-dock = λ task g vs x one. one-dock task g vs one x;
+      one-arrival = one-arrival;
+      arrival-agrees = λ H r a. (λ h. arrives-arrival r H a h, λ e. rw e (arrival-arrives r H));
+      arrival-within = λ H r. arrival-within r H;
       conflict-test = tested;
     }

@@ -3,7 +3,7 @@ use Prim.Native.Nat.{ℕ, _≤_, _<_}
 use native.Mathlib.Omega.{arith}
 use mathlib.Core.List.{List, _∷_, _++_, List·Memᴰ, List·Memᴰ·tail, List·Memᴰ·append-cases, List·Memᴰ·cases-cons}
 use mathlib.Core.List.{Memᴰ·append-left, Memᴰ·append-right}
-use mathlib.Core.Logic.{_⊎_, inl, inr, ⊎-elim}
+use mathlib.Core.Logic.{_⊎_, inl, inr, ⊎-elim, _↔_}
 use mathlib.Core.Path.{_≡_, refl, sym, ap, subst}
 use Rattle.route.specs.Route.{cellAt, Answer, none, route, View, Task}
 use Rattle.route.specs.Conflict.{ClearOfView, ClearOf}
@@ -27,25 +27,21 @@ before-asym r q a b = split (lt-or-le (a .beat) (b .beat)) (lt-or-le (b .beat) (
     split (inr l) (inr k) = meet (omega arith)
 
 module _ (task : Task) where
-  arrives : (vs : List View) (r : List ℕ) → Admissible task vs r →
-      Arrives (task .goal) (task .horizon) r (arrivalOf (task .goal) r (task .horizon))
-  arrives vs r adm = arrival-arrives (task .goal) r (task .horizon) (adm .is-route .ends)
-
   route-unique : (vs : List View) (r q : List ℕ) → BestRoute task vs r → BestRoute task vs q → r ≡ q
   route-unique vs r q x y =
       split (x .first q a (y .admissible) hr (rw (← equal) at hq)) (y .first r a (x .admissible) (rw (← equal) at hq) hr)
     where
       a : ℕ
-      a = arrivalOf (task .goal) r (task .horizon)
+      a = arrivalOf r (task .horizon)
 
       b : ℕ
-      b = arrivalOf (task .goal) q (task .horizon)
+      b = arrivalOf q (task .horizon)
 
-      hr : Arrives (task .goal) (task .horizon) r a
-      hr = arrives vs r (x .admissible)
+      hr : Arrives (task .horizon) r a
+      hr = arrival-arrives r (task .horizon)
 
-      hq : Arrives (task .goal) (task .horizon) q b
-      hq = arrives vs q (y .admissible)
+      hq : Arrives (task .horizon) q b
+      hq = arrival-arrives q (task .horizon)
 
       equal : a ≡ b
       equal = omega (arith, x .earliest q a b (y .admissible) hr hq, y .earliest r b a (x .admissible) hq hr)
@@ -111,3 +107,32 @@ module _ (task : Task) where
       more r c u m =
           ⊎-elim (λ (k : List·Memᴰ u vs). c u (Memᴰ·append-left ws k)) (λ (k : List·Memᴰ u (v ∷ ws)). last r c u (List·Memᴰ·cases-cons k))
           (List·Memᴰ·append-cases vs m)
+
+  pub best-none : (vs : List View) → Best task vs none → (q : List ℕ) → Admissible task vs q → ⊥
+  unfolding Best
+  best-none vs h = h
+
+  pub none-best : (vs : List View) → ((q : List ℕ) → Admissible task vs q → ⊥) → Best task vs none
+  unfolding Best
+  none-best vs h = h
+
+  pub best-of : (vs : List View) (r : List ℕ) → Best task vs (route r) → BestRoute task vs r
+  unfolding Best
+  best-of vs r h = h
+
+  pub of-best : (vs : List View) (r : List ℕ) → BestRoute task vs r → Best task vs (route r)
+  unfolding Best
+  of-best vs r h = h
+
+  -- The answer is none exactly if no route is admissible, and a route exactly if it is the best one.
+  pub none-exactly : (vs : List View) → task .horizon ≤ 63 → (best task vs ≡ none) ↔ ((q : List ℕ) → Admissible task vs q → ⊥)
+  none-exactly vs short = (
+    λ e. best-none vs (rw e at (best-meets task vs short)),
+    λ h. best-unique vs (best task vs) none (best-meets task vs short) (none-best vs h),
+  )
+
+  pub route-exactly : (vs : List View) (r : List ℕ) → task .horizon ≤ 63 → (best task vs ≡ route r) ↔ BestRoute task vs r
+  route-exactly vs r short = (
+    λ e. best-of vs r (rw e at (best-meets task vs short)),
+    λ h. best-unique vs (best task vs) (route r) (best-meets task vs short) (of-best vs r h),
+  )

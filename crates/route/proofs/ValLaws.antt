@@ -1,57 +1,51 @@
 -- `val` is the least arrival over any rule: no way arrives earlier.
 use Prim.Native.Nat.{ℕ, zero, suc, _≤_, _<_}
 use native.Mathlib.Omega.{arith}
-use native.Mathlib.Nat.{le-trans}
 use mathlib.Core.Bool.{Bool, true, false}
-use mathlib.Core.Logic.{_⊎_, inl, inr}
+use mathlib.Core.Logic.{⊎-elim}
 use mathlib.Core.Path.{_≡_, refl}
-use lib.Dec.{eqb}
-use borrow.Author.Tests.{eq-eqb}
-use Rattle.route.specs.Search.{Rule, later, cost, cheapest, beatsFrom, val}
+use Rattle.route.specs.Search.{Rule, later, cost, cheapest, ended, val}
+use Rattle.laws.proofs.Tests.{true-or-false}
 use Rattle.route.proofs.CheapestLaws.{cost-allowed, cheapest-le}
-use Rattle.route.proofs.Ways.{Way, Held, Inside, rest, way-rest, held-rest, held-rest-zero}
+use Rattle.route.proofs.Ways.{Way, Held, Inside, rest, way-rest, held-rest}
+use Rattle.route.proofs.EndedLaws.{way-ended}
 
-pub beats-le-suc : (b : Bool) (m : ℕ) → beatsFrom b m ≤ suc m
-unfolding beatsFrom
-beats-le-suc true zero = omega arith
-beats-le-suc true (suc m) = omega arith
-beats-le-suc false m = omega arith
-
-pub beats-zero : (b : Bool) (m : ℕ) → b ≡ true → m ≤ 0 → beatsFrom b m ≤ 0
-unfolding beatsFrom
-beats-zero b zero e h = rw (e, beatsFrom) (omega arith)
-beats-zero b (suc m) e h = absurd (omega arith)
-
--- The goal is held from here, or the way goes on for one beat more.
-pub beats-cases : (b : Bool) (m : ℕ) → ((b ≡ true) × (m ≡ 0) × (beatsFrom b m ≡ 0)) ⊎ (beatsFrom b m ≡ suc m)
-unfolding beatsFrom
-beats-cases true zero = inl (refl, refl, refl)
-beats-cases true (suc m) = inr refl
-beats-cases false m = inr refl
-
-module _ (cells goal : ℕ) where
+module _ (cells : ℕ) (dock : ℕ → Bool) where
   -- The cheapest next cell from c with k + 1 beats left, with its value.
   abbrev pub offer : ℕ → Rule → ℕ → ℕ × ℕ
-  offer k ok c = cheapest (suc k) (cost (ok 0 c) (suc k) (val cells goal k (later ok))) cells
+  offer k ok c = cheapest (suc k) (cost (ok 0 c) (suc k) (val cells dock k (later ok))) cells
 
-  pub offer-le : (k : ℕ) (ok : Rule) (c d : ℕ) → ok 0 c d ≡ true → d < cells → (offer k ok c) .1 ≤ val cells goal k (later ok) d
-  offer-le k ok c d e h =
-      rw (cost-allowed (ok 0 c) (suc k) (val cells goal k (later ok)) d e)
-      at (cheapest-le (suc k) (cost (ok 0 c) (suc k) (val cells goal k (later ok))) cells d h)
-
-  pub val-least : (k : ℕ) (ok : Rule) (p : ℕ → ℕ) (j : ℕ) → Inside cells ok → Way goal k ok p → Held goal k p j →
-      val cells goal k ok (p 0) ≤ j
+  pub val-ended : (k : ℕ) (ok : Rule) (c : ℕ) → ended dock k ok c ≡ true → val cells dock k ok c ≡ 0
   unfolding val
-  val-least zero ok p j ins w h = rw (eq-eqb (p 0) goal (w .ends), val) (omega arith)
-  val-least (suc k) ok p zero ins w h =
-      beats-zero (eqb (p 0) goal) ((offer k ok (p 0)) .1) (eq-eqb (p 0) goal (h .held 0 (omega arith) (omega arith)))
-      (le-trans
-      (offer-le k ok (p 0) (p 1) (w .steps 0 (omega arith)) (ins 0 (p 0) (p 1) (w .steps 0 (omega arith))))
-      (val-least k (later ok) (rest p) zero (λ t. ins (suc t)) (way-rest w) (held-rest-zero h)))
+  val-ended zero ok c e = rw (e, val)
+  val-ended (suc k) ok c e = rw (e, val)
+
+  pub val-last : (ok : Rule) (c : ℕ) → ended dock 0 ok c ≡ false → val cells dock 0 ok c ≡ 1
+  unfolding val
+  val-last ok c e = rw (e, val)
+
+  pub val-more : (k : ℕ) (ok : Rule) (c : ℕ) → ended dock (suc k) ok c ≡ false → val cells dock (suc k) ok c ≡ suc ((offer k ok c) .1)
+  unfolding val
+  val-more k ok c e = rw (e, val)
+
+  val-le-suc : (k : ℕ) (ok : Rule) (c : ℕ) → val cells dock (suc k) ok c ≤ suc ((offer k ok c) .1)
+  val-le-suc k ok c =
+      ⊎-elim (λ (e : ended dock (suc k) ok c ≡ true). omega (arith, val-ended (suc k) ok c e))
+      (λ (e : ended dock (suc k) ok c ≡ false). omega (arith, val-more k ok c e)) (true-or-false (ended dock (suc k) ok c))
+
+  offer-le : (k : ℕ) (ok : Rule) (c d : ℕ) → ok 0 c d ≡ true → d < cells → (offer k ok c) .1 ≤ val cells dock k (later ok) d
+  offer-le k ok c d e h =
+      rw (cost-allowed (ok 0 c) (suc k) (val cells dock k (later ok)) d e)
+      at (cheapest-le (suc k) (cost (ok 0 c) (suc k) (val cells dock k (later ok))) cells d h)
+
+  -- A way that is where it ends from beat j on: at beat 0 it has ended; later its rest decides.
+  pub val-least : (k : ℕ) (ok : Rule) (p : ℕ → ℕ) (j : ℕ) → Inside cells ok → Way dock k ok p → Held k p j → val cells dock k ok (p 0) ≤ j
+  val-least k ok p zero ins w h = omega (arith, val-ended k ok (p 0) (way-ended dock k ok p w h))
+  val-least zero ok p (suc j) ins w h = absurd (omega (arith, h .within))
   val-least (suc k) ok p (suc j) ins w h =
       omega (
         arith,
-        beats-le-suc (eqb (p 0) goal) ((offer k ok (p 0)) .1),
+        val-le-suc k ok (p 0),
         offer-le k ok (p 0) (p 1) (w .steps 0 (omega arith)) (ins 0 (p 0) (p 1) (w .steps 0 (omega arith))),
         val-least k (later ok) (rest p) j (λ t. ins (suc t)) (way-rest w) (held-rest h),
       )

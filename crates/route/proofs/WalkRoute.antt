@@ -1,6 +1,7 @@
 -- The walk as a route of 64 cells: the walk's cells through the horizon, then 0.
 use Prim.Native.Nat.{ℕ, zero, suc, _+_, _-_, _≤_, _<_}
 use native.Mathlib.Omega.{arith}
+use mathlib.Core.Bool.{Bool}
 use mathlib.Core.List.{List, _++_}
 use native.Mathlib.Nat.{add-sub-of-le}
 use mathlib.Core.Path.{_≡_, refl, ap, subst, _∙_}
@@ -11,10 +12,10 @@ use Rattle.route.specs.Route.{cellAt, Task}
 use Rattle.route.specs.Search.{Rule, later, walk, walkFrom}
 use Rattle.route.proofs.WalkLaws.{trail}
 
-walk-length : (cells goal k : ℕ) (ok : Rule) (c : ℕ) → length (walk cells goal k ok c) ≡ suc k
+walk-length : (cells : ℕ) (dock : ℕ → Bool) (k : ℕ) (ok : Rule) (c : ℕ) → length (walk cells dock k ok c) ≡ suc k
 unfolding walk
-walk-length cells goal zero ok c = refl
-walk-length cells goal (suc k) ok c = ap suc (walk-length cells goal k (later ok) _)
+walk-length cells dock zero ok c = refl
+walk-length cells dock (suc k) ok c = ap suc (walk-length cells dock k (later ok) _)
 
 -- A list of n cells and then zeros.
 module _ (l : List ℕ) (k : ℕ) where
@@ -30,21 +31,21 @@ module _ (l : List ℕ) (k : ℕ) where
   padded-length = length-append l (replicate k 0) ∙ ap (λ (n : ℕ). length l + n) (length-replicate k 0)
 
 module _ (task : Task) (ok : Rule) where
-  cells-length : length (walk (task .cells) (task .goal) (task .horizon) ok (task .start)) ≡ suc (task .horizon)
-  cells-length = walk-length (task .cells) (task .goal) (task .horizon) ok (task .start)
+  cells-length : length (walk (task .cells) (task .dock) (task .horizon) ok (task .start)) ≡ suc (task .horizon)
+  cells-length = walk-length (task .cells) (task .dock) (task .horizon) ok (task .start)
 
   pub route-length : task .horizon ≤ 63 → length (walkFrom task ok) ≡ 64
   unfolding walkFrom
   route-length h =
-      padded-length (walk (task .cells) (task .goal) (task .horizon) ok (task .start)) (63 - task .horizon) ∙ omega (arith, cells-length)
+      padded-length (walk (task .cells) (task .dock) (task .horizon) ok (task .start)) (63 - task .horizon) ∙ omega (arith, cells-length)
 
   pub route-at : (t : ℕ) → t ≤ task .horizon →
-      cellAt (walkFrom task ok) t ≡ trail (task .cells) (task .goal) (task .horizon) ok (task .start) t
+      cellAt (walkFrom task ok) t ≡ trail (task .cells) (task .dock) (task .horizon) ok (task .start) t
   unfolding walkFrom cellAt
   route-at t h =
-      padded-at (walk (task .cells) (task .goal) (task .horizon) ok (task .start)) (63 - task .horizon) t (omega (arith, cells-length))
+      padded-at (walk (task .cells) (task .dock) (task .horizon) ok (task .start)) (63 - task .horizon) t (omega (arith, cells-length))
 
   pub route-blank : (t : ℕ) → task .horizon < t → cellAt (walkFrom task ok) t ≡ 0
   unfolding walkFrom cellAt
   route-blank t h =
-      padded-blank (walk (task .cells) (task .goal) (task .horizon) ok (task .start)) (63 - task .horizon) t (omega (arith, cells-length))
+      padded-blank (walk (task .cells) (task .dock) (task .horizon) ok (task .start)) (63 - task .horizon) t (omega (arith, cells-length))

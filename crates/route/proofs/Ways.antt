@@ -1,19 +1,19 @@
 -- Ways over any rule of moves, by beat: what the theory of a search speaks of in place of routes.
 use Prim.Native.Nat.{ℕ, zero, suc, _≤_, _<_}
 use native.Mathlib.Omega.{arith}
-use mathlib.Core.Bool.{true}
-use mathlib.Core.Path.{_≡_, _∙_}
+use mathlib.Core.Bool.{Bool, true}
+use mathlib.Core.Path.{_≡_, refl, sym, _∙_}
 use Rattle.route.specs.Search.{Rule, later}
 
--- Each step of p is allowed for k beats, and then p is at the goal.
-pub record Way (goal k : ℕ) (ok : Rule) (p : ℕ → ℕ) : Type 0 where
+-- Each step of p is allowed for k beats, and then p is at a dock.
+pub record Way (dock : ℕ → Bool) (k : ℕ) (ok : Rule) (p : ℕ → ℕ) : Type 0 where
   pub steps : (i : ℕ) → i < k → ok i (p i) (p (suc i)) ≡ true
-  pub ends : p k ≡ goal
+  pub ends : dock (p k) ≡ true
 
--- p is at the goal from beat j through beat k.
-pub record Held (goal k : ℕ) (p : ℕ → ℕ) (j : ℕ) : Type 0 where
+-- p is from beat j through beat k where it is at beat k.
+pub record Held (k : ℕ) (p : ℕ → ℕ) (j : ℕ) : Type 0 where
   pub within : j ≤ k
-  pub held : (i : ℕ) → j ≤ i → i ≤ k → p i ≡ goal
+  pub held : (i : ℕ) → j ≤ i → i ≤ k → p i ≡ p k
 
 -- The rule leads only to cells of the grid.
 abbrev pub Inside : ℕ → Rule → Type 0
@@ -34,27 +34,25 @@ pub record Ahead (k : ℕ) (p q : ℕ → ℕ) : Type 0 where
 abbrev pub rest : (ℕ → ℕ) → ℕ → ℕ
 rest p i = p (suc i)
 
-module _ {goal k : ℕ} {p : ℕ → ℕ} where
-  pub way-rest : {ok : Rule} → Way goal (suc k) ok p → Way goal k (later ok) (rest p)
+module _ {dock : ℕ → Bool} {k : ℕ} {p : ℕ → ℕ} {ok : Rule} where
+  pub way-rest : Way dock (suc k) ok p → Way dock k (later ok) (rest p)
   way-rest w = record { steps = λ i h. w .steps (suc i) (omega arith); ends = w .ends }
 
-  pub way-held-last : {ok : Rule} → Way goal k ok p → Held goal k p k
-  way-held-last w = record { within = omega arith; held = λ i l h. rw (last i l h) (w .ends) }
+  pub way-same : {q : ℕ → ℕ} → Way dock k ok p → Same k q p → Way dock k ok q
+  way-same w s = record { steps = λ i h. rw (s i (omega arith), s (suc i) h) (w .steps i h); ends = rw (s k (omega arith)) (w .ends) }
+
+module _ {k : ℕ} {p : ℕ → ℕ} where
+  pub held-last : Held k p k
+  held-last = record { within = omega arith; held = λ i l h. rw (last i l h) refl }
     where
       last : (i : ℕ) → k ≤ i → i ≤ k → i ≡ k
       last i l h = omega arith
 
-  pub held-rest : {j : ℕ} → Held goal (suc k) p (suc j) → Held goal k (rest p) j
+  pub held-rest : {j : ℕ} → Held (suc k) p (suc j) → Held k (rest p) j
   held-rest h = record { within = omega (arith, h .within); held = λ i l b. h .held (suc i) (omega arith) (omega arith) }
 
-  pub held-rest-zero : Held goal (suc k) p zero → Held goal k (rest p) zero
-  held-rest-zero h = record { within = omega arith; held = λ i l b. h .held (suc i) (omega arith) (omega arith) }
+  pub held-same : {q : ℕ → ℕ} {j : ℕ} → Held k p j → Same k q p → Held k q j
+  held-same h s = record { within = h .within; held = λ i l b. s i b ∙ h .held i l b ∙ sym (s k (omega arith)) }
 
-  pub way-same : {ok : Rule} {q : ℕ → ℕ} → Way goal k ok p → Same k q p → Way goal k ok q
-  way-same w s = record { steps = λ i h. rw (s i (omega arith), s (suc i) h) (w .steps i h); ends = s k (omega arith) ∙ w .ends }
-
-  pub held-same : {q : ℕ → ℕ} {j : ℕ} → Held goal k p j → Same k q p → Held goal k q j
-  held-same h s = record { within = h .within; held = λ i l b. s i b ∙ h .held i l b }
-
-  pub held-after : {j l : ℕ} → Held goal k p j → j ≤ l → l ≤ k → Held goal k p l
+  pub held-after : {j l : ℕ} → Held k p j → j ≤ l → l ≤ k → Held k p l
   held-after h a b = record { within = b; held = λ i m n. h .held i (omega arith) n }

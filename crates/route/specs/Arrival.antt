@@ -5,11 +5,11 @@ use mathlib.Core.List.{List}
 use lib.Dec.{eqb}
 use Rattle.route.specs.Route.{cellAt}
 
--- The beat after the last of the first n beats at which r is not at the goal, or 0.
+-- The beat after the last of the first n beats at which r is not at cell c, or 0.
 unfoldable pub settled : ℕ → List ℕ → ℕ → ℕ
-settled goal r zero = 0
-settled goal r (suc n) = elim (eqb (cellAt r n) goal) [ true ↦ settled goal r n | false ↦ suc n ]
+settled c r zero = 0
+settled c r (suc n) = elim (eqb (cellAt r n) c) [ true ↦ settled c r n | false ↦ suc n ]
 
--- The arrival of r: the least beat from which it is at the goal through H; H + 1 where it is not there at H.
-unfoldable pub arrivalOf : ℕ → List ℕ → ℕ → ℕ
-arrivalOf goal r H = settled goal r (suc H)
+-- The arrival of r: the least beat from which it is at its last cell through H.
+unfoldable pub arrivalOf : List ℕ → ℕ → ℕ
+arrivalOf r H = settled (cellAt r H) r H

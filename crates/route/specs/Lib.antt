@@ -1,4 +1,5 @@
--- In reading order: the nouns, relations, the function `best`, the sequential planner, what the code computes, claims.
+-- In reading order: the nouns, relations, the function `best`, the sequential planner, what the code computes, several docks and one,
+-- claims.
 pub mod Route
 pub mod Conflict
 pub mod FirstConflict
@@ -8,5 +9,7 @@ pub mod Moves
 pub mod Search
 pub mod Sequential
 pub mod Arrival
+pub mod Docks
+pub mod OneGoal
 pub mod ConflictTest
 pub mod Claims

@@ -20,13 +20,13 @@ pub data View : Type 0 where
   unheard : View
   heard : Answer → View
 
--- What a search is told: the grid, the horizon, where from and where to, and which cells are no wall.
+-- What a search is told: the grid, the horizon, where from, at which cells a route may end (its docks), and which cells are no wall.
 pub record Task : Type 0 where
   pub width : ℕ
   pub cells : ℕ
   pub horizon : ℕ
   pub start : ℕ
-  pub goal : ℕ
+  pub dock : ℕ → Bool
   pub free : ℕ → Bool
 
 -- One number is the other plus 1.

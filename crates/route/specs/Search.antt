@@ -4,7 +4,7 @@
 use Prim.Native.Nat.{ℕ, zero, suc, _-_}
 use mathlib.Core.Bool.{Bool, true, false, _&&_}
 use mathlib.Core.List.{List, [], _∷_, _++_}
-use lib.Dec.{ltb, leb, eqb}
+use lib.Dec.{ltb, leb}
 use lib.ListN.{replicate}
 use Rattle.route.specs.Route.{Answer, none, route, View, Task}
 use Rattle.route.specs.Moves.{allowed, startClear}
@@ -30,29 +30,38 @@ unfoldable pub cheapest : ℕ → (ℕ → ℕ) → ℕ → ℕ × ℕ
 cheapest never f zero = (0, never)
 cheapest never f (suc n) = cheaper (cheapest never f n) n (f n)
 
--- Beats until the goal is reached for good, from a cell whose next one needs m: 0 at the goal where the next holds it, else m + 1.
-unfoldable pub beatsFrom : Bool → ℕ → ℕ
-beatsFrom true zero = 0
-beatsFrom true (suc m) = suc (suc m)
-beatsFrom false m = suc m
+-- Cell c can be held for k more beats.
+unfoldable pub holds : ℕ → Rule → ℕ → Bool
+holds zero ok c = true
+holds (suc k) ok c = ok 0 c c && holds k (later ok) c
 
-module _ (cells goal : ℕ) where
-  -- The least beats until the goal is reached for good, from cell c with k beats left; k + 1 where there is no way.
+-- A way has ended at cell c with k beats left: c is a dock and can be held to the end.
+unfoldable pub ended : (ℕ → Bool) → ℕ → Rule → ℕ → Bool
+ended dock k ok c = dock c && holds k ok c
+
+module _ (cells : ℕ) (dock : ℕ → Bool) where
+  -- The least beats until a dock is reached for good, from cell c with k beats left; k + 1 where there is no way.
   unfoldable pub val : ℕ → Rule → ℕ → ℕ
-  val zero ok c = elim (eqb c goal) [ true ↦ 0 | false ↦ 1 ]
-  val (suc k) ok c = beatsFrom (eqb c goal) ((cheapest (suc k) (cost (ok 0 c) (suc k) (val k (later ok))) cells) .1)
+  val zero ok c = elim (ended dock 0 ok c) [ true ↦ 0 | false ↦ 1 ]
+  val (suc k) ok c =
+      elim (ended dock (suc k) ok c) [ true ↦ 0 | false ↦ suc ((cheapest (suc k) (cost (ok 0 c) (suc k) (val k (later ok))) cells) .1) ]
+
+  -- The cell of the walk after cell c with k + 1 beats left: c where it has ended, else the first of least value.
+  unfoldable pub onward : ℕ → Rule → ℕ → ℕ
+  onward k ok c =
+      elim (ended dock (suc k) ok c) [ true ↦ c | false ↦ (cheapest (suc k) (cost (ok 0 c) (suc k) (val k (later ok))) cells) .0 ]
 
   -- The cells of the walk along least values, from cell c with k beats left.
   unfoldable pub walk : ℕ → Rule → ℕ → List ℕ
   walk zero ok c = c ∷ []
-  walk (suc k) ok c = c ∷ walk k (later ok) ((cheapest (suc k) (cost (ok 0 c) (suc k) (val k (later ok))) cells) .0)
+  walk (suc k) ok c = c ∷ walk k (later ok) (onward k ok c)
 
 -- The walk from the start, with zeros up to 64 cells.
 unfoldable pub walkFrom : Task → Rule → List ℕ
-walkFrom task ok = walk (task .cells) (task .goal) (task .horizon) ok (task .start) ++ replicate (63 - task .horizon) 0
+walkFrom task ok = walk (task .cells) (task .dock) (task .horizon) ok (task .start) ++ replicate (63 - task .horizon) 0
 
 -- The best answer against a list of views.
 unfoldable pub best : Task → List View → Answer
 best task vs =
-    elim (startClear task vs && leb (val (task .cells) (task .goal) (task .horizon) (allowed task vs) (task .start)) (task .horizon))
+    elim (startClear task vs && leb (val (task .cells) (task .dock) (task .horizon) (allowed task vs) (task .start)) (task .horizon))
     [ true ↦ route (walkFrom task (allowed task vs)) | false ↦ none ]

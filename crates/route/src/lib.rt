@@ -1,4 +1,4 @@
-// Routes: the conflict test of two routes and the arrival of a route (document 01, 'Routes'; document 02, slips 7 and 9).
+// Routes: the conflict test of two routes and the arrival of a route (document 01, 'Routes'; document 02, slips 7, 9 and 10).
 // A route is 64 cell numbers, one a beat; a horizon above 63 counts as 63.
 ghost use mathlib.Core.Path.{_≡_};
 ghost use Prim.Native.Nat.{_≤_, min};
@@ -86,15 +86,16 @@ pub fn first_conflict(a: Route, b: Route, horizon: u16) -> FirstConflict
     FirstConflict::Free
 }
 
-// The least beat from which a route is at the goal through the horizon; one past the horizon where it is not there then.
-pub fn arrival(r: Route, goal: u16, horizon: u16) -> u16
-    ensures answers { λ a. ⌜ a ≡ arrivalOf goal r (min horizon 63) ⌝ }
+// The least beat from which a route is at its last cell through the horizon.
+pub fn arrival(r: Route, horizon: u16) -> u16
+    ensures answers { λ a. ⌜ a ≡ arrivalOf r (min horizon 63) ⌝ }
 {
     let last = last_beat(horizon);
+    let end = r[last];
     let mut a: usize = 0;
     let mut t: usize = 0;
-    while t <= last {
-        if r[t] != goal {
+    while t < last {
+        if r[t] != end {
             a = t + 1;
         }
         t += 1;

@@ -1,6 +1,6 @@
-// Drawn floors and lists of steps, as numbers of a desk: how many walls there are, at 5; starts and goals in turn, from 6 on; how many steps
-// there are to choose among, at 100, and these; the walls, from 201 on. What is drawn comes from one generator: the next number is the
-// last times 16807 modulo 2^31 - 1.
+// Drawn floors and lists of steps, as numbers of a desk: how many walls there are, at 5; starts and first docks in turn, from 6 on; how many
+// steps there are to choose among, at 100, and these; the other docks, from 150 on; the walls, from 201 on. What is drawn comes from one
+// generator: the next number is the last times 16807 modulo 2^31 - 1.
 ghost use mathlib.Core.Path.{_≡_};
 ghost use lib.ListN.{length};
 use crate::look;
@@ -23,7 +23,7 @@ pub fn beside(seed: usize, k: usize) -> usize {
     look::plus(look::plus(seed % 65000, k), 1)
 }
 
-// All cells, at most 40, shuffled into every other number of a desk from a place on: the first eight are starts, or goals.
+// All cells, at most 40, shuffled into every other number of a desk from a place on: the first eight are starts, or first docks.
 fn shuffle(desk: &mut [u16], from: usize, cells: usize, seed: usize) {
     let mut s = seed;
     let mut to = from;
@@ -39,7 +39,23 @@ fn shuffle(desk: &mut [u16], from: usize, cells: usize, seed: usize) {
     }
 }
 
-// Whether a cell is one of the eight drawn starts or goals.
+// The place of dock n of a desk, counted through all carriers, four each: a carrier's first stands behind its start, its others from 150 on.
+pub fn dock_place(n: usize) -> usize {
+    look::choose(n % 4 == 0, look::plus(7, n / 2), look::plus(150, n))
+}
+
+// A carrier's other docks become the first ones of those behind it, round all eight: its dock k, from 0, is the first of the kth behind it.
+fn draw_docks(desk: &mut [u16]) {
+    let mut n: usize = 0;
+    while n < 32 {
+        let behind = look::plus(n / 4, n % 4) % 8;
+        let first = look::plus(7, look::plus(behind, behind));
+        look::put(desk, dock_place(n), look::at(desk, first));
+        n += 1;
+    }
+}
+
+// Whether a cell is one of the eight drawn starts or docks.
 fn is_end(desk: &[u16], c: u16) -> bool {
     let mut i: usize = 6;
     while i < 22 {
@@ -51,7 +67,7 @@ fn is_end(desk: &[u16], c: u16) -> bool {
     false
 }
 
-// Draws the walls, rising, one in six of the cells that are no start and no goal, and answers how many there are.
+// Draws the walls, rising, one in six of the cells that are no start and no dock, and answers how many there are.
 fn draw_walls(desk: &mut [u16], cells: usize, seed: usize) -> usize {
     let mut s = seed;
     let mut count: usize = 0;
@@ -66,11 +82,12 @@ fn draw_walls(desk: &mut [u16], cells: usize, seed: usize) -> usize {
     count
 }
 
-// The floor of a desk gets drawn starts, goals and walls.
+// The floor of a desk gets drawn starts, docks and walls; the dock counts are those of the desk.
 pub fn draw_floor(desk: &mut [u16], cells: usize, seed: usize) {
     let c = next(next(seed));
     shuffle(desk, 6, cells, beside(c, 1));
     shuffle(desk, 7, cells, beside(c, 2));
+    draw_docks(desk);
     let count = draw_walls(desk, cells, beside(c, 3));
     look::put(desk, 5, look::narrow(count));
 }

@@ -58,8 +58,9 @@ module _ (f : Floor) (ws : List ℕ) (i : ℕ) (m : List ℕ) where
         height = b .height .1;
         horizon = b .horizon .1;
         listed = (w .0, omega (arith, w, b .carriers));
-        start = (a .carriers-in-grid (i - 1) (omega (arith, w))) .0;
-        goal = (a .carriers-in-grid (i - 1) (omega (arith, w))) .1;
+        start = (a .carriers-in-grid (i - 1) (omega (arith, w))) .1 .0;
+        few = (a .carriers-in-grid (i - 1) (omega (arith, w))) .0 .1;
+        docks = (a .carriers-in-grid (i - 1) (omega (arith, w))) .1 .1;
         lent = l;
         long = r .long;
         clean = r .clean;

@@ -5,7 +5,7 @@ use mathlib.Core.Path.{_≡_, ap}
 use lib.ListN.{length}
 use Rattle.laws.specs.Verdict.{Outcome}
 use Rattle.floor.specs.declared.Floor.{Floor}
-use Rattle.floor.specs.Checks.{startOf, goalOf}
+use Rattle.floor.specs.Checks.{startOf, countOf, docksOf, dockOf, isDock, among}
 use Rattle.route.specs.Route.{Answer, View}
 use Rattle.route.specs.Moves.{standable}
 use Rattle.route.specs.Search.{best}
@@ -14,6 +14,7 @@ use Rattle.tables.specs.declared.Scene.{Scene}
 use Rattle.tables.specs.Table.{sceneOf, Fits, Tidy}
 use Rattle.tables.specs.Room.{standsAt, Roomy}
 use Rattle.tables.proofs.GridLaws.{scene-grid}
+use Rattle.passes.specs.Docks.{DocksIn}
 use Rattle.records.specs.Records.{records, viewsOf}
 use Rattle.records.specs.Seen.{seen}
 use Rattle.search.specs.declared.Found.{Found}
@@ -33,14 +34,14 @@ module _ {f : Floor} {rows : List ℕ} {i : ℕ} {m : List ℕ} (s : Searchable 
   unfolding sceneOf
   scene-clean = rw q (s .clean)
 
-  -- Start and goal are cells of it.
+  -- Start and docks are cells of it.
   pub scene-start : startOf f (i - 1) < g .cells
   unfolding sceneOf
   scene-start = rw q (s .start)
 
-  pub scene-goal : goalOf f (i - 1) < g .cells
-  unfolding sceneOf
-  scene-goal = rw q (s .goal)
+  pub scene-docks : {cells : List ℕ} → cells ≡ docksOf f (i - 1) → DocksIn g (countOf f (i - 1)) cells
+  unfolding sceneOf dockOf
+  scene-docks at = rw (q, at) (record { few = s .few; inside = s .docks })
 
 -- A room of the scene is one of the floor's, and a tidy table too.
 pub room-scene : (f : Floor) {g : Scene} {k : ℕ} {rows m room : List ℕ} → g ≡ sceneOf f → Roomy g k rows m room →
@@ -51,12 +52,12 @@ pub tidy-scene : (f : Floor) {g : Scene} {s : List ℕ} → g ≡ sceneOf f → 
 tidy-scene f q t = rw q at t
 
 -- What is best in such a room is the best answer against the views.
-pub best-views : (f : Floor) (rows : List ℕ) (i : ℕ) (m room : List ℕ) (g : Scene) (r : Found) → g ≡ sceneOf f →
-    Roomy (sceneOf f) (i - 1) rows m room → BestIn g room (startOf f (i - 1)) (goalOf f (i - 1)) r →
-    Says r (answered (best (taskOfRows f rows i) (viewsOf m i)))
-unfolding taskOfRows viewsOf sceneOf standsAt standable
-best-views f rows i m room g r q roomy h =
-    (rw q at h) (λ c. has rows (c / f .width) (c % f .width)) (records m (i - 1)) (roomy .agrees)
+pub best-views : (f : Floor) (rows : List ℕ) (i : ℕ) (m room : List ℕ) (g : Scene) (cells : List ℕ) (r : Found) → g ≡ sceneOf f →
+    cells ≡ docksOf f (i - 1) → Roomy (sceneOf f) (i - 1) rows m room →
+    BestIn g room (startOf f (i - 1)) (among cells (countOf f (i - 1))) r → Says r (answered (best (taskOfRows f rows i) (viewsOf m i)))
+unfolding taskOfRows viewsOf sceneOf standsAt standable isDock
+best-views f rows i m room g cells r q at roomy h =
+    (rw (q, at) at h) (λ c. has rows (c / f .width) (c % f .width)) (records m (i - 1)) (roomy .agrees)
 
 -- A carrier that can be searched for with some views can be with others.
 pub other-views : {f : Floor} {rows : List ℕ} {i : ℕ} {m q : List ℕ} → Searchable f rows i m → 65 * (i - 1) ≤ length q →
@@ -68,7 +69,8 @@ other-views s l =
       horizon = s .horizon;
       listed = s .listed;
       start = s .start;
-      goal = s .goal;
+      few = s .few;
+      docks = s .docks;
       lent = l;
       long = s .long;
       clean = s .clean;

@@ -8,145 +8,223 @@ use mathlib.Core.List.{List}
 use mathlib.Core.Logic.{⊎-elim}
 use mathlib.Core.Path.{_≡_, refl, sym, _∙_}
 use borrow.Author.Tests.{leb-true, le-leb}
-use lib.Dec.{leb}
-use lib.ListN.{length, replicate, length-replicate}
+use lib.ListN.{length, getD, replicate, length-replicate}
 use Rattle.laws.proofs.Lists.{zeros-at}
-use Rattle.laws.proofs.Tests.{and-both, and-fst, and-snd}
+use Rattle.laws.proofs.Tests.{and-both, and-fst, and-snd, false-fails, not-true-is-false}
+use Rattle.floor.specs.Checks.{among}
+use Rattle.floor.proofs.AmongLaws.{among-found, among-place}
 use Rattle.route.specs.Route.{cellAt, none, route, Task, View}
 use Rattle.route.specs.Moves.{near, standable, allowed, startClear}
 use Rattle.route.specs.Search.{Rule, best}
-use Rattle.route.proofs.Sets.{Sets, Reached as Came, Leading as Leads, Forward, Holds, Reaches, Backward, Greedy}
-use Rattle.route.proofs.SetsBest.{Found, found-best, not-found-best, start-taken-best, goal-shut-best}
+use Rattle.route.proofs.Sets.{Sets, Reached as Came, Leading as Leads, Forward, Ending, Reaches, Backward, Greedy}
+use Rattle.route.proofs.SetsBest.{Found, found-best, not-found-best, start-taken-best, docks-shut-best}
 use Rattle.words.specs.Rows.{filled}
 use Rattle.words.proofs.FillLaws.{length-filled, filled-in, filled-out}
 use Rattle.tables.specs.declared.Scene.{Scene}
 use Rattle.tables.specs.Table.{inSet}
 use Rattle.tables.specs.Step.{Beside, Spread}
 use Rattle.tables.proofs.MemberLaws.{near-same, near-turn}
-use Rattle.passes.specs.Passes.{Reached, Leading, lastNot, arrivable, Earliest}
+use Rattle.passes.specs.declared.docks.Docks.{Docks}
+use Rattle.passes.specs.Docks.{holdOf, heldDocks, heldAt, someHeld, arrivableAt, arrivable, endableAt}
+use Rattle.passes.specs.Passes.{Reached, Leading, Earliest}
 use Rattle.passes.specs.Walk.{nextOf, pathOf}
-use Rattle.passes.proofs.HoldLaws.{last-says, last-least}
+use Rattle.passes.proofs.AnyLaws.{Passing, any-says, any-holds}
+use Rattle.passes.proofs.HoldLaws.{held-says, held-least}
+use Rattle.passes.proofs.EndsLaws.{arrivable-says, arrivable-holds, endable-says, endable-holds}
 use Rattle.passes.proofs.NearCells.{first-best}
 use Rattle.passes.proofs.NextLaws.{step-before, step-after}
 use Rattle.search.specs.Seek.{taskIn, Agrees}
 
-module _ (g : Scene) (room : List ℕ) (start goal : ℕ) (free : ℕ → Bool) (vs : List View)
-    (agrees : Agrees g room (taskIn g start goal free) vs) (short : g .horizon ≤ 63) (thin : 1 ≤ g .width) where
-  abbrev task : Task
-  task = taskIn g start goal free
+module _ (g : Scene) (room : List ℕ) (start count : ℕ) (cells : List ℕ) (free : ℕ → Bool) (vs : List View)
+    (agrees : Agrees g room (taskIn g start (among cells count) free) vs) (short : g .horizon ≤ 63) (thin : 1 ≤ g .width) (few : count ≤ 4)
+  where
+    abbrev task : Task
+    task = taskIn g start (among cells count) free
 
-  abbrev ok : Rule
-  ok = allowed task vs
+    abbrev ok : Rule
+    ok = allowed task vs
 
-  -- A move is allowed exactly if it is near and leads into the room.
-  move-near : (t c d : ℕ) → ok t c d ≡ true → near (g .width) c d ≡ true
-  unfolding allowed
-  move-near t c d e = and-fst (near (g .width) c d) (standable task vs (suc t) d) e
+    -- The docks with the beats from which they can be held.
+    abbrev ds : Docks
+    ds = heldDocks g room count cells
 
-  move-room : (t c d : ℕ) → t < g .horizon → ok t c d ≡ true → inSet g room (suc t) d ≡ true
-  unfolding allowed
-  move-room t c d h e = agrees (suc t) d h ∙ and-snd (near (g .width) c d) (standable task vs (suc t) d) e
+    -- A move is allowed exactly if it is near and leads into the room.
+    move-near : (t c d : ℕ) → ok t c d ≡ true → near (g .width) c d ≡ true
+    unfolding allowed
+    move-near t c d e = and-fst (near (g .width) c d) (standable task vs (suc t) d) e
 
-  move : (t c d : ℕ) → t < g .horizon → near (g .width) c d ≡ true → inSet g room (suc t) d ≡ true → ok t c d ≡ true
-  unfolding allowed
-  move t c d h n i = and-both n (sym (agrees (suc t) d h) ∙ i)
+    move-room : (t c d : ℕ) → t < g .horizon → ok t c d ≡ true → inSet g room (suc t) d ≡ true
+    unfolding allowed
+    move-room t c d h e = agrees (suc t) d h ∙ and-snd (near (g .width) c d) (standable task vs (suc t) d) e
 
-  -- The start, or the goal at the horizon, cannot be stood on.
-  pub start-shut : inSet g room 0 start ≡ false → best (taskIn g start goal free) vs ≡ none
-  unfolding startClear
-  start-shut e = start-taken-best task vs short (sym (agrees 0 start (omega arith)) ∙ e)
+    move : (t c d : ℕ) → t < g .horizon → near (g .width) c d ≡ true → inSet g room (suc t) d ≡ true → ok t c d ≡ true
+    unfolding allowed
+    move t c d h n i = and-both n (sym (agrees (suc t) d h) ∙ i)
 
-  pub goal-shut : inSet g room (g .horizon) goal ≡ false → best (taskIn g start goal free) vs ≡ none
-  goal-shut e = goal-shut-best task vs short (sym (agrees (g .horizon) goal (omega arith)) ∙ e)
+    -- The start cannot be stood on.
+    pub start-shut : inSet g room 0 start ≡ false → best (taskIn g start (among cells count) free) vs ≡ none
+    unfolding startClear
+    start-shut e = start-taken-best task vs short (sym (agrees 0 start (omega arith)) ∙ e)
 
-  module _ (n : ℕ) (s : List ℕ) (early : n ≤ g .horizon) (reached : Reached g room start n s) where
-    F : Sets
-    F = inSet g s
+    -- The beat from which dock k can be held.
+    hold-at : (k : ℕ) → k < count → getD (ds .holds) k 0 ≡ holdOf g room (getD cells k 0)
+    unfolding heldDocks
+    hold-at k h =
+        filled-in (replicate 4 0) (λ j. holdOf g room (getD cells j 0)) count k (omega (arith, length-replicate {A = ℕ} 4 0)) h
 
-    next : (t : ℕ) → t < n → Spread g room s t (suc t)
-    next t h = rw add-one at (reached .spreads t h)
+    -- Dock k can be held from beat t on exactly if it is in the room from then on.
+    held-room : (t k : ℕ) → k < count → heldAt ds t k ≡ true → (u : ℕ) → t ≤ u → u ≤ g .horizon → inSet g room u (getD cells k 0) ≡ true
+    unfolding heldAt holdOf
+    held-room t k h e u l b =
+        held-says (λ v. inSet g room v (getD cells k 0)) t (g .horizon + 1)
+        (omega (arith, hold-at k h, leb-true (getD (ds .holds) k 0) t e)) u l (omega arith)
 
-    -- The sets are those that the start reaches.
-    forward : Forward ok start n F
-    unfolding F
-    forward =
-        record {
-          begins = λ c. (reached .begins .says c, λ (e : c ≡ start). rw e (reached .begins .holds));
-          spreads = λ t d h. (
-            λ e. came t d h (next t h .says d e),
-            λ (c, i, m). next t h .holds d (move-room t c d (omega arith) m)
-                (c, i, move-near t c d m),
-          );
-        }
+    room-held : (t k : ℕ) → k < count → ((u : ℕ) → t ≤ u → u ≤ g .horizon → inSet g room u (getD cells k 0) ≡ true) → heldAt ds t k ≡ true
+    unfolding heldAt holdOf
+    room-held t k h f =
+        le-leb (getD (ds .holds) k 0) t
+        (omega (arith, hold-at k h, held-least (λ v. inSet g room v (getD cells k 0)) t (g .horizon + 1) (λ u l b. f u l (omega arith))))
+
+    -- No dock can be held at the horizon.
+    pub docks-shut : someHeld ds (g .horizon) ≡ false → best (taskIn g start (among cells count) free) vs ≡ none
+    unfolding someHeld heldDocks
+    docks-shut e = docks-shut-best task vs short (λ d h. sym (agrees (g .horizon) d (omega arith)) ∙ shut d (among-place cells d count h))
       where
-        came : (t d : ℕ) → t < n → (inSet g room (suc t) d ≡ true) × Beside g s t d → Came ok F t d
-        came t d h (r, (c, i, m)) = (c, i, move t c d (omega arith) m r)
+        shut : (d : ℕ) → (k : ℕ) × (k < count) × (getD cells k 0 ≡ d) → inSet g room (g .horizon) d ≡ false
+        shut d (k, l, q) = not-true-is-false (inSet g room (g .horizon) d) (λ i. false-fails e (any-holds (heldAt ds (g .horizon)) count k l
+            (room-held (g .horizon) k l (λ u a b. let same : u ≡ g .horizon = omega arith in rw (same, q) i))))
 
-    -- What is reached is in the room.
-    forward-room : inSet g room 0 start ≡ true → (t c : ℕ) → t ≤ n → inSet g s t c ≡ true → inSet g room t c ≡ true
-    forward-room clear zero c h e = rw (reached .begins .says c e) clear
-    forward-room clear (suc t) c h e = next t h .says c e .0
+    -- A dock of those that can be held from beat t on is an ending in the room, and the other way round.
+    end-dock : (t c : ℕ) → t ≤ g .horizon → Passing (endableAt ds t c) count → Ending ok (among cells count) (g .horizon) t c
+        × (inSet g room t c ≡ true)
+    unfolding heldDocks
+    end-dock t c h p = (ending, stays t (omega arith) h)
+      where
+        told : (heldAt ds t (p .which) ≡ true) × (c ≡ getD cells (p .which) 0)
+        told = endable-says ds t c (p .which) (p .passes)
 
-    module _ (hold : ℕ) (held : hold ≡ lastNot (λ u. inSet g room u goal) (g .horizon)) where
-      -- A beat is an arrival exactly if the search finds it to be one.
-      arrives : (t : ℕ) → arrivable g s goal hold t ≡ true → Reaches ok goal (g .horizon) F t
-      unfolding F arrivable
-      arrives t e =
+        stays : (u : ℕ) → t ≤ u → u ≤ g .horizon → inSet g room u c ≡ true
+        stays u l b = rw (told .1) (held-room t (p .which) (p .below) (told .0) u l b)
+
+        ending : Ending ok (among cells count) (g .horizon) t c
+        ending =
+            record {
+              docks = among-found cells c (p .which) count (p .below) (sym (told .1));
+              holds = λ u l b. move u c c b (near-same (g .width) c) (stays (suc u) (omega arith) b);
+            }
+
+    dock-end : (t c : ℕ) → Ending ok (among cells count) (g .horizon) t c → inSet g room t c ≡ true → Passing (endableAt ds t c) count
+    unfolding heldDocks
+    dock-end t c e i = at (among-place cells c count (e .docks))
+      where
+        stays : (u : ℕ) → t ≤ u → u ≤ g .horizon → inSet g room u c ≡ true
+        stays zero l b = let same : t ≡ 0 = omega arith in rw same at i
+        stays (suc u) l b =
+            ⊎-elim (λ (q : t ≡ suc u). rw q at i) (λ (q : t < suc u). move-room u c c b (e .holds u (omega arith) b)) (eq-or-lt-of-le l)
+
+        at : (k : ℕ) × (k < count) × (getD cells k 0 ≡ c) → Passing (endableAt ds t c) count
+        at (k, l, q) =
+            record {
+              which = k;
+              below = l;
+              passes = endable-holds ds t c k (room-held t k l (λ u a b. rw q (stays u a b))) (sym q);
+            }
+
+    module _ (n : ℕ) (s : List ℕ) (early : n ≤ g .horizon) (reached : Reached g room start n s) (clear : inSet g room 0 start ≡ true) where
+      F : Sets
+      F = inSet g s
+
+      next : (t : ℕ) → t < n → Spread g room s t (suc t)
+      next t h = rw add-one at (reached .spreads t h)
+
+      -- The sets are those that the start reaches.
+      forward : Forward ok start n F
+      unfolding F
+      forward =
           record {
-            reached = and-snd (leb hold t) (inSet g s t goal) e;
-            holds = λ u l b. move u goal goal b (near-same (g .width) goal) (last-says (λ u. inSet g room u goal) t (g .horizon)
-                (omega (arith, held, leb-true hold t (and-fst (leb hold t) (inSet g s t goal) e))) u l b);
+            begins = λ c. (reached .begins .says c, λ (e : c ≡ start). rw e (reached .begins .holds));
+            spreads = λ t d h. (
+              λ e. came t d h (next t h .says d e),
+              λ (c, i, m). next t h .holds d (move-room t c d (omega arith) m)
+                  (c, i, move-near t c d m),
+            );
           }
+        where
+          came : (t d : ℕ) → t < n → (inSet g room (suc t) d ≡ true) × Beside g s t d → Came ok F t d
+          came t d h (r, (c, i, m)) = (c, i, move t c d (omega arith) m r)
 
-      found-arrival : (t : ℕ) → Reaches ok goal (g .horizon) F t → arrivable g s goal hold t ≡ true
-      unfolding F arrivable
-      found-arrival t r =
-          and-both
-          (le-leb hold t
-          (omega (arith, held, last-least (λ u. inSet g room u goal) t (g .horizon) (λ u l b. move-room u goal goal b (r .holds u l b)))))
-          (r .reached)
+      -- What is reached is in the room.
+      forward-room : (t c : ℕ) → t ≤ n → inSet g s t c ≡ true → inSet g room t c ≡ true
+      forward-room zero c h e = rw (reached .begins .says c e) clear
+      forward-room (suc t) c h e = next t h .says c e .0
+
+      -- A beat is an arrival exactly if the search finds it to be one.
+      arrives : (t : ℕ) → t ≤ g .horizon → arrivable g s ds t ≡ true → Reaches ok (among cells count) (g .horizon) F t
+      unfolding F arrivable heldDocks
+      arrives t h e =
+          let p : Passing (arrivableAt g s ds t) count = any-says (arrivableAt g s ds t) count e in
+          let told = arrivable-says g s ds t (p .which) (p .passes) in
+          let d = getD cells (p .which) 0 in
+          let end : Passing (endableAt ds t d) count =
+          record { which = p .which; below = p .below; passes = endable-holds ds t d (p .which) (told .0) refl } in
+          record { where-to = d; reached = told .1; ending = (end-dock t d h end) .0 }
+
+      found-arrival : (t : ℕ) → t ≤ n → Reaches ok (among cells count) (g .horizon) F t → arrivable g s ds t ≡ true
+      unfolding F arrivable heldDocks
+      found-arrival t h r =
+          let p = dock-end t (r .where-to) (r .ending) (forward-room t (r .where-to) h (r .reached)) in
+          let told = endable-says ds t (r .where-to) (p .which) (p .passes) in
+          any-holds (arrivableAt g s ds t) count (p .which) (p .below)
+          (arrivable-holds g s ds t (p .which) (told .0) (rw (told .1) at (r .reached)))
 
       -- No beat through the horizon is an arrival.
-      pub never : (a : ℕ) → g .horizon ≤ n → Earliest (arrivable g s goal hold) (g .horizon + 1) a → g .horizon < a →
-          best (taskIn g start goal free) vs ≡ none
+      pub never : (a : ℕ) → g .horizon ≤ n → Earliest (arrivable g s (heldDocks g room count cells)) (g .horizon + 1) a → g .horizon < a →
+          best (taskIn g start (among cells count) free) vs ≡ none
       never a q e h =
           not-found-best task vs short F
           (record {
             forward = record { begins = forward .begins; spreads = λ t d l. forward .spreads t d (omega arith) };
-            never = λ b l r. e .none-before b (omega arith) (found-arrival b r);
+            never = λ b l r. e .none-before b (omega arith) (found-arrival b (omega arith) r);
           })
 
-      module _ (T : List ℕ) (clear : inSet g room 0 start ≡ true) (earliest : Earliest (arrivable g s goal hold) (g .horizon + 1) n)
-          (leading : Leading g room goal n 0 T) where
+      module _ (T : List ℕ) (earliest : Earliest (arrivable g s (heldDocks g room count cells)) (g .horizon + 1) n)
+          (leading : Leading g room (heldDocks g room count cells) n 0 T) where
         B : Sets
         B = inSet g T
 
         x : ℕ → ℕ
         x t = pathOf g T start n t
 
-        reaches : Reaches ok goal (g .horizon) F n
-        reaches = arrives n (earliest .passes (omega arith))
+        reaches : Reaches ok (among cells count) (g .horizon) F n
+        reaches = arrives n early (earliest .passes (omega arith))
 
         back : (t : ℕ) → t < n → Spread g room T (suc t) t
         back t h = rw add-one at (leading .spreads t (omega arith) h)
 
-        -- What leads to the goal is in the room.
-        back-room : (t d : ℕ) → t ≤ n → inSet g T t d ≡ true → inSet g room t d ≡ true
-        unfolding F
-        back-room t d h e = ⊎-elim last (λ (l : t < n). back t l .says d e .0) (eq-or-lt-of-le h)
-          where
-            last : t ≡ n → inSet g room t d ≡ true
-            last q =
-                rw (q, leading .ends .says d (rw q at e))
-                (forward-room clear n goal (omega arith) (reaches .reached))
+        -- The set of beat n is the docks that can be held from then on.
+        ends : (c : ℕ) → inSet g T n c ≡ true → Ending ok (among cells count) (g .horizon) n c × (inSet g room n c ≡ true)
+        unfolding heldDocks
+        ends c e = end-dock n c early (any-says (endableAt ds n c) count (sym (leading .ends c) ∙ e))
 
-        backward : Backward ok goal n F B
+        begins : (c : ℕ) → inSet g s n c ≡ true → Ending ok (among cells count) (g .horizon) n c → inSet g T n c ≡ true
+        unfolding heldDocks
+        begins c i e =
+            let p = dock-end n c e (forward-room n c (omega arith) i) in
+            leading .ends c ∙ any-holds (endableAt ds n c) count (p .which) (p .below) (p .passes)
+
+        -- What leads to a dock is in the room.
+        back-room : (t d : ℕ) → t ≤ n → inSet g T t d ≡ true → inSet g room t d ≡ true
+        back-room t d h e =
+            ⊎-elim (λ (q : t ≡ n). rw q ((ends d (rw q at e)) .1)) (λ (l : t < n). back t l .says d e .0) (eq-or-lt-of-le h)
+
+        backward : Backward ok (among cells count) (g .horizon) n F B
         unfolding F B
         backward =
             record {
-              begins = λ c. (leading .ends .says c, λ (e : c ≡ goal). rw e (leading .ends .holds));
+              ends = λ c e. (ends c e) .0;
+              begins = begins;
               leads = λ t c h e. leads t c h (back t h .says c e .1);
-              holds = λ t c h e (d, m, i). back t h .holds c (forward-room clear t c (omega arith) e)
+              holds = λ t c h e (d, m, i). back t h .holds c (forward-room t c (omega arith) e)
                   (d, i, near-turn (g .width) c d (move-near t c d m));
             }
           where
@@ -196,7 +274,11 @@ module _ (g : Scene) (room : List ℕ) (start goal : ℕ) (free : ℕ → Bool) 
             record {
               clear = sym (agrees 0 start (omega arith)) ∙ clear;
               forward = forward;
-              least = record { within = early; reaches = reaches; none-before = λ b l q. earliest .none-before b l (found-arrival b q) };
+              least = record {
+                within = early;
+                reaches = reaches;
+                none-before = λ b l q. earliest .none-before b l (found-arrival b (omega arith) q);
+              };
               backward = backward;
               greedy = greedy;
               long = length-filled (replicate 64 0) x (g .horizon + 1) ∙ length-replicate {A = ℕ} 64 0;
@@ -204,6 +286,7 @@ module _ (g : Scene) (room : List ℕ) (start goal : ℕ) (free : ℕ → Bool) 
             }
 
         -- The walk is the best route.
-        pub walk-best : best (taskIn g start goal free) vs ≡ route (filled (replicate 64 0) (pathOf g T start n) (g .horizon + 1))
+        pub walk-best : best (taskIn g start (among cells count) free) vs
+            ≡ route (filled (replicate 64 0) (pathOf g T start n) (g .horizon + 1))
         unfolding r x
         walk-best = found-best task vs short F B n r found

@@ -63,9 +63,13 @@ route-among f vs j r e = among (seen f vs) j (route r) (route-view f vs j r e)
 -- Where view j is a heard none, the best route is at no beat in j's start.
 pub kept-off : (f : Floor) (task : Task) (vs : List View) (j t : ℕ) (r : List ℕ) → task .horizon ≡ f .horizon → f .horizon ≤ 63 →
     getD vs j unheard ≡ heard none → best task (seen f vs) ≡ route r → t ≤ f .horizon → cellAt r t ≡ startOf f j → ⊥
-kept-off f task vs j t r h short e b l =
-    theorems .goal-occupied task (seen f vs) r (parked f j) (startOf f j) 0 t (omega arith) (none-among f vs j e)
-    (record { within = omega arith; held = λ u low most. parked-cell f j u (omega arith) }) b (omega arith) (omega arith)
+kept-off f task vs j t r h short e b l q =
+    theorems .dock-occupied task (seen f vs) r (parked f j) 0 t (omega arith) (none-among f vs j e)
+    (record { within = omega arith; held = λ u low most. parked-cell f j u (omega arith) ∙ sym last }) b (omega arith) (omega arith)
+    (q ∙ sym last)
+  where
+    last : cellAt (parked f j) (task .horizon) ≡ startOf f j
+    last = parked-cell f j (task .horizon) (omega arith)
 
 -- Where no view is a heard none, views are seen as they are.
 plain-as : (f : Floor) (j : ℕ) (v : View) → (v ≡ heard none → ⊥) → seenAs f j v ≡ v

@@ -53,12 +53,12 @@ module _ (f : Floor) (ws : List ℕ) (i : ℕ) (m : List ℕ) where
   best-answer x e = rw (best-of x e) at (route-theorems .best-meets (taskOf f ws i) (seen f (viewsOf m i)) (short (granted-of x e)))
 
   route-answer : (r : List ℕ) → searchOf f ws i m ≡ answered (route r) →
-      IsRoute (taskOf f ws i) r × Arrives (taskOf f ws i .goal) (f .horizon) r (arrivalOf (taskOf f ws i .goal) r (f .horizon))
+      IsRoute (taskOf f ws i) r × Arrives (f .horizon) r (arrivalOf r (f .horizon))
       × ClearOf (f .horizon) r (seen f (viewsOf m i))
   unfolding taskOf Best
   route-answer r e = (x .0, x .1, best-answer (route r) e .admissible .clear)
     where
-      x : IsRoute (taskOf f ws i) r × Arrives (taskOf f ws i .goal) (f .horizon) r (arrivalOf (taskOf f ws i .goal) r (f .horizon))
+      x : IsRoute (taskOf f ws i) r × Arrives (f .horizon) r (arrivalOf r (f .horizon))
       x = route-theorems .best-is-route (taskOf f ws i) (seen f (viewsOf m i)) r (short (granted-of (route r) e)) (best-of (route r) e)
 
   none-answer : Granted f ws i m →

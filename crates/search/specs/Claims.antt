@@ -26,10 +26,10 @@ pub record Claims : Type 0 where
   -- There is an answer exactly if the request is granted.
   pub answers-exactly : (f : Floor) (ws : List ℕ) (i : ℕ) (m : List ℕ) →
       ((x : Answer) × (searchOf f ws i m ≡ answered x)) ↔ Granted f ws i m
-  -- What is answered is a route: from the start, across sides, off the walls, at its goal from its arrival through the horizon, and
-  -- without conflict with any view as it is seen.
+  -- What is answered is a route: from the start, across sides, off the walls, at its last cell, a dock, from its arrival through the
+  -- horizon, and without conflict with any view as it is seen.
   pub answers-route : (f : Floor) (ws : List ℕ) (i : ℕ) (m r : List ℕ) → searchOf f ws i m ≡ answered (route r) →
-      IsRoute (taskOf f ws i) r × Arrives (taskOf f ws i .goal) (f .horizon) r (arrivalOf (taskOf f ws i .goal) r (f .horizon))
+      IsRoute (taskOf f ws i) r × Arrives (f .horizon) r (arrivalOf r (f .horizon))
       × ClearOf (f .horizon) r (seen f (viewsOf m i))
   -- None is answered exactly if the request is granted and no route is without conflict with every view as it is seen.
   pub none-exactly : (f : Floor) (ws : List ℕ) (i : ℕ) (m : List ℕ) → Granted f ws i m →

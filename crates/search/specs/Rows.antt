@@ -4,7 +4,7 @@ use mathlib.Core.List.{List}
 use mathlib.Core.Path.{_≡_}
 use lib.ListN.{length, getD, replicate}
 use Rattle.floor.specs.declared.Floor.{Floor}
-use Rattle.floor.specs.Checks.{startOf, goalOf}
+use Rattle.floor.specs.Checks.{startOf, countOf, dockOf}
 use Rattle.route.specs.Route.{View}
 use Rattle.route.specs.Search.{best}
 use Rattle.words.specs.Rows.{droppedAt, filled, Clean}
@@ -37,7 +37,8 @@ pub record Searchable (f : Floor) (rows : List ℕ) (i : ℕ) (m : List ℕ) : T
   pub horizon : f .horizon ≤ 63
   pub listed : (1 ≤ i) × (i ≤ 8)
   pub start : startOf f (i - 1) < f .width * f .height
-  pub goal : goalOf f (i - 1) < f .width * f .height
+  pub few : countOf f (i - 1) ≤ 4
+  pub docks : (k : ℕ) → k < countOf f (i - 1) → dockOf f (i - 1) k < f .width * f .height
   pub lent : 65 * (i - 1) ≤ length m
   pub long : length rows ≡ 32
   pub clean : Clean (f .width) (f .width * f .height) rows

@@ -11,17 +11,17 @@ use Rattle.tables.specs.Table.{inSet}
 use Rattle.search.specs.declared.Found.{Found}
 use Rattle.search.specs.Answers.{answered, Says}
 
--- The task from start to goal in a scene, with the cells that are no wall.
-abbrev pub taskIn : Scene → ℕ → ℕ → (ℕ → Bool) → Task
-taskIn g start goal free =
-    record { width = g .width; cells = g .cells; horizon = g .horizon; start = start; goal = goal; free = free }
+-- The task from a start to any of some docks in a scene, with the cells that are no wall.
+abbrev pub taskIn : Scene → ℕ → (ℕ → Bool) → (ℕ → Bool) → Task
+taskIn g start dock free =
+    record { width = g .width; cells = g .cells; horizon = g .horizon; start = start; dock = dock; free = free }
 
 -- The room has at each beat the cells that can be stood on.
 abbrev pub Agrees : Scene → List ℕ → Task → List View → Type 0
 Agrees g room task vs = (t c : ℕ) → t ≤ g .horizon → inSet g room t c ≡ standable task vs t c
 
 -- r is the best answer of every task and views with such a room.
-abbrev pub BestIn : Scene → List ℕ → ℕ → ℕ → Found → Type 0
-BestIn g room start goal r =
-    (free : ℕ → Bool) (vs : List View) → Agrees g room (taskIn g start goal free) vs →
-    Says r (answered (best (taskIn g start goal free) vs))
+abbrev pub BestIn : Scene → List ℕ → ℕ → (ℕ → Bool) → Found → Type 0
+BestIn g room start dock r =
+    (free : ℕ → Bool) (vs : List View) → Agrees g room (taskIn g start dock free) vs →
+    Says r (answered (best (taskIn g start dock free) vs))

@@ -3,7 +3,7 @@ use Prim.Native.Nat.{ℕ, _*_, _-_, _/_, _%_}
 use mathlib.Core.Bool.{Bool, not}
 use mathlib.Core.List.{List}
 use Rattle.floor.specs.declared.Floor.{Floor}
-use Rattle.floor.specs.Checks.{startOf, goalOf, among}
+use Rattle.floor.specs.Checks.{startOf, isDock, among}
 use Rattle.route.specs.Route.{Task}
 use Rattle.words.specs.Rows.{has}
 
@@ -15,7 +15,7 @@ taskWith f i free =
       cells = f .width * f .height;
       horizon = f .horizon;
       start = startOf f (i - 1);
-      goal = goalOf f (i - 1);
+      dock = isDock f (i - 1);
       free = free;
     }
 

@@ -6,6 +6,7 @@ use floor::Floor;
 use floor::Refusal;
 pub use ground::free_rows;
 use passes::backward;
+use passes::docks;
 use passes::forward;
 use passes::walk;
 use route::Route;
@@ -19,11 +20,12 @@ ghost use lib.ListN.{length, replicate};
 ghost use mathlib.Core.List.{List};
 ghost use Rattle.floor.specs.Answers.{verdictOf};
 ghost use Rattle.laws.specs.Verdict.{demand, refusal};
-ghost use Rattle.floor.specs.Checks.{within};
+ghost use Rattle.floor.specs.Checks.{within, among};
 ghost use Rattle.route.specs.Route.{none as Route·none};
 ghost use Rattle.route.specs.Search.{best};
 ghost use Rattle.search.specs.Answers.{answered, Says};
 ghost use Rattle.search.specs.Seek.{BestIn};
+ghost use Rattle.passes.specs.Docks.{DocksIn};
 ghost use Rattle.words.specs.Rows.{Clean};
 ghost use Rattle.tables.specs.Table.{sceneOf, Grid, Tidy};
 ghost use Rattle.tables.specs.Room.{Roomy, OneMore};
@@ -72,25 +74,32 @@ fn refused(x: Refusal) -> Found
     }
 }
 
-// The best route from the start to the goal in a room; the sets are a table to work in.
-fn seek(g: Scene, sets: &mut [u32], room: &[u32], start: usize, goal: usize) -> Found
-    requires { ⌜ Grid g × (g .horizon ≤ 63) × (start < g .cells) × (goal < g .cells) ⌝ }
+// The best route from the start to any of the first `count` cells in a room; the sets are a table to work in.
+fn seek(
+    g: Scene,
+    sets: &mut [u32],
+    room: &[u32],
+    start: usize,
+    count: usize,
+    cells: docks::Cells,
+) -> Found
+    requires { ⌜ Grid g × (g .horizon ≤ 63) × (start < g .cells) × DocksIn g count cells ⌝ }
     requires { ⌜ Tidy g (now sets) × Tidy g (now room) ⌝ }
     ensures tidy { λ r. ⌜ Tidy g (now (sets .exit)) ⌝ }
-    ensures best { λ r. ⌜ BestIn g (now (room .entry)) start goal r ⌝ }
+    ensures best { λ r. ⌜ BestIn g (now (room .entry)) start (among cells count) r ⌝ }
 {
     if !table::member(g, room, 0, start) {
         return none();
     }
-    if !table::member(g, room, g.horizon, goal) {
+    let ds = docks::hold_docks(g, room, count, cells);
+    if !docks::some_held(ds, g.horizon) {
         return none();
     }
-    let hold = forward::hold_from(g, room, goal);
-    let a = forward::forward(g, sets, room, start, goal, hold);
+    let a = forward::forward(g, sets, room, start, ds);
     if g.horizon < a {
         return none();
     }
-    backward::backward(g, sets, room, goal, a);
+    backward::backward(g, sets, room, ds, a);
     Found {
         outcome: Outcome::Route,
         route: walk::walk(g, sets, start, a),
@@ -114,8 +123,8 @@ pub fn route_in(
 {
     let k = carrier as usize - 1;
     let start = f.starts[k] as usize;
-    let goal = f.goals[k] as usize;
-    seek(scene_of(f), sets, room, start, goal)
+    let count = f.counts[k] as usize;
+    seek(scene_of(f), sets, room, start, count, floor::docks_of(f, k))
 }
 
 // The best route of a carrier of a checked floor, with its free cells as rows, against the views as they stand.

@@ -1,4 +1,4 @@
-// The cells of a floor: how many there are, which are walls, which lie side by side.
+// The cells of a floor: how many there are, which are walls, which are docks of a carrier, which lie side by side.
 use crate::places::at;
 use crate::places::wide;
 use floor::Floor;
@@ -19,6 +19,26 @@ pub fn wall(walls: &[u16], n: usize, c: usize) -> bool {
     let mut j: usize = 0;
     while j < n {
         if at(walls, j) == c {
+            return true;
+        }
+        j += 1;
+    }
+    false
+}
+
+// Whether cell c is one of the docks of carrier k + 1, of which there are four at most.
+pub fn dock(f: Floor, k: usize, c: usize) -> bool {
+    if 8 <= k {
+        return false;
+    }
+    let counts = f.counts;
+    let docks = f.docks;
+    let mut j: usize = 0;
+    while j < 4 {
+        if at(&counts, k) <= j {
+            return false;
+        }
+        if at(&docks, 4 * k + j) == c {
             return true;
         }
         j += 1;

@@ -1,6 +1,6 @@
 // A second planner, for tests: it knows nothing of sets of cells, and asks of each move, by the three kinds of conflict, what carriers
-// told. It fills a table of least arrivals from the horizon down, a number a beat and cell, and walks along it. Every function answers
-// for any numbers, so none has a `requires`.
+// told. It fills a table of least arrivals, at whichever dock, from the horizon down, a number a beat and cell, and walks along it. Every
+// function answers for any numbers, so none has a `requires`.
 mod arrivals;
 mod ground;
 mod offers;
@@ -47,13 +47,11 @@ pub fn second_route(f: Floor, walls: &[u16], carrier: u16, views: &[u16]) -> Pla
     let k = wide(carrier) - 1;
     let starts = f.starts;
     let start = at(&starts, k);
-    let goals = f.goals;
-    let goal = at(&goals, k);
     if met(&starts, views, k, start) {
         return none();
     }
     let mut table = io::large_buffer();
-    fill(&mut table, f, walls, views, k, goal);
+    fill(&mut table, f, walls, views, k);
     if value(&table, 0, start) == 255 {
         return none();
     }

@@ -69,8 +69,8 @@ fn conflicts(starts: &[u16], views: &[u16], k: usize, t: usize, c: usize, d: usi
     false
 }
 
-// The value that going from c to its neighbour d offers.
-fn offer(
+// The value that going from c to its neighbour d, or staying there, offers.
+pub fn offer(
     table: &[u8],
     f: Floor,
     walls: &[u16],

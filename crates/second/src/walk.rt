@@ -1,10 +1,11 @@
-// The route along the table: at each beat to the first cell that offers the least arrival.
+// The route along the table: at each beat to the first cell that offers the least arrival, until it has arrived.
 ghost use mathlib.Core.Path.{_≡_};
 ghost use lib.ListN.{length};
 use crate::offers::best_offer;
 use crate::offers::first_offer;
 use crate::places::narrow;
 use crate::places::wide;
+use crate::table::value;
 use floor::Floor;
 use route::Route;
 
@@ -17,6 +18,23 @@ fn set_cell(r: &mut [u16], t: usize, c: usize)
     }
 }
 
+// Where the route goes from c at beat t. Where it has arrived it stays, though a smaller dock next to it may offer as much.
+fn next_cell(
+    table: &[u8],
+    f: Floor,
+    walls: &[u16],
+    views: &[u16],
+    k: usize,
+    t: usize,
+    c: usize,
+) -> usize {
+    if value(table, t, c) as usize == t {
+        return c;
+    }
+    let v = best_offer(table, f, walls, views, k, t, c);
+    first_offer(table, f, walls, views, k, t, c, v)
+}
+
 // The route from the start.
 pub fn walk(table: &[u8], f: Floor, walls: &[u16], views: &[u16], k: usize, start: usize) -> Route {
     let horizon = wide(f.horizon);
@@ -25,8 +43,7 @@ pub fn walk(table: &[u8], f: Floor, walls: &[u16], views: &[u16], k: usize, star
     let mut c = start;
     let mut t: usize = 0;
     while t < horizon {
-        let v = best_offer(table, f, walls, views, k, t, c);
-        c = first_offer(table, f, walls, views, k, t, c, v);
+        c = next_cell(table, f, walls, views, k, t, c);
         t += 1;
         set_cell(&mut r, t, c);
     }

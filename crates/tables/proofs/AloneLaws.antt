@@ -1,4 +1,4 @@
--- A set that becomes one cell alone: its rows are emptied, then the cell is added.
+-- A set that becomes one cell alone: its rows are emptied, then the cell joins.
 use Prim.Native.Nat.{ℕ, _+_, _*_, _-_, _/_, _%_, _≤_, _<_}
 use native.Mathlib.Omega.{arith}
 use native.Mathlib.Nat.{div-add-mod', mod-lt}
@@ -10,7 +10,7 @@ use borrow.Author.Tests.{eq-eqb}
 use lib.Dec.{eqb}
 use lib.ListN.{length, getD, length-set}
 use lib.Seq.{getD-set-other}
-use Rattle.laws.proofs.Tests.{and-both, or-cases, or-inr, eqbs-say, true-false-absurd, lt-or-le}
+use Rattle.laws.proofs.Tests.{and-both, or-cases, or-inl, or-inr, eqbs-say, true-false-absurd, lt-or-le}
 use Rattle.words.specs.Words.{digit}
 use Rattle.words.specs.Rows.{has, added}
 use Rattle.words.proofs.DigitLaws.{digit-zero}
@@ -18,7 +18,7 @@ use Rattle.words.proofs.RowsLaws.{has-added, place-row}
 use Rattle.tables.specs.declared.Scene.{Scene}
 use Rattle.tables.specs.declared.Place.{Place}
 use Rattle.tables.specs.Table.{Grid, PlaceOf, Rewritten, Tidy, inSet}
-use Rattle.tables.specs.Step.{ChangedAt, Alone}
+use Rattle.tables.specs.Step.{ChangedAt, Empty, Joined, Alone}
 use Rattle.tables.proofs.SetLaws.{set-cell, set-has, set-holds, set-same}
 
 -- Rows of different beats are apart.
@@ -35,19 +35,8 @@ step-apart a b n apart few = ⊎-elim (λ (l : a < b). inl (omega arith)) after 
     after : b ≤ a → (a * 36 + n + 2 ≤ b * 36 + 1) ⊎ (b * 36 + 1 + n ≤ a * 36)
     after l = ⊎-elim (λ (h : b < a). inr (omega arith)) (λ (h : a ≤ b). absurd (apart (omega arith))) (lt-or-le b a)
 
-module _ (g : Scene) (s p : List ℕ) (t c : ℕ) (grid : Grid g) (old : Tidy g s) (early : t < 64) (inside : c < g .cells)
-    (wiped : Rewritten s (λ j. 0) (t * 36 + 1) 32 p) where
-  -- The place of the cell.
-  at : ℕ
-  at = t * 36 + 1 + c / g .width
-
-  -- The table with the cell.
-  end : List ℕ
-  end = added p at (c % g .width)
-
-  row : (d : ℕ) → d < g .cells → d / g .width < 32
-  row d h = place-row (g .width) d (grid .thin) (omega (arith, grid .room))
-
+-- The rows of a beat are emptied.
+module _ (g : Scene) (s p : List ℕ) (t : ℕ) (grid : Grid g) (old : Tidy g s) (wiped : Rewritten s (λ j. 0) (t * 36 + 1) 32 p) where
   -- The emptied rows have no digit.
   wiped-none : (r k : ℕ) → r < 32 → has p (t * 36 + 1 + r) k ≡ false
   unfolding has
@@ -66,17 +55,51 @@ module _ (g : Scene) (s p : List ℕ) (t c : ℕ) (grid : Grid g) (old : Tidy g 
           ⊎-elim (λ (l : i < t * 36 + 1 + 32). within (i - (t * 36 + 1)) (omega arith) (omega arith))
           (λ (l : t * 36 + 1 + 32 ≤ i). rw (← wiped .outside i (inr l)) e) (lt-or-le i (t * 36 + 1 + 32))
 
-  end-has : (i k : ℕ) → has end i k ≡ (has p i k || (eqb i at && eqb k (c % g .width)))
+  wiped-tidy : Tidy g p
+  wiped-tidy =
+      record {
+        long = wiped .long ∙ old .long;
+        thin = λ i k e. old .thin i k (wiped-fewer i k e);
+        rows = λ u r k l e. old .rows u r k l (wiped-fewer (u * 36 + 1 + r) k e);
+        edge = λ u k e. old .edge u k (wiped-fewer (u * 36) k e);
+      }
+
+  wiped-other : (u d : ℕ) → (u ≡ t → ⊥) → inSet g p u d ≡ inSet g s u d
+  wiped-other u d n =
+      set-same g s p u d (grid .thin) (grid .room) (λ r h. wiped .outside (u * 36 + 1 + r) (beat-apart u t r 32 n h (omega arith)))
+
+  pub none-made : ChangedAt g s t p × Empty g p t
+  none-made = (record { tidy = wiped-tidy; other = wiped-other }, none)
+    where
+      none : (d : ℕ) → inSet g p t d ≡ true → ⊥
+      none d e =
+          true-false-absurd (set-has g p t d e) (wiped-none (d / g .width) (d % g .width)
+          (place-row (g .width) d (grid .thin) (omega (arith, grid .room, set-cell g p t d e))))
+
+-- A cell joins the set of a beat.
+module _ (g : Scene) (s : List ℕ) (t c : ℕ) (grid : Grid g) (old : Tidy g s) (early : t < 64) (inside : c < g .cells) where
+  -- The place of the cell.
+  at : ℕ
+  at = t * 36 + 1 + c / g .width
+
+  -- The table with the cell.
+  end : List ℕ
+  end = added s at (c % g .width)
+
+  row : c / g .width < 32
+  row = place-row (g .width) c (grid .thin) (omega (arith, grid .room))
+
+  end-has : (i k : ℕ) → has end i k ≡ (has s i k || (eqb i at && eqb k (c % g .width)))
   unfolding end at
-  end-has i k = has-added p (t * 36 + 1 + c / g .width) (c % g .width) i k (omega (arith, row c inside, wiped .long, old .long))
+  end-has i k = has-added s (t * 36 + 1 + c / g .width) (c % g .width) i k (omega (arith, row, old .long))
 
   -- A digit of the new table was there, or is the cell's.
-  end-cases : (i k : ℕ) → has end i k ≡ true → (has p i k ≡ true) ⊎ ((i ≡ t * 36 + 1 + c / g .width) × (k ≡ c % g .width))
+  end-cases : (i k : ℕ) → has end i k ≡ true → (has s i k ≡ true) ⊎ ((i ≡ t * 36 + 1 + c / g .width) × (k ≡ c % g .width))
   unfolding at
-  end-cases i k e = go (or-cases (has p i k) (eqb i at && eqb k (c % g .width)) (sym (end-has i k) ∙ e))
+  end-cases i k e = go (or-cases (has s i k) (eqb i at && eqb k (c % g .width)) (sym (end-has i k) ∙ e))
     where
-      go : (has p i k ≡ true) ⊎ ((eqb i at && eqb k (c % g .width)) ≡ true) →
-          (has p i k ≡ true) ⊎ ((i ≡ t * 36 + 1 + c / g .width) × (k ≡ c % g .width))
+      go : (has s i k ≡ true) ⊎ ((eqb i at && eqb k (c % g .width)) ≡ true) →
+          (has s i k ≡ true) ⊎ ((i ≡ t * 36 + 1 + c / g .width) × (k ≡ c % g .width))
       go (inl h) = inl h
       go (inr h) = inr (eqbs-say i at k (c % g .width) h)
 
@@ -85,65 +108,79 @@ module _ (g : Scene) (s p : List ℕ) (t c : ℕ) (grid : Grid g) (old : Tidy g 
 
   end-thin : (i k : ℕ) → has end i k ≡ true → k < g .width
   end-thin i k e =
-      ⊎-elim (λ (h : has p i k ≡ true). old .thin i k (wiped-fewer i k h))
+      ⊎-elim (old .thin i k)
       (λ (h : (i ≡ t * 36 + 1 + c / g .width) × (k ≡ c % g .width)). rw (h .1) (mod-lt c (grid .thin))) (end-cases i k e)
 
   end-rows : (u r k : ℕ) → r < 35 → has end (u * 36 + 1 + r) k ≡ true → r * g .width + k < g .cells
   end-rows u r k l e = go (end-cases (u * 36 + 1 + r) k e)
     where
-      go : (has p (u * 36 + 1 + r) k ≡ true) ⊎ ((u * 36 + 1 + r ≡ t * 36 + 1 + c / g .width) × (k ≡ c % g .width)) →
+      go : (has s (u * 36 + 1 + r) k ≡ true) ⊎ ((u * 36 + 1 + r ≡ t * 36 + 1 + c / g .width) × (k ≡ c % g .width)) →
           r * g .width + k < g .cells
-      go (inl h) = old .rows u r k l (wiped-fewer (u * 36 + 1 + r) k h)
+      go (inl h) = old .rows u r k l h
       go (inr h) =
-          let same : r ≡ c / g .width = omega (arith, h .0, row c inside) in
+          let same : r ≡ c / g .width = omega (arith, h .0, row) in
           rw (same, h .1, whole) inside
 
   end-edge : (u k : ℕ) → has end (u * 36) k ≡ true → ⊥
   end-edge u k e =
-      ⊎-elim (λ (h : has p (u * 36) k ≡ true). old .edge u k (wiped-fewer (u * 36) k h))
-      (λ (h : (u * 36 ≡ t * 36 + 1 + c / g .width) × (k ≡ c % g .width)). omega (arith, h .0, row c inside)) (end-cases (u * 36) k e)
+      ⊎-elim (old .edge u k)
+      (λ (h : (u * 36 ≡ t * 36 + 1 + c / g .width) × (k ≡ c % g .width)). omega (arith, h .0, row)) (end-cases (u * 36) k e)
 
   end-tidy : Tidy g end
   unfolding end added
-  end-tidy = record { long = length-set p at _ ∙ wiped .long ∙ old .long; thin = end-thin; rows = end-rows; edge = end-edge }
+  end-tidy = record { long = length-set s at _ ∙ old .long; thin = end-thin; rows = end-rows; edge = end-edge }
 
   -- The rows of other beats are as they were.
   end-other : (u r : ℕ) → (u ≡ t → ⊥) → r < 32 → getD end (u * 36 + 1 + r) 0 ≡ getD s (u * 36 + 1 + r) 0
   unfolding end added at
-  end-other u r n h =
-      getD-set-other p (t * 36 + 1 + c / g .width) (u * 36 + 1 + r) _ 0 (λ e. n (omega (arith, row c inside)))
-      ∙ wiped .outside (u * 36 + 1 + r) (beat-apart u t r 32 n h (omega arith))
+  end-other u r n h = getD-set-other s (t * 36 + 1 + c / g .width) (u * 36 + 1 + r) _ 0 (λ e. n (omega (arith, row)))
 
   end-changed : ChangedAt g s t end
   end-changed = record { tidy = end-tidy; other = λ u d n. set-same g s end u d (grid .thin) (grid .room) (λ r h. end-other u r n h) }
 
-  -- The cell is in the set, and nothing else is.
-  end-alone : Alone g end t c
+  end-joined : Joined g s t c end
   unfolding at
-  end-alone =
+  end-joined =
       record {
         says = says;
-        holds = set-holds g end t c inside (end-has at (c % g .width) ∙ or-inr (has p at (c % g .width)) _ here);
+        kept = kept;
+        holds = set-holds g end t c inside (end-has at (c % g .width) ∙ or-inr (has s at (c % g .width)) _ here);
       }
     where
       here : (eqb at at && eqb (c % g .width) (c % g .width)) ≡ true
       here = and-both (eq-eqb at at refl) (eq-eqb (c % g .width) (c % g .width) refl)
 
-      says : (d : ℕ) → inSet g end t d ≡ true → d ≡ c
+      kept : (d : ℕ) → inSet g s t d ≡ true → inSet g end t d ≡ true
+      kept d e =
+          set-holds g end t d (set-cell g s t d e)
+          (end-has (t * 36 + 1 + d / g .width) (d % g .width)
+          ∙ or-inl (has s (t * 36 + 1 + d / g .width) (d % g .width)) _ (set-has g s t d e))
+
+      says : (d : ℕ) → inSet g end t d ≡ true → (inSet g s t d ≡ true) ⊎ (d ≡ c)
       says d e = go (end-cases (t * 36 + 1 + d / g .width) (d % g .width) (set-has g end t d e))
         where
-          go : (has p (t * 36 + 1 + d / g .width) (d % g .width) ≡ true) ⊎
-              ((t * 36 + 1 + d / g .width ≡ t * 36 + 1 + c / g .width) × (d % g .width ≡ c % g .width)) → d ≡ c
-          go (inl h) = true-false-absurd h (wiped-none (d / g .width) (d % g .width) (row d (set-cell g end t d e)))
+          go : (has s (t * 36 + 1 + d / g .width) (d % g .width) ≡ true) ⊎
+              ((t * 36 + 1 + d / g .width ≡ t * 36 + 1 + c / g .width) × (d % g .width ≡ c % g .width)) →
+              (inSet g s t d ≡ true) ⊎ (d ≡ c)
+          go (inl h) = inl (set-holds g s t d (set-cell g end t d e) h)
           go (inr h) =
               let k : d / g .width ≡ c / g .width = omega arith in
-              sym (div-add-mod' d (g .width)) ∙ rw (k, h .1) whole
+              inr (sym (div-add-mod' d (g .width)) ∙ rw (k, h .1) whole)
 
 -- The same of the table that the code makes.
-pub alone-made : (g : Scene) (s p q : List ℕ) (t c : ℕ) (l : Place) → Grid g → Tidy g s → t < 64 → c < g .cells →
-    Rewritten s (λ j. 0) (t * 36 + 1) 32 p → PlaceOf g c l → q ≡ added p (t * 36 + 1 + l .row) (l .column) →
-    ChangedAt g s t q × Alone g q t c
+pub more-made : (g : Scene) (s q : List ℕ) (t c : ℕ) (l : Place) → Grid g → Tidy g s → t < 64 → c < g .cells → PlaceOf g c l →
+    q ≡ added s (t * 36 + 1 + l .row) (l .column) → ChangedAt g s t q × Joined g s t c q
 unfolding end at
-alone-made g s p q t c l grid old early inside wiped place e =
-    rw (e, place .column, place .row)
-    (end-changed g s p t c grid old early inside wiped, end-alone g s p t c grid old early inside wiped)
+more-made g s q t c l grid old early inside place e =
+    rw (e, place .column, place .row) (end-changed g s t c grid old early inside, end-joined g s t c grid old early inside)
+
+-- A set that is emptied, and that a cell joins then, has this cell alone.
+pub alone-made : (g : Scene) (s p q : List ℕ) (t c : ℕ) → ChangedAt g s t p → Empty g p t → ChangedAt g p t q → Joined g p t c q →
+    ChangedAt g s t q × Alone g q t c
+alone-made g s p q t c wiped none only joined = (
+  record { tidy = only .tidy; other = λ u d n. only .other u d n ∙ wiped .other u d n },
+  record {
+    says = λ d e. ⊎-elim (λ (h : inSet g p t d ≡ true). absurd (none d h)) (λ (h : d ≡ c). h) (joined .says d e);
+    holds = joined .holds;
+  },
+)

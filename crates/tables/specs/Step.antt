@@ -1,7 +1,8 @@
--- Changing the set of one beat of a table: to one cell alone, or by a step from the set of another beat.
+-- Changing the set of one beat of a table: to no cell, by one more, to one cell alone, or by a step from the set of another beat.
 use Prim.Native.Nat.{ℕ}
 use mathlib.Core.Bool.{true}
 use mathlib.Core.List.{List}
+use mathlib.Core.Logic.{_⊎_}
 use mathlib.Core.Path.{_≡_}
 use Rattle.route.specs.Moves.{near}
 use Rattle.tables.specs.declared.Scene.{Scene}
@@ -11,6 +12,16 @@ use Rattle.tables.specs.Table.{inSet, Tidy}
 pub record ChangedAt (g : Scene) (s : List ℕ) (b : ℕ) (q : List ℕ) : Type 0 where
   pub tidy : Tidy g q
   pub other : (t c : ℕ) → (t ≡ b → ⊥) → inSet g q t c ≡ inSet g s t c
+
+-- The set of beat t has no cell.
+abbrev pub Empty : Scene → List ℕ → ℕ → Type 0
+Empty g s t = (d : ℕ) → inSet g s t d ≡ true → ⊥
+
+-- q has at beat t the cells that s has then, and cell c.
+pub record Joined (g : Scene) (s : List ℕ) (t c : ℕ) (q : List ℕ) : Type 0 where
+  pub says : (d : ℕ) → inSet g q t d ≡ true → (inSet g s t d ≡ true) ⊎ (d ≡ c)
+  pub kept : (d : ℕ) → inSet g s t d ≡ true → inSet g q t d ≡ true
+  pub holds : inSet g q t c ≡ true
 
 -- The set of beat t has cell c alone.
 pub record Alone (g : Scene) (s : List ℕ) (t c : ℕ) : Type 0 where

@@ -1,9 +1,9 @@
-// Tables of sets of cells, 36 rows a beat: reading a cell, copying rows, a set of one cell.
+// Tables of sets of cells, 36 rows a beat: reading a cell, copying rows, a set of no cell, of one, of one more.
 ghost use mathlib.Core.Path.{_≡_};
 ghost use Prim.Native.Nat.{_+_, _*_, _≤_, _<_};
 ghost use lib.ListN.{length, getD, replicate};
 ghost use Rattle.tables.specs.Table.{Grid, Rewritten, Tidy, inSet};
-ghost use Rattle.tables.specs.Step.{ChangedAt, Alone};
+ghost use Rattle.tables.specs.Step.{ChangedAt, Empty, Joined, Alone};
 use crate::Scene;
 use crate::place_of;
 use floor::Floor;
@@ -42,13 +42,31 @@ pub fn copy_rows(to: &mut [u32], i: usize, from: &[u32], j: usize, n: usize)
     words::put_rows(to, i, x, n);
 }
 
+// The set of beat t becomes empty.
+pub fn put_none(g: Scene, s: &mut [u32], t: usize)
+    requires { ⌜ Grid g × Tidy g (now s) × (t < 64) ⌝ }
+    ensures only { λ r. ⌜ ChangedAt g (now (s .entry)) t (now (s .exit)) ⌝ }
+    ensures none { λ r. ⌜ Empty g (now (s .exit)) t ⌝ }
+{
+    words::put_rows(s, t * STRIDE + 1, [0u32; ROWS], ROWS);
+}
+
+// Cell c joins the set of beat t.
+pub fn put_more(g: Scene, s: &mut [u32], t: usize, c: usize)
+    requires { ⌜ Grid g × Tidy g (now s) × (t < 64) × (c < g .cells) ⌝ }
+    ensures only { λ r. ⌜ ChangedAt g (now (s .entry)) t (now (s .exit)) ⌝ }
+    ensures joined { λ r. ⌜ Joined g (now (s .entry)) t c (now (s .exit)) ⌝ }
+{
+    let p = place_of(g, c);
+    words::add(s, t * STRIDE + 1 + p.row, p.column);
+}
+
 // The set of beat t becomes cell c alone.
 pub fn put_alone(g: Scene, s: &mut [u32], t: usize, c: usize)
     requires { ⌜ Grid g × Tidy g (now s) × (t < 64) × (c < g .cells) ⌝ }
     ensures only { λ r. ⌜ ChangedAt g (now (s .entry)) t (now (s .exit)) ⌝ }
     ensures alone { λ r. ⌜ Alone g (now (s .exit)) t c ⌝ }
 {
-    words::put_rows(s, t * STRIDE + 1, [0u32; ROWS], ROWS);
-    let p = place_of(g, c);
-    words::add(s, t * STRIDE + 1 + p.row, p.column);
+    put_none(g, s, t);
+    put_more(g, s, t, c);
 }

@@ -26,5 +26,5 @@ pub record Claims : Type 0 where
   pub done-low : (c n : ℕ) → (wordOf (value (done c n)) % 256 ≡ 0) × (wordOf (value (done c n)) < 18446744073709551616)
   pub refusal-low : (k p : ℕ) → (wordOf (refusal k p) % 256 ≡ 1) × (wordOf (refusal k p) < 18446744073709551616)
   -- The floor record that is read back from its numbers is the one that was stored, whatever memory it was stored in.
-  pub record-returns : (f : Floor) (old : List ℕ) → length (f .starts) ≡ 8 → length (f .goals) ≡ 8
+  pub record-returns : (f : Floor) (old : List ℕ) → length (f .starts) ≡ 8 → length (f .counts) ≡ 8 → length (f .docks) ≡ 32
       → floorOf (put old 0 (numbersOf f)) ≡ f

@@ -1,4 +1,4 @@
--- A floor record as 22 numbers: width, height, horizon, depth, carriers, walls, eight starts, eight goals.
+-- A floor record as 54 numbers: width, height, horizon, depth, carriers, walls, eight starts, eight dock counts, thirty-two docks.
 use Prim.Native.Nat.{ℕ}
 use mathlib.Core.List.{List, [], _∷_, _++_}
 use lib.ListN.{length, getD}
@@ -7,7 +7,7 @@ use Rattle.floor.specs.declared.Floor.{Floor}
 use Rattle.laws.specs.Verdict.{Verdict}
 use Rattle.floor.specs.Checks.{roomOf}
 
--- The floor that 22 numbers say.
+-- The floor that 54 numbers say.
 unfoldable pub floorOf : List ℕ → Floor
 floorOf xs =
     record {
@@ -18,14 +18,15 @@ floorOf xs =
       carriers = getD xs 4 0;
       walls = getD xs 5 0;
       starts = part xs 6 8;
-      goals = part xs 14 8;
+      counts = part xs 14 8;
+      docks = part xs 22 32;
     }
 
 -- The numbers of a floor.
 unfoldable pub numbersOf : Floor → List ℕ
 numbersOf f =
-    (f .width ∷ f .height ∷ f .horizon ∷ f .depth ∷ f .carriers ∷ f .walls ∷ []) ++ (f .starts ++ f .goals)
+    (f .width ∷ f .height ∷ f .horizon ∷ f .depth ∷ f .carriers ∷ f .walls ∷ []) ++ (f .starts ++ (f .counts ++ f .docks))
 
 -- 9, before anything else: as many numbers are lent as a record has.
 unfoldable pub recordLent : List ℕ → Verdict
-recordLent xs = roomOf 22 (length xs)
+recordLent xs = roomOf 54 (length xs)

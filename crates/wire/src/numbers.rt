@@ -6,7 +6,7 @@ ghost use Rattle.laws.specs.Memory.{part, put};
 ghost use Rattle.wire.specs.Record.{floorOf, numbersOf};
 use floor::Floor;
 
-// Eight cells from a place on.
+// Eight numbers from a place on.
 fn cells(xs: &[u16], at: usize) -> [u16; 8]
     requires { ⌜ at + 8 ≤ length (now xs) ⌝ }
     ensures { λ r. ⌜ r ≡ part (now (xs .entry)) at 8 ⌝ }
@@ -23,9 +23,23 @@ fn cells(xs: &[u16], at: usize) -> [u16; 8]
     ]
 }
 
-// The floor that 22 numbers say.
+// Thirty-two numbers from a place on.
+fn docks(xs: &[u16], at: usize) -> [u16; 32]
+    requires { ⌜ at + 32 ≤ length (now xs) ⌝ }
+    ensures { λ r. ⌜ r ≡ part (now (xs .entry)) at 32 ⌝ }
+{
+    let mut r: [u16; 32] = [0; 32];
+    let mut t: usize = 0;
+    while t < 32 {
+        r[t] = xs[at + t];
+        t += 1;
+    }
+    r
+}
+
+// The floor that 54 numbers say.
 pub fn floor_of(xs: &[u16]) -> Floor
-    requires { ⌜ 22 ≤ length (now xs) ⌝ }
+    requires { ⌜ 54 ≤ length (now xs) ⌝ }
     ensures { λ r. ⌜ r ≡ floorOf (now (xs .entry)) ⌝ }
 {
     Floor {
@@ -36,7 +50,8 @@ pub fn floor_of(xs: &[u16]) -> Floor
         carriers: xs[4],
         walls: xs[5],
         starts: cells(xs, 6),
-        goals: cells(xs, 14),
+        counts: cells(xs, 14),
+        docks: docks(xs, 22),
     }
 }
 
@@ -52,7 +67,7 @@ pub fn copy(out: &mut [u16], at: usize, xs: &[u16])
     }
 }
 
-// Copies eight cells to a place.
+// Copies eight numbers to a place.
 fn put_cells(out: &mut [u16], at: usize, cells: [u16; 8])
     requires { ⌜ at + 8 ≤ length (now out) ⌝ }
     ensures { λ r. ⌜ (now (out .exit) ≡ put (now (out .entry)) at cells) × (length cells ≡ 8) ⌝ }
@@ -60,17 +75,27 @@ fn put_cells(out: &mut [u16], at: usize, cells: [u16; 8])
     copy(out, at, &cells);
 }
 
-// Puts the 22 numbers of a floor in front.
+// Copies thirty-two numbers to a place.
+fn put_docks(out: &mut [u16], at: usize, docks: [u16; 32])
+    requires { ⌜ at + 32 ≤ length (now out) ⌝ }
+    ensures { λ r. ⌜ (now (out .exit) ≡ put (now (out .entry)) at docks) × (length docks ≡ 32) ⌝ }
+{
+    copy(out, at, &docks);
+}
+
+// Puts the 54 numbers of a floor in front.
 pub fn store(out: &mut [u16], f: Floor)
-    requires { ⌜ 22 ≤ length (now out) ⌝ }
+    requires { ⌜ 54 ≤ length (now out) ⌝ }
     ensures { λ r. ⌜ now (out .exit) ≡ put (now (out .entry)) 0 (numbersOf f) ⌝ }
 {
     let head = [f.width, f.height, f.horizon, f.depth, f.carriers, f.walls];
     let starts = f.starts;
-    let goals = f.goals;
+    let counts = f.counts;
+    let docks = f.docks;
     copy(out, 0, &head);
     put_cells(out, 6, starts);
-    put_cells(out, 14, goals);
+    put_cells(out, 14, counts);
+    put_docks(out, 22, docks);
 }
 
 // Puts figures in front.

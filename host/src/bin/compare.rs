@@ -263,7 +263,7 @@ impl Tally {
 
     /// Every outcome that must have come up did.
     fn complete(&self) -> bool {
-        let floor = [2, 3, 4, 5, 6, 9];
+        let floor = [2, 3, 4, 5, 6, 9, 17];
         let with = |more: &[u64]| [&floor[..], more].concat();
         let wanted: Vec<(&'static str, Vec<u64>, Vec<u64>)> = vec![
             ("read_sheet", vec![0], with(&[1])),
@@ -273,7 +273,7 @@ impl Tally {
             ("search", vec![0, 1], with(&[7])),
             ("plan", vec![0], with(&[])),
             ("blockers", vec![0], with(&[7, 16])),
-            ("print_routes", vec![0], vec![1, 2, 3, 4, 5, 6, 9]),
+            ("print_routes", vec![0], with(&[1])),
             ("fresh", vec![0], with(&[])),
             ("step", vec![0, 1, 2], with(&[7, 8, 10, 12, 13])),
             ("run", vec![0, 1, 2], with(&[7, 10])),
@@ -349,16 +349,32 @@ fn draw_floor(draw: &mut Draw, most: usize) -> Floor {
     };
     let n = draw.between(1, 8.min(cells));
     let starts = draw.different(n, cells);
-    let mut goals = draw.different(n, cells);
-    if draw.percent(25) {
-        // Carriers that change places with one another.
-        goals = starts.clone();
-        goals.rotate_left(draw.below(n));
-    }
+    let docks = draw_docks(draw, &starts, cells);
     let chance = draw.of(&[0, 0, 5, 15, 30, 50, 100]);
-    let is_wall = |draw: &mut Draw, c: &usize| !starts.contains(c) && !goals.contains(c) && draw.percent(chance);
+    let all: Vec<usize> = docks.concat();
+    let is_wall = |draw: &mut Draw, c: &usize| !starts.contains(c) && !all.contains(c) && draw.percent(chance);
     let walls: Vec<usize> = (0..cells).filter(|c| is_wall(draw, c)).collect();
-    Floor { width, height, horizon, depth: draw.between(1, 4), starts, goals, walls }
+    Floor { width, height, horizon, depth: draw.between(1, 4), starts, docks, walls }
+}
+
+/// The docks of each carrier: one each, all different; the starts of others, so that carriers change places; lists of their own; lists out of
+/// a few cells, so that docks are common to several carriers.
+fn draw_docks(draw: &mut Draw, starts: &[usize], cells: usize) -> Vec<Vec<usize>> {
+    let n = starts.len();
+    match draw.below(4) {
+        0 => draw.different(n, cells).into_iter().map(|dock| vec![dock]).collect(),
+        1 => {
+            let mut docks = starts.to_vec();
+            docks.rotate_left(draw.below(n));
+            docks.into_iter().map(|dock| vec![dock]).collect()
+        }
+        2 => (0..n).map(|_| draw.docks(cells)).collect(),
+        _ => {
+            let few = draw.between(1, 5.min(cells));
+            let common = draw.different(few, cells);
+            (0..n).map(|_| draw.docks(few).iter().map(|&k| common[k]).collect()).collect()
+        }
+    }
 }
 
 /// A number that may be outside the limits of a field.
@@ -400,14 +416,20 @@ fn lines_of(floor: &Floor) -> Vec<Vec<usize>> {
     text.lines().map(|line| line.split_whitespace().map(|field| field.parse().unwrap()).collect()).collect()
 }
 
-/// Spoils the numbers of a sheet in one way: a field, a wall's order, a double, a start on a wall, a count.
+/// The first of the two fields of a start (0) or of a dock (from 1) in a carrier's line.
+fn pair_at(k: usize) -> usize {
+    if k == 0 { 0 } else { 1 + 2 * k }
+}
+
+/// Spoils the numbers of a sheet in one way: a field, a wall's order, a double, a start or a dock on a wall, a dock twice, a count.
 fn spoil_lines(draw: &mut Draw, lines: &mut [Vec<usize>], floor: &Floor) {
     let (n, walls) = (floor.carriers(), floor.walls.len());
     let carrier = 1 + draw.below(n);
+    let docks = floor.docks[carrier - 1].len();
     let wall = |draw: &mut Draw| 1 + n + draw.below(walls.max(1));
-    match draw.below(8) {
+    match draw.below(10) {
         0 => lines[0][draw.below(6)] = odd(draw, floor.cells()),
-        1 => lines[carrier][draw.below(4)] = odd(draw, floor.cells()),
+        1 => lines[carrier][draw.below(3 + 2 * docks)] = odd(draw, floor.cells()),
         2 if walls > 0 => lines[wall(draw)][draw.below(2)] = odd(draw, floor.cells()),
         3 if walls > 1 => lines.swap(wall(draw), wall(draw)),
         4 if walls > 1 => {
@@ -416,14 +438,26 @@ fn spoil_lines(draw: &mut Draw, lines: &mut [Vec<usize>], floor: &Floor) {
         }
         5 if walls > 0 => {
             let onto = lines[wall(draw)].clone();
-            let half = 2 * draw.below(2);
-            lines[carrier][half..half + 2].copy_from_slice(&onto);
+            let at = pair_at(draw.below(1 + docks));
+            lines[carrier][at..at + 2].copy_from_slice(&onto);
         }
         6 => {
             let other = lines[1 + draw.below(n)].clone();
-            let half = 2 * draw.below(2);
-            lines[carrier][half..half + 2].copy_from_slice(&other[half..half + 2]);
+            lines[carrier][..2].copy_from_slice(&other[..2]);
         }
+        8 if lines[carrier].len() == 3 + 2 * docks => {
+            // A dock twice: behind the others, or in place of one.
+            let from = pair_at(1 + draw.below(docks));
+            let twice = lines[carrier][from..from + 2].to_vec();
+            if docks < 4 {
+                lines[carrier][2] += 1;
+                lines[carrier].extend(twice);
+            } else {
+                let to = pair_at(1 + draw.below(docks));
+                lines[carrier][to..to + 2].copy_from_slice(&twice);
+            }
+        }
+        9 => lines[carrier][2] = draw.of(&[0, 5, docks - 1, docks + 1, docks % 4 + 1, 6, 99999]),
         7 => {
             let line = draw.below(lines.len());
             let field = draw.below(lines[line].len());
@@ -496,12 +530,21 @@ fn draw_sheet(draw: &mut Draw) -> (Vec<u8>, Floor) {
     (text, floor)
 }
 
+/// The place of a start (0) or of a dock (from 1) of a carrier (from 0) in a record.
+fn place_of(i: usize, k: usize) -> usize {
+    if k == 0 { 6 + i } else { 22 + 4 * i + k - 1 }
+}
+
 /// A floor as a lent record and lent walls, with junk in the places that are no part of it.
 fn draw_record(draw: &mut Draw, floor: &Floor) -> (Vec<u16>, Vec<u16>) {
     let mut record = paper::record_of(floor).to_vec();
-    for i in floor.carriers()..8 {
-        record[6 + i] = draw.next() as u16;
-        record[14 + i] = draw.next() as u16;
+    for i in 0..8 {
+        let docks = floor.docks.get(i).map_or(0, |docks| docks.len());
+        if docks == 0 {
+            record[6 + i] = draw.next() as u16;
+            record[14 + i] = draw.next() as u16;
+        }
+        (docks + 1..=4).for_each(|k| record[place_of(i, k)] = draw.next() as u16);
     }
     let mut walls: Vec<u16> = floor.walls.iter().map(|&c| c as u16).collect();
     for _ in 0..draw.below(4) {
@@ -515,17 +558,25 @@ fn draw_record(draw: &mut Draw, floor: &Floor) -> (Vec<u16>, Vec<u16>) {
 fn spoil_record(draw: &mut Draw, record: &mut Vec<u16>, walls: &mut Vec<u16>, floor: &Floor) {
     let (n, count) = (floor.carriers(), floor.walls.len());
     let i = draw.below(n);
-    let side = draw.of(&[6, 14]);
-    match draw.below(9) {
+    let docks = floor.docks[i].len();
+    match draw.below(11) {
         0 => record[draw.below(6)] = odd(draw, floor.cells()) as u16,
-        1 => record[side + i] = odd(draw, floor.cells()) as u16,
+        1 => record[place_of(i, draw.below(1 + docks))] = odd(draw, floor.cells()) as u16,
         2 if count > 0 => walls[draw.below(count)] = odd(draw, floor.cells()) as u16,
         3 if count > 1 => walls.swap(draw.below(count), draw.below(count)),
         4 if count > 1 => walls[draw.below(count)] = walls[draw.below(count)],
-        5 if count > 0 => record[side + i] = walls[draw.below(count)],
-        6 => record[side + i] = record[side + draw.below(n)],
+        5 if count > 0 => record[place_of(i, draw.below(1 + docks))] = walls[draw.below(count)],
+        6 => record[6 + i] = record[6 + draw.below(n)],
         7 => walls.truncate(draw.below(walls.len() + 1)),
-        8 if draw.percent(30) => record.truncate(draw.below(22)),
+        8 if draw.percent(30) => record.truncate(draw.below(paper::RECORD)),
+        9 => {
+            // A dock twice: behind the others, or in place of one.
+            let twice = record[place_of(i, 1 + draw.below(docks))];
+            let to = if docks < 4 { docks + 1 } else { 1 + draw.below(docks) };
+            record[14 + i] = docks.max(to) as u16;
+            record[place_of(i, to)] = twice;
+        }
+        10 => record[14 + i] = draw.of(&[0, 1, 2, 3, 4, 5, 65535]),
         _ => record[5] = record[5].wrapping_add(1),
     }
 }
@@ -538,11 +589,13 @@ fn draw_views(draw: &mut Draw, floor: &Floor) -> Vec<u16> {
         let tag = draw.of(&[2, 2, 2, 2, 2, 1, 0, 3, 65535]);
         views.push(tag);
         let wild = draw.percent(10);
-        let mut c = draw.of(&[floor.starts[i], draw.0 as usize % cells, floor.goals[draw.0 as usize % floor.carriers()]]);
+        let dock = draw.of(&floor.docks[draw.0 as usize % floor.carriers()]);
+        let mut c = draw.of(&[floor.starts[i], draw.0 as usize % cells, dock]);
+        let parked = draw.percent(20);
         for _ in 0..64 {
             views.push(if wild { draw.of(&[c as u16, cells as u16, 65535]) } else { c as u16 });
             let near = draw.of(&[c.wrapping_sub(w), c.wrapping_sub(1), c, c + 1, c + w]);
-            if near < cells && draw.percent(80) {
+            if near < cells && !parked && draw.percent(80) {
                 c = near;
             }
         }
@@ -569,7 +622,7 @@ fn sheet_case(seed: u64, tally: &mut Tally) -> bool {
     let text = Lent::of(&bytes, draw.next() as u8);
 
     let room = if draw.percent(50) { floor.walls.len() } else { 1023 };
-    let record_length = about(draw, 22);
+    let record_length = about(draw, paper::RECORD);
     let wall_length = about(draw, room);
     let call = Call::ReadSheet { text: text.clone(), floor: junk(draw, record_length), walls: junk(draw, wall_length) };
     let (word, call) = tally.compare(call);
@@ -591,7 +644,7 @@ fn sheet_case(seed: u64, tally: &mut Tally) -> bool {
 
     let (mut record, mut walls) = draw_record(draw, &floor);
     for _ in 0..draw.of(&[0, 0, 1, 1, 2, 3]) {
-        if record.len() >= 22 && walls.len() >= floor.walls.len() {
+        if record.len() >= paper::RECORD && walls.len() >= floor.walls.len() {
             spoil_record(draw, &mut record, &mut walls, &floor);
         }
     }
@@ -788,7 +841,7 @@ fn trial_case(seed: u64, tally: &mut Tally) {
     let most = draw.of(&[4, 5, 5, 8, 10]);
     let floor = draw_floor(draw, most);
     let (mut record, mut walls) = draw_record(draw, &floor);
-    if draw.percent(10) && record.len() >= 22 && walls.len() >= floor.walls.len() {
+    if draw.percent(10) && record.len() >= paper::RECORD && walls.len() >= floor.walls.len() {
         spoil_record(draw, &mut record, &mut walls, &floor);
     }
     let margin = draw.next() as u16;
@@ -810,10 +863,10 @@ fn rank_case(seed: u64, tally: &mut Tally) {
     let mut floor = draw_floor(draw, 5);
     let most = draw.of(&[1, 2, 2, 3, 3, 3, 3, 3, 3, 8]);
     floor.starts.truncate(most);
-    floor.goals.truncate(most);
+    floor.docks.truncate(most);
     let n = floor.carriers();
     let (mut record, mut walls) = draw_record(draw, &floor);
-    if draw.percent(10) && record.len() >= 22 && walls.len() >= floor.walls.len() {
+    if draw.percent(10) && record.len() >= paper::RECORD && walls.len() >= floor.walls.len() {
         spoil_record(draw, &mut record, &mut walls, &floor);
     }
     let margin = draw.next() as u16;
@@ -839,8 +892,8 @@ fn rank_case(seed: u64, tally: &mut Tally) {
 /// Every rank of a floor of three carriers, the shortest run of six steps and the first rank that is refused among them.
 fn all_ranks(tally: &mut Tally) {
     tally.replay = "".into();
-    let (starts, goals) = (vec![0, 8, 16], vec![7, 15, 23]);
-    let floor = Floor { width: 8, height: 3, horizon: 10, depth: 1, starts, goals, walls: Vec::new() };
+    let (starts, docks) = (vec![0, 8, 16], vec![vec![7], vec![15], vec![23]]);
+    let floor = Floor { width: 8, height: 3, horizon: 10, depth: 1, starts, docks, walls: Vec::new() };
     let (record, walls) = (Lent::of(&paper::record_of(&floor), 7), Lent::of(&[0u16; 0], 7));
     for rank in 0..=495u64 {
         let report = Lent::of(&[9u16; 22], 7);

@@ -38,7 +38,7 @@ mod tests {
     use super::draw::Draw;
     use super::paper::{self, calls, Answer, Floor, Route, View};
 
-    const SHEET: &str = "    3    2    4    1    2    0\n    0    0    2    0\n    2    0    0    0\n";
+    const SHEET: &str = "    3    2    4    1    2    0\n    0    0    1    2    0\n    2    0    1    0    0\n";
 
     fn done(case: u64, number: u64) -> u64 {
         case << 8 | number << 16
@@ -48,11 +48,18 @@ mod tests {
         1 | number << 8 | place << 16
     }
 
-    /// A floor without walls.
+    /// A floor without walls, each carrier with one dock.
     fn bare(width: usize, height: usize, horizon: usize, depth: usize, pairs: &[(usize, usize)]) -> Floor {
         let starts = pairs.iter().map(|p| p.0).collect();
-        let goals = pairs.iter().map(|p| p.1).collect();
-        Floor { width, height, horizon, depth, starts, goals, walls: Vec::new() }
+        let docks = pairs.iter().map(|p| vec![p.1]).collect();
+        Floor { width, height, horizon, depth, starts, docks, walls: Vec::new() }
+    }
+
+    /// A floor without walls, of depth 1, each carrier with its docks.
+    fn docked(width: usize, height: usize, horizon: usize, carriers: &[(usize, &[usize])]) -> Floor {
+        let starts = carriers.iter().map(|c| c.0).collect();
+        let docks = carriers.iter().map(|c| c.1.to_vec()).collect();
+        Floor { width, height, horizon, depth: 1, starts, docks, walls: Vec::new() }
     }
 
     fn fresh_memory(record: &[u16]) -> Vec<u16> {
@@ -68,7 +75,7 @@ mod tests {
     #[test]
     fn floors_1_to_3() {
         let (answers, failing) = paper::plan(&bare(1, 1, 5, 1, &[(0, 0)]));
-        assert_eq!((paper::arrival_of(&answers[0].unwrap(), 0, 5), failing), (0, 0));
+        assert_eq!((paper::arrival_of(&answers[0].unwrap(), 5), failing), (0, 0));
         let three = "    2    0\n    1    2    0    1    2    2    2\n    2    4    2    5    4    1    0\n";
         assert_eq!(paper::print_routes(SHEET.as_bytes()), three);
         let short = SHEET.replacen("    4", "    3", 1);
@@ -112,17 +119,17 @@ mod tests {
     #[test]
     fn blockers() {
         let shown = |sheet: &str| paper::print_blockers(sheet.as_bytes());
-        let one = "    3    1    4    1    2    0\n    1    0    1    0\n    0    0    2    0\n";
+        let one = "    3    1    4    1    2    0\n    1    0    1    1    0\n    0    0    1    2    0\n";
         assert_eq!(shown(one), "carrier 2 is shut in by 1\n2..\n");
-        let two = "    3    2    4    1    3    0\n    1    0    1    0\n    1    1    1    1\n    0    0    2    0\n";
+        let two = "    3    2    4    1    3    0\n    1    0    1    1    0\n    1    1    1    1    1\n    0    0    1    2    0\n";
         assert_eq!(shown(two), "carrier 3 is shut in by 1 2\n3..\n...\n");
-        let stranded = "    5    1    2    1    2    1\n    1    0    4    0\n    0    0    2    0\n    3    0\n";
+        let stranded = "    5    1    2    1    2    1\n    1    0    1    4    0\n    0    0    1    2    0\n    3    0\n";
         assert_eq!(shown(stranded), "carrier 1 is shut in by walls or the horizon\ncarrier 2 is shut in by 1\n21.#.\n");
-        let walls = "    4    1    3    1    2    1\n    0    0    0    0\n    1    0    3    0\n    2    0\n";
+        let walls = "    4    1    3    1    2    1\n    0    0    1    0    0\n    1    0    1    3    0\n    2    0\n";
         assert_eq!(shown(walls), "carrier 2 is shut in by walls or the horizon\n.2#.\n");
         let short = one.replace("    4    1    2", "    1    1    2");
         assert_eq!(shown(&short), "carrier 2 is shut in by walls or the horizon\n2..\n");
-        let row = "    4    1    3    1    3    0\n    1    0    1    0\n    2    0    2    0\n    0    0    3    0\n";
+        let row = "    4    1    3    1    3    0\n    1    0    1    1    0\n    2    0    1    2    0\n    0    0    1    3    0\n";
         assert_eq!(shown(row), "carrier 3 is shut in by 2\n3...\n");
         assert_eq!(shown(SHEET), "no carrier is stranded\n...\n...\n");
         assert_eq!(shown(""), "    0    1    0\n");
@@ -151,13 +158,13 @@ mod tests {
     fn meetings() {
         let meeting = |sheet: &str, i, j| paper::print_meeting(sheet.as_bytes(), i, j);
         assert_eq!(meeting(SHEET, 1, 2), "same cell at beat 1\n.*.\n...\n");
-        let four = "    4    2    5    1    3    1\n    0    0    3    0\n    3    0    0    0\n    0    1    3    1\n    1    1\n";
+        let four = "    4    2    5    1    3    1\n    0    0    1    3    0\n    3    0    1    0    0\n    0    1    1    3    1\n    1    1\n";
         assert_eq!(meeting(four, 1, 2), "change of places after beat 1\n.12.\n.#..\n");
         assert_eq!(meeting(four, 2, 1), meeting(four, 1, 2));
         assert_eq!(meeting(four, 3, 2), "same cell at beat 2\n.*..\n.#..\n");
         assert_eq!(meeting(four, 3, 1), "following after beat 0\n1...\n3#..\n");
         assert_eq!(meeting(four, 1, 3), meeting(four, 3, 1));
-        let rows = "    3    2    4    1    2    0\n    0    0    2    0\n    0    1    2    1\n";
+        let rows = "    3    2    4    1    2    0\n    0    0    1    2    0\n    0    1    1    2    1\n";
         assert_eq!(meeting(rows, 1, 2), "free\n");
         let shut = four.replace("    5    1    3    1", "    4    1    3    1");
         assert_eq!(meeting(&shut, 1, 3), "carrier 3 has no route\n");
@@ -227,7 +234,7 @@ mod tests {
 
     #[test]
     fn floors_10_and_11() {
-        let read = |text: &str| calls::read_sheet(text.as_bytes(), &mut [0; 22], &mut []);
+        let read = |text: &str| calls::read_sheet(text.as_bytes(), &mut [0; paper::RECORD], &mut []);
         let line = |horizon: &str, carriers: &str| {
             let sheet = SHEET.replacen("    4", horizon, 1);
             sheet.replacen("    1    2", &format!("    1{carriers}"), 1)
@@ -241,10 +248,10 @@ mod tests {
     /// A record that is too short to be written is told after what is wrong with the sheet.
     #[test]
     fn short_record_after_the_sheet() {
-        let mut record = [7; 21];
+        let mut record = [7; paper::RECORD - 1];
         assert_eq!(calls::read_sheet(b"", &mut record, &mut []), refused(1, 0));
         assert_eq!(calls::read_sheet(SHEET.as_bytes(), &mut record, &mut []), refused(9, 0));
-        assert_eq!(record, [7; 21]);
+        assert_eq!(record, [7; paper::RECORD - 1]);
     }
 
     #[test]
@@ -254,15 +261,15 @@ mod tests {
         assert_eq!(place(&SHEET[..4]), Some((1, 4)));
         assert_eq!(place(&SHEET[..30]), Some((1, 30)));
         assert_eq!(place(&SHEET[..33]), Some((1, 33)));
-        assert_eq!(place(&format!("{SHEET}\n")), Some((1, 73)));
+        assert_eq!(place(&format!("{SHEET}\n")), Some((1, 83)));
         assert_eq!(place(&SHEET.replacen("    2", "   02", 1)), Some((1, 5)));
         assert_eq!(place(&SHEET.replacen("    2", "   2 ", 1)), Some((1, 5)));
         assert_eq!(place(&SHEET.replacen("    2", "     ", 1)), Some((1, 5)));
         assert_eq!(place(&SHEET.replacen("    0\n", "    0 ", 1)), Some((1, 30)));
         assert_eq!(place(&SHEET.replacen("    3", "99999", 1)), Some((2, 1)));
-        assert_eq!(place(&SHEET.replacen("    2    0    0    0", "99999    0    0    0", 1)), Some((3, 2)));
-        assert_eq!(place(&SHEET.replacen("    2    0    0    0", "    0    0    0    0", 1)), Some((6, 2)));
-        let walls = |text: &str| format!("    3    2    4    1    1    2\n    0    0    2    0\n{text}");
+        assert_eq!(place(&SHEET.replacen("    2    0    1", "99999    0    1", 1)), Some((3, 2)));
+        assert_eq!(place(&SHEET.replacen("    2    0    1", "    0    0    1", 1)), Some((6, 2)));
+        let walls = |text: &str| format!("    3    2    4    1    1    2\n    0    0    1    2    0\n{text}");
         assert_eq!(place(&walls("    1    0\n    0    1\n")), None);
         assert_eq!(place(&walls("    0    1\n    1    0\n")), Some((4, 3)));
         assert_eq!(place(&walls("    0    1\n    0    1\n")), Some((4, 3)));
@@ -270,14 +277,131 @@ mod tests {
         assert_eq!(place(&walls("    2    0\n    0    1\n")), Some((5, 1)));
     }
 
+    /// Document 02, slip 10, the sheet: a count outside 1 to 4 is a bad field, told with its first column before later fields are looked at;
+    /// a line has as many docks as its count; 3 and 5 look at every dock; 6 is for starts alone; 17 comes behind 6.
+    #[test]
+    fn docks_of_a_sheet() {
+        let place = |text: &str| paper::floor_of_sheet(text.as_bytes()).map_err(|r| (r.number, r.place)).err();
+        let sheet = |lines: &str| format!("    3    2    4    1    2    1\n{lines}    1    1\n");
+        let with = |first: &str| place(&sheet(&format!("    0    0{first}\n    2    0    1    0    0\n")));
+        assert_eq!(with("    1    2    0"), None);
+        assert_eq!(with("    4    0    0    1    0    2    0    0    1"), None);
+        assert_eq!(with("    0"), Some((1, 41)));
+        assert_eq!(with("    5    0    0    1    0    2    0    0    1    2    1"), Some((1, 41)));
+        assert_eq!(with("99999"), Some((1, 41)));
+        assert_eq!(with("   01    2    0"), Some((1, 41)));
+        assert_eq!(with("    5    x    0"), Some((1, 41)));
+        assert_eq!(with("    1    2    0    2    1"), Some((1, 56)));
+        assert_eq!(with("    2    2    0"), Some((1, 56)));
+        assert_eq!(with("    2    2    0    2    x"), Some((1, 61)));
+        assert_eq!(place(&sheet("")[..31]), Some((1, 31)));
+        assert_eq!(place("    3    2    4    1    1    0\n    0    0    5"), Some((1, 41)));
+        assert_eq!(place("    3    2    4    1    1    0\n    0    0   "), Some((1, 44)));
+        assert_eq!(place("    3    2    4    1    1    0\n    0    0    2    0    0    1"), Some((1, 61)));
+        assert_eq!(with("    2    2    0    3    0"), Some((3, 1)));
+        assert_eq!(with("    2    2    0    0    2"), Some((3, 1)));
+        assert_eq!(with("    2    2    0    1    1"), Some((5, 1)));
+        assert_eq!(with("    2    2    0    2    0"), Some((17, 1)));
+        assert_eq!(with("    1    0    0"), None);
+        let both = |first: &str, second: &str| place(&sheet(&format!("{first}\n{second}\n")));
+        assert_eq!(both("    0    0    2    2    0    2    0", "    0    0    1    2    0"), Some((6, 2)));
+        assert_eq!(both("    0    0    1    2    0", "    2    0    3    0    0    2    1    0    0"), Some((17, 2)));
+        assert_eq!(both("    0    0    2    2    0    2    0", "    2    0    2    1    1    0    0"), Some((5, 2)));
+    }
+
+    /// Document 02, slip 10, the record: a count outside 1 to 4 gets 3 with the carrier's item; places past the count are no part of the floor.
+    #[test]
+    fn docks_of_a_record() {
+        let record = |counts: [u16; 2], docks: [[u16; 4]; 2]| {
+            let mut record = [0; paper::RECORD];
+            record[..8].copy_from_slice(&[3, 2, 4, 1, 2, 1, 0, 2]);
+            record[14..16].copy_from_slice(&counts);
+            record[22..30].copy_from_slice(docks.as_flattened());
+            record
+        };
+        let told = |counts, docks| calls::check_floor(&record(counts, docks), &[4]);
+        assert_eq!(told([1, 1], [[2, 9, 4, 2], [0, 0, 0, 0]]), done(0, 0));
+        assert_eq!(told([4, 2], [[2, 1, 0, 5], [2, 0, 0, 9]]), done(0, 0));
+        assert_eq!(told([0, 1], [[2, 1, 0, 5], [2, 0, 0, 9]]), refused(3, 1));
+        assert_eq!(told([1, 5], [[2, 1, 0, 5], [2, 0, 1, 3]]), refused(3, 2));
+        assert_eq!(told([1, 65535], [[2, 1, 0, 5], [2, 0, 1, 3]]), refused(3, 2));
+        assert_eq!(told([4, 1], [[2, 1, 0, 6], [2, 0, 1, 3]]), refused(3, 1));
+        assert_eq!(told([1, 4], [[2, 1, 0, 6], [2, 0, 1, 4]]), refused(5, 2));
+        assert_eq!(told([1, 4], [[2, 1, 0, 6], [2, 0, 1, 2]]), refused(17, 2));
+        assert_eq!(told([2, 0], [[2, 2, 0, 6], [2, 0, 1, 2]]), refused(3, 2));
+        let mut same = record([2, 1], [[3, 3, 0, 0], [0, 0, 0, 0]]);
+        assert_eq!(calls::check_floor(&same, &[4]), refused(17, 1));
+        same[7] = 0;
+        assert_eq!(calls::check_floor(&same, &[4]), refused(6, 2));
+    }
+
+    /// Document 02, slip 10, by hand: the nearer of two docks; the nearer one taken by a carrier above that parks there; a dock common to three
+    /// carriers, which the first takes; two docks next to each other, of which the first reached is kept though the smaller one is beside it;
+    /// of two docks reached in one beat the smaller route; a start that is a dock; all docks taken; a dock that is crossed later than it is
+    /// reached and so is not arrived at.
+    #[test]
+    fn any_of_several_docks() {
+        let routes = |floor: &Floor| -> Vec<Vec<u16>> {
+            paper::plan(floor).0.iter().map(|answer| answer.map_or(vec![], |_| cells(answer, floor.horizon))).collect()
+        };
+        assert_eq!(routes(&docked(5, 1, 4, &[(2, &[0, 3])])), [[2, 3, 3, 3, 3]]);
+        assert_eq!(routes(&docked(5, 1, 4, &[(3, &[3]), (2, &[3, 0])])), [vec![3, 3, 3, 3, 3], vec![2, 1, 0, 0, 0]]);
+        let common = docked(3, 3, 4, &[(0, &[4]), (2, &[4, 5]), (8, &[4, 5, 6])]);
+        assert_eq!(routes(&common), [[0, 1, 4, 4, 4], [2, 5, 5, 5, 5], [8, 7, 6, 6, 6]]);
+        assert_eq!(routes(&docked(4, 1, 3, &[(3, &[1, 2])])), [[3, 2, 2, 2]]);
+        assert_eq!(routes(&docked(4, 1, 3, &[(1, &[3, 1, 0])])), [[1, 1, 1, 1]]);
+        assert_eq!(routes(&docked(3, 1, 2, &[(1, &[2, 0])])), [[1, 0, 0]]);
+        assert_eq!(routes(&docked(3, 2, 3, &[(0, &[1]), (3, &[1]), (5, &[1, 4])])), [vec![0, 1, 1, 1], vec![], vec![5, 4, 4, 4]]);
+        assert_eq!(routes(&docked(4, 1, 3, &[(0, &[0]), (1, &[1]), (3, &[1, 0])])), [vec![0; 4], vec![1; 4], vec![]]);
+        // Carrier 1 goes along the upper row; carrier 2 may end in it only where carrier 1 has been.
+        let crossed = docked(4, 2, 5, &[(0, &[3]), (5, &[2, 7])]);
+        assert_eq!(routes(&crossed), [[0, 1, 2, 3, 3, 3], [5, 6, 7, 7, 7, 7]]);
+        let later = docked(4, 2, 5, &[(0, &[3]), (6, &[2])]);
+        assert_eq!(routes(&later), [[0, 1, 2, 3, 3, 3], [6, 5, 5, 1, 2, 2]]);
+        let printed = paper::print_routes(paper::sheet_of(&common).as_bytes());
+        assert_eq!(printed, "    3    0\n    1    2    0    1    4    4    4\n    2    1    2    5    5    5    5\n    3    2    8    7    6    6    6\n");
+    }
+
+    /// The arrival is the least of those to each dock alone, and there is none exactly if there is none to each; the order of docks is nothing.
+    #[test]
+    fn the_least_arrival_over_the_list() {
+        let mut draw = Draw(10);
+        let mut later = 0;
+        for _ in 0..400 {
+            let (w, h) = (draw.between(1, 6), draw.between(2, 6));
+            let n = draw.between(1, 4.min(w * h));
+            let starts = draw.different(n, w * h);
+            let docks: Vec<Vec<usize>> = (0..n).map(|_| draw.docks(w * h)).collect();
+            let horizon = draw.between(1, 12);
+            let floor = Floor { width: w, height: h, horizon, depth: 1, starts, docks, walls: Vec::new() };
+            let (answers, _) = paper::plan(&floor);
+            for i in 0..n {
+                let above: Vec<Route> = (0..i).map(|j| paper::occupied(&floor, j, answers[j])).collect();
+                let to = |docks: &[usize]| paper::best_route(&floor, floor.starts[i], docks, &above);
+                let beat = |answer: Answer| answer.map(|route| paper::arrival_of(&route, horizon));
+                let alone: Vec<usize> = floor.docks[i].iter().filter_map(|&dock| beat(to(&[dock]))).collect();
+                assert_eq!(beat(answers[i]), alone.iter().copied().min(), "{floor:?}");
+                let mut other = floor.docks[i].clone();
+                other.reverse();
+                assert_eq!(to(&other), answers[i], "{floor:?}");
+                later += (alone.iter().max() > alone.iter().min()) as usize;
+            }
+        }
+        assert!(later > 100, "{later} carriers have docks of different arrivals");
+    }
+
     #[test]
     fn lengths_and_ceiling() {
-        let full = bare(32, 32, 63, 4, &[(0, 1), (1, 2), (2, 3), (3, 4), (4, 5), (5, 6), (6, 7), (7, 8)]);
+        let carriers: Vec<(usize, &[usize])> = (0..8).map(|i| (i, &[8, 9, 10, 11][..])).collect();
+        let full = docked(32, 32, 63, &carriers);
         let mut record = paper::record_of(&full);
         record[5] = 1023;
         let mut out = [7; 10];
         assert_eq!(calls::needed_lengths(&record, &mut out), done(0, 0));
-        assert_eq!(out, [1023, 11452, 520, 2659, 9666, 64, 22, 9, 1004, 7]);
+        assert_eq!(out, [1023, 11732, 520, 2659, 9666, 64, 54, 9, 1004, 7]);
+        record[14..18].fill(1);
+        assert_eq!(calls::needed_lengths(&record, &mut out), done(0, 0));
+        assert_eq!(out[1], 11732 - 4 * 30);
         assert_eq!(calls::ceiling(8), done(0, 502));
         assert_eq!(calls::ceiling(1), done(0, 1));
         assert_eq!(calls::ceiling(0), refused(2, 5));
@@ -286,7 +410,7 @@ mod tests {
 
     /// Document 01's best route, read literally: every route is tried, conflicts are tested route against route.
     fn best_of_all(floor: &Floor, against: &[Route]) -> Answer {
-        let (start, goal, h) = (floor.starts[0], floor.goals[0], floor.horizon);
+        let (start, docks, h) = (floor.starts[0], &floor.docks[0], floor.horizon);
         let legal = |c: usize, d: usize| {
             let (x, y) = ((c % floor.width) as i32, (c / floor.width) as i32);
             let (u, v) = ((d % floor.width) as i32, (d / floor.width) as i32);
@@ -311,7 +435,7 @@ mod tests {
             paths = longer;
         }
         for path in paths {
-            if path[h] != goal {
+            if !docks.contains(&path[h]) {
                 continue;
             }
             let mut route = [0; 64];
@@ -321,7 +445,7 @@ mod tests {
             if against.iter().any(|other| conflict(&route, other)) {
                 continue;
             }
-            let arrival = (0..=h).find(|&a| (a..=h).all(|t| path[t] == goal)).unwrap();
+            let arrival = (0..=h).find(|&a| (a..=h).all(|t| path[t] == path[h])).unwrap();
             if best.is_none_or(|(a, r)| (arrival, route) < (a, r)) {
                 best = Some((arrival, route));
             }
@@ -335,10 +459,10 @@ mod tests {
         let mut found = 0;
         for _ in 0..3000 {
             let (w, h) = (1 + draw.below(4), 1 + draw.below(3));
-            let (start, goal) = (draw.below(w * h), draw.below(w * h));
-            let mut floor = bare(w, h, 1 + draw.below(6), 1, &[(start, goal)]);
+            let (start, docks) = (draw.below(w * h), draw.docks(w * h));
+            let mut floor = docked(w, h, 1 + draw.below(6), &[(start, &docks)]);
             for c in 0..w * h {
-                if c != start && c != goal && draw.below(6) == 0 {
+                if c != start && !docks.contains(&c) && draw.below(6) == 0 {
                     floor.walls.push(c);
                 }
             }
@@ -354,7 +478,7 @@ mod tests {
                 }
                 against.push(route);
             }
-            let best = paper::best_route(&floor, start, goal, &against);
+            let best = paper::best_route(&floor, start, &docks, &against);
             assert_eq!(best, best_of_all(&floor, &against), "{floor:?} {against:?}");
             found += best.is_some() as usize;
         }
@@ -367,7 +491,10 @@ mod tests {
         for round in 0..300 {
             let n = 1 + draw.below(5);
             let pairs: Vec<(usize, usize)> = (0..n).map(|i| (i, 10 + (i + round) % n)).collect();
-            let floor = bare(5, 3, 1 + draw.below(9), 1 + draw.below(4), &pairs);
+            let mut floor = bare(5, 3, 1 + draw.below(9), 1 + draw.below(4), &pairs);
+            if round % 2 == 0 {
+                floor.docks.iter_mut().for_each(|docks| *docks = draw.docks(15));
+            }
             let mut state = paper::fresh(n);
             let steps = paper::steps_of(n);
             while !state.is_silent(&floor) {
@@ -393,12 +520,13 @@ mod tests {
             let (w, h) = (draw.between(1, 12), draw.between(1, 12));
             let cells = w * h;
             let n = draw.between(1, 8.min(cells));
-            let (starts, goals) = (draw.different(n, cells), draw.different(n, cells));
+            let starts = draw.different(n, cells);
+            let docks: Vec<Vec<usize>> = (0..n).map(|_| draw.docks(cells)).collect();
             let chance = draw.of(&[0, 10, 40]);
-            let wall = |draw: &mut Draw, c: &usize| !starts.contains(c) && !goals.contains(c) && draw.percent(chance);
+            let wall = |draw: &mut Draw, c: &usize| !starts.contains(c) && !docks.concat().contains(c) && draw.percent(chance);
             let walls = (0..cells).filter(|c| wall(&mut draw, c)).collect();
             let horizon = draw.of(&[3, 7, 12, 20, 63]);
-            let floor = Floor { width: w, height: h, horizon, depth: 1, starts, goals, walls };
+            let floor = Floor { width: w, height: h, horizon, depth: 1, starts, docks, walls };
             let (answers, failing) = paper::plan(&floor);
             routes += answers.iter().flatten().count();
 
@@ -410,11 +538,11 @@ mod tests {
 
             let (mut hashed, mut flat) = (super::astar::Hashed::new(&floor), super::astar::Flat::new(&floor));
             for i in 0..n {
-                let (start, goal) = (floor.starts[i], floor.goals[i]);
-                let arrival = answers[i].map(|route| paper::arrival_of(&route, goal, horizon));
-                assert_eq!(hashed.search(&floor, start, goal).map(|found| found.0), arrival, "{floor:?}");
-                assert_eq!(flat.search(&floor, start, goal).map(|found| found.0), arrival, "{floor:?}");
-                assert_eq!(flat.best(&floor, start, goal).map(|found| found.1), answers[i], "{floor:?}");
+                let (start, docks) = (floor.starts[i], &floor.docks[i]);
+                let arrival = answers[i].map(|route| paper::arrival_of(&route, horizon));
+                assert_eq!(hashed.search(&floor, start, docks).map(|found| found.0), arrival, "{floor:?}");
+                assert_eq!(flat.search(&floor, start, docks).map(|found| found.0), arrival, "{floor:?}");
+                assert_eq!(flat.best(&floor, start, docks).map(|found| found.1), answers[i], "{floor:?}");
                 let route = paper::occupied(&floor, i, answers[i]);
                 hashed.reserve(&floor, &route);
                 flat.reserve(&floor, &route);

@@ -10,10 +10,10 @@ use Rattle.route.proofs.arrival.Statement.{statement}
 use Rattle.route.proofs.arrival.Tie as tie
 
 abbrev Inv-loop : tie.InvT-loop
-Inv-loop goal horizon r last a₀ t₀ a t = (t ≤ last + 1) × (a ≤ t) × (a ≡ settled goal r t)
+Inv-loop horizon r last end a₀ t₀ a t = (t ≤ last) × (a ≤ t) × (a ≡ settled end r t)
 
 abbrev μ-loop : tie.MeasureT-loop
-μ-loop goal horizon r last a₀ t₀ a t = last + 1 - t
+μ-loop horizon r last end a₀ t₀ a t = last - t
 
 loop-holds : tie.Need-loop-holds Inv-loop μ-loop
 unfolding settled
@@ -28,10 +28,11 @@ loop-again c =
 
 returns : tie.Need-returns Inv-loop μ-loop
 returns c =
-    settled-ends _ _ _ _ _ _ (c .before .loop .inv .0) (c .loop-test .left) (c .before .before .last-beat .ensures .0)
+    let after-last-beat : tie.After-last-beat Inv-loop μ-loop = search in
+    settled-ends _ _ _ _ _ _ refl (c .before .loop .inv .0) (c .loop-test .left) (after-last-beat .last-beat .ensures .0)
     (c .before .loop .inv .2)
 
 pub arrival-spec : {M : Type 1} → statement M
 arrival-spec =
-    tie.close (tie.spec Inv-loop μ-loop (λ c κs. search needs) loop-holds (λ c. search needs) (λ c. search needs)
-    (λ c. search needs) (λ c. search needs) (λ c. search needs) loop-again (λ c. search needs) returns)
+    tie.close (tie.spec Inv-loop μ-loop (λ c κs. search needs) (λ c. search needs) (λ c. search needs) loop-holds (λ c. search needs)
+    (λ c. search needs) (λ c. search needs) (λ c. search needs) (λ c. search needs) loop-again (λ c. search needs) returns)

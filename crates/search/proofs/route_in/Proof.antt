@@ -1,7 +1,7 @@
--- `search::route_in` meets its contract: the search from the carrier's start to its goal in the room of its floor. Assumes nothing.
+-- `search::route_in` meets its contract: the search from the carrier's start to its docks in the room of its floor. Assumes nothing.
 use mathlib.Core.Path.{sym, _∙_}
-use Rattle.floor.specs.Checks.{startOf, goalOf}
-use Rattle.search.proofs.SearchLaws.{scene-fits, scene-start, scene-goal, tidy-scene, best-views}
+use Rattle.floor.specs.Checks.{startOf, countOf}
+use Rattle.search.proofs.SearchLaws.{scene-fits, scene-start, scene-docks, tidy-scene, best-views}
 use native.Mathlib.Omega.{arith}
 use borrow.Author.Needs.{needs}
 use Rattle.search.proofs.route_in.Statement.{statement}
@@ -12,8 +12,8 @@ element-copy-out-start c =
     let start : tie.Start = search in
     omega (arith, start .pre .0 .0 .listed)
 
-element-copy-out-goal : tie.Need-element-copy-out-goal
-element-copy-out-goal c =
+element-copy-out-count : tie.Need-element-copy-out-count
+element-copy-out-count c =
     let start : tie.Start = search in
     omega (arith, start .pre .0 .0 .listed)
 
@@ -23,16 +23,22 @@ scene-of-requires c κs =
     let p = start .pre .0 .0 in
     (p .width .0, p .width .1, p .height)
 
+docks-of-requires : tie.Need-docks-of-requires
+docks-of-requires c κs =
+    let start : tie.Start = search in
+    omega (arith, start .pre .0 .0 .listed)
+
 seek-requires : tie.Need-seek-requires
-unfolding startOf goalOf
+unfolding startOf countOf
 seek-requires c κs =
+    let after-docks-of : tie.After-docks-of = search in
     let after-scene-of : tie.After-scene-of = search in
     let start : tie.Start = search in
     let p = start .pre in
     let able = p .0 .0 in
     let q = after-scene-of .scene-of .ensures in
     let x = scene-fits able q in
-    ((x .grid, x .short, scene-start able q, scene-goal able q), (rw q (p .0 .1), rw q (p .1 .tidy)))
+    ((x .grid, x .short, scene-start able q, scene-docks able q (after-docks-of .docks-of .ensures)), (rw q (p .0 .1), rw q (p .1 .tidy)))
 
 same-length : tie.Need-same-length
 same-length c =
@@ -41,16 +47,17 @@ same-length c =
     after-seek .seek .ensures .0 .long ∙ sym (start .pre .0 .1 .long)
 
 returns : tie.Need-returns
-unfolding startOf goalOf
+unfolding startOf countOf
 returns c =
     let after-seek : tie.After-seek = search in
+    let after-docks-of : tie.After-docks-of = search in
     let after-scene-of : tie.After-scene-of = search in
     let start : tie.Start = search in
     let q = after-scene-of .scene-of .ensures in
     let found = after-seek .seek .ensures in
-    (tidy-scene _ q (found .0), best-views _ _ _ _ _ _ _ q (start .pre .1) (found .1))
+    (tidy-scene _ q (found .0), best-views _ _ _ _ _ _ _ _ q (after-docks-of .docks-of .ensures) (start .pre .1) (found .1))
 
 pub route-in-spec : {M : Type 1} → statement M
 route-in-spec =
     tie.close (tie.spec (λ c. search needs) (λ c. search needs) element-copy-out-start (λ c. search needs)
-    (λ c. search needs) element-copy-out-goal (λ c. search needs) scene-of-requires seek-requires same-length returns)
+    (λ c. search needs) element-copy-out-count (λ c. search needs) scene-of-requires docks-of-requires seek-requires same-length returns)

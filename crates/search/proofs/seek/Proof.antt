@@ -1,11 +1,12 @@
--- `search::seek` meets its contract. The start or the goal is shut, the goal is not reached, or the walk is the best route: one law a case.
+-- `search::seek` meets its contract. The start or every dock is shut, no dock is reached, or the walk is the best route: one law a case.
 -- Assumes nothing.
 use mathlib.Core.Path.{sym, ap, _∙_}
 use borrow.Author.Tests.{not-true, not-false}
 use native.Mathlib.Omega.{arith}
+use Rattle.passes.specs.Docks.{heldDocks}
 use Rattle.search.specs.Answers.{answered}
 use Rattle.search.proofs.AnswerLaws.{says-same, says-route}
-use Rattle.search.proofs.SeekLaws.{start-shut, goal-shut, never, walk-best}
+use Rattle.search.proofs.SeekLaws.{start-shut, docks-shut, never, walk-best}
 use native.Mathlib.Omega.{arith}
 use borrow.Author.Needs.{needs}
 use Rattle.search.proofs.seek.Statement.{statement}
@@ -24,35 +25,43 @@ returns c =
     let p = start .pre in
     let e = sym (after-member .member .ensures) ∙ not-true _ (c .before .if1 .taken) in (
       p .1 .0,
-      λ free vs h. says-same (c .none .ensures) (ap answered (sym (start-shut _ _ _ _ free vs h (p .0 .1) (p .0 .0 .thin) e))),
+      λ free vs h. says-same (c .none .ensures)
+          (ap answered (sym (start-shut _ _ _ _ _ free vs h (p .0 .1) (p .0 .0 .thin) (p .0 .3 .few) e))),
     )
 
-member-requires-2 : tie.Need-member-requires-2
-member-requires-2 c κs =
-    let start : tie.Start = search in
-    let p = start .pre in
-    (p .0 .0, p .1 .1 .long, omega (arith, p .0 .1), p .0 .3)
-
-returns-2 : tie.Need-returns-2
-returns-2 c =
-    let after-member2 : tie.After-member2 = search in
-    let start : tie.Start = search in
-    let p = start .pre in
-    let e = sym (after-member2 .member2 .ensures) ∙ not-true _ (c .before .if2 .taken) in (
-      p .1 .0,
-      λ free vs h. says-same (c .none2 .ensures) (ap answered (sym (goal-shut _ _ _ _ free vs h (p .0 .1) (p .0 .0 .thin) e))),
-    )
-
-hold-from-requires : tie.Need-hold-from-requires
-hold-from-requires c κs =
+hold-docks-requires : tie.Need-hold-docks-requires
+hold-docks-requires c κs =
     let start : tie.Start = search in
     let p = start .pre in
     (p .0 .0, p .1 .1 .long, p .0 .1, p .0 .3)
 
-forward-requires : tie.Need-forward-requires
-forward-requires c κs =
+some-held-requires : tie.Need-some-held-requires
+unfolding heldDocks
+some-held-requires c κs =
+    let after-hold-docks : tie.After-hold-docks = search in
     let start : tie.Start = search in
-    start .pre
+    rw (after-hold-docks .hold-docks .ensures) (start .pre .0 .3 .few)
+
+returns-2 : tie.Need-returns-2
+returns-2 c =
+    let after-some-held : tie.After-some-held = search in
+    let after-hold-docks : tie.After-hold-docks = search in
+    let start : tie.Start = search in
+    let p = start .pre in
+    let d = after-hold-docks .hold-docks .ensures in
+    let e = sym (after-some-held .some-held .ensures) ∙ not-true _ (c .before .if2 .taken) in (
+      p .1 .0,
+      λ free vs h. says-same (c .none2 .ensures)
+          (ap answered (sym (docks-shut _ _ _ _ _ free vs h (p .0 .1) (p .0 .0 .thin) (p .0 .3 .few) (rw d at e)))),
+    )
+
+forward-requires : tie.Need-forward-requires
+unfolding heldDocks
+forward-requires c κs =
+    let after-hold-docks : tie.After-hold-docks = search in
+    let start : tie.Start = search in
+    let p = start .pre in
+    ((p .0 .0, p .0 .1, p .0 .2, rw (after-hold-docks .hold-docks .ensures) (p .0 .3)), p .1)
 
 same-length : tie.Need-same-length
 same-length c =
@@ -65,25 +74,30 @@ returns-3 : tie.Need-returns-3
 returns-3 c =
     let then3 : tie.Then3 = search in
     let after-forward : tie.After-forward = search in
-    let after-hold-from : tie.After-hold-from = search in
+    let after-hold-docks : tie.After-hold-docks = search in
+    let else1 : tie.Else1 = search in
+    let after-member : tie.After-member = search in
     let start : tie.Start = search in
     let p = start .pre in
     let f = after-forward .forward .ensures in
     let l = then3 .if3 .taken in
-    let r = f .0 (start .args .g .horizon) (omega arith) (omega arith) in (
+    let r = f .0 (start .args .g .horizon) (omega arith) (omega arith) in
+    let e = sym (after-member .member .ensures) ∙ not-false _ (else1 .if1 .left) in (
       r .tidy,
       λ free vs h. says-same (c .none3 .ensures) (ap answered (sym
-          (never _ _ _ _ free vs h (p .0 .1) (p .0 .0 .thin) _ _ (omega arith) r _ (after-hold-from .hold-from .ensures) _ (omega arith)
-          (f .1) l))),
+          (never _ _ _ _ _ free vs h (p .0 .1) (p .0 .0 .thin) (p .0 .3 .few) _ _ (omega arith) r e _ (omega arith)
+          (rw (after-hold-docks .hold-docks .ensures) at (f .1)) l))),
     )
 
 backward-requires : tie.Need-backward-requires
+unfolding heldDocks
 backward-requires c κs =
     let else3 : tie.Else3 = search in
     let after-forward : tie.After-forward = search in
+    let after-hold-docks : tie.After-hold-docks = search in
     let start : tie.Start = search in
     let p = start .pre in (
-      (p .0 .0, p .0 .3, omega (arith, p .0 .1, else3 .if3 .left)),
+      (p .0 .0, rw (after-hold-docks .hold-docks .ensures) (p .0 .3), omega (arith, p .0 .1, else3 .if3 .left)),
       (after-forward .forward .ensures .0 0 (omega arith) (omega arith) .tidy, p .1 .1),
     )
 
@@ -108,7 +122,7 @@ returns-4 c =
     let after-backward : tie.After-backward = search in
     let else3 : tie.Else3 = search in
     let after-forward : tie.After-forward = search in
-    let after-hold-from : tie.After-hold-from = search in
+    let after-hold-docks : tie.After-hold-docks = search in
     let else1 : tie.Else1 = search in
     let after-member : tie.After-member = search in
     let start : tie.Start = search in
@@ -117,15 +131,16 @@ returns-4 c =
     let l = else3 .if3 .left in
     let r = f .0 (after-forward .forward .result) (omega arith) l in
     let e = sym (after-member .member .ensures) ∙ not-false _ (else1 .if1 .left) in
+    let d = after-hold-docks .hold-docks .ensures in
     let b = after-backward .backward .ensures in (
       b .tidy,
       λ free vs h. says-route
-          (walk-best _ _ _ _ free vs h (p .0 .1) (p .0 .0 .thin) _ _ l r _ (after-hold-from .hold-from .ensures) _ e (f .1) b)
+          (walk-best _ _ _ _ _ free vs h (p .0 .1) (p .0 .0 .thin) (p .0 .3 .few) _ _ l r e _ (rw d at (f .1)) (rw d at b))
           (c .walk .ensures),
     )
 
 pub seek-spec : {M : Type 1} → statement M
 seek-spec =
-    tie.close (tie.spec member-requires (λ c κs. search needs) returns member-requires-2 (λ c κs. search needs)
-    returns-2 hold-from-requires forward-requires (λ c κs. search needs) same-length returns-3 backward-requires
+    tie.close (tie.spec member-requires (λ c κs. search needs) returns hold-docks-requires some-held-requires (λ c κs. search needs)
+    returns-2 forward-requires (λ c κs. search needs) same-length returns-3 backward-requires
     walk-requires same-length-2 returns-4)

@@ -1,5 +1,5 @@
--- `floor::checks::unshared` meets its contract: the start decides, or the goal does; an array of a record has eight places.
-use Rattle.floor.specs.Checks.{unshared, startOf, goalOf}
+-- `floor::checks::unshared` meets its contract: the start decides; an array of a record has eight places.
+use Rattle.floor.specs.Checks.{unshared, startOf}
 use lib.ListN.{length}
 use mathlib.Core.Path.{_≡_}
 use native.Mathlib.Omega.{arith}
@@ -11,14 +11,7 @@ use Rattle.floor.proofs.checks.unshared.Tie as tie
 among-requires : tie.Need-among-requires
 among-requires c κs = let e : length (c .before .before .args .f .starts) ≡ 8 = search needs in omega arith
 
-among-requires-2 : tie.Need-among-requires-2
-among-requires-2 c κs =
-    let start : tie.Start = search in
-    let e : length (start .args .f .goals) ≡ 8 = search needs in
-    omega arith
-
 pub unshared-spec : {M : Type 1} → statement M
-unfolding unshared startOf goalOf
+unfolding unshared startOf
 unshared-spec =
-    tie.close (tie.spec (λ c. search needs) (λ c. search needs) (λ c. search needs) among-requires (λ c. search decides)
-    (λ c. search needs) (λ c. search needs) (λ c. search needs) among-requires-2 (λ c. search decides))
+    tie.close (tie.spec (λ c. search needs) (λ c. search needs) (λ c. search needs) among-requires (λ c. search decides))

@@ -12,11 +12,11 @@ use Rattle.passes.proofs.forward.forward.Statement.{statement}
 use Rattle.passes.proofs.forward.forward.Tie as tie
 
 abbrev Inv-loop : tie.InvT-loop
-Inv-loop g sets₀ room start goal hold t₀ sets t =
-    (t ≤ g .horizon) × Reached g room start t sets × NoneBefore g sets goal hold t
+Inv-loop g sets₀ room start ds t₀ sets t =
+    (t ≤ g .horizon) × Reached g room start t sets × NoneBefore g sets ds t
 
 abbrev μ-loop : tie.MeasureT-loop
-μ-loop g sets₀ room start goal hold t₀ sets t = g .horizon - t
+μ-loop g sets₀ room start ds t₀ sets t = g .horizon - t
 
 put-alone-requires : tie.Need-put-alone-requires Inv-loop μ-loop
 put-alone-requires c κs =
@@ -50,7 +50,7 @@ returns c =
     let at-loop : tie.At-loop Inv-loop μ-loop = search in
     let i = at-loop .loop .inv in
     let e = sym (after-arrives .arrives .ensures) ∙ not-true _ (then1 .if1 .taken) in
-    (λ n h l. reached-fewer _ _ _ _ _ _ (omega arith) (i .1), found-nothing _ _ _ _ _ (i .2) _ (c .if2 .taken) e)
+    (λ n h l. reached-fewer _ _ _ _ _ _ (omega arith) (i .1), found-nothing _ _ _ _ (i .2) _ (c .if2 .taken) e)
 
 step-requires : tie.Need-step-requires Inv-loop μ-loop
 step-requires c κs =
@@ -77,7 +77,7 @@ loop-again c =
     let i = at-loop .loop .inv in
     let s = after-step .step .ensures in
     let e = sym (after-arrives .arrives .ensures) ∙ not-true _ (then1 .if1 .taken) in
-    (omega (arith, i .0, else2 .if2 .left), reached-more _ _ _ _ _ _ (i .1) (s .0) (s .1), none-more _ _ _ _ _ (i .2) _ (s .0) e)
+    (omega (arith, i .0, else2 .if2 .left), reached-more _ _ _ _ _ _ (i .1) (s .0) (s .1), none-more _ _ _ _ (i .2) _ (s .0) e)
 
 same-length-2 : tie.Need-same-length-2 Inv-loop μ-loop
 same-length-2 c =
@@ -90,7 +90,7 @@ returns-2 c =
     let at-loop : tie.At-loop Inv-loop μ-loop = search in
     let i = at-loop .loop .inv in
     let e = sym (c .before .arrives .ensures) ∙ not-false _ (c .if1 .left) in
-    (λ n h l. reached-fewer _ _ _ _ _ _ h (i .1), found-least _ _ _ _ _ (i .2) _ (i .0) e)
+    (λ n h l. reached-fewer _ _ _ _ _ _ h (i .1), found-least _ _ _ _ (i .2) _ (i .0) e)
 
 pub forward-spec : {M : Type 1} → statement M
 forward-spec =

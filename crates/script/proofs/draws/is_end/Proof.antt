@@ -1,4 +1,4 @@
--- `script::draws::is_end` is safe and ends: each start and goal in turn.
+-- `script::draws::is_end` is safe and ends: each start and dock in turn.
 use Prim.Native.Nat.{_-_}
 use borrow.Author.Needs.{needs}
 use Rattle.script.proofs.draws.is_end.Statement.{statement}

@@ -1,16 +1,16 @@
 -- `second::arrivals::fill_beat` is safe and ends. Assumes nothing.
 use Prim.Native.Nat.{_-_}
 use mathlib.Core.Path.{_≡_}
-use borrow.Author.Needs.{needs}
 use lib.ListN.{length}
+use borrow.Author.Needs.{needs}
 use Rattle.second.proofs.arrivals.fill_beat.Statement.{statement}
 use Rattle.second.proofs.arrivals.fill_beat.Tie as tie
 
 abbrev Inv-loop : tie.InvT-loop
-Inv-loop table₀ f walls views k goal t cells c₀ table c = length table ≡ length table₀
+Inv-loop table₀ f walls views k t cells c₀ table c = length table ≡ length table₀
 
 abbrev μ-loop : tie.MeasureT-loop
-μ-loop table₀ f walls views k goal t cells c₀ table c = cells - c
+μ-loop table₀ f walls views k t cells c₀ table c = cells - c
 
 pub fill-beat-spec : {M : Type 1} → statement M
 fill-beat-spec =

@@ -8,10 +8,12 @@ use Rattle.wire.proofs.numbers.floor_of.Tie as tie
 returns : tie.Need-returns
 unfolding floorOf
 returns c =
+    let after-cells2 : tie.After-cells2 = search in
     let after-cells : tie.After-cells = search in
-    rw (after-cells .cells .ensures, c .cells2 .ensures) refl
+    rw (after-cells .cells .ensures, after-cells2 .cells2 .ensures, c .docks .ensures) refl
 
 pub floor-of-spec : {M : Type 1} → statement M
 floor-of-spec =
     tie.close (tie.spec (λ c. search needs) (λ c. search needs) (λ c. search needs) (λ c. search needs)
-    (λ c. search needs) (λ c. search needs) (λ c κs. search needs) (λ c κs. search needs) returns)
+    (λ c. search needs) (λ c. search needs) (λ c κs. search needs) (λ c κs. search needs) (λ c κs. search needs)
+    returns)

@@ -1,0 +1,196 @@
+-- A floor with one dock a carrier gets document 01's verdict, but for goals in common.
+use Prim.Native.Nat.{ℕ, zero, suc, _+_, _*_, _≤_, _<_}
+use native.Mathlib.Omega.{arith}
+use native.Mathlib.Nat.{add-zero}
+use mathlib.Core.Path.{_≡_, refl, sym, _∙_}
+use mathlib.Core.Bool.{Bool, true, not}
+use mathlib.Core.Logic.{_↔_}
+use mathlib.Core.List.{List, [], _∷_}
+use lib.ListN.{length, getD, replicate}
+use lib.Dec.{eqb}
+use borrow.Author.Tests.{eq-eqb, eqb-true}
+use Rattle.laws.specs.Verdict.{Verdict, passed, refused, _then_, demandEach, First}
+use Rattle.laws.proofs.PartLaws.{part-byte}
+use Rattle.laws.proofs.Tests.{and-fst, not-refutes, same-test}
+use Rattle.laws.proofs.EachLaws.{Decides, each-passed, all-passes, each-refused, first-refuses}
+use Rattle.laws.proofs.VerdictLaws.{then-both, then-assoc, then-passed, then-refused, refused-by, demand-same, demand-passes, turn-passes}
+use Rattle.floor.specs.Checks.{within, among, every, startOf, countOf, docksOf, dockOf, isDock, inGrid, docksInGrid, carrierInGrid}
+use Rattle.floor.specs.Checks.{docksClear, clearOfWalls, unshared, unrepeated, limitsOf, lentOf, roomOf, carriersOf}
+use Rattle.floor.specs.Checks.{wallsOf, risingOf, clearOf, distinctOf, unrepeatedOf, placesOf, checkOf}
+use Rattle.floor.specs.OneDock.{Earlier, oneEach, withOneDock, earlierLimits, earlierInside, bothInside, earlierCarriers}
+use Rattle.floor.specs.OneDock.{earlierWalls, earlierRising, bothClear, earlierClear, neitherShared, earlierDistinct, earlierCheck}
+use Rattle.floor.proofs.LimitsLaws.{limits-passed}
+
+-- Every fourth place has a goal.
+goal-at : (gs : List ℕ) (i : ℕ) → getD (oneEach gs) (4 * i) 0 ≡ getD gs i 0
+unfolding oneEach
+goal-at [] zero = refl
+goal-at [] (suc i) = refl
+goal-at (g ∷ gs) zero = refl
+goal-at (g ∷ gs) (suc i) = let e : 4 * suc i ≡ suc (suc (suc (suc (4 * i)))) = omega arith in rw e (goal-at gs i)
+
+module _ (e : Earlier) where
+  -- The one dock is the goal.
+  one-goal : (i : ℕ) → dockOf (withOneDock e) i 0 ≡ getD (e .goals) i 0
+  unfolding dockOf docksOf withOneDock
+  one-goal i = part-byte (oneEach (e .goals)) (4 * i) 4 0 (omega arith) ∙ rw add-zero (goal-at (e .goals) i)
+
+one-each : (i : ℕ) → i < 8 → _≡_ {A = ℕ} (getD (replicate 8 1) i 0) 1
+one-each zero l = refl
+one-each (suc zero) l = refl
+one-each (suc (suc zero)) l = refl
+one-each (suc (suc (suc zero))) l = refl
+one-each (suc (suc (suc (suc zero)))) l = refl
+one-each (suc (suc (suc (suc (suc zero))))) l = refl
+one-each (suc (suc (suc (suc (suc (suc zero)))))) l = refl
+one-each (suc (suc (suc (suc (suc (suc (suc zero))))))) l = refl
+one-each (suc (suc (suc (suc (suc (suc (suc (suc i)))))))) l = absurd (omega arith)
+
+module _ (e : Earlier) (ws : List ℕ) (few : e .carriers ≤ 8) where
+  -- Carriers that are there have one dock.
+  one-count : (i : ℕ) → i < e .carriers → countOf (withOneDock e) i ≡ 1
+  unfolding countOf withOneDock
+  one-count i l = one-each i (omega arith)
+
+  -- Only the goal is a dock.
+  pub one-is-dock : (i c : ℕ) → i < e .carriers → isDock (withOneDock e) i c ≡ eqb c (getD (e .goals) i 0)
+  unfolding isDock among dockOf
+  one-is-dock i c l =
+      let g = getD (e .goals) i 0 in
+      rw (one-count i l, one-goal e i)
+      (same-test (eqb g c) (eqb c g) (λ h. eq-eqb c g (sym (eqb-true g c h))) (λ h. eq-eqb g c (sym (eqb-true c g h))))
+
+  one-every : (i : ℕ) → i < e .carriers → (p : ℕ → Bool)
+      → every (countOf (withOneDock e) i) (λ k. p (dockOf (withOneDock e) i k)) ≡ p (getD (e .goals) i 0)
+  unfolding every
+  one-every i l p = rw (one-count i l, one-goal e i) refl
+
+  carrier-one : (i : ℕ) → i < e .carriers → carrierInGrid (withOneDock e) i ≡ bothInside e i
+  unfolding carrierInGrid docksInGrid bothInside inGrid earlierInside startOf within withOneDock
+  carrier-one i l = rw (one-every i l (earlierInside e), one-count i l) refl
+
+  carriers-one : carriersOf (withOneDock e) ≡ earlierCarriers e
+  unfolding carriersOf earlierCarriers withOneDock
+  carriers-one = demand-same 3 1 _ _ (e .carriers) carrier-one
+
+  walls-one : wallsOf (withOneDock e) ws ≡ earlierWalls e ws
+  unfolding wallsOf earlierWalls inGrid earlierInside withOneDock
+  walls-one = refl
+
+  rising-one : risingOf (withOneDock e) ws ≡ earlierRising e ws
+  unfolding risingOf earlierRising withOneDock
+  rising-one = refl
+
+  clear-each : (i : ℕ) → i < e .carriers → clearOfWalls (withOneDock e) ws i ≡ bothClear e ws i
+  unfolding clearOfWalls docksClear bothClear startOf withOneDock
+  clear-each i l = rw (one-every i l (λ c. not (among ws (e .walls) c))) refl
+
+  clear-one : clearOf (withOneDock e) ws ≡ earlierClear e ws
+  unfolding clearOf earlierClear withOneDock
+  clear-one = demand-same 5 1 _ _ (e .carriers) clear-each
+
+  unrepeated-each : (i : ℕ) → i < e .carriers → unrepeated (withOneDock e) i ≡ true
+  unfolding unrepeated every among
+  unrepeated-each i l = rw (one-count i l) refl
+
+  unrepeated-one : unrepeatedOf (withOneDock e) ≡ passed
+  unfolding unrepeatedOf demandEach withOneDock
+  unrepeated-one = turn-passes _ (e .carriers) (λ i l. demand-passes 17 (1 + i) (unrepeated-each i l))
+
+-- A check that finds nothing adds nothing, and what stands behind another counts only where that passes.
+then-nothing : (v : Verdict) → (v then passed) ≡ v
+unfolding _then_
+then-nothing passed = refl
+then-nothing (refused k p) = refl
+
+then-same : (v w u : Verdict) → (v ≡ passed → w ≡ u) → (v then w) ≡ (v then u)
+unfolding _then_
+then-same passed w u h = h refl
+then-same (refused k p) w u h = refl
+
+-- The tests of a check over items say themselves.
+itself : (ok : ℕ → Bool) → Decides ok (λ (i : ℕ). ok i ≡ true)
+itself ok i = (λ h. h, λ h. h)
+
+-- A check over items refuses with its own number.
+own-number : (n : ℕ) (ok : ℕ → Bool) (m k p : ℕ) → demandEach n 1 ok m ≡ refused k p → k ≡ n
+own-number n ok m k p h = each-refused n 1 ok _ (itself ok) (λ (a b : ℕ). a ≡ n) m k p h (λ i f. refl)
+
+-- Where it refuses item i, i is the first whose test fails.
+own-place : (n : ℕ) (ok : ℕ → Bool) (m k i : ℕ) → demandEach n 1 ok m ≡ refused k (1 + i) → First (λ (j : ℕ). ok j ≡ true) m i
+own-place n ok m k i h =
+    each-refused n 1 ok _ (itself ok) (λ (a b : ℕ). b ≡ 1 + i → First (λ (j : ℕ). ok j ≡ true) m i) m k (1 + i) h
+    (λ j f q. let e : j ≡ i = omega arith in rw e at f) refl
+
+-- Document 01's checks before 6.
+beforeSix : Earlier → List ℕ → Verdict
+beforeSix e ws =
+    earlierLimits e
+    then roomOf (e .walls) (length ws)
+    then earlierCarriers e
+    then earlierWalls e ws
+    then earlierRising e ws
+    then earlierClear e ws
+
+module _ (e : Earlier) (ws : List ℕ) where
+  earlier-is : earlierCheck e ws ≡ (beforeSix e ws then earlierDistinct e)
+  unfolding earlierCheck beforeSix
+  earlier-is = simp then-assoc
+
+  limits-one : limitsOf (withOneDock e) ≡ earlierLimits e
+  unfolding limitsOf earlierLimits withOneDock
+  limits-one = refl
+
+  lent-one : lentOf (withOneDock e) ws ≡ roomOf (e .walls) (length ws)
+  unfolding lentOf withOneDock
+  lent-one = refl
+
+  few-carriers : earlierLimits e ≡ passed → e .carriers ≤ 8
+  unfolding withOneDock
+  few-carriers h = limits-passed (withOneDock e) (limits-one ∙ h) .carriers .1
+
+  today-is : checkOf (withOneDock e) ws ≡ (beforeSix e ws then distinctOf (withOneDock e))
+  unfolding checkOf placesOf beforeSix
+  today-is =
+      simp then-assoc
+      (rw (limits-one, lent-one)
+      (then-same (earlierLimits e) _ _ (λ h.
+      let few = few-carriers h in
+      rw (
+        carriers-one e ws few,
+        walls-one e ws few,
+        rising-one e ws few,
+        clear-one e ws few,
+        unrepeated-one e ws few,
+        then-nothing (distinctOf (withOneDock e)),
+      ) refl)))
+
+  -- A carrier that shares neither a start nor a goal shares no start.
+  no-start : (i : ℕ) → neitherShared e i ≡ true → unshared (withOneDock e) i ≡ true
+  unfolding neitherShared unshared startOf withOneDock
+  no-start i h = and-fst _ _ h
+
+  pub still-accepted : earlierCheck e ws ≡ passed → checkOf (withOneDock e) ws ≡ passed
+  unfolding earlierDistinct distinctOf withOneDock
+  still-accepted h =
+      let b = then-both _ _ (sym earlier-is ∙ h) in
+      let each = each-passed 6 1 (neitherShared e) _ (itself (neitherShared e)) (e .carriers) (b .1) in
+      today-is ∙ then-passed (b .0)
+      ∙ all-passes 6 1 (unshared (withOneDock e)) _ (itself (unshared (withOneDock e))) (e .carriers) (λ i l. no-start i (each i l))
+
+  pub still-refused : (k p : ℕ) → (k ≡ 6 → ⊥) → (earlierCheck e ws ≡ refused k p) ↔ (checkOf (withOneDock e) ws ≡ refused k p)
+  unfolding earlierDistinct distinctOf withOneDock
+  still-refused k p n = (
+    λ h. refused-by (sym earlier-is ∙ h) (λ r. today-is ∙ then-refused _ r) (λ a r. absurd (n (own-number 6 _ _ k p r))),
+    λ h. refused-by (sym today-is ∙ h) (λ r. earlier-is ∙ then-refused _ r) (λ a r. absurd (n (own-number 6 _ _ k p r))),
+  )
+
+  pub still-six : (i : ℕ) → earlierCheck e ws ≡ refused 6 (1 + i) → among (e .starts) i (getD (e .starts) i 0) ≡ true
+      → checkOf (withOneDock e) ws ≡ refused 6 (1 + i)
+  unfolding earlierDistinct distinctOf unshared startOf withOneDock
+  still-six i h t =
+      refused-by (sym earlier-is ∙ h) (λ r. today-is ∙ then-refused _ r) (λ a r.
+      let f = own-place 6 (neitherShared e) (e .carriers) 6 i r in
+      today-is ∙ then-passed a
+      ∙ first-refuses 6 1 (unshared (withOneDock e)) _ (itself (unshared (withOneDock e))) (e .carriers) i
+      (record { listed = f .listed; fails = λ q. not-refutes _ q t; before = λ j l. no-start j (f .before j l) }))

@@ -1,0 +1,124 @@
+// The docks of a search: the cells at which a route may end, each with the beat from which it can be held.
+ghost use mathlib.Core.Path.{_≡_};
+ghost use Prim.Native.Nat.{_≤_, _<_};
+ghost use lib.ListN.{length};
+ghost use Rattle.tables.specs.Table.{Grid, Tidy};
+ghost use Rattle.tables.specs.Step.{ChangedAt};
+ghost use Rattle.passes.specs.Docks.{DocksIn, holdOf, heldDocks, someHeld, arrivableAt, arrivable, EndsAt, OneEnd};
+use tables::Scene;
+use tables::table::member;
+use tables::table::put_more;
+use tables::table::put_none;
+
+// As many cells as a carrier may have docks.
+pub type Cells = [u16; 4];
+
+// The first `count` cells are docks, each with the least beat from which it is in the room through the horizon.
+pub struct Docks {
+    pub count: usize,
+    pub cells: Cells,
+    pub holds: [usize; 4],
+}
+
+// The least beat from which a cell is in the room through the horizon; one past the horizon where it is not there then.
+fn hold_from(g: Scene, room: &[u32], dock: usize) -> usize
+    requires { ⌜ Grid g × (length (now room) ≡ 2304) × (g .horizon ≤ 63) × (dock < g .cells) ⌝ }
+    ensures { λ r. ⌜ r ≡ holdOf g (now (room .entry)) dock ⌝ }
+{
+    let mut n = g.horizon + 1;
+    while 0 < n {
+        if !member(g, room, n - 1, dock) {
+            return n;
+        }
+        n -= 1;
+    }
+    0
+}
+
+// The docks with the beats from which they can be held in a room.
+pub fn hold_docks(g: Scene, room: &[u32], count: usize, cells: Cells) -> Docks
+    requires { ⌜ Grid g × (length (now room) ≡ 2304) × (g .horizon ≤ 63) × DocksIn g count cells ⌝ }
+    ensures { λ r. ⌜ r ≡ heldDocks g (now (room .entry)) count cells ⌝ }
+{
+    let mut holds = [0usize; 4];
+    let mut k: usize = 0;
+    while k < count {
+        holds[k] = hold_from(g, room, cells[k] as usize);
+        k += 1;
+    }
+    Docks {
+        count: count,
+        cells: cells,
+        holds: holds,
+    }
+}
+
+// Whether some dock can be held from beat t on.
+pub fn some_held(ds: Docks, t: usize) -> bool
+    requires { ⌜ ds .count ≤ 4 ⌝ }
+    ensures { λ r. ⌜ r ≡ someHeld ds t ⌝ }
+{
+    let n = ds.count;
+    let mut k: usize = 0;
+    while k < n {
+        if ds.holds[k] <= t {
+            return true;
+        }
+        k += 1;
+    }
+    false
+}
+
+// Whether dock k can be held from beat t on and is in the set of beat t.
+fn arrives_at(g: Scene, sets: &[u32], ds: Docks, t: usize, k: usize) -> bool
+    requires { ⌜ Grid g × (length (now sets) ≡ 2304) × (t < 64) × DocksIn g (ds .count) (ds .cells) × (k < ds .count) ⌝ }
+    ensures { λ r. ⌜ r ≡ arrivableAt g (now (sets .entry)) ds t k ⌝ }
+{
+    if t < ds.holds[k] {
+        return false;
+    }
+    member(g, sets, t, ds.cells[k] as usize)
+}
+
+// Whether some dock that can be held from beat t on is in the set of beat t.
+pub fn arrives(g: Scene, sets: &[u32], ds: Docks, t: usize) -> bool
+    requires { ⌜ Grid g × (length (now sets) ≡ 2304) × (t < 64) × DocksIn g (ds .count) (ds .cells) ⌝ }
+    ensures { λ r. ⌜ r ≡ arrivable g (now (sets .entry)) ds t ⌝ }
+{
+    let n = ds.count;
+    let mut k: usize = 0;
+    while k < n {
+        if arrives_at(g, sets, ds, t, k) {
+            return true;
+        }
+        k += 1;
+    }
+    false
+}
+
+// Dock k joins the set of beat a if it can be held from then on.
+fn put_dock(g: Scene, sets: &mut [u32], ds: Docks, a: usize, k: usize)
+    requires { ⌜ Grid g × Tidy g (now sets) × (a < 64) × DocksIn g (ds .count) (ds .cells) × (k < ds .count) ⌝ }
+    ensures only { λ r. ⌜ ChangedAt g (now (sets .entry)) a (now (sets .exit)) ⌝ }
+    ensures more { λ r. ⌜ OneEnd g (now (sets .entry)) ds a k (now (sets .exit)) ⌝ }
+{
+    if a < ds.holds[k] {
+        return;
+    }
+    put_more(g, sets, a, ds.cells[k] as usize);
+}
+
+// The set of beat a becomes the docks that can be held from then on.
+pub fn put_docks(g: Scene, sets: &mut [u32], ds: Docks, a: usize)
+    requires { ⌜ Grid g × Tidy g (now sets) × (a < 64) × DocksIn g (ds .count) (ds .cells) ⌝ }
+    ensures only { λ r. ⌜ ChangedAt g (now (sets .entry)) a (now (sets .exit)) ⌝ }
+    ensures ends { λ r. ⌜ EndsAt g (now (sets .exit)) ds a (ds .count) ⌝ }
+{
+    put_none(g, sets, a);
+    let n = ds.count;
+    let mut k: usize = 0;
+    while k < n {
+        put_dock(g, sets, ds, a, k);
+        k += 1;
+    }
+}
