@@ -226,12 +226,13 @@ impl<'w> Floor<'w> {
     /// The cell in a column and a row, both from 0.
     pub fn cell(&self, column: u16, row: u16) -> Option<u16> {
         let Dimensions { width, height, .. } = self.dimensions();
-        (column < width && row < height).then(|| row * width + column)
+        (column < width && row < height).then(|| row.saturating_mul(width).saturating_add(column))
     }
 
     /// The place from 0 of a carrier that is there.
     pub(crate) fn index(&self, i: u16) -> Option<usize> {
-        (1 <= i && i <= self.carriers()).then(|| usize::from(i) - 1)
+        let k = i.checked_sub(1)?;
+        (k < self.carriers()).then_some(usize::from(k))
     }
 
     /// Writes the floor's sheet into lent memory. Refusal 9.

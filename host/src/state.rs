@@ -104,9 +104,10 @@ impl<'m> State<'m> {
 
     /// Refuses a list with a step that names nothing on this floor; takes no step.
     fn check(&mut self, steps: &[Step]) -> Result<(), Refusal> {
-        for (k, part) in steps.chunks(PART).enumerate() {
-            let told = self.part(part, 0);
-            told.map_err(|refusal| Refusal { place: refusal.place.saturating_add((k * PART) as u64), ..refusal })?;
+        let mut before: u64 = 0;
+        for part in steps.chunks(PART) {
+            self.part(part, 0).map_err(|refusal| Refusal { place: refusal.place.saturating_add(before), ..refusal })?;
+            before = before.saturating_add(PART as u64);
         }
         Ok(())
     }

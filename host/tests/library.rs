@@ -242,7 +242,17 @@ fn a_short_record() {
 #[test]
 fn lengths_and_places() {
     let floor = floor_of(SHEET).unwrap();
-    let all = Lengths { walls: 0, sheet: 83, answers: 130, text: 673, state: 462, route: ROUTE, floor: FLOOR, figures: LENGTHS, report: 8 };
+    let all = Lengths {
+        walls: 0,
+        sheet: 83,
+        answers: 130,
+        text: 673,
+        state: 462,
+        route: ROUTE,
+        floor: FLOOR,
+        figures: LENGTHS,
+        report: 8,
+    };
     assert_eq!(floor.lengths(), all);
     assert_eq!(refused(calls::read(calls::needed_lengths(floor.record(), &mut [0; LENGTHS - 1]))), (9, 0));
     assert_eq!(refused(calls::read(u64::MAX << 16 | 7 << 8 | 1)), (7, (1 << 48) - 1));
@@ -340,10 +350,8 @@ fn runs_of_any_length() {
             floor.fresh(&mut theirs).unwrap();
             let numbers: Vec<u16> = list.iter().map(|&step| step.into()).collect();
             let word = calls::run(floor.record(), &[], &mut theirs, &numbers, budget);
-            let meant = calls::read(word).map(|done| Ran {
-                taken: done.number as u16,
-                end: [End::Silent, End::Spent, End::Ended][done.case as usize],
-            });
+            let meant = calls::read(word)
+                .map(|done| Ran { taken: done.number as u16, end: [End::Silent, End::Spent, End::Ended][done.case as usize] });
             assert_eq!((told, ours), (meant, theirs), "{length} steps, budget {budget}");
         }
     }
