@@ -5,12 +5,15 @@ use mathlib.Core.Path.{_≡_, refl}
 use lib.ListN.{length, replicate}
 use Rattle.floor.specs.declared.Floor.{Floor}
 use Rattle.laws.specs.Verdict.{_then_, _gives_, value, refusal, demand, inTurn, demandEach}
-use Rattle.floor.specs.Checks.{within, limitsOf, lentOf, roomOf, startOf, goalOf}
+use Rattle.floor.specs.Checks.{within, limitsOf, lentOf, roomOf, startOf, countOf, docksOf, dockOf, isDock}
+use Rattle.floor.specs.Checks.{every as allBelow, docksInGrid, docksClear, unrepeated, unrepeatedOf}
+use Rattle.laws.specs.Memory.{part}
+use Rattle.floor.specs.OneDock.{oneEach, withOneDock}
 use Rattle.floor.specs.Checks.{inGrid, carrierInGrid, carriersOf, wallsOf, risingOf, among, rises}
 use Rattle.floor.specs.Checks.{clearOfWalls, clearOf, unshared, distinctOf, placesOf, checkOf}
 use Rattle.route.specs.Route.{cellAt, Answer, View, heard}
 use Rattle.route.specs.Moves.{neighbours, near, vacant, every, standable, allowed, startClear}
-use Rattle.route.specs.Search.{cost, cheaper, cheapest, beatsFrom, val, walk, walkFrom, best}
+use Rattle.route.specs.Search.{cost, cheaper, cheapest, holds, ended, val, onward, walk, walkFrom, best}
 use Rattle.route.specs.Sequential.{sequential}
 use Rattle.records.specs.Seen.{parked, seenAs, seenFrom, seen}
 use Rattle.search.specs.Task.{taskOf}
@@ -19,10 +22,11 @@ use Rattle.planner.specs.Claims.{answerAt}
 use Rattle.blockers.specs.Blockers.{without, ifNone, tried, leftAfter, setOf, above, blockersOf}
 use Rattle.blockers.specs.Entry.{isNone, carrierVerdict, blockersVerdict, blockersOutcome}
 
--- A floor of width by height: its horizon, how many walls, and the starts and goals of its carriers.
+-- A floor of width by height: its horizon, how many walls, and the starts of its carriers with one dock each, its goal.
 abbrev floorOf : ℕ → ℕ → ℕ → ℕ → List ℕ → List ℕ → Floor
 floorOf width height horizon walls starts goals =
-    record {
+    withOneDock
+    (record {
       width = width;
       height = height;
       horizon = horizon;
@@ -31,7 +35,7 @@ floorOf width height horizon walls starts goals =
       walls = walls;
       starts = starts ++ replicate (8 - length starts) 0;
       goals = goals ++ replicate (8 - length goals) 0;
-    }
+    })
 
 -- A corridor of three cells, for a horizon: carrier 1 stands in the middle, carrier 2 has to go from end to end.
 abbrev stood : ℕ → Floor
@@ -76,9 +80,10 @@ record Cases : Type 0 where
 
 cases : Cases
 unfolding blockersOutcome blockersVerdict carrierVerdict isNone answerAt planVerdict _gives_ checkOf limitsOf lentOf roomOf placesOf
-    carriersOf wallsOf risingOf rises clearOf distinctOf within demand _then_ demandEach inTurn inGrid carrierInGrid startOf goalOf
+    carriersOf wallsOf risingOf rises clearOf distinctOf within demand _then_ demandEach inTurn inGrid carrierInGrid startOf countOf
+    docksOf dockOf isDock part allBelow docksInGrid docksClear unrepeated unrepeatedOf oneEach withOneDock
     clearOfWalls among unshared taskOf respondOf planOf sequential blockersOf above leftAfter tried ifNone without setOf inOrder seenAs
-    seenFrom seen parked cellAt neighbours near vacant every standable allowed startClear cost cheaper cheapest beatsFrom val
+    seenFrom seen parked cellAt neighbours near vacant every standable allowed startClear cost cheaper cheapest holds ended val onward
     walk walkFrom best
 cases =
     record {

@@ -4,11 +4,16 @@ use native.Mathlib.Omega.{arith}
 use mathlib.Core.Path.{_≡_, refl, _∙_}
 use mathlib.Core.List.{[]}
 use Rattle.laws.specs.Verdict.{passed, refused, _then_, demand, inTurn, demandEach, passes, _gives_, _thenAnswers_, whenPassed}
-use Rattle.floor.specs.Checks.{within, limitsOf, roomOf, lentOf, startOf, goalOf, inGrid, carrierInGrid, carriersOf, wallsOf}
+use Rattle.floor.specs.Checks.{within, limitsOf, roomOf, lentOf, startOf, countOf, docksOf, dockOf, isDock, inGrid, carrierInGrid}
+use Rattle.floor.specs.Checks.{carriersOf, wallsOf}
+use Rattle.floor.specs.Checks.{every as allBelow, docksInGrid, docksClear, unrepeated, unrepeatedOf}
+use Rattle.laws.specs.Memory.{part}
+use Rattle.floor.specs.OneDock.{oneEach, withOneDock, earlierLimits, earlierInside, bothInside, earlierCarriers, earlierWalls}
+use Rattle.floor.specs.OneDock.{earlierRising, bothClear, earlierClear, neitherShared, earlierDistinct, earlierCheck}
 use Rattle.floor.specs.Checks.{rises, risingOf, among, clearOfWalls, clearOf, unshared, distinctOf, placesOf, checkOf}
 use Rattle.route.specs.Route.{cellAt}
 use Rattle.route.specs.Moves.{neighbours, near, vacant, every, standable, allowed, startClear}
-use Rattle.route.specs.Search.{cost, cheaper, cheapest, beatsFrom, val, walk, walkFrom, best}
+use Rattle.route.specs.Search.{cost, cheaper, cheapest, holds, ended, val, onward, walk, walkFrom, best}
 use Rattle.route.specs.Sequential.{sequential}
 use Rattle.route.specs.Arrival.{settled, arrivalOf}
 use Rattle.records.specs.Seen.{parked, seenAs, seenFrom, seen}
@@ -39,33 +44,37 @@ use Rattle.layout.specs.Ranges.{WithinRanges}
 use Rattle.layout.specs.Calls.{machineOf}
 use Rattle.layout.proofs.ExactLaws.{fresh-fits}
 use Rattle.demand.specs.Shorter.{dropLast, withoutLast}
-use Rattle.demand.specs.Floors.{sides, full}
+use Rattle.demand.specs.Floors.{docksIn, sides, full}
 use Rattle.demand.specs.Texts.{sheet2, routes2, routes3, refused11, sheet2short, routes2short}
 use Rattle.demand.specs.Cases.{Cases}
 
 -- The texts: what a floor's plan prints, and what the empty sheet does.
 accepted-2 : checkOf (sides 4) [] ≡ passed
-unfolding checkOf limitsOf within lentOf roomOf placesOf carriersOf wallsOf risingOf clearOf distinctOf startOf goalOf inGrid
+unfolding checkOf limitsOf within lentOf roomOf placesOf carriersOf wallsOf risingOf clearOf distinctOf startOf countOf docksOf dockOf
+    isDock part allBelow docksInGrid docksClear unrepeated unrepeatedOf oneEach withOneDock inGrid
     carrierInGrid rises among clearOfWalls unshared demand _then_ inTurn demandEach
 accepted-2 = refl
 
 sheet-2 : sheetOf (sides 4) [] ≡ sheet2
-unfolding sheetOf headLine lineOf linesOf carrierLine wallLine fieldOf column startOf goalOf
+unfolding sheetOf headLine lineOf linesOf carrierLine wallLine fieldOf column startOf countOf docksOf dockOf isDock part allBelow
+    docksInGrid docksClear unrepeated unrepeatedOf oneEach withOneDock
 sheet-2 = refl
 
 text-2 : printOf (sides 4) [] ≡ routes2
-unfolding printOf routesText firstLine answerLine answerAt failingOf failingFrom arrivalOf settled cellAt goalOf
+unfolding printOf routesText firstLine answerLine answerAt failingOf failingFrom arrivalOf settled cellAt countOf docksOf dockOf isDock
+    part allBelow docksInGrid docksClear unrepeated unrepeatedOf oneEach withOneDock
     lineOf linesOf fieldOf column planOf sequential respondOf seen seenFrom seenAs parked taskOf startOf among
-    neighbours near vacant every standable allowed startClear cost cheaper cheapest beatsFrom val walk walkFrom best
+    neighbours near vacant every standable allowed startClear cost cheaper cheapest holds ended val onward walk walkFrom best
 text-2 = refl
 
 printed-2 : routesOf sheet2 ≡ routes2
 printed-2 = rw (← sheet-2) (theorems .routes-of-sheet (sides 4) [] accepted-2 ∙ text-2)
 
 printed-3 : printOf (sides 3) [] ≡ routes3
-unfolding printOf routesText firstLine answerLine noneWord noneLine answerAt failingOf failingFrom arrivalOf settled cellAt goalOf
+unfolding printOf routesText firstLine answerLine noneWord noneLine answerAt failingOf failingFrom arrivalOf settled cellAt countOf
+    docksOf dockOf isDock part allBelow docksInGrid docksClear unrepeated unrepeatedOf oneEach withOneDock
     lineOf linesOf fieldOf column planOf sequential respondOf seen seenFrom seenAs parked taskOf startOf among
-    neighbours near vacant every standable allowed startClear cost cheaper cheapest beatsFrom val walk walkFrom best
+    neighbours near vacant every standable allowed startClear cost cheaper cheapest holds ended val onward walk walkFrom best
 printed-3 = refl
 
 refused-11 : sheetVerdict [] ≡ refused 1 0
@@ -82,18 +91,21 @@ unfolding withoutLast carrierAt fieldOf column
 dropped-sheet = refl
 
 short-accepted : checkOf (dropLast (sides 4)) [] ≡ passed
-unfolding checkOf limitsOf within lentOf roomOf placesOf carriersOf wallsOf risingOf clearOf distinctOf startOf goalOf inGrid
+unfolding checkOf limitsOf within lentOf roomOf placesOf carriersOf wallsOf risingOf clearOf distinctOf startOf countOf docksOf dockOf
+    isDock part allBelow docksInGrid docksClear unrepeated unrepeatedOf oneEach withOneDock inGrid
     carrierInGrid rises among clearOfWalls unshared demand _then_ inTurn demandEach dropLast
 short-accepted = refl
 
 short-sheet : sheetOf (dropLast (sides 4)) [] ≡ sheet2short
-unfolding sheetOf headLine lineOf linesOf carrierLine wallLine fieldOf column startOf goalOf dropLast
+unfolding sheetOf headLine lineOf linesOf carrierLine wallLine fieldOf column startOf countOf docksOf dockOf isDock part allBelow
+    docksInGrid docksClear unrepeated unrepeatedOf oneEach withOneDock dropLast
 short-sheet = refl
 
 short-text : printOf (dropLast (sides 4)) [] ≡ routes2short
-unfolding printOf routesText firstLine answerLine answerAt failingOf failingFrom arrivalOf settled cellAt goalOf dropLast
+unfolding printOf routesText firstLine answerLine answerAt failingOf failingFrom arrivalOf settled cellAt countOf docksOf dockOf isDock
+    part allBelow docksInGrid docksClear unrepeated unrepeatedOf oneEach withOneDock dropLast
     lineOf linesOf fieldOf column planOf sequential respondOf seen seenFrom seenAs parked taskOf startOf among
-    neighbours near vacant every standable allowed startClear cost cheaper cheapest beatsFrom val walk walkFrom best
+    neighbours near vacant every standable allowed startClear cost cheaper cheapest holds ended val onward walk walkFrom best
 short-text = refl
 
 dropped-printed : routesOf sheet2short ≡ routes2short
@@ -121,14 +133,17 @@ other-kind e = let z : _≡_ {A = ℕ} 0 1 = cc in omega arith
 pub cases : Cases
 unfolding
     _then_ demand inTurn demandEach passes _gives_ _thenAnswers_ whenPassed
-    within limitsOf roomOf lentOf startOf goalOf inGrid carrierInGrid carriersOf wallsOf rises risingOf
+    within limitsOf roomOf lentOf startOf countOf docksOf dockOf isDock part allBelow docksInGrid docksClear unrepeated unrepeatedOf
+    oneEach withOneDock inGrid carrierInGrid carriersOf wallsOf rises risingOf
     among clearOfWalls clearOf unshared distinctOf placesOf checkOf
-    cellAt neighbours near vacant every standable allowed startClear cost cheaper cheapest beatsFrom val walk walkFrom best
+    cellAt neighbours near vacant every standable allowed startClear cost cheaper cheapest holds ended val onward walk walkFrom best
     sequential settled arrivalOf taskOf seen seenFrom seenAs parked respondOf planOf planUnseen failingFrom failingOf
     below joined each update updatePair fresh views tick isThere hasRoom isEmpty waitsFor isOpen sameCells sameAnswer
     deliveriesFrom ranking noneOpen isSilent isNews send planAs oldest newer deliverTo effect counted afterStep stepAnswer
     run tookFirst skippedFirst anyLeft endsAs ending isNamed stepsOf lentEnough allNamed openSingle verdict
     reply stateAfter afterCall replies after ceiling pairsBefore stateSize deliveryOf askedBy machineOf meet dropLast
+    docksIn earlierLimits earlierInside bothInside earlierCarriers earlierWalls earlierRising bothClear earlierClear neitherShared
+    earlierDistinct earlierCheck
 cases =
     record {
       accepted-1 = refl;
@@ -219,6 +234,22 @@ cases =
       first-behind = refl;
       heard-behind = refl;
       answers-in-front = refl;
+      accepted-docks = refl;
+      answers-docks = refl;
+      answers-taken = refl;
+      none-left = refl;
+      answers-beside = refl;
+      arrival-beside = refl;
+      arrival-passed = refl;
+      dock-twice = refl;
+      six-first = refl;
+      past-count = refl;
+      count-0 = refl;
+      count-5 = refl;
+      dock-outside = refl;
+      dock-on-wall = refl;
+      common-earlier = refl;
+      common-now = refl;
       most-1 = refl;
       most-2 = refl;
       most-3 = refl;

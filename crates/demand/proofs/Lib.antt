@@ -3,10 +3,12 @@ pub mod RowLaws
 pub mod RefusalLaws
 pub mod EntryLaws
 pub mod PlanLaws
+pub mod DockLaws
 pub mod SameTrialLaws
 pub mod SameRunLaws
 pub mod SameBlockerLaws
 pub mod SameFloorLaws
+pub mod SameSheetLaws
 pub mod RoundTripLaws
 pub mod RankLaws
 pub mod BlockerLaws

@@ -17,7 +17,7 @@ use Rattle.sheet.specs.Values.{floorAt, wallsAt}
 use Rattle.sheet.specs.Read.{sheetVerdict, readVerdict, readFloor, readWalls, writeVerdict, writeSheet}
 use Rattle.sheet.proofs.FormLaws.{walls-length}
 use Rattle.sheet.proofs.Theorems.{theorems as sheet-theorems}
-use Rattle.demand.proofs.SameFloorLaws.{sheet-same}
+use Rattle.demand.proofs.SameSheetLaws.{sheet-same}
 
 -- A check and then enough memory.
 pub roomy : (needed lent : ℕ) → needed ≤ lent → roomOf needed lent ≡ passed
@@ -36,7 +36,8 @@ other-walls f ws g vs us ts same one other =
       carriers = same .carriers;
       walls = same .walls;
       starts = same .starts;
-      goals = same .goals;
+      counts = same .counts;
+      docks = same .docks;
       cells = λ j h. one j h ∙ same .cells j h ∙ sym (other j h);
     }
 

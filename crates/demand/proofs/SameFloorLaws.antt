@@ -1,20 +1,20 @@
--- Records that are the same floor get the same answers from every entry.
-use Prim.Native.Nat.{ℕ, _+_, _*_, _-_, _≤_, _<_}
+-- Records that differ at most in the order of docks get the same answers from every entry, but for the sheet that is written.
+use Prim.Native.Nat.{ℕ, zero, suc, _+_, _*_, _-_, _≤_, _<_}
 use native.Mathlib.Omega.{arith}
 use mathlib.Core.Bool.{Bool}
 use mathlib.Core.List.{List, [], _++_}
 use mathlib.Core.Path.{_≡_, refl, sym, _∙_, ap, ap₂}
 use lib.ListN.{length, getD}
-use Rattle.laws.specs.Verdict.{Verdict, passed, _gives_}
+use lib.Seq.{take-all}
+use Rattle.laws.specs.Verdict.{Verdict, passed, _gives_, All}
 use Rattle.laws.proofs.VerdictLaws.{gives-same}
 use Rattle.floor.specs.declared.Floor.{Floor}
-use Rattle.floor.specs.Checks.{checkOf, limitsOf, roomOf, startOf, goalOf}
-use Rattle.floor.specs.Accepted.{Lent, SameFloor}
-use Rattle.floor.proofs.SameLaws.{check-same}
-use Rattle.sheet.specs.Text.{headLine, carrierLine, carrierLines, wallLine, wallLines, sheetOf, sheetLength, wallAt, linesOf}
-use Rattle.sheet.specs.Read.{writeVerdict, writeSheet}
+use Rattle.floor.specs.Checks.{checkOf, limitsOf, countOf}
+use Rattle.floor.specs.Accepted.{SameDocks}
+use Rattle.sheet.specs.Text.{carrierAt, wallAt, sheetLength, linesOf}
+use Rattle.sheet.specs.Read.{writeVerdict}
 use Rattle.sheet.proofs.LinesText.{lines-same}
-use Rattle.route.specs.Route.{View}
+use Rattle.route.specs.Route.{View, Answer, none, route}
 use Rattle.route.specs.Search.{best}
 use Rattle.search.specs.Task.{taskOf}
 use Rattle.search.specs.Search.{requestOf, searchOf}
@@ -26,9 +26,11 @@ use Rattle.records.proofs.SeenLaws.{records-length}
 use Rattle.planner.specs.Plan.{respondOf, planOf, planVerdict}
 use Rattle.planner.specs.Answers.{planResult}
 use Rattle.planner.specs.Records.{planMemory}
-use Rattle.planner.proofs.DependsLaws.{same-agrees, task-same, respond-same}
+use Rattle.planner.specs.Claims.{AgreeUpTo, answerAt}
+use Rattle.planner.proofs.DependsLaws.{task-same, respond-same}
+use Rattle.planner.proofs.Theorems.{theorems as planner-theorems}
+use Rattle.printing.specs.Text.{answerLine, firstLine, routesText}
 use Rattle.printing.specs.Print.{printOf, textLength, printVerdict, printOutcome, printAnswers, printMemory}
-use Rattle.printing.proofs.Theorems.{plans-same, print-same}
 use Rattle.lengths.specs.Figures.{figuresFor, lengthsOf}
 use Rattle.reference.specs.State.{Machine, State}
 use Rattle.reference.specs.Table.{Call}
@@ -38,7 +40,7 @@ use Rattle.layout.specs.Places.{stateSize}
 use Rattle.layout.specs.Valid.{recordValid, carrierValid, placeValid, channelValid, pairValid, valid}
 use Rattle.layout.specs.Calls.{machineOf, placeVerdict, stateVerdict, stateIn, withState, freshMemory, replyTo, memoryAfter}
 use Rattle.trial.specs.Entry.{orderBy, trialVerdict, trialOf, trialOutcome, stateTried, reportTried}
-use Rattle.demand.specs.Demand2.{SameAnswers}
+use Rattle.demand.specs.Demand2.{SameOutcomes}
 use Rattle.trial.specs.Report.{numbersOf}
 use Rattle.listing.specs.Runs.{Run, runsOf, total, runAt}
 use Rattle.lister.specs.Entry.{totalOf, runOf, runNumbers, smallVerdict, rankVerdict, rankOutcome, reportListed}
@@ -48,51 +50,67 @@ use Rattle.demand.proofs.SameBlockerLaws.{set-same}
 use Rattle.demand.proofs.SameTrialLaws.{trial-same}
 use Rattle.demand.proofs.SameRunLaws.{runs-same, reports-same}
 
-module _ (f : Floor) (ws : List ℕ) (g : Floor) (vs : List ℕ) (same : SameFloor f ws g vs) where
+-- Lines of as many docks begin at the same columns.
+columns-same : (f g : Floor) (n : ℕ) → All (λ (i : ℕ). countOf f i ≡ countOf g i) n → carrierAt f n ≡ carrierAt g n
+unfolding carrierAt
+columns-same f g zero a = refl
+columns-same f g (suc n) a = rw (columns-same f g n (λ i l. a i (omega arith)), a n (omega arith))
+
+-- Floors that differ at most in the order of docks, with walls that agree up to their count.
+module _ (f : Floor) (ws : List ℕ) (g : Floor) (vs : List ℕ) (same : SameDocks f g)
+    (cells : All (λ (j : ℕ). getD ws j 0 ≡ getD vs j 0) (f .walls)) where
+  agrees : AgreeUpTo (f .carriers) f ws g vs
+  agrees =
+      record {
+        width = same .width;
+        height = same .height;
+        horizon = same .horizon;
+        walls = same .walls;
+        cells = cells;
+        starts = same .starts;
+        docks = same .docks;
+      }
+
   pub length-same : sheetLength f ≡ sheetLength g
   unfolding sheetLength wallAt
-  length-same = rw (same .carriers, same .walls)
-
-  pub sheet-same : sheetOf f ws ≡ sheetOf g vs
-  unfolding sheetOf headLine carrierLine
-  sheet-same = ap₂ (λ (a b : List ℕ). a ++ b) head (ap₂ (λ (a b : List ℕ). a ++ b) carriers walls)
-    where
-      head : headLine f ≡ headLine g
-      head = rw (same .width, same .height, same .horizon, same .depth, same .carriers, same .walls)
-
-      carriers : carrierLines f ≡ carrierLines g
-      carriers =
-          lines-same (carrierLine f) (carrierLine g) (f .carriers) (λ i l. rw (same .starts i l, same .goals i l, same .width))
-          ∙ ap (λ (n : ℕ). linesOf (carrierLine g) n) (same .carriers)
-
-      walls : wallLines f ws ≡ wallLines g vs
-      walls =
-          lines-same (λ j. wallLine (f .width) (getD ws j 0)) (λ j. wallLine (g .width) (getD vs j 0)) (f .walls)
-          (λ j l. rw (same .width, same .cells j l))
-          ∙ ap (λ (n : ℕ). linesOf (λ j. wallLine (g .width) (getD vs j 0)) n) (same .walls)
+  length-same = rw (columns-same f g (f .carriers) (same .counts), same .carriers, same .walls)
 
   -- The task of a carrier that is there is the same.
   tasks-same : (i : ℕ) → i < f .carriers → taskOf f ws (i + 1) ≡ taskOf g vs (i + 1)
-  tasks-same = task-same (f .carriers) f ws g vs (same-agrees f ws g vs same)
+  tasks-same = task-same (f .carriers) f ws g vs agrees
 
   responses : (i : ℕ) (views : List View) → i < f .carriers → length views ≡ i → respondOf f ws i views ≡ respondOf g vs i views
-  responses i views l e = respond-same (f .carriers) f ws g vs (same-agrees f ws g vs same) i views l (omega arith)
+  responses i views l e = respond-same (f .carriers) f ws g vs agrees i views l (omega arith)
 
-  module _ (lent : Lent f ws) (lent′ : Lent g vs) where
-    checks : checkOf f ws ≡ checkOf g vs
-    checks = check-same f ws g vs same lent lent′
+  plans : planOf f ws ≡ planOf g vs
+  plans =
+      let n = f .carriers in
+      sym (take-all n (planOf f ws) (omega (arith, planner-theorems .answers-all f ws)))
+      ∙ planner-theorems .depends-on-above n f ws g vs (omega arith) (omega (arith, same .carriers)) agrees
+      ∙ take-all n (planOf g vs) (omega (arith, planner-theorems .answers-all g vs, same .carriers))
 
+  line-same : (i : ℕ) (x : Answer) → answerLine f i x ≡ answerLine g i x
+  unfolding answerLine
+  line-same i none = refl
+  line-same i (route r) = rw (same .horizon)
+
+  texts : printOf f ws ≡ printOf g vs
+  unfolding printOf routesText firstLine
+  texts =
+      ap₂ (λ (a b : List ℕ). a ++ b)
+      (rw (plans, same .carriers))
+      (lines-same _ (λ i. answerLine g i (answerAt (planOf g vs) i)) (f .carriers)
+      (λ i l. line-same i (answerAt (planOf f ws) i) ∙ ap (λ (xs : List Answer). answerLine g i (answerAt xs i)) plans)
+      ∙ ap (linesOf (λ i. answerLine g i (answerAt (planOf g vs) i))) (same .carriers))
+
+  module _ (checks : checkOf f ws ≡ checkOf g vs) where
     lengths : figuresFor f ≡ figuresFor g
-    unfolding figuresFor limitsOf lengthsOf sheetLength wallAt textLength
-    lengths = rw (same .width, same .height, same .horizon, same .depth, same .carriers, same .walls)
+    unfolding figuresFor limitsOf lengthsOf textLength
+    lengths = rw (length-same, same .width, same .height, same .horizon, same .depth, same .carriers, same .walls)
 
-    write : (room : ℕ) → writeVerdict f ws room ≡ writeVerdict g vs room
+    pub write : (room : ℕ) → writeVerdict f ws room ≡ writeVerdict g vs room
     unfolding writeVerdict
     write room = rw (checks, length-same)
-
-    sheet : (old : List ℕ) → writeSheet f ws old ≡ writeSheet g vs old
-    unfolding writeSheet
-    sheet old = rw (write (length old), sheet-same, length-same)
 
     -- A search that is granted is for a carrier that is there.
     requests : (i : ℕ) (m : List ℕ) → requestOf f ws i m ≡ requestOf g vs i m
@@ -121,9 +139,6 @@ module _ (f : Floor) (ws : List ℕ) (g : Floor) (vs : List ℕ) (same : SameFlo
     unfolding planVerdict
     plan-verdict room = rw (checks, same .carriers)
 
-    plans : planOf f ws ≡ planOf g vs
-    plans = plans-same f ws g vs same
-
     plan : (room : ℕ) → planResult f ws room ≡ planResult g vs room
     unfolding planResult
     plan room = rw (plan-verdict room, plans)
@@ -131,9 +146,6 @@ module _ (f : Floor) (ws : List ℕ) (g : Floor) (vs : List ℕ) (same : SameFlo
     answers : (old : List ℕ) → planMemory f ws old ≡ planMemory g vs old
     unfolding planMemory
     answers old = rw (plan-verdict (length old), plans)
-
-    texts : printOf f ws ≡ printOf g vs
-    texts = print-same f ws g vs same
 
     print-verdict : (room bytes : ℕ) → printVerdict f ws room bytes ≡ printVerdict g vs room bytes
     unfolding printVerdict textLength
@@ -234,14 +246,13 @@ module _ (f : Floor) (ws : List ℕ) (g : Floor) (vs : List ℕ) (same : SameFlo
         gives-same (blockersVerdict f ws carrier room) _ _ (set-same f ws g vs plans responses carrier room)
         ∙ ap (λ (v : Verdict). v gives blockersOf g vs (carrier - 1)) (blockers-verdict carrier room)
 
-    pub same-answers : SameAnswers f ws g vs
+    pub same-outcomes : SameOutcomes f ws g vs
     unfolding printOutcome printAnswers printMemory freshMemory blockersMemory
-    same-answers =
+    same-outcomes =
         record {
           check = checks;
           lengths = lengths;
           write = write;
-          sheet = sheet;
           search = search;
           plan = plan;
           answers = answers;

@@ -8,7 +8,7 @@ use lib.Seq.{take-all, take-suc, take-at, drop-at}
 use borrow.Author.Tests.{eq-eqb, ne-eqb}
 use Rattle.laws.specs.Verdict.{passed, All}
 use Rattle.floor.specs.declared.Floor.{Floor}
-use Rattle.floor.specs.Checks.{checkOf, startOf, goalOf}
+use Rattle.floor.specs.Checks.{checkOf, startOf, countOf, docksOf, dockOf}
 use Rattle.floor.specs.Accepted.{FieldWithin}
 use Rattle.floor.proofs.Theorems.{theorems as floor-theorems}
 use Rattle.route.specs.Route.{Answer, none, route}
@@ -30,7 +30,7 @@ module _ (f : Floor) (ws : List ℕ) (ok : checkOf f ws ≡ passed) (more : 1 < 
   field-within h (suc (suc (suc (suc (suc i))))) l = h 5 (omega arith)
 
   pub drop-accepted : checkOf (dropLast f) ws ≡ passed
-  unfolding dropLast startOf goalOf
+  unfolding dropLast startOf countOf docksOf dockOf
   drop-accepted =
       let h = floor-theorems .passes-exactly f ws .0 ok in
       floor-theorems .passes-exactly (dropLast f) ws .1
@@ -42,10 +42,11 @@ module _ (f : Floor) (ws : List ℕ) (ok : checkOf f ws ≡ passed) (more : 1 < 
         rising = h .rising;
         clear = λ i l. h .clear i (omega arith);
         distinct = λ i l. h .distinct i (omega arith);
+        unrepeated = λ i l. h .unrepeated i (omega arith);
       })
 
   agrees : AgreeUpTo (f .carriers - 1) f ws (dropLast f) ws
-  unfolding dropLast startOf goalOf
+  unfolding dropLast startOf countOf docksOf dockOf
   agrees =
       record {
         width = refl;

@@ -1,11 +1,12 @@
 -- Document 01's starred floors ('Floors to try') as one table about the definitions, with floors 10 to 12 and cases beside them; then
--- those of document 02, slips 2, 3, 5 and 9.
+-- those of document 02, slips 2, 3, 5, 9 and 10.
 use Prim.Native.Nat.{ℕ}
 use mathlib.Core.Bool.{true, false}
 use mathlib.Core.List.{[], _∷_}
 use mathlib.Core.Path.{_≡_}
 use Rattle.laws.specs.Verdict.{passed, refused, value, refusal}
 use Rattle.floor.specs.Checks.{checkOf}
+use Rattle.floor.specs.OneDock.{earlierCheck, withOneDock}
 use Rattle.route.specs.Route.{none, unheard}
 use Rattle.route.specs.Arrival.{arrivalOf}
 use Rattle.sheet.specs.Text.{sheetOf}
@@ -27,7 +28,7 @@ use Rattle.layout.specs.Ranges.{WithinRanges}
 use Rattle.layout.specs.Calls.{machineOf}
 use Rattle.demand.specs.Shorter.{dropLast, withoutLast}
 use Rattle.demand.specs.Floors.{padded, floorOf, cell, sides, two, rows, three, walled, routeOf, answers2}
-use Rattle.demand.specs.Floors.{walledOff, corridor, shutGoal, crossed, behind, inFront, crowded}
+use Rattle.demand.specs.Floors.{walledOff, corridor, shutGoal, crossed, behind, inFront, countedOf, dockedOf, common, crowded}
 use Rattle.demand.specs.Floors.{singles, running, calls4, calls5, longest, heardAgain, full}
 use Rattle.demand.specs.Texts.{sheet2, routes2, routes3, refused11, sheet2short, routes2short}
 
@@ -35,12 +36,12 @@ pub record Cases : Type 0 where
   -- 1: one cell, one carrier; arrival 0.
   pub accepted-1 : checkOf cell [] ≡ passed
   pub answers-1 : planOf cell [] ≡ routeOf [] ∷ []
-  pub arrival-1 : arrivalOf 0 (padded 64 []) 4 ≡ 0
+  pub arrival-1 : arrivalOf (padded 64 []) 4 ≡ 0
   pub failing-1 : failingOf (planOf cell []) ≡ 0
   -- 2: the sheet; arrivals 2 and 4.
   pub accepted-2 : checkOf (sides 4) [] ≡ passed
   pub answers-2 : planOf (sides 4) [] ≡ answers2
-  pub arrivals-2 : (arrivalOf 2 (padded 64 (0 ∷ 1 ∷ 2 ∷ 2 ∷ 2 ∷ [])) 4 ≡ 2) × (arrivalOf 0 (padded 64 (2 ∷ 5 ∷ 4 ∷ 1 ∷ 0 ∷ [])) 4 ≡ 4)
+  pub arrivals-2 : (arrivalOf (padded 64 (0 ∷ 1 ∷ 2 ∷ 2 ∷ 2 ∷ [])) 4 ≡ 2) × (arrivalOf (padded 64 (2 ∷ 5 ∷ 4 ∷ 1 ∷ 0 ∷ [])) 4 ≡ 4)
   pub failing-2 : failingOf (planOf (sides 4) []) ≡ 0
   pub sheet-2 : sheetOf (sides 4) [] ≡ sheet2
   pub printed-2 : routesOf sheet2 ≡ routes2
@@ -171,6 +172,32 @@ pub record Cases : Type 0 where
       routeOf (1 ∷ 2 ∷ 2 ∷ []) ∷ routeOf (0 ∷ 0 ∷ 1 ∷ []) ∷ []
   -- Nor may carrier 2 leave a cell in the beat in which carrier 1 enters it.
   pub answers-in-front : planOf (inFront 2) [] ≡ routeOf (0 ∷ 1 ∷ 1 ∷ []) ∷ none ∷ []
+  -- Document 02, slip 10. Docks in common: each carrier ends at the one that is nearer.
+  pub accepted-docks : checkOf (dockedOf 0 (0 ∷ 3 ∷ []) ((2 ∷ 5 ∷ []) ∷ (2 ∷ 5 ∷ []) ∷ [])) [] ≡ passed
+  pub answers-docks : planOf (dockedOf 0 (0 ∷ 3 ∷ []) ((2 ∷ 5 ∷ []) ∷ (2 ∷ 5 ∷ []) ∷ [])) [] ≡
+      routeOf (0 ∷ 1 ∷ 2 ∷ 2 ∷ 2 ∷ []) ∷ routeOf (3 ∷ 4 ∷ 5 ∷ 5 ∷ 5 ∷ []) ∷ []
+  -- The nearer dock is taken, and the farther one is gone to; both are taken, and the third carrier has none.
+  pub answers-taken : planOf (dockedOf 0 (1 ∷ 0 ∷ []) ((1 ∷ []) ∷ (1 ∷ 5 ∷ []) ∷ [])) [] ≡
+      routeOf (1 ∷ 1 ∷ 1 ∷ 1 ∷ 1 ∷ []) ∷ routeOf (0 ∷ 3 ∷ 4 ∷ 5 ∷ 5 ∷ []) ∷ []
+  pub none-left : planOf (dockedOf 0 (1 ∷ 5 ∷ 0 ∷ []) ((1 ∷ []) ∷ (5 ∷ []) ∷ (1 ∷ 5 ∷ []) ∷ [])) [] ≡
+      routeOf (1 ∷ 1 ∷ 1 ∷ 1 ∷ 1 ∷ []) ∷ routeOf (5 ∷ 5 ∷ 5 ∷ 5 ∷ 5 ∷ []) ∷ none ∷ []
+  -- Docks beside each other: a carrier stays at the first that it comes to, also where the other has the smaller number.
+  pub answers-beside : planOf (dockedOf 0 (5 ∷ []) ((1 ∷ 2 ∷ []) ∷ [])) [] ≡ routeOf (5 ∷ 2 ∷ 2 ∷ 2 ∷ 2 ∷ []) ∷ []
+  pub arrival-beside : arrivalOf (padded 64 (5 ∷ 2 ∷ 2 ∷ 2 ∷ 2 ∷ [])) 4 ≡ 1
+  -- A dock that is passed on the way to another is no arrival.
+  pub arrival-passed : arrivalOf (padded 64 (0 ∷ 1 ∷ 2 ∷ 2 ∷ 2 ∷ [])) 4 ≡ 2
+  -- A dock twice: 17 with the carrier, after 6 and not where the second is past the count. Counts of 0 and 5, and a later dock outside the
+  -- grid: 3. A later dock on a wall: 5.
+  pub dock-twice : checkOf (dockedOf 0 (0 ∷ 3 ∷ []) ((2 ∷ []) ∷ (5 ∷ 4 ∷ 5 ∷ []) ∷ [])) [] ≡ refused 17 2
+  pub six-first : checkOf (dockedOf 0 (0 ∷ 0 ∷ []) ((2 ∷ 2 ∷ []) ∷ (5 ∷ []) ∷ [])) [] ≡ refused 6 2
+  pub past-count : checkOf (countedOf 0 (0 ∷ []) (2 ∷ []) ((2 ∷ 5 ∷ 5 ∷ 9 ∷ []) ∷ [])) [] ≡ passed
+  pub count-0 : checkOf (countedOf 0 (0 ∷ 3 ∷ []) (1 ∷ 0 ∷ []) ((2 ∷ []) ∷ (5 ∷ []) ∷ [])) [] ≡ refused 3 2
+  pub count-5 : checkOf (countedOf 0 (0 ∷ []) (5 ∷ []) ((1 ∷ 2 ∷ 3 ∷ 4 ∷ []) ∷ [])) [] ≡ refused 3 1
+  pub dock-outside : checkOf (dockedOf 0 (0 ∷ []) ((2 ∷ 6 ∷ []) ∷ [])) [] ≡ refused 3 1
+  pub dock-on-wall : checkOf (dockedOf 1 (0 ∷ []) ((2 ∷ 4 ∷ []) ∷ [])) (4 ∷ []) ≡ refused 5 1
+  -- A goal in common is document 01's 6, and accepted now.
+  pub common-earlier : earlierCheck common [] ≡ refused 6 2
+  pub common-now : checkOf (withOneDock common) [] ≡ passed
   -- The ceiling is reached, by one, two and three carriers.
   pub most-1 : after (machineOf cell []) fresh (singles (101 ∷ [])) .taken ≡ ceiling 1
   pub most-2 : after two fresh calls4 .taken ≡ ceiling 2

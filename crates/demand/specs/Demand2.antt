@@ -8,11 +8,15 @@ use mathlib.Core.Path.{_≡_}
 use lib.ListN.{length, getD, take}
 use Rattle.laws.specs.Verdict.{passed, refused, value}
 use Rattle.floor.specs.declared.Floor.{Floor}
-use Rattle.floor.specs.Checks.{checkOf, startOf}
-use Rattle.floor.specs.Accepted.{Absent, Lent, SameFloor}
+use Rattle.floor.specs.Checks.{checkOf, startOf, isDock}
+use Rattle.floor.specs.Accepted.{Absent, Lent, SameFloor, SameDocks}
+use Rattle.floor.specs.OneDock.{Earlier, earlierCheck, withOneDock}
 use Rattle.route.specs.Route.{cellAt, Answer, none, route, View, unheard, heard, Task}
 use Rattle.route.specs.Best.{Arrives, Admissible, Best}
 use Rattle.route.specs.Arrival.{arrivalOf}
+use Rattle.route.specs.Search.{best}
+use Rattle.route.specs.Docks.{alone}
+use Rattle.route.specs.OneGoal.{BestTo}
 use Rattle.route.specs.FirstConflict.{free}
 use Rattle.route.specs.ConflictTest.{firstConflict, TestedFor}
 use Rattle.records.specs.Records.{records, viewsOf}
@@ -41,12 +45,17 @@ pub record Prioritized (f : Floor) (ws : List ℕ) (xs : List Answer) : Type 0 w
   pub every : length xs ≡ f .carriers
   pub best : (k : ℕ) → k < f .carriers → Best (taskOf f ws (k + 1)) (seen f (map heard (take k xs))) (answerAt xs k)
 
--- Two floors get the same answers, and leave the same in lent memory, from every entry.
-pub record SameAnswers (f : Floor) (ws : List ℕ) (g : Floor) (vs : List ℕ) : Type 0 where
+-- The same on document 01's floor, by its letter: each carrier in turn has the best answer to its one goal.
+pub record EarlierPlan (e : Earlier) (ws : List ℕ) (xs : List Answer) : Type 0 where
+  pub every : length xs ≡ e .carriers
+  pub best : (k : ℕ) → k < e .carriers →
+      BestTo (getD (e .goals) k 0) (taskOf (withOneDock e) ws (k + 1)) (seen (withOneDock e) (map heard (take k xs))) (answerAt xs k)
+
+-- Two floors get the same answers from every entry, and leave the same in lent memory, but for the sheet that is written.
+pub record SameOutcomes (f : Floor) (ws : List ℕ) (g : Floor) (vs : List ℕ) : Type 0 where
   pub check : checkOf f ws ≡ checkOf g vs
   pub lengths : figuresFor f ≡ figuresFor g
   pub write : (room : ℕ) → writeVerdict f ws room ≡ writeVerdict g vs room
-  pub sheet : (old : List ℕ) → writeSheet f ws old ≡ writeSheet g vs old
   pub search : (i : ℕ) (views : List ℕ) → searchOf f ws i views ≡ searchOf g vs i views
   pub plan : (room : ℕ) → planResult f ws room ≡ planResult g vs room
   pub answers : (old : List ℕ) → planMemory f ws old ≡ planMemory g vs old
@@ -65,6 +74,11 @@ pub record SameAnswers (f : Floor) (ws : List ℕ) (g : Floor) (vs : List ℕ) :
   pub run-report : (rank : ℕ) (old : List ℕ) → reportListed f ws rank old ≡ reportListed g vs rank old
   pub blockers : (carrier room : ℕ) → blockersOutcome f ws carrier room ≡ blockersOutcome g vs carrier room
   pub blockers-answers : (carrier : ℕ) (old : List ℕ) → blockersMemory f ws carrier old ≡ blockersMemory g vs carrier old
+
+-- With the sheet.
+pub record SameAnswers (f : Floor) (ws : List ℕ) (g : Floor) (vs : List ℕ) : Type 0 where
+  pub outcomes : SameOutcomes f ws g vs
+  pub sheet : (old : List ℕ) → writeSheet f ws old ≡ writeSheet g vs old
 
 pub record Demand2 : Type 0 where
   -- The plan of an accepted floor is what prioritized planning gives, and nothing else is.
@@ -107,7 +121,22 @@ pub record Demand2 : Type 0 where
   pub printed : (text : List ℕ) → sheetVerdict text ≡ passed →
       routesOf text ≡ routesText (floorAt text) (planOf (floorAt text) (wallsAt text))
   pub printed-refusal : (text : List ℕ) (k p : ℕ) → sheetVerdict text ≡ refused k p → routesOf text ≡ refusalLine k p
-  pub arrival-exactly : (goal H : ℕ) (r : List ℕ) (a : ℕ) → Arrives goal H r a ↔ ((a ≡ arrivalOf goal r H) × (a ≤ H))
+  pub arrival-exactly : (H : ℕ) (r : List ℕ) (a : ℕ) → Arrives H r a ↔ (a ≡ arrivalOf r H)
+  -- With several docks (document 02, slip 10) the answer is none exactly if it is none with each dock alone. A route that is answered ends
+  -- at a dock, is the answer with that dock alone, and arrives no later than the answer with any other.
+  pub docks-none : (f : Floor) (ws : List ℕ) (i : ℕ) (vs : List View) → checkOf f ws ≡ passed →
+      (respondOf f ws i vs ≡ none) ↔ ((c : ℕ) → isDock f i c ≡ true → best (alone (taskOf f ws (i + 1)) c) (seen f vs) ≡ none)
+  pub docks-own : (f : Floor) (ws : List ℕ) (i : ℕ) (vs : List View) (r : List ℕ) → checkOf f ws ≡ passed → respondOf f ws i vs ≡ route r →
+      (isDock f i (cellAt r (f .horizon)) ≡ true) × (best (alone (taskOf f ws (i + 1)) (cellAt r (f .horizon))) (seen f vs) ≡ route r)
+  pub docks-earliest : (f : Floor) (ws : List ℕ) (i : ℕ) (vs : List View) (r q : List ℕ) (c : ℕ) → checkOf f ws ≡ passed →
+      respondOf f ws i vs ≡ route r → isDock f i c ≡ true → best (alone (taskOf f ws (i + 1)) c) (seen f vs) ≡ route q →
+      arrivalOf r (f .horizon) ≤ arrivalOf q (f .horizon)
+  -- The order of a carrier's docks changes nothing but the sheet that is written.
+  pub docks-order : (f g : Floor) (ws : List ℕ) → SameDocks f g → SameOutcomes f ws g ws
+  -- With one dock a carrier, a floor that document 01 accepts is accepted and has document 01's answers.
+  pub one-dock-accepted : (e : Earlier) (ws : List ℕ) → earlierCheck e ws ≡ passed → checkOf (withOneDock e) ws ≡ passed
+  pub one-dock-plan : (e : Earlier) (ws : List ℕ) (xs : List Answer) → earlierCheck e ws ≡ passed →
+      EarlierPlan e ws xs ↔ (xs ≡ planOf (withOneDock e) ws)
   -- A floor written and read is the same floor; a sheet read and written is the same sheet; memory may be longer than needed.
   pub floor-returns : (f : Floor) (ws old lent : List ℕ) → checkOf f ws ≡ passed → sheetLength f ≤ length old → f .walls ≤ length lent →
       SameFloor f ws (readFloor (take (sheetLength f) (writeSheet f ws old)) (length lent))

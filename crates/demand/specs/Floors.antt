@@ -4,6 +4,7 @@ use mathlib.Core.Bool.{true, false}
 use mathlib.Core.List.{List, [], _∷_, _++_, map}
 use lib.ListN.{length, replicate}
 use Rattle.floor.specs.declared.Floor.{Floor}
+use Rattle.floor.specs.OneDock.{Earlier, withOneDock}
 use Rattle.route.specs.Route.{Answer, none, route, unheard}
 use Rattle.reference.specs.State.{Machine, State, fresh}
 use Rattle.reference.specs.Table.{Call, single, runOf}
@@ -14,10 +15,11 @@ use Rattle.layout.specs.Calls.{machineOf}
 abbrev pub padded : ℕ → List ℕ → List ℕ
 padded k xs = xs ++ replicate (k - length xs) 0
 
--- A floor of width by height: its horizon, the depth of its channels, how many walls, and the starts and goals of its carriers.
+-- A floor of width by height: its horizon, the depth of its channels, how many walls, and the starts of its carriers with one dock each, its
+-- goal.
 abbrev pub floorOf : ℕ → ℕ → ℕ → ℕ → ℕ → List ℕ → List ℕ → Floor
 floorOf width height horizon depth walls starts goals =
-    record {
+    withOneDock (record {
       width = width;
       height = height;
       horizon = horizon;
@@ -26,6 +28,44 @@ floorOf width height horizon depth walls starts goals =
       walls = walls;
       starts = padded 8 starts;
       goals = padded 8 goals;
+    })
+
+-- Lists of docks in a record: four places each, filled up with zeros.
+unfoldable pub docksIn : List (List ℕ) → List ℕ
+docksIn [] = []
+docksIn (ds ∷ dss) = padded 4 ds ++ docksIn dss
+
+-- A grid of 3 by 2 for a number of walls, with a list of docks a carrier (document 02, slip 10), the dock counts as given.
+abbrev pub countedOf : ℕ → List ℕ → List ℕ → List (List ℕ) → Floor
+countedOf walls starts counts docks =
+    record {
+      width = 3;
+      height = 2;
+      horizon = 4;
+      depth = 1;
+      carriers = length starts;
+      walls = walls;
+      starts = padded 8 starts;
+      counts = padded 8 counts;
+      docks = padded 32 (docksIn docks);
+    }
+
+-- The same with each list's length as its dock count.
+abbrev pub dockedOf : ℕ → List ℕ → List (List ℕ) → Floor
+dockedOf walls starts docks = countedOf walls starts (map length docks) docks
+
+-- Two carriers with one goal cell in common, by document 01.
+abbrev pub common : Earlier
+common =
+    record {
+      width = 3;
+      height = 2;
+      horizon = 4;
+      depth = 1;
+      carriers = 2;
+      walls = 0;
+      starts = padded 8 (0 ∷ 3 ∷ []);
+      goals = padded 8 (2 ∷ 2 ∷ []);
     }
 
 -- One cell, one carrier.

@@ -10,7 +10,8 @@ use Rattle.floor.specs.declared.Floor.{Floor}
 use Rattle.floor.specs.Checks.{checkOf}
 use Rattle.floor.specs.Accepted.{SameFloor}
 use Rattle.fields.specs.Field.{fieldOf}
-use Rattle.sheet.specs.Text.{lineOf, linesOf, carrierAt, sheetLength}
+use Rattle.sheet.specs.Text.{lineOf, linesOf, sheetLength}
+use Rattle.sheet.specs.Form.{carrierColumn}
 use Rattle.sheet.specs.Values.{floorAt, wallsAt}
 use Rattle.sheet.specs.Read.{readVerdict, readFloor, readWalls, writeSheet}
 use Rattle.planner.specs.Plan.{planOf, failingOf}
@@ -29,13 +30,14 @@ dropLast f =
       carriers = f .carriers - 1;
       walls = f .walls;
       starts = f .starts;
-      goals = f .goals;
+      counts = f .counts;
+      docks = f .docks;
     }
 
 -- A sheet of n carriers without its last carrier: the count, at column 20, is one less, and the last carrier's line is left out.
 unfoldable pub withoutLast : ℕ → List ℕ → List ℕ
 withoutLast n text =
-    take 20 text ++ (fieldOf (n - 1) ++ (take (carrierAt (n - 1) - 25) (drop 25 text) ++ drop (carrierAt n) text))
+    take 20 text ++ (fieldOf (n - 1) ++ (take (carrierColumn text (n - 1) - 25) (drop 25 text) ++ drop (carrierColumn text n) text))
 
 -- The failing carrier of n when the last is dropped: as it was, or 0 if it was the last.
 unfoldable pub failingWithout : ℕ → ℕ → ℕ

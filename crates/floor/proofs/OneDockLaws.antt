@@ -7,14 +7,16 @@ use mathlib.Core.Bool.{Bool, true, not}
 use mathlib.Core.Logic.{_↔_}
 use mathlib.Core.List.{List, [], _∷_}
 use lib.ListN.{length, getD, replicate}
+use lib.Dec.{eqb}
+use borrow.Author.Tests.{eq-eqb, eqb-true}
 use Rattle.laws.specs.Verdict.{Verdict, passed, refused, _then_, demandEach, First}
 use Rattle.laws.proofs.PartLaws.{part-byte}
-use Rattle.laws.proofs.Tests.{and-fst, not-refutes}
+use Rattle.laws.proofs.Tests.{and-fst, not-refutes, same-test}
 use Rattle.laws.proofs.EachLaws.{Decides, each-passed, all-passes, each-refused, first-refuses}
 use Rattle.laws.proofs.VerdictLaws.{then-both, then-assoc, then-passed, then-refused, refused-by, demand-same, demand-passes, turn-passes}
-use Rattle.floor.specs.Checks.{within, among, every, startOf, countOf, docksOf, dockOf, inGrid, docksInGrid, carrierInGrid}
-use Rattle.floor.specs.Checks.{docksClear, clearOfWalls, unshared, unrepeated, limitsOf, lentOf, roomOf, carriersOf, wallsOf, risingOf, clearOf}
-use Rattle.floor.specs.Checks.{distinctOf, unrepeatedOf, placesOf, checkOf}
+use Rattle.floor.specs.Checks.{within, among, every, startOf, countOf, docksOf, dockOf, isDock, inGrid, docksInGrid, carrierInGrid}
+use Rattle.floor.specs.Checks.{docksClear, clearOfWalls, unshared, unrepeated, limitsOf, lentOf, roomOf, carriersOf}
+use Rattle.floor.specs.Checks.{wallsOf, risingOf, clearOf, distinctOf, unrepeatedOf, placesOf, checkOf}
 use Rattle.floor.specs.OneDock.{Earlier, oneEach, withOneDock, earlierLimits, earlierInside, bothInside, earlierCarriers}
 use Rattle.floor.specs.OneDock.{earlierWalls, earlierRising, bothClear, earlierClear, neitherShared, earlierDistinct, earlierCheck}
 use Rattle.floor.proofs.LimitsLaws.{limits-passed}
@@ -49,6 +51,14 @@ module _ (e : Earlier) (ws : List ℕ) (few : e .carriers ≤ 8) where
   one-count : (i : ℕ) → i < e .carriers → countOf (withOneDock e) i ≡ 1
   unfolding countOf withOneDock
   one-count i l = one-each i (omega arith)
+
+  -- Only the goal is a dock.
+  pub one-is-dock : (i c : ℕ) → i < e .carriers → isDock (withOneDock e) i c ≡ eqb c (getD (e .goals) i 0)
+  unfolding isDock among dockOf
+  one-is-dock i c l =
+      let g = getD (e .goals) i 0 in
+      rw (one-count i l, one-goal e i)
+      (same-test (eqb g c) (eqb c g) (λ h. eq-eqb c g (sym (eqb-true g c h))) (λ h. eq-eqb g c (sym (eqb-true c g h))))
 
   one-every : (i : ℕ) → i < e .carriers → (p : ℕ → Bool)
       → every (countOf (withOneDock e) i) (λ k. p (dockOf (withOneDock e) i k)) ≡ p (getD (e .goals) i 0)

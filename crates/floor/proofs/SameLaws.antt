@@ -8,10 +8,10 @@ use borrow.Author.Tests.{le-leb}
 use lib.ListN.{getD}
 use Rattle.floor.specs.declared.Floor.{Floor}
 use Rattle.laws.specs.Verdict.{inTurn, demandEach, All}
-use Rattle.floor.specs.Checks.{startOf, countOf, docksOf, dockOf, limitsOf, lentOf, roomOf, inGrid, docksInGrid}
+use Rattle.floor.specs.Checks.{startOf, countOf, docksOf, dockOf, isDock, limitsOf, lentOf, roomOf, inGrid, docksInGrid}
 use Rattle.floor.specs.Checks.{carrierInGrid, rises, among, every, docksClear, clearOfWalls, unshared, unrepeated}
 use Rattle.floor.specs.Checks.{carriersOf, wallsOf, risingOf, clearOf, distinctOf, unrepeatedOf, placesOf, checkOf}
-use Rattle.floor.specs.Accepted.{Lent, SameFloor}
+use Rattle.floor.specs.Accepted.{Lent, SameFloor, SameDocks}
 use Rattle.floor.proofs.EveryLaws.{every-same}
 
 -- Tests that agree at each item make the same check.
@@ -102,9 +102,30 @@ module _ (f : Floor) (ws : List ℕ) (g : Floor) (vs : List ℕ) (same : SameFlo
   unfolding startOf
   earlier-starts i l e h = same .starts e (omega arith)
 
-  earlier-docks : (i : ℕ) → i < f .carriers → (k : ℕ) → k < countOf f i → All (λ (e : ℕ). getD (docksOf f i) e 0 ≡ getD (docksOf g i) e 0) k
+  earlier-docks : (i : ℕ) → i < f .carriers → All (λ (k : ℕ). getD (docksOf f i) k 0 ≡ getD (docksOf g i) k 0) (countOf f i)
   unfolding dockOf
-  earlier-docks i l k h e q = same .docks i l e (omega arith)
+  earlier-docks i l = same .docks i l
+
+  -- The same cells are docks, so that only the order of docks may differ.
+  pub is-dock-same : (i c : ℕ) → i < f .carriers → isDock f i c ≡ isDock g i c
+  unfolding isDock
+  is-dock-same i c l =
+      among-same (docksOf f i) (docksOf g i) (countOf f i) c (earlier-docks i l)
+      ∙ ap (λ (m : ℕ). among (docksOf g i) m c) (same .counts i l)
+
+  pub same-docks : SameDocks f g
+  same-docks =
+      record {
+        width = same .width;
+        height = same .height;
+        horizon = same .horizon;
+        depth = same .depth;
+        carriers = same .carriers;
+        walls = same .walls;
+        starts = same .starts;
+        counts = same .counts;
+        docks = λ i l c. is-dock-same i c l;
+      }
 
   distinct-same : distinctOf f ≡ distinctOf g
   unfolding distinctOf unshared
@@ -117,7 +138,7 @@ module _ (f : Floor) (ws : List ℕ) (g : Floor) (vs : List ℕ) (same : SameFlo
   unrepeated-same =
       each-same _ _ _ refl (same .carriers) (λ i l.
       every-same (countOf f i) (λ k. not (among (docksOf f i) k (dockOf f i k))) (λ k. not (among (docksOf g i) k (dockOf g i k)))
-      (λ k h. rw (same .docks i l k h, among-same (docksOf f i) (docksOf g i) k (dockOf g i k) (earlier-docks i l k h)))
+      (λ k h. rw (same .docks i l k h, among-same (docksOf f i) (docksOf g i) k (dockOf g i k) (λ e q. earlier-docks i l e (omega arith))))
       ∙ ap (λ (m : ℕ). every m (λ k. not (among (docksOf g i) k (dockOf g i k)))) (same .counts i l))
 
   pub places-same : placesOf f ws ≡ placesOf g vs

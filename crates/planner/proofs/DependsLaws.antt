@@ -6,9 +6,9 @@ use mathlib.Core.Bool.{Bool, not}
 use mathlib.Core.List.{List, map}
 use lib.ListN.{length, take, length-map}
 use Rattle.floor.specs.declared.Floor.{Floor}
-use Rattle.floor.specs.Checks.{startOf, goalOf, among}
+use Rattle.floor.specs.Checks.{startOf, isDock, among}
 use Rattle.floor.specs.Accepted.{SameFloor}
-use Rattle.floor.proofs.SameLaws.{among-same}
+use Rattle.floor.proofs.SameLaws.{among-same, is-dock-same}
 use Rattle.route.specs.Route.{Answer, View, heard, Task}
 use Rattle.route.specs.Search.{best}
 use Rattle.route.specs.Sequential.{sequential}
@@ -35,9 +35,9 @@ sequential-below p q (suc k) h =
     )
 
 -- Tasks with the same parts are the same.
-parts-same : {w w′ c c′ h h′ s s′ g g′ : ℕ} {free free′ : ℕ → Bool} → w ≡ w′ → c ≡ c′ → h ≡ h′ → s ≡ s′ → g ≡ g′ → free ≡ free′
-    → _≡_ {A = Task} (record { width = w; cells = c; horizon = h; start = s; goal = g; free = free })
-    (record { width = w′; cells = c′; horizon = h′; start = s′; goal = g′; free = free′ })
+parts-same : {w w′ c c′ h h′ s s′ : ℕ} {dock dock′ free free′ : ℕ → Bool} → w ≡ w′ → c ≡ c′ → h ≡ h′ → s ≡ s′ → dock ≡ dock′ → free ≡ free′
+    → _≡_ {A = Task} (record { width = w; cells = c; horizon = h; start = s; dock = dock; free = free })
+    (record { width = w′; cells = c′; horizon = h′; start = s′; dock = dock′; free = free′ })
 parts-same a b c d e f = rw (a, b, c, d, e, f)
 
 -- Records that are the same floor agree up to their last carrier.
@@ -50,7 +50,7 @@ same-agrees f ws g vs same =
       walls = same .walls;
       cells = same .cells;
       starts = same .starts;
-      goals = same .goals;
+      docks = λ i l c. is-dock-same f ws g vs same i c l;
     }
 
 module _ (k : ℕ) (f : Floor) (ws : List ℕ) (g : Floor) (vs : List ℕ) (agree : AgreeUpTo k f ws g vs) where
@@ -64,7 +64,7 @@ module _ (k : ℕ) (f : Floor) (ws : List ℕ) (g : Floor) (vs : List ℕ) (agre
       let one : i + 1 - 1 ≡ i = omega arith in
       parts-same (agree .width) (ap₂ (λ (w h : ℕ). w * h) (agree .width) (agree .height)) (agree .horizon)
       (ap (startOf f) one ∙ agree .starts i l ∙ ap (startOf g) (sym one))
-      (ap (goalOf f) one ∙ agree .goals i l ∙ ap (goalOf g) (sym one)) free-same
+      (ap (isDock f) one ∙ fun-ext (agree .docks i l) ∙ ap (isDock g) (sym one)) free-same
 
   -- A carrier responds alike to as many views as there are carriers above it.
   pub respond-same : (i : ℕ) (views : List View) → i < k → length views ≤ k → respondOf f ws i views ≡ respondOf g vs i views

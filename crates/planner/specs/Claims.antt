@@ -6,7 +6,7 @@ use mathlib.Core.List.{List, _∷_, map}
 use lib.ListN.{length, getD, take, drop, replicate}
 use Rattle.floor.specs.declared.Floor.{Floor}
 use Rattle.laws.specs.Verdict.{passed, All}
-use Rattle.floor.specs.Checks.{checkOf, startOf, goalOf}
+use Rattle.floor.specs.Checks.{checkOf, startOf, isDock}
 use Rattle.route.specs.Route.{cellAt, Answer, none, route, heard}
 use Rattle.route.specs.Conflict.{ConflictFree}
 use Rattle.route.specs.Best.{IsRoute, Best}
@@ -33,7 +33,7 @@ pub record AgreeUpTo (k : ℕ) (f : Floor) (ws : List ℕ) (g : Floor) (vs : Lis
   pub walls : f .walls ≡ g .walls
   pub cells : All (λ (j : ℕ). getD ws j 0 ≡ getD vs j 0) (f .walls)
   pub starts : All (λ (i : ℕ). startOf f i ≡ startOf g i) k
-  pub goals : All (λ (i : ℕ). goalOf f i ≡ goalOf g i) k
+  pub docks : All (λ (i : ℕ). (c : ℕ) → isDock f i c ≡ isDock g i c) k
 
 pub record Claims : Type 0 where
   -- Every carrier has an answer.

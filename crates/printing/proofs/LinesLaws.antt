@@ -7,7 +7,6 @@ use mathlib.Core.List.{List, [], _∷_, _++_, append-assoc, append-nil}
 use lib.ListN.{length, take, drop, length-append, length-take}
 use lib.Seq.{take-at, drop-at}
 use Rattle.floor.specs.declared.Floor.{Floor}
-use Rattle.floor.specs.Checks.{goalOf}
 use Rattle.route.specs.Route.{Answer, none, route}
 use Rattle.route.specs.Arrival.{arrivalOf}
 use Rattle.sheet.specs.Text.{linesOf}
@@ -67,7 +66,7 @@ answer-within f i none h = omega (arith, none-length (i + 1))
 answer-within f i (route r) h =
     omega (
       arith,
-      line-length ((i + 1) ∷ arrivalOf (goalOf f i) r (f .horizon) ∷ take (f .horizon + 1) r),
+      line-length ((i + 1) ∷ arrivalOf r (f .horizon) ∷ take (f .horizon + 1) r),
       length-take (f .horizon + 1) r,
     )
 

@@ -16,7 +16,6 @@ use lib.Seq.{length-take-le}
 use Rattle.laws.specs.Memory.{put, part}
 use Rattle.laws.proofs.PutLaws.{put-none, put-length, put-next}
 use Rattle.floor.specs.declared.Floor.{Floor}
-use Rattle.floor.specs.Checks.{goalOf}
 use Rattle.route.specs.Arrival.{arrivalOf}
 use Rattle.fields.specs.Field.{fieldOf}
 use Rattle.sheet.specs.Text.{lineOf, linesOf}
@@ -47,7 +46,7 @@ module _ (f : Floor) (i : ℕ) (m : List ℕ) where
 
   -- The line where it is.
   line-route : (cells : List ℕ) → getD m (65 * i) 0 ≡ 2 → cells ≡ part m (65 * i + 1) 64
-      → lineIn f m i ≡ lineOf ((i + 1) ∷ arrivalOf (goalOf f i) cells (f .horizon) ∷ take (f .horizon + 1) cells)
+      → lineIn f m i ≡ lineOf ((i + 1) ∷ arrivalOf cells (f .horizon) ∷ take (f .horizon + 1) cells)
   unfolding lineIn answerIn viewAt recordAt answerLine
   line-route cells h e = ap (answerLine f i) (tag-route _ _ (eq-eqb _ 2 h) ∙ ap route (sym e))
 
@@ -58,13 +57,13 @@ module _ (f : Floor) (i : ℕ) (m : List ℕ) where
       record { bytes = rw line e; behind = rw (line, none-length (i + 1)); short = omega arith }
 
   pub route-put : (cells old new : List ℕ) (at a : ℕ) → getD m (65 * i) 0 ≡ 2 → cells ≡ part m (65 * i + 1) 64
-      → length cells ≡ 64 → f .horizon ≤ 63 → a ≡ arrivalOf (goalOf f i) cells (min (f .horizon) 63)
+      → length cells ≡ 64 → f .horizon ≤ 63 → a ≡ arrivalOf cells (min (f .horizon) 63)
       → new ≡ put old at (lineOf ((i + 1) ∷ a ∷ take (f .horizon + 1) cells))
       → LinePut f i m old at new (at + 11 + 5 * (f .horizon + 1))
   route-put cells old new at a h c s l b e =
       let low : min (f .horizon) 63 ≡ f .horizon = omega arith in
       let line = line-route cells h c in
-      let arrival : a ≡ arrivalOf (goalOf f i) cells (f .horizon) = b ∙ ap (arrivalOf (goalOf f i) cells) low in
+      let arrival : a ≡ arrivalOf cells (f .horizon) = b ∙ ap (arrivalOf cells) low in
       let size = line-length ((i + 1) ∷ a ∷ take (f .horizon + 1) cells) in
       let taken = length-take-le (f .horizon + 1) cells (omega arith) in
       record {

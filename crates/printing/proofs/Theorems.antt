@@ -41,7 +41,7 @@ module _ (f : Floor) (ws : List ℕ) (g : Floor) (vs : List ℕ) (same : SameFlo
   answer-same : (i : ℕ) (x : Answer) → i < f .carriers → answerLine f i x ≡ answerLine g i x
   unfolding answerLine
   answer-same i none l = refl
-  answer-same i (route r) l = rw (same .goals i l, same .horizon)
+  answer-same i (route r) l = rw (same .horizon)
 
   text-same : (xs : List Answer) → routesText f xs ≡ routesText g xs
   unfolding routesText firstLine

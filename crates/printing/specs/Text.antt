@@ -4,7 +4,6 @@ use Prim.Native.Nat.{ℕ, _+_}
 use mathlib.Core.List.{List, [], _∷_, _++_}
 use lib.ListN.{take}
 use Rattle.floor.specs.declared.Floor.{Floor}
-use Rattle.floor.specs.Checks.{goalOf}
 use Rattle.route.specs.Route.{Answer, none, route}
 use Rattle.route.specs.Arrival.{arrivalOf}
 use Rattle.fields.specs.Field.{fieldOf}
@@ -28,7 +27,7 @@ noneLine number = (fieldOf number ++ noneWord) ++ (10 ∷ [])
 -- The line of a carrier, counted from 0, for its answer.
 unfoldable pub answerLine : Floor → ℕ → Answer → List ℕ
 answerLine f i none = noneLine (i + 1)
-answerLine f i (route r) = lineOf ((i + 1) ∷ arrivalOf (goalOf f i) r (f .horizon) ∷ take (f .horizon + 1) r)
+answerLine f i (route r) = lineOf ((i + 1) ∷ arrivalOf r (f .horizon) ∷ take (f .horizon + 1) r)
 
 -- Line 1.
 unfoldable pub firstLine : Floor → ℕ → List ℕ

@@ -70,17 +70,9 @@ fn put_answer(f: Floor, i: usize, answers: &[u16], out: &mut [u8], at: usize) ->
         return at + 11;
     }
     let horizon = f.horizon;
-    let goal = f.goals[i];
     let cells = records::load(answers, 65 * i + 1);
     let n = horizon as usize + 1;
-    put_route(
-        out,
-        at,
-        number,
-        route::arrival(cells, goal, horizon),
-        cells,
-        n,
-    );
+    put_route(out, at, number, route::arrival(cells, horizon), cells, n);
     at + 11 + 5 * n
 }
 

@@ -4,13 +4,16 @@ use mathlib.Core.List.{List, [], _∷_}
 use mathlib.Core.Path.{_≡_, refl}
 use lib.ListN.{replicate}
 use Rattle.laws.specs.Verdict.{Verdict, passed, refused, _then_, demand, inTurn, demandEach, passes, _gives_, whenPassed}
-use Rattle.laws.specs.Memory.{put}
+use Rattle.laws.specs.Memory.{part, put}
 use Rattle.floor.specs.declared.Floor.{Floor}
-use Rattle.floor.specs.Checks.{within, limitsOf, roomOf, lentOf, startOf, goalOf, inGrid, carrierInGrid, carriersOf, wallsOf, rises}
+use Rattle.floor.specs.Checks.{within, limitsOf, roomOf, lentOf, startOf, countOf, docksOf, dockOf, isDock, inGrid, carrierInGrid}
+use Rattle.floor.specs.Checks.{carriersOf, wallsOf, rises}
+use Rattle.floor.specs.Checks.{every as allBelow, docksInGrid, docksClear, unrepeated, unrepeatedOf}
+use Rattle.floor.specs.OneDock.{oneEach, withOneDock}
 use Rattle.floor.specs.Checks.{risingOf, among, clearOfWalls, clearOf, unshared, distinctOf, placesOf, checkOf}
 use Rattle.route.specs.Route.{cellAt}
 use Rattle.route.specs.Moves.{neighbours, near, vacant, every, standable, allowed, startClear}
-use Rattle.route.specs.Search.{cost, cheaper, cheapest, beatsFrom, val, walk, walkFrom, best}
+use Rattle.route.specs.Search.{cost, cheaper, cheapest, holds, ended, val, onward, walk, walkFrom, best}
 use Rattle.search.specs.Task.{taskOf}
 use Rattle.records.specs.Seen.{parked, seenAs, seenFrom, seen}
 use Rattle.planner.specs.Plan.{respondOf}
@@ -31,7 +34,8 @@ use Rattle.trial.specs.Entry.{orderBy, trialVerdict, trialOf}
 -- The floor of document 01's sheet, for a number of carriers: two change sides.
 abbrev sides : ℕ → Floor
 sides n =
-    record {
+    withOneDock
+    (record {
       width = 3;
       height = 2;
       horizon = 4;
@@ -40,7 +44,7 @@ sides n =
       walls = 0;
       starts = 0 ∷ 2 ∷ replicate 6 0;
       goals = 2 ∷ 0 ∷ replicate 6 0;
-    }
+    })
 
 -- The numbers of a report of that floor.
 abbrev report : ℕ → ℕ → List ℕ
@@ -69,9 +73,10 @@ cases : Cases
 unfolding
     seen seenFrom seenAs parked
     _then_ demand inTurn demandEach passes _gives_ whenPassed put
-    within limitsOf roomOf lentOf startOf goalOf inGrid carrierInGrid carriersOf wallsOf rises risingOf
+    within limitsOf roomOf lentOf startOf countOf docksOf dockOf isDock part allBelow docksInGrid docksClear unrepeated unrepeatedOf
+    oneEach withOneDock inGrid carrierInGrid carriersOf wallsOf rises risingOf
     among clearOfWalls clearOf unshared distinctOf placesOf checkOf
-    cellAt neighbours near vacant every standable allowed startClear cost cheaper cheapest beatsFrom val walk walkFrom best
+    cellAt neighbours near vacant every standable allowed startClear cost cheaper cheapest holds ended val onward walk walkFrom best
     taskOf respondOf
     below joined each update updatePair fresh views tick isThere hasRoom isEmpty waitsFor isOpen sameCells sameAnswer
     deliveriesFrom ranking noneOpen isSilent isNews send planAs oldest newer deliverTo effect counted afterStep stepAnswer

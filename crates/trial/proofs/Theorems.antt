@@ -12,7 +12,7 @@ use Rattle.laws.proofs.Tests.{and-fst, and-snd, and-fails}
 use Rattle.laws.proofs.VerdictLaws.{then-passed, then-both, then-cases, demand-cases, demand-passes}
 use Rattle.floor.specs.declared.Floor.{Floor}
 use Rattle.floor.specs.Checks.{checkOf, roomOf, within}
-use Rattle.floor.specs.Refused.{RefusedWith, outside-limit, few-walls, carrier-outside, wall-outside, not-rising, on-wall, shared}
+use Rattle.floor.specs.Refused.{RefusedWith, outside-limit, few-walls, carrier-outside, wall-outside, not-rising, on-wall, shared, repeated}
 use Rattle.floor.proofs.LimitsLaws.{room-passed}
 use Rattle.floor.proofs.Theorems.{theorems as floor-theorems}
 use Rattle.reference.specs.Step.{Step, plan, deliver, isThere}
@@ -66,6 +66,7 @@ no-row-eleven (wall-outside h g i j) e = omega arith
 no-row-eleven (not-rising h g i j k) e = omega arith
 no-row-eleven (on-wall h g i j k l) e = omega arith
 no-row-eleven (shared h g i j k l m) e = omega arith
+no-row-eleven (repeated h g i j k l m n) e = omega arith
 
 room-not-eleven : (needed lent p : ℕ) → roomOf needed lent ≡ refused 11 p → ⊥
 unfolding roomOf

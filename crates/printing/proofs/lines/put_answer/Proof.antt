@@ -1,5 +1,4 @@
 -- `printing::lines::put_answer` meets its contract: the tag decides between the two lines.
-use Rattle.floor.specs.Checks.{goalOf}
 use mathlib.Core.Path.{_≡_}
 use lib.ListN.{length}
 use Rattle.printing.proofs.PutLaws.{none-put, route-put}
@@ -13,7 +12,6 @@ returns c =
     none-put _ _ _ _ _ _ (then1 .if1 .taken) (c .before .before .put-none .ensures)
 
 returns-2 : tie.Need-returns-2
-unfolding goalOf
 returns-2 c =
     let after-arrival : tie.After-arrival = search in
     let after-load : tie.After-load = search in
