@@ -98,8 +98,8 @@ extern "C" {
 #define KALOMIVUND_TAG_NONE 1
 #define KALOMIVUND_TAG_ROUTE 2
 
-/* The parts of a state, see A STATE below; n is the floor's number of carriers. The count of taken steps; whether carrier i has planned, and
- * whether it is due, 0 or 1; pointers to its answer, to its view of carrier j above it, and to the channel from j to it. */
+/* The parts of a state, see A STATE below; n is the floor's number of carriers. The count of taken steps; whether carrier i has planned,
+ * and whether it is due, 0 or 1; pointers to its answer, to its view of carrier j above it, and to the channel from j to it. */
 #define KALOMIVUND_STATE_COUNT(state) ((uint32_t)(state)[0] * 1000 + (state)[1])
 #define KALOMIVUND_STATE_PLANNED(state, i) ((state)[2 + 67 * ((size_t)(i) - 1)])
 #define KALOMIVUND_STATE_DUE(state, i) ((state)[3 + 67 * ((size_t)(i) - 1)])

@@ -1,6 +1,6 @@
-//! The library's functions over plain numbers: slices in, a word out, as the archive gives it. The rest of the crate is written over them, and
-//! the tests and the benchmark call them. `include/kalomivund.h` says of each what it takes, writes and refuses. Every call here is safe: a
-//! slice is a valid pointer with its count, and Rust keeps what is written apart from the rest.
+//! The library's functions over plain numbers: slices in, a word out, as the archive gives it. The rest of the crate is written over
+//! them, and the tests and the benchmark call them. `include/kalomivund.h` says of each what it takes, writes and refuses. Every call
+//! here is safe: a slice is a valid pointer with its count, and Rust keeps what is written apart from the rest.
 #![allow(unsafe_code)]
 
 use crate::{raw, Refusal};

@@ -118,8 +118,8 @@ fn front(out: &mut [u8], length: u64) -> &[u8] {
     usize::try_from(length).ok().and_then(|length| out.get(..length)).unwrap_or(&[])
 }
 
-/// Prints the routes of a sheet, or its refusal's line, into lent memory. Memory of [`MOST_TEXT`](crate::MOST_TEXT) bytes serves every sheet; in
-/// less a sheet may be turned away, with its own refusal, or with 9 if it has none.
+/// Prints the routes of a sheet, or its refusal's line, into lent memory. Memory of [`MOST_TEXT`](crate::MOST_TEXT) bytes serves every
+/// sheet; in less a sheet may be turned away, with its own refusal, or with 9 if it has none.
 ///
 /// ```
 /// let mut out = [0; kalomivund::MOST_TEXT];
@@ -152,8 +152,8 @@ impl<'w> Floor<'w> {
         Floor::from_record(&record_of(dimensions, carriers, walls), walls)
     }
 
-    /// The floor of a record and its walls; numbers past those that the record counts are no part of it. Refusals 9 (fewer than 54 numbers, or
-    /// fewer walls than the record counts), 2 to 6 and 17.
+    /// The floor of a record and its walls; numbers past those that the record counts are no part of it. Refusals 9 (fewer than 54
+    /// numbers, or fewer walls than the record counts), 2 to 6 and 17.
     pub fn from_record(record: &[u16], walls: &'w [u16]) -> Result<Floor<'w>, Refusal> {
         calls::read(calls::check_floor(record, walls))?;
         let mut own = [0; FLOOR];
@@ -241,8 +241,8 @@ impl<'w> Floor<'w> {
         Ok(front(out, done.number))
     }
 
-    /// The best route of a carrier, from 1, to any of its docks against the views of those above it, the first being carrier 1's; nothing where
-    /// there is no route. Views that the list does not have are not heard. Refusal 7 for a carrier that is not there.
+    /// The best route of a carrier, from 1, to any of its docks against the views of those above it, the first being carrier 1's;
+    /// nothing where there is no route. Views that the list does not have are not heard. Refusal 7 for a carrier that is not there.
     pub fn search(&self, carrier: u16, views: &[View]) -> Result<Option<Route>, Refusal> {
         let (mut numbers, mut route) = ([0; MOST_ANSWERS], [0; ROUTE]);
         for (place, view) in numbers.chunks_exact_mut(ANSWER).zip(views) {
@@ -252,8 +252,8 @@ impl<'w> Floor<'w> {
         Ok((done.case == 1).then_some(route))
     }
 
-    /// Plans all carriers in turn into lent memory. A carrier with none stays at its start: those below it keep off it, one above it may still
-    /// cross it. Refusal 9.
+    /// Plans all carriers in turn into lent memory. A carrier with none stays at its start: those below it keep off it, one above it
+    /// may still cross it. Refusal 9.
     pub fn plan<'m>(&self, memory: &'m mut [u16]) -> Result<Planned<'m>, Refusal> {
         let done = calls::read(calls::plan(&self.record, self.walls, memory))?;
         let failing = done.number as u16;

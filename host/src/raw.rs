@@ -1,6 +1,6 @@
-//! The archive's functions as C sees them; `include/kalomivund.h` says what each takes, writes and returns.
-//! A slice is a pointer and a count of elements; with a count of 0 the pointer may be null. No function keeps a pointer, and none has a condition
-//! that a caller could break with pointers that are aligned, valid for their counts, and apart from each other where one of them is written.
+//! The archive's functions as C sees them; `include/kalomivund.h` says what each takes, writes and returns. A slice is a pointer and a
+//! count of elements; with a count of 0 the pointer may be null. No function keeps a pointer, and none has a condition that a caller
+//! could break with pointers that are aligned, valid for their counts, and apart from each other where one of them is written.
 
 extern "C" {
     /// Reads a sheet: its floor record and its walls into lent memory.

@@ -76,9 +76,9 @@ impl<'m> State<'m> {
         self.floor
     }
 
-    /// Takes a single step. A step that names nothing on this floor is refused with 7. One that is not open is refused with what it waits for,
-    /// and nothing changes: 8, the carrier is not due; 13, it is due, and the channel to the carrier told is full; 12, nothing is under
-    /// way to the carrier told.
+    /// Takes a single step. A step that names nothing on this floor is refused with 7. One that is not open is refused with what it
+    /// waits for, and nothing changes: 8, the carrier is not due; 13, it is due, and the channel to the carrier told is full; 12,
+    /// nothing is under way to the carrier told.
     pub fn step(&mut self, step: Step) -> Result<Stepped, Refusal> {
         let word = calls::step(self.floor.record(), self.floor.walls(), self.numbers, step.number());
         calls::read(word).map(|done| Stepped::of_case(u16::from(done.case)))

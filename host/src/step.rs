@@ -23,8 +23,8 @@ const fn is_digit(i: u16) -> bool {
 }
 
 impl Step {
-    /// The number of the step, as the library and a report have it: 100 + i, or 200 + 10 j + i. It is 0, which names no step, where a carrier
-    /// is outside 1 to 9, so that no carrier number can be taken for another step.
+    /// The number of the step, as the library and a report have it: 100 + i, or 200 + 10 j + i. It is 0, which names no step, where a
+    /// carrier is outside 1 to 9, so that no carrier number can be taken for another step.
     ///
     /// ```
     /// use kalomivund::Step;

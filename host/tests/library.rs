@@ -335,16 +335,14 @@ fn runs_of_any_length() {
         (drawn >> 16) as usize % below
     };
     for length in [0, 1, 5, 20, 127, 128, 129, 255, 256, 257, 300, 1000] {
-        for round in 0..20 {
-            let mut list: Vec<Step> = (0..length).map(|_| kinds[draw(kinds.len())]).collect();
-            if round % 4 == 3 && length > 0 {
+        for round in 0..40 {
+            let seldom = [1, 1, 10, 50][round % 4];
+            let mut drawn = || if draw(seldom) == 0 { kinds[draw(kinds.len())] } else { Step::Deliver { from: 2, to: 3 } };
+            let mut list: Vec<Step> = (0..length).map(|_| drawn()).collect();
+            if round % 5 == 4 && length > 0 {
                 list[draw(length)] = Step::Plan(4);
             }
-            if round % 4 == 2 {
-                let idle = length - length.min(draw(20));
-                list[..idle].fill(Step::Deliver { from: 2, to: 3 });
-            }
-            let budget = [0, 1, 2, 5, 11, 65535][draw(6)];
+            let budget = [0, 1, 2, 3, 4, 5, 6, 11, 65535][draw(9)];
             let (mut ours, mut theirs) = (memory_for(&floor), memory_for(&floor));
             let told = floor.fresh(&mut ours).unwrap().run(&list, budget);
             floor.fresh(&mut theirs).unwrap();
@@ -474,8 +472,8 @@ fn who_shuts_a_carrier_in() {
     assert!(memory.iter().all(|&left| left == 7));
 }
 
-/// Any of several docks: the sheet and its lists, a count of the wrong size, the table's 17, a route to the nearer dock and to the other one
-/// when that is taken.
+/// Any of several docks: the sheet and its lists, a count of the wrong size, the table's 17, a route to the nearer dock and to the
+/// other one when that is taken.
 #[test]
 fn any_of_several_docks() {
     let sheet = b"    5    1    4    1    2    0\n    3    0    1    3    0\n    2    0    2    3    0    0    0\n";
