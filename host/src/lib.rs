@@ -16,8 +16,7 @@
 //! let mut memory = [0; MOST_ANSWERS];
 //! let planned = floor.plan(&mut memory)?;
 //! assert_eq!(planned.failing, None);
-//! let Some(Answer::Route(route)) = planned.answers.answer(2) else { panic!("carrier 2 has a route") };
-//! assert_eq!(route[..5], [2, 5, 4, 1, 0]);
+//! assert!(matches!(planned.answers.answer(2), Some(Answer::Route([2, 5, 4, 1, 0, ..]))));
 //!
 //! let mut memory = [0; MOST_STATE];
 //! let mut state = floor.fresh(&mut memory)?;
