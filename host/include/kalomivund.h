@@ -23,14 +23,14 @@
  *   refused  low byte 1, bits 8 to 15 the refusal, bits 16 and up its place
  * A number or place above 2^48 - 1 is told as 2^48 - 1.
  *
- * REFUSALS, in the order in which they are looked for; the first one met is the answer.
+ * REFUSALS, in the order in which they are looked for; the first one met is told.
  *   9, 0         the lent floor has fewer than 54 numbers; before anything else (not for read_sheet, which writes it)
  *   1, offset    form of a sheet's line 1 (see kalomivund_read_sheet)
  *   2, field     line 1, field 1 to 6: outside its limits
  *   1, offset    form of a sheet's other lines; a dock count outside 1 to 4 is a bad field
  *   9, 0         fewer walls are lent than the floor counts (right after 2; not for read_sheet)
- *   3, item      a start, a dock or a wall outside the grid, or a record's dock count outside 1 to 4; carriers are items 1 to n, walls
- *                follow
+ *   3, item      a start, a dock or a wall outside the grid, or a lent floor's dock count outside 1 to 4; carriers are items 1 to n,
+ *                walls follow
  *   4, item      a wall is not above the one before
  *   5, carrier   its start or one of its docks is a wall
  *   6, carrier   an earlier carrier has the same start (docks may be common to several carriers)
