@@ -378,8 +378,8 @@ fn plans(all: &[Lent], rounds: usize) {
 fn in_turn(n: usize) -> Vec<u16> {
     let mut steps = Vec::new();
     for i in 1..=n as u16 {
-        steps.push(kalomivund::plan_step(i));
-        steps.extend((i + 1..=n as u16).map(|below| kalomivund::deliver_step(i, below)));
+        steps.push(kalomivund::Step::Plan(i).number());
+        steps.extend((i + 1..=n as u16).map(|below| kalomivund::Step::Deliver { from: i, to: below }.number()));
     }
     steps
 }
