@@ -26,7 +26,6 @@ static struct {
     uint8_t reached;
 } block[MOST_BLOCKS];
 static size_t blocks;
-static int blocks_anew; /* every input meets its blocks, not only the first: for choosing a corpus */
 
 static void block_reached(int number, siginfo_t *info, void *context) {
     (void)number;
@@ -50,10 +49,7 @@ static void block_reached(int number, siginfo_t *info, void *context) {
 #endif
 }
 
-static void blocks_watch(void) {
-    for (size_t k = 0; k < blocks; k++) *block[k].at = BREAKPOINT;
-}
-
+/* At the end: how many were reached, and with FUZZ_UNREACHED in the environment which were not. */
 static void blocks_told(void) {
     size_t reached = 0;
     for (size_t k = 0; k < blocks; k++) reached += block[k].reached;
@@ -89,9 +85,10 @@ static void blocks_begin(const char *program) {
     action.sa_sigaction = block_reached;
     action.sa_flags = SA_SIGINFO;
     sigaction(SIGTRAP, &action, NULL);
-    for (size_t k = 0; k < blocks; k++) block[k].first = *block[k].at;
-    blocks_anew = getenv("FUZZ_ANEW") != NULL;
-    blocks_watch();
+    for (size_t k = 0; k < blocks; k++) {
+        block[k].first = *block[k].at;
+        *block[k].at = BREAKPOINT;
+    }
     atexit(blocks_told);
 #else
     (void)program;

@@ -377,7 +377,7 @@ static int is_step(unsigned number) {
     return (number > 100 && number <= 100 + n) || (number / 100 == 2 && j >= 1 && j < i && i <= n);
 }
 
-/* A state that some drawn steps from the fresh one lead to, sometimes with a number changed. */
+/* A state that some drawn steps from the fresh one lead to, sometimes with its count near the end, sometimes with numbers changed. */
 static void hold_state(void) {
     uint16_t steps[64], *state = numbers(OUTPUT);
     size_t count = byte() % 64;
@@ -387,13 +387,15 @@ static void hold_state(void) {
         while (!is_step(steps[k]));
     }
     kalomivund_run(WHOLE_FLOOR, state, state_length(), steps, count, 65535);
+    unsigned count_kind = byte();
+    if (count_kind % 4 == 0) state[0] = (uint16_t)(999 - count_kind / 4 % 2), state[1] = (uint16_t)(999 - count_kind / 8 % 2);
     unsigned damages = byte();
     if (damages % 4 != 0) return;
     call.is_state_whole = 0;
     for (unsigned k = 0; k <= damages / 4 % 3; k++) {
         unsigned place = byte() % 4 == 0 ? below(2 + 67 * carriers()) : below((unsigned)state_length());
-        unsigned kind = byte() % 4;
-        state[place] = (uint16_t)(kind == 0 ? two() : kind == 1 ? byte() % 5 : kind == 2 ? cells() : state[below((unsigned)state_length())]);
+        unsigned kind = byte() % 4, other = below((unsigned)state_length());
+        state[place] = (uint16_t)(kind == 0 ? two() : kind == 1 ? byte() % 5 : kind == 2 ? cells() : state[other]);
     }
 }
 
@@ -575,7 +577,9 @@ static void hold_refusal(uint64_t word) {
     if (due == 0) due = refusal(9, 0);
     if (number != 1 && word != due) failed("not the sheet's refusal", word);
     if (number == 9 && lent[OUTPUT].length >= lent[OUTPUT].needed && (!lent[SECOND].is_lent || lent[SECOND].length >= record[5]) &&
-        lent[OUTPUT].length >= (call.function == PRINT_ROUTES ? text_length() : KALOMIVUND_FLOOR)) failed("memory is called too short", word);
+        lent[OUTPUT].length >= (call.function == PRINT_ROUTES ? text_length() : KALOMIVUND_FLOOR)) {
+        failed("memory is called too short", word);
+    }
 }
 
 /* A call that is done: its number, and how much of what it writes is written. */
@@ -590,7 +594,8 @@ static void hold_done(uint64_t word) {
     case READ_SHEET:
         out->wrote = KALOMIVUND_FLOOR;
         second->wrote = written[5];
-        if (KALOMIVUND_REFUSED(kalomivund_check_floor(written, KALOMIVUND_FLOOR, pointer(second), second->length))) failed("a bad floor", word);
+        most = kalomivund_check_floor(written, KALOMIVUND_FLOOR, pointer(second), second->length);
+        if (most != 0) failed("a floor that is refused", word);
         break;
     case WRITE_SHEET:
         out->wrote = most = sheet_length();
@@ -610,7 +615,9 @@ static void hold_done(uint64_t word) {
             if (written[b] != 0) failed("not 0 after the route", word);
         }
         if (which && written[0] != record[KALOMIVUND_START(call.number)]) failed("a route from elsewhere", word);
-        if (which && !is_among(record + KALOMIVUND_DOCK(call.number, 1), docks(call.number), written[record[2]])) failed("ends at no dock", word);
+        if (which && !is_among(record + KALOMIVUND_DOCK(call.number, 1), docks(call.number), written[record[2]])) {
+            failed("a route that ends at no dock", word);
+        }
         break;
     case PLAN:
         out->wrote = RECORD * n;
@@ -716,7 +723,6 @@ int LLVMFuzzerInitialize(int *count, char ***words) {
 }
 
 int LLVMFuzzerTestOneInput(const uint8_t *data, size_t length) {
-    if (blocks_anew) blocks_watch();
     input.at = data, input.end = data + length;
     input.drawn = two();
     call.function = (enum function)(byte() % FUNCTIONS);
