@@ -236,7 +236,7 @@ static size_t sheet_length(void) {
 #ifdef EARLIER
     return length + 21 * record[4];
 #else
-    for (unsigned i = 1; i <= record[4]; i++) length += 16 + 10 * (size_t)docks(i);
+    for (unsigned i = 1; i <= carriers(); i++) length += 16 + 10 * (size_t)docks(i);
     return length;
 #endif
 }
