@@ -91,15 +91,7 @@ static unsigned limited(unsigned k, unsigned least, unsigned most) { return k < 
 static unsigned cells(void) { return record[0] * record[1]; }
 static unsigned carriers(void) { return limited(record[4], 1, CARRIERS); }
 static unsigned wall_count(void) { return limited(record[5], 0, KALOMIVUND_MOST_WALLS); }
-#ifdef EARLIER
-static unsigned docks(unsigned i) { return (void)i, 1; }
-#define KALOMIVUND_START(i) (6 + (i) - 1)
-#define KALOMIVUND_COUNT(i) (6 + (i) - 1)
-#define KALOMIVUND_DOCK(i, k) (14 + (i) - 1)
-#define KALOMIVUND_DOCKS 1
-#else
 static unsigned docks(unsigned i) { return record[KALOMIVUND_COUNT(i)]; }
-#endif
 
 static int is_among(const uint16_t *list, size_t count, unsigned c) {
     for (size_t k = 0; k < count; k++) {
@@ -144,12 +136,8 @@ static void draw_floor(void) {
     record[4] = (uint16_t)limited(1 + below(CARRIERS), 1, cells());
     for (unsigned i = 1; i <= record[4]; i++) {
         record[KALOMIVUND_START(i)] = new_cell(record + KALOMIVUND_START(1), i - 1);
-#ifndef EARLIER
         record[KALOMIVUND_COUNT(i)] = (uint16_t)limited(1 + below(KALOMIVUND_DOCKS), 1, cells());
         for (unsigned k = 1; k <= docks(i); k++) record[KALOMIVUND_DOCK(i, k)] = new_cell(record + KALOMIVUND_DOCK(i, 1), k - 1);
-#else
-        record[KALOMIVUND_DOCK(i, 1)] = new_cell(record + KALOMIVUND_DOCK(1, 1), i - 1);
-#endif
     }
     draw_walls();
 }
@@ -212,9 +200,6 @@ static uint64_t places_refusal(void) {
     }
     for (unsigned i = 1; i <= n; i++) {
         if (is_among(record + KALOMIVUND_START(1), i - 1, record[KALOMIVUND_START(i)])) return refusal(6, i);
-#ifdef EARLIER
-        if (is_among(record + KALOMIVUND_DOCK(1, 1), i - 1, record[KALOMIVUND_DOCK(i, 1)])) return refusal(6, i);
-#endif
     }
     for (unsigned i = 1; i <= n; i++) {
         for (unsigned k = 2; k <= docks(i); k++) {
@@ -233,12 +218,8 @@ static uint64_t floors_refusal(size_t floor_length, size_t walls_length) {
 
 static size_t sheet_length(void) {
     size_t length = 31 + 11 * (size_t)record[5];
-#ifdef EARLIER
-    return length + 21 * record[4];
-#else
     for (unsigned i = 1; i <= carriers(); i++) length += 16 + 10 * (size_t)docks(i);
     return length;
-#endif
 }
 static size_t state_length(void) { return 2 + 67 * carriers() + 326 * carriers() * (carriers() - 1) / 2; }
 static size_t text_length(void) { return 11 + 331 * carriers(); }
@@ -254,9 +235,7 @@ static size_t put_sheet(uint8_t *out, size_t room) {
     for (unsigned i = 1; i <= carriers(); i++) {
         unsigned start = record[KALOMIVUND_START(i)], count = limited(docks(i), 0, KALOMIVUND_DOCKS);
         k += (size_t)snprintf(at + k, room - k, "%5u%5u", start % width, start / width);
-#ifndef EARLIER
         k += (size_t)snprintf(at + k, room - k, "%5u", docks(i));
-#endif
         for (unsigned d = 1; d <= count; d++) {
             unsigned dock = record[KALOMIVUND_DOCK(i, d)];
             k += (size_t)snprintf(at + k, room - k, "%5u%5u", dock % width, dock / width);
