@@ -84,6 +84,11 @@ static unsigned below(unsigned most) { return most <= 256 ? byte() % most : two(
 
 /* ---- The floor ---- */
 
+/* Places of a record, for carrier i from 1, dock k from 1. */
+#define START(i) (LINE_1 + (i) - 1)
+#define COUNT(i) (LINE_1 + CARRIERS + (i) - 1)
+#define DOCK(i, k) (LINE_1 + 2 * CARRIERS + KALOMIVUND_DOCKS * ((i) - 1) + (k) - 1)
+
 static uint16_t record[KALOMIVUND_FLOOR], walls[KALOMIVUND_MOST_WALLS + 1];
 static int is_damaged;
 
@@ -91,7 +96,7 @@ static unsigned limited(unsigned k, unsigned least, unsigned most) { return k < 
 static unsigned cells(void) { return record[0] * record[1]; }
 static unsigned carriers(void) { return limited(record[4], 1, CARRIERS); }
 static unsigned wall_count(void) { return limited(record[5], 0, KALOMIVUND_MOST_WALLS); }
-static unsigned docks(unsigned i) { return record[KALOMIVUND_COUNT(i)]; }
+static unsigned docks(unsigned i) { return record[COUNT(i)]; }
 
 static int is_among(const uint16_t *list, size_t count, unsigned c) {
     for (size_t k = 0; k < count; k++) {
@@ -109,7 +114,7 @@ static uint16_t new_cell(const uint16_t *list, size_t count) {
 
 static int is_place(unsigned c) {
     for (unsigned i = 1; i <= record[4]; i++) {
-        if (record[KALOMIVUND_START(i)] == c || is_among(record + KALOMIVUND_DOCK(i, 1), docks(i), c)) return 1;
+        if (record[START(i)] == c || is_among(record + DOCK(i, 1), docks(i), c)) return 1;
     }
     return 0;
 }
@@ -135,9 +140,9 @@ static void draw_floor(void) {
     record[3] = (uint16_t)(1 + below(4));
     record[4] = (uint16_t)limited(1 + below(CARRIERS), 1, cells());
     for (unsigned i = 1; i <= record[4]; i++) {
-        record[KALOMIVUND_START(i)] = new_cell(record + KALOMIVUND_START(1), i - 1);
-        record[KALOMIVUND_COUNT(i)] = (uint16_t)limited(1 + below(KALOMIVUND_DOCKS), 1, cells());
-        for (unsigned k = 1; k <= docks(i); k++) record[KALOMIVUND_DOCK(i, k)] = new_cell(record + KALOMIVUND_DOCK(i, 1), k - 1);
+        record[START(i)] = new_cell(record + START(1), i - 1);
+        record[COUNT(i)] = (uint16_t)limited(1 + below(KALOMIVUND_DOCKS), 1, cells());
+        for (unsigned k = 1; k <= docks(i); k++) record[DOCK(i, k)] = new_cell(record + DOCK(i, 1), k - 1);
     }
     draw_walls();
 }
@@ -146,9 +151,9 @@ static void draw_floor(void) {
 static uint16_t *drawn_place(void) {
     unsigned kind = byte() % 8, i = 1 + below(carriers());
     if (kind == 0) return record + below(LINE_1);
-    if (kind == 1) return record + KALOMIVUND_COUNT(i);
-    if (kind <= 3 || wall_count() == 0) return record + KALOMIVUND_START(i);
-    if (kind <= 5) return record + KALOMIVUND_DOCK(i, 1 + below(KALOMIVUND_DOCKS));
+    if (kind == 1) return record + COUNT(i);
+    if (kind <= 3 || wall_count() == 0) return record + START(i);
+    if (kind <= 5) return record + DOCK(i, 1 + below(KALOMIVUND_DOCKS));
     return walls + below(wall_count());
 }
 
@@ -181,9 +186,9 @@ static uint64_t line_1_refusal(void) {
 static uint64_t places_refusal(void) {
     unsigned n = record[4];
     for (unsigned i = 1; i <= n; i++) {
-        if (docks(i) < 1 || docks(i) > KALOMIVUND_DOCKS || record[KALOMIVUND_START(i)] >= cells()) return refusal(3, i);
+        if (docks(i) < 1 || docks(i) > KALOMIVUND_DOCKS || record[START(i)] >= cells()) return refusal(3, i);
         for (unsigned k = 1; k <= docks(i); k++) {
-            if (record[KALOMIVUND_DOCK(i, k)] >= cells()) return refusal(3, i);
+            if (record[DOCK(i, k)] >= cells()) return refusal(3, i);
         }
     }
     for (unsigned k = 0; k < record[5]; k++) {
@@ -193,17 +198,17 @@ static uint64_t places_refusal(void) {
         if (walls[k] <= walls[k - 1]) return refusal(4, n + k + 1);
     }
     for (unsigned i = 1; i <= n; i++) {
-        if (is_among(walls, record[5], record[KALOMIVUND_START(i)])) return refusal(5, i);
+        if (is_among(walls, record[5], record[START(i)])) return refusal(5, i);
         for (unsigned k = 1; k <= docks(i); k++) {
-            if (is_among(walls, record[5], record[KALOMIVUND_DOCK(i, k)])) return refusal(5, i);
+            if (is_among(walls, record[5], record[DOCK(i, k)])) return refusal(5, i);
         }
     }
     for (unsigned i = 1; i <= n; i++) {
-        if (is_among(record + KALOMIVUND_START(1), i - 1, record[KALOMIVUND_START(i)])) return refusal(6, i);
+        if (is_among(record + START(1), i - 1, record[START(i)])) return refusal(6, i);
     }
     for (unsigned i = 1; i <= n; i++) {
         for (unsigned k = 2; k <= docks(i); k++) {
-            if (is_among(record + KALOMIVUND_DOCK(i, 1), k - 1, record[KALOMIVUND_DOCK(i, k)])) return refusal(17, i);
+            if (is_among(record + DOCK(i, 1), k - 1, record[DOCK(i, k)])) return refusal(17, i);
         }
     }
     return 0;
@@ -233,11 +238,11 @@ static size_t put_sheet(uint8_t *out, size_t room) {
     for (unsigned f = 0; f < LINE_1; f++) k += (size_t)snprintf(at + k, room - k, "%5u", record[f]);
     k += (size_t)snprintf(at + k, room - k, "\n");
     for (unsigned i = 1; i <= carriers(); i++) {
-        unsigned start = record[KALOMIVUND_START(i)], count = limited(docks(i), 0, KALOMIVUND_DOCKS);
+        unsigned start = record[START(i)], count = limited(docks(i), 0, KALOMIVUND_DOCKS);
         k += (size_t)snprintf(at + k, room - k, "%5u%5u", start % width, start / width);
         k += (size_t)snprintf(at + k, room - k, "%5u", docks(i));
         for (unsigned d = 1; d <= count; d++) {
-            unsigned dock = record[KALOMIVUND_DOCK(i, d)];
+            unsigned dock = record[DOCK(i, d)];
             k += (size_t)snprintf(at + k, room - k, "%5u%5u", dock % width, dock / width);
         }
         k += (size_t)snprintf(at + k, room - k, "\n");
@@ -593,8 +598,8 @@ static void hold_done(uint64_t word) {
         for (unsigned b = which ? record[2] + 1u : 0; b < KALOMIVUND_ROUTE; b++) {
             if (written[b] != 0) failed("not 0 after the route", word);
         }
-        if (which && written[0] != record[KALOMIVUND_START(call.number)]) failed("a route from elsewhere", word);
-        if (which && !is_among(record + KALOMIVUND_DOCK(call.number, 1), docks(call.number), written[record[2]])) {
+        if (which && written[0] != record[START(call.number)]) failed("a route from elsewhere", word);
+        if (which && !is_among(record + DOCK(call.number, 1), docks(call.number), written[record[2]])) {
             failed("a route that ends at no dock", word);
         }
         break;
@@ -654,8 +659,8 @@ static void vary_floor(void) {
     uint16_t *held = numbers(THE_FLOOR);
     if (line_1_refusal()) return;
     for (unsigned i = 1; i <= CARRIERS; i++) {
-        if (i > record[4]) held[KALOMIVUND_START(i)] ^= 0x5a5a, held[KALOMIVUND_COUNT(i)] ^= 0x3333;
-        for (unsigned k = i > record[4] ? 1 : docks(i) + 1; k <= KALOMIVUND_DOCKS; k++) held[KALOMIVUND_DOCK(i, k)] ^= 0xa5a5;
+        if (i > record[4]) held[START(i)] ^= 0x5a5a, held[COUNT(i)] ^= 0x3333;
+        for (unsigned k = i > record[4] ? 1 : docks(i) + 1; k <= KALOMIVUND_DOCKS; k++) held[DOCK(i, k)] ^= 0xa5a5;
     }
 }
 
