@@ -707,7 +707,7 @@ int LLVMFuzzerInitialize(int *count, char ***words) {
 }
 
 int LLVMFuzzerTestOneInput(const uint8_t *data, size_t length) {
-    input.at = data, input.end = data + length;
+    input.at = data, input.end = data + length, input.drawn = 0;
     input.drawn = two();
     call.function = (enum function)(byte() % FUNCTIONS);
     draw_floor();
