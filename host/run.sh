@@ -5,6 +5,7 @@
 #     host/run.sh            everything
 #     host/run.sh test       all but the benchmark
 #     host/run.sh bench      the archive and the benchmark alone
+#     host/run.sh fuzz [SECONDS]   the archive and the fuzzer alone (host/fuzz/run), 600 seconds if none are said; no part of everything
 set -euo pipefail
 
 what=${1:-all}
@@ -16,6 +17,12 @@ built=$host/target/c
 echo "== the archive"
 (cd "$root" && rt staticlib kalomivund)
 [ -f "$archive" ] || { echo "no archive at target/staticlib/libkalomivund.a" >&2; exit 1; }
+
+if [ "$what" = fuzz ]; then
+    echo "== C: the exported functions fuzzed"
+    "$host/fuzz/run" "$archive" "${2:-600}"
+    exit
+fi
 
 if [ "$what" != bench ]; then
     echo "== C: the sample sheet"
