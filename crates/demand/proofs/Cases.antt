@@ -18,9 +18,10 @@ use Rattle.route.specs.Sequential.{sequential}
 use Rattle.route.specs.Arrival.{settled, arrivalOf}
 use Rattle.records.specs.Seen.{parked, seenAs, seenFrom, seen}
 use Rattle.search.specs.Task.{taskOf}
-use Rattle.fields.specs.Field.{column, fieldOf}
-use Rattle.fields.specs.Form.{fieldForm, lineForm}
-use Rattle.sheet.specs.Text.{lineOf, linesOf, headLine, carrierLine, wallLine, sheetOf, carrierAt}
+use Rattle.fields.specs.Field.{column, fieldOf, number, numberAt}
+use Rattle.fields.specs.Form.{fieldForm, lineForm, countedLength, pastCounted, columnPast}
+use Rattle.sheet.specs.Text.{lineOf, linesOf, headLine, cellNumbers, carrierLine, wallLine, sheetOf}
+use Rattle.sheet.specs.Form.{carrierColumn}
 use Rattle.sheet.specs.Read.{formOf, sheetVerdict}
 use Rattle.printing.specs.Text.{answerLine, firstLine, noneWord, noneLine, routesText, refusalLine}
 use Rattle.printing.specs.Print.{printOf, routesOf}
@@ -51,18 +52,18 @@ use Rattle.demand.specs.Cases.{Cases}
 -- The texts: what a floor's plan prints, and what the empty sheet does.
 accepted-2 : checkOf (sides 4) [] ≡ passed
 unfolding checkOf limitsOf within lentOf roomOf placesOf carriersOf wallsOf risingOf clearOf distinctOf startOf countOf docksOf dockOf
-    isDock part allBelow docksInGrid docksClear unrepeated unrepeatedOf oneEach withOneDock inGrid
+    part allBelow docksInGrid docksClear unrepeated unrepeatedOf oneEach withOneDock inGrid
     carrierInGrid rises among clearOfWalls unshared demand _then_ inTurn demandEach
 accepted-2 = refl
 
 sheet-2 : sheetOf (sides 4) [] ≡ sheet2
-unfolding sheetOf headLine lineOf linesOf carrierLine wallLine fieldOf column startOf countOf docksOf dockOf isDock part allBelow
-    docksInGrid docksClear unrepeated unrepeatedOf oneEach withOneDock
+unfolding sheetOf headLine lineOf linesOf cellNumbers carrierLine wallLine fieldOf column startOf countOf docksOf dockOf part oneEach
+    withOneDock
 sheet-2 = refl
 
 text-2 : printOf (sides 4) [] ≡ routes2
-unfolding printOf routesText firstLine answerLine answerAt failingOf failingFrom arrivalOf settled cellAt countOf docksOf dockOf isDock
-    part allBelow docksInGrid docksClear unrepeated unrepeatedOf oneEach withOneDock
+unfolding printOf routesText firstLine answerLine answerAt failingOf failingFrom arrivalOf settled cellAt
+    countOf docksOf isDock part oneEach withOneDock
     lineOf linesOf fieldOf column planOf sequential respondOf seen seenFrom seenAs parked taskOf startOf among
     neighbours near vacant every standable allowed startClear cost cheaper cheapest holds ended val onward walk walkFrom best
 text-2 = refl
@@ -71,8 +72,8 @@ printed-2 : routesOf sheet2 ≡ routes2
 printed-2 = rw (← sheet-2) (theorems .routes-of-sheet (sides 4) [] accepted-2 ∙ text-2)
 
 printed-3 : printOf (sides 3) [] ≡ routes3
-unfolding printOf routesText firstLine answerLine noneWord noneLine answerAt failingOf failingFrom arrivalOf settled cellAt countOf
-    docksOf dockOf isDock part allBelow docksInGrid docksClear unrepeated unrepeatedOf oneEach withOneDock
+unfolding printOf routesText firstLine answerLine noneWord noneLine answerAt failingOf failingFrom arrivalOf settled cellAt
+    countOf docksOf isDock part oneEach withOneDock
     lineOf linesOf fieldOf column planOf sequential respondOf seen seenFrom seenAs parked taskOf startOf among
     neighbours near vacant every standable allowed startClear cost cheaper cheapest holds ended val onward walk walkFrom best
 printed-3 = refl
@@ -87,23 +88,23 @@ printed-11 = theorems .routes-refused [] 1 0 refused-11
 
 -- The sheet without carrier 2, and its routes.
 dropped-sheet : withoutLast 2 sheet2 ≡ sheet2short
-unfolding withoutLast carrierAt fieldOf column
+unfolding withoutLast carrierColumn columnPast pastCounted countedLength numberAt number fieldOf column
 dropped-sheet = refl
 
 short-accepted : checkOf (dropLast (sides 4)) [] ≡ passed
 unfolding checkOf limitsOf within lentOf roomOf placesOf carriersOf wallsOf risingOf clearOf distinctOf startOf countOf docksOf dockOf
-    isDock part allBelow docksInGrid docksClear unrepeated unrepeatedOf oneEach withOneDock inGrid
+    part allBelow docksInGrid docksClear unrepeated unrepeatedOf oneEach withOneDock inGrid
     carrierInGrid rises among clearOfWalls unshared demand _then_ inTurn demandEach dropLast
 short-accepted = refl
 
 short-sheet : sheetOf (dropLast (sides 4)) [] ≡ sheet2short
-unfolding sheetOf headLine lineOf linesOf carrierLine wallLine fieldOf column startOf countOf docksOf dockOf isDock part allBelow
-    docksInGrid docksClear unrepeated unrepeatedOf oneEach withOneDock dropLast
+unfolding sheetOf headLine lineOf linesOf cellNumbers carrierLine wallLine fieldOf column startOf countOf docksOf dockOf part oneEach
+    withOneDock dropLast
 short-sheet = refl
 
 short-text : printOf (dropLast (sides 4)) [] ≡ routes2short
-unfolding printOf routesText firstLine answerLine answerAt failingOf failingFrom arrivalOf settled cellAt countOf docksOf dockOf isDock
-    part allBelow docksInGrid docksClear unrepeated unrepeatedOf oneEach withOneDock dropLast
+unfolding printOf routesText firstLine answerLine answerAt failingOf failingFrom arrivalOf settled cellAt
+    countOf docksOf isDock part oneEach withOneDock dropLast
     lineOf linesOf fieldOf column planOf sequential respondOf seen seenFrom seenAs parked taskOf startOf among
     neighbours near vacant every standable allowed startClear cost cheaper cheapest holds ended val onward walk walkFrom best
 short-text = refl

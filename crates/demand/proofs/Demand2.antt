@@ -8,7 +8,6 @@ use Rattle.laws.proofs.VerdictLaws.{gives-passed}
 use Rattle.floor.specs.declared.Floor.{Floor}
 use Rattle.floor.specs.Accepted.{Absent}
 use Rattle.floor.proofs.CheckMeans.{absent-means}
-use Rattle.floor.proofs.Theorems.{theorems as floor-theorems}
 use Rattle.route.proofs.Theorems.{theorems as route-theorems}
 use Rattle.search.specs.Task.{taskOf}
 use Rattle.search.proofs.Theorems.{theorems as search-theorems}
@@ -18,8 +17,7 @@ use Rattle.printing.proofs.Theorems.{theorems as printing-theorems}
 use Rattle.demand.specs.Demand2.{Demand2}
 use Rattle.demand.proofs.PlanLaws.{plan-exactly, respond-best, none-exactly, none-occupies, unheard-left-out}
 use Rattle.demand.proofs.PlanLaws.{stored-heard, granted}
-use Rattle.demand.proofs.DockLaws.{docks-none, docks-own, docks-earliest, one-dock-plan}
-use Rattle.demand.proofs.SameSheetLaws.{same-answers, order-outcomes}
+use Rattle.demand.proofs.SameSheetLaws.{same-answers}
 use Rattle.demand.proofs.RoundTripLaws.{floor-returns, sheet-returns}
 
 free-exactly : (f : Floor) (ws : List ℕ) (i c : ℕ) → (taskOf f ws i .free c ≡ true) ↔ Absent ws (f .walls) c
@@ -47,12 +45,6 @@ theorem =
       printed = printing-theorems .routes-accepted;
       printed-refusal = printing-theorems .routes-refused;
       arrival-exactly = route-theorems .arrival-agrees;
-      docks-none = λ f ws i vs ok. docks-none f ws ok i vs;
-      docks-own = λ f ws i vs r ok. docks-own f ws ok i vs r;
-      docks-earliest = λ f ws i vs r q c ok. docks-earliest f ws ok i vs r q c;
-      docks-order = order-outcomes;
-      one-dock-accepted = floor-theorems .earlier-accepted;
-      one-dock-plan = λ e ws xs ok. one-dock-plan e ws ok xs;
       floor-returns = floor-returns;
       sheet-returns = sheet-returns;
       conflict-test = route-theorems .conflict-test;

@@ -3,7 +3,6 @@ pub mod RowLaws
 pub mod RefusalLaws
 pub mod EntryLaws
 pub mod PlanLaws
-pub mod DockLaws
 pub mod SameTrialLaws
 pub mod SameRunLaws
 pub mod SameBlockerLaws
@@ -17,6 +16,8 @@ pub mod Demand2
 pub mod Trials
 pub mod Runs
 pub mod Blockers
+pub mod EarlierLaws
+pub mod Docks
 pub mod LentLaws
 pub mod ListLaws
 pub mod CutLaws

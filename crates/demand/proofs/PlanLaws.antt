@@ -1,12 +1,9 @@
 -- The plan of a floor is the one list of answers that prioritized planning allows, and its memory shows it.
-use Prim.Native.Nat.{ℕ, zero, suc, _+_, _*_, _≤_, _<_}
-use native.Mathlib.Omega.{arith}
-use native.Mathlib.Nat.{zero-add}
-use mathlib.Core.List.{List, _++_, _∷_, [], map}
+use Prim.Native.Nat.{ℕ, suc, _+_, _*_, _≤_, _<_}
+use mathlib.Core.List.{List, _++_, _∷_, map}
 use mathlib.Core.Logic.{_↔_}
-use mathlib.Core.Path.{_≡_, refl, sym, _∙_, ap, ap₂}
-use lib.ListN.{length, getD, take, drop}
-use lib.Seq.{take-all, take-suc}
+use mathlib.Core.Path.{_≡_, refl, _∙_}
+use lib.ListN.{length, getD, take}
 use borrow.Author.Tests.{le-leb}
 use Rattle.laws.specs.Memory.{put}
 use Rattle.laws.specs.Verdict.{passed}
@@ -23,11 +20,13 @@ use Rattle.route.proofs.Theorems.{theorems as route-theorems}
 use Rattle.search.specs.Task.{taskOf}
 use Rattle.search.proofs.SeenLaws.{kept-off, unheard-out}
 use Rattle.planner.specs.Plan.{respondOf, planOf, planVerdict}
-use Rattle.records.specs.Records.{recordsOf, stored}
+use Rattle.records.specs.Records.{stored}
 use Rattle.planner.specs.Records.{planMemory}
 use Rattle.planner.specs.Claims.{answerAt}
 use Rattle.planner.proofs.PlanLaws.{respond-whole}
 use Rattle.records.proofs.RecordLaws.{views-are}
+use Rattle.planner.proofs.SequentialLaws.{plan-only}
+use Rattle.planner.proofs.DocksTheorems.{responds-only}
 use Rattle.planner.proofs.Theorems.{theorems as planner-theorems}
 use Rattle.demand.specs.Demand2.{Prioritized}
 
@@ -58,28 +57,11 @@ module _ (f : Floor) (ws : List ℕ) (ok : checkOf f ws ≡ passed) where
   plan-prioritized : Prioritized f ws (planOf f ws)
   plan-prioritized = record { every = planner-theorems .answers-all f ws; best = λ k l. planner-theorems .each-best f ws k ok l }
 
-  -- The first k answers are the plan's, one after the other.
-  first-same : (xs : List Answer) → Prioritized f ws xs → (k : ℕ) → k ≤ f .carriers → take k xs ≡ take k (planOf f ws)
-  unfolding answerAt
-  first-same xs h zero l = refl
-  first-same xs h (suc k) l =
-      let front = first-same xs h k (omega arith) in
-      let here : Best (taskOf f ws (k + 1)) (seen f (map heard (take k (planOf f ws)))) (answerAt xs k) =
-      rw front at (h .best k (omega arith)) in
-      let same = route-theorems .best-unique (taskOf f ws (k + 1)) (seen f (map heard (take k (planOf f ws)))) _ _ here
-      (planner-theorems .each-best f ws k ok (omega arith))
-      in
-      take-suc xs k none (omega (arith, h .every))
-      ∙ ap₂ (λ (front : List Answer) (x : Answer). front ++ (x ∷ [])) front same
-      ∙ sym (take-suc (planOf f ws) k none (omega (arith, planner-theorems .answers-all f ws)))
-
   pub plan-exactly : (xs : List Answer) → Prioritized f ws xs ↔ (xs ≡ planOf f ws)
+  unfolding planOf
   plan-exactly xs = (
-    λ h.
-        let n = f .carriers in
-        sym (take-all n xs (omega (arith, h .every)))
-        ∙ first-same xs h n (omega arith)
-        ∙ take-all n (planOf f ws) (omega (arith, planner-theorems .answers-all f ws)),
+    λ h. plan-only (respondOf f ws) (f .carriers) xs (h .every)
+        (λ k l. responds-only f ws ok k (map heard (take k xs)) (answerAt xs k) (h .best k l)),
     λ e. rw e plan-prioritized,
   )
 

@@ -1,12 +1,10 @@
 -- Records that differ at most in the order of docks get the same answers from every entry, but for the sheet that is written.
-use Prim.Native.Nat.{ℕ, zero, suc, _+_, _*_, _-_, _≤_, _<_}
+use Prim.Native.Nat.{ℕ, zero, suc, _+_, _-_, _<_}
 use native.Mathlib.Omega.{arith}
-use mathlib.Core.Bool.{Bool}
 use mathlib.Core.List.{List, [], _++_}
-use mathlib.Core.Path.{_≡_, refl, sym, _∙_, ap, ap₂}
+use mathlib.Core.Path.{_≡_, refl, _∙_, ap, ap₂}
 use lib.ListN.{length, getD}
-use lib.Seq.{take-all}
-use Rattle.laws.specs.Verdict.{Verdict, passed, _gives_, All}
+use Rattle.laws.specs.Verdict.{Verdict, _gives_, All}
 use Rattle.laws.proofs.VerdictLaws.{gives-same}
 use Rattle.floor.specs.declared.Floor.{Floor}
 use Rattle.floor.specs.Checks.{checkOf, limitsOf, countOf}
@@ -15,30 +13,22 @@ use Rattle.sheet.specs.Text.{carrierAt, wallAt, sheetLength, linesOf}
 use Rattle.sheet.specs.Read.{writeVerdict}
 use Rattle.sheet.proofs.LinesText.{lines-same}
 use Rattle.route.specs.Route.{View, Answer, none, route}
-use Rattle.route.specs.Search.{best}
-use Rattle.search.specs.Task.{taskOf}
-use Rattle.search.specs.Search.{requestOf, searchOf}
-use Rattle.search.proofs.RequestLaws.{request-granted}
-use Rattle.search.proofs.SeenLaws.{seen-same}
-use Rattle.records.specs.Records.{records, viewsOf}
-use Rattle.records.specs.Seen.{seen}
-use Rattle.records.proofs.SeenLaws.{records-length}
-use Rattle.planner.specs.Plan.{respondOf, planOf, planVerdict}
+use Rattle.search.specs.Search.{searchOf}
+use Rattle.planner.specs.Plan.{respondOf, planOf, planVerdict, failingOf}
 use Rattle.planner.specs.Answers.{planResult}
 use Rattle.planner.specs.Records.{planMemory}
 use Rattle.planner.specs.Claims.{AgreeUpTo, answerAt}
-use Rattle.planner.proofs.DependsLaws.{task-same, respond-same}
-use Rattle.planner.proofs.Theorems.{theorems as planner-theorems}
+use Rattle.planner.proofs.DependsLaws.{respond-same, plans-agree, searches-agree}
 use Rattle.printing.specs.Text.{answerLine, firstLine, routesText}
 use Rattle.printing.specs.Print.{printOf, textLength, printVerdict, printOutcome, printAnswers, printMemory}
 use Rattle.lengths.specs.Figures.{figuresFor, lengthsOf}
-use Rattle.reference.specs.State.{Machine, State}
+use Rattle.reference.specs.State.{State}
 use Rattle.reference.specs.Table.{Call}
 use Rattle.reference.specs.Calls.{reply, afterCall}
 use Rattle.reference.proofs.RespondLaws.{reply-same, after-call-same}
 use Rattle.layout.specs.Places.{stateSize}
 use Rattle.layout.specs.Valid.{recordValid, carrierValid, placeValid, channelValid, pairValid, valid}
-use Rattle.layout.specs.Calls.{machineOf, placeVerdict, stateVerdict, stateIn, withState, freshMemory, replyTo, memoryAfter}
+use Rattle.layout.specs.Calls.{machineOf, placeVerdict, stateVerdict, stateIn, freshMemory, replyTo, memoryAfter}
 use Rattle.trial.specs.Entry.{orderBy, trialVerdict, trialOf, trialOutcome, stateTried, reportTried}
 use Rattle.demand.specs.Demand2.{SameOutcomes}
 use Rattle.trial.specs.Report.{numbersOf}
@@ -51,7 +41,7 @@ use Rattle.demand.proofs.SameTrialLaws.{trial-same}
 use Rattle.demand.proofs.SameRunLaws.{runs-same, reports-same}
 
 -- Lines of as many docks begin at the same columns.
-columns-same : (f g : Floor) (n : ℕ) → All (λ (i : ℕ). countOf f i ≡ countOf g i) n → carrierAt f n ≡ carrierAt g n
+pub columns-same : (f g : Floor) (n : ℕ) → All (λ (i : ℕ). countOf f i ≡ countOf g i) n → carrierAt f n ≡ carrierAt g n
 unfolding carrierAt
 columns-same f g zero a = refl
 columns-same f g (suc n) a = rw (columns-same f g n (λ i l. a i (omega arith)), a n (omega arith))
@@ -75,33 +65,31 @@ module _ (f : Floor) (ws : List ℕ) (g : Floor) (vs : List ℕ) (same : SameDoc
   unfolding sheetLength wallAt
   length-same = rw (columns-same f g (f .carriers) (same .counts), same .carriers, same .walls)
 
-  -- The task of a carrier that is there is the same.
-  tasks-same : (i : ℕ) → i < f .carriers → taskOf f ws (i + 1) ≡ taskOf g vs (i + 1)
-  tasks-same = task-same (f .carriers) f ws g vs agrees
-
   responses : (i : ℕ) (views : List View) → i < f .carriers → length views ≡ i → respondOf f ws i views ≡ respondOf g vs i views
   responses i views l e = respond-same (f .carriers) f ws g vs agrees i views l (omega arith)
 
   plans : planOf f ws ≡ planOf g vs
-  plans =
-      let n = f .carriers in
-      sym (take-all n (planOf f ws) (omega (arith, planner-theorems .answers-all f ws)))
-      ∙ planner-theorems .depends-on-above n f ws g vs (omega arith) (omega (arith, same .carriers)) agrees
-      ∙ take-all n (planOf g vs) (omega (arith, planner-theorems .answers-all g vs, same .carriers))
+  plans = plans-agree f ws g vs agrees (same .carriers)
 
   line-same : (i : ℕ) (x : Answer) → answerLine f i x ≡ answerLine g i x
   unfolding answerLine
   line-same i none = refl
   line-same i (route r) = rw (same .horizon)
 
-  texts : printOf f ws ≡ printOf g vs
-  unfolding printOf routesText firstLine
-  texts =
-      ap₂ (λ (a b : List ℕ). a ++ b)
-      (rw (plans, same .carriers))
-      (lines-same _ (λ i. answerLine g i (answerAt (planOf g vs) i)) (f .carriers)
+  first-same : firstLine f (failingOf (planOf f ws)) ≡ firstLine g (failingOf (planOf g vs))
+  unfolding firstLine
+  first-same = rw (plans, same .carriers)
+
+  others-same : linesOf (λ i. answerLine f i (answerAt (planOf f ws) i)) (f .carriers) ≡
+      linesOf (λ i. answerLine g i (answerAt (planOf g vs) i)) (g .carriers)
+  others-same =
+      lines-same (λ i. answerLine f i (answerAt (planOf f ws) i)) (λ i. answerLine g i (answerAt (planOf g vs) i)) (f .carriers)
       (λ i l. line-same i (answerAt (planOf f ws) i) ∙ ap (λ (xs : List Answer). answerLine g i (answerAt xs i)) plans)
-      ∙ ap (linesOf (λ i. answerLine g i (answerAt (planOf g vs) i))) (same .carriers))
+      ∙ ap (λ (n : ℕ). linesOf (λ i. answerLine g i (answerAt (planOf g vs) i)) n) (same .carriers)
+
+  texts : printOf f ws ≡ printOf g vs
+  unfolding printOf routesText
+  texts = ap₂ (λ (a b : List ℕ). a ++ b) first-same others-same
 
   module _ (checks : checkOf f ws ≡ checkOf g vs) where
     lengths : figuresFor f ≡ figuresFor g
@@ -112,28 +100,8 @@ module _ (f : Floor) (ws : List ℕ) (g : Floor) (vs : List ℕ) (same : SameDoc
     unfolding writeVerdict
     write room = rw (checks, length-same)
 
-    -- A search that is granted is for a carrier that is there.
-    requests : (i : ℕ) (m : List ℕ) → requestOf f ws i m ≡ requestOf g vs i m
-    unfolding requestOf
-    requests i m = rw (checks, same .carriers)
-
-    granted-task : (i : ℕ) (m : List ℕ) → requestOf f ws i m ≡ passed → taskOf f ws i ≡ taskOf g vs i
-    granted-task i m e =
-        let listed = request-granted f ws i m e .listed in
-        let one : i - 1 + 1 ≡ i = omega (arith, listed .0) in
-        rw one at (tasks-same (i - 1) (omega (arith, listed .0, listed .1)))
-
-    granted-views : (i : ℕ) (m : List ℕ) → requestOf f ws i m ≡ passed → seen f (viewsOf m i) ≡ seen g (viewsOf m i)
-    unfolding viewsOf
-    granted-views i m e =
-        seen-same f g (f .carriers) (records m (i - 1)) (same .horizon) (same .starts)
-        (omega (arith, records-length m (i - 1), request-granted f ws i m e .listed))
-
     search : (i : ℕ) (m : List ℕ) → searchOf f ws i m ≡ searchOf g vs i m
-    unfolding searchOf
-    search i m =
-        gives-same (requestOf f ws i m) _ _ (λ e. ap₂ best (granted-task i m e) (granted-views i m e))
-        ∙ ap (λ (v : Verdict). v gives best (taskOf g vs i) (seen g (viewsOf m i))) (requests i m)
+    search i m = searches-agree f ws g vs agrees (same .carriers) checks i m
 
     plan-verdict : (room : ℕ) → planVerdict f ws room ≡ planVerdict g vs room
     unfolding planVerdict

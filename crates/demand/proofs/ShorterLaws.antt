@@ -8,7 +8,7 @@ use lib.Seq.{take-all, take-suc, take-at, drop-at}
 use borrow.Author.Tests.{eq-eqb, ne-eqb}
 use Rattle.laws.specs.Verdict.{passed, All}
 use Rattle.floor.specs.declared.Floor.{Floor}
-use Rattle.floor.specs.Checks.{checkOf, startOf, countOf, docksOf, dockOf}
+use Rattle.floor.specs.Checks.{checkOf, startOf, countOf, docksOf, dockOf, isDock}
 use Rattle.floor.specs.Accepted.{FieldWithin}
 use Rattle.floor.proofs.Theorems.{theorems as floor-theorems}
 use Rattle.route.specs.Route.{Answer, none, route}
@@ -46,7 +46,7 @@ module _ (f : Floor) (ws : List ℕ) (ok : checkOf f ws ≡ passed) (more : 1 < 
       })
 
   agrees : AgreeUpTo (f .carriers - 1) f ws (dropLast f) ws
-  unfolding dropLast startOf countOf docksOf dockOf
+  unfolding dropLast startOf countOf docksOf isDock
   agrees =
       record {
         width = refl;
@@ -55,7 +55,7 @@ module _ (f : Floor) (ws : List ℕ) (ok : checkOf f ws ≡ passed) (more : 1 < 
         walls = refl;
         cells = λ j l. refl;
         starts = λ i l. refl;
-        goals = λ i l. refl;
+        docks = λ i l c. refl;
       }
 
   pub drop-answers : planOf (dropLast f) ws ≡ take (f .carriers - 1) (planOf f ws)

@@ -1,5 +1,5 @@
 -- The sheet and the printed routes of a floor without its last carrier (document 02, slip 5).
-use Prim.Native.Nat.{ℕ, _+_, _*_, _-_, _≤_, _<_}
+use Prim.Native.Nat.{ℕ, suc, _+_, _-_, _≤_, _<_}
 use native.Mathlib.Omega.{arith}
 use mathlib.Core.List.{List, [], _∷_, _++_}
 use mathlib.Core.Path.{_≡_, refl, sym, _∙_, ap}
@@ -8,7 +8,7 @@ use lib.Seq.{take-at, getD-take}
 use Rattle.laws.specs.Verdict.{passed, whenPassed}
 use Rattle.laws.proofs.VerdictLaws.{then-passed, then-both}
 use Rattle.floor.specs.declared.Floor.{Floor}
-use Rattle.floor.specs.Checks.{checkOf, startOf, goalOf, roomOf}
+use Rattle.floor.specs.Checks.{checkOf, startOf, countOf, docksOf, dockOf, roomOf}
 use Rattle.floor.specs.Accepted.{SameFloor}
 use Rattle.floor.proofs.LimitsLaws.{room-passed}
 use Rattle.route.specs.Route.{Answer, none, route}
@@ -16,7 +16,9 @@ use Rattle.fields.specs.Field.{fieldOf}
 use Rattle.sheet.specs.Text.{lineOf, linesOf, headLine, carrierLine, wallLines, sheetOf, sheetLength, wallAt, carrierAt}
 use Rattle.sheet.specs.Values.{floorAt, wallsAt}
 use Rattle.sheet.specs.Read.{sheetVerdict, readVerdict, readFloor, readWalls, writeSheet}
-use Rattle.sheet.proofs.LineLaws.{field-length, carrier-length, lines-length}
+use Rattle.sheet.proofs.LineLaws.{field-length, lines-span}
+use Rattle.sheet.proofs.DockLaws.{carriers-behind}
+use Rattle.sheet.proofs.FloorLines.{columns-same as columns-of-sheet}
 use Rattle.sheet.proofs.LinesText.{lines-same}
 use Rattle.sheet.proofs.FormLaws.{walls-length}
 use Rattle.sheet.proofs.Theorems.{theorems as sheet-theorems}
@@ -26,6 +28,7 @@ use Rattle.printing.specs.Text.{answerLine, firstLine, routesText}
 use Rattle.printing.specs.Print.{printOf, routesOf}
 use Rattle.printing.proofs.Theorems.{theorems as printing-theorems}
 use Rattle.demand.specs.Shorter.{dropLast, withoutLast, LastLineGone, Shortened, ShortenedSheet}
+use Rattle.demand.proofs.SameFloorLaws.{columns-same}
 use Rattle.demand.proofs.RoundTripLaws.{roomy, written, other-walls, walls-behind}
 use Rattle.demand.proofs.ShorterLaws.{lines-last, field-changed, drop-accepted, drop-answers, drop-failing}
 
@@ -41,20 +44,44 @@ head-parts : (f : Floor) → headLine f ≡ leading f ++ (fieldOf (f .carriers) 
 unfolding headLine lineOf fieldOf
 head-parts f = refl
 
+-- The other carriers' lines are the same, and begin at the same columns.
+line-kept : (f : Floor) (i : ℕ) → carrierLine (dropLast f) i ≡ carrierLine f i
+unfolding carrierLine startOf countOf docksOf dockOf dropLast
+line-kept f i = refl
+
+columns-kept : (f : Floor) (k : ℕ) → carrierAt (dropLast f) k ≡ carrierAt f k
+unfolding countOf dropLast
+columns-kept f k = columns-same (dropLast f) f k (λ i l. refl)
+
 module _ (f : Floor) (ws : List ℕ) (more : 1 < f .carriers) where
-  -- The sheet without the last carrier is the sheet of the floor without it.
-  pub sheet-shorter : withoutLast (f .carriers) (sheetOf f ws) ≡ sheetOf (dropLast f) ws
-  unfolding withoutLast sheetOf carrierAt dropLast carrierLine startOf goalOf
-  sheet-shorter =
+  -- The lines of the first k carriers, behind line 1.
+  span : (k : ℕ) → 31 + length (linesOf (carrierLine f) k) ≡ carrierAt f k
+  unfolding carrierAt
+  span k = lines-span (carrierLine f) (carrierAt f) (carriers-behind f) k
+
+  -- The text cut at the last carrier's line is the sheet of the floor without it.
+  cut-there : (a b : ℕ) → a ≡ carrierAt f (f .carriers - 1) → b ≡ carrierAt f (f .carriers) →
+      (take 20 (sheetOf f ws) ++ (fieldOf (f .carriers - 1) ++ (take (a - 25) (drop 25 (sheetOf f ws)) ++ drop b (sheetOf f ws))))
+      ≡ sheetOf (dropLast f) ws
+  unfolding sheetOf dropLast
+  cut-there a b ea eb =
       let n = f .carriers in
       let line = carrierLine f in
       let walls = fieldOf (f .walls) ++ (10 ∷ []) in
       let six : length walls ≡ 6 = length-append (fieldOf (f .walls)) (10 ∷ []) ∙ omega (arith, field-length (f .walls)) in
-      let size : length (walls ++ linesOf line (n - 1)) ≡ 31 + 21 * (n - 1) - 25 =
-      length-append walls (linesOf line (n - 1)) ∙ omega (arith, lines-length line 21 (carrier-length f) (n - 1)) in
-      rw (head-parts f, head-parts (dropLast f), lines-last line n (omega arith))
+      let size : length (walls ++ linesOf line (n - 1)) ≡ a - 25 =
+      length-append walls (linesOf line (n - 1)) ∙ omega (arith, span (n - 1)) in
+      let last : length (linesOf line n) ≡ length (linesOf line (n - 1)) + length (line (n - 1)) =
+      ap length (lines-last line n (omega arith)) ∙ length-append (linesOf line (n - 1)) (line (n - 1)) in
+      rw (head-parts f, head-parts (dropLast f), lines-last line n (omega arith), lines-same (carrierLine (dropLast f)) line (n - 1) (λ i l. line-kept f i))
       (field-changed (leading f) (fieldOf n) (fieldOf (n - 1)) walls (linesOf line (n - 1)) (line (n - 1)) (wallLines f ws)
-      (31 + 21 * (n - 1) - 25) (31 + 21 * n) (leading-length f) (field-length n) size (omega (arith, carrier-length f (n - 1))))
+      (a - 25) b (leading-length f) (field-length n) size (omega (arith, span (n - 1), span n)))
+
+  -- The sheet without the last carrier is the sheet of the floor without it.
+  pub sheet-shorter : checkOf f ws ≡ passed → withoutLast (f .carriers) (sheetOf f ws) ≡ sheetOf (dropLast f) ws
+  unfolding withoutLast
+  sheet-shorter ok =
+      cut-there _ _ (columns-of-sheet f ws ok (f .carriers - 1) (omega arith)) (columns-of-sheet f ws ok (f .carriers) (omega arith))
 
 module _ (f : Floor) (ws : List ℕ) (ok : checkOf f ws ≡ passed) (more : 1 < f .carriers) where
   -- A sheet in the front of enough memory.
@@ -66,18 +93,21 @@ module _ (f : Floor) (ws : List ℕ) (ok : checkOf f ws ≡ passed) (more : 1 < 
 
   shorter-length : sheetLength (dropLast f) ≤ sheetLength f
   unfolding sheetLength wallAt dropLast
-  shorter-length = omega arith
+  shorter-length =
+      let next : suc (f .carriers - 1) ≡ f .carriers = omega arith in
+      let last = rw next at (carriers-behind f (f .carriers - 1)) in
+      omega (arith, columns-kept f (f .carriers - 1), last)
 
   sheet-written : (old : List ℕ) → sheetLength f ≤ length old →
       take (sheetLength (dropLast f)) (writeSheet (dropLast f) ws old) ≡ withoutLast (f .carriers) (take (sheetLength f) (writeSheet f ws old))
   sheet-written old l =
       front-written (dropLast f) (drop-accepted f ws ok more) old (omega (arith, shorter-length))
-      ∙ sym (sheet-shorter f ws more)
+      ∙ sym (sheet-shorter f ws more ok)
       ∙ ap (withoutLast (f .carriers)) (sym (front-written f ok old l))
 
   -- The other carriers' lines.
   line-same : (i : ℕ) (a : Answer) → answerLine (dropLast f) i a ≡ answerLine f i a
-  unfolding answerLine dropLast goalOf
+  unfolding answerLine dropLast
   line-same i none = refl
   line-same i (route r) = refl
 
@@ -128,7 +158,7 @@ module _ (text lent : List ℕ) (read : readVerdict text (length lent) ≡ passe
   floor-good = sheet-theorems .read-accepted text (good .0)
 
   short-is : short ≡ sheetOf (dropLast f) ws
-  short-is = ap (withoutLast (f .carriers)) (sym (sheet-theorems .sheet-returns text (good .0))) ∙ sheet-shorter f ws more
+  short-is = ap (withoutLast (f .carriers)) (sym (sheet-theorems .sheet-returns text (good .0))) ∙ sheet-shorter f ws more floor-good
 
   short-good : sheetVerdict short ≡ passed
   short-good = rw short-is (sheet-theorems .has-sheet (dropLast f) ws (drop-accepted f ws floor-good more))

@@ -8,15 +8,11 @@ use mathlib.Core.Path.{_≡_}
 use lib.ListN.{length, getD, take}
 use Rattle.laws.specs.Verdict.{passed, refused, value}
 use Rattle.floor.specs.declared.Floor.{Floor}
-use Rattle.floor.specs.Checks.{checkOf, startOf, isDock}
-use Rattle.floor.specs.Accepted.{Absent, Lent, SameFloor, SameDocks}
-use Rattle.floor.specs.OneDock.{Earlier, earlierCheck, withOneDock}
+use Rattle.floor.specs.Checks.{checkOf, startOf}
+use Rattle.floor.specs.Accepted.{Absent, Lent, SameFloor}
 use Rattle.route.specs.Route.{cellAt, Answer, none, route, View, unheard, heard, Task}
 use Rattle.route.specs.Best.{Arrives, Admissible, Best}
 use Rattle.route.specs.Arrival.{arrivalOf}
-use Rattle.route.specs.Search.{best}
-use Rattle.route.specs.Docks.{alone}
-use Rattle.route.specs.OneGoal.{BestTo}
 use Rattle.route.specs.FirstConflict.{free}
 use Rattle.route.specs.ConflictTest.{firstConflict, TestedFor}
 use Rattle.records.specs.Records.{records, viewsOf}
@@ -44,12 +40,6 @@ use Rattle.blockers.specs.Entry.{blockersOutcome, blockersMemory}
 pub record Prioritized (f : Floor) (ws : List ℕ) (xs : List Answer) : Type 0 where
   pub every : length xs ≡ f .carriers
   pub best : (k : ℕ) → k < f .carriers → Best (taskOf f ws (k + 1)) (seen f (map heard (take k xs))) (answerAt xs k)
-
--- The same on document 01's floor, by its letter: each carrier in turn has the best answer to its one goal.
-pub record EarlierPlan (e : Earlier) (ws : List ℕ) (xs : List Answer) : Type 0 where
-  pub every : length xs ≡ e .carriers
-  pub best : (k : ℕ) → k < e .carriers →
-      BestTo (getD (e .goals) k 0) (taskOf (withOneDock e) ws (k + 1)) (seen (withOneDock e) (map heard (take k xs))) (answerAt xs k)
 
 -- Two floors get the same answers from every entry, and leave the same in lent memory, but for the sheet that is written.
 pub record SameOutcomes (f : Floor) (ws : List ℕ) (g : Floor) (vs : List ℕ) : Type 0 where
@@ -122,21 +112,6 @@ pub record Demand2 : Type 0 where
       routesOf text ≡ routesText (floorAt text) (planOf (floorAt text) (wallsAt text))
   pub printed-refusal : (text : List ℕ) (k p : ℕ) → sheetVerdict text ≡ refused k p → routesOf text ≡ refusalLine k p
   pub arrival-exactly : (H : ℕ) (r : List ℕ) (a : ℕ) → Arrives H r a ↔ (a ≡ arrivalOf r H)
-  -- With several docks (document 02, slip 10) the answer is none exactly if it is none with each dock alone. A route that is answered ends
-  -- at a dock, is the answer with that dock alone, and arrives no later than the answer with any other.
-  pub docks-none : (f : Floor) (ws : List ℕ) (i : ℕ) (vs : List View) → checkOf f ws ≡ passed →
-      (respondOf f ws i vs ≡ none) ↔ ((c : ℕ) → isDock f i c ≡ true → best (alone (taskOf f ws (i + 1)) c) (seen f vs) ≡ none)
-  pub docks-own : (f : Floor) (ws : List ℕ) (i : ℕ) (vs : List View) (r : List ℕ) → checkOf f ws ≡ passed → respondOf f ws i vs ≡ route r →
-      (isDock f i (cellAt r (f .horizon)) ≡ true) × (best (alone (taskOf f ws (i + 1)) (cellAt r (f .horizon))) (seen f vs) ≡ route r)
-  pub docks-earliest : (f : Floor) (ws : List ℕ) (i : ℕ) (vs : List View) (r q : List ℕ) (c : ℕ) → checkOf f ws ≡ passed →
-      respondOf f ws i vs ≡ route r → isDock f i c ≡ true → best (alone (taskOf f ws (i + 1)) c) (seen f vs) ≡ route q →
-      arrivalOf r (f .horizon) ≤ arrivalOf q (f .horizon)
-  -- The order of a carrier's docks changes nothing but the sheet that is written.
-  pub docks-order : (f g : Floor) (ws : List ℕ) → SameDocks f g → SameOutcomes f ws g ws
-  -- With one dock a carrier, a floor that document 01 accepts is accepted and has document 01's answers.
-  pub one-dock-accepted : (e : Earlier) (ws : List ℕ) → earlierCheck e ws ≡ passed → checkOf (withOneDock e) ws ≡ passed
-  pub one-dock-plan : (e : Earlier) (ws : List ℕ) (xs : List Answer) → earlierCheck e ws ≡ passed →
-      EarlierPlan e ws xs ↔ (xs ≡ planOf (withOneDock e) ws)
   -- A floor written and read is the same floor; a sheet read and written is the same sheet; memory may be longer than needed.
   pub floor-returns : (f : Floor) (ws old lent : List ℕ) → checkOf f ws ≡ passed → sheetLength f ≤ length old → f .walls ≤ length lent →
       SameFloor f ws (readFloor (take (sheetLength f) (writeSheet f ws old)) (length lent))

@@ -2,7 +2,7 @@
 use Prim.Native.Nat.{ℕ, suc, _*_, _^_, _≤_, _<_}
 use native.Mathlib.Omega.{arith}
 use native.Mathlib.Nat.{pow-le-pow-right}
-use mathlib.Core.Path.{_≡_, refl, sym, ap, _∙_}
+use mathlib.Core.Path.{_≡_, sym, ap, _∙_}
 use mathlib.Core.List.{List, _++_}
 use mathlib.Core.Logic.{⊎-elim}
 use borrow.Author.Tests.{le-leb}
@@ -33,12 +33,9 @@ use Rattle.trial.specs.Report.{numbersOf, reportSize}
 use Rattle.trial.specs.Entry.{trialVerdict, trialOf, triedOutcome, trialOutcome, reportTried}
 use Rattle.trial.proofs.ReportLaws.{numbers-length}
 use Rattle.trial.proofs.Theorems.{theorems as trial-theorems}
-use Rattle.sheet.specs.Values.{floorAt, wallsAt}
-use Rattle.sheet.specs.Read.{sheetVerdict}
-use Rattle.printing.proofs.PrintLaws.{WasRead, refusal-length}
-use Rattle.io.specs.Counts.{Counts}
-use Rattle.desk.specs.Text.{orderVerdict, playedText, trialText}
-use Rattle.reporting.proofs.TextLaws.{counted}
+use Rattle.printing.proofs.PrintLaws.{refusal-length}
+use Rattle.desk.specs.Text.{orderVerdict, playedText}
+use Rattle.reporting.proofs.PrintedLaws.{Within}
 
 -- The largest figures.
 ceiling-most : (n : ℕ) → n ≤ 8 → ceiling n ≤ 502
@@ -147,26 +144,5 @@ either-short f ws ok order seed = go (orderVerdict order)
         text-short f ws ok order (numbersOf es) (omega (arith, numbers-length es, report-short f ws ok order seed))
     go (refused k p) = omega (arith, refusal-length k p)
 
--- What is printed for a sheet, where it was read and where it was refused.
-module _ (text old new : List ℕ) (order seed n : ℕ) (enough : 13217 ≤ length old) where
-  pub read-printed : (f : Floor) (walls : List ℕ) → WasRead text f walls
-      → TextPut (orRefusal (orderVerdict order) (playedText f (take (f .walls) walls) order seed)) old new n
-      → Counts n new × (take n new ≡ trialText text order seed)
-  unfolding trialText
-  read-printed f walls r t =
-      let same : orRefusal (orderVerdict order) (playedText f (take (f .walls) walls) order seed)
-      ≡ orRefusal (sheetVerdict text then orderVerdict order) (playedText (floorAt text) (wallsAt text) order seed) =
-      rw (then-passed {w = orderVerdict order} (r .accepted), r .front, r .floor) refl
-      in
-      let fits : length (orRefusal (orderVerdict order) (playedText f (take (f .walls) walls) order seed)) ≤ length old =
-      omega (arith, either-short f (take (f .walls) walls) (r .checked) order seed)
-      in
-      let c = counted _ _ _ _ t fits in
-      (c .0, c .1 ∙ same)
-
-  pub refused-printed : (k p : ℕ) → sheetVerdict text ≡ refused k p → TextPut (refusalLine k p) old new n
-      → Counts n new × (take n new ≡ trialText text order seed)
-  unfolding trialText orRefusal _then_
-  refused-printed k p h t =
-      let c = counted _ _ _ _ t (omega (arith, refusal-length k p)) in
-      (c .0, rw h (c .1))
+pub played-within : (order seed : ℕ) → Within (λ f ws. orRefusal (orderVerdict order) (playedText f ws order seed)) 13217
+played-within order seed = record { short = λ f ws ok. either-short f ws ok order seed }

@@ -69,7 +69,7 @@ fn trial_usage() {
     io::write_all(STDERR_FILENO, b"desk: trial ORDER [SEED] < sheet\n");
 }
 
-// Plays the trial of the sheet from standard input, and prints its text. The longest sheet has 11,452 bytes; of a longer input the
+// Plays the trial of the sheet from standard input, and prints its text. The longest sheet has 11,732 bytes; of a longer input the
 // first 65,536 bytes hold the first extra byte.
 fn play(order: u16, seed: u32) {
     let mut space = io::large_buffer();

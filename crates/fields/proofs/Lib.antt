@@ -1,7 +1,13 @@
--- Laws of a chain of tests, of stores one behind the other, and of the walks over the reader.
+-- Laws of a chain of tests, of stores one behind the other, of columns, and of the walks over the reader.
 pub mod TestLaws
 pub mod StoreLaws
+pub mod ReachedLaws
+pub mod CountLaws
 pub mod CallLaws
 pub mod ReaderCalls
 pub mod ThinLaws
 pub mod ReaderLaws
+pub mod ColumnLaws
+pub mod LinesParts
+pub mod LinesLoop
+pub mod LinesLaws

@@ -1,54 +1,54 @@
--- The loop over a line's fields: how far the reader has come, and what is known there.
-use Prim.Native.Nat.{ℕ, _+_, _*_, _-_, _≤_, _<_}
+-- The loop over lines one behind the other: how far the reader has come, and what is known there.
+use Prim.Native.Nat.{ℕ, suc, _+_, _*_, _-_, _≤_, _<_}
 use native.Mathlib.Omega.{arith}
-use mathlib.Core.Path.{_≡_, refl}
-use mathlib.Core.List.{List}
+use native.Mathlib.Numerals.{add-one}
+use mathlib.Core.Path.{_≡_, refl, sym, _∙_}
 use Rattle.floor.specs.declared.Refusal.{Refusal}
-use Rattle.floor.specs.declared.Checked.{Checked}
-use Rattle.floor.specs.declared.Checked.the-variants.{Passed, Refused}
-use Rattle.floor.specs.Answers.{verdictOf}
-use Rattle.laws.specs.Verdict.{passed, _then_, inTurn}
-use Rattle.floor.proofs.AnswersLaws.{ends-at, turn-ends, passes}
-use Rattle.laws.proofs.VerdictLaws.{turn-none, turn-more, turn-end}
-use Rattle.fields.specs.Form.{fieldForm, newlineForm, lineForm}
+use Rattle.laws.specs.Verdict.{Verdict, passed, refused, inTurn}
+use Rattle.laws.proofs.VerdictLaws.{turn-none, turn-more, turn-stop, turn-end}
+use Rattle.fields.specs.declared.slot.Reached.{Reached}
+use Rattle.fields.specs.declared.slot.Reached.the-variants.{At, Refused}
+use Rattle.fields.specs.Reached.{reachedOf}
+use Rattle.fields.specs.Form.{columnPast, linesForm}
+use Rattle.fields.proofs.ReachedLaws.{reaches, turned-away}
 
--- The reader of a line of m fields that begins at a column: it is past the first i fields, which are in good form.
-pub record Along (text : List ℕ) (at m i column : ℕ) : Type 0 where
+-- The reader of m lines from a column on: it is past the first i lines, which are in good form.
+pub record Along (form : ℕ → Verdict) (past : ℕ → ℕ) (at m i column : ℕ) : Type 0 where
   pub within : i ≤ m
-  pub reached : column ≡ at + 5 * i
-  pub good : inTurn (λ (k : ℕ). fieldForm text (at + 5 * k)) i ≡ passed
+  pub arrived : column ≡ columnPast past at i
+  pub good : linesForm form past at i ≡ passed
 
-module _ (text : List ℕ) (at m : ℕ) where
-  -- It begins at the line's first column.
-  pub along-start : Along text at m 0 at
-  along-start = record { within = omega arith; reached = omega arith; good = turn-none _ }
+module _ (form : ℕ → Verdict) (past : ℕ → ℕ) (at m : ℕ) where
+  -- It begins at the first line's first column.
+  pub along-start : Along form past at m 0 at
+  unfolding columnPast linesForm
+  along-start = record { within = omega arith; arrived = refl; good = turn-none _ }
 
-  module _ (i column : ℕ) (h : Along text at m i column) where
-    -- The column is a small number.
-    pub along-low : (at ≤ 60000) × (m ≤ 6) → column ≤ 65536
-    along-low low = omega (arith, h .within, h .reached, low .0, low .1)
+  module _ (i column : ℕ) (h : Along form past at m i column) where
+    -- Past a line in good form it is one line further.
+    pub along-more : (c : ℕ) → i < m → At c ≡ reachedOf (form column) (past column) → Along form past at m (i + 1) c
+    unfolding columnPast linesForm
+    along-more c l e =
+        let r = reaches (form column) (past column) e refl in
+        record {
+          within = omega arith;
+          arrived = rw (add-one, ← h .arrived) (r .1);
+          good = turn-more _ i (h .good) (rw (h .arrived) at (r .0));
+        }
 
-    -- What is said of the next field, said of field i of the line.
-    next-field : (a : Checked) → verdictOf a ≡ fieldForm text column → verdictOf a ≡ fieldForm text (at + 5 * i)
-    next-field a e = rw (h .reached) at e
+    -- The refusal of a line is the answer.
+    pub along-stop : (x : Refusal) → i < m → Refused x ≡ reachedOf (form column) (past column)
+        → Refused x ≡ reachedOf (linesForm form past at m) (columnPast past at m)
+    unfolding linesForm reachedOf
+    along-stop x l e =
+        let r = turned-away {x = x} (form column) (past column) e refl in
+        rw (turn-stop (λ (k : ℕ). form (columnPast past at k)) i m (x .number) (x .place) l (h .good) (rw (h .arrived) at r)) refl
 
-    -- Past a field in good form it is one field further.
-    pub along-more : i < m → verdictOf Passed ≡ fieldForm text column → Along text at m (i + 1) (column + 5)
-    along-more l e = record {
-      within = omega arith;
-      reached = omega (arith, h .reached);
-      good = turn-more _ i (h .good) (passes {a = Passed} (next-field Passed e) refl);
-    }
-
-    -- The refusal of a field is the line's answer.
-    pub along-stop : (x : Refusal) → i < m → verdictOf (Refused x) ≡ fieldForm text column
-        → verdictOf (Refused x) ≡ lineForm text at m
-    unfolding lineForm
-    along-stop x l e = ends-at _ (turn-ends _ i m l (h .good) (next-field (Refused x) e) refl) refl
-
-    -- Past the last field the newline's answer is the line's.
-    pub along-end : (a : Checked) → m ≤ i → verdictOf a ≡ newlineForm text column → verdictOf a ≡ lineForm text at m
-    unfolding lineForm _then_
+    -- Past the last line the column is the answer.
+    pub along-end : (a : Reached) → m ≤ i → a ≡ At column → a ≡ reachedOf (linesForm form past at m) (columnPast past at m)
+    unfolding reachedOf
     along-end a l e =
-        let last : column ≡ at + 5 * m = omega (arith, h .within, h .reached, l) in
-        rw (← turn-end _ i m (h .within) l (h .good)) (rw last at e)
+        let last : i ≡ m = omega (arith, h .within, l) in
+        let good = rw last at (h .good) in
+        let arrived = rw last at (h .arrived) in
+        rw (good, ← arrived) e

@@ -40,12 +40,12 @@ use denote.Triple.Entry.{onEntry}
 use denote.Triple.Spec.{Meets}
 use denote.Triple.Statement.{Contract, Triple}
 use denote.Triple.Walked.{says, Stays, stay-none, walkOf, goes-none, Walks, ends-at, walked, walk-meets}
-use Rattle.floor.specs.declared.Checked.{Checked}
-use Rattle.floor.proofs.Checked as S
-use Rattle.floor.proofs.Checked.Laws as S′
 use Rattle.fields.specs.declared.reader.Reader.{Reader}
+use Rattle.fields.specs.declared.slot.Reached.{Reached}
 use Rattle.fields.proofs.CallLaws.{shaped, stating, stated, to, calls-stated}
 use Rattle.fields.proofs.ReaderCalls.{B, sliceParams, sliceKept, readerParams, readerKept}
+use Rattle.fields.proofs.slot.Reached as S
+use Rattle.fields.proofs.slot.Reached.Laws as S′
 use Rattle.fields.proofs.reader.Reader as T
 use Rattle.fields.proofs.reader.Reader.Laws as T′
 
@@ -73,7 +73,7 @@ stayed = (stay-none B yes, tt)
 
 -- What is asked of a text and a column, and what is stated of the answer.
 module _ {M : Type 1} (𝓤 : URA M) (H : Heap 𝓤) (A : Atoms 𝓤) (W : Given 𝓤 H A)
-    (P : RefT (List ℕ) → ℕ → SProp 𝓤) (Q : RefT (List ℕ) → ℕ → Checked → Type 0) where
+    (P : RefT (List ℕ) → ℕ → SProp 𝓤) (Q : RefT (List ℕ) → ℕ → Reached → Type 0) where
   -- the callee's contract, and the thin function's clauses
   abbrev pub Callee : Contract 𝓤
   Callee = stated 𝓤 sliceParams sliceKept (λ _. S.the-row) (λ κs a. P (a .0) (a .1 .0)) (λ κs a. Q (a .0) (a .1 .0)) H A
@@ -135,7 +135,7 @@ module _ {M : Type 1} (𝓤 : URA M) (H : Heap 𝓤) (A : Atoms 𝓤) (W : Given
         move ! (1 ∷ []) $ drop ! $ nothing ! $ owned ! usize (Is usize) (uint-makes 𝓤 H A W w64) n _ (refl, fits) $ fjoin ! $
         move ! (1 ∷ 0 ∷ []) $ fjoin ! $ move ! (2 ∷ 0 ∷ []) $ join ! $ move ! (0 ∷ 2 ∷ []) $ join ! $ frame ! $ done !)
 
-    exits : (r : Checked) (u : Val) → Q s n r → ent 𝓤 (⋆ 𝓤 H A (‵ (S.the-row .own r (u ∷ [])) ∷ Tok ∷ ‵ Own ∷ [])) (Post u)
+    exits : (r : Reached) (u : Val) → Q s n r → ent 𝓤 (⋆ 𝓤 H A (‵ (S.the-row .own r (u ∷ [])) ∷ Tok ∷ ‵ Own ∷ [])) (Post u)
     exits r u e =
         qed W (‵ (S.the-row .own r (u ∷ [])) ∷ Tok ∷ ‵ Own ∷ []) ∵
         suffices ! _

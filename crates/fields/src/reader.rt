@@ -1,12 +1,14 @@
-// The reader of a sheet: the text together with its next column (document 01, 'The sheet'). A struct that holds a slice is
-// proved by a walk of each function over it, so these are few and thin: each calls one that takes the slice and the number.
-// `line_form`, which has plain parameters, is what everybody else calls.
+// The reader of a sheet: the text together with its next column (document 01, 'The sheet'). It goes along the sheet from line to line
+// and hands back the column that it reached. A struct that holds a slice is proved by a walk of each function over it, so these are few
+// and thin: each calls one that takes the slice and the number. `counted_lines` and `pair_lines`, which have plain parameters, are what
+// everybody else calls.
 ghost use mathlib.Core.Path.{_≡_};
-ghost use Prim.Native.Nat.{_+_, _≤_};
-ghost use Rattle.floor.specs.Answers.{verdictOf};
-ghost use Rattle.fields.specs.Form.{fieldForm, newlineForm, lineForm};
+ghost use Prim.Native.Nat.{_+_, _*_, _≤_};
+ghost use Rattle.fields.specs.Form.{lineForm, countedForm, pastCounted, pastPair, columnPast, linesForm};
+ghost use Rattle.fields.specs.Reached.{reachedOf};
+use crate::line;
 use crate::slot;
-use floor::Checked;
+use crate::slot::Reached;
 
 // A text and the column that is read next.
 pub struct Reader<'a> {
@@ -15,52 +17,79 @@ pub struct Reader<'a> {
 }
 
 // The reader of a text, from a column on.
-fn begin<'a>(text: &'a [u8], column: usize) -> Reader<'a>
+pub fn begin<'a>(text: &'a [u8], column: usize) -> Reader<'a>
     ensures { λ r. ⌜ (r .text ≡ text .entry) × (r .column ≡ column) ⌝ }
 {
     Reader { text, column }
 }
 
-// The form of the field that comes next.
-fn field<'a>(r: Reader<'a>) -> Checked
-    requires { ⌜ r .column ≤ 65536 ⌝ }
-    ensures { λ c. ⌜ verdictOf c ≡ fieldForm (now (r .entry .text)) (r .entry .column) ⌝ }
-{
-    slot::field_form(r.text, r.column)
-}
-
-// The reader past that field.
-fn past_field<'a>(r: Reader<'a>) -> Reader<'a>
-    requires { ⌜ r .column ≤ 65536 ⌝ }
-    ensures { λ q. ⌜ (q .text ≡ r .entry .text) × (q .column ≡ r .entry .column + 5) ⌝ }
+// The reader at another column.
+pub fn moved<'a>(r: Reader<'a>, column: usize) -> Reader<'a>
+    ensures { λ q. ⌜ (q .text ≡ r .entry .text) × (q .column ≡ column) ⌝ }
 {
     Reader {
         text: r.text,
-        column: r.column + 5,
+        column,
     }
 }
 
-// The newline that comes next.
-fn newline<'a>(r: Reader<'a>) -> Checked
-    ensures { λ c. ⌜ verdictOf c ≡ newlineForm (now (r .entry .text)) (r .entry .column) ⌝ }
+// The column that the reader reached.
+pub fn reached<'a>(r: Reader<'a>) -> Reached
+    ensures { λ c. ⌜ c ≡ Reached.At (r .entry .column) ⌝ }
 {
-    slot::newline_form(r.text, r.column)
+    slot::here(r.text, r.column)
 }
 
-// A line of m fields from a column on.
-pub fn line_form(text: &[u8], at: usize, m: usize) -> Checked
-    requires { ⌜ (at ≤ 60000) × (m ≤ 6) ⌝ }
-    ensures { λ r. ⌜ verdictOf r ≡ lineForm (now (text .entry)) at m ⌝ }
+// The counted line that comes next.
+pub fn counted<'a>(r: Reader<'a>) -> Reached
+    requires { ⌜ r .column ≤ 64000 ⌝ }
+    ensures { λ c. ⌜ c ≡ reachedOf (countedForm (now (r .entry .text)) (r .entry .column))
+        (pastCounted (now (r .entry .text)) (r .entry .column)) ⌝ }
+{
+    line::counted_form(r.text, r.column)
+}
+
+// The line of two fields that comes next.
+pub fn pair<'a>(r: Reader<'a>) -> Reached
+    requires { ⌜ r .column ≤ 65000 ⌝ }
+    ensures { λ c. ⌜ c ≡ reachedOf (lineForm (now (r .entry .text)) (r .entry .column) 2) (pastPair (r .entry .column)) ⌝ }
+{
+    line::pair_form(r.text, r.column)
+}
+
+// n counted lines from a column on, one behind the other.
+pub fn counted_lines(text: &[u8], at: usize, n: usize) -> Reached
+    requires { ⌜ (at ≤ 60000) × (n ≤ 8) ⌝ }
+    ensures { λ r. ⌜ r ≡ reachedOf (linesForm (countedForm (now (text .entry))) (pastCounted (now (text .entry))) at n)
+        (columnPast (pastCounted (now (text .entry))) at n) ⌝ }
 {
     let mut r = begin(text, at);
     let mut i: usize = 0;
-    while i < m {
-        let answer = field(r);
-        let Checked::Passed = answer else {
-            return answer;
+    while i < n {
+        let step = counted(r);
+        let Reached::At(column) = step else {
+            return step;
         };
-        r = past_field(r);
+        r = moved(r, column);
         i += 1;
     }
-    newline(r)
+    reached(r)
+}
+
+// k lines of two fields from a column on, one behind the other.
+pub fn pair_lines(text: &[u8], at: usize, k: usize) -> Reached
+    requires { ⌜ (at ≤ 50000) × (k ≤ 1023) ⌝ }
+    ensures { λ r. ⌜ r ≡ reachedOf (linesForm (λ c. lineForm (now (text .entry)) c 2) pastPair at k) (columnPast pastPair at k) ⌝ }
+{
+    let mut r = begin(text, at);
+    let mut i: usize = 0;
+    while i < k {
+        let step = pair(r);
+        let Reached::At(column) = step else {
+            return step;
+        };
+        r = moved(r, column);
+        i += 1;
+    }
+    reached(r)
 }

@@ -4,25 +4,42 @@ ghost use Prim.Native.Nat.{_+_, _≤_, _<_};
 ghost use lib.ListN.{length};
 ghost use Rattle.floor.specs.Answers.{verdictOf};
 ghost use Rattle.laws.specs.Verdict.{refused};
-ghost use Rattle.fields.specs.Form.{fieldForm, newlineForm, endForm};
+ghost use Rattle.fields.specs.Form.{fieldForm, newlineForm, countForm, endForm};
+ghost use Rattle.fields.specs.Reached.{reachedOf, saidBy};
 use crate::field;
 use floor::Checked;
 use floor::Refusal;
 
+// How far a reader came: to a column, or no further than a refusal.
+pub enum Reached {
+    At(usize),
+    Refused(Refusal),
+}
+
 // Refusal 1 with a byte offset.
-fn malformed(at: usize) -> Checked
-    ensures { λ r. ⌜ verdictOf r ≡ refused 1 at ⌝ }
+fn malformed(at: usize) -> Reached
+    ensures { λ r. ⌜ r ≡ reachedOf (refused 1 at) 0 ⌝ }
 {
-    Checked::Refused(Refusal {
+    Reached::Refused(Refusal {
         number: 1,
         place: at,
     })
 }
 
-// The form of the field at a column.
-pub fn field_form(text: &[u8], at: usize) -> Checked
+// The answer without the column.
+pub fn checked(r: Reached) -> Checked
+    ensures { λ c. ⌜ verdictOf c ≡ saidBy r ⌝ }
+{
+    match r {
+        Reached::At(_) => Checked::Passed,
+        Reached::Refused(x) => Checked::Refused(x),
+    }
+}
+
+// The field at a column.
+pub fn field_form(text: &[u8], at: usize) -> Reached
     requires { ⌜ at ≤ 65536 ⌝ }
-    ensures { λ r. ⌜ verdictOf r ≡ fieldForm (now (text .entry)) at ⌝ }
+    ensures { λ r. ⌜ r ≡ reachedOf (fieldForm (now (text .entry)) at) (at + 5) ⌝ }
 {
     if text.len() < at + 5 {
         return malformed(text.len());
@@ -30,12 +47,32 @@ pub fn field_form(text: &[u8], at: usize) -> Checked
     if !field::is_field(text, at) {
         return malformed(at);
     }
-    Checked::Passed
+    Reached::At(at + 5)
+}
+
+// The field at a column, which counts 1 to 4.
+pub fn count_form(text: &[u8], at: usize) -> Reached
+    requires { ⌜ at ≤ 65536 ⌝ }
+    ensures { λ r. ⌜ r ≡ reachedOf (countForm (now (text .entry)) at) (at + 5) ⌝ }
+{
+    let form = field_form(text, at);
+    let Reached::At(_) = form else {
+        return form;
+    };
+    let v = field::number(text, at);
+    if v < 1 {
+        return malformed(at);
+    }
+    if 4 < v {
+        return malformed(at);
+    }
+    form
 }
 
 // The newline at a column.
-pub fn newline_form(text: &[u8], at: usize) -> Checked
-    ensures { λ r. ⌜ verdictOf r ≡ newlineForm (now (text .entry)) at ⌝ }
+pub fn newline_form(text: &[u8], at: usize) -> Reached
+    requires { ⌜ at ≤ 65536 ⌝ }
+    ensures { λ r. ⌜ r ≡ reachedOf (newlineForm (now (text .entry)) at) (at + 1) ⌝ }
 {
     if text.len() <= at {
         return malformed(text.len());
@@ -43,15 +80,22 @@ pub fn newline_form(text: &[u8], at: usize) -> Checked
     if text[at] != 10 {
         return malformed(at);
     }
-    Checked::Passed
+    Reached::At(at + 1)
+}
+
+// Nothing stands between a column and the next thing to read.
+pub fn here(text: &[u8], at: usize) -> Reached
+    ensures { λ r. ⌜ r ≡ Reached.At at ⌝ }
+{
+    Reached::At(at)
 }
 
 // Nothing follows the last line.
-pub fn end_form(text: &[u8], at: usize) -> Checked
-    ensures { λ r. ⌜ verdictOf r ≡ endForm (now (text .entry)) at ⌝ }
+pub fn end_form(text: &[u8], at: usize) -> Reached
+    ensures { λ r. ⌜ r ≡ reachedOf (endForm (now (text .entry)) at) at ⌝ }
 {
     if at < text.len() {
         return malformed(at);
     }
-    Checked::Passed
+    Reached::At(at)
 }

@@ -16,7 +16,7 @@ use Rattle.floor.specs.Checks.{checkOf}
 use Rattle.floor.proofs.LimitsLaws.{check-tells}
 use Rattle.route.specs.Route.{Answer, none, route}
 use Rattle.sheet.specs.Text.{sheetOf, sheetLength}
-use Rattle.sheet.specs.Values.{floorAt, wallsAt, cellsAt}
+use Rattle.sheet.specs.Values.{floorAt, wallsAt, startsAt, countsAt, docksAt}
 use Rattle.sheet.specs.Read.{writeVerdict, writeSheet}
 use Rattle.sheet.proofs.ListedLaws.{listed-length}
 use Rattle.sheet.proofs.FormLaws.{walls-length}
@@ -45,7 +45,7 @@ use Rattle.kalomivund.proofs.KeepLaws.{done-not-refused, checked-lent, 
 
 -- A record that is read has 54 numbers.
 record-size : (text : List ℕ) → length (numbersOf (floorAt text)) ≡ 54
-unfolding numbersOf floorAt cellsAt
+unfolding numbersOf floorAt startsAt countsAt docksAt
 record-size text = simp (length-append, listed-length) refl
 
 pub read-record : (text xs : List ℕ) (room : ℕ) → Lent 54 (readWord text (length xs) room) (readRecord text xs room) xs

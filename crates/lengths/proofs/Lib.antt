@@ -1,3 +1,4 @@
--- The length of a report, and the claims, proved.
+-- The lengths of a report and of a sheet, and the claims, proved.
 mod ReportLaws
+mod SheetLaws
 pub mod Theorems

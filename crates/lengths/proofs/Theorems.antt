@@ -16,7 +16,7 @@ use Rattle.sheet.specs.Refused.{RefusedSheet, head-form, rest-form, floor-row, 
 use Rattle.sheet.proofs.FormLaws.{walls-length}
 use Rattle.sheet.specs.Values.{wallsAt, floorAt}
 use lib.ListN.{length}
-use Rattle.sheet.specs.Text.{sheetLength, wallAt}
+use Rattle.sheet.specs.Text.{sheetLength}
 use Rattle.sheet.specs.Read.{sheetVerdict, readVerdict, writeVerdict}
 use Rattle.sheet.proofs.Theorems.{theorems as sheet-theorems}
 use Rattle.search.specs.Search.{requestOf}
@@ -30,6 +30,7 @@ use Rattle.trial.specs.Entry.{trialVerdict}
 use Rattle.trial.proofs.Theorems.{theorems as trial-theorems}
 use Rattle.lengths.specs.Figures.{figuresFor, lengthsOf}
 use Rattle.lengths.specs.Claims.{Claims}
+use Rattle.lengths.proofs.SheetLaws.{sheet-low}
 
 -- A record is refused with 9 only where too few walls are lent.
 record-nine : (f : Floor) (ws : List ℕ) (k p : ℕ) → f .walls ≤ length ws → RefusedWith f ws k p → k ≡ 9 → ⊥
@@ -129,12 +130,13 @@ sheet-text-room text bytes ok = (λ h. short h (decLe (textLength (floorAt text)
         absurd (omega arith)
 
 pub theorems : Claims
-unfolding figuresFor lengthsOf sheetLength wallAt textLength
+unfolding figuresFor lengthsOf textLength
 theorems =
     record {
       accepted-known = λ f ws ok. gives-passed (check-tells f ws ok .limited);
       walls-within = λ f ws ok. omega (arith, check-tells f ws ok .bounds .walls .1);
-      sheet-within = λ f ws ok. let b = check-tells f ws ok .bounds in omega (arith, b .walls .1, b .carriers .1);
+      sheet-within = λ f ws ok. omega (arith, sheet-low f ws ok);
+      sheet-longest = sheet-low;
       answers-within = λ f ws ok. omega (arith, check-tells f ws ok .bounds .carriers .1);
       text-within = λ f ws ok. omega (arith, check-tells f ws ok .bounds .carriers .1);
       state-within = λ f ws ok. layout-theorems .size-small f (check-tells f ws ok .bounds .carriers .1);

@@ -33,6 +33,8 @@ pub record Claims : Type 0 where
   pub floor-within : (f : Floor) → 2 * lengthsOf f .floor ≤ 65536
   pub figures-within : (f : Floor) → 8 * lengthsOf f .figures ≤ 65536
   pub report-within : (f : Floor) (ws : List ℕ) → checkOf f ws ≡ passed → 2 * reportSize (f .carriers) ≤ 65536
+  -- No sheet is longer than 11,732 bytes: line 1, eight carriers of four docks, 1023 walls.
+  pub sheet-longest : (f : Floor) (ws : List ℕ) → checkOf f ws ≡ passed → sheetLength f ≤ 11732
   -- Memory for answers is called too short exactly below the needed length, and so is memory for views.
   pub answers-room : (f : Floor) (ws : List ℕ) (room : ℕ) → checkOf f ws ≡ passed
       → (planVerdict f ws room ≡ refused 9 0) ↔ (room < 65 * f .carriers)

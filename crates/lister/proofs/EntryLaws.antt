@@ -2,15 +2,14 @@
 use Prim.Native.Nat.{ℕ, zero, suc, _+_, _*_, _-_, _/_, _≤_, _<_}
 use native.Mathlib.Omega.{arith}
 use native.Mathlib.Nat.{eq-or-lt-of-le}
-use mathlib.Core.Bool.{true, false}
-use mathlib.Core.List.{List, [], _∷_, _++_}
+use mathlib.Core.List.{List, [], _∷_}
 use mathlib.Core.Logic.{⊎-elim}
 use mathlib.Core.Path.{_≡_, refl, sym, _∙_, ap}
-use lib.Dec.{leb, ltb}
-use lib.ListN.{length, getD, take, drop, set}
+use lib.Dec.{leb}
+use lib.ListN.{length, getD, take, drop}
 use lib.Seq.{take-at}
 use borrow.Author.Tests.{leb-true, lt-ltb, le-ltb}
-use Rattle.laws.specs.Verdict.{Outcome, value, refusal, passed, refused, _then_, demand, _gives_, whenPassed}
+use Rattle.laws.specs.Verdict.{Outcome, value, refusal, passed, refused, _then_, demand, _gives_}
 use Rattle.laws.specs.Memory.{put}
 use Rattle.laws.proofs.PutLaws.{put-length}
 use Rattle.laws.proofs.VerdictLaws.{then-both, then-passed, demand-holds, demand-passes, gives-passed, gives-refused, when-passed, when-refused}
@@ -28,7 +27,6 @@ use Rattle.layout.specs.Places.{pairsBefore, stateSize}
 use Rattle.layout.specs.Calls.{machineOf}
 use Rattle.search.specs.Rows.{FreeRows}
 use Rattle.steps.specs.Inner.{Placed}
-use Rattle.orders.specs.Trial.{Entry}
 use Rattle.trial.specs.Report.{numbersOf, reportSize}
 use Rattle.trial.proofs.EntryLaws.{checked-carriers}
 use Rattle.trial.proofs.ReportLaws.{numbers-length}
@@ -229,18 +227,12 @@ module _ (f : Floor) (ws : List ℕ) (rank : ℕ) (m : List ℕ) (ok : smallVerd
     found-report m′ e = e ∙ sym (when-passed _ a-run)
 
 -- A refusal before 15 is the entry's.
-module _ (f : Floor) (ws : List ℕ) (rank : ℕ) (m : List ℕ) (k p : ℕ) (no : smallVerdict f ws (length m) ≡ refused k p) where
-  turned : rankVerdict f ws rank (length m) ≡ refused k p
-  unfolding rankVerdict _then_
-  turned = rw no refl
-
-  pub turned-answer : refusal k p ≡ rankOutcome f ws rank (length m)
-  unfolding rankOutcome
-  turned-answer = sym (gives-refused _ turned)
-
-  pub turned-report : m ≡ reportListed f ws rank m
-  unfolding reportListed
-  turned-report = sym (when-refused _ turned)
+pub turned-away : {k p : ℕ} (f : Floor) (ws : List ℕ) (rank : ℕ) (m : List ℕ) → smallVerdict f ws (length m) ≡ refused k p →
+    (refusal k p ≡ rankOutcome f ws rank (length m)) × (m ≡ reportListed f ws rank m)
+unfolding rankOutcome reportListed rankVerdict _then_
+turned-away {k} {p} f ws rank m e =
+    let turned : rankVerdict f ws rank (length m) ≡ refused k p = rw e refl in
+    (sym (gives-refused _ turned), sym (when-refused _ turned))
 
 -- What the report of the run of a rank requires of its line, and that it is the run.
 module _ (f : Floor) (ws : List ℕ) (rank lent : ℕ) (small : Small f ws lent) (line : List ℕ) (found : FoundLine f ws rank line) where

@@ -40,37 +40,38 @@ module _ (M : Machine) (m₀ xs : List ℕ) (b : ℕ) where
   next : (p : ℕ) → p < length xs → map askedBy (drop p xs) ≡ askedBy (getD xs p 0) ∷ map askedBy (drop (p + 1) xs)
   next p l = rw (add-one, drop-cons xs p 0 l) refl
 
+  -- The run from here on comes to z, which is the run from the next step on with r steps more.
+  goes-on : (m m′ : List ℕ) (p t r : ℕ) (z : RanIn) → length m′ ≡ length m → Running M m₀ xs b m p t →
+      runIn M m (map askedBy (drop p xs)) (b - t) ≡ z →
+      let y = runIn M m′ (map askedBy (drop (p + 1) xs)) (b - (t + r)) in
+      (z .memory ≡ y .memory) × ((z .taken ≡ r + y .taken) × (z .left ≡ y .left)) → Running M m₀ xs b m′ (p + 1) (t + r)
+  goes-on m m′ p t r z k s step same =
+      record {
+        kept = k ∙ s .kept;
+        memory = s .memory ∙ ap (λ (q : RanIn). q .memory) step ∙ same .0;
+        taken = s .taken ∙ omega (arith, same .1 .0, ap (λ (q : RanIn). q .taken) step);
+        left = s .left ∙ ap (λ (q : RanIn). q .left) step ∙ same .1 .1;
+      }
+
   -- One more step of the list, tried, which counts for r.
   pub running-more : (m m′ : List ℕ) (p t r : ℕ) → p < length xs → t < b → length m′ ≡ length m → Running M m₀ xs b m p t →
       Tried M m (askedBy (getD xs p 0)) r m′ → Running M m₀ xs b m′ (p + 1) (t + r)
   unfolding tookOne
   running-more m m′ p t r l h k s (took e one g) =
-      let a = askedBy (getD xs p 0) in
       let less : b - t ≡ suc (b - (t + 1)) = omega arith in
       let rest = map askedBy (drop (p + 1) xs) in
       let step : runIn M m (map askedBy (drop p xs)) (b - t) ≡ tookOne (runIn M m′ rest (b - (t + r))) =
-      rw (next p l, less, took-in M m a rest (b - (t + 1)) e, one, sym g) refl
+      rw (next p l, less, took-in M m (askedBy (getD xs p 0)) rest (b - (t + 1)) e, one, sym g) refl
       in
-      record {
-        kept = k ∙ s .kept;
-        memory = s .memory ∙ ap (λ (q : RanIn). q .memory) step;
-        taken = s .taken ∙ omega (arith, one, ap (λ (q : RanIn). q .taken) step);
-        left = s .left ∙ ap (λ (q : RanIn). q .left) step;
-      }
+      goes-on m m′ p t r _ k s step (refl, (omega (arith, one), refl))
   running-more m m′ p t r l h k s (skipped e none g) =
-      let a = askedBy (getD xs p 0) in
       let less : b - t ≡ suc (b - (t + 1)) = omega arith in
       let same : b - (t + r) ≡ suc (b - (t + 1)) = omega arith in
       let rest = map askedBy (drop (p + 1) xs) in
       let step : runIn M m (map askedBy (drop p xs)) (b - t) ≡ runIn M m′ rest (b - (t + r)) =
-      rw (next p l, less, skipped-in M m a rest (b - (t + 1)) e, same, sym g) refl
+      rw (next p l, less, skipped-in M m (askedBy (getD xs p 0)) rest (b - (t + 1)) e, same, sym g) refl
       in
-      record {
-        kept = k ∙ s .kept;
-        memory = s .memory ∙ ap (λ (q : RanIn). q .memory) step;
-        taken = s .taken ∙ omega (arith, none, ap (λ (q : RanIn). q .taken) step);
-        left = s .left ∙ ap (λ (q : RanIn). q .left) step;
-      }
+      goes-on m m′ p t r _ k s step (refl, (omega (arith, none), refl))
 
   -- The run reads no further: what it has come to.
   stops : (m : List ℕ) (left : Bool) (p t : ℕ) → t ≤ b → Running M m₀ xs b m p t →

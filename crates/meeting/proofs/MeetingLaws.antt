@@ -6,10 +6,9 @@ use mathlib.Core.Path.{_≡_, refl, sym, ap, _∙_}
 use mathlib.Core.List.{List, [], _∷_, _++_, append-nil}
 use borrow.Author.Tests.{le-leb, leb-true, lt-ltb, le-ltb}
 use lib.Dec.{ltb, leb}
-use lib.ListN.{length, getD, take, replicate, length-append, length-replicate}
-use Rattle.io.specs.Counts.{Counts}
+use lib.ListN.{length, getD, replicate, length-append, length-replicate}
 use Rattle.laws.specs.Memory.{put}
-use Rattle.laws.specs.Verdict.{Verdict, passed, refused, value, refusal, demand, _then_}
+use Rattle.laws.specs.Verdict.{Verdict, passed, refused, value, demand, _then_}
 use Rattle.laws.proofs.PutLaws.{put-none}
 use Rattle.laws.proofs.Tests.{and-fst, and-snd}
 use Rattle.laws.proofs.VerdictLaws.{then-passed, then-refused, then-both, demand-passes, demand-holds, demand-cases, gives-passed}
@@ -19,7 +18,9 @@ use Rattle.floor.specs.Checks.{checkOf, roomOf, within}
 use Rattle.floor.proofs.LimitsLaws.{check-tells}
 use Rattle.route.specs.Route.{Answer, none, route, View, unheard}
 use Rattle.route.specs.FirstConflict.{ConflictKind, sameCell, changeOfPlaces, following, ConflictAt, ConflictAnswer, free, dated}
-use Rattle.route.specs.ConflictTest.{firstConflict}
+use Rattle.route.specs.ConflictTest.{firstConflict, conflictTold}
+use Rattle.route.specs.declared.FirstConflict.{FirstConflict}
+use Rattle.route.specs.declared.FirstConflict.the-variants.{SameCell, ChangeOfPlaces, Following}
 use Rattle.route.specs.Search.{best}
 use Rattle.route.proofs.Theorems.{theorems as route-theorems}
 use Rattle.records.specs.Records.{viewOf, recordAt, viewAt, records, viewsOf}
@@ -27,24 +28,21 @@ use Rattle.records.specs.Seen.{seenFrom, seen}
 use Rattle.search.specs.Task.{taskOf}
 use Rattle.search.specs.Search.{requestOf, searchOf}
 use Rattle.search.specs.Answers.{outcomeOf, resultOf, Says}
-use Rattle.search.specs.declared.Outcome.{Outcome as CodeOutcome}
 use Rattle.search.specs.declared.Outcome.the-variants.{Route, None, Refused}
 use Rattle.search.specs.declared.Found.{Found}
 use Rattle.search.proofs.Theorems.{theorems as search-theorems}
-use Rattle.sheet.specs.Values.{floorAt, wallsAt}
-use Rattle.sheet.specs.Read.{sheetVerdict}
 use Rattle.printing.specs.Print.{orRefusal}
 use Rattle.printing.specs.Text.{refusalLine}
-use Rattle.printing.proofs.PrintLaws.{WasRead, refusal-length}
+use Rattle.printing.proofs.PrintLaws.{refusal-length}
 use Rattle.printing.specs.Put.{TextPut}
 use Rattle.reporting.specs.Put.{PutAt}
 use Rattle.reporting.proofs.ReportLaws.{put-behind}
 use Rattle.reporting.proofs.PrintedLaws.{Within}
 use Rattle.drawing.specs.Drawing.{drawnFloor}
-use Rattle.drawing.proofs.DrawingLaws.{bytes-length, grid-low}
+use Rattle.drawing.proofs.DrawnLaws.{drawn-length, drawn-short}
 use Rattle.meeting.specs.Text.{aloneOf, pairVerdict, decimal, numberLine, freeLine}
 use Rattle.meeting.specs.Text.{sameCellWords, changeWords, followingWords, carrierWords}
-use Rattle.meeting.specs.Text.{noRouteWords, conflictLine, noRouteLine, Early, conflictDrawing, answerIf, metText, pairText, meetingText}
+use Rattle.meeting.specs.Text.{noRouteWords, conflictLine, noRouteLine, Early, conflictDrawing, answerIf, metText, pairText}
 
 -- Zeros show no view.
 zeros-unheard : (n j : ℕ) → viewAt (replicate n 0) j ≡ unheard
@@ -79,21 +77,6 @@ module _ (f : Floor) (ws : List ℕ) (ok : checkOf f ws ≡ passed) where
       let room : 65 * f .carriers ≤ length (replicate {A = ℕ} 520 0) = omega (arith, few, length-replicate {A = ℕ} 520 0) in
       gives-passed (then-passed ok ∙ then-passed (demand-passes 9 0 (le-leb _ _ room)) ∙ there) ∙ ap value (unheard-alone i 520 _)
 
-  -- What a drawing asks for.
-  pub drawn-low : (f .width ≤ 32) × (f .height ≤ 32) × (f .walls ≤ length ws) × ((f .width + 1) * f .height ≤ 1056)
-  drawn-low =
-      let b = check-tells f ws ok .bounds in
-      (b .width .1, b .height .1, check-tells f ws ok .lent, grid-low _ _ (b .width .1) (b .height .1))
-
-  pub drawn-put : (places old new : List ℕ) (n : ℕ) → new ≡ put old 0 (drawnFloor f ws places) → n ≡ (f .width + 1) * f .height
-      → TextPut (drawnFloor f ws places) old new n
-  unfolding drawnFloor
-  drawn-put places old new n e s = record { bytes = e; size = s ∙ sym (bytes-length f ws places ((f .width + 1) * f .height)) }
-
-  drawing-short : (places : List ℕ) → length (drawnFloor f ws places) ≤ 1056
-  unfolding drawnFloor
-  drawing-short places = omega (arith, bytes-length f ws places ((f .width + 1) * f .height), drawn-low .3)
-
   -- Two carriers that are there.
   module _ (i j : ℕ) (there : pairVerdict f i j ≡ passed) where
     pub first-there : demand (within 1 (f .carriers) i) 7 0 ≡ passed
@@ -118,6 +101,11 @@ module _ (f : Floor) (ws : List ℕ) (ok : checkOf f ws ≡ passed) where
     pub second-digit : (1 ≤ j) × (j ≤ 8)
     second-digit = digit j second-there
 
+-- A drawing that was put.
+pub drawn-put : (f : Floor) (ws places old new : List ℕ) (n : ℕ) → new ≡ put old 0 (drawnFloor f ws places) → n ≡ (f .width + 1) * f .height
+    → TextPut (drawnFloor f ws places) old new n
+drawn-put f ws places old new n e s = record { bytes = e; size = s ∙ sym (drawn-length f ws places) }
+
 -- The beat of a first conflict is at most 63.
 conflict-low : (H : ℕ) (a b : List ℕ) (t : ℕ) (k : ConflictKind) → ConflictAt (min H 63) a b t k → t ≤ 63
 unfolding ConflictAt
@@ -129,6 +117,34 @@ pub found-early : (H : ℕ) (a b : List ℕ) (x : ConflictAnswer) → x ≡ firs
 unfolding Early
 found-early H a b free e = tt
 found-early H a b (dated t k) e = conflict-low H a b t k (route-theorems .conflict-test (min H 63) a b .first-exactly t k .0 (sym e) .there)
+
+-- A conflict that is told is early: by its kind, and so in two digits.
+module _ {x : FirstConflict} {t : ℕ} (e : Early (conflictTold x)) where
+  pub same-early : x ≡ SameCell t → t ≤ 63
+  unfolding Early conflictTold
+  same-early h = rw h at e
+
+  pub change-early : x ≡ ChangeOfPlaces t → t ≤ 63
+  unfolding Early conflictTold
+  change-early h = rw h at e
+
+  pub following-early : x ≡ Following t → t ≤ 63
+  unfolding Early conflictTold
+  following-early h = rw h at e
+
+pub early-digits : {t : ℕ} → t ≤ 63 → t < 100
+early-digits l = omega arith
+
+pub ruleset early = (same-early, change-early, following-early, early-digits)
+
+-- What is put for one case of what was found.
+pub line-case : (x v : FirstConflict) (old new : List ℕ) (n : ℕ) → x ≡ v → PutAt (conflictLine (conflictTold v)) old 0 new n
+    → PutAt (conflictLine (conflictTold x)) old 0 new n
+line-case x v old new n e p = rw e p
+
+pub drawing-case : (f : Floor) (ws : List ℕ) (i j : ℕ) (a b : List ℕ) (x v : FirstConflict) (old new : List ℕ) (n : ℕ) → x ≡ v
+    → TextPut (conflictDrawing f ws i j a b (conflictTold v)) old new n → TextPut (conflictDrawing f ws i j a b (conflictTold x)) old new n
+drawing-case f ws i j a b x v old new n e p = rw e p
 
 -- Numbers in digits, and lines with a number in them.
 pub one-digit : (n : ℕ) → n < 10 → decimal n ≡ (48 + n) ∷ []
@@ -229,7 +245,7 @@ module _ (f : Floor) (ws : List ℕ) (ok : checkOf f ws ≡ passed) (i j : ℕ) 
   pub met-drawing-short : (r q : List ℕ) (x : ConflictAnswer) → length (conflictDrawing f ws i j r q x) ≤ 1056
   unfolding conflictDrawing
   met-drawing-short r q free = omega arith
-  met-drawing-short r q (dated t k) = drawing-short f ws ok _
+  met-drawing-short r q (dated t k) = drawn-short f ws ok _
 
   met-short : (x y : Answer) → length (metText f ws i j x y) ≤ 1087
   unfolding metText

@@ -27,7 +27,9 @@ module _ (p : ℕ → Bool) where
   any-says (suc n) e = split (or-cases (anyOf p n) (p n) e) (λ (h : anyOf p n ≡ true). any-says n h)
     where
       split : (anyOf p n ≡ true) ⊎ (p n ≡ true) → (anyOf p n ≡ true → Passing p n) → Passing p (suc n)
-      split (inl h) below = let x : Passing p n = below h in record { which = x .which; below = omega (arith, x .below); passes = x .passes }
+      split (inl h) below =
+          let x : Passing p n = below h in
+          record { which = x .which; below = omega (arith, x .below); passes = x .passes }
       split (inr h) below = record { which = n; below = omega arith; passes = h }
 
   pub any-holds : (n k : ℕ) → k < n → p k ≡ true → anyOf p n ≡ true

@@ -10,7 +10,7 @@ use borrow.Author.Tests.{le-leb, lt-leb, eq-eqb, eqb-true}
 use lib.Dec.{leb, eqb}
 use lib.ListN.{getD, replicate}
 use Rattle.words.specs.Rows.{filled}
-use Rattle.laws.proofs.Tests.{or-cases, or-inl, or-inr, same-test, not-true-is-false}
+use Rattle.laws.proofs.Tests.{and-both, and-fst, and-snd, or-cases, or-inl, or-inr, same-test, not-true-is-false}
 use Rattle.tables.specs.declared.Scene.{Scene}
 use Rattle.tables.specs.Table.{inSet, Tidy}
 use Rattle.tables.specs.Step.{ChangedAt, Empty, Joined}
@@ -42,6 +42,26 @@ pub hold-past : (g : Scene) (s : List ℕ) (ds : Docks) (t k : ℕ) (x : Bool) �
     x ≡ inSet g s t (getD (ds .cells) k 0) → x ≡ arrivableAt g s ds t k
 unfolding arrivableAt
 hold-past g s ds t k x h e = e ∙ rw (held-yes ds t k h)
+
+-- What it says that dock k is an arrival at beat t, and that cell c is dock k, which can be held from then on.
+pub arrivable-says : (g : Scene) (s : List ℕ) (ds : Docks) (t k : ℕ) → arrivableAt g s ds t k ≡ true →
+    (heldAt ds t k ≡ true) × (inSet g s t (getD (ds .cells) k 0) ≡ true)
+unfolding arrivableAt
+arrivable-says g s ds t k e = (and-fst (heldAt ds t k) _ e, and-snd (heldAt ds t k) _ e)
+
+pub arrivable-holds : (g : Scene) (s : List ℕ) (ds : Docks) (t k : ℕ) → heldAt ds t k ≡ true →
+    inSet g s t (getD (ds .cells) k 0) ≡ true → arrivableAt g s ds t k ≡ true
+unfolding arrivableAt
+arrivable-holds g s ds t k h i = and-both h i
+
+pub endable-says : (ds : Docks) (t c k : ℕ) → endableAt ds t c k ≡ true → (heldAt ds t k ≡ true) × (c ≡ getD (ds .cells) k 0)
+unfolding endableAt
+endable-says ds t c k e =
+    (and-fst (heldAt ds t k) _ e, eqb-true c (getD (ds .cells) k 0) (and-snd (heldAt ds t k) (eqb c (getD (ds .cells) k 0)) e))
+
+pub endable-holds : (ds : Docks) (t c k : ℕ) → heldAt ds t k ≡ true → c ≡ getD (ds .cells) k 0 → endableAt ds t c k ≡ true
+unfolding endableAt
+endable-holds ds t c k h e = and-both h (eq-eqb c (getD (ds .cells) k 0) e)
 
 -- The set of no dock; of one more that can be held; of one more that cannot.
 pub ends-none : (g : Scene) (s : List ℕ) (ds : Docks) (t : ℕ) → Empty g s t → EndsAt g s ds t 0

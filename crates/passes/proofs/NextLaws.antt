@@ -1,4 +1,4 @@
--- The digits beside a cell in a table, as the walk reads them, and the cases of its next cell.
+-- The digits beside a cell in a table, as the walk reads them, and the tests of its next cell.
 use Prim.Native.Nat.{ℕ, _+_, _*_, _-_, _/_, _%_, _≤_, _<_}
 use native.Mathlib.Omega.{arith}
 use native.Mathlib.Numerals.{add-one}
@@ -8,6 +8,7 @@ use mathlib.Core.List.{List}
 use mathlib.Core.Logic.{⊎-elim}
 use mathlib.Core.Path.{_≡_, refl, sym, _∙_}
 use borrow.Author.Tests.{le-leb, lt-leb, lt-ltb, le-ltb, leb-true, ltb-true}
+use borrow.Author.Needs.{needs}
 use lib.Dec.{leb, ltb}
 use Rattle.laws.proofs.Tests.{and-fst, and-same, lt-or-le, not-true-is-false, same-test}
 use Rattle.words.specs.Rows.{has}
@@ -83,45 +84,26 @@ module _ (g : Scene) (s : List ℕ) (t c : ℕ) (p : Place) (grid : Grid g) (tid
       (digit-set (c + w) (p .row + 1) (p .column) (add-div-right c (grid .thin) ∙ rw (at .row)) (add-mod-right c w ∙ sym (at .column))
       (omega (arith, at .low)))
 
--- The cases of the next cell.
+-- A test that fails is passed over, and one that holds gives its cell.
+pub passed-over : {x b : Bool} (d : ℕ) {r y : ℕ} → x ≡ b → x ≡ false → r ≡ y → r ≡ pick b d y
+unfolding pick
+passed-over d e h q = q ∙ rw (← e, h)
+
+pub taken : {x b : Bool} (d y : ℕ) → x ≡ b → x ≡ true → d ≡ pick b d y
+unfolding pick
+taken d y e h = rw (← e, h)
+
+-- Where the cell above or left is taken, there is one.
+pub up-low : {x : Bool} (w c : ℕ) (y : Bool) → x ≡ (leb w c && y) → x ≡ true → w ≤ c
+up-low w c y e h = leb-true w c (and-fst (leb w c) y (sym e ∙ h))
+
+pub left-low : {x : Bool} (w c : ℕ) (y : Bool) → x ≡ (ltb 0 (c % w) && y) → x ≡ true → 1 ≤ c
+left-low w c y e h = omega (arith, div-add-mod' c w, ltb-true 0 (c % w) (and-fst (ltb 0 (c % w)) y (sym e ∙ h)))
+
+-- What answers each test of the walk: a digit is a near cell; it is passed over, or taken.
+pub ruleset beside = (needs, passed-over, taken, up-is, left-is, here-is, right-is, down-is)
+
 module _ (g : Scene) (s : List ℕ) (t c : ℕ) where
-  pub next-up : (leb (g .width) c && inSet g s t (c - g .width)) ≡ true → c - g .width ≡ nextOf g s t c
-  unfolding nextOf firstNear pick
-  next-up e = rw (e, nextOf)
-
-  module _ (up : (leb (g .width) c && inSet g s t (c - g .width)) ≡ false) where
-    pub next-left : (ltb 0 (c % g .width) && inSet g s t (c - 1)) ≡ true → c - 1 ≡ nextOf g s t c
-    unfolding nextOf firstNear pick
-    next-left e = rw (up, e, nextOf)
-
-    module _ (left : (ltb 0 (c % g .width) && inSet g s t (c - 1)) ≡ false) where
-      pub next-here : inSet g s t c ≡ true → c ≡ nextOf g s t c
-      unfolding nextOf firstNear pick
-      next-here e = rw (up, left, e, nextOf)
-
-      module _ (here : inSet g s t c ≡ false) where
-        pub next-right : (ltb (c % g .width + 1) (g .width) && inSet g s t (c + 1)) ≡ true → c + 1 ≡ nextOf g s t c
-        unfolding nextOf firstNear pick
-        next-right e = rw (up, left, here, e, nextOf)
-
-        module _ (right : (ltb (c % g .width + 1) (g .width) && inSet g s t (c + 1)) ≡ false) where
-          pub next-down : inSet g s t (c + g .width) ≡ true → c + g .width ≡ nextOf g s t c
-          unfolding nextOf firstNear pick
-          next-down e = rw (up, left, here, right, e, nextOf)
-
-          pub next-none : inSet g s t (c + g .width) ≡ false → c ≡ nextOf g s t c
-          unfolding nextOf firstNear pick
-          next-none e = rw (up, left, here, right, e, nextOf)
-
-  -- Where the cell above or left is taken, there is one.
-  pub up-low : (leb (g .width) c && inSet g s t (c - g .width)) ≡ true → g .width ≤ c
-  up-low e = leb-true (g .width) c (and-fst (leb (g .width) c) (inSet g s t (c - g .width)) e)
-
-  pub left-low : (ltb 0 (c % g .width) && inSet g s t (c - 1)) ≡ true → 1 ≤ c
-  left-low e =
-      omega
-      (arith, div-add-mod' c (g .width), ltb-true 0 (c % g .width) (and-fst (ltb 0 (c % g .width)) (inSet g s t (c - 1)) e))
-
   -- The next cell is a cell.
   pub next-inside : 1 ≤ g .width → c < g .cells → nextOf g s t c < g .cells
   unfolding nextOf

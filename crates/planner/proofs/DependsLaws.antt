@@ -6,14 +6,21 @@ use mathlib.Core.Bool.{Bool, not}
 use mathlib.Core.List.{List, map}
 use lib.ListN.{length, take, length-map}
 use Rattle.floor.specs.declared.Floor.{Floor}
-use Rattle.floor.specs.Checks.{startOf, isDock, among}
+use Rattle.laws.specs.Verdict.{passed}
+use Rattle.laws.proofs.VerdictLaws.{gives-same}
+use Rattle.floor.specs.Checks.{checkOf, startOf, isDock, among}
 use Rattle.floor.specs.Accepted.{SameFloor}
 use Rattle.floor.proofs.SameLaws.{among-same, is-dock-same}
 use Rattle.route.specs.Route.{Answer, View, heard, Task}
 use Rattle.route.specs.Search.{best}
 use Rattle.route.specs.Sequential.{sequential}
 use Rattle.search.specs.Task.{taskOf}
+use Rattle.search.specs.Search.{requestOf, searchOf}
+use Rattle.search.proofs.RequestLaws.{request-granted}
 use Rattle.search.proofs.SeenLaws.{seen-same}
+use Rattle.records.specs.Records.{records, viewsOf}
+use Rattle.records.specs.Seen.{seen}
+use Rattle.records.proofs.SeenLaws.{records-length}
 use Rattle.planner.specs.Plan.{respondOf, planOf}
 use Rattle.planner.specs.Claims.{AgreeUpTo}
 use Rattle.planner.proofs.FailingLaws.{plan-count}
@@ -24,7 +31,7 @@ views-count : (q : ℕ → List View → Answer) (k : ℕ) → length (map heard
 views-count q k = length-map (sequential q k) heard ∙ plan-count q k
 
 -- Responses that agree below k, to as many views as there are carriers above, make the same first k answers.
-sequential-below : (p q : ℕ → List View → Answer) (k : ℕ) → ((i : ℕ) (vs : List View) → i < k → length vs ≡ i → p i vs ≡ q i vs)
+pub sequential-below : (p q : ℕ → List View → Answer) (k : ℕ) → ((i : ℕ) (vs : List View) → i < k → length vs ≡ i → p i vs ≡ q i vs)
     → sequential p k ≡ sequential q k
 unfolding sequential
 sequential-below p q zero h = refl
@@ -78,3 +85,33 @@ module _ (k : ℕ) (f : Floor) (ws : List ℕ) (g : Floor) (vs : List ℕ) (agre
       ∙ sequential-below (respondOf f ws) (respondOf g vs) k
       (λ i views l e. respond-same i views l (omega arith))
       ∙ sym (plan-prefix (respondOf g vs) (g .carriers) k b)
+
+-- Floors with the same verdict that agree in all their carriers, and in how many they are.
+module _ (f : Floor) (ws : List ℕ) (g : Floor) (vs : List ℕ) (agree : AgreeUpTo (f .carriers) f ws g vs)
+    (carriers : f .carriers ≡ g .carriers) where
+  pub plans-agree : planOf f ws ≡ planOf g vs
+  unfolding planOf
+  plans-agree =
+      sequential-below (respondOf f ws) (respondOf g vs) (f .carriers)
+      (λ i views l e. respond-same (f .carriers) f ws g vs agree i views l (omega arith))
+      ∙ ap (λ (n : ℕ). sequential (respondOf g vs) n) carriers
+
+  module _ (checks : checkOf f ws ≡ checkOf g vs) (i : ℕ) (m : List ℕ) where
+    -- A search that is granted is for a carrier that is there.
+    granted-task : requestOf f ws i m ≡ passed → taskOf f ws i ≡ taskOf g vs i
+    granted-task e =
+        let listed = request-granted f ws i m e .listed in
+        let one : i - 1 + 1 ≡ i = omega (arith, listed .0) in
+        rw one at (task-same (f .carriers) f ws g vs agree (i - 1) (omega (arith, listed .0, listed .1)))
+
+    granted-views : requestOf f ws i m ≡ passed → seen f (viewsOf m i) ≡ seen g (viewsOf m i)
+    unfolding viewsOf
+    granted-views e =
+        seen-same f g (f .carriers) (records m (i - 1)) (agree .horizon) (agree .starts)
+        (omega (arith, records-length m (i - 1), request-granted f ws i m e .listed))
+
+    pub searches-agree : searchOf f ws i m ≡ searchOf g vs i m
+    unfolding searchOf requestOf
+    searches-agree =
+        gives-same (requestOf f ws i m) _ _ (λ e. ap₂ best (granted-task e) (granted-views e))
+        ∙ rw (checks, carriers) refl

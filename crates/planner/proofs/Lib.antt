@@ -11,3 +11,4 @@ pub mod DependsLaws
 pub mod StrandedLaws
 pub mod StoredLaws
 pub mod Theorems
+pub mod DocksTheorems

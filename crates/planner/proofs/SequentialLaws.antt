@@ -2,11 +2,11 @@
 use Prim.Native.Nat.{ℕ, zero, suc, _≤_, _<_}
 use native.Mathlib.Omega.{arith}
 use native.Mathlib.Decide.{decLe}
-use mathlib.Core.Path.{_≡_, _∙_}
+use mathlib.Core.Path.{_≡_, refl, sym, _∙_, ap, ap₂}
 use mathlib.Core.List.{List, [], _∷_, _++_, map}
 use borrow.Author.Count.{below-more}
-use lib.ListN.{getD, take, List·getD-append}
-use lib.Seq.{getD-at, take-append-le, take-all}
+use lib.ListN.{length, getD, take, List·getD-append}
+use lib.Seq.{getD-at, take-append-le, take-all, take-suc}
 use Rattle.route.specs.Route.{Answer, none, View, heard}
 use Rattle.route.specs.Sequential.{sequential}
 use Rattle.planner.specs.Claims.{answerAt}
@@ -42,3 +42,18 @@ module _ (respond : ℕ → List View → Answer) where
       (λ j h. List·getD-append (sequential respond n) _ none j (rw (plan-count respond n) h) ∙ plan-answer n j h)
       (getD-at (sequential respond n) _ [] none n (plan-count respond n))
       k (omega arith)
+
+  -- Answers that are each the response to those above them are the plan, one after the other.
+  module _ (n : ℕ) (xs : List Answer) (long : length xs ≡ n)
+      (each : (k : ℕ) → k < n → answerAt xs k ≡ respond k (map heard (take k xs))) where
+    first-are : (k : ℕ) → k ≤ n → take k xs ≡ sequential respond k
+    unfolding sequential answerAt
+    first-are zero l = refl
+    first-are (suc k) l =
+        let front = first-are k (omega arith) in
+        take-suc xs k none (omega arith)
+        ∙ ap₂ (λ (ys : List Answer) (x : Answer). ys ++ (x ∷ [])) front
+        (each k (omega arith) ∙ ap (λ (ys : List Answer). respond k (map heard ys)) front)
+
+    pub plan-only : xs ≡ sequential respond n
+    plan-only = sym (take-all n xs (omega arith)) ∙ first-are n (omega arith)

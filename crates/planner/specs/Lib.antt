@@ -3,3 +3,4 @@ pub mod Plan
 pub mod Records
 pub mod Answers
 pub mod Claims
+pub mod DocksClaims

@@ -1,40 +1,42 @@
--- A memory of 11,452 bytes holds every sheet: what is written stands in front.
+-- A memory of 11,732 bytes holds every sheet: what is written stands in front.
 use Prim.Native.Nat.{ℕ, _+_, _≤_}
 use native.Mathlib.Omega.{arith}
-use mathlib.Core.Path.{_≡_, sym, ap, _∙_}
+use mathlib.Core.Path.{_≡_, refl, sym, ap, _∙_}
 use mathlib.Core.List.{List, _++_}
 use borrow.Author.Tests.{le-leb}
-use lib.ListN.{length, take, drop}
-use Rattle.io.specs.Counts.{Counts}
+use lib.ListN.{length, drop}
 use Rattle.laws.specs.Memory.{put}
-use Rattle.laws.proofs.PutLaws.{put-front}
 use Rattle.floor.specs.declared.Floor.{Floor}
-use Rattle.laws.specs.Verdict.{passed, refused, _then_}
-use Rattle.console.proofs.WithinLaws.{counts-within}
+use Rattle.laws.specs.Verdict.{Verdict, passed, refused, _then_}
 use Rattle.floor.specs.Checks.{checkOf, roomOf}
 use Rattle.laws.proofs.VerdictLaws.{demand-passes, when-passed}
 use Rattle.floor.proofs.LimitsLaws.{check-tells}
 use Rattle.sheet.specs.Text.{sheetOf, sheetLength, wallAt}
+use Rattle.sheet.specs.Values.{floorAt, wallsAt}
 use Rattle.sheet.specs.Read.{sheetVerdict, writeVerdict, writeSheet}
 use Rattle.sheet.proofs.Theorems.{theorems}
-use Rattle.printing.specs.Text.{refusalLine}
+use Rattle.sheet.proofs.DockLaws.{carriers-high}
+use Rattle.sheet.proofs.ReadLaws.{accepted-counts}
 use Rattle.printing.specs.Print.{orRefusal}
 use Rattle.printing.specs.Put.{TextPut}
-use Rattle.printing.proofs.PrintLaws.{WasRead, refusal-length}
+use Rattle.reporting.proofs.PrintedLaws.{Within}
 
 -- The sheet of an accepted floor.
 module _ (f : Floor) (ws : List ℕ) (ok : checkOf f ws ≡ passed) where
-  sheet-short : sheetLength f ≤ 11452
+  sheet-short : sheetLength f ≤ 11732
   unfolding sheetLength wallAt
-  sheet-short = let b = check-tells f ws ok .bounds in omega (arith, b .carriers .1, b .walls .1)
+  sheet-short =
+      let b = check-tells f ws ok .bounds in
+      let high = carriers-high f (f .carriers) (λ i l. accepted-counts f ws ok i l .1) in
+      omega (arith, b .carriers .1, b .walls .1, high)
 
-  granted : (room : ℕ) → 11452 ≤ room → writeVerdict f ws room ≡ passed
+  granted : (room : ℕ) → 11732 ≤ room → writeVerdict f ws room ≡ passed
   unfolding writeVerdict roomOf _then_
   granted room enough =
       let fits : sheetLength f ≤ room = omega (arith, sheet-short) in
       rw ok (demand-passes 9 0 (le-leb _ _ fits))
 
-  pub sheet-put : (old new : List ℕ) (n : ℕ) → 11452 ≤ length old → new ≡ writeSheet f ws old → n ≡ sheetLength f
+  pub sheet-put : (old new : List ℕ) (n : ℕ) → 11732 ≤ length old → new ≡ writeSheet f ws old → n ≡ sheetLength f
       → TextPut (sheetOf f ws) old new n
   unfolding writeSheet put
   sheet-put old new n enough e l =
@@ -47,28 +49,15 @@ module _ (f : Floor) (ws : List ℕ) (ok : checkOf f ws ≡ passed) where
         size = l ∙ sym size;
       }
 
--- A text that was put in front of a memory is counted there.
-pub counted : (text old new : List ℕ) (n : ℕ) → TextPut text old new n → length text ≤ length old → Counts n new × (take n new ≡ text)
-counted text old new n p fits =
-    let f = put-front old new text n (p .bytes) (p .size) fits in
-    (counts-within _ _ (f .0), f .1)
+pub sheet-within : Within sheetOf 11732
+sheet-within = record { short = λ f ws ok. omega (arith, theorems .sheet-length f ws, sheet-short f ws ok) }
 
--- An accepted sheet is written again; a refused one has the line of its refusal.
-module _ (text old new : List ℕ) (n : ℕ) (enough : 11452 ≤ length old) where
-  pub accepted-again : (f : Floor) (walls : List ℕ) → WasRead text f walls → TextPut (sheetOf f (take (f .walls) walls)) old new n
-      → Counts n new × (take n new ≡ orRefusal (sheetVerdict text) text)
-  unfolding orRefusal
-  accepted-again f walls r t =
-      let same : sheetOf f (take (f .walls) walls) ≡ text = rw (r .front, r .floor) (theorems .sheet-returns text (r .accepted)) in
-      let fits : length (sheetOf f (take (f .walls) walls)) ≤ length old =
-      omega (arith, theorems .sheet-length f (take (f .walls) walls), sheet-short f _ (r .checked))
-      in
-      let c = counted _ _ _ _ t fits in
-      (c .0, rw (r .accepted) (c .1 ∙ same))
-
-  pub refused-line : (k p : ℕ) → sheetVerdict text ≡ refused k p → TextPut (refusalLine k p) old new n
-      → Counts n new × (take n new ≡ orRefusal (sheetVerdict text) text)
-  unfolding orRefusal
-  refused-line k p v t =
-      let c = counted _ _ _ _ t (omega (arith, refusal-length k p)) in
-      (c .0, rw v (c .1))
+-- The sheet of what was read is the text.
+pub sheet-again : (text : List ℕ)
+    → orRefusal (sheetVerdict text) text ≡ orRefusal (sheetVerdict text) (sheetOf (floorAt text) (wallsAt text))
+unfolding orRefusal
+sheet-again text = go (sheetVerdict text) refl
+  where
+    go : (v : Verdict) → sheetVerdict text ≡ v → orRefusal v text ≡ orRefusal v (sheetOf (floorAt text) (wallsAt text))
+    go passed e = sym (theorems .sheet-returns text e)
+    go (refused k p) e = refl

@@ -14,14 +14,14 @@ use console::Input;
 use floor::Checked;
 use floor::Floor;
 
-// The length of the longest sheet: 31 bytes, 21 for each of eight carriers, 11 for each of 1,023 walls.
-const SHEET_LENGTH: usize = 11452;
+// The length of the longest sheet: 31 bytes, 56 for each of eight carriers of four docks, 11 for each of 1,023 walls.
+const SHEET_LENGTH: usize = 11732;
 
 // Puts the sheet of a floor that was read, with its walls in front of `walls`; its length is returned.
 fn put_sheet(f: Floor, walls: &[u16], out: &mut [u8]) -> usize
     requires { ⌜ checkOf f (take (f .walls) (now walls)) ≡ passed ⌝ }
     requires { ⌜ f .walls ≤ length (now walls) ⌝ }
-    requires { ⌜ 11452 ≤ length (now out) ⌝ }
+    requires { ⌜ 11732 ≤ length (now out) ⌝ }
     ensures { λ r. ⌜ TextPut (sheetOf f (take (f .walls) (now (walls .entry)))) (now (out .entry)) (now (out .exit)) r ⌝ }
 {
     let k = f.walls as usize;
@@ -44,7 +44,7 @@ fn print(text: &[u8], out: &mut [u8; SHEET_LENGTH]) -> usize
     printing::put_refusal(x, out)
 }
 
-// The longest sheet has 11,452 bytes; of a longer input the first 65,536 bytes hold the first extra byte.
+// The longest sheet has 11,732 bytes; of a longer input the first 65,536 bytes hold the first extra byte.
 fn main() {
     let mut space = io::large_buffer();
     let input = console::read(b"resheet: standard input", &mut space);

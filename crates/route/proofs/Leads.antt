@@ -23,7 +23,8 @@ pub record Leads (dock : ℕ → Bool) (H : ℕ) (ok : Rule) (start a : ℕ) (x 
   pub least : (p : ℕ → ℕ) (b : ℕ) → Way dock H ok p → p 0 ≡ start → Held H p b → a ≤ b
   pub first : (p : ℕ → ℕ) → Way dock H ok p → p 0 ≡ start → Held H p a → Same H p x ⊎ Ahead H x p
 
-pub leads-same : {dock : ℕ → Bool} {H : ℕ} {ok : Rule} {start a : ℕ} {x y : ℕ → ℕ} → Leads dock H ok start a x → Same H y x → Leads dock H ok start a y
+pub leads-same : {dock : ℕ → Bool} {H : ℕ} {ok : Rule} {start a : ℕ} {x y : ℕ → ℕ} → Leads dock H ok start a x → Same H y x →
+    Leads dock H ok start a y
 leads-same {H} {x} {y} l s =
     record {
       way = way-same (l .way) s;

@@ -48,7 +48,8 @@ module _ (task : Task) (vs : List View) where
   not-found-none : (F : Sets) → NotFound task vs F → (q : List ℕ) → Admissible task vs q → ⊥
   not-found-none F n q adm =
       n .never H (omega arith)
-      (held-reaches (allowed task vs) (task .start) (task .dock) H H F (cellAt q) H (n .forward) (by .way) (by .begins) held-last (omega arith))
+      (held-reaches (allowed task vs) (task .start) (task .dock) H H F (cellAt q) H (n .forward) (by .way) (by .begins) held-last
+      (omega arith))
     where
       H : ℕ
       H = task .horizon

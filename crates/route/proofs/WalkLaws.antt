@@ -115,7 +115,8 @@ module _ (cells : ℕ) (dock : ℕ → Bool) where
   walked zero ok c h =
       ⊎-elim (λ (e : ended dock 0 ok c ≡ true). walked-ended 0 ok c e)
       (λ (e : ended dock 0 ok c ≡ false). absurd (omega (arith, val-last cells dock ok c e))) (true-or-false (ended dock 0 ok c))
-  walked (suc k) ok c h = split (true-or-false (ended dock (suc k) ok c)) (λ (b : val cells dock k (later ok) n ≤ k). walked k (later ok) n b)
+  walked (suc k) ok c h =
+      split (true-or-false (ended dock (suc k) ok c)) (λ (b : val cells dock k (later ok) n ≤ k). walked k (later ok) n b)
     where
       n : ℕ
       n = (offer cells dock k ok c) .0

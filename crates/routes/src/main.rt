@@ -22,7 +22,7 @@ fn print(text: &[u8], out: &mut [u8; TEXT_LENGTH]) -> usize
     n
 }
 
-// The longest sheet has 11,452 bytes; of a longer input the first 65,536 bytes hold the first extra byte.
+// The longest sheet has 11,732 bytes; of a longer input the first 65,536 bytes hold the first extra byte.
 fn main() {
     let mut space = io::large_buffer();
     let input = console::read(b"routes: standard input", &mut space);

@@ -1,5 +1,5 @@
--- Cases computed from the definitions: document 01's floors 1 to 3 as requests, with what the memory of views says, several docks, and three
--- refusals.
+-- Cases computed from the definitions: document 01's floors 1 to 3 as requests, with what the memory of views says, several docks, and
+-- three refusals.
 use Prim.Native.Nat.{ℕ}
 use mathlib.Core.List.{List, [], _∷_}
 use mathlib.Core.Path.{_≡_, refl}
@@ -72,8 +72,8 @@ record Cases : Type 0 where
 cases : Cases
 unfolding searchOf _gives_ requestOf checkOf limitsOf lentOf roomOf placesOf carriersOf wallsOf risingOf clearOf distinctOf unrepeatedOf
     within demand _then_ demandEach inTurn inGrid docksInGrid carrierInGrid startOf countOf docksOf dockOf isDock allBelow docksClear
-    clearOfWalls among unshared unrepeated oneEach withOneDock taskOf viewsOf records viewAt recordAt viewOf part seenAs seenFrom seen parked
-    cellAt
+    clearOfWalls among unshared unrepeated oneEach withOneDock taskOf viewsOf records viewAt recordAt viewOf part seenAs seenFrom seen
+    parked cellAt
     neighbours near vacant every standable allowed startClear cost cheaper cheapest holds ended val onward walk walkFrom best
 cases =
     record {

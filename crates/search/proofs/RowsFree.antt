@@ -2,7 +2,7 @@
 use Prim.Native.Nat.{ℕ, zero, suc, _+_, _*_, _-_, _/_, _%_, _^_, _≤_, _<_}
 use native.Mathlib.Omega.{arith}
 use native.Mathlib.Nat.{mod-lt, div-add-mod', mul-comm, zero-add, div-lt-iff-lt-mul}
-use mathlib.Core.Bool.{true, _&&_, not}
+use mathlib.Core.Bool.{Bool, true, false, _&&_, _||_, not, and-true}
 use mathlib.Core.List.{List}
 use mathlib.Core.Logic.{⊎-elim}
 use mathlib.Core.Path.{_≡_, refl, sym, ap, _∙_}
@@ -17,94 +17,105 @@ use Rattle.route.specs.Route.{View}
 use Rattle.route.specs.Search.{best}
 use Rattle.laws.proofs.Tests.{true-false-absurd, and-both, and-fst, and-snd, lt-or-le, same-test}
 use Rattle.route.proofs.FreeLaws.{best-free}
-use Rattle.words.specs.Words.{digit, without}
+use Rattle.words.specs.Words.{digit}
 use Rattle.words.specs.Rows.{has, Clean}
-use Rattle.words.proofs.DigitLaws.{digit-without, digit-ones, digit-zero}
-use Rattle.words.proofs.RowsLaws.{place-row, has-marked, length-marked}
-use Rattle.words.proofs.FillLaws.{has-zeros, length-filled, filled-in, filled-out}
+use Rattle.words.proofs.DigitLaws.{digit-ones, digit-zero}
+use Rattle.words.proofs.RowsLaws.{has-dropped-at, fewer-at, length-at}
+use Rattle.words.proofs.FillLaws.{length-filled, filled-in, filled-out}
 use Rattle.search.specs.Task.{taskOf, taskOfRows}
-use Rattle.search.specs.Rows.{wallRows, gridWithout, FreeRows, freeRowsOf}
+use Rattle.search.specs.Rows.{gridRows, wallsOut, FreeRows, freeRowsOf}
 
-wall-test : (c x cells : ℕ) → x < cells → (ltb c cells && true && eqb c x) ≡ eqb c x
-wall-test c x cells h = same-test (ltb c cells && true && eqb c x) (eqb c x) (and-snd (ltb c cells && true) (eqb c x)) back
-  where
-    back : eqb c x ≡ true → (ltb c cells && true && eqb c x) ≡ true
-    back t =
-        let e : c ≡ x = eqb-true c x t in
-        and-both (and-both (lt-ltb c cells (rw e h)) refl) t
+-- A digit stays where neither the walls before nor this one are.
+not-either : (a b c : Bool) → (a && not b && not c) ≡ (a && not (b || c))
+not-either true true c = refl
+not-either true false c = refl
+not-either false b c = refl
 
-module _ (w cells : ℕ) (thin : 0 < w) (room : cells ≤ 32 * w) (ws : List ℕ) where
-  length-walls : (n : ℕ) → length (wallRows w cells ws n) ≡ 32
-  unfolding wallRows
-  length-walls zero = length-replicate {A = ℕ} 32 0
-  length-walls (suc n) = length-marked w cells 0 (getD ws n 0) (wallRows w cells ws n) ∙ length-walls n
+module _ (w cells : ℕ) (thin : 0 < w) (room : cells ≤ 32 * w) (ws rows : List ℕ) (long : length rows ≡ 32) where
+  length-out : (n : ℕ) → length (wallsOut w cells ws rows n) ≡ 32
+  unfolding wallsOut
+  length-out zero = long
+  length-out (suc n) = length-at w cells 0 (getD ws n 0) (wallsOut w cells ws rows n) ∙ length-out n
 
-  -- The rows of walls show exactly the walls.
-  has-walls : (n r q : ℕ) → r < 32 → q < w → r * w + q < cells → has (wallRows w cells ws n) r q ≡ among ws n (r * w + q)
-  unfolding wallRows among
-  has-walls zero r q h l u = has-zeros 32 r q
-  has-walls (suc n) r q h l u =
-      rw zero-add at (has-marked w cells thin room (wallRows w cells ws n) 0 (getD ws n 0) 0 r q (omega (arith, length-walls n)) h l)
-      ∙ rw (has-walls n r q h l u, wall-test (getD ws n 0) (r * w + q) cells u)
+  -- The rows show exactly the cells that are no wall.
+  has-out : (n r q : ℕ) → q < w → r * w + q < cells → has (wallsOut w cells ws rows n) r q ≡ (has rows r q && not (among ws n (r * w + q)))
+  unfolding wallsOut among
+  has-out zero r q l u = sym (and-true (has rows r q))
+  has-out (suc n) r q l u =
+      rw zero-add at
+      (has-dropped-at w cells thin room (wallsOut w cells ws rows n) 0 (getD ws n 0) (omega (arith, length-out n)) r q l u)
+      ∙ rw (has-out n r q l u) (not-either (has rows r q) (among ws n (r * w + q)) (eqb (getD ws n 0) (r * w + q)))
 
-module _ (w h : ℕ) (walls : List ℕ) (high : h ≤ 32) where
-  has-grid : (r q : ℕ) → r < h → has (gridWithout w h walls) r q ≡ (ltb q w && not (has walls r q))
-  unfolding gridWithout has
+  -- They have no digit more.
+  fewer-out : (n r q : ℕ) → has (wallsOut w cells ws rows n) r q ≡ true → has rows r q ≡ true
+  unfolding wallsOut
+  fewer-out zero r q e = e
+  fewer-out (suc n) r q e =
+      fewer-out n r q (fewer-at w cells thin room (wallsOut w cells ws rows n) 0 (getD ws n 0) (omega (arith, length-out n)) r q e)
+
+module _ (w h : ℕ) (high : h ≤ 32) where
+  has-grid : (r q : ℕ) → r < h → has (gridRows w h) r q ≡ ltb q w
+  unfolding gridRows has
   has-grid r q l =
-      ap (λ (x : ℕ). digit x q)
-      (filled-in (replicate 32 0) (λ i. without (2 ^ w - 1) (getD walls i 0)) h r (omega (arith, length-replicate {A = ℕ} 32 0)) l)
-      ∙ rw (digit-without, digit-ones)
+      ap (λ (x : ℕ). digit x q) (filled-in (replicate 32 0) (λ i. 2 ^ w - 1) h r (omega (arith, length-replicate {A = ℕ} 32 0)) l)
+      ∙ digit-ones w q
 
-  grid-row : (r q : ℕ) → has (gridWithout w h walls) r q ≡ true → r < h
-  unfolding gridWithout has
+  grid-row : (r q : ℕ) → has (gridRows w h) r q ≡ true → r < h
+  unfolding gridRows has
   grid-row r q e =
       ⊎-elim (λ (l : r < h). l)
-      (λ (l : h ≤ r). true-false-absurd e
-      (rw (filled-out (replicate 32 0) (λ i. without (2 ^ w - 1) (getD walls i 0)) h r l, zeros-at 32 r) (digit-zero q)))
+      (λ (l : h ≤ r). true-false-absurd e (rw (filled-out (replicate 32 0) (λ i. 2 ^ w - 1) h r l, zeros-at 32 r) (digit-zero q)))
       (lt-or-le r h)
 
-  pub length-grid : length (gridWithout w h walls) ≡ 32
-  unfolding gridWithout
-  length-grid = length-filled (replicate 32 0) (λ i. without (2 ^ w - 1) (getD walls i 0)) h ∙ length-replicate {A = ℕ} 32 0
+  pub length-grid : length (gridRows w h) ≡ 32
+  unfolding gridRows
+  length-grid = length-filled (replicate 32 0) (λ i. 2 ^ w - 1) h ∙ length-replicate {A = ℕ} 32 0
 
-  grid-column : (r q : ℕ) → has (gridWithout w h walls) r q ≡ true → q < w
-  grid-column r q e = ltb-true q w (and-fst (ltb q w) (not (has walls r q)) (sym (has-grid r q (grid-row r q e)) ∙ e))
-
-  clean-grid : Clean w (w * h) (gridWithout w h walls)
-  clean-grid = record { thin = grid-column; inside = λ r q e. rw (mul-comm w h) (digits-lt (grid-row r q e) (grid-column r q e)) }
+  grid-column : (r q : ℕ) → has (gridRows w h) r q ≡ true → q < w
+  grid-column r q e = ltb-true q w (sym (has-grid r q (grid-row r q e)) ∙ e)
 
 module _ (f : Floor) (ws : List ℕ) (thin : 1 ≤ f .width) (high : f .height ≤ 32) (room : f .width * f .height ≤ 32 * f .width) where
-  agree : (c : ℕ) → c < f .width * f .height →
-      has (gridWithout (f .width) (f .height) (wallRows (f .width) (f .width * f .height) ws (f .walls))) (c / f .width) (c % f .width) ≡
-      not (among ws (f .walls) c)
+  agree : (c : ℕ) → c < f .width * f .height → has (freeRowsOf f ws) (c / f .width) (c % f .width) ≡ not (among ws (f .walls) c)
+  unfolding freeRowsOf
   agree c h =
-      has-grid (f .width) (f .height) (wallRows (f .width) (f .width * f .height) ws (f .walls)) high (c / f .width) (c % f .width)
-      ((div-lt-iff-lt-mul thin) .1 (rw (mul-comm (f .height) (f .width)) h))
+      has-out (f .width) (f .width * f .height) thin room ws (gridRows (f .width) (f .height)) (length-grid (f .width) (f .height) high)
+      (f .walls) (c / f .width) (c % f .width) (mod-lt c thin) (rw (div-add-mod' c (f .width)) h)
       ∙ rw (
+        has-grid (f .width) (f .height) high (c / f .width) (c % f .width)
+            ((div-lt-iff-lt-mul thin) .1 (rw (mul-comm (f .height) (f .width)) h)),
         lt-ltb (c % f .width) (f .width) (mod-lt c thin),
-        has-walls (f .width) (f .width * f .height) thin room ws (f .walls) (c / f .width) (c % f .width)
-            (place-row (f .width) c thin (omega arith)) (mod-lt c thin) (rw (div-add-mod' c (f .width)) h),
         div-add-mod' c (f .width),
       )
 
-  same-best : (i : ℕ) (vs : List View) →
-      best (taskOfRows f (gridWithout (f .width) (f .height) (wallRows (f .width) (f .width * f .height) ws (f .walls))) i) vs ≡ best
-      (taskOf f ws i) vs
+  clean : Clean (f .width) (f .width * f .height) (freeRowsOf f ws)
+  unfolding freeRowsOf
+  clean =
+      record {
+        thin = λ r q e. grid-column (f .width) (f .height) high r q (old r q e);
+        inside = λ r q e. rw (mul-comm (f .width) (f .height))
+            (digits-lt (grid-row (f .width) (f .height) high r q (old r q e)) (grid-column (f .width) (f .height) high r q (old r q e)));
+      }
+    where
+      old : (r q : ℕ) → has (wallsOut (f .width) (f .width * f .height) ws (gridRows (f .width) (f .height)) (f .walls)) r q ≡ true →
+          has (gridRows (f .width) (f .height)) r q ≡ true
+      old =
+          fewer-out (f .width) (f .width * f .height) thin room ws (gridRows (f .width) (f .height))
+          (length-grid (f .width) (f .height) high) (f .walls)
+
+  same-best : (i : ℕ) (vs : List View) → best (taskOfRows f (freeRowsOf f ws) i) vs ≡ best (taskOf f ws i) vs
   unfolding taskOfRows taskOf
   same-best i vs =
-      best-free (taskOf f ws i) vs
-      (λ c. has (gridWithout (f .width) (f .height) (wallRows (f .width) (f .width * f .height) ws (f .walls))) (c / f .width)
-      (c % f .width))
-      (λ c. not (among ws (f .walls) c)) agree
+      best-free (taskOf f ws i) vs (λ c. has (freeRowsOf f ws) (c / f .width) (c % f .width)) (λ c. not (among ws (f .walls) c)) agree
 
-  pub free-rows-made : (set r : List ℕ) → set ≡ wallRows (f .width) (f .width * f .height) ws (f .walls) →
-      r ≡ gridWithout (f .width) (f .height) set → FreeRows f ws r
+  pub free-rows-made : (r : List ℕ) → r ≡ wallsOut (f .width) (f .width * f .height) ws (gridRows (f .width) (f .height)) (f .walls) →
+      FreeRows f ws r
   unfolding freeRowsOf
-  free-rows-made set r e h =
-      rw (h, e)
+  free-rows-made r e =
+      rw e
       (record {
         made = refl;
-        long = length-grid (f .width) (f .height) (wallRows (f .width) (f .width * f .height) ws (f .walls)) high;
-        clean = clean-grid (f .width) (f .height) (wallRows (f .width) (f .width * f .height) ws (f .walls)) high;
+        long = length-out (f .width) (f .width * f .height) thin room ws (gridRows (f .width) (f .height))
+            (length-grid (f .width) (f .height) high) (f .walls);
+        clean = clean;
         same = same-best;
       })

@@ -7,8 +7,7 @@ use mathlib.Core.Bool.{Bool, true, false, _&&_}
 use mathlib.Core.List.{List}
 use mathlib.Core.Logic.{⊎-elim}
 use mathlib.Core.Path.{_≡_, refl, sym, _∙_}
-use borrow.Author.Tests.{leb-true, le-leb, eqb-true, eq-eqb}
-use lib.Dec.{eqb}
+use borrow.Author.Tests.{leb-true, le-leb}
 use lib.ListN.{length, getD, replicate, length-replicate}
 use Rattle.laws.proofs.Lists.{zeros-at}
 use Rattle.laws.proofs.Tests.{and-both, and-fst, and-snd, false-fails, not-true-is-false}
@@ -31,6 +30,7 @@ use Rattle.passes.specs.Passes.{Reached, Leading, Earliest}
 use Rattle.passes.specs.Walk.{nextOf, pathOf}
 use Rattle.passes.proofs.AnyLaws.{Passing, any-says, any-holds}
 use Rattle.passes.proofs.HoldLaws.{held-says, held-least}
+use Rattle.passes.proofs.EndsLaws.{arrivable-says, arrivable-holds, endable-says, endable-holds}
 use Rattle.passes.proofs.NearCells.{first-best}
 use Rattle.passes.proofs.NextLaws.{step-before, step-after}
 use Rattle.search.specs.Seek.{taskIn, Agrees}
@@ -97,18 +97,24 @@ module _ (g : Scene) (room : List ℕ) (start count : ℕ) (cells : List ℕ) (f
     -- A dock of those that can be held from beat t on is an ending in the room, and the other way round.
     end-dock : (t c : ℕ) → t ≤ g .horizon → Passing (endableAt ds t c) count → Ending ok (among cells count) (g .horizon) t c
         × (inSet g room t c ≡ true)
-    unfolding endableAt heldDocks
-    end-dock t c h p = (record { docks = among-found cells c (p .which) count (p .below) (sym same); holds = λ u l b. move u c c b (near-same (g .width) c) (stays (suc u) (omega arith) b) }, stays t (omega arith) h)
+    unfolding heldDocks
+    end-dock t c h p = (ending, stays t (omega arith) h)
       where
-        same : c ≡ getD cells (p .which) 0
-        same = eqb-true c (getD cells (p .which) 0) (and-snd (heldAt ds t (p .which)) (eqb c (getD cells (p .which) 0)) (p .passes))
+        told : (heldAt ds t (p .which) ≡ true) × (c ≡ getD cells (p .which) 0)
+        told = endable-says ds t c (p .which) (p .passes)
 
         stays : (u : ℕ) → t ≤ u → u ≤ g .horizon → inSet g room u c ≡ true
-        stays u l b =
-            rw same (held-room t (p .which) (p .below) (and-fst (heldAt ds t (p .which)) (eqb c (getD cells (p .which) 0)) (p .passes)) u l b)
+        stays u l b = rw (told .1) (held-room t (p .which) (p .below) (told .0) u l b)
+
+        ending : Ending ok (among cells count) (g .horizon) t c
+        ending =
+            record {
+              docks = among-found cells c (p .which) count (p .below) (sym (told .1));
+              holds = λ u l b. move u c c b (near-same (g .width) c) (stays (suc u) (omega arith) b);
+            }
 
     dock-end : (t c : ℕ) → Ending ok (among cells count) (g .horizon) t c → inSet g room t c ≡ true → Passing (endableAt ds t c) count
-    unfolding endableAt heldDocks
+    unfolding heldDocks
     dock-end t c e i = at (among-place cells c count (e .docks))
       where
         stays : (u : ℕ) → t ≤ u → u ≤ g .horizon → inSet g room u c ≡ true
@@ -121,7 +127,7 @@ module _ (g : Scene) (room : List ℕ) (start count : ℕ) (cells : List ℕ) (f
             record {
               which = k;
               below = l;
-              passes = and-both (room-held t k l (λ u a b. rw q (stays u a b))) (eq-eqb c (getD cells k 0) (sym q));
+              passes = endable-holds ds t c k (room-held t k l (λ u a b. rw q (stays u a b))) (sym q);
             }
 
     module _ (n : ℕ) (s : List ℕ) (early : n ≤ g .horizon) (reached : Reached g room start n s) (clear : inSet g room 0 start ≡ true) where
@@ -154,25 +160,22 @@ module _ (g : Scene) (room : List ℕ) (start count : ℕ) (cells : List ℕ) (f
 
       -- A beat is an arrival exactly if the search finds it to be one.
       arrives : (t : ℕ) → t ≤ g .horizon → arrivable g s ds t ≡ true → Reaches ok (among cells count) (g .horizon) F t
-      unfolding F arrivable arrivableAt endableAt heldDocks
+      unfolding F arrivable heldDocks
       arrives t h e =
           let p : Passing (arrivableAt g s ds t) count = any-says (arrivableAt g s ds t) count e in
+          let told = arrivable-says g s ds t (p .which) (p .passes) in
           let d = getD cells (p .which) 0 in
-          let held = and-fst (heldAt ds t (p .which)) (inSet g s t d) (p .passes) in
-          record {
-            where-to = d;
-            reached = and-snd (heldAt ds t (p .which)) (inSet g s t d) (p .passes);
-            ending = (end-dock t d h (record { which = p .which; below = p .below; passes = and-both held (eq-eqb d d refl) })) .0;
-          }
+          let end : Passing (endableAt ds t d) count =
+          record { which = p .which; below = p .below; passes = endable-holds ds t d (p .which) (told .0) refl } in
+          record { where-to = d; reached = told .1; ending = (end-dock t d h end) .0 }
 
       found-arrival : (t : ℕ) → t ≤ n → Reaches ok (among cells count) (g .horizon) F t → arrivable g s ds t ≡ true
-      unfolding F arrivable arrivableAt endableAt heldDocks
+      unfolding F arrivable heldDocks
       found-arrival t h r =
-          let d = r .where-to in
-          let p = dock-end t d (r .ending) (forward-room t d h (r .reached)) in
-          let held = and-fst (heldAt ds t (p .which)) (eqb d (getD cells (p .which) 0)) (p .passes) in
-          let same = eqb-true d (getD cells (p .which) 0) (and-snd (heldAt ds t (p .which)) (eqb d (getD cells (p .which) 0)) (p .passes)) in
-          any-holds (arrivableAt g s ds t) count (p .which) (p .below) (and-both held (rw same at (r .reached)))
+          let p = dock-end t (r .where-to) (r .ending) (forward-room t (r .where-to) h (r .reached)) in
+          let told = endable-says ds t (r .where-to) (p .which) (p .passes) in
+          any-holds (arrivableAt g s ds t) count (p .which) (p .below)
+          (arrivable-holds g s ds t (p .which) (told .0) (rw (told .1) at (r .reached)))
 
       -- No beat through the horizon is an arrival.
       pub never : (a : ℕ) → g .horizon ≤ n → Earliest (arrivable g s (heldDocks g room count cells)) (g .horizon + 1) a → g .horizon < a →
@@ -271,7 +274,11 @@ module _ (g : Scene) (room : List ℕ) (start count : ℕ) (cells : List ℕ) (f
             record {
               clear = sym (agrees 0 start (omega arith)) ∙ clear;
               forward = forward;
-              least = record { within = early; reaches = reaches; none-before = λ b l q. earliest .none-before b l (found-arrival b (omega arith) q) };
+              least = record {
+                within = early;
+                reaches = reaches;
+                none-before = λ b l q. earliest .none-before b l (found-arrival b (omega arith) q);
+              };
               backward = backward;
               greedy = greedy;
               long = length-filled (replicate 64 0) x (g .horizon + 1) ∙ length-replicate {A = ℕ} 64 0;
@@ -279,6 +286,7 @@ module _ (g : Scene) (room : List ℕ) (start count : ℕ) (cells : List ℕ) (f
             }
 
         -- The walk is the best route.
-        pub walk-best : best (taskIn g start (among cells count) free) vs ≡ route (filled (replicate 64 0) (pathOf g T start n) (g .horizon + 1))
+        pub walk-best : best (taskIn g start (among cells count) free) vs
+            ≡ route (filled (replicate 64 0) (pathOf g T start n) (g .horizon + 1))
         unfolding r x
         walk-best = found-best task vs short F B n r found

@@ -26,8 +26,8 @@ pub record Claims : Type 0 where
   -- There is an answer exactly if the request is granted.
   pub answers-exactly : (f : Floor) (ws : List ℕ) (i : ℕ) (m : List ℕ) →
       ((x : Answer) × (searchOf f ws i m ≡ answered x)) ↔ Granted f ws i m
-  -- What is answered is a route: from the start, across sides, off the walls, at its last cell, a dock, from its arrival through the horizon, and
-  -- without conflict with any view as it is seen.
+  -- What is answered is a route: from the start, across sides, off the walls, at its last cell, a dock, from its arrival through the
+  -- horizon, and without conflict with any view as it is seen.
   pub answers-route : (f : Floor) (ws : List ℕ) (i : ℕ) (m r : List ℕ) → searchOf f ws i m ≡ answered (route r) →
       IsRoute (taskOf f ws i) r × Arrives (f .horizon) r (arrivalOf r (f .horizon))
       × ClearOf (f .horizon) r (seen f (viewsOf m i))

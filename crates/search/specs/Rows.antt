@@ -7,22 +7,21 @@ use Rattle.floor.specs.declared.Floor.{Floor}
 use Rattle.floor.specs.Checks.{startOf, countOf, dockOf}
 use Rattle.route.specs.Route.{View}
 use Rattle.route.specs.Search.{best}
-use Rattle.words.specs.Words.{without}
-use Rattle.words.specs.Rows.{marked, filled, Clean}
+use Rattle.words.specs.Rows.{droppedAt, filled, Clean}
 use Rattle.search.specs.Task.{taskOf, taskOfRows}
 
--- The first n walls as a set of cells.
-unfoldable pub wallRows : ℕ → ℕ → List ℕ → ℕ → List ℕ
-wallRows w cells ws zero = replicate 32 0
-wallRows w cells ws (suc n) = marked w cells 0 (getD ws n 0) (wallRows w cells ws n)
+-- The rows of a grid.
+unfoldable pub gridRows : ℕ → ℕ → List ℕ
+gridRows w h = filled (replicate 32 0) (λ r. 2 ^ w - 1) h
 
--- The cells of a grid that are not in a set.
-unfoldable pub gridWithout : ℕ → ℕ → List ℕ → List ℕ
-gridWithout w h walls = filled (replicate 32 0) (λ r. without (2 ^ w - 1) (getD walls r 0)) h
+-- Rows without the first n walls.
+unfoldable pub wallsOut : ℕ → ℕ → List ℕ → List ℕ → ℕ → List ℕ
+wallsOut w cells ws rows zero = rows
+wallsOut w cells ws rows (suc n) = droppedAt w cells 0 (getD ws n 0) (wallsOut w cells ws rows n)
 
 -- The free cells of a floor as rows: the grid without its walls.
 unfoldable pub freeRowsOf : Floor → List ℕ → List ℕ
-freeRowsOf f ws = gridWithout (f .width) (f .height) (wallRows (f .width) (f .width * f .height) ws (f .walls))
+freeRowsOf f ws = wallsOut (f .width) (f .width * f .height) ws (gridRows (f .width) (f .height)) (f .walls)
 
 -- The rows are the floor's free cells: every digit is a cell, and a search with them answers as with the walls.
 pub record FreeRows (f : Floor) (ws rows : List ℕ) : Type 0 where

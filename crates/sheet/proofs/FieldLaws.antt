@@ -133,6 +133,10 @@ is-field-good text at h =
 pub good-is-field : (text : List ℕ) (at : ℕ) → GoodField text at → isField text at ≡ true
 good-is-field text at g = bytes-is-field text at (g .value) (g .small) (index-bytes text at (g .value) (g .bytes))
 
+-- Its value is the number of the five bytes.
+pub good-number : (text : List ℕ) (at : ℕ) (g : GoodField text at) → numberAt text at ≡ g .value
+good-number text at g = bytes-number text at (g .value) (g .small) (index-bytes text at (g .value) (g .bytes))
+
 -- A field in good form is the text of its number.
 pub field-text : (text : List ℕ) (at : ℕ) → fieldForm text at ≡ passed → part text at 5 ≡ fieldOf (numberAt text at)
 unfolding fieldForm

@@ -1,214 +1,191 @@
 -- A floor written and read is the same floor.
-use Prim.Native.Nat.{ℕ, _+_, _*_, _/_, _%_, _≤_, _<_}
+use Prim.Native.Nat.{ℕ, zero, suc, _+_, _*_, _/_, _%_, _≤_, _<_}
 use native.Mathlib.Omega.{arith}
-use native.Mathlib.Nat.{mod-lt, div-lt-iff-lt-mul, mul-comm}
-use mathlib.Core.Path.{_≡_, refl, sym, _∙_, ap₂}
-use mathlib.Core.List.{List, [], _∷_, _++_}
+use mathlib.Core.Path.{_≡_, refl, sym, _∙_, ap}
+use mathlib.Core.List.{List}
 use borrow.Author.Tests.{le-leb}
-use lib.ListN.{length, getD, length-append}
-use lib.Dec.{lit<}
+use lib.ListN.{length, getD}
 use Rattle.floor.specs.declared.Floor.{Floor}
 use Rattle.laws.specs.Verdict.{passed}
-use Rattle.floor.specs.Checks.{startOf, goalOf, limitsOf, checkOf}
-use Rattle.floor.specs.Accepted.{Accepted, SameFloor}
+use Rattle.floor.specs.Checks.{startOf, countOf, dockOf, limitsOf, checkOf}
+use Rattle.floor.specs.Accepted.{SameFloor}
 use Rattle.laws.proofs.VerdictLaws.{then-passed, demand-passes, turn-passes}
-use Rattle.floor.proofs.LimitsLaws.{Bounds, limited-bounds, check-tells}
+use Rattle.floor.proofs.LimitsLaws.{check-tells}
 use Rattle.floor.proofs.SameLaws.{places-same}
-use Rattle.floor.proofs.Theorems.{theorems}
-use Rattle.fields.specs.Field.{numberAt}
-use Rattle.sheet.specs.Text.{carrierLines, wallLines, headLine, carrierLine, wallLine, sheetOf, sheetLength, carrierAt, goalAt}
-use Rattle.sheet.specs.Text.{wallAt}
-use Rattle.fields.specs.Form.{lineForm, endForm}
-use Rattle.sheet.specs.Form.{linesForm, restForm}
-use Rattle.sheet.specs.Values.{cellAt, headAt, floorAt, cellsAt, wallsFrom, wallsAt}
+use Rattle.fields.specs.Form.{lineForm, countedForm, pastCounted, pastPair, columnPast, linesForm, endForm}
+use Rattle.fields.proofs.ColumnLaws.{pair-columns}
+use Rattle.sheet.specs.Text.{sheetOf, carrierAt, wallAt}
+use Rattle.sheet.specs.Text.{sheetLength}
+use Rattle.sheet.specs.Form.{carrierColumn, wallColumn, restForm}
+use Rattle.sheet.specs.Values.{cellAt, startIn, countIn, dockIn, placeIn, startsAt, countsAt, docksAt, headAt, floorAt, wallsFrom}
+use Rattle.sheet.specs.Values.{wallsAt}
 use Rattle.sheet.specs.Read.{formOf, sheetVerdict}
-use Rattle.sheet.proofs.CellLaws.{number-value, cell-of-cell}
-use Rattle.sheet.proofs.ListedLaws.{listed-at, upTo-at}
-use Rattle.sheet.proofs.LineLaws.{head-length, carrier-length, wall-length}
-use Rattle.sheet.proofs.SheetLaws.{carriers-length, walls-length, sheet-length}
-use Rattle.laws.specs.Memory.{part}
-use Rattle.laws.proofs.PartLaws.{part-whole, part-blocks}
-use Rattle.sheet.proofs.LineText.{numbersFrom, text-line}
-use Rattle.sheet.proofs.LinesText.{lines-parts}
-
--- The two numbers of a cell, read as a cell.
-cell-read : (text : List ℕ) (w h at c : ℕ) → 0 < w → w ≤ 32 → h ≤ 32 → c < w * h
-    → numberAt text at ≡ c % w → numberAt text (at + 5) ≡ c / w → cellAt text w h at ≡ c
-unfolding cellAt
-cell-read text w h at c z a b l e g =
-    let col : c % w < w = mod-lt c z in
-    let row : c / w < h = div-lt-iff-lt-mul z .1 (rw mul-comm l) in
-    rw (number-value text at (c % w) (omega arith) e, number-value text (at + 5) (c / w) (omega arith) g) (cell-of-cell w h c l z)
+use Rattle.sheet.proofs.CellLaws.{number-value}
+use Rattle.sheet.proofs.ListedLaws.{listed-at, upTo-at, upTo-below}
+use Rattle.sheet.proofs.SheetLaws.{sheet-length}
+use Rattle.sheet.proofs.DockLaws.{dock-place}
+use Rattle.sheet.proofs.FloorLines.{accepted, bounds, head-same, head-reads, carrier-reads, column-said, columns-same, wall-reads}
 
 module _ (f : Floor) (ws : List ℕ) (ok : checkOf f ws ≡ passed) where
-  accepted : Accepted f ws
-  accepted = theorems .passes-exactly f ws .0 ok
-
-  bounds : Bounds f
-  bounds = limited-bounds f (accepted .limited)
-
   abbrev text : List ℕ
   text = sheetOf f ws
 
-  whole : part text 0 (31 + (21 * f .carriers + 11 * f .walls)) ≡ headLine f ++ (carrierLines f ++ wallLines f ws)
-  unfolding sheetOf sheetLength wallAt
-  whole = part-whole text _ (sheet-length f ws ∙ omega arith)
+  -- What is read of a carrier.
+  count-reads : (i : ℕ) → i < f .carriers → countIn text i ≡ countOf f i
+  unfolding countIn
+  count-reads i l =
+      number-value text _ (countOf f i) (omega (arith, accepted f ws ok .carriers-in-grid i l .0 .1))
+      (rw (columns-same f ws ok i (omega arith)) (carrier-reads f ws ok i l .count))
 
-  front : (part text 0 31 ≡ headLine f) × (part text 31 (21 * f .carriers + 11 * f .walls) ≡ carrierLines f ++ wallLines f ws)
-  front =
-      part-blocks text (headLine f) (carrierLines f ++ wallLines f ws) 0 31 _ (head-length f)
-      (length-append (carrierLines f) (wallLines f ws) ∙ ap₂ (λ (x y : ℕ). x + y) (carriers-length f ws) (walls-length f ws))
-      (omega arith)
-      whole
+  start-reads : (i : ℕ) → i < f .carriers → startIn text (headAt text) i ≡ startOf f i
+  unfolding startIn
+  start-reads i l =
+      rw (head-same f ws ok .width, head-same f ws ok .height, columns-same f ws ok i (omega arith)) (carrier-reads f ws ok i l .start)
 
-  back : (part text 31 (21 * f .carriers) ≡ carrierLines f) × (part text (31 + 21 * f .carriers) (11 * f .walls) ≡ wallLines f ws)
-  back =
-      part-blocks text (carrierLines f) (wallLines f ws) 31 (21 * f .carriers) (11 * f .walls)
-      (carriers-length f ws) (walls-length f ws) (omega (arith, bounds .carriers .0))
-      (front .1)
+  dock-reads : (i k : ℕ) → i < f .carriers → k < countOf f i → dockIn text (headAt text) i k ≡ dockOf f i k
+  unfolding dockIn
+  dock-reads i k l g =
+      rw (head-same f ws ok .width, head-same f ws ok .height, columns-same f ws ok i (omega arith)) (carrier-reads f ws ok i l .docks k g)
 
-  carrier-part : (i : ℕ) → i < f .carriers → part text (31 + 21 * i) 21 ≡ carrierLine f i
-  carrier-part = lines-parts text (carrierLine f) 21 31 (carrier-length f) (lit< tt) (f .carriers) (back .0)
+  place-reads : (i k : ℕ) → i < f .carriers → k < countOf f i → placeIn text (headAt text) (4 * i + k) ≡ dockOf f i k
+  unfolding placeIn
+  place-reads i k l g =
+      let few = accepted f ws ok .carriers-in-grid i l .0 .1 in
+      let col : (4 * i + k) % 4 ≡ k = omega (arith, few, g) in
+      let row : (4 * i + k) / 4 ≡ i = omega (arith, few, g) in
+      rw (col, row)
+      (upTo-below _ _ i (rw (head-same f ws ok .carriers-same) l) ∙ upTo-below _ _ k (rw (count-reads i l) g) ∙ dock-reads i k l g)
 
-  wall-part : (j : ℕ) → j < f .walls → part text (31 + 21 * f .carriers + 11 * j) 11 ≡ wallLine (f .width) (getD ws j 0)
-  wall-part =
-      lines-parts text (λ j. wallLine (f .width) (getD ws j 0)) 11 (31 + 21 * f .carriers) (λ j. wall-length (f .width) (getD ws j 0))
-      (lit< tt) (f .walls)
-      (back .1)
+  -- The floor that is read, place by place.
+  starts-return : (i : ℕ) → i < f .carriers → startOf f i ≡ startOf (floorAt text) i
+  unfolding floorAt startOf startsAt
+  starts-return i l =
+      sym (upTo-at (startIn text (headAt text)) (headAt text .carriers) 8 i (rw (head-same f ws ok .carriers-same) l)
+      (omega (arith, bounds f ws ok .carriers .1)) ∙ start-reads i l)
 
-  -- Line 1, read.
-  head-reads : (lineForm text 0 6 ≡ passed) ×
-      (numbersFrom text 0 6 ≡ f .width ∷ f .height ∷ f .horizon ∷ f .depth ∷ f .carriers ∷ f .walls ∷ [])
-  unfolding headLine
-  head-reads =
-      text-line text (f .width ∷ f .height ∷ f .horizon ∷ f .depth ∷ f .carriers ∷ f .walls ∷ []) 0 (omega (arith, bounds)) (front .0)
+  counts-return : (i : ℕ) → i < f .carriers → countOf f i ≡ countOf (floorAt text) i
+  unfolding floorAt countOf countsAt
+  counts-return i l =
+      sym (upTo-at (countIn text) (headAt text .carriers) 8 i (rw (head-same f ws ok .carriers-same) l)
+      (omega (arith, bounds f ws ok .carriers .1)) ∙ count-reads i l)
 
-  -- The six values of line 1.
-  record HeadSame : Type 0 where
-    width : headAt text .width ≡ f .width
-    height : headAt text .height ≡ f .height
-    horizon : headAt text .horizon ≡ f .horizon
-    depth : headAt text .depth ≡ f .depth
-    carriers-same : headAt text .carriers ≡ f .carriers
-    walls-same : headAt text .walls ≡ f .walls
+  places-return : (q : ℕ) → q < 32 → getD (floorAt text .docks) q 0 ≡ placeIn text (headAt text) q
+  unfolding floorAt docksAt
+  places-return q l = listed-at (placeIn text (headAt text)) 32 q l
 
-  head-same : HeadSame
-  unfolding headAt numbersFrom
-  head-same =
-      let read = head-reads .1 in
-      record {
-        width = number-value text 0 (f .width) (omega (arith, bounds .width .1)) (cc);
-        height = number-value text 5 (f .height) (omega (arith, bounds .height .1)) (cc);
-        horizon = number-value text 10 (f .horizon) (omega (arith, bounds .horizon .1)) (cc);
-        depth = number-value text 15 (f .depth) (omega (arith, bounds .depth .1)) (cc);
-        carriers-same = number-value text 20 (f .carriers) (omega (arith, bounds .carriers .1)) (cc);
-        walls-same = number-value text 25 (f .walls) (omega (arith, bounds .walls .1)) (cc);
-      }
+  docks-return : (i k : ℕ) → i < f .carriers → k < countOf f i → dockOf f i k ≡ dockOf (floorAt text) i k
+  docks-return i k l g =
+      let few = accepted f ws ok .carriers-in-grid i l .0 .1 in
+      sym (dock-place (floorAt text) i k (omega (arith, few, g))
+      ∙ places-return (4 * i + k) (omega (arith, few, g, l, bounds f ws ok .carriers .1)) ∙ place-reads i k l g)
 
-  -- The column and the row of a cell of the grid are small numbers.
-  small : (c : ℕ) → c < f .width * f .height → (c % f .width < 100000) × (c / f .width < 100000)
-  small c l =
-      let col : c % f .width < f .width = mod-lt c (bounds .width .0) in
-      let row : c / f .width < f .height = div-lt-iff-lt-mul (bounds .width .0) .1 (rw mul-comm l) in
-      (omega (arith, bounds .width .1), omega (arith, bounds .height .1))
+  -- Line 1 of the floor that is read.
+  width-same : floorAt text .width ≡ f .width
+  unfolding floorAt headAt
+  width-same = head-same f ws ok .width
 
-  cell-reads : (at c : ℕ) → c < f .width * f .height → numberAt text at ≡ c % f .width → numberAt text (at + 5) ≡ c / f .width
-      → cellAt text (f .width) (f .height) at ≡ c
-  cell-reads at c l = cell-read text (f .width) (f .height) at c (bounds .width .0) (bounds .width .1) (bounds .height .1) l
+  height-same : floorAt text .height ≡ f .height
+  unfolding floorAt headAt
+  height-same = head-same f ws ok .height
 
-  -- A carrier's line, read.
-  record CarrierReads (i : ℕ) : Type 0 where
-    form : lineForm text (carrierAt i) 4 ≡ passed
-    start : cellAt text (f .width) (f .height) (carrierAt i) ≡ startOf f i
-    goal : cellAt text (f .width) (f .height) (goalAt i) ≡ goalOf f i
+  horizon-same : floorAt text .horizon ≡ f .horizon
+  unfolding floorAt headAt
+  horizon-same = head-same f ws ok .horizon
 
-  carrier-reads : (i : ℕ) → i < f .carriers → CarrierReads i
-  unfolding carrierLine carrierAt goalAt numbersFrom
-  carrier-reads i l =
-      let w = f .width in
-      let c = startOf f i in
-      let d = goalOf f i in
-      let inside = accepted .carriers-in-grid i l in
-      let s = small c (inside .0) in
-      let g = small d (inside .1) in
-      let r =
-      text-line text (c % w ∷ c / w ∷ d % w ∷ d / w ∷ []) (31 + 21 * i) (s .0, (s .1, (g .0, (g .1, tt))))
-      (carrier-part i l)
-      in
-      let read = r .1 in
-      let third : 31 + 21 * i + 5 + 5 ≡ 41 + 21 * i = omega arith in
-      record {
-        form = r .0;
-        start = cell-reads (31 + 21 * i) c (inside .0) (cc) (cc);
-        goal = cell-reads (41 + 21 * i) d (inside .1) (cc) (cc);
-      }
+  depth-same : floorAt text .depth ≡ f .depth
+  unfolding floorAt headAt
+  depth-same = head-same f ws ok .depth
 
-  -- A wall's line, read.
-  record WallReads (j : ℕ) : Type 0 where
-    form : lineForm text (wallAt f j) 2 ≡ passed
-    cell : cellAt text (f .width) (f .height) (wallAt f j) ≡ getD ws j 0
+  carriers-counted : floorAt text .carriers ≡ f .carriers
+  unfolding floorAt headAt
+  carriers-counted = head-same f ws ok .carriers-same
 
-  wall-reads : (j : ℕ) → j < f .walls → WallReads j
-  unfolding wallLine wallAt numbersFrom
-  wall-reads j l =
-      let w = f .width in
-      let c = getD ws j 0 in
-      let inside = accepted .walls-in-grid j l in
-      let s = small c inside in
-      let at = 31 + 21 * f .carriers + 11 * j in
-      let r = text-line text (c % w ∷ c / w ∷ []) at (s .0, (s .1, tt)) (wall-part j l) in
-      let read = r .1 in
-      record { form = r .0; cell = cell-reads at c inside (cc) (cc) }
+  walls-counted : floorAt text .walls ≡ f .walls
+  unfolding floorAt headAt
+  walls-counted = head-same f ws ok .walls-same
 
-  -- The walls stand where line 1's counts say.
-  wall-column : (j : ℕ) → wallAt (headAt text) j ≡ wallAt f j
+  -- The walls stand where the floor's dock counts say.
+  ends : (i : ℕ) → i ≤ f .carriers → carrierAt (floorAt text) i ≡ carrierAt f i
+  unfolding carrierAt
+  ends zero l = refl
+  ends (suc i) l = rw (ends i (omega arith), ← counts-return i (omega arith))
+
+  wall-place : (j : ℕ) → wallAt (floorAt text) j ≡ wallAt f j
   unfolding wallAt
-  wall-column j = rw (head-same .carriers-same)
+  wall-place j =
+      ap (λ (e : ℕ). e + 11 * j) (ap (carrierAt (floorAt text)) carriers-counted ∙ ends (f .carriers) (omega arith))
 
-  -- A floor written and read is the same floor.
-  pub floor-returns : SameFloor f ws (floorAt text) (wallsAt text)
-  unfolding floorAt headAt startOf goalOf cellsAt wallsAt wallsFrom wallAt
-  floor-returns =
-      let h = head-same in
-      record {
-        width = sym (h .width);
-        height = sym (h .height);
-        horizon = sym (h .horizon);
-        depth = sym (h .depth);
-        carriers = sym (h .carriers-same);
-        walls = sym (h .walls-same);
-        starts = λ i l. sym (upTo-at _ _ 8 i (rw (h .carriers-same) l) (omega (arith, bounds .carriers .1))
-            ∙ rw (h .width, h .height) (carrier-reads i l .start));
-        goals = λ i l. sym (upTo-at _ _ 8 i (rw (h .carriers-same) l) (omega (arith, bounds .carriers .1))
-            ∙ rw (h .width, h .height) (carrier-reads i l .goal));
-        cells = λ j l. sym (listed-at _ _ j (rw (h .walls-same) l) ∙ rw (h .width, h .height, h .carriers-same) (wall-reads j l .cell));
-      }
+  walls-columns : (j : ℕ) → columnPast pastPair (carrierColumn text (f .carriers)) j ≡ wallAt f j
+  unfolding wallAt
+  walls-columns j = pair-columns (carrierColumn text (f .carriers)) j ∙ rw (columns-same f ws ok (f .carriers) (omega arith))
 
   end : wallAt f (f .walls) ≡ sheetLength f
   unfolding sheetLength
   end = refl
 
-  -- The sheet of an accepted floor is in good form.
+  cell-there : (j : ℕ)
+      → cellAt text (floorAt text .width) (floorAt text .height) (wallAt (floorAt text) j) ≡ cellAt text (f .width) (f .height) (wallAt f j)
+  cell-there j =
+      ap (λ (w : ℕ). cellAt text w (floorAt text .height) (wallAt (floorAt text) j)) width-same
+      ∙ ap (λ (h : ℕ). cellAt text (f .width) h (wallAt (floorAt text) j)) height-same
+      ∙ ap (cellAt text (f .width) (f .height)) (wall-place j)
+
+  cells-return : (j : ℕ) → j < f .walls → getD ws j 0 ≡ getD (wallsAt text) j 0
+  unfolding wallsAt wallsFrom
+  cells-return j l =
+      sym (listed-at (λ (e : ℕ). cellAt text (floorAt text .width) (floorAt text .height) (wallAt (floorAt text) e)) (floorAt text .walls) j
+      (omega (arith, walls-counted, l)) ∙ cell-there j ∙ wall-reads f ws ok j l .cell)
+
+  -- A floor written and read is the same floor.
+  pub floor-returns : SameFloor f ws (floorAt text) (wallsAt text)
+  floor-returns =
+      record {
+        width = sym width-same;
+        height = sym height-same;
+        horizon = sym horizon-same;
+        depth = sym depth-same;
+        carriers = sym carriers-counted;
+        walls = sym walls-counted;
+        starts = starts-return;
+        counts = counts-return;
+        docks = λ i l k g. docks-return i k l g;
+        cells = cells-return;
+      }
+
+  -- The sheet of an accepted f ws ok floor is in good form.
+  carriers-pass : linesForm (countedForm text) (pastCounted text) 31 (headAt text .carriers) ≡ passed
+  unfolding linesForm
+  carriers-pass =
+      turn-passes _ _ (λ i l.
+      let b : i < f .carriers = rw (head-same f ws ok .carriers-same) at l in
+      rw (column-said f ws ok i ∙ columns-same f ws ok i (omega arith)) (carrier-reads f ws ok i b .form))
+
+  walls-pass : linesForm (λ (c : ℕ). lineForm text c 2) pastPair (carrierColumn text (headAt text .carriers)) (headAt text .walls) ≡ passed
+  unfolding linesForm
+  walls-pass =
+      rw (head-same f ws ok .carriers-same)
+      (turn-passes _ _ (λ j l. rw (walls-columns j) (wall-reads f ws ok j (rw (head-same f ws ok .walls-same) at l) .form)))
+
   rest-passes : restForm text (headAt text) ≡ passed
-  unfolding restForm linesForm endForm
+  unfolding restForm endForm wallColumn
   rest-passes =
-      let column : wallAt (headAt text) (headAt text .walls) ≡ sheetLength f = rw
-      (wall-column (headAt text .walls), head-same .walls-same) end in
-      let tail : length text ≤ wallAt (headAt text) (headAt text .walls) = omega (arith, sheet-length f ws) in
-      then-passed (turn-passes _ _ (λ i l. carrier-reads i (rw (head-same .carriers-same) at l) .form))
-      ∙ then-passed (turn-passes _ _ (λ j l. rw (wall-column j) (wall-reads j (rw (head-same .walls-same) at l) .form)))
-      ∙ demand-passes 1 _ (le-leb _ _ tail)
+      let column = columnPast pastPair (carrierColumn text (headAt text .carriers)) (headAt text .walls) in
+      let last : column ≡ sheetLength f =
+      rw (head-same f ws ok .carriers-same, head-same f ws ok .walls-same) (walls-columns (f .walls) ∙ end)
+      in
+      then-passed carriers-pass ∙ then-passed walls-pass
+      ∙ demand-passes 1 column (le-leb (length text) column (omega (arith, sheet-length f ws, last)))
 
   limits-pass : limitsOf (headAt text) ≡ passed
   unfolding limitsOf
   limits-pass =
-      let h = head-same in
+      let h = head-same f ws ok in
       rw (h .width, h .height, h .horizon, h .depth, h .carriers-same, h .walls-same) (check-tells f ws ok .limited)
 
-  -- The sheet of an accepted floor is accepted.
+  -- The sheet of an accepted f ws ok floor is accepted f ws ok.
   pub has-sheet : sheetVerdict text ≡ passed
   unfolding sheetVerdict formOf
   has-sheet =
-      then-passed (then-passed (head-reads .0) ∙ then-passed limits-pass ∙ rest-passes)
+      then-passed (then-passed (head-reads f ws ok .0) ∙ then-passed limits-pass ∙ rest-passes)
       ∙ sym (places-same f ws (floorAt text) (wallsAt text) floor-returns)
       ∙ check-tells f ws ok .places

@@ -1,7 +1,7 @@
 -- The lines of a sheet as blocks: their lengths, and a line put field by field.
 use Prim.Native.Nat.{ℕ, zero, suc, _+_, _*_, _≤_, _<_}
 use native.Mathlib.Omega.{arith}
-use native.Mathlib.Nat.{mul-suc, mul-zero}
+use native.Mathlib.Nat.{add-zero, mul-suc, mul-zero}
 use native.Mathlib.Numerals.{add-one}
 use borrow.Author.Needs.{needs}
 use mathlib.Core.Path.{_≡_, refl, sym, _∙_, ap}
@@ -9,7 +9,7 @@ use mathlib.Core.List.{List, [], _∷_, _++_}
 use lib.ListN.{length, set, length-append}
 use Rattle.floor.specs.declared.Floor.{Floor}
 use Rattle.fields.specs.Field.{fieldOf}
-use Rattle.sheet.specs.Text.{lineOf, linesOf, headLine, carrierLine, wallLine}
+use Rattle.sheet.specs.Text.{lineOf, linesOf, headLine, wallLine}
 use Rattle.laws.specs.Memory.{put}
 use Rattle.laws.proofs.PutLaws.{put-none, put-length, put-next, put-one}
 
@@ -43,26 +43,40 @@ pub head-length : (f : Floor) → length (headLine f) ≡ 31
 unfolding headLine lineOf fieldOf
 head-length f = refl
 
-pub carrier-length : (f : Floor) (i : ℕ) → length (carrierLine f i) ≡ 21
-unfolding carrierLine lineOf fieldOf
-carrier-length f i = refl
-
 pub wall-length : (width c : ℕ) → length (wallLine width c) ≡ 11
 unfolding wallLine lineOf fieldOf
 wall-length width c = refl
 
--- A loop that puts lines one behind the other: one more, and its length; then before the first, and after the last.
-module _ (line : ℕ → List ℕ) (w at : ℕ) (size : (i : ℕ) → length (line i) ≡ w) where
-  pub lines-next : (m m′ m″ : List ℕ) (i n : ℕ) → m′ ≡ put m at (linesOf line i) → m″ ≡ put m′ n (line i) → at + w * i ≡ n
-      → n + w ≤ length m → m″ ≡ put m at (linesOf line (i + 1))
+-- Lines one behind the other, line i from column at i on: where they end; then a loop that puts them, one more and its length.
+module _ (line : ℕ → List ℕ) (at : ℕ → ℕ) (behind : (i : ℕ) → at (suc i) ≡ at i + length (line i)) where
+  pub lines-span : (k : ℕ) → at 0 + length (linesOf line k) ≡ at k
+  unfolding linesOf
+  lines-span zero = add-zero (at 0)
+  lines-span (suc k) = rw length-append (omega (arith, behind k, lines-span k))
+
+  pub lines-next : (m m′ m″ : List ℕ) (i n : ℕ) → m′ ≡ put m (at 0) (linesOf line i) → m″ ≡ put m′ n (line i) → n ≡ at i
+      → at (suc i) ≤ length m → m″ ≡ put m (at 0) (linesOf line (i + 1))
   unfolding linesOf
   lines-next m m′ m″ i n e f s l =
       rw add-one
+      (put-next m m′ m″ (linesOf line i) (line i) (at 0) n e f (omega (arith, lines-span i, s)) (omega (arith, behind i, s, l)))
+
+  pub lines-keep : (m m′ : List ℕ) (i : ℕ) → at i ≤ length m → m′ ≡ put m (at 0) (linesOf line i) → length m′ ≡ length m
+  lines-keep m m′ i l e = ap length e ∙ put-length m (linesOf line i) (at 0) (omega (arith, lines-span i, l))
+
+-- The same of lines of one length.
+module _ (line : ℕ → List ℕ) (w at : ℕ) (size : (i : ℕ) → length (line i) ≡ w) where
+  pub even-next : (m m′ m″ : List ℕ) (i n : ℕ) → m′ ≡ put m at (linesOf line i) → m″ ≡ put m′ n (line i) → at + w * i ≡ n
+      → n + w ≤ length m → m″ ≡ put m at (linesOf line (i + 1))
+  unfolding linesOf
+  even-next m m′ m″ i n e f s l =
+      rw add-one
       (put-next m m′ m″ (linesOf line i) (line i) at n e f (rw (lines-length line w size i) s) (rw (size i) l))
 
-  pub lines-keep : (m m′ : List ℕ) (i : ℕ) → at + w * i ≤ length m → m′ ≡ put m at (linesOf line i) → length m′ ≡ length m
-  lines-keep m m′ i l e = ap length e ∙ put-length m (linesOf line i) at (rw (lines-length line w size i) l)
+  pub even-keep : (m m′ : List ℕ) (i : ℕ) → at + w * i ≤ length m → m′ ≡ put m at (linesOf line i) → length m′ ≡ length m
+  even-keep m m′ i l e = ap length e ∙ put-length m (linesOf line i) at (rw (lines-length line w size i) l)
 
+-- Before the first line and after the last.
 module _ (line : ℕ → List ℕ) (m : List ℕ) (at : ℕ) where
   pub lines-start : m ≡ put m at (linesOf line 0)
   unfolding linesOf

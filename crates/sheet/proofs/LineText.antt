@@ -104,7 +104,8 @@ line-cons text vs v at l e r =
     field zero h = let z : at + 5 * 0 ≡ at = omega arith in rw z (text-field text at v l e .0)
     field (suc i) h = let q : at + 5 * suc i ≡ at + 5 + 5 * i = omega arith in rw q (r .fields i (omega arith))
 
-text-fields : (text vs : List ℕ) (at : ℕ) → Small vs → part text at (5 * length vs + 1) ≡ lineOf vs → LineTells text at vs
+-- The text of numbers, taken apart.
+pub text-fields : (text vs : List ℕ) (at : ℕ) → Small vs → part text at (5 * length vs + 1) ≡ lineOf vs → LineTells text at vs
 unfolding lineOf numbersFrom
 text-fields text [] at small e =
     let z : at + 5 * 0 ≡ at = omega arith in

@@ -59,11 +59,11 @@ listed-same g h zero a = refl
 listed-same g h (suc m) a = rw (listed-same g h m (λ k l. a k (omega arith)), a m (omega arith))
 
 module _ (g : ℕ → ℕ) where
-  upTo-below : (n k : ℕ) → k < n → upTo n g k ≡ g k
+  pub upTo-below : (n k : ℕ) → k < n → upTo n g k ≡ g k
   unfolding upTo
   upTo-below n k l = rw (lt-ltb k n l)
 
-  upTo-past : (n k : ℕ) → n ≤ k → upTo n g k ≡ 0
+  pub upTo-past : (n k : ℕ) → n ≤ k → upTo n g k ≡ 0
   unfolding upTo
   upTo-past n k l = rw (le-ltb k n l)
 
@@ -123,5 +123,9 @@ module _ (g : ℕ → ℕ) where
       let e : i ≡ n = omega arith in
       rw e at h
 
+  -- After the last of all places.
+  pub upTo-all : (i m : ℕ) (xs : List ℕ) → i ≤ m → m ≤ i → xs ≡ listed (upTo i g) m → xs ≡ listed g m
+  upTo-all i m xs a b h = upTo-end i m m xs a b h ∙ listed-same (upTo m g) g m (λ k l. upTo-below m k l)
+
 -- What the first and the last answer of a loop that lists numbers take.
-pub ruleset lists = (needs, listed-start, listed-end, upTo-none, upTo-end)
+pub ruleset lists = (needs, listed-start, listed-end, upTo-none, upTo-end, upTo-all)

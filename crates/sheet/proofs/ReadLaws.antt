@@ -9,7 +9,9 @@ use Rattle.floor.specs.declared.Checked.{Checked}
 use Rattle.floor.specs.declared.Checked.the-variants.{Refused}
 use Rattle.floor.specs.Answers.{verdictOf}
 use Rattle.laws.specs.Verdict.{Verdict, passed, _then_}
-use Rattle.floor.specs.Checks.{placesOf, roomOf}
+use Rattle.floor.specs.Checks.{placesOf, roomOf, checkOf}
+use Rattle.floor.specs.Accepted.{Counted}
+use Rattle.floor.proofs.Theorems.{theorems}
 use Rattle.laws.proofs.VerdictLaws.{then-both, then-assoc, when-passed, when-refused}
 use Rattle.floor.proofs.AnswersLaws.{refuses}
 use Rattle.floor.proofs.LimitsLaws.{room-passed}
@@ -48,3 +50,7 @@ read-tells text room h =
     let a = then-both _ _ h in
     let b = then-both _ _ (a .0) in
     record { form = b .0; places = b .1; room-there = room-passed _ _ (a .1) }
+
+-- The dock counts of a floor that the checks pass are within their limits.
+pub accepted-counts : (f : Floor) (ws : List ℕ) → checkOf f ws ≡ passed → Counted f
+accepted-counts f ws ok i l = theorems .passes-exactly f ws .0 ok .carriers-in-grid i l .0

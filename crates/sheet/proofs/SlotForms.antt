@@ -5,10 +5,10 @@ use mathlib.Core.List.{List, [], _∷_, _++_}
 use Rattle.floor.specs.declared.Floor.{Floor}
 use Rattle.laws.specs.Verdict.{Verdict, passed, refused, _then_, inTurn}
 use Rattle.laws.proofs.VerdictLaws.{then-assoc}
-use Rattle.sheet.specs.Text.{carrierAt, wallAt}
-use Rattle.fields.specs.Form.{fieldForm, lineForm, endForm}
-use Rattle.sheet.specs.Form.{linesForm, restForm}
-use Rattle.sheet.specs.Refused.{Slot, field, newline, finish, fieldSlots, lineSlots, linesSlots, headSlots, restSlots}
+use Rattle.fields.specs.Field.{numberAt}
+use Rattle.fields.specs.Form.{fieldForm, lineForm, countedForm, pastCounted, pastPair, columnPast, linesForm, endForm}
+use Rattle.sheet.specs.Form.{carrierColumn, wallColumn, restForm}
+use Rattle.sheet.specs.Refused.{Slot, field, newline, finish, fieldSlots, lineSlots, carrierSlots, linesSlots, headSlots, restSlots}
 use Rattle.sheet.proofs.SlotLaws.{slotForm, slotsForm}
 
 then-nothing : (v : Verdict) → (v then passed) ≡ v
@@ -36,21 +36,30 @@ module _ (text : List ℕ) where
   unfolding lineForm lineSlots slotForm
   line-slots at m = rw (fields-slots at m, slots-one-more (fieldSlots at m) (newline (at + 5 * m)))
 
-  lines-slots : (at : ℕ → ℕ) (m k : ℕ) → linesForm text at m k ≡ slotsForm text (linesSlots at m k)
-  unfolding linesForm inTurn linesSlots slotsForm
-  lines-slots at m zero = refl
-  lines-slots at m (suc k) =
-      ap₂ _then_ (lines-slots at m k) (line-slots (at k) m) ∙ sym (slots-append (linesSlots at m k) (lineSlots (at k) m))
+  carrier-slots : (at : ℕ) → countedForm text at ≡ slotsForm text (carrierSlots text at)
+  unfolding countedForm carrierSlots slotsForm slotForm
+  carrier-slots at = rw (line-slots (at + 15) (2 * numberAt text (at + 10)))
+
+  -- Lines one behind the other.
+  lines-slots : (form : ℕ → Verdict) (line : ℕ → List Slot) → ((i : ℕ) → form i ≡ slotsForm text (line i))
+      → (k : ℕ) → inTurn form k ≡ slotsForm text (linesSlots line k)
+  unfolding inTurn linesSlots slotsForm
+  lines-slots form line h zero = refl
+  lines-slots form line h (suc k) = ap₂ _then_ (lines-slots form line h k) (h k) ∙ sym (slots-append (linesSlots line k) (line k))
 
   pub head-slots : lineForm text 0 6 ≡ slotsForm text headSlots
   unfolding headSlots
   head-slots = line-slots 0 6
 
-  pub rest-slots : (f : Floor) → restForm text f ≡ slotsForm text (restSlots f)
-  unfolding restForm restSlots slotForm
+  pub rest-slots : (f : Floor) → restForm text f ≡ slotsForm text (restSlots text f)
+  unfolding restForm restSlots slotForm linesForm carrierColumn wallColumn
   rest-slots f =
+      let carriers : ℕ → List Slot = λ i. carrierSlots text (columnPast (pastCounted text) 31 i) in
+      let n = columnPast (pastCounted text) 31 (f .carriers) in
+      let walls : ℕ → List Slot = λ j. lineSlots (columnPast pastPair n j) 2 in
+      let last = columnPast pastPair n (f .walls) in
       sym
-      (slots-append (linesSlots carrierAt 4 (f .carriers)) (linesSlots (wallAt f) 2 (f .walls) ++ (finish (wallAt f (f .walls)) ∷ []))
-      ∙ ap₂ _then_ (sym (lines-slots carrierAt 4 (f .carriers)))
-      (slots-one-more (linesSlots (wallAt f) 2 (f .walls)) (finish (wallAt f (f .walls)))
-      ∙ ap (λ (v : Verdict). v then endForm text (wallAt f (f .walls))) (sym (lines-slots (wallAt f) 2 (f .walls)))))
+      (slots-append (linesSlots carriers (f .carriers)) (linesSlots walls (f .walls) ++ (finish last ∷ []))
+      ∙ ap₂ _then_ (sym (lines-slots _ carriers (λ i. carrier-slots _) (f .carriers)))
+      (slots-one-more (linesSlots walls (f .walls)) (finish last)
+      ∙ ap (λ (v : Verdict). v then endForm text last) (sym (lines-slots _ walls (λ j. line-slots _ 2) (f .walls)))))

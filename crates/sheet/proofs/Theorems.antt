@@ -1,17 +1,22 @@
 -- The claims of the sheet, proved.
-use Prim.Native.Nat.{ℕ, _+_, _*_, _≤_, _<_}
+use Prim.Native.Nat.{ℕ, zero, suc, _+_, _*_, _/_, _%_, _≤_, _<_}
 use native.Mathlib.Omega.{arith}
 use mathlib.Core.Path.{_≡_, refl, sym, _∙_}
 use mathlib.Core.Logic.{_↔_}
-use mathlib.Core.List.{List}
+use mathlib.Core.List.{List, [], _∷_, _++_}
+use lib.ListN.{getD, getD-replicate}
 use Rattle.laws.specs.Verdict.{passed, refused, _then_}
-use Rattle.floor.specs.Checks.{limitsOf}
+use Rattle.floor.specs.Checks.{limitsOf, startOf, countOf, dockOf}
+use Rattle.floor.specs.declared.Floor.{Floor}
+use Rattle.floor.specs.OneDock.{Earlier, oneEach, withOneDock}
 use Rattle.floor.specs.Accepted.{FieldWithin, Limited}
 use Rattle.laws.proofs.VerdictLaws.{then-both, refused-by, then-passed, then-refused}
 use Rattle.laws.proofs.EachLaws.{each-refused, first-refuses}
 use Rattle.floor.proofs.LimitsLaws.{fieldWithin, field-means, limits-each, limits-mean}
 use Rattle.floor.proofs.Theorems.{theorems as floor-theorems}
-use Rattle.fields.specs.Field.{numberAt}
+use Rattle.fields.specs.Field.{fieldOf, numberAt}
+use Rattle.sheet.specs.Text.{lineOf, cellNumbers, carrierLine}
+use Rattle.sheet.proofs.DockLaws.{dock-place}
 use Rattle.fields.specs.Form.{lineForm}
 use Rattle.sheet.specs.Form.{restForm}
 use Rattle.sheet.specs.Values.{valueAt, cellAt, headAt, floorAt, wallsAt}
@@ -30,10 +35,10 @@ module _ (text : List ℕ) where
   head-fine : (lineForm text 0 6 ≡ passed) ↔ AllFine text headSlots
   head-fine = (λ h. slots-fine text headSlots (sym (head-slots text) ∙ h), λ a. head-slots text ∙ fine-slots text headSlots a)
 
-  rest-fine : (restForm text (headAt text) ≡ passed) ↔ AllFine text (restSlots (headAt text))
+  rest-fine : (restForm text (headAt text) ≡ passed) ↔ AllFine text (restSlots text (headAt text))
   rest-fine = (
-    λ h. slots-fine text (restSlots (headAt text)) (sym (rest-slots text (headAt text)) ∙ h),
-    λ a. rest-slots text (headAt text) ∙ fine-slots text (restSlots (headAt text)) a,
+    λ h. slots-fine text (restSlots text (headAt text)) (sym (rest-slots text (headAt text)) ∙ h),
+    λ a. rest-slots text (headAt text) ∙ fine-slots text (restSlots text (headAt text)) a,
   )
 
   -- A refusal of the form, or of line 1's limits, has the condition of its row.
@@ -49,11 +54,11 @@ module _ (text : List ℕ) where
       (λ r. each-refused 2 1 _ _ (field-means (headAt text)) (RefusedSheet text) 6 k p (sym (limits-each (headAt text)) ∙ r)
       (λ i. outside-limit (head-fine .0 a)))
       (λ b r.
-      let d = slots-broken text (restSlots (headAt text)) k p (sym (rest-slots text (headAt text)) ∙ r) in
+      let d = slots-broken text (restSlots text (headAt text)) k p (sym (rest-slots text (headAt text)) ∙ r) in
       rw (d .0) (rest-form (head-fine .0 a) (limits-mean (headAt text) .0 b) (d .1))))
 
   -- What good form tells, as statements.
-  form-means : formOf text ≡ passed → (AllFine text headSlots) × (Limited (headAt text)) × (AllFine text (restSlots (headAt text)))
+  form-means : formOf text ≡ passed → (AllFine text headSlots) × (Limited (headAt text)) × (AllFine text (restSlots text (headAt text)))
   unfolding formOf
   form-means h =
       let a = then-both _ _ h in
@@ -83,7 +88,7 @@ module _ (text : List ℕ) where
   refusal k p (rest-form a l b) =
       then-refused _
       (then-passed (head-fine .1 a) ∙ then-passed (limits-mean (headAt text) .1 l) ∙ rest-slots text (headAt text)
-      ∙ broken-slots text (restSlots (headAt text)) p b)
+      ∙ broken-slots text (restSlots text (headAt text)) p b)
   refusal k p (floor-row a l b r) =
       let good : formOf text ≡ passed = then-passed (head-fine .1 a) ∙ then-passed (limits-mean (headAt text) .1 l) ∙ rest-fine .1 b in
       then-passed good ∙ sym (placed-checked text good) ∙ floor-theorems .refuses-exactly (floorAt text) (wallsAt text) k p .1 r
@@ -104,6 +109,48 @@ cell-means text w h at a b = (
       cell-in w h (valueAt text at) (valueAt text (at + 5)) (omega (arith, g .0)) (omega (arith, g .1)),
 )
 
+-- With one dock a carrier's line is document 01's with a count of 1.
+one-cell : (w s : ℕ) (d : ℕ → ℕ) (g : ℕ) → d 0 ≡ g
+    → lineOf (s % w ∷ s / w ∷ 1 ∷ cellNumbers w d 1)
+    ≡ fieldOf (s % w) ++ (fieldOf (s / w) ++ (fieldOf 1 ++ lineOf (g % w ∷ g / w ∷ [])))
+unfolding lineOf cellNumbers
+one-cell w s d g h = rw h
+
+goal-place : (gs : List ℕ) (i : ℕ) → getD (oneEach gs) (4 * i) 0 ≡ getD gs i 0
+unfolding oneEach
+goal-place [] i = refl
+goal-place (g ∷ gs) zero = refl
+goal-place (g ∷ gs) (suc i) =
+    let e : 4 * suc i ≡ suc (suc (suc (suc (4 * i)))) = omega arith in
+    rw e (goal-place gs i)
+
+one-goal : (e : Earlier) (i : ℕ) → dockOf (withOneDock e) i 0 ≡ getD (e .goals) i 0
+unfolding withOneDock
+one-goal e i =
+    let z : 4 * i + 0 ≡ 4 * i = omega arith in
+    dock-place (withOneDock e) i 0 (omega arith) ∙ rw z (goal-place (e .goals) i)
+
+one-start : (e : Earlier) (i : ℕ) → startOf (withOneDock e) i ≡ getD (e .starts) i 0
+unfolding withOneDock startOf
+one-start e i = refl
+
+one-line : (f : Floor) (i s g : ℕ) → startOf f i ≡ s → countOf f i ≡ 1 → dockOf f i 0 ≡ g
+    → carrierLine f i
+    ≡ fieldOf (s % f .width) ++ (fieldOf (s / f .width) ++ (fieldOf 1 ++ lineOf (g % f .width ∷ g / f .width ∷ [])))
+unfolding carrierLine
+one-line f i s g a b c = rw (a, b) (one-cell (f .width) s (dockOf f i) g c)
+
+one-count : (e : Earlier) (i : ℕ) → i < 8 → countOf (withOneDock e) i ≡ 1
+unfolding withOneDock countOf
+one-count e i l = getD-replicate 8 i 1 0 l
+
+one-dock : (e : Earlier) (i : ℕ) → i < 8
+    → carrierLine (withOneDock e) i
+    ≡ fieldOf (getD (e .starts) i 0 % e .width) ++ (fieldOf (getD (e .starts) i 0 / e .width)
+    ++ (fieldOf 1 ++ lineOf (getD (e .goals) i 0 % e .width ∷ getD (e .goals) i 0 / e .width ∷ [])))
+unfolding withOneDock
+one-dock e i l = one-line (withOneDock e) i (getD (e .starts) i 0) (getD (e .goals) i 0) (one-start e i) (one-count e i l) (one-goal e i)
+
 pub theorems : Claims
 theorems =
     record {
@@ -115,4 +162,5 @@ theorems =
       cell-in-grid = cell-means;
       sheet-length = sheet-length;
       place-low = place-low;
+      one-dock = one-dock;
     }

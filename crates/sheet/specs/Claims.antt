@@ -1,15 +1,16 @@
 -- The claims about sheets; `proofs/Theorems.antt` inhabits the record.
-use Prim.Native.Nat.{ℕ, _*_, _+_, _≤_, _<_}
+use Prim.Native.Nat.{ℕ, _*_, _+_, _/_, _%_, _≤_, _<_}
 use mathlib.Core.Path.{_≡_}
 use mathlib.Core.Logic.{_↔_}
-use mathlib.Core.List.{List}
-use lib.ListN.{length}
+use mathlib.Core.List.{List, [], _∷_, _++_}
+use lib.ListN.{length, getD}
 use Rattle.floor.specs.declared.Floor.{Floor}
+use Rattle.floor.specs.OneDock.{Earlier, withOneDock}
 use Rattle.laws.specs.Verdict.{passed, refused}
 use Rattle.floor.specs.Checks.{checkOf}
 use Rattle.floor.specs.Accepted.{SameFloor}
-use Rattle.fields.specs.Field.{numberAt}
-use Rattle.sheet.specs.Text.{sheetOf, sheetLength}
+use Rattle.fields.specs.Field.{fieldOf, numberAt}
+use Rattle.sheet.specs.Text.{lineOf, carrierLine, sheetOf, sheetLength}
 use Rattle.sheet.specs.Values.{cellAt, floorAt, wallsAt}
 use Rattle.sheet.specs.Read.{sheetVerdict}
 use Rattle.sheet.specs.Refused.{RefusedSheet}
@@ -31,4 +32,9 @@ pub record Claims : Type 0 where
   -- The sheet's length is the documented figure.
   pub sheet-length : (f : Floor) (ws : List ℕ) → length (sheetOf f ws) ≡ sheetLength f
   -- The place of a refusal is never past the longest sheet, so that it has at most five digits.
-  pub place-low : (text : List ℕ) (k p : ℕ) → sheetVerdict text ≡ refused k p → p ≤ 11452
+  pub place-low : (text : List ℕ) (k p : ℕ) → sheetVerdict text ≡ refused k p → p ≤ 11732
+  -- With one dock a carrier's line is document 01's, start and goal, with a count of 1 put in behind the start.
+  pub one-dock : (e : Earlier) (i : ℕ) → i < 8
+      → carrierLine (withOneDock e) i
+      ≡ fieldOf (getD (e .starts) i 0 % e .width) ++ (fieldOf (getD (e .starts) i 0 / e .width)
+      ++ (fieldOf 1 ++ lineOf (getD (e .goals) i 0 % e .width ∷ getD (e .goals) i 0 / e .width ∷ [])))

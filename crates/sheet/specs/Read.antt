@@ -15,7 +15,7 @@ use Rattle.sheet.specs.Values.{headAt, floorAt, wallsAt}
 unfoldable pub formOf : List ℕ → Verdict
 formOf text = lineForm text 0 6 then limitsOf (headAt text) then restForm text (headAt text)
 
--- Then 3, 4, 5, 6.
+-- Then 3, 4, 5, 6, 17.
 unfoldable pub sheetVerdict : List ℕ → Verdict
 sheetVerdict text = formOf text then placesOf (floorAt text) (wallsAt text)
 

@@ -8,13 +8,13 @@ use Rattle.floor.specs.declared.Floor.{Floor}
 use Rattle.floor.specs.Accepted.{FieldWithin, Limited}
 use Rattle.laws.specs.Verdict.{First}
 use Rattle.floor.specs.Refused.{RefusedWith}
-use Rattle.fields.specs.Field.{fieldOf}
-use Rattle.sheet.specs.Text.{carrierAt, wallAt}
+use Rattle.fields.specs.Field.{fieldOf, numberAt}
+use Rattle.sheet.specs.Form.{carrierColumn, wallColumn}
 use Rattle.sheet.specs.Values.{headAt, floorAt, wallsAt}
 
--- What must stand at a column: a field, a newline, or nothing more.
+-- What must stand at a column: a field, a dock count, a newline, or nothing more.
 pub data Slot : Type 0 where
-  field newline finish : ℕ → Slot
+  field count newline finish : ℕ → Slot
 
 -- The five bytes from a column on are the text of a number.
 pub record GoodField (text : List ℕ) (at : ℕ) : Type 0 where
@@ -22,9 +22,16 @@ pub record GoodField (text : List ℕ) (at : ℕ) : Type 0 where
   pub small : value < 100000
   pub bytes : (i : ℕ) → i < 5 → getD text (at + i) 0 ≡ getD (fieldOf value) i 0
 
+-- They are the text of a number of 1 to 4.
+pub record GoodCount (text : List ℕ) (at : ℕ) : Type 0 where
+  pub good : GoodField text at
+  pub least : 1 ≤ good .value
+  pub most : good .value ≤ 4
+
 -- A slot is as it must be.
 abbrev pub Fine : List ℕ → Slot → Type 0
 Fine text (field at) = (at + 5 ≤ length text) × GoodField text at
+Fine text (count at) = (at + 5 ≤ length text) × GoodCount text at
 Fine text (newline at) = (at < length text) × (getD text at 0 ≡ 10)
 Fine text (finish at) = length text ≤ at
 
@@ -32,6 +39,8 @@ Fine text (finish at) = length text ≤ at
 pub data Broken (text : List ℕ) : Slot → ℕ → Type 0 where
   cut : {at : ℕ} → length text < at + 5 → Broken text (field at) (length text)
   bad : {at : ℕ} → at + 5 ≤ length text → (GoodField text at → ⊥) → Broken text (field at) at
+  cut-count : {at : ℕ} → length text < at + 5 → Broken text (count at) (length text)
+  bad-count : {at : ℕ} → at + 5 ≤ length text → (GoodCount text at → ⊥) → Broken text (count at) at
   ended : {at : ℕ} → length text ≤ at → Broken text (newline at) (length text)
   wrong : {at : ℕ} → at < length text → (getD text at 0 ≡ 10 → ⊥) → Broken text (newline at) at
   extra : {at : ℕ} → at < length text → Broken text (finish at) at
@@ -45,7 +54,7 @@ pub data FirstBroken (text : List ℕ) : List Slot → ℕ → Type 0 where
   here : {s : Slot} {ss : List Slot} {p : ℕ} → Broken text s p → FirstBroken text (s ∷ ss) p
   later : {s : Slot} {ss : List Slot} {p : ℕ} → Fine text s → FirstBroken text ss p → FirstBroken text (s ∷ ss) p
 
--- The slots of m fields, of a line, of k lines, of line 1 and of what follows it, in their order.
+-- The slots of m fields, of a line, of a carrier's line, of k lines, of line 1 and of what follows it, in their order.
 unfoldable pub fieldSlots : ℕ → ℕ → List Slot
 fieldSlots at zero = []
 fieldSlots at (suc m) = fieldSlots at m ++ (field (at + 5 * m) ∷ [])
@@ -53,15 +62,21 @@ fieldSlots at (suc m) = fieldSlots at m ++ (field (at + 5 * m) ∷ [])
 unfoldable pub lineSlots : ℕ → ℕ → List Slot
 lineSlots at m = fieldSlots at m ++ (newline (at + 5 * m) ∷ [])
 
-unfoldable pub linesSlots : (ℕ → ℕ) → ℕ → ℕ → List Slot
-linesSlots at m zero = []
-linesSlots at m (suc k) = linesSlots at m k ++ lineSlots (at k) m
+unfoldable pub carrierSlots : List ℕ → ℕ → List Slot
+carrierSlots text at = field at ∷ field (at + 5) ∷ count (at + 10) ∷ lineSlots (at + 15) (2 * numberAt text (at + 10))
+
+unfoldable pub linesSlots : (ℕ → List Slot) → ℕ → List Slot
+linesSlots line zero = []
+linesSlots line (suc k) = linesSlots line k ++ line k
 
 unfoldable pub headSlots : List Slot
 headSlots = lineSlots 0 6
 
-unfoldable pub restSlots : Floor → List Slot
-restSlots f = linesSlots carrierAt 4 (f .carriers) ++ (linesSlots (wallAt f) 2 (f .walls) ++ (finish (wallAt f (f .walls)) ∷ []))
+unfoldable pub restSlots : List ℕ → Floor → List Slot
+restSlots text f =
+    linesSlots (λ i. carrierSlots text (carrierColumn text i)) (f .carriers)
+    ++ (linesSlots (λ j. lineSlots (wallColumn text (f .carriers) j) 2) (f .walls)
+    ++ (finish (wallColumn text (f .carriers) (f .walls)) ∷ []))
 
 pub data RefusedSheet (text : List ℕ) : ℕ → ℕ → Type 0 where
   -- 1, byte offset: line 1's form is wrong.
@@ -69,8 +84,8 @@ pub data RefusedSheet (text : List ℕ) : ℕ → ℕ → Type 0 where
   -- 2, field: line 1 has a value outside its limits.
   outside-limit : {i : ℕ} → AllFine text headSlots → First (FieldWithin (headAt text)) 6 i → RefusedSheet text 2 (1 + i)
   -- 1, byte offset: the form of the other lines is wrong.
-  rest-form : {p : ℕ} → AllFine text headSlots → Limited (headAt text) → FirstBroken text (restSlots (headAt text)) p
+  rest-form : {p : ℕ} → AllFine text headSlots → Limited (headAt text) → FirstBroken text (restSlots text (headAt text)) p
       → RefusedSheet text 1 p
-  -- 3, 4, 5, 6: as for a record, on the floor that the text says.
-  floor-row : {k p : ℕ} → AllFine text headSlots → Limited (headAt text) → AllFine text (restSlots (headAt text))
+  -- 3, 4, 5, 6, 17: as for a record, on the floor that the text says.
+  floor-row : {k p : ℕ} → AllFine text headSlots → Limited (headAt text) → AllFine text (restSlots text (headAt text))
       → RefusedWith (floorAt text) (wallsAt text) k p → RefusedSheet text k p

@@ -3,8 +3,9 @@ use Prim.Native.Nat.{ℕ, zero, suc, _+_, _*_, _/_, _%_}
 use mathlib.Core.List.{List, [], _∷_, _++_}
 use lib.ListN.{getD}
 use Rattle.floor.specs.declared.Floor.{Floor}
-use Rattle.floor.specs.Checks.{startOf, goalOf}
+use Rattle.floor.specs.Checks.{startOf, countOf, dockOf}
 use Rattle.fields.specs.Field.{fieldOf}
+use Rattle.fields.specs.Form.{countedLength}
 
 -- A line: its fields and one newline.
 unfoldable pub lineOf : List ℕ → List ℕ
@@ -20,10 +21,16 @@ linesOf line (suc k) = linesOf line k ++ line k
 unfoldable pub headLine : Floor → List ℕ
 headLine f = lineOf (f .width ∷ f .height ∷ f .horizon ∷ f .depth ∷ f .carriers ∷ f .walls ∷ [])
 
--- A carrier's line: start column, start row, goal column, goal row.
+-- The columns and rows of the cells d 0 to d (m − 1).
+unfoldable pub cellNumbers : ℕ → (ℕ → ℕ) → ℕ → List ℕ
+cellNumbers width d zero = []
+cellNumbers width d (suc m) = d 0 % width ∷ d 0 / width ∷ cellNumbers width (λ k. d (suc k)) m
+
+-- A carrier's line: start column, start row, dock count, then the docks' columns and rows.
 unfoldable pub carrierLine : Floor → ℕ → List ℕ
 carrierLine f i =
-    lineOf (startOf f i % f .width ∷ startOf f i / f .width ∷ goalOf f i % f .width ∷ goalOf f i / f .width ∷ [])
+    lineOf
+    (startOf f i % f .width ∷ startOf f i / f .width ∷ countOf f i ∷ cellNumbers (f .width) (dockOf f i) (countOf f i))
 
 -- A wall's line: column, row.
 unfoldable pub wallLine : ℕ → ℕ → List ℕ
@@ -40,16 +47,13 @@ wallLines f ws = linesOf (λ j. wallLine (f .width) (getD ws j 0)) (f .walls)
 unfoldable pub sheetOf : Floor → List ℕ → List ℕ
 sheetOf f ws = headLine f ++ (carrierLines f ++ wallLines f ws)
 
--- The columns at which a carrier's line begins, its goal stands and a wall's line begins, and the sheet's length: 31 bytes, 21 a
--- carrier, 11 a wall.
-unfoldable pub carrierAt : ℕ → ℕ
-carrierAt i = 31 + 21 * i
-
-unfoldable pub goalAt : ℕ → ℕ
-goalAt i = 41 + 21 * i
+-- The columns at which a carrier's line and a wall's line begin, and the sheet's length: 31 bytes, 16 a carrier and 10 a dock, 11 a wall.
+unfoldable pub carrierAt : Floor → ℕ → ℕ
+carrierAt f zero = 31
+carrierAt f (suc i) = carrierAt f i + countedLength (countOf f i)
 
 unfoldable pub wallAt : Floor → ℕ → ℕ
-wallAt f j = 31 + 21 * f .carriers + 11 * j
+wallAt f j = carrierAt f (f .carriers) + 11 * j
 
 unfoldable pub sheetLength : Floor → ℕ
 sheetLength f = wallAt f (f .walls)

@@ -1,12 +1,13 @@
--- What a text in good form says: its values stand at fixed columns.
-use Prim.Native.Nat.{ℕ, zero, suc, _+_, _*_, min}
+-- What a text in good form says: line 1's values stand at fixed columns, a carrier's behind the lines before its own.
+use Prim.Native.Nat.{ℕ, zero, suc, _+_, _*_, _/_, _%_, min}
 use mathlib.Core.Bool.{cond, _&&_}
 use mathlib.Core.List.{List, [], _∷_, _++_}
 use lib.ListN.{replicate}
 use lib.Dec.{ltb}
 use Rattle.floor.specs.declared.Floor.{Floor}
 use Rattle.fields.specs.Field.{numberAt}
-use Rattle.sheet.specs.Text.{carrierAt, goalAt, wallAt}
+use Rattle.sheet.specs.Text.{wallAt}
+use Rattle.sheet.specs.Form.{carrierColumn}
 
 -- A value as a record holds it: 65535 stands for every number above it, which no limit and no grid reaches.
 unfoldable pub valueAt : List ℕ → ℕ → ℕ
@@ -30,8 +31,8 @@ unfoldable pub upTo : ℕ → (ℕ → ℕ) → ℕ → ℕ
 upTo n g i = cond (ltb i n) (g i) 0
 
 -- Line 1, with the carriers placed as given.
-abbrev pub lineOneAt : List ℕ → List ℕ → List ℕ → Floor
-lineOneAt text starts goals =
+abbrev pub lineOneAt : List ℕ → List ℕ → List ℕ → List ℕ → Floor
+lineOneAt text starts counts docks =
     record {
       width = valueAt text 0;
       height = valueAt text 5;
@@ -40,20 +41,41 @@ lineOneAt text starts goals =
       carriers = valueAt text 20;
       walls = valueAt text 25;
       starts = starts;
-      goals = goals;
+      counts = counts;
+      docks = docks;
     }
 
 -- Line 1, with no carrier placed yet.
 unfoldable pub headAt : List ℕ → Floor
-headAt text = lineOneAt text (replicate 8 0) (replicate 8 0)
+headAt text = lineOneAt text (replicate 8 0) (replicate 8 0) (replicate 32 0)
 
--- The cells of the carriers of a floor, from the columns given, in a list of eight; 0 past the carrier count.
-unfoldable pub cellsAt : List ℕ → Floor → (ℕ → ℕ) → List ℕ
-cellsAt text f at = listed (upTo (f .carriers) (λ i. cellAt text (f .width) (f .height) (at i))) 8
+-- The start, the dock count and dock k of carrier i, for the grid of a floor.
+unfoldable pub startIn : List ℕ → Floor → ℕ → ℕ
+startIn text f i = cellAt text (f .width) (f .height) (carrierColumn text i)
+
+unfoldable pub countIn : List ℕ → ℕ → ℕ
+countIn text i = valueAt text (carrierColumn text i + 10)
+
+unfoldable pub dockIn : List ℕ → Floor → ℕ → ℕ → ℕ
+dockIn text f i k = cellAt text (f .width) (f .height) (carrierColumn text i + 15 + 10 * k)
+
+-- Place q of the docks: dock q % 4 of carrier q / 4; 0 past the carriers, and past a dock count.
+unfoldable pub placeIn : List ℕ → Floor → ℕ → ℕ
+placeIn text f q = upTo (f .carriers) (λ i. upTo (countIn text i) (dockIn text f i) (q % 4)) (q / 4)
+
+-- The starts, the dock counts and the docks of a floor's carriers, as a record holds them; 0 past the carriers.
+unfoldable pub startsAt : List ℕ → Floor → List ℕ
+startsAt text f = listed (upTo (f .carriers) (startIn text f)) 8
+
+unfoldable pub countsAt : List ℕ → Floor → List ℕ
+countsAt text f = listed (upTo (f .carriers) (countIn text)) 8
+
+unfoldable pub docksAt : List ℕ → Floor → List ℕ
+docksAt text f = listed (placeIn text f) 32
 
 -- The floor that the text says: line 1, and each carrier's cells from its line.
 unfoldable pub floorAt : List ℕ → Floor
-floorAt text = lineOneAt text (cellsAt text (headAt text) carrierAt) (cellsAt text (headAt text) goalAt)
+floorAt text = lineOneAt text (startsAt text (headAt text)) (countsAt text (headAt text)) (docksAt text (headAt text))
 
 -- The walls that the text says, for the counts and the grid of a floor.
 unfoldable pub wallsFrom : List ℕ → Floor → List ℕ

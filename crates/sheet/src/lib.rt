@@ -12,6 +12,7 @@ ghost use Rattle.floor.specs.Checks.{placesOf};
 ghost use Rattle.sheet.specs.Values.{floorAt, wallsAt};
 ghost use Rattle.sheet.specs.Read.{formOf, readVerdict, readFloor, readWalls, writeVerdict, writeSheet};
 ghost use Rattle.sheet.specs.Text.{sheetLength};
+use fields::Reached;
 use floor::Checked;
 use floor::Floor;
 
@@ -27,8 +28,8 @@ fn form_of(text: &[u8]) -> Checked
     ensures { λ r. ⌜ verdictOf r ≡ formOf (now (text .entry)) ⌝ }
 {
     let line = fields::line_form(text, 0, 6);
-    let Checked::Passed = line else {
-        return line;
+    let Reached::At(_) = line else {
+        return fields::checked(line);
     };
     let f = values::head(text);
     let limited = floor::limits(f);
@@ -45,7 +46,7 @@ pub fn no_walls() -> [u16; 1023]
     [0; 1023]
 }
 
-// 3 to 6, on the floor that a text in good form says.
+// 3 to 6 and 17, on the floor that a text in good form says.
 fn places(text: &[u8]) -> Checked
     requires { ⌜ formOf (now text) ≡ passed ⌝ }
     ensures { λ r. ⌜ verdictOf r ≡ placesOf (floorAt (now (text .entry))) (wallsAt (now (text .entry))) ⌝ }
@@ -93,11 +94,11 @@ pub fn read(text: &[u8], walls: &mut [u16]) -> Reading
     }
 }
 
-// The length in bytes of a floor's sheet: 31, 21 a carrier, 11 a wall. This is the needed length of sheet memory.
+// The length in bytes of a floor's sheet: 31, 16 a carrier and 10 a dock, 11 a wall. This is the needed length of sheet memory.
 pub fn sheet_length(f: Floor) -> usize
     ensures { λ r. ⌜ r ≡ sheetLength f ⌝ }
 {
-    31 + 21 * f.carriers as usize + 11 * f.walls as usize
+    lines::walls_at(f) + 11 * f.walls as usize
 }
 
 // Writes the sheet of a floor into lent memory.

@@ -3,9 +3,12 @@ ghost use mathlib.Core.Path.{_≡_};
 ghost use mathlib.Core.List.{_++_};
 ghost use Prim.Native.Nat.{_+_, _*_, _%_, _/_, _≤_, _<_};
 ghost use lib.ListN.{length};
-ghost use Rattle.floor.specs.Checks.{startOf, goalOf};
+ghost use Rattle.floor.specs.Checks.{countOf, dockOf};
+ghost use Rattle.floor.specs.Accepted.{Counted};
 ghost use Rattle.fields.specs.Field.{fieldOf};
-ghost use Rattle.sheet.specs.Text.{headLine, carrierLine, wallLine, carrierLines, wallLines, sheetOf, sheetLength};
+ghost use Rattle.fields.specs.Form.{countedLength};
+ghost use Rattle.sheet.specs.Text.{linesOf, headLine, carrierLine, wallLine, carrierLines, wallLines, sheetOf};
+ghost use Rattle.sheet.specs.Text.{carrierAt, sheetLength};
 ghost use Rattle.laws.specs.Memory.{put};
 use fields::put_field;
 use floor::Floor;
@@ -34,30 +37,73 @@ fn put_head(f: Floor, out: &mut [u8])
     out[30] = 10;
 }
 
+// The dock count of carrier i; 0 for one that the record has no place for.
+fn dock_count(f: Floor, i: usize) -> usize
+    ensures { λ r. ⌜ (r ≡ countOf f i) × (r ≤ 65535) ⌝ }
+{
+    if 8 <= i {
+        return 0;
+    }
+    f.counts[i] as usize
+}
+
+// The column past the carriers' lines, at which the walls' begin.
+pub fn walls_at(f: Floor) -> usize
+    ensures { λ r. ⌜ (r ≡ carrierAt f (f .carriers)) × (r ≤ 100000000000) ⌝ }
+{
+    let n = f.carriers as usize;
+    let mut at: usize = 31;
+    let mut i: usize = 0;
+    while i < n {
+        at += 16 + 10 * dock_count(f, i);
+        i += 1;
+    }
+    at
+}
+
+// The first docks of a carrier: their columns and rows.
+fn put_docks(f: Floor, i: usize, count: usize, out: &mut [u8], at: usize)
+    requires { ⌜ (i < 8) × (0 < f .width) ⌝ }
+    requires { ⌜ (count ≤ 4) × (at + 10 * count ≤ length (now out)) ⌝ }
+    ensures { λ r. ⌜ now (out .exit) ≡ put (now (out .entry)) at
+        (linesOf (λ k. fieldOf (dockOf f i k % f .width) ++ fieldOf (dockOf f i k / f .width)) count) ⌝ }
+{
+    let width = f.width;
+    let mut k: usize = 0;
+    while k < count {
+        put_cell(out, at + 10 * k, width, f.docks[4 * i + k]);
+        k += 1;
+    }
+}
+
 // A carrier's line.
 fn put_carrier(f: Floor, i: usize, out: &mut [u8], at: usize)
     requires { ⌜ (i < 8) × (0 < f .width) ⌝ }
-    requires { ⌜ at + 21 ≤ length (now out) ⌝ }
+    requires { ⌜ (countOf f i ≤ 4) × (at + countedLength (countOf f i) ≤ length (now out)) ⌝ }
     ensures { λ r. ⌜ now (out .exit) ≡ put (now (out .entry)) at (carrierLine f i) ⌝ }
 {
     let width = f.width;
     let start = f.starts[i];
-    let goal = f.goals[i];
+    let count = f.counts[i];
     put_cell(out, at, width, start);
-    put_cell(out, at + 10, width, goal);
-    out[at + 20] = 10;
+    put_field(out, at + 10, count);
+    put_docks(f, i, count as usize, out, at + 15);
+    out[at + 15 + 10 * count as usize] = 10;
 }
 
 // The carriers' lines.
 fn put_carriers(f: Floor, out: &mut [u8])
     requires { ⌜ (f .carriers ≤ 8) × (0 < f .width) ⌝ }
-    requires { ⌜ 31 + 21 * f .carriers ≤ length (now out) ⌝ }
+    requires { ⌜ Counted f ⌝ }
+    requires { ⌜ carrierAt f (f .carriers) ≤ length (now out) ⌝ }
     ensures { λ r. ⌜ now (out .exit) ≡ put (now (out .entry)) 31 (carrierLines f) ⌝ }
 {
     let n = f.carriers as usize;
+    let mut at: usize = 31;
     let mut i: usize = 0;
     while i < n {
-        put_carrier(f, i, out, 31 + 21 * i);
+        put_carrier(f, i, out, at);
+        at += 16 + 10 * dock_count(f, i);
         i += 1;
     }
 }
@@ -76,10 +122,10 @@ fn put_wall(width: u16, c: u16, out: &mut [u8], at: usize)
 fn put_walls(f: Floor, walls: &[u16], out: &mut [u8])
     requires { ⌜ (f .walls ≤ length (now walls)) × (0 < f .width) ⌝ }
     requires { ⌜ sheetLength f ≤ length (now out) ⌝ }
-    ensures { λ r. ⌜ now (out .exit) ≡ put (now (out .entry)) (31 + 21 * f .carriers) (wallLines f (now (walls .entry))) ⌝ }
+    ensures { λ r. ⌜ now (out .exit) ≡ put (now (out .entry)) (carrierAt f (f .carriers)) (wallLines f (now (walls .entry))) ⌝ }
 {
     let width = f.width;
-    let base = 31 + 21 * f.carriers as usize;
+    let base = walls_at(f);
     let k = f.walls as usize;
     let mut j: usize = 0;
     while j < k {
@@ -91,7 +137,7 @@ fn put_walls(f: Floor, walls: &[u16], out: &mut [u8])
 // The whole sheet.
 pub fn put_sheet(f: Floor, walls: &[u16], out: &mut [u8])
     requires { ⌜ (f .walls ≤ length (now walls)) × (0 < f .width) ⌝ }
-    requires { ⌜ f .carriers ≤ 8 ⌝ }
+    requires { ⌜ (f .carriers ≤ 8) × Counted f ⌝ }
     requires { ⌜ sheetLength f ≤ length (now out) ⌝ }
     ensures { λ r. ⌜ now (out .exit) ≡ put (now (out .entry)) 0 (sheetOf f (now (walls .entry))) ⌝ }
 {

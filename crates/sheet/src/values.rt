@@ -1,10 +1,15 @@
-// What a text in good form says: values at fixed columns.
+// What a text in good form says.
 ghost use mathlib.Core.Path.{_≡_};
 ghost use mathlib.Core.List.{_++_};
 ghost use Prim.Native.Nat.{_+_, _*_, _≤_, _<_};
 ghost use lib.ListN.{length, drop};
-ghost use Rattle.sheet.specs.Text.{carrierAt, wallAt, sheetLength};
+ghost use Rattle.laws.specs.Verdict.{passed};
+ghost use Rattle.fields.specs.Form.{countedForm, pastCounted, linesForm};
+ghost use Rattle.sheet.specs.Text.{carrierAt};
+ghost use Rattle.sheet.specs.Form.{carrierColumn};
 ghost use Rattle.sheet.specs.Values.{valueAt, cellOf, cellAt, upTo, listed, headAt, floorAt, wallsFrom};
+ghost use Rattle.sheet.specs.Values.{countIn, placeIn, startsAt, countsAt, docksAt};
+use crate::lines;
 use floor::Floor;
 
 // The value at a column, as a record holds it.
@@ -55,16 +60,34 @@ pub fn head(text: &[u8]) -> Floor
         carriers: value(text, 20),
         walls: value(text, 25),
         starts: [0; 8],
-        goals: [0; 8],
+        counts: [0; 8],
+        docks: [0; 32],
     }
 }
 
-// The cells that stand at column `at` of line 1's text and every 21 bytes on, one a carrier.
-fn cells(text: &[u8], f: Floor, at: usize) -> [u16; 8]
+// The columns at which the carriers' lines begin.
+fn columns(text: &[u8], n: usize) -> [usize; 8]
+    requires { ⌜ n ≤ 8 ⌝ }
+    requires { ⌜ linesForm (countedForm (now text)) (pastCounted (now text)) 31 n ≡ passed ⌝ }
+    ensures { λ r. ⌜ r ≡ listed (upTo n (carrierColumn (now (text .entry)))) 8 ⌝ }
+{
+    let mut found = [0usize; 8];
+    let mut column: usize = 31;
+    let mut i: usize = 0;
+    while i < n {
+        found[i] = column;
+        column += 16 + 10 * fields::number(text, column + 10) as usize;
+        i += 1;
+    }
+    found
+}
+
+// The carriers' starts.
+fn starts(text: &[u8], f: Floor, at: [usize; 8]) -> [u16; 8]
     requires { ⌜ (f .width ≤ 32) × (f .height ≤ 32) ⌝ }
-    requires { ⌜ (f .carriers ≤ 8) × (at ≤ 41) ⌝ }
-    requires { ⌜ at + 21 * f .carriers ≤ length (now text) + 11 ⌝ }
-    ensures { λ r. ⌜ r ≡ listed (upTo (f .carriers) (λ i. cellAt (now (text .entry)) (f .width) (f .height) (at + 21 * i))) 8 ⌝ }
+    requires { ⌜ (f .carriers ≤ 8) × (linesForm (countedForm (now text)) (pastCounted (now text)) 31 (f .carriers) ≡ passed) ⌝ }
+    requires { ⌜ at ≡ listed (upTo (f .carriers) (carrierColumn (now text))) 8 ⌝ }
+    ensures { λ r. ⌜ r ≡ startsAt (now (text .entry)) f ⌝ }
 {
     let n = f.carriers as usize;
     let width = f.width;
@@ -72,8 +95,60 @@ fn cells(text: &[u8], f: Floor, at: usize) -> [u16; 8]
     let mut found = [0u16; 8];
     let mut i: usize = 0;
     while i < n {
-        found[i] = cell(text, width, height, at + 21 * i);
+        found[i] = cell(text, width, height, at[i]);
         i += 1;
+    }
+    found
+}
+
+// Their dock counts.
+fn counts(text: &[u8], f: Floor, at: [usize; 8]) -> [u16; 8]
+    requires { ⌜ (f .carriers ≤ 8) × (linesForm (countedForm (now text)) (pastCounted (now text)) 31 (f .carriers) ≡ passed) ⌝ }
+    requires { ⌜ at ≡ listed (upTo (f .carriers) (carrierColumn (now text))) 8 ⌝ }
+    ensures { λ r. ⌜ r ≡ countsAt (now (text .entry)) f ⌝ }
+{
+    let n = f.carriers as usize;
+    let mut found = [0u16; 8];
+    let mut i: usize = 0;
+    while i < n {
+        found[i] = value(text, at[i] + 10);
+        i += 1;
+    }
+    found
+}
+
+// What stands at place q of the docks.
+fn dock(text: &[u8], f: Floor, at: [usize; 8], counts: [u16; 8], q: usize) -> u16
+    requires { ⌜ (f .width ≤ 32) × (f .height ≤ 32) ⌝ }
+    requires { ⌜ (f .carriers ≤ 8) × (linesForm (countedForm (now text)) (pastCounted (now text)) 31 (f .carriers) ≡ passed) ⌝ }
+    requires { ⌜ at ≡ listed (upTo (f .carriers) (carrierColumn (now text))) 8 ⌝ }
+    requires { ⌜ (counts ≡ countsAt (now text) f) × (q < 32) ⌝ }
+    ensures { λ r. ⌜ r ≡ placeIn (now (text .entry)) f q ⌝ }
+{
+    let i = q / 4;
+    if f.carriers as usize <= i {
+        return 0;
+    }
+    let k = q % 4;
+    if counts[i] as usize <= k {
+        return 0;
+    }
+    cell(text, f.width, f.height, at[i] + 15 + 10 * k)
+}
+
+// Their docks.
+fn docks(text: &[u8], f: Floor, at: [usize; 8], counts: [u16; 8]) -> [u16; 32]
+    requires { ⌜ (f .width ≤ 32) × (f .height ≤ 32) ⌝ }
+    requires { ⌜ (f .carriers ≤ 8) × (linesForm (countedForm (now text)) (pastCounted (now text)) 31 (f .carriers) ≡ passed) ⌝ }
+    requires { ⌜ at ≡ listed (upTo (f .carriers) (carrierColumn (now text))) 8 ⌝ }
+    requires { ⌜ counts ≡ countsAt (now text) f ⌝ }
+    ensures { λ r. ⌜ r ≡ docksAt (now (text .entry)) f ⌝ }
+{
+    let mut found = [0u16; 32];
+    let mut q: usize = 0;
+    while q < 32 {
+        found[q] = dock(text, f, at, counts, q);
+        q += 1;
     }
     found
 }
@@ -81,13 +156,13 @@ fn cells(text: &[u8], f: Floor, at: usize) -> [u16; 8]
 // The floor that the text says.
 pub fn floor(text: &[u8]) -> Floor
     requires { ⌜ (valueAt (now text) 0 ≤ 32) × (valueAt (now text) 5 ≤ 32) ⌝ }
-    requires { ⌜ valueAt (now text) 20 ≤ 8 ⌝ }
-    requires { ⌜ 31 + 21 * valueAt (now text) 20 ≤ length (now text) ⌝ }
+    requires { ⌜ (valueAt (now text) 20 ≤ 8) × (31 ≤ length (now text)) ⌝ }
+    requires { ⌜ linesForm (countedForm (now text)) (pastCounted (now text)) 31 (valueAt (now text) 20) ≡ passed ⌝ }
     ensures { λ r. ⌜ r ≡ floorAt (now (text .entry)) ⌝ }
 {
     let f = head(text);
-    let starts = cells(text, f, 31);
-    let goals = cells(text, f, 41);
+    let at = columns(text, f.carriers as usize);
+    let few = counts(text, f, at);
     Floor {
         width: f.width,
         height: f.height,
@@ -95,8 +170,9 @@ pub fn floor(text: &[u8]) -> Floor
         depth: f.depth,
         carriers: f.carriers,
         walls: f.walls,
-        starts,
-        goals,
+        starts: starts(text, f, at),
+        counts: few,
+        docks: docks(text, f, at, few),
     }
 }
 
@@ -104,10 +180,10 @@ pub fn floor(text: &[u8]) -> Floor
 pub fn walls(text: &[u8], f: Floor, out: &mut [u16])
     requires { ⌜ (f .width ≤ 32) × (f .height ≤ 32) ⌝ }
     requires { ⌜ (f .carriers ≤ 8) × (f .walls ≤ length (now out)) ⌝ }
-    requires { ⌜ 31 + 21 * f .carriers + 11 * f .walls ≤ length (now text) ⌝ }
+    requires { ⌜ carrierAt f (f .carriers) + 11 * f .walls ≤ length (now text) ⌝ }
     ensures { λ r. ⌜ now (out .exit) ≡ wallsFrom (now (text .entry)) f ++ drop (f .walls) (now (out .entry)) ⌝ }
 {
-    let base = 31 + 21 * f.carriers as usize;
+    let base = lines::walls_at(f);
     let k = f.walls as usize;
     let width = f.width;
     let height = f.height;

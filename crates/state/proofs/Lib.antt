@@ -5,3 +5,4 @@ pub mod CountLaws
 pub mod CellLaws
 pub mod FreshLaws
 pub mod RecordLaws
+pub mod NumbersLaws

@@ -1,1 +1,2 @@
--- The definitions that these functions are proved against are those of `layout`.
+-- What the helpers of the checks find out; the definitions that these functions are proved against are those of `layout`.
+pub mod Numbers

@@ -6,8 +6,9 @@ ghost use lib.ListN.{length, getD};
 ghost use lib.Dec.{ltb};
 ghost use Rattle.reference.specs.Ranges.{each};
 ghost use Rattle.layout.specs.Places.{stateSize};
-ghost use Rattle.layout.specs.Valid.{usedBy, cellValid, cellsValid, recordValid, carrierValid, placeValid};
+ghost use Rattle.layout.specs.Valid.{usedBy, cellsValid, recordValid, carrierValid, placeValid};
 ghost use Rattle.layout.specs.Valid.{channelValid, pairValid, valid as Valid·valid};
+ghost use Rattle.state.specs.Numbers.{Larger, Largest, Capped};
 use crate::places::PLACES;
 use crate::places::answer_place;
 use crate::places::channel_place;
@@ -17,29 +18,61 @@ use crate::places::planned_place;
 use crate::places::view_place;
 use floor::Floor;
 
-// The number at beat t is a cell of the grid while cells are used, and 0 behind.
-fn cell_valid(used: usize, cells: usize, t: usize, v: u16) -> bool
-    ensures { λ r. ⌜ r ≡ cellValid used cells t v ⌝ }
+// The larger of two numbers.
+fn larger(a: u16, b: u16) -> u16
+    ensures { λ r. ⌜ Larger a b r ⌝ }
 {
-    if t < used {
-        return (v as usize) < cells;
+    if a < b {
+        return b;
     }
-    v == 0
+    a
 }
 
-// The 64 numbers at a place.
+// The largest of n numbers from a place on, 0 where there is none. It looks at all of them, so that the compiler takes many at once.
+fn largest(m: &[u16], at: usize, n: usize) -> u16
+    requires { ⌜ (n ≤ 64) × (at + n ≤ length (now m)) ⌝ }
+    ensures { λ r. ⌜ Largest (now (m .entry)) at n r ⌝ }
+{
+    let mut most: u16 = 0;
+    let mut t: usize = 0;
+    while t < n {
+        most = larger(most, m[at + t]);
+        t += 1;
+    }
+    most
+}
+
+// Whether n numbers from a place on are below a bound.
+fn all_below(m: &[u16], at: usize, n: usize, bound: usize) -> bool
+    requires { ⌜ (n ≤ 64) × (at + n ≤ length (now m)) ⌝ }
+    ensures { λ r. ⌜ r ≡ each n (λ t. ltb (getD (now (m .entry)) (at + t) 0) bound) ⌝ }
+{
+    if n == 0 {
+        return true;
+    }
+    (largest(m, at, n) as usize) < bound
+}
+
+// A number, at most 64.
+fn capped(used: usize) -> usize
+    ensures { λ r. ⌜ Capped used r ⌝ }
+{
+    if records::CELLS < used {
+        return records::CELLS;
+    }
+    used
+}
+
+// The 64 numbers at a place: cells of the grid while cells are used, and 0 behind.
 fn cells_valid(m: &[u16], at: usize, used: usize, cells: usize) -> bool
     requires { ⌜ at + 64 ≤ length (now m) ⌝ }
     ensures { λ r. ⌜ r ≡ cellsValid (now (m .entry)) at used cells ⌝ }
 {
-    let mut t: usize = 0;
-    while t < records::CELLS {
-        if !cell_valid(used, cells, t, m[at + t]) {
-            return false;
-        }
-        t += 1;
+    let n = capped(used);
+    if !all_below(m, at, n, cells) {
+        return false;
     }
-    true
+    all_below(m, at + n, records::CELLS - n, 1)
 }
 
 // How many cells of a record are used.

@@ -8,30 +8,25 @@ use mathlib.Core.Path.{_≡_, refl, sym, _∙_, ap, ap₂}
 use borrow.Author.Tests.{eqb-true, eqb-false}
 use lib.Dec.{eqb}
 use lib.ListN.{length, getD, take, drop, set, length-append}
-use Rattle.io.specs.Counts.{Counts}
 use Rattle.laws.specs.Memory.{put}
-use Rattle.laws.specs.Verdict.{passed, refused}
+use Rattle.laws.specs.Verdict.{passed}
 use Rattle.floor.specs.declared.Floor.{Floor}
 use Rattle.floor.specs.Checks.{checkOf, startOf}
 use Rattle.floor.proofs.LimitsLaws.{check-tells}
 use Rattle.sheet.specs.Text.{linesOf}
-use Rattle.sheet.specs.Values.{floorAt, wallsAt}
-use Rattle.sheet.specs.Read.{sheetVerdict}
 use Rattle.planner.specs.Plan.{planOf}
 use Rattle.planner.specs.Claims.{answerAt}
-use Rattle.printing.specs.Print.{orRefusal}
-use Rattle.printing.specs.Text.{refusalLine}
 use Rattle.printing.specs.Put.{TextPut}
 use Rattle.printing.proofs.LinesLaws.{lines-within}
-use Rattle.printing.proofs.PrintLaws.{WasRead, refusal-length}
 use Rattle.reporting.specs.Put.{PutAt}
-use Rattle.reporting.proofs.TextLaws.{both-put, counted}
+use Rattle.reporting.proofs.TextLaws.{both-put}
 use Rattle.drawing.specs.Drawing.{drawnFloor}
-use Rattle.drawing.proofs.DrawingLaws.{bytes-length, grid-low}
+use Rattle.drawing.proofs.DrawnLaws.{drawn-length, drawn-short}
+use Rattle.reporting.proofs.PrintedLaws.{Within}
 use Rattle.blockers.specs.Blockers.{ifNone}
 use Rattle.blockers.specs.Inner.{PlanIn}
 use Rattle.blockers.proofs.EntryLaws.{has-route, has-none}
-use Rattle.stranded.specs.Text.{carrierText, orNobody, strandedPlaces, strandedText, blockersText}
+use Rattle.stranded.specs.Text.{carrierText, orNobody, strandedPlaces, strandedText}
 use Rattle.stranded.specs.Inner.{placeIn, placesIn}
 use Rattle.stranded.proofs.LineLaws.{carrier-short, place-none, place-route, or-short}
 
@@ -66,16 +61,6 @@ module _ (f : Floor) (ws : List ℕ) (ok : checkOf f ws ≡ passed) where
     places-same (suc k) l =
         ap₂ (λ (places : List ℕ) (c : ℕ). set places k c) (places-same k (omega arith)) (place-same k (omega arith))
 
-  -- What a drawing asks for, and its length.
-  pub drawn-low : (f .width ≤ 32) × (f .height ≤ 32) × (f .walls ≤ length ws) × ((f .width + 1) * f .height ≤ 1056)
-  drawn-low =
-      let b = check-tells f ws ok .bounds in
-      (b .width .1, b .height .1, check-tells f ws ok .lent, grid-low _ _ (b .width .1) (b .height .1))
-
-  drawn-length : (places : List ℕ) → length (drawnFloor f ws places) ≡ (f .width + 1) * f .height
-  unfolding drawnFloor
-  drawn-length places = bytes-length f ws places ((f .width + 1) * f .height)
-
   -- The lines have at most 360 bytes.
   abbrev lines : List ℕ
   lines = linesOf (carrierText f ws) (f .carriers)
@@ -98,38 +83,17 @@ module _ (f : Floor) (ws : List ℕ) (ok : checkOf f ws ≡ passed) where
       let drawn : TextPut drawing (take (length mid - n) (drop n mid)) ys k =
       record {
         bytes = g ∙ ap (λ (c : List ℕ). put (take (length mid - n) (drop n mid)) 0 (drawnFloor f ws c)) cells;
-        size = size ∙ sym (drawn-length _);
+        size = size ∙ sym (drawn-length f ws _);
       }
       in
       both-put (orNobody lines) drawing old mid ys new n k p drawn h
-      (omega (arith, lines-short, drawn-length (strandedPlaces f ws (f .carriers)), drawn-low .3))
+      (omega (arith, lines-short, drawn-short f ws ok (strandedPlaces f ws (f .carriers))))
 
-  pub text-short : length (strandedText f ws) ≤ 1416
+  text-short : length (strandedText f ws) ≤ 1416
   unfolding strandedText
   text-short =
-      omega (
-        arith,
-        length-append (orNobody lines) (drawnFloor f ws (strandedPlaces f ws (f .carriers))),
-        lines-short,
-        drawn-length (strandedPlaces f ws (f .carriers)),
-        drawn-low .3,
-      )
+      let drawing = drawnFloor f ws (strandedPlaces f ws (f .carriers)) in
+      omega (arith, length-append (orNobody lines) drawing, lines-short, drawn-short f ws ok (strandedPlaces f ws (f .carriers)))
 
--- What is printed for a sheet, where it was read and where it was refused.
-module _ (text old new : List ℕ) (n : ℕ) (enough : 1416 ≤ length old) where
-  pub read-printed : (f : Floor) (walls : List ℕ) → WasRead text f walls → TextPut (strandedText f (take (f .walls) walls)) old new n →
-      Counts n new × (take n new ≡ blockersText text)
-  unfolding blockersText orRefusal
-  read-printed f walls r t =
-      let same : strandedText f (take (f .walls) walls) ≡ strandedText (floorAt text) (wallsAt text) = rw (r .front, r .floor) refl in
-      let fits : length (strandedText f (take (f .walls) walls)) ≤ length old =
-      omega (arith, text-short f (take (f .walls) walls) (r .checked)) in
-      let c = counted _ _ _ _ t fits in
-      (c .0, rw (r .accepted) (c .1 ∙ same))
-
-  pub refused-printed : (k p : ℕ) → sheetVerdict text ≡ refused k p → TextPut (refusalLine k p) old new n →
-      Counts n new × (take n new ≡ blockersText text)
-  unfolding blockersText orRefusal
-  refused-printed k p h t =
-      let c = counted _ _ _ _ t (omega (arith, refusal-length k p)) in
-      (c .0, rw h (c .1))
+pub stranded-within : Within strandedText 1416
+stranded-within = record { short = text-short }

@@ -140,7 +140,12 @@ module _ (g : Scene) (s : List ℕ) (t c : ℕ) (grid : Grid g) (old : Tidy g s)
 
   end-joined : Joined g s t c end
   unfolding at
-  end-joined = record { says = says; kept = kept; holds = set-holds g end t c inside (end-has at (c % g .width) ∙ or-inr (has s at (c % g .width)) _ here) }
+  end-joined =
+      record {
+        says = says;
+        kept = kept;
+        holds = set-holds g end t c inside (end-has at (c % g .width) ∙ or-inr (has s at (c % g .width)) _ here);
+      }
     where
       here : (eqb at at && eqb (c % g .width) (c % g .width)) ≡ true
       here = and-both (eq-eqb at at refl) (eq-eqb (c % g .width) (c % g .width) refl)
@@ -148,7 +153,8 @@ module _ (g : Scene) (s : List ℕ) (t c : ℕ) (grid : Grid g) (old : Tidy g s)
       kept : (d : ℕ) → inSet g s t d ≡ true → inSet g end t d ≡ true
       kept d e =
           set-holds g end t d (set-cell g s t d e)
-          (end-has (t * 36 + 1 + d / g .width) (d % g .width) ∙ or-inl (has s (t * 36 + 1 + d / g .width) (d % g .width)) _ (set-has g s t d e))
+          (end-has (t * 36 + 1 + d / g .width) (d % g .width)
+          ∙ or-inl (has s (t * 36 + 1 + d / g .width) (d % g .width)) _ (set-has g s t d e))
 
       says : (d : ℕ) → inSet g end t d ≡ true → (inSet g s t d ≡ true) ⊎ (d ≡ c)
       says d e = go (end-cases (t * 36 + 1 + d / g .width) (d % g .width) (set-has g end t d e))

@@ -6,17 +6,17 @@ use mathlib.Core.Bool.{true, _&&_, not, and-true, and-assoc}
 use mathlib.Core.List.{List}
 use mathlib.Core.Logic.{_⊎_, ⊎-elim, _↔_}
 use mathlib.Core.Path.{_≡_, refl, sym, ap, _∙_}
-use borrow.Author.Tests.{eqb-true, eq-eqb, ne-eqb}
+use borrow.Author.Tests.{eqb-true, eq-eqb, ne-eqb, ltb-true}
 use lib.Dec.{eqb, ltb}
 use lib.ListN.{length}
 use Rattle.laws.proofs.Tests.{and-both, and-fst, and-snd, not-is-true, not-refutes, lt-or-le, eq-or-ne}
 use Rattle.laws.proofs.Tests.{eqbs-say, eqbs-hold, same-test, below-same}
 use Rattle.words.specs.Rows.{has, droppedAt}
-use Rattle.words.proofs.RowsLaws.{place-row, has-dropped, length-dropped, dropped-inside, dropped-outside}
+use Rattle.words.proofs.RowsLaws.{place-row, has-dropped, dropped-inside, dropped-outside, fewer-at, length-at}
 use Rattle.tables.specs.declared.Scene.{Scene}
 use Rattle.records.specs.Records.{viewCell, Away}
 use Rattle.tables.specs.Table.{inSet, Tidy}
-use Rattle.tables.specs.Room.{TakenCell, TakenBeats}
+use Rattle.tables.specs.Room.{TakenCell, TakenBeats, BeatMore}
 
 module _ (g : Scene) (s : List ℕ) (a x : ℕ) (thin : 1 ≤ g .width) (room : g .cells ≤ 32 * g .width) (tidy : Tidy g s) (here : a < 64) where
   -- The table without cell x at beat a.
@@ -38,21 +38,13 @@ module _ (g : Scene) (s : List ℕ) (a x : ℕ) (thin : 1 ≤ g .width) (room : 
 
   -- It has no digit more.
   less-fewer : (i j : ℕ) → has less i j ≡ true → has s i j ≡ true
-  less-fewer i j e =
-      ⊎-elim
-      (λ (l : x < g .cells).
-      and-fst (has s i j) (not (eqb i (a * 36 + 1 + x / g .width) && eqb j (x % g .width))) (sym (less-has i j l) ∙ e))
-      (λ (l : g .cells ≤ x). rw (less-same l) at e) (lt-or-le x (g .cells))
+  unfolding less
+  less-fewer i j e = fewer-at (g .width) (g .cells) thin room s (a * 36 + 1) x (omega (arith, tidy .long)) i j e
 
   -- It is as long.
   less-length : length less ≡ length s
   unfolding less
-  less-length =
-      ⊎-elim
-      (λ (l : x < g .cells).
-      ap length (sym (dropped-inside (g .width) (g .cells) (a * 36 + 1) x s l))
-      ∙ length-dropped s (a * 36 + 1 + x / g .width) (x % g .width))
-      (λ (l : g .cells ≤ x). ap length (less-same l)) (lt-or-le x (g .cells))
+  less-length = length-at (g .width) (g .cells) (a * 36 + 1) x s
 
   -- It is tidy.
   less-tidy : Tidy g less
@@ -202,3 +194,49 @@ taken-more g m s q r j n x old e new = record { tidy = new .tidy; taken = λ t c
     back t c h p =
         let before = (old .taken t c h) .1 (p .0, λ u l. p .1 u (omega arith)) in
         (new .taken t c h) .1 (before, λ up down k. p .1 n (omega arith) (omega arith) (omega arith) (k ∙ e))
+
+-- A beat more of a view that moves: its cell is taken out at three beats.
+pub moves-more : (g : Scene) (m q r : List ℕ) (j n x : ℕ) → x ≡ viewCell m j n → TakenCell g n x q r → BeatMore g m j n q r
+moves-more g m q r j n x e new = record { tidy = new .tidy; more = λ s old. taken-more g m s q r j n x old e new }
+
+-- A beat more of a view that stays: the beat after is all that the beat before has left.
+pub stays-more : (g : Scene) (m q r : List ℕ) (j n d x : ℕ) → 1 ≤ g .width → g .cells ≤ 32 * g .width → n ≤ g .horizon →
+    g .horizon ≤ 63 → Tidy g q → d ≡ min (n + 1) (g .horizon) → x ≡ viewCell m j n →
+    (ltb 0 n && eqb (viewCell m j (n - 1)) (viewCell m j n)) ≡ true → r ≡ droppedAt (g .width) (g .cells) (d * 36 + 1) x q →
+    BeatMore g m j n q r
+stays-more g m q r j n d x thin room l short tidy after e held h =
+    record { tidy = new .tidy; more = λ s old. record { tidy = new .tidy; taken = λ t c u. (says s old t c u, back s old t c u) } }
+  where
+    new : Without g d x q r
+    new = dropped-without g q r d x thin room tidy (omega arith) h
+
+    some : 0 < n
+    some = ltb-true 0 n (and-fst (ltb 0 n) (eqb (viewCell m j (n - 1)) (viewCell m j n)) held)
+
+    same : viewCell m j (n - 1) ≡ viewCell m j n
+    same =
+        eqb-true (viewCell m j (n - 1)) (viewCell m j n) (and-snd (ltb 0 n) (eqb (viewCell m j (n - 1)) (viewCell m j n)) held)
+
+    last : (t c : ℕ) → t ≤ g .horizon → Away m j n t c → (t ≡ d → c ≡ x → ⊥) → n ≤ suc t → t ≤ suc n → c ≡ viewCell m j n → ⊥
+    last t c u before here up down p =
+        ⊎-elim (λ (k : t ≡ d). here k (p ∙ sym e))
+        (λ (k : t ≡ d → ⊥). before (n - 1) (omega (arith, some)) (omega arith) (earlier k) (p ∙ sym same)) (eq-or-ne t d)
+      where
+        earlier : (t ≡ d → ⊥) → t ≤ suc (n - 1)
+        earlier k = omega (arith, some)
+
+    says : (s : List ℕ) → TakenBeats g m j n s q → (t c : ℕ) → t ≤ g .horizon → inSet g r t c ≡ true →
+        (inSet g s t c ≡ true) × Away m j (n + 1) t c
+    says s old t c u k =
+        let v = (new .member t c) .0 k in
+        let w = (old .taken t c u) .0 (v .0) in (
+          w .0,
+          λ b l up down p. ⊎-elim (λ (z : b ≡ n). last t c u (w .1) (v .1) (omega arith) (omega arith) (rw z at p))
+              (λ (z : b < n). w .1 b z up down p) (eq-or-lt-of-le (omega arith)),
+        )
+
+    back : (s : List ℕ) → TakenBeats g m j n s q → (t c : ℕ) → t ≤ g .horizon → (inSet g s t c ≡ true) × Away m j (n + 1) t c →
+        inSet g r t c ≡ true
+    back s old t c u p =
+        let w = (old .taken t c u) .1 (p .0, λ b l. p .1 b (omega arith)) in
+        (new .member t c) .1 (w, λ k z. p .1 n (omega arith) (omega arith) (omega arith) (z ∙ e))

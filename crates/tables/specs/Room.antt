@@ -43,3 +43,8 @@ pub record TakenCell (g : Scene) (a x : ℕ) (s q : List ℕ) : Type 0 where
 pub record TakenBeats (g : Scene) (m : List ℕ) (j n : ℕ) (s q : List ℕ) : Type 0 where
   pub tidy : Tidy g q
   pub taken : (t c : ℕ) → t ≤ g .horizon → (inSet g q t c ≡ true) ↔ ((inSet g s t c ≡ true) × Away m j n t c)
+
+-- Whatever the room was, q is s with one beat more of view j taken out, where the first n are out of s.
+pub record BeatMore (g : Scene) (m : List ℕ) (j n : ℕ) (s q : List ℕ) : Type 0 where
+  pub tidy : Tidy g q
+  pub more : (room : List ℕ) → TakenBeats g m j n room s → TakenBeats g m j (n + 1) room q

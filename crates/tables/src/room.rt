@@ -1,10 +1,13 @@
 // The room of a search: a table of the cells that can be stood on at each beat, made of the free cells and the views.
 ghost use mathlib.Core.Path.{_≡_};
-ghost use Prim.Native.Nat.{_+_, _*_, _-_, _≤_, min};
+ghost use Prim.Native.Nat.{_+_, _*_, _-_, _≤_, _<_, min};
+ghost use mathlib.Core.Bool.{_&&_};
+ghost use lib.Dec.{ltb, eqb};
 ghost use lib.ListN.{length, replicate};
+ghost use Rattle.records.specs.Records.{viewCell};
 ghost use Rattle.words.specs.Rows.{Clean};
 ghost use Rattle.tables.specs.Table.{Grid, Fits, Tidy};
-ghost use Rattle.tables.specs.Room.{Roomy, OneMore, FreeBeats, TakenCell, TakenBeats};
+ghost use Rattle.tables.specs.Room.{Roomy, OneMore, FreeBeats, TakenCell, TakenBeats, BeatMore};
 use crate::Scene;
 use crate::table::ROWS;
 use crate::table::STRIDE;
@@ -52,6 +55,32 @@ fn take_cell(g: Scene, room: &mut [u32], t: usize, c: usize)
     words::drop_at(room, after * STRIDE + 1, w, scale, cells, c);
 }
 
+// Whether view j stays where it is between the beat before t and t.
+fn stays(views: &[u16], j: usize, t: usize) -> bool
+    requires { ⌜ (65 * j + 65 ≤ length (now views)) × (t < 64) ⌝ }
+    ensures { λ r. ⌜ r ≡ (ltb 0 t && eqb (viewCell (now (views .entry)) j (t - 1)) (viewCell (now (views .entry)) j t)) ⌝ }
+{
+    if t == 0 {
+        return false;
+    }
+    view_cell(views, j, t - 1) == view_cell(views, j, t)
+}
+
+// Takes the cell of view j at beat t out of the room, those of the beats before being out. Where the view stays, the beat before has
+// left only the beat after to be done.
+fn take_beat(g: Scene, room: &mut [u32], views: &[u16], j: usize, t: usize)
+    requires { ⌜ Grid g × (65 * j + 65 ≤ length (now views)) × (t ≤ g .horizon) × (g .horizon ≤ 63) × Tidy g (now room) ⌝ }
+    ensures { λ r. ⌜ BeatMore g (now (views .entry)) j t (now (room .entry)) (now (room .exit)) ⌝ }
+{
+    let c = view_cell(views, j, t);
+    if stays(views, j, t) {
+        let after = beat_after(t, g.horizon);
+        words::drop_at(room, after * STRIDE + 1, g.width, g.scale, g.cells, c);
+        return;
+    }
+    take_cell(g, room, t, c);
+}
+
 // Takes the cells of view j at the first n beats out of the room.
 fn take_view(g: Scene, room: &mut [u32], views: &[u16], j: usize, n: usize)
     requires { ⌜ Grid g × (65 * j + 65 ≤ length (now views)) × (n ≤ g .horizon + 1) × (g .horizon ≤ 63) × Tidy g (now room) ⌝ }
@@ -59,7 +88,7 @@ fn take_view(g: Scene, room: &mut [u32], views: &[u16], j: usize, n: usize)
 {
     let mut t: usize = 0;
     while t < n {
-        take_cell(g, room, t, view_cell(views, j, t));
+        take_beat(g, room, views, j, t);
         t += 1;
     }
 }

@@ -1,4 +1,4 @@
--- Laws of rows: a digit that is added, places of cells, and cells that are marked.
+-- Laws of rows: a digit that is added, places of cells, and cells that are taken away.
 use Prim.Native.Nat.{ℕ, _+_, _*_, _/_, _%_, _^_, _≤_, _<_}
 use native.Mathlib.Omega.{arith}
 use native.Mathlib.Nat.{one-mul, mod-eq-of-lt, div-add-mod', div-lt-iff-lt-mul}
@@ -14,7 +14,7 @@ use lib.Dec.{eqb, ltb}
 use lib.ListN.{length, getD, set, length-set}
 use lib.Seq.{getD-set-same, getD-set-other}
 use Rattle.words.specs.Words.{digit, without}
-use Rattle.words.specs.Rows.{has, added, dropped, droppedAt, marked}
+use Rattle.words.specs.Rows.{has, added, dropped, droppedAt}
 use Rattle.words.proofs.DigitLaws.{digit-or, digit-bit, digit-without}
 use Rattle.laws.proofs.Tests.{eq-or-ne, lt-or-le, and-both, and-fst, and-snd, same-test}
 
@@ -42,63 +42,6 @@ place-same w c r k h e = (rw e (digits-div r h), rw e (digits-mod r h))
 pub place-row : (w c : ℕ) → 0 < w → c < 32 * w → c / w < 32
 place-row w c p h = (div-lt-iff-lt-mul p) .1 h
 
--- The blocks of a list are apart.
-block-apart : (b e i r : ℕ) → i < 32 → r < 32 → e * 32 + i ≡ b * 32 + r → (e ≡ b) × (i ≡ r)
-block-apart b e i r h l q = (omega arith, omega arith)
-
-module _ (w cells : ℕ) (thin : 0 < w) (room : cells ≤ 32 * w) where
-  -- Marking cell c in block b shows at block e, row i, column j exactly if that is c's place.
-  pub has-marked : (s : List ℕ) (b c e i j : ℕ) → b * 32 + 32 ≤ length s → i < 32 → j < w →
-      has (marked w cells b c s) (e * 32 + i) j ≡ (has s (e * 32 + i) j || (ltb c cells && eqb e b && eqb c (i * w + j)))
-  unfolding marked
-  has-marked s b c e i j long h l = ⊎-elim inside outside (lt-or-le c cells)
-    where
-      goal : Bool → Type 0
-      goal t =
-          has (elim t [ true ↦ added s (b * 32 + c / w) (c % w) | false ↦ s ]) (e * 32 + i) j ≡
-          (has s (e * 32 + i) j || (t && eqb e b && eqb c (i * w + j)))
-
-      row : c < cells → c / w < 32
-      row q = place-row w c thin (omega arith)
-
-      says : (q : c < cells) → (eqb (e * 32 + i) (b * 32 + c / w) && eqb j (c % w)) ≡ true → (eqb e b && eqb c (i * w + j)) ≡ true
-      says q t =
-          let p : e * 32 + i ≡ b * 32 + c / w = eqb-true _ _ (and-fst (eqb (e * 32 + i) (b * 32 + c / w)) (eqb j (c % w)) t) in
-          let k : j ≡ c % w = eqb-true _ _ (and-snd (eqb (e * 32 + i) (b * 32 + c / w)) (eqb j (c % w)) t) in
-          let u : (e ≡ b) × (i ≡ c / w) = block-apart b e i (c / w) h (row q) p in
-          and-both (eq-eqb e b (u .0)) (eq-eqb c (i * w + j) (sym (rw (u .1, k) (div-add-mod' c w))))
-
-      back : (eqb e b && eqb c (i * w + j)) ≡ true → (eqb (e * 32 + i) (b * 32 + c / w) && eqb j (c % w)) ≡ true
-      back t =
-          let p : e ≡ b = eqb-true _ _ (and-fst (eqb e b) (eqb c (i * w + j)) t) in
-          let u : (c / w ≡ i) × (c % w ≡ j) = place-same w c i j l (eqb-true _ _ (and-snd (eqb e b) (eqb c (i * w + j)) t)) in
-          and-both (eq-eqb (e * 32 + i) (b * 32 + c / w) (rw (p, u .0))) (eq-eqb j (c % w) (sym (u .1)))
-
-      inside : c < cells → goal (ltb c cells)
-      inside q =
-          rw (lt-ltb c cells q)
-          (has-added s (b * 32 + c / w) (c % w) (e * 32 + i) j (omega (arith, row q))
-          ∙ ap (λ (t : Bool). has s (e * 32 + i) j || t) (same-test _ _ (says q) back))
-
-      outside : cells ≤ c → goal (ltb c cells)
-      outside q = rw (le-ltb c cells q) (sym (or-false (has s (e * 32 + i) j)))
-
-pub length-marked : (w cells b c : ℕ) (s : List ℕ) → length (marked w cells b c s) ≡ length s
-unfolding marked added
-length-marked w cells b c s = cases (ltb c cells)
-  where
-    cases : (t : Bool) → length {A = ℕ} (elim t [ true ↦ added s (b * 32 + c / w) (c % w) | false ↦ s ]) ≡ length s
-    cases true = length-set s (b * 32 + c / w) (bitOr (getD s (b * 32 + c / w) 0) (2 ^ (c % w)))
-    cases false = refl
-
-pub marked-inside : (w cells b c : ℕ) (s : List ℕ) → c < cells → added s (b * 32 + c / w) (c % w) ≡ marked w cells b c s
-unfolding marked
-marked-inside w cells b c s h = sym (ap (λ (t : Bool). elim t [ true ↦ added s (b * 32 + c / w) (c % w) | false ↦ s ]) (lt-ltb c cells h))
-
-pub marked-outside : (w cells b c : ℕ) (s : List ℕ) → cells ≤ c → s ≡ marked w cells b c s
-unfolding marked
-marked-outside w cells b c s h = sym (ap (λ (t : Bool). elim t [ true ↦ added s (b * 32 + c / w) (c % w) | false ↦ s ]) (le-ltb c cells h))
-
 -- A digit that is taken away.
 pub has-dropped : (s : List ℕ) (r k i j : ℕ) → r < length s → has (dropped s r k) i j ≡ (has s i j && not (eqb i r && eqb j k))
 unfolding has dropped
@@ -124,3 +67,45 @@ dropped-inside w cells i c s h = sym (ap (λ (t : Bool). elim t [ true ↦ dropp
 pub dropped-outside : (w cells i c : ℕ) (s : List ℕ) → cells ≤ c → s ≡ droppedAt w cells i c s
 unfolding droppedAt
 dropped-outside w cells i c s h = sym (ap (λ (t : Bool). elim t [ true ↦ dropped s (i + c / w) (c % w) | false ↦ s ]) (le-ltb c cells h))
+
+-- Cell c of a grid of width w taken out of the rows of s from row i on.
+module _ (w cells : ℕ) (thin : 0 < w) (room : cells ≤ 32 * w) (s : List ℕ) (i c : ℕ) (long : i + 32 ≤ length s) where
+  row-in : c < cells → i + c / w < length s
+  row-in q = omega (arith, place-row w c thin (omega arith))
+
+  -- The row of a cell in the grid shows every other cell as before.
+  pub has-dropped-at : (r k : ℕ) → k < w → r * w + k < cells → has (droppedAt w cells i c s) (i + r) k ≡ (has s (i + r) k && not (eqb c (r * w + k)))
+  has-dropped-at r k l h = ⊎-elim inside outside (lt-or-le c cells)
+    where
+      says : (eqb (i + r) (i + c / w) && eqb k (c % w)) ≡ true → eqb c (r * w + k) ≡ true
+      says t =
+          let p : i + r ≡ i + c / w = eqb-true _ _ (and-fst (eqb (i + r) (i + c / w)) (eqb k (c % w)) t) in
+          let q : k ≡ c % w = eqb-true _ _ (and-snd (eqb (i + r) (i + c / w)) (eqb k (c % w)) t) in
+          let e : r ≡ c / w = omega arith in
+          eq-eqb c (r * w + k) (sym (rw (e, q) (div-add-mod' c w)))
+
+      back : eqb c (r * w + k) ≡ true → (eqb (i + r) (i + c / w) && eqb k (c % w)) ≡ true
+      back t =
+          let u : (c / w ≡ r) × (c % w ≡ k) = place-same w c r k l (eqb-true _ _ t) in
+          and-both (eq-eqb (i + r) (i + c / w) (rw (u .0))) (eq-eqb k (c % w) (sym (u .1)))
+
+      inside : c < cells → has (droppedAt w cells i c s) (i + r) k ≡ (has s (i + r) k && not (eqb c (r * w + k)))
+      inside q =
+          rw (← dropped-inside w cells i c s q)
+          (has-dropped s (i + c / w) (c % w) (i + r) k (row-in q) ∙ ap (λ (t : Bool). has s (i + r) k && not t) (same-test _ _ says back))
+
+      outside : cells ≤ c → has (droppedAt w cells i c s) (i + r) k ≡ (has s (i + r) k && not (eqb c (r * w + k)))
+      outside q = rw (← dropped-outside w cells i c s q, ne-eqb c (r * w + k) (λ e. omega arith)) (sym (and-true (has s (i + r) k)))
+
+  -- There is no digit more, and no row more.
+  pub fewer-at : (j k : ℕ) → has (droppedAt w cells i c s) j k ≡ true → has s j k ≡ true
+  fewer-at j k e =
+      ⊎-elim
+      (λ (q : c < cells). and-fst (has s j k) (not (eqb j (i + c / w) && eqb k (c % w)))
+      (sym (has-dropped s (i + c / w) (c % w) j k (row-in q)) ∙ (rw (dropped-inside w cells i c s q) e)))
+      (λ (q : cells ≤ c). rw (dropped-outside w cells i c s q) e) (lt-or-le c cells)
+
+pub length-at : (w cells i c : ℕ) (s : List ℕ) → length (droppedAt w cells i c s) ≡ length s
+length-at w cells i c s =
+    ⊎-elim (λ (q : c < cells). ap length (sym (dropped-inside w cells i c s q)) ∙ length-dropped s (i + c / w) (c % w))
+    (λ (q : cells ≤ c). ap length (sym (dropped-outside w cells i c s q))) (lt-or-le c cells)

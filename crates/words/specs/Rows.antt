@@ -1,5 +1,5 @@
--- Sets of cells as rows: a word a row, the digit of a cell being that of its column. Several sets may lie in one list as blocks of
--- 32 rows. One step of a set takes each cell to itself and to the cells that share a side with it.
+-- Sets of cells as rows: a word a row, the digit of a cell being that of its column. One step of a set takes each cell to itself and to
+-- the cells that share a side with it.
 use Prim.Native.Nat.{ℕ, zero, suc, _+_, _*_, _/_, _%_, _^_, _<_}
 use mathlib.Core.Bool.{Bool, true, false}
 use mathlib.Core.List.{List}
@@ -31,10 +31,6 @@ pub record Clean (w cells : ℕ) (s : List ℕ) : Type 0 where
 -- s with the digit of row r at column k.
 unfoldable pub added : List ℕ → ℕ → ℕ → List ℕ
 added s r k = set s r (bitOr (getD s r 0) (2 ^ k))
-
--- s with cell c of a grid of width w in block b; a number that is no cell changes nothing.
-unfoldable pub marked : ℕ → ℕ → ℕ → ℕ → List ℕ → List ℕ
-marked w cells b c s = elim (ltb c cells) [ true ↦ added s (b * 32 + c / w) (c % w) | false ↦ s ]
 
 -- s without the digit of row r at column k.
 unfoldable pub dropped : List ℕ → ℕ → ℕ → List ℕ

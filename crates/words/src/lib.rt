@@ -4,7 +4,7 @@ ghost use mathlib.Core.Path.{_≡_};
 ghost use Prim.Native.Nat.{_+_, _*_, _-_, _/_, _%_, _^_, _≤_, _<_};
 ghost use lib.ListN.{length, getD, replicate};
 ghost use Rattle.words.specs.Words.{without as Words·without};
-ghost use Rattle.words.specs.Rows.{added, dropped, droppedAt, marked, written, filled, narrowRow};
+ghost use Rattle.words.specs.Rows.{added, dropped, droppedAt, written, filled, narrowRow};
 ghost use Rattle.words.specs.Rows.{has as Rows·has};
 
 // The word with the digit at place k.
@@ -37,17 +37,6 @@ pub fn add(s: &mut [u32], r: usize, k: usize)
 {
     let more = bit(k);
     s[r] = s[r] | more;
-}
-
-// Adds cell c of a grid of width w to block b; a number that is no cell changes nothing.
-pub fn mark(s: &mut [u32], w: usize, cells: usize, b: usize, c: usize)
-    requires { ⌜ (1 ≤ w) × (w ≤ 32) × (cells ≤ 32 * w) ⌝ }
-    requires { ⌜ (b ≤ 5) × (b * 32 + 32 ≤ length (now s)) ⌝ }
-    ensures { λ x. ⌜ now (s .exit) ≡ marked w cells b c (now (s .entry)) ⌝ }
-{
-    if c < cells {
-        add(s, b * 32 + c / w, c % w);
-    }
 }
 
 // What a cell's number is multiplied with, so that a shift by 16 places divides it by the width.

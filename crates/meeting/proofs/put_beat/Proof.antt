@@ -1,6 +1,7 @@
 -- `meeting::put_beat` meets its contract: the drawing of an accepted floor has at most 1,056 bytes.
 use Rattle.route.specs.Route.{cellAt}
-use Rattle.meeting.proofs.MeetingLaws.{drawn-low, drawn-put, first-digit, second-digit}
+use Rattle.drawing.proofs.DrawnLaws.{drawn-low}
+use Rattle.meeting.proofs.MeetingLaws.{drawn-put, first-digit, second-digit}
 use native.Mathlib.Omega.{arith}
 use borrow.Author.Needs.{needs}
 use Rattle.meeting.proofs.put_beat.Statement.{statement}
@@ -24,9 +25,8 @@ unfolding cellAt
 returns c =
     let after-put-floor : tie.After-put-floor = search in
     let after-two-places : tie.After-two-places = search in
-    let start : tie.Start = search in
     let e = rw (after-two-places .two-places .ensures) at (after-put-floor .put-floor .ensures) in
-    drawn-put _ _ (start .pre .0) _ _ _ _ (e .0) (e .1)
+    drawn-put _ _ _ _ _ _ (e .0) (e .1)
 
 pub put-beat-spec : {M : Type 1} → statement M
 put-beat-spec =

@@ -1,32 +1,19 @@
 -- `resheet::print` meets its contract: the reader's verdict decides between the sheet and the refusal's line.
 use Rattle.printing.proofs.PrintLaws.{was-read, was-refused, place-small}
-use Rattle.resheet.proofs.SheetLaws.{accepted-again, refused-line}
+use Rattle.reporting.proofs.PrintedLaws.{read-granted, read-printed, refused-printed}
+use Rattle.resheet.proofs.SheetLaws.{sheet-within, sheet-again}
 use native.Mathlib.Omega.{arith}
 use borrow.Author.Needs.{needs}
 use Rattle.resheet.proofs.print.Statement.{statement}
 use Rattle.resheet.proofs.print.Tie as tie
 
-put-sheet-requires : tie.Need-put-sheet-requires
-put-sheet-requires c κs =
-    let after-enum-told : tie.After-enum-told = search in
-    let after-read : tie.After-read = search in
-    let after-no-walls : tie.After-no-walls = search in
-    let told = after-enum-told .enum-told .given .1 in
-    let w = was-read _ _ _ _ (after-no-walls .no-walls .ensures) (after-read .read .ensures) told in
-    (w .checked, (w .lent, omega arith))
-
-returns : tie.Need-returns
-returns c =
-    let after-put-sheet : tie.After-put-sheet = search in
-    accepted-again _ _ _ _ (omega arith) _ _ (search was-read) (after-put-sheet .put-sheet .ensures)
-
-returns-2 : tie.Need-returns-2
-returns-2 c =
-    let after-put-refusal : tie.After-put-refusal = search in
-    refused-line _ _ _ _ (omega arith) _ _ (search was-refused) (after-put-refusal .put-refusal .ensures)
-
 pub print-spec : {M : Type 1} → statement M
 print-spec =
     tie.close (tie.spec (λ c κs. search needs) (λ c. search needs) (λ c κs. search needs) (λ c. search needs) (λ c. search needs)
-    (λ c. search needs) put-sheet-requires returns
-    (λ c κs. (search place-small, omega arith)) returns-2)
+    (λ c. search needs)
+    (λ c κs. let after-read : tie.After-read = search in read-granted _ _ _ _ (after-read .read .ensures) (search) (search) (omega arith))
+    (λ c. let after-put-sheet : tie.After-put-sheet = search in
+    rw sheet-again (read-printed _ _ _ _ sheet-within (after-put-sheet .put-sheet .ensures) (search was-read) (omega arith)))
+    (λ c κs. (search place-small, omega arith))
+    (λ c. let after-put-refusal : tie.After-put-refusal = search in
+    rw sheet-again (refused-printed _ _ (after-put-refusal .put-refusal .ensures) (search was-refused) (omega arith))))

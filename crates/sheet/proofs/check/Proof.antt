@@ -20,7 +20,7 @@ head-requires : tie.Need-head-requires
 head-requires c κs =
     let after-enum-told : tie.After-enum-told = search in
     let after-form-of : tie.After-form-of = search in
-    omega (arith, form-tells _ (passes (after-form-of .form-of .ensures) (after-enum-told .enum-told .given .1)) .size)
+    omega (arith, form-tells _ (passes (after-form-of .form-of .ensures) (after-enum-told .enum-told .given .1)) .head)
 
 returns-3 : tie.Need-returns-3
 unfolding floorAt headAt

@@ -3,7 +3,8 @@
 use Rattle.sheet.specs.Values.{headAt, floorAt}
 use Rattle.floor.specs.Checks.{checkOf}
 use mathlib.Core.Path.{ap₂, _∙_}
-use Rattle.sheet.proofs.FormLaws.{form-tells, floor-there, walls-there, walls-read, checked-places}
+use Rattle.sheet.proofs.FormLaws.{form-tells, floor-there, walls-read, checked-places}
+use Rattle.sheet.proofs.SheetText.{walls-there}
 use native.Mathlib.Omega.{arith}
 use borrow.Author.Needs.{needs}
 use Rattle.sheet.proofs.places.Statement.{statement}
@@ -16,7 +17,7 @@ walls-requires : tie.Need-walls-requires
 unfolding headAt floorAt
 walls-requires c κs =
     let start : tie.Start = search in
-    walls-there _ _ (c .before .before .floor .ensures) (start .pre)
+    walls-there _ (start .pre) _ (c .before .before .floor .ensures)
     (omega (arith, form-tells _ (start .pre) .bounds .walls .1, c .before .no-walls .ensures))
 
 returns : tie.Need-returns

@@ -4,7 +4,8 @@ use Rattle.sheet.proofs.ReadLaws.{read-tells}
 use Rattle.sheet.specs.Read.{readFloor, readWalls}
 use Rattle.floor.proofs.AnswersLaws.{refuses, passes}
 use Rattle.floor.specs.Answers.{verdictOf}
-use Rattle.sheet.proofs.FormLaws.{floor-there, walls-there, walls-read}
+use Rattle.sheet.proofs.FormLaws.{floor-there, walls-read}
+use Rattle.sheet.proofs.SheetText.{walls-there}
 use mathlib.Core.Path.{_∙_, sym}
 use borrow.Author.Needs.{needs}
 use Rattle.sheet.proofs.read.Statement.{statement}
@@ -25,7 +26,7 @@ walls-requires : tie.Need-walls-requires
 walls-requires c κs =
     let after-check : tie.After-check = search in
     let ok = read-tells _ _ (passes (after-check .check .ensures) (c .before .before .enum-told .given .1)) in
-    walls-there _ _ (c .before .floor .ensures) (ok .form) (ok .room-there)
+    walls-there _ (ok .form) _ (c .before .floor .ensures) (ok .room-there)
 
 returns-2 : tie.Need-returns-2
 unfolding readFloor readWalls verdictOf

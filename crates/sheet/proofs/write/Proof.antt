@@ -1,5 +1,5 @@
 -- `sheet::write` meets its contract: a refusal leaves all as it was; a pass puts the sheet in front.
-use Rattle.sheet.proofs.ReadLaws.{write-passed, write-refused}
+use Rattle.sheet.proofs.ReadLaws.{write-passed, write-refused, accepted-counts}
 use Rattle.floor.proofs.LimitsLaws.{check-tells, room-passed}
 use Rattle.sheet.specs.Read.{writeVerdict}
 use Rattle.floor.proofs.AnswersLaws.{chain, hands-on, passes, passed-is}
@@ -26,8 +26,13 @@ put-sheet-requires c κs =
     let after-enum-told : tie.After-enum-told = search in
     let after-check : tie.After-check = search in
     let t = check-tells _ _ (passes (after-check .check .ensures) (after-enum-told .enum-told .given .1)) in
-    let r = room-passed _ _ (passes (after-room .room .ensures) (c .before .enum-told3 .given .1)) in
-    ((t .lent, t .bounds .width .0), (t .bounds .carriers .1, omega (arith, r, after-sheet-length .sheet-length .ensures)))
+    let r = room-passed _ _ (passes (after-room .room .ensures) (c .before .enum-told3 .given .1)) in (
+      (t .lent, t .bounds .width .0),
+      (
+        (t .bounds .carriers .1, accepted-counts _ _ (passes (after-check .check .ensures) (after-enum-told .enum-told .given .1))),
+        omega (arith, r, after-sheet-length .sheet-length .ensures),
+      ),
+    )
 
 returns-3 : tie.Need-returns-3
 unfolding writeVerdict verdictOf

@@ -4,7 +4,8 @@ use mathlib.Core.Path.{refl}
 use native.Mathlib.Omega.{arith}
 use lib.ListN.{length-take, length-drop}
 use Rattle.floor.proofs.LimitsLaws.{check-tells}
-use Rattle.stranded.proofs.StrandedLaws.{drawn-low, lines-low, stranded-put}
+use Rattle.drawing.proofs.DrawnLaws.{drawn-low}
+use Rattle.stranded.proofs.StrandedLaws.{lines-low, stranded-put}
 use borrow.Author.Needs.{needs}
 use Rattle.stranded.proofs.put_stranded.Statement.{statement}
 use Rattle.stranded.proofs.put_stranded.Tie as tie

@@ -1,32 +1,21 @@
 -- `desk::played::print` meets its contract: the reader's verdict decides between the trial and the refusal's line.
 use Rattle.printing.proofs.PrintLaws.{was-read, was-refused, place-small}
-use Rattle.desk.proofs.PlayedLaws.{read-printed, refused-printed}
+use Rattle.reporting.proofs.PrintedLaws.{read-granted, read-printed, refused-printed, or-then}
+use Rattle.desk.specs.Text.{trialText}
+use Rattle.desk.proofs.PlayedLaws.{played-within}
 use native.Mathlib.Omega.{arith}
 use borrow.Author.Needs.{needs}
 use Rattle.desk.proofs.played.print.Statement.{statement}
 use Rattle.desk.proofs.played.print.Tie as tie
 
-put-trial-requires : tie.Need-put-trial-requires
-put-trial-requires c κs =
-    let after-enum-told : tie.After-enum-told = search in
-    let after-read : tie.After-read = search in
-    let after-no-walls : tie.After-no-walls = search in
-    let told = after-enum-told .enum-told .given .1 in
-    let w = was-read _ _ _ _ (after-no-walls .no-walls .ensures) (after-read .read .ensures) told in
-    (w .checked, (w .lent, omega arith))
-
-returns : tie.Need-returns
-returns c =
-    let after-put-trial : tie.After-put-trial = search in
-    read-printed _ _ _ _ _ _ (omega arith) _ _ (search was-read) (after-put-trial .put-trial .ensures)
-
-returns-2 : tie.Need-returns-2
-returns-2 c =
-    let after-put-refusal : tie.After-put-refusal = search in
-    refused-printed _ _ _ _ _ _ (omega arith) _ _ (search was-refused) (after-put-refusal .put-refusal .ensures)
-
 pub print-spec : {M : Type 1} → statement M
+unfolding trialText
 print-spec =
     tie.close (tie.spec (λ c κs. search needs) (λ c. search needs) (λ c κs. search needs) (λ c. search needs) (λ c. search needs)
-    (λ c. search needs) put-trial-requires returns
-    (λ c κs. (search place-small, omega arith)) returns-2)
+    (λ c. search needs)
+    (λ c κs. let after-read : tie.After-read = search in read-granted _ _ _ _ (after-read .read .ensures) (search) (search) (omega arith))
+    (λ c. let after-put-trial : tie.After-put-trial = search in
+    rw or-then (read-printed _ _ _ _ (played-within _ _) (after-put-trial .put-trial .ensures) (search was-read) (omega arith)))
+    (λ c κs. (search place-small, omega arith))
+    (λ c. let after-put-refusal : tie.After-put-refusal = search in
+    rw or-then (refused-printed _ _ (after-put-refusal .put-refusal .ensures) (search was-refused) (omega arith))))

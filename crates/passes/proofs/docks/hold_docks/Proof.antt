@@ -1,5 +1,5 @@
--- `passes::docks::hold_docks` meets its contract. The loop's invariant: the beats of the docks passed are found. The measure is what is left of
--- the docks. Assumes nothing.
+-- `passes::docks::hold_docks` meets its contract. The loop's invariant: the beats of the docks passed are found. The measure is what is
+-- left of the docks. Assumes nothing.
 use Prim.Native.Nat.{_-_, _≤_}
 use mathlib.Core.Path.{_≡_}
 use lib.ListN.{getD, replicate}
@@ -50,5 +50,5 @@ returns c =
 
 pub hold-docks-spec : {M : Type 1} → statement M
 hold-docks-spec =
-    tie.close (tie.spec Inv-loop μ-loop (λ c. (search needs, filled-none _ _)) (λ c. search needs) array-read-hold-from (λ c. search needs) hold-from-requires
-    (λ c. search needs) array-write-holds (λ c. search needs) (λ c. search needs) loop-again returns)
+    tie.close (tie.spec Inv-loop μ-loop (λ c. (search needs, filled-none _ _)) (λ c. search needs) array-read-hold-from
+    (λ c. search needs) hold-from-requires (λ c. search needs) array-write-holds (λ c. search needs) (λ c. search needs) loop-again returns)

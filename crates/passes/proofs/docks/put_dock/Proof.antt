@@ -35,5 +35,5 @@ returns-2 c =
 
 pub put-dock-spec : {M : Type 1} → statement M
 put-dock-spec =
-    tie.close (tie.spec (λ c. search needs) element-copy-out-if1 returns (λ c. search needs) element-copy-out-put-more (λ c. search needs) put-more-requires
-    (λ c. search needs) returns-2)
+    tie.close (tie.spec (λ c. search needs) element-copy-out-if1 returns (λ c. search needs) element-copy-out-put-more
+    (λ c. search needs) put-more-requires (λ c. search needs) returns-2)

@@ -1,6 +1,7 @@
 -- `sheet::lines::put_sheet` meets its contract: three blocks, one behind the other.
 use Rattle.sheet.proofs.SheetLaws.{sheet-put}
 use Rattle.sheet.specs.Text.{sheetLength, wallAt}
+use Rattle.sheet.proofs.DockLaws.{carrier-low}
 use native.Mathlib.Omega.{arith}
 use borrow.Author.Needs.{needs}
 use Rattle.sheet.proofs.lines.put_sheet.Statement.{statement}
@@ -10,13 +11,13 @@ put-head-requires : tie.Need-put-head-requires
 unfolding sheetLength wallAt
 put-head-requires c κs =
     let start : tie.Start = search in
-    omega (arith, start .pre)
+    omega (arith, start .pre, carrier-low (start .args .f) (start .args .f .carriers))
 
 put-carriers-requires : tie.Need-put-carriers-requires
 unfolding sheetLength wallAt
 put-carriers-requires c κs =
     let start : tie.Start = search in
-    ((start .pre .1 .0, start .pre .0 .1), omega (arith, start .pre))
+    ((start .pre .1 .0 .0, start .pre .0 .1), (start .pre .1 .0 .1, omega (arith, start .pre .1 .1)))
 
 returns : tie.Need-returns
 returns c =

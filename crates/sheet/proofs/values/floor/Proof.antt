@@ -1,21 +1,52 @@
--- `sheet::values::floor` meets its contract: line 1, and both lists of cells.
-use Rattle.sheet.specs.Text.{goalAt, carrierAt}
-use Rattle.sheet.specs.Values.{floorAt, headAt, cellsAt}
+-- `sheet::values::floor` meets its contract: line 1, and the three lists of the carriers.
+use Rattle.sheet.proofs.ValueLaws.{line-one, line-one-grid, floor-made}
 use borrow.Author.Needs.{needs}
 use Rattle.sheet.proofs.values.floor.Statement.{statement}
 use Rattle.sheet.proofs.values.floor.Tie as tie
 
-cells-requires : tie.Need-cells-requires
-unfolding headAt
-cells-requires c κs = rw (c .head .ensures) (search needs)
+columns-requires : tie.Need-columns-requires
+columns-requires c κs =
+    let after-head : tie.After-head = search in
+    let start : tie.Start = search in
+    line-one _ _ (after-head .head .ensures) (start .pre .1 .0 .0) (start .pre .1 .1)
 
-cells-requires-2 : tie.Need-cells-requires-2
-unfolding headAt
-cells-requires-2 c κs = rw (c .before .head .ensures) (search needs)
+counts-requires : tie.Need-counts-requires
+counts-requires c κs =
+    let after-columns : tie.After-columns = search in
+    let after-head : tie.After-head = search in
+    let start : tie.Start = search in
+    (line-one _ _ (after-head .head .ensures) (start .pre .1 .0 .0) (start .pre .1 .1), after-columns .columns .ensures)
+
+starts-requires : tie.Need-starts-requires
+starts-requires c κs =
+    let after-columns : tie.After-columns = search in
+    let after-head : tie.After-head = search in
+    let start : tie.Start = search in
+    let h = after-head .head .ensures in
+    (line-one-grid _ _ h (start .pre .0), (line-one _ _ h (start .pre .1 .0 .0) (start .pre .1 .1), after-columns .columns .ensures))
+
+docks-requires : tie.Need-docks-requires
+docks-requires c κs =
+    let after-counts : tie.After-counts = search in
+    let after-columns : tie.After-columns = search in
+    let after-head : tie.After-head = search in
+    let start : tie.Start = search in
+    let h = after-head .head .ensures in (
+      line-one-grid _ _ h (start .pre .0),
+      (
+        line-one _ _ h (start .pre .1 .0 .0) (start .pre .1 .1),
+        (after-columns .columns .ensures, after-counts .counts .ensures),
+      ),
+    )
 
 returns : tie.Need-returns
-unfolding floorAt headAt cellsAt carrierAt goalAt
-returns c = rw (c .before .cells .ensures, c .cells2 .ensures, c .before .before .head .ensures)
+returns c =
+    let after-starts : tie.After-starts = search in
+    let after-counts : tie.After-counts = search in
+    let after-head : tie.After-head = search in
+    floor-made _ _ _ _ _ (after-head .head .ensures) (after-starts .starts .ensures) (after-counts .counts .ensures) (c .docks .ensures)
 
 pub floor-spec : {M : Type 1} → statement M
-floor-spec = tie.close (tie.spec (λ c κs. search needs) cells-requires cells-requires-2 returns)
+floor-spec =
+    tie.close (tie.spec (λ c κs. search needs) (λ c. search needs) columns-requires counts-requires starts-requires docks-requires
+    returns)

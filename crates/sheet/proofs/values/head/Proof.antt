@@ -21,7 +21,8 @@ six-values : (text : List ℕ) (w h t d n m : ℕ) → w ≡ valueAt text 0 → 
       carriers = n;
       walls = m;
       starts = replicate 8 0;
-      goals = replicate 8 0;
+      counts = replicate 8 0;
+      docks = replicate 32 0;
     }) (headAt text)
 unfolding headAt
 six-values text w h t d n m e₁ e₂ e₃ e₄ e₅ e₆ = rw (e₁, e₂, e₃, e₄, e₅, e₆)

@@ -1,21 +1,23 @@
--- `state::checks::cells_valid` meets its contract: the loop holds that all cells so far are valid.
-use Rattle.state.proofs.EachLaws.{Tested, each-turn}
-use lib.ListN.{getD}
-use Prim.Native.Nat.{_+_, _-_}
-use Rattle.layout.specs.Valid.{cellValid, cellsValid}
+-- `state::checks::cells_valid` meets its contract: the cells that are used, then those behind.
 use borrow.Author.Needs.{needs}
+use Rattle.state.proofs.EachLaws.{said-no, said-yes}
+use Rattle.state.proofs.NumbersLaws.{parts-stop, parts-rest}
 use Rattle.state.proofs.checks.cells_valid.Statement.{statement}
 use Rattle.state.proofs.checks.cells_valid.Tie as tie
 
-abbrev Inv-loop : tie.InvT-loop
-Inv-loop m at used cells t₀ t = Tested (λ q. cellValid used cells q (getD m (at + q) 0)) 64 t
+returns : tie.Need-returns
+returns c =
+    let after-capped : tie.After-capped = search in
+    let after-all-below : tie.After-all-below = search in
+    parts-stop _ _ _ _ _ (after-capped .capped .ensures) (said-no (after-all-below .all-below .ensures) (c .if1 .taken))
 
-abbrev μ-loop : tie.MeasureT-loop
-μ-loop m at used cells t₀ t = 64 - t
+returns-2 : tie.Need-returns-2
+returns-2 c =
+    let after-capped : tie.After-capped = search in
+    let after-all-below : tie.After-all-below = search in
+    let else1 : tie.Else1 = search in
+    parts-rest _ _ _ _ _ (after-capped .capped .ensures) _ (said-yes (after-all-below .all-below .ensures) (else1 .if1 .left))
+    (c .all-below2 .ensures)
 
 pub cells-valid-spec : {M : Type 1} → statement M
-unfolding cellsValid
-cells-valid-spec =
-    tie.close (tie.spec Inv-loop μ-loop (λ c. search each-turn) (λ c. search needs) (λ c. search needs)
-    (λ c. search needs) (λ c κs. search needs) (λ c. search each-turn) (λ c. search needs) (λ c. search needs)
-    (λ c. search each-turn) (λ c. search each-turn))
+cells-valid-spec = tie.close (tie.spec (λ c κs. search needs) (λ c κs. search needs) returns (λ c. search needs) (λ c. search needs) (λ c κs. search needs) returns-2)

@@ -18,15 +18,9 @@ delivery-waits-requires c κs =
     let there = deliver-there _ _ _ (rw (c .before .s2 .given .1) at (start .pre .0)) in
     (there .0, there .1, start .pre .1 .0, start .pre .1 .1)
 
-returns : tie.Need-returns
-unfolding stepMeant
-returns c = rw (c .before .before .s .given .1) (c .plan-waits .ensures)
-
-returns-2 : tie.Need-returns-2
-unfolding stepMeant
-returns-2 c = rw (c .before .before .s2 .given .1) (c .delivery-waits .ensures)
-
 pub waits-spec : {M : Type 1} → statement M
+unfolding stepMeant
 waits-spec =
-    tie.close (tie.spec (λ c. search needs) plan-waits-requires (λ c. search needs) delivery-waits-requires returns
-    returns-2)
+    tie.close (tie.spec (λ c. search needs) plan-waits-requires (λ c. search needs) delivery-waits-requires
+    (λ c. rw (c .before .before .s .given .1) (c .plan-waits .ensures))
+    (λ c. rw (c .before .before .s2 .given .1) (c .delivery-waits .ensures)))

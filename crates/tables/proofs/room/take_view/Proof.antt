@@ -4,7 +4,7 @@ use Prim.Native.Nat.{_-_, _≤_}
 use native.Mathlib.Omega.{arith}
 use mathlib.Core.Path.{_≡_, sym, _∙_}
 use borrow.Author.Needs.{needs}
-use Rattle.tables.proofs.TakenLaws.{taken-none, taken-more}
+use Rattle.tables.proofs.TakenLaws.{taken-none}
 use Rattle.tables.specs.Room.{TakenBeats}
 use Rattle.tables.proofs.room.take_view.Statement.{statement}
 use Rattle.tables.proofs.room.take_view.Tie as tie
@@ -20,19 +20,17 @@ loop-holds c =
     let start : tie.Start Inv-loop μ-loop = search in
     (search needs, taken-none _ _ _ _ (start .pre .4))
 
-take-cell-requires : tie.Need-take-cell-requires Inv-loop μ-loop
-take-cell-requires c κs =
+take-beat-requires : tie.Need-take-beat-requires Inv-loop μ-loop
+take-beat-requires c κs =
     let at-loop : tie.At-loop Inv-loop μ-loop = search in
     let start : tie.Start Inv-loop μ-loop = search in
-    (start .pre .0, omega arith, start .pre .3, at-loop .loop .inv .1 .tidy)
+    (start .pre .0, start .pre .1, omega arith, start .pre .3, at-loop .loop .inv .1 .tidy)
 
 loop-again : tie.Need-loop-again Inv-loop μ-loop
 loop-again c =
-    let after-view-cell : tie.After-view-cell Inv-loop μ-loop = search in
     let at-loop : tie.At-loop Inv-loop μ-loop = search in
-    let after-take-cell : tie.After-take-cell Inv-loop μ-loop = search in
-    let more = taken-more _ _ _ _ _ _ _ _ (at-loop .loop .inv .1) (after-view-cell .view-cell .ensures .0) in
-    (search needs, more (after-take-cell .take-cell .ensures))
+    let after-take-beat : tie.After-take-beat Inv-loop μ-loop = search in
+    (search needs, after-take-beat .take-beat .ensures .more _ (at-loop .loop .inv .1))
 
 same-length : tie.Need-same-length Inv-loop μ-loop
 same-length c =
@@ -46,5 +44,5 @@ returns c =
 
 pub take-view-spec : {M : Type 1} → statement M
 take-view-spec =
-    tie.close (tie.spec Inv-loop μ-loop loop-holds (λ c κs. search needs) take-cell-requires (λ c. search needs) (λ c. omega arith)
+    tie.close (tie.spec Inv-loop μ-loop loop-holds take-beat-requires (λ c. search needs) (λ c. omega arith)
     loop-again same-length returns)

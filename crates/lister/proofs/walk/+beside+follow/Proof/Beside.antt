@@ -1,8 +1,12 @@
 -- The answers of `beside`: nothing where no step or no place is left; otherwise the runs of the step here, if it is open, and those behind it.
 use Prim.Native.Nat.{ℕ, _+_, _<_, _≤_}
 use native.Mathlib.Omega.{arith}
-use mathlib.Core.Path.{sym, _∙_}
+use mathlib.Core.Bool.{Bool}
+use mathlib.Core.Path.{_≡_, sym, _∙_}
 use borrow.Author.Needs.{needs}
+use Rattle.orders.specs.Orders.{places, stepAt}
+use Rattle.layout.specs.InnerSteps.{openIn}
+use Rattle.steps.specs.Inner.{bare}
 use Rattle.steps.proofs.PlacedLaws.{placed-sized}
 use Rattle.lister.proofs.WalkLaws.{places-six, beside-spent, beside-end, beside-shut, beside-open, tallied-none, tallied-same, tallied-join}
 use Rattle.lister.proofs.WalkLaws.{fits-same, fits-part, fits-rest, falls-along, falls-to, place-listed}
@@ -47,6 +51,33 @@ module _ (t : ℕ) where
   abbrev After-beside2 : Type 0
   After-beside2 = beside-lts.After-beside2 (callees t) (beside-at t) beside.Post
 
+  -- A place that is not behind the last one is one of the ranking's.
+  abbrev start-of : Else2 → Start
+  start-of else2 = search
+
+  listed-here : (z : Else2) → start-of z .args .p < places (start-of z .args .f .carriers)
+  listed-here else2 =
+      let after-count : After-count = search in
+      place-listed _ _ _ (start-of else2 .pre .1 .0 .1) (after-count .count .ensures .0) (else2 .if2 .left)
+
+  -- What is known of a step that was looked at: a step is left, the place is one of the ranking's, and whether the step is open.
+  record Here (start : Start) (b : Bool) : Type 0 where
+    some : 1 ≤ start .args .left
+    listed : start .args .p < places (start .args .f .carriers)
+    told : openIn (bare (start .args .f)) (start .args .node .memory) (stepAt (start .args .f .carriers) (start .args .p)) ≡ b
+
+  abbrev left-of : After-open-at → Else2
+  left-of after-open-at = search
+
+  looked-at : {b : Bool} (z : After-open-at) → z .open-at .result ≡ b → Here (start-of (left-of z)) b
+  looked-at after-open-at e =
+      let else1 : Else1 = search in
+      record {
+        some = omega (arith, else1 .if1 .left);
+        listed = listed-here (left-of after-open-at);
+        told = sym (after-open-at .open-at .ensures) ∙ e;
+      }
+
   next-place : {p places : ℕ} → p < places → p + 1 ≤ places
   next-place l = omega arith
 
@@ -69,25 +100,20 @@ module _ (t : ℕ) where
   pub beside-open-at-requires : beside-lts.Need-open-at-requires (callees t) (beside-at t) beside.Post
   beside-open-at-requires c κs =
       let else2 : Else2 = search in
-      let after-count : After-count = search in
-      let start : Start = search in (
-        place-listed _ _ _ (start .pre .1 .0 .1) (after-count .count .ensures .0) (else2 .if2 .left),
-        placed-sized (start .pre .1 .0 .0 .works .placed),
-      )
+      let start : Start = search in
+      (listed-here else2, placed-sized (start .pre .1 .0 .0 .works .placed))
 
   pub beside-follow-requires : beside-lts.Need-follow-requires (callees t) (beside-at t) beside.Post
   beside-follow-requires c κs =
       let then3 : Then3 = search in
       let after-open-at : After-open-at = search in
-      let else2 : Else2 = search in
-      let after-count : After-count = search in
-      let else1 : Else1 = search in
       let start : Start = search in
-      let l = place-listed _ _ _ (start .pre .1 .0 .1) (after-count .count .ensures .0) (else2 .if2 .left) in
-      let opened = sym (after-open-at .open-at .ensures) ∙ then3 .if3 .taken in
-      let some : 1 ≤ start .args .left = omega (arith, else1 .if1 .left) in (
-        falls-to _ _ _ _ (start .pre .0) l (places-six _ (start .pre .1 .0 .0 .few)),
-        ((start .pre .1 .0 .0, some), ((l, opened), fits-part _ _ _ _ _ _ _ some l opened (start .pre .1 .1))),
+      let here = looked-at after-open-at (then3 .if3 .taken) in (
+        falls-to _ _ _ _ (start .pre .0) (here .listed) (places-six _ (start .pre .1 .0 .0 .few)),
+        (
+          (start .pre .1 .0 .0, here .some),
+          ((here .listed, here .told), fits-part _ _ _ _ _ _ _ (here .some) (here .listed) (here .told) (start .pre .1 .1)),
+        ),
       )
 
   pub beside-add-beside : beside-lts.Need-add-beside (callees t) (beside-at t) beside.Post
@@ -100,17 +126,12 @@ module _ (t : ℕ) where
       let after-follow : After-follow = search in
       let then3 : Then3 = search in
       let after-open-at : After-open-at = search in
-      let else2 : Else2 = search in
-      let after-count : After-count = search in
-      let else1 : Else1 = search in
       let start : Start = search in
-      let l = place-listed _ _ _ (start .pre .1 .0 .1) (after-count .count .ensures .0) (else2 .if2 .left) in
-      let opened = sym (after-open-at .open-at .ensures) ∙ then3 .if3 .taken in
-      let some : 1 ≤ start .args .left = omega (arith, else1 .if1 .left) in (
-        falls-along _ _ _ _ (start .pre .0) l (places-six _ (start .pre .1 .0 .0 .few)),
+      let here = looked-at after-open-at (then3 .if3 .taken) in (
+        falls-along _ _ _ _ (start .pre .0) (here .listed) (places-six _ (start .pre .1 .0 .0 .few)),
         (
-          (start .pre .1 .0 .0, next-place l),
-          fits-rest _ _ _ _ _ _ _ some l opened (start .pre .1 .1) _ (after-follow .follow .ensures .counts),
+          (start .pre .1 .0 .0, next-place (here .listed)),
+          fits-rest _ _ _ _ _ _ _ (here .some) (here .listed) (here .told) (start .pre .1 .1) _ (after-follow .follow .ensures .counts),
         ),
       )
 
@@ -126,14 +147,10 @@ module _ (t : ℕ) where
       let after-follow : After-follow = search in
       let then3 : Then3 = search in
       let after-open-at : After-open-at = search in
-      let else2 : Else2 = search in
-      let after-count : After-count = search in
-      let else1 : Else1 = search in
       let start : Start = search in
-      let l = place-listed _ _ _ (start .pre .1 .0 .1) (after-count .count .ensures .0) (else2 .if2 .left) in
-      let opened = sym (after-open-at .open-at .ensures) ∙ then3 .if3 .taken in
-      let some : 1 ≤ start .args .left = omega (arith, else1 .if1 .left) in
-      tallied-join _ _ _ _ (beside-open _ _ _ _ _ some l opened) (after-follow .follow .ensures) (after-beside .beside .ensures)
+      let here = looked-at after-open-at (then3 .if3 .taken) in
+      tallied-join _ _ _ _ (beside-open _ _ _ _ _ (here .some) (here .listed) (here .told)) (after-follow .follow .ensures)
+      (after-beside .beside .ensures)
 
   pub beside-add-beside-2 : beside-lts.Need-add-beside-2 (callees t) (beside-at t) beside.Post
   beside-add-beside-2 c =
@@ -144,13 +161,13 @@ module _ (t : ℕ) where
   beside-beside-requires-2 c κs =
       let else3 : Else3 = search in
       let after-open-at : After-open-at = search in
-      let else2 : Else2 = search in
-      let after-count : After-count = search in
       let start : Start = search in
-      let l = place-listed _ _ _ (start .pre .1 .0 .1) (after-count .count .ensures .0) (else2 .if2 .left) in
-      let shut = sym (after-open-at .open-at .ensures) ∙ else3 .if3 .left in (
-        falls-along _ _ _ _ (start .pre .0) l (places-six _ (start .pre .1 .0 .0 .few)),
-        ((start .pre .1 .0 .0, next-place l), fits-same _ _ _ _ (beside-shut _ _ _ _ _ l shut) (start .pre .1 .1)),
+      let here = looked-at after-open-at (else3 .if3 .left) in (
+        falls-along _ _ _ _ (start .pre .0) (here .listed) (places-six _ (start .pre .1 .0 .0 .few)),
+        (
+          (start .pre .1 .0 .0, next-place (here .listed)),
+          fits-same _ _ _ _ (beside-shut _ _ _ _ _ (here .listed) (here .told)) (start .pre .1 .1),
+        ),
       )
 
   pub beside-same-length-2 : beside-lts.Need-same-length-2 (callees t) (beside-at t) beside.Post
@@ -163,9 +180,6 @@ module _ (t : ℕ) where
       let after-beside2 : After-beside2 = search in
       let else3 : Else3 = search in
       let after-open-at : After-open-at = search in
-      let else2 : Else2 = search in
-      let after-count : After-count = search in
       let start : Start = search in
-      let l = place-listed _ _ _ (start .pre .1 .0 .1) (after-count .count .ensures .0) (else2 .if2 .left) in
-      let shut = sym (after-open-at .open-at .ensures) ∙ else3 .if3 .left in
-      tallied-same _ _ _ _ (beside-shut _ _ _ _ _ l shut) (after-beside2 .beside2 .ensures)
+      let here = looked-at after-open-at (else3 .if3 .left) in
+      tallied-same _ _ _ _ (beside-shut _ _ _ _ _ (here .listed) (here .told)) (after-beside2 .beside2 .ensures)

@@ -1,0 +1,63 @@
+-- The lines after line 1, checked from column to column: what is answered at each end of the chain.
+use Prim.Native.Nat.{ℕ, _+_, _*_, _≤_}
+use native.Mathlib.Omega.{arith}
+use mathlib.Core.Path.{_≡_, sym, _∙_}
+use mathlib.Core.List.{List}
+use Rattle.floor.specs.declared.Floor.{Floor}
+use Rattle.floor.specs.declared.Refusal.{Refusal}
+use Rattle.laws.specs.Verdict.{Verdict, passed, refused, _then_}
+use Rattle.laws.proofs.VerdictLaws.{then-passed, then-refused}
+use Rattle.fields.specs.declared.slot.Reached.{Reached}
+use Rattle.fields.specs.declared.slot.Reached.the-variants.{At, Refused}
+use Rattle.fields.specs.Reached.{reachedOf, saidBy}
+use Rattle.fields.specs.Form.{lineForm, countedForm, pastCounted, pastPair, columnPast, linesForm, endForm}
+use Rattle.fields.proofs.ReachedLaws.{reaches, turned-away, said-verdict}
+use Rattle.fields.proofs.ColumnLaws.{counted-columns}
+use Rattle.sheet.specs.Form.{carrierColumn, wallColumn, restForm}
+
+-- A refusal that is handed on is the answer of the whole chain, and a pass hands on to the rest.
+pub handed-on : {a : Reached} {x : Refusal} {u : Verdict} (v w : Verdict) (c : ℕ) → a ≡ reachedOf v c → a ≡ Refused x → u ≡ saidBy a
+    → u ≡ (v then w)
+handed-on v w c h e s =
+    let r = turned-away v c h e in
+    s ∙ said-verdict v c h ∙ r ∙ sym (then-refused w r)
+
+pub goes-past : {a : Reached} {x : ℕ} {u : Verdict} (v w : Verdict) (c : ℕ) → a ≡ reachedOf v c → a ≡ At x → u ≡ w → u ≡ (v then w)
+goes-past v w c h e s = s ∙ sym (then-passed (reaches v c h e .0))
+
+module _ (text : List ℕ) (f : Floor) {carriers : Reached}
+    (first : carriers ≡ reachedOf (linesForm (countedForm text) (pastCounted text) 31 (f .carriers))
+    (columnPast (pastCounted text) 31 (f .carriers))) where
+  pub ends-first : {x : Refusal} {u : Verdict} → carriers ≡ Refused x → u ≡ saidBy carriers → u ≡ restForm text f
+  unfolding restForm
+  ends-first e s = handed-on _ _ _ first e s
+
+  module _ {column : ℕ} (passed-first : carriers ≡ At column) where
+    -- The walls' lines begin where the carriers' end.
+    pub walls-begin : column ≡ carrierColumn text (f .carriers)
+    unfolding carrierColumn
+    walls-begin = reaches _ _ first passed-first .1
+
+    pub walls-low : f .carriers ≤ 8 → column ≤ 50000
+    unfolding carrierColumn
+    walls-low few =
+        let r = reaches _ _ first passed-first in
+        omega (arith, few, r .1, counted-columns text 31 (f .carriers) (r .0))
+
+    module _ {walls : Reached} (second : walls ≡ reachedOf (linesForm (λ (e : ℕ). lineForm text e 2) pastPair column (f .walls))
+        (columnPast pastPair column (f .walls))) where
+      from-carriers : walls ≡ reachedOf (linesForm (λ (e : ℕ). lineForm text e 2) pastPair (carrierColumn text (f .carriers)) (f .walls))
+          (wallColumn text (f .carriers) (f .walls))
+      unfolding wallColumn
+      from-carriers = rw walls-begin at second
+
+      pub ends-second : {x : Refusal} {u : Verdict} → walls ≡ Refused x → u ≡ saidBy walls → u ≡ restForm text f
+      unfolding restForm
+      ends-second e s = goes-past _ _ _ first passed-first (handed-on _ _ _ from-carriers e s)
+
+      pub ends-third : {last : ℕ} {end : Reached} {u : Verdict} → walls ≡ At last → end ≡ reachedOf (endForm text last) last
+          → u ≡ saidBy end → u ≡ restForm text f
+      unfolding restForm
+      ends-third e g s =
+          let there = reaches _ _ from-carriers e .1 in
+          goes-past _ _ _ first passed-first (goes-past _ _ _ from-carriers e (s ∙ said-verdict _ _ (rw there at g)))

@@ -1,0 +1,106 @@
+-- What carriers' lines in good form have room for, column by column.
+use Prim.Native.Nat.{ℕ, suc, _+_, _*_, _/_, _%_, _≤_, _<_}
+use native.Mathlib.Omega.{arith}
+use native.Mathlib.Numerals.{add-one}
+use mathlib.Core.Path.{_≡_, refl, sym, _∙_}
+use mathlib.Core.List.{List}
+use lib.ListN.{length, getD}
+use Rattle.floor.specs.declared.Floor.{Floor}
+use Rattle.laws.specs.Verdict.{passed}
+use Rattle.fields.specs.Field.{numberAt}
+use Rattle.fields.specs.Form.{countedForm, countedLength, pastCounted, columnPast, linesForm}
+use Rattle.sheet.specs.Form.{carrierColumn}
+use Rattle.sheet.specs.Values.{valueAt, cellAt, upTo, listed, countIn, dockIn, placeIn, startsAt, countsAt, docksAt, headAt, floorAt}
+use Rattle.sheet.proofs.FormLaws.{Lined, lined}
+use Rattle.sheet.proofs.ListedLaws.{upTo-at, upTo-below, upTo-past}
+
+pub first-line : (text : List ℕ) → 31 ≡ carrierColumn text 0
+unfolding carrierColumn columnPast
+first-line text = refl
+
+module _ (text : List ℕ) (n : ℕ) (few : n ≤ 8) (good : linesForm (countedForm text) (pastCounted text) 31 n ≡ passed) where
+  module _ (i : ℕ) (l : i < n) where
+    line : Lined text n i
+    line = lined text n good i l
+
+    -- The start, the dock count and each dock lie within the text.
+    pub start-room : carrierColumn text i + 10 ≤ length text
+    unfolding countedLength
+    start-room = omega (arith, line .end, line .reach)
+
+    pub count-room : carrierColumn text i + 10 + 5 ≤ length text
+    unfolding countedLength
+    count-room = omega (arith, line .end, line .reach)
+
+    pub dock-room : (k : ℕ) → k < countIn text i → carrierColumn text i + 15 + 10 * k + 10 ≤ length text
+    unfolding countedLength
+    dock-room k g = omega (arith, line .end, line .reach, g)
+
+    pub column-low : carrierColumn text i ≤ 479
+    column-low = omega (arith, line .column-low, few, l)
+
+    -- The next line's column, from the number that was read.
+    pub next-column : (at v : ℕ) → at ≡ carrierColumn text i → v ≡ numberAt text (at + 10)
+        → (v ≤ 4) × ((at ≤ 479) × (at + (16 + 10 * v) ≡ carrierColumn text (i + 1)))
+    unfolding countedLength
+    next-column at v e h =
+        let number : v ≡ countIn text i = h ∙ rw e (sym (line .count-number)) in
+        let end = rw (← number, ← e) at (line .end) in
+        (omega (arith, number, line .most), (omega (arith, column-low, e), rw add-one (sym end)))
+
+    -- The column that was kept.
+    pub column-kept : (at : List ℕ) → at ≡ listed (upTo n (carrierColumn text)) 8 → getD at i 0 ≡ carrierColumn text i
+    column-kept at e = rw e (upTo-at (carrierColumn text) n 8 i l (omega (arith, l, few)))
+
+    pub count-kept : (f : Floor) (cs : List ℕ) → f .carriers ≡ n → cs ≡ countsAt text f → getD cs i 0 ≡ countIn text i
+    unfolding countsAt
+    count-kept f cs e h = rw (h, e) (upTo-at (countIn text) n 8 i l (omega (arith, l, few)))
+
+-- A dock count, read at its column.
+pub count-read : (text : List ℕ) (i a v : ℕ) → a ≡ carrierColumn text i → v ≡ valueAt text (a + 10) → v ≡ countIn text i
+unfolding countIn
+count-read text i a v e h = rw e at h
+
+-- A place of the docks: past the carriers, past a dock count, and a dock.
+module _ (text : List ℕ) (f : Floor) (q : ℕ) where
+  pub place-none : f .carriers ≤ q / 4 → 0 ≡ placeIn text f q
+  unfolding placeIn
+  place-none l = sym (upTo-past _ _ _ l)
+
+  pub place-past : q / 4 < f .carriers → countIn text (q / 4) ≤ q % 4 → 0 ≡ placeIn text f q
+  unfolding placeIn
+  place-past l g = sym (upTo-below _ _ _ l ∙ upTo-past _ _ _ g)
+
+  pub place-dock : q / 4 < f .carriers → q % 4 < countIn text (q / 4)
+      → cellAt text (f .width) (f .height) (carrierColumn text (q / 4) + 15 + 10 * (q % 4)) ≡ placeIn text f q
+  unfolding placeIn dockIn
+  place-dock l g = sym (upTo-below _ _ _ l ∙ upTo-below _ _ _ g)
+
+-- Line 1 as it was read: its carriers' lines, and the floor that is made of it.
+pub line-one : (text : List ℕ) (h : Floor) → h ≡ headAt text → valueAt text 20 ≤ 8
+    → linesForm (countedForm text) (pastCounted text) 31 (valueAt text 20) ≡ passed
+    → (h .carriers ≤ 8) × (linesForm (countedForm text) (pastCounted text) 31 (h .carriers) ≡ passed)
+unfolding headAt
+line-one text h e l g = rw e (l, g)
+
+pub line-one-grid : (text : List ℕ) (h : Floor) → h ≡ headAt text → (valueAt text 0 ≤ 32) × (valueAt text 5 ≤ 32)
+    → (h .width ≤ 32) × (h .height ≤ 32)
+unfolding headAt
+line-one-grid text h e l = rw e l
+
+pub floor-made : (text : List ℕ) (h : Floor) (starts counts docks : List ℕ) → h ≡ headAt text → starts ≡ startsAt text h
+    → counts ≡ countsAt text h → docks ≡ docksAt text h
+    → _≡_ {A = Floor}
+    (record {
+      width = h .width;
+      height = h .height;
+      horizon = h .horizon;
+      depth = h .depth;
+      carriers = h .carriers;
+      walls = h .walls;
+      starts = starts;
+      counts = counts;
+      docks = docks;
+    }) (floorAt text)
+unfolding floorAt headAt
+floor-made text h starts counts docks e a b c = rw (a, b, c, e)

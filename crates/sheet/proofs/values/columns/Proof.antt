@@ -1,0 +1,64 @@
+-- `sheet::values::columns` meets its contract: invariant: the column is the next line's, and those passed are kept.
+use Rattle.sheet.proofs.ListedLaws.{lists, upTo-step}
+use Rattle.sheet.proofs.ValueLaws.{first-line, count-room, column-low, next-column}
+use Rattle.sheet.specs.Form.{carrierColumn}
+use Rattle.sheet.specs.Values.{upTo, listed}
+use mathlib.Core.Path.{_≡_}
+use Prim.Native.Nat.{ℕ, _-_, _≤_}
+use native.Mathlib.Omega.{arith}
+use borrow.Author.Needs.{needs}
+use Rattle.sheet.proofs.values.columns.Statement.{statement}
+use Rattle.sheet.proofs.values.columns.Tie as tie
+
+abbrev Inv-loop : tie.InvT-loop
+Inv-loop text n found₀ column₀ i₀ found column i =
+    (i ≤ n) × ((column ≡ carrierColumn text i) × (found ≡ listed (upTo i (carrierColumn text)) 8))
+
+abbrev μ-loop : tie.MeasureT-loop
+μ-loop text n found₀ column₀ i₀ found column i = n - i
+
+ruleset begins = (lists, first-line)
+
+loop-holds : tie.Need-loop-holds Inv-loop μ-loop
+loop-holds c = search begins
+
+number-requires : tie.Need-number-requires Inv-loop μ-loop
+number-requires c κs =
+    let in-loop : tie.In-loop Inv-loop μ-loop = search in
+    let at-loop : tie.At-loop Inv-loop μ-loop = search in
+    let start : tie.Start Inv-loop μ-loop = search in
+    omega (arith, at-loop .loop .inv .1 .0, count-room _ _ (start .pre .0) (start .pre .1) _ (in-loop .loop-test .taken))
+
+add-number : tie.Need-add-number Inv-loop μ-loop
+add-number c =
+    let in-loop : tie.In-loop Inv-loop μ-loop = search in
+    let at-loop : tie.At-loop Inv-loop μ-loop = search in
+    let start : tie.Start Inv-loop μ-loop = search in
+    let low = column-low _ _ (start .pre .0) (start .pre .1) _ (in-loop .loop-test .taken) in
+    record { fits = omega (arith, at-loop .loop .inv .1 .0, low) }
+
+add-column-2 : tie.Need-add-column-2 Inv-loop μ-loop
+add-column-2 c =
+    let after-number : tie.After-number Inv-loop μ-loop = search in
+    let in-loop : tie.In-loop Inv-loop μ-loop = search in
+    let at-loop : tie.At-loop Inv-loop μ-loop = search in
+    let start : tie.Start Inv-loop μ-loop = search in
+    let next = next-column _ _ (start .pre .0) (start .pre .1) _ (in-loop .loop-test .taken) _ _ (at-loop .loop .inv .1 .0)
+    (after-number .number .ensures) in
+    record { fits = omega (arith, next .0, next .1 .0) }
+
+loop-again : tie.Need-loop-again Inv-loop μ-loop
+loop-again c =
+    let after-number : tie.After-number Inv-loop μ-loop = search in
+    let in-loop : tie.In-loop Inv-loop μ-loop = search in
+    let at-loop : tie.At-loop Inv-loop μ-loop = search in
+    let start : tie.Start Inv-loop μ-loop = search in
+    let next = next-column _ _ (start .pre .0) (start .pre .1) _ (in-loop .loop-test .taken) _ _ (at-loop .loop .inv .1 .0)
+    (after-number .number .ensures) in
+    (search needs, (next .1 .1, upTo-step _ _ _ 8 _ (omega arith) (at-loop .loop .inv .1 .1) (at-loop .loop .inv .1 .0)))
+
+pub columns-spec : {M : Type 1} → statement M
+columns-spec =
+    tie.close (tie.spec Inv-loop μ-loop loop-holds (λ c. search needs) (λ c. search needs) add-number number-requires
+    (λ c. search needs) (λ c. search needs) (λ c. search needs) add-column-2 (λ c. search needs) (λ c. search needs) loop-again
+    (λ c. search lists))
