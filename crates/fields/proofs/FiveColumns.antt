@@ -78,56 +78,64 @@ module _ (a b c d e v : ℕ) (is : v ≡ ((((a - 48) * 10 + (b - 48)) * 10 + (c 
   unfolding tests
   columns-so h =
       and-so (column-right 10000 v 0 (a - 48) ((((b - 48) * 10 + (c - 48)) * 10 + (d - 48)) * 10 + (e - 48)) a (omega (arith, is))
-          (omega (arith, h .most-b, h .most-c, h .most-d, h .most-e)) (omega (arith, h .most-a)) (h .space-a)
-          (λ k. omega (arith, h .digit-a k)))
+      (omega (arith, h .most-b, h .most-c, h .most-d, h .most-e)) (omega (arith, h .most-a)) (h .space-a)
+      (λ k. omega (arith, h .digit-a k)))
       (and-so (column-right 1000 v (a - 48) (b - 48) (((c - 48) * 10 + (d - 48)) * 10 + (e - 48)) b (omega (arith, is))
-          (omega (arith, h .most-c, h .most-d, h .most-e)) (omega (arith, h .most-b)) (h .space-b) (λ k. omega (arith, h .digit-b k)))
+      (omega (arith, h .most-c, h .most-d, h .most-e)) (omega (arith, h .most-b)) (h .space-b) (λ k. omega (arith, h .digit-b k)))
       (and-so (column-right 100 v ((a - 48) * 10 + (b - 48)) (c - 48) ((d - 48) * 10 + (e - 48)) c (omega (arith, is))
-          (omega (arith, h .most-d, h .most-e)) (omega (arith, h .most-c)) (h .space-c) (λ k. omega (arith, h .digit-c k)))
+      (omega (arith, h .most-d, h .most-e)) (omega (arith, h .most-c)) (h .space-c) (λ k. omega (arith, h .digit-c k)))
       (and-so (column-right 10 v (((a - 48) * 10 + (b - 48)) * 10 + (c - 48)) (d - 48) (e - 48) d (omega (arith, is))
-          (omega (arith, h .most-e)) (omega (arith, h .most-d)) (h .space-d) (λ k. omega (arith, h .digit-d k)))
+      (omega (arith, h .most-e)) (omega (arith, h .most-d)) (h .space-d) (λ k. omega (arith, h .digit-d k)))
       (eq-eqb e (48 + v % 10) (omega (arith, is, h .most-e, h .least-e))))))
 
   -- Five equations tell the form, by the number of digits.
   form-so : a ≡ column 10000 v → b ≡ column 1000 v → c ≡ column 100 v → d ≡ column 10 v → (48 ≤ e) × (e ≤ 57)
       → isWritten (a ∷ b ∷ c ∷ d ∷ e ∷ []) ≡ true
-  form-so ea eb ec ed he = go (lt-or-le v 10) (lt-or-le v 100) (lt-or-le v 1000) (lt-or-le v 10000)
+  form-so ea eb ec ed he = upto-one (lt-or-le v 10)
     where
-      go : (v < 10) ⊎ (10 ≤ v) → (v < 100) ⊎ (100 ≤ v) → (v < 1000) ⊎ (1000 ≤ v) → (v < 10000) ⊎ (10000 ≤ v)
-          → isWritten (a ∷ b ∷ c ∷ d ∷ e ∷ []) ≡ true
-      go n1 n2 n3 (inr k) =
-          let ha = column-digit {10000} {v} {a} k ea in
-          let hb = column-digit {1000} {v} {b} (omega (arith, k)) eb in
-          let hc = column-digit {100} {v} {c} (omega (arith, k)) ec in
-          let hd = column-digit {10} {v} {d} (omega (arith, k)) ed in
+      upto-four : 1000 ≤ v → (v < 10000) ⊎ (10000 ≤ v) → isWritten (a ∷ b ∷ c ∷ d ∷ e ∷ []) ≡ true
+      upto-four j (inr k) =
+          let ha = column-digit {p = 10000} {v = v} {b = a} k ea in
+          let hb = column-digit {p = 1000} {v = v} {b = b} (omega (arith, k)) eb in
+          let hc = column-digit {p = 100} {v = v} {b = c} (omega (arith, k)) ec in
+          let hd = column-digit {p = 10} {v = v} {b = d} (omega (arith, k)) ed in
           first-so b (c ∷ d ∷ e ∷ []) (omega (arith, is, k, hb .1, hc .1, hd .1, he .1), ha .1)
           (digit-so (c ∷ d ∷ e ∷ []) hb (digit-so (d ∷ e ∷ []) hc (digit-so (e ∷ []) hd (digit-so [] he none-so))))
-      go n1 n2 (inr k) (inl l) =
-          let ha = column-space {10000} {v} {a} l ea in
-          let hb = column-digit {1000} {v} {b} k eb in
-          let hc = column-digit {100} {v} {c} (omega (arith, k)) ec in
-          let hd = column-digit {10} {v} {d} (omega (arith, k)) ed in
+      upto-four k (inl l) =
+          let ha = column-space {p = 10000} {v = v} {b = a} l ea in
+          let hb = column-digit {p = 1000} {v = v} {b = b} k eb in
+          let hc = column-digit {p = 100} {v = v} {b = c} (omega (arith, k)) ec in
+          let hd = column-digit {p = 10} {v = v} {b = d} (omega (arith, k)) ed in
           space-so b (c ∷ d ∷ e ∷ []) ha (first-so c (d ∷ e ∷ []) (omega (arith, is, k, ha, hc .1, hd .1, he .1), hb .1)
           (digit-so (d ∷ e ∷ []) hc (digit-so (e ∷ []) hd (digit-so [] he none-so))))
-      go n1 (inr k) (inl l) n4 =
-          let ha = column-space {10000} {v} {a} (omega (arith, l)) ea in
-          let hb = column-space {1000} {v} {b} l eb in
-          let hc = column-digit {100} {v} {c} k ec in
-          let hd = column-digit {10} {v} {d} (omega (arith, k)) ed in
+
+      upto-three : 100 ≤ v → (v < 1000) ⊎ (1000 ≤ v) → isWritten (a ∷ b ∷ c ∷ d ∷ e ∷ []) ≡ true
+      upto-three j (inr k) = upto-four k (lt-or-le v 10000)
+      upto-three k (inl l) =
+          let ha = column-space {p = 10000} {v = v} {b = a} (omega (arith, l)) ea in
+          let hb = column-space {p = 1000} {v = v} {b = b} l eb in
+          let hc = column-digit {p = 100} {v = v} {b = c} k ec in
+          let hd = column-digit {p = 10} {v = v} {b = d} (omega (arith, k)) ed in
           space-so b (c ∷ d ∷ e ∷ []) ha (space-so c (d ∷ e ∷ []) hb
           (first-so d (e ∷ []) (omega (arith, is, k, ha, hb, hd .1, he .1), hc .1) (digit-so (e ∷ []) hd (digit-so [] he none-so))))
-      go (inr k) (inl l) n3 n4 =
-          let ha = column-space {10000} {v} {a} (omega (arith, l)) ea in
-          let hb = column-space {1000} {v} {b} (omega (arith, l)) eb in
-          let hc = column-space {100} {v} {c} l ec in
-          let hd = column-digit {10} {v} {d} k ed in
+
+      upto-two : 10 ≤ v → (v < 100) ⊎ (100 ≤ v) → isWritten (a ∷ b ∷ c ∷ d ∷ e ∷ []) ≡ true
+      upto-two j (inr k) = upto-three k (lt-or-le v 1000)
+      upto-two k (inl l) =
+          let ha = column-space {p = 10000} {v = v} {b = a} (omega (arith, l)) ea in
+          let hb = column-space {p = 1000} {v = v} {b = b} (omega (arith, l)) eb in
+          let hc = column-space {p = 100} {v = v} {b = c} l ec in
+          let hd = column-digit {p = 10} {v = v} {b = d} k ed in
           space-so b (c ∷ d ∷ e ∷ []) ha (space-so c (d ∷ e ∷ []) hb (space-so d (e ∷ []) hc
           (first-so e [] (omega (arith, is, k, ha, hb, hc, he .1), hd .1) (digit-so [] he none-so))))
-      go (inl l) n2 n3 n4 =
-          let ha = column-space {10000} {v} {a} (omega (arith, l)) ea in
-          let hb = column-space {1000} {v} {b} (omega (arith, l)) eb in
-          let hc = column-space {100} {v} {c} (omega (arith, l)) ec in
-          let hd = column-space {10} {v} {d} l ed in
+
+      upto-one : (v < 10) ⊎ (10 ≤ v) → isWritten (a ∷ b ∷ c ∷ d ∷ e ∷ []) ≡ true
+      upto-one (inr k) = upto-two k (lt-or-le v 100)
+      upto-one (inl l) =
+          let ha = column-space {p = 10000} {v = v} {b = a} (omega (arith, l)) ea in
+          let hb = column-space {p = 1000} {v = v} {b = b} (omega (arith, l)) eb in
+          let hc = column-space {p = 100} {v = v} {b = c} (omega (arith, l)) ec in
+          let hd = column-space {p = 10} {v = v} {b = d} l ed in
           space-so b (c ∷ d ∷ e ∷ []) ha (space-so c (d ∷ e ∷ []) hb (space-so d (e ∷ []) hc (space-so e [] hd (last-so he))))
 
   written-so : tests a b c d e v ≡ true → isWritten (a ∷ b ∷ c ∷ d ∷ e ∷ []) ≡ true
@@ -151,6 +159,7 @@ module _ (a b c d e v : ℕ) (is : v ≡ ((((a - 48) * 10 + (b - 48)) * 10 + (c 
           let hd = s .0 in
           let he = digit-tells e [] (s .1) .0 in
           omega (arith, is, ha, hb, hc, hd .0, hd .1, he .0, he .1)
+
       from-c : a ≡ 32 → b ≡ 32 → Told c d (e ∷ []) → Columns a b c d e v
       from-c ha hb (inl s) = from-d ha hb (s .0) (written-tells d e [] (s .1))
       from-c ha hb (inr s) =
@@ -159,6 +168,7 @@ module _ (a b c d e v : ℕ) (is : v ≡ ((((a - 48) * 10 + (b - 48)) * 10 + (c 
           let hd = d1 .0 in
           let he = digit-tells e [] (d1 .1) .0 in
           omega (arith, is, ha, hb, hc .0, hc .1, hd .0, hd .1, he .0, he .1)
+
       from-b : a ≡ 32 → Told b c (d ∷ e ∷ []) → Columns a b c d e v
       from-b ha (inl s) = from-c ha (s .0) (written-tells c d (e ∷ []) (s .1))
       from-b ha (inr s) =
@@ -169,6 +179,7 @@ module _ (a b c d e v : ℕ) (is : v ≡ ((((a - 48) * 10 + (b - 48)) * 10 + (c 
           let hd = d2 .0 in
           let he = digit-tells e [] (d2 .1) .0 in
           omega (arith, is, ha, hb .0, hb .1, hc .0, hc .1, hd .0, hd .1, he .0, he .1)
+
       from-a : Told a b (c ∷ d ∷ e ∷ []) → Columns a b c d e v
       from-a (inl s) = from-b (s .0) (written-tells b c (d ∷ e ∷ []) (s .1))
       from-a (inr s) =

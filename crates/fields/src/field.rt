@@ -151,7 +151,13 @@ pub fn is_field(text: &[u8], at: usize) -> bool
     requires { ⌜ at + 5 ≤ length (now text) ⌝ }
     ensures { λ r. ⌜ r ≡ isField (now (text .entry)) at ⌝ }
 {
-    five_columns(text[at], text[at + 1], text[at + 2], text[at + 3], text[at + 4])
+    five_columns(
+        text[at],
+        text[at + 1],
+        text[at + 2],
+        text[at + 3],
+        text[at + 4],
+    )
 }
 
 // Puts the field of a number at a column.

@@ -43,10 +43,8 @@ pub fn reached<'a>(r: Reader<'a>) -> Reached
 // The counted line that comes next.
 pub fn counted<'a>(r: Reader<'a>) -> Reached
     requires { ⌜ r .column ≤ 64000 ⌝ }
-    ensures {
-        λ c. ⌜ c ≡ reachedOf (countedForm (now (r .entry .text)) (r .entry .column))
-            (pastCounted (now (r .entry .text)) (r .entry .column)) ⌝
-    }
+    ensures { λ c. ⌜ c ≡ reachedOf (countedForm (now (r .entry .text)) (r .entry .column))
+        (pastCounted (now (r .entry .text)) (r .entry .column)) ⌝ }
 {
     line::counted_form(r.text, r.column)
 }

@@ -28,9 +28,10 @@ put-carrier-requires c κs =
     let step = carrier-step (start .args .f) i _ l in
     let end = carrier-end (start .args .f) i in
     let size = lines-keep _ (carrierAt (start .args .f)) (carriers-behind _) _ _ i (omega (arith, end, step, start .pre .1 .1))
-    (at-loop .loop .inv .1 .1) in
-    ((omega (arith, l, start .pre .0 .0), start .pre .0 .1),
-    (start .pre .1 .0 i l .1, omega (arith, here, end, step, size, start .pre .1 .1)))
+    (at-loop .loop .inv .1 .1) in (
+      (omega (arith, l, start .pre .0 .0), start .pre .0 .1),
+      (start .pre .1 .0 i l .1, omega (arith, here, end, step, size, start .pre .1 .1)),
+    )
 
 add-at-2 : tie.Need-add-at-2 Inv-loop μ-loop
 add-at-2 c =
