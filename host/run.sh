@@ -5,6 +5,7 @@
 #     host/run.sh            everything
 #     host/run.sh test       all but the benchmark
 #     host/run.sh bench      the archive and the benchmark alone
+#     host/run.sh fuzz [SECONDS]   the archive and the fuzzer alone (host/fuzz/run), 600 seconds if none are said; no part of everything
 set -euo pipefail
 
 what=${1:-all}
@@ -16,6 +17,12 @@ built=$host/target/c
 echo "== the archive"
 (cd "$root" && rt staticlib kalomivund)
 [ -f "$archive" ] || { echo "no archive at target/staticlib/libkalomivund.a" >&2; exit 1; }
+
+if [ "$what" = fuzz ]; then
+    echo "== C: the exported functions fuzzed"
+    "$host/fuzz/run" "$archive" "${2:-600}"
+    exit
+fi
 
 if [ "$what" != bench ]; then
     echo "== C: the sample sheet"
@@ -33,12 +40,27 @@ LINES
     diff "$built/docks.routes" <(cd "$host" && cargo run --offline --release --quiet --bin paper < "$root/samples/docks.sheet")
     echo "as paper.rs prints it"
 
+    echo "== C: the header, as C99 and as C++"
+    strict=(-pedantic -O2 -Wall -Wextra -Wconversion -Wshadow -Werror -I "$host/include")
+    cc -std=c99 "${strict[@]}" "$host/c/header.c" "$archive" -o "$built/header"
+    "$built/header"
+    c++ -x c++ -std=c++11 "${strict[@]}" "$host/c/header.c" -x none "$archive" -o "$built/header++"
+    "$built/header++"
+
     echo "== C: the deepest stack of each entry"
     cc "${flags[@]}" -pthread "$host/c/stack.c" "$archive" -o "$built/stack"
     "$built/stack"
 
     echo "== Rust: tests"
     (cd "$host" && cargo test --offline --release)
+    (cd "$host" && RUSTDOCFLAGS="-D warnings" cargo doc --offline --no-deps)
+    echo "== Rust: no function of the crate panics"
+    # Compiled with every overflow checked and, being incremental, with every public function in it.
+    (cd "$host" && CARGO_INCREMENTAL=1 cargo rustc --offline --release --lib --target-dir target/panics -- -C overflow-checks=on)
+    nm "$host/target/panics/release/libkalomivund.rlib" > "$built/symbols" 2> /dev/null || true
+    grep -q "U kalomivund_plan" "$built/symbols" || { echo "no symbols to look at" >&2; exit 1; }
+    if grep "U .*9panicking" "$built/symbols"; then echo "a function panics" >&2; exit 1; fi
+    echo "none asks for a panic"
     echo "== Rust: library and paper compared"
     (cd "$host" && cargo run --offline --release --quiet --bin compare)
 fi

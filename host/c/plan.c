@@ -15,7 +15,7 @@ int main(void) {
     }
     uint64_t word = kalomivund_print_routes(text, length, out, sizeof out);
     if (KALOMIVUND_REFUSED(word)) {
-        fprintf(stderr, "plan: refusal %u, place %llu\n", KALOMIVUND_CASE(word), (unsigned long long)KALOMIVUND_NUMBER(word));
+        fprintf(stderr, "plan: refusal %u, place %llu\n", KALOMIVUND_REFUSAL(word), (unsigned long long)KALOMIVUND_PLACE(word));
         return 2;
     }
     size_t bytes = (size_t)KALOMIVUND_NUMBER(word);

@@ -29,7 +29,7 @@ static uint8_t sheet[KALOMIVUND_MOST_SHEET];
 static uint8_t text[KALOMIVUND_MOST_TEXT];
 static size_t sheet_length;
 
-#define FLOOR crossing, KALOMIVUND_FLOOR, walls, crossing[5]
+#define FLOOR crossing, KALOMIVUND_FLOOR, walls, KALOMIVUND_FLOOR_WALLS(crossing)
 
 static uint64_t write_sheet(void) {
     uint64_t word = kalomivund_write_sheet(FLOOR, sheet, sizeof sheet);
@@ -57,13 +57,13 @@ static uint64_t step_deliver(void) {
 }
 static uint64_t run(void) { return kalomivund_run(FLOOR, state, KALOMIVUND_MOST_STATE, steps, STEPS, 65535); }
 static uint64_t trial(void) {
-    return kalomivund_trial(FLOOR, 3, 1, state, KALOMIVUND_MOST_STATE, report, KALOMIVUND_MOST_REPORT);
+    return kalomivund_trial(FLOOR, KALOMIVUND_ORDER_DRAWN, 1, state, KALOMIVUND_MOST_STATE, report, KALOMIVUND_MOST_REPORT);
 }
 /* Three of the crossing's carriers. */
 static uint64_t run_of_rank(void) {
     static uint16_t three[KALOMIVUND_FLOOR];
     memcpy(three, crossing, sizeof three);
-    three[4] = 3;
+    KALOMIVUND_FLOOR_CARRIERS(three) = 3;
     return kalomivund_run_of_rank(three, KALOMIVUND_FLOOR, walls, KALOMIVUND_MOST_WALLS, 0, report, KALOMIVUND_MOST_REPORT);
 }
 /* Carrier 8 starts in a corner whose two sides are walls. */
@@ -71,13 +71,14 @@ static uint64_t blockers(void) {
     static uint16_t shut[KALOMIVUND_FLOOR];
     static const uint16_t sides[2] = {1, 32};
     memcpy(shut, crossing, sizeof shut);
-    shut[5] = 2;
-    shut[KALOMIVUND_START(8)] = 0;
+    KALOMIVUND_FLOOR_WALLS(shut) = 2;
+    KALOMIVUND_FLOOR_START(shut, 8) = 0;
     return kalomivund_blockers(shut, KALOMIVUND_FLOOR, sides, 2, 8, answers, KALOMIVUND_MOST_ANSWERS);
 }
 
 static uint64_t conflict(void) {
-    return kalomivund_conflict(answers + 1, KALOMIVUND_ROUTE, answers + 1 + KALOMIVUND_RECORD, KALOMIVUND_ROUTE, 63);
+    const uint16_t *one = KALOMIVUND_ANSWERS_ANSWER(answers, 1), *other = KALOMIVUND_ANSWERS_ANSWER(answers, 2);
+    return kalomivund_conflict(KALOMIVUND_ANSWER_ROUTE(one), KALOMIVUND_ROUTE, KALOMIVUND_ANSWER_ROUTE(other), KALOMIVUND_ROUTE, 63);
 }
 static uint64_t ceiling(void) { return kalomivund_ceiling(8); }
 
@@ -132,7 +133,7 @@ int main(void) {
     };
     /* Walls: the last cells of the grid but for the starts and docks there, so that a floor of many walls is read. */
     for (uint16_t c = 544; c < 1024; c++) {
-        if (c % 32 != 15 && c % 32 != 16) walls[crossing[5]++] = c;
+        if (c % 32 != 15 && c % 32 != 16) walls[KALOMIVUND_FLOOR_WALLS(crossing)++] = c;
     }
     size_t k = 0;
     for (int i = 1; i <= 8; i++) {

@@ -3,34 +3,34 @@
  * Floor, routes, steps and sheets are those of document 01; this header says how they lie in memory and what each function does.
  *
  * MEMORY. All memory is lent by the caller for the time of a call: a pointer with its length in elements. The library keeps no
- * pointer, allocates nothing and has no state of its own, so calls on different memory may run at the same time. A pointer is never
- * null, also where its length is 0, is aligned for its element, and memory that a call writes overlaps no other memory lent to it.
- * A buffer of its needed length or longer is never called too short, and nothing beyond the needed length is ever written. A refused
- * call leaves all lent memory as it was.
+ * pointer, allocates nothing and has no state of its own, so calls on different memory may run at the same time. A pointer may be
+ * null where its length is 0; otherwise it is valid for its length and aligned for its element. Memory that a call writes overlaps no
+ * other memory lent to it. A buffer of its needed length or longer is never called too short, and nothing beyond the needed length is
+ * ever written. A refused call leaves all lent memory as it was.
  *
  * A CELL is row x width + column, columns and rows counted from 0. A ROUTE is 64 cells, one for each beat from 0 to the horizon, the
- * rest 0. A RECORD of an answer or a view is 65 numbers: 0 not heard, 1 none or 2 a route, and then the route's 64 cells, which are 0
- * where there is no route.
+ * rest 0. An ANSWER is 65 numbers: its tag, 1 none or 2 a route, and then the route's 64 cells, which are 0 where there is none. A
+ * VIEW is an answer, or not heard, which has tag 0; a MESSAGE is an answer.
  *
  * A FLOOR is 54 numbers: width (1 to 32), height (1 to 32), horizon (1 to 63), depth (1 to 4), carriers (1 to 8), walls (0 to 1023),
- * eight starts, eight dock counts (1 to 4), four docks of each of eight carriers; see KALOMIVUND_START and those behind it. A carrier's
- * route may end at any of its docks. Places past the carriers, and docks past a carrier's count, are not looked at. Its WALLS are lent
- * beside it: cells, strictly rising, as many as the floor counts or more, those beyond not looked at. Carriers count from 1; 1 ranks
- * highest.
+ * eight starts, eight dock counts (1 to 4), four docks of each of eight carriers; see KALOMIVUND_FLOOR_WIDTH and those behind it. A
+ * carrier's route may end at any of its docks. Places past the carriers, and docks past a carrier's count, are not looked at. Its WALLS
+ * are lent beside it: cells, strictly rising, as many as the floor counts or more, those beyond not looked at. Carriers count from 1; 1
+ * ranks highest.
  *
- * THE ANSWER of every function is one word, see KALOMIVUND_REFUSED and those below it:
+ * THE WORD that every function returns, see KALOMIVUND_REFUSED and those below it:
  *   done     low byte 0, bits 8 to 15 the case, bits 16 and up a number
  *   refused  low byte 1, bits 8 to 15 the refusal, bits 16 and up its place
  * A number or place above 2^48 - 1 is told as 2^48 - 1.
  *
- * REFUSALS, in the order in which they are looked for; the first one met is the answer.
+ * REFUSALS, in the order in which they are looked for; the first one met is told.
  *   9, 0         the lent floor has fewer than 54 numbers; before anything else (not for read_sheet, which writes it)
  *   1, offset    form of a sheet's line 1 (see kalomivund_read_sheet)
  *   2, field     line 1, field 1 to 6: outside its limits
  *   1, offset    form of a sheet's other lines; a dock count outside 1 to 4 is a bad field
  *   9, 0         fewer walls are lent than the floor counts (right after 2; not for read_sheet)
- *   3, item      a start, a dock or a wall outside the grid, or a record's dock count outside 1 to 4; carriers are items 1 to n, walls
- *                follow
+ *   3, item      a start, a dock or a wall outside the grid, or a lent floor's dock count outside 1 to 4; carriers are items 1 to n,
+ *                walls follow
  *   4, item      a wall is not above the one before
  *   5, carrier   its start or one of its docks is a wall
  *   6, carrier   an earlier carrier has the same start (docks may be common to several carriers)
@@ -58,31 +58,88 @@
 extern "C" {
 #endif
 
-/* Lengths that serve every floor. */
-#define KALOMIVUND_FLOOR 54        /* numbers of a floor record */
-#define KALOMIVUND_DOCKS 4         /* docks of a carrier */
-#define KALOMIVUND_ROUTE 64        /* cells of a route */
-#define KALOMIVUND_RECORD 65       /* numbers of an answer or a view */
-#define KALOMIVUND_LENGTHS 9       /* figures of kalomivund_needed_lengths */
-#define KALOMIVUND_MOST_WALLS 1023 /* cells */
-#define KALOMIVUND_MOST_SHEET 11732 /* bytes */
-#define KALOMIVUND_MOST_ANSWERS 520 /* numbers */
-#define KALOMIVUND_MOST_TEXT 2659  /* bytes */
-#define KALOMIVUND_MOST_STATE 9666 /* numbers, 19,332 bytes */
-#define KALOMIVUND_MOST_REPORT 1004 /* numbers; of a listed run 22 */
+/* Lengths, in numbers of two bytes but for those of bytes. The crate for Rust has the same names. */
+#define KALOMIVUND_FLOOR 54         /* a floor */
+#define KALOMIVUND_CARRIERS 8       /* the most carriers of a floor */
+#define KALOMIVUND_DOCKS 4          /* the most docks of a carrier */
+#define KALOMIVUND_ROUTE 64         /* a route */
+#define KALOMIVUND_ANSWER 65        /* an answer, a view or a message */
+#define KALOMIVUND_CHANNEL 261      /* a channel of a state */
+#define KALOMIVUND_LENGTHS 9        /* the figures of kalomivund_needed_lengths, numbers of eight bytes */
+#define KALOMIVUND_MOST_WALLS 1023  /* walls, of any floor */
+#define KALOMIVUND_MOST_SHEET 11732 /* bytes of a sheet */
+#define KALOMIVUND_MOST_ANSWERS 520 /* answers, or views lent to a search */
+#define KALOMIVUND_MOST_TEXT 2659   /* bytes of printed routes */
+#define KALOMIVUND_MOST_STATE 9666  /* a state, 19,332 bytes */
+#define KALOMIVUND_MOST_REPORT 1004 /* a report; of a listed run 22 */
 
-/* Places of a floor record, for carrier i from 1 to 8: its start, its dock count, and its docks, k from 1 to 4. */
-#define KALOMIVUND_START(i) (6 + (i) - 1)
-#define KALOMIVUND_COUNT(i) (14 + (i) - 1)
-#define KALOMIVUND_DOCK(i, k) (22 + KALOMIVUND_DOCKS * ((i) - 1) + (k) - 1)
+/* Macros that read the parts of lent memory; those of a floor may be assigned too. Carriers, docks, messages and the steps of a report
+ * count from 1, beats from 0. None looks whether the part is there. Arguments may be evaluated more than once. */
 
-/* Parts of an answer word. */
-#define KALOMIVUND_REFUSED(word) ((unsigned)((word) & 0xff))       /* 0 done, 1 refused */
-#define KALOMIVUND_CASE(word) ((unsigned)((word) >> 8 & 0xff))     /* the case, or the refusal */
-#define KALOMIVUND_NUMBER(word) ((uint64_t)(word) >> 16)           /* the number, or the place */
+/* The parts of a floor. */
+#define KALOMIVUND_FLOOR_WIDTH(floor) ((floor)[0])
+#define KALOMIVUND_FLOOR_HEIGHT(floor) ((floor)[1])
+#define KALOMIVUND_FLOOR_HORIZON(floor) ((floor)[2])
+#define KALOMIVUND_FLOOR_DEPTH(floor) ((floor)[3])
+#define KALOMIVUND_FLOOR_CARRIERS(floor) ((floor)[4])
+#define KALOMIVUND_FLOOR_WALLS(floor) ((floor)[5])
+#define KALOMIVUND_FLOOR_START(floor, i) ((floor)[5 + (i)])
+#define KALOMIVUND_FLOOR_DOCK_COUNT(floor, i) ((floor)[13 + (i)])
+#define KALOMIVUND_FLOOR_DOCK(floor, i, k) ((floor)[17 + KALOMIVUND_DOCKS * (i) + (k)])
+
+/* The answers of kalomivund_plan, or views lent to a search: a pointer to that of carrier i. */
+#define KALOMIVUND_ANSWERS_ANSWER(answers, i) ((answers) + KALOMIVUND_ANSWER * ((size_t)(i) - 1))
+
+/* The parts of an answer, a view or a message: its tag, a pointer to its route, and the route's cell at beat t. */
+#define KALOMIVUND_ANSWER_TAG(answer) ((answer)[0])
+#define KALOMIVUND_ANSWER_ROUTE(answer) ((answer) + 1)
+#define KALOMIVUND_ANSWER_CELL(answer, t) ((answer)[1 + (t)])
+#define KALOMIVUND_TAG_NOT_HEARD 0
+#define KALOMIVUND_TAG_NONE 1
+#define KALOMIVUND_TAG_ROUTE 2
+
+/* The parts of a state, see A STATE below; n is the floor's number of carriers. The count of taken steps; whether carrier i has planned,
+ * and whether it is due, 0 or 1; pointers to its answer, to its view of carrier j above it, and to the channel from j to it. */
+#define KALOMIVUND_STATE_COUNT(state) ((uint32_t)(state)[0] * 1000 + (state)[1])
+#define KALOMIVUND_STATE_PLANNED(state, i) ((state)[2 + 67 * ((size_t)(i) - 1)])
+#define KALOMIVUND_STATE_DUE(state, i) ((state)[3 + 67 * ((size_t)(i) - 1)])
+#define KALOMIVUND_STATE_ANSWER(state, i) ((state) + 4 + 67 * ((size_t)(i) - 1))
+#define KALOMIVUND_STATE_VIEW(state, n, i, j) ((state) + 2 + 67 * (size_t)(n) + KALOMIVUND_ANSWER * KALOMIVUND_PAIR(j, i))
+#define KALOMIVUND_STATE_CHANNEL(state, n, j, i) \
+    ((state) + 2 + 67 * (size_t)(n) + KALOMIVUND_ANSWER * KALOMIVUND_PAIRS(n) + KALOMIVUND_CHANNEL * KALOMIVUND_PAIR(j, i))
+
+/* How many pairs of a sender above a receiver n carriers have, and the place from 0 of the pair of j above i. */
+#define KALOMIVUND_PAIRS(n) ((size_t)(n) * ((size_t)(n) - 1) / 2)
+#define KALOMIVUND_PAIR(j, i) (KALOMIVUND_PAIRS((size_t)(i) - 1) + (size_t)(j) - 1)
+
+/* The parts of a channel: how many messages are under way, 0 to depth, and a pointer to message q, the oldest being 1. */
+#define KALOMIVUND_CHANNEL_LENGTH(channel) ((channel)[0])
+#define KALOMIVUND_CHANNEL_MESSAGE(channel, q) ((channel) + 1 + KALOMIVUND_ANSWER * ((size_t)(q) - 1))
+
+/* The parts of a report: the number of step k, and its answer's case. */
+#define KALOMIVUND_REPORT_STEP(report, k) ((report)[2 * ((size_t)(k) - 1)])
+#define KALOMIVUND_REPORT_CASE(report, k) ((report)[2 * ((size_t)(k) - 1) + 1])
+
+/* Places of the needed lengths. */
+#define KALOMIVUND_LENGTHS_WALLS 0
+#define KALOMIVUND_LENGTHS_SHEET 1
+#define KALOMIVUND_LENGTHS_ANSWERS 2
+#define KALOMIVUND_LENGTHS_TEXT 3
+#define KALOMIVUND_LENGTHS_STATE 4
+#define KALOMIVUND_LENGTHS_ROUTE 5
+#define KALOMIVUND_LENGTHS_FLOOR 6
+#define KALOMIVUND_LENGTHS_FIGURES 7
+#define KALOMIVUND_LENGTHS_REPORT 8
+
+/* Parts of a word: of one that is done its case and its number, of one that is refused the refusal's number and its place. */
+#define KALOMIVUND_REFUSED(word) ((unsigned)((word) & 0xff)) /* 0 done, 1 refused */
+#define KALOMIVUND_CASE(word) ((unsigned)((word) >> 8 & 0xff))
+#define KALOMIVUND_NUMBER(word) ((uint64_t)(word) >> 16)
+#define KALOMIVUND_REFUSAL(word) ((unsigned)((word) >> 8 & 0xff))
+#define KALOMIVUND_PLACE(word) ((uint64_t)(word) >> 16)
 
 /* Cases. */
-#define KALOMIVUND_NONE 0      /* search: there is no route */
+#define KALOMIVUND_NOT_FOUND 0 /* search: there is no route */
 #define KALOMIVUND_FOUND 1     /* search: a route */
 #define KALOMIVUND_KEPT 0      /* step: planned, the answer is what it was */
 #define KALOMIVUND_SENT 1      /* step: planned for the first time, or with a new answer; it is sent to every carrier below */
@@ -96,11 +153,16 @@ extern "C" {
 #define KALOMIVUND_FOLLOWING 3 /* conflict: one route enters, between the beat and the next, the cell that the other leaves */
 
 /* Steps by their numbers; every other number names no step. A carrier outside 1 to 9 gives 0, which names none, so that no carrier
- * number can be taken for another step. Arguments are evaluated more than once. */
-#define KALOMIVUND_CARRIER(i) ((i) >= 1 && (i) <= 9)
-#define KALOMIVUND_PLAN(i) ((uint16_t)(KALOMIVUND_CARRIER(i) ? 100 + (i) : 0))
+ * number can be taken for another step. */
+#define KALOMIVUND_DIGIT(i) ((i) >= 1 && (i) <= 9)
+#define KALOMIVUND_PLAN(i) ((uint16_t)(KALOMIVUND_DIGIT(i) ? 100 + (i) : 0))
 #define KALOMIVUND_DELIVER(j, i) \
-    ((uint16_t)(KALOMIVUND_CARRIER(j) && KALOMIVUND_CARRIER(i) ? 200 + 10 * (j) + (i) : 0)) /* from j to i, j above i */
+    ((uint16_t)(KALOMIVUND_DIGIT(j) && KALOMIVUND_DIGIT(i) ? 200 + 10 * (j) + (i) : 0)) /* from j to i, j above i */
+
+/* Orders of a trial. */
+#define KALOMIVUND_ORDER_FIRST 1 /* always the first open step */
+#define KALOMIVUND_ORDER_ROUND 2 /* round the ranking */
+#define KALOMIVUND_ORDER_DRAWN 3 /* drawn, from a seed */
 
 /* Reads a sheet.
  * Takes   text, a sheet's bytes, any bytes and any length.
@@ -144,10 +206,10 @@ uint64_t kalomivund_check_floor(const uint16_t *floor, size_t floor_len, const u
  * Refused 9 (floor shorter than 54); 2; 9 (out shorter than 9). */
 uint64_t kalomivund_needed_lengths(const uint16_t *floor, size_t floor_len, uint64_t *out, size_t out_len);
 
-/* The best route of a carrier, to any of its docks, against what it has heard of the carriers above it: of least arrival, the beat from which
- * it stays at the dock where it ends; of those the one with the smaller cell at the first beat where they differ.
- * Takes   views, 65 numbers a carrier, record j - 1 being carrier j's view; only those above the carrier are looked at. A tag of 2 is
- *         a route, whose cells are taken as they stand; a tag of 1, none, occupies carrier j's start at every beat 0 to horizon; any
+/* The best route of a carrier, to any of its docks, against what it has heard of the carriers above it: of least arrival, the beat from
+ * which it stays at the dock where it ends; of those the one with the smaller cell at the first beat where they differ.
+ * Takes   views, 65 numbers a carrier, carrier 1's first; only those above the carrier are looked at. A tag of 2 is a route,
+ *         whose cells are taken as they stand; a tag of 1, none, occupies carrier j's start at every beat 0 to horizon; any
  *         other tag is not heard and occupies nothing.
  * Writes  64 cells to the front of route, all 0 where there is none.
  * Done    case 0 none, 1 a route; number 0.
@@ -157,7 +219,7 @@ uint64_t kalomivund_search(const uint16_t *floor, size_t floor_len, const uint16
 
 /* The sequential planner: carriers 1 to n, each best against the answers above it; a carrier with none stays at its start, which those
  * below it keep off at every beat and one above it may still cross.
- * Writes  65 x carriers numbers to the front of answers: carrier i's answer is record i - 1, tag 1 none or 2 a route.
+ * Writes  65 x carriers numbers to the front of answers, carrier 1's answer first.
  * Done    case 0, number the failing carrier: the first with none, 0 if all have routes.
  * Refused the floor's refusals; 9 (answers too short). */
 uint64_t kalomivund_plan(const uint16_t *floor, size_t floor_len, const uint16_t *walls, size_t walls_len, uint16_t *answers,
@@ -181,14 +243,14 @@ uint64_t kalomivund_blockers(const uint16_t *floor, size_t floor_len, const uint
  *         out shorter than the 16 bytes of its line). An out of KALOMIVUND_MOST_TEXT bytes is never too short. */
 uint64_t kalomivund_print_routes(const uint8_t *text, size_t text_len, uint8_t *out, size_t out_len);
 
-/* A STATE is as many numbers as kalomivund_needed_lengths says, in this order, with n carriers counted here from 0:
+/* A STATE is as many numbers as kalomivund_needed_lengths says, in this order; KALOMIVUND_STATE_COUNT and those behind it read it:
  *   2              the count of taken steps: thousands, rest; each 0 to 999; it stays at 999,999
- *   67 a carrier   planned (0 or 1), due (0 or 1), its answer's record (tag 1 or 2)
- *   65 a pair      the view that carrier i has of carrier j above it (tag 0, 1 or 2), pair i (i - 1) / 2 + j, for j < i
- *   261 a pair     the channel from j to i, same pair: its length (0 to depth), four records, the oldest message first; records past
- *                  the length are 0
- * Refusal 10: a number outside its range, a cell outside the grid, or other than 0 in an unused place (a route's after the horizon, a
- * record's cells where there is no route, a channel's past its messages). */
+ *   67 a carrier   planned (0 or 1), due (0 or 1), its answer (tag 1 or 2)
+ *   65 a pair      the view that carrier i has of carrier j above it (tag 0, 1 or 2), at place (i - 1) (i - 2) / 2 + j - 1 from 0
+ *   261 a pair     the channel from j to i, same place: its length (0 to depth), four messages, the oldest first; those past the
+ *                  length are 0
+ * Refusal 10: a number outside its range, a cell outside the grid, or other than 0 in an unused place (a route's after the horizon, the
+ * cells of an answer, a view or a message where there is no route, a channel's past its messages). */
 
 /* Makes a fresh state: all due, none planned, answers none, views not heard, channels empty, count 0.
  * Writes  the needed length of state.

@@ -1,8 +1,9 @@
-//! The archive's functions as C sees them; `include/kalomivund.h` says what each takes, writes and returns.
-//! A slice is a pointer and a count of elements. No function keeps a pointer, and none has a condition that a caller could break with
-//! pointers that are aligned, not null, valid for their counts, and apart from each other where one of them is written.
+//! The archive's functions as C sees them; `include/kalomivund.h` says what each takes, writes and returns. A slice is a pointer and a
+//! count of elements; with a count of 0 the pointer may be null. No function keeps a pointer, and none has a condition that a caller
+//! could break with pointers that are aligned, valid for their counts, and apart from each other where one of them is written.
 
 extern "C" {
+    /// Reads a sheet: its floor record and its walls into lent memory.
     pub fn kalomivund_read_sheet(
         text: *const u8,
         text_len: usize,
@@ -12,6 +13,7 @@ extern "C" {
         walls_len: usize,
     ) -> u64;
 
+    /// Writes a floor's sheet into lent memory: number the bytes written.
     pub fn kalomivund_write_sheet(
         floor: *const u16,
         floor_len: usize,
@@ -21,10 +23,13 @@ extern "C" {
         out_len: usize,
     ) -> u64;
 
+    /// Checks a floor and its walls.
     pub fn kalomivund_check_floor(floor: *const u16, floor_len: usize, walls: *const u16, walls_len: usize) -> u64;
 
+    /// The needed length of each lent buffer of a floor: nine figures.
     pub fn kalomivund_needed_lengths(floor: *const u16, floor_len: usize, out: *mut u64, out_len: usize) -> u64;
 
+    /// The best route of a carrier against views: case 0 none, 1 a route.
     pub fn kalomivund_search(
         floor: *const u16,
         floor_len: usize,
@@ -37,6 +42,7 @@ extern "C" {
         route_len: usize,
     ) -> u64;
 
+    /// The sequential planner: number the failing carrier, 0 if all have routes.
     pub fn kalomivund_plan(
         floor: *const u16,
         floor_len: usize,
@@ -46,6 +52,7 @@ extern "C" {
         answers_len: usize,
     ) -> u64;
 
+    /// Who shuts a carrier in: number the set, bit j − 1 being carrier j's.
     pub fn kalomivund_blockers(
         floor: *const u16,
         floor_len: usize,
@@ -56,8 +63,10 @@ extern "C" {
         answers_len: usize,
     ) -> u64;
 
+    /// From a sheet's bytes to its printed routes: number the bytes written.
     pub fn kalomivund_print_routes(text: *const u8, text_len: usize, out: *mut u8, out_len: usize) -> u64;
 
+    /// Makes a fresh state.
     pub fn kalomivund_fresh(
         floor: *const u16,
         floor_len: usize,
@@ -67,6 +76,7 @@ extern "C" {
         state_len: usize,
     ) -> u64;
 
+    /// Takes one step: case 0 kept, 1 sent, 2 delivered.
     pub fn kalomivund_step(
         floor: *const u16,
         floor_len: usize,
@@ -77,6 +87,7 @@ extern "C" {
         step: u16,
     ) -> u64;
 
+    /// Runs over a list of steps: case 0 silent, 1 spent, 2 ended; number the steps taken.
     pub fn kalomivund_run(
         floor: *const u16,
         floor_len: usize,
@@ -89,6 +100,7 @@ extern "C" {
         budget: u16,
     ) -> u64;
 
+    /// The complete run of a rank: case its steps, number how many runs there are.
     pub fn kalomivund_run_of_rank(
         floor: *const u16,
         floor_len: usize,
@@ -99,6 +111,7 @@ extern "C" {
         report_len: usize,
     ) -> u64;
 
+    /// Plays a whole run in an order: number the steps taken.
     pub fn kalomivund_trial(
         floor: *const u16,
         floor_len: usize,
@@ -112,7 +125,9 @@ extern "C" {
         report_len: usize,
     ) -> u64;
 
+    /// The first conflict of two routes: case 0 free, 1 same cell, 2 change of places, 3 following; number the beat.
     pub fn kalomivund_conflict(a: *const u16, a_len: usize, b: *const u16, b_len: usize, horizon: u16) -> u64;
 
+    /// The most steps of so many carriers: number the steps.
     pub fn kalomivund_ceiling(carriers: u16) -> u64;
 }

@@ -73,7 +73,12 @@ module _ (f : Floor) (ws : List ℕ) (more : 1 < f .carriers) where
       length-append walls (linesOf line (n - 1)) ∙ omega (arith, span (n - 1)) in
       let last : length (linesOf line n) ≡ length (linesOf line (n - 1)) + length (line (n - 1)) =
       ap length (lines-last line n (omega arith)) ∙ length-append (linesOf line (n - 1)) (line (n - 1)) in
-      rw (head-parts f, head-parts (dropLast f), lines-last line n (omega arith), lines-same (carrierLine (dropLast f)) line (n - 1) (λ i l. line-kept f i))
+      rw (
+        head-parts f,
+        head-parts (dropLast f),
+        lines-last line n (omega arith),
+        lines-same (carrierLine (dropLast f)) line (n - 1) (λ i l. line-kept f i),
+      )
       (field-changed (leading f) (fieldOf n) (fieldOf (n - 1)) walls (linesOf line (n - 1)) (line (n - 1)) (wallLines f ws)
       (a - 25) b (leading-length f) (field-length n) size (omega (arith, span (n - 1), span n)))
 

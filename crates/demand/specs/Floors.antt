@@ -15,8 +15,8 @@ use Rattle.layout.specs.Calls.{machineOf}
 abbrev pub padded : ℕ → List ℕ → List ℕ
 padded k xs = xs ++ replicate (k - length xs) 0
 
--- A floor of width by height: its horizon, the depth of its channels, how many walls, and the starts of its carriers with one dock each, its
--- goal.
+-- A floor of width by height: its horizon, the depth of its channels, how many walls, and the starts of its carriers with the one dock of
+-- each.
 abbrev pub floorOf : ℕ → ℕ → ℕ → ℕ → ℕ → List ℕ → List ℕ → Floor
 floorOf width height horizon depth walls starts goals =
     withOneDock (record {

@@ -1,5 +1,6 @@
--- Laws of a chain of tests, of stores one behind the other, of columns, and of the walks over the reader.
-pub mod TestLaws
+-- Laws of the form of a field, of stores one behind the other, of columns, and of the walks over the reader.
+pub mod WrittenLaws
+pub mod FiveColumns
 pub mod StoreLaws
 pub mod ReachedLaws
 pub mod CountLaws

@@ -1,9 +1,10 @@
 -- A field of the sheet (document 01, 'The sheet'): five columns, a decimal number right-justified after spaces, without leading zeros.
 use Prim.Native.Nat.{ℕ, _+_, _-_, _*_, _/_, _%_}
-use mathlib.Core.Bool.{Bool, cond, _&&_}
+use mathlib.Core.Bool.{Bool, true, false, cond, _&&_}
 use mathlib.Core.List.{List, [], _∷_}
 use lib.ListN.{getD}
 use lib.Dec.{ltb, eqb}
+use Rattle.floor.specs.Checks.{within}
 
 -- The column of the digit that counts p's: a space where the number v has no such digit.
 unfoldable pub column : ℕ → ℕ → ℕ
@@ -30,3 +31,14 @@ isField text at =
     && (eqb (getD text (at + 2) 0) (column 100 (numberAt text at))
     && (eqb (getD text (at + 3) 0) (column 10 (numberAt text at))
     && eqb (getD text (at + 4) 0) (48 + numberAt text at % 10))))
+
+-- Bytes that are all digits'.
+unfoldable pub areDigits : List ℕ → Bool
+areDigits [] = true
+areDigits (b ∷ bs) = within 48 57 b && areDigits bs
+
+-- Spaces, then digits, the first of them no 0 unless it is the last: what a field is, without its number.
+unfoldable pub isWritten : List ℕ → Bool
+isWritten [] = false
+isWritten (e ∷ []) = within 48 57 e
+isWritten (b ∷ c ∷ bs) = cond (eqb b 32) (isWritten (c ∷ bs)) (within 49 57 b && areDigits (c ∷ bs))

@@ -56,9 +56,13 @@ pub fn docks_of(f: Floor, i: usize) -> [u16; 4]
     requires { ⌜ i < 8 ⌝ }
     ensures { λ r. ⌜ r ≡ docksOf f i ⌝ }
 {
-    let docks = f.docks;
     let at = 4 * i;
-    [docks[at], docks[at + 1], docks[at + 2], docks[at + 3]]
+    [
+        f.docks[at],
+        f.docks[at + 1],
+        f.docks[at + 2],
+        f.docks[at + 3],
+    ]
 }
 
 // Whether a dock count is within its limits.

@@ -378,8 +378,8 @@ fn plans(all: &[Lent], rounds: usize) {
 fn in_turn(n: usize) -> Vec<u16> {
     let mut steps = Vec::new();
     for i in 1..=n as u16 {
-        steps.push(kalomivund::plan_step(i));
-        steps.extend((i + 1..=n as u16).map(|below| kalomivund::deliver_step(i, below)));
+        steps.push(kalomivund::Step::Plan(i).number());
+        steps.extend((i + 1..=n as u16).map(|below| kalomivund::Step::Deliver { from: i, to: below }.number()));
     }
     steps
 }
@@ -470,8 +470,8 @@ fn machine(all: &[Lent], rounds: usize) {
 
 // ---- Sheets ----
 
-/// A floor of a thousand walls and four docks a carrier, eight carriers in two rows.
-fn longest_sheet() -> Floor {
+/// A floor of a thousand walls, and four docks for each of eight carriers.
+fn thousand_walls() -> Floor {
     let docks = vec![vec![0, 1, 2, 3], vec![4, 5, 6, 7], vec![8, 9, 10, 11], vec![12, 13, 14, 15]];
     let starts = vec![16, 17, 18, 19, 20, 21, 22, 23];
     let walls = (24..1024).collect();
@@ -482,8 +482,8 @@ fn sheets(all: &[Lent], rounds: usize) {
     println!("\nSheets, microseconds: best (median)\n");
     println!("| floor | bytes | read | write | check | print routes | paper.rs reads | paper.rs reads / library reads |");
     println!("|---|---|---|---|---|---|---|---|");
-    let longest = Lent::of("longest sheet", longest_sheet());
-    for lent in all.iter().chain([&longest]) {
+    let walled = Lent::of("1,000 walls, four docks", thousand_walls());
+    for lent in all.iter().chain([&walled]) {
         let text = paper::sheet_of(&lent.floor).into_bytes();
         let mut record = [0; paper::RECORD];
         let mut walls = vec![0; kalomivund::MOST_WALLS];

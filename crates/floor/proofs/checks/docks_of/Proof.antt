@@ -12,7 +12,7 @@ returns : tie.Need-returns
 unfolding docksOf
 returns c =
     let start : tie.Start = search in
-    let e : length (start .args .f .docks) ≡ 32 = search needs in
+    let e : length (start .args .t1 .docks) ≡ 32 = search needs in
     four-part _ _ (omega arith)
 
 pub docks-of-spec : {M : Type 1} → statement M

@@ -7,28 +7,20 @@ use borrow.Author.Needs.{needs}
 use Rattle.floor.proofs.checks.places.Statement.{statement}
 use Rattle.floor.proofs.checks.places.Tie as tie
 
+-- What the checks past the first may ask: every dock count is one.
+ruleset counted = (passed-counted, passes, needs)
+
 clear-requires : tie.Need-clear-requires
 clear-requires c κs =
     let after-enum-told : tie.After-enum-told = search in
     let after-carriers-inside : tie.After-carriers-inside = search in
-    let counted = passed-counted _ (passes (after-carriers-inside .carriers-inside .ensures) (after-enum-told .enum-told .given .1)) in
+    let counts = passed-counted _ (passes (after-carriers-inside .carriers-inside .ensures) (after-enum-told .enum-told .given .1)) in
     let climbs = passed-climbs _ _ (passes (c .before .before .rising .ensures) (c .enum-told5 .given .1)) in
-    (search needs, (counted, (search needs, climbs)))
+    (search needs, (counts, (search needs, climbs)))
 
 returns-4 : tie.Need-returns-4
 unfolding placesOf
 returns-4 c = search (hands-on, ends-here (c .before .before .clear .ensures) (c .enum-told8 .given .1)) depth 7
-
-returns-5 : tie.Need-returns-5
-unfolding placesOf
-returns-5 c = search (hands-on, ends-here (c .before .before .distinct .ensures) (c .enum-told10 .given .1)) depth 7
-
-all-unrepeated-requires : tie.Need-all-unrepeated-requires
-all-unrepeated-requires c κs =
-    let after-enum-told : tie.After-enum-told = search in
-    let after-carriers-inside : tie.After-carriers-inside = search in
-    let counted = passed-counted _ (passes (after-carriers-inside .carriers-inside .ensures) (after-enum-told .enum-told .given .1)) in
-    (search needs, counted)
 
 pub places-spec : {M : Type 1} → statement M
 unfolding placesOf
@@ -36,5 +28,5 @@ places-spec =
     tie.close (tie.spec (λ c κs. search needs) (λ c. search needs) (λ c. search needs) (λ c. search chain depth 7)
     (λ c κs. search needs) (λ c. search needs) (λ c. search needs) (λ c. search chain depth 7) (λ c κs. search needs)
     (λ c. search needs) (λ c. search needs) (λ c. search chain depth 7) clear-requires (λ c. search needs)
-    (λ c. search needs) returns-4 (λ c κs. search needs) (λ c. search needs) (λ c. search needs) returns-5
-    all-unrepeated-requires (λ c. search hands-on depth 7))
+    (λ c. search needs) returns-4 (λ c κs. search counted depth 5) (λ c. search needs) (λ c. search needs)
+    (λ c. search chain depth 7) (λ c κs. search counted depth 5) (λ c. search hands-on depth 7))
