@@ -8,6 +8,8 @@
 mod astar;
 #[path = "../bits.rs"]
 mod bits;
+#[path = "../devices.rs"]
+mod devices;
 #[path = "../draw.rs"]
 mod draw;
 #[path = "../paper.rs"]
@@ -381,6 +383,32 @@ fn plans(all: &[Lent], rounds: usize) {
     println!("\n{last}");
 }
 
+// ---- What the search's devices buy ----
+
+/// The search in Rust with all its devices, and its time without each of them in parts of that.
+fn bought(all: &[Lent], rounds: usize) {
+    println!("\nThe same search in Rust: microseconds with all devices, and the time without one of them / with all\n");
+    let names: Vec<&str> = devices::DEVICES.iter().map(|(_, name)| *name).collect();
+    println!("| floor | all | {} |\n|---|---{}|", names.join(" | "), "|---".repeat(names.len()));
+    for lent in all {
+        let forms: Vec<_> = std::iter::once(None).chain(devices::DEVICES.map(|(device, _)| Some(device))).collect();
+        let mut answers = vec![vec![7; lent.answers.len()]; forms.len()];
+        let mut calls: Vec<Box<dyn FnMut()>> = Vec::new();
+        for (&form, answers) in forms.iter().zip(&mut answers) {
+            devices::plan(&lent.record, &lent.walls, answers, form);
+            if *answers != lent.answers {
+                println!("the search in Rust and the library differ on the floor '{}'", lent.name);
+                std::process::exit(1);
+            }
+            calls.push(Box::new(move || devices::plan(black_box(&lent.record), black_box(&lent.walls), black_box(answers), form)));
+        }
+        let mut contenders: Vec<&mut dyn FnMut()> = calls.iter_mut().map(|call| &mut **call as &mut dyn FnMut()).collect();
+        let times = measure(rounds, &mut contenders);
+        let parts: Vec<String> = times[1..].iter().map(|time| format!("{:.2}", time.best / times[0].best)).collect();
+        println!("| {} | {} | {} |", lent.name, micro(times[0]), parts.join(" | "));
+    }
+}
+
 // ---- How a plan's time grows ----
 
 /// What grows, and the floor at each of its values.
@@ -688,6 +716,7 @@ fn main() {
     let cores = std::thread::available_parallelism().map_or(0, |n| n.get());
     println!("All planners agree on {} floors. {cores} cores, one used; {rounds} rounds.\n", all.len());
     plans(&all, rounds);
+    bought(&all, rounds);
     let plot = growth(rounds);
     if let Some(file) = std::env::args().nth(2) {
         std::fs::write(file, plot).expect("the plot is written");
