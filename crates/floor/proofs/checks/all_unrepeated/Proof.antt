@@ -69,7 +69,7 @@ loop-again c =
     let four : (4 * at-loop .loop .i + 4) - 4 * at-loop .loop .i ≡ 4 = omega arith in (
       search needs,
       tests-go-on 17 1 (once (f .docks) (f .counts)) _ (at-loop .loop .inv .1) (rw four at (after-unrepeated .unrepeated .ensures))
-      (else1 .if1 .left),
+          (else1 .if1 .left),
     )
 
 pub all-unrepeated-spec : {M : Type 1} → statement M
