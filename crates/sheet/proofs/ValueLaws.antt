@@ -40,14 +40,14 @@ module _ (text : List ℕ) (n : ℕ) (few : n ≤ 8) (good : linesForm (countedF
     pub column-low : carrierColumn text i ≤ 479
     column-low = omega (arith, line .column-low, few, l)
 
-    -- The next line's column, from the number that was read.
-    pub next-column : (at v : ℕ) → at ≡ carrierColumn text i → v ≡ numberAt text (at + 10)
-        → (v ≤ 4) × ((at ≤ 479) × (at + (16 + 10 * v) ≡ carrierColumn text (i + 1)))
-    unfolding countedLength
+    -- The dock count that was read, and the next line's column from it.
+    pub next-column : (at v : ℕ) → at ≡ carrierColumn text i → v ≡ valueAt text (at + 10)
+        → (v ≡ countIn text i) × ((v ≤ 4) × ((at ≤ 479) × (at + (16 + 10 * v) ≡ carrierColumn text (i + 1))))
+    unfolding countedLength countIn
     next-column at v e h =
-        let number : v ≡ countIn text i = h ∙ rw e (sym (line .count-number)) in
+        let number : v ≡ countIn text i = rw e at h in
         let end = rw (← number, ← e) at (line .end) in
-        (omega (arith, number, line .most), (omega (arith, column-low, e), rw add-one (sym end)))
+        (number, (omega (arith, number, line .most), (omega (arith, column-low, e), rw add-one (sym end))))
 
     -- The column that was kept.
     pub column-kept : (at : List ℕ) → at ≡ listed (upTo n (carrierColumn text)) 8 → getD at i 0 ≡ carrierColumn text i
@@ -59,11 +59,6 @@ module _ (text : List ℕ) (n : ℕ) (few : n ≤ 8) (good : linesForm (countedF
 -- Eight numbers are kept.
 pub kept-long : (g : ℕ → ℕ) (xs : List ℕ) → xs ≡ listed g 8 → length xs ≡ 8
 kept-long g xs e = rw e (listed-length g 8)
-
--- A dock count, read at its column.
-pub count-read : (text : List ℕ) (i a v : ℕ) → a ≡ carrierColumn text i → v ≡ valueAt text (a + 10) → v ≡ countIn text i
-unfolding countIn
-count-read text i a v e h = rw e at h
 
 -- Place q of the docks of n carriers in a grid.
 abbrev pub placeWith : List ℕ → (n width height q : ℕ) → ℕ

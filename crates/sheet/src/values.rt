@@ -65,21 +65,34 @@ pub fn head(text: &[u8]) -> Floor
     }
 }
 
-// The columns at which the carriers' lines begin.
-fn columns(text: &[u8], n: usize) -> [usize; 8]
+// The columns at which the carriers' lines begin, and their dock counts.
+struct Lines {
+    at: [usize; 8],
+    counts: [u16; 8],
+}
+
+// The lines of the first n carriers.
+fn lines_of(text: &[u8], n: usize) -> Lines
     requires { ⌜ n ≤ 8 ⌝ }
     requires { ⌜ linesForm (countedForm (now text)) (pastCounted (now text)) 31 n ≡ passed ⌝ }
-    ensures { λ r. ⌜ r ≡ listed (upTo n (carrierColumn (now (text .entry)))) 8 ⌝ }
+    ensures columns { λ r. ⌜ r .at ≡ listed (upTo n (carrierColumn (now (text .entry)))) 8 ⌝ }
+    ensures counts { λ r. ⌜ r .counts ≡ listed (upTo n (countIn (now (text .entry)))) 8 ⌝ }
 {
-    let mut found = [0usize; 8];
+    let mut at = [0usize; 8];
+    let mut counts = [0u16; 8];
     let mut column: usize = 31;
     let mut i: usize = 0;
     while i < n {
-        found[i] = column;
-        column += 16 + 10 * fields::number(text, column + 10) as usize;
+        let count = value(text, column + 10);
+        at[i] = column;
+        counts[i] = count;
+        column += 16 + 10 * count as usize;
         i += 1;
     }
-    found
+    Lines {
+        at: at,
+        counts: counts,
+    }
 }
 
 // The carriers' starts.
@@ -96,22 +109,6 @@ fn starts(text: &[u8], f: Floor, at: [usize; 8]) -> [u16; 8]
     let mut i: usize = 0;
     while i < n {
         found[i] = cell(text, width, height, at[i]);
-        i += 1;
-    }
-    found
-}
-
-// Their dock counts.
-fn counts(text: &[u8], f: Floor, at: [usize; 8]) -> [u16; 8]
-    requires { ⌜ (f .carriers ≤ 8) × (linesForm (countedForm (now text)) (pastCounted (now text)) 31 (f .carriers) ≡ passed) ⌝ }
-    requires { ⌜ at ≡ listed (upTo (f .carriers) (carrierColumn (now text))) 8 ⌝ }
-    ensures { λ r. ⌜ r ≡ countsAt (now (text .entry)) f ⌝ }
-{
-    let n = f.carriers as usize;
-    let mut found = [0u16; 8];
-    let mut i: usize = 0;
-    while i < n {
-        found[i] = value(text, at[i] + 10);
         i += 1;
     }
     found
@@ -174,8 +171,9 @@ pub fn floor(text: &[u8]) -> Floor
     ensures { λ r. ⌜ r ≡ floorAt (now (text .entry)) ⌝ }
 {
     let f = head(text);
-    let at = columns(text, f.carriers as usize);
-    let few = counts(text, f, at);
+    let lines = lines_of(text, f.carriers as usize);
+    let at = lines.at;
+    let few = lines.counts;
     Floor {
         width: f.width,
         height: f.height,
