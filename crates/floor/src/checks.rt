@@ -1,16 +1,16 @@
 // The checks of a floor past its limits: each goes over its items in order and answers the first that fails.
 // Each has a `requires` for what the checks before it have shown.
 ghost use mathlib.Core.Path.{_≡_};
-ghost use mathlib.Core.Bool.{true};
+ghost use mathlib.Core.Bool.{true, not};
 ghost use Prim.Native.Nat.{_+_, _≤_, _<_};
-ghost use lib.ListN.{length};
+ghost use lib.ListN.{length, getD};
 ghost use Rattle.floor.specs.Accepted.{Climbs, Counted};
 ghost use Rattle.floor.specs.Answers.{verdictOf};
 ghost use Rattle.floor.specs.Checks.{countOf, docksOf, within, inGrid, docksInGrid, carrierInGrid, roomOf};
 ghost use Rattle.floor.specs.Checks.{docksClear, clearOfWalls};
 ghost use Rattle.floor.specs.Checks.{carriersOf, wallsOf, risingOf, clearOf, distinctOf, unrepeatedOf, placesOf};
 ghost use Rattle.floor.specs.Checks.{among as Checks·among, rises as Checks·rises};
-ghost use Rattle.floor.specs.Checks.{unshared as Checks·unshared, unrepeated as Checks·unrepeated};
+ghost use Rattle.floor.specs.Checks.{unshared as Checks·unshared, every};
 use crate::Checked;
 use crate::Floor;
 use crate::Refusal;
@@ -290,18 +290,15 @@ fn distinct(f: Floor) -> Checked
     Checked::Passed
 }
 
-// Whether no cell is twice among the docks of carrier i.
-fn unrepeated(f: Floor, i: usize) -> bool
-    requires { ⌜ i < 8 ⌝ }
-    requires { ⌜ countOf f i ≤ 4 ⌝ }
-    ensures { λ r. ⌜ r ≡ Checks·unrepeated f i ⌝ }
+// Whether no cell is twice among the first m docks.
+fn unrepeated(docks: &[u16], m: usize) -> bool
+    requires { ⌜ m ≤ length (now docks) ⌝ }
+    ensures { λ r. ⌜ r ≡ every m (λ k. not (Checks·among (now (docks .entry)) k (getD (now (docks .entry)) k 0))) ⌝ }
 {
-    let docks = docks_of(f, i);
-    let m = f.counts[i] as usize;
     let mut k: usize = 0;
     while k < m {
         let dock = docks[k];
-        if among(&docks, k, dock) {
+        if among(docks, k, dock) {
             return false;
         }
         k += 1;
@@ -316,9 +313,12 @@ fn all_unrepeated(f: Floor) -> Checked
     ensures { λ r. ⌜ verdictOf r ≡ unrepeatedOf f ⌝ }
 {
     let n = f.carriers as usize;
+    let docks = f.docks;
+    let counts = f.counts;
     let mut i: usize = 0;
     while i < n {
-        if !unrepeated(f, i) {
+        let at = 4 * i;
+        if !unrepeated(&docks[at..at + 4], counts[i] as usize) {
             return Checked::Refused(Refusal {
                 number: 17,
                 place: 1 + i,

@@ -1,19 +1,20 @@
 -- Laws of reading: what it hands back with a pass and with a refusal, and what a pass tells.
 use Prim.Native.Nat.{ℕ, _≤_}
-use mathlib.Core.Path.{_≡_, sym, _∙_}
+use mathlib.Core.Path.{_≡_, sym, ap, _∙_}
 use mathlib.Core.List.{List}
 use lib.ListN.{length}
 use Rattle.floor.specs.declared.Floor.{Floor}
 use Rattle.floor.specs.declared.Refusal.{Refusal}
 use Rattle.floor.specs.declared.Checked.{Checked}
-use Rattle.floor.specs.declared.Checked.the-variants.{Refused}
+use Rattle.floor.specs.declared.Checked.the-variants.{Passed, Refused}
 use Rattle.floor.specs.Answers.{verdictOf}
-use Rattle.laws.specs.Verdict.{Verdict, passed, _then_}
+use Rattle.laws.specs.Verdict.{Verdict, passed, whenPassed}
 use Rattle.floor.specs.Checks.{placesOf, roomOf, checkOf}
 use Rattle.floor.specs.Accepted.{Counted}
+use Rattle.floor.specs.Fresh.{freshFloor}
 use Rattle.floor.proofs.Theorems.{theorems}
-use Rattle.laws.proofs.VerdictLaws.{then-both, then-assoc, when-passed, when-refused}
-use Rattle.floor.proofs.AnswersLaws.{refuses}
+use Rattle.laws.proofs.VerdictLaws.{then-both, when-passed, when-refused}
+use Rattle.floor.proofs.AnswersLaws.{refuses, passes, hands-on}
 use Rattle.floor.proofs.LimitsLaws.{room-passed}
 use Rattle.laws.specs.Memory.{put}
 use Rattle.sheet.specs.Text.{sheetOf}
@@ -32,11 +33,18 @@ pub write-refused : {a : Checked} {x : Refusal} (f : Floor) (ws old : List ℕ) 
 unfolding writeSheet
 write-refused f ws old v e = (v, sym (when-refused _ (refuses v e)))
 
--- Reading is a chain of three checks.
-pub read-chain : {u : Verdict} (text : List ℕ) (room : ℕ)
-    → u ≡ (formOf text then (placesOf (floorAt text) (wallsAt text) then roomOf (floorAt text .walls) room)) → u ≡ readVerdict text room
-unfolding readVerdict sheetVerdict
-read-chain text room e = rw then-assoc e
+-- Where 3 to 17 pass too, what was read is the floor that the text says.
+pub own-floor : (text : List ℕ) (f : Floor) → f ≡ whenPassed (formOf text) (floorAt text) freshFloor → sheetVerdict text ≡ passed →
+    f ≡ floorAt text
+unfolding sheetVerdict
+own-floor text f e h = e ∙ when-passed _ (then-both _ _ h .0)
+
+-- Then 9 alone is left to be told.
+pub own-then-room : {a : Checked} (text : List ℕ) (f : Floor) (room : ℕ) (u : Verdict) → verdictOf a ≡ sheetVerdict text →
+    f ≡ whenPassed (formOf text) (floorAt text) freshFloor → a ≡ Passed → u ≡ roomOf (f .walls) room → u ≡ readVerdict text room
+unfolding readVerdict
+own-then-room text f room u told own ok h =
+    hands-on told ok (h ∙ ap (λ (g : Floor). roomOf (g .walls) room) (own-floor text f own (passes told ok)))
 
 -- A sheet that is read is in good form, its floor passes 3 to 6, and its walls have room.
 pub record ReadTells (text : List ℕ) (room : ℕ) : Type 0 where

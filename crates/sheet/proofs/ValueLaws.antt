@@ -1,6 +1,7 @@
 -- What carriers' lines in good form have room for, column by column.
 use Prim.Native.Nat.{ℕ, suc, _+_, _*_, _/_, _%_, _≤_, _<_}
 use native.Mathlib.Omega.{arith}
+use native.Mathlib.Decide.{decLt}
 use native.Mathlib.Numerals.{add-one}
 use mathlib.Core.Path.{_≡_, refl, sym, _∙_}
 use mathlib.Core.List.{List}
@@ -12,7 +13,7 @@ use Rattle.fields.specs.Form.{countedForm, countedLength, pastCounted, columnPa
 use Rattle.sheet.specs.Form.{carrierColumn}
 use Rattle.sheet.specs.Values.{valueAt, cellAt, upTo, listed, countIn, dockIn, placeIn, startsAt, countsAt, docksAt, headAt, floorAt}
 use Rattle.sheet.proofs.FormLaws.{Lined, lined}
-use Rattle.sheet.proofs.ListedLaws.{upTo-at, upTo-below, upTo-past}
+use Rattle.sheet.proofs.ListedLaws.{listed-length, listed-same, upTo-at, upTo-below, upTo-past}
 
 pub first-line : (text : List ℕ) → 31 ≡ carrierColumn text 0
 unfolding carrierColumn columnPast
@@ -39,42 +40,55 @@ module _ (text : List ℕ) (n : ℕ) (few : n ≤ 8) (good : linesForm (countedF
     pub column-low : carrierColumn text i ≤ 479
     column-low = omega (arith, line .column-low, few, l)
 
-    -- The next line's column, from the number that was read.
-    pub next-column : (at v : ℕ) → at ≡ carrierColumn text i → v ≡ numberAt text (at + 10)
-        → (v ≤ 4) × ((at ≤ 479) × (at + (16 + 10 * v) ≡ carrierColumn text (i + 1)))
-    unfolding countedLength
+    -- The dock count that was read, and the next line's column from it.
+    pub next-column : (at v : ℕ) → at ≡ carrierColumn text i → v ≡ valueAt text (at + 10)
+        → (v ≡ countIn text i) × ((v ≤ 4) × ((at ≤ 479) × (at + (16 + 10 * v) ≡ carrierColumn text (i + 1))))
+    unfolding countedLength countIn
     next-column at v e h =
-        let number : v ≡ countIn text i = h ∙ rw e (sym (line .count-number)) in
+        let number : v ≡ countIn text i = rw e at h in
         let end = rw (← number, ← e) at (line .end) in
-        (omega (arith, number, line .most), (omega (arith, column-low, e), rw add-one (sym end)))
+        (number, (omega (arith, number, line .most), (omega (arith, column-low, e), rw add-one (sym end))))
 
     -- The column that was kept.
     pub column-kept : (at : List ℕ) → at ≡ listed (upTo n (carrierColumn text)) 8 → getD at i 0 ≡ carrierColumn text i
     column-kept at e = rw e (upTo-at (carrierColumn text) n 8 i l (omega (arith, l, few)))
 
-    pub count-kept : (f : Floor) (cs : List ℕ) → f .carriers ≡ n → cs ≡ countsAt text f → getD cs i 0 ≡ countIn text i
-    unfolding countsAt
-    count-kept f cs e h = rw (h, e) (upTo-at (countIn text) n 8 i l (omega (arith, l, few)))
+    pub count-kept : (cs : List ℕ) → cs ≡ listed (upTo n (countIn text)) 8 → getD cs i 0 ≡ countIn text i
+    count-kept cs e = rw e (upTo-at (countIn text) n 8 i l (omega (arith, l, few)))
 
--- A dock count, read at its column.
-pub count-read : (text : List ℕ) (i a v : ℕ) → a ≡ carrierColumn text i → v ≡ valueAt text (a + 10) → v ≡ countIn text i
-unfolding countIn
-count-read text i a v e h = rw e at h
+-- Eight numbers are kept.
+pub kept-long : (g : ℕ → ℕ) (xs : List ℕ) → xs ≡ listed g 8 → length xs ≡ 8
+kept-long g xs e = rw e (listed-length g 8)
+
+-- Place q of the docks of n carriers in a grid.
+abbrev pub placeWith : List ℕ → (n width height q : ℕ) → ℕ
+placeWith text n width height q =
+    upTo n (λ (i : ℕ). upTo (countIn text i) (λ (k : ℕ). cellAt text width height (carrierColumn text i + 15 + 10 * k)) (q % 4)) (q / 4)
 
 -- A place of the docks: past the carriers, past a dock count, and a dock.
-module _ (text : List ℕ) (f : Floor) (q : ℕ) where
-  pub place-none : f .carriers ≤ q / 4 → 0 ≡ placeIn text f q
-  unfolding placeIn
+module _ (text : List ℕ) (n width height q : ℕ) where
+  pub place-none : n ≤ q / 4 → 0 ≡ placeWith text n width height q
   place-none l = sym (upTo-past _ _ _ l)
 
-  pub place-past : q / 4 < f .carriers → countIn text (q / 4) ≤ q % 4 → 0 ≡ placeIn text f q
-  unfolding placeIn
+  pub place-past : q / 4 < n → countIn text (q / 4) ≤ q % 4 → 0 ≡ placeWith text n width height q
   place-past l g = sym (upTo-below _ _ _ l ∙ upTo-past _ _ _ g)
 
-  pub place-dock : q / 4 < f .carriers → q % 4 < countIn text (q / 4)
-      → cellAt text (f .width) (f .height) (carrierColumn text (q / 4) + 15 + 10 * (q % 4)) ≡ placeIn text f q
-  unfolding placeIn dockIn
+  pub place-dock : q / 4 < n → q % 4 < countIn text (q / 4)
+      → cellAt text width height (carrierColumn text (q / 4) + 15 + 10 * (q % 4)) ≡ placeWith text n width height q
   place-dock l g = sym (upTo-below _ _ _ l ∙ upTo-below _ _ _ g)
+
+-- After the docks of the last carrier: the places behind them are 0.
+pub places-all : (text : List ℕ) (f : Floor) (q : ℕ) (xs : List ℕ) → q ≤ 4 * f .carriers → 4 * f .carriers ≤ q →
+    xs ≡ listed (upTo q (placeWith text (f .carriers) (f .width) (f .height))) 32 → xs ≡ docksAt text f
+unfolding docksAt placeIn dockIn
+places-all text f q xs a b e = e ∙ listed-same (upTo q place) place 32 (λ k l. same k (decLt k q))
+  where
+    place : ℕ → ℕ
+    place = placeWith text (f .carriers) (f .width) (f .height)
+
+    same : (k : ℕ) → Dec (k < q) → upTo q place k ≡ place k
+    same k (yes l) = upTo-below place q k l
+    same k (no l) = upTo-past place q k (omega arith) ∙ sym (upTo-past _ (f .carriers) (k / 4) (omega arith))
 
 -- Line 1 as it was read: its carriers' lines, and the floor that is made of it.
 pub line-one : (text : List ℕ) (h : Floor) → h ≡ headAt text → valueAt text 20 ≤ 8

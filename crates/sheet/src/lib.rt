@@ -6,11 +6,11 @@ mod values;
 // A field written into a buffer, for the crates that print.
 ghost use mathlib.Core.Path.{_≡_};
 ghost use lib.ListN.{length};
-ghost use Rattle.laws.specs.Verdict.{passed};
+ghost use Rattle.laws.specs.Verdict.{whenPassed};
 ghost use Rattle.floor.specs.Answers.{verdictOf};
-ghost use Rattle.floor.specs.Checks.{placesOf};
-ghost use Rattle.sheet.specs.Values.{floorAt, wallsAt};
-ghost use Rattle.sheet.specs.Read.{formOf, readVerdict, readFloor, readWalls, writeVerdict, writeSheet};
+ghost use Rattle.floor.specs.Fresh.{freshFloor};
+ghost use Rattle.sheet.specs.Values.{floorAt};
+ghost use Rattle.sheet.specs.Read.{formOf, sheetVerdict, readVerdict, readFloor, readWalls, writeVerdict, writeSheet};
 ghost use Rattle.sheet.specs.Text.{sheetLength};
 use fields::Reached;
 use floor::Checked;
@@ -46,30 +46,38 @@ pub fn no_walls() -> [u16; 1023]
     [0; 1023]
 }
 
-// 3 to 6 and 17, on the floor that a text in good form says.
-fn places(text: &[u8]) -> Checked
-    requires { ⌜ formOf (now text) ≡ passed ⌝ }
-    ensures { λ r. ⌜ verdictOf r ≡ placesOf (floorAt (now (text .entry))) (wallsAt (now (text .entry))) ⌝ }
+// What a text says, its walls in front of the cells, and its refusals but for the last; the fresh floor where its form is refused.
+fn read_own(text: &[u8], cells: &mut [u16]) -> Reading
+    requires { ⌜ 1023 ≡ length (now cells) ⌝ }
+    ensures answers { λ r. ⌜ verdictOf (r .answer) ≡ sheetVerdict (now (text .entry)) ⌝ }
+    ensures returns { λ r. ⌜ r .floor ≡ whenPassed (formOf (now (text .entry))) (floorAt (now (text .entry))) freshFloor ⌝ }
 {
+    let form = form_of(text);
+    let Checked::Passed = form else {
+        return Reading {
+            answer: form,
+            floor: Floor::fresh(),
+        };
+    };
     let f = values::floor(text);
-    let mut cells = no_walls();
-    values::walls(text, f, &mut cells);
-    floor::check(f, &cells)
+    values::walls(text, f, cells);
+    Reading {
+        answer: floor::check(f, cells),
+        floor: f,
+    }
 }
 
 // What reading a sheet into wall memory of `room` places would answer; nothing is written.
 pub fn check(text: &[u8], room: usize) -> Checked
     ensures { λ r. ⌜ verdictOf r ≡ readVerdict (now (text .entry)) room ⌝ }
 {
-    let form = form_of(text);
-    let Checked::Passed = form else {
-        return form;
+    let mut cells = no_walls();
+    let reading = read_own(text, &mut cells);
+    let checked = reading.answer;
+    let f = reading.floor;
+    let Checked::Passed = checked else {
+        return checked;
     };
-    let placed = places(text);
-    let Checked::Passed = placed else {
-        return placed;
-    };
-    let f = values::head(text);
     floor::room(f.walls as usize, room)
 }
 
@@ -79,14 +87,23 @@ pub fn read(text: &[u8], walls: &mut [u16]) -> Reading
     ensures returns { λ r. ⌜ r .floor ≡ readFloor (now (text .entry)) (length (now (walls .entry))) ⌝ }
     ensures stores { λ r. ⌜ now (walls .exit) ≡ readWalls (now (text .entry)) (now (walls .entry)) ⌝ }
 {
-    let checked = check(text, walls.len());
+    let mut cells = no_walls();
+    let reading = read_own(text, &mut cells);
+    let checked = reading.answer;
+    let f = reading.floor;
     let Checked::Passed = checked else {
         return Reading {
             answer: checked,
             floor: Floor::fresh(),
         };
     };
-    let f = values::floor(text);
+    let room = floor::room(f.walls as usize, walls.len());
+    let Checked::Passed = room else {
+        return Reading {
+            answer: room,
+            floor: Floor::fresh(),
+        };
+    };
     values::walls(text, f, walls);
     Reading {
         answer: Checked::Passed,

@@ -1,14 +1,14 @@
 // What a text in good form says.
 ghost use mathlib.Core.Path.{_≡_};
 ghost use mathlib.Core.List.{_++_};
-ghost use Prim.Native.Nat.{_+_, _*_, _≤_, _<_};
+ghost use Prim.Native.Nat.{_+_, _*_, _/_, _%_, _≤_, _<_};
 ghost use lib.ListN.{length, drop};
 ghost use Rattle.laws.specs.Verdict.{passed};
 ghost use Rattle.fields.specs.Form.{countedForm, pastCounted, linesForm};
 ghost use Rattle.sheet.specs.Text.{carrierAt};
 ghost use Rattle.sheet.specs.Form.{carrierColumn};
 ghost use Rattle.sheet.specs.Values.{valueAt, cellOf, cellAt, upTo, listed, headAt, floorAt, wallsFrom};
-ghost use Rattle.sheet.specs.Values.{countIn, placeIn, startsAt, countsAt, docksAt};
+ghost use Rattle.sheet.specs.Values.{countIn, startsAt, countsAt, docksAt};
 use crate::lines;
 use floor::Floor;
 
@@ -65,21 +65,34 @@ pub fn head(text: &[u8]) -> Floor
     }
 }
 
-// The columns at which the carriers' lines begin.
-fn columns(text: &[u8], n: usize) -> [usize; 8]
+// The columns at which the carriers' lines begin, and their dock counts.
+struct Lines {
+    at: [usize; 8],
+    counts: [u16; 8],
+}
+
+// The lines of the first n carriers.
+fn lines_of(text: &[u8], n: usize) -> Lines
     requires { ⌜ n ≤ 8 ⌝ }
     requires { ⌜ linesForm (countedForm (now text)) (pastCounted (now text)) 31 n ≡ passed ⌝ }
-    ensures { λ r. ⌜ r ≡ listed (upTo n (carrierColumn (now (text .entry)))) 8 ⌝ }
+    ensures columns { λ r. ⌜ r .at ≡ listed (upTo n (carrierColumn (now (text .entry)))) 8 ⌝ }
+    ensures counts { λ r. ⌜ r .counts ≡ listed (upTo n (countIn (now (text .entry)))) 8 ⌝ }
 {
-    let mut found = [0usize; 8];
+    let mut at = [0usize; 8];
+    let mut counts = [0u16; 8];
     let mut column: usize = 31;
     let mut i: usize = 0;
     while i < n {
-        found[i] = column;
-        column += 16 + 10 * fields::number(text, column + 10) as usize;
+        let count = value(text, column + 10);
+        at[i] = column;
+        counts[i] = count;
+        column += 16 + 10 * count as usize;
         i += 1;
     }
-    found
+    Lines {
+        at: at,
+        counts: counts,
+    }
 }
 
 // The carriers' starts.
@@ -101,39 +114,32 @@ fn starts(text: &[u8], f: Floor, at: [usize; 8]) -> [u16; 8]
     found
 }
 
-// Their dock counts.
-fn counts(text: &[u8], f: Floor, at: [usize; 8]) -> [u16; 8]
-    requires { ⌜ (f .carriers ≤ 8) × (linesForm (countedForm (now text)) (pastCounted (now text)) 31 (f .carriers) ≡ passed) ⌝ }
-    requires { ⌜ at ≡ listed (upTo (f .carriers) (carrierColumn (now text))) 8 ⌝ }
-    ensures { λ r. ⌜ r ≡ countsAt (now (text .entry)) f ⌝ }
-{
-    let n = f.carriers as usize;
-    let mut found = [0u16; 8];
-    let mut i: usize = 0;
-    while i < n {
-        found[i] = value(text, at[i] + 10);
-        i += 1;
-    }
-    found
-}
-
-// What stands at place q of the docks.
-fn dock(text: &[u8], f: Floor, at: [usize; 8], counts: [u16; 8], q: usize) -> u16
-    requires { ⌜ (f .width ≤ 32) × (f .height ≤ 32) ⌝ }
-    requires { ⌜ (f .carriers ≤ 8) × (linesForm (countedForm (now text)) (pastCounted (now text)) 31 (f .carriers) ≡ passed) ⌝ }
-    requires { ⌜ at ≡ listed (upTo (f .carriers) (carrierColumn (now text))) 8 ⌝ }
-    requires { ⌜ (counts ≡ countsAt (now text) f) × (q < 32) ⌝ }
-    ensures { λ r. ⌜ r ≡ placeIn (now (text .entry)) f q ⌝ }
+// What stands at place q of the docks, for n carriers in a grid.
+fn dock(
+    text: &[u8],
+    at: &[usize],
+    counts: &[u16],
+    n: usize,
+    width: u16,
+    height: u16,
+    q: usize,
+) -> u16
+    requires { ⌜ (width ≤ 32) × (height ≤ 32) ⌝ }
+    requires { ⌜ (n ≤ 8) × (linesForm (countedForm (now text)) (pastCounted (now text)) 31 n ≡ passed) ⌝ }
+    requires { ⌜ now at ≡ listed (upTo n (carrierColumn (now text))) 8 ⌝ }
+    requires { ⌜ (now counts ≡ listed (upTo n (countIn (now text))) 8) × (q < 32) ⌝ }
+    ensures { λ r. ⌜ r ≡ upTo n (λ i. upTo (countIn (now (text .entry)) i)
+        (λ k. cellAt (now (text .entry)) width height (carrierColumn (now (text .entry)) i + 15 + 10 * k)) (q % 4)) (q / 4) ⌝ }
 {
     let i = q / 4;
-    if f.carriers as usize <= i {
+    if n <= i {
         return 0;
     }
     let k = q % 4;
     if counts[i] as usize <= k {
         return 0;
     }
-    cell(text, f.width, f.height, at[i] + 15 + 10 * k)
+    cell(text, width, height, at[i] + 15 + 10 * k)
 }
 
 // Their docks.
@@ -144,10 +150,14 @@ fn docks(text: &[u8], f: Floor, at: [usize; 8], counts: [u16; 8]) -> [u16; 32]
     requires { ⌜ counts ≡ countsAt (now text) f ⌝ }
     ensures { λ r. ⌜ r ≡ docksAt (now (text .entry)) f ⌝ }
 {
+    let n = f.carriers as usize;
+    let width = f.width;
+    let height = f.height;
+    let last = 4 * n;
     let mut found = [0u16; 32];
     let mut q: usize = 0;
-    while q < 32 {
-        found[q] = dock(text, f, at, counts, q);
+    while q < last {
+        found[q] = dock(text, &at, &counts, n, width, height, q);
         q += 1;
     }
     found
@@ -161,8 +171,9 @@ pub fn floor(text: &[u8]) -> Floor
     ensures { λ r. ⌜ r ≡ floorAt (now (text .entry)) ⌝ }
 {
     let f = head(text);
-    let at = columns(text, f.carriers as usize);
-    let few = counts(text, f, at);
+    let lines = lines_of(text, f.carriers as usize);
+    let at = lines.at;
+    let few = lines.counts;
     Floor {
         width: f.width,
         height: f.height,

@@ -2,12 +2,14 @@
 //! Before anything is timed, all planners are held to the library's answers (A* that stops at its first way: to its arrivals).
 //! Each figure is the best of several rounds, the contenders taking turns within a round; medians stand beside it.
 //!
-//!     bench [ROUNDS]
+//!     bench [ROUNDS [PLOT.svg]]      the file gets the plot of how a plan's time grows
 
 #[path = "../astar.rs"]
 mod astar;
 #[path = "../bits.rs"]
 mod bits;
+#[path = "../devices.rs"]
+mod devices;
 #[path = "../draw.rs"]
 mod draw;
 #[path = "../paper.rs"]
@@ -28,19 +30,24 @@ fn floor(width: usize, height: usize, horizon: usize, pairs: &[((usize, usize), 
     Floor { width, height, horizon, depth: 2, starts, docks, walls: Vec::new() }
 }
 
-/// Eight carriers through the middle, nose to nose in two rows and two columns.
-fn crossing() -> Floor {
+/// Eight carriers through the middle of a square, nose to nose in two rows and two columns.
+fn crossing_of(side: usize) -> Floor {
+    let (last, low, high) = (side - 1, side / 2 - 1, side / 2);
     let pairs = [
-        ((0, 15), (31, 15)),
-        ((31, 15), (0, 15)),
-        ((15, 0), (15, 31)),
-        ((15, 31), (15, 0)),
-        ((0, 16), (31, 16)),
-        ((31, 16), (0, 16)),
-        ((16, 0), (16, 31)),
-        ((16, 31), (16, 0)),
+        ((0, low), (last, low)),
+        ((last, low), (0, low)),
+        ((low, 0), (low, last)),
+        ((low, last), (low, 0)),
+        ((0, high), (last, high)),
+        ((last, high), (0, high)),
+        ((high, 0), (high, last)),
+        ((high, last), (high, 0)),
     ];
-    floor(32, 32, 63, &pairs)
+    floor(side, side, 63, &pairs)
+}
+
+fn crossing() -> Floor {
+    crossing_of(32)
 }
 
 /// Eight carriers from corner to corner, the longest ways that the horizon allows.
@@ -79,10 +86,10 @@ fn common_docks() -> Floor {
     floor
 }
 
-/// 512 walls at random; starts and docks lie in the largest part that hangs together.
-fn random_walls() -> Floor {
+/// So many walls at random; starts and docks lie in the largest part that hangs together.
+fn random_walls_of(count: usize) -> Floor {
     let mut draw = Draw(512);
-    let mut walls = draw.different(512, 1024);
+    let mut walls = draw.different(count, 1024);
     walls.sort_unstable();
     let mut part = vec![usize::MAX; 1024];
     let mut largest: Vec<usize> = Vec::new();
@@ -112,6 +119,10 @@ fn random_walls() -> Floor {
     let starts = of(&mut draw);
     let docks = of(&mut draw).into_iter().map(|dock| vec![dock]).collect();
     Floor { width: 32, height: 32, horizon: 63, depth: 2, starts, docks, walls }
+}
+
+fn random_walls() -> Floor {
+    random_walls_of(512)
 }
 
 /// A corridor of one row with sidings on both sides; carriers come from both ends.
@@ -372,6 +383,135 @@ fn plans(all: &[Lent], rounds: usize) {
     println!("\n{last}");
 }
 
+// ---- What the search's devices buy ----
+
+/// The search in Rust with all its devices, and its time without each of them in parts of that.
+fn bought(all: &[Lent], rounds: usize) {
+    println!("\nThe same search in Rust: microseconds with all devices, and the time without one of them / with all\n");
+    let names: Vec<&str> = devices::DEVICES.iter().map(|(_, name)| *name).collect();
+    println!("| floor | all | {} |\n|---|---{}|", names.join(" | "), "|---".repeat(names.len()));
+    for lent in all {
+        let forms: Vec<_> = std::iter::once(None).chain(devices::DEVICES.map(|(device, _)| Some(device))).collect();
+        let mut answers = vec![vec![7; lent.answers.len()]; forms.len()];
+        let mut calls: Vec<Box<dyn FnMut()>> = Vec::new();
+        for (&form, answers) in forms.iter().zip(&mut answers) {
+            devices::plan(&lent.record, &lent.walls, answers, form);
+            if *answers != lent.answers {
+                println!("the search in Rust and the library differ on the floor '{}'", lent.name);
+                std::process::exit(1);
+            }
+            calls.push(Box::new(move || devices::plan(black_box(&lent.record), black_box(&lent.walls), black_box(answers), form)));
+        }
+        let mut contenders: Vec<&mut dyn FnMut()> = calls.iter_mut().map(|call| &mut **call as &mut dyn FnMut()).collect();
+        let times = measure(rounds, &mut contenders);
+        let parts: Vec<String> = times[1..].iter().map(|time| format!("{:.2}", time.best / times[0].best)).collect();
+        println!("| {} | {} | {} |", lent.name, micro(times[0]), parts.join(" | "));
+    }
+}
+
+// ---- How a plan's time grows ----
+
+/// What grows, and the floor at each of its values.
+struct Growth {
+    what: &'static str,
+    floors: Vec<(usize, Floor)>,
+}
+
+/// One thing grows at a time; the rest is eight carriers with one dock each, horizon 63, no walls, 32 by 32 cells where nothing else is said.
+fn growths() -> Vec<Growth> {
+    let square = |side: usize| (side * side, crossing_of(side));
+    let low = |height: usize| {
+        let pairs: Vec<_> = (0..8).map(|i| ((i, i % height), (31 - i, (i + 1) % height))).collect();
+        (height, floor(32, height, 63, &pairs))
+    };
+    let horizon = |horizon: usize| (horizon, Floor { horizon, ..crossing_of(8) });
+    let carriers = |n: usize| {
+        let mut floor = crossing();
+        floor.starts.truncate(n);
+        floor.docks.truncate(n);
+        (n, floor)
+    };
+    let docks = |count: usize| {
+        let mut floor = four_docks(crossing());
+        floor.docks.iter_mut().for_each(|docks| docks.truncate(count));
+        (count, floor)
+    };
+    vec![
+        Growth { what: "cells (a square)", floors: [4, 8, 12, 16, 20, 24, 28, 32].map(square).into() },
+        Growth { what: "rows of 32 cells", floors: [2, 4, 8, 9, 16, 24, 32].map(low).into() },
+        Growth { what: "horizon (8 by 8 cells)", floors: [16, 24, 32, 40, 48, 56, 63].map(horizon).into() },
+        Growth { what: "carriers", floors: [1, 2, 3, 4, 5, 6, 7, 8].map(carriers).into() },
+        Growth { what: "walls (at random)", floors: [0, 64, 128, 256, 384, 512, 640].map(|n| (n, random_walls_of(n))).into() },
+        Growth { what: "docks a carrier", floors: [1, 2, 3, 4].map(docks).into() },
+    ]
+}
+
+/// Value, microseconds of the library, microseconds of the competitor.
+type Point = (usize, f64, f64);
+
+/// Times the floors of a growth, and prints them as a table.
+fn grown(growth: &Growth, rounds: usize) -> Vec<Point> {
+    println!("| {} | library | bit-parallel Rust | library / bit-parallel |\n|---|---|---|---|", growth.what);
+    let mut points = Vec::new();
+    for (value, floor) in &growth.floors {
+        let (record, walls) = bits::numbers(floor);
+        let (mut ours, mut theirs) = (vec![0; 65 * floor.carriers()], vec![1; 65 * floor.carriers()]);
+        let times = measure(
+            rounds,
+            &mut [
+                &mut || {
+                    black_box(calls::plan(black_box(&record), black_box(&walls), &mut ours));
+                },
+                &mut || {
+                    black_box(bits::plan(black_box(&record), black_box(&walls), &mut theirs));
+                },
+            ],
+        );
+        if ours != theirs {
+            println!("bit-parallel Rust and the library differ where {} is {value}", growth.what);
+            std::process::exit(1);
+        }
+        println!("| {value} | {} | {} | {:.2} |", micro(times[0]), micro(times[1]), times[0].best / times[1].best);
+        points.push((*value, times[0].best / 1000.0, times[1].best / 1000.0));
+    }
+    println!();
+    points
+}
+
+/// A panel of the plot at a place: both lines over the values, from 0 on.
+fn panel(what: &str, points: &[Point], x: f64, y: f64) -> String {
+    let (width, height) = (240.0, 150.0);
+    let most = points.last().unwrap().0 as f64;
+    let top = points.iter().map(|p| p.1.max(p.2)).fold(0.0, f64::max).ceil();
+    let across = |value: usize| x + width * value as f64 / most;
+    let up = |time: f64| y + height - height * time / top;
+    let line = |pick: fn(&Point) -> f64, colour: &str, dash: &str| {
+        let places: Vec<String> = points.iter().map(|p| format!("{:.1},{:.1}", across(p.0), up(pick(p)))).collect();
+        format!("<polyline points=\"{}\" fill=\"none\" stroke=\"{colour}\" stroke-width=\"2\"{dash}/>\n", places.join(" "))
+    };
+    let mut svg = format!("<path d=\"M{x} {y}v{height}h{width}\" fill=\"none\" stroke=\"#555\"/>\n");
+    svg += &line(|p| p.2, "#d55e00", " stroke-dasharray=\"6 3\"");
+    svg += &line(|p| p.1, "#0072b2", "");
+    svg += &format!("<text x=\"{x}\" y=\"{}\">{what}</text>\n", y - 8.0);
+    svg += &format!("<text x=\"{}\" y=\"{}\" text-anchor=\"end\">{top} µs</text>\n", x - 4.0, y + 10.0);
+    svg + &format!("<text x=\"{}\" y=\"{}\" text-anchor=\"end\">{most}</text>\n", x + width, y + height + 16.0)
+}
+
+/// Prints how a plan's time grows, and the plot of it.
+fn growth(rounds: usize) -> String {
+    println!("\nHow the time of one sequential plan grows, microseconds: best (median)\n");
+    let mut svg = String::from(
+        "<svg xmlns=\"http://www.w3.org/2000/svg\" viewBox=\"0 0 940 500\" font-family=\"sans-serif\" font-size=\"13\">\n\
+         <title>How the time of one sequential plan grows</title>\n<rect width=\"940\" height=\"500\" fill=\"#fff\"/>\n\
+         <text x=\"60\" y=\"24\"><tspan fill=\"#0072b2\">library</tspan>, <tspan fill=\"#d55e00\">bit-parallel Rust (dashed)</tspan></text>\n",
+    );
+    for (k, growth) in growths().iter().enumerate() {
+        let points = grown(growth, rounds);
+        svg += &panel(growth.what, &points, 60.0 + 310.0 * (k % 3) as f64, 70.0 + 230.0 * (k / 3) as f64);
+    }
+    svg + "</svg>\n"
+}
+
 // ---- The machine ----
 
 /// The steps that bring n carriers to silence in the fewest steps: each plans, and its message is delivered to all below.
@@ -576,6 +716,11 @@ fn main() {
     let cores = std::thread::available_parallelism().map_or(0, |n| n.get());
     println!("All planners agree on {} floors. {cores} cores, one used; {rounds} rounds.\n", all.len());
     plans(&all, rounds);
+    bought(&all, rounds);
+    let plot = growth(rounds);
+    if let Some(file) = std::env::args().nth(2) {
+        std::fs::write(file, plot).expect("the plot is written");
+    }
     machine(&all, rounds);
     sheets(&all, rounds);
     listing(rounds);

@@ -1,8 +1,8 @@
--- `floor::checks::unrepeated` meets its contract: invariant: no dock passed stands before in the list; the list has four places.
+-- `floor::checks::unrepeated` meets its contract: invariant: no dock passed stands before in the list.
 use Rattle.floor.proofs.EveryLaws.{every-more, every-turn}
 use Rattle.laws.proofs.CodeTests.{not-holds}
-use Rattle.floor.specs.Checks.{countOf, dockOf, every, among, unrepeated}
-use lib.ListN.{length, getD}
+use Rattle.floor.specs.Checks.{every, among}
+use lib.ListN.{getD}
 use mathlib.Core.Bool.{true, not}
 use mathlib.Core.Path.{_≡_}
 use native.Mathlib.Omega.{arith}
@@ -12,23 +12,10 @@ use Rattle.floor.proofs.checks.unrepeated.Statement.{statement}
 use Rattle.floor.proofs.checks.unrepeated.Tie as tie
 
 abbrev Inv-loop : tie.InvT-loop
-Inv-loop i docks m k₀ k = (k ≤ m) × (every k (λ (j : ℕ). not (among docks j (getD docks j 0))) ≡ true)
+Inv-loop docks m k₀ k = (k ≤ m) × (every k (λ (j : ℕ). not (among docks j (getD docks j 0))) ≡ true)
 
 abbrev μ-loop : tie.MeasureT-loop
-μ-loop i docks m k₀ k = m - k
-
-among-requires : tie.Need-among-requires Inv-loop μ-loop
-unfolding countOf
-among-requires c κs =
-    let after-docks-of : tie.After-docks-of Inv-loop μ-loop = search in
-    let e : length (after-docks-of .docks-of .result) ≡ 4 = search needs in
-    omega arith
-
-returns : tie.Need-returns Inv-loop μ-loop
-unfolding unrepeated countOf dockOf
-returns c =
-    let after-docks-of : tie.After-docks-of Inv-loop μ-loop = search in
-    rw (← after-docks-of .docks-of .ensures) (search every-turn)
+μ-loop docks m k₀ k = m - k
 
 loop-again : tie.Need-loop-again Inv-loop μ-loop
 loop-again c =
@@ -37,15 +24,7 @@ loop-again c =
     let at-loop : tie.At-loop Inv-loop μ-loop = search in
     (omega arith, every-more _ _ (at-loop .loop .inv .1) (not-holds (after-among .among .ensures) (else1 .if1 .left)))
 
-returns-2 : tie.Need-returns-2 Inv-loop μ-loop
-unfolding unrepeated countOf dockOf
-returns-2 c =
-    let after-docks-of : tie.After-docks-of Inv-loop μ-loop = search in
-    rw (← after-docks-of .docks-of .ensures) (search every-turn)
-
 pub unrepeated-spec : {M : Type 1} → statement M
-unfolding countOf
 unrepeated-spec =
-    tie.close (tie.spec Inv-loop μ-loop (λ c κs. search needs) (λ c. search needs) (λ c. search needs) (λ c. search needs)
-    (λ c. search every-turn) (λ c. search needs) (λ c. search needs) (λ c. search needs) among-requires returns
-    (λ c. search needs) (λ c. search needs) loop-again returns-2)
+    tie.close (tie.spec Inv-loop μ-loop (λ c. search every-turn) (λ c. search needs) (λ c. search needs) (λ c κs. search needs)
+    (λ c. search every-turn) (λ c. search needs) (λ c. search needs) loop-again (λ c. search every-turn))

@@ -1,6 +1,7 @@
 -- `sheet::values::docks` meets its contract: invariant: the places passed hold what stands there, the others 0.
 use Rattle.sheet.proofs.ListedLaws.{lists, upTo-step}
-use Rattle.sheet.specs.Values.{upTo, listed, placeIn, docksAt}
+use Rattle.sheet.proofs.ValueLaws.{placeWith, places-all}
+use Rattle.sheet.specs.Values.{upTo, listed, countsAt, docksAt}
 use mathlib.Core.Path.{_≡_}
 use Prim.Native.Nat.{ℕ, _-_, _≤_}
 use native.Mathlib.Omega.{arith}
@@ -9,18 +10,37 @@ use Rattle.sheet.proofs.values.docks.Statement.{statement}
 use Rattle.sheet.proofs.values.docks.Tie as tie
 
 abbrev Inv-loop : tie.InvT-loop
-Inv-loop text f at counts found₀ q₀ found q = (q ≤ 32) × (found ≡ listed (upTo q (placeIn text f)) 32)
+Inv-loop text at counts n width height last found₀ q₀ found q =
+    (q ≤ last) × (found ≡ listed (upTo q (placeWith text n width height)) 32)
 
 abbrev μ-loop : tie.MeasureT-loop
-μ-loop text f at counts found₀ q₀ found q = 32 - q
+μ-loop text at counts n width height last found₀ q₀ found q = last - q
+
+dock-requires : tie.Need-dock-requires Inv-loop μ-loop
+unfolding countsAt
+dock-requires c κs =
+    let in-loop : tie.In-loop Inv-loop μ-loop = search in
+    let start : tie.Start Inv-loop μ-loop = search in
+    let p = start .pre in
+    (p .0, (p .1 .0, (p .1 .1 .0, (p .1 .1 .1, omega (arith, in-loop .loop-test .taken, p .1 .0 .0)))))
+
+array-write : tie.Need-array-write-found Inv-loop μ-loop
+array-write c =
+    let in-loop : tie.In-loop Inv-loop μ-loop = search in
+    let start : tie.Start Inv-loop μ-loop = search in
+    omega (arith, in-loop .loop-test .taken, start .pre .1 .0 .0)
 
 loop-again : tie.Need-loop-again Inv-loop μ-loop
 loop-again c =
+    let after-dock : tie.After-dock Inv-loop μ-loop = search in
+    let in-loop : tie.In-loop Inv-loop μ-loop = search in
     let at-loop : tie.At-loop Inv-loop μ-loop = search in
-    (search needs, upTo-step _ _ _ 32 _ (omega arith) (at-loop .loop .inv .1) (c .dock .ensures))
+    let start : tie.Start Inv-loop μ-loop = search in
+    let l = in-loop .loop-test .taken in
+    (omega (arith, l), upTo-step _ _ _ 32 _ (omega (arith, l, start .pre .1 .0 .0)) (at-loop .loop .inv .1) (after-dock .dock .ensures))
 
 pub docks-spec : {M : Type 1} → statement M
-unfolding docksAt
 docks-spec =
-    tie.close (tie.spec Inv-loop μ-loop (λ c. search lists) (λ c κs. search needs) (λ c. search needs) (λ c. search needs)
-    (λ c. search needs) (λ c. search needs) loop-again (λ c. search lists))
+    tie.close (tie.spec Inv-loop μ-loop (λ c. search needs) (λ c. search needs) (λ c. search lists) (λ c. search needs) (λ c. search needs)
+    dock-requires (λ c. search needs) array-write (λ c. search needs) (λ c. search needs) loop-again
+    (λ c. places-all _ _ _ _ (c .before .loop .inv .0) (c .loop-test .left) (c .before .loop .inv .1)))
