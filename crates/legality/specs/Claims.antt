@@ -35,7 +35,7 @@ pub record RouteIn (f : Floor) (ws : List ℕ) (i : ℕ) (m : List ℕ) (a : ℕ
 
 pub record Claims : Type 0 where
   -- The tests of 64 numbers find nothing exactly if they are a route of the task.
-  pub route-exactly : (task : Task) (r : List ℕ) → length r ≡ 64 → task .horizon ≤ 63 → (routeTest task r ≡ passed) ↔ IsRoute task r
+  pub route-exactly : (task : Task) (r : List ℕ) → length r ≡ 64 → (routeTest task r ≡ passed) ↔ IsRoute task r
   -- A route is answered exactly if the record is one of the carrier, with its arrival.
   pub legal-exactly : (f : Floor) (ws : List ℕ) (i : ℕ) (m : List ℕ) (a : ℕ) →
       (recordOutcome f ws i m ≡ value (aRoute a)) ↔ RouteIn f ws i m a
