@@ -4,3 +4,4 @@ pub mod EntryLaws
 pub mod RecordLaws
 pub mod RouteLaws
 pub mod Theorems
+mod Cases

@@ -46,7 +46,6 @@ module _ (r : List ℕ) (long : length r ≡ 64) (from : ℕ) where
       (λ (h : 64 ≤ t). past-end r t (omega (arith, long)))
       (lt-or-le t 64)
 
-
 module _ (task : Task) (r : List ℕ) where
   -- At beat t it is in the grid and off the walls; between beats t and t + 1 it stays or crosses a side.
   abbrev Stands : ℕ → Type 0
