@@ -22,6 +22,7 @@ use Rattle.sheet.specs.Values.{floorAt, wallsAt}
 use Rattle.sheet.specs.Read.{sheetVerdict, readVerdict, readFloor, readWalls, writeVerdict, writeSheet}
 use Rattle.search.specs.Task.{taskOf}
 use Rattle.search.specs.Search.{searchOf}
+use Rattle.legality.specs.Entry.{recordOutcome}
 use Rattle.planner.specs.Plan.{respondOf, planOf, failingOf}
 use Rattle.planner.specs.Answers.{planResult}
 use Rattle.planner.specs.Records.{planMemory}
@@ -63,6 +64,7 @@ pub record SameOutcomes (f : Floor) (ws : List ℕ) (g : Floor) (vs : List ℕ) 
   pub run-of-rank : (rank report : ℕ) → rankOutcome f ws rank report ≡ rankOutcome g vs rank report
   pub run-report : (rank : ℕ) (old : List ℕ) → reportListed f ws rank old ≡ reportListed g vs rank old
   pub blockers : (carrier room : ℕ) → blockersOutcome f ws carrier room ≡ blockersOutcome g vs carrier room
+  pub check-record : (carrier : ℕ) (m : List ℕ) → recordOutcome f ws carrier m ≡ recordOutcome g vs carrier m
   pub blockers-answers : (carrier : ℕ) (old : List ℕ) → blockersMemory f ws carrier old ≡ blockersMemory g vs carrier old
 
 -- With the sheet.
