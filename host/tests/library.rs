@@ -445,6 +445,38 @@ fn conflicts_of_two_routes() {
     assert_eq!(refused(calls::read(calls::conflict(&a, &b[1..], 4))), (9, 0));
 }
 
+/// What a record is for a carrier: each case, each cause with its first beat, the order of the causes, and the refusals.
+#[test]
+fn records_of_a_carrier() {
+    let dimensions = Dimensions { width: 3, height: 2, horizon: 4, depth: 1 };
+    let floor = Floor::new(dimensions, &[Carrier { start: 0, docks: &[2] }], &[4]).unwrap();
+    let check = |numbers: &[u16]| {
+        let mut record = [0; ANSWER];
+        record[..numbers.len()].copy_from_slice(numbers);
+        floor.check_record(1, &record).unwrap()
+    };
+    let wrong = |numbers: &[u16]| match check(numbers) {
+        Legality::Wrong(fault) => fault,
+        other => panic!("{other:?}"),
+    };
+    assert_eq!(check(&[2, 0, 1, 2, 2, 2]), Legality::Route { arrival: 2 });
+    assert_eq!(check(&[2, 0, 1, 2, 1, 2]), Legality::Route { arrival: 4 });
+    assert_eq!((check(&[1]), check(&[0])), (Legality::None, Legality::NotHeard));
+    assert_eq!(wrong(&[3, 0, 1, 2, 2, 2]), Fault::Tag);
+    assert_eq!(wrong(&[2, 1, 2, 2, 2, 2]), Fault::Start);
+    assert_eq!((wrong(&[2, 0, 3, 4, 5, 2]), wrong(&[2, 0, 1, 2, 5, 6])), (Fault::Cell(2), Fault::Cell(4)));
+    assert_eq!((wrong(&[2, 0, 1, 5, 2, 2]), wrong(&[2, 0, 1, 2, 3, 2])), (Fault::Move(1), Fault::Move(2)));
+    assert_eq!(wrong(&[2, 0, 1, 1, 1, 1]), Fault::Dock(4));
+    assert_eq!((wrong(&[2, 0, 1, 2, 2, 2, 7]), wrong(&[1, 0, 9])), (Fault::Unused(5), Fault::Unused(1)));
+    assert_eq!(wrong(&[0, 3]), Fault::Unused(0));
+    assert_eq!((wrong(&[2, 1, 9, 9, 9, 9, 9]), wrong(&[2, 0, 5, 5, 5, 9, 9])), (Fault::Start, Fault::Cell(4)));
+    assert_eq!(wrong(&[2, 0, 1, 5, 2, 2]).to_string(), "no stay and no move across a side after beat 1");
+    assert_eq!((refused(floor.check_record(1, &[0; 64])), refused(floor.check_record(2, &[0; 65]))), ((9, 0), (7, 0)));
+    let mut route = [0; ROUTE];
+    route[..5].copy_from_slice(&[0, 1, 2, 1, 2]);
+    assert_eq!((arrival(&route, 4), arrival(&route, 2), arrival(&route, 0), arrival(&route, u16::MAX)), (4, 2, 0, 5));
+}
+
 /// Who shuts a carrier in: one, two together, walls or the horizon, the one that the order keeps; 7 before 16, and memory as found.
 #[test]
 fn who_shuts_a_carrier_in() {
@@ -642,6 +674,9 @@ fn null_pointers_with_length_0() {
         assert_eq!(kalomivund_conflict(null(), 0, null(), 0, 63), short);
         assert_eq!(kalomivund_conflict(m, ROUTE, null(), 0, 63), short);
         assert_eq!(kalomivund_conflict(null(), 0, m, ROUTE, 63), short);
+        assert_eq!(kalomivund_check_record(null(), 0, null(), 0, 1, null(), 0), short);
+        assert_eq!(kalomivund_check_record(f, n, null(), 0, 1, null(), 0), short);
+        assert_eq!(kalomivund_arrival(null(), 0, 63), short);
     }
 }
 

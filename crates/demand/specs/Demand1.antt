@@ -156,5 +156,6 @@ pub record Demand1 : Type 0 where
   -- The conflict test of two lent routes, which writes no memory.
   pub conflict : (f : Floor) (a b : List ℕ) (horizon : ℕ) → Answers (conflictOutcome a b horizon) (ConflictRows f (length a) (length b))
   -- The check of a record and the arrival of a lent route, which write no memory.
-  pub check-record : (f : Floor) (ws : List ℕ) (carrier : ℕ) (m : List ℕ) → Answers (recordOutcome f ws carrier m) (RecordRows f ws carrier (length m))
+  pub check-record : (f : Floor) (ws : List ℕ) (carrier : ℕ) (m : List ℕ)
+      → Answers (recordOutcome f ws carrier m) (RecordRows f ws carrier (length m))
   pub arrival : (f : Floor) (r : List ℕ) (horizon : ℕ) → Answers (arrivalOutcome r horizon) (ArrivalRows f (length r))
