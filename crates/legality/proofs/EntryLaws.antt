@@ -1,23 +1,20 @@
 -- Laws of the entries: what it says that a check of a record is not turned away, and what is answered then.
 use Prim.Native.Nat.{ℕ, _-_, _≤_, _<_, min}
 use native.Mathlib.Omega.{arith}
-use mathlib.Core.Bool.{Bool, true, false}
 use mathlib.Core.List.{List}
-use mathlib.Core.Path.{_≡_, refl, sym, _∙_, ap}
-use lib.Dec.{eqb}
+use mathlib.Core.Path.{_≡_, refl, ap}
 use lib.ListN.{length, getD}
 use borrow.Author.Tests.{le-leb, lt-leb, eq-eqb, ne-eqb}
 use Rattle.laws.specs.Memory.{part}
 use Rattle.laws.specs.Verdict.{Verdict, passed, refused, _then_, demand, Outcome, value, refusal, _gives_}
-use Rattle.laws.proofs.VerdictLaws.{then-both, demand-holds, gives-passed, gives-refused, demand-on, demand-ends}
+use Rattle.laws.proofs.VerdictLaws.{then-both, demand-holds, demand-on, demand-ends}
 use Rattle.floor.specs.declared.Floor.{Floor}
-use Rattle.floor.specs.Checks.{checkOf, roomOf, within, carriersOf, wallsOf, risingOf, clearOf, distinctOf, unrepeatedOf, placesOf}
-use Rattle.floor.proofs.LimitsLaws.{CheckTells, check-tells, room-passed, within-means}
+use Rattle.floor.specs.Checks.{checkOf, roomOf, carriersOf, wallsOf, risingOf, placesOf}
+use Rattle.floor.proofs.LimitsLaws.{check-tells, room-passed, within-means}
 use Rattle.floor.proofs.ClimbLaws.{passed-climbs}
 use Rattle.floor.proofs.DockLaws.{passed-counted}
 use Rattle.route.specs.Route.{Task}
 use Rattle.route.specs.Arrival.{arrivalOf}
-use Rattle.search.specs.Task.{taskOf}
 use Rattle.legality.specs.Tests.{blankTest, routeTest, recordTest}
 use Rattle.legality.specs.Entry.{RecordAnswer, aRoute, aNone, notHeard, wrong, recordKind, recordAnswer, _orWrong_}
 use Rattle.legality.specs.Entry.{recordVerdict, arrivalOutcome}

@@ -2,21 +2,21 @@
 use Prim.Native.Nat.{ℕ, zero, suc, _+_, _-_, _≤_, _<_}
 use native.Mathlib.Omega.{arith}
 use native.Mathlib.Numerals.{add-one}
-use mathlib.Core.Bool.{true}
 use mathlib.Core.List.{List, [], _∷_}
-use mathlib.Core.Logic.{_⊎_, _↔_, ⊎-elim}
-use mathlib.Core.Path.{_≡_, refl, sym, _∙_, ap}
-use lib.Dec.{eqb, ltb}
+use mathlib.Core.Logic.{_⊎_, ⊎-elim}
+use mathlib.Core.Path.{_≡_, refl, _∙_}
+use lib.Dec.{ltb}
 use lib.ListN.{length, getD}
 use borrow.Author.Tests.{eqb-true, eq-eqb, ltb-true, lt-ltb}
 use Rattle.laws.specs.Verdict.{passed, _then_}
 use Rattle.laws.proofs.Tests.{and-both, and-fst, and-snd, lt-or-le}
 use Rattle.laws.proofs.VerdictLaws.{then-both, then-passed, demand-holds, demand-passes}
 use Rattle.laws.proofs.EachLaws.{Decides, each-passed, all-passes}
-use Rattle.route.specs.Route.{cellAt, Task, SharesSide}
+use Rattle.route.specs.Route.{cellAt, Task}
 use Rattle.route.specs.Moves.{near}
 use Rattle.route.specs.Best.{IsRoute}
 use Rattle.route.proofs.NearLaws.{near-says, near-holds}
+use Rattle.legality.specs.Faults.{Stands, Steps, ZeroFrom}
 use Rattle.legality.specs.Tests.{beginTest, cellsTest, movesTest, dockTest, zeroAt, blankTest, freeIn, routeTest}
 
 -- Past its end a list has 0.
@@ -27,7 +27,7 @@ past-end (x ∷ r) (suc t) l = past-end r t (omega arith)
 
 -- Of 64 numbers those from a beat on are 0 exactly if all are from there on.
 module _ (r : List ℕ) (from : ℕ) where
-  zero-means : Decides (zeroAt r from) (λ (k : ℕ). cellAt r (from + k) ≡ 0)
+  pub zero-means : Decides (zeroAt r from) (ZeroFrom r from)
   unfolding zeroAt
   zero-means k = (eqb-true _ _, eq-eqb _ _)
 
@@ -47,21 +47,15 @@ module _ (r : List ℕ) (long : length r ≡ 64) (from : ℕ) where
       (lt-or-le t 64)
 
 module _ (task : Task) (r : List ℕ) where
-  -- At beat t it is in the grid and off the walls; between beats t and t + 1 it stays or crosses a side.
-  abbrev Stands : ℕ → Type 0
-  Stands t = (cellAt r t < task .cells) × (task .free (cellAt r t) ≡ true)
-
-  abbrev Steps : ℕ → Type 0
-  Steps t = (cellAt r (t + 1) ≡ cellAt r t) ⊎ SharesSide (task .width) (cellAt r t) (cellAt r (t + 1))
-
-  stands-means : Decides (λ t. freeIn task (cellAt r t)) Stands
+  -- The tests of a beat and of a move mean what they say.
+  pub stands-means : Decides (λ t. freeIn task (cellAt r t)) (Stands task r)
   unfolding freeIn
   stands-means t = (
     λ e. (ltb-true _ _ (and-fst (ltb (cellAt r t) (task .cells)) _ e), and-snd (ltb (cellAt r t) (task .cells)) _ e),
     λ h. and-both (lt-ltb _ _ (h .0)) (h .1),
   )
 
-  steps-means : Decides (λ t. near (task .width) (cellAt r t) (cellAt r (t + 1))) Steps
+  pub steps-means : Decides (λ t. near (task .width) (cellAt r t) (cellAt r (t + 1))) (Steps task r)
   steps-means t = (near-says (task .width) (cellAt r t) (cellAt r (t + 1)), near-holds (task .width) (cellAt r t) (cellAt r (t + 1)))
 
   -- What the five tests say, each found nothing.
@@ -91,8 +85,8 @@ module _ (task : Task) (r : List ℕ) where
     unfolding beginTest cellsTest movesTest dockTest
     passed-route e =
         let p = passed-all e in
-        let at = each-passed 4 0 _ Stands stands-means (task .horizon + 1) (p .cells) in
-        let to = each-passed 5 0 _ Steps steps-means (task .horizon) (p .moves) in
+        let at = each-passed 4 0 _ (Stands task r) stands-means (task .horizon + 1) (p .cells) in
+        let to = each-passed 5 0 _ (Steps task r) steps-means (task .horizon) (p .moves) in
         record {
           long = long;
           begins = eqb-true _ _ (demand-holds _ 3 0 (p .begins));
@@ -109,8 +103,8 @@ module _ (task : Task) (r : List ℕ) where
         all-passed
         (record {
           begins = demand-passes 3 0 (eq-eqb _ _ (h .begins));
-          cells = all-passes 4 0 _ Stands stands-means (task .horizon + 1) (λ t l. (h .inside t (omega arith), h .off-walls t (omega arith)));
-          moves = all-passes 5 0 _ Steps steps-means (task .horizon) (λ t l. rw (add-one t) (h .moves t l));
+          cells = all-passes 4 0 _ (Stands task r) stands-means (task .horizon + 1) (λ t l. (h .inside t (omega arith), h .off-walls t (omega arith)));
+          moves = all-passes 5 0 _ (Steps task r) steps-means (task .horizon) (λ t l. rw (add-one t) (h .moves t l));
           dock = demand-passes 6 (task .horizon) (h .ends);
           blank = blank-below r (task .horizon + 1) (λ t l k. h .blank t (omega arith));
         })

@@ -1,25 +1,23 @@
 -- The claims, proved.
-use Prim.Native.Nat.{ℕ, zero, suc, _+_, _-_, _≤_, _<_, min}
+use Prim.Native.Nat.{ℕ, _-_, _≤_, _<_, min}
 use native.Mathlib.Omega.{arith}
-use mathlib.Core.Bool.{Bool, true, false}
 use mathlib.Core.List.{List, _∷_}
 use mathlib.Core.Logic.{_↔_, ⊎-elim}
 use mathlib.Core.Path.{_≡_, refl, sym, _∙_, ap}
-use lib.Dec.{eqb, leb}
 use lib.ListN.{length, getD, replicate}
 use lib.Seq.{take-all}
-use borrow.Author.Tests.{le-leb, leb-true, eq-eqb, ne-eqb}
+use borrow.Author.Tests.{le-leb}
 use Rattle.laws.specs.Memory.{part}
-use Rattle.laws.specs.Verdict.{Verdict, passed, refused, _then_, demand, value, _gives_}
+use Rattle.laws.specs.Verdict.{Verdict, passed, refused, _then_, value, _gives_}
 use Rattle.laws.proofs.Tests.{eq-or-ne}
-use Rattle.laws.proofs.PartLaws.{part-byte, part-length, part-whole}
-use Rattle.laws.proofs.VerdictLaws.{then-both, then-passed, demand-holds, demand-passes, given-value, gives-passed}
+use Rattle.laws.proofs.PartLaws.{part-length}
+use Rattle.laws.proofs.VerdictLaws.{then-passed, demand-passes, given-value, gives-passed}
 use Rattle.floor.specs.declared.Floor.{Floor}
-use Rattle.floor.specs.Checks.{checkOf, roomOf, within}
+use Rattle.floor.specs.Checks.{roomOf}
 use Rattle.floor.proofs.LimitsLaws.{room-passed, within-means}
 use Rattle.floor.proofs.Theorems.{theorems as floor-theorems}
 use Rattle.route.specs.Route.{route}
-use Rattle.route.specs.Best.{IsRoute, Arrives}
+use Rattle.route.specs.Best.{Arrives}
 use Rattle.route.specs.Arrival.{arrivalOf}
 use Rattle.route.proofs.Theorems.{theorems as route-theorems}
 use Rattle.records.specs.Records.{recordOf, slot, fit}
@@ -27,11 +25,13 @@ use Rattle.search.specs.Task.{taskOf}
 use Rattle.search.specs.Answers.{answered}
 use Rattle.search.specs.Search.{searchOf}
 use Rattle.search.proofs.Theorems.{theorems as search-theorems}
-use Rattle.legality.specs.Tests.{blankTest, routeTest, recordTest}
+use Rattle.legality.specs.Tests.{blankTest, recordTest}
 use Rattle.legality.specs.Entry.{RecordAnswer, aRoute, aNone, notHeard, wrong, recordKind, recordAnswer, _orWrong_}
 use Rattle.legality.specs.Entry.{recordVerdict, recordOutcome, arrivalOutcome}
+use Rattle.legality.specs.Faults.{FaultAt}
 use Rattle.legality.specs.Claims.{Asked, RouteIn, Claims}
-use Rattle.legality.proofs.EntryLaws.{verdict-granted, kind-route, kind-none, kind-unheard, tag-route, tag-blank, answer-passed, lent-cells}
+use Rattle.legality.proofs.EntryLaws.{verdict-granted, kind-route, kind-none, kind-unheard, tag-route, tag-blank, answer-passed, answer-wrong, lent-cells}
+use Rattle.legality.proofs.FaultLaws.{test-fault, fault-test}
 use Rattle.legality.proofs.RecordLaws.{caseOf, route-tested, tag-low, blank-tested, route-tag, none-tag, unheard-tag, blank-record, record-blank}
 use Rattle.legality.proofs.RouteLaws.{passed-route, route-passed, blank-says, blank-below}
 
@@ -40,6 +40,21 @@ not-wrong : (v : Verdict) (x y : RecordAnswer) → (v orWrong x) ≡ y → caseO
 unfolding _orWrong_ caseOf
 not-wrong passed x y e l = (refl, e)
 not-wrong (refused k t) x y e l = let z : 3 ≡ caseOf y = ap caseOf e in absurd (omega arith)
+
+-- A fault is that of the tests, since no tag tells one.
+is-wrong : (v : Verdict) (x : RecordAnswer) (k t : ℕ) → caseOf x < 3 → (v orWrong x) ≡ wrong k t → v ≡ refused k t
+unfolding _orWrong_ caseOf
+is-wrong passed x k t l e = let z : caseOf x ≡ 3 = ap caseOf e in absurd (omega arith)
+is-wrong (refused j u) x k t l e = let a : j ≡ k = cc in let b : u ≡ t = cc in rw (a, b) refl
+
+kind-right : (tag a : ℕ) → caseOf (recordKind tag a) < 3
+unfolding caseOf
+kind-right tag a =
+    ⊎-elim (λ (h : tag ≡ 2). rw (sym (kind-route tag a h)) (omega arith))
+    (λ (n : tag ≡ 2 → ⊥).
+    ⊎-elim (λ (h : tag ≡ 1). rw (sym (kind-none tag a h)) (omega arith))
+    (λ (h : tag ≡ 1 → ⊥). rw (sym (kind-unheard tag a n h)) (omega arith)) (eq-or-ne tag 1))
+    (eq-or-ne tag 2)
 
 module _ (f : Floor) (ws : List ℕ) (i : ℕ) (m : List ℕ) where
   asked : recordVerdict f ws i (length m) ≡ passed → Asked f ws i m
@@ -134,6 +149,21 @@ module _ (f : Floor) (ws : List ℕ) (i : ℕ) (m : List ℕ) where
       tells notHeard
       (record { request = a; tests = b .1; kind = sym (kind-unheard (getD m 0 0) _ (λ h. omega (arith, b .0)) (λ h. omega (arith, b .0))) })
 
+  -- A fault is that of the tests.
+  wrong-told : (k t : ℕ) → recordOutcome f ws i m ≡ value (wrong k t) →
+      Asked f ws i m × FaultAt (taskOf f ws i) (getD m 0 0) (part m 1 64) k t
+  unfolding recordOutcome recordAnswer
+  wrong-told k t e =
+      let g = given-value (recordVerdict f ws i (length m)) (recordAnswer (taskOf f ws i) m) (wrong k t) (sym e) in
+      (asked (g .0), test-fault (taskOf f ws i) (getD m 0 0) (part m 1 64) k t (is-wrong _ _ k t (kind-right (getD m 0 0) _) (sym (g .1))))
+
+  wrong-tells : (k t : ℕ) → Asked f ws i m → FaultAt (taskOf f ws i) (getD m 0 0) (part m 1 64) k t →
+      recordOutcome f ws i m ≡ value (wrong k t)
+  unfolding recordOutcome
+  wrong-tells k t a h =
+      gives-passed (granted a)
+      ∙ sym (answer-wrong (taskOf f ws i) m refl (fault-test (taskOf f ws i) (getD m 0 0) (part m 1 64) k t h))
+
 -- What a search answers is a route of the carrier.
 found : (f : Floor) (ws : List ℕ) (i : ℕ) (m r : List ℕ) → searchOf f ws i m ≡ answered (route r) →
     recordOutcome f ws i (2 ∷ r) ≡ value (aRoute (arrivalOf r (f .horizon)))
@@ -168,6 +198,7 @@ theorems =
       legal-exactly = λ f ws i m a. (legal-told f ws i m a, legal-tells f ws i m a);
       none-exactly = λ f ws i m. (none-told f ws i m, λ h. none-tells f ws i m (h .0) (h .1));
       unheard-exactly = λ f ws i m. (unheard-told f ws i m, λ h. unheard-tells f ws i m (h .0) (h .1));
+      wrong-exactly = λ f ws i m k t. (wrong-told f ws i m k t, λ h. wrong-tells f ws i m k t (h .0) (h .1));
       found-legal = found;
       arrival-exactly = arrived;
     }

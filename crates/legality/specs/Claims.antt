@@ -1,16 +1,15 @@
 -- What is claimed of the check of a record and of the arrival of a lent route; `proofs/Theorems.antt` has the proofs. The floor, the
 -- walls, the carrier number (from 1) and the numbers of the record are any.
-use Prim.Native.Nat.{ℕ, _+_, _-_, _≤_, _<_, min}
-use mathlib.Core.Bool.{true}
+use Prim.Native.Nat.{ℕ, _≤_, min}
 use mathlib.Core.List.{List, _∷_}
-use mathlib.Core.Logic.{_⊎_, _↔_}
+use mathlib.Core.Logic.{_↔_}
 use mathlib.Core.Path.{_≡_}
 use lib.ListN.{length, getD}
 use Rattle.laws.specs.Memory.{part}
-use Rattle.laws.specs.Verdict.{passed, value, All, First}
+use Rattle.laws.specs.Verdict.{passed, value}
 use Rattle.floor.specs.declared.Floor.{Floor}
 use Rattle.floor.specs.Accepted.{Accepted, Within}
-use Rattle.route.specs.Route.{cellAt, none, route, unheard, Task, SharesSide}
+use Rattle.route.specs.Route.{none, route, unheard, Task}
 use Rattle.route.specs.Best.{IsRoute, Arrives}
 use Rattle.route.specs.Arrival.{arrivalOf}
 use Rattle.records.specs.Records.{recordOf, slot}
@@ -18,6 +17,7 @@ use Rattle.search.specs.Task.{taskOf}
 use Rattle.search.specs.Answers.{answered}
 use Rattle.search.specs.Search.{searchOf}
 use Rattle.legality.specs.Tests.{routeTest}
+use Rattle.legality.specs.Faults.{FaultAt}
 use Rattle.legality.specs.Entry.{aRoute, aNone, notHeard, wrong, recordOutcome, arrivalOutcome}
 
 -- A check of a record that is not turned away: an accepted floor, 65 numbers lent, and one of its carriers.
@@ -44,6 +44,9 @@ pub record Claims : Type 0 where
       (recordOutcome f ws i m ≡ value aNone) ↔ (Asked f ws i m × (part m 0 65 ≡ recordOf none))
   pub unheard-exactly : (f : Floor) (ws : List ℕ) (i : ℕ) (m : List ℕ) →
       (recordOutcome f ws i m ≡ value notHeard) ↔ (Asked f ws i m × (part m 0 65 ≡ slot unheard))
+  -- What is wrong is answered exactly under the condition of its cause, with its first beat.
+  pub wrong-exactly : (f : Floor) (ws : List ℕ) (i : ℕ) (m : List ℕ) (k t : ℕ) →
+      (recordOutcome f ws i m ≡ value (wrong k t)) ↔ (Asked f ws i m × FaultAt (taskOf f ws i) (getD m 0 0) (part m 1 64) k t)
   -- Every route that a search answers is one of the carrier, whatever was heard.
   pub found-legal : (f : Floor) (ws : List ℕ) (i : ℕ) (m r : List ℕ) → searchOf f ws i m ≡ answered (route r) →
       recordOutcome f ws i (2 ∷ r) ≡ value (aRoute (arrivalOf r (f .horizon)))

@@ -1,6 +1,4 @@
 -- `legality::beats::begins` meets its contract.
-use Rattle.laws.proofs.VerdictLaws.{demand-fails, demand-last}
-use Rattle.laws.proofs.CodeTests.{decides}
 use Rattle.route.specs.Route.{cellAt}
 use Rattle.floor.specs.Checks.{startOf}
 use Rattle.floor.specs.Answers.{verdictOf}
