@@ -477,6 +477,49 @@ fn records_of_a_carrier() {
     assert_eq!((arrival(&route, 4), arrival(&route, 2), arrival(&route, 0), arrival(&route, u16::MAX)), (4, 2, 0, 5));
 }
 
+/// The joint plans of docs/COMPARISON.md, which prioritized planning does not find, are routes of their carriers, and free of conflict.
+#[test]
+fn joint_plans_of_the_samples() {
+    let plans: [(&[u8], &[(u16, &[u16])]); 3] = [
+        (
+            include_bytes!("../../samples/corridor-swap.sheet"),
+            &[(1, &[0, 0, 0, 1, 2, 3, 4, 4, 4, 5, 6]), (2, &[6, 5, 4, 3, 11, 11, 11, 3, 2, 1, 0])],
+        ),
+        (
+            include_bytes!("../../samples/corridor-swap.sheet"),
+            &[
+                (7, &[72, 72, 73, 74, 75, 76, 77, 77, 77, 77, 78, 79]),
+                (8, &[79, 78, 77, 76, 84, 84, 84, 76, 75, 74, 73, 72]),
+            ],
+        ),
+        (
+            include_bytes!("../../samples/intersection.sheet"),
+            &[
+                (5, &[86, 87, 88, 89, 90, 91, 92, 92, 92, 92, 92, 92, 92, 91, 92, 93, 94]),
+                (6, &[92, 91, 90, 71, 52, 33, 52, 71, 90, 89, 88, 87, 86, 86, 86, 86, 86]),
+                (7, &[14, 14, 14, 14, 14, 14, 14, 33, 52, 71, 90, 109, 109, 109, 128, 147, 166]),
+                (8, &[166, 147, 128, 109, 109, 109, 90, 91, 91, 91, 91, 91, 90, 71, 52, 33, 14]),
+            ],
+        ),
+    ];
+    for (sheet, team) in plans {
+        let mut walls = [0; MOST_WALLS];
+        let floor = Floor::read_sheet(sheet, &mut walls).unwrap();
+        let horizon = floor.dimensions().horizon;
+        let mut routes: Vec<Route> = Vec::new();
+        for &(carrier, cells) in team {
+            let mut route = [0; ROUTE];
+            let last = *cells.last().unwrap();
+            route[..=usize::from(horizon)].fill(last);
+            route[..cells.len()].copy_from_slice(cells);
+            let record = [&[2], &route[..]].concat();
+            assert!(matches!(floor.check_record(carrier, &record), Ok(Legality::Route { .. })), "carrier {carrier}");
+            assert!(routes.iter().all(|other| conflict(&route, other, horizon).is_none()), "carrier {carrier}");
+            routes.push(route);
+        }
+    }
+}
+
 /// Who shuts a carrier in: one, two together, walls or the horizon, the one that the order keeps; 7 before 16, and memory as found.
 #[test]
 fn who_shuts_a_carrier_in() {
