@@ -1,12 +1,12 @@
 // The tests of a record in their order. A test that fails is told as a check tells it: the number of its cause, and its first beat.
 ghost use mathlib.Core.Path.{_≡_};
-ghost use Prim.Native.Nat.{_-_, _≤_, _<_};
+ghost use Prim.Native.Nat.{_≤_, _<_};
 ghost use lib.ListN.{length};
 ghost use Rattle.floor.specs.Answers.{verdictOf};
 ghost use Rattle.floor.specs.Accepted.{Climbs};
 ghost use Rattle.floor.specs.Checks.{startOf, isDock, countOf};
 ghost use Rattle.search.specs.Task.{taskOf};
-ghost use Rattle.legality.specs.Tests.{beginTest, cellsTest, movesTest, dockTest, blankTest, freeIn, routeTest, recordTest};
+ghost use Rattle.legality.specs.Tests.{beginTest, cellsTest, movesTest, dockTest, blankTest, routeTest, recordTest};
 ghost use Rattle.legality.specs.Inner.{Placed, freeOn};
 use crate::places::is_dock;
 use crate::places::is_free;

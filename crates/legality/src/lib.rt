@@ -3,9 +3,9 @@ mod beats;
 mod places;
 
 ghost use mathlib.Core.Path.{_≡_};
-ghost use Prim.Native.Nat.{_≤_, min};
+ghost use Prim.Native.Nat.{_≤_};
 ghost use lib.ListN.{length};
-ghost use Rattle.laws.specs.Verdict.{passed, value, refusal};
+ghost use Rattle.laws.specs.Verdict.{passed, value};
 ghost use Rattle.floor.specs.Answers.{verdictOf};
 ghost use Rattle.route.specs.Arrival.{arrivalOf};
 ghost use Rattle.search.specs.Task.{taskOf};
