@@ -10,8 +10,8 @@ use Rattle.reference.specs.Quiet.{ceiling}
 use Rattle.machine.specs.Ceiling.{mostSteps}
 use Rattle.wire.specs.Word.{packed, cappedAt, wordOf, mapOutcome, ofNumber}
 use Rattle.wire.proofs.WordLaws.{capped-same}
-use Rattle.kalomivund.specs.Answers.{ofSearch, answerDone, ofReply, toldDone, stepCase, endCase, ofRank, figuresDone, ofConflict, conflictDone}
-use Rattle.kalomivund.specs.Answers.{ofRecord, recordDone}
+use Rattle.kalomivund.specs.Answers.{ofSearch, answerDone, ofReply, toldDone, stepCase, endCase, ofRank, figuresDone}
+use Rattle.kalomivund.specs.Answers.{ofConflict, conflictDone, ofRecord, recordDone}
 use Rattle.kalomivund.specs.Entries.{ceilingWord}
 use Rattle.kalomivund.specs.Claims.{Claims}
 use Rattle.kalomivund.proofs.LentLaws.{read-record, read-walls, write-sheet, needed-lengths, search, plan, fresh, print-routes}

@@ -8,11 +8,13 @@ use mathlib.Core.Path.{_≡_, refl, sym, _∙_, ap}
 use borrow.Author.Tests.{eqb-true, eqb-false, eq-eqb, ne-eqb}
 use Rattle.laws.specs.Verdict.{Verdict, refused, _then_, All}
 use Rattle.laws.proofs.Tests.{lt-or-le, eq-or-ne, not-true-is-false, false-fails}
-use Rattle.laws.proofs.VerdictLaws.{then-passed, then-refused, refused-by, refused-same, demand-holds, demand-passes, demand-refuses, demand-cases}
+use Rattle.laws.proofs.VerdictLaws.{then-passed, then-refused, refused-by, refused-same, demand-holds, demand-passes, demand-refuses}
+use Rattle.laws.proofs.VerdictLaws.{demand-cases}
 use Rattle.laws.proofs.EachLaws.{each-passed, all-passes, each-refused, first-refuses}
 use Rattle.route.specs.Route.{Task}
 use Rattle.legality.specs.Tests.{beginTest, cellsTest, movesTest, dockTest, blankTest, freeIn, routeTest, recordTest}
-use Rattle.legality.specs.Faults.{Begins, Stands, Steps, Docked, ZeroFrom, FaultAt, no-tag, other-start, no-cell, no-move, no-dock, not-blank, not-empty}
+use Rattle.legality.specs.Faults.{Begins, Stands, Steps, Docked, ZeroFrom, FaultAt, no-tag, other-start, no-cell, no-move}
+use Rattle.legality.specs.Faults.{no-dock, not-blank, not-empty}
 use Rattle.legality.proofs.EntryLaws.{tag-fails, tag-route, tag-blank}
 use Rattle.legality.proofs.RouteLaws.{zero-means, stands-means, steps-means}
 

@@ -103,7 +103,8 @@ module _ (task : Task) (r : List ℕ) where
         all-passed
         (record {
           begins = demand-passes 3 0 (eq-eqb _ _ (h .begins));
-          cells = all-passes 4 0 _ (Stands task r) stands-means (task .horizon + 1) (λ t l. (h .inside t (omega arith), h .off-walls t (omega arith)));
+          cells = all-passes 4 0 _ (Stands task r) stands-means (task .horizon + 1)
+              (λ t l. (h .inside t (omega arith), h .off-walls t (omega arith)));
           moves = all-passes 5 0 _ (Steps task r) steps-means (task .horizon) (λ t l. rw (add-one t) (h .moves t l));
           dock = demand-passes 6 (task .horizon) (h .ends);
           blank = blank-below r (task .horizon + 1) (λ t l k. h .blank t (omega arith));

@@ -30,9 +30,11 @@ use Rattle.legality.specs.Entry.{RecordAnswer, aRoute, aNone, notHeard, 
 use Rattle.legality.specs.Entry.{recordVerdict, recordOutcome, arrivalOutcome}
 use Rattle.legality.specs.Faults.{FaultAt}
 use Rattle.legality.specs.Claims.{Asked, RouteIn, Claims}
-use Rattle.legality.proofs.EntryLaws.{verdict-granted, kind-route, kind-none, kind-unheard, tag-route, tag-blank, answer-passed, answer-wrong, lent-cells}
+use Rattle.legality.proofs.EntryLaws.{verdict-granted, kind-route, kind-none, kind-unheard, tag-route, tag-blank, answer-passed}
+use Rattle.legality.proofs.EntryLaws.{answer-wrong, lent-cells}
 use Rattle.legality.proofs.FaultLaws.{test-fault, fault-test}
-use Rattle.legality.proofs.RecordLaws.{caseOf, route-tested, tag-low, blank-tested, route-tag, none-tag, unheard-tag, blank-record, record-blank}
+use Rattle.legality.proofs.RecordLaws.{caseOf, route-tested, tag-low, blank-tested, route-tag, none-tag, unheard-tag}
+use Rattle.legality.proofs.RecordLaws.{blank-record, record-blank}
 use Rattle.legality.proofs.RouteLaws.{passed-route, route-passed, blank-says, blank-below}
 
 -- An answer that is no fault: the tests found nothing, and it is what the tag says.

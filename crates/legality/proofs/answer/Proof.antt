@@ -47,4 +47,5 @@ returns-2 c =
 
 pub answer-spec : {M : Type 1} → statement M
 answer-spec =
-    tie.close (tie.spec slice-read load-requires record-test-requires (λ c. search needs) (λ c. search needs) kind-requires returns returns-2)
+    tie.close (tie.spec slice-read load-requires record-test-requires (λ c. search needs) (λ c. search needs) kind-requires returns
+    returns-2)

@@ -22,4 +22,5 @@ returns-2 c =
     sym (gives-refused _ (refuses (after-request .request .ensures) (after-asked .asked .given .1)))
 
 pub check-record-spec : {M : Type 1} → statement M
-check-record-spec = tie.close (tie.spec (λ c κs. search needs) (λ c. search needs) (λ c. search needs) (λ c κs. search passes) returns returns-2)
+check-record-spec =
+    tie.close (tie.spec (λ c κs. search needs) (λ c. search needs) (λ c. search needs) (λ c κs. search passes) returns returns-2)

@@ -9,4 +9,5 @@ pub request-spec : {M : Type 1} → statement M
 unfolding recordVerdict
 request-spec =
     tie.close (tie.spec (λ c κs. search needs) (λ c. search needs) (λ c. search needs) (λ c. search chain depth 4)
-    (λ c κs. search needs) (λ c. search needs) (λ c. search needs) (λ c. search chain depth 4) (λ c κs. search needs) (λ c. search hands-on depth 4))
+    (λ c κs. search needs) (λ c. search needs) (λ c. search needs) (λ c. search chain depth 4) (λ c κs. search needs)
+    (λ c. search hands-on depth 4))

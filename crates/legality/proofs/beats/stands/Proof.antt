@@ -21,5 +21,6 @@ abbrev μ-loop : tie.MeasureT-loop
 pub stands-spec : {M : Type 1} → statement M
 unfolding verdictOf cellsTest cellAt
 stands-spec =
-    tie.close (tie.spec Inv-loop μ-loop (λ c. search needs) (λ c. search needs) (λ c. search beats) (λ c. search needs) (λ c. search needs) (λ c κs. search needs)
+    tie.close (tie.spec Inv-loop μ-loop (λ c. search needs) (λ c. search needs) (λ c. search beats) (λ c. search needs)
+    (λ c. search needs) (λ c κs. search needs)
     (λ c. search beats) (λ c. search needs) (λ c. search needs) (λ c. search beats) (λ c. search beats))

@@ -6,5 +6,6 @@ use Rattle.legality.proofs.places.near.Tie as tie
 
 pub near-spec : {M : Type 1} → statement M
 near-spec =
-    tie.close (tie.spec (λ c. search near-stay) (λ c. search needs) (λ c. search needs) (λ c. search needs) (λ c. search needs) (λ c κs. search needs)
+    tie.close (tie.spec (λ c. search near-stay) (λ c. search needs) (λ c. search needs) (λ c. search needs) (λ c. search needs)
+    (λ c κs. search needs)
     (λ c. search near-row) (λ c κs. search needs) (λ c. search near-column))
