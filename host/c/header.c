@@ -238,6 +238,16 @@ static void null_pointers(void) {
     CHECK(kalomivund_conflict(none, 0, none, 0, 63) == too_short);
     CHECK(kalomivund_conflict(none, 0, route, KALOMIVUND_ROUTE, 63) == too_short);
     CHECK(kalomivund_conflict(route, KALOMIVUND_ROUTE, nowhere, 0, 63) == too_short);
+
+    CHECK(kalomivund_check_record(NULL, 0, NULL, 0, 1, NULL, 0) == too_short);
+    CHECK(kalomivund_check_record(walled, F, NULL, 0, 1, answers, A) == too_short);
+    CHECK(kalomivund_check_record(floor, F, NULL, 0, 1, NULL, 0) == too_short);
+    CHECK(kalomivund_check_record(floor, F, NULL, 0, 1, answers, A) == DONE(KALOMIVUND_LEGAL_ROUTE, 2));
+    CHECK(kalomivund_check_record(floor, F, NULL, 0, 2, answers, A) == DONE(KALOMIVUND_WRONG_START, 0));
+    CHECK(kalomivund_check_record(floor, F, NULL, 0, 3, answers, A) == REFUSED(7, 0));
+
+    CHECK(kalomivund_arrival(none, 0, 63) == too_short);
+    CHECK(kalomivund_arrival(KALOMIVUND_ANSWER_ROUTE(answers), KALOMIVUND_ROUTE, 4) == DONE(0, 2));
 }
 
 int main(void) {

@@ -80,6 +80,12 @@ static uint64_t conflict(void) {
     const uint16_t *one = KALOMIVUND_ANSWERS_ANSWER(answers, 1), *other = KALOMIVUND_ANSWERS_ANSWER(answers, 2);
     return kalomivund_conflict(KALOMIVUND_ANSWER_ROUTE(one), KALOMIVUND_ROUTE, KALOMIVUND_ANSWER_ROUTE(other), KALOMIVUND_ROUTE, 63);
 }
+static uint64_t check_record(void) {
+    return kalomivund_check_record(FLOOR, 1, KALOMIVUND_ANSWERS_ANSWER(answers, 1), KALOMIVUND_ANSWER);
+}
+static uint64_t arrival(void) {
+    return kalomivund_arrival(KALOMIVUND_ANSWER_ROUTE(KALOMIVUND_ANSWERS_ANSWER(answers, 1)), KALOMIVUND_ROUTE, 63);
+}
 static uint64_t ceiling(void) { return kalomivund_ceiling(8); }
 
 struct job {
@@ -129,7 +135,8 @@ int main(void) {
         {"write_sheet", write_sheet}, {"read_sheet", read_sheet}, {"check_floor", check_floor},
         {"needed_lengths", needed_lengths}, {"plan", plan}, {"search", search}, {"print_routes", print_routes},
         {"fresh", fresh}, {"step (plan)", step_plan}, {"step (deliver)", step_deliver}, {"run", run}, {"trial", trial},
-        {"run_of_rank", run_of_rank}, {"blockers", blockers}, {"conflict", conflict}, {"ceiling", ceiling},
+        {"run_of_rank", run_of_rank}, {"blockers", blockers}, {"conflict", conflict},
+        {"check_record", check_record}, {"arrival", arrival}, {"ceiling", ceiling},
     };
     /* Walls: the last cells of the grid but for the starts and docks there, so that a floor of many walls is read. */
     for (uint16_t c = 544; c < 1024; c++) {

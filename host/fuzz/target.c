@@ -255,7 +255,7 @@ static size_t put_sheet(uint8_t *out, size_t room) {
 
 enum function {
     READ_SHEET, WRITE_SHEET, CHECK_FLOOR, NEEDED_LENGTHS, SEARCH, PLAN, BLOCKERS, PRINT_ROUTES,
-    FRESH, STEP, RUN, TRIAL, RUN_OF_RANK, CONFLICT, CEILING, FUNCTIONS
+    FRESH, STEP, RUN, TRIAL, RUN_OF_RANK, CONFLICT, CEILING, CHECK_RECORD, ARRIVAL, FUNCTIONS
 };
 
 #define R(number) (1u << (number))
@@ -282,6 +282,8 @@ static const struct {
     [RUN_OF_RANK] = {"run_of_rank", FLOORS | R(14) | R(15), 11},
     [CONFLICT] = {"conflict", R(9), 3},
     [CEILING] = {"ceiling", R(2), 0},
+    [CHECK_RECORD] = {"check_record", FLOORS | R(7), 8},
+    [ARRIVAL] = {"arrival", R(9), 0},
 };
 
 /* The drawn call: its function, its numbers beside the lent memory, and what is known of its answer beforehand. */
@@ -314,6 +316,8 @@ static uint64_t answer(void) {
     case TRIAL: return kalomivund_trial(FLOOR_AND_WALLS, call.number, call.seed, p[OUTPUT], n[OUTPUT], p[SECOND], n[SECOND]);
     case RUN_OF_RANK: return kalomivund_run_of_rank(FLOOR_AND_WALLS, call.rank, p[OUTPUT], n[OUTPUT]);
     case CONFLICT: return kalomivund_conflict(p[INPUT], n[INPUT], p[SECOND], n[SECOND], call.number);
+    case CHECK_RECORD: return kalomivund_check_record(FLOOR_AND_WALLS, call.number, p[INPUT], n[INPUT]);
+    case ARRIVAL: return kalomivund_arrival(p[INPUT], n[INPUT], call.number);
     default: return kalomivund_ceiling(call.number);
     }
 }
@@ -432,6 +436,26 @@ static size_t hold_sheet(void) {
     return length;
 }
 
+/* Whether the call takes a floor with its walls, and not a sheet, routes or a number alone. */
+static int takes_floor(void) {
+    enum function f = call.function;
+    return f != READ_SHEET && f != PRINT_ROUTES && f != CONFLICT && f != CEILING && f != ARRIVAL;
+}
+
+/* A record: a tag and a route, at times one that begins at the carrier's start and stays there. */
+static void hold_record(void) {
+    uint16_t *held = numbers(INPUT);
+    unsigned kind = byte();
+    hold_route(INPUT);
+    memmove(held + 1, held, KALOMIVUND_ROUTE * sizeof *held);
+    held[0] = (uint16_t)(kind % 16 == 0 ? two() : kind % 4 ? 2 : kind / 16 % 3);
+    unsigned start = record[START(limited(call.number, 1, carriers()))];
+    if (kind & 64) held[1] = (uint16_t)start;
+    for (unsigned b = 0; (kind & 128) && b < KALOMIVUND_ROUTE; b++) {
+        held[1 + b] = (uint16_t)(b <= record[2] && held[0] == 2 ? start : 0);
+    }
+}
+
 static void draw_call(void) {
     unsigned n = carriers();
     size_t length;
@@ -442,7 +466,7 @@ static void draw_call(void) {
     memset(&call.number, 0, sizeof call - sizeof call.function);
     unsigned number = byte();
     call.number = (uint16_t)(number % 8 == 0 ? two() : 1 + number / 8 % n);
-    if (call.function != READ_SHEET && call.function != PRINT_ROUTES && call.function < CONFLICT) lend_floor();
+    if (takes_floor()) lend_floor();
     switch (call.function) {
     case READ_SHEET:
         length = hold_sheet();
@@ -502,6 +526,15 @@ static void draw_call(void) {
         lend(INPUT, 2, KALOMIVUND_ROUTE, KALOMIVUND_ROUTE, 0);
         lend(SECOND, 2, KALOMIVUND_ROUTE, KALOMIVUND_ROUTE, 0);
         break;
+    case CHECK_RECORD:
+        hold_record();
+        lend(INPUT, 2, RECORD, RECORD, 0);
+        break;
+    case ARRIVAL:
+        hold_route(INPUT);
+        call.number = (uint16_t)(number % 8 == 0 ? two() : number / 4);
+        lend(INPUT, 2, KALOMIVUND_ROUTE, KALOMIVUND_ROUTE, 0);
+        break;
     default: call.number = (uint16_t)(number % 8 == 0 ? two() : number / 8); break;
     }
 }
@@ -522,12 +555,12 @@ static uint64_t plain_refusal(void) {
     if (f == CEILING) return call.number >= 1 && call.number <= 8 ? 0 : refusal(2, 5);
     uint64_t word = 0;
     if (f == NEEDED_LENGTHS) word = lent[THE_FLOOR].length < KALOMIVUND_FLOOR ? refusal(9, 0) : line_1_refusal();
-    else if (f != CONFLICT) word = floors_refusal(lent[THE_FLOOR].length, lent[THE_WALLS].length);
+    else if (takes_floor()) word = floors_refusal(lent[THE_FLOOR].length, lent[THE_WALLS].length);
     if (word) return word;
     for (int k = INPUT; k < LENT; k++) {
         if (lent[k].is_lent && lent[k].length < lent[k].needed && !(f == RUN && k == INPUT)) return refusal(9, 0);
     }
-    if ((f == SEARCH || f == BLOCKERS) && (call.number < 1 || call.number > n)) return refusal(7, 0);
+    if ((f == SEARCH || f == BLOCKERS || f == CHECK_RECORD) && (call.number < 1 || call.number > n)) return refusal(7, 0);
     if (f == STEP && call.is_state_whole && !is_step(call.number)) return refusal(7, 0);
     for (size_t k = 0; f == RUN && call.is_state_whole && k < lent[INPUT].length; k++) {
         if (!is_step(numbers(INPUT)[k])) return refusal(7, k);
@@ -629,6 +662,12 @@ static void hold_done(uint64_t word) {
         if (which < 1 || number <= call.rank) failed("a rank that is not below the number of runs", word);
         break;
     case CONFLICT: most = which ? 63 : 0; break;
+    case CHECK_RECORD:
+        most = which == KALOMIVUND_LEGAL_NONE || which == KALOMIVUND_LEGAL_NOT_HEARD || which == KALOMIVUND_WRONG_TAG ? 0 : 63;
+        if (which == KALOMIVUND_WRONG_DOCK && number != record[2]) failed("a last beat that is not the horizon", word);
+        if (which == KALOMIVUND_LEGAL_ROUTE && numbers(INPUT)[1] != record[START(call.number)]) failed("a route from elsewhere", word);
+        break;
+    case ARRIVAL: most = call.number < 63 ? call.number : 63; break;
     case CEILING:
         most = most_steps(call.number);
         if (number != most) failed("not the formula", word);

@@ -38,7 +38,7 @@
  *   9, 0         other lent memory is too short (for read_sheet the floor and the walls)
  *   10, 0        the lent state is no state of this floor
  *   7, position  a number that names no step of this floor (position in its list, from 0; a single step has 0); the carrier of
- *                search or blockers, 0
+ *                search, blockers or check_record, 0
  *   8, 0         a single step, a plan, of a carrier that is not due
  *   12, carrier  a single step, a delivery, of a channel on which nothing is under way: its addressee
  *   13, carrier  a single step, a plan, of a carrier that is due and has a full channel: the smallest receiver whose channel is full
@@ -151,6 +151,15 @@ extern "C" {
 #define KALOMIVUND_SAME_CELL 1 /* conflict: both routes are in one cell at the beat */
 #define KALOMIVUND_CHANGE_OF_PLACES 2 /* conflict: the routes change places between the beat and the next */
 #define KALOMIVUND_FOLLOWING 3 /* conflict: one route enters, between the beat and the next, the cell that the other leaves */
+#define KALOMIVUND_LEGAL_ROUTE 0     /* check_record: a route of the carrier; number its arrival */
+#define KALOMIVUND_LEGAL_NONE 1      /* check_record: none */
+#define KALOMIVUND_LEGAL_NOT_HEARD 2 /* check_record: not heard */
+#define KALOMIVUND_WRONG_START 3     /* check_record: it does not begin at the carrier's start; number 0 */
+#define KALOMIVUND_WRONG_CELL 4      /* check_record: no cell of the floor, or a wall; number the beat */
+#define KALOMIVUND_WRONG_MOVE 5      /* check_record: no stay and no move to a cell that shares a side; number the beat before it */
+#define KALOMIVUND_WRONG_DOCK 6      /* check_record: it ends at no dock of the carrier; number the horizon */
+#define KALOMIVUND_WRONG_UNUSED 7    /* check_record: other than 0 in an unused place; number the beat of the place */
+#define KALOMIVUND_WRONG_TAG 8       /* check_record: the tag is none of 0, 1 and 2; number 0 */
 
 /* Steps by their numbers; every other number names no step. A carrier outside 1 to 9 gives 0, which names none, so that no carrier
  * number can be taken for another step. */
@@ -302,6 +311,23 @@ uint64_t kalomivund_run_of_rank(const uint16_t *floor, size_t floor_len, const u
  * Done    case 0 free, number 0; case 1 same cell, number the beat; case 2 change of places, case 3 following, number the beat before it.
  * Refused 9 (a or b shorter than 64). */
 uint64_t kalomivund_conflict(const uint16_t *a, size_t a_len, const uint16_t *b, size_t b_len, uint16_t horizon);
+
+/* What a record is for a carrier: a route of it, none, not heard, or no record of the carrier, with the first thing that is wrong. The
+ * tests are made in this order, each over all its beats before the next: the tag; of a route its start, its cells, its moves, its last cell,
+ * the places after the horizon; where there is no route, all 64 places. Case 0 says that the record is a route by all the rules, and no
+ * more: that it is the best one, or free of conflict, is not looked at. Writes nothing.
+ * Takes   record, 65 numbers: an answer, a view or a message, as it came; numbers past 65 are not looked at.
+ * Done    case 0 a route, number its arrival; case 1 none; case 2 not heard; cases 3 to 8 what is wrong, number its first beat.
+ * Refused the floor's refusals; 9 (record shorter than 65); 7, 0 (no such carrier). */
+uint64_t kalomivund_check_record(const uint16_t *floor, size_t floor_len, const uint16_t *walls, size_t walls_len, uint16_t carrier,
+                                 const uint16_t *record, size_t record_len);
+
+/* The arrival of a route: the least beat from which it stays through horizon at the cell where it ends. A horizon above 63 counts as 63.
+ * Writes nothing.
+ * Takes   route, 64 cells, any numbers; numbers past 64 are not looked at.
+ * Done    case 0, number the beat.
+ * Refused 9 (route shorter than 64). */
+uint64_t kalomivund_arrival(const uint16_t *route, size_t route_len, uint16_t horizon);
 
 /* The most steps that so many carriers can take from the fresh state, 2^(n + 1) - n - 2:
  * 1, 4, 11, 26, 57, 120, 247, 502 for 1 to 8, as the commissioning handbook prints them.

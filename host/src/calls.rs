@@ -160,6 +160,27 @@ pub fn conflict(a: &[u16], b: &[u16], horizon: u16) -> u64 {
     unsafe { raw::kalomivund_conflict(a.as_ptr(), a.len(), b.as_ptr(), b.len(), horizon) }
 }
 
+/// What a record of 65 numbers is for a carrier: case 0 a route, number its arrival; 1 none; 2 not heard; 3 to 8 what is wrong, number the
+/// beat.
+pub fn check_record(floor: &[u16], walls: &[u16], carrier: u16, record: &[u16]) -> u64 {
+    unsafe {
+        raw::kalomivund_check_record(
+            floor.as_ptr(),
+            floor.len(),
+            walls.as_ptr(),
+            walls.len(),
+            carrier,
+            record.as_ptr(),
+            record.len(),
+        )
+    }
+}
+
+/// The arrival of a route: number the beat.
+pub fn arrival(route: &[u16], horizon: u16) -> u64 {
+    unsafe { raw::kalomivund_arrival(route.as_ptr(), route.len(), horizon) }
+}
+
 /// The most steps of so many carriers: number the steps.
 pub fn ceiling(carriers: u16) -> u64 {
     unsafe { raw::kalomivund_ceiling(carriers) }

@@ -1,6 +1,6 @@
 //! A floor that the checks have accepted, and what is asked of it.
 
-use crate::{calls, Answers, Carriers, Order, Refusal, Report, Route, State, View};
+use crate::{calls, Answers, Carriers, Legality, Order, Refusal, Report, Route, State, View};
 use crate::{ANSWER, CARRIERS, DOCKS, FLOOR, LENGTHS, MOST_ANSWERS, ROUTE};
 
 /// The numbers of line 1 that no list tells.
@@ -250,6 +250,25 @@ impl<'w> Floor<'w> {
         }
         let done = calls::read(calls::search(&self.record, self.walls, carrier, &numbers, &mut route))?;
         Ok((done.case == 1).then_some(route))
+    }
+
+    /// What a record is for a carrier, from 1: a route of it with its arrival, none, not heard, or what is wrong first. Of the record 65
+    /// numbers are looked at. Refusals 9 for fewer, then 7 for a carrier that is not there.
+    ///
+    /// ```
+    /// use kalomivund::{Carrier, Dimensions, Fault, Floor, Legality, ANSWER};
+    ///
+    /// let dimensions = Dimensions { width: 3, height: 2, horizon: 4, depth: 1 };
+    /// let floor = Floor::new(dimensions, &[Carrier { start: 0, docks: &[2] }], &[])?;
+    /// let mut record = [0; ANSWER];
+    /// record[..6].copy_from_slice(&[2, 0, 1, 2, 2, 2]);
+    /// assert_eq!(floor.check_record(1, &record)?, Legality::Route { arrival: 2 });
+    /// record[3] = 5; // from cell 1 to cell 5 is over a corner
+    /// assert_eq!(floor.check_record(1, &record)?, Legality::Wrong(Fault::Move(1)));
+    /// # Ok::<(), kalomivund::Refusal>(())
+    /// ```
+    pub fn check_record(&self, carrier: u16, record: &[u16]) -> Result<Legality, Refusal> {
+        calls::read(calls::check_record(&self.record, self.walls, carrier, record)).map(Legality::of_done)
     }
 
     /// Plans all carriers in turn into lent memory. A carrier with none stays at its start: those below it keep off it, one above it

@@ -46,7 +46,7 @@ mod step;
 
 pub use floor::{print_routes, Blockers, Carrier, Dimensions, Floor, Lengths, Listed, Planned, Trial};
 pub use refusal::Refusal;
-pub use route::{conflict, Answer, Answers, Carriers, Conflict, Route, View};
+pub use route::{arrival, conflict, Answer, Answers, Carriers, Conflict, Fault, Legality, Route, View};
 pub use state::{ceiling, Channel, End, Ran, State};
 pub use step::{Order, Report, Step, Stepped, UnknownStep};
 

@@ -412,6 +412,50 @@ pub fn first_conflict(a: &[u16], b: &[u16], horizon: usize) -> Option<(usize, Ki
     same.chain(change).chain(following).min()
 }
 
+/// What a record is for a carrier.
+#[derive(Clone, Copy, PartialEq, Eq, Debug)]
+pub enum Told {
+    Route {
+        arrival: usize,
+    },
+    None,
+    NotHeard,
+    /// The number of the first cause, and its first beat.
+    Wrong(u64, usize),
+}
+
+/// What a record, a tag and 64 numbers, is for a carrier (from 0) of a floor: of all that is wrong with it the least by cause and beat.
+pub fn told_by(floor: &Floor, carrier: usize, tag: u16, cells: &Route) -> Told {
+    let horizon = floor.horizon;
+    let at = |t: usize| cells[t] as usize;
+    let mut wrong = Vec::new();
+    if tag > 2 {
+        return Told::Wrong(8, 0);
+    }
+    let first_unused = if tag == 2 { horizon + 1 } else { 0 };
+    if tag == 2 {
+        if at(0) != floor.starts[carrier] {
+            wrong.push((3, 0));
+        }
+        let stands = |t: &usize| at(*t) < floor.cells() && !floor.walls.contains(&at(*t));
+        wrong.extend((0..=horizon).filter(|t| !stands(t)).map(|t| (4, t)));
+        // A stay or a move by one column or by one row.
+        let (column, row) = (|t: usize| at(t) % floor.width, |t: usize| at(t) / floor.width);
+        let far = |t: &usize| column(*t).abs_diff(column(t + 1)) + row(*t).abs_diff(row(t + 1));
+        wrong.extend((0..horizon).filter(|t| far(t) > 1).map(|t| (5, t)));
+        if !floor.docks[carrier].contains(&at(horizon)) {
+            wrong.push((6, horizon));
+        }
+    }
+    wrong.extend((first_unused..64).filter(|&t| at(t) != 0).map(|t| (7, t)));
+    match (wrong.into_iter().min(), tag) {
+        (Some((cause, beat)), _) => Told::Wrong(cause, beat),
+        (None, 2) => Told::Route { arrival: arrival_of(cells, horizon) },
+        (None, 1) => Told::None,
+        (None, _) => Told::NotHeard,
+    }
+}
+
 /// Where a carrier (from 0) is for those below it, by its answer: on its route, or at its start at every beat if it has none.
 pub fn occupied(floor: &Floor, carrier: usize, answer: Answer) -> Route {
     answer.unwrap_or([floor.starts[carrier] as u16; 64])
@@ -1189,6 +1233,32 @@ pub mod calls {
                 Some((beat, Kind::ChangeOfPlaces)) => done(2, beat),
                 Some((beat, Kind::Following)) => done(3, beat),
             })
+        })())
+    }
+
+    pub fn check_record(floor: &[u16], walls: &[u16], carrier: u16, record: &[u16]) -> u64 {
+        word((|| {
+            let floor = lent(floor, walls)?;
+            long_enough(record.len() < 65)?;
+            let carrier = carrier as usize;
+            if carrier < 1 || carrier > floor.carriers() {
+                return refuse(7, 0);
+            }
+            let cells: &Route = record[1..65].try_into().expect("a record has 64 cells");
+            Ok(match told_by(&floor, carrier - 1, record[0], cells) {
+                Told::Route { arrival } => done(0, arrival),
+                Told::None => done(1, 0),
+                Told::NotHeard => done(2, 0),
+                Told::Wrong(cause, beat) => done(cause, beat),
+            })
+        })())
+    }
+
+    pub fn arrival(route: &[u16], horizon: u16) -> u64 {
+        word((|| {
+            long_enough(route.len() < 64)?;
+            let cells: &Route = route[..64].try_into().expect("a route has 64 cells");
+            Ok(done(0, arrival_of(cells, (horizon as usize).min(63))))
         })())
     }
 

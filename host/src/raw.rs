@@ -128,6 +128,21 @@ extern "C" {
     /// The first conflict of two routes: case 0 free, 1 same cell, 2 change of places, 3 following; number the beat.
     pub fn kalomivund_conflict(a: *const u16, a_len: usize, b: *const u16, b_len: usize, horizon: u16) -> u64;
 
+    /// What a record of 65 numbers is for a carrier: case 0 a route, number its arrival; 1 none; 2 not heard; 3 to 8 what is wrong, number
+    /// the beat.
+    pub fn kalomivund_check_record(
+        floor: *const u16,
+        floor_len: usize,
+        walls: *const u16,
+        walls_len: usize,
+        carrier: u16,
+        record: *const u16,
+        record_len: usize,
+    ) -> u64;
+
+    /// The arrival of a route: number the beat.
+    pub fn kalomivund_arrival(route: *const u16, route_len: usize, horizon: u16) -> u64;
+
     /// The most steps of so many carriers: number the steps.
     pub fn kalomivund_ceiling(carriers: u16) -> u64;
 }

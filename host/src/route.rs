@@ -1,4 +1,4 @@
-//! Routes, answers, views, sets of carriers, and the first conflict of two routes.
+//! Routes, answers, views, sets of carriers, the first conflict of two routes, what a record is, and the arrival of a route.
 
 use core::fmt;
 
@@ -193,4 +193,89 @@ pub fn conflict(a: &Route, b: &Route, horizon: u16) -> Option<Conflict> {
         3 => Some(Conflict::Following(beat)),
         _ => None,
     }
+}
+
+/// What a record of 65 numbers is for a carrier of a floor.
+#[derive(Clone, Copy, PartialEq, Eq, Hash, Debug)]
+pub enum Legality {
+    /// A route of the carrier.
+    Route {
+        /// Its arrival.
+        arrival: u16,
+    },
+    /// None.
+    None,
+    /// Not heard.
+    NotHeard,
+    /// No record of the carrier: the first thing that is wrong.
+    Wrong(
+        /// What is wrong.
+        Fault,
+    ),
+}
+
+/// What is wrong first with a record, in this order, each with its first beat.
+#[derive(Clone, Copy, PartialEq, Eq, Hash, Debug)]
+pub enum Fault {
+    /// The tag is none of 0, 1 and 2.
+    Tag,
+    /// It does not begin at the carrier's start.
+    Start,
+    /// At this beat it is at no cell of the floor, or on a wall.
+    Cell(
+        /// The beat.
+        u16,
+    ),
+    /// After this beat it neither stays nor goes to a cell that shares a side.
+    Move(
+        /// The beat before the move.
+        u16,
+    ),
+    /// At the horizon it is at no dock of the carrier.
+    Dock(
+        /// The horizon.
+        u16,
+    ),
+    /// A number other than 0 in an unused place: after the horizon of a route, or where there is no route.
+    Unused(
+        /// The beat of the place.
+        u16,
+    ),
+}
+
+impl Legality {
+    /// What the word of a check says.
+    pub(crate) fn of_done(done: calls::Done) -> Legality {
+        let beat = done.number as u16;
+        match done.case {
+            0 => Legality::Route { arrival: beat },
+            1 => Legality::None,
+            2 => Legality::NotHeard,
+            3 => Legality::Wrong(Fault::Start),
+            4 => Legality::Wrong(Fault::Cell(beat)),
+            5 => Legality::Wrong(Fault::Move(beat)),
+            6 => Legality::Wrong(Fault::Dock(beat)),
+            7 => Legality::Wrong(Fault::Unused(beat)),
+            _ => Legality::Wrong(Fault::Tag),
+        }
+    }
+}
+
+impl fmt::Display for Fault {
+    fn fmt(&self, f: &mut fmt::Formatter) -> fmt::Result {
+        match self {
+            Fault::Tag => write!(f, "no such tag"),
+            Fault::Start => write!(f, "it does not begin at the start"),
+            Fault::Cell(beat) => write!(f, "no cell of the floor, or a wall, at beat {beat}"),
+            Fault::Move(beat) => write!(f, "no stay and no move across a side after beat {beat}"),
+            Fault::Dock(beat) => write!(f, "no dock at beat {beat}"),
+            Fault::Unused(beat) => write!(f, "a number in the unused place of beat {beat}"),
+        }
+    }
+}
+
+/// The arrival of a route: the least beat from which it stays through the horizon, one above 63 counting as 63, at the cell where it ends.
+/// Any 64 numbers are taken as they stand.
+pub fn arrival(route: &Route, horizon: u16) -> u16 {
+    calls::read(calls::arrival(route, horizon)).map_or(0, |done| done.number as u16)
 }

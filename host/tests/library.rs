@@ -445,6 +445,81 @@ fn conflicts_of_two_routes() {
     assert_eq!(refused(calls::read(calls::conflict(&a, &b[1..], 4))), (9, 0));
 }
 
+/// What a record is for a carrier: each case, each cause with its first beat, the order of the causes, and the refusals.
+#[test]
+fn records_of_a_carrier() {
+    let dimensions = Dimensions { width: 3, height: 2, horizon: 4, depth: 1 };
+    let floor = Floor::new(dimensions, &[Carrier { start: 0, docks: &[2] }], &[4]).unwrap();
+    let check = |numbers: &[u16]| {
+        let mut record = [0; ANSWER];
+        record[..numbers.len()].copy_from_slice(numbers);
+        floor.check_record(1, &record).unwrap()
+    };
+    let wrong = |numbers: &[u16]| match check(numbers) {
+        Legality::Wrong(fault) => fault,
+        other => panic!("{other:?}"),
+    };
+    assert_eq!(check(&[2, 0, 1, 2, 2, 2]), Legality::Route { arrival: 2 });
+    assert_eq!(check(&[2, 0, 1, 2, 1, 2]), Legality::Route { arrival: 4 });
+    assert_eq!((check(&[1]), check(&[0])), (Legality::None, Legality::NotHeard));
+    assert_eq!(wrong(&[3, 0, 1, 2, 2, 2]), Fault::Tag);
+    assert_eq!(wrong(&[2, 1, 2, 2, 2, 2]), Fault::Start);
+    assert_eq!((wrong(&[2, 0, 3, 4, 5, 2]), wrong(&[2, 0, 1, 2, 5, 6])), (Fault::Cell(2), Fault::Cell(4)));
+    assert_eq!((wrong(&[2, 0, 1, 5, 2, 2]), wrong(&[2, 0, 1, 2, 3, 2])), (Fault::Move(1), Fault::Move(2)));
+    assert_eq!(wrong(&[2, 0, 1, 1, 1, 1]), Fault::Dock(4));
+    assert_eq!((wrong(&[2, 0, 1, 2, 2, 2, 7]), wrong(&[1, 0, 9])), (Fault::Unused(5), Fault::Unused(1)));
+    assert_eq!(wrong(&[0, 3]), Fault::Unused(0));
+    assert_eq!((wrong(&[2, 1, 9, 9, 9, 9, 9]), wrong(&[2, 0, 5, 5, 5, 9, 9])), (Fault::Start, Fault::Cell(4)));
+    assert_eq!(wrong(&[2, 0, 1, 5, 2, 2]).to_string(), "no stay and no move across a side after beat 1");
+    assert_eq!((refused(floor.check_record(1, &[0; 64])), refused(floor.check_record(2, &[0; 65]))), ((9, 0), (7, 0)));
+    let mut route = [0; ROUTE];
+    route[..5].copy_from_slice(&[0, 1, 2, 1, 2]);
+    assert_eq!((arrival(&route, 4), arrival(&route, 2), arrival(&route, 0), arrival(&route, u16::MAX)), (4, 2, 0, 5));
+}
+
+/// The joint plans of docs/COMPARISON.md, which prioritized planning does not find, are routes of their carriers, and free of conflict.
+#[test]
+fn joint_plans_of_the_samples() {
+    let plans: [(&[u8], &[(u16, &[u16])]); 3] = [
+        (
+            include_bytes!("../../samples/corridor-swap.sheet"),
+            &[(1, &[0, 0, 0, 1, 2, 3, 4, 4, 4, 5, 6]), (2, &[6, 5, 4, 3, 11, 11, 11, 3, 2, 1, 0])],
+        ),
+        (
+            include_bytes!("../../samples/corridor-swap.sheet"),
+            &[
+                (7, &[72, 72, 73, 74, 75, 76, 77, 77, 77, 77, 78, 79]),
+                (8, &[79, 78, 77, 76, 84, 84, 84, 76, 75, 74, 73, 72]),
+            ],
+        ),
+        (
+            include_bytes!("../../samples/intersection.sheet"),
+            &[
+                (5, &[86, 87, 88, 89, 90, 91, 92, 92, 92, 92, 92, 92, 92, 91, 92, 93, 94]),
+                (6, &[92, 91, 90, 71, 52, 33, 52, 71, 90, 89, 88, 87, 86, 86, 86, 86, 86]),
+                (7, &[14, 14, 14, 14, 14, 14, 14, 33, 52, 71, 90, 109, 109, 109, 128, 147, 166]),
+                (8, &[166, 147, 128, 109, 109, 109, 90, 91, 91, 91, 91, 91, 90, 71, 52, 33, 14]),
+            ],
+        ),
+    ];
+    for (sheet, team) in plans {
+        let mut walls = [0; MOST_WALLS];
+        let floor = Floor::read_sheet(sheet, &mut walls).unwrap();
+        let horizon = floor.dimensions().horizon;
+        let mut routes: Vec<Route> = Vec::new();
+        for &(carrier, cells) in team {
+            let mut route = [0; ROUTE];
+            let last = *cells.last().unwrap();
+            route[..=usize::from(horizon)].fill(last);
+            route[..cells.len()].copy_from_slice(cells);
+            let record = [&[2], &route[..]].concat();
+            assert!(matches!(floor.check_record(carrier, &record), Ok(Legality::Route { .. })), "carrier {carrier}");
+            assert!(routes.iter().all(|other| conflict(&route, other, horizon).is_none()), "carrier {carrier}");
+            routes.push(route);
+        }
+    }
+}
+
 /// Who shuts a carrier in: one, two together, walls or the horizon, the one that the order keeps; 7 before 16, and memory as found.
 #[test]
 fn who_shuts_a_carrier_in() {
@@ -642,6 +717,9 @@ fn null_pointers_with_length_0() {
         assert_eq!(kalomivund_conflict(null(), 0, null(), 0, 63), short);
         assert_eq!(kalomivund_conflict(m, ROUTE, null(), 0, 63), short);
         assert_eq!(kalomivund_conflict(null(), 0, m, ROUTE, 63), short);
+        assert_eq!(kalomivund_check_record(null(), 0, null(), 0, 1, null(), 0), short);
+        assert_eq!(kalomivund_check_record(f, n, null(), 0, 1, null(), 0), short);
+        assert_eq!(kalomivund_arrival(null(), 0, 63), short);
     }
 }
 

@@ -11,6 +11,7 @@ use Rattle.floor.proofs.CheckMeans.{absent-means}
 use Rattle.route.proofs.Theorems.{theorems as route-theorems}
 use Rattle.search.specs.Task.{taskOf}
 use Rattle.search.proofs.Theorems.{theorems as search-theorems}
+use Rattle.legality.proofs.Theorems.{theorems as legality-theorems}
 use Rattle.planner.specs.Answers.{planResult}
 use Rattle.planner.proofs.Theorems.{theorems as planner-theorems}
 use Rattle.printing.proofs.Theorems.{theorems as printing-theorems}
@@ -50,5 +51,10 @@ theorem =
       conflict-test = route-theorems .conflict-test;
       plan-free = λ f ws j k r q ok l h e g.
           route-theorems .conflict-test (f .horizon) r q .free-exactly .1 (planner-theorems .conflict-free f ws j k r q ok l h e g);
+      record-route = legality-theorems .legal-exactly;
+      record-none = legality-theorems .none-exactly;
+      record-unheard = legality-theorems .unheard-exactly;
+      record-wrong = legality-theorems .wrong-exactly;
+      found-legal = legality-theorems .found-legal;
       same-floor = λ f ws g vs same lent lent′. same-answers f ws g vs same lent lent′;
     }

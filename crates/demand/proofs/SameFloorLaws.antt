@@ -4,7 +4,7 @@ use native.Mathlib.Omega.{arith}
 use mathlib.Core.List.{List, [], _++_}
 use mathlib.Core.Path.{_≡_, refl, _∙_, ap, ap₂}
 use lib.ListN.{length, getD}
-use Rattle.laws.specs.Verdict.{Verdict, _gives_, All}
+use Rattle.laws.specs.Verdict.{Verdict, passed, _gives_, All}
 use Rattle.laws.proofs.VerdictLaws.{gives-same}
 use Rattle.floor.specs.declared.Floor.{Floor}
 use Rattle.floor.specs.Checks.{checkOf, limitsOf, countOf}
@@ -12,13 +12,16 @@ use Rattle.floor.specs.Accepted.{SameDocks}
 use Rattle.sheet.specs.Text.{carrierAt, wallAt, sheetLength, linesOf}
 use Rattle.sheet.specs.Read.{writeVerdict}
 use Rattle.sheet.proofs.LinesText.{lines-same}
-use Rattle.route.specs.Route.{View, Answer, none, route}
+use Rattle.route.specs.Route.{View, Answer, none, route, Task}
+use Rattle.search.specs.Task.{taskOf}
 use Rattle.search.specs.Search.{searchOf}
+use Rattle.legality.specs.Entry.{recordAnswer, recordVerdict, recordOutcome}
+use Rattle.legality.proofs.EntryLaws.{verdict-granted}
 use Rattle.planner.specs.Plan.{respondOf, planOf, planVerdict, failingOf}
 use Rattle.planner.specs.Answers.{planResult}
 use Rattle.planner.specs.Records.{planMemory}
 use Rattle.planner.specs.Claims.{AgreeUpTo, answerAt}
-use Rattle.planner.proofs.DependsLaws.{respond-same, plans-agree, searches-agree}
+use Rattle.planner.proofs.DependsLaws.{task-same, respond-same, plans-agree, searches-agree}
 use Rattle.printing.specs.Text.{answerLine, firstLine, routesText}
 use Rattle.printing.specs.Print.{printOf, textLength, printVerdict, printOutcome, printAnswers, printMemory}
 use Rattle.lengths.specs.Figures.{figuresFor, lengthsOf}
@@ -214,6 +217,20 @@ module _ (f : Floor) (ws : List ℕ) (g : Floor) (vs : List ℕ) (same : SameDoc
         gives-same (blockersVerdict f ws carrier room) _ _ (set-same f ws g vs plans responses carrier room)
         ∙ ap (λ (v : Verdict). v gives blockersOf g vs (carrier - 1)) (blockers-verdict carrier room)
 
+    -- A record that is checked is one of a carrier that is there.
+    record-task : (carrier room : ℕ) → recordVerdict f ws carrier room ≡ passed → taskOf f ws carrier ≡ taskOf g vs carrier
+    record-task carrier room e =
+        let listed = verdict-granted f ws carrier room e .listed in
+        let one : carrier - 1 + 1 ≡ carrier = omega (arith, listed .0) in
+        rw one at (task-same (f .carriers) f ws g vs agrees (carrier - 1) (omega (arith, listed .0, listed .1)))
+
+    check-record : (carrier : ℕ) (m : List ℕ) → recordOutcome f ws carrier m ≡ recordOutcome g vs carrier m
+    unfolding recordOutcome recordVerdict
+    check-record carrier m =
+        gives-same (recordVerdict f ws carrier (length m)) _ _
+        (λ e. ap (λ (task : Task). recordAnswer task m) (record-task carrier (length m) e))
+        ∙ rw (checks, same .carriers) refl
+
     pub same-outcomes : SameOutcomes f ws g vs
     unfolding printOutcome printAnswers printMemory freshMemory blockersMemory
     same-outcomes =
@@ -237,5 +254,6 @@ module _ (f : Floor) (ws : List ℕ) (g : Floor) (vs : List ℕ) (same : SameDoc
           run-of-rank = run-of-rank;
           run-report = run-report;
           blockers = blockers;
+          check-record = check-record;
           blockers-answers = λ carrier old. rw (blockers-verdict carrier (length old), plans);
         }

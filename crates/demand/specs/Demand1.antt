@@ -16,6 +16,7 @@ use Rattle.sheet.specs.Refused.{RefusedSheet}
 use Rattle.route.specs.Route.{none}
 use Rattle.conflict.specs.Entry.{conflictOutcome}
 use Rattle.search.specs.Search.{searchOf}
+use Rattle.legality.specs.Entry.{recordOutcome, arrivalOutcome}
 use Rattle.planner.specs.Answers.{planResult}
 use Rattle.planner.specs.Records.{planMemory}
 use Rattle.planner.specs.Plan.{planOf}
@@ -56,6 +57,11 @@ module _ (f : Floor) (ws : List ℕ) where
   abbrev pub SearchRows : ℕ → ℕ → Table
   SearchRows i room = PlanRows room orElse Row 7 0 (Within 1 (f .carriers) i → ⊥)
 
+  -- The check of a record, which has a tag besides the cells of a route.
+  abbrev pub RecordRows : (carrier lent : ℕ) → Table
+  RecordRows carrier lent =
+      RefusedFloor f ws orElse Short lent (lengthsOf f .route + 1) orElse Row 7 0 (Within 1 (f .carriers) carrier → ⊥)
+
   -- 16, 0: the carrier has a route (document 02, slip 8).
   abbrev pub BlockersRows : (carrier room : ℕ) → Table
   BlockersRows carrier room = SearchRows carrier room orElse Row 16 0 (answerAt (planOf f ws) (carrier - 1) ≡ none → ⊥)
@@ -83,6 +89,10 @@ module _ (f : Floor) (ws : List ℕ) where
 -- The conflict test of two lent routes (document 02, slip 7): 9 for either, below the figure for a route.
 abbrev pub ConflictRows : Floor → (first second : ℕ) → Table
 ConflictRows f first second = Short first (lengthsOf f .route) orElse Short second (lengthsOf f .route)
+
+-- The arrival of a lent route: 9 below the figure for a route.
+abbrev pub ArrivalRows : Floor → (lent : ℕ) → Table
+ArrivalRows f lent = Short lent (lengthsOf f .route)
 
 abbrev pub ReadRows : List ℕ → ℕ → Table
 ReadRows text room = RefusedSheet text orElse Short room (lengthsOf (floorAt text) .walls)
@@ -145,3 +155,7 @@ pub record Demand1 : Type 0 where
       → Keeps (BlockersRows f ws carrier (length old)) (lengthsOf f .answers) old (blockersMemory f ws carrier old)
   -- The conflict test of two lent routes, which writes no memory.
   pub conflict : (f : Floor) (a b : List ℕ) (horizon : ℕ) → Answers (conflictOutcome a b horizon) (ConflictRows f (length a) (length b))
+  -- The check of a record and the arrival of a lent route, which write no memory.
+  pub check-record : (f : Floor) (ws : List ℕ) (carrier : ℕ) (m : List ℕ)
+      → Answers (recordOutcome f ws carrier m) (RecordRows f ws carrier (length m))
+  pub arrival : (f : Floor) (r : List ℕ) (horizon : ℕ) → Answers (arrivalOutcome r horizon) (ArrivalRows f (length r))

@@ -15,13 +15,17 @@ use Rattle.route.specs.Best.{Arrives, Admissible, Best}
 use Rattle.route.specs.Arrival.{arrivalOf}
 use Rattle.route.specs.FirstConflict.{free}
 use Rattle.route.specs.ConflictTest.{firstConflict, TestedFor}
-use Rattle.records.specs.Records.{records, viewsOf}
+use Rattle.laws.specs.Memory.{part}
+use Rattle.records.specs.Records.{recordOf, slot, records, viewsOf}
 use Rattle.records.specs.Seen.{seenFrom, seen}
 use Rattle.sheet.specs.Text.{sheetLength}
 use Rattle.sheet.specs.Values.{floorAt, wallsAt}
 use Rattle.sheet.specs.Read.{sheetVerdict, readVerdict, readFloor, readWalls, writeVerdict, writeSheet}
 use Rattle.search.specs.Task.{taskOf}
 use Rattle.search.specs.Search.{searchOf}
+use Rattle.legality.specs.Entry.{aRoute, aNone, notHeard, wrong, recordOutcome}
+use Rattle.legality.specs.Faults.{FaultAt}
+use Rattle.legality.specs.Claims.{Asked, RouteIn}
 use Rattle.planner.specs.Plan.{respondOf, planOf, failingOf}
 use Rattle.planner.specs.Answers.{planResult}
 use Rattle.planner.specs.Records.{planMemory}
@@ -63,6 +67,7 @@ pub record SameOutcomes (f : Floor) (ws : List ℕ) (g : Floor) (vs : List ℕ) 
   pub run-of-rank : (rank report : ℕ) → rankOutcome f ws rank report ≡ rankOutcome g vs rank report
   pub run-report : (rank : ℕ) (old : List ℕ) → reportListed f ws rank old ≡ reportListed g vs rank old
   pub blockers : (carrier room : ℕ) → blockersOutcome f ws carrier room ≡ blockersOutcome g vs carrier room
+  pub check-record : (carrier : ℕ) (m : List ℕ) → recordOutcome f ws carrier m ≡ recordOutcome g vs carrier m
   pub blockers-answers : (carrier : ℕ) (old : List ℕ) → blockersMemory f ws carrier old ≡ blockersMemory g vs carrier old
 
 -- With the sheet.
@@ -125,3 +130,15 @@ pub record Demand2 : Type 0 where
   pub conflict-test : (H : ℕ) (a b : List ℕ) → TestedFor H a b
   pub plan-free : (f : Floor) (ws : List ℕ) (j k : ℕ) (r q : List ℕ) → checkOf f ws ≡ passed → j < k → k < f .carriers →
       answerAt (planOf f ws) j ≡ route q → answerAt (planOf f ws) k ≡ route r → firstConflict (f .horizon) r q ≡ free
+  -- The check of a record: a route is answered exactly if it is one of the carrier, with its arrival, none and not heard exactly of their
+  -- records, and what is wrong exactly under the condition of its cause, with its first beat; every route that a search answers is one.
+  pub record-route : (f : Floor) (ws : List ℕ) (i : ℕ) (m : List ℕ) (a : ℕ) →
+      (recordOutcome f ws i m ≡ value (aRoute a)) ↔ RouteIn f ws i m a
+  pub record-none : (f : Floor) (ws : List ℕ) (i : ℕ) (m : List ℕ) →
+      (recordOutcome f ws i m ≡ value aNone) ↔ (Asked f ws i m × (part m 0 65 ≡ recordOf none))
+  pub record-unheard : (f : Floor) (ws : List ℕ) (i : ℕ) (m : List ℕ) →
+      (recordOutcome f ws i m ≡ value notHeard) ↔ (Asked f ws i m × (part m 0 65 ≡ slot unheard))
+  pub record-wrong : (f : Floor) (ws : List ℕ) (i : ℕ) (m : List ℕ) (k t : ℕ) →
+      (recordOutcome f ws i m ≡ value (wrong k t)) ↔ (Asked f ws i m × FaultAt (taskOf f ws i) (getD m 0 0) (part m 1 64) k t)
+  pub found-legal : (f : Floor) (ws : List ℕ) (i : ℕ) (m r : List ℕ) → searchOf f ws i m ≡ value (route r) →
+      recordOutcome f ws i (2 ∷ r) ≡ value (aRoute (arrivalOf r (f .horizon)))

@@ -10,7 +10,8 @@ use Rattle.reference.specs.Quiet.{ceiling}
 use Rattle.machine.specs.Ceiling.{mostSteps}
 use Rattle.wire.specs.Word.{packed, cappedAt, wordOf, mapOutcome, ofNumber}
 use Rattle.wire.proofs.WordLaws.{capped-same}
-use Rattle.kalomivund.specs.Answers.{ofSearch, answerDone, ofReply, toldDone, stepCase, endCase, ofRank, figuresDone, ofConflict, conflictDone}
+use Rattle.kalomivund.specs.Answers.{ofSearch, answerDone, ofReply, toldDone, stepCase, endCase, ofRank, figuresDone}
+use Rattle.kalomivund.specs.Answers.{ofConflict, conflictDone, ofRecord, recordDone}
 use Rattle.kalomivund.specs.Entries.{ceilingWord}
 use Rattle.kalomivund.specs.Claims.{Claims}
 use Rattle.kalomivund.proofs.LentLaws.{read-record, read-walls, write-sheet, needed-lengths, search, plan, fresh, print-routes}
@@ -21,13 +22,13 @@ use Rattle.kalomivund.proofs.BlockerLaws.{blockers}
 use Rattle.kalomivund.proofs.ShortLaws.{record-short, read-record-short, route-short, figures-short}
 
 -- A run's number has room in a word.
-run-word : (c t : ℕ) → c ≤ 3 → t ≤ 65535 → packed 0 c t ≡ 256 * c + 65536 * t
+run-word : (c t : ℕ) → c ≤ 8 → t ≤ 65535 → packed 0 c t ≡ 256 * c + 65536 * t
 unfolding packed
 run-word c t lc lt = rw (capped-same 255 c (omega arith), capped-same 281474976710655 t (omega arith)) (omega arith)
 
 pub theorems : Claims
 unfolding lengthsOf ceilingWord mostSteps ceiling demand within _gives_ ofNumber ofSearch answerDone ofReply toldDone stepCase endCase
-    ofRank figuresDone ofConflict conflictDone mapOutcome wordOf packed cappedAt
+    ofRank figuresDone ofConflict conflictDone ofRecord recordDone mapOutcome wordOf packed cappedAt
 theorems =
     record {
       read-record = read-record;
@@ -62,6 +63,11 @@ theorems =
       same-cell-word = λ t l. run-word 1 t (omega arith) (omega arith);
       change-word = λ t l. run-word 2 t (omega arith) (omega arith);
       following-word = λ t l. run-word 3 t (omega arith) (omega arith);
+      legal-word = λ a l. run-word 0 a (omega arith) (omega arith) ∙ zero-add (65536 * a);
+      legal-none-word = refl;
+      unheard-word = refl;
+      wrong-word = λ k t l h. run-word k t l (omega arith);
+      arrival-word = λ a l. run-word 0 a (omega arith) (omega arith) ∙ zero-add (65536 * a);
       set-word = refl;
       cause-word = refl;
       early-word = refl;

@@ -11,6 +11,7 @@ use Rattle.reference.specs.Take.{StepAnswer, kept, sent, delivered}
 use Rattle.reference.specs.Ending.{Ending, silent, spent, ended}
 use Rattle.reference.specs.Calls.{Told, Reply, stepped, ran}
 use Rattle.lister.specs.Entry.{Figures}
+use Rattle.legality.specs.Entry.{RecordAnswer, aRoute, aNone, notHeard, wrong}
 use Rattle.wire.specs.Word.{Done, done, mapOutcome}
 
 -- A search: case 0 none, case 1 a route.
@@ -66,3 +67,13 @@ conflictDone (dated t following) = done 3 t
 
 unfoldable pub ofConflict : Outcome ConflictAnswer → Outcome Done
 ofConflict o = mapOutcome conflictDone o
+
+-- The check of a record: case 0 a route with its arrival, 1 none, 2 not heard, 3 to 8 the cause of what is wrong, with its beat.
+unfoldable pub recordDone : RecordAnswer → Done
+recordDone (aRoute a) = done 0 a
+recordDone aNone = done 1 0
+recordDone notHeard = done 2 0
+recordDone (wrong k t) = done k t
+
+unfoldable pub ofRecord : Outcome RecordAnswer → Outcome Done
+ofRecord o = mapOutcome recordDone o

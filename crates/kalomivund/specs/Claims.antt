@@ -16,9 +16,10 @@ use Rattle.lengths.specs.Figures.{lengthsOf}
 use Rattle.reference.specs.Take.{kept, sent, delivered}
 use Rattle.reference.specs.Ending.{silent, spent, ended}
 use Rattle.reference.specs.Calls.{stepped, ran}
+use Rattle.legality.specs.Entry.{aRoute, aNone, notHeard, wrong}
 use Rattle.wire.specs.Word.{wordOf, ofNumber}
 use Rattle.wire.specs.Record.{floorOf, recordLent}
-use Rattle.kalomivund.specs.Answers.{ofSearch, ofReply, ofRank, ofConflict}
+use Rattle.kalomivund.specs.Answers.{ofSearch, ofReply, ofRank, ofConflict, ofRecord}
 use Rattle.kalomivund.specs.Entries.{readLent, readWord, readRecord, readStored, writeWord, writeStored}
 use Rattle.kalomivund.specs.Entries.{neededVerdict, neededWord, neededStored, searchLent, searchWord, searchStored}
 use Rattle.kalomivund.specs.Entries.{planWord, planStored, printWord, printStored, freshWord, freshStored}
@@ -86,6 +87,12 @@ pub record Claims : Type 0 where
   pub same-cell-word : (t : ℕ) → t ≤ 63 → wordOf (ofConflict (value (dated t sameCell))) ≡ 256 + 65536 * t
   pub change-word : (t : ℕ) → t ≤ 63 → wordOf (ofConflict (value (dated t changeOfPlaces))) ≡ 512 + 65536 * t
   pub following-word : (t : ℕ) → t ≤ 63 → wordOf (ofConflict (value (dated t following))) ≡ 768 + 65536 * t
+  -- A record that is a route with its arrival, none, not heard, and what is wrong: 256 times the cause, with the beat from bit 16 on.
+  pub legal-word : (a : ℕ) → a ≤ 63 → wordOf (ofRecord (value (aRoute a))) ≡ 65536 * a
+  pub legal-none-word : wordOf (ofRecord (value aNone)) ≡ 256
+  pub unheard-word : wordOf (ofRecord (value notHeard)) ≡ 512
+  pub wrong-word : (k t : ℕ) → k ≤ 8 → t ≤ 63 → wordOf (ofRecord (value (wrong k t))) ≡ 256 * k + 65536 * t
+  pub arrival-word : (a : ℕ) → a ≤ 63 → wordOf (ofNumber (value a)) ≡ 65536 * a
   -- Who shuts a carrier in: carriers 1 and 3 as a set, the bits 0 and 2 of the number from bit 16 on; walls or the horizon.
   pub set-word : wordOf (ofNumber (value 5)) ≡ 65536 * 5
   pub cause-word : wordOf (ofNumber (value 0)) ≡ 0

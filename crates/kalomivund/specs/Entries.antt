@@ -21,9 +21,10 @@ use Rattle.layout.specs.Calls.{placeVerdict, freshMemory, replyTo, memoryAfter,
 use Rattle.machine.specs.Ceiling.{mostSteps}
 use Rattle.trial.specs.Entry.{trialOutcome, stateTried, reportTried}
 use Rattle.lister.specs.Entry.{rankOutcome, reportListed}
+use Rattle.legality.specs.Entry.{recordOutcome, arrivalOutcome}
 use Rattle.wire.specs.Word.{Done, wordOf, ofNumber}
 use Rattle.wire.specs.Record.{floorOf, numbersOf, recordLent}
-use Rattle.kalomivund.specs.Answers.{ofSearch, routeStored, figureList, ofReply, ofRank, ofConflict}
+use Rattle.kalomivund.specs.Answers.{ofSearch, routeStored, figureList, ofReply, ofRank, ofConflict, ofRecord}
 
 -- The word of a call with a floor record of enough numbers; 9, 0 of one with fewer.
 unfoldable pub wordFor : List ℕ → Outcome Done → ℕ
@@ -140,6 +141,14 @@ rankStored xs ws rank m = storedFor xs (reportListed (floorOf xs) ws rank m) m
 -- `kalomivund_conflict`: two lent routes and a horizon.
 unfoldable pub conflictWord : List ℕ → List ℕ → ℕ → ℕ
 conflictWord a b horizon = wordOf (ofConflict (conflictOutcome a b horizon))
+
+-- `kalomivund_check_record`: a floor with its walls, a carrier, and a lent record.
+unfoldable pub recordWord : List ℕ → List ℕ → (carrier : ℕ) → List ℕ → ℕ
+recordWord xs ws carrier m = wordFor xs (ofRecord (recordOutcome (floorOf xs) ws carrier m))
+
+-- `kalomivund_arrival`: a lent route and a horizon.
+unfoldable pub arrivalWord : List ℕ → ℕ → ℕ
+arrivalWord r horizon = wordOf (ofNumber (arrivalOutcome r horizon))
 
 -- `kalomivund_blockers`: the word with the set as its number, and the answers' memory.
 unfoldable pub blockersWord : List ℕ → List ℕ → (carrier room : ℕ) → ℕ

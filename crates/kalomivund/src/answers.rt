@@ -8,10 +8,13 @@ ghost use Rattle.machine.specs.Answers.{steppedReply, ranReply};
 ghost use Rattle.machine.specs.Ceiling.{figureOf};
 ghost use Rattle.trial.specs.Entry.{triedOutcome};
 ghost use Rattle.lister.specs.Entry.{listedOutcome};
+ghost use Rattle.legality.specs.Entry.{legalityOutcome, arrivedOutcome};
 ghost use Rattle.wire.specs.Word.{wordOf, ofNumber};
-ghost use Rattle.kalomivund.specs.Answers.{ofReply, ofRank, ofConflict};
+ghost use Rattle.kalomivund.specs.Answers.{ofReply, ofRank, ofConflict, ofRecord};
 use blockers::Blocked;
 use conflict::Compared;
+use legality::Arrived;
+use legality::Legality;
 use lister::Listed;
 use machine::Most;
 use machine::Ran;
@@ -106,6 +109,29 @@ pub fn of_conflict(x: Compared) -> u64
         Compared::ChangeOfPlaces(t) => done(2, t),
         Compared::Following(t) => done(3, t),
         Compared::Refused(r) => refused(r),
+    }
+}
+
+// The word of the check of a record.
+pub fn of_record(x: Legality) -> u64
+    ensures { λ r. ⌜ r ≡ wordOf (ofRecord (legalityOutcome x)) ⌝ }
+{
+    match x {
+        Legality::Route(a) => done(0, a as usize),
+        Legality::None => done(1, 0),
+        Legality::NotHeard => done(2, 0),
+        Legality::Wrong(w) => done(w.cause, w.beat),
+        Legality::Refused(r) => refused(r),
+    }
+}
+
+// The word of an arrival.
+pub fn of_arrival(x: Arrived) -> u64
+    ensures { λ r. ⌜ r ≡ wordOf (ofNumber (arrivedOutcome x)) ⌝ }
+{
+    match x {
+        Arrived::At(a) => done(0, a as usize),
+        Arrived::Refused(r) => refused(r),
     }
 }
 

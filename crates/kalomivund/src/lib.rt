@@ -19,7 +19,7 @@ ghost use Rattle.kalomivund.specs.Entries.{printWord, printStored, fresh
 ghost use Rattle.kalomivund.specs.Entries.{runWord, runStored, ceilingWord};
 ghost use Rattle.kalomivund.specs.Entries.{trialWord, trialStateStored, trialReportStored};
 ghost use Rattle.kalomivund.specs.Entries.{rankWord, rankStored};
-ghost use Rattle.kalomivund.specs.Entries.{conflictWord};
+ghost use Rattle.kalomivund.specs.Entries.{conflictWord, recordWord, arrivalWord};
 ghost use Rattle.kalomivund.specs.Entries.{blockersWord, blockersStored};
 use floor::Checked;
 use floor::Floor;
@@ -279,6 +279,30 @@ pub extern "C" fn kalomivund_conflict(a: &[u16], b: &[u16], horizon: u16) -> u64
     ensures { λ r. ⌜ r ≡ conflictWord (now (a .entry)) (now (b .entry)) horizon ⌝ }
 {
     answers::of_conflict(conflict::conflict(a, b, horizon))
+}
+
+// Whether a record of 65 numbers is a route of a carrier of a floor, with its arrival; none, not heard, or what is wrong first.
+#[no_mangle]
+pub extern "C" fn kalomivund_check_record(
+    f: &[u16],
+    walls: &[u16],
+    carrier: u16,
+    told: &[u16],
+) -> u64
+    ensures { λ r. ⌜ r ≡ recordWord (now (f .entry)) (now (walls .entry)) carrier (now (told .entry)) ⌝ }
+{
+    if f.len() < 54 {
+        return word::too_short();
+    }
+    answers::of_record(legality::check_record(numbers::floor_of(f), walls, carrier, told))
+}
+
+// The arrival of a lent route of 64 cells through a horizon.
+#[no_mangle]
+pub extern "C" fn kalomivund_arrival(cells: &[u16], horizon: u16) -> u64
+    ensures { λ r. ⌜ r ≡ arrivalWord (now (cells .entry)) horizon ⌝ }
+{
+    answers::of_arrival(legality::arrival(cells, horizon))
 }
 
 // Who shuts a carrier in that has none in the sequential result: a bit a carrier above it, bit j − 1 being carrier j's; the sequential

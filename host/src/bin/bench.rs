@@ -671,6 +671,43 @@ fn sheets(all: &[Lent], rounds: usize) {
     println!("\nWanted: reading takes the library no longer than paper.rs, so that the last figure is at least 1.");
 }
 
+// ---- A record that came by radio ----
+
+/// The check of carrier 1's answer, which looks at every beat of a route, beside the check of the floor that it begins with.
+fn records(all: &[Lent], rounds: usize) {
+    println!("\nRecords, microseconds: best (median)\n");
+    println!("| floor | check of a record | of it the check of the floor | conflict test of two routes | arrival |");
+    println!("|---|---|---|---|---|");
+    let walled = Lent::of("1,000 walls, four docks", thousand_walls());
+    for lent in all.iter().chain([&walled]) {
+        let (own, other) = (&lent.answers[..65], &lent.answers[lent.answers.len() - 65..]);
+        let word = calls::check_record(&lent.record, &lent.walls, 1, own);
+        if word != paper::calls::check_record(&lent.record, &lent.walls, 1, own) {
+            println!("the check of a record of '{}' differs from the paper's", lent.name);
+            std::process::exit(1);
+        }
+        let horizon = lent.floor.horizon as u16;
+        let times = measure(
+            rounds,
+            &mut [
+                &mut || {
+                    black_box(calls::check_record(black_box(&lent.record), &lent.walls, 1, own));
+                },
+                &mut || {
+                    black_box(calls::check_floor(black_box(&lent.record), &lent.walls));
+                },
+                &mut || {
+                    black_box(calls::conflict(black_box(&own[1..]), &other[1..], horizon));
+                },
+                &mut || {
+                    black_box(calls::arrival(black_box(&own[1..]), horizon));
+                },
+            ],
+        );
+        println!("| {} | {} | {} | {} | {} |", lent.name, micro(times[0]), micro(times[1]), micro(times[2]), micro(times[3]));
+    }
+}
+
 // ---- Every run of a small floor ----
 
 /// Three carriers far from each other, whose answers stay, and three of which the first two come nose to nose.
@@ -723,5 +760,6 @@ fn main() {
     }
     machine(&all, rounds);
     sheets(&all, rounds);
+    records(&all, rounds);
     listing(rounds);
 }

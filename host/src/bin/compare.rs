@@ -2,17 +2,19 @@
 //! also outside the part that is lent. Seeds are fixed; a case that fails is printed with the command that replays it.
 //!
 //!     compare                          everything: 100,000 sheets, 20,000 lists of calls, 10,000 trials, runs of 400 floors,
-//!                                      100,000 pairs of routes
+//!                                      100,000 pairs of routes, 100,000 records
 //!     compare sheets FROM COUNT        some of the sheets, by their seeds
 //!     compare lists FROM COUNT         some of the lists
 //!     compare trials FROM COUNT        some of the trials
 //!     compare ranks FROM COUNT         some of the floors whose runs are listed
 //!     compare pairs FROM COUNT         some of the pairs
+//!     compare records FROM COUNT       some of the records
 //!     compare sheet SEED               one case, each call printed with its answer
 //!     compare list SEED
 //!     compare trial SEED
 //!     compare rank SEED
 //!     compare pair SEED
+//!     compare record SEED
 
 #[path = "../draw.rs"]
 mod draw;
@@ -31,6 +33,7 @@ const TRIALS: u64 = 10_000;
 /// The floors whose runs are listed.
 const RANKS: u64 = 400;
 const PAIRS: u64 = 100_000;
+const RECORDS: u64 = 100_000;
 
 // ---- Lent memory and calls ----
 
@@ -94,6 +97,8 @@ enum Call {
     Trial { floor: Lent<u16>, walls: Lent<u16>, order: u16, seed: u32, state: Lent<u16>, report: Lent<u16> },
     RunOfRank { floor: Lent<u16>, walls: Lent<u16>, rank: u64, report: Lent<u16> },
     Conflict { a: Lent<u16>, b: Lent<u16>, horizon: u16 },
+    CheckRecord { floor: Lent<u16>, walls: Lent<u16>, carrier: u16, record: Lent<u16> },
+    Arrival { route: Lent<u16>, horizon: u16 },
     Ceiling { carriers: u16 },
 }
 
@@ -146,6 +151,10 @@ impl Call {
                 entry!(who, run_of_rank(floor.part(), walls.part(), *rank, report.part_mut()))
             }
             Call::Conflict { a, b, horizon } => entry!(who, conflict(a.part(), b.part(), *horizon)),
+            Call::CheckRecord { floor, walls, carrier, record } => {
+                entry!(who, check_record(floor.part(), walls.part(), *carrier, record.part()))
+            }
+            Call::Arrival { route, horizon } => entry!(who, arrival(route.part(), *horizon)),
             Call::Ceiling { carriers } => entry!(who, ceiling(*carriers)),
         }
     }
@@ -166,6 +175,8 @@ impl Call {
             Call::Trial { .. } => "trial",
             Call::RunOfRank { .. } => "run_of_rank",
             Call::Conflict { .. } => "conflict",
+            Call::CheckRecord { .. } => "check_record",
+            Call::Arrival { .. } => "arrival",
             Call::Ceiling { .. } => "ceiling",
         }
     }
@@ -203,6 +214,10 @@ impl Call {
                 format!("{} rank {rank} report of {}", floor(f, w), report.length)
             }
             Call::Conflict { a, b, horizon } => format!("{:?} {:?} horizon {horizon}", a.part(), b.part()),
+            Call::CheckRecord { floor: f, walls: w, carrier, record } => {
+                format!("{} carrier {carrier} record {:?}", floor(f, w), record.part())
+            }
+            Call::Arrival { route, horizon } => format!("{:?} horizon {horizon}", route.part()),
             Call::Ceiling { carriers } => format!("{carriers}"),
         }
     }
@@ -280,6 +295,8 @@ impl Tally {
             ("trial", vec![0], with(&[11])),
             ("run_of_rank", vec![1, 3, 4, 6, 7, 8, 9, 10, 11], with(&[14, 15])),
             ("conflict", vec![0, 1, 2, 3], vec![9]),
+            ("check_record", vec![0, 1, 2, 3, 4, 5, 6, 7, 8], with(&[7])),
+            ("arrival", vec![0], vec![9]),
             ("ceiling", vec![0], vec![2]),
         ];
         let mut keys = Vec::new();
@@ -327,6 +344,8 @@ fn numbers(call: &Call) -> Vec<u64> {
         Call::Trial { floor, walls, state, report, .. } => [wide(floor), wide(walls), wide(state), wide(report)].concat(),
         Call::RunOfRank { floor, walls, report, .. } => [wide(floor), wide(walls), wide(report)].concat(),
         Call::Conflict { a, b, .. } => [wide(a), wide(b)].concat(),
+        Call::CheckRecord { floor, walls, record, .. } => [wide(floor), wide(walls), wide(record)].concat(),
+        Call::Arrival { route, .. } => wide(route),
         Call::Ceiling { .. } => Vec::new(),
     }
 }
@@ -958,6 +977,90 @@ fn pair_case(seed: u64, tally: &mut Tally) {
     tally.compare(Call::Conflict { a: b, b: a, horizon: horizon as u16 });
 }
 
+/// A route of a carrier (from 0), if one is found: a walk off the walls for some beats, and from there the best way on.
+fn draw_route(draw: &mut Draw, floor: &Floor, carrier: usize) -> Option<paper::Route> {
+    let (width, cells) = (floor.width, floor.cells());
+    let walked = draw.of(&[0, 0, draw.0 as usize % 8, draw.0 as usize % floor.horizon]).min(floor.horizon);
+    let mut c = floor.starts[carrier];
+    let mut route = [0; 64];
+    for cell in route.iter_mut().take(walked) {
+        *cell = c as u16;
+        let near = draw.of(&[c.wrapping_sub(width), c.wrapping_sub(1), c, c + 1, c + width]);
+        let beside = near < cells && (near % width).abs_diff(c % width) + (near / width).abs_diff(c / width) <= 1;
+        if beside && !floor.walls.contains(&near) {
+            c = near;
+        }
+    }
+    let rest = Floor { horizon: floor.horizon - walked, ..floor.clone() };
+    let way = paper::best_route(&rest, c, &floor.docks[carrier], &[])?;
+    route[walked..].copy_from_slice(&way[..64 - walked]);
+    Some(route)
+}
+
+/// Damages a record in one way.
+fn damage(draw: &mut Draw, record: &mut [u16], floor: &Floor) {
+    let (width, cells, horizon) = (floor.width, floor.cells(), floor.horizon);
+    let any = draw.below(64);
+    let used = draw.below(horizon + 1);
+    let place = 1 + draw.of(&[used, used, used, 0, horizon, any, (horizon + 1).min(63), 63]);
+    let c = record[place] as usize;
+    let corner = draw.of(&[c + width + 1, c.wrapping_sub(width + 1), (c + width).wrapping_sub(1), (c + 1).wrapping_sub(width)]);
+    let wall = if floor.walls.is_empty() { cells } else { draw.of(&floor.walls) };
+    let other = draw.below(cells);
+    match draw.below(9) {
+        0 => record[place] = draw.of(&[other, other, cells, cells - 1, 1024, 65535]) as u16,
+        1 => record[place] = wall as u16,
+        2 => record[place] = corner as u16,
+        3 => record[place] = draw.of(&[c + 1, c.wrapping_sub(1), c + width, c.wrapping_sub(width)]) as u16,
+        4 => record.swap(place, 1 + draw.below(64)),
+        5 => record[0] = draw.of(&[0, 1, 2, 3, 65535]),
+        6 => record[place..].fill(draw.of(&[other, c, 0]) as u16),
+        7 => record[1..].rotate_left(1),
+        _ => record[1..].copy_within(..63, 1),
+    }
+}
+
+/// A record for a carrier, and a route with a horizon: routes of the carrier and of another one, none, not heard, walks; whole or damaged.
+fn record_case(seed: u64, tally: &mut Tally) {
+    let draw = &mut Draw(seed.wrapping_mul(0x9e6c_63d0_876a_3f35) ^ 0x7e11);
+    let floor = draw_floor(draw, 32);
+    let n = floor.carriers();
+    let carrier = draw.below(n);
+    let whose = if draw.percent(90) { carrier } else { draw.below(n) };
+    let mut record = vec![0; 65];
+    match draw.below(20) {
+        0 => record[0] = 1,
+        1 => {}
+        2 => {
+            record = draw_walk(draw, 65, floor.width, floor.cells(), 5);
+            record[0] = 2;
+        }
+        _ => {
+            if let Some(route) = draw_route(draw, &floor, whose) {
+                record[0] = 2;
+                record[1..].copy_from_slice(&route);
+            }
+        }
+    }
+    for _ in 0..draw.of(&[0, 0, 1, 1, 1, 2, 3]) {
+        damage(draw, &mut record, &floor);
+    }
+    let length = about(draw, 65);
+    record.truncate(length);
+    (record.len()..length).for_each(|_| record.push(draw.next() as u16));
+    let (mut numbers, mut walls) = draw_record(draw, &floor);
+    if draw.percent(8) {
+        spoil_record(draw, &mut numbers, &mut walls, &floor);
+    }
+    let asked = if draw.percent(3) { draw.of(&[0, n + 1, 9, 65535]) } else { carrier + 1 } as u16;
+    let margin = draw.next() as u16;
+    let (lent, lent_walls, lent_record) = (Lent::of(&numbers, margin), Lent::of(&walls, margin), Lent::of(&record, margin));
+    tally.compare(Call::CheckRecord { floor: lent, walls: lent_walls, carrier: asked, record: lent_record });
+    let any = draw.below(66);
+    let horizon = draw.of(&[floor.horizon, floor.horizon, any, 63, 64, 65535]) as u16;
+    tally.compare(Call::Arrival { route: Lent::of(record.get(1..).unwrap_or(&[]), margin), horizon });
+}
+
 /// The ceiling of every number of carriers.
 fn ceilings(tally: &mut Tally) {
     tally.replay = "".into();
@@ -978,24 +1081,21 @@ fn main() {
     let whole = words.is_empty();
     let mut tally = Tally::default();
     let none = (1, 0);
-    let (sheets, lists, trials, ranks, pairs) = match words[..] {
-        [] => ((1, SHEETS), (1, LISTS), (1, TRIALS), (1, RANKS), (1, PAIRS)),
-        ["sheets", from, count] => ((number(from), number(count)), none, none, none, none),
-        ["lists", from, count] => (none, (number(from), number(count)), none, none, none),
-        ["trials", from, count] => (none, none, (number(from), number(count)), none, none),
-        ["ranks", from, count] => (none, none, none, (number(from), number(count)), none),
-        ["pairs", from, count] => (none, none, none, none, (number(from), number(count))),
-        ["sheet", seed] => ((number(seed), 1), none, none, none, none),
-        ["list", seed] => (none, (number(seed), 1), none, none, none),
-        ["trial", seed] => (none, none, (number(seed), 1), none, none),
-        ["rank", seed] => (none, none, none, (number(seed), 1), none),
-        ["pair", seed] => (none, none, none, none, (number(seed), 1)),
+    let kinds = ["sheet", "list", "trial", "rank", "pair", "record"];
+    let all = [SHEETS, LISTS, TRIALS, RANKS, PAIRS, RECORDS].map(|count| (1, count));
+    let only = |kind: &str, from: &str, count: u64| kinds.map(|k| if k == kind { (number(from), count) } else { none });
+    let [sheets, lists, trials, ranks, pairs, records] = match words[..] {
+        [] => all,
+        [many, from, count] if kinds.iter().any(|kind| many.strip_suffix('s') == Some(kind)) => {
+            only(&many[..many.len() - 1], from, number(count))
+        }
+        [one, seed] if kinds.contains(&one) => only(one, seed, 1),
         _ => {
-            eprintln!("usage: compare [sheets | lists | trials | ranks | pairs FROM COUNT] | [sheet | list | trial | rank | pair SEED]");
+            eprintln!("usage: compare [sheets | lists | trials | ranks | pairs | records FROM COUNT] | [sheet | list | trial | rank | pair | record SEED]");
             exit(2);
         }
     };
-    tally.verbose = matches!(words[..], ["sheet" | "list" | "trial" | "rank" | "pair", _]);
+    tally.verbose = words.len() == 2;
     let begin = Instant::now();
     let mut accepted = 0;
     for seed in sheets.0..sheets.0 + sheets.1 {
@@ -1022,6 +1122,10 @@ fn main() {
         tally.replay = format!("pair {seed}");
         pair_case(seed, &mut tally);
     }
+    for seed in records.0..records.0 + records.1 {
+        tally.replay = format!("record {seed}");
+        record_case(seed, &mut tally);
+    }
     if whole {
         all_ranks(&mut tally);
         ceilings(&mut tally);
@@ -1029,12 +1133,13 @@ fn main() {
     tally.print();
     println!(
         "compare: {} sheets ({accepted} read, {by_sheets} calls), {} lists ({by_lists} calls), {} trials, the runs of {} floors \
-         ({by_ranks} calls), {} pairs of routes, {} calls in all: library and paper agree, in {:.1} s",
+         ({by_ranks} calls), {} pairs of routes, {} records, {} calls in all: library and paper agree, in {:.1} s",
         sheets.1,
         lists.1,
         trials.1,
         ranks.1,
         pairs.1,
+        records.1,
         tally.calls,
         begin.elapsed().as_secs_f64()
     );
