@@ -182,7 +182,7 @@ fn rising(f: Floor, walls: &[u16]) -> Checked
 }
 
 // Whether c is one of the first m walls, which rise: a binary search.
-fn is_wall(walls: &[u16], m: usize, c: u16) -> bool
+pub fn is_wall(walls: &[u16], m: usize, c: u16) -> bool
     requires { ⌜ m ≤ length (now walls) ⌝ }
     requires { ⌜ Climbs (now walls) m ⌝ }
     ensures { λ r. ⌜ r ≡ Checks·among (now (walls .entry)) m c ⌝ }

@@ -5,6 +5,7 @@ mod checks;
 
 pub use bounds::limits;
 pub use checks::docks_of;
+pub use checks::is_wall;
 pub use checks::room;
 ghost use mathlib.Core.Path.{_≡_};
 ghost use Rattle.floor.specs.Answers.{verdictOf};

@@ -10,28 +10,6 @@ ghost use Rattle.legality.specs.Inner.{freeOn};
 ghost use Rattle.route.specs.Moves.{neighbours as Moves·neighbours, near as Moves·near};
 use floor::Floor;
 
-// Whether c is one of the first m walls, which rise: a binary search.
-fn is_wall(walls: &[u16], m: usize, c: u16) -> bool
-    requires { ⌜ m ≤ length (now walls) ⌝ }
-    requires { ⌜ Climbs (now walls) m ⌝ }
-    ensures { λ r. ⌜ r ≡ among (now (walls .entry)) m c ⌝ }
-{
-    let mut low: usize = 0;
-    let mut high = m;
-    while low < high {
-        let middle = low + (high - low) / 2;
-        if walls[middle] < c {
-            low = middle + 1;
-        } else {
-            high = middle;
-        }
-    }
-    if m <= low {
-        return false;
-    }
-    walls[low] == c
-}
-
 // Whether a number is a cell of the floor that is no wall.
 pub fn is_free(f: Floor, walls: &[u16], c: u16) -> bool
     requires { ⌜ (f .width ≤ 32) × (f .height ≤ 32) ⌝ }
@@ -42,7 +20,7 @@ pub fn is_free(f: Floor, walls: &[u16], c: u16) -> bool
     if f.width * f.height <= c {
         return false;
     }
-    !is_wall(walls, f.walls as usize, c)
+    !floor::is_wall(walls, f.walls as usize, c)
 }
 
 // Whether c is one of the docks of carrier i, counted from 0.
