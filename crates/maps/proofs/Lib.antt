@@ -1,0 +1,4 @@
+-- Laws of texts put line by line, of marks and of maps.
+pub mod LinesLaws
+pub mod MarkLaws
+pub mod MapLaws
