@@ -3,6 +3,7 @@
 mod arguments;
 mod drawn;
 mod listed;
+mod mapped;
 mod played;
 
 use arguments::Decimal;
@@ -24,6 +25,8 @@ enum Command {
     Blockers,
     // `draw [BEAT]`: draws the floor with its carriers at that beat, or at all with its map and the arrivals.
     Draw,
+    // `sheet`: prints the sheet of a map.
+    Sheet,
     // No command, or none of that name.
     Unknown,
 }
@@ -44,6 +47,9 @@ fn command_named(name: &[u8]) -> Command {
     }
     if arguments::same(name, b"draw") {
         return Command::Draw;
+    }
+    if arguments::same(name, b"sheet") {
+        return Command::Sheet;
     }
     Command::Unknown
 }
@@ -233,6 +239,19 @@ fn draw_command() {
     drawn::draw_beat(number_of(t))
 }
 
+// Says how `sheet` is called.
+fn sheet_usage() {
+    io::write_all(STDERR_FILENO, b"desk: sheet < map\n");
+}
+
+// The command `sheet`.
+fn sheet_command() {
+    if os::arg_count() != 2 {
+        return sheet_usage();
+    }
+    mapped::print_sheet()
+}
+
 fn main() {
     let mut name = io::buffer();
     let n = os::arg(1, &mut name);
@@ -242,10 +261,11 @@ fn main() {
         Command::Meeting => meeting_command(),
         Command::Blockers => blockers_command(),
         Command::Draw => draw_command(),
+        Command::Sheet => sheet_command(),
         Command::Unknown => {
             io::write_all(
                 STDERR_FILENO,
-                b"desk: no such command; commands: trial, runs, meeting, blockers, draw\n",
+                b"desk: no such command; commands: trial, runs, meeting, blockers, draw, sheet\n",
             );
         }
     }

@@ -1,6 +1,7 @@
 //! The routes program over `paper.rs` alone: a sheet on standard input, its routes on standard output; with the arguments
 //! `trial ORDER SEED` the text of a trial, with `runs [RANK]` that of the complete runs, with `meeting I J` that of
-//! a meeting, with `blockers` that of the stranded carriers. It needs no archive.
+//! a meeting, with `blockers` that of the stranded carriers, with `draw [BEAT]` the floor beat by beat, with `sheet` the sheet of a map.
+//! It needs no archive.
 //! Its tests (`cargo test --bin paper`) hold `paper.rs` to document 01's twelve floors, its search to a search of all routes, and the
 //! benchmark's other planners to `paper.rs`.
 
@@ -13,10 +14,20 @@ mod bits;
 #[cfg(test)]
 #[path = "../draw.rs"]
 mod draw;
+#[path = "../maps.rs"]
+mod maps;
 #[path = "../paper.rs"]
 mod paper;
 
 use std::io::{Read, Write};
+
+/// A text for standard output; what is wrong goes to standard error.
+fn said(answer: Result<String, String>) -> String {
+    answer.unwrap_or_else(|words| {
+        eprintln!("desk: {words}");
+        String::new()
+    })
+}
 
 fn main() -> std::io::Result<()> {
     let mut text = Vec::new();
@@ -28,6 +39,8 @@ fn main() -> std::io::Result<()> {
         Some("runs") => paper::print_runs(&text, (words.len() > 1).then(|| number(1))),
         Some("meeting") => paper::print_meeting(&text, number(1), number(2)),
         Some("blockers") => paper::print_blockers(&text),
+        Some("draw") => said(maps::print_draw(&text, (words.len() > 1).then(|| number(1)))),
+        Some("sheet") => said(maps::print_sheet(&text)),
         _ => paper::print_routes(&text),
     };
     std::io::stdout().write_all(out.as_bytes())

@@ -1,0 +1,3 @@
+-- Laws of a map that was read.
+mod ToldLaws
+mod WithinLaws

@@ -1,0 +1,12 @@
+-- `map_reader::rows::read_row` meets its contract: each refusal has its return.
+use Rattle.map_reader.specs.Inner.{ReadWithin}
+use borrow.Author.Needs.{needs}
+use Rattle.map_reader.proofs.rows.read_row.Statement.{statement}
+use Rattle.map_reader.proofs.rows.read_row.Tie as tie
+
+pub read-row-spec : {M : Type 1} → statement M
+unfolding ReadWithin
+read-row-spec =
+    tie.close (tie.spec (λ c κs. search needs) (λ c. search needs) (λ c κs. search needs) (λ c. search needs) (λ c κs. search needs)
+    (λ c. search needs) (λ c κs. search needs) (λ c. search needs) (λ c. search needs) (λ c. search needs) (λ c. search needs)
+    (λ c κs. search needs) (λ c. search needs) (λ c. search needs))
