@@ -1,4 +1,4 @@
-//! Maps of floors and floors drawn beat by beat, in plain Rust, written from the words of `docs/SPEC.md` and not from the proved code.
+//! Maps of floors and floors drawn beat by beat, in plain Rust, written from `docs/MAPS.md` and not from the proved code.
 //! It is what `desk sheet` and `desk draw` are compared with.
 #![allow(dead_code)]
 

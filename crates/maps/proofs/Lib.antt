@@ -2,3 +2,4 @@
 pub mod LinesLaws
 pub mod MarkLaws
 pub mod MapLaws
+mod Cases
