@@ -1,3 +1,4 @@
 -- Laws of a map that was read.
+mod WhereLaws
 mod ToldLaws
 mod WithinLaws

@@ -1,7 +1,11 @@
 // The floor of a map, from the marks of its cells and what its capital letters stand for. Things are counted as in `letters`: `1` to `8`,
 // then `a` to `h`.
-ghost use Prim.Native.Nat.{_+_, _*_, _≤_, _<_};
-ghost use lib.ListN.{length};
+ghost use mathlib.Core.Path.{_≡_};
+ghost use Prim.Native.Nat.{ℕ, _+_, _*_, _/_, _%_, _≤_, _<_};
+ghost use lib.ListN.{length, getD};
+ghost use Rattle.reporting.specs.Put.{PutAt};
+ghost use Rattle.map_reader.specs.Marks.{isThing, isWall, cellsWhere};
+ghost use Rattle.map_reader.specs.Told.{Filled};
 use crate::tokens;
 use crate::tokens::Problem;
 use crate::tokens::Read;
@@ -9,6 +13,7 @@ use crate::tokens::Read;
 // Whether cell c is a thing.
 fn is_thing(marks: &[u8], table: &[u8], c: usize, thing: usize) -> bool
     requires { ⌜ (c < length (now marks)) × (thing < 16) × (442 ≤ length (now table)) ⌝ }
+    ensures { λ r. ⌜ r ≡ isThing (now (marks .entry)) (now (table .entry)) thing c ⌝ }
 {
     let b = marks[c];
     if tokens::thing_of(b) == thing {
@@ -24,7 +29,7 @@ fn is_thing(marks: &[u8], table: &[u8], c: usize, thing: usize) -> bool
 // How many of the first n cells are a thing.
 fn count(marks: &[u8], table: &[u8], n: usize, thing: usize) -> u16
     requires { ⌜ (n ≤ 1024) × (n ≤ length (now marks)) × (thing < 16) × (442 ≤ length (now table)) ⌝ }
-    ensures { λ r. ⌜ r ≤ 1024 ⌝ }
+    ensures { λ r. ⌜ (r ≡ length (cellsWhere (isThing (now (marks .entry)) (now (table .entry)) thing) n)) × (r ≤ 1024) ⌝ }
 {
     let mut found: u16 = 0;
     let mut c: usize = 0;
@@ -40,6 +45,7 @@ fn count(marks: &[u8], table: &[u8], n: usize, thing: usize) -> u16
 // The cell among the first n that is a thing and has k such cells before it; 0 where there is none.
 fn nth(marks: &[u8], table: &[u8], n: usize, thing: usize, k: u16) -> u16
     requires { ⌜ (n ≤ 1024) × (n ≤ length (now marks)) × (thing < 16) × (442 ≤ length (now table)) ⌝ }
+    ensures { λ r. ⌜ r ≡ getD (cellsWhere (isThing (now (marks .entry)) (now (table .entry)) thing) n) k 0 ⌝ }
 {
     let mut before: u16 = 0;
     let mut c: usize = 0;
@@ -129,6 +135,7 @@ pub fn check_carriers(marks: &[u8], table: &[u8], n: usize, highest: u16) -> Rea
 // The starts of eight carriers.
 pub fn starts(marks: &[u8], table: &[u8], n: usize) -> [u16; 8]
     requires { ⌜ (n ≤ 1024) × (n ≤ length (now marks)) × (442 ≤ length (now table)) ⌝ }
+    ensures { λ r. ⌜ Filled (λ i. getD (cellsWhere (isThing (now (marks .entry)) (now (table .entry)) i) n) 0 0) r 8 ⌝ }
 {
     let mut found = [0u16; 8];
     let mut i: usize = 0;
@@ -142,6 +149,7 @@ pub fn starts(marks: &[u8], table: &[u8], n: usize) -> [u16; 8]
 // Their dock counts.
 pub fn counts(marks: &[u8], table: &[u8], n: usize) -> [u16; 8]
     requires { ⌜ (n ≤ 1024) × (n ≤ length (now marks)) × (442 ≤ length (now table)) ⌝ }
+    ensures { λ r. ⌜ Filled (λ i. length (cellsWhere (isThing (now (marks .entry)) (now (table .entry)) (8 + i)) n)) r 8 ⌝ }
 {
     let mut found = [0u16; 8];
     let mut i: usize = 0;
@@ -155,6 +163,7 @@ pub fn counts(marks: &[u8], table: &[u8], n: usize) -> [u16; 8]
 // Their docks, four places a carrier.
 pub fn docks(marks: &[u8], table: &[u8], n: usize) -> [u16; 32]
     requires { ⌜ (n ≤ 1024) × (n ≤ length (now marks)) × (442 ≤ length (now table)) ⌝ }
+    ensures { λ r. ⌜ Filled (λ q. getD (cellsWhere (isThing (now (marks .entry)) (now (table .entry)) (8 + q / 4)) n) (q % 4) 0) r 32 ⌝ }
 {
     let mut found = [0u16; 32];
     let mut q: usize = 0;
@@ -168,7 +177,7 @@ pub fn docks(marks: &[u8], table: &[u8], n: usize) -> [u16; 32]
 // Puts the walls among the first n cells in front of a memory; their number is returned.
 pub fn put_walls(marks: &[u8], n: usize, walls: &mut [u16]) -> usize
     requires { ⌜ (n ≤ 1024) × (n ≤ length (now marks)) × (n ≤ length (now walls)) ⌝ }
-    ensures { λ r. ⌜ r ≤ n ⌝ }
+    ensures { λ r. ⌜ PutAt (cellsWhere (isWall (now (marks .entry))) n) (now (walls .entry)) 0 (now (walls .exit)) r × (r ≤ n) ⌝ }
 {
     let mut found: usize = 0;
     let mut c: usize = 0;

@@ -8,17 +8,18 @@ mod words;
 ghost use lib.ListN.{length};
 ghost use Prim.Native.Nat.{_+_, _*_, _≤_, _<_};
 ghost use mathlib.Core.Path.{_≡_};
-ghost use Rattle.map_reader.specs.Told.{ToldIn};
-ghost use Rattle.map_reader.specs.Inner.{Limited};
+ghost use Rattle.io.specs.Counts.{Counts};
+ghost use Rattle.map_reader.specs.Told.{CarriersFrom, ToldIn, SheetOrNothing};
+ghost use Rattle.map_reader.specs.Inner.{RowsIn, ToldOf};
 use floor::Checked;
 use floor::Floor;
 use letters::LETTERS;
 use rows::Shape;
 use rows::Shaped;
-pub use tokens::Problem;
+use tokens::Problem;
 use tokens::Read;
 pub use words::WORDS;
-pub use words::put_words;
+use words::put_words;
 
 // The length of the longest sheet.
 pub const SHEET_LENGTH: usize = 11732;
@@ -27,11 +28,19 @@ pub const SHEET_LENGTH: usize = 11732;
 const CELLS: usize = 1024;
 
 // What reading a map tells.
-pub enum Told {
+enum Told {
     // The length of the sheet that stands in front of the lent memory.
     Sheet(usize),
     // What is wrong with the map.
     Refused(Problem),
+}
+
+// What is printed for a map.
+pub struct Printed {
+    // The length of the sheet; 0 with a refusal.
+    pub sheet: usize,
+    // The length of the refusal in words, a line; 0 with a sheet.
+    pub words: usize,
 }
 
 // Room for a sheet.
@@ -74,6 +83,8 @@ fn floor_of(
 ) -> Floor
     requires { ⌜ (shape .width ≤ 32) × (shape .height ≤ 32) × (shape .cells ≤ 1024) ⌝ }
     requires { ⌜ (1024 ≤ length (now marks)) × (442 ≤ length (now table)) ⌝ }
+    ensures sizes { λ r. ⌜ (r .width ≡ shape .width) × (r .height ≡ shape .height) ⌝ }
+    ensures carriers { λ r. ⌜ CarriersFrom (now (marks .entry)) (now (table .entry)) (shape .cells) r ⌝ }
 {
     let n = shape.cells;
     let starts = build::starts(marks, table, n);
@@ -94,7 +105,7 @@ fn floor_of(
 
 // Writes the sheet of a floor.
 fn write_sheet(f: Floor, walls: &[u16], out: &mut [u8]) -> Told
-    ensures { λ r. ⌜ ToldIn (now (out .exit)) r ⌝ }
+    ensures { λ r. ⌜ ToldOf f (now (walls .entry)) (now (out .exit)) r ⌝ }
 {
     let written = sheet::write(f, walls, out);
     let Checked::Passed = written else {
@@ -105,6 +116,7 @@ fn write_sheet(f: Floor, walls: &[u16], out: &mut [u8]) -> Told
 
 // Writes the sheet of a map whose rows and letters were read.
 fn write_map(
+    text: &[u8],
     horizon: u16,
     depth: u16,
     shape: Shape,
@@ -113,9 +125,8 @@ fn write_map(
     highest: u16,
     out: &mut [u8],
 ) -> Told
-    requires { ⌜ (shape .width ≤ 32) × (shape .height ≤ 32) × (shape .cells ≤ 1024) ⌝ }
-    requires { ⌜ (1024 ≤ length (now marks)) × (442 ≤ length (now table)) ⌝ }
-    ensures { λ r. ⌜ ToldIn (now (out .exit)) r ⌝ }
+    requires { ⌜ RowsIn (now text) (now marks) shape × (442 ≤ length (now table)) ⌝ }
+    ensures { λ r. ⌜ ToldIn (now (text .entry)) (now (out .exit)) r ⌝ }
 {
     let n = shape.cells;
     let mut walls = no_walls();
@@ -141,8 +152,8 @@ fn read_rest(
     marks: &[u8],
     out: &mut [u8],
 ) -> Told
-    requires { ⌜ Limited (length (now text)) shape × (1024 ≤ length (now marks)) ⌝ }
-    ensures { λ r. ⌜ ToldIn (now (out .exit)) r ⌝ }
+    requires { ⌜ RowsIn (now text) (now marks) shape ⌝ }
+    ensures { λ r. ⌜ ToldIn (now (text .entry)) (now (out .exit)) r ⌝ }
 {
     let next = shape.next;
     let n = shape.cells;
@@ -164,7 +175,7 @@ fn read_rest(
     let Read::At(_) = checked else {
         return Told::Refused(refused(checked));
     };
-    write_map(horizon, depth, shape, marks, &table, highest, out)
+    write_map(text, horizon, depth, shape, marks, &table, highest, out)
 }
 
 // Whether a number of line 1 is within its limits.
@@ -176,8 +187,8 @@ fn is_within(n: u16, high: u16) -> bool {
 }
 
 // Reads a map, and writes the sheet of its floor into lent memory.
-pub fn read(text: &[u8], out: &mut [u8; SHEET_LENGTH]) -> Told
-    ensures { λ r. ⌜ ToldIn (now (out .exit)) r ⌝ }
+fn read(text: &[u8], out: &mut [u8; SHEET_LENGTH]) -> Told
+    ensures { λ r. ⌜ ToldIn (now (text .entry)) (now (out .exit)) r ⌝ }
 {
     let head = tokens::read_head(text);
     let first = head.next;
@@ -195,5 +206,21 @@ pub fn read(text: &[u8], out: &mut [u8; SHEET_LENGTH]) -> Told
     match shaped {
         Shaped::Refused(x) => Told::Refused(x),
         Shaped::Rows(shape) => read_rest(text, head.horizon, head.depth, shape, &marks, out),
+    }
+}
+
+// Prints the sheet of a map into one lent memory, or what is wrong with the map in words into another.
+pub fn print(text: &[u8], out: &mut [u8; SHEET_LENGTH], words: &mut [u8; WORDS]) -> Printed
+    ensures sheet { λ r. ⌜ Counts (r .sheet) (now (out .exit)) ⌝ }
+    ensures words { λ r. ⌜ Counts (r .words) (now (words .exit)) ⌝ }
+    ensures tells { λ r. ⌜ SheetOrNothing (now (text .entry)) (now (out .exit)) (r .sheet) ⌝ }
+{
+    let told = read(text, out);
+    match told {
+        Told::Sheet(n) => Printed { sheet: n, words: 0 },
+        Told::Refused(x) => Printed {
+            sheet: 0,
+            words: put_words(x, words),
+        },
     }
 }

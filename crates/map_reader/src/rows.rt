@@ -2,7 +2,7 @@
 ghost use mathlib.Core.Path.{_≡_};
 ghost use Prim.Native.Nat.{_+_, _*_, _≤_, _<_};
 ghost use lib.ListN.{length};
-ghost use Rattle.map_reader.specs.Inner.{ReadWithin, ShapeWithin};
+ghost use Rattle.map_reader.specs.Inner.{RowRead, ShapeRead};
 use crate::tokens;
 use crate::tokens::Problem;
 use crate::tokens::Read;
@@ -54,7 +54,7 @@ pub fn is_letters(text: &[u8], at: usize) -> bool
 // Copies the w marks at a column to a base; the column behind their newline is answered.
 fn copy_row(text: &[u8], at: usize, w: usize, line: u16, base: usize, marks: &mut [u8]) -> Read
     requires { ⌜ (w ≤ 32) × (at + w < length (now text)) × (base + w ≤ length (now marks)) ⌝ }
-    ensures { λ r. ⌜ ReadWithin at (length (now (text .entry))) r ⌝ }
+    ensures { λ r. ⌜ RowRead (now (text .entry)) at w (now (marks .entry)) base (now (marks .exit)) r ⌝ }
 {
     let mut k: usize = 0;
     while k < w {
@@ -71,7 +71,7 @@ fn copy_row(text: &[u8], at: usize, w: usize, line: u16, base: usize, marks: &mu
 // Reads the row at a column, which must have w cells; the column behind its newline is answered.
 fn read_row(text: &[u8], at: usize, w: usize, line: u16, base: usize, marks: &mut [u8]) -> Read
     requires { ⌜ (w ≤ 32) × (at < length (now text)) × (base + 32 ≤ length (now marks)) ⌝ }
-    ensures { λ r. ⌜ ReadWithin at (length (now (text .entry))) r ⌝ }
+    ensures { λ r. ⌜ RowRead (now (text .entry)) at w (now (marks .entry)) base (now (marks .exit)) r ⌝ }
 {
     let end = line_end(text, at);
     let n = end - at;
@@ -93,13 +93,13 @@ fn read_row(text: &[u8], at: usize, w: usize, line: u16, base: usize, marks: &mu
             other: w as u16,
         });
     }
-    copy_row(text, at, n, line, base, marks)
+    copy_row(text, at, w, line, base, marks)
 }
 
 // Reads rows of w cells from a column on, to the first line of a letter or the end.
 fn rows_from(text: &[u8], first: usize, w: usize, marks: &mut [u8]) -> Shaped
     requires { ⌜ (1 ≤ w) × (w ≤ 32) × (first ≤ length (now text)) × (1024 ≤ length (now marks)) ⌝ }
-    ensures { λ r. ⌜ ShapeWithin (length (now (text .entry))) r ⌝ }
+    ensures { λ r. ⌜ ShapeRead (now (text .entry)) first (now (marks .entry)) (now (marks .exit)) r ⌝ }
 {
     let mut at = first;
     let mut height: usize = 0;
@@ -117,10 +117,10 @@ fn rows_from(text: &[u8], first: usize, w: usize, marks: &mut [u8]) -> Shaped
             return Shaped::Refused(Problem::on(9, 34));
         }
         let row = read_row(text, at, w, height as u16 + 2, cells, marks);
-        let Read::At(next) = row else {
-            return refused(row);
-        };
-        at = next;
+        match row {
+            Read::Refused(x) => return Shaped::Refused(x),
+            Read::At(next) => at = next,
+        }
         cells += w;
         height += 1;
     }
@@ -132,20 +132,10 @@ fn rows_from(text: &[u8], first: usize, w: usize, marks: &mut [u8]) -> Shaped
     })
 }
 
-// What is wrong with a row.
-fn refused(row: Read) -> Shaped
-    ensures { λ r. ⌜ ShapeWithin 0 r ⌝ }
-{
-    match row {
-        Read::Refused(x) => Shaped::Refused(x),
-        Read::At(_) => Shaped::Refused(Problem::on(4, 2)),
-    }
-}
-
 // Reads the rows from a column on, of which there must be one.
 pub fn read_rows(text: &[u8], first: usize, marks: &mut [u8]) -> Shaped
     requires { ⌜ (first ≤ length (now text)) × (1024 ≤ length (now marks)) ⌝ }
-    ensures { λ r. ⌜ ShapeWithin (length (now (text .entry))) r ⌝ }
+    ensures { λ r. ⌜ ShapeRead (now (text .entry)) first (now (marks .entry)) (now (marks .exit)) r ⌝ }
 {
     if first == text.len() {
         return Shaped::Refused(Problem::on(4, 2));

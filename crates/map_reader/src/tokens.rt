@@ -1,6 +1,8 @@
 // The small parts of a map: its first line, words, numbers and marks.
 ghost use Prim.Native.Nat.{_+_, _*_, _≤_, _<_};
+ghost use mathlib.Core.Path.{_≡_};
 ghost use lib.ListN.{length};
+ghost use Rattle.map_reader.specs.Marks.{thingOf, placeOf};
 
 // What is wrong with a map: the kind tells the words, the others what they name.
 pub struct Problem {
@@ -181,7 +183,7 @@ pub fn read_head(text: &[u8]) -> Head
 
 // The place of a mark among `1` to `8`, `a` to `h`; 16 for another byte.
 pub fn thing_of(b: u8) -> usize
-    ensures { λ r. ⌜ r ≤ 16 ⌝ }
+    ensures { λ r. ⌜ (r ≡ thingOf b) × (r ≤ 16) ⌝ }
 {
     if b < 49 {
         return 16;
@@ -200,7 +202,7 @@ pub fn thing_of(b: u8) -> usize
 
 // The place of a capital letter among `A` to `Z`; 26 for another byte.
 pub fn letter_of(b: u8) -> usize
-    ensures { λ r. ⌜ r ≤ 26 ⌝ }
+    ensures { λ r. ⌜ (r ≡ placeOf b) × (r ≤ 26) ⌝ }
 {
     if b < 65 {
         return 26;

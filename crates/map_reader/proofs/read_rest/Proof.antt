@@ -10,27 +10,32 @@ cast-at : tie.Need-cast-at
 cast-at c =
     let after-lineless : tie.After-lineless = search in
     let start : tie.Start = search in
-    omega (arith, start .pre .0 .cells, after-lineless .lineless .ensures, div-le-self (after-lineless .lineless .result) (start .args .shape .width))
+    omega (arith, start .pre .few, after-lineless .lineless .ensures, div-le-self (after-lineless .lineless .result) (start .args .shape .width))
 
 add-at : tie.Need-add-at
 add-at c =
     let after-lineless : tie.After-lineless = search in
     let start : tie.Start = search in
-    omega (arith, start .pre .0 .cells, after-lineless .lineless .ensures, div-le-self (after-lineless .lineless .result) (start .args .shape .width))
+    omega (arith, start .pre .few, after-lineless .lineless .ensures, div-le-self (after-lineless .lineless .result) (start .args .shape .width))
 
 cast-at-2 : tie.Need-cast-at-2
 cast-at-2 c =
     let after-lineless : tie.After-lineless = search in
     let start : tie.Start = search in
-    let below = mod-lt (after-lineless .lineless .result) {m = start .args .shape .width} (omega (arith, start .pre .0 .some)) in
-    omega (arith, start .pre .0 .width)
+    let below = mod-lt (after-lineless .lineless .result) {m = start .args .shape .width} (omega (arith, start .pre .some)) in
+    omega (arith, start .pre .width)
 
 add-at-2 : tie.Need-add-at-2
 add-at-2 c =
     let after-lineless : tie.After-lineless = search in
     let start : tie.Start = search in
-    let below = mod-lt (after-lineless .lineless .result) {m = start .args .shape .width} (omega (arith, start .pre .0 .some)) in
-    omega (arith, start .pre .0 .width)
+    let below = mod-lt (after-lineless .lineless .result) {m = start .args .shape .width} (omega (arith, start .pre .some)) in
+    omega (arith, start .pre .width)
+
+returns-5 : tie.Need-returns-5
+returns-5 c =
+    let after-write-map : tie.After-write-map = search in
+    after-write-map .write-map .ensures
 
 pub read-rest-spec : {M : Type 1} → statement M
 unfolding ToldIn
@@ -40,4 +45,4 @@ read-rest-spec =
     (λ c. search needs) cast-at add-at (λ c. search needs) cast-at-2 add-at-2 (λ c. search needs) (λ c κs. search needs)
     (λ c. search needs) (λ c. search needs) (λ c κs. search needs) (λ c κs. search needs) (λ c. search needs) (λ c. search needs)
     (λ c κs. search needs) (λ c. search needs) (λ c. search needs) (λ c κs. search needs) (λ c. search needs) (λ c. search needs)
-    (λ c κs. search needs) (λ c. search needs) (λ c. search needs))
+    (λ c κs. search needs) (λ c. search needs) returns-5)
