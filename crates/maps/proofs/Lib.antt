@@ -3,3 +3,4 @@ pub mod LinesLaws
 pub mod MarkLaws
 pub mod MapLaws
 mod Cases
+pub mod Theorems

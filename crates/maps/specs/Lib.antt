@@ -2,3 +2,4 @@
 pub mod Text
 pub mod Map
 pub mod Inner
+pub mod Claims
