@@ -62,10 +62,13 @@ module _ (f : Floor) (m : List ℕ) (t c i : ℕ) (old : List ℕ) (at : ℕ) wh
   unfolding presentOf
   away-put h l e = rw (answer-route m i h) (cond-away _ _ _ _ (ne-eqb _ c (λ z. e (sym (cell-then l) ∙ z))))
 
-pub present-short : (f : Floor) (t c i : ℕ) (x : Answer) → length (presentOf f t c i x) ≤ 1
+present-short : (f : Floor) (t c i : ℕ) (x : Answer) → length (presentOf f t c i x) ≤ 1
 unfolding presentOf
 present-short f t c i none = cond-short (eqb (startOf f i) c) ((65 + i) ∷ []) 1 (omega arith)
 present-short f t c i (route r) = cond-short (eqb (cellAt r t) c) ((49 + i) ∷ []) 1 (omega arith)
+
+pub presents-short : (f : Floor) (xs : ℕ → Answer) (t c i : ℕ) → length (presentOf f t c i (xs i)) ≤ 1
+presents-short f xs t c i = present-short f t c i (xs i)
 
 -- What a cell shows where no carrier is.
 module _ (f : Floor) (ws : List ℕ) (c : ℕ) where

@@ -27,7 +27,8 @@ use Rattle.maps.specs.Map.{mapOf}
 use Rattle.maps.proofs.LinesLaws.{nothing-put}
 use Rattle.maps.proofs.MarkLaws.{cond-short}
 use Rattle.maps.proofs.MapLaws.{decimal-short, grid-short, map-short}
-use Rattle.frames.specs.Text.{carrierWords, arrivesWords, staysWords, beatWords, frameMark, frameRows, frameOf, arrivalWords, arrivalLine}
+use Rattle.frames.specs.Text.{carrierWords, arrivesWords, staysWords, beatWords, frameMark, frameRows, frameOf, arrivalWords}
+use Rattle.frames.specs.Text.{arrivalLine}
 use Rattle.frames.specs.Text.{drawHead, drawOf, planned, floorText, floorBeat}
 use Rattle.frames.proofs.CellLaws.{answer-none, answer-route}
 use Rattle.frames.proofs.PlanLaws.{answers-same}
@@ -44,12 +45,13 @@ module _ (f : Floor) (m : List ℕ) (i : ℕ) (old : List ℕ) (at : ℕ) where
   stays-put new n h p = rw (answer-none m i h) p
 
   pub arrives-put : (cells m₁ m₂ new : List ℕ) (a x b n : ℕ) → getD m (65 * i) 0 ≡ 2 → f .horizon ≤ 63 → cells ≡ part m (65 * i + 1) 64 →
-      x ≡ arrivalOf cells (min (f .horizon) 63) → PutAt arrivesWords old at m₁ a → PutAt (decimal x) m₁ a m₂ b → PutAt (10 ∷ []) m₂ b new n →
-      at + 20 ≤ length old → PutAt (arrivalWords f (answerIn m i)) old at new n
+      x ≡ arrivalOf cells (min (f .horizon) 63) → PutAt arrivesWords old at m₁ a → PutAt (decimal x) m₁ a m₂ b →
+      PutAt (10 ∷ []) m₂ b new n → at + 20 ≤ length old → PutAt (arrivalWords f (answerIn m i)) old at new n
   unfolding arrivalWords arrivesWords
   arrives-put cells m₁ m₂ new a x b n h l e g p q r room =
       let low : min (f .horizon) 63 ≡ f .horizon = omega arith in
-      let same : x ≡ arrivalOf (part m (65 * i + 1) 64) (f .horizon) = g ∙ ap (arrivalOf cells) low ∙ ap (λ (y : List ℕ). arrivalOf y (f .horizon)) e in
+      let same : x ≡ arrivalOf (part m (65 * i + 1) 64) (f .horizon) =
+      g ∙ ap (arrivalOf cells) low ∙ ap (λ (y : List ℕ). arrivalOf y (f .horizon)) e in
       let d = decimal-short x in
       rw (answer-route m i h, ← same)
       (put-behind (put-behind p q (omega (arith, p .behind, q .behind))) r (omega (arith, p .behind, q .behind, r .behind)))
@@ -85,7 +87,8 @@ unfolding arrivalLine carrierWords
 arrival-short f xs i = omega (arith, length-append (carrierWords ++ ((49 + i) ∷ [])) (arrivalWords f (xs i)), words-short f (xs i))
 
 pub arrival-put : (f : Floor) (xs : ℕ → Answer) (i at a b n : ℕ) (old m₁ m₂ new : List ℕ) → PutAt carrierWords old at m₁ a →
-    PutAt ((49 + i) ∷ []) m₁ a m₂ b → PutAt (arrivalWords f (xs i)) m₂ b new n → at + 46 ≤ length old → PutAt (arrivalLine f xs i) old at new n
+    PutAt ((49 + i) ∷ []) m₁ a m₂ b → PutAt (arrivalWords f (xs i)) m₂ b new n → at + 46 ≤ length old →
+    PutAt (arrivalLine f xs i) old at new n
 unfolding arrivalLine carrierWords
 arrival-put f xs i at a b n old m₁ m₂ new p q r l =
     let s = words-short f (xs i) in

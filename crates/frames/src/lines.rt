@@ -40,7 +40,8 @@ fn put_arrival(f: Floor, own: &[u16], i: usize, out: &mut [u8], at: usize) -> us
 // Puts the lines of all carriers; the column behind them is returned.
 pub fn put_arrivals(f: Floor, own: &[u16], out: &mut [u8], at: usize) -> usize
     requires { ⌜ (length (now own) ≡ 520) × (f .carriers ≤ 8) × (f .horizon ≤ 63) × (at + 368 ≤ length (now out)) ⌝ }
-    ensures { λ r. ⌜ PutAt (linesOf (arrivalLine f (answerIn (now (own .entry)))) (f .carriers)) (now (out .entry)) at (now (out .exit)) r ⌝ }
+    ensures { λ r. ⌜ PutAt (linesOf (arrivalLine f (answerIn (now (own .entry)))) (f .carriers))
+        (now (out .entry)) at (now (out .exit)) r ⌝ }
 {
     let n = f.carriers as usize;
     let mut end = at;

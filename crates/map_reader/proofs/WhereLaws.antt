@@ -62,7 +62,8 @@ module _ (p : ℕ → Bool) where
         List·getD-append (cellsWhere p n) (cond (p n) (n ∷ []) []) 0 (length (cellsWhere p i)) (w .0) ∙ w .1,
       )
 
-      last : p n ≡ true → (length (cellsWhere p n) < length (cellsWhere p (suc n))) × (getD (cellsWhere p (suc n)) (length (cellsWhere p n)) 0 ≡ n)
+      last : p n ≡ true →
+          (length (cellsWhere p n) < length (cellsWhere p (suc n))) × (getD (cellsWhere p (suc n)) (length (cellsWhere p n)) 0 ≡ n)
       last e = (
         omega (arith, ap length (where-there n e), length-append (cellsWhere p n) (n ∷ [])),
         ap (λ (l : List ℕ). getD l (length (cellsWhere p n)) 0) (where-there n e) ∙ getD-append-seam (cellsWhere p n) n [] 0,

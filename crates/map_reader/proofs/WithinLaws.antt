@@ -74,7 +74,8 @@ module _ (text old : List ℕ) (first w : ℕ) (narrow : w ≤ 32) where
   unfolding rowsIn line
   rows-start = lines-start line 32 short old 0
 
-  pub rows-keeps : (h n : ℕ) (mid : List ℕ) → PutAt (rowsIn text first w h) old 0 mid n → h ≤ 32 → 1024 ≤ length old → length mid ≡ length old
+  pub rows-keeps : (h n : ℕ) (mid : List ℕ) → PutAt (rowsIn text first w h) old 0 mid n → h ≤ 32 → 1024 ≤ length old →
+      length mid ≡ length old
   unfolding rowsIn line
   rows-keeps h n mid e l room = put-keeps e (omega (arith, lines-low line 32 short old 0 h n mid e))
 

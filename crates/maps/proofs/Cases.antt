@@ -8,7 +8,8 @@ use Rattle.floor.specs.declared.Floor.{Floor}
 use Rattle.floor.specs.Checks.{startOf, countOf, docksOf, isDock, among}
 use Rattle.sheet.specs.Text.{linesOf}
 use Rattle.maps.specs.Text.{decimal, oneOf, marksText, rowOf, gridOf}
-use Rattle.maps.specs.Map.{horizonWords, depthWords, mapHead, startMark, dockMark, startMarks, dockMarks, marksOf, sharedBelow, letterOf}
+use Rattle.maps.specs.Map.{horizonWords, depthWords, mapHead, startMark, dockMark, startMarks, dockMarks, marksOf, sharedBelow}
+use Rattle.maps.specs.Map.{letterOf}
 use Rattle.maps.specs.Map.{mapMark, letterLine}
 
 abbrev grid : Floor
@@ -32,8 +33,8 @@ head = refl
 
 -- `A.B` and `.#b`, from the marks of six cells.
 rows : gridOf (marksText (mapMark grid (4 ∷ [])) 6) 3 2 ≡ 65 ∷ 46 ∷ 66 ∷ 10 ∷ 46 ∷ 35 ∷ 98 ∷ 10 ∷ []
-unfolding gridOf rowOf part marksText mapMark letterOf sharedBelow marksOf startMarks dockMarks startMark dockMark oneOf linesOf among startOf
-    countOf docksOf isDock
+unfolding gridOf rowOf part marksText mapMark letterOf sharedBelow marksOf startMarks dockMarks startMark dockMark oneOf linesOf among
+    startOf countOf docksOf isDock
 rows = refl
 
 -- `A 1b` and `B 2a`.

@@ -152,7 +152,8 @@ module _ (f : Floor) (ws : List ℕ) (ok : checkOf f ws ≡ passed) where
 
   letters-short : length (linesOf (letterLine f) (f .width * f .height)) ≤ 19456
   letters-short =
-      omega (arith, cells-low, lines-within (letterLine f) 19 (f .width * f .height) (letter-short f (check-tells f ws ok .bounds .carriers .1)))
+      let few = check-tells f ws ok .bounds .carriers .1 in
+      omega (arith, cells-low, lines-within (letterLine f) 19 (f .width * f .height) (letter-short f few))
 
   pub map-short : length (mapOf f ws) ≤ 20532
   unfolding mapOf

@@ -42,7 +42,7 @@ one-cell x (suc n) = go (eqb x n) refl (one-cell x n)
     go : (b : Bool) → eqb x n ≡ b →
         (sumOf (λ (c : ℕ). marked (eqb x c)) n ≤ 1) × (n ≤ x → sumOf (λ (c : ℕ). marked (eqb x c)) n ≡ 0) →
         (sumOf (λ (c : ℕ). marked (eqb x c)) n + marked (eqb x n) ≤ 1)
-            × (suc n ≤ x → sumOf (λ (c : ℕ). marked (eqb x c)) n + marked (eqb x n) ≡ 0)
+        × (suc n ≤ x → sumOf (λ (c : ℕ). marked (eqb x c)) n + marked (eqb x n) ≡ 0)
     go true e ih =
         let same = eqb-true x n e in
         (rw e (omega (arith, ih .1 (omega arith))), λ l. absurd (omega arith))

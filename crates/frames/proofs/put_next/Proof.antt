@@ -17,7 +17,8 @@ returns c =
     let after-put-frame : tie.After-put-frame = search in
     let after-put-bytes : tie.After-put-bytes = search in
     let start : tie.Start = search in
-    next-put _ _ (start .pre .0 .checked) _ _ _ _ _ _ _ _ (after-put-bytes .put-bytes .ensures) (after-put-frame .put-frame .ensures) (start .pre .2)
+    next-put _ _ (start .pre .0 .checked) _ _ _ _ _ _ _ _ (after-put-bytes .put-bytes .ensures) (after-put-frame .put-frame .ensures)
+    (start .pre .2)
 
 pub put-next-spec : {M : Type 1} → statement M
 put-next-spec =

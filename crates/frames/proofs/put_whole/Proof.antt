@@ -20,7 +20,13 @@ put-beats-requires c κs =
     let start : tie.Start = search in
     let p = after-put-head .put-head in (
       record { checked = start .pre .0; long = after-plan-own .plan-own .ensures .long },
-      omega (arith, start .pre .1, head-short _ _ (start .pre .0) (answerIn (after-plan-own .plan-own .result)), p .ensures .behind, p .kept),
+      omega (
+        arith,
+        start .pre .1,
+        head-short _ _ (start .pre .0) (answerIn (after-plan-own .plan-own .result)),
+        p .ensures .behind,
+        p .kept,
+      ),
     )
 
 returns : tie.Need-returns

@@ -10,7 +10,8 @@ read-rest-requires c κs =
     let after-shaped2 : tie.After-shaped2 = search in
     let after-read-rows : tie.After-read-rows = search in
     let after-no-marks : tie.After-no-marks = search in
-    rows-in _ _ _ _ _ (told-rows _ _ _ _ _ _ (after-shaped2 .shaped2 .given .1) (after-read-rows .read-rows .ensures)) (after-no-marks .no-marks .ensures)
+    rows-in _ _ _ _ _ (told-rows _ _ _ _ _ _ (after-shaped2 .shaped2 .given .1) (after-read-rows .read-rows .ensures))
+    (after-no-marks .no-marks .ensures)
 
 returns-5 : tie.Need-returns-5
 returns-5 c =

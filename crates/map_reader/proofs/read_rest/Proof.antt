@@ -10,13 +10,23 @@ cast-at : tie.Need-cast-at
 cast-at c =
     let after-lineless : tie.After-lineless = search in
     let start : tie.Start = search in
-    omega (arith, start .pre .few, after-lineless .lineless .ensures, div-le-self (after-lineless .lineless .result) (start .args .shape .width))
+    omega (
+      arith,
+      start .pre .few,
+      after-lineless .lineless .ensures,
+      div-le-self (after-lineless .lineless .result) (start .args .shape .width),
+    )
 
 add-at : tie.Need-add-at
 add-at c =
     let after-lineless : tie.After-lineless = search in
     let start : tie.Start = search in
-    omega (arith, start .pre .few, after-lineless .lineless .ensures, div-le-self (after-lineless .lineless .result) (start .args .shape .width))
+    omega (
+      arith,
+      start .pre .few,
+      after-lineless .lineless .ensures,
+      div-le-self (after-lineless .lineless .result) (start .args .shape .width),
+    )
 
 cast-at-2 : tie.Need-cast-at-2
 cast-at-2 c =

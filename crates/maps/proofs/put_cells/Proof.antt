@@ -41,7 +41,8 @@ loop-again c =
     let at-loop : tie.At-loop Inv-loop μ-loop = search in
     let start : tie.Start Inv-loop μ-loop = search in (
       omega (arith, in-loop .loop-test .taken),
-      lines-more _ 1 (λ (d : ℕ). omega arith) _ _ _ _ _ (at-loop .loop .inv .1) _ _ (byte-put (after-map-mark .map-mark .ensures) (after-put-bytes .put-bytes .ensures))
+      lines-more _ 1 (λ (d : ℕ). omega arith) _ _ _ _ _ (at-loop .loop .inv .1) _ _
+          (byte-put (after-map-mark .map-mark .ensures) (after-put-bytes .put-bytes .ensures))
           (omega (arith, start .pre, in-loop .loop-test .taken)),
     )
 

@@ -41,7 +41,18 @@ put-bytes-requires-3 c κs =
     let q = after-put-number .put-number in
     let r = after-put-bytes2 .put-bytes2 in
     let s = after-put-number2 .put-number2 in
-    omega (arith, start .pre .2, p .ensures .behind, p .kept, q .ensures .behind, q .kept, r .ensures .behind, r .kept, s .ensures .behind, s .kept)
+    omega (
+      arith,
+      start .pre .2,
+      p .ensures .behind,
+      p .kept,
+      q .ensures .behind,
+      q .kept,
+      r .ensures .behind,
+      r .kept,
+      s .ensures .behind,
+      s .kept,
+    )
 
 returns : tie.Need-returns
 unfolding horizonWords depthWords
@@ -53,7 +64,8 @@ returns c =
     let after-put-bytes : tie.After-put-bytes = search in
     let start : tie.Start = search in
     head-put _ _ _ _ _ _ _ _ _ _ _ _ _ (after-put-bytes .put-bytes .ensures) (after-put-number .put-number .ensures)
-    (after-put-bytes2 .put-bytes2 .ensures) (after-put-number2 .put-number2 .ensures) (after-put-bytes3 .put-bytes3 .ensures) (start .pre .2)
+    (after-put-bytes2 .put-bytes2 .ensures) (after-put-number2 .put-number2 .ensures) (after-put-bytes3 .put-bytes3 .ensures)
+    (start .pre .2)
 
 pub put-head-spec : {M : Type 1} → statement M
 put-head-spec =

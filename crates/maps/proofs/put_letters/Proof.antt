@@ -19,25 +19,31 @@ abbrev μ-loop : tie.MeasureT-loop
 loop-holds : tie.Need-loop-holds Inv-loop μ-loop
 loop-holds c =
     let start : tie.Start Inv-loop μ-loop = search in
-    (search needs, lines-start _ 19 (letter-short (start .args .f) (start .pre .0 .few)) _ _)
+    let short = letter-short (start .args .f) (start .pre .0 .few) in
+    (search needs, lines-start _ 19 short _ _)
 
 put-letter-requires : tie.Need-put-letter-requires Inv-loop μ-loop
 put-letter-requires c κs =
     let in-loop : tie.In-loop Inv-loop μ-loop = search in
     let at-loop : tie.At-loop Inv-loop μ-loop = search in
     let start : tie.Start Inv-loop μ-loop = search in
+    let short = letter-short (start .args .f) (start .pre .0 .few) in
     let e = at-loop .loop .inv .1 in
-    let long = lines-keep _ 19 (letter-short (start .args .f) (start .pre .0 .few)) _ _ _ _ _ e (omega (arith, start .pre .1, start .pre .2, in-loop .loop-test .taken)) in
-    (start .pre .0, omega (arith, start .pre .1, in-loop .loop-test .taken), omega (arith, long, start .pre .1, start .pre .2, in-loop .loop-test .taken, lines-low _ 19 (letter-short (start .args .f) (start .pre .0 .few)) _ _ _ _ _ e))
+    let long = lines-keep _ 19 short _ _ _ _ _ e (omega (arith, start .pre .1, start .pre .2, in-loop .loop-test .taken)) in (
+      start .pre .0,
+      omega (arith, start .pre .1, in-loop .loop-test .taken),
+      omega (arith, long, start .pre .1, start .pre .2, in-loop .loop-test .taken, lines-low _ 19 short _ _ _ _ _ e),
+    )
 
 loop-again : tie.Need-loop-again Inv-loop μ-loop
 loop-again c =
     let after-put-letter : tie.After-put-letter Inv-loop μ-loop = search in
     let in-loop : tie.In-loop Inv-loop μ-loop = search in
     let at-loop : tie.At-loop Inv-loop μ-loop = search in
-    let start : tie.Start Inv-loop μ-loop = search in (
+    let start : tie.Start Inv-loop μ-loop = search in
+    let short = letter-short (start .args .f) (start .pre .0 .few) in (
       omega (arith, in-loop .loop-test .taken),
-      lines-more _ 19 (letter-short (start .args .f) (start .pre .0 .few)) _ _ _ _ _ (at-loop .loop .inv .1) _ _ (after-put-letter .put-letter .ensures)
+      lines-more _ 19 short _ _ _ _ _ (at-loop .loop .inv .1) _ _ (after-put-letter .put-letter .ensures)
           (omega (arith, start .pre .1, start .pre .2, in-loop .loop-test .taken)),
     )
 
@@ -45,13 +51,15 @@ same-length : tie.Need-same-length Inv-loop μ-loop
 same-length c =
     let at-loop : tie.At-loop Inv-loop μ-loop = search in
     let start : tie.Start Inv-loop μ-loop = search in
-    lines-keep _ 19 (letter-short (start .args .f) (start .pre .0 .few)) _ _ _ _ _ (at-loop .loop .inv .1) (omega (arith, start .pre .1, start .pre .2, at-loop .loop .inv .0))
+    let short = letter-short (start .args .f) (start .pre .0 .few) in
+    lines-keep _ 19 short _ _ _ _ _ (at-loop .loop .inv .1) (omega (arith, start .pre .1, start .pre .2, at-loop .loop .inv .0))
 
 returns : tie.Need-returns Inv-loop μ-loop
 returns c =
     let at-loop : tie.At-loop Inv-loop μ-loop = search in
     let start : tie.Start Inv-loop μ-loop = search in
-    lines-end _ 19 (letter-short (start .args .f) (start .pre .0 .few)) _ _ _ _ _ (at-loop .loop .inv .1) _ (at-loop .loop .inv .0) (c .loop-test .left)
+    let short = letter-short (start .args .f) (start .pre .0 .few) in
+    lines-end _ 19 short _ _ _ _ _ (at-loop .loop .inv .1) _ (at-loop .loop .inv .0) (c .loop-test .left)
 
 pub put-letters-spec : {M : Type 1} → statement M
 put-letters-spec =

@@ -34,7 +34,16 @@ put-letters-requires c κs =
     let q = after-put-rows .put-rows in (
       markable _ _ ok,
       cells-low _ _ ok,
-      omega (arith, start .pre .1, head-short (start .args .f), rows-short _ _ ok, p .ensures .behind, p .kept, q .ensures .behind, q .kept),
+      omega (
+        arith,
+        start .pre .1,
+        head-short (start .args .f),
+        rows-short _ _ ok,
+        p .ensures .behind,
+        p .kept,
+        q .ensures .behind,
+        q .kept,
+      ),
     )
 
 returns : tie.Need-returns

@@ -7,7 +7,7 @@ use Prim.Native.Nat.{ℕ}
 use denote.Ref.{now}
 use Rattle.records.specs.Records.{answerIn}
 use Rattle.frames.specs.Text.{presentOf, presentIn}
-use Rattle.frames.proofs.CellLaws.{present-short}
+use Rattle.frames.proofs.CellLaws.{presents-short}
 use native.Mathlib.Omega.{arith}
 use borrow.Author.Needs.{needs}
 use Rattle.frames.proofs.cells.put_carriers.Statement.{statement}
@@ -22,25 +22,32 @@ abbrev μ-loop : tie.MeasureT-loop
 loop-holds : tie.Need-loop-holds Inv-loop μ-loop
 loop-holds c =
     let start : tie.Start Inv-loop μ-loop = search in
-    (search needs, lines-start _ 1 (λ (j : ℕ). present-short (start .args .f) (start .args .t) (start .args .c) j (answerIn (now (start .args .own)) j)) _ _)
+    let short = presents-short (start .args .f) (answerIn (now (start .args .own))) (start .args .t) (start .args .c) in
+    (search needs, lines-start _ 1 short _ _)
 
 put-carrier-requires : tie.Need-put-carrier-requires Inv-loop μ-loop
 put-carrier-requires c κs =
     let in-loop : tie.In-loop Inv-loop μ-loop = search in
     let at-loop : tie.At-loop Inv-loop μ-loop = search in
     let start : tie.Start Inv-loop μ-loop = search in
+    let short = presents-short (start .args .f) (answerIn (now (start .args .own))) (start .args .t) (start .args .c) in
     let e = at-loop .loop .inv .1 in
-    let long = lines-keep _ 1 (λ (j : ℕ). present-short (start .args .f) (start .args .t) (start .args .c) j (answerIn (now (start .args .own)) j)) _ _ _ _ _ e (omega (arith, start .pre .0, start .pre .3, in-loop .loop-test .taken)) in
-    (start .pre .1, omega (arith, start .pre .0, in-loop .loop-test .taken), start .pre .2, omega (arith, long, start .pre .0, start .pre .3, in-loop .loop-test .taken, lines-low _ 1 (λ (j : ℕ). present-short (start .args .f) (start .args .t) (start .args .c) j (answerIn (now (start .args .own)) j)) _ _ _ _ _ e))
+    let long = lines-keep _ 1 short _ _ _ _ _ e (omega (arith, start .pre .0, start .pre .3, in-loop .loop-test .taken)) in (
+      start .pre .1,
+      omega (arith, start .pre .0, in-loop .loop-test .taken),
+      start .pre .2,
+      omega (arith, long, start .pre .0, start .pre .3, in-loop .loop-test .taken, lines-low _ 1 short _ _ _ _ _ e),
+    )
 
 loop-again : tie.Need-loop-again Inv-loop μ-loop
 loop-again c =
     let after-put-carrier : tie.After-put-carrier Inv-loop μ-loop = search in
     let in-loop : tie.In-loop Inv-loop μ-loop = search in
     let at-loop : tie.At-loop Inv-loop μ-loop = search in
-    let start : tie.Start Inv-loop μ-loop = search in (
+    let start : tie.Start Inv-loop μ-loop = search in
+    let short = presents-short (start .args .f) (answerIn (now (start .args .own))) (start .args .t) (start .args .c) in (
       omega (arith, in-loop .loop-test .taken),
-      lines-more _ 1 (λ (j : ℕ). present-short (start .args .f) (start .args .t) (start .args .c) j (answerIn (now (start .args .own)) j)) _ _ _ _ _ (at-loop .loop .inv .1) _ _ (after-put-carrier .put-carrier .ensures)
+      lines-more _ 1 short _ _ _ _ _ (at-loop .loop .inv .1) _ _ (after-put-carrier .put-carrier .ensures)
           (omega (arith, start .pre .0, start .pre .3, in-loop .loop-test .taken)),
     )
 
@@ -48,14 +55,16 @@ same-length : tie.Need-same-length Inv-loop μ-loop
 same-length c =
     let at-loop : tie.At-loop Inv-loop μ-loop = search in
     let start : tie.Start Inv-loop μ-loop = search in
-    lines-keep _ 1 (λ (j : ℕ). present-short (start .args .f) (start .args .t) (start .args .c) j (answerIn (now (start .args .own)) j)) _ _ _ _ _ (at-loop .loop .inv .1) (omega (arith, start .pre .0, start .pre .3, at-loop .loop .inv .0))
+    let short = presents-short (start .args .f) (answerIn (now (start .args .own))) (start .args .t) (start .args .c) in
+    lines-keep _ 1 short _ _ _ _ _ (at-loop .loop .inv .1) (omega (arith, start .pre .0, start .pre .3, at-loop .loop .inv .0))
 
 returns : tie.Need-returns Inv-loop μ-loop
 unfolding presentIn
 returns c =
     let at-loop : tie.At-loop Inv-loop μ-loop = search in
     let start : tie.Start Inv-loop μ-loop = search in
-    lines-end _ 1 (λ (j : ℕ). present-short (start .args .f) (start .args .t) (start .args .c) j (answerIn (now (start .args .own)) j)) _ _ _ _ _ (at-loop .loop .inv .1) _ (at-loop .loop .inv .0) (c .loop-test .left)
+    let short = presents-short (start .args .f) (answerIn (now (start .args .own))) (start .args .t) (start .args .c) in
+    lines-end _ 1 short _ _ _ _ _ (at-loop .loop .inv .1) _ (at-loop .loop .inv .0) (c .loop-test .left)
 
 pub put-carriers-spec : {M : Type 1} → statement M
 put-carriers-spec =

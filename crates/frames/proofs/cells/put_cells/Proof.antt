@@ -15,7 +15,8 @@ use Rattle.frames.proofs.cells.put_cells.Statement.{statement}
 use Rattle.frames.proofs.cells.put_cells.Tie as tie
 
 abbrev Inv-loop : tie.InvT-loop
-Inv-loop f walls own t out₀ at₀ c₀ out at c = (c ≤ 1024) × PutAt (linesOf (λ (d : ℕ). frameMark f walls (answerIn own) t d ∷ []) c) out₀ 0 out at
+Inv-loop f walls own t out₀ at₀ c₀ out at c =
+    (c ≤ 1024) × PutAt (linesOf (λ (d : ℕ). frameMark f walls (answerIn own) t d ∷ []) c) out₀ 0 out at
 
 abbrev μ-loop : tie.MeasureT-loop
 μ-loop f walls own t out₀ at₀ c₀ out at c = 1024 - c
@@ -42,7 +43,8 @@ loop-again c =
     let at-loop : tie.At-loop Inv-loop μ-loop = search in
     let start : tie.Start Inv-loop μ-loop = search in (
       omega (arith, in-loop .loop-test .taken),
-      lines-more _ 1 (λ (d : ℕ). omega arith) _ _ _ _ _ (at-loop .loop .inv .1) _ _ (byte-put (after-frame-mark .frame-mark .ensures) (after-put-bytes .put-bytes .ensures))
+      lines-more _ 1 (λ (d : ℕ). omega arith) _ _ _ _ _ (at-loop .loop .inv .1) _ _
+          (byte-put (after-frame-mark .frame-mark .ensures) (after-put-bytes .put-bytes .ensures))
           (omega (arith, start .pre .2, in-loop .loop-test .taken)),
     )
 

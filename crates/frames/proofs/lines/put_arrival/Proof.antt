@@ -12,7 +12,8 @@ returns c =
     let after-put-bytes2 : tie.After-put-bytes2 = search in
     let after-put-bytes : tie.After-put-bytes = search in
     let start : tie.Start = search in
-    arrival-put _ _ _ _ _ _ _ _ _ _ _ (after-put-bytes .put-bytes .ensures) (after-put-bytes2 .put-bytes2 .ensures) (after-put-words .put-words .ensures)
+    arrival-put _ _ _ _ _ _ _ _ _ _ _ (after-put-bytes .put-bytes .ensures) (after-put-bytes2 .put-bytes2 .ensures)
+    (after-put-words .put-words .ensures)
     (start .pre .3)
 
 pub put-arrival-spec : {M : Type 1} → statement M

@@ -47,7 +47,8 @@ returns c =
     let after-put-number : tie.After-put-number = search in
     let after-put-bytes : tie.After-put-bytes = search in
     let start : tie.Start = search in
-    frame-put _ _ (start .pre .0 .checked) _ _ _ _ _ _ _ _ _ _ _ _ (after-put-bytes .put-bytes .ensures) (after-put-number .put-number .ensures)
+    frame-put _ _ (start .pre .0 .checked) _ _ _ _ _ _ _ _ _ _ _ _ (after-put-bytes .put-bytes .ensures)
+    (after-put-number .put-number .ensures)
     (after-put-bytes2 .put-bytes2 .ensures) (after-put-rows .put-rows .ensures) (start .pre .2)
 
 pub put-frame-spec : {M : Type 1} → statement M

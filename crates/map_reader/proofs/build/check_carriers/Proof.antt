@@ -1,4 +1,4 @@
--- `map_reader::build::check_carriers` meets its contract: it is safe and ends.
+-- `map_reader::build::check_carriers` is safe and ends.
 use Prim.Native.Nat.{_-_, _≤_}
 use borrow.Author.Needs.{needs}
 use Rattle.map_reader.proofs.build.check_carriers.Statement.{statement}

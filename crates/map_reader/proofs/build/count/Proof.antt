@@ -29,8 +29,10 @@ loop-again c =
     let at-loop : tie.At-loop Inv-loop μ-loop = search in
     let l = at-loop .loop .inv in
     let e = after-is-thing .is-thing .ensures in
-    ⊎-elim (λ w. (omega (arith, in-loop .loop-test .taken), omega (arith, w .1, l .1), w .1 ∙ count-there _ _ _ (l .2) (sym e ∙ w .0 .taken)))
-    (λ w. (omega (arith, in-loop .loop-test .taken), omega (arith, w .1, l .1), w .1 ∙ count-away _ _ _ (l .2) (sym e ∙ w .0 .left))) (c .if1 .came)
+    let less = in-loop .loop-test .taken in
+    ⊎-elim (λ w. (omega arith, omega (arith, w .1, l .1), w .1 ∙ count-there _ _ _ (l .2) (sym e ∙ w .0 .taken)))
+    (λ w. (omega arith, omega (arith, w .1, l .1), w .1 ∙ count-away _ _ _ (l .2) (sym e ∙ w .0 .left)))
+    (c .if1 .came)
 
 returns : tie.Need-returns Inv-loop μ-loop
 returns c =

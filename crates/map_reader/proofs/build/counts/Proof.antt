@@ -14,7 +14,8 @@ use Rattle.map_reader.proofs.build.counts.Statement.{statement}
 use Rattle.map_reader.proofs.build.counts.Tie as tie
 
 abbrev Inv-loop : tie.InvT-loop
-Inv-loop marks table n found₀ i₀ found i = (i ≤ 8) × (length found ≡ 8) × Filled (λ j. length (cellsWhere (isThing marks table (8 + j)) n)) found i
+Inv-loop marks table n found₀ i₀ found i =
+    (i ≤ 8) × (length found ≡ 8) × Filled (λ j. length (cellsWhere (isThing marks table (8 + j)) n)) found i
 
 abbrev μ-loop : tie.MeasureT-loop
 μ-loop marks table n found₀ i₀ found i = 8 - i

@@ -14,7 +14,8 @@ use Rattle.map_reader.proofs.build.docks.Statement.{statement}
 use Rattle.map_reader.proofs.build.docks.Tie as tie
 
 abbrev Inv-loop : tie.InvT-loop
-Inv-loop marks table n found₀ q₀ found q = (q ≤ 32) × (length found ≡ 32) × Filled (λ j. getD (cellsWhere (isThing marks table (8 + j / 4)) n) (j % 4) 0) found q
+Inv-loop marks table n found₀ q₀ found q =
+    (q ≤ 32) × (length found ≡ 32) × Filled (λ j. getD (cellsWhere (isThing marks table (8 + j / 4)) n) (j % 4) 0) found q
 
 abbrev μ-loop : tie.MeasureT-loop
 μ-loop marks table n found₀ q₀ found q = 32 - q

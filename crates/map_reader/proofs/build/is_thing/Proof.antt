@@ -20,7 +20,10 @@ returns-2 c =
     let after-letter-of : tie.After-letter-of = search in
     let else1 : tie.Else1 = search in
     let after-thing-of : tie.After-thing-of = search in
-    rw (ne-eqb _ _ (λ e. else1 .if1 .left (after-thing-of .thing-of .ensures .0 ∙ e)), eq-eqb _ _ (sym (after-letter-of .letter-of .ensures .0) ∙ then2 .if2 .taken))
+    rw (
+      ne-eqb _ _ (λ e. else1 .if1 .left (after-thing-of .thing-of .ensures .0 ∙ e)),
+      eq-eqb _ _ (sym (after-letter-of .letter-of .ensures .0) ∙ then2 .if2 .taken),
+    )
 
 returns-3 : tie.Need-returns-3
 unfolding isThing

@@ -12,15 +12,20 @@ use Rattle.map_reader.proofs.build.nth.Statement.{statement}
 use Rattle.map_reader.proofs.build.nth.Tie as tie
 
 abbrev Inv-loop : tie.InvT-loop
-Inv-loop marks table n thing k before₀ c₀ before c = (c ≤ n) × (before ≤ c) × (before ≤ k) × (before ≡ length (cellsWhere (isThing marks table thing) c))
+Inv-loop marks table n thing k before₀ c₀ before c =
+    (c ≤ n) × (before ≤ c) × (before ≤ k) × (before ≡ length (cellsWhere (isThing marks table thing) c))
 
 abbrev μ-loop : tie.MeasureT-loop
 μ-loop marks table n thing k before₀ c₀ before c = n - c
 
 loop-holds : tie.Need-loop-holds Inv-loop μ-loop
 loop-holds c =
-    let start : tie.Start Inv-loop μ-loop = search in
-    (search needs, search needs, search needs, count-start (isThing (now (start .args .marks)) (now (start .args .table)) (start .args .thing)))
+    let start : tie.Start Inv-loop μ-loop = search in (
+      search needs,
+      search needs,
+      search needs,
+      count-start (isThing (now (start .args .marks)) (now (start .args .table)) (start .args .thing)),
+    )
 
 returns : tie.Need-returns Inv-loop μ-loop
 returns c =

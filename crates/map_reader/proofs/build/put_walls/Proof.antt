@@ -38,7 +38,13 @@ slice-write-walls c =
     let at-loop : tie.At-loop Inv-loop μ-loop = search in
     let start : tie.Start Inv-loop μ-loop = search in
     let e = at-loop .loop .inv .1 in
-    omega (arith, list-low _ _ _ _ _ e, list-keep _ _ _ _ _ e (omega (arith, in-loop .loop-test .taken, start .pre .2)), in-loop .loop-test .taken, start .pre .2)
+    omega (
+      arith,
+      list-low _ _ _ _ _ e,
+      list-keep _ _ _ _ _ e (omega (arith, in-loop .loop-test .taken, start .pre .2)),
+      in-loop .loop-test .taken,
+      start .pre .2,
+    )
 
 add-found : tie.Need-add-found Inv-loop μ-loop
 add-found c =

@@ -14,7 +14,8 @@ use Rattle.map_reader.proofs.build.starts.Statement.{statement}
 use Rattle.map_reader.proofs.build.starts.Tie as tie
 
 abbrev Inv-loop : tie.InvT-loop
-Inv-loop marks table n found₀ i₀ found i = (i ≤ 8) × (length found ≡ 8) × Filled (λ j. getD (cellsWhere (isThing marks table j) n) 0 0) found i
+Inv-loop marks table n found₀ i₀ found i =
+    (i ≤ 8) × (length found ≡ 8) × Filled (λ j. getD (cellsWhere (isThing marks table j) n) 0 0) found i
 
 abbrev μ-loop : tie.MeasureT-loop
 μ-loop marks table n found₀ i₀ found i = 8 - i

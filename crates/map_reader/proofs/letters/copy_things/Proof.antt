@@ -1,4 +1,4 @@
--- `map_reader::letters::copy_things` meets its contract: it is safe and ends.
+-- `map_reader::letters::copy_things` is safe and ends.
 use Prim.Native.Nat.{_-_, _≤_}
 use lib.ListN.{length}
 use mathlib.Core.Path.{_≡_}

@@ -1,4 +1,4 @@
--- `map_reader::letters::is_used` meets its contract: it is safe and ends.
+-- `map_reader::letters::is_used` is safe and ends.
 use Prim.Native.Nat.{_-_, _≤_}
 use borrow.Author.Needs.{needs}
 use Rattle.map_reader.proofs.letters.is_used.Statement.{statement}

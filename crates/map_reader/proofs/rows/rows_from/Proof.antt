@@ -12,7 +12,9 @@ use Rattle.map_reader.proofs.rows.rows_from.Statement.{statement}
 use Rattle.map_reader.proofs.rows.rows_from.Tie as tie
 
 abbrev Inv-loop : tie.InvT-loop
-Inv-loop text first w marks₀ at₀ height₀ cells₀ marks at height cells = (height ≤ 32) × (cells ≤ 32 * height) × (at ≤ length text) × (at ≡ first + height * (w + 1)) × PutAt (rowsIn text first w height) marks₀ 0 marks cells
+Inv-loop text first w marks₀ at₀ height₀ cells₀ marks at height cells =
+    (height ≤ 32) × (cells ≤ 32 * height) × (at ≤ length text) × (at ≡ first + height * (w + 1))
+    × PutAt (rowsIn text first w height) marks₀ 0 marks cells
 
 abbrev μ-loop : tie.MeasureT-loop
 μ-loop text first w marks₀ at₀ height₀ cells₀ marks at height cells = length text - at

@@ -1,4 +1,4 @@
--- `map_reader::tokens::is_there` meets its contract: it is safe and ends.
+-- `map_reader::tokens::is_there` is safe and ends.
 use Prim.Native.Nat.{_-_, _≤_}
 use lib.ListN.{length}
 use mathlib.Core.Path.{_≡_}

@@ -32,8 +32,10 @@ returns-4 c =
     let then4 : tie.Then4 = search in
     let else3 : tie.Else3 = search in
     let else2 : tie.Else2 = search in
-    let else1 : tie.Else1 = search in
-    (rw (le-ltb _ _ (else1 .if1 .left), lt-leb _ _ (else2 .if2 .left), le-ltb _ _ (else3 .if3 .left), le-leb _ _ (then4 .if4 .taken)), search needs)
+    let else1 : tie.Else1 = search in (
+      rw (le-ltb _ _ (else1 .if1 .left), lt-leb _ _ (else2 .if2 .left), le-ltb _ _ (else3 .if3 .left), le-leb _ _ (then4 .if4 .taken)),
+      search needs,
+    )
 
 returns-5 : tie.Need-returns-5
 unfolding thingOf
@@ -41,8 +43,10 @@ returns-5 c =
     let else4 : tie.Else4 = search in
     let else3 : tie.Else3 = search in
     let else2 : tie.Else2 = search in
-    let else1 : tie.Else1 = search in
-    (rw (le-ltb _ _ (else1 .if1 .left), lt-leb _ _ (else2 .if2 .left), le-ltb _ _ (else3 .if3 .left), lt-leb _ _ (else4 .if4 .left)), search needs)
+    let else1 : tie.Else1 = search in (
+      rw (le-ltb _ _ (else1 .if1 .left), lt-leb _ _ (else2 .if2 .left), le-ltb _ _ (else3 .if3 .left), lt-leb _ _ (else4 .if4 .left)),
+      search needs,
+    )
 
 pub thing-of-spec : {M : Type 1} → statement M
 thing-of-spec =

@@ -39,7 +39,8 @@ returns-4 c =
     let else1 : tie.Else1 = search in
     let after-is-among : tie.After-is-among = search in
     mark-else _ _ _ _ (sym (after-is-among .is-among .ensures) ∙ else1 .if1 .left)
-    (one-several _ _ _ (after-put-marks .put-marks .ensures) (else2 .if2 .left) (else3 .if3 .left) ∙ sym (after-letter-of .letter-of .ensures))
+    (one-several _ _ _ (after-put-marks .put-marks .ensures) (else2 .if2 .left) (else3 .if3 .left)
+    ∙ sym (after-letter-of .letter-of .ensures))
 
 pub map-mark-spec : {M : Type 1} → statement M
 map-mark-spec =

@@ -20,7 +20,8 @@ abbrev μ-loop : tie.MeasureT-loop
 loop-holds : tie.Need-loop-holds Inv-loop μ-loop
 loop-holds c =
     let start : tie.Start Inv-loop μ-loop = search in
-    (search needs, lines-start _ 33 (row-short (now (start .args .marks)) (start .args .w) (start .pre .0)) _ _)
+    let short = row-short (now (start .args .marks)) (start .args .w) (start .pre .0) in
+    (search needs, lines-start _ 33 short _ _)
 
 mul-put-row : tie.Need-mul-put-row Inv-loop μ-loop
 mul-put-row c =
@@ -34,9 +35,13 @@ put-row-requires c κs =
     let in-loop : tie.In-loop Inv-loop μ-loop = search in
     let at-loop : tie.At-loop Inv-loop μ-loop = search in
     let start : tie.Start Inv-loop μ-loop = search in
+    let short = row-short (now (start .args .marks)) (start .args .w) (start .pre .0) in
     let e = at-loop .loop .inv .1 in
-    let long = lines-keep _ 33 (row-short (now (start .args .marks)) (start .args .w) (start .pre .0)) _ _ _ _ _ e (omega (arith, start .pre .1, start .pre .3, in-loop .loop-test .taken)) in
-    (start .pre .0, omega (arith, start .pre .2, row-cells (at-loop .loop .r) _ _ (start .pre .0) (start .pre .1) (in-loop .loop-test .taken)), omega (arith, long, start .pre .1, start .pre .3, in-loop .loop-test .taken, lines-low _ 33 (row-short (now (start .args .marks)) (start .args .w) (start .pre .0)) _ _ _ _ _ e))
+    let long = lines-keep _ 33 short _ _ _ _ _ e (omega (arith, start .pre .1, start .pre .3, in-loop .loop-test .taken)) in (
+      start .pre .0,
+      omega (arith, start .pre .2, row-cells (at-loop .loop .r) _ _ (start .pre .0) (start .pre .1) (in-loop .loop-test .taken)),
+      omega (arith, long, start .pre .1, start .pre .3, in-loop .loop-test .taken, lines-low _ 33 short _ _ _ _ _ e),
+    )
 
 loop-again : tie.Need-loop-again Inv-loop μ-loop
 unfolding rowOf
@@ -44,9 +49,10 @@ loop-again c =
     let after-put-row : tie.After-put-row Inv-loop μ-loop = search in
     let in-loop : tie.In-loop Inv-loop μ-loop = search in
     let at-loop : tie.At-loop Inv-loop μ-loop = search in
-    let start : tie.Start Inv-loop μ-loop = search in (
+    let start : tie.Start Inv-loop μ-loop = search in
+    let short = row-short (now (start .args .marks)) (start .args .w) (start .pre .0) in (
       omega (arith, in-loop .loop-test .taken),
-      lines-more _ 33 (row-short (now (start .args .marks)) (start .args .w) (start .pre .0)) _ _ _ _ _ (at-loop .loop .inv .1) _ _ (after-put-row .put-row .ensures)
+      lines-more _ 33 short _ _ _ _ _ (at-loop .loop .inv .1) _ _ (after-put-row .put-row .ensures)
           (omega (arith, start .pre .1, start .pre .3, in-loop .loop-test .taken)),
     )
 
@@ -54,14 +60,16 @@ same-length : tie.Need-same-length Inv-loop μ-loop
 same-length c =
     let at-loop : tie.At-loop Inv-loop μ-loop = search in
     let start : tie.Start Inv-loop μ-loop = search in
-    lines-keep _ 33 (row-short (now (start .args .marks)) (start .args .w) (start .pre .0)) _ _ _ _ _ (at-loop .loop .inv .1) (omega (arith, start .pre .1, start .pre .3, at-loop .loop .inv .0))
+    let short = row-short (now (start .args .marks)) (start .args .w) (start .pre .0) in
+    lines-keep _ 33 short _ _ _ _ _ (at-loop .loop .inv .1) (omega (arith, start .pre .1, start .pre .3, at-loop .loop .inv .0))
 
 returns : tie.Need-returns Inv-loop μ-loop
 unfolding gridOf
 returns c =
     let at-loop : tie.At-loop Inv-loop μ-loop = search in
     let start : tie.Start Inv-loop μ-loop = search in
-    lines-end _ 33 (row-short (now (start .args .marks)) (start .args .w) (start .pre .0)) _ _ _ _ _ (at-loop .loop .inv .1) _ (at-loop .loop .inv .0) (c .loop-test .left)
+    let short = row-short (now (start .args .marks)) (start .args .w) (start .pre .0) in
+    lines-end _ 33 short _ _ _ _ _ (at-loop .loop .inv .1) _ (at-loop .loop .inv .0) (c .loop-test .left)
 
 pub put-grid-spec : {M : Type 1} → statement M
 put-grid-spec =

@@ -13,7 +13,8 @@ returns c =
     let start : tie.Start = search in
     let b = start .args .base in
     let w = start .args .w in
-    row-put _ b w (b + w - b) _ _ _ _ _ _ (after-put-bytes .put-bytes .ensures) (omega arith) (after-put-bytes2 .put-bytes2 .ensures) (start .pre .0)
+    row-put _ b w (b + w - b) _ _ _ _ _ _ (after-put-bytes .put-bytes .ensures) (omega arith) (after-put-bytes2 .put-bytes2 .ensures)
+    (start .pre .0)
     (start .pre .2)
 
 pub put-row-spec : {M : Type 1} → statement M
