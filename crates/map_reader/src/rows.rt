@@ -48,6 +48,9 @@ pub fn is_letters(text: &[u8], at: usize) -> bool
     if text.len() - at < 2 {
         return false;
     }
+    if text[at] == 10 {
+        return false;
+    }
     text[at + 1] == 32
 }
 

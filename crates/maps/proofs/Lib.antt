@@ -1,4 +1,4 @@
--- Laws of texts put line by line, of marks and of maps.
+-- Laws of texts put line by line, of marks and of maps; the claims; marks and lines computed from the definitions.
 pub mod LinesLaws
 pub mod MarkLaws
 pub mod MapLaws
