@@ -1,7 +1,9 @@
 // The program `desk`: tools over a sheet from standard input, each a command named by the first argument. What is wrong with an
 // argument or a command is said in words on standard error.
 mod arguments;
+mod drawn;
 mod listed;
+mod mapped;
 mod played;
 
 use arguments::Decimal;
@@ -21,6 +23,10 @@ enum Command {
     Meeting,
     // `blockers`: prints who shuts each stranded carrier in.
     Blockers,
+    // `draw [BEAT]`: draws the floor with its carriers at that beat, or at all with its map and the arrivals.
+    Draw,
+    // `sheet`: prints the sheet of a map.
+    Sheet,
     // No command, or none of that name.
     Unknown,
 }
@@ -38,6 +44,12 @@ fn command_named(name: &[u8]) -> Command {
     }
     if arguments::same(name, b"blockers") {
         return Command::Blockers;
+    }
+    if arguments::same(name, b"draw") {
+        return Command::Draw;
+    }
+    if arguments::same(name, b"sheet") {
+        return Command::Sheet;
     }
     Command::Unknown
 }
@@ -207,6 +219,39 @@ fn blockers_command() {
     show_stranded()
 }
 
+// Says how `draw` is called.
+fn draw_usage() {
+    io::write_all(STDERR_FILENO, b"desk: draw [BEAT] < sheet\n");
+}
+
+// The command `draw`.
+fn draw_command() {
+    if os::arg_count() > 3 {
+        return draw_usage();
+    }
+    if os::arg_count() < 3 {
+        return drawn::draw_all();
+    }
+    let beat = argument(2);
+    let Decimal::Number(t) = beat else {
+        return draw_usage();
+    };
+    drawn::draw_beat(number_of(t))
+}
+
+// Says how `sheet` is called.
+fn sheet_usage() {
+    io::write_all(STDERR_FILENO, b"desk: sheet < map\n");
+}
+
+// The command `sheet`.
+fn sheet_command() {
+    if os::arg_count() != 2 {
+        return sheet_usage();
+    }
+    mapped::print_sheet()
+}
+
 fn main() {
     let mut name = io::buffer();
     let n = os::arg(1, &mut name);
@@ -215,10 +260,12 @@ fn main() {
         Command::Runs => runs_command(),
         Command::Meeting => meeting_command(),
         Command::Blockers => blockers_command(),
+        Command::Draw => draw_command(),
+        Command::Sheet => sheet_command(),
         Command::Unknown => {
             io::write_all(
                 STDERR_FILENO,
-                b"desk: no such command; commands: trial, runs, meeting, blockers\n",
+                b"desk: no such command; commands: trial, runs, meeting, blockers, draw, sheet\n",
             );
         }
     }

@@ -1,6 +1,7 @@
 //! The routes program over `paper.rs` alone: a sheet on standard input, its routes on standard output; with the arguments
 //! `trial ORDER SEED` the text of a trial, with `runs [RANK]` that of the complete runs, with `meeting I J` that of
-//! a meeting, with `blockers` that of the stranded carriers. It needs no archive.
+//! a meeting, with `blockers` that of the stranded carriers, with `draw [BEAT]` the floor beat by beat, with `sheet` the sheet of a map.
+//! It needs no archive.
 //! Its tests (`cargo test --bin paper`) hold `paper.rs` to document 01's twelve floors, its search to a search of all routes, and the
 //! benchmark's other planners to `paper.rs`.
 
@@ -13,10 +14,20 @@ mod bits;
 #[cfg(test)]
 #[path = "../draw.rs"]
 mod draw;
+#[path = "../maps.rs"]
+mod maps;
 #[path = "../paper.rs"]
 mod paper;
 
 use std::io::{Read, Write};
+
+/// A text for standard output; what is wrong goes to standard error.
+fn said(answer: Result<String, String>) -> String {
+    answer.unwrap_or_else(|words| {
+        eprintln!("desk: {words}");
+        String::new()
+    })
+}
 
 fn main() -> std::io::Result<()> {
     let mut text = Vec::new();
@@ -28,6 +39,8 @@ fn main() -> std::io::Result<()> {
         Some("runs") => paper::print_runs(&text, (words.len() > 1).then(|| number(1))),
         Some("meeting") => paper::print_meeting(&text, number(1), number(2)),
         Some("blockers") => paper::print_blockers(&text),
+        Some("draw") => said(maps::print_draw(&text, (words.len() > 1).then(|| number(1)))),
+        Some("sheet") => said(maps::print_sheet(&text)),
         _ => paper::print_routes(&text),
     };
     std::io::stdout().write_all(out.as_bytes())
@@ -36,6 +49,7 @@ fn main() -> std::io::Result<()> {
 #[cfg(test)]
 mod tests {
     use super::draw::Draw;
+    use super::maps;
     use super::paper::{self, calls, Answer, Floor, Route, View};
 
     const SHEET: &str = "    3    2    4    1    2    0\n    0    0    1    2    0\n    2    0    1    0    0\n";
@@ -70,6 +84,49 @@ mod tests {
 
     fn cells(route: &Answer, horizon: usize) -> Vec<u16> {
         route.expect("a route")[..=horizon].to_vec()
+    }
+
+    /// Document 01's third floor as a map and beat by beat, written by hand, and one map for each refusal.
+    #[test]
+    fn maps_and_frames() {
+        let map = "horizon 4 depth 1\nA.B\n...\nA 1b\nB 2a\n";
+        assert_eq!(maps::print_sheet(map.as_bytes()), Ok(SHEET.to_string()));
+        let arrivals = "carrier 1 arrives at beat 2\ncarrier 2 arrives at beat 4\n";
+        let beats = "\nbeat 0\n1.2\n...\n\nbeat 1\nb1a\n..2\n\nbeat 2\nb.1\n.2.\n\nbeat 3\nb21\n...\n\nbeat 4\n2.1\n...\n";
+        assert_eq!(maps::print_draw(SHEET.as_bytes(), None), Ok(format!("{map}\n{arrivals}{beats}")));
+        assert_eq!(maps::print_draw(SHEET.as_bytes(), Some(3)), Ok("beat 3\nb21\n...\n".into()));
+        assert_eq!(maps::print_draw(SHEET.as_bytes(), Some(5)), Err("the beat is above the horizon".into()));
+        for (text, words) in [
+            ("horizon 4  depth 1\n1a\n", "line 1 is not 'horizon H depth D'"),
+            ("horizon 64 depth 1\n1a\n", "line 1: the horizon is not 1 to 63"),
+            ("horizon 4 depth 0\n1a\n", "line 1: the depth is not 1 to 4"),
+            ("horizon 4 depth 1\n", "there is no row"),
+            ("horizon 4 depth 1\n1a\n...\n", "line 3 has 3 cells, line 2 has 2"),
+            ("horizon 4 depth 1\n1a\n.\n", "line 3 has 1 cell, line 2 has 2"),
+            ("horizon 4 depth 1\n1a\n..", "line 3 has no newline at its end"),
+            ("horizon 4 depth 1\n1a\n\n", "line 3 is empty"),
+            ("horizon 4 depth 1\n1a..............................x\n", "line 2 has more than 32 cells"),
+            ("horizon 4 depth 1\n1a\n.x\n", "line 3, column 2: 'x' is no mark"),
+            ("horizon 4 depth 1\n1a\n.\t\n", "line 3, column 2: byte 9 is no mark"),
+            ("horizon 4 depth 1\nA.\nA 1a\n..\n", "line 4, column 1: '.' is no letter"),
+            ("horizon 4 depth 1\nAB\nA 1a\nB1\n", "line 4, column 2: a space is missing"),
+            ("horizon 4 depth 1\nA.\nA 1A\n", "line 3, column 4: 'A' is no mark"),
+            ("horizon 4 depth 1\nA.\nA 1a1\n", "line 3, column 5: '1' stands twice"),
+            ("horizon 4 depth 1\nA.\nA 1\n", "line 3 has fewer than two marks"),
+            ("horizon 4 depth 1\nA.\nA 1a\nA 2b\n", "line 4: 'A' has a line already"),
+            ("horizon 4 depth 1\nA.\nA 1a\nB 2b\n", "line 4: 'B' is on no row"),
+            ("horizon 4 depth 1\n1a\n.B\n", "line 3, column 2: 'B' has no line"),
+            ("horizon 4 depth 1\n#.\n", "there is no carrier"),
+            ("horizon 4 depth 1\n1a\n3c\n", "carrier 2 has no start"),
+            ("horizon 4 depth 1\n1a\n1.\n", "carrier 1 has 2 starts"),
+            ("horizon 4 depth 1\n1.\n", "carrier 1 has no dock"),
+            ("horizon 4 depth 1\n1aaaaa\n", "carrier 1 has 5 docks"),
+        ] {
+            assert_eq!(maps::print_sheet(text.as_bytes()), Err(words.to_string()));
+        }
+        let rows = "1a\n".to_string() + &"..\n".repeat(32);
+        let high = maps::print_sheet(format!("horizon 4 depth 1\n{rows}").as_bytes());
+        assert_eq!(high, Err("line 34: there are more than 32 rows".to_string()));
     }
 
     #[test]

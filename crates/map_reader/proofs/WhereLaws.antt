@@ -1,0 +1,109 @@
+-- The cells for which a test holds: loops that count, list or look for them.
+use Prim.Native.Nat.{ℕ, zero, suc, _+_, _≤_, _<_}
+use native.Mathlib.Omega.{arith}
+use native.Mathlib.Nat.{add-zero}
+use native.Mathlib.Numerals.{add-one}
+use mathlib.Core.Bool.{Bool, true, false, cond}
+use mathlib.Core.Path.{_≡_, refl, sym, _∙_, ap}
+use mathlib.Core.List.{List, [], _∷_, _++_, append-nil}
+use borrow.Author.Count.{below-more}
+use lib.ListN.{length, getD, set, length-append, List·getD-append, List·getD-eq-default}
+use lib.Seq.{getD-append-seam}
+use Rattle.laws.specs.Memory.{put}
+use Rattle.laws.proofs.PutLaws.{put-one}
+use Rattle.sheet.specs.Text.{linesOf}
+use Rattle.reporting.specs.Put.{PutAt}
+use Rattle.maps.proofs.LinesLaws.{nothing-put, put-keeps, lines-start, lines-low, lines-keep, lines-more, lines-end}
+use Rattle.maps.proofs.MarkLaws.{cond-short}
+use Rattle.map_reader.specs.Marks.{cellsWhere}
+
+module _ (p : ℕ → Bool) where
+  -- One more cell.
+  pub where-there : (c : ℕ) → p c ≡ true → cellsWhere p (suc c) ≡ cellsWhere p c ++ (c ∷ [])
+  unfolding cellsWhere linesOf
+  where-there c e = rw (linesOf, e)
+
+  pub where-away : (c : ℕ) → p c ≡ false → cellsWhere p (suc c) ≡ cellsWhere p c
+  unfolding cellsWhere linesOf
+  where-away c e = rw (linesOf, e) (append-nil _)
+
+  -- A loop that counts them: before the first, one more, one that is not, and after the last.
+  pub count-start : 0 ≡ length (cellsWhere p 0)
+  unfolding cellsWhere linesOf
+  count-start = refl
+
+  pub count-there : (c k : ℕ) → k ≡ length (cellsWhere p c) → p c ≡ true → k + 1 ≡ length (cellsWhere p (c + 1))
+  count-there c k e h =
+      rw (add-one c, where-there c h) (omega (arith, length-append (cellsWhere p c) (c ∷ [])))
+
+  pub count-away : (c k : ℕ) → k ≡ length (cellsWhere p c) → p c ≡ false → k ≡ length (cellsWhere p (c + 1))
+  count-away c k e h = rw (add-one c, where-away c h) e
+
+  pub count-end : (n c k : ℕ) → k ≡ length (cellsWhere p c) → c ≤ n → n ≤ c → k ≡ length (cellsWhere p n)
+  count-end n c k e a b = let same : c ≡ n = omega arith in rw same at e
+
+  -- A cell for which the test holds stands behind those below it.
+  more-low : (n : ℕ) → length (cellsWhere p n) ≤ length (cellsWhere p (suc n))
+  unfolding cellsWhere linesOf
+  more-low n = omega (arith, length-append (linesOf (λ (c : ℕ). cond (p c) (c ∷ []) []) n) (cond (p n) (n ∷ []) []))
+
+  abbrev Stands : (n c : ℕ) → Type 0
+  Stands n c = p c ≡ true → (length (cellsWhere p c) < length (cellsWhere p n)) × (getD (cellsWhere p n) (length (cellsWhere p c)) 0 ≡ c)
+
+  stands : (n c : ℕ) → c < n → Stands n c
+  unfolding cellsWhere linesOf
+  stands zero c l = absurd (omega arith)
+  stands (suc n) c l = below-more (Stands (suc n)) n (λ i h e. kept i (stands n i h e)) last c (omega arith)
+    where
+      kept : (i : ℕ) → (length (cellsWhere p i) < length (cellsWhere p n)) × (getD (cellsWhere p n) (length (cellsWhere p i)) 0 ≡ i) →
+          (length (cellsWhere p i) < length (cellsWhere p (suc n))) × (getD (cellsWhere p (suc n)) (length (cellsWhere p i)) 0 ≡ i)
+      kept i w = (
+        omega (arith, w .0, more-low n),
+        List·getD-append (cellsWhere p n) (cond (p n) (n ∷ []) []) 0 (length (cellsWhere p i)) (w .0) ∙ w .1,
+      )
+
+      last : p n ≡ true →
+          (length (cellsWhere p n) < length (cellsWhere p (suc n))) × (getD (cellsWhere p (suc n)) (length (cellsWhere p n)) 0 ≡ n)
+      last e = (
+        omega (arith, ap length (where-there n e), length-append (cellsWhere p n) (n ∷ [])),
+        ap (λ (l : List ℕ). getD l (length (cellsWhere p n)) 0) (where-there n e) ∙ getD-append-seam (cellsWhere p n) n [] 0,
+      )
+
+  -- A loop that looks for the cell with k before it: it is there, or there is none.
+  pub nth-there : (n c k b : ℕ) → c < n → p c ≡ true → b ≡ length (cellsWhere p c) → b ≡ k → c ≡ getD (cellsWhere p n) k 0
+  nth-there n c k b l e h g =
+      sym (stands n c l e .1) ∙ ap (λ (j : ℕ). getD (cellsWhere p n) j 0) (sym h ∙ g)
+
+  pub nth-past : (n k b : ℕ) → b ≡ length (cellsWhere p n) → b ≤ k → 0 ≡ getD (cellsWhere p n) k 0
+  nth-past n k b e l = sym (List·getD-eq-default (cellsWhere p n) 0 (omega arith))
+
+  -- A loop that lists them in front of a memory: before the first, its number, its length, one more, one that is not, after the last.
+  short : (c : ℕ) → length (cond (p c) (c ∷ []) []) ≤ 1
+  short c = cond-short (p c) (c ∷ []) 1 (omega arith)
+
+  module _ (old : List ℕ) where
+    pub list-start : PutAt (cellsWhere p 0) old 0 old 0
+    unfolding cellsWhere
+    list-start = lines-start _ 1 short old 0
+
+    module _ (c k : ℕ) (mid : List ℕ) (e : PutAt (cellsWhere p c) old 0 mid k) where
+      pub list-low : k ≤ c
+      unfolding cellsWhere
+      list-low = omega (arith, lines-low _ 1 short old 0 c k mid e)
+
+      pub list-keep : c ≤ length old → length mid ≡ length old
+      list-keep l = put-keeps e (omega (arith, list-low))
+
+      pub list-there : (new : List ℕ) (n : ℕ) → p c ≡ true → new ≡ set mid k c → n ≡ k + 1 → c < length old →
+          PutAt (cellsWhere p (c + 1)) old 0 new n
+      unfolding cellsWhere
+      list-there new n h g s l =
+          lines-more _ 1 short old 0 c k mid e n new
+          (rw h (record { bytes = g ∙ put-one mid k c (omega (arith, list-low, list-keep (omega arith))); behind = s })) (omega arith)
+
+      pub list-away : (new : List ℕ) (n : ℕ) → p c ≡ false → new ≡ mid → n ≡ k → c < length old → PutAt (cellsWhere p (c + 1)) old 0 new n
+      unfolding cellsWhere
+      list-away new n h g s l = lines-more _ 1 short old 0 c k mid e n new (rw (h, g, s) (nothing-put mid k)) (omega arith)
+
+      pub list-end : (n : ℕ) → c ≤ n → n ≤ c → PutAt (cellsWhere p n) old 0 mid k
+      list-end n a b = let same : c ≡ n = omega arith in rw same at e

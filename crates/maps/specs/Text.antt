@@ -1,0 +1,28 @@
+-- Texts that maps and frames share: numbers, the marks of the cells in their order, and rows of marks.
+use Prim.Native.Nat.{ℕ, _+_, _*_, _/_, _%_}
+use mathlib.Core.Bool.{cond}
+use mathlib.Core.List.{List, [], _∷_, _++_}
+use lib.Dec.{eqb, ltb}
+use lib.ListN.{length, getD}
+use Rattle.laws.specs.Memory.{part}
+use Rattle.sheet.specs.Text.{linesOf}
+
+-- A number below 100 in decimal digits.
+unfoldable pub decimal : ℕ → List ℕ
+decimal n = cond (ltb n 10) ((48 + n) ∷ []) ((48 + n / 10) ∷ (48 + n % 10) ∷ [])
+
+-- One mark for a list of marks: the only one of it, or a mark for none, or one for several.
+unfoldable pub oneOf : List ℕ → (none several : ℕ) → ℕ
+oneOf ms none several = cond (eqb (length ms) 0) none (cond (eqb (length ms) 1) (getD ms 0 0) several)
+
+-- The marks of the cells 0 to n − 1, one behind the other.
+unfoldable pub marksText : (ℕ → ℕ) → ℕ → List ℕ
+marksText mark n = linesOf (λ c. mark c ∷ []) n
+
+-- Row r of a grid of width w: the marks of its cells, and one newline.
+unfoldable pub rowOf : List ℕ → (w r : ℕ) → List ℕ
+rowOf marks w r = part marks (r * w) w ++ (10 ∷ [])
+
+-- The grid: a line a row.
+unfoldable pub gridOf : List ℕ → (w h : ℕ) → List ℕ
+gridOf marks w h = linesOf (rowOf marks w) h
