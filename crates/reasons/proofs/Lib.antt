@@ -1,0 +1,2 @@
+-- Laws of positions and of numbers in words.
+pub mod PositionLaws

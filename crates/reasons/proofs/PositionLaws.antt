@@ -1,0 +1,105 @@
+-- Laws of lines and columns, of numbers in words, and of a position in words.
+use Prim.Native.Nat.{ℕ, suc, _+_, _-_, _≤_}
+use native.Mathlib.Omega.{arith}
+use native.Mathlib.Numerals.{add-one}
+use mathlib.Core.Bool.{cond}
+use mathlib.Core.List.{List, _++_}
+use mathlib.Core.Path.{_≡_, refl, sym, _∙_, ap}
+use lib.Dec.{eqb}
+use lib.ListN.{length, getD, take, drop, length-append, length-drop}
+use lib.Seq.{take-all, take-at, length-take-le}
+use Rattle.io.specs.Counts.{Counts}
+use Rattle.laws.specs.Verdict.{passed, refused}
+use Rattle.laws.proofs.PutLaws.{put-front}
+use Rattle.sheet.specs.Read.{sheetVerdict}
+use Rattle.reporting.specs.Put.{PutAt}
+use Rattle.reporting.proofs.ReportLaws.{put-behind}
+use Rattle.reasons.specs.Words.{decimal, fiveDigits, firstDigit}
+use Rattle.reasons.specs.Position.{lineAt, columnAt, lineWord, columnWord, colon, positionText, Begins, Told}
+
+-- A loop over the bytes before one: in front of the text, and behind one more byte b.
+pub line-start : (text : List ℕ) → 1 ≡ lineAt text 0
+unfolding lineAt
+line-start text = refl
+
+pub line-more : (text : List ℕ) (k line b next : ℕ) → line ≡ lineAt text k → b ≡ getD text k 0 → next ≡ cond (eqb b 10) (suc line) line
+    → next ≡ lineAt text (k + 1)
+unfolding lineAt
+line-more text k line b next e f g = rw add-one (cc)
+
+pub column-start : (text : List ℕ) → 1 ≡ columnAt text 0
+unfolding columnAt
+column-start text = refl
+
+pub column-more : (text : List ℕ) (k column b next : ℕ) → column ≡ columnAt text k → b ≡ getD text k 0
+    → next ≡ cond (eqb b 10) 1 (suc column) → next ≡ columnAt text (k + 1)
+unfolding columnAt
+column-more text k column b next e f g = rw add-one (cc)
+
+-- The loop's end.
+pub position-end : (at-byte : ℕ → ℕ) (k at n : ℕ) → k ≤ at → at ≤ k → (n ≡ at-byte k) × (n ≤ k + 1) → (n ≡ at-byte at) × (n ≤ at + 1)
+position-end at-byte k at n a b e =
+    let same : k ≡ at = omega arith in
+    rw same at e
+
+-- A number that is at most a memory's length counts bytes in front of it.
+pub counts-within : (n : ℕ) (xs : List ℕ) → n ≤ length xs → Counts n xs
+counts-within n xs l = (l, sym (length-take-le n xs l))
+
+-- The digits that are written, put.
+pub decimal-put : (n k : ℕ) (digits old new : List ℕ) (at next : ℕ) → digits ≡ fiveDigits n → k ≡ firstDigit n
+    → PutAt (take (5 - k) (drop k digits)) old at new next → PutAt (decimal n) old at new next
+unfolding decimal fiveDigits
+decimal-put n k digits old new at next e f p =
+    let whole : take (5 - k) (drop k digits) ≡ drop k digits =
+    take-all (5 - k) (drop k digits) (omega (arith, length-drop k digits, ap length e)) in
+    let same : drop k digits ≡ decimal n = rw (e, f) refl in
+    rw (whole ∙ same) at p
+
+pub decimal-short : (n : ℕ) → length (decimal n) ≤ 5
+unfolding decimal fiveDigits
+decimal-short n = omega (arith, length-drop (firstDigit n) (fiveDigits n))
+
+pub decimal-low : (n : ℕ) (old new : List ℕ) (at next : ℕ) → PutAt (decimal n) old at new next → next ≤ at + 5
+decimal-low n old new at next p = omega (arith, p .behind, decimal-short n)
+
+-- The words of a position, put piece by piece.
+pub position-put : (line column a b c d n : ℕ) (old m₁ m₂ m₃ m₄ new : List ℕ) → PutAt lineWord old 0 m₁ a → PutAt (decimal line) m₁ a m₂ b
+    → PutAt columnWord m₂ b m₃ c → PutAt (decimal column) m₃ c m₄ d → PutAt colon m₄ d new n → 26 ≤ length old
+    → PutAt (positionText line column) old 0 new n
+unfolding positionText lineWord columnWord colon
+position-put line column a b c d n old m₁ m₂ m₃ m₄ new p q r s t l =
+    let x = decimal-short line in
+    let y = decimal-short column in
+    let first = put-behind p q (omega (arith, p .behind, q .behind)) in
+    let second = put-behind first r (omega (arith, p .behind, q .behind, r .behind)) in
+    let third = put-behind second s (omega (arith, p .behind, q .behind, r .behind, s .behind)) in
+    put-behind third t (omega (arith, p .behind, q .behind, r .behind, s .behind, t .behind))
+
+pub position-short : (line column : ℕ) → length (positionText line column) ≤ 26
+unfolding positionText lineWord columnWord colon
+position-short line column =
+    rw (length-append, length-append, length-append, length-append) (omega (arith, decimal-short line, decimal-short column))
+
+pub position-low : (line column : ℕ) (old new : List ℕ) (n : ℕ) → PutAt (positionText line column) old 0 new n → n ≤ 26
+position-low line column old new n p = omega (arith, p .behind, position-short line column)
+
+-- A text with another behind it begins a memory.
+pub begins-put : (text rest old mid new : List ℕ) (at n : ℕ) → PutAt text old 0 mid at → PutAt rest mid at new n → n ≤ length old
+    → Begins text new n
+begins-put text rest old mid new at n p q l =
+    let both = put-behind p q l in
+    let f = put-front old new (text ++ rest) n (both .bytes) (omega (arith, both .behind)) (omega (arith, both .behind)) in
+    record { counted = counts-within n new (f .0); front = ap (take (length text)) (f .1) ∙ take-at text rest (length text) refl }
+
+-- What is told of the refusal of a sheet is told of each, since there is one.
+pub one-refusal : (text memory : List ℕ) (n k p : ℕ) → sheetVerdict text ≡ refused k p → Told text k p memory n
+    → (j q : ℕ) → sheetVerdict text ≡ refused j q → Told text j q memory n
+one-refusal text memory n k p e t j q f =
+    let number : k ≡ j = cc in
+    let place : p ≡ q = cc in
+    rw (← number, ← place) t
+
+pub no-refusal : (text memory : List ℕ) (n : ℕ) → sheetVerdict text ≡ passed → (j q : ℕ) → sheetVerdict text ≡ refused j q
+    → Told text j q memory n
+no-refusal text memory n e j q f = absurd (let z : _≡_ {A = ℕ} 0 1 = cc in omega arith)

@@ -1,0 +1,44 @@
+-- `reasons::position::column_of` meets its contract: by the number of the refusal.
+use borrow.Author.Tests.{eq-eqb, ne-eqb}
+use Rattle.reasons.specs.Position.{columnOf}
+use native.Mathlib.Omega.{arith}
+use borrow.Author.Needs.{needs}
+use Rattle.reasons.proofs.position.column_of.Statement.{statement}
+use Rattle.reasons.proofs.position.column_of.Tie as tie
+
+returns : tie.Need-returns
+unfolding columnOf
+returns c =
+    let after-column-at : tie.After-column-at = search in
+    let then1 : tie.Then1 = search in
+    let start : tie.Start = search in
+    let told = after-column-at .column-at .ensures in
+    (rw (eq-eqb _ _ (then1 .if1 .taken)) (told .0), omega (arith, told .1, start .pre .0))
+
+returns-2 : tie.Need-returns-2
+unfolding columnOf
+returns-2 c =
+    let then2 : tie.Then2 = search in
+    let else1 : tie.Else1 = search in
+    let start : tie.Start = search in
+    (rw (ne-eqb _ _ (else1 .if1 .left), ne-eqb _ _ (then2 .if2 .taken)), omega (arith, start .pre .1))
+
+returns-3 : tie.Need-returns-3
+unfolding columnOf
+returns-3 c =
+    let else2 : tie.Else2 = search in
+    let else1 : tie.Else1 = search in
+    (rw (ne-eqb _ _ (else1 .if1 .left), eq-eqb _ _ (else2 .if2 .left)) (omega arith), omega arith)
+
+returns-4 : tie.Need-returns-4
+unfolding columnOf
+returns-4 c =
+    let else2 : tie.Else2 = search in
+    let else1 : tie.Else1 = search in
+    let start : tie.Start = search in
+    (rw (ne-eqb _ _ (else1 .if1 .left), eq-eqb _ _ (else2 .if2 .left)), omega (arith, start .pre .0))
+
+pub column-of-spec : {M : Type 1} → statement M
+column-of-spec =
+    tie.close (tie.spec (λ c κs. search needs) returns (λ c. search needs) (λ c. search needs) returns-2 returns-3
+    (λ c. search needs) (λ c. search needs) returns-4)

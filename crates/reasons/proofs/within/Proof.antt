@@ -1,0 +1,16 @@
+-- `reasons::within` meets its contract.
+use mathlib.Core.Path.{sym}
+use Rattle.reasons.proofs.PositionLaws.{counts-within}
+use borrow.Author.Needs.{needs}
+use native.Mathlib.Omega.{arith}
+use Rattle.reasons.proofs.within.Statement.{statement}
+use Rattle.reasons.proofs.within.Tie as tie
+
+returns : tie.Need-returns
+returns c = counts-within _ _ (omega arith)
+
+returns-2 : tie.Need-returns-2
+returns-2 c = counts-within _ _ (omega arith)
+
+pub within-spec : {M : Type 1} → statement M
+within-spec = tie.close (tie.spec returns returns-2)

@@ -1,0 +1,15 @@
+-- `reasons::words::five_digits` meets its contract.
+use Rattle.reasons.specs.Words.{fiveDigits}
+use native.Mathlib.Omega.{arith}
+use borrow.Author.Needs.{needs}
+use Rattle.reasons.proofs.words.five_digits.Statement.{statement}
+use Rattle.reasons.proofs.words.five_digits.Tie as tie
+
+returns : tie.Need-returns
+unfolding fiveDigits
+returns c = search needs
+
+pub five-digits-spec : {M : Type 1} → statement M
+five-digits-spec =
+    tie.close (tie.spec (λ c κs. search needs) (λ c κs. search needs) (λ c κs. search needs) (λ c κs. search needs)
+    (λ c κs. search needs) returns)

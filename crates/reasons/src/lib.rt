@@ -1,0 +1,231 @@
+// Why a sheet is refused, in words, with the line and the column of the sheet, both from 1: one line of text over a fixed array. Of an
+// accepted sheet its size. For the program `desk`.
+mod ending;
+mod form;
+mod item;
+mod position;
+mod sheet_line;
+mod words;
+
+ghost use mathlib.Core.Path.{_≡_};
+ghost use Prim.Native.Nat.{ℕ, _≤_};
+ghost use lib.ListN.{length};
+ghost use Rattle.io.specs.Counts.{Counts};
+ghost use Rattle.reasons.specs.Position.{lineOf, columnOf, positionText, Begins, Told};
+ghost use Rattle.laws.specs.Verdict.{refused};
+ghost use Rattle.sheet.specs.Read.{sheetVerdict};
+use floor::Checked;
+use floor::Floor;
+use floor::Refusal;
+use reporting::put_bytes;
+use words::put;
+
+// The length of the longest text.
+pub const TEXT_LENGTH: usize = 160;
+
+// The length of the longest reason, without its position.
+const REASON_LENGTH: usize = 128;
+
+// The limits of a value of line 1.
+fn least(field: usize) -> usize {
+    if field == 6 { 0 } else { 1 }
+}
+
+fn most(field: usize) -> usize {
+    if field == 1 {
+        return Floor::MAX_WIDTH as usize;
+    }
+    if field == 2 {
+        return Floor::MAX_HEIGHT as usize;
+    }
+    if field == 3 {
+        return Floor::MAX_HORIZON as usize;
+    }
+    if field == 4 {
+        return Floor::MAX_DEPTH as usize;
+    }
+    if field == 5 {
+        return Floor::MAX_CARRIERS as usize;
+    }
+    Floor::MAX_WALLS as usize
+}
+
+// Puts the name of a value of line 1; the column behind it is returned.
+fn put_name(field: usize, out: &mut [u8]) -> usize {
+    if field == 1 {
+        return put(out, 0, b"the width");
+    }
+    if field == 2 {
+        return put(out, 0, b"the height");
+    }
+    if field == 3 {
+        return put(out, 0, b"the horizon");
+    }
+    if field == 4 {
+        return put(out, 0, b"the depth");
+    }
+    if field == 5 {
+        return put(out, 0, b"the number of carriers");
+    }
+    put(out, 0, b"the number of walls")
+}
+
+// Puts that a value of line 1 is outside its limits; the column behind these words is returned.
+fn put_limit(text: &[u8], field: usize, out: &mut [u8]) -> usize {
+    if field == 0 {
+        return 0;
+    }
+    let name = put_name(field, out);
+    let value = words::put_named(out, name, b" is ", sheet_line::field_at(text, 0, field - 1));
+    let low = words::put_named(out, value, b", it must be ", least(field));
+    words::put_named(out, low, b" to ", most(field))
+}
+
+// Puts the cause of a refusal, a field of an item's line where there is one; the column behind these words is returned.
+fn put_cause(text: &[u8], number: u16, place: usize, field: usize, out: &mut [u8]) -> usize
+    requires { ⌜ (place ≤ 65535) × (field ≤ 10) ⌝ }
+{
+    if number == 1 {
+        return form::put_reason(text, place, out);
+    }
+    if number == 2 {
+        return put_limit(text, place, out);
+    }
+    if number == 3 {
+        return item::put_outside(text, place, field, out);
+    }
+    if number == 4 {
+        return item::put_order(text, place, out);
+    }
+    if number == 5 {
+        return item::put_on_wall(text, place, field, out);
+    }
+    if number == 6 {
+        return item::put_shared(text, place, out);
+    }
+    item::put_twice(text, place, field, out)
+}
+
+// The number of bytes in front of a memory that a number counts, all where it counts more.
+fn within(n: usize, out: &[u8]) -> usize
+    ensures { λ r. ⌜ Counts r (now (out .entry)) ⌝ }
+{
+    if out.len() < n {
+        return out.len();
+    }
+    n
+}
+
+// Puts the reason of a refusal and a newline; the length of both is returned.
+fn put_reason(text: &[u8], number: u16, place: usize, field: usize, out: &mut [u8]) -> usize
+    requires { ⌜ (place ≤ 65535) × (field ≤ 10) ⌝ }
+    ensures { λ r. ⌜ Counts r (now (out .exit)) ⌝ }
+{
+    let cause = put_cause(text, number, place, field, out);
+    let end = put(out, cause, b"\n");
+    within(end, out)
+}
+
+// Puts the position of a refusal and its reason in front of a memory; the length of both is returned.
+fn put_refused(text: &[u8], number: u16, place: usize, field: usize, out: &mut [u8]) -> usize
+    requires { ⌜ (place ≤ 65535) × (field ≤ 10) × (160 ≤ length (now out)) ⌝ }
+    ensures { λ r. ⌜ Begins (positionText (lineOf (now (text .entry)) number place) (columnOf (now (text .entry)) number place field))
+        (now (out .exit)) r ⌝ }
+{
+    let mut reason = [0u8; REASON_LENGTH];
+    let n = put_reason(text, number, place, field, &mut reason);
+    let line = position::line_of(text, number, place);
+    let column = position::column_of(text, number, place, field);
+    let at = position::put_position(line, column, out);
+    put_bytes(out, at, &reason[..n])
+}
+
+// The docks of all carriers of a floor.
+fn docks(f: Floor) -> usize {
+    let n = f.carriers as usize;
+    let mut sum: usize = 0;
+    let mut i: usize = 0;
+    while i < n {
+        sum += dock_count(f, i);
+        i += 1;
+    }
+    sum
+}
+
+// A number of 16 bits.
+fn wide(n: u16) -> usize
+    ensures { λ r. ⌜ r ≤ 65535 ⌝ }
+{
+    n as usize
+}
+
+// The docks of carrier i, counted from 0.
+fn dock_count(f: Floor, i: usize) -> usize
+    ensures { λ r. ⌜ r ≤ 65535 ⌝ }
+{
+    if 8 <= i {
+        return 0;
+    }
+    wide(f.counts[i])
+}
+
+// Puts the grid, the horizon and the depth of a floor; the column behind them is returned.
+fn put_size(f: Floor, out: &mut [u8]) -> usize {
+    let width = words::put_named(out, 0, b"accepted: ", f.width as usize);
+    let height = words::put_named(out, width, b" by ", f.height as usize);
+    let horizon = words::put_named(out, height, b" cells, horizon ", f.horizon as usize);
+    words::put_named(out, horizon, b", depth ", f.depth as usize)
+}
+
+// Puts words and behind them how many things there are; the column behind both is returned.
+fn put_many(out: &mut [u8], at: usize, before: &[u8], n: usize, noun: &[u8]) -> usize {
+    let behind = put(out, at, before);
+    words::put_counted(out, behind, n, noun)
+}
+
+// Puts how many carriers, docks and walls a floor has; the column behind these words is returned.
+fn put_counts(f: Floor, out: &mut [u8], at: usize) -> usize {
+    let carriers = put_many(out, at, b", ", f.carriers as usize, b" carrier");
+    let all = put_many(out, carriers, b" with ", docks(f), b" dock");
+    put_many(out, all, b", ", f.walls as usize, b" wall")
+}
+
+// Puts the size of a floor in front of a memory; its length is returned.
+fn put_accepted(f: Floor, out: &mut [u8]) -> usize {
+    let size = put_size(f, out);
+    let counts = put_counts(f, out, size);
+    put(out, counts, b"\n")
+}
+
+// Puts the text of a refusal in front of a memory; its length is returned.
+fn put_text(text: &[u8], x: Refusal, out: &mut [u8]) -> usize
+    requires { ⌜ (x .place ≤ 65535) × (160 ≤ length (now out)) ⌝ }
+    ensures { λ r. ⌜ Told (now (text .entry)) (x .number) (x .place) (now (out .exit)) r ⌝ }
+{
+    let number = x.number;
+    let place = x.place;
+    if number == 1 {
+        if place == text.len() {
+            let end = ending::put_end(text, place, out);
+            return within(end, out);
+        }
+    }
+    let field = item::cause(text, number, place);
+    put_refused(text, number, place, field, out)
+}
+
+// Prints why a text is no sheet of a floor, or the size of its floor where it is one; the number of printed bytes is returned.
+pub fn print(text: &[u8], out: &mut [u8; TEXT_LENGTH]) -> usize
+    ensures counts { λ r. ⌜ Counts r (now (out .exit)) ⌝ }
+    ensures places { λ r. ⌜ ((k p : ℕ) → sheetVerdict (now (text .entry)) ≡ refused k p → Told (now (text .entry)) k p (now (out .exit)) r) ⌝ }
+{
+    let mut walls = sheet::no_walls();
+    let reading = sheet::read(text, &mut walls);
+    let checked = reading.answer;
+    let f = reading.floor;
+    let Checked::Refused(x) = checked else {
+        let n = put_accepted(f, out);
+        return within(n, out);
+    };
+    put_text(text, x, out)
+}
