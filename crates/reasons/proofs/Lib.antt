@@ -1,2 +1,2 @@
--- Laws of positions and of numbers in words.
+-- Laws of positions.
 pub mod PositionLaws

@@ -1,20 +1,20 @@
--- Laws of lines and columns, of numbers in words, and of a position in words.
-use Prim.Native.Nat.{ℕ, suc, _+_, _-_, _≤_}
+-- Laws of lines and columns, and of a position in words.
+use Prim.Native.Nat.{ℕ, suc, _+_, _≤_}
 use native.Mathlib.Omega.{arith}
 use native.Mathlib.Numerals.{add-one}
 use mathlib.Core.Bool.{cond}
 use mathlib.Core.List.{List, _++_}
-use mathlib.Core.Path.{_≡_, refl, sym, _∙_, ap}
+use mathlib.Core.Path.{_≡_, refl, _∙_, ap}
 use lib.Dec.{eqb}
-use lib.ListN.{length, getD, take, drop, length-append, length-drop}
-use lib.Seq.{take-all, take-at, length-take-le}
-use Rattle.io.specs.Counts.{Counts}
+use lib.ListN.{length, getD, take, length-append}
+use lib.Seq.{take-at}
 use Rattle.laws.specs.Verdict.{passed, refused}
 use Rattle.laws.proofs.PutLaws.{put-front}
 use Rattle.sheet.specs.Read.{sheetVerdict}
 use Rattle.reporting.specs.Put.{PutAt}
 use Rattle.reporting.proofs.ReportLaws.{put-behind}
-use Rattle.reasons.specs.Words.{decimal, fiveDigits, firstDigit}
+use Rattle.wording.specs.Decimal.{decimal}
+use Rattle.wording.proofs.DecimalLaws.{decimal-short, counts-within}
 use Rattle.reasons.specs.Position.{lineAt, columnAt, lineWord, columnWord, colon, positionText, Begins, Told}
 
 -- A loop over the bytes before one: in front of the text, and behind one more byte b.
@@ -41,27 +41,6 @@ pub position-end : (at-byte : ℕ → ℕ) (k at n : ℕ) → k ≤ at → at �
 position-end at-byte k at n a b e =
     let same : k ≡ at = omega arith in
     rw same at e
-
--- A number that is at most a memory's length counts bytes in front of it.
-pub counts-within : (n : ℕ) (xs : List ℕ) → n ≤ length xs → Counts n xs
-counts-within n xs l = (l, sym (length-take-le n xs l))
-
--- The digits that are written, put.
-pub decimal-put : (n k : ℕ) (digits old new : List ℕ) (at next : ℕ) → digits ≡ fiveDigits n → k ≡ firstDigit n
-    → PutAt (take (5 - k) (drop k digits)) old at new next → PutAt (decimal n) old at new next
-unfolding decimal fiveDigits
-decimal-put n k digits old new at next e f p =
-    let whole : take (5 - k) (drop k digits) ≡ drop k digits =
-    take-all (5 - k) (drop k digits) (omega (arith, length-drop k digits, ap length e)) in
-    let same : drop k digits ≡ decimal n = rw (e, f) refl in
-    rw (whole ∙ same) at p
-
-pub decimal-short : (n : ℕ) → length (decimal n) ≤ 5
-unfolding decimal fiveDigits
-decimal-short n = omega (arith, length-drop (firstDigit n) (fiveDigits n))
-
-pub decimal-low : (n : ℕ) (old new : List ℕ) (at next : ℕ) → PutAt (decimal n) old at new next → next ≤ at + 5
-decimal-low n old new at next p = omega (arith, p .behind, decimal-short n)
 
 -- The words of a position, put piece by piece.
 pub position-put : (line column a b c d n : ℕ) (old m₁ m₂ m₃ m₄ new : List ℕ) → PutAt lineWord old 0 m₁ a → PutAt (decimal line) m₁ a m₂ b

@@ -1,3 +1,2 @@
--- What a reader must believe of a reason: numbers in words, and the position at which its text begins.
-pub mod Words
+-- What a reader must believe of a reason: the position at which its text begins.
 pub mod Position

@@ -6,7 +6,7 @@ use mathlib.Core.Path.{_≡_}
 use lib.Dec.{eqb}
 use lib.ListN.{length, getD, take}
 use Rattle.io.specs.Counts.{Counts}
-use Rattle.reasons.specs.Words.{decimal}
+use Rattle.wording.specs.Decimal.{decimal}
 
 -- The line in which byte p of a text stands: one more than there are newlines before it.
 unfoldable pub lineAt : List ℕ → ℕ → ℕ

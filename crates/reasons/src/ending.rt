@@ -3,13 +3,12 @@ ghost use Prim.Native.Nat.{_≤_};
 ghost use lib.ListN.{length};
 use crate::position;
 use crate::sheet_line;
-use crate::words;
-use crate::words::put;
+use wording::put;
 
 // Puts how many are there; the column behind these words is returned.
 fn put_there(n: usize, out: &mut [u8], at: usize) -> usize {
     let comma = put(out, at, b", ");
-    let number = words::put_number(out, comma, n);
+    let number = wording::put_number(out, comma, n);
     if n == 1 {
         return put(out, number, b" is there\n");
     }
@@ -19,17 +18,17 @@ fn put_there(n: usize, out: &mut [u8], at: usize) -> usize {
 // Puts how many things line 1 counts, and how many are there; the column behind these words is returned.
 fn put_missing(noun: &[u8], counted: usize, there: usize, out: &mut [u8], at: usize) -> usize {
     let line = put(out, at, b"line 1 counts ");
-    let count = words::put_counted(out, line, counted, noun);
+    let count = wording::put_counted(out, line, counted, noun);
     put_there(there, out, count)
 }
 
 // Puts the position of the end; the column behind it is returned. A line without a byte has no column.
 fn put_where(line: usize, column: usize, out: &mut [u8]) -> usize {
-    let where_line = words::put_named(out, 0, b"the sheet ends in line ", line);
+    let where_line = wording::put_named(out, 0, b"the sheet ends in line ", line);
     if column == 1 {
         return put(out, where_line, b": ");
     }
-    let where_column = words::put_named(out, where_line, b", column ", column);
+    let where_column = wording::put_named(out, where_line, b", column ", column);
     put(out, where_column, b": ")
 }
 
@@ -63,7 +62,7 @@ pub fn put_end(text: &[u8], end: usize, out: &mut [u8]) -> usize
     let count = sheet_line::fields_of(text, line, end + 1 - column);
     let at = put_where(line, column, out);
     if column == 5 * count + 1 {
-        let missing = words::put_named(out, at, b"a newline is missing after field ", count);
+        let missing = wording::put_named(out, at, b"a newline is missing after field ", count);
         return put(out, missing, b"\n");
     }
     put_rest(text, line, column, out, at)

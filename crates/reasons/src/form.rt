@@ -3,8 +3,7 @@ ghost use Prim.Native.Nat.{_≤_, _<_};
 ghost use lib.ListN.{length};
 use crate::position;
 use crate::sheet_line;
-use crate::words;
-use crate::words::put;
+use wording::put;
 
 // Whether a byte is a decimal digit.
 fn is_digit(b: u8) -> bool {
@@ -89,7 +88,7 @@ fn has_space(text: &[u8], at: usize, place: usize) -> bool
 
 // Puts the number of a field and words behind it; the column behind both is returned.
 fn put_field(k: usize, said: &[u8], out: &mut [u8]) -> usize {
-    let behind = words::put_named(out, 0, b"field ", k);
+    let behind = wording::put_named(out, 0, b"field ", k);
     put(out, behind, said)
 }
 
@@ -116,7 +115,7 @@ fn put_foreign(k: usize, b: u8, out: &mut [u8]) -> usize {
 // The same of a byte that is not shown.
 fn put_byte(k: usize, b: u8, out: &mut [u8]) -> usize {
     let field = put_field(k, b" has the byte ", out);
-    let number = words::put_number(out, field, b as usize);
+    let number = wording::put_number(out, field, b as usize);
     put(out, number, b" in it")
 }
 
@@ -137,7 +136,7 @@ fn put_kind(k: usize, b: u8, out: &mut [u8]) -> usize {
 // Puts that the field at a column, in good form, is no dock count; the column behind these words is returned.
 fn put_count(text: &[u8], at: usize, out: &mut [u8]) -> usize {
     let count = sheet_line::number_at(text, at);
-    let behind = words::put_named(out, 0, b"the dock count is ", count);
+    let behind = wording::put_named(out, 0, b"the dock count is ", count);
     put(out, behind, b", it must be 1 to 4")
 }
 
@@ -167,7 +166,7 @@ fn put_bad_field(text: &[u8], at: usize, k: usize, out: &mut [u8]) -> usize
 
 // Puts that a newline is missing behind field k; the column behind these words is returned.
 fn put_missing(k: usize, out: &mut [u8]) -> usize {
-    words::put_named(out, 0, b"a newline is missing after field ", k)
+    wording::put_named(out, 0, b"a newline is missing after field ", k)
 }
 
 // Puts what stands where a newline should, behind field k; the column behind these words is returned.

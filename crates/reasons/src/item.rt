@@ -3,8 +3,7 @@
 ghost use Prim.Native.Nat.{_≤_, _<_};
 ghost use lib.ListN.{length};
 use crate::sheet_line;
-use crate::words;
-use crate::words::put;
+use wording::put;
 
 // The column at which the line of an item begins.
 fn item_start(text: &[u8], item: usize) -> usize
@@ -164,18 +163,18 @@ fn sharer(text: &[u8], start: usize) -> usize {
 
 // Puts the start or the dock of a carrier that a field belongs to; the column behind these words is returned.
 fn put_place(carrier: usize, field: usize, out: &mut [u8], at: usize) -> usize {
-    let who = words::put_named(out, at, b"carrier ", carrier);
+    let who = wording::put_named(out, at, b"carrier ", carrier);
     if field < 2 {
         return put(out, who, b"'s start");
     }
-    words::put_named(out, who, b"'s dock ", (field - 1) / 2)
+    wording::put_named(out, who, b"'s dock ", (field - 1) / 2)
 }
 
 // Puts a wall, or the start or the dock of a carrier that a field belongs to; the column behind these words is returned.
 fn put_item(text: &[u8], item: usize, field: usize, out: &mut [u8], at: usize) -> usize {
     let n = sheet_line::carriers(text);
     if n < item {
-        return words::put_named(out, at, b"wall ", item - n);
+        return wording::put_named(out, at, b"wall ", item - n);
     }
     put_place(item, field, out, at)
 }
@@ -187,7 +186,7 @@ fn put_pair(text: &[u8], start: usize, field: usize, out: &mut [u8], at: usize) 
     let column = sheet_line::field_at(text, start, field);
     let row = sheet_line::field_at(text, start, field + 1);
     let left = put(out, at, b" (");
-    let cell = words::put_cell(out, left, column, row);
+    let cell = wording::put_cell(out, left, column, row);
     put(out, cell, b")")
 }
 
@@ -204,7 +203,7 @@ fn put_largest(bound: usize, out: &mut [u8], at: usize) -> usize {
     if bound == 0 {
         return at;
     }
-    words::put_number(out, at, bound - 1)
+    wording::put_number(out, at, bound - 1)
 }
 
 // Puts that a field lies outside the grid; the column behind these words is returned.
@@ -214,7 +213,7 @@ pub fn put_outside(text: &[u8], item: usize, field: usize, out: &mut [u8]) -> us
     let value = sheet_line::field_at(text, item_start(text, item), field);
     let who = put_item(text, item, field, out, 0);
     let kind = put_kind(field, out, who);
-    let number = words::put_number(out, kind, value);
+    let number = wording::put_number(out, kind, value);
     let range = put(out, number, b", outside 0 to ");
     put_largest(bound_of(text, field), out, range)
 }
@@ -254,8 +253,8 @@ pub fn put_shared(text: &[u8], item: usize, out: &mut [u8]) -> usize
     requires { ⌜ item ≤ 99999 ⌝ }
 {
     let start = item_start(text, item);
-    let who = words::put_named(out, 0, b"carrier ", item);
-    let other = words::put_named(out, who, b" starts where carrier ", sharer(text, start));
+    let who = wording::put_named(out, 0, b"carrier ", item);
+    let other = wording::put_named(out, who, b" starts where carrier ", sharer(text, start));
     let starts = put(out, other, b" starts");
     put_pair(text, start, 0, out, starts)
 }
@@ -267,8 +266,8 @@ pub fn put_twice(text: &[u8], item: usize, field: usize, out: &mut [u8]) -> usiz
     let start = item_start(text, item);
     let column = sheet_line::field_at(text, start, field);
     let row = sheet_line::field_at(text, start, field + 1);
-    let who = words::put_named(out, 0, b"carrier ", item);
+    let who = wording::put_named(out, 0, b"carrier ", item);
     let dock = put(out, who, b" has the dock ");
-    let cell = words::put_cell(out, dock, column, row);
+    let cell = wording::put_cell(out, dock, column, row);
     put(out, cell, b" twice")
 }

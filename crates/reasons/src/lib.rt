@@ -5,7 +5,6 @@ mod form;
 mod item;
 mod position;
 mod sheet_line;
-mod words;
 
 ghost use mathlib.Core.Path.{_≡_};
 ghost use Prim.Native.Nat.{ℕ, _≤_};
@@ -18,7 +17,7 @@ use floor::Checked;
 use floor::Floor;
 use floor::Refusal;
 use reporting::put_bytes;
-use words::put;
+use wording::put;
 
 // The length of the longest text.
 pub const TEXT_LENGTH: usize = 160;
@@ -76,9 +75,9 @@ fn put_limit(text: &[u8], field: usize, out: &mut [u8]) -> usize {
         return 0;
     }
     let name = put_name(field, out);
-    let value = words::put_named(out, name, b" is ", sheet_line::field_at(text, 0, field - 1));
-    let low = words::put_named(out, value, b", it must be ", least(field));
-    words::put_named(out, low, b" to ", most(field))
+    let value = wording::put_named(out, name, b" is ", sheet_line::field_at(text, 0, field - 1));
+    let low = wording::put_named(out, value, b", it must be ", least(field));
+    wording::put_named(out, low, b" to ", most(field))
 }
 
 // Puts the cause of a refusal, a field of an item's line where there is one; the column behind these words is returned.
@@ -106,16 +105,6 @@ fn put_cause(text: &[u8], number: u16, place: usize, field: usize, out: &mut [u8
     item::put_twice(text, place, field, out)
 }
 
-// The number of bytes in front of a memory that a number counts, all where it counts more.
-fn within(n: usize, out: &[u8]) -> usize
-    ensures { λ r. ⌜ Counts r (now (out .entry)) ⌝ }
-{
-    if out.len() < n {
-        return out.len();
-    }
-    n
-}
-
 // Puts the reason of a refusal and a newline; the length of both is returned.
 fn put_reason(text: &[u8], number: u16, place: usize, field: usize, out: &mut [u8]) -> usize
     requires { ⌜ (place ≤ 65535) × (field ≤ 10) ⌝ }
@@ -123,7 +112,7 @@ fn put_reason(text: &[u8], number: u16, place: usize, field: usize, out: &mut [u
 {
     let cause = put_cause(text, number, place, field, out);
     let end = put(out, cause, b"\n");
-    within(end, out)
+    wording::within(end, out)
 }
 
 // Puts the position of a refusal and its reason in front of a memory; the length of both is returned.
@@ -171,16 +160,16 @@ fn dock_count(f: Floor, i: usize) -> usize
 
 // Puts the grid, the horizon and the depth of a floor; the column behind them is returned.
 fn put_size(f: Floor, out: &mut [u8]) -> usize {
-    let width = words::put_named(out, 0, b"accepted: ", f.width as usize);
-    let height = words::put_named(out, width, b" by ", f.height as usize);
-    let horizon = words::put_named(out, height, b" cells, horizon ", f.horizon as usize);
-    words::put_named(out, horizon, b", depth ", f.depth as usize)
+    let width = wording::put_named(out, 0, b"accepted: ", f.width as usize);
+    let height = wording::put_named(out, width, b" by ", f.height as usize);
+    let horizon = wording::put_named(out, height, b" cells, horizon ", f.horizon as usize);
+    wording::put_named(out, horizon, b", depth ", f.depth as usize)
 }
 
 // Puts words and behind them how many things there are; the column behind both is returned.
 fn put_many(out: &mut [u8], at: usize, before: &[u8], n: usize, noun: &[u8]) -> usize {
     let behind = put(out, at, before);
-    words::put_counted(out, behind, n, noun)
+    wording::put_counted(out, behind, n, noun)
 }
 
 // Puts how many carriers, docks and walls a floor has; the column behind these words is returned.
@@ -207,7 +196,7 @@ fn put_text(text: &[u8], x: Refusal, out: &mut [u8]) -> usize
     if number == 1 {
         if place == text.len() {
             let end = ending::put_end(text, place, out);
-            return within(end, out);
+            return wording::within(end, out);
         }
     }
     let field = item::cause(text, number, place);
@@ -225,7 +214,7 @@ pub fn print(text: &[u8], out: &mut [u8; TEXT_LENGTH]) -> usize
     let f = reading.floor;
     let Checked::Refused(x) = checked else {
         let n = put_accepted(f, out);
-        return within(n, out);
+        return wording::within(n, out);
     };
     put_text(text, x, out)
 }

@@ -6,7 +6,6 @@ ghost use lib.Dec.{eqb};
 ghost use lib.ListN.{length, getD};
 ghost use Rattle.reporting.specs.Put.{PutAt};
 ghost use Rattle.reasons.specs.Position.{lineAt, columnAt, lineOf, columnOf, positionText};
-use crate::words;
 use reporting::put_bytes;
 
 // A byte of a text; 0 past its end.
@@ -106,8 +105,8 @@ pub fn put_position(line: usize, column: usize, out: &mut [u8]) -> usize
     ensures { λ r. ⌜ PutAt (positionText line column) (now (out .entry)) 0 (now (out .exit)) r ⌝ }
 {
     let a = put_bytes(out, 0, b"line ");
-    let b = words::put_decimal(out, a, line as u32);
+    let b = wording::put_decimal(out, a, line as u32);
     let c = put_bytes(out, b, b", column ");
-    let d = words::put_decimal(out, c, column as u32);
+    let d = wording::put_decimal(out, c, column as u32);
     put_bytes(out, d, b": ")
 }

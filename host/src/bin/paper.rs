@@ -1,6 +1,6 @@
 //! The routes program over `paper.rs` alone: a sheet on standard input, its routes on standard output; with the arguments
 //! `trial ORDER SEED` the text of a trial, with `runs [RANK]` that of the complete runs, with `meeting I J` that of
-//! a meeting, with `blockers` that of the stranded carriers. It needs no archive.
+//! a meeting, with `blockers` that of the stranded carriers, with `why` the reason of a refusal. It needs no archive.
 //! Its tests (`cargo test --bin paper`) hold `paper.rs` to document 01's twelve floors, its search to a search of all routes, and the
 //! benchmark's other planners to `paper.rs`.
 
@@ -15,6 +15,8 @@ mod bits;
 mod draw;
 #[path = "../paper.rs"]
 mod paper;
+#[path = "../why.rs"]
+mod why;
 
 use std::io::{Read, Write};
 
@@ -28,6 +30,7 @@ fn main() -> std::io::Result<()> {
         Some("runs") => paper::print_runs(&text, (words.len() > 1).then(|| number(1))),
         Some("meeting") => paper::print_meeting(&text, number(1), number(2)),
         Some("blockers") => paper::print_blockers(&text),
+        Some("why") => why::print_why(&text),
         _ => paper::print_routes(&text),
     };
     std::io::stdout().write_all(out.as_bytes())

@@ -1,6 +1,7 @@
 -- `reasons::position::put_position` meets its contract.
 use Rattle.reasons.specs.Position.{lineWord, columnWord, colon}
-use Rattle.reasons.proofs.PositionLaws.{decimal-low, position-put}
+use Rattle.reasons.proofs.PositionLaws.{position-put}
+use Rattle.wording.proofs.DecimalLaws.{decimal-low}
 use native.Mathlib.Omega.{arith}
 use borrow.Author.Needs.{needs}
 use Rattle.reasons.proofs.position.put_position.Statement.{statement}

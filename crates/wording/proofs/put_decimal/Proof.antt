@@ -1,10 +1,10 @@
--- `reasons::words::put_decimal` meets its contract.
+-- `wording::put_decimal` meets its contract.
 use lib.ListN.{length-take, length-drop}
-use Rattle.reasons.proofs.PositionLaws.{decimal-put}
+use Rattle.wording.proofs.DecimalLaws.{decimal-put}
 use native.Mathlib.Omega.{arith}
 use borrow.Author.Needs.{needs}
-use Rattle.reasons.proofs.words.put_decimal.Statement.{statement}
-use Rattle.reasons.proofs.words.put_decimal.Tie as tie
+use Rattle.wording.proofs.put_decimal.Statement.{statement}
+use Rattle.wording.proofs.put_decimal.Tie as tie
 
 put-bytes-requires : tie.Need-put-bytes-requires
 put-bytes-requires c κs =

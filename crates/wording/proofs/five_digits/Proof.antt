@@ -1,9 +1,9 @@
--- `reasons::words::five_digits` meets its contract.
-use Rattle.reasons.specs.Words.{fiveDigits}
+-- `wording::five_digits` meets its contract.
+use Rattle.wording.specs.Decimal.{fiveDigits}
 use native.Mathlib.Omega.{arith}
 use borrow.Author.Needs.{needs}
-use Rattle.reasons.proofs.words.five_digits.Statement.{statement}
-use Rattle.reasons.proofs.words.five_digits.Tie as tie
+use Rattle.wording.proofs.five_digits.Statement.{statement}
+use Rattle.wording.proofs.five_digits.Tie as tie
 
 returns : tie.Need-returns
 unfolding fiveDigits

@@ -1,10 +1,9 @@
--- `reasons::within` meets its contract.
-use mathlib.Core.Path.{sym}
-use Rattle.reasons.proofs.PositionLaws.{counts-within}
+-- `wording::within` meets its contract.
+use Rattle.wording.proofs.DecimalLaws.{counts-within}
 use borrow.Author.Needs.{needs}
 use native.Mathlib.Omega.{arith}
-use Rattle.reasons.proofs.within.Statement.{statement}
-use Rattle.reasons.proofs.within.Tie as tie
+use Rattle.wording.proofs.within.Statement.{statement}
+use Rattle.wording.proofs.within.Tie as tie
 
 returns : tie.Need-returns
 returns c = counts-within _ _ (omega arith)

@@ -1,9 +1,11 @@
-// Words and numbers, put one behind the other.
+// Words and numbers put into a text, one behind the other. All but `put_decimal` answer for any column and any memory: a piece that does
+// not fit is left out. Helpers of the crates that print sentences and pictures.
 ghost use mathlib.Core.Path.{_≡_};
 ghost use Prim.Native.Nat.{_+_, _%_, _≤_};
 ghost use lib.ListN.{length};
+ghost use Rattle.io.specs.Counts.{Counts};
 ghost use Rattle.reporting.specs.Put.{PutAt};
-ghost use Rattle.reasons.specs.Words.{decimal, fiveDigits, firstDigit};
+ghost use Rattle.wording.specs.Decimal.{decimal, fiveDigits, firstDigit};
 use reporting::put_bytes;
 
 // Puts bytes from a column on; the column behind them is returned, and the same column where they do not fit.
@@ -100,4 +102,14 @@ pub fn put_counted(out: &mut [u8], at: usize, n: usize, noun: &[u8]) -> usize {
 pub fn put_cell(out: &mut [u8], at: usize, column: usize, row: usize) -> usize {
     let behind = put_named(out, at, b"column ", column);
     put_named(out, behind, b", row ", row)
+}
+
+// The number of bytes in front of a memory that a number counts, all where it counts more.
+pub fn within(n: usize, out: &[u8]) -> usize
+    ensures { λ r. ⌜ Counts r (now (out .entry)) ⌝ }
+{
+    if out.len() < n {
+        return out.len();
+    }
+    n
 }

@@ -1,10 +1,10 @@
--- `reasons::words::first_digit` meets its contract.
+-- `wording::first_digit` meets its contract.
 use borrow.Author.Tests.{lt-ltb, le-ltb}
-use Rattle.reasons.specs.Words.{firstDigit}
+use Rattle.wording.specs.Decimal.{firstDigit}
 use borrow.Author.Needs.{needs}
 use native.Mathlib.Omega.{arith}
-use Rattle.reasons.proofs.words.first_digit.Statement.{statement}
-use Rattle.reasons.proofs.words.first_digit.Tie as tie
+use Rattle.wording.proofs.first_digit.Statement.{statement}
+use Rattle.wording.proofs.first_digit.Tie as tie
 
 returns : tie.Need-returns
 unfolding firstDigit
