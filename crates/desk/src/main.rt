@@ -21,6 +21,8 @@ enum Command {
     Meeting,
     // `blockers`: prints who shuts each stranded carrier in.
     Blockers,
+    // `why`: prints why the sheet is refused, in words.
+    Why,
     // No command, or none of that name.
     Unknown,
 }
@@ -38,6 +40,9 @@ fn command_named(name: &[u8]) -> Command {
     }
     if arguments::same(name, b"blockers") {
         return Command::Blockers;
+    }
+    if arguments::same(name, b"why") {
+        return Command::Why;
     }
     Command::Unknown
 }
@@ -207,6 +212,59 @@ fn blockers_command() {
     show_stranded()
 }
 
+// Says how `why` is called.
+fn why_usage() {
+    io::write_all(STDERR_FILENO, b"desk: why < sheet\n");
+}
+
+// Prints why the sheet from standard input is refused.
+fn explain() {
+    let mut space = io::large_buffer();
+    let input = console::read(b"desk: standard input", &mut space);
+    let Input::Read(n) = input else {
+        return;
+    };
+    let mut out = [0u8; reasons::TEXT_LENGTH];
+    let printed = reasons::print(&space[..n], &mut out);
+    console::write(b"desk: standard output", &out[..printed]);
+}
+
+// The command `why`.
+fn why_command() {
+    if os::arg_count() != 2 {
+        return why_usage();
+    }
+    explain()
+}
+
+// Says which commands there are, a line each.
+fn commands_usage() {
+    io::write_all(
+        STDERR_FILENO,
+        b"desk: no such command; the commands, each with a sheet on standard input:\n",
+    );
+    io::write_all(
+        STDERR_FILENO,
+        b"  trial ORDER [SEED]  play a trial, and print its steps and the routes\n",
+    );
+    io::write_all(
+        STDERR_FILENO,
+        b"  runs [RANK]         list the complete runs, or the one of a rank\n",
+    );
+    io::write_all(
+        STDERR_FILENO,
+        b"  meeting I J         tell where the best routes of two carriers meet\n",
+    );
+    io::write_all(
+        STDERR_FILENO,
+        b"  blockers            tell who shuts each stranded carrier in\n",
+    );
+    io::write_all(
+        STDERR_FILENO,
+        b"  why                 tell in words why the sheet is refused\n",
+    );
+}
+
 fn main() {
     let mut name = io::buffer();
     let n = os::arg(1, &mut name);
@@ -215,11 +273,7 @@ fn main() {
         Command::Runs => runs_command(),
         Command::Meeting => meeting_command(),
         Command::Blockers => blockers_command(),
-        Command::Unknown => {
-            io::write_all(
-                STDERR_FILENO,
-                b"desk: no such command; commands: trial, runs, meeting, blockers\n",
-            );
-        }
+        Command::Why => why_command(),
+        Command::Unknown => commands_usage(),
     }
 }

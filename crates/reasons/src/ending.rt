@@ -3,51 +3,88 @@ ghost use Prim.Native.Nat.{_≤_};
 ghost use lib.ListN.{length};
 use crate::position;
 use crate::sheet_line;
+use wording::fill;
 use wording::put;
 
-// Puts how many are there; the column behind these words is returned.
-fn put_there(n: usize, out: &mut [u8], at: usize) -> usize {
-    let comma = put(out, at, b", ");
-    let number = wording::put_number(out, comma, n);
-    if n == 1 {
-        return put(out, number, b" is there\n");
+// Puts how many things of `counted` are there, by a sentence for one that is counted and one for several; the column behind it is
+// returned.
+fn put_missing(
+    one: &[u8],
+    several: &[u8],
+    counted: usize,
+    there: usize,
+    out: &mut [u8],
+    at: usize,
+) -> usize {
+    let end = put_counted(one, several, counted, out, at);
+    if there == 1 {
+        return put(out, end, b"1 is there\n");
     }
-    put(out, number, b" are there\n")
+    fill(out, end, b"% are there\n", [there, 0, 0, 0, 0, 0])
 }
 
-// Puts how many things line 1 counts, and how many are there; the column behind these words is returned.
-fn put_missing(noun: &[u8], counted: usize, there: usize, out: &mut [u8], at: usize) -> usize {
-    let line = put(out, at, b"line 1 counts ");
-    let count = wording::put_counted(out, line, counted, noun);
-    put_there(there, out, count)
+// Puts how many things are counted, by a sentence for one and one for several; the column behind it is returned.
+fn put_counted(one: &[u8], several: &[u8], counted: usize, out: &mut [u8], at: usize) -> usize {
+    if counted == 1 {
+        return put(out, at, one);
+    }
+    fill(out, at, several, [counted, 0, 0, 0, 0, 0])
 }
 
 // Puts the position of the end; the column behind it is returned. A line without a byte has no column.
 fn put_where(line: usize, column: usize, out: &mut [u8]) -> usize {
-    let where_line = wording::put_named(out, 0, b"the sheet ends in line ", line);
     if column == 1 {
-        return put(out, where_line, b": ");
+        return fill(out, 0, b"the sheet ends in line %: ", [line, 0, 0, 0, 0, 0]);
     }
-    let where_column = wording::put_named(out, where_line, b", column ", column);
-    put(out, where_column, b": ")
+    fill(
+        out,
+        0,
+        b"the sheet ends in line %, column %: ",
+        [line, column, 0, 0, 0, 0],
+    )
+}
+
+// The whole fields that stand before a column of a line.
+fn fields_before(column: usize) -> usize {
+    if column == 0 {
+        return 0;
+    }
+    (column - 1) / 5
 }
 
 // Puts what is missing in a line and behind it; the column behind these words is returned.
 fn put_rest(text: &[u8], line: usize, column: usize, out: &mut [u8], at: usize) -> usize
     requires { ⌜ line ≤ 65536 ⌝ }
 {
-    if line == 1 {
-        let first = put(out, at, b"line 1 has 6 fields");
-        return put_there(column / 5, out, first);
-    }
     let n = sheet_line::carriers(text);
     if line < 2 {
-        return at;
+        return put_missing(
+            b"",
+            b"line 1 has % fields, ",
+            6,
+            fields_before(column),
+            out,
+            at,
+        );
     }
     if line <= n + 1 {
-        return put_missing(b" carrier", n, line - 2, out, at);
+        return put_missing(
+            b"line 1 counts 1 carrier, ",
+            b"line 1 counts % carriers, ",
+            n,
+            line - 2,
+            out,
+            at,
+        );
     }
-    put_missing(b" wall", sheet_line::walls(text), line - 2 - n, out, at)
+    put_missing(
+        b"line 1 counts 1 wall, ",
+        b"line 1 counts % walls, ",
+        sheet_line::walls(text),
+        line - 2 - n,
+        out,
+        at,
+    )
 }
 
 // Puts where a sheet ends early and what is missing, in front of a memory; the length of the text is returned.
@@ -62,8 +99,12 @@ pub fn put_end(text: &[u8], end: usize, out: &mut [u8]) -> usize
     let count = sheet_line::fields_of(text, line, end + 1 - column);
     let at = put_where(line, column, out);
     if column == 5 * count + 1 {
-        let missing = wording::put_named(out, at, b"a newline is missing after field ", count);
-        return put(out, missing, b"\n");
+        return fill(
+            out,
+            at,
+            b"a newline is missing after field %\n",
+            [count, 0, 0, 0, 0, 0],
+        );
     }
     put_rest(text, line, column, out, at)
 }

@@ -3,6 +3,7 @@ ghost use Prim.Native.Nat.{_≤_, _<_};
 ghost use lib.ListN.{length};
 use crate::position;
 use crate::sheet_line;
+use wording::fill;
 use wording::put;
 
 // Whether a byte is a decimal digit.
@@ -86,58 +87,53 @@ fn has_space(text: &[u8], at: usize, place: usize) -> bool
     false
 }
 
-// Puts the number of a field and words behind it; the column behind both is returned.
-fn put_field(k: usize, said: &[u8], out: &mut [u8]) -> usize {
-    let behind = wording::put_named(out, 0, b"field ", k);
-    put(out, behind, said)
+// Puts a sentence about field k, in which its number stands first and a byte may stand second; the column behind it is returned.
+fn put_field(k: usize, b: u8, said: &[u8], out: &mut [u8]) -> usize {
+    fill(out, 0, said, [k, b as usize, 0, 0, 0, 0])
 }
 
 // Puts that field k has a byte that may not stand in it; the column behind these words is returned.
 fn put_foreign(k: usize, b: u8, out: &mut [u8]) -> usize {
     if b == 10 {
-        return put_field(k, b" has a newline in it", out);
+        return put_field(k, b, b"field % has a newline in it", out);
     }
     if b == 13 {
-        return put_field(k, b" has a carriage return in it", out);
+        return put_field(k, b, b"field % has a carriage return in it", out);
     }
     if b == 9 {
-        return put_field(k, b" has a tab in it", out);
+        return put_field(k, b, b"field % has a tab in it", out);
     }
     if b < 33 {
-        return put_byte(k, b, out);
+        return put_field(k, b, b"field % has the byte % in it", out);
     }
     if 126 < b {
-        return put_byte(k, b, out);
+        return put_field(k, b, b"field % has the byte % in it", out);
     }
     put_character(k, b, out)
-}
-
-// The same of a byte that is not shown.
-fn put_byte(k: usize, b: u8, out: &mut [u8]) -> usize {
-    let field = put_field(k, b" has the byte ", out);
-    let number = wording::put_number(out, field, b as usize);
-    put(out, number, b" in it")
 }
 
 // The same of a byte that is shown.
 fn put_character(k: usize, b: u8, out: &mut [u8]) -> usize {
     let kind = put_kind(k, b, out);
-    let shown = put(out, kind, &[39, b, 39]);
-    put(out, shown, b" in it")
+    put(out, kind, &[39, b, 39, 32, 105, 110, 32, 105, 116])
 }
 
 fn put_kind(k: usize, b: u8, out: &mut [u8]) -> usize {
     if is_letter(b) {
-        return put_field(k, b" has the letter ", out);
+        return put_field(k, b, b"field % has the letter ", out);
     }
-    put_field(k, b" has the character ", out)
+    put_field(k, b, b"field % has the character ", out)
 }
 
 // Puts that the field at a column, in good form, is no dock count; the column behind these words is returned.
 fn put_count(text: &[u8], at: usize, out: &mut [u8]) -> usize {
     let count = sheet_line::number_at(text, at);
-    let behind = wording::put_named(out, 0, b"the dock count is ", count);
-    put(out, behind, b", it must be 1 to 4")
+    fill(
+        out,
+        0,
+        b"the dock count is %, it must be 1 to 4",
+        [count, 0, 0, 0, 0, 0],
+    )
 }
 
 // Puts what is wrong with field k, which stands at a column; the column behind these words is returned.
@@ -150,23 +146,23 @@ fn put_bad_field(text: &[u8], at: usize, k: usize, out: &mut [u8]) -> usize
     }
     let first = first_place(text, at);
     if first == 5 {
-        return put_field(k, b" is empty", out);
+        return put_field(k, 0, b"field % is empty", out);
     }
     if has_space(text, at, first) {
-        return put_field(k, b" has a space behind a digit", out);
+        return put_field(k, 0, b"field % has a space behind a digit", out);
     }
     if first == 4 {
         return put_count(text, at, out);
     }
     if field_byte(text, at, first) == 48 {
-        return put_field(k, b" has a leading zero", out);
+        return put_field(k, 0, b"field % has a leading zero", out);
     }
     put_count(text, at, out)
 }
 
 // Puts that a newline is missing behind field k; the column behind these words is returned.
 fn put_missing(k: usize, out: &mut [u8]) -> usize {
-    wording::put_named(out, 0, b"a newline is missing after field ", k)
+    put_field(k, 0, b"a newline is missing after field %", out)
 }
 
 // Puts what stands where a newline should, behind field k; the column behind these words is returned.

@@ -3,7 +3,7 @@
 ghost use Prim.Native.Nat.{_≤_, _<_};
 ghost use lib.ListN.{length};
 use crate::sheet_line;
-use wording::put;
+use wording::fill;
 
 // The column at which the line of an item begins.
 fn item_start(text: &[u8], item: usize) -> usize
@@ -161,49 +161,29 @@ fn sharer(text: &[u8], start: usize) -> usize {
     n
 }
 
-// Puts the start or the dock of a carrier that a field belongs to; the column behind these words is returned.
-fn put_place(carrier: usize, field: usize, out: &mut [u8], at: usize) -> usize {
-    let who = wording::put_named(out, at, b"carrier ", carrier);
-    if field < 2 {
-        return put(out, who, b"'s start");
-    }
-    wording::put_named(out, who, b"'s dock ", (field - 1) / 2)
-}
-
 // Puts a wall, or the start or the dock of a carrier that a field belongs to; the column behind these words is returned.
-fn put_item(text: &[u8], item: usize, field: usize, out: &mut [u8], at: usize) -> usize {
+fn put_item(text: &[u8], item: usize, field: usize, out: &mut [u8]) -> usize {
     let n = sheet_line::carriers(text);
     if n < item {
-        return wording::put_named(out, at, b"wall ", item - n);
+        return fill(out, 0, b"wall %", [item - n, 0, 0, 0, 0, 0]);
     }
-    put_place(item, field, out, at)
-}
-
-// Puts the cell of a pair in brackets; the column behind it is returned.
-fn put_pair(text: &[u8], start: usize, field: usize, out: &mut [u8], at: usize) -> usize
-    requires { ⌜ field ≤ 10 ⌝ }
-{
-    let column = sheet_line::field_at(text, start, field);
-    let row = sheet_line::field_at(text, start, field + 1);
-    let left = put(out, at, b" (");
-    let cell = wording::put_cell(out, left, column, row);
-    put(out, cell, b")")
-}
-
-// Puts the word of what a field has; the column behind it is returned.
-fn put_kind(field: usize, out: &mut [u8], at: usize) -> usize {
-    if is_column(field) {
-        return put(out, at, b" has column ");
+    if field < 2 {
+        return fill(out, 0, b"carrier %'s start", [item, 0, 0, 0, 0, 0]);
     }
-    put(out, at, b" has row ")
+    fill(
+        out,
+        0,
+        b"carrier %'s dock %",
+        [item, (field - 1) / 2, 0, 0, 0, 0],
+    )
 }
 
-// Puts the largest number below a bound; the column behind it is returned.
-fn put_largest(bound: usize, out: &mut [u8], at: usize) -> usize {
+// The largest number below a bound.
+fn largest(bound: usize) -> usize {
     if bound == 0 {
-        return at;
+        return 0;
     }
-    wording::put_number(out, at, bound - 1)
+    bound - 1
 }
 
 // Puts that a field lies outside the grid; the column behind these words is returned.
@@ -211,41 +191,71 @@ pub fn put_outside(text: &[u8], item: usize, field: usize, out: &mut [u8]) -> us
     requires { ⌜ item ≤ 99999 ⌝ }
 {
     let value = sheet_line::field_at(text, item_start(text, item), field);
-    let who = put_item(text, item, field, out, 0);
-    let kind = put_kind(field, out, who);
-    let number = wording::put_number(out, kind, value);
-    let range = put(out, number, b", outside 0 to ");
-    put_largest(bound_of(text, field), out, range)
+    let most = largest(bound_of(text, field));
+    let who = put_item(text, item, field, out);
+    if is_column(field) {
+        return fill(
+            out,
+            who,
+            b" has column %, outside 0 to %",
+            [value, most, 0, 0, 0, 0],
+        );
+    }
+    fill(
+        out,
+        who,
+        b" has row %, outside 0 to %",
+        [value, most, 0, 0, 0, 0],
+    )
+}
+
+// Puts that wall j, whose line begins at a column, does not come behind the one before it, whose line begins at another; the column behind
+// these words is returned.
+fn put_walls(text: &[u8], j: usize, start: usize, before: usize, out: &mut [u8]) -> usize
+    requires { ⌜ 1 ≤ j ⌝ }
+{
+    if same_pair(text, start, 0, before, 0) {
+        return fill(out, 0, b"wall % is wall % again", [j, j - 1, 0, 0, 0, 0]);
+    }
+    let column = sheet_line::field_at(text, start, 0);
+    let row = sheet_line::field_at(text, start, 1);
+    let first = sheet_line::field_at(text, before, 0);
+    let second = sheet_line::field_at(text, before, 1);
+    fill(
+        out,
+        0,
+        b"wall % (column %, row %) must come before wall % (column %, row %)",
+        [j, column, row, j - 1, first, second],
+    )
 }
 
 // Puts that a wall does not come behind the one before it; the column behind these words is returned.
 pub fn put_order(text: &[u8], item: usize, out: &mut [u8]) -> usize
     requires { ⌜ item ≤ 99999 ⌝ }
 {
-    if item == 0 {
+    let n = sheet_line::carriers(text);
+    if item <= n {
         return 0;
     }
     let start = item_start(text, item);
     let before = item_start(text, item - 1);
-    let wall = put_item(text, item, 0, out, 0);
-    if same_pair(text, start, 0, before, 0) {
-        let again = put(out, wall, b" is ");
-        let first = put_item(text, item - 1, 0, out, again);
-        return put(out, first, b" again");
-    }
-    let cell = put_pair(text, start, 0, out, wall);
-    let must = put(out, cell, b" must come before ");
-    let first = put_item(text, item - 1, 0, out, must);
-    put_pair(text, before, 0, out, first)
+    put_walls(text, item - n, start, before, out)
 }
 
 // Puts that a start or a dock is a wall; the column behind these words is returned.
 pub fn put_on_wall(text: &[u8], item: usize, field: usize, out: &mut [u8]) -> usize
     requires { ⌜ (item ≤ 99999) × (field ≤ 10) ⌝ }
 {
-    let who = put_item(text, item, field, out, 0);
-    let cell = put_pair(text, item_start(text, item), field, out, who);
-    put(out, cell, b" is a wall")
+    let start = item_start(text, item);
+    let column = sheet_line::field_at(text, start, field);
+    let row = sheet_line::field_at(text, start, field + 1);
+    let who = put_item(text, item, field, out);
+    fill(
+        out,
+        who,
+        b" (column %, row %) is a wall",
+        [column, row, 0, 0, 0, 0],
+    )
 }
 
 // Puts that a carrier starts where an earlier one does; the column behind these words is returned.
@@ -253,10 +263,14 @@ pub fn put_shared(text: &[u8], item: usize, out: &mut [u8]) -> usize
     requires { ⌜ item ≤ 99999 ⌝ }
 {
     let start = item_start(text, item);
-    let who = wording::put_named(out, 0, b"carrier ", item);
-    let other = wording::put_named(out, who, b" starts where carrier ", sharer(text, start));
-    let starts = put(out, other, b" starts");
-    put_pair(text, start, 0, out, starts)
+    let column = sheet_line::field_at(text, start, 0);
+    let row = sheet_line::field_at(text, start, 1);
+    fill(
+        out,
+        0,
+        b"carrier % starts where carrier % starts (column %, row %)",
+        [item, sharer(text, start), column, row, 0, 0],
+    )
 }
 
 // Puts that a carrier has a dock twice; the column behind these words is returned.
@@ -266,8 +280,10 @@ pub fn put_twice(text: &[u8], item: usize, field: usize, out: &mut [u8]) -> usiz
     let start = item_start(text, item);
     let column = sheet_line::field_at(text, start, field);
     let row = sheet_line::field_at(text, start, field + 1);
-    let who = wording::put_named(out, 0, b"carrier ", item);
-    let dock = put(out, who, b" has the dock ");
-    let cell = wording::put_cell(out, dock, column, row);
-    put(out, cell, b" twice")
+    fill(
+        out,
+        0,
+        b"carrier % has the dock column %, row % twice",
+        [item, column, row, 0, 0, 0],
+    )
 }

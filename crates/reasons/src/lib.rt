@@ -17,6 +17,7 @@ use floor::Checked;
 use floor::Floor;
 use floor::Refusal;
 use reporting::put_bytes;
+use wording::fill;
 use wording::put;
 
 // The length of the longest text.
@@ -25,48 +26,10 @@ pub const TEXT_LENGTH: usize = 160;
 // The length of the longest reason, without its position.
 const REASON_LENGTH: usize = 128;
 
-// The limits of a value of line 1.
-fn least(field: usize) -> usize {
-    if field == 6 { 0 } else { 1 }
-}
-
-fn most(field: usize) -> usize {
-    if field == 1 {
-        return Floor::MAX_WIDTH as usize;
-    }
-    if field == 2 {
-        return Floor::MAX_HEIGHT as usize;
-    }
-    if field == 3 {
-        return Floor::MAX_HORIZON as usize;
-    }
-    if field == 4 {
-        return Floor::MAX_DEPTH as usize;
-    }
-    if field == 5 {
-        return Floor::MAX_CARRIERS as usize;
-    }
-    Floor::MAX_WALLS as usize
-}
-
-// Puts the name of a value of line 1; the column behind it is returned.
-fn put_name(field: usize, out: &mut [u8]) -> usize {
-    if field == 1 {
-        return put(out, 0, b"the width");
-    }
-    if field == 2 {
-        return put(out, 0, b"the height");
-    }
-    if field == 3 {
-        return put(out, 0, b"the horizon");
-    }
-    if field == 4 {
-        return put(out, 0, b"the depth");
-    }
-    if field == 5 {
-        return put(out, 0, b"the number of carriers");
-    }
-    put(out, 0, b"the number of walls")
+// Puts a sentence about a value of line 1, in which the value stands first and its largest stands second; the column behind it is
+// returned.
+fn put_value(value: usize, most: u16, said: &[u8], out: &mut [u8]) -> usize {
+    fill(out, 0, said, [value, most as usize, 0, 0, 0, 0])
 }
 
 // Puts that a value of line 1 is outside its limits; the column behind these words is returned.
@@ -74,10 +37,53 @@ fn put_limit(text: &[u8], field: usize, out: &mut [u8]) -> usize {
     if field == 0 {
         return 0;
     }
-    let name = put_name(field, out);
-    let value = wording::put_named(out, name, b" is ", sheet_line::field_at(text, 0, field - 1));
-    let low = wording::put_named(out, value, b", it must be ", least(field));
-    wording::put_named(out, low, b" to ", most(field))
+    let v = sheet_line::field_at(text, 0, field - 1);
+    if field == 1 {
+        return put_value(
+            v,
+            Floor::MAX_WIDTH,
+            b"the width is %, it must be 1 to %",
+            out,
+        );
+    }
+    if field == 2 {
+        return put_value(
+            v,
+            Floor::MAX_HEIGHT,
+            b"the height is %, it must be 1 to %",
+            out,
+        );
+    }
+    if field == 3 {
+        return put_value(
+            v,
+            Floor::MAX_HORIZON,
+            b"the horizon is %, it must be 1 to %",
+            out,
+        );
+    }
+    if field == 4 {
+        return put_value(
+            v,
+            Floor::MAX_DEPTH,
+            b"the depth is %, it must be 1 to %",
+            out,
+        );
+    }
+    if field == 5 {
+        return put_value(
+            v,
+            Floor::MAX_CARRIERS,
+            b"the number of carriers is %, it must be 1 to %",
+            out,
+        );
+    }
+    put_value(
+        v,
+        Floor::MAX_WALLS,
+        b"the number of walls is %, it must be 0 to %",
+        out,
+    )
 }
 
 // Puts the cause of a refusal, a field of an item's line where there is one; the column behind these words is returned.
@@ -158,32 +164,37 @@ fn dock_count(f: Floor, i: usize) -> usize
     wide(f.counts[i])
 }
 
-// Puts the grid, the horizon and the depth of a floor; the column behind them is returned.
-fn put_size(f: Floor, out: &mut [u8]) -> usize {
-    let width = wording::put_named(out, 0, b"accepted: ", f.width as usize);
-    let height = wording::put_named(out, width, b" by ", f.height as usize);
-    let horizon = wording::put_named(out, height, b" cells, horizon ", f.horizon as usize);
-    wording::put_named(out, horizon, b", depth ", f.depth as usize)
+// Puts a number of things, by a sentence for one and one for several; the column behind it is returned.
+fn put_many(n: usize, one: &[u8], several: &[u8], out: &mut [u8], at: usize) -> usize {
+    if n == 1 {
+        return put(out, at, one);
+    }
+    fill(out, at, several, [n, 0, 0, 0, 0, 0])
 }
 
-// Puts words and behind them how many things there are; the column behind both is returned.
-fn put_many(out: &mut [u8], at: usize, before: &[u8], n: usize, noun: &[u8]) -> usize {
-    let behind = put(out, at, before);
-    wording::put_counted(out, behind, n, noun)
-}
-
-// Puts how many carriers, docks and walls a floor has; the column behind these words is returned.
-fn put_counts(f: Floor, out: &mut [u8], at: usize) -> usize {
-    let carriers = put_many(out, at, b", ", f.carriers as usize, b" carrier");
-    let all = put_many(out, carriers, b" with ", docks(f), b" dock");
-    put_many(out, all, b", ", f.walls as usize, b" wall")
+// Puts how many carriers, docks and walls there are; the column behind these words is returned.
+fn put_counts(carriers: usize, docks: usize, walls: usize, out: &mut [u8], at: usize) -> usize {
+    let who = put_many(carriers, b", 1 carrier", b", % carriers", out, at);
+    let to = put_many(docks, b" with 1 dock", b" with % docks", out, who);
+    put_many(walls, b", 1 wall\n", b", % walls\n", out, to)
 }
 
 // Puts the size of a floor in front of a memory; its length is returned.
 fn put_accepted(f: Floor, out: &mut [u8]) -> usize {
-    let size = put_size(f, out);
-    let counts = put_counts(f, out, size);
-    put(out, counts, b"\n")
+    let size = fill(
+        out,
+        0,
+        b"accepted: % by % cells, horizon %, depth %",
+        [
+            wide(f.width),
+            wide(f.height),
+            wide(f.horizon),
+            wide(f.depth),
+            0,
+            0,
+        ],
+    );
+    put_counts(wide(f.carriers), docks(f), wide(f.walls), out, size)
 }
 
 // Puts the text of a refusal in front of a memory; its length is returned.

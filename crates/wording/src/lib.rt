@@ -1,7 +1,7 @@
 // Words and numbers put into a text, one behind the other. All but `put_decimal` answer for any column and any memory: a piece that does
 // not fit is left out. Helpers of the crates that print sentences and pictures.
 ghost use mathlib.Core.Path.{_≡_};
-ghost use Prim.Native.Nat.{_+_, _%_, _≤_};
+ghost use Prim.Native.Nat.{_+_, _%_, _≤_, _<_};
 ghost use lib.ListN.{length};
 ghost use Rattle.io.specs.Counts.{Counts};
 ghost use Rattle.reporting.specs.Put.{PutAt};
@@ -82,28 +82,6 @@ pub fn put_number(out: &mut [u8], at: usize, n: usize) -> usize {
     put_decimal(out, at, n as u32)
 }
 
-// Puts words and a number behind them; the column behind both is returned.
-pub fn put_named(out: &mut [u8], at: usize, words: &[u8], n: usize) -> usize {
-    let behind = put(out, at, words);
-    put_number(out, behind, n)
-}
-
-// Puts a number and a noun, in the plural unless the number is 1; the column behind both is returned.
-pub fn put_counted(out: &mut [u8], at: usize, n: usize, noun: &[u8]) -> usize {
-    let number = put_number(out, at, n);
-    let word = put(out, number, noun);
-    if n == 1 {
-        return word;
-    }
-    put(out, word, b"s")
-}
-
-// Puts the column and the row of a cell; the column behind them is returned.
-pub fn put_cell(out: &mut [u8], at: usize, column: usize, row: usize) -> usize {
-    let behind = put_named(out, at, b"column ", column);
-    put_named(out, behind, b", row ", row)
-}
-
 // The number of bytes in front of a memory that a number counts, all where it counts more.
 pub fn within(n: usize, out: &[u8]) -> usize
     ensures { λ r. ⌜ Counts r (now (out .entry)) ⌝ }
@@ -112,4 +90,52 @@ pub fn within(n: usize, out: &[u8]) -> usize
         return out.len();
     }
     n
+}
+
+// Numbers to write into a pattern, in their order.
+pub type Numbers = [usize; 6];
+
+// Number k of those; 0 past them.
+fn pick(numbers: Numbers, k: usize) -> usize {
+    if 6 <= k {
+        return 0;
+    }
+    numbers[k]
+}
+
+// Puts byte k of a pattern, or the number in its place where it is `%`; the column behind it is returned.
+fn put_piece(out: &mut [u8], at: usize, pattern: &[u8], k: usize, n: usize) -> usize
+    requires { ⌜ k < length (now pattern) ⌝ }
+{
+    if pattern[k] == 37 {
+        return put_number(out, at, n);
+    }
+    put(out, at, &[pattern[k]])
+}
+
+// The numbers that are written behind a byte of a pattern, by those before it.
+fn written_behind(written: usize, b: u8) -> usize
+    requires { ⌜ written ≤ 4096 ⌝ }
+    ensures { λ r. ⌜ r ≤ written + 1 ⌝ }
+{
+    if b == 37 {
+        return written + 1;
+    }
+    written
+}
+
+// Puts a pattern of at most 4,096 bytes with the numbers in the places of its `%`; the column behind it is returned.
+pub fn fill(out: &mut [u8], at: usize, pattern: &[u8], numbers: Numbers) -> usize {
+    let mut end = at;
+    let mut written: usize = 0;
+    let mut k: usize = 0;
+    while k < pattern.len() {
+        if 4096 <= k {
+            return end;
+        }
+        end = put_piece(out, end, pattern, k, pick(numbers, written));
+        written = written_behind(written, pattern[k]);
+        k += 1;
+    }
+    end
 }
