@@ -23,6 +23,8 @@ enum Command {
     Blockers,
     // `why`: prints why the sheet is refused, in words.
     Why,
+    // `picture`: prints the floor and its routes as an SVG that moves.
+    Picture,
     // No command, or none of that name.
     Unknown,
 }
@@ -43,6 +45,9 @@ fn command_named(name: &[u8]) -> Command {
     }
     if arguments::same(name, b"why") {
         return Command::Why;
+    }
+    if arguments::same(name, b"picture") {
+        return Command::Picture;
     }
     Command::Unknown
 }
@@ -237,6 +242,31 @@ fn why_command() {
     explain()
 }
 
+// Says how `picture` is called.
+fn picture_usage() {
+    io::write_all(STDERR_FILENO, b"desk: picture < sheet > floor.svg\n");
+}
+
+// Prints the picture of the sheet from standard input.
+fn show_picture() {
+    let mut space = io::large_buffer();
+    let input = console::read(b"desk: standard input", &mut space);
+    let Input::Read(n) = input else {
+        return;
+    };
+    let mut out = io::large_buffer();
+    let printed = picture::print(&space[..n], &mut out);
+    console::write(b"desk: standard output", &out[..printed]);
+}
+
+// The command `picture`.
+fn picture_command() {
+    if os::arg_count() != 2 {
+        return picture_usage();
+    }
+    show_picture()
+}
+
 // Says which commands there are, a line each.
 fn commands_usage() {
     io::write_all(
@@ -263,6 +293,10 @@ fn commands_usage() {
         STDERR_FILENO,
         b"  why                 tell in words why the sheet is refused\n",
     );
+    io::write_all(
+        STDERR_FILENO,
+        b"  picture             draw the floor and its routes as an SVG that moves\n",
+    );
 }
 
 fn main() {
@@ -274,6 +308,7 @@ fn main() {
         Command::Meeting => meeting_command(),
         Command::Blockers => blockers_command(),
         Command::Why => why_command(),
+        Command::Picture => picture_command(),
         Command::Unknown => commands_usage(),
     }
 }

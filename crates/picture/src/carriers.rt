@@ -173,11 +173,9 @@ fn put_stranded(p: Page, m: &[u16], i: usize, out: &mut [u8], at: usize) -> usiz
     }
     let c = answers::cell(m, i, 0);
     let s = page::side(p);
-    let start = put_start(p, m, i, out, at);
-    let body = put_body(p, i, out, start);
-    fill(
+    let hatched = fill(
         out,
-        body,
+        at,
         b"<rect x=\"%\" y=\"%\" width=\"%\" height=\"%\" fill=\"url(#hatch)\"/>\n",
         [
             page::edge(p, ground::column_of(p, c)),
@@ -187,7 +185,9 @@ fn put_stranded(p: Page, m: &[u16], i: usize, out: &mut [u8], at: usize) -> usiz
             0,
             0,
         ],
-    )
+    );
+    let start = put_start(p, m, i, out, hatched);
+    put_body(p, i, out, start)
 }
 
 // Puts the line of a carrier in the legend; the column behind it is returned.

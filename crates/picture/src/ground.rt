@@ -93,7 +93,7 @@ fn put_square(p: Page, c: u16, out: &mut [u8], at: usize) -> usize {
 
 // Puts the walls; the column behind them is returned.
 pub fn put_walls(p: Page, walls: &[u16], out: &mut [u8], at: usize) -> usize {
-    let mut end = put(out, at, b"<path fill=\"#555\" d=\"");
+    let mut end = put(out, at, b"<path fill=\"#444\" d=\"");
     let mut j: usize = 0;
     while j < walls.len() {
         end = put_square(p, walls[j], out, end);
@@ -196,7 +196,7 @@ fn put_stripe(
     fill(
         out,
         at,
-        b"<rect class=\"f%\" x=\"%\" y=\"%\" width=\"%\" height=\"%\" fill-opacity=\".45\"/>\n",
+        b"<rect class=\"f%\" x=\"%\" y=\"%\" width=\"%\" height=\"%\" fill-opacity=\".4\"/>\n",
         [
             i + 1,
             page::edge(p, column_of(p, c)) + from,

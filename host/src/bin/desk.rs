@@ -1,5 +1,6 @@
 //! Holds the program `desk` to an independent implementation of its texts: damaged sheets with a fixed seed, each given to `desk why`, whose
-//! number, line, column and words must be those of `why.rs`. It needs no archive.
+//! line, column and words must be those of `why.rs`, and of every tenth the bytes of `desk picture` those of `picture.rs`. It needs no
+//! archive.
 //!
 //!     desk [COUNT]          so many sheets, 10,000 if none are said; the program is target/bin/desk of the repository
 
@@ -7,6 +8,8 @@
 mod draw;
 #[path = "../paper.rs"]
 mod paper;
+#[path = "../picture.rs"]
+mod picture;
 #[path = "../sheets.rs"]
 mod sheets;
 #[path = "../why.rs"]
@@ -67,10 +70,20 @@ fn kind(words: &str) -> String {
     kind
 }
 
+/// Ends with both texts where they are not the same.
+fn hold(sheet: &[u8], seed: u64, printed: &[u8], expected: &str) {
+    if printed != expected.as_bytes() {
+        println!("sheet {seed}:\n{}", String::from_utf8_lossy(sheet));
+        println!("desk:  {}paper: {expected}", String::from_utf8_lossy(printed));
+        exit(1);
+    }
+}
+
 fn main() {
     let count = std::env::args().nth(1).map_or(SHEETS, |word| word.parse().expect("a number of sheets"));
     let program = concat!(env!("CARGO_MANIFEST_DIR"), "/../target/bin/desk");
     let mut kinds: BTreeMap<String, u64> = BTreeMap::new();
+    let (mut pictures, mut longest) = (0, 0);
     for seed in 1..=count {
         let mut draw = Draw(seed);
         let (mut text, _) = sheets::draw_sheet(&mut draw);
@@ -78,16 +91,18 @@ fn main() {
             spoil_ends(&mut draw, &mut text);
         }
         let expected = why::print_why(&text);
-        let printed = run(program, "why", &text);
-        if printed != expected.as_bytes() {
-            println!("sheet {seed}:\n{}", String::from_utf8_lossy(&text));
-            println!("desk:  {}paper: {expected}", String::from_utf8_lossy(&printed));
-            exit(1);
-        }
+        hold(&text, seed, &run(program, "why", &text), &expected);
         *kinds.entry(kind(&expected)).or_default() += 1;
+        if seed % 10 == 0 {
+            let drawn = picture::print_picture(&text);
+            hold(&text, seed, &run(program, "picture", &text), &drawn);
+            longest = longest.max(drawn.len());
+            pictures += 1;
+        }
     }
     for (kind, count) in &kinds {
         println!("{count:6}  {kind}");
     }
-    println!("desk: {count} sheets, {} kinds of reasons: the program and the paper agree", kinds.len());
+    let kinds = kinds.len();
+    println!("desk: {count} sheets, {kinds} kinds of reasons, {pictures} pictures, the longest of {longest} bytes: the program and the paper agree");
 }

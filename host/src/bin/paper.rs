@@ -1,6 +1,7 @@
 //! The routes program over `paper.rs` alone: a sheet on standard input, its routes on standard output; with the arguments
 //! `trial ORDER SEED` the text of a trial, with `runs [RANK]` that of the complete runs, with `meeting I J` that of
-//! a meeting, with `blockers` that of the stranded carriers, with `why` the reason of a refusal. It needs no archive.
+//! a meeting, with `blockers` that of the stranded carriers, with `why` the reason of a refusal, with
+//! `picture` the picture of the routes, with `tryouts` all of these by a script of sections. It needs no archive.
 //! Its tests (`cargo test --bin paper`) hold `paper.rs` to document 01's twelve floors, its search to a search of all routes, and the
 //! benchmark's other planners to `paper.rs`.
 
@@ -15,10 +16,37 @@ mod bits;
 mod draw;
 #[path = "../paper.rs"]
 mod paper;
+#[path = "../picture.rs"]
+mod picture;
 #[path = "../why.rs"]
 mod why;
 
 use std::io::{Read, Write};
+
+/// What the program `tryouts` prints for its script: each section is a line with a command, its numbers and a length, then so many bytes and
+/// a newline.
+fn tryouts(script: &[u8]) -> String {
+    let mut out = String::new();
+    let mut rest = script;
+    while !rest.is_empty() {
+        let end = rest.iter().position(|&b| b == b'\n').expect("a section's line");
+        let line = std::str::from_utf8(&rest[..end]).expect("a section's line");
+        let words: Vec<&str> = line.split(' ').collect();
+        let number = |k: usize| words[k].parse::<u64>().expect("a number");
+        let length = number(words.len() - 1) as usize;
+        let sheet = &rest[end + 1..end + 1 + length];
+        out += &format!("{line}\n");
+        out += &match words[1] {
+            "why" => why::print_why(sheet),
+            "picture" => picture::print_picture(sheet),
+            "meeting" => paper::print_meeting(sheet, number(2), number(3)),
+            "blockers" => paper::print_blockers(sheet),
+            command => panic!("no command {command}"),
+        };
+        rest = &rest[end + 1 + length + 1..];
+    }
+    out
+}
 
 fn main() -> std::io::Result<()> {
     let mut text = Vec::new();
@@ -31,6 +59,8 @@ fn main() -> std::io::Result<()> {
         Some("meeting") => paper::print_meeting(&text, number(1), number(2)),
         Some("blockers") => paper::print_blockers(&text),
         Some("why") => why::print_why(&text),
+        Some("picture") => picture::print_picture(&text),
+        Some("tryouts") => tryouts(&text),
         _ => paper::print_routes(&text),
     };
     std::io::stdout().write_all(out.as_bytes())
