@@ -3,7 +3,7 @@
 ghost use Prim.Native.Nat.{_≤_};
 
 // A number of a memory; 0 past its end.
-fn number(m: &[u16], k: usize) -> u16 {
+pub fn number(m: &[u16], k: usize) -> u16 {
     if k < m.len() {
         return m[k];
     }

@@ -1,10 +1,13 @@
 // The floor of a picture: its grid with labels, its walls, its docks.
 ghost use Prim.Native.Nat.{_+_, _≤_, _<_};
+use crate::answers::number;
 use crate::page;
 use crate::page::Page;
-use floor::Floor;
 use wording::fill;
 use wording::put;
+
+// What stands in a place without a dock.
+pub const NO_CELL: u16 = 65535;
 
 // Puts the label of a column or of a row; the column behind it is returned.
 fn put_label(p: Page, k: u16, is_row: bool, out: &mut [u8], at: usize) -> usize {
@@ -102,33 +105,18 @@ pub fn put_walls(p: Page, walls: &[u16], out: &mut [u8], at: usize) -> usize {
     put(out, end, b"\"/>\n")
 }
 
-// Whether a cell is dock k, counted from 0, of carrier i.
-fn is_dock(f: Floor, i: usize, k: u16, c: u16) -> bool
-    requires { ⌜ (i < 8) × (k < 4) ⌝ }
+// Whether a cell is one of the four docks from a place on.
+fn has_dock(docks: &[u16], at: usize, c: u16) -> bool
+    requires { ⌜ at ≤ 32 ⌝ }
 {
-    if f.carriers as usize <= i {
-        return false;
+    let mut k: usize = 0;
+    while k < 4 {
+        if number(docks, at + k) == c {
+            return true;
+        }
+        k += 1;
     }
-    if f.counts[i] <= k {
-        return false;
-    }
-    f.docks[4 * i + k as usize] == c
-}
-
-// Whether a carrier has a cell as a dock.
-fn has_dock(f: Floor, i: usize, c: u16) -> bool
-    requires { ⌜ i < 8 ⌝ }
-{
-    if is_dock(f, i, 0, c) {
-        return true;
-    }
-    if is_dock(f, i, 1, c) {
-        return true;
-    }
-    if is_dock(f, i, 2, c) {
-        return true;
-    }
-    is_dock(f, i, 3, c)
+    false
 }
 
 // A number, and one more where something is so.
@@ -143,14 +131,14 @@ fn counted(sum: usize, is_so: bool) -> usize
 }
 
 // The number of carriers, of those before carrier n, that have a cell as a dock.
-fn sharers(f: Floor, n: usize, c: u16) -> usize
+fn sharers(docks: &[u16], n: usize, c: u16) -> usize
     requires { ⌜ n ≤ 8 ⌝ }
     ensures { λ r. ⌜ r ≤ n ⌝ }
 {
     let mut sum: usize = 0;
     let mut i: usize = 0;
     while i < n {
-        sum = counted(sum, has_dock(f, i, c));
+        sum = counted(sum, has_dock(docks, 4 * i, c));
         i += 1;
     }
     sum
@@ -220,26 +208,26 @@ fn put_edge(p: Page, c: u16, out: &mut [u8], at: usize) -> usize {
 }
 
 // Puts dock q % 4 of carrier q / 4, if there is one; the column behind it is returned.
-fn put_dock(p: Page, f: Floor, q: usize, out: &mut [u8], at: usize) -> usize
+fn put_dock(p: Page, docks: &[u16], q: usize, out: &mut [u8], at: usize) -> usize
     requires { ⌜ q < 32 ⌝ }
 {
-    let i = q / 4;
-    let c = f.docks[q];
-    if !is_dock(f, i, (q % 4) as u16, c) {
+    let c = number(docks, q);
+    if c == NO_CELL {
         return at;
     }
-    let before = sharers(f, i, c);
-    let all = sharers(f, 8, c);
+    let i = q / 4;
+    let before = sharers(docks, i, c);
+    let all = sharers(docks, 8, c);
     let end = put_stripe(p, i, c, before, all, out, at);
     put_edge(p, c, out, end)
 }
 
-// Puts the docks of all carriers; the column behind them is returned.
-pub fn put_docks(p: Page, f: Floor, out: &mut [u8], at: usize) -> usize {
+// Puts the docks of all carriers, four places each; the column behind them is returned.
+pub fn put_docks(p: Page, docks: &[u16], out: &mut [u8], at: usize) -> usize {
     let mut end = at;
     let mut q: usize = 0;
     while q < 32 {
-        end = put_dock(p, f, q, out, end);
+        end = put_dock(p, docks, q, out, end);
         q += 1;
     }
     end

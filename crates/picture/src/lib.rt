@@ -8,7 +8,7 @@ mod ground;
 mod page;
 
 ghost use mathlib.Core.Path.{_≡_};
-ghost use Prim.Native.Nat.{_≤_};
+ghost use Prim.Native.Nat.{_<_};
 ghost use lib.ListN.{length};
 ghost use Rattle.io.specs.Counts.{Counts};
 use beats::Beat;
@@ -104,10 +104,10 @@ fn put_front(p: Page, m: &[u16], out: &mut [u8]) -> usize {
 }
 
 // Puts the floor; the column behind it is returned.
-fn put_ground(p: Page, f: Floor, walls: &[u16], out: &mut [u8], at: usize) -> usize {
+fn put_ground(p: Page, walls: &[u16], docks: &[u16], out: &mut [u8], at: usize) -> usize {
     let grid = ground::put_grid(p, out, at);
     let shut = ground::put_walls(p, walls, out, grid);
-    ground::put_docks(p, f, out, shut)
+    ground::put_docks(p, docks, out, shut)
 }
 
 // Puts the traces; the column behind them is returned.
@@ -183,13 +183,40 @@ fn put_legend(p: Page, m: &[u16], out: &mut [u8], at: usize) -> usize {
     put(out, lines, b"</g>\n</svg>\n")
 }
 
-// Puts the picture of a floor with its walls and the answers of its carriers; its length is returned.
-fn put_picture(p: Page, f: Floor, walls: &[u16], m: &[u16], out: &mut [u8]) -> usize {
+// Puts the picture of a floor with its walls, its docks and the answers of its carriers; its length is returned.
+fn put_picture(p: Page, walls: &[u16], docks: &[u16], m: &[u16], out: &mut [u8]) -> usize {
     let front = put_front(p, m, out);
-    let floor = put_ground(p, f, walls, out, front);
+    let floor = put_ground(p, walls, docks, out, front);
     let traces = put_traces(p, m, out, floor);
     let bodies = put_carriers(p, m, out, traces);
     put_legend(p, m, out, bodies)
+}
+
+// What stands in place q of a floor's docks: its dock q % 4 of carrier q / 4, if there is one.
+fn dock_in(f: Floor, q: usize) -> u16
+    requires { ⌜ q < 32 ⌝ }
+{
+    let i = q / 4;
+    if f.carriers as usize <= i {
+        return ground::NO_CELL;
+    }
+    if f.counts[i] as usize <= q % 4 {
+        return ground::NO_CELL;
+    }
+    f.docks[q]
+}
+
+// The docks of a floor, four places a carrier.
+fn docks_in(f: Floor) -> [u16; 32]
+    ensures { λ r. ⌜ 32 ≡ length r ⌝ }
+{
+    let mut docks = [0u16; 32];
+    let mut q: usize = 0;
+    while q < 32 {
+        docks[q] = dock_in(f, q);
+        q += 1;
+    }
+    docks
 }
 
 // The answers of a floor's carriers, with the start of each at beat 0 also where it has no route.
@@ -209,7 +236,8 @@ fn answers_of(f: Floor, walls: &[u16]) -> [u16; TEAM]
 // Puts the picture of a floor with its walls; its length is returned.
 fn put_planned(f: Floor, walls: &[u16], out: &mut [u8]) -> usize {
     let m = answers_of(f, walls);
-    put_picture(page::page_of(f), f, walls, &m, out)
+    let docks = docks_in(f);
+    put_picture(page::page_of(f), walls, &docks, &m, out)
 }
 
 // Puts the picture of a floor that was read, with its walls in front of `walls`; its length is returned.

@@ -7,5 +7,5 @@ use Rattle.desk.proofs.show_picture.Tie as tie
 pub show-picture-spec : {M : Type 1} → statement M
 show-picture-spec =
     tie.close (tie.spec (λ c κs. search needs) (λ c. search needs) (λ c. search needs) (λ c κs. search needs) (λ c. search needs)
-    (λ c. search needs) (λ c. search needs) (λ c. search reading) (λ c. search reading) (λ c κs. search needs)
+    (λ c. search needs) (λ c. search needs) (λ c κs. search needs) (λ c. search reading) (λ c. search reading) (λ c κs. search needs)
     (λ c. search needs) (λ c. search needs) (λ c. search needs) (λ c κs. search needs) (λ c. search needs))

@@ -8,10 +8,10 @@ use Rattle.picture.proofs.ground.put_docks.Statement.{statement}
 use Rattle.picture.proofs.ground.put_docks.Tie as tie
 
 abbrev Inv-loop : tie.InvT-loop
-Inv-loop p f out₀ at end₀ q₀ out end q = (q ≤ 32) × (length out ≡ length out₀)
+Inv-loop p docks out₀ at end₀ q₀ out end q = (q ≤ 32) × (length out ≡ length out₀)
 
 abbrev μ-loop : tie.MeasureT-loop
-μ-loop p f out₀ at end₀ q₀ out end q = 32 - q
+μ-loop p docks out₀ at end₀ q₀ out end q = 32 - q
 
 pub put-docks-spec : {M : Type 1} → statement M
 put-docks-spec =

@@ -6,12 +6,12 @@ use Rattle.picture.proofs.ground.sharers.Statement.{statement}
 use Rattle.picture.proofs.ground.sharers.Tie as tie
 
 abbrev Inv-loop : tie.InvT-loop
-Inv-loop f n c sum₀ i₀ sum i = (i ≤ n) × (sum ≤ i)
+Inv-loop docks n c sum₀ i₀ sum i = (i ≤ n) × (sum ≤ i)
 
 abbrev μ-loop : tie.MeasureT-loop
-μ-loop f n c sum₀ i₀ sum i = n - i
+μ-loop docks n c sum₀ i₀ sum i = n - i
 
 pub sharers-spec : {M : Type 1} → statement M
 sharers-spec =
-    tie.close (tie.spec Inv-loop μ-loop (λ c. search needs) (λ c κs. search needs) (λ c κs. search needs)
-    (λ c. search needs) (λ c. search needs) (λ c. search needs) (λ c. search needs))
+    tie.close (tie.spec Inv-loop μ-loop (λ c. search needs) (λ c. search needs) (λ c κs. search needs)
+    (λ c κs. search needs) (λ c. search needs) (λ c. search needs) (λ c. search needs) (λ c. search needs))
