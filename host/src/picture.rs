@@ -23,7 +23,11 @@ impl Page<'_> {
     }
 
     fn side(&self) -> usize {
-        if self.small() { 24 } else { 40 }
+        if self.small() {
+            24
+        } else {
+            40
+        }
     }
 
     /// The column and the row of a cell, each turned into a place on the page.
@@ -75,10 +79,7 @@ impl Page<'_> {
                     x + from,
                     to - from
                 );
-                text += &format!(
-                    "<path d=\"{}\" fill=\"none\" stroke=\"#222\" stroke-dasharray=\"4 3\"/>\n",
-                    self.square(dock)
-                );
+                text += &format!("<path d=\"{}\" fill=\"none\" stroke=\"#222\" stroke-dasharray=\"4 3\"/>\n", self.square(dock));
             }
         }
         text
@@ -137,9 +138,8 @@ impl Page<'_> {
         let horizon = self.floor.horizon;
         let turns: Vec<String> =
             (0..=horizon).chain([horizon]).map(|t| if t == 0 { "0 0".into() } else { format!("0 -{}", 30 * t) }).collect();
-        let texts: String = (0..=horizon)
-            .map(|t| format!("<text x=\"{}\" y=\"{}\">{t}</text>\n", self.legend() + 44, 50 + 30 * t))
-            .collect();
+        let texts: String =
+            (0..=horizon).map(|t| format!("<text x=\"{}\" y=\"{}\">{t}</text>\n", self.legend() + 44, 50 + 30 * t)).collect();
         format!(
             "<g class=\"moving\" clip-path=\"url(#window)\"><g><animateTransform attributeName=\"transform\" type=\"translate\" \
              calcMode=\"discrete\" dur=\"{}ms\" repeatCount=\"indefinite\" values=\"{}\"/>\n{texts}</g></g>\n",
@@ -190,7 +190,10 @@ impl Page<'_> {
         );
         text += "<pattern id=\"hatch\" width=\"6\" height=\"6\" patternUnits=\"userSpaceOnUse\" patternTransform=\"rotate(45)\">";
         text += "<path d=\"M0 0V6\" stroke=\"#222\" stroke-width=\"3\"/></pattern>\n";
-        text += &format!("<clipPath id=\"window\"><rect x=\"{}\" y=\"30\" width=\"36\" height=\"28\"/></clipPath>\n</defs>\n", x + 40);
+        text += &format!(
+            "<clipPath id=\"window\"><rect x=\"{}\" y=\"30\" width=\"36\" height=\"28\"/></clipPath>\n</defs>\n",
+            x + 40
+        );
         text += &format!("<rect width=\"{width}\" height=\"{height}\" fill=\"#fff\"/>\n");
         text += "<g font-family=\"sans-serif\" font-size=\"14\" fill=\"#222\">\n";
         text += &format!(
@@ -209,14 +212,18 @@ impl Page<'_> {
         text += &self.docks();
         text += "<g fill=\"none\" stroke-width=\"3\" stroke-opacity=\".8\" stroke-linejoin=\"round\" stroke-linecap=\"round\">\n";
         text += &each(&|i| self.trace(i));
-        text += &format!("</g>\n<g font-size=\"{}\" font-weight=\"bold\" text-anchor=\"middle\">\n", if self.small() { 12 } else { 16 });
+        text += &format!(
+            "</g>\n<g font-size=\"{}\" font-weight=\"bold\" text-anchor=\"middle\">\n",
+            if self.small() { 12 } else { 16 }
+        );
         text += &all.iter().filter(|i| !routed(i)).map(|&i| self.stranded(i)).collect::<String>();
         text += "<g class=\"still\">\n";
         text += &all.iter().filter(|i| routed(i)).map(|&i| self.body(i, "")).collect::<String>();
         text += "</g>\n<g class=\"moving\">\n";
         text += &each(&|i| self.answers[i].map_or(String::new(), |route| self.body(i, &self.movement(&route))));
         text += "</g>\n</g>\n<g font-size=\"16\">\n";
-        text += &format!("<text x=\"{x}\" y=\"50\">beat</text><text x=\"{}\" y=\"50\">of {}</text>\n", x + 80, self.floor.horizon);
+        text +=
+            &format!("<text x=\"{x}\" y=\"50\">beat</text><text x=\"{}\" y=\"50\">of {}</text>\n", x + 80, self.floor.horizon);
         text += &format!("<g class=\"still\"><text x=\"{}\" y=\"50\">0</text></g>\n", x + 44);
         text += &(self.numerals() + "</g>\n");
         text += &each(&|i| self.line(i));

@@ -89,7 +89,11 @@ pub fn lines_of(floor: &Floor) -> Vec<Vec<usize>> {
 
 /// The first of the two fields of a start (0) or of a dock (from 1) in a carrier's line.
 pub fn pair_at(k: usize) -> usize {
-    if k == 0 { 0 } else { 1 + 2 * k }
+    if k == 0 {
+        0
+    } else {
+        1 + 2 * k
+    }
 }
 
 /// Spoils the numbers of a sheet in one way: a field, a wall's order, a double, a start or a dock on a wall, a dock twice, a count.

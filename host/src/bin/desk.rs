@@ -37,7 +37,18 @@ fn spoil_ends(draw: &mut Draw, text: &mut Vec<u8>) {
         4 => text.truncate(end + draw.below(2)),
         5 => {
             let at = end.saturating_sub(5 * draw.between(1, 4));
-            let form = draw.of(&[b"   03", b"    %", b"  1 2", b"12   ", b"     ", b"   1a", b"   \xc3\xa9", b"  \t 1", b"\r   1", b" 1\n 2"]);
+            let form = draw.of(&[
+                b"   03",
+                b"    %",
+                b"  1 2",
+                b"12   ",
+                b"     ",
+                b"   1a",
+                b"   \xc3\xa9",
+                b"  \t 1",
+                b"\r   1",
+                b" 1\n 2",
+            ]);
             if at + 5 <= text.len() {
                 text[at..at + 5].copy_from_slice(form);
             }
@@ -48,7 +59,8 @@ fn spoil_ends(draw: &mut Draw, text: &mut Vec<u8>) {
 
 /// What the program prints for a sheet.
 fn run(program: &str, command: &str, sheet: &[u8]) -> Vec<u8> {
-    let mut child = Command::new(program).arg(command).stdin(Stdio::piped()).stdout(Stdio::piped()).spawn().expect("target/bin/desk");
+    let mut child =
+        Command::new(program).arg(command).stdin(Stdio::piped()).stdout(Stdio::piped()).spawn().expect("target/bin/desk");
     child.stdin.take().unwrap().write_all(sheet).unwrap();
     child.wait_with_output().unwrap().stdout
 }

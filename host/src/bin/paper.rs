@@ -155,22 +155,43 @@ mod tests {
         assert_eq!(told(SHEET), "accepted: 3 by 2 cells, horizon 4, depth 1, 2 carriers with 2 docks, 0 walls\n");
         let spoilt = |from: &str, to: &str| told(&SHEET.replacen(from, to, 1));
         assert_eq!(spoilt("    4    1", "   04    1"), "line 1, column 11: field 3 has a leading zero\n");
-        assert_eq!(spoilt("    1    2    0\n    2", "    1    2    %\n    2"), "line 2, column 21: field 5 has the character '%' in it\n");
+        assert_eq!(
+            spoilt("    1    2    0\n    2", "    1    2    %\n    2"),
+            "line 2, column 21: field 5 has the character '%' in it\n"
+        );
         assert_eq!(spoilt("    1    0    0\n", "    1 1  0    0\n"), "line 3, column 16: field 4 has a space behind a digit\n");
-        assert_eq!(spoilt("    1    2    0\n    2", "    5    2    0\n    2"), "line 2, column 11: the dock count is 5, it must be 1 to 4\n");
+        assert_eq!(
+            spoilt("    1    2    0\n    2", "    5    2    0\n    2"),
+            "line 2, column 11: the dock count is 5, it must be 1 to 4\n"
+        );
         assert_eq!(told(&SHEET.replace('\n', "\r\n")), "line 1, column 31: a carriage return stands before the newline\n");
-        assert_eq!(spoilt("    2    0\n    2", "    2    0    1\n    2"), "line 2, column 26: a newline is missing after field 5\n");
+        assert_eq!(
+            spoilt("    2    0\n    2", "    2    0    1\n    2"),
+            "line 2, column 26: a newline is missing after field 5\n"
+        );
         assert_eq!(told(&(SHEET.to_string() + " ")), "line 4, column 1: nothing may follow the last line\n");
         assert_eq!(told(""), "the sheet is empty\n");
         assert_eq!(told(&SHEET[..SHEET.len() - 1]), "the sheet ends in line 3, column 26: a newline is missing after field 5\n");
         assert_eq!(told(&SHEET[..57]), "the sheet ends in line 3: line 1 counts 2 carriers, 1 is there\n");
         assert_eq!(told(&SHEET[..62]), "the sheet ends in line 3, column 6: line 1 counts 2 carriers, 1 is there\n");
         assert_eq!(spoilt("    4    1", "   64    1"), "line 1, column 11: the horizon is 64, it must be 1 to 63\n");
-        assert_eq!(spoilt("    1    2    0\n    2", "    1    3    0\n    2"), "line 2, column 16: carrier 1's dock 1 has column 3, outside 0 to 2\n");
-        assert_eq!(spoilt("    2    0    1    0    0\n", "    0    0    1    0    0\n"), "line 3, column 1: carrier 2 starts where carrier 1 starts (column 0, row 0)\n");
-        assert_eq!(spoilt("    1    2    0\n    2", "    2    2    0    2    0\n    2"), "line 2, column 26: carrier 1 has the dock column 2, row 0 twice\n");
+        assert_eq!(
+            spoilt("    1    2    0\n    2", "    1    3    0\n    2"),
+            "line 2, column 16: carrier 1's dock 1 has column 3, outside 0 to 2\n"
+        );
+        assert_eq!(
+            spoilt("    2    0    1    0    0\n", "    0    0    1    0    0\n"),
+            "line 3, column 1: carrier 2 starts where carrier 1 starts (column 0, row 0)\n"
+        );
+        assert_eq!(
+            spoilt("    1    2    0\n    2", "    2    2    0    2    0\n    2"),
+            "line 2, column 26: carrier 1 has the dock column 2, row 0 twice\n"
+        );
         let walled = |lines: &str| told(&(SHEET.replacen("    2    0\n", "    2    2\n", 1) + lines));
-        assert_eq!(walled("    1    1\n    1    0\n"), "line 5, column 1: wall 2 (column 1, row 0) must come before wall 1 (column 1, row 1)\n");
+        assert_eq!(
+            walled("    1    1\n    1    0\n"),
+            "line 5, column 1: wall 2 (column 1, row 0) must come before wall 1 (column 1, row 1)\n"
+        );
         assert_eq!(walled("    1    1\n    1    1\n"), "line 5, column 1: wall 2 is wall 1 again\n");
         assert_eq!(walled("    0    0\n    1    1\n"), "line 2, column 1: carrier 1's start (column 0, row 0) is a wall\n");
         assert_eq!(walled("    1    1\n    1    2\n"), "line 5, column 6: wall 2 has row 2, outside 0 to 1\n");
@@ -182,7 +203,8 @@ mod tests {
         let shown = |sheet: &str| paper::print_blockers(sheet.as_bytes());
         let one = "    3    1    4    1    2    0\n    1    0    1    1    0\n    0    0    1    2    0\n";
         assert_eq!(shown(one), "carrier 2 is shut in by 1\n2..\n");
-        let two = "    3    2    4    1    3    0\n    1    0    1    1    0\n    1    1    1    1    1\n    0    0    1    2    0\n";
+        let two =
+            "    3    2    4    1    3    0\n    1    0    1    1    0\n    1    1    1    1    1\n    0    0    1    2    0\n";
         assert_eq!(shown(two), "carrier 3 is shut in by 1 2\n3..\n...\n");
         let stranded = "    5    1    2    1    2    1\n    1    0    1    4    0\n    0    0    1    2    0\n    3    0\n";
         assert_eq!(shown(stranded), "carrier 1 is shut in by walls or the horizon\ncarrier 2 is shut in by 1\n21.#.\n");
@@ -190,7 +212,8 @@ mod tests {
         assert_eq!(shown(walls), "carrier 2 is shut in by walls or the horizon\n.2#.\n");
         let short = one.replace("    4    1    2", "    1    1    2");
         assert_eq!(shown(&short), "carrier 2 is shut in by walls or the horizon\n2..\n");
-        let row = "    4    1    3    1    3    0\n    1    0    1    1    0\n    2    0    1    2    0\n    0    0    1    3    0\n";
+        let row =
+            "    4    1    3    1    3    0\n    1    0    1    1    0\n    2    0    1    2    0\n    0    0    1    3    0\n";
         assert_eq!(shown(row), "carrier 3 is shut in by 2\n3...\n");
         assert_eq!(shown(SHEET), "no carrier is stranded\n...\n...\n");
         assert_eq!(shown(""), "    0    1    0\n");
@@ -200,7 +223,8 @@ mod tests {
     /// before it; an aisle of eight, each of which waits a beat more than the one in front.
     #[test]
     fn longer_carriers() {
-        let routes = |floor: &Floor| -> Vec<Vec<u16>> { paper::plan(floor).0.iter().map(|answer| cells(answer, floor.horizon)).collect() };
+        let routes =
+            |floor: &Floor| -> Vec<Vec<u16>> { paper::plan(floor).0.iter().map(|answer| cells(answer, floor.horizon)).collect() };
         assert_eq!(routes(&bare(3, 1, 2, 1, &[(1, 2), (0, 1)])), [[1, 2, 2], [0, 0, 1]]);
         assert_eq!(paper::plan(&bare(3, 1, 1, 1, &[(1, 2), (0, 1)])).1, 2);
         let mut siding = bare(5, 2, 8, 1, &[(0, 4), (4, 0)]);
