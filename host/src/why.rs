@@ -75,6 +75,43 @@ fn bad_field(bytes: &[u8], k: usize) -> Option<String> {
     (digits.len() > 1 && digits.starts_with('0')).then(|| format!("field {k} has a leading zero"))
 }
 
+/// What a sheet that ends early lacks. Its lines are taken off its front while all their fields and their newline are there; a field that the end
+/// cuts short may hold a newline.
+fn missing(text: &[u8]) -> String {
+    let mut whole = 0;
+    let mut rest = text;
+    loop {
+        let here = text.len() - rest.len();
+        let fields = if whole == 0 {
+            6
+        } else {
+            let head = numbers(&text[..30]);
+            let count = || rest.get(10..15).map_or(1, |field| numbers(field)[0]);
+            match whole {
+                k if k <= head[4] => 3 + 2 * count(),
+                _ => 2,
+            }
+        };
+        if rest.len() == 5 * fields {
+            return format!("a newline is missing after field {fields}");
+        }
+        if rest.len() < 5 * fields {
+            break;
+        }
+        whole += 1;
+        rest = &text[here + 5 * fields + 1..];
+    }
+    if whole == 0 {
+        return format!("line 1 has 6 fields, {}", there(rest.len() / 5));
+    }
+    let head = numbers(&text[..30]);
+    if whole <= head[4] {
+        format!("line 1 counts {}, {}", several(head[4], "carrier"), there(whole - 1))
+    } else {
+        format!("line 1 counts {}, {}", several(head[5], "wall"), there(whole - 1 - head[4]))
+    }
+}
+
 /// Refusal 1 with a byte offset.
 fn form(text: &[u8], place: usize) -> String {
     if text.is_empty() {
@@ -87,20 +124,7 @@ fn form(text: &[u8], place: usize) -> String {
     let at_newline = fields.is_some_and(|m| column == 5 * m + 1);
     if place == text.len() {
         let at = if column == 1 { format!("line {line}") } else { format!("line {line}, column {column}") };
-        let missing = if at_newline {
-            format!("a newline is missing after field {}", fields.unwrap())
-        } else if line == 1 {
-            format!("line 1 has 6 fields, {}", there((column - 1) / 5))
-        } else {
-            let head = numbers(all[0]);
-            let (n, walls) = (head[4], head[5]);
-            if line <= 1 + n {
-                format!("line 1 counts {}, {}", several(n, "carrier"), there(line - 2))
-            } else {
-                format!("line 1 counts {}, {}", several(walls, "wall"), there(line - 2 - n))
-            }
-        };
-        return format!("the sheet ends in {at}: {missing}");
+        return format!("the sheet ends in {at}: {}", missing(text));
     }
     let said = match fields {
         None => "nothing may follow the last line".to_string(),

@@ -1,6 +1,5 @@
 // Refusal 1 in words, for a sheet that ends early.
 ghost use Prim.Native.Nat.{_≤_};
-ghost use lib.ListN.{length};
 use crate::position;
 use crate::sheet_line;
 use wording::fill;
@@ -44,35 +43,18 @@ fn put_where(line: usize, column: usize, out: &mut [u8]) -> usize {
     )
 }
 
-// The whole fields that stand before a column of a line.
-fn fields_before(column: usize) -> usize {
-    if column == 0 {
-        return 0;
-    }
-    (column - 1) / 5
-}
-
-// Puts what is missing in a line and behind it; the column behind these words is returned.
-fn put_rest(text: &[u8], line: usize, column: usize, out: &mut [u8], at: usize) -> usize
-    requires { ⌜ line ≤ 65536 ⌝ }
-{
+// Puts what is missing behind so many whole lines and so many bytes; the column behind these words is returned.
+fn put_rest(text: &[u8], lines: usize, bytes: usize, out: &mut [u8], at: usize) -> usize {
     let n = sheet_line::carriers(text);
-    if line < 2 {
-        return put_missing(
-            b"",
-            b"line 1 has % fields, ",
-            6,
-            fields_before(column),
-            out,
-            at,
-        );
+    if lines < 1 {
+        return put_missing(b"", b"line 1 has % fields, ", 6, bytes / 5, out, at);
     }
-    if line <= n + 1 {
+    if lines <= n {
         return put_missing(
             b"line 1 counts 1 carrier, ",
             b"line 1 counts % carriers, ",
             n,
-            line - 2,
+            lines - 1,
             out,
             at,
         );
@@ -81,10 +63,29 @@ fn put_rest(text: &[u8], line: usize, column: usize, out: &mut [u8], at: usize) 
         b"line 1 counts 1 wall, ",
         b"line 1 counts % walls, ",
         sheet_line::walls(text),
-        line - 2 - n,
+        lines - 1 - n,
         out,
         at,
     )
+}
+
+// Puts what is missing where a sheet ends; the column behind these words is returned.
+fn put_lack(text: &[u8], end: usize, out: &mut [u8], at: usize) -> usize
+    requires { ⌜ end ≤ 65535 ⌝ }
+{
+    let walk = sheet_line::whole_lines(text, end);
+    let lines = walk.lines;
+    let bytes = end - walk.start;
+    let count = sheet_line::fields_of(text, lines + 1, walk.start);
+    if bytes == 5 * count {
+        return fill(
+            out,
+            at,
+            b"a newline is missing after field %\n",
+            [count, 0, 0, 0, 0, 0],
+        );
+    }
+    put_rest(text, lines, bytes, out, at)
 }
 
 // Puts where a sheet ends early and what is missing, in front of a memory; the length of the text is returned.
@@ -96,15 +97,6 @@ pub fn put_end(text: &[u8], end: usize, out: &mut [u8]) -> usize
     }
     let line = position::line_at(text, end);
     let column = position::column_at(text, end);
-    let count = sheet_line::fields_of(text, line, end + 1 - column);
     let at = put_where(line, column, out);
-    if column == 5 * count + 1 {
-        return fill(
-            out,
-            at,
-            b"a newline is missing after field %\n",
-            [count, 0, 0, 0, 0, 0],
-        );
-    }
-    put_rest(text, line, column, out, at)
+    put_lack(text, end, out, at)
 }

@@ -1,6 +1,5 @@
 // Refusal 1 in words: what is wrong with the form of a sheet at a byte.
-ghost use Prim.Native.Nat.{_≤_, _<_};
-ghost use lib.ListN.{length};
+ghost use Prim.Native.Nat.{_≤_};
 use crate::position;
 use crate::sheet_line;
 use wording::fill;

@@ -1,7 +1,6 @@
 // Refusals 3 to 6 and 17 in words, from a sheet in good form: an item is a carrier or a wall, and has a line of its own. Pair 0 of a
 // carrier's line is its start, pair k its dock k; the pair of a wall's line is 0. Fields count from 0.
-ghost use Prim.Native.Nat.{_≤_, _<_};
-ghost use lib.ListN.{length};
+ghost use Prim.Native.Nat.{_≤_};
 use crate::sheet_line;
 use wording::fill;
 

@@ -1,7 +1,7 @@
 // Lines and columns of a text, counted from 1, and the position of a refusal in words.
 ghost use mathlib.Core.Path.{_≡_};
 ghost use mathlib.Core.Bool.{cond};
-ghost use Prim.Native.Nat.{suc, _+_, _≤_};
+ghost use Prim.Native.Nat.{suc, _+_, _-_, _*_, _≤_};
 ghost use lib.Dec.{eqb};
 ghost use lib.ListN.{length, getD};
 ghost use Rattle.reporting.specs.Put.{PutAt};
@@ -82,7 +82,18 @@ pub fn line_of(text: &[u8], number: u16, place: usize) -> usize
     place + 1
 }
 
-// The column of a refusal; where it is neither in form nor in line 1's values, a field of the item's line is the cause.
+// The first column of a field of line 1, counted from 1.
+fn field_column(field: usize) -> usize
+    requires { ⌜ field ≤ 65535 ⌝ }
+    ensures { λ r. ⌜ (r ≡ 5 * (field - 1) + 1) × (r ≤ 400000) ⌝ }
+{
+    if field < 1 {
+        return 1;
+    }
+    5 * (field - 1) + 1
+}
+
+// The column of a refusal; of 3, 5 and 17 that of the field of the item's line that is the cause.
 pub fn column_of(text: &[u8], number: u16, place: usize, field: usize) -> usize
     requires { ⌜ (place ≤ 65535) × (field ≤ 10) ⌝ }
     ensures { λ r. ⌜ (r ≡ columnOf (now (text .entry)) number place field) × (r ≤ 400000) ⌝ }
@@ -90,13 +101,16 @@ pub fn column_of(text: &[u8], number: u16, place: usize, field: usize) -> usize
     if number == 1 {
         return column_at(text, place);
     }
-    if number != 2 {
-        return 5 * field + 1;
+    if number == 2 {
+        return field_column(place);
     }
-    if place < 1 {
+    if number == 4 {
         return 1;
     }
-    5 * (place - 1) + 1
+    if number == 6 {
+        return 1;
+    }
+    5 * field + 1
 }
 
 // Puts the words of a position in front of a memory; their length is returned.

@@ -1,5 +1,5 @@
 // The lines of a sheet and their fields, found by its newlines. Line 1 has six fields, a carrier's line three and two a dock, a wall's two.
-ghost use Prim.Native.Nat.{_≤_};
+ghost use Prim.Native.Nat.{_≤_, _<_};
 ghost use lib.ListN.{length};
 use crate::position;
 
@@ -98,4 +98,36 @@ pub fn fields_of(text: &[u8], line: usize, start: usize) -> usize
         return 2;
     }
     0
+}
+
+// The lines of a sheet that are whole, and the column behind them.
+pub struct Walk {
+    pub lines: usize,
+    pub start: usize,
+}
+
+// The column behind the line, counted from 1, that begins at a column.
+fn line_end(text: &[u8], line: usize, start: usize) -> usize
+    requires { ⌜ start ≤ 65535 ⌝ }
+    ensures { λ r. ⌜ start < r ⌝ }
+{
+    start + 5 * fields_of(text, line, start) + 1
+}
+
+// The lines of a sheet before its first wrong byte that are whole, where it ends at a column: each has its fields and its newline.
+pub fn whole_lines(text: &[u8], end: usize) -> Walk
+    requires { ⌜ end ≤ 65535 ⌝ }
+    ensures { λ r. ⌜ (r .start ≤ end) × (r .lines ≤ r .start) ⌝ }
+{
+    let mut lines: usize = 0;
+    let mut start: usize = 0;
+    while lines < 65536 {
+        let next = line_end(text, lines + 1, start);
+        if end < next {
+            return Walk { lines, start };
+        }
+        start = next;
+        lines += 1;
+    }
+    Walk { lines, start }
 }

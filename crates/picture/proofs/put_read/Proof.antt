@@ -2,7 +2,6 @@
 use borrow.Author.Needs.{needs}
 use mathlib.Core.Path.{sym}
 use lib.Seq.{length-take-le}
-use native.Mathlib.Omega.{arith}
 use Rattle.picture.proofs.put_read.Statement.{statement}
 use Rattle.picture.proofs.put_read.Tie as tie
 

@@ -1,7 +1,6 @@
 -- `reasons::docks` is safe and ends: a carrier has at most 65,535 docks.
 use Prim.Native.Nat.{_-_, _*_, _≤_}
 use borrow.Author.Needs.{needs}
-use native.Mathlib.Omega.{arith}
 use Rattle.reasons.proofs.docks.Statement.{statement}
 use Rattle.reasons.proofs.docks.Tie as tie
 

@@ -1,5 +1,4 @@
 -- `reasons::put_text` meets its contract: a sheet that ends early, or a refusal with its position.
-use native.Mathlib.Omega.{arith}
 use borrow.Author.Needs.{needs}
 use Rattle.reasons.proofs.put_text.Statement.{statement}
 use Rattle.reasons.proofs.put_text.Tie as tie

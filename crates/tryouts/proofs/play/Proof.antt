@@ -1,7 +1,6 @@
 -- `tryouts::play` is safe and ends: the sections are counted.
 use Prim.Native.Nat.{_-_, _≤_}
 use borrow.Author.Needs.{needs}
-use native.Mathlib.Omega.{arith}
 use Rattle.tryouts.proofs.play.Statement.{statement}
 use Rattle.tryouts.proofs.play.Tie as tie
 

@@ -1,7 +1,6 @@
 -- `wording::first_digit` meets its contract.
 use borrow.Author.Tests.{lt-ltb, le-ltb}
 use Rattle.wording.specs.Decimal.{firstDigit}
-use borrow.Author.Needs.{needs}
 use native.Mathlib.Omega.{arith}
 use Rattle.wording.proofs.first_digit.Statement.{statement}
 use Rattle.wording.proofs.first_digit.Tie as tie

@@ -1,6 +1,5 @@
 -- `wording::five_digits` meets its contract.
 use Rattle.wording.specs.Decimal.{fiveDigits}
-use native.Mathlib.Omega.{arith}
 use borrow.Author.Needs.{needs}
 use Rattle.wording.proofs.five_digits.Statement.{statement}
 use Rattle.wording.proofs.five_digits.Tie as tie

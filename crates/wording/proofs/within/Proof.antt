@@ -1,6 +1,5 @@
 -- `wording::within` meets its contract.
 use Rattle.wording.proofs.DecimalLaws.{counts-within}
-use borrow.Author.Needs.{needs}
 use native.Mathlib.Omega.{arith}
 use Rattle.wording.proofs.within.Statement.{statement}
 use Rattle.wording.proofs.within.Tie as tie

@@ -1,7 +1,6 @@
 -- `picture::ground::has_dock` is safe and ends: a carrier has four places.
 use Prim.Native.Nat.{_-_, _≤_}
 use borrow.Author.Needs.{needs}
-use native.Mathlib.Omega.{arith}
 use Rattle.picture.proofs.ground.has_dock.Statement.{statement}
 use Rattle.picture.proofs.ground.has_dock.Tie as tie
 

@@ -1,7 +1,6 @@
 -- `picture::ground::sharers` meets its contract: one at most a carrier.
 use Prim.Native.Nat.{_-_, _≤_}
 use borrow.Author.Needs.{needs}
-use native.Mathlib.Omega.{arith}
 use Rattle.picture.proofs.ground.sharers.Statement.{statement}
 use Rattle.picture.proofs.ground.sharers.Tie as tie
 

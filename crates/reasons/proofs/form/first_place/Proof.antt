@@ -1,7 +1,6 @@
 -- `reasons::form::first_place` meets its contract: a field has five bytes.
 use Prim.Native.Nat.{_-_, _≤_}
 use borrow.Author.Needs.{needs}
-use native.Mathlib.Omega.{arith}
 use Rattle.reasons.proofs.form.first_place.Statement.{statement}
 use Rattle.reasons.proofs.form.first_place.Tie as tie
 

@@ -1,7 +1,6 @@
 -- `reasons::form::foreign` is safe and ends: a field has five bytes.
 use Prim.Native.Nat.{_-_, _≤_}
 use borrow.Author.Needs.{needs}
-use native.Mathlib.Omega.{arith}
 use Rattle.reasons.proofs.form.foreign.Statement.{statement}
 use Rattle.reasons.proofs.form.foreign.Tie as tie
 

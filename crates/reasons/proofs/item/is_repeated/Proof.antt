@@ -1,7 +1,6 @@
 -- `reasons::item::is_repeated` is safe and ends: there are at most four docks.
 use Prim.Native.Nat.{_-_, _≤_}
 use borrow.Author.Needs.{needs}
-use native.Mathlib.Omega.{arith}
 use Rattle.reasons.proofs.item.is_repeated.Statement.{statement}
 use Rattle.reasons.proofs.item.is_repeated.Tie as tie
 

@@ -1,7 +1,6 @@
 -- `reasons::item::is_wall` is safe and ends: the walls passed rise.
 use Prim.Native.Nat.{_-_, _≤_}
 use borrow.Author.Needs.{needs}
-use native.Mathlib.Omega.{arith}
 use Rattle.reasons.proofs.item.is_wall.Statement.{statement}
 use Rattle.reasons.proofs.item.is_wall.Tie as tie
 

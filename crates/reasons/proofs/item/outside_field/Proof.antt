@@ -1,7 +1,6 @@
 -- `reasons::item::outside_field` meets its contract: a line has at most eleven fields.
 use Prim.Native.Nat.{_-_, _≤_}
 use borrow.Author.Needs.{needs}
-use native.Mathlib.Omega.{arith}
 use Rattle.reasons.proofs.item.outside_field.Statement.{statement}
 use Rattle.reasons.proofs.item.outside_field.Tie as tie
 

@@ -1,7 +1,6 @@
 -- `reasons::item::repeated_field` meets its contract: there are at most four docks.
 use Prim.Native.Nat.{_-_, _≤_}
 use borrow.Author.Needs.{needs}
-use native.Mathlib.Omega.{arith}
 use Rattle.reasons.proofs.item.repeated_field.Statement.{statement}
 use Rattle.reasons.proofs.item.repeated_field.Tie as tie
 

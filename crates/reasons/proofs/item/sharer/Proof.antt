@@ -1,7 +1,6 @@
 -- `reasons::item::sharer` is safe and ends: the carriers passed rise.
 use Prim.Native.Nat.{_-_, _≤_}
 use borrow.Author.Needs.{needs}
-use native.Mathlib.Omega.{arith}
 use Rattle.reasons.proofs.item.sharer.Statement.{statement}
 use Rattle.reasons.proofs.item.sharer.Tie as tie
 

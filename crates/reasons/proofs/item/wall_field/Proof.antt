@@ -1,7 +1,6 @@
 -- `reasons::item::wall_field` meets its contract: a line has at most five pairs.
 use Prim.Native.Nat.{_-_, _≤_}
 use borrow.Author.Needs.{needs}
-use native.Mathlib.Omega.{arith}
 use Rattle.reasons.proofs.item.wall_field.Statement.{statement}
 use Rattle.reasons.proofs.item.wall_field.Tie as tie
 

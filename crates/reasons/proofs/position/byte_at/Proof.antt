@@ -1,7 +1,6 @@
 -- `reasons::position::byte_at` meets its contract.
 use mathlib.Core.Path.{sym}
 use lib.ListN.{List·getD-eq-default}
-use native.Mathlib.Omega.{arith}
 use borrow.Author.Needs.{needs}
 use Rattle.reasons.proofs.position.byte_at.Statement.{statement}
 use Rattle.reasons.proofs.position.byte_at.Tie as tie

@@ -2,7 +2,6 @@
 use Prim.Native.Nat.{_-_, _≤_}
 use lib.ListN.{length}
 use borrow.Author.Needs.{needs}
-use native.Mathlib.Omega.{arith}
 use Rattle.reasons.proofs.sheet_line.line_start.Statement.{statement}
 use Rattle.reasons.proofs.sheet_line.line_start.Tie as tie
 
