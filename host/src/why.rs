@@ -119,13 +119,13 @@ fn form(text: &[u8], place: usize) -> String {
     }
     let before = lines(&text[..place]);
     let (line, column) = (before.len(), before.last().unwrap().len() + 1);
-    let all = lines(text);
-    let fields = fields_of(&all, line);
-    let at_newline = fields.is_some_and(|m| column == 5 * m + 1);
     if place == text.len() {
         let at = if column == 1 { format!("line {line}") } else { format!("line {line}, column {column}") };
         return format!("the sheet ends in {at}: {}", missing(text));
     }
+    let all = lines(text);
+    let fields = fields_of(&all, line);
+    let at_newline = fields.is_some_and(|m| column == 5 * m + 1);
     let said = match fields {
         None => "nothing may follow the last line".to_string(),
         Some(m) if at_newline => {
