@@ -1,9 +1,9 @@
 // What a picture has for each beat: the points of a trace, the places of a moving carrier, the numerals of the beats and their turns.
 ghost use Prim.Native.Nat.{_≤_};
-use crate::answers;
-use crate::ground;
-use crate::page;
-use crate::page::Page;
+use canvas::answers;
+use canvas::ground;
+use canvas::page;
+use canvas::page::Page;
 use wording::fill;
 
 // The things that there are for each beat.

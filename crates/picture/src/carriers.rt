@@ -1,11 +1,11 @@
 // What a picture has for each carrier: its words, its trace, its body at the start, its body that moves, its line in the legend.
 ghost use Prim.Native.Nat.{_≤_, _<_};
-use crate::answers;
 use crate::beats;
 use crate::beats::Beat;
-use crate::ground;
-use crate::page;
-use crate::page::Page;
+use canvas::answers;
+use canvas::ground;
+use canvas::page;
+use canvas::page::Page;
 use wording::fill;
 use wording::put;
 

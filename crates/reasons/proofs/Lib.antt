@@ -1,2 +1,2 @@
--- Laws of positions.
-pub mod PositionLaws
+-- Laws of what is told of a refusal.
+pub mod ToldLaws

@@ -1,2 +1,2 @@
--- What a reader must believe of a reason: the position at which its text begins.
-pub mod Position
+-- What a reader must believe of a reason: that it begins with the position of the refusal.
+pub mod Told

@@ -1,7 +1,7 @@
 // Refusal 1 in words: what is wrong with the form of a sheet at a byte.
 ghost use Prim.Native.Nat.{_≤_};
-use crate::position;
-use crate::sheet_line;
+use positions::position;
+use positions::sheet_line;
 use wording::fill;
 use wording::put;
 

@@ -3,19 +3,21 @@
 mod ending;
 mod form;
 mod item;
-mod position;
-mod sheet_line;
 
 ghost use mathlib.Core.Path.{_≡_};
 ghost use Prim.Native.Nat.{ℕ, _≤_};
 ghost use lib.ListN.{length};
 ghost use Rattle.io.specs.Counts.{Counts};
-ghost use Rattle.reasons.specs.Position.{lineOf, columnOf, positionText, Begins, Told};
+ghost use Rattle.positions.specs.Position.{lineOf, columnOf, positionText};
+ghost use Rattle.reasons.specs.Told.{Begins, Told};
 ghost use Rattle.laws.specs.Verdict.{refused};
 ghost use Rattle.sheet.specs.Read.{sheetVerdict};
 use floor::Checked;
 use floor::Floor;
 use floor::Refusal;
+use positions::cause;
+use positions::position;
+use positions::sheet_line;
 use reporting::put_bytes;
 use wording::fill;
 use wording::put;
@@ -116,8 +118,8 @@ fn put_reason(text: &[u8], number: u16, place: usize, field: usize, out: &mut [u
     requires { ⌜ (place ≤ 65535) × (field ≤ 10) ⌝ }
     ensures { λ r. ⌜ Counts r (now (out .exit)) ⌝ }
 {
-    let cause = put_cause(text, number, place, field, out);
-    let end = put(out, cause, b"\n");
+    let said = put_cause(text, number, place, field, out);
+    let end = put(out, said, b"\n");
     wording::within(end, out)
 }
 
@@ -210,7 +212,7 @@ fn put_text(text: &[u8], x: Refusal, out: &mut [u8]) -> usize
             return wording::within(end, out);
         }
     }
-    let field = item::cause(text, number, place);
+    let field = cause::cause(text, number, place);
     put_refused(text, number, place, field, out)
 }
 

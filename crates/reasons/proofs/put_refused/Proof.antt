@@ -1,5 +1,6 @@
 -- `reasons::put_refused` meets its contract: the reason stands behind the position.
-use Rattle.reasons.proofs.PositionLaws.{position-low, begins-put}
+use Rattle.positions.proofs.PositionLaws.{position-low}
+use Rattle.reasons.proofs.ToldLaws.{begins-put}
 use native.Mathlib.Omega.{arith}
 use borrow.Author.Needs.{needs}
 use Rattle.reasons.proofs.put_refused.Statement.{statement}
