@@ -63,6 +63,9 @@ LINES
     echo "none asks for a panic"
     echo "== Rust: library and paper compared"
     (cd "$host" && cargo run --offline --release --quiet --bin compare)
+    echo "== Rust: the texts of desk and paper compared"
+    (cd "$root" && rt check desk > /dev/null)
+    (cd "$host" && cargo run --offline --release --quiet --bin desk)
 fi
 
 if [ "$what" != test ]; then

@@ -27,6 +27,10 @@ enum Command {
     Draw,
     // `sheet`: prints the sheet of a map.
     Sheet,
+    // `why`: prints why the sheet is refused, in words.
+    Why,
+    // `picture`: prints the floor and its routes as an SVG that moves.
+    Picture,
     // No command, or none of that name.
     Unknown,
 }
@@ -50,6 +54,12 @@ fn command_named(name: &[u8]) -> Command {
     }
     if arguments::same(name, b"sheet") {
         return Command::Sheet;
+    }
+    if arguments::same(name, b"why") {
+        return Command::Why;
+    }
+    if arguments::same(name, b"picture") {
+        return Command::Picture;
     }
     Command::Unknown
 }
@@ -252,6 +262,96 @@ fn sheet_command() {
     mapped::print_sheet()
 }
 
+// Says how `why` is called.
+fn why_usage() {
+    io::write_all(STDERR_FILENO, b"desk: why < sheet\n");
+}
+
+// Prints why the sheet from standard input is refused.
+fn explain() {
+    let mut space = io::large_buffer();
+    let input = console::read(b"desk: standard input", &mut space);
+    let Input::Read(n) = input else {
+        return;
+    };
+    let mut out = [0u8; reasons::TEXT_LENGTH];
+    let printed = reasons::print(&space[..n], &mut out);
+    console::write(b"desk: standard output", &out[..printed]);
+}
+
+// The command `why`.
+fn why_command() {
+    if os::arg_count() != 2 {
+        return why_usage();
+    }
+    explain()
+}
+
+// Says how `picture` is called.
+fn picture_usage() {
+    io::write_all(STDERR_FILENO, b"desk: picture < sheet > floor.svg\n");
+}
+
+// Prints the picture of the sheet from standard input.
+fn show_picture() {
+    let mut space = io::large_buffer();
+    let input = console::read(b"desk: standard input", &mut space);
+    let Input::Read(n) = input else {
+        return;
+    };
+    let mut out = io::large_buffer();
+    let printed = picture::print(&space[..n], &mut out);
+    console::write(b"desk: standard output", &out[..printed]);
+}
+
+// The command `picture`.
+fn picture_command() {
+    if os::arg_count() != 2 {
+        return picture_usage();
+    }
+    show_picture()
+}
+
+// Says which commands there are, a line each.
+fn commands_usage() {
+    io::write_all(
+        STDERR_FILENO,
+        b"desk: no such command; the commands, each with its input on standard input:\n",
+    );
+    io::write_all(
+        STDERR_FILENO,
+        b"  trial ORDER [SEED]  play a trial, and print its steps and the routes\n",
+    );
+    io::write_all(
+        STDERR_FILENO,
+        b"  runs [RANK]         list the complete runs, or the one of a rank\n",
+    );
+    io::write_all(
+        STDERR_FILENO,
+        b"  meeting I J         tell where the best routes of two carriers meet\n",
+    );
+    io::write_all(
+        STDERR_FILENO,
+        b"  blockers            tell who shuts each stranded carrier in\n",
+    );
+    io::write_all(
+        STDERR_FILENO,
+        b"  why                 tell in words why the sheet is refused\n",
+    );
+    io::write_all(
+        STDERR_FILENO,
+        b"  picture             draw the floor and its routes as an SVG that moves\n",
+    );
+    io::write_all(
+        STDERR_FILENO,
+        b"  draw [BEAT]         draw the floor with its carriers at a beat, or at all\n",
+    );
+    io::write_all(
+        STDERR_FILENO,
+        b"  sheet               print the sheet of a map from standard input\n",
+    );
+}
+
 fn main() {
     let mut name = io::buffer();
     let n = os::arg(1, &mut name);
@@ -262,11 +362,8 @@ fn main() {
         Command::Blockers => blockers_command(),
         Command::Draw => draw_command(),
         Command::Sheet => sheet_command(),
-        Command::Unknown => {
-            io::write_all(
-                STDERR_FILENO,
-                b"desk: no such command; commands: trial, runs, meeting, blockers, draw, sheet\n",
-            );
-        }
+        Command::Why => why_command(),
+        Command::Picture => picture_command(),
+        Command::Unknown => commands_usage(),
     }
 }

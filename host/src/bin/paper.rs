@@ -1,7 +1,8 @@
 //! The routes program over `paper.rs` alone: a sheet on standard input, its routes on standard output; with the arguments
 //! `trial ORDER SEED` the text of a trial, with `runs [RANK]` that of the complete runs, with `meeting I J` that of
-//! a meeting, with `blockers` that of the stranded carriers, with `draw [BEAT]` the floor beat by beat, with `sheet` the sheet of a map.
-//! It needs no archive.
+//! a meeting, with `blockers` that of the stranded carriers, with `draw [BEAT]` the floor beat by beat, with `sheet` the sheet of a map, with
+//! `why` the reason of a refusal, with `picture` the picture of the routes, with `tryouts` all of these by a script of sections. It needs no
+//! archive.
 //! Its tests (`cargo test --bin paper`) hold `paper.rs` to document 01's twelve floors, its search to a search of all routes, and the
 //! benchmark's other planners to `paper.rs`.
 
@@ -18,6 +19,10 @@ mod draw;
 mod maps;
 #[path = "../paper.rs"]
 mod paper;
+#[path = "../picture.rs"]
+mod picture;
+#[path = "../why.rs"]
+mod why;
 
 use std::io::{Read, Write};
 
@@ -27,6 +32,31 @@ fn said(answer: Result<String, String>) -> String {
         eprintln!("desk: {words}");
         String::new()
     })
+}
+
+/// What the program `tryouts` prints for its script: each section is a line with a command, its numbers and a length, then so many bytes and
+/// a newline.
+fn tryouts(script: &[u8]) -> String {
+    let mut out = String::new();
+    let mut rest = script;
+    while !rest.is_empty() {
+        let end = rest.iter().position(|&b| b == b'\n').expect("a section's line");
+        let line = std::str::from_utf8(&rest[..end]).expect("a section's line");
+        let words: Vec<&str> = line.split(' ').collect();
+        let number = |k: usize| words[k].parse::<u64>().expect("a number");
+        let length = number(words.len() - 1) as usize;
+        let sheet = &rest[end + 1..end + 1 + length];
+        out += &format!("{line}\n");
+        out += &match words[1] {
+            "why" => why::print_why(sheet),
+            "picture" => picture::print_picture(sheet),
+            "meeting" => paper::print_meeting(sheet, number(2), number(3)),
+            "blockers" => paper::print_blockers(sheet),
+            command => panic!("no command {command}"),
+        };
+        rest = &rest[end + 1 + length + 1..];
+    }
+    out
 }
 
 fn main() -> std::io::Result<()> {
@@ -41,6 +71,9 @@ fn main() -> std::io::Result<()> {
         Some("blockers") => paper::print_blockers(&text),
         Some("draw") => said(maps::print_draw(&text, (words.len() > 1).then(|| number(1)))),
         Some("sheet") => said(maps::print_sheet(&text)),
+        Some("why") => why::print_why(&text),
+        Some("picture") => picture::print_picture(&text),
+        Some("tryouts") => tryouts(&text),
         _ => paper::print_routes(&text),
     };
     std::io::stdout().write_all(out.as_bytes())
@@ -172,13 +205,63 @@ mod tests {
         assert_eq!(total(1, &[(0, 1)]), 1);
     }
 
+    /// Why a sheet is refused, each sentence worked out by hand: a byte of line l is counted behind the newlines of the lines before it.
+    #[test]
+    fn reasons() {
+        let told = |sheet: &str| super::why::print_why(sheet.as_bytes());
+        assert_eq!(told(SHEET), "accepted: 3 by 2 cells, horizon 4, depth 1, 2 carriers with 2 docks, 0 walls\n");
+        let spoilt = |from: &str, to: &str| told(&SHEET.replacen(from, to, 1));
+        assert_eq!(spoilt("    4    1", "   04    1"), "line 1, column 11: field 3 has a leading zero\n");
+        assert_eq!(
+            spoilt("    1    2    0\n    2", "    1    2    %\n    2"),
+            "line 2, column 21: field 5 has the character '%' in it\n"
+        );
+        assert_eq!(spoilt("    1    0    0\n", "    1 1  0    0\n"), "line 3, column 16: field 4 has a space behind a digit\n");
+        assert_eq!(
+            spoilt("    1    2    0\n    2", "    5    2    0\n    2"),
+            "line 2, column 11: the dock count is 5, it must be 1 to 4\n"
+        );
+        assert_eq!(told(&SHEET.replace('\n', "\r\n")), "line 1, column 31: a carriage return stands before the newline\n");
+        assert_eq!(
+            spoilt("    2    0\n    2", "    2    0    1\n    2"),
+            "line 2, column 26: a newline is missing after field 5\n"
+        );
+        assert_eq!(told(&(SHEET.to_string() + " ")), "line 4, column 1: nothing may follow the last line\n");
+        assert_eq!(told(""), "the sheet is empty\n");
+        assert_eq!(told(&SHEET[..SHEET.len() - 1]), "the sheet ends in line 3, column 26: a newline is missing after field 5\n");
+        assert_eq!(told(&SHEET[..57]), "the sheet ends in line 3: line 1 counts 2 carriers, 1 is there\n");
+        assert_eq!(told(&SHEET[..62]), "the sheet ends in line 3, column 6: line 1 counts 2 carriers, 1 is there\n");
+        assert_eq!(spoilt("    4    1", "   64    1"), "line 1, column 11: the horizon is 64, it must be 1 to 63\n");
+        assert_eq!(
+            spoilt("    1    2    0\n    2", "    1    3    0\n    2"),
+            "line 2, column 16: carrier 1's dock 1 has column 3, outside 0 to 2\n"
+        );
+        assert_eq!(
+            spoilt("    2    0    1    0    0\n", "    0    0    1    0    0\n"),
+            "line 3, column 1: carrier 2 starts where carrier 1 starts (column 0, row 0)\n"
+        );
+        assert_eq!(
+            spoilt("    1    2    0\n    2", "    2    2    0    2    0\n    2"),
+            "line 2, column 26: carrier 1 has the dock column 2, row 0 twice\n"
+        );
+        let walled = |lines: &str| told(&(SHEET.replacen("    2    0\n", "    2    2\n", 1) + lines));
+        assert_eq!(
+            walled("    1    1\n    1    0\n"),
+            "line 5, column 1: wall 2 (column 1, row 0) must come before wall 1 (column 1, row 1)\n"
+        );
+        assert_eq!(walled("    1    1\n    1    1\n"), "line 5, column 1: wall 2 is wall 1 again\n");
+        assert_eq!(walled("    0    0\n    1    1\n"), "line 2, column 1: carrier 1's start (column 0, row 0) is a wall\n");
+        assert_eq!(walled("    1    1\n    1    2\n"), "line 5, column 6: wall 2 has row 2, outside 0 to 1\n");
+    }
+
     /// Document 02, slip 8: by one, by two together, by a stranded one, by walls, by the horizon, an order that matters; nobody; refused.
     #[test]
     fn blockers() {
         let shown = |sheet: &str| paper::print_blockers(sheet.as_bytes());
         let one = "    3    1    4    1    2    0\n    1    0    1    1    0\n    0    0    1    2    0\n";
         assert_eq!(shown(one), "carrier 2 is shut in by 1\n2..\n");
-        let two = "    3    2    4    1    3    0\n    1    0    1    1    0\n    1    1    1    1    1\n    0    0    1    2    0\n";
+        let two =
+            "    3    2    4    1    3    0\n    1    0    1    1    0\n    1    1    1    1    1\n    0    0    1    2    0\n";
         assert_eq!(shown(two), "carrier 3 is shut in by 1 2\n3..\n...\n");
         let stranded = "    5    1    2    1    2    1\n    1    0    1    4    0\n    0    0    1    2    0\n    3    0\n";
         assert_eq!(shown(stranded), "carrier 1 is shut in by walls or the horizon\ncarrier 2 is shut in by 1\n21.#.\n");
@@ -186,7 +269,8 @@ mod tests {
         assert_eq!(shown(walls), "carrier 2 is shut in by walls or the horizon\n.2#.\n");
         let short = one.replace("    4    1    2", "    1    1    2");
         assert_eq!(shown(&short), "carrier 2 is shut in by walls or the horizon\n2..\n");
-        let row = "    4    1    3    1    3    0\n    1    0    1    1    0\n    2    0    1    2    0\n    0    0    1    3    0\n";
+        let row =
+            "    4    1    3    1    3    0\n    1    0    1    1    0\n    2    0    1    2    0\n    0    0    1    3    0\n";
         assert_eq!(shown(row), "carrier 3 is shut in by 2\n3...\n");
         assert_eq!(shown(SHEET), "no carrier is stranded\n...\n...\n");
         assert_eq!(shown(""), "    0    1    0\n");
@@ -196,7 +280,8 @@ mod tests {
     /// before it; an aisle of eight, each of which waits a beat more than the one in front.
     #[test]
     fn longer_carriers() {
-        let routes = |floor: &Floor| -> Vec<Vec<u16>> { paper::plan(floor).0.iter().map(|answer| cells(answer, floor.horizon)).collect() };
+        let routes =
+            |floor: &Floor| -> Vec<Vec<u16>> { paper::plan(floor).0.iter().map(|answer| cells(answer, floor.horizon)).collect() };
         assert_eq!(routes(&bare(3, 1, 2, 1, &[(1, 2), (0, 1)])), [[1, 2, 2], [0, 0, 1]]);
         assert_eq!(paper::plan(&bare(3, 1, 1, 1, &[(1, 2), (0, 1)])).1, 2);
         let mut siding = bare(5, 2, 8, 1, &[(0, 4), (4, 0)]);

@@ -1,0 +1,11 @@
+-- `desk::explain` is safe and ends: what was read lies within the memory.
+use Rattle.console.proofs.WithinLaws.{reading}
+use borrow.Author.Needs.{needs}
+use Rattle.desk.proofs.explain.Statement.{statement}
+use Rattle.desk.proofs.explain.Tie as tie
+
+pub explain-spec : {M : Type 1} → statement M
+explain-spec =
+    tie.close (tie.spec (λ c κs. search needs) (λ c. search needs) (λ c. search needs) (λ c κs. search needs) (λ c. search needs)
+    (λ c. search needs) (λ c. search needs) (λ c. search reading) (λ c. search reading) (λ c κs. search needs)
+    (λ c. search needs) (λ c. search needs) (λ c. search needs) (λ c κs. search needs) (λ c. search needs))

@@ -1,0 +1,2 @@
+-- Laws of positions.
+pub mod PositionLaws

@@ -1,0 +1,2 @@
+-- Laws of what is told of a refusal.
+pub mod ToldLaws

@@ -1,0 +1,21 @@
+-- What is printed for a refusal: where its text begins.
+use Prim.Native.Nat.{ℕ}
+use mathlib.Core.List.{List}
+use mathlib.Core.Path.{_≡_}
+use lib.ListN.{length, take}
+use Rattle.io.specs.Counts.{Counts}
+use Rattle.positions.specs.Position.{lineOf, columnOf, positionText}
+
+-- The first n bytes of a memory are counted, and begin with a text.
+pub record Begins (text memory : List ℕ) (n : ℕ) : Type 0 where
+  pub counted : Counts n memory
+  pub front : take (length text) (take n memory) ≡ text
+
+-- What is printed for a refusal: it is counted, and unless the sheet ends early it begins with the refusal's position.
+pub record Placed (text : List ℕ) (number place : ℕ) (memory : List ℕ) (n : ℕ) : Type 0 where
+  pub field : ℕ
+  pub begins : Begins (positionText (lineOf text number place) (columnOf text number place field)) memory n
+
+pub record Told (text : List ℕ) (number place : ℕ) (memory : List ℕ) (n : ℕ) : Type 0 where
+  pub counted : Counts n memory
+  pub placed : ((number ≡ 1) × (place ≡ length text) → ⊥) → Placed text number place memory n

@@ -1,0 +1,2 @@
+-- Laws of numbers in words.
+pub mod DecimalLaws
