@@ -1,4 +1,4 @@
-// The texts of the desk's commands over sheets of any bytes, by a script on standard input. A section is a line `@`, a command, its numbers and
+// The texts of the desk's commands over sheets and maps of any bytes, by a script on standard input. A section is a line `@`, a command, its numbers and
 // the length of a sheet, then the sheet and a newline; the line is written again, and behind it what the command prints for the sheet. What
 // must come out is the file `stdout`, made by an independent implementation (`paper tryouts < stdin`, host/src/bin/paper.rs).
 //
@@ -6,6 +6,9 @@
 //     @ picture 73        its picture
 //     @ meeting 1 2 73    where carriers 1 and 2 meet
 //     @ blockers 73       who shuts the stranded carriers in
+//     @ draw 73           the floor beat by beat
+//     @ at 3 73           the floor at beat 3
+//     @ sheet 73          the sheet of a map of 73 bytes, or what is wrong with it
 ghost use mathlib.Core.Path.{_≡_};
 ghost use lib.ListN.{length};
 use libc::STDIN_FILENO;
@@ -49,15 +52,41 @@ fn shut(sheet: &[u8]) {
     show::text(&out[..n]);
 }
 
-// The place of a section's length among its numbers: behind the two carriers of `meeting`.
-fn length_place(s: &[u8]) -> usize {
-    if pages::byte(s, 2) == b'm' {
-        return 2;
-    }
-    0
+// Prints the floor of a sheet beat by beat.
+fn draw_all(sheet: &[u8]) {
+    let mut out = frames::no_text();
+    let n = frames::print(sheet, &mut out);
+    show::text(&out[..n]);
 }
 
-// Prints what the command of a section, by its first letter, prints for a sheet. A further command takes a letter here.
+// Prints the floor of a sheet at a beat, nothing where it is above the horizon.
+fn draw_beat(sheet: &[u8], t: u16) {
+    let mut out = [0u8; frames::BEAT_LENGTH];
+    let n = frames::print_beat(sheet, t, &mut out);
+    show::text(&out[..n]);
+}
+
+// Prints the sheet of a map, or what is wrong with it.
+fn read_map(map: &[u8]) {
+    let mut out = map_reader::no_sheet();
+    let mut words = [0u8; map_reader::WORDS];
+    let printed = map_reader::print(map, &mut out, &mut words);
+    let n = printed.sheet;
+    let w = printed.words;
+    show::text(&out[..n]);
+    show::text(&words[..w]);
+}
+
+// The place of a section's length among its numbers: behind the two carriers of `meeting` and the beat of `at`.
+fn length_place(s: &[u8]) -> usize {
+    match pages::byte(s, 2) {
+        b'm' => 2,
+        b'a' => 1,
+        _ => 0,
+    }
+}
+
+// Prints what the command of a section, by its first letter, prints for a sheet.
 fn run(s: &[u8], sheet: &[u8]) {
     match pages::byte(s, 2) {
         b'w' => why(sheet),
@@ -68,6 +97,9 @@ fn run(s: &[u8], sheet: &[u8]) {
             look::narrow(fields::field(s, 1)),
         ),
         b'b' => shut(sheet),
+        b'd' => draw_all(sheet),
+        b'a' => draw_beat(sheet, look::narrow(fields::field(s, 0))),
+        b's' => read_map(sheet),
         _ => {}
     }
 }

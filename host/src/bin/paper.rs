@@ -52,6 +52,9 @@ fn tryouts(script: &[u8]) -> String {
             "picture" => picture::print_picture(sheet),
             "meeting" => paper::print_meeting(sheet, number(2), number(3)),
             "blockers" => paper::print_blockers(sheet),
+            "draw" => maps::print_draw(sheet, None).unwrap_or_default(),
+            "at" => maps::print_draw(sheet, Some(number(2))).unwrap_or_default(),
+            "sheet" => maps::print_sheet(sheet).unwrap_or_else(|words| words + "\n"),
             command => panic!("no command {command}"),
         };
         rest = &rest[end + 1 + length + 1..];
