@@ -63,6 +63,12 @@ LINES
     echo "none asks for a panic"
     echo "== Rust: library and paper compared"
     (cd "$host" && cargo run --offline --release --quiet --bin compare)
+    echo "== Rust: desk and maps.rs compared"
+    if [ -x "$root/target/bin/desk" ]; then
+        (cd "$host" && cargo run --offline --release --quiet --bin maps "$root/target/bin/desk")
+    else
+        echo "no target/bin/desk: run \`rt check desk\` first"
+    fi
 fi
 
 if [ "$what" != test ]; then
