@@ -66,9 +66,13 @@ LINES
     echo "== Rust: the texts of desk and paper compared"
     (cd "$root" && rt check desk > /dev/null)
     (cd "$host" && cargo run --offline --release --quiet --bin desk)
+    echo "== Rust: the sheets of desk and paper from maps compared"
+    (cd "$host" && cargo run --offline --release --quiet --bin maps "$root/target/bin/desk")
 fi
 
 if [ "$what" != test ]; then
+    mkdir -p "$built"
     echo "== Rust: benchmark"
-    (cd "$host" && cargo run --offline --release --quiet --bin bench)
+    (cd "$host" && cargo run --offline --release --quiet --bin bench 15 "$built/growth.svg")
+    echo "the plot: host/target/c/growth.svg"
 fi

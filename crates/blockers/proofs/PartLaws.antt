@@ -9,7 +9,7 @@ use lib.ListN.{length}
 use Rattle.laws.proofs.Tests.{true-false-absurd}
 use Rattle.floor.specs.declared.Floor.{Floor}
 use Rattle.route.specs.Route.{Answer, View, unheard, heard}
-use Rattle.route.specs.Conflict.{Silent}
+use Rattle.route.specs.Conflict.{ShowsNoRoute}
 use Rattle.records.specs.Seen.{seenAs, seenFrom, seen}
 use Rattle.blockers.specs.Blockers.{without}
 use Rattle.blockers.specs.Claims.{viewsIn}
@@ -72,35 +72,35 @@ views-minus p (x ∷ xs) (suc j) = ap (λ (vs : List View). cond (p zero) (heard
 
 -- A view of the smaller part shows nothing, or is one of the larger part.
 head-view : (f : Floor) (i : ℕ) (v : View) (x : Answer) (b c : Bool) → (b ≡ true → c ≡ true) → v ≡ seenAs f i (cond b (heard x) unheard) →
-    Silent v ⊎ (v ≡ seenAs f i (cond c (heard x) unheard))
-unfolding Silent seenAs
+    ShowsNoRoute v ⊎ (v ≡ seenAs f i (cond c (heard x) unheard))
+unfolding ShowsNoRoute seenAs
 head-view f i v x false c h e = inl (inl e)
 head-view f i v x true false h e = true-false-absurd (h refl) refl
 head-view f i v x true true h e = inr e
 
 from-part : (f : Floor) (i : ℕ) (p q : Part) (xs : List Answer) → ((j : ℕ) → p j ≡ true → q j ≡ true) → (v : View) →
-    List·Memᴰ v (seenFrom f i (viewsIn p xs)) → Silent v ⊎ List·Memᴰ v (seenFrom f i (viewsIn q xs))
+    List·Memᴰ v (seenFrom f i (viewsIn p xs)) → ShowsNoRoute v ⊎ List·Memᴰ v (seenFrom f i (viewsIn q xs))
 unfolding seenFrom viewsIn
 from-part f i p q [] h v m = absurd (List·Memᴰ·not-nil m)
 from-part f i p q (x ∷ xs) h v m =
     ⊎-elim
     (λ (e : v ≡ seenAs f i (cond (p zero) (heard x) unheard)).
-    ⊎-elim (λ (s : Silent v). inl s) (λ (e′ : v ≡ seenAs f i (cond (q zero) (heard x) unheard)). inr (List·Memᴰ·head e′))
+    ⊎-elim (λ (s : ShowsNoRoute v). inl s) (λ (e′ : v ≡ seenAs f i (cond (q zero) (heard x) unheard)). inr (List·Memᴰ·head e′))
     (head-view f i v x (p zero) (q zero) (h zero) e))
     (λ (m′ : List·Memᴰ v (seenFrom f (suc i) (viewsIn (behind p) xs))).
-    ⊎-elim (λ (s : Silent v). inl s) (λ (k : List·Memᴰ v (seenFrom f (suc i) (viewsIn (behind q) xs))). inr (List·Memᴰ·tail k))
+    ⊎-elim (λ (s : ShowsNoRoute v). inl s) (λ (k : List·Memᴰ v (seenFrom f (suc i) (viewsIn (behind q) xs))). inr (List·Memᴰ·tail k))
     (from-part f (suc i) (behind p) (behind q) xs (λ j. h (suc j)) v m′))
     (List·Memᴰ·cases-cons m)
 
 pub seen-part : (f : Floor) (p q : Part) (xs : List Answer) → ((j : ℕ) → p j ≡ true → q j ≡ true) → (v : View) →
-    List·Memᴰ v (seen f (viewsIn p xs)) → Silent v ⊎ List·Memᴰ v (seen f (viewsIn q xs))
+    List·Memᴰ v (seen f (viewsIn p xs)) → ShowsNoRoute v ⊎ List·Memᴰ v (seen f (viewsIn q xs))
 unfolding seen
 seen-part f p q xs h v m = from-part f 0 p q xs h v m
 
 -- Where the part is empty, no view shows anything.
 from-nobody : (f : Floor) (i : ℕ) (p : Part) (xs : List Answer) → ((j : ℕ) → p j ≡ false) → (v : View) →
-    List·Memᴰ v (seenFrom f i (viewsIn p xs)) → Silent v
-unfolding seenFrom viewsIn seenAs Silent
+    List·Memᴰ v (seenFrom f i (viewsIn p xs)) → ShowsNoRoute v
+unfolding seenFrom viewsIn seenAs ShowsNoRoute
 from-nobody f i p [] h v m = absurd (List·Memᴰ·not-nil m)
 from-nobody f i p (x ∷ xs) h v m =
     ⊎-elim (λ (e : v ≡ seenAs f i (cond (p zero) (heard x) unheard)). inl (rw (h zero) at e))
@@ -108,6 +108,6 @@ from-nobody f i p (x ∷ xs) h v m =
     (List·Memᴰ·cases-cons m)
 
 pub seen-nobody : (f : Floor) (p : Part) (xs : List Answer) → ((j : ℕ) → p j ≡ false) → (v : View) →
-    List·Memᴰ v (seen f (viewsIn p xs)) → Silent v
+    List·Memᴰ v (seen f (viewsIn p xs)) → ShowsNoRoute v
 unfolding seen
 seen-nobody f p xs h v m = from-nobody f 0 p xs h v m

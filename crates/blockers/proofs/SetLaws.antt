@@ -8,8 +8,8 @@ use lib.Dec.{eqb}
 use lib.ListN.{length}
 use lib.Pow.{pow-pos}
 use Rattle.route.specs.Route.{Answer, View, unheard, heard}
-use Rattle.words.specs.Words.{digit}
-use Rattle.words.proofs.DigitLaws.{digit-zero}
+use Rattle.bitrows.specs.Words.{digit}
+use Rattle.bitrows.proofs.DigitLaws.{digit-zero}
 use Rattle.blockers.specs.Blockers.{setOf}
 use Rattle.blockers.specs.Claims.{viewsIn}
 use Rattle.blockers.proofs.PartLaws.{Part}

@@ -11,13 +11,13 @@ use Rattle.laws.proofs.Tests.{true-false-absurd, lt-or-le}
 use Rattle.floor.specs.declared.Floor.{Floor}
 use Rattle.floor.proofs.LimitsLaws.{check-tells}
 use Rattle.route.specs.Route.{Answer, none, route, View, heard, Task}
-use Rattle.route.specs.Conflict.{ClearOf, ClearOfView, Silent}
+use Rattle.route.specs.Conflict.{ClearOf, ClearOfView, ShowsNoRoute}
 use Rattle.route.specs.Best.{Admissible, Best}
 use Rattle.route.specs.Search.{best}
 use Rattle.route.proofs.Theorems.{theorems as route-theorems}
 use Rattle.records.specs.Seen.{seen}
-use Rattle.words.specs.Words.{digit}
-use Rattle.words.proofs.DigitLaws.{digit-zero}
+use Rattle.bitrows.specs.Words.{digit}
+use Rattle.bitrows.proofs.DigitLaws.{digit-zero}
 use Rattle.search.specs.Task.{taskOf}
 use Rattle.planner.specs.Plan.{respondOf, planOf}
 use Rattle.planner.proofs.SequentialLaws.{plan-prefix, plan-answer}
@@ -28,19 +28,19 @@ use Rattle.blockers.proofs.PartLaws.{Part, views-same, minus, part-minu
 use Rattle.blockers.proofs.SetLaws.{set-digit, set-beyond, set-nobody}
 use Rattle.blockers.proofs.LeftLaws.{leftPart, left-views, left-shut, left-before, left-needed, left-nobody}
 
-silent-clear : (H : ℕ) (v : View) → Silent v → (q : List ℕ) → ClearOfView H q v
-unfolding Silent ClearOfView
+silent-clear : (H : ℕ) (v : View) → ShowsNoRoute v → (q : List ℕ) → ClearOfView H q v
+unfolding ShowsNoRoute ClearOfView
 silent-clear H v (inl e) q = rw e tt
 silent-clear H v (inr e) q = rw e tt
 
-fewer-views : (task : Task) (vs us : List View) (q : List ℕ) → ((v : View) → List·Memᴰ v us → Silent v ⊎ List·Memᴰ v vs) →
+fewer-views : (task : Task) (vs us : List View) (q : List ℕ) → ((v : View) → List·Memᴰ v us → ShowsNoRoute v ⊎ List·Memᴰ v vs) →
     Admissible task vs q → Admissible task us q
 unfolding ClearOf
 fewer-views task vs us q h a =
     record {
       is-route = a .is-route;
       clear = λ v m.
-          ⊎-elim (λ (s : Silent v). silent-clear (task .horizon) v s q) (λ (k : List·Memᴰ v vs). a .clear v k) (h v m);
+          ⊎-elim (λ (s : ShowsNoRoute v). silent-clear (task .horizon) v s q) (λ (k : List·Memᴰ v vs). a .clear v k) (h v m);
     }
 
 -- A best route is admissible.

@@ -9,10 +9,10 @@ use Rattle.laws.specs.Verdict.{passed}
 use Rattle.floor.specs.declared.Floor.{Floor}
 use Rattle.floor.specs.Checks.{checkOf}
 use Rattle.route.specs.Route.{Answer, none, View, unheard, heard, Task}
-use Rattle.route.specs.Conflict.{Silent}
+use Rattle.route.specs.Conflict.{ShowsNoRoute}
 use Rattle.route.specs.Best.{Admissible}
 use Rattle.records.specs.Seen.{seen}
-use Rattle.words.specs.Words.{digit}
+use Rattle.bitrows.specs.Words.{digit}
 use Rattle.search.specs.Task.{taskOf}
 use Rattle.planner.specs.Plan.{planOf}
 use Rattle.planner.specs.Claims.{answerAt}
@@ -39,7 +39,7 @@ pub record Stranded (f : Floor) (ws : List ℕ) (i : ℕ) : Type 0 where
 
 pub record Claims : Type 0 where
   -- Fewer views never take a route away: one that is admissible stays so against views each of which was there, or shows nothing.
-  pub fewer-views : (task : Task) (vs us : List View) (q : List ℕ) → ((v : View) → List·Memᴰ v us → Silent v ⊎ List·Memᴰ v vs) →
+  pub fewer-views : (task : Task) (vs us : List View) (q : List ℕ) → ((v : View) → List·Memᴰ v us → ShowsNoRoute v ⊎ List·Memᴰ v vs) →
       Admissible task vs q → Admissible task us q
   -- The set has only carriers above.
   pub only-above : (f : Floor) (ws : List ℕ) (i j : ℕ) → Stranded f ws i → shutsIn f ws i j ≡ true → j < i

@@ -1,4 +1,4 @@
-// The entries on the floor and the walls of the desk, each answer as one number.
+// The entries on the floor and the walls of the setup, each answer as one number.
 use blockers::Blocked;
 use commands::answers::DELIVERED;
 use commands::answers::ENDED;
@@ -11,20 +11,20 @@ use commands::answers::STEPS;
 use commands::answers::answer;
 use commands::answers::checked;
 use commands::answers::refused;
-use commands::desk::floor_of;
-use commands::desk::walls_of;
+use commands::setup::floor_of;
+use commands::setup::walls_of;
 use lengths::Needed;
 use machine::Most;
 use machine::Ran;
 use machine::Stepped;
 use planner::Planned;
-use script::fields::field;
-use script::look;
-use script::show;
+use testkit::fields::field;
+use testkit::memory;
+use testkit::show;
 
 // The fresh state, into lent memory.
-pub fn fresh(desk: &[u16], m: &mut [u16]) -> usize {
-    checked(machine::fresh(floor_of(desk), walls_of(desk), m))
+pub fn fresh(setup: &[u16], m: &mut [u16]) -> usize {
+    checked(machine::fresh(floor_of(setup), walls_of(setup), m))
 }
 
 // What a step answered.
@@ -38,8 +38,8 @@ fn stepped(a: Stepped) -> usize {
 }
 
 // A single step.
-pub fn step(desk: &[u16], m: &mut [u16], x: u16) -> usize {
-    stepped(machine::step(floor_of(desk), walls_of(desk), m, x))
+pub fn step(setup: &[u16], m: &mut [u16], x: u16) -> usize {
+    stepped(machine::step(floor_of(setup), walls_of(setup), m, x))
 }
 
 // What a run answered.
@@ -53,13 +53,13 @@ fn ran(a: Ran) -> usize {
 }
 
 // A run.
-pub fn run(desk: &[u16], m: &mut [u16], list: &[u16], budget: u16) -> usize {
-    ran(machine::run(floor_of(desk), walls_of(desk), m, list, budget))
+pub fn run(setup: &[u16], m: &mut [u16], list: &[u16], budget: u16) -> usize {
+    ran(machine::run(floor_of(setup), walls_of(setup), m, list, budget))
 }
 
 // The sequential plan, into lent memory.
-pub fn plan(desk: &[u16], m: &mut [u16]) -> usize {
-    let a = planner::plan(floor_of(desk), walls_of(desk), m);
+pub fn plan(setup: &[u16], m: &mut [u16]) -> usize {
+    let a = planner::plan(floor_of(setup), walls_of(setup), m);
     match a {
         Planned::Failing(k) => answer(FAILING, k),
         Planned::Refused(r) => refused(r),
@@ -67,13 +67,13 @@ pub fn plan(desk: &[u16], m: &mut [u16]) -> usize {
 }
 
 // Who shuts a carrier in, as a set, with the sequential plan in lent memory.
-pub fn shut_in(s: &[u8], desk: &[u16], m: &mut [u16]) -> usize {
-    let carrier = look::narrow(field(s, 0));
-    let a = blockers::blockers(floor_of(desk), walls_of(desk), carrier, m);
+pub fn shut_in(s: &[u8], setup: &[u16], m: &mut [u16]) -> usize {
+    let carrier = memory::narrow(field(s, 0));
+    let a = blockers::blockers(floor_of(setup), walls_of(setup), carrier, m);
     match a {
         Blocked::Shut(set) => {
             show::text(b" set");
-            answer(0, look::wide(set))
+            answer(0, memory::wide(set))
         }
         Blocked::Refused(r) => refused(r),
     }
@@ -89,8 +89,8 @@ pub fn ceiling(n: usize) -> usize {
 }
 
 // The needed length of the floor's state, as the entry of needed lengths gives it; 0 where that refuses the floor.
-pub fn state_length(desk: &[u16]) -> usize {
-    let a = lengths::needed_lengths(floor_of(desk));
+pub fn state_length(setup: &[u16]) -> usize {
+    let a = lengths::needed_lengths(floor_of(setup));
     match a {
         Needed::Known(l) => l.state,
         Needed::Refused(_) => 0,
@@ -98,6 +98,6 @@ pub fn state_length(desk: &[u16]) -> usize {
 }
 
 // Whether no step is open: a run of no steps says so.
-pub fn is_silent(desk: &[u16], m: &mut [u16]) -> bool {
-    run(desk, m, script::look::part(desk, 0, 0), 0) == answer(SILENT, 0)
+pub fn is_silent(setup: &[u16], m: &mut [u16]) -> bool {
+    run(setup, m, testkit::memory::part(setup, 0, 0), 0) == answer(SILENT, 0)
 }

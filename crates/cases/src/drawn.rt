@@ -6,16 +6,16 @@ use commands::answers;
 use commands::answers::PASSED;
 use commands::answers::SILENT;
 use commands::answers::SPENT;
-use commands::desk;
-use script::draws;
-use script::fields::field;
-use script::look;
+use commands::setup;
+use testkit::draws;
+use testkit::fields::field;
+use testkit::memory;
 
 // How many steps an answer to step x, or to a run where x is 0, says were taken: none by a step that waits, and by any other refusal more
 // than there can be.
 fn gained(x: usize, came: usize) -> usize {
     if answers::is_refused(came) {
-        return look::choose(answers::waits(x, came), 0, 65536);
+        return memory::choose(answers::waits(x, came), 0, 65536);
     }
     if answers::kind(came) < PASSED {
         return answers::number(came);
@@ -24,59 +24,59 @@ fn gained(x: usize, came: usize) -> usize {
 }
 
 // A run of the first steps of a drawn list, 0 to 31 of them, with a drawn budget of 0 to 15.
-fn one_run(desk: &[u16], m: &mut [u16], seed: usize) -> usize {
-    let list = draws::draw_list(desk, seed);
+fn one_run(setup: &[u16], m: &mut [u16], seed: usize) -> usize {
+    let list = draws::draw_list(setup, seed);
     calls::run(
-        desk,
+        setup,
         m,
-        look::part(&list, 0, seed / 16 % 32),
-        look::narrow(seed % 16),
+        memory::part(&list, 0, seed / 16 % 32),
+        memory::narrow(seed % 16),
     )
 }
 
-// A run; or a single step, drawn from those of the desk: the steps taken.
-fn one(desk: &[u16], m: &mut [u16], seed: usize, runs: bool) -> usize {
+// A run; or a single step, drawn from those of the setup: the steps taken.
+fn one(setup: &[u16], m: &mut [u16], seed: usize, runs: bool) -> usize {
     if runs {
-        return gained(0, one_run(desk, m, draws::beside(seed, 4)));
+        return gained(0, one_run(setup, m, draws::beside(seed, 4)));
     }
-    let x = draws::draw_step(desk, seed);
-    gained(look::wide(x), calls::step(desk, m, x))
+    let x = draws::draw_step(setup, seed);
+    gained(memory::wide(x), calls::step(setup, m, x))
 }
 
 // To silence from the fresh state, by runs where the seed is even, by single steps where it is odd: silent after so many steps; spent where
 // there is no end.
-fn go(desk: &[u16], m: &mut [u16], seed: usize) -> usize {
-    calls::fresh(desk, m);
+fn go(setup: &[u16], m: &mut [u16], seed: usize) -> usize {
+    calls::fresh(setup, m);
     let mut s = seed;
     let mut taken: usize = 0;
     let mut turn: usize = 0;
     while turn < 100000 {
-        if calls::is_silent(desk, m) {
+        if calls::is_silent(setup, m) {
             return answers::answer(SILENT, taken);
         }
         s = draws::next(s);
-        taken = look::plus(taken, one(desk, m, s, seed % 2 == 0));
+        taken = memory::plus(taken, one(setup, m, s, seed % 2 == 0));
         turn += 1;
     }
     answers::answer(SPENT, taken)
 }
 
 // One drawn order of a floor with drawn starts, docks and walls.
-fn draw_one(t: Tally, desk: &[u16], m: &mut [u16], cells: usize, seed: usize) -> Tally {
-    let mut drawn = desk::cleared();
-    look::copy(desk, &mut drawn, 201);
+fn draw_one(t: Tally, setup: &[u16], m: &mut [u16], cells: usize, seed: usize) -> Tally {
+    let mut drawn = setup::cleared();
+    memory::copy(setup, &mut drawn, 201);
     draws::draw_floor(&mut drawn, cells, seed);
     let came = go(&drawn, m, seed);
     tally::noted(t, &drawn, m, came)
 }
 
 // drawn: so many orders, on floors of so many cells, with seeds from one on.
-pub fn drawn(s: &[u8], desk: &[u16], m: &mut [u16]) -> Tally {
+pub fn drawn(s: &[u8], setup: &[u16], m: &mut [u16]) -> Tally {
     let count = field(s, 0);
     let mut t = tally::nothing();
     let mut k: usize = 0;
     while k < count {
-        t = draw_one(t, desk, m, field(s, 1), look::plus(field(s, 2), k));
+        t = draw_one(t, setup, m, field(s, 1), memory::plus(field(s, 2), k));
         k += 1;
     }
     t

@@ -1,14 +1,14 @@
 // The runs of a small floor by their rank: the report is the memory that is lent.
 use commands::answers;
 use commands::answers::STEPS;
-use commands::desk::floor_of;
-use commands::desk::walls_of;
+use commands::setup::floor_of;
+use commands::setup::walls_of;
 use lister::Listed;
-use script::fields::field;
+use testkit::fields::field;
 
 // List: a rank, and how many runs there must be. The number of steps, or the refusal.
-pub fn list(s: &[u8], desk: &[u16], m: &mut [u16]) -> usize {
-    let a = lister::run_of_rank(floor_of(desk), walls_of(desk), field(s, 0) as u64, m);
+pub fn list(s: &[u8], setup: &[u16], m: &mut [u16]) -> usize {
+    let a = lister::run_of_rank(floor_of(setup), walls_of(setup), field(s, 0) as u64, m);
     match a {
         Listed::Run { total, steps } => answers::only_if(
             total == field(s, 1) as u64,

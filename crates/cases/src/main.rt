@@ -5,11 +5,11 @@
 //
 // A line's first letter is its command, and its numbers are the arguments; all other letters are for the reader.
 mod calls;
+mod corrupted;
 mod drawn;
 mod listed;
 mod orders;
 mod play;
-mod spoilt;
 mod states;
 mod tally;
 mod trials;

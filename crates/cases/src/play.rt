@@ -1,123 +1,123 @@
 // The lines of the script, each with its command.
 use crate::calls;
+use crate::corrupted;
 use crate::drawn;
 use crate::listed;
 use crate::orders;
-use crate::spoilt;
 use crate::states;
 use crate::tally;
 use crate::trials;
 use commands::answers;
-use commands::desk;
 use commands::pairs;
 use commands::routes;
+use commands::setup;
 use commands::sheets;
 use floor::Floor;
-use script::fields;
-use script::fields::field;
-use script::look;
-use script::pages;
-use script::pages::byte;
-use script::show;
+use testkit::bytes;
+use testkit::bytes::byte;
+use testkit::fields;
+use testkit::fields::field;
+use testkit::memory;
+use testkit::show;
 
-// Commands that set numbers of the desk: give, floor, walls, choices; Rising walls.
-fn set_desk(s: &[u8], desk: &mut [u16]) {
+// Commands that set numbers of the setup: give, floor, walls, choices; Rising walls.
+fn set_desk(s: &[u8], setup: &mut [u16]) {
     match byte(s, 0) {
         b'g' | b'f' | b'w' | b'c' => {
-            fields::write(s, 0, desk);
+            fields::write(s, 0, setup);
         }
-        b'R' => desk::rising_walls(desk, field(s, 0)),
+        b'R' => setup::rising_walls(setup, field(s, 0)),
         _ => {}
     }
 }
 
 // Commands that set numbers of memory: give, by which all becomes as memory is lent; edit.
-fn set_memory(s: &[u8], room: &mut [u16]) {
+fn set_memory(s: &[u8], buffer: &mut [u16]) {
     match byte(s, 0) {
-        b'g' => look::fill(room, 9700, look::LENT),
+        b'g' => memory::fill(buffer, 9700, memory::LENT),
         b'e' => {
-            fields::write(s, 0, room);
+            fields::write(s, 0, buffer);
         }
         _ => {}
     }
 }
 
 // Commands that call an entry with lent memory: new state, step, run, plan, Blockers of a carrier.
-fn called(s: &[u8], desk: &[u16], m: &mut [u16]) -> usize {
+fn called(s: &[u8], setup: &[u16], m: &mut [u16]) -> usize {
     match byte(s, 0) {
-        b'n' => calls::fresh(desk, m),
-        b's' => calls::step(desk, m, look::narrow(field(s, 0))),
-        b'r' => states::run(s, desk, m),
-        b'p' => calls::plan(desk, m),
-        b'B' => calls::shut_in(s, desk, m),
-        _ => tried(s, desk, m),
+        b'n' => calls::fresh(setup, m),
+        b's' => calls::step(setup, m, memory::narrow(field(s, 0))),
+        b'r' => states::run(s, setup, m),
+        b'p' => calls::plan(setup, m),
+        b'B' => calls::shut_in(s, setup, m),
+        _ => tried(s, setup, m),
     }
 }
 
 // Commands that try lent memory in many ways: text of a sheet, unfit numbers in each place, kinds of answers to all numbers as steps, all
 // orders, drawn orders, a Trial, a Listed run.
-fn tried(s: &[u8], desk: &[u16], m: &mut [u16]) -> usize {
+fn tried(s: &[u8], setup: &[u16], m: &mut [u16]) -> usize {
     match byte(s, 0) {
         b't' => sheets::text(s, m),
-        b'u' => spoilt::unfit(s, desk, m),
-        b'k' => spoilt::numbers(desk, m, answers::answer(field(s, 0), field(s, 1))),
-        b'o' => tally::say(orders::every(desk, m)),
-        b'd' => tally::say(drawn::drawn(s, desk, m)),
-        b'T' => trials::trial(s, desk, m),
-        b'L' => listed::list(s, desk, m),
-        _ => looked(s, desk, m),
+        b'u' => corrupted::unfit(s, setup, m),
+        b'k' => corrupted::numbers(setup, m, answers::answer(field(s, 0), field(s, 1))),
+        b'o' => tally::say(orders::every(setup, m)),
+        b'd' => tally::say(drawn::drawn(s, setup, m)),
+        b'T' => trials::trial(s, setup, m),
+        b'L' => listed::list(s, setup, m),
+        _ => looked(s, setup, m),
     }
 }
 
 // Commands that look at lent memory: memory, another planner, vertex, swap and following conflicts of each pair, Vertex, swap or following
 // conflict that is a pair's first, Search for a carrier.
-fn looked(s: &[u8], desk: &[u16], m: &[u16]) -> usize {
+fn looked(s: &[u8], setup: &[u16], m: &[u16]) -> usize {
     match byte(s, 0) {
-        b'm' => states::memory(s, m),
-        b'a' => answers::compared(tally::second_says(desk, m, 0, 65)),
-        b'v' => pairs::say(desk, m),
-        b'V' => pairs::say_first(s, desk, m),
-        b'S' => routes::search(s, desk, m),
-        _ => asked(s, desk),
+        b'm' => states::compare_memory(s, m),
+        b'a' => answers::compared(tally::second_says(setup, m, 0, 65)),
+        b'v' => pairs::say(setup, m),
+        b'V' => pairs::say_first(s, setup, m),
+        b'S' => routes::search(s, setup, m),
+        _ => asked(s, setup),
     }
 }
 
 // Commands without lent memory: length of a state, highest number of steps, Check of the floor, Fresh floor's check, Writing of a sheet,
 // Printed routes.
-fn asked(s: &[u8], desk: &[u16]) -> usize {
+fn asked(s: &[u8], setup: &[u16]) -> usize {
     match byte(s, 0) {
-        b'l' => calls::state_length(desk),
+        b'l' => calls::state_length(setup),
         b'h' => calls::ceiling(field(s, 0)),
-        b'C' => answers::checked(floor::check(desk::floor_of(desk), desk::walls_of(desk))),
-        b'F' => answers::checked(floor::check(Floor::fresh(), desk::walls_of(desk))),
-        b'W' => sheets::writing(s, desk),
+        b'C' => answers::checked(floor::check(setup::floor_of(setup), setup::walls_of(setup))),
+        b'F' => answers::checked(floor::check(Floor::fresh(), setup::walls_of(setup))),
+        b'W' => sheets::writing(s, setup),
         b'P' => sheets::printed(s),
         _ => answers::answer(answers::SHOWN, 0),
     }
 }
 
 // A line: what it says is written, then what came of it. Answers its length, a newline behind it included.
-fn line(s: &[u8], desk: &mut [u16], room: &mut [u16]) -> usize {
+fn line(s: &[u8], setup: &mut [u16], buffer: &mut [u16]) -> usize {
     let size = fields::end(s);
-    show::text(pages::part(s, 0, size));
-    set_desk(s, desk);
-    set_memory(s, room);
-    answers::show(called(s, desk, look::front(room, look::wide_at(desk, 90))));
+    show::text(bytes::part(s, 0, size));
+    set_desk(s, setup);
+    set_memory(s, buffer);
+    answers::show(called(s, setup, memory::front(buffer, memory::wide_at(setup, 90))));
     show::text(b"\n");
-    look::plus(size, 1)
+    memory::plus(size, 1)
 }
 
 // All lines.
 pub fn play(s: &[u8]) {
-    let mut room = look::room();
-    let mut desk = desk::cleared();
+    let mut buffer = memory::buffer();
+    let mut setup = setup::cleared();
     let mut at: usize = 0;
     let mut turn: usize = 0;
     while turn < 5000 {
         if s.len() <= at {
             return;
         }
-        at = look::plus(at, line(&s[at..], &mut desk, &mut room));
+        at = memory::plus(at, line(&s[at..], &mut setup, &mut buffer));
         turn += 1;
     }
 }

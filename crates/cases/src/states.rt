@@ -1,22 +1,27 @@
 // Commands on the memory that is lent: states and plans.
 use crate::calls;
 use commands::answers;
-use script::fields::field;
-use script::fields::write;
-use script::look;
+use testkit::fields::field;
+use testkit::fields::write;
+use testkit::memory;
 
 // memory: whether all lent numbers are those written out. Of the first so many numbers those that are not written out are 0; those behind
 // are as they were lent.
-pub fn memory(s: &[u8], m: &[u16]) -> usize {
-    let mut e = look::room();
-    look::fill(&mut e, field(s, 0), 0);
+pub fn compare_memory(s: &[u8], m: &[u16]) -> usize {
+    let mut e = memory::buffer();
+    memory::fill(&mut e, field(s, 0), 0);
     write(s, 1, &mut e);
-    answers::compared(look::same(m, &e))
+    answers::compared(memory::same(m, &e))
 }
 
 // run: the budget, then the steps of the list, at most eight.
-pub fn run(s: &[u8], desk: &[u16], m: &mut [u16]) -> usize {
+pub fn run(s: &[u8], setup: &[u16], m: &mut [u16]) -> usize {
     let mut list = [0u16; 8];
     let n = write(s, 1, &mut list);
-    calls::run(desk, m, look::part(&list, 0, n), look::narrow(field(s, 0)))
+    calls::run(
+        setup,
+        m,
+        memory::part(&list, 0, n),
+        memory::narrow(field(s, 0)),
+    )
 }

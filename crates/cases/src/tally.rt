@@ -1,12 +1,12 @@
 // What is looked at where an order has come to silence.
 use crate::calls;
 use commands::answers;
-use commands::desk;
 use commands::pairs;
-use script::look;
-use script::look::both;
-use script::records;
-use script::show;
+use commands::setup;
+use testkit::memory;
+use testkit::memory::both;
+use testkit::records;
+use testkit::show;
 
 // How many orders came to silence, and of how many each of the other things holds.
 pub struct Tally {
@@ -37,35 +37,35 @@ pub fn nothing() -> Tally {
 }
 
 // another planner: whether the second planner's answers are the records from a place on, each so many numbers behind the one before.
-pub fn second_says(desk: &[u16], m: &[u16], from: usize, stride: usize) -> bool {
-    let mut other = look::zeros();
-    second::second_plan(desk::floor_of(desk), desk::walls_of(desk), &mut other);
-    records::answers_are(m, from, stride, look::wide_at(desk, 4), &other)
+pub fn second_says(setup: &[u16], m: &[u16], from: usize, stride: usize) -> bool {
+    let mut other = memory::zeros();
+    oracle::second_plan(setup::floor_of(setup), setup::walls_of(setup), &mut other);
+    records::answers_are(m, from, stride, memory::wide_at(setup, 4), &other)
 }
 
 // An order that came to silence after so many steps. What must be: the answers are both planners', no two of them in conflict, the taken
 // count in memory is the number of steps that were answered as taken, that number is at most the ceiling, and the state is at rest.
-fn judged(t: Tally, desk: &[u16], m: &[u16], taken: usize) -> Tally {
-    let n = look::wide_at(desk, 4);
+fn judged(t: Tally, setup: &[u16], m: &[u16], taken: usize) -> Tally {
+    let n = memory::wide_at(setup, 4);
     let most = answers::number(calls::ceiling(n));
-    let mut planned = look::zeros();
-    let failing = answers::number(calls::plan(desk, &mut planned));
+    let mut planned = memory::zeros();
+    let failing = answers::number(calls::plan(setup, &mut planned));
     let counted = both(records::taken_in(m) == taken, taken <= most);
     let as_planned = both(
         records::answers_are(m, 4, 67, n, &planned),
-        second_says(desk, m, 4, 67),
+        second_says(setup, m, 4, 67),
     );
-    let free = pairs::are_free(desk, &planned);
+    let free = pairs::are_free(setup, &planned);
     let right = both(
         both(as_planned, free),
         both(counted, records::at_rest(m, n)),
     );
     Tally {
-        orders: look::count(t.orders, true),
-        right: look::count(t.right, right),
-        full: look::count(t.full, taken == most),
-        failing: look::count(t.failing, 0 < failing),
-        steps: look::plus(t.steps, taken),
+        orders: memory::count(t.orders, true),
+        right: memory::count(t.right, right),
+        full: memory::count(t.full, taken == most),
+        failing: memory::count(t.failing, 0 < failing),
+        steps: memory::plus(t.steps, taken),
         odd: t.odd,
     }
 }
@@ -73,14 +73,14 @@ fn judged(t: Tally, desk: &[u16], m: &[u16], taken: usize) -> Tally {
 // One more order that is odd.
 pub fn odd(t: Tally) -> Tally {
     let mut u = t;
-    u.odd = look::count(t.odd, true);
+    u.odd = memory::count(t.odd, true);
     u
 }
 
 // Where an order has come to: silent after so many steps; ended, which is no order; spent, which is odd.
-pub fn noted(t: Tally, desk: &[u16], m: &[u16], came: usize) -> Tally {
+pub fn noted(t: Tally, setup: &[u16], m: &[u16], came: usize) -> Tally {
     match answers::kind(came) {
-        answers::SILENT => judged(t, desk, m, answers::number(came)),
+        answers::SILENT => judged(t, setup, m, answers::number(came)),
         answers::ENDED => t,
         _ => odd(t),
     }

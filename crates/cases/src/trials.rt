@@ -3,10 +3,10 @@ use crate::tally;
 use commands::answers;
 use commands::answers::SILENT;
 use commands::answers::STEPS;
-use commands::desk::floor_of;
-use commands::desk::walls_of;
-use script::fields::field;
-use script::look;
+use commands::setup::floor_of;
+use commands::setup::walls_of;
+use testkit::fields::field;
+use testkit::memory;
 use trial::Tried;
 
 // A seed from its high and its low half.
@@ -15,8 +15,8 @@ fn seed_of(high: u16, low: u16) -> u32 {
 }
 
 // The trial: the number of steps, or the refusal.
-fn tried(desk: &[u16], order: u16, seed: u32, state: &mut [u16], report: &mut [u16]) -> usize {
-    let a = trial::trial(floor_of(desk), walls_of(desk), order, seed, state, report);
+fn tried(setup: &[u16], order: u16, seed: u32, state: &mut [u16], report: &mut [u16]) -> usize {
+    let a = trial::trial(floor_of(setup), walls_of(setup), order, seed, state, report);
     match a {
         Tried::Steps(n) => answers::answer(STEPS, n),
         Tried::Refused(r) => answers::refused(r),
@@ -25,15 +25,15 @@ fn tried(desk: &[u16], order: u16, seed: u32, state: &mut [u16], report: &mut [u
 
 // Whether a state is as it was lent.
 fn is_lent(state: &[u16]) -> bool {
-    let room = look::room();
-    look::same(state, &room)
+    let buffer = memory::buffer();
+    memory::same(state, &buffer)
 }
 
 // Whether a state after so many steps is silent as every order's must be.
-fn is_right(desk: &[u16], state: &[u16], steps: usize) -> bool {
+fn is_right(setup: &[u16], state: &[u16], steps: usize) -> bool {
     let t = tally::noted(
         tally::nothing(),
-        desk,
+        setup,
         state,
         answers::answer(SILENT, steps),
     );
@@ -41,13 +41,13 @@ fn is_right(desk: &[u16], state: &[u16], steps: usize) -> bool {
 }
 
 // Trial: an order, the high and the low half of a seed, and how many numbers are lent for the state.
-pub fn trial(s: &[u8], desk: &[u16], m: &mut [u16]) -> usize {
-    let mut space = look::room();
-    let state = look::front(&mut space, field(s, 3));
-    let seed = seed_of(look::narrow(field(s, 1)), look::narrow(field(s, 2)));
-    let came = tried(desk, look::narrow(field(s, 0)), seed, state, m);
+pub fn trial(s: &[u8], setup: &[u16], m: &mut [u16]) -> usize {
+    let mut space = memory::buffer();
+    let state = memory::front(&mut space, field(s, 3));
+    let seed = seed_of(memory::narrow(field(s, 1)), memory::narrow(field(s, 2)));
+    let came = tried(setup, memory::narrow(field(s, 0)), seed, state, m);
     if answers::is_refused(came) {
         return answers::only_if(is_lent(state), came);
     }
-    answers::only_if(is_right(desk, state, answers::number(came)), came)
+    answers::only_if(is_right(setup, state, answers::number(came)), came)
 }

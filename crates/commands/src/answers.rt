@@ -2,9 +2,9 @@
 // kind is its number in document 01's table and its later rows, up to 30, and its number is its place; the other kinds are those below.
 use floor::Checked;
 use floor::Refusal;
-use script::look;
-use script::pages;
-use script::show;
+use testkit::bytes;
+use testkit::memory;
+use testkit::show;
 
 // Of a run, with the number taken.
 pub const SILENT: usize = 31;
@@ -59,16 +59,16 @@ pub fn is_refused(came: usize) -> bool {
 // ten times its sender and its addressee, 12 with that. Of no other number.
 pub fn waits(x: usize, came: usize) -> bool {
     match kind(came) {
-        8 => look::both(x / 100 == 1, number(came) == 0),
-        12 => look::both(x / 100 == 2, number(came) == x % 10),
-        13 => look::both(x / 100 == 1, x % 10 < number(came)),
+        8 => memory::both(x / 100 == 1, number(came) == 0),
+        12 => memory::both(x / 100 == 2, number(came) == x % 10),
+        13 => memory::both(x / 100 == 1, x % 10 < number(came)),
         _ => false,
     }
 }
 
 // A refusal as an answer.
 pub fn refused(r: Refusal) -> usize {
-    answer(look::wide(r.number), r.place)
+    answer(memory::wide(r.number), r.place)
 }
 
 // What a check answered.
@@ -81,7 +81,7 @@ pub fn checked(c: Checked) -> usize {
 
 // An answer where all is as it must be, and otherwise that it is not.
 pub fn only_if(good: bool, came: usize) -> usize {
-    look::choose(good, came, answer(OTHERWISE, 0))
+    memory::choose(good, came, answer(OTHERWISE, 0))
 }
 
 // What a comparison says.
@@ -115,7 +115,7 @@ fn show_word(kind: usize) {
     let words =
         b" refused silent spent ended failing carrier steps passed, written the same printed kept sent delivered the same OTHERWISE";
     let word = word_of(kind);
-    show::text(pages::part(words, word / 100, word % 100));
+    show::text(bytes::part(words, word / 100, word % 100));
 }
 
 // An answer: its word, a refusal's number, and the place, the number taken, the failing carrier, the most steps, the number of bytes, or

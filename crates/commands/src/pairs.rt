@@ -2,9 +2,9 @@
 use crate::answers;
 use route::FirstConflict;
 use route::Route;
-use script::fields::field;
-use script::look;
-use script::show;
+use testkit::fields::field;
+use testkit::memory;
+use testkit::show;
 
 // A pair of which one has no route.
 const NO_ROUTE: usize = 0;
@@ -23,18 +23,22 @@ fn place_of(i: usize) -> usize {
 // The cells of the record of carrier i.
 fn cells_of(m: &[u16], i: usize) -> Route {
     let mut r = [0u16; 64];
-    look::copy(look::part(m, look::plus(place_of(i), 1), 64), &mut r, 64);
+    memory::copy(
+        memory::part(m, memory::plus(place_of(i), 1), 64),
+        &mut r,
+        64,
+    );
     r
 }
 
 // Whether carrier i has a route in lent memory.
 fn has_route(m: &[u16], i: usize) -> bool {
-    look::at(m, place_of(i)) == 2
+    memory::at(m, place_of(i)) == 2
 }
 
 // Three times a beat and a kind.
 fn numbered(t: usize, kind: usize) -> usize {
-    look::plus(look::plus(look::plus(t, t), t), kind)
+    memory::plus(memory::plus(memory::plus(t, t), t), kind)
 }
 
 // The number of a conflict, as the second planner counts: 0 for none, 1 + 3 t for the same cell at beat t, 2 + 3 t for a change of places,
@@ -56,53 +60,56 @@ fn first_of(m: &[u16], horizon: u16, i: usize, j: usize) -> usize {
 // Two routes by both tests, whose beats and kinds must be the same.
 fn tested(m: &[u16], horizon: u16, i: usize, j: usize) -> usize {
     let first = first_of(m, horizon, i, j);
-    if second::second_conflict(look::part(m, place_of(j), 65), cells_of(m, i), horizon) != first {
+    if oracle::second_conflict(memory::part(m, place_of(j), 65), cells_of(m, i), horizon) != first {
         return ODD;
     }
-    look::choose(first == 0, FREE, CONFLICT)
+    memory::choose(first == 0, FREE, CONFLICT)
 }
 
 // What the pair of carriers i and j is.
 fn pair(m: &[u16], horizon: u16, i: usize, j: usize) -> usize {
-    if look::both(has_route(m, i), has_route(m, j)) {
+    if memory::both(has_route(m, i), has_route(m, j)) {
         return tested(m, horizon, i, j);
     }
     NO_ROUTE
 }
 
 // Whether carriers i and j of a floor are a pair of a kind, i being the later one.
-fn is_of(desk: &[u16], m: &[u16], i: usize, j: usize, kind: usize) -> bool {
-    if look::both(i < look::wide_at(desk, 4), j < i) {
-        return pair(m, look::at(desk, 2), i, j) == kind;
+fn is_of(setup: &[u16], m: &[u16], i: usize, j: usize, kind: usize) -> bool {
+    if memory::both(i < memory::wide_at(setup, 4), j < i) {
+        return pair(m, memory::at(setup, 2), i, j) == kind;
     }
     false
 }
 
 // How many pairs of carriers are of a kind.
-fn count(desk: &[u16], m: &[u16], kind: usize) -> usize {
+fn count(setup: &[u16], m: &[u16], kind: usize) -> usize {
     let mut n: usize = 0;
     let mut k: usize = 0;
     while k < 64 {
-        n = look::count(n, is_of(desk, m, k / 8, k % 8, kind));
+        n = memory::count(n, is_of(setup, m, k / 8, k % 8, kind));
         k += 1;
     }
     n
 }
 
 // Whether no pair of routes is in conflict, by both tests.
-pub fn are_free(desk: &[u16], m: &[u16]) -> bool {
-    look::plus(count(desk, m, CONFLICT), count(desk, m, ODD)) == 0
+pub fn are_free(setup: &[u16], m: &[u16]) -> bool {
+    memory::plus(count(setup, m, CONFLICT), count(setup, m, ODD)) == 0
 }
 
 // vertex, swap and following conflicts of each pair: how many pairs of routes there are and how many of them are in conflict, where both
 // tests agree.
-pub fn say(desk: &[u16], m: &[u16]) -> usize {
-    let conflicts = count(desk, m, CONFLICT);
+pub fn say(setup: &[u16], m: &[u16]) -> usize {
+    let conflicts = count(setup, m, CONFLICT);
     show::text(b" pairs");
-    show::number(look::plus(count(desk, m, FREE), conflicts));
+    show::number(memory::plus(count(setup, m, FREE), conflicts));
     show::text(b" conflicts");
     show::number(conflicts);
-    answers::only_if(count(desk, m, ODD) == 0, answers::answer(answers::SHOWN, 0))
+    answers::only_if(
+        count(setup, m, ODD) == 0,
+        answers::answer(answers::SHOWN, 0),
+    )
 }
 
 // A kind of conflict as words, by its number's rest by 3.
@@ -126,10 +133,10 @@ fn show_first(first: usize) {
 }
 
 // Vertex, swap or following conflict that is the first of two carriers that have routes, where both tests agree.
-pub fn say_first(s: &[u8], desk: &[u16], m: &[u16]) -> usize {
-    let i = look::plus(field(s, 0), 7);
-    let j = look::plus(field(s, 1), 7);
-    let horizon = look::at(desk, 2);
+pub fn say_first(s: &[u8], setup: &[u16], m: &[u16]) -> usize {
+    let i = memory::plus(field(s, 0), 7);
+    let j = memory::plus(field(s, 1), 7);
+    let horizon = memory::at(setup, 2);
     show_first(first_of(m, horizon, i, j));
     answers::only_if(
         tested(m, horizon, i, j) != ODD,

@@ -3,27 +3,27 @@ use crate::answers;
 use crate::answers::PRINTED;
 use crate::answers::WRITTEN;
 use crate::answers::checked;
-use crate::desk::floor_of;
-use crate::desk::walls_of;
+use crate::setup::floor_of;
+use crate::setup::walls_of;
 use floor::Floor;
 use printing::Printed;
-use script::fields::field;
-use script::fields::under;
-use script::look;
-use script::pages;
+use testkit::bytes;
+use testkit::fields::field;
+use testkit::fields::under;
+use testkit::memory;
 
 // The sheet of a floor is written into so many lent bytes: the answer, if these are then a text and otherwise as lent.
 fn written(f: Floor, walls: &[u16], n: usize, text: &[u8]) -> usize {
-    let mut page = pages::page();
-    let came = checked(sheet::write(f, walls, pages::front(&mut page, n)));
-    answers::only_if(pages::holds(&page, text), came)
+    let mut page = bytes::page();
+    let came = checked(sheet::write(f, walls, bytes::front(&mut page, n)));
+    answers::only_if(bytes::holds(&page, text), came)
 }
 
 // What came of a reading that the check foretold: if it is refused, lent memory is as it was lent; if not, the floor that was read is
 // written again as the same bytes.
 fn read_so(text: &[u8], m: &[u16], f: Floor, asked: usize) -> usize {
     if answers::is_refused(asked) {
-        return answers::only_if(look::same(m, &look::room()), asked);
+        return answers::only_if(memory::same(m, &memory::buffer()), asked);
     }
     answers::only_if(
         written(f, m, 3000, text) == asked,
@@ -47,11 +47,11 @@ pub fn text(s: &[u8], m: &mut [u16]) -> usize {
     read(under(s, 0, field(s, 0)), m)
 }
 
-// Writing: the floor of the desk into so many lent bytes, of which so many are then those under the line.
-pub fn writing(s: &[u8], desk: &[u16]) -> usize {
+// Writing: the floor of the setup into so many lent bytes, of which so many are then those under the line.
+pub fn writing(s: &[u8], setup: &[u16]) -> usize {
     written(
-        floor_of(desk),
-        walls_of(desk),
+        floor_of(setup),
+        walls_of(setup),
         field(s, 0),
         under(s, 0, field(s, 1)),
     )
@@ -68,7 +68,7 @@ fn printed_bytes(a: Printed) -> usize {
 // Printed: for a sheet of so many bytes so many bytes are printed, which stand behind it.
 pub fn printed(s: &[u8]) -> usize {
     let n = field(s, 0);
-    let mut page = pages::page();
+    let mut page = bytes::page();
     let came = printed_bytes(printing::routes(under(s, 0, n), &mut page));
-    answers::only_if(pages::holds(&page, under(s, n, field(s, 1))), came)
+    answers::only_if(bytes::holds(&page, under(s, n, field(s, 1))), came)
 }

@@ -16,9 +16,9 @@ use Rattle.floor.specs.declared.Floor.{Floor}
 use Rattle.floor.specs.declared.Refusal.{Refusal}
 use Rattle.floor.specs.Checks.{checkOf, roomOf, within}
 use Rattle.floor.proofs.LimitsLaws.{check-tells}
-use Rattle.reference.specs.Quiet.{ceiling}
-use Rattle.layout.specs.Places.{stateSize}
-use Rattle.layout.specs.Calls.{placeVerdict}
+use Rattle.reference.specs.Quiescent.{ceiling}
+use Rattle.encoding.specs.Places.{stateSize}
+use Rattle.encoding.specs.Calls.{placeVerdict}
 use Rattle.state.proofs.PlaceLaws.{pairs-most}
 use Rattle.printing.specs.Print.{printOf, textLength, orRefusal}
 use Rattle.printing.specs.Put.{TextPut}

@@ -11,9 +11,9 @@ use Rattle.floor.specs.Answers.{verdictOf}
 use Rattle.laws.proofs.VerdictLaws.{turn-none, turn-more, turn-stop, turn-end}
 
 -- A check that passed hands on: what the rest answers, the whole answers.
-pub hands-on : {a : Checked} {u v w : Verdict} → verdictOf a ≡ v → a ≡ Passed → u ≡ w → u ≡ (v then w)
+pub then-next : {a : Checked} {u v w : Verdict} → verdictOf a ≡ v → a ≡ Passed → u ≡ w → u ≡ (v then w)
 unfolding verdictOf _then_
-hands-on h e t = rw (← h, e) t
+then-next h e t = rw (← h, e) t
 
 -- A refusal is the answer of the whole.
 pub ends-at : {a : Checked} {v : Verdict} {x : Refusal} (w : Verdict) → verdictOf a ≡ v → a ≡ Refused x → verdictOf a ≡ (v then w)
@@ -25,7 +25,7 @@ pub ends-here : {a : Checked} {v : Verdict} {x : Refusal} → verdictOf a ≡ v 
 ends-here h e w = ends-at w h e
 
 -- A function that is such a chain: each of its answers is `search chain`, at a depth of one more than its checks.
-pub ruleset chain = (hands-on, ends-at)
+pub ruleset chain = (then-next, ends-at)
 
 -- A check that answers `Passed` passes.
 pub passes : {a : Checked} {v : Verdict} → verdictOf a ≡ v → a ≡ Passed → v ≡ passed

@@ -13,13 +13,13 @@ use lib.Dec.{eqb}
 use Rattle.floor.specs.declared.Floor.{Floor}
 use Rattle.laws.specs.Verdict.{passed, All}
 use Rattle.floor.specs.Checks.{among, risingOf}
-use Rattle.floor.specs.Accepted.{Rises, Climbs}
+use Rattle.floor.specs.Accepted.{Rises, StrictlyRising}
 use Rattle.laws.proofs.EachLaws.{each-passed}
 use Rattle.floor.proofs.AmongLaws.{among-found, absent-all}
 use Rattle.floor.proofs.CheckMeans.{rises-means}
 
 -- Where each number is above the one before it, each is above all before it.
-rises-climbs : (xs : List ℕ) (m : ℕ) → All (Rises xs) m → Climbs xs m
+rises-climbs : (xs : List ℕ) (m : ℕ) → All (Rises xs) m → StrictlyRising xs m
 rises-climbs xs m r i zero l b = absurd (omega arith)
 rises-climbs xs m r i (suc j) l b =
     let step = r (suc j) b j refl in
@@ -29,7 +29,7 @@ rises-climbs xs m r i (suc j) l b =
     (eq-or-lt-of-le (le-of-suc-le-suc l))
 
 -- Walls that pass check 4 climb.
-pub passed-climbs : (f : Floor) (ws : List ℕ) → risingOf f ws ≡ passed → Climbs ws (f .walls)
+pub passed-climbs : (f : Floor) (ws : List ℕ) → risingOf f ws ≡ passed → StrictlyRising ws (f .walls)
 unfolding risingOf
 passed-climbs f ws h = rises-climbs ws (f .walls) (each-passed 4 _ _ _ (rises-means ws) _ h)
 
@@ -53,7 +53,7 @@ bracket-start xs m c = record {
 pub bracket-none : {xs : List ℕ} {m c low high : ℕ} → Bracket xs m c low high → m ≤ low → false ≡ among xs m c
 bracket-none {xs} {m} {c} b l = sym (absent-all xs c m (λ i q e. omega (arith, b .below i (omega arith))))
 
-module _ {xs : List ℕ} {m c low high : ℕ} (s : Climbs xs m) (b : Bracket xs m c low high) where
+module _ {xs : List ℕ} {m c low high : ℕ} (s : StrictlyRising xs m) (b : Bracket xs m c low high) where
   -- Where the number at k is below c, so are all before it.
   pub bracket-up : (k : ℕ) → k < high → getD xs k 0 < c → Bracket xs m c (k + 1) high
   bracket-up k l h = record {

@@ -41,8 +41,8 @@ abbrev pub Rises : List ℕ → ℕ → Type 0
 Rises ws j = (k : ℕ) → suc k ≡ j → getD ws k 0 < getD ws j 0
 
 -- Each of the first m numbers of xs is below every later one of them.
-abbrev pub Climbs : List ℕ → ℕ → Type 0
-Climbs xs m = (i j : ℕ) → i < j → j < m → getD xs i 0 < getD xs j 0
+abbrev pub StrictlyRising : List ℕ → ℕ → Type 0
+StrictlyRising xs m = (i j : ℕ) → i < j → j < m → getD xs i 0 < getD xs j 0
 
 -- c is not among the first m numbers of xs.
 abbrev pub Absent : List ℕ → ℕ → ℕ → Type 0

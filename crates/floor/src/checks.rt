@@ -4,7 +4,7 @@ ghost use mathlib.Core.Path.{_≡_};
 ghost use mathlib.Core.Bool.{true, not};
 ghost use Prim.Native.Nat.{_+_, _≤_, _<_};
 ghost use lib.ListN.{length, getD};
-ghost use Rattle.floor.specs.Accepted.{Climbs, Counted};
+ghost use Rattle.floor.specs.Accepted.{StrictlyRising, Counted};
 ghost use Rattle.floor.specs.Answers.{verdictOf};
 ghost use Rattle.floor.specs.Checks.{countOf, docksOf, within, inGrid, docksInGrid, carrierInGrid, roomOf};
 ghost use Rattle.floor.specs.Checks.{docksClear, clearOfWalls};
@@ -184,7 +184,7 @@ fn rising(f: Floor, walls: &[u16]) -> Checked
 // Whether c is one of the first m walls, which rise: a binary search.
 pub fn is_wall(walls: &[u16], m: usize, c: u16) -> bool
     requires { ⌜ m ≤ length (now walls) ⌝ }
-    requires { ⌜ Climbs (now walls) m ⌝ }
+    requires { ⌜ StrictlyRising (now walls) m ⌝ }
     ensures { λ r. ⌜ r ≡ Checks·among (now (walls .entry)) m c ⌝ }
 {
     let mut low: usize = 0;
@@ -208,7 +208,7 @@ fn docks_clear(f: Floor, walls: &[u16], i: usize) -> bool
     requires { ⌜ i < 8 ⌝ }
     requires { ⌜ countOf f i ≤ 4 ⌝ }
     requires { ⌜ f .walls ≤ length (now walls) ⌝ }
-    requires { ⌜ Climbs (now walls) (f .walls) ⌝ }
+    requires { ⌜ StrictlyRising (now walls) (f .walls) ⌝ }
     ensures { λ r. ⌜ r ≡ docksClear f (now (walls .entry)) i ⌝ }
 {
     let docks = docks_of(f, i);
@@ -229,7 +229,7 @@ fn clear_of_walls(f: Floor, walls: &[u16], i: usize) -> bool
     requires { ⌜ i < 8 ⌝ }
     requires { ⌜ countOf f i ≤ 4 ⌝ }
     requires { ⌜ f .walls ≤ length (now walls) ⌝ }
-    requires { ⌜ Climbs (now walls) (f .walls) ⌝ }
+    requires { ⌜ StrictlyRising (now walls) (f .walls) ⌝ }
     ensures { λ r. ⌜ r ≡ clearOfWalls f (now (walls .entry)) i ⌝ }
 {
     let m = f.walls as usize;
@@ -244,7 +244,7 @@ fn clear(f: Floor, walls: &[u16]) -> Checked
     requires { ⌜ f .carriers ≤ 8 ⌝ }
     requires { ⌜ Counted f ⌝ }
     requires { ⌜ f .walls ≤ length (now walls) ⌝ }
-    requires { ⌜ Climbs (now walls) (f .walls) ⌝ }
+    requires { ⌜ StrictlyRising (now walls) (f .walls) ⌝ }
     ensures { λ r. ⌜ verdictOf r ≡ clearOf f (now (walls .entry)) ⌝ }
 {
     let n = f.carriers as usize;

@@ -10,8 +10,8 @@ use Rattle.records.specs.Records.{stored}
 use Rattle.planner.proofs.ResultLaws.{plan-size}
 use Rattle.blockers.specs.Entry.{blockersVerdict, blockersOutcome, blockersMemory}
 use Rattle.blockers.proofs.EntryLaws.{carrier-granted}
-use Rattle.wire.specs.Word.{done, ofNumber}
-use Rattle.wire.specs.Record.{floorOf}
+use Rattle.abi.specs.Word.{done, ofNumber}
+use Rattle.abi.specs.Record.{floorOf}
 use Rattle.kalomivund.specs.Entries.{blockersWord, blockersStored}
 use Rattle.kalomivund.specs.Claims.{Lent}
 use Rattle.kalomivund.proofs.KeepLaws.{checked-lent, record-lent}

@@ -7,14 +7,14 @@ use Rattle.laws.specs.Verdict.{Verdict, passed, refused, whenPassed}
 use Rattle.floor.specs.declared.Floor.{Floor}
 use Rattle.reference.specs.State.{Machine}
 use Rattle.reference.specs.Table.{Call, single, runOf, step as Asked·step, noStep}
-use Rattle.layout.specs.Places.{stateSize}
+use Rattle.encoding.specs.Places.{stateSize}
 use Rattle.reference.specs.Calls.{afterCall}
-use Rattle.layout.specs.Calls.{machineOf, stateVerdict, stateIn, replyTo, memoryAfter, singleCall, runCall}
-use Rattle.layout.specs.InnerCalls.{verdictIn, replyIn, grantedMemory, memoryIn}
-use Rattle.layout.proofs.SimulationLaws.{reply-in, memory-in}
-use Rattle.layout.proofs.StateLaws.{encode-beyond}
-use Rattle.wire.specs.Word.{wordOf, mapOutcome}
-use Rattle.wire.specs.Record.{floorOf}
+use Rattle.encoding.specs.Calls.{machineOf, stateVerdict, stateIn, replyTo, memoryAfter, singleCall, runCall}
+use Rattle.encoding.specs.InnerCalls.{verdictIn, replyIn, grantedMemory, memoryIn}
+use Rattle.encoding.proofs.SimulationLaws.{reply-in, memory-in}
+use Rattle.encoding.proofs.StateLaws.{encode-beyond}
+use Rattle.abi.specs.Word.{wordOf, mapOutcome}
+use Rattle.abi.specs.Record.{floorOf}
 use Rattle.kalomivund.specs.Answers.{ofReply, toldDone}
 use Rattle.kalomivund.specs.Entries.{stepWord, stepStored, runWord, runStored}
 use Rattle.kalomivund.specs.Claims.{Refuses, Lent}

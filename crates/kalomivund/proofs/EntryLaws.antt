@@ -7,8 +7,8 @@ use borrow.Author.Tests.{le-leb, lt-leb}
 use Rattle.laws.specs.Verdict.{Verdict, passed, refused, _then_, demand, Outcome, refusal, _gives_, _thenAnswers_, whenPassed}
 use Rattle.floor.specs.Checks.{roomOf}
 use Rattle.sheet.specs.Read.{readVerdict}
-use Rattle.wire.specs.Word.{Done, wordOf, mapOutcome}
-use Rattle.wire.specs.Record.{recordLent}
+use Rattle.abi.specs.Word.{Done, wordOf, mapOutcome}
+use Rattle.abi.specs.Record.{recordLent}
 use Rattle.kalomivund.specs.Entries.{wordFor, storedFor, readLent}
 
 -- The word and the memory are those of the call.

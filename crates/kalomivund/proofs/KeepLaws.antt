@@ -6,9 +6,9 @@ use mathlib.Core.Path.{_≡_, refl}
 use mathlib.Core.List.{List}
 use lib.ListN.{drop}
 use Rattle.laws.specs.Verdict.{Verdict, passed, refused, Outcome, value, _gives_, _thenAnswers_, whenPassed}
-use Rattle.wire.specs.Word.{Done, wordOf, mapOutcome}
-use Rattle.wire.proofs.Theorems.{theorems as wire-theorems}
-use Rattle.wire.specs.Record.{recordLent}
+use Rattle.abi.specs.Word.{Done, wordOf, mapOutcome}
+use Rattle.abi.proofs.Theorems.{theorems as wire-theorems}
+use Rattle.abi.specs.Record.{recordLent}
 use Rattle.kalomivund.specs.Entries.{wordFor, storedFor}
 use Rattle.kalomivund.specs.Claims.{Refuses, Lent}
 

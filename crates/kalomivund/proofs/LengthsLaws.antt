@@ -12,7 +12,7 @@ use Rattle.lengths.specs.declared.Lengths.{Lengths}
 use Rattle.lengths.specs.declared.Needed.{Needed}
 use Rattle.lengths.specs.declared.Needed.the-variants.{Known, Refused}
 use Rattle.lengths.specs.Figures.{figuresOf, figuresFor, lengthsOf}
-use Rattle.wire.specs.Word.{wordOf, ofNumber, mapOutcome}
+use Rattle.abi.specs.Word.{wordOf, ofNumber, mapOutcome}
 use Rattle.kalomivund.specs.Answers.{figureList}
 use Rattle.kalomivund.specs.Entries.{neededVerdict}
 use Rattle.kalomivund.proofs.EntryLaws.{says-lent, stores-lent}

@@ -31,11 +31,11 @@ use Rattle.planner.proofs.ResultLaws.{plan-size}
 use Rattle.printing.specs.Print.{routesOf, neededFor, routesOutcome, routesMemory, shortOutcome}
 use Rattle.printing.proofs.Theorems.{theorems as printing-theorems}
 use Rattle.reference.specs.State.{fresh as freshState}
-use Rattle.layout.specs.Places.{stateSize}
-use Rattle.layout.specs.Calls.{placeVerdict, freshMemory}
-use Rattle.layout.proofs.StateLaws.{encode-beyond}
-use Rattle.wire.specs.Word.{done, wordOf, mapOutcome, ofNumber}
-use Rattle.wire.specs.Record.{floorOf, numbersOf}
+use Rattle.encoding.specs.Places.{stateSize}
+use Rattle.encoding.specs.Calls.{placeVerdict, freshMemory}
+use Rattle.encoding.proofs.StateLaws.{encode-beyond}
+use Rattle.abi.specs.Word.{done, wordOf, mapOutcome, ofNumber}
+use Rattle.abi.specs.Record.{floorOf, numbersOf}
 use Rattle.kalomivund.specs.Answers.{ofSearch, answerDone, routeStored, figureList}
 use Rattle.kalomivund.specs.Entries.{readLent, readWord, readRecord, readStored, writeWord, writeStored}
 use Rattle.kalomivund.specs.Entries.{neededVerdict, neededWord, neededStored, searchLent, searchWord, searchStored}

@@ -5,7 +5,7 @@ use lib.ListN.{length}
 use Rattle.trial.specs.Report.{reportSize}
 use Rattle.lister.specs.Entry.{rankVerdict, rankOutcome, runNumbers, reportListed}
 use Rattle.lister.proofs.Theorems.{theorems as lister-theorems}
-use Rattle.wire.specs.Record.{floorOf}
+use Rattle.abi.specs.Record.{floorOf}
 use Rattle.kalomivund.specs.Answers.{figuresDone, ofRank}
 use Rattle.kalomivund.specs.Entries.{rankWord, rankStored}
 use Rattle.kalomivund.specs.Claims.{Lent}

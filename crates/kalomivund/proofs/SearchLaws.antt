@@ -13,7 +13,7 @@ use Rattle.route.specs.Route.{Answer}
 use Rattle.search.specs.declared.Found.{Found}
 use Rattle.search.specs.declared.Outcome.the-variants.{Route, None, Refused}
 use Rattle.search.specs.Answers.{resultOf, outcomeOf, cellsOf, Says}
-use Rattle.wire.specs.Word.{wordOf, done, mapOutcome, ofNumber}
+use Rattle.abi.specs.Word.{wordOf, done, mapOutcome, ofNumber}
 use Rattle.kalomivund.specs.Answers.{ofSearch, answerDone, routeStored}
 use Rattle.kalomivund.specs.Entries.{searchLent}
 use Rattle.kalomivund.proofs.EntryLaws.{says-lent, stores-lent}

@@ -15,7 +15,7 @@ use Rattle.sheet.specs.Read.{sheetVerdict, readVerdict}
 use Rattle.search.specs.Search.{searchOf, requestOf}
 use Rattle.laws.proofs.Tests.{lt-or-le}
 use Rattle.lengths.proofs.Theorems.{theorems as lengths-theorems, room-means}
-use Rattle.wire.specs.Record.{recordLent}
+use Rattle.abi.specs.Record.{recordLent}
 use Rattle.kalomivund.specs.Entries.{readLent, neededVerdict, searchLent}
 use Rattle.kalomivund.proofs.SearchLaws.{search-long}
 use Rattle.laws.proofs.VerdictLaws.{given-refusal}

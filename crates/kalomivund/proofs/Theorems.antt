@@ -6,10 +6,10 @@ use mathlib.Core.Path.{_≡_, refl, _∙_}
 use Rattle.laws.specs.Verdict.{demand, _gives_}
 use Rattle.floor.specs.Checks.{within}
 use Rattle.lengths.specs.Figures.{lengthsOf}
-use Rattle.reference.specs.Quiet.{ceiling}
+use Rattle.reference.specs.Quiescent.{ceiling}
 use Rattle.machine.specs.Ceiling.{mostSteps}
-use Rattle.wire.specs.Word.{packed, cappedAt, wordOf, mapOutcome, ofNumber}
-use Rattle.wire.proofs.WordLaws.{capped-same}
+use Rattle.abi.specs.Word.{packed, cappedAt, wordOf, mapOutcome, ofNumber}
+use Rattle.abi.proofs.WordLaws.{capped-same}
 use Rattle.kalomivund.specs.Answers.{ofSearch, answerDone, ofReply, toldDone, stepCase, endCase, ofRank, figuresDone}
 use Rattle.kalomivund.specs.Answers.{ofConflict, conflictDone, ofRecord, recordDone}
 use Rattle.kalomivund.specs.Entries.{ceilingWord}

@@ -4,14 +4,14 @@ use mathlib.Core.List.{List}
 use lib.ListN.{length}
 use Rattle.laws.proofs.PutLaws.{put-beyond}
 use Rattle.laws.proofs.VerdictLaws.{then-both}
-use Rattle.layout.specs.Places.{stateSize}
-use Rattle.layout.specs.Calls.{placeVerdict}
-use Rattle.layout.proofs.StateLaws.{encode-beyond}
+use Rattle.encoding.specs.Places.{stateSize}
+use Rattle.encoding.specs.Calls.{placeVerdict}
+use Rattle.encoding.proofs.StateLaws.{encode-beyond}
 use Rattle.trial.specs.Report.{reportSize, numbersOf}
 use Rattle.trial.specs.Entry.{trialVerdict, trialOf, trialOutcome, stateTried, reportTried}
 use Rattle.trial.proofs.Theorems.{theorems as trial-theorems}
-use Rattle.wire.specs.Word.{done, ofNumber}
-use Rattle.wire.specs.Record.{floorOf}
+use Rattle.abi.specs.Word.{done, ofNumber}
+use Rattle.abi.specs.Record.{floorOf}
 use Rattle.kalomivund.specs.Entries.{trialWord, trialStateStored, trialReportStored}
 use Rattle.kalomivund.specs.Claims.{Lent}
 use Rattle.kalomivund.proofs.KeepLaws.{checked-lent, record-lent}

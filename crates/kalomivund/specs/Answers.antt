@@ -12,7 +12,7 @@ use Rattle.reference.specs.Ending.{Ending, silent, spent, ended}
 use Rattle.reference.specs.Calls.{Told, Reply, stepped, ran}
 use Rattle.lister.specs.Entry.{Figures}
 use Rattle.legality.specs.Entry.{RecordAnswer, aRoute, aNone, notHeard, wrong}
-use Rattle.wire.specs.Word.{Done, done, mapOutcome}
+use Rattle.abi.specs.Word.{Done, done, mapOutcome}
 
 -- A search: case 0 none, case 1 a route.
 unfoldable pub answerDone : Answer → Done

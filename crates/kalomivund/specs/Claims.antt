@@ -17,8 +17,8 @@ use Rattle.reference.specs.Take.{kept, sent, delivered}
 use Rattle.reference.specs.Ending.{silent, spent, ended}
 use Rattle.reference.specs.Calls.{stepped, ran}
 use Rattle.legality.specs.Entry.{aRoute, aNone, notHeard, wrong}
-use Rattle.wire.specs.Word.{wordOf, ofNumber}
-use Rattle.wire.specs.Record.{floorOf, recordLent}
+use Rattle.abi.specs.Word.{wordOf, ofNumber}
+use Rattle.abi.specs.Record.{floorOf, recordLent}
 use Rattle.kalomivund.specs.Answers.{ofSearch, ofReply, ofRank, ofConflict, ofRecord}
 use Rattle.kalomivund.specs.Entries.{readLent, readWord, readRecord, readStored, writeWord, writeStored}
 use Rattle.kalomivund.specs.Entries.{neededVerdict, neededWord, neededStored, searchLent, searchWord, searchStored}

@@ -17,13 +17,13 @@ use Rattle.printing.specs.Print.{routesOutcome, routesMemory}
 use Rattle.lengths.specs.Figures.{lengthsOf}
 use Rattle.planner.specs.Answers.{planResult}
 use Rattle.planner.specs.Records.{planMemory}
-use Rattle.layout.specs.Calls.{placeVerdict, freshMemory, replyTo, memoryAfter, singleCall, runCall}
+use Rattle.encoding.specs.Calls.{placeVerdict, freshMemory, replyTo, memoryAfter, singleCall, runCall}
 use Rattle.machine.specs.Ceiling.{mostSteps}
 use Rattle.trial.specs.Entry.{trialOutcome, stateTried, reportTried}
 use Rattle.lister.specs.Entry.{rankOutcome, reportListed}
 use Rattle.legality.specs.Entry.{recordOutcome, arrivalOutcome}
-use Rattle.wire.specs.Word.{Done, wordOf, ofNumber}
-use Rattle.wire.specs.Record.{floorOf, numbersOf, recordLent}
+use Rattle.abi.specs.Word.{Done, wordOf, ofNumber}
+use Rattle.abi.specs.Record.{floorOf, numbersOf, recordLent}
 use Rattle.kalomivund.specs.Answers.{ofSearch, routeStored, figureList, ofReply, ofRank, ofConflict, ofRecord}
 
 -- The word of a call with a floor record of enough numbers; 9, 0 of one with fewer.

@@ -9,8 +9,10 @@ ghost use Rattle.machine.specs.Ceiling.{figureOf};
 ghost use Rattle.trial.specs.Entry.{triedOutcome};
 ghost use Rattle.lister.specs.Entry.{listedOutcome};
 ghost use Rattle.legality.specs.Entry.{legalityOutcome, arrivedOutcome};
-ghost use Rattle.wire.specs.Word.{wordOf, ofNumber};
+ghost use Rattle.abi.specs.Word.{wordOf, ofNumber};
 ghost use Rattle.kalomivund.specs.Answers.{ofReply, ofRank, ofConflict, ofRecord};
+use abi::word::done;
+use abi::word::refused;
 use blockers::Blocked;
 use conflict::Compared;
 use legality::Arrived;
@@ -22,8 +24,6 @@ use machine::Stepped;
 use planner::Planned;
 use printing::Printed;
 use trial::Tried;
-use wire::word::done;
-use wire::word::refused;
 
 // The word of printing.
 pub fn of_print(x: Printed) -> u64

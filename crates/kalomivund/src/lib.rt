@@ -11,7 +11,7 @@ ghost use Rattle.laws.specs.Memory.{put};
 ghost use Rattle.laws.specs.Verdict.{_gives_, whenPassed};
 ghost use Rattle.floor.specs.Checks.{roomOf};
 ghost use Rattle.search.specs.Search.{searchOf};
-ghost use Rattle.wire.specs.Word.{wordOf, ofNumber};
+ghost use Rattle.abi.specs.Word.{wordOf, ofNumber};
 ghost use Rattle.kalomivund.specs.Answers.{ofSearch, routeStored, figureList};
 ghost use Rattle.kalomivund.specs.Entries.{readWord, readRecord, readStored, writeWord, writeStored, checkWord};
 ghost use Rattle.kalomivund.specs.Entries.{neededWord, neededStored, searchWord, searchStored, planWord, planStored};
@@ -21,13 +21,13 @@ ghost use Rattle.kalomivund.specs.Entries.{trialWord, trialStateStored, 
 ghost use Rattle.kalomivund.specs.Entries.{rankWord, rankStored};
 ghost use Rattle.kalomivund.specs.Entries.{conflictWord, recordWord, arrivalWord};
 ghost use Rattle.kalomivund.specs.Entries.{blockersWord, blockersStored};
+use abi::numbers;
+use abi::word;
 use floor::Checked;
 use floor::Floor;
 use lengths::Lengths;
 use lengths::Needed;
 use search::Outcome;
-use wire::numbers;
-use wire::word;
 
 // The most steps for so many carriers.
 #[no_mangle]

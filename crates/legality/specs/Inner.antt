@@ -4,7 +4,7 @@ use mathlib.Core.Bool.{Bool, _&&_, not}
 use mathlib.Core.List.{List}
 use lib.ListN.{length}
 use Rattle.floor.specs.declared.Floor.{Floor}
-use Rattle.floor.specs.Accepted.{Climbs}
+use Rattle.floor.specs.Accepted.{StrictlyRising}
 use Rattle.floor.specs.Checks.{among, inGrid, countOf}
 
 -- A cell of the floor that is no wall.
@@ -17,6 +17,6 @@ pub record Placed (f : Floor) (ws : List ℕ) (carrier : ℕ) : Type 0 where
   pub height : f .height ≤ 32
   pub horizon : f .horizon ≤ 63
   pub lent : f .walls ≤ length ws
-  pub climbs : Climbs ws (f .walls)
+  pub climbs : StrictlyRising ws (f .walls)
   pub listed : (1 ≤ carrier) × (carrier - 1 < 8)
   pub few : countOf f (carrier - 1) ≤ 4

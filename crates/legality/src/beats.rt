@@ -3,7 +3,7 @@ ghost use mathlib.Core.Path.{_≡_};
 ghost use Prim.Native.Nat.{_≤_, _<_};
 ghost use lib.ListN.{length};
 ghost use Rattle.floor.specs.Answers.{verdictOf};
-ghost use Rattle.floor.specs.Accepted.{Climbs};
+ghost use Rattle.floor.specs.Accepted.{StrictlyRising};
 ghost use Rattle.floor.specs.Checks.{startOf, isDock, countOf};
 ghost use Rattle.search.specs.Task.{taskOf};
 ghost use Rattle.legality.specs.Tests.{beginTest, cellsTest, movesTest, dockTest, blankTest, routeTest, recordTest};
@@ -35,7 +35,7 @@ fn begins(f: Floor, i: usize, r: Route) -> Checked
 fn stands(f: Floor, walls: &[u16], r: Route) -> Checked
     requires { ⌜ (f .width ≤ 32) × (f .height ≤ 32) × (f .horizon ≤ 63) ⌝ }
     requires { ⌜ f .walls ≤ length (now walls) ⌝ }
-    requires { ⌜ Climbs (now walls) (f .walls) ⌝ }
+    requires { ⌜ StrictlyRising (now walls) (f .walls) ⌝ }
     ensures { λ x. ⌜ verdictOf x ≡ cellsTest (freeOn f (now (walls .entry))) (f .horizon) r ⌝ }
 {
     let n = f.horizon as usize + 1;

@@ -4,7 +4,7 @@ ghost use mathlib.Core.Bool.{_&&_};
 ghost use Prim.Native.Nat.{_≤_, _<_};
 ghost use lib.Dec.{eqb};
 ghost use lib.ListN.{length};
-ghost use Rattle.floor.specs.Accepted.{Climbs};
+ghost use Rattle.floor.specs.Accepted.{StrictlyRising};
 ghost use Rattle.floor.specs.Checks.{among, isDock, countOf};
 ghost use Rattle.legality.specs.Inner.{freeOn};
 ghost use Rattle.route.specs.Moves.{neighbours as Moves·neighbours, near as Moves·near};
@@ -14,7 +14,7 @@ use floor::Floor;
 pub fn is_free(f: Floor, walls: &[u16], c: u16) -> bool
     requires { ⌜ (f .width ≤ 32) × (f .height ≤ 32) ⌝ }
     requires { ⌜ f .walls ≤ length (now walls) ⌝ }
-    requires { ⌜ Climbs (now walls) (f .walls) ⌝ }
+    requires { ⌜ StrictlyRising (now walls) (f .walls) ⌝ }
     ensures { λ r. ⌜ r ≡ freeOn f (now (walls .entry)) c ⌝ }
 {
     if f.width * f.height <= c {

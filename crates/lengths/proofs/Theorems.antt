@@ -22,9 +22,9 @@ use Rattle.sheet.proofs.Theorems.{theorems as sheet-theorems}
 use Rattle.search.specs.Search.{requestOf}
 use Rattle.planner.specs.Plan.{planVerdict}
 use Rattle.printing.specs.Print.{textLength, printVerdict, routesOf, neededFor, shortOutcome, routesOutcome}
-use Rattle.layout.specs.Places.{stateSize}
-use Rattle.layout.specs.Calls.{placeVerdict}
-use Rattle.layout.proofs.Theorems.{theorems as layout-theorems}
+use Rattle.encoding.specs.Places.{stateSize}
+use Rattle.encoding.specs.Calls.{placeVerdict}
+use Rattle.encoding.proofs.Theorems.{theorems as layout-theorems}
 use Rattle.trial.specs.Report.{reportSize}
 use Rattle.trial.specs.Entry.{trialVerdict}
 use Rattle.trial.proofs.Theorems.{theorems as trial-theorems}

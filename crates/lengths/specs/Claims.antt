@@ -13,8 +13,8 @@ use Rattle.sheet.specs.Read.{sheetVerdict, readVerdict, writeVerdict}
 use Rattle.search.specs.Search.{requestOf}
 use Rattle.planner.specs.Plan.{planVerdict}
 use Rattle.printing.specs.Print.{textLength, printVerdict, routesOutcome}
-use Rattle.layout.specs.Places.{stateSize}
-use Rattle.layout.specs.Calls.{placeVerdict}
+use Rattle.encoding.specs.Places.{stateSize}
+use Rattle.encoding.specs.Calls.{placeVerdict}
 use Rattle.trial.specs.Report.{reportSize}
 use Rattle.trial.specs.Entry.{trialVerdict}
 use Rattle.lengths.specs.Figures.{figuresFor, lengthsOf}

@@ -5,7 +5,7 @@ use Rattle.laws.specs.Verdict.{Outcome, value, refusal, _gives_}
 use Rattle.floor.specs.Checks.{limitsOf}
 use Rattle.sheet.specs.Text.{sheetLength}
 use Rattle.printing.specs.Print.{textLength}
-use Rattle.layout.specs.Places.{stateSize}
+use Rattle.encoding.specs.Places.{stateSize}
 use Rattle.trial.specs.Report.{reportSize}
 use Rattle.lengths.specs.declared.Lengths.{Lengths}
 use Rattle.lengths.specs.declared.Needed.{Needed}

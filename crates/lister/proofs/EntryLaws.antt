@@ -23,8 +23,8 @@ use Rattle.floor.proofs.LimitsLaws.{room-passed}
 use Rattle.floor.proofs.Theorems.{theorems as floor-theorems}
 use Rattle.reference.specs.State.{Machine, State, fresh}
 use Rattle.reference.specs.Take.{afterStep}
-use Rattle.layout.specs.Places.{pairsBefore, stateSize}
-use Rattle.layout.specs.Calls.{machineOf}
+use Rattle.encoding.specs.Places.{pairsBefore, stateSize}
+use Rattle.encoding.specs.Calls.{machineOf}
 use Rattle.search.specs.Rows.{FreeRows}
 use Rattle.steps.specs.Inner.{Placed}
 use Rattle.trial.specs.Report.{numbersOf, reportSize}
@@ -32,7 +32,7 @@ use Rattle.trial.proofs.EntryLaws.{checked-carriers}
 use Rattle.trial.proofs.ReportLaws.{numbers-length}
 use Rattle.listing.specs.Runs.{Run, runsOf, total, runAt, reportFrom}
 use Rattle.listing.proofs.Theorems.{theorems as listing-theorems}
-use Rattle.reference.specs.Quiet.{ceiling}
+use Rattle.reference.specs.Quiescent.{ceiling}
 use Rattle.lister.specs.Lines.{written, listedFrom}
 use Rattle.lister.specs.Entry.{totalOf, runOf, smallVerdict, listVerdict, rankVerdict, Figures, rankOutcome, runNumbers, reportListed}
 use Rattle.lister.specs.declared.node.Node.{Node}

@@ -6,8 +6,8 @@ use lib.ListN.{length, take}
 use Rattle.floor.specs.declared.Floor.{Floor}
 use Rattle.reference.specs.State.{Machine}
 use Rattle.reference.specs.Step.{Step}
-use Rattle.layout.specs.Calls.{machineOf}
-use Rattle.layout.specs.InnerSteps.{afterIn, saidIn}
+use Rattle.encoding.specs.Calls.{machineOf}
+use Rattle.encoding.specs.InnerSteps.{afterIn, stepAnswerIn}
 use Rattle.orders.specs.Orders.{stepAt}
 use Rattle.trial.specs.Report.{numberOf, answerNumber}
 use Rattle.lister.specs.declared.node.Node.{Node}
@@ -21,7 +21,7 @@ module _ (f : Floor) (ws : List ℕ) (node : Node) (p : ℕ) where
   x = stepAt (f .carriers) p
 
   pub moved : (memory longer : List ℕ) (y : Step) (number answer : ℕ) → y ≡ x → memory ≡ afterIn M (node .memory) y →
-      length memory ≡ length (node .memory) → number ≡ numberOf y → answer ≡ answerNumber (saidIn M (node .memory) y) →
+      length memory ≡ length (node .memory) → number ≡ numberOf y → answer ≡ answerNumber (stepAnswerIn M (node .memory) y) →
       take (2 * (node .steps + 1)) longer ≡ take (2 * node .steps) (node .trail) ++ (number ∷ (answer ∷ [])) →
       Moved f ws node p (record { memory = memory; trail = longer; steps = node .steps + 1 })
   unfolding trailOf
@@ -33,5 +33,5 @@ module _ (f : Floor) (ws : List ℕ) (node : Node) (p : ℕ) where
         trails = trail
             ∙ ap (λ (k : ℕ). take (2 * node .steps) (node .trail) ++ (k ∷ (answer ∷ []))) (num ∙ ap numberOf is)
             ∙ ap (λ (k : ℕ). take (2 * node .steps) (node .trail) ++ (numberOf x ∷ (k ∷ [])))
-            (ans ∙ ap (λ (z : Step). answerNumber (saidIn M (node .memory) z)) is);
+            (ans ∙ ap (λ (z : Step). answerNumber (stepAnswerIn M (node .memory) z)) is);
       }

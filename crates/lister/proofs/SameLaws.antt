@@ -13,16 +13,16 @@ use Rattle.reference.specs.State.{Machine, State, fresh}
 use Rattle.reference.specs.Step.{Step, isOpen}
 use Rattle.reference.specs.Take.{afterStep, StepAnswer}
 use Rattle.reference.specs.Ranking.{ranking, isSilent}
-use Rattle.reference.specs.Quiet.{ceiling}
+use Rattle.reference.specs.Quiescent.{ceiling}
 use Rattle.reference.proofs.Theorems.{theorems as reference-theorems}
-use Rattle.layout.specs.Places.{stateSize}
-use Rattle.layout.specs.Encode.{encode}
-use Rattle.layout.specs.Ranges.{WithinRanges}
-use Rattle.layout.specs.Calls.{machineOf}
-use Rattle.layout.specs.InnerSteps.{openIn, silentIn, afterIn, saidIn}
-use Rattle.layout.proofs.OpenLaws.{open-same, silent-same}
-use Rattle.layout.proofs.ExactLaws.{fresh-fits}
-use Rattle.layout.proofs.FloorLaws.{depth-some}
+use Rattle.encoding.specs.Places.{stateSize}
+use Rattle.encoding.specs.Encode.{encode}
+use Rattle.encoding.specs.Ranges.{WithinRanges}
+use Rattle.encoding.specs.Calls.{machineOf}
+use Rattle.encoding.specs.InnerSteps.{openIn, silentIn, afterIn, stepAnswerIn}
+use Rattle.encoding.proofs.OpenLaws.{open-same, silent-same}
+use Rattle.encoding.proofs.ExactLaws.{fresh-fits}
+use Rattle.encoding.proofs.FloorLaws.{depth-some}
 use Rattle.steps.specs.Inner.{bare}
 use Rattle.steps.proofs.OpenLaws.{silent-of}
 use Rattle.orders.specs.Orders.{places}

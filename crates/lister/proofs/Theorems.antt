@@ -10,7 +10,7 @@ use Rattle.laws.specs.Verdict.{passed}
 use Rattle.laws.proofs.VerdictLaws.{then-both, demand-holds}
 use Rattle.floor.specs.declared.Floor.{Floor}
 use Rattle.floor.specs.Checks.{checkOf}
-use Rattle.layout.specs.Calls.{machineOf}
+use Rattle.encoding.specs.Calls.{machineOf}
 use Rattle.orders.specs.Orders.{Order, first}
 use Rattle.trial.specs.Report.{reportSize}
 use Rattle.trial.proofs.EntryLaws.{checked-carriers}

@@ -12,8 +12,8 @@ use Rattle.floor.specs.declared.Floor.{Floor}
 use Rattle.reference.specs.State.{Machine}
 use Rattle.reference.specs.Step.{Step, plan}
 use Rattle.reference.specs.Ranking.{ranking}
-use Rattle.layout.specs.Calls.{machineOf}
-use Rattle.layout.specs.InnerSteps.{openIn, silentIn, afterIn, saidIn}
+use Rattle.encoding.specs.Calls.{machineOf}
+use Rattle.encoding.specs.InnerSteps.{openIn, silentIn, afterIn, stepAnswerIn}
 use Rattle.steps.specs.Inner.{bare}
 use Rattle.steps.proofs.OpenLaws.{open-of, silent-of}
 use Rattle.steps.proofs.PlacedLaws.{workable-same}
@@ -40,18 +40,18 @@ module _ (M : Machine) (m : List ℕ) (first : ℕ) where
 
   listed-behind : (x : Step) (k : ℕ) (before : List ℕ) (rank : ℕ) (rs : List Run) (lines : List ℕ) →
       listedIn M m k before first rank (behind x rs) lines ≡
-      listedIn M (afterIn M m x) (k + 1) (before ++ (numberOf x ∷ (answerNumber (saidIn M m x) ∷ []))) first rank rs lines
+      listedIn M (afterIn M m x) (k + 1) (before ++ (numberOf x ∷ (answerNumber (stepAnswerIn M m x) ∷ []))) first rank rs lines
   unfolding listedIn behind numbersIn
   listed-behind x k before rank [] lines = refl
   listed-behind x k before rank (xs ∷ rs) lines =
       let longer : k + suc (length xs) ≡ k + 1 + length xs = omega arith in
-      let here = numberOf x ∷ (answerNumber (saidIn M m x) ∷ numbersIn M (afterIn M m x) xs) in
+      let here = numberOf x ∷ (answerNumber (stepAnswerIn M m x) ∷ numbersIn M (afterIn M m x) xs) in
       ap (λ (j : ℕ). listedIn M m k before first (suc rank) (behind x rs) (written first rank j (before ++ here) lines)) longer
       ∙ listed-behind x k before (suc rank) rs (written first rank (k + 1 + length xs) (before ++ here) lines)
       ∙ ap (λ (ns : List ℕ).
-      listedIn M (afterIn M m x) (k + 1) (before ++ (numberOf x ∷ (answerNumber (saidIn M m x) ∷ []))) first (suc rank) rs
+      listedIn M (afterIn M m x) (k + 1) (before ++ (numberOf x ∷ (answerNumber (stepAnswerIn M m x) ∷ []))) first (suc rank) rs
       (written first rank (k + 1 + length xs) ns lines))
-      (sym (append-assoc before (numberOf x ∷ (answerNumber (saidIn M m x) ∷ [])) (numbersIn M (afterIn M m x) xs)))
+      (sym (append-assoc before (numberOf x ∷ (answerNumber (stepAnswerIn M m x) ∷ [])) (numbersIn M (afterIn M m x) xs)))
 
 -- Every run of a list gets one step in front.
 pub front-length : (x : Step) (rs : List Run) → length (behind x rs) ≡ length rs

@@ -8,7 +8,7 @@ use Rattle.laws.specs.Memory.{put}
 use Rattle.floor.specs.declared.Floor.{Floor}
 use Rattle.floor.specs.Checks.{checkOf, roomOf}
 use Rattle.reference.specs.State.{fresh}
-use Rattle.layout.specs.Calls.{machineOf}
+use Rattle.encoding.specs.Calls.{machineOf}
 use Rattle.trial.specs.Report.{numbersOf, reportSize}
 use Rattle.listing.specs.Runs.{Run, runsOf, total, runAt, reportFrom}
 use Rattle.lister.specs.declared.Listed.{Listed}

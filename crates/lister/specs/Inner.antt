@@ -7,10 +7,10 @@ use lib.ListN.{length, take, drop}
 use Rattle.floor.specs.declared.Floor.{Floor}
 use Rattle.reference.specs.State.{Machine, fresh}
 use Rattle.reference.specs.Ranking.{ranking}
-use Rattle.layout.specs.Encode.{encode}
-use Rattle.layout.specs.Places.{stateSize}
-use Rattle.layout.specs.Calls.{machineOf}
-use Rattle.layout.specs.InnerSteps.{openIn, silentIn, afterIn, saidIn}
+use Rattle.encoding.specs.Encode.{encode}
+use Rattle.encoding.specs.Places.{stateSize}
+use Rattle.encoding.specs.Calls.{machineOf}
+use Rattle.encoding.specs.InnerSteps.{openIn, silentIn, afterIn, stepAnswerIn}
 use Rattle.steps.specs.Inner.{Workable}
 use Rattle.orders.specs.Orders.{stepAt}
 use Rattle.trial.specs.Report.{numberOf, answerNumber}
@@ -34,7 +34,7 @@ pub record Moved (f : Floor) (ws : List ℕ) (node : Node) (p : ℕ) (next : Nod
   pub long : length (next .memory) ≡ length (node .memory)
   pub counts : next .steps ≡ node .steps + 1
   pub trails : trailOf next ≡ trailOf node ++
-      (numberOf (stepAt (f .carriers) p) ∷ (answerNumber (saidIn (machineOf f ws) (node .memory) (stepAt (f .carriers) p)) ∷ []))
+      (numberOf (stepAt (f .carriers) p) ∷ (answerNumber (stepAnswerIn (machineOf f ws) (node .memory) (stepAt (f .carriers) p)) ∷ []))
 
 -- The complete runs from the state that a memory shows.
 unfoldable pub runsIn : Machine → ℕ → List ℕ → List Run
@@ -59,7 +59,7 @@ besideIn f ws (suc left) m p =
 -- The numbers of the report of a run.
 unfoldable pub numbersIn : Machine → List ℕ → Run → List ℕ
 numbersIn M m [] = []
-numbersIn M m (x ∷ xs) = numberOf x ∷ answerNumber (saidIn M m x) ∷ numbersIn M (afterIn M m x) xs
+numbersIn M m (x ∷ xs) = numberOf x ∷ answerNumber (stepAnswerIn M m x) ∷ numbersIn M (afterIn M m x) xs
 
 -- The lines with these runs written, their ranks counted from one on: each has k steps before it, with these numbers.
 unfoldable pub listedIn : Machine → List ℕ → (k : ℕ) → List ℕ → (first rank : ℕ) → List Run → List ℕ → List ℕ

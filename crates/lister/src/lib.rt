@@ -12,7 +12,7 @@ ghost use Rattle.laws.specs.Verdict.{passed, demand};
 ghost use Rattle.laws.specs.Memory.{put};
 ghost use Rattle.floor.specs.Answers.{verdictOf};
 ghost use Rattle.floor.specs.Checks.{checkOf};
-ghost use Rattle.layout.specs.Calls.{machineOf};
+ghost use Rattle.encoding.specs.Calls.{machineOf};
 ghost use Rattle.listing.specs.Runs.{runsOf};
 ghost use Rattle.lister.specs.Lines.{listedFrom};
 ghost use Rattle.lister.specs.Entry.{totalOf, smallVerdict, listedOutcome, rankOutcome, reportListed};

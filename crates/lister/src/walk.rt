@@ -4,7 +4,7 @@ ghost use mathlib.Core.Bool.{true};
 ghost use Prim.Native.Nat.{_+_, _≤_, _<_};
 ghost use lib.ListN.{length};
 ghost use Rattle.orders.specs.Orders.{places, stepAt};
-ghost use Rattle.layout.specs.InnerSteps.{openIn};
+ghost use Rattle.encoding.specs.InnerSteps.{openIn};
 ghost use Rattle.steps.specs.Inner.{bare};
 ghost use Rattle.lister.specs.Inner.{followedIn, besideIn, Branch, Tallied};
 use crate::node::Node;

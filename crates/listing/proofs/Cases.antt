@@ -11,7 +11,7 @@ use Rattle.reference.specs.State.{Machine, fresh, views, tick}
 use Rattle.reference.specs.Step.{plan, deliver, isThere, hasRoom, isEmpty, waitsFor, isOpen, sameCells, sameAnswer}
 use Rattle.reference.specs.Take.{isNews, send, planAs, oldest, newer, deliverTo, effect, counted, afterStep}
 use Rattle.reference.specs.Ranking.{deliveriesFrom, ranking, noneOpen, isSilent}
-use Rattle.reference.specs.Quiet.{ceiling}
+use Rattle.reference.specs.Quiescent.{ceiling}
 use Rattle.listing.specs.Runs.{behind, beginning, runsFrom, runsOf, total}
 
 -- A machine of n carriers whose best answers are all none.

@@ -12,7 +12,7 @@ use Rattle.reference.specs.State.{Machine, State, fresh}
 use Rattle.reference.specs.Take.{afterStep}
 use Rattle.reference.specs.Ranking.{isSilent}
 use Rattle.reference.specs.History.{afterSteps}
-use Rattle.reference.specs.Quiet.{ceiling}
+use Rattle.reference.specs.Quiescent.{ceiling}
 use Rattle.reference.proofs.Potential.{potential, fresh-potential}
 use Rattle.orders.specs.Orders.{first, startMemory, remembered}
 use Rattle.orders.specs.Trial.{Entry, trial, stepsIn}

@@ -4,7 +4,7 @@ use mathlib.Core.Logic.{_↔_}
 use mathlib.Core.Path.{_≡_}
 use lib.ListN.{length}
 use Rattle.reference.specs.State.{Machine, fresh}
-use Rattle.reference.specs.Quiet.{ceiling}
+use Rattle.reference.specs.Quiescent.{ceiling}
 use Rattle.orders.specs.Orders.{places, stepAt}
 use Rattle.listing.specs.Runs.{Run, total, runAt}
 use Rattle.listing.specs.Order.{Complete, Earlier}

@@ -7,7 +7,7 @@ use Rattle.reference.specs.State.{Machine, State, fresh}
 use Rattle.reference.specs.Step.{Step, isOpen}
 use Rattle.reference.specs.Take.{afterStep}
 use Rattle.reference.specs.Ranking.{ranking, isSilent}
-use Rattle.reference.specs.Quiet.{ceiling}
+use Rattle.reference.specs.Quiescent.{ceiling}
 use Rattle.orders.specs.Trial.{Entry, entryOf}
 
 -- A run is the steps that it takes.

@@ -11,7 +11,7 @@ use lib.ListN.{getD}
 use Rattle.laws.specs.Verdict.{Outcome, value, refusal, demand, _gives_}
 use Rattle.floor.specs.Checks.{within}
 use Rattle.reference.specs.Ranges.{each}
-use Rattle.reference.specs.Quiet.{ceiling}
+use Rattle.reference.specs.Quiescent.{ceiling}
 use Rattle.reference.proofs.RangeLaws.{each-holds}
 use Rattle.machine.specs.Ceiling.{mostSteps}
 

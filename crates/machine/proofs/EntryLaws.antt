@@ -12,12 +12,12 @@ use Rattle.reference.specs.Take.{StepAnswer}
 use Rattle.reference.specs.Table.{step, noStep, lentEnough, allNamed, Call}
 use Rattle.reference.specs.Calls.{Told, stepped, ran}
 use Rattle.reference.proofs.TableLaws.{enough-lent}
-use Rattle.layout.specs.Numbers.{askedBy}
-use Rattle.layout.specs.Calls.{machineOf, stateVerdict, replyTo, memoryAfter, singleCall, runCall}
-use Rattle.layout.proofs.SimulationLaws.{reply-in, memory-in}
-use Rattle.layout.specs.InnerSteps.{silentIn, afterIn, saidIn}
-use Rattle.layout.specs.InnerRuns.{runIn}
-use Rattle.layout.specs.InnerCalls.{singleVerdictIn, verdictIn, replyIn, grantedMemory, memoryIn}
+use Rattle.encoding.specs.Numbers.{askedBy}
+use Rattle.encoding.specs.Calls.{machineOf, stateVerdict, replyTo, memoryAfter, singleCall, runCall}
+use Rattle.encoding.proofs.SimulationLaws.{reply-in, memory-in}
+use Rattle.encoding.specs.InnerSteps.{silentIn, afterIn, stepAnswerIn}
+use Rattle.encoding.specs.InnerRuns.{runIn}
+use Rattle.encoding.specs.InnerCalls.{singleVerdictIn, verdictIn, replyIn, grantedMemory, memoryIn}
 use Rattle.steps.specs.declared.Taken.{Taken}
 use Rattle.steps.specs.Answers.{takenMeant}
 use Rattle.steps.specs.Inner.{bare, Took}
@@ -63,7 +63,7 @@ module _ (f : Floor) (ws m : List ℕ) (sound : stateVerdict f ws m ≡ passed) 
     unfolding singleCall replyIn memoryIn grantedMemory verdictIn
     step-refused k p h =
         let v = then-passed lent ∙ sym (single-of f ws m (step y)) ∙ h in (
-          rw (← e) (sym (gives-refused (stepped (saidIn (machineOf f ws) m y)) v)),
+          rw (← e) (sym (gives-refused (stepped (stepAnswerIn (machineOf f ws) m y)) v)),
           rw (← e) (sym (when-refused (afterIn (machineOf f ws) m y) v)),
         )
 

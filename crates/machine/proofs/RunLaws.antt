@@ -15,10 +15,10 @@ use Rattle.reference.specs.State.{Machine}
 use Rattle.reference.specs.Ending.{Ending, endsAs, silent, spent, ended}
 use Rattle.reference.specs.Table.{Asked}
 use Rattle.reference.specs.Calls.{ran}
-use Rattle.layout.specs.Numbers.{askedBy}
-use Rattle.layout.specs.InnerSteps.{silentIn}
-use Rattle.layout.specs.InnerRuns.{RanIn, tookOne, runIn, endingIn}
-use Rattle.layout.proofs.RunLaws.{took-in, skipped-in}
+use Rattle.encoding.specs.Numbers.{askedBy}
+use Rattle.encoding.specs.InnerSteps.{silentIn}
+use Rattle.encoding.specs.InnerRuns.{RanIn, tookOne, runIn, endingIn}
+use Rattle.encoding.proofs.RunLaws.{took-in, skipped-in}
 use Rattle.machine.specs.declared.Ran.{Ran}
 use Rattle.machine.specs.declared.Ran.the-variants.{Silent, Spent, Ended, Refused}
 use Rattle.machine.specs.Answers.{ranReply, takenNumber}

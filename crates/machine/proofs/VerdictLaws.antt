@@ -10,12 +10,12 @@ use Rattle.laws.specs.Verdict.{Verdict, passed, _then_, demand, demandEach}
 use Rattle.laws.proofs.VerdictLaws.{then-both, demand-same}
 use Rattle.floor.specs.declared.Floor.{Floor}
 use Rattle.floor.specs.Checks.{checkOf}
-use Rattle.floor.proofs.AnswersLaws.{hands-on, ends-at}
+use Rattle.floor.proofs.AnswersLaws.{then-next, ends-at}
 use Rattle.floor.proofs.LimitsLaws.{limited-bounds, room-passed}
 use Rattle.floor.proofs.Theorems.{theorems}
 use Rattle.reference.specs.Table.{noStep, isNamed, allNamed}
-use Rattle.layout.specs.Numbers.{askedBy}
-use Rattle.layout.specs.Calls.{machineOf, placeVerdict, stateVerdict}
+use Rattle.encoding.specs.Numbers.{askedBy}
+use Rattle.encoding.specs.Calls.{machineOf, placeVerdict, stateVerdict}
 use Rattle.steps.specs.Inner.{Placed}
 use Rattle.steps.proofs.OpenLaws.{named-of}
 use Rattle.machine.specs.Inner.{namedAt}
@@ -64,4 +64,4 @@ unfolding demand _then_
 then-no {b} k p w e h g = rw (← e, not-true b h) g
 
 -- What each answer of a chain of checks is found with.
-pub ruleset chain = (hands-on, ends-at, demand-yes, demand-no, then-yes, then-no)
+pub ruleset chain = (then-next, ends-at, demand-yes, demand-no, then-yes, then-no)

@@ -2,7 +2,7 @@
 use Prim.Native.Nat.{ℕ}
 use Rattle.laws.specs.Verdict.{Outcome, value, refusal, demand, _gives_}
 use Rattle.floor.specs.Checks.{within}
-use Rattle.reference.specs.Quiet.{ceiling}
+use Rattle.reference.specs.Quiescent.{ceiling}
 use Rattle.machine.specs.declared.Most.{Most}
 use Rattle.machine.specs.declared.Most.the-variants.{Steps, Refused as MostRefused}
 

@@ -9,10 +9,10 @@ use Rattle.floor.specs.declared.Floor.{Floor}
 use Rattle.reference.specs.State.{Machine}
 use Rattle.reference.specs.Ending.{Ending, endsAs}
 use Rattle.reference.specs.Table.{Asked, isNamed}
-use Rattle.layout.specs.Numbers.{askedBy}
-use Rattle.layout.specs.InnerSteps.{askedOpenIn}
+use Rattle.encoding.specs.Numbers.{askedBy}
+use Rattle.encoding.specs.InnerSteps.{askedOpenIn}
 use Rattle.steps.specs.Inner.{bare}
-use Rattle.layout.specs.InnerRuns.{RanIn, askedAfterIn, runIn}
+use Rattle.encoding.specs.InnerRuns.{RanIn, askedAfterIn, runIn}
 
 -- The number at a position of a list names a step that is there.
 unfoldable pub namedAt : Floor → List ℕ → ℕ → Bool

@@ -2,7 +2,7 @@
 ghost use mathlib.Core.Path.{_≡_};
 ghost use Prim.Native.Nat.{_≤_, _<_};
 ghost use Rattle.laws.specs.Verdict.{refusal};
-ghost use Rattle.reference.specs.Quiet.{ceiling};
+ghost use Rattle.reference.specs.Quiescent.{ceiling};
 ghost use Rattle.machine.specs.Ceiling.{figureOf};
 use crate::Most;
 use floor::Refusal;

@@ -10,7 +10,7 @@ use Rattle.reference.specs.Step.{Step, plan, deliver, isThere, hasRoom, isEmpty
 use Rattle.reference.specs.Take.{isNews, send, planAs, oldest, newer, deliverTo, effect, counted, afterStep}
 use Rattle.reference.specs.Take.{StepAnswer, kept, sent, delivered, stepAnswer}
 use Rattle.reference.specs.Ranking.{deliveriesFrom, ranking, noneOpen, isSilent}
-use Rattle.reference.specs.Quiet.{ceiling}
+use Rattle.reference.specs.Quiescent.{ceiling}
 use Rattle.orders.specs.Generator.{nextNumber, drawnBy}
 use Rattle.orders.specs.Orders.{Order, first, round, drawn, places, stepAt, openAt, passing, openPlaces}
 use Rattle.orders.specs.Orders.{turn, chosen, startMemory, remembered}

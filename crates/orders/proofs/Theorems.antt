@@ -14,7 +14,7 @@ use Rattle.reference.specs.State.{Machine, State, fresh}
 use Rattle.reference.specs.Step.{Step}
 use Rattle.reference.specs.History.{afterSteps}
 use Rattle.reference.specs.Calls.{after}
-use Rattle.reference.specs.Quiet.{idle, quiet}
+use Rattle.reference.specs.Quiescent.{idle, quiet}
 use Rattle.reference.proofs.Theorems.{theorems as reference-theorems, silent-idle}
 use Rattle.orders.specs.Generator.{nextNumber, drawnBy}
 use Rattle.orders.specs.Orders.{Order, round, startMemory}
@@ -50,7 +50,7 @@ module _ (o : Order) (M : Machine) (seed : ℕ) where
       ap (idle (M .carriers)) same ∙ sym (silent-idle M z d) ∙ ends-silent o M seed
       in
       let answers =
-      reference-theorems .calls .quiet-answers M (callsOf (M .needed) report) (M .carriers) (omega arith) quiescent
+      reference-theorems .calls .quiescent-answers M (callsOf (M .needed) report) (M .carriers) (omega arith) quiescent
       in
       let seen : below (M .carriers) (z .answer) ≡ take (M .carriers) (sequential (M .respond) (M .carriers)) =
       ap (λ (s : State). below (M .carriers) (s .answer)) (sym same) ∙ answers

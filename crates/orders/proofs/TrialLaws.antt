@@ -11,7 +11,7 @@ use Rattle.reference.specs.State.{Machine, State, fresh}
 use Rattle.reference.specs.Take.{afterStep}
 use Rattle.reference.specs.Ranking.{isSilent}
 use Rattle.reference.specs.History.{Reaches, stay, next, afterSteps}
-use Rattle.reference.specs.Quiet.{ceiling}
+use Rattle.reference.specs.Quiescent.{ceiling}
 use Rattle.reference.proofs.RankingLaws.{some-open}
 use Rattle.reference.proofs.Potential.{fresh-potential}
 use Rattle.reference.proofs.CeilingLaws.{step-lowers, reaches-lowers}

@@ -14,7 +14,7 @@ use Rattle.reference.specs.Ranking.{isSilent}
 use Rattle.reference.specs.History.{afterSteps}
 use Rattle.reference.specs.Table.{Call, single, step}
 use Rattle.reference.specs.Calls.{Reply, stepped, replies, after}
-use Rattle.reference.specs.Quiet.{ceiling}
+use Rattle.reference.specs.Quiescent.{ceiling}
 use Rattle.orders.specs.Generator.{nextNumber, drawnBy}
 use Rattle.orders.specs.Orders.{Order, round, places, stepAt, openAt, openPlaces, startMemory}
 use Rattle.orders.specs.Trial.{Entry, trial, stepsIn}

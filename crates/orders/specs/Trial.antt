@@ -6,7 +6,7 @@ use Rattle.reference.specs.State.{Machine, State, fresh}
 use Rattle.reference.specs.Step.{Step}
 use Rattle.reference.specs.Take.{afterStep, StepAnswer, stepAnswer}
 use Rattle.reference.specs.Ranking.{isSilent}
-use Rattle.reference.specs.Quiet.{ceiling}
+use Rattle.reference.specs.Quiescent.{ceiling}
 use Rattle.orders.specs.Orders.{Order, stepAt, chosen, startMemory, remembered}
 
 -- A line of the report: the step taken and its answer.

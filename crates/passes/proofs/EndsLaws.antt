@@ -9,16 +9,16 @@ use mathlib.Core.Path.{_≡_, refl, sym, _∙_}
 use borrow.Author.Tests.{le-leb, lt-leb, eq-eqb, eqb-true}
 use lib.Dec.{leb, eqb}
 use lib.ListN.{getD, replicate}
-use Rattle.words.specs.Rows.{filled}
+use Rattle.bitrows.specs.Rows.{filled}
 use Rattle.laws.proofs.Tests.{and-both, and-fst, and-snd, or-cases, or-inl, or-inr, same-test, not-true-is-false}
-use Rattle.tables.specs.declared.Scene.{Scene}
-use Rattle.tables.specs.Table.{inSet, Tidy}
-use Rattle.tables.specs.Step.{ChangedAt, Empty, Joined}
+use Rattle.layers.specs.declared.SearchGrid.{SearchGrid}
+use Rattle.layers.specs.Table.{inSet, Tidy}
+use Rattle.layers.specs.Step.{ChangedAt, Empty, Joined}
 use Rattle.passes.specs.declared.docks.Docks.{Docks}
 use Rattle.passes.specs.Docks.{holdOf, heldDocks, anyOf, heldAt, arrivableAt, endableAt, EndsAt}
 
 -- The docks with their beats, after the last.
-pub held-made : (g : Scene) (room : List ℕ) (n : ℕ) (cells holds : List ℕ) (k : ℕ) → k ≤ n → n ≤ k →
+pub held-made : (g : SearchGrid) (room : List ℕ) (n : ℕ) (cells holds : List ℕ) (k : ℕ) → k ≤ n → n ≤ k →
     holds ≡ filled (replicate 4 0) (λ j. holdOf g room (getD cells j 0)) k →
     _≡_ {A = Docks} (record { count = n; cells = cells; holds = holds }) (heldDocks g room n cells)
 unfolding heldDocks
@@ -34,22 +34,22 @@ unfolding heldAt
 held-no ds t k h = lt-leb (getD (ds .holds) k 0) t h
 
 -- Before the beat from which the dock can be held it is no arrival, and from then on the set tells.
-pub hold-late : (g : Scene) (s : List ℕ) (ds : Docks) (t k : ℕ) → suc t ≤ getD (ds .holds) k 0 → false ≡ arrivableAt g s ds t k
+pub hold-late : (g : SearchGrid) (s : List ℕ) (ds : Docks) (t k : ℕ) → suc t ≤ getD (ds .holds) k 0 → false ≡ arrivableAt g s ds t k
 unfolding arrivableAt
 hold-late g s ds t k h = rw (held-no ds t k h)
 
-pub hold-past : (g : Scene) (s : List ℕ) (ds : Docks) (t k : ℕ) (x : Bool) → getD (ds .holds) k 0 ≤ t →
+pub hold-past : (g : SearchGrid) (s : List ℕ) (ds : Docks) (t k : ℕ) (x : Bool) → getD (ds .holds) k 0 ≤ t →
     x ≡ inSet g s t (getD (ds .cells) k 0) → x ≡ arrivableAt g s ds t k
 unfolding arrivableAt
 hold-past g s ds t k x h e = e ∙ rw (held-yes ds t k h)
 
 -- What it says that dock k is an arrival at beat t, and that cell c is dock k, which can be held from then on.
-pub arrivable-says : (g : Scene) (s : List ℕ) (ds : Docks) (t k : ℕ) → arrivableAt g s ds t k ≡ true →
+pub arrivable-says : (g : SearchGrid) (s : List ℕ) (ds : Docks) (t k : ℕ) → arrivableAt g s ds t k ≡ true →
     (heldAt ds t k ≡ true) × (inSet g s t (getD (ds .cells) k 0) ≡ true)
 unfolding arrivableAt
 arrivable-says g s ds t k e = (and-fst (heldAt ds t k) _ e, and-snd (heldAt ds t k) _ e)
 
-pub arrivable-holds : (g : Scene) (s : List ℕ) (ds : Docks) (t k : ℕ) → heldAt ds t k ≡ true →
+pub arrivable-holds : (g : SearchGrid) (s : List ℕ) (ds : Docks) (t k : ℕ) → heldAt ds t k ≡ true →
     inSet g s t (getD (ds .cells) k 0) ≡ true → arrivableAt g s ds t k ≡ true
 unfolding arrivableAt
 arrivable-holds g s ds t k h i = and-both h i
@@ -64,11 +64,11 @@ unfolding endableAt
 endable-holds ds t c k h e = and-both h (eq-eqb c (getD (ds .cells) k 0) e)
 
 -- The set of no dock; of one more that can be held; of one more that cannot.
-pub ends-none : (g : Scene) (s : List ℕ) (ds : Docks) (t : ℕ) → Empty g s t → EndsAt g s ds t 0
+pub ends-none : (g : SearchGrid) (s : List ℕ) (ds : Docks) (t : ℕ) → Empty g s t → EndsAt g s ds t 0
 unfolding anyOf
 ends-none g s ds t none c = not-true-is-false (inSet g s t c) (none c)
 
-module _ (g : Scene) (s q : List ℕ) (ds : Docks) (t k : ℕ) (ends : EndsAt g s ds t k) where
+module _ (g : SearchGrid) (s q : List ℕ) (ds : Docks) (t k : ℕ) (ends : EndsAt g s ds t k) where
   pub ends-more : getD (ds .holds) k 0 ≤ t → Joined g s t (getD (ds .cells) k 0) q → EndsAt g q ds t (k + 1)
   unfolding anyOf endableAt
   ends-more h joined c = rw (add-one, held-yes ds t k h) (same-test (inSet g q t c) (anyOf (endableAt ds t c) k || eqb c d) to from)
@@ -86,7 +86,7 @@ module _ (g : Scene) (s q : List ℕ) (ds : Docks) (t k : ℕ) (ends : EndsAt g 
           ⊎-elim (λ (x : anyOf (endableAt ds t c) k ≡ true). joined .kept c (ends c ∙ x))
           (λ (x : eqb c d ≡ true). rw (eqb-true c d x) (joined .holds)) (or-cases (anyOf (endableAt ds t c) k) (eqb c d) e)
 
-pub ends-same : (g : Scene) (s : List ℕ) (ds : Docks) (t k : ℕ) → suc t ≤ getD (ds .holds) k 0 → EndsAt g s ds t k →
+pub ends-same : (g : SearchGrid) (s : List ℕ) (ds : Docks) (t k : ℕ) → suc t ≤ getD (ds .holds) k 0 → EndsAt g s ds t k →
     EndsAt g s ds t (k + 1)
 unfolding anyOf endableAt
 ends-same g s ds t k h ends c = ends c ∙ rw (add-one, held-no ds t k h) (or-false (anyOf (endableAt ds t c) k))
@@ -96,12 +96,12 @@ ends-same g s ds t k h ends c = ends c ∙ rw (add-one, held-no ds t k h) (or-fa
     or-false false = refl
 
 -- The set of one beat changed twice.
-pub changed-twice : {g : Scene} {s p q : List ℕ} {t : ℕ} → ChangedAt g s t p → ChangedAt g p t q → ChangedAt g s t q
+pub changed-twice : {g : SearchGrid} {s p q : List ℕ} {t : ℕ} → ChangedAt g s t p → ChangedAt g p t q → ChangedAt g s t q
 changed-twice a b = record { tidy = b .tidy; other = λ u d n. b .other u d n ∙ a .other u d n }
 
-pub changed-none : {g : Scene} {s : List ℕ} {t : ℕ} → Tidy g s → ChangedAt g s t s
+pub changed-none : {g : SearchGrid} {s : List ℕ} {t : ℕ} → Tidy g s → ChangedAt g s t s
 changed-none tidy = record { tidy = tidy; other = λ u d n. refl }
 
 -- The set of all docks, after the last.
-pub ends-end : (g : Scene) (s : List ℕ) (ds : Docks) (t n k : ℕ) → k ≤ n → n ≤ k → EndsAt g s ds t k → EndsAt g s ds t n
+pub ends-end : (g : SearchGrid) (s : List ℕ) (ds : Docks) (t n k : ℕ) → k ≤ n → n ≤ k → EndsAt g s ds t k → EndsAt g s ds t n
 ends-end g s ds t n k a b ends = let same : k ≡ n = omega arith in rw same at ends

@@ -11,7 +11,7 @@ use Rattle.route.specs.Route.{Neighbours, SharesSide}
 use Rattle.route.specs.Moves.{near}
 use Rattle.laws.proofs.Tests.{and-both, and-fst, and-snd}
 use Rattle.route.proofs.NearLaws.{near-says, near-holds}
-use Rattle.tables.proofs.MemberLaws.{near-row, near-same}
+use Rattle.layers.proofs.MemberLaws.{near-row, near-same}
 use Rattle.passes.specs.Walk.{pick, firstNear}
 
 -- What holds of both, or of the one that is picked.

@@ -11,16 +11,16 @@ use borrow.Author.Tests.{le-leb, lt-leb, lt-ltb, le-ltb, leb-true, ltb-true}
 use borrow.Author.Needs.{needs}
 use lib.Dec.{leb, ltb}
 use Rattle.laws.proofs.Tests.{and-fst, and-same, lt-or-le, not-true-is-false, same-test}
-use Rattle.words.specs.Rows.{has}
-use Rattle.words.proofs.RowsLaws.{place-same}
-use Rattle.tables.specs.declared.Scene.{Scene}
-use Rattle.tables.specs.declared.Place.{Place}
-use Rattle.tables.specs.Table.{Grid, PlaceOf, Tidy, inSet}
-use Rattle.tables.proofs.SetLaws.{set-cell, set-has, set-holds}
+use Rattle.bitrows.specs.Rows.{has}
+use Rattle.bitrows.proofs.RowsLaws.{place-same}
+use Rattle.layers.specs.declared.SearchGrid.{SearchGrid}
+use Rattle.layers.specs.declared.Place.{Place}
+use Rattle.layers.specs.Table.{Grid, PlaceOf, Tidy, inSet}
+use Rattle.layers.proofs.SetLaws.{set-cell, set-has, set-holds}
 use Rattle.passes.specs.Walk.{pick, firstNear, nextOf, stepOf, pathOf}
 use Rattle.passes.proofs.NearCells.{first-holds}
 
-module _ (g : Scene) (s : List ℕ) (t c : ℕ) (p : Place) (grid : Grid g) (tidy : Tidy g s) (at : PlaceOf g c p) where
+module _ (g : SearchGrid) (s : List ℕ) (t c : ℕ) (p : Place) (grid : Grid g) (tidy : Tidy g s) (at : PlaceOf g c p) where
   abbrev w : ℕ
   w = g .width
 
@@ -103,14 +103,14 @@ left-low w c y e h = omega (arith, div-add-mod' c w, ltb-true 0 (c % w) (and-fst
 -- What answers each test of the walk: a digit is a near cell; it is passed over, or taken.
 pub ruleset beside = (needs, passed-over, taken, up-is, left-is, here-is, right-is, down-is)
 
-module _ (g : Scene) (s : List ℕ) (t c : ℕ) where
+module _ (g : SearchGrid) (s : List ℕ) (t c : ℕ) where
   -- The next cell is a cell.
   pub next-inside : 1 ≤ g .width → c < g .cells → nextOf g s t c < g .cells
   unfolding nextOf
   next-inside thin h = first-holds (g .width) c thin (inSet g s t) (λ d. d < g .cells) (λ d. set-cell g s t d) h
 
 -- The cases of a step of the walk.
-module _ (g : Scene) (s : List ℕ) (a t c : ℕ) where
+module _ (g : SearchGrid) (s : List ℕ) (a t c : ℕ) where
   pub step-before : (x : ℕ) → t < a → x ≡ nextOf g s (t + 1) c → x ≡ stepOf g s a t c
   unfolding stepOf pick
   step-before x h e = e ∙ rw (lt-ltb t a h, stepOf)

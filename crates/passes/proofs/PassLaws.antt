@@ -8,14 +8,14 @@ use mathlib.Core.Logic.{⊎-elim}
 use mathlib.Core.Path.{_≡_, refl, sym, ap, fun-ext, _∙_}
 use lib.ListN.{getD}
 use Rattle.laws.proofs.Tests.{true-false-absurd}
-use Rattle.tables.specs.declared.Scene.{Scene}
-use Rattle.tables.specs.Table.{inSet, Tidy}
-use Rattle.tables.specs.Step.{ChangedAt, Alone, Beside, Spread}
+use Rattle.layers.specs.declared.SearchGrid.{SearchGrid}
+use Rattle.layers.specs.Table.{inSet, Tidy}
+use Rattle.layers.specs.Step.{ChangedAt, Alone, Beside, Spread}
 use Rattle.passes.specs.Passes.{Reached, Leading, Earliest}
 use Rattle.passes.specs.declared.docks.Docks.{Docks}
 use Rattle.passes.specs.Docks.{anyOf, arrivableAt, arrivable, EndsAt}
 
-module _ (g : Scene) (room s q : List ℕ) (n : ℕ) (only : ChangedAt g s n q) where
+module _ (g : SearchGrid) (room s q : List ℕ) (n : ℕ) (only : ChangedAt g s n q) where
   -- What is said of other beats stays.
   alone-kept : (t c : ℕ) → (t ≡ n → ⊥) → Alone g s t c → Alone g q t c
   alone-kept t c h x = record { says = λ d e. x .says d (sym (only .other t d h) ∙ e); holds = only .other t c h ∙ x .holds }
@@ -34,10 +34,10 @@ module _ (g : Scene) (room s q : List ℕ) (n : ℕ) (only : ChangedAt g s n q) 
       to-old d (c, e, u) = (c, sym (only .other a c h) ∙ e, u)
 
 -- The forward pass: the start alone, then one more set.
-pub reached-none : (g : Scene) (room s q : List ℕ) (start : ℕ) → ChangedAt g s 0 q → Alone g q 0 start → Reached g room start 0 q
+pub reached-none : (g : SearchGrid) (room s q : List ℕ) (start : ℕ) → ChangedAt g s 0 q → Alone g q 0 start → Reached g room start 0 q
 reached-none g room s q start only alone = record { tidy = only .tidy; begins = alone; spreads = λ t h. absurd (omega arith) }
 
-pub reached-more : (g : Scene) (room s q : List ℕ) (start n : ℕ) → Reached g room start n s → ChangedAt g s (n + 1) q →
+pub reached-more : (g : SearchGrid) (room s q : List ℕ) (start n : ℕ) → Reached g room start n s → ChangedAt g s (n + 1) q →
     Spread g room q n (n + 1) → Reached g room start (n + 1) q
 reached-more g room s q start n x only new =
     record {
@@ -49,20 +49,20 @@ reached-more g room s q start n x only new =
     }
 
 -- Fewer beats are reached as well.
-pub reached-fewer : (g : Scene) (room s : List ℕ) (start n m : ℕ) → m ≤ n → Reached g room start n s → Reached g room start m s
+pub reached-fewer : (g : SearchGrid) (room s : List ℕ) (start n m : ℕ) → m ≤ n → Reached g room start n s → Reached g room start m s
 reached-fewer g room s start n m h x = record { tidy = x .tidy; begins = x .begins; spreads = λ t l. x .spreads t (omega arith) }
 
 -- The backward pass from the set that s has at beat a: q has it then, and its sets from beat n on lead there.
-pub record Led (g : Scene) (room : List ℕ) (a n : ℕ) (s q : List ℕ) : Type 0 where
+pub record Led (g : SearchGrid) (room : List ℕ) (a n : ℕ) (s q : List ℕ) : Type 0 where
   pub tidy : Tidy g q
   pub kept : (c : ℕ) → inSet g q a c ≡ inSet g s a c
   pub spreads : (t : ℕ) → n ≤ t → t < a → Spread g room q (t + 1) t
 
 -- Nothing yet, then one set more before, and the set of beat a being the docks.
-pub led-none : (g : Scene) (room s : List ℕ) (a : ℕ) → Tidy g s → Led g room a a s s
+pub led-none : (g : SearchGrid) (room s : List ℕ) (a : ℕ) → Tidy g s → Led g room a a s s
 led-none g room s a tidy = record { tidy = tidy; kept = λ c. refl; spreads = λ t h l. absurd (omega arith) }
 
-pub led-more : (g : Scene) (room s p q : List ℕ) (a n : ℕ) → n < a → Led g room a (n + 1) s p → ChangedAt g p n q →
+pub led-more : (g : SearchGrid) (room s p q : List ℕ) (a n : ℕ) → n < a → Led g room a (n + 1) s p → ChangedAt g p n q →
     Spread g room q (n + 1) n → Led g room a n s q
 led-more g room s p q a n early x only new =
     record {
@@ -73,22 +73,22 @@ led-more g room s p q a n early x only new =
           (eq-or-lt-of-le h);
     }
 
-pub led-leading : (g : Scene) (room s q : List ℕ) (ds : Docks) (a n : ℕ) → EndsAt g s ds a (ds .count) → Led g room a n s q →
+pub led-leading : (g : SearchGrid) (room s q : List ℕ) (ds : Docks) (a n : ℕ) → EndsAt g s ds a (ds .count) → Led g room a n s q →
     Leading g room ds a n q
 led-leading g room s q ds a n ends x = record { tidy = x .tidy; ends = λ c. x .kept c ∙ ends c; spreads = x .spreads }
 
 -- An arrival of another beat stays one.
-arrivable-kept : (g : Scene) (s q : List ℕ) (ds : Docks) (n t : ℕ) → ChangedAt g s n q → (t ≡ n → ⊥) →
+arrivable-kept : (g : SearchGrid) (s q : List ℕ) (ds : Docks) (n t : ℕ) → ChangedAt g s n q → (t ≡ n → ⊥) →
     arrivable g q ds t ≡ arrivable g s ds t
 unfolding arrivable arrivableAt
 arrivable-kept g s q ds n t only h =
     ap (λ (p : ℕ → Bool). anyOf p (ds .count)) (fun-ext (λ k. rw (only .other t (getD (ds .cells) k 0) h)))
 
 -- No beat below n is an arrival.
-abbrev pub NoneBefore : Scene → List ℕ → Docks → ℕ → Type 0
+abbrev pub NoneBefore : SearchGrid → List ℕ → Docks → ℕ → Type 0
 NoneBefore g s ds n = (b : ℕ) → b < n → arrivable g s ds b ≡ true → ⊥
 
-module _ (g : Scene) (s : List ℕ) (ds : Docks) (n : ℕ) (none : NoneBefore g s ds n) where
+module _ (g : SearchGrid) (s : List ℕ) (ds : Docks) (n : ℕ) (none : NoneBefore g s ds n) where
   -- One beat more.
   none-here : arrivable g s ds n ≡ false → NoneBefore g s ds (n + 1)
   none-here e b h i =

@@ -5,13 +5,13 @@ use mathlib.Core.List.{List}
 use mathlib.Core.Path.{_≡_}
 use lib.Dec.{leb, eqb}
 use lib.ListN.{getD, replicate}
-use Rattle.words.specs.Rows.{filled}
-use Rattle.tables.specs.declared.Scene.{Scene}
-use Rattle.tables.specs.Table.{inSet}
+use Rattle.bitrows.specs.Rows.{filled}
+use Rattle.layers.specs.declared.SearchGrid.{SearchGrid}
+use Rattle.layers.specs.Table.{inSet}
 use Rattle.passes.specs.declared.docks.Docks.{Docks}
 
 -- The first n cells, at most 4, are cells of the grid.
-pub record DocksIn (g : Scene) (n : ℕ) (cells : List ℕ) : Type 0 where
+pub record DocksIn (g : SearchGrid) (n : ℕ) (cells : List ℕ) : Type 0 where
   pub few : n ≤ 4
   pub inside : (k : ℕ) → k < n → getD cells k 0 < g .cells
 
@@ -21,11 +21,11 @@ heldFrom p zero = 0
 heldFrom p (suc n) = elim (p n) [ true ↦ heldFrom p n | false ↦ suc n ]
 
 -- The least beat from which cell c is in the room through the horizon; one past the horizon where it is not there then.
-unfoldable pub holdOf : Scene → List ℕ → ℕ → ℕ
+unfoldable pub holdOf : SearchGrid → List ℕ → ℕ → ℕ
 holdOf g room c = heldFrom (λ t. inSet g room t c) (g .horizon + 1)
 
 -- The docks with the beats from which they can be held in a room.
-unfoldable pub heldDocks : Scene → List ℕ → ℕ → List ℕ → Docks
+unfoldable pub heldDocks : SearchGrid → List ℕ → ℕ → List ℕ → Docks
 heldDocks g room count cells =
     record { count = count; cells = cells; holds = filled (replicate 4 0) (λ k. holdOf g room (getD cells k 0)) count }
 
@@ -43,11 +43,11 @@ unfoldable pub someHeld : Docks → ℕ → Bool
 someHeld ds t = anyOf (heldAt ds t) (ds .count)
 
 -- Dock k can be held from beat t on and is in the set of beat t.
-unfoldable pub arrivableAt : Scene → List ℕ → Docks → ℕ → ℕ → Bool
+unfoldable pub arrivableAt : SearchGrid → List ℕ → Docks → ℕ → ℕ → Bool
 arrivableAt g s ds t k = heldAt ds t k && inSet g s t (getD (ds .cells) k 0)
 
 -- Some dock that can be held from beat t on is in the set of beat t.
-unfoldable pub arrivable : Scene → List ℕ → Docks → ℕ → Bool
+unfoldable pub arrivable : SearchGrid → List ℕ → Docks → ℕ → Bool
 arrivable g s ds t = anyOf (arrivableAt g s ds t) (ds .count)
 
 -- Cell c is dock k, which can be held from beat t on.
@@ -55,9 +55,9 @@ unfoldable pub endableAt : Docks → ℕ → ℕ → ℕ → Bool
 endableAt ds t c k = heldAt ds t k && eqb c (getD (ds .cells) k 0)
 
 -- The set of beat t has those of the first n docks that can be held from then on.
-abbrev pub EndsAt : Scene → List ℕ → Docks → ℕ → ℕ → Type 0
+abbrev pub EndsAt : SearchGrid → List ℕ → Docks → ℕ → ℕ → Type 0
 EndsAt g s ds t n = (c : ℕ) → inSet g s t c ≡ anyOf (endableAt ds t c) n
 
 -- Where the set of beat t has so the first k docks, it has so one more in q.
-abbrev pub OneEnd : Scene → List ℕ → Docks → ℕ → ℕ → List ℕ → Type 0
+abbrev pub OneEnd : SearchGrid → List ℕ → Docks → ℕ → ℕ → List ℕ → Type 0
 OneEnd g s ds t k q = EndsAt g s ds t k → EndsAt g q ds t (k + 1)

@@ -4,24 +4,24 @@ use Prim.Native.Nat.{ℕ, _+_, _≤_, _<_}
 use mathlib.Core.Bool.{Bool, true}
 use mathlib.Core.List.{List}
 use mathlib.Core.Path.{_≡_}
-use Rattle.tables.specs.declared.Scene.{Scene}
-use Rattle.tables.specs.Table.{Tidy}
-use Rattle.tables.specs.Step.{Alone, Spread}
+use Rattle.layers.specs.declared.SearchGrid.{SearchGrid}
+use Rattle.layers.specs.Table.{Tidy}
+use Rattle.layers.specs.Step.{Alone, Spread}
 use Rattle.passes.specs.declared.docks.Docks.{Docks}
 use Rattle.passes.specs.Docks.{EndsAt}
 
 -- The sets of s through beat n are what the start reaches in the room.
-pub record Reached (g : Scene) (room : List ℕ) (start n : ℕ) (s : List ℕ) : Type 0 where
+pub record Reached (g : SearchGrid) (room : List ℕ) (start n : ℕ) (s : List ℕ) : Type 0 where
   pub tidy : Tidy g s
   pub begins : Alone g s 0 start
   pub spreads : (t : ℕ) → t < n → Spread g room s t (t + 1)
 
 -- The same through beat r, or through the horizon where r is past that.
-abbrev pub ReachedTo : Scene → List ℕ → ℕ → ℕ → List ℕ → Type 0
+abbrev pub ReachedTo : SearchGrid → List ℕ → ℕ → ℕ → List ℕ → Type 0
 ReachedTo g room start r s = (n : ℕ) → n ≤ r → n ≤ g .horizon → Reached g room start n s
 
 -- The sets of s from beat n through beat a are what leads in the room to a dock that can be held from beat a on.
-pub record Leading (g : Scene) (room : List ℕ) (ds : Docks) (a n : ℕ) (s : List ℕ) : Type 0 where
+pub record Leading (g : SearchGrid) (room : List ℕ) (ds : Docks) (a n : ℕ) (s : List ℕ) : Type 0 where
   pub tidy : Tidy g s
   pub ends : EndsAt g s ds a (ds .count)
   pub spreads : (t : ℕ) → n ≤ t → t < a → Spread g room s (t + 1) t

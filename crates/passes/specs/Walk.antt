@@ -3,8 +3,8 @@ use Prim.Native.Nat.{ℕ, zero, suc, _+_, _-_, _%_}
 use mathlib.Core.Bool.{Bool, true, false, _&&_}
 use mathlib.Core.List.{List}
 use lib.Dec.{leb, ltb}
-use Rattle.tables.specs.declared.Scene.{Scene}
-use Rattle.tables.specs.Table.{inSet}
+use Rattle.layers.specs.declared.SearchGrid.{SearchGrid}
+use Rattle.layers.specs.Table.{inSet}
 
 -- The first where the test holds, else the second.
 unfoldable pub pick : Bool → ℕ → ℕ → ℕ
@@ -18,14 +18,14 @@ firstNear p w c =
     (pick (p c) c (pick (ltb (c % w + 1) w && p (c + 1)) (c + 1) (pick (p (c + w)) (c + w) c))))
 
 -- The smallest near cell of c in the set of beat t; c where there is none.
-unfoldable pub nextOf : Scene → List ℕ → ℕ → ℕ → ℕ
+unfoldable pub nextOf : SearchGrid → List ℕ → ℕ → ℕ → ℕ
 nextOf g s t c = firstNear (inSet g s t) (g .width) c
 
 -- The cell of the walk after cell c at beat t: before beat a the next one, then c.
-unfoldable pub stepOf : Scene → List ℕ → ℕ → ℕ → ℕ → ℕ
+unfoldable pub stepOf : SearchGrid → List ℕ → ℕ → ℕ → ℕ → ℕ
 stepOf g s a t c = pick (ltb t a) (nextOf g s (t + 1) c) c
 
 -- The cell of the walk at a beat.
-unfoldable pub pathOf : Scene → List ℕ → ℕ → ℕ → ℕ → ℕ
+unfoldable pub pathOf : SearchGrid → List ℕ → ℕ → ℕ → ℕ → ℕ
 pathOf g s start a zero = start
 pathOf g s start a (suc t) = stepOf g s a t (pathOf g s start a t)

@@ -2,13 +2,13 @@
 ghost use mathlib.Core.Path.{_≡_};
 ghost use Prim.Native.Nat.{_≤_, _<_};
 ghost use lib.ListN.{length};
-ghost use Rattle.tables.specs.Table.{Grid, Tidy};
-ghost use Rattle.tables.specs.Step.{ChangedAt};
+ghost use Rattle.layers.specs.Table.{Grid, Tidy};
+ghost use Rattle.layers.specs.Step.{ChangedAt};
 ghost use Rattle.passes.specs.Docks.{DocksIn, holdOf, heldDocks, someHeld, arrivableAt, arrivable, EndsAt, OneEnd};
-use tables::Scene;
-use tables::table::member;
-use tables::table::put_more;
-use tables::table::put_none;
+use layers::SearchGrid;
+use layers::table::member;
+use layers::table::put_more;
+use layers::table::put_none;
 
 // As many cells as a carrier may have docks.
 pub type Cells = [u16; 4];
@@ -21,7 +21,7 @@ pub struct Docks {
 }
 
 // The least beat from which a cell is in the room through the horizon; one past the horizon where it is not there then.
-fn hold_from(g: Scene, room: &[u32], dock: usize) -> usize
+fn hold_from(g: SearchGrid, room: &[u32], dock: usize) -> usize
     requires { ⌜ Grid g × (length (now room) ≡ 2304) × (g .horizon ≤ 63) × (dock < g .cells) ⌝ }
     ensures { λ r. ⌜ r ≡ holdOf g (now (room .entry)) dock ⌝ }
 {
@@ -36,7 +36,7 @@ fn hold_from(g: Scene, room: &[u32], dock: usize) -> usize
 }
 
 // The docks with the beats from which they can be held in a room.
-pub fn hold_docks(g: Scene, room: &[u32], count: usize, cells: Cells) -> Docks
+pub fn hold_docks(g: SearchGrid, room: &[u32], count: usize, cells: Cells) -> Docks
     requires { ⌜ Grid g × (length (now room) ≡ 2304) × (g .horizon ≤ 63) × DocksIn g count cells ⌝ }
     ensures { λ r. ⌜ r ≡ heldDocks g (now (room .entry)) count cells ⌝ }
 {
@@ -70,7 +70,7 @@ pub fn some_held(ds: Docks, t: usize) -> bool
 }
 
 // Whether dock k can be held from beat t on and is in the set of beat t.
-fn arrives_at(g: Scene, sets: &[u32], ds: Docks, t: usize, k: usize) -> bool
+fn arrives_at(g: SearchGrid, sets: &[u32], ds: Docks, t: usize, k: usize) -> bool
     requires { ⌜ Grid g × (length (now sets) ≡ 2304) × (t < 64) × DocksIn g (ds .count) (ds .cells) × (k < ds .count) ⌝ }
     ensures { λ r. ⌜ r ≡ arrivableAt g (now (sets .entry)) ds t k ⌝ }
 {
@@ -81,7 +81,7 @@ fn arrives_at(g: Scene, sets: &[u32], ds: Docks, t: usize, k: usize) -> bool
 }
 
 // Whether some dock that can be held from beat t on is in the set of beat t.
-pub fn arrives(g: Scene, sets: &[u32], ds: Docks, t: usize) -> bool
+pub fn arrives(g: SearchGrid, sets: &[u32], ds: Docks, t: usize) -> bool
     requires { ⌜ Grid g × (length (now sets) ≡ 2304) × (t < 64) × DocksIn g (ds .count) (ds .cells) ⌝ }
     ensures { λ r. ⌜ r ≡ arrivable g (now (sets .entry)) ds t ⌝ }
 {
@@ -97,7 +97,7 @@ pub fn arrives(g: Scene, sets: &[u32], ds: Docks, t: usize) -> bool
 }
 
 // Dock k joins the set of beat a if it can be held from then on.
-fn put_dock(g: Scene, sets: &mut [u32], ds: Docks, a: usize, k: usize)
+fn put_dock(g: SearchGrid, sets: &mut [u32], ds: Docks, a: usize, k: usize)
     requires { ⌜ Grid g × Tidy g (now sets) × (a < 64) × DocksIn g (ds .count) (ds .cells) × (k < ds .count) ⌝ }
     ensures only { λ r. ⌜ ChangedAt g (now (sets .entry)) a (now (sets .exit)) ⌝ }
     ensures more { λ r. ⌜ OneEnd g (now (sets .entry)) ds a k (now (sets .exit)) ⌝ }
@@ -109,7 +109,7 @@ fn put_dock(g: Scene, sets: &mut [u32], ds: Docks, a: usize, k: usize)
 }
 
 // The set of beat a becomes the docks that can be held from then on.
-pub fn put_docks(g: Scene, sets: &mut [u32], ds: Docks, a: usize)
+pub fn put_docks(g: SearchGrid, sets: &mut [u32], ds: Docks, a: usize)
     requires { ⌜ Grid g × Tidy g (now sets) × (a < 64) × DocksIn g (ds .count) (ds .cells) ⌝ }
     ensures only { λ r. ⌜ ChangedAt g (now (sets .entry)) a (now (sets .exit)) ⌝ }
     ensures ends { λ r. ⌜ EndsAt g (now (sets .exit)) ds a (ds .count) ⌝ }

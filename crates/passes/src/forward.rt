@@ -1,17 +1,17 @@
 // The forward pass: from the start to the least arrival that can be held.
 ghost use mathlib.Core.Path.{_≡_};
 ghost use Prim.Native.Nat.{_+_, _≤_, _<_};
-ghost use Rattle.tables.specs.Table.{Grid, Tidy};
+ghost use Rattle.layers.specs.Table.{Grid, Tidy};
 ghost use Rattle.passes.specs.Docks.{DocksIn, arrivable};
 ghost use Rattle.passes.specs.Passes.{ReachedTo, Earliest};
 use crate::docks::Docks;
 use crate::docks::arrives;
-use tables::Scene;
-use tables::step::step;
-use tables::table::put_alone;
+use layers::SearchGrid;
+use layers::step::step;
+use layers::table::put_alone;
 
 // The least arrival, or one beat past the horizon where there is none. The sets become what the start reaches in the room.
-pub fn forward(g: Scene, sets: &mut [u32], room: &[u32], start: usize, ds: Docks) -> usize
+pub fn forward(g: SearchGrid, sets: &mut [u32], room: &[u32], start: usize, ds: Docks) -> usize
     requires { ⌜ Grid g × (g .horizon ≤ 63) × (start < g .cells) × DocksIn g (ds .count) (ds .cells) ⌝ }
     requires { ⌜ Tidy g (now sets) × Tidy g (now room) ⌝ }
     ensures reached { λ r. ⌜ ReachedTo g (now (room .entry)) start r (now (sets .exit)) ⌝ }

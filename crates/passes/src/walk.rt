@@ -4,13 +4,13 @@ ghost use mathlib.Core.Bool.{_&&_};
 ghost use Prim.Native.Nat.{_+_, _-_, _≤_, _<_};
 ghost use lib.Dec.{ltb};
 ghost use lib.ListN.{length, replicate};
-ghost use Rattle.words.specs.Rows.{filled, has as Rows·has};
-ghost use Rattle.tables.specs.Table.{Grid, Tidy};
+ghost use Rattle.bitrows.specs.Rows.{filled, has as Rows·has};
+ghost use Rattle.layers.specs.Table.{Grid, Tidy};
 ghost use Rattle.passes.specs.Walk.{nextOf, stepOf, pathOf};
+use layers::SearchGrid;
+use layers::place_of;
+use layers::table::STRIDE;
 use route::Route;
-use tables::Scene;
-use tables::place_of;
-use tables::table::STRIDE;
 
 // Whether the digit left of column k is in row i.
 fn has_left(s: &[u32], i: usize, k: usize) -> bool
@@ -18,7 +18,7 @@ fn has_left(s: &[u32], i: usize, k: usize) -> bool
     ensures { λ r. ⌜ r ≡ (ltb 0 k && Rows·has (now (s .entry)) i (k - 1)) ⌝ }
 {
     if 0 < k {
-        return words::has(s, i, k - 1);
+        return bitrows::has(s, i, k - 1);
     }
     false
 }
@@ -29,13 +29,13 @@ fn has_right(s: &[u32], i: usize, k: usize, w: usize) -> bool
     ensures { λ r. ⌜ r ≡ (ltb (k + 1) w && Rows·has (now (s .entry)) i (k + 1)) ⌝ }
 {
     if k + 1 < w {
-        return words::has(s, i, k + 1);
+        return bitrows::has(s, i, k + 1);
     }
     false
 }
 
 // The smallest near cell of c in the set of beat t; c itself where there is none.
-fn next(g: Scene, sets: &[u32], t: usize, c: usize) -> usize
+fn next(g: SearchGrid, sets: &[u32], t: usize, c: usize) -> usize
     requires { ⌜ Grid g × Tidy g (now sets) × (t < 64) × (c < g .cells) ⌝ }
     ensures { λ r. ⌜ r ≡ nextOf g (now (sets .entry)) t c ⌝ }
 {
@@ -43,26 +43,26 @@ fn next(g: Scene, sets: &[u32], t: usize, c: usize) -> usize
     let p = place_of(g, c);
     let k = p.column;
     let i = t * STRIDE + 1 + p.row;
-    if words::has(sets, i - 1, k) {
+    if bitrows::has(sets, i - 1, k) {
         return c - w;
     }
     if has_left(sets, i, k) {
         return c - 1;
     }
-    if words::has(sets, i, k) {
+    if bitrows::has(sets, i, k) {
         return c;
     }
     if has_right(sets, i, k, w) {
         return c + 1;
     }
-    if words::has(sets, i + 1, k) {
+    if bitrows::has(sets, i + 1, k) {
         return c + w;
     }
     c
 }
 
 // The cell after cell c at beat t: before beat a the smallest near one of the next set, then c.
-fn follow(g: Scene, sets: &[u32], a: usize, t: usize, c: usize) -> usize
+fn follow(g: SearchGrid, sets: &[u32], a: usize, t: usize, c: usize) -> usize
     requires { ⌜ Grid g × Tidy g (now sets) × (t < 63) × (c < g .cells) ⌝ }
     ensures { λ r. ⌜ (r ≡ stepOf g (now (sets .entry)) a t c) × (r < g .cells) ⌝ }
 {
@@ -73,7 +73,7 @@ fn follow(g: Scene, sets: &[u32], a: usize, t: usize, c: usize) -> usize
 }
 
 // The route from the start along the sets through beat a, where it stays; 0 after the horizon.
-pub fn walk(g: Scene, sets: &[u32], start: usize, a: usize) -> Route
+pub fn walk(g: SearchGrid, sets: &[u32], start: usize, a: usize) -> Route
     requires { ⌜ Grid g × Tidy g (now sets) × (g .horizon ≤ 63) × (start < g .cells) ⌝ }
     ensures { λ r. ⌜ r ≡ filled (replicate 64 0) (pathOf g (now (sets .entry)) start a) (g .horizon + 1) ⌝ }
 {

@@ -8,26 +8,26 @@ use Rattle.floor.specs.declared.Floor.{Floor}
 use Rattle.laws.specs.Memory.{put}
 use Rattle.records.proofs.SeenLaws.{put-before}
 use Rattle.search.specs.Rows.{Searchable}
-use Rattle.tables.specs.Table.{sceneOf}
-use Rattle.tables.specs.Room.{Roomy}
-use Rattle.tables.proofs.GridLaws.{grid-room}
-use Rattle.tables.proofs.RoomLaws.{roomy-same}
+use Rattle.layers.specs.Table.{searchGridOf}
+use Rattle.layers.specs.Room.{IsFreeTable}
+use Rattle.layers.proofs.GridLaws.{grid-room}
+use Rattle.layers.proofs.RoomLaws.{roomy-same}
 
 module _ (f : Floor) (free s : List ℕ) (i k : ℕ) (v : List ℕ) (able : Searchable f free k v) where
   -- The same room in a memory with the same answers in front.
-  room-same : (m q : List ℕ) → ((j : ℕ) → j < 65 * i → getD m j 0 ≡ getD q j 0) → Roomy (sceneOf f) i free m s →
-      Roomy (sceneOf f) i free q s
-  unfolding sceneOf
+  room-same : (m q : List ℕ) → ((j : ℕ) → j < 65 * i → getD m j 0 ≡ getD q j 0) → IsFreeTable (searchGridOf f) i free m s →
+      IsFreeTable (searchGridOf f) i free q s
+  unfolding searchGridOf
   room-same m q same old =
-      roomy-same (sceneOf f) free m q s i (able .width .1) (grid-room (f .width) (f .height) (able .height)) (able .horizon) same old
+      roomy-same (searchGridOf f) free m q s i (able .width .1) (grid-room (f .width) (f .height) (able .height)) (able .horizon) same old
 
   -- The room for the carrier below them.
-  pub room-above : (m : List ℕ) → Roomy (sceneOf f) i free m s → Roomy (sceneOf f) (i + 1 - 1) free m s
+  pub room-above : (m : List ℕ) → IsFreeTable (searchGridOf f) i free m s → IsFreeTable (searchGridOf f) (i + 1 - 1) free m s
   room-above m old =
       let e : i + 1 - 1 ≡ i = omega arith in
       rw e old
 
   -- The room with one more answer behind them.
-  pub room-stored : (m q b : List ℕ) → 65 * i ≤ length m → q ≡ put m (65 * i) b → Roomy (sceneOf f) i free m s →
-      Roomy (sceneOf f) i free q s
+  pub room-stored : (m q b : List ℕ) → 65 * i ≤ length m → q ≡ put m (65 * i) b → IsFreeTable (searchGridOf f) i free m s →
+      IsFreeTable (searchGridOf f) i free q s
   room-stored m q b l e old = rw e (room-same m (put m (65 * i) b) (λ j h. sym (put-before m b (65 * i) j l h)) old)

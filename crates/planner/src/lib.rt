@@ -7,8 +7,8 @@ ghost use lib.ListN.{length};
 ghost use Rattle.floor.specs.Answers.{verdictOf};
 ghost use Rattle.route.specs.Sequential.{sequential};
 ghost use Rattle.search.specs.Rows.{Searchable};
-ghost use Rattle.tables.specs.Table.{sceneOf, Tidy};
-ghost use Rattle.tables.specs.Room.{Roomy};
+ghost use Rattle.layers.specs.Table.{searchGridOf, Tidy};
+ghost use Rattle.layers.specs.Room.{IsFreeTable};
 ghost use Rattle.planner.specs.Plan.{respondWith, planVerdict};
 ghost use Rattle.planner.specs.Records.{answered, planMemory};
 ghost use Rattle.records.specs.Records.{records, stored};
@@ -52,11 +52,11 @@ fn plan_one(
 )
     requires { ⌜ (i < 8) × (65 * i + 65 ≤ length (now answers)) × (65 * i + 65 ≤ length (now shown)) ⌝ }
     requires { ⌜ Searchable f free (i + 1) (now shown) × (records (now shown) i ≡ seen f (records (now answers) i)) ⌝ }
-    requires { ⌜ Roomy (sceneOf f) i free (now shown) (now room) × Tidy (sceneOf f) (now sets) ⌝ }
+    requires { ⌜ IsFreeTable (searchGridOf f) i free (now shown) (now room) × Tidy (searchGridOf f) (now sets) ⌝ }
     ensures answers { λ r. ⌜ now (answers .exit) ≡ answered f free i (now (answers .entry)) ⌝ }
     ensures shown { λ r. ⌜ records (now (shown .exit)) (i + 1) ≡ seen f (records (now (answers .exit)) (i + 1)) ⌝ }
-    ensures room { λ r. ⌜ Roomy (sceneOf f) (i + 1) free (now (shown .exit)) (now (room .exit)) ⌝ }
-    ensures tidy { λ r. ⌜ Tidy (sceneOf f) (now (sets .exit)) ⌝ }
+    ensures room { λ r. ⌜ IsFreeTable (searchGridOf f) (i + 1) free (now (shown .exit)) (now (room .exit)) ⌝ }
+    ensures tidy { λ r. ⌜ Tidy (searchGridOf f) (now (sets .exit)) ⌝ }
 {
     let found = search::route_in(f, free, room, sets, i + 1, shown);
     let outcome = found.outcome;

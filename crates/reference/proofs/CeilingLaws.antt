@@ -10,7 +10,7 @@ use Rattle.reference.specs.Take.{effect, counted, afterStep}
 use Rattle.reference.specs.History.{Reaches, stay, next}
 use Rattle.reference.specs.Table.{Call}
 use Rattle.reference.specs.Calls.{replies}
-use Rattle.reference.specs.Quiet.{repliesCount, ceiling}
+use Rattle.reference.specs.Quiescent.{repliesCount, ceiling}
 use Rattle.reference.proofs.OpenLaws.{plan-within, plan-due, deliver-above, deliver-within, deliver-full}
 use Rattle.reference.proofs.Potential.{potential, weightAt, messages, fresh-potential}
 use Rattle.reference.proofs.ReachLaws.{calls-reach}

@@ -9,7 +9,7 @@ use Rattle.reference.specs.Take.{planAs, deliverTo, effect, counted, aft
 use Rattle.reference.specs.History.{Reaches, stay, next}
 use Rattle.reference.specs.Table.{Call}
 use Rattle.reference.specs.Calls.{replies, after}
-use Rattle.reference.specs.Quiet.{repliesCount}
+use Rattle.reference.specs.Quiescent.{repliesCount}
 use Rattle.reference.proofs.ReachLaws.{calls-reach}
 
 module _ (M : Machine) where

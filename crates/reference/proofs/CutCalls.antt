@@ -9,7 +9,7 @@ use Rattle.reference.specs.State.{Machine, State}
 use Rattle.reference.specs.Run.{run}
 use Rattle.reference.specs.Table.{Asked, runOf, stepsOf, allNamed, verdict}
 use Rattle.reference.specs.Calls.{stateAfter, reply, afterCall, replies, after}
-use Rattle.reference.specs.Quiet.{replyCount, repliesCount}
+use Rattle.reference.specs.Quiescent.{replyCount, repliesCount}
 use Rattle.reference.proofs.TableLaws.{enough-lent, named-front, named-rest, steps-append}
 use Rattle.reference.proofs.CutLaws.{run-cut}
 use Rattle.reference.proofs.ReachLaws.{run-reply, after-passed}

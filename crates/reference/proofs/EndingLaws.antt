@@ -14,7 +14,7 @@ use Rattle.reference.specs.Run.{RunResult}
 use Rattle.reference.specs.Ranking.{isSilent}
 use Rattle.reference.specs.Ending.{silent, spent, endsAs, anyLeft, ending}
 use Rattle.reference.proofs.RankingLaws.{silent-shut}
-use Rattle.reference.proofs.QuietLaws.{shut-idle}
+use Rattle.reference.proofs.QuiescentLaws.{shut-idle}
 
 ends-silent : (t u : Bool) → endsAs t u ≡ silent → t ≡ true
 unfolding endsAs

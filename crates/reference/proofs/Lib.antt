@@ -13,7 +13,7 @@ pub mod CutLaws
 pub mod ReachLaws
 mod CutCalls
 mod CountLaws
-pub mod QuietLaws
+pub mod QuiescentLaws
 mod EndingLaws
 pub mod Invariant
 pub mod BoundLaws

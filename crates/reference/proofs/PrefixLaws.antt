@@ -15,13 +15,13 @@ use Rattle.reference.specs.Take.{planAs, deliverTo, effect, counted, aft
 use Rattle.reference.specs.History.{Reaches, stay, next}
 use Rattle.reference.proofs.RangeLaws.{below-same, below-map}
 use Rattle.reference.proofs.OpenLaws.{nil-empty, plan-due, deliver-above, deliver-full}
-use Rattle.reference.proofs.QuietLaws.{Idle}
+use Rattle.reference.proofs.QuiescentLaws.{Idle}
 use Rattle.reference.proofs.TakeLaws.{chan-above, plan-clears, plan-answer, deliver-due, deliver-answer, deliver-chan}
 use Rattle.reference.proofs.Invariant.{Coherent, view-heard}
 
 module _ (M : Machine) (s : State) where
-  quiet-shorter : (k : ℕ) → Idle (suc k) s → Idle k s
-  quiet-shorter k q =
+  quiescent-shorter : (k : ℕ) → Idle (suc k) s → Idle k s
+  quiescent-shorter k q =
       record { not-due = λ i l. q .not-due i (omega arith); no-message = λ i j a l. q .no-message i j a (omega arith) }
 
   -- Carrier k of a quiet prefix has heard the answers of all above it.
@@ -33,10 +33,10 @@ module _ (M : Machine) (s : State) where
       heard-one j l = view-heard M s h k j l (q .no-message k j l (omega arith)) (q .not-due j (omega arith))
 
   -- Each quiet carrier has answered best against the answers above it, which are the sequential planner's by induction.
-  pub quiet-sequential : Coherent M s → (k : ℕ) → Idle k s → below k (s .answer) ≡ sequential (M .respond) k
+  pub quiescent-sequential : Coherent M s → (k : ℕ) → Idle k s → below k (s .answer) ≡ sequential (M .respond) k
   unfolding below sequential
-  quiet-sequential h zero q = refl
-  quiet-sequential h (suc k) q = go (quiet-sequential h k (quiet-shorter k q))
+  quiescent-sequential h zero q = refl
+  quiescent-sequential h (suc k) q = go (quiescent-sequential h k (quiescent-shorter k q))
     where
       go : below k (s .answer) ≡ sequential (M .respond) k → below (suc k) (s .answer) ≡ sequential (M .respond) (suc k)
       go ahead = rw (h .is-best k (q .not-due k (omega arith)), heard-all h k q, ahead)
@@ -80,17 +80,17 @@ module _ (M : Machine) (s : State) (k : ℕ) where
       (λ (l : i < k). true-false-absurd (nil-empty (s .chan i j) (q .no-message i j (deliver-above M s j i e) l)) (deliver-full M s j i e))
       (λ (l : k ≤ i). counted-same (deliver-same j i l)) (lt-or-le i k)
 
-  same-quiet : {z : State} → Idle k s → SameBelow k s z → Idle k z
-  same-quiet q h =
+  same-quiescent : {z : State} → Idle k s → SameBelow k s z → Idle k z
+  same-quiescent q h =
       record {
         not-due = λ i l. h .due i l ∙ q .not-due i l;
         no-message = λ i j a l. h .chan i j l ∙ q .no-message i j a l;
       }
 
-pub reaches-quiet : (M : Machine) (k : ℕ) {s z : State} {t : ℕ} → Idle k s → Reaches M s z t →
+pub reaches-quiescence : (M : Machine) (k : ℕ) {s z : State} {t : ℕ} → Idle k s → Reaches M s z t →
     Idle k z × ((i : ℕ) → i < k → z .answer i ≡ s .answer i)
-reaches-quiet M k q stay = (q, λ i l. refl)
-reaches-quiet M k {s = s} q (next x e p) =
+reaches-quiescence M k q stay = (q, λ i l. refl)
+reaches-quiescence M k {s = s} q (next x e p) =
     let h = step-same M s k q x e in
-    let r = reaches-quiet M k (same-quiet M s k q h) p in
+    let r = reaches-quiescence M k (same-quiescent M s k q h) p in
     (r .0, λ i l. r .1 i l ∙ h .answer i l)

@@ -12,7 +12,7 @@ use Rattle.reference.specs.Ending.{ending}
 use Rattle.reference.specs.History.{Reaches, stay, next}
 use Rattle.reference.specs.Table.{Asked, step, noStep, Call, single, runOf, stepsOf, lentEnough, openSingle, verdict}
 use Rattle.reference.specs.Calls.{Told, stateAfter, ran, reply, afterCall, replies, after}
-use Rattle.reference.specs.Quiet.{replyCount, repliesCount}
+use Rattle.reference.specs.Quiescent.{replyCount, repliesCount}
 use Rattle.reference.proofs.RunLaws.{run-induction}
 use Rattle.reference.proofs.TableLaws.{single-open}
 

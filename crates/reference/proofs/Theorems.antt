@@ -13,7 +13,7 @@ use Rattle.reference.specs.Step.{Step, plan, deliver, isOpen, isEmpty}
 use Rattle.reference.specs.Ranking.{isSilent}
 use Rattle.reference.specs.Table.{Call}
 use Rattle.reference.specs.Calls.{after}
-use Rattle.reference.specs.Quiet.{idle, quiet}
+use Rattle.reference.specs.Quiescent.{idle, quiet}
 use Rattle.reference.specs.StepClaims.{StepClaims}
 use Rattle.reference.specs.CallClaims.{CallClaims}
 use Rattle.reference.specs.Claims.{Claims}
@@ -26,10 +26,10 @@ use Rattle.reference.proofs.ReachLaws.{calls-reach, after-join}
 use Rattle.reference.proofs.TableLaws.{single-open}
 use Rattle.reference.proofs.CountLaws.{calls-count}
 use Rattle.reference.proofs.RankingLaws.{shut-silent, silent-shut, some-open}
-use Rattle.reference.proofs.QuietLaws.{idle-says, idle-holds, idle-shut, shut-idle}
+use Rattle.reference.proofs.QuiescentLaws.{idle-says, idle-holds, idle-shut, shut-idle}
 use Rattle.reference.proofs.Invariant.{fresh-coherent, reaches-coherent}
 use Rattle.reference.proofs.SequentialLaws.{sequential-prefix}
-use Rattle.reference.proofs.PrefixLaws.{quiet-sequential, reaches-quiet}
+use Rattle.reference.proofs.PrefixLaws.{quiescent-sequential, reaches-quiescence}
 use Rattle.reference.proofs.CeilingLaws.{calls-ceiling}
 use Rattle.reference.proofs.EffectLaws.{plan-does, deliver-does}
 use Rattle.reference.proofs.EndingLaws.{ending-silent, ending-spent, fresh-not-silent}
@@ -51,24 +51,24 @@ module _ (M : Machine) where
       ⊎-elim (λ (e : isSilent M s ≡ true). inr (sym (silent-idle s d) ∙ e)) (λ (e : isSilent M s ≡ false). inl (some-open M s e))
       (true-or-false (isSilent M s))
 
-  quiet-answers : (cs : List Call) (k : ℕ) → k ≤ M .carriers → quiet k (after M fresh cs) ≡ true →
+  quiescent-answers : (cs : List Call) (k : ℕ) → k ≤ M .carriers → quiet k (after M fresh cs) ≡ true →
       below k (after M fresh cs .answer) ≡ take k (sequential (M .respond) (M .carriers))
   unfolding quiet
-  quiet-answers cs k l e =
-      quiet-sequential M z (reaches-coherent M (fresh-coherent M) (calls-reach M fresh cs)) k (idle-says k z e)
+  quiescent-answers cs k l e =
+      quiescent-sequential M z (reaches-coherent M (fresh-coherent M) (calls-reach M fresh cs)) k (idle-says k z e)
       ∙ sym (sequential-prefix (M .respond) k (M .carriers) l)
     where
       z : State
       z = after M fresh cs
 
-  quiet-answers-stay : (cs ds : List Call) (k : ℕ) → quiet k (after M fresh cs) ≡ true →
+  quiescent-answers-stay : (cs ds : List Call) (k : ℕ) → quiet k (after M fresh cs) ≡ true →
       below k (after M fresh (cs ++ ds) .answer) ≡ below k (after M fresh cs .answer)
   unfolding quiet
-  quiet-answers-stay cs ds k e =
+  quiescent-answers-stay cs ds k e =
       let s = after M fresh cs in
       let z = after M s ds in
       rw (after-join M fresh cs ds)
-      (below-same k (z .answer) (s .answer) (reaches-quiet M k (idle-says k s e) (calls-reach M s ds) .1))
+      (below-same k (z .answer) (s .answer) (reaches-quiescence M k (idle-says k s e) (calls-reach M s ds) .1))
 
 -- What openness means.
 module _ (M : Machine) (s : State) where
@@ -115,8 +115,8 @@ call-claims =
       ceiling-holds = calls-ceiling;
       cut-state = cut-state;
       cut-taken = cut-taken;
-      quiet-answers = quiet-answers;
-      quiet-answers-stay = quiet-answers-stay;
+      quiescent-answers = quiescent-answers;
+      quiescent-answers-stay = quiescent-answers-stay;
       calls-in-range = λ M cs. reaches-in-range M (fresh-in-range M) (calls-reach M fresh cs);
       calls-throughout = λ M P p best cs. reaches-throughout (M .carriers) P M best (fresh-throughout (M .carriers) P p) (calls-reach M fresh cs);
     }

@@ -17,7 +17,7 @@ use Rattle.reference.specs.History.{Reaches}
 use Rattle.reference.specs.Table.{Asked, step, Call, single, runOf, stepsOf, allNamed, verdict}
 use Rattle.reference.specs.Refused.{RefusedWith}
 use Rattle.reference.specs.Calls.{replies, after}
-use Rattle.reference.specs.Quiet.{quiet, repliesCount, ceiling}
+use Rattle.reference.specs.Quiescent.{quiet, repliesCount, ceiling}
 use Rattle.reference.specs.Bounds.{InRange, Throughout}
 
 pub record CallClaims : Type 1 where
@@ -41,10 +41,10 @@ pub record CallClaims : Type 1 where
       repliesCount (replies M s (runOf lent (xs ++ ys) b ∷ [])) ≡
       repliesCount (replies M s (runOf lent xs b ∷ runOf lent ys (b - run M s (stepsOf xs) b .taken) ∷ []))
   -- If the first k carriers are quiet after a list of calls, their answers are the sequential planner's first k.
-  pub quiet-answers : (M : Machine) (cs : List Call) (k : ℕ) → k ≤ M .carriers → quiet k (after M fresh cs) ≡ true →
+  pub quiescent-answers : (M : Machine) (cs : List Call) (k : ℕ) → k ≤ M .carriers → quiet k (after M fresh cs) ≡ true →
       below k (after M fresh cs .answer) ≡ take k (sequential (M .respond) (M .carriers))
   -- After every longer list their answers are the same.
-  pub quiet-answers-stay : (M : Machine) (cs ds : List Call) (k : ℕ) → quiet k (after M fresh cs) ≡ true →
+  pub quiescent-answers-stay : (M : Machine) (cs ds : List Call) (k : ℕ) → quiet k (after M fresh cs) ≡ true →
       below k (after M fresh (cs ++ ds) .answer) ≡ below k (after M fresh cs .answer)
   -- After every list of calls each channel has at most depth messages, and the count is at most 999,999.
   pub calls-in-range : (M : Machine) (cs : List Call) → InRange M (after M fresh cs)

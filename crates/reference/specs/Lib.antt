@@ -12,7 +12,7 @@ pub mod History
 pub mod Table
 pub mod Refused
 pub mod Calls
-pub mod Quiet
+pub mod Quiescent
 pub mod Bounds
 pub mod Meeting
 pub mod StepClaims

@@ -16,7 +16,7 @@ use Rattle.reference.specs.Ranking.{isSilent}
 use Rattle.reference.specs.Ending.{silent, spent, ending}
 use Rattle.reference.specs.History.{FaithfulRun, Joined}
 use Rattle.reference.specs.Refused.{Waits}
-use Rattle.reference.specs.Quiet.{idle}
+use Rattle.reference.specs.Quiescent.{idle}
 
 pub record StepClaims : Type 0 where
   -- Plan i is open exactly if i is due and every channel from i has fewer than depth messages; a delivery exactly if a message is there.

@@ -4,7 +4,7 @@ use mathlib.Core.List.{List, List·Memᴰ}
 use mathlib.Core.Logic.{inl, inr}
 use mathlib.Core.Path.{_≡_, sym, _∙_}
 use Rattle.route.specs.Route.{cellAt, route, View, heard, Task}
-use Rattle.route.specs.Conflict.{VertexConflict, ClearOfView, ClearOf, Silent}
+use Rattle.route.specs.Conflict.{VertexConflict, ClearOfView, ClearOf, ShowsNoRoute}
 use Rattle.route.specs.Best.{IsRoute, HeldFrom, Arrives, Admissible}
 use Rattle.route.specs.Search.{best}
 use Rattle.route.specs.Arrival.{arrivalOf}
@@ -23,8 +23,8 @@ answered-route : (task : Task) (vs : List View) (r : List ℕ) → Admissible ta
     IsRoute task r × Arrives (task .horizon) r (arrivalOf r (task .horizon))
 answered-route task vs r adm = (adm .is-route, arrival-arrives r (task .horizon))
 
-silent-clear : (H : ℕ) (v : View) → Silent v → (r : List ℕ) → ClearOfView H r v
-unfolding Silent ClearOfView
+silent-clear : (H : ℕ) (v : View) → ShowsNoRoute v → (r : List ℕ) → ClearOfView H r v
+unfolding ShowsNoRoute ClearOfView
 silent-clear H v (inl e) r = rw e tt
 silent-clear H v (inr e) r = rw e tt
 

@@ -7,7 +7,7 @@ use mathlib.Core.Logic.{_↔_}
 use mathlib.Core.Path.{_≡_}
 use lib.Dec.{eqb}
 use Rattle.route.specs.Route.{cellAt, Answer, none, route, View, heard, Task}
-use Rattle.route.specs.Conflict.{Silent}
+use Rattle.route.specs.Conflict.{ShowsNoRoute}
 use Rattle.route.specs.Best.{IsRoute, HeldFrom, Arrives, Admissible, Best}
 use Rattle.route.specs.Search.{best}
 use Rattle.route.specs.Arrival.{arrivalOf}
@@ -32,7 +32,7 @@ pub record Claims : Type 0 where
   pub dock-occupied : (task : Task) (vs : List View) (r q : List ℕ) (a t : ℕ) → task .horizon ≤ 63 → List·Memᴰ (heard (route q)) vs →
       HeldFrom (task .horizon) q a → best task vs ≡ route r → a ≤ t → t ≤ task .horizon → cellAt r t ≡ cellAt q (task .horizon) → ⊥
   -- A view that shows no route may be left out; a heard none does show one once it is seen as a route (`seenAs`, crate `records`).
-  pub silent-left-out : (task : Task) (vs ws : List View) (v : View) → task .horizon ≤ 63 → Silent v →
+  pub silent-left-out : (task : Task) (vs ws : List View) (v : View) → task .horizon ≤ 63 → ShowsNoRoute v →
       best task (vs ++ (v ∷ ws)) ≡ best task (vs ++ ws)
   -- The answer is none exactly if it is none with each of the docks alone.
   pub none-alone : (task : Task) (vs : List View) → task .horizon ≤ 63 →

@@ -34,8 +34,8 @@ pub record ConflictFree (H : ℕ) (a b : List ℕ) : Type 0 where
   pub no-following : (t : ℕ) → t < H → FollowingConflict a b t → ⊥
 
 -- The view shows no route.
-unfoldable pub Silent : View → Type 0
-Silent v = (v ≡ unheard) ⊎ (v ≡ heard none)
+unfoldable pub ShowsNoRoute : View → Type 0
+ShowsNoRoute v = (v ≡ unheard) ⊎ (v ≡ heard none)
 
 -- Route r has no conflict with the route that a view shows. Not heard occupies nothing; what a heard none occupies is said above, where
 -- it is seen as a route (`seenAs`, crate `records`).

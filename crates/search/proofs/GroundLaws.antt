@@ -7,7 +7,7 @@ use mathlib.Core.List.{List}
 use mathlib.Core.Path.{_≡_, refl, _∙_}
 use lib.ListN.{getD}
 use lib.Pow.{pow-lt, pow-mono, pow-pos}
-use Rattle.words.specs.Rows.{droppedAt}
+use Rattle.bitrows.specs.Rows.{droppedAt}
 use Rattle.search.specs.Rows.{wallsOut}
 
 -- The word before a run of ones, as the code makes it.

@@ -17,11 +17,11 @@ use Rattle.route.specs.Route.{View}
 use Rattle.route.specs.Search.{best}
 use Rattle.laws.proofs.Tests.{true-false-absurd, and-both, and-fst, and-snd, lt-or-le, same-test}
 use Rattle.route.proofs.FreeLaws.{best-free}
-use Rattle.words.specs.Words.{digit}
-use Rattle.words.specs.Rows.{has, Clean}
-use Rattle.words.proofs.DigitLaws.{digit-ones, digit-zero}
-use Rattle.words.proofs.RowsLaws.{has-dropped-at, fewer-at, length-at}
-use Rattle.words.proofs.FillLaws.{length-filled, filled-in, filled-out}
+use Rattle.bitrows.specs.Words.{digit}
+use Rattle.bitrows.specs.Rows.{has, Clean}
+use Rattle.bitrows.proofs.DigitLaws.{digit-ones, digit-zero}
+use Rattle.bitrows.proofs.RowsLaws.{has-dropped-at, fewer-at, length-at}
+use Rattle.bitrows.proofs.FillLaws.{length-filled, filled-in, filled-out}
 use Rattle.search.specs.Task.{taskOf, taskOfRows}
 use Rattle.search.specs.Rows.{gridRows, wallsOut, FreeRows, freeRowsOf}
 

@@ -9,11 +9,11 @@ use Rattle.floor.specs.Checks.{startOf, countOf, docksOf, dockOf, isDock, among
 use Rattle.route.specs.Route.{Answer, View}
 use Rattle.route.specs.Moves.{standable}
 use Rattle.route.specs.Search.{best}
-use Rattle.words.specs.Rows.{has, Clean}
-use Rattle.tables.specs.declared.Scene.{Scene}
-use Rattle.tables.specs.Table.{sceneOf, Fits, Tidy}
-use Rattle.tables.specs.Room.{standsAt, Roomy}
-use Rattle.tables.proofs.GridLaws.{scene-grid}
+use Rattle.bitrows.specs.Rows.{has, Clean}
+use Rattle.layers.specs.declared.SearchGrid.{SearchGrid}
+use Rattle.layers.specs.Table.{searchGridOf, Fits, Tidy}
+use Rattle.layers.specs.Room.{standsAt, IsFreeTable}
+use Rattle.layers.proofs.GridLaws.{scene-grid}
 use Rattle.passes.specs.Docks.{DocksIn}
 use Rattle.records.specs.Records.{records, viewsOf}
 use Rattle.records.specs.Seen.{seen}
@@ -23,39 +23,39 @@ use Rattle.search.specs.Seek.{BestIn}
 use Rattle.search.specs.Task.{taskOfRows}
 use Rattle.search.specs.Rows.{Searchable}
 
-module _ {f : Floor} {rows : List ℕ} {i : ℕ} {m : List ℕ} (s : Searchable f rows i m) {g : Scene} (q : g ≡ sceneOf f) where
+module _ {f : Floor} {rows : List ℕ} {i : ℕ} {m : List ℕ} (s : Searchable f rows i m) {g : SearchGrid} (q : g ≡ searchGridOf f) where
   -- The scene of a checked floor fits the tables.
   pub scene-fits : Fits g (i - 1) m
-  unfolding sceneOf
+  unfolding searchGridOf
   scene-fits =
       rw q (record { grid = scene-grid f (s .width .0) (s .width .1) (s .height); short = s .horizon; lent = s .lent })
 
   pub scene-clean : Clean (g .width) (g .cells) rows
-  unfolding sceneOf
+  unfolding searchGridOf
   scene-clean = rw q (s .clean)
 
   -- Start and docks are cells of it.
   pub scene-start : startOf f (i - 1) < g .cells
-  unfolding sceneOf
+  unfolding searchGridOf
   scene-start = rw q (s .start)
 
   pub scene-docks : {cells : List ℕ} → cells ≡ docksOf f (i - 1) → DocksIn g (countOf f (i - 1)) cells
-  unfolding sceneOf dockOf
+  unfolding searchGridOf dockOf
   scene-docks at = rw (q, at) (record { few = s .few; inside = s .docks })
 
 -- A room of the scene is one of the floor's, and a tidy table too.
-pub room-scene : (f : Floor) {g : Scene} {k : ℕ} {rows m room : List ℕ} → g ≡ sceneOf f → Roomy g k rows m room →
-    Roomy (sceneOf f) k rows m room
+pub room-scene : (f : Floor) {g : SearchGrid} {k : ℕ} {rows m room : List ℕ} → g ≡ searchGridOf f → IsFreeTable g k rows m room →
+    IsFreeTable (searchGridOf f) k rows m room
 room-scene f q r = rw q at r
 
-pub tidy-scene : (f : Floor) {g : Scene} {s : List ℕ} → g ≡ sceneOf f → Tidy g s → Tidy (sceneOf f) s
+pub tidy-scene : (f : Floor) {g : SearchGrid} {s : List ℕ} → g ≡ searchGridOf f → Tidy g s → Tidy (searchGridOf f) s
 tidy-scene f q t = rw q at t
 
 -- What is best in such a room is the best answer against the views.
-pub best-views : (f : Floor) (rows : List ℕ) (i : ℕ) (m room : List ℕ) (g : Scene) (cells : List ℕ) (r : Found) → g ≡ sceneOf f →
-    cells ≡ docksOf f (i - 1) → Roomy (sceneOf f) (i - 1) rows m room →
+pub best-views : (f : Floor) (rows : List ℕ) (i : ℕ) (m room : List ℕ) (g : SearchGrid) (cells : List ℕ) (r : Found) → g ≡ searchGridOf f →
+    cells ≡ docksOf f (i - 1) → IsFreeTable (searchGridOf f) (i - 1) rows m room →
     BestIn g room (startOf f (i - 1)) (among cells (countOf f (i - 1))) r → Says r (answered (best (taskOfRows f rows i) (viewsOf m i)))
-unfolding taskOfRows viewsOf sceneOf standsAt standable isDock
+unfolding taskOfRows viewsOf searchGridOf standsAt standable isDock
 best-views f rows i m room g cells r q at roomy h =
     (rw (q, at) at h) (λ c. has rows (c / f .width) (c % f .width)) (records m (i - 1)) (roomy .agrees)
 

@@ -18,12 +18,12 @@ use Rattle.route.specs.Moves.{near, standable, allowed, startClear}
 use Rattle.route.specs.Search.{Rule, best}
 use Rattle.route.proofs.Sets.{Sets, Reached as Came, Leading as Leads, Forward, Ending, Reaches, Backward, Greedy}
 use Rattle.route.proofs.SetsBest.{Found, found-best, not-found-best, start-taken-best, docks-shut-best}
-use Rattle.words.specs.Rows.{filled}
-use Rattle.words.proofs.FillLaws.{length-filled, filled-in, filled-out}
-use Rattle.tables.specs.declared.Scene.{Scene}
-use Rattle.tables.specs.Table.{inSet}
-use Rattle.tables.specs.Step.{Beside, Spread}
-use Rattle.tables.proofs.MemberLaws.{near-same, near-turn}
+use Rattle.bitrows.specs.Rows.{filled}
+use Rattle.bitrows.proofs.FillLaws.{length-filled, filled-in, filled-out}
+use Rattle.layers.specs.declared.SearchGrid.{SearchGrid}
+use Rattle.layers.specs.Table.{inSet}
+use Rattle.layers.specs.Step.{Beside, Spread}
+use Rattle.layers.proofs.MemberLaws.{near-same, near-turn}
 use Rattle.passes.specs.declared.docks.Docks.{Docks}
 use Rattle.passes.specs.Docks.{holdOf, heldDocks, heldAt, someHeld, arrivableAt, arrivable, endableAt}
 use Rattle.passes.specs.Passes.{Reached, Leading, Earliest}
@@ -35,7 +35,7 @@ use Rattle.passes.proofs.NearCells.{first-best}
 use Rattle.passes.proofs.NextLaws.{step-before, step-after}
 use Rattle.search.specs.Seek.{taskIn, Agrees}
 
-module _ (g : Scene) (room : List ℕ) (start count : ℕ) (cells : List ℕ) (free : ℕ → Bool) (vs : List View)
+module _ (g : SearchGrid) (room : List ℕ) (start count : ℕ) (cells : List ℕ) (free : ℕ → Bool) (vs : List View)
     (agrees : Agrees g room (taskIn g start (among cells count) free) vs) (short : g .horizon ≤ 63) (thin : 1 ≤ g .width) (few : count ≤ 4)
   where
     abbrev task : Task

@@ -9,7 +9,7 @@ use lib.ListN.{length, getD, replicate, length-replicate, getD-replicate, List·
 use Rattle.floor.specs.declared.Floor.{Floor}
 use Rattle.floor.specs.Checks.{startOf}
 use Rattle.route.specs.Route.{cellAt, Answer, none, route, View, unheard, heard, Task}
-use Rattle.route.specs.Conflict.{Silent}
+use Rattle.route.specs.Conflict.{ShowsNoRoute}
 use Rattle.route.specs.Search.{best}
 use Rattle.route.proofs.Theorems.{theorems}
 use Rattle.records.specs.Seen.{parked, seenAs, seenFrom, seen}
@@ -102,8 +102,8 @@ unheard-apart : (f : Floor) (vs us : List View) → seen f (vs ++ (unheard ∷ u
 unfolding seen seenFrom seenAs
 unheard-apart f vs us = from-apart f 0 vs (unheard ∷ us) ∙ ap (λ (k : ℕ). seenFrom f 0 vs ++ seenFrom f k (unheard ∷ us)) (omega arith)
 
-unheard-silent : Silent unheard
-unfolding Silent
+unheard-silent : ShowsNoRoute unheard
+unfolding ShowsNoRoute
 unheard-silent = inl refl
 
 pub unheard-out : (f : Floor) (task : Task) (vs us : List View) → task .horizon ≤ 63 →

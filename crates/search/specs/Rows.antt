@@ -7,7 +7,7 @@ use Rattle.floor.specs.declared.Floor.{Floor}
 use Rattle.floor.specs.Checks.{startOf, countOf, dockOf}
 use Rattle.route.specs.Route.{View}
 use Rattle.route.specs.Search.{best}
-use Rattle.words.specs.Rows.{droppedAt, filled, Clean}
+use Rattle.bitrows.specs.Rows.{droppedAt, filled, Clean}
 use Rattle.search.specs.Task.{taskOf, taskOfRows}
 
 -- The rows of a grid.

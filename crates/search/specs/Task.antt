@@ -5,7 +5,7 @@ use mathlib.Core.List.{List}
 use Rattle.floor.specs.declared.Floor.{Floor}
 use Rattle.floor.specs.Checks.{startOf, isDock, among}
 use Rattle.route.specs.Route.{Task}
-use Rattle.words.specs.Rows.{has}
+use Rattle.bitrows.specs.Rows.{has}
 
 -- The task of carrier i on floor f, with the cells that are no wall.
 abbrev pub taskWith : Floor → ℕ → (ℕ → Bool) → Task

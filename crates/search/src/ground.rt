@@ -38,11 +38,11 @@ pub fn free_rows(f: Floor, walls: &[u16]) -> Rows
     let w = f.width as usize;
     let h = f.height as usize;
     let n = f.walls as usize;
-    let scale = words::scale(w);
+    let scale = bitrows::scale(w);
     let mut s = grid_rows(w, h);
     let mut j: usize = 0;
     while j < n {
-        words::drop_at(&mut s, 0, w, scale, w * h, walls[j] as usize);
+        bitrows::drop_at(&mut s, 0, w, scale, w * h, walls[j] as usize);
         j += 1;
     }
     s

@@ -5,15 +5,15 @@ use floor::Checked;
 use floor::Floor;
 use floor::Refusal;
 pub use ground::free_rows;
+use layers::SearchGrid;
+use layers::room;
+use layers::search_grid_of;
+use layers::table;
 use passes::backward;
 use passes::docks;
 use passes::forward;
 use passes::walk;
 use route::Route;
-use tables::Scene;
-use tables::room;
-use tables::scene_of;
-use tables::table;
 ghost use mathlib.Core.Path.{_≡_};
 ghost use Prim.Native.Nat.{ℕ, _+_, _-_, _*_, _≤_, _<_};
 ghost use lib.ListN.{length, replicate};
@@ -26,9 +26,9 @@ ghost use Rattle.route.specs.Search.{best};
 ghost use Rattle.search.specs.Answers.{answered, Says};
 ghost use Rattle.search.specs.Seek.{BestIn};
 ghost use Rattle.passes.specs.Docks.{DocksIn};
-ghost use Rattle.words.specs.Rows.{Clean};
-ghost use Rattle.tables.specs.Table.{sceneOf, Grid, Tidy};
-ghost use Rattle.tables.specs.Room.{Roomy, OneMore};
+ghost use Rattle.bitrows.specs.Rows.{Clean};
+ghost use Rattle.layers.specs.Table.{searchGridOf, Grid, Tidy};
+ghost use Rattle.layers.specs.Room.{IsFreeTable, OneMore};
 ghost use Rattle.search.specs.Search.{requestOf, searchOf};
 ghost use Rattle.search.specs.Task.{taskOfRows};
 ghost use Rattle.records.specs.Records.{viewsOf};
@@ -76,7 +76,7 @@ fn refused(x: Refusal) -> Found
 
 // The best route from the start to any of the first `count` cells in a room; the sets are a table to work in.
 fn seek(
-    g: Scene,
+    g: SearchGrid,
     sets: &mut [u32],
     room: &[u32],
     start: usize,
@@ -116,15 +116,22 @@ pub fn route_in(
     carrier: u16,
     views: &[u16],
 ) -> Found
-    requires { ⌜ Searchable f free carrier (now views) × Tidy (sceneOf f) (now sets) ⌝ }
-    requires { ⌜ Roomy (sceneOf f) (carrier - 1) free (now views) (now room) ⌝ }
-    ensures tidy { λ r. ⌜ Tidy (sceneOf f) (now (sets .exit)) ⌝ }
+    requires { ⌜ Searchable f free carrier (now views) × Tidy (searchGridOf f) (now sets) ⌝ }
+    requires { ⌜ IsFreeTable (searchGridOf f) (carrier - 1) free (now views) (now room) ⌝ }
+    ensures tidy { λ r. ⌜ Tidy (searchGridOf f) (now (sets .exit)) ⌝ }
     ensures best { λ r. ⌜ Says r (answered (best (taskOfRows f free carrier) (viewsOf (now (views .entry)) carrier))) ⌝ }
 {
     let k = carrier as usize - 1;
     let start = f.starts[k] as usize;
     let count = f.counts[k] as usize;
-    seek(scene_of(f), sets, room, start, count, floor::docks_of(f, k))
+    seek(
+        search_grid_of(f),
+        sets,
+        room,
+        start,
+        count,
+        floor::docks_of(f, k),
+    )
 }
 
 // The best route of a carrier of a checked floor, with its free cells as rows, against the views as they stand.
@@ -133,7 +140,13 @@ fn best_against(f: Floor, free: Rows, carrier: u16, views: &[u16]) -> Found
     ensures { λ r. ⌜ Says r (answered (best (taskOfRows f free carrier) (viewsOf (now (views .entry)) carrier))) ⌝ }
 {
     let mut room = table::empty();
-    room::make(scene_of(f), carrier as usize - 1, &mut room, &free, views);
+    room::make(
+        search_grid_of(f),
+        carrier as usize - 1,
+        &mut room,
+        &free,
+        views,
+    );
     let mut sets = table::empty();
     route_in(f, free, &room, &mut sets, carrier, views)
 }
@@ -206,7 +219,7 @@ pub fn no_room() -> [u32; table::WORDS]
 pub fn fill_room(f: Floor, free: Rows, room: &mut [u32])
     requires { ⌜ (1 ≤ f .width) × (f .width ≤ 32) × (f .height ≤ 32) × (f .horizon ≤ 63) ⌝ }
     requires { ⌜ (length free ≡ 32) × Clean (f .width) (f .width * f .height) free × (now room ≡ replicate 2304 0) ⌝ }
-    ensures { λ r. ⌜ ((m : List ℕ) → Roomy (sceneOf f) 0 free m (now (room .exit))) ⌝ }
+    ensures { λ r. ⌜ ((m : List ℕ) → IsFreeTable (searchGridOf f) 0 free m (now (room .exit))) ⌝ }
 {
     room::fill_free(room, &free, f.horizon as usize + 1);
 }
@@ -214,8 +227,8 @@ pub fn fill_room(f: Floor, free: Rows, room: &mut [u32])
 // Takes the cells of view j, besides those of the views before it, out of the room.
 pub fn take_route(f: Floor, room: &mut [u32], views: &[u16], j: usize)
     requires { ⌜ (1 ≤ f .width) × (f .width ≤ 32) × (f .height ≤ 32) × (f .horizon ≤ 63) ⌝ }
-    requires { ⌜ (65 * j + 65 ≤ length (now views)) × Tidy (sceneOf f) (now room) ⌝ }
-    ensures { λ r. ⌜ OneMore (sceneOf f) j (now (views .entry)) (now (room .entry)) (now (room .exit)) ⌝ }
+    requires { ⌜ (65 * j + 65 ≤ length (now views)) × Tidy (searchGridOf f) (now room) ⌝ }
+    ensures { λ r. ⌜ OneMore (searchGridOf f) j (now (views .entry)) (now (room .entry)) (now (room .exit)) ⌝ }
 {
-    room::take_one(scene_of(f), room, views, j);
+    room::take_one(search_grid_of(f), room, views, j);
 }

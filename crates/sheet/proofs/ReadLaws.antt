@@ -14,7 +14,7 @@ use Rattle.floor.specs.Accepted.{Counted}
 use Rattle.floor.specs.Fresh.{freshFloor}
 use Rattle.floor.proofs.Theorems.{theorems}
 use Rattle.laws.proofs.VerdictLaws.{then-both, when-passed, when-refused}
-use Rattle.floor.proofs.AnswersLaws.{refuses, passes, hands-on}
+use Rattle.floor.proofs.AnswersLaws.{refuses, passes, then-next}
 use Rattle.floor.proofs.LimitsLaws.{room-passed}
 use Rattle.laws.specs.Memory.{put}
 use Rattle.sheet.specs.Text.{sheetOf}
@@ -44,7 +44,7 @@ pub own-then-room : {a : Checked} (text : List ℕ) (f : Floor) (room : ℕ) (u 
     f ≡ whenPassed (formOf text) (floorAt text) freshFloor → a ≡ Passed → u ≡ roomOf (f .walls) room → u ≡ readVerdict text room
 unfolding readVerdict
 own-then-room text f room u told own ok h =
-    hands-on told ok (h ∙ ap (λ (g : Floor). roomOf (g .walls) room) (own-floor text f own (passes told ok)))
+    then-next told ok (h ∙ ap (λ (g : Floor). roomOf (g .walls) room) (own-floor text f own (passes told ok)))
 
 -- A sheet that is read is in good form, its floor passes 3 to 6, and its walls have room.
 pub record ReadTells (text : List ℕ) (room : ℕ) : Type 0 where

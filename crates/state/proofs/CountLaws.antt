@@ -8,7 +8,7 @@ use borrow.Author.Tests.{lt-ltb, le-ltb}
 use borrow.Author.Needs.{needs}
 use Rattle.laws.specs.Memory.{put}
 use Rattle.laws.proofs.PutLaws.{put-one, put-next}
-use Rattle.layout.specs.InnerSteps.{ticked}
+use Rattle.encoding.specs.InnerSteps.{ticked}
 
 -- Two numbers, one behind the other.
 pub put-two : (m : List ℕ) (at next a b : ℕ) → at + 1 ≡ next → next < length m → set (set m at a) next b ≡ put m at (a ∷ (b ∷ []))

@@ -11,10 +11,10 @@ use Rattle.laws.specs.Memory.{put}
 use Rattle.laws.proofs.PutLaws.{put-none, put-next}
 use Rattle.records.specs.Records.{recordOf, fit, slot}
 use Rattle.reference.specs.State.{fresh}
-use Rattle.layout.proofs.SplitLaws.{carrier-length}
-use Rattle.layout.proofs.StateLaws.{carriers-length}
-use Rattle.layout.specs.Places.{pairsBefore, stateSize}
-use Rattle.layout.specs.Encode.{flag, slots, channelBlock, carrierBlock, countBlock, blocks, pairs, encode}
+use Rattle.encoding.proofs.SplitLaws.{carrier-length}
+use Rattle.encoding.proofs.StateLaws.{carriers-length}
+use Rattle.encoding.specs.Places.{pairsBefore, stateSize}
+use Rattle.encoding.specs.Encode.{flag, slots, channelBlock, carrierBlock, countBlock, blocks, pairs, encode}
 
 pub carrier-is : (i : ℕ) → 0 ∷ (1 ∷ (1 ∷ replicate 64 0)) ≡ carrierBlock fresh i
 unfolding carrierBlock fresh slot fit recordOf flag

@@ -12,7 +12,7 @@ use lib.ListN.{getD}
 use Rattle.laws.proofs.Tests.{and-both, and-fst, and-snd, lt-or-le, same-test}
 use Rattle.reference.specs.Ranges.{each}
 use Rattle.reference.proofs.RangeLaws.{each-holds, each-true}
-use Rattle.layout.specs.Valid.{cellValid, cellsValid}
+use Rattle.encoding.specs.Valid.{cellValid, cellsValid}
 use Rattle.state.specs.Numbers.{Larger, Largest, Capped}
 
 -- Of no number every test holds.

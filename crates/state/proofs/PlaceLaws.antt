@@ -2,8 +2,8 @@
 use Prim.Native.Nat.{ℕ, suc, _+_, _≤_}
 use native.Mathlib.Numerals.{add-one}
 use mathlib.Core.Path.{_≡_, refl}
-use Rattle.layout.proofs.ExactLaws.{pairs-grow}
-use Rattle.layout.specs.Places.{pairsBefore}
+use Rattle.encoding.proofs.ExactLaws.{pairs-grow}
+use Rattle.encoding.specs.Places.{pairsBefore}
 
 pub pairs-more : (k p : ℕ) → p ≡ pairsBefore k → p + k ≡ pairsBefore (k + 1)
 unfolding pairsBefore

@@ -13,8 +13,8 @@ use Rattle.laws.proofs.PutLaws.{put-one}
 use Rattle.records.specs.Records.{fit, moved}
 use Rattle.records.proofs.LoadLaws.{part-first}
 use Rattle.reference.specs.Step.{sameCells}
-use Rattle.layout.specs.Places.{plannedPlace, answerPlace, channelPlace}
-use Rattle.layout.specs.InnerSteps.{shifted, newsIn, pushed, pushedBelow, sentTo}
+use Rattle.encoding.specs.Places.{plannedPlace, answerPlace, channelPlace}
+use Rattle.encoding.specs.InnerSteps.{shifted, newsIn, pushed, pushedBelow, sentTo}
 
 module _ (m cells : List ℕ) (i tag : ℕ) where
   pub news-first : (p : ℕ) → p ≡ plannedPlace i → (getD m p 0 ≡ 1 → ⊥) → true ≡ newsIn m i (tag ∷ cells)

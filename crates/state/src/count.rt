@@ -2,7 +2,7 @@
 ghost use mathlib.Core.Path.{_≡_};
 ghost use Prim.Native.Nat.{_≤_};
 ghost use lib.ListN.{length};
-ghost use Rattle.layout.specs.InnerSteps.{ticked};
+ghost use Rattle.encoding.specs.InnerSteps.{ticked};
 
 // Counts one more step; the count stays at 999,999 once there.
 pub fn tick(m: &mut [u16])

@@ -1,7 +1,7 @@
 // Where each part of a state lies. The offsets of the state stand here and nowhere else in the code.
 ghost use mathlib.Core.Path.{_≡_};
 ghost use Prim.Native.Nat.{_+_, _*_, _≤_, _<_};
-ghost use Rattle.layout.specs.Places.{pairsBefore, plannedPlace, duePlace, answerPlace, viewPlace, channelPlace, stateSize};
+ghost use Rattle.encoding.specs.Places.{pairsBefore, plannedPlace, duePlace, answerPlace, viewPlace, channelPlace, stateSize};
 use floor::Floor;
 
 // The places of a channel: as many as the largest depth.

@@ -19,11 +19,11 @@ use Rattle.reference.specs.Ranges.{each}
 use Rattle.reference.proofs.RangeLaws.{each-same}
 use Rattle.reference.specs.Step.{Step, plan, deliver, isThere}
 use Rattle.reference.specs.Table.{Asked, step, noStep, isNamed}
-use Rattle.layout.specs.Places.{duePlace, channelPlace}
-use Rattle.layout.specs.Numbers.{deliveryOf, askedBy}
-use Rattle.layout.specs.Calls.{machineOf}
-use Rattle.layout.specs.InnerSteps.{roomIn, waitsIn, openIn, shutIn, silentIn}
-use Rattle.layout.specs.InnerCalls.{singleVerdictIn}
+use Rattle.encoding.specs.Places.{duePlace, channelPlace}
+use Rattle.encoding.specs.Numbers.{deliveryOf, askedBy}
+use Rattle.encoding.specs.Calls.{machineOf}
+use Rattle.encoding.specs.InnerSteps.{roomIn, waitsIn, openIn, shutIn, silentIn}
+use Rattle.encoding.specs.InnerCalls.{singleVerdictIn}
 use Rattle.steps.specs.Inner.{bare, roomAt, planShut, deliveryShut, senderShut}
 
 module _ (x : ℕ) where

@@ -9,7 +9,7 @@ use Rattle.floor.proofs.LimitsLaws.{Bounds, limited-bounds}
 use Rattle.search.specs.Rows.{FreeRows, Searchable}
 use Rattle.search.proofs.RequestLaws.{accepted-searchable}
 use Rattle.reference.specs.Step.{Step, plan, deliver}
-use Rattle.layout.specs.Places.{stateSize}
+use Rattle.encoding.specs.Places.{stateSize}
 use Rattle.steps.specs.Inner.{Placed, Workable, RowsFor}
 
 -- The bounds of an accepted floor.

@@ -10,9 +10,9 @@ use Rattle.records.specs.Records.{recordOf, moved}
 use Rattle.reference.specs.State.{Machine}
 use Rattle.reference.specs.Step.{Step, plan, deliver}
 use Rattle.reference.specs.Take.{sent, kept}
-use Rattle.layout.specs.Places.{plannedPlace, duePlace, viewPlace, channelPlace}
-use Rattle.layout.specs.Calls.{machineOf}
-use Rattle.layout.specs.InnerSteps.{ticked, popped, deliveredIn, sentTo, newsIn, plannedIn, bestIn, effectIn, afterIn, saidIn}
+use Rattle.encoding.specs.Places.{plannedPlace, duePlace, viewPlace, channelPlace}
+use Rattle.encoding.specs.Calls.{machineOf}
+use Rattle.encoding.specs.InnerSteps.{ticked, popped, deliveredIn, sentTo, newsIn, plannedIn, bestIn, effectIn, afterIn, stepAnswerIn}
 use Rattle.steps.specs.declared.Taken.{Taken}
 use Rattle.steps.specs.declared.Taken.the-variants.{Delivered}
 use Rattle.steps.specs.Answers.{takenMeant}
@@ -22,7 +22,7 @@ use Rattle.steps.specs.Inner.{Did, Took}
 pub plan-did : (f : Floor) (ws m : List ℕ) (i : ℕ) (rec m′ : List ℕ) (news : Bool) (r : Taken) →
     rec ≡ recordOf (bestIn (machineOf f ws) m i) → m′ ≡ plannedIn (f .carriers) m i rec → news ≡ newsIn m i rec →
     takenMeant r ≡ cond news sent kept → Did (machineOf f ws) m (plan i) r m′
-unfolding effectIn saidIn machineOf
+unfolding effectIn stepAnswerIn machineOf
 plan-did f ws m i rec m′ news r same stored new answer =
     record {
       answers = answer ∙ rw (new, same) refl;
@@ -48,7 +48,7 @@ delivery-stored n j i v c q m m₁ m₂ m₃ first a b e g d =
 
 pub delivery-did : (f : Floor) (ws m : List ℕ) (j i : ℕ) (m′ : List ℕ) → m′ ≡ deliveredIn (f .carriers) m j i →
     Did (machineOf f ws) m (deliver j i) Delivered m′
-unfolding saidIn effectIn takenMeant machineOf
+unfolding stepAnswerIn effectIn takenMeant machineOf
 delivery-did f ws m j i m′ e = record { answers = refl; stores = e }
 
 -- A step that did its work and is counted is taken.

@@ -17,9 +17,9 @@ use Rattle.planner.specs.Plan.{respondOf}
 use Rattle.records.proofs.RecordLaws.{views-above}
 use Rattle.records.proofs.PartLaws.{view-part}
 use Rattle.reference.specs.Ranges.{below}
-use Rattle.layout.specs.Places.{viewPlace}
-use Rattle.layout.specs.InnerSteps.{viewsIn, bestIn}
-use Rattle.layout.specs.Calls.{machineOf}
+use Rattle.encoding.specs.Places.{viewPlace}
+use Rattle.encoding.specs.InnerSteps.{viewsIn, bestIn}
+use Rattle.encoding.specs.Calls.{machineOf}
 
 -- The views of the first k records, one by one.
 shown-below : (b : List ℕ) (g : ℕ → View) (k : ℕ) → ((j : ℕ) → j < k → viewAt b j ≡ g j) → records b k ≡ below k g

@@ -11,9 +11,9 @@ use Rattle.search.specs.Rows.{FreeRows}
 use Rattle.reference.specs.State.{Machine}
 use Rattle.reference.specs.Step.{Step, plan, deliver}
 use Rattle.reference.specs.Ranges.{each}
-use Rattle.layout.specs.Places.{channelPlace, stateSize}
-use Rattle.layout.specs.Calls.{machineOf}
-use Rattle.layout.specs.InnerSteps.{shutIn, effectIn, afterIn, saidIn}
+use Rattle.encoding.specs.Places.{channelPlace, stateSize}
+use Rattle.encoding.specs.Calls.{machineOf}
+use Rattle.encoding.specs.InnerSteps.{shutIn, effectIn, afterIn, stepAnswerIn}
 use Rattle.steps.specs.declared.Taken.{Taken}
 use Rattle.steps.specs.Answers.{takenMeant}
 
@@ -52,10 +52,10 @@ RowsFor f ws rows (deliver j i) = Unit {0}
 
 -- What a step did: its answer, and the memory after it, the step not being counted yet.
 pub record Did (M : Machine) (m : List ℕ) (x : Step) (r : Taken) (m′ : List ℕ) : Type 0 where
-  pub answers : takenMeant r ≡ saidIn M m x
+  pub answers : takenMeant r ≡ stepAnswerIn M m x
   pub stores : m′ ≡ effectIn M m x
 
 -- A step that was taken: its answer, and the memory after it.
 pub record Took (M : Machine) (m : List ℕ) (x : Step) (r : Taken) (m′ : List ℕ) : Type 0 where
-  pub answers : takenMeant r ≡ saidIn M m x
+  pub answers : takenMeant r ≡ stepAnswerIn M m x
   pub stores : m′ ≡ afterIn M m x

@@ -3,7 +3,7 @@ ghost use mathlib.Core.Path.{_≡_};
 ghost use mathlib.Core.Bool.{_&&_};
 ghost use lib.Dec.{ltb};
 ghost use Rattle.reference.specs.Step.{isThere};
-ghost use Rattle.layout.specs.Numbers.{askedBy};
+ghost use Rattle.encoding.specs.Numbers.{askedBy};
 ghost use Rattle.reference.specs.Table.{isNamed};
 ghost use Rattle.steps.specs.Answers.{stepMeant, askedMeant};
 ghost use Rattle.steps.specs.Inner.{bare};

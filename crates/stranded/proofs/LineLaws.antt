@@ -12,7 +12,7 @@ use Rattle.laws.specs.Memory.{put}
 use Rattle.laws.proofs.PutLaws.{put-none, put-length}
 use Rattle.floor.specs.declared.Floor.{Floor}
 use Rattle.route.specs.Route.{Answer, none, route}
-use Rattle.words.specs.Words.{digit}
+use Rattle.bitrows.specs.Words.{digit}
 use Rattle.sheet.specs.Text.{linesOf}
 use Rattle.planner.specs.Plan.{planOf}
 use Rattle.planner.specs.Claims.{answerAt}

@@ -7,7 +7,7 @@ use lib.Dec.{eqb}
 use lib.ListN.{length, replicate, set}
 use Rattle.floor.specs.declared.Floor.{Floor}
 use Rattle.floor.specs.Checks.{startOf}
-use Rattle.words.specs.Words.{digit}
+use Rattle.bitrows.specs.Words.{digit}
 use Rattle.sheet.specs.Text.{linesOf}
 use Rattle.sheet.specs.Values.{floorAt, wallsAt}
 use Rattle.sheet.specs.Read.{sheetVerdict}

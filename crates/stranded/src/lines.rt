@@ -11,7 +11,7 @@ fn put_name(set: u16, j: usize, out: &mut [u8], at: usize) -> usize
     requires { ⌜ (j < 8) × (at + 2 ≤ length (now out)) ⌝ }
     ensures { λ r. ⌜ PutAt (nameOf set j) (now (out .entry)) at (now (out .exit)) r ⌝ }
 {
-    if words::has(&[set as u32], 0, j) {
+    if bitrows::has(&[set as u32], 0, j) {
         return put_bytes(out, at, &[32, 49 + j as u8]);
     }
     at

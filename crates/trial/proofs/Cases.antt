@@ -22,9 +22,9 @@ use Rattle.reference.specs.State.{fresh, views, tick}
 use Rattle.reference.specs.Step.{isThere, hasRoom, isEmpty, waitsFor, isOpen, sameCells, sameAnswer}
 use Rattle.reference.specs.Take.{isNews, send, planAs, oldest, newer, deliverTo, effect, counted, afterStep, stepAnswer}
 use Rattle.reference.specs.Ranking.{deliveriesFrom, ranking, noneOpen, isSilent}
-use Rattle.reference.specs.Quiet.{ceiling}
-use Rattle.layout.specs.Places.{pairsBefore, stateSize}
-use Rattle.layout.specs.Calls.{machineOf, placeVerdict}
+use Rattle.reference.specs.Quiescent.{ceiling}
+use Rattle.encoding.specs.Places.{pairsBefore, stateSize}
+use Rattle.encoding.specs.Calls.{machineOf, placeVerdict}
 use Rattle.orders.specs.Generator.{nextNumber, drawnBy}
 use Rattle.orders.specs.Orders.{places, stepAt, openAt, passing, openPlaces, turn, chosen, startMemory, remembered}
 use Rattle.orders.specs.Trial.{nextStep, entryOf, reported, tryFrom, trial}

@@ -18,12 +18,12 @@ use Rattle.floor.proofs.LimitsLaws.{limited-bounds, room-passed}
 use Rattle.floor.proofs.Theorems.{theorems}
 use Rattle.reference.specs.State.{State, fresh}
 use Rattle.reference.specs.Step.{Step}
-use Rattle.reference.specs.Quiet.{ceiling}
-use Rattle.layout.specs.Places.{stateSize}
-use Rattle.layout.specs.Encode.{encode}
-use Rattle.layout.specs.Calls.{machineOf, placeVerdict}
-use Rattle.layout.specs.InnerSteps.{afterIn, saidIn}
-use Rattle.layout.proofs.StateLaws.{encode-length, encode-beyond}
+use Rattle.reference.specs.Quiescent.{ceiling}
+use Rattle.encoding.specs.Places.{stateSize}
+use Rattle.encoding.specs.Encode.{encode}
+use Rattle.encoding.specs.Calls.{machineOf, placeVerdict}
+use Rattle.encoding.specs.InnerSteps.{afterIn, stepAnswerIn}
+use Rattle.encoding.proofs.StateLaws.{encode-length, encode-beyond}
 use Rattle.steps.specs.Inner.{Placed}
 use Rattle.steps.proofs.PlacedLaws.{placed-bounds}
 use Rattle.machine.proofs.VerdictLaws.{place-tells}
@@ -92,7 +92,7 @@ memory-round f ws o c h e = rw e at h
 
 -- One more step, from what its parts come to.
 pub advanced : (o : Order) (f : Floor) (ws m report : List ℕ) (c t next : ℕ) (m′ report′ : List ℕ) (p : ℕ) (y : Step) (number answer : ℕ) →
-    p ≡ chosenIn o f m c → y ≡ stepAt (f .carriers) p → number ≡ numberOf y → answer ≡ answerNumber (saidIn (machineOf f ws) m y) →
+    p ≡ chosenIn o f m c → y ≡ stepAt (f .carriers) p → number ≡ numberOf y → answer ≡ answerNumber (stepAnswerIn (machineOf f ws) m y) →
     next ≡ remembered o c p → m′ ≡ afterIn (machineOf f ws) m y → report′ ≡ put report (2 * t) (number ∷ (answer ∷ [])) →
     Advanced o f ws m report c t next m′ report′
 advanced o f ws m report c t next m′ report′ p y number answer place step num ans mem stored line =
@@ -103,5 +103,5 @@ advanced o f ws m report c t next m′ report′ p y number answer place step nu
       reports = line
           ∙ ap (λ (k : ℕ). put report (2 * t) (k ∷ (answer ∷ []))) num
           ∙ ap (λ (k : ℕ). put report (2 * t) (numberOf y ∷ (k ∷ []))) ans
-          ∙ ap (λ (z : Step). put report (2 * t) (numberOf z ∷ (answerNumber (saidIn (machineOf f ws) m z) ∷ []))) same;
+          ∙ ap (λ (z : Step). put report (2 * t) (numberOf z ∷ (answerNumber (stepAnswerIn (machineOf f ws) m z) ∷ []))) same;
     }

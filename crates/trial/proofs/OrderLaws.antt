@@ -11,7 +11,7 @@ use Rattle.laws.proofs.Tests.{and-snd}
 use Rattle.laws.specs.Verdict.{value, refusal, passed, refused, demand, _gives_}
 use Rattle.floor.specs.declared.Floor.{Floor}
 use Rattle.floor.specs.Checks.{within}
-use Rattle.reference.specs.Quiet.{ceiling}
+use Rattle.reference.specs.Quiescent.{ceiling}
 use Rattle.machine.specs.Ceiling.{mostSteps}
 use Rattle.machine.proofs.CeilingLaws.{power-most}
 use Rattle.orders.specs.Generator.{nextNumber, drawnBy}

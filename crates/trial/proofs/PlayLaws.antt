@@ -15,19 +15,19 @@ use Rattle.reference.specs.State.{Machine, State, fresh}
 use Rattle.reference.specs.Step.{Step, isOpen}
 use Rattle.reference.specs.Take.{afterStep, StepAnswer, stepAnswer}
 use Rattle.reference.specs.Ranking.{isSilent}
-use Rattle.reference.specs.Quiet.{ceiling}
+use Rattle.reference.specs.Quiescent.{ceiling}
 use Rattle.reference.specs.Bounds.{InRange, Throughout}
 use Rattle.reference.proofs.BoundLaws.{step-in-range}
 use Rattle.reference.proofs.ThroughLaws.{step-throughout, throughout-more}
-use Rattle.layout.specs.Places.{stateSize}
-use Rattle.layout.specs.Encode.{encode}
-use Rattle.layout.specs.Ranges.{Sound, WithinRanges}
-use Rattle.layout.specs.Calls.{machineOf}
-use Rattle.layout.specs.InnerSteps.{afterIn, saidIn}
-use Rattle.layout.proofs.RecordLaws.{sound-whole}
-use Rattle.layout.proofs.ExactLaws.{fresh-fits}
-use Rattle.layout.proofs.FloorLaws.{respond-sound, storable}
-use Rattle.layout.proofs.StepLaws.{after-same, said-same}
+use Rattle.encoding.specs.Places.{stateSize}
+use Rattle.encoding.specs.Encode.{encode}
+use Rattle.encoding.specs.Ranges.{Sound, WithinRanges}
+use Rattle.encoding.specs.Calls.{machineOf}
+use Rattle.encoding.specs.InnerSteps.{afterIn, stepAnswerIn}
+use Rattle.encoding.proofs.RecordLaws.{sound-whole}
+use Rattle.encoding.proofs.ExactLaws.{fresh-fits}
+use Rattle.encoding.proofs.FloorLaws.{respond-sound, storable}
+use Rattle.encoding.proofs.StepLaws.{after-same, said-same}
 use Rattle.orders.specs.Orders.{Order, places, stepAt, openAt, passing, chosen, startMemory, remembered}
 use Rattle.orders.specs.Trial.{Entry, TrialResult, nextStep, entryOf, reported, tryFrom, trial}
 use Rattle.orders.proofs.RuleLaws.{Memory, Takes, no-place, place-not-silent, chosen-takes}
@@ -64,7 +64,7 @@ module _ (f : Floor) (ws : List ℕ) (ok : checkOf f ws ≡ passed) (s : State) 
   unfolding machineOf
   step-stores rest x e = after-same M (storable f ws ok) s in-range whole rest x e
 
-  pub step-says : (rest : List ℕ) (x : Step) → isOpen M s x ≡ true → saidIn M (encode (f .carriers) s ++ rest) x ≡ stepAnswer M s x
+  pub step-says : (rest : List ℕ) (x : Step) → isOpen M s x ≡ true → stepAnswerIn M (encode (f .carriers) s ++ rest) x ≡ stepAnswer M s x
   unfolding machineOf
   step-says rest x e = said-same M (storable f ws ok) s in-range whole rest x e
 
@@ -158,9 +158,9 @@ module _ (f : Floor) (ws : List ℕ) (o : Order) (seed : ℕ) (m₀ report₀ : 
           let less-one : ceiling (f .carriers) - t ≡ suc (ceiling (f .carriers) - (t + 1)) = omega arith in
           rw less-one (try-step o N c s (ceiling (f .carriers) - (t + 1)) (place-not-silent N s (rw (← shown-count) some)))
 
-      says : saidIn N m x ≡ stepAnswer N s x
+      says : stepAnswerIn N m x ≡ stepAnswer N s x
       says =
-          ap (λ (z : List ℕ). saidIn N z x) (p .shows)
+          ap (λ (z : List ℕ). stepAnswerIn N z x) (p .shows)
           ∙ step-says f ws ok s (p .fits) (drop (stateSize (f .carriers)) m₀) x x-open
 
       stores : m′ ≡ encode (f .carriers) (afterStep N s x) ++ drop (stateSize (f .carriers)) m₀
@@ -173,7 +173,7 @@ module _ (f : Floor) (ws : List ℕ) (o : Order) (seed : ℕ) (m₀ report₀ : 
       unfolding entryOf
       numbers =
           a .reports
-          ∙ ap (λ (y : Step). put report (2 * t) (numberOf y ∷ (answerNumber (saidIn N m y) ∷ []))) x-is
+          ∙ ap (λ (y : Step). put report (2 * t) (numberOf y ∷ (answerNumber (stepAnswerIn N m y) ∷ []))) x-is
           ∙ ap (λ (r : StepAnswer). put report (2 * t) (numberOf x ∷ (answerNumber r ∷ []))) says
 
       -- The report keeps its length, and has one line more.

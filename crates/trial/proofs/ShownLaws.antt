@@ -7,10 +7,10 @@ use mathlib.Core.Path.{_≡_, refl, _∙_, ap}
 use lib.ListN.{length}
 use Rattle.floor.specs.declared.Floor.{Floor}
 use Rattle.reference.specs.State.{Machine, State}
-use Rattle.layout.specs.Encode.{encode}
-use Rattle.layout.specs.Calls.{machineOf}
-use Rattle.layout.specs.InnerSteps.{openIn}
-use Rattle.layout.proofs.OpenLaws.{open-same}
+use Rattle.encoding.specs.Encode.{encode}
+use Rattle.encoding.specs.Calls.{machineOf}
+use Rattle.encoding.specs.InnerSteps.{openIn}
+use Rattle.encoding.proofs.OpenLaws.{open-same}
 use Rattle.steps.specs.Inner.{bare}
 use Rattle.steps.proofs.OpenLaws.{open-of}
 use Rattle.orders.specs.Orders.{Order, first, round, drawn, places, stepAt, openAt, passing, openPlaces, turn, chosen}

@@ -8,7 +8,7 @@ use mathlib.Core.Logic.{⊎-elim}
 use mathlib.Core.Path.{_≡_, sym, ap}
 use Rattle.floor.specs.declared.Floor.{Floor}
 use Rattle.reference.specs.Step.{plan, deliver, isThere}
-use Rattle.layout.specs.Calls.{machineOf}
+use Rattle.encoding.specs.Calls.{machineOf}
 use Rattle.steps.specs.Inner.{bare}
 use Rattle.orders.specs.Orders.{places, stepAt}
 use Rattle.orders.proofs.PlaceLaws.{deliveriesBefore, before-none, before-more, places-split, places-half, plan-at, deliver-at, at-there}

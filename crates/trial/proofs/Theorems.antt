@@ -17,15 +17,15 @@ use Rattle.floor.proofs.LimitsLaws.{room-passed}
 use Rattle.floor.proofs.Theorems.{theorems as floor-theorems}
 use Rattle.reference.specs.Step.{Step, plan, deliver, isThere}
 use Rattle.reference.specs.Table.{step}
-use Rattle.reference.specs.Quiet.{ceiling}
+use Rattle.reference.specs.Quiescent.{ceiling}
 use Rattle.reference.proofs.BoundLaws.{fresh-in-range, reaches-in-range}
 use Rattle.reference.proofs.ThroughLaws.{fresh-throughout, reaches-throughout}
-use Rattle.layout.specs.Places.{stateSize}
-use Rattle.layout.specs.Numbers.{askedBy}
-use Rattle.layout.specs.Calls.{machineOf, placeVerdict}
-use Rattle.layout.specs.Ranges.{Sound}
-use Rattle.layout.proofs.FloorLaws.{none-sound, depth-some, respond-sound}
-use Rattle.layout.proofs.ExactStepLaws.{plan-number, deliver-number}
+use Rattle.encoding.specs.Places.{stateSize}
+use Rattle.encoding.specs.Numbers.{askedBy}
+use Rattle.encoding.specs.Calls.{machineOf, placeVerdict}
+use Rattle.encoding.specs.Ranges.{Sound}
+use Rattle.encoding.proofs.FloorLaws.{none-sound, depth-some, respond-sound}
+use Rattle.encoding.proofs.ExactStepLaws.{plan-number, deliver-number}
 use Rattle.machine.proofs.CeilingLaws.{power-most}
 use Rattle.orders.proofs.TrialLaws.{trial-holds}
 use Rattle.orders.proofs.Theorems.{theorems as orders-theorems}

@@ -15,11 +15,11 @@ use Rattle.reference.specs.Ranges.{below}
 use Rattle.reference.specs.Step.{Step, isThere}
 use Rattle.reference.specs.Ranking.{isSilent}
 use Rattle.reference.specs.Table.{step}
-use Rattle.reference.specs.Quiet.{ceiling}
-use Rattle.layout.specs.Places.{stateSize}
-use Rattle.layout.specs.Ranges.{WithinRanges}
-use Rattle.layout.specs.Numbers.{askedBy}
-use Rattle.layout.specs.Calls.{machineOf}
+use Rattle.reference.specs.Quiescent.{ceiling}
+use Rattle.encoding.specs.Places.{stateSize}
+use Rattle.encoding.specs.Ranges.{WithinRanges}
+use Rattle.encoding.specs.Numbers.{askedBy}
+use Rattle.encoding.specs.Calls.{machineOf}
 use Rattle.trial.specs.Report.{numberOf, numbersOf, reportSize}
 use Rattle.trial.specs.Entry.{trialVerdict, trialOf}
 

@@ -8,7 +8,7 @@ use Rattle.laws.specs.Verdict.{Verdict, Outcome, value, refusal, _then_, demand
 use Rattle.laws.specs.Memory.{put}
 use Rattle.floor.specs.declared.Floor.{Floor}
 use Rattle.floor.specs.Checks.{within, roomOf}
-use Rattle.layout.specs.Calls.{machineOf, placeVerdict, withState}
+use Rattle.encoding.specs.Calls.{machineOf, placeVerdict, withState}
 use Rattle.orders.specs.Orders.{Order, first, round, drawn}
 use Rattle.orders.specs.Trial.{TrialResult, trial}
 use Rattle.trial.specs.declared.Tried.{Tried}

@@ -6,8 +6,8 @@ use mathlib.Core.Path.{_≡_}
 use lib.ListN.{length, getD}
 use Rattle.laws.specs.Memory.{put}
 use Rattle.floor.specs.declared.Floor.{Floor}
-use Rattle.layout.specs.Calls.{machineOf}
-use Rattle.layout.specs.InnerSteps.{openIn, afterIn, saidIn}
+use Rattle.encoding.specs.Calls.{machineOf}
+use Rattle.encoding.specs.InnerSteps.{openIn, afterIn, stepAnswerIn}
 use Rattle.steps.specs.Inner.{bare}
 use Rattle.orders.specs.Generator.{drawnBy}
 use Rattle.orders.specs.Orders.{Order, first, round, drawn, places, stepAt, passing, remembered}
@@ -37,4 +37,4 @@ pub record Advanced (o : Order) (f : Floor) (ws m report : List ℕ) (c t next :
   pub stores : m′ ≡ afterIn (machineOf f ws) m (stepAt (f .carriers) (chosenIn o f m c))
   pub reports : report′ ≡ put report (2 * t)
       (numberOf (stepAt (f .carriers) (chosenIn o f m c)) ∷
-      answerNumber (saidIn (machineOf f ws) m (stepAt (f .carriers) (chosenIn o f m c))) ∷ [])
+      answerNumber (stepAnswerIn (machineOf f ws) m (stepAt (f .carriers) (chosenIn o f m c))) ∷ [])

@@ -3,7 +3,7 @@ use Prim.Native.Nat.{ℕ, _+_, _*_}
 use mathlib.Core.List.{List, [], _∷_}
 use Rattle.reference.specs.Step.{Step, plan, deliver}
 use Rattle.reference.specs.Take.{StepAnswer, kept, sent, delivered}
-use Rattle.reference.specs.Quiet.{ceiling}
+use Rattle.reference.specs.Quiescent.{ceiling}
 use Rattle.orders.specs.Trial.{Entry}
 
 -- The number of a step, carriers counted from 1: plan i is 100 + i, deliver j to i is 200 + 10 j + i.

@@ -2,7 +2,7 @@
 ghost use mathlib.Core.Path.{_≡_};
 ghost use Prim.Native.Nat.{_≤_, _<_};
 ghost use lib.ListN.{length, getD};
-ghost use Rattle.layout.specs.Places.{stateSize};
+ghost use Rattle.encoding.specs.Places.{stateSize};
 ghost use Rattle.orders.specs.Orders.{round, places, startMemory, remembered, passing};
 ghost use Rattle.trial.specs.Entry.{orderBy};
 ghost use Rattle.trial.specs.Inner.{opensIn, countIn, turnIn, chosenIn};

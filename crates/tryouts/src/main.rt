@@ -12,10 +12,10 @@
 ghost use mathlib.Core.Path.{_≡_};
 ghost use lib.ListN.{length};
 use libc::STDIN_FILENO;
-use script::fields;
-use script::look;
-use script::pages;
-use script::show;
+use testkit::bytes;
+use testkit::fields;
+use testkit::memory;
+use testkit::show;
 
 // Room for the script: twice a large buffer.
 fn script_room() -> [u8; 131072]
@@ -79,7 +79,7 @@ fn read_map(map: &[u8]) {
 
 // The place of a section's length among its numbers: behind the two carriers of `meeting` and the beat of `at`.
 fn length_place(s: &[u8]) -> usize {
-    match pages::byte(s, 2) {
+    match bytes::byte(s, 2) {
         b'm' => 2,
         b'a' => 1,
         _ => 0,
@@ -88,17 +88,17 @@ fn length_place(s: &[u8]) -> usize {
 
 // Prints what the command of a section, by its first letter, prints for a sheet.
 fn run(s: &[u8], sheet: &[u8]) {
-    match pages::byte(s, 2) {
+    match bytes::byte(s, 2) {
         b'w' => why(sheet),
         b'p' => draw(sheet),
         b'm' => meet(
             sheet,
-            look::narrow(fields::field(s, 0)),
-            look::narrow(fields::field(s, 1)),
+            memory::narrow(fields::field(s, 0)),
+            memory::narrow(fields::field(s, 1)),
         ),
         b'b' => shut(sheet),
         b'd' => draw_all(sheet),
-        b'a' => draw_beat(sheet, look::narrow(fields::field(s, 0))),
+        b'a' => draw_beat(sheet, memory::narrow(fields::field(s, 0))),
         b's' => read_map(sheet),
         _ => {}
     }
@@ -106,11 +106,11 @@ fn run(s: &[u8], sheet: &[u8]) {
 
 // Plays the section at the front of a script; its length is returned.
 fn section(s: &[u8]) -> usize {
-    let end = look::plus(fields::end(s), 1);
+    let end = memory::plus(fields::end(s), 1);
     let n = fields::field(s, length_place(s));
-    show::text(pages::part(s, 0, end));
-    run(s, pages::part(s, end, n));
-    look::plus(look::plus(end, n), 1)
+    show::text(bytes::part(s, 0, end));
+    run(s, bytes::part(s, end, n));
+    memory::plus(memory::plus(end, n), 1)
 }
 
 // Plays the sections of a script, of which there are fewer than 1,000.
@@ -121,7 +121,7 @@ fn play(script: &[u8]) {
         if script.len() <= at {
             return;
         }
-        at = look::plus(at, section(&script[at..]));
+        at = memory::plus(at, section(&script[at..]));
         k += 1;
     }
 }

@@ -1,5 +1,5 @@
 -- `blockers::request` meets its contract: a chain of two checks.
-use Rattle.floor.proofs.AnswersLaws.{hands-on, ends-at}
+use Rattle.floor.proofs.AnswersLaws.{then-next, ends-at}
 use Rattle.blockers.specs.Entry.{carrierVerdict}
 use borrow.Author.Needs.{needs}
 use Rattle.blockers.proofs.request.Statement.{statement}
@@ -17,7 +17,7 @@ unfolding carrierVerdict
 returns-2 c =
     let after-enum-told : tie.After-enum-told = search in
     let after-request : tie.After-request = search in
-    hands-on (after-request .request .ensures) (after-enum-told .enum-told .given .1) (c .listed .ensures)
+    then-next (after-request .request .ensures) (after-enum-told .enum-told .given .1) (c .listed .ensures)
 
 pub request-spec : {M : Type 1} → statement M
 request-spec =

@@ -1,6 +1,6 @@
 -- `kalomivund_arrival` meets its contract: the entry's answer, packed.
 use Rattle.kalomivund.proofs.EntryLaws.{says-told}
-use Rattle.wire.specs.Word.{ofNumber}
+use Rattle.abi.specs.Word.{ofNumber}
 use Rattle.kalomivund.specs.Entries.{arrivalWord}
 use borrow.Author.Needs.{needs}
 use Rattle.kalomivund.proofs.kalomivund_arrival.Statement.{statement}

@@ -1,6 +1,6 @@
 -- `kalomivund_blockers` meets its contract: the set of the floor that the numbers say, packed.
 use Rattle.kalomivund.proofs.EntryLaws.{too-short, handed-on}
-use Rattle.wire.specs.Word.{ofNumber}
+use Rattle.abi.specs.Word.{ofNumber}
 use Rattle.kalomivund.specs.Entries.{blockersWord, blockersStored}
 use borrow.Author.Needs.{needs}
 use Rattle.kalomivund.proofs.kalomivund_blockers.Statement.{statement}

@@ -1,6 +1,6 @@
 -- `kalomivund_ceiling` meets its contract: the ceiling, packed.
 use Rattle.kalomivund.proofs.EntryLaws.{says-told}
-use Rattle.wire.specs.Word.{ofNumber}
+use Rattle.abi.specs.Word.{ofNumber}
 use Rattle.kalomivund.specs.Entries.{ceilingWord}
 use borrow.Author.Needs.{needs}
 use Rattle.kalomivund.proofs.kalomivund_ceiling.Statement.{statement}

@@ -1,6 +1,6 @@
 -- `kalomivund_check_floor` meets its contract: the check of the floor that the numbers say, packed.
 use Rattle.kalomivund.proofs.EntryLaws.{too-short, handed-on}
-use Rattle.wire.specs.Word.{ofNumber}
+use Rattle.abi.specs.Word.{ofNumber}
 use Rattle.kalomivund.specs.Entries.{checkWord}
 use borrow.Author.Needs.{needs}
 use Rattle.kalomivund.proofs.kalomivund_check_floor.Statement.{statement}

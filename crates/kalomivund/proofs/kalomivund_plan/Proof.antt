@@ -1,6 +1,6 @@
 -- `kalomivund_plan` meets its contract: the plan of the floor that the numbers say, packed.
 use Rattle.kalomivund.proofs.EntryLaws.{too-short, handed-on}
-use Rattle.wire.specs.Word.{ofNumber}
+use Rattle.abi.specs.Word.{ofNumber}
 use Rattle.kalomivund.specs.Entries.{planWord, planStored}
 use borrow.Author.Needs.{needs}
 use Rattle.kalomivund.proofs.kalomivund_plan.Statement.{statement}

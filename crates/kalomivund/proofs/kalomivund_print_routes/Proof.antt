@@ -1,6 +1,6 @@
 -- `kalomivund_print_routes` meets its contract: the printing, packed.
 use Rattle.kalomivund.proofs.EntryLaws.{says-told}
-use Rattle.wire.specs.Word.{ofNumber}
+use Rattle.abi.specs.Word.{ofNumber}
 use Rattle.kalomivund.specs.Entries.{printWord, printStored}
 use borrow.Author.Needs.{needs}
 use Rattle.kalomivund.proofs.kalomivund_print_routes.Statement.{statement}

@@ -3,7 +3,7 @@ use Rattle.laws.proofs.VerdictLaws.{when-passed, when-refused, gives-passed}
 use Rattle.kalomivund.proofs.EntryLaws.{short-keeps, read-short, read-long}
 use Rattle.sheet.specs.Read.{readFloor, readWalls}
 use Rattle.floor.proofs.AnswersLaws.{passes, refuses}
-use Rattle.wire.specs.Word.{ofNumber, mapOutcome}
+use Rattle.abi.specs.Word.{ofNumber, mapOutcome}
 use Rattle.kalomivund.specs.Entries.{readWord, readRecord, readStored}
 use mathlib.Core.Path.{sym, _∙_}
 use borrow.Author.Needs.{needs}

@@ -1,6 +1,6 @@
 -- `kalomivund_write_sheet` meets its contract: the writing of the floor that the numbers say, packed with its length.
 use Rattle.kalomivund.proofs.EntryLaws.{too-short, handed-on}
-use Rattle.wire.specs.Word.{ofNumber}
+use Rattle.abi.specs.Word.{ofNumber}
 use Rattle.kalomivund.specs.Entries.{writeWord, writeStored}
 use borrow.Author.Needs.{needs}
 use Rattle.kalomivund.proofs.kalomivund_write_sheet.Statement.{statement}

@@ -3,7 +3,7 @@ use mathlib.Core.Path.{refl}
 use borrow.Author.Tests.{lt-leb, le-leb}
 use Rattle.laws.specs.Verdict.{demand, _gives_, whenPassed}
 use Rattle.floor.specs.Checks.{roomOf}
-use Rattle.wire.specs.Word.{ofNumber, mapOutcome}
+use Rattle.abi.specs.Word.{ofNumber, mapOutcome}
 use Rattle.kalomivund.specs.Answers.{figureList}
 use borrow.Author.Needs.{needs}
 use Rattle.kalomivund.proofs.store_lengths.Statement.{statement}

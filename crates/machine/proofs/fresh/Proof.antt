@@ -4,7 +4,7 @@ use Rattle.steps.proofs.PlacedLaws.{placed-sized}
 use Rattle.laws.proofs.VerdictLaws.{when-passed, when-refused}
 use mathlib.Core.Path.{sym, _∙_}
 use Rattle.floor.proofs.AnswersLaws.{passes, refuses}
-use Rattle.layout.specs.Calls.{freshMemory}
+use Rattle.encoding.specs.Calls.{freshMemory}
 use borrow.Author.Needs.{needs}
 use Rattle.machine.proofs.fresh.Statement.{statement}
 use Rattle.machine.proofs.fresh.Tie as tie

@@ -7,9 +7,9 @@ use mathlib.Core.Path.{_≡_, sym, ap, _∙_}
 use borrow.Author.Needs.{needs}
 use lib.ListN.{length, length-replicate}
 use Rattle.route.specs.Sequential.{sequential}
-use Rattle.tables.specs.Table.{sceneOf, Tidy}
-use Rattle.tables.specs.Room.{Roomy}
-use Rattle.tables.proofs.SetLaws.{empty-tidy}
+use Rattle.layers.specs.Table.{searchGridOf, Tidy}
+use Rattle.layers.specs.Room.{IsFreeTable}
+use Rattle.layers.proofs.SetLaws.{empty-tidy}
 use Rattle.records.specs.Records.{records, stored}
 use Rattle.records.specs.Seen.{seen}
 use Rattle.records.proofs.SeenLaws.{seen-start}
@@ -21,8 +21,8 @@ use Rattle.planner.proofs.plan_all.Tie as tie
 
 abbrev Inv-loop : tie.InvT-loop
 Inv-loop f free answers₀ n room₀ sets₀ shown₀ i₀ answers room sets shown i =
-    (i ≤ n) × (answers ≡ stored (sequential (respondWith f free) i) answers₀) × Roomy (sceneOf f) i free shown room
-    × (length shown ≡ 520) × (records shown i ≡ seen f (records answers i)) × Tidy (sceneOf f) sets
+    (i ≤ n) × (answers ≡ stored (sequential (respondWith f free) i) answers₀) × IsFreeTable (searchGridOf f) i free shown room
+    × (length shown ≡ 520) × (records shown i ≡ seen f (records answers i)) × Tidy (searchGridOf f) sets
 
 abbrev μ-loop : tie.MeasureT-loop
 μ-loop f free answers₀ n room₀ sets₀ shown₀ i₀ answers room sets shown i = n - i

@@ -1,9 +1,9 @@
 -- `search::fill_room` meets its contract: the free cells at every beat are the room of no views. Assumes nothing.
 use native.Mathlib.Omega.{arith}
 use borrow.Author.Needs.{needs}
-use Rattle.tables.specs.Table.{sceneOf}
-use Rattle.tables.proofs.GridLaws.{grid-room}
-use Rattle.tables.proofs.RoomLaws.{free-roomy}
+use Rattle.layers.specs.Table.{searchGridOf}
+use Rattle.layers.proofs.GridLaws.{grid-room}
+use Rattle.layers.proofs.RoomLaws.{free-roomy}
 use Rattle.search.proofs.fill_room.Statement.{statement}
 use Rattle.search.proofs.fill_room.Tie as tie
 
@@ -16,7 +16,7 @@ same-length : tie.Need-same-length
 same-length c = c .before .before .fill-free .kept .0
 
 returns : tie.Need-returns
-unfolding sceneOf
+unfolding searchGridOf
 returns c =
     let start : tie.Start = search in
     λ m. free-roomy _ _ _ _ _ (start .pre .0 .0) (grid-room _ _ (start .pre .0 .2)) (omega arith) (c .before .before .fill-free .ensures)

@@ -1,6 +1,6 @@
 -- `search::request` meets its contract: a chain of three checks.
 use Rattle.search.specs.Search.{requestOf}
-use Rattle.floor.proofs.AnswersLaws.{hands-on, ends-at}
+use Rattle.floor.proofs.AnswersLaws.{then-next, ends-at}
 use borrow.Author.Needs.{needs}
 use Rattle.search.proofs.request.Statement.{statement}
 use Rattle.search.proofs.request.Tie as tie
@@ -15,7 +15,7 @@ unfolding requestOf
 returns-2 c =
     let after-enum-told : tie.After-enum-told = search in
     let after-check : tie.After-check = search in
-    hands-on (after-check .check .ensures) (after-enum-told .enum-told .given .1)
+    then-next (after-check .check .ensures) (after-enum-told .enum-told .given .1)
     (ends-at _ (c .before .before .room .ensures) (c .enum-told4 .given .1))
 
 returns-3 : tie.Need-returns-3
@@ -24,8 +24,8 @@ returns-3 c =
     let after-room : tie.After-room = search in
     let after-enum-told : tie.After-enum-told = search in
     let after-check : tie.After-check = search in
-    hands-on (after-check .check .ensures) (after-enum-told .enum-told .given .1)
-    (hands-on (after-room .room .ensures) (c .before .enum-told3 .given .1)
+    then-next (after-check .check .ensures) (after-enum-told .enum-told .given .1)
+    (then-next (after-room .room .ensures) (c .before .enum-told3 .given .1)
     (c .listed .ensures))
 
 pub request-spec : {M : Type 1} → statement M

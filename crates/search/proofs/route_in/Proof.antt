@@ -17,8 +17,8 @@ element-copy-out-count c =
     let start : tie.Start = search in
     omega (arith, start .pre .0 .0 .listed)
 
-scene-of-requires : tie.Need-scene-of-requires
-scene-of-requires c κs =
+search-grid-of-requires : tie.Need-search-grid-of-requires
+search-grid-of-requires c κs =
     let start : tie.Start = search in
     let p = start .pre .0 .0 in
     (p .width .0, p .width .1, p .height)
@@ -32,11 +32,11 @@ seek-requires : tie.Need-seek-requires
 unfolding startOf countOf
 seek-requires c κs =
     let after-docks-of : tie.After-docks-of = search in
-    let after-scene-of : tie.After-scene-of = search in
+    let after-search-grid-of : tie.After-search-grid-of = search in
     let start : tie.Start = search in
     let p = start .pre in
     let able = p .0 .0 in
-    let q = after-scene-of .scene-of .ensures in
+    let q = after-search-grid-of .search-grid-of .ensures in
     let x = scene-fits able q in
     ((x .grid, x .short, scene-start able q, scene-docks able q (after-docks-of .docks-of .ensures)), (rw q (p .0 .1), rw q (p .1 .tidy)))
 
@@ -51,13 +51,13 @@ unfolding startOf countOf
 returns c =
     let after-seek : tie.After-seek = search in
     let after-docks-of : tie.After-docks-of = search in
-    let after-scene-of : tie.After-scene-of = search in
+    let after-search-grid-of : tie.After-search-grid-of = search in
     let start : tie.Start = search in
-    let q = after-scene-of .scene-of .ensures in
+    let q = after-search-grid-of .search-grid-of .ensures in
     let found = after-seek .seek .ensures in
     (tidy-scene _ q (found .0), best-views _ _ _ _ _ _ _ _ q (after-docks-of .docks-of .ensures) (start .pre .1) (found .1))
 
 pub route-in-spec : {M : Type 1} → statement M
 route-in-spec =
     tie.close (tie.spec (λ c. search needs) (λ c. search needs) element-copy-out-start (λ c. search needs)
-    (λ c. search needs) element-copy-out-count (λ c. search needs) scene-of-requires docks-of-requires seek-requires same-length returns)
+    (λ c. search needs) element-copy-out-count (λ c. search needs) search-grid-of-requires docks-of-requires seek-requires same-length returns)

@@ -4,7 +4,7 @@ use Rattle.laws.proofs.VerdictLaws.{when-passed, when-refused}
 use Rattle.sheet.specs.Values.{headAt, floorAt}
 use Rattle.sheet.specs.Read.{sheetVerdict}
 use Rattle.floor.specs.Checks.{checkOf}
-use Rattle.floor.proofs.AnswersLaws.{hands-on, ends-at, refuses, passes}
+use Rattle.floor.proofs.AnswersLaws.{then-next, ends-at, refuses, passes}
 use mathlib.Core.Path.{ap₂, sym, _∙_}
 use Rattle.sheet.proofs.FormLaws.{form-tells, floor-there, walls-read, checked-places}
 use Rattle.sheet.proofs.SheetText.{walls-there}
@@ -44,7 +44,7 @@ returns-2 c =
     let yes = after-enum-told .enum-told .given .1 in
     let ok = passes form yes in
     let f = after-floor .floor .ensures in (
-      hands-on form yes (c .check .ensures ∙ ap₂ checkOf f (walls-read _ _ f (after-walls .walls .ensures)) ∙ checked-places _ _ ok),
+      then-next form yes (c .check .ensures ∙ ap₂ checkOf f (walls-read _ _ f (after-walls .walls .ensures)) ∙ checked-places _ _ ok),
       f ∙ sym (when-passed _ ok),
     )
 

@@ -2,7 +2,7 @@
 use Rattle.sheet.proofs.ReadLaws.{write-passed, write-refused, accepted-counts}
 use Rattle.floor.proofs.LimitsLaws.{check-tells, room-passed}
 use Rattle.sheet.specs.Read.{writeVerdict}
-use Rattle.floor.proofs.AnswersLaws.{chain, hands-on, passes, passed-is}
+use Rattle.floor.proofs.AnswersLaws.{chain, then-next, passes, passed-is}
 use Rattle.floor.specs.Answers.{verdictOf}
 use native.Mathlib.Omega.{arith}
 use borrow.Author.Needs.{needs}
@@ -38,7 +38,7 @@ returns-3 : tie.Need-returns-3
 unfolding writeVerdict verdictOf
 returns-3 c =
     let after-sheet-length : tie.After-sheet-length = search in
-    write-passed _ _ _ _ (rw (← after-sheet-length .sheet-length .ensures) (search (hands-on, passed-is) depth 7))
+    write-passed _ _ _ _ (rw (← after-sheet-length .sheet-length .ensures) (search (then-next, passed-is) depth 7))
     (c .before .before .put-sheet .ensures)
 
 pub write-spec : {M : Type 1} → statement M

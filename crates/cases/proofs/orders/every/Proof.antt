@@ -7,10 +7,10 @@ use Rattle.cases.proofs.orders.every.Statement.{statement}
 use Rattle.cases.proofs.orders.every.Tie as tie
 
 abbrev Inv-loop : tie.InvT-loop
-Inv-loop desk m₀ choices₀ t₀ turn₀ m choices t turn = (length m ≡ length m₀) × (length choices ≡ 16)
+Inv-loop setup m₀ choices₀ t₀ turn₀ m choices t turn = (length m ≡ length m₀) × (length choices ≡ 16)
 
 abbrev μ-loop : tie.MeasureT-loop
-μ-loop desk m₀ choices₀ t₀ turn₀ m choices t turn = 1000000 - turn
+μ-loop setup m₀ choices₀ t₀ turn₀ m choices t turn = 1000000 - turn
 
 pub every-spec : {M : Type 1} → statement M
 every-spec =

@@ -7,10 +7,10 @@ use Rattle.cases.proofs.orders.follow.Statement.{statement}
 use Rattle.cases.proofs.orders.follow.Tie as tie
 
 abbrev Inv-loop : tie.InvT-loop
-Inv-loop desk m₀ choices k₀ m k = length m ≡ length m₀
+Inv-loop setup m₀ choices k₀ m k = length m ≡ length m₀
 
 abbrev μ-loop : tie.MeasureT-loop
-μ-loop desk m₀ choices k₀ m k = 16 - k
+μ-loop setup m₀ choices k₀ m k = 16 - k
 
 pub follow-spec : {M : Type 1} → statement M
 follow-spec =

@@ -5,10 +5,10 @@ use Rattle.commands.proofs.pairs.count.Statement.{statement}
 use Rattle.commands.proofs.pairs.count.Tie as tie
 
 abbrev Inv-loop : tie.InvT-loop
-Inv-loop desk m kind n₀ k₀ n k = Unit {0}
+Inv-loop setup m kind n₀ k₀ n k = Unit {0}
 
 abbrev μ-loop : tie.MeasureT-loop
-μ-loop desk m kind n₀ k₀ n k = 64 - k
+μ-loop setup m kind n₀ k₀ n k = 64 - k
 
 pub count-spec : {M : Type 1} → statement M
 count-spec =

@@ -1,6 +1,6 @@
 -- `floor::checks::places` meets its contract: a chain of six checks.
 use Rattle.floor.specs.Checks.{placesOf}
-use Rattle.floor.proofs.AnswersLaws.{chain, hands-on, ends-here, passes}
+use Rattle.floor.proofs.AnswersLaws.{chain, then-next, ends-here, passes}
 use Rattle.floor.proofs.ClimbLaws.{passed-climbs}
 use Rattle.floor.proofs.DockLaws.{passed-counted}
 use borrow.Author.Needs.{needs}
@@ -20,7 +20,7 @@ clear-requires c κs =
 
 returns-4 : tie.Need-returns-4
 unfolding placesOf
-returns-4 c = search (hands-on, ends-here (c .before .before .clear .ensures) (c .enum-told8 .given .1)) depth 7
+returns-4 c = search (then-next, ends-here (c .before .before .clear .ensures) (c .enum-told8 .given .1)) depth 7
 
 pub places-spec : {M : Type 1} → statement M
 unfolding placesOf
@@ -29,4 +29,4 @@ places-spec =
     (λ c κs. search needs) (λ c. search needs) (λ c. search needs) (λ c. search chain depth 7) (λ c κs. search needs)
     (λ c. search needs) (λ c. search needs) (λ c. search chain depth 7) clear-requires (λ c. search needs)
     (λ c. search needs) returns-4 (λ c κs. search counted depth 5) (λ c. search needs) (λ c. search needs)
-    (λ c. search chain depth 7) (λ c κs. search counted depth 5) (λ c. search hands-on depth 7))
+    (λ c. search chain depth 7) (λ c κs. search counted depth 5) (λ c. search then-next depth 7))

@@ -1,6 +1,6 @@
 -- `kalomivund::answers::of_conflict` meets its contract: case by case.
 use Rattle.kalomivund.proofs.EntryLaws.{says-case}
-use Rattle.wire.specs.Word.{mapOutcome}
+use Rattle.abi.specs.Word.{mapOutcome}
 use Rattle.conflict.specs.Entry.{comparedOutcome}
 use Rattle.kalomivund.specs.Answers.{ofConflict, conflictDone}
 use borrow.Author.Needs.{needs}

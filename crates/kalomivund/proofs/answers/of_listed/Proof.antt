@@ -1,6 +1,6 @@
 -- `kalomivund::answers::of_listed` meets its contract: case by case.
 use Rattle.kalomivund.proofs.EntryLaws.{says-case}
-use Rattle.wire.specs.Word.{mapOutcome}
+use Rattle.abi.specs.Word.{mapOutcome}
 use Rattle.lister.specs.Entry.{listedOutcome}
 use Rattle.kalomivund.specs.Answers.{figuresDone, ofRank}
 use borrow.Author.Needs.{needs}

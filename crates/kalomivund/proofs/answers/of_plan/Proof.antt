@@ -1,6 +1,6 @@
 -- `kalomivund::answers::of_plan` meets its contract: case by case.
 use Rattle.kalomivund.proofs.EntryLaws.{says-case}
-use Rattle.wire.specs.Word.{ofNumber, mapOutcome}
+use Rattle.abi.specs.Word.{ofNumber, mapOutcome}
 use Rattle.planner.specs.Answers.{resultOf}
 use borrow.Author.Needs.{needs}
 use Rattle.kalomivund.proofs.answers.of_plan.Statement.{statement}

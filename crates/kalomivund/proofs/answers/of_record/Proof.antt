@@ -1,6 +1,6 @@
 -- `kalomivund::answers::of_record` meets its contract: case by case.
 use Rattle.kalomivund.proofs.EntryLaws.{says-case}
-use Rattle.wire.specs.Word.{mapOutcome}
+use Rattle.abi.specs.Word.{mapOutcome}
 use Rattle.legality.specs.Entry.{legalityOutcome}
 use Rattle.kalomivund.specs.Answers.{ofRecord, recordDone}
 use borrow.Author.Needs.{needs}

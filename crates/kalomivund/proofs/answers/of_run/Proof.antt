@@ -1,6 +1,6 @@
 -- `kalomivund::answers::of_run` meets its contract: case by case.
 use Rattle.kalomivund.proofs.EntryLaws.{says-case}
-use Rattle.wire.specs.Word.{mapOutcome}
+use Rattle.abi.specs.Word.{mapOutcome}
 use Rattle.machine.specs.Answers.{ranReply}
 use Rattle.kalomivund.specs.Answers.{ofReply, toldDone, endCase}
 use borrow.Author.Needs.{needs}

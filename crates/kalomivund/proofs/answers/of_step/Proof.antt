@@ -1,6 +1,6 @@
 -- `kalomivund::answers::of_step` meets its contract: case by case.
 use Rattle.kalomivund.proofs.EntryLaws.{says-case}
-use Rattle.wire.specs.Word.{mapOutcome}
+use Rattle.abi.specs.Word.{mapOutcome}
 use Rattle.machine.specs.Answers.{steppedReply}
 use Rattle.kalomivund.specs.Answers.{ofReply, toldDone, stepCase}
 use borrow.Author.Needs.{needs}

@@ -1,5 +1,5 @@
 -- `legality::beats::route_test` meets its contract: a chain of five tests.
-use Rattle.floor.proofs.AnswersLaws.{hands-on, ends-at}
+use Rattle.floor.proofs.AnswersLaws.{then-next, ends-at}
 use Rattle.floor.specs.Checks.{inGrid}
 use Rattle.search.specs.Task.{taskOf}
 use Rattle.legality.specs.Tests.{freeIn, routeTest}
@@ -17,7 +17,7 @@ unfolding routeTest taskOf freeIn freeOn inGrid
 returns-2 c =
     let after-enum-told : tie.After-enum-told = search in
     let after-begins : tie.After-begins = search in
-    hands-on (after-begins .begins .ensures) (after-enum-told .enum-told .given .1)
+    then-next (after-begins .begins .ensures) (after-enum-told .enum-told .given .1)
     (ends-at _ (c .before .before .stands .ensures) (c .enum-told4 .given .1))
 
 returns-3 : tie.Need-returns-3
@@ -27,8 +27,8 @@ returns-3 c =
     let after-stands : tie.After-stands = search in
     let after-enum-told : tie.After-enum-told = search in
     let after-begins : tie.After-begins = search in
-    hands-on (after-begins .begins .ensures) (after-enum-told .enum-told .given .1)
-    (hands-on (after-stands .stands .ensures) (after-enum-told3 .enum-told3 .given .1)
+    then-next (after-begins .begins .ensures) (after-enum-told .enum-told .given .1)
+    (then-next (after-stands .stands .ensures) (after-enum-told3 .enum-told3 .given .1)
     (ends-at _ (c .before .before .moves .ensures) (c .enum-told6 .given .1)))
 
 returns-4 : tie.Need-returns-4
@@ -40,9 +40,9 @@ returns-4 c =
     let after-stands : tie.After-stands = search in
     let after-enum-told : tie.After-enum-told = search in
     let after-begins : tie.After-begins = search in
-    hands-on (after-begins .begins .ensures) (after-enum-told .enum-told .given .1)
-    (hands-on (after-stands .stands .ensures) (after-enum-told3 .enum-told3 .given .1)
-    (hands-on (after-moves .moves .ensures) (after-enum-told5 .enum-told5 .given .1)
+    then-next (after-begins .begins .ensures) (after-enum-told .enum-told .given .1)
+    (then-next (after-stands .stands .ensures) (after-enum-told3 .enum-told3 .given .1)
+    (then-next (after-moves .moves .ensures) (after-enum-told5 .enum-told5 .given .1)
     (ends-at _ (c .before .before .ends .ensures) (c .enum-told8 .given .1))))
 
 returns-5 : tie.Need-returns-5
@@ -56,10 +56,10 @@ returns-5 c =
     let after-stands : tie.After-stands = search in
     let after-enum-told : tie.After-enum-told = search in
     let after-begins : tie.After-begins = search in
-    hands-on (after-begins .begins .ensures) (after-enum-told .enum-told .given .1)
-    (hands-on (after-stands .stands .ensures) (after-enum-told3 .enum-told3 .given .1)
-    (hands-on (after-moves .moves .ensures) (after-enum-told5 .enum-told5 .given .1)
-    (hands-on (after-ends .ends .ensures) (after-enum-told7 .enum-told7 .given .1)
+    then-next (after-begins .begins .ensures) (after-enum-told .enum-told .given .1)
+    (then-next (after-stands .stands .ensures) (after-enum-told3 .enum-told3 .given .1)
+    (then-next (after-moves .moves .ensures) (after-enum-told5 .enum-told5 .given .1)
+    (then-next (after-ends .ends .ensures) (after-enum-told7 .enum-told7 .given .1)
     (c .blank .ensures))))
 
 pub route-test-spec : {M : Type 1} → statement M

@@ -1,7 +1,7 @@
 -- `machine::checks::lent_place` meets its contract: the floor first, then the room.
 use Rattle.machine.proofs.VerdictLaws.{chain, checked-few}
 use Rattle.floor.proofs.AnswersLaws.{passes}
-use Rattle.layout.specs.Calls.{placeVerdict}
+use Rattle.encoding.specs.Calls.{placeVerdict}
 use borrow.Author.Needs.{needs}
 use Rattle.machine.proofs.checks.lent_place.Statement.{statement}
 use Rattle.machine.proofs.checks.lent_place.Tie as tie

@@ -3,7 +3,7 @@ use Rattle.machine.proofs.VerdictLaws.{chain, place-tells}
 use Rattle.steps.proofs.PlacedLaws.{placed-sized}
 use Rattle.floor.proofs.AnswersLaws.{passes}
 use Rattle.floor.specs.Answers.{verdictOf}
-use Rattle.layout.specs.Calls.{stateVerdict}
+use Rattle.encoding.specs.Calls.{stateVerdict}
 use borrow.Author.Needs.{needs}
 use Rattle.machine.proofs.checks.lent_state.Statement.{statement}
 use Rattle.machine.proofs.checks.lent_state.Tie as tie

@@ -1,6 +1,6 @@
 -- `machine::checks::ready` meets its contract: 7 first, then what the step waits for.
 use Rattle.machine.proofs.VerdictLaws.{chain}
-use Rattle.layout.specs.InnerCalls.{singleVerdictIn}
+use Rattle.encoding.specs.InnerCalls.{singleVerdictIn}
 use mathlib.Core.Path.{sym, _∙_}
 use borrow.Author.Tests.{not-false}
 use borrow.Author.Needs.{needs}

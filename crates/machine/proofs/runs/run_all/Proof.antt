@@ -1,7 +1,7 @@
 -- `machine::runs::run_all` meets its contract: what is left of the list leads where the whole run leads.
 use lib.ListN.{length}
 use Prim.Native.Nat.{_-_, _≤_}
-use Rattle.layout.specs.Calls.{machineOf}
+use Rattle.encoding.specs.Calls.{machineOf}
 use Rattle.machine.specs.Inner.{Running}
 use Rattle.machine.proofs.RunLaws.{running-start, running-more, running-spent, running-end, tried-one}
 use native.Mathlib.Omega.{arith}

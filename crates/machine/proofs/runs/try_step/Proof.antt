@@ -1,7 +1,7 @@
 -- `machine::runs::try_step` meets its contract: an open step is taken, any other passed over.
 use mathlib.Core.Path.{refl, sym, _∙_}
-use Rattle.layout.specs.InnerSteps.{askedOpenIn}
-use Rattle.layout.specs.InnerRuns.{askedAfterIn}
+use Rattle.encoding.specs.InnerSteps.{askedOpenIn}
+use Rattle.encoding.specs.InnerRuns.{askedAfterIn}
 use Rattle.steps.specs.Answers.{askedMeant}
 use Rattle.steps.proofs.PlacedLaws.{placed-sized, rows-serve}
 use Rattle.machine.specs.Inner.{took, skipped}

@@ -3,7 +3,7 @@
 use Prim.Native.Nat.{_+_, _≤_}
 use mathlib.Core.Path.{_≡_, refl, sym, _∙_}
 use borrow.Author.Tests.{not-true, not-false}
-use Rattle.tables.specs.Table.{inSet}
+use Rattle.layers.specs.Table.{inSet}
 use Rattle.passes.specs.Docks.{heldFrom, holdOf}
 use Rattle.passes.proofs.HoldLaws.{held-below, held-here, held-none}
 use borrow.Author.Needs.{needs}

@@ -2,7 +2,7 @@
 -- other sets are as they were. The measure is what is left of the docks. Assumes nothing.
 use Prim.Native.Nat.{_-_, _≤_}
 use mathlib.Core.Path.{sym, _∙_}
-use Rattle.tables.specs.Step.{ChangedAt}
+use Rattle.layers.specs.Step.{ChangedAt}
 use Rattle.passes.specs.Docks.{EndsAt}
 use Rattle.passes.proofs.EndsLaws.{ends-none, ends-end, changed-none, changed-twice}
 use borrow.Author.Needs.{needs}

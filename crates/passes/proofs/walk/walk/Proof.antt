@@ -3,8 +3,8 @@
 use Prim.Native.Nat.{_+_, _-_, _≤_, _<_}
 use mathlib.Core.Path.{_≡_}
 use lib.ListN.{replicate}
-use Rattle.words.specs.Rows.{filled}
-use Rattle.words.proofs.FillLaws.{filled-none, filled-more}
+use Rattle.bitrows.specs.Rows.{filled}
+use Rattle.bitrows.proofs.FillLaws.{filled-none, filled-more}
 use Rattle.passes.specs.Walk.{pathOf}
 use Rattle.passes.proofs.NextLaws.{path-none, path-more}
 use borrow.Author.Needs.{needs}

@@ -5,8 +5,8 @@ use native.Mathlib.Omega.{arith}
 use mathlib.Core.Path.{_≡_, sym, ap, _∙_}
 use borrow.Author.Needs.{needs}
 use lib.ListN.{length}
-use Rattle.words.proofs.RowsLaws.{length-at}
-use Rattle.tables.proofs.GridLaws.{grid-room, grid-small}
+use Rattle.bitrows.proofs.RowsLaws.{length-at}
+use Rattle.layers.proofs.GridLaws.{grid-room, grid-small}
 use Rattle.search.specs.Rows.{gridRows, wallsOut}
 use Rattle.search.proofs.GroundLaws.{walls-none, walls-more}
 use Rattle.search.proofs.RowsFree.{free-rows-made}

@@ -5,8 +5,8 @@ use native.Mathlib.Omega.{arith}
 use mathlib.Core.Path.{_≡_, ap, _∙_}
 use borrow.Author.Needs.{needs}
 use lib.ListN.{length, replicate}
-use Rattle.words.specs.Rows.{filled}
-use Rattle.words.proofs.FillLaws.{filled-none, filled-more}
+use Rattle.bitrows.specs.Rows.{filled}
+use Rattle.bitrows.proofs.FillLaws.{filled-none, filled-more}
 use Rattle.search.specs.Rows.{gridRows}
 use Rattle.search.proofs.RowsFree.{length-grid}
 use Rattle.search.proofs.ground.grid_rows.Statement.{statement}

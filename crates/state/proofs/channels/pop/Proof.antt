@@ -1,7 +1,7 @@
 -- `state::channels::pop` meets its contract: the shifted channel, with one message less counted.
 use Rattle.laws.proofs.PutLaws.{put-one}
 use mathlib.Core.Path.{refl, _∙_}
-use Rattle.layout.specs.InnerSteps.{popped}
+use Rattle.encoding.specs.InnerSteps.{popped}
 use native.Mathlib.Omega.{arith}
 use borrow.Author.Needs.{needs}
 use Rattle.state.proofs.channels.pop.Statement.{statement}

@@ -4,7 +4,7 @@ use mathlib.Core.List.{_∷_}
 use lib.ListN.{length}
 use mathlib.Core.Path.{_≡_, _∙_}
 use Prim.Native.Nat.{_-_, _≤_}
-use Rattle.layout.specs.InnerSteps.{sentTo}
+use Rattle.encoding.specs.InnerSteps.{sentTo}
 use borrow.Author.Needs.{needs}
 use native.Mathlib.Omega.{arith}
 use Rattle.state.proofs.channels.send.Statement.{statement}

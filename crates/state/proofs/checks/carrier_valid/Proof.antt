@@ -1,6 +1,6 @@
 -- `state::checks::carrier_valid` meets its contract: the three tests in their order.
 use Rattle.state.proofs.EachLaws.{tests}
-use Rattle.layout.specs.Valid.{carrierValid}
+use Rattle.encoding.specs.Valid.{carrierValid}
 use borrow.Author.Needs.{needs}
 use Rattle.state.proofs.checks.carrier_valid.Statement.{statement}
 use Rattle.state.proofs.checks.carrier_valid.Tie as tie

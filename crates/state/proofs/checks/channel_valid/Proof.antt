@@ -1,6 +1,6 @@
 -- `state::checks::channel_valid` meets its contract: the length first, then the four places.
 use Rattle.state.proofs.EachLaws.{tests}
-use Rattle.layout.specs.Valid.{channelValid}
+use Rattle.encoding.specs.Valid.{channelValid}
 use borrow.Author.Needs.{needs}
 use Rattle.state.proofs.checks.channel_valid.Statement.{statement}
 use Rattle.state.proofs.checks.channel_valid.Tie as tie

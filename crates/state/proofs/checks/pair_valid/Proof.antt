@@ -1,6 +1,6 @@
 -- `state::checks::pair_valid` meets its contract: the view first, then the channel, each at its place.
 use Rattle.state.proofs.EachLaws.{tests}
-use Rattle.layout.specs.Valid.{pairValid}
+use Rattle.encoding.specs.Valid.{pairValid}
 use borrow.Author.Needs.{needs}
 use Rattle.state.proofs.checks.pair_valid.Statement.{statement}
 use Rattle.state.proofs.checks.pair_valid.Tie as tie

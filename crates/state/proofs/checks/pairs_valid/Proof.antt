@@ -2,7 +2,7 @@
 use Rattle.state.proofs.EachLaws.{Tested, each-turn}
 use Rattle.reference.specs.Ranges.{each}
 use Prim.Native.Nat.{_-_}
-use Rattle.layout.specs.Valid.{pairValid}
+use Rattle.encoding.specs.Valid.{pairValid}
 use borrow.Author.Needs.{needs}
 use Rattle.state.proofs.checks.pairs_valid.Statement.{statement}
 use Rattle.state.proofs.checks.pairs_valid.Tie as tie

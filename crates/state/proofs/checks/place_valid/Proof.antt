@@ -1,6 +1,6 @@
 -- `state::checks::place_valid` meets its contract: whether the place has a message decides which tags it may have.
 use Rattle.state.proofs.EachLaws.{tests}
-use Rattle.layout.specs.Valid.{placeValid}
+use Rattle.encoding.specs.Valid.{placeValid}
 use borrow.Author.Needs.{needs}
 use Rattle.state.proofs.checks.place_valid.Statement.{statement}
 use Rattle.state.proofs.checks.place_valid.Tie as tie

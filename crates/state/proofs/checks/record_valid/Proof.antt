@@ -4,7 +4,7 @@ use lib.Dec.{lit<}
 use native.Mathlib.Nat.{mul-le-mul, lt-of-le-of-lt}
 use Rattle.floor.specs.Checks.{within}
 use Prim.Native.Nat.{_≤_}
-use Rattle.layout.specs.Valid.{recordValid}
+use Rattle.encoding.specs.Valid.{recordValid}
 use borrow.Author.Needs.{needs}
 use Rattle.state.proofs.checks.record_valid.Statement.{statement}
 use Rattle.state.proofs.checks.record_valid.Tie as tie

@@ -1,6 +1,6 @@
 -- `state::checks::used_by` meets its contract: a route uses its beats, anything else nothing.
 use Rattle.state.proofs.EachLaws.{tests}
-use Rattle.layout.specs.Valid.{usedBy}
+use Rattle.encoding.specs.Valid.{usedBy}
 use borrow.Author.Needs.{needs}
 use Rattle.state.proofs.checks.used_by.Statement.{statement}
 use Rattle.state.proofs.checks.used_by.Tie as tie

@@ -1,7 +1,7 @@
 -- `state::checks::valid` meets its contract: the count, the carriers, the pairs, in this order.
 use Rattle.state.proofs.EachLaws.{tests}
-use Rattle.layout.specs.Valid.{countValid, valid}
-use Rattle.layout.specs.Places.{stateSize}
+use Rattle.encoding.specs.Valid.{countValid, valid}
+use Rattle.encoding.specs.Places.{stateSize}
 use borrow.Author.Needs.{needs}
 use Rattle.state.proofs.checks.valid.Statement.{statement}
 use Rattle.state.proofs.checks.valid.Tie as tie

@@ -1,5 +1,5 @@
 -- `state::places::answer_place` meets its contract: the sum of its parts.
-use Rattle.layout.specs.Places.{answerPlace}
+use Rattle.encoding.specs.Places.{answerPlace}
 use borrow.Author.Needs.{needs}
 use Rattle.state.proofs.places.answer_place.Statement.{statement}
 use Rattle.state.proofs.places.answer_place.Tie as tie

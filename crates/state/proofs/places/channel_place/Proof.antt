@@ -1,7 +1,7 @@
 -- `state::places::channel_place` meets its contract: the number of the pair is below that of all pairs, so the channel ends within the
 -- state.
-use Rattle.layout.specs.Places.{channelPlace, stateSize}
-use Rattle.layout.proofs.ValidPartLaws.{pair-below}
+use Rattle.encoding.specs.Places.{channelPlace, stateSize}
+use Rattle.encoding.proofs.ValidPartLaws.{pair-below}
 use native.Mathlib.Omega.{arith}
 use borrow.Author.Needs.{needs}
 use Rattle.state.proofs.places.channel_place.Statement.{statement}

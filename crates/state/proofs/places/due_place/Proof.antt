@@ -1,5 +1,5 @@
 -- `state::places::due_place` meets its contract: the sum of its parts.
-use Rattle.layout.specs.Places.{duePlace}
+use Rattle.encoding.specs.Places.{duePlace}
 use borrow.Author.Needs.{needs}
 use Rattle.state.proofs.places.due_place.Statement.{statement}
 use Rattle.state.proofs.places.due_place.Tie as tie

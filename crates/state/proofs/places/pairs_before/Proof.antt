@@ -1,7 +1,7 @@
 -- `state::places::pairs_before` meets its contract: the loop adds up the pairs of the receivers so far.
 use mathlib.Core.Path.{_≡_, refl, sym}
 use Prim.Native.Nat.{_-_, _≤_}
-use Rattle.layout.specs.Places.{pairsBefore}
+use Rattle.encoding.specs.Places.{pairsBefore}
 use Rattle.state.proofs.PlaceLaws.{pairs-more, pairs-most}
 use borrow.Author.Needs.{needs}
 use native.Mathlib.Omega.{arith}

@@ -1,5 +1,5 @@
 -- `state::places::planned_place` meets its contract: the sum of its parts.
-use Rattle.layout.specs.Places.{plannedPlace}
+use Rattle.encoding.specs.Places.{plannedPlace}
 use borrow.Author.Needs.{needs}
 use Rattle.state.proofs.places.planned_place.Statement.{statement}
 use Rattle.state.proofs.places.planned_place.Tie as tie

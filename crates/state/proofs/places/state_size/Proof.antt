@@ -1,5 +1,5 @@
 -- `state::places::state_size` meets its contract: the sum of its parts.
-use Rattle.layout.specs.Places.{stateSize}
+use Rattle.encoding.specs.Places.{stateSize}
 use borrow.Author.Needs.{needs}
 use Rattle.state.proofs.places.state_size.Statement.{statement}
 use Rattle.state.proofs.places.state_size.Tie as tie

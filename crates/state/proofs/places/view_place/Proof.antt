@@ -1,6 +1,6 @@
 -- `state::places::view_place` meets its contract: the number of the pair is below that of all pairs, so the view ends within the state.
-use Rattle.layout.specs.Places.{viewPlace, stateSize}
-use Rattle.layout.proofs.ValidPartLaws.{pair-below}
+use Rattle.encoding.specs.Places.{viewPlace, stateSize}
+use Rattle.encoding.proofs.ValidPartLaws.{pair-below}
 use native.Mathlib.Omega.{arith}
 use borrow.Author.Needs.{needs}
 use Rattle.state.proofs.places.view_place.Statement.{statement}

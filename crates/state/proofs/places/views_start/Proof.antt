@@ -1,7 +1,7 @@
 -- `state::places::views_start` meets its contract: the views of carrier i end where those of the next begin.
 use Prim.Native.Nat.{suc}
-use Rattle.layout.proofs.ExactLaws.{pairs-grow}
-use Rattle.layout.specs.Places.{viewPlace, stateSize}
+use Rattle.encoding.proofs.ExactLaws.{pairs-grow}
+use Rattle.encoding.specs.Places.{viewPlace, stateSize}
 use Rattle.state.proofs.PlaceLaws.{pairs-next}
 use native.Mathlib.Omega.{arith}
 use borrow.Author.Needs.{needs}

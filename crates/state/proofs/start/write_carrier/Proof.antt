@@ -1,5 +1,5 @@
 -- `state::start::write_carrier` meets its contract: two numbers and a record of none are the fresh carrier.
-use Rattle.layout.specs.Places.{plannedPlace}
+use Rattle.encoding.specs.Places.{plannedPlace}
 use Rattle.state.proofs.FreshLaws.{carrier-is}
 use borrow.Author.Needs.{needs}
 use Rattle.state.proofs.start.write_carrier.Statement.{statement}

@@ -4,7 +4,7 @@ use Rattle.laws.specs.Memory.{put}
 use lib.ListN.{length}
 use mathlib.Core.Path.{_≡_, _∙_}
 use Prim.Native.Nat.{_-_, _≤_}
-use Rattle.layout.specs.Encode.{blocks, carrierBlock}
+use Rattle.encoding.specs.Encode.{blocks, carrierBlock}
 use Rattle.reference.specs.State.{fresh}
 use borrow.Author.Needs.{needs}
 use native.Mathlib.Omega.{arith}

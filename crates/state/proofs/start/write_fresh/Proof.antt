@@ -2,7 +2,7 @@
 use mathlib.Core.Path.{refl, _∙_}
 use native.Mathlib.Omega.{arith}
 use Rattle.state.proofs.FreshLaws.{fresh-whole}
-use Rattle.layout.specs.Places.{stateSize}
+use Rattle.encoding.specs.Places.{stateSize}
 use borrow.Author.Needs.{needs}
 use Rattle.state.proofs.start.write_fresh.Statement.{statement}
 use Rattle.state.proofs.start.write_fresh.Tie as tie

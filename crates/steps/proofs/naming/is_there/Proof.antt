@@ -1,6 +1,6 @@
 -- `steps::naming::is_there` meets its contract: a case a kind of step.
 use Rattle.reference.specs.Step.{isThere}
-use Rattle.layout.specs.Calls.{machineOf}
+use Rattle.encoding.specs.Calls.{machineOf}
 use Rattle.steps.specs.Answers.{stepMeant}
 use Rattle.steps.specs.Inner.{bare}
 use borrow.Author.Needs.{needs}

@@ -3,7 +3,7 @@ use mathlib.Core.Path.{sym}
 use borrow.Author.Tests.{eq-eqb, ne-eqb}
 use Rattle.laws.proofs.VerdictLaws.{demand-passes, demand-refuses}
 use Rattle.floor.specs.Answers.{verdictOf}
-use Rattle.layout.specs.Places.{stateSize}
+use Rattle.encoding.specs.Places.{stateSize}
 use borrow.Author.Needs.{needs}
 use Rattle.steps.proofs.openness.due_waits.Statement.{statement}
 use Rattle.steps.proofs.openness.due_waits.Tie as tie

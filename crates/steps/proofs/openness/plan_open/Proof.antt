@@ -1,6 +1,6 @@
 -- `steps::openness::plan_open` meets its contract: not there, not due, or as the search for a full channel decides.
 use mathlib.Core.Path.{sym, _∙_}
-use Rattle.layout.specs.Places.{stateSize}
+use Rattle.encoding.specs.Places.{stateSize}
 use Rattle.laws.specs.Verdict.{passes}
 use Rattle.steps.proofs.OpenLaws.{plan-absent, plan-named, open-waits, plan-early, plan-due, demand-test}
 use borrow.Author.Needs.{needs}

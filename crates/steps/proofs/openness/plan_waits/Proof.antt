@@ -1,7 +1,7 @@
 -- `steps::openness::plan_waits` meets its contract: a chain of two checks.
 use Rattle.floor.proofs.AnswersLaws.{chain}
-use Rattle.layout.specs.Calls.{machineOf}
-use Rattle.layout.specs.InnerSteps.{waitsIn}
+use Rattle.encoding.specs.Calls.{machineOf}
+use Rattle.encoding.specs.InnerSteps.{waitsIn}
 use Rattle.steps.specs.Inner.{bare}
 use borrow.Author.Needs.{needs}
 use Rattle.steps.proofs.openness.plan_waits.Statement.{statement}

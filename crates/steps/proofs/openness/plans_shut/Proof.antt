@@ -1,7 +1,7 @@
 -- `steps::openness::plans_shut` meets its contract: the loop holds that no plan so far is open.
 use Rattle.state.proofs.EachLaws.{Tested, each-turn}
 use Prim.Native.Nat.{_-_}
-use Rattle.layout.specs.InnerSteps.{shutIn}
+use Rattle.encoding.specs.InnerSteps.{shutIn}
 use Rattle.steps.specs.Answers.{stepMeant}
 use Rattle.steps.specs.Inner.{planShut}
 use borrow.Author.Needs.{needs}

@@ -3,8 +3,8 @@ use mathlib.Core.Path.{sym, _∙_}
 use borrow.Author.Tests.{le-leb, lt-leb}
 use Rattle.laws.proofs.VerdictLaws.{demand-passes, demand-refuses}
 use Rattle.floor.specs.Answers.{verdictOf}
-use Rattle.layout.specs.Calls.{machineOf}
-use Rattle.layout.specs.InnerSteps.{roomIn}
+use Rattle.encoding.specs.Calls.{machineOf}
+use Rattle.encoding.specs.InnerSteps.{roomIn}
 use Rattle.steps.specs.Inner.{bare, roomAt}
 use borrow.Author.Needs.{needs}
 use Rattle.steps.proofs.openness.room_waits.Statement.{statement}

@@ -1,7 +1,7 @@
 -- `steps::openness::sender_shut` meets its contract: the loop holds that no delivery so far is open.
 use Rattle.state.proofs.EachLaws.{Tested, each-turn}
 use Prim.Native.Nat.{_-_}
-use Rattle.layout.specs.InnerSteps.{shutIn}
+use Rattle.encoding.specs.InnerSteps.{shutIn}
 use Rattle.steps.specs.Answers.{stepMeant}
 use Rattle.steps.specs.Inner.{deliveryShut, senderShut}
 use borrow.Author.Needs.{needs}

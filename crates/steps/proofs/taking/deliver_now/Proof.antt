@@ -1,6 +1,6 @@
 -- `steps::taking::deliver_now` meets its contract: the oldest message becomes the view and leaves its channel, the receiver becomes due.
 use Rattle.steps.proofs.TakeLaws.{delivery-stored}
-use Rattle.layout.specs.Places.{stateSize}
+use Rattle.encoding.specs.Places.{stateSize}
 use borrow.Author.Needs.{needs}
 use Rattle.steps.proofs.taking.deliver_now.Statement.{statement}
 use Rattle.steps.proofs.taking.deliver_now.Tie as tie

@@ -5,8 +5,8 @@ use mathlib.Core.List.{_∷_}
 use mathlib.Core.Path.{_∙_, ap}
 use Prim.Native.Nat.{ℕ}
 use denote.Ref.{now}
-use Rattle.layout.specs.Calls.{machineOf}
-use Rattle.layout.specs.InnerSteps.{bestIn}
+use Rattle.encoding.specs.Calls.{machineOf}
+use Rattle.encoding.specs.InnerSteps.{bestIn}
 use Rattle.planner.proofs.RecordLaws.{found-record}
 use borrow.Author.Needs.{needs}
 use Rattle.steps.proofs.taking.plan_now.Statement.{statement}

@@ -1,6 +1,6 @@
 -- `steps::taking::take` meets its contract: what the step does, and the step counted.
 use native.Mathlib.Omega.{arith}
-use Rattle.layout.specs.Places.{stateSize}
+use Rattle.encoding.specs.Places.{stateSize}
 use Rattle.steps.proofs.TakeLaws.{counted-took}
 use borrow.Author.Needs.{needs}
 use Rattle.steps.proofs.taking.take.Statement.{statement}

@@ -2,7 +2,7 @@
 use Prim.Native.Nat.{_-_, _≤_}
 use native.Mathlib.Omega.{arith}
 use mathlib.Core.Path.{_≡_, sym, _∙_}
-use Rattle.reference.specs.Quiet.{ceiling}
+use Rattle.reference.specs.Quiescent.{ceiling}
 use Rattle.orders.specs.Orders.{places}
 use Rattle.steps.proofs.PlacedLaws.{placed-sized, workable-same}
 use Rattle.trial.specs.Entry.{orderBy, trialOf}

@@ -5,7 +5,7 @@ use mathlib.Core.Bool.{Bool}
 use mathlib.Core.Path.{_≡_, sym, _∙_}
 use borrow.Author.Needs.{needs}
 use Rattle.orders.specs.Orders.{places, stepAt}
-use Rattle.layout.specs.InnerSteps.{openIn}
+use Rattle.encoding.specs.InnerSteps.{openIn}
 use Rattle.steps.specs.Inner.{bare}
 use Rattle.steps.proofs.PlacedLaws.{placed-sized}
 use Rattle.lister.proofs.WalkLaws.{places-six, beside-spent, beside-end, beside-shut, beside-open, tallied-none, tallied-same, tallied-join}

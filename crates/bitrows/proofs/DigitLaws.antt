@@ -1,0 +1,136 @@
+-- Laws of digits: of or, and, xor, shifts, a single digit and a run of ones, by recursion on the place.
+use Prim.Native.Nat.{ℕ, zero, suc, _+_, _*_, _-_, _/_, _%_, _^_, _<_, min, max}
+use native.Mathlib.Omega.{arith}
+use native.Mathlib.Nat.{pow-suc}
+use native.Mathlib.Numerals.{add-one, one-add}
+use mathlib.Core.Bool.{Bool, true, false, _&&_, _||_, not}
+use mathlib.Core.Path.{_≡_, refl, sym, ap, _∙_}
+use borrow.Author.Tests.{ne-eqb, lt-ltb, le-ltb}
+use lib.Bits.{bitAnd, bitOr, bitXor, differ, and-step, or-step, xor-step, and-mask, and-le-l, and-le-r, or-add-and}
+use lib.Dec.{eqb, ltb, eqb·suc-suc, leb·suc-suc}
+use lib.Pow.{pow-pos, field, mod-mod-pow, shr-shr}
+use Rattle.bitrows.specs.Words.{digit, without}
+
+half : (q r : ℕ) → r < 2 → (q * 2 + r) / 2 ≡ q
+half q r h = omega arith
+
+odd : (q r : ℕ) → r < 2 → (q * 2 + r) % 2 ≡ r
+odd q r h = omega arith
+
+-- A law of two digits, from its four cases.
+two-digits : (P : ℕ → ℕ → Type 0) → P 0 0 → P 0 1 → P 1 0 → P 1 1 → (x y : ℕ) → x < 2 → y < 2 → P x y
+two-digits P a b c d zero zero h k = a
+two-digits P a b c d zero (suc zero) h k = b
+two-digits P a b c d zero (suc (suc y)) h k = absurd (omega arith)
+two-digits P a b c d (suc zero) zero h k = c
+two-digits P a b c d (suc zero) (suc zero) h k = d
+two-digits P a b c d (suc zero) (suc (suc y)) h k = absurd (omega arith)
+two-digits P a b c d (suc (suc x)) y h k = absurd (omega arith)
+
+-- An operation on words that is f on the digits of each place, which is g on Bools.
+module _ (op f : ℕ → ℕ → ℕ) (g : Bool → Bool → Bool)
+    (step : (a b : ℕ) → op a b ≡ op (a / 2) (b / 2) * 2 + f (a % 2) (b % 2))
+    (small : (x y : ℕ) → x < 2 → y < 2 → f x y < 2)
+    (same : (x y : ℕ) → x < 2 → y < 2 → eqb (f x y) 1 ≡ g (eqb x 1) (eqb y 1)) where
+  digit-op : (k a b : ℕ) → digit (op a b) k ≡ g (digit a k) (digit b k)
+  unfolding digit
+  digit-op zero a b =
+      ap (λ (n : ℕ). eqb n 1) (ap (λ (n : ℕ). n % 2) (step a b) ∙ odd _ _ (small _ _ (omega arith) (omega arith)))
+      ∙ same (a % 2) (b % 2) (omega arith) (omega arith)
+  digit-op (suc k) a b =
+      ap (λ (n : ℕ). digit n k) (ap (λ (n : ℕ). n / 2) (step a b) ∙ half _ _ (small _ _ (omega arith) (omega arith)))
+      ∙ digit-op k (a / 2) (b / 2)
+
+xorb : Bool → Bool → Bool
+xorb true b = not b
+xorb false b = b
+
+pub digit-or : (k a b : ℕ) → digit (bitOr a b) k ≡ (digit a k || digit b k)
+digit-or =
+    digit-op bitOr max (λ x y. x || y) or-step (two-digits (λ x y. max x y < 2) (omega arith) (omega arith) (omega arith) (omega arith))
+    (two-digits (λ x y. eqb (max x y) 1 ≡ (eqb x 1 || eqb y 1)) refl refl refl refl)
+
+pub digit-and : (k a b : ℕ) → digit (bitAnd a b) k ≡ (digit a k && digit b k)
+digit-and =
+    digit-op bitAnd min (λ x y. x && y) and-step (two-digits (λ x y. min x y < 2) (omega arith) (omega arith) (omega arith) (omega arith))
+    (two-digits (λ x y. eqb (min x y) 1 ≡ (eqb x 1 && eqb y 1)) refl refl refl refl)
+
+digit-xor : (k a b : ℕ) → digit (bitXor a b) k ≡ xorb (digit a k) (digit b k)
+unfolding xorb
+digit-xor =
+    digit-op bitXor differ xorb xor-step
+    (two-digits (λ x y. differ x y < 2) (omega arith) (omega arith) (omega arith) (omega arith))
+    (two-digits (λ x y. eqb (differ x y) 1 ≡ xorb (eqb x 1) (eqb y 1)) refl refl refl refl)
+
+xor-and : (a b : Bool) → xorb a (a && b) ≡ (a && not b)
+unfolding xorb
+xor-and true b = refl
+xor-and false b = refl
+
+pub digit-without : (k x m : ℕ) → digit (without x m) k ≡ (digit x k && not (digit m k))
+unfolding without
+digit-without k x m = digit-xor k x (bitAnd x m) ∙ rw digit-and (xor-and (digit x k) (digit m k))
+
+pub digit-zero : (k : ℕ) → digit 0 k ≡ false
+unfolding digit
+digit-zero zero = refl
+digit-zero (suc k) = digit-zero k
+
+-- The word with one digit.
+pub digit-bit : (j k : ℕ) → digit (2 ^ j) k ≡ eqb k j
+unfolding digit
+digit-bit zero zero = refl
+digit-bit zero (suc k) = digit-zero k ∙ sym (ne-eqb (suc k) 0 (λ e. omega arith))
+digit-bit (suc j) zero = rw (pow-suc 2 j) (ap (λ (n : ℕ). eqb n 1) (even (2 ^ j)) ∙ sym (ne-eqb 0 (suc j) (λ e. omega arith)))
+  where
+    even : (n : ℕ) → n * 2 % 2 ≡ 0
+    even n = omega arith
+digit-bit (suc j) (suc k) = rw (pow-suc 2 j) (ap (λ (n : ℕ). digit n k) (back (2 ^ j)) ∙ digit-bit j k ∙ sym (eqb·suc-suc k j))
+  where
+    back : (n : ℕ) → n * 2 / 2 ≡ n
+    back n = omega arith
+
+-- The digits below n are those of the remainder by 2 ^ n.
+pub digit-mod : (n k x : ℕ) → k < n → digit (x % 2 ^ n) k ≡ digit x k
+unfolding digit
+digit-mod zero k x h = absurd (omega arith)
+digit-mod (suc n) zero x h = ap (λ (m : ℕ). eqb m 1) (rw add-one at (mod-mod-pow x n 1))
+digit-mod (suc n) (suc k) x h = ap (λ (m : ℕ). digit m k) (rw add-one at (field x n 1)) ∙ digit-mod n k (x / 2) (omega arith)
+
+-- A word moved up by one place.
+pub digit-double-first : (x : ℕ) → digit (x * 2 % 2 ^ 32) 0 ≡ false
+unfolding digit
+digit-double-first x = ap (λ (n : ℕ). eqb n 1) even
+  where
+    even : x * 2 % 2 ^ 32 % 2 ≡ 0
+    even = omega arith
+
+pub digit-double : (x k : ℕ) → suc k < 32 → digit (x * 2 % 2 ^ 32) (suc k) ≡ digit x k
+unfolding digit
+digit-double x k h = digit-mod 32 (suc k) (x * 2) h ∙ ap (λ (n : ℕ). digit n k) back
+  where
+    back : x * 2 / 2 ≡ x
+    back = omega arith
+
+-- The test of a digit by a shift and a mask.
+pub digit-test : (x k : ℕ) → eqb (bitAnd (x / 2 ^ k) 1) 1 ≡ digit x k
+unfolding digit
+digit-test x zero = rw (and-mask (x / 1) 1) (ap (λ (n : ℕ). eqb (n % 2) 1) one)
+  where
+    one : x / 1 ≡ x
+    one = omega arith
+digit-test x (suc k) = ap (λ (n : ℕ). eqb (bitAnd n 1) 1) (rw one-add at (sym (shr-shr x 1 k))) ∙ digit-test (x / 2) k
+
+-- A run of n ones.
+pub digit-ones : (n k : ℕ) → digit (2 ^ n - 1) k ≡ ltb k n
+unfolding digit
+digit-ones zero k = digit-zero k ∙ sym (le-ltb k 0 (omega arith))
+digit-ones (suc n) zero = rw (pow-suc 2 n) (ap (λ (m : ℕ). eqb m 1) (one (2 ^ n) (pow-pos n)) ∙ sym (lt-ltb 0 (suc n) (omega arith)))
+  where
+    one : (m : ℕ) → 0 < m → (m * 2 - 1) % 2 ≡ 1
+    one m h = omega arith
+digit-ones (suc n) (suc k) =
+    rw (pow-suc 2 n) (ap (λ (m : ℕ). digit m k) (back (2 ^ n) (pow-pos n)) ∙ digit-ones n k ∙ sym (leb·suc-suc (suc k) n))
+  where
+    back : (m : ℕ) → 0 < m → (m * 2 - 1) / 2 ≡ m - 1
+    back m h = omega arith

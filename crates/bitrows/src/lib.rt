@@ -1,0 +1,110 @@
+// Words of digits and sets of cells as rows of words: one step of a whole set takes a few operations a row.
+// A cell's row is its number by the width, its column the rest.
+ghost use mathlib.Core.Path.{_≡_};
+ghost use Prim.Native.Nat.{_+_, _*_, _-_, _/_, _%_, _^_, _≤_, _<_};
+ghost use lib.ListN.{length, getD, replicate};
+ghost use Rattle.bitrows.specs.Words.{without as Words·without};
+ghost use Rattle.bitrows.specs.Rows.{added, dropped, droppedAt, written, filled, successorRow};
+ghost use Rattle.bitrows.specs.Rows.{has as Rows·has};
+
+// The word with the digit at place k.
+fn bit(k: usize) -> u32
+    requires { ⌜ k < 32 ⌝ }
+    ensures { λ r. ⌜ r ≡ 2 ^ k ⌝ }
+{
+    1u32 << k
+}
+
+// The digits of x that are not in m.
+pub fn without(x: u32, m: u32) -> u32
+    ensures { λ r. ⌜ r ≡ Words·without x m ⌝ }
+{
+    x ^ (x & m)
+}
+
+// Whether the digit of row r at column k is 1.
+pub fn has(s: &[u32], r: usize, k: usize) -> bool
+    requires { ⌜ (r < length (now s)) × (k < 32) ⌝ }
+    ensures { λ x. ⌜ x ≡ Rows·has (now (s .entry)) r k ⌝ }
+{
+    (s[r] >> k) & 1 == 1
+}
+
+// Adds the digit of row r at column k.
+pub fn add(s: &mut [u32], r: usize, k: usize)
+    requires { ⌜ (r < length (now s)) × (k < 32) ⌝ }
+    ensures { λ x. ⌜ now (s .exit) ≡ added (now (s .entry)) r k ⌝ }
+{
+    let more = bit(k);
+    s[r] = s[r] | more;
+}
+
+// What a cell's number is multiplied with, so that a shift by 16 places divides it by the width.
+pub fn scale(w: usize) -> usize
+    requires { ⌜ (1 ≤ w) × (w ≤ 32) ⌝ }
+    ensures { λ r. ⌜ r ≡ 65536 / w + 1 ⌝ }
+{
+    65536 / w + 1
+}
+
+// The row of cell c, without a division.
+pub fn row_of(w: usize, scale: usize, c: usize) -> usize
+    requires { ⌜ (1 ≤ w) × (w ≤ 32) × (c < 1024) × (scale ≡ 65536 / w + 1) ⌝ }
+    ensures { λ r. ⌜ (r ≡ c / w) × (r * w + c % w ≡ c) ⌝ }
+{
+    (c * scale) >> 16
+}
+
+// Takes the digit of row r at column k away.
+pub fn drop(s: &mut [u32], r: usize, k: usize)
+    requires { ⌜ (r < length (now s)) × (k < 32) ⌝ }
+    ensures { λ x. ⌜ now (s .exit) ≡ dropped (now (s .entry)) r k ⌝ }
+{
+    let less = bit(k);
+    s[r] = without(s[r], less);
+}
+
+// Takes cell c of a grid of width w out of the rows from row i on; a number that is no cell changes nothing.
+pub fn drop_at(s: &mut [u32], i: usize, w: usize, scale: usize, cells: usize, c: usize)
+    requires { ⌜ (1 ≤ w) × (w ≤ 32) × (cells ≤ 32 * w) × (scale ≡ 65536 / w + 1) ⌝ }
+    requires { ⌜ i + 32 ≤ length (now s) ⌝ }
+    ensures { λ x. ⌜ now (s .exit) ≡ droppedAt w cells i c (now (s .entry)) ⌝ }
+{
+    if c < cells {
+        let r = row_of(w, scale, c);
+        drop(s, i + r, c - r * w);
+    }
+}
+
+// The n rows from row i on.
+pub fn some_rows(s: &[u32], i: usize, n: usize) -> [u32; 32]
+    requires { ⌜ (n ≤ 32) × (i + n ≤ length (now s)) ⌝ }
+    ensures { λ x. ⌜ x ≡ filled (replicate 32 0) (λ r. getD (now (s .entry)) (i + r) 0) n ⌝ }
+{
+    let mut x = [0u32; 32];
+    let mut r: usize = 0;
+    while r < n {
+        x[r] = s[i + r];
+        r += 1;
+    }
+    x
+}
+
+// Writes the first n of some rows into a table, from row i on.
+pub fn put_rows(table: &mut [u32], i: usize, x: [u32; 32], n: usize)
+    requires { ⌜ (n ≤ 32) × (i + n ≤ length (now table)) ⌝ }
+    ensures { λ r. ⌜ now (table .exit) ≡ written (now (table .entry)) i x n ⌝ }
+{
+    let mut r: usize = 0;
+    while r < n {
+        table[i + r] = x[r];
+        r += 1;
+    }
+}
+
+// The digits of a mask that a step brings to a row from the row above, itself and the row below.
+pub fn successor_row(over: u32, here: u32, under: u32, mask: u32) -> u32
+    ensures { λ r. ⌜ r ≡ successorRow over here under mask ⌝ }
+{
+    (here | here << 1 | here >> 1 | over | under) & mask
+}

@@ -1,0 +1,308 @@
+-- Demand 1, proved.
+use Prim.Native.Nat.{ℕ, _+_, _*_, _≤_, _<_}
+use native.Mathlib.Omega.{arith}
+use native.Mathlib.Nat.{zero-add}
+use mathlib.Core.Bool.{true, false, cond}
+use mathlib.Core.List.{List, _++_}
+use mathlib.Core.Logic.{_↔_, _⊎_, inl, inr}
+use mathlib.Core.Path.{_≡_, refl, _∙_, ap}
+use lib.Dec.{leb}
+use lib.ListN.{length, take, drop, take-append-drop}
+use borrow.Author.Tests.{le-leb, lt-leb}
+use Rattle.laws.specs.Memory.{put}
+use Rattle.laws.specs.Verdict.{Verdict, passed, refused, _then_, demand, Outcome, value, refusal, _thenAnswers_, whenPassed}
+use Rattle.laws.proofs.Tests.{lt-or-le, not-true-is-false, false-fails}
+use Rattle.laws.proofs.VerdictLaws.{then-both, then-assoc, when-passed, when-refused, demand-holds}
+use Rattle.floor.specs.declared.Floor.{Floor}
+use Rattle.floor.specs.Checks.{checkOf, limitsOf, roomOf, within}
+use Rattle.floor.proofs.LimitsLaws.{check-tells, room-passed}
+use Rattle.sheet.specs.Text.{sheetOf, sheetLength}
+use Rattle.sheet.specs.Values.{floorAt, wallsAt}
+use Rattle.sheet.specs.Read.{sheetVerdict, readVerdict, readWalls, writeVerdict, writeSheet}
+use Rattle.sheet.specs.Refused.{RefusedSheet}
+use Rattle.sheet.proofs.FormLaws.{walls-length}
+use Rattle.sheet.proofs.Theorems.{theorems as sheet-theorems}
+use Rattle.conflict.specs.Entry.{routesLent, conflictOutcome}
+use Rattle.search.specs.Search.{requestOf, searchOf}
+use Rattle.legality.specs.Entry.{recordVerdict, recordOutcome, arrivalOutcome}
+use Rattle.planner.specs.Plan.{planOf, planVerdict}
+use Rattle.planner.proofs.ResultLaws.{plan-size}
+use Rattle.planner.specs.Answers.{planResult}
+use Rattle.records.specs.Records.{recordsOf, stored}
+use Rattle.planner.specs.Records.{planMemory}
+use Rattle.printing.specs.Print.{printOf, textLength, printVerdict, printOutcome, printAnswers, printMemory}
+use Rattle.printing.specs.Print.{routesOf, neededFor, shortOutcome, routesOutcome, routesMemory}
+use Rattle.printing.proofs.Theorems.{theorems as printing-theorems}
+use Rattle.lengths.specs.Figures.{figuresFor, lengthsOf}
+use Rattle.lengths.proofs.Theorems.{theorems as lengths-theorems}
+use Rattle.reference.specs.State.{State, fresh}
+use Rattle.reference.specs.Table.{Call, verdict}
+use Rattle.reference.specs.Refused.{RefusedWith as RefusedCall}
+use Rattle.reference.specs.Calls.{reply, afterCall}
+use Rattle.reference.proofs.Theorems.{theorems as reference-theorems}
+use Rattle.encoding.specs.Encode.{encode}
+use Rattle.encoding.specs.Places.{stateSize}
+use Rattle.encoding.specs.Valid.{valid}
+use Rattle.encoding.specs.Calls.{machineOf, placeVerdict, stateVerdict, stateIn, withState, freshMemory, replyTo, memoryAfter}
+use Rattle.encoding.proofs.StateLaws.{encode-beyond}
+use Rattle.encoding.proofs.Theorems.{theorems as layout-theorems}
+use Rattle.machine.specs.Ceiling.{mostSteps}
+use Rattle.trial.specs.Report.{numbersOf, reportSize}
+use Rattle.trial.specs.Entry.{trialVerdict, trialOf, trialOutcome, stateTried, reportTried}
+use Rattle.trial.proofs.Theorems.{theorems as trial-theorems}
+use Rattle.demands.specs.Rows.{Table, Row, row, Short, _orElse_, earlier, later, Refuses, Answers, Keeps}
+use Rattle.demands.specs.Demand1.{HoldsState, ReadRows, WriteRows, PlanRows, PrintRows, SearchRows, FreshRows, StateRows, CallRows}
+use Rattle.demands.specs.Demand1.{TrialRows, RoutesRows, ConflictRows, RecordRows, ArrivalRows, Demand1}
+use Rattle.demands.proofs.RankLaws.{run-of-rank, run-keeps-report}
+use Rattle.demands.proofs.BlockerLaws.{blockers, blockers-keeps}
+use Rattle.demands.proofs.RowLaws.{then-rows, answers-rows, gives-rows, demand-row, short-row, keeps-when, value-no-refusal, no-row-passes, passes-exactly, refusal-row}
+use Rattle.laws.proofs.PutLaws.{front-beyond, put-beyond}
+use Rattle.demands.proofs.EntryLaws.{floor-rows, lent-rows, outside-row, limit-rows}
+use Rattle.demands.proofs.RefusalLaws.{reply-rows, state-kept}
+
+module _ (text : List ℕ) where
+  read : (room : ℕ) → Refuses (readVerdict text room) (ReadRows text room)
+  unfolding readVerdict lengthsOf
+  read room = then-rows (sheetVerdict text) _ (sheet-theorems .refuses-exactly text) (λ e. short-row _ room)
+
+  read-keeps : (old : List ℕ) → Keeps (ReadRows text (length old)) (lengthsOf (floorAt text) .walls) old (readWalls text old)
+  unfolding readWalls lengthsOf
+  read-keeps old =
+      keeps-when _ (readVerdict text (length old)) (read (length old))
+      (λ e. rw (← walls-length text) (front-beyond old (wallsAt text) (length (wallsAt text)) (omega arith)))
+
+module _ (f : Floor) (ws : List ℕ) where
+  write : (room : ℕ) → Refuses (writeVerdict f ws room) (WriteRows f ws room)
+  unfolding writeVerdict lengthsOf
+  write room = lent-rows f ws (sheetLength f) room
+
+  write-keeps : (old : List ℕ) → Keeps (WriteRows f ws (length old)) (lengthsOf f .sheet) old (writeSheet f ws old)
+  unfolding writeSheet lengthsOf
+  write-keeps old =
+      keeps-when _ (writeVerdict f ws (length old)) (write (length old))
+      (λ e. rw (← sheet-theorems .sheet-length f ws) (front-beyond old (sheetOf f ws) (length (sheetOf f ws)) (omega arith)))
+
+  plan-rows : (room : ℕ) → Refuses (planVerdict f ws room) (PlanRows f ws room)
+  unfolding planVerdict lengthsOf
+  plan-rows room = lent-rows f ws (65 * f .carriers) room
+
+  search : (i : ℕ) (views : List ℕ) → Answers (searchOf f ws i views) (SearchRows f ws i (length views))
+  unfolding searchOf requestOf planVerdict
+  search i views =
+      rw (← then-assoc (checkOf f ws) (roomOf (65 * f .carriers) (length views)) (demand (within 1 (f .carriers) i) 7 0))
+      (gives-rows _ _ (then-rows (planVerdict f ws (length views)) _ (plan-rows (length views)) (λ e. outside-row 1 (f .carriers) i 7 0)))
+
+  plan : (room : ℕ) → Answers (planResult f ws room) (PlanRows f ws room)
+  unfolding planResult
+  plan room = gives-rows (planVerdict f ws room) _ (plan-rows room)
+
+  -- The answers of an accepted floor have the needed length.
+  answers-long : (room : ℕ) → planVerdict f ws room ≡ passed → length (recordsOf (planOf f ws)) ≤ 65 * f .carriers
+  unfolding planVerdict
+  answers-long room e = omega (arith, plan-size f ws (check-tells f ws (then-both _ _ e .0) .bounds .horizon .1))
+
+  plan-keeps : (old : List ℕ) → Keeps (PlanRows f ws (length old)) (lengthsOf f .answers) old (planMemory f ws old)
+  unfolding planMemory lengthsOf stored
+  plan-keeps old =
+      keeps-when _ (planVerdict f ws (length old)) (plan-rows (length old))
+      (λ e. put-beyond old (recordsOf (planOf f ws)) (65 * f .carriers) (answers-long (length old) e))
+
+  print-rows : (room bytes : ℕ) → Refuses (printVerdict f ws room bytes) (PrintRows f ws room bytes)
+  unfolding printVerdict lengthsOf
+  print-rows room bytes = then-rows (planVerdict f ws room) _ (plan-rows room) (λ e. short-row (textLength f) bytes)
+
+  print : (room bytes : ℕ) → Answers (printOutcome f ws room bytes) (PrintRows f ws room bytes)
+  unfolding printOutcome
+  print room bytes = gives-rows (printVerdict f ws room bytes) _ (print-rows room bytes)
+
+  print-keeps-answers : (bytes : ℕ) (old : List ℕ)
+      → Keeps (PrintRows f ws (length old) bytes) (lengthsOf f .answers) old (printAnswers f ws bytes old)
+  unfolding printAnswers lengthsOf stored printVerdict
+  print-keeps-answers bytes old =
+      keeps-when _ (printVerdict f ws (length old) bytes) (print-rows (length old) bytes)
+      (λ e. put-beyond old (recordsOf (planOf f ws)) (65 * f .carriers) (answers-long (length old) (then-both _ _ e .0)))
+
+  print-keeps-text : (room : ℕ) (old : List ℕ)
+      → Keeps (PrintRows f ws room (length old)) (lengthsOf f .text) old (printMemory f ws room old)
+  unfolding printMemory lengthsOf printVerdict planVerdict
+  print-keeps-text room old =
+      keeps-when _ (printVerdict f ws room (length old)) (print-rows room (length old))
+      (λ e. put-beyond old (printOf f ws) (textLength f) (printing-theorems .text-within f ws (then-both _ _ (then-both _ _ e .0) .0)))
+
+  fresh-rows : (room : ℕ) → Refuses (placeVerdict f ws room) (FreshRows f ws room)
+  unfolding placeVerdict lengthsOf
+  fresh-rows room = lent-rows f ws (stateSize (f .carriers)) room
+
+  state-beyond : (s : State) (m : List ℕ) → drop (stateSize (f .carriers)) (withState f m s) ≡ drop (stateSize (f .carriers)) m
+  state-beyond s m = encode-beyond (f .carriers) s m
+
+  fresh-keeps : (old : List ℕ) → Keeps (FreshRows f ws (length old)) (lengthsOf f .state) old (freshMemory f ws old)
+  unfolding freshMemory lengthsOf
+  fresh-keeps old = keeps-when _ (placeVerdict f ws (length old)) (fresh-rows (length old)) (λ e. state-beyond fresh old)
+
+  trial-rows : (order state report : ℕ) → Refuses (trialVerdict f ws order state report) (TrialRows f ws order state report)
+  unfolding trialVerdict lengthsOf
+  trial-rows order state report =
+      then-rows (placeVerdict f ws state) _ (fresh-rows state) (λ e.
+      then-rows (roomOf (reportSize (f .carriers)) report) _ (short-row (reportSize (f .carriers)) report)
+      (λ h. outside-row 1 3 order 11 0))
+
+  trial : (order seed state report : ℕ) → Answers (trialOutcome f ws order seed state report) (TrialRows f ws order state report)
+  unfolding trialOutcome
+  trial order seed state report = gives-rows (trialVerdict f ws order state report) _ (trial-rows order state report)
+
+  trial-keeps-state : (order seed : ℕ) (old : List ℕ) (report : ℕ)
+      → Keeps (TrialRows f ws order (length old) report) (lengthsOf f .state) old (stateTried f ws order seed old report)
+  unfolding stateTried lengthsOf
+  trial-keeps-state order seed old report =
+      keeps-when _ (trialVerdict f ws order (length old) report) (trial-rows order (length old) report)
+      (λ e. state-beyond (trialOf f ws order seed .state) old)
+
+  trial-keeps-report : (order seed state : ℕ) (old : List ℕ)
+      → Keeps (TrialRows f ws order state (length old)) (lengthsOf f .report) old (reportTried f ws order seed state old)
+  unfolding reportTried lengthsOf trialVerdict placeVerdict
+  trial-keeps-report order seed state old =
+      keeps-when _ (trialVerdict f ws order state (length old)) (trial-rows order state (length old)) (λ e.
+      let ok = then-both _ _ (then-both _ _ e .0) .0 in
+      put-beyond old (numbersOf (trialOf f ws order seed .report)) (reportSize (f .carriers))
+      (trial-theorems .ends f ws order seed ok .fits))
+
+  module _ (m : List ℕ) where
+    -- A memory in a place for a state is refused with 10 exactly if its front is no state within the ranges.
+    state-rows : Refuses (stateVerdict f ws m) (StateRows f ws m)
+    unfolding stateVerdict placeVerdict lengthsOf
+    state-rows =
+        then-rows (placeVerdict f ws (length m)) _ (fresh-rows (length m)) (λ e.
+        let a = then-both (checkOf f ws) _ e in
+        let b = check-tells f ws (a .0) .bounds in
+        let v = layout-theorems .valid-exactly f m (b .depth .1) (b .horizon .1) (room-passed _ _ (a .1)) in
+        demand-row (valid f m) 10 0 (
+          λ z h. false-fails z (v .1 h),
+          λ n. not-true-is-false (valid f m) (λ t. n (v .0 t)),
+        ))
+
+    call : (c : Call) → Answers (replyTo f ws m c) (CallRows f ws m c)
+    unfolding replyTo
+    call c = answers-rows (stateVerdict f ws m) _ state-rows (λ e. reply-rows (machineOf f ws) (stateIn f m) c)
+
+    -- A memory that is a state and is given its own state again is as it was.
+    same-state : stateVerdict f ws m ≡ passed → withState f m (stateIn f m) ≡ m
+    unfolding stateVerdict placeVerdict put
+    same-state e =
+        let a = then-both (placeVerdict f ws (length m)) (demand (valid f m) 10 0) e in
+        let b = then-both (checkOf f ws) _ (a .0) in
+        let t = check-tells f ws (b .0) .bounds in
+        let d = layout-theorems .decode-valid f m (t .depth .1) (t .horizon .1) (room-passed _ _ (b .1)) (demand-holds _ 10 0 (a .1)) .1 in
+        rw (layout-theorems .encode-length (f .carriers) (stateIn f m), zero-add, d) (take-append-drop (stateSize (f .carriers)) m)
+
+    module _ (c : Call) where
+      call-as-found : (k p : ℕ) → CallRows f ws m c k p → memoryAfter f ws m c ≡ m
+      unfolding memoryAfter
+      call-as-found k p (earlier r) = when-refused _ (state-rows k p .1 r)
+      call-as-found k p (later n r) =
+          let e = no-row-passes (stateVerdict f ws m) state-rows n in
+          when-passed m e
+          ∙ ap (withState f m) (state-kept (machineOf f ws) (stateIn f m) c k p
+          (reference-theorems .calls .refuses-exactly (machineOf f ws) (stateIn f m) c k p .1 r))
+          ∙ same-state e
+
+      call-beyond : (v : Verdict) → drop (stateSize (f .carriers)) (whenPassed v (withState f m (afterCall (machineOf f ws) (stateIn f m) c)) m)
+          ≡ drop (stateSize (f .carriers)) m
+      unfolding whenPassed
+      call-beyond passed = state-beyond (afterCall (machineOf f ws) (stateIn f m) c) m
+      call-beyond (refused k p) = refl
+
+      call-keeps : Keeps (CallRows f ws m c) (lengthsOf f .state) m (memoryAfter f ws m c)
+      unfolding memoryAfter lengthsOf
+      call-keeps = record { as-found = call-as-found; beyond = call-beyond (stateVerdict f ws m) }
+
+module _ (text : List ℕ) where
+  -- With too little text memory the answer is the sheet's refusal, or 9.
+  short-rows : Answers (shortOutcome text) (RefusedSheet text orElse Row 9 0 (Unit {0}))
+  unfolding shortOutcome
+  short-rows = answers-rows (sheetVerdict text) (refusal 9 0) (sheet-theorems .refuses-exactly text) (λ e. refusal-row 9 0)
+
+  routes : (bytes : ℕ) → Answers (routesOutcome text bytes) (RoutesRows text bytes)
+  unfolding routesOutcome
+  routes bytes k p = go (lt-or-le bytes (neededFor text))
+    where
+      go : (bytes < neededFor text) ⊎ (neededFor text ≤ bytes) → (routesOutcome text bytes ≡ refusal k p) ↔ RoutesRows text bytes k p
+      go (inl l) = rw (lt-leb _ _ l) (λ h. (l, short-rows k p .0 h), λ r. short-rows k p .1 (r .1))
+      go (inr l) = rw (le-leb _ _ l) (λ h. absurd (value-no-refusal h), λ r. absurd (omega (arith, r .0)))
+
+  routes-keeps : (old : List ℕ) → Keeps (RoutesRows text (length old)) (neededFor text) old (routesMemory text old)
+  unfolding routesMemory
+  routes-keeps old = go (lt-or-le (length old) (neededFor text))
+    where
+      go : (length old < neededFor text) ⊎ (neededFor text ≤ length old) → Keeps (RoutesRows text (length old)) (neededFor text) old (routesMemory text old)
+      go (inl l) = rw (lt-leb _ _ l) (record { as-found = λ k p r. refl; beyond = refl })
+      go (inr l) =
+          rw (le-leb _ _ l)
+          (record {
+            as-found = λ k p r. absurd (omega (arith, r .0));
+            beyond = put-beyond old (routesOf text) (neededFor text) (printing-theorems .routes-within text .0);
+          })
+
+conflict : (f : Floor) (a b : List ℕ) (horizon : ℕ) → Answers (conflictOutcome a b horizon) (ConflictRows f (length a) (length b))
+unfolding conflictOutcome routesLent lengthsOf
+conflict f a b horizon =
+    gives-rows (routesLent a b) _ (then-rows (roomOf 64 (length a)) _ (short-row 64 (length a)) (λ e. short-row 64 (length b)))
+
+check-record : (f : Floor) (ws : List ℕ) (carrier : ℕ) (m : List ℕ) →
+    Answers (recordOutcome f ws carrier m) (RecordRows f ws carrier (length m))
+unfolding recordOutcome recordVerdict lengthsOf
+check-record f ws carrier m =
+    gives-rows (recordVerdict f ws carrier (length m)) _
+    (then-rows (checkOf f ws) _ (floor-rows f ws)
+    (λ e. then-rows (roomOf 65 (length m)) _ (short-row 65 (length m)) (λ h. outside-row 1 (f .carriers) carrier 7 0)))
+
+arrival : (f : Floor) (r : List ℕ) (horizon : ℕ) → Answers (arrivalOutcome r horizon) (ArrivalRows f (length r))
+unfolding arrivalOutcome lengthsOf
+arrival f r horizon = gives-rows (roomOf 64 (length r)) _ (short-row 64 (length r))
+
+pub theorem : Demand1
+unfolding figuresFor lengthsOf mostSteps
+theorem =
+    record {
+      check = floor-rows;
+      accepted = λ f ws. passes-exactly (checkOf f ws) (floor-rows f ws);
+      sheet = sheet-theorems .refuses-exactly;
+      sheet-accepted = λ text. passes-exactly (sheetVerdict text) (sheet-theorems .refuses-exactly text);
+      read = read;
+      read-keeps = read-keeps;
+      write = write;
+      write-keeps = write-keeps;
+      search = search;
+      plan = plan;
+      plan-keeps = plan-keeps;
+      print = print;
+      print-keeps-answers = print-keeps-answers;
+      print-keeps-text = print-keeps-text;
+      routes = routes;
+      routes-keeps = routes-keeps;
+      lengths = λ f. gives-rows (limitsOf f) _ (limit-rows f);
+      lengths-told = lengths-theorems .accepted-known;
+      lengths-small = λ f ws ok. (
+        lengths-theorems .walls-within f ws ok,
+        lengths-theorems .sheet-within f ws ok,
+        lengths-theorems .answers-within f ws ok,
+        lengths-theorems .text-within f ws ok,
+        lengths-theorems .state-within f ws ok,
+        lengths-theorems .report-within f ws ok,
+      );
+      fresh = fresh-rows;
+      fresh-keeps = fresh-keeps;
+      call = call;
+      call-keeps = call-keeps;
+      ceiling = λ n. gives-rows _ _ (outside-row 1 8 n 2 5);
+      trial = trial;
+      trial-keeps-state = trial-keeps-state;
+      trial-keeps-report = trial-keeps-report;
+      run-of-rank = run-of-rank;
+      run-keeps-report = run-keeps-report;
+      blockers = blockers;
+      blockers-keeps = blockers-keeps;
+      conflict = conflict;
+      check-record = check-record;
+      arrival = arrival;
+    }

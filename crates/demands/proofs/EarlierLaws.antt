@@ -1,0 +1,60 @@
+-- Responses by document 01's letter are those of the floor with one dock, so that every entry answers the same over them.
+use Prim.Native.Nat.{ℕ, _<_}
+use native.Mathlib.Omega.{arith}
+use mathlib.Core.List.{List, map}
+use mathlib.Core.Path.{_≡_, _∙_, ap}
+use lib.ListN.{length, take, length-map}
+use lib.Seq.{length-take-le}
+use Rattle.laws.specs.Verdict.{passed}
+use Rattle.floor.specs.OneDock.{Earlier, earlierCheck, withOneDock}
+use Rattle.route.specs.Route.{Answer, View, heard}
+use Rattle.route.specs.Sequential.{sequential}
+use Rattle.planner.specs.Plan.{respondOf, planOf}
+use Rattle.planner.proofs.FailingLaws.{plan-count}
+use Rattle.planner.proofs.DependsLaws.{sequential-below}
+use Rattle.planner.proofs.DocksTheorems.{theorems as docks-theorems}
+use Rattle.blockers.specs.Blockers.{leftAfter, setOf, above, blockersOf}
+use Rattle.blockers.proofs.SameLaws.{left-same}
+use Rattle.reference.proofs.RespondLaws.{reply-same, after-call-same}
+use Rattle.encoding.specs.Places.{stateSize}
+use Rattle.encoding.specs.Calls.{machineOf}
+use Rattle.demands.specs.Docks.{EarlierResponses, EarlierAnswers}
+use Rattle.demands.proofs.SameTrialLaws.{trial-same}
+use Rattle.demands.proofs.SameRunLaws.{runs-same, reports-same}
+
+module _ (e : Earlier) (ws : List ℕ) (respond : ℕ → List View → Answer) (ok : earlierCheck e ws ≡ passed)
+    (best : EarlierResponses e ws respond) where
+  responses : (i : ℕ) (vs : List View) → i < e .carriers → length vs ≡ i → respond i vs ≡ respondOf (withOneDock e) ws i vs
+  responses i vs l h = docks-theorems .earlier-response e ws i vs (respond i vs) ok l .0 (best i vs l h)
+
+  plan : sequential respond (e .carriers) ≡ planOf (withOneDock e) ws
+  unfolding planOf withOneDock
+  plan = sequential-below respond (respondOf (withOneDock e) ws) (e .carriers) responses
+
+  blockers : (i : ℕ) → i < e .carriers →
+      setOf (leftAfter (respond i) i (map heard (take i (sequential respond (e .carriers))))) ≡ blockersOf (withOneDock e) ws i
+  unfolding blockersOf above
+  blockers i l =
+      let xs = sequential respond (e .carriers) in
+      let count : length (map heard (take i xs)) ≡ i =
+      length-map (take i xs) heard ∙ length-take-le i xs (omega (arith, plan-count respond (e .carriers))) in
+      ap setOf
+      (left-same (respond i) (respondOf (withOneDock e) ws i) i (λ us h. responses i us l h) i (map heard (take i xs)) count)
+      ∙ ap (λ (ys : List Answer). setOf (leftAfter (respondOf (withOneDock e) ws i) i (map heard (take i ys)))) plan
+
+  pub earlier-answers : EarlierAnswers e ws respond
+  unfolding machineOf withOneDock
+  earlier-answers =
+      let n = e .carriers in
+      let d = e .depth in
+      let k = stateSize (e .carriers) in
+      let q = respondOf (withOneDock e) ws in
+      record {
+        call = reply-same n d k respond q responses;
+        state = after-call-same n d k respond q responses;
+        trials = trial-same n d k respond q responses;
+        runs = runs-same n d k respond q responses;
+        reports = reports-same n d k respond q responses;
+        plan = plan;
+        blockers = blockers;
+      }

@@ -1,0 +1,121 @@
+-- A floor without its last carrier (document 02, slip 5).
+use Prim.Native.Nat.{ℕ, zero, suc, _+_, _-_, _≤_, _<_}
+use native.Mathlib.Omega.{arith}
+use mathlib.Core.List.{List, [], _∷_, _++_, append-assoc}
+use mathlib.Core.Path.{_≡_, refl, sym, _∙_, ap, ap₂}
+use lib.ListN.{length, take, drop, length-append}
+use lib.Seq.{take-all, take-suc, take-at, drop-at}
+use borrow.Author.Tests.{eq-eqb, ne-eqb}
+use Rattle.laws.specs.Verdict.{passed, All}
+use Rattle.floor.specs.declared.Floor.{Floor}
+use Rattle.floor.specs.Checks.{checkOf, startOf, countOf, docksOf, dockOf, isDock}
+use Rattle.floor.specs.Accepted.{FieldWithin}
+use Rattle.floor.proofs.Theorems.{theorems as floor-theorems}
+use Rattle.route.specs.Route.{Answer, none, route}
+use Rattle.sheet.specs.Text.{linesOf}
+use Rattle.planner.specs.Plan.{planOf, failingFrom, failingOf}
+use Rattle.planner.specs.Claims.{AgreeUpTo, answerAt}
+use Rattle.planner.proofs.Theorems.{theorems as planner-theorems}
+use Rattle.demands.specs.Shorter.{dropLast, failingWithout}
+
+-- The floor without its last carrier has the other carriers, and all else, of the floor.
+module _ (f : Floor) (ws : List ℕ) (ok : checkOf f ws ≡ passed) (more : 1 < f .carriers) where
+  field-within : All (FieldWithin f) 6 → All (FieldWithin (dropLast f)) 6
+  unfolding FieldWithin dropLast
+  field-within h zero l = h 0 (omega arith)
+  field-within h (suc zero) l = h 1 (omega arith)
+  field-within h (suc (suc zero)) l = h 2 (omega arith)
+  field-within h (suc (suc (suc zero))) l = h 3 (omega arith)
+  field-within h (suc (suc (suc (suc zero)))) l = let w = h 4 (omega arith) in (omega arith, omega (arith, w .1))
+  field-within h (suc (suc (suc (suc (suc i))))) l = h 5 (omega arith)
+
+  pub drop-accepted : checkOf (dropLast f) ws ≡ passed
+  unfolding dropLast startOf countOf docksOf dockOf
+  drop-accepted =
+      let h = floor-theorems .passes-exactly f ws .0 ok in
+      floor-theorems .passes-exactly (dropLast f) ws .1
+      (record {
+        limited = field-within (h .limited);
+        lent = h .lent;
+        carriers-in-grid = λ i l. h .carriers-in-grid i (omega arith);
+        walls-in-grid = h .walls-in-grid;
+        rising = h .rising;
+        clear = λ i l. h .clear i (omega arith);
+        distinct = λ i l. h .distinct i (omega arith);
+        unrepeated = λ i l. h .unrepeated i (omega arith);
+      })
+
+  agrees : AgreeUpTo (f .carriers - 1) f ws (dropLast f) ws
+  unfolding dropLast startOf countOf docksOf isDock
+  agrees =
+      record {
+        width = refl;
+        height = refl;
+        horizon = refl;
+        walls = refl;
+        cells = λ j l. refl;
+        starts = λ i l. refl;
+        docks = λ i l c. refl;
+      }
+
+  pub drop-answers : planOf (dropLast f) ws ≡ take (f .carriers - 1) (planOf f ws)
+  unfolding dropLast
+  drop-answers =
+      sym (take-all (f .carriers - 1) (planOf (dropLast f) ws) (omega (arith, planner-theorems .answers-all (dropLast f) ws)))
+      ∙ sym (planner-theorems .depends-on-above (f .carriers - 1) f ws (dropLast f) ws (omega arith) (omega arith) agrees)
+
+-- The failing carrier of a list of answers without its last, the first being carrier k's.
+failing-front : (k : ℕ) (xs : List Answer) (a : Answer) → 1 ≤ k →
+    failingFrom k xs ≡ failingWithout (k + length xs) (failingFrom k (xs ++ (a ∷ [])))
+unfolding failingFrom failingWithout
+failing-front k [] none l = rw (eq-eqb k (k + 0) (omega arith))
+failing-front k [] (route r) l = rw (ne-eqb 0 (k + 0) (omega arith))
+failing-front k (none ∷ xs) a l = rw (ne-eqb k (k + suc (length xs)) (omega arith))
+failing-front k (route r ∷ xs) a l =
+    let e : k + suc (length xs) ≡ suc k + length xs = omega arith in
+    rw e (failing-front (suc k) xs a (omega arith))
+
+module _ (f : Floor) (ws : List ℕ) (ok : checkOf f ws ≡ passed) (more : 1 < f .carriers) where
+  -- The answers are those of the others and the last one's.
+  answers-split : planOf f ws ≡ take (f .carriers - 1) (planOf f ws) ++ (answerAt (planOf f ws) (f .carriers - 1) ∷ [])
+  unfolding answerAt
+  answers-split =
+      let size = planner-theorems .answers-all f ws in
+      let next : suc (f .carriers - 1) ≡ f .carriers = omega arith in
+      sym (take-all (f .carriers) (planOf f ws) (omega arith))
+      ∙ ap (λ (i : ℕ). take i (planOf f ws)) (sym next)
+      ∙ take-suc (planOf f ws) (f .carriers - 1) none (omega arith)
+
+  pub drop-failing : failingOf (planOf (dropLast f) ws) ≡ failingWithout (f .carriers) (failingOf (planOf f ws))
+  unfolding failingOf dropLast
+  drop-failing =
+      let front = drop-answers f ws ok more in
+      let size = planner-theorems .answers-all (dropLast f) ws in
+      let next : 1 + length (planOf (dropLast f) ws) ≡ f .carriers = omega arith in
+      let last = answerAt (planOf f ws) (f .carriers - 1) in
+      failing-front 1 (planOf (dropLast f) ws) last (omega arith)
+      ∙ ap₂ failingWithout next (ap (λ (xs : List Answer). failingFrom 1 (xs ++ (last ∷ []))) front ∙ ap (failingFrom 1) (sym answers-split))
+
+-- Lines, and all but the last.
+pub lines-last : (line : ℕ → List ℕ) (n : ℕ) → 1 ≤ n → linesOf line n ≡ linesOf line (n - 1) ++ line (n - 1)
+unfolding linesOf
+lines-last line zero l = absurd (omega arith)
+lines-last line (suc k) l = let e : suc k - 1 ≡ k = omega arith in rw e
+
+-- A text of four parts behind each other, with another field in its front part, and without its last but one.
+pub field-changed : (a old new b l c w : List ℕ) (m n : ℕ) → length a ≡ 20 → length old ≡ 5 → length (b ++ l) ≡ m → 25 + m + length c ≡ n →
+    (take 20 ((a ++ (old ++ b)) ++ ((l ++ c) ++ w))
+    ++ (new ++ (take m (drop 25 ((a ++ (old ++ b)) ++ ((l ++ c) ++ w))) ++ drop n ((a ++ (old ++ b)) ++ ((l ++ c) ++ w)))))
+    ≡ (a ++ (new ++ b)) ++ (l ++ w)
+field-changed a old new b l c w m n ea eo em en =
+    let text = (a ++ (old ++ b)) ++ ((l ++ c) ++ w) in
+    let front : text ≡ a ++ (old ++ ((b ++ l) ++ (c ++ w))) = simp append-assoc in
+    let middle : text ≡ (a ++ old) ++ ((b ++ l) ++ (c ++ w)) = simp append-assoc in
+    let back : text ≡ ((a ++ old) ++ ((b ++ l) ++ c)) ++ w = simp append-assoc in
+    let size : length (a ++ old) ≡ 25 = length-append a old ∙ omega arith in
+    let long : length ((a ++ old) ++ ((b ++ l) ++ c)) ≡ n =
+    length-append (a ++ old) ((b ++ l) ++ c) ∙ omega (arith, length-append (b ++ l) c) in
+    let one : take 20 text ≡ a = ap (take 20) front ∙ take-at a _ 20 ea in
+    let two : take m (drop 25 text) ≡ b ++ l = ap (take m) (ap (drop 25) middle ∙ drop-at (a ++ old) _ 25 size) ∙ take-at (b ++ l) _ m em in
+    let three : drop n text ≡ w = ap (drop n) back ∙ drop-at ((a ++ old) ++ ((b ++ l) ++ c)) w n long in
+    rw (one, two, three) (simp append-assoc)

@@ -1,0 +1,64 @@
+-- Lists of calls on one accepted floor (document 01, 'What demand 3 compares'). The first call gets the fresh state, each later one the
+-- state as the call before it left it. Every call lends as much of the walls and of the memory as it likes.
+use Prim.Native.Nat.{ℕ, min}
+use mathlib.Core.Bool.{cond}
+use mathlib.Core.List.{List, [], _∷_, _++_, map}
+use lib.Dec.{leb}
+use lib.ListN.{take, drop}
+use Rattle.floor.specs.declared.Floor.{Floor}
+use Rattle.reference.specs.State.{State, fresh}
+use Rattle.reference.specs.Table.{Call, single, runOf}
+use Rattle.reference.specs.Calls.{Reply, replies, after}
+use Rattle.encoding.specs.Numbers.{askedBy}
+use Rattle.encoding.specs.Calls.{machineOf, freshMemory, replyTo, memoryAfter, singleCall, runCall}
+
+-- A call of the program: a single step or a run, with how many walls and how many numbers of the memory are lent to it.
+pub data ProgramCall : Type 0 where
+  oneStep : (walls lent : ℕ) (number : ℕ) → ProgramCall
+  oneRun : (walls lent : ℕ) (numbers : List ℕ) (budget : ℕ) → ProgramCall
+
+-- The program's answer to a call, by the definition that the entry's contract cites.
+unfoldable pub answerOf : Floor → List ℕ → List ℕ → ProgramCall → Reply
+answerOf f ws m (oneStep k l x) = replyTo f (take k ws) (take l m) (singleCall (take l m) x)
+answerOf f ws m (oneRun k l xs b) = replyTo f (take k ws) (take l m) (runCall (take l m) xs b)
+
+-- The whole memory after a call: what is lent as the entry's contract says, the rest untouched.
+unfoldable pub leftBy : Floor → List ℕ → List ℕ → ProgramCall → List ℕ
+leftBy f ws m (oneStep k l x) = memoryAfter f (take k ws) (take l m) (singleCall (take l m) x) ++ drop l m
+leftBy f ws m (oneRun k l xs b) = memoryAfter f (take k ws) (take l m) (runCall (take l m) xs b) ++ drop l m
+
+-- The answers to a list of calls, in order, and the memory after it.
+unfoldable pub answersOf : Floor → List ℕ → List ℕ → List ProgramCall → List Reply
+answersOf f ws m [] = []
+answersOf f ws m (c ∷ cs) = answerOf f ws m c ∷ answersOf f ws (leftBy f ws m c) cs
+
+unfoldable pub memoryOf : Floor → List ℕ → List ℕ → List ProgramCall → List ℕ
+memoryOf f ws m [] = m
+memoryOf f ws m (c ∷ cs) = memoryOf f ws (leftBy f ws m c) cs
+
+-- The program's answers to a list of calls from the fresh state in memory m, and the memory after it.
+unfoldable pub programReplies : Floor → List ℕ → List ℕ → List ProgramCall → List Reply
+programReplies f ws m cs = answersOf f ws (freshMemory f ws m) cs
+
+unfoldable pub programMemory : Floor → List ℕ → List ℕ → List ProgramCall → List ℕ
+programMemory f ws m cs = memoryOf f ws (freshMemory f ws m) cs
+
+-- The length of lent memory that the reference machine compares: none where fewer walls are lent than the floor counts, for that is
+-- memory too short; otherwise what is there of the numbers lent.
+unfoldable pub lentLength : Floor → ℕ → ℕ → ℕ → ℕ
+lentLength f room k l = cond (leb (f .walls) k) (min l room) 0
+
+-- The same call as the reference machine is given it: the arguments except the state's contents.
+unfoldable pub referenceCall : Floor → ℕ → ProgramCall → Call
+referenceCall f room (oneStep k l x) = single (lentLength f room k l) (askedBy x)
+referenceCall f room (oneRun k l xs b) = runOf (lentLength f room k l) (map askedBy xs) b
+
+unfoldable pub referenceCalls : Floor → ℕ → List ProgramCall → List Call
+referenceCalls f room cs = map (referenceCall f room) cs
+
+-- The reference machine's answers to a list of calls from fresh, there being memory for so many numbers, and its state after it.
+unfoldable pub referenceReplies : Floor → List ℕ → ℕ → List ProgramCall → List Reply
+referenceReplies f ws room cs = replies (machineOf f ws) fresh (referenceCalls f room cs)
+
+unfoldable pub referenceAfter : Floor → List ℕ → ℕ → List ProgramCall → State
+referenceAfter f ws room cs = after (machineOf f ws) fresh (referenceCalls f room cs)

@@ -1,0 +1,79 @@
+-- The simulation of a run: on the memory of a state it takes as many steps, leaves as many unread, and leaves the memory of the
+-- reference machine's last state.
+use Prim.Native.Nat.{ℕ, suc}
+use mathlib.Core.Bool.{true, false}
+use mathlib.Core.List.{List, _∷_, _++_, map}
+use mathlib.Core.Path.{_≡_, refl, ap, _∙_}
+use Rattle.records.proofs.RecordLaws.{Whole}
+use Rattle.reference.specs.State.{Machine, State}
+use Rattle.reference.specs.Step.{Step, isOpen}
+use Rattle.reference.specs.Take.{afterStep}
+use Rattle.reference.specs.Table.{Asked, step}
+use Rattle.reference.specs.Run.{RunResult, tookFirst, skippedFirst, run}
+use Rattle.reference.specs.Ending.{anyLeft, ending}
+use Rattle.reference.specs.Bounds.{InRange, Throughout}
+use Rattle.reference.proofs.BoundLaws.{step-in-range}
+use Rattle.reference.proofs.ThroughLaws.{step-throughout}
+use Rattle.reference.proofs.RunLaws.{run-induction}
+use Rattle.encoding.specs.Encode.{encode}
+use Rattle.encoding.specs.InnerSteps.{askedOpenIn}
+use Rattle.encoding.specs.InnerRuns.{RanIn, tookOne, askedAfterIn, runIn, endingIn}
+use Rattle.encoding.proofs.OpenLaws.{open-same, silent-same}
+use Rattle.encoding.proofs.StepLaws.{Storable, after-same}
+
+-- A run over memory and a run of the reference machine with n carriers come to the same.
+pub record SameRun (n : ℕ) (rest : List ℕ) (r : RanIn) (q : RunResult) : Type 0 where
+  pub memory : r .memory ≡ encode n (q .state) ++ rest
+  pub taken : r .taken ≡ q .taken
+  pub left : r .left ≡ anyLeft (q .unread)
+
+module _ (M : Machine) (m : List ℕ) (a : Asked) (xs : List Asked) (b : ℕ) where
+  pub took-in : askedOpenIn M m a ≡ true → runIn M m (a ∷ xs) (suc b) ≡ tookOne (runIn M (askedAfterIn M m a) xs b)
+  unfolding runIn
+  took-in e = rw (e, runIn)
+
+  pub skipped-in : askedOpenIn M m a ≡ false → runIn M m (a ∷ xs) (suc b) ≡ runIn M m xs (suc b)
+  unfolding runIn
+  skipped-in e = rw (e, runIn)
+
+module _ (M : Machine) (fit : Storable M) (rest : List ℕ) where
+  -- The memory of a state, and what is proved of a run from it.
+  abbrev memoryOf : State → List ℕ
+  memoryOf s = encode (M .carriers) s ++ rest
+
+  abbrev Follows : State → List Step → ℕ → RunResult → Type 0
+  Follows s xs b q =
+      InRange M s → Throughout (M .carriers) Whole s → SameRun (M .carriers) rest (runIn M (memoryOf s) (map step xs) b) q
+
+  follows-took : (s : State) (x : Step) (xs : List Step) (b : ℕ) (q : RunResult) → isOpen M s x ≡ true → Follows (afterStep M s x) xs b q →
+      Follows s (x ∷ xs) (suc b) (tookFirst x q)
+  unfolding askedOpenIn askedAfterIn tookOne tookFirst
+  follows-took s x xs b q e h range whole =
+      let r = h (step-in-range M s range x e) (step-throughout (M .carriers) Whole M (fit .whole) s whole x) in
+      rw (took-in M (memoryOf s) (step x) (map step xs) b (open-same M s rest x ∙ e), after-same M fit s range whole rest x e)
+      (record { memory = r .memory; taken = ap suc (r .taken); left = r .left })
+
+  follows-skipped : (s : State) (x : Step) (xs : List Step) (b : ℕ) (q : RunResult) → isOpen M s x ≡ false → Follows s xs (suc b) q →
+      Follows s (x ∷ xs) (suc b) (skippedFirst x q)
+  unfolding askedOpenIn skippedFirst
+  follows-skipped s x xs b q e h range whole =
+      let r = h range whole in
+      rw (skipped-in M (memoryOf s) (step x) (map step xs) b (open-same M s rest x ∙ e))
+      (record { memory = r .memory; taken = r .taken; left = r .left })
+
+  pub run-same : (s : State) (xs : List Step) (b : ℕ) → InRange M s → Throughout (M .carriers) Whole s →
+      SameRun (M .carriers) rest (runIn M (memoryOf s) (map step xs) b) (run M s xs b)
+  unfolding runIn run anyLeft
+  run-same =
+      run-induction M Follows
+      (λ s b range whole. record { memory = refl; taken = refl; left = refl })
+      (λ s x xs range whole. record { memory = refl; taken = refl; left = refl })
+      follows-took follows-skipped
+
+  -- It ends alike.
+  pub ending-same : (s : State) (xs : List Step) (b : ℕ) → InRange M s → Throughout (M .carriers) Whole s →
+      endingIn M b (runIn M (memoryOf s) (map step xs) b) ≡ ending M b (run M s xs b)
+  unfolding endingIn ending
+  ending-same s xs b range whole =
+      let r = run-same s xs b range whole in
+      rw (r .taken, r .memory, r .left, silent-same M (run M s xs b .state) rest)

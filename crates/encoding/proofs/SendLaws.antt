@@ -1,0 +1,118 @@
+-- A record sent in memory, channel by channel, is the answer sent.
+use Prim.Native.Nat.{ℕ, zero, suc, _≤_, _<_}
+use native.Mathlib.Omega.{arith}
+use mathlib.Core.Bool.{cond}
+use mathlib.Core.List.{List, [], _∷_, _++_}
+use mathlib.Core.Logic.{⊎-elim}
+use mathlib.Core.Path.{_≡_, refl, sym, _∙_, ap}
+use lib.Dec.{ltb}
+use lib.ListN.{length}
+use borrow.Author.Tests.{lt-ltb, le-ltb, eq-eqb, ne-eqb}
+use Rattle.route.specs.Route.{Answer}
+use Rattle.laws.proofs.Tests.{eq-or-ne, lt-or-le}
+use Rattle.records.specs.Records.{recordOf, slot}
+use Rattle.reference.specs.State.{State}
+use Rattle.reference.specs.Take.{send}
+use Rattle.encoding.specs.Encode.{channelBlock, carrierBlock, countBlock, blocks, pairs, encode}
+use Rattle.encoding.specs.InnerSteps.{pushedBelow, sentTo}
+use Rattle.encoding.proofs.SplitLaws.{blocks-same}
+use Rattle.encoding.proofs.StateLaws.{withChans, channel-window}
+use Rattle.encoding.proofs.ChannelLaws.{pushed-is}
+
+-- The channels once answer a is sent to those of the first k carriers that are below i.
+unfoldable sentBelow : (ℕ → ℕ → List Answer) → ℕ → Answer → ℕ → ℕ → ℕ → List Answer
+sentBelow chan i a k r j = cond (ltb r k) (send chan i a r j) (chan r j)
+
+module _ (chan : ℕ → ℕ → List Answer) (i : ℕ) (a : Answer) where
+  -- Only a channel from i to a carrier below it changes.
+  send-same : (r j : ℕ) → (j ≡ i → i < r → ⊥) → send chan i a r j ≡ chan r j
+  unfolding send
+  send-same r j h =
+      ⊎-elim
+      (λ (e : j ≡ i). rw (eq-eqb j i e, le-ltb i r (not-lt (h e)), send))
+      (λ (e : j ≡ i → ⊥). rw (ne-eqb j i e, send))
+      (eq-or-ne j i)
+    where
+      not-lt : {x y : ℕ} → (x < y → ⊥) → y ≤ x
+      not-lt {x = x} {y = y} f = ⊎-elim (λ (l : x < y). absurd (f l)) (λ (l : y ≤ x). l) (lt-or-le x y)
+
+  send-more : (r : ℕ) → i < r → send chan i a r i ≡ chan r i ++ (a ∷ [])
+  unfolding send
+  send-more r l = rw (eq-eqb i i refl, lt-ltb i r l, send)
+
+  before-it : (k r j : ℕ) → k ≤ r → sentBelow chan i a k r j ≡ chan r j
+  unfolding sentBelow
+  before-it k r j l = rw (le-ltb r k l)
+
+  after-it : (k r j : ℕ) → r < k → sentBelow chan i a k r j ≡ send chan i a r j
+  unfolding sentBelow
+  after-it k r j l = rw (lt-ltb r k l)
+
+  -- From k to k + 1 only the channel from i to k changes, and only where k is below i.
+  next-same : (k r j : ℕ) → (r ≡ k → j ≡ i → i < k → ⊥) → sentBelow chan i a k r j ≡ sentBelow chan i a (suc k) r j
+  next-same k r j h =
+      ⊎-elim
+      (λ (l : r < k). after-it k r j l ∙ sym (after-it (suc k) r j (omega arith)))
+      (λ (l : k ≤ r).
+      ⊎-elim
+      (λ (e : r ≡ k).
+      before-it k r j l ∙ sym (send-same r j (λ u v. h e u (rw e at v))) ∙ sym (after-it (suc k) r j (omega arith)))
+      (λ (e : r ≡ k → ⊥). before-it k r j l ∙ sym (before-it (suc k) r j (omega arith)))
+      (eq-or-ne r k))
+      (lt-or-le r k)
+
+-- The encoding depends on the channels of pairs only.
+channels-same : (n : ℕ) (s : State) (g h : ℕ → ℕ → List Answer) → ((k l : ℕ) → l < k → k < n → g k l ≡ h k l) →
+    encode n (withChans s g) ≡ encode n (withChans s h)
+unfolding encode withChans carrierBlock pairs
+channels-same n s g h e =
+    let same : blocks n (λ i. blocks i (λ j. channelBlock (g i j))) ≡ blocks n (λ i. blocks i (λ j. channelBlock (h i j))) =
+    blocks-same n (λ i. blocks i (λ j. channelBlock (g i j))) (λ i. blocks i (λ j. channelBlock (h i j)))
+    (λ k a. blocks-same k (λ j. channelBlock (g k j)) (λ j. channelBlock (h k j)) (λ l b. ap channelBlock (e k l b a)))
+    in
+    ap
+    (λ (x : List ℕ). countBlock (s .taken) ++ (blocks n (carrierBlock s) ++ (pairs n (λ i j. slot (s .view i j)) ++ x)))
+    same
+
+module _ (n : ℕ) (s : State) (rest : List ℕ) (i : ℕ) (a : Answer) (whole : length (recordOf a) ≡ 65)
+    (room : (k : ℕ) → i < k → k < n → length (s .chan k i) < 4) where
+  -- The memory once the answer is sent to the first k carriers.
+  abbrev sentAt : ℕ → List ℕ
+  sentAt k = encode n (withChans s (sentBelow (s .chan) i a k)) ++ rest
+
+  -- One more carrier: its channel gets the answer if it is below i.
+  pushed-same : (k : ℕ) → k < n → pushedBelow n i (recordOf a) (sentAt k) k ≡ sentAt (suc k)
+  unfolding pushedBelow withChans
+  pushed-same k l =
+      ⊎-elim
+      (λ (h : i < k).
+      let z = withChans s (sentBelow (s .chan) i a k) in
+      let old : sentBelow (s .chan) i a k k i ≡ s .chan k i = before-it (s .chan) i a k k i (omega arith) in
+      let new : sentBelow (s .chan) i a (suc k) k i ≡ s .chan k i ++ (a ∷ []) =
+      after-it (s .chan) i a (suc k) k i (omega arith) ∙ send-more (s .chan) i a k h
+      in
+      rw (lt-ltb i k h)
+      (pushed-is (s .chan k i) a (room k h l) whole
+      (rw (old, new) at
+      (channel-window n z rest (sentBelow (s .chan) i a (suc k)) k i h l
+      (λ r j u v w. next-same (s .chan) i a k r j (λ x y q. w x y))))))
+      (λ (h : k ≤ i).
+      rw (le-ltb i k h)
+      (ap (λ (x : List ℕ). x ++ rest)
+      (channels-same n s (sentBelow (s .chan) i a k) (sentBelow (s .chan) i a (suc k))
+      (λ r j u v. next-same (s .chan) i a k r j (λ x y q. omega arith)))))
+      (lt-or-le i k)
+
+  sent-first : (k : ℕ) → k ≤ n → sentTo n i (recordOf a) (encode n s ++ rest) k ≡ sentAt k
+  unfolding sentTo withChans
+  sent-first zero l =
+      ap (λ (x : List ℕ). x ++ rest)
+      (channels-same n s (s .chan) (sentBelow (s .chan) i a 0) (λ r j u v. sym (before-it (s .chan) i a 0 r j (omega arith))))
+  sent-first (suc k) l = rw (sent-first k (omega arith)) (pushed-same k (omega arith))
+
+  -- The answer sent to all carriers below.
+  pub sent-same : sentTo n i (recordOf a) (encode n s ++ rest) n ≡ encode n (withChans s (send (s .chan) i a)) ++ rest
+  sent-same =
+      sent-first n (omega arith)
+      ∙ ap (λ (x : List ℕ). x ++ rest)
+      (channels-same n s (sentBelow (s .chan) i a n) (send (s .chan) i a) (λ r j u v. after-it (s .chan) i a n r j v))

@@ -1,0 +1,201 @@
+-- The simulation of the reference machine: on the memory of any state within the ranges a call gives the reference machine's answer
+-- and leaves the memory of its next state, which is again within the ranges. Two states that have one memory are told apart by no call,
+-- since both go the way of the memory; so the same holds of the state that a valid memory shows.
+use Prim.Native.Nat.{ℕ, _+_, _≤_}
+use native.Mathlib.Omega.{arith}
+use native.Mathlib.Nat.{zero-add}
+use mathlib.Core.Bool.{Bool, true, false}
+use mathlib.Core.List.{List, _++_, map}
+use mathlib.Core.Path.{_≡_, refl, sym, _∙_, ap}
+use lib.ListN.{length, take, drop, take-append-drop, length-append}
+use borrow.Author.Tests.{le-leb}
+use Rattle.laws.specs.Verdict.{Verdict, passed, refused, Outcome, value, _then_, demand, _gives_, _thenAnswers_, whenPassed}
+use Rattle.laws.specs.Memory.{put}
+use Rattle.laws.proofs.VerdictLaws.{then-passed, then-both, demand-holds, demand-passes, answers-passed, gives-same, when-passed}
+use Rattle.floor.specs.declared.Floor.{Floor}
+use Rattle.floor.specs.Checks.{checkOf, roomOf}
+use Rattle.floor.proofs.LimitsLaws.{room-passed}
+use Rattle.records.proofs.RecordLaws.{Whole}
+use Rattle.reference.specs.State.{Machine, State}
+use Rattle.reference.specs.Step.{isThere, waitsFor}
+use Rattle.reference.specs.Take.{stepAnswer}
+use Rattle.reference.specs.Ending.{Ending}
+use Rattle.reference.specs.Table.{Asked, step, noStep, Call, single, runOf, stepsOf, lentEnough, allNamed, openSingle, verdict}
+use Rattle.reference.specs.Calls.{Reply, Told, stepped, ran, reply, stateAfter, afterCall}
+use Rattle.reference.specs.Bounds.{InRange, Throughout}
+use Rattle.reference.proofs.TableLaws.{single-open, named-each, all-steps}
+use Rattle.reference.proofs.ReachLaws.{call-reaches}
+use Rattle.reference.proofs.BoundLaws.{reaches-in-range}
+use Rattle.reference.proofs.ThroughLaws.{throughout-more, reaches-throughout}
+use Rattle.encoding.specs.Places.{stateSize}
+use Rattle.encoding.specs.Encode.{encode}
+use Rattle.encoding.specs.Valid.{valid}
+use Rattle.encoding.specs.Ranges.{Sound, WithinRanges}
+use Rattle.encoding.specs.Calls.{machineOf, placeVerdict, stateVerdict, stateIn, withState, replyTo, memoryAfter}
+use Rattle.encoding.specs.InnerSteps.{waitsIn, stepAnswerIn}
+use Rattle.encoding.specs.InnerCalls.{singleVerdictIn, verdictIn, replyIn, grantedMemory, memoryIn}
+use Rattle.encoding.proofs.StateLaws.{encode-length}
+use Rattle.encoding.proofs.RecordLaws.{sound-whole}
+use Rattle.encoding.proofs.OpenLaws.{waits-same}
+use Rattle.encoding.proofs.StepLaws.{after-same, said-same}
+use Rattle.encoding.proofs.RunLaws.{run-same, ending-same}
+use Rattle.encoding.proofs.ValidLaws.{fits-valid, valid-fits}
+use Rattle.encoding.proofs.FloorLaws.{depth-few, horizon-short, respond-sound, storable}
+
+ran-both : {t u : ℕ} {x y : Ending} → t ≡ u → x ≡ y → ran t x ≡ ran u y
+ran-both e h = rw (e, h)
+
+module _ (f : Floor) (ws : List ℕ) (ok : checkOf f ws ≡ passed) where
+  abbrev M : Machine
+  M = machineOf f ws
+
+  abbrev n : ℕ
+  n = f .carriers
+
+  module _ (s : State) (fits : WithinRanges f s) where
+    in-range : InRange M s
+    unfolding machineOf
+    in-range = record { channels = fits .channels; counted = fits .counted }
+
+    whole : Throughout n Whole s
+    whole = throughout-more n (sound-whole f) s (fits .parts)
+
+    -- What a call leaves is within the ranges.
+    pub call-fits : (c : Call) → WithinRanges f (afterCall M s c)
+    unfolding machineOf
+    call-fits c =
+        let reached = call-reaches M s c in
+        let range = reaches-in-range M in-range reached in
+        record {
+          counted = range .counted;
+          channels = range .channels;
+          parts = reaches-throughout n (Sound f) M (respond-sound f ws ok) (fits .parts) reached;
+        }
+
+    module _ (rest : List ℕ) where
+      abbrev m : List ℕ
+      m = encode n s ++ rest
+
+      -- A single step, and a run of steps that are there.
+      single-same : (a : Asked) → singleVerdictIn M m a ≡ openSingle M s a
+      unfolding singleVerdictIn openSingle demand _then_ machineOf
+      single-same noStep = refl
+      single-same (step x) = there-same (isThere M x) refl
+        where
+          there-same : (t : Bool) → isThere M x ≡ t → (demand (isThere M x) 7 0 then waitsIn M m x) ≡ (demand (isThere M x) 7 0 then waitsFor M s x)
+          there-same true e = ap (λ (v : Verdict). demand (isThere M x) 7 0 then v) (waits-same M s rest x e)
+          there-same false e = rw e
+
+      verdict-same : (c : Call) → verdictIn M m c ≡ verdict M s c
+      unfolding verdictIn verdict
+      verdict-same (single lent a) = rw (single-same a)
+      verdict-same (runOf lent xs b) = refl
+
+      steps-there : (lent : ℕ) (xs : List Asked) (b : ℕ) → verdict M s (runOf lent xs b) ≡ passed → map step (stepsOf xs) ≡ xs
+      unfolding verdict
+      steps-there lent xs b e = all-steps M xs (named-each M xs (then-both (lentEnough M lent) (allNamed M xs) e .1))
+
+      pub reply-same : (c : Call) → replyIn M m c ≡ reply M s c
+      unfolding replyIn reply machineOf
+      reply-same (single lent noStep) = refl
+      reply-same (single lent (step x)) =
+          rw (verdict-same (single lent (step x)))
+          (gives-same (verdict M s (single lent (step x))) (stepped (stepAnswerIn M m x)) (stepped (stepAnswer M s x))
+          (λ e. ap stepped (said-same M (storable f ws ok) s in-range whole rest x (single-open M s lent x e))))
+      reply-same (runOf lent xs b) =
+          rw (verdict-same (runOf lent xs b))
+          (gives-same (verdict M s (runOf lent xs b)) _ _
+          (λ e.
+          let r = run-same M (storable f ws ok) rest s (stepsOf xs) b in-range whole in
+          let q = ending-same M (storable f ws ok) rest s (stepsOf xs) b in-range whole in
+          rw (steps-there lent xs b e) at (ran-both (r .taken) q)))
+
+      taken-same : (c : Call) → verdict M s c ≡ passed → grantedMemory M m c ≡ encode n (stateAfter M s c) ++ rest
+      unfolding grantedMemory stateAfter machineOf
+      taken-same (single lent noStep) e = refl
+      taken-same (single lent (step x)) e = after-same M (storable f ws ok) s in-range whole rest x (single-open M s lent x e)
+      taken-same (runOf lent xs b) e =
+          rw (steps-there lent xs b e) at (run-same M (storable f ws ok) rest s (stepsOf xs) b in-range whole .memory)
+
+      pub memory-same : (c : Call) → memoryIn M m c ≡ encode n (afterCall M s c) ++ rest
+      unfolding memoryIn afterCall whenPassed
+      memory-same c = rw (verdict-same c) (go (verdict M s c) (taken-same c))
+        where
+          go : (v : Verdict) → (v ≡ passed → grantedMemory M m c ≡ encode n (stateAfter M s c) ++ rest) →
+              whenPassed v (grantedMemory M m c) m ≡ encode n (whenPassed v (stateAfter M s c) s) ++ rest
+          go passed h = h refl
+          go (refused k p) h = refl
+
+  -- A memory with a state in its front.
+  front-put : (m : List ℕ) (z : State) → withState f m z ≡ encode n z ++ drop (stateSize n) m
+  unfolding put
+  front-put m z = rw (encode-length n z, zero-add) refl
+
+  -- A memory that the checks let through is that of the state which it shows.
+  module _ (m : List ℕ) (e : stateVerdict f ws m ≡ passed) where
+    lent-long : stateSize n ≤ length m
+    unfolding stateVerdict placeVerdict
+    lent-long = room-passed (stateSize n) (length m) (then-both _ _ (then-both _ _ e .0) .1)
+
+    is-valid : valid f m ≡ true
+    unfolding stateVerdict
+    is-valid = demand-holds (valid f m) 10 0 (then-both (placeVerdict f ws (length m)) _ e .1)
+
+    shown : WithinRanges f (stateIn f m) × (encode n (stateIn f m) ≡ take (stateSize n) m)
+    shown = valid-fits f m (depth-few f ws ok) (horizon-short f ws ok) lent-long is-valid
+
+    shown-is : encode n (stateIn f m) ++ drop (stateSize n) m ≡ m
+    shown-is = rw (shown .1) (take-append-drop (stateSize n) m)
+
+    shown-reply : (c : Call) → replyIn M m c ≡ reply M (stateIn f m) c
+    shown-reply c = rw shown-is at (reply-same (stateIn f m) (shown .0) (drop (stateSize n) m) c)
+
+    shown-memory : (c : Call) → memoryIn M m c ≡ withState f m (afterCall M (stateIn f m) c)
+    shown-memory c =
+        (rw shown-is at (memory-same (stateIn f m) (shown .0) (drop (stateSize n) m) c)) ∙ sym (front-put m (afterCall M (stateIn f m) c))
+
+-- The answer to a call and the memory after it, number for number, on any floor and any memory.
+module _ (f : Floor) (ws m : List ℕ) where
+  floor-passes : stateVerdict f ws m ≡ passed → checkOf f ws ≡ passed
+  unfolding stateVerdict placeVerdict
+  floor-passes e = then-both _ _ (then-both _ _ e .0) .0
+
+  pub reply-in : (c : Call) → (stateVerdict f ws m thenAnswers replyIn (machineOf f ws) m c) ≡ replyTo f ws m c
+  unfolding replyTo _thenAnswers_
+  reply-in c = go (stateVerdict f ws m) refl
+    where
+      go : (v : Verdict) → stateVerdict f ws m ≡ v →
+          _≡_ {A = Reply} (v thenAnswers replyIn (machineOf f ws) m c) (v thenAnswers reply (machineOf f ws) (stateIn f m) c)
+      go passed e = shown-reply f ws (floor-passes e) m e c
+      go (refused k p) e = refl
+
+  pub memory-in : (c : Call) → whenPassed (stateVerdict f ws m) (memoryIn (machineOf f ws) m c) m ≡ memoryAfter f ws m c
+  unfolding memoryAfter whenPassed
+  memory-in c = go (stateVerdict f ws m) refl
+    where
+      go : (v : Verdict) → stateVerdict f ws m ≡ v → whenPassed v (memoryIn (machineOf f ws) m c) m ≡
+          whenPassed v (withState f m (afterCall (machineOf f ws) (stateIn f m) c)) m
+      go passed e = shown-memory f ws (floor-passes e) m e c
+      go (refused k p) e = refl
+
+-- The simulation: from the memory of any state within the ranges, with any numbers behind it.
+module _ (f : Floor) (ws : List ℕ) (ok : checkOf f ws ≡ passed) (s : State) (fits : WithinRanges f s) (rest : List ℕ) where
+  pub state-passes : stateVerdict f ws (encode (f .carriers) s ++ rest) ≡ passed
+  unfolding stateVerdict placeVerdict roomOf
+  state-passes =
+      let long : stateSize (f .carriers) ≤ length (encode (f .carriers) s ++ rest) =
+      omega (arith, length-append (encode (f .carriers) s) rest, encode-length (f .carriers) s)
+      in
+      then-passed (then-passed ok ∙ demand-passes 9 0 (le-leb _ _ long))
+      ∙ demand-passes 10 0 (fits-valid f s rest (depth-few f ws ok) (horizon-short f ws ok) fits)
+
+  pub simulated-reply : (c : Call) → replyTo f ws (encode (f .carriers) s ++ rest) c ≡ reply (machineOf f ws) s c
+  simulated-reply c =
+      sym (reply-in f ws (encode (f .carriers) s ++ rest) c)
+      ∙ answers-passed state-passes ∙ reply-same f ws ok s fits rest c
+
+  pub simulated-memory : (c : Call) → memoryAfter f ws (encode (f .carriers) s ++ rest) c ≡
+      encode (f .carriers) (afterCall (machineOf f ws) s c) ++ rest
+  simulated-memory c =
+      sym (memory-in f ws (encode (f .carriers) s ++ rest) c)
+      ∙ when-passed _ state-passes ∙ memory-same f ws ok s fits rest c

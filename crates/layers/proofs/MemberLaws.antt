@@ -1,0 +1,66 @@
+-- Near cells by row and column, and a choice of five.
+use Prim.Native.Nat.{ℕ, zero, suc, _+_, _*_, _/_, _%_, _<_}
+use native.Mathlib.Omega.{arith}
+use mathlib.Core.Bool.{Bool, true, false, _||_}
+use mathlib.Core.Logic.{_⊎_, inl, inr, ⊎-elim}
+use mathlib.Core.Path.{_≡_, refl, sym, _∙_}
+use Rattle.route.specs.Route.{Neighbours, SharesSide}
+use Rattle.route.specs.Moves.{near}
+use Rattle.laws.proofs.Tests.{true-false-absurd}
+use Rattle.route.proofs.NearLaws.{near-says, near-holds, shares-side-sym}
+use Rattle.bitrows.proofs.RowsLaws.{place-same}
+use Rattle.bitrows.proofs.StepLaws.{before}
+
+module _ (w : ℕ) where
+  pub near-row : (r k j : ℕ) → k < w → j < w → (k ≡ suc j) ⊎ (j ≡ suc k) → near w (r * w + k) (r * w + j) ≡ true
+  unfolding SharesSide Neighbours
+  near-row r k j h l e =
+      let p : ((r * w + k) / w ≡ r) × ((r * w + k) % w ≡ k) = place-same w (r * w + k) r k h refl in
+      let q : ((r * w + j) / w ≡ r) × ((r * w + j) % w ≡ j) = place-same w (r * w + j) r j l refl in
+      near-holds w (r * w + k) (r * w + j) (inr (inl (p .0 ∙ sym (q .0), rw (p .1, q .1) e)))
+
+  pub near-column : (r i k : ℕ) → k < w → (r ≡ suc i) ⊎ (i ≡ suc r) → near w (r * w + k) (i * w + k) ≡ true
+  unfolding SharesSide Neighbours
+  near-column r i k h e =
+      let p : ((r * w + k) / w ≡ r) × ((r * w + k) % w ≡ k) = place-same w (r * w + k) r k h refl in
+      let q : ((i * w + k) / w ≡ i) × ((i * w + k) % w ≡ k) = place-same w (i * w + k) i k h refl in
+      near-holds w (r * w + k) (i * w + k) (inr (inr (p .1 ∙ sym (q .1), rw (p .0, q .0) e)))
+
+pub near-turn : (w c d : ℕ) → near w c d ≡ true → near w d c ≡ true
+near-turn w c d e =
+    near-holds w d c (⊎-elim (λ (h : d ≡ c). inl (sym h)) (λ (h : SharesSide w c d). inr (shares-side-sym w c d h)) (near-says w c d e))
+
+pub near-same : (w c : ℕ) → near w c c ≡ true
+near-same w c = near-holds w c c (inl refl)
+
+pub before-says : (p : ℕ → Bool) (k : ℕ) → before p k ≡ true → (n : ℕ) × (k ≡ suc n) × (p n ≡ true)
+unfolding before
+before-says p zero e = true-false-absurd e refl
+before-says p (suc n) e = (n, refl, e)
+
+pub before-holds : (p : ℕ → Bool) (k n : ℕ) → k ≡ suc n → p n ≡ true → before p k ≡ true
+unfolding before
+before-holds p zero n e h = absurd (omega arith)
+before-holds p (suc k) n e h =
+    let q : k ≡ n = omega arith in
+    rw q h
+
+-- One of five.
+abbrev pub Five : Type 0 → Type 0 → Type 0 → Type 0 → Type 0 → Type 0
+Five A B C D E = A ⊎ (B ⊎ (C ⊎ (D ⊎ E)))
+
+pub five-says : (a b c d e : Bool) → (a || b || c || d || e) ≡ true → Five (a ≡ true) (b ≡ true) (c ≡ true) (d ≡ true) (e ≡ true)
+five-says true b c d e h = inl refl
+five-says false true c d e h = inr (inl refl)
+five-says false false true d e h = inr (inr (inl refl))
+five-says false false false true e h = inr (inr (inr (inl refl)))
+five-says false false false false e h = inr (inr (inr (inr h)))
+
+pub five-holds : (a b c d e : Bool) → Five (a ≡ true) (b ≡ true) (c ≡ true) (d ≡ true) (e ≡ true) → (a || b || c || d || e) ≡ true
+five-holds true b c d e h = refl
+five-holds false true c d e h = refl
+five-holds false false true d e h = refl
+five-holds false false false true e h = refl
+five-holds false false false false true h = refl
+five-holds false false false false false h =
+    ⊎-elim (λ x. x) (⊎-elim (λ x. x) (⊎-elim (λ x. x) (⊎-elim (λ x. x) (λ x. x)))) h

@@ -1,0 +1,242 @@
+-- A cell taken out of a table at one beat and at those beside it, and the cells of a view at each beat.
+use Prim.Native.Nat.{ℕ, suc, _+_, _*_, _-_, _/_, _%_, _≤_, _<_, min}
+use native.Mathlib.Omega.{arith}
+use native.Mathlib.Nat.{div-add-mod', eq-or-lt-of-le}
+use mathlib.Core.Bool.{true, _&&_, not, and-true, and-assoc}
+use mathlib.Core.List.{List}
+use mathlib.Core.Logic.{_⊎_, ⊎-elim, _↔_}
+use mathlib.Core.Path.{_≡_, refl, sym, ap, _∙_}
+use borrow.Author.Tests.{eqb-true, eq-eqb, ne-eqb, ltb-true}
+use lib.Dec.{eqb, ltb}
+use lib.ListN.{length}
+use Rattle.laws.proofs.Tests.{and-both, and-fst, and-snd, not-is-true, not-refutes, lt-or-le, eq-or-ne}
+use Rattle.laws.proofs.Tests.{eqbs-say, eqbs-hold, same-test, below-same}
+use Rattle.bitrows.specs.Rows.{has, droppedAt}
+use Rattle.bitrows.proofs.RowsLaws.{place-row, has-dropped, dropped-inside, dropped-outside, fewer-at, length-at}
+use Rattle.layers.specs.declared.SearchGrid.{SearchGrid}
+use Rattle.records.specs.Records.{viewCell, Away}
+use Rattle.layers.specs.Table.{inSet, Tidy}
+use Rattle.layers.specs.Room.{TakenCell, TakenBeats, BeatMore}
+
+module _ (g : SearchGrid) (s : List ℕ) (a x : ℕ) (thin : 1 ≤ g .width) (room : g .cells ≤ 32 * g .width) (tidy : Tidy g s) (here : a < 64) where
+  -- The table without cell x at beat a.
+  less : List ℕ
+  less = droppedAt (g .width) (g .cells) (a * 36 + 1) x s
+
+  -- A digit of it, where x is a cell.
+  less-has : (i j : ℕ) → x < g .cells → has less i j ≡ (has s i j && not (eqb i (a * 36 + 1 + x / g .width) && eqb j (x % g .width)))
+  unfolding less
+  less-has i j l =
+      rw (← dropped-inside (g .width) (g .cells) (a * 36 + 1) x s l)
+      (has-dropped s (a * 36 + 1 + x / g .width) (x % g .width) i j
+      (omega (arith, tidy .long, place-row (g .width) x thin (omega arith))))
+
+  -- The table itself, where x is no cell.
+  less-same : g .cells ≤ x → less ≡ s
+  unfolding less
+  less-same l = sym (dropped-outside (g .width) (g .cells) (a * 36 + 1) x s l)
+
+  -- It has no digit more.
+  less-fewer : (i j : ℕ) → has less i j ≡ true → has s i j ≡ true
+  unfolding less
+  less-fewer i j e = fewer-at (g .width) (g .cells) thin room s (a * 36 + 1) x (omega (arith, tidy .long)) i j e
+
+  -- It is as long.
+  less-length : length less ≡ length s
+  unfolding less
+  less-length = length-at (g .width) (g .cells) (a * 36 + 1) x s
+
+  -- It is tidy.
+  less-tidy : Tidy g less
+  less-tidy = record {
+    long = less-length ∙ tidy .long;
+    thin = λ i k e. tidy .thin i k (less-fewer i k e);
+    rows = λ t r k h e. tidy .rows t r k h (less-fewer (t * 36 + 1 + r) k e);
+    edge = λ t k e. tidy .edge t k (less-fewer (t * 36) k e);
+  }
+
+  -- Two cells have one place exactly if they are one.
+  same-place : (c : ℕ) → (eqb (a * 36 + 1 + c / g .width) (a * 36 + 1 + x / g .width) && eqb (c % g .width) (x % g .width)) ≡ eqb c x
+  same-place c = same-test _ _ says back
+    where
+      says : (eqb (a * 36 + 1 + c / g .width) (a * 36 + 1 + x / g .width) && eqb (c % g .width) (x % g .width)) ≡ true → eqb c x ≡ true
+      says e =
+          let p = eqbs-say (a * 36 + 1 + c / g .width) (a * 36 + 1 + x / g .width) (c % g .width) (x % g .width) e in
+          let q : c / g .width ≡ x / g .width = omega arith in
+          eq-eqb c x (sym (div-add-mod' c (g .width)) ∙ rw (q, p .1) (div-add-mod' x (g .width)))
+
+      back : eqb c x ≡ true →
+          (eqb (a * 36 + 1 + c / g .width) (a * 36 + 1 + x / g .width) && eqb (c % g .width) (x % g .width)) ≡ true
+      back e = let p : c ≡ x = eqb-true c x e in rw p (eqbs-hold (a * 36 + 1 + x / g .width) (a * 36 + 1 + x / g .width)
+          (x % g .width) (x % g .width) (refl, refl))
+
+  -- At its beat the cell is gone.
+  less-here : (c : ℕ) → inSet g less a c ≡ (inSet g s a c && not (eqb c x))
+  unfolding inSet
+  less-here c =
+      below-same c (g .cells) (has less i j) (has s i j && not (eqb c x)) (λ l. ⊎-elim cell (other l) (lt-or-le x (g .cells)))
+      ∙ sym (and-assoc (ltb c (g .cells)) (has s i j) (not (eqb c x)))
+    where
+      i : ℕ
+      i = a * 36 + 1 + c / g .width
+
+      j : ℕ
+      j = c % g .width
+
+      cell : x < g .cells → has less i j ≡ (has s i j && not (eqb c x))
+      cell u = less-has i j u ∙ rw (same-place c)
+
+      other : c < g .cells → g .cells ≤ x → has less i j ≡ (has s i j && not (eqb c x))
+      other l u = rw (less-same u, ne-eqb c x (λ e. omega arith)) (sym (and-true (has s i j)))
+
+  -- At another beat nothing is.
+  less-there : (t c : ℕ) → (t ≡ a → ⊥) → inSet g less t c ≡ inSet g s t c
+  unfolding inSet
+  less-there t c n = below-same c (g .cells) (has less i j) (has s i j) (λ l. ⊎-elim (cell l) other (lt-or-le x (g .cells)))
+    where
+      i : ℕ
+      i = t * 36 + 1 + c / g .width
+
+      j : ℕ
+      j = c % g .width
+
+      cell : c < g .cells → x < g .cells → has less i j ≡ has s i j
+      cell l u =
+          less-has i j u
+          ∙ rw
+          (ne-eqb i (a * 36 + 1 + x / g .width)
+          (λ e. n (omega (arith, place-row (g .width) c thin (omega arith), place-row (g .width) x thin (omega arith)))))
+          (and-true (has s i j))
+
+      other : g .cells ≤ x → has less i j ≡ has s i j
+      other u = rw (less-same u)
+
+  -- A cell of it is one of the table's, and not x at beat a.
+  less-member : (t c : ℕ) → (inSet g less t c ≡ true) ↔ ((inSet g s t c ≡ true) × (t ≡ a → c ≡ x → ⊥))
+  less-member t c = ⊎-elim at-beat elsewhere (eq-or-ne t a)
+    where
+      at-beat : t ≡ a → (inSet g less t c ≡ true) ↔ ((inSet g s t c ≡ true) × (t ≡ a → c ≡ x → ⊥))
+      at-beat e = (says, λ p. rw e (less-here c ∙ and-both (rw e at (p .0)) (not-is-true (eqb c x) (λ k. p .1 e (eqb-true c x k)))))
+        where
+          says : inSet g less t c ≡ true → (inSet g s t c ≡ true) × (t ≡ a → c ≡ x → ⊥)
+          says h =
+              let both = sym (less-here c) ∙ (rw e at h) in (
+                rw e (and-fst (inSet g s a c) (not (eqb c x)) both),
+                λ _ k. not-refutes (eqb c x) (and-snd (inSet g s a c) (not (eqb c x)) both) (eq-eqb c x k),
+              )
+
+      elsewhere : (t ≡ a → ⊥) → (inSet g less t c ≡ true) ↔ ((inSet g s t c ≡ true) × (t ≡ a → c ≡ x → ⊥))
+      elsewhere n = (λ h. (sym (less-there t c n) ∙ h, λ e. absurd (n e)), λ p. less-there t c n ∙ p .0)
+
+-- q is s without cell x at beat a.
+record Without (g : SearchGrid) (a x : ℕ) (s q : List ℕ) : Type 0 where
+  tidy : Tidy g q
+  member : (t c : ℕ) → (inSet g q t c ≡ true) ↔ ((inSet g s t c ≡ true) × (t ≡ a → c ≡ x → ⊥))
+
+dropped-without : (g : SearchGrid) (s q : List ℕ) (a x : ℕ) → 1 ≤ g .width → g .cells ≤ 32 * g .width → Tidy g s → a < 64 →
+    q ≡ droppedAt (g .width) (g .cells) (a * 36 + 1) x s → Without g a x s q
+unfolding less
+dropped-without g s q a x thin room tidy here e =
+    rw e (record { tidy = less-tidy g s a x thin room tidy here; member = less-member g s a x thin room tidy here })
+
+-- A cell taken out at three beats, a and those beside it.
+without-thrice : (g : SearchGrid) (s q r z : List ℕ) (a b d x : ℕ) → a ≤ g .horizon → b ≡ a - 1 → d ≡ min (a + 1) (g .horizon) →
+    Without g b x s q → Without g a x q r → Without g d x r z → TakenCell g a x s z
+without-thrice g s q r z a b d x l before after one two three =
+    record { tidy = three .tidy; taken = λ t c h. (says t c h, back t c h) }
+  where
+    beat : (t : ℕ) → t ≤ g .horizon → a ≤ suc t → t ≤ suc a → (t ≡ b → ⊥) → (t ≡ a → ⊥) → (t ≡ d → ⊥) → ⊥
+    beat t h up down p q r = omega arith
+
+    says : (t c : ℕ) → t ≤ g .horizon → inSet g z t c ≡ true → (inSet g s t c ≡ true) × (a ≤ suc t → t ≤ suc a → c ≡ x → ⊥)
+    says t c h e =
+        let w = (three .member t c) .0 e in
+        let v = (two .member t c) .0 (w .0) in
+        let u = (one .member t c) .0 (v .0) in
+        (u .0, λ up down p. beat t h up down (λ k. u .1 k p) (λ k. v .1 k p) (λ k. w .1 k p))
+
+    back : (t c : ℕ) → t ≤ g .horizon → (inSet g s t c ≡ true) × (a ≤ suc t → t ≤ suc a → c ≡ x → ⊥) → inSet g z t c ≡ true
+    back t c h p =
+        let u = (one .member t c) .1 (p .0, λ k. p .1 (omega arith) (omega arith)) in
+        let v = (two .member t c) .1 (u, λ k. p .1 (omega arith) (omega arith)) in
+        (three .member t c) .1 (v, λ k. p .1 (omega arith) (omega arith))
+
+pub cell-taken : (g : SearchGrid) (s q r z : List ℕ) (a b d x : ℕ) → 1 ≤ g .width → g .cells ≤ 32 * g .width → a ≤ g .horizon → g .horizon ≤ 63 →
+    Tidy g s → b ≡ a - 1 → d ≡ min (a + 1) (g .horizon) → q ≡ droppedAt (g .width) (g .cells) (b * 36 + 1) x s →
+    r ≡ droppedAt (g .width) (g .cells) (a * 36 + 1) x q → z ≡ droppedAt (g .width) (g .cells) (d * 36 + 1) x r → TakenCell g a x s z
+cell-taken g s q r z a b d x thin room l short tidy before after e f h =
+    let one = dropped-without g s q b x thin room tidy (omega arith) e in
+    let two = dropped-without g q r a x thin room (one .tidy) (omega arith) f in
+    let three = dropped-without g r z d x thin room (two .tidy) (omega arith) h in
+    without-thrice g s q r z a b d x l before after one two three
+
+-- No beat of a view taken out.
+pub taken-none : (g : SearchGrid) (m s : List ℕ) (j : ℕ) → Tidy g s → TakenBeats g m j 0 s s
+taken-none g m s j tidy = record { tidy = tidy; taken = λ t c h. (λ e. (e, λ u l. absurd (omega arith)), λ p. p .0) }
+
+-- One more beat of it.
+pub taken-more : (g : SearchGrid) (m s q r : List ℕ) (j n x : ℕ) → TakenBeats g m j n s q → x ≡ viewCell m j n → TakenCell g n x q r →
+    TakenBeats g m j (n + 1) s r
+taken-more g m s q r j n x old e new = record { tidy = new .tidy; taken = λ t c h. (says t c h, back t c h) }
+  where
+    away : (t c : ℕ) → Away m j n t c → (n ≤ suc t → t ≤ suc n → c ≡ x → ⊥) → Away m j (n + 1) t c
+    away t c before last u l up down p =
+        ⊎-elim (λ (v : u ≡ n). last (omega arith) (omega arith) ((rw v at p) ∙ sym e)) (λ (v : u < n). before u v up down p)
+        (eq-or-lt-of-le (omega arith))
+
+    says : (t c : ℕ) → t ≤ g .horizon → inSet g r t c ≡ true → (inSet g s t c ≡ true) × Away m j (n + 1) t c
+    says t c h k =
+        let last = (new .taken t c h) .0 k in
+        let before = (old .taken t c h) .0 (last .0) in
+        (before .0, away t c (before .1) (last .1))
+
+    back : (t c : ℕ) → t ≤ g .horizon → (inSet g s t c ≡ true) × Away m j (n + 1) t c → inSet g r t c ≡ true
+    back t c h p =
+        let before = (old .taken t c h) .1 (p .0, λ u l. p .1 u (omega arith)) in
+        (new .taken t c h) .1 (before, λ up down k. p .1 n (omega arith) (omega arith) (omega arith) (k ∙ e))
+
+-- A beat more of a view that moves: its cell is taken out at three beats.
+pub moves-more : (g : SearchGrid) (m q r : List ℕ) (j n x : ℕ) → x ≡ viewCell m j n → TakenCell g n x q r → BeatMore g m j n q r
+moves-more g m q r j n x e new = record { tidy = new .tidy; more = λ s old. taken-more g m s q r j n x old e new }
+
+-- A beat more of a view that stays: the beat after is all that the beat before has left.
+pub stays-more : (g : SearchGrid) (m q r : List ℕ) (j n d x : ℕ) → 1 ≤ g .width → g .cells ≤ 32 * g .width → n ≤ g .horizon →
+    g .horizon ≤ 63 → Tidy g q → d ≡ min (n + 1) (g .horizon) → x ≡ viewCell m j n →
+    (ltb 0 n && eqb (viewCell m j (n - 1)) (viewCell m j n)) ≡ true → r ≡ droppedAt (g .width) (g .cells) (d * 36 + 1) x q →
+    BeatMore g m j n q r
+stays-more g m q r j n d x thin room l short tidy after e held h =
+    record { tidy = new .tidy; more = λ s old. record { tidy = new .tidy; taken = λ t c u. (says s old t c u, back s old t c u) } }
+  where
+    new : Without g d x q r
+    new = dropped-without g q r d x thin room tidy (omega arith) h
+
+    some : 0 < n
+    some = ltb-true 0 n (and-fst (ltb 0 n) (eqb (viewCell m j (n - 1)) (viewCell m j n)) held)
+
+    same : viewCell m j (n - 1) ≡ viewCell m j n
+    same =
+        eqb-true (viewCell m j (n - 1)) (viewCell m j n) (and-snd (ltb 0 n) (eqb (viewCell m j (n - 1)) (viewCell m j n)) held)
+
+    last : (t c : ℕ) → t ≤ g .horizon → Away m j n t c → (t ≡ d → c ≡ x → ⊥) → n ≤ suc t → t ≤ suc n → c ≡ viewCell m j n → ⊥
+    last t c u before here up down p =
+        ⊎-elim (λ (k : t ≡ d). here k (p ∙ sym e))
+        (λ (k : t ≡ d → ⊥). before (n - 1) (omega (arith, some)) (omega arith) (earlier k) (p ∙ sym same)) (eq-or-ne t d)
+      where
+        earlier : (t ≡ d → ⊥) → t ≤ suc (n - 1)
+        earlier k = omega (arith, some)
+
+    says : (s : List ℕ) → TakenBeats g m j n s q → (t c : ℕ) → t ≤ g .horizon → inSet g r t c ≡ true →
+        (inSet g s t c ≡ true) × Away m j (n + 1) t c
+    says s old t c u k =
+        let v = (new .member t c) .0 k in
+        let w = (old .taken t c u) .0 (v .0) in (
+          w .0,
+          λ b l up down p. ⊎-elim (λ (z : b ≡ n). last t c u (w .1) (v .1) (omega arith) (omega arith) (rw z at p))
+              (λ (z : b < n). w .1 b z up down p) (eq-or-lt-of-le (omega arith)),
+        )
+
+    back : (s : List ℕ) → TakenBeats g m j n s q → (t c : ℕ) → t ≤ g .horizon → (inSet g s t c ≡ true) × Away m j (n + 1) t c →
+        inSet g r t c ≡ true
+    back s old t c u p =
+        let w = (old .taken t c u) .1 (p .0, λ b l. p .1 b (omega arith)) in
+        (new .member t c) .1 (w, λ k z. p .1 n (omega arith) (omega arith) (omega arith) (z ∙ e))

@@ -1,0 +1,38 @@
+-- Changing the set of one beat of a table: to no cell, by one more, to one cell alone, or by a step from the set of another beat.
+use Prim.Native.Nat.{ℕ}
+use mathlib.Core.Bool.{true}
+use mathlib.Core.List.{List}
+use mathlib.Core.Logic.{_⊎_}
+use mathlib.Core.Path.{_≡_}
+use Rattle.route.specs.Moves.{near}
+use Rattle.layers.specs.declared.SearchGrid.{SearchGrid}
+use Rattle.layers.specs.Table.{inSet, Tidy}
+
+-- q is tidy, and as s but for the set of beat b.
+pub record ChangedAt (g : SearchGrid) (s : List ℕ) (b : ℕ) (q : List ℕ) : Type 0 where
+  pub tidy : Tidy g q
+  pub other : (t c : ℕ) → (t ≡ b → ⊥) → inSet g q t c ≡ inSet g s t c
+
+-- The set of beat t has no cell.
+abbrev pub Empty : SearchGrid → List ℕ → ℕ → Type 0
+Empty g s t = (d : ℕ) → inSet g s t d ≡ true → ⊥
+
+-- q has at beat t the cells that s has then, and cell c.
+pub record Joined (g : SearchGrid) (s : List ℕ) (t c : ℕ) (q : List ℕ) : Type 0 where
+  pub says : (d : ℕ) → inSet g q t d ≡ true → (inSet g s t d ≡ true) ⊎ (d ≡ c)
+  pub kept : (d : ℕ) → inSet g s t d ≡ true → inSet g q t d ≡ true
+  pub holds : inSet g q t c ≡ true
+
+-- The set of beat t has cell c alone.
+pub record Alone (g : SearchGrid) (s : List ℕ) (t c : ℕ) : Type 0 where
+  pub says : (d : ℕ) → inSet g s t d ≡ true → d ≡ c
+  pub holds : inSet g s t c ≡ true
+
+-- Some cell of the set of beat t is near cell d.
+abbrev pub Beside : SearchGrid → List ℕ → ℕ → ℕ → Type 0
+Beside g s t d = (c : ℕ) × (inSet g s t c ≡ true) × (near (g .width) c d ≡ true)
+
+-- The set of beat b has those cells of the room then that are near a cell of the set of beat a.
+pub record Spread (g : SearchGrid) (room s : List ℕ) (a b : ℕ) : Type 0 where
+  pub says : (d : ℕ) → inSet g s b d ≡ true → (inSet g room b d ≡ true) × Beside g s a d
+  pub holds : (d : ℕ) → inSet g room b d ≡ true → Beside g s a d → inSet g s b d ≡ true

@@ -1,0 +1,116 @@
+// The room of a search: a table of the cells that can be stood on at each beat, made of the free cells and the views.
+ghost use mathlib.Core.Path.{_≡_};
+ghost use Prim.Native.Nat.{_+_, _*_, _-_, _≤_, _<_, min};
+ghost use mathlib.Core.Bool.{_&&_};
+ghost use lib.Dec.{ltb, eqb};
+ghost use lib.ListN.{length, replicate};
+ghost use Rattle.records.specs.Records.{viewCell};
+ghost use Rattle.bitrows.specs.Rows.{Clean};
+ghost use Rattle.layers.specs.Table.{Grid, Fits, Tidy};
+ghost use Rattle.layers.specs.Room.{IsFreeTable, OneMore, FreeBeats, TakenCell, TakenBeats, BeatMore};
+use crate::SearchGrid;
+use crate::table::ROWS;
+use crate::table::STRIDE;
+use crate::table::copy_rows;
+use records::view_cell;
+
+// The free cells at the first n beats of an empty table.
+pub fn fill_free(room: &mut [u32], free: &[u32], n: usize)
+    requires { ⌜ (now room ≡ replicate 2304 0) × (length (now free) ≡ 32) × (n ≤ 64) ⌝ }
+    ensures { λ r. ⌜ FreeBeats (now (free .entry)) n (now (room .exit)) ⌝ }
+{
+    let mut t: usize = 0;
+    while t < n {
+        copy_rows(room, t * STRIDE + 1, free, 0, ROWS);
+        t += 1;
+    }
+}
+
+// The beat before t, or 0.
+fn beat_before(t: usize) -> usize
+    ensures { λ r. ⌜ r ≡ t - 1 ⌝ }
+{
+    if 0 < t { t - 1 } else { 0 }
+}
+
+// The beat after t, at most h.
+fn beat_after(t: usize, h: usize) -> usize
+    ensures { λ r. ⌜ r ≡ min (t + 1) h ⌝ }
+{
+    if t < h { t + 1 } else { h }
+}
+
+// Takes cell c out of beat t and the beats beside it, from 0 to the horizon.
+fn take_cell(g: SearchGrid, room: &mut [u32], t: usize, c: usize)
+    requires { ⌜ Grid g × (t ≤ g .horizon) × (g .horizon ≤ 63) × Tidy g (now room) ⌝ }
+    ensures { λ r. ⌜ TakenCell g t c (now (room .entry)) (now (room .exit)) ⌝ }
+{
+    let w = g.width;
+    let scale = g.scale;
+    let cells = g.cells;
+    let before = beat_before(t);
+    let after = beat_after(t, g.horizon);
+    bitrows::drop_at(room, before * STRIDE + 1, w, scale, cells, c);
+    bitrows::drop_at(room, t * STRIDE + 1, w, scale, cells, c);
+    bitrows::drop_at(room, after * STRIDE + 1, w, scale, cells, c);
+}
+
+// Whether view j stays where it is between the beat before t and t.
+fn stays(views: &[u16], j: usize, t: usize) -> bool
+    requires { ⌜ (65 * j + 65 ≤ length (now views)) × (t < 64) ⌝ }
+    ensures { λ r. ⌜ r ≡ (ltb 0 t && eqb (viewCell (now (views .entry)) j (t - 1)) (viewCell (now (views .entry)) j t)) ⌝ }
+{
+    if t == 0 {
+        return false;
+    }
+    view_cell(views, j, t - 1) == view_cell(views, j, t)
+}
+
+// Takes the cell of view j at beat t out of the room, those of the beats before being out. Where the view stays, the beat before has
+// left only the beat after to be done.
+fn take_beat(g: SearchGrid, room: &mut [u32], views: &[u16], j: usize, t: usize)
+    requires { ⌜ Grid g × (65 * j + 65 ≤ length (now views)) × (t ≤ g .horizon) × (g .horizon ≤ 63) × Tidy g (now room) ⌝ }
+    ensures { λ r. ⌜ BeatMore g (now (views .entry)) j t (now (room .entry)) (now (room .exit)) ⌝ }
+{
+    let c = view_cell(views, j, t);
+    if stays(views, j, t) {
+        let after = beat_after(t, g.horizon);
+        bitrows::drop_at(room, after * STRIDE + 1, g.width, g.scale, g.cells, c);
+        return;
+    }
+    take_cell(g, room, t, c);
+}
+
+// Takes the cells of view j at the first n beats out of the room.
+fn take_view(g: SearchGrid, room: &mut [u32], views: &[u16], j: usize, n: usize)
+    requires { ⌜ Grid g × (65 * j + 65 ≤ length (now views)) × (n ≤ g .horizon + 1) × (g .horizon ≤ 63) × Tidy g (now room) ⌝ }
+    ensures { λ r. ⌜ TakenBeats g (now (views .entry)) j n (now (room .entry)) (now (room .exit)) ⌝ }
+{
+    let mut t: usize = 0;
+    while t < n {
+        take_beat(g, room, views, j, t);
+        t += 1;
+    }
+}
+
+// Takes the cells of view j, besides those of the views before it, out of the room.
+pub fn take_one(g: SearchGrid, room: &mut [u32], views: &[u16], j: usize)
+    requires { ⌜ Grid g × (65 * j + 65 ≤ length (now views)) × (g .horizon ≤ 63) × Tidy g (now room) ⌝ }
+    ensures { λ r. ⌜ OneMore g j (now (views .entry)) (now (room .entry)) (now (room .exit)) ⌝ }
+{
+    take_view(g, room, views, j, g.horizon + 1);
+}
+
+// The room of a scene in an empty table.
+pub fn make(g: SearchGrid, k: usize, room: &mut [u32], free: &[u32], views: &[u16])
+    requires { ⌜ Fits g k (now views) × Clean (g .width) (g .cells) (now free) × (length (now free) ≡ 32) ⌝ }
+    requires { ⌜ now room ≡ replicate 2304 0 ⌝ }
+    ensures { λ r. ⌜ IsFreeTable g k (now (free .entry)) (now (views .entry)) (now (room .exit)) ⌝ }
+{
+    fill_free(room, free, g.horizon + 1);
+    let mut j: usize = 0;
+    while j < k {
+        take_one(g, room, views, j);
+        j += 1;
+    }
+}

@@ -1,8 +1,0 @@
-// Test code: the lines of a script and their numbers, drawn numbers, lent memory to look at, and printing. It uses no crate of the library.
-// Every function answers for any input, so none has a `requires`.
-pub mod draws;
-pub mod fields;
-pub mod look;
-pub mod pages;
-pub mod records;
-pub mod show;

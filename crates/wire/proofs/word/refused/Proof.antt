@@ -1,9 +1,0 @@
--- `wire::word::refused` meets its contract: the parts of the definition.
-use Rattle.wire.specs.Word.{wordOf}
-use borrow.Author.Needs.{needs}
-use Rattle.wire.proofs.word.refused.Statement.{statement}
-use Rattle.wire.proofs.word.refused.Tie as tie
-
-pub refused-spec : {M : Type 1} → statement M
-unfolding wordOf
-refused-spec = tie.close (tie.spec (λ c κs. search needs) (λ c. c .packed .ensures))

@@ -1,9 +1,0 @@
--- `wire::word::too_short` meets its contract: the parts of the definition.
-use Rattle.wire.specs.Word.{wordOf}
-use borrow.Author.Needs.{needs}
-use Rattle.wire.proofs.word.too_short.Statement.{statement}
-use Rattle.wire.proofs.word.too_short.Tie as tie
-
-pub too-short-spec : {M : Type 1} → statement M
-unfolding wordOf
-too-short-spec = tie.close (tie.spec (λ c κs. search needs) (λ c. c .packed .ensures))
