@@ -1,21 +1,21 @@
 // A floor and its routes as one picture that moves: an SVG with the grid, the walls, the docks in the colours of their carriers, a trace
 // for each route, the carriers going a cell a beat, the number of the beat, and a legend with the arrivals. A viewer that does not play it, or
 // is asked for less motion, shows the carriers at their starts with their traces. For the program `desk`.
-mod beats;
-mod carriers;
 
 ghost use mathlib.Core.Path.{_≡_};
 ghost use Prim.Native.Nat.{_<_};
 ghost use lib.ListN.{length};
 ghost use Rattle.io.specs.Counts.{Counts};
-use beats::Beat;
 use canvas::ground;
 use canvas::page;
 use canvas::page::Page;
-use carriers::Part;
 use floor::Checked;
 use floor::Floor;
 use records::TEAM;
+use traces::beats;
+use traces::beats::Beat;
+use traces::carriers;
+use traces::carriers::Part;
 use wording::fill;
 use wording::put;
 
