@@ -217,7 +217,8 @@ fn put_text(text: &[u8], x: Refusal, out: &mut [u8]) -> usize
 // Prints why a text is no sheet of a floor, or the size of its floor where it is one; the number of printed bytes is returned.
 pub fn print(text: &[u8], out: &mut [u8; TEXT_LENGTH]) -> usize
     ensures counts { λ r. ⌜ Counts r (now (out .exit)) ⌝ }
-    ensures places { λ r. ⌜ ((k p : ℕ) → sheetVerdict (now (text .entry)) ≡ refused k p → Told (now (text .entry)) k p (now (out .exit)) r) ⌝ }
+    ensures places { λ r. ⌜ ((k p : ℕ) → sheetVerdict (now (text .entry)) ≡ refused k p
+        → Told (now (text .entry)) k p (now (out .exit)) r) ⌝ }
 {
     let mut walls = sheet::no_walls();
     let reading = sheet::read(text, &mut walls);
