@@ -1,21 +1,21 @@
 // A floor and its routes as one picture that moves: an SVG with the grid, the walls, the docks in the colours of their carriers, a trace
-// for each route, the carriers going a cell a beat, the number of the beat, and a legend with the arrivals. A viewer that does not play it, or
-// is asked for less motion, shows the carriers at their starts with their traces. For the program `desk`.
-mod beats;
-mod carriers;
+// for each route, the carriers going a cell a beat, the number of the beat, and a legend with the arrivals. A viewer that does not play
+// it, or is asked for less motion, shows the carriers at their starts with their traces. For the program `desk`.
 
 ghost use mathlib.Core.Path.{_≡_};
 ghost use Prim.Native.Nat.{_<_};
 ghost use lib.ListN.{length};
 ghost use Rattle.io.specs.Counts.{Counts};
-use beats::Beat;
 use canvas::ground;
 use canvas::page;
 use canvas::page::Page;
-use carriers::Part;
 use floor::Checked;
 use floor::Floor;
 use records::TEAM;
+use traces::beats;
+use traces::beats::Beat;
+use traces::carriers;
+use traces::carriers::Part;
 use wording::fill;
 use wording::put;
 
@@ -29,55 +29,96 @@ fn put_head(p: Page, out: &mut [u8]) -> usize {
     let size = fill(
         out,
         0,
-        b"<svg xmlns=\"http://www.w3.org/2000/svg\" width=\"%\" height=\"%\" viewBox=\"0 0 % %\" role=\"img\" aria-labelledby=\"title desc\">\n",
+        b"<svg xmlns=\"http://www.w3.org/2000/svg\" width=\"%\" height=\"%\" viewBox=\"0 0 % %\"",
         [w, h, w, h, 0, 0],
+    );
+    let role = put(
+        out,
+        size,
+        b" role=\"img\" aria-labelledby=\"title desc\">\n",
     );
     fill(
         out,
-        size,
+        role,
         b"<title id=\"title\">Routes on a floor of % by % cells</title>\n<desc id=\"desc\">",
         [p.columns as usize, p.rows as usize, 0, 0, 0, 0],
     )
 }
 
-// Puts the colours, eight that colour-blind readers can tell apart, each with that of the letters on it, and what is shown to readers who
-// ask for less motion; the column behind them is returned.
-fn put_style(out: &mut [u8], at: usize) -> usize {
-    let fills = put(
+// Puts the colours of bodies, docks and traces, eight that colour-blind readers can tell apart; the column behind them is returned.
+fn put_colours(out: &mut [u8], at: usize) -> usize {
+    let first = put(
         out,
         at,
-        b"</desc>\n<style>\n.f1{fill:#e69f00}.f2{fill:#56b4e9}.f3{fill:#009e73}.f4{fill:#f0e442}.f5{fill:#0072b2}.f6{fill:#d55e00}.f7{fill:#cc79a7}.f8{fill:#000}\n",
+        b"</desc>\n<style>\n.f1{fill:#e69f00}.f2{fill:#56b4e9}.f3{fill:#009e73}.f4{fill:#f0e442}",
     );
-    let strokes = put(
+    let fills = put(
+        out,
+        first,
+        b".f5{fill:#0072b2}.f6{fill:#d55e00}.f7{fill:#cc79a7}.f8{fill:#000}\n",
+    );
+    let second = put(
         out,
         fills,
-        b".s1{stroke:#e69f00}.s2{stroke:#56b4e9}.s3{stroke:#009e73}.s4{stroke:#f0e442}.s5{stroke:#0072b2}.s6{stroke:#d55e00}.s7{stroke:#cc79a7}.s8{stroke:#000}\n",
+        b".s1{stroke:#e69f00}.s2{stroke:#56b4e9}.s3{stroke:#009e73}.s4{stroke:#f0e442}",
     );
     put(
         out,
-        strokes,
-        b".t1,.t2,.t4,.t7{fill:#000}.t3,.t5,.t6,.t8{fill:#fff}\n@media (prefers-reduced-motion:reduce){.moving{display:none}}\n@media (prefers-reduced-motion:no-preference){.still{display:none}}\n</style>\n",
+        second,
+        b".s5{stroke:#0072b2}.s6{stroke:#d55e00}.s7{stroke:#cc79a7}.s8{stroke:#000}\n",
     )
 }
 
-// Puts the patterns of the grid and of the hatching, and the window through which a beat's numeral is seen; the column behind them is
-// returned.
-fn put_patterns(p: Page, out: &mut [u8], at: usize) -> usize {
-    let s = page::side(p);
+// Puts the colours of the letters on bodies, and what readers are shown who ask for less motion; the column behind them is returned.
+fn put_motion(out: &mut [u8], at: usize) -> usize {
+    let letters = put(
+        out,
+        at,
+        b".t1,.t2,.t4,.t7{fill:#000}.t3,.t5,.t6,.t8{fill:#fff}\n",
+    );
+    let less = put(
+        out,
+        letters,
+        b"@media (prefers-reduced-motion:reduce){.moving{display:none}}\n",
+    );
+    put(
+        out,
+        less,
+        b"@media (prefers-reduced-motion:no-preference){.still{display:none}}\n</style>\n",
+    )
+}
+
+// Puts the patterns of the grid and of the hatching; the column behind them is returned.
+fn put_patterns(s: usize, out: &mut [u8], at: usize) -> usize {
     let grid = fill(
         out,
         at,
-        b"<defs>\n<pattern id=\"grid\" x=\"28\" y=\"28\" width=\"%\" height=\"%\" patternUnits=\"userSpaceOnUse\"><path d=\"M% 0H0V%\" fill=\"none\" stroke=\"#ccc\"/></pattern>\n",
-        [s, s, s, s, 0, 0],
+        b"<defs>\n<pattern id=\"grid\" x=\"28\" y=\"28\" width=\"%\" height=\"%\" patternUnits=\"userSpaceOnUse\">",
+        [s, s, 0, 0, 0, 0],
+    );
+    let cell = fill(
+        out,
+        grid,
+        b"<path d=\"M% 0H0V%\" fill=\"none\" stroke=\"#ccc\"/></pattern>\n<pattern id=\"hatch\" width=\"6\" height=\"6\"",
+        [s, s, 0, 0, 0, 0],
     );
     let hatch = put(
         out,
-        grid,
-        b"<pattern id=\"hatch\" width=\"6\" height=\"6\" patternUnits=\"userSpaceOnUse\" patternTransform=\"rotate(45)\"><path d=\"M0 0V6\" stroke=\"#222\" stroke-width=\"3\"/></pattern>\n",
+        cell,
+        b" patternUnits=\"userSpaceOnUse\" patternTransform=\"rotate(45)\">",
     );
-    fill(
+    put(
         out,
         hatch,
+        b"<path d=\"M0 0V6\" stroke=\"#222\" stroke-width=\"3\"/></pattern>\n",
+    )
+}
+
+// Puts the window through which a beat's numeral is seen; the column behind it is returned.
+fn put_window(p: Page, out: &mut [u8], at: usize) -> usize {
+    fill(
+        out,
+        at,
         b"<clipPath id=\"window\"><rect x=\"%\" y=\"30\" width=\"36\" height=\"28\"/></clipPath>\n</defs>\n",
         [page::legend(p) + 40, 0, 0, 0, 0, 0],
     )
@@ -97,9 +138,11 @@ fn put_paper(p: Page, out: &mut [u8], at: usize) -> usize {
 fn put_front(p: Page, m: &[u16], out: &mut [u8]) -> usize {
     let head = put_head(p, out);
     let words = carriers::put_parts(Part::Words, p, m, out, head);
-    let style = put_style(out, words);
-    let patterns = put_patterns(p, out, style);
-    put_paper(p, out, patterns)
+    let colours = put_colours(out, words);
+    let motion = put_motion(out, colours);
+    let patterns = put_patterns(page::side(p), out, motion);
+    let window = put_window(p, out, patterns);
+    put_paper(p, out, window)
 }
 
 // Puts the floor; the column behind it is returned.
@@ -150,26 +193,43 @@ fn put_carriers(p: Page, m: &[u16], out: &mut [u8], at: usize) -> usize {
 // Puts the beat in the legend, as it is at rest; the column behind it is returned.
 fn put_beat(p: Page, out: &mut [u8], at: usize) -> usize {
     let x = page::legend(p);
-    fill(
+    let words = fill(
         out,
         at,
-        b"<g font-size=\"16\">\n<text x=\"%\" y=\"50\">beat</text><text x=\"%\" y=\"50\">of %</text>\n<g class=\"still\"><text x=\"%\" y=\"50\">0</text></g>\n",
-        [x, x + 80, p.horizon as usize, x + 44, 0, 0],
+        b"<g font-size=\"16\">\n<text x=\"%\" y=\"50\">beat</text><text x=\"%\" y=\"50\">of %</text>\n",
+        [x, x + 80, p.horizon as usize, 0, 0, 0],
+    );
+    fill(
+        out,
+        words,
+        b"<g class=\"still\"><text x=\"%\" y=\"50\">0</text></g>\n",
+        [x + 44, 0, 0, 0, 0, 0],
     )
+}
+
+// Puts the turning of the numerals, a line a beat; the column behind it is returned.
+fn put_turning(p: Page, m: &[u16], out: &mut [u8], at: usize) -> usize {
+    let last = p.horizon as usize;
+    let open = put(
+        out,
+        at,
+        b"<g class=\"moving\" clip-path=\"url(#window)\"><g><animateTransform attributeName=\"transform\" type=\"translate\"",
+    );
+    let first = fill(
+        out,
+        open,
+        b" calcMode=\"discrete\" dur=\"%ms\" repeatCount=\"indefinite\" values=\"0 0",
+        [page::duration(p), 0, 0, 0, 0, 0],
+    );
+    let turns = beats::put_beats(Beat::Turn, p, m, 0, 1, last, out, first);
+    beats::put_beats(Beat::Turn, p, m, 0, last, last, out, turns)
 }
 
 // Puts the numerals of the beats, which turn behind a window; the column behind them is returned.
 fn put_numerals(p: Page, m: &[u16], out: &mut [u8], at: usize) -> usize {
     let last = p.horizon as usize;
-    let open = fill(
-        out,
-        at,
-        b"<g class=\"moving\" clip-path=\"url(#window)\"><g><animateTransform attributeName=\"transform\" type=\"translate\" calcMode=\"discrete\" dur=\"%ms\" repeatCount=\"indefinite\" values=\"0 0",
-        [page::duration(p), 0, 0, 0, 0, 0],
-    );
-    let turns = beats::put_beats(Beat::Turn, p, m, 0, 1, last, out, open);
-    let again = beats::put_beats(Beat::Turn, p, m, 0, last, last, out, turns);
-    let close = put(out, again, b"\"/>\n");
+    let turning = put_turning(p, m, out, at);
+    let close = put(out, turning, b"\"/>\n");
     let numerals = beats::put_beats(Beat::Numeral, p, m, 0, 0, last, out, close);
     put(out, numerals, b"</g></g>\n</g>\n")
 }

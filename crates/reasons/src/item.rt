@@ -1,4 +1,5 @@
-// Refusals 3 to 6 and 17 in words, from a sheet in good form: an item is a carrier or a wall, and has a line of its own. Fields count from 0.
+// Refusals 3 to 6 and 17 in words, from a sheet in good form: an item is a carrier or a wall, and has a line of its own. Fields count
+// from 0.
 ghost use Prim.Native.Nat.{_≤_};
 use positions::cause::bound_of;
 use positions::cause::is_column;

@@ -1,7 +1,5 @@
 // Why a sheet is refused, in words, with the line and the column of the sheet, both from 1: one line of text over a fixed array. Of an
 // accepted sheet its size. For the program `desk`.
-mod ending;
-mod form;
 mod item;
 
 ghost use mathlib.Core.Path.{_≡_};
@@ -93,7 +91,7 @@ fn put_cause(text: &[u8], number: u16, place: usize, field: usize, out: &mut [u8
     requires { ⌜ (place ≤ 65535) × (field ≤ 10) ⌝ }
 {
     if number == 1 {
-        return form::put_reason(text, place, out);
+        return malformed::put_reason(text, place, out);
     }
     if number == 2 {
         return put_limit(text, place, out);
@@ -208,7 +206,7 @@ fn put_text(text: &[u8], x: Refusal, out: &mut [u8]) -> usize
     let place = x.place;
     if number == 1 {
         if place == text.len() {
-            let end = ending::put_end(text, place, out);
+            let end = malformed::put_end(text, place, out);
             return wording::within(end, out);
         }
     }
@@ -219,7 +217,8 @@ fn put_text(text: &[u8], x: Refusal, out: &mut [u8]) -> usize
 // Prints why a text is no sheet of a floor, or the size of its floor where it is one; the number of printed bytes is returned.
 pub fn print(text: &[u8], out: &mut [u8; TEXT_LENGTH]) -> usize
     ensures counts { λ r. ⌜ Counts r (now (out .exit)) ⌝ }
-    ensures places { λ r. ⌜ ((k p : ℕ) → sheetVerdict (now (text .entry)) ≡ refused k p → Told (now (text .entry)) k p (now (out .exit)) r) ⌝ }
+    ensures places { λ r. ⌜ ((k p : ℕ) → sheetVerdict (now (text .entry)) ≡ refused k p
+        → Told (now (text .entry)) k p (now (out .exit)) r) ⌝ }
 {
     let mut walls = sheet::no_walls();
     let reading = sheet::read(text, &mut walls);

@@ -1,10 +1,10 @@
--- `picture::beats::put_beats` is safe and ends: the beats rise.
+-- `traces::beats::put_beats` is safe and ends: the beats rise.
 use Prim.Native.Nat.{_-_}
 use mathlib.Core.Path.{_≡_}
 use lib.ListN.{length}
 use borrow.Author.Needs.{needs}
-use Rattle.picture.proofs.beats.put_beats.Statement.{statement}
-use Rattle.picture.proofs.beats.put_beats.Tie as tie
+use Rattle.traces.proofs.beats.put_beats.Statement.{statement}
+use Rattle.traces.proofs.beats.put_beats.Tie as tie
 
 abbrev Inv-loop : tie.InvT-loop
 Inv-loop what p m i first last out₀ at end₀ t₀ out end t = length out ≡ length out₀

@@ -1,8 +1,8 @@
--- `reasons::form::first_place` meets its contract: a field has five bytes.
+-- `malformed::form::first_place` meets its contract: a field has five bytes.
 use Prim.Native.Nat.{_-_, _≤_}
 use borrow.Author.Needs.{needs}
-use Rattle.reasons.proofs.form.first_place.Statement.{statement}
-use Rattle.reasons.proofs.form.first_place.Tie as tie
+use Rattle.malformed.proofs.form.first_place.Statement.{statement}
+use Rattle.malformed.proofs.form.first_place.Tie as tie
 
 abbrev Inv-loop : tie.InvT-loop
 Inv-loop text at i₀ i = i ≤ 5

@@ -1,8 +1,8 @@
--- `reasons::form::has_space` is safe and ends: a field has five bytes.
+-- `malformed::form::has_space` is safe and ends: a field has five bytes.
 use Prim.Native.Nat.{_-_, _≤_}
 use borrow.Author.Needs.{needs}
-use Rattle.reasons.proofs.form.has_space.Statement.{statement}
-use Rattle.reasons.proofs.form.has_space.Tie as tie
+use Rattle.malformed.proofs.form.has_space.Statement.{statement}
+use Rattle.malformed.proofs.form.has_space.Tie as tie
 
 abbrev Inv-loop : tie.InvT-loop
 Inv-loop text at place i₀ i = i ≤ 5

@@ -1,8 +1,8 @@
--- `reasons::form::foreign` is safe and ends: a field has five bytes.
+-- `malformed::form::foreign` is safe and ends: a field has five bytes.
 use Prim.Native.Nat.{_-_, _≤_}
 use borrow.Author.Needs.{needs}
-use Rattle.reasons.proofs.form.foreign.Statement.{statement}
-use Rattle.reasons.proofs.form.foreign.Tie as tie
+use Rattle.malformed.proofs.form.foreign.Statement.{statement}
+use Rattle.malformed.proofs.form.foreign.Tie as tie
 
 abbrev Inv-loop : tie.InvT-loop
 Inv-loop text at i₀ i = i ≤ 5

@@ -1,10 +1,10 @@
--- `picture::carriers::put_parts` is safe and ends: the carriers rise.
+-- `traces::carriers::put_parts` is safe and ends: the carriers rise.
 use Prim.Native.Nat.{_-_}
 use mathlib.Core.Path.{_≡_}
 use lib.ListN.{length}
 use borrow.Author.Needs.{needs}
-use Rattle.picture.proofs.carriers.put_parts.Statement.{statement}
-use Rattle.picture.proofs.carriers.put_parts.Tie as tie
+use Rattle.traces.proofs.carriers.put_parts.Statement.{statement}
+use Rattle.traces.proofs.carriers.put_parts.Tie as tie
 
 abbrev Inv-loop : tie.InvT-loop
 Inv-loop what p m out₀ at n end₀ i₀ out end i = length out ≡ length out₀
