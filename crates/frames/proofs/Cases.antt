@@ -33,12 +33,12 @@ answers i = answerAt (route (0 ∷ 1 ∷ 2 ∷ []) ∷ none ∷ []) i
 
 -- At beat 1 `b1B` and `.#.`.
 apart : gridOf (marksText (frameMark grid (4 ∷ []) answers 1) 6) 3 2 ≡ 98 ∷ 49 ∷ 66 ∷ 10 ∷ 46 ∷ 35 ∷ 46 ∷ 10 ∷ []
-unfolding gridOf rowOf part marksText frameMark stillMark presentIn presentOf oneOf dockMarks startMarks dockMark startMark linesOf among startOf
-    countOf docksOf isDock cellAt answerAt
+unfolding gridOf rowOf part marksText frameMark stillMark presentIn presentOf oneOf dockMarks startMarks dockMark startMark linesOf among
+    startOf countOf docksOf isDock cellAt answerAt
 apart = refl
 
 -- At beat 2 carrier 1 is in the start of carrier 2: `b.*` and `.#.`.
 together : gridOf (marksText (frameMark grid (4 ∷ []) answers 2) 6) 3 2 ≡ 98 ∷ 46 ∷ 42 ∷ 10 ∷ 46 ∷ 35 ∷ 46 ∷ 10 ∷ []
-unfolding gridOf rowOf part marksText frameMark stillMark presentIn presentOf oneOf dockMarks startMarks dockMark startMark linesOf among startOf
-    countOf docksOf isDock cellAt answerAt
+unfolding gridOf rowOf part marksText frameMark stillMark presentIn presentOf oneOf dockMarks startMarks dockMark startMark linesOf among
+    startOf countOf docksOf isDock cellAt answerAt
 together = refl

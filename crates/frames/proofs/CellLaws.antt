@@ -1,10 +1,10 @@
 -- The marks of a cell at a beat, by the tests that the code makes on the answers in a memory.
-use Prim.Native.Nat.{ℕ, _+_, _*_, _≤_, _<_}
+use Prim.Native.Nat.{ℕ, _+_, _*_, _≤_}
 use native.Mathlib.Omega.{arith}
-use mathlib.Core.Bool.{Bool, true, false, cond}
+use mathlib.Core.Bool.{true, false, cond}
 use mathlib.Core.Logic.{⊎-elim}
-use mathlib.Core.Path.{_≡_, refl, sym, _∙_, ap}
-use mathlib.Core.List.{List, [], _∷_, _++_}
+use mathlib.Core.Path.{_≡_, sym, _∙_}
+use mathlib.Core.List.{List, [], _∷_}
 use borrow.Author.Tests.{eq-eqb, ne-eqb}
 use lib.Dec.{eqb}
 use lib.ListN.{length, getD}
@@ -15,13 +15,11 @@ use Rattle.floor.specs.declared.Floor.{Floor}
 use Rattle.floor.specs.Checks.{startOf, among}
 use Rattle.route.specs.Route.{cellAt, Answer, none, route}
 use Rattle.records.specs.Records.{viewOf, recordAt, viewAt, shown, answerIn}
-use Rattle.sheet.specs.Text.{linesOf}
-use Rattle.printing.proofs.LinesLaws.{lines-within}
 use Rattle.reporting.specs.Put.{PutAt}
 use Rattle.maps.specs.Text.{oneOf}
 use Rattle.maps.specs.Map.{startMarks, dockMarks}
 use Rattle.maps.proofs.MarkLaws.{cond-there, cond-away, cond-short}
-use Rattle.frames.specs.Text.{stillMark, presentOf, presentIn}
+use Rattle.frames.specs.Text.{stillMark, presentOf}
 
 -- The answer in a record by its tag.
 tag-none : (tag : ℕ) (cells : List ℕ) → eqb tag 2 ≡ false → shown (viewOf tag cells) ≡ none

@@ -1,8 +1,8 @@
 -- The lines of arrivals, the frames and the whole text, and their lengths.
 use Prim.Native.Nat.{ℕ, zero, suc, _+_, _*_, _≤_, _<_, min}
 use native.Mathlib.Omega.{arith}
-use mathlib.Core.Bool.{Bool, true, false, cond}
-use mathlib.Core.Path.{_≡_, refl, sym, _∙_, ap}
+use mathlib.Core.Bool.{Bool, true, false}
+use mathlib.Core.Path.{_≡_, _∙_, ap}
 use mathlib.Core.List.{List, [], _∷_, _++_}
 use borrow.Author.Tests.{le-leb, lt-leb}
 use lib.Dec.{leb, eqb}
@@ -22,12 +22,12 @@ use Rattle.reporting.specs.Put.{PutAt}
 use Rattle.reporting.proofs.ReportLaws.{put-behind}
 use Rattle.reporting.proofs.PrintedLaws.{Within}
 use Rattle.blockers.specs.Inner.{PlanIn}
-use Rattle.maps.specs.Text.{decimal, marksText, gridOf}
+use Rattle.maps.specs.Text.{decimal}
 use Rattle.maps.specs.Map.{mapOf}
 use Rattle.maps.proofs.LinesLaws.{nothing-put}
 use Rattle.maps.proofs.MarkLaws.{cond-short}
 use Rattle.maps.proofs.MapLaws.{decimal-short, grid-short, map-short}
-use Rattle.frames.specs.Text.{carrierWords, arrivesWords, staysWords, beatWords, frameMark, frameRows, frameOf, arrivalWords}
+use Rattle.frames.specs.Text.{carrierWords, arrivesWords, staysWords, beatWords, frameRows, frameOf, arrivalWords}
 use Rattle.frames.specs.Text.{arrivalLine}
 use Rattle.frames.specs.Text.{drawHead, drawOf, planned, floorText, floorBeat}
 use Rattle.frames.proofs.CellLaws.{answer-none, answer-route}

@@ -1,8 +1,6 @@
 -- The answers in a memory with a plan are the plan's, for every number.
 use Prim.Native.Nat.{ℕ, zero, suc, _+_, _*_, _-_, _≤_, _<_}
 use native.Mathlib.Omega.{arith}
-use native.Mathlib.Nat.{zero-add}
-use mathlib.Core.Bool.{true, false}
 use mathlib.Core.Logic.{⊎-elim}
 use mathlib.Core.Path.{_≡_, refl, sym, _∙_, ap, fun-ext}
 use mathlib.Core.List.{List, [], _∷_, _++_}
@@ -14,7 +12,7 @@ use Rattle.laws.specs.Verdict.{passed}
 use Rattle.floor.specs.declared.Floor.{Floor}
 use Rattle.floor.specs.Checks.{checkOf}
 use Rattle.floor.proofs.LimitsLaws.{Bounds, check-tells}
-use Rattle.route.specs.Route.{Answer, none, route, heard}
+use Rattle.route.specs.Route.{Answer, none}
 use Rattle.records.specs.Records.{viewAt, shown, answerIn, recordOf, recordsOf, stored}
 use Rattle.records.proofs.RecordLaws.{Whole, record-view}
 use Rattle.planner.specs.Plan.{planOf}

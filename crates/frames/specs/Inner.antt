@@ -1,5 +1,5 @@
 -- Inner matter: nothing claimed rests on this. What the inner functions are proved against.
-use Prim.Native.Nat.{ℕ, _≤_}
+use Prim.Native.Nat.{ℕ}
 use mathlib.Core.List.{List}
 use mathlib.Core.Path.{_≡_}
 use lib.ListN.{length}

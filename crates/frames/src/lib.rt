@@ -4,7 +4,7 @@ mod cells;
 mod lines;
 
 ghost use mathlib.Core.Path.{_≡_};
-ghost use Prim.Native.Nat.{_+_, _*_, _≤_, _<_};
+ghost use Prim.Native.Nat.{_+_, _≤_, _<_};
 ghost use mathlib.Core.List.{_++_, _∷_, []};
 ghost use lib.ListN.{length, take};
 ghost use Rattle.io.specs.Counts.{Counts};
@@ -14,7 +14,7 @@ ghost use Rattle.records.specs.Records.{answerIn};
 ghost use Rattle.sheet.specs.Text.{linesOf};
 ghost use Rattle.printing.specs.Put.{TextPut};
 ghost use Rattle.reporting.specs.Put.{PutAt};
-ghost use Rattle.frames.specs.Text.{frameOf, drawHead, drawOf, floorText, floorBeat, drawText, beatText};
+ghost use Rattle.frames.specs.Text.{frameOf, drawHead, floorText, floorBeat, drawText, beatText};
 ghost use Rattle.frames.specs.Inner.{Drawable};
 use floor::Checked;
 use floor::Floor;

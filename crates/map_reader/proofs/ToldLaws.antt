@@ -1,7 +1,7 @@
 -- A sheet that was written stands in front of the memory, and is that of the map's floor.
 use Prim.Native.Nat.{ℕ, _+_, _≤_, _<_}
 use native.Mathlib.Omega.{arith}
-use mathlib.Core.Path.{_≡_, refl, sym, _∙_, ap}
+use mathlib.Core.Path.{_≡_, sym, _∙_, ap}
 use mathlib.Core.List.{List, _++_}
 use borrow.Author.Count.{below-more}
 use lib.ListN.{length, take, drop, getD, set, length-append}
@@ -10,7 +10,6 @@ use Rattle.laws.specs.Verdict.{passed}
 use Rattle.laws.proofs.VerdictLaws.{then-both, when-passed}
 use Rattle.laws.proofs.PutLaws.{put-front}
 use Rattle.floor.specs.declared.Floor.{Floor}
-use Rattle.floor.specs.Checks.{checkOf}
 use Rattle.sheet.specs.Text.{sheetOf, sheetLength}
 use Rattle.sheet.specs.Read.{writeVerdict, writeSheet}
 use Rattle.sheet.proofs.Theorems.{theorems as sheet-theorems}
@@ -19,7 +18,7 @@ use Rattle.map_reader.specs.declared.rows.Shape.{Shape}
 use Rattle.map_reader.specs.declared.Told.{Told}
 use Rattle.map_reader.specs.declared.Told.the-variants.{Sheet, Refused}
 use Rattle.map_reader.specs.Marks.{isWall, cellsWhere}
-use Rattle.map_reader.specs.Told.{Filled, CarriersFrom, rowsIn, SheetIn, ToldIn}
+use Rattle.map_reader.specs.Told.{Filled, CarriersFrom, SheetIn, ToldIn}
 use Rattle.map_reader.specs.Inner.{RowsIn, Written, ToldOf}
 
 -- A loop that fills an array: before the first, and one more.

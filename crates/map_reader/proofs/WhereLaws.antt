@@ -1,7 +1,6 @@
 -- The cells for which a test holds: loops that count, list or look for them.
 use Prim.Native.Nat.{ℕ, zero, suc, _+_, _≤_, _<_}
 use native.Mathlib.Omega.{arith}
-use native.Mathlib.Nat.{add-zero}
 use native.Mathlib.Numerals.{add-one}
 use mathlib.Core.Bool.{Bool, true, false, cond}
 use mathlib.Core.Path.{_≡_, refl, sym, _∙_, ap}
@@ -9,11 +8,10 @@ use mathlib.Core.List.{List, [], _∷_, _++_, append-nil}
 use borrow.Author.Count.{below-more}
 use lib.ListN.{length, getD, set, length-append, List·getD-append, List·getD-eq-default}
 use lib.Seq.{getD-append-seam}
-use Rattle.laws.specs.Memory.{put}
 use Rattle.laws.proofs.PutLaws.{put-one}
 use Rattle.sheet.specs.Text.{linesOf}
 use Rattle.reporting.specs.Put.{PutAt}
-use Rattle.maps.proofs.LinesLaws.{nothing-put, put-keeps, lines-start, lines-low, lines-keep, lines-more, lines-end}
+use Rattle.maps.proofs.LinesLaws.{nothing-put, put-keeps, lines-start, lines-low, lines-more}
 use Rattle.maps.proofs.MarkLaws.{cond-short}
 use Rattle.map_reader.specs.Marks.{cellsWhere}
 

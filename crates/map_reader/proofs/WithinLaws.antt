@@ -1,21 +1,19 @@
 -- Columns, rows and shapes that are answered, by cases.
-use Prim.Native.Nat.{ℕ, zero, suc, _+_, _*_, _≤_, _<_}
+use Prim.Native.Nat.{ℕ, _+_, _*_, _≤_, _<_}
 use native.Mathlib.Omega.{arith}
-use native.Mathlib.Nat.{zero-mul, add-zero}
-use mathlib.Core.Path.{_≡_, refl, sym, _∙_, ap}
+use mathlib.Core.Path.{_≡_, refl}
 use mathlib.Core.List.{List}
 use lib.ListN.{length, getD, set, take, drop, length-take}
 use Rattle.laws.specs.Memory.{put, part}
-use Rattle.laws.proofs.PutLaws.{copy-start, copy-more, copy-keeps, copy-end, put-front}
+use Rattle.laws.proofs.PutLaws.{copy-more, copy-keeps, copy-end, put-front}
 use Rattle.laws.proofs.PartLaws.{part-byte, part-length}
-use Rattle.sheet.specs.Text.{linesOf}
 use Rattle.reporting.specs.Put.{PutAt}
 use Rattle.maps.proofs.LinesLaws.{put-keeps, lines-start, lines-low, lines-more}
 use Rattle.map_reader.specs.declared.tokens.Read.{Read}
 use Rattle.map_reader.specs.declared.tokens.Read.the-variants.{At, Refused}
 use Rattle.map_reader.specs.declared.rows.Shape.{Shape}
 use Rattle.map_reader.specs.declared.rows.Shaped.{Shaped}
-use Rattle.map_reader.specs.declared.rows.Shaped.the-variants.{Rows, Refused as Shaped·Refused}
+use Rattle.map_reader.specs.declared.rows.Shaped.the-variants.{Rows}
 use Rattle.map_reader.specs.Told.{rowsIn}
 use Rattle.map_reader.specs.Inner.{ReadWithin, Copied, RowRead, RowsRead, ShapeRead, RowsIn}
 

@@ -1,7 +1,7 @@
 // The floor of a map, from the marks of its cells and what its capital letters stand for. Things are counted as in `letters`: `1` to `8`,
 // then `a` to `h`.
 ghost use mathlib.Core.Path.{_≡_};
-ghost use Prim.Native.Nat.{ℕ, _+_, _*_, _/_, _%_, _≤_, _<_};
+ghost use Prim.Native.Nat.{_+_, _*_, _/_, _%_, _≤_, _<_};
 ghost use lib.ListN.{length, getD};
 ghost use Rattle.reporting.specs.Put.{PutAt};
 ghost use Rattle.map_reader.specs.Marks.{isThing, isWall, cellsWhere};

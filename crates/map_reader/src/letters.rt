@@ -129,7 +129,7 @@ fn read_line(text: &[u8], at: usize, line: u16, marks: &[u8], n: usize, table: &
     Read::At(next)
 }
 
-// Reads the lines of letters from a column on to the end, the first being such a line of the text; the column behind them is answered.
+// Reads the lines of letters from a column on to the end, of which the first has a number; the column behind them is answered.
 pub fn read_letters(
     text: &[u8],
     first: usize,

@@ -6,7 +6,7 @@ mod tokens;
 mod words;
 
 ghost use lib.ListN.{length};
-ghost use Prim.Native.Nat.{_+_, _*_, _≤_, _<_};
+ghost use Prim.Native.Nat.{_+_, _≤_, _<_};
 ghost use mathlib.Core.Path.{_≡_};
 ghost use Rattle.io.specs.Counts.{Counts};
 ghost use Rattle.map_reader.specs.Told.{CarriersFrom, ToldIn, SheetOrNothing};

@@ -1,6 +1,5 @@
 // The rows of a map: their marks into lent memory.
-ghost use mathlib.Core.Path.{_≡_};
-ghost use Prim.Native.Nat.{_+_, _*_, _≤_, _<_};
+ghost use Prim.Native.Nat.{_+_, _≤_, _<_};
 ghost use lib.ListN.{length};
 ghost use Rattle.map_reader.specs.Inner.{RowRead, ShapeRead};
 use crate::tokens;

@@ -4,7 +4,9 @@ ghost use mathlib.Core.Path.{_≡_};
 ghost use lib.ListN.{length};
 ghost use Rattle.map_reader.specs.Marks.{thingOf, placeOf};
 
-// What is wrong with a map: the kind tells the words, the others what they name.
+// What is wrong with a map: the kind tells the words (`words`), the others what they name: a line or a carrier, a column, and numbers.
+// Kinds 1 to 3 tell of line 1, 4 to 9 of rows and their lengths, 10 of a byte, 11 to 16 of the line of a letter, 17 of a letter without
+// one, 18 to 22 of carriers, 23 that the floor is refused.
 pub struct Problem {
     pub kind: u8,
     pub line: u16,

@@ -3,7 +3,7 @@ use Prim.Native.Nat.{ℕ, zero, suc, _+_, _*_, _/_, _%_, _≤_, _<_}
 use native.Mathlib.Omega.{arith}
 use native.Mathlib.Nat.{mul-le-mul}
 use mathlib.Core.Bool.{Bool, true, false, cond}
-use mathlib.Core.Path.{_≡_, refl, sym, _∙_, ap}
+use mathlib.Core.Path.{_≡_, refl, _∙_}
 use mathlib.Core.List.{List, [], _∷_, _++_}
 use borrow.Author.Tests.{lt-ltb, le-ltb}
 use lib.Dec.{ltb}
@@ -20,9 +20,8 @@ use Rattle.printing.proofs.LinesLaws.{lines-within}
 use Rattle.reporting.specs.Put.{PutAt}
 use Rattle.reporting.proofs.ReportLaws.{put-behind}
 use Rattle.maps.specs.Text.{decimal, marksText, rowOf, gridOf}
-use Rattle.maps.specs.Map.{horizonWords, depthWords, mapHead, mapMark, mapRows, marksOf, letterOf, letterLine, mapOf}
+use Rattle.maps.specs.Map.{horizonWords, depthWords, mapHead, mapRows, marksOf, letterOf, letterLine, mapOf}
 use Rattle.maps.specs.Inner.{Markable}
-use Rattle.maps.proofs.LinesLaws.{nothing-put, whole-put}
 use Rattle.maps.proofs.MarkLaws.{cond-there, cond-away, cond-short, marks-short}
 
 -- Numbers in digits.

@@ -1,21 +1,19 @@
 -- The marks of a cell, by the tests that the code makes, and their lengths.
-use Prim.Native.Nat.{ℕ, zero, suc, _+_, _*_, _%_, _≤_, _<_}
+use Prim.Native.Nat.{ℕ, _+_, _%_, _≤_}
 use native.Mathlib.Omega.{arith}
 use native.Mathlib.Numerals.{add-one}
 use mathlib.Core.Bool.{Bool, true, false, cond}
-use mathlib.Core.Path.{_≡_, refl, sym, _∙_, ap}
-use mathlib.Core.List.{List, [], _∷_, _++_}
+use mathlib.Core.Path.{_≡_, refl, sym}
+use mathlib.Core.List.{List, [], _∷_}
 use borrow.Author.Tests.{eq-eqb, ne-eqb}
 use lib.Dec.{eqb, ltb}
 use lib.ListN.{length, getD, length-append}
 use Rattle.floor.specs.declared.Floor.{Floor}
 use Rattle.floor.specs.Checks.{startOf, isDock, among}
-use Rattle.sheet.specs.Text.{linesOf}
 use Rattle.printing.proofs.LinesLaws.{lines-within}
 use Rattle.reporting.specs.Put.{PutAt}
 use Rattle.maps.specs.Text.{oneOf}
 use Rattle.maps.specs.Map.{startMark, dockMark, startMarks, dockMarks, marksOf, sharedBelow, letterOf, mapMark}
-use Rattle.maps.specs.Inner.{Markable}
 use Rattle.maps.proofs.LinesLaws.{nothing-put, first-byte}
 
 -- A text that is there by a test, or nothing.

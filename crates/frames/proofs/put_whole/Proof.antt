@@ -1,6 +1,5 @@
 -- `frames::put_whole` meets its contract: the head, and behind it the beats, for the plan.
 use Rattle.frames.proofs.FrameLaws.{head-short, draw-put, whole-text}
-use denote.Ref.{now}
 use Rattle.records.specs.Records.{answerIn}
 use native.Mathlib.Omega.{arith}
 use borrow.Author.Needs.{needs}

@@ -2,7 +2,6 @@
 use native.Mathlib.Nat.{zero-add}
 use mathlib.Core.Path.{sym, _∙_}
 use borrow.Author.Tests.{eq-eqb, ne-eqb}
-use Rattle.maps.specs.Map.{startMarks}
 use borrow.Author.Needs.{needs}
 use Rattle.frames.proofs.cells.start_mark.Statement.{statement}
 use Rattle.frames.proofs.cells.start_mark.Tie as tie

@@ -1,10 +1,9 @@
 -- `map_reader::build::docks` meets its contract: the places passed are filled.
 use Prim.Native.Nat.{_-_, _≤_}
 use lib.ListN.{length}
-use denote.Ref.{now}
 use Rattle.map_reader.specs.Marks.{isThing, cellsWhere}
 use Rattle.map_reader.specs.Told.{Filled}
-use mathlib.Core.Path.{_≡_, sym, _∙_}
+use mathlib.Core.Path.{_≡_}
 use Prim.Native.Nat.{_+_, _/_, _%_}
 use lib.ListN.{getD, length-set}
 use Rattle.map_reader.proofs.ToldLaws.{fill-start, fill-more}

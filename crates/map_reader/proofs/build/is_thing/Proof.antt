@@ -1,5 +1,5 @@
 -- `map_reader::build::is_thing` meets its contract: by the tests in their order.
-use mathlib.Core.Path.{sym, _∙_, ap}
+use mathlib.Core.Path.{sym, _∙_}
 use borrow.Author.Tests.{eq-eqb, ne-eqb}
 use Rattle.map_reader.specs.Marks.{isThing}
 use borrow.Author.Needs.{needs}

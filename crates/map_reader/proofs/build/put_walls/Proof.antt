@@ -1,8 +1,6 @@
 -- `map_reader::build::put_walls` meets its contract: the walls among the cells passed stand in front.
 use Prim.Native.Nat.{_-_, _≤_}
-use lib.ListN.{length}
 use denote.Ref.{now}
-use mathlib.Core.Path.{_≡_}
 use mathlib.Core.Logic.{⊎-elim}
 use borrow.Author.Tests.{eq-eqb, ne-eqb}
 use Rattle.reporting.specs.Put.{PutAt}

@@ -2,7 +2,6 @@
 use Prim.Native.Nat.{_-_, _≤_}
 use lib.ListN.{length}
 use mathlib.Core.Path.{_≡_}
-use lib.ListN.{length-set}
 use borrow.Author.Needs.{needs}
 use Rattle.map_reader.proofs.letters.copy_things.Statement.{statement}
 use Rattle.map_reader.proofs.letters.copy_things.Tie as tie

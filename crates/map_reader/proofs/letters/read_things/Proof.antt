@@ -2,7 +2,6 @@
 use Prim.Native.Nat.{_-_, _≤_}
 use lib.ListN.{length}
 use mathlib.Core.Path.{_≡_}
-use lib.ListN.{length-set}
 use Rattle.map_reader.specs.Inner.{ReadWithin}
 use borrow.Author.Needs.{needs}
 use Rattle.map_reader.proofs.letters.read_things.Statement.{statement}

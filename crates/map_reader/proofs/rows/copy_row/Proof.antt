@@ -1,6 +1,5 @@
 -- `map_reader::rows::copy_row` meets its contract: the marks passed stand at their base.
 use Prim.Native.Nat.{_-_, _≤_}
-use lib.ListN.{length}
 use mathlib.Core.Path.{_≡_}
 use Rattle.laws.specs.Memory.{put, part}
 use Rattle.laws.proofs.PutLaws.{copy-start}

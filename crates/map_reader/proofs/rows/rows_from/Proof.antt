@@ -1,7 +1,7 @@
 -- `map_reader::rows::rows_from` meets its contract: the rows passed stand in front.
 use Prim.Native.Nat.{_+_, _*_, _-_, _≤_, _<_}
 use lib.ListN.{length}
-use mathlib.Core.Path.{_≡_, _∙_}
+use mathlib.Core.Path.{_≡_}
 use Rattle.reporting.specs.Put.{PutAt}
 use Rattle.map_reader.specs.Told.{rowsIn}
 use Rattle.map_reader.specs.Inner.{ShapeRead}

@@ -1,5 +1,5 @@
 -- `map_reader::tokens::letter_of` meets its contract: one return a case.
-use borrow.Author.Tests.{lt-ltb, le-ltb, le-leb, lt-leb}
+use borrow.Author.Tests.{lt-ltb, le-ltb}
 use Rattle.map_reader.specs.Marks.{placeOf}
 use borrow.Author.Needs.{needs}
 use Rattle.map_reader.proofs.tokens.letter_of.Statement.{statement}

@@ -1,5 +1,4 @@
 -- `map_reader::words::put_words` meets its contract: a newline behind the words.
-use Prim.Native.Nat.{_+_, _≤_}
 use mathlib.Core.Path.{sym}
 use lib.ListN.{length-set}
 use lib.Seq.{length-take-le}

@@ -1,7 +1,5 @@
 -- `maps::marks::is_dock` meets its contract: the cell is among the docks that are counted.
-use mathlib.Core.Path.{ap, _∙_}
-use lib.ListN.{length}
-use Rattle.floor.specs.Checks.{docksOf, isDock, countOf, among}
+use Rattle.floor.specs.Checks.{isDock, countOf}
 use native.Mathlib.Omega.{arith}
 use borrow.Author.Needs.{needs}
 use Rattle.maps.proofs.marks.is_dock.Statement.{statement}
