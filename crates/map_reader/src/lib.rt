@@ -11,8 +11,6 @@ ghost use mathlib.Core.Path.{_≡_};
 ghost use Rattle.io.specs.Counts.{Counts};
 ghost use Rattle.map_reader.specs.Told.{CarriersFrom, ToldIn, SheetOrNothing};
 ghost use Rattle.map_reader.specs.Inner.{RowsIn, ToldOf};
-pub use words::WORDS;
-use words::put_words;
 use floor::Checked;
 use floor::Floor;
 use letters::LETTERS;
@@ -20,6 +18,8 @@ use rows::Shape;
 use rows::Shaped;
 use tokens::Problem;
 use tokens::Read;
+pub use words::WORDS;
+use words::put_words;
 
 // The length of the longest sheet.
 pub const SHEET_LENGTH: usize = 11732;
