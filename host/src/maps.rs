@@ -1,5 +1,5 @@
-//! Maps of floors and floors drawn beat by beat, in plain Rust, written from `docs/MAPS.md` and not from the proved code.
-//! It is what `desk sheet` and `desk draw` are compared with.
+//! Maps of floors and floors drawn beat by beat, in plain Rust, by the rules that `docs/MAPS.md` has. It shares no code with the proved
+//! crates, and has the same author: what both misread alike it does not show. `desk sheet` and `desk draw` are compared with it.
 #![allow(dead_code)]
 
 use crate::paper::{self, Floor};
