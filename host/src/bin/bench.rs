@@ -2,7 +2,9 @@
 //! Before anything is timed, all planners are held to the library's answers (A* that stops at its first way: to its arrivals).
 //! Each figure is the best of several rounds, the contenders taking turns within a round; medians stand beside it.
 //!
-//!     bench [ROUNDS [PLOT.svg]]      the file gets the plot of how a plan's time grows
+//!     bench [ROUNDS [PLOT.svg]]
+//!
+//! The file gets the plot of how a plan's time grows.
 
 #[path = "../astar.rs"]
 mod astar;
