@@ -22,9 +22,7 @@ use Rattle.sheet.specs.Read.{sheetVerdict, readVerdict, readWalls, writeVerdict
 use Rattle.sheet.specs.Refused.{RefusedSheet}
 use Rattle.sheet.proofs.FormLaws.{walls-length}
 use Rattle.sheet.proofs.Theorems.{theorems as sheet-theorems}
-use Rattle.conflict.specs.Entry.{routesLent, conflictOutcome}
 use Rattle.search.specs.Search.{requestOf, searchOf}
-use Rattle.legality.specs.Entry.{recordVerdict, recordOutcome, arrivalOutcome}
 use Rattle.planner.specs.Plan.{planOf, planVerdict}
 use Rattle.planner.proofs.ResultLaws.{plan-size}
 use Rattle.planner.specs.Answers.{planResult}
@@ -52,9 +50,10 @@ use Rattle.trial.specs.Entry.{trialVerdict, trialOf, trialOutcome, stateTried, 
 use Rattle.trial.proofs.Theorems.{theorems as trial-theorems}
 use Rattle.demands.specs.Rows.{Table, Row, row, Short, _orElse_, earlier, later, Refuses, Answers, Keeps}
 use Rattle.demands.specs.Demand1.{HoldsState, ReadRows, WriteRows, PlanRows, PrintRows, SearchRows, FreshRows, StateRows, CallRows}
-use Rattle.demands.specs.Demand1.{TrialRows, RoutesRows, ConflictRows, RecordRows, ArrivalRows, Demand1}
+use Rattle.demands.specs.Demand1.{TrialRows, RoutesRows, Demand1}
 use Rattle.demands.proofs.RankLaws.{run-of-rank, run-keeps-report}
 use Rattle.demands.proofs.BlockerLaws.{blockers, blockers-keeps}
+use Rattle.demands.proofs.RouteLaws.{conflict, check-record, arrival}
 use Rattle.demands.proofs.RowLaws.{then-rows, answers-rows, gives-rows, demand-row, short-row, keeps-when, value-no-refusal, no-row-passes, passes-exactly, refusal-row}
 use Rattle.laws.proofs.PutLaws.{front-beyond, put-beyond}
 use Rattle.demands.proofs.EntryLaws.{floor-rows, lent-rows, outside-row, limit-rows}
@@ -242,23 +241,6 @@ module _ (text : List ℕ) where
             as-found = λ k p r. absurd (omega (arith, r .0));
             beyond = put-beyond old (routesOf text) (neededFor text) (printing-theorems .routes-within text .0);
           })
-
-conflict : (f : Floor) (a b : List ℕ) (horizon : ℕ) → Answers (conflictOutcome a b horizon) (ConflictRows f (length a) (length b))
-unfolding conflictOutcome routesLent lengthsOf
-conflict f a b horizon =
-    gives-rows (routesLent a b) _ (then-rows (roomOf 64 (length a)) _ (short-row 64 (length a)) (λ e. short-row 64 (length b)))
-
-check-record : (f : Floor) (ws : List ℕ) (carrier : ℕ) (m : List ℕ) →
-    Answers (recordOutcome f ws carrier m) (RecordRows f ws carrier (length m))
-unfolding recordOutcome recordVerdict lengthsOf
-check-record f ws carrier m =
-    gives-rows (recordVerdict f ws carrier (length m)) _
-    (then-rows (checkOf f ws) _ (floor-rows f ws)
-    (λ e. then-rows (roomOf 65 (length m)) _ (short-row 65 (length m)) (λ h. outside-row 1 (f .carriers) carrier 7 0)))
-
-arrival : (f : Floor) (r : List ℕ) (horizon : ℕ) → Answers (arrivalOutcome r horizon) (ArrivalRows f (length r))
-unfolding arrivalOutcome lengthsOf
-arrival f r horizon = gives-rows (roomOf 64 (length r)) _ (short-row 64 (length r))
 
 pub theorem : Demand1
 unfolding figuresFor lengthsOf mostSteps

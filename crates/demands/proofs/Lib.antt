@@ -11,6 +11,7 @@ pub mod SameSheetLaws
 pub mod RoundTripLaws
 pub mod RankLaws
 pub mod BlockerLaws
+pub mod RouteLaws
 pub mod Demand1
 pub mod Demand2
 pub mod Trials
