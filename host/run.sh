@@ -65,9 +65,9 @@ LINES
     (cd "$host" && cargo run --offline --release --quiet --bin compare)
     echo "== Rust: the texts of desk and paper compared"
     (cd "$root" && rt check desk > /dev/null)
-    (cd "$host" && cargo run --offline --release --quiet --bin desk)
+    (cd "$host" && cargo run --offline --release --quiet --bin desk 14000)
     echo "== Rust: the sheets of desk and paper from maps compared"
-    (cd "$host" && cargo run --offline --release --quiet --bin maps "$root/target/bin/desk")
+    (cd "$host" && cargo run --offline --release --quiet --bin maps "$root/target/bin/desk" 15000 5)
 fi
 
 if [ "$what" != test ]; then
