@@ -28,7 +28,7 @@ pub fn number(text: &[u8], at: usize) -> u32
     let c = digit(text[at + 2]);
     let d = digit(text[at + 3]);
     let e = digit(text[at + 4]);
-    (((a * 10 + b) * 10 + c) * 10 + d) * 10 + e - 48 * 11111
+    a * 10000 + b * 1000 + c * 100 + d * 10 + e - 48 * 11111
 }
 
 // The column of the digit that counts p's.
