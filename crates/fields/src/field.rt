@@ -8,7 +8,7 @@ ghost use Rattle.floor.specs.Checks.{within};
 ghost use Rattle.fields.specs.Field.{numberAt, fieldOf, isField, areDigits, isWritten};
 ghost use Rattle.fields.specs.Field.{column as Field·column};
 
-// The value of a digit's byte, 0 for a space, and 48.
+// The value of a digit's byte, 0 for a space, plus 48.
 fn digit(b: u8) -> u32
     ensures { λ r. ⌜ (r ≡ b - 48 + 48) × (r ≤ 255) ⌝ }
 {
