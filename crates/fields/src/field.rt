@@ -8,14 +8,14 @@ ghost use Rattle.floor.specs.Checks.{within};
 ghost use Rattle.fields.specs.Field.{numberAt, fieldOf, isField, areDigits, isWritten};
 ghost use Rattle.fields.specs.Field.{column as Field·column};
 
-// The value of a digit's byte; 0 for a space.
+// The value of a digit's byte, 0 for a space, plus 48.
 fn digit(b: u8) -> u32
-    ensures { λ r. ⌜ (r ≡ b - 48) × (r ≤ 207) ⌝ }
+    ensures { λ r. ⌜ (r ≡ b - 48 + 48) × (r ≤ 255) ⌝ }
 {
     if b < 48 {
-        return 0;
+        return 48;
     }
-    (b - 48) as u32
+    b as u32
 }
 
 // The number that the five bytes at a column write.
@@ -28,7 +28,7 @@ pub fn number(text: &[u8], at: usize) -> u32
     let c = digit(text[at + 2]);
     let d = digit(text[at + 3]);
     let e = digit(text[at + 4]);
-    (((a * 10 + b) * 10 + c) * 10 + d) * 10 + e
+    a * 10000 + b * 1000 + c * 100 + d * 10 + e - 48 * 11111
 }
 
 // The column of the digit that counts p's.

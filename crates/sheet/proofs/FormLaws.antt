@@ -118,15 +118,6 @@ module _ (text : List ℕ) where
         size = omega (arith, walls, tail, pair-columns (columnPast (pastCounted text) 31 n) k);
       }
 
-  -- A text in good form says a floor, for which there is room.
-  pub floor-there : formOf text ≡ passed
-      → ((valueAt text 0 ≤ 32) × (valueAt text 5 ≤ 32)) × (((valueAt text 20 ≤ 8) × (31 ≤ length text))
-      × (linesForm (countedForm text) (pastCounted text) 31 (valueAt text 20) ≡ passed))
-  unfolding headAt
-  floor-there h =
-      let t = form-tells h in
-      ((t .bounds .width .1, t .bounds .height .1), ((t .bounds .carriers .1, t .head), t .carriers-form))
-
   -- The walls that were read into a memory.
   pub walls-read : {f : Floor} {m : List ℕ} (old : List ℕ) → f ≡ floorAt text → m ≡ wallsFrom text f ++ drop (f .walls) old
       → m ≡ wallsAt text ++ drop (floorAt text .walls) old

@@ -13,7 +13,10 @@ use Rattle.fields.specs.Reached.{reachedOf, saidBy}
 use Rattle.fields.specs.Form.{lineForm, countedForm, pastCounted, pastPair, columnPast, linesForm, endForm}
 use Rattle.fields.proofs.ReachedLaws.{reaches, turned-away, said-verdict}
 use Rattle.fields.proofs.ColumnLaws.{counted-columns}
+use Rattle.floor.specs.Checks.{limitsOf}
 use Rattle.sheet.specs.Form.{carrierColumn, wallColumn, restForm}
+use Rattle.sheet.specs.Values.{headAt}
+use Rattle.sheet.specs.Read.{formOf}
 
 -- A refusal that is handed on is the answer of the whole chain, and a pass hands on to the rest.
 pub handed-on : {a : Reached} {x : Refusal} {u : Verdict} (v w : Verdict) (c : ℕ) → a ≡ reachedOf v c → a ≡ Refused x → u ≡ saidBy a
@@ -24,6 +27,12 @@ handed-on v w c h e s =
 
 pub goes-past : {a : Reached} {x : ℕ} {u : Verdict} (v w : Verdict) (c : ℕ) → a ≡ reachedOf v c → a ≡ At x → u ≡ w → u ≡ (v then w)
 goes-past v w c h e s = s ∙ sym (then-passed (reaches v c h e .0))
+
+-- Behind a line 1 in good form the limits and the other lines' form are left.
+pub behind-head : {a : Reached} {x : ℕ} {f : Floor} {u : Verdict} (text : List ℕ) (c : ℕ) → a ≡ reachedOf (lineForm text 0 6) c → a ≡ At x
+    → f ≡ headAt text → u ≡ (limitsOf f then restForm text f) → u ≡ formOf text
+unfolding formOf
+behind-head text c h e l s = goes-past _ _ c h e (rw l at s)
 
 module _ (text : List ℕ) (f : Floor) {carriers : Reached}
     (first : carriers ≡ reachedOf (linesForm (countedForm text) (pastCounted text) 31 (f .carriers))

@@ -8,7 +8,7 @@ use Rattle.floor.specs.declared.Refusal.{Refusal}
 use Rattle.floor.specs.declared.Checked.{Checked}
 use Rattle.floor.specs.declared.Checked.the-variants.{Passed, Refused}
 use Rattle.floor.specs.Answers.{verdictOf}
-use Rattle.laws.specs.Verdict.{Verdict, passed, whenPassed}
+use Rattle.laws.specs.Verdict.{Verdict, passed, refused, whenPassed}
 use Rattle.floor.specs.Checks.{placesOf, roomOf, checkOf}
 use Rattle.floor.specs.Accepted.{Counted}
 use Rattle.floor.specs.Fresh.{freshFloor}
@@ -32,6 +32,11 @@ pub write-refused : {a : Checked} {x : Refusal} (f : Floor) (ws old : List ℕ) 
     → (verdictOf a ≡ writeVerdict f ws (length old)) × (old ≡ writeSheet f ws old)
 unfolding writeSheet
 write-refused f ws old v e = (v, sym (when-refused _ (refuses v e)))
+
+-- A refusal with the fresh floor is the answer of checks that refuse.
+pub turned-back : {a b : Checked} {g : Floor} {k p : ℕ} (v : Verdict) (f : Floor) → verdictOf a ≡ v → v ≡ refused k p
+    → (b ≡ a) × (g ≡ freshFloor) → (verdictOf b ≡ v) × (g ≡ whenPassed v f freshFloor)
+turned-back v f told bad made = (ap verdictOf (made .0) ∙ told, made .1 ∙ sym (when-refused f bad))
 
 -- Where 3 to 17 pass too, what was read is the floor that the text says.
 pub own-floor : (text : List ℕ) (f : Floor) → f ≡ whenPassed (formOf text) (floorAt text) freshFloor → sheetVerdict text ≡ passed →

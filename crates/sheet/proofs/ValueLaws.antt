@@ -90,18 +90,7 @@ places-all text f q xs a b e = e ∙ listed-same (upTo q place) place 32 (λ k l
     same k (yes l) = upTo-below place q k l
     same k (no l) = upTo-past place q k (omega arith) ∙ sym (upTo-past _ (f .carriers) (k / 4) (omega arith))
 
--- Line 1 as it was read: its carriers' lines, and the floor that is made of it.
-pub line-one : (text : List ℕ) (h : Floor) → h ≡ headAt text → valueAt text 20 ≤ 8
-    → linesForm (countedForm text) (pastCounted text) 31 (valueAt text 20) ≡ passed
-    → (h .carriers ≤ 8) × (linesForm (countedForm text) (pastCounted text) 31 (h .carriers) ≡ passed)
-unfolding headAt
-line-one text h e l g = rw e (l, g)
-
-pub line-one-grid : (text : List ℕ) (h : Floor) → h ≡ headAt text → (valueAt text 0 ≤ 32) × (valueAt text 5 ≤ 32)
-    → (h .width ≤ 32) × (h .height ≤ 32)
-unfolding headAt
-line-one-grid text h e l = rw e l
-
+-- The floor that is made of line 1.
 pub floor-made : (text : List ℕ) (h : Floor) (starts counts docks : List ℕ) → h ≡ headAt text → starts ≡ startsAt text h
     → counts ≡ countsAt text h → docks ≡ docksAt text h
     → _≡_ {A = Floor}

@@ -3,13 +3,14 @@ mod form;
 mod lines;
 mod values;
 
-// A field written into a buffer, for the crates that print.
 ghost use mathlib.Core.Path.{_≡_};
 ghost use lib.ListN.{length};
-ghost use Rattle.laws.specs.Verdict.{whenPassed};
+ghost use Prim.Native.Nat.{_≤_};
+ghost use Rattle.laws.specs.Verdict.{passed, whenPassed};
 ghost use Rattle.floor.specs.Answers.{verdictOf};
+ghost use Rattle.floor.specs.Checks.{placesOf};
 ghost use Rattle.floor.specs.Fresh.{freshFloor};
-ghost use Rattle.sheet.specs.Values.{floorAt};
+ghost use Rattle.sheet.specs.Values.{floorAt, wallsAt};
 ghost use Rattle.sheet.specs.Read.{formOf, sheetVerdict, readVerdict, readFloor, readWalls, writeVerdict, writeSheet};
 ghost use Rattle.sheet.specs.Text.{sheetLength};
 use fields::Reached;
@@ -23,20 +24,38 @@ pub struct Reading {
     pub floor: Floor,
 }
 
-// Line 1's form, then 2, then the other lines' form.
-fn form_of(text: &[u8]) -> Checked
-    ensures { λ r. ⌜ verdictOf r ≡ formOf (now (text .entry)) ⌝ }
+// A refusal, with the fresh floor.
+fn refused(answer: Checked) -> Reading
+    ensures { λ r. ⌜ (r .answer ≡ answer) × (r .floor ≡ freshFloor) ⌝ }
+{
+    Reading {
+        answer: answer,
+        floor: Floor::fresh(),
+    }
+}
+
+// Line 1's form, then 2, then the other lines' form, with the floor that a text in good form says.
+fn form_of(text: &[u8]) -> Reading
+    ensures answers { λ r. ⌜ verdictOf (r .answer) ≡ formOf (now (text .entry)) ⌝ }
+    ensures returns { λ r. ⌜ r .floor ≡ whenPassed (formOf (now (text .entry))) (floorAt (now (text .entry))) freshFloor ⌝ }
 {
     let line = fields::line_form(text, 0, 6);
     let Reached::At(_) = line else {
-        return fields::checked(line);
+        return refused(fields::checked(line));
     };
     let f = values::head(text);
     let limited = floor::limits(f);
     let Checked::Passed = limited else {
-        return limited;
+        return refused(limited);
     };
-    form::rest_form(text, f)
+    let rest = form::rest_form(text, f);
+    let Checked::Passed = rest else {
+        return refused(rest);
+    };
+    Reading {
+        answer: rest,
+        floor: values::floor(text, f),
+    }
 }
 
 // Room for the most walls that a floor can have.
@@ -46,23 +65,42 @@ pub fn no_walls() -> [u16; 1023]
     [0; 1023]
 }
 
-// What a text says, its walls in front of the cells, and its refusals but for the last; the fresh floor where its form is refused.
-fn read_own(text: &[u8], cells: &mut [u16]) -> Reading
-    requires { ⌜ 1023 ≡ length (now cells) ⌝ }
+// 3 to 17 on the floor of a text in good form, whose walls fit into the cells.
+fn places_over(text: &[u8], f: Floor, cells: &mut [u16]) -> Checked
+    requires { ⌜ (formOf (now text) ≡ passed) × (f ≡ floorAt (now text)) ⌝ }
+    requires { ⌜ f .walls ≤ length (now cells) ⌝ }
+    ensures { λ r. ⌜ verdictOf r ≡ placesOf (floorAt (now (text .entry))) (wallsAt (now (text .entry))) ⌝ }
+{
+    values::walls(text, f, cells);
+    floor::check(f, cells)
+}
+
+// The same in memory of its own; few walls take a small one, which is cleared sooner.
+fn places_of(text: &[u8], f: Floor) -> Checked
+    requires { ⌜ (formOf (now text) ≡ passed) × (f ≡ floorAt (now text)) ⌝ }
+    ensures { λ r. ⌜ verdictOf r ≡ placesOf (floorAt (now (text .entry))) (wallsAt (now (text .entry))) ⌝ }
+{
+    if f.walls <= 32 {
+        let mut few = [0u16; 32];
+        return places_over(text, f, &mut few);
+    }
+    let mut cells = no_walls();
+    places_over(text, f, &mut cells)
+}
+
+// What a text says, and its refusals but for the last; the fresh floor where its form is refused.
+fn read_own(text: &[u8]) -> Reading
     ensures answers { λ r. ⌜ verdictOf (r .answer) ≡ sheetVerdict (now (text .entry)) ⌝ }
     ensures returns { λ r. ⌜ r .floor ≡ whenPassed (formOf (now (text .entry))) (floorAt (now (text .entry))) freshFloor ⌝ }
 {
     let form = form_of(text);
-    let Checked::Passed = form else {
-        return Reading {
-            answer: form,
-            floor: Floor::fresh(),
-        };
+    let checked = form.answer;
+    let f = form.floor;
+    let Checked::Passed = checked else {
+        return form;
     };
-    let f = values::floor(text);
-    values::walls(text, f, cells);
     Reading {
-        answer: floor::check(f, cells),
+        answer: places_of(text, f),
         floor: f,
     }
 }
@@ -71,8 +109,7 @@ fn read_own(text: &[u8], cells: &mut [u16]) -> Reading
 pub fn check(text: &[u8], room: usize) -> Checked
     ensures { λ r. ⌜ verdictOf r ≡ readVerdict (now (text .entry)) room ⌝ }
 {
-    let mut cells = no_walls();
-    let reading = read_own(text, &mut cells);
+    let reading = read_own(text);
     let checked = reading.answer;
     let f = reading.floor;
     let Checked::Passed = checked else {
@@ -87,28 +124,18 @@ pub fn read(text: &[u8], walls: &mut [u16]) -> Reading
     ensures returns { λ r. ⌜ r .floor ≡ readFloor (now (text .entry)) (length (now (walls .entry))) ⌝ }
     ensures stores { λ r. ⌜ now (walls .exit) ≡ readWalls (now (text .entry)) (now (walls .entry)) ⌝ }
 {
-    let mut cells = no_walls();
-    let reading = read_own(text, &mut cells);
+    let reading = read_own(text);
     let checked = reading.answer;
     let f = reading.floor;
     let Checked::Passed = checked else {
-        return Reading {
-            answer: checked,
-            floor: Floor::fresh(),
-        };
+        return refused(checked);
     };
     let room = floor::room(f.walls as usize, walls.len());
     let Checked::Passed = room else {
-        return Reading {
-            answer: room,
-            floor: Floor::fresh(),
-        };
+        return refused(room);
     };
     values::walls(text, f, walls);
-    Reading {
-        answer: Checked::Passed,
-        floor: f,
-    }
+    reading
 }
 
 // The length in bytes of a floor's sheet: 31, 16 a carrier and 10 a dock, 11 a wall. This is the needed length of sheet memory.

@@ -163,14 +163,13 @@ fn docks(text: &[u8], f: Floor, at: [usize; 8], counts: [u16; 8]) -> [u16; 32]
     found
 }
 
-// The floor that the text says.
-pub fn floor(text: &[u8]) -> Floor
-    requires { ⌜ (valueAt (now text) 0 ≤ 32) × (valueAt (now text) 5 ≤ 32) ⌝ }
-    requires { ⌜ (valueAt (now text) 20 ≤ 8) × (31 ≤ length (now text)) ⌝ }
-    requires { ⌜ linesForm (countedForm (now text)) (pastCounted (now text)) 31 (valueAt (now text) 20) ≡ passed ⌝ }
+// The floor that the text says, from line 1.
+pub fn floor(text: &[u8], f: Floor) -> Floor
+    requires { ⌜ f ≡ headAt (now text) ⌝ }
+    requires { ⌜ (f .width ≤ 32) × (f .height ≤ 32) ⌝ }
+    requires { ⌜ (f .carriers ≤ 8) × (linesForm (countedForm (now text)) (pastCounted (now text)) 31 (f .carriers) ≡ passed) ⌝ }
     ensures { λ r. ⌜ r ≡ floorAt (now (text .entry)) ⌝ }
 {
-    let f = head(text);
     let lines = lines_of(text, f.carriers as usize);
     let at = lines.at;
     let few = lines.counts;

@@ -1,12 +1,12 @@
 -- `sheet::read` meets its contract: a refusal leaves all as it was; a pass hands back the floor and stores its walls.
 use Rattle.laws.proofs.VerdictLaws.{when-passed, when-refused}
-use Rattle.sheet.proofs.ReadLaws.{read-tells, own-floor, own-then-room}
+use Rattle.sheet.proofs.ReadLaws.{read-tells, own-floor, own-then-room, turned-back}
 use Rattle.sheet.specs.Read.{readVerdict, readFloor, readWalls}
 use Rattle.floor.proofs.AnswersLaws.{refuses, passes, ends-at}
 use Rattle.floor.specs.Answers.{verdictOf}
 use Rattle.sheet.proofs.FormLaws.{walls-read}
 use Rattle.sheet.proofs.SheetText.{walls-there}
-use mathlib.Core.Path.{_∙_, sym}
+use mathlib.Core.Path.{_∙_, ap, sym}
 use borrow.Author.Needs.{needs}
 use Rattle.sheet.proofs.read.Statement.{statement}
 use Rattle.sheet.proofs.read.Tie as tie
@@ -17,7 +17,8 @@ returns c =
     let after-read-own : tie.After-read-own = search in
     let told = ends-at _ (after-read-own .read-own .ensures .0) (c .before .enum-told2 .given .1) in
     let no = refuses told (c .before .enum-told2 .given .1) in
-    (told, (c .fresh .ensures ∙ sym (when-refused _ no), sym (when-refused _ no)))
+    let back = turned-back _ _ told no (c .refused .ensures) in
+    (back .0, (back .1, sym (when-refused _ no)))
 
 returns-2 : tie.Need-returns-2
 unfolding readFloor readWalls readVerdict
@@ -29,7 +30,8 @@ returns-2 c =
     let yes = after-enum-told .enum-told .given .1 in
     let told = own-then-room _ _ _ _ (own .0) (own .1) yes (after-room .room .ensures) in
     let no = refuses told (c .before .enum-told4 .given .1) in
-    (told, (c .fresh2 .ensures ∙ sym (when-refused _ no), sym (when-refused _ no)))
+    let back = turned-back _ _ told no (c .refused2 .ensures) in
+    (back .0, (back .1, sym (when-refused _ no)))
 
 walls-requires : tie.Need-walls-requires
 walls-requires c κs =
@@ -55,10 +57,10 @@ returns-3 c =
     let told = own-then-room _ _ _ _ (own .0) (own .1) yes (after-room .room .ensures) in
     let ok = passes told (after-enum-told3 .enum-told3 .given .1) in
     let f = own-floor _ _ (own .1) (passes (own .0) yes) in
-    (sym ok, (f ∙ sym (when-passed _ ok), walls-read _ _ f (c .before .before .walls .ensures) ∙ sym (when-passed _ ok)))
+    (ap verdictOf yes ∙ sym ok, (f ∙ sym (when-passed _ ok), walls-read _ _ f (c .before .before .walls .ensures) ∙ sym (when-passed _ ok)))
 
 pub read-spec : {M : Type 1} → statement M
 read-spec =
-    tie.close (tie.spec (λ c κs. search needs) (λ c. search needs) (λ c κs. search needs) (λ c. search needs) (λ c. search needs)
-    (λ c κs. search needs) returns (λ c. search needs) (λ c κs. search needs) (λ c. search needs) (λ c. search needs)
-    (λ c κs. search needs) returns-2 walls-requires (λ c. search needs) returns-3)
+    tie.close (tie.spec (λ c κs. search needs) (λ c. search needs) (λ c. search needs) (λ c κs. search needs) returns (λ c. search needs)
+    (λ c κs. search needs) (λ c. search needs) (λ c. search needs) (λ c κs. search needs) returns-2 walls-requires
+    (λ c. search needs) returns-3)
