@@ -78,7 +78,7 @@ pub fn check(text: &[u8], room: usize) -> Checked
     let Checked::Passed = checked else {
         return checked;
     };
-    floor::room(f.walls as usize, room)
+    floor::check_length(f.walls as usize, room)
 }
 
 // Reads a sheet: its floor by value, its walls into lent memory.
@@ -97,7 +97,7 @@ pub fn read(text: &[u8], walls: &mut [u16]) -> Reading
             floor: Floor::fresh(),
         };
     };
-    let room = floor::room(f.walls as usize, walls.len());
+    let room = floor::check_length(f.walls as usize, walls.len());
     let Checked::Passed = room else {
         return Reading {
             answer: room,
@@ -127,7 +127,7 @@ pub fn write(f: Floor, walls: &[u16], out: &mut [u8]) -> Checked
     let Checked::Passed = checked else {
         return checked;
     };
-    let room = floor::room(sheet_length(f), out.len());
+    let room = floor::check_length(sheet_length(f), out.len());
     let Checked::Passed = room else {
         return room;
     };
