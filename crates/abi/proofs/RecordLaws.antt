@@ -48,15 +48,16 @@ four-blocks m m₁ m₂ m₃ m₄ a b c d e f g h la lb lc ld l =
     put-next m m₃ m₄ ((a ++ b) ++ c) d 0 22 three h (omega arith) (omega arith) ∙ ap (put m 0) (simp append-assoc)
 
 -- A loop that copies numbers into an array of thirty-two: before the first, one more, and after the last.
-pub record Copied (xs : List ℕ) (at t : ℕ) (r : List ℕ) : Type 0 where
+pub record NumbersCopied (xs : List ℕ) (at t : ℕ) (r : List ℕ) : Type 0 where
   pub within : t ≤ 32
   pub long : length r ≡ 32
   pub same : (i : ℕ) → i < t → getD r i 0 ≡ getD xs (at + i) 0
 
-pub copied-start : (xs : List ℕ) (at : ℕ) (r : List ℕ) → length r ≡ 32 → Copied xs at 0 r
+pub copied-start : (xs : List ℕ) (at : ℕ) (r : List ℕ) → length r ≡ 32 → NumbersCopied xs at 0 r
 copied-start xs at r l = record { within = omega arith; long = l; same = λ i h. absurd (omega arith) }
 
-pub copied-more : {xs : List ℕ} {at t : ℕ} {r : List ℕ} → Copied xs at t r → t < 32 → Copied xs at (t + 1) (set r t (getD xs (at + t) 0))
+pub copied-more : {xs : List ℕ} {at t : ℕ} {r : List ℕ} → NumbersCopied xs at t r → t < 32
+    → NumbersCopied xs at (t + 1) (set r t (getD xs (at + t) 0))
 copied-more {xs} {at} {t} {r} w l =
     record {
       within = omega arith;
@@ -68,7 +69,7 @@ copied-more {xs} {at} {t} {r} w l =
           (eq-or-ne i t);
     }
 
-pub copied-end : {xs : List ℕ} {at t : ℕ} {r : List ℕ} → Copied xs at t r → 32 ≤ t → at + 32 ≤ length xs → r ≡ part xs at 32
+pub copied-end : {xs : List ℕ} {at t : ℕ} {r : List ℕ} → NumbersCopied xs at t r → 32 ≤ t → at + 32 ≤ length xs → r ≡ part xs at 32
 copied-end {xs} {at} {t} {r} w l b = sym (part-is xs at 32 r b (w .long) (λ i h. sym (w .same i (omega (arith, w .within)))))
 
 -- A block that stands behind others.

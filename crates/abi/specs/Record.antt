@@ -5,7 +5,7 @@ use lib.ListN.{length, getD}
 use Rattle.laws.specs.Memory.{part}
 use Rattle.floor.specs.declared.Floor.{Floor}
 use Rattle.laws.specs.Verdict.{Verdict}
-use Rattle.floor.specs.Checks.{roomOf}
+use Rattle.floor.specs.Checks.{longEnough}
 
 -- The floor that 54 numbers say.
 unfoldable pub floorOf : List ℕ → Floor
@@ -29,4 +29,4 @@ numbersOf f =
 
 -- 9, before anything else: as many numbers are lent as a record has.
 unfoldable pub recordLent : List ℕ → Verdict
-recordLent xs = roomOf 54 (length xs)
+recordLent xs = longEnough 54 (length xs)

@@ -69,7 +69,7 @@ unfolding droppedAt
 dropped-outside w cells i c s h = sym (ap (λ (t : Bool). elim t [ true ↦ dropped s (i + c / w) (c % w) | false ↦ s ]) (le-ltb c cells h))
 
 -- Cell c of a grid of width w taken out of the rows of s from row i on.
-module _ (w cells : ℕ) (thin : 0 < w) (room : cells ≤ 32 * w) (s : List ℕ) (i c : ℕ) (long : i + 32 ≤ length s) where
+module _ (w cells : ℕ) (thin : 0 < w) (enough : cells ≤ 32 * w) (s : List ℕ) (i c : ℕ) (long : i + 32 ≤ length s) where
   row-in : c < cells → i + c / w < length s
   row-in q = omega (arith, place-row w c thin (omega arith))
 

@@ -15,9 +15,9 @@ use Rattle.laws.proofs.PartLaws.{part-byte}
 use Rattle.laws.proofs.VerdictLaws.{then-passed, then-refused, then-both, demand-holds, demand-passes, demand-refuses}
 use Rattle.laws.proofs.VerdictLaws.{gives-passed, gives-refused, when-passed, when-refused}
 use Rattle.floor.specs.declared.Floor.{Floor}
-use Rattle.floor.specs.Checks.{checkOf, roomOf}
+use Rattle.floor.specs.Checks.{checkOf, longEnough}
 use Rattle.floor.specs.Accepted.{Within}
-use Rattle.floor.proofs.LimitsLaws.{Bounds, check-tells, room-passed, within-means}
+use Rattle.floor.proofs.LimitsLaws.{Bounds, check-tells, length-passed, within-means}
 use Rattle.floor.proofs.Theorems.{theorems as floor-theorems}
 use Rattle.route.specs.Route.{Answer, none, route, View, unheard, heard}
 use Rattle.records.specs.Records.{viewAt, records, recordOf, recordsOf, stored}
@@ -34,7 +34,7 @@ use Rattle.planner.proofs.ResultLaws.{plan-all-whole, plan-size}
 use Rattle.planner.proofs.StoredLaws.{record-stored}
 use Rattle.planner.proofs.StrandedLaws.{told-answer}
 use Rattle.planner.proofs.Theorems.{theorems as planner-theorems}
-use Rattle.blockers.specs.Blockers.{leftAfter, setOf, above, blockersOf}
+use Rattle.blockers.specs.Blockers.{leftAfter, setOf, answersAbove, blockersOf}
 use Rattle.blockers.specs.Inner.{PlanIn}
 use Rattle.blockers.specs.Entry.{isNone, carrierVerdict, blockersVerdict, blockersOutcome, blockersMemory}
 
@@ -88,7 +88,7 @@ module _ (f : Floor) (ws : List ℕ) (ok : checkOf f ws ≡ passed) where
   zeros = length-replicate {A = ℕ} 520 0
 
   pub own-plan : (old m : List ℕ) → old ≡ replicate 520 0 → m ≡ planMemory f ws old → PlanIn f ws m
-  unfolding planMemory planVerdict roomOf stored
+  unfolding planMemory planVerdict longEnough stored
   own-plan old m e g =
       let long : length old ≡ 520 = ap length e ∙ zeros in
       let enough : 65 * f .carriers ≤ length old = omega (arith, bounds .carriers .1) in
@@ -126,8 +126,8 @@ module _ (f : Floor) (ws : List ℕ) (ok : checkOf f ws ≡ passed) where
       has-none = by-tag (answerAt (planOf f ws) i) (getD m (65 * i) 0) (stored-tag (planOf f ws) m (replicate 520 0) i whole low e) .1
 
       -- The first records are the views of the answers above.
-      own-views : records m i ≡ map heard (above f ws i)
-      unfolding above
+      own-views : records m i ≡ map heard (answersAbove f ws i)
+      unfolding answersAbove
       own-views =
           let many : length (map heard (take i (planOf f ws))) ≡ i =
           length-map (take i (planOf f ws)) heard ∙ length-take-le i (planOf f ws) (omega (arith, low)) in
@@ -159,29 +159,29 @@ module _ (f : Floor) (ws : List ℕ) (ok : checkOf f ws ≡ passed) where
       ap (λ (respond : List View → Answer). leftAfter respond i vs) (fun-ext (λ us. r .same (i + 1) (seen f us)))
 
 -- What it says that the refusals but 16 pass.
-pub record CarrierGranted (f : Floor) (ws : List ℕ) (carrier room : ℕ) : Type 0 where
+pub record CarrierGranted (f : Floor) (ws : List ℕ) (carrier lent : ℕ) : Type 0 where
   pub checked : checkOf f ws ≡ passed
-  pub enough : 65 * f .carriers ≤ room
+  pub enough : 65 * f .carriers ≤ lent
   pub listed : Within 1 (f .carriers) carrier
 
-pub carrier-granted : (f : Floor) (ws : List ℕ) (carrier room : ℕ) → carrierVerdict f ws carrier room ≡ passed →
-    CarrierGranted f ws carrier room
+pub carrier-granted : (f : Floor) (ws : List ℕ) (carrier lent : ℕ) → carrierVerdict f ws carrier lent ≡ passed →
+    CarrierGranted f ws carrier lent
 unfolding carrierVerdict planVerdict
-carrier-granted f ws carrier room h =
+carrier-granted f ws carrier lent h =
     let a = then-both _ _ h in
     let b = then-both _ _ (a .0) in
     record {
       checked = b .0;
-      enough = room-passed _ _ (b .1);
+      enough = length-passed _ _ (b .1);
       listed = within-means 1 (f .carriers) carrier .0 (demand-holds _ 7 0 (a .1));
     }
 
 -- The entry's answer and memory: a refusal, 16, or the set that is left.
 module _ (f : Floor) (ws : List ℕ) (carrier : ℕ) (m : List ℕ) where
-  pub turned-away : {k p : ℕ} → carrierVerdict f ws carrier (length m) ≡ refused k p →
+  pub carrier-refused : {k p : ℕ} → carrierVerdict f ws carrier (length m) ≡ refused k p →
       (refusal k p ≡ blockersOutcome f ws carrier (length m)) × (m ≡ blockersMemory f ws carrier m)
   unfolding blockersOutcome blockersMemory blockersVerdict
-  turned-away e =
+  carrier-refused e =
       let no = then-refused (demand (isNone (answerAt (planOf f ws) (carrier - 1))) 16 0) e in
       (sym (gives-refused _ no), sym (when-refused _ no))
 

@@ -8,8 +8,8 @@ use mathlib.Core.Logic.{_⊎_, inl, inr}
 use mathlib.Core.Path.{_≡_, refl, sym, _∙_, ap}
 use Rattle.laws.proofs.Tests.{true-false-absurd, not-true-is-false, eq-or-ne}
 use Rattle.route.specs.Route.{Answer, none, route, View, heard}
-use Rattle.blockers.specs.Blockers.{without, ifNone, tried, leftAfter}
-use Rattle.blockers.specs.Claims.{viewsIn}
+use Rattle.blockers.specs.Blockers.{viewsWithout, ifNone, tried, leftAfter}
+use Rattle.blockers.specs.Claims.{viewsOfPart}
 use Rattle.blockers.proofs.PartLaws.{Part, all-heard, minus, minus-same, minus-less, views-minus}
 
 -- What is left where the answer without carrier k is known.
@@ -27,34 +27,34 @@ module _ (respond : List View → Answer) (xs : List Answer) where
   -- The part that is left when the carriers below k were tried.
   unfoldable pub leftPart : ℕ → Part
   leftPart zero = λ j. true
-  leftPart (suc k) = ifNone (respond (viewsIn (minus (leftPart k) k) xs)) (minus (leftPart k) k) (leftPart k)
+  leftPart (suc k) = ifNone (respond (viewsOfPart (minus (leftPart k) k) xs)) (minus (leftPart k) k) (leftPart k)
 
-  by-answer : (a : Answer) (p q : Part) → ifNone a (viewsIn p xs) (viewsIn q xs) ≡ viewsIn (ifNone a p q) xs
+  by-answer : (a : Answer) (p q : Part) → ifNone a (viewsOfPart p xs) (viewsOfPart q xs) ≡ viewsOfPart (ifNone a p q) xs
   unfolding ifNone
   by-answer none p q = refl
   by-answer (route r) p q = refl
 
   -- The views that are left are those of that part.
-  pub left-views : (k : ℕ) → leftAfter respond k (map heard xs) ≡ viewsIn (leftPart k) xs
+  pub left-views : (k : ℕ) → leftAfter respond k (map heard xs) ≡ viewsOfPart (leftPart k) xs
   unfolding leftAfter leftPart tried
   left-views zero = all-heard xs
   left-views (suc k) =
       ap (tried respond k) (left-views k)
-      ∙ ap (λ (vs : List View). ifNone (respond vs) vs (viewsIn (leftPart k) xs)) (views-minus (leftPart k) xs k)
-      ∙ by-answer (respond (viewsIn (minus (leftPart k) k) xs)) (minus (leftPart k) k) (leftPart k)
+      ∙ ap (λ (vs : List View). ifNone (respond vs) vs (viewsOfPart (leftPart k) xs)) (views-minus (leftPart k) xs k)
+      ∙ by-answer (respond (viewsOfPart (minus (leftPart k) k) xs)) (minus (leftPart k) k) (leftPart k)
 
-  still-none : (a : Answer) (p q : Part) → respond (viewsIn p xs) ≡ a → respond (viewsIn q xs) ≡ none →
-      respond (viewsIn (ifNone a p q) xs) ≡ none
+  still-none : (a : Answer) (p q : Part) → respond (viewsOfPart p xs) ≡ a → respond (viewsOfPart q xs) ≡ none →
+      respond (viewsOfPart (ifNone a p q) xs) ≡ none
   unfolding ifNone
   still-none none p q e h = e
   still-none (route r) p q e h = h
 
   -- Against what is left there is no route.
-  pub left-shut : respond (map heard xs) ≡ none → (k : ℕ) → respond (viewsIn (leftPart k) xs) ≡ none
+  pub left-shut : respond (map heard xs) ≡ none → (k : ℕ) → respond (viewsOfPart (leftPart k) xs) ≡ none
   unfolding leftPart
   left-shut h zero = ap respond (sym (all-heard xs)) ∙ h
   left-shut h (suc k) =
-      still-none (respond (viewsIn (minus (leftPart k) k) xs)) (minus (leftPart k) k) (leftPart k) refl (left-shut h k)
+      still-none (respond (viewsOfPart (minus (leftPart k) k) xs)) (minus (leftPart k) k) (leftPart k) refl (left-shut h k)
 
   -- What has gone stays out.
   left-falls : (k d j : ℕ) → leftPart (k + d) j ≡ true → leftPart k j ≡ true
@@ -62,7 +62,7 @@ module _ (respond : List View → Answer) (xs : List Answer) where
   left-falls k zero j e = rw (add-zero k) at e
   left-falls k (suc d) j e =
       let n = k + d in
-      left-falls k d j (kept-shut (respond (viewsIn (minus (leftPart n) n) xs)) (leftPart n) n j (rw (add-suc k d) at e))
+      left-falls k d j (kept-shut (respond (viewsOfPart (minus (leftPart n) n) xs)) (leftPart n) n j (rw (add-suc k d) at e))
 
   pub left-before : (k n j : ℕ) → k ≤ n → leftPart n j ≡ true → leftPart k j ≡ true
   left-before k n j l e =
@@ -70,16 +70,16 @@ module _ (respond : List View → Answer) (xs : List Answer) where
       left-falls k (n - k) j (rw sum at e)
 
   -- A carrier that is kept was needed: without it there was a route.
-  pub left-needed : (k : ℕ) → leftPart (suc k) k ≡ true → (r : List ℕ) × (respond (viewsIn (minus (leftPart k) k) xs) ≡ route r)
+  pub left-needed : (k : ℕ) → leftPart (suc k) k ≡ true → (r : List ℕ) × (respond (viewsOfPart (minus (leftPart k) k) xs) ≡ route r)
   unfolding leftPart
-  left-needed k e = kept-route (respond (viewsIn (minus (leftPart k) k) xs)) (leftPart k) k e
+  left-needed k e = kept-route (respond (viewsOfPart (minus (leftPart k) k) xs)) (leftPart k) k e
 
   -- Where there is never a route, nobody is left.
   pub left-nobody : ((vs : List View) → respond vs ≡ none) → (k j : ℕ) → j < k → leftPart k j ≡ false
   unfolding leftPart ifNone
   left-nobody h zero j l = absurd (omega arith)
   left-nobody h (suc k) j l =
-      rw (h (viewsIn (minus (leftPart k) k) xs))
+      rw (h (viewsOfPart (minus (leftPart k) k) xs))
       (not-true-is-false (minus (leftPart k) k j) (gone (left-nobody h k) (eq-or-ne j k)))
     where
       gone : ((i : ℕ) → i < k → leftPart k i ≡ false) → (j ≡ k) ⊎ (j ≡ k → ⊥) → minus (leftPart k) k j ≡ true → ⊥

@@ -28,7 +28,7 @@ use Rattle.search.specs.Task.{taskOfRows}
 use Rattle.search.specs.Rows.{Searchable}
 use Rattle.planner.specs.Plan.{respondWith}
 use Rattle.planner.specs.Records.{tagOf}
-use Rattle.blockers.specs.Blockers.{without, ifNone, tried, leftAfter, setOf}
+use Rattle.blockers.specs.Blockers.{viewsWithout, ifNone, tried, leftAfter, setOf}
 use Rattle.blockers.specs.Inner.{heardDigit}
 use Rattle.blockers.proofs.SetLaws.{set-below}
 
@@ -52,8 +52,8 @@ other-view m j k v l ne =
     ap₂ viewOf (getD-set-other m (65 * j) (65 * k) v 0 (λ e. ne (omega arith)))
     (part-set m (65 * k + 1) 64 (65 * j) v (omega arith) (λ i b e. ne (omega arith)))
 
-pub cleared-records : (m : List ℕ) (i j : ℕ) → j < i → 65 * i ≤ length m → records (set m (65 * j) 0) i ≡ without j (records m i)
-unfolding without
+pub cleared-records : (m : List ℕ) (i j : ℕ) → j < i → 65 * i ≤ length m → records (set m (65 * j) 0) i ≡ viewsWithout j (records m i)
+unfolding viewsWithout
 cleared-records m i j l h =
     let long : length (set (records m i) j unheard) ≡ i = length-set (records m i) j unheard ∙ records-length m i in
     ext-getD unheard (records (set m (65 * j) 0) i) (set (records m i) j unheard) (records-length (set m (65 * j) 0) i ∙ sym long)
@@ -85,12 +85,13 @@ by-outcome (Refused y) r (route q) vs us e = absurd (let z : _≡_ {A = ℕ} 0 1
 -- One carrier tried: its record stays out, or is put back.
 module _ (f : Floor) (rows : List ℕ) (i : ℕ) (m : List ℕ) (j : ℕ) (l : j < i) (h : 65 * i ≤ length m) (found : Found)
     (says : Says found (answered (best (taskOfRows f rows (i + 1)) (seen f (viewsOf (set m (65 * j) 0) (i + 1)))))) where
-  response : best (taskOfRows f rows (i + 1)) (seen f (viewsOf (set m (65 * j) 0) (i + 1))) ≡ respondWith f rows i (without j (records m i))
+  response : best (taskOfRows f rows (i + 1)) (seen f (viewsOf (set m (65 * j) 0) (i + 1))) ≡
+      respondWith f rows i (viewsWithout j (records m i))
   unfolding respondWith
   response =
       ap (λ vs. best (taskOfRows f rows (i + 1)) (seen f vs)) (views-above (set m (65 * j) 0) i ∙ cleared-records m i j l h)
 
-  answer : outcomeOf (found .outcome) (found .route) ≡ answered (respondWith f rows i (without j (records m i)))
+  answer : outcomeOf (found .outcome) (found .route) ≡ answered (respondWith f rows i (viewsWithout j (records m i)))
   unfolding resultOf
   answer = says .answers ∙ ap answered response
 
@@ -98,14 +99,14 @@ module _ (f : Floor) (rows : List ℕ) (i : ℕ) (m : List ℕ) (j : ℕ) (l : j
   unfolding tried
   stays-out not-two =
       cleared-records m i j l h
-      ∙ sym (by-outcome (found .outcome) (found .route) _ (without j (records m i)) (records m i) answer .1 not-two)
+      ∙ sym (by-outcome (found .outcome) (found .route) _ (viewsWithout j (records m i)) (records m i) answer .1 not-two)
 
   pub put-back : tagOf (found .outcome) ≡ 2 →
       records (set (set m (65 * j) 0) (65 * j) (getD m (65 * j) 0)) i ≡ tried (respondWith f rows i) j (records m i)
   unfolding tried
   put-back two =
       ap (λ b. records b i) (set-set m (65 * j) 0 (getD m (65 * j) 0) ∙ set-getD m (65 * j) 0)
-      ∙ sym (by-outcome (found .outcome) (found .route) _ (without j (records m i)) (records m i) answer .0 two)
+      ∙ sym (by-outcome (found .outcome) (found .route) _ (viewsWithout j (records m i)) (records m i) answer .0 two)
 
 -- One more carrier tried.
 module _ (respond : List View → Answer) (ws : List View) where

@@ -4,7 +4,7 @@ use mathlib.Core.List.{List}
 use mathlib.Core.Path.{_≡_, refl, _∙_, ap}
 use lib.ListN.{length, length-set}
 use Rattle.route.specs.Route.{Answer, none, route, View, unheard}
-use Rattle.blockers.specs.Blockers.{without, ifNone, tried, leftAfter}
+use Rattle.blockers.specs.Blockers.{viewsWithout, ifNone, tried, leftAfter}
 
 -- Nothing changes how many views there are.
 by-answer : (a : Answer) (vs us : List View) (n : ℕ) → length vs ≡ n → length us ≡ n → length (ifNone a vs us) ≡ n
@@ -13,13 +13,13 @@ by-answer none vs us n e h = e
 by-answer (route r) vs us n e h = h
 
 module _ (p q : List View → Answer) (n : ℕ) (same : (vs : List View) → length vs ≡ n → p vs ≡ q vs) where
-  without-long : (j : ℕ) (vs : List View) → length vs ≡ n → length (without j vs) ≡ n
-  unfolding without
+  without-long : (j : ℕ) (vs : List View) → length vs ≡ n → length (viewsWithout j vs) ≡ n
+  unfolding viewsWithout
   without-long j vs e = length-set vs j unheard ∙ e
 
   tried-long : (j : ℕ) (vs : List View) → length vs ≡ n → length (tried p j vs) ≡ n
   unfolding tried
-  tried-long j vs e = by-answer (p (without j vs)) (without j vs) vs n (without-long j vs e) e
+  tried-long j vs e = by-answer (p (viewsWithout j vs)) (viewsWithout j vs) vs n (without-long j vs e) e
 
   left-long : (k : ℕ) (vs : List View) → length vs ≡ n → length (leftAfter p k vs) ≡ n
   unfolding leftAfter
@@ -31,5 +31,5 @@ module _ (p q : List View → Answer) (n : ℕ) (same : (vs : List View) → len
   left-same zero vs e = refl
   left-same (suc k) vs e =
       let us = leftAfter p k vs in
-      ap (λ (a : Answer). ifNone a (without k us) us) (same (without k us) (without-long k us (left-long k vs e)))
+      ap (λ (a : Answer). ifNone a (viewsWithout k us) us) (same (viewsWithout k us) (without-long k us (left-long k vs e)))
       ∙ ap (tried q k) (left-same k vs e)

@@ -11,7 +11,7 @@ use Rattle.route.specs.Route.{Answer, View, unheard, heard}
 use Rattle.bitrows.specs.Words.{digit}
 use Rattle.bitrows.proofs.DigitLaws.{digit-zero}
 use Rattle.blockers.specs.Blockers.{setOf}
-use Rattle.blockers.specs.Claims.{viewsIn}
+use Rattle.blockers.specs.Claims.{viewsOfPart}
 use Rattle.blockers.proofs.PartLaws.{Part}
 
 double-half : (n : ℕ) → 2 * n / 2 ≡ n
@@ -38,25 +38,25 @@ next-digit true x vs j = ap (λ (n : ℕ). digit n j) (more-half (setOf vs))
 next-digit false x vs j = ap (λ (n : ℕ). digit n j) (double-half (setOf vs))
 
 -- Digit j of the set of a part tells whether carrier j is in it.
-pub set-digit : (p : Part) (xs : List Answer) (j : ℕ) → j < length xs → digit (setOf (viewsIn p xs)) j ≡ p j
-unfolding viewsIn
+pub set-digit : (p : Part) (xs : List Answer) (j : ℕ) → j < length xs → digit (setOf (viewsOfPart p xs)) j ≡ p j
+unfolding viewsOfPart
 set-digit p [] j l = absurd (omega arith)
-set-digit p (x ∷ xs) zero l = first-digit (p 0) x (viewsIn (λ j. p (suc j)) xs)
-set-digit p (x ∷ xs) (suc j) l = next-digit (p 0) x (viewsIn (λ i. p (suc i)) xs) j ∙ set-digit (λ i. p (suc i)) xs j (omega arith)
+set-digit p (x ∷ xs) zero l = first-digit (p 0) x (viewsOfPart (λ j. p (suc j)) xs)
+set-digit p (x ∷ xs) (suc j) l = next-digit (p 0) x (viewsOfPart (λ i. p (suc i)) xs) j ∙ set-digit (λ i. p (suc i)) xs j (omega arith)
 
 -- There are no digits past the carriers.
-pub set-beyond : (p : Part) (xs : List Answer) (j : ℕ) → length xs ≤ j → digit (setOf (viewsIn p xs)) j ≡ false
-unfolding viewsIn setOf
+pub set-beyond : (p : Part) (xs : List Answer) (j : ℕ) → length xs ≤ j → digit (setOf (viewsOfPart p xs)) j ≡ false
+unfolding viewsOfPart setOf
 set-beyond p [] j l = digit-zero j
 set-beyond p (x ∷ xs) zero l = absurd (omega arith)
-set-beyond p (x ∷ xs) (suc j) l = next-digit (p 0) x (viewsIn (λ i. p (suc i)) xs) j ∙ set-beyond (λ i. p (suc i)) xs j (omega arith)
+set-beyond p (x ∷ xs) (suc j) l = next-digit (p 0) x (viewsOfPart (λ i. p (suc i)) xs) j ∙ set-beyond (λ i. p (suc i)) xs j (omega arith)
 
 -- The set of nobody.
-pub set-nobody : (p : Part) (xs : List Answer) → ((j : ℕ) → j < length xs → p j ≡ false) → setOf (viewsIn p xs) ≡ 0
-unfolding viewsIn setOf
+pub set-nobody : (p : Part) (xs : List Answer) → ((j : ℕ) → j < length xs → p j ≡ false) → setOf (viewsOfPart p xs) ≡ 0
+unfolding viewsOfPart setOf
 set-nobody p [] h = refl
 set-nobody p (x ∷ xs) h =
-    let rest : setOf (viewsIn (λ i. p (suc i)) xs) ≡ 0 = set-nobody (λ i. p (suc i)) xs (λ j l. h (suc j) (omega arith)) in
+    let rest : setOf (viewsOfPart (λ i. p (suc i)) xs) ≡ 0 = set-nobody (λ i. p (suc i)) xs (λ j l. h (suc j) (omega arith)) in
     rw (h 0 (omega arith)) (omega (arith, rest))
 
 -- A set of at most n carriers is below 2 ^ n.

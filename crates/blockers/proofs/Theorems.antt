@@ -22,8 +22,8 @@ use Rattle.search.specs.Task.{taskOf}
 use Rattle.planner.specs.Plan.{respondOf, planOf}
 use Rattle.planner.proofs.SequentialLaws.{plan-prefix, plan-answer}
 use Rattle.planner.proofs.Theorems.{theorems as planner-theorems}
-use Rattle.blockers.specs.Blockers.{setOf, above, blockersOf}
-use Rattle.blockers.specs.Claims.{Claims, viewsIn, RouteAgainst, shutsIn, Stranded}
+use Rattle.blockers.specs.Blockers.{setOf, answersAbove, blockersOf}
+use Rattle.blockers.specs.Claims.{Claims, viewsOfPart, RouteAgainst, shutsIn, Stranded}
 use Rattle.blockers.proofs.PartLaws.{Part, views-same, minus, part-minus, seen-part, seen-nobody}
 use Rattle.blockers.proofs.SetLaws.{set-digit, set-beyond, set-nobody}
 use Rattle.blockers.proofs.LeftLaws.{leftPart, left-views, left-shut, left-before, left-needed, left-nobody}
@@ -57,38 +57,38 @@ module _ (f : Floor) (ws : List ℕ) (i : ℕ) (s : Stranded f ws i) where
   respond vs = respondOf f ws i vs
 
   abbrev xs : List Answer
-  xs = above f ws i
+  xs = answersAbove f ws i
 
   -- The part that is left.
-  abbrev part : Part
-  part = leftPart respond xs i
+  abbrev leftOver : Part
+  leftOver = leftPart respond xs i
 
   short : task .horizon ≤ 63
   unfolding taskOf
   short = check-tells f ws (s .accepted) .bounds .horizon .1
 
   count : length xs ≡ i
-  unfolding above
+  unfolding answersAbove
   count = length-take-le i (planOf f ws) (omega (arith, s .listed, planner-theorems .answers-all f ws))
 
-  set-is : blockersOf f ws i ≡ setOf (viewsIn part xs)
+  set-is : blockersOf f ws i ≡ setOf (viewsOfPart leftOver xs)
   unfolding blockersOf
   set-is = ap setOf (left-views respond xs i)
 
-  shuts-part : (j : ℕ) → j < i → shutsIn f ws i j ≡ part j
+  shuts-part : (j : ℕ) → j < i → shutsIn f ws i j ≡ leftOver j
   unfolding shutsIn
-  shuts-part j l = ap (λ (n : ℕ). digit n j) set-is ∙ set-digit part xs j (omega (arith, count))
+  shuts-part j l = ap (λ (n : ℕ). digit n j) set-is ∙ set-digit leftOver xs j (omega (arith, count))
 
   only-above : (j : ℕ) → shutsIn f ws i j ≡ true → j < i
   unfolding shutsIn
   only-above j e =
       ⊎-elim (λ (l : j < i). l)
-      (λ (l : i ≤ j). true-false-absurd e (ap (λ (n : ℕ). digit n j) set-is ∙ set-beyond part xs j (omega (arith, count))))
+      (λ (l : i ≤ j). true-false-absurd e (ap (λ (n : ℕ). digit n j) set-is ∙ set-beyond leftOver xs j (omega (arith, count))))
       (lt-or-le j i)
 
   -- With all answers above there is no route.
   all-shut : respond (map heard xs) ≡ none
-  unfolding above planOf
+  unfolding answersAbove planOf
   all-shut =
       ap (λ (ys : List Answer). respond (map heard ys)) (plan-prefix (respondOf f ws) (f .carriers) i (omega (arith, s .listed)))
       ∙ sym (plan-answer (respondOf f ws) (f .carriers) i (s .listed))
@@ -97,10 +97,10 @@ module _ (f : Floor) (ws : List ℕ) (i : ℕ) (s : Stranded f ws i) where
   suffices : (q : List ℕ) → RouteAgainst f ws i (shutsIn f ws i) q → ⊥
   unfolding RouteAgainst respondOf
   suffices =
-      let same : viewsIn (shutsIn f ws i) xs ≡ viewsIn part xs =
-      views-same (shutsIn f ws i) part xs (λ j l. shuts-part j (omega (arith, count))) in
-      let shut : best task (seen f (viewsIn (shutsIn f ws i) xs)) ≡ none = ap respond same ∙ left-shut respond xs all-shut i in
-      route-theorems .none-exactly task (seen f (viewsIn (shutsIn f ws i) xs)) short .0 shut
+      let same : viewsOfPart (shutsIn f ws i) xs ≡ viewsOfPart leftOver xs =
+      views-same (shutsIn f ws i) leftOver xs (λ j l. shuts-part j (omega (arith, count))) in
+      let shut : best task (seen f (viewsOfPart (shutsIn f ws i) xs)) ≡ none = ap respond same ∙ left-shut respond xs all-shut i in
+      route-theorems .none-exactly task (seen f (viewsOfPart (shutsIn f ws i) xs)) short .0 shut
 
   smallest : (p : Part) → ((j : ℕ) → p j ≡ true → shutsIn f ws i j ≡ true) → (k : ℕ) → shutsIn f ws i k ≡ true → p k ≡ false →
       (q : List ℕ) × RouteAgainst f ws i p q
@@ -111,9 +111,9 @@ module _ (f : Floor) (ws : List ℕ) (i : ℕ) (s : Stranded f ws i) where
       let needed = left-needed respond xs k there in
       let left = minus (leftPart respond xs k) k in (
         needed .0,
-        fewer-views task (seen f (viewsIn left xs)) (seen f (viewsIn p xs)) (needed .0)
+        fewer-views task (seen f (viewsOfPart left xs)) (seen f (viewsOfPart p xs)) (needed .0)
             (seen-part f p left xs (part-minus p (leftPart respond xs k) k (λ j t. before j (only-above j (sub j t)) (sub j t) low) lacks))
-            (best-admissible task (seen f (viewsIn left xs)) (needed .0) short (needed .1)),
+            (best-admissible task (seen f (viewsOfPart left xs)) (needed .0) short (needed .1)),
       )
     where
       before : (j : ℕ) → j < i → shutsIn f ws i j ≡ true → k < i → leftPart respond xs k j ≡ true
@@ -125,13 +125,13 @@ module _ (f : Floor) (ws : List ℕ) (i : ℕ) (s : Stranded f ws i) where
       route-theorems .none-exactly task [] short .1
       (λ q a.
       suffices q
-      (fewer-views task [] (seen f (viewsIn (shutsIn f ws i) xs)) q
+      (fewer-views task [] (seen f (viewsOfPart (shutsIn f ws i) xs)) q
       (λ v m. inl (seen-nobody f (shutsIn f ws i) xs (λ j. ap (λ (n : ℕ). digit n j) e ∙ digit-zero j) v m)) a))
 
   shut-empty : best task [] ≡ none → blockersOf f ws i ≡ 0
   unfolding respondOf
   shut-empty e =
-      set-is ∙ set-nobody part xs (λ j l. left-nobody respond xs never i j (omega (arith, count)))
+      set-is ∙ set-nobody leftOver xs (λ j l. left-nobody respond xs never i j (omega (arith, count)))
     where
       never : (vs : List View) → respond vs ≡ none
       never vs =

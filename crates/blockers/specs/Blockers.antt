@@ -8,8 +8,8 @@ use Rattle.route.specs.Route.{Answer, none, route, View, unheard, heard}
 use Rattle.planner.specs.Plan.{respondOf, planOf}
 
 -- Views with carrier j left out.
-unfoldable pub without : ℕ → List View → List View
-without j vs = set vs j unheard
+unfoldable pub viewsWithout : ℕ → List View → List View
+viewsWithout j vs = set vs j unheard
 
 -- The first thing where the answer is none, the second where it is a route.
 unfoldable pub ifNone : {A : Type 0} → Answer → A → A → A
@@ -18,7 +18,7 @@ ifNone (route r) x y = y
 
 -- Carrier j tried: it is left out if against what is then left there is still no route, and kept otherwise.
 unfoldable pub tried : (List View → Answer) → ℕ → List View → List View
-tried respond j vs = ifNone (respond (without j vs)) (without j vs) vs
+tried respond j vs = ifNone (respond (viewsWithout j vs)) (viewsWithout j vs) vs
 
 -- What is left of the views when the carriers 0 to k − 1 were tried in this order; what has gone stays out.
 unfoldable pub leftAfter : (List View → Answer) → ℕ → List View → List View
@@ -32,9 +32,9 @@ setOf (unheard ∷ vs) = 2 * setOf vs
 setOf (heard x ∷ vs) = 2 * setOf vs + 1
 
 -- The sequential answers of the carriers above carrier i.
-unfoldable pub above : Floor → List ℕ → ℕ → List Answer
-above f ws i = take i (planOf f ws)
+unfoldable pub answersAbove : Floor → List ℕ → ℕ → List Answer
+answersAbove f ws i = take i (planOf f ws)
 
 -- The carriers that shut carrier i in: begin with all above it, and leave out each that can go, from carrier 0 downwards in rank.
 unfoldable pub blockersOf : Floor → List ℕ → ℕ → ℕ
-blockersOf f ws i = setOf (leftAfter (respondOf f ws i) i (map heard (above f ws i)))
+blockersOf f ws i = setOf (leftAfter (respondOf f ws i) i (map heard (answersAbove f ws i)))

@@ -21,13 +21,13 @@ isNone none = true
 isNone (route r) = false
 
 -- The refusals but the last: the floor's, 9 if fewer than 65 numbers a carrier are lent for the answers, 7, 0 if there is no such carrier.
-unfoldable pub carrierVerdict : Floor → List ℕ → (carrier room : ℕ) → Verdict
-carrierVerdict f ws carrier room = planVerdict f ws room then demand (within 1 (f .carriers) carrier) 7 0
+unfoldable pub carrierVerdict : Floor → List ℕ → (carrier lent : ℕ) → Verdict
+carrierVerdict f ws carrier lent = planVerdict f ws lent then demand (within 1 (f .carriers) carrier) 7 0
 
 -- All refusals: those, then 16, 0 if the carrier has a route.
-unfoldable pub blockersVerdict : Floor → List ℕ → (carrier room : ℕ) → Verdict
-blockersVerdict f ws carrier room =
-    carrierVerdict f ws carrier room then demand (isNone (answerAt (planOf f ws) (carrier - 1))) 16 0
+unfoldable pub blockersVerdict : Floor → List ℕ → (carrier lent : ℕ) → Verdict
+blockersVerdict f ws carrier lent =
+    carrierVerdict f ws carrier lent then demand (isNone (answerAt (planOf f ws) (carrier - 1))) 16 0
 
 -- What each case of the code's answer says: the set of carriers as one number, digit j − 1 being carrier j's, or the refusal.
 unfoldable pub blockedOutcome : Blocked → Outcome ℕ
@@ -35,8 +35,8 @@ blockedOutcome (Shut set) = value set
 blockedOutcome (Refused r) = refusal (r .number) (r .place)
 
 -- What the entry answers.
-unfoldable pub blockersOutcome : Floor → List ℕ → (carrier room : ℕ) → Outcome ℕ
-blockersOutcome f ws carrier room = blockersVerdict f ws carrier room gives blockersOf f ws (carrier - 1)
+unfoldable pub blockersOutcome : Floor → List ℕ → (carrier lent : ℕ) → Outcome ℕ
+blockersOutcome f ws carrier lent = blockersVerdict f ws carrier lent gives blockersOf f ws (carrier - 1)
 
 -- The lent memory afterwards: the sequential answers in front, as planning leaves them; all as it was with a refusal.
 unfoldable pub blockersMemory : Floor → List ℕ → (carrier : ℕ) → List ℕ → List ℕ

@@ -24,15 +24,15 @@ use records::TEAM;
 pub enum Blocked {
     // The carriers that shut the carrier in, a bit each: bit j − 1 is carrier j's. With none of them, walls or the horizon are the cause.
     Shut(u16),
-    // Turned away.
+    // Refused.
     Refused(Refusal),
 }
 
 // The refusals but 16, in their order.
-fn request(f: Floor, walls: &[u16], carrier: u16, room: usize) -> Checked
-    ensures { λ r. ⌜ verdictOf r ≡ carrierVerdict f (now (walls .entry)) carrier room ⌝ }
+fn request(f: Floor, walls: &[u16], carrier: u16, lent: usize) -> Checked
+    ensures { λ r. ⌜ verdictOf r ≡ carrierVerdict f (now (walls .entry)) carrier lent ⌝ }
 {
-    let planned = planner::request(f, walls, room);
+    let planned = planner::request(f, walls, lent);
     let Checked::Passed = planned else {
         return planned;
     };

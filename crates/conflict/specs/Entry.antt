@@ -4,7 +4,7 @@ use mathlib.Core.List.{List}
 use lib.ListN.{length}
 use Rattle.laws.specs.Memory.{part}
 use Rattle.laws.specs.Verdict.{Verdict, _then_, Outcome, value, refusal, _gives_}
-use Rattle.floor.specs.Checks.{roomOf}
+use Rattle.floor.specs.Checks.{longEnough}
 use Rattle.route.specs.FirstConflict.{sameCell, changeOfPlaces, following, ConflictAnswer, free, dated}
 use Rattle.route.specs.ConflictTest.{firstConflict}
 use Rattle.conflict.specs.declared.Compared.{Compared}
@@ -20,7 +20,7 @@ comparedOutcome (Refused r) = refusal (r .number) (r .place)
 
 -- 9, 0: a lent route has fewer than 64 numbers.
 unfoldable pub routesLent : List ℕ → List ℕ → Verdict
-routesLent a b = roomOf 64 (length a) then roomOf 64 (length b)
+routesLent a b = longEnough 64 (length a) then longEnough 64 (length b)
 
 -- What the entry answers: the first conflict of the first 64 numbers of each, through the horizon, one above 63 counting as 63.
 unfoldable pub conflictOutcome : List ℕ → List ℕ → ℕ → Outcome ConflictAnswer

@@ -17,7 +17,7 @@ pub enum Compared {
     ChangeOfPlaces(usize),
     // One enters, between this beat and the next, the cell that the other leaves.
     Following(usize),
-    // Turned away.
+    // Refused.
     Refused(Refusal),
 }
 

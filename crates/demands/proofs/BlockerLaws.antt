@@ -34,24 +34,24 @@ test-holds none h = absurd (h refl)
 test-holds (route r) h = refl
 
 module _ (f : Floor) (ws : List ℕ) where
-  carrier-rows : (carrier room : ℕ) → Refuses (carrierVerdict f ws carrier room) (SearchRows f ws carrier room)
+  carrier-rows : (carrier lent : ℕ) → Refuses (carrierVerdict f ws carrier lent) (SearchRows f ws carrier lent)
   unfolding carrierVerdict planVerdict lengthsOf
-  carrier-rows carrier room = then-rows _ _ (lent-rows f ws (65 * f .carriers) room) (λ e. outside-row 1 (f .carriers) carrier 7 0)
+  carrier-rows carrier lent = then-rows _ _ (lent-rows f ws (65 * f .carriers) lent) (λ e. outside-row 1 (f .carriers) carrier 7 0)
 
-  blockers-rows : (carrier room : ℕ) → Refuses (blockersVerdict f ws carrier room) (BlockersRows f ws carrier room)
+  blockers-rows : (carrier lent : ℕ) → Refuses (blockersVerdict f ws carrier lent) (BlockersRows f ws carrier lent)
   unfolding blockersVerdict
-  blockers-rows carrier room =
+  blockers-rows carrier lent =
       let x = answerAt (planOf f ws) (carrier - 1) in
-      then-rows _ _ (carrier-rows carrier room) (λ e. demand-row (isNone x) 16 0 (test-says x, test-holds x))
+      then-rows _ _ (carrier-rows carrier lent) (λ e. demand-row (isNone x) 16 0 (test-says x, test-holds x))
 
-  pub blockers : (carrier room : ℕ) → Answers (blockersOutcome f ws carrier room) (BlockersRows f ws carrier room)
+  pub blockers : (carrier lent : ℕ) → Answers (blockersOutcome f ws carrier lent) (BlockersRows f ws carrier lent)
   unfolding blockersOutcome
-  blockers carrier room = gives-rows (blockersVerdict f ws carrier room) _ (blockers-rows carrier room)
+  blockers carrier lent = gives-rows (blockersVerdict f ws carrier lent) _ (blockers-rows carrier lent)
 
   -- The answers of a floor that is not refused have the needed length.
-  answers-long : (carrier room : ℕ) → blockersVerdict f ws carrier room ≡ passed → length (recordsOf (planOf f ws)) ≤ 65 * f .carriers
+  answers-long : (carrier lent : ℕ) → blockersVerdict f ws carrier lent ≡ passed → length (recordsOf (planOf f ws)) ≤ 65 * f .carriers
   unfolding blockersVerdict carrierVerdict planVerdict
-  answers-long carrier room e =
+  answers-long carrier lent e =
       let ok = then-both _ _ (then-both _ _ (then-both _ _ e .0) .0) .0 in
       omega (arith, plan-size f ws (check-tells f ws ok .bounds .horizon .1))
 

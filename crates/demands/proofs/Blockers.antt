@@ -9,7 +9,7 @@ use lib.ListN.{length}
 use Rattle.laws.specs.Verdict.{passed, value}
 use Rattle.laws.proofs.VerdictLaws.{then-passed, demand-passes, gives-passed, when-passed}
 use Rattle.floor.specs.declared.Floor.{Floor}
-use Rattle.floor.specs.Checks.{roomOf}
+use Rattle.floor.specs.Checks.{longEnough}
 use Rattle.floor.proofs.LimitsLaws.{within-means}
 use Rattle.route.specs.Route.{Answer, none}
 use Rattle.planner.specs.Plan.{planOf, planVerdict}
@@ -26,13 +26,13 @@ is-none : (x : Answer) → x ≡ none → isNone x ≡ true
 unfolding isNone
 is-none x e = rw e
 
-module _ (f : Floor) (ws : List ℕ) (i : ℕ) (m : List ℕ) (s : Stranded f ws i) (room : lengthsOf f .answers ≤ length m) where
+module _ (f : Floor) (ws : List ℕ) (i : ℕ) (m : List ℕ) (s : Stranded f ws i) (lent : lengthsOf f .answers ≤ length m) where
   back : i + 1 - 1 ≡ i
   back = omega arith
 
   planned : planVerdict f ws (length m) ≡ passed
-  unfolding lengthsOf planVerdict roomOf
-  planned = then-passed (s .accepted) ∙ demand-passes 9 0 (le-leb _ _ room)
+  unfolding lengthsOf planVerdict longEnough
+  planned = then-passed (s .accepted) ∙ demand-passes 9 0 (le-leb _ _ lent)
 
   passes : blockersVerdict f ws (i + 1) (length m) ≡ passed
   unfolding blockersVerdict carrierVerdict

@@ -16,11 +16,11 @@ use Rattle.reference.specs.Run.{took, run}
 use Rattle.reference.specs.Ending.{ending}
 use Rattle.reference.specs.History.{Faithful, afterSteps}
 use Rattle.reference.specs.Table.{Asked, step, noStep, isNamed, stepsOf, Call, single, runOf, allNamed, verdict}
-use Rattle.reference.specs.Calls.{stepped, Told, ran, reply, stateAfter, afterCall, replies, after}
+use Rattle.reference.specs.Calls.{stepped, CallAnswer, ran, reply, stateAfter, afterCall, replies, after}
 use Rattle.reference.specs.Meeting.{Apart, Exchanged, SameRun}
 use Rattle.reference.proofs.OpenLaws.{open-there}
 use Rattle.reference.proofs.TableLaws.{steps-append}
-use Rattle.reference.proofs.ApartLaws.{apart-turned}
+use Rattle.reference.proofs.ApartLaws.{apart-sym}
 use Rattle.reference.proofs.Theorems.{theorems}
 use Rattle.orders.proofs.CallLaws.{single-reply, single-after}
 use Rattle.encoding.specs.Places.{stateSize}
@@ -79,11 +79,11 @@ module _ (M : Machine) (s : State) (lent : ℕ) (xs ys : List Asked) (b : ℕ) (
   abbrev whole : List Asked
   whole = xs ++ (step p ∷ (step q ∷ ys))
 
-  abbrev turned : List Asked
-  turned = xs ++ (step q ∷ (step p ∷ ys))
+  abbrev reversed : List Asked
+  reversed = xs ++ (step q ∷ (step p ∷ ys))
 
   module _ (left : run M s (stepsOf xs) b .taken + 2 ≤ b) (h : Apart M (run M s (stepsOf xs) b .state) p q) where
-    verdict-alike : verdict M s (runOf lent whole b) ≡ verdict M s (runOf lent turned b)
+    verdict-alike : verdict M s (runOf lent whole b) ≡ verdict M s (runOf lent reversed b)
     unfolding verdict allNamed isNamed
     verdict-alike =
         let z = run M s (stepsOf xs) b .state in
@@ -93,18 +93,18 @@ module _ (M : Machine) (s : State) (lent : ℕ) (xs ys : List Asked) (b : ℕ) (
           exchanged-length xs (step p) (step q) ys,
         )
 
-    runs-alike : SameRun M b (run M s (stepsOf whole) b) (run M s (stepsOf turned) b)
+    runs-alike : SameRun M b (run M s (stepsOf whole) b) (run M s (stepsOf reversed) b)
     unfolding stepsOf
     runs-alike =
         rw (steps-append xs (step p ∷ (step q ∷ ys)), steps-append xs (step q ∷ (step p ∷ ys)))
         (theorems .meetings .run-neighbours M s (stepsOf xs) p q (stepsOf ys) b left h .0)
 
-    run-reply-alike : reply M s (runOf lent whole b) ≡ reply M s (runOf lent turned b)
+    run-reply-alike : reply M s (runOf lent whole b) ≡ reply M s (runOf lent reversed b)
     unfolding reply
     run-reply-alike =
-        ap₂ (λ (v : Verdict) (told : Told). v gives told) verdict-alike (ap₂ ran (runs-alike .taken) (runs-alike .ending))
+        ap₂ (λ (v : Verdict) (told : CallAnswer). v gives told) verdict-alike (ap₂ ran (runs-alike .taken) (runs-alike .ending))
 
-    run-after-alike : afterCall M s (runOf lent whole b) ≡ afterCall M s (runOf lent turned b)
+    run-after-alike : afterCall M s (runOf lent whole b) ≡ afterCall M s (runOf lent reversed b)
     unfolding afterCall stateAfter
     run-after-alike = rw (verdict-alike, runs-alike .state)
 
@@ -117,18 +117,18 @@ module _ (f : Floor) (ws : List ℕ) (s : State) (k l : ℕ) (ready : Ready f ws
   m = encode (f .carriers) s ++ rest
 
   -- How long the memory is, and how much of it the reference machine is lent.
-  abbrev room : ℕ
-  room = stateSize (f .carriers) + length rest
+  abbrev numbers : ℕ
+  numbers = stateSize (f .carriers) + length rest
 
   abbrev lent : ℕ
-  lent = lentLength f room k l
+  lent = lentLength f numbers k l
 
   enough : M .needed ≤ lent
   unfolding machineOf lentLength
   enough = rw (le-leb (f .walls) k (ready .walls)) (omega (arith, ready .lent))
 
-  simulated : (cs : List ProgramCall) → ListSame f ws (ready .accepted) rest room refl s cs
-  simulated cs = list-same f ws (ready .accepted) rest room refl s (ready .within-ranges) cs
+  simulated : (cs : List ProgramCall) → ListSame f ws (ready .accepted) rest numbers refl s cs
+  simulated cs = list-same f ws (ready .accepted) rest numbers refl s (ready .within-ranges) cs
 
   pair-memory : (x y : ℕ) (p q : Step) → askedBy x ≡ step p → askedBy y ≡ step q → Apart M s p q →
       memoryOf f ws m (oneStep k l x ∷ oneStep k l y ∷ []) ≡ encode (f .carriers) (afterStep M (afterStep M s p) q) ++ rest
@@ -145,20 +145,20 @@ module _ (f : Floor) (ws : List ℕ) (s : State) (k l : ℕ) (ready : Ready f ws
 
   -- A run as the reference machine is given it, with two steps named.
   asked : (xs ys : List ℕ) (b x y : ℕ) (p q : Step) → askedBy x ≡ step p → askedBy y ≡ step q →
-      referenceCall f room (oneRun k l (xs ++ (x ∷ (y ∷ ys))) b) ≡
+      referenceCall f numbers (oneRun k l (xs ++ (x ∷ (y ∷ ys))) b) ≡
       runOf lent (map askedBy xs ++ (step p ∷ (step q ∷ map askedBy ys))) b
   unfolding referenceCall
   asked xs ys b x y p q e d = rw (map-append askedBy xs (x ∷ (y ∷ ys)), e, d)
 
   pub either-order : (x y : ℕ) (p q : Step) → askedBy x ≡ step p → askedBy y ≡ step q → Apart M s p q → EitherOrder f ws s k l rest x y p q
   either-order x y p q e d h =
-      let g = apart-turned h in
+      let g = apart-sym h in
       record {
         memory = pair-memory x y p q e d h
             ∙ ap (λ (z : State). encode (f .carriers) z ++ rest) (theorems .meetings .same-state M s p q h)
             ∙ sym (pair-memory y x q p d e g);
         answers = pair-answers x y p q e d h;
-        turned = pair-answers y x q p d e g;
+        reversed = pair-answers y x q p d e g;
       }
 
   pub run-neighbours : (xs ys : List ℕ) (b x y : ℕ) (p q : Step) → askedBy x ≡ step p → askedBy y ≡ step q →
@@ -170,8 +170,8 @@ module _ (f : Floor) (ws : List ℕ) (s : State) (k l : ℕ) (ready : Ready f ws
       let one = asked xs ys b x y p q e d in
       let other = asked xs ys b y x q p d e in
       let fits = ready .within-ranges in
-      let here = lent-same f ws (ready .accepted) rest room refl s fits c in
-      let there = lent-same f ws (ready .accepted) rest room refl s fits g in
+      let here = lent-same f ws (ready .accepted) rest numbers refl s fits c in
+      let there = lent-same f ws (ready .accepted) rest numbers refl s fits g in
       record {
         answer = here .0 ∙ (rw (one, other) (run-reply-alike M s lent (map askedBy xs) (map askedBy ys) b p q left h)) ∙ sym (there .0);
         memory = here .1
@@ -180,7 +180,7 @@ module _ (f : Floor) (ws : List ℕ) (s : State) (k l : ℕ) (ready : Ready f ws
       }
 
   -- Single calls of the steps that the numbers name.
-  singles-asked : (xs : List ℕ) → referenceCalls f room (map (oneStep k l) xs) ≡ map (single lent) (map askedBy xs)
+  singles-asked : (xs : List ℕ) → referenceCalls f numbers (map (oneStep k l) xs) ≡ map (single lent) (map askedBy xs)
   unfolding referenceCalls referenceCall
   singles-asked [] = refl
   singles-asked (x ∷ xs) = ap (λ (cs : List Call). single lent (askedBy x) ∷ cs) (singles-asked xs)

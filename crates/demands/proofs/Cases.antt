@@ -3,10 +3,10 @@ use Prim.Native.Nat.{ℕ}
 use native.Mathlib.Omega.{arith}
 use mathlib.Core.Path.{_≡_, refl, _∙_}
 use mathlib.Core.List.{[]}
-use Rattle.laws.specs.Verdict.{passed, refused, _then_, demand, inTurn, demandEach, passes, _gives_, _thenAnswers_, whenPassed}
-use Rattle.floor.specs.Checks.{within, limitsOf, roomOf, lentOf, startOf, countOf, docksOf, dockOf, isDock, inGrid, carrierInGrid}
+use Rattle.laws.specs.Verdict.{passed, refused, _then_, demand, inTurn, demandEach, passes, _gives_, _thenAnswers_, whenPassed, each}
+use Rattle.floor.specs.Checks.{within, limitsOf, longEnough, lentOf, startOf, countOf, docksOf, dockOf, isDock, inGrid, carrierInGrid}
 use Rattle.floor.specs.Checks.{carriersOf, wallsOf}
-use Rattle.floor.specs.Checks.{every as allBelow, docksInGrid, docksClear, unrepeated, unrepeatedOf}
+use Rattle.floor.specs.Checks.{docksInGrid, docksClear, unrepeated, unrepeatedOf}
 use Rattle.laws.specs.Memory.{part}
 use Rattle.floor.specs.OneDock.{oneEach, withOneDock, earlierLimits, earlierInside, bothInside, earlierCarriers, earlierWalls}
 use Rattle.floor.specs.OneDock.{earlierRising, bothClear, earlierClear, neitherShared, earlierDistinct, earlierCheck}
@@ -28,9 +28,9 @@ use Rattle.printing.specs.Print.{printOf, routesOf}
 use Rattle.printing.proofs.Theorems.{theorems}
 use Rattle.planner.specs.Claims.{answerAt, planUnseen}
 use Rattle.planner.specs.Plan.{respondOf, planOf, failingFrom, failingOf}
-use Rattle.reference.specs.Ranges.{below, joined, each, update, updatePair}
+use Rattle.reference.specs.Ranges.{below, joined, update, updatePair}
 use Rattle.reference.specs.State.{fresh, views, tick}
-use Rattle.reference.specs.Step.{plan, deliver, isThere, hasRoom, isEmpty, waitsFor, isOpen, sameCells, sameAnswer}
+use Rattle.reference.specs.Step.{plan, deliver, isThere, hasCapacity, isEmpty, waitsFor, isOpen, sameCells, sameAnswer}
 use Rattle.reference.specs.Ranking.{deliveriesFrom, ranking, noneOpen, isSilent}
 use Rattle.reference.specs.Take.{isNews, send, planAs, oldest, newer, deliverTo, effect, counted, afterStep, stepAnswer}
 use Rattle.reference.specs.Run.{run, tookFirst, skippedFirst}
@@ -51,8 +51,8 @@ use Rattle.demands.specs.Cases.{Cases}
 
 -- The texts: what a floor's plan prints, and what the empty sheet does.
 accepted-2 : checkOf (sides 4) [] ≡ passed
-unfolding checkOf limitsOf within lentOf roomOf placesOf carriersOf wallsOf risingOf clearOf distinctOf startOf countOf docksOf dockOf
-    part allBelow docksInGrid docksClear unrepeated unrepeatedOf oneEach withOneDock inGrid
+unfolding checkOf limitsOf within lentOf longEnough placesOf carriersOf wallsOf risingOf clearOf distinctOf startOf countOf docksOf dockOf
+    part each docksInGrid docksClear unrepeated unrepeatedOf oneEach withOneDock inGrid
     carrierInGrid rises among clearOfWalls unshared demand _then_ inTurn demandEach
 accepted-2 = refl
 
@@ -92,8 +92,8 @@ unfolding withoutLast carrierColumn columnPast pastCounted countedLength numberA
 dropped-sheet = refl
 
 short-accepted : checkOf (dropLast (sides 4)) [] ≡ passed
-unfolding checkOf limitsOf within lentOf roomOf placesOf carriersOf wallsOf risingOf clearOf distinctOf startOf countOf docksOf dockOf
-    part allBelow docksInGrid docksClear unrepeated unrepeatedOf oneEach withOneDock inGrid
+unfolding checkOf limitsOf within lentOf longEnough placesOf carriersOf wallsOf risingOf clearOf distinctOf startOf countOf docksOf dockOf
+    part each docksInGrid docksClear unrepeated unrepeatedOf oneEach withOneDock inGrid
     carrierInGrid rises among clearOfWalls unshared demand _then_ inTurn demandEach dropLast
 short-accepted = refl
 
@@ -134,12 +134,12 @@ other-kind e = let z : _≡_ {A = ℕ} 0 1 = cc in omega arith
 pub cases : Cases
 unfolding
     _then_ demand inTurn demandEach passes _gives_ _thenAnswers_ whenPassed
-    within limitsOf roomOf lentOf startOf countOf docksOf dockOf isDock part allBelow docksInGrid docksClear unrepeated unrepeatedOf
+    within limitsOf longEnough lentOf startOf countOf docksOf dockOf isDock part docksInGrid docksClear unrepeated unrepeatedOf
     oneEach withOneDock inGrid carrierInGrid carriersOf wallsOf rises risingOf
     among clearOfWalls clearOf unshared distinctOf placesOf checkOf
     cellAt neighbours near vacant every standable allowed startClear cost cheaper cheapest holds ended val onward walk walkFrom best
     sequential settled arrivalOf taskOf seen seenFrom seenAs parked respondOf planOf planUnseen failingFrom failingOf
-    below joined each update updatePair fresh views tick isThere hasRoom isEmpty waitsFor isOpen sameCells sameAnswer
+    below joined each update updatePair fresh views tick isThere hasCapacity isEmpty waitsFor isOpen sameCells sameAnswer
     deliveriesFrom ranking noneOpen isSilent isNews send planAs oldest newer deliverTo effect counted afterStep stepAnswer
     run tookFirst skippedFirst anyLeft endsAs ending isNamed stepsOf lentEnough allNamed openSingle verdict
     reply stateAfter afterCall replies after ceiling pairsBefore stateSize deliveryOf askedBy machineOf meet dropLast
@@ -250,7 +250,7 @@ cases =
       dock-outside = refl;
       dock-on-wall = refl;
       common-earlier = refl;
-      common-now = refl;
+      common-accepted = refl;
       most-1 = refl;
       most-2 = refl;
       most-3 = refl;

@@ -10,7 +10,7 @@ use Rattle.floor.specs.Checks.{checkOf}
 use Rattle.reference.specs.State.{Machine, State}
 use Rattle.reference.specs.Run.{run}
 use Rattle.reference.specs.Table.{Asked, runOf, stepsOf, lentEnough, allNamed, verdict}
-use Rattle.reference.specs.Calls.{Told}
+use Rattle.reference.specs.Calls.{CallAnswer}
 use Rattle.reference.specs.Quiescent.{replyCount}
 use Rattle.reference.proofs.TableLaws.{lent-enough, named-front}
 use Rattle.reference.proofs.ReachLaws.{run-reply}
@@ -25,7 +25,7 @@ use Rattle.demands.proofs.RefusalLaws.{reply-value}
 use Rattle.demands.proofs.ListLaws.{answers-same, memory-same, next-answer, more-state, more-taken}
 
 module _ (f : Floor) (ws m : List ℕ) (ok : checkOf f ws ≡ passed) (long : stateSize (f .carriers) ≤ length m) (cs : List ProgramCall)
-    (k l : ℕ) (xs ys : List ℕ) (b : ℕ) (told : Told)
+    (k l : ℕ) (xs ys : List ℕ) (b : ℕ) (told : CallAnswer)
     (answered : answerOf f ws (programMemory f ws m cs) (oneRun k l (xs ++ ys) b) ≡ value told) where
   -- The reference machine of the floor, its state after the calls, and the length of lent memory that it compares.
   abbrev M : Machine

@@ -14,8 +14,8 @@ use Rattle.laws.specs.Verdict.{Verdict, passed, refused, _then_, demand, Outcom
 use Rattle.laws.proofs.Tests.{lt-or-le, not-true-is-false, false-fails}
 use Rattle.laws.proofs.VerdictLaws.{then-both, then-assoc, when-passed, when-refused, demand-holds}
 use Rattle.floor.specs.declared.Floor.{Floor}
-use Rattle.floor.specs.Checks.{checkOf, limitsOf, roomOf, within}
-use Rattle.floor.proofs.LimitsLaws.{check-tells, room-passed}
+use Rattle.floor.specs.Checks.{checkOf, limitsOf, longEnough, within}
+use Rattle.floor.proofs.LimitsLaws.{check-tells, length-passed}
 use Rattle.sheet.specs.Text.{sheetOf, sheetLength}
 use Rattle.sheet.specs.Values.{floorAt, wallsAt}
 use Rattle.sheet.specs.Read.{sheetVerdict, readVerdict, readWalls, writeVerdict, writeSheet}
@@ -35,7 +35,7 @@ use Rattle.lengths.specs.Figures.{figuresFor, lengthsOf}
 use Rattle.lengths.proofs.Theorems.{theorems as lengths-theorems}
 use Rattle.reference.specs.State.{State, fresh}
 use Rattle.reference.specs.Table.{Call, verdict}
-use Rattle.reference.specs.Refused.{RefusedWith as RefusedCall}
+use Rattle.reference.specs.Refused.{RefusedCall}
 use Rattle.reference.specs.Calls.{reply, afterCall}
 use Rattle.reference.proofs.Theorems.{theorems as reference-theorems}
 use Rattle.encoding.specs.Encode.{encode}
@@ -45,7 +45,7 @@ use Rattle.encoding.specs.Calls.{machineOf, placeVerdict, stateVerdict, stateIn
 use Rattle.encoding.proofs.StateLaws.{encode-beyond}
 use Rattle.encoding.proofs.Theorems.{theorems as layout-theorems}
 use Rattle.machine.specs.Ceiling.{mostSteps}
-use Rattle.trial.specs.Report.{numbersOf, reportSize}
+use Rattle.trial.specs.Report.{reportNumbers, reportSize}
 use Rattle.trial.specs.Entry.{trialVerdict, trialOf, trialOutcome, stateTried, reportTried}
 use Rattle.trial.proofs.Theorems.{theorems as trial-theorems}
 use Rattle.demands.specs.Rows.{Table, Row, row, Short, _orElse_, earlier, later, Refuses, Answers, Keeps}
@@ -60,9 +60,9 @@ use Rattle.demands.proofs.EntryLaws.{floor-rows, lent-rows, outside-row
 use Rattle.demands.proofs.RefusalLaws.{reply-rows, state-kept}
 
 module _ (text : List ℕ) where
-  read : (room : ℕ) → Refuses (readVerdict text room) (ReadRows text room)
+  read : (lent : ℕ) → Refuses (readVerdict text lent) (ReadRows text lent)
   unfolding readVerdict lengthsOf
-  read room = then-rows (sheetVerdict text) _ (sheet-theorems .refuses-exactly text) (λ e. short-row _ room)
+  read lent = then-rows (sheetVerdict text) _ (sheet-theorems .refuses-exactly text) (λ e. short-row _ lent)
 
   read-keeps : (old : List ℕ) → Keeps (ReadRows text (length old)) (lengthsOf (floorAt text) .walls) old (readWalls text old)
   unfolding readWalls lengthsOf
@@ -71,9 +71,9 @@ module _ (text : List ℕ) where
       (λ e. rw (← walls-length text) (front-beyond old (wallsAt text) (length (wallsAt text)) (omega arith)))
 
 module _ (f : Floor) (ws : List ℕ) where
-  write : (room : ℕ) → Refuses (writeVerdict f ws room) (WriteRows f ws room)
+  write : (lent : ℕ) → Refuses (writeVerdict f ws lent) (WriteRows f ws lent)
   unfolding writeVerdict lengthsOf
-  write room = lent-rows f ws (sheetLength f) room
+  write lent = lent-rows f ws (sheetLength f) lent
 
   write-keeps : (old : List ℕ) → Keeps (WriteRows f ws (length old)) (lengthsOf f .sheet) old (writeSheet f ws old)
   unfolding writeSheet lengthsOf
@@ -81,24 +81,24 @@ module _ (f : Floor) (ws : List ℕ) where
       keeps-when _ (writeVerdict f ws (length old)) (write (length old))
       (λ e. rw (← sheet-theorems .sheet-length f ws) (front-beyond old (sheetOf f ws) (length (sheetOf f ws)) (omega arith)))
 
-  plan-rows : (room : ℕ) → Refuses (planVerdict f ws room) (PlanRows f ws room)
+  plan-rows : (lent : ℕ) → Refuses (planVerdict f ws lent) (PlanRows f ws lent)
   unfolding planVerdict lengthsOf
-  plan-rows room = lent-rows f ws (65 * f .carriers) room
+  plan-rows lent = lent-rows f ws (65 * f .carriers) lent
 
   search : (i : ℕ) (views : List ℕ) → Answers (searchOf f ws i views) (SearchRows f ws i (length views))
   unfolding searchOf requestOf planVerdict
   search i views =
-      rw (← then-assoc (checkOf f ws) (roomOf (65 * f .carriers) (length views)) (demand (within 1 (f .carriers) i) 7 0))
+      rw (← then-assoc (checkOf f ws) (longEnough (65 * f .carriers) (length views)) (demand (within 1 (f .carriers) i) 7 0))
       (gives-rows _ _ (then-rows (planVerdict f ws (length views)) _ (plan-rows (length views)) (λ e. outside-row 1 (f .carriers) i 7 0)))
 
-  plan : (room : ℕ) → Answers (planResult f ws room) (PlanRows f ws room)
+  plan : (lent : ℕ) → Answers (planResult f ws lent) (PlanRows f ws lent)
   unfolding planResult
-  plan room = gives-rows (planVerdict f ws room) _ (plan-rows room)
+  plan lent = gives-rows (planVerdict f ws lent) _ (plan-rows lent)
 
   -- The answers of an accepted floor have the needed length.
-  answers-long : (room : ℕ) → planVerdict f ws room ≡ passed → length (recordsOf (planOf f ws)) ≤ 65 * f .carriers
+  answers-long : (lent : ℕ) → planVerdict f ws lent ≡ passed → length (recordsOf (planOf f ws)) ≤ 65 * f .carriers
   unfolding planVerdict
-  answers-long room e = omega (arith, plan-size f ws (check-tells f ws (then-both _ _ e .0) .bounds .horizon .1))
+  answers-long lent e = omega (arith, plan-size f ws (check-tells f ws (then-both _ _ e .0) .bounds .horizon .1))
 
   plan-keeps : (old : List ℕ) → Keeps (PlanRows f ws (length old)) (lengthsOf f .answers) old (planMemory f ws old)
   unfolding planMemory lengthsOf stored
@@ -106,13 +106,13 @@ module _ (f : Floor) (ws : List ℕ) where
       keeps-when _ (planVerdict f ws (length old)) (plan-rows (length old))
       (λ e. put-beyond old (recordsOf (planOf f ws)) (65 * f .carriers) (answers-long (length old) e))
 
-  print-rows : (room bytes : ℕ) → Refuses (printVerdict f ws room bytes) (PrintRows f ws room bytes)
+  print-rows : (lent bytes : ℕ) → Refuses (printVerdict f ws lent bytes) (PrintRows f ws lent bytes)
   unfolding printVerdict lengthsOf
-  print-rows room bytes = then-rows (planVerdict f ws room) _ (plan-rows room) (λ e. short-row (textLength f) bytes)
+  print-rows lent bytes = then-rows (planVerdict f ws lent) _ (plan-rows lent) (λ e. short-row (textLength f) bytes)
 
-  print : (room bytes : ℕ) → Answers (printOutcome f ws room bytes) (PrintRows f ws room bytes)
+  print : (lent bytes : ℕ) → Answers (printOutcome f ws lent bytes) (PrintRows f ws lent bytes)
   unfolding printOutcome
-  print room bytes = gives-rows (printVerdict f ws room bytes) _ (print-rows room bytes)
+  print lent bytes = gives-rows (printVerdict f ws lent bytes) _ (print-rows lent bytes)
 
   print-keeps-answers : (bytes : ℕ) (old : List ℕ)
       → Keeps (PrintRows f ws (length old) bytes) (lengthsOf f .answers) old (printAnswers f ws bytes old)
@@ -121,16 +121,16 @@ module _ (f : Floor) (ws : List ℕ) where
       keeps-when _ (printVerdict f ws (length old) bytes) (print-rows (length old) bytes)
       (λ e. put-beyond old (recordsOf (planOf f ws)) (65 * f .carriers) (answers-long (length old) (then-both _ _ e .0)))
 
-  print-keeps-text : (room : ℕ) (old : List ℕ)
-      → Keeps (PrintRows f ws room (length old)) (lengthsOf f .text) old (printMemory f ws room old)
+  print-keeps-text : (lent : ℕ) (old : List ℕ)
+      → Keeps (PrintRows f ws lent (length old)) (lengthsOf f .text) old (printMemory f ws lent old)
   unfolding printMemory lengthsOf printVerdict planVerdict
-  print-keeps-text room old =
-      keeps-when _ (printVerdict f ws room (length old)) (print-rows room (length old))
+  print-keeps-text lent old =
+      keeps-when _ (printVerdict f ws lent (length old)) (print-rows lent (length old))
       (λ e. put-beyond old (printOf f ws) (textLength f) (printing-theorems .text-within f ws (then-both _ _ (then-both _ _ e .0) .0)))
 
-  fresh-rows : (room : ℕ) → Refuses (placeVerdict f ws room) (FreshRows f ws room)
+  fresh-rows : (lent : ℕ) → Refuses (placeVerdict f ws lent) (FreshRows f ws lent)
   unfolding placeVerdict lengthsOf
-  fresh-rows room = lent-rows f ws (stateSize (f .carriers)) room
+  fresh-rows lent = lent-rows f ws (stateSize (f .carriers)) lent
 
   state-beyond : (s : State) (m : List ℕ) → drop (stateSize (f .carriers)) (withState f m s) ≡ drop (stateSize (f .carriers)) m
   state-beyond s m = encode-beyond (f .carriers) s m
@@ -143,7 +143,7 @@ module _ (f : Floor) (ws : List ℕ) where
   unfolding trialVerdict lengthsOf
   trial-rows order state report =
       then-rows (placeVerdict f ws state) _ (fresh-rows state) (λ e.
-      then-rows (roomOf (reportSize (f .carriers)) report) _ (short-row (reportSize (f .carriers)) report)
+      then-rows (longEnough (reportSize (f .carriers)) report) _ (short-row (reportSize (f .carriers)) report)
       (λ h. outside-row 1 3 order 11 0))
 
   trial : (order seed state report : ℕ) → Answers (trialOutcome f ws order seed state report) (TrialRows f ws order state report)
@@ -163,7 +163,7 @@ module _ (f : Floor) (ws : List ℕ) where
   trial-keeps-report order seed state old =
       keeps-when _ (trialVerdict f ws order state (length old)) (trial-rows order state (length old)) (λ e.
       let ok = then-both _ _ (then-both _ _ e .0) .0 in
-      put-beyond old (numbersOf (trialOf f ws order seed .report)) (reportSize (f .carriers))
+      put-beyond old (reportNumbers (trialOf f ws order seed .report)) (reportSize (f .carriers))
       (trial-theorems .ends f ws order seed ok .fits))
 
   module _ (m : List ℕ) where
@@ -174,7 +174,7 @@ module _ (f : Floor) (ws : List ℕ) where
         then-rows (placeVerdict f ws (length m)) _ (fresh-rows (length m)) (λ e.
         let a = then-both (checkOf f ws) _ e in
         let b = check-tells f ws (a .0) .bounds in
-        let v = layout-theorems .valid-exactly f m (b .depth .1) (b .horizon .1) (room-passed _ _ (a .1)) in
+        let v = layout-theorems .valid-exactly f m (b .depth .1) (b .horizon .1) (length-passed _ _ (a .1)) in
         demand-row (valid f m) 10 0 (
           λ z h. false-fails z (v .1 h),
           λ n. not-true-is-false (valid f m) (λ t. n (v .0 t)),
@@ -191,7 +191,8 @@ module _ (f : Floor) (ws : List ℕ) where
         let a = then-both (placeVerdict f ws (length m)) (demand (valid f m) 10 0) e in
         let b = then-both (checkOf f ws) _ (a .0) in
         let t = check-tells f ws (b .0) .bounds in
-        let d = layout-theorems .decode-valid f m (t .depth .1) (t .horizon .1) (room-passed _ _ (b .1)) (demand-holds _ 10 0 (a .1)) .1 in
+        let d = layout-theorems .decode-valid f m (t .depth .1) (t .horizon .1) (length-passed _ _ (b .1))
+        (demand-holds _ 10 0 (a .1)) .1 in
         rw (layout-theorems .encode-length (f .carriers) (stateIn f m), zero-add, d) (take-append-drop (stateSize (f .carriers)) m)
 
     module _ (c : Call) where

@@ -1,11 +1,11 @@
 -- Several docks, proved.
 use Rattle.floor.proofs.Theorems.{theorems as floor-theorems}
 use Rattle.planner.proofs.DocksTheorems.{theorems as docks-theorems}
-use Rattle.demands.specs.Docks.{Docks}
+use Rattle.demands.specs.Docks.{SeveralDocks}
 use Rattle.demands.proofs.EarlierLaws.{earlier-answers}
 use Rattle.demands.proofs.SameSheetLaws.{order-outcomes}
 
-pub theorem : Docks
+pub theorem : SeveralDocks
 theorem =
     record {
       earlier-accepted = floor-theorems .earlier-accepted;

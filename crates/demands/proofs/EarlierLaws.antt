@@ -6,14 +6,14 @@ use mathlib.Core.Path.{_≡_, _∙_, ap}
 use lib.ListN.{length, take, length-map}
 use lib.Seq.{length-take-le}
 use Rattle.laws.specs.Verdict.{passed}
-use Rattle.floor.specs.OneDock.{Earlier, earlierCheck, withOneDock}
+use Rattle.floor.specs.OneDock.{OneDockFloor, earlierCheck, withOneDock}
 use Rattle.route.specs.Route.{Answer, View, heard}
 use Rattle.route.specs.Sequential.{sequential}
 use Rattle.planner.specs.Plan.{respondOf, planOf}
 use Rattle.planner.proofs.FailingLaws.{plan-count}
 use Rattle.planner.proofs.DependsLaws.{sequential-below}
 use Rattle.planner.proofs.DocksTheorems.{theorems as docks-theorems}
-use Rattle.blockers.specs.Blockers.{leftAfter, setOf, above, blockersOf}
+use Rattle.blockers.specs.Blockers.{leftAfter, setOf, answersAbove, blockersOf}
 use Rattle.blockers.proofs.SameLaws.{left-same}
 use Rattle.reference.proofs.RespondLaws.{reply-same, after-call-same}
 use Rattle.encoding.specs.Places.{stateSize}
@@ -22,7 +22,7 @@ use Rattle.demands.specs.Docks.{EarlierResponses, EarlierAnswers}
 use Rattle.demands.proofs.SameTrialLaws.{trial-same}
 use Rattle.demands.proofs.SameRunLaws.{runs-same, reports-same}
 
-module _ (e : Earlier) (ws : List ℕ) (respond : ℕ → List View → Answer) (ok : earlierCheck e ws ≡ passed)
+module _ (e : OneDockFloor) (ws : List ℕ) (respond : ℕ → List View → Answer) (ok : earlierCheck e ws ≡ passed)
     (best : EarlierResponses e ws respond) where
   responses : (i : ℕ) (vs : List View) → i < e .carriers → length vs ≡ i → respond i vs ≡ respondOf (withOneDock e) ws i vs
   responses i vs l h = docks-theorems .earlier-response e ws i vs (respond i vs) ok l .0 (best i vs l h)
@@ -33,7 +33,7 @@ module _ (e : Earlier) (ws : List ℕ) (respond : ℕ → List View → Answer) 
 
   blockers : (i : ℕ) → i < e .carriers →
       setOf (leftAfter (respond i) i (map heard (take i (sequential respond (e .carriers))))) ≡ blockersOf (withOneDock e) ws i
-  unfolding blockersOf above
+  unfolding blockersOf answersAbove
   blockers i l =
       let xs = sequential respond (e .carriers) in
       let count : length (map heard (take i xs)) ≡ i =

@@ -6,7 +6,7 @@ use Rattle.laws.specs.Verdict.{refused, _then_, demand}
 use Rattle.laws.proofs.EachLaws.{each-refused, first-refuses}
 use Rattle.laws.proofs.Tests.{not-true-is-false, false-fails}
 use Rattle.floor.specs.declared.Floor.{Floor}
-use Rattle.floor.specs.Checks.{checkOf, limitsOf, roomOf, within}
+use Rattle.floor.specs.Checks.{checkOf, limitsOf, longEnough, within}
 use Rattle.floor.specs.Accepted.{Within}
 use Rattle.floor.specs.Refused.{RefusedWith as RefusedFloor}
 use Rattle.floor.proofs.LimitsLaws.{field-means, limits-each, within-means}
@@ -20,8 +20,8 @@ pub floor-rows : (f : Floor) (ws : List ℕ) → Refuses (checkOf f ws) (Refused
 floor-rows f ws = floor-theorems .refuses-exactly f ws
 
 pub lent-rows : (f : Floor) (ws : List ℕ) (needed lent : ℕ)
-    → Refuses (checkOf f ws then roomOf needed lent) (RefusedFloor f ws orElse Short lent needed)
-lent-rows f ws needed lent = then-rows (checkOf f ws) (roomOf needed lent) (floor-rows f ws) (λ e. short-row needed lent)
+    → Refuses (checkOf f ws then longEnough needed lent) (RefusedFloor f ws orElse Short lent needed)
+lent-rows f ws needed lent = then-rows (checkOf f ws) (longEnough needed lent) (floor-rows f ws) (λ e. short-row needed lent)
 
 -- A number outside its limits is one row.
 pub outside-row : (low high v n q : ℕ) → Refuses (demand (within low high v) n q) (Row n q (Within low high v → ⊥))

@@ -12,7 +12,7 @@ use Rattle.laws.specs.Verdict.{passed, refused}
 use Rattle.laws.proofs.VerdictLaws.{then-passed, then-refused, demand-refuses, answers-refused, when-refused}
 use Rattle.laws.proofs.Tests.{lt-or-le}
 use Rattle.floor.specs.declared.Floor.{Floor}
-use Rattle.floor.specs.Checks.{checkOf, roomOf}
+use Rattle.floor.specs.Checks.{checkOf, longEnough}
 use Rattle.reference.specs.State.{Machine, State}
 use Rattle.reference.specs.Table.{Call, single, runOf, verdict}
 use Rattle.reference.specs.Refused.{short-single, short-run}
@@ -29,8 +29,8 @@ use Rattle.encoding.proofs.SimulationLaws.{simulated-reply, simulated-memory}
 use Rattle.demands.specs.Lists.{ProgramCall, oneStep, oneRun, answerOf, leftBy, lentLength, referenceCall}
 use Rattle.demands.proofs.RefusalLaws.{reply-refused, state-kept}
 
-module _ (f : Floor) (ws : List ℕ) (ok : checkOf f ws ≡ passed) (rest : List ℕ) (room : ℕ)
-    (fills : room ≡ stateSize (f .carriers) + length rest) (s : State) (fits : WithinRanges f s) where
+module _ (f : Floor) (ws : List ℕ) (ok : checkOf f ws ≡ passed) (rest : List ℕ) (numbers : ℕ)
+    (fills : numbers ≡ stateSize (f .carriers) + length rest) (s : State) (fits : WithinRanges f s) where
   -- The reference machine, the needed length of its state, and the memory of the state.
   abbrev M : Machine
   M = machineOf f ws
@@ -47,20 +47,20 @@ module _ (f : Floor) (ws : List ℕ) (ok : checkOf f ws ≡ passed) (rest : List
     Short = (k < f .walls) ⊎ ((f .walls ≤ k) × (l < size))
 
     -- Lent enough walls, the reference machine compares the length of what is lent.
-    lent-whole : f .walls ≤ k → lentLength f room k l ≡ length (take l m)
+    lent-whole : f .walls ≤ k → lentLength f numbers k l ≡ length (take l m)
     unfolding lentLength
     lent-whole h =
         rw (le-leb (f .walls) k h)
         (omega (arith, length-take l m, length-append (encode (f .carriers) s) rest, encode-length (f .carriers) s))
 
     -- Lent too little, it compares a length that is too short, and the program refuses with 9.
-    lent-short : Short → lentLength f room k l < size
+    lent-short : Short → lentLength f numbers k l < size
     unfolding lentLength stateSize
     lent-short (inl h) = rw (lt-leb (f .walls) k h) (omega arith)
     lent-short (inr h) = rw (le-leb (f .walls) k (h .0)) (omega arith)
 
     state-short : Short → stateVerdict f (take k ws) (take l m) ≡ refused 9 0
-    unfolding stateVerdict placeVerdict roomOf
+    unfolding stateVerdict placeVerdict longEnough
     state-short (inl h) = then-refused _ (then-refused _ (check-short f ws ok k h))
     state-short (inr h) =
         then-refused _
@@ -95,7 +95,7 @@ module _ (f : Floor) (ws : List ℕ) (ok : checkOf f ws ≡ passed) (rest : List
       given = call (length (take l m))
 
       abbrev asked : Call
-      asked = call (lentLength f room k l)
+      asked = call (lentLength f numbers k l)
 
       -- The answer and the memory are the reference machine's, lent enough or not.
       abbrev Same : Type 0
@@ -109,7 +109,7 @@ module _ (f : Floor) (ws : List ℕ) (ok : checkOf f ws ≡ passed) (rest : List
       short-same : Short → Same
       unfolding replyTo memoryAfter machineOf
       short-same h =
-          let v = nine (lentLength f room k l) (lent-short h) in
+          let v = nine (lentLength f numbers k l) (lent-short h) in
           rw (state-kept M s asked 9 0 v, reply-refused M s asked 9 0 v)
           (answers-refused _ (state-short h), rw (when-refused _ (state-short h)) (take-append-drop l m))
 
@@ -122,8 +122,8 @@ module _ (f : Floor) (ws : List ℕ) (ok : checkOf f ws ≡ passed) (rest : List
           go (inr a) (inr b) = enough-same a b
 
   -- The answer to a call of the program, and the memory after it.
-  pub lent-same : (c : ProgramCall) → (answerOf f ws m c ≡ reply M s (referenceCall f room c)) ×
-      (leftBy f ws m c ≡ encode (f .carriers) (afterCall M s (referenceCall f room c)) ++ rest)
+  pub lent-same : (c : ProgramCall) → (answerOf f ws m c ≡ reply M s (referenceCall f numbers c)) ×
+      (leftBy f ws m c ≡ encode (f .carriers) (afterCall M s (referenceCall f numbers c)) ++ rest)
   unfolding answerOf leftBy referenceCall singleCall runCall
   lent-same (oneStep k l x) =
       call-same k l (λ lent. single lent (askedBy x)) (λ lent h. theorems .calls .refuses-exactly M s _ 9 0 .1 (short-single h))

@@ -10,7 +10,7 @@ use Rattle.laws.specs.Verdict.{passed}
 use Rattle.laws.specs.Memory.{put}
 use Rattle.laws.proofs.VerdictLaws.{then-passed, demand-passes, when-passed}
 use Rattle.floor.specs.declared.Floor.{Floor}
-use Rattle.floor.specs.Checks.{checkOf, roomOf}
+use Rattle.floor.specs.Checks.{checkOf, longEnough}
 use Rattle.reference.specs.State.{Machine, State, fresh}
 use Rattle.reference.specs.Table.{Call}
 use Rattle.reference.specs.Calls.{reply, afterCall, replies, after}
@@ -34,25 +34,25 @@ unfolding replies after repliesCount
 count-join M s [] ds = sym (zero-add (repliesCount (replies M s ds)))
 count-join M s (c ∷ cs) ds = omega (arith, count-join M (afterCall M s c) cs ds)
 
-module _ (f : Floor) (ws : List ℕ) (ok : checkOf f ws ≡ passed) (rest : List ℕ) (room : ℕ)
-    (fills : room ≡ stateSize (f .carriers) + length rest) where
+module _ (f : Floor) (ws : List ℕ) (ok : checkOf f ws ≡ passed) (rest : List ℕ) (numbers : ℕ)
+    (fills : numbers ≡ stateSize (f .carriers) + length rest) where
   -- The reference machine of the floor.
   abbrev M : Machine
   M = machineOf f ws
 
   -- The program's list of calls from the memory of a state, and the reference machine's from the state.
   pub record ListSame (s : State) (cs : List ProgramCall) : Type 0 where
-    pub answers : answersOf f ws (encode (f .carriers) s ++ rest) cs ≡ replies M s (referenceCalls f room cs)
-    pub memory : memoryOf f ws (encode (f .carriers) s ++ rest) cs ≡ encode (f .carriers) (after M s (referenceCalls f room cs)) ++ rest
-    pub within-ranges : WithinRanges f (after M s (referenceCalls f room cs))
+    pub answers : answersOf f ws (encode (f .carriers) s ++ rest) cs ≡ replies M s (referenceCalls f numbers cs)
+    pub memory : memoryOf f ws (encode (f .carriers) s ++ rest) cs ≡ encode (f .carriers) (after M s (referenceCalls f numbers cs)) ++ rest
+    pub within-ranges : WithinRanges f (after M s (referenceCalls f numbers cs))
 
   -- The first call by what is lent to it, the others from the state that it leaves.
   pub list-same : (s : State) → WithinRanges f s → (cs : List ProgramCall) → ListSame s cs
   unfolding answersOf memoryOf referenceCalls replies after
   list-same s fits [] = record { answers = refl; memory = refl; within-ranges = fits }
   list-same s fits (c ∷ cs) =
-      let first = lent-same f ws ok rest room fills s fits c in
-      let others = list-same (afterCall M s (referenceCall f room c)) (call-fits f ws ok s fits (referenceCall f room c)) cs in
+      let first = lent-same f ws ok rest numbers fills s fits c in
+      let others = list-same (afterCall M s (referenceCall f numbers c)) (call-fits f ws ok s fits (referenceCall f numbers c)) cs in
       record {
         answers = cc (first .0, first .1, others .answers);
         memory = cc (first .1, others .memory);
@@ -62,29 +62,29 @@ module _ (f : Floor) (ws : List ℕ) (ok : checkOf f ws ≡ passed) (rest : List
 -- From the fresh state in a memory that is long enough.
 module _ (f : Floor) (ws m : List ℕ) (ok : checkOf f ws ≡ passed) (long : stateSize (f .carriers) ≤ length m) where
   -- The memory behind the state.
-  abbrev behind : List ℕ
-  behind = drop (stateSize (f .carriers)) m
+  abbrev beyondState : List ℕ
+  beyondState = drop (stateSize (f .carriers)) m
 
-  room-filled : length m ≡ stateSize (f .carriers) + length behind
-  room-filled = omega (arith, length-drop (stateSize (f .carriers)) m)
+  memory-filled : length m ≡ stateSize (f .carriers) + length beyondState
+  memory-filled = omega (arith, length-drop (stateSize (f .carriers)) m)
 
   -- The fresh memory is that of the fresh state.
-  fresh-same : freshMemory f ws m ≡ encode (f .carriers) fresh ++ behind
-  unfolding freshMemory placeVerdict roomOf put
+  fresh-same : freshMemory f ws m ≡ encode (f .carriers) fresh ++ beyondState
+  unfolding freshMemory placeVerdict longEnough put
   fresh-same =
       when-passed m (then-passed ok ∙ demand-passes 9 0 (le-leb (stateSize (f .carriers)) (length m) long))
       ∙ rw (encode-length (f .carriers) fresh, zero-add) refl
 
   module _ (cs : List ProgramCall) where
-    from-fresh : ListSame f ws ok behind (length m) room-filled fresh cs
-    from-fresh = list-same f ws ok behind (length m) room-filled fresh (fresh-fits f) cs
+    from-fresh : ListSame f ws ok beyondState (length m) memory-filled fresh cs
+    from-fresh = list-same f ws ok beyondState (length m) memory-filled fresh (fresh-fits f) cs
 
     -- The answers, the memory, and the ranges after a list of calls.
     pub answers-same : programReplies f ws m cs ≡ referenceReplies f ws (length m) cs
     unfolding programReplies referenceReplies
     answers-same = rw fresh-same (from-fresh .answers)
 
-    pub memory-same : programMemory f ws m cs ≡ encode (f .carriers) (referenceAfter f ws (length m) cs) ++ behind
+    pub memory-same : programMemory f ws m cs ≡ encode (f .carriers) (referenceAfter f ws (length m) cs) ++ beyondState
     unfolding programMemory referenceAfter
     memory-same = rw fresh-same (from-fresh .memory)
 
@@ -95,7 +95,8 @@ module _ (f : Floor) (ws m : List ℕ) (ok : checkOf f ws ≡ passed) (long : st
     -- The answer to one more call.
     pub next-answer : (c : ProgramCall) → answerOf f ws (programMemory f ws m cs) c ≡
         reply (machineOf f ws) (referenceAfter f ws (length m) cs) (referenceCall f (length m) c)
-    next-answer c = rw memory-same (lent-same f ws ok behind (length m) room-filled (referenceAfter f ws (length m) cs) after-fits c .0)
+    next-answer c =
+        rw memory-same (lent-same f ws ok beyondState (length m) memory-filled (referenceAfter f ws (length m) cs) after-fits c .0)
 
     -- The state after more calls, and the steps that the longer list takes.
     pub more-state : (ds : List ProgramCall) → referenceAfter f ws (length m) (cs ++ ds) ≡

@@ -9,7 +9,7 @@ use Rattle.laws.specs.Memory.{put}
 use Rattle.laws.specs.Verdict.{passed}
 use Rattle.laws.proofs.VerdictLaws.{then-passed, demand-passes, when-passed}
 use Rattle.floor.specs.declared.Floor.{Floor}
-use Rattle.floor.specs.Checks.{checkOf, roomOf, startOf}
+use Rattle.floor.specs.Checks.{checkOf, longEnough, startOf}
 use Rattle.floor.proofs.LimitsLaws.{check-tells}
 use Rattle.route.specs.Route.{cellAt, Answer, none, route, View, unheard, heard}
 use Rattle.records.specs.Records.{records}
@@ -79,9 +79,9 @@ module _ (f : Floor) (ws : List ℕ) (ok : checkOf f ws ≡ passed) where
       )
 
   -- With memory for its answers a plan is made.
-  pub granted : (room : ℕ) → 65 * f .carriers ≤ room → planVerdict f ws room ≡ passed
-  unfolding planVerdict roomOf
-  granted room l = then-passed ok ∙ demand-passes 9 0 (le-leb _ _ l)
+  pub granted : (lent : ℕ) → 65 * f .carriers ≤ lent → planVerdict f ws lent ≡ passed
+  unfolding planVerdict longEnough
+  granted lent l = then-passed ok ∙ demand-passes 9 0 (le-leb _ _ l)
 
   -- The memory of the plan shows its answers.
   pub stored-heard : (old : List ℕ) → 65 * f .carriers ≤ length old → records (planMemory f ws old) (f .carriers) ≡ map heard (planOf f ws)

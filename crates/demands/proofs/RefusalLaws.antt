@@ -10,32 +10,32 @@ use Rattle.reference.specs.State.{Machine, State}
 use Rattle.reference.specs.Ending.{ended}
 use Rattle.reference.specs.Table.{step, noStep, Call, single, runOf, lentEnough, openSingle, verdict}
 use Rattle.reference.specs.Refused.{not-due, nothing-under-way, channel-full}
-use Rattle.reference.specs.Refused.{RefusedWith, short-single, short-run, unnamed-single, unnamed-run, waiting}
-use Rattle.reference.specs.Calls.{Told, ran, Reply, reply, afterCall, replies}
+use Rattle.reference.specs.Refused.{RefusedCall, short-single, short-run, unnamed-single, unnamed-run, waiting}
+use Rattle.reference.specs.Calls.{CallAnswer, ran, Reply, reply, afterCall, replies}
 use Rattle.reference.proofs.Theorems.{theorems}
 use Rattle.demands.specs.Rows.{Answers}
 use Rattle.demands.proofs.RowLaws.{gives-rows}
 
 -- A value that is given has passed the checks, a refusal is theirs.
-gives-value : (v : Verdict) (a b : Told) → _≡_ {A = Reply} (v gives a) (value b) → v ≡ passed
+gives-value : (v : Verdict) (a b : CallAnswer) → _≡_ {A = Reply} (v gives a) (value b) → v ≡ passed
 unfolding _gives_
 gives-value passed a b e = refl
 gives-value (refused k p) a b e = absurd (let z : _≡_ {A = ℕ} 0 1 = cc in omega arith)
 
-gives-refusal : (v : Verdict) (a : Told) (k p : ℕ) → _≡_ {A = Reply} (v gives a) (refusal k p) → v ≡ refused k p
+gives-refusal : (v : Verdict) (a : CallAnswer) (k p : ℕ) → _≡_ {A = Reply} (v gives a) (refusal k p) → v ≡ refused k p
 unfolding _gives_
 gives-refusal passed a k p e = absurd (let z : _≡_ {A = ℕ} 0 1 = cc in omega arith)
 gives-refusal (refused i q) a k p e = let i-k : i ≡ k = cc in let q-p : q ≡ p = cc in rw (i-k, q-p)
 
 -- A refusal after the checks is one more check that refuses.
-answers-gives : (v : Verdict) (k p : ℕ) (a : Told) → _≡_ {A = Reply} (v thenAnswers refusal k p) ((v then refused k p) gives a)
+answers-gives : (v : Verdict) (k p : ℕ) (a : CallAnswer) → _≡_ {A = Reply} (v thenAnswers refusal k p) ((v then refused k p) gives a)
 unfolding _gives_ _then_ _thenAnswers_
 answers-gives passed k p a = refl
 answers-gives (refused i q) k p a = refl
 
 module _ (M : Machine) (s : State) where
   -- The answer to a call is given by its verdict.
-  reply-gives : (c : Call) → (a : Told) × (reply M s c ≡ (verdict M s c gives a))
+  reply-gives : (c : Call) → (a : CallAnswer) × (reply M s c ≡ (verdict M s c gives a))
   unfolding reply verdict openSingle
   reply-gives (single lent (step x)) = (_, refl)
   reply-gives (single lent noStep) = (ran 0 ended, answers-gives (lentEnough M lent) 7 0 (ran 0 ended))
@@ -45,11 +45,11 @@ module _ (M : Machine) (s : State) where
   pub reply-refused : (c : Call) (k p : ℕ) → verdict M s c ≡ refused k p → reply M s c ≡ refusal k p
   reply-refused c k p e = let g = reply-gives c in g .1 ∙ gives-refused (g .0) e
 
-  pub reply-value : (c : Call) (told : Told) → reply M s c ≡ value told → verdict M s c ≡ passed
+  pub reply-value : (c : Call) (told : CallAnswer) → reply M s c ≡ value told → verdict M s c ≡ passed
   reply-value c told e = let g = reply-gives c in gives-value (verdict M s c) (g .0) told (sym (g .1) ∙ e)
 
   -- The answer to a call is refused exactly under the rows of the table.
-  pub reply-rows : (c : Call) → Answers (reply M s c) (RefusedWith M s c)
+  pub reply-rows : (c : Call) → Answers (reply M s c) (RefusedCall M s c)
   reply-rows c =
       let g = reply-gives c in
       rw (g .1) (gives-rows (verdict M s c) (g .0) (theorems .calls .refuses-exactly M s c))
@@ -59,7 +59,7 @@ module _ (M : Machine) (s : State) where
   state-kept c k p e = when-refused _ e
 
   -- No row of the table has the number 10.
-  no-row-ten : {c : Call} {k p : ℕ} → RefusedWith M s c k p → k ≡ 10 → ⊥
+  no-row-ten : {c : Call} {k p : ℕ} → RefusedCall M s c k p → k ≡ 10 → ⊥
   no-row-ten (short-single h) e = omega arith
   no-row-ten (short-run h) e = omega arith
   no-row-ten (unnamed-single h q) e = omega arith

@@ -9,7 +9,7 @@ use borrow.Author.Tests.{le-leb}
 use Rattle.laws.specs.Verdict.{passed, All, whenPassed}
 use Rattle.laws.proofs.VerdictLaws.{then-passed, then-both, demand-passes, when-passed}
 use Rattle.floor.specs.declared.Floor.{Floor}
-use Rattle.floor.specs.Checks.{checkOf, roomOf}
+use Rattle.floor.specs.Checks.{checkOf, longEnough}
 use Rattle.floor.specs.Accepted.{SameFloor}
 use Rattle.floor.proofs.SameLaws.{walls-agree, check-same}
 use Rattle.sheet.specs.Text.{sheetOf, sheetLength}
@@ -20,9 +20,9 @@ use Rattle.sheet.proofs.Theorems.{theorems as sheet-theorems}
 use Rattle.demands.proofs.SameSheetLaws.{sheet-same}
 
 -- A check and then enough memory.
-pub roomy : (needed lent : ℕ) → needed ≤ lent → roomOf needed lent ≡ passed
-unfolding roomOf
-roomy needed lent l = demand-passes 9 0 (le-leb needed lent l)
+pub length-passes : (needed lent : ℕ) → needed ≤ lent → longEnough needed lent ≡ passed
+unfolding longEnough
+length-passes needed lent l = demand-passes 9 0 (le-leb needed lent l)
 
 -- Two records of one floor with other walls, which agree with theirs up to the count; walls behind the count are no part of it.
 pub other-walls : (f : Floor) (ws : List ℕ) (g : Floor) (vs us ts : List ℕ) → SameFloor f ws g vs
@@ -48,7 +48,7 @@ walls-behind vs rest n l j h = List·getD-append vs rest 0 j (omega arith)
 pub written : (f : Floor) (ws old : List ℕ) → checkOf f ws ≡ passed → sheetLength f ≤ length old
     → writeSheet f ws old ≡ sheetOf f ws ++ drop (sheetLength f) old
 unfolding writeSheet writeVerdict
-written f ws old ok l = when-passed old (then-passed ok ∙ roomy _ _ l)
+written f ws old ok l = when-passed old (then-passed ok ∙ length-passes _ _ l)
 
 pub floor-returns : (f : Floor) (ws old lent : List ℕ) → checkOf f ws ≡ passed → sheetLength f ≤ length old → f .walls ≤ length lent
     → SameFloor f ws (readFloor (take (sheetLength f) (writeSheet f ws old)) (length lent))
@@ -61,7 +61,7 @@ floor-returns f ws old lent ok l w =
     ap (take (sheetLength f)) (written f ws old ok l) ∙ take-at text (drop (sheetLength f) old) (sheetLength f) (sheet-theorems .sheet-length f ws)
     in
     let read : readVerdict text (length lent) ≡ passed =
-    then-passed (sheet-theorems .has-sheet f ws ok) ∙ roomy _ _ (omega (arith, same .walls))
+    then-passed (sheet-theorems .has-sheet f ws ok) ∙ length-passes _ _ (omega (arith, same .walls))
     in
     rw (front, read)
     (other-walls f ws (floorAt text) (wallsAt text) ws _ same (λ j h. refl)

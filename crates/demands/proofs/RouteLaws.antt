@@ -3,7 +3,7 @@ use Prim.Native.Nat.{ℕ}
 use mathlib.Core.List.{List}
 use lib.ListN.{length}
 use Rattle.floor.specs.declared.Floor.{Floor}
-use Rattle.floor.specs.Checks.{checkOf, roomOf}
+use Rattle.floor.specs.Checks.{checkOf, longEnough}
 use Rattle.conflict.specs.Entry.{routesLent, conflictOutcome}
 use Rattle.legality.specs.Entry.{recordVerdict, recordOutcome, arrivalOutcome}
 use Rattle.lengths.specs.Figures.{lengthsOf}
@@ -15,7 +15,7 @@ use Rattle.demands.proofs.EntryLaws.{floor-rows, outside-row}
 pub conflict : (f : Floor) (a b : List ℕ) (horizon : ℕ) → Answers (conflictOutcome a b horizon) (ConflictRows f (length a) (length b))
 unfolding conflictOutcome routesLent lengthsOf
 conflict f a b horizon =
-    gives-rows (routesLent a b) _ (then-rows (roomOf 64 (length a)) _ (short-row 64 (length a)) (λ e. short-row 64 (length b)))
+    gives-rows (routesLent a b) _ (then-rows (longEnough 64 (length a)) _ (short-row 64 (length a)) (λ e. short-row 64 (length b)))
 
 pub check-record : (f : Floor) (ws : List ℕ) (carrier : ℕ) (m : List ℕ) →
     Answers (recordOutcome f ws carrier m) (RecordRows f ws carrier (length m))
@@ -23,8 +23,8 @@ unfolding recordOutcome recordVerdict lengthsOf
 check-record f ws carrier m =
     gives-rows (recordVerdict f ws carrier (length m)) _
     (then-rows (checkOf f ws) _ (floor-rows f ws)
-    (λ e. then-rows (roomOf 65 (length m)) _ (short-row 65 (length m)) (λ h. outside-row 1 (f .carriers) carrier 7 0)))
+    (λ e. then-rows (longEnough 65 (length m)) _ (short-row 65 (length m)) (λ h. outside-row 1 (f .carriers) carrier 7 0)))
 
 pub arrival : (f : Floor) (r : List ℕ) (horizon : ℕ) → Answers (arrivalOutcome r horizon) (ArrivalRows f (length r))
 unfolding arrivalOutcome lengthsOf
-arrival f r horizon = gives-rows (roomOf 64 (length r)) _ (short-row 64 (length r))
+arrival f r horizon = gives-rows (longEnough 64 (length r)) _ (short-row 64 (length r))

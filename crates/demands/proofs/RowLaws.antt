@@ -9,7 +9,7 @@ use lib.ListN.{length, drop}
 use borrow.Author.Tests.{leb-false, lt-leb}
 use Rattle.laws.specs.Verdict.{Verdict, passed, refused, _then_, demand, Outcome, value, refusal, _gives_, _thenAnswers_, whenPassed}
 use Rattle.laws.proofs.VerdictLaws.{refused-by, refused-not-passed, refused-same, demand-cases, demand-refuses, then-passed, then-refused}
-use Rattle.floor.specs.Checks.{roomOf}
+use Rattle.floor.specs.Checks.{longEnough}
 use Rattle.demands.specs.Rows.{Table, Row, row, Short, _orElse_, earlier, later, Refuses, Answers, Keeps}
 
 -- A value is no refusal.
@@ -74,8 +74,8 @@ demand-row {W} b n q h k p = (λ e. let c = demand-cases b n q k p e in rw (c .1
     back : (k p : ℕ) → Row n q W k p → demand b n q ≡ refused k p
     back k p (row w) = demand-refuses n q (h .1 w)
 
-pub short-row : (needed lent : ℕ) → Refuses (roomOf needed lent) (Short lent needed)
-unfolding roomOf
+pub short-row : (needed lent : ℕ) → Refuses (longEnough needed lent) (Short lent needed)
+unfolding longEnough
 short-row needed lent = demand-row _ 9 0 (leb-false _ _, lt-leb _ _)
 
 -- A refusal is a table of one row that always holds.

@@ -10,20 +10,20 @@ use Rattle.laws.specs.Memory.{put}
 use Rattle.laws.specs.Verdict.{passed}
 use Rattle.laws.proofs.VerdictLaws.{then-passed, demand-passes, gives-passed, when-passed}
 use Rattle.floor.specs.declared.Floor.{Floor}
-use Rattle.floor.specs.Checks.{checkOf, roomOf}
+use Rattle.floor.specs.Checks.{checkOf, longEnough}
 use Rattle.lengths.specs.Figures.{lengthsOf}
 use Rattle.encoding.specs.Calls.{machineOf}
 use Rattle.listing.proofs.Theorems.{theorems as listing-theorems}
-use Rattle.lister.specs.Entry.{totalOf, runOf, smallVerdict, rankVerdict, rankOutcome, runNumbers, reportListed}
+use Rattle.lister.specs.Entry.{totalOf, runOfRank, smallVerdict, rankVerdict, rankOutcome, runNumbers, reportListed}
 use Rattle.lister.proofs.Theorems.{theorems as lister-theorems}
 use Rattle.demands.specs.Runs.{TellsRun, Runs}
 
 tells : (f : Floor) (ws : List ℕ) (rank : ℕ) (r : List ℕ) → checkOf f ws ≡ passed → f .carriers ≤ 3 → rank < totalOf f ws →
     lengthsOf f .report ≤ length r → TellsRun f ws rank r
-unfolding lengthsOf rankVerdict smallVerdict roomOf rankOutcome reportListed put
-tells f ws rank r ok few l room =
+unfolding lengthsOf rankVerdict smallVerdict longEnough rankOutcome reportListed put
+tells f ws rank r ok few l lent =
     let passes : rankVerdict f ws rank (length r) ≡ passed =
-    then-passed (then-passed ok ∙ then-passed (demand-passes 9 0 (le-leb _ _ room)) ∙ demand-passes 14 0 (le-leb _ _ few))
+    then-passed (then-passed ok ∙ then-passed (demand-passes 9 0 (le-leb _ _ lent)) ∙ demand-passes 14 0 (le-leb _ _ few))
     ∙ demand-passes 15 0 (lt-ltb _ _ l) in
     record {
       figures = gives-passed passes;
@@ -31,7 +31,7 @@ tells f ws rank r ok few l room =
     }
 
 pub theorem : Runs
-unfolding totalOf runOf machineOf
+unfolding totalOf runOfRank machineOf
 theorem =
     record {
       complete-exactly = λ f ws xs. listing-theorems .complete-exactly (machineOf f ws) xs;

@@ -11,7 +11,7 @@ use Rattle.floor.specs.declared.Floor.{Floor}
 use Rattle.route.specs.Route.{Answer, View, heard}
 use Rattle.planner.specs.Plan.{respondOf, planOf}
 use Rattle.planner.proofs.Theorems.{theorems as planner-theorems}
-use Rattle.blockers.specs.Blockers.{leftAfter, setOf, above, blockersOf}
+use Rattle.blockers.specs.Blockers.{leftAfter, setOf, answersAbove, blockersOf}
 use Rattle.blockers.specs.Entry.{blockersVerdict}
 use Rattle.blockers.proofs.EntryLaws.{carrier-granted}
 use Rattle.blockers.proofs.SameLaws.{left-same}
@@ -20,7 +20,7 @@ module _ (f : Floor) (ws : List ℕ) (g : Floor) (vs : List ℕ) (plans : planOf
     (responses : (i : ℕ) (views : List View) → i < f .carriers → length views ≡ i → respondOf f ws i views ≡ respondOf g vs i views) where
   -- Of a carrier that is there.
   sets : (i : ℕ) → i < f .carriers → blockersOf f ws i ≡ blockersOf g vs i
-  unfolding blockersOf above
+  unfolding blockersOf answersAbove
   sets i l =
       let xs = take i (planOf f ws) in
       let count : length (map heard xs) ≡ i =
@@ -29,9 +29,9 @@ module _ (f : Floor) (ws : List ℕ) (g : Floor) (vs : List ℕ) (plans : planOf
       ∙ ap (λ (ys : List Answer). setOf (leftAfter (respondOf g vs i) i (map heard (take i ys)))) plans
 
   -- Where the entry does not refuse, the carrier is there.
-  pub set-same : (carrier room : ℕ) → blockersVerdict f ws carrier room ≡ passed →
+  pub set-same : (carrier lent : ℕ) → blockersVerdict f ws carrier lent ≡ passed →
       blockersOf f ws (carrier - 1) ≡ blockersOf g vs (carrier - 1)
   unfolding blockersVerdict
-  set-same carrier room e =
-      let listed = carrier-granted f ws carrier room (then-both _ _ e .0) .listed in
+  set-same carrier lent e =
+      let listed = carrier-granted f ws carrier lent (then-both _ _ e .0) .listed in
       sets (carrier - 1) (omega (arith, listed))

@@ -34,9 +34,9 @@ use Rattle.encoding.specs.Valid.{recordValid, carrierValid, placeValid, channel
 use Rattle.encoding.specs.Calls.{machineOf, placeVerdict, stateVerdict, stateIn, freshMemory, replyTo, memoryAfter}
 use Rattle.trial.specs.Entry.{orderBy, trialVerdict, trialOf, trialOutcome, stateTried, reportTried}
 use Rattle.demands.specs.Demand2.{SameOutcomes}
-use Rattle.trial.specs.Report.{numbersOf}
+use Rattle.trial.specs.Report.{reportNumbers}
 use Rattle.listing.specs.Runs.{Run, runsOf, total, runAt}
-use Rattle.lister.specs.Entry.{totalOf, runOf, runNumbers, smallVerdict, rankVerdict, rankOutcome, reportListed}
+use Rattle.lister.specs.Entry.{totalOf, runOfRank, runNumbers, smallVerdict, rankVerdict, rankOutcome, reportListed}
 use Rattle.blockers.specs.Blockers.{blockersOf}
 use Rattle.blockers.specs.Entry.{carrierVerdict, blockersVerdict, blockersOutcome, blockersMemory}
 use Rattle.demands.proofs.SameBlockerLaws.{set-same}
@@ -99,32 +99,32 @@ module _ (f : Floor) (ws : List ℕ) (g : Floor) (vs : List ℕ) (same : SameDoc
     unfolding figuresFor limitsOf lengthsOf textLength
     lengths = rw (length-same, same .width, same .height, same .horizon, same .depth, same .carriers, same .walls)
 
-    pub write : (room : ℕ) → writeVerdict f ws room ≡ writeVerdict g vs room
+    pub write : (lent : ℕ) → writeVerdict f ws lent ≡ writeVerdict g vs lent
     unfolding writeVerdict
-    write room = rw (checks, length-same)
+    write lent = rw (checks, length-same)
 
     search : (i : ℕ) (m : List ℕ) → searchOf f ws i m ≡ searchOf g vs i m
     search i m = searches-agree f ws g vs agrees (same .carriers) checks i m
 
-    plan-verdict : (room : ℕ) → planVerdict f ws room ≡ planVerdict g vs room
+    plan-verdict : (lent : ℕ) → planVerdict f ws lent ≡ planVerdict g vs lent
     unfolding planVerdict
-    plan-verdict room = rw (checks, same .carriers)
+    plan-verdict lent = rw (checks, same .carriers)
 
-    plan : (room : ℕ) → planResult f ws room ≡ planResult g vs room
+    plan : (lent : ℕ) → planResult f ws lent ≡ planResult g vs lent
     unfolding planResult
-    plan room = rw (plan-verdict room, plans)
+    plan lent = rw (plan-verdict lent, plans)
 
     answers : (old : List ℕ) → planMemory f ws old ≡ planMemory g vs old
     unfolding planMemory
     answers old = rw (plan-verdict (length old), plans)
 
-    print-verdict : (room bytes : ℕ) → printVerdict f ws room bytes ≡ printVerdict g vs room bytes
+    print-verdict : (lent bytes : ℕ) → printVerdict f ws lent bytes ≡ printVerdict g vs lent bytes
     unfolding printVerdict textLength
-    print-verdict room bytes = rw (plan-verdict room, same .carriers)
+    print-verdict lent bytes = rw (plan-verdict lent, same .carriers)
 
-    place : (room : ℕ) → placeVerdict f ws room ≡ placeVerdict g vs room
+    place : (lent : ℕ) → placeVerdict f ws lent ≡ placeVerdict g vs lent
     unfolding placeVerdict
-    place room = rw (checks, same .carriers)
+    place lent = rw (checks, same .carriers)
 
     states : (m : List ℕ) → stateVerdict f ws m ≡ stateVerdict g vs m
     unfolding stateVerdict valid carrierValid pairValid channelValid placeValid recordValid
@@ -184,14 +184,14 @@ module _ (f : Floor) (ws : List ℕ) (g : Floor) (vs : List ℕ) (same : SameDoc
     unfolding totalOf total
     totals = ap length all-runs
 
-    listed : (rank : ℕ) → runOf f ws rank ≡ runOf g vs rank
-    unfolding runOf runAt
+    listed : (rank : ℕ) → runOfRank f ws rank ≡ runOfRank g vs rank
+    unfolding runOfRank runAt
     listed rank = ap (λ (rs : List Run). getD rs rank []) all-runs
 
     run-numbers : (rank : ℕ) → runNumbers f ws rank ≡ runNumbers g vs rank
-    unfolding runNumbers runOf machineOf
+    unfolding runNumbers runOfRank machineOf
     run-numbers rank =
-        ap numbersOf
+        ap reportNumbers
         (reports-same (f .carriers) (f .depth) (stateSize (f .carriers)) (respondOf f ws) (respondOf g vs) responses rank
         ∙ rw (same .carriers, same .depth) refl)
 
@@ -207,20 +207,20 @@ module _ (f : Floor) (ws : List ℕ) (g : Floor) (vs : List ℕ) (same : SameDoc
     unfolding reportListed
     run-report rank old = rw (rank-verdict rank (length old), run-numbers rank)
 
-    blockers-verdict : (carrier room : ℕ) → blockersVerdict f ws carrier room ≡ blockersVerdict g vs carrier room
+    blockers-verdict : (carrier lent : ℕ) → blockersVerdict f ws carrier lent ≡ blockersVerdict g vs carrier lent
     unfolding blockersVerdict carrierVerdict
-    blockers-verdict carrier room = rw (plan-verdict room, plans, same .carriers)
+    blockers-verdict carrier lent = rw (plan-verdict lent, plans, same .carriers)
 
-    blockers : (carrier room : ℕ) → blockersOutcome f ws carrier room ≡ blockersOutcome g vs carrier room
+    blockers : (carrier lent : ℕ) → blockersOutcome f ws carrier lent ≡ blockersOutcome g vs carrier lent
     unfolding blockersOutcome
-    blockers carrier room =
-        gives-same (blockersVerdict f ws carrier room) _ _ (set-same f ws g vs plans responses carrier room)
-        ∙ ap (λ (v : Verdict). v gives blockersOf g vs (carrier - 1)) (blockers-verdict carrier room)
+    blockers carrier lent =
+        gives-same (blockersVerdict f ws carrier lent) _ _ (set-same f ws g vs plans responses carrier lent)
+        ∙ ap (λ (v : Verdict). v gives blockersOf g vs (carrier - 1)) (blockers-verdict carrier lent)
 
     -- A record that is checked is one of a carrier that is there.
-    record-task : (carrier room : ℕ) → recordVerdict f ws carrier room ≡ passed → taskOf f ws carrier ≡ taskOf g vs carrier
-    record-task carrier room e =
-        let listed = verdict-granted f ws carrier room e .listed in
+    record-task : (carrier lent : ℕ) → recordVerdict f ws carrier lent ≡ passed → taskOf f ws carrier ≡ taskOf g vs carrier
+    record-task carrier lent e =
+        let listed = verdict-granted f ws carrier lent e .listed in
         let one : carrier - 1 + 1 ≡ carrier = omega (arith, listed .0) in
         rw one at (task-same (f .carriers) f ws g vs agrees (carrier - 1) (omega (arith, listed .0, listed .1)))
 
@@ -241,9 +241,9 @@ module _ (f : Floor) (ws : List ℕ) (g : Floor) (vs : List ℕ) (same : SameDoc
           search = search;
           plan = plan;
           answers = answers;
-          print = λ room bytes. rw (print-verdict room bytes, texts);
+          print = λ lent bytes. rw (print-verdict lent bytes, texts);
           printed-answers = λ bytes old. rw (print-verdict (length old) bytes, plans);
-          text = λ room old. rw (print-verdict room (length old), texts);
+          text = λ lent old. rw (print-verdict lent (length old), texts);
           fresh = place;
           fresh-memory = λ old. rw (place (length old), same .carriers);
           call = call;

@@ -8,9 +8,9 @@ use lib.Seq.{take-at, getD-take}
 use Rattle.laws.specs.Verdict.{passed, whenPassed}
 use Rattle.laws.proofs.VerdictLaws.{then-passed, then-both}
 use Rattle.floor.specs.declared.Floor.{Floor}
-use Rattle.floor.specs.Checks.{checkOf, startOf, countOf, docksOf, dockOf, roomOf}
+use Rattle.floor.specs.Checks.{checkOf, startOf, countOf, docksOf, dockOf, longEnough}
 use Rattle.floor.specs.Accepted.{SameFloor}
-use Rattle.floor.proofs.LimitsLaws.{room-passed}
+use Rattle.floor.proofs.LimitsLaws.{length-passed}
 use Rattle.route.specs.Route.{Answer, none, route}
 use Rattle.fields.specs.Field.{fieldOf}
 use Rattle.sheet.specs.Text.{lineOf, linesOf, headLine, carrierLine, wallLines, sheetOf, sheetLength, wallAt, carrierAt}
@@ -29,7 +29,7 @@ use Rattle.printing.specs.Print.{printOf, routesOf}
 use Rattle.printing.proofs.Theorems.{theorems as printing-theorems}
 use Rattle.demands.specs.Shorter.{dropLast, withoutLast, LastLineGone, Shortened, ShortenedSheet}
 use Rattle.demands.proofs.SameFloorLaws.{columns-same}
-use Rattle.demands.proofs.RoundTripLaws.{roomy, written, other-walls, walls-behind}
+use Rattle.demands.proofs.RoundTripLaws.{length-passes, written, other-walls, walls-behind}
 use Rattle.demands.proofs.ShorterLaws.{lines-last, field-changed, drop-accepted, drop-answers, drop-failing}
 
 -- Line 1: the four fields before the count, the count, and the rest.
@@ -155,7 +155,7 @@ module _ (text lent : List ℕ) (read : readVerdict text (length lent) ≡ passe
   short = withoutLast (f .carriers) text
 
   -- The sheet is accepted and its walls have room; it is the sheet of its floor, and the shorter one that of the floor without the last carrier.
-  good : (sheetVerdict text ≡ passed) × (roomOf (f .walls) (length lent) ≡ passed)
+  good : (sheetVerdict text ≡ passed) × (longEnough (f .walls) (length lent) ≡ passed)
   unfolding readVerdict
   good = then-both _ _ read
 
@@ -177,7 +177,7 @@ module _ (text lent : List ℕ) (read : readVerdict text (length lent) ≡ passe
 
   short-read : readVerdict short (length lent) ≡ passed
   unfolding readVerdict
-  short-read = then-passed short-good ∙ roomy _ _ (omega (arith, same-walls, room-passed (f .walls) (length lent) (good .1)))
+  short-read = then-passed short-good ∙ length-passes _ _ (omega (arith, same-walls, length-passed (f .walls) (length lent) (good .1)))
 
   reads-shorter : SameFloor (dropLast (readFloor text (length lent))) (readWalls text lent) (readFloor short (length lent)) (readWalls short lent)
   unfolding readFloor readWalls whenPassed dropLast

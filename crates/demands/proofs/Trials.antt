@@ -10,7 +10,7 @@ use Rattle.laws.specs.Memory.{put}
 use Rattle.laws.specs.Verdict.{passed}
 use Rattle.laws.proofs.VerdictLaws.{then-passed, demand-passes, gives-passed, when-passed}
 use Rattle.floor.specs.declared.Floor.{Floor}
-use Rattle.floor.specs.Checks.{checkOf, roomOf, within}
+use Rattle.floor.specs.Checks.{checkOf, longEnough, within}
 use Rattle.floor.specs.Accepted.{Within}
 use Rattle.floor.proofs.LimitsLaws.{check-tells, within-means}
 use Rattle.planner.specs.Plan.{planOf}
@@ -27,11 +27,11 @@ use Rattle.orders.specs.Orders.{round}
 use Rattle.orders.specs.Trial.{Entry, trial}
 use Rattle.orders.specs.Claims.{callsOf}
 use Rattle.orders.proofs.Theorems.{theorems as orders-theorems}
-use Rattle.trial.specs.Report.{numbersOf}
+use Rattle.trial.specs.Report.{reportNumbers}
 use Rattle.trial.specs.Entry.{orderBy, trialVerdict, trialOf, trialOutcome, stateTried, reportTried}
 use Rattle.trial.proofs.ReportLaws.{numbers-length}
 use Rattle.trial.proofs.EntryLaws.{front-is}
-use Rattle.demands.specs.Trials.{Tries, Tells, Trials}
+use Rattle.demands.specs.Trials.{Tries, TrialTells, Trials}
 
 -- Calls keep a state within the ranges, and a trial is a list of calls from fresh.
 calls-fit : (f : Floor) (ws : List ℕ) → checkOf f ws ≡ passed → (s : State) → WithinRanges f s → (cs : List Call)
@@ -63,13 +63,13 @@ tries f ws order seed ok =
     }
 
 -- The lines of a report in the front of a memory.
-front-lines : (r : List ℕ) (es : List Entry) → put r 0 (numbersOf es) ≡ numbersOf es ++ drop (2 * length es) r
+front-lines : (r : List ℕ) (es : List Entry) → put r 0 (reportNumbers es) ≡ reportNumbers es ++ drop (2 * length es) r
 unfolding put
 front-lines r es = rw (numbers-length es, zero-add)
 
 tells : (f : Floor) (ws : List ℕ) (order seed : ℕ) (m r : List ℕ) → checkOf f ws ≡ passed → lengthsOf f .state ≤ length m
-    → lengthsOf f .report ≤ length r → Within 1 3 order → Tells f ws order seed m r
-unfolding lengthsOf trialVerdict placeVerdict roomOf trialOutcome stateTried reportTried
+    → lengthsOf f .report ≤ length r → Within 1 3 order → TrialTells f ws order seed m r
+unfolding lengthsOf trialVerdict placeVerdict longEnough trialOutcome stateTried reportTried
 tells f ws order seed m r ok lm lr w =
     let passes : trialVerdict f ws order (length m) (length r) ≡ passed =
     then-passed (then-passed ok ∙ demand-passes 9 0 (le-leb _ _ lm))

@@ -48,7 +48,7 @@ module _ (f : Floor) (ws : List ℕ) (s : State) (k l : ℕ) where
       pub memory : memoryOf f ws m (oneStep k l x ∷ oneStep k l y ∷ []) ≡ memoryOf f ws m (oneStep k l y ∷ oneStep k l x ∷ [])
       pub answers : answersOf f ws m (oneStep k l x ∷ oneStep k l y ∷ []) ≡
           value (stepped (stepAnswer M s p)) ∷ value (stepped (stepAnswer M s q)) ∷ []
-      pub turned : answersOf f ws m (oneStep k l y ∷ oneStep k l x ∷ []) ≡
+      pub reversed : answersOf f ws m (oneStep k l y ∷ oneStep k l x ∷ []) ≡
           value (stepped (stepAnswer M s q)) ∷ value (stepped (stepAnswer M s p)) ∷ []
 
     -- Two calls get the same answer and leave the same memory.

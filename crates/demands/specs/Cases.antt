@@ -27,8 +27,8 @@ use Rattle.reference.specs.Meeting.{meet, Apart, Exchanged}
 use Rattle.encoding.specs.Ranges.{WithinRanges}
 use Rattle.encoding.specs.Calls.{machineOf}
 use Rattle.demands.specs.Shorter.{dropLast, withoutLast}
-use Rattle.demands.specs.Floors.{padded, floorOf, cell, sides, two, rows, three, walled, routeOf, answers2}
-use Rattle.demands.specs.Floors.{walledOff, corridor, shutGoal, crossed, behind, inFront, countedOf, dockedOf, common, crowded}
+use Rattle.demands.specs.Floors.{padded, floorWith, cell, sides, two, rows, three, walled, routeOf, answers2}
+use Rattle.demands.specs.Floors.{walledOff, corridor, shutGoal, crossed, carrierBehind, inFront, countedOf, dockedOf, common, crowded}
 use Rattle.demands.specs.Floors.{singles, running, calls4, calls5, longest, heardAgain, full}
 use Rattle.demands.specs.Texts.{sheet2, routes2, routes3, refused11, sheet2short, routes2short}
 
@@ -77,7 +77,7 @@ pub record Cases : Type 0 where
   -- 10: horizon 63 is accepted, 64 is not; nor are 0 carriers.
   pub accepted-10 : checkOf (sides 63) [] ≡ passed
   pub horizon-10 : checkOf (sides 64) [] ≡ refused 2 3
-  pub carriers-10 : checkOf (floorOf 3 2 4 1 0 [] []) [] ≡ refused 2 5
+  pub carriers-10 : checkOf (floorWith 3 2 4 1 0 [] []) [] ≡ refused 2 5
   -- 11: an empty sheet: 1, offset 0.
   pub refused-11 : sheetVerdict [] ≡ refused 1 0
   pub printed-11 : routesOf [] ≡ refused11
@@ -93,7 +93,7 @@ pub record Cases : Type 0 where
       value (stepped sent) ∷ value (stepped sent) ∷ value (stepped delivered) ∷ value (stepped kept) ∷ []
   -- A run passes over what is not open, and stops at its budget.
   pub reply-passed : replies two fresh (running (212 ∷ 101 ∷ 101 ∷ 102 ∷ []) 1) ≡ value (ran 1 spent) ∷ []
-  -- With depth 2 the channel that is full in 9 has room for a second message.
+  -- With depth 2 the channel that is full in 9 has capacity for a second message.
   pub accepted-deep : checkOf (three 2) [] ≡ passed
   pub replies-deep : replies (machineOf (three 2) []) fresh calls4 ≡
       value (stepped sent) ∷ value (stepped sent) ∷ value (stepped delivered) ∷ value (stepped sent) ∷ []
@@ -161,14 +161,14 @@ pub record Cases : Type 0 where
   pub dropped-sheet : withoutLast 2 sheet2 ≡ sheet2short
   pub dropped-printed : routesOf sheet2short ≡ routes2short
   -- Without the first carrier the second would not go round it.
-  pub first-matters : planOf (floorOf 3 2 4 1 0 (2 ∷ []) (0 ∷ [])) [] ≡ routeOf (2 ∷ 1 ∷ []) ∷ []
+  pub first-matters : planOf (floorWith 3 2 4 1 0 (2 ∷ []) (0 ∷ [])) [] ≡ routeOf (2 ∷ 1 ∷ []) ∷ []
   -- Document 02, slip 9. Carrier 2 enters the cell that carrier 1 leaves a beat later; with horizon 1 it has none. The radio comes to the
   -- same, though carrier 2 plans to go at once before it has heard.
-  pub accepted-behind : (checkOf (behind 2) [] ≡ passed) × (checkOf (inFront 2) [] ≡ passed)
-  pub answers-behind : planOf (behind 2) [] ≡ routeOf (1 ∷ 2 ∷ 2 ∷ []) ∷ routeOf (0 ∷ 0 ∷ 1 ∷ []) ∷ []
-  pub short-behind : planOf (behind 1) [] ≡ routeOf (1 ∷ 2 ∷ []) ∷ none ∷ []
-  pub first-behind : after (machineOf (behind 2) []) fresh (singles (102 ∷ [])) .answer 1 ≡ routeOf (0 ∷ 1 ∷ 1 ∷ [])
-  pub heard-behind : below 2 (after (machineOf (behind 2) []) fresh calls4 .answer) ≡
+  pub accepted-behind : (checkOf (carrierBehind 2) [] ≡ passed) × (checkOf (inFront 2) [] ≡ passed)
+  pub answers-behind : planOf (carrierBehind 2) [] ≡ routeOf (1 ∷ 2 ∷ 2 ∷ []) ∷ routeOf (0 ∷ 0 ∷ 1 ∷ []) ∷ []
+  pub short-behind : planOf (carrierBehind 1) [] ≡ routeOf (1 ∷ 2 ∷ []) ∷ none ∷ []
+  pub first-behind : after (machineOf (carrierBehind 2) []) fresh (singles (102 ∷ [])) .answer 1 ≡ routeOf (0 ∷ 1 ∷ 1 ∷ [])
+  pub heard-behind : below 2 (after (machineOf (carrierBehind 2) []) fresh calls4 .answer) ≡
       routeOf (1 ∷ 2 ∷ 2 ∷ []) ∷ routeOf (0 ∷ 0 ∷ 1 ∷ []) ∷ []
   -- Nor may carrier 2 leave a cell in the beat in which carrier 1 enters it.
   pub answers-in-front : planOf (inFront 2) [] ≡ routeOf (0 ∷ 1 ∷ 1 ∷ []) ∷ none ∷ []
@@ -195,9 +195,9 @@ pub record Cases : Type 0 where
   pub count-5 : checkOf (countedOf 0 (0 ∷ []) (5 ∷ []) ((1 ∷ 2 ∷ 3 ∷ 4 ∷ []) ∷ [])) [] ≡ refused 3 1
   pub dock-outside : checkOf (dockedOf 0 (0 ∷ []) ((2 ∷ 6 ∷ []) ∷ [])) [] ≡ refused 3 1
   pub dock-on-wall : checkOf (dockedOf 1 (0 ∷ []) ((2 ∷ 4 ∷ []) ∷ [])) (4 ∷ []) ≡ refused 5 1
-  -- A goal in common is document 01's 6, and accepted now.
+  -- A goal in common is refused with 6 by document 01, and is accepted with docks.
   pub common-earlier : earlierCheck common [] ≡ refused 6 2
-  pub common-now : checkOf (withOneDock common) [] ≡ passed
+  pub common-accepted : checkOf (withOneDock common) [] ≡ passed
   -- The ceiling is reached, by one, two and three carriers.
   pub most-1 : after (machineOf cell []) fresh (singles (101 ∷ [])) .taken ≡ ceiling 1
   pub most-2 : after two fresh calls4 .taken ≡ ceiling 2

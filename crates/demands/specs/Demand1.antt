@@ -26,7 +26,7 @@ use Rattle.printing.specs.Print.{printOutcome, printAnswers, printMemory, neede
 use Rattle.lengths.specs.Figures.{figuresFor, lengthsOf}
 use Rattle.reference.specs.State.{State}
 use Rattle.reference.specs.Table.{Call}
-use Rattle.reference.specs.Refused.{RefusedWith as RefusedCall}
+use Rattle.reference.specs.Refused.{RefusedCall}
 use Rattle.encoding.specs.Encode.{encode}
 use Rattle.encoding.specs.Ranges.{WithinRanges}
 use Rattle.encoding.specs.Calls.{machineOf, placeVerdict, stateIn, freshMemory, replyTo, memoryAfter}
@@ -46,16 +46,16 @@ HoldsState f m = (s : State) × WithinRanges f s × (take (lengthsOf f .state) m
 -- The rows of each entry, in their order.
 module _ (f : Floor) (ws : List ℕ) where
   abbrev pub WriteRows : ℕ → Table
-  WriteRows room = RefusedFloor f ws orElse Short room (lengthsOf f .sheet)
+  WriteRows lent = RefusedFloor f ws orElse Short lent (lengthsOf f .sheet)
 
   abbrev pub PlanRows : ℕ → Table
-  PlanRows room = RefusedFloor f ws orElse Short room (lengthsOf f .answers)
+  PlanRows lent = RefusedFloor f ws orElse Short lent (lengthsOf f .answers)
 
   abbrev pub PrintRows : ℕ → ℕ → Table
-  PrintRows room bytes = PlanRows room orElse Short bytes (lengthsOf f .text)
+  PrintRows lent bytes = PlanRows lent orElse Short bytes (lengthsOf f .text)
 
   abbrev pub SearchRows : ℕ → ℕ → Table
-  SearchRows i room = PlanRows room orElse Row 7 0 (Within 1 (f .carriers) i → ⊥)
+  SearchRows i lent = PlanRows lent orElse Row 7 0 (Within 1 (f .carriers) i → ⊥)
 
   -- The check of a record, which has a tag besides the cells of a route.
   abbrev pub RecordRows : (carrier lent : ℕ) → Table
@@ -63,11 +63,11 @@ module _ (f : Floor) (ws : List ℕ) where
       RefusedFloor f ws orElse Short lent (lengthsOf f .route + 1) orElse Row 7 0 (Within 1 (f .carriers) carrier → ⊥)
 
   -- 16, 0: the carrier has a route (document 02, slip 8).
-  abbrev pub BlockersRows : (carrier room : ℕ) → Table
-  BlockersRows carrier room = SearchRows carrier room orElse Row 16 0 (answerAt (planOf f ws) (carrier - 1) ≡ none → ⊥)
+  abbrev pub BlockersRows : (carrier lent : ℕ) → Table
+  BlockersRows carrier lent = SearchRows carrier lent orElse Row 16 0 (answerAt (planOf f ws) (carrier - 1) ≡ none → ⊥)
 
   abbrev pub FreshRows : ℕ → Table
-  FreshRows room = RefusedFloor f ws orElse Short room (lengthsOf f .state)
+  FreshRows lent = RefusedFloor f ws orElse Short lent (lengthsOf f .state)
 
   abbrev pub StateRows : List ℕ → Table
   StateRows m = FreshRows (length m) orElse Row 10 0 (HoldsState f m → ⊥)
@@ -95,7 +95,7 @@ abbrev pub ArrivalRows : Floor → (lent : ℕ) → Table
 ArrivalRows f lent = Short lent (lengthsOf f .route)
 
 abbrev pub ReadRows : List ℕ → ℕ → Table
-ReadRows text room = RefusedSheet text orElse Short room (lengthsOf (floorAt text) .walls)
+ReadRows text lent = RefusedSheet text orElse Short lent (lengthsOf (floorAt text) .walls)
 
 -- Printing from a sheet is refused only where text memory is too short, then with the first row that holds.
 abbrev pub RoutesRows : List ℕ → ℕ → Table
@@ -109,19 +109,19 @@ pub record Demand1 : Type 0 where
   pub sheet : (text : List ℕ) → Refuses (sheetVerdict text) (RefusedSheet text)
   pub sheet-accepted : (text : List ℕ) → (sheetVerdict text ≡ passed) ↔ ((k p : ℕ) → RefusedSheet text k p → ⊥)
   -- Reading a sheet, and writing one.
-  pub read : (text : List ℕ) (room : ℕ) → Refuses (readVerdict text room) (ReadRows text room)
+  pub read : (text : List ℕ) (lent : ℕ) → Refuses (readVerdict text lent) (ReadRows text lent)
   pub read-keeps : (text old : List ℕ) → Keeps (ReadRows text (length old)) (lengthsOf (floorAt text) .walls) old (readWalls text old)
-  pub write : (f : Floor) (ws : List ℕ) (room : ℕ) → Refuses (writeVerdict f ws room) (WriteRows f ws room)
+  pub write : (f : Floor) (ws : List ℕ) (lent : ℕ) → Refuses (writeVerdict f ws lent) (WriteRows f ws lent)
   pub write-keeps : (f : Floor) (ws old : List ℕ) → Keeps (WriteRows f ws (length old)) (lengthsOf f .sheet) old (writeSheet f ws old)
   -- A search, a plan, and the printed routes of a floor.
   pub search : (f : Floor) (ws : List ℕ) (i : ℕ) (views : List ℕ) → Answers (searchOf f ws i views) (SearchRows f ws i (length views))
-  pub plan : (f : Floor) (ws : List ℕ) (room : ℕ) → Answers (planResult f ws room) (PlanRows f ws room)
+  pub plan : (f : Floor) (ws : List ℕ) (lent : ℕ) → Answers (planResult f ws lent) (PlanRows f ws lent)
   pub plan-keeps : (f : Floor) (ws old : List ℕ) → Keeps (PlanRows f ws (length old)) (lengthsOf f .answers) old (planMemory f ws old)
-  pub print : (f : Floor) (ws : List ℕ) (room bytes : ℕ) → Answers (printOutcome f ws room bytes) (PrintRows f ws room bytes)
+  pub print : (f : Floor) (ws : List ℕ) (lent bytes : ℕ) → Answers (printOutcome f ws lent bytes) (PrintRows f ws lent bytes)
   pub print-keeps-answers : (f : Floor) (ws : List ℕ) (bytes : ℕ) (old : List ℕ) →
       Keeps (PrintRows f ws (length old) bytes) (lengthsOf f .answers) old (printAnswers f ws bytes old)
-  pub print-keeps-text : (f : Floor) (ws : List ℕ) (room : ℕ) (old : List ℕ) →
-      Keeps (PrintRows f ws room (length old)) (lengthsOf f .text) old (printMemory f ws room old)
+  pub print-keeps-text : (f : Floor) (ws : List ℕ) (lent : ℕ) (old : List ℕ) →
+      Keeps (PrintRows f ws lent (length old)) (lengthsOf f .text) old (printMemory f ws lent old)
   -- The printed routes of a sheet: a refused sheet is an answer, its line.
   pub routes : (text : List ℕ) (bytes : ℕ) → Answers (routesOutcome text bytes) (RoutesRows text bytes)
   pub routes-keeps : (text old : List ℕ) → Keeps (RoutesRows text (length old)) (neededFor text) old (routesMemory text old)
@@ -132,7 +132,7 @@ pub record Demand1 : Type 0 where
       × (2 * lengthsOf f .answers ≤ 65536) × (lengthsOf f .text ≤ 65536) × (2 * lengthsOf f .state ≤ 65536)
       × (2 * lengthsOf f .report ≤ 65536)
   -- The fresh state, and every call on a lent state: single steps and runs.
-  pub fresh : (f : Floor) (ws : List ℕ) (room : ℕ) → Refuses (placeVerdict f ws room) (FreshRows f ws room)
+  pub fresh : (f : Floor) (ws : List ℕ) (lent : ℕ) → Refuses (placeVerdict f ws lent) (FreshRows f ws lent)
   pub fresh-keeps : (f : Floor) (ws old : List ℕ) → Keeps (FreshRows f ws (length old)) (lengthsOf f .state) old (freshMemory f ws old)
   pub call : (f : Floor) (ws m : List ℕ) (c : Call) → Answers (replyTo f ws m c) (CallRows f ws m c)
   pub call-keeps : (f : Floor) (ws m : List ℕ) (c : Call) → Keeps (CallRows f ws m c) (lengthsOf f .state) m (memoryAfter f ws m c)
@@ -150,7 +150,7 @@ pub record Demand1 : Type 0 where
   pub run-keeps-report : (f : Floor) (ws : List ℕ) (rank : ℕ) (old : List ℕ)
       → Keeps (RankRows f ws rank (length old)) (lengthsOf f .report) old (reportListed f ws rank old)
   -- Who shuts a carrier in, with the sequential answers.
-  pub blockers : (f : Floor) (ws : List ℕ) (carrier room : ℕ) → Answers (blockersOutcome f ws carrier room) (BlockersRows f ws carrier room)
+  pub blockers : (f : Floor) (ws : List ℕ) (carrier lent : ℕ) → Answers (blockersOutcome f ws carrier lent) (BlockersRows f ws carrier lent)
   pub blockers-keeps : (f : Floor) (ws : List ℕ) (carrier : ℕ) (old : List ℕ)
       → Keeps (BlockersRows f ws carrier (length old)) (lengthsOf f .answers) old (blockersMemory f ws carrier old)
   -- The conflict test of two lent routes, which writes no memory.

@@ -25,7 +25,7 @@ use Rattle.search.specs.Task.{taskOf}
 use Rattle.search.specs.Search.{searchOf}
 use Rattle.legality.specs.Entry.{aRoute, aNone, notHeard, wrong, recordOutcome}
 use Rattle.legality.specs.Faults.{FaultAt}
-use Rattle.legality.specs.Claims.{Asked, RouteIn}
+use Rattle.legality.specs.Claims.{RecordGranted, RouteIn}
 use Rattle.planner.specs.Plan.{respondOf, planOf, failingOf}
 use Rattle.planner.specs.Answers.{planResult}
 use Rattle.planner.specs.Records.{planMemory}
@@ -49,14 +49,14 @@ pub record Prioritized (f : Floor) (ws : List ℕ) (xs : List Answer) : Type 0 w
 pub record SameOutcomes (f : Floor) (ws : List ℕ) (g : Floor) (vs : List ℕ) : Type 0 where
   pub check : checkOf f ws ≡ checkOf g vs
   pub lengths : figuresFor f ≡ figuresFor g
-  pub write : (room : ℕ) → writeVerdict f ws room ≡ writeVerdict g vs room
+  pub write : (lent : ℕ) → writeVerdict f ws lent ≡ writeVerdict g vs lent
   pub search : (i : ℕ) (views : List ℕ) → searchOf f ws i views ≡ searchOf g vs i views
-  pub plan : (room : ℕ) → planResult f ws room ≡ planResult g vs room
+  pub plan : (lent : ℕ) → planResult f ws lent ≡ planResult g vs lent
   pub answers : (old : List ℕ) → planMemory f ws old ≡ planMemory g vs old
-  pub print : (room bytes : ℕ) → printOutcome f ws room bytes ≡ printOutcome g vs room bytes
+  pub print : (lent bytes : ℕ) → printOutcome f ws lent bytes ≡ printOutcome g vs lent bytes
   pub printed-answers : (bytes : ℕ) (old : List ℕ) → printAnswers f ws bytes old ≡ printAnswers g vs bytes old
-  pub text : (room : ℕ) (old : List ℕ) → printMemory f ws room old ≡ printMemory g vs room old
-  pub fresh : (room : ℕ) → placeVerdict f ws room ≡ placeVerdict g vs room
+  pub text : (lent : ℕ) (old : List ℕ) → printMemory f ws lent old ≡ printMemory g vs lent old
+  pub fresh : (lent : ℕ) → placeVerdict f ws lent ≡ placeVerdict g vs lent
   pub fresh-memory : (old : List ℕ) → freshMemory f ws old ≡ freshMemory g vs old
   pub call : (m : List ℕ) (c : Call) → replyTo f ws m c ≡ replyTo g vs m c
   pub memory : (m : List ℕ) (c : Call) → memoryAfter f ws m c ≡ memoryAfter g vs m c
@@ -66,7 +66,7 @@ pub record SameOutcomes (f : Floor) (ws : List ℕ) (g : Floor) (vs : List ℕ) 
   pub trial-report : (order seed state : ℕ) (old : List ℕ) → reportTried f ws order seed state old ≡ reportTried g vs order seed state old
   pub run-of-rank : (rank report : ℕ) → rankOutcome f ws rank report ≡ rankOutcome g vs rank report
   pub run-report : (rank : ℕ) (old : List ℕ) → reportListed f ws rank old ≡ reportListed g vs rank old
-  pub blockers : (carrier room : ℕ) → blockersOutcome f ws carrier room ≡ blockersOutcome g vs carrier room
+  pub blockers : (carrier lent : ℕ) → blockersOutcome f ws carrier lent ≡ blockersOutcome g vs carrier lent
   pub check-record : (carrier : ℕ) (m : List ℕ) → recordOutcome f ws carrier m ≡ recordOutcome g vs carrier m
   pub blockers-answers : (carrier : ℕ) (old : List ℕ) → blockersMemory f ws carrier old ≡ blockersMemory g vs carrier old
 
@@ -106,8 +106,8 @@ pub record Demand2 : Type 0 where
   pub stored-heard : (f : Floor) (ws old : List ℕ) → checkOf f ws ≡ passed → 65 * f .carriers ≤ length old →
       records (planMemory f ws old) (f .carriers) ≡ map heard (planOf f ws)
   -- The failing carrier, counted from 1, is the first with none; 0 exactly if there is none.
-  pub failing : (f : Floor) (ws : List ℕ) (room : ℕ) → checkOf f ws ≡ passed → 65 * f .carriers ≤ room →
-      planResult f ws room ≡ value (failingOf (planOf f ws))
+  pub failing : (f : Floor) (ws : List ℕ) (lent : ℕ) → checkOf f ws ≡ passed → 65 * f .carriers ≤ lent →
+      planResult f ws lent ≡ value (failingOf (planOf f ws))
   pub failing-first : (f : Floor) (ws : List ℕ) (k : ℕ) → failingOf (planOf f ws) ≡ suc k →
       (k < f .carriers) × (answerAt (planOf f ws) k ≡ none) × ((j : ℕ) → j < k → answerAt (planOf f ws) j ≡ none → ⊥)
   pub failing-none : (f : Floor) (ws : List ℕ) →
@@ -135,10 +135,10 @@ pub record Demand2 : Type 0 where
   pub record-route : (f : Floor) (ws : List ℕ) (i : ℕ) (m : List ℕ) (a : ℕ) →
       (recordOutcome f ws i m ≡ value (aRoute a)) ↔ RouteIn f ws i m a
   pub record-none : (f : Floor) (ws : List ℕ) (i : ℕ) (m : List ℕ) →
-      (recordOutcome f ws i m ≡ value aNone) ↔ (Asked f ws i m × (part m 0 65 ≡ recordOf none))
+      (recordOutcome f ws i m ≡ value aNone) ↔ (RecordGranted f ws i m × (part m 0 65 ≡ recordOf none))
   pub record-unheard : (f : Floor) (ws : List ℕ) (i : ℕ) (m : List ℕ) →
-      (recordOutcome f ws i m ≡ value notHeard) ↔ (Asked f ws i m × (part m 0 65 ≡ slot unheard))
+      (recordOutcome f ws i m ≡ value notHeard) ↔ (RecordGranted f ws i m × (part m 0 65 ≡ slot unheard))
   pub record-wrong : (f : Floor) (ws : List ℕ) (i : ℕ) (m : List ℕ) (k t : ℕ) →
-      (recordOutcome f ws i m ≡ value (wrong k t)) ↔ (Asked f ws i m × FaultAt (taskOf f ws i) (getD m 0 0) (part m 1 64) k t)
+      (recordOutcome f ws i m ≡ value (wrong k t)) ↔ (RecordGranted f ws i m × FaultAt (taskOf f ws i) (getD m 0 0) (part m 1 64) k t)
   pub found-legal : (f : Floor) (ws : List ℕ) (i : ℕ) (m r : List ℕ) → searchOf f ws i m ≡ value (route r) →
       recordOutcome f ws i (2 ∷ r) ≡ value (aRoute (arrivalOf r (f .horizon)))

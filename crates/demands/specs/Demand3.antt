@@ -19,7 +19,7 @@ use Rattle.reference.specs.Run.{run}
 use Rattle.reference.specs.History.{FaithfulRun}
 use Rattle.reference.specs.Table.{Call}
 use Rattle.reference.specs.Refused.{Waits}
-use Rattle.reference.specs.Calls.{Told, reply, afterCall}
+use Rattle.reference.specs.Calls.{CallAnswer, reply, afterCall}
 use Rattle.reference.specs.Quiescent.{idle, quiet, replyCount, repliesCount, ceiling}
 use Rattle.encoding.specs.Places.{stateSize}
 use Rattle.encoding.specs.Encode.{encode}
@@ -90,10 +90,11 @@ pub record Demand3 : Type 0 where
   -- All this after every list of calls on every accepted floor.
   pub holds : (f : Floor) (ws m : List ℕ) → checkOf f ws ≡ passed → stateSize (f .carriers) ≤ length m → (cs : List ProgramCall) →
       Holds f ws m cs
-  -- A point inside a run that is not turned away is the end of the same run with its list cut there, and the rest of the list, with
+  -- A point inside a run that is not refused is the end of the same run with its list cut there, and the rest of the list, with
   -- what is left of the budget, counts as a later call.
   pub cut-anywhere : (f : Floor) (ws m : List ℕ) → checkOf f ws ≡ passed → stateSize (f .carriers) ≤ length m → (cs : List ProgramCall)
-      (k l : ℕ) (xs ys : List ℕ) (b : ℕ) (told : Told) → answerOf f ws (programMemory f ws m cs) (oneRun k l (xs ++ ys) b) ≡ value told →
+      (k l : ℕ) (xs ys : List ℕ) (b : ℕ) (told : CallAnswer) →
+      answerOf f ws (programMemory f ws m cs) (oneRun k l (xs ++ ys) b) ≡ value told →
       Cut f ws m cs k l xs ys b
   -- The simulation from every state within the ranges, reached or not, one with a count of 999,999 included.
   pub simulates : (f : Floor) (ws : List ℕ) → checkOf f ws ≡ passed → (s : State) → WithinRanges f s → (rest : List ℕ) (c : Call) →

@@ -10,7 +10,7 @@ use Rattle.laws.specs.Verdict.{passed, refused}
 use Rattle.floor.specs.declared.Floor.{Floor}
 use Rattle.floor.specs.Checks.{among, checkOf}
 use Rattle.floor.specs.Accepted.{SameDocks}
-use Rattle.floor.specs.OneDock.{Earlier, earlierCheck, withOneDock}
+use Rattle.floor.specs.OneDock.{OneDockFloor, earlierCheck, withOneDock}
 use Rattle.route.specs.Route.{Answer, View, heard}
 use Rattle.route.specs.OneGoal.{BestTo}
 use Rattle.route.specs.Sequential.{sequential}
@@ -30,19 +30,19 @@ use Rattle.listing.specs.Runs.{runsOf, runAt, reportFrom}
 use Rattle.demands.specs.Demand2.{SameOutcomes}
 
 -- Responses by document 01's letter: each carrier that is there answers best to its one goal, whatever it has heard from those above it.
-abbrev pub EarlierResponses : Earlier → List ℕ → (ℕ → List View → Answer) → Type 0
+abbrev pub EarlierResponses : OneDockFloor → List ℕ → (ℕ → List View → Answer) → Type 0
 EarlierResponses e ws respond =
     (i : ℕ) (vs : List View) → i < e .carriers → length vs ≡ i →
     BestTo (getD (e .goals) i 0) (taskOf (withOneDock e) ws (i + 1)) (seen (withOneDock e) vs) (respond i vs)
 
 -- The reference machine of document 01's floor with given responses.
-abbrev pub earlierMachine : Earlier → (ℕ → List View → Answer) → Machine
+abbrev pub earlierMachine : OneDockFloor → (ℕ → List View → Answer) → Machine
 earlierMachine e respond =
     record { carriers = e .carriers; depth = e .depth; needed = stateSize (e .carriers); respond = respond }
 
 -- With responses by document 01's letter the entries' definitions answer as they do on the floor with one dock: the machine's calls and its
 -- state after them, trials, the listed runs and their reports, the sequential answers, and the carriers that shut one in.
-pub record EarlierAnswers (e : Earlier) (ws : List ℕ) (respond : ℕ → List View → Answer) : Type 0 where
+pub record EarlierAnswers (e : OneDockFloor) (ws : List ℕ) (respond : ℕ → List View → Answer) : Type 0 where
   pub call : (s : State) (c : Call) → reply (earlierMachine e respond) s c ≡ reply (machineOf (withOneDock e) ws) s c
   pub state : (s : State) (c : Call) → afterCall (earlierMachine e respond) s c ≡ afterCall (machineOf (withOneDock e) ws) s c
   pub trials : (o : Order) (seed : ℕ) → trial o (earlierMachine e respond) seed ≡ trial o (machineOf (withOneDock e) ws) seed
@@ -54,15 +54,15 @@ pub record EarlierAnswers (e : Earlier) (ws : List ℕ) (respond : ℕ → List 
   pub blockers : (i : ℕ) → i < e .carriers →
       setOf (leftAfter (respond i) i (map heard (take i (sequential respond (e .carriers))))) ≡ blockersOf (withOneDock e) ws i
 
-pub record Docks : Type 0 where
+pub record SeveralDocks : Type 0 where
   -- One dock: what document 01 accepts is accepted; its refusals are the same both ways, except 6, which stays where it is for a start.
-  pub earlier-accepted : (e : Earlier) (ws : List ℕ) → earlierCheck e ws ≡ passed → checkOf (withOneDock e) ws ≡ passed
-  pub earlier-refused : (e : Earlier) (ws : List ℕ) (k p : ℕ) → (k ≡ 6 → ⊥) →
+  pub earlier-accepted : (e : OneDockFloor) (ws : List ℕ) → earlierCheck e ws ≡ passed → checkOf (withOneDock e) ws ≡ passed
+  pub earlier-refused : (e : OneDockFloor) (ws : List ℕ) (k p : ℕ) → (k ≡ 6 → ⊥) →
       (earlierCheck e ws ≡ refused k p) ↔ (checkOf (withOneDock e) ws ≡ refused k p)
-  pub earlier-start : (e : Earlier) (ws : List ℕ) (i : ℕ) → earlierCheck e ws ≡ refused 6 (1 + i) →
+  pub earlier-start : (e : OneDockFloor) (ws : List ℕ) (i : ℕ) → earlierCheck e ws ≡ refused 6 (1 + i) →
       among (e .starts) i (getD (e .starts) i 0) ≡ true → checkOf (withOneDock e) ws ≡ refused 6 (1 + i)
   -- Every entry gives the earlier answers on what document 01 accepts.
-  pub earlier-answers : (e : Earlier) (ws : List ℕ) (respond : ℕ → List View → Answer) → earlierCheck e ws ≡ passed →
+  pub earlier-answers : (e : OneDockFloor) (ws : List ℕ) (respond : ℕ → List View → Answer) → earlierCheck e ws ≡ passed →
       EarlierResponses e ws respond → EarlierAnswers e ws respond
   -- The order of a carrier's docks changes no answer of any entry, and nothing in lent memory but the sheet that is written.
   pub order-answers : (f g : Floor) (ws : List ℕ) → SameDocks f g → SameOutcomes f ws g ws

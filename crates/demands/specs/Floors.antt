@@ -4,7 +4,7 @@ use mathlib.Core.Bool.{true, false}
 use mathlib.Core.List.{List, [], _∷_, _++_, map}
 use lib.ListN.{length, replicate}
 use Rattle.floor.specs.declared.Floor.{Floor}
-use Rattle.floor.specs.OneDock.{Earlier, withOneDock}
+use Rattle.floor.specs.OneDock.{OneDockFloor, withOneDock}
 use Rattle.route.specs.Route.{Answer, none, route, unheard}
 use Rattle.reference.specs.State.{Machine, State, fresh}
 use Rattle.reference.specs.Table.{Call, single, runOf}
@@ -17,8 +17,8 @@ padded k xs = xs ++ replicate (k - length xs) 0
 
 -- A floor of width by height: its horizon, the depth of its channels, how many walls, and the starts of its carriers with the one dock of
 -- each.
-abbrev pub floorOf : ℕ → ℕ → ℕ → ℕ → ℕ → List ℕ → List ℕ → Floor
-floorOf width height horizon depth walls starts goals =
+abbrev pub floorWith : ℕ → ℕ → ℕ → ℕ → ℕ → List ℕ → List ℕ → Floor
+floorWith width height horizon depth walls starts goals =
     withOneDock (record {
       width = width;
       height = height;
@@ -55,7 +55,7 @@ abbrev pub dockedOf : ℕ → List ℕ → List (List ℕ) → Floor
 dockedOf walls starts docks = countedOf walls starts (map length docks) docks
 
 -- Two carriers with one goal cell in common, by document 01.
-abbrev pub common : Earlier
+abbrev pub common : OneDockFloor
 common =
     record {
       width = 3;
@@ -70,11 +70,11 @@ common =
 
 -- One cell, one carrier.
 abbrev pub cell : Floor
-cell = floorOf 1 1 4 1 0 (0 ∷ []) (0 ∷ [])
+cell = floorWith 1 1 4 1 0 (0 ∷ []) (0 ∷ [])
 
 -- The floor of document 01's sheet, for a horizon: two carriers change sides.
 abbrev pub sides : ℕ → Floor
-sides horizon = floorOf 3 2 horizon 1 0 (0 ∷ 2 ∷ []) (2 ∷ 0 ∷ [])
+sides horizon = floorWith 3 2 horizon 1 0 (0 ∷ 2 ∷ []) (2 ∷ 0 ∷ [])
 
 -- The reference machine of that sheet.
 abbrev pub two : Machine
@@ -82,35 +82,35 @@ two = machineOf (sides 4) []
 
 -- Two carriers that do not meet: each goes along a row of its own.
 abbrev pub rows : Floor
-rows = floorOf 3 2 4 1 0 (0 ∷ 3 ∷ []) (2 ∷ 5 ∷ [])
+rows = floorWith 3 2 4 1 0 (0 ∷ 3 ∷ []) (2 ∷ 5 ∷ [])
 
 -- Three carriers, for a depth.
 abbrev pub three : ℕ → Floor
-three depth = floorOf 3 2 4 depth 0 (0 ∷ 2 ∷ 3 ∷ []) (2 ∷ 0 ∷ 5 ∷ [])
+three depth = floorWith 3 2 4 depth 0 (0 ∷ 2 ∷ 3 ∷ []) (2 ∷ 0 ∷ 5 ∷ [])
 
 -- A corridor of five cells with a wall in cell 3: carrier 1, in cell 1, has its goal behind it; carrier 2 goes from cell 0 to a goal.
 abbrev pub walledOff : ℕ → Floor
-walledOff goal = floorOf 5 1 4 1 1 (1 ∷ 0 ∷ []) (4 ∷ goal ∷ [])
+walledOff goal = floorWith 5 1 4 1 1 (1 ∷ 0 ∷ []) (4 ∷ goal ∷ [])
 
 -- A corridor of five cells: carrier 1 stands in cell 3, carrier 2 in cell 1 has its goal behind it, carrier 3 has cell 1 before it.
 abbrev pub corridor : Floor
-corridor = floorOf 5 1 2 1 0 (3 ∷ 1 ∷ 0 ∷ []) (3 ∷ 4 ∷ 2 ∷ [])
+corridor = floorWith 5 1 2 1 0 (3 ∷ 1 ∷ 0 ∷ []) (3 ∷ 4 ∷ 2 ∷ [])
 
 -- Two rows of four cells with walls in 2 and 7, which shut in carrier 1's goal, 3; carrier 1's start is on carrier 2's way.
 abbrev pub shutGoal : Floor
-shutGoal = floorOf 4 2 4 1 2 (1 ∷ 0 ∷ []) (3 ∷ 6 ∷ [])
+shutGoal = floorWith 4 2 4 1 2 (1 ∷ 0 ∷ []) (3 ∷ 6 ∷ [])
 
 -- A corridor of three cells: carrier 1 goes through, and carrier 2 in its middle cannot get past it.
 abbrev pub crossed : Floor
-crossed = floorOf 3 1 2 1 0 (0 ∷ 1 ∷ []) (2 ∷ 0 ∷ [])
+crossed = floorWith 3 1 2 1 0 (0 ∷ 1 ∷ []) (2 ∷ 0 ∷ [])
 
 -- The floor of document 02's slip 9, for a horizon: a corridor of three cells, carrier 2 behind carrier 1.
-abbrev pub behind : ℕ → Floor
-behind horizon = floorOf 3 1 horizon 1 0 (1 ∷ 0 ∷ []) (2 ∷ 1 ∷ [])
+abbrev pub carrierBehind : ℕ → Floor
+carrierBehind horizon = floorWith 3 1 horizon 1 0 (1 ∷ 0 ∷ []) (2 ∷ 1 ∷ [])
 
 -- The same with carrier 1 behind carrier 2.
 abbrev pub inFront : ℕ → Floor
-inFront horizon = floorOf 3 1 horizon 1 0 (0 ∷ 1 ∷ []) (1 ∷ 2 ∷ [])
+inFront horizon = floorWith 3 1 horizon 1 0 (0 ∷ 1 ∷ []) (1 ∷ 2 ∷ [])
 
 -- The fresh state with none under way on every channel.
 abbrev pub crowded : State
@@ -126,7 +126,7 @@ crowded =
 
 -- One carrier beside one wall.
 abbrev pub walled : Floor
-walled = floorOf 3 2 4 1 1 (0 ∷ []) (2 ∷ [])
+walled = floorWith 3 2 4 1 1 (0 ∷ []) (2 ∷ [])
 
 -- A route by its first cells.
 abbrev pub routeOf : List ℕ → Answer

@@ -46,19 +46,19 @@ programMemory f ws m cs = memoryOf f ws (freshMemory f ws m) cs
 -- The length of lent memory that the reference machine compares: none where fewer walls are lent than the floor counts, for that is
 -- memory too short; otherwise what is there of the numbers lent.
 unfoldable pub lentLength : Floor → ℕ → ℕ → ℕ → ℕ
-lentLength f room k l = cond (leb (f .walls) k) (min l room) 0
+lentLength f numbers k l = cond (leb (f .walls) k) (min l numbers) 0
 
 -- The same call as the reference machine is given it: the arguments except the state's contents.
 unfoldable pub referenceCall : Floor → ℕ → ProgramCall → Call
-referenceCall f room (oneStep k l x) = single (lentLength f room k l) (askedBy x)
-referenceCall f room (oneRun k l xs b) = runOf (lentLength f room k l) (map askedBy xs) b
+referenceCall f numbers (oneStep k l x) = single (lentLength f numbers k l) (askedBy x)
+referenceCall f numbers (oneRun k l xs b) = runOf (lentLength f numbers k l) (map askedBy xs) b
 
 unfoldable pub referenceCalls : Floor → ℕ → List ProgramCall → List Call
-referenceCalls f room cs = map (referenceCall f room) cs
+referenceCalls f numbers cs = map (referenceCall f numbers) cs
 
 -- The reference machine's answers to a list of calls from fresh, there being memory for so many numbers, and its state after it.
 unfoldable pub referenceReplies : Floor → List ℕ → ℕ → List ProgramCall → List Reply
-referenceReplies f ws room cs = replies (machineOf f ws) fresh (referenceCalls f room cs)
+referenceReplies f ws numbers cs = replies (machineOf f ws) fresh (referenceCalls f numbers cs)
 
 unfoldable pub referenceAfter : Floor → List ℕ → ℕ → List ProgramCall → State
-referenceAfter f ws room cs = after (machineOf f ws) fresh (referenceCalls f room cs)
+referenceAfter f ws numbers cs = after (machineOf f ws) fresh (referenceCalls f numbers cs)

@@ -23,9 +23,9 @@ use Rattle.encoding.specs.Ranges.{WithinRanges}
 use Rattle.encoding.specs.Calls.{machineOf}
 use Rattle.orders.specs.Orders.{Order, startMemory}
 use Rattle.orders.specs.Trial.{Entry, stepsIn}
-use Rattle.orders.specs.Rules.{ByRule, PassedOver}
+use Rattle.orders.specs.Rules.{FollowsOrder, PassedOver}
 use Rattle.orders.specs.Claims.{callsOf, repliesOf}
-use Rattle.trial.specs.Report.{numbersOf}
+use Rattle.trial.specs.Report.{reportNumbers}
 use Rattle.trial.specs.Entry.{orderBy, trialOf, trialOutcome, stateTried, reportTried}
 
 module _ (f : Floor) (ws : List ℕ) (order seed : ℕ) where
@@ -42,7 +42,7 @@ module _ (f : Floor) (ws : List ℕ) (order seed : ℕ) where
   -- What holds of the trial of an accepted floor.
   pub record Tries : Type 0 where
     -- Every step reported was open when it was taken, is the one that the order's rule takes, and has the machine's answer.
-    pub by-rule : ByRule (orderBy order) M (startMemory (orderBy order) seed) fresh report
+    pub by-rule : FollowsOrder (orderBy order) M (startMemory (orderBy order) seed) fresh report
     -- The steps lead from fresh to the last state; single calls of them are answered as reported.
     pub leads : last ≡ afterSteps M fresh (stepsIn report)
     pub answered : (lent : ℕ) → lengthsOf f .state ≤ lent → replies M fresh (callsOf lent report) ≡ repliesOf report
@@ -55,19 +55,19 @@ module _ (f : Floor) (ws : List ℕ) (order seed : ℕ) where
     pub plan-answers : below (f .carriers) (last .answer) ≡ planOf f ws
 
   -- What a trial that is not refused answers, and leaves in lent memory m for the state and r for the report.
-  pub record Tells (m r : List ℕ) : Type 0 where
+  pub record TrialTells (m r : List ℕ) : Type 0 where
     -- The number of steps taken.
     pub steps : trialOutcome f ws order seed (length m) (length r) ≡ value (length report)
     -- The last state, and behind it what was there.
     pub state : stateTried f ws order seed m (length r) ≡ encode (f .carriers) last ++ drop (lengthsOf f .state) m
     -- Two numbers a step, and behind them what was there.
-    pub lines : reportTried f ws order seed (length m) r ≡ numbersOf report ++ drop (2 * length report) r
+    pub lines : reportTried f ws order seed (length m) r ≡ reportNumbers report ++ drop (2 * length report) r
 
 pub record Trials : Type 0 where
   pub tries : (f : Floor) (ws : List ℕ) (order seed : ℕ) → checkOf f ws ≡ passed → Tries f ws order seed
   -- Orders 1 to 3 in memories of the needed lengths are not refused.
   pub tells : (f : Floor) (ws : List ℕ) (order seed : ℕ) (m r : List ℕ) → checkOf f ws ≡ passed → lengthsOf f .state ≤ length m
-      → lengthsOf f .report ≤ length r → Within 1 3 order → Tells f ws order seed m r
+      → lengthsOf f .report ≤ length r → Within 1 3 order → TrialTells f ws order seed m r
   -- Under order 2 a step that stays open is taken within n (n + 1) / 2 taken steps, the taking counted: in a stretch of the trial in which
   -- it is open each time a step is taken, and is not taken, there are fewer steps.
   pub within-a-round : (f : Floor) (ws : List ℕ) (seed : ℕ) (x : Step) (xs ys zs : List Step) → checkOf f ws ≡ passed

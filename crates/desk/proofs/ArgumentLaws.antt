@@ -9,9 +9,9 @@ use borrow.Author.Tests.{leb-true}
 use lib.Dec.{leb}
 use lib.ListN.{length, getD}
 use Rattle.laws.proofs.Tests.{and-fst, true-false-absurd}
-use Rattle.reference.proofs.RangeLaws.{each-holds}
+use Rattle.laws.proofs.HoldLaws.{each-holds}
 use Rattle.desk.specs.declared.arguments.Decimal.the-variants.{Number, Other}
-use Rattle.desk.specs.Arguments.{isDigit, allDigits, valueIn, Reads}
+use Rattle.desk.specs.Arguments.{isDigit, allDigits, valueIn, ReadsDecimal}
 
 pub digit-low : (b : ℕ) → isDigit b ≡ true → 48 ≤ b
 unfolding isDigit
@@ -36,15 +36,15 @@ value-end text k n v a b e = let same : k ≡ n = omega arith in rw same at e
 
 -- What is read of a text without bytes, of one with another byte, and of digits.
 module _ (text : List ℕ) where
-  pub none-read : length text ≡ 0 → Reads text Other
-  unfolding Reads
+  pub none-read : length text ≡ 0 → ReadsDecimal text Other
+  unfolding ReadsDecimal
   none-read e = λ d. let l = d .some in absurd (omega arith)
 
-  pub other-read : allDigits text ≡ false → Reads text Other
-  unfolding Reads
+  pub other-read : allDigits text ≡ false → ReadsDecimal text Other
+  unfolding ReadsDecimal
   other-read e = λ d. true-false-absurd (d .digits) e
 
   pub number-read : (n : ℕ) → (length text ≡ 0 → ⊥) → allDigits text ≡ true → n ≡ min 4294967296 (valueIn text (length text))
-      → Reads text (Number n)
-  unfolding Reads
+      → ReadsDecimal text (Number n)
+  unfolding ReadsDecimal
   number-read n some digits e = (record { digits = digits; some = omega arith }, e)

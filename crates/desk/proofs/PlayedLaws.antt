@@ -14,7 +14,7 @@ use Rattle.laws.proofs.Tests.{lt-or-le}
 use Rattle.laws.proofs.VerdictLaws.{then-passed, demand-passes, demand-cases, when-passed, given-value, given-refusal}
 use Rattle.floor.specs.declared.Floor.{Floor}
 use Rattle.floor.specs.declared.Refusal.{Refusal}
-use Rattle.floor.specs.Checks.{checkOf, roomOf, within}
+use Rattle.floor.specs.Checks.{checkOf, longEnough, within}
 use Rattle.floor.proofs.LimitsLaws.{check-tells}
 use Rattle.reference.specs.Quiescent.{ceiling}
 use Rattle.encoding.specs.Places.{stateSize}
@@ -24,18 +24,18 @@ use Rattle.printing.specs.Print.{printOf, textLength, orRefusal}
 use Rattle.printing.specs.Put.{TextPut}
 use Rattle.printing.specs.Text.{refusalLine}
 use Rattle.printing.proofs.Theorems.{theorems as printing-theorems}
-use Rattle.reporting.specs.Text.{entries, reportText, reportLength}
+use Rattle.reporting.specs.Text.{entryCount, reportText, reportLength}
 use Rattle.reporting.specs.Put.{PutAt}
 use Rattle.reporting.proofs.ReportLaws.{report-within}
 use Rattle.trial.specs.declared.Tried.{Tried}
 use Rattle.trial.specs.declared.Tried.the-variants.{Steps, Refused}
-use Rattle.trial.specs.Report.{numbersOf, reportSize}
+use Rattle.trial.specs.Report.{reportNumbers, reportSize}
 use Rattle.trial.specs.Entry.{trialVerdict, trialOf, triedOutcome, trialOutcome, reportTried}
 use Rattle.trial.proofs.ReportLaws.{numbers-length}
 use Rattle.trial.proofs.Theorems.{theorems as trial-theorems}
 use Rattle.printing.proofs.PrintLaws.{refusal-length}
 use Rattle.desk.specs.Text.{orderVerdict, playedText}
-use Rattle.reporting.proofs.PrintedLaws.{Within}
+use Rattle.reporting.proofs.PrintedLaws.{PrintsWithin}
 
 -- The largest figures.
 ceiling-most : (n : ℕ) → n ≤ 8 → ceiling n ≤ 502
@@ -57,7 +57,7 @@ module _ (f : Floor) (ws : List ℕ) (ok : checkOf f ws ≡ passed) where
 
   -- In that memory only the order is refused.
   order-decides : (order state report : ℕ) → 9666 ≤ state → 1004 ≤ report → trialVerdict f ws order state report ≡ orderVerdict order
-  unfolding trialVerdict orderVerdict placeVerdict roomOf reportSize
+  unfolding trialVerdict orderVerdict placeVerdict longEnough reportSize
   order-decides order state report s r =
       let size : stateSize (f .carriers) ≤ state = omega (arith, size-most (f .carriers) few) in
       let lines : 2 * ceiling (f .carriers) ≤ report = omega (arith, ceiling-most (f .carriers) few) in
@@ -93,35 +93,35 @@ module _ (f : Floor) (ws : List ℕ) (ok : checkOf f ws ≡ passed) where
   -- The report's numbers stand in front of its memory.
   pub report-front : (order seed state : ℕ) (old new : List ℕ) (t : ℕ) → 9666 ≤ state → 1004 ≤ length old
       → (orderVerdict order ≡ passed) × (t ≡ length (trialOf f ws order seed .report)) → new ≡ reportTried f ws order seed state old
-      → take (2 * t) new ≡ numbersOf (trialOf f ws order seed .report)
+      → take (2 * t) new ≡ reportNumbers (trialOf f ws order seed .report)
   unfolding reportTried put
   report-front order seed state old new t wide long told stores =
       let ok = order-decides order state (length old) wide long ∙ told .0 in
       let es = trialOf f ws order seed .report in
-      rw (stores ∙ when-passed _ ok) (take-at (numbersOf es) _ (2 * t) (omega (arith, numbers-length es, told .1)))
+      rw (stores ∙ when-passed _ ok) (take-at (reportNumbers es) _ (2 * t) (omega (arith, numbers-length es, told .1)))
 
   -- The whole text has at most 13,217 bytes.
-  pub routes-room : textLength f ≤ 2659
+  pub routes-within : textLength f ≤ 2659
   unfolding textLength
-  routes-room = omega (arith, few)
+  routes-within = omega (arith, few)
 
   pub routes-short : length (printOf f ws) ≤ 2659
-  routes-short = omega (arith, printing-theorems .text-within f ws ok, routes-room)
+  routes-short = omega (arith, printing-theorems .text-within f ws ok, routes-within)
 
   pub text-short : (order : ℕ) (xs : List ℕ) → length xs ≤ 1004 → length (reportText (f .carriers) order xs ++ printOf f ws) ≤ 13217
-  unfolding reportLength entries
+  unfolding reportLength entryCount
   text-short order xs l =
       omega (arith, report-within (f .carriers) order xs, routes-short, length-append (reportText (f .carriers) order xs) (printOf f ws))
 
 -- A report of at most 502 lines ends by column 10,558.
-pub report-room : (carriers order : ℕ) (xs old new : List ℕ) (n : ℕ) → PutAt (reportText carriers order xs) old 0 new n → length xs ≤ 1004
+pub report-ends : (carriers order : ℕ) (xs old new : List ℕ) (n : ℕ) → PutAt (reportText carriers order xs) old 0 new n → length xs ≤ 1004
     → n ≤ 10558
-unfolding reportLength entries
-report-room carriers order xs old new n p l = omega (arith, p .behind, report-within carriers order xs)
+unfolding reportLength entryCount
+report-ends carriers order xs old new n p l = omega (arith, p .behind, report-within carriers order xs)
 
 -- A text that was put is the trial's, or its refusal's.
 module _ (f : Floor) (ws old new : List ℕ) (order seed n : ℕ) where
-  pub played-put : (xs : List ℕ) → orderVerdict order ≡ passed → xs ≡ numbersOf (trialOf f ws order seed .report)
+  pub played-put : (xs : List ℕ) → orderVerdict order ≡ passed → xs ≡ reportNumbers (trialOf f ws order seed .report)
       → TextPut (reportText (f .carriers) order xs ++ printOf f ws) old new n
       → TextPut (orRefusal (orderVerdict order) (playedText f ws order seed)) old new n
   unfolding orRefusal playedText
@@ -141,8 +141,8 @@ either-short f ws ok order seed = go (orderVerdict order)
     go : (v : Verdict) → length (orRefusal v (playedText f ws order seed)) ≤ 13217
     go passed =
         let es = trialOf f ws order seed .report in
-        text-short f ws ok order (numbersOf es) (omega (arith, numbers-length es, report-short f ws ok order seed))
+        text-short f ws ok order (reportNumbers es) (omega (arith, numbers-length es, report-short f ws ok order seed))
     go (refused k p) = omega (arith, refusal-length k p)
 
-pub played-within : (order seed : ℕ) → Within (λ f ws. orRefusal (orderVerdict order) (playedText f ws order seed)) 13217
+pub played-within : (order seed : ℕ) → PrintsWithin (λ f ws. orRefusal (orderVerdict order) (playedText f ws order seed)) 13217
 played-within order seed = record { short = λ f ws ok. either-short f ws ok order seed }

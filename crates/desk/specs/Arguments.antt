@@ -5,7 +5,7 @@ use mathlib.Core.List.{List}
 use mathlib.Core.Path.{_≡_}
 use lib.Dec.{eqb, leb}
 use lib.ListN.{length, getD}
-use Rattle.reference.specs.Ranges.{each}
+use Rattle.laws.specs.Verdict.{each}
 use Rattle.desk.specs.declared.arguments.Decimal.{Decimal}
 use Rattle.desk.specs.declared.arguments.Decimal.the-variants.{Number, Other}
 
@@ -32,6 +32,6 @@ valueIn text zero = 0
 valueIn text (suc k) = 10 * valueIn text k + (getD text k 0 - 48)
 
 -- What is read of a text: its number, one above 2^32 as that; or that it is no number.
-unfoldable pub Reads : List ℕ → Decimal → Type 0
-Reads text (Number n) = IsDecimal text × (n ≡ min 4294967296 (valueIn text (length text)))
-Reads text Other = IsDecimal text → ⊥
+unfoldable pub ReadsDecimal : List ℕ → Decimal → Type 0
+ReadsDecimal text (Number n) = IsDecimal text × (n ≡ min 4294967296 (valueIn text (length text)))
+ReadsDecimal text Other = IsDecimal text → ⊥

@@ -8,7 +8,7 @@ use Rattle.sheet.specs.Values.{floorAt, wallsAt}
 use Rattle.sheet.specs.Read.{sheetVerdict}
 use Rattle.printing.specs.Print.{printOf, orRefusal}
 use Rattle.reporting.specs.Text.{reportText}
-use Rattle.trial.specs.Report.{numbersOf}
+use Rattle.trial.specs.Report.{reportNumbers}
 use Rattle.trial.specs.Entry.{trialOf}
 
 -- Refusal 11, 0: an order other than 1 to 3.
@@ -17,7 +17,7 @@ orderVerdict order = demand (within 1 3 order) 11 0
 
 -- The text of a trial of a floor: the report's, then the printed routes.
 unfoldable pub playedText : Floor → List ℕ → (order seed : ℕ) → List ℕ
-playedText f ws order seed = reportText (f .carriers) order (numbersOf (trialOf f ws order seed .report)) ++ printOf f ws
+playedText f ws order seed = reportText (f .carriers) order (reportNumbers (trialOf f ws order seed .report)) ++ printOf f ws
 
 -- What is printed for a sheet, an order and a seed; of a refused sheet or order the line of the refusal.
 unfoldable pub trialText : List ℕ → (order seed : ℕ) → List ℕ

@@ -3,7 +3,7 @@ ghost use mathlib.Core.Path.{_≡_};
 ghost use mathlib.Core.Bool.{true};
 ghost use Prim.Native.Nat.{_+_, _-_, _*_, _≤_, min};
 ghost use lib.ListN.{length};
-ghost use Rattle.desk.specs.Arguments.{isDigit, allDigits, sameBytes, valueIn, Reads};
+ghost use Rattle.desk.specs.Arguments.{isDigit, allDigits, sameBytes, valueIn, ReadsDecimal};
 
 // What an argument is read as.
 pub enum Decimal {
@@ -85,7 +85,7 @@ fn value(text: &[u8]) -> u64
 
 // The number that a text is in decimal digits.
 pub fn read_decimal(text: &[u8]) -> Decimal
-    ensures { λ r. ⌜ Reads (now (text .entry)) r ⌝ }
+    ensures { λ r. ⌜ ReadsDecimal (now (text .entry)) r ⌝ }
 {
     if text.len() == 0 {
         return Decimal::Other;

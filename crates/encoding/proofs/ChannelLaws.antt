@@ -8,16 +8,16 @@ use lib.ListN.{length, getD, length-append}
 use borrow.Author.Tests.{lt-ltb}
 use Rattle.laws.specs.Memory.{put}
 use Rattle.route.specs.Route.{Answer, unheard, heard}
-use Rattle.records.specs.Records.{recordOf, fit, slot, moved}
+use Rattle.records.specs.Records.{recordOf, resized, slot, moved}
 use Rattle.reference.specs.Take.{newer}
 use Rattle.encoding.specs.Encode.{slots, channelBlock}
 use Rattle.encoding.specs.InnerSteps.{shifted, popped, pushed}
-use Rattle.encoding.proofs.WindowLaws.{Window, Stands, window-whole, window-front, window-behind, window-inside, window-old}
+use Rattle.encoding.proofs.WindowLaws.{Window, StandsAt, window-whole, window-front, window-behind, window-inside, window-old}
 use Rattle.encoding.proofs.WindowLaws.{window-part, window-number, window-put}
-use Rattle.records.proofs.SlotLaws.{fit-length, fit-whole, slot-length}
+use Rattle.records.proofs.SlotLaws.{resized-length, resized-whole, slot-length}
 
 -- A record that stands at place q moved to place r.
-pub moved-is : {q r : ℕ} {m m′ b d : List ℕ} → Stands q m b → Window r m m′ d b → length b ≡ 65 → length d ≡ 65 → moved m q r ≡ m′
+pub moved-is : {q r : ℕ} {m m′ b d : List ℕ} → StandsAt q m b → Window r m m′ d b → length b ≡ 65 → length d ≡ 65 → moved m q r ≡ m′
 unfolding moved
 moved-is w v x y = rw (window-part 65 x w) (window-put (y ∙ sym x) v)
 
@@ -61,7 +61,7 @@ module _ (x y : List ℕ) (p : ℕ) (place : length x ≡ p) where
 
   -- The others move up, the last place is cleared, and the number falls.
   module _ (k : ℕ) (a b c d : List ℕ) (la : length a ≡ 65) (lb : length b ≡ 65) (lc : length c ≡ 65) (ld : length d ≡ 65) where
-    shifted-four : shifted (there (k ∷ four a b c d)) p ≡ there (k ∷ four b c d (fit 65 []))
+    shifted-four : shifted (there (k ∷ four a b c d)) p ≡ there (k ∷ four b c d (resized 65 []))
     unfolding shifted
     shifted-four =
         let one : moved (there (k ∷ four a b c d)) (p + 66) (p + 1) ≡ there (k ∷ four b b c d) =
@@ -73,18 +73,18 @@ module _ (x y : List ℕ) (p : ℕ) (place : length x ≡ p) where
         let three : moved (there (k ∷ four b c c d)) (p + 196) (p + 131) ≡ there (k ∷ four b c d d) =
         moved-is (window-old (fourth k b c c d lb lc lc d)) (third k b c c d lb lc lc d) ld lc
         in
-        let zeros : put (there (k ∷ four b c d d)) (p + 196) (fit 65 []) ≡ there (k ∷ four b c d (fit 65 [])) =
-        window-put (ld ∙ sym (fit-length 65 [])) (fourth k b c d d lb lc ld (fit 65 []))
+        let zeros : put (there (k ∷ four b c d d)) (p + 196) (resized 65 []) ≡ there (k ∷ four b c d (resized 65 [])) =
+        window-put (ld ∙ sym (resized-length 65 [])) (fourth k b c d d lb lc ld (resized 65 []))
         in
         rw (one, two, three) zeros
 
-    popped-four : popped (there (k ∷ four a b c d)) p ≡ there ((k - 1) ∷ four b c d (fit 65 []))
+    popped-four : popped (there (k ∷ four a b c d)) p ≡ there ((k - 1) ∷ four b c d (resized 65 []))
     unfolding popped
     popped-four =
         let number : getD (there (k ∷ four a b c d)) p 0 ≡ k =
         window-number 0 p (omega arith) (add-zero p) (number-there k k (four a b c d))
         in
-        rw (number, shifted-four) (window-put refl (number-there k (k - 1) (four b c d (fit 65 []))))
+        rw (number, shifted-four) (window-put refl (number-there k (k - 1) (four b c d (resized 65 []))))
 
 -- A channel with one to four messages without its oldest.
 popped-there : (x y : List ℕ) (p : ℕ) → length x ≡ p → (l : List Answer) → 0 < length l → length l ≤ 4 →
@@ -92,17 +92,20 @@ popped-there : (x y : List ℕ) (p : ℕ) → length x ≡ p → (l : List Answe
 unfolding channelBlock slots newer slot
 popped-there x y p e [] low high = absurd (omega arith)
 popped-there x y p e (a ∷ []) low high =
-    popped-four x y p e 1 (fit 65 (recordOf a)) (fit 65 []) (fit 65 []) (fit 65 []) (fit-length 65 (recordOf a)) (fit-length 65 [])
-    (fit-length 65 []) (fit-length 65 [])
+    popped-four x y p e 1 (resized 65 (recordOf a)) (resized 65 []) (resized 65 []) (resized 65 [])
+    (resized-length 65 (recordOf a)) (resized-length 65 [])
+    (resized-length 65 []) (resized-length 65 [])
 popped-there x y p e (a ∷ b ∷ []) low high =
-    popped-four x y p e 2 (fit 65 (recordOf a)) (fit 65 (recordOf b)) (fit 65 []) (fit 65 []) (fit-length 65 (recordOf a))
-    (fit-length 65 (recordOf b)) (fit-length 65 []) (fit-length 65 [])
+    popped-four x y p e 2 (resized 65 (recordOf a)) (resized 65 (recordOf b)) (resized 65 []) (resized 65 [])
+    (resized-length 65 (recordOf a))
+    (resized-length 65 (recordOf b)) (resized-length 65 []) (resized-length 65 [])
 popped-there x y p e (a ∷ b ∷ c ∷ []) low high =
-    popped-four x y p e 3 (fit 65 (recordOf a)) (fit 65 (recordOf b)) (fit 65 (recordOf c)) (fit 65 []) (fit-length 65 (recordOf a))
-    (fit-length 65 (recordOf b)) (fit-length 65 (recordOf c)) (fit-length 65 [])
+    popped-four x y p e 3 (resized 65 (recordOf a)) (resized 65 (recordOf b)) (resized 65 (recordOf c)) (resized 65 [])
+    (resized-length 65 (recordOf a))
+    (resized-length 65 (recordOf b)) (resized-length 65 (recordOf c)) (resized-length 65 [])
 popped-there x y p e (a ∷ b ∷ c ∷ d ∷ []) low high =
-    popped-four x y p e 4 (fit 65 (recordOf a)) (fit 65 (recordOf b)) (fit 65 (recordOf c)) (fit 65 (recordOf d))
-    (fit-length 65 (recordOf a)) (fit-length 65 (recordOf b)) (fit-length 65 (recordOf c)) (fit-length 65 (recordOf d))
+    popped-four x y p e 4 (resized 65 (recordOf a)) (resized 65 (recordOf b)) (resized 65 (recordOf c)) (resized 65 (recordOf d))
+    (resized-length 65 (recordOf a)) (resized-length 65 (recordOf b)) (resized-length 65 (recordOf c)) (resized-length 65 (recordOf d))
 popped-there x y p e (a ∷ b ∷ c ∷ d ∷ f ∷ l) low high = absurd (omega arith)
 
 pub popped-is : {p : ℕ} {m m′ : List ℕ} (l : List Answer) → 0 < length l → length l ≤ 4 →
@@ -110,7 +113,7 @@ pub popped-is : {p : ℕ} {m m′ : List ℕ} (l : List Answer) → 0 < length l
 popped-is {p = p} l low high w = rw (w .old, w .new) (popped-there (w .before) (w .after) p (w .size) l low high)
 
 -- The oldest message.
-pub oldest-stands : (a : Answer) (l : List Answer) → Stands 1 (channelBlock (a ∷ l)) (slot (heard a))
+pub oldest-stands : (a : Answer) (l : List Answer) → StandsAt 1 (channelBlock (a ∷ l)) (slot (heard a))
 unfolding channelBlock slots
 oldest-stands a l =
     window-behind (length (a ∷ l) ∷ []) 1 1 refl refl (window-front (slots 3 l) (window-whole (slot (heard a)) (slot (heard a))))
@@ -133,7 +136,7 @@ pushed-there x y p e l a h whole =
     let number : getD (x ++ ((k ∷ slots 4 l) ++ y)) p 0 ≡ k =
     window-number 0 p (omega arith) (add-zero p) (number-there x y p e k k (slots 4 l))
     in
-    let rec : recordOf a ≡ slot (heard a) = unfold slot in sym (fit-whole 65 (recordOf a) whole) in
+    let rec : recordOf a ≡ slot (heard a) = unfold slot in sym (resized-whole 65 (recordOf a) whole) in
     let place : p + 1 + 65 * k ≡ p + (1 + 65 * k) = omega arith in
     let one : put (x ++ ((k ∷ slots 4 l) ++ y)) (p + 1 + 65 * k) (recordOf a) ≡ x ++ ((k ∷ slots 4 (l ++ (a ∷ []))) ++ y) =
     rw (rec, place)

@@ -11,9 +11,9 @@ use Rattle.floor.specs.declared.Floor.{Floor}
 use Rattle.floor.specs.Checks.{within}
 use Rattle.laws.proofs.Tests.{and-fst, and-snd, not-true-is-false, true-false-absurd}
 use Rattle.reference.specs.State.{State, fresh}
-use Rattle.reference.specs.Ranges.{each}
+use Rattle.laws.specs.Verdict.{each}
 use Rattle.reference.proofs.ThroughLaws.{fresh-throughout}
-use Rattle.reference.proofs.RangeLaws.{each-holds}
+use Rattle.laws.proofs.HoldLaws.{each-holds}
 use Rattle.encoding.specs.Places.{pairsBefore, plannedPlace, duePlace, answerPlace, stateSize}
 use Rattle.encoding.specs.Encode.{encode}
 use Rattle.encoding.specs.Decode.{decode}

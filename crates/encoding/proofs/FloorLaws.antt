@@ -9,7 +9,7 @@ use lib.Seq.{getD-take}
 use borrow.Author.Tests.{lt-leb}
 use Rattle.floor.specs.declared.Floor.{Floor}
 use Rattle.laws.specs.Verdict.{passed, refused}
-use Rattle.floor.specs.Checks.{checkOf, lentOf, roomOf, placesOf, among}
+use Rattle.floor.specs.Checks.{checkOf, lentOf, longEnough, placesOf, among}
 use Rattle.floor.specs.Accepted.{SameFloor}
 use Rattle.floor.proofs.LimitsLaws.{CheckTells, check-tells}
 use Rattle.floor.proofs.SameLaws.{among-same, walls-agree, check-same}
@@ -101,7 +101,7 @@ module _ (f : Floor) (ws : List ℕ) where
         check-same f (take k ws) f ws (lent-floor k l) lent (tells .lent) ∙ ok
 
     pub check-short : (k : ℕ) → k < f .walls → checkOf f (take k ws) ≡ refused 9 0
-    unfolding checkOf lentOf roomOf
+    unfolding checkOf lentOf longEnough
     check-short k l =
         then-passed (tells .limited)
         ∙ then-refused (placesOf f (take k ws))

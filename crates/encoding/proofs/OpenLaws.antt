@@ -9,17 +9,16 @@ use lib.Dec.{leb, ltb, eqb}
 use lib.ListN.{length}
 use borrow.Author.Tests.{ltb-true, le-leb, ne-eqb}
 use Rattle.route.specs.Route.{Answer}
-use Rattle.laws.specs.Verdict.{passes}
+use Rattle.laws.specs.Verdict.{passes, each}
 use Rattle.laws.proofs.Tests.{and-fst, and-snd, and-same, lt-or-le}
 use Rattle.laws.proofs.VerdictLaws.{demand-same}
-use Rattle.reference.specs.Ranges.{each}
 use Rattle.reference.specs.State.{Machine, State}
-use Rattle.reference.specs.Step.{Step, plan, deliver, isThere, hasRoom, isEmpty, waitsFor, isOpen}
+use Rattle.reference.specs.Step.{Step, plan, deliver, isThere, hasCapacity, isEmpty, waitsFor, isOpen}
 use Rattle.reference.specs.Ranking.{isSilent}
-use Rattle.reference.proofs.RangeLaws.{each-same}
+use Rattle.laws.proofs.HoldLaws.{each-same}
 use Rattle.reference.proofs.RankingLaws.{isShut, silent-tests}
 use Rattle.encoding.specs.Encode.{flag, encode}
-use Rattle.encoding.specs.InnerSteps.{roomIn, waitsIn, openIn, shutIn, silentIn}
+use Rattle.encoding.specs.InnerSteps.{capacityIn, waitsIn, openIn, shutIn, silentIn}
 use Rattle.encoding.proofs.ReadLaws.{read-due, read-length}
 
 -- A flag is 1 where it is set.
@@ -42,9 +41,9 @@ module _ (M : Machine) (s : State) (rest : List ℕ) where
   abbrev m : List ℕ
   m = encode n s ++ rest
 
-  room-same : (i k : ℕ) → k < n → roomIn M m i k ≡ hasRoom M s i k
-  unfolding roomIn hasRoom
-  room-same i k l =
+  capacity-same : (i k : ℕ) → k < n → capacityIn M m i k ≡ hasCapacity M s i k
+  unfolding capacityIn hasCapacity
+  capacity-same i k l =
       ⊎-elim
       (λ (h : i < k). ap (λ (x : ℕ). leb k i || ltb x (M .depth)) (read-length n s rest k i h l))
       (λ (h : k ≤ i). rw (le-leb k i h))
@@ -55,7 +54,7 @@ module _ (M : Machine) (s : State) (rest : List ℕ) where
   unfolding waitsIn waitsFor isThere
   waits-same (plan i) e =
       let l : i < n = ltb-true i n e in
-      rw (read-due n s rest i l, flag-set (s .due i), demand-same 13 1 (roomIn M m i) (hasRoom M s i) n (room-same i))
+      rw (read-due n s rest i l, flag-set (s .due i), demand-same 13 1 (capacityIn M m i) (hasCapacity M s i) n (capacity-same i))
   waits-same (deliver j i) e =
       let a : j < i = ltb-true j i (and-fst (ltb j i) (ltb i n) e) in
       let b : i < n = ltb-true i n (and-snd (ltb j i) (ltb i n) e) in

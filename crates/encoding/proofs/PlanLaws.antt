@@ -21,7 +21,7 @@ use Rattle.encoding.specs.Encode.{flag, carrierBlock, encode}
 use Rattle.encoding.specs.InnerSteps.{newsIn, plannedIn, viewsIn}
 use Rattle.encoding.proofs.WindowLaws.{window-put}
 use Rattle.encoding.proofs.SplitLaws.{carrier-length}
-use Rattle.records.proofs.SlotLaws.{fit-whole}
+use Rattle.records.proofs.SlotLaws.{resized-whole}
 use Rattle.encoding.proofs.StateLaws.{withCarriers, withChans, carrier-window}
 use Rattle.encoding.proofs.ReadLaws.{read-planned, read-answer, read-view}
 use Rattle.encoding.proofs.RecordLaws.{record-shows}
@@ -31,7 +31,7 @@ use Rattle.encoding.proofs.SendLaws.{sent-same}
 -- The record of a whole answer as it lies in memory.
 pub slot-record : (a : Answer) → Whole a → slot (heard a) ≡ recordOf a
 unfolding slot
-slot-record a w = fit-whole 65 (recordOf a) w
+slot-record a w = resized-whole 65 (recordOf a) w
 
 -- Two whole answers are the same where their records are.
 records-same : (a b : Answer) → sameCells (recordOf a) (recordOf b) ≡ sameAnswer a b
@@ -95,11 +95,11 @@ module _ (n : ℕ) (s : State) (rest : List ℕ) (i : ℕ) (a : Answer) where
   pub planned-same : i < n → Whole a → Whole (s .answer i) → ((k : ℕ) → i < k → k < n → length (s .chan k i) < 4) →
       plannedIn n (encode n s ++ rest) i (recordOf a) ≡ encode n (planAs s i a) ++ rest
   unfolding plannedIn planned-state withCarriers withChans
-  planned-same l w v room =
+  planned-same l w v capacity =
       let s₁ = withCarriers s (update (s .planned) i true) (update (s .due) i false) (update (s .answer) i a) in
       ⊎-elim
       (λ (e : isNews s i a ≡ true).
-      rw (news-same n s rest i a l v, put-planned n s rest i a l w, e, sent-same n s₁ rest i a w room)
+      rw (news-same n s rest i a l v, put-planned n s rest i a l w, e, sent-same n s₁ rest i a w capacity)
       (ap (λ (z : State). encode n z ++ rest) (news-state e)))
       (λ (e : isNews s i a ≡ false).
       rw (news-same n s rest i a l v, put-planned n s rest i a l w, e)

@@ -11,13 +11,13 @@ use Rattle.reference.specs.State.{State}
 use Rattle.encoding.specs.Places.{plannedPlace, duePlace, answerPlace, viewPlace, channelPlace}
 use Rattle.encoding.specs.Encode.{flag, channelBlock, carrierBlock, countBlock, encode}
 use Rattle.records.specs.Records.{slot}
-use Rattle.encoding.proofs.WindowLaws.{Stands, window-whole, window-behind, window-inside, window-part, window-number, window-old}
+use Rattle.encoding.proofs.WindowLaws.{StandsAt, window-whole, window-behind, window-inside, window-part, window-number, window-old}
 use Rattle.encoding.proofs.SplitLaws.{channel-length}
 use Rattle.records.proofs.SlotLaws.{slot-length}
 use Rattle.encoding.proofs.StateLaws.{count-window, carrier-window, view-window, channel-window}
 
 -- The record of a carrier's answer behind its two flags.
-pub answer-inside : (s : State) (i : ℕ) → Stands 2 (carrierBlock s i) (slot (heard (s .answer i)))
+pub answer-inside : (s : State) (i : ℕ) → StandsAt 2 (carrierBlock s i) (slot (heard (s .answer i)))
 unfolding carrierBlock
 answer-inside s i =
     let b = slot (heard (s .answer i)) in
@@ -25,16 +25,16 @@ answer-inside s i =
 
 module _ (n : ℕ) (s : State) (rest : List ℕ) where
   -- The blocks of the state, where they stand.
-  pub count-here : Stands 0 (encode n s ++ rest) (countBlock (s .taken))
+  pub count-here : StandsAt 0 (encode n s ++ rest) (countBlock (s .taken))
   count-here = window-old (count-window n s rest (s .taken))
 
-  pub carrier-here : (i : ℕ) → i < n → Stands (plannedPlace i) (encode n s ++ rest) (carrierBlock s i)
+  pub carrier-here : (i : ℕ) → i < n → StandsAt (plannedPlace i) (encode n s ++ rest) (carrierBlock s i)
   carrier-here i l = window-old (carrier-window n s rest (s .planned) (s .due) (s .answer) i l (λ k x y. (refl, refl, refl)))
 
-  view-here : (i j : ℕ) → j < i → i < n → Stands (viewPlace n i j) (encode n s ++ rest) (slot (s .view i j))
+  view-here : (i j : ℕ) → j < i → i < n → StandsAt (viewPlace n i j) (encode n s ++ rest) (slot (s .view i j))
   view-here i j a b = window-old (view-window n s rest (s .view) i j a b (λ k l x y z. refl))
 
-  pub channel-here : (i j : ℕ) → j < i → i < n → Stands (channelPlace n i j) (encode n s ++ rest) (channelBlock (s .chan i j))
+  pub channel-here : (i j : ℕ) → j < i → i < n → StandsAt (channelPlace n i j) (encode n s ++ rest) (channelBlock (s .chan i j))
   channel-here i j a b = window-old (channel-window n s rest (s .chan) i j a b (λ k l x y z. refl))
 
   -- The taken count.

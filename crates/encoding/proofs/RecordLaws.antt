@@ -17,7 +17,7 @@ use Rattle.laws.proofs.Tests.{and-both, and-fst, and-snd, lt-or-le, eq-or-ne}
 use Rattle.records.specs.Records.{viewOf, recordOf, slot, recordAt, shown}
 use Rattle.records.proofs.RecordLaws.{Whole}
 use Rattle.reference.specs.Bounds.{ShownOf}
-use Rattle.reference.proofs.RangeLaws.{each-holds, each-true}
+use Rattle.laws.proofs.HoldLaws.{each-holds, each-true}
 use Rattle.encoding.specs.Valid.{usedBy, cellValid, cellsValid, recordValid}
 use Rattle.encoding.specs.Ranges.{Sound}
 use Rattle.records.proofs.SlotLaws.{slot-length, viewTag, viewNumber, tag-most, heard-least, tag-read, number-read}

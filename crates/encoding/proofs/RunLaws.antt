@@ -22,7 +22,7 @@ use Rattle.encoding.proofs.OpenLaws.{open-same, silent-same}
 use Rattle.encoding.proofs.StepLaws.{Storable, after-same}
 
 -- A run over memory and a run of the reference machine with n carriers come to the same.
-pub record SameRun (n : ℕ) (rest : List ℕ) (r : RanIn) (q : RunResult) : Type 0 where
+pub record RunSimulated (n : ℕ) (rest : List ℕ) (r : RanIn) (q : RunResult) : Type 0 where
   pub memory : r .memory ≡ encode n (q .state) ++ rest
   pub taken : r .taken ≡ q .taken
   pub left : r .left ≡ anyLeft (q .unread)
@@ -36,43 +36,44 @@ module _ (M : Machine) (m : List ℕ) (a : Asked) (xs : List Asked) (b : ℕ) wh
   unfolding runIn
   skipped-in e = rw (e, runIn)
 
-module _ (M : Machine) (fit : Storable M) (rest : List ℕ) where
+module _ (M : Machine) (storable : Storable M) (rest : List ℕ) where
   -- The memory of a state, and what is proved of a run from it.
-  abbrev memoryOf : State → List ℕ
-  memoryOf s = encode (M .carriers) s ++ rest
+  abbrev encodedWith : State → List ℕ
+  encodedWith s = encode (M .carriers) s ++ rest
 
-  abbrev Follows : State → List Step → ℕ → RunResult → Type 0
-  Follows s xs b q =
-      InRange M s → Throughout (M .carriers) Whole s → SameRun (M .carriers) rest (runIn M (memoryOf s) (map step xs) b) q
+  abbrev RunFollows : State → List Step → ℕ → RunResult → Type 0
+  RunFollows s xs b q =
+      InRange M s → Throughout (M .carriers) Whole s → RunSimulated (M .carriers) rest (runIn M (encodedWith s) (map step xs) b) q
 
-  follows-took : (s : State) (x : Step) (xs : List Step) (b : ℕ) (q : RunResult) → isOpen M s x ≡ true → Follows (afterStep M s x) xs b q →
-      Follows s (x ∷ xs) (suc b) (tookFirst x q)
+  follows-took : (s : State) (x : Step) (xs : List Step) (b : ℕ) (q : RunResult) → isOpen M s x ≡ true →
+      RunFollows (afterStep M s x) xs b q →
+      RunFollows s (x ∷ xs) (suc b) (tookFirst x q)
   unfolding askedOpenIn askedAfterIn tookOne tookFirst
   follows-took s x xs b q e h range whole =
-      let r = h (step-in-range M s range x e) (step-throughout (M .carriers) Whole M (fit .whole) s whole x) in
-      rw (took-in M (memoryOf s) (step x) (map step xs) b (open-same M s rest x ∙ e), after-same M fit s range whole rest x e)
+      let r = h (step-in-range M s range x e) (step-throughout (M .carriers) Whole M (storable .whole) s whole x) in
+      rw (took-in M (encodedWith s) (step x) (map step xs) b (open-same M s rest x ∙ e), after-same M storable s range whole rest x e)
       (record { memory = r .memory; taken = ap suc (r .taken); left = r .left })
 
-  follows-skipped : (s : State) (x : Step) (xs : List Step) (b : ℕ) (q : RunResult) → isOpen M s x ≡ false → Follows s xs (suc b) q →
-      Follows s (x ∷ xs) (suc b) (skippedFirst x q)
+  follows-skipped : (s : State) (x : Step) (xs : List Step) (b : ℕ) (q : RunResult) → isOpen M s x ≡ false → RunFollows s xs (suc b) q →
+      RunFollows s (x ∷ xs) (suc b) (skippedFirst x q)
   unfolding askedOpenIn skippedFirst
   follows-skipped s x xs b q e h range whole =
       let r = h range whole in
-      rw (skipped-in M (memoryOf s) (step x) (map step xs) b (open-same M s rest x ∙ e))
+      rw (skipped-in M (encodedWith s) (step x) (map step xs) b (open-same M s rest x ∙ e))
       (record { memory = r .memory; taken = r .taken; left = r .left })
 
   pub run-same : (s : State) (xs : List Step) (b : ℕ) → InRange M s → Throughout (M .carriers) Whole s →
-      SameRun (M .carriers) rest (runIn M (memoryOf s) (map step xs) b) (run M s xs b)
+      RunSimulated (M .carriers) rest (runIn M (encodedWith s) (map step xs) b) (run M s xs b)
   unfolding runIn run anyLeft
   run-same =
-      run-induction M Follows
+      run-induction M RunFollows
       (λ s b range whole. record { memory = refl; taken = refl; left = refl })
       (λ s x xs range whole. record { memory = refl; taken = refl; left = refl })
       follows-took follows-skipped
 
   -- It ends alike.
   pub ending-same : (s : State) (xs : List Step) (b : ℕ) → InRange M s → Throughout (M .carriers) Whole s →
-      endingIn M b (runIn M (memoryOf s) (map step xs) b) ≡ ending M b (run M s xs b)
+      endingIn M b (runIn M (encodedWith s) (map step xs) b) ≡ ending M b (run M s xs b)
   unfolding endingIn ending
   ending-same s xs b range whole =
       let r = run-same s xs b range whole in

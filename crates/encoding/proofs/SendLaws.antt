@@ -75,7 +75,7 @@ channels-same n s g h e =
     same
 
 module _ (n : ℕ) (s : State) (rest : List ℕ) (i : ℕ) (a : Answer) (whole : length (recordOf a) ≡ 65)
-    (room : (k : ℕ) → i < k → k < n → length (s .chan k i) < 4) where
+    (capacity : (k : ℕ) → i < k → k < n → length (s .chan k i) < 4) where
   -- The memory once the answer is sent to the first k carriers.
   abbrev sentAt : ℕ → List ℕ
   sentAt k = encode n (withChans s (sentBelow (s .chan) i a k)) ++ rest
@@ -92,7 +92,7 @@ module _ (n : ℕ) (s : State) (rest : List ℕ) (i : ℕ) (a : Answer) (whole :
       after-it (s .chan) i a (suc k) k i (omega arith) ∙ send-more (s .chan) i a k h
       in
       rw (lt-ltb i k h)
-      (pushed-is (s .chan k i) a (room k h l) whole
+      (pushed-is (s .chan k i) a (capacity k h l) whole
       (rw (old, new) at
       (channel-window n z rest (sentBelow (s .chan) i a (suc k)) k i h l
       (λ r j u v w. next-same (s .chan) i a k r j (λ x y q. w x y))))))

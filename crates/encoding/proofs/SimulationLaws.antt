@@ -13,15 +13,15 @@ use Rattle.laws.specs.Verdict.{Verdict, passed, refused, Outcome, value, _then_
 use Rattle.laws.specs.Memory.{put}
 use Rattle.laws.proofs.VerdictLaws.{then-passed, then-both, demand-holds, demand-passes, answers-passed, gives-same, when-passed}
 use Rattle.floor.specs.declared.Floor.{Floor}
-use Rattle.floor.specs.Checks.{checkOf, roomOf}
-use Rattle.floor.proofs.LimitsLaws.{room-passed}
+use Rattle.floor.specs.Checks.{checkOf, longEnough}
+use Rattle.floor.proofs.LimitsLaws.{length-passed}
 use Rattle.records.proofs.RecordLaws.{Whole}
 use Rattle.reference.specs.State.{Machine, State}
 use Rattle.reference.specs.Step.{isThere, waitsFor}
 use Rattle.reference.specs.Take.{stepAnswer}
-use Rattle.reference.specs.Ending.{Ending}
+use Rattle.reference.specs.Ending.{RunEnding}
 use Rattle.reference.specs.Table.{Asked, step, noStep, Call, single, runOf, stepsOf, lentEnough, allNamed, openSingle, verdict}
-use Rattle.reference.specs.Calls.{Reply, Told, stepped, ran, reply, stateAfter, afterCall}
+use Rattle.reference.specs.Calls.{Reply, CallAnswer, stepped, ran, reply, stateAfter, afterCall}
 use Rattle.reference.specs.Bounds.{InRange, Throughout}
 use Rattle.reference.proofs.TableLaws.{single-open, named-each, all-steps}
 use Rattle.reference.proofs.ReachLaws.{call-reaches}
@@ -42,7 +42,7 @@ use Rattle.encoding.proofs.RunLaws.{run-same, ending-same}
 use Rattle.encoding.proofs.ValidLaws.{fits-valid, valid-fits}
 use Rattle.encoding.proofs.FloorLaws.{depth-few, horizon-short, respond-sound, storable}
 
-ran-both : {t u : ℕ} {x y : Ending} → t ≡ u → x ≡ y → ran t x ≡ ran u y
+ran-both : {t u : ℕ} {x y : RunEnding} → t ≡ u → x ≡ y → ran t x ≡ ran u y
 ran-both e h = rw (e, h)
 
 module _ (f : Floor) (ws : List ℕ) (ok : checkOf f ws ≡ passed) where
@@ -135,7 +135,7 @@ module _ (f : Floor) (ws : List ℕ) (ok : checkOf f ws ≡ passed) where
   module _ (m : List ℕ) (e : stateVerdict f ws m ≡ passed) where
     lent-long : stateSize n ≤ length m
     unfolding stateVerdict placeVerdict
-    lent-long = room-passed (stateSize n) (length m) (then-both _ _ (then-both _ _ e .0) .1)
+    lent-long = length-passed (stateSize n) (length m) (then-both _ _ (then-both _ _ e .0) .1)
 
     is-valid : valid f m ≡ true
     unfolding stateVerdict
@@ -181,7 +181,7 @@ module _ (f : Floor) (ws m : List ℕ) where
 -- The simulation: from the memory of any state within the ranges, with any numbers behind it.
 module _ (f : Floor) (ws : List ℕ) (ok : checkOf f ws ≡ passed) (s : State) (fits : WithinRanges f s) (rest : List ℕ) where
   pub state-passes : stateVerdict f ws (encode (f .carriers) s ++ rest) ≡ passed
-  unfolding stateVerdict placeVerdict roomOf
+  unfolding stateVerdict placeVerdict longEnough
   state-passes =
       let long : stateSize (f .carriers) ≤ length (encode (f .carriers) s ++ rest) =
       omega (arith, length-append (encode (f .carriers) s) rest, encode-length (f .carriers) s)

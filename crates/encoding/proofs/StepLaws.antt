@@ -14,7 +14,7 @@ use Rattle.reference.specs.State.{Machine, State, views}
 use Rattle.reference.specs.Step.{Step, plan, deliver, isOpen}
 use Rattle.reference.specs.Take.{isNews, planAs, deliverTo, effect, counted, afterStep, stepAnswer}
 use Rattle.reference.specs.Bounds.{InRange, Throughout}
-use Rattle.reference.proofs.OpenLaws.{plan-within, plan-room, deliver-above, deliver-within, deliver-full}
+use Rattle.reference.proofs.OpenLaws.{plan-within, plan-capacity, deliver-above, deliver-within, deliver-full}
 use Rattle.encoding.specs.Encode.{encode}
 use Rattle.encoding.specs.InnerSteps.{ticked, newsIn, plannedIn, bestIn, effectIn, afterIn, stepAnswerIn}
 use Rattle.encoding.proofs.StateLaws.{withTaken}
@@ -27,7 +27,8 @@ pub record Storable (M : Machine) : Type 0 where
   pub shallow : M .depth ≤ 4
   pub whole : (i : ℕ) (vs : List View) → Whole (M .respond i vs)
 
-module _ (M : Machine) (fit : Storable M) (s : State) (range : InRange M s) (whole : Throughout (M .carriers) Whole s) (rest : List ℕ) where
+module _ (M : Machine) (storable : Storable M) (s : State) (range : InRange M s) (whole : Throughout (M .carriers) Whole s)
+    (rest : List ℕ) where
   -- The number of carriers, and the memory of the state.
   abbrev n : ℕ
   n = M .carriers
@@ -40,9 +41,9 @@ module _ (M : Machine) (fit : Storable M) (s : State) (range : InRange M s) (who
   unfolding bestIn
   best-same i l = ap (M .respond i) (views-same n s rest i l (λ j h. whole .seen i j h l))
 
-  -- A channel from i to a carrier below has a place for a message where i has room.
-  room-left : (i : ℕ) → isOpen M s (plan i) ≡ true → (k : ℕ) → i < k → k < n → length (s .chan k i) < 4
-  room-left i e k a b = omega (arith, plan-room M s i k e a b, fit .shallow)
+  -- A channel from i to a carrier below has a place for a message where i has capacity.
+  capacity-left : (i : ℕ) → isOpen M s (plan i) ≡ true → (k : ℕ) → i < k → k < n → length (s .chan k i) < 4
+  capacity-left i e k a b = omega (arith, plan-capacity M s i k e a b, storable .shallow)
 
   -- What an open step does.
   effect-same : (x : Step) → isOpen M s x ≡ true → effectIn M m x ≡ encode n (effect M s x) ++ rest
@@ -51,11 +52,11 @@ module _ (M : Machine) (fit : Storable M) (s : State) (range : InRange M s) (who
       let l : i < n = plan-within M s i e in
       let a = M .respond i (views s i) in
       ap (λ (b : Answer). plannedIn n m i (recordOf b)) (best-same i l)
-      ∙ planned-same n s rest i a l (fit .whole i (views s i)) (whole .answers i l) (room-left i e)
+      ∙ planned-same n s rest i a l (storable .whole i (views s i)) (whole .answers i l) (capacity-left i e)
   effect-same (deliver j i) e =
       let a : j < i = deliver-above M s j i e in
       let b : i < n = deliver-within M s j i e in
-      let few : length (s .chan i j) ≤ 4 = omega (arith, range .channels i j a b, fit .shallow) in
+      let few : length (s .chan i j) ≤ 4 = omega (arith, range .channels i j a b, storable .shallow) in
       delivered-same n s rest i j a b (deliver-full M s j i e) few
 
   -- It leaves the count alone.

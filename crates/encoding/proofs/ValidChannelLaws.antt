@@ -13,9 +13,9 @@ use Rattle.laws.proofs.PartLaws.{part-byte, part-split, part-blocks, part-none}
 use Rattle.floor.specs.declared.Floor.{Floor}
 use Rattle.route.specs.Route.{Answer, View, unheard, heard}
 use Rattle.laws.proofs.Tests.{and-both, and-fst, and-snd}
-use Rattle.reference.specs.Ranges.{each}
+use Rattle.laws.specs.Verdict.{each}
 use Rattle.reference.specs.Bounds.{AllOf}
-use Rattle.reference.proofs.RangeLaws.{each-holds, each-true}
+use Rattle.laws.proofs.HoldLaws.{each-holds, each-true}
 use Rattle.encoding.specs.Encode.{slots, channelBlock}
 use Rattle.records.specs.Records.{slot, recordAt, shown}
 use Rattle.encoding.specs.Decode.{messages}
@@ -103,12 +103,12 @@ one-more m at k a b e h =
 abbrev Held : List ℕ → ℕ → Type 0
 Held m at = part m at 65 ≡ slot (heard (shown (recordAt m at)))
 
-abbrev Empty : List ℕ → ℕ → Type 0
-Empty m at = part m at 65 ≡ slot unheard
+abbrev EmptySlot : List ℕ → ℕ → Type 0
+EmptySlot m at = part m at 65 ≡ slot unheard
 
 -- Where the first places hold answers and the others nothing, the places are those of the messages that they show.
 slots-told : (m : List ℕ) (k at count : ℕ) → count ≤ k → ((q : ℕ) → q < count → Held m (at + 65 * q))
-    → ((q : ℕ) → count ≤ q → q < k → Empty m (at + 65 * q)) → part m at (65 * k) ≡ slots k (messages m at count)
+    → ((q : ℕ) → count ≤ q → q < k → EmptySlot m (at + 65 * q)) → part m at (65 * k) ≡ slots k (messages m at count)
 unfolding slots messages
 slots-told m zero at zero c h g = part-none m at
 slots-told m zero at (suc count) c h g = absurd (omega arith)
@@ -159,7 +159,7 @@ module _ (f : Floor) (m : List ℕ) (at : ℕ) (short : f .horizon ≤ 63) (shal
       let b : q < 4 = omega (arith, count-most) in
       answer-told f m (at + 1 + 65 * q) short (omega arith) (sym (place-message f m (at + 1) count q l) ∙ place-holds q b)
 
-  empty-told : (q : ℕ) → count ≤ q → q < 4 → Empty m (at + 1 + 65 * q)
+  empty-told : (q : ℕ) → count ≤ q → q < 4 → EmptySlot m (at + 1 + 65 * q)
   empty-told q l b =
       unused-told f m (at + 1 + 65 * q) short (omega arith) (sym (place-unused f m (at + 1) count q l) ∙ place-holds q b)
 

@@ -12,9 +12,9 @@ use Rattle.laws.specs.Memory.{part}
 use Rattle.floor.specs.declared.Floor.{Floor}
 use Rattle.route.specs.Route.{heard}
 use Rattle.laws.proofs.Tests.{and-fst, and-snd}
-use Rattle.reference.specs.Ranges.{each}
+use Rattle.laws.specs.Verdict.{each}
 use Rattle.reference.specs.State.{State}
-use Rattle.reference.proofs.RangeLaws.{each-holds}
+use Rattle.laws.proofs.HoldLaws.{each-holds}
 use Rattle.encoding.specs.Places.{pairsBefore, plannedPlace, duePlace, answerPlace, viewPlace, channelPlace, stateSize}
 use Rattle.encoding.specs.Encode.{flag, channelBlock, carrierBlock, countBlock, encode}
 use Rattle.records.specs.Records.{slot, recordAt, shown}

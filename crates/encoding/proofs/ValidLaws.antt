@@ -9,9 +9,9 @@ use lib.ListN.{length, take}
 use Rattle.laws.specs.Memory.{part}
 use Rattle.floor.specs.declared.Floor.{Floor}
 use Rattle.laws.proofs.Tests.{and-both}
-use Rattle.reference.specs.Ranges.{each}
+use Rattle.laws.specs.Verdict.{each}
 use Rattle.reference.specs.State.{State}
-use Rattle.reference.proofs.RangeLaws.{each-true}
+use Rattle.laws.proofs.HoldLaws.{each-true}
 use Rattle.encoding.specs.Places.{answerPlace, viewPlace, channelPlace, stateSize}
 use Rattle.encoding.specs.Encode.{flag, encode}
 use Rattle.encoding.specs.Decode.{decode}

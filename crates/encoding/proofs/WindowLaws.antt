@@ -17,8 +17,8 @@ pub record Window (p : ℕ) (m m′ b b′ : List ℕ) : Type 0 where
   pub size : length before ≡ p
 
 -- Block b stands at place p of memory m.
-abbrev pub Stands : ℕ → List ℕ → List ℕ → Type 0
-Stands p m b = Window p m m b b
+abbrev pub StandsAt : ℕ → List ℕ → List ℕ → Type 0
+StandsAt p m b = Window p m m b b
 
 -- A block is a window on itself.
 pub window-whole : (b b′ : List ℕ) → Window 0 b b′ b b′
@@ -61,7 +61,7 @@ window-inside {d = d} {d′ = d′} r e w v =
     nested a x d y c = simp append-assoc
 
 -- The old block alone.
-pub window-old : {p : ℕ} {m m′ b b′ : List ℕ} → Window p m m′ b b′ → Stands p m b
+pub window-old : {p : ℕ} {m m′ b b′ : List ℕ} → Window p m m′ b b′ → StandsAt p m b
 window-old w = record { before = w .before; after = w .after; old = w .old; new = w .old; size = w .size }
 
 -- A part of a memory is the block that stands there.

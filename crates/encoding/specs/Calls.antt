@@ -6,7 +6,7 @@ use lib.ListN.{length}
 use Rattle.laws.specs.Verdict.{Verdict, _then_, demand, _thenAnswers_, whenPassed}
 use Rattle.laws.specs.Memory.{put}
 use Rattle.floor.specs.declared.Floor.{Floor}
-use Rattle.floor.specs.Checks.{checkOf, roomOf}
+use Rattle.floor.specs.Checks.{checkOf, longEnough}
 use Rattle.planner.specs.Plan.{respondOf}
 use Rattle.reference.specs.State.{Machine, State, fresh}
 use Rattle.reference.specs.Table.{Call, single, runOf}
@@ -23,7 +23,7 @@ machineOf f ws = record { carriers = f .carriers; depth = f .depth; needed = sta
 
 -- The refusals of a lent place for a state: the floor's, then 9.
 unfoldable pub placeVerdict : Floor → List ℕ → ℕ → Verdict
-placeVerdict f ws room = checkOf f ws then roomOf (stateSize (f .carriers)) room
+placeVerdict f ws lent = checkOf f ws then longEnough (stateSize (f .carriers)) lent
 
 -- The refusals of a lent state: the floor's, 9, then 10.
 unfoldable pub stateVerdict : Floor → List ℕ → List ℕ → Verdict

@@ -25,7 +25,7 @@ replyIn M m (single lent (step x)) = verdictIn M m (single lent (step x)) gives 
 replyIn M m (single lent noStep) = lentEnough M lent thenAnswers refusal 7 0
 replyIn M m (runOf lent xs b) = verdictIn M m (runOf lent xs b) gives ran (runIn M m xs b .taken) (endingIn M b (runIn M m xs b))
 
--- The memory after a call that is not turned away, and after any call.
+-- The memory after a call that is not refused, and after any call.
 unfoldable pub grantedMemory : Machine → List ℕ → Call → List ℕ
 grantedMemory M m (single lent (step x)) = afterIn M m x
 grantedMemory M m (single lent noStep) = m

@@ -6,7 +6,7 @@ use mathlib.Core.List.{List, [], _∷_}
 use lib.Dec.{eqb}
 use Rattle.reference.specs.State.{Machine}
 use Rattle.reference.specs.Table.{Asked, step, noStep}
-use Rattle.reference.specs.Ending.{Ending, endsAs}
+use Rattle.reference.specs.Ending.{RunEnding, endsAs}
 use Rattle.encoding.specs.InnerSteps.{askedOpenIn, afterIn, silentIn}
 
 -- What a run comes to: the memory after it, the number taken, whether steps are left unread.
@@ -32,5 +32,5 @@ runIn M m (a ∷ xs) (suc b) =
     elim (askedOpenIn M m a) [ true ↦ tookOne (runIn M (askedAfterIn M m a) xs b) | false ↦ runIn M m xs (suc b) ]
 
 -- The end of a run with budget b.
-unfoldable pub endingIn : Machine → ℕ → RanIn → Ending
+unfoldable pub endingIn : Machine → ℕ → RanIn → RunEnding
 endingIn M b r = endsAs (silentIn M (r .memory)) (eqb (r .taken) b && r .left)

@@ -5,11 +5,11 @@ use mathlib.Core.Bool.{Bool, false, _&&_, _||_, not, cond}
 use mathlib.Core.List.{List, [], _∷_}
 use lib.Dec.{leb, ltb, eqb}
 use lib.ListN.{getD}
-use Rattle.laws.specs.Verdict.{Verdict, _then_, demand, demandEach, passes}
+use Rattle.laws.specs.Verdict.{Verdict, _then_, demand, demandEach, passes, each}
 use Rattle.laws.specs.Memory.{put, part}
 use Rattle.route.specs.Route.{Answer, View}
-use Rattle.records.specs.Records.{recordOf, recordAt, fit, moved}
-use Rattle.reference.specs.Ranges.{each, below}
+use Rattle.records.specs.Records.{recordOf, recordAt, resized, moved}
+use Rattle.reference.specs.Ranges.{below}
 use Rattle.reference.specs.State.{Machine}
 use Rattle.reference.specs.Step.{Step, plan, deliver, isThere, sameCells}
 use Rattle.reference.specs.Table.{Asked, step, noStep}
@@ -17,12 +17,12 @@ use Rattle.reference.specs.Take.{StepAnswer, kept, sent, delivered}
 use Rattle.encoding.specs.Places.{plannedPlace, duePlace, answerPlace, viewPlace, channelPlace}
 
 -- The channel from carrier i to carrier k has fewer than depth messages; a carrier that is not below i has no such channel.
-unfoldable pub roomIn : Machine → List ℕ → ℕ → ℕ → Bool
-roomIn M m i k = leb k i || ltb (getD m (channelPlace (M .carriers) k i) 0) (M .depth)
+unfoldable pub capacityIn : Machine → List ℕ → ℕ → ℕ → Bool
+capacityIn M m i k = leb k i || ltb (getD m (channelPlace (M .carriers) k i) 0) (M .depth)
 
--- What a step waits for. Plan i: that i is due, then room in each channel from i. Deliver j to i: a message there.
+-- What a step waits for. Plan i: that i is due, then capacity in each channel from i. Deliver j to i: a message there.
 unfoldable pub waitsIn : Machine → List ℕ → Step → Verdict
-waitsIn M m (plan i) = demand (eqb (getD m (duePlace i) 0) 1) 8 0 then demandEach 13 1 (roomIn M m i) (M .carriers)
+waitsIn M m (plan i) = demand (eqb (getD m (duePlace i) 0) 1) 8 0 then demandEach 13 1 (capacityIn M m i) (M .carriers)
 waitsIn M m (deliver j i) = demand (not (eqb (getD m (channelPlace (M .carriers) i j) 0) 0)) 12 (1 + i)
 
 -- The step is open: it is there, and waits for nothing.
@@ -54,7 +54,7 @@ ticked m =
 
 -- A channel at place c without its oldest message: the others move up, the last place is cleared.
 unfoldable pub shifted : List ℕ → ℕ → List ℕ
-shifted m c = put (moved (moved (moved m (c + 66) (c + 1)) (c + 131) (c + 66)) (c + 196) (c + 131)) (c + 196) (fit 65 [])
+shifted m c = put (moved (moved (moved m (c + 66) (c + 1)) (c + 131) (c + 66)) (c + 196) (c + 131)) (c + 196) (resized 65 [])
 
 unfoldable pub popped : List ℕ → ℕ → List ℕ
 popped m c = put (shifted m c) c ((getD m c 0 - 1) ∷ [])

@@ -7,7 +7,7 @@ use lib.Dec.{leb, ltb, eqb}
 use lib.ListN.{getD}
 use Rattle.floor.specs.declared.Floor.{Floor}
 use Rattle.floor.specs.Checks.{within}
-use Rattle.reference.specs.Ranges.{each}
+use Rattle.laws.specs.Verdict.{each}
 use Rattle.encoding.specs.Places.{plannedPlace, duePlace, answerPlace, viewPlace, channelPlace}
 
 -- How many cells of a record are used: those of beats 0 to H where its tag is a route's, otherwise none.

@@ -1,5 +1,5 @@
--- Laws of a chain of checks that is taken apart by `let .. else`: an answer that passed hands on to the rest of the chain, and the
--- first refusal is the answer of the whole.
+-- Laws of a chain of checks that is taken apart by `let .. else`: behind an answer that passed the rest of the chain
+-- decides, and the first refusal is the answer of the whole.
 use Prim.Native.Nat.{ℕ, _+_, _<_}
 use borrow.Author.Needs.{needs}
 use mathlib.Core.Path.{_≡_, sym, _∙_}
@@ -10,7 +10,7 @@ use Rattle.laws.specs.Verdict.{Verdict, passed, refused, _then_, inTurn}
 use Rattle.floor.specs.Answers.{verdictOf}
 use Rattle.laws.proofs.VerdictLaws.{turn-none, turn-more, turn-stop, turn-end}
 
--- A check that passed hands on: what the rest answers, the whole answers.
+-- Behind a check that passed, what the rest answers, the whole answers.
 pub then-next : {a : Checked} {u v w : Verdict} → verdictOf a ≡ v → a ≡ Passed → u ≡ w → u ≡ (v then w)
 unfolding verdictOf _then_
 then-next h e t = rw (← h, e) t

@@ -14,7 +14,7 @@ use Rattle.floor.specs.Checks.{unrepeated}
 use Rattle.floor.specs.Accepted.{InGrid, CarrierInGrid, WallInGrid, Rises, Absent, ClearOfWalls, Unshared, Unrepeated}
 use Rattle.laws.proofs.EachLaws.{Decides}
 use Rattle.floor.proofs.AmongLaws.{among-found, absent-all}
-use Rattle.floor.proofs.EveryLaws.{every-means}
+use Rattle.laws.proofs.HoldLaws.{each-decides}
 use Rattle.floor.proofs.LimitsLaws.{within-means}
 
 -- Two tests joined mean both statements.
@@ -32,7 +32,7 @@ pub carrier-in-grid-means : (f : Floor) → Decides (carrierInGrid f) (CarrierIn
 unfolding carrierInGrid docksInGrid
 carrier-in-grid-means f i =
     both-mean (within-means 1 4 _)
-    (both-mean (in-grid-means f _) (every-means _ (λ (k : ℕ). InGrid f (dockOf f i k)) (λ k. in-grid-means f _) _))
+    (both-mean (in-grid-means f _) (each-decides _ (λ (k : ℕ). InGrid f (dockOf f i k)) (λ k. in-grid-means f _) _))
 
 pub wall-in-grid-means : (f : Floor) (ws : List ℕ) → Decides (λ j. inGrid f (getD ws j 0)) (WallInGrid f ws)
 wall-in-grid-means f ws j = in-grid-means f _
@@ -52,7 +52,7 @@ pub clear-means : (f : Floor) (ws : List ℕ) → Decides (clearOfWalls f ws) (C
 unfolding clearOfWalls docksClear
 clear-means f ws i =
     both-mean (absent-means ws _ _)
-    (every-means _ (λ (k : ℕ). Absent ws (f .walls) (dockOf f i k)) (λ k. absent-means ws _ _) _)
+    (each-decides _ (λ (k : ℕ). Absent ws (f .walls) (dockOf f i k)) (λ k. absent-means ws _ _) _)
 
 pub unshared-means : (f : Floor) → Decides (unshared f) (Unshared f)
 unfolding unshared
@@ -60,4 +60,4 @@ unshared-means f i = absent-means (f .starts) _ _
 
 pub unrepeated-means : (f : Floor) → Decides (unrepeated f) (Unrepeated f)
 unfolding unrepeated
-unrepeated-means f i = every-means _ (λ (k : ℕ). Absent (docksOf f i) k (dockOf f i k)) (λ k. absent-means (docksOf f i) _ _) _
+unrepeated-means f i = each-decides _ (λ (k : ℕ). Absent (docksOf f i) k (dockOf f i k)) (λ k. absent-means (docksOf f i) _ _) _

@@ -12,7 +12,7 @@ use Rattle.laws.proofs.EachLaws.{each-passed}
 use Rattle.laws.specs.Verdict.{passed}
 use Rattle.floor.specs.declared.Floor.{Floor}
 use Rattle.floor.specs.Checks.{among, countOf, dockOf, isDock, carriersOf}
-use Rattle.floor.specs.Accepted.{Within, Absent, Counted, Accepted}
+use Rattle.floor.specs.Accepted.{Within, Absent, CountsWithin, Accepted}
 use Rattle.floor.proofs.AmongLaws.{among-found, among-place, absent-all}
 use Rattle.floor.proofs.CheckMeans.{carrier-in-grid-means}
 
@@ -30,18 +30,18 @@ four-part xs at l = sym (part-is xs at 4 _ l refl each)
     each (suc (suc (suc (suc i)))) h = absurd (omega arith)
 
 -- Where check 3 passes for the carriers, each dock count is within its limits.
-pub passed-counted : (f : Floor) → carriersOf f ≡ passed → Counted f
+pub passed-counted : (f : Floor) → carriersOf f ≡ passed → CountsWithin f
 unfolding carriersOf
 passed-counted f h i l = each-passed 3 1 _ _ (carrier-in-grid-means f) _ h i l .0
 
 -- What an accepted floor says of a carrier's docks: 1 to 4, each in the grid and on no wall, no two alike.
-pub record Docks (f : Floor) (ws : List ℕ) (i : ℕ) : Type 0 where
+pub record DocksAccepted (f : Floor) (ws : List ℕ) (i : ℕ) : Type 0 where
   pub counted : Within 1 4 (countOf f i)
   pub in-grid : (k : ℕ) → k < countOf f i → dockOf f i k < f .width * f .height
   pub clear : (k : ℕ) → k < countOf f i → Absent ws (f .walls) (dockOf f i k)
   pub apart : (j k : ℕ) → j < k → k < countOf f i → dockOf f i j ≡ dockOf f i k → ⊥
 
-pub accepted-docks : {f : Floor} {ws : List ℕ} → Accepted f ws → (i : ℕ) → i < f .carriers → Docks f ws i
+pub accepted-docks : {f : Floor} {ws : List ℕ} → Accepted f ws → (i : ℕ) → i < f .carriers → DocksAccepted f ws i
 unfolding dockOf
 accepted-docks a i l =
     record {

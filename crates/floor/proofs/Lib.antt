@@ -2,12 +2,11 @@
 pub mod AnswersLaws
 pub mod LimitsLaws
 pub mod AmongLaws
-pub mod EveryLaws
 pub mod RisesLaws
 pub mod SameLaws
 pub mod CheckMeans
 pub mod DockLaws
-pub mod ClimbLaws
+pub mod WallSearchLaws
 pub mod OrderLaws
 pub mod OneDockLaws
 pub mod Theorems

@@ -8,7 +8,7 @@ use mathlib.Core.List.{List}
 use borrow.Author.Tests.{leb-true, le-leb}
 use Rattle.floor.specs.declared.Floor.{Floor}
 use Rattle.laws.specs.Verdict.{passed, _then_, inTurn, demandEach}
-use Rattle.floor.specs.Checks.{within, limitsOf, lentOf, roomOf, placesOf, checkOf}
+use Rattle.floor.specs.Checks.{within, limitsOf, lentOf, longEnough, placesOf, checkOf}
 use Rattle.floor.specs.Accepted.{Within, FieldWithin, Limited, Lent}
 use Rattle.laws.proofs.VerdictLaws.{then-assoc, then-both, demand-holds}
 use Rattle.laws.proofs.EachLaws.{Decides, each-means}
@@ -74,13 +74,13 @@ pub limits-passed : (f : Floor) → limitsOf f ≡ passed → Bounds f
 limits-passed f h = limited-bounds f (limits-mean f .0 h)
 
 -- Where check 9 passes, the memory that is needed is lent.
-pub room-passed : (needed lent : ℕ) → roomOf needed lent ≡ passed → needed ≤ lent
-unfolding roomOf
-room-passed needed lent h = leb-true _ _ (demand-holds _ 9 0 h)
+pub length-passed : (needed lent : ℕ) → longEnough needed lent ≡ passed → needed ≤ lent
+unfolding longEnough
+length-passed needed lent h = leb-true _ _ (demand-holds _ 9 0 h)
 
 pub lent-passed : (f : Floor) (ws : List ℕ) → lentOf f ws ≡ passed → Lent f ws
 unfolding lentOf
-lent-passed f ws h = room-passed _ _ h
+lent-passed f ws h = length-passed _ _ h
 
 -- Where all checks pass, each part of them does.
 pub record CheckTells (f : Floor) (ws : List ℕ) : Type 0 where

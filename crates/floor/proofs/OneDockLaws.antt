@@ -9,15 +9,15 @@ use mathlib.Core.List.{List, [], _∷_}
 use lib.ListN.{length, getD, replicate}
 use lib.Dec.{eqb}
 use borrow.Author.Tests.{eq-eqb, eqb-true}
-use Rattle.laws.specs.Verdict.{Verdict, passed, refused, _then_, demandEach, First}
+use Rattle.laws.specs.Verdict.{Verdict, passed, refused, _then_, demandEach, First, each}
 use Rattle.laws.proofs.PartLaws.{part-byte}
 use Rattle.laws.proofs.Tests.{and-fst, not-refutes, same-test}
 use Rattle.laws.proofs.EachLaws.{Decides, each-passed, all-passes, each-refused, first-refuses}
 use Rattle.laws.proofs.VerdictLaws.{then-both, then-assoc, then-passed, then-refused, refused-by, demand-same, demand-passes, turn-passes}
-use Rattle.floor.specs.Checks.{within, among, every, startOf, countOf, docksOf, dockOf, isDock, inGrid, docksInGrid, carrierInGrid}
-use Rattle.floor.specs.Checks.{docksClear, clearOfWalls, unshared, unrepeated, limitsOf, lentOf, roomOf, carriersOf}
+use Rattle.floor.specs.Checks.{within, among, startOf, countOf, docksOf, dockOf, isDock, inGrid, docksInGrid, carrierInGrid}
+use Rattle.floor.specs.Checks.{docksClear, clearOfWalls, unshared, unrepeated, limitsOf, lentOf, longEnough, carriersOf}
 use Rattle.floor.specs.Checks.{wallsOf, risingOf, clearOf, distinctOf, unrepeatedOf, placesOf, checkOf}
-use Rattle.floor.specs.OneDock.{Earlier, oneEach, withOneDock, earlierLimits, earlierInside, bothInside, earlierCarriers}
+use Rattle.floor.specs.OneDock.{OneDockFloor, oneEach, withOneDock, earlierLimits, earlierInside, bothInside, earlierCarriers}
 use Rattle.floor.specs.OneDock.{earlierWalls, earlierRising, bothClear, earlierClear, neitherShared, earlierDistinct, earlierCheck}
 use Rattle.floor.proofs.LimitsLaws.{limits-passed}
 
@@ -29,7 +29,7 @@ goal-at [] (suc i) = refl
 goal-at (g ∷ gs) zero = refl
 goal-at (g ∷ gs) (suc i) = let e : 4 * suc i ≡ suc (suc (suc (suc (4 * i)))) = omega arith in rw e (goal-at gs i)
 
-module _ (e : Earlier) where
+module _ (e : OneDockFloor) where
   -- The one dock is the goal.
   one-goal : (i : ℕ) → dockOf (withOneDock e) i 0 ≡ getD (e .goals) i 0
   unfolding dockOf docksOf withOneDock
@@ -46,7 +46,7 @@ one-each (suc (suc (suc (suc (suc (suc zero)))))) l = refl
 one-each (suc (suc (suc (suc (suc (suc (suc zero))))))) l = refl
 one-each (suc (suc (suc (suc (suc (suc (suc (suc i)))))))) l = absurd (omega arith)
 
-module _ (e : Earlier) (ws : List ℕ) (few : e .carriers ≤ 8) where
+module _ (e : OneDockFloor) (ws : List ℕ) (few : e .carriers ≤ 8) where
   -- Carriers that are there have one dock.
   one-count : (i : ℕ) → i < e .carriers → countOf (withOneDock e) i ≡ 1
   unfolding countOf withOneDock
@@ -61,8 +61,8 @@ module _ (e : Earlier) (ws : List ℕ) (few : e .carriers ≤ 8) where
       (same-test (eqb g c) (eqb c g) (λ h. eq-eqb c g (sym (eqb-true g c h))) (λ h. eq-eqb g c (sym (eqb-true c g h))))
 
   one-every : (i : ℕ) → i < e .carriers → (p : ℕ → Bool)
-      → every (countOf (withOneDock e) i) (λ k. p (dockOf (withOneDock e) i k)) ≡ p (getD (e .goals) i 0)
-  unfolding every
+      → each (countOf (withOneDock e) i) (λ k. p (dockOf (withOneDock e) i k)) ≡ p (getD (e .goals) i 0)
+  unfolding each
   one-every i l p = rw (one-count i l, one-goal e i) refl
 
   carrier-one : (i : ℕ) → i < e .carriers → carrierInGrid (withOneDock e) i ≡ bothInside e i
@@ -90,7 +90,7 @@ module _ (e : Earlier) (ws : List ℕ) (few : e .carriers ≤ 8) where
   clear-one = demand-same 5 1 _ _ (e .carriers) clear-each
 
   unrepeated-each : (i : ℕ) → i < e .carriers → unrepeated (withOneDock e) i ≡ true
-  unfolding unrepeated every among
+  unfolding unrepeated each among
   unrepeated-each i l = rw (one-count i l) refl
 
   unrepeated-one : unrepeatedOf (withOneDock e) ≡ passed
@@ -123,16 +123,16 @@ own-place n ok m k i h =
     (λ j f q. let e : j ≡ i = omega arith in rw e at f) refl
 
 -- Document 01's checks before 6.
-beforeSix : Earlier → List ℕ → Verdict
+beforeSix : OneDockFloor → List ℕ → Verdict
 beforeSix e ws =
     earlierLimits e
-    then roomOf (e .walls) (length ws)
+    then longEnough (e .walls) (length ws)
     then earlierCarriers e
     then earlierWalls e ws
     then earlierRising e ws
     then earlierClear e ws
 
-module _ (e : Earlier) (ws : List ℕ) where
+module _ (e : OneDockFloor) (ws : List ℕ) where
   earlier-is : earlierCheck e ws ≡ (beforeSix e ws then earlierDistinct e)
   unfolding earlierCheck beforeSix
   earlier-is = simp then-assoc
@@ -141,7 +141,7 @@ module _ (e : Earlier) (ws : List ℕ) where
   unfolding limitsOf earlierLimits withOneDock
   limits-one = refl
 
-  lent-one : lentOf (withOneDock e) ws ≡ roomOf (e .walls) (length ws)
+  lent-one : lentOf (withOneDock e) ws ≡ longEnough (e .walls) (length ws)
   unfolding lentOf withOneDock
   lent-one = refl
 

@@ -9,16 +9,16 @@ use mathlib.Core.List.{List}
 use lib.ListN.{getD}
 use lib.Dec.{ltb, eqb}
 use borrow.Author.Tests.{lt-ltb, le-ltb, eq-eqb, ne-eqb}
-use Rattle.laws.specs.Verdict.{All}
+use Rattle.laws.specs.Verdict.{All, each}
 use Rattle.laws.proofs.Tests.{lt-or-le, eq-or-ne, same-test}
 use Rattle.floor.specs.declared.Floor.{Floor}
-use Rattle.floor.specs.Checks.{among, every, countOf, docksOf, dockOf, isDock, startOf, inGrid, docksInGrid, carrierInGrid}
+use Rattle.floor.specs.Checks.{among, countOf, docksOf, dockOf, isDock, startOf, inGrid, docksInGrid, carrierInGrid}
 use Rattle.floor.specs.Checks.{docksClear, clearOfWalls, unshared, unrepeated, limitsOf, lentOf, carriersOf, wallsOf}
 use Rattle.floor.specs.Checks.{risingOf, clearOf, distinctOf, unrepeatedOf, placesOf, checkOf}
 use Rattle.floor.specs.Accepted.{Absent, Unrepeated, SameFloor, SameDocks}
 use Rattle.floor.proofs.AmongLaws.{among-place}
-use Rattle.floor.proofs.EveryLaws.{every-means, every-holds}
-use Rattle.floor.proofs.SameLaws.{each-same, limits-same, places-same}
+use Rattle.laws.proofs.HoldLaws.{each-decides, each-holds}
+use Rattle.floor.proofs.SameLaws.{demands-same, limits-same, places-same}
 use Rattle.floor.proofs.DockLaws.{dock-is, dock-at}
 use Rattle.floor.proofs.CheckMeans.{unrepeated-means}
 
@@ -110,11 +110,11 @@ apart-too xs ys (suc m) inside apart k l j h e =
 module _ (f g : Floor) (i : ℕ) where
   -- What holds at every dock of f holds at every dock of g, where these are docks of f.
   every-dock : (p : ℕ → Bool) → ((c : ℕ) → isDock g i c ≡ true → isDock f i c ≡ true)
-      → every (countOf f i) (λ k. p (dockOf f i k)) ≡ true → every (countOf g i) (λ k. p (dockOf g i k)) ≡ true
+      → each (countOf f i) (λ k. p (dockOf f i k)) ≡ true → each (countOf g i) (λ k. p (dockOf g i k)) ≡ true
   every-dock p sub h =
-      every-means (λ k. p (dockOf g i k)) (λ (k : ℕ). p (dockOf g i k) ≡ true) (λ k. (λ e. e, λ e. e)) (countOf g i) .1 (λ k l.
+      each-decides (λ k. p (dockOf g i k)) (λ (k : ℕ). p (dockOf g i k) ≡ true) (λ k. (λ e. e, λ e. e)) (countOf g i) .1 (λ k l.
       let d = dock-at f i (dockOf g i k) (sub (dockOf g i k) (dock-is g i k l)) in
-      rw (d .2) at (every-holds (countOf f i) (λ j. p (dockOf f i j)) h (d .0) (d .1)))
+      rw (d .2) at (each-holds (countOf f i) (λ j. p (dockOf f i j)) h (d .0) (d .1)))
 
   -- Where f has no dock twice and all of its docks are among as many of g, neither has g.
   unrepeated-too : countOf f i ≡ countOf g i → ((c : ℕ) → isDock f i c ≡ true → isDock g i c ≡ true) → Unrepeated f i → Unrepeated g i
@@ -126,7 +126,7 @@ module _ (f g : Floor) (i : ℕ) where
 
 -- So for floors with the same docks.
 module _ (f g : Floor) (i : ℕ) (counts : countOf f i ≡ countOf g i) (same : (c : ℕ) → isDock f i c ≡ isDock g i c) where
-  every-either : (p : ℕ → Bool) → every (countOf f i) (λ k. p (dockOf f i k)) ≡ every (countOf g i) (λ k. p (dockOf g i k))
+  every-either : (p : ℕ → Bool) → each (countOf f i) (λ k. p (dockOf f i k)) ≡ each (countOf g i) (λ k. p (dockOf g i k))
   every-either p =
       same-test _ _ (every-dock f g i p (λ c h. same c ∙ h)) (every-dock g f i p (λ c h. sym (same c) ∙ h))
 
@@ -184,13 +184,13 @@ module _ (f g : Floor) (ws : List ℕ) (same : SameDocks f g) where
   from-places =
       let h = docksFrom f g in
       let three : carriersOf h ≡ carriersOf g =
-      each-same 3 (carrierInGrid h) (carrierInGrid g) refl refl
+      demands-same 3 (carrierInGrid h) (carrierInGrid g) refl refl
       (λ i l. rw (every-either h g i (from-counts i l) (from-docks i l) (inGrid g), from-counts i l) refl) in
       let five : clearOf h ws ≡ clearOf g ws =
-      each-same 5 (clearOfWalls h ws) (clearOfWalls g ws) refl refl
+      demands-same 5 (clearOfWalls h ws) (clearOfWalls g ws) refl refl
       (λ i l. rw (every-either h g i (from-counts i l) (from-docks i l) (λ c. not (among ws (g .walls) c))) refl) in
       let seventeen : unrepeatedOf h ≡ unrepeatedOf g =
-      each-same 17 (unrepeated h) (unrepeated g) refl refl (λ i l. unrepeated-either h g i (from-counts i l) (from-docks i l)) in
+      demands-same 17 (unrepeated h) (unrepeated g) refl refl (λ i l. unrepeated-either h g i (from-counts i l) (from-docks i l)) in
       rw (three, five, seventeen) refl
 
   pub order-same : checkOf f ws ≡ checkOf g ws

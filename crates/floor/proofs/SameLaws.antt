@@ -7,18 +7,18 @@ use mathlib.Core.List.{List}
 use borrow.Author.Tests.{le-leb}
 use lib.ListN.{getD}
 use Rattle.floor.specs.declared.Floor.{Floor}
-use Rattle.laws.specs.Verdict.{inTurn, demandEach, All}
-use Rattle.floor.specs.Checks.{startOf, countOf, docksOf, dockOf, isDock, limitsOf, lentOf, roomOf, inGrid, docksInGrid}
-use Rattle.floor.specs.Checks.{carrierInGrid, rises, among, every, docksClear, clearOfWalls, unshared, unrepeated}
+use Rattle.laws.specs.Verdict.{inTurn, demandEach, All, each}
+use Rattle.floor.specs.Checks.{startOf, countOf, docksOf, dockOf, isDock, limitsOf, lentOf, longEnough, inGrid, docksInGrid}
+use Rattle.floor.specs.Checks.{carrierInGrid, rises, among, docksClear, clearOfWalls, unshared, unrepeated}
 use Rattle.floor.specs.Checks.{carriersOf, wallsOf, risingOf, clearOf, distinctOf, unrepeatedOf, placesOf, checkOf}
 use Rattle.floor.specs.Accepted.{Lent, SameFloor, SameDocks}
-use Rattle.floor.proofs.EveryLaws.{every-same}
+use Rattle.laws.proofs.HoldLaws.{each-same}
 
 -- Tests that agree at each item make the same check.
-pub each-same : (k : ℕ) {p q : ℕ} (ok ok′ : ℕ → Bool) {m n : ℕ} → p ≡ q → m ≡ n → All (λ (i : ℕ). ok i ≡ ok′ i) m
+pub demands-same : (k : ℕ) {p q : ℕ} (ok ok′ : ℕ → Bool) {m n : ℕ} → p ≡ q → m ≡ n → All (λ (i : ℕ). ok i ≡ ok′ i) m
     → demandEach k p ok m ≡ demandEach k q ok′ n
 unfolding demandEach inTurn
-each-same k {p} ok ok′ {m} e s a = rw (← e, ← s) (go m a)
+demands-same k {p} ok ok′ {m} e s a = rw (← e, ← s) (go m a)
   where
     go : (m : ℕ) → All (λ (i : ℕ). ok i ≡ ok′ i) m → demandEach k p ok m ≡ demandEach k p ok′ m
     go zero a = refl
@@ -66,24 +66,24 @@ module _ (f : Floor) (ws : List ℕ) (g : Floor) (vs : List ℕ) (same : SameFlo
 
   -- A test of every dock of a carrier, where the two tests agree at each cell.
   docks-same : (i : ℕ) → i < f .carriers → (p q : ℕ → Bool) → ((c : ℕ) → p c ≡ q c)
-      → every (countOf f i) (λ k. p (dockOf f i k)) ≡ every (countOf g i) (λ k. q (dockOf g i k))
+      → each (countOf f i) (λ k. p (dockOf f i k)) ≡ each (countOf g i) (λ k. q (dockOf g i k))
   docks-same i l p q e =
-      every-same (countOf f i) (λ k. p (dockOf f i k)) (λ k. q (dockOf g i k)) (λ k h. rw (same .docks i l k h) (e (dockOf g i k)))
-      ∙ ap (λ (m : ℕ). every m (λ k. q (dockOf g i k))) (same .counts i l)
+      each-same (countOf f i) (λ k. p (dockOf f i k)) (λ k. q (dockOf g i k)) (λ k h. rw (same .docks i l k h) (e (dockOf g i k)))
+      ∙ ap (λ (m : ℕ). each m (λ k. q (dockOf g i k))) (same .counts i l)
 
   carriers-same : carriersOf f ≡ carriersOf g
   unfolding carriersOf carrierInGrid docksInGrid
   carriers-same =
-      each-same _ _ _ refl (same .carriers)
+      demands-same _ _ _ refl (same .carriers)
       (λ i l. rw (docks-same i l (inGrid f) (inGrid g) in-grid-same, same .counts i l, same .starts i l, in-grid-same (startOf g i)))
 
   walls-same : wallsOf f ws ≡ wallsOf g vs
   unfolding wallsOf
-  walls-same = each-same _ _ _ items (same .walls) (λ j l. rw (same .cells j l, in-grid-same (getD vs j 0)))
+  walls-same = demands-same _ _ _ items (same .walls) (λ j l. rw (same .cells j l, in-grid-same (getD vs j 0)))
 
   rising-same : risingOf f ws ≡ risingOf g vs
   unfolding risingOf
-  rising-same = each-same _ _ _ items (same .walls) (λ j l. rises-same ws vs (f .walls) j l (same .cells))
+  rising-same = demands-same _ _ _ items (same .walls) (λ j l. rises-same ws vs (f .walls) j l (same .cells))
 
   wall-same : (c : ℕ) → among ws (f .walls) c ≡ among vs (g .walls) c
   wall-same c = among-same ws vs (f .walls) c (same .cells) ∙ ap (λ (m : ℕ). among vs m c) (same .walls)
@@ -91,7 +91,7 @@ module _ (f : Floor) (ws : List ℕ) (g : Floor) (vs : List ℕ) (same : SameFlo
   clear-same : clearOf f ws ≡ clearOf g vs
   unfolding clearOf clearOfWalls docksClear
   clear-same =
-      each-same _ _ _ refl (same .carriers) (λ i l.
+      demands-same _ _ _ refl (same .carriers) (λ i l.
       rw (
         docks-same i l (λ c. not (among ws (f .walls) c)) (λ c. not (among vs (g .walls) c)) (λ c. ap not (wall-same c)),
         same .starts i l,
@@ -130,21 +130,21 @@ module _ (f : Floor) (ws : List ℕ) (g : Floor) (vs : List ℕ) (same : SameFlo
   distinct-same : distinctOf f ≡ distinctOf g
   unfolding distinctOf unshared
   distinct-same =
-      each-same _ _ _ refl (same .carriers) (λ i l.
+      demands-same _ _ _ refl (same .carriers) (λ i l.
       rw (same .starts i l, among-same (f .starts) (g .starts) i (startOf g i) (earlier-starts i l)))
 
   unrepeated-same : unrepeatedOf f ≡ unrepeatedOf g
   unfolding unrepeatedOf unrepeated
   unrepeated-same =
-      each-same _ _ _ refl (same .carriers) (λ i l.
-      every-same (countOf f i) (λ k. not (among (docksOf f i) k (dockOf f i k))) (λ k. not (among (docksOf g i) k (dockOf g i k)))
+      demands-same _ _ _ refl (same .carriers) (λ i l.
+      each-same (countOf f i) (λ k. not (among (docksOf f i) k (dockOf f i k))) (λ k. not (among (docksOf g i) k (dockOf g i k)))
       (λ k h. rw (same .docks i l k h, among-same (docksOf f i) (docksOf g i) k (dockOf g i k) (λ e q. earlier-docks i l e (omega arith))))
-      ∙ ap (λ (m : ℕ). every m (λ k. not (among (docksOf g i) k (dockOf g i k)))) (same .counts i l))
+      ∙ ap (λ (m : ℕ). each m (λ k. not (among (docksOf g i) k (dockOf g i k)))) (same .counts i l))
 
   pub places-same : placesOf f ws ≡ placesOf g vs
   unfolding placesOf
   places-same = rw (carriers-same, walls-same, rising-same, clear-same, distinct-same, unrepeated-same)
 
   pub check-same : Lent f ws → Lent g vs → checkOf f ws ≡ checkOf g vs
-  unfolding checkOf lentOf roomOf
+  unfolding checkOf lentOf longEnough
   check-same l n = rw (limits-same, le-leb _ _ l, le-leb _ _ n, places-same)

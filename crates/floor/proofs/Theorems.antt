@@ -5,8 +5,8 @@ use mathlib.Core.Logic.{_↔_}
 use mathlib.Core.List.{List}
 use borrow.Author.Tests.{le-leb, lt-leb, leb-false}
 use Rattle.floor.specs.declared.Floor.{Floor}
-use Rattle.laws.specs.Verdict.{passed, refused, _then_, demand, inTurn, demandEach}
-use Rattle.floor.specs.Checks.{within, among, every, startOf, countOf, docksOf, dockOf, limitsOf, lentOf, roomOf, carriersOf, wallsOf}
+use Rattle.laws.specs.Verdict.{passed, refused, _then_, demand, inTurn, demandEach, each}
+use Rattle.floor.specs.Checks.{within, among, startOf, countOf, docksOf, dockOf, limitsOf, lentOf, longEnough, carriersOf, wallsOf}
 use Rattle.floor.specs.Checks.{risingOf, clearOf, distinctOf, unrepeatedOf, placesOf, checkOf, docksInGrid, carrierInGrid, inGrid}
 use Rattle.floor.specs.Checks.{rises, docksClear, clearOfWalls, unshared, unrepeated}
 use Rattle.laws.specs.Memory.{part}
@@ -26,7 +26,7 @@ use Rattle.floor.proofs.CheckMeans.{unshared-means, unrepeated-means}
 
 module _ (f : Floor) (ws : List ℕ) where
   lent-means : (lentOf f ws ≡ passed) ↔ Lent f ws
-  unfolding lentOf roomOf demand
+  unfolding lentOf longEnough demand
   lent-means = (lent-passed f ws, λ l. rw (le-leb _ _ l))
 
   carriers-mean : (carriersOf f ≡ passed) ↔ CarriersInGrid f
@@ -116,7 +116,7 @@ module _ (f : Floor) (ws : List ℕ) where
 
   -- A refusal has the condition of its row.
   row : (k p : ℕ) → checkOf f ws ≡ refused k p → RefusedWith f ws k p
-  unfolding checkOf lentOf roomOf
+  unfolding checkOf lentOf longEnough
   row k p h =
       refused-by h
       (λ r. each-refused 2 1 _ _ (field-means f) (RefusedWith f ws) 6 k p (sym (limits-each f) ∙ r) (λ i. outside-limit))
@@ -129,7 +129,7 @@ module _ (f : Floor) (ws : List ℕ) where
 
   -- The condition of a row gives its refusal.
   refusal : (k p : ℕ) → RefusedWith f ws k p → checkOf f ws ≡ refused k p
-  unfolding checkOf placesOf carriersOf wallsOf risingOf clearOf distinctOf unrepeatedOf lentOf roomOf demand _then_
+  unfolding checkOf placesOf carriersOf wallsOf risingOf clearOf distinctOf unrepeatedOf lentOf longEnough demand _then_
   refusal k p (outside-limit h) = rw (limits-each f, first-refuses 2 1 _ _ (field-means f) 6 _ h)
   refusal k p (few-walls l h) = rw (limits-mean f .1 l, lt-leb _ _ h)
   refusal k p (carrier-outside l n h) =
@@ -158,8 +158,8 @@ module _ (f : Floor) (ws : List ℕ) where
       (first-refuses 17 1 _ _ (unrepeated-means f) _ _ h)
 
 pub theorems : Claims
-unfolding checkOf limitsOf lentOf roomOf placesOf carriersOf wallsOf risingOf clearOf distinctOf unrepeatedOf freshFloor _then_ demand
-    demandEach inTurn within carrierInGrid docksInGrid inGrid startOf countOf docksOf dockOf part every rises clearOfWalls docksClear among
+unfolding checkOf limitsOf lentOf longEnough placesOf carriersOf wallsOf risingOf clearOf distinctOf unrepeatedOf freshFloor _then_ demand
+    demandEach inTurn within carrierInGrid docksInGrid inGrid startOf countOf docksOf dockOf part each rises clearOfWalls docksClear among
     unshared unrepeated
 theorems =
     record {

@@ -67,8 +67,8 @@ Limited f = All (FieldWithin f) 6
 abbrev pub Lent : Floor → List ℕ → Type 0
 Lent f ws = f .walls ≤ length ws
 
-abbrev pub Counted : Floor → Type 0
-Counted f = All (CountWithin f) (f .carriers)
+abbrev pub CountsWithin : Floor → Type 0
+CountsWithin f = All (CountWithin f) (f .carriers)
 
 abbrev pub CarriersInGrid : Floor → Type 0
 CarriersInGrid f = All (CarrierInGrid f) (f .carriers)

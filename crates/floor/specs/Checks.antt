@@ -1,5 +1,5 @@
 -- The checks of a floor given as a record, in document 01's order ('Refused'). Carriers and walls count from 0 here;
--- `each` gives the paper's places, which count from 1.
+-- `demandEach` gives the paper's places, which count from 1.
 use Prim.Native.Nat.{ℕ, suc, zero, _+_, _*_}
 use mathlib.Core.Bool.{Bool, true, false, _&&_, _||_, not}
 use mathlib.Core.List.{List}
@@ -7,7 +7,7 @@ use lib.ListN.{length, getD}
 use lib.Dec.{leb, ltb, eqb}
 use Rattle.floor.specs.declared.Floor.{Floor}
 use Rattle.laws.specs.Memory.{part}
-use Rattle.laws.specs.Verdict.{Verdict, _then_, demand, demandEach}
+use Rattle.laws.specs.Verdict.{Verdict, _then_, demand, demandEach, each}
 
 -- v lies within low to high.
 unfoldable pub within : ℕ → ℕ → ℕ → Bool
@@ -24,12 +24,12 @@ limitsOf f =
     then demand (within 0 1023 (f .walls)) 2 6
 
 -- 9: lent memory is not too short.
-unfoldable pub roomOf : ℕ → ℕ → Verdict
-roomOf needed lent = demand (leb needed lent) 9 0
+unfoldable pub longEnough : ℕ → ℕ → Verdict
+longEnough needed lent = demand (leb needed lent) 9 0
 
 -- 9, right after 2: as many walls are lent as the floor counts.
 unfoldable pub lentOf : Floor → List ℕ → Verdict
-lentOf f ws = roomOf (f .walls) (length ws)
+lentOf f ws = longEnough (f .walls) (length ws)
 
 -- The start of carrier i, and its dock count.
 unfoldable pub startOf : Floor → ℕ → ℕ
@@ -55,18 +55,13 @@ among xs (suc m) c = among xs m c || eqb (getD xs m 0) c
 unfoldable pub isDock : Floor → ℕ → ℕ → Bool
 isDock f i c = among (docksOf f i) (countOf f i) c
 
--- Each of the first m tests holds.
-unfoldable pub every : ℕ → (ℕ → Bool) → Bool
-every zero p = true
-every (suc m) p = every m p && p m
-
 -- A cell number lies in the grid.
 unfoldable pub inGrid : Floor → ℕ → Bool
 inGrid f c = ltb c (f .width * f .height)
 
 -- Every dock of carrier i lies in the grid.
 unfoldable pub docksInGrid : Floor → ℕ → Bool
-docksInGrid f i = every (countOf f i) (λ k. inGrid f (dockOf f i k))
+docksInGrid f i = each (countOf f i) (λ k. inGrid f (dockOf f i k))
 
 -- Carrier i has 1 to 4 docks, and its start and every dock lie in the grid.
 unfoldable pub carrierInGrid : Floor → ℕ → Bool
@@ -90,7 +85,7 @@ risingOf f ws = demandEach 4 (f .carriers + 1) (rises ws) (f .walls)
 
 -- No dock of carrier i is a wall.
 unfoldable pub docksClear : Floor → List ℕ → ℕ → Bool
-docksClear f ws i = every (countOf f i) (λ k. not (among ws (f .walls) (dockOf f i k)))
+docksClear f ws i = each (countOf f i) (λ k. not (among ws (f .walls) (dockOf f i k)))
 
 -- Neither the start nor a dock of carrier i is a wall.
 unfoldable pub clearOfWalls : Floor → List ℕ → ℕ → Bool
@@ -110,7 +105,7 @@ distinctOf f = demandEach 6 1 (unshared f) (f .carriers)
 
 -- No dock of carrier i stands before in its list.
 unfoldable pub unrepeated : Floor → ℕ → Bool
-unrepeated f i = every (countOf f i) (λ k. not (among (docksOf f i) k (dockOf f i k)))
+unrepeated f i = each (countOf f i) (λ k. not (among (docksOf f i) k (dockOf f i k)))
 
 -- 17: no carrier has a dock twice in its list.
 unfoldable pub unrepeatedOf : Floor → Verdict

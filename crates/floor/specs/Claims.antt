@@ -10,7 +10,7 @@ use Rattle.laws.specs.Verdict.{passed, refused}
 use Rattle.floor.specs.Checks.{among, checkOf}
 use Rattle.floor.specs.Fresh.{freshFloor}
 use Rattle.floor.specs.Accepted.{Accepted, Lent, SameFloor, SameDocks}
-use Rattle.floor.specs.OneDock.{Earlier, earlierCheck, withOneDock}
+use Rattle.floor.specs.OneDock.{OneDockFloor, earlierCheck, withOneDock}
 use Rattle.floor.specs.Refused.{RefusedWith}
 
 pub record Claims : Type 0 where
@@ -26,10 +26,10 @@ pub record Claims : Type 0 where
   -- The order of a carrier's docks is nothing: records that differ in it get the same verdict.
   pub order-nothing : (f g : Floor) (ws : List ℕ) → SameDocks f g → checkOf f ws ≡ checkOf g ws
   -- With one dock a carrier, a floor that document 01 accepts is accepted.
-  pub earlier-accepted : (e : Earlier) (ws : List ℕ) → earlierCheck e ws ≡ passed → checkOf (withOneDock e) ws ≡ passed
+  pub earlier-accepted : (e : OneDockFloor) (ws : List ℕ) → earlierCheck e ws ≡ passed → checkOf (withOneDock e) ws ≡ passed
   -- It gets document 01's refusals and no other, except 6.
-  pub earlier-refused : (e : Earlier) (ws : List ℕ) (k p : ℕ) → (k ≡ 6 → ⊥)
+  pub earlier-refused : (e : OneDockFloor) (ws : List ℕ) (k p : ℕ) → (k ≡ 6 → ⊥)
       → (earlierCheck e ws ≡ refused k p) ↔ (checkOf (withOneDock e) ws ≡ refused k p)
   -- It gets document 01's 6 where that is for a start.
-  pub earlier-start : (e : Earlier) (ws : List ℕ) (i : ℕ) → earlierCheck e ws ≡ refused 6 (1 + i)
+  pub earlier-start : (e : OneDockFloor) (ws : List ℕ) (i : ℕ) → earlierCheck e ws ≡ refused 6 (1 + i)
       → among (e .starts) i (getD (e .starts) i 0) ≡ true → checkOf (withOneDock e) ws ≡ refused 6 (1 + i)

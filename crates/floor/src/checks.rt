@@ -4,20 +4,21 @@ ghost use mathlib.Core.Path.{_≡_};
 ghost use mathlib.Core.Bool.{true, not};
 ghost use Prim.Native.Nat.{_+_, _≤_, _<_};
 ghost use lib.ListN.{length, getD};
-ghost use Rattle.floor.specs.Accepted.{StrictlyRising, Counted};
+ghost use Rattle.laws.specs.Verdict.{each};
+ghost use Rattle.floor.specs.Accepted.{StrictlyRising, CountsWithin};
 ghost use Rattle.floor.specs.Answers.{verdictOf};
-ghost use Rattle.floor.specs.Checks.{countOf, docksOf, within, inGrid, docksInGrid, carrierInGrid, roomOf};
+ghost use Rattle.floor.specs.Checks.{countOf, docksOf, within, inGrid, docksInGrid, carrierInGrid, longEnough};
 ghost use Rattle.floor.specs.Checks.{docksClear, clearOfWalls};
 ghost use Rattle.floor.specs.Checks.{carriersOf, wallsOf, risingOf, clearOf, distinctOf, unrepeatedOf, placesOf};
 ghost use Rattle.floor.specs.Checks.{among as Checks·among, rises as Checks·rises};
-ghost use Rattle.floor.specs.Checks.{unshared as Checks·unshared, every};
+ghost use Rattle.floor.specs.Checks.{unshared as Checks·unshared};
 use crate::Checked;
 use crate::Floor;
 use crate::Refusal;
 
 // 9: lent memory is not too short.
-pub fn room(needed: usize, lent: usize) -> Checked
-    ensures { λ r. ⌜ verdictOf r ≡ roomOf needed lent ⌝ }
+pub fn check_length(needed: usize, lent: usize) -> Checked
+    ensures { λ r. ⌜ verdictOf r ≡ longEnough needed lent ⌝ }
 {
     if lent < needed {
         return Checked::Refused(Refusal {
@@ -242,7 +243,7 @@ fn clear_of_walls(f: Floor, walls: &[u16], i: usize) -> bool
 // 5: no carrier starts on a wall or has a dock on one.
 fn clear(f: Floor, walls: &[u16]) -> Checked
     requires { ⌜ f .carriers ≤ 8 ⌝ }
-    requires { ⌜ Counted f ⌝ }
+    requires { ⌜ CountsWithin f ⌝ }
     requires { ⌜ f .walls ≤ length (now walls) ⌝ }
     requires { ⌜ StrictlyRising (now walls) (f .walls) ⌝ }
     ensures { λ r. ⌜ verdictOf r ≡ clearOf f (now (walls .entry)) ⌝ }
@@ -293,7 +294,7 @@ fn distinct(f: Floor) -> Checked
 // Whether no cell is twice among the first m docks.
 fn unrepeated(docks: &[u16], m: usize) -> bool
     requires { ⌜ m ≤ length (now docks) ⌝ }
-    ensures { λ r. ⌜ r ≡ every m (λ k. not (Checks·among (now (docks .entry)) k (getD (now (docks .entry)) k 0))) ⌝ }
+    ensures { λ r. ⌜ r ≡ each m (λ k. not (Checks·among (now (docks .entry)) k (getD (now (docks .entry)) k 0))) ⌝ }
 {
     let mut k: usize = 0;
     while k < m {
@@ -309,7 +310,7 @@ fn unrepeated(docks: &[u16], m: usize) -> bool
 // 17: no carrier has a dock twice in its list.
 fn all_unrepeated(f: Floor) -> Checked
     requires { ⌜ f .carriers ≤ 8 ⌝ }
-    requires { ⌜ Counted f ⌝ }
+    requires { ⌜ CountsWithin f ⌝ }
     ensures { λ r. ⌜ verdictOf r ≡ unrepeatedOf f ⌝ }
 {
     let n = f.carriers as usize;

@@ -4,9 +4,9 @@ mod bounds;
 mod checks;
 
 pub use bounds::limits;
+pub use checks::check_length;
 pub use checks::docks_of;
 pub use checks::is_wall;
-pub use checks::room;
 ghost use mathlib.Core.Path.{_≡_};
 ghost use Rattle.floor.specs.Answers.{verdictOf};
 ghost use Rattle.floor.specs.Checks.{checkOf};
@@ -85,7 +85,7 @@ pub fn check(f: Floor, walls: &[u16]) -> Checked
     let Checked::Passed = limited else {
         return limited;
     };
-    let lent = room(f.walls as usize, walls.len());
+    let lent = check_length(f.walls as usize, walls.len());
     let Checked::Passed = lent else {
         return lent;
     };

@@ -9,6 +9,7 @@ use lib.Dec.{leb, eqb}
 use lib.ListN.{length, getD, length-append}
 use Rattle.laws.specs.Memory.{part}
 use Rattle.laws.specs.Verdict.{passed}
+use Rattle.reporting.proofs.WordsLaws.{short-within}
 use Rattle.floor.specs.declared.Floor.{Floor}
 use Rattle.floor.specs.Checks.{checkOf}
 use Rattle.floor.proofs.LimitsLaws.{check-tells}
@@ -20,14 +21,14 @@ use Rattle.printing.specs.Put.{TextPut}
 use Rattle.printing.proofs.LinesLaws.{lines-within}
 use Rattle.reporting.specs.Put.{PutAt}
 use Rattle.reporting.proofs.ReportLaws.{put-behind}
-use Rattle.reporting.proofs.PrintedLaws.{Within}
+use Rattle.reporting.proofs.PrintedLaws.{PrintsWithin}
 use Rattle.blockers.specs.Inner.{PlanIn}
-use Rattle.maps.specs.Text.{decimal}
+use Rattle.reporting.specs.Words.{shortDecimal, carrierWords}
 use Rattle.maps.specs.Map.{mapOf}
 use Rattle.maps.proofs.LinesLaws.{nothing-put}
 use Rattle.maps.proofs.MarkLaws.{cond-short}
-use Rattle.maps.proofs.MapLaws.{decimal-short, grid-short, map-short}
-use Rattle.frames.specs.Text.{carrierWords, arrivesWords, staysWords, beatWords, frameRows, frameOf, arrivalWords}
+use Rattle.maps.proofs.MapLaws.{grid-short, map-short}
+use Rattle.frames.specs.Text.{arrivesWords, staysWords, beatWords, frameRows, frameOf, arrivalWords}
 use Rattle.frames.specs.Text.{arrivalLine}
 use Rattle.frames.specs.Text.{drawHead, drawOf, planned, floorText, floorBeat}
 use Rattle.frames.proofs.CellLaws.{answer-none, answer-route}
@@ -45,14 +46,14 @@ module _ (f : Floor) (m : List ℕ) (i : ℕ) (old : List ℕ) (at : ℕ) where
   stays-put new n h p = rw (answer-none m i h) p
 
   pub arrives-put : (cells m₁ m₂ new : List ℕ) (a x b n : ℕ) → getD m (65 * i) 0 ≡ 2 → f .horizon ≤ 63 → cells ≡ part m (65 * i + 1) 64 →
-      x ≡ arrivalOf cells (min (f .horizon) 63) → PutAt arrivesWords old at m₁ a → PutAt (decimal x) m₁ a m₂ b →
+      x ≡ arrivalOf cells (min (f .horizon) 63) → PutAt arrivesWords old at m₁ a → PutAt (shortDecimal x) m₁ a m₂ b →
       PutAt (10 ∷ []) m₂ b new n → at + 20 ≤ length old → PutAt (arrivalWords f (answerIn m i)) old at new n
   unfolding arrivalWords arrivesWords
-  arrives-put cells m₁ m₂ new a x b n h l e g p q r room =
+  arrives-put cells m₁ m₂ new a x b n h l e g p q r enough =
       let low : min (f .horizon) 63 ≡ f .horizon = omega arith in
       let same : x ≡ arrivalOf (part m (65 * i + 1) 64) (f .horizon) =
       g ∙ ap (arrivalOf cells) low ∙ ap (λ (y : List ℕ). arrivalOf y (f .horizon)) e in
-      let d = decimal-short x in
+      let d = short-within x in
       rw (answer-route m i h, ← same)
       (put-behind (put-behind p q (omega (arith, p .behind, q .behind))) r (omega (arith, p .behind, q .behind, r .behind)))
 
@@ -77,9 +78,9 @@ words-short f none = omega arith
 words-short f (route r) =
     omega (
       arith,
-      length-append (arrivesWords ++ decimal (arrivalOf r (f .horizon))) (10 ∷ []),
-      length-append arrivesWords (decimal (arrivalOf r (f .horizon))),
-      decimal-short (arrivalOf r (f .horizon)),
+      length-append (arrivesWords ++ shortDecimal (arrivalOf r (f .horizon))) (10 ∷ []),
+      length-append arrivesWords (shortDecimal (arrivalOf r (f .horizon))),
+      short-within (arrivalOf r (f .horizon)),
     )
 
 pub arrival-short : (f : Floor) (xs : ℕ → Answer) (i : ℕ) → length (arrivalLine f xs i) ≤ 46
@@ -107,20 +108,20 @@ module _ (f : Floor) (ws : List ℕ) (ok : checkOf f ws ≡ passed) (xs : ℕ �
   frame-short t =
       omega (
         arith,
-        length-append ((beatWords ++ decimal t) ++ (10 ∷ [])) (frameRows f ws xs t),
-        length-append (beatWords ++ decimal t) (10 ∷ []),
-        length-append beatWords (decimal t),
-        decimal-short t,
+        length-append ((beatWords ++ shortDecimal t) ++ (10 ∷ [])) (frameRows f ws xs t),
+        length-append (beatWords ++ shortDecimal t) (10 ∷ []),
+        length-append beatWords (shortDecimal t),
+        short-within t,
         rows-short t,
       )
 
-  pub frame-put : (t at a b c n : ℕ) (old m₁ m₂ m₃ new : List ℕ) → PutAt beatWords old at m₁ a → PutAt (decimal t) m₁ a m₂ b →
+  pub frame-put : (t at a b c n : ℕ) (old m₁ m₂ m₃ new : List ℕ) → PutAt beatWords old at m₁ a → PutAt (shortDecimal t) m₁ a m₂ b →
       PutAt (10 ∷ []) m₂ b m₃ c → PutAt (frameRows f ws xs t) m₃ c new n → at + 1064 ≤ length old → PutAt (frameOf f ws xs t) old at new n
   unfolding frameOf beatWords
   frame-put t at a b c n old m₁ m₂ m₃ new p q r s l =
-      let d = decimal-short t in
+      let d = short-within t in
       let g = rows-short t in
-      let line : PutAt ((beatWords ++ decimal t) ++ (10 ∷ [])) old at m₃ c =
+      let line : PutAt ((beatWords ++ shortDecimal t) ++ (10 ∷ [])) old at m₃ c =
       put-behind (put-behind p q (omega (arith, p .behind, q .behind))) r (omega (arith, p .behind, q .behind, r .behind)) in
       put-behind line s (omega (arith, p .behind, q .behind, r .behind, s .behind))
 
@@ -198,10 +199,10 @@ pub beat-above : (f : Floor) (ws : List ℕ) (t : ℕ) (old : List ℕ) → f .h
 unfolding floorBeat
 beat-above f ws t old l = rw (lt-leb t (f .horizon) l) (front-put (nothing-put old 0))
 
-pub whole-within : Within floorText 89061
+pub whole-within : PrintsWithin floorText 89061
 unfolding floorText
 whole-within = record { short = λ f ws ok. draw-short f ws ok (planned f ws) }
 
-pub beat-within : (t : ℕ) → Within (floorBeat t) 1064
+pub beat-within : (t : ℕ) → PrintsWithin (floorBeat t) 1064
 unfolding floorBeat
 beat-within t = record { short = λ f ws ok. cond-short (leb t (f .horizon)) _ 1064 (frame-short f ws ok (planned f ws) t) }

@@ -5,6 +5,7 @@ use mathlib.Core.Bool.{cond}
 use mathlib.Core.List.{List, [], _∷_, _++_}
 use lib.Dec.{eqb, leb}
 use lib.ListN.{length}
+use Rattle.reporting.specs.Words.{shortDecimal, carrierWords}
 use Rattle.floor.specs.declared.Floor.{Floor}
 use Rattle.floor.specs.Checks.{startOf, among}
 use Rattle.route.specs.Route.{cellAt, Answer, none, route}
@@ -15,13 +16,10 @@ use Rattle.sheet.specs.Read.{sheetVerdict}
 use Rattle.planner.specs.Plan.{planOf}
 use Rattle.planner.specs.Claims.{answerAt}
 use Rattle.printing.specs.Print.{orRefusal}
-use Rattle.maps.specs.Text.{decimal, oneOf, marksText, gridOf}
+use Rattle.maps.specs.Text.{oneOf, marksText, gridOf}
 use Rattle.maps.specs.Map.{startMarks, dockMarks, mapOf}
 
--- `carrier `, ` arrives at beat `, ` has no route and stays at its start` and `beat `, letter by letter, with a newline at a line's end.
-unfoldable pub carrierWords : List ℕ
-carrierWords = 99 ∷ 97 ∷ 114 ∷ 114 ∷ 105 ∷ 101 ∷ 114 ∷ 32 ∷ []
-
+-- ` arrives at beat `, ` has no route and stays at its start` and `beat `, letter by letter, with a newline at a line's end.
 unfoldable pub arrivesWords : List ℕ
 arrivesWords = 32 ∷ 97 ∷ 114 ∷ 114 ∷ 105 ∷ 118 ∷ 101 ∷ 115 ∷ 32 ∷ 97 ∷ 116 ∷ 32 ∷ 98 ∷ 101 ∷ 97 ∷ 116 ∷ 32 ∷ []
 
@@ -57,12 +55,12 @@ frameRows f ws xs t = gridOf (marksText (frameMark f ws xs t) 1024) (f .width) (
 
 -- Beat t: a line with its number, and the floor.
 unfoldable pub frameOf : Floor → List ℕ → (ℕ → Answer) → ℕ → List ℕ
-frameOf f ws xs t = ((beatWords ++ decimal t) ++ (10 ∷ [])) ++ frameRows f ws xs t
+frameOf f ws xs t = ((beatWords ++ shortDecimal t) ++ (10 ∷ [])) ++ frameRows f ws xs t
 
 -- The end of the line of a carrier: its arrival, or that it stays at its start.
 unfoldable pub arrivalWords : Floor → Answer → List ℕ
 arrivalWords f none = staysWords
-arrivalWords f (route r) = (arrivesWords ++ decimal (arrivalOf r (f .horizon))) ++ (10 ∷ [])
+arrivalWords f (route r) = (arrivesWords ++ shortDecimal (arrivalOf r (f .horizon))) ++ (10 ∷ [])
 
 -- The line of carrier i.
 unfoldable pub arrivalLine : Floor → (ℕ → Answer) → ℕ → List ℕ

@@ -23,7 +23,7 @@ fn put_words(f: Floor, own: &[u16], i: usize, out: &mut [u8], at: usize) -> usiz
     }
     let cells = records::load(own, tag + 1);
     let a = put_bytes(out, at, b" arrives at beat ");
-    let b = maps::put_number(out, a, route::arrival(cells, f.horizon) as usize);
+    let b = reporting::put_short_decimal(out, a, route::arrival(cells, f.horizon) as usize);
     put_bytes(out, b, b"\n")
 }
 
@@ -69,7 +69,7 @@ pub fn put_frame(f: Floor, walls: &[u16], own: &[u16], t: usize, out: &mut [u8],
     ensures { λ r. ⌜ PutAt (frameOf f (now (walls .entry)) (answerIn (now (own .entry))) t) (now (out .entry)) at (now (out .exit)) r ⌝ }
 {
     let a = put_bytes(out, at, b"beat ");
-    let b = maps::put_number(out, a, t);
+    let b = reporting::put_short_decimal(out, a, t);
     let c = put_bytes(out, b, b"\n");
     put_rows(f, walls, own, t, out, c)
 }

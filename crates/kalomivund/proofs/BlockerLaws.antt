@@ -13,10 +13,10 @@ use Rattle.blockers.proofs.EntryLaws.{carrier-granted}
 use Rattle.abi.specs.Word.{done, ofNumber}
 use Rattle.abi.specs.Record.{floorOf}
 use Rattle.kalomivund.specs.Entries.{blockersWord, blockersStored}
-use Rattle.kalomivund.specs.Claims.{Lent}
+use Rattle.kalomivund.specs.Claims.{KeepsLent}
 use Rattle.kalomivund.proofs.KeepLaws.{checked-lent, record-lent}
 
-pub blockers : (xs ws : List ℕ) (carrier : ℕ) (m : List ℕ) → Lent (65 * floorOf xs .carriers)
+pub blockers : (xs ws : List ℕ) (carrier : ℕ) (m : List ℕ) → KeepsLent (65 * floorOf xs .carriers)
     (blockersWord xs ws carrier (length m)) (blockersStored xs ws carrier m) m
 unfolding blockersWord blockersStored blockersOutcome blockersMemory blockersVerdict stored ofNumber
 blockers xs ws carrier m =

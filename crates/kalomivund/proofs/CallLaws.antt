@@ -17,7 +17,7 @@ use Rattle.abi.specs.Word.{wordOf, mapOutcome}
 use Rattle.abi.specs.Record.{floorOf}
 use Rattle.kalomivund.specs.Answers.{ofReply, toldDone}
 use Rattle.kalomivund.specs.Entries.{stepWord, stepStored, runWord, runStored}
-use Rattle.kalomivund.specs.Claims.{Refuses, Lent}
+use Rattle.kalomivund.specs.Claims.{SaysRefused, KeepsLent}
 use Rattle.kalomivund.proofs.KeepLaws.{checked-kept, after-kept, checked-beyond, record-lent}
 
 -- A memory that is left or kept is itself.
@@ -27,7 +27,7 @@ same-kept passed m = refl
 same-kept (refused k p) m = refl
 
 -- A call that is refused changes no number.
-inner-kept : (M : Machine) (m : List ℕ) (c : Call) → Refuses (wordOf (mapOutcome toldDone (replyIn M m c))) → memoryIn M m c ≡ m
+inner-kept : (M : Machine) (m : List ℕ) (c : Call) → SaysRefused (wordOf (mapOutcome toldDone (replyIn M m c))) → memoryIn M m c ≡ m
 unfolding memoryIn replyIn grantedMemory
 inner-kept M m (single lent (Asked·step x)) h = checked-kept toldDone (verdictIn M m (single lent (Asked·step x))) _ _ m h
 inner-kept M m (single lent noStep) h = same-kept (verdictIn M m (single lent noStep)) m
@@ -35,7 +35,7 @@ inner-kept M m (runOf lent xs b) h = checked-kept toldDone (verdictIn M m (runOf
 
 module _ (f : Floor) (ws m : List ℕ) (c : Call) where
   -- The number-by-number way to the same memory keeps it with a refusal.
-  call-kept : Refuses (wordOf (mapOutcome toldDone (replyTo f ws m c))) → memoryAfter f ws m c ≡ m
+  call-kept : SaysRefused (wordOf (mapOutcome toldDone (replyTo f ws m c))) → memoryAfter f ws m c ≡ m
   call-kept h =
       let M = machineOf f ws in
       sym (memory-in f ws m c)
@@ -48,14 +48,14 @@ module _ (f : Floor) (ws m : List ℕ) (c : Call) where
       checked-beyond (stateVerdict f ws m) (stateSize (f .carriers)) _ m
       (λ e. encode-beyond (f .carriers) z m)
 
-  call-lent : Lent (stateSize (f .carriers)) (wordOf (ofReply (replyTo f ws m c))) (memoryAfter f ws m c) m
+  call-lent : KeepsLent (stateSize (f .carriers)) (wordOf (ofReply (replyTo f ws m c))) (memoryAfter f ws m c) m
   unfolding ofReply
   call-lent = record { kept = call-kept; beyond = call-beyond }
 
-pub step : (xs ws m : List ℕ) (x : ℕ) → Lent (stateSize (floorOf xs .carriers)) (stepWord xs ws m x) (stepStored xs ws m x) m
+pub step : (xs ws m : List ℕ) (x : ℕ) → KeepsLent (stateSize (floorOf xs .carriers)) (stepWord xs ws m x) (stepStored xs ws m x) m
 unfolding stepWord stepStored
 step xs ws m x = record-lent xs _ _ m (call-lent (floorOf xs) ws m (singleCall m x))
 
-pub run : (xs ws m ss : List ℕ) (b : ℕ) → Lent (stateSize (floorOf xs .carriers)) (runWord xs ws m ss b) (runStored xs ws m ss b) m
+pub run : (xs ws m ss : List ℕ) (b : ℕ) → KeepsLent (stateSize (floorOf xs .carriers)) (runWord xs ws m ss b) (runStored xs ws m ss b) m
 unfolding runWord runStored
 run xs ws m ss b = record-lent xs _ _ m (call-lent (floorOf xs) ws m (runCall m ss b))

@@ -1,11 +1,12 @@
--- Laws of an exported function: a floor record that is too short is refused and leaves memory alone, one of enough numbers hands on.
+-- Laws of an exported function: a floor record that is too short is refused and leaves memory alone, with one of enough numbers
+-- the entry answers.
 use Prim.Native.Nat.{ℕ, _<_, _≤_}
 use mathlib.Core.Path.{_≡_, refl}
 use mathlib.Core.List.{List}
 use lib.ListN.{length}
 use borrow.Author.Tests.{le-leb, lt-leb}
 use Rattle.laws.specs.Verdict.{Verdict, passed, refused, _then_, demand, Outcome, refusal, _gives_, _thenAnswers_, whenPassed}
-use Rattle.floor.specs.Checks.{roomOf}
+use Rattle.floor.specs.Checks.{longEnough}
 use Rattle.sheet.specs.Read.{readVerdict}
 use Rattle.abi.specs.Word.{Done, wordOf, mapOutcome}
 use Rattle.abi.specs.Record.{recordLent}
@@ -13,11 +14,11 @@ use Rattle.kalomivund.specs.Entries.{wordFor, storedFor, readLent}
 
 -- The word and the memory are those of the call.
 pub says-lent : {w : ℕ} (xs : List ℕ) (o : Outcome Done) → 54 ≤ length xs → w ≡ wordOf o → w ≡ wordFor xs o
-unfolding wordFor _thenAnswers_ recordLent roomOf demand
+unfolding wordFor _thenAnswers_ recordLent longEnough demand
 says-lent xs o l e = rw (le-leb 54 (length xs) l) e
 
 pub stores-lent : {m new : List ℕ} (xs old : List ℕ) → 54 ≤ length xs → m ≡ new → m ≡ storedFor xs new old
-unfolding storedFor whenPassed recordLent roomOf demand
+unfolding storedFor whenPassed recordLent longEnough demand
 stores-lent xs old l e = rw (le-leb 54 (length xs) l) e
 
 -- The word of an entry whose answer is packed, and the same for an entry on the floor that the numbers say.
@@ -40,15 +41,15 @@ says-case o h w x v e s = rw e s
 
 -- What is answered to a record of enough numbers, said over the floor that was read of it: the packer tells the word of what the entry
 -- answered, and the entry left the memory.
-pub ruleset handed-on = (says-packed, told-checks, stores-lent)
+pub ruleset packed-answers = (says-packed, told-checks, stores-lent)
 
 -- The word is the refusal's, 9, 0, and the memory is as it was.
 pub says-short : {w : ℕ} (xs : List ℕ) (o : Outcome Done) → length xs < 54 → w ≡ wordOf (refusal 9 0) → w ≡ wordFor xs o
-unfolding wordFor _thenAnswers_ recordLent roomOf demand
+unfolding wordFor _thenAnswers_ recordLent longEnough demand
 says-short xs o l e = rw (lt-leb 54 (length xs) l) e
 
 pub stores-short : (xs new old : List ℕ) → length xs < 54 → old ≡ storedFor xs new old
-unfolding storedFor whenPassed recordLent roomOf demand
+unfolding storedFor whenPassed recordLent longEnough demand
 stores-short xs new old l = rw (lt-leb 54 (length xs) l) refl
 
 -- What is answered to a record that is too short.
@@ -67,11 +68,11 @@ then-nothing passed = refl
 then-nothing (refused k p) = refl
 
 -- Reading a sheet into a record that is too short, and into one of enough numbers.
-module _ (text : List ℕ) {lent : ℕ} (room : ℕ) where
-  pub read-short : lent < 54 → readLent text lent room ≡ (readVerdict text room then refused 9 0)
-  unfolding readLent roomOf demand
+module _ (text : List ℕ) {lent : ℕ} (walls : ℕ) where
+  pub read-short : lent < 54 → readLent text lent walls ≡ (readVerdict text walls then refused 9 0)
+  unfolding readLent longEnough demand
   read-short l = rw (lt-leb 54 lent l) refl
 
-  pub read-long : 54 ≤ lent → readLent text lent room ≡ readVerdict text room
-  unfolding readLent roomOf demand
-  read-long l = rw (le-leb 54 lent l) (then-nothing (readVerdict text room))
+  pub read-long : 54 ≤ lent → readLent text lent walls ≡ readVerdict text walls
+  unfolding readLent longEnough demand
+  read-long l = rw (le-leb 54 lent l) (then-nothing (readVerdict text walls))

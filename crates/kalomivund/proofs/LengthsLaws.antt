@@ -7,7 +7,7 @@ use Rattle.laws.specs.Memory.{put}
 use Rattle.laws.proofs.VerdictLaws.{then-passed, then-refused, gives-refused, given-value, given-refusal, when-refused}
 use Rattle.floor.specs.declared.Floor.{Floor}
 use Rattle.floor.specs.declared.Refusal.{Refusal}
-use Rattle.floor.specs.Checks.{limitsOf, roomOf}
+use Rattle.floor.specs.Checks.{limitsOf, longEnough}
 use Rattle.lengths.specs.declared.Lengths.{Lengths}
 use Rattle.lengths.specs.declared.Needed.{Needed}
 use Rattle.lengths.specs.declared.Needed.the-variants.{Known, Refused}
@@ -17,35 +17,36 @@ use Rattle.kalomivund.specs.Answers.{figureList}
 use Rattle.kalomivund.specs.Entries.{neededVerdict}
 use Rattle.kalomivund.proofs.EntryLaws.{says-lent, stores-lent}
 
-module _ {x : Needed} (f : Floor) (h : figuresOf x ≡ figuresFor f) (room : ℕ) where
+module _ {x : Needed} (f : Floor) (h : figuresOf x ≡ figuresFor f) (lent : ℕ) where
   known-lengths : {l : Lengths} → x ≡ Known l → (limitsOf f ≡ passed) × (l ≡ lengthsOf f)
   unfolding figuresOf figuresFor
   known-lengths {l} e = given-value (limitsOf f) (lengthsOf f) l (rw e at h)
 
-  known-verdict : {l : Lengths} → x ≡ Known l → neededVerdict f room ≡ roomOf 9 room
+  known-verdict : {l : Lengths} → x ≡ Known l → neededVerdict f lent ≡ longEnough 9 lent
   unfolding neededVerdict
   known-verdict e = then-passed (known-lengths e .0)
 
-  refused-verdict : {r : Refusal} → x ≡ Refused r → neededVerdict f room ≡ refused (r .number) (r .place)
+  refused-verdict : {r : Refusal} → x ≡ Refused r → neededVerdict f lent ≡ refused (r .number) (r .place)
   unfolding neededVerdict figuresOf figuresFor
   refused-verdict {r} e = then-refused _ (given-refusal (limitsOf f) (lengthsOf f) (r .number) (r .place) (rw e at h))
 
   -- Known: the word and the memory are those of the room for them.
-  pub known-says : {w : ℕ} {l : Lengths} → x ≡ Known l → w ≡ wordOf (ofNumber (roomOf 9 room gives 0))
-      → w ≡ wordOf (ofNumber (neededVerdict f room gives 0))
+  pub known-says : {w : ℕ} {l : Lengths} → x ≡ Known l → w ≡ wordOf (ofNumber (longEnough 9 lent gives 0))
+      → w ≡ wordOf (ofNumber (neededVerdict f lent gives 0))
   known-says e s = rw (known-verdict e) s
 
-  pub known-stores : {m : List ℕ} {l : Lengths} (old : List ℕ) → x ≡ Known l → m ≡ whenPassed (roomOf 9 room) (put old 0 (figureList l)) old
-      → m ≡ whenPassed (neededVerdict f room) (put old 0 (figureList (lengthsOf f))) old
+  pub known-stores : {m : List ℕ} {l : Lengths} (old : List ℕ) → x ≡ Known l
+      → m ≡ whenPassed (longEnough 9 lent) (put old 0 (figureList l)) old
+      → m ≡ whenPassed (neededVerdict f lent) (put old 0 (figureList (lengthsOf f))) old
   known-stores old e s = rw (known-verdict e, ← known-lengths e .1) s
 
   -- Refused: the refusal as met, and the memory as it was.
   pub refused-says : {w : ℕ} {r : Refusal} → x ≡ Refused r → w ≡ wordOf (refusal (r .number) (r .place))
-      → w ≡ wordOf (ofNumber (neededVerdict f room gives 0))
+      → w ≡ wordOf (ofNumber (neededVerdict f lent gives 0))
   unfolding ofNumber mapOutcome
   refused-says e s = rw (gives-refused {A = ℕ} 0 (refused-verdict e)) s
 
-  pub refused-stores : {r : Refusal} (new old : List ℕ) → x ≡ Refused r → old ≡ whenPassed (neededVerdict f room) new old
+  pub refused-stores : {r : Refusal} (new old : List ℕ) → x ≡ Refused r → old ≡ whenPassed (neededVerdict f lent) new old
   refused-stores new old e = sym (when-refused new (refused-verdict e))
 
 -- What is answered to a record of enough numbers.

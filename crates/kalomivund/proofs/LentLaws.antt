@@ -40,7 +40,7 @@ use Rattle.kalomivund.specs.Answers.{ofSearch, answerDone, routeStored, 
 use Rattle.kalomivund.specs.Entries.{readLent, readWord, readRecord, readStored, writeWord, writeStored}
 use Rattle.kalomivund.specs.Entries.{neededVerdict, neededWord, neededStored, searchLent, searchWord, searchStored}
 use Rattle.kalomivund.specs.Entries.{planWord, planStored, printWord, printStored, freshWord, freshStored}
-use Rattle.kalomivund.specs.Claims.{Lent}
+use Rattle.kalomivund.specs.Claims.{KeepsLent}
 use Rattle.kalomivund.proofs.KeepLaws.{done-not-refused, checked-lent, record-lent}
 
 -- A record that is read has 54 numbers.
@@ -48,18 +48,18 @@ record-size : (text : List ℕ) → length (numbersOf (floorAt text)) ≡ 54
 unfolding numbersOf floorAt startsAt countsAt docksAt
 record-size text = simp (length-append, listed-length) refl
 
-pub read-record : (text xs : List ℕ) (room : ℕ) → Lent 54 (readWord text (length xs) room) (readRecord text xs room) xs
+pub read-record : (text xs : List ℕ) (walls : ℕ) → KeepsLent 54 (readWord text (length xs) walls) (readRecord text xs walls) xs
 unfolding readWord readRecord ofNumber
-read-record text xs room =
-    checked-lent (done 0) (readLent text (length xs) room) 0 _ xs (λ e. put-beyond xs _ 54 (omega (arith, record-size text)))
+read-record text xs walls =
+    checked-lent (done 0) (readLent text (length xs) walls) 0 _ xs (λ e. put-beyond xs _ 54 (omega (arith, record-size text)))
 
 pub read-walls : (text old : List ℕ) (lent : ℕ)
-    → Lent (floorAt text .walls) (readWord text lent (length old)) (readStored text lent old) old
+    → KeepsLent (floorAt text .walls) (readWord text lent (length old)) (readStored text lent old) old
 unfolding readWord readStored ofNumber
 read-walls text old lent =
     checked-lent (done 0) (readLent text lent (length old)) 0 _ old (λ e. drop-at (wallsAt text) _ _ (walls-length text))
 
-pub write-sheet : (xs ws old : List ℕ) → Lent (sheetLength (floorOf xs)) (writeWord xs ws (length old)) (writeStored xs ws old) old
+pub write-sheet : (xs ws old : List ℕ) → KeepsLent (sheetLength (floorOf xs)) (writeWord xs ws (length old)) (writeStored xs ws old) old
 unfolding writeWord writeStored writeSheet ofNumber
 write-sheet xs ws old =
     let f = floorOf xs in
@@ -67,13 +67,13 @@ write-sheet xs ws old =
     (checked-lent (done 0) (writeVerdict f ws (length old)) (sheetLength f) _ old
     (λ e. drop-at (sheetOf f ws) _ _ (sheet-theorems .sheet-length f ws)))
 
-pub needed-lengths : (xs old : List ℕ) → Lent 9 (neededWord xs (length old)) (neededStored xs old) old
+pub needed-lengths : (xs old : List ℕ) → KeepsLent 9 (neededWord xs (length old)) (neededStored xs old) old
 unfolding neededWord neededStored ofNumber figureList
 needed-lengths xs old =
     record-lent xs _ _ old
     (checked-lent (done 0) (neededVerdict (floorOf xs) (length old)) 0 _ old (λ e. put-beyond old _ 9 (omega arith)))
 
-pub plan : (xs ws old : List ℕ) → Lent (65 * floorOf xs .carriers) (planWord xs ws (length old)) (planStored xs ws old) old
+pub plan : (xs ws old : List ℕ) → KeepsLent (65 * floorOf xs .carriers) (planWord xs ws (length old)) (planStored xs ws old) old
 unfolding planWord planStored planResult planMemory stored planVerdict ofNumber
 plan xs ws old =
     let f = floorOf xs in
@@ -83,7 +83,7 @@ plan xs ws old =
     let h = check-tells f ws (then-both (checkOf f ws) _ e .0) .bounds .horizon .1 in
     put-beyond old _ (65 * f .carriers) (omega (arith, plan-size f ws h))))
 
-pub fresh : (xs ws old : List ℕ) → Lent (stateSize (floorOf xs .carriers)) (freshWord xs ws (length old)) (freshStored xs ws old) old
+pub fresh : (xs ws old : List ℕ) → KeepsLent (stateSize (floorOf xs .carriers)) (freshWord xs ws (length old)) (freshStored xs ws old) old
 unfolding freshWord freshStored freshMemory ofNumber
 fresh xs ws old =
     let f = floorOf xs in
@@ -91,11 +91,11 @@ fresh xs ws old =
     (checked-lent (done 0) (placeVerdict f ws (length old)) 0 _ old
     (λ e. encode-beyond (f .carriers) freshState old))
 
-pub print-routes : (text old : List ℕ) → Lent (neededFor text) (printWord text (length old)) (printStored text old) old
+pub print-routes : (text old : List ℕ) → KeepsLent (neededFor text) (printWord text (length old)) (printStored text old) old
 unfolding printWord printStored routesOutcome routesMemory ofNumber mapOutcome
 print-routes text old = go (leb (neededFor text) (length old))
   where
-    go : (b : Bool) → Lent (neededFor text)
+    go : (b : Bool) → KeepsLent (neededFor text)
         (wordOf (mapOutcome (done 0) (cond b (value (length (routesOf text))) (shortOutcome text))))
         (cond b (put old 0 (routesOf text)) old) old
     go true =
@@ -111,14 +111,15 @@ unfolding _thenAnswers_
 answered-through passed o a e = e
 answered-through (refused k p) o a e = absurd (let z : _≡_ {A = ℕ} 0 1 = cc in omega arith)
 
-pub search : (xs ws : List ℕ) (i : ℕ) (m old : List ℕ) → Lent 64 (searchWord xs ws i m (length old)) (searchStored xs ws i m old) old
+pub search : (xs ws : List ℕ) (i : ℕ) (m old : List ℕ) → KeepsLent 64 (searchWord xs ws i m (length old)) (searchStored xs ws i m old) old
 unfolding searchWord searchStored searchLent ofSearch mapOutcome routeStored cellsOf
 search xs ws i m old = record-lent xs _ _ old (go (searchLent f ws i m (length old)) refl)
   where
     f : Floor
     f = floorOf xs
 
-    go : (o : Outcome Answer) → searchLent f ws i m (length old) ≡ o → Lent 64 (wordOf (mapOutcome answerDone o)) (routeStored o old) old
+    go : (o : Outcome Answer) → searchLent f ws i m (length old) ≡ o
+        → KeepsLent 64 (wordOf (mapOutcome answerDone o)) (routeStored o old) old
     go (value none) e =
         record { kept = λ h. absurd (done-not-refused _ h); beyond = put-beyond old (replicate 64 0) 64 (omega arith) }
     go (value (route r)) e =

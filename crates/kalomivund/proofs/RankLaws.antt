@@ -8,11 +8,11 @@ use Rattle.lister.proofs.Theorems.{theorems as lister-theorems}
 use Rattle.abi.specs.Record.{floorOf}
 use Rattle.kalomivund.specs.Answers.{figuresDone, ofRank}
 use Rattle.kalomivund.specs.Entries.{rankWord, rankStored}
-use Rattle.kalomivund.specs.Claims.{Lent}
+use Rattle.kalomivund.specs.Claims.{KeepsLent}
 use Rattle.laws.proofs.PutLaws.{put-beyond}
 use Rattle.kalomivund.proofs.KeepLaws.{checked-lent, record-lent}
 
-pub run-report : (xs ws : List ℕ) (rank : ℕ) (m : List ℕ) → Lent (reportSize (floorOf xs .carriers))
+pub run-report : (xs ws : List ℕ) (rank : ℕ) (m : List ℕ) → KeepsLent (reportSize (floorOf xs .carriers))
     (rankWord xs ws rank (length m)) (rankStored xs ws rank m) m
 unfolding rankWord rankStored rankOutcome reportListed ofRank
 run-report xs ws rank m =

@@ -6,7 +6,7 @@ use Rattle.laws.specs.Memory.{put}
 use Rattle.laws.specs.Verdict.{Verdict, passed, refused, demand, _then_, Outcome, value, refusal, _gives_, _thenAnswers_}
 use borrow.Author.Tests.{le-leb, lt-leb}
 use Rattle.floor.specs.declared.Floor.{Floor}
-use Rattle.floor.specs.Checks.{checkOf, roomOf}
+use Rattle.floor.specs.Checks.{checkOf, longEnough}
 use Rattle.search.specs.Search.{searchOf, requestOf}
 use Rattle.floor.specs.declared.Refusal.{Refusal}
 use Rattle.route.specs.Route.{Answer}
@@ -66,25 +66,25 @@ unfolding _then_ _gives_ _thenAnswers_
 checked-twice passed w x = refl
 checked-twice (refused k p) w x = refl
 
-module _ (f : Floor) (ws : List ℕ) (i : ℕ) (m : List ℕ) {room : ℕ} where
-  pub short-says : {w : ℕ} {t : Verdict} → room < 64 → w ≡ wordOf (ofNumber ((t then refused 9 0) gives 0)) → t ≡ checkOf f ws
-      → w ≡ wordOf (ofSearch (searchLent f ws i m room))
-  unfolding searchLent roomOf demand
-  short-says l s e = rw (lt-leb 64 room l) ((rw e at s) ∙ short-word (checkOf f ws) (searchOf f ws i m))
+module _ (f : Floor) (ws : List ℕ) (i : ℕ) (m : List ℕ) {lent : ℕ} where
+  pub short-says : {w : ℕ} {t : Verdict} → lent < 64 → w ≡ wordOf (ofNumber ((t then refused 9 0) gives 0)) → t ≡ checkOf f ws
+      → w ≡ wordOf (ofSearch (searchLent f ws i m lent))
+  unfolding searchLent longEnough demand
+  short-says l s e = rw (lt-leb 64 lent l) ((rw e at s) ∙ short-word (checkOf f ws) (searchOf f ws i m))
 
-  pub short-stores : (old : List ℕ) → room < 64 → old ≡ routeStored (searchLent f ws i m room) old
-  unfolding searchLent roomOf demand
-  short-stores old l = rw (lt-leb 64 room l) (sym (short-route (checkOf f ws) (searchOf f ws i m) old))
+  pub short-stores : (old : List ℕ) → lent < 64 → old ≡ routeStored (searchLent f ws i m lent) old
+  unfolding searchLent longEnough demand
+  short-stores old l = rw (lt-leb 64 lent l) (sym (short-route (checkOf f ws) (searchOf f ws i m) old))
 
-  pub search-long : 64 ≤ room → searchLent f ws i m room ≡ searchOf f ws i m
-  unfolding searchLent searchOf requestOf roomOf demand
-  search-long l = rw (le-leb 64 room l) (checked-twice (checkOf f ws) _ _)
+  pub search-long : 64 ≤ lent → searchLent f ws i m lent ≡ searchOf f ws i m
+  unfolding searchLent searchOf requestOf longEnough demand
+  search-long l = rw (le-leb 64 lent l) (checked-twice (checkOf f ws) _ _)
 
-  pub long-says : {w : ℕ} → 64 ≤ room → w ≡ wordOf (ofSearch (searchOf f ws i m)) → w ≡ wordOf (ofSearch (searchLent f ws i m room))
+  pub long-says : {w : ℕ} → 64 ≤ lent → w ≡ wordOf (ofSearch (searchOf f ws i m)) → w ≡ wordOf (ofSearch (searchLent f ws i m lent))
   long-says l s = rw (search-long l) s
 
-  pub long-stores : {n : List ℕ} (old : List ℕ) → 64 ≤ room → n ≡ routeStored (searchOf f ws i m) old
-      → n ≡ routeStored (searchLent f ws i m room) old
+  pub long-stores : {n : List ℕ} (old : List ℕ) → 64 ≤ lent → n ≡ routeStored (searchOf f ws i m) old
+      → n ≡ routeStored (searchLent f ws i m lent) old
   long-stores old l s = rw (search-long l) s
 
 -- What is answered to a record of enough numbers: the floor's refusals and 9 without room for a route, the search with it.

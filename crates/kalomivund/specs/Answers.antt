@@ -8,8 +8,8 @@ use Rattle.route.specs.FirstConflict.{sameCell, changeOfPlaces, following, Conf
 use Rattle.search.specs.Answers.{cellsOf}
 use Rattle.lengths.specs.declared.Lengths.{Lengths}
 use Rattle.reference.specs.Take.{StepAnswer, kept, sent, delivered}
-use Rattle.reference.specs.Ending.{Ending, silent, spent, ended}
-use Rattle.reference.specs.Calls.{Told, Reply, stepped, ran}
+use Rattle.reference.specs.Ending.{RunEnding, silent, spent, ended}
+use Rattle.reference.specs.Calls.{CallAnswer, Reply, stepped, ran}
 use Rattle.lister.specs.Entry.{Figures}
 use Rattle.legality.specs.Entry.{RecordAnswer, aRoute, aNone, notHeard, wrong}
 use Rattle.abi.specs.Word.{Done, done, mapOutcome}
@@ -38,13 +38,13 @@ stepCase sent = 1
 stepCase delivered = 2
 
 -- The end of a run: case 0 silent, 1 spent, 2 ended.
-unfoldable pub endCase : Ending → ℕ
+unfoldable pub endCase : RunEnding → ℕ
 endCase silent = 0
 endCase spent = 1
 endCase ended = 2
 
 -- A call of the machine: the step's case, or the end of a run with the number taken.
-unfoldable pub toldDone : Told → Done
+unfoldable pub toldDone : CallAnswer → Done
 toldDone (stepped a) = done (stepCase a) 0
 toldDone (ran t e) = done (endCase e) t
 

@@ -28,49 +28,51 @@ use Rattle.kalomivund.specs.Entries.{trialWord, trialStateStored, trialR
 use Rattle.kalomivund.specs.Entries.{blockersWord, blockersStored}
 
 -- A word says refused: its low byte is 1.
-abbrev pub Refuses : ℕ → Type 0
-Refuses w = w % 256 ≡ 1
+abbrev pub SaysRefused : ℕ → Type 0
+SaysRefused w = w % 256 ≡ 1
 
 -- A call with word w that finds memory `old` and leaves `new`: a refusal leaves it as it was found, and what lies beyond the needed
 -- length stays in any case.
-pub record Lent (needed w : ℕ) (new old : List ℕ) : Type 0 where
-  pub kept : Refuses w → new ≡ old
+pub record KeepsLent (needed w : ℕ) (new old : List ℕ) : Type 0 where
+  pub kept : SaysRefused w → new ≡ old
   pub beyond : drop needed new ≡ drop needed old
 
 pub record Claims : Type 0 where
   -- Each lent memory that an exported function writes, with the needed length that `lengths::needed_lengths` gives.
-  pub read-record : (text xs : List ℕ) (room : ℕ)
-      → Lent (lengthsOf (floorAt text) .floor) (readWord text (length xs) room) (readRecord text xs room) xs
+  pub read-record : (text xs : List ℕ) (walls : ℕ)
+      → KeepsLent (lengthsOf (floorAt text) .floor) (readWord text (length xs) walls) (readRecord text xs walls) xs
   pub read-walls : (text old : List ℕ) (lent : ℕ)
-      → Lent (lengthsOf (floorAt text) .walls) (readWord text lent (length old)) (readStored text lent old) old
-  pub write-sheet : (xs ws old : List ℕ) → Lent (lengthsOf (floorOf xs) .sheet) (writeWord xs ws (length old)) (writeStored xs ws old) old
-  pub needed-lengths : (xs old : List ℕ) → Lent (lengthsOf (floorOf xs) .figures) (neededWord xs (length old)) (neededStored xs old) old
+      → KeepsLent (lengthsOf (floorAt text) .walls) (readWord text lent (length old)) (readStored text lent old) old
+  pub write-sheet : (xs ws old : List ℕ)
+      → KeepsLent (lengthsOf (floorOf xs) .sheet) (writeWord xs ws (length old)) (writeStored xs ws old) old
+  pub needed-lengths : (xs old : List ℕ)
+      → KeepsLent (lengthsOf (floorOf xs) .figures) (neededWord xs (length old)) (neededStored xs old) old
   pub search : (xs ws : List ℕ) (i : ℕ) (m old : List ℕ)
-      → Lent (lengthsOf (floorOf xs) .route) (searchWord xs ws i m (length old)) (searchStored xs ws i m old) old
-  pub plan : (xs ws old : List ℕ) → Lent (lengthsOf (floorOf xs) .answers) (planWord xs ws (length old)) (planStored xs ws old) old
-  pub fresh : (xs ws old : List ℕ) → Lent (lengthsOf (floorOf xs) .state) (freshWord xs ws (length old)) (freshStored xs ws old) old
-  pub step : (xs ws m : List ℕ) (x : ℕ) → Lent (lengthsOf (floorOf xs) .state) (stepWord xs ws m x) (stepStored xs ws m x) m
-  pub run : (xs ws m ss : List ℕ) (b : ℕ) → Lent (lengthsOf (floorOf xs) .state) (runWord xs ws m ss b) (runStored xs ws m ss b) m
-  pub trial-state : (xs ws : List ℕ) (order seed : ℕ) (m : List ℕ) (report : ℕ) → Lent (lengthsOf (floorOf xs) .state)
+      → KeepsLent (lengthsOf (floorOf xs) .route) (searchWord xs ws i m (length old)) (searchStored xs ws i m old) old
+  pub plan : (xs ws old : List ℕ) → KeepsLent (lengthsOf (floorOf xs) .answers) (planWord xs ws (length old)) (planStored xs ws old) old
+  pub fresh : (xs ws old : List ℕ) → KeepsLent (lengthsOf (floorOf xs) .state) (freshWord xs ws (length old)) (freshStored xs ws old) old
+  pub step : (xs ws m : List ℕ) (x : ℕ) → KeepsLent (lengthsOf (floorOf xs) .state) (stepWord xs ws m x) (stepStored xs ws m x) m
+  pub run : (xs ws m ss : List ℕ) (b : ℕ) → KeepsLent (lengthsOf (floorOf xs) .state) (runWord xs ws m ss b) (runStored xs ws m ss b) m
+  pub trial-state : (xs ws : List ℕ) (order seed : ℕ) (m : List ℕ) (report : ℕ) → KeepsLent (lengthsOf (floorOf xs) .state)
       (trialWord xs ws order seed (length m) report) (trialStateStored xs ws order seed m report) m
-  pub trial-report : (xs ws : List ℕ) (order seed state : ℕ) (m : List ℕ) → Lent (lengthsOf (floorOf xs) .report)
+  pub trial-report : (xs ws : List ℕ) (order seed state : ℕ) (m : List ℕ) → KeepsLent (lengthsOf (floorOf xs) .report)
       (trialWord xs ws order seed state (length m)) (trialReportStored xs ws order seed state m) m
-  pub run-report : (xs ws : List ℕ) (rank : ℕ) (m : List ℕ) → Lent (lengthsOf (floorOf xs) .report)
+  pub run-report : (xs ws : List ℕ) (rank : ℕ) (m : List ℕ) → KeepsLent (lengthsOf (floorOf xs) .report)
       (rankWord xs ws rank (length m)) (rankStored xs ws rank m) m
-  pub blockers : (xs ws : List ℕ) (carrier : ℕ) (m : List ℕ) → Lent (lengthsOf (floorOf xs) .answers)
+  pub blockers : (xs ws : List ℕ) (carrier : ℕ) (m : List ℕ) → KeepsLent (lengthsOf (floorOf xs) .answers)
       (blockersWord xs ws carrier (length m)) (blockersStored xs ws carrier m) m
   -- Text memory: the floor's figure for an accepted sheet, 16 bytes for a refused one (`neededFor`).
-  pub print-routes : (text old : List ℕ) → Lent (neededFor text) (printWord text (length old)) (printStored text old) old
+  pub print-routes : (text old : List ℕ) → KeepsLent (neededFor text) (printWord text (length old)) (printStored text old) old
   -- A floor record is called too short exactly below its figure: as input before all else, as output of `kalomivund_read_sheet` where
   -- nothing else is wrong.
   pub record-short : (f : Floor) (xs : List ℕ) → (recordLent xs ≡ refused 9 0) ↔ (length xs < lengthsOf f .floor)
-  pub read-record-short : (text : List ℕ) (lent room : ℕ) → sheetVerdict text ≡ passed → floorAt text .walls ≤ room
-      → (readLent text lent room ≡ refused 9 0) ↔ (lent < lengthsOf (floorAt text) .floor)
+  pub read-record-short : (text : List ℕ) (lent walls : ℕ) → sheetVerdict text ≡ passed → floorAt text .walls ≤ walls
+      → (readLent text lent walls ≡ refused 9 0) ↔ (lent < lengthsOf (floorAt text) .floor)
   -- Memory for a route is, on an accepted floor with views of the needed length.
-  pub route-short : (f : Floor) (ws : List ℕ) (i : ℕ) (m : List ℕ) (room : ℕ) → checkOf f ws ≡ passed → lengthsOf f .answers ≤ length m
-      → (searchLent f ws i m room ≡ refusal 9 0) ↔ (room < lengthsOf f .route)
+  pub route-short : (f : Floor) (ws : List ℕ) (i : ℕ) (m : List ℕ) (lent : ℕ) → checkOf f ws ≡ passed → lengthsOf f .answers ≤ length m
+      → (searchLent f ws i m lent ≡ refusal 9 0) ↔ (lent < lengthsOf f .route)
   -- Memory for the figures is, of a floor within its limits.
-  pub figures-short : (f : Floor) (room : ℕ) → limitsOf f ≡ passed → (neededVerdict f room ≡ refused 9 0) ↔ (room < lengthsOf f .figures)
+  pub figures-short : (f : Floor) (lent : ℕ) → limitsOf f ≡ passed → (neededVerdict f lent ≡ refused 9 0) ↔ (lent < lengthsOf f .figures)
   -- The words of the cases: 256 times the case, with the number taken from bit 16 on.
   pub kept-word : wordOf (ofReply (value (stepped kept))) ≡ 0
   pub sent-word : wordOf (ofReply (value (stepped sent))) ≡ 256

@@ -5,7 +5,7 @@ use lib.ListN.{length, drop}
 use Rattle.laws.specs.Memory.{put}
 use Rattle.floor.specs.declared.Floor.{Floor}
 use Rattle.laws.specs.Verdict.{Verdict, _then_, Outcome, _gives_, _thenAnswers_, whenPassed}
-use Rattle.floor.specs.Checks.{checkOf, limitsOf, roomOf}
+use Rattle.floor.specs.Checks.{checkOf, limitsOf, longEnough}
 use Rattle.route.specs.Route.{Answer}
 use Rattle.sheet.specs.Text.{sheetLength}
 use Rattle.sheet.specs.Values.{floorAt, wallsAt}
@@ -36,32 +36,32 @@ storedFor xs new old = whenPassed (recordLent xs) new old
 
 -- Reading a sheet into a record and wall memory of so many numbers: the sheet's refusals, then 9 for either.
 unfoldable pub readLent : List ℕ → ℕ → ℕ → Verdict
-readLent text lent room = readVerdict text room then roomOf 54 lent
+readLent text lent walls = readVerdict text walls then longEnough 54 lent
 
 -- `kalomivund_read_sheet`: the word, the floor record and the wall memory.
 unfoldable pub readWord : List ℕ → ℕ → ℕ → ℕ
-readWord text lent room = wordOf (ofNumber (readLent text lent room gives 0))
+readWord text lent walls = wordOf (ofNumber (readLent text lent walls gives 0))
 
 unfoldable pub readRecord : List ℕ → List ℕ → ℕ → List ℕ
-readRecord text xs room = whenPassed (readLent text (length xs) room) (put xs 0 (numbersOf (floorAt text))) xs
+readRecord text xs walls = whenPassed (readLent text (length xs) walls) (put xs 0 (numbersOf (floorAt text))) xs
 
 unfoldable pub readStored : List ℕ → ℕ → List ℕ → List ℕ
 readStored text lent old = whenPassed (readLent text lent (length old)) (wallsAt text ++ drop (floorAt text .walls) old) old
 
 -- `kalomivund_write_sheet`.
 unfoldable pub writeWord : List ℕ → List ℕ → ℕ → ℕ
-writeWord xs ws room = wordFor xs (ofNumber (writeVerdict (floorOf xs) ws room gives sheetLength (floorOf xs)))
+writeWord xs ws lent = wordFor xs (ofNumber (writeVerdict (floorOf xs) ws lent gives sheetLength (floorOf xs)))
 
 unfoldable pub writeStored : List ℕ → List ℕ → List ℕ → List ℕ
 writeStored xs ws old = storedFor xs (writeSheet (floorOf xs) ws old) old
 
 -- The refusals of needed lengths: the limits of line 1, then 9 where fewer numbers are lent than there are figures.
 unfoldable pub neededVerdict : Floor → ℕ → Verdict
-neededVerdict f room = limitsOf f then roomOf 9 room
+neededVerdict f lent = limitsOf f then longEnough 9 lent
 
 -- `kalomivund_needed_lengths`.
 unfoldable pub neededWord : List ℕ → ℕ → ℕ
-neededWord xs room = wordFor xs (ofNumber (neededVerdict (floorOf xs) room gives 0))
+neededWord xs lent = wordFor xs (ofNumber (neededVerdict (floorOf xs) lent gives 0))
 
 unfoldable pub neededStored : List ℕ → List ℕ → List ℕ
 neededStored xs old =
@@ -69,18 +69,18 @@ neededStored xs old =
 
 -- A search into route memory of so many numbers: the floor's refusals, then 9, then the search's own answer.
 unfoldable pub searchLent : Floor → List ℕ → ℕ → List ℕ → ℕ → Outcome Answer
-searchLent f ws i m room = (checkOf f ws then roomOf 64 room) thenAnswers searchOf f ws i m
+searchLent f ws i m lent = (checkOf f ws then longEnough 64 lent) thenAnswers searchOf f ws i m
 
 -- `kalomivund_search`.
 unfoldable pub searchWord : List ℕ → List ℕ → ℕ → List ℕ → ℕ → ℕ
-searchWord xs ws i m room = wordFor xs (ofSearch (searchLent (floorOf xs) ws i m room))
+searchWord xs ws i m lent = wordFor xs (ofSearch (searchLent (floorOf xs) ws i m lent))
 
 unfoldable pub searchStored : List ℕ → List ℕ → ℕ → List ℕ → List ℕ → List ℕ
 searchStored xs ws i m old = storedFor xs (routeStored (searchLent (floorOf xs) ws i m (length old)) old) old
 
 -- `kalomivund_print_routes`.
 unfoldable pub printWord : List ℕ → ℕ → ℕ
-printWord text room = wordOf (ofNumber (routesOutcome text room))
+printWord text lent = wordOf (ofNumber (routesOutcome text lent))
 
 unfoldable pub printStored : List ℕ → List ℕ → List ℕ
 printStored text old = routesMemory text old
@@ -95,14 +95,14 @@ checkWord xs ws = wordFor xs (ofNumber (checkOf (floorOf xs) ws gives 0))
 
 -- `kalomivund_plan`.
 unfoldable pub planWord : List ℕ → List ℕ → ℕ → ℕ
-planWord xs ws room = wordFor xs (ofNumber (planResult (floorOf xs) ws room))
+planWord xs ws lent = wordFor xs (ofNumber (planResult (floorOf xs) ws lent))
 
 unfoldable pub planStored : List ℕ → List ℕ → List ℕ → List ℕ
 planStored xs ws old = storedFor xs (planMemory (floorOf xs) ws old) old
 
 -- `kalomivund_fresh`.
 unfoldable pub freshWord : List ℕ → List ℕ → ℕ → ℕ
-freshWord xs ws room = wordFor xs (ofNumber (placeVerdict (floorOf xs) ws room gives 0))
+freshWord xs ws lent = wordFor xs (ofNumber (placeVerdict (floorOf xs) ws lent gives 0))
 
 unfoldable pub freshStored : List ℕ → List ℕ → List ℕ → List ℕ
 freshStored xs ws old = storedFor xs (freshMemory (floorOf xs) ws old) old
@@ -151,8 +151,8 @@ unfoldable pub arrivalWord : List ℕ → ℕ → ℕ
 arrivalWord r horizon = wordOf (ofNumber (arrivalOutcome r horizon))
 
 -- `kalomivund_blockers`: the word with the set as its number, and the answers' memory.
-unfoldable pub blockersWord : List ℕ → List ℕ → (carrier room : ℕ) → ℕ
-blockersWord xs ws carrier room = wordFor xs (ofNumber (blockersOutcome (floorOf xs) ws carrier room))
+unfoldable pub blockersWord : List ℕ → List ℕ → (carrier lent : ℕ) → ℕ
+blockersWord xs ws carrier lent = wordFor xs (ofNumber (blockersOutcome (floorOf xs) ws carrier lent))
 
 unfoldable pub blockersStored : List ℕ → List ℕ → (carrier : ℕ) → List ℕ → List ℕ
 blockersStored xs ws carrier old = storedFor xs (blockersMemory (floorOf xs) ws carrier old) old

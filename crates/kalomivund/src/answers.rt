@@ -2,8 +2,8 @@
 ghost use mathlib.Core.Path.{_≡_};
 ghost use Rattle.blockers.specs.Entry.{blockedOutcome};
 ghost use Rattle.conflict.specs.Entry.{comparedOutcome};
-ghost use Rattle.planner.specs.Answers.{resultOf};
-ghost use Rattle.printing.specs.Print.{outcomeOf};
+ghost use Rattle.planner.specs.Answers.{plannedOutcome};
+ghost use Rattle.printing.specs.Print.{printedOutcome};
 ghost use Rattle.machine.specs.Answers.{steppedReply, ranReply};
 ghost use Rattle.machine.specs.Ceiling.{figureOf};
 ghost use Rattle.trial.specs.Entry.{triedOutcome};
@@ -27,7 +27,7 @@ use trial::Tried;
 
 // The word of printing.
 pub fn of_print(x: Printed) -> u64
-    ensures { λ r. ⌜ r ≡ wordOf (ofNumber (outcomeOf x)) ⌝ }
+    ensures { λ r. ⌜ r ≡ wordOf (ofNumber (printedOutcome x)) ⌝ }
 {
     match x {
         Printed::Written(n) => done(0, n),
@@ -37,7 +37,7 @@ pub fn of_print(x: Printed) -> u64
 
 // The word of a plan.
 pub fn of_plan(x: Planned) -> u64
-    ensures { λ r. ⌜ r ≡ wordOf (ofNumber (resultOf x)) ⌝ }
+    ensures { λ r. ⌜ r ≡ wordOf (ofNumber (plannedOutcome x)) ⌝ }
 {
     match x {
         Planned::Failing(i) => done(0, i),

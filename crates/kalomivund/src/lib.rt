@@ -9,7 +9,7 @@ ghost use Prim.Native.Nat.{_≤_};
 ghost use lib.ListN.{length};
 ghost use Rattle.laws.specs.Memory.{put};
 ghost use Rattle.laws.specs.Verdict.{_gives_, whenPassed};
-ghost use Rattle.floor.specs.Checks.{roomOf};
+ghost use Rattle.floor.specs.Checks.{longEnough};
 ghost use Rattle.search.specs.Search.{searchOf};
 ghost use Rattle.abi.specs.Word.{wordOf, ofNumber};
 ghost use Rattle.kalomivund.specs.Answers.{ofSearch, routeStored, figureList};
@@ -83,9 +83,9 @@ pub extern "C" fn kalomivund_write_sheet(f: &[u16], walls: &[u16], out: &mut [u8
 
 // Needed lengths into lent memory of enough numbers.
 fn store_lengths(l: Lengths, out: &mut [u64]) -> u64
-    ensures says { λ r. ⌜ r ≡ wordOf (ofNumber (roomOf 9 (length (now (out .entry))) gives 0)) ⌝ }
+    ensures says { λ r. ⌜ r ≡ wordOf (ofNumber (longEnough 9 (length (now (out .entry))) gives 0)) ⌝ }
     ensures stores { λ r. ⌜ now (out .exit)
-        ≡ whenPassed (roomOf 9 (length (now (out .entry)))) (put (now (out .entry)) 0 (figureList l)) (now (out .entry)) ⌝ }
+        ≡ whenPassed (longEnough 9 (length (now (out .entry)))) (put (now (out .entry)) 0 (figureList l)) (now (out .entry)) ⌝ }
 {
     if out.len() < 9 {
         return word::too_short();

@@ -25,7 +25,7 @@ module _ {t b : Bool} (e : t ≡ b) where
 
 pub ruleset says = (code-says, code-holds, code-fails, not-fails, not-holds, not-last)
 
--- Of two tests, the first that fails ends the chain, and one that holds hands on.
+-- Of two tests, the first that fails ends the chain; behind one that holds the second decides.
 pub and-ends : {a : Bool} (b : Bool) → a ≡ false → false ≡ (a && b)
 and-ends b h = rw h
 

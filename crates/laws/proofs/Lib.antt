@@ -4,5 +4,6 @@ pub mod Lists
 pub mod CodeTests
 pub mod VerdictLaws
 pub mod EachLaws
+pub mod HoldLaws
 pub mod PutLaws
 pub mod PartLaws

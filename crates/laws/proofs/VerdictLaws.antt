@@ -11,7 +11,7 @@ use mathlib.Core.Logic.{_⊎_, ⊎-elim, inl, inr}
 use Rattle.laws.proofs.CodeTests.{code-holds, code-fails, decides}
 use Rattle.laws.specs.Verdict.{Verdict, passed, refused, _then_, demand, inTurn, demandEach, passes, Outcome, value, refusal, _gives_, _thenAnswers_, whenPassed}
 
--- A passed check hands on to the next.
+-- Behind a passed check the next one decides.
 pub then-passed : {v w : Verdict} → v ≡ passed → (v then w) ≡ w
 unfolding _then_
 then-passed h = rw h

@@ -1,6 +1,6 @@
 -- What a check says, and how checks follow one another (document 01, 'Refused': the first refusal met ends the check).
 use Prim.Native.Nat.{ℕ, suc, zero, _+_, _<_}
-use mathlib.Core.Bool.{Bool, true, false}
+use mathlib.Core.Bool.{Bool, true, false, _&&_}
 
 -- A check finds nothing, or refuses with the number and the place of document 01's table.
 pub data Verdict : Type 0 where
@@ -53,6 +53,11 @@ _thenAnswers_ (refused k p) r = refusal k p
 unfoldable pub whenPassed : {A : Type 0} → Verdict → A → A → A
 whenPassed passed new old = new
 whenPassed (refused k p) new old = old
+
+-- Each of the first m tests holds.
+unfoldable pub each : ℕ → (ℕ → Bool) → Bool
+each zero p = true
+each (suc m) p = each m p && p m
 
 -- Each of the first m items is as P says.
 abbrev pub All : (ℕ → Type 0) → ℕ → Type 0

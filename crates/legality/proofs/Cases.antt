@@ -6,9 +6,9 @@ use mathlib.Core.Path.{_≡_, refl}
 use lib.ListN.{replicate}
 use Rattle.floor.specs.declared.Floor.{Floor}
 use Rattle.laws.specs.Memory.{part}
-use Rattle.laws.specs.Verdict.{_then_, _gives_, Outcome, value, refusal, demand, inTurn, demandEach}
-use Rattle.floor.specs.Checks.{within, limitsOf, lentOf, roomOf, startOf, countOf, docksOf, dockOf, isDock}
-use Rattle.floor.specs.Checks.{every, inGrid, docksInGrid, carrierInGrid, carriersOf, wallsOf, rises, risingOf, among}
+use Rattle.laws.specs.Verdict.{_then_, _gives_, Outcome, value, refusal, demand, inTurn, demandEach, each}
+use Rattle.floor.specs.Checks.{within, limitsOf, lentOf, longEnough, startOf, countOf, docksOf, dockOf, isDock}
+use Rattle.floor.specs.Checks.{inGrid, docksInGrid, carrierInGrid, carriersOf, wallsOf, rises, risingOf, among}
 use Rattle.floor.specs.Checks.{docksClear, clearOfWalls, clearOf, unshared, distinctOf, unrepeated, unrepeatedOf, placesOf, checkOf}
 use Rattle.route.specs.Route.{cellAt}
 use Rattle.route.specs.Moves.{neighbours, near}
@@ -69,7 +69,7 @@ record Cases : Type 0 where
   short-route : arrivalOutcome (replicate 63 0) 4 ≡ refusal 9 0
 
 cases : Cases
-unfolding part _then_ _gives_ demand inTurn demandEach within limitsOf lentOf roomOf startOf countOf docksOf dockOf isDock every inGrid
+unfolding part _then_ _gives_ demand inTurn demandEach within limitsOf lentOf longEnough startOf countOf docksOf dockOf isDock each inGrid
     docksInGrid carrierInGrid carriersOf wallsOf rises risingOf among docksClear clearOfWalls clearOf unshared distinctOf unrepeated
     unrepeatedOf placesOf checkOf cellAt neighbours near settled arrivalOf taskOf beginTest cellsTest movesTest dockTest zeroAt blankTest
     freeIn routeTest recordTest recordKind recordAnswer _orWrong_ recordVerdict recordOutcome arrivalOutcome

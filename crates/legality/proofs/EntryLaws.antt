@@ -1,4 +1,4 @@
--- Laws of the entries: what it says that a check of a record is not turned away, and what is answered then.
+-- Laws of the entries: what it says that a check of a record is not refused, and what is answered then.
 use Prim.Native.Nat.{ℕ, _-_, _≤_, _<_, min}
 use native.Mathlib.Omega.{arith}
 use mathlib.Core.List.{List}
@@ -9,37 +9,37 @@ use Rattle.laws.specs.Memory.{part}
 use Rattle.laws.specs.Verdict.{Verdict, passed, refused, _then_, demand, Outcome, value, refusal, _gives_}
 use Rattle.laws.proofs.VerdictLaws.{then-both, demand-holds, demand-on, demand-ends}
 use Rattle.floor.specs.declared.Floor.{Floor}
-use Rattle.floor.specs.Checks.{checkOf, roomOf, carriersOf, wallsOf, risingOf, placesOf}
-use Rattle.floor.proofs.LimitsLaws.{check-tells, room-passed, within-means}
-use Rattle.floor.proofs.ClimbLaws.{passed-climbs}
+use Rattle.floor.specs.Checks.{checkOf, longEnough, carriersOf, wallsOf, risingOf, placesOf}
+use Rattle.floor.proofs.LimitsLaws.{check-tells, length-passed, within-means}
+use Rattle.floor.proofs.WallSearchLaws.{passed-rising}
 use Rattle.floor.proofs.DockLaws.{passed-counted}
 use Rattle.route.specs.Route.{Task}
 use Rattle.route.specs.Arrival.{arrivalOf}
 use Rattle.legality.specs.Tests.{blankTest, routeTest, recordTest}
 use Rattle.legality.specs.Entry.{RecordAnswer, aRoute, aNone, notHeard, wrong, recordKind, recordAnswer, _orWrong_}
 use Rattle.legality.specs.Entry.{recordVerdict, arrivalOutcome}
-use Rattle.legality.specs.Inner.{Placed}
+use Rattle.legality.specs.Inner.{RecordChecked}
 
 -- A check of a record that passes its refusals: the floor's are passed, 65 numbers are lent, and the carrier is there.
-pub record Granted (f : Floor) (ws : List ℕ) (i room : ℕ) : Type 0 where
+pub record RecordPassed (f : Floor) (ws : List ℕ) (i lent : ℕ) : Type 0 where
   pub checked : checkOf f ws ≡ passed
-  pub lent : 65 ≤ room
+  pub enough : 65 ≤ lent
   pub listed : (1 ≤ i) × (i ≤ f .carriers)
 
-module _ (f : Floor) (ws : List ℕ) (i room : ℕ) where
-  pub verdict-granted : recordVerdict f ws i room ≡ passed → Granted f ws i room
+module _ (f : Floor) (ws : List ℕ) (i lent : ℕ) where
+  pub verdict-granted : recordVerdict f ws i lent ≡ passed → RecordPassed f ws i lent
   unfolding recordVerdict
   verdict-granted e =
       let one = then-both (checkOf f ws) _ e in
-      let two = then-both (roomOf 65 room) _ (one .1) in
+      let two = then-both (longEnough 65 lent) _ (one .1) in
       record {
         checked = one .0;
-        lent = room-passed 65 room (two .0);
+        enough = length-passed 65 lent (two .0);
         listed = within-means 1 (f .carriers) i .0 (demand-holds _ 7 0 (two .1));
       }
 
   -- What the tests then need.
-  pub verdict-placed : recordVerdict f ws i room ≡ passed → Placed f ws i
+  pub verdict-placed : recordVerdict f ws i lent ≡ passed → RecordChecked f ws i
   unfolding placesOf
   verdict-placed e =
       let g = verdict-granted e in
@@ -52,7 +52,7 @@ module _ (f : Floor) (ws : List ℕ) (i room : ℕ) where
         height = t .bounds .height .1;
         horizon = t .bounds .horizon .1;
         lent = t .lent;
-        climbs = passed-climbs f ws (three .0);
+        rising = passed-rising f ws (three .0);
         listed = (g .listed .0, omega (arith, g .listed, t .bounds .carriers));
         few = passed-counted f (one .0) (i - 1) (omega (arith, g .listed)) .1;
       }
@@ -94,11 +94,11 @@ module _ (tag a : ℕ) where
 -- The arrival of a lent route: 9, or its value.
 module _ (r : List ℕ) (horizon : ℕ) where
   pub short-cells : length r < 64 → refusal 9 0 ≡ arrivalOutcome r horizon
-  unfolding arrivalOutcome roomOf demand _gives_
+  unfolding arrivalOutcome longEnough demand _gives_
   short-cells l = rw (lt-leb 64 (length r) l) refl
 
   pub lent-cells : {a : ℕ} → a ≡ arrivalOf (part r 0 64) (min horizon 63) → 64 ≤ length r → value a ≡ arrivalOutcome r horizon
-  unfolding arrivalOutcome roomOf demand _gives_
+  unfolding arrivalOutcome longEnough demand _gives_
   lent-cells e l = rw (le-leb 64 (length r) l) (ap value e)
 
 -- The answer of a record whose tests find nothing, and of one with a test that fails.

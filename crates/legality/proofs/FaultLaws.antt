@@ -13,7 +13,7 @@ use Rattle.laws.proofs.VerdictLaws.{demand-cases}
 use Rattle.laws.proofs.EachLaws.{each-passed, all-passes, each-refused, first-refuses}
 use Rattle.route.specs.Route.{Task}
 use Rattle.legality.specs.Tests.{beginTest, cellsTest, movesTest, dockTest, blankTest, freeIn, routeTest, recordTest}
-use Rattle.legality.specs.Faults.{Begins, Stands, Steps, Docked, ZeroFrom, FaultAt, no-tag, other-start, no-cell, no-move}
+use Rattle.legality.specs.Faults.{BeginsAtStart, Stands, Steps, Docked, ZeroFrom, FaultAt, no-tag, other-start, no-cell, no-move}
 use Rattle.legality.specs.Faults.{no-dock, not-blank, not-empty}
 use Rattle.legality.proofs.EntryLaws.{tag-fails, tag-route, tag-blank}
 use Rattle.legality.proofs.RouteLaws.{zero-means, stands-means, steps-means}
@@ -35,7 +35,7 @@ module _ (task : Task) (tag : ℕ) (r : List ℕ) where
       let d = demand-cases _ 3 0 k t h in
       rw (d .1, d .2) (other-start two (eqb-false _ _ (d .0))))
       (λ a e1.
-      let begins : Begins task r = eqb-true _ _ (demand-holds _ 3 0 a) in
+      let begins : BeginsAtStart task r = eqb-true _ _ (demand-holds _ 3 0 a) in
       refused-by e1
       (λ h. each-refused 4 0 _ (Stands task r) (stands-means task r) (FaultAt task tag r) (H + 1) k t h
       (λ i s. rw (zero-add i) (no-cell two begins s)))
@@ -73,7 +73,7 @@ module _ (task : Task) (tag : ℕ) (r : List ℕ) where
       by-tag (inr l) = by-two l (eq-or-ne tag 2)
 
   -- Tests that find nothing, and the next one that refuses.
-  begun : {v : Verdict} → Begins task r → (beginTest (task .start) r then v) ≡ v
+  begun : {v : Verdict} → BeginsAtStart task r → (beginTest (task .start) r then v) ≡ v
   unfolding beginTest
   begun b = then-passed (demand-passes 3 0 (eq-eqb _ _ b))
 

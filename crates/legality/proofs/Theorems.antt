@@ -13,14 +13,14 @@ use Rattle.laws.proofs.Tests.{eq-or-ne}
 use Rattle.laws.proofs.PartLaws.{part-length}
 use Rattle.laws.proofs.VerdictLaws.{then-passed, demand-passes, given-value, gives-passed}
 use Rattle.floor.specs.declared.Floor.{Floor}
-use Rattle.floor.specs.Checks.{roomOf}
-use Rattle.floor.proofs.LimitsLaws.{room-passed, within-means}
+use Rattle.floor.specs.Checks.{longEnough}
+use Rattle.floor.proofs.LimitsLaws.{length-passed, within-means}
 use Rattle.floor.proofs.Theorems.{theorems as floor-theorems}
 use Rattle.route.specs.Route.{route}
 use Rattle.route.specs.Best.{Arrives}
 use Rattle.route.specs.Arrival.{arrivalOf}
 use Rattle.route.proofs.Theorems.{theorems as route-theorems}
-use Rattle.records.specs.Records.{recordOf, slot, fit}
+use Rattle.records.specs.Records.{recordOf, slot, resized}
 use Rattle.search.specs.Task.{taskOf}
 use Rattle.search.specs.Answers.{answered}
 use Rattle.search.specs.Search.{searchOf}
@@ -29,7 +29,7 @@ use Rattle.legality.specs.Tests.{blankTest, recordTest}
 use Rattle.legality.specs.Entry.{RecordAnswer, aRoute, aNone, notHeard, wrong, recordKind, recordAnswer, _orWrong_}
 use Rattle.legality.specs.Entry.{recordVerdict, recordOutcome, arrivalOutcome}
 use Rattle.legality.specs.Faults.{FaultAt}
-use Rattle.legality.specs.Claims.{Asked, RouteIn, Claims}
+use Rattle.legality.specs.Claims.{RecordGranted, RouteIn, Claims}
 use Rattle.legality.proofs.EntryLaws.{verdict-granted, kind-route, kind-none, kind-unheard, tag-route, tag-blank, answer-passed}
 use Rattle.legality.proofs.EntryLaws.{answer-wrong, lent-cells}
 use Rattle.legality.proofs.FaultLaws.{test-fault, fault-test}
@@ -59,38 +59,38 @@ kind-right tag a =
     (eq-or-ne tag 2)
 
 module _ (f : Floor) (ws : List ℕ) (i : ℕ) (m : List ℕ) where
-  asked : recordVerdict f ws i (length m) ≡ passed → Asked f ws i m
+  asked : recordVerdict f ws i (length m) ≡ passed → RecordGranted f ws i m
   asked e =
       let g = verdict-granted f ws i (length m) e in
-      record { accepted = floor-theorems .passes-exactly f ws .0 (g .checked); lent = g .lent; listed = g .listed }
+      record { accepted = floor-theorems .passes-exactly f ws .0 (g .checked); lent = g .enough; listed = g .listed }
 
-  granted : Asked f ws i m → recordVerdict f ws i (length m) ≡ passed
-  unfolding recordVerdict roomOf
+  granted : RecordGranted f ws i m → recordVerdict f ws i (length m) ≡ passed
+  unfolding recordVerdict longEnough
   granted a =
       then-passed (floor-theorems .passes-exactly f ws .1 (a .accepted))
       ∙ then-passed (demand-passes 9 0 (le-leb 65 (length m) (a .lent)))
       ∙ demand-passes 7 0 (within-means 1 (f .carriers) i .1 (a .listed))
 
   -- What a record that is not wrong says: it is asked for, its tests find nothing, and it is what the tag says.
-  record Told (y : RecordAnswer) : Type 0 where
-    request : Asked f ws i m
+  record NotWrong (y : RecordAnswer) : Type 0 where
+    request : RecordGranted f ws i m
     tests : recordTest (taskOf f ws i) (getD m 0 0) (part m 1 64) ≡ passed
     kind : recordKind (getD m 0 0) (arrivalOf (part m 1 64) (f .horizon)) ≡ y
 
-  told : (y : RecordAnswer) → caseOf y < 3 → recordOutcome f ws i m ≡ value y → Told y
+  told : (y : RecordAnswer) → caseOf y < 3 → recordOutcome f ws i m ≡ value y → NotWrong y
   unfolding recordOutcome recordAnswer taskOf
   told y l e =
       let g = given-value (recordVerdict f ws i (length m)) (recordAnswer (taskOf f ws i) m) y (sym e) in
       let t = not-wrong (recordTest (taskOf f ws i) (getD m 0 0) (part m 1 64)) _ y (sym (g .1)) l in
       record { request = asked (g .0); tests = t .0; kind = t .1 }
 
-  tells : (y : RecordAnswer) → Told y → recordOutcome f ws i m ≡ value y
+  tells : (y : RecordAnswer) → NotWrong y → recordOutcome f ws i m ≡ value y
   unfolding recordOutcome taskOf
   tells y t =
       gives-passed (granted (t .request))
       ∙ sym (answer-passed (taskOf f ws i) m refl (t .tests) (ap value (sym (t .kind))))
 
-  long-part : Asked f ws i m → length (part m 1 64) ≡ 64
+  long-part : RecordGranted f ws i m → length (part m 1 64) ≡ 64
   long-part a = part-length m 1 64 (omega (arith, a .lent))
 
   legal-told : (a : ℕ) → recordOutcome f ws i m ≡ value (aRoute a) → RouteIn f ws i m a
@@ -117,14 +117,14 @@ module _ (f : Floor) (ws : List ℕ) (i : ℕ) (m : List ℕ) where
       })
 
   -- A record with a tag and no number but 0 behind it.
-  blank-tests : (tag : ℕ) → Asked f ws i m → tag < 2 → part m 0 65 ≡ tag ∷ replicate 64 0 →
+  blank-tests : (tag : ℕ) → RecordGranted f ws i m → tag < 2 → part m 0 65 ≡ tag ∷ replicate 64 0 →
       (getD m 0 0 ≡ tag) × (recordTest (taskOf f ws i) (getD m 0 0) (part m 1 64) ≡ passed)
   blank-tests tag a l e =
       let b = record-blank m (a .lent) tag e in
       let blank : blankTest 0 (part m 1 64) ≡ passed = blank-below (part m 1 64) 0 (λ t h k. b .1 t k) in
       (b .0, sym (tag-blank (taskOf f ws i) (getD m 0 0) (part m 1 64) (omega (arith, b .0)) (λ h. omega (arith, b .0)) refl) ∙ blank)
 
-  none-told : recordOutcome f ws i m ≡ value aNone → Asked f ws i m × (part m 0 65 ≡ 1 ∷ replicate 64 0)
+  none-told : recordOutcome f ws i m ≡ value aNone → RecordGranted f ws i m × (part m 0 65 ≡ 1 ∷ replicate 64 0)
   unfolding caseOf
   none-told e =
       let t = told aNone (omega arith) e in
@@ -132,12 +132,12 @@ module _ (f : Floor) (ws : List ℕ) (i : ℕ) (m : List ℕ) where
       let blank = blank-tested (taskOf f ws i) (getD m 0 0) (part m 1 64) (t .tests) (λ h. omega arith) in
       (t .request, blank-record m (t .request .lent) 1 k (blank-says (part m 1 64) (long-part (t .request)) 0 blank))
 
-  none-tells : Asked f ws i m → part m 0 65 ≡ 1 ∷ replicate 64 0 → recordOutcome f ws i m ≡ value aNone
+  none-tells : RecordGranted f ws i m → part m 0 65 ≡ 1 ∷ replicate 64 0 → recordOutcome f ws i m ≡ value aNone
   none-tells a e =
       let b = blank-tests 1 a (omega arith) e in
       tells aNone (record { request = a; tests = b .1; kind = sym (kind-none (getD m 0 0) _ (b .0)) })
 
-  unheard-told : recordOutcome f ws i m ≡ value notHeard → Asked f ws i m × (part m 0 65 ≡ 0 ∷ replicate 64 0)
+  unheard-told : recordOutcome f ws i m ≡ value notHeard → RecordGranted f ws i m × (part m 0 65 ≡ 0 ∷ replicate 64 0)
   unfolding caseOf
   unheard-told e =
       let t = told notHeard (omega arith) e in
@@ -145,7 +145,7 @@ module _ (f : Floor) (ws : List ℕ) (i : ℕ) (m : List ℕ) where
       let blank = blank-tested (taskOf f ws i) (getD m 0 0) (part m 1 64) (t .tests) (λ h. omega arith) in
       (t .request, blank-record m (t .request .lent) 0 k (blank-says (part m 1 64) (long-part (t .request)) 0 blank))
 
-  unheard-tells : Asked f ws i m → part m 0 65 ≡ 0 ∷ replicate 64 0 → recordOutcome f ws i m ≡ value notHeard
+  unheard-tells : RecordGranted f ws i m → part m 0 65 ≡ 0 ∷ replicate 64 0 → recordOutcome f ws i m ≡ value notHeard
   unheard-tells a e =
       let b = blank-tests 0 a (omega arith) e in
       tells notHeard
@@ -153,13 +153,13 @@ module _ (f : Floor) (ws : List ℕ) (i : ℕ) (m : List ℕ) where
 
   -- A fault is that of the tests.
   wrong-told : (k t : ℕ) → recordOutcome f ws i m ≡ value (wrong k t) →
-      Asked f ws i m × FaultAt (taskOf f ws i) (getD m 0 0) (part m 1 64) k t
+      RecordGranted f ws i m × FaultAt (taskOf f ws i) (getD m 0 0) (part m 1 64) k t
   unfolding recordOutcome recordAnswer
   wrong-told k t e =
       let g = given-value (recordVerdict f ws i (length m)) (recordAnswer (taskOf f ws i) m) (wrong k t) (sym e) in
       (asked (g .0), test-fault (taskOf f ws i) (getD m 0 0) (part m 1 64) k t (is-wrong _ _ k t (kind-right (getD m 0 0) _) (sym (g .1))))
 
-  wrong-tells : (k t : ℕ) → Asked f ws i m → FaultAt (taskOf f ws i) (getD m 0 0) (part m 1 64) k t →
+  wrong-tells : (k t : ℕ) → RecordGranted f ws i m → FaultAt (taskOf f ws i) (getD m 0 0) (part m 1 64) k t →
       recordOutcome f ws i m ≡ value (wrong k t)
   unfolding recordOutcome
   wrong-tells k t a h =
@@ -187,13 +187,13 @@ module _ (r : List ℕ) (horizon a : ℕ) where
   unfolding arrivalOutcome
   arrived = (
     λ e.
-        let g = given-value (roomOf 64 (length r)) (arrivalOf (part r 0 64) (min horizon 63)) a (sym e) in
-        (room-passed 64 (length r) (g .0), route-theorems .arrival-agrees (min horizon 63) (part r 0 64) a .1 (g .1)),
+        let g = given-value (longEnough 64 (length r)) (arrivalOf (part r 0 64) (min horizon 63)) a (sym e) in
+        (length-passed 64 (length r) (g .0), route-theorems .arrival-agrees (min horizon 63) (part r 0 64) a .1 (g .1)),
     λ h. sym (lent-cells r horizon (route-theorems .arrival-agrees (min horizon 63) (part r 0 64) a .0 (h .1)) (h .0)),
   )
 
 pub theorems : Claims
-unfolding recordOf slot fit
+unfolding recordOf slot resized
 theorems =
     record {
       route-exactly = λ task r long. (passed-route task r long, route-passed task r long);

@@ -20,15 +20,15 @@ use Rattle.legality.specs.Tests.{routeTest}
 use Rattle.legality.specs.Faults.{FaultAt}
 use Rattle.legality.specs.Entry.{aRoute, aNone, notHeard, wrong, recordOutcome, arrivalOutcome}
 
--- A check of a record that is not turned away: an accepted floor, 65 numbers lent, and one of its carriers.
-pub record Asked (f : Floor) (ws : List ℕ) (i : ℕ) (m : List ℕ) : Type 0 where
+-- A check of a record that is not refused: an accepted floor, 65 numbers lent, and one of its carriers.
+pub record RecordGranted (f : Floor) (ws : List ℕ) (i : ℕ) (m : List ℕ) : Type 0 where
   pub accepted : Accepted f ws
   pub lent : 65 ≤ length m
   pub listed : Within 1 (f .carriers) i
 
 -- The record in front of memory m is a route of carrier i with arrival a.
 pub record RouteIn (f : Floor) (ws : List ℕ) (i : ℕ) (m : List ℕ) (a : ℕ) : Type 0 where
-  pub asked : Asked f ws i m
+  pub asked : RecordGranted f ws i m
   pub tagged : getD m 0 0 ≡ 2
   pub is-route : IsRoute (taskOf f ws i) (part m 1 64)
   pub arrives : Arrives (f .horizon) (part m 1 64) a
@@ -41,12 +41,12 @@ pub record Claims : Type 0 where
       (recordOutcome f ws i m ≡ value (aRoute a)) ↔ RouteIn f ws i m a
   -- None is answered exactly if the 65 numbers are the record of none, not heard exactly if they are all 0.
   pub none-exactly : (f : Floor) (ws : List ℕ) (i : ℕ) (m : List ℕ) →
-      (recordOutcome f ws i m ≡ value aNone) ↔ (Asked f ws i m × (part m 0 65 ≡ recordOf none))
+      (recordOutcome f ws i m ≡ value aNone) ↔ (RecordGranted f ws i m × (part m 0 65 ≡ recordOf none))
   pub unheard-exactly : (f : Floor) (ws : List ℕ) (i : ℕ) (m : List ℕ) →
-      (recordOutcome f ws i m ≡ value notHeard) ↔ (Asked f ws i m × (part m 0 65 ≡ slot unheard))
+      (recordOutcome f ws i m ≡ value notHeard) ↔ (RecordGranted f ws i m × (part m 0 65 ≡ slot unheard))
   -- What is wrong is answered exactly under the condition of its cause, with its first beat.
   pub wrong-exactly : (f : Floor) (ws : List ℕ) (i : ℕ) (m : List ℕ) (k t : ℕ) →
-      (recordOutcome f ws i m ≡ value (wrong k t)) ↔ (Asked f ws i m × FaultAt (taskOf f ws i) (getD m 0 0) (part m 1 64) k t)
+      (recordOutcome f ws i m ≡ value (wrong k t)) ↔ (RecordGranted f ws i m × FaultAt (taskOf f ws i) (getD m 0 0) (part m 1 64) k t)
   -- Every route that a search answers is one of the carrier, whatever was heard.
   pub found-legal : (f : Floor) (ws : List ℕ) (i : ℕ) (m r : List ℕ) → searchOf f ws i m ≡ answered (route r) →
       recordOutcome f ws i (2 ∷ r) ≡ value (aRoute (arrivalOf r (f .horizon)))

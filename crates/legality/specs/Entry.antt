@@ -7,7 +7,7 @@ use lib.ListN.{length, getD}
 use Rattle.laws.specs.Memory.{part}
 use Rattle.laws.specs.Verdict.{Verdict, passed, refused, _then_, demand, Outcome, value, refusal, _gives_}
 use Rattle.floor.specs.declared.Floor.{Floor}
-use Rattle.floor.specs.Checks.{checkOf, roomOf, within}
+use Rattle.floor.specs.Checks.{checkOf, longEnough, within}
 use Rattle.route.specs.Route.{Task}
 use Rattle.route.specs.Arrival.{arrivalOf}
 use Rattle.search.specs.Task.{taskOf}
@@ -15,7 +15,7 @@ use Rattle.legality.specs.Tests.{recordTest}
 use Rattle.legality.specs.declared.Legality.{Legality}
 use Rattle.legality.specs.declared.Legality.the-variants.{Route, None, NotHeard, Wrong, Refused}
 use Rattle.legality.specs.declared.Arrived.{Arrived}
-use Rattle.legality.specs.declared.Arrived.the-variants.{At, Refused as TurnedAway}
+use Rattle.legality.specs.declared.Arrived.the-variants.{At, Refused as NotDated}
 
 -- What a record is: a route with its arrival, none, not heard, or no record of the carrier, with a cause (`Tests`) and its beat.
 pub data RecordAnswer : Type 0 where
@@ -40,8 +40,8 @@ recordAnswer task m =
     recordTest task (getD m 0 0) (part m 1 64) orWrong recordKind (getD m 0 0) (arrivalOf (part m 1 64) (task .horizon))
 
 -- The refusals of the check of a record: the floor's, 9 if fewer than 65 numbers are lent, 7, 0 if there is no such carrier.
-unfoldable pub recordVerdict : Floor → List ℕ → (carrier room : ℕ) → Verdict
-recordVerdict f ws carrier room = checkOf f ws then roomOf 65 room then demand (within 1 (f .carriers) carrier) 7 0
+unfoldable pub recordVerdict : Floor → List ℕ → (carrier lent : ℕ) → Verdict
+recordVerdict f ws carrier lent = checkOf f ws then longEnough 65 lent then demand (within 1 (f .carriers) carrier) 7 0
 
 -- What the check of a record answers.
 unfoldable pub recordOutcome : Floor → List ℕ → (carrier : ℕ) → List ℕ → Outcome RecordAnswer
@@ -49,7 +49,7 @@ recordOutcome f ws carrier m = recordVerdict f ws carrier (length m) gives recor
 
 -- What the arrival of a lent route answers: 9 if it has fewer than 64 numbers; a horizon above 63 counts as 63.
 unfoldable pub arrivalOutcome : List ℕ → ℕ → Outcome ℕ
-arrivalOutcome r horizon = roomOf 64 (length r) gives arrivalOf (part r 0 64) (min horizon 63)
+arrivalOutcome r horizon = longEnough 64 (length r) gives arrivalOf (part r 0 64) (min horizon 63)
 
 -- What each case of the code's answers says.
 unfoldable pub legalityOutcome : Legality → Outcome RecordAnswer
@@ -61,4 +61,4 @@ legalityOutcome (Refused r) = refusal (r .number) (r .place)
 
 unfoldable pub arrivedOutcome : Arrived → Outcome ℕ
 arrivedOutcome (At a) = value a
-arrivedOutcome (TurnedAway r) = refusal (r .number) (r .place)
+arrivedOutcome (NotDated r) = refusal (r .number) (r .place)

@@ -12,11 +12,11 @@ unfoldable pub freeOn : Floor → List ℕ → ℕ → Bool
 freeOn f ws c = inGrid f c && not (among ws (f .walls) c)
 
 -- What the tests of a record need that is already checked.
-pub record Placed (f : Floor) (ws : List ℕ) (carrier : ℕ) : Type 0 where
+pub record RecordChecked (f : Floor) (ws : List ℕ) (carrier : ℕ) : Type 0 where
   pub width : (1 ≤ f .width) × (f .width ≤ 32)
   pub height : f .height ≤ 32
   pub horizon : f .horizon ≤ 63
   pub lent : f .walls ≤ length ws
-  pub climbs : StrictlyRising ws (f .walls)
+  pub rising : StrictlyRising ws (f .walls)
   pub listed : (1 ≤ carrier) × (carrier - 1 < 8)
   pub few : countOf f (carrier - 1) ≤ 4

@@ -7,7 +7,7 @@ ghost use Rattle.floor.specs.Accepted.{StrictlyRising};
 ghost use Rattle.floor.specs.Checks.{startOf, isDock, countOf};
 ghost use Rattle.search.specs.Task.{taskOf};
 ghost use Rattle.legality.specs.Tests.{beginTest, cellsTest, movesTest, dockTest, blankTest, routeTest, recordTest};
-ghost use Rattle.legality.specs.Inner.{Placed, freeOn};
+ghost use Rattle.legality.specs.Inner.{RecordChecked, freeOn};
 use crate::places::is_dock;
 use crate::places::is_free;
 use crate::places::near;
@@ -111,7 +111,7 @@ fn blank(r: Route, from: usize) -> Checked
 
 // The tests of a route of a carrier of a checked floor.
 fn route_test(f: Floor, walls: &[u16], carrier: u16, r: Route) -> Checked
-    requires { ⌜ Placed f (now walls) carrier ⌝ }
+    requires { ⌜ RecordChecked f (now walls) carrier ⌝ }
     ensures { λ x. ⌜ verdictOf x ≡ routeTest (taskOf f (now (walls .entry)) carrier) r ⌝ }
 {
     let i = carrier as usize - 1;
@@ -136,7 +136,7 @@ fn route_test(f: Floor, walls: &[u16], carrier: u16, r: Route) -> Checked
 
 // The tests of a record with a tag and 64 numbers.
 pub fn record_test(f: Floor, walls: &[u16], carrier: u16, tag: u16, r: Route) -> Checked
-    requires { ⌜ Placed f (now walls) carrier ⌝ }
+    requires { ⌜ RecordChecked f (now walls) carrier ⌝ }
     ensures { λ x. ⌜ verdictOf x ≡ recordTest (taskOf f (now (walls .entry)) carrier) tag r ⌝ }
 {
     if 2 < tag {

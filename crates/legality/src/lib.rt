@@ -40,7 +40,7 @@ pub enum Legality {
     NotHeard,
     // No record of the carrier.
     Wrong(Fault),
-    // Turned away.
+    // Refused.
     Refused(Refusal),
 }
 
@@ -48,21 +48,21 @@ pub enum Legality {
 pub enum Arrived {
     // The beat of arrival.
     At(u16),
-    // Turned away.
+    // Refused.
     Refused(Refusal),
 }
 
 // The refusals of the check of a record, in their order.
-fn request(f: Floor, walls: &[u16], carrier: u16, room: usize) -> Checked
-    ensures { λ r. ⌜ verdictOf r ≡ recordVerdict f (now (walls .entry)) carrier room ⌝ }
+fn request(f: Floor, walls: &[u16], carrier: u16, lent: usize) -> Checked
+    ensures { λ r. ⌜ verdictOf r ≡ recordVerdict f (now (walls .entry)) carrier lent ⌝ }
 {
     let checked = floor::check(f, walls);
     let Checked::Passed = checked else {
         return checked;
     };
-    let lent = floor::room(SIZE, room);
-    let Checked::Passed = lent else {
-        return lent;
+    let long = floor::check_length(SIZE, lent);
+    let Checked::Passed = long else {
+        return long;
     };
     search::listed(f, carrier)
 }

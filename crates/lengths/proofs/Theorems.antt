@@ -8,7 +8,7 @@ use mathlib.Core.List.{List}
 use borrow.Author.Tests.{leb-false, lt-leb, le-leb}
 use Rattle.floor.specs.declared.Floor.{Floor}
 use Rattle.laws.specs.Verdict.{passed, refused, demand, value, refusal, _thenAnswers_, whenPassed}
-use Rattle.floor.specs.Checks.{checkOf, roomOf, within}
+use Rattle.floor.specs.Checks.{checkOf, longEnough, within}
 use Rattle.laws.proofs.VerdictLaws.{then-cases, then-passed, then-refused, demand-cases, demand-refuses, demand-passes, gives-passed}
 use Rattle.floor.proofs.LimitsLaws.{check-tells}
 use Rattle.floor.specs.Refused.{RefusedWith, outside-limit, few-walls, carrier-outside, wall-outside, not-rising, on-wall, shared, repeated}
@@ -43,7 +43,7 @@ record-nine f ws k p e (on-wall l m a b c h) n = omega arith
 record-nine f ws k p e (shared l m a b c d h) n = omega arith
 record-nine f ws k p e (repeated l m a b c d g h) n = omega arith
 
--- A sheet is never refused with 9 before its room is looked at.
+-- A sheet is never refused with 9 before the lent length is looked at.
 sheet-nine : (text : List ℕ) (k p : ℕ) → RefusedSheet text k p → k ≡ 9 → ⊥
 sheet-nine text k p (head-form b) n = omega arith
 sheet-nine text k p (outside-limit-row a h) n = omega arith
@@ -51,76 +51,76 @@ sheet-nine text k p (rest-form a l b) n = omega arith
 sheet-nine text k p (floor-row a l b r) n = record-nine (floorAt text) (wallsAt text) k p (omega (arith, walls-length text)) r n
 
 -- Memory is too short exactly below its needed length.
-pub room-means : (needed lent : ℕ) → (roomOf needed lent ≡ refused 9 0) ↔ (lent < needed)
-unfolding roomOf
-room-means needed lent = (λ h. leb-false _ _ (demand-cases _ 9 0 9 0 h .0), λ l. demand-refuses 9 0 (lt-leb _ _ l))
+pub length-means : (needed lent : ℕ) → (longEnough needed lent ≡ refused 9 0) ↔ (lent < needed)
+unfolding longEnough
+length-means needed lent = (λ h. leb-false _ _ (demand-cases _ 9 0 9 0 h .0), λ l. demand-refuses 9 0 (lt-leb _ _ l))
 
-walls-room : (text : List ℕ) (room : ℕ) → (readVerdict text room ≡ refused 9 0) ↔ ((sheetVerdict text ≡ passed) ×
-    (room < floorAt text .walls))
+walls-too-short : (text : List ℕ) (lent : ℕ) → (readVerdict text lent ≡ refused 9 0) ↔ ((sheetVerdict text ≡ passed) ×
+    (lent < floorAt text .walls))
 unfolding readVerdict
-walls-room text room = (
+walls-too-short text lent = (
   λ h.
       ⊎-elim
       (λ (e : sheetVerdict text ≡ refused 9 0). absurd (sheet-nine text 9 0 (sheet-theorems .refuses-exactly text 9 0 .0 e) refl))
-      (λ (e : (sheetVerdict text ≡ passed) × (roomOf (floorAt text .walls) room ≡ refused 9 0)). (e .0, room-means _ _ .0 (e .1)))
-      (then-cases (sheetVerdict text) (roomOf (floorAt text .walls) room) 9 0 h),
-  λ h. then-passed (h .0) ∙ room-means _ _ .1 (h .1),
+      (λ (e : (sheetVerdict text ≡ passed) × (longEnough (floorAt text .walls) lent ≡ refused 9 0)). (e .0, length-means _ _ .0 (e .1)))
+      (then-cases (sheetVerdict text) (longEnough (floorAt text .walls) lent) 9 0 h),
+  λ h. then-passed (h .0) ∙ length-means _ _ .1 (h .1),
 )
 
-sheet-room : (f : Floor) (ws : List ℕ) (room : ℕ) → checkOf f ws ≡ passed
-    → (writeVerdict f ws room ≡ refused 9 0) ↔ (room < sheetLength f)
+sheet-too-short : (f : Floor) (ws : List ℕ) (lent : ℕ) → checkOf f ws ≡ passed
+    → (writeVerdict f ws lent ≡ refused 9 0) ↔ (lent < sheetLength f)
 unfolding writeVerdict
-sheet-room f ws room ok = (λ h. room-means _ _ .0 (sym (then-passed ok) ∙ h), λ l. then-passed ok ∙ room-means _ _ .1 l)
+sheet-too-short f ws lent ok = (λ h. length-means _ _ .0 (sym (then-passed ok) ∙ h), λ l. then-passed ok ∙ length-means _ _ .1 l)
 
-answers-room : (f : Floor) (ws : List ℕ) (room : ℕ) → checkOf f ws ≡ passed → (planVerdict f ws room ≡ refused 9 0) ↔
-    (room < 65 * f .carriers)
+answers-too-short : (f : Floor) (ws : List ℕ) (lent : ℕ) → checkOf f ws ≡ passed → (planVerdict f ws lent ≡ refused 9 0) ↔
+    (lent < 65 * f .carriers)
 unfolding planVerdict
-answers-room f ws room ok = (λ h. room-means _ _ .0 (sym (then-passed ok) ∙ h), λ l. then-passed ok ∙ room-means _ _ .1 l)
+answers-too-short f ws lent ok = (λ h. length-means _ _ .0 (sym (then-passed ok) ∙ h), λ l. then-passed ok ∙ length-means _ _ .1 l)
 
-views-room : (f : Floor) (ws : List ℕ) (i : ℕ) (m : List ℕ) → checkOf f ws ≡ passed → (requestOf f ws i m ≡ refused 9 0) ↔
+views-too-short : (f : Floor) (ws : List ℕ) (i : ℕ) (m : List ℕ) → checkOf f ws ≡ passed → (requestOf f ws i m ≡ refused 9 0) ↔
     (length m < 65 * f .carriers)
 unfolding requestOf
-views-room f ws i m ok = (
+views-too-short f ws i m ok = (
   λ h.
       ⊎-elim
-      (λ (e : roomOf (65 * f .carriers) (length m) ≡ refused 9 0). room-means _ _ .0 e)
-      (λ (e : (roomOf (65 * f .carriers) (length m) ≡ passed) × (demand (within 1 (f .carriers) i) 7 0 ≡ refused 9 0)).
+      (λ (e : longEnough (65 * f .carriers) (length m) ≡ refused 9 0). length-means _ _ .0 e)
+      (λ (e : (longEnough (65 * f .carriers) (length m) ≡ passed) × (demand (within 1 (f .carriers) i) 7 0 ≡ refused 9 0)).
       absurd (omega (arith, demand-cases _ 7 0 9 0 (e .1) .1)))
-      (then-cases (roomOf (65 * f .carriers) (length m)) (demand (within 1 (f .carriers) i) 7 0) 9 0 (sym (then-passed ok) ∙ h)),
-  λ l. then-passed ok ∙ then-refused _ (room-means _ _ .1 l),
+      (then-cases (longEnough (65 * f .carriers) (length m)) (demand (within 1 (f .carriers) i) 7 0) 9 0 (sym (then-passed ok) ∙ h)),
+  λ l. then-passed ok ∙ then-refused _ (length-means _ _ .1 l),
 )
 
-state-room : (f : Floor) (ws : List ℕ) (room : ℕ) → checkOf f ws ≡ passed
-    → (placeVerdict f ws room ≡ refused 9 0) ↔ (room < stateSize (f .carriers))
+state-too-short : (f : Floor) (ws : List ℕ) (lent : ℕ) → checkOf f ws ≡ passed
+    → (placeVerdict f ws lent ≡ refused 9 0) ↔ (lent < stateSize (f .carriers))
 unfolding placeVerdict
-state-room f ws room ok = (λ h. room-means _ _ .0 (sym (then-passed ok) ∙ h), λ l. then-passed ok ∙ room-means _ _ .1 l)
+state-too-short f ws lent ok = (λ h. length-means _ _ .0 (sym (then-passed ok) ∙ h), λ l. then-passed ok ∙ length-means _ _ .1 l)
 
-report-room : (f : Floor) (ws : List ℕ) (order state report : ℕ) → checkOf f ws ≡ passed → stateSize (f .carriers) ≤ state
+report-too-short : (f : Floor) (ws : List ℕ) (order state report : ℕ) → checkOf f ws ≡ passed → stateSize (f .carriers) ≤ state
     → (trialVerdict f ws order state report ≡ refused 9 0) ↔ (report < reportSize (f .carriers))
-unfolding trialVerdict placeVerdict roomOf
-report-room f ws order state report ok l =
+unfolding trialVerdict placeVerdict longEnough
+report-too-short f ws order state report ok l =
     let placed : placeVerdict f ws state ≡ passed = then-passed ok ∙ demand-passes 9 0 (le-leb _ _ l) in
-    let room = roomOf (reportSize (f .carriers)) report in
+    let reported = longEnough (reportSize (f .carriers)) report in
     let known = demand (within 1 3 order) 11 0 in (
       λ h.
           ⊎-elim
-          (λ (e : room ≡ refused 9 0). room-means _ _ .0 e)
-          (λ (e : (room ≡ passed) × (known ≡ refused 9 0)). absurd (omega (arith, demand-cases _ 11 0 9 0 (e .1) .1)))
-          (then-cases room known 9 0 (sym (then-passed placed) ∙ h)),
-      λ b. then-passed placed ∙ then-refused _ (room-means _ _ .1 b),
+          (λ (e : reported ≡ refused 9 0). length-means _ _ .0 e)
+          (λ (e : (reported ≡ passed) × (known ≡ refused 9 0)). absurd (omega (arith, demand-cases _ 11 0 9 0 (e .1) .1)))
+          (then-cases reported known 9 0 (sym (then-passed placed) ∙ h)),
+      λ b. then-passed placed ∙ then-refused _ (length-means _ _ .1 b),
     )
 
-text-room : (f : Floor) (ws : List ℕ) (room bytes : ℕ) → checkOf f ws ≡ passed → 65 * f .carriers ≤ room
-    → (printVerdict f ws room bytes ≡ refused 9 0) ↔ (bytes < textLength f)
-unfolding printVerdict planVerdict roomOf
-text-room f ws room bytes ok l =
-    let planned : planVerdict f ws room ≡ passed = then-passed ok ∙ demand-passes 9 0 (le-leb _ _ l) in
-    (λ h. room-means _ _ .0 (sym (then-passed planned) ∙ h), λ b. then-passed planned ∙ room-means _ _ .1 b)
+text-too-short : (f : Floor) (ws : List ℕ) (lent bytes : ℕ) → checkOf f ws ≡ passed → 65 * f .carriers ≤ lent
+    → (printVerdict f ws lent bytes ≡ refused 9 0) ↔ (bytes < textLength f)
+unfolding printVerdict planVerdict longEnough
+text-too-short f ws lent bytes ok l =
+    let planned : planVerdict f ws lent ≡ passed = then-passed ok ∙ demand-passes 9 0 (le-leb _ _ l) in
+    (λ h. length-means _ _ .0 (sym (then-passed planned) ∙ h), λ b. then-passed planned ∙ length-means _ _ .1 b)
 
-sheet-text-room : (text : List ℕ) (bytes : ℕ) → sheetVerdict text ≡ passed
+sheet-text-too-short : (text : List ℕ) (bytes : ℕ) → sheetVerdict text ≡ passed
     → (routesOutcome text bytes ≡ refusal 9 0) ↔ (bytes < textLength (floorAt text))
 unfolding routesOutcome shortOutcome neededFor whenPassed _thenAnswers_
-sheet-text-room text bytes ok = (λ h. short h (decLe (textLength (floorAt text)) bytes), λ l. rw (ok, lt-leb _ _ l))
+sheet-text-too-short text bytes ok = (λ h. short h (decLe (textLength (floorAt text)) bytes), λ l. rw (ok, lt-leb _ _ l))
   where
     short : routesOutcome text bytes ≡ refusal 9 0 → Dec (textLength (floorAt text) ≤ bytes) → bytes < textLength (floorAt text)
     short h (no q) = omega arith
@@ -144,12 +144,12 @@ theorems =
       floor-within = λ f. omega arith;
       figures-within = λ f. omega arith;
       report-within = λ f ws ok. trial-theorems .report-small (f .carriers) (check-tells f ws ok .bounds .carriers .1);
-      answers-room = answers-room;
-      views-room = views-room;
-      walls-room = walls-room;
-      sheet-room = sheet-room;
-      text-room = text-room;
-      sheet-text-room = sheet-text-room;
-      state-room = state-room;
-      report-room = report-room;
+      answers-too-short = answers-too-short;
+      views-too-short = views-too-short;
+      walls-too-short = walls-too-short;
+      sheet-too-short = sheet-too-short;
+      text-too-short = text-too-short;
+      sheet-text-too-short = sheet-text-too-short;
+      state-too-short = state-too-short;
+      report-too-short = report-too-short;
     }

@@ -36,25 +36,25 @@ pub record Claims : Type 0 where
   -- No sheet is longer than 11,732 bytes: line 1, eight carriers of four docks, 1023 walls.
   pub sheet-longest : (f : Floor) (ws : List ℕ) → checkOf f ws ≡ passed → sheetLength f ≤ 11732
   -- Memory for answers is called too short exactly below the needed length, and so is memory for views.
-  pub answers-room : (f : Floor) (ws : List ℕ) (room : ℕ) → checkOf f ws ≡ passed
-      → (planVerdict f ws room ≡ refused 9 0) ↔ (room < 65 * f .carriers)
-  pub views-room : (f : Floor) (ws : List ℕ) (i : ℕ) (m : List ℕ) → checkOf f ws ≡ passed
+  pub answers-too-short : (f : Floor) (ws : List ℕ) (lent : ℕ) → checkOf f ws ≡ passed
+      → (planVerdict f ws lent ≡ refused 9 0) ↔ (lent < 65 * f .carriers)
+  pub views-too-short : (f : Floor) (ws : List ℕ) (i : ℕ) (m : List ℕ) → checkOf f ws ≡ passed
       → (requestOf f ws i m ≡ refused 9 0) ↔ (length m < 65 * f .carriers)
   -- Wall memory is called too short exactly below the needed length, and then only if nothing else is wrong.
-  pub walls-room : (text : List ℕ) (room : ℕ)
-      → (readVerdict text room ≡ refused 9 0) ↔ ((sheetVerdict text ≡ passed) × (room < floorAt text .walls))
+  pub walls-too-short : (text : List ℕ) (lent : ℕ)
+      → (readVerdict text lent ≡ refused 9 0) ↔ ((sheetVerdict text ≡ passed) × (lent < floorAt text .walls))
   -- Sheet memory of an accepted floor is called too short exactly below the needed length.
-  pub sheet-room : (f : Floor) (ws : List ℕ) (room : ℕ) → checkOf f ws ≡ passed
-      → (writeVerdict f ws room ≡ refused 9 0) ↔ (room < sheetLength f)
+  pub sheet-too-short : (f : Floor) (ws : List ℕ) (lent : ℕ) → checkOf f ws ≡ passed
+      → (writeVerdict f ws lent ≡ refused 9 0) ↔ (lent < sheetLength f)
   -- Text memory of an accepted floor whose answers have room is called too short exactly below the needed length.
-  pub text-room : (f : Floor) (ws : List ℕ) (room bytes : ℕ) → checkOf f ws ≡ passed → 65 * f .carriers ≤ room
-      → (printVerdict f ws room bytes ≡ refused 9 0) ↔ (bytes < textLength f)
+  pub text-too-short : (f : Floor) (ws : List ℕ) (lent bytes : ℕ) → checkOf f ws ≡ passed → 65 * f .carriers ≤ lent
+      → (printVerdict f ws lent bytes ≡ refused 9 0) ↔ (bytes < textLength f)
   -- Text memory of an accepted sheet is called too short exactly below the needed length of its floor.
-  pub sheet-text-room : (text : List ℕ) (bytes : ℕ) → sheetVerdict text ≡ passed
+  pub sheet-text-too-short : (text : List ℕ) (bytes : ℕ) → sheetVerdict text ≡ passed
       → (routesOutcome text bytes ≡ refusal 9 0) ↔ (bytes < textLength (floorAt text))
   -- Memory for a state of an accepted floor is called too short exactly below the needed length.
-  pub state-room : (f : Floor) (ws : List ℕ) (room : ℕ) → checkOf f ws ≡ passed
-      → (placeVerdict f ws room ≡ refused 9 0) ↔ (room < stateSize (f .carriers))
+  pub state-too-short : (f : Floor) (ws : List ℕ) (lent : ℕ) → checkOf f ws ≡ passed
+      → (placeVerdict f ws lent ≡ refused 9 0) ↔ (lent < stateSize (f .carriers))
   -- Memory for the report of a trial whose state has room is called too short exactly below the needed length.
-  pub report-room : (f : Floor) (ws : List ℕ) (order state report : ℕ) → checkOf f ws ≡ passed → stateSize (f .carriers) ≤ state
+  pub report-too-short : (f : Floor) (ws : List ℕ) (order state report : ℕ) → checkOf f ws ≡ passed → stateSize (f .carriers) ≤ state
       → (trialVerdict f ws order state report ≡ refused 9 0) ↔ (report < reportSize (f .carriers))

@@ -17,9 +17,9 @@ use Rattle.floor.specs.declared.Floor.{Floor}
 use Rattle.floor.specs.declared.Checked.{Checked}
 use Rattle.floor.specs.declared.Checked.the-variants.{Passed}
 use Rattle.floor.specs.Answers.{verdictOf}
-use Rattle.floor.specs.Checks.{checkOf, roomOf}
+use Rattle.floor.specs.Checks.{checkOf, longEnough}
 use Rattle.floor.proofs.AnswersLaws.{passes}
-use Rattle.floor.proofs.LimitsLaws.{room-passed}
+use Rattle.floor.proofs.LimitsLaws.{length-passed}
 use Rattle.floor.proofs.Theorems.{theorems as floor-theorems}
 use Rattle.reference.specs.State.{Machine, State, fresh}
 use Rattle.reference.specs.Take.{afterStep}
@@ -27,14 +27,15 @@ use Rattle.encoding.specs.Places.{pairsBefore, stateSize}
 use Rattle.encoding.specs.Calls.{machineOf}
 use Rattle.search.specs.Rows.{FreeRows}
 use Rattle.steps.specs.Inner.{Placed}
-use Rattle.trial.specs.Report.{numbersOf, reportSize}
+use Rattle.trial.specs.Report.{reportNumbers, reportSize}
 use Rattle.trial.proofs.EntryLaws.{checked-carriers}
 use Rattle.trial.proofs.ReportLaws.{numbers-length}
 use Rattle.listing.specs.Runs.{Run, runsOf, total, runAt, reportFrom}
 use Rattle.listing.proofs.Theorems.{theorems as listing-theorems}
 use Rattle.reference.specs.Quiescent.{ceiling}
-use Rattle.lister.specs.Lines.{written, listedFrom}
-use Rattle.lister.specs.Entry.{totalOf, runOf, smallVerdict, listVerdict, rankVerdict, Figures, rankOutcome, runNumbers, reportListed}
+use Rattle.lister.specs.Lines.{lineWritten, listedFrom}
+use Rattle.lister.specs.Entry.{totalOf, runOfRank, smallVerdict, listVerdict, rankVerdict, Figures}
+use Rattle.lister.specs.Entry.{rankOutcome, runNumbers, reportListed}
 use Rattle.lister.specs.declared.node.Node.{Node}
 use Rattle.lister.specs.Inner.{Rooted, Branch}
 use Rattle.lister.proofs.SameLaws.{ceiling-few}
@@ -53,14 +54,14 @@ small-tells f ws report h =
     let b = then-both _ _ (a .1) in
     record {
       checked = a .0;
-      wide = room-passed _ _ (b .0);
+      wide = length-passed _ _ (b .0);
       few = leb-true (f .carriers) 3 (demand-holds (leb (f .carriers) 3) 14 0 (b .1));
     }
 
--- The room for a report, as the code asks for it behind a check of the floor that passed.
+-- The length of a report, as the code asks for it behind a check of the floor that passed.
 pub report-asked : {a : Checked} (b : Checked) (f : Floor) (ws : List ℕ) (most report : ℕ) → verdictOf a ≡ checkOf f ws → a ≡ Passed →
-    (1 ≤ f .carriers → f .carriers ≤ 8 → most ≡ ceiling (f .carriers)) × (most ≤ 512) → verdictOf b ≡ roomOf (2 * most) report →
-    verdictOf b ≡ roomOf (reportSize (f .carriers)) report
+    (1 ≤ f .carriers → f .carriers ≤ 8 → most ≡ ceiling (f .carriers)) × (most ≤ 512) → verdictOf b ≡ longEnough (2 * most) report →
+    verdictOf b ≡ longEnough (reportSize (f .carriers)) report
 unfolding reportSize
 report-asked b f ws most report v e m h = let n = checked-carriers f ws (passes v e) in h ∙ rw (m .0 (n .0) (n .1))
 
@@ -75,13 +76,13 @@ unfolding reportFrom
 entries M s [] = refl
 entries M s (y ∷ ys) = ap suc (entries M (afterStep M s y) ys)
 
-pub report-length : (M : Machine) (xs : Run) → length (numbersOf (reportFrom M fresh xs)) ≡ 2 * length xs
+pub report-length : (M : Machine) (xs : Run) → length (reportNumbers (reportFrom M fresh xs)) ≡ 2 * length xs
 report-length M xs = numbers-length (reportFrom M fresh xs) ∙ ap (λ (k : ℕ). 2 * k) (entries M fresh xs)
 
 -- A window of one line: it gets the run of its rank.
 module _ (M : Machine) where
   abbrev Numbers : Run → List ℕ
-  Numbers xs = numbersOf (reportFrom M fresh xs)
+  Numbers xs = reportNumbers (reportFrom M fresh xs)
 
   one : (lines : List ℕ) → length lines ≡ 23 → length lines / 23 ≡ 1
   one lines e = rw e refl
@@ -109,7 +110,7 @@ module _ (M : Machine) where
       ∙ rw less refl)
       (eq-or-lt-of-le l)
     where
-      here : rank ≡ first → listedFrom M first (suc rank) rs (written first rank (length xs) (Numbers xs) lines) ≡
+      here : rank ≡ first → listedFrom M first (suc rank) rs (lineWritten first rank (length xs) (Numbers xs) lines) ≡
           put lines 0 (length (getD (xs ∷ rs) (first - rank) []) ∷ Numbers (getD (xs ∷ rs) (first - rank) []))
       here e =
           let none : first - rank ≡ 0 = omega arith in
@@ -147,23 +148,23 @@ module _ (f : Floor) (ws : List ℕ) (ok : checkOf f ws ≡ passed) (few : f .ca
 
 -- The line of the run of a rank below the total.
 pub record FoundLine (f : Floor) (ws : List ℕ) (rank : ℕ) (line : List ℕ) : Type 0 where
-  pub steps : getD line 0 0 ≡ length (runOf f ws rank)
-  pub numbers : take (2 * length (runOf f ws rank)) (drop 1 line) ≡ runNumbers f ws rank
-  pub size : length (runNumbers f ws rank) ≡ 2 * length (runOf f ws rank)
-  pub short : length (runOf f ws rank) ≤ ceiling (f .carriers)
+  pub steps : getD line 0 0 ≡ length (runOfRank f ws rank)
+  pub numbers : take (2 * length (runOfRank f ws rank)) (drop 1 line) ≡ runNumbers f ws rank
+  pub size : length (runNumbers f ws rank) ≡ 2 * length (runOfRank f ws rank)
+  pub short : length (runOfRank f ws rank) ≤ ceiling (f .carriers)
 
-pub size-of : (f : Floor) (ws : List ℕ) (rank : ℕ) → length (runNumbers f ws rank) ≡ 2 * length (runOf f ws rank)
+pub size-of : (f : Floor) (ws : List ℕ) (rank : ℕ) → length (runNumbers f ws rank) ≡ 2 * length (runOfRank f ws rank)
 unfolding runNumbers
-size-of f ws rank = report-length (machineOf f ws) (runOf f ws rank)
+size-of f ws rank = report-length (machineOf f ws) (runOfRank f ws rank)
 
 module _ (f : Floor) (ws : List ℕ) (few : f .carriers ≤ 3) (rank : ℕ) (below : rank < totalOf f ws) where
-  run-short : length (runOf f ws rank) ≤ ceiling (f .carriers)
-  unfolding runOf totalOf machineOf
+  run-short : length (runOfRank f ws rank) ≤ ceiling (f .carriers)
+  unfolding runOfRank totalOf machineOf
   run-short = listing-theorems .within-ceiling (machineOf f ws) rank below
 
   line-is : (line₀ line : List ℕ) → length line₀ ≡ 23 → line ≡ listedFrom (machineOf f ws) rank 0 (runsOf (machineOf f ws)) line₀ →
-      line ≡ put line₀ 0 (length (runOf f ws rank) ∷ runNumbers f ws rank)
-  unfolding runOf runAt runNumbers totalOf total
+      line ≡ put line₀ 0 (length (runOfRank f ws rank) ∷ runNumbers f ws rank)
+  unfolding runOfRank runAt runNumbers totalOf total
   line-is line₀ line long e =
       let same : rank - 0 ≡ rank = omega arith in
       e ∙ rw same at
@@ -178,8 +179,9 @@ module _ (f : Floor) (ws : List ℕ) (few : f .carriers ≤ 3) (rank : ℕ) (bel
       let sized = size-of f ws rank in
       record {
         steps = ap (λ (l : List ℕ). getD l 0 0) is;
-        numbers = ap (λ (l : List ℕ). take (2 * length (runOf f ws rank)) (drop 1 l)) is
-            ∙ take-at (runNumbers f ws rank) (drop (0 + suc (length (runNumbers f ws rank))) line₀) (2 * length (runOf f ws rank)) sized;
+        numbers = ap (λ (l : List ℕ). take (2 * length (runOfRank f ws rank)) (drop 1 l)) is
+            ∙ take-at (runNumbers f ws rank) (drop (0 + suc (length (runNumbers f ws rank))) line₀)
+            (2 * length (runOfRank f ws rank)) sized;
         size = sized;
         short = run-short;
       }
@@ -217,7 +219,7 @@ module _ (f : Floor) (ws : List ℕ) (rank : ℕ) (m : List ℕ) (ok : smallVerd
     unfolding rankVerdict
     a-run = then-passed ok ∙ demand-passes 15 0 (lt-ltb rank (totalOf f ws) below)
 
-    pub found-answer : (all steps : ℕ) → all ≡ totalOf f ws → steps ≡ length (runOf f ws rank) →
+    pub found-answer : (all steps : ℕ) → all ≡ totalOf f ws → steps ≡ length (runOfRank f ws rank) →
         _≡_ {A = Outcome Figures} (value (record { runs = all; steps = steps })) (rankOutcome f ws rank (length m))
     unfolding rankOutcome
     found-answer all steps e h = rw (e, h) (sym (gives-passed a-run))
@@ -227,12 +229,12 @@ module _ (f : Floor) (ws : List ℕ) (rank : ℕ) (m : List ℕ) (ok : smallVerd
     found-report m′ e = e ∙ sym (when-passed _ a-run)
 
 -- A refusal before 15 is the entry's.
-pub turned-away : {k p : ℕ} (f : Floor) (ws : List ℕ) (rank : ℕ) (m : List ℕ) → smallVerdict f ws (length m) ≡ refused k p →
+pub small-refused : {k p : ℕ} (f : Floor) (ws : List ℕ) (rank : ℕ) (m : List ℕ) → smallVerdict f ws (length m) ≡ refused k p →
     (refusal k p ≡ rankOutcome f ws rank (length m)) × (m ≡ reportListed f ws rank m)
 unfolding rankOutcome reportListed rankVerdict _then_
-turned-away {k} {p} f ws rank m e =
-    let turned : rankVerdict f ws rank (length m) ≡ refused k p = rw e refl in
-    (sym (gives-refused _ turned), sym (when-refused _ turned))
+small-refused {k} {p} f ws rank m e =
+    let refused-whole : rankVerdict f ws rank (length m) ≡ refused k p = rw e refl in
+    (sym (gives-refused _ refused-whole), sym (when-refused _ refused-whole))
 
 -- What the report of the run of a rank requires of its line, and that it is the run.
 module _ (f : Floor) (ws : List ℕ) (rank lent : ℕ) (small : Small f ws lent) (line : List ℕ) (found : FoundLine f ws rank line) where

@@ -11,7 +11,7 @@ use lib.Seq.{take-suc-set, length-take-le, getD-take}
 use borrow.Author.Tests.{le-leb, lt-leb, lt-ltb, le-ltb}
 use Rattle.laws.specs.Memory.{put}
 use Rattle.laws.proofs.PutLaws.{put-one, put-next, copy-start, copy-more, copy-keeps, copy-end}
-use Rattle.lister.specs.Lines.{written}
+use Rattle.lister.specs.Lines.{lineWritten}
 
 -- After t of the first k numbers of a trail are copied.
 pub record Copying (lines₀ : List ℕ) (at k : ℕ) (trail lines : List ℕ) (t : ℕ) : Type 0 where
@@ -23,7 +23,7 @@ module _ (lines₀ : List ℕ) (at k : ℕ) (trail : List ℕ) where
   pub copying-start : length trail ≡ 22 → Copying lines₀ at k trail lines₀ 0
   copying-start e = record { within = omega arith; long = e; stored = copy-start lines₀ (take k trail) at }
 
-  module _ (few : k ≤ 22) (room : at + k ≤ length lines₀) {lines : List ℕ} {t : ℕ} (c : Copying lines₀ at k trail lines t) where
+  module _ (few : k ≤ 22) (enough : at + k ≤ length lines₀) {lines : List ℕ} {t : ℕ} (c : Copying lines₀ at k trail lines t) where
     size : length (take k trail) ≡ k
     size = length-take-le k trail (omega (arith, c .long))
 
@@ -59,23 +59,23 @@ pub line-fits : (i n : ℕ) → i < n / 23 → 23 * i + 23 ≤ n
 line-fits i n l = omega arith
 
 module _ (first rank steps : ℕ) (numbers lines : List ℕ) where
-  pub written-before : rank < first → lines ≡ written first rank steps numbers lines
-  unfolding written
+  pub written-before : rank < first → lines ≡ lineWritten first rank steps numbers lines
+  unfolding lineWritten
   written-before l = rw (lt-leb first rank l) refl
 
-  pub written-behind : first ≤ rank → length lines / 23 ≤ rank - first → lines ≡ written first rank steps numbers lines
-  unfolding written
+  pub written-behind : first ≤ rank → length lines / 23 ≤ rank - first → lines ≡ lineWritten first rank steps numbers lines
+  unfolding lineWritten
   written-behind l h = rw (le-leb first rank l, le-ltb (rank - first) (length lines / 23) h) refl
 
   pub written-there : first ≤ rank → rank - first < length lines / 23 →
-      written first rank steps numbers lines ≡ put lines (23 * (rank - first)) (steps ∷ numbers)
-  unfolding written
+      lineWritten first rank steps numbers lines ≡ put lines (23 * (rank - first)) (steps ∷ numbers)
+  unfolding lineWritten
   written-there l h = rw (le-leb first rank l, lt-ltb (rank - first) (length lines / 23) h) refl
 
 -- The number of steps, and then the numbers of the run, are its line.
 pub written-line : (first rank steps : ℕ) (trail lines lines′ : List ℕ) → first ≤ rank → rank - first < length lines / 23 → steps ≤ 11 →
     lines′ ≡ put (set lines (23 * (rank - first)) steps) (23 * (rank - first) + 1) (take (2 * steps) trail) →
-    lines′ ≡ written first rank steps (take (2 * steps) trail) lines
+    lines′ ≡ lineWritten first rank steps (take (2 * steps) trail) lines
 written-line first rank steps trail lines lines′ l h few e =
     let fits = line-fits (rank - first) (length lines) h in
     let short = length-take (2 * steps) trail in

@@ -11,7 +11,7 @@ use Rattle.encoding.specs.InnerSteps.{afterIn, stepAnswerIn}
 use Rattle.orders.specs.Orders.{stepAt}
 use Rattle.trial.specs.Report.{numberOf, answerNumber}
 use Rattle.lister.specs.declared.node.Node.{Node}
-use Rattle.lister.specs.Inner.{trailOf, Moved}
+use Rattle.lister.specs.Inner.{trailOf, NodeAfter}
 
 module _ (f : Floor) (ws : List ℕ) (node : Node) (p : ℕ) where
   abbrev M : Machine
@@ -23,7 +23,7 @@ module _ (f : Floor) (ws : List ℕ) (node : Node) (p : ℕ) where
   pub moved : (memory longer : List ℕ) (y : Step) (number answer : ℕ) → y ≡ x → memory ≡ afterIn M (node .memory) y →
       length memory ≡ length (node .memory) → number ≡ numberOf y → answer ≡ answerNumber (stepAnswerIn M (node .memory) y) →
       take (2 * (node .steps + 1)) longer ≡ take (2 * node .steps) (node .trail) ++ (number ∷ (answer ∷ [])) →
-      Moved f ws node p (record { memory = memory; trail = longer; steps = node .steps + 1 })
+      NodeAfter f ws node p (record { memory = memory; trail = longer; steps = node .steps + 1 })
   unfolding trailOf
   moved memory longer y number answer is stored long num ans trail =
       record {

@@ -28,32 +28,32 @@ use Rattle.steps.proofs.OpenLaws.{silent-of}
 use Rattle.orders.specs.Orders.{places}
 use Rattle.orders.proofs.PlaceLaws.{places-split}
 use Rattle.orders.specs.Trial.{entryOf}
-use Rattle.trial.specs.Report.{numberOf, answerNumber, numbersOf}
+use Rattle.trial.specs.Report.{numberOf, answerNumber, reportNumbers}
 use Rattle.trial.proofs.EntryLaws.{checked-carriers}
 use Rattle.trial.proofs.PlayLaws.{step-fits, step-stores, step-says}
 use Rattle.listing.specs.Runs.{Run, beginning, runsFrom, runsOf, total, reportFrom}
 use Rattle.listing.specs.Order.{Complete}
-use Rattle.listing.proofs.ListLaws.{All}
+use Rattle.listing.proofs.ListLaws.{AllItems}
 use Rattle.listing.proofs.RunLaws.{begin-same, runs-silent, runs-spent, runs-more, runs-complete, runs-few}
 use Rattle.lister.specs.declared.node.Node.{Node}
-use Rattle.lister.specs.Lines.{written, listedFrom}
+use Rattle.lister.specs.Lines.{lineWritten, listedFrom}
 use Rattle.lister.specs.Entry.{totalOf}
-use Rattle.lister.specs.Inner.{trailOf, Rooted, runsIn, besideIn, numbersIn, listedIn, Tallied}
+use Rattle.lister.specs.Inner.{trailOf, Rooted, runsIn, besideIn, numbersIn, listedIn, BranchListed}
 use Rattle.lister.proofs.WalkLaws.{runs-end, runs-onward, places-six}
 
 module _ (f : Floor) (ws : List ℕ) (ok : checkOf f ws ≡ passed) (rest : List ℕ) where
   abbrev M : Machine
   M = machineOf f ws
 
-  abbrev shown : State → List ℕ
-  shown s = encode (f .carriers) s ++ rest
+  abbrev encodedWith : State → List ℕ
+  encodedWith s = encode (f .carriers) s ++ rest
 
   -- The memory of a state is silent where the state is.
-  silent-shown : (s : State) → silentIn (bare f) (shown s) ≡ isSilent M s
+  silent-shown : (s : State) → silentIn (bare f) (encodedWith s) ≡ isSilent M s
   unfolding machineOf
-  silent-shown s = silent-of f ws (shown s) ∙ silent-same M s rest
+  silent-shown s = silent-of f ws (encodedWith s) ∙ silent-same M s rest
 
-  open-shown : (s : State) (x : Step) → openIn M (shown s) x ≡ isOpen M s x
+  open-shown : (s : State) (x : Step) → openIn M (encodedWith s) x ≡ isOpen M s x
   unfolding machineOf
   open-shown s x = open-same M s rest x
 
@@ -62,50 +62,53 @@ module _ (f : Floor) (ws : List ℕ) (ok : checkOf f ws ≡ passed) (rest : List
   unfolding machineOf
   more-of left s e = runs-more M left s e
 
-  pub runs-same : (left : ℕ) (s : State) → WithinRanges f s → runsIn M left (shown s) ≡ runsFrom M left s
+  pub runs-same : (left : ℕ) (s : State) → WithinRanges f s → runsIn M left (encodedWith s) ≡ runsFrom M left s
   unfolding besideIn
   runs-same zero s fits = go (isSilent M s) refl
     where
-      go : (b : Bool) → isSilent M s ≡ b → runsIn M 0 (shown s) ≡ runsFrom M 0 s
-      go true e = runs-end f ws (shown s) 0 (silent-shown s ∙ e) ∙ sym (runs-silent M 0 s e)
-      go false e = runs-onward f ws (shown s) 0 (silent-shown s ∙ e) ∙ sym (runs-spent M s e)
+      go : (b : Bool) → isSilent M s ≡ b → runsIn M 0 (encodedWith s) ≡ runsFrom M 0 s
+      go true e = runs-end f ws (encodedWith s) 0 (silent-shown s ∙ e) ∙ sym (runs-silent M 0 s e)
+      go false e = runs-onward f ws (encodedWith s) 0 (silent-shown s ∙ e) ∙ sym (runs-spent M s e)
   runs-same (suc left) s fits = go (isSilent M s) refl (λ z h. runs-same left z h)
     where
-      below : ((z : State) → WithinRanges f z → runsIn M left (shown z) ≡ runsFrom M left z) →
-          beginning (openIn M (shown s)) (λ x. runsIn M left (afterIn M (shown s) x)) (ranking (f .carriers)) ≡
+      below : ((z : State) → WithinRanges f z → runsIn M left (encodedWith z) ≡ runsFrom M left z) →
+          beginning (openIn M (encodedWith s)) (λ x. runsIn M left (afterIn M (encodedWith s) x)) (ranking (f .carriers)) ≡
           beginning (isOpen M s) (λ x. runsFrom M left (afterStep M s x)) (ranking (f .carriers))
       below h =
-          begin-same (openIn M (shown s)) (isOpen M s) (λ x. runsIn M left (afterIn M (shown s) x))
+          begin-same (openIn M (encodedWith s)) (isOpen M s) (λ x. runsIn M left (afterIn M (encodedWith s) x))
           (λ x. runsFrom M left (afterStep M s x)) (open-shown s)
           (λ x e. ap (runsIn M left) (step-stores f ws ok s fits rest x e) ∙ h (afterStep M s x) (step-fits f ws ok s fits x e))
           (ranking (f .carriers))
 
-      go : (b : Bool) → isSilent M s ≡ b → ((z : State) → WithinRanges f z → runsIn M left (shown z) ≡ runsFrom M left z) →
-          runsIn M (suc left) (shown s) ≡ runsFrom M (suc left) s
-      go true e h = runs-end f ws (shown s) (suc left) (silent-shown s ∙ e) ∙ sym (runs-silent M (suc left) s e)
-      go false e h = runs-onward f ws (shown s) (suc left) (silent-shown s ∙ e) ∙ below h ∙ sym (more-of left s e)
+      go : (b : Bool) → isSilent M s ≡ b → ((z : State) → WithinRanges f z → runsIn M left (encodedWith z) ≡ runsFrom M left z) →
+          runsIn M (suc left) (encodedWith s) ≡ runsFrom M (suc left) s
+      go true e h = runs-end f ws (encodedWith s) (suc left) (silent-shown s ∙ e) ∙ sym (runs-silent M (suc left) s e)
+      go false e h = runs-onward f ws (encodedWith s) (suc left) (silent-shown s ∙ e) ∙ below h ∙ sym (more-of left s e)
 
   -- The numbers of a complete run are those of its report.
-  numbers-same : (s : State) → WithinRanges f s → (xs : Run) → Complete M s xs → numbersIn M (shown s) xs ≡ numbersOf (reportFrom M s xs)
-  unfolding numbersIn numbersOf reportFrom entryOf Complete
+  numbers-same : (s : State) → WithinRanges f s → (xs : Run) → Complete M s xs
+      → numbersIn M (encodedWith s) xs ≡ reportNumbers (reportFrom M s xs)
+  unfolding numbersIn reportNumbers reportFrom entryOf Complete
   numbers-same s fits [] c = refl
   numbers-same s fits (x ∷ xs) c =
-      ap (λ (a : StepAnswer). numberOf x ∷ (answerNumber a ∷ numbersIn M (afterIn M (shown s) x) xs)) (step-says f ws ok s fits rest x (c .0))
+      ap (λ (a : StepAnswer). numberOf x ∷ (answerNumber a ∷ numbersIn M (afterIn M (encodedWith s) x) xs))
+      (step-says f ws ok s fits rest x (c .0))
       ∙ ap (λ (l : List ℕ). numberOf x ∷ (answerNumber (entryOf M s x .answer) ∷ l))
       (ap (λ (m : List ℕ). numbersIn M m xs) (step-stores f ws ok s fits rest x (c .0))
       ∙ numbers-same (afterStep M s x) (step-fits f ws ok s fits x (c .0)) xs (c .1))
 
   -- The lines of complete runs from fresh.
-  lines-same : (first rank : ℕ) (rs : List Run) (lines : List ℕ) → All (Complete M fresh) rs →
-      listedIn M (shown fresh) 0 [] first rank rs lines ≡ listedFrom M first rank rs lines
-  unfolding listedIn listedFrom All
+  lines-same : (first rank : ℕ) (rs : List Run) (lines : List ℕ) → AllItems (Complete M fresh) rs →
+      listedIn M (encodedWith fresh) 0 [] first rank rs lines ≡ listedFrom M first rank rs lines
+  unfolding listedIn listedFrom AllItems
   lines-same first rank [] lines h = refl
   lines-same first rank (xs ∷ rs) lines h =
-      ap (λ (k : ℕ). listedIn M (shown fresh) 0 [] first (suc rank) rs (written first rank k (numbersIn M (shown fresh) xs) lines))
+      ap (λ (k : ℕ).
+      listedIn M (encodedWith fresh) 0 [] first (suc rank) rs (lineWritten first rank k (numbersIn M (encodedWith fresh) xs) lines))
       (zero-add (length xs))
-      ∙ ap (λ (ns : List ℕ). listedIn M (shown fresh) 0 [] first (suc rank) rs (written first rank (length xs) ns lines))
+      ∙ ap (λ (ns : List ℕ). listedIn M (encodedWith fresh) 0 [] first (suc rank) rs (lineWritten first rank (length xs) ns lines))
       (numbers-same fresh (fresh-fits f) xs (h .0))
-      ∙ lines-same first (suc rank) rs (written first rank (length xs) (numbersOf (reportFrom M fresh xs)) lines) (h .1)
+      ∙ lines-same first (suc rank) rs (lineWritten first rank (length xs) (reportNumbers (reportFrom M fresh xs)) lines) (h .1)
 
 -- At most 6^11 runs: 362,797,056.
 pub ceiling-few : (n : ℕ) → n ≤ 3 → ceiling n ≤ 11
@@ -163,12 +166,12 @@ module _ (f : Floor) (ws : List ℕ) (ok : checkOf f ws ≡ passed) (node : Node
   unfolding runsOf
   root-lines first lines =
       ap (λ (m : List ℕ). listedIn N m (node .steps) (trailOf node) first 0 (runsOf N) lines) (rooted .shows)
-      ∙ ap (λ (k : ℕ). listedIn N (shown f ws ok behind-state fresh) k (trailOf node) first 0 (runsOf N) lines) (rooted .none)
-      ∙ ap (λ (ns : List ℕ). listedIn N (shown f ws ok behind-state fresh) 0 ns first 0 (runsOf N) lines) no-trail
+      ∙ ap (λ (k : ℕ). listedIn N (encodedWith f ws ok behind-state fresh) k (trailOf node) first 0 (runsOf N) lines) (rooted .none)
+      ∙ ap (λ (ns : List ℕ). listedIn N (encodedWith f ws ok behind-state fresh) 0 ns first 0 (runsOf N) lines) no-trail
       ∙ lines-same f ws ok behind-state first 0 (runsOf N) lines (runs-complete N (ceiling (N .carriers)) fresh)
 
   pub root-tallied : {first left : ℕ} {lines : List ℕ} {next : ℕ} {lines′ : List ℕ} → left ≡ ceiling (f .carriers) →
-      Tallied f ws node first (besideIn f ws left (node .memory) 0) 0 lines next lines′ →
+      BranchListed f ws node first (besideIn f ws left (node .memory) 0) 0 lines next lines′ →
       (next ≡ totalOf f ws) × (lines′ ≡ listedFrom N first 0 (runsOf N) lines)
   unfolding totalOf total
   root-tallied {first} {left} {lines} e t = (

@@ -16,17 +16,17 @@ use Rattle.trial.specs.Report.{reportSize}
 use Rattle.trial.proofs.EntryLaws.{checked-carriers}
 use Rattle.listing.specs.Runs.{total}
 use Rattle.listing.proofs.Theorems.{theorems as listing-theorems, some-run}
-use Rattle.lister.specs.Entry.{totalOf, runOf, smallVerdict, rankVerdict, runNumbers}
+use Rattle.lister.specs.Entry.{totalOf, runOfRank, smallVerdict, rankVerdict, runNumbers}
 use Rattle.lister.specs.Claims.{Claims}
 use Rattle.lister.proofs.SameLaws.{total-fits}
 use Rattle.lister.proofs.EntryLaws.{size-of}
 
-numbers-length : (f : Floor) (ws : List ℕ) (rank : ℕ) → length (runNumbers f ws rank) ≡ 2 * length (runOf f ws rank)
+numbers-length : (f : Floor) (ws : List ℕ) (rank : ℕ) → length (runNumbers f ws rank) ≡ 2 * length (runOfRank f ws rank)
 numbers-length f ws rank = size-of f ws rank
 
 report-fits : (f : Floor) (ws : List ℕ) (rank report : ℕ) → rankVerdict f ws rank report ≡ passed →
     length (runNumbers f ws rank) ≤ reportSize (f .carriers)
-unfolding rankVerdict reportSize runOf totalOf machineOf
+unfolding rankVerdict reportSize runOfRank totalOf machineOf
 report-fits f ws rank report e =
     let l = ltb-true rank (totalOf f ws) (demand-holds (ltb rank (totalOf f ws)) 15 0 (then-both _ _ e .1)) in
     omega (arith, numbers-length f ws rank, listing-theorems .within-ceiling (machineOf f ws) rank l)

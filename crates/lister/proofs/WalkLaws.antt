@@ -20,11 +20,11 @@ use Rattle.steps.proofs.PlacedLaws.{workable-same}
 use Rattle.orders.specs.Orders.{places, stepAt}
 use Rattle.orders.proofs.PlaceLaws.{places-half}
 use Rattle.trial.specs.Report.{numberOf, answerNumber}
-use Rattle.listing.specs.Runs.{Run, behind, beginning}
+use Rattle.listing.specs.Runs.{Run, eachBehind, beginning}
 use Rattle.listing.proofs.RunLaws.{begin-open, begin-shut}
 use Rattle.lister.specs.declared.node.Node.{Node}
-use Rattle.lister.specs.Lines.{written}
-use Rattle.lister.specs.Inner.{trailOf, Moved, runsIn, followedIn, besideIn, numbersIn, listedIn, Branch, Tallied}
+use Rattle.lister.specs.Lines.{lineWritten}
+use Rattle.lister.specs.Inner.{trailOf, NodeAfter, runsIn, followedIn, besideIn, numbersIn, listedIn, Branch, BranchListed}
 
 -- The lines of runs one behind the other, and of runs with a step in front.
 module _ (M : Machine) (m : List ℕ) (first : ℕ) where
@@ -36,26 +36,26 @@ module _ (M : Machine) (m : List ℕ) (first : ℕ) where
       let same : rank + 0 ≡ rank = omega arith in rw same refl
   listed-append k before rank (xs ∷ rs) qs lines =
       let same : rank + suc (length rs) ≡ suc rank + length rs = omega arith in
-      rw same (listed-append k before (suc rank) rs qs (written first rank (k + length xs) (before ++ numbersIn M m xs) lines))
+      rw same (listed-append k before (suc rank) rs qs (lineWritten first rank (k + length xs) (before ++ numbersIn M m xs) lines))
 
   listed-behind : (x : Step) (k : ℕ) (before : List ℕ) (rank : ℕ) (rs : List Run) (lines : List ℕ) →
-      listedIn M m k before first rank (behind x rs) lines ≡
+      listedIn M m k before first rank (eachBehind x rs) lines ≡
       listedIn M (afterIn M m x) (k + 1) (before ++ (numberOf x ∷ (answerNumber (stepAnswerIn M m x) ∷ []))) first rank rs lines
-  unfolding listedIn behind numbersIn
+  unfolding listedIn eachBehind numbersIn
   listed-behind x k before rank [] lines = refl
   listed-behind x k before rank (xs ∷ rs) lines =
       let longer : k + suc (length xs) ≡ k + 1 + length xs = omega arith in
       let here = numberOf x ∷ (answerNumber (stepAnswerIn M m x) ∷ numbersIn M (afterIn M m x) xs) in
-      ap (λ (j : ℕ). listedIn M m k before first (suc rank) (behind x rs) (written first rank j (before ++ here) lines)) longer
-      ∙ listed-behind x k before (suc rank) rs (written first rank (k + 1 + length xs) (before ++ here) lines)
+      ap (λ (j : ℕ). listedIn M m k before first (suc rank) (eachBehind x rs) (lineWritten first rank j (before ++ here) lines)) longer
+      ∙ listed-behind x k before (suc rank) rs (lineWritten first rank (k + 1 + length xs) (before ++ here) lines)
       ∙ ap (λ (ns : List ℕ).
       listedIn M (afterIn M m x) (k + 1) (before ++ (numberOf x ∷ (answerNumber (stepAnswerIn M m x) ∷ []))) first (suc rank) rs
-      (written first rank (k + 1 + length xs) ns lines))
+      (lineWritten first rank (k + 1 + length xs) ns lines))
       (sym (append-assoc before (numberOf x ∷ (answerNumber (stepAnswerIn M m x) ∷ [])) (numbersIn M (afterIn M m x) xs)))
 
 -- Every run of a list gets one step in front.
-pub front-length : (x : Step) (rs : List Run) → length (behind x rs) ≡ length rs
-unfolding behind
+pub front-length : (x : Step) (rs : List Run) → length (eachBehind x rs) ≡ length rs
+unfolding eachBehind
 front-length x rs = length-map rs (λ (xs : Run). x ∷ xs)
 
 -- The runs from a node, one step at a time.
@@ -106,17 +106,18 @@ module _ (f : Floor) (ws m : List ℕ) where
 
 -- What a branch comes to, from what its parts come to.
 module _ (f : Floor) (ws : List ℕ) (node : Node) (first : ℕ) where
-  pub tallied-none : {rs : List Run} {rank : ℕ} {lines : List ℕ} → rs ≡ [] → Tallied f ws node first rs rank lines rank lines
+  pub tallied-none : {rs : List Run} {rank : ℕ} {lines : List ℕ} → rs ≡ [] → BranchListed f ws node first rs rank lines rank lines
   unfolding listedIn
   tallied-none e = rw e (record { counts = omega arith; lists = refl })
 
   pub tallied-same : {rs qs : List Run} {rank : ℕ} {lines : List ℕ} {next : ℕ} {lines′ : List ℕ} → rs ≡ qs →
-      Tallied f ws node first qs rank lines next lines′ → Tallied f ws node first rs rank lines next lines′
+      BranchListed f ws node first qs rank lines next lines′ → BranchListed f ws node first rs rank lines next lines′
   tallied-same e t = rw e t
 
   pub tallied-join : {rs front back : List Run} {rank : ℕ} {lines : List ℕ} {mid : ℕ} {lines₁ : List ℕ} {next : ℕ} {lines₂ : List ℕ} →
-      rs ≡ front ++ back → Tallied f ws node first front rank lines mid lines₁ → Tallied f ws node first back mid lines₁ next lines₂ →
-      Tallied f ws node first rs rank lines next lines₂
+      rs ≡ front ++ back → BranchListed f ws node first front rank lines mid lines₁ →
+      BranchListed f ws node first back mid lines₁ next lines₂ →
+      BranchListed f ws node first rs rank lines next lines₂
   tallied-join {rs} {front} {back} {rank} {lines} {mid} {lines₁} {next} {lines₂} e a b =
       rw e
       (record {
@@ -127,7 +128,7 @@ module _ (f : Floor) (ws : List ℕ) (node : Node) (first : ℕ) where
             ∙ sym (listed-append (machineOf f ws) (node .memory) first (node .steps) (trailOf node) rank front back lines);
       })
 
-  module _ (p : ℕ) (below : Node) (moved : Moved f ws node p below) where
+  module _ (p : ℕ) (below : Node) (moved : NodeAfter f ws node p below) where
     abbrev N : Machine
     N = machineOf f ws
 
@@ -137,36 +138,37 @@ module _ (f : Floor) (ws : List ℕ) (node : Node) (first : ℕ) where
     -- The runs below a node, as lines: those of the node above with the step in front.
     lines-below : (rank : ℕ) (rs : List Run) (lines : List ℕ) →
         listedIn N (below .memory) (below .steps) (trailOf below) first rank rs lines ≡
-        listedIn N (node .memory) (node .steps) (trailOf node) first rank (behind x rs) lines
+        listedIn N (node .memory) (node .steps) (trailOf node) first rank (eachBehind x rs) lines
     lines-below rank rs lines =
         ap (λ (m : List ℕ). listedIn N m (below .steps) (trailOf below) first rank rs lines) (moved .stores)
         ∙ ap (λ (k : ℕ). listedIn N (afterIn N (node .memory) x) k (trailOf below) first rank rs lines) (moved .counts)
         ∙ ap (λ (ns : List ℕ). listedIn N (afterIn N (node .memory) x) (node .steps + 1) ns first rank rs lines) (moved .trails)
         ∙ sym (listed-behind N (node .memory) first x (node .steps) (trailOf node) rank rs lines)
 
-    pub tallied-below : (rs qs : List Run) {rank : ℕ} {lines : List ℕ} {next : ℕ} {lines′ : List ℕ} → qs ≡ behind x rs →
-        Tallied f ws below first rs rank lines next lines′ → Tallied f ws node first qs rank lines next lines′
+    pub tallied-below : (rs qs : List Run) {rank : ℕ} {lines : List ℕ} {next : ℕ} {lines′ : List ℕ} → qs ≡ eachBehind x rs →
+        BranchListed f ws below first rs rank lines next lines′ → BranchListed f ws node first qs rank lines next lines′
     tallied-below rs qs {rank} {lines} e t =
         rw e (record { counts = omega (arith, t .counts, front-length x rs); lists = t .lists ∙ lines-below rank rs lines })
 
     -- The node below is silent: one run ends there.
-    pub tallied-end : {rank : ℕ} {lines lines′ : List ℕ} → lines′ ≡ written first rank (below .steps) (trailOf below) lines →
-        Tallied f ws below first ([] ∷ []) rank lines (rank + 1) lines′
+    pub tallied-end : {rank : ℕ} {lines lines′ : List ℕ} → lines′ ≡ lineWritten first rank (below .steps) (trailOf below) lines →
+        BranchListed f ws below first ([] ∷ []) rank lines (rank + 1) lines′
     unfolding listedIn numbersIn
     tallied-end {rank} {lines} e =
         let all : below .steps + 0 ≡ below .steps = omega arith in
         record { counts = refl; lists = e ∙ rw (all, append-nil) refl }
 
-    followed-is : (left : ℕ) → followedIn f ws left (node .memory) p ≡ behind x (runsIn N (left - 1) (below .memory))
+    followed-is : (left : ℕ) → followedIn f ws left (node .memory) p ≡ eachBehind x (runsIn N (left - 1) (below .memory))
     unfolding followedIn
-    followed-is left = ap (λ (m : List ℕ). behind x (runsIn N (left - 1) m)) (sym (moved .stores))
+    followed-is left = ap (λ (m : List ℕ). eachBehind x (runsIn N (left - 1) m)) (sym (moved .stores))
 
-    pub followed-end : (left : ℕ) → silentIn (bare f) (below .memory) ≡ true → followedIn f ws left (node .memory) p ≡ behind x ([] ∷ [])
-    followed-end left e = followed-is left ∙ ap (behind x) (runs-end f ws (below .memory) (left - 1) e)
+    pub followed-end : (left : ℕ) → silentIn (bare f) (below .memory) ≡ true
+        → followedIn f ws left (node .memory) p ≡ eachBehind x ([] ∷ [])
+    followed-end left e = followed-is left ∙ ap (eachBehind x) (runs-end f ws (below .memory) (left - 1) e)
 
     pub followed-onward : (left : ℕ) → silentIn (bare f) (below .memory) ≡ false →
-        followedIn f ws left (node .memory) p ≡ behind x (besideIn f ws (left - 1) (below .memory) 0)
-    followed-onward left e = followed-is left ∙ ap (behind x) (runs-onward f ws (below .memory) (left - 1) e)
+        followedIn f ws left (node .memory) p ≡ eachBehind x (besideIn f ws (left - 1) (below .memory) 0)
+    followed-onward left e = followed-is left ∙ ap (eachBehind x) (runs-onward f ws (below .memory) (left - 1) e)
 
     pub branch-below : (rows : List ℕ) (left : ℕ) → Branch f ws rows node left → 1 ≤ left → Branch f ws rows below (left - 1)
     branch-below rows left b l =
@@ -191,10 +193,10 @@ module _ (f : Floor) (ws m : List ℕ) (left p rank bound : ℕ) (some : 1 ≤ l
 pub fits-same : (rs qs : List Run) (rank bound : ℕ) → rs ≡ qs → rank + length rs < bound → rank + length qs < bound
 fits-same rs qs rank bound e l = omega (arith, ap length e)
 
-pub fits-one : (x : Step) (qs : List Run) (rank bound : ℕ) → qs ≡ behind x ([] ∷ []) → rank + length qs < bound → rank + 1 < bound
+pub fits-one : (x : Step) (qs : List Run) (rank bound : ℕ) → qs ≡ eachBehind x ([] ∷ []) → rank + length qs < bound → rank + 1 < bound
 fits-one x qs rank bound e l = omega (arith, ap length e, front-length x ([] ∷ []))
 
-pub fits-below : (x : Step) (rs qs : List Run) (rank bound : ℕ) → qs ≡ behind x rs → rank + length qs < bound → rank + length rs < bound
+pub fits-below : (x : Step) (rs qs : List Run) (rank bound : ℕ) → qs ≡ eachBehind x rs → rank + length qs < bound → rank + length rs < bound
 fits-below x rs qs rank bound e l = omega (arith, ap length e, front-length x rs)
 
 -- Three carriers have six steps at most.

@@ -6,10 +6,10 @@ use lib.ListN.{length}
 use Rattle.laws.specs.Verdict.{Verdict, Outcome, value, refusal, _then_, demand, _gives_, whenPassed}
 use Rattle.laws.specs.Memory.{put}
 use Rattle.floor.specs.declared.Floor.{Floor}
-use Rattle.floor.specs.Checks.{checkOf, roomOf}
+use Rattle.floor.specs.Checks.{checkOf, longEnough}
 use Rattle.reference.specs.State.{fresh}
 use Rattle.encoding.specs.Calls.{machineOf}
-use Rattle.trial.specs.Report.{numbersOf, reportSize}
+use Rattle.trial.specs.Report.{reportNumbers, reportSize}
 use Rattle.listing.specs.Runs.{Run, runsOf, total, runAt, reportFrom}
 use Rattle.lister.specs.declared.Listed.{Listed}
 use Rattle.lister.specs.declared.Listed.the-variants.{Run as Found, Refused}
@@ -21,13 +21,13 @@ use Rattle.lister.specs.Lines.{listedFrom}
 unfoldable pub totalOf : Floor → List ℕ → ℕ
 totalOf f ws = total (machineOf f ws)
 
-unfoldable pub runOf : Floor → List ℕ → ℕ → Run
-runOf f ws rank = runAt (machineOf f ws) rank
+unfoldable pub runOfRank : Floor → List ℕ → ℕ → Run
+runOfRank f ws rank = runAt (machineOf f ws) rank
 
 -- The refusals of a floor whose runs are listed: the floor's, 9 for the lent report, which needs what the report of a trial needs, then
 -- 14, 0 for more than three carriers.
 unfoldable pub smallVerdict : Floor → List ℕ → (report : ℕ) → Verdict
-smallVerdict f ws report = checkOf f ws then roomOf (reportSize (f .carriers)) report then demand (leb (f .carriers) 3) 14 0
+smallVerdict f ws report = checkOf f ws then longEnough (reportSize (f .carriers)) report then demand (leb (f .carriers) 3) 14 0
 
 -- The refusals of the entry: those, then 15, 0 for a rank not below the total.
 unfoldable pub rankVerdict : Floor → List ℕ → (rank report : ℕ) → Verdict
@@ -45,11 +45,11 @@ listedOutcome (Refused r) = refusal (r .number) (r .place)
 
 -- What the entry answers.
 unfoldable pub rankOutcome : Floor → List ℕ → (rank report : ℕ) → Outcome Figures
-rankOutcome f ws rank report = rankVerdict f ws rank report gives record { runs = totalOf f ws; steps = length (runOf f ws rank) }
+rankOutcome f ws rank report = rankVerdict f ws rank report gives record { runs = totalOf f ws; steps = length (runOfRank f ws rank) }
 
 -- The numbers of the run of a rank, two a step as in the report of a trial.
 unfoldable pub runNumbers : Floor → List ℕ → ℕ → List ℕ
-runNumbers f ws rank = numbersOf (reportFrom (machineOf f ws) fresh (runOf f ws rank))
+runNumbers f ws rank = reportNumbers (reportFrom (machineOf f ws) fresh (runOfRank f ws rank))
 
 -- The lent report afterwards: the run's numbers in its front, the rest as it was; all as it was with a refusal.
 unfoldable pub reportListed : Floor → List ℕ → (rank : ℕ) → List ℕ → List ℕ

@@ -14,9 +14,9 @@ use Rattle.encoding.specs.InnerSteps.{openIn, silentIn, afterIn, stepAnswerIn}
 use Rattle.steps.specs.Inner.{Workable}
 use Rattle.orders.specs.Orders.{stepAt}
 use Rattle.trial.specs.Report.{numberOf, answerNumber}
-use Rattle.listing.specs.Runs.{Run, behind, beginning}
+use Rattle.listing.specs.Runs.{Run, eachBehind, beginning}
 use Rattle.lister.specs.declared.node.Node.{Node}
-use Rattle.lister.specs.Lines.{written}
+use Rattle.lister.specs.Lines.{lineWritten}
 
 -- The numbers of the steps taken to a node.
 unfoldable pub trailOf : Node → List ℕ
@@ -29,7 +29,7 @@ pub record Rooted (n : ℕ) (node : Node) : Type 0 where
   pub none : node .steps ≡ 0
 
 -- A node after the step at a place of another one.
-pub record Moved (f : Floor) (ws : List ℕ) (node : Node) (p : ℕ) (next : Node) : Type 0 where
+pub record NodeAfter (f : Floor) (ws : List ℕ) (node : Node) (p : ℕ) (next : Node) : Type 0 where
   pub stores : next .memory ≡ afterIn (machineOf f ws) (node .memory) (stepAt (f .carriers) p)
   pub long : length (next .memory) ≡ length (node .memory)
   pub counts : next .steps ≡ node .steps + 1
@@ -49,7 +49,7 @@ runsIn M (suc left) m =
 -- The runs that begin with the step at place p, and those that begin with a step from place p on, `left` steps being left.
 unfoldable pub followedIn : Floor → List ℕ → ℕ → List ℕ → ℕ → List Run
 followedIn f ws left m p =
-    behind (stepAt (f .carriers) p) (runsIn (machineOf f ws) (left - 1) (afterIn (machineOf f ws) m (stepAt (f .carriers) p)))
+    eachBehind (stepAt (f .carriers) p) (runsIn (machineOf f ws) (left - 1) (afterIn (machineOf f ws) m (stepAt (f .carriers) p)))
 
 unfoldable pub besideIn : Floor → List ℕ → ℕ → List ℕ → ℕ → List Run
 besideIn f ws zero m p = []
@@ -65,7 +65,7 @@ numbersIn M m (x ∷ xs) = numberOf x ∷ answerNumber (stepAnswerIn M m x) ∷ 
 unfoldable pub listedIn : Machine → List ℕ → (k : ℕ) → List ℕ → (first rank : ℕ) → List Run → List ℕ → List ℕ
 listedIn M m k before first rank [] lines = lines
 listedIn M m k before first rank (xs ∷ rs) lines =
-    listedIn M m k before first (suc rank) rs (written first rank (k + length xs) (before ++ numbersIn M m xs) lines)
+    listedIn M m k before first (suc rank) rs (lineWritten first rank (k + length xs) (before ++ numbersIn M m xs) lines)
 
 -- What a branch of the walk has: a checked floor of three carriers at most, and a node that is not too deep.
 pub record Branch (f : Floor) (ws rows : List ℕ) (node : Node) (left : ℕ) : Type 0 where
@@ -74,7 +74,7 @@ pub record Branch (f : Floor) (ws rows : List ℕ) (node : Node) (left : ℕ) : 
   pub short : node .steps + left ≤ 11
 
 -- What a branch comes to: the rank behind its runs, and the lines with these.
-pub record Tallied (f : Floor) (ws : List ℕ) (node : Node) (first : ℕ) (rs : List Run) (rank : ℕ) (lines : List ℕ) (next : ℕ)
+pub record BranchListed (f : Floor) (ws : List ℕ) (node : Node) (first : ℕ) (rs : List Run) (rank : ℕ) (lines : List ℕ) (next : ℕ)
     (lines′ : List ℕ) : Type 0 where
   pub counts : next ≡ rank + length rs
   pub lists : lines′ ≡ listedIn (machineOf f ws) (node .memory) (node .steps) (trailOf node) first rank rs lines

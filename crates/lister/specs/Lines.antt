@@ -6,16 +6,16 @@ use lib.Dec.{leb, ltb}
 use lib.ListN.{length}
 use Rattle.laws.specs.Memory.{put}
 use Rattle.reference.specs.State.{Machine, fresh}
-use Rattle.trial.specs.Report.{numbersOf}
+use Rattle.trial.specs.Report.{reportNumbers}
 use Rattle.listing.specs.Runs.{Run, reportFrom}
 
 -- The lines with the run of a rank written, where the first line is that of rank `first`; a run that has no line is left out.
-unfoldable pub written : (first rank steps : ℕ) → List ℕ → List ℕ → List ℕ
-written first rank steps numbers lines =
+unfoldable pub lineWritten : (first rank steps : ℕ) → List ℕ → List ℕ → List ℕ
+lineWritten first rank steps numbers lines =
     cond (leb first rank && ltb (rank - first) (length lines / 23)) (put lines (23 * (rank - first)) (steps ∷ numbers)) lines
 
 -- The lines with these runs from fresh written, the first of them being that of a rank.
 unfoldable pub listedFrom : Machine → (first rank : ℕ) → List Run → List ℕ → List ℕ
 listedFrom M first rank [] lines = lines
 listedFrom M first rank (xs ∷ rs) lines =
-    listedFrom M first (suc rank) rs (written first rank (length xs) (numbersOf (reportFrom M fresh xs)) lines)
+    listedFrom M first (suc rank) rs (lineWritten first rank (length xs) (reportNumbers (reportFrom M fresh xs)) lines)

@@ -26,7 +26,7 @@ pub use lines::LINE;
 pub enum Listed {
     // How many runs there are, and how many steps the run of the rank has.
     Run { total: u64, steps: u16 },
-    // Turned away.
+    // Refused.
     Refused(Refusal),
 }
 
@@ -34,7 +34,7 @@ pub enum Listed {
 pub enum Counted {
     // How many runs there are.
     Total(u64),
-    // Turned away.
+    // Refused.
     Refused(Refusal),
 }
 
@@ -59,7 +59,7 @@ fn ready(f: Floor, walls: &[u16], report: usize) -> Checked
     let Checked::Passed = checked else {
         return checked;
     };
-    let reported = floor::room(2 * trial::most_steps(f.carriers as usize), report);
+    let reported = floor::check_length(2 * trial::most_steps(f.carriers as usize), report);
     let Checked::Passed = reported else {
         return reported;
     };

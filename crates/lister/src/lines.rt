@@ -3,7 +3,7 @@ ghost use mathlib.Core.Path.{_≡_};
 ghost use Prim.Native.Nat.{_+_, _≤_};
 ghost use lib.ListN.{length, take};
 ghost use Rattle.laws.specs.Memory.{put};
-ghost use Rattle.lister.specs.Lines.{written};
+ghost use Rattle.lister.specs.Lines.{lineWritten};
 ghost use Rattle.lister.specs.Inner.{trailOf};
 use crate::node::Node;
 use crate::node::STEPS;
@@ -27,7 +27,7 @@ pub fn write_trail(lines: &mut [u16], at: usize, trail: [u16; TRAIL], k: usize)
 // Writes the run of a rank as its line, where the lines are those of the ranks from `first` on; a run that has none is not written.
 pub fn write_run(lines: &mut [u16], first: u64, rank: u64, node: Node)
     requires { ⌜ node .steps ≤ 11 ⌝ }
-    ensures { λ r. ⌜ now (lines .exit) ≡ written first rank (node .steps) (trailOf node) (now (lines .entry)) ⌝ }
+    ensures { λ r. ⌜ now (lines .exit) ≡ lineWritten first rank (node .steps) (trailOf node) (now (lines .entry)) ⌝ }
 {
     if rank < first {
         return;

@@ -8,7 +8,7 @@ ghost use Rattle.orders.specs.Orders.{places, stepAt};
 ghost use Rattle.encoding.specs.Places.{stateSize};
 ghost use Rattle.encoding.specs.InnerSteps.{openIn, silentIn};
 ghost use Rattle.steps.specs.Inner.{bare, Workable};
-ghost use Rattle.lister.specs.Inner.{Rooted, Moved};
+ghost use Rattle.lister.specs.Inner.{Rooted, NodeAfter};
 use floor::Floor;
 use search::Rows;
 
@@ -93,7 +93,7 @@ fn with_step(trail: [u16; TRAIL], k: usize, number: u16, answer: u16) -> [u16; T
 pub fn after(f: Floor, walls: &[u16], free: Rows, node: Node, p: usize) -> Node
     requires { ⌜ (p < places (f .carriers)) × (openIn (bare f) (node .memory) (stepAt (f .carriers) p) ≡ true) ⌝ }
     requires { ⌜ Workable f (now walls) free (node .memory) × (node .steps < 11) ⌝ }
-    ensures { λ r. ⌜ Moved f (now (walls .entry)) node p r ⌝ }
+    ensures { λ r. ⌜ NodeAfter f (now (walls .entry)) node p r ⌝ }
 {
     let s = trial::step_at(f.carriers as usize, p);
     let number = trial::number_of(f, s);

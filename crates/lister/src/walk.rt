@@ -6,7 +6,7 @@ ghost use lib.ListN.{length};
 ghost use Rattle.orders.specs.Orders.{places, stepAt};
 ghost use Rattle.encoding.specs.InnerSteps.{openIn};
 ghost use Rattle.steps.specs.Inner.{bare};
-ghost use Rattle.lister.specs.Inner.{followedIn, besideIn, Branch, Tallied};
+ghost use Rattle.lister.specs.Inner.{followedIn, besideIn, Branch, BranchListed};
 use crate::node::Node;
 use floor::Floor;
 use search::Rows;
@@ -26,7 +26,7 @@ fn follow(
     requires { ⌜ Branch f (now walls) free node left × (1 ≤ left) ⌝ }
     requires { ⌜ (p < places (f .carriers)) × (openIn (bare f) (node .memory) (stepAt (f .carriers) p) ≡ true) ⌝ }
     requires { ⌜ rank + length (followedIn f (now walls) left (node .memory) p) < 18446744073709551616 ⌝ }
-    ensures { λ r. ⌜ Tallied f (now (walls .entry)) node first (followedIn f (now (walls .entry)) left (node .memory) p) rank
+    ensures { λ r. ⌜ BranchListed f (now (walls .entry)) node first (followedIn f (now (walls .entry)) left (node .memory) p) rank
         (now (lines .entry)) r (now (lines .exit)) ⌝ }
 {
     let next = crate::node::after(f, walls, free, node, p);
@@ -51,7 +51,7 @@ pub fn beside(
 ) -> u64
     requires { ⌜ Branch f (now walls) free node left × (p ≤ places (f .carriers)) ⌝ }
     requires { ⌜ rank + length (besideIn f (now walls) left (node .memory) p) < 18446744073709551616 ⌝ }
-    ensures { λ r. ⌜ Tallied f (now (walls .entry)) node first (besideIn f (now (walls .entry)) left (node .memory) p) rank
+    ensures { λ r. ⌜ BranchListed f (now (walls .entry)) node first (besideIn f (now (walls .entry)) left (node .memory) p) rank
         (now (lines .entry)) r (now (lines .exit)) ⌝ }
 {
     if left == 0 {

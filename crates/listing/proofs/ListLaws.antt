@@ -8,59 +8,59 @@ use lib.Seq.{getD-append-add}
 
 module _ {A : Type 0} where
   -- P holds of every item.
-  unfoldable pub All : (A → Type 0) → List A → Type 0
-  All P [] = Unit {0}
-  All P (a ∷ l) = P a × All P l
+  unfoldable pub AllItems : (A → Type 0) → List A → Type 0
+  AllItems P [] = Unit {0}
+  AllItems P (a ∷ l) = P a × AllItems P l
 
-  pub all-append : (P : A → Type 0) (l k : List A) → All P l → All P k → All P (l ++ k)
-  unfolding All
+  pub all-append : (P : A → Type 0) (l k : List A) → AllItems P l → AllItems P k → AllItems P (l ++ k)
+  unfolding AllItems
   all-append P [] k h g = g
   all-append P (a ∷ l) k h g = (h .0, all-append P l k (h .1) g)
 
-  pub all-more : (P Q : A → Type 0) → ((a : A) → P a → Q a) → (l : List A) → All P l → All Q l
-  unfolding All
+  pub all-more : (P Q : A → Type 0) → ((a : A) → P a → Q a) → (l : List A) → AllItems P l → AllItems Q l
+  unfolding AllItems
   all-more P Q f [] h = tt
   all-more P Q f (a ∷ l) h = (f a (h .0), all-more P Q f l (h .1))
 
-  pub all-every : (P : A → Type 0) → ((a : A) → P a) → (l : List A) → All P l
-  unfolding All
+  pub all-every : (P : A → Type 0) → ((a : A) → P a) → (l : List A) → AllItems P l
+  unfolding AllItems
   all-every P f [] = tt
   all-every P f (a ∷ l) = (f a, all-every P f l)
 
-  pub all-at : (P : A → Type 0) (d : A) (l : List A) → All P l → (i : ℕ) → i < length l → P (getD l i d)
-  unfolding All
+  pub all-at : (P : A → Type 0) (d : A) (l : List A) → AllItems P l → (i : ℕ) → i < length l → P (getD l i d)
+  unfolding AllItems
   all-at P d [] h i b = absurd (omega arith)
   all-at P d (a ∷ l) h zero b = h .0
   all-at P d (a ∷ l) h (suc i) b = all-at P d l (h .1) i (omega arith)
 
 module _ {A B : Type 0} where
-  pub all-map : (g : B → A) (P : A → Type 0) (l : List B) → All (λ b. P (g b)) l → All P (map g l)
-  unfolding All
+  pub all-map : (g : B → A) (P : A → Type 0) (l : List B) → AllItems (λ b. P (g b)) l → AllItems P (map g l)
+  unfolding AllItems
   all-map g P [] h = tt
   all-map g P (b ∷ l) h = (h .0, all-map g P l (h .1))
 
 module _ {A : Type 0} where
   -- Item a has a place in a list.
-  unfoldable pub Placed : A → A → List A → Type 0
-  Placed d a l = (i : ℕ) × (i < length l) × (getD l i d ≡ a)
+  unfoldable pub HasPlace : A → A → List A → Type 0
+  HasPlace d a l = (i : ℕ) × (i < length l) × (getD l i d ≡ a)
 
-  pub placed-left : (d a : A) (l k : List A) → Placed d a l → Placed d a (l ++ k)
-  unfolding Placed
+  pub placed-left : (d a : A) (l k : List A) → HasPlace d a l → HasPlace d a (l ++ k)
+  unfolding HasPlace
   placed-left d a l k h =
       (h .0, omega (arith, length-append l k, h .1), List·getD-append l k d (h .0) (h .1) ∙ h .2)
 
-  pub placed-right : (d a : A) (l k : List A) → Placed d a k → Placed d a (l ++ k)
-  unfolding Placed
+  pub placed-right : (d a : A) (l k : List A) → HasPlace d a k → HasPlace d a (l ++ k)
+  unfolding HasPlace
   placed-right d a l k h =
       (length l + h .0, omega (arith, length-append l k, h .1), getD-append-add l k (h .0) d ∙ h .2)
 
   -- Every item stands in the relation to each item behind it.
   unfoldable pub Sorted : (A → A → Type 0) → List A → Type 0
   Sorted R [] = Unit {0}
-  Sorted R (a ∷ l) = All (R a) l × Sorted R l
+  Sorted R (a ∷ l) = AllItems (R a) l × Sorted R l
 
-  pub sorted-append : (R : A → A → Type 0) (l k : List A) → Sorted R l → Sorted R k → All (λ a. All (R a) k) l → Sorted R (l ++ k)
-  unfolding Sorted All
+  pub sorted-append : (R : A → A → Type 0) (l k : List A) → Sorted R l → Sorted R k → AllItems (λ a. AllItems (R a) k) l → Sorted R (l ++ k)
+  unfolding Sorted AllItems
   sorted-append R [] k h g c = g
   sorted-append R (a ∷ l) k h g c = (all-append (R a) l k (h .0) (c .0), sorted-append R l k (h .1) g (c .1))
 
@@ -79,8 +79,8 @@ module _ {A : Type 0} where
   sorted-at R d (a ∷ l) h (suc i) (suc j) b c = sorted-at R d l (h .1) i j (omega arith) (omega arith)
 
 module _ {A B : Type 0} where
-  pub placed-map : (g : A → B) (d a : A) (e : B) (l : List A) → Placed d a l → Placed e (g a) (map g l)
-  unfolding Placed
+  pub placed-map : (g : A → B) (d a : A) (e : B) (l : List A) → HasPlace d a l → HasPlace e (g a) (map g l)
+  unfolding HasPlace
   placed-map g d a e [] h = absurd (omega (arith, h .1))
   placed-map g d a e (b ∷ l) (zero, lt, is) = (0, omega arith, ap g is)
   placed-map g d a e (b ∷ l) (suc i, lt, is) =

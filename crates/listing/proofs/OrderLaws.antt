@@ -14,9 +14,9 @@ use Rattle.reference.specs.Take.{afterStep}
 use Rattle.reference.specs.Ranking.{deliveriesFrom, ranking}
 use Rattle.orders.specs.Orders.{places, stepAt}
 use Rattle.orders.proofs.PlaceLaws.{deliveriesBefore, joined-place, from-length, places-split, plan-at, deliver-at}
-use Rattle.listing.specs.Runs.{Run, behind, beginning, runsFrom}
-use Rattle.listing.specs.Order.{Before, Earlier}
-use Rattle.listing.proofs.ListLaws.{All, all-append, all-every, all-more, all-map, Sorted, sorted-append, sorted-map}
+use Rattle.listing.specs.Runs.{Run, eachBehind, beginning, runsFrom}
+use Rattle.listing.specs.Order.{RanksBefore, EarlierRun}
+use Rattle.listing.proofs.ListLaws.{AllItems, all-append, all-every, all-more, all-map, Sorted, sorted-append, sorted-map}
 use Rattle.listing.proofs.RunLaws.{begin-open, begin-shut, runs-induction}
 
 -- A step by three numbers: its kind, its carrier or sender, its receiver.
@@ -34,19 +34,19 @@ other (deliver j i) = i
 
 module _ (n : ℕ) where
   -- The numbers of the step at a place tell the place.
-  abbrev Told : ℕ → Type 0
-  Told p = ((kind (stepAt n p) ≡ 0) × (p ≡ one (stepAt n p))) ⊎
+  abbrev PlaceTold : ℕ → Type 0
+  PlaceTold p = ((kind (stepAt n p) ≡ 0) × (p ≡ one (stepAt n p))) ⊎
       ((kind (stepAt n p) ≡ 1) × (p + suc (one (stepAt n p)) ≡ n + deliveriesBefore n (one (stepAt n p)) + other (stepAt n p)))
 
   numbered : (p : ℕ) → p < places n →
-      Told p
+      PlaceTold p
   unfolding kind one other
   numbered p l = ⊎-elim plans deliveries (lt-or-le p n)
     where
-      plans : p < n → Told p
+      plans : p < n → PlaceTold p
       plans h = inl (ap kind (plan-at n p h), ap one (sym (plan-at n p h)))
 
-      deliveries : n ≤ p → Told p
+      deliveries : n ≤ p → PlaceTold p
       deliveries h =
           let r = joined-place n (deliveriesFrom n) (p - n) (omega (arith, places-split n)) in
           let short : r .1 < n - suc (r .0) = omega (arith, r .3, from-length n (r .0)) in
@@ -59,14 +59,14 @@ module _ (n : ℕ) where
   pub one-place : (p q : ℕ) → p < places n → q < places n → stepAt n p ≡ stepAt n q → p ≡ q
   one-place p q l h e = go (numbered p l) (numbered q h)
     where
-      go : Told p →
-          Told q → p ≡ q
+      go : PlaceTold p →
+          PlaceTold q → p ≡ q
       go (inl a) (inl b) = a .1 ∙ ap one e ∙ sym (b .1)
       go (inl a) (inr b) = absurd (omega (arith, a .0, b .0, ap kind e))
       go (inr a) (inl b) = absurd (omega (arith, a .0, b .0, ap kind e))
       go (inr a) (inr b) = omega (arith, a .1, b .1, ap one e, ap other e, ap (λ (x : Step). deliveriesBefore n (one x)) e)
 
-  before-apart : (x y : Step) → Before n x y → x ≡ y → ⊥
+  before-apart : (x y : Step) → RanksBefore n x y → x ≡ y → ⊥
   before-apart x y b e =
       omega (
         arith,
@@ -74,7 +74,7 @@ module _ (n : ℕ) where
         one-place (b .first) (b .second) (omega (arith, b .before, b .listed)) (b .listed) (b .first-is ∙ e ∙ sym (b .second-is)),
       )
 
-  before-one-way : (x y : Step) → Before n x y → Before n y x → ⊥
+  before-one-way : (x y : Step) → RanksBefore n x y → RanksBefore n y x → ⊥
   before-one-way x y b c =
       omega (
         arith,
@@ -85,8 +85,8 @@ module _ (n : ℕ) where
       )
 
   -- Of two runs one is not both earlier and later.
-  pub earlier-one-way : (xs ys : Run) → Earlier n xs ys → Earlier n ys xs → ⊥
-  unfolding Earlier
+  pub earlier-one-way : (xs ys : Run) → EarlierRun n xs ys → EarlierRun n ys xs → ⊥
+  unfolding EarlierRun
   earlier-one-way [] ys h g = h
   earlier-one-way (x ∷ xs) [] h g = h
   earlier-one-way (x ∷ xs) (y ∷ ys) (inl b) (inl c) = before-one-way x y b c
@@ -109,19 +109,19 @@ module _ (n : ℕ) where
   starts-there p l xs = (p, omega arith, l, refl)
 
   -- A run that begins at place p is earlier than one that begins behind it.
-  starts-earlier : (p : ℕ) (xs : Run) (b : Run) → StartsFrom (suc p) b → Earlier n (stepAt n p ∷ xs) b
-  unfolding StartsFrom Earlier
+  starts-earlier : (p : ℕ) (xs : Run) (b : Run) → StartsFrom (suc p) b → EarlierRun n (stepAt n p ∷ xs) b
+  unfolding StartsFrom EarlierRun
   starts-earlier p xs [] h = h
   starts-earlier p xs (y ∷ ys) h =
       inl (record { first = p; second = h .0; before = omega (arith, h .1); listed = h .2; first-is = refl; second-is = h .3 })
 
   module _ (x : Step) where
-    front-sorted : (rs : List Run) → Sorted (Earlier n) rs → Sorted (Earlier n) (behind x rs)
-    unfolding behind Earlier
-    front-sorted rs h = sorted-map (Earlier n) (λ (xs : Run). x ∷ xs) (λ a b g. inr (refl, g)) rs h
+    front-sorted : (rs : List Run) → Sorted (EarlierRun n) rs → Sorted (EarlierRun n) (eachBehind x rs)
+    unfolding eachBehind EarlierRun
+    front-sorted rs h = sorted-map (EarlierRun n) (λ (xs : Run). x ∷ xs) (λ a b g. inr (refl, g)) rs h
 
-    front-all : (P : Run → Type 0) → ((xs : Run) → P (x ∷ xs)) → (rs : List Run) → All P (behind x rs)
-    unfolding behind
+    front-all : (P : Run → Type 0) → ((xs : Run) → P (x ∷ xs)) → (rs : List Run) → AllItems P (eachBehind x rs)
+    unfolding eachBehind
     front-all P h rs = all-map (λ (xs : Run). x ∷ xs) P rs (all-every (λ xs. P (x ∷ xs)) h rs)
 
 module _ (M : Machine) where
@@ -129,15 +129,15 @@ module _ (M : Machine) where
   n = M .carriers
 
   nothing : (s : State) (onward : Step → List Run) (p : ℕ) →
-      Sorted (Earlier n) (beginning (isOpen M s) onward []) × All (StartsFrom n p) (beginning (isOpen M s) onward [])
-  unfolding beginning Sorted All
+      Sorted (EarlierRun n) (beginning (isOpen M s) onward []) × AllItems (StartsFrom n p) (beginning (isOpen M s) onward [])
+  unfolding beginning Sorted AllItems
   nothing s onward p = (tt, tt)
 
   -- The runs that begin at place p or behind it are ordered, and begin so.
-  begin-sorted : (s : State) (onward : Step → List Run) → ((x : Step) → Sorted (Earlier n) (onward x)) →
+  begin-sorted : (s : State) (onward : Step → List Run) → ((x : Step) → Sorted (EarlierRun n) (onward x)) →
       (k p : ℕ) → p + k ≡ places n →
-      Sorted (Earlier n) (beginning (isOpen M s) onward (drop p (ranking n))) ×
-      All (StartsFrom n p) (beginning (isOpen M s) onward (drop p (ranking n)))
+      Sorted (EarlierRun n) (beginning (isOpen M s) onward (drop p (ranking n))) ×
+      AllItems (StartsFrom n p) (beginning (isOpen M s) onward (drop p (ranking n)))
   unfolding places stepAt
   begin-sorted s onward h zero p e = rw (drop-of-length-le (ranking n) {i = p} (omega arith)) (nothing s onward p)
   begin-sorted s onward h (suc k) p e =
@@ -149,15 +149,15 @@ module _ (M : Machine) where
       rest : List Run
       rest = beginning (isOpen M s) onward (drop (suc p) (ranking n))
 
-      go : (b : Bool) → isOpen M s x ≡ b → Sorted (Earlier n) rest × All (StartsFrom n (suc p)) rest →
-          Sorted (Earlier n) (beginning (isOpen M s) onward (x ∷ drop (suc p) (ranking n))) ×
-          All (StartsFrom n p) (beginning (isOpen M s) onward (x ∷ drop (suc p) (ranking n)))
+      go : (b : Bool) → isOpen M s x ≡ b → Sorted (EarlierRun n) rest × AllItems (StartsFrom n (suc p)) rest →
+          Sorted (EarlierRun n) (beginning (isOpen M s) onward (x ∷ drop (suc p) (ranking n))) ×
+          AllItems (StartsFrom n p) (beginning (isOpen M s) onward (x ∷ drop (suc p) (ranking n)))
       go true o g =
           rw (begin-open (isOpen M s) onward x (drop (suc p) (ranking n)) o) (
-            sorted-append (Earlier n) (behind x (onward x)) rest (front-sorted n x (onward x) (h x)) (g .0)
-                (front-all n x (λ a. All (Earlier n a) rest)
-                (λ xs. all-more (StartsFrom n (suc p)) (Earlier n (x ∷ xs)) (starts-earlier n p xs) rest (g .1)) (onward x)),
-            all-append (StartsFrom n p) (behind x (onward x)) rest
+            sorted-append (EarlierRun n) (eachBehind x (onward x)) rest (front-sorted n x (onward x) (h x)) (g .0)
+                (front-all n x (λ a. AllItems (EarlierRun n a) rest)
+                (λ xs. all-more (StartsFrom n (suc p)) (EarlierRun n (x ∷ xs)) (starts-earlier n p xs) rest (g .1)) (onward x)),
+            all-append (StartsFrom n p) (eachBehind x (onward x)) rest
                 (front-all n x (StartsFrom n p) (λ xs. starts-there n p (omega arith) xs) (onward x))
                 (all-more (StartsFrom n (suc p)) (StartsFrom n p) (starts-later n p) rest (g .1)),
           )
@@ -166,8 +166,8 @@ module _ (M : Machine) where
           (g .0, all-more (StartsFrom n (suc p)) (StartsFrom n p) (starts-later n p) rest (g .1))
 
   -- Each listed run is earlier than those behind it.
-  pub runs-sorted : (left : ℕ) (s : State) → Sorted (Earlier n) (runsFrom M left s)
-  unfolding Sorted All
+  pub runs-sorted : (left : ℕ) (s : State) → Sorted (EarlierRun n) (runsFrom M left s)
+  unfolding Sorted AllItems
   runs-sorted =
-      runs-induction M (λ left s rs. Sorted (Earlier n) rs) (λ left s e. (tt, tt)) (λ s e. tt)
+      runs-induction M (λ left s rs. Sorted (EarlierRun n) rs) (λ left s e. (tt, tt)) (λ s e. tt)
       (λ left s onward e h. begin-sorted s onward h (places n) 0 (omega arith) .0)

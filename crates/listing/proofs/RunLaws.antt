@@ -17,14 +17,14 @@ use Rattle.reference.proofs.RankingLaws.{silent-shut}
 use Rattle.reference.proofs.Potential.{potential}
 use Rattle.reference.proofs.CeilingLaws.{step-lowers}
 use Rattle.orders.specs.Orders.{places, stepAt}
-use Rattle.orders.proofs.PlaceLaws.{PlaceOf, there-place}
-use Rattle.listing.specs.Runs.{Run, behind, beginning, runsFrom}
+use Rattle.orders.proofs.PlaceLaws.{RankedPlace, there-place}
+use Rattle.listing.specs.Runs.{Run, eachBehind, beginning, runsFrom}
 use Rattle.listing.specs.Order.{Complete}
-use Rattle.listing.proofs.ListLaws.{All, all-append, all-map, Placed, placed-left, placed-right, placed-map}
+use Rattle.listing.proofs.ListLaws.{AllItems, all-append, all-map, HasPlace, placed-left, placed-right, placed-map}
 
 module _ (opens : Step → Bool) (onward : Step → List Run) where
   pub begin-open : (x : Step) (xs : List Step) → opens x ≡ true →
-      beginning opens onward (x ∷ xs) ≡ behind x (onward x) ++ beginning opens onward xs
+      beginning opens onward (x ∷ xs) ≡ eachBehind x (onward x) ++ beginning opens onward xs
   unfolding beginning
   begin-open x xs e = rw e
 
@@ -34,7 +34,7 @@ module _ (opens : Step → Bool) (onward : Step → List Run) where
 
   -- What holds of no run, and of the runs that begin with an open step in front of others, holds of the runs that begin with any.
   module _ (P : List Step → List Run → Type 0) (none : P [] [])
-      (opened : (x : Step) (xs : List Step) (rs : List Run) → opens x ≡ true → P xs rs → P (x ∷ xs) (behind x (onward x) ++ rs))
+      (opened : (x : Step) (xs : List Step) (rs : List Run) → opens x ≡ true → P xs rs → P (x ∷ xs) (eachBehind x (onward x) ++ rs))
       (shut : (x : Step) (xs : List Step) (rs : List Run) → opens x ≡ false → P xs rs → P (x ∷ xs) rs) where
     pub begin-induction : (xs : List Step) → P xs (beginning opens onward xs)
     unfolding beginning
@@ -54,7 +54,7 @@ begin-same p q g h same goes (x ∷ xs) = go (q x) refl (begin-same p q g h same
   where
     go : (b : Bool) → q x ≡ b → beginning p g xs ≡ beginning q h xs → beginning p g (x ∷ xs) ≡ beginning q h (x ∷ xs)
     go true e rest =
-        begin-open p g x xs (same x ∙ e) ∙ ap₂ _++_ (ap (behind x) (goes x e)) rest ∙ sym (begin-open q h x xs e)
+        begin-open p g x xs (same x ∙ e) ∙ ap₂ _++_ (ap (eachBehind x) (goes x e)) rest ∙ sym (begin-open q h x xs e)
     go false e rest = begin-shut p g x xs (same x ∙ e) ∙ rest ∙ sym (begin-shut q h x xs e)
 
 module _ (M : Machine) where
@@ -92,38 +92,40 @@ module _ (M : Machine) where
         go false e h = rw (runs-more left s e) (more left s (λ x. runsFrom M left (afterStep M s x)) e h)
 
   -- Every listed run is complete.
-  pub runs-complete : (left : ℕ) (s : State) → All (Complete M s) (runsFrom M left s)
-  unfolding All Complete behind
+  pub runs-complete : (left : ℕ) (s : State) → AllItems (Complete M s) (runsFrom M left s)
+  unfolding AllItems Complete eachBehind
   runs-complete =
-      runs-induction (λ left s rs. All (Complete M s) rs) (λ left s e. (e, tt)) (λ s e. tt)
+      runs-induction (λ left s rs. AllItems (Complete M s) rs) (λ left s e. (e, tt)) (λ s e. tt)
       (λ left s onward e h.
-      begin-induction (isOpen M s) onward (λ xs rs. All (Complete M s) rs) tt
+      begin-induction (isOpen M s) onward (λ xs rs. AllItems (Complete M s) rs) tt
       (λ x xs rs o g.
-      all-append (Complete M s) (behind x (onward x)) rs (goes-on s x o (onward x) (h x)) g)
+      all-append (Complete M s) (eachBehind x (onward x)) rs (goes-on s x o (onward x) (h x)) g)
       (λ x xs rs o g. g) (ranking (M .carriers)))
     where
-      goes-on : (s : State) (x : Step) → isOpen M s x ≡ true → (rs : List Run) → All (Complete M (afterStep M s x)) rs →
-          All (Complete M s) (behind x rs)
+      goes-on : (s : State) (x : Step) → isOpen M s x ≡ true → (rs : List Run) → AllItems (Complete M (afterStep M s x)) rs →
+          AllItems (Complete M s) (eachBehind x rs)
       goes-on s x o [] h = tt
       goes-on s x o (xs ∷ rs) h = ((o, h .0), goes-on s x o rs (h .1))
 
   -- A run that begins with an open step of the list, and goes on as one of those behind it, has a place.
-  begin-placed : (s : State) (onward : Step → List Run) (x : Step) (ys : Run) → isOpen M s x ≡ true → Placed [] ys (onward x) →
-      (xs : List Step) (p : ℕ) → p < length xs → getD xs p (plan 0) ≡ x → Placed [] (x ∷ ys) (beginning (isOpen M s) onward xs)
-  unfolding behind
+  begin-placed : (s : State) (onward : Step → List Run) (x : Step) (ys : Run) → isOpen M s x ≡ true → HasPlace [] ys (onward x) →
+      (xs : List Step) (p : ℕ) → p < length xs → getD xs p (plan 0) ≡ x → HasPlace [] (x ∷ ys) (beginning (isOpen M s) onward xs)
+  unfolding eachBehind
   begin-placed s onward x ys o h [] p l e = absurd (omega arith)
   begin-placed s onward x ys o h (y ∷ xs) zero l e =
       rw (e, begin-open (isOpen M s) onward x xs o)
-      (placed-left [] (x ∷ ys) (behind x (onward x)) (beginning (isOpen M s) onward xs) (in-front x (onward x) h))
+      (placed-left [] (x ∷ ys) (eachBehind x (onward x)) (beginning (isOpen M s) onward xs) (in-front x (onward x) h))
     where
-      in-front : (x : Step) (rs : List Run) → Placed [] ys rs → Placed [] (x ∷ ys) (behind x rs)
+      in-front : (x : Step) (rs : List Run) → HasPlace [] ys rs → HasPlace [] (x ∷ ys) (eachBehind x rs)
       in-front x rs h = placed-map (λ (zs : Run). x ∷ zs) [] ys [] rs h
   begin-placed s onward x ys o h (y ∷ xs) (suc p) l e =
       go (isOpen M s y) refl (begin-placed s onward x ys o h xs p (omega arith) e)
     where
-      go : (b : Bool) → isOpen M s y ≡ b → Placed [] (x ∷ ys) (beginning (isOpen M s) onward xs) →
-          Placed [] (x ∷ ys) (beginning (isOpen M s) onward (y ∷ xs))
-      go true q g = rw (begin-open (isOpen M s) onward y xs q) (placed-right [] (x ∷ ys) (behind y (onward y)) (beginning (isOpen M s) onward xs) g)
+      go : (b : Bool) → isOpen M s y ≡ b → HasPlace [] (x ∷ ys) (beginning (isOpen M s) onward xs) →
+          HasPlace [] (x ∷ ys) (beginning (isOpen M s) onward (y ∷ xs))
+      go true q g =
+          rw (begin-open (isOpen M s) onward y xs q)
+          (placed-right [] (x ∷ ys) (eachBehind y (onward y)) (beginning (isOpen M s) onward xs) g)
       go false q g = rw (begin-shut (isOpen M s) onward y xs q) g
 
   -- An open step is there.
@@ -138,8 +140,8 @@ module _ (M : Machine) where
 
   -- Every complete run is listed, if as many steps are left as the state's potential tells.
   pub complete-placed : (left : ℕ) (s : State) (xs : Run) → Complete M s xs → potential (M .carriers) s ≤ left →
-      Placed [] xs (runsFrom M left s)
-  unfolding Complete Placed places stepAt
+      HasPlace [] xs (runsFrom M left s)
+  unfolding Complete HasPlace places stepAt
   complete-placed left s [] c l = rw (runs-silent left s c) (0, omega arith, refl)
   complete-placed zero s (x ∷ xs) c l = absurd (omega (arith, step-lowers M s x (c .0)))
   complete-placed (suc left) s (x ∷ xs) c l =
@@ -148,10 +150,10 @@ module _ (M : Machine) where
       rw (runs-more left s (open-not-silent s x (c .0)))
       (begin-placed s (λ y. runsFrom M left (afterStep M s y)) x xs (c .0) rest (ranking (M .carriers)) (place .0) (at-place place) (is-step place))
     where
-      at-place : (p : PlaceOf (M .carriers) x) → p .0 < length (ranking (M .carriers))
+      at-place : (p : RankedPlace (M .carriers) x) → p .0 < length (ranking (M .carriers))
       at-place p = p .1
 
-      is-step : (p : PlaceOf (M .carriers) x) → getD (ranking (M .carriers)) (p .0) (plan 0) ≡ x
+      is-step : (p : RankedPlace (M .carriers) x) → getD (ranking (M .carriers)) (p .0) (plan 0) ≡ x
       is-step p = p .2
 
   -- A complete run has at most as many steps as the state's potential tells.
@@ -163,13 +165,13 @@ module _ (M : Machine) where
   -- With at most b runs behind each step of a list, so many times b begin with one of them.
   begin-few : (s : State) (onward : Step → List Run) (b : ℕ) → ((x : Step) → length (onward x) ≤ b) → (xs : List Step) →
       length (beginning (isOpen M s) onward xs) ≤ length xs * b
-  unfolding behind
+  unfolding eachBehind
   begin-few s onward b h =
       begin-induction (isOpen M s) onward (λ xs rs. length rs ≤ length xs * b) (omega arith)
-      (λ x xs rs o g. omega (arith, length-append (behind x (onward x)) rs, in-front x (onward x), h x, g, suc-mul (length xs) b))
+      (λ x xs rs o g. omega (arith, length-append (eachBehind x (onward x)) rs, in-front x (onward x), h x, g, suc-mul (length xs) b))
       (λ x xs rs o g. omega (arith, g, suc-mul (length xs) b))
     where
-      in-front : (x : Step) (rs : List Run) → length (behind x rs) ≡ length rs
+      in-front : (x : Step) (rs : List Run) → length (eachBehind x rs) ≡ length rs
       in-front x rs = length-map rs (λ (zs : Run). x ∷ zs)
 
   -- There are at most as many runs as choices of a ranked step for each step that is left.

@@ -16,12 +16,12 @@ use Rattle.reference.specs.Quiescent.{ceiling}
 use Rattle.reference.proofs.Potential.{potential, fresh-potential}
 use Rattle.orders.specs.Orders.{first, startMemory, remembered}
 use Rattle.orders.specs.Trial.{Entry, trial, stepsIn}
-use Rattle.orders.specs.Rules.{ByRule}
+use Rattle.orders.specs.Rules.{FollowsOrder}
 use Rattle.orders.proofs.Theorems.{theorems as orders-theorems}
 use Rattle.listing.specs.Runs.{Run, runsFrom, runsOf, total, runAt}
-use Rattle.listing.specs.Order.{Complete, Earlier}
+use Rattle.listing.specs.Order.{Complete, EarlierRun}
 use Rattle.listing.specs.Claims.{Claims}
-use Rattle.listing.proofs.ListLaws.{all-at, sorted-at, Placed}
+use Rattle.listing.proofs.ListLaws.{all-at, sorted-at, HasPlace}
 use Rattle.listing.proofs.RunLaws.{runs-complete, complete-placed, complete-short}
 use Rattle.listing.proofs.OrderLaws.{one-place, earlier-one-way, runs-sorted}
 
@@ -36,20 +36,21 @@ module _ (M : Machine) where
   listed-complete r l = all-at (Complete M fresh) [] (runsOf M) (runs-complete M (ceiling (M .carriers)) fresh) r l
 
   complete-exactly : (xs : Run) → Complete M fresh xs ↔ ((rank : ℕ) × (rank < total M) × (runAt M rank ≡ xs))
-  unfolding total runAt runsOf Placed
+  unfolding total runAt runsOf HasPlace
   complete-exactly xs =
       (λ c. complete-placed M (ceiling (M .carriers)) fresh xs c fresh-ceiling, λ h. subst (Complete M fresh) (h .2) (listed-complete (h .0) (h .1)))
 
-  earlier : (r q : ℕ) → r < q → q < total M → Earlier (M .carriers) (runAt M r) (runAt M q)
+  earlier : (r q : ℕ) → r < q → q < total M → EarlierRun (M .carriers) (runAt M r) (runAt M q)
   unfolding total runAt runsOf
-  earlier r q l h = sorted-at (Earlier (M .carriers)) [] (runsOf M) (runs-sorted M (ceiling (M .carriers)) fresh) r q l h
+  earlier r q l h = sorted-at (EarlierRun (M .carriers)) [] (runsOf M) (runs-sorted M (ceiling (M .carriers)) fresh) r q l h
 
   -- No run is earlier than itself.
   not-itself : (r q : ℕ) → r < q → q < total M → runAt M r ≡ runAt M q → ⊥
   not-itself r q l h e =
       let g = earlier r q l h in
       earlier-one-way (M .carriers) (runAt M r) (runAt M q) g
-      (subst (λ (xs : Run). Earlier (M .carriers) xs (runAt M r)) e (subst (λ (ys : Run). Earlier (M .carriers) (runAt M r) ys) (sym e) g))
+      (subst (λ (xs : Run). EarlierRun (M .carriers) xs (runAt M r)) e
+      (subst (λ (ys : Run). EarlierRun (M .carriers) (runAt M r) ys) (sym e) g))
 
   one-rank : (r q : ℕ) → r < total M → q < total M → runAt M r ≡ runAt M q → r ≡ q
   one-rank r q l h e =
@@ -57,10 +58,10 @@ module _ (M : Machine) where
       (λ (g : q ≤ r). ⊎-elim (λ (k : q ≡ r). sym k) (λ (k : q < r). absurd (not-itself q r k l (sym e))) (eq-or-lt-of-le g))
       (lt-or-le r q)
 
-  ranked : (r q : ℕ) → r < total M → q < total M → (r < q) ↔ Earlier (M .carriers) (runAt M r) (runAt M q)
+  ranked : (r q : ℕ) → r < total M → q < total M → (r < q) ↔ EarlierRun (M .carriers) (runAt M r) (runAt M q)
   ranked r q l h = (
     λ g. earlier r q g h,
-    λ (e : Earlier (M .carriers) (runAt M r) (runAt M q)).
+    λ (e : EarlierRun (M .carriers) (runAt M r) (runAt M q)).
         ⊎-elim (λ (g : r < q). g)
         (λ (g : q ≤ r).
         ⊎-elim
@@ -70,16 +71,16 @@ module _ (M : Machine) where
         (lt-or-le r q),
   )
     where
-      itself : q ≡ r → Earlier (M .carriers) (runAt M r) (runAt M q) → Earlier (M .carriers) (runAt M q) (runAt M r)
+      itself : q ≡ r → EarlierRun (M .carriers) (runAt M r) (runAt M q) → EarlierRun (M .carriers) (runAt M q) (runAt M r)
       itself k e = rw k (rw k at e)
 
   within-ceiling : (r : ℕ) → r < total M → length (runAt M r) ≤ ceiling (M .carriers)
   within-ceiling r l = omega (arith, complete-short M fresh (runAt M r) (listed-complete r l), fresh-ceiling)
 
 -- A trial in order 1 is a complete run.
-trial-complete : (M : Machine) (c : ℕ) (s : State) (es : List Entry) → ByRule first M c s es →
+trial-complete : (M : Machine) (c : ℕ) (s : State) (es : List Entry) → FollowsOrder first M c s es →
     isSilent M (afterSteps M s (stepsIn es)) ≡ true → Complete M s (stepsIn es)
-unfolding ByRule stepsIn afterSteps Complete
+unfolding FollowsOrder stepsIn afterSteps Complete
 trial-complete M c s [] h e = e
 trial-complete M c s (x ∷ es) h e =
     (h .1 .isOpen, trial-complete M (remembered first c (h .0)) (afterStep M s (x .taken)) es (h .2) e)

@@ -7,7 +7,7 @@ use Rattle.reference.specs.State.{Machine, fresh}
 use Rattle.reference.specs.Quiescent.{ceiling}
 use Rattle.orders.specs.Orders.{places, stepAt}
 use Rattle.listing.specs.Runs.{Run, total, runAt}
-use Rattle.listing.specs.Order.{Complete, Earlier}
+use Rattle.listing.specs.Order.{Complete, EarlierRun}
 
 pub record Claims : Type 0 where
   -- A step has one place of the ranking.
@@ -18,7 +18,7 @@ pub record Claims : Type 0 where
   -- A run has one rank; so the total is the number of complete runs.
   pub one-rank : (M : Machine) (r q : ℕ) → r < total M → q < total M → runAt M r ≡ runAt M q → r ≡ q
   -- A smaller rank is an earlier run, and the other way round.
-  pub ranked : (M : Machine) (r q : ℕ) → r < total M → q < total M → (r < q) ↔ Earlier (M .carriers) (runAt M r) (runAt M q)
+  pub ranked : (M : Machine) (r q : ℕ) → r < total M → q < total M → (r < q) ↔ EarlierRun (M .carriers) (runAt M r) (runAt M q)
   -- A run has at most as many steps as the ceiling.
   pub within-ceiling : (M : Machine) (r : ℕ) → r < total M → length (runAt M r) ≤ ceiling (M .carriers)
   -- There is a run.

@@ -16,7 +16,7 @@ Complete M s [] = isSilent M s ≡ true
 Complete M s (x ∷ xs) = (isOpen M s x ≡ true) × Complete M (afterStep M s x) xs
 
 -- Step x has a place of the ranking of n carriers that is before the place of step y.
-pub record Before (n : ℕ) (x y : Step) : Type 0 where
+pub record RanksBefore (n : ℕ) (x y : Step) : Type 0 where
   pub first : ℕ
   pub second : ℕ
   pub before : first < second
@@ -25,7 +25,7 @@ pub record Before (n : ℕ) (x y : Step) : Type 0 where
   pub second-is : stepAt n second ≡ y
 
 -- The first run is the earlier one: where the two first differ, its step is before the other's in the ranking.
-unfoldable pub Earlier : ℕ → List Step → List Step → Type 0
-Earlier n [] ys = ⊥
-Earlier n (x ∷ xs) [] = ⊥
-Earlier n (x ∷ xs) (y ∷ ys) = Before n x y ⊎ ((x ≡ y) × Earlier n xs ys)
+unfoldable pub EarlierRun : ℕ → List Step → List Step → Type 0
+EarlierRun n [] ys = ⊥
+EarlierRun n (x ∷ xs) [] = ⊥
+EarlierRun n (x ∷ xs) (y ∷ ys) = RanksBefore n x y ⊎ ((x ≡ y) × EarlierRun n xs ys)

@@ -15,13 +15,13 @@ abbrev pub Run : Type 0
 Run = List Step
 
 -- Each run of a list with the step x in front.
-unfoldable pub behind : Step → List Run → List Run
-behind x rs = map (λ (xs : Run). x ∷ xs) rs
+unfoldable pub eachBehind : Step → List Run → List Run
+eachBehind x rs = map (λ (xs : Run). x ∷ xs) rs
 
 -- The runs that begin with one of the listed steps: for each that is open, in the list's order, those that go on behind it.
 unfoldable pub beginning : (Step → Bool) → (Step → List Run) → List Step → List Run
 beginning opens onward [] = []
-beginning opens onward (x ∷ xs) = elim (opens x) [ true ↦ behind x (onward x) | false ↦ [] ] ++ beginning opens onward xs
+beginning opens onward (x ∷ xs) = elim (opens x) [ true ↦ eachBehind x (onward x) | false ↦ [] ] ++ beginning opens onward xs
 
 -- The complete runs from state s with at most so many steps left: the empty run where s is silent, otherwise those that begin with an
 -- open step, in the ranking's order.

@@ -8,11 +8,10 @@ use mathlib.Core.List.{List, [], _∷_}
 use mathlib.Core.Path.{_≡_, refl, _∙_, ap}
 use lib.Dec.{eqb}
 use lib.ListN.{getD}
-use Rattle.laws.specs.Verdict.{Outcome, value, refusal, demand, _gives_}
+use Rattle.laws.specs.Verdict.{Outcome, value, refusal, demand, _gives_, each}
 use Rattle.floor.specs.Checks.{within}
-use Rattle.reference.specs.Ranges.{each}
 use Rattle.reference.specs.Quiescent.{ceiling}
-use Rattle.reference.proofs.RangeLaws.{each-holds}
+use Rattle.laws.proofs.HoldLaws.{each-holds}
 use Rattle.machine.specs.Ceiling.{mostSteps}
 
 -- The table of the code.

@@ -10,7 +10,7 @@ use Rattle.floor.specs.declared.Floor.{Floor}
 use Rattle.reference.specs.Step.{Step}
 use Rattle.reference.specs.Take.{StepAnswer}
 use Rattle.reference.specs.Table.{step, noStep, lentEnough, allNamed, Call}
-use Rattle.reference.specs.Calls.{Told, stepped, ran}
+use Rattle.reference.specs.Calls.{CallAnswer, stepped, ran}
 use Rattle.reference.proofs.TableLaws.{enough-lent}
 use Rattle.encoding.specs.Numbers.{askedBy}
 use Rattle.encoding.specs.Calls.{machineOf, stateVerdict, replyTo, memoryAfter, singleCall, runCall}
@@ -28,7 +28,7 @@ use Rattle.machine.proofs.RunLaws.{ran-is}
 
 -- An entry on a lent state: what passes its checks goes on number by number, and a refusal leaves all as it was.
 module _ (f : Floor) (ws m : List ℕ) (c : Call) where
-  pub entry-made : {r : Outcome Told} (m′ : List ℕ) → stateVerdict f ws m ≡ passed → r ≡ replyIn (machineOf f ws) m c →
+  pub entry-made : {r : Outcome CallAnswer} (m′ : List ℕ) → stateVerdict f ws m ≡ passed → r ≡ replyIn (machineOf f ws) m c →
       m′ ≡ memoryIn (machineOf f ws) m c → (r ≡ replyTo f ws m c) × (m′ ≡ memoryAfter f ws m c)
   entry-made m′ ok answers stores = (
     answers ∙ sym (answers-passed ok) ∙ reply-in f ws m c,
@@ -36,7 +36,7 @@ module _ (f : Floor) (ws m : List ℕ) (c : Call) where
   )
 
   pub entry-refused : (k p : ℕ) → stateVerdict f ws m ≡ refused k p →
-      (_≡_ {A = Outcome Told} (refusal k p) (replyTo f ws m c)) × (m ≡ memoryAfter f ws m c)
+      (_≡_ {A = Outcome CallAnswer} (refusal k p) (replyTo f ws m c)) × (m ≡ memoryAfter f ws m c)
   unfolding replyTo memoryAfter
   entry-refused k p h = (sym (answers-refused _ h), sym (when-refused _ h))
 
@@ -47,7 +47,7 @@ module _ (f : Floor) (ws m : List ℕ) (sound : stateVerdict f ws m ≡ passed) 
 
   -- A single step that names no kind of step.
   pub step-unnamed : (x : ℕ) → noStep ≡ askedBy x →
-      (_≡_ {A = Outcome Told} (refusal 7 0) (replyIn (machineOf f ws) m (singleCall m x))) ×
+      (_≡_ {A = Outcome CallAnswer} (refusal 7 0) (replyIn (machineOf f ws) m (singleCall m x))) ×
       (m ≡ memoryIn (machineOf f ws) m (singleCall m x))
   unfolding singleCall replyIn memoryIn grantedMemory verdictIn singleVerdictIn
   step-unnamed x e = (
@@ -58,7 +58,7 @@ module _ (f : Floor) (ws m : List ℕ) (sound : stateVerdict f ws m ≡ passed) 
   module _ (x : ℕ) (y : Step) (e : step y ≡ askedBy x) where
     -- A single step that is refused.
     pub step-refused : (k p : ℕ) → singleVerdictIn (bare f) m (step y) ≡ refused k p →
-        (_≡_ {A = Outcome Told} (refusal k p) (replyIn (machineOf f ws) m (singleCall m x))) ×
+        (_≡_ {A = Outcome CallAnswer} (refusal k p) (replyIn (machineOf f ws) m (singleCall m x))) ×
         (m ≡ memoryIn (machineOf f ws) m (singleCall m x))
     unfolding singleCall replyIn memoryIn grantedMemory verdictIn
     step-refused k p h =
@@ -69,7 +69,7 @@ module _ (f : Floor) (ws m : List ℕ) (sound : stateVerdict f ws m ≡ passed) 
 
     -- A single step that is taken.
     pub step-taken : (r : Taken) (m′ : List ℕ) → singleVerdictIn (bare f) m (step y) ≡ passed → Took (machineOf f ws) m y r m′ →
-        (_≡_ {A = Outcome Told} (value (stepped (takenMeant r))) (replyIn (machineOf f ws) m (singleCall m x))) ×
+        (_≡_ {A = Outcome CallAnswer} (value (stepped (takenMeant r))) (replyIn (machineOf f ws) m (singleCall m x))) ×
         (m′ ≡ memoryIn (machineOf f ws) m (singleCall m x))
     unfolding singleCall replyIn memoryIn grantedMemory verdictIn
     step-taken r m′ h t =
@@ -81,7 +81,7 @@ module _ (f : Floor) (ws m : List ℕ) (sound : stateVerdict f ws m ≡ passed) 
   module _ (xs : List ℕ) (b : ℕ) where
     -- A run that is refused.
     pub run-refused : {k p : ℕ} → refused k p ≡ allNamed (machineOf f ws) (map askedBy xs) →
-        (_≡_ {A = Outcome Told} (refusal k p) (replyIn (machineOf f ws) m (runCall m xs b))) ×
+        (_≡_ {A = Outcome CallAnswer} (refusal k p) (replyIn (machineOf f ws) m (runCall m xs b))) ×
         (m ≡ memoryIn (machineOf f ws) m (runCall m xs b))
     unfolding runCall replyIn memoryIn grantedMemory verdictIn
     run-refused h =
@@ -93,7 +93,7 @@ module _ (f : Floor) (ws m : List ℕ) (sound : stateVerdict f ws m ≡ passed) 
     -- A run that is made, from what its loop has come to.
     pub run-taken : (taken read : ℕ) (m′ : List ℕ) → passed ≡ allNamed (machineOf f ws) (map askedBy xs) →
         Tallied (runIn (machineOf f ws) m (map askedBy xs) b) b (length xs) taken read m′ →
-        (_≡_ {A = Outcome Told} (value (ran taken (endsWith (silentIn (bare f) m′) taken b read (length xs))))
+        (_≡_ {A = Outcome CallAnswer} (value (ran taken (endsWith (silentIn (bare f) m′) taken b read (length xs))))
         (replyIn (machineOf f ws) m (runCall m xs b))) ×
         (m′ ≡ memoryIn (machineOf f ws) m (runCall m xs b))
     unfolding runCall replyIn memoryIn grantedMemory verdictIn

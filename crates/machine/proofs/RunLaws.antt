@@ -12,7 +12,7 @@ use lib.Seq.{drop-cons}
 use borrow.Author.Tests.{lt-ltb, le-ltb, eq-eqb, ne-eqb}
 use Rattle.laws.specs.Verdict.{value}
 use Rattle.reference.specs.State.{Machine}
-use Rattle.reference.specs.Ending.{Ending, endsAs, silent, spent, ended}
+use Rattle.reference.specs.Ending.{RunEnding, endsAs, silent, spent, ended}
 use Rattle.reference.specs.Table.{Asked}
 use Rattle.reference.specs.Calls.{ran}
 use Rattle.encoding.specs.Numbers.{askedBy}
@@ -22,7 +22,7 @@ use Rattle.encoding.proofs.RunLaws.{took-in, skipped-in}
 use Rattle.machine.specs.declared.Ran.{Ran}
 use Rattle.machine.specs.declared.Ran.the-variants.{Silent, Spent, Ended, Refused}
 use Rattle.machine.specs.Answers.{ranReply, takenNumber}
-use Rattle.machine.specs.Inner.{Running, Tried, took, skipped, Tallied, endsWith}
+use Rattle.machine.specs.Inner.{Running, Attempted, took, skipped, Tallied, endsWith}
 
 module _ (M : Machine) (m₀ xs : List ℕ) (b : ℕ) where
   pub running-start : Running M m₀ xs b m₀ 0 0
@@ -55,7 +55,7 @@ module _ (M : Machine) (m₀ xs : List ℕ) (b : ℕ) where
 
   -- One more step of the list, tried, which counts for r.
   pub running-more : (m m′ : List ℕ) (p t r : ℕ) → p < length xs → t < b → length m′ ≡ length m → Running M m₀ xs b m p t →
-      Tried M m (askedBy (getD xs p 0)) r m′ → Running M m₀ xs b m′ (p + 1) (t + r)
+      Attempted M m (askedBy (getD xs p 0)) r m′ → Running M m₀ xs b m′ (p + 1) (t + r)
   unfolding tookOne
   running-more m m′ p t r l h k s (took e one g) =
       let less : b - t ≡ suc (b - (t + 1)) = omega arith in
@@ -100,7 +100,7 @@ module _ (M : Machine) (m₀ xs : List ℕ) (b : ℕ) where
   running-end m p t l h s = stops m false p t h s (rw (drop-of-length-le xs l) refl) (le-ltb p (length xs) l)
 
 -- A step tried takes one step at most.
-pub tried-one : {M : Machine} {m m′ : List ℕ} {a : Asked} {r : ℕ} → Tried M m a r m′ → r ≤ 1
+pub tried-one : {M : Machine} {m m′ : List ℕ} {a : Asked} {r : ℕ} → Attempted M m a r m′ → r ≤ 1
 tried-one (took e one g) = omega (arith, one)
 tried-one (skipped e none g) = omega (arith, none)
 
@@ -131,7 +131,7 @@ unfolding endingIn endsWith
 ran-is M r b listed taken read m h = rw (h .memory, h .left, h .number) refl
 
 -- The number that a run returns is the number taken.
-pub told-within : (r : Ran) (t b : ℕ) (e : Ending) → ranReply r ≡ value (ran t e) → t ≤ b → takenNumber r ≤ b
+pub told-within : (r : Ran) (t b : ℕ) (e : RunEnding) → ranReply r ≡ value (ran t e) → t ≤ b → takenNumber r ≤ b
 unfolding ranReply takenNumber
 told-within (Silent u) t b e h l = let same : u ≡ t = cc in omega arith
 told-within (Spent u) t b e h l = let same : u ≡ t = cc in omega arith

@@ -11,7 +11,7 @@ use Rattle.laws.proofs.VerdictLaws.{then-both, demand-same}
 use Rattle.floor.specs.declared.Floor.{Floor}
 use Rattle.floor.specs.Checks.{checkOf}
 use Rattle.floor.proofs.AnswersLaws.{then-next, ends-at}
-use Rattle.floor.proofs.LimitsLaws.{limited-bounds, room-passed}
+use Rattle.floor.proofs.LimitsLaws.{limited-bounds, length-passed}
 use Rattle.floor.proofs.Theorems.{theorems}
 use Rattle.reference.specs.Table.{noStep, isNamed, allNamed}
 use Rattle.encoding.specs.Numbers.{askedBy}
@@ -23,11 +23,11 @@ use Rattle.machine.specs.Inner.{namedAt}
 pub checked-few : (f : Floor) (ws : List ℕ) → checkOf f ws ≡ passed → f .carriers ≤ 8
 checked-few f ws h = limited-bounds f (theorems .passes-exactly f ws .0 h .limited) .carriers .1
 
-pub place-tells : (f : Floor) (ws : List ℕ) (room : ℕ) → placeVerdict f ws room ≡ passed → Placed f ws room
+pub place-tells : (f : Floor) (ws : List ℕ) (lent : ℕ) → placeVerdict f ws lent ≡ passed → Placed f ws lent
 unfolding placeVerdict
-place-tells f ws room h =
+place-tells f ws lent h =
     let a = then-both _ _ h in
-    record { accepted = theorems .passes-exactly f ws .0 (a .0); enough = room-passed _ _ (a .1) }
+    record { accepted = theorems .passes-exactly f ws .0 (a .0); enough = length-passed _ _ (a .1) }
 
 pub state-tells : (f : Floor) (ws m : List ℕ) → stateVerdict f ws m ≡ passed → Placed f ws (length m)
 unfolding stateVerdict

@@ -7,7 +7,7 @@ use lib.Dec.{eqb, ltb}
 use lib.ListN.{length, getD, drop}
 use Rattle.floor.specs.declared.Floor.{Floor}
 use Rattle.reference.specs.State.{Machine}
-use Rattle.reference.specs.Ending.{Ending, endsAs}
+use Rattle.reference.specs.Ending.{RunEnding, endsAs}
 use Rattle.reference.specs.Table.{Asked, isNamed}
 use Rattle.encoding.specs.Numbers.{askedBy}
 use Rattle.encoding.specs.InnerSteps.{askedOpenIn}
@@ -19,9 +19,9 @@ unfoldable pub namedAt : Floor → List ℕ → ℕ → Bool
 namedAt f xs p = isNamed (bare f) (askedBy (getD xs p 0))
 
 -- What is asked for, tried: taken if it is open, passed over otherwise; r is the number taken, m′ the memory after it.
-pub data Tried (M : Machine) (m : List ℕ) (a : Asked) (r : ℕ) (m′ : List ℕ) : Type 0 where
-  took : askedOpenIn M m a ≡ true → r ≡ 1 → m′ ≡ askedAfterIn M m a → Tried M m a r m′
-  skipped : askedOpenIn M m a ≡ false → r ≡ 0 → m′ ≡ m → Tried M m a r m′
+pub data Attempted (M : Machine) (m : List ℕ) (a : Asked) (r : ℕ) (m′ : List ℕ) : Type 0 where
+  took : askedOpenIn M m a ≡ true → r ≡ 1 → m′ ≡ askedAfterIn M m a → Attempted M m a r m′
+  skipped : askedOpenIn M m a ≡ false → r ≡ 0 → m′ ≡ m → Attempted M m a r m′
 
 -- A run of the steps that xs names from memory m₀ with budget b, seen after p of them were read and t taken, with memory m: what is
 -- left leads to the same memory, number taken and steps left.
@@ -39,5 +39,5 @@ pub record Tallied (r : RanIn) (b listed taken read : ℕ) (m : List ℕ) : Type
   pub memory : m ≡ r .memory
 
 -- The end of a run: whether it is silent, the number taken, the budget, the steps read and listed.
-unfoldable pub endsWith : Bool → ℕ → ℕ → ℕ → ℕ → Ending
+unfoldable pub endsWith : Bool → ℕ → ℕ → ℕ → ℕ → RunEnding
 endsWith silent taken b read listed = endsAs silent (eqb taken b && ltb read listed)

@@ -35,7 +35,7 @@ pub fn lent_place(f: Floor, walls: &[u16], lent: usize) -> Checked
     let Checked::Passed = checked else {
         return checked;
     };
-    floor::room(state::state_size(f.carriers as usize), lent)
+    floor::check_length(state::state_size(f.carriers as usize), lent)
 }
 
 // The refusals of a lent state.

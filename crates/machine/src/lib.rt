@@ -30,7 +30,7 @@ pub enum Stepped {
     Sent,
     // Delivered.
     Delivered,
-    // Turned away.
+    // Refused.
     Refused(Refusal),
 }
 
@@ -42,7 +42,7 @@ pub enum Ran {
     Spent(usize),
     // The list is read to its end.
     Ended(usize),
-    // Turned away.
+    // Refused.
     Refused(Refusal),
 }
 
@@ -50,7 +50,7 @@ pub enum Ran {
 pub enum Most {
     // The most steps.
     Steps(usize),
-    // Turned away.
+    // Refused.
     Refused(Refusal),
 }
 

@@ -12,7 +12,7 @@ ghost use Rattle.encoding.specs.InnerSteps.{silentIn};
 ghost use Rattle.encoding.specs.InnerRuns.{runIn};
 ghost use Rattle.machine.specs.Answers.{ranReply};
 ghost use Rattle.steps.specs.Inner.{bare, Workable};
-ghost use Rattle.machine.specs.Inner.{Tried, Tallied, endsWith};
+ghost use Rattle.machine.specs.Inner.{Attempted, Tallied, endsWith};
 use crate::Ran;
 use floor::Floor;
 use search::Rows;
@@ -27,7 +27,7 @@ pub struct Tally {
 // Takes the step that a number names if it is open, and passes over it otherwise; the number taken, 1 or 0.
 fn try_step(f: Floor, walls: &[u16], free: Rows, m: &mut [u16], x: u16) -> usize
     requires { ⌜ Workable f (now walls) free (now m) ⌝ }
-    ensures { λ r. ⌜ Tried (machineOf f (now (walls .entry))) (now (m .entry)) (askedBy x) r (now (m .exit)) ⌝ }
+    ensures { λ r. ⌜ Attempted (machineOf f (now (walls .entry))) (now (m .entry)) (askedBy x) r (now (m .exit)) ⌝ }
 {
     let asked = steps::asked_by(x);
     let Asked::Known(s) = asked else {

@@ -45,13 +45,14 @@ module _ (p : ℕ → Bool) where
   unfolding cellsWhere linesOf
   more-low n = omega (arith, length-append (linesOf (λ (c : ℕ). cond (p c) (c ∷ []) []) n) (cond (p n) (n ∷ []) []))
 
-  abbrev Stands : (n c : ℕ) → Type 0
-  Stands n c = p c ≡ true → (length (cellsWhere p c) < length (cellsWhere p n)) × (getD (cellsWhere p n) (length (cellsWhere p c)) 0 ≡ c)
+  abbrev CellListed : (n c : ℕ) → Type 0
+  CellListed n c =
+      p c ≡ true → (length (cellsWhere p c) < length (cellsWhere p n)) × (getD (cellsWhere p n) (length (cellsWhere p c)) 0 ≡ c)
 
-  stands : (n c : ℕ) → c < n → Stands n c
+  stands : (n c : ℕ) → c < n → CellListed n c
   unfolding cellsWhere linesOf
   stands zero c l = absurd (omega arith)
-  stands (suc n) c l = below-more (Stands (suc n)) n (λ i h e. kept i (stands n i h e)) last c (omega arith)
+  stands (suc n) c l = below-more (CellListed (suc n)) n (λ i h e. kept i (stands n i h e)) last c (omega arith)
     where
       kept : (i : ℕ) → (length (cellsWhere p i) < length (cellsWhere p n)) × (getD (cellsWhere p n) (length (cellsWhere p i)) 0 ≡ i) →
           (length (cellsWhere p i) < length (cellsWhere p (suc n))) × (getD (cellsWhere p (suc n)) (length (cellsWhere p i)) 0 ≡ i)

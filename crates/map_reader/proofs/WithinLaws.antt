@@ -15,7 +15,7 @@ use Rattle.map_reader.specs.declared.rows.Shape.{Shape}
 use Rattle.map_reader.specs.declared.rows.Shaped.{Shaped}
 use Rattle.map_reader.specs.declared.rows.Shaped.the-variants.{Rows}
 use Rattle.map_reader.specs.Told.{rowsIn}
-use Rattle.map_reader.specs.Inner.{ReadWithin, Copied, RowRead, RowsRead, ShapeRead, RowsIn}
+use Rattle.map_reader.specs.Inner.{ReadWithin, RowCopied, RowRead, RowsRead, ShapeRead, RowsIn}
 
 -- What lies behind a column lies behind an earlier one.
 pub earlier : (r : Read) (at first most : ℕ) → at ≤ first → ReadWithin first most r → ReadWithin at most r
@@ -30,7 +30,7 @@ told-at r at most n e w = rw e at w
 
 -- A row that is told, and rows that are.
 module _ (text : List ℕ) (old new : List ℕ) where
-  pub told-row : (at w base n : ℕ) (r : Read) → r ≡ At n → RowRead text at w old base new r → Copied text at w old base new n
+  pub told-row : (at w base n : ℕ) (r : Read) → r ≡ At n → RowRead text at w old base new r → RowCopied text at w old base new n
   unfolding RowRead
   told-row at w base n r e h = rw e at h
 
@@ -39,7 +39,7 @@ module _ (text : List ℕ) (old new : List ℕ) where
   told-rows first s x e h = rw e at h
 
 -- A loop that copies the marks of a row: before the first, one more, its length, and after the last.
-module _ (text old : List ℕ) (at w base : ℕ) (there : at + w < length text) (room : base + w ≤ length old) where
+module _ (text old : List ℕ) (at w base : ℕ) (there : at + w < length text) (enough : base + w ≤ length old) where
   size : length (part text at w) ≡ w
   size = part-length text at w (omega arith)
 
@@ -51,7 +51,8 @@ module _ (text old : List ℕ) (at w base : ℕ) (there : at + w < length text) 
   pub row-keeps : (k : ℕ) (mid : List ℕ) → mid ≡ put old base (take k (part text at w)) → k ≤ w → length mid ≡ length old
   row-keeps k mid e l = copy-keeps old mid (part text at w) base k e (omega (arith, size)) (omega (arith, size))
 
-  pub row-end : (k : ℕ) (mid : List ℕ) → mid ≡ put old base (take k (part text at w)) → w ≤ k → Copied text at w old base mid (at + w + 1)
+  pub row-end : (k : ℕ) (mid : List ℕ) → mid ≡ put old base (take k (part text at w)) → w ≤ k
+      → RowCopied text at w old base mid (at + w + 1)
   row-end k mid e l =
       record {
         next = refl;
@@ -75,13 +76,13 @@ module _ (text old : List ℕ) (first w : ℕ) (narrow : w ≤ 32) where
   pub rows-keeps : (h n : ℕ) (mid : List ℕ) → PutAt (rowsIn text first w h) old 0 mid n → h ≤ 32 → 1024 ≤ length old →
       length mid ≡ length old
   unfolding rowsIn line
-  rows-keeps h n mid e l room = put-keeps e (omega (arith, lines-low line 32 short old 0 h n mid e))
+  rows-keeps h n mid e l enough = put-keeps e (omega (arith, lines-low line 32 short old 0 h n mid e))
 
   pub rows-more : (h at n next : ℕ) (mid new : List ℕ) → PutAt (rowsIn text first w h) old 0 mid n → at ≡ first + h * (w + 1) → h < 32 →
-      1024 ≤ length old → Copied text at w mid n new next →
+      1024 ≤ length old → RowCopied text at w mid n new next →
       PutAt (rowsIn text first w (h + 1)) old 0 new (n + w) × (next ≡ first + (h + 1) * (w + 1))
   unfolding rowsIn line
-  rows-more h at n next mid new e s l room p =
+  rows-more h at n next mid new e s l enough p =
       let here : PutAt (line h) mid n new (n + w) = rw (← s) (p .puts) in
       (lines-more line 32 short old 0 h n mid e (n + w) new here (omega arith), omega (arith, p .next))
 

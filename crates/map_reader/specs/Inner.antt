@@ -25,13 +25,13 @@ ReadWithin at most (At n) = (at < n) × (n ≤ most)
 ReadWithin at most (Refused p) = Unit {0}
 
 -- A row of w cells at a column was copied to a base of a memory, and the column behind its newline is answered.
-pub record Copied (text : List ℕ) (at w : ℕ) (old : List ℕ) (base : ℕ) (new : List ℕ) (n : ℕ) : Type 0 where
+pub record RowCopied (text : List ℕ) (at w : ℕ) (old : List ℕ) (base : ℕ) (new : List ℕ) (n : ℕ) : Type 0 where
   pub next : n ≡ at + w + 1
   pub within : n ≤ length text
   pub puts : PutAt (part text at w) old base new (base + w)
 
 unfoldable pub RowRead : (text : List ℕ) (at w : ℕ) (old : List ℕ) (base : ℕ) (new : List ℕ) → Read → Type 0
-RowRead text at w old base new (At n) = Copied text at w old base new n
+RowRead text at w old base new (At n) = RowCopied text at w old base new n
 RowRead text at w old base new (Refused p) = Unit {0}
 
 -- Rows within the limits of a floor, in front of a memory.

@@ -36,7 +36,7 @@ enum Told {
 }
 
 // What is printed for a map.
-pub struct Printed {
+pub struct PrintedMap {
     // The length of the sheet; 0 with a refusal.
     pub sheet: usize,
     // The length of the refusal in words, a line; 0 with a sheet.
@@ -210,15 +210,15 @@ fn read(text: &[u8], out: &mut [u8; SHEET_LENGTH]) -> Told
 }
 
 // Prints the sheet of a map into one lent memory, or what is wrong with the map in words into another.
-pub fn print(text: &[u8], out: &mut [u8; SHEET_LENGTH], words: &mut [u8; WORDS]) -> Printed
+pub fn print(text: &[u8], out: &mut [u8; SHEET_LENGTH], words: &mut [u8; WORDS]) -> PrintedMap
     ensures sheet { λ r. ⌜ Counts (r .sheet) (now (out .exit)) ⌝ }
     ensures words { λ r. ⌜ Counts (r .words) (now (words .exit)) ⌝ }
     ensures tells { λ r. ⌜ SheetOrNothing (now (text .entry)) (now (out .exit)) (r .sheet) ⌝ }
 {
     let told = read(text, out);
     match told {
-        Told::Sheet(n) => Printed { sheet: n, words: 0 },
-        Told::Refused(x) => Printed {
+        Told::Sheet(n) => PrintedMap { sheet: n, words: 0 },
+        Told::Refused(x) => PrintedMap {
             sheet: 0,
             words: put_words(x, words),
         },

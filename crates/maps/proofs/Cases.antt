@@ -4,10 +4,11 @@ use mathlib.Core.List.{[], _∷_}
 use mathlib.Core.Path.{_≡_, refl}
 use lib.ListN.{replicate}
 use Rattle.laws.specs.Memory.{part}
+use Rattle.reporting.specs.Words.{shortDecimal}
 use Rattle.floor.specs.declared.Floor.{Floor}
 use Rattle.floor.specs.Checks.{startOf, countOf, docksOf, isDock, among}
 use Rattle.sheet.specs.Text.{linesOf}
-use Rattle.maps.specs.Text.{decimal, oneOf, marksText, rowOf, gridOf}
+use Rattle.maps.specs.Text.{oneOf, marksText, rowOf, gridOf}
 use Rattle.maps.specs.Map.{horizonWords, depthWords, mapHead, startMark, dockMark, startMarks, dockMarks, marksOf, sharedBelow}
 use Rattle.maps.specs.Map.{letterOf}
 use Rattle.maps.specs.Map.{mapMark, letterLine}
@@ -28,7 +29,7 @@ grid =
 
 -- `horizon 14 depth 1`.
 head : mapHead grid ≡ 104 ∷ 111 ∷ 114 ∷ 105 ∷ 122 ∷ 111 ∷ 110 ∷ 32 ∷ 49 ∷ 52 ∷ 32 ∷ 100 ∷ 101 ∷ 112 ∷ 116 ∷ 104 ∷ 32 ∷ 49 ∷ 10 ∷ []
-unfolding mapHead horizonWords depthWords decimal
+unfolding mapHead horizonWords depthWords shortDecimal
 head = refl
 
 -- `A.B` and `.#b`, from the marks of six cells.

@@ -11,6 +11,8 @@ use lib.ListN.{length, take, drop, length-append, length-take}
 use Rattle.laws.specs.Memory.{part}
 use Rattle.laws.specs.Verdict.{passed}
 use Rattle.laws.proofs.VerdictLaws.{then-both}
+use Rattle.reporting.proofs.WordsLaws.{short-within}
+use Rattle.reporting.specs.Words.{shortDecimal}
 use Rattle.floor.specs.declared.Floor.{Floor}
 use Rattle.floor.specs.Checks.{checkOf, placesOf}
 use Rattle.floor.proofs.LimitsLaws.{check-tells}
@@ -19,27 +21,10 @@ use Rattle.sheet.specs.Text.{linesOf}
 use Rattle.printing.proofs.LinesLaws.{lines-within}
 use Rattle.reporting.specs.Put.{PutAt}
 use Rattle.reporting.proofs.ReportLaws.{put-behind}
-use Rattle.maps.specs.Text.{decimal, marksText, rowOf, gridOf}
+use Rattle.maps.specs.Text.{marksText, rowOf, gridOf}
 use Rattle.maps.specs.Map.{horizonWords, depthWords, mapHead, mapRows, marksOf, letterOf, letterLine, mapOf}
 use Rattle.maps.specs.Inner.{Markable}
 use Rattle.maps.proofs.MarkLaws.{cond-there, cond-away, cond-short, marks-short}
-
--- Numbers in digits.
-pub one-digit : (n : ℕ) → n < 10 → decimal n ≡ (48 + n) ∷ []
-unfolding decimal
-one-digit n l = rw (lt-ltb n 10 l)
-
-pub two-digits : (n : ℕ) → 10 ≤ n → decimal n ≡ (48 + n / 10) ∷ (48 + n % 10) ∷ []
-unfolding decimal
-two-digits n l = rw (le-ltb n 10 l)
-
-pub decimal-short : (n : ℕ) → length (decimal n) ≤ 2
-unfolding decimal
-decimal-short n = go (ltb n 10)
-  where
-    go : (x : Bool) → length (cond x ((48 + n) ∷ []) ((48 + n / 10) ∷ (48 + n % 10) ∷ [])) ≤ 2
-    go true = omega arith
-    go false = omega arith
 
 -- A row and the grid.
 module _ (marks : List ℕ) (w : ℕ) where
@@ -75,16 +60,16 @@ marks-length mark n = go n
 
 -- Line 1: five texts, one behind the other.
 pub head-put : (f : Floor) (at a b c d n : ℕ) (old m₁ m₂ m₃ m₄ new : List ℕ) → PutAt horizonWords old at m₁ a →
-    PutAt (decimal (f .horizon)) m₁ a m₂ b → PutAt depthWords m₂ b m₃ c → PutAt (decimal (f .depth)) m₃ c m₄ d →
+    PutAt (shortDecimal (f .horizon)) m₁ a m₂ b → PutAt depthWords m₂ b m₃ c → PutAt (shortDecimal (f .depth)) m₃ c m₄ d →
     PutAt (10 ∷ []) m₄ d new n → at + 20 ≤ length old → PutAt (mapHead f) old at new n
 unfolding mapHead horizonWords depthWords
 head-put f at a b c d n old m₁ m₂ m₃ m₄ new p q r s t l =
-    let h = decimal-short (f .horizon) in
-    let e = decimal-short (f .depth) in
-    let one : PutAt (horizonWords ++ decimal (f .horizon)) old at m₂ b = put-behind p q (omega (arith, p .behind, q .behind)) in
-    let two : PutAt ((horizonWords ++ decimal (f .horizon)) ++ depthWords) old at m₃ c =
+    let h = short-within (f .horizon) in
+    let e = short-within (f .depth) in
+    let one : PutAt (horizonWords ++ shortDecimal (f .horizon)) old at m₂ b = put-behind p q (omega (arith, p .behind, q .behind)) in
+    let two : PutAt ((horizonWords ++ shortDecimal (f .horizon)) ++ depthWords) old at m₃ c =
     put-behind one r (omega (arith, p .behind, q .behind, r .behind)) in
-    let three : PutAt (((horizonWords ++ decimal (f .horizon)) ++ depthWords) ++ decimal (f .depth)) old at m₄ d =
+    let three : PutAt (((horizonWords ++ shortDecimal (f .horizon)) ++ depthWords) ++ shortDecimal (f .depth)) old at m₄ d =
     put-behind two s (omega (arith, p .behind, q .behind, r .behind, s .behind)) in
     put-behind three t (omega (arith, p .behind, q .behind, r .behind, s .behind, t .behind))
 
@@ -93,12 +78,12 @@ unfolding mapHead horizonWords depthWords
 head-short f =
     omega (
       arith,
-      length-append (((horizonWords ++ decimal (f .horizon)) ++ depthWords) ++ decimal (f .depth)) (10 ∷ []),
-      length-append ((horizonWords ++ decimal (f .horizon)) ++ depthWords) (decimal (f .depth)),
-      length-append (horizonWords ++ decimal (f .horizon)) depthWords,
-      length-append horizonWords (decimal (f .horizon)),
-      decimal-short (f .horizon),
-      decimal-short (f .depth),
+      length-append (((horizonWords ++ shortDecimal (f .horizon)) ++ depthWords) ++ shortDecimal (f .depth)) (10 ∷ []),
+      length-append ((horizonWords ++ shortDecimal (f .horizon)) ++ depthWords) (shortDecimal (f .depth)),
+      length-append (horizonWords ++ shortDecimal (f .horizon)) depthWords,
+      length-append horizonWords (shortDecimal (f .horizon)),
+      short-within (f .horizon),
+      short-within (f .depth),
     )
 
 -- The line of a cell that is more than one thing, and that of another.

@@ -5,10 +5,11 @@ use mathlib.Core.Bool.{cond}
 use mathlib.Core.List.{List, [], _∷_, _++_}
 use lib.Dec.{eqb, ltb}
 use lib.ListN.{length}
+use Rattle.reporting.specs.Words.{shortDecimal}
 use Rattle.floor.specs.declared.Floor.{Floor}
 use Rattle.floor.specs.Checks.{startOf, isDock, among}
 use Rattle.sheet.specs.Text.{linesOf}
-use Rattle.maps.specs.Text.{decimal, oneOf, marksText, gridOf}
+use Rattle.maps.specs.Text.{oneOf, marksText, gridOf}
 
 -- `horizon ` and ` depth `, letter by letter.
 unfoldable pub horizonWords : List ℕ
@@ -19,7 +20,7 @@ depthWords = 32 ∷ 100 ∷ 101 ∷ 112 ∷ 116 ∷ 104 ∷ 32 ∷ []
 
 -- Line 1: the horizon and the depth.
 unfoldable pub mapHead : Floor → List ℕ
-mapHead f = (((horizonWords ++ decimal (f .horizon)) ++ depthWords) ++ decimal (f .depth)) ++ (10 ∷ [])
+mapHead f = (((horizonWords ++ shortDecimal (f .horizon)) ++ depthWords) ++ shortDecimal (f .depth)) ++ (10 ∷ [])
 
 -- The digit of carrier i if it starts in cell c; nothing if it does not.
 unfoldable pub startMark : Floor → (c i : ℕ) → List ℕ

@@ -1,4 +1,4 @@
--- Texts that maps and frames share: numbers, the marks of the cells in their order, and rows of marks.
+-- Texts that maps and frames share: the marks of the cells in their order, and rows of marks.
 use Prim.Native.Nat.{ℕ, _+_, _*_, _/_, _%_}
 use mathlib.Core.Bool.{cond}
 use mathlib.Core.List.{List, [], _∷_, _++_}
@@ -6,10 +6,6 @@ use lib.Dec.{eqb, ltb}
 use lib.ListN.{length, getD}
 use Rattle.laws.specs.Memory.{part}
 use Rattle.sheet.specs.Text.{linesOf}
-
--- A number below 100 in decimal digits.
-unfoldable pub decimal : ℕ → List ℕ
-decimal n = cond (ltb n 10) ((48 + n) ∷ []) ((48 + n / 10) ∷ (48 + n % 10) ∷ [])
 
 -- One mark for a list of marks: the only one of it, or a mark for none, or one for several.
 unfoldable pub oneOf : List ℕ → (none several : ℕ) → ℕ

@@ -18,8 +18,8 @@ ghost use Rattle.maps.specs.Inner.{Markable};
 ghost use Rattle.maps.specs.Map.{mapHead, mapMark, mapRows, letterLine, mapOf};
 use floor::Floor;
 use reporting::put_bytes;
+use reporting::put_short_decimal;
 pub use rows::put_grid;
-pub use rows::put_number;
 
 // The cells of the largest floor.
 pub const CELLS: usize = 1024;
@@ -54,9 +54,9 @@ fn put_head(f: Floor, out: &mut [u8], at: usize) -> usize
     ensures { λ r. ⌜ PutAt (mapHead f) (now (out .entry)) at (now (out .exit)) r ⌝ }
 {
     let a = put_bytes(out, at, b"horizon ");
-    let b = put_number(out, a, f.horizon as usize);
+    let b = put_short_decimal(out, a, f.horizon as usize);
     let c = put_bytes(out, b, b" depth ");
-    let d = put_number(out, c, f.depth as usize);
+    let d = put_short_decimal(out, c, f.depth as usize);
     put_bytes(out, d, b"\n")
 }
 

@@ -1,22 +1,11 @@
-// Numbers in decimal digits, and rows of marks.
+// Rows of marks.
 ghost use Prim.Native.Nat.{_+_, _*_, _≤_, _<_};
 ghost use lib.ListN.{length};
 ghost use Rattle.laws.specs.Memory.{part};
 ghost use mathlib.Core.List.{_++_, _∷_, []};
 ghost use Rattle.reporting.specs.Put.{PutAt};
-ghost use Rattle.maps.specs.Text.{decimal, gridOf};
+ghost use Rattle.maps.specs.Text.{gridOf};
 use reporting::put_bytes;
-
-// Puts a number below 100 in decimal digits; the column behind it is returned.
-pub fn put_number(out: &mut [u8], at: usize, n: usize) -> usize
-    requires { ⌜ (n < 100) × (at + 2 ≤ length (now out)) ⌝ }
-    ensures { λ r. ⌜ PutAt (decimal n) (now (out .entry)) at (now (out .exit)) r ⌝ }
-{
-    if n < 10 {
-        return put_bytes(out, at, &[48 + n as u8]);
-    }
-    put_bytes(out, at, &[48 + (n / 10) as u8, 48 + (n % 10) as u8])
-}
 
 // Puts the marks of the w cells from a base on, and a newline; the column behind it is returned.
 fn put_row(marks: &[u8], base: usize, w: usize, out: &mut [u8], at: usize) -> usize

@@ -12,9 +12,11 @@ use Rattle.laws.specs.Verdict.{Verdict, passed, refused, value, demand, _then_}
 use Rattle.laws.proofs.PutLaws.{put-none}
 use Rattle.laws.proofs.Tests.{and-fst, and-snd}
 use Rattle.laws.proofs.VerdictLaws.{then-passed, then-refused, then-both, demand-passes, demand-holds, demand-cases, gives-passed}
+use Rattle.reporting.proofs.WordsLaws.{short-within}
+use Rattle.reporting.specs.Words.{shortDecimal, carrierWords}
 use Rattle.floor.specs.declared.Floor.{Floor}
 use Rattle.floor.specs.declared.Refusal.{Refusal}
-use Rattle.floor.specs.Checks.{checkOf, roomOf, within}
+use Rattle.floor.specs.Checks.{checkOf, longEnough, within}
 use Rattle.floor.proofs.LimitsLaws.{check-tells}
 use Rattle.route.specs.Route.{Answer, none, route, View, unheard}
 use Rattle.route.specs.FirstConflict.{ConflictKind, sameCell, changeOfPlaces, following, ConflictAt, ConflictAnswer, free, dated}
@@ -37,11 +39,11 @@ use Rattle.printing.proofs.PrintLaws.{refusal-length}
 use Rattle.printing.specs.Put.{TextPut}
 use Rattle.reporting.specs.Put.{PutAt}
 use Rattle.reporting.proofs.ReportLaws.{put-behind}
-use Rattle.reporting.proofs.PrintedLaws.{Within}
+use Rattle.reporting.proofs.PrintedLaws.{PrintsWithin}
 use Rattle.drawing.specs.Drawing.{drawnFloor}
 use Rattle.drawing.proofs.DrawnLaws.{drawn-length, drawn-short}
-use Rattle.meeting.specs.Text.{aloneOf, pairVerdict, decimal, numberLine, freeLine}
-use Rattle.meeting.specs.Text.{sameCellWords, changeWords, followingWords, carrierWords}
+use Rattle.meeting.specs.Text.{aloneOf, pairVerdict, numberLine, freeLine}
+use Rattle.meeting.specs.Text.{sameCellWords, changeWords, followingWords}
 use Rattle.meeting.specs.Text.{noRouteWords, conflictLine, noRouteLine, Early, conflictDrawing, answerIf, metText, pairText}
 
 -- Zeros show no view.
@@ -72,10 +74,10 @@ module _ (f : Floor) (ws : List ℕ) (ok : checkOf f ws ≡ passed) where
       ∙ unheard-alone i n k
 
   pub alone-found : (i : ℕ) → demand (within 1 (f .carriers) i) 7 0 ≡ passed → searchOf f ws i (replicate 520 0) ≡ value (aloneOf f ws i)
-  unfolding searchOf requestOf aloneOf viewsOf roomOf
+  unfolding searchOf requestOf aloneOf viewsOf longEnough
   alone-found i there =
-      let room : 65 * f .carriers ≤ length (replicate {A = ℕ} 520 0) = omega (arith, few, length-replicate {A = ℕ} 520 0) in
-      gives-passed (then-passed ok ∙ then-passed (demand-passes 9 0 (le-leb _ _ room)) ∙ there) ∙ ap value (unheard-alone i 520 _)
+      let enough : 65 * f .carriers ≤ length (replicate {A = ℕ} 520 0) = omega (arith, few, length-replicate {A = ℕ} 520 0) in
+      gives-passed (then-passed ok ∙ then-passed (demand-passes 9 0 (le-leb _ _ enough)) ∙ there) ∙ ap value (unheard-alone i 520 _)
 
   -- Two carriers that are there.
   module _ (i j : ℕ) (there : pairVerdict f i j ≡ passed) where
@@ -146,34 +148,18 @@ pub drawing-case : (f : Floor) (ws : List ℕ) (i j : ℕ) (a b : List ℕ) (x v
     → TextPut (conflictDrawing f ws i j a b (conflictTold v)) old new n → TextPut (conflictDrawing f ws i j a b (conflictTold x)) old new n
 drawing-case f ws i j a b x v old new n e p = rw e p
 
--- Numbers in digits, and lines with a number in them.
-pub one-digit : (n : ℕ) → n < 10 → decimal n ≡ (48 + n) ∷ []
-unfolding decimal
-one-digit n l = rw (lt-ltb n 10 l)
-
-pub two-digits : (n : ℕ) → 10 ≤ n → decimal n ≡ (48 + n / 10) ∷ (48 + n % 10) ∷ []
-unfolding decimal
-two-digits n l = rw (le-ltb n 10 l)
-
-pub decimal-short : (n : ℕ) → length (decimal n) ≤ 2
-unfolding decimal
-decimal-short n = go (ltb n 10)
-  where
-    go : (x : Bool) → length (cond x ((48 + n) ∷ []) ((48 + n / 10) ∷ (48 + n % 10) ∷ [])) ≤ 2
-    go true = omega arith
-    go false = omega arith
-
-pub line-put : (words end old m₁ m₂ m₃ : List ℕ) (n at behind next : ℕ) → PutAt words old 0 m₁ at → PutAt (decimal n) m₁ at m₂ behind
+-- Lines with a number in them.
+pub line-put : (words end old m₁ m₂ m₃ : List ℕ) (n at behind next : ℕ) → PutAt words old 0 m₁ at → PutAt (shortDecimal n) m₁ at m₂ behind
     → PutAt end m₂ behind m₃ next → length words + 2 + length end ≤ length old → PutAt (numberLine words n end) old 0 m₃ next
 unfolding numberLine
 line-put words end old m₁ m₂ m₃ n at behind next p q r l =
-    let d = decimal-short n in
+    let d = short-within n in
     put-behind (put-behind p q (omega (arith, p .behind, q .behind))) r (omega (arith, p .behind, q .behind, r .behind))
 
 line-short : (words : List ℕ) (n : ℕ) (end : List ℕ) → length (numberLine words n end) ≤ length words + 2 + length end
 unfolding numberLine
 line-short words n end =
-    omega (arith, length-append (words ++ decimal n) end, length-append words (decimal n), decimal-short n)
+    omega (arith, length-append (words ++ shortDecimal n) end, length-append words (shortDecimal n), short-within n)
 
 pub conflict-short : (x : ConflictAnswer) → length (conflictLine x) ≤ 31
 unfolding conflictLine freeLine sameCellWords changeWords followingWords
@@ -237,8 +223,8 @@ met-put f ws i j a b x old new n l e t =
     rw (← found) t
 
 -- The line ends by column 31.
-pub line-room : (x : ConflictAnswer) (old new : List ℕ) (n : ℕ) → PutAt (conflictLine x) old 0 new n → n ≤ 31
-line-room x old new n p = omega (arith, p .behind, conflict-short x)
+pub line-ends : (x : ConflictAnswer) (old new : List ℕ) (n : ℕ) → PutAt (conflictLine x) old 0 new n → n ≤ 31
+line-ends x old new n p = omega (arith, p .behind, conflict-short x)
 
 -- No text has more than 1,087 bytes.
 module _ (f : Floor) (ws : List ℕ) (ok : checkOf f ws ≡ passed) (i j : ℕ) where
@@ -263,7 +249,7 @@ module _ (f : Floor) (ws : List ℕ) (ok : checkOf f ws ≡ passed) (i j : ℕ) 
       go passed = met-short (aloneOf f ws i) (aloneOf f ws j)
       go (refused k p) = omega (arith, refusal-length k p)
 
-pub pair-within : (i j : ℕ) → Within (λ f ws. pairText f ws i j) 1087
+pub pair-within : (i j : ℕ) → PrintsWithin (λ f ws. pairText f ws i j) 1087
 pair-within i j = record { short = λ f ws ok. pair-short f ws ok i j }
 
 -- The text for two carriers, of which one may not be there.

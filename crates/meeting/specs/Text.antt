@@ -6,6 +6,7 @@ use mathlib.Core.List.{List, [], _∷_, _++_}
 use lib.Dec.{ltb}
 use lib.ListN.{replicate, set}
 use Rattle.laws.specs.Verdict.{Verdict, _then_, demand}
+use Rattle.reporting.specs.Words.{carrierWords, shortDecimal}
 use Rattle.floor.specs.declared.Floor.{Floor}
 use Rattle.floor.specs.Checks.{within}
 use Rattle.route.specs.Route.{cellAt, Answer, none, route}
@@ -26,15 +27,11 @@ aloneOf f ws i = best (taskOf f ws i) []
 unfoldable pub pairVerdict : Floor → (i j : ℕ) → Verdict
 pairVerdict f i j = demand (within 1 (f .carriers) i) 7 0 then demand (within 1 (f .carriers) j) 7 0
 
--- A number below 100 in decimal digits.
-unfoldable pub decimal : ℕ → List ℕ
-decimal n = cond (ltb n 10) ((48 + n) ∷ []) ((48 + n / 10) ∷ (48 + n % 10) ∷ [])
-
 -- Words, a number and words behind it.
 unfoldable pub numberLine : List ℕ → ℕ → List ℕ → List ℕ
-numberLine words n end = (words ++ decimal n) ++ end
+numberLine words n end = (words ++ shortDecimal n) ++ end
 
--- `free`, `same cell at beat `, `change of places after beat `, `following after beat `, `carrier ` and ` has no route`, letter by letter,
+-- `free`, `same cell at beat `, `change of places after beat `, `following after beat ` and ` has no route`, letter by letter,
 -- with a newline at a line's end.
 unfoldable pub freeLine : List ℕ
 freeLine = 102 ∷ 114 ∷ 101 ∷ 101 ∷ 10 ∷ []
@@ -50,9 +47,6 @@ changeWords =
 unfoldable pub followingWords : List ℕ
 followingWords =
     102 ∷ 111 ∷ 108 ∷ 108 ∷ 111 ∷ 119 ∷ 105 ∷ 110 ∷ 103 ∷ 32 ∷ 97 ∷ 102 ∷ 116 ∷ 101 ∷ 114 ∷ 32 ∷ 98 ∷ 101 ∷ 97 ∷ 116 ∷ 32 ∷ []
-
-unfoldable pub carrierWords : List ℕ
-carrierWords = 99 ∷ 97 ∷ 114 ∷ 114 ∷ 105 ∷ 101 ∷ 114 ∷ 32 ∷ []
 
 unfoldable pub noRouteWords : List ℕ
 noRouteWords = 32 ∷ 104 ∷ 97 ∷ 115 ∷ 32 ∷ 110 ∷ 111 ∷ 32 ∷ 114 ∷ 111 ∷ 117 ∷ 116 ∷ 101 ∷ 10 ∷ []

@@ -14,13 +14,14 @@ ghost use Rattle.search.specs.Answers.{Says, outcomeOf};
 ghost use Rattle.printing.specs.Put.{TextPut};
 ghost use Rattle.reporting.specs.Put.{PutAt};
 ghost use Rattle.drawing.specs.Drawing.{drawnFloor};
-ghost use Rattle.meeting.specs.Text.{aloneOf, pairVerdict, decimal, numberLine, conflictLine, noRouteLine};
+ghost use Rattle.meeting.specs.Text.{aloneOf, pairVerdict, numberLine, conflictLine, noRouteLine};
 ghost use Rattle.meeting.specs.Text.{answerIf, twoPlaces, conflictDrawing, metText, pairText, meetingText, Early};
 use drawing::Places;
 use floor::Checked;
 use floor::Floor;
 use floor::Refusal;
 use reporting::put_bytes;
+use reporting::put_short_decimal;
 use route::FirstConflict;
 use route::Route;
 use search::Found;
@@ -48,24 +49,13 @@ fn alone(f: Floor, walls: &[u16], i: u16) -> Found
     search::search(f, walls, i, &records::blank())
 }
 
-// Puts a number below 100 in decimal digits; the column behind it is returned.
-fn put_number(out: &mut [u8], at: usize, n: usize) -> usize
-    requires { ⌜ (n < 100) × (at + 2 ≤ length (now out)) ⌝ }
-    ensures { λ r. ⌜ PutAt (decimal n) (now (out .entry)) at (now (out .exit)) r ⌝ }
-{
-    if n < 10 {
-        return put_bytes(out, at, &[48 + n as u8]);
-    }
-    put_bytes(out, at, &[48 + (n / 10) as u8, 48 + (n % 10) as u8])
-}
-
 // Puts words, a number and words behind it in front of a memory; the length of all is returned.
 fn put_line(words: &[u8], n: usize, end: &[u8], out: &mut [u8]) -> usize
     requires { ⌜ (n < 100) × (length (now words) + 2 + length (now end) ≤ length (now out)) ⌝ }
     ensures { λ r. ⌜ PutAt (numberLine (now (words .entry)) n (now (end .entry))) (now (out .entry)) 0 (now (out .exit)) r ⌝ }
 {
     let at = put_bytes(out, 0, words);
-    let behind = put_number(out, at, n);
+    let behind = put_short_decimal(out, at, n);
     put_bytes(out, behind, end)
 }
 

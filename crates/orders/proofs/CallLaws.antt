@@ -17,7 +17,7 @@ use Rattle.reference.proofs.OpenLaws.{open-ready}
 use Rattle.reference.proofs.ReachLaws.{after-passed}
 use Rattle.orders.specs.Orders.{Order, remembered}
 use Rattle.orders.specs.Trial.{Entry, stepsIn}
-use Rattle.orders.specs.Rules.{ByRule}
+use Rattle.orders.specs.Rules.{FollowsOrder}
 use Rattle.orders.specs.Claims.{callsOf, repliesOf}
 
 module _ (M : Machine) (lent : ℕ) (l : M .needed ≤ lent) where
@@ -37,16 +37,17 @@ module _ (M : Machine) (lent : ℕ) (l : M .needed ≤ lent) where
   single-after s x e = after-passed M s (single lent (step x)) (single-passes s x e)
 
   module _ (o : Order) where
-    pub calls-reply : (c : ℕ) (s : State) (es : List Entry) → ByRule o M c s es → replies M s (callsOf lent es) ≡ repliesOf es
-    unfolding ByRule replies callsOf repliesOf
+    pub calls-reply : (c : ℕ) (s : State) (es : List Entry) → FollowsOrder o M c s es → replies M s (callsOf lent es) ≡ repliesOf es
+    unfolding FollowsOrder replies callsOf repliesOf
     calls-reply c s [] h = refl
     calls-reply c s (e ∷ es) h =
         rw (single-reply s (e .taken) (h .1 .isOpen), single-after s (e .taken) (h .1 .isOpen), ← h .1 .answer)
         (ap (λ (rs : List Reply). value (stepped (e .answer)) ∷ rs)
         (calls-reply (remembered o c (h .0)) (afterStep M s (e .taken)) es (h .2)))
 
-    pub calls-lead : (c : ℕ) (s : State) (es : List Entry) → ByRule o M c s es → after M s (callsOf lent es) ≡ afterSteps M s (stepsIn es)
-    unfolding ByRule after callsOf afterSteps stepsIn
+    pub calls-lead : (c : ℕ) (s : State) (es : List Entry) → FollowsOrder o M c s es
+        → after M s (callsOf lent es) ≡ afterSteps M s (stepsIn es)
+    unfolding FollowsOrder after callsOf afterSteps stepsIn
     calls-lead c s [] h = refl
     calls-lead c s (e ∷ es) h =
         ap (λ (z : State). after M z (callsOf lent es)) (single-after s (e .taken) (h .1 .isOpen))

@@ -6,7 +6,7 @@ use Rattle.laws.specs.Verdict.{passes, demand, _then_, inTurn, demandEach}
 use Rattle.route.specs.Route.{none}
 use Rattle.reference.specs.Ranges.{below, joined, update, updatePair}
 use Rattle.reference.specs.State.{Machine, fresh, views, tick}
-use Rattle.reference.specs.Step.{Step, plan, deliver, isThere, hasRoom, isEmpty, waitsFor, isOpen, sameCells, sameAnswer}
+use Rattle.reference.specs.Step.{Step, plan, deliver, isThere, hasCapacity, isEmpty, waitsFor, isOpen, sameCells, sameAnswer}
 use Rattle.reference.specs.Take.{isNews, send, planAs, oldest, newer, deliverTo, effect, counted, afterStep}
 use Rattle.reference.specs.Take.{StepAnswer, kept, sent, delivered, stepAnswer}
 use Rattle.reference.specs.Ranking.{deliveriesFrom, ranking, noneOpen, isSilent}
@@ -43,7 +43,7 @@ abbrev answers : Order → ℕ → ℕ → List StepAnswer
 answers o n seed = map (λ (e : Entry). e .answer) (trial o (idler n) seed .report)
 
 -- Trials of two and three carriers.
-record Trials : Type 0 where
+record TrialCases : Type 0 where
   -- Order 1 lets carrier 3 plan again between the deliveries to it; order 2 goes on to the next delivery.
   first-of-three : steps first 3 0 ≡
       (plan 0 ∷ plan 1 ∷ plan 2 ∷ deliver 0 1 ∷ deliver 0 2 ∷ plan 2 ∷ deliver 1 2 ∷ plan 1 ∷ plan 2 ∷ [])
@@ -53,9 +53,9 @@ record Trials : Type 0 where
   drawn-even : steps drawn 2 0 ≡ (plan 0 ∷ plan 1 ∷ deliver 0 1 ∷ plan 1 ∷ [])
   told : answers round 3 0 ≡ (sent ∷ sent ∷ sent ∷ delivered ∷ delivered ∷ delivered ∷ kept ∷ kept ∷ [])
 
-trials : Trials
+trials : TrialCases
 unfolding
-    passes demand _then_ inTurn demandEach below joined update updatePair fresh views tick isThere hasRoom isEmpty waitsFor isOpen
+    passes demand _then_ inTurn demandEach below joined update updatePair fresh views tick isThere hasCapacity isEmpty waitsFor isOpen
     sameCells sameAnswer isNews send planAs oldest newer deliverTo effect counted afterStep stepAnswer
     deliveriesFrom ranking noneOpen isSilent ceiling nextNumber drawnBy
     places stepAt openAt passing openPlaces turn chosen startMemory remembered nextStep entryOf reported tryFrom trial stepsIn

@@ -107,14 +107,14 @@ module _ (n : ℕ) where
       )
 
 -- A place of the ranking with its step.
-abbrev pub PlaceOf : ℕ → Step → Type 0
-PlaceOf n x = (p : ℕ) × (p < places n) × (stepAt n p ≡ x)
+abbrev pub RankedPlace : ℕ → Step → Type 0
+RankedPlace n x = (p : ℕ) × (p < places n) × (stepAt n p ≡ x)
 
 module _ (M : Machine) where
   abbrev n : ℕ
   n = M .carriers
 
-  pub there-place : (x : Step) → isThere M x ≡ true → PlaceOf n x
+  pub there-place : (x : Step) → isThere M x ≡ true → RankedPlace n x
   unfolding isThere
   there-place (plan i) e =
       let l : i < n = ltb-true i n e in (i, omega (arith, places-split n), plan-at n i l)
@@ -142,5 +142,5 @@ module _ (M : Machine) where
           let here : p ≡ n + deliveriesBefore n (r .0) + r .1 = omega (arith, r .4) in
           rw (here, deliver-at n (r .0) (r .1) (r .2) short .1) (delivery (r .0) (r .1) (r .2) short)
 
-  pub ranking-lists : (x : Step) → (isThere M x ≡ true) ↔ PlaceOf n x
+  pub ranking-lists : (x : Step) → (isThere M x ≡ true) ↔ RankedPlace n x
   ranking-lists x = (there-place x, λ r. rw (r .2) at (at-there (r .0) (r .1)))

@@ -14,7 +14,7 @@ use Rattle.reference.specs.Take.{afterStep}
 use Rattle.reference.specs.History.{afterSteps}
 use Rattle.orders.specs.Orders.{round, places, stepAt, openAt, remembered}
 use Rattle.orders.specs.Trial.{Entry, stepsIn}
-use Rattle.orders.specs.Rules.{FirstRound, onward, around, Rule, ByRule, PassedOver}
+use Rattle.orders.specs.Rules.{FirstRound, onward, around, MayTake, FollowsOrder, PassedOver}
 use Rattle.orders.proofs.PlaceLaws.{places-split}
 use Rattle.orders.proofs.RuleLaws.{open-place}
 
@@ -76,9 +76,10 @@ module _ (M : Machine) where
     abbrev x : Step
     x = stepAt (M .carriers) q
 
-    stretch : (c : ℕ) (s : State) (es : List Entry) (ys zs : List Step) (d : ℕ) → c ≤ k → ByRule round M c s es → stepsIn es ≡ ys ++ zs →
+    stretch : (c : ℕ) (s : State) (es : List Entry) (ys zs : List Step) (d : ℕ) → c ≤ k → FollowsOrder round M c s es →
+        stepsIn es ≡ ys ++ zs →
         PassedOver M x s ys → Way k c q d → length ys ≤ d
-    unfolding ByRule PassedOver Rule remembered openAt
+    unfolding FollowsOrder PassedOver MayTake remembered openAt
     stretch c s es [] zs d l h e over way = omega arith
     stretch c s [] (y ∷ ys) zs d l h e over way = steps-none y (ys ++ zs) e
     stretch c s (a ∷ es) (y ∷ ys) zs d l h e over way =
@@ -97,12 +98,12 @@ module _ (M : Machine) where
     memory : ℕ
     entries : List Entry
     fits : memory ≤ k
-    by-rule : ByRule round M memory s entries
+    by-rule : FollowsOrder round M memory s entries
     steps : stepsIn entries ≡ rest
 
-  later : (c : ℕ) (s : State) (es : List Entry) (xs rest : List Step) → c ≤ k → ByRule round M c s es → stepsIn es ≡ xs ++ rest →
+  later : (c : ℕ) (s : State) (es : List Entry) (xs rest : List Step) → c ≤ k → FollowsOrder round M c s es → stepsIn es ≡ xs ++ rest →
       From (afterSteps M s xs) rest
-  unfolding ByRule afterSteps remembered
+  unfolding FollowsOrder afterSteps remembered
   later c s es [] rest l h e = record { memory = c; entries = es; fits = l; by-rule = h; steps = e }
   later c s [] (y ∷ xs) rest l h e = steps-none y (xs ++ rest) e
   later c s (a ∷ es) (y ∷ xs) rest l h e =
@@ -110,7 +111,7 @@ module _ (M : Machine) where
       rw (← same .0) (later (suc (h .0)) (afterStep M s (a .taken)) es xs rest (h .1 .listed) (h .2) (same .1))
 
   pub round-fair : (c : ℕ) (s : State) (es : List Entry) (x : Step) (xs ys zs : List Step) → 1 ≤ M .carriers → c ≤ k →
-      ByRule round M c s es →
+      FollowsOrder round M c s es →
       stepsIn es ≡ xs ++ (ys ++ zs) → PassedOver M x (afterSteps M s xs) ys → length ys < k
   unfolding PassedOver
   round-fair c s es x xs [] zs n l h e over = omega (arith, places-split (M .carriers))

@@ -15,7 +15,7 @@ use Rattle.reference.specs.Ranking.{isSilent}
 use Rattle.reference.proofs.RankingLaws.{silent-shut, some-open}
 use Rattle.orders.specs.Generator.{drawnBy}
 use Rattle.orders.specs.Orders.{Order, first, round, drawn, places, stepAt, openAt, passing, openPlaces, turn, chosen, remembered}
-use Rattle.orders.specs.Rules.{FirstRound, onward, around, Rule}
+use Rattle.orders.specs.Rules.{FirstRound, onward, around, MayTake}
 use Rattle.orders.proofs.PlaceLaws.{there-place}
 use Rattle.orders.proofs.PassingLaws.{count, count-none, count-mono, passing-at, ItemAt, passing-item, none-between}
 
@@ -29,7 +29,7 @@ Memory drawn M c = Unit {0}
 pub record Takes (o : Order) (M : Machine) (s : State) (c p : ℕ) : Type 0 where
   pub listed : p < places (M .carriers)
   pub opened : openAt M s p ≡ true
-  pub rule : Rule o M s c p
+  pub rule : MayTake o M s c p
   pub next : Memory o M (remembered o c p)
 
 module _ (M : Machine) (s : State) where
@@ -121,7 +121,7 @@ module _ (M : Machine) (s : State) where
   drawn-rule c = refl
 
   pub chosen-takes : (o : Order) (c : ℕ) → Memory o M c → 0 < count opens n → Takes o M s c (chosen o M s c)
-  unfolding Memory Rule turn remembered
+  unfolding Memory MayTake turn remembered
   chosen-takes first c h l =
       let r = chosen-item first c l in
       record { listed = r .listed; opened = r .passes; rule = first-rule _ (rw (mod-eq-of-lt l) at r); next = tt }

@@ -10,14 +10,14 @@ use Rattle.laws.proofs.Tests.{true-or-false}
 use Rattle.reference.specs.State.{Machine, State, fresh}
 use Rattle.reference.specs.Take.{afterStep}
 use Rattle.reference.specs.Ranking.{isSilent}
-use Rattle.reference.specs.History.{Reaches, stay, next, afterSteps}
+use Rattle.reference.specs.History.{Reachable, stay, next, afterSteps}
 use Rattle.reference.specs.Quiescent.{ceiling}
 use Rattle.reference.proofs.RankingLaws.{some-open}
 use Rattle.reference.proofs.Potential.{fresh-potential}
 use Rattle.reference.proofs.CeilingLaws.{step-lowers, reaches-lowers}
 use Rattle.orders.specs.Orders.{Order, openAt, chosen, startMemory, remembered, first, round, drawn}
 use Rattle.orders.specs.Trial.{TrialResult, nextStep, entryOf, reported, tryFrom, trial, stepsIn}
-use Rattle.orders.specs.Rules.{ByRule}
+use Rattle.orders.specs.Rules.{FollowsOrder}
 use Rattle.orders.proofs.RuleLaws.{Memory, Takes, some-place, chosen-takes}
 
 -- A trial that takes no step.
@@ -63,17 +63,17 @@ module _ (o : Order) (M : Machine) where
             let r = chosen-takes M s o c h (some-place M s e) in rw (try-step c s b e) (more c s b _ r (k (r .next)))
 
   -- What holds of a trial of at most b steps.
-  pub record Holds (c : ℕ) (s : State) (b : ℕ) (t : TrialResult) : Type 0 where
-    pub by-rule : ByRule o M c s (t .report)
+  pub record TrialHolds (c : ℕ) (s : State) (b : ℕ) (t : TrialResult) : Type 0 where
+    pub by-rule : FollowsOrder o M c s (t .report)
     pub leads : t .state ≡ afterSteps M s (stepsIn (t .report))
     pub within : length (t .report) ≤ b
-    pub reaches : Reaches M s (t .state) (length (t .report))
+    pub reaches : Reachable M s (t .state) (length (t .report))
     pub stops : (length (t .report) ≡ b) ⊎ (isSilent M (t .state) ≡ true)
 
-  pub try-holds : (c : ℕ) (s : State) (b : ℕ) → Memory o M c → Holds c s b (tryFrom o M c s b)
-  unfolding ByRule afterSteps stepsIn reported entryOf nextStep openAt
+  pub try-holds : (c : ℕ) (s : State) (b : ℕ) → Memory o M c → TrialHolds c s b (tryFrom o M c s b)
+  unfolding FollowsOrder afterSteps stepsIn reported entryOf nextStep openAt
   try-holds =
-      try-induction Holds (λ c s. record { by-rule = tt; leads = refl; within = omega arith; reaches = stay; stops = inl refl })
+      try-induction TrialHolds (λ c s. record { by-rule = tt; leads = refl; within = omega arith; reaches = stay; stops = inl refl })
       (λ c s b e. record { by-rule = tt; leads = refl; within = omega arith; reaches = stay; stops = inr e }) more
     where
       stops-more : (b k : ℕ) (q : Bool) → (k ≡ b) ⊎ (q ≡ true) → (suc k ≡ suc b) ⊎ (q ≡ true)
@@ -81,8 +81,8 @@ module _ (o : Order) (M : Machine) where
       stops-more b k q (inr e) = inr e
 
       more : (c : ℕ) (s : State) (b : ℕ) (t : TrialResult) → Takes o M s c (chosen o M s c) →
-          Holds (remembered o c (chosen o M s c)) (afterStep M s (nextStep o M s c)) b t →
-          Holds c s (suc b) (reported (entryOf M s (nextStep o M s c)) t)
+          TrialHolds (remembered o c (chosen o M s c)) (afterStep M s (nextStep o M s c)) b t →
+          TrialHolds c s (suc b) (reported (entryOf M s (nextStep o M s c)) t)
       more c s b t r h =
           record {
             by-rule = (
@@ -96,7 +96,7 @@ module _ (o : Order) (M : Machine) where
             stops = stops-more b (length (t .report)) (isSilent M (t .state)) (h .stops);
           }
 
-  pub trial-holds : (seed : ℕ) → Holds (startMemory o seed) fresh (ceiling (M .carriers)) (trial o M seed)
+  pub trial-holds : (seed : ℕ) → TrialHolds (startMemory o seed) fresh (ceiling (M .carriers)) (trial o M seed)
   unfolding trial
   trial-holds seed = try-holds (startMemory o seed) fresh (ceiling (M .carriers)) (start-memory o M seed)
 
@@ -108,7 +108,7 @@ module _ (o : Order) (M : Machine) where
       z : State
       z = trial o M seed .state
 
-      h : Holds (startMemory o seed) fresh (ceiling (M .carriers)) (trial o M seed)
+      h : TrialHolds (startMemory o seed) fresh (ceiling (M .carriers)) (trial o M seed)
       h = trial-holds seed
 
       full : length (trial o M seed .report) ≡ ceiling (M .carriers) → isSilent M z ≡ true

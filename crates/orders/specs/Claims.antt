@@ -18,7 +18,7 @@ use Rattle.reference.specs.Quiescent.{ceiling}
 use Rattle.orders.specs.Generator.{nextNumber, drawnBy}
 use Rattle.orders.specs.Orders.{Order, round, places, stepAt, openAt, openPlaces, startMemory}
 use Rattle.orders.specs.Trial.{Entry, trial, stepsIn}
-use Rattle.orders.specs.Rules.{ByRule, PassedOver}
+use Rattle.orders.specs.Rules.{FollowsOrder, PassedOver}
 
 -- The calls that take the steps of a report one by one, and the answers that a report tells.
 unfoldable pub callsOf : ℕ → List Entry → List Call
@@ -41,7 +41,7 @@ pub record Claims : Type 0 where
   pub number-fits : (x : ℕ) → nextNumber x < 4294967296
   pub drawn-fits : (x : ℕ) → drawnBy x < 65536
   -- Every reported step was open when it was taken, and is the one that the order's rule takes.
-  pub by-rule : (o : Order) (M : Machine) (seed : ℕ) → ByRule o M (startMemory o seed) fresh (trial o M seed .report)
+  pub by-rule : (o : Order) (M : Machine) (seed : ℕ) → FollowsOrder o M (startMemory o seed) fresh (trial o M seed .report)
   -- The state is the one after the reported steps.
   pub leads : (o : Order) (M : Machine) (seed : ℕ) → trial o M seed .state ≡ afterSteps M fresh (stepsIn (trial o M seed .report))
   -- The trial ends silent, after at most the ceiling's number of steps.

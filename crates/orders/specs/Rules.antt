@@ -23,23 +23,23 @@ pub data FirstRound (M : Machine) (s : State) (c p : ℕ) : Type 0 where
 
 -- An order that remembers c may take place p. Order 1: the first open one. Order 2: the first open one going round. Order 3: with m
 -- open ones, the one at the drawn number modulo m.
-unfoldable pub Rule : Order → Machine → State → ℕ → ℕ → Type 0
-Rule first M s c p = ShutFrom M s 0 p
-Rule round M s c p = FirstRound M s c p
-Rule drawn M s c p = p ≡ getD (openPlaces M s) (drawnBy c % length (openPlaces M s)) 0
+unfoldable pub MayTake : Order → Machine → State → ℕ → ℕ → Type 0
+MayTake first M s c p = ShutFrom M s 0 p
+MayTake round M s c p = FirstRound M s c p
+MayTake drawn M s c p = p ≡ getD (openPlaces M s) (drawnBy c % length (openPlaces M s)) 0
 
 -- A line of the report is that of a step, open when it was taken, at a place that the order may take; with the machine's answer.
 pub record TakenBy (o : Order) (M : Machine) (c : ℕ) (s : State) (e : Entry) (p : ℕ) : Type 0 where
   pub listed : p < places (M .carriers)
   pub step : e .taken ≡ stepAt (M .carriers) p
   pub isOpen : isOpen M s (e .taken) ≡ true
-  pub rule : Rule o M s c p
+  pub rule : MayTake o M s c p
   pub answer : e .answer ≡ stepAnswer M s (e .taken)
 
 -- From state s on, each line of a report is that of a step that the order takes, which remembers c at first.
-unfoldable pub ByRule : Order → Machine → ℕ → State → List Entry → Type 0
-ByRule o M c s [] = Unit {0}
-ByRule o M c s (e ∷ es) = (p : ℕ) × TakenBy o M c s e p × ByRule o M (remembered o c p) (afterStep M s (e .taken)) es
+unfoldable pub FollowsOrder : Order → Machine → ℕ → State → List Entry → Type 0
+FollowsOrder o M c s [] = Unit {0}
+FollowsOrder o M c s (e ∷ es) = (p : ℕ) × TakenBy o M c s e p × FollowsOrder o M (remembered o c p) (afterStep M s (e .taken)) es
 
 -- From state s on, step x is open each time that a step of the list is taken, and is not taken itself.
 unfoldable pub PassedOver : Machine → Step → State → List Step → Type 0

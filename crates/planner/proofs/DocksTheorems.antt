@@ -12,7 +12,7 @@ use Rattle.laws.specs.Verdict.{passed, value}
 use Rattle.floor.specs.declared.Floor.{Floor}
 use Rattle.floor.specs.Checks.{checkOf, isDock}
 use Rattle.floor.specs.Accepted.{SameDocks}
-use Rattle.floor.specs.OneDock.{Earlier, earlierCheck, withOneDock}
+use Rattle.floor.specs.OneDock.{OneDockFloor, earlierCheck, withOneDock}
 use Rattle.floor.proofs.LimitsLaws.{check-tells}
 use Rattle.floor.proofs.OneDockLaws.{one-is-dock}
 use Rattle.floor.proofs.Theorems.{theorems as floor-theorems}
@@ -76,7 +76,7 @@ module _ (f : Floor) (ws : List ℕ) (ok : checkOf f ws ≡ passed) (k : ℕ) (v
       route-theorems .earliest-alone (taskOf f ws (k + 1)) (seen f vs) r q d short e (task-docks f ws k d ∙ h) g
 
 -- Document 01's floor with its goals as docks.
-module _ (e : Earlier) (ws : List ℕ) (ok : earlierCheck e ws ≡ passed) where
+module _ (e : OneDockFloor) (ws : List ℕ) (ok : earlierCheck e ws ≡ passed) where
   accepted : checkOf (withOneDock e) ws ≡ passed
   accepted = floor-theorems .earlier-accepted e ws ok
 

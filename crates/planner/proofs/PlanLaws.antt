@@ -17,7 +17,7 @@ use Rattle.search.specs.Task.{taskOf, taskOfRows}
 use Rattle.laws.specs.Memory.{put}
 use Rattle.laws.proofs.PutLaws.{put-none, put-length, put-next}
 use Rattle.planner.specs.Plan.{respondOf, respondWith}
-use Rattle.planner.specs.Records.{answered}
+use Rattle.planner.specs.Records.{withAnswer}
 use Rattle.records.proofs.RecordLaws.{Whole, none-whole, route-whole, records-snoc, views-above, plan-length, views-are}
 use Rattle.records.proofs.SeenLaws.{put-records}
 
@@ -83,17 +83,17 @@ module _ (f : Floor) (rows : List ℕ) (i : ℕ) (m q m′ : List ℕ) (short : 
   shown-response = ap (best (taskOfRows f rows (i + 1))) (views-above q i ∙ shows)
 
   pub shown-stored : (r : List ℕ) → r ≡ recordOf (best (taskOfRows f rows (i + 1)) (viewsOf q (i + 1))) → m′ ≡ put m (65 * i) r →
-      m′ ≡ answered f rows i m
-  unfolding answered
+      m′ ≡ withAnswer f rows i m
+  unfolding withAnswer
   shown-stored r e g = g ∙ ap (put m (65 * i)) (e ∙ ap recordOf shown-response)
 
-  module _ (e : m′ ≡ answered f rows i m) where
+  module _ (e : m′ ≡ withAnswer f rows i m) where
     pub still-long : length m′ ≡ length m
-    unfolding answered
+    unfolding withAnswer
     still-long = ap length e ∙ put-length m _ (65 * i) (omega (arith, whole f rows short i (records m i)))
 
     pub still-shows : records q i ≡ seen f (records m′ i)
-    unfolding answered
+    unfolding withAnswer
     still-shows =
         shows
         ∙ ap (seen f) (sym (ap (λ (b : List ℕ). records b i) e ∙ put-records m _ i (omega (arith, whole f rows short i (records m i)))))

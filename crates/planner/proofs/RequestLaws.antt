@@ -8,7 +8,7 @@ use Rattle.floor.specs.declared.Floor.{Floor}
 use Rattle.laws.specs.Verdict.{passed}
 use Rattle.floor.specs.Accepted.{Accepted}
 use Rattle.laws.proofs.VerdictLaws.{then-both}
-use Rattle.floor.proofs.LimitsLaws.{Bounds, limited-bounds, room-passed}
+use Rattle.floor.proofs.LimitsLaws.{Bounds, limited-bounds, length-passed}
 use Rattle.floor.proofs.Theorems.{theorems}
 use Rattle.route.specs.Route.{Answer, View, heard}
 use Rattle.route.specs.Sequential.{sequential}
@@ -29,7 +29,7 @@ unfolding planVerdict
 plan-granted f ws room h =
     let a = then-both _ _ h in
     let ok = theorems .passes-exactly f ws .0 (a .0) in
-    record { accepted = ok; bounds = limited-bounds f (ok .limited); enough = room-passed _ _ (a .1) }
+    record { accepted = ok; bounds = limited-bounds f (ok .limited); enough = length-passed _ _ (a .1) }
 
 -- Every carrier of an accepted floor can be planned with its free rows.
 pub plannable : (f : Floor) (ws rows m : List ℕ) → PlanGranted f ws (length m) → FreeRows f ws rows → Plannable f rows m

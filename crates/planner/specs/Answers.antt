@@ -10,9 +10,9 @@ use Rattle.planner.specs.declared.Planned.the-variants.{Failing, Refused
 use Rattle.planner.specs.Plan.{planOf, failingOf, planVerdict}
 
 -- What each case of the code's answer says: the failing carrier of the plan that was made, or the refusal.
-unfoldable pub resultOf : Planned → Outcome ℕ
-resultOf (Failing i) = value i
-resultOf (Refused r) = refusal (r .number) (r .place)
+unfoldable pub plannedOutcome : Planned → Outcome ℕ
+plannedOutcome (Failing i) = value i
+plannedOutcome (Refused r) = refusal (r .number) (r .place)
 
 -- What planning a floor answers, with room for so many numbers: the failing carrier.
 unfoldable pub planResult : Floor → List ℕ → ℕ → Outcome ℕ

@@ -10,7 +10,7 @@ use Rattle.laws.specs.Verdict.{passed, value}
 use Rattle.floor.specs.declared.Floor.{Floor}
 use Rattle.floor.specs.Checks.{checkOf, isDock}
 use Rattle.floor.specs.Accepted.{SameDocks}
-use Rattle.floor.specs.OneDock.{Earlier, earlierCheck, withOneDock}
+use Rattle.floor.specs.OneDock.{OneDockFloor, earlierCheck, withOneDock}
 use Rattle.route.specs.Route.{cellAt, Answer, none, route, View, heard}
 use Rattle.route.specs.Search.{best}
 use Rattle.route.specs.Arrival.{arrivalOf}
@@ -25,7 +25,7 @@ use Rattle.planner.specs.Claims.{answerAt}
 
 -- Prioritized planning on document 01's floor, by its letter: each carrier in turn has the best answer to its one goal against the answers
 -- above it, one with none staying at its start.
-pub record PrioritizedTo (e : Earlier) (ws : List ℕ) (xs : List Answer) : Type 0 where
+pub record PrioritizedTo (e : OneDockFloor) (ws : List ℕ) (xs : List Answer) : Type 0 where
   pub every : length xs ≡ e .carriers
   pub best : (k : ℕ) → k < e .carriers →
       BestTo (getD (e .goals) k 0) (taskOf (withOneDock e) ws (k + 1)) (seen (withOneDock e) (map heard (take k xs))) (answerAt xs k)
@@ -33,16 +33,18 @@ pub record PrioritizedTo (e : Earlier) (ws : List ℕ) (xs : List Answer) : Type
 pub record DocksClaims : Type 0 where
   -- On every floor that document 01 accepts, with its goal as the one dock of a carrier, the plan is what document 01 gives with a goal,
   -- and nothing else is.
-  pub earlier-plan : (e : Earlier) (ws : List ℕ) (xs : List Answer) → earlierCheck e ws ≡ passed →
+  pub earlier-plan : (e : OneDockFloor) (ws : List ℕ) (xs : List Answer) → earlierCheck e ws ≡ passed →
       PrioritizedTo e ws xs ↔ (xs ≡ planOf (withOneDock e) ws)
   -- So is every response, to any views; the machine, trials, listed runs and blockers know the search only by its responses.
-  pub earlier-response : (e : Earlier) (ws : List ℕ) (i : ℕ) (vs : List View) (x : Answer) → earlierCheck e ws ≡ passed → i < e .carriers →
+  pub earlier-response : (e : OneDockFloor) (ws : List ℕ) (i : ℕ) (vs : List View) (x : Answer) → earlierCheck e ws ≡ passed →
+      i < e .carriers →
       BestTo (getD (e .goals) i 0) (taskOf (withOneDock e) ws (i + 1)) (seen (withOneDock e) vs) x ↔ (x ≡ respondOf (withOneDock e) ws i vs)
   -- So is every search, to the views that its memory shows, and the arrival of a route that is answered is document 01's.
-  pub earlier-search : (e : Earlier) (ws : List ℕ) (i : ℕ) (m : List ℕ) (x : Answer) → earlierCheck e ws ≡ passed →
+  pub earlier-search : (e : OneDockFloor) (ws : List ℕ) (i : ℕ) (m : List ℕ) (x : Answer) → earlierCheck e ws ≡ passed →
       searchOf (withOneDock e) ws i m ≡ value x →
       BestTo (getD (e .goals) (i - 1) 0) (taskOf (withOneDock e) ws i) (seen (withOneDock e) (viewsOf m i)) x
-  pub earlier-arrival : (e : Earlier) (ws : List ℕ) (i : ℕ) (vs : List View) (r : List ℕ) → earlierCheck e ws ≡ passed → i < e .carriers →
+  pub earlier-arrival : (e : OneDockFloor) (ws : List ℕ) (i : ℕ) (vs : List View) (r : List ℕ) → earlierCheck e ws ≡ passed →
+      i < e .carriers →
       respondOf (withOneDock e) ws i vs ≡ route r → ArrivesAt (getD (e .goals) i 0) (e .horizon) r (arrivalOf r (e .horizon))
   -- The order of a carrier's docks changes no plan, no response to views of carriers that are there, and no search.
   pub order-plan : (f g : Floor) (ws : List ℕ) → SameDocks f g → planOf f ws ≡ planOf g ws

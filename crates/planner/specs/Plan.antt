@@ -4,7 +4,7 @@ use Prim.Native.Nat.{ℕ, suc, _+_, _*_}
 use mathlib.Core.List.{List, [], _∷_}
 use Rattle.floor.specs.declared.Floor.{Floor}
 use Rattle.laws.specs.Verdict.{Verdict, _then_}
-use Rattle.floor.specs.Checks.{checkOf, roomOf}
+use Rattle.floor.specs.Checks.{checkOf, longEnough}
 use Rattle.route.specs.Route.{Answer, none, route, View}
 use Rattle.route.specs.Search.{best}
 use Rattle.route.specs.Sequential.{sequential}
@@ -35,4 +35,4 @@ failingOf xs = failingFrom 1 xs
 
 -- The refusals of a plan: the floor's, then 9 if fewer than 65 numbers a carrier are lent for the answers.
 unfoldable pub planVerdict : Floor → List ℕ → ℕ → Verdict
-planVerdict f ws room = checkOf f ws then roomOf (65 * f .carriers) room
+planVerdict f ws room = checkOf f ws then longEnough (65 * f .carriers) room

@@ -13,8 +13,8 @@ use Rattle.records.specs.Records.{records, recordOf, stored}
 use Rattle.planner.specs.Plan.{respondWith, planOf, planVerdict}
 
 -- The memory with the best response of carrier i, counted from 0, stored behind the answers above it, which it shows.
-unfoldable pub answered : Floor → List ℕ → ℕ → List ℕ → List ℕ
-answered f rows i m = put m (65 * i) (recordOf (respondWith f rows i (records m i)))
+unfoldable pub withAnswer : Floor → List ℕ → ℕ → List ℕ → List ℕ
+withAnswer f rows i m = put m (65 * i) (recordOf (respondWith f rows i (records m i)))
 
 -- The lent memory after planning: the answers in front where the checks pass; all as it was with a refusal.
 unfoldable pub planMemory : Floor → List ℕ → List ℕ → List ℕ

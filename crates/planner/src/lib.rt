@@ -10,10 +10,10 @@ ghost use Rattle.search.specs.Rows.{Searchable};
 ghost use Rattle.layers.specs.Table.{searchGridOf, Tidy};
 ghost use Rattle.layers.specs.Room.{IsFreeTable};
 ghost use Rattle.planner.specs.Plan.{respondWith, planVerdict};
-ghost use Rattle.planner.specs.Records.{answered, planMemory};
+ghost use Rattle.planner.specs.Records.{withAnswer, planMemory};
 ghost use Rattle.records.specs.Records.{records, stored};
 ghost use Rattle.records.specs.Seen.{seen};
-ghost use Rattle.planner.specs.Answers.{resultOf, planResult, Plannable};
+ghost use Rattle.planner.specs.Answers.{plannedOutcome, planResult, Plannable};
 use floor::Checked;
 use floor::Floor;
 use floor::Refusal;
@@ -36,7 +36,7 @@ pub fn request(f: Floor, walls: &[u16], room: usize) -> Checked
     let Checked::Passed = checked else {
         return checked;
     };
-    floor::room(records::SIZE * f.carriers as usize, room)
+    floor::check_length(records::SIZE * f.carriers as usize, room)
 }
 
 // The answer of the carrier with i carriers above it, whose answers stand in front and are shown as they are seen; it is stored behind
@@ -53,7 +53,7 @@ fn plan_one(
     requires { ⌜ (i < 8) × (65 * i + 65 ≤ length (now answers)) × (65 * i + 65 ≤ length (now shown)) ⌝ }
     requires { ⌜ Searchable f free (i + 1) (now shown) × (records (now shown) i ≡ seen f (records (now answers) i)) ⌝ }
     requires { ⌜ IsFreeTable (searchGridOf f) i free (now shown) (now room) × Tidy (searchGridOf f) (now sets) ⌝ }
-    ensures answers { λ r. ⌜ now (answers .exit) ≡ answered f free i (now (answers .entry)) ⌝ }
+    ensures answers { λ r. ⌜ now (answers .exit) ≡ withAnswer f free i (now (answers .entry)) ⌝ }
     ensures shown { λ r. ⌜ records (now (shown .exit)) (i + 1) ≡ seen f (records (now (answers .exit)) (i + 1)) ⌝ }
     ensures room { λ r. ⌜ IsFreeTable (searchGridOf f) (i + 1) free (now (shown .exit)) (now (room .exit)) ⌝ }
     ensures tidy { λ r. ⌜ Tidy (searchGridOf f) (now (sets .exit)) ⌝ }
@@ -90,7 +90,7 @@ fn plan_all(f: Floor, free: Rows, answers: &mut [u16])
 
 // Plans a floor: the answers of its carriers into lent memory, 65 numbers each, a tag (1 none, 2 a route) and 64 cells.
 pub fn plan(f: Floor, walls: &[u16], answers: &mut [u16]) -> Planned
-    ensures answers { λ r. ⌜ resultOf r ≡ planResult f (now (walls .entry)) (length (now (answers .entry))) ⌝ }
+    ensures answers { λ r. ⌜ plannedOutcome r ≡ planResult f (now (walls .entry)) (length (now (answers .entry))) ⌝ }
     ensures stores { λ r. ⌜ now (answers .exit) ≡ planMemory f (now (walls .entry)) (now (answers .entry)) ⌝ }
 {
     let asked = request(f, walls, answers.len());

@@ -17,13 +17,13 @@ columnAt text zero = 1
 columnAt text (suc p) = cond (eqb (getD text p 0) 10) 1 (suc (columnAt text p))
 
 -- The line of a refusal: of 1 that of its byte; of 2 line 1; of the others the item's, which stands behind line 1 and the items before it.
-unfoldable pub lineOf : List ℕ → (number place : ℕ) → ℕ
-lineOf text number place = cond (eqb number 1) (lineAt text place) (cond (eqb number 2) 1 (place + 1))
+unfoldable pub lineOfRefusal : List ℕ → (number place : ℕ) → ℕ
+lineOfRefusal text number place = cond (eqb number 1) (lineAt text place) (cond (eqb number 2) 1 (place + 1))
 
 -- The column of a refusal: of 1 that of its byte; of 2 the first of its field; of 4 and 6 the first of the item's line; of 3, 5 and 17 the
 -- first of a field of the item's line.
-unfoldable pub columnOf : List ℕ → (number place field : ℕ) → ℕ
-columnOf text number place field =
+unfoldable pub columnOfRefusal : List ℕ → (number place field : ℕ) → ℕ
+columnOfRefusal text number place field =
     cond (eqb number 1) (columnAt text place)
     (cond (eqb number 2) (5 * (place - 1) + 1) (cond (eqb number 4) 1 (cond (eqb number 6) 1 (5 * field + 1))))
 

@@ -5,7 +5,7 @@ ghost use Prim.Native.Nat.{suc, _+_, _-_, _*_, _≤_};
 ghost use lib.Dec.{eqb};
 ghost use lib.ListN.{length, getD};
 ghost use Rattle.reporting.specs.Put.{PutAt};
-ghost use Rattle.positions.specs.Position.{lineAt, columnAt, lineOf, columnOf, positionText};
+ghost use Rattle.positions.specs.Position.{lineAt, columnAt, lineOfRefusal, columnOfRefusal, positionText};
 use reporting::put_bytes;
 
 // A byte of a text; 0 past its end.
@@ -71,7 +71,7 @@ pub fn column_at(text: &[u8], at: usize) -> usize
 // The line of a refusal.
 pub fn line_of(text: &[u8], number: u16, place: usize) -> usize
     requires { ⌜ place ≤ 65535 ⌝ }
-    ensures { λ r. ⌜ (r ≡ lineOf (now (text .entry)) number place) × (r ≤ 65536) ⌝ }
+    ensures { λ r. ⌜ (r ≡ lineOfRefusal (now (text .entry)) number place) × (r ≤ 65536) ⌝ }
 {
     if number == 1 {
         return line_at(text, place);
@@ -96,7 +96,7 @@ fn field_column(field: usize) -> usize
 // The column of a refusal; of 3, 5 and 17 that of the field of the item's line that is the cause.
 pub fn column_of(text: &[u8], number: u16, place: usize, field: usize) -> usize
     requires { ⌜ (place ≤ 65535) × (field ≤ 10) ⌝ }
-    ensures { λ r. ⌜ (r ≡ columnOf (now (text .entry)) number place field) × (r ≤ 400000) ⌝ }
+    ensures { λ r. ⌜ (r ≡ columnOfRefusal (now (text .entry)) number place field) × (r ≤ 400000) ⌝ }
 {
     if number == 1 {
         return column_at(text, place);

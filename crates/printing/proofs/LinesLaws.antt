@@ -18,11 +18,11 @@ use Rattle.printing.proofs.PutLaws.{none-length, first-length}
 
 module _ (line : ℕ → List ℕ) where
   -- The lines before line k, line k, and what follows it.
-  record Apart (n k : ℕ) : Type 0 where
+  record SplitAtLine (n k : ℕ) : Type 0 where
     rest : List ℕ
     is : linesOf line n ≡ linesOf line k ++ (line k ++ rest)
 
-  apart-more : (n k : ℕ) → Apart n k → Apart (suc n) k
+  apart-more : (n k : ℕ) → SplitAtLine n k → SplitAtLine (suc n) k
   unfolding linesOf
   apart-more n k a =
       record {
@@ -32,13 +32,13 @@ module _ (line : ℕ → List ℕ) where
             ∙ ap (λ (l : List ℕ). linesOf line k ++ l) (append-assoc (line k) (a .rest) (line n));
       }
 
-  apart-last : (n : ℕ) → Apart (suc n) n
+  apart-last : (n : ℕ) → SplitAtLine (suc n) n
   unfolding linesOf
   apart-last n = record { rest = []; is = ap (λ (l : List ℕ). linesOf line n ++ l) (sym (append-nil (line n))) }
 
-  apart : (n k : ℕ) → k < n → Apart n k
+  apart : (n k : ℕ) → k < n → SplitAtLine n k
   apart zero k l = absurd (omega arith)
-  apart (suc n) k l = below-more (Apart (suc n)) n (λ i h. apart-more n i (apart n i h)) (apart-last n) k (omega arith)
+  apart (suc n) k l = below-more (SplitAtLine (suc n)) n (λ i h. apart-more n i (apart n i h)) (apart-last n) k (omega arith)
 
   -- Line k stands behind a head and the lines before it.
   pub line-at : (head : List ℕ) (n k : ℕ) → k < n

@@ -12,10 +12,10 @@ use Rattle.floor.specs.declared.Checked.the-variants.{Passed, Refused}
 use Rattle.floor.specs.declared.Refusal.{Refusal}
 use Rattle.floor.specs.Answers.{verdictOf}
 use Rattle.laws.specs.Verdict.{passed, refused, Outcome, value, refusal, _thenAnswers_, whenPassed}
-use Rattle.floor.specs.Checks.{checkOf, roomOf}
+use Rattle.floor.specs.Checks.{checkOf, longEnough}
 use Rattle.laws.proofs.VerdictLaws.{then-both, refused-by, then-passed, refused-not-passed, demand-passes, when-passed, gives-passed}
 use Rattle.floor.proofs.AnswersLaws.{passes, refuses}
-use Rattle.floor.proofs.LimitsLaws.{Bounds, check-tells, room-passed}
+use Rattle.floor.proofs.LimitsLaws.{Bounds, check-tells, length-passed}
 use Rattle.fields.specs.Field.{fieldOf}
 use Rattle.sheet.specs.Text.{lineOf}
 use Rattle.sheet.specs.Values.{floorAt, wallsAt}
@@ -23,11 +23,11 @@ use Rattle.sheet.specs.Read.{sheetVerdict, readVerdict, readFloor, readWalls}
 use Rattle.sheet.proofs.FormLaws.{walls-length}
 use Rattle.sheet.proofs.Theorems.{theorems as sheet-theorems}
 use Rattle.planner.specs.declared.Planned.{Planned}
-use Rattle.planner.specs.declared.Planned.the-variants.{Failing, Refused as Turned}
+use Rattle.planner.specs.declared.Planned.the-variants.{Failing, Refused as NotPlanned}
 use Rattle.planner.specs.Plan.{planOf, planVerdict, failingOf}
 use Rattle.planner.specs.Records.{planMemory}
 use Rattle.records.specs.Records.{stored}
-use Rattle.planner.specs.Answers.{resultOf, planResult}
+use Rattle.planner.specs.Answers.{plannedOutcome, planResult}
 use Rattle.printing.specs.Text.{refusalLine}
 use Rattle.printing.specs.Print.{printOf, textLength}
 use Rattle.printing.specs.Print.{printVerdict, orRefusal, routesOf, neededFor, shortOutcome, routesOutcome}
@@ -35,27 +35,27 @@ use Rattle.printing.specs.Print.{routesMemory}
 use Rattle.printing.specs.Put.{TextPut, TextOrShort, FloorPut, RefusalPut, textIn}
 use Rattle.printing.proofs.RecordLaws.{plan-text}
 
-module _ (f : Floor) (ws : List ℕ) (room : ℕ) (ok : planVerdict f ws room ≡ passed) where
+module _ (f : Floor) (ws : List ℕ) (lent : ℕ) (ok : planVerdict f ws lent ≡ passed) where
   -- What a passed plan request tells.
   pub bounds : Bounds f
   unfolding planVerdict
   bounds = check-tells f ws (then-both _ _ ok .0) .bounds
 
-  pub enough : 65 * f .carriers ≤ room
+  pub enough : 65 * f .carriers ≤ lent
   unfolding planVerdict
-  enough = room-passed _ _ (then-both _ _ ok .1)
+  enough = length-passed _ _ (then-both _ _ ok .1)
 
   -- A plan that passes its checks is made.
-  pub made-failing : (r : Planned) (i : ℕ) → resultOf r ≡ planResult f ws room → r ≡ Failing i → i ≡ failingOf (planOf f ws)
-  unfolding planResult resultOf
+  pub made-failing : (r : Planned) (i : ℕ) → plannedOutcome r ≡ planResult f ws lent → r ≡ Failing i → i ≡ failingOf (planOf f ws)
+  unfolding planResult plannedOutcome
   made-failing r i e g =
-      let h : value i ≡ value (failingOf (planOf f ws)) = sym (ap resultOf g) ∙ e ∙ gives-passed ok in
+      let h : value i ≡ value (failingOf (planOf f ws)) = sym (ap plannedOutcome g) ∙ e ∙ gives-passed ok in
       cc
 
-  pub never-turned : {r : Planned} {x : _} → resultOf r ≡ planResult f ws room → r ≡ Turned x → ⊥
-  unfolding planResult resultOf
-  never-turned {r} {x} e g =
-      let h : resultOf (Turned x) ≡ value (failingOf (planOf f ws)) = sym (ap resultOf g) ∙ e ∙ gives-passed ok in
+  pub never-refused : {r : Planned} {x : _} → plannedOutcome r ≡ planResult f ws lent → r ≡ NotPlanned x → ⊥
+  unfolding planResult plannedOutcome
+  never-refused {r} {x} e g =
+      let h : plannedOutcome (NotPlanned x) ≡ value (failingOf (planOf f ws)) = sym (ap plannedOutcome g) ∙ e ∙ gives-passed ok in
       let z : _≡_ {A = ℕ} 0 1 = cc in
       omega arith
 
@@ -77,15 +77,15 @@ plan-put f ws old m out out′ i n ok e g t =
 
 -- A request that is granted.
 module _ (f : Floor) (ws : List ℕ) where
-  pub print-granted : (room bytes : ℕ) → printVerdict f ws room bytes ≡ passed → (planVerdict f ws room ≡ passed) × (textLength f ≤ bytes)
+  pub print-granted : (lent bytes : ℕ) → printVerdict f ws lent bytes ≡ passed → (planVerdict f ws lent ≡ passed) × (textLength f ≤ bytes)
   unfolding printVerdict
-  print-granted room bytes v = let b = then-both _ _ v in (b .0, room-passed _ _ (b .1))
+  print-granted lent bytes v = let b = then-both _ _ v in (b .0, length-passed _ _ (b .1))
 
   -- The largest memory for answers has room for those of every accepted floor.
-  pub plan-granted : (room : ℕ) → checkOf f ws ≡ passed → 520 ≤ room → planVerdict f ws room ≡ passed
-  unfolding planVerdict roomOf
-  plan-granted room ok l =
-      let enough : 65 * f .carriers ≤ room = omega (arith, check-tells f ws ok .bounds .carriers .1) in
+  pub plan-granted : (lent : ℕ) → checkOf f ws ≡ passed → 520 ≤ lent → planVerdict f ws lent ≡ passed
+  unfolding planVerdict longEnough
+  plan-granted lent ok l =
+      let enough : 65 * f .carriers ≤ lent = omega (arith, check-tells f ws ok .bounds .carriers .1) in
       then-passed ok ∙ demand-passes 9 0 (le-leb _ _ enough)
 
 -- A buffer that is too short, and one that has room.
@@ -97,19 +97,19 @@ module _ (text : List ℕ) (needed k p : ℕ) (old : List ℕ) where
   text-fits new n l t = record { answers = rw (le-leb _ _ l) (ap value (t .size)); stores = rw (le-leb _ _ l) (t .bytes) }
 
 -- With room for the most walls a sheet's own verdict is the reader's.
-module _ (text : List ℕ) (room : ℕ) (wide : 1023 ≤ room) where
-  room-there : sheetVerdict text ≡ passed → roomOf (floorAt text .walls) room ≡ passed
-  unfolding roomOf
-  room-there ok =
+module _ (text : List ℕ) (lent : ℕ) (wide : 1023 ≤ lent) where
+  walls-lent : sheetVerdict text ≡ passed → longEnough (floorAt text .walls) lent ≡ passed
+  unfolding longEnough
+  walls-lent ok =
       let b = check-tells _ _ (sheet-theorems .read-accepted text ok) .bounds in
-      let enough : floorAt text .walls ≤ room = omega (arith, b .walls .1) in
+      let enough : floorAt text .walls ≤ lent = omega (arith, b .walls .1) in
       demand-passes 9 0 (le-leb _ _ enough)
 
-  pub read-refused : (k p : ℕ) → readVerdict text room ≡ refused k p → sheetVerdict text ≡ refused k p
+  pub read-refused : (k p : ℕ) → readVerdict text lent ≡ refused k p → sheetVerdict text ≡ refused k p
   unfolding readVerdict
-  read-refused k p h = refused-by h (λ e. e) (λ a r. absurd (refused-not-passed (sym r ∙ room-there a)))
+  read-refused k p h = refused-by h (λ e. e) (λ a r. absurd (refused-not-passed (sym r ∙ walls-lent a)))
 
-  pub read-passed : readVerdict text room ≡ passed → sheetVerdict text ≡ passed
+  pub read-passed : readVerdict text lent ≡ passed → sheetVerdict text ≡ passed
   unfolding readVerdict
   read-passed h = then-both _ _ h .0
 
@@ -130,16 +130,16 @@ module _ {a : Checked} (text old walls : List ℕ) (f : Floor) (wide : 1023 ≡ 
       let ok = passes (r .0) told in
       let good = read-passed text (length old) (omega arith) ok in
       let floor : f ≡ floorAt text = r .1 .0 ∙ when-passed _ ok in
-      let stored : walls ≡ wallsAt text ++ drop (floorAt text .walls) old = r .1 .1 ∙ when-passed _ ok in
+      let walls-read : walls ≡ wallsAt text ++ drop (floorAt text .walls) old = r .1 .1 ∙ when-passed _ ok in
       let count : f .walls ≡ floorAt text .walls = ap (λ (g : Floor). g .walls) floor in
       let front : take (f .walls) walls ≡ wallsAt text =
-      ap (take (f .walls)) stored ∙ take-at (wallsAt text) _ (f .walls) (walls-length text ∙ sym count)
+      ap (take (f .walls)) walls-read ∙ take-at (wallsAt text) _ (f .walls) (walls-length text ∙ sym count)
       in
       record {
         accepted = good;
         floor = floor;
         front = front;
-        lent = omega (arith, ap length stored, length-append (wallsAt text) (drop (floorAt text .walls) old), walls-length text);
+        lent = omega (arith, ap length walls-read, length-append (wallsAt text) (drop (floorAt text .walls) old), walls-length text);
         checked = rw (front, floor) (sheet-theorems .read-accepted text good);
       }
 

@@ -24,7 +24,7 @@ use Rattle.planner.proofs.DependsLaws.{same-agrees}
 use Rattle.planner.proofs.Theorems.{theorems as planner-theorems}
 use Rattle.printing.specs.Text.{noneLine, answerLine, firstLine, routesText, refusalLine}
 use Rattle.printing.specs.Print.{printOf, textLength, orRefusal, routesOf, neededFor, routesOutcome}
-use Rattle.printing.specs.Claims.{Claims, columnOf}
+use Rattle.printing.specs.Claims.{Claims, lineColumn}
 use Rattle.printing.proofs.PutLaws.{first-length, none-length}
 use Rattle.printing.proofs.LinesLaws.{line-at, text-within}
 
@@ -72,9 +72,9 @@ routes-of-sheet f ws ok =
     ∙ sym (print-same f ws _ _ (sheet-theorems .floor-returns f ws ok))
 
 line-stands : (f : Floor) (ws : List ℕ) (k : ℕ) → k < f .carriers
-    → take (length (answerLine f k (answerAt (planOf f ws) k))) (drop (columnOf f ws k) (printOf f ws))
+    → take (length (answerLine f k (answerAt (planOf f ws) k))) (drop (lineColumn f ws k) (printOf f ws))
     ≡ answerLine f k (answerAt (planOf f ws) k)
-unfolding columnOf printOf routesText
+unfolding lineColumn printOf routesText
 line-stands f ws k l =
     let first = firstLine f (failingOf (planOf f ws)) in
     rw (← first-length f (failingOf (planOf f ws)))
@@ -86,10 +86,10 @@ unfolding answerLine
 none-line f ws k e = rw e
 
 none-printed : (f : Floor) (ws : List ℕ) (k : ℕ) → k < f .carriers → answerAt (planOf f ws) k ≡ none
-    → take 11 (drop (columnOf f ws k) (printOf f ws)) ≡ noneLine (k + 1)
+    → take 11 (drop (lineColumn f ws k) (printOf f ws)) ≡ noneLine (k + 1)
 none-printed f ws k l e =
     let line = none-line f ws k e in
-    ap (λ (n : ℕ). take n (drop (columnOf f ws k) (printOf f ws))) (sym (ap length line ∙ none-length (k + 1)))
+    ap (λ (n : ℕ). take n (drop (lineColumn f ws k) (printOf f ws))) (sym (ap length line ∙ none-length (k + 1)))
     ∙ line-stands f ws k l
     ∙ line
 

@@ -16,8 +16,8 @@ use Rattle.printing.specs.Text.{noneLine, answerLine, routesText, refusa
 use Rattle.printing.specs.Print.{printOf, textLength, routesOf, neededFor, routesOutcome}
 
 -- The column at which the line of carrier k begins.
-unfoldable pub columnOf : Floor → List ℕ → ℕ → ℕ
-columnOf f ws k = 11 + length (linesOf (λ i. answerLine f i (answerAt (planOf f ws) i)) k)
+unfoldable pub lineColumn : Floor → List ℕ → ℕ → ℕ
+lineColumn f ws k = 11 + length (linesOf (λ i. answerLine f i (answerAt (planOf f ws) i)) k)
 
 pub record Claims : Type 0 where
   -- An accepted sheet prints the routes of the plan of the floor that it spells.
@@ -29,11 +29,11 @@ pub record Claims : Type 0 where
   pub routes-of-sheet : (f : Floor) (ws : List ℕ) → checkOf f ws ≡ passed → routesOf (sheetOf f ws) ≡ printOf f ws
   -- The line of carrier k stands at its column.
   pub line-stands : (f : Floor) (ws : List ℕ) (k : ℕ) → k < f .carriers
-      → take (length (answerLine f k (answerAt (planOf f ws) k))) (drop (columnOf f ws k) (printOf f ws))
+      → take (length (answerLine f k (answerAt (planOf f ws) k))) (drop (lineColumn f ws k) (printOf f ws))
       ≡ answerLine f k (answerAt (planOf f ws) k)
   -- None is printed as none: the carrier's line is its number and ` none`.
   pub none-printed : (f : Floor) (ws : List ℕ) (k : ℕ) → k < f .carriers → answerAt (planOf f ws) k ≡ none
-      → take 11 (drop (columnOf f ws k) (printOf f ws)) ≡ noneLine (k + 1)
+      → take 11 (drop (lineColumn f ws k) (printOf f ws)) ≡ noneLine (k + 1)
   -- The printed routes of an accepted floor have at most the needed length, and no printed text has more than 2,659 bytes.
   pub text-within : (f : Floor) (ws : List ℕ) → checkOf f ws ≡ passed → length (printOf f ws) ≤ textLength f
   pub routes-within : (text : List ℕ) → (length (routesOf text) ≤ neededFor text) × (neededFor text ≤ 2659)

@@ -7,7 +7,7 @@ use lib.ListN.{length}
 use Rattle.laws.specs.Memory.{put}
 use Rattle.floor.specs.declared.Floor.{Floor}
 use Rattle.laws.specs.Verdict.{Verdict, passed, refused, _then_, Outcome, value, refusal, _gives_, _thenAnswers_, whenPassed}
-use Rattle.floor.specs.Checks.{roomOf}
+use Rattle.floor.specs.Checks.{longEnough}
 use Rattle.sheet.specs.Values.{floorAt, wallsAt}
 use Rattle.sheet.specs.Read.{sheetVerdict}
 use Rattle.planner.specs.Plan.{planOf, planVerdict}
@@ -17,9 +17,9 @@ use Rattle.printing.specs.declared.Printed.the-variants.{Written, Refuse
 use Rattle.printing.specs.Text.{routesText, refusalLine}
 
 -- What each case of the code's answer says: the number of bytes that were written, or the refusal.
-unfoldable pub outcomeOf : Printed → Outcome ℕ
-outcomeOf (Written n) = value n
-outcomeOf (Refused r) = refusal (r .number) (r .place)
+unfoldable pub printedOutcome : Printed → Outcome ℕ
+printedOutcome (Written n) = value n
+printedOutcome (Refused r) = refusal (r .number) (r .place)
 
 -- The routes of a floor as text.
 unfoldable pub printOf : Floor → List ℕ → List ℕ
@@ -31,18 +31,18 @@ textLength f = 11 + 331 * f .carriers
 
 -- The refusals of printing: the plan's, then 9 if the text memory is too short.
 unfoldable pub printVerdict : Floor → List ℕ → ℕ → ℕ → Verdict
-printVerdict f ws room bytes = planVerdict f ws room then roomOf (textLength f) bytes
+printVerdict f ws lent bytes = planVerdict f ws lent then longEnough (textLength f) bytes
 
 -- What printing a floor's routes answers, with room for so many numbers and so many bytes.
 unfoldable pub printOutcome : Floor → List ℕ → ℕ → ℕ → Outcome ℕ
-printOutcome f ws room bytes = printVerdict f ws room bytes gives length (printOf f ws)
+printOutcome f ws lent bytes = printVerdict f ws lent bytes gives length (printOf f ws)
 
 -- The lent memory for answers, and the lent text memory, after printing; both as they were with a refusal.
 unfoldable pub printAnswers : Floor → List ℕ → ℕ → List ℕ → List ℕ
 printAnswers f ws bytes old = whenPassed (printVerdict f ws (length old) bytes) (stored (planOf f ws) old) old
 
 unfoldable pub printMemory : Floor → List ℕ → ℕ → List ℕ → List ℕ
-printMemory f ws room old = whenPassed (printVerdict f ws room (length old)) (put old 0 (printOf f ws)) old
+printMemory f ws lent old = whenPassed (printVerdict f ws lent (length old)) (put old 0 (printOf f ws)) old
 
 -- A text where a sheet is accepted; the line of its refusal where it is not.
 unfoldable pub orRefusal : Verdict → List ℕ → List ℕ

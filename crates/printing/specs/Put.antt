@@ -46,7 +46,7 @@ pub record Printable (f : Floor) (m out : List ℕ) : Type 0 where
   pub few : f .carriers ≤ 8
   pub horizon : f .horizon ≤ 63
   pub records : 65 * f .carriers ≤ length m
-  pub room : 11 + 331 * f .carriers ≤ length out
+  pub enough : 11 + 331 * f .carriers ≤ length out
 
 -- A text stands in front of a buffer with room for so many bytes; a shorter buffer is as it was, with the refusal k, p.
 pub record TextOrShort (text : List ℕ) (needed k p : ℕ) (old new : List ℕ) (o : Outcome ℕ) : Type 0 where

@@ -10,7 +10,7 @@ ghost use Rattle.floor.specs.Checks.{checkOf};
 ghost use Rattle.laws.specs.Verdict.{passed};
 ghost use Rattle.planner.specs.Plan.{planOf, planVerdict};
 ghost use Rattle.records.specs.Records.{stored};
-ghost use Rattle.printing.specs.Print.{outcomeOf, printOf, textLength, printVerdict};
+ghost use Rattle.printing.specs.Print.{printedOutcome, printOf, textLength, printVerdict};
 ghost use Rattle.printing.specs.Print.{printOutcome, printAnswers, printMemory, routesOutcome, routesMemory};
 ghost use Rattle.printing.specs.Text.{refusalLine};
 ghost use Rattle.printing.specs.Put.{TextPut, FloorPut, RefusalPut};
@@ -23,7 +23,7 @@ use planner::Planned;
 pub enum Printed {
     // So many bytes of text stand in front of the lent memory.
     Written(usize),
-    // The request is turned away, and all lent memory is as it was.
+    // The request is refused, and all lent memory is as it was.
     Refused(Refusal),
 }
 
@@ -35,14 +35,14 @@ pub fn text_length(f: Floor) -> usize
 }
 
 // The refusals of printing, in their order.
-fn request(f: Floor, walls: &[u16], room: usize, bytes: usize) -> Checked
-    ensures { λ r. ⌜ verdictOf r ≡ printVerdict f (now (walls .entry)) room bytes ⌝ }
+fn request(f: Floor, walls: &[u16], lent: usize, bytes: usize) -> Checked
+    ensures { λ r. ⌜ verdictOf r ≡ printVerdict f (now (walls .entry)) lent bytes ⌝ }
 {
-    let asked = planner::request(f, walls, room);
+    let asked = planner::request(f, walls, lent);
     let Checked::Passed = asked else {
         return asked;
     };
-    floor::room(text_length(f), bytes)
+    floor::check_length(text_length(f), bytes)
 }
 
 // Plans a checked floor and puts its routes; their length is returned.
@@ -62,7 +62,8 @@ fn put_plan(f: Floor, walls: &[u16], answers: &mut [u16], out: &mut [u8]) -> usi
 // Plans a floor and prints its routes: the answers into lent memory as `planner::plan` stores them, the text into lent
 // memory.
 pub fn print(f: Floor, walls: &[u16], answers: &mut [u16], out: &mut [u8]) -> Printed
-    ensures says { λ r. ⌜ outcomeOf r ≡ printOutcome f (now (walls .entry)) (length (now (answers .entry))) (length (now (out .entry))) ⌝ }
+    ensures says { λ r. ⌜ printedOutcome r
+        ≡ printOutcome f (now (walls .entry)) (length (now (answers .entry))) (length (now (out .entry))) ⌝ }
     ensures plans { λ r. ⌜ now (answers .exit) ≡ printAnswers f (now (walls .entry)) (length (now (out .entry))) (now (answers .entry)) ⌝ }
     ensures stores { λ r. ⌜ now (out .exit) ≡ printMemory f (now (walls .entry)) (length (now (answers .entry))) (now (out .entry)) ⌝ }
 {
@@ -94,7 +95,7 @@ pub fn put_routes(f: Floor, walls: &[u16], out: &mut [u8]) -> usize
 fn print_read(f: Floor, walls: &[u16], out: &mut [u8]) -> Printed
     requires { ⌜ checkOf f (take (f .walls) (now walls)) ≡ passed ⌝ }
     requires { ⌜ f .walls ≤ length (now walls) ⌝ }
-    ensures { λ r. ⌜ FloorPut f (now (walls .entry)) (now (out .entry)) (now (out .exit)) (outcomeOf r) ⌝ }
+    ensures { λ r. ⌜ FloorPut f (now (walls .entry)) (now (out .entry)) (now (out .exit)) (printedOutcome r) ⌝ }
 {
     if out.len() < text_length(f) {
         return Printed::Refused(Refusal {
@@ -123,7 +124,7 @@ pub fn put_refusal(x: Refusal, out: &mut [u8]) -> usize
 
 // The line of a refused sheet; with less than 16 bytes of text memory the refusal itself.
 pub fn print_refusal(x: Refusal, out: &mut [u8]) -> Printed
-    ensures { λ r. ⌜ RefusalPut (x .number) (x .place) (now (out .entry)) (now (out .exit)) (outcomeOf r) ⌝ }
+    ensures { λ r. ⌜ RefusalPut (x .number) (x .place) (now (out .entry)) (now (out .exit)) (printedOutcome r) ⌝ }
 {
     if out.len() < 16 {
         return Printed::Refused(x);
@@ -133,9 +134,9 @@ pub fn print_refusal(x: Refusal, out: &mut [u8]) -> Printed
 }
 
 // From a sheet's bytes to the printed bytes: the routes of its floor, or the line of its refusal. With too little text
-// memory it is turned away: with the sheet's refusal, and with 9 if it has none.
+// memory it is refused: with the sheet's refusal, and with 9 if it has none.
 pub fn routes(text: &[u8], out: &mut [u8]) -> Printed
-    ensures says { λ r. ⌜ outcomeOf r ≡ routesOutcome (now (text .entry)) (length (now (out .entry))) ⌝ }
+    ensures says { λ r. ⌜ printedOutcome r ≡ routesOutcome (now (text .entry)) (length (now (out .entry))) ⌝ }
     ensures stores { λ r. ⌜ now (out .exit) ≡ routesMemory (now (text .entry)) (now (out .entry)) ⌝ }
 {
     let mut walls = sheet::no_walls();

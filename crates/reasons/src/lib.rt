@@ -6,8 +6,8 @@ ghost use mathlib.Core.Path.{_≡_};
 ghost use Prim.Native.Nat.{ℕ, _≤_};
 ghost use lib.ListN.{length};
 ghost use Rattle.io.specs.Counts.{Counts};
-ghost use Rattle.positions.specs.Position.{lineOf, columnOf, positionText};
-ghost use Rattle.reasons.specs.Told.{Begins, Told};
+ghost use Rattle.positions.specs.Position.{lineOfRefusal, columnOfRefusal, positionText};
+ghost use Rattle.reasons.specs.Told.{BeginsWith, Explains};
 ghost use Rattle.laws.specs.Verdict.{refused};
 ghost use Rattle.sheet.specs.Read.{sheetVerdict};
 use floor::Checked;
@@ -124,8 +124,8 @@ fn put_reason(text: &[u8], number: u16, place: usize, field: usize, out: &mut [u
 // Puts the position of a refusal and its reason in front of a memory; the length of both is returned.
 fn put_refused(text: &[u8], number: u16, place: usize, field: usize, out: &mut [u8]) -> usize
     requires { ⌜ (place ≤ 65535) × (field ≤ 10) × (160 ≤ length (now out)) ⌝ }
-    ensures { λ r. ⌜ Begins (positionText (lineOf (now (text .entry)) number place) (columnOf (now (text .entry)) number place field))
-        (now (out .exit)) r ⌝ }
+    ensures { λ r. ⌜ BeginsWith (positionText (lineOfRefusal (now (text .entry)) number place)
+        (columnOfRefusal (now (text .entry)) number place field)) (now (out .exit)) r ⌝ }
 {
     let mut reason = [0u8; REASON_LENGTH];
     let n = put_reason(text, number, place, field, &mut reason);
@@ -200,7 +200,7 @@ fn put_accepted(f: Floor, out: &mut [u8]) -> usize {
 // Puts the text of a refusal in front of a memory; its length is returned.
 fn put_text(text: &[u8], x: Refusal, out: &mut [u8]) -> usize
     requires { ⌜ (x .place ≤ 65535) × (160 ≤ length (now out)) ⌝ }
-    ensures { λ r. ⌜ Told (now (text .entry)) (x .number) (x .place) (now (out .exit)) r ⌝ }
+    ensures { λ r. ⌜ Explains (now (text .entry)) (x .number) (x .place) (now (out .exit)) r ⌝ }
 {
     let number = x.number;
     let place = x.place;
@@ -218,7 +218,7 @@ fn put_text(text: &[u8], x: Refusal, out: &mut [u8]) -> usize
 pub fn print(text: &[u8], out: &mut [u8; TEXT_LENGTH]) -> usize
     ensures counts { λ r. ⌜ Counts r (now (out .exit)) ⌝ }
     ensures places { λ r. ⌜ ((k p : ℕ) → sheetVerdict (now (text .entry)) ≡ refused k p
-        → Told (now (text .entry)) k p (now (out .exit)) r) ⌝ }
+        → Explains (now (text .entry)) k p (now (out .exit)) r) ⌝ }
 {
     let mut walls = sheet::no_walls();
     let reading = sheet::read(text, &mut walls);

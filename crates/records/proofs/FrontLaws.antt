@@ -16,7 +16,7 @@ module _ (m₀ numbers : List ℕ) where
   pub writing-start : Writing m₀ numbers m₀ 0
   writing-start = record { within = omega arith; stored = copy-start m₀ numbers 0 }
 
-  module _ (room : length numbers ≤ length m₀) {m : List ℕ} {t : ℕ} (w : Writing m₀ numbers m t) where
+  module _ (enough : length numbers ≤ length m₀) {m : List ℕ} {t : ℕ} (w : Writing m₀ numbers m t) where
     pub writing-keeps : length m ≡ length m₀
     writing-keeps = copy-keeps m₀ m numbers 0 t (w .stored) (w .within) (omega arith)
 

@@ -14,15 +14,16 @@ use Rattle.laws.proofs.PartLaws.{part-byte, part-length}
 use Rattle.records.specs.Records.{moved}
 
 -- The first t cells are those of the memory from a place on.
-pub record Copied (m : List ℕ) (at : ℕ) (cells : List ℕ) (t : ℕ) : Type 0 where
+pub record CellsCopied (m : List ℕ) (at : ℕ) (cells : List ℕ) (t : ℕ) : Type 0 where
   pub long : length cells ≡ 64
   pub copied : (q : ℕ) → q < t → getD cells q 0 ≡ getD m (at + q) 0
 
 module _ (m : List ℕ) (at : ℕ) where
-  pub copied-start : (cells : List ℕ) → length cells ≡ 64 → Copied m at cells 0
+  pub copied-start : (cells : List ℕ) → length cells ≡ 64 → CellsCopied m at cells 0
   copied-start cells e = record { long = e; copied = λ q l. absurd (omega arith) }
 
-  pub copied-more : (cells : List ℕ) (t : ℕ) → t < 64 → Copied m at cells t → Copied m at (set cells t (getD m (at + t) 0)) (t + 1)
+  pub copied-more : (cells : List ℕ) (t : ℕ) → t < 64 → CellsCopied m at cells t
+      → CellsCopied m at (set cells t (getD m (at + t) 0)) (t + 1)
   copied-more cells t l h =
       record {
         long = length-set cells t (getD m (at + t) 0) ∙ h .long;
@@ -33,7 +34,7 @@ module _ (m : List ℕ) (at : ℕ) where
             (eq-or-lt-of-le (omega arith));
       }
 
-  pub copied-end : (cells : List ℕ) (t : ℕ) → 64 ≤ t → at + 64 ≤ length m → Copied m at cells t → cells ≡ part m at 64
+  pub copied-end : (cells : List ℕ) (t : ℕ) → 64 ≤ t → at + 64 ≤ length m → CellsCopied m at cells t → cells ≡ part m at 64
   copied-end cells t l s h =
       ext-getD 0 cells (part m at 64) (h .long ∙ sym (part-length m at 64 s))
       (λ i k. h .copied i (omega (arith, h .long)) ∙ sym (part-byte m at 64 i (omega (arith, h .long))))

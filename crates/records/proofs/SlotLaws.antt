@@ -8,36 +8,36 @@ use lib.ListN.{length, getD, getD-replicate}
 use Rattle.laws.specs.Memory.{part}
 use Rattle.laws.proofs.PartLaws.{part-byte, part-is}
 use Rattle.route.specs.Route.{Answer, none, route, View, unheard, heard}
-use Rattle.records.specs.Records.{recordOf, shown, fit, slot}
+use Rattle.records.specs.Records.{recordOf, shown, resized, slot}
 
 -- A list that is cut or filled up has just so many numbers.
-pub fit-length : (k : ℕ) (xs : List ℕ) → length (fit k xs) ≡ k
-unfolding fit
-fit-length zero xs = refl
-fit-length (suc k) [] = ap suc (fit-length k [])
-fit-length (suc k) (x ∷ xs) = ap suc (fit-length k xs)
+pub resized-length : (k : ℕ) (xs : List ℕ) → length (resized k xs) ≡ k
+unfolding resized
+resized-length zero xs = refl
+resized-length (suc k) [] = ap suc (resized-length k [])
+resized-length (suc k) (x ∷ xs) = ap suc (resized-length k xs)
 
 -- A list of just so many numbers stays as it is.
-pub fit-whole : (k : ℕ) (xs : List ℕ) → length xs ≡ k → fit k xs ≡ xs
-unfolding fit
-fit-whole zero [] e = refl
-fit-whole zero (x ∷ xs) e = absurd (omega arith)
-fit-whole (suc k) [] e = absurd (omega arith)
-fit-whole (suc k) (x ∷ xs) e = ap (λ (l : List ℕ). x ∷ l) (fit-whole k xs (omega arith))
+pub resized-whole : (k : ℕ) (xs : List ℕ) → length xs ≡ k → resized k xs ≡ xs
+unfolding resized
+resized-whole zero [] e = refl
+resized-whole zero (x ∷ xs) e = absurd (omega arith)
+resized-whole (suc k) [] e = absurd (omega arith)
+resized-whole (suc k) (x ∷ xs) e = ap (λ (l : List ℕ). x ∷ l) (resized-whole k xs (omega arith))
 
 pub slot-length : (v : View) → length (slot v) ≡ 65
 unfolding slot
-slot-length unheard = fit-length 65 []
-slot-length (heard a) = fit-length 65 (recordOf a)
+slot-length unheard = resized-length 65 []
+slot-length (heard a) = resized-length 65 (recordOf a)
 
 -- The numbers of a list filled up with zeros.
-pub fit-number : (k : ℕ) (xs : List ℕ) (i : ℕ) → i < k → getD (fit k xs) i 0 ≡ getD xs i 0
-unfolding fit
-fit-number zero xs i l = absurd (omega arith)
-fit-number (suc k) [] zero l = refl
-fit-number (suc k) [] (suc i) l = fit-number k [] i (omega arith)
-fit-number (suc k) (x ∷ xs) zero l = refl
-fit-number (suc k) (x ∷ xs) (suc i) l = fit-number k xs i (omega arith)
+pub resized-number : (k : ℕ) (xs : List ℕ) (i : ℕ) → i < k → getD (resized k xs) i 0 ≡ getD xs i 0
+unfolding resized
+resized-number zero xs i l = absurd (omega arith)
+resized-number (suc k) [] zero l = refl
+resized-number (suc k) [] (suc i) l = resized-number k [] i (omega arith)
+resized-number (suc k) (x ∷ xs) zero l = refl
+resized-number (suc k) (x ∷ xs) (suc i) l = resized-number k xs i (omega arith)
 
 -- The tag of a view, and its number at beat t.
 unfoldable pub viewTag : View → ℕ
@@ -53,16 +53,16 @@ viewNumber (heard (route r)) t = getD r t 0
 -- The record of a view begins with its tag.
 pub slot-tag : (v : View) → getD (slot v) 0 0 ≡ viewTag v
 unfolding slot viewTag recordOf
-slot-tag unheard = fit-number 65 [] 0 (omega arith)
-slot-tag (heard none) = fit-number 65 (recordOf none) 0 (omega arith)
-slot-tag (heard (route r)) = fit-number 65 (recordOf (route r)) 0 (omega arith)
+slot-tag unheard = resized-number 65 [] 0 (omega arith)
+slot-tag (heard none) = resized-number 65 (recordOf none) 0 (omega arith)
+slot-tag (heard (route r)) = resized-number 65 (recordOf (route r)) 0 (omega arith)
 
 -- Behind it come its numbers.
 pub slot-number : (v : View) (t : ℕ) → t < 64 → getD (slot v) (suc t) 0 ≡ viewNumber v t
 unfolding slot viewNumber recordOf
-slot-number unheard t l = fit-number 65 [] (suc t) (omega arith)
-slot-number (heard none) t l = fit-number 65 (recordOf none) (suc t) (omega arith) ∙ getD-replicate 64 t 0 0 l
-slot-number (heard (route r)) t l = fit-number 65 (recordOf (route r)) (suc t) (omega arith)
+slot-number unheard t l = resized-number 65 [] (suc t) (omega arith)
+slot-number (heard none) t l = resized-number 65 (recordOf none) (suc t) (omega arith) ∙ getD-replicate 64 t 0 0 l
+slot-number (heard (route r)) t l = resized-number 65 (recordOf (route r)) (suc t) (omega arith)
 
 pub tag-most : (v : View) → viewTag v ≤ 2
 unfolding viewTag

@@ -62,15 +62,15 @@ unfoldable pub stored : List Answer → List ℕ → List ℕ
 stored xs old = put old 0 (recordsOf xs)
 
 -- A list cut or filled up with zeros to k numbers.
-unfoldable pub fit : ℕ → List ℕ → List ℕ
-fit zero xs = []
-fit (suc k) [] = 0 ∷ fit k []
-fit (suc k) (x ∷ xs) = x ∷ fit k xs
+unfoldable pub resized : ℕ → List ℕ → List ℕ
+resized zero xs = []
+resized (suc k) [] = 0 ∷ resized k []
+resized (suc k) (x ∷ xs) = x ∷ resized k xs
 
 -- The record of a view: zeros where nothing is heard, otherwise the record of the answer, cut or filled up to its 65 numbers.
 unfoldable pub slot : View → List ℕ
-slot unheard = fit 65 []
-slot (heard a) = fit 65 (recordOf a)
+slot unheard = resized 65 []
+slot (heard a) = resized 65 (recordOf a)
 
 -- The record at one place copied to another.
 unfoldable pub moved : List ℕ → ℕ → ℕ → List ℕ

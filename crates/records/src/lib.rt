@@ -7,7 +7,7 @@ ghost use mathlib.Core.List.{[], _∷_};
 ghost use Prim.Native.Nat.{_+_, _*_, _≤_, _<_};
 ghost use lib.ListN.{length};
 ghost use Rattle.laws.specs.Memory.{put, part};
-ghost use Rattle.records.specs.Records.{fit, moved, viewCell};
+ghost use Rattle.records.specs.Records.{resized, moved, viewCell};
 use floor::Floor;
 use route::Route;
 pub use seen::TEAM;
@@ -59,7 +59,7 @@ pub fn store(m: &mut [u16], at: usize, tag: u16, cells: Route)
 // Clears a record: nothing heard, no message.
 pub fn clear(m: &mut [u16], at: usize)
     requires { ⌜ at + 65 ≤ length (now m) ⌝ }
-    ensures { λ r. ⌜ now (m .exit) ≡ put (now (m .entry)) at (fit 65 []) ⌝ }
+    ensures { λ r. ⌜ now (m .exit) ≡ put (now (m .entry)) at (resized 65 []) ⌝ }
 {
     store(m, at, 0, [0u16; CELLS]);
 }

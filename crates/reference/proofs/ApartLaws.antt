@@ -22,16 +22,16 @@ use Rattle.reference.proofs.BoundLaws.{plan-chan-cases, deliver-chan-ca
 use Rattle.reference.proofs.SwapLaws.{update-swap, value-swap, pair-else, pair-swap, sentIf, sent-swap, sent-take, oldest-kept}
 
 -- Standing apart goes both ways.
-meet-turned : (x y : Step) → meet x y ≡ meet y x
+meet-sym : (x y : Step) → meet x y ≡ meet y x
 unfolding meet
-meet-turned (plan i) (plan k) = refl
-meet-turned (plan i) (deliver j k) = refl
-meet-turned (deliver j k) (plan i) = refl
-meet-turned (deliver j i) (deliver l k) = refl
+meet-sym (plan i) (plan k) = refl
+meet-sym (plan i) (deliver j k) = refl
+meet-sym (deliver j k) (plan i) = refl
+meet-sym (deliver j i) (deliver l k) = refl
 
-pub apart-turned : {M : Machine} {s : State} {x y : Step} → Apart M s x y → Apart M s y x
-apart-turned {x = x} {y = y} h =
-    record { one-open = h .other-open; other-open = h .one-open; different = λ e. h .different (sym e); unmet = meet-turned y x ∙ h .unmet }
+pub apart-sym : {M : Machine} {s : State} {x y : Step} → Apart M s x y → Apart M s y x
+apart-sym {x = x} {y = y} h =
+    record { one-open = h .other-open; other-open = h .one-open; different = λ e. h .different (sym e); unmet = meet-sym y x ∙ h .unmet }
 
 -- Two states are the same if they are in every part.
 state-same : (s z : State) → s .planned ≡ z .planned → s .due ≡ z .due → s .answer ≡ z .answer → s .view ≡ z .view → s .chan ≡ z .chan
@@ -88,7 +88,7 @@ module _ (M : Machine) (s : State) where
   reads-apart : (x : Step) (i : ℕ) → Apart M s x (plan i) → SameReads s (afterStep M s x) i
   unfolding afterStep effect
   reads-apart (plan k) i h = reads-counted (reads-plan s i k _ (λ e. plans-differ h (sym e)))
-  reads-apart (deliver j k) i h = reads-counted (reads-deliver s i j k (receiver-other (apart-turned h)))
+  reads-apart (deliver j k) i h = reads-counted (reads-deliver s i j k (receiver-other (apart-sym h)))
 
   pub answer-kept : (x y : Step) → Apart M s x y → stepAnswer M (afterStep M s x) y ≡ stepAnswer M s y
   unfolding stepAnswer
@@ -108,15 +108,15 @@ planWith news s i a =
     }
 
 module _ (M : Machine) (s : State) where
-  abbrev best : ℕ → Answer
-  best i = M .respond i (views s i)
+  abbrev response : ℕ → Answer
+  response i = M .respond i (views s i)
 
   -- A plan of i in a state in which it reads what it reads in s.
-  plan-in : (z : State) (i : ℕ) → SameReads s z i → afterStep M z (plan i) ≡ counted (planWith (isNews s i (best i)) z i (best i))
+  plan-in : (z : State) (i : ℕ) → SameReads s z i → afterStep M z (plan i) ≡ counted (planWith (isNews s i (response i)) z i (response i))
   unfolding afterStep effect planAs
   plan-in z i h =
       ap (λ (a : Answer). counted (planWith (isNews z i a) z i a)) (response-same M s z i h)
-      ∙ ap (λ (news : Bool). counted (planWith news z i (best i))) (news-same M s z i h (best i))
+      ∙ ap (λ (news : Bool). counted (planWith news z i (response i))) (news-same M s z i h (response i))
 
   plan-plan : (i k : ℕ) → Apart M s (plan i) (plan k) →
       afterStep M (afterStep M s (plan i)) (plan k) ≡ afterStep M (afterStep M s (plan k)) (plan i)
@@ -125,26 +125,26 @@ module _ (M : Machine) (s : State) where
       let n = plans-differ M s h in
       plan-in (afterStep M s (plan i)) k (reads-apart M s (plan i) k h)
       ∙ state-same _ _ (update-swap (s .planned) i k true true n) (update-swap (s .due) i k false false n)
-      (update-swap (s .answer) i k (best i) (best k) n) refl
-      (sent-swap (s .chan) i k (best i) (best k) (isNews s i (best i)) (isNews s k (best k)) n) refl
-      ∙ sym (plan-in (afterStep M s (plan k)) i (reads-apart M s (plan k) i (apart-turned h)))
+      (update-swap (s .answer) i k (response i) (response k) n) refl
+      (sent-swap (s .chan) i k (response i) (response k) (isNews s i (response i)) (isNews s k (response k)) n) refl
+      ∙ sym (plan-in (afterStep M s (plan k)) i (reads-apart M s (plan k) i (apart-sym h)))
 
   plan-deliver : (i j k : ℕ) → Apart M s (plan i) (deliver j k) → (s .chan k j ≡ [] → ⊥) →
       afterStep M (afterStep M s (plan i)) (deliver j k) ≡ afterStep M (afterStep M s (deliver j k)) (plan i)
   unfolding afterStep effect counted planAs deliverTo
   plan-deliver i j k h full =
-      let news = isNews s i (best i) in
+      let news = isNews s i (response i) in
       state-same _ _ refl (update-swap (s .due) i k false true (receiver-other M s h)) refl
-      (ap (updatePair (s .view) k j) (oldest-kept news (s .view k j) (s .chan) i (best i) k j full))
-      (sent-take news (s .chan) i (best i) k j full) refl
-      ∙ sym (plan-in (afterStep M s (deliver j k)) i (reads-apart M s (deliver j k) i (apart-turned h)))
+      (ap (updatePair (s .view) k j) (oldest-kept news (s .view k j) (s .chan) i (response i) k j full))
+      (sent-take news (s .chan) i (response i) k j full) refl
+      ∙ sym (plan-in (afterStep M s (deliver j k)) i (reads-apart M s (deliver j k) i (apart-sym h)))
 
   deliver-deliver : (j i l k : ℕ) → Apart M s (deliver j i) (deliver l k) →
       afterStep M (afterStep M s (deliver j i)) (deliver l k) ≡ afterStep M (afterStep M s (deliver l k)) (deliver j i)
   unfolding afterStep effect counted deliverTo
   deliver-deliver j i l k h =
       let n = pairs-differ M s h in
-      let m = pairs-differ M s (apart-turned h) in
+      let m = pairs-differ M s (apart-sym h) in
       state-same _ _ refl (value-swap (s .due) i k true) refl
       (rw (pair-else (s .view) i j _ k l n, pair-else (s .chan) i j _ k l n, pair-else (s .view) k l _ i j m, pair-else (s .chan) k l _ i j m)
       (pair-swap (s .view) i j k l _ _ n))
@@ -166,9 +166,9 @@ module _ (claims : StepClaims) (M : Machine) (s : State) where
 
   plan-stays : (x : Step) (i : ℕ) → Apart M s x (plan i) → afterStep M s x .due i ≡ s .due i →
       ((k : ℕ) → length (afterStep M s x .chan k i) ≤ length (s .chan k i)) → isOpen M (afterStep M s x) (plan i) ≡ true
-  plan-stays x i h due room =
+  plan-stays x i h due capacity =
       let was = claims .plan-open M s i .0 (h .other-open) in
-      claims .plan-open M (afterStep M s x) i .1 (was .0, due ∙ was .1, λ k l b. omega (arith, room k, was .2 k l b))
+      claims .plan-open M (afterStep M s x) i .1 (was .0, due ∙ was .1, λ k l b. omega (arith, capacity k, was .2 k l b))
 
   deliver-stays : (x : Step) (j k : ℕ) → Apart M s x (deliver j k) → (afterStep M s x .chan k j ≡ [] → ⊥) →
       isOpen M (afterStep M s x) (deliver j k) ≡ true
@@ -180,27 +180,28 @@ module _ (claims : StepClaims) (M : Machine) (s : State) where
   unfolding afterStep effect counted
   open-kept (plan k) (plan i) h =
       let n : i ≡ k → ⊥ = λ e. plans-differ M s h (sym e) in
-      plan-stays (plan k) i h (plan-clears s k (best M s k) .elsewhere i n)
-      (λ x. omega (arith, ap length (chan-other s k (best M s k) x i n)))
+      plan-stays (plan k) i h (plan-clears s k (response M s k) .elsewhere i n)
+      (λ x. omega (arith, ap length (chan-other s k (response M s k) x i n)))
   open-kept (deliver j k) (plan i) h =
-      plan-stays (deliver j k) i h (deliver-due s j k .elsewhere i (receiver-other M s (apart-turned h))) (λ x. go x (deliver-chan-cases s j k x i))
+      plan-stays (deliver j k) i h (deliver-due s j k .elsewhere i (receiver-other M s (apart-sym h)))
+      (λ x. go x (deliver-chan-cases s j k x i))
     where
       go : (x : ℕ) → (deliverTo s j k .chan x i ≡ s .chan x i) ⊎ (deliverTo s j k .chan x i ≡ newer (s .chan x i)) →
           length (deliverTo s j k .chan x i) ≤ length (s .chan x i)
       go x (inl e) = omega (arith, ap length e)
       go x (inr e) = omega (arith, ap length e, newer-shorter (s .chan x i))
-  open-kept (plan i) (deliver j k) h = deliver-stays (plan i) j k h (go (plan-chan-cases s i (best M s i) k j))
+  open-kept (plan i) (deliver j k) h = deliver-stays (plan i) j k h (go (plan-chan-cases s i (response M s i) k j))
     where
-      go : (planAs s i (best M s i) .chan k j ≡ s .chan k j) ⊎
-          ((j ≡ i) × (i < k) × (planAs s i (best M s i) .chan k j ≡ s .chan k j ++ (best M s i ∷ []))) →
-          planAs s i (best M s i) .chan k j ≡ [] → ⊥
+      go : (planAs s i (response M s i) .chan k j ≡ s .chan k j) ⊎
+          ((j ≡ i) × (i < k) × (planAs s i (response M s i) .chan k j ≡ s .chan k j ++ (response M s i ∷ []))) →
+          planAs s i (response M s i) .chan k j ≡ [] → ⊥
       go (inl e) q = deliver-full j k h (sym e ∙ q)
-      go (inr e) q = appended-some (s .chan k j) (best M s i) (sym (e .2) ∙ q)
+      go (inr e) q = appended-some (s .chan k j) (response M s i) (sym (e .2) ∙ q)
   open-kept (deliver j i) (deliver l k) h =
       deliver-stays (deliver j i) l k h (λ e. deliver-full l k h (sym (delivered-else s j i l k (pairs-differ M s h)) ∙ e))
 
   pub state-agrees : (x y : Step) → Apart M s x y → afterStep M (afterStep M s x) y ≡ afterStep M (afterStep M s y) x
   state-agrees (plan i) (plan k) h = plan-plan M s i k h
   state-agrees (plan i) (deliver j k) h = plan-deliver M s i j k h (deliver-full j k h)
-  state-agrees (deliver j k) (plan i) h = sym (plan-deliver M s i j k (apart-turned h) (deliver-full j k (apart-turned h)))
+  state-agrees (deliver j k) (plan i) h = sym (plan-deliver M s i j k (apart-sym h) (deliver-full j k (apart-sym h)))
   state-agrees (deliver j i) (deliver l k) h = deliver-deliver M s j i l k h

@@ -11,9 +11,9 @@ use Rattle.laws.proofs.Tests.{lt-or-le, eq-or-ne}
 use Rattle.reference.specs.State.{Machine, State, fresh, views}
 use Rattle.reference.specs.Step.{Step, plan, deliver, isOpen}
 use Rattle.reference.specs.Take.{isNews, planAs, newer, deliverTo, effect, counted, afterStep}
-use Rattle.reference.specs.History.{Reaches, stay, next}
+use Rattle.reference.specs.History.{Reachable, stay, next}
 use Rattle.reference.specs.Bounds.{InRange}
-use Rattle.reference.proofs.OpenLaws.{plan-room}
+use Rattle.reference.proofs.OpenLaws.{plan-capacity}
 use Rattle.reference.proofs.CountLaws.{step-counts}
 use Rattle.reference.proofs.TakeLaws.{plan-keeps, sent-below, chan-other, chan-above, deliver-chan}
 
@@ -59,7 +59,7 @@ module _ (M : Machine) (s : State) where
       go (inl q) = rw q (r .channels k j l h)
       go (inr q) =
           rw (q .2, q .0)
-          (omega (arith, length-append (s .chan k i) (a ∷ []), plan-room M s i k e (q .1) h))
+          (omega (arith, length-append (s .chan k i) (a ∷ []), plan-capacity M s i k e (q .1) h))
   step-channels r (deliver m i) e k j l h = go (deliver-chan-cases s m i k j)
     where
       go : (deliverTo s m i .chan k j ≡ s .chan k j) ⊎ (deliverTo s m i .chan k j ≡ newer (s .chan k j)) →
@@ -74,6 +74,6 @@ pub fresh-in-range : (M : Machine) → InRange M fresh
 unfolding fresh
 fresh-in-range M = record { channels = λ i j l h. omega arith; counted = omega arith }
 
-pub reaches-in-range : (M : Machine) {s z : State} {t : ℕ} → InRange M s → Reaches M s z t → InRange M z
+pub reaches-in-range : (M : Machine) {s z : State} {t : ℕ} → InRange M s → Reachable M s z t → InRange M z
 reaches-in-range M r stay = r
 reaches-in-range M {s = s} r (next x e p) = reaches-in-range M (step-in-range M s r x e) p

@@ -6,7 +6,7 @@ use mathlib.Core.Path.{_≡_, refl}
 use Rattle.reference.specs.State.{Machine, State, fresh, tick}
 use Rattle.reference.specs.Step.{Step, plan, deliver}
 use Rattle.reference.specs.Take.{planAs, deliverTo, effect, counted, afterStep}
-use Rattle.reference.specs.History.{Reaches, stay, next}
+use Rattle.reference.specs.History.{Reachable, stay, next}
 use Rattle.reference.specs.Table.{Call}
 use Rattle.reference.specs.Calls.{replies, after}
 use Rattle.reference.specs.Quiescent.{repliesCount}
@@ -18,7 +18,7 @@ module _ (M : Machine) where
   step-counts s (plan i) = refl
   step-counts s (deliver j i) = refl
 
-  pub reaches-counts : {s z : State} {t : ℕ} → s .taken ≤ 999999 → Reaches M s z t → z .taken ≡ min 999999 (s .taken + t)
+  pub reaches-counts : {s z : State} {t : ℕ} → s .taken ≤ 999999 → Reachable M s z t → z .taken ≡ min 999999 (s .taken + t)
   reaches-counts {s = s} l stay = omega arith
   reaches-counts {s = s} l (next x e p) =
       omega (arith, step-counts s x, reaches-counts (omega (arith, step-counts s x)) p)

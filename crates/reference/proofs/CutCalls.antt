@@ -30,29 +30,29 @@ module _ (M : Machine) (lent : ℕ) (enough : M .needed ≤ lent) where
   run-taken s xs b e = rw (run-reply M s lent xs b (run-passes s xs b e)) refl
 
   module _ (s : State) (xs ys : List Asked) (b : ℕ) (e : allNamed M (xs ++ ys) ≡ passed) where
-    abbrev left : ℕ
-    left = b - run M s (stepsOf xs) b .taken
+    abbrev budgetLeft : ℕ
+    budgetLeft = b - run M s (stepsOf xs) b .taken
 
-    pub cut-state : after M s (runOf lent (xs ++ ys) b ∷ []) ≡ after M s (runOf lent xs b ∷ runOf lent ys left ∷ [])
+    pub cut-state : after M s (runOf lent (xs ++ ys) b ∷ []) ≡ after M s (runOf lent xs b ∷ runOf lent ys budgetLeft ∷ [])
     unfolding after
     cut-state =
         rw (
           run-state s (xs ++ ys) b e,
           run-state s xs b (named-front M xs ys e),
-          run-state (run M s (stepsOf xs) b .state) ys left (named-rest M xs ys e),
+          run-state (run M s (stepsOf xs) b .state) ys budgetLeft (named-rest M xs ys e),
           steps-append xs ys,
         )
         (run-cut M s (stepsOf xs) (stepsOf ys) b .state)
 
     pub cut-taken : repliesCount (replies M s (runOf lent (xs ++ ys) b ∷ [])) ≡
-        repliesCount (replies M s (runOf lent xs b ∷ runOf lent ys left ∷ []))
+        repliesCount (replies M s (runOf lent xs b ∷ runOf lent ys budgetLeft ∷ []))
     unfolding replies repliesCount
     cut-taken =
         rw (
           run-taken s (xs ++ ys) b e,
           run-taken s xs b (named-front M xs ys e),
           run-state s xs b (named-front M xs ys e),
-          run-taken (run M s (stepsOf xs) b .state) ys left (named-rest M xs ys e),
+          run-taken (run M s (stepsOf xs) b .state) ys budgetLeft (named-rest M xs ys e),
           steps-append xs ys,
         )
         (omega (arith, run-cut M s (stepsOf xs) (stepsOf ys) b .taken))

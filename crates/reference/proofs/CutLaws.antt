@@ -11,12 +11,12 @@ use Rattle.reference.specs.Step.{Step, isOpen}
 use Rattle.reference.specs.Take.{afterStep}
 use Rattle.reference.specs.Run.{Event, took, skipped, RunResult, tookFirst, skippedFirst, run}
 use Rattle.reference.specs.Ending.{ending}
-use Rattle.reference.specs.History.{Joined}
+use Rattle.reference.specs.History.{RunsJoined}
 use Rattle.reference.proofs.RunLaws.{run-took, run-skipped, run-induction, run-faithful}
 
 -- Run r of the steps xs with budget b, followed by any further steps ys, is the run of both lists.
 Followed : Machine → State → List Step → ℕ → RunResult → Type 0
-Followed M s xs b r = (ys : List Step) → Joined (run M s (xs ++ ys) b) r (run M (r .state) ys (b - r .taken))
+Followed M s xs b r = (ys : List Step) → RunsJoined (run M s (xs ++ ys) b) r (run M (r .state) ys (b - r .taken))
 
 same-test : (r q b : ℕ) → r ≤ b → eqb (r + q) b ≡ eqb q (b - r)
 same-test r q b l = go (eqb q (b - r)) refl
@@ -64,12 +64,12 @@ module _ (M : Machine) where
       })
 
   pub run-cut : (s : State) (xs ys : List Step) (b : ℕ) →
-      Joined (run M s (xs ++ ys) b) (run M s xs b) (run M (run M s xs b .state) ys (b - run M s xs b .taken))
+      RunsJoined (run M s (xs ++ ys) b) (run M s xs b) (run M (run M s xs b .state) ys (b - run M s xs b .taken))
   unfolding Followed
   run-cut s xs ys b = run-induction M (Followed M) followed-none followed-stopped followed-took followed-passed s xs b ys
 
   -- The end of a joined run, where the first part r is read to its end.
-  joined-ending : (b : ℕ) (w r q : RunResult) → Joined w r q → r .taken ≤ b → r .unread ≡ [] → ending M b w ≡ ending M (b - r .taken) q
+  joined-ending : (b : ℕ) (w r q : RunResult) → RunsJoined w r q → r .taken ≤ b → r .unread ≡ [] → ending M b w ≡ ending M (b - r .taken) q
   unfolding ending
   joined-ending b w r q j l e =
       let left : w .unread ≡ q .unread = rw (j .unread, e) in

@@ -13,7 +13,7 @@ use Rattle.reference.specs.Step.{isEmpty}
 use Rattle.reference.specs.Take.{newer, deliverTo}
 use Rattle.reference.proofs.TakeLaws.{deliver-due, deliver-chan}
 use Rattle.reference.proofs.Sums.{sum-less}
-use Rattle.reference.proofs.Potential.{unit, unit-positive, dueWeight, messages, weightAt, potential}
+use Rattle.reference.proofs.Potential.{unit, unit-positive, dueWeight, underWay, weightAt, potential}
 
 newer-length : (l : List Answer) → isEmpty l ≡ false → length (newer l) + 1 ≡ length l
 unfolding isEmpty newer
@@ -26,12 +26,12 @@ due-most true u = omega arith
 due-most false u = omega arith
 
 module _ (n : ℕ) (s : State) (j i : ℕ) where
-  messages-other : (m : ℕ) → (m ≡ i → ⊥) → messages (deliverTo s j i) m ≡ messages s m
-  unfolding messages
+  messages-other : (m : ℕ) → (m ≡ i → ⊥) → underWay (deliverTo s j i) m ≡ underWay s m
+  unfolding underWay
   messages-other m h = rw (deliver-chan s j i .elsewhere m h)
 
-  messages-less : j < i → isEmpty (s .chan i j) ≡ false → messages (deliverTo s j i) i + 1 ≡ messages s i
-  unfolding messages
+  messages-less : j < i → isEmpty (s .chan i j) ≡ false → underWay (deliverTo s j i) i + 1 ≡ underWay s i
+  unfolding underWay
   messages-less l e =
       sum-less i j 1 (λ k. length (deliverTo s j i .chan i k)) (λ k. length (s .chan i k)) l
       (rw (deliver-chan s j i .there) (newer-length (s .chan i j) e)) (λ k h q. ap length (deliver-chan s j i .beside k q))
@@ -46,7 +46,7 @@ module _ (n : ℕ) (s : State) (j i : ℕ) where
       rw (← messages-less l e)
       (omega (
         arith,
-        add-mul (messages (deliverTo s j i) i) 1 (unit n i),
+        add-mul (underWay (deliverTo s j i) i) 1 (unit n i),
         one-mul (unit n i),
         due-most (deliverTo s j i .due i) (unit n i),
         unit-positive n i,

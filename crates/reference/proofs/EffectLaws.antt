@@ -9,7 +9,7 @@ use Rattle.laws.proofs.Tests.{eq-or-ne, true-false-absurd}
 use Rattle.reference.specs.State.{Machine, State, views, tick}
 use Rattle.reference.specs.Step.{plan, deliver, isEmpty, isOpen, sameAnswer}
 use Rattle.reference.specs.Take.{isNews, planAs, oldest, newer, deliverTo, effect, counted, afterStep}
-use Rattle.reference.specs.Effects.{Planned, Delivered}
+use Rattle.reference.specs.Effects.{PlanLeads, DeliverLeads}
 use Rattle.reference.proofs.OpenLaws.{deliver-full}
 use Rattle.reference.proofs.TakeLaws.{cells-same, no-news, plan-keeps, sent-below, chan-other, plan-view, plan-planned, plan-clears}
 use Rattle.reference.proofs.TakeLaws.{plan-answer, deliver-due, deliver-planned, deliver-answer, deliver-chan, deliver-view}
@@ -35,7 +35,7 @@ module _ (s : State) (i : ℕ) (a : Answer) where
   again-no-news p e = rw (p, e, answer-same a) refl
 
 module _ (M : Machine) (s : State) where
-  pub plan-does : (i : ℕ) → Planned M s (afterStep M s (plan i)) i
+  pub plan-does : (i : ℕ) → PlanLeads M s (afterStep M s (plan i)) i
   unfolding afterStep effect counted tick planAs deliverTo
   plan-does i =
       record {
@@ -64,7 +64,7 @@ module _ (M : Machine) (s : State) where
   oldest-first v [] e = true-false-absurd refl e
   oldest-first v (a ∷ l) e = (a, refl, refl)
 
-  pub deliver-does : (j i : ℕ) → isOpen M s (deliver j i) ≡ true → Delivered s (afterStep M s (deliver j i)) j i
+  pub deliver-does : (j i : ℕ) → isOpen M s (deliver j i) ≡ true → DeliverLeads s (afterStep M s (deliver j i)) j i
   unfolding afterStep effect counted tick planAs deliverTo
   deliver-does j i e =
       record {

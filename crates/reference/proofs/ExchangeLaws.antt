@@ -9,25 +9,25 @@ use Rattle.reference.specs.Step.{Step, isOpen}
 use Rattle.reference.specs.Take.{afterStep}
 use Rattle.reference.specs.Run.{took, RunResult, tookFirst, run}
 use Rattle.reference.specs.Ending.{anyLeft, ending}
-use Rattle.reference.specs.History.{Faithful, afterSteps, Joined}
+use Rattle.reference.specs.History.{Faithful, afterSteps, RunsJoined}
 use Rattle.reference.specs.StepClaims.{StepClaims}
 use Rattle.reference.specs.Meeting.{Apart, Exchanged, same, swapped, later, onward, SameRun}
 use Rattle.reference.specs.MeetingClaims.{MeetingClaims}
 use Rattle.reference.proofs.RunLaws.{run-took}
-use Rattle.reference.proofs.ApartLaws.{apart-turned, answer-kept, open-kept, state-agrees}
+use Rattle.reference.proofs.ApartLaws.{apart-sym, answer-kept, open-kept, state-agrees}
 
 -- Two runs leave the same state, number taken and unread steps.
-record Alike (r q : RunResult) : Type 0 where
+record SameResult (r q : RunResult) : Type 0 where
   pub state : r .state ≡ q .state
   pub taken : r .taken ≡ q .taken
   pub unread : r .unread ≡ q .unread
 
-alike-ending : (M : Machine) (b : ℕ) (r q : RunResult) → Alike r q → SameRun M b r q
+alike-ending : (M : Machine) (b : ℕ) (r q : RunResult) → SameResult r q → SameRun M b r q
 unfolding ending
 alike-ending M b r q h = record { state = h .state; taken = h .taken; ending = rw (h .state, h .taken, h .unread) }
 
 -- A run that goes on behind another is alike where the second parts are.
-joined-alike : (r q p x y : RunResult) → Joined r p x → Joined q p y → Alike x y → Alike r q
+joined-alike : (r q p x y : RunResult) → RunsJoined r p x → RunsJoined q p y → SameResult x y → SameResult r q
 joined-alike r q p x y j k h =
     record {
       state = j .state ∙ h .state ∙ sym (k .state);
@@ -47,27 +47,27 @@ module _ (claims : StepClaims) (M : Machine) where
   both-taken s x y ys b o p = run-took M s x (y ∷ ys) (suc b) o ∙ ap (tookFirst x) (run-took M (afterStep M s x) y ys b p)
 
   front-alike : (s : State) (x y : Step) (ys : List Step) (b : ℕ) → 2 ≤ b → Apart M s x y →
-      Alike (run M s (x ∷ (y ∷ ys)) b) (run M s (y ∷ (x ∷ ys)) b)
+      SameResult (run M s (x ∷ (y ∷ ys)) b) (run M s (y ∷ (x ∷ ys)) b)
   unfolding tookFirst
   front-alike s x y ys zero l h = absurd (omega arith)
   front-alike s x y ys (suc zero) l h = absurd (omega arith)
   front-alike s x y ys (suc (suc b)) l h =
       rw (
         both-taken s x y ys b (h .one-open) (open-kept claims M s x y h),
-        both-taken s y x ys b (h .other-open) (open-kept claims M s y x (apart-turned h)),
+        both-taken s y x ys b (h .other-open) (open-kept claims M s y x (apart-sym h)),
         state-agrees claims M s x y h,
       )
       (record { state = refl; taken = refl; unread = refl })
 
   run-alike : (s : State) (xs : List Step) (x y : Step) (ys : List Step) (b : ℕ) → run M s xs b .taken + 2 ≤ b →
-      Apart M (run M s xs b .state) x y → Alike (run M s (xs ++ (x ∷ (y ∷ ys))) b) (run M s (xs ++ (y ∷ (x ∷ ys))) b)
+      Apart M (run M s xs b .state) x y → SameResult (run M s (xs ++ (x ∷ (y ∷ ys))) b) (run M s (xs ++ (y ∷ (x ∷ ys))) b)
   run-alike s xs x y ys b l h =
       joined-alike _ _ (run M s xs b) _ _ (claims .run-cut M s xs (x ∷ (y ∷ ys)) b) (claims .run-cut M s xs (y ∷ (x ∷ ys)) b)
       (front-alike (run M s xs b .state) x y ys (b - run M s xs b .taken) (omega arith) h)
 
   -- Without budget nothing more is read.
   run-stopped : (s : State) (xs : List Step) (y : Step) (ys : List Step) (b : ℕ) → run M s xs b .taken ≡ b →
-      Joined (run M s (xs ++ (y ∷ ys)) b) (run M s xs b) (run M (run M s xs b .state) (y ∷ ys) 0)
+      RunsJoined (run M s (xs ++ (y ∷ ys)) b) (run M s xs b) (run M (run M s xs b .state) (y ∷ ys) 0)
   run-stopped s xs y ys b e =
       let none : b - run M s xs b .taken ≡ 0 = omega arith in
       rw none at (claims .run-cut M s xs (y ∷ ys) b)
@@ -97,16 +97,16 @@ module _ (claims : StepClaims) (M : Machine) where
   unfolding Faithful
   exchanged-open same o = o
   exchanged-open {s = s} (swapped {x = x} {y = y} h) o =
-      (h .other-open, (open-kept claims M s y x (apart-turned h), rw (state-agrees claims M s x y h) at (o .1 .1)))
+      (h .other-open, (open-kept claims M s y x (apart-sym h), rw (state-agrees claims M s x y h) at (o .1 .1)))
   exchanged-open (later h) o = (o .0, exchanged-open h (o .1))
   exchanged-open (onward h k) o = exchanged-open k (exchanged-open h o)
 
 pub meeting-claims : StepClaims → MeetingClaims
 meeting-claims claims =
     record {
-      still-open = λ M s x y h. (open-kept claims M s x y h, open-kept claims M s y x (apart-turned h));
+      still-open = λ M s x y h. (open-kept claims M s x y h, open-kept claims M s y x (apart-sym h));
       same-state = state-agrees claims;
-      same-answers = λ M s x y h. (answer-kept M s x y h, answer-kept M s y x (apart-turned h));
+      same-answers = λ M s x y h. (answer-kept M s x y h, answer-kept M s y x (apart-sym h));
       run-neighbours = λ M s xs x y ys b l h.
           (alike-ending M b _ _ (run-alike claims M s xs x y ys b l h), run-alike claims M s xs x y ys b l h .unread);
       run-unread = unread-same claims;

@@ -10,7 +10,7 @@ use Rattle.laws.proofs.Tests.{eq-or-ne, true-false-absurd}
 use Rattle.reference.specs.State.{Machine, State, fresh, views}
 use Rattle.reference.specs.Step.{Step, plan, deliver}
 use Rattle.reference.specs.Take.{isNews, planAs, oldest, newer, deliverTo, effect, counted, afterStep}
-use Rattle.reference.specs.History.{Reaches, stay, next}
+use Rattle.reference.specs.History.{Reachable, stay, next}
 use Rattle.reference.proofs.TakeLaws.{no-news, plan-keeps, sent-below, chan-other, plan-view, plan-planned, plan-clears, plan-answer}
 use Rattle.reference.proofs.TakeLaws.{deliver-due, deliver-planned, deliver-answer, deliver-chan, deliver-view}
 
@@ -139,6 +139,6 @@ module _ (M : Machine) (s : State) (h : Coherent M s) where
   step-coherent (plan i) = counted-coherent M (planAs s i (M .respond i (views s i))) (plan-coherent i)
   step-coherent (deliver j i) = counted-coherent M (deliverTo s j i) (deliver-coherent j i)
 
-pub reaches-coherent : (M : Machine) {s z : State} {t : ℕ} → Coherent M s → Reaches M s z t → Coherent M z
+pub reaches-coherent : (M : Machine) {s z : State} {t : ℕ} → Coherent M s → Reachable M s z t → Coherent M z
 reaches-coherent M h stay = h
 reaches-coherent M {s = s} h (next x e p) = reaches-coherent M (step-coherent M s h x) p

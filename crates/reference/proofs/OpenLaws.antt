@@ -13,7 +13,7 @@ use Rattle.laws.specs.Verdict.{passed, passes, demand}
 use Rattle.route.specs.Route.{Answer}
 use Rattle.laws.proofs.Tests.{and-both, and-fst, and-snd, or-cases, or-inl, or-inr, lt-or-le, true-false-absurd}
 use Rattle.reference.specs.State.{Machine, State}
-use Rattle.reference.specs.Step.{Step, plan, deliver, isThere, hasRoom, isEmpty, waitsFor, isOpen}
+use Rattle.reference.specs.Step.{Step, plan, deliver, isThere, hasCapacity, isEmpty, waitsFor, isOpen}
 
 pub empty-nil : (l : List Answer) → isEmpty l ≡ true → l ≡ []
 unfolding isEmpty
@@ -45,10 +45,10 @@ module _ (M : Machine) (s : State) where
   unfolding waitsFor
   plan-due i e = demand-holds (s .due i) 8 0 (then-both _ _ (open-ready (plan i) e) .0)
 
-  -- A channel from i has room if it leads to a carrier above, or has fewer than depth messages.
-  pub room-means : (i : ℕ) → Decides (hasRoom M s i) (λ k. i < k → length (s .chan k i) < M .depth)
-  unfolding hasRoom
-  room-means i k = (
+  -- A channel from i has capacity if it leads to a carrier above, or has fewer than depth messages.
+  pub capacity-means : (i : ℕ) → Decides (hasCapacity M s i) (λ k. i < k → length (s .chan k i) < M .depth)
+  unfolding hasCapacity
+  capacity-means i k = (
     λ e l.
         ⊎-elim (λ (p : leb k i ≡ true). true-false-absurd p (lt-leb k i l))
         (λ (p : ltb (length (s .chan k i)) (M .depth) ≡ true). ltb-true (length (s .chan k i)) (M .depth) p)
@@ -57,16 +57,16 @@ module _ (M : Machine) (s : State) where
         ⊎-elim (λ (a : i < k). or-inr (leb k i) _ (lt-ltb _ _ (h a))) (λ (a : k ≤ i). or-inl (leb k i) _ (le-leb k i a)) (lt-or-le i k),
   )
 
-  pub plan-room : (i k : ℕ) → isOpen M s (plan i) ≡ true → i < k → k < M .carriers → length (s .chan k i) < M .depth
+  pub plan-capacity : (i k : ℕ) → isOpen M s (plan i) ≡ true → i < k → k < M .carriers → length (s .chan k i) < M .depth
   unfolding waitsFor
-  plan-room i k e l h = each-passed 13 1 _ _ (room-means i) (M .carriers) (then-both _ _ (open-ready (plan i) e) .1) k h l
+  plan-capacity i k e l h = each-passed 13 1 _ _ (capacity-means i) (M .carriers) (then-both _ _ (open-ready (plan i) e) .1) k h l
 
   pub plan-open : (i : ℕ) → i < M .carriers → s .due i ≡ true →
       ((k : ℕ) → i < k → k < M .carriers → length (s .chan k i) < M .depth) → isOpen M s (plan i) ≡ true
   unfolding isThere waitsFor
   plan-open i l d r =
       ready-open (plan i) (lt-ltb i (M .carriers) l)
-      (then-passed (demand-passes 8 0 d) ∙ all-passes 13 1 _ _ (room-means i) (M .carriers) (λ k h a. r k a h))
+      (then-passed (demand-passes 8 0 d) ∙ all-passes 13 1 _ _ (capacity-means i) (M .carriers) (λ k h a. r k a h))
 
   pub deliver-above : (j i : ℕ) → isOpen M s (deliver j i) ≡ true → j < i
   unfolding isThere

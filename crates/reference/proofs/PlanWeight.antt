@@ -13,7 +13,7 @@ use Rattle.reference.specs.State.{State}
 use Rattle.reference.specs.Take.{isNews, planAs}
 use Rattle.reference.proofs.TakeLaws.{plan-keeps, sent-below, chan-other, chan-above, plan-clears}
 use Rattle.reference.proofs.Sums.{sumTo, sum-same, sum-less}
-use Rattle.reference.proofs.Potential.{unit, unit-double, unit-last, unit-positive, dueWeight, messages, weightAt, potential}
+use Rattle.reference.proofs.Potential.{unit, unit-double, unit-last, unit-positive, dueWeight, underWay, weightAt, potential}
 
 module _
     (n i : ℕ) (f g : ℕ → ℕ)
@@ -40,16 +40,16 @@ module _
       omega (arith, plan-sum p (omega arith) (omega arith), unit-double n p (omega arith))
 
 module _ (n : ℕ) (s : State) (i : ℕ) (a : Answer) where
-  messages-above : (m : ℕ) → m ≤ i → messages (planAs s i a) m ≡ messages s m
-  unfolding messages
+  messages-above : (m : ℕ) → m ≤ i → underWay (planAs s i a) m ≡ underWay s m
+  unfolding underWay
   messages-above m l =
       sum-same m (λ j. length (planAs s i a .chan m j)) (λ j. length (s .chan m j)) (λ j h. ap length (chan-above s i a m j l))
 
-  messages-below : (m : ℕ) → i < m → messages (planAs s i a) m ≤ messages s m + 1
-  unfolding messages
+  messages-below : (m : ℕ) → i < m → underWay (planAs s i a) m ≤ underWay s m + 1
+  unfolding underWay
   messages-below m l = go (isNews s i a) refl
     where
-      go : (t : Bool) → isNews s i a ≡ t → messages (planAs s i a) m ≤ messages s m + 1
+      go : (t : Bool) → isNews s i a ≡ t → underWay (planAs s i a) m ≤ underWay s m + 1
       go true e =
           omega (
             arith,
@@ -71,7 +71,7 @@ module _ (n : ℕ) (s : State) (i : ℕ) (a : Answer) where
   unfolding weightAt
   weight-below m l =
       rw (plan-clears s i a .elsewhere m (λ q. omega arith))
-      (omega (arith, add-mul (messages s m) 1 (unit n m), one-mul (unit n m), mul-le-mul-right (unit n m) (messages-below m l)))
+      (omega (arith, add-mul (underWay s m) 1 (unit n m), one-mul (unit n m), mul-le-mul-right (unit n m) (messages-below m l)))
 
   pub plan-lowers : s .due i ≡ true → i < n → potential n (planAs s i a) < potential n s
   unfolding potential

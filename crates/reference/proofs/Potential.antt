@@ -35,17 +35,17 @@ dueWeight true u = u - 1
 dueWeight false u = 0
 
 -- The messages under way to carrier i.
-unfoldable pub messages : State → ℕ → ℕ
-messages s i = sumTo i (λ j. length (s .chan i j))
+unfoldable pub underWay : State → ℕ → ℕ
+underWay s i = sumTo i (λ j. length (s .chan i j))
 
 unfoldable pub weightAt : ℕ → State → ℕ → ℕ
-weightAt n s i = dueWeight (s .due i) (unit n i) + messages s i * unit n i
+weightAt n s i = dueWeight (s .due i) (unit n i) + underWay s i * unit n i
 
 unfoldable pub potential : ℕ → State → ℕ
 potential n s = sumTo n (weightAt n s)
 
 fresh-weight : (n i : ℕ) → weightAt n fresh i ≡ unit n i - 1
-unfolding weightAt messages fresh dueWeight
+unfolding weightAt underWay fresh dueWeight
 fresh-weight n i = rw (sum-zero i (λ j. 0) (λ j l. refl), zero-mul) (omega arith)
 
 fresh-sum : (n k : ℕ) → k ≤ n → sumTo k (weightAt n fresh) + k + 2 * unit n k ≡ 2 ^ suc n

@@ -12,7 +12,7 @@ use Rattle.reference.specs.Ranges.{below}
 use Rattle.reference.specs.State.{Machine, State, views}
 use Rattle.reference.specs.Step.{Step, plan, deliver, isOpen}
 use Rattle.reference.specs.Take.{planAs, deliverTo, effect, counted, afterStep}
-use Rattle.reference.specs.History.{Reaches, stay, next}
+use Rattle.reference.specs.History.{Reachable, stay, next}
 use Rattle.reference.proofs.RangeLaws.{below-same, below-map}
 use Rattle.reference.proofs.OpenLaws.{nil-empty, plan-due, deliver-above, deliver-full}
 use Rattle.reference.proofs.QuiescentLaws.{Idle}
@@ -87,7 +87,7 @@ module _ (M : Machine) (s : State) (k : ℕ) where
         no-message = λ i j a l. h .chan i j l ∙ q .no-message i j a l;
       }
 
-pub reaches-quiescence : (M : Machine) (k : ℕ) {s z : State} {t : ℕ} → Idle k s → Reaches M s z t →
+pub reaches-quiescence : (M : Machine) (k : ℕ) {s z : State} {t : ℕ} → Idle k s → Reachable M s z t →
     Idle k z × ((i : ℕ) → i < k → z .answer i ≡ s .answer i)
 reaches-quiescence M k q stay = (q, λ i l. refl)
 reaches-quiescence M k {s = s} q (next x e p) =

@@ -7,11 +7,11 @@ use mathlib.Core.Path.{_≡_}
 use lib.ListN.{length}
 use borrow.Author.Tests.{not-true}
 use Rattle.laws.proofs.Tests.{and-both, and-fst, and-snd, not-true-is-false, true-or-false, true-false-absurd}
-use Rattle.reference.specs.Ranges.{each}
+use Rattle.laws.specs.Verdict.{each}
 use Rattle.reference.specs.State.{Machine, State}
 use Rattle.reference.specs.Step.{Step, plan, deliver, isEmpty, isOpen}
 use Rattle.reference.specs.Quiescent.{idleAt, idle}
-use Rattle.reference.proofs.RangeLaws.{each-holds, each-true}
+use Rattle.laws.proofs.HoldLaws.{each-holds, each-true}
 use Rattle.reference.proofs.OpenLaws.{empty-nil, nil-empty, plan-within, plan-due, plan-open}
 use Rattle.reference.proofs.OpenLaws.{deliver-above, deliver-within, deliver-full, deliver-open}
 
@@ -54,7 +54,7 @@ module _ (M : Machine) (s : State) where
       (λ e. true-false-absurd (nil-empty (s .chan i j) (q .no-message i j (deliver-above M s j i e) (deliver-within M s j i e)))
       (deliver-full M s j i e))
 
-  -- Where no step is open the channels are empty, since no delivery is open; so every channel has room, and nobody is due.
+  -- Where no step is open the channels are empty, since no delivery is open; so every channel has capacity, and nobody is due.
   pub shut-idle : 1 ≤ M .depth → ((x : Step) → isOpen M s x ≡ false) → Idle (M .carriers) s
   shut-idle d h = record { not-due = not-due; no-message = no-message }
     where
@@ -64,8 +64,8 @@ module _ (M : Machine) (s : State) where
           (λ (e : isEmpty (s .chan i j) ≡ false). true-false-absurd (deliver-open M s j i a l e) (h (deliver j i)))
           (true-or-false (isEmpty (s .chan i j)))
 
-      room : (i k : ℕ) → i < k → k < M .carriers → length (s .chan k i) < M .depth
-      room i k a l = rw (no-message k i a l) d
+      capacity : (i k : ℕ) → i < k → k < M .carriers → length (s .chan k i) < M .depth
+      capacity i k a l = rw (no-message k i a l) d
 
       not-due : (i : ℕ) → i < M .carriers → s .due i ≡ false
-      not-due i l = not-true-is-false (s .due i) (λ e. true-false-absurd (plan-open M s i l e (room i)) (h (plan i)))
+      not-due i l = not-true-is-false (s .due i) (λ e. true-false-absurd (plan-open M s i l e (capacity i)) (h (plan i)))

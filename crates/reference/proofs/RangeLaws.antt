@@ -1,44 +1,10 @@
--- Laws of lists and tests over the first carriers, and of pointwise updates.
+-- Laws of lists over the first carriers, and of pointwise updates.
 use Prim.Native.Nat.{ℕ, zero, suc, _<_}
 use native.Mathlib.Omega.{arith}
-use native.Mathlib.Nat.{eq-or-lt-of-le}
-use mathlib.Core.Bool.{Bool, true, false}
 use mathlib.Core.List.{map, map-append}
-use mathlib.Core.Logic.{⊎-elim}
 use mathlib.Core.Path.{_≡_, refl}
 use borrow.Author.Tests.{eq-eqb, ne-eqb}
-use Rattle.laws.proofs.Tests.{and-both, and-fst, and-snd, true-false-absurd}
-use Rattle.reference.specs.Ranges.{below, each, update, updatePair}
-
-pub each-holds : (k : ℕ) (p : ℕ → Bool) → each k p ≡ true → (i : ℕ) → i < k → p i ≡ true
-unfolding each
-each-holds zero p e i l = absurd (omega arith)
-each-holds (suc k) p e i l =
-    ⊎-elim (λ (h : i ≡ k). rw h (and-snd (each k p) (p k) e)) (λ (h : i < k). each-holds k p (and-fst (each k p) (p k) e) i h)
-    (eq-or-lt-of-le (omega arith))
-
-pub each-true : (k : ℕ) (p : ℕ → Bool) → ((i : ℕ) → i < k → p i ≡ true) → each k p ≡ true
-unfolding each
-each-true zero p h = refl
-each-true (suc k) p h = and-both (each-true k p (λ i l. h i (omega arith))) (h k (omega arith))
-
--- A test over the first k carriers depends on its values there only.
-pub each-same : (k : ℕ) (p q : ℕ → Bool) → ((i : ℕ) → i < k → p i ≡ q i) → each k p ≡ each k q
-unfolding each
-each-same zero p q h = refl
-each-same (suc k) p q h = rw (each-same k p q (λ i l. h i (omega arith)), h k (omega arith))
-
--- Where the test does not hold at each place, there is a place where it does not.
-pub each-fails : (k : ℕ) (p : ℕ → Bool) → each k p ≡ false → (i : ℕ) × (i < k) × (p i ≡ false)
-unfolding each
-each-fails zero p e = true-false-absurd refl e
-each-fails (suc k) p e = go (p k) (each k p) refl refl (each-fails k p)
-  where
-    go : (t u : Bool) → p k ≡ t → each k p ≡ u → (each k p ≡ false → (i : ℕ) × (i < k) × (p i ≡ false)) →
-        (i : ℕ) × (i < suc k) × (p i ≡ false)
-    go false u a h below-k = (k, omega arith, a)
-    go true false a h below-k = ((below-k h) .0, omega (arith, (below-k h) .1), (below-k h) .2)
-    go true true a h below-k = true-false-absurd (and-both h a) e
+use Rattle.reference.specs.Ranges.{below, update, updatePair}
 
 module _ {A : Type 0} where
   pub below-same : (k : ℕ) (f g : ℕ → A) → ((i : ℕ) → i < k → f i ≡ g i) → below k f ≡ below k g

@@ -7,11 +7,12 @@ use mathlib.Core.Logic.{⊎-elim}
 use mathlib.Core.Path.{_≡_, refl, sym, _∙_, ap, ap₂}
 use borrow.Author.Tests.{not-true, not-false}
 use Rattle.laws.proofs.Tests.{and-fst, and-snd, and-fails, not-true-is-false, true-false-absurd}
-use Rattle.reference.specs.Ranges.{below, joined, each}
+use Rattle.laws.specs.Verdict.{each}
+use Rattle.reference.specs.Ranges.{below, joined}
 use Rattle.reference.specs.State.{Machine, State}
 use Rattle.reference.specs.Step.{Step, plan, deliver, isOpen}
 use Rattle.reference.specs.Ranking.{deliveriesFrom, ranking, noneOpen, isSilent}
-use Rattle.reference.proofs.RangeLaws.{each-holds, each-same}
+use Rattle.laws.proofs.HoldLaws.{each-holds, each-same}
 use Rattle.reference.proofs.OpenLaws.{plan-within, deliver-above, deliver-within}
 
 module _ (M : Machine) (s : State) where

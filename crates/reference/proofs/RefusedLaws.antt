@@ -15,8 +15,8 @@ use Rattle.reference.specs.State.{Machine, State}
 use Rattle.reference.specs.Step.{Step, plan, deliver, isThere, isEmpty, waitsFor, isOpen}
 use Rattle.reference.specs.Table.{Asked, step, noStep, isNamed, Call, single, runOf, lentEnough, allNamed, openSingle, verdict}
 use Rattle.reference.specs.Refused.{Waits, not-due, nothing-under-way, channel-full}
-use Rattle.reference.specs.Refused.{RefusedWith, short-single, short-run, unnamed-single, unnamed-run, waiting}
-use Rattle.reference.proofs.OpenLaws.{empty-nil, nil-empty, open-there, open-ready, ready-open, room-means}
+use Rattle.reference.specs.Refused.{RefusedCall, short-single, short-run, unnamed-single, unnamed-run, waiting}
+use Rattle.reference.proofs.OpenLaws.{empty-nil, nil-empty, open-there, open-ready, ready-open, capacity-means}
 use Rattle.reference.proofs.TableLaws.{enough-lent, lent-enough, short-lent, named-means}
 
 -- A check that refuses with no number passes.
@@ -31,7 +31,7 @@ module _ (M : Machine) (s : State) where
   row-waits (not-due h) = then-refused _ (demand-refuses 8 0 h)
   row-waits (nothing-under-way {j} {i} h) = demand-refuses 12 (1 + i) (ap not (nil-empty (s .chan i j) h))
   row-waits (channel-full {i} {k} h f) =
-      then-passed (demand-passes 8 0 h) ∙ first-refuses 13 1 _ _ (room-means M s i) (M .carriers) k f
+      then-passed (demand-passes 8 0 h) ∙ first-refuses 13 1 _ _ (capacity-means M s i) (M .carriers) k f
 
   waits-row : (x : Step) (a p : ℕ) → waitsFor M s x ≡ refused a p → Waits M s x a p
   unfolding waitsFor
@@ -39,7 +39,7 @@ module _ (M : Machine) (s : State) where
       refused-by e
       (λ h. let d = demand-cases (s .due i) 8 0 a p h in rw (d .1, d .2) (not-due (d .0)))
       (λ h g.
-      each-refused 13 1 _ _ (room-means M s i) (Waits M s (plan i)) (M .carriers) a p g
+      each-refused 13 1 _ _ (capacity-means M s i) (Waits M s (plan i)) (M .carriers) a p g
       (λ k f. channel-full (demand-holds (s .due i) 8 0 h) f))
   waits-row (deliver j i) a p e =
       let d = demand-cases (not (isEmpty (s .chan i j))) 12 (1 + i) a p e in
@@ -60,7 +60,7 @@ module _ (M : Machine) (s : State) where
   unnamed (step x) h = then-refused (waitsFor M s x) (demand-refuses 7 0 h)
   unnamed noStep h = refl
 
-  row-refuses : {c : Call} {a p : ℕ} → RefusedWith M s c a p → verdict M s c ≡ refused a p
+  row-refuses : {c : Call} {a p : ℕ} → RefusedCall M s c a p → verdict M s c ≡ refused a p
   unfolding verdict openSingle allNamed
   row-refuses (short-single {lent} l) = then-refused _ (short-lent M lent l)
   row-refuses (short-run {lent} l) = then-refused _ (short-lent M lent l)
@@ -75,22 +75,23 @@ module _ (M : Machine) (s : State) where
   unfolding lentEnough
   lent-row lent a p e = let d = demand-cases _ 9 0 a p e in (leb-false (M .needed) lent (d .0), d .1, d .2)
 
-  single-row : (lent : ℕ) (c : Asked) (a p : ℕ) → M .needed ≤ lent → openSingle M s c ≡ refused a p → RefusedWith M s (single lent c) a p
+  single-row : (lent : ℕ) (c : Asked) (a p : ℕ) → M .needed ≤ lent → openSingle M s c ≡ refused a p → RefusedCall M s (single lent c) a p
   unfolding openSingle isNamed
   single-row lent noStep a p l e = let q = refused-same e in rw (← q .0, ← q .1) (unnamed-single l refl)
   single-row lent (step x) a p l e =
       refused-by e absent (λ h g. waiting l (demand-holds (isThere M x) 7 0 h) (waits-row x a p g))
     where
-      absent : demand (isThere M x) 7 0 ≡ refused a p → RefusedWith M s (single lent (step x)) a p
+      absent : demand (isThere M x) 7 0 ≡ refused a p → RefusedCall M s (single lent (step x)) a p
       absent h = let d = demand-cases (isThere M x) 7 0 a p h in rw (d .1, d .2) (unnamed-single l (d .0))
 
-  run-row : (lent : ℕ) (xs : List Asked) (b a p : ℕ) → M .needed ≤ lent → allNamed M xs ≡ refused a p → RefusedWith M s (runOf lent xs b) a p
+  run-row : (lent : ℕ) (xs : List Asked) (b a p : ℕ) → M .needed ≤ lent → allNamed M xs ≡ refused a p
+      → RefusedCall M s (runOf lent xs b) a p
   unfolding allNamed
   run-row lent xs b a p l e =
-      each-refused 7 0 _ _ (named-means M xs) (RefusedWith M s (runOf lent xs b)) (length xs) a p e
+      each-refused 7 0 _ _ (named-means M xs) (RefusedCall M s (runOf lent xs b)) (length xs) a p e
       (λ i f. rw zero-add (unnamed-run l f))
 
-  refused-row : (c : Call) (a p : ℕ) → verdict M s c ≡ refused a p → RefusedWith M s c a p
+  refused-row : (c : Call) (a p : ℕ) → verdict M s c ≡ refused a p → RefusedCall M s c a p
   unfolding verdict
   refused-row (single lent c) a p e =
       refused-by e
@@ -101,5 +102,5 @@ module _ (M : Machine) (s : State) where
       (λ h. let r = lent-row lent a p h in rw (r .1, r .2) (short-run (r .0)))
       (λ h g. run-row lent xs b a p (lent-enough M lent h) g)
 
-  pub refuses-exactly : (c : Call) (a p : ℕ) → (verdict M s c ≡ refused a p) ↔ RefusedWith M s c a p
+  pub refuses-exactly : (c : Call) (a p : ℕ) → (verdict M s c ≡ refused a p) ↔ RefusedCall M s c a p
   refuses-exactly c a p = (refused-row c a p, λ r. row-refuses r)

@@ -12,7 +12,7 @@ use Rattle.laws.proofs.VerdictLaws.{demand-same, gives-same, when-same}
 use Rattle.route.specs.Route.{Answer, View}
 use Rattle.reference.specs.Ranges.{below}
 use Rattle.reference.specs.State.{Machine, State, views}
-use Rattle.reference.specs.Step.{Step, plan, deliver, isThere, hasRoom, waitsFor, isOpen}
+use Rattle.reference.specs.Step.{Step, plan, deliver, isThere, hasCapacity, waitsFor, isOpen}
 use Rattle.reference.specs.Ranking.{ranking, noneOpen, isSilent}
 use Rattle.reference.specs.Take.{effect, afterStep, stepAnswer}
 use Rattle.reference.specs.Run.{RunResult, run, tookFirst, skippedFirst}
@@ -47,7 +47,7 @@ module _ (n d k : ℕ) (p q : ℕ → List View → Answer) (agree : (i : ℕ) (
   there-same (deliver j i) = refl
 
   waits-same : (s : State) (x : Step) → waitsFor M s x ≡ waitsFor N s x
-  unfolding waitsFor hasRoom
+  unfolding waitsFor hasCapacity
   waits-same s (plan i) = refl
   waits-same s (deliver j i) = refl
 

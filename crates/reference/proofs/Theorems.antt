@@ -18,7 +18,7 @@ use Rattle.reference.specs.StepClaims.{StepClaims}
 use Rattle.reference.specs.CallClaims.{CallClaims}
 use Rattle.reference.specs.Claims.{Claims}
 use Rattle.reference.proofs.RangeLaws.{below-same}
-use Rattle.reference.proofs.OpenLaws.{empty-nil, nil-empty, plan-within, plan-due, plan-room, plan-open}
+use Rattle.reference.proofs.OpenLaws.{empty-nil, nil-empty, plan-within, plan-due, plan-capacity, plan-open}
 use Rattle.reference.proofs.OpenLaws.{deliver-above, deliver-within, deliver-full, deliver-open}
 use Rattle.reference.proofs.RunLaws.{run-faithful}
 use Rattle.reference.proofs.CutLaws.{run-cut, cut-ending}
@@ -75,7 +75,7 @@ module _ (M : Machine) (s : State) where
   plan-exactly : (i : ℕ) → (isOpen M s (plan i) ≡ true) ↔
       ((i < M .carriers) × (s .due i ≡ true) × ((k : ℕ) → i < k → k < M .carriers → length (s .chan k i) < M .depth))
   plan-exactly i = (
-    λ o. (plan-within M s i o, plan-due M s i o, λ k l h. plan-room M s i k o l h),
+    λ o. (plan-within M s i o, plan-due M s i o, λ k l h. plan-capacity M s i k o l h),
     λ h. plan-open M s i (h .0) (h .1) (h .2),
   )
 

@@ -8,7 +8,7 @@ use Rattle.laws.proofs.Tests.{eq-or-ne}
 use Rattle.reference.specs.State.{Machine, State, fresh, views}
 use Rattle.reference.specs.Step.{Step, plan, deliver}
 use Rattle.reference.specs.Take.{planAs, oldest, newer, deliverTo, effect, counted, afterStep}
-use Rattle.reference.specs.History.{Reaches, stay, next}
+use Rattle.reference.specs.History.{Reachable, stay, next}
 use Rattle.reference.specs.Bounds.{AllOf, ShownOf, Throughout}
 use Rattle.reference.proofs.TakeLaws.{plan-view, plan-answer, deliver-answer, deliver-view}
 use Rattle.reference.proofs.BoundLaws.{plan-chan-cases, deliver-chan-cases}
@@ -82,7 +82,7 @@ module _ (n : ℕ) (P : Answer → Type 0) where
     step-throughout s h (plan i) = counted-throughout _ (plan-throughout s h i (M .respond i (views s i)) (best i (views s i)))
     step-throughout s h (deliver j i) = counted-throughout _ (deliver-throughout s h j i)
 
-    pub reaches-throughout : {s z : State} {t : ℕ} → Throughout n P s → Reaches M s z t → Throughout n P z
+    pub reaches-throughout : {s z : State} {t : ℕ} → Throughout n P s → Reachable M s z t → Throughout n P z
     reaches-throughout h stay = h
     reaches-throughout {s = s} h (next x e p) = reaches-throughout (step-throughout s h x) p
 

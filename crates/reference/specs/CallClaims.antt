@@ -13,25 +13,25 @@ use Rattle.laws.specs.Verdict.{passed, refused}
 use Rattle.reference.specs.State.{Machine, State, fresh}
 use Rattle.reference.specs.Step.{Step, isOpen}
 use Rattle.reference.specs.Run.{run}
-use Rattle.reference.specs.History.{Reaches}
+use Rattle.reference.specs.History.{Reachable}
 use Rattle.reference.specs.Table.{Asked, step, Call, single, runOf, stepsOf, allNamed, verdict}
-use Rattle.reference.specs.Refused.{RefusedWith}
+use Rattle.reference.specs.Refused.{RefusedCall}
 use Rattle.reference.specs.Calls.{replies, after}
 use Rattle.reference.specs.Quiescent.{quiet, repliesCount, ceiling}
 use Rattle.reference.specs.Bounds.{InRange, Throughout}
 
 pub record CallClaims : Type 1 where
   -- A call is refused exactly under the conditions of the table, with its first place.
-  pub refuses-exactly : (M : Machine) (s : State) (c : Call) (a p : ℕ) → (verdict M s c ≡ refused a p) ↔ RefusedWith M s c a p
+  pub refuses-exactly : (M : Machine) (s : State) (c : Call) (a p : ℕ) → (verdict M s c ≡ refused a p) ↔ RefusedCall M s c a p
   -- A single step that is not refused is open.
   pub single-open : (M : Machine) (s : State) (lent : ℕ) (x : Step) → verdict M s (single lent (step x)) ≡ passed → isOpen M s x ≡ true
   -- A list of calls changes the state by open steps alone, as many as its answers tell of.
-  pub calls-reach : (M : Machine) (s : State) (cs : List Call) → Reaches M s (after M s cs) (repliesCount (replies M s cs))
+  pub calls-reach : (M : Machine) (s : State) (cs : List Call) → Reachable M s (after M s cs) (repliesCount (replies M s cs))
   -- The taken count is the number of single steps taken plus the numbers that the runs returned, or 999,999 if that is more.
   pub count-told : (M : Machine) (cs : List Call) → after M fresh cs .taken ≡ min 999999 (repliesCount (replies M fresh cs))
   -- The step ceiling: from fresh, no list of calls takes more than 2^(n + 1) − n − 2 steps.
   pub ceiling-holds : (M : Machine) (cs : List Call) → repliesCount (replies M fresh cs) ≤ ceiling (M .carriers)
-  -- A point inside a run that is not turned away is the end of the same run with its list cut there, and the rest of the list, with
+  -- A point inside a run that is not refused is the end of the same run with its list cut there, and the rest of the list, with
   -- what is left of the budget, counts as a later call.
   pub cut-state : (M : Machine) (lent : ℕ) → M .needed ≤ lent → (s : State) (xs ys : List Asked) (b : ℕ) →
       allNamed M (xs ++ ys) ≡ passed →

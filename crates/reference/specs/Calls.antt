@@ -5,17 +5,17 @@ use Rattle.laws.specs.Verdict.{Outcome, refusal, _gives_, _thenAnswers_, whenPa
 use Rattle.reference.specs.State.{Machine, State}
 use Rattle.reference.specs.Take.{afterStep, StepAnswer, stepAnswer}
 use Rattle.reference.specs.Run.{run}
-use Rattle.reference.specs.Ending.{Ending, ending}
+use Rattle.reference.specs.Ending.{RunEnding, ending}
 use Rattle.reference.specs.Table.{step, noStep, Call, single, runOf, stepsOf, lentEnough, verdict}
 
 -- What a call that is not refused tells: a step's answer, or the number taken by a run and how it ended.
-pub data Told : Type 0 where
-  stepped : StepAnswer → Told
-  ran : ℕ → Ending → Told
+pub data CallAnswer : Type 0 where
+  stepped : StepAnswer → CallAnswer
+  ran : ℕ → RunEnding → CallAnswer
 
 -- The answer to a call: what it tells, or refused with number and place.
 abbrev pub Reply : Type 0
-Reply = Outcome Told
+Reply = Outcome CallAnswer
 
 -- The answer to a call: if the table turns it away, that refusal.
 unfoldable pub reply : Machine → State → Call → Reply
@@ -24,7 +24,7 @@ reply M s (single lent noStep) = lentEnough M lent thenAnswers refusal 7 0
 reply M s (runOf lent xs b) =
     verdict M s (runOf lent xs b) gives ran (run M s (stepsOf xs) b .taken) (ending M b (run M s (stepsOf xs) b))
 
--- The state after a call that is not turned away.
+-- The state after a call that is not refused.
 unfoldable pub stateAfter : Machine → State → Call → State
 stateAfter M s (single lent (step x)) = afterStep M s x
 stateAfter M s (single lent noStep) = s

@@ -14,7 +14,7 @@ pub record SameCarrier (s z : State) (k : ℕ) : Type 0 where
   pub answer : z .answer k ≡ s .answer k
 
 -- Plan i leads from s to z.
-pub record Planned (M : Machine) (s z : State) (i : ℕ) : Type 0 where
+pub record PlanLeads (M : Machine) (s z : State) (i : ℕ) : Type 0 where
   -- It sets the answer to the best against the heard views, clears due, sets planned.
   pub best : z .answer i ≡ M .respond i (views s i)
   pub cleared : z .due i ≡ false
@@ -31,7 +31,7 @@ pub record Planned (M : Machine) (s z : State) (i : ℕ) : Type 0 where
   pub seen : (k j : ℕ) → z .view k j ≡ s .view k j
 
 -- Deliver j to i leads from s to z.
-pub record Delivered (s z : State) (j i : ℕ) : Type 0 where
+pub record DeliverLeads (s z : State) (j i : ℕ) : Type 0 where
   -- The oldest message leaves the channel and becomes the view that i has of j; i becomes due.
   pub oldest : Answer
   pub leaves : s .chan i j ≡ oldest ∷ z .chan i j

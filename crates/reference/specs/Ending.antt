@@ -9,10 +9,10 @@ use Rattle.reference.specs.Ranking.{isSilent}
 use Rattle.reference.specs.Run.{RunResult}
 
 -- How a run ends.
-pub data Ending : Type 0 where
-  silent : Ending
-  spent : Ending
-  ended : Ending
+pub data RunEnding : Type 0 where
+  silent : RunEnding
+  spent : RunEnding
+  ended : RunEnding
 
 -- Steps are left.
 unfoldable pub anyLeft : List Step → Bool
@@ -20,11 +20,11 @@ anyLeft [] = false
 anyLeft (x ∷ xs) = true
 
 -- Silent, if no step is open then; otherwise spent, if the budget is used up and steps are left; otherwise ended.
-unfoldable pub endsAs : (noneOpen usedUp : Bool) → Ending
+unfoldable pub endsAs : (noneOpen usedUp : Bool) → RunEnding
 endsAs true usedUp = silent
 endsAs false true = spent
 endsAs false false = ended
 
 -- The end of a run with budget b: it is used up if taken equals the budget and unread steps are left.
-unfoldable pub ending : Machine → ℕ → RunResult → Ending
+unfoldable pub ending : Machine → ℕ → RunResult → RunEnding
 ending M b r = endsAs (isSilent M (r .state)) (eqb (r .taken) b && anyLeft (r .unread))

@@ -34,9 +34,9 @@ afterSteps M s [] = s
 afterSteps M s (x ∷ xs) = afterSteps M (afterStep M s x) xs
 
 -- State z is reached from state s by t steps, each open when it was taken.
-pub data Reaches (M : Machine) : State → State → ℕ → Type 0 where
-  stay : {s : State} → Reaches M s s 0
-  next : {s z : State} {t : ℕ} (x : Step) → isOpen M s x ≡ true → Reaches M (afterStep M s x) z t → Reaches M s z (suc t)
+pub data Reachable (M : Machine) : State → State → ℕ → Type 0 where
+  stay : {s : State} → Reachable M s s 0
+  next : {s z : State} {t : ℕ} (x : Step) → isOpen M s x ≡ true → Reachable M (afterStep M s x) z t → Reachable M s z (suc t)
 
 -- What the history of a run r of the steps xs with budget b says: it is faithful; it reads the list from the front; the state is
 -- the one after its taken steps; the number taken is how many they are, at most the budget; it stops at the list's end or with
@@ -50,7 +50,7 @@ pub record FaithfulRun (M : Machine) (s : State) (xs : List Step) (b : ℕ) (r :
   pub stops : (r .unread ≡ []) ⊎ (r .taken ≡ b)
 
 -- Run r is run p and then run q.
-pub record Joined (r p q : RunResult) : Type 0 where
+pub record RunsJoined (r p q : RunResult) : Type 0 where
   pub state : r .state ≡ q .state
   pub history : r .history ≡ p .history ++ q .history
   pub taken : r .taken ≡ p .taken + q .taken

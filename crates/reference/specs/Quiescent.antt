@@ -2,8 +2,7 @@
 use Prim.Native.Nat.{ℕ, suc, _+_, _-_, _^_}
 use mathlib.Core.Bool.{Bool, _&&_, not}
 use mathlib.Core.List.{List, [], _∷_}
-use Rattle.laws.specs.Verdict.{value, refusal}
-use Rattle.reference.specs.Ranges.{each}
+use Rattle.laws.specs.Verdict.{value, refusal, each}
 use Rattle.reference.specs.State.{State}
 use Rattle.reference.specs.Step.{isEmpty}
 use Rattle.reference.specs.Calls.{Reply, stepped, ran}

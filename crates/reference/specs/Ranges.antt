@@ -1,6 +1,6 @@
--- Functions of the carriers, counted from 0: lists and tests over the first k of them, and pointwise updates.
+-- Functions of the carriers, counted from 0: lists over the first k of them, and pointwise updates.
 use Prim.Native.Nat.{ℕ, zero, suc}
-use mathlib.Core.Bool.{Bool, true, false, _&&_}
+use mathlib.Core.Bool.{true, false}
 use mathlib.Core.List.{List, [], _∷_, _++_}
 use lib.Dec.{eqb}
 
@@ -13,11 +13,6 @@ below (suc k) f = below k f ++ (f k ∷ [])
 unfoldable pub joined : {A : Type 0} → ℕ → (ℕ → List A) → List A
 joined zero f = []
 joined (suc k) f = joined k f ++ f k
-
--- The test holds at 0 to k − 1.
-unfoldable pub each : ℕ → (ℕ → Bool) → Bool
-each zero p = true
-each (suc k) p = each k p && p k
 
 -- f with the value a at i.
 unfoldable pub update : {A : Type 0} → (ℕ → A) → ℕ → A → ℕ → A

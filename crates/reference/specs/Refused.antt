@@ -27,13 +27,13 @@ pub data Waits (M : Machine) (s : State) : Step → ℕ → ℕ → Type 0 where
   -- 13, the smallest receiver whose channel is full: the carrier is due, but a channel is full.
   channel-full : {i k : ℕ} → s .due i ≡ true → FirstFull M s i k → Waits M s (plan i) 13 (1 + k)
 
-pub data RefusedWith (M : Machine) (s : State) : Call → ℕ → ℕ → Type 0 where
+pub data RefusedCall (M : Machine) (s : State) : Call → ℕ → ℕ → Type 0 where
   -- 9, 0: lent memory is too short.
-  short-single : {lent : ℕ} {a : Asked} → lent < M .needed → RefusedWith M s (single lent a) 9 0
-  short-run : {lent : ℕ} {xs : List Asked} {b : ℕ} → lent < M .needed → RefusedWith M s (runOf lent xs b) 9 0
+  short-single : {lent : ℕ} {a : Asked} → lent < M .needed → RefusedCall M s (single lent a) 9 0
+  short-run : {lent : ℕ} {xs : List Asked} {b : ℕ} → lent < M .needed → RefusedCall M s (runOf lent xs b) 9 0
   -- 7, position: a single step has 0, a step of a run its position in the list.
-  unnamed-single : {lent : ℕ} {a : Asked} → M .needed ≤ lent → isNamed M a ≡ false → RefusedWith M s (single lent a) 7 0
-  unnamed-run : {lent : ℕ} {xs : List Asked} {b p : ℕ} → M .needed ≤ lent → FirstUnnamed M xs p → RefusedWith M s (runOf lent xs b) 7 p
+  unnamed-single : {lent : ℕ} {a : Asked} → M .needed ≤ lent → isNamed M a ≡ false → RefusedCall M s (single lent a) 7 0
+  unnamed-run : {lent : ℕ} {xs : List Asked} {b p : ℕ} → M .needed ≤ lent → FirstUnnamed M xs p → RefusedCall M s (runOf lent xs b) 7 p
   -- 8, 12 or 13: a single step waits for something.
   waiting : {lent : ℕ} {x : Step} {a p : ℕ} → M .needed ≤ lent → isThere M x ≡ true → Waits M s x a p →
-      RefusedWith M s (single lent (step x)) a p
+      RefusedCall M s (single lent (step x)) a p

@@ -19,18 +19,18 @@ isThere M (plan i) = ltb i (M .carriers)
 isThere M (deliver j i) = ltb j i && ltb i (M .carriers)
 
 -- The channel from i to carrier k has fewer than depth messages; a carrier that is not below i has no such channel.
-unfoldable pub hasRoom : Machine → State → ℕ → ℕ → Bool
-hasRoom M s i k = leb k i || ltb (length (s .chan k i)) (M .depth)
+unfoldable pub hasCapacity : Machine → State → ℕ → ℕ → Bool
+hasCapacity M s i k = leb k i || ltb (length (s .chan k i)) (M .depth)
 
 -- The list is empty.
 unfoldable pub isEmpty : List Answer → Bool
 isEmpty [] = true
 isEmpty (a ∷ rest) = false
 
--- What a step waits for, test by test. Plan i: that i is due (8), then room in each channel from i (13, the receiver). Deliver j to i: a
--- message there (12, the addressee). Places are carrier numbers from 1 (document 02, slip 3).
+-- What a step waits for, test by test. Plan i: that i is due (8), then capacity in each channel from i (13, the receiver). Deliver j to i:
+-- a message there (12, the addressee). Places are carrier numbers from 1 (document 02, slip 3).
 unfoldable pub waitsFor : Machine → State → Step → Verdict
-waitsFor M s (plan i) = demand (s .due i) 8 0 then demandEach 13 1 (hasRoom M s i) (M .carriers)
+waitsFor M s (plan i) = demand (s .due i) 8 0 then demandEach 13 1 (hasCapacity M s i) (M .carriers)
 waitsFor M s (deliver j i) = demand (not (isEmpty (s .chan i j))) 12 (1 + i)
 
 -- The step is open: it is there, and waits for nothing.

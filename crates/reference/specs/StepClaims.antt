@@ -10,11 +10,11 @@ use Rattle.reference.specs.State.{Machine, State, fresh}
 use Rattle.laws.specs.Verdict.{refused}
 use Rattle.reference.specs.Step.{Step, plan, deliver, isThere, waitsFor, isOpen}
 use Rattle.reference.specs.Take.{afterStep}
-use Rattle.reference.specs.Effects.{Planned, Delivered}
+use Rattle.reference.specs.Effects.{PlanLeads, DeliverLeads}
 use Rattle.reference.specs.Run.{RunResult, run}
 use Rattle.reference.specs.Ranking.{isSilent}
 use Rattle.reference.specs.Ending.{silent, spent, ending}
-use Rattle.reference.specs.History.{FaithfulRun, Joined}
+use Rattle.reference.specs.History.{FaithfulRun, RunsJoined}
 use Rattle.reference.specs.Refused.{Waits}
 use Rattle.reference.specs.Quiescent.{idle}
 
@@ -30,8 +30,9 @@ pub record StepClaims : Type 0 where
   pub open-exactly : (M : Machine) (s : State) (x : Step) → (isOpen M s x ≡ true) ↔
       ((isThere M x ≡ true) × ((a p : ℕ) → Waits M s x a p → ⊥))
   -- The steps do what document 01 says, and nothing else changes.
-  pub plan-does : (M : Machine) (s : State) (i : ℕ) → Planned M s (afterStep M s (plan i)) i
-  pub deliver-does : (M : Machine) (s : State) (j i : ℕ) → isOpen M s (deliver j i) ≡ true → Delivered s (afterStep M s (deliver j i)) j i
+  pub plan-does : (M : Machine) (s : State) (i : ℕ) → PlanLeads M s (afterStep M s (plan i)) i
+  pub deliver-does : (M : Machine) (s : State) (j i : ℕ) → isOpen M s (deliver j i) ≡ true
+      → DeliverLeads s (afterStep M s (deliver j i)) j i
   -- Silent is said exactly if no step is open.
   pub silent-exactly : (M : Machine) (s : State) → (isSilent M s ≡ true) ↔ ((x : Step) → isOpen M s x ≡ false)
   -- Some step is open, or nobody is due and nothing is under way.
@@ -50,7 +51,7 @@ pub record StepClaims : Type 0 where
       (ending M b r ≡ spent) ↔ ((isSilent M (r .state) ≡ false) × (r .taken ≡ b) × (r .unread ≡ [] → ⊥))
   -- A run cut in two is the run of the first part and then the run of the rest with what is left of the budget.
   pub run-cut : (M : Machine) (s : State) (xs ys : List Step) (b : ℕ) →
-      Joined (run M s (xs ++ ys) b) (run M s xs b) (run M (run M s xs b .state) ys (b - run M s xs b .taken))
+      RunsJoined (run M s (xs ++ ys) b) (run M s xs b) (run M (run M s xs b .state) ys (b - run M s xs b .taken))
   -- Where the first part is read to its end, the whole run ends as the second one does.
   pub cut-ending : (M : Machine) (s : State) (xs ys : List Step) (b : ℕ) → run M s xs b .unread ≡ [] →
       ending M b (run M s (xs ++ ys) b) ≡ ending M (b - run M s xs b .taken) (run M (run M s xs b .state) ys (b - run M s xs b .taken))

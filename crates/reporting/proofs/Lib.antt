@@ -1,4 +1,5 @@
--- Laws of a report's text, and of texts put into a memory.
+-- Laws of the words that texts share, of a report's text, and of texts put into a memory.
+pub mod WordsLaws
 pub mod ReportLaws
 pub mod TextLaws
 pub mod PrintedLaws

@@ -26,11 +26,12 @@ pub read-granted : {a : Checked} {P : Type 0} (text old walls : List ℕ) (f : F
 read-granted text old walls f r wide told p = let w = was-read text old walls f wide r told in (w .checked, (w .lent, p))
 
 -- A text of each floor has at most so many bytes where the floor is accepted.
-pub record Within (print : Floor → List ℕ → List ℕ) (most : ℕ) : Type 0 where
+pub record PrintsWithin (print : Floor → List ℕ → List ℕ) (most : ℕ) : Type 0 where
   pub short : (f : Floor) (ws : List ℕ) → checkOf f ws ≡ passed → length (print f ws) ≤ most
 
 -- A text that was put is the one that is printed for the sheet.
-pub read-printed : {old new : List ℕ} {n most : ℕ} (text walls : List ℕ) (f : Floor) (print : Floor → List ℕ → List ℕ) → Within print most
+pub read-printed : {old new : List ℕ} {n most : ℕ} (text walls : List ℕ) (f : Floor) (print : Floor → List ℕ → List ℕ)
+    → PrintsWithin print most
     → TextPut (print f (take (f .walls) walls)) old new n → WasRead text f walls → most ≤ length old
     → Counts n new × (take n new ≡ orRefusal (sheetVerdict text) (print (floorAt text) (wallsAt text)))
 unfolding orRefusal

@@ -16,7 +16,7 @@ use Rattle.sheet.proofs.LineText.{line-length}
 use Rattle.sheet.proofs.LineLaws.{field-length, field-next, byte-next, newline-next}
 use Rattle.printing.proofs.LinesLaws.{lines-within}
 use Rattle.reporting.specs.Text.{keptWord, sentWord, deliveredWord, answerWord, stepLine}
-use Rattle.reporting.specs.Text.{entryLine, entries, reportText, reportLength}
+use Rattle.reporting.specs.Text.{entryLine, entryCount, reportText, reportLength}
 use Rattle.reporting.specs.Put.{PutAt}
 
 -- Bytes copied to their end stand at their column.
@@ -91,15 +91,15 @@ entry-within xs k =
 pub entries-within : (xs : List ℕ) (k : ℕ) → length (linesOf (entryLine xs) k) ≤ k * 21
 entries-within xs k = lines-within (entryLine xs) 21 k (entry-within xs)
 
-pub report-within : (carriers order : ℕ) (xs : List ℕ) → length (reportText carriers order xs) ≤ reportLength (entries xs)
+pub report-within : (carriers order : ℕ) (xs : List ℕ) → length (reportText carriers order xs) ≤ reportLength (entryCount xs)
 unfolding reportText reportLength
 report-within carriers order xs =
-    let first = lineOf (carriers ∷ order ∷ entries xs ∷ []) in
+    let first = lineOf (carriers ∷ order ∷ entryCount xs ∷ []) in
     omega (
       arith,
-      line-length (carriers ∷ order ∷ entries xs ∷ []),
-      entries-within xs (entries xs),
-      length-append first (linesOf (entryLine xs) (entries xs)),
+      line-length (carriers ∷ order ∷ entryCount xs ∷ []),
+      entries-within xs (entryCount xs),
+      length-append first (linesOf (entryLine xs) (entryCount xs)),
     )
 
 -- A loop that puts the lines of a report's entries from a column on: before the first, one more, its length, and after the last.
@@ -132,9 +132,9 @@ module _ (xs old : List ℕ) (at : ℕ) where
 
 -- Line 1 and the entries' lines behind it.
 pub report-put : (carriers order : ℕ) (xs old mid new : List ℕ) (k n : ℕ)
-    → PutAt (lineOf (carriers ∷ order ∷ entries xs ∷ [])) old 0 mid k → EntriesPut xs mid 16 (entries xs) new n
-    → reportLength (entries xs) ≤ length old → PutAt (reportText carriers order xs) old 0 new n
+    → PutAt (lineOf (carriers ∷ order ∷ entryCount xs ∷ [])) old 0 mid k → EntriesPut xs mid 16 (entryCount xs) new n
+    → reportLength (entryCount xs) ≤ length old → PutAt (reportText carriers order xs) old 0 new n
 unfolding reportText reportLength
 report-put carriers order xs old mid new k n e p l =
-    let sixteen : k ≡ 16 = omega (arith, e .behind, line-length (carriers ∷ order ∷ entries xs ∷ [])) in
+    let sixteen : k ≡ 16 = omega (arith, e .behind, line-length (carriers ∷ order ∷ entryCount xs ∷ [])) in
     put-behind e (rw sixteen p) (omega (arith, entries-short xs mid 16 _ _ _ p))

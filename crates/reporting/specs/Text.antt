@@ -30,12 +30,12 @@ unfoldable pub entryLine : List ℕ → ℕ → List ℕ
 entryLine xs k = stepLine (k + 1) (getD xs (2 * k) 0) (getD xs (2 * k + 1) 0)
 
 -- The number of entries of a report.
-unfoldable pub entries : List ℕ → ℕ
-entries xs = length xs / 2
+unfoldable pub entryCount : List ℕ → ℕ
+entryCount xs = length xs / 2
 
 -- The report's text: carriers, order and steps taken in line 1, then a line a step.
 unfoldable pub reportText : (carriers order : ℕ) → List ℕ → List ℕ
-reportText carriers order xs = lineOf (carriers ∷ order ∷ entries xs ∷ []) ++ linesOf (entryLine xs) (entries xs)
+reportText carriers order xs = lineOf (carriers ∷ order ∷ entryCount xs ∷ []) ++ linesOf (entryLine xs) (entryCount xs)
 
 -- The most bytes of a report of so many steps: 16, and 21 a step.
 unfoldable pub reportLength : ℕ → ℕ

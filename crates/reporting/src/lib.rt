@@ -3,8 +3,9 @@
 ghost use mathlib.Core.List.{_∷_, []};
 ghost use Prim.Native.Nat.{_+_, _*_, _≤_, _<_};
 ghost use lib.ListN.{length};
+ghost use Rattle.reporting.specs.Words.{shortDecimal};
 ghost use Rattle.sheet.specs.Text.{lineOf, linesOf};
-ghost use Rattle.reporting.specs.Text.{answerWord, stepLine, entryLine, entries, reportText, reportLength};
+ghost use Rattle.reporting.specs.Text.{answerWord, stepLine, entryLine, entryCount, reportText, reportLength};
 ghost use Rattle.reporting.specs.Put.{PutAt};
 
 // Puts bytes from a column on; the column behind them is returned.
@@ -19,6 +20,17 @@ pub fn put_bytes(out: &mut [u8], at: usize, bytes: &[u8]) -> usize
         t += 1;
     }
     at + n
+}
+
+// Puts a number below 100 in decimal digits; the column behind it is returned.
+pub fn put_short_decimal(out: &mut [u8], at: usize, n: usize) -> usize
+    requires { ⌜ (n < 100) × (at + 2 ≤ length (now out)) ⌝ }
+    ensures { λ r. ⌜ PutAt (shortDecimal n) (now (out .entry)) at (now (out .exit)) r ⌝ }
+{
+    if n < 10 {
+        return put_bytes(out, at, &[48 + n as u8]);
+    }
+    put_bytes(out, at, &[48 + (n / 10) as u8, 48 + (n % 10) as u8])
 }
 
 // Puts the word of an answer; the column behind it is returned.
@@ -52,8 +64,8 @@ fn put_step(out: &mut [u8], at: usize, place: u16, number: u16, answer: u16) -> 
 
 // Puts the lines of a report's entries behind line 1; the column behind them is returned.
 fn put_entries(report: &[u16], out: &mut [u8]) -> usize
-    requires { ⌜ (entries (now report) < 65536) × (reportLength (entries (now report)) ≤ length (now out)) ⌝ }
-    ensures { λ r. ⌜ PutAt (linesOf (entryLine (now (report .entry))) (entries (now (report .entry))))
+    requires { ⌜ (entryCount (now report) < 65536) × (reportLength (entryCount (now report)) ≤ length (now out)) ⌝ }
+    ensures { λ r. ⌜ PutAt (linesOf (entryLine (now (report .entry))) (entryCount (now (report .entry))))
         (now (out .entry)) 16 (now (out .exit)) r ⌝ }
 {
     let steps = report.len() / 2;
@@ -80,7 +92,7 @@ fn put_line(a: u16, b: u16, c: u16, out: &mut [u8]) -> usize
 
 // Puts the text of a report, two numbers an entry, in front of a buffer; its length is returned.
 pub fn put_report(carriers: u16, order: u16, report: &[u16], out: &mut [u8]) -> usize
-    requires { ⌜ (entries (now report) < 65536) × (reportLength (entries (now report)) ≤ length (now out)) ⌝ }
+    requires { ⌜ (entryCount (now report) < 65536) × (reportLength (entryCount (now report)) ≤ length (now out)) ⌝ }
     ensures { λ r. ⌜ PutAt (reportText carriers order (now (report .entry))) (now (out .entry)) 0 (now (out .exit)) r ⌝ }
 {
     put_line(carriers, order, (report.len() / 2) as u16, out);

@@ -8,7 +8,7 @@ use lib.ListN.{length, drop}
 use Rattle.laws.specs.Memory.{put}
 use Rattle.floor.specs.declared.Floor.{Floor}
 use Rattle.laws.specs.Verdict.{Verdict, passed, refused, _then_}
-use Rattle.floor.specs.Checks.{checkOf, roomOf}
+use Rattle.floor.specs.Checks.{checkOf, longEnough}
 use Rattle.laws.proofs.VerdictLaws.{demand-passes, when-passed}
 use Rattle.floor.proofs.LimitsLaws.{check-tells}
 use Rattle.sheet.specs.Text.{sheetOf, sheetLength, wallAt}
@@ -19,7 +19,7 @@ use Rattle.sheet.proofs.DockLaws.{carriers-high}
 use Rattle.sheet.proofs.ReadLaws.{accepted-counts}
 use Rattle.printing.specs.Print.{orRefusal}
 use Rattle.printing.specs.Put.{TextPut}
-use Rattle.reporting.proofs.PrintedLaws.{Within}
+use Rattle.reporting.proofs.PrintedLaws.{PrintsWithin}
 
 -- The sheet of an accepted floor.
 module _ (f : Floor) (ws : List ℕ) (ok : checkOf f ws ≡ passed) where
@@ -30,10 +30,10 @@ module _ (f : Floor) (ws : List ℕ) (ok : checkOf f ws ≡ passed) where
       let high = carriers-high f (f .carriers) (λ i l. accepted-counts f ws ok i l .1) in
       omega (arith, b .carriers .1, b .walls .1, high)
 
-  granted : (room : ℕ) → 11732 ≤ room → writeVerdict f ws room ≡ passed
-  unfolding writeVerdict roomOf _then_
-  granted room enough =
-      let fits : sheetLength f ≤ room = omega (arith, sheet-short) in
+  granted : (lent : ℕ) → 11732 ≤ lent → writeVerdict f ws lent ≡ passed
+  unfolding writeVerdict longEnough _then_
+  granted lent enough =
+      let fits : sheetLength f ≤ lent = omega (arith, sheet-short) in
       rw ok (demand-passes 9 0 (le-leb _ _ fits))
 
   pub sheet-put : (old new : List ℕ) (n : ℕ) → 11732 ≤ length old → new ≡ writeSheet f ws old → n ≡ sheetLength f
@@ -49,7 +49,7 @@ module _ (f : Floor) (ws : List ℕ) (ok : checkOf f ws ≡ passed) where
         size = l ∙ sym size;
       }
 
-pub sheet-within : Within sheetOf 11732
+pub sheet-within : PrintsWithin sheetOf 11732
 sheet-within = record { short = λ f ws ok. omega (arith, theorems .sheet-length f ws, sheet-short f ws ok) }
 
 -- The sheet of what was read is the text.

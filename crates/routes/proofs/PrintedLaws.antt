@@ -13,25 +13,25 @@ use Rattle.laws.specs.Verdict.{value, refusal}
 use Rattle.floor.specs.declared.Refusal.{Refusal}
 use Rattle.printing.specs.declared.Printed.{Printed}
 use Rattle.printing.specs.declared.Printed.the-variants.{Written, Refused}
-use Rattle.printing.specs.Print.{outcomeOf, routesOf, neededFor, routesOutcome, routesMemory}
+use Rattle.printing.specs.Print.{printedOutcome, routesOf, neededFor, routesOutcome, routesMemory}
 use Rattle.printing.proofs.Theorems.{theorems}
 
-module _ (text old new : List ℕ) (r : Printed) (enough : 2659 ≤ length old) (says : outcomeOf r ≡ routesOutcome text (length old))
+module _ (text old new : List ℕ) (r : Printed) (enough : 2659 ≤ length old) (says : printedOutcome r ≡ routesOutcome text (length old))
     (stores : new ≡ routesMemory text old) where
-  outcome : outcomeOf r ≡ value (length (routesOf text))
+  outcome : printedOutcome r ≡ value (length (routesOf text))
   outcome = says ∙ theorems .always-written text (length old) enough
 
   pub never-refused : (x : Refusal) → r ≡ Refused x → ⊥
-  unfolding outcomeOf
+  unfolding printedOutcome
   never-refused x e =
-      let h : refusal (x .number) (x .place) ≡ value (length (routesOf text)) = sym (ap outcomeOf e) ∙ outcome in
+      let h : refusal (x .number) (x .place) ≡ value (length (routesOf text)) = sym (ap printedOutcome e) ∙ outcome in
       let z : _≡_ {A = ℕ} 0 1 = cc in
       omega arith
 
   printed-length : (n : ℕ) → r ≡ Written n → n ≡ length (routesOf text)
-  unfolding outcomeOf
+  unfolding printedOutcome
   printed-length n e =
-      let h : value n ≡ value (length (routesOf text)) = sym (ap outcomeOf e) ∙ outcome in
+      let h : value n ≡ value (length (routesOf text)) = sym (ap printedOutcome e) ∙ outcome in
       cc
 
   printed-put : new ≡ put old 0 (routesOf text)

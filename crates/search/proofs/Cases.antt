@@ -6,10 +6,10 @@ use mathlib.Core.Path.{_≡_, refl}
 use lib.ListN.{replicate}
 use Rattle.floor.specs.declared.Floor.{Floor}
 use Rattle.laws.specs.Memory.{part}
-use Rattle.laws.specs.Verdict.{_then_, _gives_, refusal, demand, inTurn, demandEach}
+use Rattle.laws.specs.Verdict.{_then_, _gives_, refusal, demand, inTurn, demandEach, each}
 use Rattle.floor.specs.OneDock.{oneEach, withOneDock}
-use Rattle.floor.specs.Checks.{within, limitsOf, lentOf, roomOf, startOf, countOf, docksOf, dockOf, isDock}
-use Rattle.floor.specs.Checks.{every as allBelow, inGrid, docksInGrid, carrierInGrid, carriersOf, wallsOf, risingOf, among}
+use Rattle.floor.specs.Checks.{within, limitsOf, lentOf, longEnough, startOf, countOf, docksOf, dockOf, isDock}
+use Rattle.floor.specs.Checks.{inGrid, docksInGrid, carrierInGrid, carriersOf, wallsOf, risingOf, among}
 use Rattle.floor.specs.Checks.{docksClear, clearOfWalls, clearOf, unshared, distinctOf, unrepeated, unrepeatedOf, placesOf, checkOf}
 use Rattle.route.specs.Route.{cellAt, none, route}
 use Rattle.route.specs.Moves.{neighbours, near, vacant, every, standable, allowed, startClear}
@@ -70,8 +70,8 @@ record Cases : Type 0 where
   no-carrier : searchOf (sides 4) [] 3 (replicate 130 0) ≡ refusal 7 0
 
 cases : Cases
-unfolding searchOf _gives_ requestOf checkOf limitsOf lentOf roomOf placesOf carriersOf wallsOf risingOf clearOf distinctOf unrepeatedOf
-    within demand _then_ demandEach inTurn inGrid docksInGrid carrierInGrid startOf countOf docksOf dockOf isDock allBelow docksClear
+unfolding searchOf _gives_ requestOf checkOf limitsOf lentOf longEnough placesOf carriersOf wallsOf risingOf clearOf distinctOf unrepeatedOf
+    within demand _then_ demandEach inTurn inGrid docksInGrid carrierInGrid startOf countOf docksOf dockOf isDock each docksClear
     clearOfWalls among unshared unrepeated oneEach withOneDock taskOf viewsOf records viewAt recordAt viewOf part seenAs seenFrom seen
     parked cellAt
     neighbours near vacant every standable allowed startClear cost cheaper cheapest holds ended val onward walk walkFrom best

@@ -9,10 +9,10 @@ use lib.Dec.{leb}
 use lib.ListN.{length}
 use Rattle.floor.specs.declared.Floor.{Floor}
 use Rattle.laws.specs.Verdict.{passed, demand, _then_}
-use Rattle.floor.specs.Checks.{checkOf, roomOf, within}
+use Rattle.floor.specs.Checks.{checkOf, longEnough, within}
 use Rattle.floor.specs.Accepted.{Accepted, Within}
 use Rattle.laws.proofs.VerdictLaws.{then-both, then-passed, demand-holds, demand-passes}
-use Rattle.floor.proofs.LimitsLaws.{Bounds, limited-bounds, room-passed}
+use Rattle.floor.proofs.LimitsLaws.{Bounds, limited-bounds, length-passed}
 use Rattle.floor.proofs.Theorems.{theorems}
 use Rattle.laws.proofs.Tests.{and-both, and-fst, and-snd}
 use Rattle.search.specs.Rows.{FreeRows, Searchable}
@@ -25,7 +25,7 @@ module _ (f : Floor) (ws : List ℕ) (i : ℕ) (m : List ℕ) where
   request-granted e =
       record {
         accepted = (theorems .passes-exactly f ws) .0 (one .0);
-        lent = room-passed (65 * f .carriers) (length m) (two .0);
+        lent = length-passed (65 * f .carriers) (length m) (two .0);
         listed = (
           leb-true 1 i (and-fst (leb 1 i) (leb i (f .carriers)) three),
           leb-true i (f .carriers)
@@ -33,17 +33,17 @@ module _ (f : Floor) (ws : List ℕ) (i : ℕ) (m : List ℕ) where
         );
       }
     where
-      one : (checkOf f ws ≡ passed) × ((roomOf (65 * f .carriers) (length m) then demand (within 1 (f .carriers) i) 7 0) ≡ passed)
-      one = then-both (checkOf f ws) (roomOf (65 * f .carriers) (length m) then demand (within 1 (f .carriers) i) 7 0) e
+      one : (checkOf f ws ≡ passed) × ((longEnough (65 * f .carriers) (length m) then demand (within 1 (f .carriers) i) 7 0) ≡ passed)
+      one = then-both (checkOf f ws) (longEnough (65 * f .carriers) (length m) then demand (within 1 (f .carriers) i) 7 0) e
 
-      two : (roomOf (65 * f .carriers) (length m) ≡ passed) × (demand (within 1 (f .carriers) i) 7 0 ≡ passed)
-      two = then-both (roomOf (65 * f .carriers) (length m)) (demand (within 1 (f .carriers) i) 7 0) (one .1)
+      two : (longEnough (65 * f .carriers) (length m) ≡ passed) × (demand (within 1 (f .carriers) i) 7 0 ≡ passed)
+      two = then-both (longEnough (65 * f .carriers) (length m)) (demand (within 1 (f .carriers) i) 7 0) (one .1)
 
       three : within 1 (f .carriers) i ≡ true
       three = demand-holds (within 1 (f .carriers) i) 7 0 (two .1)
 
   pub granted-request : Granted f ws i m → requestOf f ws i m ≡ passed
-  unfolding requestOf roomOf within
+  unfolding requestOf longEnough within
   granted-request g =
       then-passed ((theorems .passes-exactly f ws) .1 (g .accepted))
       ∙ then-passed (demand-passes 9 0 (le-leb (65 * f .carriers) (length m) (g .lent)))

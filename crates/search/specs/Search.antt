@@ -5,7 +5,7 @@ use mathlib.Core.List.{List}
 use lib.ListN.{length}
 use Rattle.floor.specs.declared.Floor.{Floor}
 use Rattle.laws.specs.Verdict.{Verdict, demand, _then_, Outcome, _gives_}
-use Rattle.floor.specs.Checks.{checkOf, roomOf, within}
+use Rattle.floor.specs.Checks.{checkOf, longEnough, within}
 use Rattle.route.specs.Route.{Answer}
 use Rattle.route.specs.Search.{best}
 use Rattle.search.specs.Task.{taskOf}
@@ -15,7 +15,7 @@ use Rattle.records.specs.Seen.{seen}
 -- The refusals of a search: the floor's, 9 if too few numbers of views are lent, 7 if there is no such carrier.
 unfoldable pub requestOf : Floor → List ℕ → ℕ → List ℕ → Verdict
 requestOf f ws i m =
-    checkOf f ws then roomOf (65 * f .carriers) (length m) then demand (within 1 (f .carriers) i) 7 0
+    checkOf f ws then longEnough (65 * f .carriers) (length m) then demand (within 1 (f .carriers) i) 7 0
 
 -- What a search for carrier i answers, from the floor, the walls and the views in memory m, none being seen as a carrier that stays.
 unfoldable pub searchOf : Floor → List ℕ → ℕ → List ℕ → Outcome Answer

@@ -188,7 +188,7 @@ fn request(f: Floor, walls: &[u16], carrier: u16, views: &[u16]) -> Checked
     let Checked::Passed = checked else {
         return checked;
     };
-    let shown = floor::room(records::SIZE * f.carriers as usize, views.len());
+    let shown = floor::check_length(records::SIZE * f.carriers as usize, views.len());
     let Checked::Passed = shown else {
         return shown;
     };

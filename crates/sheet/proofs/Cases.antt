@@ -4,8 +4,8 @@ use mathlib.Core.Path.{_≡_, refl}
 use mathlib.Core.List.{List, [], _∷_, _++_}
 use lib.ListN.{set, take}
 use Rattle.floor.specs.declared.Floor.{Floor}
-use Rattle.laws.specs.Verdict.{Verdict, passed, refused, _then_, demand, inTurn, demandEach}
-use Rattle.floor.specs.Checks.{within, limitsOf, startOf, countOf, docksOf, dockOf, every, inGrid, docksInGrid, carrierInGrid, carriersOf}
+use Rattle.laws.specs.Verdict.{Verdict, passed, refused, _then_, demand, inTurn, demandEach, each}
+use Rattle.floor.specs.Checks.{within, limitsOf, startOf, countOf, docksOf, dockOf, inGrid, docksInGrid, carrierInGrid, carriersOf}
 use Rattle.floor.specs.Checks.{wallsOf, rises, risingOf, among, docksClear, clearOfWalls, clearOf, unshared, distinctOf, unrepeated}
 use Rattle.floor.specs.Checks.{unrepeatedOf, placesOf}
 use Rattle.floor.specs.OneDock.{oneEach, withOneDock}
@@ -59,7 +59,7 @@ unfolding formed headAt floorAt wallsAt wallsFrom valueAt cellOf cellAt startIn 
 valued text = formed text
 
 placed : List ℕ → Verdict
-unfolding valued placesOf carriersOf wallsOf risingOf clearOf distinctOf unrepeatedOf carrierInGrid inGrid docksInGrid every startOf countOf
+unfolding valued placesOf carriersOf wallsOf risingOf clearOf distinctOf unrepeatedOf carrierInGrid inGrid docksInGrid each startOf countOf
     docksOf dockOf part rises clearOfWalls docksClear unshared unrepeated among
 placed text = valued text
 

@@ -7,7 +7,7 @@ use borrow.Author.Tests.{leb-true, ltb-true, le-leb}
 use lib.ListN.{length, drop, length-append, List·getD-append}
 use Rattle.floor.specs.declared.Floor.{Floor}
 use Rattle.laws.specs.Verdict.{Verdict, passed, _then_, inTurn}
-use Rattle.floor.specs.Checks.{limitsOf, lentOf, roomOf, placesOf, checkOf}
+use Rattle.floor.specs.Checks.{limitsOf, lentOf, longEnough, placesOf, checkOf}
 use Rattle.laws.proofs.VerdictLaws.{then-both, demand-holds, demand-passes, turn-passed, turn-passes}
 use Rattle.floor.proofs.LimitsLaws.{Bounds, limits-passed}
 use Rattle.floor.proofs.SameLaws.{places-same, walls-agree}
@@ -137,7 +137,7 @@ walls-length text = listed-length _ (floorAt text .walls)
 -- The floor check over the walls that were read, with unused places behind them, is checks 3 to 17 on the floor that the text says.
 pub checked-places : (text rest : List ℕ) → formOf text ≡ passed
     → checkOf (floorAt text) (wallsAt text ++ rest) ≡ placesOf (floorAt text) (wallsAt text)
-unfolding checkOf lentOf roomOf _then_
+unfolding checkOf lentOf longEnough _then_
 checked-places text rest h =
     let limits : limitsOf (floorAt text) ≡ passed = limits-of-head text ∙ form-tells text h .limited in
     let lent : floorAt text .walls ≤ length (wallsAt text ++ rest) =

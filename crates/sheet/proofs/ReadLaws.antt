@@ -9,13 +9,13 @@ use Rattle.floor.specs.declared.Checked.{Checked}
 use Rattle.floor.specs.declared.Checked.the-variants.{Passed, Refused}
 use Rattle.floor.specs.Answers.{verdictOf}
 use Rattle.laws.specs.Verdict.{Verdict, passed, refused, whenPassed}
-use Rattle.floor.specs.Checks.{placesOf, roomOf, checkOf}
-use Rattle.floor.specs.Accepted.{Counted}
+use Rattle.floor.specs.Checks.{placesOf, longEnough, checkOf}
+use Rattle.floor.specs.Accepted.{CountsWithin}
 use Rattle.floor.specs.Fresh.{freshFloor}
 use Rattle.floor.proofs.Theorems.{theorems}
 use Rattle.laws.proofs.VerdictLaws.{then-both, when-passed, when-refused}
 use Rattle.floor.proofs.AnswersLaws.{refuses, passes, then-next}
-use Rattle.floor.proofs.LimitsLaws.{room-passed}
+use Rattle.floor.proofs.LimitsLaws.{length-passed}
 use Rattle.laws.specs.Memory.{put}
 use Rattle.sheet.specs.Text.{sheetOf}
 use Rattle.sheet.specs.Values.{floorAt, wallsAt}
@@ -46,10 +46,10 @@ own-floor text f e h = e ∙ when-passed _ (then-both _ _ h .0)
 
 -- Then 9 alone is left to be told.
 pub own-then-room : {a : Checked} (text : List ℕ) (f : Floor) (room : ℕ) (u : Verdict) → verdictOf a ≡ sheetVerdict text →
-    f ≡ whenPassed (formOf text) (floorAt text) freshFloor → a ≡ Passed → u ≡ roomOf (f .walls) room → u ≡ readVerdict text room
+    f ≡ whenPassed (formOf text) (floorAt text) freshFloor → a ≡ Passed → u ≡ longEnough (f .walls) room → u ≡ readVerdict text room
 unfolding readVerdict
 own-then-room text f room u told own ok h =
-    then-next told ok (h ∙ ap (λ (g : Floor). roomOf (g .walls) room) (own-floor text f own (passes told ok)))
+    then-next told ok (h ∙ ap (λ (g : Floor). longEnough (g .walls) room) (own-floor text f own (passes told ok)))
 
 -- A sheet that is read is in good form, its floor passes 3 to 6, and its walls have room.
 pub record ReadTells (text : List ℕ) (room : ℕ) : Type 0 where
@@ -62,8 +62,8 @@ unfolding readVerdict sheetVerdict
 read-tells text room h =
     let a = then-both _ _ h in
     let b = then-both _ _ (a .0) in
-    record { form = b .0; places = b .1; room-there = room-passed _ _ (a .1) }
+    record { form = b .0; places = b .1; room-there = length-passed _ _ (a .1) }
 
 -- The dock counts of a floor that the checks pass are within their limits.
-pub accepted-counts : (f : Floor) (ws : List ℕ) → checkOf f ws ≡ passed → Counted f
+pub accepted-counts : (f : Floor) (ws : List ℕ) → checkOf f ws ≡ passed → CountsWithin f
 accepted-counts f ws ok i l = theorems .passes-exactly f ws .0 ok .carriers-in-grid i l .0

@@ -8,7 +8,7 @@ use lib.ListN.{getD, getD-replicate}
 use Rattle.laws.specs.Verdict.{passed, refused, _then_}
 use Rattle.floor.specs.Checks.{limitsOf, startOf, countOf, dockOf}
 use Rattle.floor.specs.declared.Floor.{Floor}
-use Rattle.floor.specs.OneDock.{Earlier, oneEach, withOneDock}
+use Rattle.floor.specs.OneDock.{OneDockFloor, oneEach, withOneDock}
 use Rattle.floor.specs.Accepted.{FieldWithin, Limited}
 use Rattle.laws.proofs.VerdictLaws.{then-both, refused-by, then-passed, then-refused}
 use Rattle.laws.proofs.EachLaws.{each-refused, first-refuses}
@@ -124,13 +124,13 @@ goal-place (g ∷ gs) (suc i) =
     let e : 4 * suc i ≡ suc (suc (suc (suc (4 * i)))) = omega arith in
     rw e (goal-place gs i)
 
-one-goal : (e : Earlier) (i : ℕ) → dockOf (withOneDock e) i 0 ≡ getD (e .goals) i 0
+one-goal : (e : OneDockFloor) (i : ℕ) → dockOf (withOneDock e) i 0 ≡ getD (e .goals) i 0
 unfolding withOneDock
 one-goal e i =
     let z : 4 * i + 0 ≡ 4 * i = omega arith in
     dock-place (withOneDock e) i 0 (omega arith) ∙ rw z (goal-place (e .goals) i)
 
-one-start : (e : Earlier) (i : ℕ) → startOf (withOneDock e) i ≡ getD (e .starts) i 0
+one-start : (e : OneDockFloor) (i : ℕ) → startOf (withOneDock e) i ≡ getD (e .starts) i 0
 unfolding withOneDock startOf
 one-start e i = refl
 
@@ -140,11 +140,11 @@ one-line : (f : Floor) (i s g : ℕ) → startOf f i ≡ s → countOf f i ≡ 1
 unfolding carrierLine
 one-line f i s g a b c = rw (a, b) (one-cell (f .width) s (dockOf f i) g c)
 
-one-count : (e : Earlier) (i : ℕ) → i < 8 → countOf (withOneDock e) i ≡ 1
+one-count : (e : OneDockFloor) (i : ℕ) → i < 8 → countOf (withOneDock e) i ≡ 1
 unfolding withOneDock countOf
 one-count e i l = getD-replicate 8 i 1 0 l
 
-one-dock : (e : Earlier) (i : ℕ) → i < 8
+one-dock : (e : OneDockFloor) (i : ℕ) → i < 8
     → carrierLine (withOneDock e) i
     ≡ fieldOf (getD (e .starts) i 0 % e .width) ++ (fieldOf (getD (e .starts) i 0 / e .width)
     ++ (fieldOf 1 ++ lineOf (getD (e .goals) i 0 % e .width ∷ getD (e .goals) i 0 / e .width ∷ [])))

@@ -4,7 +4,7 @@ use mathlib.Core.List.{List, _++_}
 use lib.ListN.{length, drop}
 use Rattle.floor.specs.declared.Floor.{Floor}
 use Rattle.laws.specs.Verdict.{Verdict, _then_, whenPassed}
-use Rattle.floor.specs.Checks.{limitsOf, placesOf, checkOf, roomOf}
+use Rattle.floor.specs.Checks.{limitsOf, placesOf, checkOf, longEnough}
 use Rattle.floor.specs.Fresh.{freshFloor}
 use Rattle.sheet.specs.Text.{sheetOf, sheetLength}
 use Rattle.fields.specs.Form.{lineForm}
@@ -21,7 +21,7 @@ sheetVerdict text = formOf text then placesOf (floorAt text) (wallsAt text)
 
 -- Then 9, where fewer places are lent for walls than the floor has.
 unfoldable pub readVerdict : List ℕ → ℕ → Verdict
-readVerdict text room = sheetVerdict text then roomOf (floorAt text .walls) room
+readVerdict text room = sheetVerdict text then longEnough (floorAt text .walls) room
 
 -- The floor that reading hands back: the fresh floor with a refusal.
 unfoldable pub readFloor : List ℕ → ℕ → Floor
@@ -33,7 +33,7 @@ readWalls text old = whenPassed (readVerdict text (length old)) (wallsAt text ++
 
 -- Writing: the checks of the record, then 9 where fewer bytes are lent than the sheet has.
 unfoldable pub writeVerdict : Floor → List ℕ → ℕ → Verdict
-writeVerdict f ws room = checkOf f ws then roomOf (sheetLength f) room
+writeVerdict f ws room = checkOf f ws then longEnough (sheetLength f) room
 
 -- The lent sheet memory after writing.
 unfoldable pub writeSheet : Floor → List ℕ → List ℕ → List ℕ

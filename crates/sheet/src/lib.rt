@@ -115,7 +115,7 @@ pub fn check(text: &[u8], room: usize) -> Checked
     let Checked::Passed = checked else {
         return checked;
     };
-    floor::room(f.walls as usize, room)
+    floor::check_length(f.walls as usize, room)
 }
 
 // Reads a sheet: its floor by value, its walls into lent memory.
@@ -130,7 +130,7 @@ pub fn read(text: &[u8], walls: &mut [u16]) -> Reading
     let Checked::Passed = checked else {
         return refused(checked);
     };
-    let room = floor::room(f.walls as usize, walls.len());
+    let room = floor::check_length(f.walls as usize, walls.len());
     let Checked::Passed = room else {
         return refused(room);
     };
@@ -154,7 +154,7 @@ pub fn write(f: Floor, walls: &[u16], out: &mut [u8]) -> Checked
     let Checked::Passed = checked else {
         return checked;
     };
-    let room = floor::room(sheet_length(f), out.len());
+    let room = floor::check_length(sheet_length(f), out.len());
     let Checked::Passed = room else {
         return room;
     };

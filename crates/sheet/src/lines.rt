@@ -4,7 +4,7 @@ ghost use mathlib.Core.List.{_++_};
 ghost use Prim.Native.Nat.{_+_, _*_, _%_, _/_, _≤_, _<_};
 ghost use lib.ListN.{length};
 ghost use Rattle.floor.specs.Checks.{countOf, dockOf};
-ghost use Rattle.floor.specs.Accepted.{Counted};
+ghost use Rattle.floor.specs.Accepted.{CountsWithin};
 ghost use Rattle.fields.specs.Field.{fieldOf};
 ghost use Rattle.fields.specs.Form.{countedLength};
 ghost use Rattle.sheet.specs.Text.{linesOf, headLine, carrierLine, wallLine, carrierLines, wallLines, sheetOf};
@@ -94,7 +94,7 @@ fn put_carrier(f: Floor, i: usize, out: &mut [u8], at: usize)
 // The carriers' lines.
 fn put_carriers(f: Floor, out: &mut [u8])
     requires { ⌜ (f .carriers ≤ 8) × (0 < f .width) ⌝ }
-    requires { ⌜ Counted f ⌝ }
+    requires { ⌜ CountsWithin f ⌝ }
     requires { ⌜ carrierAt f (f .carriers) ≤ length (now out) ⌝ }
     ensures { λ r. ⌜ now (out .exit) ≡ put (now (out .entry)) 31 (carrierLines f) ⌝ }
 {
@@ -137,7 +137,7 @@ fn put_walls(f: Floor, walls: &[u16], out: &mut [u8])
 // The whole sheet.
 pub fn put_sheet(f: Floor, walls: &[u16], out: &mut [u8])
     requires { ⌜ (f .walls ≤ length (now walls)) × (0 < f .width) ⌝ }
-    requires { ⌜ (f .carriers ≤ 8) × Counted f ⌝ }
+    requires { ⌜ (f .carriers ≤ 8) × CountsWithin f ⌝ }
     requires { ⌜ sheetLength f ≤ length (now out) ⌝ }
     ensures { λ r. ⌜ now (out .exit) ≡ put (now (out .entry)) 0 (sheetOf f (now (walls .entry))) ⌝ }
 {

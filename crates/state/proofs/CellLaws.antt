@@ -10,13 +10,13 @@ use lib.ListN.{length, getD}
 use borrow.Author.Needs.{needs}
 use Rattle.laws.specs.Memory.{part}
 use Rattle.laws.proofs.PartLaws.{part-byte}
-use Rattle.records.proofs.LoadLaws.{Copied, copied-start, copied-end}
+use Rattle.records.proofs.LoadLaws.{CellsCopied, copied-start, copied-end}
 use Rattle.reference.specs.Step.{sameCells}
 use Rattle.reference.proofs.TakeLaws.{same-cells, cells-same}
 
 module _ (m : List ℕ) (at : ℕ) where
   -- One more cell that is the same.
-  pub same-more : (cells : List ℕ) (t : ℕ) → getD m (at + t) 0 ≡ getD cells t 0 → Copied m at cells t → Copied m at cells (t + 1)
+  pub same-more : (cells : List ℕ) (t : ℕ) → getD m (at + t) 0 ≡ getD cells t 0 → CellsCopied m at cells t → CellsCopied m at cells (t + 1)
   same-more cells t e h =
       record {
         long = h .long;
@@ -24,7 +24,7 @@ module _ (m : List ℕ) (at : ℕ) where
             ⊎-elim (λ (same : q ≡ t). rw same (sym e)) (λ (b : q < t). h .copied q b) (eq-or-lt-of-le (omega arith));
       }
 
-  pub same-end : (cells : List ℕ) (t : ℕ) → 64 ≤ t → at + 64 ≤ length m → Copied m at cells t → true ≡ sameCells (part m at 64) cells
+  pub same-end : (cells : List ℕ) (t : ℕ) → 64 ≤ t → at + 64 ≤ length m → CellsCopied m at cells t → true ≡ sameCells (part m at 64) cells
   same-end cells t l s h = rw (sym (copied-end m at cells t l s h)) (sym (cells-same cells))
 
   pub same-stop : (cells : List ℕ) (t : ℕ) → t < 64 → (getD m (at + t) 0 ≡ getD cells t 0 → ⊥) → false ≡ sameCells (part m at 64) cells

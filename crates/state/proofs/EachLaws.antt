@@ -7,8 +7,8 @@ use mathlib.Core.Path.{_≡_, refl, sym, _∙_, ap}
 use borrow.Author.Tests.{not-true, not-false, lt-ltb, le-ltb, le-leb, lt-leb, eq-eqb, ne-eqb}
 use borrow.Author.Needs.{needs}
 use Rattle.laws.proofs.Tests.{and-both, not-true-is-false, true-false-absurd}
-use Rattle.reference.specs.Ranges.{each}
-use Rattle.reference.proofs.RangeLaws.{each-holds}
+use Rattle.laws.specs.Verdict.{each}
+use Rattle.laws.proofs.HoldLaws.{each-holds}
 
 -- The first t of n hold.
 pub record Tested (p : ℕ → Bool) (n t : ℕ) : Type 0 where

@@ -9,7 +9,7 @@ use lib.ListN.{length, replicate, length-append, length-replicate, replicate-app
 use borrow.Author.Needs.{needs}
 use Rattle.laws.specs.Memory.{put}
 use Rattle.laws.proofs.PutLaws.{put-none, put-next}
-use Rattle.records.specs.Records.{recordOf, fit, slot}
+use Rattle.records.specs.Records.{recordOf, resized, slot}
 use Rattle.reference.specs.State.{fresh}
 use Rattle.encoding.proofs.SplitLaws.{carrier-length}
 use Rattle.encoding.proofs.StateLaws.{carriers-length}
@@ -17,7 +17,7 @@ use Rattle.encoding.specs.Places.{pairsBefore, stateSize}
 use Rattle.encoding.specs.Encode.{flag, slots, channelBlock, carrierBlock, countBlock, blocks, pairs, encode}
 
 pub carrier-is : (i : ℕ) → 0 ∷ (1 ∷ (1 ∷ replicate 64 0)) ≡ carrierBlock fresh i
-unfolding carrierBlock fresh slot fit recordOf flag
+unfolding carrierBlock fresh slot resized recordOf flag
 carrier-is i = refl
 
 -- Zeros by blocks, of all carriers and of all pairs.
@@ -46,11 +46,11 @@ carriers-more m m′ m″ i l e g =
 pub ruleset fresh-start = (put-none, needs)
 
 view-zeros : (i j : ℕ) → slot (fresh .view i j) ≡ replicate 65 0
-unfolding slot fresh fit
+unfolding slot fresh resized
 view-zeros i j = refl
 
 channel-zeros : (i j : ℕ) → channelBlock (fresh .chan i j) ≡ replicate 261 0
-unfolding channelBlock slots slot fresh fit
+unfolding channelBlock slots slot fresh resized
 channel-zeros i j = refl
 
 -- The whole.

@@ -10,8 +10,8 @@ use borrow.Author.Tests.{lt-ltb, le-ltb, ltb-true, eq-eqb, eqb-true}
 use lib.Dec.{ltb, eqb}
 use lib.ListN.{getD}
 use Rattle.laws.proofs.Tests.{and-both, and-fst, and-snd, lt-or-le, same-test}
-use Rattle.reference.specs.Ranges.{each}
-use Rattle.reference.proofs.RangeLaws.{each-holds, each-true}
+use Rattle.laws.specs.Verdict.{each}
+use Rattle.laws.proofs.HoldLaws.{each-holds, each-true}
 use Rattle.encoding.specs.Valid.{cellValid, cellsValid}
 use Rattle.state.specs.Numbers.{Larger, Largest, Capped}
 

@@ -10,7 +10,7 @@ use lib.ListN.{length, getD, set}
 use borrow.Author.Tests.{eq-eqb, ne-eqb, lt-ltb, le-ltb}
 use Rattle.laws.specs.Memory.{put, part}
 use Rattle.laws.proofs.PutLaws.{put-one}
-use Rattle.records.specs.Records.{fit, moved}
+use Rattle.records.specs.Records.{resized, moved}
 use Rattle.records.proofs.LoadLaws.{part-first}
 use Rattle.reference.specs.Step.{sameCells}
 use Rattle.encoding.specs.Places.{plannedPlace, answerPlace, channelPlace}
@@ -40,7 +40,7 @@ module _ (m cells : List ℕ) (i tag : ℕ) where
 
 -- Three records moved up and the last cleared, at the places of a channel.
 pub shift-is : (m m₁ m₂ m₃ m₄ : List ℕ) (c p q r s : ℕ) → p ≡ c + 1 + 65 * 0 → q ≡ c + 1 + 65 * 1 → r ≡ c + 1 + 65 * 2 →
-    s ≡ c + 1 + 65 * 3 → m₁ ≡ moved m q p → m₂ ≡ moved m₁ r q → m₃ ≡ moved m₂ s r → m₄ ≡ put m₃ s (fit 65 []) → m₄ ≡ shifted m c
+    s ≡ c + 1 + 65 * 3 → m₁ ≡ moved m q p → m₂ ≡ moved m₁ r q → m₃ ≡ moved m₂ s r → m₄ ≡ put m₃ s (resized 65 []) → m₄ ≡ shifted m c
 unfolding shifted
 shift-is m m₁ m₂ m₃ m₄ c p q r s a b d e f g h k =
     let one : p ≡ c + 1 = omega arith in
@@ -50,10 +50,10 @@ shift-is m m₁ m₂ m₃ m₄ c p q r s a b d e f g h k =
     k ∙ rw (h, g, f, one, two, three, four) refl
 
 module _ (m rec : List ℕ) (c : ℕ) where
-  pub push-room : (m′ : List ℕ) (at : ℕ) → c < length m′ → getD m c 0 < 4 → at ≡ c + 1 + 65 * getD m c 0 → m′ ≡ put m at rec →
+  pub push-stores : (m′ : List ℕ) (at : ℕ) → c < length m′ → getD m c 0 < 4 → at ≡ c + 1 + 65 * getD m c 0 → m′ ≡ put m at rec →
       set m′ c (getD m c 0 + 1) ≡ pushed m c rec
   unfolding pushed
-  push-room m′ at l h place e = rw (lt-ltb (getD m c 0) 4 h) (put-one m′ c (getD m c 0 + 1) l ∙ rw (e, place) refl)
+  push-stores m′ at l h place e = rw (lt-ltb (getD m c 0) 4 h) (put-one m′ c (getD m c 0 + 1) l ∙ rw (e, place) refl)
 
   pub push-full : 4 ≤ getD m c 0 → m ≡ pushed m c rec
   unfolding pushed

@@ -45,7 +45,7 @@ pub fn pop(m: &mut [u16], c: usize)
     m[c] = one_less(count);
 }
 
-// Puts an answer last on the channel at place c, if it has room.
+// Puts an answer last on the channel at place c, if it has capacity.
 fn push(m: &mut [u16], c: usize, tag: u16, cells: Route)
     requires { ⌜ (c + 261 ≤ length (now m)) × (c ≤ 9665) ⌝ }
     ensures { λ r. ⌜ now (m .exit) ≡ pushed (now (m .entry)) c (tag ∷ cells) ⌝ }

@@ -4,7 +4,7 @@ ghost use mathlib.Core.Bool.{cond};
 ghost use Prim.Native.Nat.{_+_, _*_, _≤_, _<_};
 ghost use lib.ListN.{length, getD};
 ghost use lib.Dec.{ltb};
-ghost use Rattle.reference.specs.Ranges.{each};
+ghost use Rattle.laws.specs.Verdict.{each};
 ghost use Rattle.encoding.specs.Places.{stateSize};
 ghost use Rattle.encoding.specs.Valid.{usedBy, cellsValid, recordValid, carrierValid, placeValid};
 ghost use Rattle.encoding.specs.Valid.{channelValid, pairValid, valid as Valid·valid};

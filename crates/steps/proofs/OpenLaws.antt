@@ -9,22 +9,21 @@ use lib.Dec.{leb, ltb, eqb}
 use lib.ListN.{getD}
 use borrow.Author.Tests.{le-leb, lt-leb, lt-ltb, le-ltb, ltb-true, eq-eqb, ne-eqb}
 use borrow.Author.Needs.{needs}
-use Rattle.laws.specs.Verdict.{Verdict, passed, refused, _then_, demand, demandEach, passes}
+use Rattle.laws.specs.Verdict.{Verdict, passed, refused, _then_, demand, demandEach, passes, each}
 use Rattle.laws.proofs.Tests.{and-both, and-fst, and-snd, or-inl}
 use Rattle.laws.proofs.VerdictLaws.{then-both, then-passed, demand-holds, demand-passes, demand-refuses, tests-go-on, tests-stop, each-end}
 use Rattle.laws.proofs.EachLaws.{all-passes}
 use Rattle.floor.specs.declared.Floor.{Floor}
 use Rattle.floor.specs.Checks.{within}
-use Rattle.reference.specs.Ranges.{each}
-use Rattle.reference.proofs.RangeLaws.{each-same}
+use Rattle.laws.proofs.HoldLaws.{each-same}
 use Rattle.reference.specs.Step.{Step, plan, deliver, isThere}
 use Rattle.reference.specs.Table.{Asked, step, noStep, isNamed}
 use Rattle.encoding.specs.Places.{duePlace, channelPlace}
 use Rattle.encoding.specs.Numbers.{deliveryOf, askedBy}
 use Rattle.encoding.specs.Calls.{machineOf}
-use Rattle.encoding.specs.InnerSteps.{roomIn, waitsIn, openIn, shutIn, silentIn}
+use Rattle.encoding.specs.InnerSteps.{capacityIn, waitsIn, openIn, shutIn, silentIn}
 use Rattle.encoding.specs.InnerCalls.{singleVerdictIn}
-use Rattle.steps.specs.Inner.{bare, roomAt, planShut, deliveryShut, senderShut}
+use Rattle.steps.specs.Inner.{bare, capacityAt, planShut, deliveryShut, senderShut}
 
 module _ (x : ℕ) where
   pub low-none : x < 101 → noStep ≡ askedBy x
@@ -68,7 +67,7 @@ module _ (f : Floor) (ws : List ℕ) where
 
   module _ (m : List ℕ) where
     waits-of : (x : Step) → waitsIn (bare f) m x ≡ waitsIn (machineOf f ws) m x
-    unfolding waitsIn roomIn bare machineOf
+    unfolding waitsIn capacityIn bare machineOf
     waits-of (plan i) = refl
     waits-of (deliver j i) = refl
 
@@ -82,7 +81,7 @@ module _ (f : Floor) (ws : List ℕ) where
     open-of x = rw (there-of x, waits-of x) refl
 
     pub silent-of : silentIn (bare f) m ≡ silentIn (machineOf f ws) m
-    unfolding silentIn shutIn openIn isThere waitsIn roomIn bare machineOf
+    unfolding silentIn shutIn openIn isThere waitsIn capacityIn bare machineOf
     silent-of = refl
 
 -- A step that is there has its carriers there.
@@ -141,9 +140,9 @@ module _ (f : Floor) (m : List ℕ) where
   plan-early i h = rw (ne-eqb _ 1 h) refl
 
   pub plan-due : (i r : ℕ) → getD m (duePlace i) 0 ≡ 1 →
-      demand (leb (f .carriers) r) 13 (1 + r) ≡ demandEach 13 1 (roomAt (f .carriers) (f .depth) m i) (f .carriers) →
+      demand (leb (f .carriers) r) 13 (1 + r) ≡ demandEach 13 1 (capacityAt (f .carriers) (f .depth) m i) (f .carriers) →
       demand (leb (f .carriers) r) 13 (1 + r) ≡ waitsIn (bare f) m (plan i)
-  unfolding waitsIn roomIn roomAt bare machineOf
+  unfolding waitsIn capacityIn capacityAt bare machineOf
   plan-due i r h e = e ∙ sym (then-passed (demand-passes 8 0 (eq-eqb _ 1 h)))
 
   -- What a delivery waits for.
@@ -158,22 +157,22 @@ unfolding passes demand
 demand-test true k p = refl
 demand-test false k p = refl
 
--- The search for the first full channel from i: no carrier up to i has one; one more that has room; the first that has none; the end.
-pub room-start : (n depth : ℕ) (m : List ℕ) (i : ℕ) → demandEach 13 1 (roomAt n depth m i) (i + 1) ≡ passed
-unfolding roomAt
-room-start n depth m i =
-    all-passes 13 1 _ (λ k. roomAt n depth m i k ≡ true) (λ k. (λ h. h, λ h. h)) (i + 1)
+-- The search for the first full channel from i: no carrier up to i has one; one more that has capacity; the first that has none; the end.
+pub capacity-start : (n depth : ℕ) (m : List ℕ) (i : ℕ) → demandEach 13 1 (capacityAt n depth m i) (i + 1) ≡ passed
+unfolding capacityAt
+capacity-start n depth m i =
+    all-passes 13 1 _ (λ k. capacityAt n depth m i k ≡ true) (λ k. (λ h. h, λ h. h)) (i + 1)
     (λ k l. or-inl (leb k i) _ (le-leb k i (omega arith)))
 
-pub room-stop : {t : Bool} (ok : ℕ → Bool) (k n : ℕ) → demandEach 13 1 ok k ≡ passed → t ≡ ok k → not t ≡ true → k < n →
+pub capacity-stop : {t : Bool} (ok : ℕ → Bool) (k n : ℕ) → demandEach 13 1 ok k ≡ passed → t ≡ ok k → not t ≡ true → k < n →
     demand (leb n k) 13 (1 + k) ≡ demandEach 13 1 ok n
-room-stop ok k n h e s l = demand-refuses 13 (1 + k) (lt-leb n k l) ∙ tests-stop 13 1 ok k n h e s l
+capacity-stop ok k n h e s l = demand-refuses 13 (1 + k) (lt-leb n k l) ∙ tests-stop 13 1 ok k n h e s l
 
-pub room-end : (ok : ℕ → Bool) (k n : ℕ) → demandEach 13 1 ok k ≡ passed → k ≤ n → n ≤ k →
+pub capacity-end : (ok : ℕ → Bool) (k n : ℕ) → demandEach 13 1 ok k ≡ passed → k ≤ n → n ≤ k →
     demand (leb n n) 13 (1 + n) ≡ demandEach 13 1 ok n
-room-end ok k n h a b = demand-passes 13 (1 + n) (le-leb n n (omega arith)) ∙ each-end 13 1 ok k n a b h
+capacity-end ok k n h a b = demand-passes 13 (1 + n) (le-leb n n (omega arith)) ∙ each-end 13 1 ok k n a b h
 
-pub ruleset full-search = (room-start, tests-go-on, room-stop, room-end, needs)
+pub ruleset full-search = (capacity-start, tests-go-on, capacity-stop, capacity-end, needs)
 
 -- Silence as the code tests it: the plans, then the deliveries of each sender.
 pub silent-is : (f : Floor) (m : List ℕ) →

@@ -13,15 +13,15 @@ use Rattle.encoding.specs.Places.{stateSize}
 use Rattle.steps.specs.Inner.{Placed, Workable, RowsFor}
 
 -- The bounds of an accepted floor.
-pub placed-bounds : {f : Floor} {ws : List ℕ} {room : ℕ} → Placed f ws room → Bounds f
+pub placed-bounds : {f : Floor} {ws : List ℕ} {lent : ℕ} → Placed f ws lent → Bounds f
 placed-bounds {f} a = limited-bounds f (a .accepted .limited)
 
 -- There are eight carriers at most, and room for their state.
-pub placed-sized : {f : Floor} {ws : List ℕ} {room : ℕ} → Placed f ws room → (f .carriers ≤ 8) × (stateSize (f .carriers) ≤ room)
+pub placed-sized : {f : Floor} {ws : List ℕ} {lent : ℕ} → Placed f ws lent → (f .carriers ≤ 8) × (stateSize (f .carriers) ≤ lent)
 placed-sized a = (placed-bounds a .carriers .1, a .enough)
 
 -- What the free rows require.
-pub placed-grid : {f : Floor} {ws : List ℕ} {room : ℕ} → Placed f ws room →
+pub placed-grid : {f : Floor} {ws : List ℕ} {lent : ℕ} → Placed f ws lent →
     ((1 ≤ f .width) × (f .width ≤ 32) × (f .height ≤ 32)) × (f .walls ≤ length ws)
 placed-grid a = let b = placed-bounds a in ((b .width .0, b .width .1, b .height .1), a .accepted .lent)
 

@@ -10,7 +10,7 @@ use Rattle.floor.specs.Accepted.{Accepted}
 use Rattle.search.specs.Rows.{FreeRows}
 use Rattle.reference.specs.State.{Machine}
 use Rattle.reference.specs.Step.{Step, plan, deliver}
-use Rattle.reference.specs.Ranges.{each}
+use Rattle.laws.specs.Verdict.{each}
 use Rattle.encoding.specs.Places.{channelPlace, stateSize}
 use Rattle.encoding.specs.Calls.{machineOf}
 use Rattle.encoding.specs.InnerSteps.{shutIn, effectIn, afterIn, stepAnswerIn}
@@ -22,8 +22,8 @@ unfoldable pub bare : Floor → Machine
 bare f = machineOf f []
 
 -- Of n carriers, the channel from carrier i to carrier k has fewer than depth messages; a carrier that is not below i has no such channel.
-unfoldable pub roomAt : (n depth : ℕ) → List ℕ → ℕ → ℕ → Bool
-roomAt n depth m i k = leb k i || ltb (getD m (channelPlace n k i) 0) depth
+unfoldable pub capacityAt : (n depth : ℕ) → List ℕ → ℕ → ℕ → Bool
+capacityAt n depth m i k = leb k i || ltb (getD m (channelPlace n k i) 0) depth
 
 -- The plan of carrier i is not open; the delivery from j to the carrier d + 1 below it is not; no delivery from j is.
 unfoldable pub planShut : Floor → List ℕ → ℕ → Bool

@@ -4,23 +4,22 @@ ghost use mathlib.Core.Bool.{true, false};
 ghost use Prim.Native.Nat.{_+_, _≤_, _<_, _-_};
 ghost use lib.Dec.{leb, eqb};
 ghost use lib.ListN.{length, getD};
-ghost use Rattle.laws.specs.Verdict.{demand, demandEach};
+ghost use Rattle.laws.specs.Verdict.{demand, demandEach, each};
 ghost use Rattle.floor.specs.Answers.{verdictOf};
-ghost use Rattle.reference.specs.Ranges.{each};
 ghost use Rattle.reference.specs.Step.{plan, deliver, isThere};
 ghost use Rattle.encoding.specs.Places.{duePlace, stateSize};
-ghost use Rattle.encoding.specs.InnerSteps.{roomIn, waitsIn, openIn, silentIn};
+ghost use Rattle.encoding.specs.InnerSteps.{capacityIn, waitsIn, openIn, silentIn};
 ghost use Rattle.steps.specs.Answers.{stepMeant};
-ghost use Rattle.steps.specs.Inner.{bare, roomAt, planShut, senderShut};
+ghost use Rattle.steps.specs.Inner.{bare, capacityAt, planShut, senderShut};
 use crate::Step;
 use floor::Checked;
 use floor::Floor;
 use floor::Refusal;
 
 // Whether the channel from carrier i to carrier k below it has fewer than depth messages.
-fn has_room(n: usize, depth: u16, m: &[u16], i: usize, k: usize) -> bool
+fn has_capacity(n: usize, depth: u16, m: &[u16], i: usize, k: usize) -> bool
     requires { ⌜ (i < k) × (k < n) × (n ≤ 8) × (stateSize n ≤ length (now m)) ⌝ }
-    ensures { λ r. ⌜ r ≡ roomAt n depth (now (m .entry)) i k ⌝ }
+    ensures { λ r. ⌜ r ≡ capacityAt n depth (now (m .entry)) i k ⌝ }
 {
     let c = state::channel_place(n, k, i);
     m[c] < depth
@@ -29,11 +28,11 @@ fn has_room(n: usize, depth: u16, m: &[u16], i: usize, k: usize) -> bool
 // The smallest carrier to which the channel from carrier i is full; n if none is.
 fn first_full(n: usize, depth: u16, m: &[u16], i: usize) -> usize
     requires { ⌜ (i < n) × (n ≤ 8) × (stateSize n ≤ length (now m)) ⌝ }
-    ensures { λ r. ⌜ (r ≤ n) × (demand (leb n r) 13 (1 + r) ≡ demandEach 13 1 (roomAt n depth (now (m .entry)) i) n) ⌝ }
+    ensures { λ r. ⌜ (r ≤ n) × (demand (leb n r) 13 (1 + r) ≡ demandEach 13 1 (capacityAt n depth (now (m .entry)) i) n) ⌝ }
 {
     let mut k: usize = i + 1;
     while k < n {
-        if !has_room(n, depth, m, i, k) {
+        if !has_capacity(n, depth, m, i, k) {
             return k;
         }
         k += 1;
@@ -100,9 +99,9 @@ fn due_waits(f: Floor, m: &[u16], i: usize) -> Checked
 }
 
 // 13 with the smallest receiver whose channel from carrier i is full.
-fn room_waits(f: Floor, m: &[u16], i: usize) -> Checked
+fn capacity_waits(f: Floor, m: &[u16], i: usize) -> Checked
     requires { ⌜ (i < f .carriers) × (f .carriers ≤ 8) × (stateSize (f .carriers) ≤ length (now m)) ⌝ }
-    ensures { λ r. ⌜ verdictOf r ≡ demandEach 13 1 (roomIn (bare f) (now (m .entry)) i) (f .carriers) ⌝ }
+    ensures { λ r. ⌜ verdictOf r ≡ demandEach 13 1 (capacityIn (bare f) (now (m .entry)) i) (f .carriers) ⌝ }
 {
     let n = f.carriers as usize;
     let k = first_full(n, f.depth, m, i);
@@ -115,7 +114,7 @@ fn room_waits(f: Floor, m: &[u16], i: usize) -> Checked
     })
 }
 
-// What the plan of carrier i waits for: that it is due, then room in its channels.
+// What the plan of carrier i waits for: that it is due, then capacity in its channels.
 fn plan_waits(f: Floor, m: &[u16], i: usize) -> Checked
     requires { ⌜ (i < f .carriers) × (f .carriers ≤ 8) × (stateSize (f .carriers) ≤ length (now m)) ⌝ }
     ensures { λ r. ⌜ verdictOf r ≡ waitsIn (bare f) (now (m .entry)) (plan i) ⌝ }
@@ -124,7 +123,7 @@ fn plan_waits(f: Floor, m: &[u16], i: usize) -> Checked
     let Checked::Passed = due else {
         return due;
     };
-    room_waits(f, m, i)
+    capacity_waits(f, m, i)
 }
 
 // What the delivery from carrier j to carrier i waits for: 12 with the addressee unless a message is there.

@@ -10,6 +10,7 @@ use lib.Dec.{eqb}
 use lib.ListN.{length, length-append}
 use Rattle.laws.specs.Memory.{put}
 use Rattle.laws.proofs.PutLaws.{put-none, put-length}
+use Rattle.reporting.specs.Words.{carrierWords}
 use Rattle.floor.specs.declared.Floor.{Floor}
 use Rattle.route.specs.Route.{Answer, none, route}
 use Rattle.bitrows.specs.Words.{digit}
@@ -21,7 +22,7 @@ use Rattle.reporting.specs.Put.{PutAt}
 use Rattle.reporting.proofs.ReportLaws.{put-behind}
 use Rattle.blockers.specs.Blockers.{ifNone, blockersOf}
 use Rattle.blockers.specs.Entry.{isNone}
-use Rattle.stranded.specs.Text.{carrierWords, shutWords, causeWords, nobodyLine, nameOf, byWhom, shutLine, carrierText, orNobody}
+use Rattle.stranded.specs.Text.{shutWords, causeWords, nobodyLine, nameOf, byWhom, shutLine, carrierText, orNobody}
 
 -- Nothing put.
 pub nothing-put : (old : List ℕ) (at : ℕ) → PutAt [] old at old at

@@ -22,16 +22,16 @@ use Rattle.reporting.specs.Put.{PutAt}
 use Rattle.reporting.proofs.TextLaws.{both-put}
 use Rattle.drawing.specs.Drawing.{drawnFloor}
 use Rattle.drawing.proofs.DrawnLaws.{drawn-length, drawn-short}
-use Rattle.reporting.proofs.PrintedLaws.{Within}
+use Rattle.reporting.proofs.PrintedLaws.{PrintsWithin}
 use Rattle.blockers.specs.Blockers.{ifNone}
 use Rattle.blockers.specs.Inner.{PlanIn}
 use Rattle.blockers.proofs.EntryLaws.{has-route, has-none}
 use Rattle.stranded.specs.Text.{carrierText, orNobody, strandedPlaces, strandedText}
-use Rattle.stranded.specs.Inner.{placeIn, placesIn}
+use Rattle.stranded.specs.Inner.{strandedCell, placesIn}
 use Rattle.stranded.proofs.LineLaws.{carrier-short, place-none, place-route, or-short}
 
 -- A loop that fills the cells: before the first, one more, and after the last.
-pub places-more : (f : Floor) (m places : List ℕ) (k c : ℕ) → places ≡ placesIn f m k → c ≡ placeIn f m k →
+pub places-more : (f : Floor) (m places : List ℕ) (k c : ℕ) → places ≡ placesIn f m k → c ≡ strandedCell f m k →
     set places k c ≡ placesIn f m (k + 1)
 unfolding placesIn
 places-more f m places k c e g = rw (add-one, e, g)
@@ -47,8 +47,8 @@ module _ (f : Floor) (ws : List ℕ) (ok : checkOf f ws ≡ passed) where
 
   -- The cells by the tags are those by the answers.
   module _ (m : List ℕ) (own : PlanIn f ws m) where
-    place-same : (k : ℕ) → k < f .carriers → placeIn f m k ≡ ifNone (answerAt (planOf f ws) k) (startOf f k) 65535
-    unfolding placeIn
+    place-same : (k : ℕ) → k < f .carriers → strandedCell f m k ≡ ifNone (answerAt (planOf f ws) k) (startOf f k) 65535
+    unfolding strandedCell
     place-same k l = go (eqb (getD m (65 * k) 0) 2) refl
       where
         go : (b : Bool) → eqb (getD m (65 * k) 0) 2 ≡ b → cond b 65535 (startOf f k) ≡ ifNone (answerAt (planOf f ws) k) (startOf f k) 65535
@@ -95,5 +95,5 @@ module _ (f : Floor) (ws : List ℕ) (ok : checkOf f ws ≡ passed) where
       let drawing = drawnFloor f ws (strandedPlaces f ws (f .carriers)) in
       omega (arith, length-append (orNobody lines) drawing, lines-short, drawn-short f ws ok (strandedPlaces f ws (f .carriers)))
 
-pub stranded-within : Within strandedText 1416
+pub stranded-within : PrintsWithin strandedText 1416
 stranded-within = record { short = text-short }

@@ -8,10 +8,10 @@ use Rattle.floor.specs.declared.Floor.{Floor}
 use Rattle.floor.specs.Checks.{startOf}
 
 -- The cell of carrier k by the tag of its answer in a memory: nowhere with a route, otherwise its start.
-unfoldable pub placeIn : Floor → List ℕ → ℕ → ℕ
-placeIn f m k = cond (eqb (getD m (65 * k) 0) 2) 65535 (startOf f k)
+unfoldable pub strandedCell : Floor → List ℕ → ℕ → ℕ
+strandedCell f m k = cond (eqb (getD m (65 * k) 0) 2) 65535 (startOf f k)
 
 -- The cells of the first k carriers.
 unfoldable pub placesIn : Floor → List ℕ → ℕ → List ℕ
 placesIn f m zero = replicate 8 65535
-placesIn f m (suc k) = set (placesIn f m k) k (placeIn f m k)
+placesIn f m (suc k) = set (placesIn f m k) k (strandedCell f m k)

@@ -5,6 +5,7 @@ use mathlib.Core.Bool.{cond}
 use mathlib.Core.List.{List, [], _∷_, _++_}
 use lib.Dec.{eqb}
 use lib.ListN.{length, replicate, set}
+use Rattle.reporting.specs.Words.{carrierWords}
 use Rattle.floor.specs.declared.Floor.{Floor}
 use Rattle.floor.specs.Checks.{startOf}
 use Rattle.bitrows.specs.Words.{digit}
@@ -17,10 +18,7 @@ use Rattle.printing.specs.Print.{orRefusal}
 use Rattle.drawing.specs.Drawing.{drawnFloor}
 use Rattle.blockers.specs.Blockers.{ifNone, blockersOf}
 
--- `carrier `, ` is shut in by`, ` walls or the horizon` and `no carrier is stranded`, letter by letter, with a newline at a line's end.
-unfoldable pub carrierWords : List ℕ
-carrierWords = 99 ∷ 97 ∷ 114 ∷ 114 ∷ 105 ∷ 101 ∷ 114 ∷ 32 ∷ []
-
+-- ` is shut in by`, ` walls or the horizon` and `no carrier is stranded`, letter by letter, with a newline at a line's end.
 unfoldable pub shutWords : List ℕ
 shutWords = 32 ∷ 105 ∷ 115 ∷ 32 ∷ 115 ∷ 104 ∷ 117 ∷ 116 ∷ 32 ∷ 105 ∷ 110 ∷ 32 ∷ 98 ∷ 121 ∷ []
 

@@ -13,7 +13,7 @@ ghost use Rattle.printing.specs.Put.{TextPut};
 ghost use Rattle.reporting.specs.Put.{PutAt};
 ghost use Rattle.blockers.specs.Inner.{PlanIn};
 ghost use Rattle.stranded.specs.Text.{carrierText, orNobody, strandedText, blockersText};
-ghost use Rattle.stranded.specs.Inner.{placeIn, placesIn};
+ghost use Rattle.stranded.specs.Inner.{strandedCell, placesIn};
 use drawing::Places;
 use floor::Checked;
 use floor::Floor;
@@ -75,7 +75,7 @@ fn put_lines(f: Floor, walls: &[u16], own: [u16; TEAM], out: &mut [u8]) -> usize
 // The start of carrier k + 1 if it has no route, otherwise nowhere.
 fn place(f: Floor, own: [u16; TEAM], k: usize) -> u16
     requires { ⌜ (k < 8) × (length own ≡ 520) ⌝ }
-    ensures { λ r. ⌜ r ≡ placeIn f own k ⌝ }
+    ensures { λ r. ⌜ r ≡ strandedCell f own k ⌝ }
 {
     if own[SIZE * k] == 2 {
         return 65535;

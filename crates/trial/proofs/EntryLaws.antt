@@ -13,8 +13,8 @@ use Rattle.floor.specs.declared.Checked.{Checked}
 use Rattle.floor.specs.declared.Checked.the-variants.{Passed}
 use Rattle.floor.specs.Answers.{verdictOf}
 use Rattle.floor.proofs.AnswersLaws.{passes}
-use Rattle.floor.specs.Checks.{checkOf, roomOf}
-use Rattle.floor.proofs.LimitsLaws.{limited-bounds, room-passed}
+use Rattle.floor.specs.Checks.{checkOf, longEnough}
+use Rattle.floor.proofs.LimitsLaws.{limited-bounds, length-passed}
 use Rattle.floor.proofs.Theorems.{theorems}
 use Rattle.reference.specs.State.{State, fresh}
 use Rattle.reference.specs.Step.{Step}
@@ -38,25 +38,26 @@ pub checked-carriers : (f : Floor) (ws : List ℕ) → checkOf f ws ≡ passed �
 checked-carriers f ws h = limited-bounds f (theorems .passes-exactly f ws .0 h .limited) .carriers
 
 -- What passed checks tell: an accepted floor, room for its state, and room for the report.
-pub record Lent (f : Floor) (ws : List ℕ) (state report : ℕ) : Type 0 where
+pub record TrialGranted (f : Floor) (ws : List ℕ) (state report : ℕ) : Type 0 where
   pub checked : checkOf f ws ≡ passed
   pub placed : Placed f ws state
   pub wide : reportSize (f .carriers) ≤ report
 
 pub trial-tells : (f : Floor) (ws : List ℕ) (order state report : ℕ) → trialVerdict f ws order state report ≡ passed →
-    Lent f ws state report
+    TrialGranted f ws state report
 unfolding trialVerdict placeVerdict
 trial-tells f ws order state report h =
     let a = then-both _ _ h in
     let b = then-both _ _ (a .1) in
-    record { checked = then-both _ _ (a .0) .0; placed = place-tells f ws state (a .0); wide = room-passed _ _ (b .0) }
+    record { checked = then-both _ _ (a .0) .0; placed = place-tells f ws state (a .0); wide = length-passed _ _ (b .0) }
 
--- The room for a report, as the code asks for it behind a check of the floor and its state that passed.
-pub report-room : {a : Checked} (b : Checked) (f : Floor) (ws : List ℕ) (state most report : ℕ) → verdictOf a ≡ placeVerdict f ws state → a ≡ Passed →
-    (1 ≤ f .carriers → f .carriers ≤ 8 → most ≡ ceiling (f .carriers)) × (most ≤ 512) → verdictOf b ≡ roomOf (2 * most) report →
-    verdictOf b ≡ roomOf (reportSize (f .carriers)) report
+-- The length of a report, as the code asks for it behind a check of the floor and its state that passed.
+pub report-length : {a : Checked} (b : Checked) (f : Floor) (ws : List ℕ) (state most report : ℕ) → verdictOf a ≡ placeVerdict f ws state →
+    a ≡ Passed →
+    (1 ≤ f .carriers → f .carriers ≤ 8 → most ≡ ceiling (f .carriers)) × (most ≤ 512) → verdictOf b ≡ longEnough (2 * most) report →
+    verdictOf b ≡ longEnough (reportSize (f .carriers)) report
 unfolding reportSize
-report-room b f ws state most report v e m h =
+report-length b f ws state most report v e m h =
     let n = placed-bounds (place-tells f ws state (passes v e)) .carriers in
     h ∙ rw (m .0 (n .0) (n .1))
 

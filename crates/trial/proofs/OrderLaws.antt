@@ -17,7 +17,7 @@ use Rattle.machine.proofs.CeilingLaws.{power-most}
 use Rattle.orders.specs.Generator.{nextNumber, drawnBy}
 use Rattle.orders.specs.Orders.{first, round, drawn, startMemory, remembered}
 use Rattle.trial.specs.Entry.{orderBy}
-use Rattle.trial.specs.Inner.{countIn, turnIn}
+use Rattle.trial.specs.Inner.{openCount, turnIn}
 
 module _ (k : ℕ) where
   pub order-first : k ≡ 1 → orderBy k ≡ first
@@ -64,7 +64,7 @@ module _ (k : ℕ) where
     unfolding turnIn
     turn-first e = rw (order-first e)
 
-    pub turn-round : (x : ℕ) → k ≡ 2 → x ≡ countIn f m c → x ≡ turnIn (orderBy k) f m c
+    pub turn-round : (x : ℕ) → k ≡ 2 → x ≡ openCount f m c → x ≡ turnIn (orderBy k) f m c
     unfolding turnIn
     turn-round x e h = rw (order-round e) h
 

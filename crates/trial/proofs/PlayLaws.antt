@@ -32,8 +32,8 @@ use Rattle.orders.specs.Orders.{Order, places, stepAt, openAt, passing, chosen,
 use Rattle.orders.specs.Trial.{Entry, TrialResult, nextStep, entryOf, reported, tryFrom, trial}
 use Rattle.orders.proofs.RuleLaws.{Memory, Takes, no-place, place-not-silent, chosen-takes}
 use Rattle.orders.proofs.TrialLaws.{start-memory, try-silent, try-step}
-use Rattle.trial.specs.Report.{numberOf, answerNumber, numbersOf, reportSize}
-use Rattle.trial.specs.Inner.{countIn, chosenIn, Advanced}
+use Rattle.trial.specs.Report.{numberOf, answerNumber, reportNumbers, reportSize}
+use Rattle.trial.specs.Inner.{openCount, chosenIn, Advanced}
 use Rattle.trial.proofs.ReportLaws.{numbers-length, numbers-more}
 use Rattle.trial.proofs.ShownLaws.{count-same, chosen-same}
 
@@ -86,13 +86,13 @@ module _ (f : Floor) (ws : List ℕ) (o : Order) (seed : ℕ) (m₀ report₀ : 
     pub fits : WithinRanges f state
     pub keeps : Memory o (machineOf f ws) c
     pub number : t ≡ length entries
-    pub stored : report ≡ put report₀ 0 (numbersOf entries)
+    pub stored : report ≡ put report₀ 0 (reportNumbers entries)
     pub told : trial o (machineOf f ws) seed .report ≡
         entries ++ tryFrom o (machineOf f ws) c state (ceiling (f .carriers) - t) .report
     pub leads : trial o (machineOf f ws) seed .state ≡ tryFrom o (machineOf f ws) c state (ceiling (f .carriers) - t) .state
 
   pub playing-start : m₀ ≡ encode (f .carriers) fresh ++ drop (stateSize (f .carriers)) m₀ → Playing m₀ report₀ (startMemory o seed) 0
-  unfolding trial machineOf numbersOf
+  unfolding trial machineOf reportNumbers
   playing-start e =
       record {
         state = fresh;
@@ -120,10 +120,10 @@ module _ (f : Floor) (ws : List ℕ) (o : Order) (seed : ℕ) (m₀ report₀ : 
     s = p .state
 
     -- How many places are open, as the memory shows it.
-    shown-count : countIn f m (places (f .carriers)) ≡ length (passing (openAt N s) (places (N .carriers)))
+    shown-count : openCount f m (places (f .carriers)) ≡ length (passing (openAt N s) (places (N .carriers)))
     unfolding machineOf
     shown-count =
-        ap (λ (z : List ℕ). countIn f z (places (f .carriers))) (p .shows)
+        ap (λ (z : List ℕ). openCount f z (places (f .carriers))) (p .shows)
         ∙ count-same f ws s (drop (stateSize (f .carriers)) m₀) (places (f .carriers))
 
     -- What the order takes, and that it is open.
@@ -131,12 +131,12 @@ module _ (f : Floor) (ws : List ℕ) (o : Order) (seed : ℕ) (m₀ report₀ : 
     taken-place =
         ap (λ (z : List ℕ). chosenIn o f z c) (p .shows) ∙ chosen-same f ws s (drop (stateSize (f .carriers)) m₀) o c
 
-    takes : 0 < countIn f m (places (f .carriers)) → Takes o N s c (chosen o N s c)
+    takes : 0 < openCount f m (places (f .carriers)) → Takes o N s c (chosen o N s c)
     takes l = chosen-takes N s o c (p .keeps) (rw (← shown-count) l)
 
     -- One more step.
-    module _ (some : 0 < countIn f m (places (f .carriers))) (less : t < ceiling (f .carriers))
-        (room : reportSize (f .carriers) ≤ length report₀)
+    module _ (some : 0 < openCount f m (places (f .carriers))) (less : t < ceiling (f .carriers))
+        (enough : reportSize (f .carriers) ≤ length report₀)
         {next : ℕ} {m′ report′ : List ℕ} (kept : length m′ ≡ length m) (a : Advanced o f ws m report c t next m′ report′) where
       abbrev x : Step
       x = nextStep o N s c
@@ -177,21 +177,22 @@ module _ (f : Floor) (ws : List ℕ) (o : Order) (seed : ℕ) (m₀ report₀ : 
           ∙ ap (λ (r : StepAnswer). put report (2 * t) (numberOf x ∷ (answerNumber r ∷ []))) says
 
       -- The report keeps its length, and has one line more.
-      size : length (numbersOf (p .entries)) ≡ 2 * t
+      size : length (reportNumbers (p .entries)) ≡ 2 * t
       size = numbers-length (p .entries) ∙ ap (λ (k : ℕ). 2 * k) (sym (p .number))
 
-      stored-more : report′ ≡ put report₀ 0 (numbersOf (p .entries ++ (line ∷ [])))
+      stored-more : report′ ≡ put report₀ 0 (reportNumbers (p .entries ++ (line ∷ [])))
       unfolding reportSize
       stored-more =
-          put-next report₀ report report′ (numbersOf (p .entries)) (numberOf (line .taken) ∷ (answerNumber (line .answer) ∷ [])) 0 (2 * t)
-          (p .stored) numbers (omega (arith, size)) (omega (arith, room, less))
+          put-next report₀ report report′ (reportNumbers (p .entries))
+          (numberOf (line .taken) ∷ (answerNumber (line .answer) ∷ [])) 0 (2 * t)
+          (p .stored) numbers (omega (arith, size)) (omega (arith, enough, less))
           ∙ ap (put report₀ 0) (sym (numbers-more (p .entries) line))
 
       wide-more : length report′ ≡ length report₀
       unfolding reportSize
       wide-more =
           ap length numbers
-          ∙ put-length report (numberOf (line .taken) ∷ (answerNumber (line .answer) ∷ [])) (2 * t) (omega (arith, room, less, p .wide))
+          ∙ put-length report (numberOf (line .taken) ∷ (answerNumber (line .answer) ∷ [])) (2 * t) (omega (arith, enough, less, p .wide))
           ∙ p .wide
 
       -- What is left of the trial, from what the order remembers now.
@@ -236,7 +237,7 @@ module _ (f : Floor) (ws : List ℕ) (o : Order) (seed : ℕ) (m₀ report₀ : 
     pub stopped : tryFrom o N c s (ceiling (f .carriers) - t) ≡ record { report = []; state = s } →
         (t ≡ length (trial o N seed .report)) ×
         ((m ≡ encode (f .carriers) (trial o N seed .state) ++ drop (stateSize (f .carriers)) m₀) ×
-        (report ≡ put report₀ 0 (numbersOf (trial o N seed .report))))
+        (report ≡ put report₀ 0 (reportNumbers (trial o N seed .report))))
     stopped e =
         let all : trial o N seed .report ≡ p .entries =
         p .told ∙ ap (λ (r : TrialResult). p .entries ++ r .report) e ∙ append-nil (p .entries) in
@@ -244,12 +245,12 @@ module _ (f : Floor) (ws : List ℕ) (o : Order) (seed : ℕ) (m₀ report₀ : 
           p .number ∙ ap length (sym all),
           (
             p .shows ∙ ap (λ (z : State). encode (f .carriers) z ++ drop (stateSize (f .carriers)) m₀) (sym last),
-            p .stored ∙ ap (λ (es : List Entry). put report₀ 0 (numbersOf es)) (sym all),
+            p .stored ∙ ap (λ (es : List Entry). put report₀ 0 (reportNumbers es)) (sym all),
           ),
         )
 
     -- It stops where no place is open, and after the ceiling's number of steps.
-    pub stops-silent : countIn f m (places (f .carriers)) ≡ 0 →
+    pub stops-silent : openCount f m (places (f .carriers)) ≡ 0 →
         tryFrom o N c s (ceiling (f .carriers) - t) ≡ record { report = []; state = s }
     stops-silent e = try-stopped o N c s (ceiling (f .carriers) - t) (no-place N s (sym shown-count ∙ e))
 

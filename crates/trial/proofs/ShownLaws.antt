@@ -15,7 +15,7 @@ use Rattle.steps.specs.Inner.{bare}
 use Rattle.steps.proofs.OpenLaws.{open-of}
 use Rattle.orders.specs.Orders.{Order, first, round, drawn, places, stepAt, openAt, passing, openPlaces, turn, chosen}
 use Rattle.orders.proofs.PassingLaws.{passing-item}
-use Rattle.trial.specs.Inner.{opensIn, countIn, turnIn, chosenIn}
+use Rattle.trial.specs.Inner.{opensIn, openCount, turnIn, chosenIn}
 
 -- Two tests that agree pass the same places.
 passing-same : (p q : ℕ → Bool) → ((i : ℕ) → p i ≡ q i) → (k : ℕ) → passing p k ≡ passing q k
@@ -24,11 +24,11 @@ passing-same p q h zero = refl
 passing-same p q h (suc k) = rw (passing-same p q h k, h k)
 
 -- The place that an order takes is open.
-pub chosen-opens : (o : Order) (f : Floor) (m : List ℕ) (c : ℕ) → 0 < countIn f m (places (f .carriers)) →
+pub chosen-opens : (o : Order) (f : Floor) (m : List ℕ) (c : ℕ) → 0 < openCount f m (places (f .carriers)) →
     openIn (bare f) m (stepAt (f .carriers) (chosenIn o f m c)) ≡ true
-unfolding chosenIn countIn opensIn
+unfolding chosenIn openCount opensIn
 chosen-opens o f m c l =
-    passing-item (opensIn f m) (places (f .carriers)) (turnIn o f m c % countIn f m (places (f .carriers)))
+    passing-item (opensIn f m) (places (f .carriers)) (turnIn o f m c % openCount f m (places (f .carriers)))
     (mod-lt (turnIn o f m c) l) .passes
 
 module _ (f : Floor) (ws : List ℕ) (s : State) (rest : List ℕ) where
@@ -45,8 +45,8 @@ module _ (f : Floor) (ws : List ℕ) (s : State) (rest : List ℕ) where
   listed-same : (k : ℕ) → passing (opensIn f m) k ≡ passing (openAt M s) k
   listed-same = passing-same (opensIn f m) (openAt M s) opens-same
 
-  pub count-same : (k : ℕ) → countIn f m k ≡ length (passing (openAt M s) k)
-  unfolding countIn
+  pub count-same : (k : ℕ) → openCount f m k ≡ length (passing (openAt M s) k)
+  unfolding openCount
   count-same k = ap length (listed-same k)
 
   turn-same : (o : Order) (c : ℕ) → turnIn o f m c ≡ turn o M s c

@@ -11,9 +11,9 @@ use Rattle.laws.specs.Verdict.{passed, refused, _then_, demand}
 use Rattle.laws.proofs.Tests.{and-fst, and-snd, and-fails}
 use Rattle.laws.proofs.VerdictLaws.{then-passed, then-both, then-cases, demand-cases, demand-passes}
 use Rattle.floor.specs.declared.Floor.{Floor}
-use Rattle.floor.specs.Checks.{checkOf, roomOf, within}
+use Rattle.floor.specs.Checks.{checkOf, longEnough, within}
 use Rattle.floor.specs.Refused.{RefusedWith, outside-limit, few-walls, carrier-outside, wall-outside, not-rising, on-wall, shared, repeated}
-use Rattle.floor.proofs.LimitsLaws.{room-passed}
+use Rattle.floor.proofs.LimitsLaws.{length-passed}
 use Rattle.floor.proofs.Theorems.{theorems as floor-theorems}
 use Rattle.reference.specs.Step.{Step, plan, deliver, isThere}
 use Rattle.reference.specs.Table.{step}
@@ -68,9 +68,9 @@ no-row-eleven (on-wall h g i j k l) e = omega arith
 no-row-eleven (shared h g i j k l m) e = omega arith
 no-row-eleven (repeated h g i j k l m n) e = omega arith
 
-room-not-eleven : (needed lent p : ℕ) → roomOf needed lent ≡ refused 11 p → ⊥
-unfolding roomOf
-room-not-eleven needed lent p e = let h = demand-cases (leb needed lent) 9 0 11 p e in omega (arith, h .1)
+length-not-eleven : (needed lent p : ℕ) → longEnough needed lent ≡ refused 11 p → ⊥
+unfolding longEnough
+length-not-eleven needed lent p e = let h = demand-cases (leb needed lent) 9 0 11 p e in omega (arith, h .1)
 
 order-outside : (order : ℕ) → within 1 3 order ≡ false → (order < 1) ⊎ (3 < order)
 unfolding within
@@ -89,24 +89,24 @@ module _ (f : Floor) (ws : List ℕ) (order state report p : ℕ) where
   unfolding placeVerdict
   place-cases e =
       ⊎-elim (λ h. no-row-eleven (floor-theorems .refuses-exactly f ws 11 p .0 h) refl)
-      (λ h. room-not-eleven (stateSize (f .carriers)) state p (h .1))
-      (then-cases (checkOf f ws) (roomOf (stateSize (f .carriers)) state) 11 p e)
+      (λ h. length-not-eleven (stateSize (f .carriers)) state p (h .1))
+      (then-cases (checkOf f ws) (longEnough (stateSize (f .carriers)) state) 11 p e)
 
   eleven-says : trialVerdict f ws order state report ≡ refused 11 p → Eleven
   unfolding trialVerdict placeVerdict
   eleven-says e =
       ⊎-elim (λ h. absurd (place-cases h))
       (λ h.
-      let place = then-both (checkOf f ws) (roomOf (stateSize (f .carriers)) state) (h .0) in
-      ⊎-elim (λ g. absurd (room-not-eleven (reportSize (f .carriers)) report p g))
+      let place = then-both (checkOf f ws) (longEnough (stateSize (f .carriers)) state) (h .0) in
+      ⊎-elim (λ g. absurd (length-not-eleven (reportSize (f .carriers)) report p g))
       (λ g.
       let order-says = demand-cases (within 1 3 order) 11 0 11 p (g .1) in
-      (place .0, room-passed _ _ (place .1), room-passed _ _ (g .0), order-outside order (order-says .0), order-says .2))
-      (then-cases (roomOf (reportSize (f .carriers)) report) (demand (within 1 3 order) 11 0) 11 p (h .1)))
-      (then-cases (placeVerdict f ws state) (roomOf (reportSize (f .carriers)) report then demand (within 1 3 order) 11 0) 11 p e)
+      (place .0, length-passed _ _ (place .1), length-passed _ _ (g .0), order-outside order (order-says .0), order-says .2))
+      (then-cases (longEnough (reportSize (f .carriers)) report) (demand (within 1 3 order) 11 0) 11 p (h .1)))
+      (then-cases (placeVerdict f ws state) (longEnough (reportSize (f .carriers)) report then demand (within 1 3 order) 11 0) 11 p e)
 
   eleven-comes : Eleven → trialVerdict f ws order state report ≡ refused 11 p
-  unfolding trialVerdict placeVerdict roomOf
+  unfolding trialVerdict placeVerdict longEnough
   eleven-comes h =
       then-passed (then-passed (h .0) ∙ demand-passes 9 0 (le-leb _ _ (h .1)))
       ∙ then-passed (demand-passes 9 0 (le-leb _ _ (h .2)))

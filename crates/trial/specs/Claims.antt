@@ -20,7 +20,7 @@ use Rattle.encoding.specs.Places.{stateSize}
 use Rattle.encoding.specs.Ranges.{WithinRanges}
 use Rattle.encoding.specs.Numbers.{askedBy}
 use Rattle.encoding.specs.Calls.{machineOf}
-use Rattle.trial.specs.Report.{numberOf, numbersOf, reportSize}
+use Rattle.trial.specs.Report.{numberOf, reportNumbers, reportSize}
 use Rattle.trial.specs.Entry.{trialVerdict, trialOf}
 
 -- What holds of the trial of an accepted floor: it ends silent, within the ceiling, with the sequential planner's answers, in a state
@@ -30,7 +30,7 @@ pub record Ends (f : Floor) (ws : List ℕ) (order seed : ℕ) : Type 0 where
   pub within : length (trialOf f ws order seed .report) ≤ ceiling (f .carriers)
   pub sequential-answers : below (f .carriers) (trialOf f ws order seed .state .answer) ≡ sequential (respondOf f ws) (f .carriers)
   pub within-ranges : WithinRanges f (trialOf f ws order seed .state)
-  pub fits : length (numbersOf (trialOf f ws order seed .report)) ≤ reportSize (f .carriers)
+  pub fits : length (reportNumbers (trialOf f ws order seed .report)) ≤ reportSize (f .carriers)
 
 pub record Claims : Type 0 where
   -- Every trial of an accepted floor ends so.

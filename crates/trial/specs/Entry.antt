@@ -7,13 +7,13 @@ use lib.ListN.{length}
 use Rattle.laws.specs.Verdict.{Verdict, Outcome, value, refusal, _then_, demand, _gives_, whenPassed}
 use Rattle.laws.specs.Memory.{put}
 use Rattle.floor.specs.declared.Floor.{Floor}
-use Rattle.floor.specs.Checks.{within, roomOf}
+use Rattle.floor.specs.Checks.{within, longEnough}
 use Rattle.encoding.specs.Calls.{machineOf, placeVerdict, withState}
 use Rattle.orders.specs.Orders.{Order, first, round, drawn}
 use Rattle.orders.specs.Trial.{TrialResult, trial}
 use Rattle.trial.specs.declared.Tried.{Tried}
 use Rattle.trial.specs.declared.Tried.the-variants.{Steps, Refused}
-use Rattle.trial.specs.Report.{numbersOf, reportSize}
+use Rattle.trial.specs.Report.{reportNumbers, reportSize}
 
 -- The order that a number from 1 to 3 names.
 unfoldable pub orderBy : ℕ → Order
@@ -22,7 +22,7 @@ orderBy k = cond (eqb k 1) first (cond (eqb k 2) round drawn)
 -- The refusals: the floor's, 9 for the lent state, 9 for the lent report, then 11, 0 for an order other than 1 to 3.
 unfoldable pub trialVerdict : Floor → List ℕ → (order state report : ℕ) → Verdict
 trialVerdict f ws order state report =
-    placeVerdict f ws state then roomOf (reportSize (f .carriers)) report then demand (within 1 3 order) 11 0
+    placeVerdict f ws state then longEnough (reportSize (f .carriers)) report then demand (within 1 3 order) 11 0
 
 -- The trial of a floor's machine.
 unfoldable pub trialOf : Floor → List ℕ → (order seed : ℕ) → TrialResult
@@ -45,4 +45,4 @@ stateTried f ws order seed m report =
 -- The lent report afterwards: the trial's lines in its front, the rest as it was; all as it was with a refusal.
 unfoldable pub reportTried : Floor → List ℕ → (order seed state : ℕ) → List ℕ → List ℕ
 reportTried f ws order seed state m =
-    whenPassed (trialVerdict f ws order state (length m)) (put m 0 (numbersOf (trialOf f ws order seed .report))) m
+    whenPassed (trialVerdict f ws order state (length m)) (put m 0 (reportNumbers (trialOf f ws order seed .report))) m

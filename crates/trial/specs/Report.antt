@@ -18,9 +18,9 @@ answerNumber sent = 1
 answerNumber delivered = 2
 
 -- The numbers of a report.
-unfoldable pub numbersOf : List Entry → List ℕ
-numbersOf [] = []
-numbersOf (e ∷ es) = numberOf (e .taken) ∷ answerNumber (e .answer) ∷ numbersOf es
+unfoldable pub reportNumbers : List Entry → List ℕ
+reportNumbers [] = []
+reportNumbers (e ∷ es) = numberOf (e .taken) ∷ answerNumber (e .answer) ∷ reportNumbers es
 
 -- The needed length of a report: two numbers for each step of the ceiling.
 unfoldable pub reportSize : ℕ → ℕ

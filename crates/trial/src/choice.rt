@@ -5,7 +5,7 @@ ghost use lib.ListN.{length, getD};
 ghost use Rattle.encoding.specs.Places.{stateSize};
 ghost use Rattle.orders.specs.Orders.{round, places, startMemory, remembered, passing};
 ghost use Rattle.trial.specs.Entry.{orderBy};
-ghost use Rattle.trial.specs.Inner.{opensIn, countIn, turnIn, chosenIn};
+ghost use Rattle.trial.specs.Inner.{opensIn, openCount, turnIn, chosenIn};
 use floor::Floor;
 
 // Whether the step at a place is open.
@@ -21,7 +21,7 @@ fn open_at(f: Floor, m: &[u16], p: usize) -> bool
 pub fn count_open(f: Floor, m: &[u16], k: usize) -> usize
     requires { ⌜ k ≤ places (f .carriers) ⌝ }
     requires { ⌜ (f .carriers ≤ 8) × (stateSize (f .carriers) ≤ length (now m)) ⌝ }
-    ensures { λ r. ⌜ (r ≡ countIn f (now (m .entry)) k) × (r ≤ k) ⌝ }
+    ensures { λ r. ⌜ (r ≡ openCount f (now (m .entry)) k) × (r ≤ k) ⌝ }
 {
     let mut p: usize = 0;
     let mut count: usize = 0;
@@ -36,7 +36,7 @@ pub fn count_open(f: Floor, m: &[u16], k: usize) -> usize
 
 // The open place that has i others before it.
 fn place_at(f: Floor, m: &[u16], i: usize) -> usize
-    requires { ⌜ i < countIn f (now m) (places (f .carriers)) ⌝ }
+    requires { ⌜ i < openCount f (now m) (places (f .carriers)) ⌝ }
     requires { ⌜ (f .carriers ≤ 8) × (stateSize (f .carriers) ≤ length (now m)) ⌝ }
     ensures { λ r. ⌜ (r ≡ getD (passing (opensIn f (now (m .entry))) (places (f .carriers))) i 0) × (r < places (f .carriers)) ⌝ }
 {
@@ -73,7 +73,7 @@ fn turn(f: Floor, m: &[u16], order: u16, c: u32) -> usize
 
 // The place that an order takes, of so many open ones.
 pub fn choose(f: Floor, m: &[u16], order: u16, c: u32, candidates: usize) -> usize
-    requires { ⌜ (candidates ≡ countIn f (now m) (places (f .carriers))) × (0 < candidates) ⌝ }
+    requires { ⌜ (candidates ≡ openCount f (now m) (places (f .carriers))) × (0 < candidates) ⌝ }
     requires { ⌜ (orderBy order ≡ round → c ≤ places (f .carriers)) ⌝ }
     requires { ⌜ (f .carriers ≤ 8) × (stateSize (f .carriers) ≤ length (now m)) ⌝ }
     ensures { λ r. ⌜ (r ≡ chosenIn (orderBy order) f (now (m .entry)) c) × (r < places (f .carriers)) ⌝ }

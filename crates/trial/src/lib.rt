@@ -24,7 +24,7 @@ pub use play::most_steps;
 pub enum Tried {
     // The number of steps taken, as many as the report has entries.
     Steps(usize),
-    // Turned away.
+    // Refused.
     Refused(Refusal),
 }
 
@@ -51,7 +51,7 @@ fn ready(f: Floor, walls: &[u16], order: u16, state: usize, report: usize) -> Ch
     let Checked::Passed = placed else {
         return placed;
     };
-    let reported = floor::room(2 * play::most_steps(f.carriers as usize), report);
+    let reported = floor::check_length(2 * play::most_steps(f.carriers as usize), report);
     let Checked::Passed = reported else {
         return reported;
     };

@@ -13,9 +13,9 @@ ghost use Rattle.encoding.specs.Encode.{encode};
 ghost use Rattle.encoding.specs.Calls.{withState};
 ghost use Rattle.steps.specs.Inner.{Workable};
 ghost use Rattle.orders.specs.Orders.{round, places};
-ghost use Rattle.trial.specs.Report.{numbersOf, reportSize};
+ghost use Rattle.trial.specs.Report.{reportNumbers, reportSize};
 ghost use Rattle.trial.specs.Entry.{orderBy, trialVerdict, trialOf};
-ghost use Rattle.trial.specs.Inner.{countIn, Advanced};
+ghost use Rattle.trial.specs.Inner.{openCount, Advanced};
 use floor::Floor;
 use machine::Most;
 
@@ -52,7 +52,7 @@ fn advance(
     m: &mut [u16],
     report: &mut [u16],
 ) -> u32
-    requires { ⌜ (candidates ≡ countIn f (now m) (places (f .carriers))) × (0 < candidates) ⌝ }
+    requires { ⌜ (candidates ≡ openCount f (now m) (places (f .carriers))) × (0 < candidates) ⌝ }
     requires { ⌜ (orderBy order ≡ round → c ≤ places (f .carriers)) ⌝ }
     requires { ⌜ Workable f (now walls) free (now m) ⌝ }
     requires { ⌜ (t < 512) × (2 * t + 2 ≤ length (now report)) ⌝ }
@@ -85,7 +85,7 @@ fn take_all(
     ensures stores { λ r. ⌜ now (m .exit) ≡
         encode (f .carriers) (trialOf f (now (walls .entry)) order seed .state) ++ drop (stateSize (f .carriers)) (now (m .entry)) ⌝ }
     ensures reports { λ r. ⌜ now (report .exit) ≡
-        put (now (report .entry)) 0 (numbersOf (trialOf f (now (walls .entry)) order seed .report)) ⌝ }
+        put (now (report .entry)) 0 (reportNumbers (trialOf f (now (walls .entry)) order seed .report)) ⌝ }
 {
     let all = crate::places::count(f.carriers as usize);
     let most = most_steps(f.carriers as usize);
@@ -115,7 +115,7 @@ pub fn play(
     ensures answers { λ r. ⌜ r ≡ length (trialOf f (now (walls .entry)) order seed .report) ⌝ }
     ensures stores { λ r. ⌜ now (m .exit) ≡ withState f (now (m .entry)) (trialOf f (now (walls .entry)) order seed .state) ⌝ }
     ensures reports { λ r. ⌜ now (report .exit) ≡
-        put (now (report .entry)) 0 (numbersOf (trialOf f (now (walls .entry)) order seed .report)) ⌝ }
+        put (now (report .entry)) 0 (reportNumbers (trialOf f (now (walls .entry)) order seed .report)) ⌝ }
 {
     state::write_fresh(m, f.carriers as usize);
     let free = search::free_rows(f, walls);

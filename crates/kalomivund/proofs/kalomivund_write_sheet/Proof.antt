@@ -1,5 +1,5 @@
 -- `kalomivund_write_sheet` meets its contract: the writing of the floor that the numbers say, packed with its length.
-use Rattle.kalomivund.proofs.EntryLaws.{too-short, handed-on}
+use Rattle.kalomivund.proofs.EntryLaws.{too-short, packed-answers}
 use Rattle.abi.specs.Word.{ofNumber}
 use Rattle.kalomivund.specs.Entries.{writeWord, writeStored}
 use borrow.Author.Needs.{needs}
@@ -11,4 +11,4 @@ unfolding writeWord writeStored ofNumber
 kalomivund-write-sheet-spec =
     tie.close (tie.spec (λ c κs. search needs) (λ c. search too-short) (λ c κs. search needs) (λ c κs. search needs)
     (λ c κs. search needs) (λ c κs. search needs) (λ c. search needs)
-    (λ c. let after-floor-of : tie.After-floor-of = search in rw (← after-floor-of .floor-of .ensures) (search handed-on)))
+    (λ c. let after-floor-of : tie.After-floor-of = search in rw (← after-floor-of .floor-of .ensures) (search packed-answers)))

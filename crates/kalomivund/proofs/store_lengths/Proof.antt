@@ -2,7 +2,7 @@
 use mathlib.Core.Path.{refl}
 use borrow.Author.Tests.{lt-leb, le-leb}
 use Rattle.laws.specs.Verdict.{demand, _gives_, whenPassed}
-use Rattle.floor.specs.Checks.{roomOf}
+use Rattle.floor.specs.Checks.{longEnough}
 use Rattle.abi.specs.Word.{ofNumber, mapOutcome}
 use Rattle.kalomivund.specs.Answers.{figureList}
 use borrow.Author.Needs.{needs}
@@ -10,11 +10,11 @@ use Rattle.kalomivund.proofs.store_lengths.Statement.{statement}
 use Rattle.kalomivund.proofs.store_lengths.Tie as tie
 
 returns : tie.Need-returns
-unfolding roomOf demand _gives_ whenPassed ofNumber mapOutcome
+unfolding longEnough demand _gives_ whenPassed ofNumber mapOutcome
 returns c = rw (lt-leb 9 _ (c .before .if1 .taken)) (c .too-short .ensures, refl)
 
 returns-2 : tie.Need-returns-2
-unfolding roomOf demand _gives_ whenPassed ofNumber mapOutcome figureList
+unfolding longEnough demand _gives_ whenPassed ofNumber mapOutcome figureList
 returns-2 c =
     let after-copy-figures : tie.After-copy-figures = search in
     let else1 : tie.Else1 = search in

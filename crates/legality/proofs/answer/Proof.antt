@@ -11,12 +11,12 @@ use Rattle.legality.proofs.answer.Tie as tie
 slice-read : tie.Need-shared-slice-read-tag
 slice-read c =
     let start : tie.Start = search in
-    omega (arith, verdict-granted _ _ _ _ (start .pre) .lent)
+    omega (arith, verdict-granted _ _ _ _ (start .pre) .enough)
 
 load-requires : tie.Need-load-requires
 load-requires c κs =
     let start : tie.Start = search in
-    omega (arith, verdict-granted _ _ _ _ (start .pre) .lent)
+    omega (arith, verdict-granted _ _ _ _ (start .pre) .enough)
 
 record-test-requires : tie.Need-record-test-requires
 record-test-requires c κs =

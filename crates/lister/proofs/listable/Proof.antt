@@ -1,4 +1,4 @@
--- `lister::listable` meets its contract: each check hands on to the next.
+-- `lister::listable` meets its contract: behind each passed check the next one decides.
 use Rattle.floor.proofs.AnswersLaws.{chain}
 use Rattle.lister.specs.Entry.{listVerdict}
 use borrow.Author.Needs.{needs}

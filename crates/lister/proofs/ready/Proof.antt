@@ -1,4 +1,4 @@
--- `lister::ready` meets its contract: each check hands on to the next.
+-- `lister::ready` meets its contract: behind each passed check the next one decides.
 use Rattle.floor.proofs.AnswersLaws.{chain}
 use Rattle.lister.specs.Entry.{smallVerdict}
 use Rattle.lister.proofs.EntryLaws.{report-asked}

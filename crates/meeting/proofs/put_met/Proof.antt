@@ -3,7 +3,7 @@ use mathlib.Core.Path.{refl}
 use lib.ListN.{length-take, length-drop}
 use Rattle.route.specs.ConflictTest.{conflictTold}
 use Rattle.reporting.proofs.TextLaws.{both-put}
-use Rattle.meeting.proofs.MeetingLaws.{short, found-early, line-room, conflict-short, met-drawing-short, met-put}
+use Rattle.meeting.proofs.MeetingLaws.{short, found-early, line-ends, conflict-short, met-drawing-short, met-put}
 use native.Mathlib.Omega.{arith}
 use borrow.Author.Needs.{needs}
 use Rattle.meeting.proofs.put_met.Statement.{statement}
@@ -19,20 +19,20 @@ sub-put-drawing : tie.Need-sub-put-drawing
 sub-put-drawing c =
     let after-put-conflict : tie.After-put-conflict = search in
     let start : tie.Start = search in
-    omega (arith, line-room _ _ _ _ (after-put-conflict .put-conflict .ensures), start .pre .2)
+    omega (arith, line-ends _ _ _ _ (after-put-conflict .put-conflict .ensures), start .pre .2)
 
 part-put-drawing-start : tie.Need-part-put-drawing-start
 part-put-drawing-start c =
     let after-put-conflict : tie.After-put-conflict = search in
     let start : tie.Start = search in
-    omega (arith, line-room _ _ _ _ (after-put-conflict .put-conflict .ensures), start .pre .2)
+    omega (arith, line-ends _ _ _ _ (after-put-conflict .put-conflict .ensures), start .pre .2)
 
 put-drawing-requires : tie.Need-put-drawing-requires
 put-drawing-requires c κs =
     let after-put-conflict : tie.After-put-conflict = search in
     let after-first-conflict : tie.After-first-conflict = search in
     let start : tie.Start = search in
-    let n = line-room _ _ _ _ (after-put-conflict .put-conflict .ensures) in (
+    let n = line-ends _ _ _ _ (after-put-conflict .put-conflict .ensures) in (
       (start .pre .0, start .pre .1),
       (found-early _ _ _ _ (after-first-conflict .first-conflict .ensures), simp (length-take, length-drop) (omega (arith, start .pre .2))),
     )
@@ -43,7 +43,7 @@ add-result c =
     let after-put-conflict : tie.After-put-conflict = search in
     let after-first-conflict : tie.After-first-conflict = search in
     let start : tie.Start = search in
-    let n = line-room _ _ _ _ (after-put-conflict .put-conflict .ensures) in
+    let n = line-ends _ _ _ _ (after-put-conflict .put-conflict .ensures) in
     let k = after-put-drawing .put-drawing .ensures .size in
     let low = met-drawing-short _ _ (start .pre .0) (start .args .i) (start .args .j) (start .args .a) (start .args .b)
     (conflictTold (after-first-conflict .first-conflict .result)) in

@@ -1,5 +1,6 @@
 -- `meeting::put_none` meets its contract.
-use Rattle.meeting.specs.Text.{carrierWords, noRouteWords, noRouteLine}
+use Rattle.reporting.specs.Words.{carrierWords}
+use Rattle.meeting.specs.Text.{noRouteWords, noRouteLine}
 use Rattle.meeting.proofs.MeetingLaws.{front-put}
 use native.Mathlib.Omega.{arith}
 use borrow.Author.Needs.{needs}

@@ -2,7 +2,7 @@
 -- and the first record without a route is the failing carrier's.
 use Rattle.planner.proofs.ResultLaws.{plan-fails}
 use Rattle.planner.proofs.RequestLaws.{plan-granted, plannable, plan-same}
-use Rattle.planner.specs.Answers.{resultOf, planResult}
+use Rattle.planner.specs.Answers.{plannedOutcome, planResult}
 use Rattle.planner.specs.Records.{planMemory}
 use Rattle.records.specs.Records.{stored}
 use Rattle.planner.specs.Plan.{failingOf}
@@ -38,7 +38,7 @@ failing-requires c κs =
     (a .bounds .carriers .1, omega (arith, a .enough, after-plan-all .plan-all .kept .1 .1 .0))
 
 returns : tie.Need-returns
-unfolding resultOf planResult planMemory
+unfolding plannedOutcome planResult planMemory
 returns c =
     let after-plan-all : tie.After-plan-all = search in
     let after-free-rows : tie.After-free-rows = search in
@@ -55,7 +55,7 @@ returns c =
     )
 
 returns-2 : tie.Need-returns-2
-unfolding resultOf planResult planMemory
+unfolding plannedOutcome planResult planMemory
 returns-2 c =
     let after-request : tie.After-request = search in
     let no = refuses (after-request .request .ensures) (c .before .asked .given .1) in

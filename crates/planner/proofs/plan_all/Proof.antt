@@ -14,7 +14,7 @@ use Rattle.records.specs.Records.{records, stored}
 use Rattle.records.specs.Seen.{seen}
 use Rattle.records.proofs.SeenLaws.{seen-start}
 use Rattle.planner.specs.Plan.{respondWith}
-use Rattle.planner.specs.Records.{answered}
+use Rattle.planner.specs.Records.{withAnswer}
 use Rattle.planner.proofs.PlanLaws.{plan-start, plan-more, plan-keeps, plan-end}
 use Rattle.planner.proofs.plan_all.Statement.{statement}
 use Rattle.planner.proofs.plan_all.Tie as tie
@@ -80,7 +80,7 @@ plan-one-requires c κs =
     )
 
 loop-again : tie.Need-loop-again Inv-loop μ-loop
-unfolding answered
+unfolding withAnswer
 loop-again c =
     let after-plan-one : tie.After-plan-one Inv-loop μ-loop = search in
     let at-loop : tie.At-loop Inv-loop μ-loop = search in

@@ -2,7 +2,7 @@
 use mathlib.Core.Path.{_∙_, sym, ap}
 use Rattle.laws.specs.Verdict.{value}
 use Rattle.laws.proofs.VerdictLaws.{gives-passed, gives-refused, when-passed, when-refused}
-use Rattle.printing.specs.Print.{outcomeOf, printOutcome, printAnswers, printMemory}
+use Rattle.printing.specs.Print.{printedOutcome, printOutcome, printAnswers, printMemory}
 use Rattle.floor.proofs.AnswersLaws.{passes, refuses}
 use Rattle.printing.proofs.PrintLaws.{print-granted}
 use borrow.Author.Needs.{needs}
@@ -16,7 +16,7 @@ put-plan-requires c κs =
     (c .before .before .enum-told .given .1))
 
 returns : tie.Need-returns
-unfolding outcomeOf printOutcome printAnswers printMemory
+unfolding printedOutcome printOutcome printAnswers printMemory
 returns c =
     let after-put-plan : tie.After-put-plan = search in
     let after-enum-told : tie.After-enum-told = search in
@@ -28,7 +28,7 @@ returns c =
     )
 
 returns-2 : tie.Need-returns-2
-unfolding outcomeOf printOutcome printAnswers printMemory
+unfolding printedOutcome printOutcome printAnswers printMemory
 returns-2 c =
     let after-request : tie.After-request = search in
     let no = refuses (after-request .request .ensures) (c .before .asked .given .1) in

@@ -1,5 +1,5 @@
 -- `printing::print_read` meets its contract: memory too short is as it was; otherwise the text is put.
-use Rattle.printing.specs.Print.{outcomeOf}
+use Rattle.printing.specs.Print.{printedOutcome}
 use mathlib.Core.Path.{sym}
 use lib.Seq.{length-take-le}
 use Rattle.printing.specs.Put.{FloorPut}
@@ -10,7 +10,7 @@ use Rattle.printing.proofs.print_read.Statement.{statement}
 use Rattle.printing.proofs.print_read.Tie as tie
 
 returns : tie.Need-returns
-unfolding outcomeOf FloorPut
+unfolding printedOutcome FloorPut
 returns c = text-short _ _ _ _ _ (omega (arith, c .if1 .taken, c .before .text-length .ensures))
 
 slice-aggregate-put-routes : tie.Need-slice-aggregate-put-routes
@@ -26,7 +26,7 @@ put-routes-requires c κs =
     (start .pre .0, omega (arith, else1 .if1 .left, after-text-length .text-length .ensures))
 
 returns-2 : tie.Need-returns-2
-unfolding outcomeOf FloorPut
+unfolding printedOutcome FloorPut
 returns-2 c =
     let after-put-routes : tie.After-put-routes = search in
     let else1 : tie.Else1 = search in

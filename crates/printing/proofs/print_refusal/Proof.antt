@@ -1,5 +1,5 @@
 -- `printing::print_refusal` meets its contract: memory too short is as it was; otherwise the line is put.
-use Rattle.printing.specs.Print.{outcomeOf}
+use Rattle.printing.specs.Print.{printedOutcome}
 use Rattle.printing.specs.Put.{RefusalPut}
 use Rattle.printing.proofs.PrintLaws.{text-short, text-fits}
 use borrow.Author.Needs.{needs}
@@ -7,11 +7,11 @@ use Rattle.printing.proofs.print_refusal.Statement.{statement}
 use Rattle.printing.proofs.print_refusal.Tie as tie
 
 returns : tie.Need-returns
-unfolding outcomeOf RefusalPut
+unfolding printedOutcome RefusalPut
 returns c = text-short _ _ _ _ _ (c .if1 .taken)
 
 returns-2 : tie.Need-returns-2
-unfolding outcomeOf RefusalPut
+unfolding printedOutcome RefusalPut
 returns-2 c =
     let else1 : tie.Else1 = search in
     let after-printed-place : tie.After-printed-place = search in

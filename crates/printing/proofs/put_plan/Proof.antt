@@ -2,7 +2,7 @@
 use Rattle.printing.specs.Print.{textLength}
 use denote.Ref.{now}
 use Rattle.printing.proofs.RecordLaws.{failing-small}
-use Rattle.printing.proofs.PrintLaws.{bounds, enough, made-failing, never-turned, plan-put}
+use Rattle.printing.proofs.PrintLaws.{bounds, enough, made-failing, never-refused, plan-put}
 use native.Mathlib.Omega.{arith}
 use borrow.Author.Needs.{needs}
 use Rattle.printing.proofs.put_plan.Statement.{statement}
@@ -12,7 +12,7 @@ returns : tie.Need-returns
 returns c =
     let after-plan : tie.After-plan = search in
     let start : tie.Start = search in
-    absurd (never-turned _ _ _ (start .pre .0) (after-plan .plan .ensures .0) (c .enum-told .given .1))
+    absurd (never-refused _ _ _ (start .pre .0) (after-plan .plan .ensures .0) (c .enum-told .given .1))
 
 cast-put-routes : tie.Need-cast-put-routes
 cast-put-routes c =

@@ -1,7 +1,7 @@
 -- `reporting::put_entries` meets its contract: the lines passed stand behind line 1, and the column is behind them.
 use Prim.Native.Nat.{_≤_, _-_}
 use mathlib.Core.Path.{_≡_}
-use Rattle.reporting.specs.Text.{entries, reportLength}
+use Rattle.reporting.specs.Text.{entryCount, reportLength}
 use Rattle.reporting.proofs.ReportLaws.{EntriesPut, entries-start, entries-short, entries-more, entries-keep, entries-end}
 use native.Mathlib.Omega.{arith}
 use borrow.Author.Needs.{needs}
@@ -9,13 +9,13 @@ use Rattle.reporting.proofs.put_entries.Statement.{statement}
 use Rattle.reporting.proofs.put_entries.Tie as tie
 
 abbrev Inv-loop : tie.InvT-loop
-Inv-loop report out₀ steps at₀ k₀ out at k = (k ≤ steps) × ((steps ≡ entries report) × EntriesPut report out₀ 16 k out at)
+Inv-loop report out₀ steps at₀ k₀ out at k = (k ≤ steps) × ((steps ≡ entryCount report) × EntriesPut report out₀ 16 k out at)
 
 abbrev μ-loop : tie.MeasureT-loop
 μ-loop report out₀ steps at₀ k₀ out at k = steps - k
 
 loop-holds : tie.Need-loop-holds Inv-loop μ-loop
-unfolding entries
+unfolding entryCount
 loop-holds c = (search needs, (search needs, entries-start _ _ _))
 
 put-step-requires : tie.Need-put-step-requires Inv-loop μ-loop
@@ -55,7 +55,7 @@ returns c =
     entries-end _ _ _ (at-loop .loop .k) _ _ _ (l .1) (omega arith) (omega arith)
 
 pub put-entries-spec : {M : Type 1} → statement M
-unfolding entries
+unfolding entryCount
 put-entries-spec =
     tie.close (tie.spec Inv-loop μ-loop loop-holds (λ c. search needs) (λ c. search needs) (λ c. search needs)
     (λ c. search needs) (λ c. search needs) (λ c. search needs) (λ c. search needs) (λ c. search needs) (λ c. search needs)

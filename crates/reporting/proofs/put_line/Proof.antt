@@ -16,7 +16,7 @@ returns c =
     let after-put-field2 : tie.After-put-field2 = search in
     let after-put-field : tie.After-put-field = search in
     let start : tie.Start = search in
-    let room = start .pre in
+    let enough = start .pre in
     let two = field-next _ _ _ _ 0 5 _ (after-put-field .put-field .ensures) (after-put-field2 .put-field2 .ensures) refl (omega arith) in
     let three = field-next _ _ _ _ 0 10 _ two (after-put-field3 .put-field3 .ensures) refl (omega arith) in
     record { bytes = newline-next _ _ _ 0 15 three refl (omega arith); behind = refl }

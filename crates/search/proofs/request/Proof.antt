@@ -16,16 +16,16 @@ returns-2 c =
     let after-enum-told : tie.After-enum-told = search in
     let after-check : tie.After-check = search in
     then-next (after-check .check .ensures) (after-enum-told .enum-told .given .1)
-    (ends-at _ (c .before .before .room .ensures) (c .enum-told4 .given .1))
+    (ends-at _ (c .before .before .check-length .ensures) (c .enum-told4 .given .1))
 
 returns-3 : tie.Need-returns-3
 unfolding requestOf
 returns-3 c =
-    let after-room : tie.After-room = search in
+    let after-check-length : tie.After-check-length = search in
     let after-enum-told : tie.After-enum-told = search in
     let after-check : tie.After-check = search in
     then-next (after-check .check .ensures) (after-enum-told .enum-told .given .1)
-    (then-next (after-room .room .ensures) (c .before .enum-told3 .given .1)
+    (then-next (after-check-length .check-length .ensures) (c .before .enum-told3 .given .1)
     (c .listed .ensures))
 
 pub request-spec : {M : Type 1} → statement M

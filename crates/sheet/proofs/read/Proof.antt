@@ -23,12 +23,12 @@ returns c =
 returns-2 : tie.Need-returns-2
 unfolding readFloor readWalls readVerdict
 returns-2 c =
-    let after-room : tie.After-room = search in
+    let after-check-length : tie.After-check-length = search in
     let after-enum-told : tie.After-enum-told = search in
     let after-read-own : tie.After-read-own = search in
     let own = after-read-own .read-own .ensures in
     let yes = after-enum-told .enum-told .given .1 in
-    let told = own-then-room _ _ _ _ (own .0) (own .1) yes (after-room .room .ensures) in
+    let told = own-then-room _ _ _ _ (own .0) (own .1) yes (after-check-length .check-length .ensures) in
     let no = refuses told (c .before .enum-told4 .given .1) in
     let back = turned-back _ _ told no (c .refused2 .ensures) in
     (back .0, (back .1, sym (when-refused _ no)))
@@ -36,12 +36,12 @@ returns-2 c =
 walls-requires : tie.Need-walls-requires
 walls-requires c κs =
     let after-enum-told3 : tie.After-enum-told3 = search in
-    let after-room : tie.After-room = search in
+    let after-check-length : tie.After-check-length = search in
     let after-enum-told : tie.After-enum-told = search in
     let after-read-own : tie.After-read-own = search in
     let own = after-read-own .read-own .ensures in
     let yes = after-enum-told .enum-told .given .1 in
-    let told = own-then-room _ _ _ _ (own .0) (own .1) yes (after-room .room .ensures) in
+    let told = own-then-room _ _ _ _ (own .0) (own .1) yes (after-check-length .check-length .ensures) in
     let ok = read-tells _ _ (passes told (after-enum-told3 .enum-told3 .given .1)) in
     walls-there _ (ok .form) _ (own-floor _ _ (own .1) (passes (own .0) yes)) (ok .room-there)
 
@@ -49,12 +49,12 @@ returns-3 : tie.Need-returns-3
 unfolding readFloor readWalls verdictOf
 returns-3 c =
     let after-enum-told3 : tie.After-enum-told3 = search in
-    let after-room : tie.After-room = search in
+    let after-check-length : tie.After-check-length = search in
     let after-enum-told : tie.After-enum-told = search in
     let after-read-own : tie.After-read-own = search in
     let own = after-read-own .read-own .ensures in
     let yes = after-enum-told .enum-told .given .1 in
-    let told = own-then-room _ _ _ _ (own .0) (own .1) yes (after-room .room .ensures) in
+    let told = own-then-room _ _ _ _ (own .0) (own .1) yes (after-check-length .check-length .ensures) in
     let ok = passes told (after-enum-told3 .enum-told3 .given .1) in
     let f = own-floor _ _ (own .1) (passes (own .0) yes) in
     (ap verdictOf yes ∙ sym ok, (f ∙ sym (when-passed _ ok), walls-read _ _ f (c .before .before .walls .ensures) ∙ sym (when-passed _ ok)))

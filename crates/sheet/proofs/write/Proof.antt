@@ -1,6 +1,6 @@
 -- `sheet::write` meets its contract: a refusal leaves all as it was; a pass puts the sheet in front.
 use Rattle.sheet.proofs.ReadLaws.{write-passed, write-refused, accepted-counts}
-use Rattle.floor.proofs.LimitsLaws.{check-tells, room-passed}
+use Rattle.floor.proofs.LimitsLaws.{check-tells, length-passed}
 use Rattle.sheet.specs.Read.{writeVerdict}
 use Rattle.floor.proofs.AnswersLaws.{chain, then-next, passes, passed-is}
 use Rattle.floor.specs.Answers.{verdictOf}
@@ -21,12 +21,12 @@ returns-2 c =
 
 put-sheet-requires : tie.Need-put-sheet-requires
 put-sheet-requires c κs =
-    let after-room : tie.After-room = search in
+    let after-check-length : tie.After-check-length = search in
     let after-sheet-length : tie.After-sheet-length = search in
     let after-enum-told : tie.After-enum-told = search in
     let after-check : tie.After-check = search in
     let t = check-tells _ _ (passes (after-check .check .ensures) (after-enum-told .enum-told .given .1)) in
-    let r = room-passed _ _ (passes (after-room .room .ensures) (c .before .enum-told3 .given .1)) in (
+    let r = length-passed _ _ (passes (after-check-length .check-length .ensures) (c .before .enum-told3 .given .1)) in (
       (t .lent, t .bounds .width .0),
       (
         (t .bounds .carriers .1, accepted-counts _ _ (passes (after-check .check .ensures) (after-enum-told .enum-told .given .1))),

@@ -1,12 +1,12 @@
 -- `abi::numbers::docks` meets its contract: after t turns t numbers are copied.
-use Rattle.abi.proofs.RecordLaws.{Copied, copied-start, copied-more, copied-end}
+use Rattle.abi.proofs.RecordLaws.{NumbersCopied, copied-start, copied-more, copied-end}
 use Prim.Native.Nat.{_-_}
 use borrow.Author.Needs.{needs}
 use Rattle.abi.proofs.numbers.docks.Statement.{statement}
 use Rattle.abi.proofs.numbers.docks.Tie as tie
 
 abbrev Inv-loop : tie.InvT-loop
-Inv-loop xs at r₀ t₀ r t = Copied xs at t r
+Inv-loop xs at r₀ t₀ r t = NumbersCopied xs at t r
 
 abbrev μ-loop : tie.MeasureT-loop
 μ-loop xs at r₀ t₀ r t = 32 - t

@@ -1,9 +1,9 @@
 -- `floor::checks::all_unrepeated` meets its contract: invariant: no carrier passed has a dock twice.
-use Rattle.floor.specs.Checks.{countOf, docksOf, dockOf, every, among, unrepeated, unrepeatedOf}
+use Rattle.floor.specs.Checks.{countOf, docksOf, dockOf, among, unrepeated, unrepeatedOf}
 use Rattle.laws.specs.Memory.{part}
 use Rattle.laws.proofs.VerdictLaws.{tests, tests-go-on, tests-stop}
 use Rattle.floor.specs.Answers.{verdictOf}
-use Rattle.laws.specs.Verdict.{passed, demandEach}
+use Rattle.laws.specs.Verdict.{passed, demandEach, each}
 use lib.ListN.{length, getD}
 use mathlib.Core.Bool.{Bool, not}
 use mathlib.Core.List.{List}
@@ -16,7 +16,7 @@ use Rattle.floor.proofs.checks.all_unrepeated.Tie as tie
 
 -- No dock of carrier i stands before in its list.
 abbrev once : List ℕ → List ℕ → ℕ → Bool
-once docks counts i = every (getD counts i 0) (λ (k : ℕ). not (among (part docks (4 * i) 4) k (getD (part docks (4 * i) 4) k 0)))
+once docks counts i = each (getD counts i 0) (λ (k : ℕ). not (among (part docks (4 * i) 4) k (getD (part docks (4 * i) 4) k 0)))
 
 abbrev Inv-loop : tie.InvT-loop
 Inv-loop n docks counts i₀ i = (i ≤ n) × (demandEach 17 1 (once docks counts) i ≡ passed)

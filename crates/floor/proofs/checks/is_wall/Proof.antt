@@ -1,5 +1,5 @@
 -- `floor::checks::is_wall` meets its contract: invariant: the walls before low are below c, and those from high on are not.
-use Rattle.floor.proofs.ClimbLaws.{Bracket, bracket-start, bracket-up, bracket-down, bracket-none, bracket-met}
+use Rattle.floor.proofs.WallSearchLaws.{Bracket, bracket-start, bracket-up, bracket-down, bracket-none, bracket-met}
 use Prim.Native.Nat.{_-_}
 use borrow.Author.Needs.{needs}
 use native.Mathlib.Omega.{arith}

@@ -1,5 +1,5 @@
 -- `frames::lines::put_arrival` meets its contract: its number, and when it arrives.
-use Rattle.frames.specs.Text.{carrierWords}
+use Rattle.reporting.specs.Words.{carrierWords}
 use Rattle.frames.proofs.FrameLaws.{arrival-put}
 use borrow.Author.Needs.{needs}
 use Rattle.frames.proofs.lines.put_arrival.Statement.{statement}

@@ -1,4 +1,4 @@
--- `machine::checks::lent_place` meets its contract: the floor first, then the room.
+-- `machine::checks::lent_place` meets its contract: the floor first, then the length.
 use Rattle.machine.proofs.VerdictLaws.{chain, checked-few}
 use Rattle.floor.proofs.AnswersLaws.{passes}
 use Rattle.encoding.specs.Calls.{placeVerdict}

@@ -1,6 +1,6 @@
 -- `machine::runs::ending` meets its contract: a law a case: silent, budget left, steps left, list read.
 use Rattle.laws.specs.Verdict.{value}
-use Rattle.reference.specs.Ending.{Ending}
+use Rattle.reference.specs.Ending.{RunEnding}
 use Rattle.reference.specs.Calls.{ran}
 use mathlib.Core.Path.{ap}
 use Rattle.machine.proofs.RunLaws.{ending-cases, ends-spent}
@@ -17,7 +17,7 @@ returns-3 c =
     let else1 : tie.Else1 = search in
     let after-is-silent : tie.After-is-silent = search in
     let start : tie.Start = search in
-    ap (λ (e : Ending). value (ran (start .args .tally .taken) e))
+    ap (λ (e : RunEnding). value (ran (start .args .tally .taken) e))
     (ends-spent _ _ _ _ (after-is-silent .is-silent .ensures) (else1 .if1 .left) (else2 .if2 .left) (then3 .if3 .taken))
 
 pub ending-spec : {M : Type 1} → statement M

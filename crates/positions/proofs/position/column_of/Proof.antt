@@ -2,12 +2,12 @@
 use native.Mathlib.Omega.{arith}
 use borrow.Author.Tests.{eq-eqb, ne-eqb}
 use borrow.Author.Needs.{needs}
-use Rattle.positions.specs.Position.{columnOf}
+use Rattle.positions.specs.Position.{columnOfRefusal}
 use Rattle.positions.proofs.position.column_of.Statement.{statement}
 use Rattle.positions.proofs.position.column_of.Tie as tie
 
 returns : tie.Need-returns
-unfolding columnOf
+unfolding columnOfRefusal
 returns c =
     let after-column-at : tie.After-column-at = search in
     let then1 : tie.Then1 = search in
@@ -16,7 +16,7 @@ returns c =
     (rw (eq-eqb _ _ (then1 .if1 .taken)) (told .0), omega (arith, told .1, start .pre .0))
 
 returns-2 : tie.Need-returns-2
-unfolding columnOf
+unfolding columnOfRefusal
 returns-2 c =
     let after-field-column : tie.After-field-column = search in
     let then2 : tie.Then2 = search in
@@ -25,14 +25,14 @@ returns-2 c =
     (rw (ne-eqb _ _ (else1 .if1 .left), eq-eqb _ _ (then2 .if2 .taken)) (told .0), told .1)
 
 returns-3 : tie.Need-returns-3
-unfolding columnOf
+unfolding columnOfRefusal
 returns-3 c =
     let else2 : tie.Else2 = search in
     let else1 : tie.Else1 = search in
     (rw (ne-eqb _ _ (else1 .if1 .left), ne-eqb _ _ (else2 .if2 .left), eq-eqb _ _ (c .if3 .taken)), omega arith)
 
 returns-4 : tie.Need-returns-4
-unfolding columnOf
+unfolding columnOfRefusal
 returns-4 c =
     let else3 : tie.Else3 = search in
     let else2 : tie.Else2 = search in
@@ -42,7 +42,7 @@ returns-4 c =
     )
 
 returns-5 : tie.Need-returns-5
-unfolding columnOf
+unfolding columnOfRefusal
 returns-5 c =
     let else4 : tie.Else4 = search in
     let else3 : tie.Else3 = search in

@@ -1,13 +1,13 @@
 -- `positions::position::line_of` meets its contract: by the number of the refusal.
 use borrow.Author.Tests.{eq-eqb, ne-eqb}
-use Rattle.positions.specs.Position.{lineOf}
+use Rattle.positions.specs.Position.{lineOfRefusal}
 use native.Mathlib.Omega.{arith}
 use borrow.Author.Needs.{needs}
 use Rattle.positions.proofs.position.line_of.Statement.{statement}
 use Rattle.positions.proofs.position.line_of.Tie as tie
 
 returns : tie.Need-returns
-unfolding lineOf
+unfolding lineOfRefusal
 returns c =
     let after-line-at : tie.After-line-at = search in
     let then1 : tie.Then1 = search in
@@ -16,13 +16,13 @@ returns c =
     (rw (eq-eqb _ _ (then1 .if1 .taken)) (told .0), omega (arith, told .1, start .pre))
 
 returns-2 : tie.Need-returns-2
-unfolding lineOf
+unfolding lineOfRefusal
 returns-2 c =
     let else1 : tie.Else1 = search in
     (rw (ne-eqb _ _ (else1 .if1 .left), eq-eqb _ _ (c .if2 .taken)), omega arith)
 
 returns-3 : tie.Need-returns-3
-unfolding lineOf
+unfolding lineOfRefusal
 returns-3 c =
     let else2 : tie.Else2 = search in
     let else1 : tie.Else1 = search in

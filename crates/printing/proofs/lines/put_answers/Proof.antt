@@ -18,8 +18,8 @@ put-answer-requires c κs =
     let start : tie.Start Inv-loop μ-loop = search in
     let p = start .pre in
     let l = c .before .before .loop .inv .1 in
-    let size = lines-keep _ _ _ (c .before .before .loop .i) _ _ l (omega (arith, p .room)) in
-    ((omega (arith, p .few), p .horizon), (omega (arith, p .records), omega (arith, p .room, l .short)))
+    let size = lines-keep _ _ _ (c .before .before .loop .i) _ _ l (omega (arith, p .enough)) in
+    ((omega (arith, p .few), p .horizon), (omega (arith, p .records), omega (arith, p .enough, l .short)))
 
 loop-again : tie.Need-loop-again Inv-loop μ-loop
 loop-again c =
@@ -27,14 +27,14 @@ loop-again c =
     let start : tie.Start Inv-loop μ-loop = search in (
       search needs,
       lines-more _ _ _ (at-loop .loop .i) _ _ _ _ (at-loop .loop .inv .1) (c .before .before .put-answer .ensures) (omega
-          (arith, start .pre .room)),
+          (arith, start .pre .enough)),
     )
 
 same-length : tie.Need-same-length Inv-loop μ-loop
 same-length c =
     let start : tie.Start Inv-loop μ-loop = search in
     lines-keep _ _ _ (c .before .loop .i) _ _ (c .before .loop .inv .1) (omega
-    (arith, start .pre .room))
+    (arith, start .pre .enough))
 
 pub put-answers-spec : {M : Type 1} → statement M
 put-answers-spec =

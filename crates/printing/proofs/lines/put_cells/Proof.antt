@@ -23,7 +23,7 @@ put-field-requires : tie.Need-put-field-requires Inv-loop μ-loop
 put-field-requires c κs =
     let start : tie.Start Inv-loop μ-loop = search in
     let l = c .before .before .loop in
-    let room = start .pre in
+    let enough = start .pre in
     omega (
       arith,
       fields-keep _ (start .args .t3) _ _ (start .args .n) (l .t) (l .inv .1 .1)
@@ -35,7 +35,7 @@ loop-again c =
     let at-loop : tie.At-loop Inv-loop μ-loop = search in
     let start : tie.Start Inv-loop μ-loop = search in
     let l = at-loop .loop in
-    let room = start .pre in
+    let enough = start .pre in
     let field = c .before .before .put-field .ensures in
     let more = fields-more _ (start .args .t3) _ _ (start .args .n) (l .t) (l .inv .1 .1)
     (omega (arith, l .inv)) (omega arith) _ (omega arith) field in
@@ -45,14 +45,14 @@ same-length : tie.Need-same-length Inv-loop μ-loop
 same-length c =
     let start : tie.Start Inv-loop μ-loop = search in
     let l = c .before .loop in
-    let room = start .pre in
+    let enough = start .pre in
     fields-keep _ (start .args .t3) _ _ (start .args .n) (l .t) (l .inv .1 .1) (omega (arith, l .inv)) (omega arith) (omega arith)
 
 returns : tie.Need-returns Inv-loop μ-loop
 returns c =
     let start : tie.Start Inv-loop μ-loop = search in
     let l = c .before .loop in
-    let room = start .pre in
+    let enough = start .pre in
     fields-end _ (start .args .t3) _ _ (start .args .n) (l .t) (l .inv .1 .1) (omega (arith, l .inv)) (omega arith) (omega arith)
 
 pub put-cells-spec : {M : Type 1} → statement M

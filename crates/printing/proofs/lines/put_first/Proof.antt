@@ -15,7 +15,7 @@ unfolding firstLine lineOf fieldOf
 returns c =
     let after-put-field : tie.After-put-field = search in
     let start : tie.Start = search in
-    let room = start .pre in
+    let enough = start .pre in
     let two = field-next _ _ _ _ 0 5 _ (after-put-field .put-field .ensures) (c .before .before .put-field2 .ensures) refl (omega arith) in
     newline-next _ _ _ 0 10 two refl (omega arith)
 

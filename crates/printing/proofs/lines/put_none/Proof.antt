@@ -15,7 +15,7 @@ unfolding noneLine noneWord fieldOf
 returns c =
     let after-put-field : tie.After-put-field = search in
     let start : tie.Start = search in
-    let room = start .pre in
+    let enough = start .pre in
     let word = put-next _ _ _ _ _ _ _ (after-put-field .put-field .ensures) (c .before .before .put-word .ensures) refl (omega arith) in
     newline-next _ _ _ _ _ word refl (omega arith)
 

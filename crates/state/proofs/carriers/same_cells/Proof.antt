@@ -1,13 +1,13 @@
 -- `state::carriers::same_cells` meets its contract: the loop holds that the first t cells are the same.
 use Rattle.state.proofs.CellLaws.{same-turn}
-use Rattle.records.proofs.LoadLaws.{Copied}
+use Rattle.records.proofs.LoadLaws.{CellsCopied}
 use Prim.Native.Nat.{_-_, _≤_}
 use borrow.Author.Needs.{needs}
 use Rattle.state.proofs.carriers.same_cells.Statement.{statement}
 use Rattle.state.proofs.carriers.same_cells.Tie as tie
 
 abbrev Inv-loop : tie.InvT-loop
-Inv-loop m at cells t₀ t = (t ≤ 64) × Copied m at cells t
+Inv-loop m at cells t₀ t = (t ≤ 64) × CellsCopied m at cells t
 
 abbrev μ-loop : tie.MeasureT-loop
 μ-loop m at cells t₀ t = 64 - t

@@ -1,6 +1,6 @@
 -- `state::checks::pairs_valid` meets its contract: the loop holds that all receivers so far are valid.
 use Rattle.state.proofs.EachLaws.{Tested, each-turn}
-use Rattle.reference.specs.Ranges.{each}
+use Rattle.laws.specs.Verdict.{each}
 use Prim.Native.Nat.{_-_}
 use Rattle.encoding.specs.Valid.{pairValid}
 use borrow.Author.Needs.{needs}

@@ -1,5 +1,6 @@
 -- `stranded::lines::put_shut` meets its contract: four texts, one behind the other.
-use Rattle.stranded.specs.Text.{carrierWords, shutWords}
+use Rattle.reporting.specs.Words.{carrierWords}
+use Rattle.stranded.specs.Text.{shutWords}
 use Rattle.stranded.proofs.LineLaws.{shut-put}
 use borrow.Author.Needs.{needs}
 use Rattle.stranded.proofs.lines.put_shut.Statement.{statement}

@@ -2,14 +2,14 @@
 use Prim.Native.Nat.{_-_}
 use mathlib.Core.Logic.{⊎-elim}
 use mathlib.Core.Path.{sym, _∙_}
-use Rattle.trial.specs.Inner.{opensIn, countIn}
-use Rattle.trial.proofs.CountLaws.{Counted, counted-start, counted-yes, counted-no, counted-end}
+use Rattle.trial.specs.Inner.{opensIn, openCount}
+use Rattle.trial.proofs.CountLaws.{PassingCounted, counted-start, counted-yes, counted-no, counted-end}
 use borrow.Author.Needs.{needs}
 use Rattle.trial.proofs.choice.count_open.Statement.{statement}
 use Rattle.trial.proofs.choice.count_open.Tie as tie
 
 abbrev Inv-loop : tie.InvT-loop
-Inv-loop f m k p₀ count₀ p count = Counted (opensIn f m) k p count
+Inv-loop f m k p₀ count₀ p count = PassingCounted (opensIn f m) k p count
 
 abbrev μ-loop : tie.MeasureT-loop
 μ-loop f m k p₀ count₀ p count = k - p
@@ -26,7 +26,7 @@ loop-again c =
     (c .if1 .came)
 
 returns : tie.Need-returns Inv-loop μ-loop
-unfolding countIn
+unfolding openCount
 returns c = counted-end _ _ _ _ (c .before .loop .inv) (c .loop-test .left)
 
 pub count-open-spec : {M : Type 1} → statement M

@@ -3,14 +3,14 @@ use Prim.Native.Nat.{_-_, _≤_}
 use mathlib.Core.Logic.{⊎-elim}
 use mathlib.Core.Path.{sym, _∙_}
 use native.Mathlib.Omega.{arith}
-use Rattle.trial.specs.Inner.{opensIn, countIn}
-use Rattle.trial.proofs.CountLaws.{Counted, counted-start, counted-yes, counted-no, found-at, found-none}
+use Rattle.trial.specs.Inner.{opensIn, openCount}
+use Rattle.trial.proofs.CountLaws.{PassingCounted, counted-start, counted-yes, counted-no, found-at, found-none}
 use borrow.Author.Needs.{needs}
 use Rattle.trial.proofs.choice.place_at.Statement.{statement}
 use Rattle.trial.proofs.choice.place_at.Tie as tie
 
 abbrev Inv-loop : tie.InvT-loop
-Inv-loop f m i all p₀ before₀ p before = (before ≤ i) × Counted (opensIn f m) all p before
+Inv-loop f m i all p₀ before₀ p before = (before ≤ i) × PassingCounted (opensIn f m) all p before
 
 abbrev μ-loop : tie.MeasureT-loop
 μ-loop f m i all p₀ before₀ p before = all - p
@@ -45,7 +45,7 @@ loop-again c =
     (c .if1 .came)
 
 returns-2 : tie.Need-returns-2 Inv-loop μ-loop
-unfolding countIn
+unfolding openCount
 returns-2 c =
     let after-count : tie.After-count Inv-loop μ-loop = search in
     let start : tie.Start Inv-loop μ-loop = search in

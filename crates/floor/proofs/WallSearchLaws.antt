@@ -1,4 +1,5 @@
--- Walls that rise climb, and what a binary search among climbing numbers knows: at its start, after each turn and at its end.
+-- Walls that rise are strictly rising, and what a binary search among strictly rising numbers knows:
+-- at its start, after each turn and at its end.
 use Prim.Native.Nat.{ℕ, suc, zero, _+_, _≤_, _<_}
 use native.Mathlib.Omega.{arith}
 use native.Mathlib.Nat.{le-of-suc-le-suc, eq-or-lt-of-le}
@@ -19,19 +20,19 @@ use Rattle.floor.proofs.AmongLaws.{among-found, absent-all}
 use Rattle.floor.proofs.CheckMeans.{rises-means}
 
 -- Where each number is above the one before it, each is above all before it.
-rises-climbs : (xs : List ℕ) (m : ℕ) → All (Rises xs) m → StrictlyRising xs m
-rises-climbs xs m r i zero l b = absurd (omega arith)
-rises-climbs xs m r i (suc j) l b =
+rises-strictly : (xs : List ℕ) (m : ℕ) → All (Rises xs) m → StrictlyRising xs m
+rises-strictly xs m r i zero l b = absurd (omega arith)
+rises-strictly xs m r i (suc j) l b =
     let step = r (suc j) b j refl in
     ⊎-elim
     (λ (e : i ≡ j). rw e step)
-    (λ (k : i < j). omega (arith, step, rises-climbs xs m r i j k (omega arith)))
+    (λ (k : i < j). omega (arith, step, rises-strictly xs m r i j k (omega arith)))
     (eq-or-lt-of-le (le-of-suc-le-suc l))
 
--- Walls that pass check 4 climb.
-pub passed-climbs : (f : Floor) (ws : List ℕ) → risingOf f ws ≡ passed → StrictlyRising ws (f .walls)
+-- Walls that pass check 4 are strictly rising.
+pub passed-rising : (f : Floor) (ws : List ℕ) → risingOf f ws ≡ passed → StrictlyRising ws (f .walls)
 unfolding risingOf
-passed-climbs f ws h = rises-climbs ws (f .walls) (each-passed 4 _ _ _ (rises-means ws) _ h)
+passed-rising f ws h = rises-strictly ws (f .walls) (each-passed 4 _ _ _ (rises-means ws) _ h)
 
 -- What a search for c among the first m numbers knows: those before low are below c, and those from high on are not.
 pub record Bracket (xs : List ℕ) (m c low high : ℕ) : Type 0 where
