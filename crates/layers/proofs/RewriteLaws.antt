@@ -8,7 +8,7 @@ use mathlib.Core.Path.{_≡_, refl, _∙_}
 use lib.ListN.{length, getD, set, replicate, length-set, length-replicate}
 use lib.Seq.{getD-set-same, getD-set-other}
 use Rattle.laws.proofs.Lists.{zeros-at}
-use Rattle.bitrows.specs.Rows.{written, filled, successorRow, successorAt}
+use Rattle.bitrows.specs.Rows.{written, filled}
 use Rattle.bitrows.proofs.FillLaws.{length-written, written-in, written-out, filled-in}
 use Rattle.layers.specs.Table.{Rewritten}
 
@@ -54,22 +54,3 @@ rewritten-more s q f i n x fits h e = record { long = length-set q (i + n) x ∙
     outside : (j : ℕ) → (j < i) ⊎ (i + (n + 1) ≤ j) → getD (set q (i + n) x) j 0 ≡ getD s j 0
     outside j (inl l) = getD-set-other q (i + n) j x 0 (λ u. omega arith) ∙ h .outside j (inl l)
     outside j (inr l) = getD-set-other q (i + n) j x 0 (λ u. omega arith) ∙ h .outside j (inr (omega arith))
-
--- A row that a step brings from rows that stay as they are.
-pub narrowed-more : (s room q : List ℕ) (at to n m x : ℕ) → (at + m + 2 ≤ to) ⊎ (to + m ≤ at) → n < m → to + m ≤ length s →
-    Rewritten s (successorAt s room at to) to n q →
-    x ≡ successorRow (getD q (at + n) 0) (getD q (at + n + 1) 0) (getD q (at + n + 2) 0) (getD room (to + n) 0) →
-    Rewritten s (successorAt s room at to) to (n + 1) (set q (to + n) x)
-unfolding successorAt
-narrowed-more s room q at to n m x apart l fits h e =
-    rewritten-more s q (successorAt s room at to) to n x (omega arith) h
-    (e ∙ rw (
-      kept (at + n) (omega arith) (omega arith),
-      kept (at + n + 1) (omega arith) (omega arith),
-      kept (at + n + 2) (omega arith)
-          (omega arith),
-    ))
-  where
-    kept : (j : ℕ) → at ≤ j → j < at + m + 2 → getD q j 0 ≡ getD s j 0
-    kept j u v =
-        h .outside j (⊎-elim (λ (k : at + m + 2 ≤ to). inl (omega arith)) (λ (k : to + m ≤ at). inr (omega arith)) apart)

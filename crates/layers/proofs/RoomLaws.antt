@@ -10,7 +10,7 @@ use borrow.Author.Tests.{ltb-true}
 use lib.Dec.{eqb, ltb}
 use lib.ListN.{getD}
 use Rattle.records.proofs.ViewsLaws.{every-more}
-use Rattle.layers.proofs.FreeLaws.{free-tidy}
+use Rattle.layers.proofs.FreeLaws.{free-shown, free-tidy}
 use Rattle.route.specs.Route.{View}
 use Rattle.route.specs.Moves.{vacant, every}
 use Rattle.laws.proofs.Tests.{and-both, and-fst, and-snd, same-test, below-same, inside-same}
@@ -18,25 +18,25 @@ use Rattle.bitrows.specs.Rows.{has, Clean}
 use Rattle.bitrows.proofs.RowsLaws.{place-row}
 use Rattle.layers.specs.declared.SearchGrid.{SearchGrid}
 use Rattle.records.specs.Records.{records, viewAt, viewCell, Away}
-use Rattle.layers.specs.Table.{inSet}
+use Rattle.layers.specs.Table.{inSet, wordOf}
 use Rattle.layers.specs.Room.{FreeBeats, TakenBeats, standsAt, IsFreeTable}
 use Rattle.records.proofs.CellLaws.{vacant-cell}
 
 -- What can be stood on among no views is what is free.
 free-stands : (g : SearchGrid) (free m s : List ℕ) (t c : ℕ) → 1 ≤ g .width → g .cells ≤ 32 * g .width →
-    ((r : ℕ) → r < 32 → getD s (t * 36 + 1 + r) 0 ≡ getD free r 0) → inSet g s t c ≡ standsAt g 0 free m t c
+    ((r : ℕ) → r < 32 → getD s (wordOf t r) 0 ≡ getD free r 0) → inSet g s t c ≡ standsAt g 0 free m t c
 unfolding inSet standsAt records every has
 free-stands g free m s t c thin room same =
-    below-same c (g .cells) (has s (t * 36 + 1 + c / g .width) (c % g .width)) (has free (c / g .width) (c % g .width))
+    below-same c (g .cells) (has s (wordOf t (c / g .width)) (c % g .width)) (has free (c / g .width) (c % g .width))
     (λ l. rw (same (c / g .width) (place-row (g .width) c thin (omega arith))))
     ∙ sym (and-true (ltb c (g .cells) && has free (c / g .width) (c % g .width)))
 
 -- The free cells at every beat are the room of no views.
-pub free-roomy : (g : SearchGrid) (free m s : List ℕ) (n : ℕ) → 1 ≤ g .width → g .cells ≤ 32 * g .width → g .horizon < n →
+pub free-roomy : (g : SearchGrid) (free m s : List ℕ) (n : ℕ) → 1 ≤ g .width → g .cells ≤ 32 * g .width → g .horizon < n → n ≤ 64 →
     FreeBeats free n s → Clean (g .width) (g .cells) free → IsFreeTable g 0 free m s
-free-roomy g free m s n thin room late beats clean = record {
-  tidy = free-tidy g free s n beats clean;
-  agrees = λ t c h. free-stands g free m s t c thin room (λ r l. beats .shown t r (omega arith) l);
+free-roomy g free m s n thin room late few beats clean = record {
+  tidy = free-tidy free s n g beats few clean;
+  agrees = λ t c h. free-stands g free m s t c thin room (λ r l. free-shown free s n t r beats (omega arith) l);
 }
 
 -- What can be stood on among one more view.

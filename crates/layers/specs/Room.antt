@@ -1,17 +1,17 @@
 -- The room of a search: a table of the cells that can be stood on at each beat, and how the code makes one. A view's cell is taken out at
 -- its beat and at the beats beside it, within 0 to the horizon.
 use Prim.Native.Nat.{ℕ, suc, _+_, _*_, _/_, _%_, _≤_, _<_}
-use mathlib.Core.Bool.{Bool, true, _&&_}
+use mathlib.Core.Bool.{Bool, true, false, _&&_}
 use mathlib.Core.List.{List}
-use mathlib.Core.Logic.{_⊎_, _↔_}
+use mathlib.Core.Logic.{_↔_}
 use mathlib.Core.Path.{_≡_}
 use lib.Dec.{ltb}
 use lib.ListN.{length, getD}
 use Rattle.route.specs.Moves.{vacant, every}
-use Rattle.bitrows.specs.Rows.{has}
+use Rattle.bitrows.specs.Rows.{has, dropped}
 use Rattle.layers.specs.declared.SearchGrid.{SearchGrid}
 use Rattle.records.specs.Records.{records, Away}
-use Rattle.layers.specs.Table.{inSet, Tidy}
+use Rattle.layers.specs.Table.{inSet, Tidy, wordOf, rowOf}
 
 -- Cell c can be stood on at beat t: it is in the grid, free, and none of the first k views is there then or at a beat beside t.
 unfoldable pub standsAt : SearchGrid → ℕ → List ℕ → List ℕ → ℕ → ℕ → Bool
@@ -28,10 +28,13 @@ OneMore g j m s q = (free : List ℕ) → IsFreeTable g j free m s → IsFreeTab
 
 -- s has the free rows at the first n beats, and is empty elsewhere.
 pub record FreeBeats (free : List ℕ) (n : ℕ) (s : List ℕ) : Type 0 where
-  pub long : length s ≡ 2304
-  pub shown : (t r : ℕ) → t < n → r < 32 → getD s (t * 36 + 1 + r) 0 ≡ getD free r 0
-  pub hidden : (t r : ℕ) → r < 35 → (n ≤ t) ⊎ (32 ≤ r) → getD s (t * 36 + 1 + r) 0 ≡ 0
-  pub edge : (t : ℕ) → getD s (t * 36) 0 ≡ 0
+  pub long : length s ≡ 2049
+  pub shown : (t j : ℕ) → t < n → j < 32 → getD s (t * 32 + j) 0 ≡ getD free (rowOf j) 0
+  pub hidden : (i : ℕ) → n * 32 ≤ i → getD s i 0 ≡ 0
+
+-- s without cell c at beat t; a number that is no cell changes nothing.
+unfoldable pub droppedCell : SearchGrid → ℕ → ℕ → List ℕ → List ℕ
+droppedCell g t c s = elim (ltb c (g .cells)) [ true ↦ dropped s (wordOf t (c / g .width)) (c % g .width) | false ↦ s ]
 
 -- q is s without cell x at beat a and the beats beside it.
 pub record TakenCell (g : SearchGrid) (a x : ℕ) (s q : List ℕ) : Type 0 where

@@ -2,6 +2,7 @@
 // Helpers of the search below `passes`: what they require is checked by the entries above.
 pub mod room;
 pub mod step;
+pub mod stripes;
 pub mod table;
 
 use floor::Floor;

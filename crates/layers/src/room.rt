@@ -3,25 +3,41 @@ ghost use mathlib.Core.Path.{_≡_};
 ghost use Prim.Native.Nat.{_+_, _*_, _-_, _≤_, _<_, min};
 ghost use mathlib.Core.Bool.{_&&_};
 ghost use lib.Dec.{ltb, eqb};
-ghost use lib.ListN.{length, replicate};
+ghost use lib.ListN.{length, getD, replicate};
 ghost use Rattle.records.specs.Records.{viewCell};
-ghost use Rattle.bitrows.specs.Rows.{Clean};
-ghost use Rattle.layers.specs.Table.{Grid, Fits, Tidy};
-ghost use Rattle.layers.specs.Room.{IsFreeTable, OneMore, FreeBeats, TakenCell, TakenBeats, BeatMore};
+ghost use Rattle.bitrows.specs.Rows.{filled, Clean};
+ghost use Rattle.layers.specs.Table.{Grid, Fits, Tidy, rowOf};
+ghost use Rattle.layers.specs.Room.{droppedCell, IsFreeTable, OneMore, FreeBeats, TakenCell, TakenBeats, BeatMore};
 use crate::SearchGrid;
+use crate::place_of;
 use crate::table::ROWS;
-use crate::table::STRIDE;
 use crate::table::copy_rows;
+use crate::table::word;
 use records::view_cell;
+
+// Rows in the order of the words of a beat.
+fn striped(rows: &[u32]) -> [u32; ROWS]
+    requires { ⌜ length (now rows) ≡ 32 ⌝ }
+    ensures { λ r. ⌜ r ≡ filled (replicate 32 0) (λ j. getD (now (rows .entry)) (rowOf j) 0) 32 ⌝ }
+{
+    let mut x = [0u32; ROWS];
+    let mut j: usize = 0;
+    while j < ROWS {
+        x[j] = rows[j % 4 * 8 + j / 4];
+        j += 1;
+    }
+    x
+}
 
 // The free cells at the first n beats of an empty table.
 pub fn fill_free(room: &mut [u32], free: &[u32], n: usize)
-    requires { ⌜ (now room ≡ replicate 2304 0) × (length (now free) ≡ 32) × (n ≤ 64) ⌝ }
+    requires { ⌜ (now room ≡ replicate 2049 0) × (length (now free) ≡ 32) × (n ≤ 64) ⌝ }
     ensures { λ r. ⌜ FreeBeats (now (free .entry)) n (now (room .exit)) ⌝ }
 {
+    let words = striped(free);
     let mut t: usize = 0;
     while t < n {
-        copy_rows(room, t * STRIDE + 1, free, 0, ROWS);
+        copy_rows(room, t * ROWS, &words, 0, ROWS);
         t += 1;
     }
 }
@@ -40,19 +56,25 @@ fn beat_after(t: usize, h: usize) -> usize
     if t < h { t + 1 } else { h }
 }
 
+// Takes cell c out of beat t; a number that is no cell changes nothing.
+fn drop_cell(g: SearchGrid, room: &mut [u32], t: usize, c: usize)
+    requires { ⌜ Grid g × (t < 64) × (length (now room) ≡ 2049) ⌝ }
+    ensures { λ r. ⌜ now (room .exit) ≡ droppedCell g t c (now (room .entry)) ⌝ }
+{
+    if c < g.cells {
+        let p = place_of(g, c);
+        bitrows::drop(room, word(t, p.row), p.column);
+    }
+}
+
 // Takes cell c out of beat t and the beats beside it, from 0 to the horizon.
 fn take_cell(g: SearchGrid, room: &mut [u32], t: usize, c: usize)
     requires { ⌜ Grid g × (t ≤ g .horizon) × (g .horizon ≤ 63) × Tidy g (now room) ⌝ }
     ensures { λ r. ⌜ TakenCell g t c (now (room .entry)) (now (room .exit)) ⌝ }
 {
-    let w = g.width;
-    let scale = g.scale;
-    let cells = g.cells;
-    let before = beat_before(t);
-    let after = beat_after(t, g.horizon);
-    bitrows::drop_at(room, before * STRIDE + 1, w, scale, cells, c);
-    bitrows::drop_at(room, t * STRIDE + 1, w, scale, cells, c);
-    bitrows::drop_at(room, after * STRIDE + 1, w, scale, cells, c);
+    drop_cell(g, room, beat_before(t), c);
+    drop_cell(g, room, t, c);
+    drop_cell(g, room, beat_after(t, g.horizon), c);
 }
 
 // Whether view j stays where it is between the beat before t and t.
@@ -74,8 +96,7 @@ fn take_beat(g: SearchGrid, room: &mut [u32], views: &[u16], j: usize, t: usize)
 {
     let c = view_cell(views, j, t);
     if stays(views, j, t) {
-        let after = beat_after(t, g.horizon);
-        bitrows::drop_at(room, after * STRIDE + 1, g.width, g.scale, g.cells, c);
+        drop_cell(g, room, beat_after(t, g.horizon), c);
         return;
     }
     take_cell(g, room, t, c);
@@ -104,7 +125,7 @@ pub fn take_one(g: SearchGrid, room: &mut [u32], views: &[u16], j: usize)
 // The room of a scene in an empty table.
 pub fn make(g: SearchGrid, k: usize, room: &mut [u32], free: &[u32], views: &[u16])
     requires { ⌜ Fits g k (now views) × Clean (g .width) (g .cells) (now free) × (length (now free) ≡ 32) ⌝ }
-    requires { ⌜ now room ≡ replicate 2304 0 ⌝ }
+    requires { ⌜ now room ≡ replicate 2049 0 ⌝ }
     ensures { λ r. ⌜ IsFreeTable g k (now (free .entry)) (now (views .entry)) (now (room .exit)) ⌝ }
 {
     fill_free(room, free, g.horizon + 1);

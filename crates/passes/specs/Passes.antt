@@ -5,7 +5,7 @@ use mathlib.Core.Bool.{Bool, true}
 use mathlib.Core.List.{List}
 use mathlib.Core.Path.{_≡_}
 use Rattle.layers.specs.declared.SearchGrid.{SearchGrid}
-use Rattle.layers.specs.Table.{Tidy}
+use Rattle.layers.specs.Table.{Tidy, inSet}
 use Rattle.layers.specs.Step.{Alone, Spread}
 use Rattle.passes.specs.declared.docks.Docks.{Docks}
 use Rattle.passes.specs.Docks.{EndsAt}
@@ -19,6 +19,12 @@ pub record Reached (g : SearchGrid) (room : List ℕ) (start n : ℕ) (s : List 
 -- The same through beat r, or through the horizon where r is past that.
 abbrev pub ReachedTo : SearchGrid → List ℕ → ℕ → ℕ → List ℕ → Type 0
 ReachedTo g room start r s = (n : ℕ) → n ≤ r → n ≤ g .horizon → Reached g room start n s
+
+-- The sets of q from beat n through beat m follow from each other; those through beat n are as in s.
+pub record Extended (g : SearchGrid) (room : List ℕ) (n : ℕ) (s : List ℕ) (m : ℕ) (q : List ℕ) : Type 0 where
+  pub tidy : Tidy g q
+  pub spreads : (t : ℕ) → n ≤ t → t < m → Spread g room q t (t + 1)
+  pub kept : (t c : ℕ) → t ≤ n → inSet g q t c ≡ inSet g s t c
 
 -- The sets of s from beat n through beat a are what leads in the room to a dock that can be held from beat a on.
 pub record Leading (g : SearchGrid) (room : List ℕ) (ds : Docks) (a n : ℕ) (s : List ℕ) : Type 0 where

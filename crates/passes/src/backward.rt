@@ -7,7 +7,7 @@ ghost use Rattle.passes.specs.Passes.{Leading};
 use crate::docks::Docks;
 use crate::docks::put_docks;
 use layers::SearchGrid;
-use layers::step::step;
+use layers::step::propagate;
 
 // The sets up to beat a become what leads in the room to a dock that can be held from beat a on.
 pub fn backward(g: SearchGrid, sets: &mut [u32], room: &[u32], ds: Docks, a: usize)
@@ -16,9 +16,5 @@ pub fn backward(g: SearchGrid, sets: &mut [u32], room: &[u32], ds: Docks, a: usi
     ensures { λ r. ⌜ Leading g (now (room .entry)) ds a 0 (now (sets .exit)) ⌝ }
 {
     put_docks(g, sets, ds, a);
-    let mut t = a;
-    while 0 < t {
-        t -= 1;
-        step(g, sets, room, t + 1, t);
-    }
+    propagate(sets, room, a, a, true);
 }

@@ -22,7 +22,7 @@ pub struct Docks {
 
 // The least beat from which a cell is in the room through the horizon; one past the horizon where it is not there then.
 fn hold_from(g: SearchGrid, room: &[u32], dock: usize) -> usize
-    requires { ⌜ Grid g × (length (now room) ≡ 2304) × (g .horizon ≤ 63) × (dock < g .cells) ⌝ }
+    requires { ⌜ Grid g × (length (now room) ≡ 2049) × (g .horizon ≤ 63) × (dock < g .cells) ⌝ }
     ensures { λ r. ⌜ r ≡ holdOf g (now (room .entry)) dock ⌝ }
 {
     let mut n = g.horizon + 1;
@@ -37,7 +37,7 @@ fn hold_from(g: SearchGrid, room: &[u32], dock: usize) -> usize
 
 // The docks with the beats from which they can be held in a room.
 pub fn hold_docks(g: SearchGrid, room: &[u32], count: usize, cells: Cells) -> Docks
-    requires { ⌜ Grid g × (length (now room) ≡ 2304) × (g .horizon ≤ 63) × DocksIn g count cells ⌝ }
+    requires { ⌜ Grid g × (length (now room) ≡ 2049) × (g .horizon ≤ 63) × DocksIn g count cells ⌝ }
     ensures { λ r. ⌜ r ≡ heldDocks g (now (room .entry)) count cells ⌝ }
 {
     let mut holds = [0usize; 4];
@@ -71,7 +71,7 @@ pub fn some_held(ds: Docks, t: usize) -> bool
 
 // Whether dock k can be held from beat t on and is in the set of beat t.
 fn arrives_at(g: SearchGrid, sets: &[u32], ds: Docks, t: usize, k: usize) -> bool
-    requires { ⌜ Grid g × (length (now sets) ≡ 2304) × (t < 64) × DocksIn g (ds .count) (ds .cells) × (k < ds .count) ⌝ }
+    requires { ⌜ Grid g × (length (now sets) ≡ 2049) × (t < 64) × DocksIn g (ds .count) (ds .cells) × (k < ds .count) ⌝ }
     ensures { λ r. ⌜ r ≡ arrivableAt g (now (sets .entry)) ds t k ⌝ }
 {
     if t < ds.holds[k] {
@@ -82,7 +82,7 @@ fn arrives_at(g: SearchGrid, sets: &[u32], ds: Docks, t: usize, k: usize) -> boo
 
 // Whether some dock that can be held from beat t on is in the set of beat t.
 pub fn arrives(g: SearchGrid, sets: &[u32], ds: Docks, t: usize) -> bool
-    requires { ⌜ Grid g × (length (now sets) ≡ 2304) × (t < 64) × DocksIn g (ds .count) (ds .cells) ⌝ }
+    requires { ⌜ Grid g × (length (now sets) ≡ 2049) × (t < 64) × DocksIn g (ds .count) (ds .cells) ⌝ }
     ensures { λ r. ⌜ r ≡ arrivable g (now (sets .entry)) ds t ⌝ }
 {
     let n = ds.count;

@@ -210,7 +210,7 @@ pub fn search(f: Floor, walls: &[u16], carrier: u16, views: &[u16]) -> Found
 
 // A table of empty sets, for a room or to work in.
 pub fn no_room() -> [u32; table::WORDS]
-    ensures { λ r. ⌜ r ≡ replicate 2304 0 ⌝ }
+    ensures { λ r. ⌜ r ≡ replicate 2049 0 ⌝ }
 {
     table::empty()
 }
@@ -218,7 +218,7 @@ pub fn no_room() -> [u32; table::WORDS]
 // The room that the free cells of a floor leave, in an empty table.
 pub fn fill_room(f: Floor, free: Rows, room: &mut [u32])
     requires { ⌜ (1 ≤ f .width) × (f .width ≤ 32) × (f .height ≤ 32) × (f .horizon ≤ 63) ⌝ }
-    requires { ⌜ (length free ≡ 32) × Clean (f .width) (f .width * f .height) free × (now room ≡ replicate 2304 0) ⌝ }
+    requires { ⌜ (length free ≡ 32) × Clean (f .width) (f .width * f .height) free × (now room ≡ replicate 2049 0) ⌝ }
     ensures { λ r. ⌜ ((m : List ℕ) → IsFreeTable (searchGridOf f) 0 free m (now (room .exit))) ⌝ }
 {
     room::fill_free(room, &free, f.horizon as usize + 1);

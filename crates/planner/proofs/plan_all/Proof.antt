@@ -28,7 +28,7 @@ abbrev μ-loop : tie.MeasureT-loop
 μ-loop f free answers₀ n room₀ sets₀ shown₀ i₀ answers room sets shown i = n - i
 
 slice-aggregate-fill-room : tie.Need-slice-aggregate-fill-room Inv-loop μ-loop
-slice-aggregate-fill-room c = sym (ap length (c .before .no-room .ensures) ∙ length-replicate {A = ℕ} 2304 0)
+slice-aggregate-fill-room c = sym (ap length (c .before .no-room .ensures) ∙ length-replicate {A = ℕ} 2049 0)
 
 fill-room-requires : tie.Need-fill-room-requires Inv-loop μ-loop
 fill-room-requires c κs =

@@ -19,7 +19,7 @@ returns : tie.Need-returns
 unfolding searchGridOf
 returns c =
     let start : tie.Start = search in
-    λ m. free-roomy _ _ _ _ _ (start .pre .0 .0) (grid-room _ _ (start .pre .0 .2)) (omega arith) (c .before .before .fill-free .ensures)
+    λ m. free-roomy _ _ _ _ _ (start .pre .0 .0) (grid-room _ _ (start .pre .0 .2)) (omega arith) (omega arith) (c .before .before .fill-free .ensures)
     (start .pre .1 .1)
 
 pub fill-room-spec : {M : Type 1} → statement M

@@ -1,48 +1,42 @@
+-- `layers::room::fill_free` meets its contract. The loop's invariant: the free rows stand at the beats passed. The measure is what is
+-- left of the beats. Assumes nothing.
 use Prim.Native.Nat.{ℕ, _-_, _≤_}
-use native.Mathlib.Nat.{zero-add}
 use native.Mathlib.Omega.{arith}
 use mathlib.Core.Path.{_≡_, sym, ap, _∙_}
 use borrow.Author.Needs.{needs}
-use lib.ListN.{getD, length, length-replicate}
+use lib.ListN.{length, length-replicate}
 use Rattle.layers.proofs.FreeLaws.{free-none, free-more}
-use Rattle.layers.proofs.RewriteLaws.{rewritten-same}
 use Rattle.layers.specs.Room.{FreeBeats}
 use Rattle.layers.proofs.room.fill_free.Statement.{statement}
 use Rattle.layers.proofs.room.fill_free.Tie as tie
 
--- `layers::room::fill_free` meets its contract. The loop's invariant: the free rows stand at the beats passed. The measure is what is
--- left of the beats. Assumes nothing.
-
 abbrev Inv-loop : tie.InvT-loop
-Inv-loop room₀ free n t₀ room t = (t ≤ n) × FreeBeats free t room
+Inv-loop room₀ free n words t₀ room t = (t ≤ n) × FreeBeats free t room
 
 abbrev μ-loop : tie.MeasureT-loop
-μ-loop room₀ free n t₀ room t = n - t
+μ-loop room₀ free n words t₀ room t = n - t
 
 loop-holds : tie.Need-loop-holds Inv-loop μ-loop
-loop-holds c = (search needs, free-none _ _ (c .before .before .pre .0))
+loop-holds c =
+    let start : tie.Start Inv-loop μ-loop = search in
+    (search needs, free-none _ _ (start .pre .0))
 
 copy-rows-requires : tie.Need-copy-rows-requires Inv-loop μ-loop
 copy-rows-requires c κs =
-    let start : tie.Start Inv-loop μ-loop = search in
-    (omega arith, omega (arith, c .before .before .loop .inv .1 .long), omega (arith, start .pre .1))
-
-loop-less : tie.Need-loop-less Inv-loop μ-loop
-loop-less c = omega arith
+    let at-loop : tie.At-loop Inv-loop μ-loop = search in
+    (omega arith, omega (arith, at-loop .loop .inv .1 .long), omega arith)
 
 loop-again : tie.Need-loop-again Inv-loop μ-loop
 loop-again c =
     let at-loop : tie.At-loop Inv-loop μ-loop = search in
-    let start : tie.Start Inv-loop μ-loop = search in (
-      search needs,
-      free-more _ _ _ _ (at-loop .loop .inv .1) (rewritten-same _ _ _ _ _ _ (λ j l. ap (λ (x : ℕ). getD
-          (start .args .free .now) x 0) (zero-add j)) (c .before .before .copy-rows .ensures)),
-    )
+    let after-striped : tie.After-striped Inv-loop μ-loop = search in
+    let after-copy-rows : tie.After-copy-rows Inv-loop μ-loop = search in
+    (search needs, free-more _ _ _ _ _ (after-striped .striped .ensures) (at-loop .loop .inv .1) (after-copy-rows .copy-rows .ensures))
 
 same-length : tie.Need-same-length Inv-loop μ-loop
 same-length c =
     let start : tie.Start Inv-loop μ-loop = search in
-    c .before .loop .inv .1 .long ∙ sym (ap length (start .pre .0) ∙ length-replicate {A = ℕ} 2304 0)
+    c .before .loop .inv .1 .long ∙ sym (ap length (start .pre .0) ∙ length-replicate {A = ℕ} 2049 0)
 
 returns : tie.Need-returns Inv-loop μ-loop
 returns c =
@@ -52,5 +46,5 @@ returns c =
 
 pub fill-free-spec : {M : Type 1} → statement M
 fill-free-spec =
-    tie.close (tie.spec Inv-loop μ-loop loop-holds (λ c. search needs) (λ c. search needs) copy-rows-requires
-    (λ c. search needs) loop-less loop-again same-length returns)
+    tie.close (tie.spec Inv-loop μ-loop (λ c κs. search needs) loop-holds (λ c. search needs) (λ c. search needs) copy-rows-requires
+    (λ c. search needs) (λ c. omega arith) loop-again same-length returns)

@@ -30,7 +30,7 @@ loop-holds : tie.Need-loop-holds Inv-loop μ-loop
 loop-holds c =
     let start : tie.Start Inv-loop μ-loop = search in (
       search needs,
-      free-roomy _ _ _ _ _ (start .pre .0 .0 .grid .thin) (start .pre .0 .0 .grid .room) (omega arith)
+      free-roomy _ _ _ _ _ (start .pre .0 .0 .grid .thin) (start .pre .0 .0 .grid .room) (omega arith) (omega (arith, start .pre .0 .0 .short))
           (c .before .before .fill-free .ensures) (start .pre .0 .1),
     )
 
@@ -51,7 +51,7 @@ loop-again c =
 same-length : tie.Need-same-length Inv-loop μ-loop
 same-length c =
     let start : tie.Start Inv-loop μ-loop = search in
-    c .before .loop .inv .1 .tidy .long ∙ sym (ap length (start .pre .1) ∙ length-replicate {A = ℕ} 2304 0)
+    c .before .loop .inv .1 .tidy .long ∙ sym (ap length (start .pre .1) ∙ length-replicate {A = ℕ} 2049 0)
 
 returns : tie.Need-returns Inv-loop μ-loop
 returns c =

@@ -8,7 +8,7 @@ use Rattle.layers.proofs.room.take_beat.Tie as tie
 
 returns : tie.Need-returns
 returns c =
-    let after-drop-at : tie.After-drop-at = search in
+    let after-drop-cell : tie.After-drop-cell = search in
     let after-beat-after : tie.After-beat-after = search in
     let then1 : tie.Then1 = search in
     let after-stays : tie.After-stays = search in
@@ -16,7 +16,7 @@ returns c =
     let start : tie.Start = search in
     let p = start .pre in
     stays-more _ _ _ _ _ _ _ _ (p .0 .thin) (p .0 .room) (p .2) (p .3) (p .4) (after-beat-after .beat-after .ensures)
-    (after-view-cell .view-cell .ensures .0) (sym (after-stays .stays .ensures) ∙ then1 .if1 .taken) (after-drop-at .drop-at .ensures)
+    (after-view-cell .view-cell .ensures .0) (sym (after-stays .stays .ensures) ∙ then1 .if1 .taken) (after-drop-cell .drop-cell .ensures)
 
 returns-2 : tie.Need-returns-2
 returns-2 c =
@@ -26,5 +26,4 @@ returns-2 c =
 
 pub take-beat-spec : {M : Type 1} → statement M
 take-beat-spec =
-    tie.close (tie.spec (λ c κs. search needs) (λ c κs. search needs) (λ c κs. search needs) (λ c. search needs) (λ c. search needs)
-    (λ c κs. search needs) (λ c. search needs) returns (λ c κs. search needs) (λ c. search needs) returns-2)
+    tie.close (tie.spec (λ c κs. search needs) (λ c κs. search needs) (λ c κs. search needs) (λ c κs. search needs) (λ c. search needs) returns (λ c κs. search needs) (λ c. search needs) returns-2)
