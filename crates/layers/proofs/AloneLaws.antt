@@ -8,7 +8,7 @@ use mathlib.Core.Logic.{_⊎_, inl, inr, ⊎-elim}
 use mathlib.Core.Path.{_≡_, refl, sym, _∙_}
 use borrow.Author.Tests.{eq-eqb}
 use lib.Dec.{eqb}
-use lib.ListN.{length, getD, length-set}
+use lib.ListN.{getD, length-set}
 use lib.Seq.{getD-set-other}
 use Rattle.laws.proofs.Tests.{and-both, or-cases, or-inl, or-inr, eqbs-say, true-false-absurd, lt-or-le}
 use Rattle.bitrows.specs.Words.{digit}

@@ -1,5 +1,5 @@
 -- The table of the free cells at each beat: rows laid beat by beat.
-use Prim.Native.Nat.{ℕ, _+_, _*_, _-_, _/_, _%_, _≤_, _<_}
+use Prim.Native.Nat.{ℕ, _+_, _*_, _/_, _%_, _≤_, _<_}
 use native.Mathlib.Omega.{arith}
 use native.Mathlib.Nat.{eq-or-lt-of-le}
 use mathlib.Core.Bool.{true}
@@ -10,12 +10,12 @@ use lib.ListN.{getD, replicate, length-replicate}
 use Rattle.laws.proofs.Lists.{zeros-at}
 use Rattle.laws.proofs.Tests.{lt-or-le, true-false-absurd}
 use Rattle.bitrows.specs.Words.{digit}
-use Rattle.bitrows.specs.Rows.{has, filled, Clean}
+use Rattle.bitrows.specs.Rows.{has, filled, written, Clean}
 use Rattle.bitrows.proofs.DigitLaws.{digit-zero}
-use Rattle.bitrows.proofs.FillLaws.{filled-in}
 use Rattle.layers.specs.declared.SearchGrid.{SearchGrid}
 use Rattle.layers.specs.Table.{Tidy, Rewritten, slotOf, wordOf, rowOf}
 use Rattle.layers.specs.Room.{FreeBeats}
+use Rattle.layers.proofs.RewriteLaws.{rewritten-rows}
 use Rattle.layers.proofs.WordLaws.{slot-low, row-of-slot}
 
 -- An empty table has the free rows at no beat.
@@ -29,20 +29,18 @@ free-none free s e =
     })
 
 -- The free rows at one more beat.
-pub free-more : (free words s q : List ℕ) (n : ℕ) → words ≡ filled (replicate 32 0) (λ j. getD free (rowOf j) 0) 32 → FreeBeats free n s →
-    Rewritten s (λ j. getD words (0 + j) 0) (n * 32) 32 q → FreeBeats free (n + 1) q
-free-more free words s q n made old new =
+pub free-more : (free words s q : List ℕ) (n : ℕ) → n < 64 → words ≡ filled (replicate 32 0) (λ j. getD free (rowOf j) 0) 32 →
+    FreeBeats free n s → q ≡ written s (n * 32) words 32 → FreeBeats free (n + 1) q
+free-more free words s q n early made old e =
     record {
       long = new .long ∙ old .long;
-      shown = λ t j h l. ⊎-elim (λ (e : t ≡ n). rw e (new .inside j l ∙ row j l))
+      shown = λ t j h l. ⊎-elim (λ (e : t ≡ n). rw e (new .inside j l))
           (λ (e : t < n). new .outside (t * 32 + j) (inl (omega arith)) ∙ old .shown t j e l) (eq-or-lt-of-le (omega arith));
       hidden = λ i l. new .outside i (inr (omega arith)) ∙ old .hidden i (omega arith);
     }
   where
-    row : (j : ℕ) → j < 32 → getD words (0 + j) 0 ≡ getD free (rowOf j) 0
-    row j l =
-        let e : 0 + j ≡ j = omega arith in
-        rw (made, e) (filled-in (replicate 32 0) (λ i. getD free (rowOf i) 0) 32 j (omega (arith, length-replicate {A = ℕ} 32 0)) l)
+    new : Rewritten s (λ j. getD free (rowOf j) 0) (n * 32) 32 q
+    new = rewritten-rows s words q (λ j. getD free (rowOf j) 0) (n * 32) 32 (omega arith) (omega (arith, old .long)) made e
 
 module _ (free s : List ℕ) (n : ℕ) where
   -- A row of a beat is the free row.

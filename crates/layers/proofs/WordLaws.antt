@@ -1,6 +1,6 @@
 -- The words of a table: the word of a row, the row of a word, and the words of the rows above and below. Of the 32 rows of a beat each law
 -- about their places is a test, computed once.
-use Prim.Native.Nat.{ℕ, zero, suc, _+_, _*_, _-_, _/_, _%_, _≤_, _<_}
+use Prim.Native.Nat.{ℕ, zero, suc, _+_, _*_, _≤_, _<_}
 use native.Mathlib.Omega.{arith}
 use native.Mathlib.Nat.{eq-or-lt-of-le}
 use mathlib.Core.Bool.{Bool, true, false, _&&_}

@@ -11,7 +11,6 @@ ghost use Rattle.layers.specs.Room.{droppedCell, IsFreeTable, OneMore, F
 use crate::SearchGrid;
 use crate::place_of;
 use crate::table::ROWS;
-use crate::table::copy_rows;
 use crate::table::word;
 use records::view_cell;
 
@@ -37,7 +36,7 @@ pub fn fill_free(room: &mut [u32], free: &[u32], n: usize)
     let words = striped(free);
     let mut t: usize = 0;
     while t < n {
-        copy_rows(room, t * ROWS, &words, 0, ROWS);
+        bitrows::put_rows(room, t * ROWS, words, ROWS);
         t += 1;
     }
 }
@@ -72,9 +71,11 @@ fn take_cell(g: SearchGrid, room: &mut [u32], t: usize, c: usize)
     requires { ⌜ Grid g × (t ≤ g .horizon) × (g .horizon ≤ 63) × Tidy g (now room) ⌝ }
     ensures { λ r. ⌜ TakenCell g t c (now (room .entry)) (now (room .exit)) ⌝ }
 {
-    drop_cell(g, room, beat_before(t), c);
+    let before = beat_before(t);
+    let after = beat_after(t, g.horizon);
+    drop_cell(g, room, before, c);
     drop_cell(g, room, t, c);
-    drop_cell(g, room, beat_after(t, g.horizon), c);
+    drop_cell(g, room, after, c);
 }
 
 // Whether view j stays where it is between the beat before t and t.

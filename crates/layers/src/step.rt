@@ -1,7 +1,7 @@
 // Steps of a whole set, beat after beat: each set has those cells of the room then that are near a cell of the set before it.
 ghost use mathlib.Core.Path.{_≡_};
-ghost use mathlib.Core.Bool.{Bool, true, false};
-ghost use Prim.Native.Nat.{_+_, _≤_, _<_};
+ghost use mathlib.Core.Bool.{true};
+ghost use Prim.Native.Nat.{_+_, _<_};
 ghost use lib.ListN.{length, getD};
 ghost use Rattle.layers.specs.declared.SearchGrid.{SearchGrid};
 ghost use Rattle.layers.specs.Table.{Grid, Tidy};

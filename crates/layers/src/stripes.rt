@@ -1,7 +1,6 @@
 // The set of one beat as eight stripes of four rows, rows 8 apart side by side: the row above and the row below each of the four stand in the
 // stripes beside theirs, so that one step of a set is four rows at a time, in registers.
 ghost use mathlib.Core.Path.{_≡_};
-ghost use mathlib.Core.List.{[], _∷_};
 ghost use Prim.Native.Nat.{ℕ, _+_, _≤_, _<_};
 ghost use lib.ListN.{length, getD};
 ghost use Rattle.bitrows.specs.Rows.{written};

@@ -1,9 +1,9 @@
-// Tables of sets of cells, 32 words a beat: the word of a row, reading a cell, copying rows, a set of no cell, of one, of one more.
+// Tables of sets of cells, 32 words a beat: the word of a row, reading a cell, a set of no cell, of one, of one more.
 ghost use mathlib.Core.Path.{_≡_};
-ghost use Prim.Native.Nat.{_+_, _*_, _≤_, _<_};
-ghost use lib.ListN.{length, getD, replicate};
+ghost use Prim.Native.Nat.{_<_};
+ghost use lib.ListN.{length, replicate};
 ghost use Rattle.bitrows.specs.Rows.{has};
-ghost use Rattle.layers.specs.Table.{Grid, Rewritten, Tidy, inSet, wordOf};
+ghost use Rattle.layers.specs.Table.{Grid, Tidy, inSet, wordOf};
 ghost use Rattle.layers.specs.Step.{ChangedAt, Empty, Joined, Alone};
 use crate::SearchGrid;
 use crate::place_of;
@@ -45,15 +45,6 @@ pub fn member(g: SearchGrid, s: &[u32], t: usize, c: usize) -> bool
 {
     let p = place_of(g, c);
     has_at(s, t, p.row, p.column)
-}
-
-// Copies n rows of one table from row j on into another from row i on.
-pub fn copy_rows(to: &mut [u32], i: usize, from: &[u32], j: usize, n: usize)
-    requires { ⌜ (n ≤ 32) × (i + n ≤ length (now to)) × (j + n ≤ length (now from)) ⌝ }
-    ensures { λ x. ⌜ Rewritten (now (to .entry)) (λ r. getD (now (from .entry)) (j + r) 0) i n (now (to .exit)) ⌝ }
-{
-    let x = bitrows::some_rows(from, j, n);
-    bitrows::put_rows(to, i, x, n);
 }
 
 // The set of beat t becomes empty.

@@ -17,7 +17,7 @@ use Rattle.layers.specs.declared.SearchGrid.{SearchGrid}
 use Rattle.layers.specs.declared.Place.{Place}
 use Rattle.layers.specs.Table.{Grid, PlaceOf, Tidy, inSet, wordOf}
 use Rattle.layers.proofs.SetLaws.{set-cell, set-has, set-holds}
-use Rattle.passes.specs.Walk.{pick, firstNear, nextOf, stepOf, pathOf}
+use Rattle.passes.specs.Walk.{pick, nextOf, stepOf, pathOf}
 use Rattle.passes.proofs.NearCells.{first-holds}
 
 module _ (g : SearchGrid) (s : List ℕ) (t c : ℕ) (p : Place) (grid : Grid g) (tidy : Tidy g s) (at : PlaceOf g c p) where

@@ -1,5 +1,4 @@
 -- `layers::room::drop_cell` meets its contract: the digit at the place of the cell goes. Assumes nothing.
-use native.Mathlib.Omega.{arith}
 use borrow.Author.Needs.{needs}
 use Rattle.layers.proofs.TakenLaws.{dropped-made, dropped-same}
 use Rattle.layers.proofs.room.drop_cell.Statement.{statement}

@@ -21,17 +21,21 @@ loop-holds c =
     let start : tie.Start Inv-loop μ-loop = search in
     (search needs, free-none _ _ (start .pre .0))
 
-copy-rows-requires : tie.Need-copy-rows-requires Inv-loop μ-loop
-copy-rows-requires c κs =
+put-rows-requires : tie.Need-put-rows-requires Inv-loop μ-loop
+put-rows-requires c κs =
     let at-loop : tie.At-loop Inv-loop μ-loop = search in
-    (omega arith, omega (arith, at-loop .loop .inv .1 .long), omega arith)
+    (omega arith, omega (arith, at-loop .loop .inv .1 .long))
 
 loop-again : tie.Need-loop-again Inv-loop μ-loop
 loop-again c =
     let at-loop : tie.At-loop Inv-loop μ-loop = search in
     let after-striped : tie.After-striped Inv-loop μ-loop = search in
-    let after-copy-rows : tie.After-copy-rows Inv-loop μ-loop = search in
-    (search needs, free-more _ _ _ _ _ (after-striped .striped .ensures) (at-loop .loop .inv .1) (after-copy-rows .copy-rows .ensures))
+    let after-put-rows : tie.After-put-rows Inv-loop μ-loop = search in
+    let in-loop : tie.In-loop Inv-loop μ-loop = search in (
+      search needs,
+      free-more _ _ _ _ _ (omega (arith, in-loop .loop-test .taken)) (after-striped .striped .ensures) (at-loop .loop .inv .1)
+          (after-put-rows .put-rows .ensures),
+    )
 
 same-length : tie.Need-same-length Inv-loop μ-loop
 same-length c =
@@ -46,5 +50,5 @@ returns c =
 
 pub fill-free-spec : {M : Type 1} → statement M
 fill-free-spec =
-    tie.close (tie.spec Inv-loop μ-loop (λ c κs. search needs) loop-holds (λ c. search needs) (λ c. search needs) copy-rows-requires
-    (λ c. search needs) (λ c. omega arith) loop-again same-length returns)
+    tie.close (tie.spec Inv-loop μ-loop (λ c κs. search needs) loop-holds (λ c. search needs) put-rows-requires (λ c. search needs)
+    (λ c. omega arith) loop-again same-length returns)

@@ -1,7 +1,6 @@
 -- `layers::room::take_beat` meets its contract: a view that stays leaves one beat to be done, one that moves three. Assumes nothing.
 use mathlib.Core.Path.{sym, _∙_}
 use borrow.Author.Needs.{needs}
-use native.Mathlib.Omega.{arith}
 use Rattle.layers.proofs.TakenLaws.{moves-more, stays-more}
 use Rattle.layers.proofs.room.take_beat.Statement.{statement}
 use Rattle.layers.proofs.room.take_beat.Tie as tie

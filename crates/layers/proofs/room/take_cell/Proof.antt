@@ -1,5 +1,4 @@
 -- `layers::room::take_cell` meets its contract: the cell is taken out at three beats, two of which are one at an end. Assumes nothing.
-use native.Mathlib.Omega.{arith}
 use borrow.Author.Needs.{needs}
 use Rattle.layers.proofs.TakenLaws.{cell-taken}
 use Rattle.layers.proofs.room.take_cell.Statement.{statement}

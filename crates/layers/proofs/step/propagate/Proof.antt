@@ -1,6 +1,6 @@
 -- `layers::step::propagate` meets its contract. The loop's invariant: the stripes are the set of the beat at hand, and so many steps are
 -- done. The measure is what is left of the steps. Assumes nothing.
-use Prim.Native.Nat.{ℕ, _+_, _*_, _-_, _≤_, _<_}
+use Prim.Native.Nat.{_+_, _*_, _-_, _≤_, _<_}
 use native.Mathlib.Omega.{arith}
 use mathlib.Core.Path.{_≡_, sym, _∙_}
 use borrow.Author.Needs.{needs}

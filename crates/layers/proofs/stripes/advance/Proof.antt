@@ -1,4 +1,3 @@
-use native.Mathlib.Omega.{arith}
 use borrow.Author.Needs.{needs}
 use Rattle.layers.proofs.StripesLaws.{advanced}
 use Rattle.layers.proofs.stripes.advance.Statement.{statement}

@@ -1,4 +1,3 @@
-use native.Mathlib.Omega.{arith}
 use borrow.Author.Needs.{needs}
 use Rattle.layers.proofs.StripesLaws.{lanes-made}
 use Rattle.layers.proofs.stripes.lanes.Statement.{statement}

@@ -1,4 +1,3 @@
-use native.Mathlib.Omega.{arith}
 use borrow.Author.Needs.{needs}
 use Rattle.layers.proofs.RewriteLaws.{rewritten-none}
 use Rattle.layers.proofs.stripes.save.Statement.{statement}

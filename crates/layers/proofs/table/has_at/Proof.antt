@@ -1,6 +1,5 @@
 -- `layers::table::has_at` meets its contract. Assumes nothing.
 use borrow.Author.Needs.{needs}
-use native.Mathlib.Omega.{arith}
 use Rattle.layers.proofs.table.has_at.Statement.{statement}
 use Rattle.layers.proofs.table.has_at.Tie as tie
 

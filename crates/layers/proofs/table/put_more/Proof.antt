@@ -1,6 +1,5 @@
 -- `layers::table::put_more` meets its contract: the digit at the place of the cell is added. Assumes nothing.
 use Rattle.layers.proofs.AloneLaws.{more-made}
-use native.Mathlib.Omega.{arith}
 use borrow.Author.Needs.{needs}
 use Rattle.layers.proofs.table.put_more.Statement.{statement}
 use Rattle.layers.proofs.table.put_more.Tie as tie

@@ -5,7 +5,6 @@ use mathlib.Core.Path.{sym, _∙_}
 use Rattle.passes.specs.Docks.{arrivableAt, arrivable}
 use Rattle.passes.proofs.AnyLaws.{Untold, any-start, any-more, any-stop, any-end}
 use borrow.Author.Needs.{needs}
-use native.Mathlib.Omega.{arith}
 use Rattle.passes.proofs.docks.arrives.Statement.{statement}
 use Rattle.passes.proofs.docks.arrives.Tie as tie
 
