@@ -53,14 +53,14 @@ module _ (g : SearchGrid) (s p : List ℕ) (t : ℕ) (grid : Grid g) (old : Tidy
 
   wiped-other : (u d : ℕ) → (u ≡ t → ⊥) → inSet g p u d ≡ inSet g s u d
   wiped-other u d n =
-      set-same g s p u d (grid .thin) (grid .room) (λ r h. wiped .outside (wordOf u r) (word-apart u t r n h))
+      set-same g s p u d (grid .thin) (grid .low) (λ r h. wiped .outside (wordOf u r) (word-apart u t r n h))
 
   pub none-made : ChangedAt g s t p × Empty g p t
   none-made = (record { tidy = wiped-tidy; other = wiped-other }, none)
     where
       none : (d : ℕ) → inSet g p t d ≡ true → ⊥
       none d e =
-          let low = place-row (g .width) d (grid .thin) (omega (arith, grid .room, set-cell g p t d e)) in
+          let low = place-row (g .width) d (grid .thin) (omega (arith, grid .low, set-cell g p t d e)) in
           let at = word-inside t (d / g .width) low in
           true-false-absurd (set-has g p t d e) (wiped-none (wordOf t (d / g .width)) (d % g .width) (at .0) (at .1))
 
@@ -75,7 +75,7 @@ module _ (g : SearchGrid) (s : List ℕ) (t c : ℕ) (grid : Grid g) (old : Tidy
   end = added s at (c % g .width)
 
   row : c / g .width < 32
-  row = place-row (g .width) c (grid .thin) (omega (arith, grid .room))
+  row = place-row (g .width) c (grid .thin) (omega (arith, grid .low))
 
   end-has : (i k : ℕ) → has end i k ≡ (has s i k || (eqb i at && eqb k (c % g .width)))
   unfolding end at
@@ -125,7 +125,7 @@ module _ (g : SearchGrid) (s : List ℕ) (t c : ℕ) (grid : Grid g) (old : Tidy
   end-other u r n h = getD-set-other s (wordOf t (c / g .width)) (wordOf u r) _ 0 (λ e. n (word-beat u t r (c / g .width) h row e))
 
   end-changed : ChangedAt g s t end
-  end-changed = record { tidy = end-tidy; other = λ u d n. set-same g s end u d (grid .thin) (grid .room) (λ r h. end-other u r n h) }
+  end-changed = record { tidy = end-tidy; other = λ u d n. set-same g s end u d (grid .thin) (grid .low) (λ r h. end-other u r n h) }
 
   end-joined : Joined g s t c end
   unfolding at
@@ -154,7 +154,7 @@ module _ (g : SearchGrid) (s : List ℕ) (t c : ℕ) (grid : Grid g) (old : Tidy
           go (inl h) = inl (set-holds g s t d (set-cell g end t d e) h)
           go (inr h) =
               let k : d / g .width ≡ c / g .width =
-              word-same t t (d / g .width) (c / g .width) (place-row (g .width) d (grid .thin) (omega (arith, grid .room, set-cell g end t d e))) row
+              word-same t t (d / g .width) (c / g .width) (place-row (g .width) d (grid .thin) (omega (arith, grid .low, set-cell g end t d e))) row
               (h .0) in
               inr (sym (div-add-mod' d (g .width)) ∙ rw (k, h .1) whole)
 

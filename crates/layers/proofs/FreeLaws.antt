@@ -14,7 +14,7 @@ use Rattle.bitrows.specs.Rows.{has, filled, written, Clean}
 use Rattle.bitrows.proofs.DigitLaws.{digit-zero}
 use Rattle.layers.specs.declared.SearchGrid.{SearchGrid}
 use Rattle.layers.specs.Table.{Tidy, Rewritten, slotOf, wordOf, rowOf}
-use Rattle.layers.specs.Room.{FreeBeats}
+use Rattle.layers.specs.FreeTable.{FreeBeats}
 use Rattle.layers.proofs.RewriteLaws.{rewritten-rows}
 use Rattle.layers.proofs.WordLaws.{slot-low, row-of-slot}
 

@@ -12,4 +12,4 @@ pub mod StepLaws
 pub mod SweptLaws
 pub mod FreeLaws
 pub mod TakenLaws
-pub mod RoomLaws
+pub mod FreeTableLaws

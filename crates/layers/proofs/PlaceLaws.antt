@@ -19,7 +19,7 @@ place-made g c p grid inside row whole left =
     record {
       row = row;
       column = column;
-      low = rw row (place-row (g .width) c (grid .thin) (omega (arith, grid .room)));
+      low = rw row (place-row (g .width) c (grid .thin) (omega (arith, grid .low)));
       thin = rw column thin;
       narrow = rw column (omega (arith, thin, grid .narrow));
     }

@@ -47,7 +47,7 @@ module _ (g : SearchGrid) (s : List ℕ) where
 pub set-same : (g : SearchGrid) (s q : List ℕ) (t c : ℕ) → 1 ≤ g .width → g .cells ≤ 32 * g .width →
     ((r : ℕ) → r < 32 → getD q (wordOf t r) 0 ≡ getD s (wordOf t r) 0) → inSet g q t c ≡ inSet g s t c
 unfolding inSet has
-set-same g s q t c thin room same = ⊎-elim inside outside (lt-or-le c (g .cells))
+set-same g s q t c thin table same = ⊎-elim inside outside (lt-or-le c (g .cells))
   where
     inside : c < g .cells → (ltb c (g .cells) && digit (getD q (wordOf t (c / g .width)) 0) (c % g .width)) ≡
         (ltb c (g .cells) && digit (getD s (wordOf t (c / g .width)) 0) (c % g .width))

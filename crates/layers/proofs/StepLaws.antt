@@ -21,24 +21,24 @@ use Rattle.layers.proofs.WordLaws.{aboveRow, belowRow, slot-low, word-a
 use Rattle.layers.proofs.BroughtLaws.{brought-says, brought-holds}
 use Rattle.layers.proofs.SetLaws.{set-cell, set-has, set-holds, set-same}
 
-module _ (g : SearchGrid) (room s q : List ℕ) (a b : ℕ) (grid : Grid g) (old : Tidy g s) (ground : Tidy g room) (early : b < 64)
-    (apart : a ≡ b → ⊥) (x : Rewritten s (stepWord (λ j. getD s (a * 32 + j) 0) (λ j. getD room (b * 32 + j) 0)) (b * 32) 32 q) where
+module _ (g : SearchGrid) (table s q : List ℕ) (a b : ℕ) (grid : Grid g) (old : Tidy g s) (ground : Tidy g table) (early : b < 64)
+    (apart : a ≡ b → ⊥) (x : Rewritten s (stepWord (λ j. getD s (a * 32 + j) 0) (λ j. getD table (b * 32 + j) 0)) (b * 32) 32 q) where
   -- A row that the step writes.
   row-new : (r : ℕ) → r < 32 → getD q (wordOf b r) 0 ≡
-      successorRow (aboveRow s a r) (getD s (wordOf a r) 0) (belowRow s a r) (getD room (wordOf b r) 0)
+      successorRow (aboveRow s a r) (getD s (wordOf a r) 0) (belowRow s a r) (getD table (wordOf b r) 0)
   unfolding stepWord wordOf
   row-new r h = x .inside (slotOf r) (slot-low r h) ∙ rw (above-word s a r h, below-word s a r h)
 
-  -- A digit of the new table was there, or is one of the room.
-  either : (i k : ℕ) → has q i k ≡ true → (has s i k ≡ true) ⊎ (has room i k ≡ true)
+  -- A digit of the new table was there, or is one of the free table.
+  either : (i k : ℕ) → has q i k ≡ true → (has s i k ≡ true) ⊎ (has table i k ≡ true)
   unfolding has stepWord
   either i k e = ⊎-elim (λ (h : i < b * 32). inl (rw (← x .outside i (inl h)) e)) after (lt-or-le i (b * 32))
     where
-      written : (j : ℕ) → j < 32 → i ≡ b * 32 + j → digit (getD room i 0) k ≡ true
+      written : (j : ℕ) → j < 32 → i ≡ b * 32 + j → digit (getD table i 0) k ≡ true
       written j h p =
-          rw p (narrow-masked _ _ _ (getD room (b * 32 + j) 0) k (ap (λ (y : ℕ). digit y k) (sym (x .inside j h)) ∙ rw p at e))
+          rw p (narrow-masked _ _ _ (getD table (b * 32 + j) 0) k (ap (λ (y : ℕ). digit y k) (sym (x .inside j h)) ∙ rw p at e))
 
-      after : b * 32 ≤ i → (digit (getD s i 0) k ≡ true) ⊎ (digit (getD room i 0) k ≡ true)
+      after : b * 32 ≤ i → (digit (getD s i 0) k ≡ true) ⊎ (digit (getD table i 0) k ≡ true)
       after h =
           ⊎-elim (λ (l : i < b * 32 + 32). inr (written (i - b * 32) (omega arith) (omega arith)))
           (λ (l : b * 32 + 32 ≤ i). inl (rw (← x .outside i (inr l)) e)) (lt-or-le i (b * 32 + 32))
@@ -57,7 +57,7 @@ module _ (g : SearchGrid) (room s q : List ℕ) (a b : ℕ) (grid : Grid g) (old
   step-changed =
       record {
         tidy = new-tidy;
-        other = λ t c u. set-same g s q t c (grid .thin) (grid .room)
+        other = λ t c u. set-same g s q t c (grid .thin) (grid .low)
             (λ r h. x .outside (wordOf t r) (word-apart t b r u h));
       }
 
@@ -72,7 +72,7 @@ module _ (g : SearchGrid) (room s q : List ℕ) (a b : ℕ) (grid : Grid g) (old
     column = mod-lt d (grid .thin)
 
     row : d / g .width < 32
-    row = place-row (g .width) d (grid .thin) (omega (arith, grid .room))
+    row = place-row (g .width) d (grid .thin) (omega (arith, grid .low))
 
     -- The step brings something to the cell.
     abbrev come : Bool
@@ -80,42 +80,42 @@ module _ (g : SearchGrid) (room s q : List ℕ) (a b : ℕ) (grid : Grid g) (old
         brought (aboveRow s a (d / g .width)) (getD s (wordOf a (d / g .width)) 0) (belowRow s a (d / g .width)) (d % g .width)
 
     new-digit : has q (wordOf b (d / g .width)) (d % g .width) ≡
-        (come && digit (getD room (wordOf b (d / g .width)) 0) (d % g .width))
+        (come && digit (getD table (wordOf b (d / g .width)) 0) (d % g .width))
     unfolding has
     new-digit =
         ap (λ (y : ℕ). digit y (d % g .width)) (row-new (d / g .width) row)
-        ∙ narrow-digit _ _ _ (getD room (wordOf b (d / g .width)) 0) (d % g .width) (omega (arith, column, grid .narrow))
+        ∙ narrow-digit _ _ _ (getD table (wordOf b (d / g .width)) 0) (d % g .width) (omega (arith, column, grid .narrow))
 
-    -- What the step brings is near a cell of the set that it comes from, and in the room.
-    new-says : inSet g q b d ≡ true → (inSet g room b d ≡ true) × Beside g q a d
+    -- What the step brings is near a cell of the set that it comes from, and in the free table.
+    new-says : inSet g q b d ≡ true → (inSet g table b d ≡ true) × Beside g q a d
     unfolding has
     new-says e = (
-      set-holds g room b d inside (and-snd come (digit (getD room (wordOf b (d / g .width)) 0) (d % g .width)) both),
+      set-holds g table b d inside (and-snd come (digit (getD table (wordOf b (d / g .width)) 0) (d % g .width)) both),
       came (rw whole at from),
     )
       where
-        both : (come && digit (getD room (wordOf b (d / g .width)) 0) (d % g .width)) ≡ true
+        both : (come && digit (getD table (wordOf b (d / g .width)) 0) (d % g .width)) ≡ true
         both = sym new-digit ∙ set-has g q b d e
 
         from : (c : ℕ) × (inSet g s a c ≡ true) × (near (g .width) c (d / g .width * g .width + d % g .width) ≡ true)
         from =
             brought-says g s a (d / g .width) (d % g .width) old (grid .thin) row column
-            (and-fst come (digit (getD room (wordOf b (d / g .width)) 0) (d % g .width)) both)
+            (and-fst come (digit (getD table (wordOf b (d / g .width)) 0) (d % g .width)) both)
 
         came : (c : ℕ) × (inSet g s a c ≡ true) × (near (g .width) c d ≡ true) → Beside g q a d
         came (c, i, e) = (c, same c ∙ i, e)
 
-    new-holds : inSet g room b d ≡ true → Beside g q a d → inSet g q b d ≡ true
+    new-holds : inSet g table b d ≡ true → Beside g q a d → inSet g q b d ≡ true
     unfolding has
     new-holds i (c, e, h) =
         set-holds g q b d inside
         (new-digit
         ∙ and-both
         (brought-holds g s a (d / g .width) (d % g .width) old (grid .thin) row column c (sym (same c) ∙ e)
-        (place-row (g .width) c (grid .thin) (omega (arith, grid .room, set-cell g q a c e)))
+        (place-row (g .width) c (grid .thin) (omega (arith, grid .low, set-cell g q a c e)))
         (rw whole h))
-        (set-has g room b d i))
+        (set-has g table b d i))
 
   -- The set of beat b follows that of beat a.
-  pub step-spreads : Spread g room q a b
-  step-spreads = record { says = λ d e. new-says d (set-cell g q b d e) e; holds = λ d i. new-holds d (set-cell g room b d i) i }
+  pub step-spreads : Spread g table q a b
+  step-spreads = record { says = λ d e. new-says d (set-cell g q b d e) e; holds = λ d i. new-holds d (set-cell g table b d i) i }

@@ -92,7 +92,7 @@ joined-four at i a b c d s p q r z fits e f g h =
     more : (m : List ℕ) (w : ℕ → ℕ) → Rewritten m w at i s → a ≡ four w i → b ≡ four w (i + 4) → c ≡ four w (i + 8) → d ≡ four w (i + 12) →
         Rewritten m w at (i + 16) z
     more m w old k l n o =
-        let room : at + i + 16 ≤ length m = omega (arith, old .long) in
+        let table : at + i + 16 ≤ length m = omega (arith, old .long) in
         let one = rewritten-stripe m s p a w at i (omega arith) old k e in
         let two = rewritten-stripe m p q b w at (i + 4) (omega arith) one l f in
         let three = rewritten-stripe m q r c w at (i + 8) (omega arith) (rw (sum 4) at two) n g in

@@ -52,9 +52,9 @@ beats-apart true t n k i w l h e = omega arith
 beats-apart false t n k i w l h e = omega arith
 
 -- A step between two beats is one in every table with the same sets then.
-pub spread-same : (g : SearchGrid) (room s q : List ℕ) (a b : ℕ) → ((c : ℕ) → inSet g q a c ≡ inSet g s a c) →
-    ((c : ℕ) → inSet g q b c ≡ inSet g s b c) → Spread g room s a b → Spread g room q a b
-spread-same g room s q a b from to x =
+pub spread-same : (g : SearchGrid) (table s q : List ℕ) (a b : ℕ) → ((c : ℕ) → inSet g q a c ≡ inSet g s a c) →
+    ((c : ℕ) → inSet g q b c ≡ inSet g s b c) → Spread g table s a b → Spread g table q a b
+spread-same g table s q a b from to x =
     record {
       says = λ d e. let y = x .says d (sym (to d) ∙ e) in (y .0, to-new d (y .1));
       holds = λ d i y. to d ∙ x .holds d i (to-old d y);
@@ -66,17 +66,17 @@ spread-same g room s q a b from to x =
     to-old : (d : ℕ) → Beside g q a d → Beside g s a d
     to-old d (c, e, u) = (c, sym (from c) ∙ e, u)
 
-pub swept-none : (g : SearchGrid) (room s : List ℕ) (t : ℕ) (back : Bool) → Tidy g s → Swept g room s t back 0 s
-swept-none g room s t back tidy = record { tidy = tidy; spreads = λ i l. absurd (omega arith); kept = λ u c h. refl }
+pub swept-none : (g : SearchGrid) (table s : List ℕ) (t : ℕ) (back : Bool) → Tidy g s → Swept g table s t back 0 s
+swept-none g table s t back tidy = record { tidy = tidy; spreads = λ i l. absurd (omega arith); kept = λ u c h. refl }
 
 -- One step more.
-swept-more : (g : SearchGrid) (room s q z : List ℕ) (t : ℕ) (back : Bool) (n i : ℕ) → Within back t n → i < n → Swept g room s t back i q →
-    ChangedAt g q (beatAfter back t (i + 1)) z → Spread g room z (beatAfter back t i) (beatAfter back t (i + 1)) →
-    Swept g room s t back (i + 1) z
-swept-more g room s q z t back n i within few old only new =
+swept-more : (g : SearchGrid) (table s q z : List ℕ) (t : ℕ) (back : Bool) (n i : ℕ) → Within back t n → i < n → Swept g table s t back i q →
+    ChangedAt g q (beatAfter back t (i + 1)) z → Spread g table z (beatAfter back t i) (beatAfter back t (i + 1)) →
+    Swept g table s t back (i + 1) z
+swept-more g table s q z t back n i within few old only new =
     record {
       tidy = only .tidy;
-      spreads = λ j l. ⊎-elim (λ (e : j ≡ i). rw e new) (λ (e : j < i). spread-same g room q z (beatAfter back t j) (beatAfter back t (j + 1))
+      spreads = λ j l. ⊎-elim (λ (e : j ≡ i). rw e new) (λ (e : j < i). spread-same g table q z (beatAfter back t j) (beatAfter back t (j + 1))
           (same j (omega arith)) (same (j + 1) (omega arith)) (old .spreads j e)) (eq-or-lt-of-le (omega arith));
       kept = λ u c h. only .other u c (h i (omega arith)) ∙ old .kept u c (λ j l. h j (omega arith));
     }
@@ -106,11 +106,11 @@ carries-same x w v same h =
     part i l = four-same w v i (same i (omega arith)) (same (i + 1) (omega arith)) (same (i + 2) (omega arith)) (same (i + 3) l)
 
 -- The turn of the loop: the stripes are the set of beat t, and are written, one step on, as that of the next beat.
-pub swept-step : (g : SearchGrid) (room s q z : List ℕ) (from t u n i : ℕ) (back : Bool) → Grid g → Tidy g room → Within back from n → i < n →
-    t ≡ beatAfter back from i → u ≡ beatAfter back t 1 → Swept g room s from back i q →
-    Rewritten q (stepWord (λ j. getD q (t * 32 + j) 0) (λ j. getD room (u * 32 + j) 0)) (u * 32) 32 z → Swept g room s from back (i + 1) z
-swept-step g room s q z from t u n i back grid ground within few e f old x =
-    swept-more g room s q z from back n i within few old (rw next at changed) (rw (e, next) at spreads)
+pub swept-step : (g : SearchGrid) (table s q z : List ℕ) (from t u n i : ℕ) (back : Bool) → Grid g → Tidy g table → Within back from n → i < n →
+    t ≡ beatAfter back from i → u ≡ beatAfter back t 1 → Swept g table s from back i q →
+    Rewritten q (stepWord (λ j. getD q (t * 32 + j) 0) (λ j. getD table (u * 32 + j) 0)) (u * 32) 32 z → Swept g table s from back (i + 1) z
+swept-step g table s q z from t u n i back grid ground within few e f old x =
+    swept-more g table s q z from back n i within few old (rw next at changed) (rw (e, next) at spreads)
   where
     next : u ≡ beatAfter back from (i + 1)
     next = f ∙ rw e (beat-next back from i)
@@ -122,7 +122,7 @@ swept-step g room s q z from t u n i back grid ground within few e f old x =
     apart p = beats-apart back from n i i within (omega arith) few (sym e ∙ p ∙ next)
 
     changed : ChangedAt g q u z
-    changed = step-changed g room q z t u grid (old .tidy) ground low apart x
+    changed = step-changed g table q z t u grid (old .tidy) ground low apart x
 
-    spreads : Spread g room z t u
-    spreads = step-spreads g room q z t u grid (old .tidy) ground low apart x
+    spreads : Spread g table z t u
+    spreads = step-spreads g table q z t u grid (old .tidy) ground low apart x

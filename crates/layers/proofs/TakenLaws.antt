@@ -19,7 +19,7 @@ use Rattle.layers.specs.declared.Place.{Place}
 use Rattle.records.specs.Records.{viewCell, Away}
 use Rattle.layers.specs.Table.{PlaceOf, inSet, Tidy, wordOf}
 use Rattle.layers.proofs.WordLaws.{word-low, word-beat, word-same}
-use Rattle.layers.specs.Room.{droppedCell, TakenCell, TakenBeats, BeatMore}
+use Rattle.layers.specs.FreeTable.{droppedCell, TakenCell, TakenBeats, BeatMore}
 
 -- What the code makes of a table without a cell.
 pub dropped-made : (g : SearchGrid) (s q : List ℕ) (t c i : ℕ) (p : Place) → c < g .cells → PlaceOf g c p → i ≡ wordOf t (p .row) →
@@ -34,7 +34,7 @@ unfolding droppedCell
 dropped-same g s t c l =
     sym (ap (λ (b : Bool). elim b [ true ↦ dropped s (wordOf t (c / g .width)) (c % g .width) | false ↦ s ]) (le-ltb c (g .cells) l))
 
-module _ (g : SearchGrid) (s : List ℕ) (a x : ℕ) (thin : 1 ≤ g .width) (room : g .cells ≤ 32 * g .width) (tidy : Tidy g s) (here : a < 64) where
+module _ (g : SearchGrid) (s : List ℕ) (a x : ℕ) (thin : 1 ≤ g .width) (table : g .cells ≤ 32 * g .width) (tidy : Tidy g s) (here : a < 64) where
   -- The table without cell x at beat a.
   less : List ℕ
   less = droppedCell g a x s
@@ -171,8 +171,8 @@ record Without (g : SearchGrid) (a x : ℕ) (s q : List ℕ) : Type 0 where
 dropped-without : (g : SearchGrid) (s q : List ℕ) (a x : ℕ) → 1 ≤ g .width → g .cells ≤ 32 * g .width → Tidy g s → a < 64 →
     q ≡ droppedCell g a x s → Without g a x s q
 unfolding less
-dropped-without g s q a x thin room tidy here e =
-    rw e (record { tidy = less-tidy g s a x thin room tidy here; member = less-member g s a x thin room tidy here })
+dropped-without g s q a x thin table tidy here e =
+    rw e (record { tidy = less-tidy g s a x thin table tidy here; member = less-member g s a x thin table tidy here })
 
 -- A cell taken out at three beats, a and those beside it.
 without-thrice : (g : SearchGrid) (s q r z : List ℕ) (a b d x : ℕ) → a ≤ g .horizon → b ≡ a - 1 → d ≡ min (a + 1) (g .horizon) →
@@ -199,10 +199,10 @@ without-thrice g s q r z a b d x l before after one two three =
 pub cell-taken : (g : SearchGrid) (s q r z : List ℕ) (a b d x : ℕ) → 1 ≤ g .width → g .cells ≤ 32 * g .width → a ≤ g .horizon → g .horizon ≤ 63 →
     Tidy g s → b ≡ a - 1 → d ≡ min (a + 1) (g .horizon) → q ≡ droppedCell g b x s →
     r ≡ droppedCell g a x q → z ≡ droppedCell g d x r → TakenCell g a x s z
-cell-taken g s q r z a b d x thin room l short tidy before after e f h =
-    let one = dropped-without g s q b x thin room tidy (omega arith) e in
-    let two = dropped-without g q r a x thin room (one .tidy) (omega arith) f in
-    let three = dropped-without g r z d x thin room (two .tidy) (omega arith) h in
+cell-taken g s q r z a b d x thin table l short tidy before after e f h =
+    let one = dropped-without g s q b x thin table tidy (omega arith) e in
+    let two = dropped-without g q r a x thin table (one .tidy) (omega arith) f in
+    let three = dropped-without g r z d x thin table (two .tidy) (omega arith) h in
     without-thrice g s q r z a b d x l before after one two three
 
 -- No beat of a view taken out.
@@ -239,11 +239,11 @@ pub stays-more : (g : SearchGrid) (m q r : List ℕ) (j n d x : ℕ) → 1 ≤ g
     g .horizon ≤ 63 → Tidy g q → d ≡ min (n + 1) (g .horizon) → x ≡ viewCell m j n →
     (ltb 0 n && eqb (viewCell m j (n - 1)) (viewCell m j n)) ≡ true → r ≡ droppedCell g d x q →
     BeatMore g m j n q r
-stays-more g m q r j n d x thin room l short tidy after e held h =
+stays-more g m q r j n d x thin table l short tidy after e held h =
     record { tidy = new .tidy; more = λ s old. record { tidy = new .tidy; taken = λ t c u. (says s old t c u, back s old t c u) } }
   where
     new : Without g d x q r
-    new = dropped-without g q r d x thin room tidy (omega arith) h
+    new = dropped-without g q r d x thin table tidy (omega arith) h
 
     some : 0 < n
     some = ltb-true 0 n (and-fst (ltb 0 n) (eqb (viewCell m j (n - 1)) (viewCell m j n)) held)

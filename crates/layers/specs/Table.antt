@@ -20,7 +20,7 @@ searchGridOf f =
 pub record Grid (g : SearchGrid) : Type 0 where
   pub thin : 1 ≤ g .width
   pub narrow : g .width ≤ 32
-  pub room : g .cells ≤ 32 * g .width
+  pub low : g .cells ≤ 32 * g .width
   pub scaled : g .scale ≡ 65536 / g .width + 1
 
 -- The row and the column of cell c.

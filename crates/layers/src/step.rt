@@ -1,4 +1,4 @@
-// Steps of a whole set, beat after beat: each set has those cells of the room then that are near a cell of the set before it.
+// Steps of a whole set, beat after beat: each set has those cells of the free table then that are near a cell of the set before it.
 ghost use mathlib.Core.Path.{_≡_};
 ghost use mathlib.Core.Bool.{true};
 ghost use Prim.Native.Nat.{_+_, _<_};
@@ -21,18 +21,18 @@ fn next_beat(t: usize, back: bool) -> usize
 }
 
 // n steps from the set of a beat on, to later beats or back to earlier ones.
-pub fn propagate(sets: &mut [u32], room: &[u32], from: usize, n: usize, back: bool)
-    requires { ⌜ (length (now sets) ≡ 2049) × (length (now room) ≡ 2049) × (getD (now room) 2048 0 ≡ 0) × Within back from n ⌝ }
-    ensures { λ r. ⌜ ((g : SearchGrid) → Grid g → Tidy g (now (sets .entry)) → Tidy g (now (room .entry)) →
-        Swept g (now (room .entry)) (now (sets .entry)) from back n (now (sets .exit))) ⌝ }
+pub fn propagate(sets: &mut [u32], table: &[u32], from: usize, n: usize, back: bool)
+    requires { ⌜ (length (now sets) ≡ 2049) × (length (now table) ≡ 2049) × (getD (now table) 2048 0 ≡ 0) × Within back from n ⌝ }
+    ensures { λ r. ⌜ ((g : SearchGrid) → Grid g → Tidy g (now (sets .entry)) → Tidy g (now (table .entry)) →
+        Swept g (now (table .entry)) (now (sets .entry)) from back n (now (sets .exit))) ⌝ }
 {
-    let none = room[WORDS - 1];
+    let none = table[WORDS - 1];
     let mut x = load(sets, from * ROWS);
     let mut t = from;
     let mut i: usize = 0;
     while i < n {
         t = next_beat(t, back);
-        x = advance(x, load(room, t * ROWS), none);
+        x = advance(x, load(table, t * ROWS), none);
         save(sets, t * ROWS, x);
         i += 1;
     }

@@ -93,7 +93,7 @@ module _ (g : SearchGrid) (s : List ℕ) (t c : ℕ) (p : Place) (grid : Grid g)
             l,
             row,
             place-row w (c + w) (grid .thin)
-                (omega (arith, grid .room, set-cell g s t (c + w) i)),
+                (omega (arith, grid .low, set-cell g s t (c + w) i)),
           ))))
 
 -- A test that fails is passed over, and one that holds gives its cell.

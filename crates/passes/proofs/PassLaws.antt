@@ -12,32 +12,32 @@ use Rattle.layers.specs.declared.SearchGrid.{SearchGrid}
 use Rattle.layers.specs.Table.{inSet, Tidy}
 use Rattle.layers.specs.Step.{ChangedAt, Alone, Spread, beatAfter, Swept}
 use Rattle.layers.proofs.SweptLaws.{spread-same}
-use Rattle.passes.specs.Passes.{Reached, Extended, Leading, Earliest}
+use Rattle.passes.specs.Passes.{ForwardReachable, Extended, BackwardReachable, Earliest}
 use Rattle.passes.specs.declared.docks.Docks.{Docks}
 use Rattle.passes.specs.Docks.{anyOf, arrivableAt, arrivable, EndsAt}
 
 -- The sets that the steps from beat n on make, or none.
-pub extended-swept : (g : SearchGrid) (room s q : List ℕ) (n k : ℕ) → Swept g room s n false k q → Extended g room n s (n + k) q
+pub extended-swept : (g : SearchGrid) (table s q : List ℕ) (n k : ℕ) → Swept g table s n false k q → Extended g table n s (n + k) q
 unfolding beatAfter
-extended-swept g room s q n k x =
+extended-swept g table s q n k x =
     record { tidy = x .tidy; spreads = spreads; kept = λ t c h. x .kept t c (λ i l e. omega arith) }
   where
-    spreads : (t : ℕ) → n ≤ t → t < n + k → Spread g room q t (t + 1)
+    spreads : (t : ℕ) → n ≤ t → t < n + k → Spread g table q t (t + 1)
     spreads t h l =
         let e : n + (t - n) ≡ t = omega arith in
         let f : n + (t - n + 1) ≡ t + 1 = omega arith in
         rw (e, f) at (x .spreads (t - n) (omega arith))
 
-pub extended-none : (g : SearchGrid) (room s : List ℕ) (n : ℕ) → Tidy g s → Extended g room n s n s
-extended-none g room s n tidy = record { tidy = tidy; spreads = λ t h l. absurd (omega arith); kept = λ t c h. refl }
+pub extended-none : (g : SearchGrid) (table s : List ℕ) (n : ℕ) → Tidy g s → Extended g table n s n s
+extended-none g table s n tidy = record { tidy = tidy; spreads = λ t h l. absurd (omega arith); kept = λ t c h. refl }
 
 -- The forward pass: the start alone, then more sets.
-pub reached-none : (g : SearchGrid) (room s q : List ℕ) (start : ℕ) → ChangedAt g s 0 q → Alone g q 0 start → Reached g room start 0 q
-reached-none g room s q start only alone = record { tidy = only .tidy; begins = alone; spreads = λ t h. absurd (omega arith) }
+pub reached-none : (g : SearchGrid) (table s q : List ℕ) (start : ℕ) → ChangedAt g s 0 q → Alone g q 0 start → ForwardReachable g table start 0 q
+reached-none g table s q start only alone = record { tidy = only .tidy; begins = alone; spreads = λ t h. absurd (omega arith) }
 
-pub reached-more : (g : SearchGrid) (room s q : List ℕ) (start n m : ℕ) → Reached g room start n s → Extended g room n s m q →
-    Reached g room start m q
-reached-more g room s q start n m x new =
+pub reached-more : (g : SearchGrid) (table s q : List ℕ) (start n m : ℕ) → ForwardReachable g table start n s → Extended g table n s m q →
+    ForwardReachable g table start m q
+reached-more g table s q start n m x new =
     record {
       tidy = new .tidy;
       begins = record {
@@ -45,22 +45,22 @@ reached-more g room s q start n m x new =
         holds = new .kept 0 start (omega arith) ∙ x .begins .holds;
       };
       spreads = λ t h. ⊎-elim
-          (λ (l : t < n). spread-same g room s q t (t + 1) (λ c. new .kept t c (omega arith)) (λ c. new .kept (t + 1) c (omega arith))
+          (λ (l : t < n). spread-same g table s q t (t + 1) (λ c. new .kept t c (omega arith)) (λ c. new .kept (t + 1) c (omega arith))
           (x .spreads t l)) (λ (l : n ≤ t). new .spreads t l h) (lt-or-le t n);
     }
 
 -- Fewer beats are reached as well.
-pub reached-fewer : (g : SearchGrid) (room s : List ℕ) (start n m : ℕ) → m ≤ n → Reached g room start n s → Reached g room start m s
-reached-fewer g room s start n m h x = record { tidy = x .tidy; begins = x .begins; spreads = λ t l. x .spreads t (omega arith) }
+pub reached-fewer : (g : SearchGrid) (table s : List ℕ) (start n m : ℕ) → m ≤ n → ForwardReachable g table start n s → ForwardReachable g table start m s
+reached-fewer g table s start n m h x = record { tidy = x .tidy; begins = x .begins; spreads = λ t l. x .spreads t (omega arith) }
 
 -- The backward pass: steps from the docks at beat a down to beat 0.
-pub leading-swept : (g : SearchGrid) (room s q : List ℕ) (ds : Docks) (a : ℕ) → EndsAt g s ds a (ds .count) → Swept g room s a true a q →
-    Leading g room ds a 0 q
+pub leading-swept : (g : SearchGrid) (table s q : List ℕ) (ds : Docks) (a : ℕ) → EndsAt g s ds a (ds .count) → Swept g table s a true a q →
+    BackwardReachable g table ds a 0 q
 unfolding beatAfter
-leading-swept g room s q ds a ends x =
+leading-swept g table s q ds a ends x =
     record { tidy = x .tidy; ends = λ c. x .kept a c (λ i l e. omega arith) ∙ ends c; spreads = spreads }
   where
-    spreads : (t : ℕ) → 0 ≤ t → t < a → Spread g room q (t + 1) t
+    spreads : (t : ℕ) → 0 ≤ t → t < a → Spread g table q (t + 1) t
     spreads t h l =
         let e : a - (a - (t + 1)) ≡ t + 1 = omega arith in
         let f : a - (a - (t + 1) + 1) ≡ t = omega arith in
@@ -83,8 +83,8 @@ module _ (g : SearchGrid) (s : List ℕ) (ds : Docks) (n : ℕ) (none : NoneBefo
   none-here e b h i =
       ⊎-elim (λ (u : b ≡ n). true-false-absurd (rw u at i) e) (λ (u : b < n). none b u i) (eq-or-lt-of-le (omega arith))
 
-  pub none-more : (room q : List ℕ) (k m : ℕ) → n ≤ k → Extended g room k s m q → arrivable g s ds n ≡ false → NoneBefore g q ds (n + 1)
-  none-more room q k m l new e b h i = none-here e b h (sym (arrivable-kept g s q ds b (λ c. new .kept b c (omega arith))) ∙ i)
+  pub none-more : (table q : List ℕ) (k m : ℕ) → n ≤ k → Extended g table k s m q → arrivable g s ds n ≡ false → NoneBefore g q ds (n + 1)
+  none-more table q k m l new e b h i = none-here e b h (sym (arrivable-kept g s q ds b (λ c. new .kept b c (omega arith))) ∙ i)
 
   -- What the pass finds at beat n: nothing, at the last one, or the least arrival.
   pub found-nothing : (m : ℕ) → n ≡ m → arrivable g s ds n ≡ false → Earliest (arrivable g s ds) (m + 1) (n + 1)

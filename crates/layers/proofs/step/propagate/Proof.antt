@@ -14,12 +14,12 @@ use Rattle.layers.proofs.step.propagate.Statement.{statement}
 use Rattle.layers.proofs.step.propagate.Tie as tie
 
 abbrev Inv-loop : tie.InvT-loop
-Inv-loop sets₀ room from n back none x₀ t₀ i₀ sets x t i =
+Inv-loop sets₀ table from n back none x₀ t₀ i₀ sets x t i =
     (i ≤ n) × (t ≡ beatAfter back from i) × (length sets ≡ 2049) × Carries x (λ j. getD sets (t * 32 + j) 0) ×
-    ((g : SearchGrid) → Grid g → Tidy g sets₀ → Tidy g room → Swept g room sets₀ from back i sets)
+    ((g : SearchGrid) → Grid g → Tidy g sets₀ → Tidy g table → Swept g table sets₀ from back i sets)
 
 abbrev μ-loop : tie.MeasureT-loop
-μ-loop sets₀ room from n back none x₀ t₀ i₀ sets x t i = n - i
+μ-loop sets₀ table from n back none x₀ t₀ i₀ sets x t i = n - i
 
 loop-holds : tie.Need-loop-holds Inv-loop μ-loop
 loop-holds c =

@@ -3,7 +3,7 @@
 use Prim.Native.Nat.{_-_, _≤_}
 use mathlib.Core.Path.{sym, _∙_}
 use borrow.Author.Tests.{not-true, not-false}
-use Rattle.passes.specs.Passes.{Reached}
+use Rattle.passes.specs.Passes.{ForwardReachable}
 use Rattle.passes.proofs.PassLaws.{reached-none, reached-more, reached-fewer}
 use Rattle.passes.proofs.PassLaws.{NoneBefore, none-more, found-nothing, found-least}
 use borrow.Author.Needs.{needs}
@@ -12,11 +12,11 @@ use Rattle.passes.proofs.forward.forward.Statement.{statement}
 use Rattle.passes.proofs.forward.forward.Tie as tie
 
 abbrev Inv-loop : tie.InvT-loop
-Inv-loop g sets₀ room start ds made₀ t₀ sets made t =
-    (t ≤ made) × (made ≤ g .horizon) × Reached g room start made sets × NoneBefore g sets ds t
+Inv-loop g sets₀ table start ds made₀ t₀ sets made t =
+    (t ≤ made) × (made ≤ g .horizon) × ForwardReachable g table start made sets × NoneBefore g sets ds t
 
 abbrev μ-loop : tie.MeasureT-loop
-μ-loop g sets₀ room start ds made₀ t₀ sets made t = g .horizon - t
+μ-loop g sets₀ table start ds made₀ t₀ sets made t = g .horizon - t
 
 put-alone-requires : tie.Need-put-alone-requires Inv-loop μ-loop
 put-alone-requires c κs =

@@ -1,4 +1,4 @@
--- `layers::room::fill_free` meets its contract. The loop's invariant: the free rows stand at the beats passed. The measure is what is
+-- `layers::free_table::fill_free` meets its contract. The loop's invariant: the free rows stand at the beats passed. The measure is what is
 -- left of the beats. Assumes nothing.
 use Prim.Native.Nat.{ℕ, _-_, _≤_}
 use native.Mathlib.Omega.{arith}
@@ -6,15 +6,15 @@ use mathlib.Core.Path.{_≡_, sym, ap, _∙_}
 use borrow.Author.Needs.{needs}
 use lib.ListN.{length, length-replicate}
 use Rattle.layers.proofs.FreeLaws.{free-none, free-more}
-use Rattle.layers.specs.Room.{FreeBeats}
-use Rattle.layers.proofs.room.fill_free.Statement.{statement}
-use Rattle.layers.proofs.room.fill_free.Tie as tie
+use Rattle.layers.specs.FreeTable.{FreeBeats}
+use Rattle.layers.proofs.free_table.fill_free.Statement.{statement}
+use Rattle.layers.proofs.free_table.fill_free.Tie as tie
 
 abbrev Inv-loop : tie.InvT-loop
-Inv-loop room₀ free n words t₀ room t = (t ≤ n) × FreeBeats free t room
+Inv-loop table₀ free n words t₀ table t = (t ≤ n) × FreeBeats free t table
 
 abbrev μ-loop : tie.MeasureT-loop
-μ-loop room₀ free n words t₀ room t = n - t
+μ-loop table₀ free n words t₀ table t = n - t
 
 loop-holds : tie.Need-loop-holds Inv-loop μ-loop
 loop-holds c =

@@ -1,4 +1,4 @@
--- The room of a search: a table of the cells that can be stood on at each beat, and how the code makes one. A view's cell is taken out at
+-- The free table of a search: a table of the cells that can be stood on at each beat, and how the code makes one. A view's cell is taken out at
 -- its beat and at the beats beside it, within 0 to the horizon.
 use Prim.Native.Nat.{ℕ, suc, _+_, _*_, _/_, _%_, _≤_, _<_}
 use mathlib.Core.Bool.{Bool, true, false, _&&_}
@@ -18,11 +18,11 @@ unfoldable pub standsAt : SearchGrid → ℕ → List ℕ → List ℕ → ℕ �
 standsAt g k free m t c = ltb c (g .cells) && has free (c / g .width) (c % g .width) && every (vacant (g .horizon) t c) (records m k)
 
 -- The table has at each beat the cells that can be stood on.
-pub record IsFreeTable (g : SearchGrid) (k : ℕ) (free m room : List ℕ) : Type 0 where
-  pub tidy : Tidy g room
-  pub agrees : (t c : ℕ) → t ≤ g .horizon → inSet g room t c ≡ standsAt g k free m t c
+pub record IsFreeTable (g : SearchGrid) (k : ℕ) (free m table : List ℕ) : Type 0 where
+  pub tidy : Tidy g table
+  pub agrees : (t c : ℕ) → t ≤ g .horizon → inSet g table t c ≡ standsAt g k free m t c
 
--- Whatever was free, q is the room that one view more leaves of the room s of the first j views.
+-- Whatever was free, q is the free table that one view more leaves of the free table s of the first j views.
 abbrev pub OneMore : SearchGrid → ℕ → List ℕ → List ℕ → List ℕ → Type 0
 OneMore g j m s q = (free : List ℕ) → IsFreeTable g j free m s → IsFreeTable g (j + 1) free m q
 
@@ -47,7 +47,7 @@ pub record TakenBeats (g : SearchGrid) (m : List ℕ) (j n : ℕ) (s q : List �
   pub tidy : Tidy g q
   pub taken : (t c : ℕ) → t ≤ g .horizon → (inSet g q t c ≡ true) ↔ ((inSet g s t c ≡ true) × Away m j n t c)
 
--- Whatever the room was, q is s with one beat more of view j taken out, where the first n are out of s.
+-- Whatever the free table was, q is s with one beat more of view j taken out, where the first n are out of s.
 pub record BeatMore (g : SearchGrid) (m : List ℕ) (j n : ℕ) (s q : List ℕ) : Type 0 where
   pub tidy : Tidy g q
-  pub more : (room : List ℕ) → TakenBeats g m j n room s → TakenBeats g m j (n + 1) room q
+  pub more : (table : List ℕ) → TakenBeats g m j n table s → TakenBeats g m j (n + 1) table q

@@ -1,4 +1,4 @@
--- `layers::room::striped` meets its contract. The loop's invariant: the words passed are made. The measure is what is left of them.
+-- `layers::free_table::striped` meets its contract. The loop's invariant: the words passed are made. The measure is what is left of them.
 -- Assumes nothing.
 use Prim.Native.Nat.{ℕ, _-_, _≤_}
 use native.Mathlib.Omega.{arith}
@@ -8,8 +8,8 @@ use lib.ListN.{length, getD, replicate, length-set, length-replicate}
 use Rattle.bitrows.specs.Rows.{filled}
 use Rattle.bitrows.proofs.FillLaws.{filled-none, filled-more}
 use Rattle.layers.specs.Table.{rowOf}
-use Rattle.layers.proofs.room.striped.Statement.{statement}
-use Rattle.layers.proofs.room.striped.Tie as tie
+use Rattle.layers.proofs.free_table.striped.Statement.{statement}
+use Rattle.layers.proofs.free_table.striped.Tie as tie
 
 abbrev Inv-loop : tie.InvT-loop
 Inv-loop rows x₀ j₀ x j = (j ≤ 32) × (length x ≡ 32) × (x ≡ filled (replicate 32 0) (λ i. getD rows (rowOf i) 0) j)

@@ -1,4 +1,4 @@
--- The room of a search: the free cells at each beat without those of the views.
+-- The free table of a search: the free cells at each beat without those of the views.
 use Prim.Native.Nat.{ℕ, zero, suc, _+_, _*_, _/_, _%_, _≤_, _<_}
 use native.Mathlib.Omega.{arith}
 use native.Mathlib.Numerals.{add-one}
@@ -19,24 +19,24 @@ use Rattle.bitrows.proofs.RowsLaws.{place-row}
 use Rattle.layers.specs.declared.SearchGrid.{SearchGrid}
 use Rattle.records.specs.Records.{records, viewAt, viewCell, Away}
 use Rattle.layers.specs.Table.{inSet, wordOf}
-use Rattle.layers.specs.Room.{FreeBeats, TakenBeats, standsAt, IsFreeTable}
+use Rattle.layers.specs.FreeTable.{FreeBeats, TakenBeats, standsAt, IsFreeTable}
 use Rattle.records.proofs.CellLaws.{vacant-cell}
 
 -- What can be stood on among no views is what is free.
 free-stands : (g : SearchGrid) (free m s : List ℕ) (t c : ℕ) → 1 ≤ g .width → g .cells ≤ 32 * g .width →
     ((r : ℕ) → r < 32 → getD s (wordOf t r) 0 ≡ getD free r 0) → inSet g s t c ≡ standsAt g 0 free m t c
 unfolding inSet standsAt records every has
-free-stands g free m s t c thin room same =
+free-stands g free m s t c thin table same =
     below-same c (g .cells) (has s (wordOf t (c / g .width)) (c % g .width)) (has free (c / g .width) (c % g .width))
     (λ l. rw (same (c / g .width) (place-row (g .width) c thin (omega arith))))
     ∙ sym (and-true (ltb c (g .cells) && has free (c / g .width) (c % g .width)))
 
--- The free cells at every beat are the room of no views.
-pub free-roomy : (g : SearchGrid) (free m s : List ℕ) (n : ℕ) → 1 ≤ g .width → g .cells ≤ 32 * g .width → g .horizon < n → n ≤ 64 →
+-- The free cells at every beat are the free table of no views.
+pub free-table-none : (g : SearchGrid) (free m s : List ℕ) (n : ℕ) → 1 ≤ g .width → g .cells ≤ 32 * g .width → g .horizon < n → n ≤ 64 →
     FreeBeats free n s → Clean (g .width) (g .cells) free → IsFreeTable g 0 free m s
-free-roomy g free m s n thin room late few beats clean = record {
+free-table-none g free m s n thin table late few beats clean = record {
   tidy = free-tidy free s n g beats few clean;
-  agrees = λ t c h. free-stands g free m s t c thin room (λ r l. free-shown free s n t r beats (omega arith) l);
+  agrees = λ t c h. free-stands g free m s t c thin table (λ r l. free-shown free s n t r beats (omega arith) l);
 }
 
 -- What can be stood on among one more view.
@@ -58,10 +58,10 @@ set-cell : (g : SearchGrid) (s : List ℕ) (t c : ℕ) → inSet g s t c ≡ tru
 unfolding inSet
 set-cell g s t c e = ltb-true c (g .cells) (and-fst (ltb c (g .cells)) _ e)
 
--- The room of one more view.
-pub roomy-more : (g : SearchGrid) (free m s q : List ℕ) (j : ℕ) → g .width ≤ 32 → g .cells ≤ 32 * g .width → g .horizon ≤ 63 →
+-- The free table of one more view.
+pub free-table-more : (g : SearchGrid) (free m s q : List ℕ) (j : ℕ) → g .width ≤ 32 → g .cells ≤ 32 * g .width → g .horizon ≤ 63 →
     TakenBeats g m j (g .horizon + 1) s q → IsFreeTable g j free m s → IsFreeTable g (j + 1) free m q
-roomy-more g free m s q j narrow room short gone old = record { tidy = gone .tidy; agrees = agrees }
+free-table-more g free m s q j narrow table short gone old = record { tidy = gone .tidy; agrees = agrees }
   where
     agrees : (t c : ℕ) → t ≤ g .horizon → inSet g q t c ≡ standsAt g (j + 1) free m t c
     agrees t c h = rw (add-one, stands-more g free m j t c, ← old .agrees t c h) (same-test _ _ says back)
@@ -110,14 +110,14 @@ vacant-same m q (suc k) H t c same short h l =
 stands-same : (g : SearchGrid) (free m q : List ℕ) (k t c : ℕ) → g .width ≤ 32 → g .cells ≤ 32 * g .width →
     ((i : ℕ) → i < 65 * k → getD m i 0 ≡ getD q i 0) → g .horizon ≤ 63 → t ≤ g .horizon → standsAt g k free m t c ≡ standsAt g k free q t c
 unfolding standsAt
-stands-same g free m q k t c narrow room same short h =
+stands-same g free m q k t c narrow table same short h =
     inside-same c (g .cells) (has free (c / g .width) (c % g .width)) _ _
     (λ l. vacant-same m q k (g .horizon) t c same short h (omega arith))
 
--- The room among the first k views is the same in any memory with the same records of them.
-pub roomy-same : (g : SearchGrid) (free m q s : List ℕ) (k : ℕ) → g .width ≤ 32 → g .cells ≤ 32 * g .width → g .horizon ≤ 63 →
+-- The free table among the first k views is the same in any memory with the same records of them.
+pub free-table-same : (g : SearchGrid) (free m q s : List ℕ) (k : ℕ) → g .width ≤ 32 → g .cells ≤ 32 * g .width → g .horizon ≤ 63 →
     ((i : ℕ) → i < 65 * k → getD m i 0 ≡ getD q i 0) → IsFreeTable g k free m s → IsFreeTable g k free q s
-roomy-same g free m q s k narrow room short same old = record {
+free-table-same g free m q s k narrow table short same old = record {
   tidy = old .tidy;
-  agrees = λ t c h. old .agrees t c h ∙ stands-same g free m q k t c narrow room same short h;
+  agrees = λ t c h. old .agrees t c h ∙ stands-same g free m q k t c narrow table same short h;
 }

@@ -1,19 +1,19 @@
--- `layers::room::take_view` meets its contract. The loop's invariant: the view's cells at the beats passed are taken out. The measure is
+-- `layers::free_table::take_view` meets its contract. The loop's invariant: the view's cells at the beats passed are taken out. The measure is
 -- what is left of the beats. Assumes nothing.
 use Prim.Native.Nat.{_-_, _≤_}
 use native.Mathlib.Omega.{arith}
 use mathlib.Core.Path.{_≡_, sym, _∙_}
 use borrow.Author.Needs.{needs}
 use Rattle.layers.proofs.TakenLaws.{taken-none}
-use Rattle.layers.specs.Room.{TakenBeats}
-use Rattle.layers.proofs.room.take_view.Statement.{statement}
-use Rattle.layers.proofs.room.take_view.Tie as tie
+use Rattle.layers.specs.FreeTable.{TakenBeats}
+use Rattle.layers.proofs.free_table.take_view.Statement.{statement}
+use Rattle.layers.proofs.free_table.take_view.Tie as tie
 
 abbrev Inv-loop : tie.InvT-loop
-Inv-loop g room₀ views j n t₀ room t = (t ≤ n) × TakenBeats g views j t room₀ room
+Inv-loop g table₀ views j n t₀ table t = (t ≤ n) × TakenBeats g views j t table₀ table
 
 abbrev μ-loop : tie.MeasureT-loop
-μ-loop g room₀ views j n t₀ room t = n - t
+μ-loop g table₀ views j n t₀ table t = n - t
 
 loop-holds : tie.Need-loop-holds Inv-loop μ-loop
 loop-holds c =

@@ -1,20 +1,20 @@
--- `layers::room::make` meets its contract. The loop's invariant: the room is that of the views passed. The measure is what is left of
+-- `layers::free_table::make` meets its contract. The loop's invariant: the free table is that of the views passed. The measure is what is left of
 -- the views. Assumes nothing.
 use Prim.Native.Nat.{ℕ, _-_, _≤_}
 use native.Mathlib.Omega.{arith}
 use mathlib.Core.Path.{_≡_, sym, ap, _∙_}
 use borrow.Author.Needs.{needs}
 use lib.ListN.{length, length-replicate}
-use Rattle.layers.specs.Room.{IsFreeTable}
-use Rattle.layers.proofs.RoomLaws.{free-roomy}
-use Rattle.layers.proofs.room.make.Statement.{statement}
-use Rattle.layers.proofs.room.make.Tie as tie
+use Rattle.layers.specs.FreeTable.{IsFreeTable}
+use Rattle.layers.proofs.FreeTableLaws.{free-table-none}
+use Rattle.layers.proofs.free_table.make.Statement.{statement}
+use Rattle.layers.proofs.free_table.make.Tie as tie
 
 abbrev Inv-loop : tie.InvT-loop
-Inv-loop g k room₀ free views j₀ room j = (j ≤ k) × IsFreeTable g j free views room
+Inv-loop g k table₀ free views j₀ table j = (j ≤ k) × IsFreeTable g j free views table
 
 abbrev μ-loop : tie.MeasureT-loop
-μ-loop g k room₀ free views j₀ room j = k - j
+μ-loop g k table₀ free views j₀ table j = k - j
 
 add-fill-free : tie.Need-add-fill-free Inv-loop μ-loop
 add-fill-free c =
@@ -30,7 +30,7 @@ loop-holds : tie.Need-loop-holds Inv-loop μ-loop
 loop-holds c =
     let start : tie.Start Inv-loop μ-loop = search in (
       search needs,
-      free-roomy _ _ _ _ _ (start .pre .0 .0 .grid .thin) (start .pre .0 .0 .grid .room) (omega arith) (omega (arith, start .pre .0 .0 .short))
+      free-table-none _ _ _ _ _ (start .pre .0 .0 .grid .thin) (start .pre .0 .0 .grid .low) (omega arith) (omega (arith, start .pre .0 .0 .short))
           (c .before .before .fill-free .ensures) (start .pre .0 .1),
     )
 

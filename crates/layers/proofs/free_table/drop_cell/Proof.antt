@@ -1,8 +1,8 @@
--- `layers::room::drop_cell` meets its contract: the digit at the place of the cell goes. Assumes nothing.
+-- `layers::free_table::drop_cell` meets its contract: the digit at the place of the cell goes. Assumes nothing.
 use borrow.Author.Needs.{needs}
 use Rattle.layers.proofs.TakenLaws.{dropped-made, dropped-same}
-use Rattle.layers.proofs.room.drop_cell.Statement.{statement}
-use Rattle.layers.proofs.room.drop_cell.Tie as tie
+use Rattle.layers.proofs.free_table.drop_cell.Statement.{statement}
+use Rattle.layers.proofs.free_table.drop_cell.Tie as tie
 
 returns : tie.Need-returns
 returns c =

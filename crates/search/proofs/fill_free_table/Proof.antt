@@ -1,11 +1,11 @@
--- `search::fill_room` meets its contract: the free cells at every beat are the room of no views. Assumes nothing.
+-- `search::fill_free_table` meets its contract: the free cells at every beat are the free table of no views. Assumes nothing.
 use native.Mathlib.Omega.{arith}
 use borrow.Author.Needs.{needs}
 use Rattle.layers.specs.Table.{searchGridOf}
-use Rattle.layers.proofs.GridLaws.{grid-room}
-use Rattle.layers.proofs.RoomLaws.{free-roomy}
-use Rattle.search.proofs.fill_room.Statement.{statement}
-use Rattle.search.proofs.fill_room.Tie as tie
+use Rattle.layers.proofs.GridLaws.{grid-low}
+use Rattle.layers.proofs.FreeTableLaws.{free-table-none}
+use Rattle.search.proofs.fill_free_table.Statement.{statement}
+use Rattle.search.proofs.fill_free_table.Tie as tie
 
 fill-free-requires : tie.Need-fill-free-requires
 fill-free-requires c κs =
@@ -19,10 +19,10 @@ returns : tie.Need-returns
 unfolding searchGridOf
 returns c =
     let start : tie.Start = search in
-    λ m. free-roomy _ _ _ _ _ (start .pre .0 .0) (grid-room _ _ (start .pre .0 .2)) (omega arith) (omega arith) (c .before .before .fill-free .ensures)
+    λ m. free-table-none _ _ _ _ _ (start .pre .0 .0) (grid-low _ _ (start .pre .0 .2)) (omega arith) (omega arith) (c .before .before .fill-free .ensures)
     (start .pre .1 .1)
 
-pub fill-room-spec : {M : Type 1} → statement M
-fill-room-spec =
+pub fill-free-table-spec : {M : Type 1} → statement M
+fill-free-table-spec =
     tie.close (tie.spec (λ c. search needs) (λ c. search needs) (λ c. search needs) fill-free-requires same-length
     returns)

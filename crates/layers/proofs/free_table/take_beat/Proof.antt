@@ -1,9 +1,9 @@
--- `layers::room::take_beat` meets its contract: a view that stays leaves one beat to be done, one that moves three. Assumes nothing.
+-- `layers::free_table::take_beat` meets its contract: a view that stays leaves one beat to be done, one that moves three. Assumes nothing.
 use mathlib.Core.Path.{sym, _∙_}
 use borrow.Author.Needs.{needs}
 use Rattle.layers.proofs.TakenLaws.{moves-more, stays-more}
-use Rattle.layers.proofs.room.take_beat.Statement.{statement}
-use Rattle.layers.proofs.room.take_beat.Tie as tie
+use Rattle.layers.proofs.free_table.take_beat.Statement.{statement}
+use Rattle.layers.proofs.free_table.take_beat.Tie as tie
 
 returns : tie.Need-returns
 returns c =
@@ -14,7 +14,7 @@ returns c =
     let after-view-cell : tie.After-view-cell = search in
     let start : tie.Start = search in
     let p = start .pre in
-    stays-more _ _ _ _ _ _ _ _ (p .0 .thin) (p .0 .room) (p .2) (p .3) (p .4) (after-beat-after .beat-after .ensures)
+    stays-more _ _ _ _ _ _ _ _ (p .0 .thin) (p .0 .low) (p .2) (p .3) (p .4) (after-beat-after .beat-after .ensures)
     (after-view-cell .view-cell .ensures .0) (sym (after-stays .stays .ensures) ∙ then1 .if1 .taken) (after-drop-cell .drop-cell .ensures)
 
 returns-2 : tie.Need-returns-2

@@ -1,10 +1,10 @@
--- `layers::room::stays` meets its contract: no beat is before the first; otherwise the two cells are compared. Assumes nothing.
+-- `layers::free_table::stays` meets its contract: no beat is before the first; otherwise the two cells are compared. Assumes nothing.
 use mathlib.Core.Path.{refl}
 use borrow.Author.Needs.{needs}
 use borrow.Author.Tests.{lt-ltb}
 use native.Mathlib.Omega.{arith}
-use Rattle.layers.proofs.room.stays.Statement.{statement}
-use Rattle.layers.proofs.room.stays.Tie as tie
+use Rattle.layers.proofs.free_table.stays.Statement.{statement}
+use Rattle.layers.proofs.free_table.stays.Tie as tie
 
 returns : tie.Need-returns
 returns c = rw (c .if1 .taken) refl
