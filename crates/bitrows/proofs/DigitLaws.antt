@@ -6,7 +6,7 @@ use native.Mathlib.Numerals.{add-one, one-add}
 use mathlib.Core.Bool.{Bool, true, false, _&&_, _||_, not}
 use mathlib.Core.Path.{_≡_, refl, sym, ap, _∙_}
 use borrow.Author.Tests.{ne-eqb, lt-ltb, le-ltb}
-use lib.Bits.{bitAnd, bitOr, bitXor, differ, and-step, or-step, xor-step, and-mask, and-le-l, and-le-r, or-add-and}
+use lib.Bits.{bitAnd, bitOr, bitXor, differ, and-step, or-step, xor-step, and-mask}
 use lib.Dec.{eqb, ltb, eqb·suc-suc, leb·suc-suc}
 use lib.Pow.{pow-pos, field, mod-mod-pow, shr-shr}
 use Rattle.bitrows.specs.Words.{digit, without}

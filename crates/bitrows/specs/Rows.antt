@@ -43,7 +43,3 @@ droppedAt w cells i c s = elim (ltb c cells) [ true ↦ dropped s (i + c / w) (c
 -- The digits of a mask that a step brings to a row from the row above, itself and the row below.
 unfoldable pub successorRow : ℕ → ℕ → ℕ → ℕ → ℕ
 successorRow over here under mask = bitAnd (bitOr (bitOr (bitOr (bitOr here (here * 2 % 2 ^ 32)) (here / 2)) over) under) mask
-
--- What a step brings to row r of the masks from row `to` on, from the rows of s that begin at row `at`, one before the first.
-unfoldable pub successorAt : List ℕ → List ℕ → ℕ → ℕ → ℕ → ℕ
-successorAt s masks at to r = successorRow (getD s (at + r) 0) (getD s (at + r + 1) 0) (getD s (at + r + 2) 0) (getD masks (to + r) 0)

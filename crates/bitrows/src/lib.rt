@@ -2,9 +2,9 @@
 // A cell's row is its number by the width, its column the rest.
 ghost use mathlib.Core.Path.{_≡_};
 ghost use Prim.Native.Nat.{_+_, _*_, _-_, _/_, _%_, _^_, _≤_, _<_};
-ghost use lib.ListN.{length, getD, replicate};
+ghost use lib.ListN.{length};
 ghost use Rattle.bitrows.specs.Words.{without as Words·without};
-ghost use Rattle.bitrows.specs.Rows.{added, dropped, droppedAt, written, filled, successorRow};
+ghost use Rattle.bitrows.specs.Rows.{added, dropped, droppedAt, written, successorRow};
 ghost use Rattle.bitrows.specs.Rows.{has as Rows·has};
 
 // The word with the digit at place k.
@@ -74,20 +74,6 @@ pub fn drop_at(s: &mut [u32], i: usize, w: usize, scale: usize, cells: usize, c:
         let r = row_of(w, scale, c);
         drop(s, i + r, c - r * w);
     }
-}
-
-// The n rows from row i on.
-pub fn some_rows(s: &[u32], i: usize, n: usize) -> [u32; 32]
-    requires { ⌜ (n ≤ 32) × (i + n ≤ length (now s)) ⌝ }
-    ensures { λ x. ⌜ x ≡ filled (replicate 32 0) (λ r. getD (now (s .entry)) (i + r) 0) n ⌝ }
-{
-    let mut x = [0u32; 32];
-    let mut r: usize = 0;
-    while r < n {
-        x[r] = s[i + r];
-        r += 1;
-    }
-    x
 }
 
 // Writes the first n of some rows into a table, from row i on.

@@ -9,7 +9,7 @@ use Rattle.bitrows.specs.Rows.{has}
 use Rattle.bitrows.proofs.RowsLaws.{place-row}
 use Rattle.layers.specs.declared.SearchGrid.{SearchGrid}
 use Rattle.layers.specs.declared.Place.{Place}
-use Rattle.layers.specs.Table.{Grid, PlaceOf, inSet}
+use Rattle.layers.specs.Table.{Grid, PlaceOf, inSet, wordOf}
 use Rattle.layers.proofs.SetLaws.{set-digit}
 
 -- A row with what it leaves of the cell's number is the cell's place.
@@ -19,7 +19,7 @@ place-made g c p grid inside row whole left =
     record {
       row = row;
       column = column;
-      low = rw row (place-row (g .width) c (grid .thin) (omega (arith, grid .room)));
+      low = rw row (place-row (g .width) c (grid .thin) (omega (arith, grid .low)));
       thin = rw column thin;
       narrow = rw column (omega (arith, thin, grid .narrow));
     }
@@ -32,5 +32,5 @@ place-made g c p grid inside row whole left =
 
 -- Whether a cell is in a set, read at its place.
 pub member-made : (g : SearchGrid) (s : List ℕ) (t c : ℕ) (p : Place) (x : Bool) → c < g .cells → PlaceOf g c p →
-    x ≡ has s (t * 36 + 1 + p .row) (p .column) → x ≡ inSet g s t c
+    x ≡ has s (wordOf t (p .row)) (p .column) → x ≡ inSet g s t c
 member-made g s t c p x inside at e = e ∙ rw (at .row, at .column) (sym (set-digit g s t c inside))

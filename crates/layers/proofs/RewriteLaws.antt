@@ -1,14 +1,11 @@
 -- Rows of a table that are rewritten at once.
-use Prim.Native.Nat.{ℕ, _+_, _≤_, _<_}
+use Prim.Native.Nat.{ℕ, _+_, _≤_}
 use native.Mathlib.Omega.{arith}
-use native.Mathlib.Nat.{eq-or-lt-of-le}
 use mathlib.Core.List.{List}
-use mathlib.Core.Logic.{_⊎_, inl, inr, ⊎-elim}
 use mathlib.Core.Path.{_≡_, refl, _∙_}
-use lib.ListN.{length, getD, set, replicate, length-set, length-replicate}
-use lib.Seq.{getD-set-same, getD-set-other}
+use lib.ListN.{length, replicate, length-replicate}
 use Rattle.laws.proofs.Lists.{zeros-at}
-use Rattle.bitrows.specs.Rows.{written, filled, successorRow, successorAt}
+use Rattle.bitrows.specs.Rows.{written, filled}
 use Rattle.bitrows.proofs.FillLaws.{length-written, written-in, written-out, filled-in}
 use Rattle.layers.specs.Table.{Rewritten}
 
@@ -34,42 +31,6 @@ rewritten-zeros s r i fits h =
       outside = λ j l. written-out s i (replicate 32 0) 32 j l;
     })
 
--- The same rows, said in another way.
-pub rewritten-same : (s r : List ℕ) (f g : ℕ → ℕ) (i n : ℕ) → ((j : ℕ) → j < n → f j ≡ g j) → Rewritten s f i n r → Rewritten s g i n r
-rewritten-same s r f g i n same x = record { long = x .long; inside = λ j l. x .inside j l ∙ same j l; outside = x .outside }
-
--- The turns of a loop that rewrites rows in order.
+-- No row yet.
 pub rewritten-none : (s : List ℕ) (f : ℕ → ℕ) (i : ℕ) → Rewritten s f i 0 s
 rewritten-none s f i = record { long = refl; inside = λ r l. absurd (omega arith); outside = λ j l. refl }
-
-pub rewritten-more : (s q : List ℕ) (f : ℕ → ℕ) (i n x : ℕ) → i + n < length s → Rewritten s f i n q → x ≡ f n →
-    Rewritten s f i (n + 1) (set q (i + n) x)
-rewritten-more s q f i n x fits h e = record { long = length-set q (i + n) x ∙ h .long; inside = inside; outside = outside }
-  where
-    inside : (r : ℕ) → r < n + 1 → getD (set q (i + n) x) (i + r) 0 ≡ f r
-    inside r l =
-        ⊎-elim (λ (k : r ≡ n). rw k (getD-set-same q (i + n) x 0 (omega (arith, h .long)) ∙ e))
-        (λ (k : r < n). getD-set-other q (i + n) (i + r) x 0 (λ u. omega arith) ∙ h .inside r k) (eq-or-lt-of-le (omega arith))
-
-    outside : (j : ℕ) → (j < i) ⊎ (i + (n + 1) ≤ j) → getD (set q (i + n) x) j 0 ≡ getD s j 0
-    outside j (inl l) = getD-set-other q (i + n) j x 0 (λ u. omega arith) ∙ h .outside j (inl l)
-    outside j (inr l) = getD-set-other q (i + n) j x 0 (λ u. omega arith) ∙ h .outside j (inr (omega arith))
-
--- A row that a step brings from rows that stay as they are.
-pub narrowed-more : (s room q : List ℕ) (at to n m x : ℕ) → (at + m + 2 ≤ to) ⊎ (to + m ≤ at) → n < m → to + m ≤ length s →
-    Rewritten s (successorAt s room at to) to n q →
-    x ≡ successorRow (getD q (at + n) 0) (getD q (at + n + 1) 0) (getD q (at + n + 2) 0) (getD room (to + n) 0) →
-    Rewritten s (successorAt s room at to) to (n + 1) (set q (to + n) x)
-unfolding successorAt
-narrowed-more s room q at to n m x apart l fits h e =
-    rewritten-more s q (successorAt s room at to) to n x (omega arith) h
-    (e ∙ rw (
-      kept (at + n) (omega arith) (omega arith),
-      kept (at + n + 1) (omega arith) (omega arith),
-      kept (at + n + 2) (omega arith)
-          (omega arith),
-    ))
-  where
-    kept : (j : ℕ) → at ≤ j → j < at + m + 2 → getD q j 0 ≡ getD s j 0
-    kept j u v =
-        h .outside j (⊎-elim (λ (k : at + m + 2 ≤ to). inl (omega arith)) (λ (k : to + m ≤ at). inr (omega arith)) apart)

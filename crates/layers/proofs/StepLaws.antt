@@ -1,7 +1,7 @@
 -- One step of a whole set, from the rows that it writes to the cells of the two sets.
 use Prim.Native.Nat.{ℕ, _+_, _*_, _-_, _/_, _%_, _≤_, _<_}
 use native.Mathlib.Omega.{arith}
-use native.Mathlib.Nat.{mod-lt, div-add-mod', div-lt-iff-lt-mul}
+use native.Mathlib.Nat.{mod-lt, div-add-mod'}
 use mathlib.Core.Bool.{Bool, true, _&&_}
 use mathlib.Core.List.{List}
 use mathlib.Core.Logic.{_⊎_, inl, inr, ⊎-elim}
@@ -10,45 +10,46 @@ use lib.ListN.{getD}
 use Rattle.route.specs.Moves.{near}
 use Rattle.laws.proofs.Tests.{and-both, and-fst, and-snd, lt-or-le}
 use Rattle.bitrows.specs.Words.{digit}
-use Rattle.bitrows.specs.Rows.{has, successorRow, successorAt}
+use Rattle.bitrows.specs.Rows.{has, successorRow}
+use Rattle.bitrows.proofs.RowsLaws.{place-row}
 use Rattle.bitrows.proofs.StepLaws.{brought, narrow-digit, narrow-masked}
 use Rattle.layers.specs.declared.SearchGrid.{SearchGrid}
-use Rattle.layers.specs.Table.{Grid, Tidy, Rewritten, inSet}
+use Rattle.layers.specs.Table.{Grid, Tidy, Rewritten, inSet, slotOf, wordOf}
+use Rattle.layers.specs.Stripes.{stepWord}
 use Rattle.layers.specs.Step.{ChangedAt, Beside, Spread}
-use Rattle.layers.proofs.AloneLaws.{beat-apart}
+use Rattle.layers.proofs.WordLaws.{aboveRow, belowRow, slot-low, word-apart, above-word, below-word}
 use Rattle.layers.proofs.BroughtLaws.{brought-says, brought-holds}
 use Rattle.layers.proofs.SetLaws.{set-cell, set-has, set-holds, set-same}
 
-module _ (g : SearchGrid) (room s q : List ℕ) (a b n : ℕ) (grid : Grid g) (old : Tidy g s) (ground : Tidy g room) (apart : a ≡ b → ⊥)
-    (few : n ≤ 32) (tall : g .cells ≤ n * g .width) (x : Rewritten s (successorAt s room (a * 36) (b * 36 + 1)) (b * 36 + 1) n q) where
+module _ (g : SearchGrid) (table s q : List ℕ) (a b : ℕ) (grid : Grid g) (old : Tidy g s) (ground : Tidy g table) (early : b < 64)
+    (apart : a ≡ b → ⊥) (x : Rewritten s (stepWord (λ j. getD s (a * 32 + j) 0) (λ j. getD table (b * 32 + j) 0)) (b * 32) 32 q) where
   -- A row that the step writes.
-  row-new : (r : ℕ) → r < n → getD q (b * 36 + 1 + r) 0 ≡
-      successorRow (getD s (a * 36 + r) 0) (getD s (a * 36 + r + 1) 0) (getD s (a * 36 + r + 2) 0) (getD room (b * 36 + 1 + r) 0)
-  unfolding successorAt
-  row-new r h = x .inside r h
+  row-new : (r : ℕ) → r < 32 → getD q (wordOf b r) 0 ≡
+      successorRow (aboveRow s a r) (getD s (wordOf a r) 0) (belowRow s a r) (getD table (wordOf b r) 0)
+  unfolding stepWord wordOf
+  row-new r h = x .inside (slotOf r) (slot-low r h) ∙ rw (above-word s a r h, below-word s a r h)
 
-  -- A digit of the new table was there, or is one of the room.
-  either : (i k : ℕ) → has q i k ≡ true → (has s i k ≡ true) ⊎ (has room i k ≡ true)
-  unfolding has
-  either i k e = ⊎-elim (λ (h : i < b * 36 + 1). inl (rw (← x .outside i (inl h)) e)) after (lt-or-le i (b * 36 + 1))
+  -- A digit of the new table was there, or is one of the free table.
+  either : (i k : ℕ) → has q i k ≡ true → (has s i k ≡ true) ⊎ (has table i k ≡ true)
+  unfolding has stepWord
+  either i k e = ⊎-elim (λ (h : i < b * 32). inl (rw (← x .outside i (inl h)) e)) after (lt-or-le i (b * 32))
     where
-      written : (r : ℕ) → r < n → i ≡ b * 36 + 1 + r → digit (getD room i 0) k ≡ true
-      written r h p =
-          rw p
-          (narrow-masked _ _ _ (getD room (b * 36 + 1 + r) 0) k (ap (λ (y : ℕ). digit y k) (sym (row-new r h)) ∙ rw p at e))
+      written : (j : ℕ) → j < 32 → i ≡ b * 32 + j → digit (getD table i 0) k ≡ true
+      written j h p =
+          rw p (narrow-masked _ _ _ (getD table (b * 32 + j) 0) k (ap (λ (y : ℕ). digit y k) (sym (x .inside j h)) ∙ rw p at e))
 
-      after : b * 36 + 1 ≤ i → (digit (getD s i 0) k ≡ true) ⊎ (digit (getD room i 0) k ≡ true)
+      after : b * 32 ≤ i → (digit (getD s i 0) k ≡ true) ⊎ (digit (getD table i 0) k ≡ true)
       after h =
-          ⊎-elim (λ (l : i < b * 36 + 1 + n). inr (written (i - (b * 36 + 1)) (omega arith) (omega arith)))
-          (λ (l : b * 36 + 1 + n ≤ i). inl (rw (← x .outside i (inr l)) e)) (lt-or-le i (b * 36 + 1 + n))
+          ⊎-elim (λ (l : i < b * 32 + 32). inr (written (i - b * 32) (omega arith) (omega arith)))
+          (λ (l : b * 32 + 32 ≤ i). inl (rw (← x .outside i (inr l)) e)) (lt-or-le i (b * 32 + 32))
 
   new-tidy : Tidy g q
   new-tidy =
       record {
         long = x .long ∙ old .long;
         thin = λ i k e. ⊎-elim (old .thin i k) (ground .thin i k) (either i k e);
-        rows = λ t r k l e. ⊎-elim (old .rows t r k l) (ground .rows t r k l) (either (t * 36 + 1 + r) k e);
-        edge = λ t k e. ⊎-elim (old .edge t k) (ground .edge t k) (either (t * 36) k e);
+        rows = λ t r k l e. ⊎-elim (old .rows t r k l) (ground .rows t r k l) (either (wordOf t r) k e);
+        empty = x .outside 2048 (inr (omega arith)) ∙ old .empty;
       }
 
   -- The sets of other beats are as they were.
@@ -56,8 +57,8 @@ module _ (g : SearchGrid) (room s q : List ℕ) (a b n : ℕ) (grid : Grid g) (o
   step-changed =
       record {
         tidy = new-tidy;
-        other = λ t c u. set-same g s q t c (grid .thin) (grid .room)
-            (λ r h. x .outside (t * 36 + 1 + r) (beat-apart t b r n u h few));
+        other = λ t c u. set-same g s q t c (grid .thin) (grid .low)
+            (λ r h. x .outside (wordOf t r) (word-apart t b r u h));
       }
 
   same : (c : ℕ) → inSet g q a c ≡ inSet g s a c
@@ -70,51 +71,51 @@ module _ (g : SearchGrid) (room s q : List ℕ) (a b n : ℕ) (grid : Grid g) (o
     column : d % g .width < g .width
     column = mod-lt d (grid .thin)
 
-    row : d / g .width < n
-    row = (div-lt-iff-lt-mul (grid .thin)) .1 (omega (arith, tall))
+    row : d / g .width < 32
+    row = place-row (g .width) d (grid .thin) (omega (arith, grid .low))
 
     -- The step brings something to the cell.
     abbrev come : Bool
     come =
-        brought (getD s (a * 36 + d / g .width) 0) (getD s (a * 36 + d / g .width + 1) 0) (getD s (a * 36 + d / g .width + 2) 0)
-        (d % g .width)
+        brought (aboveRow s a (d / g .width)) (getD s (wordOf a (d / g .width)) 0) (belowRow s a (d / g .width)) (d % g .width)
 
-    new-digit : has q (b * 36 + 1 + d / g .width) (d % g .width) ≡
-        (come && digit (getD room (b * 36 + 1 + d / g .width) 0) (d % g .width))
+    new-digit : has q (wordOf b (d / g .width)) (d % g .width) ≡
+        (come && digit (getD table (wordOf b (d / g .width)) 0) (d % g .width))
     unfolding has
     new-digit =
         ap (λ (y : ℕ). digit y (d % g .width)) (row-new (d / g .width) row)
-        ∙ narrow-digit _ _ _ (getD room (b * 36 + 1 + d / g .width) 0) (d % g .width) (omega (arith, column, grid .narrow))
+        ∙ narrow-digit _ _ _ (getD table (wordOf b (d / g .width)) 0) (d % g .width) (omega (arith, column, grid .narrow))
 
-    -- What the step brings is near a cell of the set that it comes from, and in the room.
-    new-says : inSet g q b d ≡ true → (inSet g room b d ≡ true) × Beside g q a d
+    -- What the step brings is near a cell of the set that it comes from, and in the free table.
+    new-says : inSet g q b d ≡ true → (inSet g table b d ≡ true) × Beside g q a d
     unfolding has
     new-says e = (
-      set-holds g room b d inside (and-snd come (digit (getD room (b * 36 + 1 + d / g .width) 0) (d % g .width)) both),
+      set-holds g table b d inside (and-snd come (digit (getD table (wordOf b (d / g .width)) 0) (d % g .width)) both),
       came (rw whole at from),
     )
       where
-        both : (come && digit (getD room (b * 36 + 1 + d / g .width) 0) (d % g .width)) ≡ true
+        both : (come && digit (getD table (wordOf b (d / g .width)) 0) (d % g .width)) ≡ true
         both = sym new-digit ∙ set-has g q b d e
 
         from : (c : ℕ) × (inSet g s a c ≡ true) × (near (g .width) c (d / g .width * g .width + d % g .width) ≡ true)
         from =
-            brought-says g s a (d / g .width) (d % g .width) old (grid .thin) (omega (arith, row, few)) column
-            (and-fst come (digit (getD room (b * 36 + 1 + d / g .width) 0) (d % g .width)) both)
+            brought-says g s a (d / g .width) (d % g .width) old (grid .thin) row column
+            (and-fst come (digit (getD table (wordOf b (d / g .width)) 0) (d % g .width)) both)
 
         came : (c : ℕ) × (inSet g s a c ≡ true) × (near (g .width) c d ≡ true) → Beside g q a d
         came (c, i, e) = (c, same c ∙ i, e)
 
-    new-holds : inSet g room b d ≡ true → Beside g q a d → inSet g q b d ≡ true
+    new-holds : inSet g table b d ≡ true → Beside g q a d → inSet g q b d ≡ true
     unfolding has
     new-holds i (c, e, h) =
         set-holds g q b d inside
         (new-digit
         ∙ and-both
-        (brought-holds g s a (d / g .width) (d % g .width) old (grid .thin) (omega (arith, row, few)) column c (sym (same c) ∙ e)
+        (brought-holds g s a (d / g .width) (d % g .width) old (grid .thin) row column c (sym (same c) ∙ e)
+        (place-row (g .width) c (grid .thin) (omega (arith, grid .low, set-cell g q a c e)))
         (rw whole h))
-        (set-has g room b d i))
+        (set-has g table b d i))
 
   -- The set of beat b follows that of beat a.
-  pub step-spreads : Spread g room q a b
-  step-spreads = record { says = λ d e. new-says d (set-cell g q b d e) e; holds = λ d i. new-holds d (set-cell g room b d i) i }
+  pub step-spreads : Spread g table q a b
+  step-spreads = record { says = λ d e. new-says d (set-cell g q b d e) e; holds = λ d i. new-holds d (set-cell g table b d i) i }

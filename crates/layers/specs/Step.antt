@@ -1,6 +1,7 @@
--- Changing the set of one beat of a table: to no cell, by one more, to one cell alone, or by a step from the set of another beat.
-use Prim.Native.Nat.{ℕ}
-use mathlib.Core.Bool.{true}
+-- Changing the set of one beat of a table: to no cell, by one more, to one cell alone, or by a step from the set of another beat; and
+-- steps beat after beat.
+use Prim.Native.Nat.{ℕ, _+_, _-_, _≤_, _<_}
+use mathlib.Core.Bool.{Bool, true, false}
 use mathlib.Core.List.{List}
 use mathlib.Core.Logic.{_⊎_}
 use mathlib.Core.Path.{_≡_}
@@ -32,7 +33,23 @@ pub record Alone (g : SearchGrid) (s : List ℕ) (t c : ℕ) : Type 0 where
 abbrev pub Beside : SearchGrid → List ℕ → ℕ → ℕ → Type 0
 Beside g s t d = (c : ℕ) × (inSet g s t c ≡ true) × (near (g .width) c d ≡ true)
 
--- The set of beat b has those cells of the room then that are near a cell of the set of beat a.
-pub record Spread (g : SearchGrid) (room s : List ℕ) (a b : ℕ) : Type 0 where
-  pub says : (d : ℕ) → inSet g s b d ≡ true → (inSet g room b d ≡ true) × Beside g s a d
-  pub holds : (d : ℕ) → inSet g room b d ≡ true → Beside g s a d → inSet g s b d ≡ true
+-- The set of beat b has those cells of the free table then that are near a cell of the set of beat a.
+pub record Spread (g : SearchGrid) (table s : List ℕ) (a b : ℕ) : Type 0 where
+  pub says : (d : ℕ) → inSet g s b d ≡ true → (inSet g table b d ≡ true) × Beside g s a d
+  pub holds : (d : ℕ) → inSet g table b d ≡ true → Beside g s a d → inSet g s b d ≡ true
+
+-- The beat n beats after beat t, or before it.
+unfoldable pub beatAfter : Bool → ℕ → ℕ → ℕ
+beatAfter back t n = elim back [ true ↦ t - n | false ↦ t + n ]
+
+-- There are n beats after beat t, or before it.
+unfoldable pub Within : Bool → ℕ → ℕ → Type 0
+Within true t n = (t < 64) × (n ≤ t)
+Within false t n = t + n < 64
+
+-- q is s with n sets changed after beat t, or before it, each to what the one before it spreads to in the free table; the set of beat t and
+-- those on its other side are as they were.
+pub record Swept (g : SearchGrid) (table s : List ℕ) (t : ℕ) (back : Bool) (n : ℕ) (q : List ℕ) : Type 0 where
+  pub tidy : Tidy g q
+  pub spreads : (i : ℕ) → i < n → Spread g table q (beatAfter back t i) (beatAfter back t (i + 1))
+  pub kept : (u c : ℕ) → ((i : ℕ) → i < n → u ≡ beatAfter back t (i + 1) → ⊥) → inSet g q u c ≡ inSet g s u c

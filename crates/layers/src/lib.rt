@@ -1,7 +1,8 @@
-// Tables of sets of cells over the beats of a search: the grid they are of, the room that views leave, and one step of a whole set.
+// Tables of sets of cells over the beats of a search: the grid they are of, the free table that views leave, and one step of a whole set.
 // Helpers of the search below `passes`: what they require is checked by the entries above.
-pub mod room;
+pub mod free_table;
 pub mod step;
+pub mod stripes;
 pub mod table;
 
 use floor::Floor;

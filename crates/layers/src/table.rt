@@ -1,8 +1,9 @@
-// Tables of sets of cells, 36 rows a beat: reading a cell, copying rows, a set of no cell, of one, of one more.
+// Tables of sets of cells, 32 words a beat: the word of a row, reading a cell, a set of no cell, of one, of one more.
 ghost use mathlib.Core.Path.{_≡_};
-ghost use Prim.Native.Nat.{_+_, _*_, _≤_, _<_};
-ghost use lib.ListN.{length, getD, replicate};
-ghost use Rattle.layers.specs.Table.{Grid, Rewritten, Tidy, inSet};
+ghost use Prim.Native.Nat.{_<_};
+ghost use lib.ListN.{length, replicate};
+ghost use Rattle.bitrows.specs.Rows.{has};
+ghost use Rattle.layers.specs.Table.{Grid, Tidy, inSet, wordOf};
 ghost use Rattle.layers.specs.Step.{ChangedAt, Empty, Joined, Alone};
 use crate::SearchGrid;
 use crate::place_of;
@@ -11,35 +12,39 @@ use floor::Floor;
 // The rows of the largest grid, a word each.
 pub const ROWS: usize = Floor::MAX_HEIGHT as usize;
 
-// The rows of one beat: an empty one, those of the grid, three more.
-pub const STRIDE: usize = ROWS + 4;
-
-// The words of a table: the rows of every beat up to the largest horizon.
-pub const WORDS: usize = STRIDE * records::CELLS;
+// The words of a table: the rows of every beat up to the largest horizon, and an empty word.
+pub const WORDS: usize = ROWS * records::CELLS + 1;
 
 // A table of empty sets.
 pub fn empty() -> [u32; WORDS]
-    ensures { λ r. ⌜ r ≡ replicate 2304 0 ⌝ }
+    ensures { λ r. ⌜ r ≡ replicate 2049 0 ⌝ }
 {
     [0u32; WORDS]
 }
 
+// The word of a row at beat t: rows that are eight apart stand side by side.
+pub fn word(t: usize, row: usize) -> usize
+    requires { ⌜ (t < 64) × (row < 32) ⌝ }
+    ensures { λ r. ⌜ (r ≡ wordOf t row) × (r < 2048) ⌝ }
+{
+    t * ROWS + (row % 8 * 4 + row / 8)
+}
+
+// Whether the digit of a row at column k is 1, at beat t.
+pub fn has_at(s: &[u32], t: usize, row: usize, k: usize) -> bool
+    requires { ⌜ (length (now s) ≡ 2049) × (t < 64) × (row < 32) × (k < 32) ⌝ }
+    ensures { λ r. ⌜ r ≡ has (now (s .entry)) (wordOf t row) k ⌝ }
+{
+    bitrows::has(s, word(t, row), k)
+}
+
 // Whether cell c is in the set of beat t.
 pub fn member(g: SearchGrid, s: &[u32], t: usize, c: usize) -> bool
-    requires { ⌜ Grid g × (length (now s) ≡ 2304) × (t < 64) × (c < g .cells) ⌝ }
+    requires { ⌜ Grid g × (length (now s) ≡ 2049) × (t < 64) × (c < g .cells) ⌝ }
     ensures { λ r. ⌜ r ≡ inSet g (now (s .entry)) t c ⌝ }
 {
     let p = place_of(g, c);
-    bitrows::has(s, t * STRIDE + 1 + p.row, p.column)
-}
-
-// Copies n rows of one table from row j on into another from row i on.
-pub fn copy_rows(to: &mut [u32], i: usize, from: &[u32], j: usize, n: usize)
-    requires { ⌜ (n ≤ 32) × (i + n ≤ length (now to)) × (j + n ≤ length (now from)) ⌝ }
-    ensures { λ x. ⌜ Rewritten (now (to .entry)) (λ r. getD (now (from .entry)) (j + r) 0) i n (now (to .exit)) ⌝ }
-{
-    let x = bitrows::some_rows(from, j, n);
-    bitrows::put_rows(to, i, x, n);
+    has_at(s, t, p.row, p.column)
 }
 
 // The set of beat t becomes empty.
@@ -48,7 +53,7 @@ pub fn put_none(g: SearchGrid, s: &mut [u32], t: usize)
     ensures only { λ r. ⌜ ChangedAt g (now (s .entry)) t (now (s .exit)) ⌝ }
     ensures none { λ r. ⌜ Empty g (now (s .exit)) t ⌝ }
 {
-    bitrows::put_rows(s, t * STRIDE + 1, [0u32; ROWS], ROWS);
+    bitrows::put_rows(s, t * ROWS, [0u32; ROWS], ROWS);
 }
 
 // Cell c joins the set of beat t.
@@ -58,7 +63,7 @@ pub fn put_more(g: SearchGrid, s: &mut [u32], t: usize, c: usize)
     ensures joined { λ r. ⌜ Joined g (now (s .entry)) t c (now (s .exit)) ⌝ }
 {
     let p = place_of(g, c);
-    bitrows::add(s, t * STRIDE + 1 + p.row, p.column);
+    bitrows::add(s, word(t, p.row), p.column);
 }
 
 // The set of beat t becomes cell c alone.

@@ -2,12 +2,12 @@
 use Prim.Native.Nat.{ℕ, suc, _+_, _≤_}
 use native.Mathlib.Omega.{arith}
 use native.Mathlib.Numerals.{add-one}
-use mathlib.Core.Bool.{Bool, true, false, _&&_, _||_}
+use mathlib.Core.Bool.{Bool, true, false, _||_}
 use mathlib.Core.List.{List}
-use mathlib.Core.Logic.{_⊎_, inl, inr, ⊎-elim}
+use mathlib.Core.Logic.{⊎-elim}
 use mathlib.Core.Path.{_≡_, refl, sym, _∙_}
 use borrow.Author.Tests.{le-leb, lt-leb, eq-eqb, eqb-true}
-use lib.Dec.{leb, eqb}
+use lib.Dec.{eqb}
 use lib.ListN.{getD, replicate}
 use Rattle.bitrows.specs.Rows.{filled}
 use Rattle.laws.proofs.Tests.{and-both, and-fst, and-snd, or-cases, or-inl, or-inr, same-test, not-true-is-false}
@@ -18,11 +18,11 @@ use Rattle.passes.specs.declared.docks.Docks.{Docks}
 use Rattle.passes.specs.Docks.{holdOf, heldDocks, anyOf, heldAt, arrivableAt, endableAt, EndsAt}
 
 -- The docks with their beats, after the last.
-pub held-made : (g : SearchGrid) (room : List ℕ) (n : ℕ) (cells holds : List ℕ) (k : ℕ) → k ≤ n → n ≤ k →
-    holds ≡ filled (replicate 4 0) (λ j. holdOf g room (getD cells j 0)) k →
-    _≡_ {A = Docks} (record { count = n; cells = cells; holds = holds }) (heldDocks g room n cells)
+pub held-made : (g : SearchGrid) (table : List ℕ) (n : ℕ) (cells holds : List ℕ) (k : ℕ) → k ≤ n → n ≤ k →
+    holds ≡ filled (replicate 4 0) (λ j. holdOf g table (getD cells j 0)) k →
+    _≡_ {A = Docks} (record { count = n; cells = cells; holds = holds }) (heldDocks g table n cells)
 unfolding heldDocks
-held-made g room n cells holds k a b e = let same : k ≡ n = omega arith in rw (e, same)
+held-made g table n cells holds k a b e = let same : k ≡ n = omega arith in rw (e, same)
 
 -- What a test of the beat says of dock k.
 pub held-yes : (ds : Docks) (t k : ℕ) → getD (ds .holds) k 0 ≤ t → heldAt ds t k ≡ true
@@ -32,16 +32,6 @@ held-yes ds t k h = le-leb (getD (ds .holds) k 0) t h
 pub held-no : (ds : Docks) (t k : ℕ) → suc t ≤ getD (ds .holds) k 0 → heldAt ds t k ≡ false
 unfolding heldAt
 held-no ds t k h = lt-leb (getD (ds .holds) k 0) t h
-
--- Before the beat from which the dock can be held it is no arrival, and from then on the set tells.
-pub hold-late : (g : SearchGrid) (s : List ℕ) (ds : Docks) (t k : ℕ) → suc t ≤ getD (ds .holds) k 0 → false ≡ arrivableAt g s ds t k
-unfolding arrivableAt
-hold-late g s ds t k h = rw (held-no ds t k h)
-
-pub hold-past : (g : SearchGrid) (s : List ℕ) (ds : Docks) (t k : ℕ) (x : Bool) → getD (ds .holds) k 0 ≤ t →
-    x ≡ inSet g s t (getD (ds .cells) k 0) → x ≡ arrivableAt g s ds t k
-unfolding arrivableAt
-hold-past g s ds t k x h e = e ∙ rw (held-yes ds t k h)
 
 -- What it says that dock k is an arrival at beat t, and that cell c is dock k, which can be held from then on.
 pub arrivable-says : (g : SearchGrid) (s : List ℕ) (ds : Docks) (t k : ℕ) → arrivableAt g s ds t k ≡ true →

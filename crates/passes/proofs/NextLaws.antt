@@ -12,12 +12,12 @@ use borrow.Author.Needs.{needs}
 use lib.Dec.{leb, ltb}
 use Rattle.laws.proofs.Tests.{and-fst, and-same, lt-or-le, not-true-is-false, same-test}
 use Rattle.bitrows.specs.Rows.{has}
-use Rattle.bitrows.proofs.RowsLaws.{place-same}
+use Rattle.bitrows.proofs.RowsLaws.{place-same, place-row}
 use Rattle.layers.specs.declared.SearchGrid.{SearchGrid}
 use Rattle.layers.specs.declared.Place.{Place}
-use Rattle.layers.specs.Table.{Grid, PlaceOf, Tidy, inSet}
+use Rattle.layers.specs.Table.{Grid, PlaceOf, Tidy, inSet, wordOf}
 use Rattle.layers.proofs.SetLaws.{set-cell, set-has, set-holds}
-use Rattle.passes.specs.Walk.{pick, firstNear, nextOf, stepOf, pathOf}
+use Rattle.passes.specs.Walk.{pick, nextOf, stepOf, pathOf}
 use Rattle.passes.proofs.NearCells.{first-holds}
 
 module _ (g : SearchGrid) (s : List ℕ) (t c : ℕ) (p : Place) (grid : Grid g) (tidy : Tidy g s) (at : PlaceOf g c p) where
@@ -28,61 +28,73 @@ module _ (g : SearchGrid) (s : List ℕ) (t c : ℕ) (p : Place) (grid : Grid g)
   of-c = div-add-mod' c w
 
   -- A digit of a tidy table is a cell.
-  digit-set : (e r k : ℕ) → e / g .width ≡ r → e % g .width ≡ k → r < 35 → has s (t * 36 + 1 + r) k ≡ inSet g s t e
+  digit-set : (e r k : ℕ) → e / g .width ≡ r → e % g .width ≡ k → r < 32 → has s (wordOf t r) k ≡ inSet g s t e
   digit-set e r k h l low =
       rw (← h, ← l)
       (same-test _ _ (λ q. set-holds g s t e (rw (div-add-mod' e w) at (tidy .rows t (e / w) (e % w) (rw h low) q)) q) (set-has g s t e))
 
   -- The digits above, left, here, right and below.
-  pub up-is : (x : Bool) → x ≡ has s (t * 36 + 1 + p .row - 1) (p .column) → x ≡ (leb (g .width) c && inSet g s t (c - g .width))
+  pub up-is : (x : Bool) → x ≡ (ltb 0 (p .row) && has s (wordOf t (p .row - 1)) (p .column)) →
+      x ≡ (leb (g .width) c && inSet g s t (c - g .width))
   up-is x e = e ∙ ⊎-elim first later (lt-or-le c w)
     where
-      first : c < w → has s (t * 36 + 1 + p .row - 1) (p .column) ≡ (leb w c && inSet g s t (c - w))
+      first : c < w → (ltb 0 (p .row) && has s (wordOf t (p .row - 1)) (p .column)) ≡ (leb w c && inSet g s t (c - w))
       first h =
-          let z : t * 36 + 1 + p .row - 1 ≡ t * 36 = omega (arith, at .row, div-eq-of-lt h) in
-          rw (z, lt-leb w c h) (not-true-is-false (has s (t * 36) (p .column)) (tidy .edge t (p .column)))
+          let z : p .row ≡ 0 = omega (arith, at .row, div-eq-of-lt h) in
+          rw (z, lt-leb w c h) refl
 
-      later : w ≤ c → has s (t * 36 + 1 + p .row - 1) (p .column) ≡ (leb w c && inSet g s t (c - w))
+      later : w ≤ c → (ltb 0 (p .row) && has s (wordOf t (p .row - 1)) (p .column)) ≡ (leb w c && inSet g s t (c - w))
       later h =
           let back : c - w + w ≡ c = omega arith in
           let row : c / w ≡ (c - w) / w + 1 = rw back at (add-div-right (c - w) (grid .thin)) in
           let column : c % w ≡ (c - w) % w = rw back at (add-mod-right (c - w) w) in
-          let z : t * 36 + 1 + p .row - 1 ≡ t * 36 + 1 + (p .row - 1) = omega (arith, at .row, row) in
-          rw (z, le-leb w c h)
+          rw (lt-ltb 0 (p .row) (omega (arith, at .row, row)), le-leb w c h)
           (digit-set (c - w) (p .row - 1) (p .column) (omega (arith, at .row, row)) (sym (at .column ∙ column)) (omega (arith, at .low)))
 
-  pub left-is : (x : Bool) → x ≡ (ltb 0 (p .column) && has s (t * 36 + 1 + p .row) (p .column - 1)) →
+  pub left-is : (x : Bool) → x ≡ (ltb 0 (p .column) && has s (wordOf t (p .row)) (p .column - 1)) →
       x ≡ (ltb 0 (c % g .width) && inSet g s t (c - 1))
   left-is x e = e ∙ and-same _ _ _ there ∙ rw (at .column)
     where
-      there : ltb 0 (p .column) ≡ true → has s (t * 36 + 1 + p .row) (p .column - 1) ≡ inSet g s t (c - 1)
+      there : ltb 0 (p .column) ≡ true → has s (wordOf t (p .row)) (p .column - 1) ≡ inSet g s t (c - 1)
       there q =
           let h : 0 < p .column = ltb-true 0 (p .column) q in
           let y : ((c - 1) / w ≡ c / w) × ((c - 1) % w ≡ c % w - 1) = place-same w (c - 1) (c / w) (c % w - 1)
           (omega (arith, mod-lt c (grid .thin), at .column)) (omega (arith, of-c, at .column)) in
           digit-set (c - 1) (p .row) (p .column - 1) (y .0 ∙ sym (at .row)) (rw (at .column) (y .1)) (omega (arith, at .low))
 
-  pub here-is : (x : Bool) → x ≡ has s (t * 36 + 1 + p .row) (p .column) → x ≡ inSet g s t c
+  pub here-is : (x : Bool) → x ≡ has s (wordOf t (p .row)) (p .column) → x ≡ inSet g s t c
   here-is x e = e ∙ digit-set c (p .row) (p .column) (sym (at .row)) (sym (at .column)) (omega (arith, at .low))
 
-  pub right-is : (x : Bool) → x ≡ (ltb (p .column + 1) (g .width) && has s (t * 36 + 1 + p .row) (p .column + 1)) →
+  pub right-is : (x : Bool) → x ≡ (ltb (p .column + 1) (g .width) && has s (wordOf t (p .row)) (p .column + 1)) →
       x ≡ (ltb (c % g .width + 1) (g .width) && inSet g s t (c + 1))
   right-is x e = e ∙ and-same _ _ _ there ∙ rw (at .column)
     where
-      there : ltb (p .column + 1) w ≡ true → has s (t * 36 + 1 + p .row) (p .column + 1) ≡ inSet g s t (c + 1)
+      there : ltb (p .column + 1) w ≡ true → has s (wordOf t (p .row)) (p .column + 1) ≡ inSet g s t (c + 1)
       there q =
           let h : p .column + 1 < w = ltb-true (p .column + 1) w q in
           let y : ((c + 1) / w ≡ c / w) × ((c + 1) % w ≡ c % w + 1) = place-same w (c + 1) (c / w) (c % w + 1)
           (omega (arith, at .column)) (omega (arith, of-c)) in
           digit-set (c + 1) (p .row) (p .column + 1) (y .0 ∙ sym (at .row)) (rw (at .column) (y .1)) (omega (arith, at .low))
 
-  pub down-is : (x : Bool) → x ≡ has s (t * 36 + 1 + p .row + 1) (p .column) → x ≡ inSet g s t (c + g .width)
-  down-is x e =
-      let z : t * 36 + 1 + p .row + 1 ≡ t * 36 + 1 + (p .row + 1) = omega arith in
-      e
-      ∙ rw z
-      (digit-set (c + w) (p .row + 1) (p .column) (add-div-right c (grid .thin) ∙ rw (at .row)) (add-mod-right c w ∙ sym (at .column))
-      (omega (arith, at .low)))
+  pub down-is : (x : Bool) → x ≡ (ltb (p .row + 1) 32 && has s (wordOf t (p .row + 1)) (p .column)) → x ≡ inSet g s t (c + g .width)
+  down-is x e = e ∙ ⊎-elim inside outside (lt-or-le (p .row + 1) 32)
+    where
+      row : (c + w) / w ≡ p .row + 1
+      row = add-div-right c (grid .thin) ∙ rw (at .row) refl
+
+      inside : p .row + 1 < 32 → (ltb (p .row + 1) 32 && has s (wordOf t (p .row + 1)) (p .column)) ≡ inSet g s t (c + w)
+      inside l = rw (lt-ltb (p .row + 1) 32 l) (digit-set (c + w) (p .row + 1) (p .column) row (add-mod-right c w ∙ sym (at .column)) l)
+
+      outside : 32 ≤ p .row + 1 → (ltb (p .row + 1) 32 && has s (wordOf t (p .row + 1)) (p .column)) ≡ inSet g s t (c + w)
+      outside l =
+          rw (le-ltb (p .row + 1) 32 l)
+          (sym (not-true-is-false (inSet g s t (c + w)) (λ i. omega (
+            arith,
+            l,
+            row,
+            place-row w (c + w) (grid .thin)
+                (omega (arith, grid .low, set-cell g s t (c + w) i)),
+          ))))
 
 -- A test that fails is passed over, and one that holds gives its cell.
 pub passed-over : {x b : Bool} (d : ℕ) {r y : ℕ} → x ≡ b → x ≡ false → r ≡ y → r ≡ pick b d y

@@ -20,14 +20,14 @@ unfoldable pub heldFrom : (ℕ → Bool) → ℕ → ℕ
 heldFrom p zero = 0
 heldFrom p (suc n) = elim (p n) [ true ↦ heldFrom p n | false ↦ suc n ]
 
--- The least beat from which cell c is in the room through the horizon; one past the horizon where it is not there then.
+-- The least beat from which cell c is in the free table through the horizon; one past the horizon where it is not there then.
 unfoldable pub holdOf : SearchGrid → List ℕ → ℕ → ℕ
-holdOf g room c = heldFrom (λ t. inSet g room t c) (g .horizon + 1)
+holdOf g table c = heldFrom (λ t. inSet g table t c) (g .horizon + 1)
 
--- The docks with the beats from which they can be held in a room.
+-- The docks with the beats from which they can be held in a free table.
 unfoldable pub heldDocks : SearchGrid → List ℕ → ℕ → List ℕ → Docks
-heldDocks g room count cells =
-    record { count = count; cells = cells; holds = filled (replicate 4 0) (λ k. holdOf g room (getD cells k 0)) count }
+heldDocks g table count cells =
+    record { count = count; cells = cells; holds = filled (replicate 4 0) (λ k. holdOf g table (getD cells k 0)) count }
 
 -- Some number below n passes a test.
 unfoldable pub anyOf : (ℕ → Bool) → ℕ → Bool

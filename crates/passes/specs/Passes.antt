@@ -1,30 +1,36 @@
--- The passes of a search: forward from the start to the least arrival, backward from there to what leads to a dock. A table of the room
+-- The passes of a search: forward from the start to the least arrival, backward from there to what leads to a dock. A table of the free table
 -- and the docks are all that they know.
 use Prim.Native.Nat.{ℕ, _+_, _≤_, _<_}
 use mathlib.Core.Bool.{Bool, true}
 use mathlib.Core.List.{List}
 use mathlib.Core.Path.{_≡_}
 use Rattle.layers.specs.declared.SearchGrid.{SearchGrid}
-use Rattle.layers.specs.Table.{Tidy}
+use Rattle.layers.specs.Table.{Tidy, inSet}
 use Rattle.layers.specs.Step.{Alone, Spread}
 use Rattle.passes.specs.declared.docks.Docks.{Docks}
 use Rattle.passes.specs.Docks.{EndsAt}
 
--- The sets of s through beat n are what the start reaches in the room.
-pub record Reached (g : SearchGrid) (room : List ℕ) (start n : ℕ) (s : List ℕ) : Type 0 where
+-- The sets of s through beat n are what the start reaches in the free table.
+pub record ForwardReachable (g : SearchGrid) (table : List ℕ) (start n : ℕ) (s : List ℕ) : Type 0 where
   pub tidy : Tidy g s
   pub begins : Alone g s 0 start
-  pub spreads : (t : ℕ) → t < n → Spread g room s t (t + 1)
+  pub spreads : (t : ℕ) → t < n → Spread g table s t (t + 1)
 
 -- The same through beat r, or through the horizon where r is past that.
-abbrev pub ReachedTo : SearchGrid → List ℕ → ℕ → ℕ → List ℕ → Type 0
-ReachedTo g room start r s = (n : ℕ) → n ≤ r → n ≤ g .horizon → Reached g room start n s
+abbrev pub ForwardReachableTo : SearchGrid → List ℕ → ℕ → ℕ → List ℕ → Type 0
+ForwardReachableTo g table start r s = (n : ℕ) → n ≤ r → n ≤ g .horizon → ForwardReachable g table start n s
 
--- The sets of s from beat n through beat a are what leads in the room to a dock that can be held from beat a on.
-pub record Leading (g : SearchGrid) (room : List ℕ) (ds : Docks) (a n : ℕ) (s : List ℕ) : Type 0 where
+-- The sets of q from beat n through beat m follow from each other; those through beat n are as in s.
+pub record Extended (g : SearchGrid) (table : List ℕ) (n : ℕ) (s : List ℕ) (m : ℕ) (q : List ℕ) : Type 0 where
+  pub tidy : Tidy g q
+  pub spreads : (t : ℕ) → n ≤ t → t < m → Spread g table q t (t + 1)
+  pub kept : (t c : ℕ) → t ≤ n → inSet g q t c ≡ inSet g s t c
+
+-- The sets of s from beat n through beat a are what leads in the free table to a dock that can be held from beat a on.
+pub record BackwardReachable (g : SearchGrid) (table : List ℕ) (ds : Docks) (a n : ℕ) (s : List ℕ) : Type 0 where
   pub tidy : Tidy g s
   pub ends : EndsAt g s ds a (ds .count)
-  pub spreads : (t : ℕ) → n ≤ t → t < a → Spread g room s (t + 1) t
+  pub spreads : (t : ℕ) → n ≤ t → t < a → Spread g table s (t + 1) t
 
 -- a is the first number below n that passes a test, or n.
 pub record Earliest (p : ℕ → Bool) (n a : ℕ) : Type 0 where

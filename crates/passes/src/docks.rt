@@ -2,9 +2,11 @@
 ghost use mathlib.Core.Path.{_≡_};
 ghost use Prim.Native.Nat.{_≤_, _<_};
 ghost use lib.ListN.{length};
-ghost use Rattle.layers.specs.Table.{Grid, Tidy};
+ghost use lib.Dec.{leb};
+ghost use mathlib.Core.Bool.{_&&_};
+ghost use Rattle.layers.specs.Table.{Grid, Tidy, inSet};
 ghost use Rattle.layers.specs.Step.{ChangedAt};
-ghost use Rattle.passes.specs.Docks.{DocksIn, holdOf, heldDocks, someHeld, arrivableAt, arrivable, EndsAt, OneEnd};
+ghost use Rattle.passes.specs.Docks.{DocksIn, holdOf, heldDocks, someHeld, arrivable, EndsAt, OneEnd};
 use layers::SearchGrid;
 use layers::table::member;
 use layers::table::put_more;
@@ -13,21 +15,21 @@ use layers::table::put_none;
 // As many cells as a carrier may have docks.
 pub type Cells = [u16; 4];
 
-// The first `count` cells are docks, each with the least beat from which it is in the room through the horizon.
+// The first `count` cells are docks, each with the least beat from which it is in the free table through the horizon.
 pub struct Docks {
     pub count: usize,
     pub cells: Cells,
     pub holds: [usize; 4],
 }
 
-// The least beat from which a cell is in the room through the horizon; one past the horizon where it is not there then.
-fn hold_from(g: SearchGrid, room: &[u32], dock: usize) -> usize
-    requires { ⌜ Grid g × (length (now room) ≡ 2304) × (g .horizon ≤ 63) × (dock < g .cells) ⌝ }
-    ensures { λ r. ⌜ r ≡ holdOf g (now (room .entry)) dock ⌝ }
+// The least beat from which a cell is in the free table through the horizon; one past the horizon where it is not there then.
+fn hold_from(g: SearchGrid, table: &[u32], dock: usize) -> usize
+    requires { ⌜ Grid g × (length (now table) ≡ 2049) × (g .horizon ≤ 63) × (dock < g .cells) ⌝ }
+    ensures { λ r. ⌜ r ≡ holdOf g (now (table .entry)) dock ⌝ }
 {
     let mut n = g.horizon + 1;
     while 0 < n {
-        if !member(g, room, n - 1, dock) {
+        if !member(g, table, n - 1, dock) {
             return n;
         }
         n -= 1;
@@ -35,15 +37,15 @@ fn hold_from(g: SearchGrid, room: &[u32], dock: usize) -> usize
     0
 }
 
-// The docks with the beats from which they can be held in a room.
-pub fn hold_docks(g: SearchGrid, room: &[u32], count: usize, cells: Cells) -> Docks
-    requires { ⌜ Grid g × (length (now room) ≡ 2304) × (g .horizon ≤ 63) × DocksIn g count cells ⌝ }
-    ensures { λ r. ⌜ r ≡ heldDocks g (now (room .entry)) count cells ⌝ }
+// The docks with the beats from which they can be held in a free table.
+pub fn hold_docks(g: SearchGrid, table: &[u32], count: usize, cells: Cells) -> Docks
+    requires { ⌜ Grid g × (length (now table) ≡ 2049) × (g .horizon ≤ 63) × DocksIn g count cells ⌝ }
+    ensures { λ r. ⌜ r ≡ heldDocks g (now (table .entry)) count cells ⌝ }
 {
     let mut holds = [0usize; 4];
     let mut k: usize = 0;
     while k < count {
-        holds[k] = hold_from(g, room, cells[k] as usize);
+        holds[k] = hold_from(g, table, cells[k] as usize);
         k += 1;
     }
     Docks {
@@ -69,26 +71,26 @@ pub fn some_held(ds: Docks, t: usize) -> bool
     false
 }
 
-// Whether dock k can be held from beat t on and is in the set of beat t.
-fn arrives_at(g: SearchGrid, sets: &[u32], ds: Docks, t: usize, k: usize) -> bool
-    requires { ⌜ Grid g × (length (now sets) ≡ 2304) × (t < 64) × DocksIn g (ds .count) (ds .cells) × (k < ds .count) ⌝ }
-    ensures { λ r. ⌜ r ≡ arrivableAt g (now (sets .entry)) ds t k ⌝ }
+// Whether a dock that can be held from beat `hold` on can be held from beat t on, and is in the set of beat t.
+fn arrives_at(g: SearchGrid, sets: &[u32], t: usize, hold: usize, dock: usize) -> bool
+    requires { ⌜ Grid g × (length (now sets) ≡ 2049) × (t < 64) × (dock < g .cells) ⌝ }
+    ensures { λ r. ⌜ r ≡ (leb hold t && inSet g (now (sets .entry)) t dock) ⌝ }
 {
-    if t < ds.holds[k] {
+    if t < hold {
         return false;
     }
-    member(g, sets, t, ds.cells[k] as usize)
+    member(g, sets, t, dock)
 }
 
 // Whether some dock that can be held from beat t on is in the set of beat t.
 pub fn arrives(g: SearchGrid, sets: &[u32], ds: Docks, t: usize) -> bool
-    requires { ⌜ Grid g × (length (now sets) ≡ 2304) × (t < 64) × DocksIn g (ds .count) (ds .cells) ⌝ }
+    requires { ⌜ Grid g × (length (now sets) ≡ 2049) × (t < 64) × DocksIn g (ds .count) (ds .cells) ⌝ }
     ensures { λ r. ⌜ r ≡ arrivable g (now (sets .entry)) ds t ⌝ }
 {
     let n = ds.count;
     let mut k: usize = 0;
     while k < n {
-        if arrives_at(g, sets, ds, t, k) {
+        if arrives_at(g, sets, t, ds.holds[k], ds.cells[k] as usize) {
             return true;
         }
         k += 1;

@@ -5,31 +5,54 @@ ghost use Prim.Native.Nat.{_+_, _-_, _≤_, _<_};
 ghost use lib.Dec.{ltb};
 ghost use lib.ListN.{length, replicate};
 ghost use Rattle.bitrows.specs.Rows.{filled, has as Rows·has};
-ghost use Rattle.layers.specs.Table.{Grid, Tidy};
+ghost use Rattle.layers.specs.Table.{Grid, Tidy, wordOf};
 ghost use Rattle.passes.specs.Walk.{nextOf, stepOf, pathOf};
 use layers::SearchGrid;
 use layers::place_of;
-use layers::table::STRIDE;
+use layers::table::ROWS;
+use layers::table::has_at;
 use route::Route;
 
-// Whether the digit left of column k is in row i.
-fn has_left(s: &[u32], i: usize, k: usize) -> bool
-    requires { ⌜ (i < length (now s)) × (k < 32) ⌝ }
-    ensures { λ r. ⌜ r ≡ (ltb 0 k && Rows·has (now (s .entry)) i (k - 1)) ⌝ }
+// Whether the digit above that of a row at column k is 1, at beat t.
+fn has_above(s: &[u32], t: usize, row: usize, k: usize) -> bool
+    requires { ⌜ (length (now s) ≡ 2049) × (t < 64) × (row < 32) × (k < 32) ⌝ }
+    ensures { λ r. ⌜ r ≡ (ltb 0 row && Rows·has (now (s .entry)) (wordOf t (row - 1)) k) ⌝ }
 {
-    if 0 < k {
-        return bitrows::has(s, i, k - 1);
+    if 0 < row {
+        return has_at(s, t, row - 1, k);
     }
     false
 }
 
-// Whether the digit right of column k is in row i of a grid of width w.
-fn has_right(s: &[u32], i: usize, k: usize, w: usize) -> bool
-    requires { ⌜ (i < length (now s)) × (k < 32) × (w ≤ 32) ⌝ }
-    ensures { λ r. ⌜ r ≡ (ltb (k + 1) w && Rows·has (now (s .entry)) i (k + 1)) ⌝ }
+// Whether the digit below it is 1.
+fn has_below(s: &[u32], t: usize, row: usize, k: usize) -> bool
+    requires { ⌜ (length (now s) ≡ 2049) × (t < 64) × (row < 32) × (k < 32) ⌝ }
+    ensures { λ r. ⌜ r ≡ (ltb (row + 1) 32 && Rows·has (now (s .entry)) (wordOf t (row + 1)) k) ⌝ }
+{
+    if row + 1 < ROWS {
+        return has_at(s, t, row + 1, k);
+    }
+    false
+}
+
+// Whether the digit left of it is 1.
+fn has_left(s: &[u32], t: usize, row: usize, k: usize) -> bool
+    requires { ⌜ (length (now s) ≡ 2049) × (t < 64) × (row < 32) × (k < 32) ⌝ }
+    ensures { λ r. ⌜ r ≡ (ltb 0 k && Rows·has (now (s .entry)) (wordOf t row) (k - 1)) ⌝ }
+{
+    if 0 < k {
+        return has_at(s, t, row, k - 1);
+    }
+    false
+}
+
+// Whether the digit right of it is 1, in a grid of width w.
+fn has_right(s: &[u32], t: usize, row: usize, k: usize, w: usize) -> bool
+    requires { ⌜ (length (now s) ≡ 2049) × (t < 64) × (row < 32) × (k < 32) × (w ≤ 32) ⌝ }
+    ensures { λ r. ⌜ r ≡ (ltb (k + 1) w && Rows·has (now (s .entry)) (wordOf t row) (k + 1)) ⌝ }
 {
     if k + 1 < w {
-        return bitrows::has(s, i, k + 1);
+        return has_at(s, t, row, k + 1);
     }
     false
 }
@@ -41,21 +64,21 @@ fn next(g: SearchGrid, sets: &[u32], t: usize, c: usize) -> usize
 {
     let w = g.width;
     let p = place_of(g, c);
+    let row = p.row;
     let k = p.column;
-    let i = t * STRIDE + 1 + p.row;
-    if bitrows::has(sets, i - 1, k) {
+    if has_above(sets, t, row, k) {
         return c - w;
     }
-    if has_left(sets, i, k) {
+    if has_left(sets, t, row, k) {
         return c - 1;
     }
-    if bitrows::has(sets, i, k) {
+    if has_at(sets, t, row, k) {
         return c;
     }
-    if has_right(sets, i, k, w) {
+    if has_right(sets, t, row, k, w) {
         return c + 1;
     }
-    if bitrows::has(sets, i + 1, k) {
+    if has_below(sets, t, row, k) {
         return c + w;
     }
     c

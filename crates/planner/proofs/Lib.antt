@@ -1,7 +1,7 @@
 -- Laws of the definitions that no single function owns.
 pub mod FirstLaws
 pub mod RecordLaws
-pub mod RoomLaws
+pub mod TableLaws
 pub mod PlanLaws
 pub mod FailingLaws
 pub mod RequestLaws

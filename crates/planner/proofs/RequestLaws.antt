@@ -19,14 +19,14 @@ use Rattle.planner.specs.Plan.{planVerdict, planOf, respondOf, respondWi
 use Rattle.planner.specs.Answers.{Plannable}
 
 -- What a passed request tells.
-pub record PlanGranted (f : Floor) (ws : List ℕ) (room : ℕ) : Type 0 where
+pub record PlanGranted (f : Floor) (ws : List ℕ) (table : ℕ) : Type 0 where
   pub accepted : Accepted f ws
   pub bounds : Bounds f
-  pub enough : 65 * f .carriers ≤ room
+  pub enough : 65 * f .carriers ≤ table
 
-pub plan-granted : (f : Floor) (ws : List ℕ) (room : ℕ) → planVerdict f ws room ≡ passed → PlanGranted f ws room
+pub plan-granted : (f : Floor) (ws : List ℕ) (table : ℕ) → planVerdict f ws table ≡ passed → PlanGranted f ws table
 unfolding planVerdict
-plan-granted f ws room h =
+plan-granted f ws table h =
     let a = then-both _ _ h in
     let ok = theorems .passes-exactly f ws .0 (a .0) in
     record { accepted = ok; bounds = limited-bounds f (ok .limited); enough = length-passed _ _ (a .1) }
@@ -38,7 +38,7 @@ plannable f ws rows m a r =
       some = a .bounds .carriers .0;
       few = a .bounds .carriers .1;
       horizon = a .bounds .horizon .1;
-      room = a .enough;
+      lent = a .enough;
       searchable = λ i views l s.
           accepted-searchable f ws (i + 1) views rows (a .accepted) (omega arith, omega arith) (omega arith) r;
     }

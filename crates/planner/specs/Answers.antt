@@ -14,14 +14,14 @@ unfoldable pub plannedOutcome : Planned → Outcome ℕ
 plannedOutcome (Failing i) = value i
 plannedOutcome (Refused r) = refusal (r .number) (r .place)
 
--- What planning a floor answers, with room for so many numbers: the failing carrier.
+-- What planning a floor into so many lent numbers answers: the failing carrier.
 unfoldable pub planResult : Floor → List ℕ → ℕ → Outcome ℕ
-planResult f ws room = planVerdict f ws room gives failingOf (planOf f ws)
+planResult f ws lent = planVerdict f ws lent gives failingOf (planOf f ws)
 
--- What planning needs that is already checked: every carrier can be searched for, and its answer has room.
+-- What planning needs that is already checked: every carrier can be searched for, and its answer fits the lent memory.
 pub record Plannable (f : Floor) (rows : List ℕ) (m : List ℕ) : Type 0 where
   pub some : 1 ≤ f .carriers
   pub few : f .carriers ≤ 8
   pub horizon : f .horizon ≤ 63
-  pub room : 65 * f .carriers ≤ length m
+  pub lent : 65 * f .carriers ≤ length m
   pub searchable : (i : ℕ) (views : List ℕ) → i < f .carriers → 65 * i ≤ length views → Searchable f rows (i + 1) views

@@ -35,4 +35,4 @@ failingOf xs = failingFrom 1 xs
 
 -- The refusals of a plan: the floor's, then 9 if fewer than 65 numbers a carrier are lent for the answers.
 unfoldable pub planVerdict : Floor → List ℕ → ℕ → Verdict
-planVerdict f ws room = checkOf f ws then longEnough (65 * f .carriers) room
+planVerdict f ws lent = checkOf f ws then longEnough (65 * f .carriers) lent

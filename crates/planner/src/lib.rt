@@ -8,7 +8,7 @@ ghost use Rattle.floor.specs.Answers.{verdictOf};
 ghost use Rattle.route.specs.Sequential.{sequential};
 ghost use Rattle.search.specs.Rows.{Searchable};
 ghost use Rattle.layers.specs.Table.{searchGridOf, Tidy};
-ghost use Rattle.layers.specs.Room.{IsFreeTable};
+ghost use Rattle.layers.specs.FreeTable.{IsFreeTable};
 ghost use Rattle.planner.specs.Plan.{respondWith, planVerdict};
 ghost use Rattle.planner.specs.Records.{withAnswer, planMemory};
 ghost use Rattle.records.specs.Records.{records, stored};
@@ -28,37 +28,37 @@ pub enum Planned {
     Refused(Refusal),
 }
 
-// The refusals of a plan, in their order: what planning with so much room would answer; nothing is written.
-pub fn request(f: Floor, walls: &[u16], room: usize) -> Checked
-    ensures { λ r. ⌜ verdictOf r ≡ planVerdict f (now (walls .entry)) room ⌝ }
+// The refusals of a plan, in their order: what planning into so much memory would answer; nothing is written.
+pub fn request(f: Floor, walls: &[u16], lent: usize) -> Checked
+    ensures { λ r. ⌜ verdictOf r ≡ planVerdict f (now (walls .entry)) lent ⌝ }
 {
     let checked = floor::check(f, walls);
     let Checked::Passed = checked else {
         return checked;
     };
-    floor::check_length(records::SIZE * f.carriers as usize, room)
+    floor::check_length(records::SIZE * f.carriers as usize, lent)
 }
 
 // The answer of the carrier with i carriers above it, whose answers stand in front and are shown as they are seen; it is stored behind
-// them, shown as it is seen, and what it occupies is taken out of the room. The sets are a table to work in.
+// them, shown as it is seen, and what it occupies is taken out of the free table. The sets are a table to work in.
 fn plan_one(
     f: Floor,
     free: Rows,
     i: u16,
-    room: &mut [u32],
+    table: &mut [u32],
     sets: &mut [u32],
     shown: &mut [u16],
     answers: &mut [u16],
 )
     requires { ⌜ (i < 8) × (65 * i + 65 ≤ length (now answers)) × (65 * i + 65 ≤ length (now shown)) ⌝ }
     requires { ⌜ Searchable f free (i + 1) (now shown) × (records (now shown) i ≡ seen f (records (now answers) i)) ⌝ }
-    requires { ⌜ IsFreeTable (searchGridOf f) i free (now shown) (now room) × Tidy (searchGridOf f) (now sets) ⌝ }
+    requires { ⌜ IsFreeTable (searchGridOf f) i free (now shown) (now table) × Tidy (searchGridOf f) (now sets) ⌝ }
     ensures answers { λ r. ⌜ now (answers .exit) ≡ withAnswer f free i (now (answers .entry)) ⌝ }
     ensures shown { λ r. ⌜ records (now (shown .exit)) (i + 1) ≡ seen f (records (now (answers .exit)) (i + 1)) ⌝ }
-    ensures room { λ r. ⌜ IsFreeTable (searchGridOf f) (i + 1) free (now (shown .exit)) (now (room .exit)) ⌝ }
+    ensures table { λ r. ⌜ IsFreeTable (searchGridOf f) (i + 1) free (now (shown .exit)) (now (table .exit)) ⌝ }
     ensures tidy { λ r. ⌜ Tidy (searchGridOf f) (now (sets .exit)) ⌝ }
 {
-    let found = search::route_in(f, free, room, sets, i + 1, shown);
+    let found = search::route_in(f, free, table, sets, i + 1, shown);
     let outcome = found.outcome;
     let cells = found.route;
     records::store(
@@ -68,22 +68,22 @@ fn plan_one(
         cells,
     );
     records::store_seen(f, answers, i as usize, shown);
-    search::take_route(f, room, shown, i as usize);
+    search::take_route(f, table, shown, i as usize);
 }
 
-// The carriers in turn, each best against the answers above it, in the room that these leave.
+// The carriers in turn, each best against the answers above it, in the free table that these leave.
 fn plan_all(f: Floor, free: Rows, answers: &mut [u16])
     requires { ⌜ Plannable f free (now answers) ⌝ }
     ensures { λ r. ⌜ now (answers .exit) ≡ stored (sequential (respondWith f free) (f .carriers)) (now (answers .entry)) ⌝ }
 {
     let n = f.carriers;
-    let mut room = search::no_room();
-    search::fill_room(f, free, &mut room);
-    let mut sets = search::no_room();
+    let mut table = search::empty_table();
+    search::fill_free_table(f, free, &mut table);
+    let mut sets = search::empty_table();
     let mut shown = records::blank();
     let mut i: u16 = 0;
     while i < n {
-        plan_one(f, free, i, &mut room, &mut sets, &mut shown, answers);
+        plan_one(f, free, i, &mut table, &mut sets, &mut shown, answers);
         i += 1;
     }
 }

@@ -6,7 +6,7 @@ use mathlib.Core.Bool.{Bool, true, false, _&&_, _||_, not, and-true}
 use mathlib.Core.List.{List}
 use mathlib.Core.Logic.{⊎-elim}
 use mathlib.Core.Path.{_≡_, refl, sym, ap, _∙_}
-use borrow.Author.Tests.{eqb-true, ltb-true, lt-ltb}
+use borrow.Author.Tests.{ltb-true, lt-ltb}
 use lib.Arith.{digits-lt}
 use lib.Dec.{eqb, ltb}
 use lib.ListN.{length, getD, replicate, length-replicate}
@@ -15,7 +15,7 @@ use Rattle.floor.specs.declared.Floor.{Floor}
 use Rattle.floor.specs.Checks.{among}
 use Rattle.route.specs.Route.{View}
 use Rattle.route.specs.Search.{best}
-use Rattle.laws.proofs.Tests.{true-false-absurd, and-both, and-fst, and-snd, lt-or-le, same-test}
+use Rattle.laws.proofs.Tests.{true-false-absurd, lt-or-le}
 use Rattle.route.proofs.FreeLaws.{best-free}
 use Rattle.bitrows.specs.Words.{digit}
 use Rattle.bitrows.specs.Rows.{has, Clean}
@@ -31,7 +31,7 @@ not-either true true c = refl
 not-either true false c = refl
 not-either false b c = refl
 
-module _ (w cells : ℕ) (thin : 0 < w) (room : cells ≤ 32 * w) (ws rows : List ℕ) (long : length rows ≡ 32) where
+module _ (w cells : ℕ) (thin : 0 < w) (table : cells ≤ 32 * w) (ws rows : List ℕ) (long : length rows ≡ 32) where
   length-out : (n : ℕ) → length (wallsOut w cells ws rows n) ≡ 32
   unfolding wallsOut
   length-out zero = long
@@ -43,7 +43,7 @@ module _ (w cells : ℕ) (thin : 0 < w) (room : cells ≤ 32 * w) (ws rows : Lis
   has-out zero r q l u = sym (and-true (has rows r q))
   has-out (suc n) r q l u =
       rw zero-add at
-      (has-dropped-at w cells thin room (wallsOut w cells ws rows n) 0 (getD ws n 0) (omega (arith, length-out n)) r q l u)
+      (has-dropped-at w cells thin table (wallsOut w cells ws rows n) 0 (getD ws n 0) (omega (arith, length-out n)) r q l u)
       ∙ rw (has-out n r q l u) (not-either (has rows r q) (among ws n (r * w + q)) (eqb (getD ws n 0) (r * w + q)))
 
   -- They have no digit more.
@@ -51,7 +51,7 @@ module _ (w cells : ℕ) (thin : 0 < w) (room : cells ≤ 32 * w) (ws rows : Lis
   unfolding wallsOut
   fewer-out zero r q e = e
   fewer-out (suc n) r q e =
-      fewer-out n r q (fewer-at w cells thin room (wallsOut w cells ws rows n) 0 (getD ws n 0) (omega (arith, length-out n)) r q e)
+      fewer-out n r q (fewer-at w cells thin table (wallsOut w cells ws rows n) 0 (getD ws n 0) (omega (arith, length-out n)) r q e)
 
 module _ (w h : ℕ) (high : h ≤ 32) where
   has-grid : (r q : ℕ) → r < h → has (gridRows w h) r q ≡ ltb q w
@@ -74,11 +74,11 @@ module _ (w h : ℕ) (high : h ≤ 32) where
   grid-column : (r q : ℕ) → has (gridRows w h) r q ≡ true → q < w
   grid-column r q e = ltb-true q w (sym (has-grid r q (grid-row r q e)) ∙ e)
 
-module _ (f : Floor) (ws : List ℕ) (thin : 1 ≤ f .width) (high : f .height ≤ 32) (room : f .width * f .height ≤ 32 * f .width) where
+module _ (f : Floor) (ws : List ℕ) (thin : 1 ≤ f .width) (high : f .height ≤ 32) (table : f .width * f .height ≤ 32 * f .width) where
   agree : (c : ℕ) → c < f .width * f .height → has (freeRowsOf f ws) (c / f .width) (c % f .width) ≡ not (among ws (f .walls) c)
   unfolding freeRowsOf
   agree c h =
-      has-out (f .width) (f .width * f .height) thin room ws (gridRows (f .width) (f .height)) (length-grid (f .width) (f .height) high)
+      has-out (f .width) (f .width * f .height) thin table ws (gridRows (f .width) (f .height)) (length-grid (f .width) (f .height) high)
       (f .walls) (c / f .width) (c % f .width) (mod-lt c thin) (rw (div-add-mod' c (f .width)) h)
       ∙ rw (
         has-grid (f .width) (f .height) high (c / f .width) (c % f .width)
@@ -99,7 +99,7 @@ module _ (f : Floor) (ws : List ℕ) (thin : 1 ≤ f .width) (high : f .height �
       old : (r q : ℕ) → has (wallsOut (f .width) (f .width * f .height) ws (gridRows (f .width) (f .height)) (f .walls)) r q ≡ true →
           has (gridRows (f .width) (f .height)) r q ≡ true
       old =
-          fewer-out (f .width) (f .width * f .height) thin room ws (gridRows (f .width) (f .height))
+          fewer-out (f .width) (f .width * f .height) thin table ws (gridRows (f .width) (f .height))
           (length-grid (f .width) (f .height) high) (f .walls)
 
   same-best : (i : ℕ) (vs : List View) → best (taskOfRows f (freeRowsOf f ws) i) vs ≡ best (taskOf f ws i) vs
@@ -114,7 +114,7 @@ module _ (f : Floor) (ws : List ℕ) (thin : 1 ≤ f .width) (high : f .height �
       rw e
       (record {
         made = refl;
-        long = length-out (f .width) (f .width * f .height) thin room ws (gridRows (f .width) (f .height))
+        long = length-out (f .width) (f .width * f .height) thin table ws (gridRows (f .width) (f .height))
             (length-grid (f .width) (f .height) high) (f .walls);
         clean = clean;
         same = same-best;

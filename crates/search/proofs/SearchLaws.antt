@@ -1,4 +1,4 @@
--- From the search in a room to the best answer of a checked floor.
+-- From the search in a free table to the best answer of a checked floor.
 use Prim.Native.Nat.{ℕ, _*_, _-_, _/_, _%_, _≤_, _<_}
 use mathlib.Core.List.{List}
 use mathlib.Core.Path.{_≡_, ap}
@@ -12,7 +12,7 @@ use Rattle.route.specs.Search.{best}
 use Rattle.bitrows.specs.Rows.{has, Clean}
 use Rattle.layers.specs.declared.SearchGrid.{SearchGrid}
 use Rattle.layers.specs.Table.{searchGridOf, Fits, Tidy}
-use Rattle.layers.specs.Room.{standsAt, IsFreeTable}
+use Rattle.layers.specs.FreeTable.{standsAt, IsFreeTable}
 use Rattle.layers.proofs.GridLaws.{scene-grid}
 use Rattle.passes.specs.Docks.{DocksIn}
 use Rattle.records.specs.Records.{records, viewsOf}
@@ -43,21 +43,21 @@ module _ {f : Floor} {rows : List ℕ} {i : ℕ} {m : List ℕ} (s : Searchable 
   unfolding searchGridOf dockOf
   scene-docks at = rw (q, at) (record { few = s .few; inside = s .docks })
 
--- A room of the scene is one of the floor's, and a tidy table too.
-pub room-scene : (f : Floor) {g : SearchGrid} {k : ℕ} {rows m room : List ℕ} → g ≡ searchGridOf f → IsFreeTable g k rows m room →
-    IsFreeTable (searchGridOf f) k rows m room
-room-scene f q r = rw q at r
+-- A free table of the scene is one of the floor's, and a tidy table too.
+pub table-scene : (f : Floor) {g : SearchGrid} {k : ℕ} {rows m table : List ℕ} → g ≡ searchGridOf f → IsFreeTable g k rows m table →
+    IsFreeTable (searchGridOf f) k rows m table
+table-scene f q r = rw q at r
 
 pub tidy-scene : (f : Floor) {g : SearchGrid} {s : List ℕ} → g ≡ searchGridOf f → Tidy g s → Tidy (searchGridOf f) s
 tidy-scene f q t = rw q at t
 
--- What is best in such a room is the best answer against the views.
-pub best-views : (f : Floor) (rows : List ℕ) (i : ℕ) (m room : List ℕ) (g : SearchGrid) (cells : List ℕ) (r : Found) → g ≡ searchGridOf f →
-    cells ≡ docksOf f (i - 1) → IsFreeTable (searchGridOf f) (i - 1) rows m room →
-    BestIn g room (startOf f (i - 1)) (among cells (countOf f (i - 1))) r → Says r (answered (best (taskOfRows f rows i) (viewsOf m i)))
+-- What is best in such a free table is the best answer against the views.
+pub best-views : (f : Floor) (rows : List ℕ) (i : ℕ) (m table : List ℕ) (g : SearchGrid) (cells : List ℕ) (r : Found) → g ≡ searchGridOf f →
+    cells ≡ docksOf f (i - 1) → IsFreeTable (searchGridOf f) (i - 1) rows m table →
+    BestIn g table (startOf f (i - 1)) (among cells (countOf f (i - 1))) r → Says r (answered (best (taskOfRows f rows i) (viewsOf m i)))
 unfolding taskOfRows viewsOf searchGridOf standsAt standable isDock
-best-views f rows i m room g cells r q at roomy h =
-    (rw (q, at) at h) (λ c. has rows (c / f .width) (c % f .width)) (records m (i - 1)) (roomy .agrees)
+best-views f rows i m table g cells r q at is-table h =
+    (rw (q, at) at h) (λ c. has rows (c / f .width) (c % f .width)) (records m (i - 1)) (is-table .agrees)
 
 -- A carrier that can be searched for with some views can be with others.
 pub other-views : {f : Floor} {rows : List ℕ} {i : ℕ} {m q : List ℕ} → Searchable f rows i m → 65 * (i - 1) ≤ length q →

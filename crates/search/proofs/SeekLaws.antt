@@ -1,14 +1,14 @@
--- The passes over a room in the theory of sets: by it what the search answers is the best route.
+-- The passes over a free table in the theory of sets: by it what the search answers is the best route.
 use Prim.Native.Nat.{ℕ, zero, suc, _+_, _≤_, _<_}
 use native.Mathlib.Omega.{arith}
 use native.Mathlib.Numerals.{add-one}
 use native.Mathlib.Nat.{eq-or-lt-of-le}
-use mathlib.Core.Bool.{Bool, true, false, _&&_}
+use mathlib.Core.Bool.{Bool, true, false}
 use mathlib.Core.List.{List}
 use mathlib.Core.Logic.{⊎-elim}
 use mathlib.Core.Path.{_≡_, refl, sym, _∙_}
 use borrow.Author.Tests.{leb-true, le-leb}
-use lib.ListN.{length, getD, replicate, length-replicate}
+use lib.ListN.{getD, replicate, length-replicate}
 use Rattle.laws.proofs.Lists.{zeros-at}
 use Rattle.laws.proofs.Tests.{and-both, and-fst, and-snd, false-fails, not-true-is-false}
 use Rattle.floor.specs.Checks.{among}
@@ -26,7 +26,7 @@ use Rattle.layers.specs.Step.{Beside, Spread}
 use Rattle.layers.proofs.MemberLaws.{near-same, near-turn}
 use Rattle.passes.specs.declared.docks.Docks.{Docks}
 use Rattle.passes.specs.Docks.{holdOf, heldDocks, heldAt, someHeld, arrivableAt, arrivable, endableAt}
-use Rattle.passes.specs.Passes.{Reached, Leading, Earliest}
+use Rattle.passes.specs.Passes.{ForwardReachable, BackwardReachable, Earliest}
 use Rattle.passes.specs.Walk.{nextOf, pathOf}
 use Rattle.passes.proofs.AnyLaws.{Passing, any-says, any-holds}
 use Rattle.passes.proofs.HoldLaws.{held-says, held-least}
@@ -35,8 +35,8 @@ use Rattle.passes.proofs.NearCells.{first-best}
 use Rattle.passes.proofs.NextLaws.{step-before, step-after}
 use Rattle.search.specs.Seek.{taskIn, Agrees}
 
-module _ (g : SearchGrid) (room : List ℕ) (start count : ℕ) (cells : List ℕ) (free : ℕ → Bool) (vs : List View)
-    (agrees : Agrees g room (taskIn g start (among cells count) free) vs) (short : g .horizon ≤ 63) (thin : 1 ≤ g .width) (few : count ≤ 4)
+module _ (g : SearchGrid) (table : List ℕ) (start count : ℕ) (cells : List ℕ) (free : ℕ → Bool) (vs : List View)
+    (agrees : Agrees g table (taskIn g start (among cells count) free) vs) (short : g .horizon ≤ 63) (thin : 1 ≤ g .width) (few : count ≤ 4)
   where
     abbrev task : Task
     task = taskIn g start (among cells count) free
@@ -46,65 +46,65 @@ module _ (g : SearchGrid) (room : List ℕ) (start count : ℕ) (cells : List �
 
     -- The docks with the beats from which they can be held.
     abbrev ds : Docks
-    ds = heldDocks g room count cells
+    ds = heldDocks g table count cells
 
-    -- A move is allowed exactly if it is near and leads into the room.
+    -- A move is allowed exactly if it is near and leads into the free table.
     move-near : (t c d : ℕ) → ok t c d ≡ true → near (g .width) c d ≡ true
     unfolding allowed
     move-near t c d e = and-fst (near (g .width) c d) (standable task vs (suc t) d) e
 
-    move-room : (t c d : ℕ) → t < g .horizon → ok t c d ≡ true → inSet g room (suc t) d ≡ true
+    move-free : (t c d : ℕ) → t < g .horizon → ok t c d ≡ true → inSet g table (suc t) d ≡ true
     unfolding allowed
-    move-room t c d h e = agrees (suc t) d h ∙ and-snd (near (g .width) c d) (standable task vs (suc t) d) e
+    move-free t c d h e = agrees (suc t) d h ∙ and-snd (near (g .width) c d) (standable task vs (suc t) d) e
 
-    move : (t c d : ℕ) → t < g .horizon → near (g .width) c d ≡ true → inSet g room (suc t) d ≡ true → ok t c d ≡ true
+    move : (t c d : ℕ) → t < g .horizon → near (g .width) c d ≡ true → inSet g table (suc t) d ≡ true → ok t c d ≡ true
     unfolding allowed
     move t c d h n i = and-both n (sym (agrees (suc t) d h) ∙ i)
 
     -- The start cannot be stood on.
-    pub start-shut : inSet g room 0 start ≡ false → best (taskIn g start (among cells count) free) vs ≡ none
+    pub start-shut : inSet g table 0 start ≡ false → best (taskIn g start (among cells count) free) vs ≡ none
     unfolding startClear
     start-shut e = start-taken-best task vs short (sym (agrees 0 start (omega arith)) ∙ e)
 
     -- The beat from which dock k can be held.
-    hold-at : (k : ℕ) → k < count → getD (ds .holds) k 0 ≡ holdOf g room (getD cells k 0)
+    hold-at : (k : ℕ) → k < count → getD (ds .holds) k 0 ≡ holdOf g table (getD cells k 0)
     unfolding heldDocks
     hold-at k h =
-        filled-in (replicate 4 0) (λ j. holdOf g room (getD cells j 0)) count k (omega (arith, length-replicate {A = ℕ} 4 0)) h
+        filled-in (replicate 4 0) (λ j. holdOf g table (getD cells j 0)) count k (omega (arith, length-replicate {A = ℕ} 4 0)) h
 
-    -- Dock k can be held from beat t on exactly if it is in the room from then on.
-    held-room : (t k : ℕ) → k < count → heldAt ds t k ≡ true → (u : ℕ) → t ≤ u → u ≤ g .horizon → inSet g room u (getD cells k 0) ≡ true
+    -- Dock k can be held from beat t on exactly if it is in the free table from then on.
+    held-free : (t k : ℕ) → k < count → heldAt ds t k ≡ true → (u : ℕ) → t ≤ u → u ≤ g .horizon → inSet g table u (getD cells k 0) ≡ true
     unfolding heldAt holdOf
-    held-room t k h e u l b =
-        held-says (λ v. inSet g room v (getD cells k 0)) t (g .horizon + 1)
+    held-free t k h e u l b =
+        held-says (λ v. inSet g table v (getD cells k 0)) t (g .horizon + 1)
         (omega (arith, hold-at k h, leb-true (getD (ds .holds) k 0) t e)) u l (omega arith)
 
-    room-held : (t k : ℕ) → k < count → ((u : ℕ) → t ≤ u → u ≤ g .horizon → inSet g room u (getD cells k 0) ≡ true) → heldAt ds t k ≡ true
+    free-held : (t k : ℕ) → k < count → ((u : ℕ) → t ≤ u → u ≤ g .horizon → inSet g table u (getD cells k 0) ≡ true) → heldAt ds t k ≡ true
     unfolding heldAt holdOf
-    room-held t k h f =
+    free-held t k h f =
         le-leb (getD (ds .holds) k 0) t
-        (omega (arith, hold-at k h, held-least (λ v. inSet g room v (getD cells k 0)) t (g .horizon + 1) (λ u l b. f u l (omega arith))))
+        (omega (arith, hold-at k h, held-least (λ v. inSet g table v (getD cells k 0)) t (g .horizon + 1) (λ u l b. f u l (omega arith))))
 
     -- No dock can be held at the horizon.
     pub docks-shut : someHeld ds (g .horizon) ≡ false → best (taskIn g start (among cells count) free) vs ≡ none
     unfolding someHeld heldDocks
     docks-shut e = docks-shut-best task vs short (λ d h. sym (agrees (g .horizon) d (omega arith)) ∙ shut d (among-place cells d count h))
       where
-        shut : (d : ℕ) → (k : ℕ) × (k < count) × (getD cells k 0 ≡ d) → inSet g room (g .horizon) d ≡ false
-        shut d (k, l, q) = not-true-is-false (inSet g room (g .horizon) d) (λ i. false-fails e (any-holds (heldAt ds (g .horizon)) count k l
-            (room-held (g .horizon) k l (λ u a b. let same : u ≡ g .horizon = omega arith in rw (same, q) i))))
+        shut : (d : ℕ) → (k : ℕ) × (k < count) × (getD cells k 0 ≡ d) → inSet g table (g .horizon) d ≡ false
+        shut d (k, l, q) = not-true-is-false (inSet g table (g .horizon) d) (λ i. false-fails e (any-holds (heldAt ds (g .horizon)) count k l
+            (free-held (g .horizon) k l (λ u a b. let same : u ≡ g .horizon = omega arith in rw (same, q) i))))
 
-    -- A dock of those that can be held from beat t on is an ending in the room, and the other way round.
+    -- A dock of those that can be held from beat t on is an ending in the free table, and the other way round.
     end-dock : (t c : ℕ) → t ≤ g .horizon → Passing (endableAt ds t c) count → Ending ok (among cells count) (g .horizon) t c
-        × (inSet g room t c ≡ true)
+        × (inSet g table t c ≡ true)
     unfolding heldDocks
     end-dock t c h p = (ending, stays t (omega arith) h)
       where
         told : (heldAt ds t (p .which) ≡ true) × (c ≡ getD cells (p .which) 0)
         told = endable-says ds t c (p .which) (p .passes)
 
-        stays : (u : ℕ) → t ≤ u → u ≤ g .horizon → inSet g room u c ≡ true
-        stays u l b = rw (told .1) (held-room t (p .which) (p .below) (told .0) u l b)
+        stays : (u : ℕ) → t ≤ u → u ≤ g .horizon → inSet g table u c ≡ true
+        stays u l b = rw (told .1) (held-free t (p .which) (p .below) (told .0) u l b)
 
         ending : Ending ok (among cells count) (g .horizon) t c
         ending =
@@ -113,28 +113,28 @@ module _ (g : SearchGrid) (room : List ℕ) (start count : ℕ) (cells : List �
               holds = λ u l b. move u c c b (near-same (g .width) c) (stays (suc u) (omega arith) b);
             }
 
-    dock-end : (t c : ℕ) → Ending ok (among cells count) (g .horizon) t c → inSet g room t c ≡ true → Passing (endableAt ds t c) count
+    dock-end : (t c : ℕ) → Ending ok (among cells count) (g .horizon) t c → inSet g table t c ≡ true → Passing (endableAt ds t c) count
     unfolding heldDocks
     dock-end t c e i = at (among-place cells c count (e .docks))
       where
-        stays : (u : ℕ) → t ≤ u → u ≤ g .horizon → inSet g room u c ≡ true
+        stays : (u : ℕ) → t ≤ u → u ≤ g .horizon → inSet g table u c ≡ true
         stays zero l b = let same : t ≡ 0 = omega arith in rw same at i
         stays (suc u) l b =
-            ⊎-elim (λ (q : t ≡ suc u). rw q at i) (λ (q : t < suc u). move-room u c c b (e .holds u (omega arith) b)) (eq-or-lt-of-le l)
+            ⊎-elim (λ (q : t ≡ suc u). rw q at i) (λ (q : t < suc u). move-free u c c b (e .holds u (omega arith) b)) (eq-or-lt-of-le l)
 
         at : (k : ℕ) × (k < count) × (getD cells k 0 ≡ c) → Passing (endableAt ds t c) count
         at (k, l, q) =
             record {
               which = k;
               below = l;
-              passes = endable-holds ds t c k (room-held t k l (λ u a b. rw q (stays u a b))) (sym q);
+              passes = endable-holds ds t c k (free-held t k l (λ u a b. rw q (stays u a b))) (sym q);
             }
 
-    module _ (n : ℕ) (s : List ℕ) (early : n ≤ g .horizon) (reached : Reached g room start n s) (clear : inSet g room 0 start ≡ true) where
+    module _ (n : ℕ) (s : List ℕ) (early : n ≤ g .horizon) (reached : ForwardReachable g table start n s) (clear : inSet g table 0 start ≡ true) where
       F : Sets
       F = inSet g s
 
-      next : (t : ℕ) → t < n → Spread g room s t (suc t)
+      next : (t : ℕ) → t < n → Spread g table s t (suc t)
       next t h = rw add-one at (reached .spreads t h)
 
       -- The sets are those that the start reaches.
@@ -145,18 +145,18 @@ module _ (g : SearchGrid) (room : List ℕ) (start count : ℕ) (cells : List �
             begins = λ c. (reached .begins .says c, λ (e : c ≡ start). rw e (reached .begins .holds));
             spreads = λ t d h. (
               λ e. came t d h (next t h .says d e),
-              λ (c, i, m). next t h .holds d (move-room t c d (omega arith) m)
+              λ (c, i, m). next t h .holds d (move-free t c d (omega arith) m)
                   (c, i, move-near t c d m),
             );
           }
         where
-          came : (t d : ℕ) → t < n → (inSet g room (suc t) d ≡ true) × Beside g s t d → Came ok F t d
+          came : (t d : ℕ) → t < n → (inSet g table (suc t) d ≡ true) × Beside g s t d → Came ok F t d
           came t d h (r, (c, i, m)) = (c, i, move t c d (omega arith) m r)
 
-      -- What is reached is in the room.
-      forward-room : (t c : ℕ) → t ≤ n → inSet g s t c ≡ true → inSet g room t c ≡ true
-      forward-room zero c h e = rw (reached .begins .says c e) clear
-      forward-room (suc t) c h e = next t h .says c e .0
+      -- What is reached is in the free table.
+      forward-free : (t c : ℕ) → t ≤ n → inSet g s t c ≡ true → inSet g table t c ≡ true
+      forward-free zero c h e = rw (reached .begins .says c e) clear
+      forward-free (suc t) c h e = next t h .says c e .0
 
       -- A beat is an arrival exactly if the search finds it to be one.
       arrives : (t : ℕ) → t ≤ g .horizon → arrivable g s ds t ≡ true → Reaches ok (among cells count) (g .horizon) F t
@@ -172,13 +172,13 @@ module _ (g : SearchGrid) (room : List ℕ) (start count : ℕ) (cells : List �
       found-arrival : (t : ℕ) → t ≤ n → Reaches ok (among cells count) (g .horizon) F t → arrivable g s ds t ≡ true
       unfolding F arrivable heldDocks
       found-arrival t h r =
-          let p = dock-end t (r .where-to) (r .ending) (forward-room t (r .where-to) h (r .reached)) in
+          let p = dock-end t (r .where-to) (r .ending) (forward-free t (r .where-to) h (r .reached)) in
           let told = endable-says ds t (r .where-to) (p .which) (p .passes) in
           any-holds (arrivableAt g s ds t) count (p .which) (p .below)
           (arrivable-holds g s ds t (p .which) (told .0) (rw (told .1) at (r .reached)))
 
       -- No beat through the horizon is an arrival.
-      pub never : (a : ℕ) → g .horizon ≤ n → Earliest (arrivable g s (heldDocks g room count cells)) (g .horizon + 1) a → g .horizon < a →
+      pub never : (a : ℕ) → g .horizon ≤ n → Earliest (arrivable g s (heldDocks g table count cells)) (g .horizon + 1) a → g .horizon < a →
           best (taskIn g start (among cells count) free) vs ≡ none
       never a q e h =
           not-found-best task vs short F
@@ -187,8 +187,8 @@ module _ (g : SearchGrid) (room : List ℕ) (start count : ℕ) (cells : List �
             never = λ b l r. e .none-before b (omega arith) (found-arrival b (omega arith) r);
           })
 
-      module _ (T : List ℕ) (earliest : Earliest (arrivable g s (heldDocks g room count cells)) (g .horizon + 1) n)
-          (leading : Leading g room (heldDocks g room count cells) n 0 T) where
+      module _ (T : List ℕ) (earliest : Earliest (arrivable g s (heldDocks g table count cells)) (g .horizon + 1) n)
+          (leading : BackwardReachable g table (heldDocks g table count cells) n 0 T) where
         B : Sets
         B = inSet g T
 
@@ -198,23 +198,23 @@ module _ (g : SearchGrid) (room : List ℕ) (start count : ℕ) (cells : List �
         reaches : Reaches ok (among cells count) (g .horizon) F n
         reaches = arrives n early (earliest .passes (omega arith))
 
-        back : (t : ℕ) → t < n → Spread g room T (suc t) t
+        back : (t : ℕ) → t < n → Spread g table T (suc t) t
         back t h = rw add-one at (leading .spreads t (omega arith) h)
 
         -- The set of beat n is the docks that can be held from then on.
-        ends : (c : ℕ) → inSet g T n c ≡ true → Ending ok (among cells count) (g .horizon) n c × (inSet g room n c ≡ true)
+        ends : (c : ℕ) → inSet g T n c ≡ true → Ending ok (among cells count) (g .horizon) n c × (inSet g table n c ≡ true)
         unfolding heldDocks
         ends c e = end-dock n c early (any-says (endableAt ds n c) count (sym (leading .ends c) ∙ e))
 
         begins : (c : ℕ) → inSet g s n c ≡ true → Ending ok (among cells count) (g .horizon) n c → inSet g T n c ≡ true
         unfolding heldDocks
         begins c i e =
-            let p = dock-end n c e (forward-room n c (omega arith) i) in
+            let p = dock-end n c e (forward-free n c (omega arith) i) in
             leading .ends c ∙ any-holds (endableAt ds n c) count (p .which) (p .below) (p .passes)
 
-        -- What leads to a dock is in the room.
-        back-room : (t d : ℕ) → t ≤ n → inSet g T t d ≡ true → inSet g room t d ≡ true
-        back-room t d h e =
+        -- What leads to a dock is in the free table.
+        back-free : (t d : ℕ) → t ≤ n → inSet g T t d ≡ true → inSet g table t d ≡ true
+        back-free t d h e =
             ⊎-elim (λ (q : t ≡ n). rw q ((ends d (rw q at e)) .1)) (λ (l : t < n). back t l .says d e .0) (eq-or-lt-of-le h)
 
         backward : Backward ok (among cells count) (g .horizon) n F B
@@ -224,12 +224,12 @@ module _ (g : SearchGrid) (room : List ℕ) (start count : ℕ) (cells : List �
               ends = λ c e. (ends c e) .0;
               begins = begins;
               leads = λ t c h e. leads t c h (back t h .says c e .1);
-              holds = λ t c h e (d, m, i). back t h .holds c (forward-room t c (omega arith) e)
+              holds = λ t c h e (d, m, i). back t h .holds c (forward-free t c (omega arith) e)
                   (d, i, near-turn (g .width) c d (move-near t c d m));
             }
           where
             leads : (t c : ℕ) → t < n → Beside g T (suc t) c → Leads ok B t c
-            leads t c h (d, i, m) = (d, move t c d (omega arith) (near-turn (g .width) d c m) (back-room (suc t) d h i), i)
+            leads t c h (d, i, m) = (d, move t c d (omega arith) (near-turn (g .width) d c m) (back-free (suc t) d h i), i)
 
         -- The walk takes the smallest cell that leads on, and stays once it has arrived.
         path-next : (t : ℕ) → t < n → x (suc t) ≡ nextOf g T (suc t) (x t)
@@ -245,7 +245,7 @@ module _ (g : SearchGrid) (room : List ℕ) (start count : ℕ) (cells : List �
         unfolding nextOf
         path-takes t d h m i =
             let best = first-best (g .width) (x t) thin (inSet g T (suc t)) d i (move-near t (x t) d m) in
-            rw (path-next t h) (move t (x t) _ (omega arith) (best .0) (back-room (suc t) _ h (best .1)), best .1, best .2)
+            rw (path-next t h) (move t (x t) _ (omega arith) (best .0) (back-free (suc t) _ h (best .1)), best .1, best .2)
 
         r : List ℕ
         r = filled (replicate 64 0) x (g .horizon + 1)

@@ -1,4 +1,4 @@
--- The search in a room: what it answers, whatever was free and whoever is seen, where the room has what can be stood on.
+-- The search in a free table: what it answers, whatever was free and whoever is seen, where the free table has what can be stood on.
 use Prim.Native.Nat.{ℕ, _≤_}
 use mathlib.Core.Bool.{Bool}
 use mathlib.Core.List.{List}
@@ -16,12 +16,12 @@ abbrev pub taskIn : SearchGrid → ℕ → (ℕ → Bool) → (ℕ → Bool) →
 taskIn g start dock free =
     record { width = g .width; cells = g .cells; horizon = g .horizon; start = start; dock = dock; free = free }
 
--- The room has at each beat the cells that can be stood on.
+-- The free table has at each beat the cells that can be stood on.
 abbrev pub Agrees : SearchGrid → List ℕ → Task → List View → Type 0
-Agrees g room task vs = (t c : ℕ) → t ≤ g .horizon → inSet g room t c ≡ standable task vs t c
+Agrees g table task vs = (t c : ℕ) → t ≤ g .horizon → inSet g table t c ≡ standable task vs t c
 
--- r is the best answer of every task and views with such a room.
+-- r is the best answer of every task and views with such a free table.
 abbrev pub BestIn : SearchGrid → List ℕ → ℕ → (ℕ → Bool) → Found → Type 0
-BestIn g room start dock r =
-    (free : ℕ → Bool) (vs : List View) → Agrees g room (taskIn g start dock free) vs →
+BestIn g table start dock r =
+    (free : ℕ → Bool) (vs : List View) → Agrees g table (taskIn g start dock free) vs →
     Says r (answered (best (taskIn g start dock free) vs))

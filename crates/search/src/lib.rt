@@ -6,7 +6,7 @@ use floor::Floor;
 use floor::Refusal;
 pub use ground::free_rows;
 use layers::SearchGrid;
-use layers::room;
+use layers::free_table;
 use layers::search_grid_of;
 use layers::table;
 use passes::backward;
@@ -28,7 +28,7 @@ ghost use Rattle.search.specs.Seek.{BestIn};
 ghost use Rattle.passes.specs.Docks.{DocksIn};
 ghost use Rattle.bitrows.specs.Rows.{Clean};
 ghost use Rattle.layers.specs.Table.{searchGridOf, Grid, Tidy};
-ghost use Rattle.layers.specs.Room.{IsFreeTable, OneMore};
+ghost use Rattle.layers.specs.FreeTable.{IsFreeTable, OneMore};
 ghost use Rattle.search.specs.Search.{requestOf, searchOf};
 ghost use Rattle.search.specs.Task.{taskOfRows};
 ghost use Rattle.records.specs.Records.{viewsOf};
@@ -74,50 +74,50 @@ fn refused(x: Refusal) -> Found
     }
 }
 
-// The best route from the start to any of the first `count` cells in a room; the sets are a table to work in.
+// The best route from the start to any of the first `count` cells in a free table; the sets are a table to work in.
 fn seek(
     g: SearchGrid,
     sets: &mut [u32],
-    room: &[u32],
+    table: &[u32],
     start: usize,
     count: usize,
     cells: docks::Cells,
 ) -> Found
     requires { ⌜ Grid g × (g .horizon ≤ 63) × (start < g .cells) × DocksIn g count cells ⌝ }
-    requires { ⌜ Tidy g (now sets) × Tidy g (now room) ⌝ }
+    requires { ⌜ Tidy g (now sets) × Tidy g (now table) ⌝ }
     ensures tidy { λ r. ⌜ Tidy g (now (sets .exit)) ⌝ }
-    ensures best { λ r. ⌜ BestIn g (now (room .entry)) start (among cells count) r ⌝ }
+    ensures best { λ r. ⌜ BestIn g (now (table .entry)) start (among cells count) r ⌝ }
 {
-    if !table::member(g, room, 0, start) {
+    if !table::member(g, table, 0, start) {
         return none();
     }
-    let ds = docks::hold_docks(g, room, count, cells);
+    let ds = docks::hold_docks(g, table, count, cells);
     if !docks::some_held(ds, g.horizon) {
         return none();
     }
-    let a = forward::forward(g, sets, room, start, ds);
+    let a = forward::forward(g, sets, table, start, ds);
     if g.horizon < a {
         return none();
     }
-    backward::backward(g, sets, room, ds, a);
+    backward::backward(g, sets, table, ds, a);
     Found {
         outcome: Outcome::Route,
         route: walk::walk(g, sets, start, a),
     }
 }
 
-// The best route of a carrier of a checked floor against the views as they stand, in the room that these and its free cells leave; the
+// The best route of a carrier of a checked floor against the views as they stand, in the free table that these and its free cells leave; the
 // sets are a table to work in.
 pub fn route_in(
     f: Floor,
     free: Rows,
-    room: &[u32],
+    table: &[u32],
     sets: &mut [u32],
     carrier: u16,
     views: &[u16],
 ) -> Found
     requires { ⌜ Searchable f free carrier (now views) × Tidy (searchGridOf f) (now sets) ⌝ }
-    requires { ⌜ IsFreeTable (searchGridOf f) (carrier - 1) free (now views) (now room) ⌝ }
+    requires { ⌜ IsFreeTable (searchGridOf f) (carrier - 1) free (now views) (now table) ⌝ }
     ensures tidy { λ r. ⌜ Tidy (searchGridOf f) (now (sets .exit)) ⌝ }
     ensures best { λ r. ⌜ Says r (answered (best (taskOfRows f free carrier) (viewsOf (now (views .entry)) carrier))) ⌝ }
 {
@@ -127,7 +127,7 @@ pub fn route_in(
     seek(
         search_grid_of(f),
         sets,
-        room,
+        table,
         start,
         count,
         floor::docks_of(f, k),
@@ -139,16 +139,16 @@ fn best_against(f: Floor, free: Rows, carrier: u16, views: &[u16]) -> Found
     requires { ⌜ Searchable f free carrier (now views) ⌝ }
     ensures { λ r. ⌜ Says r (answered (best (taskOfRows f free carrier) (viewsOf (now (views .entry)) carrier))) ⌝ }
 {
-    let mut room = table::empty();
-    room::make(
+    let mut table = table::empty();
+    free_table::make(
         search_grid_of(f),
         carrier as usize - 1,
-        &mut room,
+        &mut table,
         &free,
         views,
     );
     let mut sets = table::empty();
-    route_in(f, free, &room, &mut sets, carrier, views)
+    route_in(f, free, &table, &mut sets, carrier, views)
 }
 
 // The best route of a carrier of a checked floor, with its free cells as rows, against the views of the carriers above it as they are
@@ -208,27 +208,27 @@ pub fn search(f: Floor, walls: &[u16], carrier: u16, views: &[u16]) -> Found
     refused(x)
 }
 
-// A table of empty sets, for a room or to work in.
-pub fn no_room() -> [u32; table::WORDS]
-    ensures { λ r. ⌜ r ≡ replicate 2304 0 ⌝ }
+// A table of empty sets, for a free table or to work in.
+pub fn empty_table() -> [u32; table::WORDS]
+    ensures { λ r. ⌜ r ≡ replicate 2049 0 ⌝ }
 {
     table::empty()
 }
 
-// The room that the free cells of a floor leave, in an empty table.
-pub fn fill_room(f: Floor, free: Rows, room: &mut [u32])
+// The free table that the free cells of a floor leave, in an empty table.
+pub fn fill_free_table(f: Floor, free: Rows, table: &mut [u32])
     requires { ⌜ (1 ≤ f .width) × (f .width ≤ 32) × (f .height ≤ 32) × (f .horizon ≤ 63) ⌝ }
-    requires { ⌜ (length free ≡ 32) × Clean (f .width) (f .width * f .height) free × (now room ≡ replicate 2304 0) ⌝ }
-    ensures { λ r. ⌜ ((m : List ℕ) → IsFreeTable (searchGridOf f) 0 free m (now (room .exit))) ⌝ }
+    requires { ⌜ (length free ≡ 32) × Clean (f .width) (f .width * f .height) free × (now table ≡ replicate 2049 0) ⌝ }
+    ensures { λ r. ⌜ ((m : List ℕ) → IsFreeTable (searchGridOf f) 0 free m (now (table .exit))) ⌝ }
 {
-    room::fill_free(room, &free, f.horizon as usize + 1);
+    free_table::fill_free(table, &free, f.horizon as usize + 1);
 }
 
-// Takes the cells of view j, besides those of the views before it, out of the room.
-pub fn take_route(f: Floor, room: &mut [u32], views: &[u16], j: usize)
+// Takes the cells of view j, besides those of the views before it, out of the free table.
+pub fn take_route(f: Floor, table: &mut [u32], views: &[u16], j: usize)
     requires { ⌜ (1 ≤ f .width) × (f .width ≤ 32) × (f .height ≤ 32) × (f .horizon ≤ 63) ⌝ }
-    requires { ⌜ (65 * j + 65 ≤ length (now views)) × Tidy (searchGridOf f) (now room) ⌝ }
-    ensures { λ r. ⌜ OneMore (searchGridOf f) j (now (views .entry)) (now (room .entry)) (now (room .exit)) ⌝ }
+    requires { ⌜ (65 * j + 65 ≤ length (now views)) × Tidy (searchGridOf f) (now table) ⌝ }
+    ensures { λ r. ⌜ OneMore (searchGridOf f) j (now (views .entry)) (now (table .entry)) (now (table .exit)) ⌝ }
 {
-    room::take_one(search_grid_of(f), room, views, j);
+    free_table::take_one(search_grid_of(f), table, views, j);
 }

@@ -1,5 +1,5 @@
 -- `planner::plan_all` meets its contract. The loop's invariant: the answers of the carriers passed stand in front, are shown as they are
--- seen, and the room is what they leave. The measure is what is left of the carriers. Assumes nothing.
+-- seen, and the free table is what they leave. The measure is what is left of the carriers. Assumes nothing.
 use Prim.Native.Nat.{ℕ, _-_, _≤_}
 use native.Mathlib.Omega.{arith}
 use mathlib.Core.List.{[]}
@@ -8,7 +8,7 @@ use borrow.Author.Needs.{needs}
 use lib.ListN.{length, length-replicate}
 use Rattle.route.specs.Sequential.{sequential}
 use Rattle.layers.specs.Table.{searchGridOf, Tidy}
-use Rattle.layers.specs.Room.{IsFreeTable}
+use Rattle.layers.specs.FreeTable.{IsFreeTable}
 use Rattle.layers.proofs.SetLaws.{empty-tidy}
 use Rattle.records.specs.Records.{records, stored}
 use Rattle.records.specs.Seen.{seen}
@@ -20,35 +20,35 @@ use Rattle.planner.proofs.plan_all.Statement.{statement}
 use Rattle.planner.proofs.plan_all.Tie as tie
 
 abbrev Inv-loop : tie.InvT-loop
-Inv-loop f free answers₀ n room₀ sets₀ shown₀ i₀ answers room sets shown i =
-    (i ≤ n) × (answers ≡ stored (sequential (respondWith f free) i) answers₀) × IsFreeTable (searchGridOf f) i free shown room
+Inv-loop f free answers₀ n table₀ sets₀ shown₀ i₀ answers table sets shown i =
+    (i ≤ n) × (answers ≡ stored (sequential (respondWith f free) i) answers₀) × IsFreeTable (searchGridOf f) i free shown table
     × (length shown ≡ 520) × (records shown i ≡ seen f (records answers i)) × Tidy (searchGridOf f) sets
 
 abbrev μ-loop : tie.MeasureT-loop
-μ-loop f free answers₀ n room₀ sets₀ shown₀ i₀ answers room sets shown i = n - i
+μ-loop f free answers₀ n table₀ sets₀ shown₀ i₀ answers table sets shown i = n - i
 
-slice-aggregate-fill-room : tie.Need-slice-aggregate-fill-room Inv-loop μ-loop
-slice-aggregate-fill-room c = sym (ap length (c .before .no-room .ensures) ∙ length-replicate {A = ℕ} 2304 0)
+slice-aggregate-fill-free-table : tie.Need-slice-aggregate-fill-free-table Inv-loop μ-loop
+slice-aggregate-fill-free-table c = sym (ap length (c .before .empty-table .ensures) ∙ length-replicate {A = ℕ} 2049 0)
 
-fill-room-requires : tie.Need-fill-room-requires Inv-loop μ-loop
-fill-room-requires c κs =
+fill-free-table-requires : tie.Need-fill-free-table-requires Inv-loop μ-loop
+fill-free-table-requires c κs =
     let start : tie.Start Inv-loop μ-loop = search in
     let p = start .pre in
     let able = p .searchable 0 [] (p .some) (omega arith) in
-    ((able .width .0, able .width .1, able .height, p .horizon), (able .long, able .clean, c .before .no-room .ensures))
+    ((able .width .0, able .width .1, able .height, p .horizon), (able .long, able .clean, c .before .empty-table .ensures))
 
 loop-holds : tie.Need-loop-holds Inv-loop μ-loop
 loop-holds c =
     let after-blank : tie.After-blank Inv-loop μ-loop = search in
-    let after-no-room2 : tie.After-no-room2 Inv-loop μ-loop = search in
-    let after-fill-room : tie.After-fill-room Inv-loop μ-loop = search in
+    let after-empty-table2 : tie.After-empty-table2 Inv-loop μ-loop = search in
+    let after-fill-free-table : tie.After-fill-free-table Inv-loop μ-loop = search in
     let start : tie.Start Inv-loop μ-loop = search in (
       search needs,
       plan-start _ _ (start .pre .horizon) _,
-      after-fill-room .fill-room .ensures _,
+      after-fill-free-table .fill-free-table .ensures _,
       ap length (after-blank .blank .ensures) ∙ length-replicate {A = ℕ} 520 0,
       seen-start _ _ _,
-      empty-tidy _ _ (after-no-room2 .no-room2 .ensures),
+      empty-tidy _ _ (after-empty-table2 .empty-table2 .ensures),
     )
 
 slice-aggregate-plan-one : tie.Need-slice-aggregate-plan-one Inv-loop μ-loop
@@ -74,8 +74,8 @@ plan-one-requires c κs =
     let p = start .pre in
     let i = at-loop .loop .i in
     let inv = at-loop .loop .inv in
-    let size = plan-keeps _ _ (p .horizon) i _ _ (omega (arith, p .room)) (inv .1) in (
-      (omega (arith, p .few), omega (arith, p .room), omega (arith, p .few, inv .3)),
+    let size = plan-keeps _ _ (p .horizon) i _ _ (omega (arith, p .lent)) (inv .1) in (
+      (omega (arith, p .few), omega (arith, p .lent), omega (arith, p .few, inv .3)),
       ((p .searchable i _ (in-loop .loop-test .taken) (omega (arith, p .few, inv .3)), inv .4), (inv .2, inv .5)),
     )
 
@@ -88,7 +88,7 @@ loop-again c =
     let p = start .pre in
     let made = after-plan-one .plan-one .ensures in (
       search needs,
-      plan-more _ _ (p .horizon) (at-loop .loop .i) _ _ _ (omega (arith, p .room)) (at-loop .loop .inv .1) (made .0),
+      plan-more _ _ (p .horizon) (at-loop .loop .i) _ _ _ (omega (arith, p .lent)) (at-loop .loop .inv .1) (made .0),
       made .1 .1 .0,
       search needs,
       made .1 .0,
@@ -99,7 +99,7 @@ same-length : tie.Need-same-length Inv-loop μ-loop
 same-length c =
     let start : tie.Start Inv-loop μ-loop = search in
     let p = start .pre in
-    plan-keeps _ _ (p .horizon) (c .before .loop .i) _ _ (omega (arith, p .room)) (c .before .loop .inv .1)
+    plan-keeps _ _ (p .horizon) (c .before .loop .i) _ _ (omega (arith, p .lent)) (c .before .loop .inv .1)
 
 returns : tie.Need-returns Inv-loop μ-loop
 returns c =
@@ -109,6 +109,6 @@ returns c =
 
 pub plan-all-spec : {M : Type 1} → statement M
 plan-all-spec =
-    tie.close (tie.spec Inv-loop μ-loop (λ c κs. search needs) slice-aggregate-fill-room fill-room-requires (λ c κs. search needs)
+    tie.close (tie.spec Inv-loop μ-loop (λ c κs. search needs) slice-aggregate-fill-free-table fill-free-table-requires (λ c κs. search needs)
     (λ c κs. search needs) loop-holds slice-aggregate-plan-one slice-aggregate-plan-one-2 slice-aggregate-plan-one-3 plan-one-requires
     (λ c. search needs) (λ c. search needs) loop-again same-length returns)

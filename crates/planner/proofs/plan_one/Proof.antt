@@ -1,5 +1,5 @@
 -- `planner::plan_one` meets its contract: what the search found, stored with its tag, is the record of its answer; as it is seen it stands
--- beside the others, and the room without it is that of one more answer. Assumes nothing.
+-- beside the others, and the free table without it is that of one more answer. Assumes nothing.
 use Prim.Native.Nat.{ℕ}
 use native.Mathlib.Omega.{arith}
 use mathlib.Core.List.{_∷_}
@@ -8,7 +8,7 @@ use borrow.Author.Needs.{needs}
 use Rattle.records.proofs.SeenLaws.{seen-step}
 use Rattle.planner.proofs.RecordLaws.{found-record}
 use Rattle.planner.proofs.PlanLaws.{shown-stored, still-long, still-shows}
-use Rattle.planner.proofs.RoomLaws.{room-above, room-stored}
+use Rattle.planner.proofs.TableLaws.{table-above, table-stored}
 use Rattle.planner.proofs.plan_one.Statement.{statement}
 use Rattle.planner.proofs.plan_one.Tie as tie
 
@@ -16,7 +16,7 @@ route-in-requires : tie.Need-route-in-requires
 route-in-requires c κs =
     let start : tie.Start = search in
     let p = start .pre in
-    ((p .1 .0 .0, p .1 .1 .1), room-above _ _ _ _ _ _ (p .1 .0 .0) _ (p .1 .1 .0))
+    ((p .1 .0 .0, p .1 .1 .1), table-above _ _ _ _ _ _ (p .1 .0 .0) _ (p .1 .1 .0))
 
 store-seen-requires : tie.Need-store-seen-requires
 store-seen-requires c κs =
@@ -58,7 +58,7 @@ returns c =
             (after-store-seen .store-seen .ensures) shows,
         (
           after-take-route .take-route .ensures _
-              (room-stored _ _ _ _ _ _ able _ _ _ (omega (arith, p .0)) (after-store-seen .store-seen .ensures) (p .1 .1 .0)),
+              (table-stored _ _ _ _ _ _ able _ _ _ (omega (arith, p .0)) (after-store-seen .store-seen .ensures) (p .1 .1 .0)),
           found .ensures .0,
         ),
       ),

@@ -1,7 +1,6 @@
--- `search::best_against` meets its contract: the room of the floor is made, and the search is in it. Assumes nothing.
+-- `search::best_against` meets its contract: the free table of the floor is made, and the search is in it. Assumes nothing.
 use Rattle.layers.proofs.SetLaws.{empty-tidy}
-use Rattle.search.proofs.SearchLaws.{scene-fits, scene-clean, room-scene}
-use native.Mathlib.Omega.{arith}
+use Rattle.search.proofs.SearchLaws.{scene-fits, scene-clean, table-scene}
 use borrow.Author.Needs.{needs}
 use Rattle.search.proofs.best_against.Statement.{statement}
 use Rattle.search.proofs.best_against.Tie as tie
@@ -28,7 +27,7 @@ route-in-requires c κs =
     let after-search-grid-of : tie.After-search-grid-of = search in
     let start : tie.Start = search in (
       (start .pre, empty-tidy _ _ (after-empty2 .empty2 .ensures)),
-      room-scene _ (after-search-grid-of .search-grid-of .ensures) (after-make .make .ensures),
+      table-scene _ (after-search-grid-of .search-grid-of .ensures) (after-make .make .ensures),
     )
 
 returns : tie.Need-returns

@@ -1,4 +1,4 @@
--- `search::route_in` meets its contract: the search from the carrier's start to its docks in the room of its floor. Assumes nothing.
+-- `search::route_in` meets its contract: the search from the carrier's start to its docks in the free table of its floor. Assumes nothing.
 use mathlib.Core.Path.{sym, _∙_}
 use Rattle.floor.specs.Checks.{startOf, countOf}
 use Rattle.search.proofs.SearchLaws.{scene-fits, scene-start, scene-docks, tidy-scene, best-views}

@@ -1,4 +1,4 @@
--- `search::take_route` meets its contract: the room of one more view in the scene of the floor. Assumes nothing.
+-- `search::take_route` meets its contract: the free table of one more view in the scene of the floor. Assumes nothing.
 use Rattle.layers.specs.Table.{searchGridOf}
 use Rattle.layers.proofs.GridLaws.{scene-grid}
 use Rattle.search.proofs.take_route.Statement.{statement}

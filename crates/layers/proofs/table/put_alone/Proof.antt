@@ -1,6 +1,5 @@
 -- `layers::table::put_alone` meets its contract: the set is emptied, then the cell joins. Assumes nothing.
 use Rattle.layers.proofs.AloneLaws.{alone-made}
-use native.Mathlib.Omega.{arith}
 use borrow.Author.Needs.{needs}
 use Rattle.layers.proofs.table.put_alone.Statement.{statement}
 use Rattle.layers.proofs.table.put_alone.Tie as tie

@@ -13,11 +13,11 @@ use Rattle.passes.proofs.docks.hold_docks.Statement.{statement}
 use Rattle.passes.proofs.docks.hold_docks.Tie as tie
 
 abbrev Inv-loop : tie.InvT-loop
-Inv-loop g room count cells holds₀ k₀ holds k =
-    (k ≤ count) × (holds ≡ filled (replicate 4 0) (λ j. holdOf g room (getD cells j 0)) k)
+Inv-loop g table count cells holds₀ k₀ holds k =
+    (k ≤ count) × (holds ≡ filled (replicate 4 0) (λ j. holdOf g table (getD cells j 0)) k)
 
 abbrev μ-loop : tie.MeasureT-loop
-μ-loop g room count cells holds₀ k₀ holds k = count - k
+μ-loop g table count cells holds₀ k₀ holds k = count - k
 
 array-read-hold-from : tie.Need-array-read-hold-from Inv-loop μ-loop
 array-read-hold-from c =

@@ -1,4 +1,4 @@
--- `passes::docks::hold_from` meets its contract. The loop's invariant: the beats passed are in the room. The measure is the beat. Assumes
+-- `passes::docks::hold_from` meets its contract. The loop's invariant: the beats passed are in the free table. The measure is the beat. Assumes
 -- nothing.
 use Prim.Native.Nat.{_+_, _≤_}
 use mathlib.Core.Path.{_≡_, refl, sym, _∙_}
@@ -12,10 +12,10 @@ use Rattle.passes.proofs.docks.hold_from.Statement.{statement}
 use Rattle.passes.proofs.docks.hold_from.Tie as tie
 
 abbrev Inv-loop : tie.InvT-loop
-Inv-loop g room dock n₀ n = (n ≤ g .horizon + 1) × (holdOf g room dock ≡ heldFrom (λ t. inSet g room t dock) n)
+Inv-loop g table dock n₀ n = (n ≤ g .horizon + 1) × (holdOf g table dock ≡ heldFrom (λ t. inSet g table t dock) n)
 
 abbrev μ-loop : tie.MeasureT-loop
-μ-loop g room dock n₀ n = n
+μ-loop g table dock n₀ n = n
 
 add-n : tie.Need-add-n Inv-loop μ-loop
 add-n c =

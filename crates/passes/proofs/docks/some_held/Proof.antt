@@ -5,7 +5,6 @@ use Rattle.passes.specs.Docks.{heldAt, someHeld}
 use Rattle.passes.proofs.AnyLaws.{Untold, any-start, any-more, any-stop, any-end}
 use Rattle.passes.proofs.EndsLaws.{held-yes, held-no}
 use borrow.Author.Needs.{needs}
-use native.Mathlib.Omega.{arith}
 use Rattle.passes.proofs.docks.some_held.Statement.{statement}
 use Rattle.passes.proofs.docks.some_held.Tie as tie
 

@@ -9,7 +9,7 @@ use Rattle.passes.proofs.walk.has_left.Tie as tie
 returns : tie.Need-returns
 returns c =
     let then1 : tie.Then1 = search in
-    c .has .ensures ∙ rw (lt-ltb _ _ (then1 .if1 .taken))
+    c .has-at .ensures ∙ rw (lt-ltb _ _ (then1 .if1 .taken))
 
 returns-2 : tie.Need-returns-2
 returns-2 c = rw (le-ltb _ _ (c .if1 .left))

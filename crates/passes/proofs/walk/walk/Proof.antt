@@ -22,7 +22,7 @@ abbrev μ-loop : tie.MeasureT-loop
 cast-r : tie.Need-cast-r Inv-loop μ-loop
 cast-r c =
     let start : tie.Start Inv-loop μ-loop = search in
-    omega (arith, start .pre .0 .room, start .pre .0 .narrow, start .pre .3)
+    omega (arith, start .pre .0 .low, start .pre .0 .narrow, start .pre .3)
 
 loop-holds : tie.Need-loop-holds Inv-loop μ-loop
 loop-holds c =
@@ -44,7 +44,7 @@ add-t c =
 cast-r-2 : tie.Need-cast-r-2 Inv-loop μ-loop
 cast-r-2 c =
     let start : tie.Start Inv-loop μ-loop = search in
-    omega (arith, start .pre .0 .room, start .pre .0 .narrow, c .follow .ensures .1)
+    omega (arith, start .pre .0 .low, start .pre .0 .narrow, c .follow .ensures .1)
 
 mul-r : tie.Need-mul-r Inv-loop μ-loop
 mul-r c =

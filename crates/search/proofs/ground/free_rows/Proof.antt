@@ -6,7 +6,7 @@ use mathlib.Core.Path.{_≡_, sym, ap, _∙_}
 use borrow.Author.Needs.{needs}
 use lib.ListN.{length}
 use Rattle.bitrows.proofs.RowsLaws.{length-at}
-use Rattle.layers.proofs.GridLaws.{grid-room, grid-small}
+use Rattle.layers.proofs.GridLaws.{grid-low, grid-small}
 use Rattle.search.specs.Rows.{gridRows, wallsOut}
 use Rattle.search.proofs.GroundLaws.{walls-none, walls-more}
 use Rattle.search.proofs.RowsFree.{free-rows-made}
@@ -42,7 +42,7 @@ drop-at-requires c κs =
     let at-loop : tie.At-loop Inv-loop μ-loop = search in
     let after-scale : tie.After-scale Inv-loop μ-loop = search in
     let start : tie.Start Inv-loop μ-loop = search in
-    let h = grid-room (start .args .f .width) (start .args .f .height) (omega arith) in
+    let h = grid-low (start .args .f .width) (start .args .f .height) (omega arith) in
     ((search needs, search needs, h, after-scale .scale .ensures), omega (arith, at-loop .loop .inv .1))
 
 loop-less : tie.Need-loop-less Inv-loop μ-loop
@@ -61,7 +61,7 @@ returns c =
     let start : tie.Start Inv-loop μ-loop = search in
     let at-loop : tie.At-loop Inv-loop μ-loop = search in
     let e : at-loop .loop .j ≡ start .args .f .walls = omega arith in
-    free-rows-made _ _ (omega arith) (omega arith) (grid-room (start .args .f .width) (start .args .f .height) (omega arith)) _
+    free-rows-made _ _ (omega arith) (omega arith) (grid-low (start .args .f .width) (start .args .f .height) (omega arith)) _
     (rw e at (at-loop .loop .inv .2))
 
 pub free-rows-spec : {M : Type 1} → statement M

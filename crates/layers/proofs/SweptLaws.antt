@@ -1,0 +1,128 @@
+-- Steps beat after beat, to later beats or back to earlier ones.
+use Prim.Native.Nat.{ℕ, _+_, _*_, _≤_, _<_}
+use native.Mathlib.Omega.{arith}
+use native.Mathlib.Nat.{eq-or-lt-of-le}
+use mathlib.Core.Bool.{Bool, true, false}
+use mathlib.Core.List.{List}
+use mathlib.Core.Logic.{⊎-elim}
+use mathlib.Core.Path.{_≡_, refl, sym, _∙_}
+use lib.ListN.{getD}
+use Rattle.laws.proofs.Tests.{true-false-absurd}
+use Rattle.layers.specs.declared.SearchGrid.{SearchGrid}
+use Rattle.layers.specs.declared.stripes.Stripes.{Stripes}
+use Rattle.layers.specs.Table.{Grid, Tidy, Rewritten, inSet}
+use Rattle.layers.specs.Stripes.{Carries, four, stepWord}
+use Rattle.layers.specs.Step.{ChangedAt, Beside, Spread, beatAfter, Within, Swept}
+use Rattle.layers.proofs.StepLaws.{step-changed, step-spreads}
+
+-- The beats of n steps: the first, the next one, all of them in the table, none twice.
+pub beat-first : (back : Bool) (t : ℕ) → t ≡ beatAfter back t 0
+unfolding beatAfter
+beat-first true t = omega arith
+beat-first false t = omega arith
+
+pub within-low : (back : Bool) (t n : ℕ) → Within back t n → t < 64
+unfolding Within
+within-low true t n w = w .0
+within-low false t n w = omega arith
+
+pub within-few : (back : Bool) (t n : ℕ) → Within back t n → n < 64
+unfolding Within
+within-few true t n w = omega arith
+within-few false t n w = omega arith
+
+pub beat-next : (back : Bool) (t i : ℕ) → beatAfter back (beatAfter back t i) 1 ≡ beatAfter back t (i + 1)
+unfolding beatAfter
+beat-next true t i = omega arith
+beat-next false t i = omega arith
+
+pub beat-low : (back : Bool) (t n i : ℕ) → Within back t n → i ≤ n → beatAfter back t i < 64
+unfolding beatAfter Within
+beat-low true t n i w l = omega arith
+beat-low false t n i w l = omega arith
+
+pub beat-some : (back : Bool) (t n i : ℕ) → Within back t n → i < n → back ≡ true → 0 < beatAfter back t i
+unfolding beatAfter Within
+beat-some true t n i w l e = omega arith
+beat-some false t n i w l e = true-false-absurd refl (sym e)
+
+beats-apart : (back : Bool) (t n k i : ℕ) → Within back t n → k ≤ i → i < n → beatAfter back t k ≡ beatAfter back t (i + 1) → ⊥
+unfolding beatAfter Within
+beats-apart true t n k i w l h e = omega arith
+beats-apart false t n k i w l h e = omega arith
+
+-- A step between two beats is one in every table with the same sets then.
+pub spread-same : (g : SearchGrid) (table s q : List ℕ) (a b : ℕ) → ((c : ℕ) → inSet g q a c ≡ inSet g s a c) →
+    ((c : ℕ) → inSet g q b c ≡ inSet g s b c) → Spread g table s a b → Spread g table q a b
+spread-same g table s q a b from to x =
+    record {
+      says = λ d e. let y = x .says d (sym (to d) ∙ e) in (y .0, to-new d (y .1));
+      holds = λ d i y. to d ∙ x .holds d i (to-old d y);
+    }
+  where
+    to-new : (d : ℕ) → Beside g s a d → Beside g q a d
+    to-new d (c, e, u) = (c, from c ∙ e, u)
+
+    to-old : (d : ℕ) → Beside g q a d → Beside g s a d
+    to-old d (c, e, u) = (c, sym (from c) ∙ e, u)
+
+pub swept-none : (g : SearchGrid) (table s : List ℕ) (t : ℕ) (back : Bool) → Tidy g s → Swept g table s t back 0 s
+swept-none g table s t back tidy = record { tidy = tidy; spreads = λ i l. absurd (omega arith); kept = λ u c h. refl }
+
+-- One step more.
+swept-more : (g : SearchGrid) (table s q z : List ℕ) (t : ℕ) (back : Bool) (n i : ℕ) → Within back t n → i < n → Swept g table s t back i q →
+    ChangedAt g q (beatAfter back t (i + 1)) z → Spread g table z (beatAfter back t i) (beatAfter back t (i + 1)) →
+    Swept g table s t back (i + 1) z
+swept-more g table s q z t back n i within few old only new =
+    record {
+      tidy = only .tidy;
+      spreads = λ j l. ⊎-elim (λ (e : j ≡ i). rw e new) (λ (e : j < i). spread-same g table q z (beatAfter back t j) (beatAfter back t (j + 1))
+          (same j (omega arith)) (same (j + 1) (omega arith)) (old .spreads j e)) (eq-or-lt-of-le (omega arith));
+      kept = λ u c h. only .other u c (h i (omega arith)) ∙ old .kept u c (λ j l. h j (omega arith));
+    }
+  where
+    same : (j : ℕ) → j ≤ i → (c : ℕ) → inSet g z (beatAfter back t j) c ≡ inSet g q (beatAfter back t j) c
+    same j l c = only .other (beatAfter back t j) c (beats-apart back t n j i within l few)
+
+four-same : (w v : ℕ → ℕ) (i : ℕ) → w i ≡ v i → w (i + 1) ≡ v (i + 1) → w (i + 2) ≡ v (i + 2) → w (i + 3) ≡ v (i + 3) → four w i ≡ four v i
+unfolding four
+four-same w v i p q r s = rw (p, q, r, s) refl
+
+-- The same words, said in another way.
+pub carries-same : (x : Stripes) (w v : ℕ → ℕ) → ((j : ℕ) → j < 32 → w j ≡ v j) → Carries x w → Carries x v
+carries-same x w v same h =
+    record {
+      a = h .a ∙ part 0 (omega arith);
+      b = h .b ∙ part 4 (omega arith);
+      c = h .c ∙ part 8 (omega arith);
+      d = h .d ∙ part 12 (omega arith);
+      e = h .e ∙ part 16 (omega arith);
+      f = h .f ∙ part 20 (omega arith);
+      g = h .g ∙ part 24 (omega arith);
+      h = h .h ∙ part 28 (omega arith);
+    }
+  where
+    part : (i : ℕ) → i + 3 < 32 → four w i ≡ four v i
+    part i l = four-same w v i (same i (omega arith)) (same (i + 1) (omega arith)) (same (i + 2) (omega arith)) (same (i + 3) l)
+
+-- The turn of the loop: the stripes are the set of beat t, and are written, one step on, as that of the next beat.
+pub swept-step : (g : SearchGrid) (table s q z : List ℕ) (from t u n i : ℕ) (back : Bool) → Grid g → Tidy g table → Within back from n → i < n →
+    t ≡ beatAfter back from i → u ≡ beatAfter back t 1 → Swept g table s from back i q →
+    Rewritten q (stepWord (λ j. getD q (t * 32 + j) 0) (λ j. getD table (u * 32 + j) 0)) (u * 32) 32 z → Swept g table s from back (i + 1) z
+swept-step g table s q z from t u n i back grid ground within few e f old x =
+    swept-more g table s q z from back n i within few old (rw next at changed) (rw (e, next) at spreads)
+  where
+    next : u ≡ beatAfter back from (i + 1)
+    next = f ∙ rw e (beat-next back from i)
+
+    low : u < 64
+    low = rw next (beat-low back from n (i + 1) within (omega arith))
+
+    apart : t ≡ u → ⊥
+    apart p = beats-apart back from n i i within (omega arith) few (sym e ∙ p ∙ next)
+
+    changed : ChangedAt g q u z
+    changed = step-changed g table q z t u grid (old .tidy) ground low apart x
+
+    spreads : Spread g table z t u
+    spreads = step-spreads g table q z t u grid (old .tidy) ground low apart x
