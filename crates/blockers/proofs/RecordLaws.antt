@@ -23,7 +23,7 @@ use Rattle.records.proofs.SeenLaws.{records-length, records-view}
 use Rattle.search.specs.declared.Outcome.{Outcome}
 use Rattle.search.specs.declared.Outcome.the-variants.{Route, None, Refused}
 use Rattle.search.specs.declared.Found.{Found}
-use Rattle.search.specs.Answers.{answered, outcomeOf, resultOf, Says}
+use Rattle.search.specs.Answers.{answered, outcomeOf, resultOf, Answers}
 use Rattle.search.specs.Task.{taskOfRows}
 use Rattle.search.specs.Rows.{Searchable}
 use Rattle.planner.specs.Plan.{respondWith}
@@ -84,7 +84,7 @@ by-outcome (Refused y) r (route q) vs us e = absurd (let z : _≡_ {A = ℕ} 0 1
 
 -- One carrier tried: its record stays out, or is put back.
 module _ (f : Floor) (rows : List ℕ) (i : ℕ) (m : List ℕ) (j : ℕ) (l : j < i) (h : 65 * i ≤ length m) (found : Found)
-    (says : Says found (answered (best (taskOfRows f rows (i + 1)) (seen f (viewsOf (set m (65 * j) 0) (i + 1)))))) where
+    (says : Answers found (answered (best (taskOfRows f rows (i + 1)) (seen f (viewsOf (set m (65 * j) 0) (i + 1)))))) where
   response : best (taskOfRows f rows (i + 1)) (seen f (viewsOf (set m (65 * j) 0) (i + 1))) ≡
       respondWith f rows i (viewsWithout j (records m i))
   unfolding respondWith

@@ -14,7 +14,7 @@ use lib.Dec.{eqb}
 use Rattle.laws.proofs.Tests.{lt-or-le}
 use Rattle.fields.specs.Field.{column, number, numberAt, isField, isWritten}
 use Rattle.fields.proofs.WrittenLaws.{and-so, digit-so, none-so, digit-tells, space-so, first-so, last-so, last-tells}
-use Rattle.fields.proofs.WrittenLaws.{Told, written-tells}
+use Rattle.fields.proofs.WrittenLaws.{WrittenForms, written-tells}
 
 -- The digit that counts p's in v = (10 q + x) p + r.
 digit-of : (p v q x r : ℕ) → v ≡ (q * 10 + x) * p + r → r < p → x < 10 → v / p % 10 ≡ x
@@ -153,14 +153,14 @@ module _ (a b c d e v : ℕ) (is : v ≡ ((((a - 48) * 10 + (b - 48)) * 10 + (c 
   columns-tell : isWritten (a ∷ b ∷ c ∷ d ∷ e ∷ []) ≡ true → Columns a b c d e v
   columns-tell h = from-a (written-tells a b (c ∷ d ∷ e ∷ []) h)
     where
-      from-d : a ≡ 32 → b ≡ 32 → c ≡ 32 → Told d e [] → Columns a b c d e v
+      from-d : a ≡ 32 → b ≡ 32 → c ≡ 32 → WrittenForms d e [] → Columns a b c d e v
       from-d ha hb hc (inl s) = let hd = s .0 in let he = last-tells (s .1) in omega (arith, is, ha, hb, hc, hd, he .0, he .1)
       from-d ha hb hc (inr s) =
           let hd = s .0 in
           let he = digit-tells e [] (s .1) .0 in
           omega (arith, is, ha, hb, hc, hd .0, hd .1, he .0, he .1)
 
-      from-c : a ≡ 32 → b ≡ 32 → Told c d (e ∷ []) → Columns a b c d e v
+      from-c : a ≡ 32 → b ≡ 32 → WrittenForms c d (e ∷ []) → Columns a b c d e v
       from-c ha hb (inl s) = from-d ha hb (s .0) (written-tells d e [] (s .1))
       from-c ha hb (inr s) =
           let hc = s .0 in
@@ -169,7 +169,7 @@ module _ (a b c d e v : ℕ) (is : v ≡ ((((a - 48) * 10 + (b - 48)) * 10 + (c 
           let he = digit-tells e [] (d1 .1) .0 in
           omega (arith, is, ha, hb, hc .0, hc .1, hd .0, hd .1, he .0, he .1)
 
-      from-b : a ≡ 32 → Told b c (d ∷ e ∷ []) → Columns a b c d e v
+      from-b : a ≡ 32 → WrittenForms b c (d ∷ e ∷ []) → Columns a b c d e v
       from-b ha (inl s) = from-c ha (s .0) (written-tells c d (e ∷ []) (s .1))
       from-b ha (inr s) =
           let hb = s .0 in
@@ -180,7 +180,7 @@ module _ (a b c d e v : ℕ) (is : v ≡ ((((a - 48) * 10 + (b - 48)) * 10 + (c 
           let he = digit-tells e [] (d2 .1) .0 in
           omega (arith, is, ha, hb .0, hb .1, hc .0, hc .1, hd .0, hd .1, he .0, he .1)
 
-      from-a : Told a b (c ∷ d ∷ e ∷ []) → Columns a b c d e v
+      from-a : WrittenForms a b (c ∷ d ∷ e ∷ []) → Columns a b c d e v
       from-a (inl s) = from-b (s .0) (written-tells b c (d ∷ e ∷ []) (s .1))
       from-a (inr s) =
           let ha = s .0 in

@@ -38,7 +38,7 @@ use Rattle.fields.specs.declared.reader.Reader.{Reader}
 use Rattle.fields.specs.declared.slot.Reached.{Reached}
 use Rattle.fields.proofs.slot.Reached as S
 use Rattle.fields.proofs.CallLaws.{shaped, stating, to, calls-stated}
-use Rattle.fields.proofs.ReaderCalls.{B, sliceParams, sliceKept, Moved}
+use Rattle.fields.proofs.ReaderCalls.{B, sliceParams, sliceKept, ReaderMoved}
 use Rattle.fields.proofs.ReaderLaws.{Along}
 use Rattle.fields.proofs.LinesParts.{lines, Begin, Line, Arrived}
 use Rattle.fields.proofs.LinesLoop as L
@@ -62,12 +62,12 @@ stayed = (stay-none-slice (0 ∷ []) tt (plain (λ _. u8)) yes, (stay-none (λ _
 module _ {M : Type 1} (𝓤 : URA M) (H : Heap 𝓤) (A : Atoms 𝓤) (W : Given 𝓤 H A) (Asked : ℕ → ℕ → Type 0) (form : List ℕ → ℕ → Verdict)
     (past : List ℕ → ℕ → ℕ) (most : ℕ) where
   -- what is stated of the answer, and the function's clauses
-  abbrev Told : RefT (List ℕ) → ℕ → ℕ → Reached → Type 0
-  Told s at m r = r ≡ reachedOf (linesForm (form (s .now)) (past (s .now)) at m) (columnPast (past (s .now)) at m)
+  abbrev LinesAnswered : RefT (List ℕ) → ℕ → ℕ → Reached → Type 0
+  LinesAnswered s at m r = r ≡ reachedOf (linesForm (form (s .now)) (past (s .now)) at m) (columnPast (past (s .now)) at m)
 
   abbrev clauses : Clauses 𝓤 Lines
   clauses = stating 𝓤 linesParams linesKept (λ _. S.the-row)
-      (λ κs a. fact 𝓤 (Asked (a .1 .0) (a .1 .1 .0))) (λ κs a. Told (a .0) (a .1 .0) (a .1 .1 .0))
+      (λ κs a. fact 𝓤 (Asked (a .1 .0) (a .1 .1 .0))) (λ κs a. LinesAnswered (a .0) (a .1 .0) (a .1 .1 .0))
 
   module _ (κ : Lft) (q : Share) (s : RefT (List ℕ)) (at m : ℕ) (at-fits : at < 2 ^ 64) (m-fits : m < 2 ^ 64)
       (low : (i c : ℕ) → Along (form (s .now)) (past (s .now)) at m i c → i < m → c ≤ most) where
@@ -83,7 +83,7 @@ module _ {M : Type 1} (𝓤 : URA M) (H : Heap 𝓤) (A : Atoms 𝓤) (W : Given
     abbrev Post : Val → SProp 𝓤
     Post = walkOf 𝓤 H A Lines stayed clauses .post (((κ, tt), (q, tt), tt, (s, (at, (m, tt))), vals), tt)
 
-    exits : (r : Reached) (u : Val) → Told s at m r
+    exits : (r : Reached) (u : Val) → LinesAnswered s at m r
         → ent 𝓤 (⋆ 𝓤 H A (‵ (S.the-row .own r (u ∷ [])) ∷ L.Tok 𝓤 H A W κ q s ∷ ‵ (L.Own 𝓤 H A W κ q s) ∷ [])) (Post u)
     exits r u e =
         qed W (‵ (S.the-row .own r (u ∷ [])) ∷ L.Tok 𝓤 H A W κ q s ∷ ‵ (L.Own 𝓤 H A W κ q s) ∷ []) ∵
@@ -110,7 +110,7 @@ module _ {M : Type 1} (𝓤 : URA M) (H : Heap 𝓤) (A : Atoms 𝓤) (W : Given
 
     walk : (𝓣 : Tables 𝓤 H) → Triple 𝓤 (𝓣 .C #begin) (Begin 𝓤 H A)
         → (k : Name) → Triple 𝓤 (𝓣 .C k) (Line 𝓤 form past most H A)
-        → Triple 𝓤 (𝓣 .C #moved) (Moved 𝓤 H A) → Triple 𝓤 (𝓣 .C #reached) (Arrived 𝓤 H A)
+        → Triple 𝓤 (𝓣 .C #moved) (ReaderMoved 𝓤 H A) → Triple 𝓤 (𝓣 .C #reached) (Arrived 𝓤 H A)
         → Is (ShrSlice (named 0) κ u8) s (v ∷ [])
         → ent 𝓤 Entry (WpFn 𝓤 H (𝓣 .C) (𝓣 .Λ) (lines k) (v ∷ vint w64 at ∷ vint w64 m ∷ []) Post)
     walk 𝓣 known-begin k known-line known-moved known-reached p =
@@ -131,7 +131,7 @@ module _ {M : Type 1} (𝓤 : URA M) (H : Heap 𝓤) (A : Atoms 𝓤) (W : Given
         l₀ l₁ l₂ l₃ l₄ l₅ l₆ l₇ l₈ l₉ l₁₀ l₁₁ u wt)))))))))))))
 
   module _ (𝓣 : Tables 𝓤 H) (known-begin : Triple 𝓤 (𝓣 .C #begin) (Begin 𝓤 H A)) (k : Name)
-      (known-line : Triple 𝓤 (𝓣 .C k) (Line 𝓤 form past most H A)) (known-moved : Triple 𝓤 (𝓣 .C #moved) (Moved 𝓤 H A))
+      (known-line : Triple 𝓤 (𝓣 .C k) (Line 𝓤 form past most H A)) (known-moved : Triple 𝓤 (𝓣 .C #moved) (ReaderMoved 𝓤 H A))
       (known-reached : Triple 𝓤 (𝓣 .C #reached) (Arrived 𝓤 H A))
       (low : (text : List ℕ) (at m : ℕ) → Asked at m → (i c : ℕ) → Along (form text) (past text) at m i c → i < m → c ≤ most) where
     lines-walk : Walks 𝓤 H A Lines stayed (WpFn 𝓤 H (𝓣 .C) (𝓣 .Λ) (lines k)) clauses

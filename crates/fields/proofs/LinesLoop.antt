@@ -42,7 +42,7 @@ use Rattle.fields.specs.Reached.{reachedOf}
 use Rattle.fields.specs.Form.{columnPast, linesForm}
 use Rattle.fields.proofs.slot.Reached as S
 use Rattle.fields.proofs.slot.Reached.Laws as S′
-use Rattle.fields.proofs.ReaderCalls.{B, Moved, calls-reader, calls-moved}
+use Rattle.fields.proofs.ReaderCalls.{B, ReaderMoved, calls-reader, calls-moved}
 use Rattle.fields.proofs.ReaderLaws.{Along, along-start, along-more, along-stop, along-end}
 use Rattle.fields.proofs.reader.Reader as T
 use Rattle.fields.proofs.reader.Reader.Laws as T′
@@ -90,20 +90,20 @@ module _ {M : Type 1} (𝓤 : URA M) (H : Heap 𝓤) (A : Atoms 𝓤) (W : Given
       (low : (i c : ℕ) → Along (form (s .now)) (past (s .now)) at m i c → i < m → c ≤ most) (Post : Val → SProp 𝓤)
       (exits : (r : Reached) (u : Val) → r ≡ reachedOf (linesForm (form (s .now)) (past (s .now)) at m) (columnPast (past (s .now)) at m)
       → ent 𝓤 (⋆ 𝓤 H A (‵ (S.the-row .own r (u ∷ [])) ∷ Tok ∷ ‵ Own ∷ [])) (Post u)) where
-    abbrev Begins : Type 0
-    Begins = Turn (form (s .now)) (past (s .now)) at m
+    abbrev LoopTurn : Type 0
+    LoopTurn = Turn (form (s .now)) (past (s .now)) at m
 
     -- the number of lines left falls
-    abbrev Nearer : Begins → Begins → Type 0
+    abbrev Nearer : LoopTurn → LoopTurn → Type 0
     Nearer t′ t = m - t′ .count < m - t .count
 
     Nearer-wf : WellFounded Nearer
-    Nearer-wf = InvImage·wf (λ (t : Begins). m - t .count) (Nat·lt-wfRel .wf)
+    Nearer-wf = InvImage·wf (λ (t : LoopTurn). m - t .count) (Nat·lt-wfRel .wf)
 
-    asked : (t : Begins) → t .count < m → ent 𝓤 (emp 𝓤) (Low 𝓤 most (here (t .column)))
+    asked : (t : LoopTurn) → t .count < m → ent 𝓤 (emp 𝓤) (Low 𝓤 most (here (t .column)))
     asked t l = factI 𝓤 _ (emp 𝓤) (low (t .count) (t .column) (t .along) l)
 
-    count-fits : (t : Begins) → t .count < m → t .count + 1 < 2 ^ 64
+    count-fits : (t : LoopTurn) → t .count < m → t .count + 1 < 2 ^ 64
     count-fits t l = omega (arith, l, few)
 
     -- the column that a line's answer tells is a number of its type
@@ -111,7 +111,7 @@ module _ {M : Type 1} (𝓤 : URA M) (H : Heap 𝓤) (A : Atoms 𝓤) (W : Given
     column-fits c is = typed-answer (At c) (val (At c)) is .1 .1 .0 .fits
 
     module _ (𝓣 : Tables 𝓤 H) (k : Name) (known-line : Triple 𝓤 (𝓣 .C k) (Line 𝓤 form past most H A))
-        (known-moved : Triple 𝓤 (𝓣 .C #moved) (Moved 𝓤 H A)) (known-reached : Triple 𝓤 (𝓣 .C #reached) (Arrived 𝓤 H A))
+        (known-moved : Triple 𝓤 (𝓣 .C #moved) (ReaderMoved 𝓤 H A)) (known-reached : Triple 𝓤 (𝓣 .C #reached) (Arrived 𝓤 H A))
         (l₀ l₁ l₂ l₃ l₄ l₅ l₆ l₇ l₈ l₉ l₁₀ l₁₁ : ℕ) where
       abbrev C : Calls 𝓤 H
       C = 𝓣 .C
@@ -142,18 +142,18 @@ module _ {M : Type 1} (𝓤 : URA M) (H : Heap 𝓤) (A : Atoms 𝓤) (W : Given
           (‵ (fat fullShare word l₂ 0 (vint w64 at))) (‵ (fat fullShare slice l₁ 0 v))
 
       -- before a turn, and after a line's answer
-      abbrev At′ : Begins → List (Item 𝓤)
+      abbrev At′ : LoopTurn → List (Item 𝓤)
       At′ t =
           ‵ (Read (t .column) (t .value)) ∷ Tok ∷ ‵ Own
           ∷ Filled (‵ (froom answer l₆ 0)) (‵ (fat fullShare word l₅ 0 (vint w64 (t .count)))) (t .value)
 
-      abbrev Answered : Begins → Reached → List (Item 𝓤)
+      abbrev Answered : LoopTurn → Reached → List (Item 𝓤)
       Answered t r =
           ‵ (S.the-row .own r (val r ∷ [])) ∷ Tok ∷ ‵ (Read (t .column) (t .value)) ∷ ‵ Own
           ∷ Filled (‵ (fat fullShare answer l₆ 0 (val r))) (‵ (fat fullShare word l₅ 0 (vint w64 (t .count)))) (t .value)
 
       -- a turn ends nearer to the last line, or the loop is left and the rest of the body runs
-      abbrev Turned : Begins → Out → SProp 𝓤
+      abbrev Turned : LoopTurn → Out → SProp 𝓤
       Turned t =
           afterTurn 𝓤 H (Below 𝓤 H A Nearer At′ t)
           (afterBlock 𝓤 H (afterSeq 𝓤 H (Wp 𝓤 H C Λ En rest (atReturn 𝓤 H En Post)) (atReturn 𝓤 H En Post)))
@@ -174,7 +174,7 @@ module _ {M : Type 1} (𝓤 : URA M) (H : Heap 𝓤) (A : Atoms 𝓤) (W : Given
           move ! (7 ∷ 8 ∷ []) $ free1 ! $ move ! (5 ∷ 6 ∷ []) $ free1 ! $ move ! (3 ∷ 4 ∷ []) $ free1 ! $ free0 ! $ by ! (exits r u e)
 
       -- after the loop: the column
-      leaves : (t : Begins) → m ≤ t .count → Sq W (At′ t) (runs C Λ En rest (atRet En Post))
+      leaves : (t : LoopTurn) → m ≤ t .count → Sq W (At′ t) (runs C Λ En rest (atRet En Post))
       leaves t l =
           assigns ! (of-opd ! (load ! (from ! (stop !)) (look ! 17 refl))) (from ! (stop !)) (init ! 3 refl (t .typed)) $
           move ! (1 ∷ 0 ∷ []) $
@@ -186,7 +186,7 @@ module _ {M : Type 1} (𝓤 : URA M) (H : Heap 𝓤) (A : Atoms 𝓤) (W : Given
           freed r u (along-end (form (s .now)) (past (s .now)) at m (t .count) (t .column) (t .along) r l e))
 
       -- a line's answer: past a good line the reader moves on, and a refusal is the answer
-      answered : (t : Begins) → t .count < m → (r : Reached) → Is S.the-row r (val r ∷ [])
+      answered : (t : LoopTurn) → t .count < m → (r : Reached) → Is S.the-row r (val r ∷ [])
           → r ≡ reachedOf (form (s .now) (t .column)) (past (s .now) (t .column))
           → Sq W (Answered t r) (runs C Λ En (seq told onward) (anyQ (Turned t)))
       unfolding afterTurn
@@ -209,7 +209,7 @@ module _ {M : Type 1} (𝓤 : URA M) (H : Heap 𝓤) (A : Atoms 𝓤) (W : Given
           (from ! (stop !)) (store ! 15 refl (tt, record { fits = count-fits t l })) $
           again ! Nearer At′ t (next u (typed c u is″)) (add-one-dec m (t .count) l))
         where
-          next : (u : Val) → Holds (hasTy reader u) × WT u → Begins
+          next : (u : Val) → Holds (hasTy reader u) × WT u → LoopTurn
           next u wt = record {
             count = t .count + 1;
             column = c;
@@ -227,7 +227,7 @@ module _ {M : Type 1} (𝓤 : URA M) (H : Heap 𝓤) (A : Atoms 𝓤) (W : Given
           freed (Refused x) (val (Refused x)) (along-stop (form (s .now)) (past (s .now)) at m (t .count) (t .column) (t .along) x l e)
 
       -- a turn: the test, and a line; of what the reader owns one copy goes to the call
-      turns : (t : Begins) → Sq W (At′ t) (runs C Λ En (turn k) (anyQ (Turned t)))
+      turns : (t : LoopTurn) → Sq W (At′ t) (runs C Λ En (turn k) (anyQ (Turned t)))
       unfolding afterTurn
       turns t =
           assigns ! (bin ! (load ! (from ! (stop !)) (look ! 15 refl)) (load ! (from ! (stop !)) (look ! 19 refl)) tt)

@@ -1,4 +1,4 @@
--- Laws of a chain of checks that lead from column to column: an answer that reached a column hands on to the rest of the chain, and
+-- Laws of a chain of checks that lead from column to column: after an answer that reached a column comes the rest of the chain, and
 -- the first refusal is the answer of the whole.
 use Prim.Native.Nat.{ℕ, _+_, _≤_, _<_}
 use borrow.Author.Needs.{needs}
@@ -35,10 +35,10 @@ pub reaches : {a : Reached} {x : ℕ} (v : Verdict) (c : ℕ) → a ≡ reachedO
 reaches {x} v c h e = reached-means v c x (sym e ∙ h)
 
 -- An answer that is a refusal refuses with its number and place.
-pub turned-away : {a : Reached} {x : Refusal} (v : Verdict) (c : ℕ) → a ≡ reachedOf v c → a ≡ Refused x
+pub line-refused : {a : Reached} {x : Refusal} (v : Verdict) (c : ℕ) → a ≡ reachedOf v c → a ≡ Refused x
     → v ≡ refused (x .number) (x .place)
 unfolding saidBy
-turned-away v c h e = sym (says-verdict v c) ∙ ap saidBy (sym h ∙ e)
+line-refused v c h e = sym (says-verdict v c) ∙ ap saidBy (sym h ∙ e)
 
 -- The answer of a function that made its tests one by one: the column that it reached, and a refusal.
 pub arrives : {v : Verdict} (c : ℕ) → passed ≡ v → At c ≡ reachedOf v c
@@ -49,7 +49,7 @@ pub refuses-so : {r : Reached} {v : Verdict} (k p b c : ℕ) → r ≡ reachedOf
 unfolding reachedOf
 refuses-so k p b c h e = rw (← e) h
 
--- A check that reached its column hands on: what the rest answers, the whole answers.
+-- After a check that reached its column the rest is asked: what it answers, the whole answers.
 pub goes-on : {a r : Reached} {x : ℕ} (v w : Verdict) (c d : ℕ) → a ≡ reachedOf v c → a ≡ At x → r ≡ reachedOf w d
     → r ≡ reachedOf (v then w) d
 goes-on v w c d h e t = rw (then-passed (reaches v c h e .0)) t
@@ -58,7 +58,7 @@ goes-on v w c d h e t = rw (then-passed (reaches v c h e .0)) t
 pub stops-at : {a : Reached} {x : Refusal} (v w : Verdict) (c d : ℕ) → a ≡ reachedOf v c → a ≡ Refused x → a ≡ reachedOf (v then w) d
 unfolding _then_ reachedOf
 stops-at v w c d h e =
-    let r = turned-away v c h e in
+    let r = line-refused v c h e in
     rw r (rw r at h)
 
 -- What the answers of such functions take: of one that tests a slot, and of a chain.
@@ -71,7 +71,7 @@ pub turn-away : {a : Reached} {x : Refusal} (check : ℕ → Verdict) (w : Verdi
     → i < m → inTurn check i ≡ passed → a ≡ reachedOf (check i) c → a ≡ Refused x → a ≡ reachedOf (inTurn check m then w) d
 unfolding reachedOf _then_
 turn-away {x} check w i m c d l p h e =
-    let r = turned-away (check i) c h e in
+    let r = line-refused (check i) c h e in
     rw (turn-stop check i m (x .number) (x .place) l p r) (rw r at h)
 
 -- Past a check that passed.

@@ -88,18 +88,18 @@ movedKept = (yes, (yes, tt))
 
 module _ {M : Type 1} (𝓤 : URA M) where
   -- The function that moves a reader to a column.
-  abbrev pub Moved : (H : Heap 𝓤) → Atoms 𝓤 → Contract 𝓤
-  Moved = stated 𝓤 movedParams movedKept B (λ _ _. emp 𝓤) (λ _ a r. (r .text ≡ a .0 .text) × (r .column ≡ a .1 .0))
+  abbrev pub ReaderMoved : (H : Heap 𝓤) → Atoms 𝓤 → Contract 𝓤
+  ReaderMoved = stated 𝓤 movedParams movedKept B (λ _ _. emp 𝓤) (λ _ a r. (r .text ≡ a .0 .text) × (r .column ≡ a .1 .0))
 
   module _ (H : Heap 𝓤) (A : Atoms 𝓤) (W : Given 𝓤 H A) (κ : Lft) (q : Share) (d : Reader) (u : Val) (n : ℕ) (fits : n < 2 ^ 64) where
     -- what the call binds outside the triple
-    abbrev pub at-column : Moved H A .Ghost
+    abbrev pub at-column : ReaderMoved H A .Ghost
     at-column =
         to 𝓤 movedParams movedKept B (λ _ _. emp 𝓤) (λ _ a r. (r .text ≡ a .0 .text) × (r .column ≡ a .1 .0)) H A W κ q
         (d, (n, tt)) (u ∷ [], (vint w64 n ∷ [], tt))
 
     -- the token, what the reader owns and the number's facts are what is asked
-    both : ent 𝓤 (⋆ 𝓤 H A ((‵ (flft κ q) ⊛ ‵ ftrue) ∷ ‵ (B (κ, tt) .own d (u ∷ [])) ∷ [])) (Moved H A .pre at-column)
+    both : ent 𝓤 (⋆ 𝓤 H A ((‵ (flft κ q) ⊛ ‵ ftrue) ∷ ‵ (B (κ, tt) .own d (u ∷ [])) ∷ [])) (ReaderMoved H A .pre at-column)
     both =
         qed W ((‵ (flft κ q) ⊛ ‵ ftrue) ∷ ‵ (B (κ, tt) .own d (u ∷ [])) ∷ []) ∵ nothing ! $
         owned ! usize (Is usize) (uint-makes 𝓤 H A W w64) n _ (refl, fits) $ fjoin ! $ move ! (2 ∷ 0 ∷ []) $ fjoin ! $
@@ -107,12 +107,12 @@ module _ {M : Type 1} (𝓤 : URA M) where
 
     -- A call with the token, the reader's machine value, which is given up, and the number.
     pub calls-moved : {K : Type 0} {Γ : List (Item 𝓤)} {E : Env 𝓤 H} {C : Calls 𝓤 H} {Λ : Loops 𝓤 H} {p : Post 𝓤 H} {f : Name}
-        {xs : List Operand} {dest : Place} {rest : Body} → K → FmC 𝓤 H (W .laws) C → Triple 𝓤 (C f) (Moved H A)
-        → Opds K W (raw (Moved H A .pre at-column) ∷ Γ) E xs (u ∷ vint w64 n ∷ [])
+        {xs : List Operand} {dest : Place} {rest : Body} → K → FmC 𝓤 H (W .laws) C → Triple 𝓤 (C f) (ReaderMoved H A)
+        → Opds K W (raw (ReaderMoved H A .pre at-column) ∷ Γ) E xs (u ∷ vint w64 n ∷ [])
         → ((w : Val) (r : Reader) → (r .text ≡ d .text) × (r .column ≡ n) → Is (B (κ, tt)) r (w ∷ [])
         → Seq K W (‵ (B (κ, tt) .own r (w ∷ [])) ∷ (‵ (flft κ q) ⊛ ‵ ftrue) ∷ Γ) (lands C Λ E dest w rest p))
         → Seq K W ((‵ (flft κ q) ⊛ ‵ ftrue) ∷ ‵ (B (κ, tt) .own d (u ∷ [])) ∷ Γ) (runs C Λ E (seq (call f xs dest) rest) p)
     calls-moved t fm known os k =
-        use2 W (raw (Moved H A .pre at-column)) both $
+        use2 W (raw (ReaderMoved H A .pre at-column)) both $
         calls-stated 𝓤 movedParams movedKept B (λ _ _. emp 𝓤) (λ _ a r. (r .text ≡ a .0 .text) × (r .column ≡ a .1 .0)) H A W κ q
         (d, (n, tt)) (u ∷ [], (vint w64 n ∷ [], tt)) t fm known os k

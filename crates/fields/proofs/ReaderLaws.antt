@@ -10,7 +10,7 @@ use Rattle.fields.specs.declared.slot.Reached.{Reached}
 use Rattle.fields.specs.declared.slot.Reached.the-variants.{At, Refused}
 use Rattle.fields.specs.Reached.{reachedOf}
 use Rattle.fields.specs.Form.{columnPast, linesForm}
-use Rattle.fields.proofs.ReachedLaws.{reaches, turned-away}
+use Rattle.fields.proofs.ReachedLaws.{reaches, line-refused}
 
 -- The reader of m lines from a column on: it is past the first i lines, which are in good form.
 pub record Along (form : ℕ → Verdict) (past : ℕ → ℕ) (at m i column : ℕ) : Type 0 where
@@ -41,7 +41,7 @@ module _ (form : ℕ → Verdict) (past : ℕ → ℕ) (at m : ℕ) where
         → Refused x ≡ reachedOf (linesForm form past at m) (columnPast past at m)
     unfolding linesForm reachedOf
     along-stop x l e =
-        let r = turned-away {x = x} (form column) (past column) e refl in
+        let r = line-refused {x = x} (form column) (past column) e refl in
         rw (turn-stop (λ (k : ℕ). form (columnPast past at k)) i m (x .number) (x .place) l (h .good) (rw (h .arrived) at r)) refl
 
     -- Past the last line the column is the answer.

@@ -92,12 +92,12 @@ unfolding isWritten
 last-tells h = within-tells h
 
 -- What a right byte before others tells: it is a space and the others are right, or it is the first digit and the others are digits.
-abbrev pub Told : ℕ → ℕ → List ℕ → Type 0
-Told b c bs = ((b ≡ 32) × (isWritten (c ∷ bs) ≡ true)) ⊎ (((49 ≤ b) × (b ≤ 57)) × (areDigits (c ∷ bs) ≡ true))
+abbrev pub WrittenForms : ℕ → ℕ → List ℕ → Type 0
+WrittenForms b c bs = ((b ≡ 32) × (isWritten (c ∷ bs) ≡ true)) ⊎ (((49 ≤ b) × (b ≤ 57)) × (areDigits (c ∷ bs) ≡ true))
 
-pub written-tells : (b c : ℕ) (bs : List ℕ) → isWritten (b ∷ c ∷ bs) ≡ true → Told b c bs
+pub written-tells : (b c : ℕ) (bs : List ℕ) → isWritten (b ∷ c ∷ bs) ≡ true → WrittenForms b c bs
 written-tells b c bs h = go (eq-or-ne b 32)
   where
-    go : (b ≡ 32) ⊎ (b ≡ 32 → ⊥) → Told b c bs
+    go : (b ≡ 32) ⊎ (b ≡ 32 → ⊥) → WrittenForms b c bs
     go (inl s) = inl (s, sym (after-space c bs s) ∙ h)
     go (inr n) = let s = and-eq-true-iff _ _ .0 (sym (no-space c bs n) ∙ h) in inr (within-tells (s .0), s .1)

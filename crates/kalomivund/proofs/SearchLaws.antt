@@ -12,13 +12,13 @@ use Rattle.floor.specs.declared.Refusal.{Refusal}
 use Rattle.route.specs.Route.{Answer}
 use Rattle.search.specs.declared.Found.{Found}
 use Rattle.search.specs.declared.Outcome.the-variants.{Route, None, Refused}
-use Rattle.search.specs.Answers.{resultOf, outcomeOf, cellsOf, Says}
+use Rattle.search.specs.Answers.{resultOf, outcomeOf, cellsOf, Answers}
 use Rattle.abi.specs.Word.{wordOf, done, mapOutcome, ofNumber}
 use Rattle.kalomivund.specs.Answers.{ofSearch, answerDone, routeStored}
 use Rattle.kalomivund.specs.Entries.{searchLent}
 use Rattle.kalomivund.proofs.EntryLaws.{says-lent, stores-lent}
 
-module _ {x : Found} {result : Outcome Answer} (s : Says x result) where
+module _ {x : Found} {result : Outcome Answer} (s : Answers x result) where
   -- None and a route: their case, and 64 cells in front.
   pub none-says : {w : ℕ} → x .outcome ≡ None → w ≡ wordOf (value (done 0 0)) → w ≡ wordOf (ofSearch result)
   unfolding ofSearch mapOutcome answerDone resultOf outcomeOf

@@ -18,7 +18,7 @@ pub put-length : (m b : List ℕ) (at : ℕ) → at + length b ≤ length m → 
 unfolding put
 put-length m b at l = rw (length-append, length-append, length-take, length-drop) (omega arith)
 
--- A block put in front of a memory that has room for it stands there.
+-- A block put in front of a memory that is long enough stands there.
 pub put-front : (m m′ b : List ℕ) (n : ℕ) → m′ ≡ put m 0 b → n ≡ length b → length b ≤ length m → (n ≤ length m′) × (take n m′ ≡ b)
 unfolding put
 put-front m m′ b n e s l = (omega (arith, ap length e, put-length m b 0 (omega arith)), rw e (take-at b _ n (sym s)))

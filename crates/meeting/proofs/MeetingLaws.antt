@@ -29,7 +29,7 @@ use Rattle.records.specs.Records.{viewOf, recordAt, viewAt, records, viewsOf}
 use Rattle.records.specs.Seen.{seenFrom, seen}
 use Rattle.search.specs.Task.{taskOf}
 use Rattle.search.specs.Search.{requestOf, searchOf}
-use Rattle.search.specs.Answers.{outcomeOf, resultOf, Says}
+use Rattle.search.specs.Answers.{outcomeOf, resultOf, Answers}
 use Rattle.search.specs.declared.Outcome.the-variants.{Route, None, Refused}
 use Rattle.search.specs.declared.Found.{Found}
 use Rattle.search.proofs.Theorems.{theorems as search-theorems}
@@ -193,7 +193,7 @@ unfolding outcomeOf
 refusal-told r cells y e = let z : _≡_ {A = ℕ} 0 1 = cc in absurd (omega arith)
 
 -- The answer of a search whose outcome is told by whether it has a route.
-pub answer-told : (x : Found) (y : Answer) {b c : Bool} → b ≡ c → Says x (value y) →
+pub answer-told : (x : Found) (y : Answer) {b c : Bool} → b ≡ c → Answers x (value y) →
     ((cells : List ℕ) (z : Answer) → outcomeOf (x .outcome) cells ≡ value z → z ≡ answerIf b cells) → y ≡ answerIf c (x .route)
 unfolding resultOf
 answer-told x y e says h = rw (← e) (h (x .route) y (says .answers))

@@ -10,7 +10,7 @@ ghost use Rattle.floor.specs.Answers.{verdictOf};
 ghost use Rattle.floor.specs.Checks.{checkOf, within};
 ghost use Rattle.route.specs.Route.{cellAt, Answer, route as Answer·route};
 ghost use Rattle.route.specs.ConflictTest.{conflictTold};
-ghost use Rattle.search.specs.Answers.{Says, outcomeOf};
+ghost use Rattle.search.specs.Answers.{Answers, outcomeOf};
 ghost use Rattle.printing.specs.Put.{TextPut};
 ghost use Rattle.reporting.specs.Put.{PutAt};
 ghost use Rattle.drawing.specs.Drawing.{drawnFloor};
@@ -44,7 +44,7 @@ fn pair_listed(f: Floor, i: u16, j: u16) -> Checked
 // The best route of a carrier of an accepted floor against nobody.
 fn alone(f: Floor, walls: &[u16], i: u16) -> Found
     requires { ⌜ (checkOf f (now walls) ≡ passed) × (demand (within 1 (f .carriers) i) 7 0 ≡ passed) ⌝ }
-    ensures { λ r. ⌜ Says r (value (aloneOf f (now (walls .entry)) i)) ⌝ }
+    ensures { λ r. ⌜ Answers r (value (aloneOf f (now (walls .entry)) i)) ⌝ }
 {
     search::search(f, walls, i, &records::blank())
 }

@@ -24,7 +24,7 @@ pub use tags::tag_of;
 pub enum Planned {
     // The answers are made; the first carrier with none, 0 if all have routes.
     Failing(usize),
-    // The request is turned away.
+    // The request is refused.
     Refused(Refusal),
 }
 

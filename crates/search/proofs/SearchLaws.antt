@@ -18,7 +18,7 @@ use Rattle.passes.specs.Docks.{DocksIn}
 use Rattle.records.specs.Records.{records, viewsOf}
 use Rattle.records.specs.Seen.{seen}
 use Rattle.search.specs.declared.Found.{Found}
-use Rattle.search.specs.Answers.{answered, Says}
+use Rattle.search.specs.Answers.{answered, Answers}
 use Rattle.search.specs.Seek.{BestIn}
 use Rattle.search.specs.Task.{taskOfRows}
 use Rattle.search.specs.Rows.{Searchable}
@@ -54,7 +54,7 @@ tidy-scene f q t = rw q at t
 -- What is best in such a free table is the best answer against the views.
 pub best-views : (f : Floor) (rows : List ℕ) (i : ℕ) (m table : List ℕ) (g : SearchGrid) (cells : List ℕ) (r : Found) → g ≡ searchGridOf f →
     cells ≡ docksOf f (i - 1) → IsFreeTable (searchGridOf f) (i - 1) rows m table →
-    BestIn g table (startOf f (i - 1)) (among cells (countOf f (i - 1))) r → Says r (answered (best (taskOfRows f rows i) (viewsOf m i)))
+    BestIn g table (startOf f (i - 1)) (among cells (countOf f (i - 1))) r → Answers r (answered (best (taskOfRows f rows i) (viewsOf m i)))
 unfolding taskOfRows viewsOf searchGridOf standsAt standable isDock
 best-views f rows i m table g cells r q at is-table h =
     (rw (q, at) at h) (λ c. has rows (c / f .width) (c % f .width)) (records m (i - 1)) (is-table .agrees)

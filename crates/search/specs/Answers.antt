@@ -29,6 +29,6 @@ cellsOf (value none) = replicate 64 0
 cellsOf (value (route r)) = r
 
 -- What a search answers says the result: the case with its values, and the numbers beside it.
-pub record Says (x : Found) (result : Outcome Answer) : Type 0 where
+pub record Answers (x : Found) (result : Outcome Answer) : Type 0 where
   pub answers : resultOf x ≡ result
   pub stores : x .route ≡ cellsOf result

@@ -9,7 +9,7 @@ use Rattle.route.specs.Search.{best}
 use Rattle.layers.specs.declared.SearchGrid.{SearchGrid}
 use Rattle.layers.specs.Table.{inSet}
 use Rattle.search.specs.declared.Found.{Found}
-use Rattle.search.specs.Answers.{answered, Says}
+use Rattle.search.specs.Answers.{answered, Answers}
 
 -- The task from a start to any of some docks in a scene, with the cells that are no wall.
 abbrev pub taskIn : SearchGrid → ℕ → (ℕ → Bool) → (ℕ → Bool) → Task
@@ -24,4 +24,4 @@ Agrees g table task vs = (t c : ℕ) → t ≤ g .horizon → inSet g table t c 
 abbrev pub BestIn : SearchGrid → List ℕ → ℕ → (ℕ → Bool) → Found → Type 0
 BestIn g table start dock r =
     (free : ℕ → Bool) (vs : List View) → Agrees g table (taskIn g start dock free) vs →
-    Says r (answered (best (taskIn g start dock free) vs))
+    Answers r (answered (best (taskIn g start dock free) vs))

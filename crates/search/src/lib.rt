@@ -23,7 +23,7 @@ ghost use Rattle.laws.specs.Verdict.{demand, refusal};
 ghost use Rattle.floor.specs.Checks.{within, among};
 ghost use Rattle.route.specs.Route.{none as Route·none};
 ghost use Rattle.route.specs.Search.{best};
-ghost use Rattle.search.specs.Answers.{answered, Says};
+ghost use Rattle.search.specs.Answers.{answered, Answers};
 ghost use Rattle.search.specs.Seek.{BestIn};
 ghost use Rattle.passes.specs.Docks.{DocksIn};
 ghost use Rattle.bitrows.specs.Rows.{Clean};
@@ -44,7 +44,7 @@ pub enum Outcome {
     Route,
     // There is no route.
     None,
-    // The request is turned away.
+    // The request is refused.
     Refused(Refusal),
 }
 
@@ -56,7 +56,7 @@ pub struct Found {
 
 // No route.
 fn none() -> Found
-    ensures { λ r. ⌜ Says r (answered Route·none) ⌝ }
+    ensures { λ r. ⌜ Answers r (answered Route·none) ⌝ }
 {
     Found {
         outcome: Outcome::None,
@@ -66,7 +66,7 @@ fn none() -> Found
 
 // A refusal.
 fn refused(x: Refusal) -> Found
-    ensures { λ r. ⌜ Says r (refusal (x .number) (x .place)) ⌝ }
+    ensures { λ r. ⌜ Answers r (refusal (x .number) (x .place)) ⌝ }
 {
     Found {
         outcome: Outcome::Refused(x),
@@ -119,7 +119,7 @@ pub fn route_in(
     requires { ⌜ Searchable f free carrier (now views) × Tidy (searchGridOf f) (now sets) ⌝ }
     requires { ⌜ IsFreeTable (searchGridOf f) (carrier - 1) free (now views) (now table) ⌝ }
     ensures tidy { λ r. ⌜ Tidy (searchGridOf f) (now (sets .exit)) ⌝ }
-    ensures best { λ r. ⌜ Says r (answered (best (taskOfRows f free carrier) (viewsOf (now (views .entry)) carrier))) ⌝ }
+    ensures best { λ r. ⌜ Answers r (answered (best (taskOfRows f free carrier) (viewsOf (now (views .entry)) carrier))) ⌝ }
 {
     let k = carrier as usize - 1;
     let start = f.starts[k] as usize;
@@ -137,7 +137,7 @@ pub fn route_in(
 // The best route of a carrier of a checked floor, with its free cells as rows, against the views as they stand.
 fn best_against(f: Floor, free: Rows, carrier: u16, views: &[u16]) -> Found
     requires { ⌜ Searchable f free carrier (now views) ⌝ }
-    ensures { λ r. ⌜ Says r (answered (best (taskOfRows f free carrier) (viewsOf (now (views .entry)) carrier))) ⌝ }
+    ensures { λ r. ⌜ Answers r (answered (best (taskOfRows f free carrier) (viewsOf (now (views .entry)) carrier))) ⌝ }
 {
     let mut table = table::empty();
     free_table::make(
@@ -155,7 +155,7 @@ fn best_against(f: Floor, free: Rows, carrier: u16, views: &[u16]) -> Found
 // seen: one that has told none stays at its start.
 pub fn best_route(f: Floor, free: Rows, carrier: u16, views: &[u16]) -> Found
     requires { ⌜ Searchable f free carrier (now views) ⌝ }
-    ensures { λ r. ⌜ Says r (answered (best (taskOfRows f free carrier) (seen f (viewsOf (now (views .entry)) carrier)))) ⌝ }
+    ensures { λ r. ⌜ Answers r (answered (best (taskOfRows f free carrier) (seen f (viewsOf (now (views .entry)) carrier)))) ⌝ }
 {
     let shown = records::seen_records(f, views, carrier as usize - 1);
     best_against(f, free, carrier, &shown)
@@ -199,7 +199,7 @@ fn request(f: Floor, walls: &[u16], carrier: u16, views: &[u16]) -> Checked
 // not heard) and 64 cells, record j − 1 being carrier j's; only those of the carriers above are looked at. One that has told none stays at
 // its start.
 pub fn search(f: Floor, walls: &[u16], carrier: u16, views: &[u16]) -> Found
-    ensures { λ r. ⌜ Says r (searchOf f (now (walls .entry)) carrier (now (views .entry))) ⌝ }
+    ensures { λ r. ⌜ Answers r (searchOf f (now (walls .entry)) carrier (now (views .entry))) ⌝ }
 {
     let asked = request(f, walls, carrier, views);
     let Checked::Refused(x) = asked else {

@@ -15,7 +15,7 @@ use Rattle.fields.specs.Field.{numberAt}
 use Rattle.fields.specs.Form.{lineForm, countedForm, pastCounted, columnPast}
 use Rattle.sheet.specs.Text.{carrierLines, wallLines, headLine, cellNumbers, carrierLine, wallLine, sheetOf, carrierAt, wallAt}
 use Rattle.sheet.specs.Form.{carrierColumn}
-use Rattle.sheet.specs.Values.{cellAt, headAt}
+use Rattle.sheet.specs.Values.{cellAtColumn, headAt}
 use Rattle.sheet.proofs.CellLaws.{number-value, cell-of-cell}
 use Rattle.sheet.proofs.LineLaws.{head-length, wall-length}
 use Rattle.sheet.proofs.SheetLaws.{carriers-span, walls-span, sheet-length}
@@ -29,8 +29,8 @@ use Rattle.sheet.proofs.DockLaws.{carriers-behind, walls-behind}
 
 -- The two numbers of a cell, read as a cell.
 cell-read : (text : List ℕ) (w h at c : ℕ) → 0 < w → w ≤ 32 → h ≤ 32 → c < w * h
-    → numberAt text at ≡ c % w → numberAt text (at + 5) ≡ c / w → cellAt text w h at ≡ c
-unfolding cellAt
+    → numberAt text at ≡ c % w → numberAt text (at + 5) ≡ c / w → cellAtColumn text w h at ≡ c
+unfolding cellAtColumn
 cell-read text w h at c z a b l e g =
     let col : c % w < w = mod-lt c z in
     let row : c / w < h = div-lt-iff-lt-mul z .1 (rw mul-comm l) in
@@ -118,15 +118,15 @@ module _ (f : Floor) (ws : List ℕ) (ok : checkOf f ws ≡ passed) where
       (omega (arith, bounds .width .1), omega (arith, bounds .height .1))
 
   cell-reads : (at c : ℕ) → c < f .width * f .height → numberAt text at ≡ c % f .width → numberAt text (at + 5) ≡ c / f .width
-      → cellAt text (f .width) (f .height) at ≡ c
+      → cellAtColumn text (f .width) (f .height) at ≡ c
   cell-reads at c l = cell-read text (f .width) (f .height) at c (bounds .width .0) (bounds .width .1) (bounds .height .1) l
 
   -- A carrier's line, read, by the floor's columns.
   pub record CarrierReads (i : ℕ) : Type 0 where
     pub form : countedForm text (carrierAt f i) ≡ passed
-    pub start : cellAt text (f .width) (f .height) (carrierAt f i) ≡ startOf f i
+    pub start : cellAtColumn text (f .width) (f .height) (carrierAt f i) ≡ startOf f i
     pub count : numberAt text (carrierAt f i + 10) ≡ countOf f i
-    pub docks : (k : ℕ) → k < countOf f i → cellAt text (f .width) (f .height) (carrierAt f i + 15 + 10 * k) ≡ dockOf f i k
+    pub docks : (k : ℕ) → k < countOf f i → cellAtColumn text (f .width) (f .height) (carrierAt f i + 15 + 10 * k) ≡ dockOf f i k
 
   pub carrier-reads : (i : ℕ) → i < f .carriers → CarrierReads i
   unfolding carrierLine
@@ -162,7 +162,7 @@ module _ (f : Floor) (ws : List ℕ) (ok : checkOf f ws ≡ passed) where
   -- A wall's line, read.
   pub record WallReads (j : ℕ) : Type 0 where
     pub form : lineForm text (wallAt f j) 2 ≡ passed
-    pub cell : cellAt text (f .width) (f .height) (wallAt f j) ≡ getD ws j 0
+    pub cell : cellAtColumn text (f .width) (f .height) (wallAt f j) ≡ getD ws j 0
 
   pub wall-reads : (j : ℕ) → j < f .walls → WallReads j
   unfolding wallLine numbersFrom

@@ -17,7 +17,7 @@ use Rattle.fields.proofs.ColumnLaws.{pair-columns}
 use Rattle.sheet.specs.Text.{sheetOf, carrierAt, wallAt}
 use Rattle.sheet.specs.Text.{sheetLength}
 use Rattle.sheet.specs.Form.{carrierColumn, wallColumn, restForm}
-use Rattle.sheet.specs.Values.{cellAt, startIn, countIn, dockIn, placeIn, startsAt, countsAt, docksAt, headAt, floorAt, wallsFrom}
+use Rattle.sheet.specs.Values.{cellAtColumn, startIn, countIn, dockIn, placeIn, startsAt, countsAt, docksAt, headAt, floorAt, wallsFrom}
 use Rattle.sheet.specs.Values.{wallsAt}
 use Rattle.sheet.specs.Read.{formOf, sheetVerdict}
 use Rattle.sheet.proofs.CellLaws.{number-value}
@@ -124,16 +124,16 @@ module _ (f : Floor) (ws : List ℕ) (ok : checkOf f ws ≡ passed) where
   end = refl
 
   cell-there : (j : ℕ)
-      → cellAt text (floorAt text .width) (floorAt text .height) (wallAt (floorAt text) j) ≡ cellAt text (f .width) (f .height) (wallAt f j)
+      → cellAtColumn text (floorAt text .width) (floorAt text .height) (wallAt (floorAt text) j) ≡ cellAtColumn text (f .width) (f .height) (wallAt f j)
   cell-there j =
-      ap (λ (w : ℕ). cellAt text w (floorAt text .height) (wallAt (floorAt text) j)) width-same
-      ∙ ap (λ (h : ℕ). cellAt text (f .width) h (wallAt (floorAt text) j)) height-same
-      ∙ ap (cellAt text (f .width) (f .height)) (wall-place j)
+      ap (λ (w : ℕ). cellAtColumn text w (floorAt text .height) (wallAt (floorAt text) j)) width-same
+      ∙ ap (λ (h : ℕ). cellAtColumn text (f .width) h (wallAt (floorAt text) j)) height-same
+      ∙ ap (cellAtColumn text (f .width) (f .height)) (wall-place j)
 
   cells-return : (j : ℕ) → j < f .walls → getD ws j 0 ≡ getD (wallsAt text) j 0
   unfolding wallsAt wallsFrom
   cells-return j l =
-      sym (listed-at (λ (e : ℕ). cellAt text (floorAt text .width) (floorAt text .height) (wallAt (floorAt text) e)) (floorAt text .walls) j
+      sym (listed-at (λ (e : ℕ). cellAtColumn text (floorAt text .width) (floorAt text .height) (wallAt (floorAt text) e)) (floorAt text .walls) j
       (omega (arith, walls-counted, l)) ∙ cell-there j ∙ wall-reads f ws ok j l .cell)
 
   -- A floor written and read is the same floor.

@@ -11,18 +11,18 @@ use Rattle.fields.specs.declared.slot.Reached.{Reached}
 use Rattle.fields.specs.declared.slot.Reached.the-variants.{At, Refused}
 use Rattle.fields.specs.Reached.{reachedOf, saidBy}
 use Rattle.fields.specs.Form.{lineForm, countedForm, pastCounted, pastPair, columnPast, linesForm, endForm}
-use Rattle.fields.proofs.ReachedLaws.{reaches, turned-away, said-verdict}
+use Rattle.fields.proofs.ReachedLaws.{reaches, line-refused, said-verdict}
 use Rattle.fields.proofs.ColumnLaws.{counted-columns}
 use Rattle.floor.specs.Checks.{limitsOf}
 use Rattle.sheet.specs.Form.{carrierColumn, wallColumn, restForm}
 use Rattle.sheet.specs.Values.{headAt}
 use Rattle.sheet.specs.Read.{formOf}
 
--- A refusal that is handed on is the answer of the whole chain, and a pass hands on to the rest.
+-- A refusal is the answer of the whole chain, and after a pass the rest is asked.
 pub handed-on : {a : Reached} {x : Refusal} {u : Verdict} (v w : Verdict) (c : ℕ) → a ≡ reachedOf v c → a ≡ Refused x → u ≡ saidBy a
     → u ≡ (v then w)
 handed-on v w c h e s =
-    let r = turned-away v c h e in
+    let r = line-refused v c h e in
     s ∙ said-verdict v c h ∙ r ∙ sym (then-refused w r)
 
 pub goes-past : {a : Reached} {x : ℕ} {u : Verdict} (v w : Verdict) (c : ℕ) → a ≡ reachedOf v c → a ≡ At x → u ≡ w → u ≡ (v then w)

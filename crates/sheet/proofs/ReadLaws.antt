@@ -45,24 +45,24 @@ unfolding sheetVerdict
 own-floor text f e h = e ∙ when-passed _ (then-both _ _ h .0)
 
 -- Then 9 alone is left to be told.
-pub own-then-room : {a : Checked} (text : List ℕ) (f : Floor) (room : ℕ) (u : Verdict) → verdictOf a ≡ sheetVerdict text →
-    f ≡ whenPassed (formOf text) (floorAt text) freshFloor → a ≡ Passed → u ≡ longEnough (f .walls) room → u ≡ readVerdict text room
+pub own-then-length : {a : Checked} (text : List ℕ) (f : Floor) (lent : ℕ) (u : Verdict) → verdictOf a ≡ sheetVerdict text →
+    f ≡ whenPassed (formOf text) (floorAt text) freshFloor → a ≡ Passed → u ≡ longEnough (f .walls) lent → u ≡ readVerdict text lent
 unfolding readVerdict
-own-then-room text f room u told own ok h =
-    then-next told ok (h ∙ ap (λ (g : Floor). longEnough (g .walls) room) (own-floor text f own (passes told ok)))
+own-then-length text f lent u told own ok h =
+    then-next told ok (h ∙ ap (λ (g : Floor). longEnough (g .walls) lent) (own-floor text f own (passes told ok)))
 
--- A sheet that is read is in good form, its floor passes 3 to 6, and its walls have room.
-pub record ReadTells (text : List ℕ) (room : ℕ) : Type 0 where
+-- A sheet that is read is in good form, its floor passes 3 to 6, and its walls fit the lent memory.
+pub record ReadTells (text : List ℕ) (lent : ℕ) : Type 0 where
   pub form : formOf text ≡ passed
   pub places : placesOf (floorAt text) (wallsAt text) ≡ passed
-  pub room-there : floorAt text .walls ≤ room
+  pub enough : floorAt text .walls ≤ lent
 
-pub read-tells : (text : List ℕ) (room : ℕ) → readVerdict text room ≡ passed → ReadTells text room
+pub read-tells : (text : List ℕ) (lent : ℕ) → readVerdict text lent ≡ passed → ReadTells text lent
 unfolding readVerdict sheetVerdict
-read-tells text room h =
+read-tells text lent h =
     let a = then-both _ _ h in
     let b = then-both _ _ (a .0) in
-    record { form = b .0; places = b .1; room-there = length-passed _ _ (a .1) }
+    record { form = b .0; places = b .1; enough = length-passed _ _ (a .1) }
 
 -- The dock counts of a floor that the checks pass are within their limits.
 pub accepted-counts : (f : Floor) (ws : List ℕ) → checkOf f ws ≡ passed → CountsWithin f

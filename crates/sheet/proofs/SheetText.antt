@@ -17,7 +17,7 @@ use Rattle.fields.proofs.ColumnLaws.{pair-columns}
 use Rattle.sheet.specs.Text.{headLine, cellNumbers, carrierLine, wallLine, carrierLines, wallLines, sheetOf, carrierAt, wallAt}
 use Rattle.sheet.specs.Text.{sheetLength}
 use Rattle.sheet.specs.Form.{carrierColumn, wallColumn}
-use Rattle.sheet.specs.Values.{valueAt, cellAt, startIn, countIn, dockIn, placeIn, startsAt, countsAt, docksAt, headAt, floorAt}
+use Rattle.sheet.specs.Values.{valueAt, cellAtColumn, startIn, countIn, dockIn, placeIn, startsAt, countsAt, docksAt, headAt, floorAt}
 use Rattle.sheet.specs.Values.{wallsFrom, wallsAt}
 use Rattle.sheet.specs.Read.{formOf, sheetVerdict}
 use Rattle.sheet.proofs.CellLaws.{value-number, cell-tells, cell-column, cell-row}
@@ -33,9 +33,9 @@ use Rattle.sheet.proofs.DockLaws.{numbers-cells, carrier-length, carrie
 use Rattle.sheet.proofs.SheetLaws.{carriers-span, walls-span}
 
 -- The cell at a column, written again, is the two numbers that stand there.
-cell-again : (text : List ℕ) (w h at : ℕ) → w ≤ 32 → h ≤ 32 → cellAt text w h at < w * h
-    → (cellAt text w h at % w ≡ numberAt text at) × (cellAt text w h at / w ≡ numberAt text (at + 5))
-unfolding cellAt
+cell-again : (text : List ℕ) (w h at : ℕ) → w ≤ 32 → h ≤ 32 → cellAtColumn text w h at < w * h
+    → (cellAtColumn text w h at % w ≡ numberAt text at) × (cellAtColumn text w h at / w ≡ numberAt text (at + 5))
+unfolding cellAtColumn
 cell-again text w h at a b l =
     let t = cell-tells w h (valueAt text at) (valueAt text (at + 5)) l in (
       rw (t .cell) (cell-column w _ _ (t .column)) ∙ value-number text at (omega (arith, t .column)),
@@ -128,7 +128,7 @@ module _ (text : List ℕ) (formed : formOf text ≡ passed) where
   line-at i l = lined text (headAt text .carriers) (tells .carriers-form) i l
 
   start-at : (i : ℕ) → i < floorAt text .carriers
-      → startOf (floorAt text) i ≡ cellAt text (floorAt text .width) (floorAt text .height) (carrierColumn text i)
+      → startOf (floorAt text) i ≡ cellAtColumn text (floorAt text .width) (floorAt text .height) (carrierColumn text i)
   unfolding startOf floorAt startsAt startIn headAt
   start-at i l = upTo-at _ _ 8 i l (omega (arith, tells .bounds .carriers .1))
 
@@ -138,7 +138,7 @@ module _ (text : List ℕ) (formed : formOf text ≡ passed) where
 
   place-at : (i k : ℕ) → i < floorAt text .carriers → k < countIn text i
       → getD (floorAt text .docks) (4 * i + k) 0
-      ≡ cellAt text (floorAt text .width) (floorAt text .height) (carrierColumn text i + 15 + 10 * k)
+      ≡ cellAtColumn text (floorAt text .width) (floorAt text .height) (carrierColumn text i + 15 + 10 * k)
   unfolding floorAt docksAt placeIn dockIn headAt
   place-at i k l g =
       let few = line-at i l .most in
@@ -148,11 +148,11 @@ module _ (text : List ℕ) (formed : formOf text ≡ passed) where
       ∙ rw (col, row) (upTo-below _ _ i l ∙ upTo-below _ _ k g)
 
   dock-at : (i k : ℕ) → i < floorAt text .carriers → k < countIn text i
-      → dockOf (floorAt text) i k ≡ cellAt text (floorAt text .width) (floorAt text .height) (carrierColumn text i + 15 + 10 * k)
+      → dockOf (floorAt text) i k ≡ cellAtColumn text (floorAt text .width) (floorAt text .height) (carrierColumn text i + 15 + 10 * k)
   dock-at i k l g = dock-place (floorAt text) i k (omega (arith, line-at i l .most, g)) ∙ place-at i k l g
 
   wall-at : (j : ℕ) → j < floorAt text .walls
-      → getD (wallsAt text) j 0 ≡ cellAt text (floorAt text .width) (floorAt text .height) (wallAt (floorAt text) j)
+      → getD (wallsAt text) j 0 ≡ cellAtColumn text (floorAt text .width) (floorAt text .height) (wallAt (floorAt text) j)
   unfolding wallsAt wallsFrom
   wall-at j l = listed-at _ (floorAt text .walls) j l
 
@@ -167,11 +167,11 @@ module _ (text : List ℕ) (formed : formOf text ≡ passed) where
   unfolding wallAt wallColumn floorAt headAt
   wall-column j = rw (carrier-column (floorAt text .carriers) (omega arith), pair-columns _ j)
 
-  -- A text in good form has room for its walls.
-  pub walls-there : {f : Floor} (room : ℕ) → f ≡ floorAt text → floorAt text .walls ≤ room
+  -- A text in good form has as many walls as the lent memory holds.
+  pub walls-there : {f : Floor} (lent : ℕ) → f ≡ floorAt text → floorAt text .walls ≤ lent
       → ((f .width ≤ 32) × (f .height ≤ 32)) ×
-      (((f .carriers ≤ 8) × (f .walls ≤ room)) × (carrierAt f (f .carriers) + 11 * f .walls ≤ length text))
-  walls-there room e l = rw e ((head-limits .0, head-limits .1 .0), ((head-limits .1 .1, l), walls-reach))
+      (((f .carriers ≤ 8) × (f .walls ≤ lent)) × (carrierAt f (f .carriers) + 11 * f .walls ≤ length text))
+  walls-there lent e l = rw e ((head-limits .0, head-limits .1 .0), ((head-limits .1 .1, l), walls-reach))
     where
       head-limits : (floorAt text .width ≤ 32) × ((floorAt text .height ≤ 32) × (floorAt text .carriers ≤ 8))
       head-limits = grid-limits text (tells .bounds)

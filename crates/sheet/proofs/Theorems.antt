@@ -19,7 +19,7 @@ use Rattle.sheet.specs.Text.{lineOf, cellNumbers, carrierLine}
 use Rattle.sheet.proofs.DockLaws.{dock-place}
 use Rattle.fields.specs.Form.{lineForm}
 use Rattle.sheet.specs.Form.{restForm}
-use Rattle.sheet.specs.Values.{valueAt, cellAt, headAt, floorAt, wallsAt}
+use Rattle.sheet.specs.Values.{valueAt, cellAtColumn, headAt, floorAt, wallsAt}
 use Rattle.sheet.specs.Read.{formOf, sheetVerdict}
 use Rattle.sheet.specs.Refused.{headSlots, restSlots, AllFine, RefusedSheet, head-form, outside-limit, rest-form, floor-row}
 use Rattle.sheet.specs.Claims.{Claims}
@@ -95,8 +95,8 @@ module _ (text : List ℕ) where
 
 -- A cell of the sheet is in the grid exactly if its column and its row are.
 cell-means : (text : List ℕ) (w h at : ℕ) → w ≤ 32 → h ≤ 32
-    → (cellAt text w h at < w * h) ↔ ((numberAt text at < w) × (numberAt text (at + 5) < h))
-unfolding cellAt
+    → (cellAtColumn text w h at < w * h) ↔ ((numberAt text at < w) × (numberAt text (at + 5) < h))
+unfolding cellAtColumn
 cell-means text w h at a b = (
   λ l.
       let t = cell-tells w h (valueAt text at) (valueAt text (at + 5)) l in (

@@ -1,4 +1,4 @@
--- What carriers' lines in good form have room for, column by column.
+-- What carriers' lines in good form have lent for, column by column.
 use Prim.Native.Nat.{ℕ, suc, _+_, _*_, _/_, _%_, _≤_, _<_}
 use native.Mathlib.Omega.{arith}
 use native.Mathlib.Decide.{decLt}
@@ -11,7 +11,7 @@ use Rattle.laws.specs.Verdict.{passed}
 use Rattle.fields.specs.Field.{numberAt}
 use Rattle.fields.specs.Form.{countedForm, countedLength, pastCounted, columnPast, linesForm}
 use Rattle.sheet.specs.Form.{carrierColumn}
-use Rattle.sheet.specs.Values.{valueAt, cellAt, upTo, listed, countIn, dockIn, placeIn, startsAt, countsAt, docksAt, headAt, floorAt}
+use Rattle.sheet.specs.Values.{valueAt, cellAtColumn, upTo, listed, countIn, dockIn, placeIn, startsAt, countsAt, docksAt, headAt, floorAt}
 use Rattle.sheet.proofs.FormLaws.{Lined, lined}
 use Rattle.sheet.proofs.ListedLaws.{listed-length, listed-same, upTo-at, upTo-below, upTo-past}
 
@@ -25,17 +25,17 @@ module _ (text : List ℕ) (n : ℕ) (few : n ≤ 8) (good : linesForm (countedF
     line = lined text n good i l
 
     -- The start, the dock count and each dock lie within the text.
-    pub start-room : carrierColumn text i + 10 ≤ length text
+    pub start-there : carrierColumn text i + 10 ≤ length text
     unfolding countedLength
-    start-room = omega (arith, line .end, line .reach)
+    start-there = omega (arith, line .end, line .reach)
 
-    pub count-room : carrierColumn text i + 10 + 5 ≤ length text
+    pub count-there : carrierColumn text i + 10 + 5 ≤ length text
     unfolding countedLength
-    count-room = omega (arith, line .end, line .reach)
+    count-there = omega (arith, line .end, line .reach)
 
-    pub dock-room : (k : ℕ) → k < countIn text i → carrierColumn text i + 15 + 10 * k + 10 ≤ length text
+    pub dock-there : (k : ℕ) → k < countIn text i → carrierColumn text i + 15 + 10 * k + 10 ≤ length text
     unfolding countedLength
-    dock-room k g = omega (arith, line .end, line .reach, g)
+    dock-there k g = omega (arith, line .end, line .reach, g)
 
     pub column-low : carrierColumn text i ≤ 479
     column-low = omega (arith, line .column-low, few, l)
@@ -63,7 +63,7 @@ kept-long g xs e = rw e (listed-length g 8)
 -- Place q of the docks of n carriers in a grid.
 abbrev pub placeWith : List ℕ → (n width height q : ℕ) → ℕ
 placeWith text n width height q =
-    upTo n (λ (i : ℕ). upTo (countIn text i) (λ (k : ℕ). cellAt text width height (carrierColumn text i + 15 + 10 * k)) (q % 4)) (q / 4)
+    upTo n (λ (i : ℕ). upTo (countIn text i) (λ (k : ℕ). cellAtColumn text width height (carrierColumn text i + 15 + 10 * k)) (q % 4)) (q / 4)
 
 -- A place of the docks: past the carriers, past a dock count, and a dock.
 module _ (text : List ℕ) (n width height q : ℕ) where
@@ -74,7 +74,7 @@ module _ (text : List ℕ) (n width height q : ℕ) where
   place-past l g = sym (upTo-below _ _ _ l ∙ upTo-past _ _ _ g)
 
   pub place-dock : q / 4 < n → q % 4 < countIn text (q / 4)
-      → cellAt text width height (carrierColumn text (q / 4) + 15 + 10 * (q % 4)) ≡ placeWith text n width height q
+      → cellAtColumn text width height (carrierColumn text (q / 4) + 15 + 10 * (q % 4)) ≡ placeWith text n width height q
   place-dock l g = sym (upTo-below _ _ _ l ∙ upTo-below _ _ _ g)
 
 -- After the docks of the last carrier: the places behind them are 0.

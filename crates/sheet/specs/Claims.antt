@@ -11,7 +11,7 @@ use Rattle.floor.specs.Checks.{checkOf}
 use Rattle.floor.specs.Accepted.{SameFloor}
 use Rattle.fields.specs.Field.{fieldOf, numberAt}
 use Rattle.sheet.specs.Text.{lineOf, carrierLine, sheetOf, sheetLength}
-use Rattle.sheet.specs.Values.{cellAt, floorAt, wallsAt}
+use Rattle.sheet.specs.Values.{cellAtColumn, floorAt, wallsAt}
 use Rattle.sheet.specs.Read.{sheetVerdict}
 use Rattle.sheet.specs.Refused.{RefusedSheet}
 
@@ -28,7 +28,7 @@ pub record Claims : Type 0 where
   pub refuses-exactly : (text : List ℕ) (k p : ℕ) → (sheetVerdict text ≡ refused k p) ↔ RefusedSheet text k p
   -- The cell that a sheet gives is in the grid exactly if its column and its row are.
   pub cell-in-grid : (text : List ℕ) (width height at : ℕ) → width ≤ 32 → height ≤ 32
-      → (cellAt text width height at < width * height) ↔ ((numberAt text at < width) × (numberAt text (at + 5) < height))
+      → (cellAtColumn text width height at < width * height) ↔ ((numberAt text at < width) × (numberAt text (at + 5) < height))
   -- The sheet's length is the documented figure.
   pub sheet-length : (f : Floor) (ws : List ℕ) → length (sheetOf f ws) ≡ sheetLength f
   -- The place of a refusal is never past the longest sheet, so that it has at most five digits.

@@ -21,11 +21,11 @@ sheetVerdict text = formOf text then placesOf (floorAt text) (wallsAt text)
 
 -- Then 9, where fewer places are lent for walls than the floor has.
 unfoldable pub readVerdict : List ℕ → ℕ → Verdict
-readVerdict text room = sheetVerdict text then longEnough (floorAt text .walls) room
+readVerdict text lent = sheetVerdict text then longEnough (floorAt text .walls) lent
 
 -- The floor that reading hands back: the fresh floor with a refusal.
 unfoldable pub readFloor : List ℕ → ℕ → Floor
-readFloor text room = whenPassed (readVerdict text room) (floorAt text) freshFloor
+readFloor text lent = whenPassed (readVerdict text lent) (floorAt text) freshFloor
 
 -- The lent wall memory after reading: the walls in front, and the rest as it was; all as it was with a refusal.
 unfoldable pub readWalls : List ℕ → List ℕ → List ℕ
@@ -33,7 +33,7 @@ readWalls text old = whenPassed (readVerdict text (length old)) (wallsAt text ++
 
 -- Writing: the checks of the record, then 9 where fewer bytes are lent than the sheet has.
 unfoldable pub writeVerdict : Floor → List ℕ → ℕ → Verdict
-writeVerdict f ws room = checkOf f ws then longEnough (sheetLength f) room
+writeVerdict f ws lent = checkOf f ws then longEnough (sheetLength f) lent
 
 -- The lent sheet memory after writing.
 unfoldable pub writeSheet : Floor → List ℕ → List ℕ → List ℕ

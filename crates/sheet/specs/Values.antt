@@ -23,8 +23,8 @@ listed g zero = []
 listed g (suc m) = listed g m ++ (g m ∷ [])
 
 -- The cell whose column and row stand at a column of the text.
-unfoldable pub cellAt : List ℕ → ℕ → ℕ → ℕ → ℕ
-cellAt text width height at = cellOf width height (valueAt text at) (valueAt text (at + 5))
+unfoldable pub cellAtColumn : List ℕ → ℕ → ℕ → ℕ → ℕ
+cellAtColumn text width height at = cellOf width height (valueAt text at) (valueAt text (at + 5))
 
 -- The first n numbers as g says, and 0 past them.
 unfoldable pub upTo : ℕ → (ℕ → ℕ) → ℕ → ℕ
@@ -51,13 +51,13 @@ headAt text = lineOneAt text (replicate 8 0) (replicate 8 0) (replicate 32 0)
 
 -- The start, the dock count and dock k of carrier i, for the grid of a floor.
 unfoldable pub startIn : List ℕ → Floor → ℕ → ℕ
-startIn text f i = cellAt text (f .width) (f .height) (carrierColumn text i)
+startIn text f i = cellAtColumn text (f .width) (f .height) (carrierColumn text i)
 
 unfoldable pub countIn : List ℕ → ℕ → ℕ
 countIn text i = valueAt text (carrierColumn text i + 10)
 
 unfoldable pub dockIn : List ℕ → Floor → ℕ → ℕ → ℕ
-dockIn text f i k = cellAt text (f .width) (f .height) (carrierColumn text i + 15 + 10 * k)
+dockIn text f i k = cellAtColumn text (f .width) (f .height) (carrierColumn text i + 15 + 10 * k)
 
 -- Place q of the docks: dock q % 4 of carrier q / 4; 0 past the carriers, and past a dock count.
 unfoldable pub placeIn : List ℕ → Floor → ℕ → ℕ
@@ -79,7 +79,7 @@ floorAt text = lineOneAt text (startsAt text (headAt text)) (countsAt text (head
 
 -- The walls that the text says, for the counts and the grid of a floor.
 unfoldable pub wallsFrom : List ℕ → Floor → List ℕ
-wallsFrom text f = listed (λ j. cellAt text (f .width) (f .height) (wallAt f j)) (f .walls)
+wallsFrom text f = listed (λ j. cellAtColumn text (f .width) (f .height) (wallAt f j)) (f .walls)
 
 unfoldable pub wallsAt : List ℕ → List ℕ
 wallsAt text = wallsFrom text (floorAt text)

@@ -105,9 +105,9 @@ fn read_own(text: &[u8]) -> Reading
     }
 }
 
-// What reading a sheet into wall memory of `room` places would answer; nothing is written.
-pub fn check(text: &[u8], room: usize) -> Checked
-    ensures { λ r. ⌜ verdictOf r ≡ readVerdict (now (text .entry)) room ⌝ }
+// What reading a sheet into wall memory of `lent` places would answer; nothing is written.
+pub fn check(text: &[u8], lent: usize) -> Checked
+    ensures { λ r. ⌜ verdictOf r ≡ readVerdict (now (text .entry)) lent ⌝ }
 {
     let reading = read_own(text);
     let checked = reading.answer;
@@ -115,7 +115,7 @@ pub fn check(text: &[u8], room: usize) -> Checked
     let Checked::Passed = checked else {
         return checked;
     };
-    floor::check_length(f.walls as usize, room)
+    floor::check_length(f.walls as usize, lent)
 }
 
 // Reads a sheet: its floor by value, its walls into lent memory.
@@ -130,9 +130,9 @@ pub fn read(text: &[u8], walls: &mut [u16]) -> Reading
     let Checked::Passed = checked else {
         return refused(checked);
     };
-    let room = floor::check_length(f.walls as usize, walls.len());
-    let Checked::Passed = room else {
-        return refused(room);
+    let length = floor::check_length(f.walls as usize, walls.len());
+    let Checked::Passed = length else {
+        return refused(length);
     };
     values::walls(text, f, walls);
     reading
@@ -154,9 +154,9 @@ pub fn write(f: Floor, walls: &[u16], out: &mut [u8]) -> Checked
     let Checked::Passed = checked else {
         return checked;
     };
-    let room = floor::check_length(sheet_length(f), out.len());
-    let Checked::Passed = room else {
-        return room;
+    let length = floor::check_length(sheet_length(f), out.len());
+    let Checked::Passed = length else {
+        return length;
     };
     lines::put_sheet(f, walls, out);
     Checked::Passed

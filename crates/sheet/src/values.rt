@@ -7,7 +7,7 @@ ghost use Rattle.laws.specs.Verdict.{passed};
 ghost use Rattle.fields.specs.Form.{countedForm, pastCounted, linesForm};
 ghost use Rattle.sheet.specs.Text.{carrierAt};
 ghost use Rattle.sheet.specs.Form.{carrierColumn};
-ghost use Rattle.sheet.specs.Values.{valueAt, cellOf, cellAt, upTo, listed, headAt, floorAt, wallsFrom};
+ghost use Rattle.sheet.specs.Values.{valueAt, cellOf, cellAtColumn, upTo, listed, headAt, floorAt, wallsFrom};
 ghost use Rattle.sheet.specs.Values.{countIn, startsAt, countsAt, docksAt};
 use crate::lines;
 use floor::Floor;
@@ -42,7 +42,7 @@ fn cell_of(width: u16, height: u16, col: u16, row: u16) -> u16
 fn cell(text: &[u8], width: u16, height: u16, at: usize) -> u16
     requires { ⌜ (width ≤ 32) × (height ≤ 32) ⌝ }
     requires { ⌜ at + 10 ≤ length (now text) ⌝ }
-    ensures { λ r. ⌜ r ≡ cellAt (now (text .entry)) width height at ⌝ }
+    ensures { λ r. ⌜ r ≡ cellAtColumn (now (text .entry)) width height at ⌝ }
 {
     cell_of(width, height, value(text, at), value(text, at + 5))
 }
@@ -129,7 +129,7 @@ fn dock(
     requires { ⌜ now at ≡ listed (upTo n (carrierColumn (now text))) 8 ⌝ }
     requires { ⌜ (now counts ≡ listed (upTo n (countIn (now text))) 8) × (q < 32) ⌝ }
     ensures { λ r. ⌜ r ≡ upTo n (λ i. upTo (countIn (now (text .entry)) i)
-        (λ k. cellAt (now (text .entry)) width height (carrierColumn (now (text .entry)) i + 15 + 10 * k)) (q % 4)) (q / 4) ⌝ }
+        (λ k. cellAtColumn (now (text .entry)) width height (carrierColumn (now (text .entry)) i + 15 + 10 * k)) (q % 4)) (q / 4) ⌝ }
 {
     let i = q / 4;
     if n <= i {

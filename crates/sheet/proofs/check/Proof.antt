@@ -1,5 +1,5 @@
 -- `sheet::check` meets its contract: what the text says, and then 9.
-use Rattle.sheet.proofs.ReadLaws.{own-then-room}
+use Rattle.sheet.proofs.ReadLaws.{own-then-length}
 use Rattle.sheet.specs.Read.{readVerdict}
 use Rattle.floor.proofs.AnswersLaws.{ends-at}
 use borrow.Author.Needs.{needs}
@@ -17,7 +17,7 @@ returns-2 c =
     let after-enum-told : tie.After-enum-told = search in
     let after-read-own : tie.After-read-own = search in
     let own = after-read-own .read-own .ensures in
-    own-then-room _ _ _ _ (own .0) (own .1) (after-enum-told .enum-told .given .1) (c .check-length .ensures)
+    own-then-length _ _ _ _ (own .0) (own .1) (after-enum-told .enum-told .given .1) (c .check-length .ensures)
 
 pub check-spec : {M : Type 1} → statement M
 check-spec =

@@ -2,7 +2,7 @@
 use Rattle.floor.proofs.LimitsLaws.{limits-passed}
 use Rattle.floor.proofs.AnswersLaws.{then-next, ends-at, refuses, passes}
 use Rattle.laws.proofs.VerdictLaws.{then-both, then-refused, when-passed}
-use Rattle.fields.proofs.ReachedLaws.{reaches, turned-away}
+use Rattle.fields.proofs.ReachedLaws.{reaches, line-refused}
 use Rattle.sheet.proofs.FormLaws.{line-reach}
 use Rattle.sheet.proofs.ReachLaws.{handed-on, behind-head}
 use Rattle.sheet.proofs.ReadLaws.{turned-back}
@@ -21,7 +21,7 @@ returns c =
     let after-enum-told2 : tie.After-enum-told2 = search in
     let line = after-line-form .line-form .ensures in
     let no = after-enum-told2 .enum-told2 .given .1 in
-    turned-back _ _ (handed-on _ _ _ line no (c .before .checked .ensures)) (then-refused _ (turned-away _ _ line no)) (c .refused .ensures)
+    turned-back _ _ (handed-on _ _ _ line no (c .before .checked .ensures)) (then-refused _ (line-refused _ _ line no)) (c .refused .ensures)
 
 head-requires : tie.Need-head-requires
 head-requires c κs =

@@ -1,6 +1,6 @@
 -- `sheet::read` meets its contract: a refusal leaves all as it was; a pass hands back the floor and stores its walls.
 use Rattle.laws.proofs.VerdictLaws.{when-passed, when-refused}
-use Rattle.sheet.proofs.ReadLaws.{read-tells, own-floor, own-then-room, turned-back}
+use Rattle.sheet.proofs.ReadLaws.{read-tells, own-floor, own-then-length, turned-back}
 use Rattle.sheet.specs.Read.{readVerdict, readFloor, readWalls}
 use Rattle.floor.proofs.AnswersLaws.{refuses, passes, ends-at}
 use Rattle.floor.specs.Answers.{verdictOf}
@@ -28,7 +28,7 @@ returns-2 c =
     let after-read-own : tie.After-read-own = search in
     let own = after-read-own .read-own .ensures in
     let yes = after-enum-told .enum-told .given .1 in
-    let told = own-then-room _ _ _ _ (own .0) (own .1) yes (after-check-length .check-length .ensures) in
+    let told = own-then-length _ _ _ _ (own .0) (own .1) yes (after-check-length .check-length .ensures) in
     let no = refuses told (c .before .enum-told4 .given .1) in
     let back = turned-back _ _ told no (c .refused2 .ensures) in
     (back .0, (back .1, sym (when-refused _ no)))
@@ -41,9 +41,9 @@ walls-requires c κs =
     let after-read-own : tie.After-read-own = search in
     let own = after-read-own .read-own .ensures in
     let yes = after-enum-told .enum-told .given .1 in
-    let told = own-then-room _ _ _ _ (own .0) (own .1) yes (after-check-length .check-length .ensures) in
+    let told = own-then-length _ _ _ _ (own .0) (own .1) yes (after-check-length .check-length .ensures) in
     let ok = read-tells _ _ (passes told (after-enum-told3 .enum-told3 .given .1)) in
-    walls-there _ (ok .form) _ (own-floor _ _ (own .1) (passes (own .0) yes)) (ok .room-there)
+    walls-there _ (ok .form) _ (own-floor _ _ (own .1) (passes (own .0) yes)) (ok .enough)
 
 returns-3 : tie.Need-returns-3
 unfolding readFloor readWalls verdictOf
@@ -54,7 +54,7 @@ returns-3 c =
     let after-read-own : tie.After-read-own = search in
     let own = after-read-own .read-own .ensures in
     let yes = after-enum-told .enum-told .given .1 in
-    let told = own-then-room _ _ _ _ (own .0) (own .1) yes (after-check-length .check-length .ensures) in
+    let told = own-then-length _ _ _ _ (own .0) (own .1) yes (after-check-length .check-length .ensures) in
     let ok = passes told (after-enum-told3 .enum-told3 .given .1) in
     let f = own-floor _ _ (own .1) (passes (own .0) yes) in
     (ap verdictOf yes ∙ sym ok, (f ∙ sym (when-passed _ ok), walls-read _ _ f (c .before .before .walls .ensures) ∙ sym (when-passed _ ok)))

@@ -7,7 +7,7 @@ use denote.Triple.Spec.{tripleOf}
 use denote.Triple.Table.{entered, cited}
 use Rattle.laws.specs.Verdict.{Verdict}
 use Rattle.fields.specs.Form.{countedForm, pastCounted}
-use Rattle.fields.proofs.ReaderCalls.{Moved}
+use Rattle.fields.proofs.ReaderCalls.{ReaderMoved}
 use Rattle.fields.proofs.LinesParts.{Begin, Line, Arrived}
 use Rattle.fields.proofs.LinesLaws.{lines-meet}
 use Rattle.fields.proofs.ColumnLaws.{counted-low}
@@ -48,6 +48,6 @@ counted-lines-spec 𝓤 H 𝓜 𝓖 𝓡 =
     (cited 𝓤 H (Begin 𝓤 H A) 𝓜 𝓡 code.env #begin begin-def.routine code.calls-fields·reader·begin (begin-thm.met 𝓤 H 𝓜 𝓖 𝓡))
     #line
     (cited 𝓤 H (Line 𝓤 form past 64000 H A) 𝓜 𝓡 code.env #line line-def.routine code.calls-fields·reader·counted (line-thm.met 𝓤 H 𝓜 𝓖 𝓡))
-    (cited 𝓤 H (Moved 𝓤 H A) 𝓜 𝓡 code.env #moved moved-def.routine code.calls-fields·reader·moved (moved-thm.met 𝓤 H 𝓜 𝓖 𝓡))
+    (cited 𝓤 H (ReaderMoved 𝓤 H A) 𝓜 𝓡 code.env #moved moved-def.routine code.calls-fields·reader·moved (moved-thm.met 𝓤 H 𝓜 𝓖 𝓡))
     (cited 𝓤 H (Arrived 𝓤 H A) 𝓜 𝓡 code.env #reached reached-def.routine code.calls-fields·reader·reached (reached-thm.met 𝓤 H 𝓜 𝓖 𝓡))
     counted-low)

@@ -1,6 +1,6 @@
 -- `sheet::values::dock` meets its contract: nothing past the carriers and past a dock count, and a dock's cell.
-use Rattle.sheet.proofs.ValueLaws.{dock-room, column-low, column-kept, count-kept, kept-long, place-none, place-past, place-dock}
-use Rattle.sheet.specs.Values.{cellAt}
+use Rattle.sheet.proofs.ValueLaws.{dock-there, column-low, column-kept, count-kept, kept-long, place-none, place-past, place-dock}
+use Rattle.sheet.specs.Values.{cellAtColumn}
 use mathlib.Core.Path.{_≡_, refl, _∙_, ap}
 use Prim.Native.Nat.{ℕ, _+_, _*_, _/_, _%_}
 use native.Mathlib.Omega.{arith}
@@ -50,7 +50,7 @@ cell-requires c κs =
     let l = else1 .if1 .left in
     let kept = column-kept _ _ few good _ l _ (start .pre .1 .1 .0) in
     let counted = count-kept _ _ few good _ l _ (start .pre .1 .1 .1 .0) in
-    (start .pre .0, omega (arith, kept, dock-room _ _ few good _ l (start .args .q % 4) (omega (arith, counted, else2 .if2 .left))))
+    (start .pre .0, omega (arith, kept, dock-there _ _ few good _ l (start .args .q % 4) (omega (arith, counted, else2 .if2 .left))))
 
 returns-3 : tie.Need-returns-3
 returns-3 c =

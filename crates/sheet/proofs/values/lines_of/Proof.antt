@@ -1,6 +1,6 @@
 -- `sheet::values::lines_of` meets its contract: invariant: the column is the next line's, and those passed are kept with their dock counts.
 use Rattle.sheet.proofs.ListedLaws.{lists, upTo-step}
-use Rattle.sheet.proofs.ValueLaws.{first-line, count-room, column-low, next-column}
+use Rattle.sheet.proofs.ValueLaws.{first-line, count-there, column-low, next-column}
 use Rattle.sheet.specs.Form.{carrierColumn}
 use Rattle.sheet.specs.Values.{upTo, listed, countIn}
 use mathlib.Core.Path.{_≡_}
@@ -28,7 +28,7 @@ value-requires c κs =
     let in-loop : tie.In-loop Inv-loop μ-loop = search in
     let at-loop : tie.At-loop Inv-loop μ-loop = search in
     let start : tie.Start Inv-loop μ-loop = search in
-    omega (arith, at-loop .loop .inv .1 .0, count-room _ _ (start .pre .0) (start .pre .1) _ (in-loop .loop-test .taken))
+    omega (arith, at-loop .loop .inv .1 .0, count-there _ _ (start .pre .0) (start .pre .1) _ (in-loop .loop-test .taken))
 
 add-value : tie.Need-add-value Inv-loop μ-loop
 add-value c =

@@ -1,7 +1,7 @@
 -- `sheet::values::walls` meets its contract: invariant: the walls passed stand in front, the rest of the memory is as it was.
 use Rattle.sheet.proofs.ListedLaws.{lists, listed-keeps, listed-store, listed-end}
 use Rattle.sheet.specs.Text.{wallAt}
-use Rattle.sheet.specs.Values.{cellAt, listed, wallsFrom}
+use Rattle.sheet.specs.Values.{cellAtColumn, listed, wallsFrom}
 use lib.ListN.{drop}
 use mathlib.Core.List.{_++_}
 use mathlib.Core.Path.{_≡_}
@@ -13,7 +13,7 @@ use Rattle.sheet.proofs.values.walls.Tie as tie
 
 abbrev Inv-loop : tie.InvT-loop
 Inv-loop text out₀ base k width height j₀ out j = (j ≤ k) ×
-    (out ≡ listed (λ (e : ℕ). cellAt text width height (base + 11 * e)) j ++ drop j out₀)
+    (out ≡ listed (λ (e : ℕ). cellAtColumn text width height (base + 11 * e)) j ++ drop j out₀)
 
 abbrev μ-loop : tie.MeasureT-loop
 μ-loop text out₀ base k width height j₀ out j = k - j
