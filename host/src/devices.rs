@@ -1,17 +1,20 @@
 //! The library's search written again in Rust, each of its devices with a switch: what a device buys is the plan's time without it. It has the
 //! same tables, passes and walk as crates `layers`, `passes` and `search`; answers are held to the library's before anything is timed.
 
-/// Rows of a beat: an empty one, those of the grid, three more.
-const STRIDE: usize = 36;
-type Table = [u32; STRIDE * 64];
+/// Words of a beat: 32 rows; where the rows stand in order an empty row before them and three behind.
+const STRIPED_BEAT: usize = 32;
+const ORDERED_BEAT: usize = 36;
+type Table = [u32; ORDERED_BEAT * 64];
 
 /// What can be left out.
 #[derive(Clone, Copy, PartialEq)]
 pub enum Device {
     /// None at once where no dock can be held at the horizon.
     NoneAtOnce,
-    /// A step looks at eight rows where the grid has no more.
-    EightRows,
+    /// Rows eight apart side by side, a step four rows at a time; without it rows in order, a step from memory to memory.
+    Stripes,
+    /// The forward sets are made eight beats at a time, not one.
+    EightBeats,
     /// Where a view stays, only the beat after it is taken out.
     Stays,
     /// A cell's row by a product and a shift, not by a division.
@@ -22,9 +25,10 @@ pub enum Device {
     EarlyEnd,
 }
 
-pub const DEVICES: [(Device, &str); 6] = [
+pub const DEVICES: [(Device, &str); 7] = [
     (Device::NoneAtOnce, "none at once where no dock can be held"),
-    (Device::EightRows, "eight rows in a low grid"),
+    (Device::Stripes, "rows eight apart side by side"),
+    (Device::EightBeats, "eight beats at a time"),
     (Device::Stays, "a view that stays costs one beat"),
     (Device::Product, "a cell's row by a product"),
     (Device::OneTable, "one table of sets for the plan"),
@@ -43,70 +47,154 @@ macro_rules! set {
     }};
 }
 
+/// Four rows, and the rows of a beat.
+type Stripe = [u32; 4];
+
+#[derive(Clone, Copy)]
+struct Stripes {
+    a: Stripe,
+    b: Stripe,
+    c: Stripe,
+    d: Stripe,
+    e: Stripe,
+    f: Stripe,
+    g: Stripe,
+    h: Stripe,
+}
+
+#[inline(always)]
+fn stripe(s: &Table, i: usize) -> Stripe {
+    [at!(s, i), at!(s, i + 1), at!(s, i + 2), at!(s, i + 3)]
+}
+
+#[inline(always)]
+fn put_stripe(s: &mut Table, i: usize, x: Stripe) {
+    for k in 0..4 {
+        set!(s, i + k, x[k]);
+    }
+}
+
+#[inline(always)]
+fn lanes(over: Stripe, here: Stripe, under: Stripe, mask: Stripe) -> Stripe {
+    std::array::from_fn(|k| (here[k] | here[k] << 1 | here[k] >> 1 | over[k] | under[k]) & mask[k])
+}
+
+#[inline(always)]
+fn load(s: &Table, i: usize) -> Stripes {
+    let part = |k: usize| stripe(s, i + 4 * k);
+    Stripes { a: part(0), b: part(1), c: part(2), d: part(3), e: part(4), f: part(5), g: part(6), h: part(7) }
+}
+
+#[inline(always)]
+fn save(s: &mut Table, i: usize, x: Stripes) {
+    for (k, part) in [x.a, x.b, x.c, x.d, x.e, x.f, x.g, x.h].into_iter().enumerate() {
+        put_stripe(s, i + 4 * k, part);
+    }
+}
+
+/// One step of a set into masks; `none` is the empty row above the first and below the last.
+#[inline(always)]
+fn advance(x: Stripes, masks: Stripes, none: u32) -> Stripes {
+    let above = [none, x.h[0], x.h[1], x.h[2]];
+    let below = [x.a[1], x.a[2], x.a[3], none];
+    Stripes {
+        a: lanes(above, x.a, x.b, masks.a),
+        b: lanes(x.a, x.b, x.c, masks.b),
+        c: lanes(x.b, x.c, x.d, masks.c),
+        d: lanes(x.c, x.d, x.e, masks.d),
+        e: lanes(x.d, x.e, x.f, masks.e),
+        f: lanes(x.e, x.f, x.g, masks.f),
+        g: lanes(x.f, x.g, x.h, masks.g),
+        h: lanes(x.g, x.h, below, masks.h),
+    }
+}
+
 /// The grid, with the devices that are left out as constants, so that each form is compiled for itself.
 #[derive(Clone, Copy)]
-struct Grid<const PRODUCT: bool, const EIGHT: bool> {
+struct Grid<const PRODUCT: bool, const STRIPED: bool> {
     width: usize,
     scale: usize,
     cells: usize,
     horizon: usize,
 }
 
-#[inline(always)]
-fn has(s: &Table, i: usize, k: usize) -> bool {
-    (at!(s, i) >> k) & 1 == 1
-}
-
-#[inline(always)]
-fn step_rows(sets: &mut Table, room: &Table, from: usize, to: usize, n: usize) {
-    let mut r = 0;
-    while r < n {
-        let (over, here, under) = (at!(sets, from + r), at!(sets, from + r + 1), at!(sets, from + r + 2));
-        set!(sets, to + r, (here | here << 1 | here >> 1 | over | under) & at!(room, to + r));
-        r += 1;
-    }
-}
-
-impl<const PRODUCT: bool, const EIGHT: bool> Grid<PRODUCT, EIGHT> {
+impl<const PRODUCT: bool, const STRIPED: bool> Grid<PRODUCT, STRIPED> {
     #[inline(always)]
     fn place(self, c: usize) -> (usize, usize) {
         let row = if PRODUCT { (c * self.scale) >> 16 } else { c / self.width };
         (row, c - row * self.width)
     }
 
+    /// The word of a row at a beat.
+    #[inline(always)]
+    fn word(self, t: usize, row: usize) -> usize {
+        if STRIPED { t * STRIPED_BEAT + row % 8 * 4 + row / 8 } else { t * ORDERED_BEAT + 1 + row }
+    }
+
+    #[inline(always)]
+    fn has(self, s: &Table, t: usize, row: usize, k: usize) -> bool {
+        (at!(s, self.word(t, row)) >> k) & 1 == 1
+    }
+
     #[inline(always)]
     fn member(self, s: &Table, t: usize, c: usize) -> bool {
         let (row, column) = self.place(c);
-        has(s, t * STRIDE + 1 + row, column)
+        self.has(s, t, row, column)
     }
 
     #[inline(always)]
     fn put(self, s: &mut Table, t: usize, c: usize) {
         let (row, column) = self.place(c);
-        let i = t * STRIDE + 1 + row;
+        let i = self.word(t, row);
         set!(s, i, at!(s, i) | 1 << column);
     }
 
     #[inline(always)]
-    fn drop(self, s: &mut [u32], first: usize, c: usize) {
+    fn drop(self, s: &mut Table, t: usize, c: usize) {
         if c < self.cells {
             let (row, column) = self.place(c);
-            let x = at!(s, first + row);
-            set!(s, first + row, x & !(1 << column));
+            let i = self.word(t, row);
+            set!(s, i, at!(s, i) & !(1 << column));
         }
     }
 
+    #[inline(always)]
+    fn empty(self, s: &mut Table, t: usize) {
+        for row in 0..32 {
+            set!(s, self.word(t, row), 0);
+        }
+    }
+
+    /// So many steps from the set of a beat on, to later beats or back to earlier ones.
     #[inline(never)]
-    fn step(self, sets: &mut Table, room: &Table, a: usize, b: usize) {
-        if EIGHT && self.cells <= 8 * self.width {
-            return step_rows(sets, room, a * STRIDE, b * STRIDE + 1, 8);
+    fn propagate(self, sets: &mut Table, table: &Table, from: usize, n: usize, back: bool) {
+        let next = |t: usize| if back { t - 1 } else { t + 1 };
+        let mut t = from;
+        if STRIPED {
+            let none = at!(table, STRIPED_BEAT * 64);
+            let mut x = load(sets, from * STRIPED_BEAT);
+            for _ in 0..n {
+                t = next(t);
+                x = advance(x, load(table, t * STRIPED_BEAT), none);
+                save(sets, t * STRIPED_BEAT, x);
+            }
+            return;
         }
-        step_rows(sets, room, a * STRIDE, b * STRIDE + 1, 32);
+        for _ in 0..n {
+            let (a, b) = (t * ORDERED_BEAT, next(t) * ORDERED_BEAT + 1);
+            let mut r = 0;
+            while r < 32 {
+                let (over, here, under) = (at!(sets, a + r), at!(sets, a + r + 1), at!(sets, a + r + 2));
+                set!(sets, b + r, (here | here << 1 | here >> 1 | over | under) & at!(table, b + r));
+                r += 1;
+            }
+            t = next(t);
+        }
     }
 
-    fn hold_from(self, room: &Table, dock: usize) -> usize {
+    fn hold_from(self, table: &Table, dock: usize) -> usize {
         let mut n = self.horizon + 1;
-        while 0 < n && self.member(room, n - 1, dock) {
+        while 0 < n && self.member(table, n - 1, dock) {
             n -= 1;
         }
         n
@@ -114,65 +202,70 @@ impl<const PRODUCT: bool, const EIGHT: bool> Grid<PRODUCT, EIGHT> {
 
     fn next(self, sets: &Table, t: usize, c: usize) -> usize {
         let (row, k) = self.place(c);
-        let i = t * STRIDE + 1 + row;
-        if has(sets, i - 1, k) {
+        if 0 < row && self.has(sets, t, row - 1, k) {
             return c - self.width;
         }
-        if 0 < k && has(sets, i, k - 1) {
+        if 0 < k && self.has(sets, t, row, k - 1) {
             return c - 1;
         }
-        if has(sets, i, k) {
+        if self.has(sets, t, row, k) {
             return c;
         }
-        if k + 1 < self.width && has(sets, i, k + 1) {
+        if k + 1 < self.width && self.has(sets, t, row, k + 1) {
             return c + 1;
         }
         c + self.width
     }
 
-    fn take(self, room: &mut Table, route: &[u16; 64], stays: bool) {
+    fn take(self, table: &mut Table, route: &[u16; 64], stays: bool) {
         for t in 0..=self.horizon {
             let c = at!(route, t) as usize;
             let after = (t + 1).min(self.horizon);
             if !(stays && 0 < t && at!(route, t - 1) == at!(route, t)) {
-                self.drop(room, t.saturating_sub(1) * STRIDE + 1, c);
-                self.drop(room, t * STRIDE + 1, c);
+                self.drop(table, t.saturating_sub(1), c);
+                self.drop(table, t, c);
             }
-            self.drop(room, after * STRIDE + 1, c);
+            self.drop(table, after, c);
         }
     }
 
-    fn search(self, sets: &mut Table, room: &Table, start: usize, docks: &[u16], without: Option<Device>) -> Option<[u16; 64]> {
-        if !self.member(room, 0, start) {
+    fn search(self, sets: &mut Table, table: &Table, start: usize, docks: &[u16], without: Option<Device>) -> Option<[u16; 64]> {
+        if !self.member(table, 0, start) {
             return None;
         }
         let (h, count) = (self.horizon, docks.len());
         let mut holds = [0; 4];
         for k in 0..count {
-            holds[k] = self.hold_from(room, docks[k] as usize);
+            holds[k] = self.hold_from(table, docks[k] as usize);
         }
         if without != Some(Device::NoneAtOnce) && holds[..count].iter().all(|&hold| h < hold) {
             return None;
         }
-        sets[1..33].fill(0);
+        self.empty(sets, 0);
         self.put(sets, 0, start);
+        let beats = if without == Some(Device::EightBeats) { 1 } else { 8 };
         let arrives = |sets: &Table, t: usize| (0..count).any(|k| holds[k] <= t && self.member(sets, t, docks[k] as usize));
-        let (mut t, mut found) = (0, arrives(sets, 0).then_some(0));
-        while t < h && (found.is_none() || without == Some(Device::EarlyEnd)) {
-            self.step(sets, room, t, t + 1);
-            t += 1;
+        let (mut t, mut made, mut found) = (0, 0, None);
+        loop {
             if found.is_none() && arrives(sets, t) {
                 found = Some(t);
             }
+            if t == h || (found.is_some() && without != Some(Device::EarlyEnd)) {
+                break;
+            }
+            if t == made {
+                let n = beats.min(h - made);
+                self.propagate(sets, table, made, n, false);
+                made += n;
+            }
+            t += 1;
         }
         let arrival = found?;
-        sets[arrival * STRIDE + 1..arrival * STRIDE + 33].fill(0);
+        self.empty(sets, arrival);
         for k in (0..count).filter(|&k| holds[k] <= arrival) {
             self.put(sets, arrival, docks[k] as usize);
         }
-        for t in (0..arrival).rev() {
-            self.step(sets, room, t + 1, t);
-        }
+        self.propagate(sets, table, arrival, arrival, true);
         let (mut route, mut c) = ([0; 64], start);
         route[0] = start as u16;
         for t in 0..h {
@@ -185,24 +278,27 @@ impl<const PRODUCT: bool, const EIGHT: bool> Grid<PRODUCT, EIGHT> {
     }
 
     fn plan(self, record: &[u16], walls: &[u16], answers: &mut [u16], without: Option<Device>) {
-        let mut free = [0u32; 32];
-        free[..self.cells / self.width].fill(((1u64 << self.width) - 1) as u32);
-        for &wall in walls {
-            self.drop(&mut free, 0, wall as usize);
+        let (mut table, mut sets): (Table, Table) = ([0; ORDERED_BEAT * 64], [0; ORDERED_BEAT * 64]);
+        for row in 0..self.cells / self.width {
+            set!(table, self.word(0, row), ((1u64 << self.width) - 1) as u32);
         }
-        let (mut room, mut sets): (Table, Table) = ([0; STRIDE * 64], [0; STRIDE * 64]);
-        for t in 0..=self.horizon {
-            room[t * STRIDE + 1..t * STRIDE + 33].copy_from_slice(&free);
+        for &wall in walls {
+            self.drop(&mut table, 0, wall as usize);
+        }
+        let first = if STRIPED { 0 } else { 1 };
+        for t in 1..=self.horizon {
+            let beat = if STRIPED { STRIPED_BEAT } else { ORDERED_BEAT };
+            table.copy_within(first..first + 32, t * beat + first);
         }
         for i in 0..record[4] as usize {
             if without == Some(Device::OneTable) {
-                sets = [0; STRIDE * 64];
+                sets = [0; ORDERED_BEAT * 64];
             }
             let docks = &record[22 + 4 * i..22 + 4 * i + record[14 + i] as usize];
-            let found = self.search(&mut sets, &room, record[6 + i] as usize, docks, without);
+            let found = self.search(&mut sets, &table, record[6 + i] as usize, docks, without);
             answers[65 * i] = if found.is_some() { 2 } else { 1 };
             answers[65 * i + 1..65 * i + 65].copy_from_slice(&found.unwrap_or([0; 64]));
-            self.take(&mut room, &found.unwrap_or([record[6 + i]; 64]), without != Some(Device::Stays));
+            self.take(&mut table, &found.unwrap_or([record[6 + i]; 64]), without != Some(Device::Stays));
         }
     }
 }
@@ -213,7 +309,7 @@ pub fn plan(record: &[u16], walls: &[u16], answers: &mut [u16], without: Option<
     let (scale, cells) = (65536 / width + 1, width * record[1] as usize);
     match without {
         Some(Device::Product) => Grid::<false, true> { width, scale, cells, horizon }.plan(record, walls, answers, without),
-        Some(Device::EightRows) => Grid::<true, false> { width, scale, cells, horizon }.plan(record, walls, answers, without),
+        Some(Device::Stripes) => Grid::<true, false> { width, scale, cells, horizon }.plan(record, walls, answers, without),
         _ => Grid::<true, true> { width, scale, cells, horizon }.plan(record, walls, answers, without),
     }
 }

@@ -4,7 +4,7 @@ ghost use mathlib.Core.Bool.{true, cond};
 ghost use mathlib.Core.List.{_∷_};
 ghost use Prim.Native.Nat.{_≤_, _<_};
 ghost use lib.ListN.{length};
-ghost use Rattle.search.specs.Answers.{answered, Says};
+ghost use Rattle.search.specs.Answers.{answered, Answers};
 ghost use Rattle.reference.specs.Step.{plan};
 ghost use Rattle.reference.specs.Take.{sent, kept};
 ghost use Rattle.encoding.specs.Places.{stateSize};
@@ -23,7 +23,7 @@ use search::Rows;
 fn find(f: Floor, walls: &[u16], free: Rows, m: &[u16], i: usize) -> Found
     requires { ⌜ i < f .carriers ⌝ }
     requires { ⌜ Workable f (now walls) free (now m) ⌝ }
-    ensures { λ r. ⌜ Says r (answered (bestIn (machineOf f (now (walls .entry))) (now (m .entry)) i)) ⌝ }
+    ensures { λ r. ⌜ Answers r (answered (bestIn (machineOf f (now (walls .entry))) (now (m .entry)) i)) ⌝ }
 {
     let n = f.carriers as usize;
     let a = state::views_start(n, i);
