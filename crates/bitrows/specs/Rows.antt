@@ -9,36 +9,36 @@ use lib.Dec.{ltb}
 use lib.ListN.{getD, set}
 use Rattle.bitrows.specs.Words.{digit, without}
 
--- The digit of row r at column k is 1.
+-- The digit of a row at a column is 1.
 unfoldable pub has : List ℕ → ℕ → ℕ → Bool
-has s r k = digit (getD s r 0) k
+has rows row column = digit (getD rows row 0) column
 
--- s with rows 0 to n − 1 as g says.
+-- Rows with the first n as a function says.
 unfoldable pub filled : List ℕ → (ℕ → ℕ) → ℕ → List ℕ
-filled s g zero = s
-filled s g (suc n) = set (filled s g n) n (g n)
+filled rows value zero = rows
+filled rows value (suc n) = set (filled rows value n) n (value n)
 
--- m with the first n rows of s from row i on.
+-- A memory with the first n of some rows from word i on.
 unfoldable pub written : List ℕ → ℕ → List ℕ → ℕ → List ℕ
-written m i s zero = m
-written m i s (suc n) = set (written m i s n) (i + n) (getD s n 0)
+written m i rows zero = m
+written m i rows (suc n) = set (written m i rows n) (i + n) (getD rows n 0)
 
 -- Every digit of the rows is a cell of a grid of width w.
-pub record Clean (w cells : ℕ) (s : List ℕ) : Type 0 where
-  pub thin : (r k : ℕ) → has s r k ≡ true → k < w
-  pub inside : (r k : ℕ) → has s r k ≡ true → r * w + k < cells
+pub record Clean (w cells : ℕ) (rows : List ℕ) : Type 0 where
+  pub thin : (row column : ℕ) → has rows row column ≡ true → column < w
+  pub inside : (row column : ℕ) → has rows row column ≡ true → row * w + column < cells
 
--- s with the digit of row r at column k.
+-- Rows with the digit of a row at a column.
 unfoldable pub added : List ℕ → ℕ → ℕ → List ℕ
-added s r k = set s r (bitOr (getD s r 0) (2 ^ k))
+added rows row column = set rows row (bitOr (getD rows row 0) (2 ^ column))
 
--- s without the digit of row r at column k.
+-- Rows without the digit of a row at a column.
 unfoldable pub dropped : List ℕ → ℕ → ℕ → List ℕ
-dropped s r k = set s r (without (getD s r 0) (2 ^ k))
+dropped rows row column = set rows row (without (getD rows row 0) (2 ^ column))
 
--- s without cell c of a grid of width w in the rows from row i on; a number that is no cell changes nothing.
+-- Rows without cell c of a grid of width w in the rows from row i on; a number that is no cell changes nothing.
 unfoldable pub droppedAt : ℕ → ℕ → ℕ → ℕ → List ℕ → List ℕ
-droppedAt w cells i c s = elim (ltb c cells) [ true ↦ dropped s (i + c / w) (c % w) | false ↦ s ]
+droppedAt w cells i c rows = elim (ltb c cells) [ true ↦ dropped rows (i + c / w) (c % w) | false ↦ rows ]
 
 -- The digits of a mask that a step brings to a row from the row above, itself and the row below.
 unfoldable pub successorRow : ℕ → ℕ → ℕ → ℕ → ℕ

@@ -4,11 +4,11 @@ use mathlib.Core.Bool.{Bool}
 use lib.Bits.{bitAnd, bitXor}
 use lib.Dec.{eqb}
 
--- The digit of x at place k is 1.
+-- The digit of x at a place is 1.
 unfoldable pub digit : ℕ → ℕ → Bool
 digit x zero = eqb (x % 2) 1
-digit x (suc k) = digit (x / 2) k
+digit x (suc place) = digit (x / 2) place
 
--- The digits of x that are not in m.
+-- The digits of x that are not in a mask.
 unfoldable pub without : ℕ → ℕ → ℕ
-without x m = bitXor x (bitAnd x m)
+without x mask = bitXor x (bitAnd x mask)

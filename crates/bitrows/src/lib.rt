@@ -7,36 +7,36 @@ ghost use Rattle.bitrows.specs.Words.{without as Words·without};
 ghost use Rattle.bitrows.specs.Rows.{added, dropped, droppedAt, written, successorRow};
 ghost use Rattle.bitrows.specs.Rows.{has as Rows·has};
 
-// The word with the digit at place k.
-fn bit(k: usize) -> u32
-    requires { ⌜ k < 32 ⌝ }
-    ensures { λ r. ⌜ r ≡ 2 ^ k ⌝ }
+// The word with one digit, at a column.
+fn bit(column: usize) -> u32
+    requires { ⌜ column < 32 ⌝ }
+    ensures { λ r. ⌜ r ≡ 2 ^ column ⌝ }
 {
-    1u32 << k
+    1u32 << column
 }
 
-// The digits of x that are not in m.
-pub fn without(x: u32, m: u32) -> u32
-    ensures { λ r. ⌜ r ≡ Words·without x m ⌝ }
+// The digits of x that are not in a mask.
+pub fn without(x: u32, mask: u32) -> u32
+    ensures { λ r. ⌜ r ≡ Words·without x mask ⌝ }
 {
-    x ^ (x & m)
+    x ^ (x & mask)
 }
 
-// Whether the digit of row r at column k is 1.
-pub fn has(s: &[u32], r: usize, k: usize) -> bool
-    requires { ⌜ (r < length (now s)) × (k < 32) ⌝ }
-    ensures { λ x. ⌜ x ≡ Rows·has (now (s .entry)) r k ⌝ }
+// Whether the digit of a row at a column is 1.
+pub fn has(rows: &[u32], row: usize, column: usize) -> bool
+    requires { ⌜ (row < length (now rows)) × (column < 32) ⌝ }
+    ensures { λ x. ⌜ x ≡ Rows·has (now (rows .entry)) row column ⌝ }
 {
-    (s[r] >> k) & 1 == 1
+    (rows[row] >> column) & 1 == 1
 }
 
-// Adds the digit of row r at column k.
-pub fn add(s: &mut [u32], r: usize, k: usize)
-    requires { ⌜ (r < length (now s)) × (k < 32) ⌝ }
-    ensures { λ x. ⌜ now (s .exit) ≡ added (now (s .entry)) r k ⌝ }
+// Adds the digit of a row at a column.
+pub fn add(rows: &mut [u32], row: usize, column: usize)
+    requires { ⌜ (row < length (now rows)) × (column < 32) ⌝ }
+    ensures { λ x. ⌜ now (rows .exit) ≡ added (now (rows .entry)) row column ⌝ }
 {
-    let more = bit(k);
-    s[r] = s[r] | more;
+    let more = bit(column);
+    rows[row] = rows[row] | more;
 }
 
 // What a cell's number is multiplied with, so that a shift by 16 places divides it by the width.
@@ -55,24 +55,24 @@ pub fn row_of(w: usize, scale: usize, c: usize) -> usize
     (c * scale) >> 16
 }
 
-// Takes the digit of row r at column k away.
-pub fn drop(s: &mut [u32], r: usize, k: usize)
-    requires { ⌜ (r < length (now s)) × (k < 32) ⌝ }
-    ensures { λ x. ⌜ now (s .exit) ≡ dropped (now (s .entry)) r k ⌝ }
+// Takes the digit of a row at a column away.
+pub fn drop(rows: &mut [u32], row: usize, column: usize)
+    requires { ⌜ (row < length (now rows)) × (column < 32) ⌝ }
+    ensures { λ x. ⌜ now (rows .exit) ≡ dropped (now (rows .entry)) row column ⌝ }
 {
-    let less = bit(k);
-    s[r] = without(s[r], less);
+    let less = bit(column);
+    rows[row] = without(rows[row], less);
 }
 
 // Takes cell c of a grid of width w out of the rows from row i on; a number that is no cell changes nothing.
-pub fn drop_at(s: &mut [u32], i: usize, w: usize, scale: usize, cells: usize, c: usize)
+pub fn drop_at(rows: &mut [u32], i: usize, w: usize, scale: usize, cells: usize, c: usize)
     requires { ⌜ (1 ≤ w) × (w ≤ 32) × (cells ≤ 32 * w) × (scale ≡ 65536 / w + 1) ⌝ }
-    requires { ⌜ i + 32 ≤ length (now s) ⌝ }
-    ensures { λ x. ⌜ now (s .exit) ≡ droppedAt w cells i c (now (s .entry)) ⌝ }
+    requires { ⌜ i + 32 ≤ length (now rows) ⌝ }
+    ensures { λ x. ⌜ now (rows .exit) ≡ droppedAt w cells i c (now (rows .entry)) ⌝ }
 {
     if c < cells {
         let r = row_of(w, scale, c);
-        drop(s, i + r, c - r * w);
+        drop(rows, i + r, c - r * w);
     }
 }
 

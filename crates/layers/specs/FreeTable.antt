@@ -22,32 +22,32 @@ pub record IsFreeTable (g : SearchGrid) (k : ℕ) (free m table : List ℕ) : Ty
   pub tidy : Tidy g table
   pub agrees : (t c : ℕ) → t ≤ g .horizon → inSet g table t c ≡ standsAt g k free m t c
 
--- Whatever was free, q is the free table that one view more leaves of the free table s of the first j views.
+-- Whatever was free, the table after is the free table that one view more leaves of that of the first j views.
 abbrev pub OneMore : SearchGrid → ℕ → List ℕ → List ℕ → List ℕ → Type 0
-OneMore g j m s q = (free : List ℕ) → IsFreeTable g j free m s → IsFreeTable g (j + 1) free m q
+OneMore g j m table after = (free : List ℕ) → IsFreeTable g j free m table → IsFreeTable g (j + 1) free m after
 
--- s has the free rows at the first n beats, and is empty elsewhere.
-pub record FreeBeats (free : List ℕ) (n : ℕ) (s : List ℕ) : Type 0 where
-  pub long : length s ≡ 2049
-  pub shown : (t j : ℕ) → t < n → j < 32 → getD s (t * 32 + j) 0 ≡ getD free (rowOf j) 0
-  pub hidden : (i : ℕ) → n * 32 ≤ i → getD s i 0 ≡ 0
+-- The table has the free rows at the first n beats, and is empty elsewhere.
+pub record FreeBeats (free : List ℕ) (n : ℕ) (table : List ℕ) : Type 0 where
+  pub long : length table ≡ 2049
+  pub shown : (t j : ℕ) → t < n → j < 32 → getD table (t * 32 + j) 0 ≡ getD free (rowOf j) 0
+  pub hidden : (i : ℕ) → n * 32 ≤ i → getD table i 0 ≡ 0
 
--- s without cell c at beat t; a number that is no cell changes nothing.
+-- A table without cell c at beat t; a number that is no cell changes nothing.
 unfoldable pub droppedCell : SearchGrid → ℕ → ℕ → List ℕ → List ℕ
-droppedCell g t c s = elim (ltb c (g .cells)) [ true ↦ dropped s (wordOf t (c / g .width)) (c % g .width) | false ↦ s ]
+droppedCell g t c table = elim (ltb c (g .cells)) [ true ↦ dropped table (wordOf t (c / g .width)) (c % g .width) | false ↦ table ]
 
--- q is s without cell x at beat a and the beats beside it.
-pub record TakenCell (g : SearchGrid) (a x : ℕ) (s q : List ℕ) : Type 0 where
-  pub tidy : Tidy g q
+-- The table after is the one before without cell x at beat a and the beats beside it.
+pub record TakenCell (g : SearchGrid) (a x : ℕ) (table after : List ℕ) : Type 0 where
+  pub tidy : Tidy g after
   pub taken : (t c : ℕ) → t ≤ g .horizon →
-      (inSet g q t c ≡ true) ↔ ((inSet g s t c ≡ true) × (a ≤ suc t → t ≤ suc a → c ≡ x → ⊥))
+      (inSet g after t c ≡ true) ↔ ((inSet g table t c ≡ true) × (a ≤ suc t → t ≤ suc a → c ≡ x → ⊥))
 
--- q is s without the cells of view j at its first n beats, each at its beat and the beats beside it.
-pub record TakenBeats (g : SearchGrid) (m : List ℕ) (j n : ℕ) (s q : List ℕ) : Type 0 where
-  pub tidy : Tidy g q
-  pub taken : (t c : ℕ) → t ≤ g .horizon → (inSet g q t c ≡ true) ↔ ((inSet g s t c ≡ true) × Away m j n t c)
+-- The table after is the one before without the cells of view j at its first n beats, each at its beat and the beats beside it.
+pub record TakenBeats (g : SearchGrid) (m : List ℕ) (j n : ℕ) (table after : List ℕ) : Type 0 where
+  pub tidy : Tidy g after
+  pub taken : (t c : ℕ) → t ≤ g .horizon → (inSet g after t c ≡ true) ↔ ((inSet g table t c ≡ true) × Away m j n t c)
 
--- Whatever the free table was, q is s with one beat more of view j taken out, where the first n are out of s.
-pub record BeatMore (g : SearchGrid) (m : List ℕ) (j n : ℕ) (s q : List ℕ) : Type 0 where
-  pub tidy : Tidy g q
-  pub more : (table : List ℕ) → TakenBeats g m j n table s → TakenBeats g m j (n + 1) table q
+-- Whatever it was out of which the first n beats of view j are taken, in the table after one beat more is.
+pub record BeatMore (g : SearchGrid) (m : List ℕ) (j n : ℕ) (table after : List ℕ) : Type 0 where
+  pub tidy : Tidy g after
+  pub more : (whole : List ℕ) → TakenBeats g m j n whole table → TakenBeats g m j (n + 1) whole after

@@ -37,13 +37,13 @@ pub record Fits (g : SearchGrid) (k : ℕ) (m : List ℕ) : Type 0 where
   pub short : g .horizon ≤ 63
   pub lent : 65 * k ≤ length m
 
--- The place of row r among the words of a beat: rows 8 apart stand side by side.
+-- The place of a row among the words of a beat: rows 8 apart stand side by side.
 unfoldable pub slotOf : ℕ → ℕ
-slotOf r = r % 8 * 4 + r / 8
+slotOf row = row % 8 * 4 + row / 8
 
--- The word of row r at beat t.
+-- The word of a row at beat t.
 unfoldable pub wordOf : ℕ → ℕ → ℕ
-wordOf t r = t * 32 + slotOf r
+wordOf t row = t * 32 + slotOf row
 
 -- The row of word j of a beat.
 unfoldable pub rowOf : ℕ → ℕ
@@ -51,17 +51,17 @@ rowOf j = j % 4 * 8 + j / 4
 
 -- Cell c is in the set of beat t.
 unfoldable pub inSet : SearchGrid → List ℕ → ℕ → ℕ → Bool
-inSet g s t c = ltb c (g .cells) && has s (wordOf t (c / g .width)) (c % g .width)
+inSet g sets t c = ltb c (g .cells) && has sets (wordOf t (c / g .width)) (c % g .width)
 
 -- Every digit of the table is a cell.
-pub record Tidy (g : SearchGrid) (s : List ℕ) : Type 0 where
-  pub long : length s ≡ 2049
-  pub thin : (i k : ℕ) → has s i k ≡ true → k < g .width
-  pub rows : (t r k : ℕ) → r < 32 → has s (wordOf t r) k ≡ true → r * g .width + k < g .cells
-  pub empty : getD s 2048 0 ≡ 0
+pub record Tidy (g : SearchGrid) (sets : List ℕ) : Type 0 where
+  pub long : length sets ≡ 2049
+  pub thin : (i column : ℕ) → has sets i column ≡ true → column < g .width
+  pub rows : (t row column : ℕ) → row < 32 → has sets (wordOf t row) column ≡ true → row * g .width + column < g .cells
+  pub empty : getD sets 2048 0 ≡ 0
 
--- q is s with n rows from row i on as f says.
-pub record Rewritten (s : List ℕ) (f : ℕ → ℕ) (i n : ℕ) (q : List ℕ) : Type 0 where
-  pub long : length q ≡ length s
-  pub inside : (r : ℕ) → r < n → getD q (i + r) 0 ≡ f r
-  pub outside : (j : ℕ) → (j < i) ⊎ (i + n ≤ j) → getD q j 0 ≡ getD s j 0
+-- The words after are those before with n words from word i on as a function says.
+pub record Rewritten (words : List ℕ) (value : ℕ → ℕ) (i n : ℕ) (after : List ℕ) : Type 0 where
+  pub long : length after ≡ length words
+  pub inside : (j : ℕ) → j < n → getD after (i + j) 0 ≡ value j
+  pub outside : (j : ℕ) → (j < i) ⊎ (i + n ≤ j) → getD after j 0 ≡ getD words j 0

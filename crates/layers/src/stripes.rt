@@ -23,21 +23,26 @@ pub struct Stripes {
 }
 
 // Four words of a table from word i behind word `at` on.
-fn stripe(s: &[u32], at: usize, i: usize) -> Stripe
-    requires { ⌜ (i ≤ 28) × (at + 32 ≤ length (now s)) ⌝ }
-    ensures { λ r. ⌜ r ≡ four (λ j. getD (now (s .entry)) (at + j) 0) i ⌝ }
+fn stripe(table: &[u32], at: usize, i: usize) -> Stripe
+    requires { ⌜ (i ≤ 28) × (at + 32 ≤ length (now table)) ⌝ }
+    ensures { λ r. ⌜ r ≡ four (λ j. getD (now (table .entry)) (at + j) 0) i ⌝ }
 {
-    [s[at + i], s[at + (i + 1)], s[at + (i + 2)], s[at + (i + 3)]]
+    [
+        table[at + i],
+        table[at + (i + 1)],
+        table[at + (i + 2)],
+        table[at + (i + 3)],
+    ]
 }
 
 // Writes four words there.
-fn put_stripe(s: &mut [u32], at: usize, i: usize, x: Stripe)
-    requires { ⌜ (i ≤ 28) × (at + 32 ≤ length (now s)) ⌝ }
-    ensures { λ r. ⌜ now (s .exit) ≡ written (now (s .entry)) (at + i) x 4 ⌝ }
+fn put_stripe(table: &mut [u32], at: usize, i: usize, x: Stripe)
+    requires { ⌜ (i ≤ 28) × (at + 32 ≤ length (now table)) ⌝ }
+    ensures { λ r. ⌜ now (table .exit) ≡ written (now (table .entry)) (at + i) x 4 ⌝ }
 {
     let mut k: usize = 0;
     while k < 4 {
-        s[at + i + k] = x[k];
+        table[at + i + k] = x[k];
         k += 1;
     }
 }
@@ -55,18 +60,18 @@ fn lanes(over: Stripe, here: Stripe, under: Stripe, mask: Stripe) -> Stripe
 }
 
 // The 32 words from word `at` on.
-pub fn load(s: &[u32], at: usize) -> Stripes
-    requires { ⌜ at + 32 ≤ length (now s) ⌝ }
-    ensures { λ r. ⌜ Carries r (λ j. getD (now (s .entry)) (at + j) 0) ⌝ }
+pub fn load(table: &[u32], at: usize) -> Stripes
+    requires { ⌜ at + 32 ≤ length (now table) ⌝ }
+    ensures { λ r. ⌜ Carries r (λ j. getD (now (table .entry)) (at + j) 0) ⌝ }
 {
-    let a = stripe(s, at, 0);
-    let b = stripe(s, at, 4);
-    let c = stripe(s, at, 8);
-    let d = stripe(s, at, 12);
-    let e = stripe(s, at, 16);
-    let f = stripe(s, at, 20);
-    let g = stripe(s, at, 24);
-    let h = stripe(s, at, 28);
+    let a = stripe(table, at, 0);
+    let b = stripe(table, at, 4);
+    let c = stripe(table, at, 8);
+    let d = stripe(table, at, 12);
+    let e = stripe(table, at, 16);
+    let f = stripe(table, at, 20);
+    let g = stripe(table, at, 24);
+    let h = stripe(table, at, 28);
     Stripes {
         a,
         b,
@@ -80,31 +85,31 @@ pub fn load(s: &[u32], at: usize) -> Stripes
 }
 
 // Writes four stripes from word i behind word `at` on.
-fn put_four(s: &mut [u32], at: usize, i: usize, a: Stripe, b: Stripe, c: Stripe, d: Stripe)
-    requires { ⌜ (i ≤ 16) × (at + 32 ≤ length (now s)) ⌝ }
-    ensures { λ r. ⌜ Joins at i a b c d (now (s .entry)) (now (s .exit)) ⌝ }
+fn put_four(table: &mut [u32], at: usize, i: usize, a: Stripe, b: Stripe, c: Stripe, d: Stripe)
+    requires { ⌜ (i ≤ 16) × (at + 32 ≤ length (now table)) ⌝ }
+    ensures { λ r. ⌜ Joins at i a b c d (now (table .entry)) (now (table .exit)) ⌝ }
 {
-    put_stripe(s, at, i, a);
-    put_stripe(s, at, i + 4, b);
-    put_stripe(s, at, i + 8, c);
-    put_stripe(s, at, i + 12, d);
+    put_stripe(table, at, i, a);
+    put_stripe(table, at, i + 4, b);
+    put_stripe(table, at, i + 8, c);
+    put_stripe(table, at, i + 12, d);
 }
 
 // Writes the stripes from word `at` on.
-pub fn save(s: &mut [u32], at: usize, x: Stripes)
-    requires { ⌜ at + 32 ≤ length (now s) ⌝ }
-    ensures { λ r. ⌜ ((w : ℕ → ℕ) → Carries x w → Rewritten (now (s .entry)) w at 32 (now (s .exit))) ⌝ }
+pub fn save(table: &mut [u32], at: usize, x: Stripes)
+    requires { ⌜ at + 32 ≤ length (now table) ⌝ }
+    ensures { λ r. ⌜ ((w : ℕ → ℕ) → Carries x w → Rewritten (now (table .entry)) w at 32 (now (table .exit))) ⌝ }
 {
     let a = x.a;
     let b = x.b;
     let c = x.c;
     let d = x.d;
-    put_four(s, at, 0, a, b, c, d);
+    put_four(table, at, 0, a, b, c, d);
     let e = x.e;
     let f = x.f;
     let g = x.g;
     let h = x.h;
-    put_four(s, at, 16, e, f, g, h);
+    put_four(table, at, 16, e, f, g, h);
 }
 
 // One step of a whole set into masks. `none` is the row above the first and below the last, which are empty: were it the number 0 in the

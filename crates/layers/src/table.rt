@@ -30,48 +30,48 @@ pub fn word(t: usize, row: usize) -> usize
     t * ROWS + (row % 8 * 4 + row / 8)
 }
 
-// Whether the digit of a row at column k is 1, at beat t.
-pub fn has_at(s: &[u32], t: usize, row: usize, k: usize) -> bool
-    requires { ⌜ (length (now s) ≡ 2049) × (t < 64) × (row < 32) × (k < 32) ⌝ }
-    ensures { λ r. ⌜ r ≡ has (now (s .entry)) (wordOf t row) k ⌝ }
+// Whether the digit of a row at a column is 1, at beat t.
+pub fn has_at(sets: &[u32], t: usize, row: usize, column: usize) -> bool
+    requires { ⌜ (length (now sets) ≡ 2049) × (t < 64) × (row < 32) × (column < 32) ⌝ }
+    ensures { λ r. ⌜ r ≡ has (now (sets .entry)) (wordOf t row) column ⌝ }
 {
-    bitrows::has(s, word(t, row), k)
+    bitrows::has(sets, word(t, row), column)
 }
 
 // Whether cell c is in the set of beat t.
-pub fn member(g: SearchGrid, s: &[u32], t: usize, c: usize) -> bool
-    requires { ⌜ Grid g × (length (now s) ≡ 2049) × (t < 64) × (c < g .cells) ⌝ }
-    ensures { λ r. ⌜ r ≡ inSet g (now (s .entry)) t c ⌝ }
+pub fn member(g: SearchGrid, sets: &[u32], t: usize, c: usize) -> bool
+    requires { ⌜ Grid g × (length (now sets) ≡ 2049) × (t < 64) × (c < g .cells) ⌝ }
+    ensures { λ r. ⌜ r ≡ inSet g (now (sets .entry)) t c ⌝ }
 {
     let p = place_of(g, c);
-    has_at(s, t, p.row, p.column)
+    has_at(sets, t, p.row, p.column)
 }
 
 // The set of beat t becomes empty.
-pub fn put_none(g: SearchGrid, s: &mut [u32], t: usize)
-    requires { ⌜ Grid g × Tidy g (now s) × (t < 64) ⌝ }
-    ensures only { λ r. ⌜ ChangedAt g (now (s .entry)) t (now (s .exit)) ⌝ }
-    ensures none { λ r. ⌜ Empty g (now (s .exit)) t ⌝ }
+pub fn put_none(g: SearchGrid, sets: &mut [u32], t: usize)
+    requires { ⌜ Grid g × Tidy g (now sets) × (t < 64) ⌝ }
+    ensures only { λ r. ⌜ ChangedAt g (now (sets .entry)) t (now (sets .exit)) ⌝ }
+    ensures none { λ r. ⌜ Empty g (now (sets .exit)) t ⌝ }
 {
-    bitrows::put_rows(s, t * ROWS, [0u32; ROWS], ROWS);
+    bitrows::put_rows(sets, t * ROWS, [0u32; ROWS], ROWS);
 }
 
 // Cell c joins the set of beat t.
-pub fn put_more(g: SearchGrid, s: &mut [u32], t: usize, c: usize)
-    requires { ⌜ Grid g × Tidy g (now s) × (t < 64) × (c < g .cells) ⌝ }
-    ensures only { λ r. ⌜ ChangedAt g (now (s .entry)) t (now (s .exit)) ⌝ }
-    ensures joined { λ r. ⌜ Joined g (now (s .entry)) t c (now (s .exit)) ⌝ }
+pub fn put_more(g: SearchGrid, sets: &mut [u32], t: usize, c: usize)
+    requires { ⌜ Grid g × Tidy g (now sets) × (t < 64) × (c < g .cells) ⌝ }
+    ensures only { λ r. ⌜ ChangedAt g (now (sets .entry)) t (now (sets .exit)) ⌝ }
+    ensures joined { λ r. ⌜ Joined g (now (sets .entry)) t c (now (sets .exit)) ⌝ }
 {
     let p = place_of(g, c);
-    bitrows::add(s, word(t, p.row), p.column);
+    bitrows::add(sets, word(t, p.row), p.column);
 }
 
 // The set of beat t becomes cell c alone.
-pub fn put_alone(g: SearchGrid, s: &mut [u32], t: usize, c: usize)
-    requires { ⌜ Grid g × Tidy g (now s) × (t < 64) × (c < g .cells) ⌝ }
-    ensures only { λ r. ⌜ ChangedAt g (now (s .entry)) t (now (s .exit)) ⌝ }
-    ensures alone { λ r. ⌜ Alone g (now (s .exit)) t c ⌝ }
+pub fn put_alone(g: SearchGrid, sets: &mut [u32], t: usize, c: usize)
+    requires { ⌜ Grid g × Tidy g (now sets) × (t < 64) × (c < g .cells) ⌝ }
+    ensures only { λ r. ⌜ ChangedAt g (now (sets .entry)) t (now (sets .exit)) ⌝ }
+    ensures alone { λ r. ⌜ Alone g (now (sets .exit)) t c ⌝ }
 {
-    put_none(g, s, t);
-    put_more(g, s, t, c);
+    put_none(g, sets, t);
+    put_more(g, sets, t, c);
 }

@@ -13,7 +13,7 @@ use Rattle.passes.specs.declared.docks.Docks.{Docks}
 -- The first n cells, at most 4, are cells of the grid.
 pub record DocksIn (g : SearchGrid) (n : ℕ) (cells : List ℕ) : Type 0 where
   pub few : n ≤ 4
-  pub inside : (k : ℕ) → k < n → getD cells k 0 < g .cells
+  pub inside : (d : ℕ) → d < n → getD cells d 0 < g .cells
 
 -- The least number from which all below n pass a test; n where the last fails.
 unfoldable pub heldFrom : (ℕ → Bool) → ℕ → ℕ
@@ -27,37 +27,37 @@ holdOf g table c = heldFrom (λ t. inSet g table t c) (g .horizon + 1)
 -- The docks with the beats from which they can be held in a free table.
 unfoldable pub heldDocks : SearchGrid → List ℕ → ℕ → List ℕ → Docks
 heldDocks g table count cells =
-    record { count = count; cells = cells; holds = filled (replicate 4 0) (λ k. holdOf g table (getD cells k 0)) count }
+    record { count = count; cells = cells; holds = filled (replicate 4 0) (λ d. holdOf g table (getD cells d 0)) count }
 
 -- Some number below n passes a test.
 unfoldable pub anyOf : (ℕ → Bool) → ℕ → Bool
 anyOf p zero = false
 anyOf p (suc n) = anyOf p n || p n
 
--- Dock k can be held from beat t on.
+-- Dock d can be held from beat t on.
 unfoldable pub heldAt : Docks → ℕ → ℕ → Bool
-heldAt ds t k = leb (getD (ds .holds) k 0) t
+heldAt ds t d = leb (getD (ds .holds) d 0) t
 
 -- Some dock can be held from beat t on.
 unfoldable pub someHeld : Docks → ℕ → Bool
 someHeld ds t = anyOf (heldAt ds t) (ds .count)
 
--- Dock k can be held from beat t on and is in the set of beat t.
+-- Dock d can be held from beat t on and is in the set of beat t.
 unfoldable pub arrivableAt : SearchGrid → List ℕ → Docks → ℕ → ℕ → Bool
-arrivableAt g s ds t k = heldAt ds t k && inSet g s t (getD (ds .cells) k 0)
+arrivableAt g sets ds t d = heldAt ds t d && inSet g sets t (getD (ds .cells) d 0)
 
 -- Some dock that can be held from beat t on is in the set of beat t.
 unfoldable pub arrivable : SearchGrid → List ℕ → Docks → ℕ → Bool
-arrivable g s ds t = anyOf (arrivableAt g s ds t) (ds .count)
+arrivable g sets ds t = anyOf (arrivableAt g sets ds t) (ds .count)
 
--- Cell c is dock k, which can be held from beat t on.
+-- Cell c is dock d, which can be held from beat t on.
 unfoldable pub endableAt : Docks → ℕ → ℕ → ℕ → Bool
-endableAt ds t c k = heldAt ds t k && eqb c (getD (ds .cells) k 0)
+endableAt ds t c d = heldAt ds t d && eqb c (getD (ds .cells) d 0)
 
 -- The set of beat t has those of the first n docks that can be held from then on.
 abbrev pub EndsAt : SearchGrid → List ℕ → Docks → ℕ → ℕ → Type 0
-EndsAt g s ds t n = (c : ℕ) → inSet g s t c ≡ anyOf (endableAt ds t c) n
+EndsAt g sets ds t n = (c : ℕ) → inSet g sets t c ≡ anyOf (endableAt ds t c) n
 
--- Where the set of beat t has so the first k docks, it has so one more in q.
+-- Where the set of beat t has so the first n docks, the one after has so one more.
 abbrev pub OneEnd : SearchGrid → List ℕ → Docks → ℕ → ℕ → List ℕ → Type 0
-OneEnd g s ds t k q = EndsAt g s ds t k → EndsAt g q ds t (k + 1)
+OneEnd g sets ds t n after = EndsAt g sets ds t n → EndsAt g after ds t (n + 1)

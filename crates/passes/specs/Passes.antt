@@ -10,27 +10,27 @@ use Rattle.layers.specs.Step.{Alone, Spread}
 use Rattle.passes.specs.declared.docks.Docks.{Docks}
 use Rattle.passes.specs.Docks.{EndsAt}
 
--- The sets of s through beat n are what the start reaches in the free table.
-pub record ForwardReachable (g : SearchGrid) (table : List ℕ) (start n : ℕ) (s : List ℕ) : Type 0 where
-  pub tidy : Tidy g s
-  pub begins : Alone g s 0 start
-  pub spreads : (t : ℕ) → t < n → Spread g table s t (t + 1)
+-- The sets through beat n are what the start reaches in the free table.
+pub record ForwardReachable (g : SearchGrid) (table : List ℕ) (start n : ℕ) (sets : List ℕ) : Type 0 where
+  pub tidy : Tidy g sets
+  pub begins : Alone g sets 0 start
+  pub spreads : (t : ℕ) → t < n → Spread g table sets t (t + 1)
 
 -- The same through beat r, or through the horizon where r is past that.
 abbrev pub ForwardReachableTo : SearchGrid → List ℕ → ℕ → ℕ → List ℕ → Type 0
-ForwardReachableTo g table start r s = (n : ℕ) → n ≤ r → n ≤ g .horizon → ForwardReachable g table start n s
+ForwardReachableTo g table start r sets = (n : ℕ) → n ≤ r → n ≤ g .horizon → ForwardReachable g table start n sets
 
--- The sets of q from beat n through beat m follow from each other; those through beat n are as in s.
-pub record Extended (g : SearchGrid) (table : List ℕ) (n : ℕ) (s : List ℕ) (m : ℕ) (q : List ℕ) : Type 0 where
-  pub tidy : Tidy g q
-  pub spreads : (t : ℕ) → n ≤ t → t < m → Spread g table q t (t + 1)
-  pub kept : (t c : ℕ) → t ≤ n → inSet g q t c ≡ inSet g s t c
+-- The sets after, from beat n through beat m, follow from each other; those through beat n are as before.
+pub record Extended (g : SearchGrid) (table : List ℕ) (n : ℕ) (sets : List ℕ) (m : ℕ) (after : List ℕ) : Type 0 where
+  pub tidy : Tidy g after
+  pub spreads : (t : ℕ) → n ≤ t → t < m → Spread g table after t (t + 1)
+  pub kept : (t c : ℕ) → t ≤ n → inSet g after t c ≡ inSet g sets t c
 
--- The sets of s from beat n through beat a are what leads in the free table to a dock that can be held from beat a on.
-pub record BackwardReachable (g : SearchGrid) (table : List ℕ) (ds : Docks) (a n : ℕ) (s : List ℕ) : Type 0 where
-  pub tidy : Tidy g s
-  pub ends : EndsAt g s ds a (ds .count)
-  pub spreads : (t : ℕ) → n ≤ t → t < a → Spread g table s (t + 1) t
+-- The sets from beat n through beat a are what leads in the free table to a dock that can be held from beat a on.
+pub record BackwardReachable (g : SearchGrid) (table : List ℕ) (ds : Docks) (a n : ℕ) (sets : List ℕ) : Type 0 where
+  pub tidy : Tidy g sets
+  pub ends : EndsAt g sets ds a (ds .count)
+  pub spreads : (t : ℕ) → n ≤ t → t < a → Spread g table sets (t + 1) t
 
 -- a is the first number below n that passes a test, or n.
 pub record Earliest (p : ℕ → Bool) (n a : ℕ) : Type 0 where

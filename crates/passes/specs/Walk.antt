@@ -19,13 +19,13 @@ firstNear p w c =
 
 -- The smallest near cell of c in the set of beat t; c where there is none.
 unfoldable pub nextOf : SearchGrid → List ℕ → ℕ → ℕ → ℕ
-nextOf g s t c = firstNear (inSet g s t) (g .width) c
+nextOf g sets t c = firstNear (inSet g sets t) (g .width) c
 
 -- The cell of the walk after cell c at beat t: before beat a the next one, then c.
 unfoldable pub stepOf : SearchGrid → List ℕ → ℕ → ℕ → ℕ → ℕ
-stepOf g s a t c = pick (ltb t a) (nextOf g s (t + 1) c) c
+stepOf g sets a t c = pick (ltb t a) (nextOf g sets (t + 1) c) c
 
 -- The cell of the walk at a beat.
 unfoldable pub pathOf : SearchGrid → List ℕ → ℕ → ℕ → ℕ → ℕ
-pathOf g s start a zero = start
-pathOf g s start a (suc t) = stepOf g s a t (pathOf g s start a t)
+pathOf g sets start a zero = start
+pathOf g sets start a (suc t) = stepOf g sets a t (pathOf g sets start a t)

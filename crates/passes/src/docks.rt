@@ -43,10 +43,10 @@ pub fn hold_docks(g: SearchGrid, table: &[u32], count: usize, cells: Cells) -> D
     ensures { λ r. ⌜ r ≡ heldDocks g (now (table .entry)) count cells ⌝ }
 {
     let mut holds = [0usize; 4];
-    let mut k: usize = 0;
-    while k < count {
-        holds[k] = hold_from(g, table, cells[k] as usize);
-        k += 1;
+    let mut d: usize = 0;
+    while d < count {
+        holds[d] = hold_from(g, table, cells[d] as usize);
+        d += 1;
     }
     Docks {
         count: count,
@@ -61,12 +61,12 @@ pub fn some_held(ds: Docks, t: usize) -> bool
     ensures { λ r. ⌜ r ≡ someHeld ds t ⌝ }
 {
     let n = ds.count;
-    let mut k: usize = 0;
-    while k < n {
-        if ds.holds[k] <= t {
+    let mut d: usize = 0;
+    while d < n {
+        if ds.holds[d] <= t {
             return true;
         }
-        k += 1;
+        d += 1;
     }
     false
 }
@@ -88,26 +88,26 @@ pub fn arrives(g: SearchGrid, sets: &[u32], ds: Docks, t: usize) -> bool
     ensures { λ r. ⌜ r ≡ arrivable g (now (sets .entry)) ds t ⌝ }
 {
     let n = ds.count;
-    let mut k: usize = 0;
-    while k < n {
-        if arrives_at(g, sets, t, ds.holds[k], ds.cells[k] as usize) {
+    let mut d: usize = 0;
+    while d < n {
+        if arrives_at(g, sets, t, ds.holds[d], ds.cells[d] as usize) {
             return true;
         }
-        k += 1;
+        d += 1;
     }
     false
 }
 
-// Dock k joins the set of beat a if it can be held from then on.
-fn put_dock(g: SearchGrid, sets: &mut [u32], ds: Docks, a: usize, k: usize)
-    requires { ⌜ Grid g × Tidy g (now sets) × (a < 64) × DocksIn g (ds .count) (ds .cells) × (k < ds .count) ⌝ }
+// Dock d joins the set of beat a if it can be held from then on.
+fn put_dock(g: SearchGrid, sets: &mut [u32], ds: Docks, a: usize, d: usize)
+    requires { ⌜ Grid g × Tidy g (now sets) × (a < 64) × DocksIn g (ds .count) (ds .cells) × (d < ds .count) ⌝ }
     ensures only { λ r. ⌜ ChangedAt g (now (sets .entry)) a (now (sets .exit)) ⌝ }
-    ensures more { λ r. ⌜ OneEnd g (now (sets .entry)) ds a k (now (sets .exit)) ⌝ }
+    ensures more { λ r. ⌜ OneEnd g (now (sets .entry)) ds a d (now (sets .exit)) ⌝ }
 {
-    if a < ds.holds[k] {
+    if a < ds.holds[d] {
         return;
     }
-    put_more(g, sets, a, ds.cells[k] as usize);
+    put_more(g, sets, a, ds.cells[d] as usize);
 }
 
 // The set of beat a becomes the docks that can be held from then on.
@@ -118,9 +118,9 @@ pub fn put_docks(g: SearchGrid, sets: &mut [u32], ds: Docks, a: usize)
 {
     put_none(g, sets, a);
     let n = ds.count;
-    let mut k: usize = 0;
-    while k < n {
-        put_dock(g, sets, ds, a, k);
-        k += 1;
+    let mut d: usize = 0;
+    while d < n {
+        put_dock(g, sets, ds, a, d);
+        d += 1;
     }
 }

@@ -13,46 +13,46 @@ use layers::table::ROWS;
 use layers::table::has_at;
 use route::Route;
 
-// Whether the digit above that of a row at column k is 1, at beat t.
-fn has_above(s: &[u32], t: usize, row: usize, k: usize) -> bool
-    requires { ⌜ (length (now s) ≡ 2049) × (t < 64) × (row < 32) × (k < 32) ⌝ }
-    ensures { λ r. ⌜ r ≡ (ltb 0 row && Rows·has (now (s .entry)) (wordOf t (row - 1)) k) ⌝ }
+// Whether the digit above that of a row at a column is 1, at beat t.
+fn has_above(sets: &[u32], t: usize, row: usize, column: usize) -> bool
+    requires { ⌜ (length (now sets) ≡ 2049) × (t < 64) × (row < 32) × (column < 32) ⌝ }
+    ensures { λ r. ⌜ r ≡ (ltb 0 row && Rows·has (now (sets .entry)) (wordOf t (row - 1)) column) ⌝ }
 {
     if 0 < row {
-        return has_at(s, t, row - 1, k);
+        return has_at(sets, t, row - 1, column);
     }
     false
 }
 
 // Whether the digit below it is 1.
-fn has_below(s: &[u32], t: usize, row: usize, k: usize) -> bool
-    requires { ⌜ (length (now s) ≡ 2049) × (t < 64) × (row < 32) × (k < 32) ⌝ }
-    ensures { λ r. ⌜ r ≡ (ltb (row + 1) 32 && Rows·has (now (s .entry)) (wordOf t (row + 1)) k) ⌝ }
+fn has_below(sets: &[u32], t: usize, row: usize, column: usize) -> bool
+    requires { ⌜ (length (now sets) ≡ 2049) × (t < 64) × (row < 32) × (column < 32) ⌝ }
+    ensures { λ r. ⌜ r ≡ (ltb (row + 1) 32 && Rows·has (now (sets .entry)) (wordOf t (row + 1)) column) ⌝ }
 {
     if row + 1 < ROWS {
-        return has_at(s, t, row + 1, k);
+        return has_at(sets, t, row + 1, column);
     }
     false
 }
 
 // Whether the digit left of it is 1.
-fn has_left(s: &[u32], t: usize, row: usize, k: usize) -> bool
-    requires { ⌜ (length (now s) ≡ 2049) × (t < 64) × (row < 32) × (k < 32) ⌝ }
-    ensures { λ r. ⌜ r ≡ (ltb 0 k && Rows·has (now (s .entry)) (wordOf t row) (k - 1)) ⌝ }
+fn has_left(sets: &[u32], t: usize, row: usize, column: usize) -> bool
+    requires { ⌜ (length (now sets) ≡ 2049) × (t < 64) × (row < 32) × (column < 32) ⌝ }
+    ensures { λ r. ⌜ r ≡ (ltb 0 column && Rows·has (now (sets .entry)) (wordOf t row) (column - 1)) ⌝ }
 {
-    if 0 < k {
-        return has_at(s, t, row, k - 1);
+    if 0 < column {
+        return has_at(sets, t, row, column - 1);
     }
     false
 }
 
 // Whether the digit right of it is 1, in a grid of width w.
-fn has_right(s: &[u32], t: usize, row: usize, k: usize, w: usize) -> bool
-    requires { ⌜ (length (now s) ≡ 2049) × (t < 64) × (row < 32) × (k < 32) × (w ≤ 32) ⌝ }
-    ensures { λ r. ⌜ r ≡ (ltb (k + 1) w && Rows·has (now (s .entry)) (wordOf t row) (k + 1)) ⌝ }
+fn has_right(sets: &[u32], t: usize, row: usize, column: usize, w: usize) -> bool
+    requires { ⌜ (length (now sets) ≡ 2049) × (t < 64) × (row < 32) × (column < 32) × (w ≤ 32) ⌝ }
+    ensures { λ r. ⌜ r ≡ (ltb (column + 1) w && Rows·has (now (sets .entry)) (wordOf t row) (column + 1)) ⌝ }
 {
-    if k + 1 < w {
-        return has_at(s, t, row, k + 1);
+    if column + 1 < w {
+        return has_at(sets, t, row, column + 1);
     }
     false
 }
@@ -65,20 +65,20 @@ fn next(g: SearchGrid, sets: &[u32], t: usize, c: usize) -> usize
     let w = g.width;
     let p = place_of(g, c);
     let row = p.row;
-    let k = p.column;
-    if has_above(sets, t, row, k) {
+    let column = p.column;
+    if has_above(sets, t, row, column) {
         return c - w;
     }
-    if has_left(sets, t, row, k) {
+    if has_left(sets, t, row, column) {
         return c - 1;
     }
-    if has_at(sets, t, row, k) {
+    if has_at(sets, t, row, column) {
         return c;
     }
-    if has_right(sets, t, row, k, w) {
+    if has_right(sets, t, row, column, w) {
         return c + 1;
     }
-    if has_below(sets, t, row, k) {
+    if has_below(sets, t, row, column) {
         return c + w;
     }
     c

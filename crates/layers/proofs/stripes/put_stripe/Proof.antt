@@ -19,8 +19,8 @@ abbrev μ-loop : tie.MeasureT-loop
 loop-holds : tie.Need-loop-holds Inv-loop μ-loop
 loop-holds c = (search needs, refl, written-none _ _ _)
 
-slice-write-s : tie.Need-slice-write-s Inv-loop μ-loop
-slice-write-s c =
+slice-write-table : tie.Need-slice-write-table Inv-loop μ-loop
+slice-write-table c =
     let h = c .before .loop .inv .1 in
     omega arith
 
@@ -38,4 +38,4 @@ returns c =
 pub put-stripe-spec : {M : Type 1} → statement M
 put-stripe-spec =
     tie.close (tie.spec Inv-loop μ-loop loop-holds (λ c. search needs) (λ c. search needs) (λ c. search needs) (λ c. search needs)
-    (λ c. search needs) slice-write-s (λ c. search needs) (λ c. search needs) loop-again same-length returns)
+    (λ c. search needs) slice-write-table (λ c. search needs) (λ c. search needs) loop-again same-length returns)
