@@ -1,21 +1,23 @@
 -- The set of the docks that can be held, one dock after the other.
-use Prim.Native.Nat.{ℕ, suc, _+_, _≤_}
+use Prim.Native.Nat.{ℕ, suc, _+_, _≤_, _<_}
 use native.Mathlib.Omega.{arith}
 use native.Mathlib.Numerals.{add-one}
 use mathlib.Core.Bool.{Bool, true, false, _||_}
 use mathlib.Core.List.{List}
 use mathlib.Core.Logic.{⊎-elim}
 use mathlib.Core.Path.{_≡_, refl, sym, _∙_}
-use borrow.Author.Tests.{le-leb, lt-leb, eq-eqb, eqb-true}
+use borrow.Author.Tests.{leb-true, le-leb, lt-leb, eq-eqb, eqb-true}
 use lib.Dec.{eqb}
-use lib.ListN.{getD, replicate}
+use lib.ListN.{getD, replicate, length-replicate}
 use Rattle.bitrows.specs.Rows.{filled}
+use Rattle.bitrows.proofs.FillLaws.{filled-in}
 use Rattle.laws.proofs.Tests.{and-both, and-fst, and-snd, or-cases, or-inl, or-inr, same-test, not-true-is-false}
 use Rattle.layers.specs.declared.SearchGrid.{SearchGrid}
 use Rattle.layers.specs.Table.{inSet, Tidy}
 use Rattle.layers.specs.Step.{ChangedAt, Empty, Joined}
 use Rattle.passes.specs.declared.docks.Docks.{Docks}
-use Rattle.passes.specs.Docks.{holdOf, heldDocks, anyOf, heldAt, arrivableAt, endableAt, EndsAt}
+use Rattle.passes.specs.Docks.{holdOf, heldDocks, anyOf, heldAt, Holdable, arrivableAt, endableAt, EndsAt}
+use Rattle.passes.proofs.HoldLaws.{held-says, held-least}
 
 -- The docks with their beats, after the last.
 pub held-made : (g : SearchGrid) (table : List ℕ) (n : ℕ) (cells holds : List ℕ) (k : ℕ) → k ≤ n → n ≤ k →
@@ -23,6 +25,31 @@ pub held-made : (g : SearchGrid) (table : List ℕ) (n : ℕ) (cells holds : Lis
     _≡_ {A = Docks} (record { count = n; cells = cells; holds = holds }) (heldDocks g table n cells)
 unfolding heldDocks
 held-made g table n cells holds k a b e = let same : k ≡ n = omega arith in rw (e, same)
+
+module _ (g : SearchGrid) (table : List ℕ) (count : ℕ) (cells : List ℕ) (few : count ≤ 4) where
+  -- The beat from which dock d can be held.
+  hold-at : (d : ℕ) → d < count → getD (heldDocks g table count cells .holds) d 0 ≡ holdOf g table (getD cells d 0)
+  unfolding heldDocks
+  hold-at d h =
+      filled-in (replicate 4 0) (λ j. holdOf g table (getD cells j 0)) count d (omega (arith, length-replicate {A = ℕ} 4 0)) h
+
+  -- It can be held from beat t on exactly if it is in the free table from then on.
+  pub held-free : (t d : ℕ) → d < count → heldAt (heldDocks g table count cells) t d ≡ true → (u : ℕ) → t ≤ u → u ≤ g .horizon →
+      inSet g table u (getD cells d 0) ≡ true
+  unfolding heldAt holdOf
+  held-free t d h e u l b =
+      held-says (λ v. inSet g table v (getD cells d 0)) t (g .horizon + 1) (omega (arith, hold-at d h, leb-true _ t e)) u l (omega arith)
+
+  pub free-held : (t d : ℕ) → d < count → ((u : ℕ) → t ≤ u → u ≤ g .horizon → inSet g table u (getD cells d 0) ≡ true) →
+      heldAt (heldDocks g table count cells) t d ≡ true
+  unfolding heldAt holdOf
+  free-held t d h f =
+      le-leb _ t
+      (omega (arith, hold-at d h, held-least (λ v. inSet g table v (getD cells d 0)) t (g .horizon + 1) (λ u l b. f u l (omega arith))))
+
+  pub holdable : Holdable g table (heldDocks g table count cells)
+  unfolding heldDocks
+  holdable t d h e l = held-free t d h e t (omega arith) l
 
 -- What a test of the beat says of dock k.
 pub held-yes : (ds : Docks) (t k : ℕ) → getD (ds .holds) k 0 ≤ t → heldAt ds t k ≡ true

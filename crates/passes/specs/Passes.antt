@@ -5,7 +5,7 @@ use mathlib.Core.Bool.{Bool, true}
 use mathlib.Core.List.{List}
 use mathlib.Core.Path.{_≡_}
 use Rattle.layers.specs.declared.SearchGrid.{SearchGrid}
-use Rattle.layers.specs.Table.{Tidy, inSet}
+use Rattle.layers.specs.Table.{Tidy}
 use Rattle.layers.specs.Step.{Alone, Spread}
 use Rattle.passes.specs.declared.docks.Docks.{Docks}
 use Rattle.passes.specs.Docks.{EndsAt}
@@ -19,12 +19,6 @@ pub record ForwardReachable (g : SearchGrid) (table : List ℕ) (start n : ℕ) 
 -- The same through beat r, or through the horizon where r is past that.
 abbrev pub ForwardReachableTo : SearchGrid → List ℕ → ℕ → ℕ → List ℕ → Type 0
 ForwardReachableTo g table start r sets = (n : ℕ) → n ≤ r → n ≤ g .horizon → ForwardReachable g table start n sets
-
--- The sets after, from beat n through beat m, follow from each other; those through beat n are as before.
-pub record Extended (g : SearchGrid) (table : List ℕ) (n : ℕ) (sets : List ℕ) (m : ℕ) (after : List ℕ) : Type 0 where
-  pub tidy : Tidy g after
-  pub spreads : (t : ℕ) → n ≤ t → t < m → Spread g table after t (t + 1)
-  pub kept : (t c : ℕ) → t ≤ n → inSet g after t c ≡ inSet g sets t c
 
 -- The sets from beat n through beat a are what leads in the free table to a dock that can be held from beat a on.
 pub record BackwardReachable (g : SearchGrid) (table : List ℕ) (ds : Docks) (a n : ℕ) (sets : List ℕ) : Type 0 where

@@ -7,7 +7,6 @@ use mathlib.Core.Bool.{Bool, true, false}
 use mathlib.Core.List.{List}
 use mathlib.Core.Logic.{⊎-elim}
 use mathlib.Core.Path.{_≡_, refl, sym, _∙_}
-use borrow.Author.Tests.{leb-true, le-leb}
 use lib.ListN.{getD, replicate, length-replicate}
 use Rattle.laws.proofs.Lists.{zeros-at}
 use Rattle.laws.proofs.Tests.{and-both, and-fst, and-snd, false-fails, not-true-is-false}
@@ -25,12 +24,11 @@ use Rattle.layers.specs.Table.{inSet}
 use Rattle.layers.specs.Step.{Beside, Spread}
 use Rattle.layers.proofs.MemberLaws.{near-same, near-turn}
 use Rattle.passes.specs.declared.docks.Docks.{Docks}
-use Rattle.passes.specs.Docks.{holdOf, heldDocks, heldAt, someHeld, arrivableAt, arrivable, endableAt}
+use Rattle.passes.specs.Docks.{heldDocks, heldAt, someHeld, arrivableAt, arrivable, endableAt}
 use Rattle.passes.specs.Passes.{ForwardReachable, BackwardReachable, Earliest}
 use Rattle.passes.specs.Walk.{nextOf, pathOf}
 use Rattle.passes.proofs.AnyLaws.{Passing, any-says, any-holds}
-use Rattle.passes.proofs.HoldLaws.{held-says, held-least}
-use Rattle.passes.proofs.EndsLaws.{arrivable-says, arrivable-holds, endable-says, endable-holds}
+use Rattle.passes.proofs.EndsLaws.{held-free, free-held, arrivable-says, arrivable-holds, endable-says, endable-holds}
 use Rattle.passes.proofs.NearCells.{first-best}
 use Rattle.passes.proofs.NextLaws.{step-before, step-after}
 use Rattle.search.specs.Seek.{taskIn, Agrees}
@@ -66,25 +64,6 @@ module _ (g : SearchGrid) (table : List ℕ) (start count : ℕ) (cells : List �
     unfolding startClear
     start-shut e = start-taken-best task vs short (sym (agrees 0 start (omega arith)) ∙ e)
 
-    -- The beat from which dock k can be held.
-    hold-at : (k : ℕ) → k < count → getD (ds .holds) k 0 ≡ holdOf g table (getD cells k 0)
-    unfolding heldDocks
-    hold-at k h =
-        filled-in (replicate 4 0) (λ j. holdOf g table (getD cells j 0)) count k (omega (arith, length-replicate {A = ℕ} 4 0)) h
-
-    -- Dock k can be held from beat t on exactly if it is in the free table from then on.
-    held-free : (t k : ℕ) → k < count → heldAt ds t k ≡ true → (u : ℕ) → t ≤ u → u ≤ g .horizon → inSet g table u (getD cells k 0) ≡ true
-    unfolding heldAt holdOf
-    held-free t k h e u l b =
-        held-says (λ v. inSet g table v (getD cells k 0)) t (g .horizon + 1)
-        (omega (arith, hold-at k h, leb-true (getD (ds .holds) k 0) t e)) u l (omega arith)
-
-    free-held : (t k : ℕ) → k < count → ((u : ℕ) → t ≤ u → u ≤ g .horizon → inSet g table u (getD cells k 0) ≡ true) → heldAt ds t k ≡ true
-    unfolding heldAt holdOf
-    free-held t k h f =
-        le-leb (getD (ds .holds) k 0) t
-        (omega (arith, hold-at k h, held-least (λ v. inSet g table v (getD cells k 0)) t (g .horizon + 1) (λ u l b. f u l (omega arith))))
-
     -- No dock can be held at the horizon.
     pub docks-shut : someHeld ds (g .horizon) ≡ false → best (taskIn g start (among cells count) free) vs ≡ none
     unfolding someHeld heldDocks
@@ -92,7 +71,7 @@ module _ (g : SearchGrid) (table : List ℕ) (start count : ℕ) (cells : List �
       where
         shut : (d : ℕ) → (k : ℕ) × (k < count) × (getD cells k 0 ≡ d) → inSet g table (g .horizon) d ≡ false
         shut d (k, l, q) = not-true-is-false (inSet g table (g .horizon) d) (λ i. false-fails e (any-holds (heldAt ds (g .horizon)) count k l
-            (free-held (g .horizon) k l (λ u a b. let same : u ≡ g .horizon = omega arith in rw (same, q) i))))
+            (free-held g table count cells few (g .horizon) k l (λ u a b. let same : u ≡ g .horizon = omega arith in rw (same, q) i))))
 
     -- A dock of those that can be held from beat t on is an ending in the free table, and the other way round.
     end-dock : (t c : ℕ) → t ≤ g .horizon → Passing (endableAt ds t c) count → Ending ok (among cells count) (g .horizon) t c
@@ -104,7 +83,7 @@ module _ (g : SearchGrid) (table : List ℕ) (start count : ℕ) (cells : List �
         told = endable-says ds t c (p .which) (p .passes)
 
         stays : (u : ℕ) → t ≤ u → u ≤ g .horizon → inSet g table u c ≡ true
-        stays u l b = rw (told .1) (held-free t (p .which) (p .below) (told .0) u l b)
+        stays u l b = rw (told .1) (held-free g table count cells few t (p .which) (p .below) (told .0) u l b)
 
         ending : Ending ok (among cells count) (g .horizon) t c
         ending =
@@ -127,7 +106,7 @@ module _ (g : SearchGrid) (table : List ℕ) (start count : ℕ) (cells : List �
             record {
               which = k;
               below = l;
-              passes = endable-holds ds t c k (free-held t k l (λ u a b. rw q (stays u a b))) (sym q);
+              passes = endable-holds ds t c k (free-held g table count cells few t k l (λ u a b. rw q (stays u a b))) (sym q);
             }
 
     module _ (n : ℕ) (s : List ℕ) (early : n ≤ g .horizon) (reached : ForwardReachable g table start n s) (clear : inSet g table 0 start ≡ true) where

@@ -4,6 +4,7 @@ use mathlib.Core.Path.{sym, ap, _∙_}
 use borrow.Author.Tests.{not-true, not-false}
 use native.Mathlib.Omega.{arith}
 use Rattle.passes.specs.Docks.{heldDocks}
+use Rattle.passes.proofs.EndsLaws.{holdable}
 use Rattle.search.specs.Answers.{answered}
 use Rattle.search.proofs.AnswerLaws.{says-same, says-route}
 use Rattle.search.proofs.SeekLaws.{start-shut, docks-shut, never, walk-best}
@@ -61,7 +62,8 @@ forward-requires c κs =
     let after-hold-docks : tie.After-hold-docks = search in
     let start : tie.Start = search in
     let p = start .pre in
-    ((p .0 .0, p .0 .1, p .0 .2, rw (after-hold-docks .hold-docks .ensures) (p .0 .3)), p .1)
+    let d = after-hold-docks .hold-docks .ensures in
+    ((p .0 .0, p .0 .1, p .0 .2, rw d (p .0 .3)), (p .1 .0, p .1 .1, rw d (holdable _ _ _ _ (p .0 .3 .few))))
 
 same-length : tie.Need-same-length
 same-length c =
