@@ -77,9 +77,9 @@ pub fn drop_at(rows: &mut [u32], i: usize, w: usize, scale: usize, cells: usize,
 }
 
 // Writes the first n of some rows into a table, from row i on.
-pub fn put_rows(table: &mut [u32], i: usize, x: [u32; 32], n: usize)
-    requires { ⌜ (n ≤ 32) × (i + n ≤ length (now table)) ⌝ }
-    ensures { λ r. ⌜ now (table .exit) ≡ written (now (table .entry)) i x n ⌝ }
+pub fn put_rows(table: &mut [u32], i: usize, x: &[u32], n: usize)
+    requires { ⌜ (n ≤ length (now x)) × (i + n ≤ length (now table)) ⌝ }
+    ensures { λ r. ⌜ now (table .exit) ≡ written (now (table .entry)) i (now (x .entry)) n ⌝ }
 {
     let mut r: usize = 0;
     while r < n {

@@ -9,9 +9,8 @@ use mathlib.Core.Path.{_≡_, refl, sym, _∙_}
 use lib.ListN.{getD}
 use Rattle.laws.proofs.Tests.{true-false-absurd}
 use Rattle.layers.specs.declared.SearchGrid.{SearchGrid}
-use Rattle.layers.specs.declared.stripes.Stripes.{Stripes}
 use Rattle.layers.specs.Table.{Grid, Tidy, Rewritten, inSet}
-use Rattle.layers.specs.Stripes.{Carries, four, stepWord}
+use Rattle.layers.specs.Stripes.{four, stripesOf, stepWord}
 use Rattle.layers.specs.Step.{ChangedAt, Beside, Spread, beatAfter, Within, Swept}
 use Rattle.layers.proofs.StepLaws.{step-changed, step-spreads}
 
@@ -89,18 +88,18 @@ unfolding four
 four-same w v i p q r s = rw (p, q, r, s) refl
 
 -- The same words, said in another way.
-pub carries-same : (x : Stripes) (w v : ℕ → ℕ) → ((j : ℕ) → j < 32 → w j ≡ v j) → Carries x w → Carries x v
-carries-same x w v same h =
-    record {
-      a = h .a ∙ part 0 (omega arith);
-      b = h .b ∙ part 4 (omega arith);
-      c = h .c ∙ part 8 (omega arith);
-      d = h .d ∙ part 12 (omega arith);
-      e = h .e ∙ part 16 (omega arith);
-      f = h .f ∙ part 20 (omega arith);
-      g = h .g ∙ part 24 (omega arith);
-      h = h .h ∙ part 28 (omega arith);
-    }
+pub stripes-same : (w v : ℕ → ℕ) → ((j : ℕ) → j < 32 → w j ≡ v j) → stripesOf w ≡ stripesOf v
+unfolding stripesOf
+stripes-same w v same = rw (
+  part 0 (omega arith),
+  part 4 (omega arith),
+  part 8 (omega arith),
+  part 12 (omega arith),
+  part 16 (omega arith),
+  part 20 (omega arith),
+  part 24 (omega arith),
+  part 28 (omega arith),
+) refl
   where
     part : (i : ℕ) → i + 3 < 32 → four w i ≡ four v i
     part i l = four-same w v i (same i (omega arith)) (same (i + 1) (omega arith)) (same (i + 2) (omega arith)) (same (i + 3) l)

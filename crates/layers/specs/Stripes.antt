@@ -3,33 +3,17 @@
 use Prim.Native.Nat.{ℕ, _+_, _-_}
 use mathlib.Core.Bool.{true, false}
 use mathlib.Core.List.{List, [], _∷_}
-use mathlib.Core.Path.{_≡_}
 use lib.Dec.{ltb, eqb}
-use lib.ListN.{length, getD}
+use lib.ListN.{getD}
 use Rattle.bitrows.specs.Rows.{successorRow}
-use Rattle.layers.specs.declared.stripes.Stripes.{Stripes}
-use Rattle.layers.specs.Table.{Rewritten}
 
 -- Four words from word i on, as w says them.
 unfoldable pub four : (ℕ → ℕ) → ℕ → List ℕ
 four w i = w i ∷ w (i + 1) ∷ w (i + 2) ∷ w (i + 3) ∷ []
 
--- The stripes are the 32 words that w says.
-pub record Carries (x : Stripes) (w : ℕ → ℕ) : Type 0 where
-  pub a : x .a ≡ four w 0
-  pub b : x .b ≡ four w 4
-  pub c : x .c ≡ four w 8
-  pub d : x .d ≡ four w 12
-  pub e : x .e ≡ four w 16
-  pub f : x .f ≡ four w 20
-  pub g : x .g ≡ four w 24
-  pub h : x .h ≡ four w 28
-
--- Whatever words stand before word i, q is s with sixteen more, four stripes.
-pub record Joins (at i : ℕ) (a b c d s q : List ℕ) : Type 0 where
-  pub long : length q ≡ length s
-  pub more : (m : List ℕ) (w : ℕ → ℕ) → Rewritten m w at i s → a ≡ four w i → b ≡ four w (i + 4) → c ≡ four w (i + 8) → d ≡ four w (i + 12) →
-      Rewritten m w at (i + 16) q
+-- The 32 words that w says, as eight stripes.
+unfoldable pub stripesOf : (ℕ → ℕ) → List (List ℕ)
+stripesOf w = four w 0 ∷ four w 4 ∷ four w 8 ∷ four w 12 ∷ four w 16 ∷ four w 20 ∷ four w 24 ∷ four w 28 ∷ []
 
 -- What a step brings to lane k of a mask.
 unfoldable pub laneOf : List ℕ → List ℕ → List ℕ → List ℕ → ℕ → ℕ

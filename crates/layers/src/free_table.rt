@@ -36,7 +36,7 @@ pub fn fill_free(table: &mut [u32], free: &[u32], n: usize)
     let words = striped(free);
     let mut t: usize = 0;
     while t < n {
-        bitrows::put_rows(table, t * ROWS, words, ROWS);
+        bitrows::put_rows(table, t * ROWS, &words, ROWS);
         t += 1;
     }
 }

@@ -50,5 +50,5 @@ returns c =
 
 pub fill-free-spec : {M : Type 1} → statement M
 fill-free-spec =
-    tie.close (tie.spec Inv-loop μ-loop (λ c κs. search needs) loop-holds (λ c. search needs) put-rows-requires (λ c. search needs)
+    tie.close (tie.spec Inv-loop μ-loop (λ c κs. search needs) loop-holds (λ c. search needs) (λ c. search needs) put-rows-requires (λ c. search needs)
     (λ c. omega arith) loop-again same-length returns)
