@@ -1,6 +1,6 @@
 -- The passes of a search: forward from the start to the least arrival, backward from there to what leads to a dock. A table of the free table
 -- and the docks are all that they know.
-use Prim.Native.Nat.{ℕ, _+_, _≤_, _<_}
+use Prim.Native.Nat.{ℕ, _+_, _-_, _/_, _%_, _≤_, _<_}
 use mathlib.Core.Bool.{Bool, true}
 use mathlib.Core.List.{List}
 use mathlib.Core.Path.{_≡_}
@@ -9,6 +9,10 @@ use Rattle.layers.specs.Table.{Tidy}
 use Rattle.layers.specs.Step.{Alone, Spread}
 use Rattle.passes.specs.declared.docks.Docks.{Docks}
 use Rattle.passes.specs.Docks.{EndsAt}
+
+-- The rows and the columns between two cells.
+unfoldable pub distanceOf : ℕ → ℕ → ℕ → ℕ
+distanceOf w c d = (c / w - d / w) + (d / w - c / w) + ((c % w - d % w) + (d % w - c % w))
 
 -- The sets through beat n are what the start reaches in the free table.
 pub record ForwardReachable (g : SearchGrid) (table : List ℕ) (start n : ℕ) (sets : List ℕ) : Type 0 where

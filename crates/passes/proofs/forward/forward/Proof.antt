@@ -13,10 +13,10 @@ use Rattle.passes.proofs.forward.forward.Statement.{statement}
 use Rattle.passes.proofs.forward.forward.Tie as tie
 
 abbrev Inv-loop : tie.InvT-loop
-Inv-loop g sets₀ table start ds t₀ sets t = (t ≤ g .horizon) × ForwardReachable g table start t sets
+Inv-loop g sets₀ table start ds near t₀ sets t = (t ≤ g .horizon) × ForwardReachable g table start t sets
 
 abbrev μ-loop : tie.MeasureT-loop
-μ-loop g sets₀ table start ds t₀ sets t = g .horizon - t
+μ-loop g sets₀ table start ds near t₀ sets t = g .horizon - t
 
 put-alone-requires : tie.Need-put-alone-requires Inv-loop μ-loop
 put-alone-requires c κs =
@@ -61,7 +61,8 @@ beats-after-requires c κs =
     let else2 : tie.Else2 Inv-loop μ-loop = search in
     let at-loop : tie.At-loop Inv-loop μ-loop = search in
     let start : tie.Start Inv-loop μ-loop = search in
-    (omega (arith, at-loop .loop .inv .0, else2 .if2 .left), start .pre .0 .1)
+    let after-nearest : tie.After-nearest Inv-loop μ-loop = search in
+    (omega (arith, at-loop .loop .inv .0, else2 .if2 .left), after-nearest .nearest .ensures, start .pre .0 .1)
 
 propagate-requires : tie.Need-propagate-requires Inv-loop μ-loop
 unfolding Within
@@ -115,5 +116,5 @@ returns-2 c =
 
 pub forward-spec : {M : Type 1} → statement M
 forward-spec =
-    tie.close (tie.spec Inv-loop μ-loop put-alone-requires loop-holds arrives-requires (λ c. search needs) same-length returns
+    tie.close (tie.spec Inv-loop μ-loop put-alone-requires (λ c κs. search needs) loop-holds arrives-requires (λ c. search needs) same-length returns
     beats-after-requires propagate-requires (λ c. search needs) (λ c. search needs) loop-again first-arrival-requires same-length-2 returns-2)
