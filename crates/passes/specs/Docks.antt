@@ -38,10 +38,6 @@ anyOf p (suc n) = anyOf p n || p n
 unfoldable pub heldAt : Docks → ℕ → ℕ → Bool
 heldAt ds t d = leb (getD (ds .holds) d 0) t
 
--- Some dock can be held from beat t on.
-unfoldable pub someHeld : Docks → ℕ → Bool
-someHeld ds t = anyOf (heldAt ds t) (ds .count)
-
 -- From the beat on from which a dock can be held it is in the free table, through the horizon.
 abbrev pub Holdable : SearchGrid → List ℕ → Docks → Type 0
 Holdable g table ds =

@@ -24,7 +24,7 @@ use Rattle.layers.specs.Table.{inSet}
 use Rattle.layers.specs.Step.{Beside, Spread}
 use Rattle.layers.proofs.MemberLaws.{near-same, near-turn}
 use Rattle.passes.specs.declared.docks.Docks.{Docks}
-use Rattle.passes.specs.Docks.{heldDocks, heldAt, someHeld, arrivableAt, arrivable, endableAt}
+use Rattle.passes.specs.Docks.{heldDocks, heldAt, arrivableAt, arrivable, endableAt}
 use Rattle.passes.specs.Passes.{ForwardReachable, BackwardReachable, Earliest}
 use Rattle.passes.specs.Walk.{nextOf, pathOf}
 use Rattle.passes.proofs.AnyLaws.{Passing, any-says, any-holds}
@@ -64,14 +64,15 @@ module _ (g : SearchGrid) (table : List ℕ) (start count : ℕ) (cells : List �
     unfolding startClear
     start-shut e = start-taken-best task vs short (sym (agrees 0 start (omega arith)) ∙ e)
 
-    -- No dock can be held at the horizon.
-    pub docks-shut : someHeld ds (g .horizon) ≡ false → best (taskIn g start (among cells count) free) vs ≡ none
-    unfolding someHeld heldDocks
+    -- No dock is in the free table at the horizon.
+    pub docks-shut : arrivable g table ds (g .horizon) ≡ false → best (taskIn g start (among cells count) free) vs ≡ none
+    unfolding arrivable heldDocks
     docks-shut e = docks-shut-best task vs short (λ d h. sym (agrees (g .horizon) d (omega arith)) ∙ shut d (among-place cells d count h))
       where
         shut : (d : ℕ) → (k : ℕ) × (k < count) × (getD cells k 0 ≡ d) → inSet g table (g .horizon) d ≡ false
-        shut d (k, l, q) = not-true-is-false (inSet g table (g .horizon) d) (λ i. false-fails e (any-holds (heldAt ds (g .horizon)) count k l
-            (free-held g table count cells few (g .horizon) k l (λ u a b. let same : u ≡ g .horizon = omega arith in rw (same, q) i))))
+        shut d (k, l, q) = not-true-is-false (inSet g table (g .horizon) d) (λ i. let here : inSet g table (g .horizon) (getD cells k 0) ≡ true = rw q i in
+            false-fails e (any-holds (arrivableAt g table ds (g .horizon)) count k l
+            (arrivable-holds g table ds (g .horizon) k (free-held g table count cells few (g .horizon) k l (λ u a b. let same : u ≡ g .horizon = omega arith in rw same here)) here)))
 
     -- A dock of those that can be held from beat t on is an ending in the free table, and the other way round.
     end-dock : (t c : ℕ) → t ≤ g .horizon → Passing (endableAt ds t c) count → Ending ok (among cells count) (g .horizon) t c

@@ -92,7 +92,7 @@ fn seek(
         return none();
     }
     let ds = docks::hold_docks(g, table, count, cells);
-    if !docks::some_held(ds, g.horizon) {
+    if !docks::arrives(g, table, ds, g.horizon) {
         return none();
     }
     let a = forward::forward(g, sets, table, start, ds);
