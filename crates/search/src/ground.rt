@@ -29,7 +29,9 @@ fn grid_rows(w: usize, h: usize) -> Rows
     s
 }
 
-// The free cells of a floor as rows, made once a floor: the grid, and each wall taken out.
+// The free cells of a floor as rows, made once a floor: the grid, and each wall taken out, from both ends at once. Walls rise, so
+// neighbours are mostly in one word, where the second waits for the first; those of the two ends are in different words and wait for
+// nothing. A wall in the middle may be taken out twice, which changes nothing.
 pub fn free_rows(f: Floor, walls: &[u16]) -> Rows
     requires { ⌜ (1 ≤ f .width) × (f .width ≤ 32) × (f .height ≤ 32) ⌝ }
     requires { ⌜ f .walls ≤ length (now walls) ⌝ }
@@ -38,11 +40,14 @@ pub fn free_rows(f: Floor, walls: &[u16]) -> Rows
     let w = f.width as usize;
     let h = f.height as usize;
     let n = f.walls as usize;
+    let cells = w * h;
     let scale = bitrows::scale(w);
     let mut s = grid_rows(w, h);
+    let half = (n + 1) / 2;
     let mut j: usize = 0;
-    while j < n {
-        bitrows::drop_at(&mut s, 0, w, scale, w * h, walls[j] as usize);
+    while j < half {
+        bitrows::drop_at(&mut s, 0, w, scale, cells, walls[j] as usize);
+        bitrows::drop_at(&mut s, 0, w, scale, cells, walls[n - 1 - j] as usize);
         j += 1;
     }
     s

@@ -1,5 +1,5 @@
 -- `planner::plan_all` meets its contract. The loop's invariant: the answers of the carriers passed stand in front, are shown as they are
--- seen, and the free table is what they leave. The measure is what is left of the carriers. Assumes nothing.
+-- seen, and the free table is what all but the last of them leave. The measure is what is left of the carriers. Assumes nothing.
 use Prim.Native.Nat.{ℕ, _-_, _≤_}
 use native.Mathlib.Omega.{arith}
 use mathlib.Core.List.{[]}
@@ -16,12 +16,13 @@ use Rattle.records.proofs.SeenLaws.{seen-start}
 use Rattle.planner.specs.Plan.{respondWith}
 use Rattle.planner.specs.Records.{withAnswer}
 use Rattle.planner.proofs.PlanLaws.{plan-start, plan-more, plan-keeps, plan-end}
+use Rattle.planner.proofs.TableLaws.{table-above}
 use Rattle.planner.proofs.plan_all.Statement.{statement}
 use Rattle.planner.proofs.plan_all.Tie as tie
 
 abbrev Inv-loop : tie.InvT-loop
 Inv-loop f free answers₀ n table₀ sets₀ shown₀ i₀ answers table sets shown i =
-    (i ≤ n) × (answers ≡ stored (sequential (respondWith f free) i) answers₀) × IsFreeTable (searchGridOf f) i free shown table
+    (i ≤ n) × (answers ≡ stored (sequential (respondWith f free) i) answers₀) × IsFreeTable (searchGridOf f) (i - 1) free shown table
     × (length shown ≡ 520) × (records shown i ≡ seen f (records answers i)) × Tidy (searchGridOf f) sets
 
 abbrev μ-loop : tie.MeasureT-loop
@@ -89,7 +90,7 @@ loop-again c =
     let made = after-plan-one .plan-one .ensures in (
       search needs,
       plan-more _ _ (p .horizon) (at-loop .loop .i) _ _ _ (omega (arith, p .lent)) (at-loop .loop .inv .1) (made .0),
-      made .1 .1 .0,
+      table-above (made .1 .1 .0),
       search needs,
       made .1 .0,
       made .1 .1 .1,
