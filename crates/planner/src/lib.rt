@@ -18,6 +18,9 @@ ghost use Rattle.planner.specs.Answers.{plannedOutcome, planResult, Plan
 use floor::Checked;
 use floor::Floor;
 use floor::Refusal;
+use layers::free_table;
+use layers::search_grid_of;
+use layers::table;
 use search::Rows;
 pub use tags::tag_of;
 
@@ -50,7 +53,7 @@ fn take_last(f: Floor, i: u16, table: &mut [u32], shown: &[u16])
     if i == 0 {
         return;
     }
-    search::take_route(f, table, shown, i as usize - 1);
+    free_table::take_one(search_grid_of(f), table, shown, i as usize - 1);
 }
 
 // The answer of the carrier with i carriers above it, whose answers stand in front and are shown as they are seen; it is stored behind
@@ -92,10 +95,10 @@ fn plan_all(f: Floor, free: Rows, answers: &mut [u16])
     ensures { λ r. ⌜ now (answers .exit) ≡ stored (sequential (respondWith f free) (f .carriers)) (now (answers .entry)) ⌝ }
 {
     let n = f.carriers;
-    let mut table = search::empty_table();
-    search::fill_free_table(f, free, &mut table);
-    let mut sets = search::empty_table();
     let mut shown = records::blank();
+    let mut table = table::empty();
+    free_table::make(search_grid_of(f), 0, &mut table, &free, &shown);
+    let mut sets = table::empty();
     let mut i: u16 = 0;
     while i < n {
         plan_one(f, free, i, &mut table, &mut sets, &mut shown, answers);
