@@ -1,12 +1,12 @@
 -- The table of the free cells at each beat: rows laid beat by beat.
-use Prim.Native.Nat.{ℕ, _+_, _*_, _/_, _%_, _≤_, _<_}
+use Prim.Native.Nat.{ℕ, _+_, _*_, _-_, _/_, _%_, _≤_, _<_}
 use native.Mathlib.Omega.{arith}
 use native.Mathlib.Nat.{eq-or-lt-of-le}
 use mathlib.Core.Bool.{true}
 use mathlib.Core.List.{List}
 use mathlib.Core.Logic.{inl, inr, ⊎-elim}
-use mathlib.Core.Path.{_≡_, ap, _∙_}
-use lib.ListN.{getD, replicate, length-replicate}
+use mathlib.Core.Path.{_≡_, refl, ap, _∙_}
+use lib.ListN.{length, getD, replicate, length-replicate}
 use Rattle.laws.proofs.Lists.{zeros-at}
 use Rattle.laws.proofs.Tests.{lt-or-le, true-false-absurd}
 use Rattle.bitrows.specs.Words.{digit}
@@ -19,7 +19,7 @@ use Rattle.layers.proofs.RewriteLaws.{rewritten-rows}
 use Rattle.layers.proofs.WordLaws.{slot-low, row-of-slot}
 
 -- An empty table has the free rows at no beat.
-pub free-none : (free s : List ℕ) → s ≡ replicate 2049 0 → FreeBeats free 0 s
+free-none : (free s : List ℕ) → s ≡ replicate 2049 0 → FreeBeats free 0 s
 free-none free s e =
     rw e
     (record {
@@ -29,18 +29,26 @@ free-none free s e =
     })
 
 -- The free rows at one more beat.
-pub free-more : (free words s q : List ℕ) (n : ℕ) → n < 64 → words ≡ filled (replicate 32 0) (λ j. getD free (rowOf j) 0) 32 →
-    FreeBeats free n s → q ≡ written s (n * 32) words 32 → FreeBeats free (n + 1) q
-free-more free words s q n early made old e =
+free-next : (free s q : List ℕ) (w : ℕ → ℕ) (n : ℕ) → FreeBeats free n s → ((j : ℕ) → j < 32 → w j ≡ getD free (rowOf j) 0) →
+    Rewritten s w (n * 32) 32 q → FreeBeats free (n + 1) q
+free-next free s q w n old same new =
     record {
       long = new .long ∙ old .long;
-      shown = λ t j h l. ⊎-elim (λ (e : t ≡ n). rw e (new .inside j l))
+      shown = λ t j h l. ⊎-elim (λ (e : t ≡ n). rw e (new .inside j l ∙ same j l))
           (λ (e : t < n). new .outside (t * 32 + j) (inl (omega arith)) ∙ old .shown t j e l) (eq-or-lt-of-le (omega arith));
       hidden = λ i l. new .outside i (inr (omega arith)) ∙ old .hidden i (omega arith);
     }
-  where
-    new : Rewritten s (λ j. getD free (rowOf j) 0) (n * 32) 32 q
-    new = rewritten-rows s words q (λ j. getD free (rowOf j) 0) (n * 32) 32 (omega arith) (omega (arith, old .long)) made e
+
+-- At the first beat; copied from the beat before.
+pub free-first : (free words s q : List ℕ) → words ≡ filled (replicate 32 0) (λ j. getD free (rowOf j) 0) 32 → s ≡ replicate 2049 0 →
+    q ≡ written s 0 words 32 → FreeBeats free 1 q
+free-first free words s q made e h =
+    free-next free s q (λ j. getD free (rowOf j) 0) 0 (free-none free s e) (λ j l. refl)
+    (rewritten-rows s words q (λ j. getD free (rowOf j) 0) 0 32 (omega arith) (omega (arith, ap length e, length-replicate {A = ℕ} 2049 0)) made h)
+
+pub free-more : (free s q : List ℕ) (n : ℕ) → 1 ≤ n → FreeBeats free n s → Rewritten s (λ j. getD s ((n - 1) * 32 + j) 0) (n * 32) 32 q →
+    FreeBeats free (n + 1) q
+free-more free s q n some old new = free-next free s q _ n old (λ j l. old .shown (n - 1) j (omega arith) l) new
 
 module _ (free s : List ℕ) (n : ℕ) where
   -- A row of a beat is the free row.

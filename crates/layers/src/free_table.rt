@@ -7,6 +7,8 @@ ghost use Rattle.layers.specs.Table.{Grid, Fits, Tidy, rowOf};
 ghost use Rattle.layers.specs.FreeTable.{IsFreeTable, OneMore, FreeBeats, TakenCell, Parked};
 use crate::SearchGrid;
 use crate::place_of;
+use crate::stripes::load;
+use crate::stripes::save;
 use crate::table::ROWS;
 use crate::table::word;
 use records::view_cell;
@@ -25,15 +27,17 @@ fn striped(rows: &[u32]) -> [u32; ROWS]
     x
 }
 
-// The free cells at the first n beats of an empty table.
+// The free cells at the first n beats of an empty table: at the first, and from there from beat to beat.
 pub fn fill_free(table: &mut [u32], free: &[u32], n: usize)
-    requires { ⌜ (now table ≡ replicate 2049 0) × (length (now free) ≡ 32) × (n ≤ 64) ⌝ }
+    requires { ⌜ (now table ≡ replicate 2049 0) × (length (now free) ≡ 32) × (1 ≤ n) × (n ≤ 64) ⌝ }
     ensures { λ r. ⌜ FreeBeats (now (free .entry)) n (now (table .exit)) ⌝ }
 {
     let words = striped(free);
-    let mut t: usize = 0;
+    bitrows::put_rows(table, 0, &words, ROWS);
+    let mut t: usize = 1;
     while t < n {
-        bitrows::put_rows(table, t * ROWS, &words, ROWS);
+        let x = load(table, (t - 1) * ROWS);
+        save(table, t * ROWS, x);
         t += 1;
     }
 }
