@@ -30,7 +30,7 @@ use Rattle.passes.specs.Walk.{nextOf, pathOf}
 use Rattle.passes.proofs.AnyLaws.{Passing, any-says, any-holds}
 use Rattle.passes.proofs.EndsLaws.{held-free, free-held, arrivable-says, arrivable-holds, endable-says, endable-holds}
 use Rattle.passes.proofs.NearCells.{first-best}
-use Rattle.passes.proofs.NextLaws.{step-before, step-after}
+use Rattle.passes.proofs.NextLaws.{path-next as walk-next, path-stays as walk-stays}
 use Rattle.search.specs.Seek.{taskIn, Agrees}
 
 module _ (g : SearchGrid) (table : List ℕ) (start count : ℕ) (cells : List ℕ) (free : ℕ → Bool) (vs : List View)
@@ -213,12 +213,12 @@ module _ (g : SearchGrid) (table : List ℕ) (start count : ℕ) (cells : List �
 
         -- The walk takes the smallest cell that leads on, and stays once it has arrived.
         path-next : (t : ℕ) → t < n → x (suc t) ≡ nextOf g T (suc t) (x t)
-        unfolding x pathOf
-        path-next t h = rw add-one at (sym (step-before g T n t (x t) (nextOf g T (t + 1) (x t)) h refl))
+        unfolding x
+        path-next t h = rw add-one at (sym (walk-next g T start n t h))
 
         path-stays : (t : ℕ) → n ≤ t → x (suc t) ≡ x t
-        unfolding x pathOf
-        path-stays t h = sym (step-after g T n t (x t) h)
+        unfolding x
+        path-stays t h = rw add-one at (walk-stays g T start n t h)
 
         path-takes : (t d : ℕ) → t < n → ok t (x t) d ≡ true → inSet g T (suc t) d ≡ true →
             (ok t (x t) (x (suc t)) ≡ true) × (inSet g T (suc t) (x (suc t)) ≡ true) × (x (suc t) ≤ d)

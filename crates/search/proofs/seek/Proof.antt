@@ -107,10 +107,12 @@ backward-requires c κs =
 walk-requires : tie.Need-walk-requires
 walk-requires c κs =
     let after-backward : tie.After-backward = search in
+    let else3 : tie.Else3 = search in
     let after-forward : tie.After-forward = search in
+    let after-hold-docks : tie.After-hold-docks = search in
     let start : tie.Start = search in
     let p = start .pre in
-    (p .0 .0, after-backward .backward .ensures .tidy, p .0 .1, p .0 .2)
+    (p .0 .0, after-backward .backward .ensures .tidy, else3 .if3 .left, p .0 .1, p .0 .2)
 
 same-length-2 : tie.Need-same-length-2
 same-length-2 c =
