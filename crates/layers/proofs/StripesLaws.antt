@@ -14,10 +14,10 @@ use Rattle.layers.specs.Stripes.{four, stripesOf, laneOf, lanesOf, overS
 -- One step of eight stripes.
 module _ (x masks : List (List ℕ)) (none : ℕ) where
   abbrev stripe : ℕ → List ℕ
-  stripe k = getD x k []
+  stripe i = getD x i []
 
   abbrev mask : ℕ → List ℕ
-  mask k = getD masks k []
+  mask i = getD masks i []
 
   pub advanced : {a b c d e f g h : List ℕ} → none ≡ 0 →
       a ≡ lanesOf (none ∷ getD (stripe 7) 0 0 ∷ getD (stripe 7) 1 0 ∷ getD (stripe 7) 2 0 ∷ []) (stripe 0) (stripe 1) (mask 0) →
@@ -29,16 +29,16 @@ module _ (x masks : List (List ℕ)) (none : ℕ) where
   unfolding four stripesOf laneOf lanesOf overSlot underSlot wordAt stepWord
   advanced z a b c d e f g h w m p q = rw (a, b, c, d, e, f, g, h, z, p, q) refl
 
-four-at : (w : ℕ → ℕ) (n k : ℕ) → k < 4 → getD (four w n) k 0 ≡ w (n + k)
+four-at : (w : ℕ → ℕ) (n i : ℕ) → i < 4 → getD (four w n) i 0 ≡ w (n + i)
 unfolding four
 four-at w n zero l = ap w (omega arith)
 four-at w n (suc zero) l = ap w (omega arith)
 four-at w n (suc (suc zero)) l = ap w (omega arith)
 four-at w n (suc (suc (suc zero))) l = ap w (omega arith)
-four-at w n (suc (suc (suc (suc k)))) l = absurd (omega arith)
+four-at w n (suc (suc (suc (suc i)))) l = absurd (omega arith)
 
 -- The stripes one by one.
-stripe-at : (w : ℕ → ℕ) (k : ℕ) → k < 8 → getD (stripesOf w) k [] ≡ four w (4 * k)
+stripe-at : (w : ℕ → ℕ) (i : ℕ) → i < 8 → getD (stripesOf w) i [] ≡ four w (4 * i)
 unfolding stripesOf
 stripe-at w zero l = refl
 stripe-at w (suc zero) l = refl
@@ -48,32 +48,33 @@ stripe-at w (suc (suc (suc (suc zero)))) l = refl
 stripe-at w (suc (suc (suc (suc (suc zero))))) l = refl
 stripe-at w (suc (suc (suc (suc (suc (suc zero)))))) l = refl
 stripe-at w (suc (suc (suc (suc (suc (suc (suc zero))))))) l = refl
-stripe-at w (suc (suc (suc (suc (suc (suc (suc (suc k)))))))) l = absurd (omega arith)
+stripe-at w (suc (suc (suc (suc (suc (suc (suc (suc i)))))))) l = absurd (omega arith)
 
 -- One stripe more.
-pub rewritten-stripe : (m s z : List ℕ) (x : List (List ℕ)) (w : ℕ → ℕ) (at k : ℕ) → k < 8 → at + 32 ≤ length m → x ≡ stripesOf w →
-    Rewritten m w at (4 * k) s → z ≡ written s (at + 4 * k) (getD x k []) 4 → Rewritten m w at (4 * (k + 1)) z
-rewritten-stripe m s z x w at k few fits e old h =
-    rw h (record { long = length-written s (at + 4 * k) y 4 ∙ old .long; inside = inside; outside = outside })
+pub rewritten-stripe : (words then after : List ℕ) (x : List (List ℕ)) (w : ℕ → ℕ) (at i : ℕ) → i < 8 → at + 32 ≤ length words →
+    x ≡ stripesOf w → Rewritten words w at (4 * i) then → after ≡ written then (at + 4 * i) (getD x i []) 4 →
+    Rewritten words w at (4 * (i + 1)) after
+rewritten-stripe words then after x w at i few fits e old h =
+    rw h (record { long = length-written then (at + 4 * i) y 4 ∙ old .long; inside = inside; outside = outside })
   where
     y : List ℕ
-    y = getD x k []
+    y = getD x i []
 
-    new : (j : ℕ) → j < 4 → getD (written s (at + 4 * k) y 4) (at + 4 * k + j) 0 ≡ w (4 * k + j)
-    new j l = written-in s (at + 4 * k) y 4 j (omega (arith, old .long)) l ∙ rw (e, stripe-at w k few) (four-at w (4 * k) j l)
+    new : (j : ℕ) → j < 4 → getD (written then (at + 4 * i) y 4) (at + 4 * i + j) 0 ≡ w (4 * i + j)
+    new j l = written-in then (at + 4 * i) y 4 j (omega (arith, old .long)) l ∙ rw (e, stripe-at w i few) (four-at w (4 * i) j l)
 
-    inside : (r : ℕ) → r < 4 * (k + 1) → getD (written s (at + 4 * k) y 4) (at + r) 0 ≡ w r
-    inside r l = ⊎-elim before after (lt-or-le r (4 * k))
+    inside : (j : ℕ) → j < 4 * (i + 1) → getD (written then (at + 4 * i) y 4) (at + j) 0 ≡ w j
+    inside j l = ⊎-elim early late (lt-or-le j (4 * i))
       where
-        before : r < 4 * k → getD (written s (at + 4 * k) y 4) (at + r) 0 ≡ w r
-        before u = written-out s (at + 4 * k) y 4 (at + r) (inl (omega arith)) ∙ old .inside r u
+        early : j < 4 * i → getD (written then (at + 4 * i) y 4) (at + j) 0 ≡ w j
+        early u = written-out then (at + 4 * i) y 4 (at + j) (inl (omega arith)) ∙ old .inside j u
 
-        after : 4 * k ≤ r → getD (written s (at + 4 * k) y 4) (at + r) 0 ≡ w r
-        after u =
-            let p : at + r ≡ at + 4 * k + (r - 4 * k) = omega arith in
-            let v : 4 * k + (r - 4 * k) ≡ r = omega arith in
-            rw p (new (r - 4 * k) (omega arith)) ∙ ap w v
+        late : 4 * i ≤ j → getD (written then (at + 4 * i) y 4) (at + j) 0 ≡ w j
+        late u =
+            let p : at + j ≡ at + 4 * i + (j - 4 * i) = omega arith in
+            let v : 4 * i + (j - 4 * i) ≡ j = omega arith in
+            rw p (new (j - 4 * i) (omega arith)) ∙ ap w v
 
-    outside : (j : ℕ) → (j < at) ⊎ (at + 4 * (k + 1) ≤ j) → getD (written s (at + 4 * k) y 4) j 0 ≡ getD m j 0
-    outside j (inl l) = written-out s (at + 4 * k) y 4 j (inl (omega arith)) ∙ old .outside j (inl l)
-    outside j (inr l) = written-out s (at + 4 * k) y 4 j (inr (omega arith)) ∙ old .outside j (inr (omega arith))
+    outside : (j : ℕ) → (j < at) ⊎ (at + 4 * (i + 1) ≤ j) → getD (written then (at + 4 * i) y 4) j 0 ≡ getD words j 0
+    outside j (inl l) = written-out then (at + 4 * i) y 4 j (inl (omega arith)) ∙ old .outside j (inl l)
+    outside j (inr l) = written-out then (at + 4 * i) y 4 j (inr (omega arith)) ∙ old .outside j (inr (omega arith))

@@ -24,46 +24,48 @@ use Rattle.search.specs.Rows.{gridRows, FreeRows}
 use Rattle.search.proofs.GroundLaws.{WallsLeft, walls-out}
 
 module _ (w h : ℕ) (high : h ≤ 32) where
-  has-grid : (r q : ℕ) → r < h → has (gridRows w h) r q ≡ ltb q w
+  has-grid : (row column : ℕ) → row < h → has (gridRows w h) row column ≡ ltb column w
   unfolding gridRows has
-  has-grid r q l =
-      ap (λ (x : ℕ). digit x q) (filled-in (replicate 32 0) (λ i. 2 ^ w - 1) h r (omega (arith, length-replicate {A = ℕ} 32 0)) l)
-      ∙ digit-ones w q
+  has-grid row column l =
+      ap (λ (x : ℕ). digit x column) (filled-in (replicate 32 0) (λ i. 2 ^ w - 1) h row (omega (arith, length-replicate {A = ℕ} 32 0)) l)
+      ∙ digit-ones w column
 
-  grid-row : (r q : ℕ) → has (gridRows w h) r q ≡ true → r < h
+  grid-row : (row column : ℕ) → has (gridRows w h) row column ≡ true → row < h
   unfolding gridRows has
-  grid-row r q e =
-      ⊎-elim (λ (l : r < h). l)
-      (λ (l : h ≤ r). true-false-absurd e (rw (filled-out (replicate 32 0) (λ i. 2 ^ w - 1) h r l, zeros-at 32 r) (digit-zero q)))
-      (lt-or-le r h)
+  grid-row row column e =
+      ⊎-elim (λ (l : row < h). l)
+      (λ (l : h ≤ row). true-false-absurd e
+      (rw (filled-out (replicate 32 0) (λ i. 2 ^ w - 1) h row l, zeros-at 32 row) (digit-zero column)))
+      (lt-or-le row h)
 
   pub length-grid : length (gridRows w h) ≡ 32
   unfolding gridRows
   length-grid = length-filled (replicate 32 0) (λ i. 2 ^ w - 1) h ∙ length-replicate {A = ℕ} 32 0
 
-  grid-column : (r q : ℕ) → has (gridRows w h) r q ≡ true → q < w
-  grid-column r q e = ltb-true q w (sym (has-grid r q (grid-row r q e)) ∙ e)
+  grid-column : (row column : ℕ) → has (gridRows w h) row column ≡ true → column < w
+  grid-column row column e = ltb-true column w (sym (has-grid row column (grid-row row column e)) ∙ e)
 
   -- The grid's rows, with all walls.
-  pub grid-walls : (ws : List ℕ) (n e : ℕ) (s : List ℕ) → n ≤ e → 0 < w → s ≡ gridRows w h → WallsLeft w (w * h) ws n 0 e s
-  grid-walls ws n e s all thin made =
+  pub grid-walls : (ws : List ℕ) (n end : ℕ) (rows : List ℕ) → n ≤ end → 0 < w → rows ≡ gridRows w h →
+      WallsLeft w (w * h) ws n 0 end rows
+  grid-walls ws n end rows all thin made =
       rw made
       (record {
         long = length-grid;
         clean = record {
           thin = grid-column;
-          inside = λ r q e. rw (mul-comm w h) (digits-lt (grid-row r q e) (grid-column r q e));
+          inside = λ row column l. rw (mul-comm w h) (digits-lt (grid-row row column l) (grid-column row column l));
         };
         kept = λ c u t. has-grid (c / w) (c % w) ((div-lt-iff-lt-mul thin) .1 (rw (mul-comm h w) u)) ∙ lt-ltb (c % w) w (mod-lt c thin);
-        left = λ k c l g t. omega arith;
+        left = λ j c l g t. omega arith;
       })
 
 -- Without walls they are the floor's free cells.
-pub free-rows-made : (f : Floor) (ws rows : List ℕ) (a e : ℕ) → e ≤ a →
-    WallsLeft (f .width) (f .width * f .height) ws (f .walls) a e rows → FreeRows f ws rows
+pub free-rows-made : (f : Floor) (ws rows : List ℕ) (from end : ℕ) → end ≤ from →
+    WallsLeft (f .width) (f .width * f .height) ws (f .walls) from end rows → FreeRows f ws rows
 unfolding taskOfRows taskOf
-free-rows-made f ws rows a e l p =
-    let free = walls-out (f .width) (f .width * f .height) ws (f .walls) a e rows l p in
+free-rows-made f ws rows from end l p =
+    let free = walls-out (f .width) (f .width * f .height) ws (f .walls) from end rows l p in
     record {
       free = free;
       long = p .long;

@@ -15,11 +15,11 @@ use Rattle.layers.proofs.stripes.save.Statement.{statement}
 use Rattle.layers.proofs.stripes.save.Tie as tie
 
 abbrev Inv-loop : tie.InvT-loop
-Inv-loop table₀ at x k₀ table k =
-    (k ≤ 8) × (length table ≡ length table₀) × ((w : ℕ → ℕ) → x ≡ stripesOf w → Rewritten table₀ w at (4 * k) table)
+Inv-loop table₀ at x i₀ table i =
+    (i ≤ 8) × (length table ≡ length table₀) × ((w : ℕ → ℕ) → x ≡ stripesOf w → Rewritten table₀ w at (4 * i) table)
 
 abbrev μ-loop : tie.MeasureT-loop
-μ-loop table₀ at x k₀ table k = 8 - k
+μ-loop table₀ at x i₀ table i = 8 - i
 
 loop-holds : tie.Need-loop-holds Inv-loop μ-loop
 loop-holds c = (search needs, refl, λ w e. rewritten-none _ _ _)

@@ -13,10 +13,10 @@ use Rattle.search.proofs.ground.free_rows.Statement.{statement}
 use Rattle.search.proofs.ground.free_rows.Tie as tie
 
 abbrev Inv-loop : tie.InvT-loop
-Inv-loop walls w h n cells scale s₀ half j₀ s j = WallsLeft w cells walls n j (n - j) s
+Inv-loop walls w h n cells scale rows₀ half j₀ rows j = WallsLeft w cells walls n j (n - j) rows
 
 abbrev μ-loop : tie.MeasureT-loop
-μ-loop walls w h n cells scale s₀ half j₀ s j = half - j
+μ-loop walls w h n cells scale rows₀ half j₀ rows j = half - j
 
 -- The grid's rows have room for its cells, and stay 32.
 low : (c : tie.Start Inv-loop μ-loop) → c .args .f .width * c .args .f .height ≤ 32 * c .args .f .width

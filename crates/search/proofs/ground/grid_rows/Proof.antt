@@ -13,10 +13,10 @@ use Rattle.search.proofs.ground.grid_rows.Statement.{statement}
 use Rattle.search.proofs.ground.grid_rows.Tie as tie
 
 abbrev Inv-loop : tie.InvT-loop
-Inv-loop w h row s₀ r₀ s r = (r ≤ h) × (s ≡ filled (replicate 32 0) (λ i. 2 ^ w - 1) r)
+Inv-loop w h ones rows₀ row₀ rows row = (row ≤ h) × (rows ≡ filled (replicate 32 0) (λ i. 2 ^ w - 1) row)
 
 abbrev μ-loop : tie.MeasureT-loop
-μ-loop w h row s₀ r₀ s r = h - r
+μ-loop w h ones rows₀ row₀ rows row = h - row
 
 loop-holds : tie.Need-loop-holds Inv-loop μ-loop
 loop-holds c = (search needs, filled-none _ _)
