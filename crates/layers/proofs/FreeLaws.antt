@@ -29,9 +29,9 @@ free-none free table e =
     })
 
 -- The free rows at one more beat.
-free-next : (free table after : List ℕ) (w : ℕ → ℕ) (n : ℕ) → FreeBeats free n table → ((j : ℕ) → j < 32 → w j ≡ getD free (rowOf j) 0) →
-    Rewritten table w (n * 32) 32 after → FreeBeats free (n + 1) after
-free-next free table after w n old same new =
+free-next : (free table after : List ℕ) (value : ℕ → ℕ) (n : ℕ) → FreeBeats free n table → ((j : ℕ) → j < 32 → value j ≡ getD free (rowOf j) 0) →
+    Rewritten table value (n * 32) 32 after → FreeBeats free (n + 1) after
+free-next free table after value n old same new =
     record {
       long = new .long ∙ old .long;
       shown = λ t j h l. ⊎-elim (λ (e : t ≡ n). rw e (new .inside j l ∙ same j l))

@@ -25,55 +25,55 @@ module _ (x masks : List (List ℕ)) (none : ℕ) where
       d ≡ lanesOf (stripe 2) (stripe 3) (stripe 4) (mask 3) → e ≡ lanesOf (stripe 3) (stripe 4) (stripe 5) (mask 4) →
       f ≡ lanesOf (stripe 4) (stripe 5) (stripe 6) (mask 5) → g ≡ lanesOf (stripe 5) (stripe 6) (stripe 7) (mask 6) →
       h ≡ lanesOf (stripe 6) (stripe 7) (getD (stripe 0) 1 0 ∷ getD (stripe 0) 2 0 ∷ getD (stripe 0) 3 0 ∷ none ∷ []) (mask 7) →
-      (w m : ℕ → ℕ) → x ≡ stripesOf w → masks ≡ stripesOf m → (a ∷ b ∷ c ∷ d ∷ e ∷ f ∷ g ∷ h ∷ []) ≡ stripesOf (stepWord w m)
+      (value free : ℕ → ℕ) → x ≡ stripesOf value → masks ≡ stripesOf free → (a ∷ b ∷ c ∷ d ∷ e ∷ f ∷ g ∷ h ∷ []) ≡ stripesOf (stepWord value free)
   unfolding four stripesOf laneOf lanesOf overSlot underSlot wordAt stepWord
-  advanced z a b c d e f g h w m p q = rw (a, b, c, d, e, f, g, h, z, p, q) refl
+  advanced z a b c d e f g h value free p q = rw (a, b, c, d, e, f, g, h, z, p, q) refl
 
-four-at : (w : ℕ → ℕ) (n i : ℕ) → i < 4 → getD (four w n) i 0 ≡ w (n + i)
+four-at : (value : ℕ → ℕ) (n i : ℕ) → i < 4 → getD (four value n) i 0 ≡ value (n + i)
 unfolding four
-four-at w n zero l = ap w (omega arith)
-four-at w n (suc zero) l = ap w (omega arith)
-four-at w n (suc (suc zero)) l = ap w (omega arith)
-four-at w n (suc (suc (suc zero))) l = ap w (omega arith)
-four-at w n (suc (suc (suc (suc i)))) l = absurd (omega arith)
+four-at value n zero l = ap value (omega arith)
+four-at value n (suc zero) l = ap value (omega arith)
+four-at value n (suc (suc zero)) l = ap value (omega arith)
+four-at value n (suc (suc (suc zero))) l = ap value (omega arith)
+four-at value n (suc (suc (suc (suc i)))) l = absurd (omega arith)
 
 -- The stripes one by one.
-stripe-at : (w : ℕ → ℕ) (i : ℕ) → i < 8 → getD (stripesOf w) i [] ≡ four w (4 * i)
+stripe-at : (value : ℕ → ℕ) (i : ℕ) → i < 8 → getD (stripesOf value) i [] ≡ four value (4 * i)
 unfolding stripesOf
-stripe-at w zero l = refl
-stripe-at w (suc zero) l = refl
-stripe-at w (suc (suc zero)) l = refl
-stripe-at w (suc (suc (suc zero))) l = refl
-stripe-at w (suc (suc (suc (suc zero)))) l = refl
-stripe-at w (suc (suc (suc (suc (suc zero))))) l = refl
-stripe-at w (suc (suc (suc (suc (suc (suc zero)))))) l = refl
-stripe-at w (suc (suc (suc (suc (suc (suc (suc zero))))))) l = refl
-stripe-at w (suc (suc (suc (suc (suc (suc (suc (suc i)))))))) l = absurd (omega arith)
+stripe-at value zero l = refl
+stripe-at value (suc zero) l = refl
+stripe-at value (suc (suc zero)) l = refl
+stripe-at value (suc (suc (suc zero))) l = refl
+stripe-at value (suc (suc (suc (suc zero)))) l = refl
+stripe-at value (suc (suc (suc (suc (suc zero))))) l = refl
+stripe-at value (suc (suc (suc (suc (suc (suc zero)))))) l = refl
+stripe-at value (suc (suc (suc (suc (suc (suc (suc zero))))))) l = refl
+stripe-at value (suc (suc (suc (suc (suc (suc (suc (suc i)))))))) l = absurd (omega arith)
 
 -- One stripe more.
-pub rewritten-stripe : (words then after : List ℕ) (x : List (List ℕ)) (w : ℕ → ℕ) (at i : ℕ) → i < 8 → at + 32 ≤ length words →
-    x ≡ stripesOf w → Rewritten words w at (4 * i) then → after ≡ written then (at + 4 * i) (getD x i []) 4 →
-    Rewritten words w at (4 * (i + 1)) after
-rewritten-stripe words then after x w at i few fits e old h =
+pub rewritten-stripe : (words then after : List ℕ) (x : List (List ℕ)) (value : ℕ → ℕ) (at i : ℕ) → i < 8 → at + 32 ≤ length words →
+    x ≡ stripesOf value → Rewritten words value at (4 * i) then → after ≡ written then (at + 4 * i) (getD x i []) 4 →
+    Rewritten words value at (4 * (i + 1)) after
+rewritten-stripe words then after x value at i few fits e old h =
     rw h (record { long = length-written then (at + 4 * i) y 4 ∙ old .long; inside = inside; outside = outside })
   where
     y : List ℕ
     y = getD x i []
 
-    new : (j : ℕ) → j < 4 → getD (written then (at + 4 * i) y 4) (at + 4 * i + j) 0 ≡ w (4 * i + j)
-    new j l = written-in then (at + 4 * i) y 4 j (omega (arith, old .long)) l ∙ rw (e, stripe-at w i few) (four-at w (4 * i) j l)
+    new : (j : ℕ) → j < 4 → getD (written then (at + 4 * i) y 4) (at + 4 * i + j) 0 ≡ value (4 * i + j)
+    new j l = written-in then (at + 4 * i) y 4 j (omega (arith, old .long)) l ∙ rw (e, stripe-at value i few) (four-at value (4 * i) j l)
 
-    inside : (j : ℕ) → j < 4 * (i + 1) → getD (written then (at + 4 * i) y 4) (at + j) 0 ≡ w j
+    inside : (j : ℕ) → j < 4 * (i + 1) → getD (written then (at + 4 * i) y 4) (at + j) 0 ≡ value j
     inside j l = ⊎-elim early late (lt-or-le j (4 * i))
       where
-        early : j < 4 * i → getD (written then (at + 4 * i) y 4) (at + j) 0 ≡ w j
+        early : j < 4 * i → getD (written then (at + 4 * i) y 4) (at + j) 0 ≡ value j
         early u = written-out then (at + 4 * i) y 4 (at + j) (inl (omega arith)) ∙ old .inside j u
 
-        late : 4 * i ≤ j → getD (written then (at + 4 * i) y 4) (at + j) 0 ≡ w j
+        late : 4 * i ≤ j → getD (written then (at + 4 * i) y 4) (at + j) 0 ≡ value j
         late u =
             let p : at + j ≡ at + 4 * i + (j - 4 * i) = omega arith in
             let v : 4 * i + (j - 4 * i) ≡ j = omega arith in
-            rw p (new (j - 4 * i) (omega arith)) ∙ ap w v
+            rw p (new (j - 4 * i) (omega arith)) ∙ ap value v
 
     outside : (j : ℕ) → (j < at) ⊎ (at + 4 * (i + 1) ≤ j) → getD (written then (at + 4 * i) y 4) j 0 ≡ getD words j 0
     outside j (inl l) = written-out then (at + 4 * i) y 4 j (inl (omega arith)) ∙ old .outside j (inl l)

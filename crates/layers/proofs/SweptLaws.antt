@@ -84,14 +84,14 @@ swept-more g table sets then after t back n i within few old only new =
     same : (j : ℕ) → j ≤ i → (c : ℕ) → inSet g after (beatAfter back t j) c ≡ inSet g then (beatAfter back t j) c
     same j l c = only .other (beatAfter back t j) c (beats-apart back t n j i within l few)
 
-four-same : (w v : ℕ → ℕ) (i : ℕ) → w i ≡ v i → w (i + 1) ≡ v (i + 1) → w (i + 2) ≡ v (i + 2) → w (i + 3) ≡ v (i + 3) → four w i ≡ four v i
+four-same : (value other : ℕ → ℕ) (i : ℕ) → value i ≡ other i → value (i + 1) ≡ other (i + 1) → value (i + 2) ≡ other (i + 2) → value (i + 3) ≡ other (i + 3) → four value i ≡ four other i
 unfolding four
-four-same w v i p q r s = rw (p, q, r, s) refl
+four-same value other i p q r s = rw (p, q, r, s) refl
 
 -- The same words, said in another way.
-pub stripes-same : (w v : ℕ → ℕ) → ((j : ℕ) → j < 32 → w j ≡ v j) → stripesOf w ≡ stripesOf v
+pub stripes-same : (value other : ℕ → ℕ) → ((j : ℕ) → j < 32 → value j ≡ other j) → stripesOf value ≡ stripesOf other
 unfolding stripesOf
-stripes-same w v same = rw (
+stripes-same value other same = rw (
   part 0 (omega arith),
   part 4 (omega arith),
   part 8 (omega arith),
@@ -102,8 +102,8 @@ stripes-same w v same = rw (
   part 28 (omega arith),
 ) refl
   where
-    part : (i : ℕ) → i + 3 < 32 → four w i ≡ four v i
-    part i l = four-same w v i (same i (omega arith)) (same (i + 1) (omega arith)) (same (i + 2) (omega arith)) (same (i + 3) l)
+    part : (i : ℕ) → i + 3 < 32 → four value i ≡ four other i
+    part i l = four-same value other i (same i (omega arith)) (same (i + 1) (omega arith)) (same (i + 2) (omega arith)) (same (i + 3) l)
 
 -- The turn of the loop: the stripes are the set of beat t, and are written, one step on, as that of the next beat.
 pub swept-step : (g : SearchGrid) (table sets then after : List ℕ) (from t u n i : ℕ) (back : Bool) → Grid g → Tidy g table →

@@ -7,17 +7,18 @@ use lib.Dec.{ltb, eqb}
 use lib.ListN.{getD}
 use Rattle.bitrows.specs.Rows.{successorRow}
 
--- Four words from word i on, as w says them.
+-- Four words from word i on.
 unfoldable pub four : (ℕ → ℕ) → ℕ → List ℕ
-four w i = w i ∷ w (i + 1) ∷ w (i + 2) ∷ w (i + 3) ∷ []
+four words i = words i ∷ words (i + 1) ∷ words (i + 2) ∷ words (i + 3) ∷ []
 
--- The 32 words that w says, as eight stripes.
+-- 32 words as eight stripes.
 unfoldable pub stripesOf : (ℕ → ℕ) → List (List ℕ)
-stripesOf w = four w 0 ∷ four w 4 ∷ four w 8 ∷ four w 12 ∷ four w 16 ∷ four w 20 ∷ four w 24 ∷ four w 28 ∷ []
+stripesOf words =
+    four words 0 ∷ four words 4 ∷ four words 8 ∷ four words 12 ∷ four words 16 ∷ four words 20 ∷ four words 24 ∷ four words 28 ∷ []
 
--- What a step brings to lane k of a mask.
+-- What a step brings to lane i of a mask.
 unfoldable pub laneOf : List ℕ → List ℕ → List ℕ → List ℕ → ℕ → ℕ
-laneOf over here under mask k = successorRow (getD over k 0) (getD here k 0) (getD under k 0) (getD mask k 0)
+laneOf over here under mask i = successorRow (getD over i 0) (getD here i 0) (getD under i 0) (getD mask i 0)
 
 -- The four lanes.
 unfoldable pub lanesOf : List ℕ → List ℕ → List ℕ → List ℕ → List ℕ
@@ -33,8 +34,8 @@ underSlot i = elim (ltb i 28) [ true ↦ i + 4 | false ↦ elim (eqb i 31) [ tru
 
 -- Word i of 32, else the empty word.
 unfoldable pub wordAt : (ℕ → ℕ) → ℕ → ℕ
-wordAt w i = elim (ltb i 32) [ true ↦ w i | false ↦ 0 ]
+wordAt words i = elim (ltb i 32) [ true ↦ words i | false ↦ 0 ]
 
--- What a step of the words w brings to word i of the masks.
+-- What a step of the words brings to word i of the masks.
 unfoldable pub stepWord : (ℕ → ℕ) → (ℕ → ℕ) → ℕ → ℕ
-stepWord w masks i = successorRow (wordAt w (overSlot i)) (w i) (wordAt w (underSlot i)) (masks i)
+stepWord words masks i = successorRow (wordAt words (overSlot i)) (words i) (wordAt words (underSlot i)) (masks i)

@@ -66,12 +66,12 @@ pub fn load(table: &[u32], at: usize) -> Stripes
 // Writes the stripes from word `at` on.
 pub fn save(table: &mut [u32], at: usize, x: Stripes)
     requires { ⌜ at + 32 ≤ length (now table) ⌝ }
-    ensures { λ r. ⌜ ((w : ℕ → ℕ) → x ≡ stripesOf w → Rewritten (now (table .entry)) w at 32 (now (table .exit))) ⌝ }
+    ensures { λ r. ⌜ ((words : ℕ → ℕ) → x ≡ stripesOf words → Rewritten (now (table .entry)) words at 32 (now (table .exit))) ⌝ }
 {
-    let mut k: usize = 0;
-    while k < 8 {
-        put_stripe(table, at + 4 * k, x[k]);
-        k += 1;
+    let mut i: usize = 0;
+    while i < 8 {
+        put_stripe(table, at + 4 * i, x[i]);
+        i += 1;
     }
 }
 
@@ -79,7 +79,7 @@ pub fn save(table: &mut [u32], at: usize, x: Stripes)
 // code, the compiler would take these two rows out of their stripes.
 pub fn advance(x: Stripes, masks: Stripes, none: u32) -> Stripes
     requires { ⌜ none ≡ 0 ⌝ }
-    ensures { λ r. ⌜ ((w m : ℕ → ℕ) → x ≡ stripesOf w → masks ≡ stripesOf m → r ≡ stripesOf (stepWord w m)) ⌝ }
+    ensures { λ r. ⌜ ((words free : ℕ → ℕ) → x ≡ stripesOf words → masks ≡ stripesOf free → r ≡ stripesOf (stepWord words free)) ⌝ }
 {
     let above = [none, x[7][0], x[7][1], x[7][2]];
     let below = [x[0][1], x[0][2], x[0][3], none];

@@ -13,7 +13,7 @@ use Rattle.search.specs.Task.{taskOf, taskOfRows}
 
 -- The rows of a grid.
 unfoldable pub gridRows : ℕ → ℕ → List ℕ
-gridRows w h = filled (replicate 32 0) (λ r. 2 ^ w - 1) h
+gridRows w h = filled (replicate 32 0) (λ row. 2 ^ w - 1) h
 
 -- The rows are the floor's free cells: a cell has a digit where it is no wall, every digit is a cell, and a search with them answers as
 -- with the walls.
@@ -31,7 +31,7 @@ pub record Searchable (f : Floor) (rows : List ℕ) (i : ℕ) (m : List ℕ) : T
   pub listed : (1 ≤ i) × (i ≤ 8)
   pub start : startOf f (i - 1) < f .width * f .height
   pub few : countOf f (i - 1) ≤ 4
-  pub docks : (k : ℕ) → k < countOf f (i - 1) → dockOf f (i - 1) k < f .width * f .height
+  pub docks : (d : ℕ) → d < countOf f (i - 1) → dockOf f (i - 1) d < f .width * f .height
   pub lent : 65 * (i - 1) ≤ length m
   pub long : length rows ≡ 32
   pub clean : Clean (f .width) (f .width * f .height) rows

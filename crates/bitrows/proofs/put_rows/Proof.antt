@@ -36,7 +36,7 @@ same-length c = c .before .loop .inv .1
 
 returns : tie.Need-returns Inv-loop μ-loop
 returns c =
-    let e : c .before .loop .r ≡ c .before .before .args .n = omega arith in
+    let e : c .before .loop .row ≡ c .before .before .args .n = omega arith in
     rw e at (c .before .loop .inv .2)
 
 pub put-rows-spec : {M : Type 1} → statement M

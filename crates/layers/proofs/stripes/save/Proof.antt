@@ -16,13 +16,13 @@ use Rattle.layers.proofs.stripes.save.Tie as tie
 
 abbrev Inv-loop : tie.InvT-loop
 Inv-loop table₀ at x i₀ table i =
-    (i ≤ 8) × (length table ≡ length table₀) × ((w : ℕ → ℕ) → x ≡ stripesOf w → Rewritten table₀ w at (4 * i) table)
+    (i ≤ 8) × (length table ≡ length table₀) × ((value : ℕ → ℕ) → x ≡ stripesOf value → Rewritten table₀ value at (4 * i) table)
 
 abbrev μ-loop : tie.MeasureT-loop
 μ-loop table₀ at x i₀ table i = 8 - i
 
 loop-holds : tie.Need-loop-holds Inv-loop μ-loop
-loop-holds c = (search needs, refl, λ w e. rewritten-none _ _ _)
+loop-holds c = (search needs, refl, λ value e. rewritten-none _ _ _)
 
 put-stripe-requires : tie.Need-put-stripe-requires Inv-loop μ-loop
 put-stripe-requires c κs =
@@ -40,7 +40,7 @@ loop-again c =
     let e = after-put-stripe .put-stripe .ensures in (
       search needs,
       ap length e ∙ length-written _ _ _ 4 ∙ v .1,
-      λ w h. rewritten-stripe _ _ _ _ w _ _ (in-loop .loop-test .taken) (start .pre) h (v .2 w h) e,
+      λ value h. rewritten-stripe _ _ _ _ value _ _ (in-loop .loop-test .taken) (start .pre) h (v .2 value h) e,
     )
 
 same-length : tie.Need-same-length Inv-loop μ-loop
@@ -51,7 +51,7 @@ same-length c =
 returns : tie.Need-returns Inv-loop μ-loop
 returns c =
     let at-loop : tie.At-loop Inv-loop μ-loop = search in
-    let e : at-loop .loop .k ≡ 8 = omega arith in
+    let e : at-loop .loop .i ≡ 8 = omega arith in
     rw e at (at-loop .loop .inv .2)
 
 pub save-spec : {M : Type 1} → statement M

@@ -34,7 +34,7 @@ returns : tie.Need-returns Inv-loop μ-loop
 unfolding gridRows
 returns c =
     let start : tie.Start Inv-loop μ-loop = search in
-    let e : c .before .loop .r ≡ start .args .h = omega arith in
+    let e : c .before .loop .row ≡ start .args .h = omega arith in
     let made = rw e at (c .before .loop .inv .1) in
     (made, ap length made ∙ length-grid (start .args .w) (start .args .h) (start .pre .1))
 
