@@ -23,6 +23,8 @@ pub enum Device {
     LastKept,
     /// Walls are taken out from both ends; without it one after the other.
     BothEnds,
+    /// The walk goes from place to place; without it each cell's row is looked for.
+    Places,
     /// A cell's row by a product and a shift, not by a division.
     Product,
     /// One table of sets for the whole plan, not an empty one for each search.
@@ -31,7 +33,7 @@ pub enum Device {
     EarlyEnd,
 }
 
-pub const DEVICES: [(Device, &str); 10] = [
+pub const DEVICES: [(Device, &str); 11] = [
     (Device::NoneAtOnce, "none at once where no dock is free at the horizon"),
     (Device::Stripes, "rows eight apart side by side"),
     (Device::Nearest, "to the nearest dock at once"),
@@ -39,6 +41,7 @@ pub const DEVICES: [(Device, &str); 10] = [
     (Device::Parked, "a view that stays taken out at once"),
     (Device::LastKept, "the last route not taken out"),
     (Device::BothEnds, "walls from both ends"),
+    (Device::Places, "the walk from place to place"),
     (Device::Product, "a cell's row by a product"),
     (Device::OneTable, "one table of sets for the plan"),
     (Device::EarlyEnd, "forward ends at the arrival"),
@@ -200,21 +203,21 @@ impl<const PRODUCT: bool, const STRIPED: bool> Grid<PRODUCT, STRIPED> {
         n
     }
 
-    fn next(self, sets: &Table, t: usize, c: usize) -> usize {
-        let (row, k) = self.place(c);
+    #[inline(always)]
+    fn next(self, sets: &Table, t: usize, (row, k): (usize, usize)) -> (usize, usize) {
         if 0 < row && self.has(sets, t, row - 1, k) {
-            return c - self.width;
+            return (row - 1, k);
         }
         if 0 < k && self.has(sets, t, row, k - 1) {
-            return c - 1;
+            return (row, k - 1);
         }
         if self.has(sets, t, row, k) {
-            return c;
+            return (row, k);
         }
         if k + 1 < self.width && self.has(sets, t, row, k + 1) {
-            return c + 1;
+            return (row, k + 1);
         }
-        c + self.width
+        (row + 1, k)
     }
 
     /// The beats from one cell to another where nothing is in the way.
@@ -285,14 +288,17 @@ impl<const PRODUCT: bool, const STRIPED: bool> Grid<PRODUCT, STRIPED> {
             self.put(sets, arrival, docks[k] as usize);
         }
         self.propagate(sets, table, arrival, arrival, true);
-        let (mut route, mut c) = ([0; 64], start);
+        let (mut route, mut place) = ([0; 64], self.place(start));
         route[0] = start as u16;
-        for t in 0..h {
-            if t < arrival {
-                c = self.next(sets, t + 1, c);
+        for t in 0..arrival {
+            if without == Some(Device::Places) {
+                place = self.place(at!(route, t) as usize);
             }
-            route[t + 1] = c as u16;
+            place = self.next(sets, t + 1, place);
+            set!(route, t + 1, (place.0 * self.width + place.1) as u16);
         }
+        let last = at!(route, arrival);
+        route[arrival..=h].fill(last);
         Some(route)
     }
 

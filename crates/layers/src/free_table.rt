@@ -28,7 +28,7 @@ fn striped(rows: &[u32]) -> [u32; ROWS]
 }
 
 // The free cells at the first n beats of an empty table: at the first, and from there from beat to beat.
-pub fn fill_free(table: &mut [u32], free: &[u32], n: usize)
+fn fill_free(table: &mut [u32], free: &[u32], n: usize)
     requires { ⌜ (now table ≡ replicate 2049 0) × (length (now free) ≡ 32) × (1 ≤ n) × (n ≤ 64) ⌝ }
     ensures { λ r. ⌜ FreeBeats (now (free .entry)) n (now (table .exit)) ⌝ }
 {
