@@ -9,14 +9,22 @@ type Table = [u32; ORDERED_BEAT * 64];
 /// What can be left out.
 #[derive(Clone, Copy, PartialEq)]
 pub enum Device {
-    /// None at once where no dock can be held at the horizon.
+    /// None at once where no dock is free at the horizon.
     NoneAtOnce,
     /// Rows eight apart side by side, a step four rows at a time; without it rows in order, a step from memory to memory.
     Stripes,
-    /// The forward sets are made eight beats at a time, not one.
-    EightBeats,
-    /// Where a view stays, only the beat after it is taken out.
-    Stays,
+    /// The forward sets up to the nearest dock are made at once, then four at a time; without it four at a time from the first.
+    Nearest,
+    /// Of the forward sets made together only the last is looked at until it is an arrival; without it each is.
+    LastOnly,
+    /// A view that stays is taken out of all beats at once; without it each beat takes out three.
+    Parked,
+    /// No route is taken out after the last carrier.
+    LastKept,
+    /// Walls are taken out from both ends; without it one after the other.
+    BothEnds,
+    /// The walk goes from place to place; without it each cell's row is looked for.
+    Places,
     /// A cell's row by a product and a shift, not by a division.
     Product,
     /// One table of sets for the whole plan, not an empty one for each search.
@@ -25,11 +33,15 @@ pub enum Device {
     EarlyEnd,
 }
 
-pub const DEVICES: [(Device, &str); 7] = [
-    (Device::NoneAtOnce, "none at once where no dock can be held"),
+pub const DEVICES: [(Device, &str); 11] = [
+    (Device::NoneAtOnce, "none at once where no dock is free at the horizon"),
     (Device::Stripes, "rows eight apart side by side"),
-    (Device::EightBeats, "eight beats at a time"),
-    (Device::Stays, "a view that stays costs one beat"),
+    (Device::Nearest, "to the nearest dock at once"),
+    (Device::LastOnly, "only the last of some sets looked at"),
+    (Device::Parked, "a view that stays taken out at once"),
+    (Device::LastKept, "the last route not taken out"),
+    (Device::BothEnds, "walls from both ends"),
+    (Device::Places, "the walk from place to place"),
     (Device::Product, "a cell's row by a product"),
     (Device::OneTable, "one table of sets for the plan"),
     (Device::EarlyEnd, "forward ends at the arrival"),
@@ -49,18 +61,7 @@ macro_rules! set {
 
 /// Four rows, and the rows of a beat.
 type Stripe = [u32; 4];
-
-#[derive(Clone, Copy)]
-struct Stripes {
-    a: Stripe,
-    b: Stripe,
-    c: Stripe,
-    d: Stripe,
-    e: Stripe,
-    f: Stripe,
-    g: Stripe,
-    h: Stripe,
-}
+type Stripes = [Stripe; 8];
 
 #[inline(always)]
 fn stripe(s: &Table, i: usize) -> Stripe {
@@ -81,13 +82,12 @@ fn lanes(over: Stripe, here: Stripe, under: Stripe, mask: Stripe) -> Stripe {
 
 #[inline(always)]
 fn load(s: &Table, i: usize) -> Stripes {
-    let part = |k: usize| stripe(s, i + 4 * k);
-    Stripes { a: part(0), b: part(1), c: part(2), d: part(3), e: part(4), f: part(5), g: part(6), h: part(7) }
+    std::array::from_fn(|k| stripe(s, i + 4 * k))
 }
 
 #[inline(always)]
 fn save(s: &mut Table, i: usize, x: Stripes) {
-    for (k, part) in [x.a, x.b, x.c, x.d, x.e, x.f, x.g, x.h].into_iter().enumerate() {
+    for (k, part) in x.into_iter().enumerate() {
         put_stripe(s, i + 4 * k, part);
     }
 }
@@ -95,18 +95,18 @@ fn save(s: &mut Table, i: usize, x: Stripes) {
 /// One step of a set into masks; `none` is the empty row above the first and below the last.
 #[inline(always)]
 fn advance(x: Stripes, masks: Stripes, none: u32) -> Stripes {
-    let above = [none, x.h[0], x.h[1], x.h[2]];
-    let below = [x.a[1], x.a[2], x.a[3], none];
-    Stripes {
-        a: lanes(above, x.a, x.b, masks.a),
-        b: lanes(x.a, x.b, x.c, masks.b),
-        c: lanes(x.b, x.c, x.d, masks.c),
-        d: lanes(x.c, x.d, x.e, masks.d),
-        e: lanes(x.d, x.e, x.f, masks.e),
-        f: lanes(x.e, x.f, x.g, masks.f),
-        g: lanes(x.f, x.g, x.h, masks.g),
-        h: lanes(x.g, x.h, below, masks.h),
-    }
+    let above = [none, x[7][0], x[7][1], x[7][2]];
+    let below = [x[0][1], x[0][2], x[0][3], none];
+    [
+        lanes(above, x[0], x[1], masks[0]),
+        lanes(x[0], x[1], x[2], masks[1]),
+        lanes(x[1], x[2], x[3], masks[2]),
+        lanes(x[2], x[3], x[4], masks[3]),
+        lanes(x[3], x[4], x[5], masks[4]),
+        lanes(x[4], x[5], x[6], masks[5]),
+        lanes(x[5], x[6], x[7], masks[6]),
+        lanes(x[6], x[7], below, masks[7]),
+    ]
 }
 
 /// The grid, with the devices that are left out as constants, so that each form is compiled for itself.
@@ -149,12 +149,15 @@ impl<const PRODUCT: bool, const STRIPED: bool> Grid<PRODUCT, STRIPED> {
         set!(s, i, at!(s, i) | 1 << column);
     }
 
+    /// Takes a cell out of the beats from one to before another.
     #[inline(always)]
-    fn drop(self, s: &mut Table, t: usize, c: usize) {
+    fn drop(self, s: &mut Table, from: usize, end: usize, c: usize) {
         if c < self.cells {
             let (row, column) = self.place(c);
-            let i = self.word(t, row);
-            set!(s, i, at!(s, i) & !(1 << column));
+            for t in from..end {
+                let i = self.word(t, row);
+                set!(s, i, at!(s, i) & !(1 << column));
+            }
         }
     }
 
@@ -200,32 +203,41 @@ impl<const PRODUCT: bool, const STRIPED: bool> Grid<PRODUCT, STRIPED> {
         n
     }
 
-    fn next(self, sets: &Table, t: usize, c: usize) -> usize {
-        let (row, k) = self.place(c);
+    #[inline(always)]
+    fn next(self, sets: &Table, t: usize, (row, k): (usize, usize)) -> (usize, usize) {
         if 0 < row && self.has(sets, t, row - 1, k) {
-            return c - self.width;
+            return (row - 1, k);
         }
         if 0 < k && self.has(sets, t, row, k - 1) {
-            return c - 1;
+            return (row, k - 1);
         }
         if self.has(sets, t, row, k) {
-            return c;
+            return (row, k);
         }
         if k + 1 < self.width && self.has(sets, t, row, k + 1) {
-            return c + 1;
+            return (row, k + 1);
         }
-        c + self.width
+        (row + 1, k)
     }
 
-    fn take(self, table: &mut Table, route: &[u16; 64], stays: bool) {
-        for t in 0..=self.horizon {
-            let c = at!(route, t) as usize;
-            let after = (t + 1).min(self.horizon);
-            if !(stays && 0 < t && at!(route, t - 1) == at!(route, t)) {
-                self.drop(table, t.saturating_sub(1), c);
-                self.drop(table, t, c);
-            }
-            self.drop(table, after, c);
+    /// The beats from one cell to another where nothing is in the way.
+    #[inline(always)]
+    fn distance(self, c: usize, d: usize) -> usize {
+        let ((row, column), (other_row, other_column)) = (self.place(c), self.place(d));
+        row.abs_diff(other_row) + column.abs_diff(other_column)
+    }
+
+    fn take(self, table: &mut Table, route: &[u16; 64], parked: bool) {
+        let h = self.horizon;
+        let mut a = if parked { h } else { h + 1 };
+        while parked && 0 < a && at!(route, a - 1) == at!(route, h) {
+            a -= 1;
+        }
+        for t in 0..a {
+            self.drop(table, t.saturating_sub(1), (t + 2).min(h + 1), at!(route, t) as usize);
+        }
+        if parked {
+            self.drop(table, a.saturating_sub(1), h + 1, at!(route, h) as usize);
         }
     }
 
@@ -243,37 +255,50 @@ impl<const PRODUCT: bool, const STRIPED: bool> Grid<PRODUCT, STRIPED> {
         }
         self.empty(sets, 0);
         self.put(sets, 0, start);
-        let beats = if without == Some(Device::EightBeats) { 1 } else { 8 };
         let arrives = |sets: &Table, t: usize| (0..count).any(|k| holds[k] <= t && self.member(sets, t, docks[k] as usize));
-        let (mut t, mut made, mut found) = (0, 0, None);
+        let nearest = || docks.iter().fold(h, |near, &dock| near.min(self.distance(start, dock as usize)));
+        let near = if without == Some(Device::Nearest) { 0 } else { nearest() };
+        let (mut t, mut arrival) = (0, h + 1);
         loop {
-            if found.is_none() && arrives(sets, t) {
-                found = Some(t);
-            }
-            if t == h || (found.is_some() && without != Some(Device::EarlyEnd)) {
+            if arrives(sets, t) {
+                arrival = t;
+                while 0 < arrival && arrives(sets, arrival - 1) {
+                    arrival -= 1;
+                }
                 break;
             }
-            if t == made {
-                let n = beats.min(h - made);
-                self.propagate(sets, table, made, n, false);
-                made += n;
+            if t == h {
+                return None;
             }
-            t += 1;
+            let n = if t < near { near - t } else { 4.min(h - t) };
+            self.propagate(sets, table, t, n, false);
+            if without == Some(Device::LastOnly) {
+                if let Some(first) = (t + 1..t + n).find(|&u| arrives(sets, u)) {
+                    arrival = first;
+                    break;
+                }
+            }
+            t += n;
         }
-        let arrival = found?;
+        if without == Some(Device::EarlyEnd) {
+            self.propagate(sets, table, t, h - t, false);
+        }
         self.empty(sets, arrival);
         for k in (0..count).filter(|&k| holds[k] <= arrival) {
             self.put(sets, arrival, docks[k] as usize);
         }
         self.propagate(sets, table, arrival, arrival, true);
-        let (mut route, mut c) = ([0; 64], start);
+        let (mut route, mut place) = ([0; 64], self.place(start));
         route[0] = start as u16;
-        for t in 0..h {
-            if t < arrival {
-                c = self.next(sets, t + 1, c);
+        for t in 0..arrival {
+            if without == Some(Device::Places) {
+                place = self.place(at!(route, t) as usize);
             }
-            route[t + 1] = c as u16;
+            place = self.next(sets, t + 1, place);
+            set!(route, t + 1, (place.0 * self.width + place.1) as u16);
         }
+        let last = at!(route, arrival);
+        route[arrival..=h].fill(last);
         Some(route)
     }
 
@@ -282,15 +307,24 @@ impl<const PRODUCT: bool, const STRIPED: bool> Grid<PRODUCT, STRIPED> {
         for row in 0..self.cells / self.width {
             set!(table, self.word(0, row), ((1u64 << self.width) - 1) as u32);
         }
-        for &wall in walls {
-            self.drop(&mut table, 0, wall as usize);
+        let n = walls.len();
+        if without == Some(Device::BothEnds) {
+            for &wall in walls {
+                self.drop(&mut table, 0, 1, wall as usize);
+            }
+        } else {
+            for j in 0..n.div_ceil(2) {
+                self.drop(&mut table, 0, 1, at!(walls, j) as usize);
+                self.drop(&mut table, 0, 1, at!(walls, n - 1 - j) as usize);
+            }
         }
         let first = if STRIPED { 0 } else { 1 };
         for t in 1..=self.horizon {
             let beat = if STRIPED { STRIPED_BEAT } else { ORDERED_BEAT };
             table.copy_within(first..first + 32, t * beat + first);
         }
-        for i in 0..record[4] as usize {
+        let carriers = record[4] as usize;
+        for i in 0..carriers {
             if without == Some(Device::OneTable) {
                 sets = [0; ORDERED_BEAT * 64];
             }
@@ -298,7 +332,9 @@ impl<const PRODUCT: bool, const STRIPED: bool> Grid<PRODUCT, STRIPED> {
             let found = self.search(&mut sets, &table, record[6 + i] as usize, docks, without);
             answers[65 * i] = if found.is_some() { 2 } else { 1 };
             answers[65 * i + 1..65 * i + 65].copy_from_slice(&found.unwrap_or([0; 64]));
-            self.take(&mut table, &found.unwrap_or([record[6 + i]; 64]), without != Some(Device::Stays));
+            if i + 1 < carriers || without == Some(Device::LastKept) {
+                self.take(&mut table, &found.unwrap_or([record[6 + i]; 64]), without != Some(Device::Parked));
+            }
         }
     }
 }

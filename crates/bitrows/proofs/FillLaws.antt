@@ -13,74 +13,74 @@ use Rattle.laws.proofs.Lists.{zeros-at}
 use Rattle.bitrows.specs.Rows.{has, filled, written}
 use Rattle.bitrows.proofs.DigitLaws.{digit-zero}
 
-module _ (s : List ℕ) (g : ℕ → ℕ) where
-  pub length-filled : (n : ℕ) → length (filled s g n) ≡ length s
+module _ (rows : List ℕ) (value : ℕ → ℕ) where
+  pub length-filled : (n : ℕ) → length (filled rows value n) ≡ length rows
   unfolding filled
   length-filled zero = refl
-  length-filled (suc n) = length-set (filled s g n) n (g n) ∙ length-filled n
+  length-filled (suc n) = length-set (filled rows value n) n (value n) ∙ length-filled n
 
   -- The turns of a loop that fills rows in order.
-  pub filled-none : s ≡ filled s g 0
+  pub filled-none : rows ≡ filled rows value 0
   unfolding filled
   filled-none = refl
 
-  pub filled-more : (n x : ℕ) (m : List ℕ) → m ≡ filled s g n → x ≡ g n → set m n x ≡ filled s g (n + 1)
+  pub filled-more : (n x : ℕ) (then : List ℕ) → then ≡ filled rows value n → x ≡ value n → set then n x ≡ filled rows value (n + 1)
   unfolding filled
-  filled-more n x m e h = rw (add-one, filled) (rw (e, h))
+  filled-more n x then e h = rw (add-one, filled) (rw (e, h))
 
-  pub filled-in : (n r : ℕ) → n ≤ length s → r < n → getD (filled s g n) r 0 ≡ g r
+  pub filled-in : (n row : ℕ) → n ≤ length rows → row < n → getD (filled rows value n) row 0 ≡ value row
   unfolding filled
-  filled-in zero r h l = absurd (omega arith)
-  filled-in (suc n) r h l =
-      ⊎-elim same (λ (e : r < n). other e (filled-in n r (omega arith) e)) (eq-or-lt-of-le (omega arith))
+  filled-in zero row h l = absurd (omega arith)
+  filled-in (suc n) row h l =
+      ⊎-elim same (λ (e : row < n). other e (filled-in n row (omega arith) e)) (eq-or-lt-of-le (omega arith))
     where
-      same : r ≡ n → getD (set (filled s g n) n (g n)) r 0 ≡ g r
-      same e = rw e (getD-set-same (filled s g n) n (g n) 0 (omega (arith, length-filled n)))
+      same : row ≡ n → getD (set (filled rows value n) n (value n)) row 0 ≡ value row
+      same e = rw e (getD-set-same (filled rows value n) n (value n) 0 (omega (arith, length-filled n)))
 
-      other : r < n → getD (filled s g n) r 0 ≡ g r → getD (set (filled s g n) n (g n)) r 0 ≡ g r
-      other e ih = getD-set-other (filled s g n) n r (g n) 0 (λ q. omega arith) ∙ ih
+      other : row < n → getD (filled rows value n) row 0 ≡ value row → getD (set (filled rows value n) n (value n)) row 0 ≡ value row
+      other e ih = getD-set-other (filled rows value n) n row (value n) 0 (λ q. omega arith) ∙ ih
 
-  pub filled-out : (n r : ℕ) → n ≤ r → getD (filled s g n) r 0 ≡ getD s r 0
+  pub filled-out : (n row : ℕ) → n ≤ row → getD (filled rows value n) row 0 ≡ getD rows row 0
   unfolding filled
-  filled-out zero r h = refl
-  filled-out (suc n) r h = getD-set-other (filled s g n) n r (g n) 0 (λ e. omega arith) ∙ filled-out n r (omega arith)
+  filled-out zero row h = refl
+  filled-out (suc n) row h = getD-set-other (filled rows value n) n row (value n) 0 (λ e. omega arith) ∙ filled-out n row (omega arith)
 
 -- No row of zeros has a digit.
-pub has-zeros : (n r k : ℕ) → has (replicate n 0) r k ≡ false
+pub has-zeros : (n row column : ℕ) → has (replicate n 0) row column ≡ false
 unfolding has
-has-zeros n r k = rw zeros-at (digit-zero k)
+has-zeros n row column = rw zeros-at (digit-zero column)
 
-module _ (m : List ℕ) (i : ℕ) (s : List ℕ) where
-  pub length-written : (n : ℕ) → length (written m i s n) ≡ length m
+module _ (m : List ℕ) (i : ℕ) (rows : List ℕ) where
+  pub length-written : (n : ℕ) → length (written m i rows n) ≡ length m
   unfolding written
   length-written zero = refl
-  length-written (suc n) = length-set (written m i s n) (i + n) (getD s n 0) ∙ length-written n
+  length-written (suc n) = length-set (written m i rows n) (i + n) (getD rows n 0) ∙ length-written n
 
-  pub written-none : m ≡ written m i s 0
+  pub written-none : m ≡ written m i rows 0
   unfolding written
   written-none = refl
 
-  pub written-more : (n : ℕ) (q : List ℕ) → q ≡ written m i s n → set q (i + n) (getD s n 0) ≡ written m i s (n + 1)
+  pub written-more : (n : ℕ) (then : List ℕ) → then ≡ written m i rows n → set then (i + n) (getD rows n 0) ≡ written m i rows (n + 1)
   unfolding written
-  written-more n q e = rw (add-one, written) (rw e)
+  written-more n then e = rw (add-one, written) (rw e)
 
-  pub written-in : (n r : ℕ) → i + n ≤ length m → r < n → getD (written m i s n) (i + r) 0 ≡ getD s r 0
+  pub written-in : (n row : ℕ) → i + n ≤ length m → row < n → getD (written m i rows n) (i + row) 0 ≡ getD rows row 0
   unfolding written
-  written-in zero r h l = absurd (omega arith)
-  written-in (suc n) r h l =
-      ⊎-elim same (λ (e : r < n). other e (written-in n r (omega arith) e)) (eq-or-lt-of-le (omega arith))
+  written-in zero row h l = absurd (omega arith)
+  written-in (suc n) row h l =
+      ⊎-elim same (λ (e : row < n). other e (written-in n row (omega arith) e)) (eq-or-lt-of-le (omega arith))
     where
-      same : r ≡ n → getD (set (written m i s n) (i + n) (getD s n 0)) (i + r) 0 ≡ getD s r 0
-      same e = rw e (getD-set-same (written m i s n) (i + n) (getD s n 0) 0 (omega (arith, length-written n)))
+      same : row ≡ n → getD (set (written m i rows n) (i + n) (getD rows n 0)) (i + row) 0 ≡ getD rows row 0
+      same e = rw e (getD-set-same (written m i rows n) (i + n) (getD rows n 0) 0 (omega (arith, length-written n)))
 
-      other : r < n → getD (written m i s n) (i + r) 0 ≡ getD s r 0 →
-          getD (set (written m i s n) (i + n) (getD s n 0)) (i + r) 0 ≡ getD s r 0
-      other e ih = getD-set-other (written m i s n) (i + n) (i + r) (getD s n 0) 0 (λ q. omega arith) ∙ ih
+      other : row < n → getD (written m i rows n) (i + row) 0 ≡ getD rows row 0 →
+          getD (set (written m i rows n) (i + n) (getD rows n 0)) (i + row) 0 ≡ getD rows row 0
+      other e ih = getD-set-other (written m i rows n) (i + n) (i + row) (getD rows n 0) 0 (λ q. omega arith) ∙ ih
 
-  pub written-out : (n r : ℕ) → (r < i) ⊎ (i + n ≤ r) → getD (written m i s n) r 0 ≡ getD m r 0
+  pub written-out : (n j : ℕ) → (j < i) ⊎ (i + n ≤ j) → getD (written m i rows n) j 0 ≡ getD m j 0
   unfolding written
-  written-out zero r h = refl
-  written-out (suc n) r h =
-      getD-set-other (written m i s n) (i + n) r (getD s n 0) 0
-      (λ e. ⊎-elim (λ (l : r < i). omega arith) (λ (l : i + suc n ≤ r). omega arith) h)
-      ∙ written-out n r (⊎-elim (λ (l : r < i). inl l) (λ (l : i + suc n ≤ r). inr (omega arith)) h)
+  written-out zero j h = refl
+  written-out (suc n) j h =
+      getD-set-other (written m i rows n) (i + n) j (getD rows n 0) 0
+      (λ e. ⊎-elim (λ (l : j < i). omega arith) (λ (l : i + suc n ≤ j). omega arith) h)
+      ∙ written-out n j (⊎-elim (λ (l : j < i). inl l) (λ (l : i + suc n ≤ j). inr (omega arith)) h)

@@ -5,7 +5,7 @@ use native.Mathlib.Nat.{mod-lt, div-add-mod', mul-comm, mul-add, add-mul, mul-as
 use mathlib.Core.Path.{_≡_, sym, ap, _∙_}
 use lib.Arith.{digits-div}
 
--- The scale d + 1 is at least 2049 and at most 65537.
+-- The scale is at least 2049 and at most 65537.
 pub scale-bounds : (w : ℕ) → 1 ≤ w → w ≤ 32 → (2048 ≤ 65536 / w) × (65536 / w ≤ 65536)
 scale-bounds w h l = (omega (arith, whole, rest, most), omega (arith, whole, least))
   where
@@ -31,52 +31,53 @@ product-small w c h l k = mul-le-mul few most
     most : 65536 / w + 1 ≤ 65537
     most = omega (arith, scale-bounds w h l .1)
 
--- With c = q w + r and 65536 = d w + p the product c (d + 1) is q 65536 and a rest q (w − p) + r (d + 1), which is below 65536.
+-- With c = row * w + column and 65536 = part * w + rest the product c * (part + 1) is row * 65536 and what is left,
+-- row * (w − rest) + column * (part + 1), is below 65536.
 pub scaled : (w c : ℕ) → 1 ≤ w → w ≤ 32 → c < 1024 → c * (65536 / w + 1) / 65536 ≡ c / w
-scaled w c h l k = ap (λ (n : ℕ). n / 65536) product ∙ digits-div q small
+scaled w c h l k = ap (λ (n : ℕ). n / 65536) product ∙ digits-div row small
   where
-    q : ℕ
-    q = c / w
+    row : ℕ
+    row = c / w
 
-    r : ℕ
-    r = c % w
+    column : ℕ
+    column = c % w
 
-    d : ℕ
-    d = 65536 / w
+    part : ℕ
+    part = 65536 / w
 
-    p : ℕ
-    p = 65536 % w
+    rest : ℕ
+    rest = 65536 % w
 
-    whole : d * w + p ≡ 65536
+    whole : part * w + rest ≡ 65536
     whole = div-add-mod' 65536 w
 
-    cell : q * w + r ≡ c
+    cell : row * w + column ≡ c
     cell = div-add-mod' c w
 
-    r-less : r < w
-    r-less = mod-lt c h
+    column-less : column < w
+    column-less = mod-lt c h
 
-    p-less : p < w
-    p-less = mod-lt 65536 h
+    rest-less : rest < w
+    rest-less = mod-lt 65536 h
 
-    over : w * (d + 1) ≡ 65536 + (w - p)
-    over = omega (arith, mul-add w d 1, mul-comm w d, whole, p-less)
+    over : w * (part + 1) ≡ 65536 + (w - rest)
+    over = omega (arith, mul-add w part 1, mul-comm w part, whole, rest-less)
 
-    times : q * w * (d + 1) ≡ q * 65536 + q * (w - p)
-    times = mul-assoc q w (d + 1) ∙ ap (λ (n : ℕ). q * n) over ∙ mul-add q 65536 (w - p)
+    times : row * w * (part + 1) ≡ row * 65536 + row * (w - rest)
+    times = mul-assoc row w (part + 1) ∙ ap (λ (n : ℕ). row * n) over ∙ mul-add row 65536 (w - rest)
 
-    product : c * (d + 1) ≡ q * 65536 + (q * (w - p) + r * (d + 1))
-    product = ap (λ (n : ℕ). n * (d + 1)) (sym cell) ∙ add-mul (q * w) r (d + 1) ∙ omega (arith, times)
+    product : c * (part + 1) ≡ row * 65536 + (row * (w - rest) + column * (part + 1))
+    product = ap (λ (n : ℕ). n * (part + 1)) (sym cell) ∙ add-mul (row * w) column (part + 1) ∙ omega (arith, times)
 
-    below : (r + 1) * (d + 1) ≤ w * (d + 1)
-    below = mul-le-mul-right (d + 1) (omega (arith, r-less))
+    below : (column + 1) * (part + 1) ≤ w * (part + 1)
+    below = mul-le-mul-right (part + 1) (omega (arith, column-less))
 
-    fewer : w - p ≤ w
+    fewer : w - rest ≤ w
     fewer = omega arith
 
-    shrunk : q * (w - p) ≤ q * w
-    shrunk = mul-le-mul-left q fewer
+    shrunk : row * (w - rest) ≤ row * w
+    shrunk = mul-le-mul-left row fewer
 
-    small : q * (w - p) + r * (d + 1) < 65536
+    small : row * (w - rest) + column * (part + 1) < 65536
     small =
-        omega (arith, over, below, add-mul r 1 (d + 1), shrunk, cell, scale-bounds w h l .0)
+        omega (arith, over, below, add-mul column 1 (part + 1), shrunk, cell, scale-bounds w h l .0)

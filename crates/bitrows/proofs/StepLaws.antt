@@ -13,26 +13,28 @@ unfoldable pub before : (ℕ → Bool) → ℕ → Bool
 before p zero = false
 before p (suc n) = p n
 
-digit-left : (x k : ℕ) → k < 32 → digit (x * 2 % 2 ^ 32) k ≡ before (λ j. digit x j) k
+digit-left : (x column : ℕ) → column < 32 → digit (x * 2 % 2 ^ 32) column ≡ before (λ j. digit x j) column
 unfolding before
 digit-left x zero h = digit-double-first x
-digit-left x (suc k) h = digit-double x k h
+digit-left x (suc column) h = digit-double x column h
 
-digit-right : (x k : ℕ) → digit (x / 2) k ≡ digit x (suc k)
+digit-right : (x column : ℕ) → digit (x / 2) column ≡ digit x (suc column)
 unfolding digit
-digit-right x k = refl
+digit-right x column = refl
 
 -- What a step brings to a column from the row above, the row itself and the row below.
 unfoldable pub brought : ℕ → ℕ → ℕ → ℕ → Bool
-brought over here under k = digit here k || before (λ j. digit here j) k || digit here (suc k) || digit over k || digit under k
+brought over here under column =
+    digit here column || before (λ j. digit here j) column || digit here (suc column) || digit over column || digit under column
 
-pub narrow-digit : (over here under mask k : ℕ) → k < 32 →
-    digit (successorRow over here under mask) k ≡ (brought over here under k && digit mask k)
+pub narrow-digit : (over here under mask column : ℕ) → column < 32 →
+    digit (successorRow over here under mask) column ≡ (brought over here under column && digit mask column)
 unfolding successorRow brought
-narrow-digit over here under mask k h = simp (digit-and, digit-or, digit-left here k h, digit-right here k)
+narrow-digit over here under mask column h = simp (digit-and, digit-or, digit-left here column h, digit-right here column)
 
 -- What is left of a mask is in it.
-pub narrow-masked : (over here under mask k : ℕ) → digit (successorRow over here under mask) k ≡ true → digit mask k ≡ true
+pub narrow-masked : (over here under mask column : ℕ) → digit (successorRow over here under mask) column ≡ true → digit mask column ≡ true
 unfolding successorRow
-narrow-masked over here under mask k e =
-    and-snd (digit (bitOr (bitOr (bitOr (bitOr here (here * 2 % 2 ^ 32)) (here / 2)) over) under) k) (digit mask k) (rw digit-and at e)
+narrow-masked over here under mask column e =
+    and-snd (digit (bitOr (bitOr (bitOr (bitOr here (here * 2 % 2 ^ 32)) (here / 2)) over) under) column) (digit mask column)
+    (rw digit-and at e)

@@ -71,20 +71,20 @@ pub fn drop_at(rows: &mut [u32], i: usize, w: usize, scale: usize, cells: usize,
     ensures { λ x. ⌜ now (rows .exit) ≡ droppedAt w cells i c (now (rows .entry)) ⌝ }
 {
     if c < cells {
-        let r = row_of(w, scale, c);
-        drop(rows, i + r, c - r * w);
+        let row = row_of(w, scale, c);
+        drop(rows, i + row, c - row * w);
     }
 }
 
 // Writes the first n of some rows into a table, from row i on.
-pub fn put_rows(table: &mut [u32], i: usize, x: [u32; 32], n: usize)
-    requires { ⌜ (n ≤ 32) × (i + n ≤ length (now table)) ⌝ }
-    ensures { λ r. ⌜ now (table .exit) ≡ written (now (table .entry)) i x n ⌝ }
+pub fn put_rows(table: &mut [u32], i: usize, x: &[u32], n: usize)
+    requires { ⌜ (n ≤ length (now x)) × (i + n ≤ length (now table)) ⌝ }
+    ensures { λ r. ⌜ now (table .exit) ≡ written (now (table .entry)) i (now (x .entry)) n ⌝ }
 {
-    let mut r: usize = 0;
-    while r < n {
-        table[i + r] = x[r];
-        r += 1;
+    let mut row: usize = 0;
+    while row < n {
+        table[i + row] = x[row];
+        row += 1;
     }
 }
 

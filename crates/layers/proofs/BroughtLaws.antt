@@ -19,115 +19,130 @@ use Rattle.layers.proofs.WordLaws.{aboveRow, belowRow, above-says, abov
 use Rattle.layers.proofs.SetLaws.{set-has, set-at}
 use Rattle.layers.proofs.MemberLaws.{near-row, near-column, near-same, before-says, before-holds, Five, five-says, five-holds}
 
-module _ (g : SearchGrid) (s : List ℕ) (a r q : ℕ) (tidy : Tidy g s) (thin : 0 < g .width) (row : r < 32) (column : q < g .width) where
+module _ (g : SearchGrid) (sets : List ℕ) (a row column : ℕ) (tidy : Tidy g sets) (thin : 0 < g .width) (row-low : row < 32)
+    (column-low : column < g .width) where
   -- The rows above, here and below.
   over : ℕ
-  over = aboveRow s a r
+  over = aboveRow sets a row
 
   here : ℕ
-  here = getD s (wordOf a r) 0
+  here = getD sets (wordOf a row) 0
 
   under : ℕ
-  under = belowRow s a r
+  under = belowRow sets a row
 
   -- Some near cell of the set.
   abbrev Came : Type 0
-  Came = (e : ℕ) × (inSet g s a e ≡ true) × (near (g .width) e (r * g .width + q) ≡ true)
+  Came = (c : ℕ) × (inSet g sets a c ≡ true) × (near (g .width) c (row * g .width + column) ≡ true)
 
   -- A digit of a row near by is a cell of the set.
-  cell : (i k : ℕ) → i < 32 → digit (getD s (wordOf a i) 0) k ≡ true → (k < g .width) × (inSet g s a (i * g .width + k) ≡ true)
+  cell : (row′ column′ : ℕ) → row′ < 32 → digit (getD sets (wordOf a row′) 0) column′ ≡ true →
+      (column′ < g .width) × (inSet g sets a (row′ * g .width + column′) ≡ true)
   unfolding has
-  cell i k h e = (tidy .thin (wordOf a i) k e, set-at g s a i k (tidy .thin (wordOf a i) k e) (tidy .rows a i k h e) e)
+  cell row′ column′ h e = (
+    tidy .thin (wordOf a row′) column′ e,
+    set-at g sets a row′ column′ (tidy .thin (wordOf a row′) column′ e) (tidy .rows a row′ column′ h e) e,
+  )
 
-  from-here : digit here q ≡ true → Came
+  from-here : digit here column ≡ true → Came
   unfolding here
-  from-here e = (r * g .width + q, cell r q row e .1, near-same (g .width) (r * g .width + q))
+  from-here e = (row * g .width + column, cell row column row-low e .1, near-same (g .width) (row * g .width + column))
 
-  left-of : (n : ℕ) → q ≡ suc n → digit here n ≡ true → Came
+  left-of : (column′ : ℕ) → column ≡ suc column′ → digit here column′ ≡ true → Came
   unfolding here
-  left-of n h e =
-      let y : (n < g .width) × (inSet g s a (r * g .width + n) ≡ true) = cell r n (omega arith) e in
-      (r * g .width + n, y .1, near-row (g .width) r n q (y .0) column (inr h))
+  left-of column′ h e =
+      let y : (column′ < g .width) × (inSet g sets a (row * g .width + column′) ≡ true) = cell row column′ (omega arith) e in
+      (row * g .width + column′, y .1, near-row (g .width) row column′ column (y .0) column-low (inr h))
 
-  from-left : before (λ j. digit here j) q ≡ true → Came
+  from-left : before (λ j. digit here j) column ≡ true → Came
   from-left e =
-      let x : (n : ℕ) × (q ≡ suc n) × (digit here n ≡ true) = before-says (λ j. digit here j) q e in
+      let x : (column′ : ℕ) × (column ≡ suc column′) × (digit here column′ ≡ true) = before-says (λ j. digit here j) column e in
       left-of (x .0) (x .1) (x .2)
 
-  from-right : digit here (suc q) ≡ true → Came
+  from-right : digit here (suc column) ≡ true → Came
   unfolding here
   from-right e =
-      let y : (suc q < g .width) × (inSet g s a (r * g .width + suc q) ≡ true) = cell r (suc q) (omega arith) e in
-      (r * g .width + suc q, y .1, near-row (g .width) r (suc q) q (y .0) column (inl refl))
+      let y : (suc column < g .width) × (inSet g sets a (row * g .width + suc column) ≡ true) = cell row (suc column) (omega arith) e in
+      (row * g .width + suc column, y .1, near-row (g .width) row (suc column) column (y .0) column-low (inl refl))
 
-  from-under : digit under q ≡ true → Came
+  from-under : digit under column ≡ true → Came
   unfolding under
   from-under e =
-      let x = below-says s a r q row e in
-      (suc r * g .width + q, cell (suc r) q (x .0) (x .1) .1, near-column (g .width) (suc r) r q column (inl refl))
+      let x = below-says sets a row column row-low e in (
+        suc row * g .width + column,
+        cell (suc row) column (x .0) (x .1) .1,
+        near-column (g .width) (suc row) row column column-low (inl refl),
+      )
 
-  from-over : digit over q ≡ true → Came
+  from-over : digit over column ≡ true → Came
   unfolding over
   from-over e =
-      let x = above-says s a r q e in
-      (x .0 * g .width + q, cell (x .0) q (omega (arith, x .1)) (x .2) .1, near-column (g .width) (x .0) r q column (inr (x .1)))
+      let x = above-says sets a row column e in (
+        x .0 * g .width + column,
+        cell (x .0) column (omega (arith, x .1)) (x .2) .1,
+        near-column (g .width) (x .0) row column column-low (inr (x .1)),
+      )
 
   -- What a step brings comes from a near cell.
-  pub brought-says : brought (aboveRow s a r) (getD s (wordOf a r) 0) (belowRow s a r) q ≡ true →
-      (e : ℕ) × (inSet g s a e ≡ true) × (near (g .width) e (r * g .width + q) ≡ true)
+  pub brought-says : brought (aboveRow sets a row) (getD sets (wordOf a row) 0) (belowRow sets a row) column ≡ true →
+      (c : ℕ) × (inSet g sets a c ≡ true) × (near (g .width) c (row * g .width + column) ≡ true)
   unfolding brought over here under
   brought-says e =
       ⊎-elim from-here (⊎-elim from-left (⊎-elim from-right (⊎-elim from-over from-under)))
-      (five-says (digit here q) (before (λ j. digit here j) q) (digit here (suc q)) (digit over q) (digit under q) e)
+      (five-says (digit here column) (before (λ j. digit here j) column) (digit here (suc column)) (digit over column)
+      (digit under column) e)
 
   -- And from every near cell.
-  module _ (e : ℕ) (inset : inSet g s a e ≡ true) (low : e / g .width < 32) where
-    place : ((r * g .width + q) / g .width ≡ r) × ((r * g .width + q) % g .width ≡ q)
-    place = place-same (g .width) (r * g .width + q) r q column refl
+  module _ (c : ℕ) (inset : inSet g sets a c ≡ true) (low : c / g .width < 32) where
+    place : ((row * g .width + column) / g .width ≡ row) × ((row * g .width + column) % g .width ≡ column)
+    place = place-same (g .width) (row * g .width + column) row column column-low refl
 
-    digit-of : (i k : ℕ) → e / g .width ≡ i → e % g .width ≡ k → digit (getD s (wordOf a i) 0) k ≡ true
+    digit-of : (row′ column′ : ℕ) → c / g .width ≡ row′ → c % g .width ≡ column′ → digit (getD sets (wordOf a row′) 0) column′ ≡ true
     unfolding has
-    digit-of i k h l = rw (h, l) at (set-has g s a e inset)
+    digit-of row′ column′ h l = rw (h, l) at (set-has g sets a c inset)
 
-    to-here : r * g .width + q ≡ e → digit here q ≡ true
+    to-here : row * g .width + column ≡ c → digit here column ≡ true
     unfolding here
     to-here h =
-        let p : (e / g .width ≡ r) × (e % g .width ≡ q) = place-same (g .width) e r q column (sym h) in
-        digit-of r q (p .0) (p .1)
+        let p : (c / g .width ≡ row) × (c % g .width ≡ column) = place-same (g .width) c row column column-low (sym h) in
+        digit-of row column (p .0) (p .1)
 
-    -- The sides of cell d = r * w + q at which e is.
-    to-left : e / g .width ≡ (r * g .width + q) / g .width → (r * g .width + q) % g .width ≡ suc (e % g .width) →
-        before (λ j. digit here j) q ≡ true
+    -- The sides of the cell at row and column at which c is.
+    to-left : c / g .width ≡ (row * g .width + column) / g .width → (row * g .width + column) % g .width ≡ suc (c % g .width) →
+        before (λ j. digit here j) column ≡ true
     unfolding here
     to-left h l =
-        before-holds (λ j. digit here j) q (e % g .width) (sym (place .1) ∙ l)
-        (digit-of r (e % g .width) (h ∙ place .0) refl)
+        before-holds (λ j. digit here j) column (c % g .width) (sym (place .1) ∙ l)
+        (digit-of row (c % g .width) (h ∙ place .0) refl)
 
-    to-right : e / g .width ≡ (r * g .width + q) / g .width → e % g .width ≡ suc ((r * g .width + q) % g .width) →
-        digit here (suc q) ≡ true
+    to-right : c / g .width ≡ (row * g .width + column) / g .width → c % g .width ≡ suc ((row * g .width + column) % g .width) →
+        digit here (suc column) ≡ true
     unfolding here
-    to-right h l = digit-of r (suc q) (h ∙ place .0) (l ∙ ap suc (place .1))
+    to-right h l = digit-of row (suc column) (h ∙ place .0) (l ∙ ap suc (place .1))
 
-    to-over : e % g .width ≡ (r * g .width + q) % g .width → (r * g .width + q) / g .width ≡ suc (e / g .width) → digit over q ≡ true
+    to-over : c % g .width ≡ (row * g .width + column) % g .width → (row * g .width + column) / g .width ≡ suc (c / g .width) →
+        digit over column ≡ true
     unfolding over
-    to-over h l = above-holds s a r (e / g .width) q (sym (place .0) ∙ l) (digit-of (e / g .width) q refl (h ∙ place .1))
+    to-over h l = above-holds sets a row (c / g .width) column (sym (place .0) ∙ l) (digit-of (c / g .width) column refl (h ∙ place .1))
 
-    to-under : e % g .width ≡ (r * g .width + q) % g .width → e / g .width ≡ suc ((r * g .width + q) / g .width) → digit under q ≡ true
+    to-under : c % g .width ≡ (row * g .width + column) % g .width → c / g .width ≡ suc ((row * g .width + column) / g .width) →
+        digit under column ≡ true
     unfolding under
     to-under h l =
-        let p : e / g .width ≡ suc r = l ∙ ap suc (place .0) in
-        below-holds s a r q (rw p at low) (digit-of (suc r) q p (h ∙ place .1))
+        let p : c / g .width ≡ suc row = l ∙ ap suc (place .0) in
+        below-holds sets a row column (rw p at low) (digit-of (suc row) column p (h ∙ place .1))
 
-    pub brought-holds : near (g .width) e (r * g .width + q) ≡ true →
-        brought (aboveRow s a r) (getD s (wordOf a r) 0) (belowRow s a r) q ≡ true
+    pub brought-holds : near (g .width) c (row * g .width + column) ≡ true →
+        brought (aboveRow sets a row) (getD sets (wordOf a row) 0) (belowRow sets a row) column ≡ true
     unfolding brought over here under SharesSide Neighbours
     brought-holds n =
-        five-holds (digit here q) (before (λ j. digit here j) q) (digit here (suc q)) (digit over q) (digit under q)
-        (go (near-says (g .width) e (r * g .width + q) n))
+        five-holds (digit here column) (before (λ j. digit here j) column) (digit here (suc column)) (digit over column)
+        (digit under column)
+        (go (near-says (g .width) c (row * g .width + column) n))
       where
-        go : (r * g .width + q ≡ e) ⊎ SharesSide (g .width) e (r * g .width + q) →
-            Five (digit here q ≡ true) (before (λ j. digit here j) q ≡ true) (digit here (suc q) ≡ true) (digit over q ≡ true)
-            (digit under q ≡ true)
+        go : (row * g .width + column ≡ c) ⊎ SharesSide (g .width) c (row * g .width + column) →
+            Five (digit here column ≡ true) (before (λ j. digit here j) column ≡ true) (digit here (suc column) ≡ true)
+            (digit over column ≡ true) (digit under column ≡ true)
         go (inl h) = inl (to-here h)
         go (inr (inl (h, inl l))) = inr (inr (inl (to-right h l)))
         go (inr (inl (h, inr l))) = inr (inl (to-left h l))

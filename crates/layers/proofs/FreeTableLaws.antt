@@ -23,20 +23,20 @@ use Rattle.layers.specs.FreeTable.{FreeBeats, TakenBeats, standsAt, IsFr
 use Rattle.records.proofs.CellLaws.{vacant-cell}
 
 -- What can be stood on among no views is what is free.
-free-stands : (g : SearchGrid) (free m s : List ℕ) (t c : ℕ) → 1 ≤ g .width → g .cells ≤ 32 * g .width →
-    ((r : ℕ) → r < 32 → getD s (wordOf t r) 0 ≡ getD free r 0) → inSet g s t c ≡ standsAt g 0 free m t c
+free-stands : (g : SearchGrid) (free m table : List ℕ) (t c : ℕ) → 1 ≤ g .width → g .cells ≤ 32 * g .width →
+    ((row : ℕ) → row < 32 → getD table (wordOf t row) 0 ≡ getD free row 0) → inSet g table t c ≡ standsAt g 0 free m t c
 unfolding inSet standsAt records every has
-free-stands g free m s t c thin table same =
-    below-same c (g .cells) (has s (wordOf t (c / g .width)) (c % g .width)) (has free (c / g .width) (c % g .width))
+free-stands g free m table t c thin low same =
+    below-same c (g .cells) (has table (wordOf t (c / g .width)) (c % g .width)) (has free (c / g .width) (c % g .width))
     (λ l. rw (same (c / g .width) (place-row (g .width) c thin (omega arith))))
     ∙ sym (and-true (ltb c (g .cells) && has free (c / g .width) (c % g .width)))
 
 -- The free cells at every beat are the free table of no views.
-pub free-table-none : (g : SearchGrid) (free m s : List ℕ) (n : ℕ) → 1 ≤ g .width → g .cells ≤ 32 * g .width → g .horizon < n → n ≤ 64 →
-    FreeBeats free n s → Clean (g .width) (g .cells) free → IsFreeTable g 0 free m s
-free-table-none g free m s n thin table late few beats clean = record {
-  tidy = free-tidy free s n g beats few clean;
-  agrees = λ t c h. free-stands g free m s t c thin table (λ r l. free-shown free s n t r beats (omega arith) l);
+pub free-table-none : (g : SearchGrid) (free m table : List ℕ) (n : ℕ) → 1 ≤ g .width → g .cells ≤ 32 * g .width → g .horizon < n → n ≤ 64 →
+    FreeBeats free n table → Clean (g .width) (g .cells) free → IsFreeTable g 0 free m table
+free-table-none g free m table n thin low late few beats clean = record {
+  tidy = free-tidy free table n g beats few clean;
+  agrees = λ t c h. free-stands g free m table t c thin low (λ row l. free-shown free table n t row beats (omega arith) l);
 }
 
 -- What can be stood on among one more view.
@@ -54,70 +54,71 @@ stands-more g free m j t c =
     here = ltb c (g .cells) && has free (c / g .width) (c % g .width)
 
 -- What is in a set is a cell of the grid.
-set-cell : (g : SearchGrid) (s : List ℕ) (t c : ℕ) → inSet g s t c ≡ true → c < g .cells
+set-cell : (g : SearchGrid) (sets : List ℕ) (t c : ℕ) → inSet g sets t c ≡ true → c < g .cells
 unfolding inSet
-set-cell g s t c e = ltb-true c (g .cells) (and-fst (ltb c (g .cells)) _ e)
+set-cell g sets t c e = ltb-true c (g .cells) (and-fst (ltb c (g .cells)) _ e)
 
 -- The free table of one more view.
-pub free-table-more : (g : SearchGrid) (free m s q : List ℕ) (j : ℕ) → g .width ≤ 32 → g .cells ≤ 32 * g .width → g .horizon ≤ 63 →
-    TakenBeats g m j (g .horizon + 1) s q → IsFreeTable g j free m s → IsFreeTable g (j + 1) free m q
-free-table-more g free m s q j narrow table short gone old = record { tidy = gone .tidy; agrees = agrees }
+pub free-table-more : (g : SearchGrid) (free m table after : List ℕ) (j : ℕ) → g .width ≤ 32 → g .cells ≤ 32 * g .width → g .horizon ≤ 63 →
+    TakenBeats g m j (g .horizon + 1) table after → IsFreeTable g j free m table → IsFreeTable g (j + 1) free m after
+free-table-more g free m table after j narrow low short gone old = record { tidy = gone .tidy; agrees = agrees }
   where
-    agrees : (t c : ℕ) → t ≤ g .horizon → inSet g q t c ≡ standsAt g (j + 1) free m t c
+    agrees : (t c : ℕ) → t ≤ g .horizon → inSet g after t c ≡ standsAt g (j + 1) free m t c
     agrees t c h = rw (add-one, stands-more g free m j t c, ← old .agrees t c h) (same-test _ _ says back)
       where
         vacancy : c < g .cells → (vacant (g .horizon) t c (viewAt m j) ≡ true) ↔ Away m j (suc (g .horizon)) t c
         vacancy l = vacant-cell m j (g .horizon) t c short h (omega arith)
 
-        says : inSet g q t c ≡ true → (inSet g s t c && vacant (g .horizon) t c (viewAt m j)) ≡ true
+        says : inSet g after t c ≡ true → (inSet g table t c && vacant (g .horizon) t c (viewAt m j)) ≡ true
         says e =
             let p = (gone .taken t c h) .0 e in
-            and-both (p .0) ((vacancy (set-cell g s t c (p .0))) .1 (λ u l. p .1 u (omega arith)))
+            and-both (p .0) ((vacancy (set-cell g table t c (p .0))) .1 (λ u l. p .1 u (omega arith)))
 
-        back : (inSet g s t c && vacant (g .horizon) t c (viewAt m j)) ≡ true → inSet g q t c ≡ true
+        back : (inSet g table t c && vacant (g .horizon) t c (viewAt m j)) ≡ true → inSet g after t c ≡ true
         back e =
-            let there = and-fst (inSet g s t c) _ e in
+            let there = and-fst (inSet g table t c) _ e in
             (gone .taken t c h) .1
-            (there, λ u l. (vacancy (set-cell g s t c there)) .0 (and-snd (inSet g s t c) _ e) u (omega arith))
+            (there, λ u l. (vacancy (set-cell g table t c there)) .0 (and-snd (inSet g table t c) _ e) u (omega arith))
 
 -- A view's cell depends on its record alone.
-cell-same : (m q : List ℕ) (j t : ℕ) → ((i : ℕ) → i < 65 * j + 65 → getD m i 0 ≡ getD q i 0) → t < 64 → viewCell m j t ≡ viewCell q j t
+cell-same : (m m′ : List ℕ) (j t : ℕ) → ((i : ℕ) → i < 65 * j + 65 → getD m i 0 ≡ getD m′ i 0) → t < 64 → viewCell m j t ≡ viewCell m′ j t
 unfolding viewCell
-cell-same m q j t same h =
+cell-same m m′ j t same h =
     ap₂ (λ (tag cell : ℕ). elim (eqb tag 2) [ true ↦ cell | false ↦ 65535 ]) (same (65 * j) (omega arith))
     (same (65 * j + 1 + t) (omega arith))
 
 -- A cell is vacant among the first k views as their records say.
-vacant-same : (m q : List ℕ) (k H t c : ℕ) → ((i : ℕ) → i < 65 * k → getD m i 0 ≡ getD q i 0) → H ≤ 63 → t ≤ H → c < 65535 →
-    every (vacant H t c) (records m k) ≡ every (vacant H t c) (records q k)
+vacant-same : (m m′ : List ℕ) (k H t c : ℕ) → ((i : ℕ) → i < 65 * k → getD m i 0 ≡ getD m′ i 0) → H ≤ 63 → t ≤ H → c < 65535 →
+    every (vacant H t c) (records m k) ≡ every (vacant H t c) (records m′ k)
 unfolding every records
-vacant-same m q zero H t c same short h l = refl
-vacant-same m q (suc k) H t c same short h l =
+vacant-same m m′ zero H t c same short h l = refl
+vacant-same m m′ (suc k) H t c same short h l =
     every-more (vacant H t c) m k
-    ∙ rw (here, vacant-same m q k H t c (λ i u. same i (omega arith)) short h l) (sym (every-more (vacant H t c) q k))
+    ∙ rw (here, vacant-same m m′ k H t c (λ i u. same i (omega arith)) short h l) (sym (every-more (vacant H t c) m′ k))
   where
-    cell : (u : ℕ) → u < suc H → viewCell m k u ≡ viewCell q k u
-    cell u b = cell-same m q k u (λ i v. same i (omega arith)) (omega arith)
+    cell : (u : ℕ) → u < suc H → viewCell m k u ≡ viewCell m′ k u
+    cell u b = cell-same m m′ k u (λ i v. same i (omega arith)) (omega arith)
 
-    here : vacant H t c (viewAt m k) ≡ vacant H t c (viewAt q k)
+    here : vacant H t c (viewAt m k) ≡ vacant H t c (viewAt m′ k)
     here =
         same-test _ _
-        (λ e. (vacant-cell q k H t c short h l) .1
+        (λ e. (vacant-cell m′ k H t c short h l) .1
         (λ u b up down p. (vacant-cell m k H t c short h l) .0 e u b up down (p ∙ sym (cell u b))))
-        (λ e. (vacant-cell m k H t c short h l) .1 (λ u b up down p. (vacant-cell q k H t c short h l) .0 e u b up down (p ∙ cell u b)))
+        (λ e. (vacant-cell m k H t c short h l) .1 (λ u b up down p. (vacant-cell m′ k H t c short h l) .0 e u b up down (p ∙ cell u b)))
 
 -- What can be stood on depends on the views' records alone.
-stands-same : (g : SearchGrid) (free m q : List ℕ) (k t c : ℕ) → g .width ≤ 32 → g .cells ≤ 32 * g .width →
-    ((i : ℕ) → i < 65 * k → getD m i 0 ≡ getD q i 0) → g .horizon ≤ 63 → t ≤ g .horizon → standsAt g k free m t c ≡ standsAt g k free q t c
+stands-same : (g : SearchGrid) (free m m′ : List ℕ) (k t c : ℕ) → g .width ≤ 32 → g .cells ≤ 32 * g .width →
+    ((i : ℕ) → i < 65 * k → getD m i 0 ≡ getD m′ i 0) → g .horizon ≤ 63 → t ≤ g .horizon →
+    standsAt g k free m t c ≡ standsAt g k free m′ t c
 unfolding standsAt
-stands-same g free m q k t c narrow table same short h =
+stands-same g free m m′ k t c narrow low same short h =
     inside-same c (g .cells) (has free (c / g .width) (c % g .width)) _ _
-    (λ l. vacant-same m q k (g .horizon) t c same short h (omega arith))
+    (λ l. vacant-same m m′ k (g .horizon) t c same short h (omega arith))
 
 -- The free table among the first k views is the same in any memory with the same records of them.
-pub free-table-same : (g : SearchGrid) (free m q s : List ℕ) (k : ℕ) → g .width ≤ 32 → g .cells ≤ 32 * g .width → g .horizon ≤ 63 →
-    ((i : ℕ) → i < 65 * k → getD m i 0 ≡ getD q i 0) → IsFreeTable g k free m s → IsFreeTable g k free q s
-free-table-same g free m q s k narrow table short same old = record {
+pub free-table-same : (g : SearchGrid) (free m m′ table : List ℕ) (k : ℕ) → g .width ≤ 32 → g .cells ≤ 32 * g .width → g .horizon ≤ 63 →
+    ((i : ℕ) → i < 65 * k → getD m i 0 ≡ getD m′ i 0) → IsFreeTable g k free m table → IsFreeTable g k free m′ table
+free-table-same g free m m′ table k narrow low short same old = record {
   tidy = old .tidy;
-  agrees = λ t c h. old .agrees t c h ∙ stands-same g free m q k t c narrow table same short h;
+  agrees = λ t c h. old .agrees t c h ∙ stands-same g free m m′ k t c narrow low same short h;
 }

@@ -12,19 +12,21 @@ use Rattle.bitrows.proofs.RowsLaws.{place-same}
 use Rattle.bitrows.proofs.StepLaws.{before}
 
 module _ (w : ℕ) where
-  pub near-row : (r k j : ℕ) → k < w → j < w → (k ≡ suc j) ⊎ (j ≡ suc k) → near w (r * w + k) (r * w + j) ≡ true
+  pub near-row : (row column column′ : ℕ) → column < w → column′ < w → (column ≡ suc column′) ⊎ (column′ ≡ suc column) →
+      near w (row * w + column) (row * w + column′) ≡ true
   unfolding SharesSide Neighbours
-  near-row r k j h l e =
-      let p : ((r * w + k) / w ≡ r) × ((r * w + k) % w ≡ k) = place-same w (r * w + k) r k h refl in
-      let q : ((r * w + j) / w ≡ r) × ((r * w + j) % w ≡ j) = place-same w (r * w + j) r j l refl in
-      near-holds w (r * w + k) (r * w + j) (inr (inl (p .0 ∙ sym (q .0), rw (p .1, q .1) e)))
+  near-row row column column′ h l e =
+      let p : ((row * w + column) / w ≡ row) × ((row * w + column) % w ≡ column) = place-same w (row * w + column) row column h refl in
+      let q : ((row * w + column′) / w ≡ row) × ((row * w + column′) % w ≡ column′) = place-same w (row * w + column′) row column′ l refl in
+      near-holds w (row * w + column) (row * w + column′) (inr (inl (p .0 ∙ sym (q .0), rw (p .1, q .1) e)))
 
-  pub near-column : (r i k : ℕ) → k < w → (r ≡ suc i) ⊎ (i ≡ suc r) → near w (r * w + k) (i * w + k) ≡ true
+  pub near-column : (row row′ column : ℕ) → column < w → (row ≡ suc row′) ⊎ (row′ ≡ suc row) →
+      near w (row * w + column) (row′ * w + column) ≡ true
   unfolding SharesSide Neighbours
-  near-column r i k h e =
-      let p : ((r * w + k) / w ≡ r) × ((r * w + k) % w ≡ k) = place-same w (r * w + k) r k h refl in
-      let q : ((i * w + k) / w ≡ i) × ((i * w + k) % w ≡ k) = place-same w (i * w + k) i k h refl in
-      near-holds w (r * w + k) (i * w + k) (inr (inr (p .1 ∙ sym (q .1), rw (p .0, q .0) e)))
+  near-column row row′ column h e =
+      let p : ((row * w + column) / w ≡ row) × ((row * w + column) % w ≡ column) = place-same w (row * w + column) row column h refl in
+      let q : ((row′ * w + column) / w ≡ row′) × ((row′ * w + column) % w ≡ column) = place-same w (row′ * w + column) row′ column h refl in
+      near-holds w (row * w + column) (row′ * w + column) (inr (inr (p .1 ∙ sym (q .1), rw (p .0, q .0) e)))
 
 pub near-turn : (w c d : ℕ) → near w c d ≡ true → near w d c ≡ true
 near-turn w c d e =
@@ -33,16 +35,16 @@ near-turn w c d e =
 pub near-same : (w c : ℕ) → near w c c ≡ true
 near-same w c = near-holds w c c (inl refl)
 
-pub before-says : (p : ℕ → Bool) (k : ℕ) → before p k ≡ true → (n : ℕ) × (k ≡ suc n) × (p n ≡ true)
+pub before-says : (p : ℕ → Bool) (column : ℕ) → before p column ≡ true → (column′ : ℕ) × (column ≡ suc column′) × (p column′ ≡ true)
 unfolding before
 before-says p zero e = true-false-absurd e refl
-before-says p (suc n) e = (n, refl, e)
+before-says p (suc column′) e = (column′, refl, e)
 
-pub before-holds : (p : ℕ → Bool) (k n : ℕ) → k ≡ suc n → p n ≡ true → before p k ≡ true
+pub before-holds : (p : ℕ → Bool) (column column′ : ℕ) → column ≡ suc column′ → p column′ ≡ true → before p column ≡ true
 unfolding before
-before-holds p zero n e h = absurd (omega arith)
-before-holds p (suc k) n e h =
-    let q : k ≡ n = omega arith in
+before-holds p zero column′ e h = absurd (omega arith)
+before-holds p (suc column) column′ e h =
+    let q : column ≡ column′ = omega arith in
     rw q h
 
 -- One of five.

@@ -31,6 +31,6 @@ place-made g c p grid inside row whole left =
     thin = mod-lt c (grid .thin)
 
 -- Whether a cell is in a set, read at its place.
-pub member-made : (g : SearchGrid) (s : List ℕ) (t c : ℕ) (p : Place) (x : Bool) → c < g .cells → PlaceOf g c p →
-    x ≡ has s (wordOf t (p .row)) (p .column) → x ≡ inSet g s t c
-member-made g s t c p x inside at e = e ∙ rw (at .row, at .column) (sym (set-digit g s t c inside))
+pub member-made : (g : SearchGrid) (sets : List ℕ) (t c : ℕ) (p : Place) (x : Bool) → c < g .cells → PlaceOf g c p →
+    x ≡ has sets (wordOf t (p .row)) (p .column) → x ≡ inSet g sets t c
+member-made g sets t c p x inside at e = e ∙ rw (at .row, at .column) (sym (set-digit g sets t c inside))

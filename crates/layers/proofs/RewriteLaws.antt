@@ -10,27 +10,28 @@ use Rattle.bitrows.proofs.FillLaws.{length-written, written-in, written-out, fi
 use Rattle.layers.specs.Table.{Rewritten}
 
 -- The first n of some rows, made as f says and written from row i on.
-pub rewritten-rows : (s x r : List ℕ) (f : ℕ → ℕ) (i n : ℕ) → n ≤ 32 → i + n ≤ length s → x ≡ filled (replicate 32 0) f n →
-    r ≡ written s i x n → Rewritten s f i n r
-rewritten-rows s x r f i n few fits e h =
+pub rewritten-rows : (words rows after : List ℕ) (f : ℕ → ℕ) (i n : ℕ) → n ≤ 32 → i + n ≤ length words →
+    rows ≡ filled (replicate 32 0) f n → after ≡ written words i rows n → Rewritten words f i n after
+rewritten-rows words rows after f i n few fits e h =
     rw (h, e)
     (record {
-      long = length-written s i (filled (replicate 32 0) f n) n;
-      inside = λ j l. written-in s i (filled (replicate 32 0) f n) n j fits l
+      long = length-written words i (filled (replicate 32 0) f n) n;
+      inside = λ j l. written-in words i (filled (replicate 32 0) f n) n j fits l
           ∙ filled-in (replicate 32 0) f n j (omega (arith, length-replicate {A = ℕ} 32 0)) l;
-      outside = λ j l. written-out s i (filled (replicate 32 0) f n) n j l;
+      outside = λ j l. written-out words i (filled (replicate 32 0) f n) n j l;
     })
 
 -- Empty rows.
-pub rewritten-zeros : (s r : List ℕ) (i : ℕ) → i + 32 ≤ length s → r ≡ written s i (replicate 32 0) 32 → Rewritten s (λ j. 0) i 32 r
-rewritten-zeros s r i fits h =
+pub rewritten-zeros : (words after : List ℕ) (i : ℕ) → i + 32 ≤ length words → after ≡ written words i (replicate 32 0) 32 →
+    Rewritten words (λ j. 0) i 32 after
+rewritten-zeros words after i fits h =
     rw h
     (record {
-      long = length-written s i (replicate 32 0) 32;
-      inside = λ j l. written-in s i (replicate 32 0) 32 j fits l ∙ zeros-at 32 j;
-      outside = λ j l. written-out s i (replicate 32 0) 32 j l;
+      long = length-written words i (replicate 32 0) 32;
+      inside = λ j l. written-in words i (replicate 32 0) 32 j fits l ∙ zeros-at 32 j;
+      outside = λ j l. written-out words i (replicate 32 0) 32 j l;
     })
 
 -- No row yet.
-pub rewritten-none : (s : List ℕ) (f : ℕ → ℕ) (i : ℕ) → Rewritten s f i 0 s
-rewritten-none s f i = record { long = refl; inside = λ r l. absurd (omega arith); outside = λ j l. refl }
+pub rewritten-none : (words : List ℕ) (f : ℕ → ℕ) (i : ℕ) → Rewritten words f i 0 words
+rewritten-none words f i = record { long = refl; inside = λ j l. absurd (omega arith); outside = λ j l. refl }

@@ -17,53 +17,53 @@ use Rattle.bitrows.proofs.RowsLaws.{place-same, place-row}
 use Rattle.layers.specs.declared.SearchGrid.{SearchGrid}
 use Rattle.layers.specs.Table.{inSet, Tidy, wordOf}
 
-module _ (g : SearchGrid) (s : List ℕ) where
-  pub set-cell : (t c : ℕ) → inSet g s t c ≡ true → c < g .cells
+module _ (g : SearchGrid) (sets : List ℕ) where
+  pub set-cell : (t c : ℕ) → inSet g sets t c ≡ true → c < g .cells
   unfolding inSet
-  set-cell t c e = ltb-true c (g .cells) (and-fst (ltb c (g .cells)) (has s (wordOf t (c / g .width)) (c % g .width)) e)
+  set-cell t c e = ltb-true c (g .cells) (and-fst (ltb c (g .cells)) (has sets (wordOf t (c / g .width)) (c % g .width)) e)
 
-  pub set-has : (t c : ℕ) → inSet g s t c ≡ true → has s (wordOf t (c / g .width)) (c % g .width) ≡ true
+  pub set-has : (t c : ℕ) → inSet g sets t c ≡ true → has sets (wordOf t (c / g .width)) (c % g .width) ≡ true
   unfolding inSet
-  set-has t c e = and-snd (ltb c (g .cells)) (has s (wordOf t (c / g .width)) (c % g .width)) e
+  set-has t c e = and-snd (ltb c (g .cells)) (has sets (wordOf t (c / g .width)) (c % g .width)) e
 
-  pub set-holds : (t c : ℕ) → c < g .cells → has s (wordOf t (c / g .width)) (c % g .width) ≡ true → inSet g s t c ≡ true
+  pub set-holds : (t c : ℕ) → c < g .cells → has sets (wordOf t (c / g .width)) (c % g .width) ≡ true → inSet g sets t c ≡ true
   unfolding inSet
   set-holds t c h e = and-both (lt-ltb c (g .cells) h) e
 
   -- Within the grid a cell is in the set exactly if its digit is 1.
-  pub set-digit : (t c : ℕ) → c < g .cells → inSet g s t c ≡ has s (wordOf t (c / g .width)) (c % g .width)
+  pub set-digit : (t c : ℕ) → c < g .cells → inSet g sets t c ≡ has sets (wordOf t (c / g .width)) (c % g .width)
   unfolding inSet
   set-digit t c h = rw (lt-ltb c (g .cells) h)
 
   -- By row and column.
-  pub set-at : (t r k : ℕ) → k < g .width → r * g .width + k < g .cells → has s (wordOf t r) k ≡ true →
-      inSet g s t (r * g .width + k) ≡ true
-  set-at t r k h l e =
-      let p : ((r * g .width + k) / g .width ≡ r) × ((r * g .width + k) % g .width ≡ k) =
-      place-same (g .width) (r * g .width + k) r k h refl in
-      set-holds t (r * g .width + k) l (rw (p .0, p .1) e)
+  pub set-at : (t row column : ℕ) → column < g .width → row * g .width + column < g .cells → has sets (wordOf t row) column ≡ true →
+      inSet g sets t (row * g .width + column) ≡ true
+  set-at t row column h l e =
+      let p : ((row * g .width + column) / g .width ≡ row) × ((row * g .width + column) % g .width ≡ column) =
+      place-same (g .width) (row * g .width + column) row column h refl in
+      set-holds t (row * g .width + column) l (rw (p .0, p .1) e)
 
 -- Two tables with the same rows at a beat have the same cells then.
-pub set-same : (g : SearchGrid) (s q : List ℕ) (t c : ℕ) → 1 ≤ g .width → g .cells ≤ 32 * g .width →
-    ((r : ℕ) → r < 32 → getD q (wordOf t r) 0 ≡ getD s (wordOf t r) 0) → inSet g q t c ≡ inSet g s t c
+pub set-same : (g : SearchGrid) (sets after : List ℕ) (t c : ℕ) → 1 ≤ g .width → g .cells ≤ 32 * g .width →
+    ((row : ℕ) → row < 32 → getD after (wordOf t row) 0 ≡ getD sets (wordOf t row) 0) → inSet g after t c ≡ inSet g sets t c
 unfolding inSet has
-set-same g s q t c thin table same = ⊎-elim inside outside (lt-or-le c (g .cells))
+set-same g sets after t c thin low same = ⊎-elim inside outside (lt-or-le c (g .cells))
   where
-    inside : c < g .cells → (ltb c (g .cells) && digit (getD q (wordOf t (c / g .width)) 0) (c % g .width)) ≡
-        (ltb c (g .cells) && digit (getD s (wordOf t (c / g .width)) 0) (c % g .width))
+    inside : c < g .cells → (ltb c (g .cells) && digit (getD after (wordOf t (c / g .width)) 0) (c % g .width)) ≡
+        (ltb c (g .cells) && digit (getD sets (wordOf t (c / g .width)) 0) (c % g .width))
     inside h = rw (same (c / g .width) (place-row (g .width) c thin (omega arith)))
 
-    outside : g .cells ≤ c → (ltb c (g .cells) && digit (getD q (wordOf t (c / g .width)) 0) (c % g .width)) ≡
-        (ltb c (g .cells) && digit (getD s (wordOf t (c / g .width)) 0) (c % g .width))
+    outside : g .cells ≤ c → (ltb c (g .cells) && digit (getD after (wordOf t (c / g .width)) 0) (c % g .width)) ≡
+        (ltb c (g .cells) && digit (getD sets (wordOf t (c / g .width)) 0) (c % g .width))
     outside h = rw (le-ltb c (g .cells) h)
 
 -- A table of empty sets is tidy.
-pub empty-tidy : (g : SearchGrid) (s : List ℕ) → s ≡ replicate 2049 0 → Tidy g s
-empty-tidy g s e =
+pub empty-tidy : (g : SearchGrid) (sets : List ℕ) → sets ≡ replicate 2049 0 → Tidy g sets
+empty-tidy g sets e =
     rw e
     (record {
       long = length-replicate {A = ℕ} 2049 0;
-      thin = λ i k h. true-false-absurd h (has-zeros 2049 i k);
-      rows = λ t r k l h. true-false-absurd h (has-zeros 2049 (wordOf t r) k);
+      thin = λ i column h. true-false-absurd h (has-zeros 2049 i column);
+      rows = λ t row column l h. true-false-absurd h (has-zeros 2049 (wordOf t row) column);
       empty = zeros-at 2049 2048;
     })

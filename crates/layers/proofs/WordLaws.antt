@@ -21,108 +21,114 @@ unfoldable all : (ℕ → Bool) → ℕ → Bool
 all p zero = true
 all p (suc n) = p n && all p n
 
-all-says : (p : ℕ → Bool) (n : ℕ) → all p n ≡ true → (r : ℕ) → r < n → p r ≡ true
+all-says : (p : ℕ → Bool) (n : ℕ) → all p n ≡ true → (i : ℕ) → i < n → p i ≡ true
 unfolding all
-all-says p zero e r l = absurd (omega arith)
-all-says p (suc n) e r l =
-    ⊎-elim (λ (q : r ≡ n). rw q (and-fst (p n) (all p n) e)) (λ (q : r < n). all-says p n (and-snd (p n) (all p n) e) r q)
+all-says p zero e i l = absurd (omega arith)
+all-says p (suc n) e i l =
+    ⊎-elim (λ (q : i ≡ n). rw q (and-fst (p n) (all p n) e)) (λ (q : i < n). all-says p n (and-snd (p n) (all p n) e) i q)
     (eq-or-lt-of-le (omega arith))
 
-pub slot-low : (r : ℕ) → r < 32 → slotOf r < 32
+pub slot-low : (row : ℕ) → row < 32 → slotOf row < 32
 unfolding all slotOf
-slot-low r h = ltb-true (slotOf r) 32 (all-says (λ i. ltb (slotOf i) 32) 32 refl r h)
+slot-low row h = ltb-true (slotOf row) 32 (all-says (λ i. ltb (slotOf i) 32) 32 refl row h)
 
-pub row-of-slot : (r : ℕ) → r < 32 → rowOf (slotOf r) ≡ r
+pub row-of-slot : (row : ℕ) → row < 32 → rowOf (slotOf row) ≡ row
 unfolding all slotOf rowOf
-row-of-slot r h = eqb-true (rowOf (slotOf r)) r (all-says (λ i. eqb (rowOf (slotOf i)) i) 32 refl r h)
+row-of-slot row h = eqb-true (rowOf (slotOf row)) row (all-says (λ i. eqb (rowOf (slotOf i)) i) 32 refl row h)
 
-over-slot : (r : ℕ) → r < 31 → overSlot (slotOf (suc r)) ≡ slotOf r
+over-slot : (row : ℕ) → row < 31 → overSlot (slotOf (suc row)) ≡ slotOf row
 unfolding all slotOf overSlot
-over-slot r h = eqb-true (overSlot (slotOf (suc r))) (slotOf r) (all-says (λ i. eqb (overSlot (slotOf (suc i))) (slotOf i)) 31 refl r h)
+over-slot row h =
+    eqb-true (overSlot (slotOf (suc row))) (slotOf row) (all-says (λ i. eqb (overSlot (slotOf (suc i))) (slotOf i)) 31 refl row h)
 
-under-slot : (r : ℕ) → r < 31 → underSlot (slotOf r) ≡ slotOf (suc r)
+under-slot : (row : ℕ) → row < 31 → underSlot (slotOf row) ≡ slotOf (suc row)
 unfolding all slotOf underSlot
-under-slot r h = eqb-true (underSlot (slotOf r)) (slotOf (suc r)) (all-says (λ i. eqb (underSlot (slotOf i)) (slotOf (suc i))) 31 refl r h)
+under-slot row h =
+    eqb-true (underSlot (slotOf row)) (slotOf (suc row)) (all-says (λ i. eqb (underSlot (slotOf i)) (slotOf (suc i))) 31 refl row h)
 
-pub word-inside : (t r : ℕ) → r < 32 → (t * 32 ≤ wordOf t r) × (wordOf t r < t * 32 + 32)
+pub word-inside : (t row : ℕ) → row < 32 → (t * 32 ≤ wordOf t row) × (wordOf t row < t * 32 + 32)
 unfolding wordOf
-word-inside t r l = (omega arith, omega (arith, slot-low r l))
+word-inside t row l = (omega arith, omega (arith, slot-low row l))
 
-pub word-low : (t r : ℕ) → t < 64 → r < 32 → wordOf t r < 2048
-word-low t r h l = omega (arith, (word-inside t r l) .1)
+pub word-low : (t row : ℕ) → t < 64 → row < 32 → wordOf t row < 2048
+word-low t row h l = omega (arith, (word-inside t row l) .1)
 
 -- One word is one row of one beat.
-pub word-beat : (t u r i : ℕ) → r < 32 → i < 32 → wordOf t r ≡ wordOf u i → t ≡ u
-word-beat t u r i h l e = omega (arith, word-inside t r h, word-inside u i l)
+pub word-beat : (t u row row′ : ℕ) → row < 32 → row′ < 32 → wordOf t row ≡ wordOf u row′ → t ≡ u
+word-beat t u row row′ h l e = omega (arith, word-inside t row h, word-inside u row′ l)
 
-pub word-same : (t u r i : ℕ) → r < 32 → i < 32 → wordOf t r ≡ wordOf u i → r ≡ i
+pub word-same : (t u row row′ : ℕ) → row < 32 → row′ < 32 → wordOf t row ≡ wordOf u row′ → row ≡ row′
 unfolding wordOf
-word-same t u r i h l e = sym (row-of-slot r h) ∙ ap rowOf slot ∙ row-of-slot i l
+word-same t u row row′ h l e = sym (row-of-slot row h) ∙ ap rowOf slot ∙ row-of-slot row′ l
   where
-    slot : slotOf r ≡ slotOf i
-    slot = omega (arith, word-beat t u r i h l e)
+    slot : slotOf row ≡ slotOf row′
+    slot = omega (arith, word-beat t u row row′ h l e)
 
 -- Words of different beats are apart.
-pub word-apart : (t u r : ℕ) → (t ≡ u → ⊥) → r < 32 → (wordOf t r < u * 32) ⊎ (u * 32 + 32 ≤ wordOf t r)
-word-apart t u r apart low = ⊎-elim (λ (l : t < u). inl (omega (arith, inside .1))) after (lt-or-le t u)
+pub word-apart : (t u row : ℕ) → (t ≡ u → ⊥) → row < 32 → (wordOf t row < u * 32) ⊎ (u * 32 + 32 ≤ wordOf t row)
+word-apart t u row apart low = ⊎-elim (λ (l : t < u). inl (omega (arith, inside .1))) after (lt-or-le t u)
   where
-    inside : (t * 32 ≤ wordOf t r) × (wordOf t r < t * 32 + 32)
-    inside = word-inside t r low
+    inside : (t * 32 ≤ wordOf t row) × (wordOf t row < t * 32 + 32)
+    inside = word-inside t row low
 
-    after : u ≤ t → (wordOf t r < u * 32) ⊎ (u * 32 + 32 ≤ wordOf t r)
+    after : u ≤ t → (wordOf t row < u * 32) ⊎ (u * 32 + 32 ≤ wordOf t row)
     after l = inr (⊎-elim (λ (h : u < t). omega (arith, inside .0)) (λ (h : t ≤ u). absurd (apart (omega arith))) (lt-or-le u t))
 
--- The row above row r at a beat, empty above the first; the row below, empty below the last.
+-- The row above a row at a beat, empty above the first; the row below, empty below the last.
 unfoldable pub aboveRow : List ℕ → ℕ → ℕ → ℕ
-aboveRow s t zero = 0
-aboveRow s t (suc r) = getD s (wordOf t r) 0
+aboveRow sets t zero = 0
+aboveRow sets t (suc row) = getD sets (wordOf t row) 0
 
 unfoldable pub belowRow : List ℕ → ℕ → ℕ → ℕ
-belowRow s t r = elim (ltb r 31) [ true ↦ getD s (wordOf t (suc r)) 0 | false ↦ 0 ]
+belowRow sets t row = elim (ltb row 31) [ true ↦ getD sets (wordOf t (suc row)) 0 | false ↦ 0 ]
 
 -- They are the words that a step looks at.
-module _ (s : List ℕ) (t : ℕ) where
-  word-is : (r : ℕ) → r < 32 → wordAt (λ j. getD s (t * 32 + j) 0) (slotOf r) ≡ getD s (wordOf t r) 0
+module _ (sets : List ℕ) (t : ℕ) where
+  word-is : (row : ℕ) → row < 32 → wordAt (λ j. getD sets (t * 32 + j) 0) (slotOf row) ≡ getD sets (wordOf t row) 0
   unfolding wordAt wordOf
-  word-is r h =
-      ap (λ (b : Bool). elim b [ true ↦ getD s (t * 32 + slotOf r) 0 | false ↦ 0 ]) (lt-ltb (slotOf r) 32 (slot-low r h))
+  word-is row h =
+      ap (λ (b : Bool). elim b [ true ↦ getD sets (t * 32 + slotOf row) 0 | false ↦ 0 ]) (lt-ltb (slotOf row) 32 (slot-low row h))
 
-  pub above-word : (r : ℕ) → r < 32 → wordAt (λ j. getD s (t * 32 + j) 0) (overSlot (slotOf r)) ≡ aboveRow s t r
+  pub above-word : (row : ℕ) → row < 32 → wordAt (λ j. getD sets (t * 32 + j) 0) (overSlot (slotOf row)) ≡ aboveRow sets t row
   unfolding wordAt overSlot slotOf aboveRow
   above-word zero h = refl
-  above-word (suc r) h = rw (over-slot r (omega arith)) (word-is r (omega arith))
+  above-word (suc row) h = rw (over-slot row (omega arith)) (word-is row (omega arith))
 
-  below-inner : (r : ℕ) → r < 31 → belowRow s t r ≡ getD s (wordOf t (suc r)) 0
+  below-inner : (row : ℕ) → row < 31 → belowRow sets t row ≡ getD sets (wordOf t (suc row)) 0
   unfolding belowRow
-  below-inner r l = ap (λ (b : Bool). elim b [ true ↦ getD s (wordOf t (suc r)) 0 | false ↦ 0 ]) (lt-ltb r 31 l)
+  below-inner row l = ap (λ (b : Bool). elim b [ true ↦ getD sets (wordOf t (suc row)) 0 | false ↦ 0 ]) (lt-ltb row 31 l)
 
-  below-outer : (r : ℕ) → 31 ≤ r → belowRow s t r ≡ 0
+  below-outer : (row : ℕ) → 31 ≤ row → belowRow sets t row ≡ 0
   unfolding belowRow
-  below-outer r l = ap (λ (b : Bool). elim b [ true ↦ getD s (wordOf t (suc r)) 0 | false ↦ 0 ]) (le-ltb r 31 l)
+  below-outer row l = ap (λ (b : Bool). elim b [ true ↦ getD sets (wordOf t (suc row)) 0 | false ↦ 0 ]) (le-ltb row 31 l)
 
-  below-last : (r : ℕ) → r ≡ 31 → wordAt (λ j. getD s (t * 32 + j) 0) (underSlot (slotOf r)) ≡ belowRow s t r
+  below-last : (row : ℕ) → row ≡ 31 → wordAt (λ j. getD sets (t * 32 + j) 0) (underSlot (slotOf row)) ≡ belowRow sets t row
   unfolding wordAt underSlot slotOf belowRow
-  below-last r e = rw e refl
+  below-last row e = rw e refl
 
-  pub below-word : (r : ℕ) → r < 32 → wordAt (λ j. getD s (t * 32 + j) 0) (underSlot (slotOf r)) ≡ belowRow s t r
-  below-word r h =
-      ⊎-elim (λ (l : r < 31). rw (under-slot r l) (word-is (suc r) (omega arith)) ∙ sym (below-inner r l))
-      (λ (l : 31 ≤ r). below-last r (omega arith)) (lt-or-le r 31)
+  pub below-word : (row : ℕ) → row < 32 → wordAt (λ j. getD sets (t * 32 + j) 0) (underSlot (slotOf row)) ≡ belowRow sets t row
+  below-word row h =
+      ⊎-elim (λ (l : row < 31). rw (under-slot row l) (word-is (suc row) (omega arith)) ∙ sym (below-inner row l))
+      (λ (l : 31 ≤ row). below-last row (omega arith)) (lt-or-le row 31)
 
   -- A digit of the row above or below is a digit of a row.
-  pub above-says : (r k : ℕ) → digit (aboveRow s t r) k ≡ true → (i : ℕ) × (r ≡ suc i) × (digit (getD s (wordOf t i) 0) k ≡ true)
+  pub above-says : (row column : ℕ) → digit (aboveRow sets t row) column ≡ true →
+      (row′ : ℕ) × (row ≡ suc row′) × (digit (getD sets (wordOf t row′) 0) column ≡ true)
   unfolding aboveRow
-  above-says zero k e = true-false-absurd e (digit-zero k)
-  above-says (suc i) k e = (i, refl, e)
+  above-says zero column e = true-false-absurd e (digit-zero column)
+  above-says (suc row′) column e = (row′, refl, e)
 
-  pub above-holds : (r i k : ℕ) → r ≡ suc i → digit (getD s (wordOf t i) 0) k ≡ true → digit (aboveRow s t r) k ≡ true
+  pub above-holds : (row row′ column : ℕ) → row ≡ suc row′ → digit (getD sets (wordOf t row′) 0) column ≡ true →
+      digit (aboveRow sets t row) column ≡ true
   unfolding aboveRow
-  above-holds r i k p e = rw p e
+  above-holds row row′ column p e = rw p e
 
-  pub below-says : (r k : ℕ) → r < 32 → digit (belowRow s t r) k ≡ true → (suc r < 32) × (digit (getD s (wordOf t (suc r)) 0) k ≡ true)
-  below-says r k h e =
-      ⊎-elim (λ (l : r < 31). (omega arith, rw (below-inner r l) at e))
-      (λ (l : 31 ≤ r). true-false-absurd (rw (below-outer r l) at e) (digit-zero k)) (lt-or-le r 31)
+  pub below-says : (row column : ℕ) → row < 32 → digit (belowRow sets t row) column ≡ true →
+      (suc row < 32) × (digit (getD sets (wordOf t (suc row)) 0) column ≡ true)
+  below-says row column h e =
+      ⊎-elim (λ (l : row < 31). (omega arith, rw (below-inner row l) at e))
+      (λ (l : 31 ≤ row). true-false-absurd (rw (below-outer row l) at e) (digit-zero column)) (lt-or-le row 31)
 
-  pub below-holds : (r k : ℕ) → suc r < 32 → digit (getD s (wordOf t (suc r)) 0) k ≡ true → digit (belowRow s t r) k ≡ true
-  below-holds r k l e = rw (below-inner r (omega arith)) e
+  pub below-holds : (row column : ℕ) → suc row < 32 → digit (getD sets (wordOf t (suc row)) 0) column ≡ true →
+      digit (belowRow sets t row) column ≡ true
+  below-holds row column l e = rw (below-inner row (omega arith)) e

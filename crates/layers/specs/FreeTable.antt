@@ -1,17 +1,17 @@
 -- The free table of a search: a table of the cells that can be stood on at each beat, and how the code makes one. A view's cell is taken out at
 -- its beat and at the beats beside it, within 0 to the horizon.
-use Prim.Native.Nat.{ℕ, suc, _+_, _*_, _/_, _%_, _≤_, _<_}
-use mathlib.Core.Bool.{Bool, true, false, _&&_}
+use Prim.Native.Nat.{ℕ, _+_, _*_, _/_, _%_, _≤_, _<_}
+use mathlib.Core.Bool.{Bool, true, _&&_}
 use mathlib.Core.List.{List}
 use mathlib.Core.Logic.{_↔_}
 use mathlib.Core.Path.{_≡_}
 use lib.Dec.{ltb}
 use lib.ListN.{length, getD}
 use Rattle.route.specs.Moves.{vacant, every}
-use Rattle.bitrows.specs.Rows.{has, dropped}
+use Rattle.bitrows.specs.Rows.{has}
 use Rattle.layers.specs.declared.SearchGrid.{SearchGrid}
-use Rattle.records.specs.Records.{records, Away}
-use Rattle.layers.specs.Table.{inSet, Tidy, wordOf, rowOf}
+use Rattle.records.specs.Records.{records, viewCell, Away}
+use Rattle.layers.specs.Table.{inSet, Tidy, rowOf}
 
 -- Cell c can be stood on at beat t: it is in the grid, free, and none of the first k views is there then or at a beat beside t.
 unfoldable pub standsAt : SearchGrid → ℕ → List ℕ → List ℕ → ℕ → ℕ → Bool
@@ -32,22 +32,17 @@ pub record FreeBeats (free : List ℕ) (n : ℕ) (table : List ℕ) : Type 0 whe
   pub shown : (t j : ℕ) → t < n → j < 32 → getD table (t * 32 + j) 0 ≡ getD free (rowOf j) 0
   pub hidden : (i : ℕ) → n * 32 ≤ i → getD table i 0 ≡ 0
 
--- A table without cell c at beat t; a number that is no cell changes nothing.
-unfoldable pub droppedCell : SearchGrid → ℕ → ℕ → List ℕ → List ℕ
-droppedCell g t c table = elim (ltb c (g .cells)) [ true ↦ dropped table (wordOf t (c / g .width)) (c % g .width) | false ↦ table ]
-
--- The table after is the one before without cell x at beat a and the beats beside it.
-pub record TakenCell (g : SearchGrid) (a x : ℕ) (table after : List ℕ) : Type 0 where
+-- The table after is the one before without cell x at the beats from a to before b.
+pub record TakenCell (g : SearchGrid) (a b x : ℕ) (table after : List ℕ) : Type 0 where
   pub tidy : Tidy g after
-  pub taken : (t c : ℕ) → t ≤ g .horizon →
-      (inSet g after t c ≡ true) ↔ ((inSet g table t c ≡ true) × (a ≤ suc t → t ≤ suc a → c ≡ x → ⊥))
+  pub taken : (t c : ℕ) → (inSet g after t c ≡ true) ↔ ((inSet g table t c ≡ true) × (a ≤ t → t < b → c ≡ x → ⊥))
+
+-- View j keeps its cell from beat a through beat h.
+pub record Parked (m : List ℕ) (j a h : ℕ) : Type 0 where
+  pub upto : a ≤ h
+  pub keeps : (t : ℕ) → a ≤ t → t ≤ h → viewCell m j t ≡ viewCell m j h
 
 -- The table after is the one before without the cells of view j at its first n beats, each at its beat and the beats beside it.
 pub record TakenBeats (g : SearchGrid) (m : List ℕ) (j n : ℕ) (table after : List ℕ) : Type 0 where
   pub tidy : Tidy g after
   pub taken : (t c : ℕ) → t ≤ g .horizon → (inSet g after t c ≡ true) ↔ ((inSet g table t c ≡ true) × Away m j n t c)
-
--- Whatever it was out of which the first n beats of view j are taken, in the table after one beat more is.
-pub record BeatMore (g : SearchGrid) (m : List ℕ) (j n : ℕ) (table after : List ℕ) : Type 0 where
-  pub tidy : Tidy g after
-  pub more : (whole : List ℕ) → TakenBeats g m j n whole table → TakenBeats g m j (n + 1) whole after

@@ -3,37 +3,22 @@
 use Prim.Native.Nat.{ℕ, _+_, _-_}
 use mathlib.Core.Bool.{true, false}
 use mathlib.Core.List.{List, [], _∷_}
-use mathlib.Core.Path.{_≡_}
 use lib.Dec.{ltb, eqb}
-use lib.ListN.{length, getD}
+use lib.ListN.{getD}
 use Rattle.bitrows.specs.Rows.{successorRow}
-use Rattle.layers.specs.declared.stripes.Stripes.{Stripes}
-use Rattle.layers.specs.Table.{Rewritten}
 
--- Four words from word i on, as w says them.
+-- Four words from word i on.
 unfoldable pub four : (ℕ → ℕ) → ℕ → List ℕ
-four w i = w i ∷ w (i + 1) ∷ w (i + 2) ∷ w (i + 3) ∷ []
+four words i = words i ∷ words (i + 1) ∷ words (i + 2) ∷ words (i + 3) ∷ []
 
--- The stripes are the 32 words that w says.
-pub record Carries (x : Stripes) (w : ℕ → ℕ) : Type 0 where
-  pub a : x .a ≡ four w 0
-  pub b : x .b ≡ four w 4
-  pub c : x .c ≡ four w 8
-  pub d : x .d ≡ four w 12
-  pub e : x .e ≡ four w 16
-  pub f : x .f ≡ four w 20
-  pub g : x .g ≡ four w 24
-  pub h : x .h ≡ four w 28
+-- 32 words as eight stripes.
+unfoldable pub stripesOf : (ℕ → ℕ) → List (List ℕ)
+stripesOf words =
+    four words 0 ∷ four words 4 ∷ four words 8 ∷ four words 12 ∷ four words 16 ∷ four words 20 ∷ four words 24 ∷ four words 28 ∷ []
 
--- Whatever words stand before word i, q is s with sixteen more, four stripes.
-pub record Joins (at i : ℕ) (a b c d s q : List ℕ) : Type 0 where
-  pub long : length q ≡ length s
-  pub more : (m : List ℕ) (w : ℕ → ℕ) → Rewritten m w at i s → a ≡ four w i → b ≡ four w (i + 4) → c ≡ four w (i + 8) → d ≡ four w (i + 12) →
-      Rewritten m w at (i + 16) q
-
--- What a step brings to lane k of a mask.
+-- What a step brings to lane i of a mask.
 unfoldable pub laneOf : List ℕ → List ℕ → List ℕ → List ℕ → ℕ → ℕ
-laneOf over here under mask k = successorRow (getD over k 0) (getD here k 0) (getD under k 0) (getD mask k 0)
+laneOf over here under mask i = successorRow (getD over i 0) (getD here i 0) (getD under i 0) (getD mask i 0)
 
 -- The four lanes.
 unfoldable pub lanesOf : List ℕ → List ℕ → List ℕ → List ℕ → List ℕ
@@ -49,8 +34,8 @@ underSlot i = elim (ltb i 28) [ true ↦ i + 4 | false ↦ elim (eqb i 31) [ tru
 
 -- Word i of 32, else the empty word.
 unfoldable pub wordAt : (ℕ → ℕ) → ℕ → ℕ
-wordAt w i = elim (ltb i 32) [ true ↦ w i | false ↦ 0 ]
+wordAt words i = elim (ltb i 32) [ true ↦ words i | false ↦ 0 ]
 
--- What a step of the words w brings to word i of the masks.
+-- What a step of the words brings to word i of the masks.
 unfoldable pub stepWord : (ℕ → ℕ) → (ℕ → ℕ) → ℕ → ℕ
-stepWord w masks i = successorRow (wordAt w (overSlot i)) (w i) (wordAt w (underSlot i)) (masks i)
+stepWord words masks i = successorRow (wordAt words (overSlot i)) (words i) (wordAt words (underSlot i)) (masks i)

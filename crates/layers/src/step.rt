@@ -32,8 +32,9 @@ pub fn propagate(sets: &mut [u32], table: &[u32], from: usize, n: usize, back: b
     let mut i: usize = 0;
     while i < n {
         t = next_beat(t, back);
-        x = advance(x, load(table, t * ROWS), none);
-        save(sets, t * ROWS, x);
+        let next = advance(x, load(table, t * ROWS), none);
+        save(sets, t * ROWS, next);
+        x = next;
         i += 1;
     }
 }

@@ -1,26 +1,17 @@
 // The set of one beat as eight stripes of four rows, rows 8 apart side by side: the row above and the row below each of the four stand in the
 // stripes beside theirs, so that one step of a set is four rows at a time, in registers.
 ghost use mathlib.Core.Path.{_≡_};
-ghost use Prim.Native.Nat.{ℕ, _+_, _≤_, _<_};
+ghost use Prim.Native.Nat.{ℕ, _+_, _≤_};
 ghost use lib.ListN.{length, getD};
 ghost use Rattle.bitrows.specs.Rows.{written};
 ghost use Rattle.layers.specs.Table.{Rewritten};
-ghost use Rattle.layers.specs.Stripes.{four, lanesOf, Carries, Joins, stepWord};
+ghost use Rattle.layers.specs.Stripes.{four, stripesOf, lanesOf, stepWord};
 
 // Four rows.
-pub type Stripe = [u32; 4];
+type Stripe = [u32; 4];
 
 // The rows of a beat.
-pub struct Stripes {
-    pub a: Stripe,
-    pub b: Stripe,
-    pub c: Stripe,
-    pub d: Stripe,
-    pub e: Stripe,
-    pub f: Stripe,
-    pub g: Stripe,
-    pub h: Stripe,
-}
+pub type Stripes = [Stripe; 8];
 
 // Four words of a table from word i behind word `at` on.
 fn stripe(table: &[u32], at: usize, i: usize) -> Stripe
@@ -35,16 +26,12 @@ fn stripe(table: &[u32], at: usize, i: usize) -> Stripe
     ]
 }
 
-// Writes four words there.
-fn put_stripe(table: &mut [u32], at: usize, i: usize, x: Stripe)
-    requires { ⌜ (i ≤ 28) × (at + 32 ≤ length (now table)) ⌝ }
-    ensures { λ r. ⌜ now (table .exit) ≡ written (now (table .entry)) (at + i) x 4 ⌝ }
+// Writes four words from word `at` on.
+fn put_stripe(table: &mut [u32], at: usize, x: Stripe)
+    requires { ⌜ at + 4 ≤ length (now table) ⌝ }
+    ensures { λ r. ⌜ now (table .exit) ≡ written (now (table .entry)) at x 4 ⌝ }
 {
-    let mut k: usize = 0;
-    while k < 4 {
-        table[at + i + k] = x[k];
-        k += 1;
-    }
+    bitrows::put_rows(table, at, &x, 4);
 }
 
 // One step of four rows, from those above, themselves and those below, into a mask.
@@ -62,96 +49,48 @@ fn lanes(over: Stripe, here: Stripe, under: Stripe, mask: Stripe) -> Stripe
 // The 32 words from word `at` on.
 pub fn load(table: &[u32], at: usize) -> Stripes
     requires { ⌜ at + 32 ≤ length (now table) ⌝ }
-    ensures { λ r. ⌜ Carries r (λ j. getD (now (table .entry)) (at + j) 0) ⌝ }
+    ensures { λ r. ⌜ r ≡ stripesOf (λ j. getD (now (table .entry)) (at + j) 0) ⌝ }
 {
-    let a = stripe(table, at, 0);
-    let b = stripe(table, at, 4);
-    let c = stripe(table, at, 8);
-    let d = stripe(table, at, 12);
-    let e = stripe(table, at, 16);
-    let f = stripe(table, at, 20);
-    let g = stripe(table, at, 24);
-    let h = stripe(table, at, 28);
-    Stripes {
-        a,
-        b,
-        c,
-        d,
-        e,
-        f,
-        g,
-        h,
-    }
-}
-
-// Writes four stripes from word i behind word `at` on.
-fn put_four(table: &mut [u32], at: usize, i: usize, a: Stripe, b: Stripe, c: Stripe, d: Stripe)
-    requires { ⌜ (i ≤ 16) × (at + 32 ≤ length (now table)) ⌝ }
-    ensures { λ r. ⌜ Joins at i a b c d (now (table .entry)) (now (table .exit)) ⌝ }
-{
-    put_stripe(table, at, i, a);
-    put_stripe(table, at, i + 4, b);
-    put_stripe(table, at, i + 8, c);
-    put_stripe(table, at, i + 12, d);
+    [
+        stripe(table, at, 0),
+        stripe(table, at, 4),
+        stripe(table, at, 8),
+        stripe(table, at, 12),
+        stripe(table, at, 16),
+        stripe(table, at, 20),
+        stripe(table, at, 24),
+        stripe(table, at, 28),
+    ]
 }
 
 // Writes the stripes from word `at` on.
 pub fn save(table: &mut [u32], at: usize, x: Stripes)
     requires { ⌜ at + 32 ≤ length (now table) ⌝ }
-    ensures { λ r. ⌜ ((w : ℕ → ℕ) → Carries x w → Rewritten (now (table .entry)) w at 32 (now (table .exit))) ⌝ }
+    ensures { λ r. ⌜ ((words : ℕ → ℕ) → x ≡ stripesOf words → Rewritten (now (table .entry)) words at 32 (now (table .exit))) ⌝ }
 {
-    let a = x.a;
-    let b = x.b;
-    let c = x.c;
-    let d = x.d;
-    put_four(table, at, 0, a, b, c, d);
-    let e = x.e;
-    let f = x.f;
-    let g = x.g;
-    let h = x.h;
-    put_four(table, at, 16, e, f, g, h);
+    let mut i: usize = 0;
+    while i < 8 {
+        put_stripe(table, at + 4 * i, x[i]);
+        i += 1;
+    }
 }
 
 // One step of a whole set into masks. `none` is the row above the first and below the last, which are empty: were it the number 0 in the
 // code, the compiler would take these two rows out of their stripes.
 pub fn advance(x: Stripes, masks: Stripes, none: u32) -> Stripes
     requires { ⌜ none ≡ 0 ⌝ }
-    ensures { λ r. ⌜ ((w m : ℕ → ℕ) → Carries x w → Carries masks m → Carries r (stepWord w m)) ⌝ }
+    ensures { λ r. ⌜ ((words free : ℕ → ℕ) → x ≡ stripesOf words → masks ≡ stripesOf free → r ≡ stripesOf (stepWord words free)) ⌝ }
 {
-    let a = x.a;
-    let b = x.b;
-    let c = x.c;
-    let d = x.d;
-    let e = x.e;
-    let f = x.f;
-    let g = x.g;
-    let h = x.h;
-    let mask_a = masks.a;
-    let mask_b = masks.b;
-    let mask_c = masks.c;
-    let mask_d = masks.d;
-    let mask_e = masks.e;
-    let mask_f = masks.f;
-    let mask_g = masks.g;
-    let mask_h = masks.h;
-    let above = [none, h[0], h[1], h[2]];
-    let below = [a[1], a[2], a[3], none];
-    let new_a = lanes(above, a, b, mask_a);
-    let new_b = lanes(a, b, c, mask_b);
-    let new_c = lanes(b, c, d, mask_c);
-    let new_d = lanes(c, d, e, mask_d);
-    let new_e = lanes(d, e, f, mask_e);
-    let new_f = lanes(e, f, g, mask_f);
-    let new_g = lanes(f, g, h, mask_g);
-    let new_h = lanes(g, h, below, mask_h);
-    Stripes {
-        a: new_a,
-        b: new_b,
-        c: new_c,
-        d: new_d,
-        e: new_e,
-        f: new_f,
-        g: new_g,
-        h: new_h,
-    }
+    let above = [none, x[7][0], x[7][1], x[7][2]];
+    let below = [x[0][1], x[0][2], x[0][3], none];
+    [
+        lanes(above, x[0], x[1], masks[0]),
+        lanes(x[0], x[1], x[2], masks[1]),
+        lanes(x[1], x[2], x[3], masks[2]),
+        lanes(x[2], x[3], x[4], masks[3]),
+        lanes(x[3], x[4], x[5], masks[4]),
+        lanes(x[4], x[5], x[6], masks[5]),
+        lanes(x[5], x[6], x[7], masks[6]),
+        lanes(x[6], x[7], below, masks[7]),
+    ]
 }

@@ -53,7 +53,8 @@ pub fn put_none(g: SearchGrid, sets: &mut [u32], t: usize)
     ensures only { λ r. ⌜ ChangedAt g (now (sets .entry)) t (now (sets .exit)) ⌝ }
     ensures none { λ r. ⌜ Empty g (now (sets .exit)) t ⌝ }
 {
-    bitrows::put_rows(sets, t * ROWS, [0u32; ROWS], ROWS);
+    let none = [0u32; ROWS];
+    bitrows::put_rows(sets, t * ROWS, &none, ROWS);
 }
 
 // Cell c joins the set of beat t.

@@ -15,10 +15,10 @@ pub record Passing (p : ℕ → Bool) (n : ℕ) : Type 0 where
   pub below : which < n
   pub passes : p which ≡ true
 
--- None of the first k of n passes the test.
-pub record Untold (p : ℕ → Bool) (n k : ℕ) : Type 0 where
-  pub within : k ≤ n
-  pub none : anyOf p k ≡ false
+-- None of the first i of n passes the test.
+pub record Untold (p : ℕ → Bool) (n i : ℕ) : Type 0 where
+  pub within : i ≤ n
+  pub none : anyOf p i ≡ false
 
 module _ (p : ℕ → Bool) where
   pub any-says : (n : ℕ) → anyOf p n ≡ true → Passing p n
@@ -32,11 +32,11 @@ module _ (p : ℕ → Bool) where
           record { which = x .which; below = omega (arith, x .below); passes = x .passes }
       split (inr h) below = record { which = n; below = omega arith; passes = h }
 
-  pub any-holds : (n k : ℕ) → k < n → p k ≡ true → anyOf p n ≡ true
+  pub any-holds : (n i : ℕ) → i < n → p i ≡ true → anyOf p n ≡ true
   unfolding anyOf
-  any-holds zero k l e = absurd (omega arith)
-  any-holds (suc n) k l e =
-      ⊎-elim (λ (h : k ≡ n). or-inr (anyOf p n) (p n) (rw h at e)) (λ (h : k < n). or-inl (anyOf p n) (p n) (any-holds n k h e))
+  any-holds zero i l e = absurd (omega arith)
+  any-holds (suc n) i l e =
+      ⊎-elim (λ (h : i ≡ n). or-inr (anyOf p n) (p n) (rw h at e)) (λ (h : i < n). or-inl (anyOf p n) (p n) (any-holds n i h e))
       (eq-or-lt-of-le (omega arith))
 
   -- Before the first; one more that fails; the first that passes; the end.
@@ -44,13 +44,13 @@ module _ (p : ℕ → Bool) where
   unfolding anyOf
   any-start n = record { within = omega arith; none = refl }
 
-  pub any-stop : {n k : ℕ} → k < n → p k ≡ true → true ≡ anyOf p n
-  any-stop {n} {k} l e = sym (any-holds n k l e)
+  pub any-stop : {n i : ℕ} → i < n → p i ≡ true → true ≡ anyOf p n
+  any-stop {n} {i} l e = sym (any-holds n i l e)
 
-module _ {p : ℕ → Bool} {n k : ℕ} where
-  pub any-more : Untold p n k → k < n → p k ≡ false → Untold p n (k + 1)
+module _ {p : ℕ → Bool} {n i : ℕ} where
+  pub any-more : Untold p n i → i < n → p i ≡ false → Untold p n (i + 1)
   unfolding anyOf
   any-more u l e = record { within = omega arith; none = rw (add-one, u .none, e) refl }
 
-  pub any-end : Untold p n k → n ≤ k → false ≡ anyOf p n
-  any-end u l = let same : k ≡ n = omega (arith, u .within) in sym (u .none) ∙ ap (anyOf p) same
+  pub any-end : Untold p n i → n ≤ i → false ≡ anyOf p n
+  any-end u l = let same : i ≡ n = omega (arith, u .within) in sym (u .none) ∙ ap (anyOf p) same

@@ -28,6 +28,9 @@ module _ (p : ℕ → Bool) where
       cases true e ih = ih
       cases false e ih = ⊎-elim (λ (s : n < a). s) (λ (s : a ≤ n). absurd (true-false-absurd (h n s (omega arith)) e)) (lt-or-le n a)
 
+  pub held-upto : (n : ℕ) → heldFrom p n ≤ n
+  held-upto n = held-least n n (λ t l u. absurd (omega arith))
+
   -- The turns of the loop that looks for it, downwards.
   pub held-below : (n : ℕ) → 0 < n → p (n - 1) ≡ true → heldFrom p n ≡ heldFrom p (n - 1)
   unfolding heldFrom

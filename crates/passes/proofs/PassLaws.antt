@@ -1,94 +1,109 @@
 -- The turns of the passes: one more set that follows from the one beside it.
-use Prim.Native.Nat.{ℕ, _+_, _-_, _≤_, _<_}
+use Prim.Native.Nat.{ℕ, zero, suc, _+_, _-_, _≤_, _<_}
 use native.Mathlib.Omega.{arith}
 use native.Mathlib.Nat.{eq-or-lt-of-le}
+use native.Mathlib.Numerals.{add-one}
 use mathlib.Core.Bool.{Bool, true, false}
 use mathlib.Core.List.{List}
 use mathlib.Core.Logic.{⊎-elim}
-use mathlib.Core.Path.{_≡_, refl, sym, ap, fun-ext, _∙_}
+use mathlib.Core.Path.{_≡_, refl, sym, _∙_}
+use borrow.Author.Tests.{leb-true, le-leb}
 use lib.ListN.{getD}
 use Rattle.laws.proofs.Tests.{lt-or-le, true-false-absurd}
 use Rattle.layers.specs.declared.SearchGrid.{SearchGrid}
 use Rattle.layers.specs.Table.{inSet, Tidy}
 use Rattle.layers.specs.Step.{ChangedAt, Alone, Spread, beatAfter, Swept}
+use Rattle.layers.proofs.MemberLaws.{near-same}
 use Rattle.layers.proofs.SweptLaws.{spread-same}
-use Rattle.passes.specs.Passes.{ForwardReachable, Extended, BackwardReachable, Earliest}
+use Rattle.passes.specs.Passes.{ForwardReachable, BackwardReachable, Earliest}
 use Rattle.passes.specs.declared.docks.Docks.{Docks}
-use Rattle.passes.specs.Docks.{anyOf, arrivableAt, arrivable, EndsAt}
-
--- The sets that the steps from beat n on make, or none.
-pub extended-swept : (g : SearchGrid) (table s q : List ℕ) (n k : ℕ) → Swept g table s n false k q → Extended g table n s (n + k) q
-unfolding beatAfter
-extended-swept g table s q n k x =
-    record { tidy = x .tidy; spreads = spreads; kept = λ t c h. x .kept t c (λ i l e. omega arith) }
-  where
-    spreads : (t : ℕ) → n ≤ t → t < n + k → Spread g table q t (t + 1)
-    spreads t h l =
-        let e : n + (t - n) ≡ t = omega arith in
-        let f : n + (t - n + 1) ≡ t + 1 = omega arith in
-        rw (e, f) at (x .spreads (t - n) (omega arith))
-
-pub extended-none : (g : SearchGrid) (table s : List ℕ) (n : ℕ) → Tidy g s → Extended g table n s n s
-extended-none g table s n tidy = record { tidy = tidy; spreads = λ t h l. absurd (omega arith); kept = λ t c h. refl }
+use Rattle.passes.specs.Docks.{heldFrom, heldAt, Holdable, arrivableAt, arrivable, EndsAt}
+use Rattle.passes.proofs.AnyLaws.{Passing, any-says, any-holds}
+use Rattle.passes.proofs.HoldLaws.{held-says, held-least, held-upto}
+use Rattle.passes.proofs.EndsLaws.{arrivable-says, arrivable-holds}
 
 -- The forward pass: the start alone, then more sets.
-pub reached-none : (g : SearchGrid) (table s q : List ℕ) (start : ℕ) → ChangedAt g s 0 q → Alone g q 0 start → ForwardReachable g table start 0 q
-reached-none g table s q start only alone = record { tidy = only .tidy; begins = alone; spreads = λ t h. absurd (omega arith) }
+pub reached-none : (g : SearchGrid) (table sets after : List ℕ) (start : ℕ) → ChangedAt g sets 0 after → Alone g after 0 start →
+    ForwardReachable g table start 0 after
+reached-none g table sets after start only alone = record { tidy = only .tidy; begins = alone; spreads = λ t h. absurd (omega arith) }
 
-pub reached-more : (g : SearchGrid) (table s q : List ℕ) (start n m : ℕ) → ForwardReachable g table start n s → Extended g table n s m q →
-    ForwardReachable g table start m q
-reached-more g table s q start n m x new =
+pub reached-more : (g : SearchGrid) (table sets after : List ℕ) (start n more : ℕ) → ForwardReachable g table start n sets →
+    Swept g table sets n false more after → ForwardReachable g table start (n + more) after
+unfolding beatAfter
+reached-more g table sets after start n more x new =
     record {
       tidy = new .tidy;
       begins = record {
-        says = λ d e. x .begins .says d (sym (new .kept 0 d (omega arith)) ∙ e);
-        holds = new .kept 0 start (omega arith) ∙ x .begins .holds;
+        says = λ d e. x .begins .says d (sym (kept 0 d (omega arith)) ∙ e);
+        holds = kept 0 start (omega arith) ∙ x .begins .holds;
       };
-      spreads = λ t h. ⊎-elim
-          (λ (l : t < n). spread-same g table s q t (t + 1) (λ c. new .kept t c (omega arith)) (λ c. new .kept (t + 1) c (omega arith))
-          (x .spreads t l)) (λ (l : n ≤ t). new .spreads t l h) (lt-or-le t n);
+      spreads = λ t h. ⊎-elim (λ (l : t < n). spread-same g table sets after t (t + 1) (λ c. kept t c (omega arith))
+          (λ c. kept (t + 1) c (omega arith)) (x .spreads t l)) (λ (l : n ≤ t). spreads t l h) (lt-or-le t n);
     }
+  where
+    kept : (t c : ℕ) → t ≤ n → inSet g after t c ≡ inSet g sets t c
+    kept t c h = new .kept t c (λ i l e. omega arith)
+
+    spreads : (t : ℕ) → n ≤ t → t < n + more → Spread g table after t (t + 1)
+    spreads t h l =
+        let e : n + (t - n) ≡ t = omega arith in
+        let f : n + (t - n + 1) ≡ t + 1 = omega arith in
+        rw (e, f) at (new .spreads (t - n) (omega arith))
 
 -- Fewer beats are reached as well.
-pub reached-fewer : (g : SearchGrid) (table s : List ℕ) (start n m : ℕ) → m ≤ n → ForwardReachable g table start n s → ForwardReachable g table start m s
-reached-fewer g table s start n m h x = record { tidy = x .tidy; begins = x .begins; spreads = λ t l. x .spreads t (omega arith) }
+pub reached-fewer : (g : SearchGrid) (table sets : List ℕ) (start n a : ℕ) → a ≤ n → ForwardReachable g table start n sets →
+    ForwardReachable g table start a sets
+reached-fewer g table sets start n a h x = record { tidy = x .tidy; begins = x .begins; spreads = λ t l. x .spreads t (omega arith) }
 
 -- The backward pass: steps from the docks at beat a down to beat 0.
-pub leading-swept : (g : SearchGrid) (table s q : List ℕ) (ds : Docks) (a : ℕ) → EndsAt g s ds a (ds .count) → Swept g table s a true a q →
-    BackwardReachable g table ds a 0 q
+pub leading-swept : (g : SearchGrid) (table sets after : List ℕ) (ds : Docks) (a : ℕ) → EndsAt g sets ds a (ds .count) →
+    Swept g table sets a true a after → BackwardReachable g table ds a 0 after
 unfolding beatAfter
-leading-swept g table s q ds a ends x =
+leading-swept g table sets after ds a ends x =
     record { tidy = x .tidy; ends = λ c. x .kept a c (λ i l e. omega arith) ∙ ends c; spreads = spreads }
   where
-    spreads : (t : ℕ) → 0 ≤ t → t < a → Spread g table q (t + 1) t
+    spreads : (t : ℕ) → 0 ≤ t → t < a → Spread g table after (t + 1) t
     spreads t h l =
         let e : a - (a - (t + 1)) ≡ t + 1 = omega arith in
         let f : a - (a - (t + 1) + 1) ≡ t = omega arith in
         rw (e, f) at (x .spreads (a - (t + 1)) (omega arith))
 
--- An arrival stays one where the sets stay.
-arrivable-kept : (g : SearchGrid) (s q : List ℕ) (ds : Docks) (t : ℕ) → ((c : ℕ) → inSet g q t c ≡ inSet g s t c) →
-    arrivable g q ds t ≡ arrivable g s ds t
-unfolding arrivable arrivableAt
-arrivable-kept g s q ds t same =
-    ap (λ (p : ℕ → Bool). anyOf p (ds .count)) (fun-ext (λ k. rw (same (getD (ds .cells) k 0))))
+module _ (g : SearchGrid) (table sets : List ℕ) (start n : ℕ) (ds : Docks) (reached : ForwardReachable g table start n sets)
+    (early : n ≤ g .horizon) (free : Holdable g table ds) where
+  -- The beat after an arrival is one, so all after it are.
+  arrival-next : (t : ℕ) → t < n → arrivable g sets ds t ≡ true → arrivable g sets ds (t + 1) ≡ true
+  unfolding arrivable heldAt
+  arrival-next t l e =
+      let p : Passing (arrivableAt g sets ds t) (ds .count) = any-says (arrivableAt g sets ds t) (ds .count) e in
+      let told = arrivable-says g sets ds t (p .which) (p .passes) in
+      let later = le-leb (getD (ds .holds) (p .which) 0) (t + 1) (omega (arith, leb-true (getD (ds .holds) (p .which) 0) t (told .0))) in
+      let d = getD (ds .cells) (p .which) 0 in
+      any-holds (arrivableAt g sets ds (t + 1)) (ds .count) (p .which) (p .below) (arrivable-holds g sets ds (t + 1) (p .which) later
+      (reached .spreads t l .holds d (free (t + 1) (p .which) (p .below) later (omega arith)) (d, told .1, near-same (g .width) d)))
 
--- No beat below n is an arrival.
-abbrev pub NoneBefore : SearchGrid → List ℕ → Docks → ℕ → Type 0
-NoneBefore g s ds n = (b : ℕ) → b < n → arrivable g s ds b ≡ true → ⊥
-
-module _ (g : SearchGrid) (s : List ℕ) (ds : Docks) (n : ℕ) (none : NoneBefore g s ds n) where
-  -- One beat more.
-  none-here : arrivable g s ds n ≡ false → NoneBefore g s ds (n + 1)
-  none-here e b h i =
-      ⊎-elim (λ (u : b ≡ n). true-false-absurd (rw u at i) e) (λ (u : b < n). none b u i) (eq-or-lt-of-le (omega arith))
-
-  pub none-more : (table q : List ℕ) (k m : ℕ) → n ≤ k → Extended g table k s m q → arrivable g s ds n ≡ false → NoneBefore g q ds (n + 1)
-  none-more table q k m l new e b h i = none-here e b h (sym (arrivable-kept g s q ds b (λ c. new .kept b c (omega arith))) ∙ i)
+  arrival-stays : (t u : ℕ) → t ≤ u → u ≤ n → arrivable g sets ds t ≡ true → arrivable g sets ds u ≡ true
+  arrival-stays t zero h l e = let same : t ≡ 0 = omega arith in rw same at e
+  arrival-stays t (suc u) h l e =
+      ⊎-elim (λ (q : t ≡ suc u). rw q at e) (λ (q : t < suc u). rw add-one at (arrival-next u l (arrival-stays t u (omega arith) (omega arith) e)))
+      (eq-or-lt-of-le h)
 
   -- What the pass finds at beat n: nothing, at the last one, or the least arrival.
-  pub found-nothing : (m : ℕ) → n ≡ m → arrivable g s ds n ≡ false → Earliest (arrivable g s ds) (m + 1) (n + 1)
-  found-nothing m q e = record { upto = omega arith; none-before = none-here e; passes = λ h. absurd (omega arith) }
+  pub found-nothing : n ≡ g .horizon → arrivable g sets ds n ≡ false → Earliest (arrivable g sets ds) (g .horizon + 1) (n + 1)
+  found-nothing q e =
+      record {
+        upto = omega arith;
+        none-before = λ b h i. true-false-absurd (arrival-stays b n (omega arith) (omega arith) i) e;
+        passes = λ h. absurd (omega arith);
+      }
 
-  pub found-least : (m : ℕ) → n ≤ m → arrivable g s ds n ≡ true → Earliest (arrivable g s ds) (m + 1) n
-  found-least m h e = record { upto = omega arith; none-before = none; passes = λ l. e }
+  pub found-least : arrivable g sets ds n ≡ true → Earliest (arrivable g sets ds) (g .horizon + 1) (heldFrom (arrivable g sets ds) n)
+  found-least e =
+      record {
+        upto = omega (arith, held-upto p n);
+        none-before = λ b h i. absurd (omega (arith, h, held-least p b n (λ t a u. arrival-stays b t a (omega arith) i)));
+        passes = λ h. ⊎-elim (λ (q : heldFrom p n ≡ n). rw q e)
+            (λ (q : heldFrom p n < n). held-says p (heldFrom p n) n (omega arith) (heldFrom p n) (omega arith) q) (eq-or-lt-of-le (held-upto p n));
+      }
+    where
+      p : ℕ → Bool
+      p = arrivable g sets ds

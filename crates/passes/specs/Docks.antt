@@ -38,9 +38,10 @@ anyOf p (suc n) = anyOf p n || p n
 unfoldable pub heldAt : Docks → ℕ → ℕ → Bool
 heldAt ds t d = leb (getD (ds .holds) d 0) t
 
--- Some dock can be held from beat t on.
-unfoldable pub someHeld : Docks → ℕ → Bool
-someHeld ds t = anyOf (heldAt ds t) (ds .count)
+-- From the beat on from which a dock can be held it is in the free table, through the horizon.
+abbrev pub Holdable : SearchGrid → List ℕ → Docks → Type 0
+Holdable g table ds =
+    (t d : ℕ) → d < ds .count → heldAt ds t d ≡ true → t ≤ g .horizon → inSet g table t (getD (ds .cells) d 0) ≡ true
 
 -- Dock d can be held from beat t on and is in the set of beat t.
 unfoldable pub arrivableAt : SearchGrid → List ℕ → Docks → ℕ → ℕ → Bool

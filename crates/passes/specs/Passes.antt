@@ -1,14 +1,18 @@
 -- The passes of a search: forward from the start to the least arrival, backward from there to what leads to a dock. A table of the free table
 -- and the docks are all that they know.
-use Prim.Native.Nat.{ℕ, _+_, _≤_, _<_}
+use Prim.Native.Nat.{ℕ, _+_, _-_, _/_, _%_, _≤_, _<_}
 use mathlib.Core.Bool.{Bool, true}
 use mathlib.Core.List.{List}
 use mathlib.Core.Path.{_≡_}
 use Rattle.layers.specs.declared.SearchGrid.{SearchGrid}
-use Rattle.layers.specs.Table.{Tidy, inSet}
+use Rattle.layers.specs.Table.{Tidy}
 use Rattle.layers.specs.Step.{Alone, Spread}
 use Rattle.passes.specs.declared.docks.Docks.{Docks}
 use Rattle.passes.specs.Docks.{EndsAt}
+
+-- The rows and the columns between two cells.
+unfoldable pub distanceOf : ℕ → ℕ → ℕ → ℕ
+distanceOf w c d = (c / w - d / w) + (d / w - c / w) + ((c % w - d % w) + (d % w - c % w))
 
 -- The sets through beat n are what the start reaches in the free table.
 pub record ForwardReachable (g : SearchGrid) (table : List ℕ) (start n : ℕ) (sets : List ℕ) : Type 0 where
@@ -19,12 +23,6 @@ pub record ForwardReachable (g : SearchGrid) (table : List ℕ) (start n : ℕ) 
 -- The same through beat r, or through the horizon where r is past that.
 abbrev pub ForwardReachableTo : SearchGrid → List ℕ → ℕ → ℕ → List ℕ → Type 0
 ForwardReachableTo g table start r sets = (n : ℕ) → n ≤ r → n ≤ g .horizon → ForwardReachable g table start n sets
-
--- The sets after, from beat n through beat m, follow from each other; those through beat n are as before.
-pub record Extended (g : SearchGrid) (table : List ℕ) (n : ℕ) (sets : List ℕ) (m : ℕ) (after : List ℕ) : Type 0 where
-  pub tidy : Tidy g after
-  pub spreads : (t : ℕ) → n ≤ t → t < m → Spread g table after t (t + 1)
-  pub kept : (t c : ℕ) → t ≤ n → inSet g after t c ≡ inSet g sets t c
 
 -- The sets from beat n through beat a are what leads in the free table to a dock that can be held from beat a on.
 pub record BackwardReachable (g : SearchGrid) (table : List ℕ) (ds : Docks) (a n : ℕ) (sets : List ℕ) : Type 0 where

@@ -6,7 +6,7 @@ ghost use lib.Dec.{leb};
 ghost use mathlib.Core.Bool.{_&&_};
 ghost use Rattle.layers.specs.Table.{Grid, Tidy, inSet};
 ghost use Rattle.layers.specs.Step.{ChangedAt};
-ghost use Rattle.passes.specs.Docks.{DocksIn, holdOf, heldDocks, someHeld, arrivable, EndsAt, OneEnd};
+ghost use Rattle.passes.specs.Docks.{DocksIn, holdOf, heldDocks, arrivable, EndsAt, OneEnd};
 use layers::SearchGrid;
 use layers::table::member;
 use layers::table::put_more;
@@ -53,22 +53,6 @@ pub fn hold_docks(g: SearchGrid, table: &[u32], count: usize, cells: Cells) -> D
         cells: cells,
         holds: holds,
     }
-}
-
-// Whether some dock can be held from beat t on.
-pub fn some_held(ds: Docks, t: usize) -> bool
-    requires { ⌜ ds .count ≤ 4 ⌝ }
-    ensures { λ r. ⌜ r ≡ someHeld ds t ⌝ }
-{
-    let n = ds.count;
-    let mut d: usize = 0;
-    while d < n {
-        if ds.holds[d] <= t {
-            return true;
-        }
-        d += 1;
-    }
-    false
 }
 
 // Whether a dock that can be held from beat `hold` on can be held from beat t on, and is in the set of beat t.

@@ -1,59 +1,102 @@
 // The forward pass: from the start to the least arrival that can be held.
-ghost use Prim.Native.Nat.{_+_, _≤_, _<_};
+ghost use mathlib.Core.Path.{_≡_};
+ghost use Prim.Native.Nat.{_+_, _-_, _≤_, _<_};
+ghost use lib.ListN.{length};
 ghost use Rattle.layers.specs.Table.{Grid, Tidy};
-ghost use Rattle.passes.specs.Docks.{DocksIn, arrivable};
-ghost use Rattle.passes.specs.Passes.{ForwardReachableTo, Extended, Earliest};
+ghost use Rattle.passes.specs.Docks.{DocksIn, heldFrom, Holdable, arrivable};
+ghost use Rattle.passes.specs.Passes.{distanceOf, ForwardReachableTo, Earliest};
 use crate::docks::Docks;
 use crate::docks::arrives;
 use layers::SearchGrid;
+use layers::place_of;
 use layers::step::propagate;
 use layers::table::put_alone;
 
-// The sets are made so many beats at a time: a step is quickest where another one follows.
-const STEPS: usize = 8;
+// After the beats to the nearest dock the sets are made so many beats at a time.
+const STEPS: usize = 4;
 
-// The number of beats to make after beat t.
-fn beats_after(t: usize, horizon: usize) -> usize
-    requires { ⌜ (t < horizon) × (horizon ≤ 63) ⌝ }
+// How far two numbers are apart.
+fn gap(a: usize, b: usize) -> usize
+    ensures { λ r. ⌜ r ≡ (a - b) + (b - a) ⌝ }
+{
+    if a < b { b - a } else { a - b }
+}
+
+// The beats from one cell to another where nothing is in the way.
+fn distance(g: SearchGrid, c: usize, d: usize) -> usize
+    requires { ⌜ Grid g × (c < g .cells) × (d < g .cells) ⌝ }
+    ensures { λ r. ⌜ r ≡ distanceOf (g .width) c d ⌝ }
+{
+    let p = place_of(g, c);
+    let q = place_of(g, d);
+    gap(p.row, q.row) + gap(p.column, q.column)
+}
+
+// The beats to the nearest dock, at most to the horizon. What the pass finds does not depend on it.
+fn nearest(g: SearchGrid, start: usize, ds: Docks) -> usize
+    requires { ⌜ Grid g × (start < g .cells) × DocksIn g (ds .count) (ds .cells) ⌝ }
+    ensures { λ r. ⌜ r ≤ g .horizon ⌝ }
+{
+    let n = ds.count;
+    let mut near = g.horizon;
+    let mut d: usize = 0;
+    while d < n {
+        let far = distance(g, start, ds.cells[d] as usize);
+        if far < near {
+            near = far;
+        }
+        d += 1;
+    }
+    near
+}
+
+// The number of beats to make after beat t: to the nearest dock, then a few at a time.
+fn beats_after(t: usize, near: usize, horizon: usize) -> usize
+    requires { ⌜ (t < horizon) × (near ≤ horizon) × (horizon ≤ 63) ⌝ }
     ensures { λ r. ⌜ (1 ≤ r) × (t + r ≤ horizon) ⌝ }
 {
+    if t < near {
+        return near - t;
+    }
     if horizon < t + STEPS {
         return horizon - t;
     }
     STEPS
 }
 
-// Makes the sets through beat t + 1 at least, those through beat `made` being made; the beat through which they are made then.
-fn extend(g: SearchGrid, sets: &mut [u32], table: &[u32], made: usize, t: usize) -> usize
-    requires { ⌜ Grid g × (g .horizon ≤ 63) × (t ≤ made) × (made ≤ g .horizon) × (t < g .horizon) ⌝ }
-    requires { ⌜ Tidy g (now sets) × Tidy g (now table) ⌝ }
-    ensures reach { λ r. ⌜ (t < r) × (r ≤ g .horizon) ⌝ }
-    ensures sets { λ r. ⌜ Extended g (now (table .entry)) made (now (sets .entry)) r (now (sets .exit)) ⌝ }
+// The least beat from which on every beat before n is an arrival; n where the one before it is none.
+fn first_arrival(g: SearchGrid, sets: &[u32], ds: Docks, n: usize) -> usize
+    requires { ⌜ Grid g × (length (now sets) ≡ 2049) × (n ≤ 64) × DocksIn g (ds .count) (ds .cells) ⌝ }
+    ensures { λ r. ⌜ r ≡ heldFrom (arrivable g (now (sets .entry)) ds) n ⌝ }
 {
-    if t < made {
-        return made;
+    let mut t = n;
+    while 0 < t {
+        if !arrives(g, sets, ds, t - 1) {
+            return t;
+        }
+        t -= 1;
     }
-    let n = beats_after(made, g.horizon);
-    propagate(sets, table, made, n, false);
-    made + n
+    0
 }
 
-// The least arrival, or one beat past the horizon where there is none. The sets become what the start reaches in the free table.
+// The least arrival, or one beat past the horizon where there is none. The sets become what the start reaches in the free table. Where a
+// beat is an arrival, so is the one after it: of the sets made together only the last is looked at until it is one.
 pub fn forward(g: SearchGrid, sets: &mut [u32], table: &[u32], start: usize, ds: Docks) -> usize
     requires { ⌜ Grid g × (g .horizon ≤ 63) × (start < g .cells) × DocksIn g (ds .count) (ds .cells) ⌝ }
-    requires { ⌜ Tidy g (now sets) × Tidy g (now table) ⌝ }
+    requires { ⌜ Tidy g (now sets) × Tidy g (now table) × Holdable g (now table) ds ⌝ }
     ensures reached { λ r. ⌜ ForwardReachableTo g (now (table .entry)) start r (now (sets .exit)) ⌝ }
     ensures found { λ r. ⌜ Earliest (arrivable g (now (sets .exit)) ds) (g .horizon + 1) r ⌝ }
 {
     put_alone(g, sets, 0, start);
-    let mut made: usize = 0;
+    let near = nearest(g, start, ds);
     let mut t: usize = 0;
     while !arrives(g, sets, ds, t) {
         if t == g.horizon {
             return t + 1;
         }
-        made = extend(g, sets, table, made, t);
-        t += 1;
+        let n = beats_after(t, near, g.horizon);
+        propagate(sets, table, t, n, false);
+        t += n;
     }
-    t
+    first_arrival(g, sets, ds, t)
 }

@@ -1,12 +1,13 @@
 // The walk along the sets of a table: at each beat the smallest near cell of the next set.
 ghost use mathlib.Core.Path.{_≡_};
 ghost use mathlib.Core.Bool.{_&&_};
-ghost use Prim.Native.Nat.{_+_, _-_, _≤_, _<_};
+ghost use Prim.Native.Nat.{ℕ, _+_, _-_, _≤_, _<_};
 ghost use lib.Dec.{ltb};
 ghost use lib.ListN.{length, replicate};
 ghost use Rattle.bitrows.specs.Rows.{filled, has as Rows·has};
-ghost use Rattle.layers.specs.Table.{Grid, Tidy, wordOf};
-ghost use Rattle.passes.specs.Walk.{nextOf, stepOf, pathOf};
+ghost use Rattle.layers.specs.Table.{Grid, PlaceOf, Tidy, wordOf};
+ghost use Rattle.passes.specs.Walk.{nextOf, pathOf};
+use layers::Place;
 use layers::SearchGrid;
 use layers::place_of;
 use layers::table::ROWS;
@@ -57,57 +58,72 @@ fn has_right(sets: &[u32], t: usize, row: usize, column: usize, w: usize) -> boo
     false
 }
 
-// The smallest near cell of c in the set of beat t; c itself where there is none.
-fn next(g: SearchGrid, sets: &[u32], t: usize, c: usize) -> usize
-    requires { ⌜ Grid g × Tidy g (now sets) × (t < 64) × (c < g .cells) ⌝ }
-    ensures { λ r. ⌜ r ≡ nextOf g (now (sets .entry)) t c ⌝ }
+// The place of the smallest near cell in the set of beat t; the place itself where there is none.
+fn next(g: SearchGrid, sets: &[u32], t: usize, p: Place) -> Place
+    requires { ⌜ Grid g × Tidy g (now sets) × (t < 64) × (p .row < 32) × (p .column < g .width) ⌝ }
+    ensures { λ r. ⌜ ((c : ℕ) → PlaceOf g c p → PlaceOf g (nextOf g (now (sets .entry)) t c) r) ⌝ }
 {
-    let w = g.width;
-    let p = place_of(g, c);
     let row = p.row;
     let column = p.column;
     if has_above(sets, t, row, column) {
-        return c - w;
+        return Place {
+            row: row - 1,
+            column: column,
+        };
     }
     if has_left(sets, t, row, column) {
-        return c - 1;
+        return Place {
+            row: row,
+            column: column - 1,
+        };
     }
     if has_at(sets, t, row, column) {
-        return c;
+        return p;
     }
-    if has_right(sets, t, row, column, w) {
-        return c + 1;
+    if has_right(sets, t, row, column, g.width) {
+        return Place {
+            row: row,
+            column: column + 1,
+        };
     }
     if has_below(sets, t, row, column) {
-        return c + w;
+        return Place {
+            row: row + 1,
+            column: column,
+        };
     }
-    c
+    p
 }
 
-// The cell after cell c at beat t: before beat a the smallest near one of the next set, then c.
-fn follow(g: SearchGrid, sets: &[u32], a: usize, t: usize, c: usize) -> usize
-    requires { ⌜ Grid g × Tidy g (now sets) × (t < 63) × (c < g .cells) ⌝ }
-    ensures { λ r. ⌜ (r ≡ stepOf g (now (sets .entry)) a t c) × (r < g .cells) ⌝ }
+// The cells from the start along the sets through beat a.
+fn along(g: SearchGrid, sets: &[u32], start: usize, a: usize) -> Route
+    requires { ⌜ Grid g × Tidy g (now sets) × (a ≤ 63) × (start < g .cells) ⌝ }
+    ensures { λ r. ⌜ r ≡ filled (replicate 64 0) (pathOf g (now (sets .entry)) start a) (a + 1) ⌝ }
 {
-    if t < a {
-        return next(g, sets, t + 1, c);
+    let w = g.width;
+    let mut r = [0u16; 64];
+    r[0] = start as u16;
+    let mut p = place_of(g, start);
+    let mut t: usize = 0;
+    while t < a {
+        t += 1;
+        p = next(g, sets, t, p);
+        r[t] = (p.row * w + p.column) as u16;
     }
-    c
+    r
 }
 
 // The route from the start along the sets through beat a, where it stays; 0 after the horizon.
 pub fn walk(g: SearchGrid, sets: &[u32], start: usize, a: usize) -> Route
-    requires { ⌜ Grid g × Tidy g (now sets) × (g .horizon ≤ 63) × (start < g .cells) ⌝ }
+    requires { ⌜ Grid g × Tidy g (now sets) × (a ≤ g .horizon) × (g .horizon ≤ 63) × (start < g .cells) ⌝ }
     ensures { λ r. ⌜ r ≡ filled (replicate 64 0) (pathOf g (now (sets .entry)) start a) (g .horizon + 1) ⌝ }
 {
-    let mut r = [0u16; 64];
-    r[0] = start as u16;
-    let mut c = start;
-    let mut t: usize = 0;
+    let mut r = along(g, sets, start, a);
+    let last = r[a];
+    let mut t = a;
     while t < g.horizon {
-        c = follow(g, sets, a, t, c);
         t += 1;
-        r[t] = c as u16;
+        r[t] = last;
     }
     r
 }

@@ -1,8 +1,9 @@
 // The sequential planner of document 01: carriers 1 to n, each best against the answers above it; one with none stays at its start.
 mod tags;
 
+ghost use mathlib.Core.List.{List};
 ghost use mathlib.Core.Path.{_≡_};
-ghost use Prim.Native.Nat.{_+_, _*_, _≤_, _<_};
+ghost use Prim.Native.Nat.{ℕ, _+_, _*_, _-_, _≤_, _<_};
 ghost use lib.ListN.{length};
 ghost use Rattle.floor.specs.Answers.{verdictOf};
 ghost use Rattle.route.specs.Sequential.{sequential};
@@ -17,6 +18,9 @@ ghost use Rattle.planner.specs.Answers.{plannedOutcome, planResult, Plan
 use floor::Checked;
 use floor::Floor;
 use floor::Refusal;
+use layers::free_table;
+use layers::search_grid_of;
+use layers::table;
 use search::Rows;
 pub use tags::tag_of;
 
@@ -39,8 +43,22 @@ pub fn request(f: Floor, walls: &[u16], lent: usize) -> Checked
     floor::check_length(records::SIZE * f.carriers as usize, lent)
 }
 
+// Takes what the last of the first i carriers occupies out of the free table that those above it leave; of no carriers there is none.
+fn take_last(f: Floor, i: u16, table: &mut [u32], shown: &[u16])
+    requires { ⌜ (1 ≤ f .width) × (f .width ≤ 32) × (f .height ≤ 32) × (f .horizon ≤ 63) ⌝ }
+    requires { ⌜ (65 * i ≤ length (now shown)) × Tidy (searchGridOf f) (now table) ⌝ }
+    ensures { λ r. ⌜ ((free : List ℕ) → IsFreeTable (searchGridOf f) (i - 1) free (now (shown .entry)) (now (table .entry)) →
+        IsFreeTable (searchGridOf f) i free (now (shown .entry)) (now (table .exit))) ⌝ }
+{
+    if i == 0 {
+        return;
+    }
+    free_table::take_one(search_grid_of(f), table, shown, i as usize - 1);
+}
+
 // The answer of the carrier with i carriers above it, whose answers stand in front and are shown as they are seen; it is stored behind
-// them, shown as it is seen, and what it occupies is taken out of the free table. The sets are a table to work in.
+// them and shown as it is seen. What the carrier just above occupies is taken out of the free table first, and so nothing after the
+// last carrier. The sets are a table to work in.
 fn plan_one(
     f: Floor,
     free: Rows,
@@ -52,12 +70,13 @@ fn plan_one(
 )
     requires { ⌜ (i < 8) × (65 * i + 65 ≤ length (now answers)) × (65 * i + 65 ≤ length (now shown)) ⌝ }
     requires { ⌜ Searchable f free (i + 1) (now shown) × (records (now shown) i ≡ seen f (records (now answers) i)) ⌝ }
-    requires { ⌜ IsFreeTable (searchGridOf f) i free (now shown) (now table) × Tidy (searchGridOf f) (now sets) ⌝ }
+    requires { ⌜ IsFreeTable (searchGridOf f) (i - 1) free (now shown) (now table) × Tidy (searchGridOf f) (now sets) ⌝ }
     ensures answers { λ r. ⌜ now (answers .exit) ≡ withAnswer f free i (now (answers .entry)) ⌝ }
     ensures shown { λ r. ⌜ records (now (shown .exit)) (i + 1) ≡ seen f (records (now (answers .exit)) (i + 1)) ⌝ }
-    ensures table { λ r. ⌜ IsFreeTable (searchGridOf f) (i + 1) free (now (shown .exit)) (now (table .exit)) ⌝ }
+    ensures table { λ r. ⌜ IsFreeTable (searchGridOf f) i free (now (shown .exit)) (now (table .exit)) ⌝ }
     ensures tidy { λ r. ⌜ Tidy (searchGridOf f) (now (sets .exit)) ⌝ }
 {
+    take_last(f, i, table, shown);
     let found = search::route_in(f, free, table, sets, i + 1, shown);
     let outcome = found.outcome;
     let cells = found.route;
@@ -68,7 +87,6 @@ fn plan_one(
         cells,
     );
     records::store_seen(f, answers, i as usize, shown);
-    search::take_route(f, table, shown, i as usize);
 }
 
 // The carriers in turn, each best against the answers above it, in the free table that these leave.
@@ -77,10 +95,10 @@ fn plan_all(f: Floor, free: Rows, answers: &mut [u16])
     ensures { λ r. ⌜ now (answers .exit) ≡ stored (sequential (respondWith f free) (f .carriers)) (now (answers .entry)) ⌝ }
 {
     let n = f.carriers;
-    let mut table = search::empty_table();
-    search::fill_free_table(f, free, &mut table);
-    let mut sets = search::empty_table();
     let mut shown = records::blank();
+    let mut table = table::empty();
+    free_table::make(search_grid_of(f), 0, &mut table, &free, &shown);
+    let mut sets = table::empty();
     let mut i: u16 = 0;
     while i < n {
         plan_one(f, free, i, &mut table, &mut sets, &mut shown, answers);

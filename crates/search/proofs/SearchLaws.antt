@@ -48,7 +48,7 @@ pub table-scene : (f : Floor) {g : SearchGrid} {k : ℕ} {rows m table : List �
     IsFreeTable (searchGridOf f) k rows m table
 table-scene f q r = rw q at r
 
-pub tidy-scene : (f : Floor) {g : SearchGrid} {s : List ℕ} → g ≡ searchGridOf f → Tidy g s → Tidy (searchGridOf f) s
+pub tidy-scene : (f : Floor) {g : SearchGrid} {sets : List ℕ} → g ≡ searchGridOf f → Tidy g sets → Tidy (searchGridOf f) sets
 tidy-scene f q t = rw q at t
 
 -- What is best in such a free table is the best answer against the views.
@@ -60,8 +60,8 @@ best-views f rows i m table g cells r q at is-table h =
     (rw (q, at) at h) (λ c. has rows (c / f .width) (c % f .width)) (records m (i - 1)) (is-table .agrees)
 
 -- A carrier that can be searched for with some views can be with others.
-pub other-views : {f : Floor} {rows : List ℕ} {i : ℕ} {m q : List ℕ} → Searchable f rows i m → 65 * (i - 1) ≤ length q →
-    Searchable f rows i q
+pub other-views : {f : Floor} {rows : List ℕ} {i : ℕ} {m m′ : List ℕ} → Searchable f rows i m → 65 * (i - 1) ≤ length m′ →
+    Searchable f rows i m′
 other-views s l =
     record {
       width = s .width;
@@ -77,8 +77,8 @@ other-views s l =
     }
 
 -- The search against records as they are seen is the one against the views as they are seen.
-pub shown-best : (f : Floor) (rows : List ℕ) (i : ℕ) (m q : List ℕ) → records q (i - 1) ≡ seen f (records m (i - 1)) →
-    _≡_ {A = Outcome Answer} (answered (best (taskOfRows f rows i) (viewsOf q i)))
+pub shown-best : (f : Floor) (rows : List ℕ) (i : ℕ) (m m′ : List ℕ) → records m′ (i - 1) ≡ seen f (records m (i - 1)) →
+    _≡_ {A = Outcome Answer} (answered (best (taskOfRows f rows i) (viewsOf m′ i)))
     (answered (best (taskOfRows f rows i) (seen f (viewsOf m i))))
 unfolding viewsOf
-shown-best f rows i m q e = ap (λ (vs : List View). answered (best (taskOfRows f rows i) vs)) e
+shown-best f rows i m m′ e = ap (λ (vs : List View). answered (best (taskOfRows f rows i) vs)) e

@@ -7,7 +7,6 @@ use mathlib.Core.Bool.{Bool, true, false}
 use mathlib.Core.List.{List}
 use mathlib.Core.Logic.{⊎-elim}
 use mathlib.Core.Path.{_≡_, refl, sym, _∙_}
-use borrow.Author.Tests.{leb-true, le-leb}
 use lib.ListN.{getD, replicate, length-replicate}
 use Rattle.laws.proofs.Lists.{zeros-at}
 use Rattle.laws.proofs.Tests.{and-both, and-fst, and-snd, false-fails, not-true-is-false}
@@ -25,14 +24,13 @@ use Rattle.layers.specs.Table.{inSet}
 use Rattle.layers.specs.Step.{Beside, Spread}
 use Rattle.layers.proofs.MemberLaws.{near-same, near-turn}
 use Rattle.passes.specs.declared.docks.Docks.{Docks}
-use Rattle.passes.specs.Docks.{holdOf, heldDocks, heldAt, someHeld, arrivableAt, arrivable, endableAt}
+use Rattle.passes.specs.Docks.{heldDocks, heldAt, arrivableAt, arrivable, endableAt}
 use Rattle.passes.specs.Passes.{ForwardReachable, BackwardReachable, Earliest}
 use Rattle.passes.specs.Walk.{nextOf, pathOf}
 use Rattle.passes.proofs.AnyLaws.{Passing, any-says, any-holds}
-use Rattle.passes.proofs.HoldLaws.{held-says, held-least}
-use Rattle.passes.proofs.EndsLaws.{arrivable-says, arrivable-holds, endable-says, endable-holds}
+use Rattle.passes.proofs.EndsLaws.{held-free, free-held, arrivable-says, arrivable-holds, endable-says, endable-holds}
 use Rattle.passes.proofs.NearCells.{first-best}
-use Rattle.passes.proofs.NextLaws.{step-before, step-after}
+use Rattle.passes.proofs.NextLaws.{path-next as walk-next, path-stays as walk-stays}
 use Rattle.search.specs.Seek.{taskIn, Agrees}
 
 module _ (g : SearchGrid) (table : List ℕ) (start count : ℕ) (cells : List ℕ) (free : ℕ → Bool) (vs : List View)
@@ -66,33 +64,18 @@ module _ (g : SearchGrid) (table : List ℕ) (start count : ℕ) (cells : List �
     unfolding startClear
     start-shut e = start-taken-best task vs short (sym (agrees 0 start (omega arith)) ∙ e)
 
-    -- The beat from which dock k can be held.
-    hold-at : (k : ℕ) → k < count → getD (ds .holds) k 0 ≡ holdOf g table (getD cells k 0)
-    unfolding heldDocks
-    hold-at k h =
-        filled-in (replicate 4 0) (λ j. holdOf g table (getD cells j 0)) count k (omega (arith, length-replicate {A = ℕ} 4 0)) h
-
-    -- Dock k can be held from beat t on exactly if it is in the free table from then on.
-    held-free : (t k : ℕ) → k < count → heldAt ds t k ≡ true → (u : ℕ) → t ≤ u → u ≤ g .horizon → inSet g table u (getD cells k 0) ≡ true
-    unfolding heldAt holdOf
-    held-free t k h e u l b =
-        held-says (λ v. inSet g table v (getD cells k 0)) t (g .horizon + 1)
-        (omega (arith, hold-at k h, leb-true (getD (ds .holds) k 0) t e)) u l (omega arith)
-
-    free-held : (t k : ℕ) → k < count → ((u : ℕ) → t ≤ u → u ≤ g .horizon → inSet g table u (getD cells k 0) ≡ true) → heldAt ds t k ≡ true
-    unfolding heldAt holdOf
-    free-held t k h f =
-        le-leb (getD (ds .holds) k 0) t
-        (omega (arith, hold-at k h, held-least (λ v. inSet g table v (getD cells k 0)) t (g .horizon + 1) (λ u l b. f u l (omega arith))))
-
-    -- No dock can be held at the horizon.
-    pub docks-shut : someHeld ds (g .horizon) ≡ false → best (taskIn g start (among cells count) free) vs ≡ none
-    unfolding someHeld heldDocks
-    docks-shut e = docks-shut-best task vs short (λ d h. sym (agrees (g .horizon) d (omega arith)) ∙ shut d (among-place cells d count h))
+    -- No dock is in the free table at the horizon.
+    pub docks-shut : arrivable g table ds (g .horizon) ≡ false → best (taskIn g start (among cells count) free) vs ≡ none
+    unfolding arrivable heldDocks
+    docks-shut e = docks-shut-best task vs short (λ c h. sym (agrees (g .horizon) c (omega arith)) ∙ shut c (among-place cells c count h))
       where
-        shut : (d : ℕ) → (k : ℕ) × (k < count) × (getD cells k 0 ≡ d) → inSet g table (g .horizon) d ≡ false
-        shut d (k, l, q) = not-true-is-false (inSet g table (g .horizon) d) (λ i. false-fails e (any-holds (heldAt ds (g .horizon)) count k l
-            (free-held (g .horizon) k l (λ u a b. let same : u ≡ g .horizon = omega arith in rw (same, q) i))))
+        shut : (c : ℕ) → (d : ℕ) × (d < count) × (getD cells d 0 ≡ c) → inSet g table (g .horizon) c ≡ false
+        shut c (d, l, q) =
+            not-true-is-false (inSet g table (g .horizon) c) (λ i.
+            let here : inSet g table (g .horizon) (getD cells d 0) ≡ true = rw q i in
+            false-fails e (any-holds (arrivableAt g table ds (g .horizon)) count d l
+            (arrivable-holds g table ds (g .horizon) d
+            (free-held g table count cells few (g .horizon) d l (λ u a b. let same : u ≡ g .horizon = omega arith in rw same here)) here)))
 
     -- A dock of those that can be held from beat t on is an ending in the free table, and the other way round.
     end-dock : (t c : ℕ) → t ≤ g .horizon → Passing (endableAt ds t c) count → Ending ok (among cells count) (g .horizon) t c
@@ -104,7 +87,7 @@ module _ (g : SearchGrid) (table : List ℕ) (start count : ℕ) (cells : List �
         told = endable-says ds t c (p .which) (p .passes)
 
         stays : (u : ℕ) → t ≤ u → u ≤ g .horizon → inSet g table u c ≡ true
-        stays u l b = rw (told .1) (held-free t (p .which) (p .below) (told .0) u l b)
+        stays u l b = rw (told .1) (held-free g table count cells few t (p .which) (p .below) (told .0) u l b)
 
         ending : Ending ok (among cells count) (g .horizon) t c
         ending =
@@ -122,19 +105,20 @@ module _ (g : SearchGrid) (table : List ℕ) (start count : ℕ) (cells : List �
         stays (suc u) l b =
             ⊎-elim (λ (q : t ≡ suc u). rw q at i) (λ (q : t < suc u). move-free u c c b (e .holds u (omega arith) b)) (eq-or-lt-of-le l)
 
-        at : (k : ℕ) × (k < count) × (getD cells k 0 ≡ c) → Passing (endableAt ds t c) count
-        at (k, l, q) =
+        at : (d : ℕ) × (d < count) × (getD cells d 0 ≡ c) → Passing (endableAt ds t c) count
+        at (d, l, q) =
             record {
-              which = k;
+              which = d;
               below = l;
-              passes = endable-holds ds t c k (free-held t k l (λ u a b. rw q (stays u a b))) (sym q);
+              passes = endable-holds ds t c d (free-held g table count cells few t d l (λ u a b. rw q (stays u a b))) (sym q);
             }
 
-    module _ (n : ℕ) (s : List ℕ) (early : n ≤ g .horizon) (reached : ForwardReachable g table start n s) (clear : inSet g table 0 start ≡ true) where
+    module _ (n : ℕ) (sets : List ℕ) (early : n ≤ g .horizon) (reached : ForwardReachable g table start n sets)
+        (clear : inSet g table 0 start ≡ true) where
       F : Sets
-      F = inSet g s
+      F = inSet g sets
 
-      next : (t : ℕ) → t < n → Spread g table s t (suc t)
+      next : (t : ℕ) → t < n → Spread g table sets t (suc t)
       next t h = rw add-one at (reached .spreads t h)
 
       -- The sets are those that the start reaches.
@@ -150,36 +134,36 @@ module _ (g : SearchGrid) (table : List ℕ) (start count : ℕ) (cells : List �
             );
           }
         where
-          came : (t d : ℕ) → t < n → (inSet g table (suc t) d ≡ true) × Beside g s t d → Came ok F t d
+          came : (t d : ℕ) → t < n → (inSet g table (suc t) d ≡ true) × Beside g sets t d → Came ok F t d
           came t d h (r, (c, i, m)) = (c, i, move t c d (omega arith) m r)
 
       -- What is reached is in the free table.
-      forward-free : (t c : ℕ) → t ≤ n → inSet g s t c ≡ true → inSet g table t c ≡ true
+      forward-free : (t c : ℕ) → t ≤ n → inSet g sets t c ≡ true → inSet g table t c ≡ true
       forward-free zero c h e = rw (reached .begins .says c e) clear
       forward-free (suc t) c h e = next t h .says c e .0
 
       -- A beat is an arrival exactly if the search finds it to be one.
-      arrives : (t : ℕ) → t ≤ g .horizon → arrivable g s ds t ≡ true → Reaches ok (among cells count) (g .horizon) F t
+      arrives : (t : ℕ) → t ≤ g .horizon → arrivable g sets ds t ≡ true → Reaches ok (among cells count) (g .horizon) F t
       unfolding F arrivable heldDocks
       arrives t h e =
-          let p : Passing (arrivableAt g s ds t) count = any-says (arrivableAt g s ds t) count e in
-          let told = arrivable-says g s ds t (p .which) (p .passes) in
+          let p : Passing (arrivableAt g sets ds t) count = any-says (arrivableAt g sets ds t) count e in
+          let told = arrivable-says g sets ds t (p .which) (p .passes) in
           let d = getD cells (p .which) 0 in
           let end : Passing (endableAt ds t d) count =
           record { which = p .which; below = p .below; passes = endable-holds ds t d (p .which) (told .0) refl } in
           record { where-to = d; reached = told .1; ending = (end-dock t d h end) .0 }
 
-      found-arrival : (t : ℕ) → t ≤ n → Reaches ok (among cells count) (g .horizon) F t → arrivable g s ds t ≡ true
+      found-arrival : (t : ℕ) → t ≤ n → Reaches ok (among cells count) (g .horizon) F t → arrivable g sets ds t ≡ true
       unfolding F arrivable heldDocks
       found-arrival t h r =
           let p = dock-end t (r .where-to) (r .ending) (forward-free t (r .where-to) h (r .reached)) in
           let told = endable-says ds t (r .where-to) (p .which) (p .passes) in
-          any-holds (arrivableAt g s ds t) count (p .which) (p .below)
-          (arrivable-holds g s ds t (p .which) (told .0) (rw (told .1) at (r .reached)))
+          any-holds (arrivableAt g sets ds t) count (p .which) (p .below)
+          (arrivable-holds g sets ds t (p .which) (told .0) (rw (told .1) at (r .reached)))
 
       -- No beat through the horizon is an arrival.
-      pub never : (a : ℕ) → g .horizon ≤ n → Earliest (arrivable g s (heldDocks g table count cells)) (g .horizon + 1) a → g .horizon < a →
-          best (taskIn g start (among cells count) free) vs ≡ none
+      pub never : (a : ℕ) → g .horizon ≤ n → Earliest (arrivable g sets (heldDocks g table count cells)) (g .horizon + 1) a →
+          g .horizon < a → best (taskIn g start (among cells count) free) vs ≡ none
       never a q e h =
           not-found-best task vs short F
           (record {
@@ -187,33 +171,33 @@ module _ (g : SearchGrid) (table : List ℕ) (start count : ℕ) (cells : List �
             never = λ b l r. e .none-before b (omega arith) (found-arrival b (omega arith) r);
           })
 
-      module _ (T : List ℕ) (earliest : Earliest (arrivable g s (heldDocks g table count cells)) (g .horizon + 1) n)
-          (leading : BackwardReachable g table (heldDocks g table count cells) n 0 T) where
+      module _ (after : List ℕ) (earliest : Earliest (arrivable g sets (heldDocks g table count cells)) (g .horizon + 1) n)
+          (leading : BackwardReachable g table (heldDocks g table count cells) n 0 after) where
         B : Sets
-        B = inSet g T
+        B = inSet g after
 
         x : ℕ → ℕ
-        x t = pathOf g T start n t
+        x t = pathOf g after start n t
 
         reaches : Reaches ok (among cells count) (g .horizon) F n
         reaches = arrives n early (earliest .passes (omega arith))
 
-        back : (t : ℕ) → t < n → Spread g table T (suc t) t
+        back : (t : ℕ) → t < n → Spread g table after (suc t) t
         back t h = rw add-one at (leading .spreads t (omega arith) h)
 
         -- The set of beat n is the docks that can be held from then on.
-        ends : (c : ℕ) → inSet g T n c ≡ true → Ending ok (among cells count) (g .horizon) n c × (inSet g table n c ≡ true)
+        ends : (c : ℕ) → inSet g after n c ≡ true → Ending ok (among cells count) (g .horizon) n c × (inSet g table n c ≡ true)
         unfolding heldDocks
         ends c e = end-dock n c early (any-says (endableAt ds n c) count (sym (leading .ends c) ∙ e))
 
-        begins : (c : ℕ) → inSet g s n c ≡ true → Ending ok (among cells count) (g .horizon) n c → inSet g T n c ≡ true
+        begins : (c : ℕ) → inSet g sets n c ≡ true → Ending ok (among cells count) (g .horizon) n c → inSet g after n c ≡ true
         unfolding heldDocks
         begins c i e =
             let p = dock-end n c e (forward-free n c (omega arith) i) in
             leading .ends c ∙ any-holds (endableAt ds n c) count (p .which) (p .below) (p .passes)
 
         -- What leads to a dock is in the free table.
-        back-free : (t d : ℕ) → t ≤ n → inSet g T t d ≡ true → inSet g table t d ≡ true
+        back-free : (t d : ℕ) → t ≤ n → inSet g after t d ≡ true → inSet g table t d ≡ true
         back-free t d h e =
             ⊎-elim (λ (q : t ≡ n). rw q ((ends d (rw q at e)) .1)) (λ (l : t < n). back t l .says d e .0) (eq-or-lt-of-le h)
 
@@ -228,23 +212,23 @@ module _ (g : SearchGrid) (table : List ℕ) (start count : ℕ) (cells : List �
                   (d, i, near-turn (g .width) c d (move-near t c d m));
             }
           where
-            leads : (t c : ℕ) → t < n → Beside g T (suc t) c → Leads ok B t c
+            leads : (t c : ℕ) → t < n → Beside g after (suc t) c → Leads ok B t c
             leads t c h (d, i, m) = (d, move t c d (omega arith) (near-turn (g .width) d c m) (back-free (suc t) d h i), i)
 
         -- The walk takes the smallest cell that leads on, and stays once it has arrived.
-        path-next : (t : ℕ) → t < n → x (suc t) ≡ nextOf g T (suc t) (x t)
-        unfolding x pathOf
-        path-next t h = rw add-one at (sym (step-before g T n t (x t) (nextOf g T (t + 1) (x t)) h refl))
+        path-next : (t : ℕ) → t < n → x (suc t) ≡ nextOf g after (suc t) (x t)
+        unfolding x
+        path-next t h = rw add-one at (sym (walk-next g after start n t h))
 
         path-stays : (t : ℕ) → n ≤ t → x (suc t) ≡ x t
-        unfolding x pathOf
-        path-stays t h = sym (step-after g T n t (x t) h)
+        unfolding x
+        path-stays t h = rw add-one at (walk-stays g after start n t h)
 
-        path-takes : (t d : ℕ) → t < n → ok t (x t) d ≡ true → inSet g T (suc t) d ≡ true →
-            (ok t (x t) (x (suc t)) ≡ true) × (inSet g T (suc t) (x (suc t)) ≡ true) × (x (suc t) ≤ d)
+        path-takes : (t d : ℕ) → t < n → ok t (x t) d ≡ true → inSet g after (suc t) d ≡ true →
+            (ok t (x t) (x (suc t)) ≡ true) × (inSet g after (suc t) (x (suc t)) ≡ true) × (x (suc t) ≤ d)
         unfolding nextOf
         path-takes t d h m i =
-            let best = first-best (g .width) (x t) thin (inSet g T (suc t)) d i (move-near t (x t) d m) in
+            let best = first-best (g .width) (x t) thin (inSet g after (suc t)) d i (move-near t (x t) d m) in
             rw (path-next t h) (move t (x t) _ (omega arith) (best .0) (back-free (suc t) _ h (best .1)), best .1, best .2)
 
         r : List ℕ
@@ -287,6 +271,6 @@ module _ (g : SearchGrid) (table : List ℕ) (start count : ℕ) (cells : List �
 
         -- The walk is the best route.
         pub walk-best : best (taskIn g start (among cells count) free) vs
-            ≡ route (filled (replicate 64 0) (pathOf g T start n) (g .horizon + 1))
+            ≡ route (filled (replicate 64 0) (pathOf g after start n) (g .horizon + 1))
         unfolding r x
         walk-best = found-best task vs short F B n r found

@@ -19,17 +19,19 @@ fn grid_rows(w: usize, h: usize) -> Rows
     requires { ⌜ (w ≤ 32) × (h ≤ 32) ⌝ }
     ensures { λ r. ⌜ (r ≡ gridRows w h) × (length r ≡ 32) ⌝ }
 {
-    let row = ones(w);
-    let mut s = [0u32; Floor::MAX_HEIGHT as usize];
-    let mut r: usize = 0;
-    while r < h {
-        s[r] = row;
-        r += 1;
+    let full = ones(w);
+    let mut rows = [0u32; Floor::MAX_HEIGHT as usize];
+    let mut row: usize = 0;
+    while row < h {
+        rows[row] = full;
+        row += 1;
     }
-    s
+    rows
 }
 
-// The free cells of a floor as rows, made once a floor: the grid, and each wall taken out.
+// The free cells of a floor as rows, made once a floor: the grid, and each wall taken out, from both ends at once. Walls rise, so
+// neighbours are mostly in one word, where the second waits for the first; those of the two ends are in different words and wait for
+// nothing. A wall in the middle may be taken out twice, which changes nothing.
 pub fn free_rows(f: Floor, walls: &[u16]) -> Rows
     requires { ⌜ (1 ≤ f .width) × (f .width ≤ 32) × (f .height ≤ 32) ⌝ }
     requires { ⌜ f .walls ≤ length (now walls) ⌝ }
@@ -38,12 +40,15 @@ pub fn free_rows(f: Floor, walls: &[u16]) -> Rows
     let w = f.width as usize;
     let h = f.height as usize;
     let n = f.walls as usize;
+    let cells = w * h;
     let scale = bitrows::scale(w);
-    let mut s = grid_rows(w, h);
+    let mut rows = grid_rows(w, h);
+    let half = (n + 1) / 2;
     let mut j: usize = 0;
-    while j < n {
-        bitrows::drop_at(&mut s, 0, w, scale, w * h, walls[j] as usize);
+    while j < half {
+        bitrows::drop_at(&mut rows, 0, w, scale, cells, walls[j] as usize);
+        bitrows::drop_at(&mut rows, 0, w, scale, cells, walls[n - 1 - j] as usize);
         j += 1;
     }
-    s
+    rows
 }

@@ -15,9 +15,7 @@ use passes::forward;
 use passes::walk;
 use route::Route;
 ghost use mathlib.Core.Path.{_≡_};
-ghost use Prim.Native.Nat.{ℕ, _+_, _-_, _*_, _≤_, _<_};
-ghost use lib.ListN.{length, replicate};
-ghost use mathlib.Core.List.{List};
+ghost use Prim.Native.Nat.{_-_, _≤_, _<_};
 ghost use Rattle.floor.specs.Answers.{verdictOf};
 ghost use Rattle.laws.specs.Verdict.{demand, refusal};
 ghost use Rattle.floor.specs.Checks.{within, among};
@@ -26,9 +24,8 @@ ghost use Rattle.route.specs.Search.{best};
 ghost use Rattle.search.specs.Answers.{answered, Answers};
 ghost use Rattle.search.specs.Seek.{BestIn};
 ghost use Rattle.passes.specs.Docks.{DocksIn};
-ghost use Rattle.bitrows.specs.Rows.{Clean};
 ghost use Rattle.layers.specs.Table.{searchGridOf, Grid, Tidy};
-ghost use Rattle.layers.specs.FreeTable.{IsFreeTable, OneMore};
+ghost use Rattle.layers.specs.FreeTable.{IsFreeTable};
 ghost use Rattle.search.specs.Search.{requestOf, searchOf};
 ghost use Rattle.search.specs.Task.{taskOfRows};
 ghost use Rattle.records.specs.Records.{viewsOf};
@@ -92,7 +89,7 @@ fn seek(
         return none();
     }
     let ds = docks::hold_docks(g, table, count, cells);
-    if !docks::some_held(ds, g.horizon) {
+    if !docks::arrives(g, table, ds, g.horizon) {
         return none();
     }
     let a = forward::forward(g, sets, table, start, ds);
@@ -206,29 +203,4 @@ pub fn search(f: Floor, walls: &[u16], carrier: u16, views: &[u16]) -> Found
         return best_route(f, free_rows(f, walls), carrier, views);
     };
     refused(x)
-}
-
-// A table of empty sets, for a free table or to work in.
-pub fn empty_table() -> [u32; table::WORDS]
-    ensures { λ r. ⌜ r ≡ replicate 2049 0 ⌝ }
-{
-    table::empty()
-}
-
-// The free table that the free cells of a floor leave, in an empty table.
-pub fn fill_free_table(f: Floor, free: Rows, table: &mut [u32])
-    requires { ⌜ (1 ≤ f .width) × (f .width ≤ 32) × (f .height ≤ 32) × (f .horizon ≤ 63) ⌝ }
-    requires { ⌜ (length free ≡ 32) × Clean (f .width) (f .width * f .height) free × (now table ≡ replicate 2049 0) ⌝ }
-    ensures { λ r. ⌜ ((m : List ℕ) → IsFreeTable (searchGridOf f) 0 free m (now (table .exit))) ⌝ }
-{
-    free_table::fill_free(table, &free, f.horizon as usize + 1);
-}
-
-// Takes the cells of view j, besides those of the views before it, out of the free table.
-pub fn take_route(f: Floor, table: &mut [u32], views: &[u16], j: usize)
-    requires { ⌜ (1 ≤ f .width) × (f .width ≤ 32) × (f .height ≤ 32) × (f .horizon ≤ 63) ⌝ }
-    requires { ⌜ (65 * j + 65 ≤ length (now views)) × Tidy (searchGridOf f) (now table) ⌝ }
-    ensures { λ r. ⌜ OneMore (searchGridOf f) j (now (views .entry)) (now (table .entry)) (now (table .exit)) ⌝ }
-{
-    free_table::take_one(search_grid_of(f), table, views, j);
 }

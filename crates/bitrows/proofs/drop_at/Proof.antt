@@ -15,8 +15,8 @@ inside : (c : tie.After-row-of) →
     (c .row-of .result < 32) × (start .args .c % start .args .w < start .args .w)
 inside c =
     let start : tie.Start = search in
-    let row = place-row (start .args .w) (start .args .c) (omega arith) (omega arith) in
-    (rw (c .row-of .ensures .0) row, mod-lt (start .args .c) {m = start .args .w} (omega arith))
+    let low = place-row (start .args .w) (start .args .c) (omega arith) (omega arith) in
+    (rw (c .row-of .ensures .0) low, mod-lt (start .args .c) {m = start .args .w} (omega arith))
 
 returns : tie.Need-returns
 returns c =

@@ -11,28 +11,32 @@ use Rattle.bitrows.proofs.put_rows.Statement.{statement}
 use Rattle.bitrows.proofs.put_rows.Tie as tie
 
 abbrev Inv-loop : tie.InvT-loop
-Inv-loop table₀ i n x r₀ table r = (r ≤ n) × (length table ≡ length table₀) × (table ≡ written table₀ i x r)
+Inv-loop table₀ i x n row₀ table row = (row ≤ n) × (length table ≡ length table₀) × (table ≡ written table₀ i x row)
 
 abbrev μ-loop : tie.MeasureT-loop
-μ-loop table₀ i n x r₀ table r = n - r
+μ-loop table₀ i x n row₀ table row = n - row
 
 loop-holds : tie.Need-loop-holds Inv-loop μ-loop
 loop-holds c = (search needs, refl, written-none _ _ _)
 
 slice-write-table : tie.Need-slice-write-table Inv-loop μ-loop
 slice-write-table c =
-    let h = c .before .loop .inv .1 in
+    let at-loop : tie.At-loop Inv-loop μ-loop = search in
+    let h = at-loop .loop .inv .1 in
     omega arith
 
 loop-again : tie.Need-loop-again Inv-loop μ-loop
-loop-again c = (search needs, simp length-set (c .before .loop .inv .1), written-more _ _ _ _ _ (c .before .loop .inv .2))
+loop-again c =
+    let at-loop : tie.At-loop Inv-loop μ-loop = search in
+    let v = at-loop .loop .inv in
+    (search needs, simp length-set (v .1), written-more _ _ _ _ _ (v .2))
 
 same-length : tie.Need-same-length Inv-loop μ-loop
 same-length c = c .before .loop .inv .1
 
 returns : tie.Need-returns Inv-loop μ-loop
 returns c =
-    let e : c .before .loop .r ≡ c .before .before .args .n = omega arith in
+    let e : c .before .loop .row ≡ c .before .before .args .n = omega arith in
     rw e at (c .before .loop .inv .2)
 
 pub put-rows-spec : {M : Type 1} → statement M

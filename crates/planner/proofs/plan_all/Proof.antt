@@ -1,5 +1,5 @@
 -- `planner::plan_all` meets its contract. The loop's invariant: the answers of the carriers passed stand in front, are shown as they are
--- seen, and the free table is what they leave. The measure is what is left of the carriers. Assumes nothing.
+-- seen, and the free table is what all but the last of them leave. The measure is what is left of the carriers. Assumes nothing.
 use Prim.Native.Nat.{ℕ, _-_, _≤_}
 use native.Mathlib.Omega.{arith}
 use mathlib.Core.List.{[]}
@@ -9,6 +9,7 @@ use lib.ListN.{length, length-replicate}
 use Rattle.route.specs.Sequential.{sequential}
 use Rattle.layers.specs.Table.{searchGridOf, Tidy}
 use Rattle.layers.specs.FreeTable.{IsFreeTable}
+use Rattle.layers.proofs.GridLaws.{scene-grid}
 use Rattle.layers.proofs.SetLaws.{empty-tidy}
 use Rattle.records.specs.Records.{records, stored}
 use Rattle.records.specs.Seen.{seen}
@@ -16,39 +17,64 @@ use Rattle.records.proofs.SeenLaws.{seen-start}
 use Rattle.planner.specs.Plan.{respondWith}
 use Rattle.planner.specs.Records.{withAnswer}
 use Rattle.planner.proofs.PlanLaws.{plan-start, plan-more, plan-keeps, plan-end}
+use Rattle.planner.proofs.TableLaws.{table-above}
 use Rattle.planner.proofs.plan_all.Statement.{statement}
 use Rattle.planner.proofs.plan_all.Tie as tie
 
 abbrev Inv-loop : tie.InvT-loop
-Inv-loop f free answers₀ n table₀ sets₀ shown₀ i₀ answers table sets shown i =
-    (i ≤ n) × (answers ≡ stored (sequential (respondWith f free) i) answers₀) × IsFreeTable (searchGridOf f) i free shown table
+Inv-loop f answers₀ free n shown₀ table₀ sets₀ i₀ answers shown table sets i =
+    (i ≤ n) × (answers ≡ stored (sequential (respondWith f free) i) answers₀) × IsFreeTable (searchGridOf f) (i - 1) free shown table
     × (length shown ≡ 520) × (records shown i ≡ seen f (records answers i)) × Tidy (searchGridOf f) sets
 
 abbrev μ-loop : tie.MeasureT-loop
-μ-loop f free answers₀ n table₀ sets₀ shown₀ i₀ answers table sets shown i = n - i
+μ-loop f answers₀ free n shown₀ table₀ sets₀ i₀ answers shown table sets i = n - i
 
-slice-aggregate-fill-free-table : tie.Need-slice-aggregate-fill-free-table Inv-loop μ-loop
-slice-aggregate-fill-free-table c = sym (ap length (c .before .empty-table .ensures) ∙ length-replicate {A = ℕ} 2049 0)
+slice-aggregate-make : tie.Need-slice-aggregate-make Inv-loop μ-loop
+slice-aggregate-make c =
+    let after-empty : tie.After-empty Inv-loop μ-loop = search in
+    sym (ap length (after-empty .empty .ensures) ∙ length-replicate {A = ℕ} 2049 0)
 
-fill-free-table-requires : tie.Need-fill-free-table-requires Inv-loop μ-loop
-fill-free-table-requires c κs =
+slice-aggregate-make-2 : tie.Need-slice-aggregate-make-2 Inv-loop μ-loop
+slice-aggregate-make-2 c =
+    let start : tie.Start Inv-loop μ-loop = search in
+    sym (start .pre .searchable 0 [] (start .pre .some) (omega arith) .long)
+
+slice-aggregate-make-3 : tie.Need-slice-aggregate-make-3 Inv-loop μ-loop
+slice-aggregate-make-3 c =
+    let after-blank : tie.After-blank Inv-loop μ-loop = search in
+    sym (ap length (after-blank .blank .ensures) ∙ length-replicate {A = ℕ} 520 0)
+
+search-grid-of-requires : tie.Need-search-grid-of-requires Inv-loop μ-loop
+search-grid-of-requires c κs =
+    let start : tie.Start Inv-loop μ-loop = search in
+    let able = start .pre .searchable 0 [] (start .pre .some) (omega arith) in
+    (able .width .0, able .width .1, able .height)
+
+make-requires : tie.Need-make-requires Inv-loop μ-loop
+unfolding searchGridOf
+make-requires c κs =
+    let after-search-grid-of : tie.After-search-grid-of Inv-loop μ-loop = search in
+    let after-empty : tie.After-empty Inv-loop μ-loop = search in
     let start : tie.Start Inv-loop μ-loop = search in
     let p = start .pre in
     let able = p .searchable 0 [] (p .some) (omega arith) in
-    ((able .width .0, able .width .1, able .height, p .horizon), (able .long, able .clean, c .before .empty-table .ensures))
+    let grid = scene-grid (start .args .f) (able .width .0) (able .width .1) (able .height) in
+    rw (after-search-grid-of .search-grid-of .ensures)
+    ((record { grid = grid; short = p .horizon; lent = omega arith }, able .clean, able .long), after-empty .empty .ensures)
 
 loop-holds : tie.Need-loop-holds Inv-loop μ-loop
 loop-holds c =
     let after-blank : tie.After-blank Inv-loop μ-loop = search in
-    let after-empty-table2 : tie.After-empty-table2 Inv-loop μ-loop = search in
-    let after-fill-free-table : tie.After-fill-free-table Inv-loop μ-loop = search in
+    let after-search-grid-of : tie.After-search-grid-of Inv-loop μ-loop = search in
+    let after-make : tie.After-make Inv-loop μ-loop = search in
+    let after-empty2 : tie.After-empty2 Inv-loop μ-loop = search in
     let start : tie.Start Inv-loop μ-loop = search in (
       search needs,
       plan-start _ _ (start .pre .horizon) _,
-      after-fill-free-table .fill-free-table .ensures _,
+      rw (after-search-grid-of .search-grid-of .ensures) at (after-make .make .ensures),
       ap length (after-blank .blank .ensures) ∙ length-replicate {A = ℕ} 520 0,
       seen-start _ _ _,
-      empty-tidy _ _ (after-empty-table2 .empty-table2 .ensures),
+      empty-tidy _ _ (after-empty2 .empty2 .ensures),
     )
 
 slice-aggregate-plan-one : tie.Need-slice-aggregate-plan-one Inv-loop μ-loop
@@ -89,7 +115,7 @@ loop-again c =
     let made = after-plan-one .plan-one .ensures in (
       search needs,
       plan-more _ _ (p .horizon) (at-loop .loop .i) _ _ _ (omega (arith, p .lent)) (at-loop .loop .inv .1) (made .0),
-      made .1 .1 .0,
+      table-above (made .1 .1 .0),
       search needs,
       made .1 .0,
       made .1 .1 .1,
@@ -109,6 +135,7 @@ returns c =
 
 pub plan-all-spec : {M : Type 1} → statement M
 plan-all-spec =
-    tie.close (tie.spec Inv-loop μ-loop (λ c κs. search needs) slice-aggregate-fill-free-table fill-free-table-requires (λ c κs. search needs)
-    (λ c κs. search needs) loop-holds slice-aggregate-plan-one slice-aggregate-plan-one-2 slice-aggregate-plan-one-3 plan-one-requires
-    (λ c. search needs) (λ c. search needs) loop-again same-length returns)
+    tie.close (tie.spec Inv-loop μ-loop (λ c κs. search needs) (λ c κs. search needs) search-grid-of-requires slice-aggregate-make
+    slice-aggregate-make-2 slice-aggregate-make-3 make-requires (λ c κs. search needs) loop-holds slice-aggregate-plan-one
+    slice-aggregate-plan-one-2 slice-aggregate-plan-one-3 plan-one-requires (λ c. search needs) (λ c. search needs) loop-again same-length
+    returns)

@@ -1,5 +1,5 @@
 -- `planner::plan_one` meets its contract: what the search found, stored with its tag, is the record of its answer; as it is seen it stands
--- beside the others, and the free table without it is that of one more answer. Assumes nothing.
+-- beside the others, and the free table without the view just above is what all views above leave. Assumes nothing.
 use Prim.Native.Nat.{ℕ}
 use native.Mathlib.Omega.{arith}
 use mathlib.Core.List.{_∷_}
@@ -12,34 +12,33 @@ use Rattle.planner.proofs.TableLaws.{table-above, table-stored}
 use Rattle.planner.proofs.plan_one.Statement.{statement}
 use Rattle.planner.proofs.plan_one.Tie as tie
 
-route-in-requires : tie.Need-route-in-requires
-route-in-requires c κs =
+take-last-requires : tie.Need-take-last-requires
+take-last-requires c κs =
     let start : tie.Start = search in
     let p = start .pre in
-    ((p .1 .0 .0, p .1 .1 .1), table-above _ _ _ _ _ _ (p .1 .0 .0) _ (p .1 .1 .0))
+    let able = p .1 .0 .0 in
+    ((able .width .0, able .width .1, able .height, able .horizon), (omega (arith, p .0), p .1 .1 .0 .tidy))
+
+route-in-requires : tie.Need-route-in-requires
+route-in-requires c κs =
+    let after-take-last : tie.After-take-last = search in
+    let start : tie.Start = search in
+    let p = start .pre in
+    ((p .1 .0 .0, p .1 .1 .1), table-above (after-take-last .take-last .ensures _ (p .1 .1 .0)))
 
 store-seen-requires : tie.Need-store-seen-requires
 store-seen-requires c κs =
     let after-store : tie.After-store = search in
+    let after-take-last : tie.After-take-last = search in
     let start : tie.Start = search in
     let p = start .pre in
     (p .0 .0, p .1 .0 .0 .horizon, omega (arith, p .0, after-store .store .kept .0), p .0 .2)
 
-take-route-requires : tie.Need-take-route-requires
-take-route-requires c κs =
-    let after-store-seen : tie.After-store-seen = search in
-    let after-route-in : tie.After-route-in = search in
-    let start : tie.Start = search in
-    let able = start .pre .1 .0 .0 in (
-      (able .width .0, able .width .1, able .height, able .horizon),
-      (omega (arith, start .pre .0, after-store-seen .store-seen .kept .1 .1 .1 .0), start .pre .1 .1 .0 .tidy),
-    )
-
 returns : tie.Need-returns
 returns c =
+    let after-take-last : tie.After-take-last = search in
     let after-route-in : tie.After-route-in = search in
     let start : tie.Start = search in
-    let after-take-route : tie.After-take-route = search in
     let after-store-seen : tie.After-store-seen = search in
     let after-store : tie.After-store = search in
     let after-tag-of : tie.After-tag-of = search in
@@ -57,8 +56,8 @@ returns c =
         seen-step _ _ _ _ (start .args .i) (able .horizon) (p .0 .2) (omega (arith, p .0, long))
             (after-store-seen .store-seen .ensures) shows,
         (
-          after-take-route .take-route .ensures _
-              (table-stored _ _ _ _ _ _ able _ _ _ (omega (arith, p .0)) (after-store-seen .store-seen .ensures) (p .1 .1 .0)),
+          table-stored _ _ _ _ _ _ able _ _ _ (omega (arith, p .0)) (after-store-seen .store-seen .ensures)
+              (after-take-last .take-last .ensures _ (p .1 .1 .0)),
           found .ensures .0,
         ),
       ),
@@ -66,6 +65,6 @@ returns c =
 
 pub plan-one-spec : {M : Type 1} → statement M
 plan-one-spec =
-    tie.close (tie.spec (λ c. search needs) route-in-requires (λ c. search needs) (λ c κs. search needs)
-    (λ c κs. search needs) store-seen-requires take-route-requires (λ c. search needs) (λ c. search needs)
+    tie.close (tie.spec take-last-requires (λ c. search needs) route-in-requires (λ c. search needs) (λ c κs. search needs)
+    (λ c κs. search needs) store-seen-requires (λ c. search needs) (λ c. search needs)
     (λ c. search needs) (λ c. search needs) returns)

@@ -4,6 +4,7 @@ use mathlib.Core.Path.{sym, ap, _∙_}
 use borrow.Author.Tests.{not-true, not-false}
 use native.Mathlib.Omega.{arith}
 use Rattle.passes.specs.Docks.{heldDocks}
+use Rattle.passes.proofs.EndsLaws.{holdable}
 use Rattle.search.specs.Answers.{answered}
 use Rattle.search.proofs.AnswerLaws.{says-same, says-route}
 use Rattle.search.proofs.SeekLaws.{start-shut, docks-shut, never, walk-best}
@@ -35,21 +36,22 @@ hold-docks-requires c κs =
     let p = start .pre in
     (p .0 .0, p .1 .1 .long, p .0 .1, p .0 .3)
 
-some-held-requires : tie.Need-some-held-requires
+arrives-requires : tie.Need-arrives-requires
 unfolding heldDocks
-some-held-requires c κs =
+arrives-requires c κs =
     let after-hold-docks : tie.After-hold-docks = search in
     let start : tie.Start = search in
-    rw (after-hold-docks .hold-docks .ensures) (start .pre .0 .3 .few)
+    let p = start .pre in
+    (p .0 .0, p .1 .1 .long, omega (arith, p .0 .1), rw (after-hold-docks .hold-docks .ensures) (p .0 .3))
 
 returns-2 : tie.Need-returns-2
 returns-2 c =
-    let after-some-held : tie.After-some-held = search in
+    let after-arrives : tie.After-arrives = search in
     let after-hold-docks : tie.After-hold-docks = search in
     let start : tie.Start = search in
     let p = start .pre in
     let d = after-hold-docks .hold-docks .ensures in
-    let e = sym (after-some-held .some-held .ensures) ∙ not-true _ (c .before .if2 .taken) in (
+    let e = sym (after-arrives .arrives .ensures) ∙ not-true _ (c .before .if2 .taken) in (
       p .1 .0,
       λ free vs h. says-same (c .none2 .ensures)
           (ap answered (sym (docks-shut _ _ _ _ _ free vs h (p .0 .1) (p .0 .0 .thin) (p .0 .3 .few) (rw d at e)))),
@@ -61,7 +63,8 @@ forward-requires c κs =
     let after-hold-docks : tie.After-hold-docks = search in
     let start : tie.Start = search in
     let p = start .pre in
-    ((p .0 .0, p .0 .1, p .0 .2, rw (after-hold-docks .hold-docks .ensures) (p .0 .3)), p .1)
+    let d = after-hold-docks .hold-docks .ensures in
+    ((p .0 .0, p .0 .1, p .0 .2, rw d (p .0 .3)), (p .1 .0, p .1 .1, rw d (holdable _ _ _ _ (p .0 .3 .few))))
 
 same-length : tie.Need-same-length
 same-length c =
@@ -104,10 +107,12 @@ backward-requires c κs =
 walk-requires : tie.Need-walk-requires
 walk-requires c κs =
     let after-backward : tie.After-backward = search in
+    let else3 : tie.Else3 = search in
     let after-forward : tie.After-forward = search in
+    let after-hold-docks : tie.After-hold-docks = search in
     let start : tie.Start = search in
     let p = start .pre in
-    (p .0 .0, after-backward .backward .ensures .tidy, p .0 .1, p .0 .2)
+    (p .0 .0, after-backward .backward .ensures .tidy, else3 .if3 .left, p .0 .1, p .0 .2)
 
 same-length-2 : tie.Need-same-length-2
 same-length-2 c =
@@ -141,6 +146,6 @@ returns-4 c =
 
 pub seek-spec : {M : Type 1} → statement M
 seek-spec =
-    tie.close (tie.spec member-requires (λ c κs. search needs) returns hold-docks-requires some-held-requires (λ c κs. search needs)
+    tie.close (tie.spec member-requires (λ c κs. search needs) returns hold-docks-requires arrives-requires (λ c κs. search needs)
     returns-2 forward-requires (λ c κs. search needs) same-length returns-3 backward-requires
     walk-requires same-length-2 returns-4)

@@ -24,7 +24,7 @@ add-fill-free c =
 fill-free-requires : tie.Need-fill-free-requires Inv-loop μ-loop
 fill-free-requires c κs =
     let start : tie.Start Inv-loop μ-loop = search in
-    (start .pre .1, start .pre .0 .2, omega (arith, start .pre .0 .0 .short))
+    (start .pre .1, start .pre .0 .2, omega arith, omega (arith, start .pre .0 .0 .short))
 
 loop-holds : tie.Need-loop-holds Inv-loop μ-loop
 loop-holds c =

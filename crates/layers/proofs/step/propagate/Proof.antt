@@ -7,15 +7,15 @@ use borrow.Author.Needs.{needs}
 use lib.ListN.{length, getD}
 use Rattle.layers.specs.declared.SearchGrid.{SearchGrid}
 use Rattle.layers.specs.Table.{Grid, Tidy}
-use Rattle.layers.specs.Stripes.{Carries}
+use Rattle.layers.specs.Stripes.{stripesOf}
 use Rattle.layers.specs.Step.{beatAfter, Swept}
-use Rattle.layers.proofs.SweptLaws.{within-low, within-few, beat-first, beat-next, beat-low, beat-some, carries-same, swept-none, swept-step}
+use Rattle.layers.proofs.SweptLaws.{within-low, within-few, beat-first, beat-next, beat-low, beat-some, stripes-same, swept-none, swept-step}
 use Rattle.layers.proofs.step.propagate.Statement.{statement}
 use Rattle.layers.proofs.step.propagate.Tie as tie
 
 abbrev Inv-loop : tie.InvT-loop
 Inv-loop sets₀ table from n back none x₀ t₀ i₀ sets x t i =
-    (i ≤ n) × (t ≡ beatAfter back from i) × (length sets ≡ 2049) × Carries x (λ j. getD sets (t * 32 + j) 0) ×
+    (i ≤ n) × (t ≡ beatAfter back from i) × (length sets ≡ 2049) × (x ≡ stripesOf (λ j. getD sets (t * 32 + j) 0)) ×
     ((g : SearchGrid) → Grid g → Tidy g sets₀ → Tidy g table → Swept g table sets₀ from back i sets)
 
 abbrev μ-loop : tie.MeasureT-loop
@@ -109,7 +109,7 @@ loop-again c =
       omega (arith, in-loop .loop-test .taken),
       after-next-beat .next-beat .ensures ∙ rw (v .1) (beat-next _ _ _),
       new .long ∙ v .2,
-      carries-same _ _ _ (λ j l. sym (new .inside j l)) carried,
+      carried ∙ stripes-same _ _ (λ j l. sym (new .inside j l)),
       λ g grid tidy ground. swept-step g _ _ _ _ _ _ _ _ _ _ grid ground (start .pre .3) (in-loop .loop-test .taken) (v .1)
           (after-next-beat .next-beat .ensures) (v .4 g grid tidy ground) new,
     )

@@ -15,4 +15,4 @@ returns c =
 
 pub put-none-spec : {M : Type 1} → statement M
 put-none-spec =
-    tie.close (tie.spec (λ c. search needs) (λ c κs. search needs) (λ c. search needs) returns)
+    tie.close (tie.spec (λ c. search needs) (λ c. search needs) (λ c κs. search needs) (λ c. search needs) returns)

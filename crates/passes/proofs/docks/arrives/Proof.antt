@@ -10,10 +10,10 @@ use Rattle.passes.proofs.docks.arrives.Statement.{statement}
 use Rattle.passes.proofs.docks.arrives.Tie as tie
 
 abbrev Inv-loop : tie.InvT-loop
-Inv-loop g sets t ds n k₀ k = Untold (arrivableAt g sets ds t) n k
+Inv-loop g sets t ds n d₀ d = Untold (arrivableAt g sets ds t) n d
 
 abbrev μ-loop : tie.MeasureT-loop
-μ-loop g sets t ds n k₀ k = n - k
+μ-loop g sets t ds n d₀ d = n - d
 
 element-copy-out : tie.Need-element-copy-out-arrives-at Inv-loop μ-loop
 element-copy-out c =

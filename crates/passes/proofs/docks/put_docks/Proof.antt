@@ -11,10 +11,10 @@ use Rattle.passes.proofs.docks.put_docks.Statement.{statement}
 use Rattle.passes.proofs.docks.put_docks.Tie as tie
 
 abbrev Inv-loop : tie.InvT-loop
-Inv-loop g sets₀ ds a n k₀ sets k = (k ≤ n) × ChangedAt g sets₀ a sets × EndsAt g sets ds a k
+Inv-loop g sets₀ ds a n d₀ sets d = (d ≤ n) × ChangedAt g sets₀ a sets × EndsAt g sets ds a d
 
 abbrev μ-loop : tie.MeasureT-loop
-μ-loop g sets₀ ds a n k₀ sets k = n - k
+μ-loop g sets₀ ds a n d₀ sets d = n - d
 
 loop-holds : tie.Need-loop-holds Inv-loop μ-loop
 loop-holds c =

@@ -13,10 +13,10 @@ use Rattle.search.proofs.ground.grid_rows.Statement.{statement}
 use Rattle.search.proofs.ground.grid_rows.Tie as tie
 
 abbrev Inv-loop : tie.InvT-loop
-Inv-loop w h row s₀ r₀ s r = (r ≤ h) × (s ≡ filled (replicate 32 0) (λ i. 2 ^ w - 1) r)
+Inv-loop w h ones rows₀ row₀ rows row = (row ≤ h) × (rows ≡ filled (replicate 32 0) (λ i. 2 ^ w - 1) row)
 
 abbrev μ-loop : tie.MeasureT-loop
-μ-loop w h row s₀ r₀ s r = h - r
+μ-loop w h ones rows₀ row₀ rows row = h - row
 
 loop-holds : tie.Need-loop-holds Inv-loop μ-loop
 loop-holds c = (search needs, filled-none _ _)
@@ -34,7 +34,7 @@ returns : tie.Need-returns Inv-loop μ-loop
 unfolding gridRows
 returns c =
     let start : tie.Start Inv-loop μ-loop = search in
-    let e : c .before .loop .r ≡ start .args .h = omega arith in
+    let e : c .before .loop .row ≡ start .args .h = omega arith in
     let made = rw e at (c .before .loop .inv .1) in
     (made, ap length made ∙ length-grid (start .args .w) (start .args .h) (start .pre .1))
 
