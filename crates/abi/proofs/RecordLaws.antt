@@ -38,14 +38,14 @@ part-eight xs at l =
     ) refl
 
 -- Four blocks of 6, 8, 8 and 32 numbers, one behind the other.
-pub four-blocks : (m m₁ m₂ m₃ m₄ a b c d : List ℕ) → m₁ ≡ put m 0 a → m₂ ≡ put m₁ 6 b → m₃ ≡ put m₂ 14 c → m₄ ≡ put m₃ 22 d
-    → length a ≡ 6 → length b ≡ 8 → length c ≡ 8 → length d ≡ 32 → 54 ≤ length m → m₄ ≡ put m 0 (a ++ (b ++ (c ++ d)))
-four-blocks m m₁ m₂ m₃ m₄ a b c d e f g h la lb lc ld l =
-    let two : m₂ ≡ put m 0 (a ++ b) = put-next m m₁ m₂ a b 0 6 e f (omega arith) (omega arith) in
-    let size : length (a ++ b) ≡ 14 = length-append a b ∙ omega arith in
-    let three : m₃ ≡ put m 0 ((a ++ b) ++ c) = put-next m m₂ m₃ (a ++ b) c 0 14 two g (omega arith) (omega arith) in
-    let long : length ((a ++ b) ++ c) ≡ 22 = length-append (a ++ b) c ∙ omega arith in
-    put-next m m₃ m₄ ((a ++ b) ++ c) d 0 22 three h (omega arith) (omega arith) ∙ ap (put m 0) (simp append-assoc)
+pub four-blocks : (m m₁ m₂ m₃ m₄ xs ys zs xs′ : List ℕ) → m₁ ≡ put m 0 xs → m₂ ≡ put m₁ 6 ys → m₃ ≡ put m₂ 14 zs → m₄ ≡ put m₃ 22 xs′
+    → length xs ≡ 6 → length ys ≡ 8 → length zs ≡ 8 → length xs′ ≡ 32 → 54 ≤ length m → m₄ ≡ put m 0 (xs ++ (ys ++ (zs ++ xs′)))
+four-blocks m m₁ m₂ m₃ m₄ xs ys zs xs′ e f g h la lb lc ld l =
+    let two : m₂ ≡ put m 0 (xs ++ ys) = put-next m m₁ m₂ xs ys 0 6 e f (omega arith) (omega arith) in
+    let size : length (xs ++ ys) ≡ 14 = length-append xs ys ∙ omega arith in
+    let three : m₃ ≡ put m 0 ((xs ++ ys) ++ zs) = put-next m m₂ m₃ (xs ++ ys) zs 0 14 two g (omega arith) (omega arith) in
+    let long : length ((xs ++ ys) ++ zs) ≡ 22 = length-append (xs ++ ys) zs ∙ omega arith in
+    put-next m m₃ m₄ ((xs ++ ys) ++ zs) xs′ 0 22 three h (omega arith) (omega arith) ∙ ap (put m 0) (simp append-assoc)
 
 -- A loop that copies numbers into an array of thirty-two: before the first, one more, and after the last.
 pub record NumbersCopied (xs : List ℕ) (at t : ℕ) (r : List ℕ) : Type 0 where
@@ -73,18 +73,18 @@ pub copied-end : {xs : List ℕ} {at t : ℕ} {r : List ℕ} → NumbersCopied x
 copied-end {xs} {at} {t} {r} w l b = sym (part-is xs at 32 r b (w .long) (λ i h. sym (w .same i (omega (arith, w .within)))))
 
 -- A block that stands behind others.
-module _ (a b c r : List ℕ) (la : length a ≡ 8) (lb : length b ≡ 8) (lc : length c ≡ 32) where
-  first-block : take 8 ((a ++ (b ++ c)) ++ r) ≡ a
-  first-block = simp append-assoc (take-at a (b ++ (c ++ r)) 8 la)
+module _ (xs ys zs r : List ℕ) (la : length xs ≡ 8) (lb : length ys ≡ 8) (lc : length zs ≡ 32) where
+  first-block : take 8 ((xs ++ (ys ++ zs)) ++ r) ≡ xs
+  first-block = simp append-assoc (take-at xs (ys ++ (zs ++ r)) 8 la)
 
-  second-block : take 8 (drop 8 ((a ++ (b ++ c)) ++ r)) ≡ b
-  second-block = simp append-assoc (rw (drop-at a (b ++ (c ++ r)) 8 la) (take-at b (c ++ r) 8 lb))
+  second-block : take 8 (drop 8 ((xs ++ (ys ++ zs)) ++ r)) ≡ ys
+  second-block = simp append-assoc (rw (drop-at xs (ys ++ (zs ++ r)) 8 la) (take-at ys (zs ++ r) 8 lb))
 
-  third-block : take 32 (drop 16 ((a ++ (b ++ c)) ++ r)) ≡ c
+  third-block : take 32 (drop 16 ((xs ++ (ys ++ zs)) ++ r)) ≡ zs
   third-block =
-      let joined : (a ++ (b ++ c)) ++ r ≡ (a ++ b) ++ (c ++ r) = simp append-assoc in
-      let size : length (a ++ b) ≡ 16 = length-append a b ∙ omega arith in
-      rw (joined, drop-at (a ++ b) (c ++ r) 16 size) (take-at c r 32 lc)
+      let joined : (xs ++ (ys ++ zs)) ++ r ≡ (xs ++ ys) ++ (zs ++ r) = simp append-assoc in
+      let size : length (xs ++ ys) ≡ 16 = length-append xs ys ∙ omega arith in
+      rw (joined, drop-at (xs ++ ys) (zs ++ r) 16 size) (take-at zs r 32 lc)
 
 -- The floor that its own numbers say, whatever memory they stand in.
 pub record-same : (f : Floor) (old : List ℕ) → length (f .starts) ≡ 8 → length (f .counts) ≡ 8 → length (f .docks) ≡ 32

@@ -17,21 +17,21 @@ use Rattle.orders.specs.Trial.{TrialResult, nextStep, entryOf, reported, tryFro
 use Rattle.orders.proofs.RuleLaws.{some-place, chosen-item}
 use Rattle.orders.proofs.TrialLaws.{try-silent, try-step}
 
-module _ (n d k : ℕ) (p q : ℕ → List View → Answer) (agree : (i : ℕ) (vs : List View) → i < n → length vs ≡ i → p i vs ≡ q i vs) where
+module _ (n d k : ℕ) (φ ψ : ℕ → List View → Answer) (agree : (i : ℕ) (vs : List View) → i < n → length vs ≡ i → φ i vs ≡ ψ i vs) where
   abbrev M : Machine
-  M = record { carriers = n; depth = d; needed = k; respond = p }
+  M = record { carriers = n; depth = d; needed = k; respond = φ }
 
   abbrev N : Machine
-  N = record { carriers = n; depth = d; needed = k; respond = q }
+  N = record { carriers = n; depth = d; needed = k; respond = ψ }
 
   pub silent-same : (s : State) → isSilent M s ≡ isSilent N s
   unfolding isSilent
-  silent-same s = none-same n d k p q agree s (ranking n)
+  silent-same s = none-same n d k φ ψ agree s (ranking n)
 
   passing-same : (s : State) (c : ℕ) → passing (openAt M s) c ≡ passing (openAt N s) c
   unfolding passing openAt
   passing-same s zero = refl
-  passing-same s (suc c) = rw (passing-same s c, open-same n d k p q agree s (stepAt n c))
+  passing-same s (suc c) = rw (passing-same s c, open-same n d k φ ψ agree s (stepAt n c))
 
   turn-same : (o : Order) (s : State) (c : ℕ) → turn o M s c ≡ turn o N s c
   unfolding turn
@@ -49,7 +49,7 @@ module _ (n d k : ℕ) (p q : ℕ → List View → Answer) (agree : (i : ℕ) (
 
   pub entry-same : (s : State) (x : Step) → isOpen M s x ≡ true → entryOf M s x ≡ entryOf N s x
   unfolding entryOf
-  entry-same s x e = rw (answer-same n d k p q agree s x e)
+  entry-same s x e = rw (answer-same n d k φ ψ agree s x e)
 
   -- The step that an order takes is open where the machine is not silent.
   next-open : (o : Order) (s : State) (c : ℕ) → isSilent M s ≡ false → isOpen M s (nextStep o M s c) ≡ true
@@ -61,7 +61,7 @@ module _ (n d k : ℕ) (p q : ℕ → List View → Answer) (agree : (i : ℕ) (
   try-same o c s zero = refl
   try-same o c s (suc b) = go (isSilent M s) refl (λ y z. try-same o y z b)
     where
-      go : (t : Bool) → isSilent M s ≡ t → ((y : ℕ) (z : State) → tryFrom o M y z b ≡ tryFrom o N y z b)
+      go : (x′ : Bool) → isSilent M s ≡ x′ → ((y : ℕ) (z : State) → tryFrom o M y z b ≡ tryFrom o N y z b)
           → tryFrom o M c s (suc b) ≡ tryFrom o N c s (suc b)
       go true e rest = try-silent o M c s b e ∙ sym (try-silent o N c s b (sym (silent-same s) ∙ e))
       go false e rest =
@@ -70,7 +70,7 @@ module _ (n d k : ℕ) (p q : ℕ → List View → Answer) (agree : (i : ℕ) (
           let y = remembered o c (chosen o M s c) in
           try-step o M c s b e
           ∙ ap (reported (entryOf M s x)) (rest y (afterStep M s x))
-          ∙ ap (λ z. reported (entryOf M s x) (tryFrom o N y z b)) (after-same n d k p q agree s x opened)
+          ∙ ap (λ z. reported (entryOf M s x) (tryFrom o N y z b)) (after-same n d k φ ψ agree s x opened)
           ∙ ap (λ z. reported z (tryFrom o N y (afterStep N s x) b)) (entry-same s x opened)
           ∙ ap (λ z. reported (entryOf N s z) (tryFrom o N y (afterStep N s z) b)) (next-same o s c)
           ∙ ap (λ z. reported (entryOf N s (nextStep o N s c)) (tryFrom o N (remembered o c z) (afterStep N s (nextStep o N s c)) b))

@@ -31,12 +31,12 @@ pub record Runs : Type 0 where
   pub complete-exactly : (f : Floor) (ws : List ℕ) (xs : Run) →
       Complete (machineOf f ws) fresh xs ↔ ((rank : ℕ) × (rank < totalOf f ws) × (runOfRank f ws rank ≡ xs))
   -- It has one rank; so the total is the number of complete runs.
-  pub one-rank : (f : Floor) (ws : List ℕ) (r q : ℕ) → r < totalOf f ws → q < totalOf f ws → runOfRank f ws r ≡ runOfRank f ws q → r ≡ q
+  pub one-rank : (f : Floor) (ws : List ℕ) (rank′ p : ℕ) → rank′ < totalOf f ws → p < totalOf f ws → runOfRank f ws rank′ ≡ runOfRank f ws p → rank′ ≡ p
   -- A smaller rank is an earlier run: where the two first differ, its step is before the other's in the ranking.
-  pub ranked : (f : Floor) (ws : List ℕ) (r q : ℕ) → r < totalOf f ws → q < totalOf f ws →
-      (r < q) ↔ EarlierRun (f .carriers) (runOfRank f ws r) (runOfRank f ws q)
+  pub ranked : (f : Floor) (ws : List ℕ) (rank′ p : ℕ) → rank′ < totalOf f ws → p < totalOf f ws →
+      (rank′ < p) ↔ EarlierRun (f .carriers) (runOfRank f ws rank′) (runOfRank f ws p)
   -- A run has at most the ceiling's number of steps.
-  pub within-ceiling : (f : Floor) (ws : List ℕ) (r : ℕ) → r < totalOf f ws → length (runOfRank f ws r) ≤ ceiling (f .carriers)
+  pub within-ceiling : (f : Floor) (ws : List ℕ) (rank : ℕ) → rank < totalOf f ws → length (runOfRank f ws rank) ≤ ceiling (f .carriers)
   -- An accepted floor has a run; one of at most three carriers has fewer than 2^32.
   pub some-run : (f : Floor) (ws : List ℕ) → checkOf f ws ≡ passed → 0 < totalOf f ws
   pub total-fits : (f : Floor) (ws : List ℕ) → checkOf f ws ≡ passed → f .carriers ≤ 3 → totalOf f ws < 4294967296

@@ -95,12 +95,12 @@ lines k = record {
 }
 
 -- Where a turn begins: the count, the reader's column and machine value, and how far the reader has come.
-pub record Turn (form : ℕ → Verdict) (past : ℕ → ℕ) (at m : ℕ) : Type 0 where
+pub record Turn (form : ℕ → Verdict) (past : ℕ → ℕ) (at k : ℕ) : Type 0 where
   pub count : ℕ
   pub column : ℕ
   pub value : Val
   pub typed : Holds (hasTy reader value) × WT value
-  pub along : Along form past at m count column
+  pub along : Along form past at k count column
 
 module _ {M : Type 1} (𝓤 : URA M) where
   -- The contracts of the functions that every kind of line shares.

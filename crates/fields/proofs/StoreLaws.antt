@@ -12,14 +12,14 @@ use Rattle.fields.specs.Field.{column, fieldOf}
 pub room-of-five : (m : List ℕ) (at i : ℕ) → at + 5 ≤ length m → i < 5 → at + i < length m
 room-of-five m at i l h = omega arith
 
-pub room-kept : (m : List ℕ) (n i v : ℕ) → n ≤ length m → n ≤ length (set m i v)
-room-kept m n i v l = rw length-set l
+pub room-kept : (m : List ℕ) (n i x : ℕ) → n ≤ length m → n ≤ length (set m i x)
+room-kept m n i x l = rw length-set l
 
 pub ruleset stores = (room-of-five, room-kept, lit<)
 
 -- Five columns of a number are its field.
-pub put-columns : (m : List ℕ) (at v : ℕ) {a b c d e : ℕ} → a ≡ column 10000 v → b ≡ column 1000 v → c ≡ column 100 v → d ≡ column 10 v
-    → e ≡ 48 + v % 10 → at + 5 ≤ length m
-    → set (set (set (set (set m at a) (at + 1) b) (at + 2) c) (at + 3) d) (at + 4) e ≡ put m at (fieldOf v)
+pub put-columns : (m : List ℕ) (at x : ℕ) {a b c d p : ℕ} → a ≡ column 10000 x → b ≡ column 1000 x → c ≡ column 100 x → d ≡ column 10 x
+    → p ≡ 48 + x % 10 → at + 5 ≤ length m
+    → set (set (set (set (set m at a) (at + 1) b) (at + 2) c) (at + 3) d) (at + 4) p ≡ put m at (fieldOf x)
 unfolding fieldOf
-put-columns m at v a b c d e l = rw (a, b, c, d, e) (put-five m at _ _ _ _ _ l)
+put-columns m at x a b c d p l = rw (a, b, c, d, p) (put-five m at _ _ _ _ _ l)

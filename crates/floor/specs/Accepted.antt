@@ -101,26 +101,26 @@ pub record Accepted (f : Floor) (ws : List ℕ) : Type 0 where
 
 -- Two records with their walls are the same floor: they agree in all that is part of it, which the places of a record past the
 -- carrier count, of a carrier's docks past its dock count and of the walls past the wall count are not.
-pub record SameFloor (f : Floor) (ws : List ℕ) (g : Floor) (vs : List ℕ) : Type 0 where
-  pub width : f .width ≡ g .width
-  pub height : f .height ≡ g .height
-  pub horizon : f .horizon ≡ g .horizon
-  pub depth : f .depth ≡ g .depth
-  pub carriers : f .carriers ≡ g .carriers
-  pub walls : f .walls ≡ g .walls
-  pub starts : All (λ (i : ℕ). startOf f i ≡ startOf g i) (f .carriers)
-  pub counts : All (λ (i : ℕ). countOf f i ≡ countOf g i) (f .carriers)
-  pub docks : All (λ (i : ℕ). All (λ (k : ℕ). dockOf f i k ≡ dockOf g i k) (countOf f i)) (f .carriers)
-  pub cells : All (λ (j : ℕ). getD ws j 0 ≡ getD vs j 0) (f .walls)
+pub record SameFloor (f : Floor) (ws : List ℕ) (f′ : Floor) (ws′ : List ℕ) : Type 0 where
+  pub width : f .width ≡ f′ .width
+  pub height : f .height ≡ f′ .height
+  pub horizon : f .horizon ≡ f′ .horizon
+  pub depth : f .depth ≡ f′ .depth
+  pub carriers : f .carriers ≡ f′ .carriers
+  pub walls : f .walls ≡ f′ .walls
+  pub starts : All (λ (i : ℕ). startOf f i ≡ startOf f′ i) (f .carriers)
+  pub counts : All (λ (i : ℕ). countOf f i ≡ countOf f′ i) (f .carriers)
+  pub docks : All (λ (i : ℕ). All (λ (k : ℕ). dockOf f i k ≡ dockOf f′ i k) (countOf f i)) (f .carriers)
+  pub cells : All (λ (j : ℕ). getD ws j 0 ≡ getD ws′ j 0) (f .walls)
 
 -- Two records are floors that differ at most in the order of each carrier's docks.
-pub record SameDocks (f g : Floor) : Type 0 where
-  pub width : f .width ≡ g .width
-  pub height : f .height ≡ g .height
-  pub horizon : f .horizon ≡ g .horizon
-  pub depth : f .depth ≡ g .depth
-  pub carriers : f .carriers ≡ g .carriers
-  pub walls : f .walls ≡ g .walls
-  pub starts : All (λ (i : ℕ). startOf f i ≡ startOf g i) (f .carriers)
-  pub counts : All (λ (i : ℕ). countOf f i ≡ countOf g i) (f .carriers)
-  pub docks : All (λ (i : ℕ). (c : ℕ) → isDock f i c ≡ isDock g i c) (f .carriers)
+pub record SameDocks (f f′ : Floor) : Type 0 where
+  pub width : f .width ≡ f′ .width
+  pub height : f .height ≡ f′ .height
+  pub horizon : f .horizon ≡ f′ .horizon
+  pub depth : f .depth ≡ f′ .depth
+  pub carriers : f .carriers ≡ f′ .carriers
+  pub walls : f .walls ≡ f′ .walls
+  pub starts : All (λ (i : ℕ). startOf f i ≡ startOf f′ i) (f .carriers)
+  pub counts : All (λ (i : ℕ). countOf f i ≡ countOf f′ i) (f .carriers)
+  pub docks : All (λ (i : ℕ). (c : ℕ) → isDock f i c ≡ isDock f′ i c) (f .carriers)

@@ -52,7 +52,7 @@ module _ (f : Floor) (m : List ℕ) (i : ℕ) (old : List ℕ) (at : ℕ) where
   arrives-put cells m₁ m₂ new a x b n h l e g p q r enough =
       let low : min (f .horizon) 63 ≡ f .horizon = omega arith in
       let same : x ≡ arrivalOf (part m (65 * i + 1) 64) (f .horizon) =
-      g ∙ ap (arrivalOf cells) low ∙ ap (λ (y : List ℕ). arrivalOf y (f .horizon)) e in
+      g ∙ ap (arrivalOf cells) low ∙ ap (λ (xs : List ℕ). arrivalOf xs (f .horizon)) e in
       let d = short-within x in
       rw (answer-route m i h, ← same)
       (put-behind (put-behind p q (omega (arith, p .behind, q .behind))) r (omega (arith, p .behind, q .behind, r .behind)))
@@ -63,7 +63,7 @@ unfolding settled
 settled-low c r zero = omega arith
 settled-low c r (suc n) = go (eqb (cellAt r n) c) (settled-low c r n)
   where
-    go : (b : Bool) → settled c r n ≤ n → elim b [ true ↦ settled c r n | false ↦ suc n ] ≤ suc n
+    go : (x : Bool) → settled c r n ≤ n → elim x [ true ↦ settled c r n | false ↦ suc n ] ≤ suc n
     go true l = omega arith
     go false l = omega arith
 

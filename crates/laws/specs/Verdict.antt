@@ -63,8 +63,8 @@ each (suc m) p = each m p && p m
 abbrev pub All : (ℕ → Type 0) → ℕ → Type 0
 All P m = (i : ℕ) → i < m → P i
 
--- Item i is the first of m that is not as P says.
-pub record First (P : ℕ → Type 0) (m i : ℕ) : Type 0 where
-  pub listed : i < m
+-- Item i is the first of k that is not as P says.
+pub record First (P : ℕ → Type 0) (k i : ℕ) : Type 0 where
+  pub listed : i < k
   pub fails : P i → ⊥
   pub before : All P i

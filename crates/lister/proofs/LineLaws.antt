@@ -51,7 +51,7 @@ two-more trail k number answer long l =
     let next : 2 * k + 1 ≡ suc (2 * k) = omega arith in
     rw (here, next)
     (take-suc-set (set trail (2 * k) number) (suc (2 * k)) answer (omega (arith, length-set trail (2 * k) number))
-    ∙ ap (λ (l : List ℕ). l ++ (answer ∷ [])) (take-suc-set trail (2 * k) number (omega arith))
+    ∙ ap (λ (xs : List ℕ). xs ++ (answer ∷ [])) (take-suc-set trail (2 * k) number (omega arith))
     ∙ append-assoc (take (2 * k) trail) (number ∷ []) (answer ∷ []))
 
 -- Line i of n numbers' lines is within them.

@@ -28,9 +28,9 @@ use Rattle.maps.proofs.MarkLaws.{cond-there, cond-away, cond-short, mar
 
 -- A row and the grid.
 module _ (marks : List ℕ) (w : ℕ) where
-  pub row-short : w ≤ 32 → (r : ℕ) → length (rowOf marks w r) ≤ 33
+  pub row-short : w ≤ 32 → (row : ℕ) → length (rowOf marks w row) ≤ 33
   unfolding rowOf part
-  row-short l r = omega (arith, length-append (part marks (r * w) w) (10 ∷ []), length-take w (drop (r * w) marks))
+  row-short l row = omega (arith, length-append (part marks (row * w) w) (10 ∷ []), length-take w (drop (row * w) marks))
 
   pub grid-short : w ≤ 32 → (h : ℕ) → h ≤ 32 → length (gridOf marks w h) ≤ 1056
   unfolding gridOf
@@ -44,9 +44,9 @@ row-put marks base w k at a n old m₁ new p e q l h =
     rw (← e) (put-behind p q (omega (arith, p .behind, q .behind, length-take k (drop base marks))))
 
 -- The cells of a row lie among 1,024.
-pub row-cells : (r w h : ℕ) → w ≤ 32 → h ≤ 32 → r < h → r * w + w ≤ 1024
-row-cells r w h l k b =
-    let low : r ≤ 31 = omega arith in
+pub row-cells : (n w h : ℕ) → w ≤ 32 → h ≤ 32 → n < h → n * w + w ≤ 1024
+row-cells n w h l k b =
+    let low : n ≤ 31 = omega arith in
     omega (arith, mul-le-mul low l)
 
 -- The marks of 1,024 cells are 1,024 bytes.

@@ -16,7 +16,7 @@ unfoldable pub marksText : (ℕ → ℕ) → ℕ → List ℕ
 marksText mark n = linesOf (λ c. mark c ∷ []) n
 
 -- Row r of a grid of width w: the marks of its cells, and one newline.
-unfoldable pub rowOf : List ℕ → (w r : ℕ) → List ℕ
+unfoldable pub rowOf : List ℕ → (w row : ℕ) → List ℕ
 rowOf marks w r = part marks (r * w) w ++ (10 ∷ [])
 
 -- The grid: a line a row.

@@ -85,7 +85,7 @@ module _ (M : Machine) (s : State) where
       (lt-or-le (getD (passing opens n) i 0) (getD (passing opens n) j 0))
 
   -- The first open place.
-  first-rule : (p : ℕ) → ItemAt opens n 0 p → (q : ℕ) → 0 ≤ q → q < p → opens q ≡ false
+  first-rule : (p : ℕ) → ItemAt opens n 0 p → (p′ : ℕ) → 0 ≤ p′ → p′ < p → opens p′ ≡ false
   first-rule p r = none-between opens 0 p (omega (arith, r .before, count-none opens))
 
   -- The open place behind those before c, with c before the last open one.

@@ -13,7 +13,7 @@ use Rattle.orders.specs.Trial.{Entry}
 
 -- The steps at places a to b − 1 are not open.
 abbrev pub ShutFrom : Machine → State → ℕ → ℕ → Type 0
-ShutFrom M s a b = (q : ℕ) → a ≤ q → q < b → openAt M s q ≡ false
+ShutFrom M s a b = (p : ℕ) → a ≤ p → p < b → openAt M s p ≡ false
 
 -- Going round the ranking from place c, the step at place p is the first that is open: before it come the places from c up to p, or,
 -- where p is before c, those from c to the end and then those from the top up to p.
@@ -29,12 +29,12 @@ MayTake round M s c p = FirstRound M s c p
 MayTake drawn M s c p = p ≡ getD (openPlaces M s) (drawnBy c % length (openPlaces M s)) 0
 
 -- A line of the report is that of a step, open when it was taken, at a place that the order may take; with the machine's answer.
-pub record TakenBy (o : Order) (M : Machine) (c : ℕ) (s : State) (e : Entry) (p : ℕ) : Type 0 where
+pub record TakenBy (o : Order) (M : Machine) (c : ℕ) (s : State) (x : Entry) (p : ℕ) : Type 0 where
   pub listed : p < places (M .carriers)
-  pub step : e .taken ≡ stepAt (M .carriers) p
-  pub isOpen : isOpen M s (e .taken) ≡ true
+  pub step : x .taken ≡ stepAt (M .carriers) p
+  pub isOpen : isOpen M s (x .taken) ≡ true
   pub rule : MayTake o M s c p
-  pub answer : e .answer ≡ stepAnswer M s (e .taken)
+  pub answer : x .answer ≡ stepAnswer M s (x .taken)
 
 -- From state s on, each line of a report is that of a step that the order takes, which remembers c at first.
 unfoldable pub FollowsOrder : Order → Machine → ℕ → State → List Entry → Type 0

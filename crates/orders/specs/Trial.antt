@@ -48,4 +48,4 @@ trial o M seed = tryFrom o M (startMemory o seed) fresh (ceiling (M .carriers))
 
 -- The steps of a report, in order.
 unfoldable pub stepsIn : List Entry → List Step
-stepsIn es = map (λ (e : Entry). e .taken) es
+stepsIn es = map (λ (x : Entry). x .taken) es

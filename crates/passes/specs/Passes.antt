@@ -31,7 +31,7 @@ pub record BackwardReachable (g : SearchGrid) (table : List ℕ) (ds : Docks) (a
   pub spreads : (t : ℕ) → n ≤ t → t < a → Spread g table sets (t + 1) t
 
 -- a is the first number below n that passes a test, or n.
-pub record Earliest (p : ℕ → Bool) (n a : ℕ) : Type 0 where
+pub record Earliest (φ : ℕ → Bool) (n a : ℕ) : Type 0 where
   pub upto : a ≤ n
-  pub none-before : (b : ℕ) → b < a → p b ≡ true → ⊥
-  pub passes : a < n → p a ≡ true
+  pub none-before : (b : ℕ) → b < a → φ b ≡ true → ⊥
+  pub passes : a < n → φ a ≡ true

@@ -46,9 +46,9 @@ pub record StepClaims : Type 0 where
   -- steps, never above the budget.
   pub run-faithful : (M : Machine) (s : State) (xs : List Step) (b : ℕ) → FaithfulRun M s xs b (run M s xs b)
   -- A run ends silent exactly if no step is open then, and spent exactly if one is, taken equals the budget and unread steps are left.
-  pub ending-silent : (M : Machine) (b : ℕ) (r : RunResult) → (ending M b r ≡ silent) ↔ (isSilent M (r .state) ≡ true)
-  pub ending-spent : (M : Machine) (b : ℕ) (r : RunResult) →
-      (ending M b r ≡ spent) ↔ ((isSilent M (r .state) ≡ false) × (r .taken ≡ b) × (r .unread ≡ [] → ⊥))
+  pub ending-silent : (M : Machine) (b : ℕ) (x : RunResult) → (ending M b x ≡ silent) ↔ (isSilent M (x .state) ≡ true)
+  pub ending-spent : (M : Machine) (b : ℕ) (x : RunResult) →
+      (ending M b x ≡ spent) ↔ ((isSilent M (x .state) ≡ false) × (x .taken ≡ b) × (x .unread ≡ [] → ⊥))
   -- A run cut in two is the run of the first part and then the run of the rest with what is left of the budget.
   pub run-cut : (M : Machine) (s : State) (xs ys : List Step) (b : ℕ) →
       RunsJoined (run M s (xs ++ ys) b) (run M s xs b) (run M (run M s xs b .state) ys (b - run M s xs b .taken))

@@ -60,7 +60,7 @@ unfoldable pub firstConflict : ℕ → List ℕ → List ℕ → ConflictAnswer
 firstConflict H a b = firstBelow H a b (suc H)
 
 -- What the test says of two routes: free exactly if they have no conflict, otherwise the first one; any answer but free is a conflict.
-pub record TestedFor (H : ℕ) (a b : List ℕ) : Type 0 where
-  pub free-exactly : (firstConflict H a b ≡ free) ↔ ConflictFree H a b
-  pub first-exactly : (t : ℕ) (k : ConflictKind) → (firstConflict H a b ≡ dated t k) ↔ FirstAt H a b t k
-  pub conflict-exactly : (firstConflict H a b ≡ free → ⊥) ↔ Conflict H a b
+pub record TestedFor (H : ℕ) (r q : List ℕ) : Type 0 where
+  pub free-exactly : (firstConflict H r q ≡ free) ↔ ConflictFree H r q
+  pub first-exactly : (t : ℕ) (kind : ConflictKind) → (firstConflict H r q ≡ dated t kind) ↔ FirstAt H r q t kind
+  pub conflict-exactly : (firstConflict H r q ≡ free → ⊥) ↔ Conflict H r q

@@ -27,9 +27,9 @@ turns-before check i n l h = turn-passes check i (λ k b. turn-passed check n h 
 
 module _ (text : List ℕ) where
   -- A line in good form lies within the text.
-  pub line-reach : (at m : ℕ) → lineForm text at m ≡ passed → at + 5 * m < length text
+  pub line-reach : (at k : ℕ) → lineForm text at k ≡ passed → at + 5 * k < length text
   unfolding lineForm newlineForm
-  line-reach at m h =
+  line-reach at k h =
       let a = then-both _ _ h in
       ltb-true _ _ (demand-holds _ 1 _ (then-both _ _ (a .1) .0))
 
@@ -105,7 +105,7 @@ module _ (text : List ℕ) where
       lines-reach (countedForm text) (pastCounted text) 31 n counted-reach first (c .0)
       in
       let walls : columnPast pastPair (columnPast (pastCounted text) 31 n) k ≤ length text =
-      lines-reach (λ (e : ℕ). lineForm text e 2) pastPair (columnPast (pastCounted text) 31 n) k pair-reach carriers (d .0)
+      lines-reach (λ (p : ℕ). lineForm text p 2) pastPair (columnPast (pastCounted text) 31 n) k pair-reach carriers (d .0)
       in
       let last = columnPast pastPair (columnPast (pastCounted text) 31 n) k in
       let tail : length text ≤ last = leb-true _ _ (demand-holds _ 1 last (d .1)) in

@@ -32,21 +32,21 @@ module _ (m cells : List ℕ) (i tag : ℕ) where
   unfolding newsIn
   news-tag p a planned answer l e h = rw (← planned, ← answer, eq-eqb (getD m p 0) 1 e, old-record a l, ne-eqb (getD m a 0) tag h) refl
 
-  pub news-cells : (p a : ℕ) → p ≡ plannedPlace i → a ≡ answerPlace i → a < length m → getD m p 0 ≡ 1 → getD m a 0 ≡ tag → (b : Bool) →
-      b ≡ sameCells (part m (a + 1) 64) cells → not b ≡ newsIn m i (tag ∷ cells)
+  pub news-cells : (p a : ℕ) → p ≡ plannedPlace i → a ≡ answerPlace i → a < length m → getD m p 0 ≡ 1 → getD m a 0 ≡ tag → (x : Bool) →
+      x ≡ sameCells (part m (a + 1) 64) cells → not x ≡ newsIn m i (tag ∷ cells)
   unfolding newsIn
-  news-cells p a planned answer l e h b s =
+  news-cells p a planned answer l e h x s =
       rw (← planned, ← answer, eq-eqb (getD m p 0) 1 e, old-record a l, eq-eqb (getD m a 0) tag h, s) refl
 
 -- Three records moved up and the last cleared, at the places of a channel.
-pub shift-is : (m m₁ m₂ m₃ m₄ : List ℕ) (c p q r s : ℕ) → p ≡ c + 1 + 65 * 0 → q ≡ c + 1 + 65 * 1 → r ≡ c + 1 + 65 * 2 →
-    s ≡ c + 1 + 65 * 3 → m₁ ≡ moved m q p → m₂ ≡ moved m₁ r q → m₃ ≡ moved m₂ s r → m₄ ≡ put m₃ s (resized 65 []) → m₄ ≡ shifted m c
+pub shift-is : (m m₁ m₂ m₃ m₄ : List ℕ) (c p p′ n j : ℕ) → p ≡ c + 1 + 65 * 0 → p′ ≡ c + 1 + 65 * 1 → n ≡ c + 1 + 65 * 2 →
+    j ≡ c + 1 + 65 * 3 → m₁ ≡ moved m p′ p → m₂ ≡ moved m₁ n p′ → m₃ ≡ moved m₂ j n → m₄ ≡ put m₃ j (resized 65 []) → m₄ ≡ shifted m c
 unfolding shifted
-shift-is m m₁ m₂ m₃ m₄ c p q r s a b d e f g h k =
+shift-is m m₁ m₂ m₃ m₄ c p p′ n j a b d e f g h k =
     let one : p ≡ c + 1 = omega arith in
-    let two : q ≡ c + 66 = omega arith in
-    let three : r ≡ c + 131 = omega arith in
-    let four : s ≡ c + 196 = omega arith in
+    let two : p′ ≡ c + 66 = omega arith in
+    let three : n ≡ c + 131 = omega arith in
+    let four : j ≡ c + 196 = omega arith in
     k ∙ rw (h, g, f, one, two, three, four) refl
 
 module _ (m rec : List ℕ) (c : ℕ) where

@@ -52,12 +52,12 @@ trial-tells f ws order state report h =
     record { checked = then-both _ _ (a .0) .0; placed = place-tells f ws state (a .0); wide = length-passed _ _ (b .0) }
 
 -- The length of a report, as the code asks for it behind a check of the floor and its state that passed.
-pub report-length : {a : Checked} (b : Checked) (f : Floor) (ws : List ℕ) (state most report : ℕ) → verdictOf a ≡ placeVerdict f ws state →
-    a ≡ Passed →
-    (1 ≤ f .carriers → f .carriers ≤ 8 → most ≡ ceiling (f .carriers)) × (most ≤ 512) → verdictOf b ≡ longEnough (2 * most) report →
-    verdictOf b ≡ longEnough (reportSize (f .carriers)) report
+pub report-length : {x : Checked} (y : Checked) (f : Floor) (ws : List ℕ) (state most report : ℕ) → verdictOf x ≡ placeVerdict f ws state →
+    x ≡ Passed →
+    (1 ≤ f .carriers → f .carriers ≤ 8 → most ≡ ceiling (f .carriers)) × (most ≤ 512) → verdictOf y ≡ longEnough (2 * most) report →
+    verdictOf y ≡ longEnough (reportSize (f .carriers)) report
 unfolding reportSize
-report-length b f ws state most report v e m h =
+report-length y f ws state most report v e m h =
     let n = placed-bounds (place-tells f ws state (passes v e)) .carriers in
     h ∙ rw (m .0 (n .0) (n .1))
 
@@ -81,10 +81,10 @@ module _ (n : ℕ) (m : List ℕ) where
     front-rest = rw e (encode-beyond n fresh m)
 
     pub front-fresh : m′ ≡ encode n fresh ++ drop (stateSize n) m′
-    front-fresh = e ∙ front-is fresh ∙ ap (λ (l : List ℕ). encode n fresh ++ l) (sym front-rest)
+    front-fresh = e ∙ front-is fresh ∙ ap (λ (xs : List ℕ). encode n fresh ++ xs) (sym front-rest)
 
     pub front-last : (z : State) (m″ : List ℕ) → m″ ≡ encode n z ++ drop (stateSize n) m′ → m″ ≡ put m 0 (encode n z)
-    front-last z m″ h = h ∙ ap (λ (l : List ℕ). encode n z ++ l) front-rest ∙ sym (front-is z)
+    front-last z m″ h = h ∙ ap (λ (xs : List ℕ). encode n z ++ xs) front-rest ∙ sym (front-is z)
 
 -- Order 2 remembers a place or the end of the ranking.
 pub memory-round : (f : Floor) (ws : List ℕ) (o : Order) (c : ℕ) → Memory o (machineOf f ws) c → o ≡ round → c ≤ places (f .carriers)

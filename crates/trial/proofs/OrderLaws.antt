@@ -95,7 +95,7 @@ module _ (n : ℕ) where
   unfolding mostSteps _gives_ demand within ceiling
   most-told t e = go (within 1 8 n) refl e
     where
-      go : (b : Bool) → within 1 8 n ≡ b → value t ≡ (demand b 2 5 gives ceiling n) → (1 ≤ n → n ≤ 8 → t ≡ ceiling n) × (t ≤ 512)
+      go : (x : Bool) → within 1 8 n ≡ x → value t ≡ (demand x 2 5 gives ceiling n) → (1 ≤ n → n ≤ 8 → t ≡ ceiling n) × (t ≤ 512)
       go true w h =
           let same : t ≡ ceiling n = cc in
           let few : n ≤ 8 = leb-true n 8 (and-snd (leb 1 n) (leb n 8) w) in

@@ -104,8 +104,8 @@ module _ (f : Floor) (ws : List ℕ) (o : Order) (seed : ℕ) (m₀ report₀ : 
         keeps = start-memory o (machineOf f ws) seed;
         number = refl;
         stored = put-none report₀ 0;
-        told = ap (λ (r : TrialResult). r .report) all;
-        leads = ap (λ (r : TrialResult). r .state) all;
+        told = ap (λ (x : TrialResult). x .report) all;
+        leads = ap (λ (x : TrialResult). x .state) all;
       }
     where
       all : tryFrom o (machineOf f ws) (startMemory o seed) fresh (ceiling (f .carriers)) ≡
@@ -123,13 +123,13 @@ module _ (f : Floor) (ws : List ℕ) (o : Order) (seed : ℕ) (m₀ report₀ : 
     shown-count : openCount f m (places (f .carriers)) ≡ length (passing (openAt N s) (places (N .carriers)))
     unfolding machineOf
     shown-count =
-        ap (λ (z : List ℕ). openCount f z (places (f .carriers))) (p .shows)
+        ap (λ (xs : List ℕ). openCount f xs (places (f .carriers))) (p .shows)
         ∙ count-same f ws s (drop (stateSize (f .carriers)) m₀) (places (f .carriers))
 
     -- What the order takes, and that it is open.
     taken-place : chosenIn o f m c ≡ chosen o N s c
     taken-place =
-        ap (λ (z : List ℕ). chosenIn o f z c) (p .shows) ∙ chosen-same f ws s (drop (stateSize (f .carriers)) m₀) o c
+        ap (λ (xs : List ℕ). chosenIn o f xs c) (p .shows) ∙ chosen-same f ws s (drop (stateSize (f .carriers)) m₀) o c
 
     takes : 0 < openCount f m (places (f .carriers)) → Takes o N s c (chosen o N s c)
     takes l = chosen-takes N s o c (p .keeps) (rw (← shown-count) l)
@@ -160,13 +160,13 @@ module _ (f : Floor) (ws : List ℕ) (o : Order) (seed : ℕ) (m₀ report₀ : 
 
       says : stepAnswerIn N m x ≡ stepAnswer N s x
       says =
-          ap (λ (z : List ℕ). stepAnswerIn N z x) (p .shows)
+          ap (λ (xs : List ℕ). stepAnswerIn N xs x) (p .shows)
           ∙ step-says f ws ok s (p .fits) (drop (stateSize (f .carriers)) m₀) x x-open
 
       stores : m′ ≡ encode (f .carriers) (afterStep N s x) ++ drop (stateSize (f .carriers)) m₀
       stores =
           a .stores ∙ ap (afterIn N m) x-is
-          ∙ ap (λ (z : List ℕ). afterIn N z x) (p .shows)
+          ∙ ap (λ (xs : List ℕ). afterIn N xs x) (p .shows)
           ∙ step-stores f ws ok s (p .fits) (drop (stateSize (f .carriers)) m₀) x x-open
 
       numbers : report′ ≡ put report (2 * t) (numberOf (line .taken) ∷ (answerNumber (line .answer) ∷ []))
@@ -174,7 +174,7 @@ module _ (f : Floor) (ws : List ℕ) (o : Order) (seed : ℕ) (m₀ report₀ : 
       numbers =
           a .reports
           ∙ ap (λ (y : Step). put report (2 * t) (numberOf y ∷ (answerNumber (stepAnswerIn N m y) ∷ []))) x-is
-          ∙ ap (λ (r : StepAnswer). put report (2 * t) (numberOf x ∷ (answerNumber r ∷ []))) says
+          ∙ ap (λ (y : StepAnswer). put report (2 * t) (numberOf x ∷ (answerNumber y ∷ []))) says
 
       -- The report keeps its length, and has one line more.
       size : length (reportNumbers (p .entries)) ≡ 2 * t
@@ -209,12 +209,12 @@ module _ (f : Floor) (ws : List ℕ) (o : Order) (seed : ℕ) (m₀ report₀ : 
       told-more : trial o N seed .report ≡ (p .entries ++ (line ∷ [])) ++ left .report
       unfolding reported
       told-more =
-          p .told ∙ ap (λ (r : TrialResult). p .entries ++ r .report) goes-there
+          p .told ∙ ap (λ (x : TrialResult). p .entries ++ x .report) goes-there
           ∙ sym (append-assoc (p .entries) (line ∷ []) (left .report))
 
       leads-more : trial o N seed .state ≡ left .state
       unfolding reported
-      leads-more = p .leads ∙ ap (λ (r : TrialResult). r .state) goes-there
+      leads-more = p .leads ∙ ap (λ (x : TrialResult). x .state) goes-there
 
       pub playing-more : Playing m′ report′ next (t + 1)
       unfolding left
@@ -240,12 +240,12 @@ module _ (f : Floor) (ws : List ℕ) (o : Order) (seed : ℕ) (m₀ report₀ : 
         (report ≡ put report₀ 0 (reportNumbers (trial o N seed .report))))
     stopped e =
         let all : trial o N seed .report ≡ p .entries =
-        p .told ∙ ap (λ (r : TrialResult). p .entries ++ r .report) e ∙ append-nil (p .entries) in
-        let last : trial o N seed .state ≡ s = p .leads ∙ ap (λ (r : TrialResult). r .state) e in (
+        p .told ∙ ap (λ (x : TrialResult). p .entries ++ x .report) e ∙ append-nil (p .entries) in
+        let last : trial o N seed .state ≡ s = p .leads ∙ ap (λ (x : TrialResult). x .state) e in (
           p .number ∙ ap length (sym all),
           (
             p .shows ∙ ap (λ (z : State). encode (f .carriers) z ++ drop (stateSize (f .carriers)) m₀) (sym last),
-            p .stored ∙ ap (λ (es : List Entry). put report₀ 0 (reportNumbers es)) (sym all),
+            p .stored ∙ ap (λ (xs : List Entry). put report₀ 0 (reportNumbers xs)) (sym all),
           ),
         )
 

@@ -18,10 +18,10 @@ use Rattle.orders.proofs.PassingLaws.{passing-item}
 use Rattle.trial.specs.Inner.{opensIn, openCount, turnIn, chosenIn}
 
 -- Two tests that agree pass the same places.
-passing-same : (p q : ℕ → Bool) → ((i : ℕ) → p i ≡ q i) → (k : ℕ) → passing p k ≡ passing q k
+passing-same : (φ ψ : ℕ → Bool) → ((i : ℕ) → φ i ≡ ψ i) → (k : ℕ) → passing φ k ≡ passing ψ k
 unfolding passing
-passing-same p q h zero = refl
-passing-same p q h (suc k) = rw (passing-same p q h k, h k)
+passing-same φ ψ h zero = refl
+passing-same φ ψ h (suc k) = rw (passing-same φ ψ h k, h k)
 
 -- The place that an order takes is open.
 pub chosen-opens : (o : Order) (f : Floor) (m : List ℕ) (c : ℕ) → 0 < openCount f m (places (f .carriers)) →
