@@ -48,29 +48,29 @@ four-blocks m m₁ m₂ m₃ m₄ xs ys zs xs′ e f g h la lb lc ld l =
     put-next m m₃ m₄ ((xs ++ ys) ++ zs) xs′ 0 22 three h (omega arith) (omega arith) ∙ ap (put m 0) (simp append-assoc)
 
 -- A loop that copies numbers into an array of thirty-two: before the first, one more, and after the last.
-pub record NumbersCopied (xs : List ℕ) (at t : ℕ) (r : List ℕ) : Type 0 where
-  pub within : t ≤ 32
+pub record NumbersCopied (xs : List ℕ) (at k : ℕ) (r : List ℕ) : Type 0 where
+  pub within : k ≤ 32
   pub long : length r ≡ 32
-  pub same : (i : ℕ) → i < t → getD r i 0 ≡ getD xs (at + i) 0
+  pub same : (i : ℕ) → i < k → getD r i 0 ≡ getD xs (at + i) 0
 
 pub copied-start : (xs : List ℕ) (at : ℕ) (r : List ℕ) → length r ≡ 32 → NumbersCopied xs at 0 r
 copied-start xs at r l = record { within = omega arith; long = l; same = λ i h. absurd (omega arith) }
 
-pub copied-more : {xs : List ℕ} {at t : ℕ} {r : List ℕ} → NumbersCopied xs at t r → t < 32
-    → NumbersCopied xs at (t + 1) (set r t (getD xs (at + t) 0))
-copied-more {xs} {at} {t} {r} w l =
+pub copied-more : {xs : List ℕ} {at k : ℕ} {r : List ℕ} → NumbersCopied xs at k r → k < 32
+    → NumbersCopied xs at (k + 1) (set r k (getD xs (at + k) 0))
+copied-more {xs} {at} {k} {r} w l =
     record {
       within = omega arith;
-      long = length-set r t _ ∙ w .long;
+      long = length-set r k _ ∙ w .long;
       same = λ i h.
           ⊎-elim
-          (λ (e : i ≡ t). rw (e, getD-set-same r t _ 0 (omega (arith, w .long))) refl)
-          (λ (n : i ≡ t → ⊥). getD-set-other r t i _ 0 n ∙ w .same i (omega arith))
-          (eq-or-ne i t);
+          (λ (e : i ≡ k). rw (e, getD-set-same r k _ 0 (omega (arith, w .long))) refl)
+          (λ (n : i ≡ k → ⊥). getD-set-other r k i _ 0 n ∙ w .same i (omega arith))
+          (eq-or-ne i k);
     }
 
-pub copied-end : {xs : List ℕ} {at t : ℕ} {r : List ℕ} → NumbersCopied xs at t r → 32 ≤ t → at + 32 ≤ length xs → r ≡ part xs at 32
-copied-end {xs} {at} {t} {r} w l b = sym (part-is xs at 32 r b (w .long) (λ i h. sym (w .same i (omega (arith, w .within)))))
+pub copied-end : {xs : List ℕ} {at k : ℕ} {r : List ℕ} → NumbersCopied xs at k r → 32 ≤ k → at + 32 ≤ length xs → r ≡ part xs at 32
+copied-end {xs} {at} {k} {r} w l b = sym (part-is xs at 32 r b (w .long) (λ i h. sym (w .same i (omega (arith, w .within)))))
 
 -- A block that stands behind others.
 module _ (xs ys zs r : List ℕ) (la : length xs ≡ 8) (lb : length ys ≡ 8) (lc : length zs ≡ 32) where

@@ -68,10 +68,10 @@ stored-tag xs m old j a l e =
     ∙ ap (λ (xs : List ℕ). getD xs 0 0) (record-stored xs old j a l)
 
 -- The tag tells whether the answer is none.
-by-tag : (x : Answer) (t : ℕ) → t ≡ getD (recordOf x) 0 0 → (t ≡ 2 → isNone x ≡ false) × ((t ≡ 2 → ⊥) → isNone x ≡ true)
+by-tag : (x : Answer) (tag : ℕ) → tag ≡ getD (recordOf x) 0 0 → (tag ≡ 2 → isNone x ≡ false) × ((tag ≡ 2 → ⊥) → isNone x ≡ true)
 unfolding recordOf isNone
-by-tag none t e = (λ h. absurd (omega arith), λ h. refl)
-by-tag (route r) t e = (λ h. refl, λ h. absurd (h e))
+by-tag none tag e = (λ h. absurd (omega arith), λ h. refl)
+by-tag (route r) tag e = (λ h. refl, λ h. absurd (h e))
 
 -- The plan of a checked floor in memory of the entry's own.
 module _ (f : Floor) (ws : List ℕ) (ok : checkOf f ws ≡ passed) where

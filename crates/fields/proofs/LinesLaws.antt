@@ -70,7 +70,7 @@ module _ {M : Type 1} (𝓤 : URA M) (H : Heap 𝓤) (A : Atoms 𝓤) (W : Given
       (λ κs a. fact 𝓤 (Asked (a .1 .0) (a .1 .1 .0))) (λ κs a. LinesAnswered (a .0) (a .1 .0) (a .1 .1 .0))
 
   module _ (κ : Lft) (share : Share) (s : RefT (List ℕ)) (at n : ℕ) (at-fits : at < 2 ^ 64) (m-fits : n < 2 ^ 64)
-      (low : (i c : ℕ) → Along (form (s .now)) (past (s .now)) at n i c → i < n → c ≤ most) where
+      (low : (i column : ℕ) → Along (form (s .now)) (past (s .now)) at n i column → i < n → column ≤ most) where
     abbrev v : Val
     v = L.v 𝓤 H A W κ share s
 
@@ -133,7 +133,7 @@ module _ {M : Type 1} (𝓤 : URA M) (H : Heap 𝓤) (A : Atoms 𝓤) (W : Given
   module _ (𝓣 : Tables 𝓤 H) (known-begin : Triple 𝓤 (𝓣 .C #begin) (Begin 𝓤 H A)) (k : Name)
       (known-line : Triple 𝓤 (𝓣 .C k) (Line 𝓤 form past most H A)) (known-moved : Triple 𝓤 (𝓣 .C #moved) (ReaderMoved 𝓤 H A))
       (known-reached : Triple 𝓤 (𝓣 .C #reached) (Arrived 𝓤 H A))
-      (low : (text : List ℕ) (at n : ℕ) → Asked at n → (i c : ℕ) → Along (form text) (past text) at n i c → i < n → c ≤ most) where
+      (low : (text : List ℕ) (at n : ℕ) → Asked at n → (i column : ℕ) → Along (form text) (past text) at n i column → i < n → column ≤ most) where
     lines-walk : Walks 𝓤 H A Lines stayed (WpFn 𝓤 H (𝓣 .C) (𝓣 .Λ) (lines k)) clauses
     lines-walk =
         walked 𝓤 H A Lines stayed clauses (WpFn 𝓤 H (𝓣 .C) (𝓣 .Λ) (lines k))

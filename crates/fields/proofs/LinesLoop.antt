@@ -73,8 +73,8 @@ module _ {M : Type 1} (𝓤 : URA M) (H : Heap 𝓤) (A : Atoms 𝓤) (W : Given
   abbrev αᵉ : NamedLft
   αᵉ = record { mir = erased; lft = κ }
 
-  pub typed : (c : ℕ) (u : Val) → Is (B (κ, tt)) (here c) (u ∷ []) → Holds (hasTy reader u) × WT u
-  typed c u is = LL.lawful (T.the-type αᵉ) (T′.the-laws αᵉ) 𝓤 H A W .typed (here c) _ is .0
+  pub typed : (column : ℕ) (u : Val) → Is (B (κ, tt)) (here column) (u ∷ []) → Holds (hasTy reader u) × WT u
+  typed column u is = LL.lawful (T.the-type αᵉ) (T′.the-laws αᵉ) 𝓤 H A W .typed (here column) _ is .0
 
   -- an answer's machine value, and that owning tells it
   abbrev val : Reached → Val
@@ -87,7 +87,7 @@ module _ {M : Type 1} (𝓤 : URA M) (H : Heap 𝓤) (A : Atoms 𝓤) (W : Given
   typed-answer x u is = EL.lawful S.the-type S′.the-laws 𝓤 H A W tt .typed x _ is .0
 
   module _ (form : List ℕ → ℕ → Verdict) (past : List ℕ → ℕ → ℕ) (most at n : ℕ) (few : n < 2 ^ 64)
-      (low : (i c : ℕ) → Along (form (s .now)) (past (s .now)) at n i c → i < n → c ≤ most) (Post : Val → SProp 𝓤)
+      (low : (i column : ℕ) → Along (form (s .now)) (past (s .now)) at n i column → i < n → column ≤ most) (Post : Val → SProp 𝓤)
       (exits : (y : Reached) (u : Val) → y ≡ reachedOf (linesForm (form (s .now)) (past (s .now)) at n) (columnPast (past (s .now)) at n)
       → ent 𝓤 (⋆ 𝓤 H A (‵ (S.the-row .own y (u ∷ [])) ∷ Tok ∷ ‵ Own ∷ [])) (Post u)) where
     abbrev LoopTurn : Type 0
@@ -107,8 +107,8 @@ module _ {M : Type 1} (𝓤 : URA M) (H : Heap 𝓤) (A : Atoms 𝓤) (W : Given
     count-fits turn l = omega (arith, l, few)
 
     -- the column that a line's answer tells is a number of its type
-    column-fits : (c : ℕ) → Is S.the-row (At c) (val (At c) ∷ []) → c < 2 ^ 64
-    column-fits c is = typed-answer (At c) (val (At c)) is .1 .1 .0 .fits
+    column-fits : (column : ℕ) → Is S.the-row (At column) (val (At column) ∷ []) → column < 2 ^ 64
+    column-fits column is = typed-answer (At column) (val (At column)) is .1 .1 .0 .fits
 
     module _ (𝓣 : Tables 𝓤 H) (k : Name) (known-line : Triple 𝓤 (𝓣 .C k) (Line 𝓤 form past most H A))
         (known-moved : Triple 𝓤 (𝓣 .C #moved) (ReaderMoved 𝓤 H A)) (known-reached : Triple 𝓤 (𝓣 .C #reached) (Arrived 𝓤 H A))

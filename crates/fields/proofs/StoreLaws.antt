@@ -18,8 +18,8 @@ room-kept m n i x l = rw length-set l
 pub ruleset stores = (room-of-five, room-kept, lit<)
 
 -- Five columns of a number are its field.
-pub put-columns : (m : List ℕ) (at x : ℕ) {a b c d p : ℕ} → a ≡ column 10000 x → b ≡ column 1000 x → c ≡ column 100 x → d ≡ column 10 x
-    → p ≡ 48 + x % 10 → at + 5 ≤ length m
-    → set (set (set (set (set m at a) (at + 1) b) (at + 2) c) (at + 3) d) (at + 4) p ≡ put m at (fieldOf x)
+pub put-columns : (m : List ℕ) (at x : ℕ) {x₁ x₂ x₃ x₄ x₅ : ℕ} → x₁ ≡ column 10000 x → x₂ ≡ column 1000 x → x₃ ≡ column 100 x → x₄ ≡ column 10 x
+    → x₅ ≡ 48 + x % 10 → at + 5 ≤ length m
+    → set (set (set (set (set m at x₁) (at + 1) x₂) (at + 2) x₃) (at + 3) x₄) (at + 4) x₅ ≡ put m at (fieldOf x)
 unfolding fieldOf
-put-columns m at x a b c d p l = rw (a, b, c, d, p) (put-five m at _ _ _ _ _ l)
+put-columns m at x x₁ x₂ x₃ x₄ x₅ l = rw (x₁, x₂, x₃, x₄, x₅) (put-five m at _ _ _ _ _ l)

@@ -115,13 +115,13 @@ module _ (f : Floor) (ws : List ℕ) (ok : checkOf f ws ≡ passed) (xs : ℕ �
         rows-short t,
       )
 
-  pub frame-put : (t at a b c n : ℕ) (old m₁ m₂ m₃ new : List ℕ) → PutAt beatWords old at m₁ a → PutAt (shortDecimal t) m₁ a m₂ b →
-      PutAt (10 ∷ []) m₂ b m₃ c → PutAt (frameRows f ws xs t) m₃ c new n → at + 1064 ≤ length old → PutAt (frameOf f ws xs t) old at new n
+  pub frame-put : (t at n₁ n₂ n₃ n : ℕ) (old m₁ m₂ m₃ new : List ℕ) → PutAt beatWords old at m₁ n₁ → PutAt (shortDecimal t) m₁ n₁ m₂ n₂ →
+      PutAt (10 ∷ []) m₂ n₂ m₃ n₃ → PutAt (frameRows f ws xs t) m₃ n₃ new n → at + 1064 ≤ length old → PutAt (frameOf f ws xs t) old at new n
   unfolding frameOf beatWords
-  frame-put t at a b c n old m₁ m₂ m₃ new p q r s l =
-      let d = short-within t in
+  frame-put t at n₁ n₂ n₃ n old m₁ m₂ m₃ new p q r s l =
+      let n₄ = short-within t in
       let g = rows-short t in
-      let line : PutAt ((beatWords ++ shortDecimal t) ++ (10 ∷ [])) old at m₃ c =
+      let line : PutAt ((beatWords ++ shortDecimal t) ++ (10 ∷ [])) old at m₃ n₃ =
       put-behind (put-behind p q (omega (arith, p .behind, q .behind))) r (omega (arith, p .behind, q .behind, r .behind)) in
       put-behind line s (omega (arith, p .behind, q .behind, r .behind, s .behind))
 

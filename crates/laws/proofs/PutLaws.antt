@@ -67,29 +67,29 @@ unfolding put
 put-one m at x l = rw add-one (set-split m at x l)
 
 -- Five elements stored one after the other.
-pub put-five : (m : List ℕ) (at a b c d p : ℕ) → at + 5 ≤ length m
-    → set (set (set (set (set m at a) (at + 1) b) (at + 2) c) (at + 3) d) (at + 4) p ≡ put m at (a ∷ b ∷ c ∷ d ∷ p ∷ [])
+pub put-five : (m : List ℕ) (at x₁ x₂ x₃ x₄ x₅ : ℕ) → at + 5 ≤ length m
+    → set (set (set (set (set m at x₁) (at + 1) x₂) (at + 2) x₃) (at + 3) x₄) (at + 4) x₅ ≡ put m at (x₁ ∷ x₂ ∷ x₃ ∷ x₄ ∷ x₅ ∷ [])
 unfolding put
-put-five m at a b c d p l =
-    rw (add-one, add-two, add-three, add-four, ← append-assoc) (sets-eq (a ∷ b ∷ c ∷ d ∷ p ∷ []) m at l)
+put-five m at x₁ x₂ x₃ x₄ x₅ l =
+    rw (add-one, add-two, add-three, add-four, ← append-assoc) (sets-eq (x₁ ∷ x₂ ∷ x₃ ∷ x₄ ∷ x₅ ∷ []) m at l)
 
 -- A loop that stores a list element by element: before the first, one more, its length, and after the last.
 pub copy-start : (m xs : List ℕ) (at : ℕ) → m ≡ put m at (take 0 xs)
 copy-start m xs at = put-none m at
 
-pub copy-more : (m m′ xs : List ℕ) (at t : ℕ) → m′ ≡ put m at (take t xs) → t < length xs → at + length xs ≤ length m
-    → set m′ (at + t) (getD xs t 0) ≡ put m at (take (t + 1) xs)
-copy-more m m′ xs at t e l s =
-    let size : length (take t xs) ≡ t = length-take-le t xs (omega arith) in
-    let long : length m′ ≡ length m = ap length e ∙ put-length m (take t xs) at (omega arith) in
-    rw (add-one, take-suc xs t 0)
-    (put-next m m′ (set m′ (at + t) (getD xs t 0)) (take t xs) (getD xs t 0 ∷ []) at (at + t) e
-    (put-one m′ (at + t) (getD xs t 0) (omega arith)) (rw size) (rw add-one (omega arith)))
+pub copy-more : (m m′ xs : List ℕ) (at i : ℕ) → m′ ≡ put m at (take i xs) → i < length xs → at + length xs ≤ length m
+    → set m′ (at + i) (getD xs i 0) ≡ put m at (take (i + 1) xs)
+copy-more m m′ xs at i e l s =
+    let size : length (take i xs) ≡ i = length-take-le i xs (omega arith) in
+    let long : length m′ ≡ length m = ap length e ∙ put-length m (take i xs) at (omega arith) in
+    rw (add-one, take-suc xs i 0)
+    (put-next m m′ (set m′ (at + i) (getD xs i 0)) (take i xs) (getD xs i 0 ∷ []) at (at + i) e
+    (put-one m′ (at + i) (getD xs i 0) (omega arith)) (rw size) (rw add-one (omega arith)))
 
-pub copy-keeps : (m m′ xs : List ℕ) (at t : ℕ) → m′ ≡ put m at (take t xs) → t ≤ length xs → at + length xs ≤ length m
+pub copy-keeps : (m m′ xs : List ℕ) (at i : ℕ) → m′ ≡ put m at (take i xs) → i ≤ length xs → at + length xs ≤ length m
     → length m′ ≡ length m
-copy-keeps m m′ xs at t e l s =
-    ap length e ∙ put-length m (take t xs) at (omega (arith, length-take-le t xs l))
+copy-keeps m m′ xs at i e l s =
+    ap length e ∙ put-length m (take i xs) at (omega (arith, length-take-le i xs l))
 
-pub copy-end : (m m′ xs : List ℕ) (at t : ℕ) → m′ ≡ put m at (take t xs) → length xs ≤ t → m′ ≡ put m at xs
-copy-end m m′ xs at t e l = e ∙ ap (put m at) (take-all t xs l)
+pub copy-end : (m m′ xs : List ℕ) (at i : ℕ) → m′ ≡ put m at (take i xs) → length xs ≤ i → m′ ≡ put m at xs
+copy-end m m′ xs at i e l = e ∙ ap (put m at) (take-all i xs l)

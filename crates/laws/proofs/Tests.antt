@@ -58,11 +58,11 @@ pub eq-or-ne : (k n : ℕ) → (k ≡ n) ⊎ (k ≡ n → ⊥)
 eq-or-ne k n =
     ⊎-elim (λ (e : eqb k n ≡ true). inl (eqb-true k n e)) (λ (e : eqb k n ≡ false). inr (eqb-false k n e)) (true-or-false (eqb k n))
 
-pub eqbs-say : (a b c d : ℕ) → (eqb a b && eqb c d) ≡ true → (a ≡ b) × (c ≡ d)
-eqbs-say a b c d e = (eqb-true a b (and-fst (eqb a b) (eqb c d) e), eqb-true c d (and-snd (eqb a b) (eqb c d) e))
+pub eqbs-say : (a b a′ b′ : ℕ) → (eqb a b && eqb a′ b′) ≡ true → (a ≡ b) × (a′ ≡ b′)
+eqbs-say a b a′ b′ e = (eqb-true a b (and-fst (eqb a b) (eqb a′ b′) e), eqb-true a′ b′ (and-snd (eqb a b) (eqb a′ b′) e))
 
-pub eqbs-hold : (a b c d : ℕ) → (a ≡ b) × (c ≡ d) → (eqb a b && eqb c d) ≡ true
-eqbs-hold a b c d h = and-both (eq-eqb a b (h .0)) (eq-eqb c d (h .1))
+pub eqbs-hold : (a b a′ b′ : ℕ) → (a ≡ b) × (a′ ≡ b′) → (eqb a b && eqb a′ b′) ≡ true
+eqbs-hold a b a′ b′ h = and-both (eq-eqb a b (h .0)) (eq-eqb a′ b′ (h .1))
 
 -- Two tests that say the same are the same.
 pub same-test : (x y : Bool) → (x ≡ true → y ≡ true) → (y ≡ true → x ≡ true) → x ≡ y

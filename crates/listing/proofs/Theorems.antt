@@ -78,12 +78,12 @@ module _ (M : Machine) where
   within-ceiling rank l = omega (arith, complete-short M fresh (runAt M rank) (listed-complete rank l), fresh-ceiling)
 
 -- A trial in order 1 is a complete run.
-trial-complete : (M : Machine) (c : ℕ) (s : State) (xs : List Entry) → FollowsOrder first M c s xs →
+trial-complete : (M : Machine) (kept : ℕ) (s : State) (xs : List Entry) → FollowsOrder first M kept s xs →
     isSilent M (afterSteps M s (stepsIn xs)) ≡ true → Complete M s (stepsIn xs)
 unfolding FollowsOrder stepsIn afterSteps Complete
-trial-complete M c s [] h e = e
-trial-complete M c s (x ∷ xs) h e =
-    (h .1 .isOpen, trial-complete M (remembered first c (h .0)) (afterStep M s (x .taken)) xs (h .2) e)
+trial-complete M kept s [] h e = e
+trial-complete M kept s (x ∷ xs) h e =
+    (h .1 .isOpen, trial-complete M (remembered first kept (h .0)) (afterStep M s (x .taken)) xs (h .2) e)
 
 pub some-run : (M : Machine) → 0 < total M
 some-run M =

@@ -15,11 +15,11 @@ use Rattle.orders.specs.Trial.{Entry}
 abbrev pub ShutFrom : Machine → State → ℕ → ℕ → Type 0
 ShutFrom M s a b = (p : ℕ) → a ≤ p → p < b → openAt M s p ≡ false
 
--- Going round the ranking from place c, the step at place p is the first that is open: before it come the places from c up to p, or,
--- where p is before c, those from c to the end and then those from the top up to p.
-pub data FirstRound (M : Machine) (s : State) (c p : ℕ) : Type 0 where
-  onward : c ≤ p → ShutFrom M s c p → FirstRound M s c p
-  around : p < c → ShutFrom M s c (places (M .carriers)) → ShutFrom M s 0 p → FirstRound M s c p
+-- Going round the ranking from place kept, the step at place p is the first that is open: before it come the places from kept up to p, or,
+-- where p is before kept, those from kept to the end and then those from the top up to p.
+pub data FirstRound (M : Machine) (s : State) (kept p : ℕ) : Type 0 where
+  onward : kept ≤ p → ShutFrom M s kept p → FirstRound M s kept p
+  around : p < kept → ShutFrom M s kept (places (M .carriers)) → ShutFrom M s 0 p → FirstRound M s kept p
 
 -- An order that remembers c may take place p. Order 1: the first open one. Order 2: the first open one going round. Order 3: with m
 -- open ones, the one at the drawn number modulo m.
@@ -29,11 +29,11 @@ MayTake round M s c p = FirstRound M s c p
 MayTake drawn M s c p = p ≡ getD (openPlaces M s) (drawnBy c % length (openPlaces M s)) 0
 
 -- A line of the report is that of a step, open when it was taken, at a place that the order may take; with the machine's answer.
-pub record TakenBy (o : Order) (M : Machine) (c : ℕ) (s : State) (x : Entry) (p : ℕ) : Type 0 where
+pub record TakenBy (o : Order) (M : Machine) (kept : ℕ) (s : State) (x : Entry) (p : ℕ) : Type 0 where
   pub listed : p < places (M .carriers)
   pub step : x .taken ≡ stepAt (M .carriers) p
   pub isOpen : isOpen M s (x .taken) ≡ true
-  pub rule : MayTake o M s c p
+  pub rule : MayTake o M s kept p
   pub answer : x .answer ≡ stepAnswer M s (x .taken)
 
 -- From state s on, each line of a report is that of a step that the order takes, which remembers c at first.

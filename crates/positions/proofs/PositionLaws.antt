@@ -39,11 +39,11 @@ position-end at-byte k at n a b e =
     rw same at e
 
 -- The words of a position, put piece by piece.
-pub position-put : (line column a b c d n : ℕ) (old m₁ m₂ m₃ m₄ new : List ℕ) → PutAt lineWord old 0 m₁ a → PutAt (decimal line) m₁ a m₂ b
-    → PutAt columnWord m₂ b m₃ c → PutAt (decimal column) m₃ c m₄ d → PutAt colon m₄ d new n → 26 ≤ length old
+pub position-put : (line column n₁ n₂ n₃ n₄ n : ℕ) (old m₁ m₂ m₃ m₄ new : List ℕ) → PutAt lineWord old 0 m₁ n₁ → PutAt (decimal line) m₁ n₁ m₂ n₂
+    → PutAt columnWord m₂ n₂ m₃ n₃ → PutAt (decimal column) m₃ n₃ m₄ n₄ → PutAt colon m₄ n₄ new n → 26 ≤ length old
     → PutAt (positionText line column) old 0 new n
 unfolding positionText lineWord columnWord colon
-position-put line column a b c d n old m₁ m₂ m₃ m₄ new p q r s t l =
+position-put line column n₁ n₂ n₃ n₄ n old m₁ m₂ m₃ m₄ new p q r s t l =
     let x = decimal-short line in
     let y = decimal-short column in
     let first = put-behind p q (omega (arith, p .behind, q .behind)) in

@@ -113,7 +113,7 @@ module _ (f : Floor) (q m : List ℕ) (j : ℕ) (short : f .horizon ≤ 63) (l :
   by-tag true e =
       put-view q (parked f j) 2 j l (parked-length f j short)
       ∙ none-seen f j (parked f j) cells refl
-      ∙ ap (λ (t : ℕ). seenAs f j (viewOf t cells)) (sym (eqb-true tag 1 e))
+      ∙ ap (λ (tag : ℕ). seenAs f j (viewOf tag cells)) (sym (eqb-true tag 1 e))
   by-tag false e =
       ap (λ (xs : List ℕ). viewAt (put q (65 * j) xs) j) (sym (part-first m (65 * j) 64 (omega arith)))
       ∙ put-view q cells tag j l (part-length m (65 * j + 1) 64 (omega arith))

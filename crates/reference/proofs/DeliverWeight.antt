@@ -20,10 +20,10 @@ unfolding isEmpty newer
 newer-length [] e = true-false-absurd refl e
 newer-length (a ∷ xs) e = omega arith
 
-due-most : (x : Bool) (u : ℕ) → dueWeight x u ≤ u - 1
+due-most : (x : Bool) (n : ℕ) → dueWeight x n ≤ n - 1
 unfolding dueWeight
-due-most true u = omega arith
-due-most false u = omega arith
+due-most true n = omega arith
+due-most false n = omega arith
 
 module _ (n : ℕ) (s : State) (j i : ℕ) where
   messages-other : (k : ℕ) → (k ≡ i → ⊥) → underWay (deliverTo s j i) k ≡ underWay s k

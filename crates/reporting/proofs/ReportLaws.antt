@@ -20,9 +20,9 @@ use Rattle.reporting.specs.Text.{entryLine, entryCount, reportText, repo
 use Rattle.reporting.specs.Put.{PutAt}
 
 -- Bytes copied to their end stand at their column.
-pub bytes-put : (old new bytes : List ℕ) (at n t : ℕ) → new ≡ put old at (take t bytes) → n ≡ length bytes → n ≤ t
+pub bytes-put : (old new bytes : List ℕ) (at n i : ℕ) → new ≡ put old at (take i bytes) → n ≡ length bytes → n ≤ i
     → PutAt bytes old at new (at + n)
-bytes-put old new bytes at n t e s l = record { bytes = copy-end old new bytes at t e (omega arith); behind = omega arith }
+bytes-put old new bytes at n i e s l = record { bytes = copy-end old new bytes at i e (omega arith); behind = omega arith }
 
 -- A text behind a text.
 pub put-behind : {xs ys old mid new : List ℕ} {at n next : ℕ} → PutAt xs old at mid n → PutAt ys mid n new next → next ≤ length old

@@ -44,17 +44,17 @@ counted-text text at h =
     (ap₂ (λ (xs ys : List ℕ). xs ++ ys) (field-text text (at + 10) (e .0)) (line-text text (at + 15) (2 * c) (d .1)))))
 
 -- The first three of the numbers from a column on, and the others.
-module _ (text : List ℕ) (at a b c : ℕ) (ws′ : List ℕ)
-    (read : numbersFrom text at (length (a ∷ b ∷ c ∷ ws′)) ≡ a ∷ b ∷ c ∷ ws′) where
-  numbers-first : numberAt text at ≡ a
+module _ (text : List ℕ) (at x y count : ℕ) (ws′ : List ℕ)
+    (read : numbersFrom text at (length (x ∷ y ∷ count ∷ ws′)) ≡ x ∷ y ∷ count ∷ ws′) where
+  numbers-first : numberAt text at ≡ x
   unfolding numbersFrom
   numbers-first = (cc)
 
-  numbers-second : numberAt text (at + 5) ≡ b
+  numbers-second : numberAt text (at + 5) ≡ y
   unfolding numbersFrom
   numbers-second = (cc)
 
-  numbers-third : numberAt text (at + 5 + 5) ≡ c
+  numbers-third : numberAt text (at + 5 + 5) ≡ count
   unfolding numbersFrom
   numbers-third = (cc)
 
@@ -63,26 +63,26 @@ module _ (text : List ℕ) (at a b c : ℕ) (ws′ : List ℕ)
   numbers-others = (cc)
 
 -- What the text of a counted line's numbers tells.
-pub record CountedTells (text : List ℕ) (at a b c : ℕ) (ws′ : List ℕ) : Type 0 where
+pub record CountedTells (text : List ℕ) (at x y count : ℕ) (ws′ : List ℕ) : Type 0 where
   pub form : countedForm text at ≡ passed
-  pub first : numberAt text at ≡ a
-  pub second : numberAt text (at + 5) ≡ b
-  pub third : numberAt text (at + 10) ≡ c
-  pub others : numbersFrom text (at + 15) (2 * c) ≡ ws′
+  pub first : numberAt text at ≡ x
+  pub second : numberAt text (at + 5) ≡ y
+  pub third : numberAt text (at + 10) ≡ count
+  pub others : numbersFrom text (at + 15) (2 * count) ≡ ws′
 
-pub text-counted : (text : List ℕ) (at a b c : ℕ) (ws′ : List ℕ) → Small (a ∷ b ∷ c ∷ ws′) → length ws′ ≡ 2 * c → 1 ≤ c → c ≤ 4
-    → part text at (countedLength c) ≡ lineOf (a ∷ b ∷ c ∷ ws′) → CountedTells text at a b c ws′
+pub text-counted : (text : List ℕ) (at x y count : ℕ) (ws′ : List ℕ) → Small (x ∷ y ∷ count ∷ ws′) → length ws′ ≡ 2 * count → 1 ≤ count → count ≤ 4
+    → part text at (countedLength count) ≡ lineOf (x ∷ y ∷ count ∷ ws′) → CountedTells text at x y count ws′
 unfolding countedForm countForm countedLength numbersFrom lineForm
-text-counted text at a b c ws′ small n least most e =
-    let size : 16 + 10 * c ≡ 5 * length (a ∷ b ∷ c ∷ ws′) + 1 = omega (arith, n) in
-    let r = text-fields text (a ∷ b ∷ c ∷ ws′) at small (rw size at e) in
+text-counted text at x y count ws′ small n least most e =
+    let size : 16 + 10 * count ≡ 5 * length (x ∷ y ∷ count ∷ ws′) + 1 = omega (arith, n) in
+    let r = text-fields text (x ∷ y ∷ count ∷ ws′) at small (rw size at e) in
     let read = r .numbers in
     let z : at + 5 * 0 ≡ at = omega arith in
     let two : at + 5 + 5 ≡ at + 10 = omega arith in
     let three : at + 5 + 5 + 5 ≡ at + 15 = omega arith in
-    let third : numberAt text (at + 10) ≡ c = rw two at (numbers-third text at a b c ws′ read) in
-    let others : numbersFrom text (at + 15) (length ws′) ≡ ws′ = rw three at (numbers-others text at a b c ws′ read) in
-    let end : at + 5 * length (a ∷ b ∷ c ∷ ws′) ≡ at + 15 + 5 * (2 * c) = omega (arith, n) in
+    let third : numberAt text (at + 10) ≡ count = rw two at (numbers-third text at x y count ws′ read) in
+    let others : numbersFrom text (at + 15) (length ws′) ≡ ws′ = rw three at (numbers-others text at x y count ws′ read) in
+    let end : at + 5 * length (x ∷ y ∷ count ∷ ws′) ≡ at + 15 + 5 * (2 * count) = omega (arith, n) in
     record {
       form =
           then-passed (rw z at (r .fields 0 (omega arith)))
@@ -93,11 +93,11 @@ text-counted text at a b c ws′ small n least most e =
           (within-means 1 4 (numberAt text (at + 10)) .1 (omega (arith, third, least), omega (arith, third, most))))
           ∙ rw third
           (then-passed
-          (turn-passes _ (2 * c)
+          (turn-passes _ (2 * count)
           (λ i l. let q : at + 5 * (3 + i) ≡ at + 15 + 5 * i = omega arith in rw q at (r .fields (3 + i) (omega (arith, n, l)))))
           ∙ rw end at (r .newline));
-      first = numbers-first text at a b c ws′ read;
-      second = numbers-second text at a b c ws′ read;
+      first = numbers-first text at x y count ws′ read;
+      second = numbers-second text at x y count ws′ read;
       third = third;
       others = rw n at others;
     }

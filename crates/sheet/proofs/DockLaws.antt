@@ -90,9 +90,9 @@ pub walls-behind : (f : Floor) (ws : List ℕ) (j : ℕ) → wallAt f (suc j) �
 unfolding wallAt
 walls-behind f ws j = rw (wall-length (f .width) (getD ws j 0)) (omega arith)
 
-pub carrier-next : (f : Floor) (i at c : ℕ) → at ≡ carrierAt f i → c ≡ countOf f i → at + (16 + 10 * c) ≡ carrierAt f (i + 1)
+pub carrier-next : (f : Floor) (i at count : ℕ) → at ≡ carrierAt f i → count ≡ countOf f i → at + (16 + 10 * count) ≡ carrierAt f (i + 1)
 unfolding carrierAt countedLength
-carrier-next f i at c e h = rw (add-one, e, h)
+carrier-next f i at count e h = rw (add-one, e, h)
 
 pub carrier-end : (f : Floor) (i : ℕ) → carrierAt f (suc i) ≡ carrierAt f i + countedLength (countOf f i)
 unfolding carrierAt

@@ -112,9 +112,9 @@ columns-small x =
     (five (x / 10000 % 10) (x / 1000 % 10) (x / 100 % 10) (x / 10 % 10) (x % 10) (omega arith) (omega arith) (omega arith)
     (omega arith) (omega arith))
   where
-    five : (a b c d p : ℕ) → a < 10 → b < 10 → c < 10 → d < 10 → p < 10
-        → (((a * 10 + b) * 10 + c) * 10 + d) * 10 + ((48 + p) - 48) < 100000
-    five a b c d p ha hb hc hd he = omega arith
+    five : (x₁ x₂ x₃ x₄ x₅ : ℕ) → x₁ < 10 → x₂ < 10 → x₃ < 10 → x₄ < 10 → x₅ < 10
+        → (((x₁ * 10 + x₂) * 10 + x₃) * 10 + x₄) * 10 + ((48 + x₅) - 48) < 100000
+    five x₁ x₂ x₃ x₄ x₅ ha hb hc hd he = omega arith
 
 bytes-small : (text : List ℕ) (at x : ℕ) → FiveBytes text at x → numberAt text at < 100000
 unfolding numberAt

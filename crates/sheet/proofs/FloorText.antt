@@ -160,7 +160,7 @@ module _ (f : Floor) (ws : List ℕ) (ok : checkOf f ws ≡ passed) where
       let b : i < f .carriers = rw (head-same f ws ok .carriers-same) at l in
       rw (column-said f ws ok i ∙ columns-same f ws ok i (omega arith)) (carrier-reads f ws ok i b .form))
 
-  walls-pass : linesForm (λ (c : ℕ). lineForm text c 2) pastPair (carrierColumn text (headAt text .carriers)) (headAt text .walls) ≡ passed
+  walls-pass : linesForm (λ (column : ℕ). lineForm text column 2) pastPair (carrierColumn text (headAt text .carriers)) (headAt text .walls) ≡ passed
   unfolding linesForm
   walls-pass =
       rw (head-same f ws ok .carriers-same)

@@ -42,15 +42,15 @@ module _ (text : List ℕ) where
       let c = then-both _ _ (b .1) in
       omega (arith, line-reach (at + 15) (2 * numberAt text (at + 10)) (c .1))
 
-  lines-reach : (form : ℕ → Verdict) (past : ℕ → ℕ) (at k : ℕ) → ((c : ℕ) → form c ≡ passed → past c ≤ length text)
+  lines-reach : (form : ℕ → Verdict) (past : ℕ → ℕ) (at k : ℕ) → ((column : ℕ) → form column ≡ passed → past column ≤ length text)
       → at ≤ length text → linesForm form past at k ≡ passed → columnPast past at k ≤ length text
   unfolding linesForm columnPast inTurn
   lines-reach form past at zero step l h = l
   lines-reach form past at (suc k) step l h = step (columnPast past at k) (then-both _ _ h .1)
 
-  pair-reach : (c : ℕ) → lineForm text c 2 ≡ passed → pastPair c ≤ length text
+  pair-reach : (column : ℕ) → lineForm text column 2 ≡ passed → pastPair column ≤ length text
   unfolding pastPair
-  pair-reach c h = omega (arith, line-reach c 2 h)
+  pair-reach column h = omega (arith, line-reach column 2 h)
 
   -- What carriers' lines in good form tell of each: its form, that it lies within the text, and its dock count.
   pub record Lined (n i : ℕ) : Type 0 where
@@ -87,7 +87,7 @@ module _ (text : List ℕ) where
     pub bounds : Bounds (headAt text)
     pub head : 31 ≤ length text
     pub carriers-form : linesForm (countedForm text) (pastCounted text) 31 (headAt text .carriers) ≡ passed
-    pub walls-form : linesForm (λ (c : ℕ). lineForm text c 2) pastPair (carrierColumn text (headAt text .carriers)) (headAt text .walls)
+    pub walls-form : linesForm (λ (column : ℕ). lineForm text column 2) pastPair (carrierColumn text (headAt text .carriers)) (headAt text .walls)
         ≡ passed
     pub size : length text ≡ carrierColumn text (headAt text .carriers) + 11 * headAt text .walls
 

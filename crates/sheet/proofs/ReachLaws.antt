@@ -19,20 +19,20 @@ use Rattle.sheet.specs.Values.{headAt}
 use Rattle.sheet.specs.Read.{formOf}
 
 -- A refusal is the answer of the whole chain, and after a pass the rest is asked.
-pub handed-on : {y : Reached} {x : Refusal} {z : Verdict} (x′ y′ : Verdict) (c : ℕ) → y ≡ reachedOf x′ c → y ≡ Refused x → z ≡ saidBy y
+pub handed-on : {y : Reached} {x : Refusal} {z : Verdict} (x′ y′ : Verdict) (column : ℕ) → y ≡ reachedOf x′ column → y ≡ Refused x → z ≡ saidBy y
     → z ≡ (x′ then y′)
-handed-on x′ y′ c h e s =
-    let r = line-refused x′ c h e in
-    s ∙ said-verdict x′ c h ∙ r ∙ sym (then-refused y′ r)
+handed-on x′ y′ column h e s =
+    let r = line-refused x′ column h e in
+    s ∙ said-verdict x′ column h ∙ r ∙ sym (then-refused y′ r)
 
-pub goes-past : {y : Reached} {x : ℕ} {z : Verdict} (x′ y′ : Verdict) (c : ℕ) → y ≡ reachedOf x′ c → y ≡ At x → z ≡ y′ → z ≡ (x′ then y′)
-goes-past x′ y′ c h e s = s ∙ sym (then-passed (reaches x′ c h e .0))
+pub goes-past : {y : Reached} {x : ℕ} {z : Verdict} (x′ y′ : Verdict) (column : ℕ) → y ≡ reachedOf x′ column → y ≡ At x → z ≡ y′ → z ≡ (x′ then y′)
+goes-past x′ y′ column h e s = s ∙ sym (then-passed (reaches x′ column h e .0))
 
 -- Behind a line 1 in good form the limits and the other lines' form are left.
-pub behind-head : {y : Reached} {x : ℕ} {f : Floor} {z : Verdict} (text : List ℕ) (c : ℕ) → y ≡ reachedOf (lineForm text 0 6) c → y ≡ At x
+pub behind-head : {y : Reached} {x : ℕ} {f : Floor} {z : Verdict} (text : List ℕ) (column : ℕ) → y ≡ reachedOf (lineForm text 0 6) column → y ≡ At x
     → f ≡ headAt text → z ≡ (limitsOf f then restForm text f) → z ≡ formOf text
 unfolding formOf
-behind-head text c h e l s = goes-past _ _ c h e (rw l at s)
+behind-head text column h e l s = goes-past _ _ column h e (rw l at s)
 
 module _ (text : List ℕ) (f : Floor) {carriers : Reached}
     (first : carriers ≡ reachedOf (linesForm (countedForm text) (pastCounted text) 31 (f .carriers))

@@ -10,25 +10,25 @@ use Rattle.laws.proofs.Tests.{and-both, not-true-is-false, true-false-absurd}
 use Rattle.laws.specs.Verdict.{each}
 use Rattle.laws.proofs.HoldLaws.{each-holds}
 
--- The first t of n hold.
-pub record Tested (φ : ℕ → Bool) (n t : ℕ) : Type 0 where
-  pub within : t ≤ n
-  pub holds : each t φ ≡ true
+-- The first i of n hold.
+pub record Tested (φ : ℕ → Bool) (n i : ℕ) : Type 0 where
+  pub within : i ≤ n
+  pub holds : each i φ ≡ true
 
 -- Before the first; one more that holds; the first that does not; the end.
 pub each-start : (φ : ℕ → Bool) (n : ℕ) → Tested φ n 0
 unfolding each
 each-start φ n = record { within = omega arith; holds = refl }
 
-pub each-more : {φ : ℕ → Bool} {n t : ℕ} → Tested φ n t → t < n → φ t ≡ true → Tested φ n (t + 1)
+pub each-more : {φ : ℕ → Bool} {n i : ℕ} → Tested φ n i → i < n → φ i ≡ true → Tested φ n (i + 1)
 unfolding each
 each-more w l h = record { within = omega arith; holds = rw (add-one, w .holds, h) refl }
 
-pub each-stop : {φ : ℕ → Bool} {n t : ℕ} → Tested φ n t → t < n → φ t ≡ false → false ≡ each n φ
-each-stop {φ} {n} {t} w l h = sym (not-true-is-false (each n φ) (λ e. true-false-absurd (each-holds n φ e t l) h))
+pub each-stop : {φ : ℕ → Bool} {n i : ℕ} → Tested φ n i → i < n → φ i ≡ false → false ≡ each n φ
+each-stop {φ} {n} {i} w l h = sym (not-true-is-false (each n φ) (λ e. true-false-absurd (each-holds n φ e i l) h))
 
-pub each-end : {φ : ℕ → Bool} {n t : ℕ} → Tested φ n t → n ≤ t → true ≡ each n φ
-each-end {φ} {n} {t} w l = let same : t ≡ n = omega arith in sym (w .holds) ∙ ap (λ (k : ℕ). each k φ) same
+pub each-end : {φ : ℕ → Bool} {n i : ℕ} → Tested φ n i → n ≤ i → true ≡ each n φ
+each-end {φ} {n} {i} w l = let same : i ≡ n = omega arith in sym (w .holds) ∙ ap (λ (k : ℕ). each k φ) same
 
 -- What a test that was negated came to.
 pub said-no : {y x : Bool} → y ≡ x → not y ≡ true → x ≡ false

@@ -39,25 +39,25 @@ module _ (m cells : List ℕ) (i tag : ℕ) where
       rw (← planned, ← answer, eq-eqb (getD m p 0) 1 e, old-record a l, eq-eqb (getD m a 0) tag h, s) refl
 
 -- Three records moved up and the last cleared, at the places of a channel.
-pub shift-is : (m m₁ m₂ m₃ m₄ : List ℕ) (c p p′ n j : ℕ) → p ≡ c + 1 + 65 * 0 → p′ ≡ c + 1 + 65 * 1 → n ≡ c + 1 + 65 * 2 →
-    j ≡ c + 1 + 65 * 3 → m₁ ≡ moved m p′ p → m₂ ≡ moved m₁ n p′ → m₃ ≡ moved m₂ j n → m₄ ≡ put m₃ j (resized 65 []) → m₄ ≡ shifted m c
+pub shift-is : (m m₁ m₂ m₃ m₄ : List ℕ) (at p p′ n j : ℕ) → p ≡ at + 1 + 65 * 0 → p′ ≡ at + 1 + 65 * 1 → n ≡ at + 1 + 65 * 2 →
+    j ≡ at + 1 + 65 * 3 → m₁ ≡ moved m p′ p → m₂ ≡ moved m₁ n p′ → m₃ ≡ moved m₂ j n → m₄ ≡ put m₃ j (resized 65 []) → m₄ ≡ shifted m at
 unfolding shifted
-shift-is m m₁ m₂ m₃ m₄ c p p′ n j a b d e f g h k =
-    let one : p ≡ c + 1 = omega arith in
-    let two : p′ ≡ c + 66 = omega arith in
-    let three : n ≡ c + 131 = omega arith in
-    let four : j ≡ c + 196 = omega arith in
+shift-is m m₁ m₂ m₃ m₄ at p p′ n j a b d e f g h k =
+    let one : p ≡ at + 1 = omega arith in
+    let two : p′ ≡ at + 66 = omega arith in
+    let three : n ≡ at + 131 = omega arith in
+    let four : j ≡ at + 196 = omega arith in
     k ∙ rw (h, g, f, one, two, three, four) refl
 
-module _ (m rec : List ℕ) (c : ℕ) where
-  pub push-stores : (m′ : List ℕ) (at : ℕ) → c < length m′ → getD m c 0 < 4 → at ≡ c + 1 + 65 * getD m c 0 → m′ ≡ put m at rec →
-      set m′ c (getD m c 0 + 1) ≡ pushed m c rec
+module _ (m rec : List ℕ) (p : ℕ) where
+  pub push-stores : (m′ : List ℕ) (at : ℕ) → p < length m′ → getD m p 0 < 4 → at ≡ p + 1 + 65 * getD m p 0 → m′ ≡ put m at rec →
+      set m′ p (getD m p 0 + 1) ≡ pushed m p rec
   unfolding pushed
-  push-stores m′ at l h place e = rw (lt-ltb (getD m c 0) 4 h) (put-one m′ c (getD m c 0 + 1) l ∙ rw (e, place) refl)
+  push-stores m′ at l h place e = rw (lt-ltb (getD m p 0) 4 h) (put-one m′ p (getD m p 0 + 1) l ∙ rw (e, place) refl)
 
-  pub push-full : 4 ≤ getD m c 0 → m ≡ pushed m c rec
+  pub push-full : 4 ≤ getD m p 0 → m ≡ pushed m p rec
   unfolding pushed
-  push-full h = rw (le-ltb (getD m c 0) 4 h) refl
+  push-full h = rw (le-ltb (getD m p 0) 4 h) refl
 
 module _ (n i : ℕ) (rec m : List ℕ) where
   pub below-sends : {m′ : List ℕ} (k : ℕ) → i < k → m′ ≡ pushed m (channelPlace n k i) rec → m′ ≡ pushedBelow n i rec m k

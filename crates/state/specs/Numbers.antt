@@ -13,8 +13,8 @@ pub record Larger (a b n : ℕ) : Type 0 where
 
 -- k is the largest of the n numbers of m from a place on, 0 where there is none.
 pub record Largest (m : List ℕ) (at n k : ℕ) : Type 0 where
-  pub upper : (t : ℕ) → t < n → getD m (at + t) 0 ≤ k
-  pub met : (k ≡ 0) ⊎ ((t : ℕ) × (t < n) × (getD m (at + t) 0 ≡ k))
+  pub upper : (i : ℕ) → i < n → getD m (at + i) 0 ≤ k
+  pub met : (k ≡ 0) ⊎ ((i : ℕ) × (i < n) × (getD m (at + i) 0 ≡ k))
 
 -- k is n, or 64 where n is more.
 pub record Capped (n k : ℕ) : Type 0 where

@@ -39,11 +39,11 @@ pub old-stored : (n i : ℕ) (m rec m₁ : List ℕ) → m₁ ≡ put m (planned
 unfolding plannedIn
 old-stored n i m rec m₁ stored e = rw (e, stored) refl
 
-pub delivery-stored : (n j i x c p : ℕ) (m m₁ m₂ m₃ : List ℕ) → p ≡ c + 1 + 65 * 0 → x ≡ viewPlace n i j → c ≡ channelPlace n i j →
-    m₁ ≡ moved m p x → m₂ ≡ popped m₁ c → m₃ ≡ put m₂ (duePlace i) (1 ∷ []) → m₃ ≡ deliveredIn n m j i
+pub delivery-stored : (n j i x channel p : ℕ) (m m₁ m₂ m₃ : List ℕ) → p ≡ channel + 1 + 65 * 0 → x ≡ viewPlace n i j → channel ≡ channelPlace n i j →
+    m₁ ≡ moved m p x → m₂ ≡ popped m₁ channel → m₃ ≡ put m₂ (duePlace i) (1 ∷ []) → m₃ ≡ deliveredIn n m j i
 unfolding deliveredIn
-delivery-stored n j i x c p m m₁ m₂ m₃ first a b e g d =
-    let oldest : p ≡ c + 1 = omega arith in
+delivery-stored n j i x channel p m m₁ m₂ m₃ first a b e g d =
+    let oldest : p ≡ channel + 1 = omega arith in
     d ∙ rw (g, e, oldest, a, b) refl
 
 pub delivery-did : (f : Floor) (ws m : List ℕ) (j i : ℕ) (m′ : List ℕ) → m′ ≡ deliveredIn (f .carriers) m j i →

@@ -92,12 +92,12 @@ by-short set = go (eqb set 0)
     go false = omega (arith, length-append (linesOf (nameOf set) 8) (10 ∷ []), names-short set)
 
 -- The whole line: four texts, one behind the other.
-pub shut-put : (i set at a b c n : ℕ) (old m₁ m₂ m₃ new : List ℕ) → PutAt carrierWords old at m₁ a → PutAt ((49 + i) ∷ []) m₁ a m₂ b →
-    PutAt shutWords m₂ b m₃ c → PutAt (byWhom set) m₃ c new n → at + 45 ≤ length old → PutAt (shutLine i set) old at new n
+pub shut-put : (i set at n₁ n₂ n₃ n : ℕ) (old m₁ m₂ m₃ new : List ℕ) → PutAt carrierWords old at m₁ n₁ → PutAt ((49 + i) ∷ []) m₁ n₁ m₂ n₂ →
+    PutAt shutWords m₂ n₂ m₃ n₃ → PutAt (byWhom set) m₃ n₃ new n → at + 45 ≤ length old → PutAt (shutLine i set) old at new n
 unfolding shutLine carrierWords shutWords
-shut-put i set at a b c n old m₁ m₂ m₃ new p q r s l =
-    let first : PutAt (carrierWords ++ ((49 + i) ∷ [])) old at m₂ b = put-behind p q (omega (arith, p .behind, q .behind)) in
-    let second : PutAt ((carrierWords ++ ((49 + i) ∷ [])) ++ shutWords) old at m₃ c =
+shut-put i set at n₁ n₂ n₃ n old m₁ m₂ m₃ new p q r s l =
+    let first : PutAt (carrierWords ++ ((49 + i) ∷ [])) old at m₂ n₂ = put-behind p q (omega (arith, p .behind, q .behind)) in
+    let second : PutAt ((carrierWords ++ ((49 + i) ∷ [])) ++ shutWords) old at m₃ n₃ =
     put-behind first r (omega (arith, p .behind, q .behind, r .behind)) in
     put-behind second s (omega (arith, p .behind, q .behind, r .behind, s .behind, by-short set))
 

@@ -87,19 +87,19 @@ module _ (n : ℕ) (m : List ℕ) where
     front-last z m″ h = h ∙ ap (λ (xs : List ℕ). encode n z ++ xs) front-rest ∙ sym (front-is z)
 
 -- Order 2 remembers a place or the end of the ranking.
-pub memory-round : (f : Floor) (ws : List ℕ) (o : Order) (c : ℕ) → Memory o (machineOf f ws) c → o ≡ round → c ≤ places (f .carriers)
+pub memory-round : (f : Floor) (ws : List ℕ) (o : Order) (kept : ℕ) → Memory o (machineOf f ws) kept → o ≡ round → kept ≤ places (f .carriers)
 unfolding Memory machineOf
-memory-round f ws o c h e = rw e at h
+memory-round f ws o kept h e = rw e at h
 
 -- One more step, from what its parts come to.
-pub advanced : (o : Order) (f : Floor) (ws m report : List ℕ) (c t next : ℕ) (m′ report′ : List ℕ) (p : ℕ) (y : Step) (number answer : ℕ) →
-    p ≡ chosenIn o f m c → y ≡ stepAt (f .carriers) p → number ≡ numberOf y → answer ≡ answerNumber (stepAnswerIn (machineOf f ws) m y) →
-    next ≡ remembered o c p → m′ ≡ afterIn (machineOf f ws) m y → report′ ≡ put report (2 * t) (number ∷ (answer ∷ [])) →
-    Advanced o f ws m report c t next m′ report′
-advanced o f ws m report c t next m′ report′ p y number answer place step num ans mem stored line =
-    let same : y ≡ stepAt (f .carriers) (chosenIn o f m c) = step ∙ ap (stepAt (f .carriers)) place in
+pub advanced : (o : Order) (f : Floor) (ws m report : List ℕ) (kept t next : ℕ) (m′ report′ : List ℕ) (p : ℕ) (y : Step) (number answer : ℕ) →
+    p ≡ chosenIn o f m kept → y ≡ stepAt (f .carriers) p → number ≡ numberOf y → answer ≡ answerNumber (stepAnswerIn (machineOf f ws) m y) →
+    next ≡ remembered o kept p → m′ ≡ afterIn (machineOf f ws) m y → report′ ≡ put report (2 * t) (number ∷ (answer ∷ [])) →
+    Advanced o f ws m report kept t next m′ report′
+advanced o f ws m report kept t next m′ report′ p y number answer place step num ans mem stored line =
+    let same : y ≡ stepAt (f .carriers) (chosenIn o f m kept) = step ∙ ap (stepAt (f .carriers)) place in
     record {
-      remembers = mem ∙ ap (remembered o c) place;
+      remembers = mem ∙ ap (remembered o kept) place;
       stores = stored ∙ ap (afterIn (machineOf f ws) m) same;
       reports = line
           ∙ ap (λ (k : ℕ). put report (2 * t) (k ∷ (answer ∷ []))) num

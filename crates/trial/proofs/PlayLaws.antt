@@ -69,27 +69,27 @@ module _ (f : Floor) (ws : List ℕ) (ok : checkOf f ws ≡ passed) (s : State) 
   step-says rest x e = said-same M (storable f ws ok) s in-range whole rest x e
 
 -- A trial that stops is the state that it has.
-try-stopped : (o : Order) (M : Machine) (c : ℕ) (s : State) (b : ℕ) → isSilent M s ≡ true →
-    tryFrom o M c s b ≡ record { report = []; state = s }
+try-stopped : (o : Order) (M : Machine) (kept : ℕ) (s : State) (b : ℕ) → isSilent M s ≡ true →
+    tryFrom o M kept s b ≡ record { report = []; state = s }
 unfolding tryFrom
-try-stopped o M c s zero e = refl
-try-stopped o M c s (suc b) e = try-silent o M c s b e
+try-stopped o M kept s zero e = refl
+try-stopped o M kept s (suc b) e = try-silent o M kept s b e
 
 module _ (f : Floor) (ws : List ℕ) (o : Order) (seed : ℕ) (m₀ report₀ : List ℕ) where
   -- The trial after t steps, its memory m, its report and what its order remembers.
-  pub record Playing (m report : List ℕ) (c t : ℕ) : Type 0 where
+  pub record Playing (m report : List ℕ) (kept t : ℕ) : Type 0 where
     pub state : State
     pub entries : List Entry
     pub shows : m ≡ encode (f .carriers) state ++ drop (stateSize (f .carriers)) m₀
     pub long : length m ≡ length m₀
     pub wide : length report ≡ length report₀
     pub fits : WithinRanges f state
-    pub keeps : Memory o (machineOf f ws) c
+    pub keeps : Memory o (machineOf f ws) kept
     pub number : t ≡ length entries
     pub stored : report ≡ put report₀ 0 (reportNumbers entries)
     pub told : trial o (machineOf f ws) seed .report ≡
-        entries ++ tryFrom o (machineOf f ws) c state (ceiling (f .carriers) - t) .report
-    pub leads : trial o (machineOf f ws) seed .state ≡ tryFrom o (machineOf f ws) c state (ceiling (f .carriers) - t) .state
+        entries ++ tryFrom o (machineOf f ws) kept state (ceiling (f .carriers) - t) .report
+    pub leads : trial o (machineOf f ws) seed .state ≡ tryFrom o (machineOf f ws) kept state (ceiling (f .carriers) - t) .state
 
   pub playing-start : m₀ ≡ encode (f .carriers) fresh ++ drop (stateSize (f .carriers)) m₀ → Playing m₀ report₀ (startMemory o seed) 0
   unfolding trial machineOf reportNumbers
@@ -112,7 +112,7 @@ module _ (f : Floor) (ws : List ℕ) (o : Order) (seed : ℕ) (m₀ report₀ : 
           tryFrom o (machineOf f ws) (startMemory o seed) fresh (ceiling (f .carriers) - 0)
       all = ap (tryFrom o (machineOf f ws) (startMemory o seed) fresh) (omega arith)
 
-  module _ (ok : checkOf f ws ≡ passed) {m report : List ℕ} {c t : ℕ} (p : Playing m report c t) where
+  module _ (ok : checkOf f ws ≡ passed) {m report : List ℕ} {kept t : ℕ} (p : Playing m report kept t) where
     abbrev N : Machine
     N = machineOf f ws
 
@@ -127,19 +127,19 @@ module _ (f : Floor) (ws : List ℕ) (o : Order) (seed : ℕ) (m₀ report₀ : 
         ∙ count-same f ws s (drop (stateSize (f .carriers)) m₀) (places (f .carriers))
 
     -- What the order takes, and that it is open.
-    taken-place : chosenIn o f m c ≡ chosen o N s c
+    taken-place : chosenIn o f m kept ≡ chosen o N s kept
     taken-place =
-        ap (λ (xs : List ℕ). chosenIn o f xs c) (p .shows) ∙ chosen-same f ws s (drop (stateSize (f .carriers)) m₀) o c
+        ap (λ (xs : List ℕ). chosenIn o f xs kept) (p .shows) ∙ chosen-same f ws s (drop (stateSize (f .carriers)) m₀) o kept
 
-    takes : 0 < openCount f m (places (f .carriers)) → Takes o N s c (chosen o N s c)
-    takes l = chosen-takes N s o c (p .keeps) (rw (← shown-count) l)
+    takes : 0 < openCount f m (places (f .carriers)) → Takes o N s kept (chosen o N s kept)
+    takes l = chosen-takes N s o kept (p .keeps) (rw (← shown-count) l)
 
     -- One more step.
     module _ (some : 0 < openCount f m (places (f .carriers))) (less : t < ceiling (f .carriers))
         (enough : reportSize (f .carriers) ≤ length report₀)
-        {next : ℕ} {m′ report′ : List ℕ} (kept : length m′ ≡ length m) (a : Advanced o f ws m report c t next m′ report′) where
+        {next : ℕ} {m′ report′ : List ℕ} (same-long : length m′ ≡ length m) (a : Advanced o f ws m report kept t next m′ report′) where
       abbrev x : Step
-      x = nextStep o N s c
+      x = nextStep o N s kept
 
       abbrev line : Entry
       line = entryOf N s x
@@ -148,15 +148,15 @@ module _ (f : Floor) (ws : List ℕ) (o : Order) (seed : ℕ) (m₀ report₀ : 
       unfolding nextStep openAt
       x-open = takes some .opened
 
-      x-is : stepAt (f .carriers) (chosenIn o f m c) ≡ x
+      x-is : stepAt (f .carriers) (chosenIn o f m kept) ≡ x
       unfolding nextStep machineOf
       x-is = ap (stepAt (f .carriers)) taken-place
 
-      goes-on : tryFrom o N c s (ceiling (f .carriers) - t) ≡
-          reported line (tryFrom o N (remembered o c (chosen o N s c)) (afterStep N s x) (ceiling (f .carriers) - (t + 1)))
+      goes-on : tryFrom o N kept s (ceiling (f .carriers) - t) ≡
+          reported line (tryFrom o N (remembered o kept (chosen o N s kept)) (afterStep N s x) (ceiling (f .carriers) - (t + 1)))
       goes-on =
           let less-one : ceiling (f .carriers) - t ≡ suc (ceiling (f .carriers) - (t + 1)) = omega arith in
-          rw less-one (try-step o N c s (ceiling (f .carriers) - (t + 1)) (place-not-silent N s (rw (← shown-count) some)))
+          rw less-one (try-step o N kept s (ceiling (f .carriers) - (t + 1)) (place-not-silent N s (rw (← shown-count) some)))
 
       says : stepAnswerIn N m x ≡ stepAnswer N s x
       says =
@@ -199,12 +199,12 @@ module _ (f : Floor) (ws : List ℕ) (o : Order) (seed : ℕ) (m₀ report₀ : 
       left : TrialResult
       left = tryFrom o N next (afterStep N s x) (ceiling (f .carriers) - (t + 1))
 
-      goes-there : tryFrom o N c s (ceiling (f .carriers) - t) ≡ reported line left
+      goes-there : tryFrom o N kept s (ceiling (f .carriers) - t) ≡ reported line left
       unfolding left
       goes-there =
           goes-on
           ∙ ap (λ (k : ℕ). reported line (tryFrom o N k (afterStep N s x) (ceiling (f .carriers) - (t + 1))))
-          (sym (a .remembers ∙ ap (remembered o c) taken-place))
+          (sym (a .remembers ∙ ap (remembered o kept) taken-place))
 
       told-more : trial o N seed .report ≡ (p .entries ++ (line ∷ [])) ++ left .report
       unfolding reported
@@ -223,10 +223,10 @@ module _ (f : Floor) (ws : List ℕ) (o : Order) (seed : ℕ) (m₀ report₀ : 
             state = afterStep N s x;
             entries = p .entries ++ (line ∷ []);
             shows = stores;
-            long = kept ∙ p .long;
+            long = same-long ∙ p .long;
             wide = wide-more;
             fits = step-fits f ws ok s (p .fits) x x-open;
-            keeps = subst (Memory o N) (sym (a .remembers ∙ ap (remembered o c) taken-place)) (takes some .next);
+            keeps = subst (Memory o N) (sym (a .remembers ∙ ap (remembered o kept) taken-place)) (takes some .next);
             number = omega (arith, p .number, length-append (p .entries) (line ∷ []));
             stored = stored-more;
             told = told-more;
@@ -234,7 +234,7 @@ module _ (f : Floor) (ws : List ℕ) (o : Order) (seed : ℕ) (m₀ report₀ : 
           }
 
     -- The trial that has stopped: its number of steps, its memory, its report.
-    pub stopped : tryFrom o N c s (ceiling (f .carriers) - t) ≡ record { report = []; state = s } →
+    pub stopped : tryFrom o N kept s (ceiling (f .carriers) - t) ≡ record { report = []; state = s } →
         (t ≡ length (trial o N seed .report)) ×
         ((m ≡ encode (f .carriers) (trial o N seed .state) ++ drop (stateSize (f .carriers)) m₀) ×
         (report ≡ put report₀ 0 (reportNumbers (trial o N seed .report))))
@@ -251,9 +251,9 @@ module _ (f : Floor) (ws : List ℕ) (o : Order) (seed : ℕ) (m₀ report₀ : 
 
     -- It stops where no place is open, and after the ceiling's number of steps.
     pub stops-silent : openCount f m (places (f .carriers)) ≡ 0 →
-        tryFrom o N c s (ceiling (f .carriers) - t) ≡ record { report = []; state = s }
-    stops-silent e = try-stopped o N c s (ceiling (f .carriers) - t) (no-place N s (sym shown-count ∙ e))
+        tryFrom o N kept s (ceiling (f .carriers) - t) ≡ record { report = []; state = s }
+    stops-silent e = try-stopped o N kept s (ceiling (f .carriers) - t) (no-place N s (sym shown-count ∙ e))
 
-    pub stops-spent : ceiling (f .carriers) ≤ t → tryFrom o N c s (ceiling (f .carriers) - t) ≡ record { report = []; state = s }
+    pub stops-spent : ceiling (f .carriers) ≤ t → tryFrom o N kept s (ceiling (f .carriers) - t) ≡ record { report = []; state = s }
     unfolding tryFrom
-    stops-spent l = let none : ceiling (f .carriers) - t ≡ 0 = omega arith in ap (tryFrom o N c s) none
+    stops-spent l = let none : ceiling (f .carriers) - t ≡ 0 = omega arith in ap (tryFrom o N kept s) none
