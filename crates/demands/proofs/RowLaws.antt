@@ -17,19 +17,19 @@ pub value-no-refusal : {A : Type 0} {x : A} {k p : ℕ} → value x ≡ refusal 
 value-no-refusal h = let z : _≡_ {A = ℕ} 0 1 = cc in omega arith
 
 -- Equal refusals are equal answers, and back.
-pub refusal-same : {A : Type 0} {a b p rank : ℕ} → _≡_ {A = Outcome A} (refusal a p) (refusal b rank) → (a ≡ b) × (p ≡ rank)
+pub refusal-same : {A : Type 0} {k k′ p p′ : ℕ} → _≡_ {A = Outcome A} (refusal k p) (refusal k′ p′) → (k ≡ k′) × (p ≡ p′)
 refusal-same e = ((cc), (cc))
 
 -- A check whose rows do not hold passes.
-pub no-row-passes : {R : Table} (x : Verdict) → Refuses x R → ((a b : ℕ) → R a b → ⊥) → x ≡ passed
+pub no-row-passes : {R : Table} (x : Verdict) → Refuses x R → ((k p : ℕ) → R k p → ⊥) → x ≡ passed
 no-row-passes passed t n = refl
-no-row-passes (refused a b) t n = absurd (n a b (t a b .0 refl))
+no-row-passes (refused k p) t n = absurd (n k p (t k p .0 refl))
 
 -- A check that passes has no row that holds.
-pub passes-no-row : {R : Table} {x : Verdict} → Refuses x R → x ≡ passed → (a b : ℕ) → R a b → ⊥
-passes-no-row t e a b r = refused-not-passed (sym (t a b .1 r) ∙ e)
+pub passes-no-row : {R : Table} {x : Verdict} → Refuses x R → x ≡ passed → (k p : ℕ) → R k p → ⊥
+passes-no-row t e k p r = refused-not-passed (sym (t k p .1 r) ∙ e)
 
-pub passes-exactly : {R : Table} (x : Verdict) → Refuses x R → (x ≡ passed) ↔ ((a b : ℕ) → R a b → ⊥)
+pub passes-exactly : {R : Table} (x : Verdict) → Refuses x R → (x ≡ passed) ↔ ((k p : ℕ) → R k p → ⊥)
 passes-exactly x t = (passes-no-row t, no-row-passes x t)
 
 -- One check after another; the second needs to be looked at only where the first passes.
@@ -68,11 +68,11 @@ gives-rows (refused n q) y t k p = (
 )
 
 -- A single test is a table of one row.
-pub demand-row : {W : Type 0} (x : Bool) (n rank : ℕ) → (x ≡ false) ↔ W → Refuses (demand x n rank) (Row n rank W)
-demand-row {W} x n rank h k p = (λ e. let c = demand-cases x n rank k p e in rw (c .1, c .2) (row (h .0 (c .0))), back k p)
+pub demand-row : {W : Type 0} (x : Bool) (k′ p′ : ℕ) → (x ≡ false) ↔ W → Refuses (demand x k′ p′) (Row k′ p′ W)
+demand-row {W} x k′ p′ h k p = (λ e. let c = demand-cases x k′ p′ k p e in rw (c .1, c .2) (row (h .0 (c .0))), back k p)
   where
-    back : (k p : ℕ) → Row n rank W k p → demand x n rank ≡ refused k p
-    back k p (row w) = demand-refuses n rank (h .1 w)
+    back : (k p : ℕ) → Row k′ p′ W k p → demand x k′ p′ ≡ refused k p
+    back k p (row w) = demand-refuses k′ p′ (h .1 w)
 
 pub short-row : (needed lent : ℕ) → Refuses (longEnough needed lent) (Short lent needed)
 unfolding longEnough

@@ -22,7 +22,7 @@ infixr 28 _orElse_
 -- The rows of one table, and where none of them holds those of the next.
 pub data _orElse_ (R S : Table) (k p : ℕ) : Type 0 where
   earlier : R k p → _orElse_ R S k p
-  later : ((a b : ℕ) → R a b → ⊥) → S k p → _orElse_ R S k p
+  later : ((k′ p′ : ℕ) → R k′ p′ → ⊥) → S k p → _orElse_ R S k p
 
 -- A check refuses exactly under the rows of a table.
 abbrev pub Refuses : Verdict → Table → Type 0

@@ -13,9 +13,9 @@ use Rattle.laws.proofs.HoldLaws.{each-holds}
 use Rattle.desk.specs.declared.arguments.Decimal.the-variants.{Number, Other}
 use Rattle.desk.specs.Arguments.{isDigit, allDigits, valueIn, ReadsDecimal}
 
-pub digit-low : (b : ℕ) → isDigit b ≡ true → 48 ≤ b
+pub digit-low : (byte : ℕ) → isDigit byte ≡ true → 48 ≤ byte
 unfolding isDigit
-digit-low b h = leb-true 48 b (and-fst (leb 48 b) (leb b 57) h)
+digit-low byte h = leb-true 48 byte (and-fst (leb 48 byte) (leb byte 57) h)
 
 pub digit-at : (text : List ℕ) (k : ℕ) → allDigits text ≡ true → k < length text → isDigit (getD text k 0) ≡ true
 unfolding allDigits

@@ -29,18 +29,18 @@ digit-is : {p x : ℕ} → p ≤ x → column p x ≡ 48 + x / p % 10
 unfolding column
 digit-is {p} {x} k = rw (le-ltb x p k)
 
-column-right : (p y p′ x n′ b : ℕ) → y ≡ (p′ * 10 + x) * p + n′ → n′ < p → x < 10 → (y < p → b ≡ 32) → (p ≤ y → b ≡ 48 + x)
-    → eqb b (column p y) ≡ true
-column-right p y p′ x n′ b e l t low high = eq-eqb b (column p y) (go (lt-or-le y p))
+column-right : (p y p′ x n′ byte : ℕ) → y ≡ (p′ * 10 + x) * p + n′ → n′ < p → x < 10 → (y < p → byte ≡ 32) → (p ≤ y → byte ≡ 48 + x)
+    → eqb byte (column p y) ≡ true
+column-right p y p′ x n′ byte e l t low high = eq-eqb byte (column p y) (go (lt-or-le y p))
   where
-    go : (y < p) ⊎ (p ≤ y) → b ≡ column p y
+    go : (y < p) ⊎ (p ≤ y) → byte ≡ column p y
     go (inl k) = low k ∙ sym (space-is k)
     go (inr k) = high k ∙ sym (digit-is k ∙ ap (λ (n : ℕ). 48 + n) (digit-of p y p′ x n′ e l t))
 
-column-space : {p x b : ℕ} → x < p → b ≡ column p x → b ≡ 32
+column-space : {p x byte : ℕ} → x < p → byte ≡ column p x → byte ≡ 32
 column-space k e = e ∙ space-is k
 
-column-digit : {p x b : ℕ} → p ≤ x → b ≡ column p x → (48 ≤ b) × (b ≤ 57)
+column-digit : {p x byte : ℕ} → p ≤ x → byte ≡ column p x → (48 ≤ byte) × (byte ≤ 57)
 column-digit {p} {x} k e =
     let h = e ∙ digit-is k in
     let ten : 0 < 10 = omega arith in
@@ -95,47 +95,47 @@ module _ (x₁ x₂ x₃ x₄ x₅ x : ℕ) (is : x ≡ ((((x₁ - 48) * 10 + (x
     where
       upto-four : 1000 ≤ x → (x < 10000) ⊎ (10000 ≤ x) → isWritten (x₁ ∷ x₂ ∷ x₃ ∷ x₄ ∷ x₅ ∷ []) ≡ true
       upto-four j (inr k) =
-          let ha = column-digit {p = 10000} {x = x} {b = x₁} k ea in
-          let hb = column-digit {p = 1000} {x = x} {b = x₂} (omega (arith, k)) eb in
-          let hc = column-digit {p = 100} {x = x} {b = x₃} (omega (arith, k)) ec in
-          let hd = column-digit {p = 10} {x = x} {b = x₄} (omega (arith, k)) ed in
+          let ha = column-digit {p = 10000} {x = x} {byte = x₁} k ea in
+          let hb = column-digit {p = 1000} {x = x} {byte = x₂} (omega (arith, k)) eb in
+          let hc = column-digit {p = 100} {x = x} {byte = x₃} (omega (arith, k)) ec in
+          let hd = column-digit {p = 10} {x = x} {byte = x₄} (omega (arith, k)) ed in
           first-so x₂ (x₃ ∷ x₄ ∷ x₅ ∷ []) (omega (arith, is, k, hb .1, hc .1, hd .1, he .1), ha .1)
           (digit-so (x₃ ∷ x₄ ∷ x₅ ∷ []) hb (digit-so (x₄ ∷ x₅ ∷ []) hc (digit-so (x₅ ∷ []) hd (digit-so [] he none-so))))
       upto-four k (inl l) =
-          let ha = column-space {p = 10000} {x = x} {b = x₁} l ea in
-          let hb = column-digit {p = 1000} {x = x} {b = x₂} k eb in
-          let hc = column-digit {p = 100} {x = x} {b = x₃} (omega (arith, k)) ec in
-          let hd = column-digit {p = 10} {x = x} {b = x₄} (omega (arith, k)) ed in
+          let ha = column-space {p = 10000} {x = x} {byte = x₁} l ea in
+          let hb = column-digit {p = 1000} {x = x} {byte = x₂} k eb in
+          let hc = column-digit {p = 100} {x = x} {byte = x₃} (omega (arith, k)) ec in
+          let hd = column-digit {p = 10} {x = x} {byte = x₄} (omega (arith, k)) ed in
           space-so x₂ (x₃ ∷ x₄ ∷ x₅ ∷ []) ha (first-so x₃ (x₄ ∷ x₅ ∷ []) (omega (arith, is, k, ha, hc .1, hd .1, he .1), hb .1)
           (digit-so (x₄ ∷ x₅ ∷ []) hc (digit-so (x₅ ∷ []) hd (digit-so [] he none-so))))
 
       upto-three : 100 ≤ x → (x < 1000) ⊎ (1000 ≤ x) → isWritten (x₁ ∷ x₂ ∷ x₃ ∷ x₄ ∷ x₅ ∷ []) ≡ true
       upto-three j (inr k) = upto-four k (lt-or-le x 10000)
       upto-three k (inl l) =
-          let ha = column-space {p = 10000} {x = x} {b = x₁} (omega (arith, l)) ea in
-          let hb = column-space {p = 1000} {x = x} {b = x₂} l eb in
-          let hc = column-digit {p = 100} {x = x} {b = x₃} k ec in
-          let hd = column-digit {p = 10} {x = x} {b = x₄} (omega (arith, k)) ed in
+          let ha = column-space {p = 10000} {x = x} {byte = x₁} (omega (arith, l)) ea in
+          let hb = column-space {p = 1000} {x = x} {byte = x₂} l eb in
+          let hc = column-digit {p = 100} {x = x} {byte = x₃} k ec in
+          let hd = column-digit {p = 10} {x = x} {byte = x₄} (omega (arith, k)) ed in
           space-so x₂ (x₃ ∷ x₄ ∷ x₅ ∷ []) ha (space-so x₃ (x₄ ∷ x₅ ∷ []) hb
           (first-so x₄ (x₅ ∷ []) (omega (arith, is, k, ha, hb, hd .1, he .1), hc .1) (digit-so (x₅ ∷ []) hd (digit-so [] he none-so))))
 
       upto-two : 10 ≤ x → (x < 100) ⊎ (100 ≤ x) → isWritten (x₁ ∷ x₂ ∷ x₃ ∷ x₄ ∷ x₅ ∷ []) ≡ true
       upto-two j (inr k) = upto-three k (lt-or-le x 1000)
       upto-two k (inl l) =
-          let ha = column-space {p = 10000} {x = x} {b = x₁} (omega (arith, l)) ea in
-          let hb = column-space {p = 1000} {x = x} {b = x₂} (omega (arith, l)) eb in
-          let hc = column-space {p = 100} {x = x} {b = x₃} l ec in
-          let hd = column-digit {p = 10} {x = x} {b = x₄} k ed in
+          let ha = column-space {p = 10000} {x = x} {byte = x₁} (omega (arith, l)) ea in
+          let hb = column-space {p = 1000} {x = x} {byte = x₂} (omega (arith, l)) eb in
+          let hc = column-space {p = 100} {x = x} {byte = x₃} l ec in
+          let hd = column-digit {p = 10} {x = x} {byte = x₄} k ed in
           space-so x₂ (x₃ ∷ x₄ ∷ x₅ ∷ []) ha (space-so x₃ (x₄ ∷ x₅ ∷ []) hb (space-so x₄ (x₅ ∷ []) hc
           (first-so x₅ [] (omega (arith, is, k, ha, hb, hc, he .1), hd .1) (digit-so [] he none-so))))
 
       upto-one : (x < 10) ⊎ (10 ≤ x) → isWritten (x₁ ∷ x₂ ∷ x₃ ∷ x₄ ∷ x₅ ∷ []) ≡ true
       upto-one (inr k) = upto-two k (lt-or-le x 100)
       upto-one (inl l) =
-          let ha = column-space {p = 10000} {x = x} {b = x₁} (omega (arith, l)) ea in
-          let hb = column-space {p = 1000} {x = x} {b = x₂} (omega (arith, l)) eb in
-          let hc = column-space {p = 100} {x = x} {b = x₃} (omega (arith, l)) ec in
-          let hd = column-space {p = 10} {x = x} {b = x₄} l ed in
+          let ha = column-space {p = 10000} {x = x} {byte = x₁} (omega (arith, l)) ea in
+          let hb = column-space {p = 1000} {x = x} {byte = x₂} (omega (arith, l)) eb in
+          let hc = column-space {p = 100} {x = x} {byte = x₃} (omega (arith, l)) ec in
+          let hd = column-space {p = 10} {x = x} {byte = x₄} l ed in
           space-so x₂ (x₃ ∷ x₄ ∷ x₅ ∷ []) ha (space-so x₃ (x₄ ∷ x₅ ∷ []) hb (space-so x₄ (x₅ ∷ []) hc (space-so x₅ [] hd (last-so he))))
 
   written-so : tests x₁ x₂ x₃ x₄ x₅ x ≡ true → isWritten (x₁ ∷ x₂ ∷ x₃ ∷ x₄ ∷ x₅ ∷ []) ≡ true

@@ -45,9 +45,9 @@ pub arrives : {x : Verdict} (column : ℕ) → passed ≡ x → At column ≡ re
 unfolding reachedOf
 arrives column h = rw (← h) refl
 
-pub refuses-so : {x : Reached} {y : Verdict} (k p b column : ℕ) → x ≡ reachedOf (refused k p) b → refused k p ≡ y → x ≡ reachedOf y column
+pub refuses-so : {x : Reached} {y : Verdict} (k p column′ column : ℕ) → x ≡ reachedOf (refused k p) column′ → refused k p ≡ y → x ≡ reachedOf y column
 unfolding reachedOf
-refuses-so k p b column h e = rw (← e) h
+refuses-so k p column′ column h e = rw (← e) h
 
 -- After a check that reached its column the rest is asked: what it answers, the whole answers.
 pub goes-on : {y z : Reached} {x : ℕ} (x′ y′ : Verdict) (column column′ : ℕ) → y ≡ reachedOf x′ column → y ≡ At x → z ≡ reachedOf y′ column′

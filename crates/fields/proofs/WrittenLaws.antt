@@ -11,36 +11,36 @@ use Rattle.laws.proofs.Tests.{eq-or-ne}
 use Rattle.fields.specs.Field.{areDigits, isWritten}
 
 -- A byte before others, as the code tests it.
-module _ (b : ℕ) where
-  pub one-digit : {x : Bool} → x ≡ within 48 57 b → x ≡ areDigits (b ∷ [])
+module _ (byte : ℕ) where
+  pub one-digit : {x : Bool} → x ≡ within 48 57 byte → x ≡ areDigits (byte ∷ [])
   unfolding areDigits
-  one-digit e = rw (and-true (within 48 57 b)) e
+  one-digit e = rw (and-true (within 48 57 byte)) e
 
-  pub digits-stop : (xs : List ℕ) {x : Bool} → x ≡ within 48 57 b → not x ≡ true → false ≡ areDigits (b ∷ xs)
+  pub digits-stop : (xs : List ℕ) {x : Bool} → x ≡ within 48 57 byte → not x ≡ true → false ≡ areDigits (byte ∷ xs)
   unfolding areDigits
   digits-stop xs {x} e n = rw (← e, not-true x n) refl
 
-  pub digits-on : (xs : List ℕ) {x y : Bool} → x ≡ within 48 57 b → not x ≡ false → y ≡ areDigits xs → y ≡ areDigits (b ∷ xs)
+  pub digits-on : (xs : List ℕ) {x y : Bool} → x ≡ within 48 57 byte → not x ≡ false → y ≡ areDigits xs → y ≡ areDigits (byte ∷ xs)
   unfolding areDigits
   digits-on xs {x} e n h = rw (← e, not-false x n) h
 
-  pub written-one : {x : Bool} → x ≡ within 48 57 b → x ≡ isWritten (b ∷ [])
+  pub written-one : {x : Bool} → x ≡ within 48 57 byte → x ≡ isWritten (byte ∷ [])
   unfolding isWritten
   written-one e = e
 
-  pub written-space : (c : ℕ) (xs : List ℕ) {x : Bool} → b ≡ 32 → x ≡ isWritten (c ∷ xs) → x ≡ isWritten (b ∷ c ∷ xs)
+  pub written-space : (byte′ : ℕ) (xs : List ℕ) {x : Bool} → byte ≡ 32 → x ≡ isWritten (byte′ ∷ xs) → x ≡ isWritten (byte ∷ byte′ ∷ xs)
   unfolding isWritten
-  written-space c xs s h = rw (eq-eqb b 32 s) h
+  written-space byte′ xs s h = rw (eq-eqb byte 32 s) h
 
-  pub written-stop : (c : ℕ) (xs : List ℕ) {x : Bool} → (b ≡ 32 → ⊥) → x ≡ within 49 57 b → not x ≡ true
-      → false ≡ isWritten (b ∷ c ∷ xs)
+  pub written-stop : (byte′ : ℕ) (xs : List ℕ) {x : Bool} → (byte ≡ 32 → ⊥) → x ≡ within 49 57 byte → not x ≡ true
+      → false ≡ isWritten (byte ∷ byte′ ∷ xs)
   unfolding isWritten
-  written-stop c xs {x} s e n = rw (ne-eqb b 32 s, ← e, not-true x n) refl
+  written-stop byte′ xs {x} s e n = rw (ne-eqb byte 32 s, ← e, not-true x n) refl
 
-  pub written-on : (c : ℕ) (xs : List ℕ) {x y : Bool} → (b ≡ 32 → ⊥) → x ≡ within 49 57 b → not x ≡ false → y ≡ areDigits (c ∷ xs)
-      → y ≡ isWritten (b ∷ c ∷ xs)
+  pub written-on : (byte′ : ℕ) (xs : List ℕ) {x y : Bool} → (byte ≡ 32 → ⊥) → x ≡ within 49 57 byte → not x ≡ false → y ≡ areDigits (byte′ ∷ xs)
+      → y ≡ isWritten (byte ∷ byte′ ∷ xs)
   unfolding isWritten
-  written-on c xs {x} s e n h = rw (ne-eqb b 32 s, ← e, not-false x n) h
+  written-on byte′ xs {x} s e n h = rw (ne-eqb byte 32 s, ← e, not-false x n) h
 
 pub ruleset written = (one-digit, digits-stop, digits-on, written-one, written-space, written-stop, written-on)
 
@@ -56,7 +56,7 @@ pub within-tells : {a b x : ℕ} → within a b x ≡ true → (a ≤ x) × (x �
 unfolding within
 within-tells h = let s = and-eq-true-iff _ _ .0 h in (leb-true _ _ (s .0), leb-true _ _ (s .1))
 
-pub digit-so : {b : ℕ} (xs : List ℕ) → (48 ≤ b) × (b ≤ 57) → areDigits xs ≡ true → areDigits (b ∷ xs) ≡ true
+pub digit-so : {byte : ℕ} (xs : List ℕ) → (48 ≤ byte) × (byte ≤ 57) → areDigits xs ≡ true → areDigits (byte ∷ xs) ≡ true
 unfolding areDigits
 digit-so xs l h = rw (within-so (l .0) (l .1)) h
 
@@ -64,30 +64,30 @@ pub none-so : areDigits [] ≡ true
 unfolding areDigits
 none-so = refl
 
-pub digit-tells : (b : ℕ) (xs : List ℕ) → areDigits (b ∷ xs) ≡ true → ((48 ≤ b) × (b ≤ 57)) × (areDigits xs ≡ true)
+pub digit-tells : (byte : ℕ) (xs : List ℕ) → areDigits (byte ∷ xs) ≡ true → ((48 ≤ byte) × (byte ≤ 57)) × (areDigits xs ≡ true)
 unfolding areDigits
-digit-tells b xs h = let s = and-eq-true-iff _ _ .0 h in (within-tells (s .0), s .1)
+digit-tells byte xs h = let s = and-eq-true-iff _ _ .0 h in (within-tells (s .0), s .1)
 
 -- A byte before others: a space, or the first digit.
-after-space : {b : ℕ} (c : ℕ) (xs : List ℕ) → b ≡ 32 → isWritten (b ∷ c ∷ xs) ≡ isWritten (c ∷ xs)
+after-space : {byte : ℕ} (byte′ : ℕ) (xs : List ℕ) → byte ≡ 32 → isWritten (byte ∷ byte′ ∷ xs) ≡ isWritten (byte′ ∷ xs)
 unfolding isWritten
-after-space {b} c xs s = rw (eq-eqb b 32 s)
+after-space {byte} byte′ xs s = rw (eq-eqb byte 32 s)
 
-no-space : {b : ℕ} (c : ℕ) (xs : List ℕ) → (b ≡ 32 → ⊥) → isWritten (b ∷ c ∷ xs) ≡ (within 49 57 b && areDigits (c ∷ xs))
+no-space : {byte : ℕ} (byte′ : ℕ) (xs : List ℕ) → (byte ≡ 32 → ⊥) → isWritten (byte ∷ byte′ ∷ xs) ≡ (within 49 57 byte && areDigits (byte′ ∷ xs))
 unfolding isWritten
-no-space {b} c xs n = rw (ne-eqb b 32 n)
+no-space {byte} byte′ xs n = rw (ne-eqb byte 32 n)
 
-pub space-so : {b : ℕ} (c : ℕ) (xs : List ℕ) → b ≡ 32 → isWritten (c ∷ xs) ≡ true → isWritten (b ∷ c ∷ xs) ≡ true
-space-so c xs s h = after-space c xs s ∙ h
+pub space-so : {byte : ℕ} (byte′ : ℕ) (xs : List ℕ) → byte ≡ 32 → isWritten (byte′ ∷ xs) ≡ true → isWritten (byte ∷ byte′ ∷ xs) ≡ true
+space-so byte′ xs s h = after-space byte′ xs s ∙ h
 
-pub first-so : {b : ℕ} (c : ℕ) (xs : List ℕ) → (49 ≤ b) × (b ≤ 57) → areDigits (c ∷ xs) ≡ true → isWritten (b ∷ c ∷ xs) ≡ true
-first-so c xs l h = no-space c xs (λ s. omega (arith, l .0, s)) ∙ and-so (within-so (l .0) (l .1)) h
+pub first-so : {byte : ℕ} (byte′ : ℕ) (xs : List ℕ) → (49 ≤ byte) × (byte ≤ 57) → areDigits (byte′ ∷ xs) ≡ true → isWritten (byte ∷ byte′ ∷ xs) ≡ true
+first-so byte′ xs l h = no-space byte′ xs (λ s. omega (arith, l .0, s)) ∙ and-so (within-so (l .0) (l .1)) h
 
-pub last-so : {b : ℕ} → (48 ≤ b) × (b ≤ 57) → isWritten (b ∷ []) ≡ true
+pub last-so : {byte : ℕ} → (48 ≤ byte) × (byte ≤ 57) → isWritten (byte ∷ []) ≡ true
 unfolding isWritten
 last-so l = within-so (l .0) (l .1)
 
-pub last-tells : {b : ℕ} → isWritten (b ∷ []) ≡ true → (48 ≤ b) × (b ≤ 57)
+pub last-tells : {byte : ℕ} → isWritten (byte ∷ []) ≡ true → (48 ≤ byte) × (byte ≤ 57)
 unfolding isWritten
 last-tells h = within-tells h
 
@@ -95,9 +95,9 @@ last-tells h = within-tells h
 abbrev pub WrittenForms : ℕ → ℕ → List ℕ → Type 0
 WrittenForms b c bs = ((b ≡ 32) × (isWritten (c ∷ bs) ≡ true)) ⊎ (((49 ≤ b) × (b ≤ 57)) × (areDigits (c ∷ bs) ≡ true))
 
-pub written-tells : (b c : ℕ) (xs : List ℕ) → isWritten (b ∷ c ∷ xs) ≡ true → WrittenForms b c xs
-written-tells b c xs h = go (eq-or-ne b 32)
+pub written-tells : (byte byte′ : ℕ) (xs : List ℕ) → isWritten (byte ∷ byte′ ∷ xs) ≡ true → WrittenForms byte byte′ xs
+written-tells byte byte′ xs h = go (eq-or-ne byte 32)
   where
-    go : (b ≡ 32) ⊎ (b ≡ 32 → ⊥) → WrittenForms b c xs
-    go (inl s) = inl (s, sym (after-space c xs s) ∙ h)
-    go (inr n) = let s = and-eq-true-iff _ _ .0 (sym (no-space c xs n) ∙ h) in inr (within-tells (s .0), s .1)
+    go : (byte ≡ 32) ⊎ (byte ≡ 32 → ⊥) → WrittenForms byte byte′ xs
+    go (inl s) = inl (s, sym (after-space byte′ xs s) ∙ h)
+    go (inr n) = let s = and-eq-true-iff _ _ .0 (sym (no-space byte′ xs n) ∙ h) in inr (within-tells (s .0), s .1)

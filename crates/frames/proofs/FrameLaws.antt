@@ -45,11 +45,11 @@ module _ (f : Floor) (m : List ℕ) (i : ℕ) (old : List ℕ) (at : ℕ) where
   unfolding arrivalWords
   stays-put new n h p = rw (answer-none m i h) p
 
-  pub arrives-put : (cells m₁ m₂ new : List ℕ) (a x b n : ℕ) → getD m (65 * i) 0 ≡ 2 → f .horizon ≤ 63 → cells ≡ part m (65 * i + 1) 64 →
-      x ≡ arrivalOf cells (min (f .horizon) 63) → PutAt arrivesWords old at m₁ a → PutAt (shortDecimal x) m₁ a m₂ b →
-      PutAt (10 ∷ []) m₂ b new n → at + 20 ≤ length old → PutAt (arrivalWords f (answerIn m i)) old at new n
+  pub arrives-put : (cells m₁ m₂ new : List ℕ) (n₁ x n₂ n : ℕ) → getD m (65 * i) 0 ≡ 2 → f .horizon ≤ 63 → cells ≡ part m (65 * i + 1) 64 →
+      x ≡ arrivalOf cells (min (f .horizon) 63) → PutAt arrivesWords old at m₁ n₁ → PutAt (shortDecimal x) m₁ n₁ m₂ n₂ →
+      PutAt (10 ∷ []) m₂ n₂ new n → at + 20 ≤ length old → PutAt (arrivalWords f (answerIn m i)) old at new n
   unfolding arrivalWords arrivesWords
-  arrives-put cells m₁ m₂ new a x b n h l e g p q r enough =
+  arrives-put cells m₁ m₂ new n₁ x n₂ n h l e g p q r enough =
       let low : min (f .horizon) 63 ≡ f .horizon = omega arith in
       let same : x ≡ arrivalOf (part m (65 * i + 1) 64) (f .horizon) =
       g ∙ ap (arrivalOf cells) low ∙ ap (λ (xs : List ℕ). arrivalOf xs (f .horizon)) e in
@@ -87,11 +87,11 @@ pub arrival-short : (f : Floor) (xs : ℕ → Answer) (i : ℕ) → length (arri
 unfolding arrivalLine carrierWords
 arrival-short f xs i = omega (arith, length-append (carrierWords ++ ((49 + i) ∷ [])) (arrivalWords f (xs i)), words-short f (xs i))
 
-pub arrival-put : (f : Floor) (xs : ℕ → Answer) (i at a b n : ℕ) (old m₁ m₂ new : List ℕ) → PutAt carrierWords old at m₁ a →
-    PutAt ((49 + i) ∷ []) m₁ a m₂ b → PutAt (arrivalWords f (xs i)) m₂ b new n → at + 46 ≤ length old →
+pub arrival-put : (f : Floor) (xs : ℕ → Answer) (i at n₁ n₂ n : ℕ) (old m₁ m₂ new : List ℕ) → PutAt carrierWords old at m₁ n₁ →
+    PutAt ((49 + i) ∷ []) m₁ n₁ m₂ n₂ → PutAt (arrivalWords f (xs i)) m₂ n₂ new n → at + 46 ≤ length old →
     PutAt (arrivalLine f xs i) old at new n
 unfolding arrivalLine carrierWords
-arrival-put f xs i at a b n old m₁ m₂ new p q r l =
+arrival-put f xs i at n₁ n₂ n old m₁ m₂ new p q r l =
     let s = words-short f (xs i) in
     put-behind (put-behind p q (omega (arith, p .behind, q .behind))) r (omega (arith, p .behind, q .behind, r .behind))
 
@@ -149,10 +149,10 @@ module _ (f : Floor) (ws : List ℕ) (ok : checkOf f ws ≡ passed) (xs : ℕ �
         lines-short,
       )
 
-  pub head-put : (a b n : ℕ) (old m₁ m₂ new : List ℕ) → PutAt (mapOf f ws) old 0 m₁ a → PutAt (10 ∷ []) m₁ a m₂ b →
-      PutAt (linesOf (arrivalLine f xs) (f .carriers)) m₂ b new n → 20901 ≤ length old → PutAt (drawHead f ws xs) old 0 new n
+  pub head-put : (n₁ n₂ n : ℕ) (old m₁ m₂ new : List ℕ) → PutAt (mapOf f ws) old 0 m₁ n₁ → PutAt (10 ∷ []) m₁ n₁ m₂ n₂ →
+      PutAt (linesOf (arrivalLine f xs) (f .carriers)) m₂ n₂ new n → 20901 ≤ length old → PutAt (drawHead f ws xs) old 0 new n
   unfolding drawHead
-  head-put a b n old m₁ m₂ new p q r l =
+  head-put n₁ n₂ n old m₁ m₂ new p q r l =
       let s = map-short f ws ok in
       let g = lines-short in
       put-behind (put-behind p q (omega (arith, p .behind, q .behind))) r (omega (arith, p .behind, q .behind, r .behind))

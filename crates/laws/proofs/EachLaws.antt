@@ -32,14 +32,14 @@ module _ (k p : ℕ) (ok : ℕ → Bool) (P : ℕ → Type 0) (means : Decides o
   each-means n = (each-passed n, all-passes n)
 
   -- What follows from a refusal: it has the check's own number and the place of the first test that fails.
-  pub each-refused : (C : ℕ → ℕ → Type 0) (n a b : ℕ) → demandEach k p ok n ≡ refused a b → ((i : ℕ) → First P n i → C k (p + i)) → C a b
+  pub each-refused : (C : ℕ → ℕ → Type 0) (n k′ p′ : ℕ) → demandEach k p ok n ≡ refused k′ p′ → ((i : ℕ) → First P n i → C k (p + i)) → C k′ p′
   unfolding demandEach inTurn
-  each-refused C zero a b h f = absurd (refused-not-passed (sym h))
-  each-refused C (suc n) a b h f =
+  each-refused C zero k′ p′ h f = absurd (refused-not-passed (sym h))
+  each-refused C (suc n) k′ p′ h f =
       refused-by h
-      (λ e. each-refused C n a b e (λ i s. f i (record { listed = omega (arith, s .listed); fails = s .fails; before = s .before })))
+      (λ e. each-refused C n k′ p′ e (λ i s. f i (record { listed = omega (arith, s .listed); fails = s .fails; before = s .before })))
       (λ e g.
-      let d = demand-cases (ok n) k (p + n) a b g in
+      let d = demand-cases (ok n) k (p + n) k′ p′ g in
       rw (d .1, d .2)
       (f n (record { listed = omega arith; fails = λ q. false-fails (d .0) (means n .1 q); before = each-passed n e })))
 

@@ -79,7 +79,7 @@ pub refused-not-passed : {k p : ℕ} → refused k p ≡ passed → ⊥
 refused-not-passed h = let z : _≡_ {A = ℕ} 0 1 = cc in omega arith
 
 -- Two refusals that are the same have one number and one place.
-pub refused-same : {a b p p′ : ℕ} → refused a p ≡ refused b p′ → (a ≡ b) × (p ≡ p′)
+pub refused-same : {k k′ p p′ : ℕ} → refused k p ≡ refused k′ p′ → (k ≡ k′) × (p ≡ p′)
 refused-same e = ((cc), (cc))
 
 -- A chain passes only if each of its checks does.

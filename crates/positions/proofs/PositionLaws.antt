@@ -18,19 +18,19 @@ pub line-start : (text : List ℕ) → 1 ≡ lineAt text 0
 unfolding lineAt
 line-start text = refl
 
-pub line-more : (text : List ℕ) (k line b next : ℕ) → line ≡ lineAt text k → b ≡ getD text k 0 → next ≡ cond (eqb b 10) (suc line) line
+pub line-more : (text : List ℕ) (k line byte next : ℕ) → line ≡ lineAt text k → byte ≡ getD text k 0 → next ≡ cond (eqb byte 10) (suc line) line
     → next ≡ lineAt text (k + 1)
 unfolding lineAt
-line-more text k line b next e f g = rw add-one (cc)
+line-more text k line byte next e f g = rw add-one (cc)
 
 pub column-start : (text : List ℕ) → 1 ≡ columnAt text 0
 unfolding columnAt
 column-start text = refl
 
-pub column-more : (text : List ℕ) (k column b next : ℕ) → column ≡ columnAt text k → b ≡ getD text k 0
-    → next ≡ cond (eqb b 10) 1 (suc column) → next ≡ columnAt text (k + 1)
+pub column-more : (text : List ℕ) (k column byte next : ℕ) → column ≡ columnAt text k → byte ≡ getD text k 0
+    → next ≡ cond (eqb byte 10) 1 (suc column) → next ≡ columnAt text (k + 1)
 unfolding columnAt
-column-more text k column b next e f g = rw add-one (cc)
+column-more text k column byte next e f g = rw add-one (cc)
 
 -- The loop's end.
 pub position-end : (at-byte : ℕ → ℕ) (k at n : ℕ) → k ≤ at → at ≤ k → (n ≡ at-byte k) × (n ≤ k + 1) → (n ≡ at-byte at) × (n ≤ at + 1)
