@@ -62,21 +62,21 @@ fn go(setup: &[u16], m: &mut [u16], seed: usize) -> usize {
 }
 
 // One drawn order of a floor with drawn starts, docks and walls.
-fn draw_one(t: Tally, setup: &[u16], m: &mut [u16], cells: usize, seed: usize) -> Tally {
+fn draw_one(tally: Tally, setup: &[u16], m: &mut [u16], cells: usize, seed: usize) -> Tally {
     let mut drawn = setup::cleared();
     memory::copy(setup, &mut drawn, 201);
     draws::draw_floor(&mut drawn, cells, seed);
     let came = go(&drawn, m, seed);
-    tally::noted(t, &drawn, m, came)
+    tally::noted(tally, &drawn, m, came)
 }
 
 // drawn: so many orders, on floors of so many cells, with seeds from one on.
-pub fn drawn(s: &[u8], setup: &[u16], m: &mut [u16]) -> Tally {
-    let count = field(s, 0);
+pub fn drawn(text: &[u8], setup: &[u16], m: &mut [u16]) -> Tally {
+    let count = field(text, 0);
     let mut t = tally::nothing();
     let mut k: usize = 0;
     while k < count {
-        t = draw_one(t, setup, m, field(s, 1), memory::plus(field(s, 2), k));
+        t = draw_one(t, setup, m, field(text, 1), memory::plus(field(text, 2), k));
         k += 1;
     }
     t

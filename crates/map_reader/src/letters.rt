@@ -12,12 +12,12 @@ use crate::tokens::Read;
 pub const LETTERS: usize = 442;
 
 // Whether a byte is among the first n marks.
-fn is_used(marks: &[u8], n: usize, b: u8) -> bool
+fn is_used(marks: &[u8], n: usize, byte: u8) -> bool
     requires { ⌜ n ≤ length (now marks) ⌝ }
 {
     let mut c: usize = 0;
     while c < n {
-        if marks[c] == b {
+        if marks[c] == byte {
             return true;
         }
         c += 1;
@@ -28,7 +28,7 @@ fn is_used(marks: &[u8], n: usize, b: u8) -> bool
 // How many of the 16 places from a base on are taken.
 fn count_things(table: &[u8], base: usize) -> usize
     requires { ⌜ base + 16 ≤ length (now table) ⌝ }
-    ensures { λ r. ⌜ r ≤ 16 ⌝ }
+    ensures { λ result. ⌜ result ≤ 16 ⌝ }
 {
     let mut n: usize = 0;
     let mut k: usize = 0;
@@ -45,7 +45,7 @@ fn count_things(table: &[u8], base: usize) -> usize
 // before.
 fn read_things(text: &[u8], first: usize, line: u16, base: usize, table: &mut [u8]) -> Read
     requires { ⌜ (first ≤ length (now text)) × (base + 16 ≤ length (now table)) ⌝ }
-    ensures { λ r. ⌜ ReadWithin first (length (now (text .entry))) r ⌝ }
+    ensures { λ result. ⌜ ReadWithin first (length (now (text .entry))) result ⌝ }
 {
     let mut k: usize = 0;
     while k < 17 {
@@ -72,7 +72,7 @@ fn read_things(text: &[u8], first: usize, line: u16, base: usize, table: &mut [u
 // Reads the line of a letter, whose place is below 26; the column behind its newline is answered.
 fn read_letter(text: &[u8], at: usize, line: u16, letter: usize, table: &mut [u8]) -> Read
     requires { ⌜ (letter < 26) × (at + 2 ≤ length (now text)) × (442 ≤ length (now table)) ⌝ }
-    ensures { λ r. ⌜ ReadWithin at (length (now (text .entry))) r ⌝ }
+    ensures { λ result. ⌜ ReadWithin at (length (now (text .entry))) result ⌝ }
 {
     let base = 17 * letter;
     let had = table[base + 16];
@@ -106,7 +106,7 @@ fn copy_things(own: [u8; 16], base: usize, table: &mut [u8])
 // Reads the line at a column, which must be that of a letter among the first n marks; the column behind its newline is answered.
 fn read_line(text: &[u8], at: usize, line: u16, marks: &[u8], n: usize, table: &mut [u8]) -> Read
     requires { ⌜ (at < length (now text)) × (n ≤ length (now marks)) × (442 ≤ length (now table)) ⌝ }
-    ensures { λ r. ⌜ ReadWithin at (length (now (text .entry))) r ⌝ }
+    ensures { λ result. ⌜ ReadWithin at (length (now (text .entry))) result ⌝ }
 {
     let b = text[at];
     let letter = tokens::letter_of(b);

@@ -17,7 +17,7 @@ const STEPS: usize = 4;
 
 // How far two numbers are apart.
 fn gap(a: usize, b: usize) -> usize
-    ensures { λ r. ⌜ r ≡ (a - b) + (b - a) ⌝ }
+    ensures { λ result. ⌜ result ≡ (a - b) + (b - a) ⌝ }
 {
     if a < b { b - a } else { a - b }
 }
@@ -25,7 +25,7 @@ fn gap(a: usize, b: usize) -> usize
 // The beats from one cell to another where nothing is in the way.
 fn distance(g: SearchGrid, c: usize, d: usize) -> usize
     requires { ⌜ Grid g × (c < g .cells) × (d < g .cells) ⌝ }
-    ensures { λ r. ⌜ r ≡ distanceOf (g .width) c d ⌝ }
+    ensures { λ result. ⌜ result ≡ distanceOf (g .width) c d ⌝ }
 {
     let p = place_of(g, c);
     let q = place_of(g, d);
@@ -35,7 +35,7 @@ fn distance(g: SearchGrid, c: usize, d: usize) -> usize
 // The beats to the nearest dock, at most to the horizon. What the pass finds does not depend on it.
 fn nearest(g: SearchGrid, start: usize, ds: Docks) -> usize
     requires { ⌜ Grid g × (start < g .cells) × DocksIn g (ds .count) (ds .cells) ⌝ }
-    ensures { λ r. ⌜ r ≤ g .horizon ⌝ }
+    ensures { λ result. ⌜ result ≤ g .horizon ⌝ }
 {
     let n = ds.count;
     let mut near = g.horizon;
@@ -53,7 +53,7 @@ fn nearest(g: SearchGrid, start: usize, ds: Docks) -> usize
 // The number of beats to make after beat t: to the nearest dock, then a few at a time.
 fn beats_after(t: usize, near: usize, horizon: usize) -> usize
     requires { ⌜ (t < horizon) × (near ≤ horizon) × (horizon ≤ 63) ⌝ }
-    ensures { λ r. ⌜ (1 ≤ r) × (t + r ≤ horizon) ⌝ }
+    ensures { λ result. ⌜ (1 ≤ result) × (t + result ≤ horizon) ⌝ }
 {
     if t < near {
         return near - t;
@@ -67,7 +67,7 @@ fn beats_after(t: usize, near: usize, horizon: usize) -> usize
 // The least beat from which on every beat before n is an arrival; n where the one before it is none.
 fn first_arrival(g: SearchGrid, sets: &[u32], ds: Docks, n: usize) -> usize
     requires { ⌜ Grid g × (length (now sets) ≡ 2049) × (n ≤ 64) × DocksIn g (ds .count) (ds .cells) ⌝ }
-    ensures { λ r. ⌜ r ≡ heldFrom (arrivable g (now (sets .entry)) ds) n ⌝ }
+    ensures { λ result. ⌜ result ≡ heldFrom (arrivable g (now (sets .entry)) ds) n ⌝ }
 {
     let mut t = n;
     while 0 < t {
@@ -84,8 +84,8 @@ fn first_arrival(g: SearchGrid, sets: &[u32], ds: Docks, n: usize) -> usize
 pub fn forward(g: SearchGrid, sets: &mut [u32], table: &[u32], start: usize, ds: Docks) -> usize
     requires { ⌜ Grid g × (g .horizon ≤ 63) × (start < g .cells) × DocksIn g (ds .count) (ds .cells) ⌝ }
     requires { ⌜ Tidy g (now sets) × Tidy g (now table) × Holdable g (now table) ds ⌝ }
-    ensures reached { λ r. ⌜ ForwardReachableTo g (now (table .entry)) start r (now (sets .exit)) ⌝ }
-    ensures found { λ r. ⌜ Earliest (arrivable g (now (sets .exit)) ds) (g .horizon + 1) r ⌝ }
+    ensures reached { λ result. ⌜ ForwardReachableTo g (now (table .entry)) start result (now (sets .exit)) ⌝ }
+    ensures found { λ result. ⌜ Earliest (arrivable g (now (sets .exit)) ds) (g .horizon + 1) result ⌝ }
 {
     put_alone(g, sets, 0, start);
     let near = nearest(g, start, ds);

@@ -39,7 +39,7 @@ returns : tie.Need-returns Inv-loop μ-loop
 returns c =
     let at-loop : tie.At-loop Inv-loop μ-loop = search in
     let l = at-loop .loop .inv in
-    let same : at-loop .loop .q ≡ 32 = omega (arith, l .0, c .loop-test .left) in
+    let same : at-loop .loop .p ≡ 32 = omega (arith, l .0, c .loop-test .left) in
     rw same at (l .2)
 
 pub docks-spec : {M : Type 1} → statement M

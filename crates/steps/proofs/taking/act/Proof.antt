@@ -11,7 +11,7 @@ use Rattle.steps.proofs.taking.act.Tie as tie
 plan-now-requires : tie.Need-plan-now-requires
 unfolding stepMeant RowsFor
 plan-now-requires c κs =
-    let after-s : tie.After-s = search in
+    let after-s : tie.After-x = search in
     let start : tie.Start = search in (
       plan-there _ _ (open-there _ _ _ (rw (after-s .s .given .1) at (start .pre .0))),
       record { placed = start .pre .1 .0; free = rw (after-s .s .given .1) at (start .pre .1 .1) },
@@ -30,7 +30,7 @@ returns : tie.Need-returns
 unfolding stepMeant
 returns c =
     let after-plan-now : tie.After-plan-now = search in
-    let after-s : tie.After-s = search in
+    let after-s : tie.After-x = search in
     rw (after-s .s .given .1) (after-plan-now .plan-now .ensures)
 
 returns-2 : tie.Need-returns-2

@@ -10,7 +10,7 @@ use Rattle.trial.proofs.places.number_of.Tie as tie
 plan-number-requires : tie.Need-plan-number-requires
 unfolding stepMeant
 plan-number-requires c κs =
-    let after-s : tie.After-s = search in
+    let after-s : tie.After-x = search in
     let start : tie.Start = search in
     omega (arith, plan-there _ _ (rw (after-s .s .given .1) at (start .pre .0)))
 
