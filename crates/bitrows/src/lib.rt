@@ -25,7 +25,7 @@ pub fn without(x: u32, mask: u32) -> u32
 // Whether the digit of a row at a column is 1.
 pub fn has(rows: &[u32], row: usize, column: usize) -> bool
     requires { ⌜ (row < length (now rows)) × (column < 32) ⌝ }
-    ensures { λ x. ⌜ x ≡ Rows·has (now (rows .entry)) row column ⌝ }
+    ensures { λ result. ⌜ result ≡ Rows·has (now (rows .entry)) row column ⌝ }
 {
     (rows[row] >> column) & 1 == 1
 }
@@ -33,7 +33,7 @@ pub fn has(rows: &[u32], row: usize, column: usize) -> bool
 // Adds the digit of a row at a column.
 pub fn add(rows: &mut [u32], row: usize, column: usize)
     requires { ⌜ (row < length (now rows)) × (column < 32) ⌝ }
-    ensures { λ x. ⌜ now (rows .exit) ≡ added (now (rows .entry)) row column ⌝ }
+    ensures { λ result. ⌜ now (rows .exit) ≡ added (now (rows .entry)) row column ⌝ }
 {
     let more = bit(column);
     rows[row] = rows[row] | more;
@@ -58,7 +58,7 @@ pub fn row_of(w: usize, scale: usize, c: usize) -> usize
 // Takes the digit of a row at a column away.
 pub fn drop(rows: &mut [u32], row: usize, column: usize)
     requires { ⌜ (row < length (now rows)) × (column < 32) ⌝ }
-    ensures { λ x. ⌜ now (rows .exit) ≡ dropped (now (rows .entry)) row column ⌝ }
+    ensures { λ result. ⌜ now (rows .exit) ≡ dropped (now (rows .entry)) row column ⌝ }
 {
     let less = bit(column);
     rows[row] = without(rows[row], less);
@@ -68,7 +68,7 @@ pub fn drop(rows: &mut [u32], row: usize, column: usize)
 pub fn drop_at(rows: &mut [u32], i: usize, w: usize, scale: usize, cells: usize, c: usize)
     requires { ⌜ (1 ≤ w) × (w ≤ 32) × (cells ≤ 32 * w) × (scale ≡ 65536 / w + 1) ⌝ }
     requires { ⌜ i + 32 ≤ length (now rows) ⌝ }
-    ensures { λ x. ⌜ now (rows .exit) ≡ droppedAt w cells i c (now (rows .entry)) ⌝ }
+    ensures { λ result. ⌜ now (rows .exit) ≡ droppedAt w cells i c (now (rows .entry)) ⌝ }
 {
     if c < cells {
         let row = row_of(w, scale, c);

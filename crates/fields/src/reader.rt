@@ -25,7 +25,7 @@ pub fn begin<'a>(text: &'a [u8], column: usize) -> Reader<'a>
 
 // The reader at another column.
 pub fn moved<'a>(reader: Reader<'a>, column: usize) -> Reader<'a>
-    ensures { λ q. ⌜ (q .text ≡ reader .entry .text) × (q .column ≡ column) ⌝ }
+    ensures { λ result. ⌜ (result .text ≡ reader .entry .text) × (result .column ≡ column) ⌝ }
 {
     Reader {
         text: reader.text,
@@ -35,7 +35,7 @@ pub fn moved<'a>(reader: Reader<'a>, column: usize) -> Reader<'a>
 
 // The column that the reader reached.
 pub fn reached<'a>(reader: Reader<'a>) -> Reached
-    ensures { λ c. ⌜ c ≡ Reached.At (reader .entry .column) ⌝ }
+    ensures { λ result. ⌜ result ≡ Reached.At (reader .entry .column) ⌝ }
 {
     slot::here(reader.text, reader.column)
 }
@@ -43,7 +43,7 @@ pub fn reached<'a>(reader: Reader<'a>) -> Reached
 // The counted line that comes next.
 pub fn counted<'a>(reader: Reader<'a>) -> Reached
     requires { ⌜ reader .column ≤ 64000 ⌝ }
-    ensures { λ c. ⌜ c ≡ reachedOf (countedForm (now (reader .entry .text)) (reader .entry .column))
+    ensures { λ result. ⌜ result ≡ reachedOf (countedForm (now (reader .entry .text)) (reader .entry .column))
         (pastCounted (now (reader .entry .text)) (reader .entry .column)) ⌝ }
 {
     line::counted_form(reader.text, reader.column)
@@ -52,7 +52,7 @@ pub fn counted<'a>(reader: Reader<'a>) -> Reached
 // The line of two fields that comes next.
 pub fn pair<'a>(reader: Reader<'a>) -> Reached
     requires { ⌜ reader .column ≤ 65000 ⌝ }
-    ensures { λ c. ⌜ c ≡ reachedOf (lineForm (now (reader .entry .text)) (reader .entry .column) 2) (pastPair (reader .entry .column)) ⌝ }
+    ensures { λ result. ⌜ result ≡ reachedOf (lineForm (now (reader .entry .text)) (reader .entry .column) 2) (pastPair (reader .entry .column)) ⌝ }
 {
     line::pair_form(reader.text, reader.column)
 }

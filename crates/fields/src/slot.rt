@@ -28,7 +28,7 @@ fn malformed(at: usize) -> Reached
 
 // The answer without the column.
 pub fn checked(reached: Reached) -> Checked
-    ensures { λ c. ⌜ verdictOf c ≡ saidBy reached ⌝ }
+    ensures { λ result. ⌜ verdictOf result ≡ saidBy reached ⌝ }
 {
     match reached {
         Reached::At(_) => Checked::Passed,

@@ -11,7 +11,7 @@ use route::Route;
 
 // Writes cell c at beat t.
 fn set_cell(r: &mut [u16], t: usize, c: usize)
-    ensures { λ x. ⌜ length (now (r .exit)) ≡ length (now (r .entry)) ⌝ }
+    ensures { λ result. ⌜ length (now (r .exit)) ≡ length (now (r .entry)) ⌝ }
 {
     if t < r.len() {
         r[t] = narrow(c);

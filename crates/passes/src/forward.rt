@@ -4,7 +4,7 @@ ghost use Prim.Native.Nat.{_+_, _-_, _≤_, _<_};
 ghost use lib.ListN.{length};
 ghost use Rattle.layers.specs.Table.{Grid, Tidy};
 ghost use Rattle.passes.specs.Docks.{DocksIn, heldFrom, Holdable, arrivable};
-ghost use Rattle.passes.specs.Passes.{distanceOf, ForwardReachableTo, Earliest};
+ghost use Rattle.passes.specs.Passes.{manhattanOf, ForwardReachableTo, Earliest};
 use crate::docks::Docks;
 use crate::docks::arrives;
 use layers::SearchGrid;
@@ -16,20 +16,20 @@ use layers::table::put_alone;
 const STEPS: usize = 4;
 
 // How far two numbers are apart.
-fn gap(a: usize, b: usize) -> usize
+fn abs_diff(a: usize, b: usize) -> usize
     ensures { λ result. ⌜ result ≡ (a - b) + (b - a) ⌝ }
 {
     if a < b { b - a } else { a - b }
 }
 
 // The beats from one cell to another where nothing is in the way.
-fn distance(g: SearchGrid, c: usize, d: usize) -> usize
+fn manhattan(g: SearchGrid, c: usize, d: usize) -> usize
     requires { ⌜ Grid g × (c < g .cells) × (d < g .cells) ⌝ }
-    ensures { λ result. ⌜ result ≡ distanceOf (g .width) c d ⌝ }
+    ensures { λ result. ⌜ result ≡ manhattanOf (g .width) c d ⌝ }
 {
-    let p = place_of(g, c);
-    let q = place_of(g, d);
-    gap(p.row, q.row) + gap(p.column, q.column)
+    let here = place_of(g, c);
+    let there = place_of(g, d);
+    abs_diff(here.row, there.row) + abs_diff(here.column, there.column)
 }
 
 // The beats to the nearest dock, at most to the horizon. What the pass finds does not depend on it.
@@ -41,9 +41,9 @@ fn nearest(g: SearchGrid, start: usize, ds: Docks) -> usize
     let mut near = g.horizon;
     let mut d: usize = 0;
     while d < n {
-        let far = distance(g, start, ds.cells[d] as usize);
-        if far < near {
-            near = far;
+        let beats = manhattan(g, start, ds.cells[d] as usize);
+        if beats < near {
+            near = beats;
         }
         d += 1;
     }

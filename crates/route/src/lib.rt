@@ -88,7 +88,7 @@ pub fn first_conflict(r: Route, q: Route, horizon: u16) -> FirstConflict
 
 // The least beat from which a route is at its last cell through the horizon.
 pub fn arrival(r: Route, horizon: u16) -> u16
-    ensures answers { λ a. ⌜ a ≡ arrivalOf r (min horizon 63) ⌝ }
+    ensures answers { λ result. ⌜ result ≡ arrivalOf r (min horizon 63) ⌝ }
 {
     let last = last_beat(horizon);
     let end = r[last];

@@ -68,7 +68,7 @@ pub fn number_of(f: Floor, x: Step) -> u16
 
 // The answer of a step as a number: 0 kept, 1 sent, 2 delivered.
 pub fn answer_number(x: Taken) -> u16
-    ensures { λ k. ⌜ k ≡ answerNumber (takenMeant x) ⌝ }
+    ensures { λ result. ⌜ result ≡ answerNumber (takenMeant x) ⌝ }
 {
     match x {
         Taken::Kept => 0,
