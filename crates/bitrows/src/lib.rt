@@ -77,13 +77,13 @@ pub fn drop_at(rows: &mut [u32], i: usize, w: usize, scale: usize, cells: usize,
 }
 
 // Writes the first n of some rows into a table, from row i on.
-pub fn put_rows(table: &mut [u32], i: usize, x: &[u32], n: usize)
-    requires { ⌜ (n ≤ length (now x)) × (i + n ≤ length (now table)) ⌝ }
-    ensures { λ result. ⌜ now (table .exit) ≡ written (now (table .entry)) i (now (x .entry)) n ⌝ }
+pub fn put_rows(table: &mut [u32], i: usize, words: &[u32], n: usize)
+    requires { ⌜ (n ≤ length (now words)) × (i + n ≤ length (now table)) ⌝ }
+    ensures { λ result. ⌜ now (table .exit) ≡ written (now (table .entry)) i (now (words .entry)) n ⌝ }
 {
     let mut row: usize = 0;
     while row < n {
-        table[i + row] = x[row];
+        table[i + row] = words[row];
         row += 1;
     }
 }

@@ -112,7 +112,7 @@ module _ {M : Type 1} (𝓤 : URA M) (H : Heap 𝓤) (A : Atoms 𝓤) (W : Given
 
     module _ (𝓣 : Tables 𝓤 H) (k : Name) (known-line : Triple 𝓤 (𝓣 .C k) (Line 𝓤 form past most H A))
         (known-moved : Triple 𝓤 (𝓣 .C #moved) (ReaderMoved 𝓤 H A)) (known-reached : Triple 𝓤 (𝓣 .C #reached) (Arrived 𝓤 H A))
-        (l₀ l₁ l₂ l₃ l₄ l₅ l₆ l₇ l₈ l₉ l₁₀ l₁₁ : ℕ) where
+        (k₀ k₁ k₂ k₃ k₄ k₅ k₆ k₇ k₈ k₉ k₁₀ k₁₁ : ℕ) where
       abbrev C : Calls 𝓤 H
       C = 𝓣 .C
 
@@ -124,33 +124,33 @@ module _ {M : Type 1} (𝓤 : URA M) (H : Heap 𝓤) (A : Atoms 𝓤) (W : Given
 
       abbrev En : Env 𝓤 H
       En =
-          (answer, l₀) ∷ (slice, l₁) ∷ (word, l₂) ∷ (word, l₃) ∷ (reader, l₄) ∷ (word, l₅) ∷ (answer, l₆) ∷ (word, l₇)
-          ∷ (tyBool, l₈) ∷ (reader, l₉) ∷ (reader, l₁₀) ∷ (reader, l₁₁) ∷ []
+          (answer, k₀) ∷ (slice, k₁) ∷ (word, k₂) ∷ (word, k₃) ∷ (reader, k₄) ∷ (word, k₅) ∷ (answer, k₆) ∷ (word, k₇)
+          ∷ (tyBool, k₈) ∷ (reader, k₉) ∷ (reader, k₁₀) ∷ (reader, k₁₁) ∷ []
 
       -- the locals, the last first, with the cells of _7 to _1 as they are said; the others are room
       abbrev Locals : Item 𝓤 → Item 𝓤 → Item 𝓤 → Item 𝓤 → Item 𝓤 → Item 𝓤 → Item 𝓤 → List (Item 𝓤)
       Locals x₇ x₆ x₅ x₄ x₃ x₂ x₁ =
-          ‵ (froom reader l₁₁ 0) ∷ ‵ (fdies reader l₁₁) ∷ ‵ (froom reader l₁₀ 0) ∷ ‵ (fdies reader l₁₀) ∷ ‵ (froom reader l₉ 0)
-          ∷ ‵ (fdies reader l₉) ∷ ‵ (froom tyBool l₈ 0) ∷ ‵ (fdies tyBool l₈) ∷ x₇ ∷ ‵ (fdies word l₇) ∷ x₆ ∷ ‵ (fdies answer l₆)
-          ∷ x₅ ∷ ‵ (fdies word l₅) ∷ x₄ ∷ ‵ (fdies reader l₄) ∷ x₃ ∷ ‵ (fdies word l₃) ∷ x₂ ∷ ‵ (fdies word l₂) ∷ x₁ ∷ ‵ (fdies slice l₁)
-          ∷ ‵ (froom answer l₀ 0) ∷ ‵ (fdies answer l₀) ∷ []
+          ‵ (froom reader k₁₁ 0) ∷ ‵ (fdies reader k₁₁) ∷ ‵ (froom reader k₁₀ 0) ∷ ‵ (fdies reader k₁₀) ∷ ‵ (froom reader k₉ 0)
+          ∷ ‵ (fdies reader k₉) ∷ ‵ (froom tyBool k₈ 0) ∷ ‵ (fdies tyBool k₈) ∷ x₇ ∷ ‵ (fdies word k₇) ∷ x₆ ∷ ‵ (fdies answer k₆)
+          ∷ x₅ ∷ ‵ (fdies word k₅) ∷ x₄ ∷ ‵ (fdies reader k₄) ∷ x₃ ∷ ‵ (fdies word k₃) ∷ x₂ ∷ ‵ (fdies word k₂) ∷ x₁ ∷ ‵ (fdies slice k₁)
+          ∷ ‵ (froom answer k₀ 0) ∷ ‵ (fdies answer k₀) ∷ []
 
       -- the same with the parameters in place
       abbrev Filled : Item 𝓤 → Item 𝓤 → Val → List (Item 𝓤)
       Filled x₆ x₅ u =
-          Locals (‵ (froom word l₇ 0)) x₆ x₅ (‵ (fat fullShare reader l₄ 0 u)) (‵ (fat fullShare word l₃ 0 (vint w64 n)))
-          (‵ (fat fullShare word l₂ 0 (vint w64 at))) (‵ (fat fullShare slice l₁ 0 v))
+          Locals (‵ (froom word k₇ 0)) x₆ x₅ (‵ (fat fullShare reader k₄ 0 u)) (‵ (fat fullShare word k₃ 0 (vint w64 n)))
+          (‵ (fat fullShare word k₂ 0 (vint w64 at))) (‵ (fat fullShare slice k₁ 0 v))
 
       -- before a turn, and after a line's answer
       abbrev At′ : LoopTurn → List (Item 𝓤)
       At′ t =
           ‵ (Read (t .column) (t .value)) ∷ Tok ∷ ‵ Own
-          ∷ Filled (‵ (froom answer l₆ 0)) (‵ (fat fullShare word l₅ 0 (vint w64 (t .count)))) (t .value)
+          ∷ Filled (‵ (froom answer k₆ 0)) (‵ (fat fullShare word k₅ 0 (vint w64 (t .count)))) (t .value)
 
       abbrev Answered : LoopTurn → Reached → List (Item 𝓤)
       Answered t y =
           ‵ (S.the-row .own y (val y ∷ [])) ∷ Tok ∷ ‵ (Read (t .column) (t .value)) ∷ ‵ Own
-          ∷ Filled (‵ (fat fullShare answer l₆ 0 (val y))) (‵ (fat fullShare word l₅ 0 (vint w64 (t .count)))) (t .value)
+          ∷ Filled (‵ (fat fullShare answer k₆ 0 (val y))) (‵ (fat fullShare word k₅ 0 (vint w64 (t .count)))) (t .value)
 
       -- a turn ends nearer to the last line, or the loop is left and the rest of the body runs
       abbrev Turned : LoopTurn → Out → SProp 𝓤
@@ -163,9 +163,9 @@ module _ {M : Type 1} (𝓤 : URA M) (H : Heap 𝓤) (A : Atoms 𝓤) (W : Given
           → y ≡ reachedOf (linesForm (form (s .now)) (past (s .now)) at n) (columnPast (past (s .now)) at n)
           → Sq W
           (‵ (S.the-row .own y (u ∷ [])) ∷ Tok ∷ ‵ Own
-          ∷ Locals (‵ (froom word l₇ 0)) (‵ (froom answer l₆ 0)) (‵ (froom word l₅ 0)) (‵ (froom reader l₄ 0)) (‵ (froom word l₃ 0))
-          (‵ (froom word l₂ 0))
-          (‵ (froom slice l₁ 0)))
+          ∷ Locals (‵ (froom word k₇ 0)) (‵ (froom answer k₆ 0)) (‵ (froom word k₅ 0)) (‵ (froom reader k₄ 0)) (‵ (froom word k₃ 0))
+          (‵ (froom word k₂ 0))
+          (‵ (froom slice k₁ 0)))
           (frees En (prop (Post u)))
       freed y u e =
           move ! (25 ∷ 26 ∷ []) $ free1 ! $ move ! (23 ∷ 24 ∷ []) $ free1 ! $ move ! (21 ∷ 22 ∷ []) $ free1 ! $
@@ -244,13 +244,13 @@ module _ {M : Type 1} (𝓤 : URA M) (H : Heap 𝓤) (A : Atoms 𝓤) (W : Given
           (and-then ! (load ! (from ! (stop !)) (look ! 7 refl)) (no-more !)) (λ u y e is.
           land ! (from ! (stop !)) (init ! 14 refl (typed-answer y u is)) $ forget ! 8 refl $
           rewrite ! 0 (λ (x : Val). ‵ (S.the-row .own y (x ∷ []))) (tells y u is) refl $
-          rewrite ! 14 (λ (x : Val). ‵ (fat fullShare answer l₆ 0 x)) (tells y u is) refl $
+          rewrite ! 14 (λ (x : Val). ‵ (fat fullShare answer k₆ 0 x)) (tells y u is) refl $
           answered turn′ (ltb→lt (turn′ .count) n less) y (subst (λ (x : Val). Is S.the-row y (x ∷ [])) (tells y u is) is) e))
           (λ over. jumps ! $ exec ! C Λ En rest (atRet En Post) $ forget ! 9 refl $ leaves turn′ (nltb→le (turn′ .count) n over))
 
       -- All that follows the call of `begin`, with the reader that it returned in _4.
       pub along-lines : (u : Val) → Holds (hasTy reader u) × WT u
-          → Sq W (‵ (Read at u) ∷ Tok ∷ ‵ Own ∷ Filled (‵ (froom answer l₆ 0)) (‵ (froom word l₅ 0)) u)
+          → Sq W (‵ (Read at u) ∷ Tok ∷ ‵ Own ∷ Filled (‵ (froom answer k₆ 0)) (‵ (froom word k₅ 0)) u)
           (runs C Λ En (begun k) (atRet En Post))
       along-lines u wt =
           assigns ! (of-opd ! (lit ! tt)) (from ! (stop !)) (init ! 15 refl (tt, record { fits = lit< tt })) $

@@ -19,13 +19,13 @@ module _ (xs masks : List (List ℕ)) (none : ℕ) where
   abbrev mask : ℕ → List ℕ
   mask i = getD masks i []
 
-  pub advanced : {x₀ x₁ x₂ x₃ x₄ x₅ x₆ x₇ : List ℕ} → none ≡ 0 →
-      x₀ ≡ lanesOf (none ∷ getD (stripe 7) 0 0 ∷ getD (stripe 7) 1 0 ∷ getD (stripe 7) 2 0 ∷ []) (stripe 0) (stripe 1) (mask 0) →
-      x₁ ≡ lanesOf (stripe 0) (stripe 1) (stripe 2) (mask 1) → x₂ ≡ lanesOf (stripe 1) (stripe 2) (stripe 3) (mask 2) →
-      x₃ ≡ lanesOf (stripe 2) (stripe 3) (stripe 4) (mask 3) → x₄ ≡ lanesOf (stripe 3) (stripe 4) (stripe 5) (mask 4) →
-      x₅ ≡ lanesOf (stripe 4) (stripe 5) (stripe 6) (mask 5) → x₆ ≡ lanesOf (stripe 5) (stripe 6) (stripe 7) (mask 6) →
-      x₇ ≡ lanesOf (stripe 6) (stripe 7) (getD (stripe 0) 1 0 ∷ getD (stripe 0) 2 0 ∷ getD (stripe 0) 3 0 ∷ none ∷ []) (mask 7) →
-      (value free : ℕ → ℕ) → xs ≡ stripesOf value → masks ≡ stripesOf free → (x₀ ∷ x₁ ∷ x₂ ∷ x₃ ∷ x₄ ∷ x₅ ∷ x₆ ∷ x₇ ∷ []) ≡ stripesOf (stepWord value free)
+  pub advanced : {xs₀ xs₁ xs₂ xs₃ xs₄ xs₅ xs₆ xs₇ : List ℕ} → none ≡ 0 →
+      xs₀ ≡ lanesOf (none ∷ getD (stripe 7) 0 0 ∷ getD (stripe 7) 1 0 ∷ getD (stripe 7) 2 0 ∷ []) (stripe 0) (stripe 1) (mask 0) →
+      xs₁ ≡ lanesOf (stripe 0) (stripe 1) (stripe 2) (mask 1) → xs₂ ≡ lanesOf (stripe 1) (stripe 2) (stripe 3) (mask 2) →
+      xs₃ ≡ lanesOf (stripe 2) (stripe 3) (stripe 4) (mask 3) → xs₄ ≡ lanesOf (stripe 3) (stripe 4) (stripe 5) (mask 4) →
+      xs₅ ≡ lanesOf (stripe 4) (stripe 5) (stripe 6) (mask 5) → xs₆ ≡ lanesOf (stripe 5) (stripe 6) (stripe 7) (mask 6) →
+      xs₇ ≡ lanesOf (stripe 6) (stripe 7) (getD (stripe 0) 1 0 ∷ getD (stripe 0) 2 0 ∷ getD (stripe 0) 3 0 ∷ none ∷ []) (mask 7) →
+      (value free : ℕ → ℕ) → xs ≡ stripesOf value → masks ≡ stripesOf free → (xs₀ ∷ xs₁ ∷ xs₂ ∷ xs₃ ∷ xs₄ ∷ xs₅ ∷ xs₆ ∷ xs₇ ∷ []) ≡ stripesOf (stepWord value free)
   unfolding four stripesOf laneOf lanesOf overSlot underSlot wordAt stepWord
   advanced z e₀ e₁ e₂ e₃ e₄ e₅ e₆ e₇ value free p q = rw (e₀, e₁, e₂, e₃, e₄, e₅, e₆, e₇, z, p, q) refl
 

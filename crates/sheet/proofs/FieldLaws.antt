@@ -27,9 +27,9 @@ column-value p x = go (decLt x p)
     go (no l) = rw (le-ltb x p (omega arith)) (omega arith)
 
 -- A number of five digits from its digits.
-digits-sum : (x q₁ q₂ q₃ q₄ r₀ r₁ r₂ r₃ : ℕ) → 10 * q₁ + r₀ ≡ x → 10 * q₂ + r₁ ≡ q₁ → 10 * q₃ + r₂ ≡ q₂ → 10 * q₄ + r₃ ≡ q₃
-    → (((q₄ * 10 + r₃) * 10 + r₂) * 10 + r₁) * 10 + ((48 + r₀) - 48) ≡ x
-digits-sum x q₁ q₂ q₃ q₄ r₀ r₁ r₂ r₃ a b c d = omega arith
+digits-sum : (x k₁ k₂ k₃ k₄ n₀ n₁ n₂ n₃ : ℕ) → 10 * k₁ + n₀ ≡ x → 10 * k₂ + n₁ ≡ k₁ → 10 * k₃ + n₂ ≡ k₂ → 10 * k₄ + n₃ ≡ k₃
+    → (((k₄ * 10 + n₃) * 10 + n₂) * 10 + n₁) * 10 + ((48 + n₀) - 48) ≡ x
+digits-sum x k₁ k₂ k₃ k₄ n₀ n₁ n₂ n₃ a b c d = omega arith
 
 -- A quotient's last digit.
 quotient-digit : (x p : ℕ) → 10 * (x / (p * 10)) + x / p % 10 ≡ x / p
