@@ -24,9 +24,9 @@ pub lent-rows : (f : Floor) (ws : List ℕ) (needed lent : ℕ)
 lent-rows f ws needed lent = then-rows (checkOf f ws) (longEnough needed lent) (floor-rows f ws) (λ e. short-row needed lent)
 
 -- A number outside its limits is one row.
-pub outside-row : (low high x n rank : ℕ) → Refuses (demand (within low high x) n rank) (Row n rank (Within low high x → ⊥))
-outside-row low high x n rank =
-    demand-row (within low high x) n rank (
+pub outside-row : (low high x n p : ℕ) → Refuses (demand (within low high x) n p) (Row n p (Within low high x → ⊥))
+outside-row low high x n p =
+    demand-row (within low high x) n p (
       λ e w. false-fails e (within-means low high x .1 w),
       λ h. not-true-is-false (within low high x) (λ t. h (within-means low high x .0 t)),
     )

@@ -17,7 +17,7 @@ pub value-no-refusal : {A : Type 0} {x : A} {k p : ℕ} → value x ≡ refusal 
 value-no-refusal h = let z : _≡_ {A = ℕ} 0 1 = cc in omega arith
 
 -- Equal refusals are equal answers, and back.
-pub refusal-same : {A : Type 0} {a b p rank : ℕ} → _≡_ {A = Outcome A} (refusal a p) (refusal b rank) → (a ≡ b) × (p ≡ rank)
+pub refusal-same : {A : Type 0} {a b p p′ : ℕ} → _≡_ {A = Outcome A} (refusal a p) (refusal b p′) → (a ≡ b) × (p ≡ p′)
 refusal-same e = ((cc), (cc))
 
 -- A check whose rows do not hold passes.
@@ -39,9 +39,9 @@ then-rows {R} {S} x y t u k p = (
   back,
 )
   where
-    back : (R orElse S) k p → (v then w) ≡ refused k p
-    back (earlier r) = then-refused w (t k p .1 r)
-    back (later n s) = let e = no-row-passes v t n in then-passed e ∙ u e k p .1 s
+    back : (R orElse S) k p → (x then y) ≡ refused k p
+    back (earlier r) = then-refused y (t k p .1 r)
+    back (later n s) = let e = no-row-passes x t n in then-passed e ∙ u e k p .1 s
 
 -- An answer after a check.
 pub answers-rows : {A : Type 0} {R S : Table} (x : Verdict) (y : Outcome A) → Refuses x R → (x ≡ passed → Answers y S)
@@ -68,21 +68,21 @@ gives-rows (refused n q) y t k p = (
 )
 
 -- A single test is a table of one row.
-pub demand-row : {W : Type 0} (x : Bool) (n rank : ℕ) → (x ≡ false) ↔ W → Refuses (demand x n rank) (Row n rank W)
-demand-row {W} x n rank h k p = (λ e. let c = demand-cases x n rank k p e in rw (c .1, c .2) (row (h .0 (c .0))), back k p)
+pub demand-row : {W : Type 0} (x : Bool) (n p′ : ℕ) → (x ≡ false) ↔ W → Refuses (demand x n p′) (Row n p′ W)
+demand-row {W} x n p′ h k p = (λ e. let c = demand-cases x n p′ k p e in rw (c .1, c .2) (row (h .0 (c .0))), back k p)
   where
-    back : (k p : ℕ) → Row n rank W k p → demand x n rank ≡ refused k p
-    back k p (row w) = demand-refuses n rank (h .1 w)
+    back : (k p : ℕ) → Row n p′ W k p → demand x n p′ ≡ refused k p
+    back k p (row w) = demand-refuses n p′ (h .1 w)
 
 pub short-row : (needed lent : ℕ) → Refuses (longEnough needed lent) (Short lent needed)
 unfolding longEnough
 short-row needed lent = demand-row _ 9 0 (leb-false _ _, lt-leb _ _)
 
 -- A refusal is a table of one row that always holds.
-pub refusal-row : {A : Type 0} (n rank : ℕ) → Answers {A = A} (refusal n rank) (Row n rank (Unit {0}))
-refusal-row {A} n rank k p = (λ h. rw (← refusal-same h .0, ← refusal-same h .1) (row tt), back k p)
+pub refusal-row : {A : Type 0} (n p′ : ℕ) → Answers {A = A} (refusal n p′) (Row n p′ (Unit {0}))
+refusal-row {A} n p′ k p = (λ h. rw (← refusal-same h .0, ← refusal-same h .1) (row tt), back k p)
   where
-    back : (k p : ℕ) → Row n rank (Unit {0}) k p → _≡_ {A = Outcome A} (refusal n rank) (refusal k p)
+    back : (k p : ℕ) → Row n p′ (Unit {0}) k p → _≡_ {A = Outcome A} (refusal n p′) (refusal k p)
     back k p (row w) = refl
 
 -- Memory that is stored where the checks pass.

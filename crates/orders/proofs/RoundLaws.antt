@@ -41,7 +41,7 @@ module _ (M : Machine) where
   abbrev k : ℕ
   k = places (M .carriers)
 
-  module _ (s : State) (c p′ p d : ℕ) (fits : c ≤ k) (q-open : openAt M s p′ ≡ true) (q-there : p′ < k) (p-there : p < k)
+  module _ (s : State) (c p′ p d : ℕ) (fits : c ≤ k) (p′-open : openAt M s p′ ≡ true) (p′-there : p′ < k) (p-there : p < k)
       (other : p ≡ p′ → ⊥) (way : Way k c p′ d) where
     -- Where p is first in going round, p′ comes later.
     shorter-onward : c ≤ p → ((n : ℕ) → c ≤ n → n < p → openAt M s n ≡ false) → (d′ : ℕ) × (d′ < d) × Way k (suc p) p′ d′
@@ -49,7 +49,7 @@ module _ (M : Machine) where
     shorter-onward l shut =
         ⊎-elim
         (λ (e : c + d ≡ p′).
-        ⊎-elim (λ (h : p′ < p). true-false-absurd q-open (shut p′ (omega arith) h))
+        ⊎-elim (λ (h : p′ < p). true-false-absurd p′-open (shut p′ (omega arith) h))
         (λ (h : p ≤ p′). let ne : p < p′ = omega arith in (p′ - suc p, omega arith, inl (omega arith)))
         (lt-or-le p′ p))
         (λ (e : (p′ < c) × (c + d ≡ k + p′)). (k + p′ - suc p, omega arith, inr (omega arith, omega arith)))
@@ -60,9 +60,9 @@ module _ (M : Machine) where
     unfolding Way
     shorter-around l shut-end shut-top =
         ⊎-elim
-        (λ (e : c + d ≡ p′). true-false-absurd q-open (shut-end p′ (omega arith) q-there))
+        (λ (e : c + d ≡ p′). true-false-absurd p′-open (shut-end p′ (omega arith) p′-there))
         (λ (e : (p′ < c) × (c + d ≡ k + p′)).
-        ⊎-elim (λ (h : p′ < p). true-false-absurd q-open (shut-top p′ (omega arith) h))
+        ⊎-elim (λ (h : p′ < p). true-false-absurd p′-open (shut-top p′ (omega arith) h))
         (λ (h : p ≤ p′). let ne : p < p′ = omega arith in (p′ - suc p, omega arith, inl (omega arith)))
         (lt-or-le p′ p))
         way
@@ -72,7 +72,7 @@ module _ (M : Machine) where
     shorter (around l shut-end shut-top) = shorter-around l shut-end shut-top
 
   -- A stretch in which the step at place p′ is passed over is no longer than the way to p′.
-  module _ (p′ : ℕ) (q-there : p′ < k) where
+  module _ (p′ : ℕ) (p′-there : p′ < k) where
     abbrev x : Step
     x = stepAt (M .carriers) p′
 
@@ -86,7 +86,7 @@ module _ (M : Machine) where
         let same = steps-more a xs y (ys ++ zs) e in
         let p = h .0 in
         let other : p ≡ p′ → ⊥ = λ i. over .1 (sym (same .0) ∙ h .1 .step ∙ ap (stepAt (M .carriers)) i) in
-        let r = shorter s c p′ p d l (over .0) q-there (h .1 .listed) other way (h .1 .rule) in
+        let r = shorter s c p′ p d l (over .0) p′-there (h .1 .listed) other way (h .1 .rule) in
         omega (
           arith,
           r .1,

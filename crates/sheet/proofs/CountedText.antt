@@ -44,8 +44,8 @@ counted-text text at h =
     (ap₂ (λ (xs ys : List ℕ). xs ++ ys) (field-text text (at + 10) (e .0)) (line-text text (at + 15) (2 * c) (d .1)))))
 
 -- The first three of the numbers from a column on, and the others.
-module _ (text : List ℕ) (at a b c : ℕ) (ws′ : List ℕ)
-    (read : numbersFrom text at (length (a ∷ b ∷ c ∷ ws′)) ≡ a ∷ b ∷ c ∷ ws′) where
+module _ (text : List ℕ) (at a b c : ℕ) (xs : List ℕ)
+    (read : numbersFrom text at (length (a ∷ b ∷ c ∷ xs)) ≡ a ∷ b ∷ c ∷ xs) where
   numbers-first : numberAt text at ≡ a
   unfolding numbersFrom
   numbers-first = (cc)
@@ -58,31 +58,31 @@ module _ (text : List ℕ) (at a b c : ℕ) (ws′ : List ℕ)
   unfolding numbersFrom
   numbers-third = (cc)
 
-  numbers-others : numbersFrom text (at + 5 + 5 + 5) (length ws′) ≡ ws′
+  numbers-others : numbersFrom text (at + 5 + 5 + 5) (length xs) ≡ xs
   unfolding numbersFrom
   numbers-others = (cc)
 
 -- What the text of a counted line's numbers tells.
-pub record CountedTells (text : List ℕ) (at a b c : ℕ) (ws′ : List ℕ) : Type 0 where
+pub record CountedTells (text : List ℕ) (at a b c : ℕ) (xs : List ℕ) : Type 0 where
   pub form : countedForm text at ≡ passed
   pub first : numberAt text at ≡ a
   pub second : numberAt text (at + 5) ≡ b
   pub third : numberAt text (at + 10) ≡ c
-  pub others : numbersFrom text (at + 15) (2 * c) ≡ ws′
+  pub others : numbersFrom text (at + 15) (2 * c) ≡ xs
 
-pub text-counted : (text : List ℕ) (at a b c : ℕ) (ws′ : List ℕ) → Small (a ∷ b ∷ c ∷ ws′) → length ws′ ≡ 2 * c → 1 ≤ c → c ≤ 4
-    → part text at (countedLength c) ≡ lineOf (a ∷ b ∷ c ∷ ws′) → CountedTells text at a b c ws′
+pub text-counted : (text : List ℕ) (at a b c : ℕ) (xs : List ℕ) → Small (a ∷ b ∷ c ∷ xs) → length xs ≡ 2 * c → 1 ≤ c → c ≤ 4
+    → part text at (countedLength c) ≡ lineOf (a ∷ b ∷ c ∷ xs) → CountedTells text at a b c xs
 unfolding countedForm countForm countedLength numbersFrom lineForm
-text-counted text at a b c ws′ small n least most e =
-    let size : 16 + 10 * c ≡ 5 * length (a ∷ b ∷ c ∷ ws′) + 1 = omega (arith, n) in
-    let r = text-fields text (a ∷ b ∷ c ∷ ws′) at small (rw size at e) in
+text-counted text at a b c xs small n least most e =
+    let size : 16 + 10 * c ≡ 5 * length (a ∷ b ∷ c ∷ xs) + 1 = omega (arith, n) in
+    let r = text-fields text (a ∷ b ∷ c ∷ xs) at small (rw size at e) in
     let read = r .numbers in
     let z : at + 5 * 0 ≡ at = omega arith in
     let two : at + 5 + 5 ≡ at + 10 = omega arith in
     let three : at + 5 + 5 + 5 ≡ at + 15 = omega arith in
-    let third : numberAt text (at + 10) ≡ c = rw two at (numbers-third text at a b c ws′ read) in
-    let others : numbersFrom text (at + 15) (length ws′) ≡ ws′ = rw three at (numbers-others text at a b c ws′ read) in
-    let end : at + 5 * length (a ∷ b ∷ c ∷ ws′) ≡ at + 15 + 5 * (2 * c) = omega (arith, n) in
+    let third : numberAt text (at + 10) ≡ c = rw two at (numbers-third text at a b c xs read) in
+    let others : numbersFrom text (at + 15) (length xs) ≡ xs = rw three at (numbers-others text at a b c xs read) in
+    let end : at + 5 * length (a ∷ b ∷ c ∷ xs) ≡ at + 15 + 5 * (2 * c) = omega (arith, n) in
     record {
       form =
           then-passed (rw z at (r .fields 0 (omega arith)))
@@ -96,8 +96,8 @@ text-counted text at a b c ws′ small n least most e =
           (turn-passes _ (2 * c)
           (λ i l. let q : at + 5 * (3 + i) ≡ at + 15 + 5 * i = omega arith in rw q at (r .fields (3 + i) (omega (arith, n, l)))))
           ∙ rw end at (r .newline));
-      first = numbers-first text at a b c ws′ read;
-      second = numbers-second text at a b c ws′ read;
+      first = numbers-first text at a b c xs read;
+      second = numbers-second text at a b c xs read;
       third = third;
       others = rw n at others;
     }
