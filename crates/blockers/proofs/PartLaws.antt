@@ -55,20 +55,20 @@ minus-less part zero (suc k) e = e
 minus-less part (suc j) zero e = e
 minus-less part (suc j) (suc k) e = minus-less (tailPart part) j k e
 
--- A part of part″ that lacks carrier j is a part of part″ without j.
-pub part-minus : (part′ part″ : Part) (j : ℕ) → ((k : ℕ) → part′ k ≡ true → part″ k ≡ true) → part′ j ≡ false → (k : ℕ) → part′ k ≡ true → minus part″ j k ≡ true
+-- A part of part′ that lacks carrier j is a part of part′ without j.
+pub part-minus : (part part′ : Part) (j : ℕ) → ((k : ℕ) → part k ≡ true → part′ k ≡ true) → part j ≡ false → (k : ℕ) → part k ≡ true → minus part′ j k ≡ true
 unfolding minus
-part-minus part′ part″ zero h lacks zero e = true-false-absurd e lacks
-part-minus part′ part″ zero h lacks (suc k) e = h (suc k) e
-part-minus part′ part″ (suc j) h lacks zero e = h zero e
-part-minus part′ part″ (suc j) h lacks (suc k) e = part-minus (tailPart part′) (tailPart part″) j (λ i. h (suc i)) lacks k e
+part-minus part part′ zero h lacks zero e = true-false-absurd e lacks
+part-minus part part′ zero h lacks (suc k) e = h (suc k) e
+part-minus part part′ (suc j) h lacks zero e = h zero e
+part-minus part part′ (suc j) h lacks (suc k) e = part-minus (tailPart part) (tailPart part′) j (λ i. h (suc i)) lacks k e
 
 -- The views without that of carrier j are those of the part without it.
-pub views-minus : (part′ : Part) (xs : List Answer) (j : ℕ) → viewsWithout j (viewsOfPart part′ xs) ≡ viewsOfPart (minus part′ j) xs
+pub views-minus : (part : Part) (xs : List Answer) (j : ℕ) → viewsWithout j (viewsOfPart part xs) ≡ viewsOfPart (minus part j) xs
 unfolding viewsOfPart viewsWithout minus
-views-minus part′ [] j = refl
-views-minus part′ (x ∷ xs) zero = refl
-views-minus part′ (x ∷ xs) (suc j) = ap (λ (vs : List View). cond (part′ zero) (heard x) unheard ∷ vs) (views-minus (tailPart part′) xs j)
+views-minus part [] j = refl
+views-minus part (x ∷ xs) zero = refl
+views-minus part (x ∷ xs) (suc j) = ap (λ (vs : List View). cond (part zero) (heard x) unheard ∷ vs) (views-minus (tailPart part) xs j)
 
 -- A view of the smaller part shows nothing, or is one of the larger part.
 head-view : (f : Floor) (i : ℕ) (v : View) (x : Answer) (y z : Bool) → (y ≡ true → z ≡ true) → v ≡ seenAs f i (cond y (heard x) unheard) →
@@ -98,13 +98,13 @@ unfolding seen
 seen-part f part part′ xs h v m = from-part f 0 part part′ xs h v m
 
 -- Where the part is empty, no view shows anything.
-from-nobody : (f : Floor) (i : ℕ) (part′ : Part) (xs : List Answer) → ((j : ℕ) → part′ j ≡ false) → (v : View) →
-    List·Memᴰ v (seenFrom f i (viewsOfPart part′ xs)) → ShowsNoRoute v
+from-nobody : (f : Floor) (i : ℕ) (part : Part) (xs : List Answer) → ((j : ℕ) → part j ≡ false) → (v : View) →
+    List·Memᴰ v (seenFrom f i (viewsOfPart part xs)) → ShowsNoRoute v
 unfolding seenFrom viewsOfPart seenAs ShowsNoRoute
-from-nobody f i part′ [] h v m = absurd (List·Memᴰ·not-nil m)
-from-nobody f i part′ (x ∷ xs) h v m =
-    ⊎-elim (λ (e : v ≡ seenAs f i (cond (part′ zero) (heard x) unheard)). inl (rw (h zero) at e))
-    (λ (m′ : List·Memᴰ v (seenFrom f (suc i) (viewsOfPart (tailPart part′) xs))). from-nobody f (suc i) (tailPart part′) xs (λ j. h (suc j)) v m′)
+from-nobody f i part [] h v m = absurd (List·Memᴰ·not-nil m)
+from-nobody f i part (x ∷ xs) h v m =
+    ⊎-elim (λ (e : v ≡ seenAs f i (cond (part zero) (heard x) unheard)). inl (rw (h zero) at e))
+    (λ (m′ : List·Memᴰ v (seenFrom f (suc i) (viewsOfPart (tailPart part) xs))). from-nobody f (suc i) (tailPart part) xs (λ j. h (suc j)) v m′)
     (List·Memᴰ·cases-cons m)
 
 pub seen-nobody : (f : Floor) (part : Part) (xs : List Answer) → ((j : ℕ) → part j ≡ false) → (v : View) →

@@ -38,11 +38,11 @@ next-digit true x vs j = ap (λ (n : ℕ). digit n j) (more-half (setOf vs))
 next-digit false x vs j = ap (λ (n : ℕ). digit n j) (double-half (setOf vs))
 
 -- Digit j of the set of a part tells whether carrier j is in it.
-pub set-digit : (part′ : Part) (xs : List Answer) (j : ℕ) → j < length xs → digit (setOf (viewsOfPart part′ xs)) j ≡ part′ j
+pub set-digit : (part : Part) (xs : List Answer) (j : ℕ) → j < length xs → digit (setOf (viewsOfPart part xs)) j ≡ part j
 unfolding viewsOfPart
-set-digit part′ [] j l = absurd (omega arith)
-set-digit part′ (x ∷ xs) zero l = first-digit (part′ 0) x (viewsOfPart (λ j. part′ (suc j)) xs)
-set-digit part′ (x ∷ xs) (suc j) l = next-digit (part′ 0) x (viewsOfPart (λ i. part′ (suc i)) xs) j ∙ set-digit (λ i. part′ (suc i)) xs j (omega arith)
+set-digit part [] j l = absurd (omega arith)
+set-digit part (x ∷ xs) zero l = first-digit (part 0) x (viewsOfPart (λ j. part (suc j)) xs)
+set-digit part (x ∷ xs) (suc j) l = next-digit (part 0) x (viewsOfPart (λ i. part (suc i)) xs) j ∙ set-digit (λ i. part (suc i)) xs j (omega arith)
 
 -- There are no digits past the carriers.
 pub set-beyond : (part : Part) (xs : List Answer) (j : ℕ) → length xs ≤ j → digit (setOf (viewsOfPart part xs)) j ≡ false

@@ -14,14 +14,14 @@ use Rattle.console.specs.declared.Part.the-variants.{Moved}
 use Rattle.console.specs.Within.{InputWithin, PartWithin}
 
 -- The bytes of a part are within its bounds.
-pub moved-within : (least most n : ℕ) (part′ : Part) → part′ ≡ Moved n → PartWithin least most part′ → (least ≤ n) × (n ≤ most)
-moved-within least most n part′ e w = rw e at w
+pub moved-within : (least most n : ℕ) (part : Part) → part ≡ Moved n → PartWithin least most part → (least ≤ n) × (n ≤ most)
+moved-within least most n part e w = rw e at w
 
 -- The same where the part was moved from a memory at a.
-pub moved-from : (least a : ℕ) (xs : List ℕ) (n : ℕ) (part′ : Part) → part′ ≡ Moved n
-    → PartWithin least (length (take (length xs - a) (drop a xs))) part′ → (least ≤ n) × (n ≤ length xs - a)
-moved-from least a xs n part′ e w =
-    let m = simp (length-take, length-drop) at (moved-within least _ n part′ e w) in
+pub moved-from : (least a : ℕ) (xs : List ℕ) (n : ℕ) (part : Part) → part ≡ Moved n
+    → PartWithin least (length (take (length xs - a) (drop a xs))) part → (least ≤ n) × (n ≤ length xs - a)
+moved-from least a xs n part e w =
+    let m = simp (length-take, length-drop) at (moved-within least _ n part e w) in
     (m .0, omega arith)
 
 -- A number that is within a memory's length counts bytes in front of it.

@@ -41,8 +41,8 @@ other-walls f ws f′ ws′ xs ys same one other =
       cells = λ j h. one j h ∙ same .cells j h ∙ sym (other j h);
     }
 
-pub walls-behind : (ws′ rest : List ℕ) (n : ℕ) → n ≤ length ws′ → All (λ j. getD (ws′ ++ rest) j 0 ≡ getD ws′ j 0) n
-walls-behind ws′ rest n l j h = List·getD-append ws′ rest 0 j (omega arith)
+pub walls-behind : (ws rest : List ℕ) (n : ℕ) → n ≤ length ws → All (λ j. getD (ws ++ rest) j 0 ≡ getD ws j 0) n
+walls-behind ws rest n l j h = List·getD-append ws rest 0 j (omega arith)
 
 -- What is written into enough memory has the sheet in front.
 pub written : (f : Floor) (ws old : List ℕ) → checkOf f ws ≡ passed → sheetLength f ≤ length old

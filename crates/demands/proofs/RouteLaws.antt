@@ -12,10 +12,10 @@ use Rattle.demands.specs.Demand1.{ConflictRows, RecordRows, ArrivalRows}
 use Rattle.demands.proofs.RowLaws.{then-rows, gives-rows, short-row}
 use Rattle.demands.proofs.EntryLaws.{floor-rows, outside-row}
 
-pub conflict : (f : Floor) (xs ys : List ℕ) (horizon : ℕ) → Answers (conflictOutcome xs ys horizon) (ConflictRows f (length xs) (length ys))
+pub conflict : (f : Floor) (r q : List ℕ) (horizon : ℕ) → Answers (conflictOutcome r q horizon) (ConflictRows f (length r) (length q))
 unfolding conflictOutcome routesLent lengthsOf
-conflict f xs ys horizon =
-    gives-rows (routesLent xs ys) _ (then-rows (longEnough 64 (length xs)) _ (short-row 64 (length xs)) (λ e. short-row 64 (length ys)))
+conflict f r q horizon =
+    gives-rows (routesLent r q) _ (then-rows (longEnough 64 (length r)) _ (short-row 64 (length r)) (λ e. short-row 64 (length q)))
 
 pub check-record : (f : Floor) (ws : List ℕ) (carrier : ℕ) (m : List ℕ) →
     Answers (recordOutcome f ws carrier m) (RecordRows f ws carrier (length m))

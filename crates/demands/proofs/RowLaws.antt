@@ -39,9 +39,9 @@ then-rows {R} {S} x y t u k p = (
   back,
 )
   where
-    back : (R orElse S) k p → (v then w) ≡ refused k p
-    back (earlier r) = then-refused w (t k p .1 r)
-    back (later n s) = let e = no-row-passes v t n in then-passed e ∙ u e k p .1 s
+    back : (R orElse S) k p → (x then y) ≡ refused k p
+    back (earlier r) = then-refused y (t k p .1 r)
+    back (later n s) = let e = no-row-passes x t n in then-passed e ∙ u e k p .1 s
 
 -- An answer after a check.
 pub answers-rows : {A : Type 0} {R S : Table} (x : Verdict) (y : Outcome A) → Refuses x R → (x ≡ passed → Answers y S)
@@ -79,10 +79,10 @@ unfolding longEnough
 short-row needed lent = demand-row _ 9 0 (leb-false _ _, lt-leb _ _)
 
 -- A refusal is a table of one row that always holds.
-pub refusal-row : {A : Type 0} (n rank : ℕ) → Answers {A = A} (refusal n rank) (Row n rank (Unit {0}))
-refusal-row {A} n rank k p = (λ h. rw (← refusal-same h .0, ← refusal-same h .1) (row tt), back k p)
+pub refusal-row : {A : Type 0} (n p′ : ℕ) → Answers {A = A} (refusal n p′) (Row n p′ (Unit {0}))
+refusal-row {A} n p′ k p = (λ h. rw (← refusal-same h .0, ← refusal-same h .1) (row tt), back k p)
   where
-    back : (k p : ℕ) → Row n rank (Unit {0}) k p → _≡_ {A = Outcome A} (refusal n rank) (refusal k p)
+    back : (k p : ℕ) → Row n p′ (Unit {0}) k p → _≡_ {A = Outcome A} (refusal n p′) (refusal k p)
     back k p (row w) = refl
 
 -- Memory that is stored where the checks pass.

@@ -154,7 +154,7 @@ pub record Demand1 : Type 0 where
   pub blockers-keeps : (f : Floor) (ws : List ℕ) (carrier : ℕ) (old : List ℕ)
       → Keeps (BlockersRows f ws carrier (length old)) (lengthsOf f .answers) old (blockersMemory f ws carrier old)
   -- The conflict test of two lent routes, which writes no memory.
-  pub conflict : (f : Floor) (xs ys : List ℕ) (horizon : ℕ) → Answers (conflictOutcome xs ys horizon) (ConflictRows f (length xs) (length ys))
+  pub conflict : (f : Floor) (r q : List ℕ) (horizon : ℕ) → Answers (conflictOutcome r q horizon) (ConflictRows f (length r) (length q))
   -- The check of a record and the arrival of a lent route, which write no memory.
   pub check-record : (f : Floor) (ws : List ℕ) (carrier : ℕ) (m : List ℕ)
       → Answers (recordOutcome f ws carrier m) (RecordRows f ws carrier (length m))

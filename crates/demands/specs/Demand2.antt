@@ -127,7 +127,7 @@ pub record Demand2 : Type 0 where
   pub same-floor : (f : Floor) (ws : List ℕ) (f′ : Floor) (ws′ : List ℕ) → SameFloor f ws f′ ws′ → Lent f ws → Lent f′ ws′ → SameAnswers f ws f′ ws′
   -- The conflict test answers free exactly if two routes have no conflict, otherwise the first one with its beat and kind; any two routes
   -- of a plan are free.
-  pub conflict-test : (H : ℕ) (xs ys : List ℕ) → TestedFor H xs ys
+  pub conflict-test : (H : ℕ) (r q : List ℕ) → TestedFor H r q
   pub plan-free : (f : Floor) (ws : List ℕ) (j k : ℕ) (r q : List ℕ) → checkOf f ws ≡ passed → j < k → k < f .carriers →
       answerAt (planOf f ws) j ≡ route q → answerAt (planOf f ws) k ≡ route r → firstConflict (f .horizon) r q ≡ free
   -- The check of a record: a route is answered exactly if it is one of the carrier, with its arrival, none and not heard exactly of their

@@ -57,14 +57,14 @@ module _ (f : Floor) (ws m : List ℕ) (zs : List ProgramCall) where
     -- Where carriers 1 to k are quiet, their answers are the sequential planner's,
     pub quiescent-answers : (k : ℕ) → k ≤ f .carriers → quiet k s ≡ true → below k (s .answer) ≡ take k (planOf f ws)
     -- and are the same after every longer list that begins with this one.
-    pub quiescent-answers-stay : (xs : List ProgramCall) (k : ℕ) → quiet k s ≡ true →
-        below k (referenceAfter f ws (length m) (zs ++ xs) .answer) ≡ below k (s .answer)
+    pub quiescent-answers-stay : (zs′ : List ProgramCall) (k : ℕ) → quiet k s ≡ true →
+        below k (referenceAfter f ws (length m) (zs ++ zs′) .answer) ≡ below k (s .answer)
     -- The taken count is the number of single steps taken plus the numbers that the runs returned, or 999,999 if that is more.
     pub counted : s .taken ≡ min 999999 (repliesCount (programReplies f ws m zs))
 
   -- The number that a run returns after the calls.
   abbrev pub returned : ℕ → ℕ → List ℕ → ℕ → ℕ
-  returned k l xs b = replyCount (answerOf f ws (programMemory f ws m zs) (oneRun k l xs b))
+  returned k n xs b = replyCount (answerOf f ws (programMemory f ws m zs) (oneRun k n xs b))
 
   module _ (k n : ℕ) (xs ys : List ℕ) (b : ℕ) where
     -- The calls and then a run of xs and ys; the calls and then a run of xs and one of ys with what is left of the budget.
@@ -88,8 +88,8 @@ pub record Simulates (f : Floor) (ws : List ℕ) (s : State) (rest : List ℕ) (
 
 pub record Demand3 : Type 0 where
   -- All this after every list of calls on every accepted floor.
-  pub holds : (f : Floor) (ws m : List ℕ) → checkOf f ws ≡ passed → stateSize (f .carriers) ≤ length m → (xs : List ProgramCall) →
-      Holds f ws m xs
+  pub holds : (f : Floor) (ws m : List ℕ) → checkOf f ws ≡ passed → stateSize (f .carriers) ≤ length m → (zs : List ProgramCall) →
+      Holds f ws m zs
   -- A point inside a run that is not refused is the end of the same run with its list cut there, and the rest of the list, with
   -- what is left of the budget, counts as a later call.
   pub cut-anywhere : (f : Floor) (ws m : List ℕ) → checkOf f ws ≡ passed → stateSize (f .carriers) ≤ length m → (zs : List ProgramCall)

@@ -31,10 +31,10 @@ pub record Runs : Type 0 where
   pub complete-exactly : (f : Floor) (ws : List ℕ) (xs : Run) →
       Complete (machineOf f ws) fresh xs ↔ ((rank : ℕ) × (rank < totalOf f ws) × (runOfRank f ws rank ≡ xs))
   -- It has one rank; so the total is the number of complete runs.
-  pub one-rank : (f : Floor) (ws : List ℕ) (rank′ p : ℕ) → rank′ < totalOf f ws → p < totalOf f ws → runOfRank f ws rank′ ≡ runOfRank f ws p → rank′ ≡ p
+  pub one-rank : (f : Floor) (ws : List ℕ) (rank rank′ : ℕ) → rank < totalOf f ws → rank′ < totalOf f ws → runOfRank f ws rank ≡ runOfRank f ws rank′ → rank ≡ rank′
   -- A smaller rank is an earlier run: where the two first differ, its step is before the other's in the ranking.
-  pub ranked : (f : Floor) (ws : List ℕ) (rank′ p : ℕ) → rank′ < totalOf f ws → p < totalOf f ws →
-      (rank′ < p) ↔ EarlierRun (f .carriers) (runOfRank f ws rank′) (runOfRank f ws p)
+  pub ranked : (f : Floor) (ws : List ℕ) (rank rank′ : ℕ) → rank < totalOf f ws → rank′ < totalOf f ws →
+      (rank < rank′) ↔ EarlierRun (f .carriers) (runOfRank f ws rank) (runOfRank f ws rank′)
   -- A run has at most the ceiling's number of steps.
   pub within-ceiling : (f : Floor) (ws : List ℕ) (rank : ℕ) → rank < totalOf f ws → length (runOfRank f ws rank) ≤ ceiling (f .carriers)
   -- An accepted floor has a run; one of at most three carriers has fewer than 2^32.

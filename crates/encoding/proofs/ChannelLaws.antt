@@ -39,7 +39,7 @@ module _ (xs ys : List ℕ) (p : ℕ) (place : length xs ≡ p) where
       window-inside p (add-zero p) (there-window (k ∷ xs) (k′ ∷ xs)) (window-front xs (window-whole (k ∷ []) (k′ ∷ [])))
 
   behind-there : (k p′ : ℕ) {xs ys zs xs′ : List ℕ} → Window p′ xs ys zs xs′ → Window (p + (1 + p′)) (there (k ∷ xs)) (there (k ∷ ys)) zs xs′
-  behind-there k p′ {l = xs} {l′ = ys} w =
+  behind-there k p′ {xs = xs} {ys = ys} w =
       window-inside (p + (1 + p′)) refl (there-window (k ∷ xs) (k ∷ ys)) (window-behind (k ∷ []) 1 (1 + p′) refl refl w)
 
   module _ (k : ℕ) (xs ys zs xs′ : List ℕ) (la : length xs ≡ 65) (lb : length ys ≡ 65) (lc : length zs ≡ 65) where

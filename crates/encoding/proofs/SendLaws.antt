@@ -62,13 +62,13 @@ module _ (chan : ℕ → ℕ → List Answer) (i : ℕ) (z : Answer) where
       (lt-or-le n k)
 
 -- The encoding depends on the channels of pairs only.
-channels-same : (n : ℕ) (s : State) (channels′ φ : ℕ → ℕ → List Answer) → ((k j′ : ℕ) → j′ < k → k < n → channels′ k j′ ≡ φ k j′) →
-    encode n (withChans s channels′) ≡ encode n (withChans s φ)
+channels-same : (n : ℕ) (s : State) (channels channels′ : ℕ → ℕ → List Answer) → ((k j′ : ℕ) → j′ < k → k < n → channels k j′ ≡ channels′ k j′) →
+    encode n (withChans s channels) ≡ encode n (withChans s channels′)
 unfolding encode withChans carrierBlock pairs
-channels-same n s channels′ φ e =
-    let same : blocks n (λ i. blocks i (λ j. channelBlock (channels′ i j))) ≡ blocks n (λ i. blocks i (λ j. channelBlock (φ i j))) =
-    blocks-same n (λ i. blocks i (λ j. channelBlock (channels′ i j))) (λ i. blocks i (λ j. channelBlock (φ i j)))
-    (λ k a. blocks-same k (λ j. channelBlock (channels′ k j)) (λ j. channelBlock (φ k j)) (λ j′ b. ap channelBlock (e k j′ b a)))
+channels-same n s channels channels′ e =
+    let same : blocks n (λ i. blocks i (λ j. channelBlock (channels i j))) ≡ blocks n (λ i. blocks i (λ j. channelBlock (channels′ i j))) =
+    blocks-same n (λ i. blocks i (λ j. channelBlock (channels i j))) (λ i. blocks i (λ j. channelBlock (channels′ i j)))
+    (λ k a. blocks-same k (λ j. channelBlock (channels k j)) (λ j. channelBlock (channels′ k j)) (λ j′ b. ap channelBlock (e k j′ b a)))
     in
     ap
     (λ (xs : List ℕ). countBlock (s .taken) ++ (blocks n (carrierBlock s) ++ (pairs n (λ i j. slot (s .view i j)) ++ xs)))

@@ -26,7 +26,7 @@ window-whole xs ys = record { before = []; after = []; old = sym (append-nil xs)
 
 -- A window with something behind both memories, and with something in front of them.
 pub window-front : {p : ℕ} {m m′ xs ys : List ℕ} (zs : List ℕ) → Window p m m′ xs ys → Window p (m ++ zs) (m′ ++ zs) xs ys
-window-front {b = xs} {b′ = ys} zs w =
+window-front {xs = xs} {ys = ys} zs w =
     record {
       before = w .before;
       after = w .after ++ zs;
@@ -37,7 +37,7 @@ window-front {b = xs} {b′ = ys} zs w =
 
 pub window-behind : {p : ℕ} {m m′ xs ys : List ℕ} (zs : List ℕ) (n p′ : ℕ) → length zs ≡ n → n + p ≡ p′ → Window p m m′ xs ys →
     Window p′ (zs ++ m) (zs ++ m′) xs ys
-window-behind {b = xs} {b′ = ys} zs n p′ s e w =
+window-behind {xs = xs} {ys = ys} zs n p′ s e w =
     record {
       before = zs ++ w .before;
       after = w .after;
@@ -48,7 +48,7 @@ window-behind {b = xs} {b′ = ys} zs n p′ s e w =
 
 -- A window in a window.
 pub window-inside : {p p′ : ℕ} {m m′ xs ys zs xs′ : List ℕ} (n : ℕ) → p + p′ ≡ n → Window p m m′ xs ys → Window p′ xs ys zs xs′ → Window n m m′ zs xs′
-window-inside {d = zs} {d′ = xs′} n e w v =
+window-inside {zs = zs} {xs′ = xs′} n e w v =
     record {
       before = w .before ++ v .before;
       after = v .after ++ w .after;
@@ -67,13 +67,13 @@ window-old w = record { before = w .before; after = w .after; old = w .old; new 
 -- A part of a memory is the block that stands there.
 pub window-part : {p : ℕ} {m m′ xs ys : List ℕ} (n : ℕ) → length xs ≡ n → Window p m m′ xs ys → part m p n ≡ xs
 unfolding part
-window-part {p = p} {b = xs} n l w =
+window-part {p = p} {xs = xs} n l w =
     rw (w .old)
     (ap (take n) (drop-at (w .before) (xs ++ w .after) p (w .size)) ∙ take-at xs (w .after) n l)
 
 -- A number of a memory is the number of the block that stands there.
 pub window-number : {p : ℕ} {m m′ xs ys : List ℕ} (k p′ : ℕ) → k < length xs → p + k ≡ p′ → Window p m m′ xs ys → getD m p′ 0 ≡ getD xs k 0
-window-number {p = p} {b = xs} k p′ l e w =
+window-number {p = p} {xs = xs} k p′ l e w =
     let place : p′ ≡ length (w .before) + k = omega (arith, w .size) in
     rw (w .old, place)
     (getD-append-add (w .before) (xs ++ w .after) k 0 ∙ List·getD-append xs (w .after) 0 k l)
@@ -81,7 +81,7 @@ window-number {p = p} {b = xs} k p′ l e w =
 -- Putting the new block there.
 pub window-put : {p : ℕ} {m m′ xs ys : List ℕ} → length xs ≡ length ys → Window p m m′ xs ys → put m p ys ≡ m′
 unfolding put
-window-put {p = p} {m = m} {b = xs} {b′ = ys} l w =
+window-put {p = p} {m = m} {xs = xs} {ys = ys} l w =
     let front : take p m ≡ w .before = rw (w .old) (take-at (w .before) (xs ++ w .after) p (w .size)) in
     let rest : drop p m ≡ xs ++ w .after = rw (w .old) (drop-at (w .before) (xs ++ w .after) p (w .size)) in
     let last : drop (p + length ys) m ≡ w .after =

@@ -52,8 +52,8 @@ module _ {M : Type 1} (𝓤 : URA M) (ps : List (Slot 1)) (ks : Kepts ps) (R : L
         {f : Name} {xs : List Operand} {x : Place} {rest : Body} → K → FmC 𝓤 H (W .laws) C → Triple 𝓤 (C f) (stated H A)
         → Opds K W (raw (stated H A .pre to) ∷ Γ) E xs (stated H A .args to)
         → ((u : Val) (r : R (κ, tt) .Denot) → Q (κ, tt) a r → Is (R (κ, tt)) r (u ∷ [])
-        → Seq K W (‵ (R (κ, tt) .own r (u ∷ [])) ∷ (‵ (flft κ share) ⊛ ‵ ftrue) ∷ Γ) (lands C Λ E d u rest p))
-        → Seq K W (raw (stated H A .pre to) ∷ Γ) (runs C Λ E (seq (call f xs d) rest) p)
+        → Seq K W (‵ (R (κ, tt) .own r (u ∷ [])) ∷ (‵ (flft κ share) ⊛ ‵ ftrue) ∷ Γ) (lands C Λ E x u rest p))
+        → Seq K W (raw (stated H A .pre to) ∷ Γ) (runs C Λ E (seq (call f xs x) rest) p)
     calls-stated t fm known os k =
         calls-at t fm (stated H A) known to os (λ u.
         use1 W

@@ -56,7 +56,7 @@ module _ (text : List ℕ) (at : ℕ) {form : Reached} {x y : ℕ} (field : form
   refused-count : within 1 4 (numberAt text at) ≡ false → {x : Reached} → x ≡ reachedOf (refused 1 at) 0
       → x ≡ reachedOf (countForm text at) (at + 5)
   unfolding countForm reachedOf
-  refused-count t e = rw (then-passed {w = demand (within 1 4 (numberAt text at)) 1 at} good, demand-refuses 1 at t) e
+  refused-count t e = rw (then-passed {y = demand (within 1 4 (numberAt text at)) 1 at} good, demand-refuses 1 at t) e
 
   pub count-below : {x : Reached} → y < 1 → x ≡ reachedOf (refused 1 at) 0 → x ≡ reachedOf (countForm text at) (at + 5)
   count-below l e = refused-count (within-below 1 4 (numberAt text at) (omega (arith, l, number))) e
@@ -68,7 +68,7 @@ module _ (text : List ℕ) (at : ℕ) {form : Reached} {x y : ℕ} (field : form
   unfolding countForm
   count-good l g =
       rw (
-        then-passed {w = demand (within 1 4 (numberAt text at)) 1 at} good,
+        then-passed {y = demand (within 1 4 (numberAt text at)) 1 at} good,
         demand-passes 1 at (within-holds 1 4 (numberAt text at) (omega (arith, l, number)) (omega (arith, g, number))),
       )
       (rw good at field)

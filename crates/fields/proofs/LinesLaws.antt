@@ -69,7 +69,7 @@ module _ {M : Type 1} (𝓤 : URA M) (H : Heap 𝓤) (A : Atoms 𝓤) (W : Given
   clauses = stating 𝓤 linesParams linesKept (λ _. S.the-row)
       (λ κs a. fact 𝓤 (Asked (a .1 .0) (a .1 .1 .0))) (λ κs a. LinesAnswered (a .0) (a .1 .0) (a .1 .1 .0))
 
-  module _ (κ : Lft) (share : Share) (s : RefT (List ℕ)) (at n : ℕ) (at-fits : at < 2 ^ 64) (m-fits : n < 2 ^ 64)
+  module _ (κ : Lft) (share : Share) (s : RefT (List ℕ)) (at n : ℕ) (at-fits : at < 2 ^ 64) (n-fits : n < 2 ^ 64)
       (low : (i column : ℕ) → Along (form (s .now)) (past (s .now)) at n i column → i < n → column ≤ most) where
     abbrev v : Val
     v = L.v 𝓤 H A W κ share s
@@ -90,7 +90,7 @@ module _ {M : Type 1} (𝓤 : URA M) (H : Heap 𝓤) (A : Atoms 𝓤) (W : Given
         suffices ! _
         (ends-at 𝓤 H A Lines stayed clauses W (((κ, tt), (share, tt), tt, (s, (at, (n, tt))), vals), tt)
         u x (tt, (tt, (tt, tt))) (tt, (tt, (tt, tt)))) $ says ! e $
-        move ! (1 ∷ []) $ frame ! $ nothing ! $ owned ! usize (Is usize) (uint-makes 𝓤 H A W w64) n _ (refl, m-fits) $ fjoin ! $
+        move ! (1 ∷ []) $ frame ! $ nothing ! $ owned ! usize (Is usize) (uint-makes 𝓤 H A W w64) n _ (refl, n-fits) $ fjoin ! $
         owned ! usize (Is usize) (uint-makes 𝓤 H A W w64) at _ (refl, at-fits) $ fjoin ! $ move ! (2 ∷ 0 ∷ []) $ fjoin ! $ frame ! $ done !
 
     -- the call of `begin`: of what the text owns one copy goes to it, and one is kept
@@ -118,7 +118,7 @@ module _ {M : Type 1} (𝓤 : URA M) (H : Heap 𝓤) (A : Atoms 𝓤) (W : Given
         alloc1 ! (λ l₀. alloc1 ! (λ l₁. alloc1 ! (λ l₂. alloc1 ! (λ l₃. alloc1 ! (λ l₄. alloc1 ! (λ l₅. alloc1 ! (λ l₆. alloc1 ! (λ l₇.
         alloc1 ! (λ l₈. alloc1 ! (λ l₉. alloc1 ! (λ l₁₀. alloc1 ! (λ l₁₁. alloc0 ! $ params1 ! $
         pass1 ! (init ! 20 refl (shr-slice-lawful 𝓤 H A W (named 0) κ u8 .typed s (v ∷ []) p .0)) $
-        pass1 ! (init ! 18 refl (tt, record { fits = at-fits })) $ pass1 ! (init ! 16 refl (tt, record { fits = m-fits })) $ pass0 ! $
+        pass1 ! (init ! 18 refl (tt, record { fits = at-fits })) $ pass1 ! (init ! 16 refl (tt, record { fits = n-fits })) $ pass0 ! $
         move ! (24 ∷ []) $ use1 W (raw (Begin 𝓤 H A .pre to-begin) ⊛ ‵ (L.Own 𝓤 H A W κ share s)) begins $ split ! $
         calls-stated 𝓤 sliceParams sliceKept B (λ _ _. emp 𝓤) (λ _ a d. (d .text ≡ a .0) × (d .column ≡ a .1 .0)) H A W κ share
         (s, (at, tt)) (v ∷ [], (vint w64 at ∷ [], tt)) ! (fmOf 𝓤 H (W .laws) 𝓣) known-begin
@@ -127,7 +127,7 @@ module _ {M : Type 1} (𝓤 : URA M) (H : Heap 𝓤) (A : Atoms 𝓤) (W : Given
         let to-here : _≡_ {A = Reader} d (L.here 𝓤 H A W κ share s at) = λ i. record { text = e .0 i; column = e .1 i } in
         let wt = L.typed 𝓤 H A W κ share s at u (subst (λ (x : Reader). Is (B (κ, tt)) x (u ∷ [])) to-here is) in
         rewrite ! 0 (λ (x : Reader). ‵ (B (κ, tt) .own x (u ∷ []))) to-here refl $ land ! (from ! (stop !)) (init ! 17 refl wt) $
-        L.along-lines 𝓤 H A W κ share s form past most at n m-fits low Post exits 𝓣 k known-line known-moved known-reached
+        L.along-lines 𝓤 H A W κ share s form past most at n n-fits low Post exits 𝓣 k known-line known-moved known-reached
         l₀ l₁ l₂ l₃ l₄ l₅ l₆ l₇ l₈ l₉ l₁₀ l₁₁ u wt)))))))))))))
 
   module _ (𝓣 : Tables 𝓤 H) (known-begin : Triple 𝓤 (𝓣 .C #begin) (Begin 𝓤 H A)) (k : Name)

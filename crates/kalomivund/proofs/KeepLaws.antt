@@ -47,8 +47,8 @@ checked-lent {needed = n} φ x y new old h = record { kept = checked-kept φ x y
 pub record-lent : {needed : ℕ} (xs : List ℕ) (x : Outcome Done) (new old : List ℕ)
     → KeepsLent needed (wordOf x) new old → KeepsLent needed (wordFor xs x) (storedFor xs new old) old
 unfolding wordFor storedFor _thenAnswers_ whenPassed
-record-lent {needed} xs o new old h = go (recordLent xs)
+record-lent {needed} xs x new old h = go (recordLent xs)
   where
-    go : (x : Verdict) → KeepsLent needed (wordOf (x thenAnswers o)) (whenPassed x new old) old
+    go : (y : Verdict) → KeepsLent needed (wordOf (y thenAnswers x)) (whenPassed y new old) old
     go passed = h
     go (refused k p) = record { kept = λ e. refl; beyond = refl }

@@ -174,7 +174,7 @@ pub demand-refuses : {x : Bool} (k p : ℕ) → x ≡ false → demand x k p ≡
 unfolding demand
 demand-refuses k p h = rw h
 
--- Tests that the code makes one by one, u being the answer that it returns: past one that holds the rest answers, and one that fails
+-- Tests that the code makes one by one, y being the answer that it returns: past one that holds the rest answers, and one that fails
 -- is refused.
 module _ {x : Bool} (k p : ℕ) where
   pub demand-on : {y z : Verdict} → x ≡ true → y ≡ z → y ≡ (demand x k p then z)

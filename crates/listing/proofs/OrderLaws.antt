@@ -56,11 +56,11 @@ module _ (n : ℕ) where
           in
           inr (ap kind is, rw (ap one is, ap other is) (omega (arith, here)))
 
-  pub one-place : (p rank : ℕ) → p < places n → rank < places n → stepAt n p ≡ stepAt n rank → p ≡ rank
-  one-place p rank l h e = go (numbered p l) (numbered rank h)
+  pub one-place : (p p′ : ℕ) → p < places n → p′ < places n → stepAt n p ≡ stepAt n p′ → p ≡ p′
+  one-place p p′ l h e = go (numbered p l) (numbered p′ h)
     where
       go : PlaceTold p →
-          PlaceTold rank → p ≡ rank
+          PlaceTold p′ → p ≡ p′
       go (inl a) (inl b) = a .1 ∙ ap one e ∙ sym (b .1)
       go (inl a) (inr b) = absurd (omega (arith, a .0, b .0, ap kind e))
       go (inr a) (inl b) = absurd (omega (arith, a .0, b .0, ap kind e))
@@ -97,7 +97,7 @@ module _ (n : ℕ) where
   -- A run begins with a step at place p or behind it.
   unfoldable StartsFrom : ℕ → Run → Type 0
   StartsFrom p [] = ⊥
-  StartsFrom p (y ∷ ys) = (rank′ : ℕ) × (p ≤ rank′) × (rank′ < places n) × (stepAt n rank′ ≡ y)
+  StartsFrom p (y ∷ ys) = (p′ : ℕ) × (p ≤ p′) × (p′ < places n) × (stepAt n p′ ≡ y)
 
   starts-later : (p : ℕ) (xs : Run) → StartsFrom (suc p) xs → StartsFrom p xs
   unfolding StartsFrom

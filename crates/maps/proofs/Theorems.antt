@@ -46,7 +46,7 @@ one-cell x (suc n) = go (eqb x n) refl (one-cell x n)
         (rw e (omega (arith, ih .1 (omega arith))), λ l. absurd (omega arith))
     go false e ih = (rw e (omega (arith, ih .0)), λ l. rw e (omega (arith, ih .1 (omega arith))))
 
--- At most m cells are among m numbers.
+-- At most k cells are among k numbers.
 either : (x y : Bool) → marked (x || y) ≤ marked x + marked y
 unfolding marked
 either true y = omega arith

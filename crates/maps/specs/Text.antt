@@ -15,9 +15,9 @@ oneOf ms none several = cond (eqb (length ms) 0) none (cond (eqb (length ms) 1) 
 unfoldable pub marksText : (ℕ → ℕ) → ℕ → List ℕ
 marksText mark n = linesOf (λ c. mark c ∷ []) n
 
--- Row r of a grid of width w: the marks of its cells, and one newline.
+-- A row of a grid of width w: the marks of its cells, and one newline.
 unfoldable pub rowOf : List ℕ → (w row : ℕ) → List ℕ
-rowOf marks w r = part marks (r * w) w ++ (10 ∷ [])
+rowOf marks w row = part marks (row * w) w ++ (10 ∷ [])
 
 -- The grid: a line a row.
 unfoldable pub gridOf : List ℕ → (w h : ℕ) → List ℕ

@@ -34,7 +34,7 @@ module _ {A : Type 0} where
   pub pair-other : (φ : ℕ → ℕ → A) (i j : ℕ) (x : A) (k : ℕ) → (k ≡ j → ⊥) → updatePair φ i j x i k ≡ φ i k
   pair-other φ i j x k h = rw (pair-row φ i j x) (update-other (φ i) j x k h)
 
--- ψ is φ but for a at place i; and but for a at place j of row i.
+-- ψ is φ but for x at place i; and but for x at place j of row i.
 pub record UpdatedAt {A : Type 0} (φ : ℕ → A) (i : ℕ) (x : A) (ψ : ℕ → A) : Type 0 where
   pub there : ψ i ≡ x
   pub elsewhere : (k : ℕ) → (k ≡ i → ⊥) → ψ k ≡ φ k

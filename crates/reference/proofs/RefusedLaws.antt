@@ -64,7 +64,7 @@ module _ (M : Machine) (s : State) where
   unfolding verdict openSingle allNamed
   row-refuses (short-single {lent} l) = then-refused _ (short-lent M lent l)
   row-refuses (short-run {lent} l) = then-refused _ (short-lent M lent l)
-  row-refuses (unnamed-single {lent} {a} l h) = then-passed (enough-lent M lent l) ∙ unnamed a h
+  row-refuses (unnamed-single {lent} {x} l h) = then-passed (enough-lent M lent l) ∙ unnamed x h
   row-refuses (unnamed-run {lent} {xs} {b} {p} l f) =
       then-passed (enough-lent M lent l) ∙ first-refuses 7 0 _ _ (named-means M xs) (length xs) p f ∙ ap (refused 7) (zero-add p)
   row-refuses (waiting {lent} l h w) =

@@ -73,22 +73,22 @@ abbrev pub sentIf : Bool → (ℕ → ℕ → List Answer) → ℕ → Answer �
 sentIf news c i a = elim news [ true ↦ send c i a | false ↦ c ]
 
 -- Messages leave the channels of other senders alone, and go on every channel whatever stands on the others.
-send-other : (channels′ : ℕ → ℕ → List Answer) (i : ℕ) (y : Answer) (x j′ : ℕ) → eqb j′ i ≡ false → send channels′ i y x j′ ≡ channels′ x j′
+send-other : (channels : ℕ → ℕ → List Answer) (i : ℕ) (y : Answer) (x j : ℕ) → eqb j i ≡ false → send channels i y x j ≡ channels x j
 unfolding send
-send-other channels′ i y x j′ e = rw (e, send)
+send-other channels i y x j e = rw (e, send)
 
-send-same : (channels channels′ : ℕ → ℕ → List Answer) (i : ℕ) (y : Answer) (x j′ : ℕ) → channels x j′ ≡ channels′ x j′ → send channels i y x j′ ≡ send channels′ i y x j′
+send-same : (channels channels′ : ℕ → ℕ → List Answer) (i : ℕ) (y : Answer) (x j : ℕ) → channels x j ≡ channels′ x j → send channels i y x j ≡ send channels′ i y x j
 unfolding send
-send-same channels channels′ i y x j′ e = ap (λ (xs : List Answer). elim (eqb j′ i && ltb i x) [ true ↦ xs ++ (y ∷ []) | false ↦ xs ]) e
+send-same channels channels′ i y x j e = ap (λ (xs : List Answer). elim (eqb j i && ltb i x) [ true ↦ xs ++ (y ∷ []) | false ↦ xs ]) e
 
 -- Messages of different senders.
 send-swap : (channels : ℕ → ℕ → List Answer) (i k : ℕ) (y z : Answer) → (i ≡ k → ⊥) → send (send channels i y) k z ≡ send (send channels k z) i y
 send-swap channels i k y z n = fun-ext (λ x. fun-ext (λ l. go x l (eqb l i) (eqb l k) refl refl))
   where
-    go : (x j′ : ℕ) (x′ y′ : Bool) → eqb j′ i ≡ x′ → eqb j′ k ≡ y′ → send (send channels i y) k z x j′ ≡ send (send channels k z) i y x j′
-    go x j′ true true p q = absurd (n (sym (eqb-true j′ i p) ∙ eqb-true j′ k q))
-    go x j′ true false p q = send-other (send channels i y) k z x j′ q ∙ send-same channels (send channels k z) i y x j′ (sym (send-other channels k z x j′ q))
-    go x j′ false y′ p q = send-same (send channels i y) channels k z x j′ (send-other channels i y x j′ p) ∙ sym (send-other (send channels k z) i y x j′ p)
+    go : (x j : ℕ) (x′ y′ : Bool) → eqb j i ≡ x′ → eqb j k ≡ y′ → send (send channels i y) k z x j ≡ send (send channels k z) i y x j
+    go x j true true p q = absurd (n (sym (eqb-true j i p) ∙ eqb-true j k q))
+    go x j true false p q = send-other (send channels i y) k z x j q ∙ send-same channels (send channels k z) i y x j (sym (send-other channels k z x j q))
+    go x j false y′ p q = send-same (send channels i y) channels k z x j (send-other channels i y x j p) ∙ sym (send-other (send channels k z) i y x j p)
 
 pub sent-swap : (channels : ℕ → ℕ → List Answer) (i k : ℕ) (x y : Answer) (z x′ : Bool) → (i ≡ k → ⊥)
     → sentIf x′ (sentIf z channels i x) k y ≡ sentIf z (sentIf x′ channels k y) i x

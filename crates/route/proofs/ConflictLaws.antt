@@ -16,7 +16,7 @@ use Rattle.laws.proofs.Tests.{true-false-absurd, and-both, and-fst, and-snd, eq
 use Rattle.route.proofs.FollowLaws.{following-says, following-holds}
 
 -- A kind is told by its place in the order.
-rank-tells : (kind′ x : ConflictKind) → rankOf kind′ ≡ rankOf x → kind′ ≡ x
+rank-tells : (kind kind′ : ConflictKind) → rankOf kind ≡ rankOf kind′ → kind ≡ kind′
 unfolding rankOf
 rank-tells sameCell sameCell e = refl
 rank-tells sameCell changeOfPlaces e = absurd (omega arith)
@@ -30,7 +30,7 @@ rank-tells following following e = refl
 
 module _ (H : ℕ) (r r′ : List ℕ) where
   -- The test of a kind at a beat up to H is the conflict of that kind.
-  test-says : (t : ℕ) (kind′ : ConflictKind) → t ≤ H → isConflict H r r′ t kind′ ≡ true → ConflictAt H r r′ t kind′
+  test-says : (t : ℕ) (kind : ConflictKind) → t ≤ H → isConflict H r r′ t kind ≡ true → ConflictAt H r r′ t kind
   unfolding changes isConflict ConflictAt VertexConflict SwapConflict
   test-says t sameCell l e = (l, eqb-true _ _ e)
   test-says t changeOfPlaces l e = (ltb-true t H (and-fst (ltb t H) _ e), eqbs-say _ _ _ _ (and-snd (ltb t H) _ e))

@@ -11,7 +11,7 @@ use Rattle.route.specs.Conflict.{VertexConflict, SwapConflict, Follows, 
 use Rattle.route.specs.Spaced.{Spaced}
 use Rattle.laws.proofs.Tests.{eq-or-ne}
 
--- Where a is at t + 1 the cell of r′ at t, there is one cell at t or at t + 1, or a follows r′.
+-- Where r is at t + 1 the cell of r′ at t, there is one cell at t or at t + 1, or r follows r′.
 at-left : {A : Type 0} (r r′ : List ℕ) (t : ℕ) → cellAt r (suc t) ≡ cellAt r′ t → (VertexConflict r r′ t → A) →
     (VertexConflict r r′ (suc t) → A) → (Follows r r′ t → A) → A
 unfolding VertexConflict Follows

@@ -27,7 +27,7 @@ Conflict H a b =
     ((t : ℕ) × (t ≤ H) × VertexConflict a b t) ⊎
     (((t : ℕ) × (t < H) × SwapConflict a b t) ⊎ ((t : ℕ) × (t < H) × FollowingConflict a b t))
 
--- Routes a and q have none of these conflicts through beat H.
+-- Routes r and q have none of these conflicts through beat H.
 pub record ConflictFree (H : ℕ) (r q : List ℕ) : Type 0 where
   pub no-vertex : (t : ℕ) → t ≤ H → VertexConflict r q t → ⊥
   pub no-swap : (t : ℕ) → t < H → SwapConflict r q t → ⊥

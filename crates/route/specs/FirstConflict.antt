@@ -26,10 +26,10 @@ ConflictAt H a b t sameCell = (t ≤ H) × VertexConflict a b t
 ConflictAt H a b t changeOfPlaces = (t < H) × SwapConflict a b t
 ConflictAt H a b t following = (t < H) × FollowingConflict a b t
 
--- The conflict at beat t of kind kind′ is the first: there is none at an earlier beat, and none of an earlier kind at that beat.
-pub record FirstAt (H : ℕ) (r q : List ℕ) (t : ℕ) (kind′ : ConflictKind) : Type 0 where
-  pub there : ConflictAt H r q t kind′
-  pub first : (u : ℕ) (kind : ConflictKind) → (u < t) ⊎ ((u ≡ t) × (rankOf kind < rankOf kind′)) → ConflictAt H r q u kind → ⊥
+-- The conflict of a kind at beat t is the first: there is none at an earlier beat, and none of an earlier kind at that beat.
+pub record FirstAt (H : ℕ) (r q : List ℕ) (t : ℕ) (kind : ConflictKind) : Type 0 where
+  pub there : ConflictAt H r q t kind
+  pub first : (u : ℕ) (kind′ : ConflictKind) → (u < t) ⊎ ((u ≡ t) × (rankOf kind′ < rankOf kind)) → ConflictAt H r q u kind′ → ⊥
 
 -- The answer of the conflict test: free, or a beat with a kind.
 pub data ConflictAnswer : Type 0 where

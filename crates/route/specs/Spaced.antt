@@ -5,7 +5,7 @@ use mathlib.Core.List.{List}
 use mathlib.Core.Path.{_≡_}
 use Rattle.route.specs.Route.{cellAt}
 
--- Through beat H, a and q are in different cells, a is not where q was one beat before, and not where q is one beat later.
+-- Through beat H, r and q are in different cells, r is not where q was one beat before, and not where q is one beat later.
 pub record Spaced (H : ℕ) (r q : List ℕ) : Type 0 where
   pub at-once : (t : ℕ) → t ≤ H → cellAt r t ≡ cellAt q t → ⊥
   pub behind : (t : ℕ) → t < H → cellAt r (suc t) ≡ cellAt q t → ⊥

@@ -44,8 +44,8 @@ counted-text text at h =
     (ap₂ (λ (xs ys : List ℕ). xs ++ ys) (field-text text (at + 10) (e .0)) (line-text text (at + 15) (2 * c) (d .1)))))
 
 -- The first three of the numbers from a column on, and the others.
-module _ (text : List ℕ) (at x y count : ℕ) (ws′ : List ℕ)
-    (read : numbersFrom text at (length (x ∷ y ∷ count ∷ ws′)) ≡ x ∷ y ∷ count ∷ ws′) where
+module _ (text : List ℕ) (at x y count : ℕ) (xs : List ℕ)
+    (read : numbersFrom text at (length (x ∷ y ∷ count ∷ xs)) ≡ x ∷ y ∷ count ∷ xs) where
   numbers-first : numberAt text at ≡ x
   unfolding numbersFrom
   numbers-first = (cc)
@@ -58,31 +58,31 @@ module _ (text : List ℕ) (at x y count : ℕ) (ws′ : List ℕ)
   unfolding numbersFrom
   numbers-third = (cc)
 
-  numbers-others : numbersFrom text (at + 5 + 5 + 5) (length ws′) ≡ ws′
+  numbers-others : numbersFrom text (at + 5 + 5 + 5) (length xs) ≡ xs
   unfolding numbersFrom
   numbers-others = (cc)
 
 -- What the text of a counted line's numbers tells.
-pub record CountedTells (text : List ℕ) (at x y count : ℕ) (ws′ : List ℕ) : Type 0 where
+pub record CountedTells (text : List ℕ) (at x y count : ℕ) (xs : List ℕ) : Type 0 where
   pub form : countedForm text at ≡ passed
   pub first : numberAt text at ≡ x
   pub second : numberAt text (at + 5) ≡ y
   pub third : numberAt text (at + 10) ≡ count
-  pub others : numbersFrom text (at + 15) (2 * count) ≡ ws′
+  pub others : numbersFrom text (at + 15) (2 * count) ≡ xs
 
-pub text-counted : (text : List ℕ) (at x y count : ℕ) (ws′ : List ℕ) → Small (x ∷ y ∷ count ∷ ws′) → length ws′ ≡ 2 * count → 1 ≤ count → count ≤ 4
-    → part text at (countedLength count) ≡ lineOf (x ∷ y ∷ count ∷ ws′) → CountedTells text at x y count ws′
+pub text-counted : (text : List ℕ) (at x y count : ℕ) (xs : List ℕ) → Small (x ∷ y ∷ count ∷ xs) → length xs ≡ 2 * count → 1 ≤ count → count ≤ 4
+    → part text at (countedLength count) ≡ lineOf (x ∷ y ∷ count ∷ xs) → CountedTells text at x y count xs
 unfolding countedForm countForm countedLength numbersFrom lineForm
-text-counted text at x y count ws′ small n least most e =
-    let size : 16 + 10 * count ≡ 5 * length (x ∷ y ∷ count ∷ ws′) + 1 = omega (arith, n) in
-    let r = text-fields text (x ∷ y ∷ count ∷ ws′) at small (rw size at e) in
+text-counted text at x y count xs small n least most e =
+    let size : 16 + 10 * count ≡ 5 * length (x ∷ y ∷ count ∷ xs) + 1 = omega (arith, n) in
+    let r = text-fields text (x ∷ y ∷ count ∷ xs) at small (rw size at e) in
     let read = r .numbers in
     let z : at + 5 * 0 ≡ at = omega arith in
     let two : at + 5 + 5 ≡ at + 10 = omega arith in
     let three : at + 5 + 5 + 5 ≡ at + 15 = omega arith in
-    let third : numberAt text (at + 10) ≡ count = rw two at (numbers-third text at x y count ws′ read) in
-    let others : numbersFrom text (at + 15) (length ws′) ≡ ws′ = rw three at (numbers-others text at x y count ws′ read) in
-    let end : at + 5 * length (x ∷ y ∷ count ∷ ws′) ≡ at + 15 + 5 * (2 * count) = omega (arith, n) in
+    let third : numberAt text (at + 10) ≡ count = rw two at (numbers-third text at x y count xs read) in
+    let others : numbersFrom text (at + 15) (length xs) ≡ xs = rw three at (numbers-others text at x y count xs read) in
+    let end : at + 5 * length (x ∷ y ∷ count ∷ xs) ≡ at + 15 + 5 * (2 * count) = omega (arith, n) in
     record {
       form =
           then-passed (rw z at (r .fields 0 (omega arith)))
@@ -96,8 +96,8 @@ text-counted text at x y count ws′ small n least most e =
           (turn-passes _ (2 * count)
           (λ i l. let q : at + 5 * (3 + i) ≡ at + 15 + 5 * i = omega arith in rw q at (r .fields (3 + i) (omega (arith, n, l)))))
           ∙ rw end at (r .newline));
-      first = numbers-first text at x y count ws′ read;
-      second = numbers-second text at x y count ws′ read;
+      first = numbers-first text at x y count xs read;
+      second = numbers-second text at x y count xs read;
       third = third;
       others = rw n at others;
     }

@@ -75,51 +75,51 @@ Small [] = Unit {0}
 Small (v ∷ vs) = (v < 100000) × Small vs
 
 -- A line has five bytes a field and one more.
-pub line-length : (ws′ : List ℕ) → length (lineOf ws′) ≡ 5 * length ws′ + 1
+pub line-length : (xs : List ℕ) → length (lineOf xs) ≡ 5 * length xs + 1
 unfolding lineOf
 line-length [] = refl
-line-length (v ∷ ws′) = rw (length-append, field-length, line-length ws′) (omega arith)
+line-length (v ∷ xs) = rw (length-append, field-length, line-length xs) (omega arith)
 
 -- What the text of numbers is: fields in good form, a newline behind them, and those numbers.
-pub record LineTells (text : List ℕ) (at : ℕ) (ws′ : List ℕ) : Type 0 where
-  pub fields : (i : ℕ) → i < length ws′ → fieldForm text (at + 5 * i) ≡ passed
-  pub newline : newlineForm text (at + 5 * length ws′) ≡ passed
-  pub numbers : numbersFrom text at (length ws′) ≡ ws′
+pub record LineTells (text : List ℕ) (at : ℕ) (xs : List ℕ) : Type 0 where
+  pub fields : (i : ℕ) → i < length xs → fieldForm text (at + 5 * i) ≡ passed
+  pub newline : newlineForm text (at + 5 * length xs) ≡ passed
+  pub numbers : numbersFrom text at (length xs) ≡ xs
 
 -- A field in front of a line.
-line-cons : (text ws′ : List ℕ) (y at : ℕ) → y < 100000 → part text at 5 ≡ fieldOf y → LineTells text (at + 5) ws′
-    → LineTells text at (y ∷ ws′)
+line-cons : (text xs : List ℕ) (y at : ℕ) → y < 100000 → part text at 5 ≡ fieldOf y → LineTells text (at + 5) xs
+    → LineTells text at (y ∷ xs)
 unfolding numbersFrom
-line-cons text ws′ y at l e r =
+line-cons text xs y at l e r =
     record {
       fields = field;
       newline = rw shift (r .newline);
       numbers = ap₂ (λ (x : ℕ) (xs : List ℕ). x ∷ xs) (text-field text at y l e .1) (r .numbers);
     }
   where
-    shift : at + 5 * suc (length ws′) ≡ at + 5 + 5 * length ws′
+    shift : at + 5 * suc (length xs) ≡ at + 5 + 5 * length xs
     shift = omega arith
 
-    field : (i : ℕ) → i < suc (length ws′) → fieldForm text (at + 5 * i) ≡ passed
+    field : (i : ℕ) → i < suc (length xs) → fieldForm text (at + 5 * i) ≡ passed
     field zero h = let z : at + 5 * 0 ≡ at = omega arith in rw z (text-field text at y l e .0)
     field (suc i) h = let q : at + 5 * suc i ≡ at + 5 + 5 * i = omega arith in rw q (r .fields i (omega arith))
 
 -- The text of numbers, taken apart.
-pub text-fields : (text ws′ : List ℕ) (at : ℕ) → Small ws′ → part text at (5 * length ws′ + 1) ≡ lineOf ws′ → LineTells text at ws′
+pub text-fields : (text xs : List ℕ) (at : ℕ) → Small xs → part text at (5 * length xs + 1) ≡ lineOf xs → LineTells text at xs
 unfolding lineOf numbersFrom
 text-fields text [] at small e =
     let z : at + 5 * 0 ≡ at = omega arith in
     record { fields = λ i l. absurd (omega arith); newline = rw z (text-newline text at e); numbers = refl }
-text-fields text (v ∷ ws′) at small e =
-    let w : 5 * suc (length ws′) + 1 ≡ 5 + (5 * length ws′ + 1) = omega arith in
-    let d = part-blocks text (fieldOf v) (lineOf ws′) at 5 (5 * length ws′ + 1) (field-length v) (line-length ws′) (omega arith)
+text-fields text (v ∷ xs) at small e =
+    let w : 5 * suc (length xs) + 1 ≡ 5 + (5 * length xs + 1) = omega arith in
+    let d = part-blocks text (fieldOf v) (lineOf xs) at 5 (5 * length xs + 1) (field-length v) (line-length xs) (omega arith)
     (rw w at e) in
-    line-cons text ws′ v at (small .0) (d .0) (text-fields text ws′ (at + 5) (small .1) (d .1))
+    line-cons text xs v at (small .0) (d .0) (text-fields text xs (at + 5) (small .1) (d .1))
 
 -- The text of numbers up to 99999 is a line in good form, of those numbers.
-pub text-line : (text ws′ : List ℕ) (at : ℕ) → Small ws′ → part text at (5 * length ws′ + 1) ≡ lineOf ws′
-    → (lineForm text at (length ws′) ≡ passed) × (numbersFrom text at (length ws′) ≡ ws′)
+pub text-line : (text xs : List ℕ) (at : ℕ) → Small xs → part text at (5 * length xs + 1) ≡ lineOf xs
+    → (lineForm text at (length xs) ≡ passed) × (numbersFrom text at (length xs) ≡ xs)
 unfolding lineForm
-text-line text ws′ at small e =
-    let r = text-fields text ws′ at small e in
-    (then-passed (turn-passes _ (length ws′) (r .fields)) ∙ r .newline, r .numbers)
+text-line text xs at small e =
+    let r = text-fields text xs at small e in
+    (then-passed (turn-passes _ (length xs) (r .fields)) ∙ r .newline, r .numbers)

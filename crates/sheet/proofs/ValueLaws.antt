@@ -60,10 +60,10 @@ module _ (text : List ℕ) (n : ℕ) (few : n ≤ 8) (good : linesForm (countedF
 pub kept-long : (φ : ℕ → ℕ) (xs : List ℕ) → xs ≡ listed φ 8 → length xs ≡ 8
 kept-long φ xs e = rw e (listed-length φ 8)
 
--- Place q of the docks of n carriers in a grid.
+-- Place p of the docks of n carriers in a grid.
 abbrev pub placeWith : List ℕ → (n width height p : ℕ) → ℕ
-placeWith text n width height q =
-    upTo n (λ (i : ℕ). upTo (countIn text i) (λ (k : ℕ). cellAtColumn text width height (carrierColumn text i + 15 + 10 * k)) (q % 4)) (q / 4)
+placeWith text n width height p =
+    upTo n (λ (i : ℕ). upTo (countIn text i) (λ (k : ℕ). cellAtColumn text width height (carrierColumn text i + 15 + 10 * k)) (p % 4)) (p / 4)
 
 -- A place of the docks: past the carriers, past a dock count, and a dock.
 module _ (text : List ℕ) (n width height p : ℕ) where
