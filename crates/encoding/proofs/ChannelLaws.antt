@@ -23,68 +23,68 @@ moved-is w v x y = rw (window-part 65 x w) (window-put (y ∙ sym x) v)
 
 -- Four records, one behind the other.
 abbrev four : List ℕ → List ℕ → List ℕ → List ℕ → List ℕ
-four a b c d = a ++ (b ++ (c ++ (d ++ [])))
+four xs₀ xs₁ xs₂ xs₃ = xs₀ ++ (xs₁ ++ (xs₂ ++ (xs₃ ++ [])))
 
 -- A number and four records in a memory, the number's place being p, and where each of them stands.
 module _ (xs ys : List ℕ) (p : ℕ) (place : length xs ≡ p) where
-  -- The memory with block b there.
+  -- The memory with block zs there.
   abbrev there : List ℕ → List ℕ
-  there b = xs ++ (b ++ ys)
+  there zs = xs ++ (zs ++ ys)
 
-  there-window : (zs xs′ : List ℕ) → Window p (there zs) (there xs′) zs xs′
-  there-window zs xs′ = record { before = xs; after = ys; old = refl; new = refl; size = place }
+  there-window : (zs zs′ : List ℕ) → Window p (there zs) (there zs′) zs zs′
+  there-window zs zs′ = record { before = xs; after = ys; old = refl; new = refl; size = place }
 
-  number-there : (k k′ : ℕ) (xs : List ℕ) → Window p (there (k ∷ xs)) (there (k′ ∷ xs)) (k ∷ []) (k′ ∷ [])
-  number-there k k′ xs =
-      window-inside p (add-zero p) (there-window (k ∷ xs) (k′ ∷ xs)) (window-front xs (window-whole (k ∷ []) (k′ ∷ [])))
+  number-there : (k k′ : ℕ) (zs : List ℕ) → Window p (there (k ∷ zs)) (there (k′ ∷ zs)) (k ∷ []) (k′ ∷ [])
+  number-there k k′ zs =
+      window-inside p (add-zero p) (there-window (k ∷ zs) (k′ ∷ zs)) (window-front zs (window-whole (k ∷ []) (k′ ∷ [])))
 
-  behind-there : (k p′ : ℕ) {xs ys zs xs′ : List ℕ} → Window p′ xs ys zs xs′ → Window (p + (1 + p′)) (there (k ∷ xs)) (there (k ∷ ys)) zs xs′
-  behind-there k p′ {xs = xs} {ys = ys} w =
-      window-inside (p + (1 + p′)) refl (there-window (k ∷ xs) (k ∷ ys)) (window-behind (k ∷ []) 1 (1 + p′) refl refl w)
+  behind-there : (k p′ : ℕ) {m m′ zs zs′ : List ℕ} → Window p′ m m′ zs zs′ → Window (p + (1 + p′)) (there (k ∷ m)) (there (k ∷ m′)) zs zs′
+  behind-there k p′ {m = m} {m′ = m′} w =
+      window-inside (p + (1 + p′)) refl (there-window (k ∷ m) (k ∷ m′)) (window-behind (k ∷ []) 1 (1 + p′) refl refl w)
 
-  module _ (k : ℕ) (xs ys zs xs′ : List ℕ) (la : length xs ≡ 65) (lb : length ys ≡ 65) (lc : length zs ≡ 65) where
-    first : (ys′ : List ℕ) → Window (p + 1) (there (k ∷ four xs ys zs xs′)) (there (k ∷ four ys′ ys zs xs′)) xs ys′
-    first ys′ = behind-there k 0 (window-front (ys ++ (zs ++ (xs′ ++ []))) (window-whole xs ys′))
+  module _ (k : ℕ) (xs₀ xs₁ xs₂ xs₃ : List ℕ) (la : length xs₀ ≡ 65) (lb : length xs₁ ≡ 65) (lc : length xs₂ ≡ 65) where
+    first : (zs : List ℕ) → Window (p + 1) (there (k ∷ four xs₀ xs₁ xs₂ xs₃)) (there (k ∷ four zs xs₁ xs₂ xs₃)) xs₀ zs
+    first zs = behind-there k 0 (window-front (xs₁ ++ (xs₂ ++ (xs₃ ++ []))) (window-whole xs₀ zs))
 
-    second : (ys′ : List ℕ) → Window (p + 66) (there (k ∷ four xs ys zs xs′)) (there (k ∷ four xs ys′ zs xs′)) ys ys′
-    second ys′ = behind-there k 65 (window-behind xs 65 65 la refl (window-front (zs ++ (xs′ ++ [])) (window-whole ys ys′)))
+    second : (zs : List ℕ) → Window (p + 66) (there (k ∷ four xs₀ xs₁ xs₂ xs₃)) (there (k ∷ four xs₀ zs xs₂ xs₃)) xs₁ zs
+    second zs = behind-there k 65 (window-behind xs₀ 65 65 la refl (window-front (xs₂ ++ (xs₃ ++ [])) (window-whole xs₁ zs)))
 
-    third : (ys′ : List ℕ) → Window (p + 131) (there (k ∷ four xs ys zs xs′)) (there (k ∷ four xs ys ys′ xs′)) zs ys′
-    third ys′ =
-        behind-there k 130 (window-behind xs 65 130 la refl (window-behind ys 65 65 lb refl (window-front (xs′ ++ []) (window-whole zs ys′))))
+    third : (zs : List ℕ) → Window (p + 131) (there (k ∷ four xs₀ xs₁ xs₂ xs₃)) (there (k ∷ four xs₀ xs₁ zs xs₃)) xs₂ zs
+    third zs =
+        behind-there k 130 (window-behind xs₀ 65 130 la refl (window-behind xs₁ 65 65 lb refl (window-front (xs₃ ++ []) (window-whole xs₂ zs))))
 
-    fourth : (ys′ : List ℕ) → Window (p + 196) (there (k ∷ four xs ys zs xs′)) (there (k ∷ four xs ys zs ys′)) xs′ ys′
-    fourth ys′ =
+    fourth : (zs : List ℕ) → Window (p + 196) (there (k ∷ four xs₀ xs₁ xs₂ xs₃)) (there (k ∷ four xs₀ xs₁ xs₂ zs)) xs₃ zs
+    fourth zs =
         behind-there k 195
-        (window-behind xs 65 195 la refl
-        (window-behind ys 65 130 lb refl (window-behind zs 65 65 lc refl (window-front [] (window-whole xs′ ys′)))))
+        (window-behind xs₀ 65 195 la refl
+        (window-behind xs₁ 65 130 lb refl (window-behind xs₂ 65 65 lc refl (window-front [] (window-whole xs₃ zs)))))
 
   -- The others move up, the last place is cleared, and the number falls.
-  module _ (k : ℕ) (xs ys zs xs′ : List ℕ) (la : length xs ≡ 65) (lb : length ys ≡ 65) (lc : length zs ≡ 65) (ld : length xs′ ≡ 65) where
-    shifted-four : shifted (there (k ∷ four xs ys zs xs′)) p ≡ there (k ∷ four ys zs xs′ (resized 65 []))
+  module _ (k : ℕ) (xs₀ xs₁ xs₂ xs₃ : List ℕ) (la : length xs₀ ≡ 65) (lb : length xs₁ ≡ 65) (lc : length xs₂ ≡ 65) (ld : length xs₃ ≡ 65) where
+    shifted-four : shifted (there (k ∷ four xs₀ xs₁ xs₂ xs₃)) p ≡ there (k ∷ four xs₁ xs₂ xs₃ (resized 65 []))
     unfolding shifted
     shifted-four =
-        let one : moved (there (k ∷ four xs ys zs xs′)) (p + 66) (p + 1) ≡ there (k ∷ four ys ys zs xs′) =
-        moved-is (window-old (second k xs ys zs xs′ la lb lc ys)) (first k xs ys zs xs′ la lb lc ys) lb la
+        let one : moved (there (k ∷ four xs₀ xs₁ xs₂ xs₃)) (p + 66) (p + 1) ≡ there (k ∷ four xs₁ xs₁ xs₂ xs₃) =
+        moved-is (window-old (second k xs₀ xs₁ xs₂ xs₃ la lb lc xs₁)) (first k xs₀ xs₁ xs₂ xs₃ la lb lc xs₁) lb la
         in
-        let two : moved (there (k ∷ four ys ys zs xs′)) (p + 131) (p + 66) ≡ there (k ∷ four ys zs zs xs′) =
-        moved-is (window-old (third k ys ys zs xs′ lb lb lc zs)) (second k ys ys zs xs′ lb lb lc zs) lc lb
+        let two : moved (there (k ∷ four xs₁ xs₁ xs₂ xs₃)) (p + 131) (p + 66) ≡ there (k ∷ four xs₁ xs₂ xs₂ xs₃) =
+        moved-is (window-old (third k xs₁ xs₁ xs₂ xs₃ lb lb lc xs₂)) (second k xs₁ xs₁ xs₂ xs₃ lb lb lc xs₂) lc lb
         in
-        let three : moved (there (k ∷ four ys zs zs xs′)) (p + 196) (p + 131) ≡ there (k ∷ four ys zs xs′ xs′) =
-        moved-is (window-old (fourth k ys zs zs xs′ lb lc lc xs′)) (third k ys zs zs xs′ lb lc lc xs′) ld lc
+        let three : moved (there (k ∷ four xs₁ xs₂ xs₂ xs₃)) (p + 196) (p + 131) ≡ there (k ∷ four xs₁ xs₂ xs₃ xs₃) =
+        moved-is (window-old (fourth k xs₁ xs₂ xs₂ xs₃ lb lc lc xs₃)) (third k xs₁ xs₂ xs₂ xs₃ lb lc lc xs₃) ld lc
         in
-        let zeros : put (there (k ∷ four ys zs xs′ xs′)) (p + 196) (resized 65 []) ≡ there (k ∷ four ys zs xs′ (resized 65 [])) =
-        window-put (ld ∙ sym (resized-length 65 [])) (fourth k ys zs xs′ xs′ lb lc ld (resized 65 []))
+        let zeros : put (there (k ∷ four xs₁ xs₂ xs₃ xs₃)) (p + 196) (resized 65 []) ≡ there (k ∷ four xs₁ xs₂ xs₃ (resized 65 [])) =
+        window-put (ld ∙ sym (resized-length 65 [])) (fourth k xs₁ xs₂ xs₃ xs₃ lb lc ld (resized 65 []))
         in
         rw (one, two, three) zeros
 
-    popped-four : popped (there (k ∷ four xs ys zs xs′)) p ≡ there ((k - 1) ∷ four ys zs xs′ (resized 65 []))
+    popped-four : popped (there (k ∷ four xs₀ xs₁ xs₂ xs₃)) p ≡ there ((k - 1) ∷ four xs₁ xs₂ xs₃ (resized 65 []))
     unfolding popped
     popped-four =
-        let number : getD (there (k ∷ four xs ys zs xs′)) p 0 ≡ k =
-        window-number 0 p (omega arith) (add-zero p) (number-there k k (four xs ys zs xs′))
+        let number : getD (there (k ∷ four xs₀ xs₁ xs₂ xs₃)) p 0 ≡ k =
+        window-number 0 p (omega arith) (add-zero p) (number-there k k (four xs₀ xs₁ xs₂ xs₃))
         in
-        rw (number, shifted-four) (window-put refl (number-there k (k - 1) (four ys zs xs′ (resized 65 []))))
+        rw (number, shifted-four) (window-put refl (number-there k (k - 1) (four xs₁ xs₂ xs₃ (resized 65 []))))
 
 -- A channel with one to four messages without its oldest.
 popped-there : (xs ys : List ℕ) (p : ℕ) → length xs ≡ p → (zs : List Answer) → 0 < length zs → length zs ≤ 4 →

@@ -71,7 +71,7 @@ module _ (M : Machine) where
         (lt-or-le rank rank′),
   )
     where
-      itself : q ≡ r → EarlierRun (M .carriers) (runAt M r) (runAt M q) → EarlierRun (M .carriers) (runAt M q) (runAt M r)
+      itself : rank′ ≡ rank → EarlierRun (M .carriers) (runAt M rank) (runAt M rank′) → EarlierRun (M .carriers) (runAt M rank′) (runAt M rank)
       itself k e = rw k (rw k at e)
 
   within-ceiling : (rank : ℕ) → rank < total M → length (runAt M rank) ≤ ceiling (M .carriers)
