@@ -20,12 +20,12 @@ use Rattle.blockers.specs.Blockers.{answersAbove, blockersOf}
 
 -- The views of answers, those of the carriers of a part being heard and the others not.
 unfoldable pub viewsOfPart : (ℕ → Bool) → List Answer → List View
-viewsOfPart p [] = []
-viewsOfPart p (x ∷ xs) = cond (p zero) (heard x) unheard ∷ viewsOfPart (λ j. p (suc j)) xs
+viewsOfPart φ [] = []
+viewsOfPart φ (x ∷ xs) = cond (φ zero) (heard x) unheard ∷ viewsOfPart (λ j. φ (suc j)) xs
 
 -- q is a route for carrier i without conflict with the answers of a part of the carriers above it, alone.
 unfoldable pub RouteAgainst : Floor → List ℕ → ℕ → (ℕ → Bool) → List ℕ → Type 0
-RouteAgainst f ws i p q = Admissible (taskOf f ws (i + 1)) (seen f (viewsOfPart p (answersAbove f ws i))) q
+RouteAgainst f ws i φ q = Admissible (taskOf f ws (i + 1)) (seen f (viewsOfPart φ (answersAbove f ws i))) q
 
 -- Carrier j is one of those that shut carrier i in.
 unfoldable pub shutsIn : Floor → List ℕ → (i j : ℕ) → Bool

@@ -73,7 +73,7 @@ module _ (f : Floor) (ws : List ℕ) where
   StateRows m = FreshRows (length m) orElse Row 10 0 (HoldsState f m → ⊥)
 
   abbrev pub CallRows : List ℕ → Call → Table
-  CallRows m c = StateRows m orElse RefusedCall (machineOf f ws) (stateIn f m) c
+  CallRows m x = StateRows m orElse RefusedCall (machineOf f ws) (stateIn f m) x
 
   -- 11, 0: an order other than 1 to 3 (document 02, slip 1).
   abbrev pub TrialRows : (order state report : ℕ) → Table

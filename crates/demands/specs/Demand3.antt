@@ -101,4 +101,4 @@ pub record Demand3 : Type 0 where
       Simulates f ws s rest x
   -- A step is open exactly if it is there and waits for none of the things that refusals 8, 12 and 13 name (document 02, slip 3).
   pub open-exactly : (M : Machine) (s : State) (x : Step) → (isOpen M s x ≡ true) ↔
-      ((isThere M x ≡ true) × ((a p : ℕ) → Waits M s x a p → ⊥))
+      ((isThere M x ≡ true) × ((k p : ℕ) → Waits M s x k p → ⊥))

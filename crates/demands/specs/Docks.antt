@@ -31,14 +31,14 @@ use Rattle.demands.specs.Demand2.{SameOutcomes}
 
 -- Responses by document 01's letter: each carrier that is there answers best to its one goal, whatever it has heard from those above it.
 abbrev pub EarlierResponses : OneDockFloor → List ℕ → (ℕ → List View → Answer) → Type 0
-EarlierResponses e ws respond =
-    (i : ℕ) (vs : List View) → i < e .carriers → length vs ≡ i →
-    BestTo (getD (e .goals) i 0) (taskOf (withOneDock e) ws (i + 1)) (seen (withOneDock e) vs) (respond i vs)
+EarlierResponses old ws respond =
+    (i : ℕ) (vs : List View) → i < old .carriers → length vs ≡ i →
+    BestTo (getD (old .goals) i 0) (taskOf (withOneDock old) ws (i + 1)) (seen (withOneDock old) vs) (respond i vs)
 
 -- The reference machine of document 01's floor with given responses.
 abbrev pub earlierMachine : OneDockFloor → (ℕ → List View → Answer) → Machine
-earlierMachine e respond =
-    record { carriers = e .carriers; depth = e .depth; needed = stateSize (e .carriers); respond = respond }
+earlierMachine old respond =
+    record { carriers = old .carriers; depth = old .depth; needed = stateSize (old .carriers); respond = respond }
 
 -- With responses by document 01's letter the entries' definitions answer as they do on the floor with one dock: the machine's calls and its
 -- state after them, trials, the listed runs and their reports, the sequential answers, and the carriers that shut one in.

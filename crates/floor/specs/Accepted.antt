@@ -8,9 +8,9 @@ use Rattle.laws.specs.Verdict.{All}
 use Rattle.floor.specs.declared.Floor.{Floor}
 use Rattle.floor.specs.Checks.{startOf, countOf, docksOf, dockOf, isDock}
 
--- v lies within low to high.
+-- x lies within low to high.
 abbrev pub Within : ℕ → ℕ → ℕ → Type 0
-Within low high v = (low ≤ v) × (v ≤ high)
+Within low high x = (low ≤ x) × (x ≤ high)
 
 -- The value of field i of line 1 is within its limits.
 unfoldable pub FieldWithin : Floor → ℕ → Type 0
@@ -40,13 +40,13 @@ WallInGrid f ws j = InGrid f (getD ws j 0)
 abbrev pub Rises : List ℕ → ℕ → Type 0
 Rises ws j = (k : ℕ) → suc k ≡ j → getD ws k 0 < getD ws j 0
 
--- Each of the first m numbers of xs is below every later one of them.
+-- Each of the first k numbers of xs is below every later one of them.
 abbrev pub StrictlyRising : List ℕ → ℕ → Type 0
-StrictlyRising xs m = (i j : ℕ) → i < j → j < m → getD xs i 0 < getD xs j 0
+StrictlyRising xs k = (i j : ℕ) → i < j → j < k → getD xs i 0 < getD xs j 0
 
--- c is not among the first m numbers of xs.
+-- c is not among the first k numbers of xs.
 abbrev pub Absent : List ℕ → ℕ → ℕ → Type 0
-Absent xs m c = All (λ (i : ℕ). getD xs i 0 ≡ c → ⊥) m
+Absent xs k c = All (λ (i : ℕ). getD xs i 0 ≡ c → ⊥) k
 
 -- Neither the start nor a dock of carrier i is a wall.
 abbrev pub ClearOfWalls : Floor → List ℕ → ℕ → Type 0

@@ -14,9 +14,9 @@ use Rattle.map_reader.specs.declared.Told.{Told}
 use Rattle.map_reader.specs.declared.Told.the-variants.{Sheet, Refused}
 use Rattle.map_reader.specs.Marks.{isThing, isWall, cellsWhere}
 
--- The first n numbers of a list are as g says.
+-- The first n numbers of a list are as φ says.
 unfoldable pub Filled : (ℕ → ℕ) → List ℕ → ℕ → Type 0
-Filled g xs n = (i : ℕ) → i < n → getD xs i 0 ≡ g i
+Filled φ xs n = (i : ℕ) → i < n → getD xs i 0 ≡ φ i
 
 -- The carriers of a floor are those of a map's n cells: the start of each is the first cell that is it, its docks are the cells that are.
 pub record CarriersFrom (marks table : List ℕ) (n : ℕ) (f : Floor) : Type 0 where

@@ -9,7 +9,7 @@ use Rattle.sheet.specs.Text.{linesOf}
 
 -- One mark for a list of marks: the only one of it, or a mark for none, or one for several.
 unfoldable pub oneOf : List ℕ → (none several : ℕ) → ℕ
-oneOf ms none several = cond (eqb (length ms) 0) none (cond (eqb (length ms) 1) (getD ms 0 0) several)
+oneOf xs none several = cond (eqb (length xs) 0) none (cond (eqb (length xs) 1) (getD xs 0 0) several)
 
 -- The marks of the cells 0 to n − 1, one behind the other.
 unfoldable pub marksText : (ℕ → ℕ) → ℕ → List ℕ

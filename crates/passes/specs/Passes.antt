@@ -20,9 +20,9 @@ pub record ForwardReachable (g : SearchGrid) (table : List ℕ) (start n : ℕ) 
   pub begins : Alone g sets 0 start
   pub spreads : (t : ℕ) → t < n → Spread g table sets t (t + 1)
 
--- The same through beat r, or through the horizon where r is past that.
+-- The same through beat a, or through the horizon where a is past that.
 abbrev pub ForwardReachableTo : SearchGrid → List ℕ → ℕ → ℕ → List ℕ → Type 0
-ForwardReachableTo g table start r sets = (n : ℕ) → n ≤ r → n ≤ g .horizon → ForwardReachable g table start n sets
+ForwardReachableTo g table start a sets = (n : ℕ) → n ≤ a → n ≤ g .horizon → ForwardReachable g table start n sets
 
 -- The sets from beat n through beat a are what leads in the free table to a dock that can be held from beat a on.
 pub record BackwardReachable (g : SearchGrid) (table : List ℕ) (ds : Docks) (a n : ℕ) (sets : List ℕ) : Type 0 where

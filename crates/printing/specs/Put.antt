@@ -55,8 +55,8 @@ pub record TextOrShort (text : List ℕ) (needed k p : ℕ) (old new : List ℕ)
 
 -- The same for the routes of a floor that was read, its walls standing in front of others.
 unfoldable pub FloorPut : Floor → List ℕ → List ℕ → List ℕ → Outcome ℕ → Type 0
-FloorPut f walls old new o = TextOrShort (printOf f (take (f .walls) walls)) (textLength f) 9 0 old new o
+FloorPut f walls old new x = TextOrShort (printOf f (take (f .walls) walls)) (textLength f) 9 0 old new x
 
 -- The same for the line of a refused sheet, a place over 65,535 printed as that.
 unfoldable pub RefusalPut : ℕ → ℕ → List ℕ → List ℕ → Outcome ℕ → Type 0
-RefusalPut k p old new o = TextOrShort (refusalLine k (min p 65535)) 16 k p old new o
+RefusalPut k p old new x = TextOrShort (refusalLine k (min p 65535)) 16 k p old new x

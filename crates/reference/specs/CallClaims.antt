@@ -22,7 +22,7 @@ use Rattle.reference.specs.Bounds.{InRange, Throughout}
 
 pub record CallClaims : Type 1 where
   -- A call is refused exactly under the conditions of the table, with its first place.
-  pub refuses-exactly : (M : Machine) (s : State) (x : Call) (a p : ℕ) → (verdict M s x ≡ refused a p) ↔ RefusedCall M s x a p
+  pub refuses-exactly : (M : Machine) (s : State) (x : Call) (k p : ℕ) → (verdict M s x ≡ refused k p) ↔ RefusedCall M s x k p
   -- A single step that is not refused is open.
   pub single-open : (M : Machine) (s : State) (lent : ℕ) (x : Step) → verdict M s (single lent (step x)) ≡ passed → isOpen M s x ≡ true
   -- A list of calls changes the state by open steps alone, as many as its answers tell of.

@@ -26,9 +26,9 @@ pub record StepClaims : Type 0 where
       ((j < i) × (i < M .carriers) × (s .chan i j ≡ [] → ⊥))
   -- A step waits for a thing exactly under the condition of its row, with its number and place; it is open exactly if it is there and no
   -- row holds.
-  pub waits-exactly : (M : Machine) (s : State) (x : Step) (a p : ℕ) → (waitsFor M s x ≡ refused a p) ↔ Waits M s x a p
+  pub waits-exactly : (M : Machine) (s : State) (x : Step) (k p : ℕ) → (waitsFor M s x ≡ refused k p) ↔ Waits M s x k p
   pub open-exactly : (M : Machine) (s : State) (x : Step) → (isOpen M s x ≡ true) ↔
-      ((isThere M x ≡ true) × ((a p : ℕ) → Waits M s x a p → ⊥))
+      ((isThere M x ≡ true) × ((k p : ℕ) → Waits M s x k p → ⊥))
   -- The steps do what document 01 says, and nothing else changes.
   pub plan-does : (M : Machine) (s : State) (i : ℕ) → PlanLeads M s (afterStep M s (plan i)) i
   pub deliver-does : (M : Machine) (s : State) (j i : ℕ) → isOpen M s (deliver j i) ≡ true

@@ -19,12 +19,12 @@ rankOf sameCell = 0
 rankOf changeOfPlaces = 1
 rankOf following = 2
 
--- Routes a and b have a conflict of a kind at beat t, through beat H; a change of places and a following are dated by the
+-- Routes r and q have a conflict of a kind at beat t, through beat H; a change of places and a following are dated by the
 -- beat before it.
 unfoldable pub ConflictAt : ℕ → List ℕ → List ℕ → ℕ → ConflictKind → Type 0
-ConflictAt H a b t sameCell = (t ≤ H) × VertexConflict a b t
-ConflictAt H a b t changeOfPlaces = (t < H) × SwapConflict a b t
-ConflictAt H a b t following = (t < H) × FollowingConflict a b t
+ConflictAt H r q t sameCell = (t ≤ H) × VertexConflict r q t
+ConflictAt H r q t changeOfPlaces = (t < H) × SwapConflict r q t
+ConflictAt H r q t following = (t < H) × FollowingConflict r q t
 
 -- The conflict of a kind at beat t is the first: there is none at an earlier beat, and none of an earlier kind at that beat.
 pub record FirstAt (H : ℕ) (r q : List ℕ) (t : ℕ) (kind : ConflictKind) : Type 0 where

@@ -60,7 +60,7 @@ fieldSlots at zero = []
 fieldSlots at (suc m) = fieldSlots at m ++ (field (at + 5 * m) ∷ [])
 
 unfoldable pub lineSlots : ℕ → ℕ → List Slot
-lineSlots at m = fieldSlots at m ++ (newline (at + 5 * m) ∷ [])
+lineSlots at k = fieldSlots at k ++ (newline (at + 5 * k) ∷ [])
 
 unfoldable pub carrierSlots : List ℕ → ℕ → List Slot
 carrierSlots text at = field at ∷ field (at + 5) ∷ count (at + 10) ∷ lineSlots (at + 15) (2 * numberAt text (at + 10))
