@@ -20,7 +20,7 @@ Part = ℕ → Bool
 
 -- The part without the first carrier, as the others count it.
 abbrev tailPart : Part → Part
-tailPart p j = p (suc j)
+tailPart part j = part (suc j)
 
 -- All carriers are a part.
 pub all-heard : (xs : List Answer) → map heard xs ≡ viewsOfPart (λ j. true) xs
@@ -38,10 +38,10 @@ views-same part part′ (x ∷ xs) h =
 
 -- A part without carrier j.
 unfoldable pub minus : Part → ℕ → Part
-minus p zero zero = false
-minus p zero (suc k) = p (suc k)
-minus p (suc j) zero = p zero
-minus p (suc j) (suc k) = minus (tailPart p) j k
+minus part zero zero = false
+minus part zero (suc k) = part (suc k)
+minus part (suc j) zero = part zero
+minus part (suc j) (suc k) = minus (tailPart part) j k
 
 pub minus-same : (part : Part) (j : ℕ) → minus part j j ≡ false
 unfolding minus

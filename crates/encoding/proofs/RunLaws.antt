@@ -42,8 +42,8 @@ module _ (M : Machine) (storable : Storable M) (rest : List ℕ) where
   encodedWith s = encode (M .carriers) s ++ rest
 
   abbrev RunFollows : State → List Step → ℕ → RunResult → Type 0
-  RunFollows s xs b q =
-      InRange M s → Throughout (M .carriers) Whole s → RunSimulated (M .carriers) rest (runIn M (encodedWith s) (map step xs) b) q
+  RunFollows s xs b x =
+      InRange M s → Throughout (M .carriers) Whole s → RunSimulated (M .carriers) rest (runIn M (encodedWith s) (map step xs) b) x
 
   follows-took : (s : State) (x : Step) (xs : List Step) (b : ℕ) (y : RunResult) → isOpen M s x ≡ true →
       RunFollows (afterStep M s x) xs b y →

@@ -21,7 +21,7 @@ use Rattle.encoding.proofs.ChannelLaws.{pushed-is}
 
 -- The channels once answer a is sent to those of the first k carriers that are below i.
 unfoldable sentBelow : (ℕ → ℕ → List Answer) → ℕ → Answer → ℕ → ℕ → ℕ → List Answer
-sentBelow chan i a k r j = cond (ltb r k) (send chan i a r j) (chan r j)
+sentBelow chan i x k k′ j = cond (ltb k′ k) (send chan i x k′ j) (chan k′ j)
 
 module _ (chan : ℕ → ℕ → List Answer) (i : ℕ) (z : Answer) where
   -- Only a channel from i to a carrier below it changes.

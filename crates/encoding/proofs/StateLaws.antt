@@ -23,20 +23,20 @@ withTaken s t =
     record { planned = s .planned; due = s .due; answer = s .answer; view = s .view; chan = s .chan; taken = t }
 
 unfoldable pub withCarriers : State → (ℕ → Bool) → (ℕ → Bool) → (ℕ → Answer) → State
-withCarriers s p d a = record { planned = p; due = d; answer = a; view = s .view; chan = s .chan; taken = s .taken }
+withCarriers s φ ψ χ = record { planned = φ; due = ψ; answer = χ; view = s .view; chan = s .chan; taken = s .taken }
 
 unfoldable pub withViews : State → (ℕ → ℕ → View) → State
-withViews s v = record { planned = s .planned; due = s .due; answer = s .answer; view = v; chan = s .chan; taken = s .taken }
+withViews s φ = record { planned = s .planned; due = s .due; answer = s .answer; view = φ; chan = s .chan; taken = s .taken }
 
 unfoldable pub withChans : State → (ℕ → ℕ → List Answer) → State
-withChans s h = record { planned = s .planned; due = s .due; answer = s .answer; view = s .view; chan = h; taken = s .taken }
+withChans s channels = record { planned = s .planned; due = s .due; answer = s .answer; view = s .view; chan = channels; taken = s .taken }
 
 -- The blocks of the views and those of the channels.
 abbrev viewBlocks : (ℕ → ℕ → View) → ℕ → ℕ → List ℕ
-viewBlocks v = λ i j. slot (v i j)
+viewBlocks φ = λ i j. slot (φ i j)
 
 abbrev chanBlocks : (ℕ → ℕ → List Answer) → ℕ → ℕ → List ℕ
-chanBlocks h = λ i j. channelBlock (h i j)
+chanBlocks channels = λ i j. channelBlock (channels i j)
 
 module _ (n : ℕ) (s : State) where
   carrier-sums : (i : ℕ) → i < n → 67 * suc i ≡ 67 * i + length (carrierBlock s i)

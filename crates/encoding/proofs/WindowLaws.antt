@@ -16,9 +16,9 @@ pub record Window (p : ℕ) (m m′ xs ys : List ℕ) : Type 0 where
   pub new : m′ ≡ before ++ (ys ++ after)
   pub size : length before ≡ p
 
--- Block b stands at place p of memory m.
+-- Block xs stands at place p of memory m.
 abbrev pub StandsAt : ℕ → List ℕ → List ℕ → Type 0
-StandsAt p m b = Window p m m b b
+StandsAt p m xs = Window p m m xs xs
 
 -- A block is a window on itself.
 pub window-whole : (xs ys : List ℕ) → Window 0 xs ys xs ys

@@ -53,8 +53,8 @@ same-truth false false f g = refl
 
 -- The five tests of the definition.
 unfoldable tests : ℕ → ℕ → ℕ → ℕ → ℕ → ℕ → Bool
-tests a b c d e v =
-    eqb a (column 10000 v) && (eqb b (column 1000 v) && (eqb c (column 100 v) && (eqb d (column 10 v) && eqb e (48 + v % 10))))
+tests x₁ x₂ x₃ x₄ x₅ x =
+    eqb x₁ (column 10000 x) && (eqb x₂ (column 1000 x) && (eqb x₃ (column 100 x) && (eqb x₄ (column 10 x) && eqb x₅ (48 + x % 10))))
 
 -- Five bytes with digits up to 9, and a space exactly where the number has no digit.
 record Columns (x₁ x₂ x₃ x₄ x₅ x : ℕ) : Type 0 where

@@ -63,7 +63,7 @@ module _ {M : Type 1} (𝓤 : URA M) (H : Heap 𝓤) (A : Atoms 𝓤) (W : Given
     (past : List ℕ → ℕ → ℕ) (most : ℕ) where
   -- what is stated of the answer, and the function's clauses
   abbrev LinesAnswered : RefT (List ℕ) → ℕ → ℕ → Reached → Type 0
-  LinesAnswered s at m r = r ≡ reachedOf (linesForm (form (s .now)) (past (s .now)) at m) (columnPast (past (s .now)) at m)
+  LinesAnswered s at k x = x ≡ reachedOf (linesForm (form (s .now)) (past (s .now)) at k) (columnPast (past (s .now)) at k)
 
   abbrev clauses : Clauses 𝓤 Lines
   clauses = stating 𝓤 linesParams linesKept (λ _. S.the-row)

@@ -95,7 +95,7 @@ module _ {M : Type 1} (𝓤 : URA M) (H : Heap 𝓤) (A : Atoms 𝓤) (W : Given
 
     -- the number of lines left falls
     abbrev Nearer : LoopTurn → LoopTurn → Type 0
-    Nearer t′ t = n - t′ .count < n - t .count
+    Nearer turn turn′ = n - turn .count < n - turn′ .count
 
     Nearer-wf : WellFounded Nearer
     Nearer-wf = InvImage·wf (λ (turn : LoopTurn). n - turn .count) (Nat·lt-wfRel .wf)
@@ -143,19 +143,19 @@ module _ {M : Type 1} (𝓤 : URA M) (H : Heap 𝓤) (A : Atoms 𝓤) (W : Given
 
       -- before a turn, and after a line's answer
       abbrev At′ : LoopTurn → List (Item 𝓤)
-      At′ t =
-          ‵ (Read (t .column) (t .value)) ∷ Tok ∷ ‵ Own
-          ∷ Filled (‵ (froom answer k₆ 0)) (‵ (fat fullShare word k₅ 0 (vint w64 (t .count)))) (t .value)
+      At′ turn =
+          ‵ (Read (turn .column) (turn .value)) ∷ Tok ∷ ‵ Own
+          ∷ Filled (‵ (froom answer k₆ 0)) (‵ (fat fullShare word k₅ 0 (vint w64 (turn .count)))) (turn .value)
 
       abbrev Answered : LoopTurn → Reached → List (Item 𝓤)
-      Answered t y =
-          ‵ (S.the-row .own y (val y ∷ [])) ∷ Tok ∷ ‵ (Read (t .column) (t .value)) ∷ ‵ Own
-          ∷ Filled (‵ (fat fullShare answer k₆ 0 (val y))) (‵ (fat fullShare word k₅ 0 (vint w64 (t .count)))) (t .value)
+      Answered turn y =
+          ‵ (S.the-row .own y (val y ∷ [])) ∷ Tok ∷ ‵ (Read (turn .column) (turn .value)) ∷ ‵ Own
+          ∷ Filled (‵ (fat fullShare answer k₆ 0 (val y))) (‵ (fat fullShare word k₅ 0 (vint w64 (turn .count)))) (turn .value)
 
       -- a turn ends nearer to the last line, or the loop is left and the rest of the body runs
       abbrev Turned : LoopTurn → Out → SProp 𝓤
-      Turned t =
-          afterTurn 𝓤 H (Below 𝓤 H A Nearer At′ t)
+      Turned turn =
+          afterTurn 𝓤 H (Below 𝓤 H A Nearer At′ turn)
           (afterBlock 𝓤 H (afterSeq 𝓤 H (Wp 𝓤 H C Λ En rest (atReturn 𝓤 H En Post)) (atReturn 𝓤 H En Post)))
 
       -- the locals are freed

@@ -112,7 +112,7 @@ module _ {M : Type 1} (𝓤 : URA M) where
 
   -- What a line's function asks of a reader, and its contract.
   abbrev pub Low : ℕ → Reader → SProp 𝓤
-  Low most d = fact 𝓤 (d .column ≤ most)
+  Low most reader = fact 𝓤 (reader .column ≤ most)
 
   abbrev pub Line : (List ℕ → ℕ → Verdict) → (List ℕ → ℕ → ℕ) → ℕ → (H : Heap 𝓤) → Atoms 𝓤 → Contract 𝓤
   Line form past most =

@@ -93,7 +93,8 @@ last-tells h = within-tells h
 
 -- What a right byte before others tells: it is a space and the others are right, or it is the first digit and the others are digits.
 abbrev pub WrittenForms : ℕ → ℕ → List ℕ → Type 0
-WrittenForms b c bs = ((b ≡ 32) × (isWritten (c ∷ bs) ≡ true)) ⊎ (((49 ≤ b) × (b ≤ 57)) × (areDigits (c ∷ bs) ≡ true))
+WrittenForms byte byte′ xs =
+    ((byte ≡ 32) × (isWritten (byte′ ∷ xs) ≡ true)) ⊎ (((49 ≤ byte) × (byte ≤ 57)) × (areDigits (byte′ ∷ xs) ≡ true))
 
 pub written-tells : (byte byte′ : ℕ) (xs : List ℕ) → isWritten (byte ∷ byte′ ∷ xs) ≡ true → WrittenForms byte byte′ xs
 written-tells byte byte′ xs h = go (eq-or-ne byte 32)

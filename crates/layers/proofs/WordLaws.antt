@@ -18,8 +18,8 @@ use Rattle.layers.specs.Stripes.{overSlot, underSlot, wordAt}
 
 -- Every number below n passes a test.
 unfoldable all : (ℕ → Bool) → ℕ → Bool
-all p zero = true
-all p (suc n) = p n && all p n
+all φ zero = true
+all φ (suc n) = φ n && all φ n
 
 all-says : (φ : ℕ → Bool) (n : ℕ) → all φ n ≡ true → (i : ℕ) → i < n → φ i ≡ true
 unfolding all

@@ -42,7 +42,7 @@ module _ {A B : Type 0} where
 module _ {A : Type 0} where
   -- Item a has a place in a list.
   unfoldable pub HasPlace : A → A → List A → Type 0
-  HasPlace d a l = (i : ℕ) × (i < length l) × (getD l i d ≡ a)
+  HasPlace x y xs = (i : ℕ) × (i < length xs) × (getD xs i x ≡ y)
 
   pub placed-left : (x y : A) (xs ys : List A) → HasPlace x y xs → HasPlace x y (xs ++ ys)
   unfolding HasPlace

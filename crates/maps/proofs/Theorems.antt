@@ -17,10 +17,10 @@ use Rattle.maps.specs.Map.{startMark, dockMark, startMarks, dockMarks, m
 use Rattle.maps.specs.Claims.{Claims}
 use Rattle.maps.proofs.MapLaws.{markable}
 
--- The sum of g 0 to g (n − 1).
+-- The sum of φ 0 to φ (n − 1).
 unfoldable sumOf : (ℕ → ℕ) → ℕ → ℕ
-sumOf g zero = 0
-sumOf g (suc n) = sumOf g n + g n
+sumOf φ zero = 0
+sumOf φ (suc n) = sumOf φ n + φ n
 
 sum-both : (φ ψ χ : ℕ → ℕ) (n : ℕ) → ((c : ℕ) → χ c ≤ φ c + ψ c) → sumOf χ n ≤ sumOf φ n + sumOf ψ n
 unfolding sumOf
@@ -29,7 +29,7 @@ sum-both φ ψ χ (suc n) l = omega (arith, sum-both φ ψ χ n l, l n)
 
 -- A mark that is there by a test.
 unfoldable marked : Bool → ℕ
-marked b = cond b 1 0
+marked x = cond x 1 0
 
 -- One cell is x.
 one-cell : (x n : ℕ) → (sumOf (λ (c : ℕ). marked (eqb x c)) n ≤ 1) × (n ≤ x → sumOf (λ (c : ℕ). marked (eqb x c)) n ≡ 0)

@@ -18,9 +18,9 @@ use Rattle.orders.specs.Rules.{FirstRound, onward, around, MayTake, Foll
 use Rattle.orders.proofs.PlaceLaws.{places-split}
 use Rattle.orders.proofs.RuleLaws.{open-place}
 
--- Going round k places from place c, place q is reached after d others.
+-- Going round k places from place c, place p is reached after d others.
 unfoldable Way : ℕ → ℕ → ℕ → ℕ → Type 0
-Way k c q d = (c + d ≡ q) ⊎ ((q < c) × (c + d ≡ k + q))
+Way k c p d = (c + d ≡ p) ⊎ ((p < c) × (c + d ≡ k + p))
 
 way-start : (k kept p : ℕ) → kept ≤ k → p < k → (d : ℕ) × (d < k) × Way k kept p d
 unfolding Way

@@ -132,7 +132,7 @@ module _ (g : SearchGrid) (sets : List ℕ) (t c : ℕ) (p : Place) (grid : Grid
 
   -- Where the walk goes from here, test for test.
   abbrev Goes : Place → ℕ → Type 0
-  Goes r e = PlaceOf g e r
+  Goes p c = PlaceOf g c p
 
   module _ {x : Bool} (up : x ≡ (ltb 0 (p .row) && has sets (wordOf t (p .row - 1)) (p .column))) where
     pub goes-up : x ≡ true → PlaceOf g (nextOf g sets t c) (record { row = p .row - 1; column = p .column })

@@ -97,13 +97,13 @@ module _ (M : Machine) (s : State) where
 
 -- A plan of answer a, which is news or not.
 abbrev planWith : Bool → State → ℕ → Answer → State
-planWith news s i a =
+planWith news s i x =
     record {
       planned = update (s .planned) i true;
       due = update (s .due) i false;
-      answer = update (s .answer) i a;
+      answer = update (s .answer) i x;
       view = s .view;
-      chan = sentIf news (s .chan) i a;
+      chan = sentIf news (s .chan) i x;
       taken = s .taken;
     }
 

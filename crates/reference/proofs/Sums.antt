@@ -5,10 +5,10 @@ use native.Mathlib.Nat.{eq-or-lt-of-le}
 use mathlib.Core.Logic.{⊎-elim}
 use mathlib.Core.Path.{_≡_, refl}
 
--- The sum of f at 0 to k − 1.
+-- The sum of φ at 0 to k − 1.
 unfoldable pub sumTo : ℕ → (ℕ → ℕ) → ℕ
-sumTo zero f = 0
-sumTo (suc k) f = sumTo k f + f k
+sumTo zero φ = 0
+sumTo (suc k) φ = sumTo k φ + φ k
 
 pub sum-same : (k : ℕ) (φ ψ : ℕ → ℕ) → ((i : ℕ) → i < k → φ i ≡ ψ i) → sumTo k φ ≡ sumTo k ψ
 unfolding sumTo

@@ -70,7 +70,7 @@ module _ {A : Type 0} where
 
 -- A plan's messages: sent where the answer is news.
 abbrev pub sentIf : Bool → (ℕ → ℕ → List Answer) → ℕ → Answer → ℕ → ℕ → List Answer
-sentIf news c i a = elim news [ true ↦ send c i a | false ↦ c ]
+sentIf news channels i x = elim news [ true ↦ send channels i x | false ↦ channels ]
 
 -- Messages leave the channels of other senders alone, and go on every channel whatever stands on the others.
 send-other : (channels : ℕ → ℕ → List Answer) (i : ℕ) (y : Answer) (x j : ℕ) → eqb j i ≡ false → send channels i y x j ≡ channels x j

@@ -14,14 +14,14 @@ use Rattle.laws.proofs.Tests.{lt-or-le}
 
 -- The task with other free cells.
 abbrev pub withFree : Task → (ℕ → Bool) → Task
-withFree task f =
+withFree task φ =
     record {
       width = task .width;
       cells = task .cells;
       horizon = task .horizon;
       start = task .start;
       dock = task .dock;
-      free = f;
+      free = φ;
     }
 
 -- `best` over a test of the start and a rule.

@@ -49,7 +49,7 @@ module _ (H : ℕ) (r r′ : List ℕ) where
 
   -- A test of the moves that both make after beat t.
   abbrev moving : (ℕ → ℕ → ℕ → ℕ → Bool) → ℕ → Bool
-  moving p t = p (getD r t 0) (getD r (t + 1) 0) (getD r′ t 0) (getD r′ (t + 1) 0)
+  moving φ t = φ (getD r t 0) (getD r (t + 1) 0) (getD r′ t 0) (getD r′ (t + 1) 0)
 
   no-move : (φ : ℕ → ℕ → ℕ → ℕ → Bool) (t : ℕ) → moving φ t ≡ false →
       (ltb t H && φ (cellAt r t) (cellAt r (suc t)) (cellAt r′ t) (cellAt r′ (suc t))) ≡ false

@@ -58,9 +58,9 @@ module _ (task : Task) where
   best-unique vs (route r) none hx hy = absurd (hy r (hx .admissible))
   best-unique vs (route r) (route q) hx hy = ap route (route-unique vs r q hx hy)
 
-  -- What is clear of vs is clear of ws.
+  -- What is clear of vs is clear of vs′.
   abbrev Covers : List View → List View → Type 0
-  Covers vs ws = (r : List ℕ) → ClearOf (task .horizon) r vs → ClearOf (task .horizon) r ws
+  Covers vs vs′ = (r : List ℕ) → ClearOf (task .horizon) r vs → ClearOf (task .horizon) r vs′
 
   carry : (vs vs′ : List View) → Covers vs vs′ → (q : List ℕ) → Admissible task vs q → Admissible task vs′ q
   carry vs vs′ c q adm = record { is-route = adm .is-route; clear = c q (adm .clear) }

@@ -21,7 +21,7 @@ Inside cells ok = (t c d : ℕ) → ok t c d ≡ true → d < cells
 
 -- Both are at the same cells through beat k.
 abbrev pub Same : ℕ → (ℕ → ℕ) → (ℕ → ℕ) → Type 0
-Same k p q = (i : ℕ) → i ≤ k → p i ≡ q i
+Same k r q = (i : ℕ) → i ≤ k → r i ≡ q i
 
 -- r has the smaller cell at the first beat where r and q differ, which is at most k.
 pub record Ahead (k : ℕ) (r q : ℕ → ℕ) : Type 0 where
@@ -32,7 +32,7 @@ pub record Ahead (k : ℕ) (r q : ℕ → ℕ) : Type 0 where
 
 -- The way without its first beat.
 abbrev pub rest : (ℕ → ℕ) → ℕ → ℕ
-rest p i = p (suc i)
+rest r i = r (suc i)
 
 module _ {dock : ℕ → Bool} {k : ℕ} {r : ℕ → ℕ} {ok : Rule} where
   pub way-rest : Way dock (suc k) ok r → Way dock k (later ok) (rest r)
