@@ -90,11 +90,11 @@ module _ (f : Floor) (ws : List ℕ) (more : 1 < f .carriers) where
 
 module _ (f : Floor) (ws : List ℕ) (ok : checkOf f ws ≡ passed) (more : 1 < f .carriers) where
   -- A sheet in the front of enough memory.
-  front-written : (f : Floor) → checkOf f ws ≡ passed → (old : List ℕ) → sheetLength f ≤ length old →
-      take (sheetLength f) (writeSheet f ws old) ≡ sheetOf f ws
-  front-written f passes old l =
-      ap (take (sheetLength f)) (written f ws old passes l)
-      ∙ take-at (sheetOf f ws) (drop (sheetLength f) old) (sheetLength f) (sheet-theorems .sheet-length f ws)
+  front-written : (f′ : Floor) → checkOf f′ ws ≡ passed → (old : List ℕ) → sheetLength f′ ≤ length old →
+      take (sheetLength f′) (writeSheet f′ ws old) ≡ sheetOf f′ ws
+  front-written f′ passes old l =
+      ap (take (sheetLength f′)) (written f′ ws old passes l)
+      ∙ take-at (sheetOf f′ ws) (drop (sheetLength f′) old) (sheetLength f′) (sheet-theorems .sheet-length f′ ws)
 
   shorter-length : sheetLength (dropLast f) ≤ sheetLength f
   unfolding sheetLength wallAt dropLast

@@ -53,15 +53,15 @@ module _ (text : List ℕ) (at : ℕ) {form : Reached} {x y : ℕ} (field : form
   good : fieldForm text at ≡ passed
   good = reaches (fieldForm text at) (at + 5) field told .0
 
-  refused-count : within 1 4 (numberAt text at) ≡ false → {x : Reached} → x ≡ reachedOf (refused 1 at) 0
-      → x ≡ reachedOf (countForm text at) (at + 5)
+  refused-count : within 1 4 (numberAt text at) ≡ false → {z : Reached} → z ≡ reachedOf (refused 1 at) 0
+      → z ≡ reachedOf (countForm text at) (at + 5)
   unfolding countForm reachedOf
   refused-count t e = rw (then-passed {y = demand (within 1 4 (numberAt text at)) 1 at} good, demand-refuses 1 at t) e
 
-  pub count-below : {x : Reached} → y < 1 → x ≡ reachedOf (refused 1 at) 0 → x ≡ reachedOf (countForm text at) (at + 5)
+  pub count-below : {z : Reached} → y < 1 → z ≡ reachedOf (refused 1 at) 0 → z ≡ reachedOf (countForm text at) (at + 5)
   count-below l e = refused-count (within-below 1 4 (numberAt text at) (omega (arith, l, number))) e
 
-  pub count-above : {x : Reached} → 1 ≤ y → 4 < y → x ≡ reachedOf (refused 1 at) 0 → x ≡ reachedOf (countForm text at) (at + 5)
+  pub count-above : {z : Reached} → 1 ≤ y → 4 < y → z ≡ reachedOf (refused 1 at) 0 → z ≡ reachedOf (countForm text at) (at + 5)
   count-above g l e = refused-count (within-above 1 4 (numberAt text at) (omega (arith, l, number))) e
 
   pub count-good : 1 ≤ y → y ≤ 4 → form ≡ reachedOf (countForm text at) (at + 5)

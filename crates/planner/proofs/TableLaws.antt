@@ -29,6 +29,6 @@ module _ (f : Floor) (free xs : List ℕ) (i k : ℕ) (ys : List ℕ) (able : Se
       free-table-same (searchGridOf f) free m q xs i (able .width .1) (grid-low (f .width) (f .height) (able .height)) (able .horizon) same old
 
   -- The free table with one more answer behind them.
-  pub table-stored : (m q ys : List ℕ) → 65 * i ≤ length m → q ≡ put m (65 * i) ys → IsFreeTable (searchGridOf f) i free m xs →
+  pub table-stored : (m q zs : List ℕ) → 65 * i ≤ length m → q ≡ put m (65 * i) zs → IsFreeTable (searchGridOf f) i free m xs →
       IsFreeTable (searchGridOf f) i free q xs
-  table-stored m q ys l e old = rw e (table-same m (put m (65 * i) ys) (λ j h. sym (put-before m ys (65 * i) j l h)) old)
+  table-stored m q zs l e old = rw e (table-same m (put m (65 * i) zs) (λ j h. sym (put-before m zs (65 * i) j l h)) old)
