@@ -38,14 +38,14 @@ part-eight xs at l =
     ) refl
 
 -- Four blocks of 6, 8, 8 and 32 numbers, one behind the other.
-pub four-blocks : (m m₁ m₂ m₃ m₄ xs ys zs xs′ : List ℕ) → m₁ ≡ put m 0 xs → m₂ ≡ put m₁ 6 ys → m₃ ≡ put m₂ 14 zs → m₄ ≡ put m₃ 22 xs′
-    → length xs ≡ 6 → length ys ≡ 8 → length zs ≡ 8 → length xs′ ≡ 32 → 54 ≤ length m → m₄ ≡ put m 0 (xs ++ (ys ++ (zs ++ xs′)))
-four-blocks m m₁ m₂ m₃ m₄ xs ys zs xs′ e f g h la lb lc ld l =
-    let two : m₂ ≡ put m 0 (xs ++ ys) = put-next m m₁ m₂ xs ys 0 6 e f (omega arith) (omega arith) in
-    let size : length (xs ++ ys) ≡ 14 = length-append xs ys ∙ omega arith in
-    let three : m₃ ≡ put m 0 ((xs ++ ys) ++ zs) = put-next m m₂ m₃ (xs ++ ys) zs 0 14 two g (omega arith) (omega arith) in
-    let long : length ((xs ++ ys) ++ zs) ≡ 22 = length-append (xs ++ ys) zs ∙ omega arith in
-    put-next m m₃ m₄ ((xs ++ ys) ++ zs) xs′ 0 22 three h (omega arith) (omega arith) ∙ ap (put m 0) (simp append-assoc)
+pub four-blocks : (m m₁ m₂ m₃ m₄ xs₁ xs₂ xs₃ xs₄ : List ℕ) → m₁ ≡ put m 0 xs₁ → m₂ ≡ put m₁ 6 xs₂ → m₃ ≡ put m₂ 14 xs₃ → m₄ ≡ put m₃ 22 xs₄
+    → length xs₁ ≡ 6 → length xs₂ ≡ 8 → length xs₃ ≡ 8 → length xs₄ ≡ 32 → 54 ≤ length m → m₄ ≡ put m 0 (xs₁ ++ (xs₂ ++ (xs₃ ++ xs₄)))
+four-blocks m m₁ m₂ m₃ m₄ xs₁ xs₂ xs₃ xs₄ e f g h la lb lc ld l =
+    let two : m₂ ≡ put m 0 (xs₁ ++ xs₂) = put-next m m₁ m₂ xs₁ xs₂ 0 6 e f (omega arith) (omega arith) in
+    let size : length (xs₁ ++ xs₂) ≡ 14 = length-append xs₁ xs₂ ∙ omega arith in
+    let three : m₃ ≡ put m 0 ((xs₁ ++ xs₂) ++ xs₃) = put-next m m₂ m₃ (xs₁ ++ xs₂) xs₃ 0 14 two g (omega arith) (omega arith) in
+    let long : length ((xs₁ ++ xs₂) ++ xs₃) ≡ 22 = length-append (xs₁ ++ xs₂) xs₃ ∙ omega arith in
+    put-next m m₃ m₄ ((xs₁ ++ xs₂) ++ xs₃) xs₄ 0 22 three h (omega arith) (omega arith) ∙ ap (put m 0) (simp append-assoc)
 
 -- A loop that copies numbers into an array of thirty-two: before the first, one more, and after the last.
 pub record NumbersCopied (xs : List ℕ) (at k : ℕ) (r : List ℕ) : Type 0 where

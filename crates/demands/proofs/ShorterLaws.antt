@@ -103,19 +103,19 @@ lines-last line zero l = absurd (omega arith)
 lines-last line (suc k) l = let e : suc k - 1 ≡ k = omega arith in rw e
 
 -- A text of four parts behind each other, with another field in its front part, and without its last but one.
-pub field-changed : (xs old new ys zs xs′ ys′ : List ℕ) (k n : ℕ) → length xs ≡ 20 → length old ≡ 5 → length (ys ++ zs) ≡ k → 25 + k + length xs′ ≡ n →
-    (take 20 ((xs ++ (old ++ ys)) ++ ((zs ++ xs′) ++ ys′))
-    ++ (new ++ (take k (drop 25 ((xs ++ (old ++ ys)) ++ ((zs ++ xs′) ++ ys′))) ++ drop n ((xs ++ (old ++ ys)) ++ ((zs ++ xs′) ++ ys′)))))
-    ≡ (xs ++ (new ++ ys)) ++ (zs ++ ys′)
-field-changed xs old new ys zs xs′ ys′ k n ea eo em en =
-    let text = (xs ++ (old ++ ys)) ++ ((zs ++ xs′) ++ ys′) in
-    let front : text ≡ xs ++ (old ++ ((ys ++ zs) ++ (xs′ ++ ys′))) = simp append-assoc in
-    let middle : text ≡ (xs ++ old) ++ ((ys ++ zs) ++ (xs′ ++ ys′)) = simp append-assoc in
-    let back : text ≡ ((xs ++ old) ++ ((ys ++ zs) ++ xs′)) ++ ys′ = simp append-assoc in
-    let size : length (xs ++ old) ≡ 25 = length-append xs old ∙ omega arith in
-    let long : length ((xs ++ old) ++ ((ys ++ zs) ++ xs′)) ≡ n =
-    length-append (xs ++ old) ((ys ++ zs) ++ xs′) ∙ omega (arith, length-append (ys ++ zs) xs′) in
-    let one : take 20 text ≡ xs = ap (take 20) front ∙ take-at xs _ 20 ea in
-    let two : take k (drop 25 text) ≡ ys ++ zs = ap (take k) (ap (drop 25) middle ∙ drop-at (xs ++ old) _ 25 size) ∙ take-at (ys ++ zs) _ k em in
-    let three : drop n text ≡ ys′ = ap (drop n) back ∙ drop-at ((xs ++ old) ++ ((ys ++ zs) ++ xs′)) ys′ n long in
+pub field-changed : (xs₁ old new xs₂ xs₃ xs₄ xs₅ : List ℕ) (k n : ℕ) → length xs₁ ≡ 20 → length old ≡ 5 → length (xs₂ ++ xs₃) ≡ k → 25 + k + length xs₄ ≡ n →
+    (take 20 ((xs₁ ++ (old ++ xs₂)) ++ ((xs₃ ++ xs₄) ++ xs₅))
+    ++ (new ++ (take k (drop 25 ((xs₁ ++ (old ++ xs₂)) ++ ((xs₃ ++ xs₄) ++ xs₅))) ++ drop n ((xs₁ ++ (old ++ xs₂)) ++ ((xs₃ ++ xs₄) ++ xs₅)))))
+    ≡ (xs₁ ++ (new ++ xs₂)) ++ (xs₃ ++ xs₅)
+field-changed xs₁ old new xs₂ xs₃ xs₄ xs₅ k n ea eo em en =
+    let text = (xs₁ ++ (old ++ xs₂)) ++ ((xs₃ ++ xs₄) ++ xs₅) in
+    let front : text ≡ xs₁ ++ (old ++ ((xs₂ ++ xs₃) ++ (xs₄ ++ xs₅))) = simp append-assoc in
+    let middle : text ≡ (xs₁ ++ old) ++ ((xs₂ ++ xs₃) ++ (xs₄ ++ xs₅)) = simp append-assoc in
+    let back : text ≡ ((xs₁ ++ old) ++ ((xs₂ ++ xs₃) ++ xs₄)) ++ xs₅ = simp append-assoc in
+    let size : length (xs₁ ++ old) ≡ 25 = length-append xs₁ old ∙ omega arith in
+    let long : length ((xs₁ ++ old) ++ ((xs₂ ++ xs₃) ++ xs₄)) ≡ n =
+    length-append (xs₁ ++ old) ((xs₂ ++ xs₃) ++ xs₄) ∙ omega (arith, length-append (xs₂ ++ xs₃) xs₄) in
+    let one : take 20 text ≡ xs₁ = ap (take 20) front ∙ take-at xs₁ _ 20 ea in
+    let two : take k (drop 25 text) ≡ xs₂ ++ xs₃ = ap (take k) (ap (drop 25) middle ∙ drop-at (xs₁ ++ old) _ 25 size) ∙ take-at (xs₂ ++ xs₃) _ k em in
+    let three : drop n text ≡ xs₅ = ap (drop n) back ∙ drop-at ((xs₁ ++ old) ++ ((xs₂ ++ xs₃) ++ xs₄)) xs₅ n long in
     rw (one, two, three) (simp append-assoc)

@@ -16,8 +16,8 @@ use Rattle.encoding.proofs.WindowLaws.{Window, StandsAt, window-whole, 
 use Rattle.encoding.proofs.WindowLaws.{window-part, window-number, window-put}
 use Rattle.records.proofs.SlotLaws.{resized-length, resized-whole, slot-length}
 
--- A record that stands at place p moved to place n.
-pub moved-is : {p n : ℕ} {m m′ xs ys : List ℕ} → StandsAt p m xs → Window n m m′ ys xs → length xs ≡ 65 → length ys ≡ 65 → moved m p n ≡ m′
+-- A record that stands at place p moved to place p′.
+pub moved-is : {p p′ : ℕ} {m m′ xs ys : List ℕ} → StandsAt p m xs → Window p′ m m′ ys xs → length xs ≡ 65 → length ys ≡ 65 → moved m p p′ ≡ m′
 unfolding moved
 moved-is w v x y = rw (window-part 65 x w) (window-put (y ∙ sym x) v)
 

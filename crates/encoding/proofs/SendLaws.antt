@@ -74,45 +74,45 @@ channels-same n s channels channels′ e =
     (λ (xs : List ℕ). countBlock (s .taken) ++ (blocks n (carrierBlock s) ++ (pairs n (λ i j. slot (s .view i j)) ++ xs)))
     same
 
-module _ (n : ℕ) (s : State) (rest : List ℕ) (i : ℕ) (x′ : Answer) (whole : length (recordOf x′) ≡ 65)
+module _ (n : ℕ) (s : State) (rest : List ℕ) (i : ℕ) (said : Answer) (whole : length (recordOf said) ≡ 65)
     (capacity : (k : ℕ) → i < k → k < n → length (s .chan k i) < 4) where
   -- The memory once the answer is sent to the first k carriers.
   abbrev sentAt : ℕ → List ℕ
-  sentAt k = encode n (withChans s (sentBelow (s .chan) i x′ k)) ++ rest
+  sentAt k = encode n (withChans s (sentBelow (s .chan) i said k)) ++ rest
 
   -- One more carrier: its channel gets the answer if it is below i.
-  pushed-same : (k : ℕ) → k < n → pushedBelow n i (recordOf x′) (sentAt k) k ≡ sentAt (suc k)
+  pushed-same : (k : ℕ) → k < n → pushedBelow n i (recordOf said) (sentAt k) k ≡ sentAt (suc k)
   unfolding pushedBelow withChans
   pushed-same k l =
       ⊎-elim
       (λ (h : i < k).
-      let z = withChans s (sentBelow (s .chan) i x′ k) in
-      let old : sentBelow (s .chan) i x′ k k i ≡ s .chan k i = before-it (s .chan) i x′ k k i (omega arith) in
-      let new : sentBelow (s .chan) i x′ (suc k) k i ≡ s .chan k i ++ (x′ ∷ []) =
-      after-it (s .chan) i x′ (suc k) k i (omega arith) ∙ send-more (s .chan) i x′ k h
+      let z = withChans s (sentBelow (s .chan) i said k) in
+      let old : sentBelow (s .chan) i said k k i ≡ s .chan k i = before-it (s .chan) i said k k i (omega arith) in
+      let new : sentBelow (s .chan) i said (suc k) k i ≡ s .chan k i ++ (said ∷ []) =
+      after-it (s .chan) i said (suc k) k i (omega arith) ∙ send-more (s .chan) i said k h
       in
       rw (lt-ltb i k h)
-      (pushed-is (s .chan k i) x′ (capacity k h l) whole
+      (pushed-is (s .chan k i) said (capacity k h l) whole
       (rw (old, new) at
-      (channel-window n z rest (sentBelow (s .chan) i x′ (suc k)) k i h l
-      (λ r j u v w. next-same (s .chan) i x′ k r j (λ x y q. w x y))))))
+      (channel-window n z rest (sentBelow (s .chan) i said (suc k)) k i h l
+      (λ r j u v w. next-same (s .chan) i said k r j (λ x y q. w x y))))))
       (λ (h : k ≤ i).
       rw (le-ltb i k h)
       (ap (λ (xs : List ℕ). xs ++ rest)
-      (channels-same n s (sentBelow (s .chan) i x′ k) (sentBelow (s .chan) i x′ (suc k))
-      (λ r j u v. next-same (s .chan) i x′ k r j (λ x y q. omega arith)))))
+      (channels-same n s (sentBelow (s .chan) i said k) (sentBelow (s .chan) i said (suc k))
+      (λ r j u v. next-same (s .chan) i said k r j (λ x y q. omega arith)))))
       (lt-or-le i k)
 
-  sent-first : (k : ℕ) → k ≤ n → sentTo n i (recordOf x′) (encode n s ++ rest) k ≡ sentAt k
+  sent-first : (k : ℕ) → k ≤ n → sentTo n i (recordOf said) (encode n s ++ rest) k ≡ sentAt k
   unfolding sentTo withChans
   sent-first zero l =
       ap (λ (xs : List ℕ). xs ++ rest)
-      (channels-same n s (s .chan) (sentBelow (s .chan) i x′ 0) (λ r j u v. sym (before-it (s .chan) i x′ 0 r j (omega arith))))
+      (channels-same n s (s .chan) (sentBelow (s .chan) i said 0) (λ r j u v. sym (before-it (s .chan) i said 0 r j (omega arith))))
   sent-first (suc k) l = rw (sent-first k (omega arith)) (pushed-same k (omega arith))
 
   -- The answer sent to all carriers below.
-  pub sent-same : sentTo n i (recordOf x′) (encode n s ++ rest) n ≡ encode n (withChans s (send (s .chan) i x′)) ++ rest
+  pub sent-same : sentTo n i (recordOf said) (encode n s ++ rest) n ≡ encode n (withChans s (send (s .chan) i said)) ++ rest
   sent-same =
       sent-first n (omega arith)
       ∙ ap (λ (xs : List ℕ). xs ++ rest)
-      (channels-same n s (sentBelow (s .chan) i x′ n) (send (s .chan) i x′) (λ r j u v. after-it (s .chan) i x′ n r j v))
+      (channels-same n s (sentBelow (s .chan) i said n) (send (s .chan) i said) (λ r j u v. after-it (s .chan) i said n r j v))

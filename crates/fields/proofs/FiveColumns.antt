@@ -16,9 +16,9 @@ use Rattle.fields.specs.Field.{column, number, numberAt, isField, isWrit
 use Rattle.fields.proofs.WrittenLaws.{and-so, digit-so, none-so, digit-tells, space-so, first-so, last-so, last-tells}
 use Rattle.fields.proofs.WrittenLaws.{WrittenForms, written-tells}
 
--- The digit that counts p's in y = (10 p′ + x) p + n.
-digit-of : (p y p′ x n : ℕ) → y ≡ (p′ * 10 + x) * p + n → n < p → x < 10 → y / p % 10 ≡ x
-digit-of p y p′ x n e l t = rw (e, digits-div (p′ * 10 + x) l) (digits-mod p′ t)
+-- The digit that counts p's in y = (10 i + x) p + n.
+digit-of : (p y i x n : ℕ) → y ≡ (i * 10 + x) * p + n → n < p → x < 10 → y / p % 10 ≡ x
+digit-of p y i x n e l t = rw (e, digits-div (i * 10 + x) l) (digits-mod i t)
 
 -- The column of it: a space where x is below p.
 space-is : {p x : ℕ} → x < p → column p x ≡ 32
@@ -29,13 +29,13 @@ digit-is : {p x : ℕ} → p ≤ x → column p x ≡ 48 + x / p % 10
 unfolding column
 digit-is {p} {x} k = rw (le-ltb x p k)
 
-column-right : (p y p′ x n′ byte : ℕ) → y ≡ (p′ * 10 + x) * p + n′ → n′ < p → x < 10 → (y < p → byte ≡ 32) → (p ≤ y → byte ≡ 48 + x)
+column-right : (p y i x j byte : ℕ) → y ≡ (i * 10 + x) * p + j → j < p → x < 10 → (y < p → byte ≡ 32) → (p ≤ y → byte ≡ 48 + x)
     → eqb byte (column p y) ≡ true
-column-right p y p′ x n′ byte e l t low high = eq-eqb byte (column p y) (go (lt-or-le y p))
+column-right p y i x j byte e l t low high = eq-eqb byte (column p y) (go (lt-or-le y p))
   where
     go : (y < p) ⊎ (p ≤ y) → byte ≡ column p y
     go (inl k) = low k ∙ sym (space-is k)
-    go (inr k) = high k ∙ sym (digit-is k ∙ ap (λ (n : ℕ). 48 + n) (digit-of p y p′ x n′ e l t))
+    go (inr k) = high k ∙ sym (digit-is k ∙ ap (λ (n : ℕ). 48 + n) (digit-of p y i x j e l t))
 
 column-space : {p x byte : ℕ} → x < p → byte ≡ column p x → byte ≡ 32
 column-space k e = e ∙ space-is k

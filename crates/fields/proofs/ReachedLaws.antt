@@ -50,14 +50,14 @@ unfolding reachedOf
 refuses-so k p column′ column h e = rw (← e) h
 
 -- After a check that reached its column the rest is asked: what it answers, the whole answers.
-pub goes-on : {y z : Reached} {x : ℕ} (x′ y′ : Verdict) (column column′ : ℕ) → y ≡ reachedOf x′ column → y ≡ At x → z ≡ reachedOf y′ column′
-    → z ≡ reachedOf (x′ then y′) column′
-goes-on x′ y′ column column′ h e t = rw (then-passed (reaches x′ column h e .0)) t
+pub goes-on : {y z : Reached} {n : ℕ} (x x′ : Verdict) (column column′ : ℕ) → y ≡ reachedOf x column → y ≡ At n → z ≡ reachedOf x′ column′
+    → z ≡ reachedOf (x then x′) column′
+goes-on x x′ column column′ h e t = rw (then-passed (reaches x column h e .0)) t
 
 -- A refusal is the answer of the whole, whatever follows.
-pub stops-at : {y : Reached} {x : Refusal} (z x′ : Verdict) (column column′ : ℕ) → y ≡ reachedOf z column → y ≡ Refused x → y ≡ reachedOf (z then x′) column′
+pub stops-at : {y : Reached} {cause : Refusal} (z x : Verdict) (column column′ : ℕ) → y ≡ reachedOf z column → y ≡ Refused cause → y ≡ reachedOf (z then x) column′
 unfolding _then_ reachedOf
-stops-at z x′ column column′ h e =
+stops-at z x column column′ h e =
     let r = line-refused z column h e in
     rw r (rw r at h)
 

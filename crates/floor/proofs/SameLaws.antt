@@ -15,14 +15,14 @@ use Rattle.floor.specs.Accepted.{Lent, SameFloor, SameDocks}
 use Rattle.laws.proofs.HoldLaws.{each-same}
 
 -- Tests that agree at each item make the same check.
-pub demands-same : (k : ℕ) {p p′ : ℕ} (ok ok′ : ℕ → Bool) {j n : ℕ} → p ≡ p′ → j ≡ n → All (λ (i : ℕ). ok i ≡ ok′ i) j
-    → demandEach k p ok j ≡ demandEach k p′ ok′ n
+pub demands-same : (k : ℕ) {p p′ : ℕ} (ok ok′ : ℕ → Bool) {n n′ : ℕ} → p ≡ p′ → n ≡ n′ → All (λ (i : ℕ). ok i ≡ ok′ i) n
+    → demandEach k p ok n ≡ demandEach k p′ ok′ n′
 unfolding demandEach inTurn
-demands-same k {p} ok ok′ {j} e s a = rw (← e, ← s) (go j a)
+demands-same k {p} ok ok′ {n} e s a = rw (← e, ← s) (go n a)
   where
-    go : (j : ℕ) → All (λ (i : ℕ). ok i ≡ ok′ i) j → demandEach k p ok j ≡ demandEach k p ok′ j
+    go : (n : ℕ) → All (λ (i : ℕ). ok i ≡ ok′ i) n → demandEach k p ok n ≡ demandEach k p ok′ n
     go zero a = refl
-    go (suc j) a = rw (go j (λ i l. a i (omega arith)), a j (omega arith))
+    go (suc n) a = rw (go n (λ i l. a i (omega arith)), a n (omega arith))
 
 -- A number is looked for among the same numbers.
 pub among-same : (xs ys : List ℕ) (k c : ℕ) → All (λ (i : ℕ). getD xs i 0 ≡ getD ys i 0) k → among xs k c ≡ among ys k c

@@ -46,16 +46,16 @@ module _ (opens : Step → Bool) (onward : Step → List Run) where
         go false e h = rw (begin-shut x xs e) (shut x xs (beginning opens onward xs) e h)
 
 -- Tests that agree, and runs that agree behind each open step, make the same list.
-pub begin-same : (φ ψ : Step → Bool) (χ φ′ : Step → List Run) → ((x : Step) → φ x ≡ ψ x) → ((x : Step) → ψ x ≡ true → χ x ≡ φ′ x) →
-    (xs : List Step) → beginning φ χ xs ≡ beginning ψ φ′ xs
+pub begin-same : (φ ψ : Step → Bool) (χ χ′ : Step → List Run) → ((x : Step) → φ x ≡ ψ x) → ((x : Step) → ψ x ≡ true → χ x ≡ χ′ x) →
+    (xs : List Step) → beginning φ χ xs ≡ beginning ψ χ′ xs
 unfolding beginning
-begin-same φ ψ χ φ′ same goes [] = refl
-begin-same φ ψ χ φ′ same goes (x ∷ xs) = go (ψ x) refl (begin-same φ ψ χ φ′ same goes xs)
+begin-same φ ψ χ χ′ same goes [] = refl
+begin-same φ ψ χ χ′ same goes (x ∷ xs) = go (ψ x) refl (begin-same φ ψ χ χ′ same goes xs)
   where
-    go : (y : Bool) → ψ x ≡ y → beginning φ χ xs ≡ beginning ψ φ′ xs → beginning φ χ (x ∷ xs) ≡ beginning ψ φ′ (x ∷ xs)
+    go : (y : Bool) → ψ x ≡ y → beginning φ χ xs ≡ beginning ψ χ′ xs → beginning φ χ (x ∷ xs) ≡ beginning ψ χ′ (x ∷ xs)
     go true e rest =
-        begin-open φ χ x xs (same x ∙ e) ∙ ap₂ _++_ (ap (eachBehind x) (goes x e)) rest ∙ sym (begin-open ψ φ′ x xs e)
-    go false e rest = begin-shut φ χ x xs (same x ∙ e) ∙ rest ∙ sym (begin-shut ψ φ′ x xs e)
+        begin-open φ χ x xs (same x ∙ e) ∙ ap₂ _++_ (ap (eachBehind x) (goes x e)) rest ∙ sym (begin-open ψ χ′ x xs e)
+    go false e rest = begin-shut φ χ x xs (same x ∙ e) ∙ rest ∙ sym (begin-shut ψ χ′ x xs e)
 
 module _ (M : Machine) where
   pub runs-silent : (left : ℕ) (s : State) → isSilent M s ≡ true → runsFrom M left s ≡ [] ∷ []

@@ -68,11 +68,11 @@ module _ (g : SearchGrid) (sets : List ℕ) (t c : ℕ) (p : Place) (grid : Grid
   up-row h = ⊎-elim (λ (l : c < w). absurd (omega (arith, at .row, div-eq-of-lt l))) (λ (l : w ≤ c). l) (lt-or-le c w)
 
   -- A digit of a tidy table is a cell.
-  digit-set : (p row column : ℕ) → (p / g .width ≡ row) × (p % g .width ≡ column) → row < 32 →
-      has sets (wordOf t row) column ≡ inSet g sets t p
-  digit-set p row column (h, l) low =
+  digit-set : (d row column : ℕ) → (d / g .width ≡ row) × (d % g .width ≡ column) → row < 32 →
+      has sets (wordOf t row) column ≡ inSet g sets t d
+  digit-set d row column (h, l) low =
       rw (← h, ← l)
-      (same-test _ _ (λ q. set-holds g sets t p (rw (div-add-mod' p w) at (tidy .rows t (p / w) (p % w) (rw h low) q)) q) (set-has g sets t p))
+      (same-test _ _ (λ q. set-holds g sets t d (rw (div-add-mod' d w) at (tidy .rows t (d / w) (d % w) (rw h low) q)) q) (set-has g sets t d))
 
   -- The digits above, left, here, right and below.
   pub up-is : (x : Bool) → x ≡ (ltb 0 (p .row) && has sets (wordOf t (p .row - 1)) (p .column)) →
@@ -125,9 +125,9 @@ module _ (g : SearchGrid) (sets : List ℕ) (t c : ℕ) (p : Place) (grid : Grid
           ))))
 
   -- A place in a row and a column of the grid.
-  place : (p row column : ℕ) → (p / w ≡ row) × (p % w ≡ column) → row < 32 → PlaceOf g p (record { row = row; column = column })
-  place p row column (h, l) low =
-      let thin : column < w = omega (arith, l, mod-lt p (grid .thin)) in
+  place : (d row column : ℕ) → (d / w ≡ row) × (d % w ≡ column) → row < 32 → PlaceOf g d (record { row = row; column = column })
+  place d row column (h, l) low =
+      let thin : column < w = omega (arith, l, mod-lt d (grid .thin)) in
       record { row = sym h; column = sym l; low = low; thin = thin; narrow = omega (arith, thin, grid .narrow) }
 
   -- Where the walk goes from here, test for test.

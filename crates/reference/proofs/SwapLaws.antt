@@ -90,8 +90,8 @@ send-swap channels i k y z n = fun-ext (λ x. fun-ext (λ l. go x l (eqb l i) (e
     go x j true false p q = send-other (send channels i y) k z x j q ∙ send-same channels (send channels k z) i y x j (sym (send-other channels k z x j q))
     go x j false y′ p q = send-same (send channels i y) channels k z x j (send-other channels i y x j p) ∙ sym (send-other (send channels k z) i y x j p)
 
-pub sent-swap : (channels : ℕ → ℕ → List Answer) (i k : ℕ) (x y : Answer) (z x′ : Bool) → (i ≡ k → ⊥)
-    → sentIf x′ (sentIf z channels i x) k y ≡ sentIf z (sentIf x′ channels k y) i x
+pub sent-swap : (channels : ℕ → ℕ → List Answer) (i k : ℕ) (x y : Answer) (z z′ : Bool) → (i ≡ k → ⊥)
+    → sentIf z′ (sentIf z channels i x) k y ≡ sentIf z (sentIf z′ channels k y) i x
 sent-swap channels i k x y true true n = send-swap channels i k x y n
 sent-swap channels i k x y true false n = refl
 sent-swap channels i k x y false true n = refl

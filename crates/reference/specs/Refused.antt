@@ -12,11 +12,11 @@ use Rattle.reference.specs.Table.{Asked, step, noStep, isNamed, Call, si
 
 -- p is the first place of the list, from 0, which names no kind of step, no carrier, or a sender not above the receiver.
 abbrev pub FirstUnnamed : Machine → List Asked → ℕ → Type 0
-FirstUnnamed M xs p = First (λ q. isNamed M (getD xs q noStep) ≡ true) (length xs) p
+FirstUnnamed M xs p = First (λ i. isNamed M (getD xs i noStep) ≡ true) (length xs) p
 
 -- k is the smallest carrier, from 0, whose channel from i is full: it is below i, and the channel has no fewer than depth messages.
 abbrev pub FirstFull : Machine → State → ℕ → ℕ → Type 0
-FirstFull M s i k = First (λ q. i < q → length (s .chan q i) < M .depth) (M .carriers) k
+FirstFull M s i k = First (λ j. i < j → length (s .chan j i) < M .depth) (M .carriers) k
 
 -- The thing that a step waits for, with its number and its place; carriers are told from 1.
 pub data Waits (M : Machine) (s : State) : Step → ℕ → ℕ → Type 0 where

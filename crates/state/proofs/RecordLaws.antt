@@ -39,14 +39,14 @@ module _ (m cells : List ℕ) (i tag : ℕ) where
       rw (← planned, ← answer, eq-eqb (getD m p 0) 1 e, old-record a l, eq-eqb (getD m a 0) tag h, s) refl
 
 -- Three records moved up and the last cleared, at the places of a channel.
-pub shift-is : (m m₁ m₂ m₃ m₄ : List ℕ) (at p p′ n j : ℕ) → p ≡ at + 1 + 65 * 0 → p′ ≡ at + 1 + 65 * 1 → n ≡ at + 1 + 65 * 2 →
-    j ≡ at + 1 + 65 * 3 → m₁ ≡ moved m p′ p → m₂ ≡ moved m₁ n p′ → m₃ ≡ moved m₂ j n → m₄ ≡ put m₃ j (resized 65 []) → m₄ ≡ shifted m at
+pub shift-is : (m m₁ m₂ m₃ m₄ : List ℕ) (at p₀ p₁ p₂ p₃ : ℕ) → p₀ ≡ at + 1 + 65 * 0 → p₁ ≡ at + 1 + 65 * 1 → p₂ ≡ at + 1 + 65 * 2 →
+    p₃ ≡ at + 1 + 65 * 3 → m₁ ≡ moved m p₁ p₀ → m₂ ≡ moved m₁ p₂ p₁ → m₃ ≡ moved m₂ p₃ p₂ → m₄ ≡ put m₃ p₃ (resized 65 []) → m₄ ≡ shifted m at
 unfolding shifted
-shift-is m m₁ m₂ m₃ m₄ at p p′ n j a b d e f g h k =
-    let one : p ≡ at + 1 = omega arith in
-    let two : p′ ≡ at + 66 = omega arith in
-    let three : n ≡ at + 131 = omega arith in
-    let four : j ≡ at + 196 = omega arith in
+shift-is m m₁ m₂ m₃ m₄ at p₀ p₁ p₂ p₃ a b d e f g h k =
+    let one : p₀ ≡ at + 1 = omega arith in
+    let two : p₁ ≡ at + 66 = omega arith in
+    let three : p₂ ≡ at + 131 = omega arith in
+    let four : p₃ ≡ at + 196 = omega arith in
     k ∙ rw (h, g, f, one, two, three, four) refl
 
 module _ (m rec : List ℕ) (p : ℕ) where
