@@ -35,7 +35,7 @@ fn one_less(count: u16) -> u16
     count - 1
 }
 
-// The oldest message leaves the channel at place channel.
+// The oldest message leaves the channel that begins at `channel`.
 pub fn pop(m: &mut [u16], channel: usize)
     requires { ⌜ (channel + 261 ≤ length (now m)) × (channel ≤ 9665) ⌝ }
     ensures { λ result. ⌜ now (m .exit) ≡ popped (now (m .entry)) channel ⌝ }
@@ -45,7 +45,7 @@ pub fn pop(m: &mut [u16], channel: usize)
     m[channel] = one_less(count);
 }
 
-// Puts an answer last on the channel at place channel, if it has capacity.
+// Puts an answer last on the channel that begins at `channel`, if it has capacity.
 fn push(m: &mut [u16], channel: usize, tag: u16, cells: Route)
     requires { ⌜ (channel + 261 ≤ length (now m)) × (channel ≤ 9665) ⌝ }
     ensures { λ result. ⌜ now (m .exit) ≡ pushed (now (m .entry)) channel (tag ∷ cells) ⌝ }

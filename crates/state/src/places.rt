@@ -102,7 +102,7 @@ pub fn channel_place(n: usize, i: usize, j: usize) -> usize
     COUNT + CARRIER * n + records::SIZE * pairs_before(n) + CHANNEL * (pairs_before(i) + j)
 }
 
-// Place p of the channel at place channel; the oldest message stands in place 0.
+// Place p of the channel that begins at `channel`; the oldest message stands in place 0.
 pub fn message_place(channel: usize, p: usize) -> usize
     requires { ⌜ (channel ≤ 9665) × (p < 4) ⌝ }
     ensures { λ result. ⌜ (result ≡ channel + 1 + 65 * p) × (result + 65 ≤ channel + 261) ⌝ }

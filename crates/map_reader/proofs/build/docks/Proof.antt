@@ -13,11 +13,11 @@ use Rattle.map_reader.proofs.build.docks.Statement.{statement}
 use Rattle.map_reader.proofs.build.docks.Tie as tie
 
 abbrev Inv-loop : tie.InvT-loop
-Inv-loop marks table n found₀ q₀ found q =
-    (q ≤ 32) × (length found ≡ 32) × Filled (λ j. getD (cellsWhere (isThing marks table (8 + j / 4)) n) (j % 4) 0) found q
+Inv-loop marks table n found₀ p₀ found p =
+    (p ≤ 32) × (length found ≡ 32) × Filled (λ j. getD (cellsWhere (isThing marks table (8 + j / 4)) n) (j % 4) 0) found p
 
 abbrev μ-loop : tie.MeasureT-loop
-μ-loop marks table n found₀ q₀ found q = 32 - q
+μ-loop marks table n found₀ p₀ found p = 32 - p
 
 loop-holds : tie.Need-loop-holds Inv-loop μ-loop
 loop-holds c =

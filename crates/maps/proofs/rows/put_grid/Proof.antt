@@ -12,10 +12,10 @@ use Rattle.maps.proofs.rows.put_grid.Statement.{statement}
 use Rattle.maps.proofs.rows.put_grid.Tie as tie
 
 abbrev Inv-loop : tie.InvT-loop
-Inv-loop marks w h out₀ at end₀ r₀ out end r = (r ≤ h) × PutAt (linesOf (rowOf marks w) r) out₀ at out end
+Inv-loop marks w h out₀ at end₀ row₀ out end row = (row ≤ h) × PutAt (linesOf (rowOf marks w) row) out₀ at out end
 
 abbrev μ-loop : tie.MeasureT-loop
-μ-loop marks w h out₀ at end₀ r₀ out end r = h - r
+μ-loop marks w h out₀ at end₀ row₀ out end row = h - row
 
 loop-holds : tie.Need-loop-holds Inv-loop μ-loop
 loop-holds c =
