@@ -78,7 +78,7 @@ pub fn row_of(page: Page, c: u16) -> u16 {
 
 // Puts the square of a cell as a part of a path; the column behind it is returned.
 fn put_square(page: Page, c: u16, out: &mut [u8], at: usize) -> usize {
-    let s = page::side(page);
+    let side = page::side(page);
     fill(
         out,
         at,
@@ -86,9 +86,9 @@ fn put_square(page: Page, c: u16, out: &mut [u8], at: usize) -> usize {
         [
             page::edge(page, column_of(page, c)),
             page::edge(page, row_of(page, c)),
-            s,
-            s,
-            s,
+            side,
+            side,
+            side,
             0,
         ],
     )

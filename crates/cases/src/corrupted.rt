@@ -9,8 +9,8 @@ use testkit::memory::both;
 fn both_get(setup: &[u16], m: &mut [u16], x: u16, wanted: usize) -> bool {
     let list = [x; 1];
     let a = calls::step(setup, m, x) == wanted;
-    let b = calls::run(setup, m, &list, 5) == wanted;
-    both(a, b)
+    let same = calls::run(setup, m, &list, 5) == wanted;
+    both(a, same)
 }
 
 // The number to try in place i, by a line's pairs from number 2 on: the first so many places get a number; a later pair goes before an
@@ -28,16 +28,16 @@ fn number_for(text: &[u8], i: usize) -> u16 {
 // Whether with that number in place i of a state the line's step and a run of it are refused so and leave it there; the place is then as
 // it was before.
 fn is_left(text: &[u8], setup: &[u16], m: &mut [u16], i: usize) -> bool {
-    let v = number_for(text, i);
+    let x = number_for(text, i);
     let was = memory::at(m, i);
-    memory::put(m, i, v);
+    memory::put(m, i, x);
     let got = both_get(
         setup,
         m,
         memory::narrow(field(text, 0)),
         answers::answer(field(text, 1), 0),
     );
-    let left = memory::at(m, i) == v;
+    let left = memory::at(m, i) == x;
     memory::put(m, i, was);
     both(got, left)
 }

@@ -47,15 +47,15 @@ fn one(setup: &[u16], m: &mut [u16], seed: usize, runs: bool) -> usize {
 // there is no end.
 fn go(setup: &[u16], m: &mut [u16], seed: usize) -> usize {
     calls::fresh(setup, m);
-    let mut s = seed;
+    let mut next_seed = seed;
     let mut taken: usize = 0;
     let mut turn: usize = 0;
     while turn < 100000 {
         if calls::is_silent(setup, m) {
             return answers::answer(SILENT, taken);
         }
-        s = draws::next(s);
-        taken = memory::plus(taken, one(setup, m, s, seed % 2 == 0));
+        next_seed = draws::next(next_seed);
+        taken = memory::plus(taken, one(setup, m, next_seed, seed % 2 == 0));
         turn += 1;
     }
     answers::answer(SPENT, taken)

@@ -8,10 +8,10 @@ use testkit::memory;
 // memory: whether all lent numbers are those written out. Of the first so many numbers those that are not written out are 0; those behind
 // are as they were lent.
 pub fn compare_memory(text: &[u8], m: &[u16]) -> usize {
-    let mut e = memory::buffer();
-    memory::fill(&mut e, field(text, 0), 0);
-    write(text, 1, &mut e);
-    answers::compared(memory::same(m, &e))
+    let mut expected = memory::buffer();
+    memory::fill(&mut expected, field(text, 0), 0);
+    write(text, 1, &mut expected);
+    answers::compared(memory::same(m, &expected))
 }
 
 // run: the budget, then the steps of the list, at most eight.

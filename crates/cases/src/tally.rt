@@ -72,9 +72,9 @@ fn judged(tally: Tally, setup: &[u16], m: &[u16], taken: usize) -> Tally {
 
 // One more order that is odd.
 pub fn odd(tally: Tally) -> Tally {
-    let mut u = tally;
-    u.odd = memory::count(tally.odd, true);
-    u
+    let mut counted = tally;
+    counted.odd = memory::count(tally.odd, true);
+    counted
 }
 
 // Where an order has come to: silent after so many steps; ended, which is no order; spent, which is odd.

@@ -62,11 +62,11 @@ fn with_digit(x: u64, byte: u8) -> u64
     requires { ⌜ (x ≤ 4294967296) × (isDigit byte ≡ true) ⌝ }
     ensures { λ result. ⌜ result ≡ min 4294967296 (10 * x + (byte - 48)) ⌝ }
 {
-    let w = 10 * x + (byte - 48) as u64;
-    if w > LARGE {
+    let n = 10 * x + (byte - 48) as u64;
+    if n > LARGE {
         return LARGE;
     }
-    w
+    n
 }
 
 // The number that digits write.

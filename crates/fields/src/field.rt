@@ -23,12 +23,12 @@ pub fn number(text: &[u8], at: usize) -> u32
     requires { ⌜ at + 5 ≤ length (now text) ⌝ }
     ensures { λ result. ⌜ result ≡ numberAt (now (text .entry)) at ⌝ }
 {
-    let a = digit(text[at]);
-    let b = digit(text[at + 1]);
-    let c = digit(text[at + 2]);
-    let d = digit(text[at + 3]);
-    let e = digit(text[at + 4]);
-    a * 10000 + b * 1000 + c * 100 + d * 10 + e - 48 * 11111
+    let x1 = digit(text[at]);
+    let x2 = digit(text[at + 1]);
+    let x3 = digit(text[at + 2]);
+    let x4 = digit(text[at + 3]);
+    let x5 = digit(text[at + 4]);
+    x1 * 10000 + x2 * 1000 + x3 * 100 + x4 * 10 + x5 - 48 * 11111
 }
 
 // The column of the digit that counts p's.

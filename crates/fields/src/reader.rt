@@ -63,17 +63,17 @@ pub fn counted_lines(text: &[u8], at: usize, n: usize) -> Reached
     ensures { λ result. ⌜ result ≡ reachedOf (linesForm (countedForm (now (text .entry))) (pastCounted (now (text .entry))) at n)
         (columnPast (pastCounted (now (text .entry))) at n) ⌝ }
 {
-    let mut r = begin(text, at);
+    let mut reader = begin(text, at);
     let mut i: usize = 0;
     while i < n {
-        let step = counted(r);
+        let step = counted(reader);
         let Reached::At(column) = step else {
             return step;
         };
-        r = moved(r, column);
+        reader = moved(reader, column);
         i += 1;
     }
-    reached(r)
+    reached(reader)
 }
 
 // k lines of two fields from a column on, one behind the other.
@@ -81,15 +81,15 @@ pub fn pair_lines(text: &[u8], at: usize, k: usize) -> Reached
     requires { ⌜ (at ≤ 50000) × (k ≤ 1023) ⌝ }
     ensures { λ result. ⌜ result ≡ reachedOf (linesForm (λ c. lineForm (now (text .entry)) c 2) pastPair at k) (columnPast pastPair at k) ⌝ }
 {
-    let mut r = begin(text, at);
+    let mut reader = begin(text, at);
     let mut i: usize = 0;
     while i < k {
-        let step = pair(r);
+        let step = pair(reader);
         let Reached::At(column) = step else {
             return step;
         };
-        r = moved(r, column);
+        reader = moved(reader, column);
         i += 1;
     }
-    reached(r)
+    reached(reader)
 }

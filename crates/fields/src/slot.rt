@@ -59,11 +59,11 @@ pub fn count_form(text: &[u8], at: usize) -> Reached
     let Reached::At(_) = form else {
         return form;
     };
-    let v = field::number(text, at);
-    if v < 1 {
+    let x = field::number(text, at);
+    if x < 1 {
         return malformed(at);
     }
-    if 4 < v {
+    if 4 < x {
         return malformed(at);
     }
     form

@@ -84,9 +84,9 @@ fn docks_inside(f: Floor, i: usize) -> bool
     ensures { λ result. ⌜ result ≡ docksInGrid f i ⌝ }
 {
     let docks = docks_of(f, i);
-    let m = f.counts[i] as usize;
+    let n = f.counts[i] as usize;
     let mut k: usize = 0;
-    while k < m {
+    while k < n {
         if !in_grid(f, docks[k]) {
             return false;
         }
@@ -136,10 +136,10 @@ fn walls_inside(f: Floor, walls: &[u16]) -> Checked
     requires { ⌜ f .walls ≤ length (now walls) ⌝ }
     ensures { λ result. ⌜ verdictOf result ≡ wallsOf f (now (walls .entry)) ⌝ }
 {
-    let m = f.walls as usize;
+    let n = f.walls as usize;
     let base = f.carriers as usize + 1;
     let mut j: usize = 0;
-    while j < m {
+    while j < n {
         if !in_grid(f, walls[j]) {
             return Checked::Refused(Refusal {
                 number: 3,
@@ -167,10 +167,10 @@ fn rising(f: Floor, walls: &[u16]) -> Checked
     requires { ⌜ f .walls ≤ length (now walls) ⌝ }
     ensures { λ result. ⌜ verdictOf result ≡ risingOf f (now (walls .entry)) ⌝ }
 {
-    let m = f.walls as usize;
+    let n = f.walls as usize;
     let base = f.carriers as usize + 1;
     let mut j: usize = 0;
-    while j < m {
+    while j < n {
         if !rises(walls, j) {
             return Checked::Refused(Refusal {
                 number: 4,
@@ -213,11 +213,11 @@ fn docks_clear(f: Floor, walls: &[u16], i: usize) -> bool
     ensures { λ result. ⌜ result ≡ docksClear f (now (walls .entry)) i ⌝ }
 {
     let docks = docks_of(f, i);
-    let w = f.walls as usize;
-    let m = f.counts[i] as usize;
+    let count = f.walls as usize;
+    let n = f.counts[i] as usize;
     let mut k: usize = 0;
-    while k < m {
-        if is_wall(walls, w, docks[k]) {
+    while k < n {
+        if is_wall(walls, count, docks[k]) {
             return false;
         }
         k += 1;
@@ -233,8 +233,8 @@ fn clear_of_walls(f: Floor, walls: &[u16], i: usize) -> bool
     requires { ⌜ StrictlyRising (now walls) (f .walls) ⌝ }
     ensures { λ result. ⌜ result ≡ clearOfWalls f (now (walls .entry)) i ⌝ }
 {
-    let m = f.walls as usize;
-    if is_wall(walls, m, f.starts[i]) {
+    let n = f.walls as usize;
+    if is_wall(walls, n, f.starts[i]) {
         return false;
     }
     docks_clear(f, walls, i)

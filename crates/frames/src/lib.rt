@@ -38,9 +38,9 @@ fn put_head(f: Floor, walls: &[u16], own: &[u16], out: &mut [u8]) -> usize
     requires { ⌜ Drawable f (now walls) (now own) × (20901 ≤ length (now out)) ⌝ }
     ensures { λ result. ⌜ PutAt (drawHead f (now (walls .entry)) (answerIn (now (own .entry)))) (now (out .entry)) 0 (now (out .exit)) result ⌝ }
 {
-    let a = maps::put_map(f, walls, out, 0);
-    let b = put_bytes(out, a, b"\n");
-    lines::put_arrivals(f, own, out, b)
+    let n1 = maps::put_map(f, walls, out, 0);
+    let n2 = put_bytes(out, n1, b"\n");
+    lines::put_arrivals(f, own, out, n2)
 }
 
 // Puts an empty line and the floor at a beat; the column behind them is returned.
@@ -49,8 +49,8 @@ fn put_next(f: Floor, walls: &[u16], own: &[u16], t: usize, out: &mut [u8], at: 
     ensures { λ result. ⌜ PutAt ((10 ∷ []) ++ frameOf f (now (walls .entry)) (answerIn (now (own .entry))) t)
         (now (out .entry)) at (now (out .exit)) result ⌝ }
 {
-    let a = put_bytes(out, at, b"\n");
-    lines::put_frame(f, walls, own, t, out, a)
+    let n1 = put_bytes(out, at, b"\n");
+    lines::put_frame(f, walls, own, t, out, n1)
 }
 
 // Puts the beats from 0 to the horizon; the column behind them is returned.
@@ -75,8 +75,8 @@ fn put_whole(f: Floor, walls: &[u16], out: &mut [u8]) -> usize
     ensures { λ result. ⌜ TextPut (floorText f (now (walls .entry))) (now (out .entry)) (now (out .exit)) result ⌝ }
 {
     let own = blockers::plan_own(f, walls);
-    let a = put_head(f, walls, &own, out);
-    put_beats(f, walls, &own, out, a)
+    let n1 = put_head(f, walls, &own, out);
+    put_beats(f, walls, &own, out, n1)
 }
 
 // Puts the text of beat t for a checked floor, nothing if it is above the horizon; its length is returned.

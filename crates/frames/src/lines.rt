@@ -22,9 +22,9 @@ fn put_words(f: Floor, own: &[u16], i: usize, out: &mut [u8], at: usize) -> usiz
         return put_bytes(out, at, b" has no route and stays at its start\n");
     }
     let cells = records::load(own, tag + 1);
-    let a = put_bytes(out, at, b" arrives at beat ");
-    let b = reporting::put_short_decimal(out, a, route::arrival(cells, f.horizon) as usize);
-    put_bytes(out, b, b"\n")
+    let n1 = put_bytes(out, at, b" arrives at beat ");
+    let n2 = reporting::put_short_decimal(out, n1, route::arrival(cells, f.horizon) as usize);
+    put_bytes(out, n2, b"\n")
 }
 
 // Puts the line of the carrier with i above it; the column behind it is returned.
@@ -32,9 +32,9 @@ fn put_arrival(f: Floor, own: &[u16], i: usize, out: &mut [u8], at: usize) -> us
     requires { ⌜ (length (now own) ≡ 520) × (i < 8) × (f .horizon ≤ 63) × (at + 46 ≤ length (now out)) ⌝ }
     ensures { λ result. ⌜ PutAt (arrivalLine f (answerIn (now (own .entry))) i) (now (out .entry)) at (now (out .exit)) result ⌝ }
 {
-    let a = put_bytes(out, at, b"carrier ");
-    let b = put_bytes(out, a, &[49 + i as u8]);
-    put_words(f, own, i, out, b)
+    let n1 = put_bytes(out, at, b"carrier ");
+    let n2 = put_bytes(out, n1, &[49 + i as u8]);
+    put_words(f, own, i, out, n2)
 }
 
 // Puts the lines of all carriers; the column behind them is returned.
@@ -68,8 +68,8 @@ pub fn put_frame(f: Floor, walls: &[u16], own: &[u16], t: usize, out: &mut [u8],
     requires { ⌜ Drawable f (now walls) (now own) × (t ≤ 63) × (at + 1064 ≤ length (now out)) ⌝ }
     ensures { λ result. ⌜ PutAt (frameOf f (now (walls .entry)) (answerIn (now (own .entry))) t) (now (out .entry)) at (now (out .exit)) result ⌝ }
 {
-    let a = put_bytes(out, at, b"beat ");
-    let b = reporting::put_short_decimal(out, a, t);
-    let c = put_bytes(out, b, b"\n");
-    put_rows(f, walls, own, t, out, c)
+    let n1 = put_bytes(out, at, b"beat ");
+    let n2 = reporting::put_short_decimal(out, n1, t);
+    let n3 = put_bytes(out, n2, b"\n");
+    put_rows(f, walls, own, t, out, n3)
 }

@@ -86,16 +86,16 @@ pub fn take_one(g: SearchGrid, table: &mut [u32], views: &[u16], j: usize)
     requires { ⌜ Grid g × (65 * j + 65 ≤ length (now views)) × (g .horizon ≤ 63) × Tidy g (now table) ⌝ }
     ensures { λ result. ⌜ OneMore g j (now (views .entry)) (now (table .entry)) (now (table .exit)) ⌝ }
 {
-    let h = g.horizon;
-    let a = parked_from(views, j, h);
+    let last_beat = g.horizon;
+    let a = parked_from(views, j, last_beat);
     let mut t: usize = 0;
     while t < a {
         let c = view_cell(views, j, t);
         drop_cell(g, table, beat_before(t), t + 2, c);
         t += 1;
     }
-    let last = view_cell(views, j, h);
-    drop_cell(g, table, beat_before(a), h + 1, last);
+    let last = view_cell(views, j, last_beat);
+    drop_cell(g, table, beat_before(a), last_beat + 1, last);
 }
 
 // The free table of a scene in an empty table.

@@ -30,9 +30,9 @@ pub fn is_dock(f: Floor, i: usize, c: u16) -> bool
     ensures { λ result. ⌜ result ≡ isDock f i c ⌝ }
 {
     let docks = floor::docks_of(f, i);
-    let m = f.counts[i] as usize;
+    let n = f.counts[i] as usize;
     let mut k: usize = 0;
-    while k < m {
+    while k < n {
         if docks[k] == c {
             return true;
         }

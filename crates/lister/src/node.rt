@@ -95,10 +95,10 @@ pub fn after(f: Floor, walls: &[u16], free: Rows, node: Node, p: usize) -> Node
     requires { ⌜ Workable f (now walls) free (node .memory) × (node .steps < 11) ⌝ }
     ensures { λ result. ⌜ NodeAfter f (now (walls .entry)) node p result ⌝ }
 {
-    let s = trial::step_at(f.carriers as usize, p);
-    let number = trial::number_of(f, s);
+    let x = trial::step_at(f.carriers as usize, p);
+    let number = trial::number_of(f, x);
     let mut memory = node.memory;
-    let taken = steps::take(f, walls, free, &mut memory, s);
+    let taken = steps::take(f, walls, free, &mut memory, x);
     let k = node.steps;
     let trail = node.trail;
     let longer = with_step(trail, k, number, trial::answer_number(taken));

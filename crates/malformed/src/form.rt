@@ -48,9 +48,9 @@ fn foreign(text: &[u8], at: usize) -> u8
 {
     let mut i: usize = 0;
     while i < 5 {
-        let b = field_byte(text, at, i);
-        if !is_usual(b) {
-            return b;
+        let byte = field_byte(text, at, i);
+        if !is_usual(byte) {
+            return byte;
         }
         i += 1;
     }
@@ -139,9 +139,9 @@ fn put_count(text: &[u8], at: usize, out: &mut [u8]) -> usize {
 fn put_bad_field(text: &[u8], at: usize, k: usize, out: &mut [u8]) -> usize
     requires { ⌜ at ≤ 65535 ⌝ }
 {
-    let b = foreign(text, at);
-    if b != 32 {
-        return put_foreign(k, b, out);
+    let byte = foreign(text, at);
+    if byte != 32 {
+        return put_foreign(k, byte, out);
     }
     let first = first_place(text, at);
     if first == 5 {
@@ -171,14 +171,14 @@ fn put_no_newline(text: &[u8], at: usize, k: usize, out: &mut [u8]) -> usize
     if field_byte(text, at, 1) != 10 {
         return put_missing(k, out);
     }
-    let b = field_byte(text, at, 0);
-    if b == 13 {
+    let byte = field_byte(text, at, 0);
+    if byte == 13 {
         return put(out, 0, b"a carriage return stands before the newline");
     }
-    if b == 9 {
+    if byte == 9 {
         return put(out, 0, b"a tab stands before the newline");
     }
-    if b == 32 {
+    if byte == 32 {
         return put(out, 0, b"a space stands before the newline");
     }
     put_missing(k, out)

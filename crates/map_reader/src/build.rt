@@ -15,11 +15,11 @@ fn is_thing(marks: &[u8], table: &[u8], c: usize, thing: usize) -> bool
     requires { ⌜ (c < length (now marks)) × (thing < 16) × (442 ≤ length (now table)) ⌝ }
     ensures { λ result. ⌜ result ≡ isThing (now (marks .entry)) (now (table .entry)) thing c ⌝ }
 {
-    let b = marks[c];
-    if tokens::thing_of(b) == thing {
+    let byte = marks[c];
+    if tokens::thing_of(byte) == thing {
         return true;
     }
-    let letter = tokens::letter_of(b);
+    let letter = tokens::letter_of(byte);
     if letter == 26 {
         return false;
     }

@@ -52,18 +52,18 @@ fn read_things(text: &[u8], first: usize, line: u16, base: usize, table: &mut [u
         if text.len() - first <= k {
             return Read::Refused(Problem::on(5, line));
         }
-        let b = text[first + k];
-        if b == 10 {
+        let byte = text[first + k];
+        if byte == 10 {
             return Read::At(first + k + 1);
         }
-        let m = tokens::thing_of(b);
-        if m == 16 {
-            return Read::Refused(Problem::at(10, line, k as u16 + 3, b));
+        let thing = tokens::thing_of(byte);
+        if thing == 16 {
+            return Read::Refused(Problem::at(10, line, k as u16 + 3, byte));
         }
-        if table[base + m] == 1 {
-            return Read::Refused(Problem::at(13, line, k as u16 + 3, b));
+        if table[base + thing] == 1 {
+            return Read::Refused(Problem::at(13, line, k as u16 + 3, byte));
         }
-        table[base + m] = 1;
+        table[base + thing] = 1;
         k += 1;
     }
     Read::Refused(Problem::on(14, line))
@@ -108,10 +108,10 @@ fn read_line(text: &[u8], at: usize, line: u16, marks: &[u8], n: usize, table: &
     requires { ⌜ (at < length (now text)) × (n ≤ length (now marks)) × (442 ≤ length (now table)) ⌝ }
     ensures { λ result. ⌜ ReadWithin at (length (now (text .entry))) result ⌝ }
 {
-    let b = text[at];
-    let letter = tokens::letter_of(b);
+    let byte = text[at];
+    let letter = tokens::letter_of(byte);
     if letter == 26 {
-        return Read::Refused(Problem::at(11, line, 1, b));
+        return Read::Refused(Problem::at(11, line, 1, byte));
     }
     if text.len() - at < 2 {
         return Read::Refused(Problem::on(12, line));
@@ -123,8 +123,8 @@ fn read_line(text: &[u8], at: usize, line: u16, marks: &[u8], n: usize, table: &
     let Read::At(next) = read else {
         return read;
     };
-    if !is_used(marks, n, b) {
-        return Read::Refused(Problem::at(16, line, 0, b));
+    if !is_used(marks, n, byte) {
+        return Read::Refused(Problem::at(16, line, 0, byte));
     }
     Read::At(next)
 }

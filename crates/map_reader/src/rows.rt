@@ -60,11 +60,11 @@ fn copy_row(text: &[u8], at: usize, w: usize, line: u16, base: usize, marks: &mu
 {
     let mut k: usize = 0;
     while k < w {
-        let b = text[at + k];
-        if !tokens::is_mark(b) {
-            return Read::Refused(Problem::at(10, line, k as u16 + 1, b));
+        let byte = text[at + k];
+        if !tokens::is_mark(byte) {
+            return Read::Refused(Problem::at(10, line, k as u16 + 1, byte));
         }
-        marks[base + k] = b;
+        marks[base + k] = byte;
         k += 1;
     }
     Read::At(at + w + 1)

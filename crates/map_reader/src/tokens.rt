@@ -119,20 +119,20 @@ fn number_at(text: &[u8], at: usize) -> Number
     let mut value: u16 = 0;
     let mut k = at;
     while k < text.len() {
-        let b = text[k];
-        if b < 48 {
+        let byte = text[k];
+        if byte < 48 {
             return Number {
                 value: value,
                 next: k,
             };
         }
-        if b > 57 {
+        if byte > 57 {
             return Number {
                 value: value,
                 next: k,
             };
         }
-        value = with_digit(value, b - 48);
+        value = with_digit(value, byte - 48);
         k += 1;
     }
     Number {
@@ -162,14 +162,14 @@ fn rises(c1: usize, c2: usize, c3: usize, c4: usize, c5: usize) -> bool {
 pub fn read_head(text: &[u8]) -> Head
     ensures { λ result. ⌜ result .next ≤ length (now (text .entry)) ⌝ }
 {
-    let a = skip(text, 0, b"horizon ");
-    let horizon = number_at(text, a);
-    let b = horizon.next;
-    let c = skip(text, b, b" depth ");
-    let depth = number_at(text, c);
-    let d = depth.next;
-    let e = skip(text, d, b"\n");
-    if !rises(a, b, c, d, e) {
+    let c1 = skip(text, 0, b"horizon ");
+    let horizon = number_at(text, c1);
+    let c2 = horizon.next;
+    let c3 = skip(text, c2, b" depth ");
+    let depth = number_at(text, c3);
+    let c4 = depth.next;
+    let c5 = skip(text, c4, b"\n");
+    if !rises(c1, c2, c3, c4, c5) {
         return Head {
             horizon: 0,
             depth: 0,
@@ -179,7 +179,7 @@ pub fn read_head(text: &[u8]) -> Head
     Head {
         horizon: horizon.value,
         depth: depth.value,
-        next: e,
+        next: c5,
     }
 }
 

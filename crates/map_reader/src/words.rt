@@ -93,12 +93,12 @@ fn put_width(line: u16, n: u16, w: u16, out: &mut [u8]) -> usize
     requires { ⌜ 160 ≤ length (now out) ⌝ }
     ensures { λ result. ⌜ result ≤ 150 ⌝ }
 {
-    let a = put_place(out, line);
-    let b = put_bytes(out, a, b" has ");
-    let c = put_number(out, b, n);
-    let d = put_cells(n, out, c);
-    let e = put_bytes(out, d, b", line 2 has ");
-    put_number(out, e, w)
+    let n1 = put_place(out, line);
+    let n2 = put_bytes(out, n1, b" has ");
+    let n3 = put_number(out, n2, n);
+    let n4 = put_cells(n, out, n3);
+    let n5 = put_bytes(out, n4, b", line 2 has ");
+    put_number(out, n5, w)
 }
 
 // Puts what is wrong with a byte at a line and a column; the length is returned.
@@ -106,16 +106,16 @@ fn put_mark(kind: u8, line: u16, column: u16, byte: u16, out: &mut [u8]) -> usiz
     requires { ⌜ 160 ≤ length (now out) ⌝ }
     ensures { λ result. ⌜ result ≤ 150 ⌝ }
 {
-    let a = put_place(out, line);
-    let b = put_bytes(out, a, b", column ");
-    let c = put_number(out, b, column);
-    let d = put_bytes(out, c, b": ");
-    let e = put_byte(out, d, byte);
+    let n1 = put_place(out, line);
+    let n2 = put_bytes(out, n1, b", column ");
+    let n3 = put_number(out, n2, column);
+    let n4 = put_bytes(out, n3, b": ");
+    let n5 = put_byte(out, n4, byte);
     match kind {
-        10 => put_bytes(out, e, b" is no mark"),
-        11 => put_bytes(out, e, b" is no letter"),
-        13 => put_bytes(out, e, b" stands twice"),
-        _ => put_bytes(out, e, b" has no line"),
+        10 => put_bytes(out, n5, b" is no mark"),
+        11 => put_bytes(out, n5, b" is no letter"),
+        13 => put_bytes(out, n5, b" stands twice"),
+        _ => put_bytes(out, n5, b" has no line"),
     }
 }
 
@@ -124,13 +124,13 @@ fn put_letter(kind: u8, line: u16, byte: u16, out: &mut [u8]) -> usize
     requires { ⌜ 160 ≤ length (now out) ⌝ }
     ensures { λ result. ⌜ result ≤ 150 ⌝ }
 {
-    let a = put_place(out, line);
-    let b = put_bytes(out, a, b": ");
-    let c = put_byte(out, b, byte);
+    let n1 = put_place(out, line);
+    let n2 = put_bytes(out, n1, b": ");
+    let n3 = put_byte(out, n2, byte);
     if kind == 15 {
-        return put_bytes(out, c, b" has a line already");
+        return put_bytes(out, n3, b" has n1 line already");
     }
-    put_bytes(out, c, b" is on no row")
+    put_bytes(out, n3, b" is on no row")
 }
 
 // Puts what is wrong with a carrier; the length is returned.
@@ -138,20 +138,20 @@ fn put_carrier(kind: u8, carrier: u16, n: u16, out: &mut [u8]) -> usize
     requires { ⌜ 160 ≤ length (now out) ⌝ }
     ensures { λ result. ⌜ result ≤ 150 ⌝ }
 {
-    let a = put_bytes(out, 0, b"carrier ");
-    let b = put_number(out, a, carrier);
-    let c = put_bytes(out, b, b" has ");
+    let n1 = put_bytes(out, 0, b"carrier ");
+    let n2 = put_number(out, n1, carrier);
+    let n3 = put_bytes(out, n2, b" has ");
     if kind == 19 {
-        return put_bytes(out, c, b"no start");
+        return put_bytes(out, n3, b"no start");
     }
     if kind == 21 {
-        return put_bytes(out, c, b"no dock");
+        return put_bytes(out, n3, b"no dock");
     }
-    let d = put_number(out, c, n);
+    let n4 = put_number(out, n3, n);
     if kind == 20 {
-        return put_bytes(out, d, b" starts");
+        return put_bytes(out, n4, b" starts");
     }
-    put_bytes(out, d, b" docks")
+    put_bytes(out, n4, b" docks")
 }
 
 // Puts what is wrong, without a newline; the length is returned.

@@ -53,11 +53,11 @@ fn put_head(f: Floor, out: &mut [u8], at: usize) -> usize
     requires { ⌜ (f .horizon < 100) × (f .depth < 100) × (at + 20 ≤ length (now out)) ⌝ }
     ensures { λ result. ⌜ PutAt (mapHead f) (now (out .entry)) at (now (out .exit)) result ⌝ }
 {
-    let a = put_bytes(out, at, b"horizon ");
-    let b = put_short_decimal(out, a, f.horizon as usize);
-    let c = put_bytes(out, b, b" depth ");
-    let d = put_short_decimal(out, c, f.depth as usize);
-    put_bytes(out, d, b"\n")
+    let n1 = put_bytes(out, at, b"horizon ");
+    let n2 = put_short_decimal(out, n1, f.horizon as usize);
+    let n3 = put_bytes(out, n2, b" depth ");
+    let n4 = put_short_decimal(out, n3, f.depth as usize);
+    put_bytes(out, n4, b"\n")
 }
 
 // Puts the rows of a map; the column behind them is returned.
@@ -78,9 +78,9 @@ fn put_letter(f: Floor, c: u16, out: &mut [u8], at: usize) -> usize
     if !marks::is_shared(f, c) {
         return at;
     }
-    let a = put_bytes(out, at, &[marks::letter_of(f, c), 32]);
-    let b = marks::put_marks(f, c, out, a);
-    put_bytes(out, b, b"\n")
+    let n1 = put_bytes(out, at, &[marks::letter_of(f, c), 32]);
+    let n2 = marks::put_marks(f, c, out, n1);
+    put_bytes(out, n2, b"\n")
 }
 
 // Puts the lines of the first n cells; the column behind them is returned.
@@ -102,7 +102,7 @@ pub fn put_map(f: Floor, walls: &[u16], out: &mut [u8], at: usize) -> usize
     requires { ⌜ (checkOf f (now walls) ≡ passed) × (at + 20532 ≤ length (now out)) ⌝ }
     ensures { λ result. ⌜ PutAt (mapOf f (now (walls .entry))) (now (out .entry)) at (now (out .exit)) result ⌝ }
 {
-    let a = put_head(f, out, at);
-    let b = put_rows(f, walls, out, a);
-    put_letters(f, f.width * f.height, out, b)
+    let n1 = put_head(f, out, at);
+    let n2 = put_rows(f, walls, out, n1);
+    put_letters(f, f.width * f.height, out, n2)
 }

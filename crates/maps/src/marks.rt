@@ -57,8 +57,8 @@ fn is_dock(f: Floor, i: usize, c: u16) -> bool
     ensures { λ result. ⌜ result ≡ isDock f i c ⌝ }
 {
     let docks = floor::docks_of(f, i);
-    let m = f.counts[i] as usize;
-    is_among(&docks, m, c)
+    let n = f.counts[i] as usize;
+    is_among(&docks, n, c)
 }
 
 // Puts the letter of the carrier with i above it if cell c is one of its docks; the column behind it is returned.

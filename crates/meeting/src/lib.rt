@@ -166,17 +166,17 @@ fn put_meeting(f: Floor, walls: &[u16], i: u16, j: u16, out: &mut [u8]) -> usize
 {
     let one = alone(f, walls, i);
     let first = one.outcome;
-    let a = one.route;
+    let r = one.route;
     if !has_route(first) {
         return put_none(i, out);
     }
     let other = alone(f, walls, j);
     let second = other.outcome;
-    let b = other.route;
+    let q = other.route;
     if !has_route(second) {
         return put_none(j, out);
     }
-    put_met(f, walls, i, j, a, b, out)
+    put_met(f, walls, i, j, r, q, out)
 }
 
 // Puts the meeting of two carriers of a floor that was read, with its walls in front of `walls`; its length is returned.

@@ -65,8 +65,8 @@ fn fill_beat(table: &mut [u8], f: Floor, walls: &[u16], views: &[u16], k: usize,
     let cells = size(f);
     let mut c: usize = 0;
     while c < cells {
-        let v = arrival_from(table, f, walls, views, k, t, c);
-        set_value(table, t, c, v);
+        let x = arrival_from(table, f, walls, views, k, t, c);
+        set_value(table, t, c, x);
         c += 1;
     }
 }

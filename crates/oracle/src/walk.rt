@@ -31,8 +31,8 @@ fn next_cell(
     if value(table, t, c) as usize == t {
         return c;
     }
-    let v = best_offer(table, f, walls, views, k, t, c);
-    first_offer(table, f, walls, views, k, t, c, v)
+    let x = best_offer(table, f, walls, views, k, t, c);
+    first_offer(table, f, walls, views, k, t, c, x)
 }
 
 // The route from the start.

@@ -88,11 +88,11 @@ fn wall_field(text: &[u8], start: usize) -> usize
     ensures { λ result. ⌜ result ≤ 10 ⌝ }
 {
     let base = sheet_line::line_start(text, sheet_line::carriers(text) + 2);
-    let m = sheet_line::walls(text);
+    let n = sheet_line::walls(text);
     let mut pair: usize = 0;
     while pair < 5 {
         let field = pair_field(pair);
-        if is_wall(text, start, field, base, m) {
+        if is_wall(text, start, field, base, n) {
             return field;
         }
         pair += 1;

@@ -118,9 +118,9 @@ pub fn put_position(line: usize, column: usize, out: &mut [u8]) -> usize
     requires { ⌜ (line ≤ 400000) × (column ≤ 400000) × (26 ≤ length (now out)) ⌝ }
     ensures { λ result. ⌜ PutAt (positionText line column) (now (out .entry)) 0 (now (out .exit)) result ⌝ }
 {
-    let a = put_bytes(out, 0, b"line ");
-    let b = wording::put_decimal(out, a, line as u32);
-    let c = put_bytes(out, b, b", column ");
-    let d = wording::put_decimal(out, c, column as u32);
-    put_bytes(out, d, b": ")
+    let n1 = put_bytes(out, 0, b"line ");
+    let n2 = wording::put_decimal(out, n1, line as u32);
+    let n3 = put_bytes(out, n2, b", column ");
+    let n4 = wording::put_decimal(out, n3, column as u32);
+    put_bytes(out, n4, b": ")
 }

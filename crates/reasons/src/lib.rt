@@ -37,10 +37,10 @@ fn put_limit(text: &[u8], field: usize, out: &mut [u8]) -> usize {
     if field == 0 {
         return 0;
     }
-    let v = sheet_line::field_at(text, 0, field - 1);
+    let x = sheet_line::field_at(text, 0, field - 1);
     if field == 1 {
         return put_value(
-            v,
+            x,
             Floor::MAX_WIDTH,
             b"the width is %, it must be 1 to %",
             out,
@@ -48,7 +48,7 @@ fn put_limit(text: &[u8], field: usize, out: &mut [u8]) -> usize {
     }
     if field == 2 {
         return put_value(
-            v,
+            x,
             Floor::MAX_HEIGHT,
             b"the height is %, it must be 1 to %",
             out,
@@ -56,7 +56,7 @@ fn put_limit(text: &[u8], field: usize, out: &mut [u8]) -> usize {
     }
     if field == 3 {
         return put_value(
-            v,
+            x,
             Floor::MAX_HORIZON,
             b"the horizon is %, it must be 1 to %",
             out,
@@ -64,7 +64,7 @@ fn put_limit(text: &[u8], field: usize, out: &mut [u8]) -> usize {
     }
     if field == 4 {
         return put_value(
-            v,
+            x,
             Floor::MAX_DEPTH,
             b"the depth is %, it must be 1 to %",
             out,
@@ -72,14 +72,14 @@ fn put_limit(text: &[u8], field: usize, out: &mut [u8]) -> usize {
     }
     if field == 5 {
         return put_value(
-            v,
+            x,
             Floor::MAX_CARRIERS,
             b"the number of carriers is %, it must be 1 to %",
             out,
         );
     }
     put_value(
-        v,
+        x,
         Floor::MAX_WALLS,
         b"the number of walls is %, it must be 0 to %",
         out,

@@ -17,11 +17,11 @@ pub fn value(text: &[u8], at: usize) -> u16
     requires { ⌜ at + 5 ≤ length (now text) ⌝ }
     ensures { λ result. ⌜ result ≡ valueAt (now (text .entry)) at ⌝ }
 {
-    let v = fields::number(text, at);
-    if 65535 < v {
+    let x = fields::number(text, at);
+    if 65535 < x {
         return 65535;
     }
-    v as u16
+    x as u16
 }
 
 // The cell number of a column and a row, or the first number past the grid.

@@ -49,10 +49,10 @@ pub fn write(m: &mut [u16], i: usize, planned: u16, due: u16, tag: u16, cells: R
     ensures { λ result. ⌜ now (m .exit) ≡ put (now (m .entry)) (plannedPlace i) (planned ∷ (due ∷ (tag ∷ cells))) ⌝ }
 {
     let p = planned_place(i);
-    let d = due_place(i);
+    let place = due_place(i);
     let a = answer_place(i);
     m[p] = planned;
-    m[d] = due;
+    m[place] = due;
     records::store(m, a, tag, cells);
 }
 
@@ -69,6 +69,6 @@ pub fn set_due(m: &mut [u16], i: usize)
     requires { ⌜ (i < 8) × (69 + 67 * i ≤ length (now m)) ⌝ }
     ensures { λ result. ⌜ now (m .exit) ≡ put (now (m .entry)) (duePlace i) (1 ∷ []) ⌝ }
 {
-    let d = due_place(i);
-    m[d] = 1;
+    let due = due_place(i);
+    m[due] = 1;
 }

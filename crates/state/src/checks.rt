@@ -114,8 +114,8 @@ fn carrier_valid(f: Floor, m: &[u16], i: usize) -> bool
     if m[p] > 1 {
         return false;
     }
-    let d = due_place(i);
-    if m[d] > 1 {
+    let due = due_place(i);
+    if m[due] > 1 {
         return false;
     }
     record_valid(f, m, answer_place(i), 1, 2)
@@ -166,12 +166,12 @@ fn pair_valid(f: Floor, m: &[u16], i: usize, j: usize) -> bool
     ensures { λ result. ⌜ result ≡ pairValid f (now (m .entry)) i j ⌝ }
 {
     let n = f.carriers as usize;
-    let v = view_place(n, i, j);
-    if !record_valid(f, m, v, 0, 2) {
+    let view = view_place(n, i, j);
+    if !record_valid(f, m, view, 0, 2) {
         return false;
     }
-    let c = channel_place(n, i, j);
-    channel_valid(f, m, c)
+    let channel = channel_place(n, i, j);
+    channel_valid(f, m, channel)
 }
 
 // The pairs of receiver i.

@@ -50,6 +50,6 @@ pub fn write_fresh(m: &mut [u16], n: usize)
     write_zeros(m, 0, COUNT);
     write_carriers(m, n);
     let a = pairs_place(n);
-    let e = state_size(n);
-    write_zeros(m, a, e - a);
+    let end = state_size(n);
+    write_zeros(m, a, end - a);
 }

@@ -74,11 +74,11 @@ fn deliver_now(m: &mut [u16], n: usize, j: usize, i: usize)
     requires { ⌜ (j < i) × (i < n) × (n ≤ 8) × (stateSize n ≤ length (now m)) ⌝ }
     ensures { λ result. ⌜ now (m .exit) ≡ deliveredIn n (now (m .entry)) j i ⌝ }
 {
-    let v = state::view_place(n, i, j);
-    let c = state::channel_place(n, i, j);
-    let oldest = state::message_place(c, 0);
-    records::copy(m, oldest, v);
-    state::pop(m, c);
+    let view = state::view_place(n, i, j);
+    let channel = state::channel_place(n, i, j);
+    let oldest = state::message_place(channel, 0);
+    records::copy(m, oldest, view);
+    state::pop(m, channel);
     state::set_due(m, i);
 }
 
