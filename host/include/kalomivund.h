@@ -307,10 +307,10 @@ uint64_t kalomivund_run_of_rank(const uint16_t *floor, size_t floor_len, const u
 
 /* The first conflict of two routes over beats 0 to horizon; at one beat same cell comes before change of places, and this before
  * following. A horizon above 63 counts as 63. Writes nothing.
- * Takes   a and b, 64 cells each, any numbers, jumps and cells outside every grid included; numbers past 64 are not looked at.
+ * Takes   r and q, 64 cells each, any numbers, jumps and cells outside every grid included; numbers past 64 are not looked at.
  * Done    case 0 free, number 0; case 1 same cell, number the beat; case 2 change of places, case 3 following, number the beat before it.
- * Refused 9 (a or b shorter than 64). */
-uint64_t kalomivund_conflict(const uint16_t *a, size_t a_len, const uint16_t *b, size_t b_len, uint16_t horizon);
+ * Refused 9 (r or q shorter than 64). */
+uint64_t kalomivund_conflict(const uint16_t *r, size_t r_len, const uint16_t *q, size_t q_len, uint16_t horizon);
 
 /* What a record is for a carrier: a route of it, none, not heard, or no record of the carrier, with the first thing that is wrong. The
  * tests are made in this order, each over all its beats before the next: the tag; of a route its start, its cells, its moves, its last cell,

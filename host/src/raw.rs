@@ -126,7 +126,7 @@ extern "C" {
     ) -> u64;
 
     /// The first conflict of two routes: case 0 free, 1 same cell, 2 change of places, 3 following; number the beat.
-    pub fn kalomivund_conflict(a: *const u16, a_len: usize, b: *const u16, b_len: usize, horizon: u16) -> u64;
+    pub fn kalomivund_conflict(r: *const u16, r_len: usize, q: *const u16, q_len: usize, horizon: u16) -> u64;
 
     /// What a record of 65 numbers is for a carrier: case 0 a route, number its arrival; 1 none; 2 not heard; 3 to 8 what is wrong, number
     /// the beat.

@@ -38,53 +38,53 @@ part-eight xs at l =
     ) refl
 
 -- Four blocks of 6, 8, 8 and 32 numbers, one behind the other.
-pub four-blocks : (m m₁ m₂ m₃ m₄ a b c d : List ℕ) → m₁ ≡ put m 0 a → m₂ ≡ put m₁ 6 b → m₃ ≡ put m₂ 14 c → m₄ ≡ put m₃ 22 d
-    → length a ≡ 6 → length b ≡ 8 → length c ≡ 8 → length d ≡ 32 → 54 ≤ length m → m₄ ≡ put m 0 (a ++ (b ++ (c ++ d)))
-four-blocks m m₁ m₂ m₃ m₄ a b c d e f g h la lb lc ld l =
-    let two : m₂ ≡ put m 0 (a ++ b) = put-next m m₁ m₂ a b 0 6 e f (omega arith) (omega arith) in
-    let size : length (a ++ b) ≡ 14 = length-append a b ∙ omega arith in
-    let three : m₃ ≡ put m 0 ((a ++ b) ++ c) = put-next m m₂ m₃ (a ++ b) c 0 14 two g (omega arith) (omega arith) in
-    let long : length ((a ++ b) ++ c) ≡ 22 = length-append (a ++ b) c ∙ omega arith in
-    put-next m m₃ m₄ ((a ++ b) ++ c) d 0 22 three h (omega arith) (omega arith) ∙ ap (put m 0) (simp append-assoc)
+pub four-blocks : (m m₁ m₂ m₃ m₄ xs₁ xs₂ xs₃ xs₄ : List ℕ) → m₁ ≡ put m 0 xs₁ → m₂ ≡ put m₁ 6 xs₂ → m₃ ≡ put m₂ 14 xs₃ → m₄ ≡ put m₃ 22 xs₄
+    → length xs₁ ≡ 6 → length xs₂ ≡ 8 → length xs₃ ≡ 8 → length xs₄ ≡ 32 → 54 ≤ length m → m₄ ≡ put m 0 (xs₁ ++ (xs₂ ++ (xs₃ ++ xs₄)))
+four-blocks m m₁ m₂ m₃ m₄ xs₁ xs₂ xs₃ xs₄ e f g h la lb lc ld l =
+    let two : m₂ ≡ put m 0 (xs₁ ++ xs₂) = put-next m m₁ m₂ xs₁ xs₂ 0 6 e f (omega arith) (omega arith) in
+    let size : length (xs₁ ++ xs₂) ≡ 14 = length-append xs₁ xs₂ ∙ omega arith in
+    let three : m₃ ≡ put m 0 ((xs₁ ++ xs₂) ++ xs₃) = put-next m m₂ m₃ (xs₁ ++ xs₂) xs₃ 0 14 two g (omega arith) (omega arith) in
+    let long : length ((xs₁ ++ xs₂) ++ xs₃) ≡ 22 = length-append (xs₁ ++ xs₂) xs₃ ∙ omega arith in
+    put-next m m₃ m₄ ((xs₁ ++ xs₂) ++ xs₃) xs₄ 0 22 three h (omega arith) (omega arith) ∙ ap (put m 0) (simp append-assoc)
 
 -- A loop that copies numbers into an array of thirty-two: before the first, one more, and after the last.
-pub record NumbersCopied (xs : List ℕ) (at t : ℕ) (r : List ℕ) : Type 0 where
-  pub within : t ≤ 32
+pub record NumbersCopied (xs : List ℕ) (at k : ℕ) (r : List ℕ) : Type 0 where
+  pub within : k ≤ 32
   pub long : length r ≡ 32
-  pub same : (i : ℕ) → i < t → getD r i 0 ≡ getD xs (at + i) 0
+  pub same : (i : ℕ) → i < k → getD r i 0 ≡ getD xs (at + i) 0
 
 pub copied-start : (xs : List ℕ) (at : ℕ) (r : List ℕ) → length r ≡ 32 → NumbersCopied xs at 0 r
 copied-start xs at r l = record { within = omega arith; long = l; same = λ i h. absurd (omega arith) }
 
-pub copied-more : {xs : List ℕ} {at t : ℕ} {r : List ℕ} → NumbersCopied xs at t r → t < 32
-    → NumbersCopied xs at (t + 1) (set r t (getD xs (at + t) 0))
-copied-more {xs} {at} {t} {r} w l =
+pub copied-more : {xs : List ℕ} {at k : ℕ} {r : List ℕ} → NumbersCopied xs at k r → k < 32
+    → NumbersCopied xs at (k + 1) (set r k (getD xs (at + k) 0))
+copied-more {xs} {at} {k} {r} w l =
     record {
       within = omega arith;
-      long = length-set r t _ ∙ w .long;
+      long = length-set r k _ ∙ w .long;
       same = λ i h.
           ⊎-elim
-          (λ (e : i ≡ t). rw (e, getD-set-same r t _ 0 (omega (arith, w .long))) refl)
-          (λ (n : i ≡ t → ⊥). getD-set-other r t i _ 0 n ∙ w .same i (omega arith))
-          (eq-or-ne i t);
+          (λ (e : i ≡ k). rw (e, getD-set-same r k _ 0 (omega (arith, w .long))) refl)
+          (λ (n : i ≡ k → ⊥). getD-set-other r k i _ 0 n ∙ w .same i (omega arith))
+          (eq-or-ne i k);
     }
 
-pub copied-end : {xs : List ℕ} {at t : ℕ} {r : List ℕ} → NumbersCopied xs at t r → 32 ≤ t → at + 32 ≤ length xs → r ≡ part xs at 32
-copied-end {xs} {at} {t} {r} w l b = sym (part-is xs at 32 r b (w .long) (λ i h. sym (w .same i (omega (arith, w .within)))))
+pub copied-end : {xs : List ℕ} {at k : ℕ} {r : List ℕ} → NumbersCopied xs at k r → 32 ≤ k → at + 32 ≤ length xs → r ≡ part xs at 32
+copied-end {xs} {at} {k} {r} w l b = sym (part-is xs at 32 r b (w .long) (λ i h. sym (w .same i (omega (arith, w .within)))))
 
 -- A block that stands behind others.
-module _ (a b c r : List ℕ) (la : length a ≡ 8) (lb : length b ≡ 8) (lc : length c ≡ 32) where
-  first-block : take 8 ((a ++ (b ++ c)) ++ r) ≡ a
-  first-block = simp append-assoc (take-at a (b ++ (c ++ r)) 8 la)
+module _ (xs ys zs r : List ℕ) (la : length xs ≡ 8) (lb : length ys ≡ 8) (lc : length zs ≡ 32) where
+  first-block : take 8 ((xs ++ (ys ++ zs)) ++ r) ≡ xs
+  first-block = simp append-assoc (take-at xs (ys ++ (zs ++ r)) 8 la)
 
-  second-block : take 8 (drop 8 ((a ++ (b ++ c)) ++ r)) ≡ b
-  second-block = simp append-assoc (rw (drop-at a (b ++ (c ++ r)) 8 la) (take-at b (c ++ r) 8 lb))
+  second-block : take 8 (drop 8 ((xs ++ (ys ++ zs)) ++ r)) ≡ ys
+  second-block = simp append-assoc (rw (drop-at xs (ys ++ (zs ++ r)) 8 la) (take-at ys (zs ++ r) 8 lb))
 
-  third-block : take 32 (drop 16 ((a ++ (b ++ c)) ++ r)) ≡ c
+  third-block : take 32 (drop 16 ((xs ++ (ys ++ zs)) ++ r)) ≡ zs
   third-block =
-      let joined : (a ++ (b ++ c)) ++ r ≡ (a ++ b) ++ (c ++ r) = simp append-assoc in
-      let size : length (a ++ b) ≡ 16 = length-append a b ∙ omega arith in
-      rw (joined, drop-at (a ++ b) (c ++ r) 16 size) (take-at c r 32 lc)
+      let joined : (xs ++ (ys ++ zs)) ++ r ≡ (xs ++ ys) ++ (zs ++ r) = simp append-assoc in
+      let size : length (xs ++ ys) ≡ 16 = length-append xs ys ∙ omega arith in
+      rw (joined, drop-at (xs ++ ys) (zs ++ r) 16 size) (take-at zs r 32 lc)
 
 -- The floor that its own numbers say, whatever memory they stand in.
 pub record-same : (f : Floor) (old : List ℕ) → length (f .starts) ≡ 8 → length (f .counts) ≡ 8 → length (f .docks) ≡ 32

@@ -25,23 +25,23 @@ capped-within most n =
     (lt-or-le most n)
 
 -- A byte, a byte and a number, read off their sum.
-sum-read : (a c n : ℕ) → a < 256 → c < 256 → Reads (a + 256 * c + 65536 * n) a c n
-sum-read a c n la lc = record { low-byte = omega arith; second-byte = omega arith; from-bit-16 = omega arith }
+sum-read : (a k n : ℕ) → a < 256 → k < 256 → Reads (a + 256 * k + 65536 * n) a k n
+sum-read a k n la lc = record { low-byte = omega arith; second-byte = omega arith; from-bit-16 = omega arith }
 
-module _ (a c n : ℕ) (la : a < 256) where
-  pub packed-read : c < 256 → n ≤ 281474976710655 → Reads (packed a c n) a c n
+module _ (a k n : ℕ) (la : a < 256) where
+  pub packed-read : k < 256 → n ≤ 281474976710655 → Reads (packed a k n) a k n
   unfolding packed
-  packed-read lc ln = rw (capped-same 255 c (omega arith), capped-same 281474976710655 n ln) (sum-read a c n la lc)
+  packed-read lc ln = rw (capped-same 255 k (omega arith), capped-same 281474976710655 n ln) (sum-read a k n la lc)
 
-  pub packed-most : c < 256 → 281474976710655 < n → Reads (packed a c n) a c 281474976710655
+  pub packed-most : k < 256 → 281474976710655 < n → Reads (packed a k n) a k 281474976710655
   unfolding packed
   packed-most lc ln =
-      rw (capped-same 255 c (omega arith), capped-most 281474976710655 n ln) (sum-read a c 281474976710655 la lc)
+      rw (capped-same 255 k (omega arith), capped-most 281474976710655 n ln) (sum-read a k 281474976710655 la lc)
 
   -- Whatever is packed, the low byte is there and the word has 64 bits.
-  pub packed-low : (packed a c n % 256 ≡ a) × (packed a c n < 18446744073709551616)
+  pub packed-low : (packed a k n % 256 ≡ a) × (packed a k n < 18446744073709551616)
   unfolding packed
   packed-low =
-      let second = capped-within 255 c in
+      let second = capped-within 255 k in
       let rest = capped-within 281474976710655 n in
       (omega arith, omega arith)

@@ -17,13 +17,13 @@ pub record Reads (w low second rest : ℕ) : Type 0 where
 
 pub record Claims : Type 0 where
   -- A word is read as it was packed: what is done, with its case and its number up to 2^48 − 1.
-  pub done-read : (c n : ℕ) → c < 256 → n ≤ 281474976710655 → Reads (wordOf (value (done c n))) 0 c n
+  pub done-read : (k n : ℕ) → k < 256 → n ≤ 281474976710655 → Reads (wordOf (value (done k n))) 0 k n
   -- What is refused, with its number and its place up to 2^48 − 1.
   pub refusal-read : (k p : ℕ) → k < 256 → p ≤ 281474976710655 → Reads (wordOf (refusal k p)) 1 k p
   -- A larger place is read as 2^48 − 1.
   pub largest-read : (k p : ℕ) → k < 256 → 281474976710655 < p → Reads (wordOf (refusal k p)) 1 k 281474976710655
   -- Every word is one of 64 bits whose low byte says whether the call is done, also where its case or number has no room.
-  pub done-low : (c n : ℕ) → (wordOf (value (done c n)) % 256 ≡ 0) × (wordOf (value (done c n)) < 18446744073709551616)
+  pub done-low : (k n : ℕ) → (wordOf (value (done k n)) % 256 ≡ 0) × (wordOf (value (done k n)) < 18446744073709551616)
   pub refusal-low : (k p : ℕ) → (wordOf (refusal k p) % 256 ≡ 1) × (wordOf (refusal k p) < 18446744073709551616)
   -- The floor record that is read back from its numbers is the one that was stored, whatever memory it was stored in.
   pub record-returns : (f : Floor) (old : List ℕ) → length (f .starts) ≡ 8 → length (f .counts) ≡ 8 → length (f .docks) ≡ 32

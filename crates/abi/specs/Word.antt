@@ -14,8 +14,8 @@ done c n = record { case = c; number = n }
 
 -- An outcome with its value taken to another; a refusal stays what it is.
 unfoldable pub mapOutcome : {A B : Type 0} → (A → B) → Outcome A → Outcome B
-mapOutcome g (value a) = value (g a)
-mapOutcome g (refusal k p) = refusal k p
+mapOutcome φ (value x) = value (φ x)
+mapOutcome φ (refusal k p) = refusal k p
 
 -- A number as it is told where there is room up to a largest one: a larger number is told as the largest.
 unfoldable pub cappedAt : ℕ → ℕ → ℕ
@@ -32,4 +32,4 @@ wordOf (refusal k p) = packed 1 k p
 
 -- An answer that is a number: case 0 with that number.
 unfoldable pub ofNumber : Outcome ℕ → Outcome Done
-ofNumber o = mapOutcome (done 0) o
+ofNumber x = mapOutcome (done 0) x

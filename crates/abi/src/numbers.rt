@@ -9,7 +9,7 @@ use floor::Floor;
 // Eight numbers from a place on.
 fn cells(xs: &[u16], at: usize) -> [u16; 8]
     requires { ⌜ at + 8 ≤ length (now xs) ⌝ }
-    ensures { λ r. ⌜ r ≡ part (now (xs .entry)) at 8 ⌝ }
+    ensures { λ result. ⌜ result ≡ part (now (xs .entry)) at 8 ⌝ }
 {
     [
         xs[at],
@@ -26,7 +26,7 @@ fn cells(xs: &[u16], at: usize) -> [u16; 8]
 // Thirty-two numbers from a place on.
 fn docks(xs: &[u16], at: usize) -> [u16; 32]
     requires { ⌜ at + 32 ≤ length (now xs) ⌝ }
-    ensures { λ r. ⌜ r ≡ part (now (xs .entry)) at 32 ⌝ }
+    ensures { λ result. ⌜ result ≡ part (now (xs .entry)) at 32 ⌝ }
 {
     let mut r: [u16; 32] = [0; 32];
     let mut t: usize = 0;
@@ -40,7 +40,7 @@ fn docks(xs: &[u16], at: usize) -> [u16; 32]
 // The floor that 54 numbers say.
 pub fn floor_of(xs: &[u16]) -> Floor
     requires { ⌜ 54 ≤ length (now xs) ⌝ }
-    ensures { λ r. ⌜ r ≡ floorOf (now (xs .entry)) ⌝ }
+    ensures { λ result. ⌜ result ≡ floorOf (now (xs .entry)) ⌝ }
 {
     Floor {
         width: xs[0],
@@ -58,7 +58,7 @@ pub fn floor_of(xs: &[u16]) -> Floor
 // Copies numbers to a place.
 pub fn copy(out: &mut [u16], at: usize, xs: &[u16])
     requires { ⌜ at + length (now xs) ≤ length (now out) ⌝ }
-    ensures { λ r. ⌜ now (out .exit) ≡ put (now (out .entry)) at (now (xs .entry)) ⌝ }
+    ensures { λ result. ⌜ now (out .exit) ≡ put (now (out .entry)) at (now (xs .entry)) ⌝ }
 {
     let mut t: usize = 0;
     while t < xs.len() {
@@ -70,7 +70,7 @@ pub fn copy(out: &mut [u16], at: usize, xs: &[u16])
 // Copies eight numbers to a place.
 fn put_cells(out: &mut [u16], at: usize, cells: [u16; 8])
     requires { ⌜ at + 8 ≤ length (now out) ⌝ }
-    ensures { λ r. ⌜ (now (out .exit) ≡ put (now (out .entry)) at cells) × (length cells ≡ 8) ⌝ }
+    ensures { λ result. ⌜ (now (out .exit) ≡ put (now (out .entry)) at cells) × (length cells ≡ 8) ⌝ }
 {
     copy(out, at, &cells);
 }
@@ -78,7 +78,7 @@ fn put_cells(out: &mut [u16], at: usize, cells: [u16; 8])
 // Copies thirty-two numbers to a place.
 fn put_docks(out: &mut [u16], at: usize, docks: [u16; 32])
     requires { ⌜ at + 32 ≤ length (now out) ⌝ }
-    ensures { λ r. ⌜ (now (out .exit) ≡ put (now (out .entry)) at docks) × (length docks ≡ 32) ⌝ }
+    ensures { λ result. ⌜ (now (out .exit) ≡ put (now (out .entry)) at docks) × (length docks ≡ 32) ⌝ }
 {
     copy(out, at, &docks);
 }
@@ -86,7 +86,7 @@ fn put_docks(out: &mut [u16], at: usize, docks: [u16; 32])
 // Puts the 54 numbers of a floor in front.
 pub fn store(out: &mut [u16], f: Floor)
     requires { ⌜ 54 ≤ length (now out) ⌝ }
-    ensures { λ r. ⌜ now (out .exit) ≡ put (now (out .entry)) 0 (numbersOf f) ⌝ }
+    ensures { λ result. ⌜ now (out .exit) ≡ put (now (out .entry)) 0 (numbersOf f) ⌝ }
 {
     let head = [f.width, f.height, f.horizon, f.depth, f.carriers, f.walls];
     let starts = f.starts;
@@ -101,7 +101,7 @@ pub fn store(out: &mut [u16], f: Floor)
 // Puts figures in front.
 pub fn copy_figures(out: &mut [u64], xs: &[u64])
     requires { ⌜ length (now xs) ≤ length (now out) ⌝ }
-    ensures { λ r. ⌜ now (out .exit) ≡ put (now (out .entry)) 0 (now (xs .entry)) ⌝ }
+    ensures { λ result. ⌜ now (out .exit) ≡ put (now (out .entry)) 0 (now (xs .entry)) ⌝ }
 {
     let mut t: usize = 0;
     while t < xs.len() {

@@ -27,12 +27,12 @@ two-digits P a b c d (suc zero) (suc zero) h k = d
 two-digits P a b c d (suc zero) (suc (suc y)) h k = absurd (omega arith)
 two-digits P a b c d (suc (suc x)) y h k = absurd (omega arith)
 
--- An operation on words that is f on the digits of each place, which is g on Bools.
-module _ (op f : ℕ → ℕ → ℕ) (g : Bool → Bool → Bool)
-    (step : (a b : ℕ) → op a b ≡ op (a / 2) (b / 2) * 2 + f (a % 2) (b % 2))
-    (small : (x y : ℕ) → x < 2 → y < 2 → f x y < 2)
-    (same : (x y : ℕ) → x < 2 → y < 2 → eqb (f x y) 1 ≡ g (eqb x 1) (eqb y 1)) where
-  digit-op : (column a b : ℕ) → digit (op a b) column ≡ g (digit a column) (digit b column)
+-- An operation on words that is φ on the digits of each place, which is ψ on Bools.
+module _ (op φ : ℕ → ℕ → ℕ) (ψ : Bool → Bool → Bool)
+    (step : (a b : ℕ) → op a b ≡ op (a / 2) (b / 2) * 2 + φ (a % 2) (b % 2))
+    (small : (x y : ℕ) → x < 2 → y < 2 → φ x y < 2)
+    (same : (x y : ℕ) → x < 2 → y < 2 → eqb (φ x y) 1 ≡ ψ (eqb x 1) (eqb y 1)) where
+  digit-op : (column a b : ℕ) → digit (op a b) column ≡ ψ (digit a column) (digit b column)
   unfolding digit
   digit-op zero a b =
       ap (λ (n : ℕ). eqb n 1) (ap (λ (n : ℕ). n % 2) (step a b) ∙ odd _ _ (small _ _ (omega arith) (omega arith)))
@@ -62,10 +62,10 @@ digit-xor =
     (two-digits (λ x y. differ x y < 2) (omega arith) (omega arith) (omega arith) (omega arith))
     (two-digits (λ x y. eqb (differ x y) 1 ≡ xorb (eqb x 1) (eqb y 1)) refl refl refl refl)
 
-xor-and : (a b : Bool) → xorb a (a && b) ≡ (a && not b)
+xor-and : (x y : Bool) → xorb x (x && y) ≡ (x && not y)
 unfolding xorb
-xor-and true b = refl
-xor-and false b = refl
+xor-and true y = refl
+xor-and false y = refl
 
 pub digit-without : (column x mask : ℕ) → digit (without x mask) column ≡ (digit x column && not (digit mask column))
 unfolding without

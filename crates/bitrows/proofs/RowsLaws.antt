@@ -69,12 +69,12 @@ length-dropped rows row column = length-set rows row (without (getD rows row 0) 
 pub dropped-inside : (w cells i c : ℕ) (rows : List ℕ) → c < cells → dropped rows (i + c / w) (c % w) ≡ droppedAt w cells i c rows
 unfolding droppedAt
 dropped-inside w cells i c rows h =
-    sym (ap (λ (t : Bool). elim t [ true ↦ dropped rows (i + c / w) (c % w) | false ↦ rows ]) (lt-ltb c cells h))
+    sym (ap (λ (x : Bool). elim x [ true ↦ dropped rows (i + c / w) (c % w) | false ↦ rows ]) (lt-ltb c cells h))
 
 pub dropped-outside : (w cells i c : ℕ) (rows : List ℕ) → cells ≤ c → rows ≡ droppedAt w cells i c rows
 unfolding droppedAt
 dropped-outside w cells i c rows h =
-    sym (ap (λ (t : Bool). elim t [ true ↦ dropped rows (i + c / w) (c % w) | false ↦ rows ]) (le-ltb c cells h))
+    sym (ap (λ (x : Bool). elim x [ true ↦ dropped rows (i + c / w) (c % w) | false ↦ rows ]) (le-ltb c cells h))
 
 -- Cell c of a grid of width w taken out of the rows from row i on.
 module _ (w cells : ℕ) (thin : 0 < w) (enough : cells ≤ 32 * w) (rows : List ℕ) (i c : ℕ) (long : i + 32 ≤ length rows) where
@@ -102,7 +102,7 @@ module _ (w cells : ℕ) (thin : 0 < w) (enough : cells ≤ 32 * w) (rows : List
       inside q =
           rw (← dropped-inside w cells i c rows q)
           (has-dropped rows (i + c / w) (c % w) (i + row) column (row-in q)
-          ∙ ap (λ (t : Bool). has rows (i + row) column && not t) (same-test _ _ says back))
+          ∙ ap (λ (x : Bool). has rows (i + row) column && not x) (same-test _ _ says back))
 
       outside : cells ≤ c →
           has (droppedAt w cells i c rows) (i + row) column ≡ (has rows (i + row) column && not (eqb c (row * w + column)))

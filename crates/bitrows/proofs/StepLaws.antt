@@ -10,8 +10,8 @@ use Rattle.laws.proofs.Tests.{and-snd}
 
 -- The test one place before, false at the first.
 unfoldable pub before : (ℕ → Bool) → ℕ → Bool
-before p zero = false
-before p (suc n) = p n
+before φ zero = false
+before φ (suc n) = φ n
 
 digit-left : (x column : ℕ) → column < 32 → digit (x * 2 % 2 ^ 32) column ≡ before (λ j. digit x j) column
 unfolding before

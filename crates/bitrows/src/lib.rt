@@ -10,14 +10,14 @@ ghost use Rattle.bitrows.specs.Rows.{has as Rows·has};
 // The word with one digit, at a column.
 fn bit(column: usize) -> u32
     requires { ⌜ column < 32 ⌝ }
-    ensures { λ r. ⌜ r ≡ 2 ^ column ⌝ }
+    ensures { λ result. ⌜ result ≡ 2 ^ column ⌝ }
 {
     1u32 << column
 }
 
 // The digits of x that are not in a mask.
 pub fn without(x: u32, mask: u32) -> u32
-    ensures { λ r. ⌜ r ≡ Words·without x mask ⌝ }
+    ensures { λ result. ⌜ result ≡ Words·without x mask ⌝ }
 {
     x ^ (x & mask)
 }
@@ -25,7 +25,7 @@ pub fn without(x: u32, mask: u32) -> u32
 // Whether the digit of a row at a column is 1.
 pub fn has(rows: &[u32], row: usize, column: usize) -> bool
     requires { ⌜ (row < length (now rows)) × (column < 32) ⌝ }
-    ensures { λ x. ⌜ x ≡ Rows·has (now (rows .entry)) row column ⌝ }
+    ensures { λ result. ⌜ result ≡ Rows·has (now (rows .entry)) row column ⌝ }
 {
     (rows[row] >> column) & 1 == 1
 }
@@ -33,7 +33,7 @@ pub fn has(rows: &[u32], row: usize, column: usize) -> bool
 // Adds the digit of a row at a column.
 pub fn add(rows: &mut [u32], row: usize, column: usize)
     requires { ⌜ (row < length (now rows)) × (column < 32) ⌝ }
-    ensures { λ x. ⌜ now (rows .exit) ≡ added (now (rows .entry)) row column ⌝ }
+    ensures { λ result. ⌜ now (rows .exit) ≡ added (now (rows .entry)) row column ⌝ }
 {
     let more = bit(column);
     rows[row] = rows[row] | more;
@@ -42,7 +42,7 @@ pub fn add(rows: &mut [u32], row: usize, column: usize)
 // What a cell's number is multiplied with, so that a shift by 16 places divides it by the width.
 pub fn scale(w: usize) -> usize
     requires { ⌜ (1 ≤ w) × (w ≤ 32) ⌝ }
-    ensures { λ r. ⌜ r ≡ 65536 / w + 1 ⌝ }
+    ensures { λ result. ⌜ result ≡ 65536 / w + 1 ⌝ }
 {
     65536 / w + 1
 }
@@ -50,7 +50,7 @@ pub fn scale(w: usize) -> usize
 // The row of cell c, without a division.
 pub fn row_of(w: usize, scale: usize, c: usize) -> usize
     requires { ⌜ (1 ≤ w) × (w ≤ 32) × (c < 1024) × (scale ≡ 65536 / w + 1) ⌝ }
-    ensures { λ r. ⌜ (r ≡ c / w) × (r * w + c % w ≡ c) ⌝ }
+    ensures { λ result. ⌜ (result ≡ c / w) × (result * w + c % w ≡ c) ⌝ }
 {
     (c * scale) >> 16
 }
@@ -58,7 +58,7 @@ pub fn row_of(w: usize, scale: usize, c: usize) -> usize
 // Takes the digit of a row at a column away.
 pub fn drop(rows: &mut [u32], row: usize, column: usize)
     requires { ⌜ (row < length (now rows)) × (column < 32) ⌝ }
-    ensures { λ x. ⌜ now (rows .exit) ≡ dropped (now (rows .entry)) row column ⌝ }
+    ensures { λ result. ⌜ now (rows .exit) ≡ dropped (now (rows .entry)) row column ⌝ }
 {
     let less = bit(column);
     rows[row] = without(rows[row], less);
@@ -68,7 +68,7 @@ pub fn drop(rows: &mut [u32], row: usize, column: usize)
 pub fn drop_at(rows: &mut [u32], i: usize, w: usize, scale: usize, cells: usize, c: usize)
     requires { ⌜ (1 ≤ w) × (w ≤ 32) × (cells ≤ 32 * w) × (scale ≡ 65536 / w + 1) ⌝ }
     requires { ⌜ i + 32 ≤ length (now rows) ⌝ }
-    ensures { λ x. ⌜ now (rows .exit) ≡ droppedAt w cells i c (now (rows .entry)) ⌝ }
+    ensures { λ result. ⌜ now (rows .exit) ≡ droppedAt w cells i c (now (rows .entry)) ⌝ }
 {
     if c < cells {
         let row = row_of(w, scale, c);
@@ -77,20 +77,20 @@ pub fn drop_at(rows: &mut [u32], i: usize, w: usize, scale: usize, cells: usize,
 }
 
 // Writes the first n of some rows into a table, from row i on.
-pub fn put_rows(table: &mut [u32], i: usize, x: &[u32], n: usize)
-    requires { ⌜ (n ≤ length (now x)) × (i + n ≤ length (now table)) ⌝ }
-    ensures { λ r. ⌜ now (table .exit) ≡ written (now (table .entry)) i (now (x .entry)) n ⌝ }
+pub fn put_rows(table: &mut [u32], i: usize, words: &[u32], n: usize)
+    requires { ⌜ (n ≤ length (now words)) × (i + n ≤ length (now table)) ⌝ }
+    ensures { λ result. ⌜ now (table .exit) ≡ written (now (table .entry)) i (now (words .entry)) n ⌝ }
 {
     let mut row: usize = 0;
     while row < n {
-        table[i + row] = x[row];
+        table[i + row] = words[row];
         row += 1;
     }
 }
 
 // The digits of a mask that a step brings to a row from the row above, itself and the row below.
 pub fn successor_row(over: u32, here: u32, under: u32, mask: u32) -> u32
-    ensures { λ r. ⌜ r ≡ successorRow over here under mask ⌝ }
+    ensures { λ result. ⌜ result ≡ successorRow over here under mask ⌝ }
 {
     (here | here << 1 | here >> 1 | over | under) & mask
 }

@@ -50,13 +50,13 @@ stored-view : (xs : List Answer) (m old : List ℕ) (j : ℕ) → AllWhole xs �
 stored-view xs m old j a l h e =
     let at = 65 * j in
     let block : take 65 (drop at m) ≡ recordOf (answerAt xs j) =
-    ap (λ (b : List ℕ). take 65 (drop at b)) e ∙ record-stored xs old j a l in
+    ap (λ (xs : List ℕ). take 65 (drop at xs)) e ∙ record-stored xs old j a l in
     let apart : m ≡ take at m ++ (recordOf (answerAt xs j) ++ drop 65 (drop at m)) =
     sym (take-append-drop at m)
-    ∙ ap (λ (b : List ℕ). take at m ++ b) (sym (take-append-drop 65 (drop at m)))
-    ∙ ap (λ (b : List ℕ). take at m ++ (b ++ drop 65 (drop at m))) block
+    ∙ ap (λ (xs : List ℕ). take at m ++ xs) (sym (take-append-drop 65 (drop at m)))
+    ∙ ap (λ (xs : List ℕ). take at m ++ (xs ++ drop 65 (drop at m))) block
     in
-    ap (λ (b : List ℕ). viewAt b j) apart
+    ap (λ (xs : List ℕ). viewAt xs j) apart
     ∙ record-view (take at m) (drop 65 (drop at m)) (answerAt xs j) j (length-take-le at m h) (whole-at xs j a l)
 
 stored-tag : (xs : List Answer) (m old : List ℕ) (j : ℕ) → AllWhole xs → j < length xs → m ≡ stored xs old →
@@ -64,14 +64,14 @@ stored-tag : (xs : List Answer) (m old : List ℕ) (j : ℕ) → AllWhole xs →
 unfolding part
 stored-tag xs m old j a l e =
     rw add-zero at (sym (part-byte m (65 * j) 65 0 (omega arith)))
-    ∙ ap (λ (b : List ℕ). getD (take 65 (drop (65 * j) b)) 0 0) e
-    ∙ ap (λ (b : List ℕ). getD b 0 0) (record-stored xs old j a l)
+    ∙ ap (λ (xs : List ℕ). getD (take 65 (drop (65 * j) xs)) 0 0) e
+    ∙ ap (λ (xs : List ℕ). getD xs 0 0) (record-stored xs old j a l)
 
 -- The tag tells whether the answer is none.
-by-tag : (x : Answer) (t : ℕ) → t ≡ getD (recordOf x) 0 0 → (t ≡ 2 → isNone x ≡ false) × ((t ≡ 2 → ⊥) → isNone x ≡ true)
+by-tag : (x : Answer) (tag : ℕ) → tag ≡ getD (recordOf x) 0 0 → (tag ≡ 2 → isNone x ≡ false) × ((tag ≡ 2 → ⊥) → isNone x ≡ true)
 unfolding recordOf isNone
-by-tag none t e = (λ h. absurd (omega arith), λ h. refl)
-by-tag (route r) t e = (λ h. refl, λ h. absurd (h e))
+by-tag none tag e = (λ h. absurd (omega arith), λ h. refl)
+by-tag (route r) tag e = (λ h. refl, λ h. absurd (h e))
 
 -- The plan of a checked floor in memory of the entry's own.
 module _ (f : Floor) (ws : List ℕ) (ok : checkOf f ws ≡ passed) where
@@ -142,9 +142,9 @@ module _ (f : Floor) (ws : List ℕ) (ok : checkOf f ws ≡ passed) where
               ∙ sym (told-answer (planOf f ws) j i h (omega (arith, low)))
 
       -- What the procedure leaves of them is the set.
-      pub own-set : (s : ℕ) → s ≡ setOf (leftAfter (respondOf f ws i) i (records m i)) → s ≡ blockersOf f ws i
+      pub own-set : (k : ℕ) → k ≡ setOf (leftAfter (respondOf f ws i) i (records m i)) → k ≡ blockersOf f ws i
       unfolding blockersOf
-      own-set s g = g ∙ ap (λ (vs : List View). setOf (leftAfter (respondOf f ws i) i vs)) own-views
+      own-set k g = g ∙ ap (λ (vs : List View). setOf (leftAfter (respondOf f ws i) i vs)) own-views
 
   -- A carrier of it can be searched for.
   pub own-searchable : (rows m : List ℕ) (i : ℕ) → i < f .carriers → 65 * i ≤ length m → FreeRows f ws rows → Searchable f rows (i + 1) m
@@ -193,11 +193,11 @@ module _ (f : Floor) (ws : List ℕ) (carrier : ℕ) (m : List ℕ) where
         let no = then-passed ok ∙ demand-refuses 16 0 e in
         (sym (gives-refused _ no), sym (when-refused _ no))
 
-    pub shut-in : isNone (answerAt (planOf f ws) (carrier - 1)) ≡ true → (s : ℕ) (m′ : List ℕ) → s ≡ blockersOf f ws (carrier - 1) →
+    pub shut-in : isNone (answerAt (planOf f ws) (carrier - 1)) ≡ true → (k : ℕ) (m′ : List ℕ) → k ≡ blockersOf f ws (carrier - 1) →
         m′ ≡ stored (planOf f ws) m →
-        (value s ≡ blockersOutcome f ws carrier (length m)) × (m′ ≡ blockersMemory f ws carrier m)
+        (value k ≡ blockersOutcome f ws carrier (length m)) × (m′ ≡ blockersMemory f ws carrier m)
     unfolding blockersOutcome blockersMemory blockersVerdict
-    shut-in e s m′ set stores =
+    shut-in e k m′ set stores =
         let yes = then-passed ok ∙ demand-passes 16 0 e in (
           ap value set ∙ sym (gives-passed yes),
           stores ∙ sym (when-passed m yes),

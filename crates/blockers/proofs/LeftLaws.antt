@@ -13,15 +13,15 @@ use Rattle.blockers.specs.Claims.{viewsOfPart}
 use Rattle.blockers.proofs.PartLaws.{Part, all-heard, minus, minus-same, minus-less, views-minus}
 
 -- What is left where the answer without carrier k is known.
-kept-shut : (a : Answer) (q : Part) (k j : ℕ) → ifNone a (minus q k) q j ≡ true → q j ≡ true
+kept-shut : (x : Answer) (part : Part) (k j : ℕ) → ifNone x (minus part k) part j ≡ true → part j ≡ true
 unfolding ifNone
-kept-shut none q k j e = minus-less q k j e
-kept-shut (route r) q k j e = e
+kept-shut none part k j e = minus-less part k j e
+kept-shut (route r) part k j e = e
 
-kept-route : (a : Answer) (q : Part) (k : ℕ) → ifNone a (minus q k) q k ≡ true → (r : List ℕ) × (a ≡ route r)
+kept-route : (x : Answer) (part : Part) (k : ℕ) → ifNone x (minus part k) part k ≡ true → (r : List ℕ) × (x ≡ route r)
 unfolding ifNone
-kept-route none q k e = true-false-absurd e (minus-same q k)
-kept-route (route r) q k e = (r, refl)
+kept-route none part k e = true-false-absurd e (minus-same part k)
+kept-route (route r) part k e = (r, refl)
 
 module _ (respond : List View → Answer) (xs : List Answer) where
   -- The part that is left when the carriers below k were tried.
@@ -29,10 +29,10 @@ module _ (respond : List View → Answer) (xs : List Answer) where
   leftPart zero = λ j. true
   leftPart (suc k) = ifNone (respond (viewsOfPart (minus (leftPart k) k) xs)) (minus (leftPart k) k) (leftPart k)
 
-  by-answer : (a : Answer) (p q : Part) → ifNone a (viewsOfPart p xs) (viewsOfPart q xs) ≡ viewsOfPart (ifNone a p q) xs
+  by-answer : (x : Answer) (part part′ : Part) → ifNone x (viewsOfPart part xs) (viewsOfPart part′ xs) ≡ viewsOfPart (ifNone x part part′) xs
   unfolding ifNone
-  by-answer none p q = refl
-  by-answer (route r) p q = refl
+  by-answer none part part′ = refl
+  by-answer (route r) part part′ = refl
 
   -- The views that are left are those of that part.
   pub left-views : (k : ℕ) → leftAfter respond k (map heard xs) ≡ viewsOfPart (leftPart k) xs
@@ -43,11 +43,11 @@ module _ (respond : List View → Answer) (xs : List Answer) where
       ∙ ap (λ (vs : List View). ifNone (respond vs) vs (viewsOfPart (leftPart k) xs)) (views-minus (leftPart k) xs k)
       ∙ by-answer (respond (viewsOfPart (minus (leftPart k) k) xs)) (minus (leftPart k) k) (leftPart k)
 
-  still-none : (a : Answer) (p q : Part) → respond (viewsOfPart p xs) ≡ a → respond (viewsOfPart q xs) ≡ none →
-      respond (viewsOfPart (ifNone a p q) xs) ≡ none
+  still-none : (x : Answer) (part part′ : Part) → respond (viewsOfPart part xs) ≡ x → respond (viewsOfPart part′ xs) ≡ none →
+      respond (viewsOfPart (ifNone x part part′) xs) ≡ none
   unfolding ifNone
-  still-none none p q e h = e
-  still-none (route r) p q e h = h
+  still-none none part part′ e h = e
+  still-none (route r) part part′ e h = h
 
   -- Against what is left there is no route.
   pub left-shut : respond (map heard xs) ≡ none → (k : ℕ) → respond (viewsOfPart (leftPart k) xs) ≡ none

@@ -33,24 +33,24 @@ use Rattle.blockers.specs.Inner.{heardDigit}
 use Rattle.blockers.proofs.SetLaws.{set-below}
 
 -- A part that a store does not touch.
-part-set : (m : List ℕ) (at n p v : ℕ) → at + n ≤ length m → ((i : ℕ) → i < n → at + i ≡ p → ⊥) → part (set m p v) at n ≡ part m at n
-part-set m at n p v l h =
-    let long : length (part (set m p v) at n) ≡ n = part-length (set m p v) at n (omega (arith, length-set m p v)) in
-    ext-getD 0 (part (set m p v) at n) (part m at n) (long ∙ sym (part-length m at n l))
+part-set : (m : List ℕ) (at n p x : ℕ) → at + n ≤ length m → ((i : ℕ) → i < n → at + i ≡ p → ⊥) → part (set m p x) at n ≡ part m at n
+part-set m at n p x l h =
+    let long : length (part (set m p x) at n) ≡ n = part-length (set m p x) at n (omega (arith, length-set m p x)) in
+    ext-getD 0 (part (set m p x) at n) (part m at n) (long ∙ sym (part-length m at n l))
     (λ i b.
     let low : i < n = omega arith in
-    part-byte (set m p v) at n i low ∙ getD-set-other m p (at + i) v 0 (h i low) ∙ sym (part-byte m at n i low))
+    part-byte (set m p x) at n i low ∙ getD-set-other m p (at + i) x 0 (h i low) ∙ sym (part-byte m at n i low))
 
 -- A record with tag 0 is not heard, and the others are as they were.
 cleared-view : (m : List ℕ) (j : ℕ) → 65 * j < length m → viewAt (set m (65 * j) 0) j ≡ unheard
 unfolding viewAt recordAt viewOf
 cleared-view m j l = rw (getD-set-same m (65 * j) 0 0 l)
 
-other-view : (m : List ℕ) (j k v : ℕ) → 65 * k + 65 ≤ length m → (k ≡ j → ⊥) → viewAt (set m (65 * j) v) k ≡ viewAt m k
+other-view : (m : List ℕ) (j k x : ℕ) → 65 * k + 65 ≤ length m → (k ≡ j → ⊥) → viewAt (set m (65 * j) x) k ≡ viewAt m k
 unfolding viewAt recordAt
-other-view m j k v l ne =
-    ap₂ viewOf (getD-set-other m (65 * j) (65 * k) v 0 (λ e. ne (omega arith)))
-    (part-set m (65 * k + 1) 64 (65 * j) v (omega arith) (λ i b e. ne (omega arith)))
+other-view m j k x l ne =
+    ap₂ viewOf (getD-set-other m (65 * j) (65 * k) x 0 (λ e. ne (omega arith)))
+    (part-set m (65 * k + 1) 64 (65 * j) x (omega arith) (λ i b e. ne (omega arith)))
 
 pub cleared-records : (m : List ℕ) (i j : ℕ) → j < i → 65 * i ≤ length m → records (set m (65 * j) 0) i ≡ viewsWithout j (records m i)
 unfolding viewsWithout
@@ -72,15 +72,15 @@ cleared-records m i j l h =
         ∙ sym (getD-set-other (records m i) j k unheard unheard ne ∙ records-view m i k low)
 
 -- The tag of what was found tells whether it is none.
-by-outcome : (o : Outcome) (r : List ℕ) (x : Answer) (vs us : List View) → outcomeOf o r ≡ answered x →
-    (tagOf o ≡ 2 → ifNone x vs us ≡ us) × ((tagOf o ≡ 2 → ⊥) → ifNone x vs us ≡ vs)
+by-outcome : (x′ : Outcome) (r : List ℕ) (x : Answer) (vs vs′ : List View) → outcomeOf x′ r ≡ answered x →
+    (tagOf x′ ≡ 2 → ifNone x vs vs′ ≡ vs′) × ((tagOf x′ ≡ 2 → ⊥) → ifNone x vs vs′ ≡ vs)
 unfolding outcomeOf tagOf ifNone
-by-outcome Route r none vs us e = absurd (let z : _≡_ {A = ℕ} 0 1 = cc in omega arith)
-by-outcome Route r (route q) vs us e = (λ t. refl, λ n. absurd (n refl))
-by-outcome None r none vs us e = (λ t. absurd (omega arith), λ n. refl)
-by-outcome None r (route q) vs us e = absurd (let z : _≡_ {A = ℕ} 0 1 = cc in omega arith)
-by-outcome (Refused y) r none vs us e = absurd (let z : _≡_ {A = ℕ} 0 1 = cc in omega arith)
-by-outcome (Refused y) r (route q) vs us e = absurd (let z : _≡_ {A = ℕ} 0 1 = cc in omega arith)
+by-outcome Route r none vs vs′ e = absurd (let z : _≡_ {A = ℕ} 0 1 = cc in omega arith)
+by-outcome Route r (route q) vs vs′ e = (λ t. refl, λ n. absurd (n refl))
+by-outcome None r none vs vs′ e = (λ t. absurd (omega arith), λ n. refl)
+by-outcome None r (route q) vs vs′ e = absurd (let z : _≡_ {A = ℕ} 0 1 = cc in omega arith)
+by-outcome (Refused y) r none vs vs′ e = absurd (let z : _≡_ {A = ℕ} 0 1 = cc in omega arith)
+by-outcome (Refused y) r (route q) vs vs′ e = absurd (let z : _≡_ {A = ℕ} 0 1 = cc in omega arith)
 
 -- One carrier tried: its record stays out, or is put back.
 module _ (f : Floor) (rows : List ℕ) (i : ℕ) (m : List ℕ) (j : ℕ) (l : j < i) (h : 65 * i ≤ length m) (found : Found)
@@ -109,24 +109,24 @@ module _ (f : Floor) (rows : List ℕ) (i : ℕ) (m : List ℕ) (j : ℕ) (l : j
       ∙ sym (by-outcome (found .outcome) (found .route) _ (viewsWithout j (records m i)) (records m i) answer .0 two)
 
 -- One more carrier tried.
-module _ (respond : List View → Answer) (ws : List View) where
-  pub left-more : (j : ℕ) (us vs : List View) → us ≡ leftAfter respond j ws → vs ≡ tried respond j us → vs ≡ leftAfter respond (j + 1) ws
+module _ (respond : List View → Answer) (vs′ : List View) where
+  pub left-more : (j : ℕ) (vs″ vs : List View) → vs″ ≡ leftAfter respond j vs′ → vs ≡ tried respond j vs″ → vs ≡ leftAfter respond (j + 1) vs′
   unfolding leftAfter
-  left-more j us vs e h = rw add-one (h ∙ ap (tried respond j) e)
+  left-more j vs″ vs e h = rw add-one (h ∙ ap (tried respond j) e)
 
-  pub left-start : ws ≡ leftAfter respond 0 ws
+  pub left-start : vs′ ≡ leftAfter respond 0 vs′
   unfolding leftAfter
   left-start = refl
 
-  pub left-end : (j i : ℕ) (us : List View) → j ≤ i → i ≤ j → us ≡ leftAfter respond j ws → us ≡ leftAfter respond i ws
-  left-end j i us a b e =
+  pub left-end : (j i : ℕ) (vs : List View) → j ≤ i → i ≤ j → vs ≡ leftAfter respond j vs′ → vs ≡ leftAfter respond i vs′
+  left-end j i vs a b e =
       let same : j ≡ i = omega arith in
       rw same at e
 
 -- The digit of a record in front of those that were counted.
-by-tests : (b c : Bool) (cells : List ℕ) (vs : List View) →
-    setOf (elim c [ true ↦ heard (route cells) | false ↦ elim b [ true ↦ heard none | false ↦ unheard ] ] ∷ vs)
-    ≡ 2 * setOf vs + cond (b || c) 1 0
+by-tests : (x y : Bool) (cells : List ℕ) (vs : List View) →
+    setOf (elim y [ true ↦ heard (route cells) | false ↦ elim x [ true ↦ heard none | false ↦ unheard ] ] ∷ vs)
+    ≡ 2 * setOf vs + cond (x || y) 1 0
 unfolding setOf
 by-tests true true cells vs = refl
 by-tests true false cells vs = refl
@@ -137,9 +137,9 @@ view-digit : (m : List ℕ) (j : ℕ) (vs : List View) → setOf (viewAt m j ∷
 unfolding viewAt recordAt viewOf heardDigit
 view-digit m j vs = by-tests (eqb (getD m (65 * j) 0) 1) (eqb (getD m (65 * j) 0) 2) (part m (65 * j + 1) 64) vs
 
-digit-more : (m : List ℕ) (k j s : ℕ) → j < k → s ≡ setOf (drop (suc j) (records m k)) →
-    2 * s + heardDigit (getD m (65 * j) 0) ≡ setOf (drop j (records m k))
-digit-more m k j s l e =
+digit-more : (m : List ℕ) (k j p : ℕ) → j < k → p ≡ setOf (drop (suc j) (records m k)) →
+    2 * p + heardDigit (getD m (65 * j) 0) ≡ setOf (drop j (records m k))
+digit-more m k j p l e =
     let low : j < length (records m k) = omega (arith, records-length m k) in
     ap (λ (n : ℕ). 2 * n + heardDigit (getD m (65 * j) 0)) e
     ∙ sym (view-digit m j (drop (suc j) (records m k)))
@@ -151,19 +151,19 @@ pub digit-start : (m : List ℕ) (k : ℕ) → 0 ≡ setOf (drop k (records m k)
 unfolding setOf
 digit-start m k = ap setOf (sym (drop-of-length-le (records m k) {i = k} (omega (arith, records-length m k))))
 
-module _ (m : List ℕ) (k j s : ℕ) (e : s ≡ setOf (drop j (records m k))) where
-  pub digit-again : 0 < j → j ≤ k → (d : ℕ) → d ≡ heardDigit (getD m (65 * (j - 1)) 0) → 2 * s + d ≡ setOf (drop (j - 1) (records m k))
+module _ (m : List ℕ) (k j p : ℕ) (e : p ≡ setOf (drop j (records m k))) where
+  pub digit-again : 0 < j → j ≤ k → (d : ℕ) → d ≡ heardDigit (getD m (65 * (j - 1)) 0) → 2 * p + d ≡ setOf (drop (j - 1) (records m k))
   digit-again l h d g =
       let before : j ≡ suc (j - 1) = omega arith in
-      ap (λ (n : ℕ). 2 * s + n) g
-      ∙ digit-more m k (j - 1) s (omega arith) (e ∙ ap (λ (n : ℕ). setOf (drop n (records m k))) before)
+      ap (λ (n : ℕ). 2 * p + n) g
+      ∙ digit-more m k (j - 1) p (omega arith) (e ∙ ap (λ (n : ℕ). setOf (drop n (records m k))) before)
 
-  pub digit-end : j ≤ 0 → s ≡ setOf (records m k)
+  pub digit-end : j ≤ 0 → p ≡ setOf (records m k)
   digit-end l =
       let none-left : j ≡ 0 = omega arith in
       rw none-left at e
 
-  pub digit-small : k ≤ 8 → s < 256
+  pub digit-small : k ≤ 8 → p < 256
   digit-small l =
       let few : length (drop j (records m k)) ≤ 8 = omega (arith, length-drop j (records m k), records-length m k) in
       omega (arith, e, set-below (drop j (records m k)) 8 few)

@@ -7,29 +7,29 @@ use Rattle.route.specs.Route.{Answer, none, route, View, unheard}
 use Rattle.blockers.specs.Blockers.{viewsWithout, ifNone, tried, leftAfter}
 
 -- Nothing changes how many views there are.
-by-answer : (a : Answer) (vs us : List View) (n : ℕ) → length vs ≡ n → length us ≡ n → length (ifNone a vs us) ≡ n
+by-answer : (x : Answer) (vs vs′ : List View) (n : ℕ) → length vs ≡ n → length vs′ ≡ n → length (ifNone x vs vs′) ≡ n
 unfolding ifNone
-by-answer none vs us n e h = e
-by-answer (route r) vs us n e h = h
+by-answer none vs vs′ n e h = e
+by-answer (route r) vs vs′ n e h = h
 
-module _ (p q : List View → Answer) (n : ℕ) (same : (vs : List View) → length vs ≡ n → p vs ≡ q vs) where
+module _ (φ ψ : List View → Answer) (n : ℕ) (same : (vs : List View) → length vs ≡ n → φ vs ≡ ψ vs) where
   without-long : (j : ℕ) (vs : List View) → length vs ≡ n → length (viewsWithout j vs) ≡ n
   unfolding viewsWithout
   without-long j vs e = length-set vs j unheard ∙ e
 
-  tried-long : (j : ℕ) (vs : List View) → length vs ≡ n → length (tried p j vs) ≡ n
+  tried-long : (j : ℕ) (vs : List View) → length vs ≡ n → length (tried φ j vs) ≡ n
   unfolding tried
-  tried-long j vs e = by-answer (p (viewsWithout j vs)) (viewsWithout j vs) vs n (without-long j vs e) e
+  tried-long j vs e = by-answer (φ (viewsWithout j vs)) (viewsWithout j vs) vs n (without-long j vs e) e
 
-  left-long : (k : ℕ) (vs : List View) → length vs ≡ n → length (leftAfter p k vs) ≡ n
+  left-long : (k : ℕ) (vs : List View) → length vs ≡ n → length (leftAfter φ k vs) ≡ n
   unfolding leftAfter
   left-long zero vs e = e
-  left-long (suc k) vs e = tried-long k (leftAfter p k vs) (left-long k vs e)
+  left-long (suc k) vs e = tried-long k (leftAfter φ k vs) (left-long k vs e)
 
-  pub left-same : (k : ℕ) (vs : List View) → length vs ≡ n → leftAfter p k vs ≡ leftAfter q k vs
+  pub left-same : (k : ℕ) (vs : List View) → length vs ≡ n → leftAfter φ k vs ≡ leftAfter ψ k vs
   unfolding leftAfter tried
   left-same zero vs e = refl
   left-same (suc k) vs e =
-      let us = leftAfter p k vs in
-      ap (λ (a : Answer). ifNone a (viewsWithout k us) us) (same (viewsWithout k us) (without-long k us (left-long k vs e)))
-      ∙ ap (tried q k) (left-same k vs e)
+      let us = leftAfter φ k vs in
+      ap (λ (x : Answer). ifNone x (viewsWithout k us) us) (same (viewsWithout k us) (without-long k us (left-long k vs e)))
+      ∙ ap (tried ψ k) (left-same k vs e)

@@ -27,36 +27,36 @@ more-odd : (n : ℕ) → (2 * n + 1) % 2 ≡ 1
 more-odd n = omega arith
 
 -- The first digit, and those behind it.
-first-digit : (b : Bool) (x : Answer) (vs : List View) → digit (setOf (cond b (heard x) unheard ∷ vs)) 0 ≡ b
+first-digit : (y : Bool) (x : Answer) (vs : List View) → digit (setOf (cond y (heard x) unheard ∷ vs)) 0 ≡ y
 unfolding setOf digit
 first-digit true x vs = ap (λ (n : ℕ). eqb n 1) (more-odd (setOf vs))
 first-digit false x vs = ap (λ (n : ℕ). eqb n 1) (double-even (setOf vs))
 
-next-digit : (b : Bool) (x : Answer) (vs : List View) (j : ℕ) → digit (setOf (cond b (heard x) unheard ∷ vs)) (suc j) ≡ digit (setOf vs) j
+next-digit : (y : Bool) (x : Answer) (vs : List View) (j : ℕ) → digit (setOf (cond y (heard x) unheard ∷ vs)) (suc j) ≡ digit (setOf vs) j
 unfolding setOf digit
 next-digit true x vs j = ap (λ (n : ℕ). digit n j) (more-half (setOf vs))
 next-digit false x vs j = ap (λ (n : ℕ). digit n j) (double-half (setOf vs))
 
 -- Digit j of the set of a part tells whether carrier j is in it.
-pub set-digit : (p : Part) (xs : List Answer) (j : ℕ) → j < length xs → digit (setOf (viewsOfPart p xs)) j ≡ p j
+pub set-digit : (part : Part) (xs : List Answer) (j : ℕ) → j < length xs → digit (setOf (viewsOfPart part xs)) j ≡ part j
 unfolding viewsOfPart
-set-digit p [] j l = absurd (omega arith)
-set-digit p (x ∷ xs) zero l = first-digit (p 0) x (viewsOfPart (λ j. p (suc j)) xs)
-set-digit p (x ∷ xs) (suc j) l = next-digit (p 0) x (viewsOfPart (λ i. p (suc i)) xs) j ∙ set-digit (λ i. p (suc i)) xs j (omega arith)
+set-digit part [] j l = absurd (omega arith)
+set-digit part (x ∷ xs) zero l = first-digit (part 0) x (viewsOfPart (λ j. part (suc j)) xs)
+set-digit part (x ∷ xs) (suc j) l = next-digit (part 0) x (viewsOfPart (λ i. part (suc i)) xs) j ∙ set-digit (λ i. part (suc i)) xs j (omega arith)
 
 -- There are no digits past the carriers.
-pub set-beyond : (p : Part) (xs : List Answer) (j : ℕ) → length xs ≤ j → digit (setOf (viewsOfPart p xs)) j ≡ false
+pub set-beyond : (part : Part) (xs : List Answer) (j : ℕ) → length xs ≤ j → digit (setOf (viewsOfPart part xs)) j ≡ false
 unfolding viewsOfPart setOf
-set-beyond p [] j l = digit-zero j
-set-beyond p (x ∷ xs) zero l = absurd (omega arith)
-set-beyond p (x ∷ xs) (suc j) l = next-digit (p 0) x (viewsOfPart (λ i. p (suc i)) xs) j ∙ set-beyond (λ i. p (suc i)) xs j (omega arith)
+set-beyond part [] j l = digit-zero j
+set-beyond part (x ∷ xs) zero l = absurd (omega arith)
+set-beyond part (x ∷ xs) (suc j) l = next-digit (part 0) x (viewsOfPart (λ i. part (suc i)) xs) j ∙ set-beyond (λ i. part (suc i)) xs j (omega arith)
 
 -- The set of nobody.
-pub set-nobody : (p : Part) (xs : List Answer) → ((j : ℕ) → j < length xs → p j ≡ false) → setOf (viewsOfPart p xs) ≡ 0
+pub set-nobody : (part : Part) (xs : List Answer) → ((j : ℕ) → j < length xs → part j ≡ false) → setOf (viewsOfPart part xs) ≡ 0
 unfolding viewsOfPart setOf
-set-nobody p [] h = refl
-set-nobody p (x ∷ xs) h =
-    let rest : setOf (viewsOfPart (λ i. p (suc i)) xs) ≡ 0 = set-nobody (λ i. p (suc i)) xs (λ j l. h (suc j) (omega arith)) in
+set-nobody part [] h = refl
+set-nobody part (x ∷ xs) h =
+    let rest : setOf (viewsOfPart (λ i. part (suc i)) xs) ≡ 0 = set-nobody (λ i. part (suc i)) xs (λ j l. h (suc j) (omega arith)) in
     rw (h 0 (omega arith)) (omega (arith, rest))
 
 -- A set of at most n carriers is below 2 ^ n.

@@ -33,10 +33,10 @@ unfolding ShowsNoRoute ClearOfView
 silent-clear H v (inl e) q = rw e tt
 silent-clear H v (inr e) q = rw e tt
 
-fewer-views : (task : Task) (vs us : List View) (q : List ℕ) → ((v : View) → List·Memᴰ v us → ShowsNoRoute v ⊎ List·Memᴰ v vs) →
-    Admissible task vs q → Admissible task us q
+fewer-views : (task : Task) (vs vs′ : List View) (q : List ℕ) → ((v : View) → List·Memᴰ v vs′ → ShowsNoRoute v ⊎ List·Memᴰ v vs) →
+    Admissible task vs q → Admissible task vs′ q
 unfolding ClearOf
-fewer-views task vs us q h a =
+fewer-views task vs vs′ q h a =
     record {
       is-route = a .is-route;
       clear = λ v m.
@@ -102,17 +102,17 @@ module _ (f : Floor) (ws : List ℕ) (i : ℕ) (s : Stranded f ws i) where
       let shut : best task (seen f (viewsOfPart (shutsIn f ws i) xs)) ≡ none = ap respond same ∙ left-shut respond xs all-shut i in
       route-theorems .none-exactly task (seen f (viewsOfPart (shutsIn f ws i) xs)) short .0 shut
 
-  smallest : (p : Part) → ((j : ℕ) → p j ≡ true → shutsIn f ws i j ≡ true) → (k : ℕ) → shutsIn f ws i k ≡ true → p k ≡ false →
-      (q : List ℕ) × RouteAgainst f ws i p q
+  smallest : (part : Part) → ((j : ℕ) → part j ≡ true → shutsIn f ws i j ≡ true) → (k : ℕ) → shutsIn f ws i k ≡ true → part k ≡ false →
+      (q : List ℕ) × RouteAgainst f ws i part q
   unfolding RouteAgainst respondOf
-  smallest p sub k e lacks =
+  smallest part sub k e lacks =
       let low : k < i = only-above k e in
       let there : leftPart respond xs (suc k) k ≡ true = left-before respond xs (suc k) i k low (sym (shuts-part k low) ∙ e) in
       let needed = left-needed respond xs k there in
       let left = minus (leftPart respond xs k) k in (
         needed .0,
-        fewer-views task (seen f (viewsOfPart left xs)) (seen f (viewsOfPart p xs)) (needed .0)
-            (seen-part f p left xs (part-minus p (leftPart respond xs k) k (λ j t. before j (only-above j (sub j t)) (sub j t) low) lacks))
+        fewer-views task (seen f (viewsOfPart left xs)) (seen f (viewsOfPart part xs)) (needed .0)
+            (seen-part f part left xs (part-minus part (leftPart respond xs k) k (λ j t. before j (only-above j (sub j t)) (sub j t) low) lacks))
             (best-admissible task (seen f (viewsOfPart left xs)) (needed .0) short (needed .1)),
       )
     where

@@ -14,7 +14,7 @@ use search::Rows;
 // Tries carrier j, for the carrier with i above it: it stays out if there is still no route without it.
 fn try_without(f: Floor, free: Rows, i: u16, views: &mut [u16], j: usize)
     requires { ⌜ (j < i) × Searchable f free (i + 1) (now views) ⌝ }
-    ensures { λ r. ⌜ records (now (views .exit)) i ≡ tried (respondWith f free i) j (records (now (views .entry)) i) ⌝ }
+    ensures { λ result. ⌜ records (now (views .exit)) i ≡ tried (respondWith f free i) j (records (now (views .entry)) i) ⌝ }
 {
     let at = SIZE * j;
     let tag = views[at];
@@ -29,7 +29,7 @@ fn try_without(f: Floor, free: Rows, i: u16, views: &mut [u16], j: usize)
 // Tries the carriers above in turn, from the first downwards in rank.
 pub fn leave_out(f: Floor, free: Rows, i: u16, views: &mut [u16])
     requires { ⌜ Searchable f free (i + 1) (now views) ⌝ }
-    ensures { λ r. ⌜ records (now (views .exit)) i ≡ leftAfter (respondWith f free i) i (records (now (views .entry)) i) ⌝ }
+    ensures { λ result. ⌜ records (now (views .exit)) i ≡ leftAfter (respondWith f free i) i (records (now (views .entry)) i) ⌝ }
 {
     let n = i as usize;
     let mut j: usize = 0;
@@ -41,7 +41,7 @@ pub fn leave_out(f: Floor, free: Rows, i: u16, views: &mut [u16])
 
 // 1 if a record with this tag is heard, 0 if not.
 fn heard_digit(tag: u16) -> u16
-    ensures { λ r. ⌜ (r ≡ heardDigit tag) × (r ≤ 1) ⌝ }
+    ensures { λ result. ⌜ (result ≡ heardDigit tag) × (result ≤ 1) ⌝ }
 {
     if tag == 1 {
         return 1;
@@ -55,7 +55,7 @@ fn heard_digit(tag: u16) -> u16
 // The carriers that are heard, a bit each.
 pub fn set_of(views: &[u16], k: usize) -> u16
     requires { ⌜ (k ≤ 8) × (65 * k ≤ length (now views)) ⌝ }
-    ensures { λ r. ⌜ r ≡ setOf (records (now (views .entry)) k) ⌝ }
+    ensures { λ result. ⌜ result ≡ setOf (records (now (views .entry)) k) ⌝ }
 {
     let mut set: u16 = 0;
     let mut j = k;

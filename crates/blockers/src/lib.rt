@@ -30,7 +30,7 @@ pub enum Blocked {
 
 // The refusals but 16, in their order.
 fn request(f: Floor, walls: &[u16], carrier: u16, lent: usize) -> Checked
-    ensures { λ r. ⌜ verdictOf r ≡ carrierVerdict f (now (walls .entry)) carrier lent ⌝ }
+    ensures { λ result. ⌜ verdictOf result ≡ carrierVerdict f (now (walls .entry)) carrier lent ⌝ }
 {
     let planned = planner::request(f, walls, lent);
     let Checked::Passed = planned else {
@@ -42,7 +42,7 @@ fn request(f: Floor, walls: &[u16], carrier: u16, lent: usize) -> Checked
 // The sequential answers of a checked floor, in memory of its own.
 pub fn plan_own(f: Floor, walls: &[u16]) -> [u16; TEAM]
     requires { ⌜ checkOf f (now walls) ≡ passed ⌝ }
-    ensures { λ r. ⌜ PlanIn f (now (walls .entry)) r ⌝ }
+    ensures { λ result. ⌜ PlanIn f (now (walls .entry)) result ⌝ }
 {
     let mut own = records::blank();
     planner::plan(f, walls, &mut own);
@@ -52,7 +52,7 @@ pub fn plan_own(f: Floor, walls: &[u16]) -> [u16; TEAM]
 // The set that is left of the carriers in the first i records, for the carrier below them.
 fn shut_by(f: Floor, walls: &[u16], i: u16, views: &mut [u16]) -> u16
     requires { ⌜ (checkOf f (now walls) ≡ passed) × (i < f .carriers) × (65 * i ≤ length (now views)) ⌝ }
-    ensures { λ r. ⌜ r ≡ setOf (leftAfter (respondOf f (now (walls .entry)) i) i (records (now (views .entry)) i)) ⌝ }
+    ensures { λ result. ⌜ result ≡ setOf (leftAfter (respondOf f (now (walls .entry)) i) i (records (now (views .entry)) i)) ⌝ }
 {
     let free = search::free_rows(f, walls);
     leave::leave_out(f, free, i, views);
@@ -62,7 +62,7 @@ fn shut_by(f: Floor, walls: &[u16], i: u16, views: &mut [u16]) -> u16
 // The carriers that shut the carrier with i above it in, from the sequential answers of a checked floor.
 pub fn set_for(f: Floor, walls: &[u16], own: [u16; TEAM], i: u16) -> u16
     requires { ⌜ (checkOf f (now walls) ≡ passed) × (i < f .carriers) × PlanIn f (now walls) own ⌝ }
-    ensures { λ r. ⌜ r ≡ blockersOf f (now (walls .entry)) i ⌝ }
+    ensures { λ result. ⌜ result ≡ blockersOf f (now (walls .entry)) i ⌝ }
 {
     let mut views = own;
     shut_by(f, walls, i, &mut views)
@@ -71,8 +71,8 @@ pub fn set_for(f: Floor, walls: &[u16], own: [u16; TEAM], i: u16) -> u16
 // Finds who shuts a carrier of a checked floor in, and stores the sequential answers; 16 where the carrier has a route.
 fn find(f: Floor, walls: &[u16], carrier: u16, answers: &mut [u16]) -> Blocked
     requires { ⌜ carrierVerdict f (now walls) carrier (length (now answers)) ≡ passed ⌝ }
-    ensures answers { λ r. ⌜ blockedOutcome r ≡ blockersOutcome f (now (walls .entry)) carrier (length (now (answers .entry))) ⌝ }
-    ensures stores { λ r. ⌜ now (answers .exit) ≡ blockersMemory f (now (walls .entry)) carrier (now (answers .entry)) ⌝ }
+    ensures answers { λ result. ⌜ blockedOutcome result ≡ blockersOutcome f (now (walls .entry)) carrier (length (now (answers .entry))) ⌝ }
+    ensures stores { λ result. ⌜ now (answers .exit) ≡ blockersMemory f (now (walls .entry)) carrier (now (answers .entry)) ⌝ }
 {
     let i = carrier - 1;
     let at = SIZE * i as usize;
@@ -90,8 +90,8 @@ fn find(f: Floor, walls: &[u16], carrier: u16, answers: &mut [u16]) -> Blocked
 // Who shuts a carrier in: begin with all carriers above it and, from carrier 1 downwards in rank, leave out each that can go. The
 // sequential answers go into lent memory, as planning leaves them; all is as found with a refusal, 16 (the carrier has a route) too.
 pub fn blockers(f: Floor, walls: &[u16], carrier: u16, answers: &mut [u16]) -> Blocked
-    ensures answers { λ r. ⌜ blockedOutcome r ≡ blockersOutcome f (now (walls .entry)) carrier (length (now (answers .entry))) ⌝ }
-    ensures stores { λ r. ⌜ now (answers .exit) ≡ blockersMemory f (now (walls .entry)) carrier (now (answers .entry)) ⌝ }
+    ensures answers { λ result. ⌜ blockedOutcome result ≡ blockersOutcome f (now (walls .entry)) carrier (length (now (answers .entry))) ⌝ }
+    ensures stores { λ result. ⌜ now (answers .exit) ≡ blockersMemory f (now (walls .entry)) carrier (now (answers .entry)) ⌝ }
 {
     let asked = request(f, walls, carrier, answers.len());
     let Checked::Refused(x) = asked else {

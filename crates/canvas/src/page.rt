@@ -33,68 +33,68 @@ pub fn page_of(f: Floor) -> Page {
 }
 
 // The side of a cell.
-pub fn side(p: Page) -> usize
-    ensures { λ r. ⌜ r ≤ 40 ⌝ }
+pub fn side(page: Page) -> usize
+    ensures { λ result. ⌜ result ≤ 40 ⌝ }
 {
-    if p.small { 24 } else { 40 }
+    if page.small { 24 } else { 40 }
 }
 
 // The length of k cells.
-pub fn cells(p: Page, k: u16) -> usize
-    ensures { λ r. ⌜ r ≤ 2621400 ⌝ }
+pub fn cells(page: Page, k: u16) -> usize
+    ensures { λ result. ⌜ result ≤ 2621400 ⌝ }
 {
-    if p.small {
+    if page.small {
         return 24 * k as usize;
     }
     40 * k as usize
 }
 
 // Where column or row k begins, behind the labels; and its middle.
-pub fn edge(p: Page, k: u16) -> usize
-    ensures { λ r. ⌜ r ≤ 2621428 ⌝ }
+pub fn edge(page: Page, k: u16) -> usize
+    ensures { λ result. ⌜ result ≤ 2621428 ⌝ }
 {
-    28 + cells(p, k)
+    28 + cells(page, k)
 }
 
-pub fn middle(p: Page, k: u16) -> usize
-    ensures { λ r. ⌜ r ≤ 2621448 ⌝ }
+pub fn middle(page: Page, k: u16) -> usize
+    ensures { λ result. ⌜ result ≤ 2621448 ⌝ }
 {
-    edge(p, k) + side(p) / 2
+    edge(page, k) + side(page) / 2
 }
 
 // The line of a trace in column or row k, beside those of the other carriers.
-pub fn track(p: Page, k: u16, carrier: usize) -> usize
+pub fn track(page: Page, k: u16, carrier: usize) -> usize
     requires { ⌜ carrier ≤ 8 ⌝ }
-    ensures { λ r. ⌜ r ≤ 2621480 ⌝ }
+    ensures { λ result. ⌜ result ≤ 2621480 ⌝ }
 {
-    if p.small {
-        return edge(p, k) + 8 + carrier;
+    if page.small {
+        return edge(page, k) + 8 + carrier;
     }
-    edge(p, k) + 13 + 2 * carrier
+    edge(page, k) + 13 + 2 * carrier
 }
 
 // Where the legend begins; a line of it, the beat's being line 0.
-pub fn legend(p: Page) -> usize
-    ensures { λ r. ⌜ r ≤ 2621460 ⌝ }
+pub fn legend(page: Page) -> usize
+    ensures { λ result. ⌜ result ≤ 2621460 ⌝ }
 {
-    edge(p, p.columns) + 24
+    edge(page, page.columns) + 24
 }
 
 pub fn legend_line(k: usize) -> usize
     requires { ⌜ k ≤ 64 ⌝ }
-    ensures { λ r. ⌜ (50 ≤ r) × (r ≤ 2000) ⌝ }
+    ensures { λ result. ⌜ (50 ≤ result) × (result ≤ 2000) ⌝ }
 {
     50 + 30 * k
 }
 
 // The width of the page, and its height: that of the grid or of the legend.
-pub fn width(p: Page) -> usize {
-    legend(p) + 190
+pub fn width(page: Page) -> usize {
+    legend(page) + 190
 }
 
-pub fn height(p: Page) -> usize {
-    let grid = edge(p, p.rows) + 16;
-    let listed = 66 + 30 * p.carriers as usize;
+pub fn height(page: Page) -> usize {
+    let grid = edge(page, page.rows) + 16;
+    let listed = 66 + 30 * page.carriers as usize;
     if grid < listed {
         return listed;
     }
@@ -102,6 +102,6 @@ pub fn height(p: Page) -> usize {
 }
 
 // The time of the whole animation in milliseconds, half a second a beat, with two at the end.
-pub fn duration(p: Page) -> usize {
-    500 * (p.horizon as usize + 2)
+pub fn duration(page: Page) -> usize {
+    500 * (page.horizon as usize + 2)
 }

@@ -28,8 +28,8 @@ pub fn fresh(setup: &[u16], m: &mut [u16]) -> usize {
 }
 
 // What a step answered.
-fn stepped(a: Stepped) -> usize {
-    match a {
+fn stepped(x: Stepped) -> usize {
+    match x {
         Stepped::Kept => answer(KEPT, 0),
         Stepped::Sent => answer(SENT, 0),
         Stepped::Delivered => answer(DELIVERED, 0),
@@ -43,8 +43,8 @@ pub fn step(setup: &[u16], m: &mut [u16], x: u16) -> usize {
 }
 
 // What a run answered.
-fn ran(a: Ran) -> usize {
-    match a {
+fn ran(x: Ran) -> usize {
+    match x {
         Ran::Silent(n) => answer(SILENT, n),
         Ran::Spent(n) => answer(SPENT, n),
         Ran::Ended(n) => answer(ENDED, n),
@@ -67,8 +67,8 @@ pub fn plan(setup: &[u16], m: &mut [u16]) -> usize {
 }
 
 // Who shuts a carrier in, as a set, with the sequential plan in lent memory.
-pub fn shut_in(s: &[u8], setup: &[u16], m: &mut [u16]) -> usize {
-    let carrier = memory::narrow(field(s, 0));
+pub fn shut_in(bytes: &[u8], setup: &[u16], m: &mut [u16]) -> usize {
+    let carrier = memory::narrow(field(bytes, 0));
     let a = blockers::blockers(floor_of(setup), walls_of(setup), carrier, m);
     match a {
         Blocked::Shut(set) => {

@@ -9,46 +9,46 @@ use testkit::memory::both;
 fn both_get(setup: &[u16], m: &mut [u16], x: u16, wanted: usize) -> bool {
     let list = [x; 1];
     let a = calls::step(setup, m, x) == wanted;
-    let b = calls::run(setup, m, &list, 5) == wanted;
-    both(a, b)
+    let same = calls::run(setup, m, &list, 5) == wanted;
+    both(a, same)
 }
 
 // The number to try in place i, by a line's pairs from number 2 on: the first so many places get a number; a later pair goes before an
 // earlier one.
-fn number_for(s: &[u8], i: usize) -> u16 {
-    let mut v: usize = 0;
+fn number_for(text: &[u8], i: usize) -> u16 {
+    let mut x: usize = 0;
     let mut k: usize = 2;
     while k < 100 {
-        v = memory::choose(i < field(s, k), field(s, k + 1), v);
+        x = memory::choose(i < field(text, k), field(text, k + 1), x);
         k += 2;
     }
-    memory::narrow(v)
+    memory::narrow(x)
 }
 
 // Whether with that number in place i of a state the line's step and a run of it are refused so and leave it there; the place is then as
 // it was before.
-fn is_left(s: &[u8], setup: &[u16], m: &mut [u16], i: usize) -> bool {
-    let v = number_for(s, i);
+fn is_left(text: &[u8], setup: &[u16], m: &mut [u16], i: usize) -> bool {
+    let x = number_for(text, i);
     let was = memory::at(m, i);
-    memory::put(m, i, v);
+    memory::put(m, i, x);
     let got = both_get(
         setup,
         m,
-        memory::narrow(field(s, 0)),
-        answers::answer(field(s, 1), 0),
+        memory::narrow(field(text, 0)),
+        answers::answer(field(text, 1), 0),
     );
-    let left = memory::at(m, i) == v;
+    let left = memory::at(m, i) == x;
     memory::put(m, i, was);
     both(got, left)
 }
 
 // unfit: a step and a number of a refusal, then the numbers to try: at how many places that is so.
-pub fn unfit(s: &[u8], setup: &[u16], m: &mut [u16]) -> usize {
+pub fn unfit(text: &[u8], setup: &[u16], m: &mut [u16]) -> usize {
     let size = m.len();
     let mut n: usize = 0;
     let mut i: usize = 0;
     while i < size {
-        n = memory::count(n, is_left(s, setup, m, i));
+        n = memory::count(n, is_left(text, setup, m, i));
         i += 1;
     }
     n

@@ -47,36 +47,36 @@ fn one(setup: &[u16], m: &mut [u16], seed: usize, runs: bool) -> usize {
 // there is no end.
 fn go(setup: &[u16], m: &mut [u16], seed: usize) -> usize {
     calls::fresh(setup, m);
-    let mut s = seed;
+    let mut next_seed = seed;
     let mut taken: usize = 0;
     let mut turn: usize = 0;
     while turn < 100000 {
         if calls::is_silent(setup, m) {
             return answers::answer(SILENT, taken);
         }
-        s = draws::next(s);
-        taken = memory::plus(taken, one(setup, m, s, seed % 2 == 0));
+        next_seed = draws::next(next_seed);
+        taken = memory::plus(taken, one(setup, m, next_seed, seed % 2 == 0));
         turn += 1;
     }
     answers::answer(SPENT, taken)
 }
 
 // One drawn order of a floor with drawn starts, docks and walls.
-fn draw_one(t: Tally, setup: &[u16], m: &mut [u16], cells: usize, seed: usize) -> Tally {
+fn draw_one(tally: Tally, setup: &[u16], m: &mut [u16], cells: usize, seed: usize) -> Tally {
     let mut drawn = setup::cleared();
     memory::copy(setup, &mut drawn, 201);
     draws::draw_floor(&mut drawn, cells, seed);
     let came = go(&drawn, m, seed);
-    tally::noted(t, &drawn, m, came)
+    tally::noted(tally, &drawn, m, came)
 }
 
 // drawn: so many orders, on floors of so many cells, with seeds from one on.
-pub fn drawn(s: &[u8], setup: &[u16], m: &mut [u16]) -> Tally {
-    let count = field(s, 0);
+pub fn drawn(text: &[u8], setup: &[u16], m: &mut [u16]) -> Tally {
+    let count = field(text, 0);
     let mut t = tally::nothing();
     let mut k: usize = 0;
     while k < count {
-        t = draw_one(t, setup, m, field(s, 1), memory::plus(field(s, 2), k));
+        t = draw_one(t, setup, m, field(text, 1), memory::plus(field(text, 2), k));
         k += 1;
     }
     t

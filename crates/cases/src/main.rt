@@ -20,7 +20,7 @@ use libc::STDIN_FILENO;
 
 // Room for the script: twice a large buffer.
 fn script_room() -> [u8; 131072]
-    ensures { λ r. ⌜ 131072 ≡ length r ⌝ }
+    ensures { λ result. ⌜ 131072 ≡ length result ⌝ }
 {
     [0; 131072]
 }

@@ -7,21 +7,21 @@ use testkit::memory;
 
 // memory: whether all lent numbers are those written out. Of the first so many numbers those that are not written out are 0; those behind
 // are as they were lent.
-pub fn compare_memory(s: &[u8], m: &[u16]) -> usize {
-    let mut e = memory::buffer();
-    memory::fill(&mut e, field(s, 0), 0);
-    write(s, 1, &mut e);
-    answers::compared(memory::same(m, &e))
+pub fn compare_memory(text: &[u8], m: &[u16]) -> usize {
+    let mut expected = memory::buffer();
+    memory::fill(&mut expected, field(text, 0), 0);
+    write(text, 1, &mut expected);
+    answers::compared(memory::same(m, &expected))
 }
 
 // run: the budget, then the steps of the list, at most eight.
-pub fn run(s: &[u8], setup: &[u16], m: &mut [u16]) -> usize {
+pub fn run(text: &[u8], setup: &[u16], m: &mut [u16]) -> usize {
     let mut list = [0u16; 8];
-    let n = write(s, 1, &mut list);
+    let n = write(text, 1, &mut list);
     calls::run(
         setup,
         m,
         memory::part(&list, 0, n),
-        memory::narrow(field(s, 0)),
+        memory::narrow(field(text, 0)),
     )
 }

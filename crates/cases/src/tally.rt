@@ -45,7 +45,7 @@ pub fn second_says(setup: &[u16], m: &[u16], from: usize, stride: usize) -> bool
 
 // An order that came to silence after so many steps. What must be: the answers are both planners', no two of them in conflict, the taken
 // count in memory is the number of steps that were answered as taken, that number is at most the ceiling, and the state is at rest.
-fn judged(t: Tally, setup: &[u16], m: &[u16], taken: usize) -> Tally {
+fn judged(tally: Tally, setup: &[u16], m: &[u16], taken: usize) -> Tally {
     let n = memory::wide_at(setup, 4);
     let most = answers::number(calls::ceiling(n));
     let mut planned = memory::zeros();
@@ -61,38 +61,38 @@ fn judged(t: Tally, setup: &[u16], m: &[u16], taken: usize) -> Tally {
         both(counted, records::at_rest(m, n)),
     );
     Tally {
-        orders: memory::count(t.orders, true),
-        right: memory::count(t.right, right),
-        full: memory::count(t.full, taken == most),
-        failing: memory::count(t.failing, 0 < failing),
-        steps: memory::plus(t.steps, taken),
-        odd: t.odd,
+        orders: memory::count(tally.orders, true),
+        right: memory::count(tally.right, right),
+        full: memory::count(tally.full, taken == most),
+        failing: memory::count(tally.failing, 0 < failing),
+        steps: memory::plus(tally.steps, taken),
+        odd: tally.odd,
     }
 }
 
 // One more order that is odd.
-pub fn odd(t: Tally) -> Tally {
-    let mut u = t;
-    u.odd = memory::count(t.odd, true);
-    u
+pub fn odd(tally: Tally) -> Tally {
+    let mut counted = tally;
+    counted.odd = memory::count(tally.odd, true);
+    counted
 }
 
 // Where an order has come to: silent after so many steps; ended, which is no order; spent, which is odd.
-pub fn noted(t: Tally, setup: &[u16], m: &[u16], came: usize) -> Tally {
+pub fn noted(tally: Tally, setup: &[u16], m: &[u16], came: usize) -> Tally {
     match answers::kind(came) {
-        answers::SILENT => judged(t, setup, m, answers::number(came)),
-        answers::ENDED => t,
-        _ => odd(t),
+        answers::SILENT => judged(tally, setup, m, answers::number(came)),
+        answers::ENDED => tally,
+        _ => odd(tally),
     }
 }
 
 // The figures.
-pub fn say(t: Tally) -> usize {
-    show::number(t.orders);
-    show::number(t.right);
-    show::number(t.full);
-    show::number(t.failing);
-    show::number(t.steps);
-    show::number(t.odd);
+pub fn say(tally: Tally) -> usize {
+    show::number(tally.orders);
+    show::number(tally.right);
+    show::number(tally.full);
+    show::number(tally.failing);
+    show::number(tally.steps);
+    show::number(tally.odd);
     answers::answer(answers::SHOWN, 0)
 }

@@ -41,11 +41,14 @@ fn is_right(setup: &[u16], state: &[u16], steps: usize) -> bool {
 }
 
 // Trial: an order, the high and the low half of a seed, and how many numbers are lent for the state.
-pub fn trial(s: &[u8], setup: &[u16], m: &mut [u16]) -> usize {
+pub fn trial(text: &[u8], setup: &[u16], m: &mut [u16]) -> usize {
     let mut space = memory::buffer();
-    let state = memory::front(&mut space, field(s, 3));
-    let seed = seed_of(memory::narrow(field(s, 1)), memory::narrow(field(s, 2)));
-    let came = tried(setup, memory::narrow(field(s, 0)), seed, state, m);
+    let state = memory::front(&mut space, field(text, 3));
+    let seed = seed_of(
+        memory::narrow(field(text, 1)),
+        memory::narrow(field(text, 2)),
+    );
+    let came = tried(setup, memory::narrow(field(text, 0)), seed, state, m);
     if answers::is_refused(came) {
         return answers::only_if(is_lent(state), came);
     }

@@ -67,13 +67,13 @@ pub fn waits(x: usize, came: usize) -> bool {
 }
 
 // A refusal as an answer.
-pub fn refused(r: Refusal) -> usize {
-    answer(memory::wide(r.number), r.place)
+pub fn refused(x: Refusal) -> usize {
+    answer(memory::wide(x.number), x.place)
 }
 
 // What a check answered.
-pub fn checked(c: Checked) -> usize {
-    match c {
+pub fn checked(x: Checked) -> usize {
+    match x {
         Checked::Passed => answer(PASSED, 0),
         Checked::Refused(r) => refused(r),
     }

@@ -133,9 +133,9 @@ fn show_first(first: usize) {
 }
 
 // Vertex, swap or following conflict that is the first of two carriers that have routes, where both tests agree.
-pub fn say_first(s: &[u8], setup: &[u16], m: &[u16]) -> usize {
-    let i = memory::plus(field(s, 0), 7);
-    let j = memory::plus(field(s, 1), 7);
+pub fn say_first(text: &[u8], setup: &[u16], m: &[u16]) -> usize {
+    let i = memory::plus(field(text, 0), 7);
+    let j = memory::plus(field(text, 1), 7);
     let horizon = memory::at(setup, 2);
     show_first(first_of(m, horizon, i, j));
     answers::only_if(

@@ -20,13 +20,13 @@ fn show_route(horizon: u16, r: Route) {
 }
 
 // Whether two routes are the same.
-fn same_route(a: Route, b: Route) -> bool {
-    memory::same(&a, &b)
+fn same_route(r: Route, q: Route) -> bool {
+    memory::same(&r, &q)
 }
 
 // Search: the best route of a carrier against the views in lent memory, and whether the second planner has the same.
-pub fn search(s: &[u8], setup: &[u16], m: &[u16]) -> usize {
-    let i = memory::narrow(field(s, 0));
+pub fn search(bytes: &[u8], setup: &[u16], m: &[u16]) -> usize {
+    let i = memory::narrow(field(bytes, 0));
     let f = floor_of(setup);
     let walls = walls_of(setup);
     let found = search::search(f, walls, i, m);

@@ -9,7 +9,7 @@ use testkit::memory;
 
 // A setup of zeros but for dock counts of 1, with room for 1,023 walls.
 pub fn cleared() -> [u16; 1224]
-    ensures { λ r. ⌜ 1224 ≡ length r ⌝ }
+    ensures { λ result. ⌜ 1224 ≡ length result ⌝ }
 {
     let mut setup = [0u16; 1224];
     let mut i: usize = 140;

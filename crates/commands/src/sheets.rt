@@ -43,32 +43,32 @@ fn read(text: &[u8], m: &mut [u16]) -> usize {
 }
 
 // text: a sheet of so many bytes.
-pub fn text(s: &[u8], m: &mut [u16]) -> usize {
-    read(under(s, 0, field(s, 0)), m)
+pub fn text(bytes: &[u8], m: &mut [u16]) -> usize {
+    read(under(bytes, 0, field(bytes, 0)), m)
 }
 
 // Writing: the floor of the setup into so many lent bytes, of which so many are then those under the line.
-pub fn writing(s: &[u8], setup: &[u16]) -> usize {
+pub fn writing(text: &[u8], setup: &[u16]) -> usize {
     written(
         floor_of(setup),
         walls_of(setup),
-        field(s, 0),
-        under(s, 0, field(s, 1)),
+        field(text, 0),
+        under(text, 0, field(text, 1)),
     )
 }
 
 // What printing answered.
-fn printed_bytes(a: Printed) -> usize {
-    match a {
+fn printed_bytes(x: Printed) -> usize {
+    match x {
         Printed::Written(n) => answers::answer(PRINTED, n),
         Printed::Refused(r) => answers::refused(r),
     }
 }
 
 // Printed: for a sheet of so many bytes so many bytes are printed, which stand behind it.
-pub fn printed(s: &[u8]) -> usize {
-    let n = field(s, 0);
+pub fn printed(text: &[u8]) -> usize {
+    let n = field(text, 0);
     let mut page = bytes::page();
-    let came = printed_bytes(printing::routes(under(s, 0, n), &mut page));
-    answers::only_if(bytes::holds(&page, under(s, n, field(s, 1))), came)
+    let came = printed_bytes(printing::routes(under(text, 0, n), &mut page));
+    answers::only_if(bytes::holds(&page, under(text, n, field(text, 1))), came)
 }

@@ -11,19 +11,19 @@ use Rattle.route.specs.FirstConflict.{ConflictAnswer}
 use Rattle.route.specs.ConflictTest.{firstConflict}
 use Rattle.conflict.specs.Entry.{routesLent, conflictOutcome}
 
-module _ (a b : List ℕ) (horizon : ℕ) where
-  pub first-short : {x : Outcome ConflictAnswer} → x ≡ refusal 9 0 → length a < 64 → x ≡ conflictOutcome a b horizon
+module _ (r q : List ℕ) (horizon : ℕ) where
+  pub first-short : {x : Outcome ConflictAnswer} → x ≡ refusal 9 0 → length r < 64 → x ≡ conflictOutcome r q horizon
   unfolding conflictOutcome routesLent longEnough demand _then_ _gives_
-  first-short e l = rw (lt-leb 64 (length a) l) e
+  first-short e l = rw (lt-leb 64 (length r) l) e
 
-  pub second-short : {x : Outcome ConflictAnswer} → x ≡ refusal 9 0 → 64 ≤ length a → length b < 64 → x ≡ conflictOutcome a b horizon
+  pub second-short : {x : Outcome ConflictAnswer} → x ≡ refusal 9 0 → 64 ≤ length r → length q < 64 → x ≡ conflictOutcome r q horizon
   unfolding conflictOutcome routesLent longEnough demand _then_ _gives_
-  second-short e l h = rw (le-leb 64 (length a) l, lt-leb 64 (length b) h) e
+  second-short e l h = rw (le-leb 64 (length r) l, lt-leb 64 (length q) h) e
 
-  pub both-lent : {x : Outcome ConflictAnswer} → x ≡ value (firstConflict (min horizon 63) (part a 0 64) (part b 0 64)) →
-      64 ≤ length a → 64 ≤ length b → x ≡ conflictOutcome a b horizon
+  pub both-lent : {x : Outcome ConflictAnswer} → x ≡ value (firstConflict (min horizon 63) (part r 0 64) (part q 0 64)) →
+      64 ≤ length r → 64 ≤ length q → x ≡ conflictOutcome r q horizon
   unfolding conflictOutcome routesLent longEnough demand _then_ _gives_
-  both-lent e l h = rw (le-leb 64 (length a) l, le-leb 64 (length b) h) e
+  both-lent e l h = rw (le-leb 64 (length r) l, le-leb 64 (length q) h) e
 
 -- The refusals, a law a route.
 pub ruleset short-routes = (first-short, second-short)

@@ -20,8 +20,8 @@ comparedOutcome (Refused r) = refusal (r .number) (r .place)
 
 -- 9, 0: a lent route has fewer than 64 numbers.
 unfoldable pub routesLent : List ℕ → List ℕ → Verdict
-routesLent a b = longEnough 64 (length a) then longEnough 64 (length b)
+routesLent r q = longEnough 64 (length r) then longEnough 64 (length q)
 
 -- What the entry answers: the first conflict of the first 64 numbers of each, through the horizon, one above 63 counting as 63.
 unfoldable pub conflictOutcome : List ℕ → List ℕ → ℕ → Outcome ConflictAnswer
-conflictOutcome a b horizon = routesLent a b gives firstConflict (min horizon 63) (part a 0 64) (part b 0 64)
+conflictOutcome r q horizon = routesLent r q gives firstConflict (min horizon 63) (part r 0 64) (part q 0 64)

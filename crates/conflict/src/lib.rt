@@ -23,7 +23,7 @@ pub enum Compared {
 
 // What the conflict test found as an answer.
 fn told(found: FirstConflict) -> Compared
-    ensures { λ r. ⌜ comparedOutcome r ≡ value (conflictTold found) ⌝ }
+    ensures { λ result. ⌜ comparedOutcome result ≡ value (conflictTold found) ⌝ }
 {
     match found {
         FirstConflict::Free => Compared::Free,
@@ -35,7 +35,7 @@ fn told(found: FirstConflict) -> Compared
 
 // A lent route that is too short: 9, 0.
 fn too_short() -> Compared
-    ensures { λ r. ⌜ comparedOutcome r ≡ refusal 9 0 ⌝ }
+    ensures { λ result. ⌜ comparedOutcome result ≡ refusal 9 0 ⌝ }
 {
     Compared::Refused(Refusal {
         number: 9,
@@ -44,14 +44,14 @@ fn too_short() -> Compared
 }
 
 // The first conflict of two lent routes through the horizon, of which 64 cells each are read; a horizon above 63 counts as 63.
-pub fn conflict(a: &[u16], b: &[u16], horizon: u16) -> Compared
-    ensures answers { λ r. ⌜ comparedOutcome r ≡ conflictOutcome (now (a .entry)) (now (b .entry)) horizon ⌝ }
+pub fn conflict(r: &[u16], q: &[u16], horizon: u16) -> Compared
+    ensures answers { λ result. ⌜ comparedOutcome result ≡ conflictOutcome (now (r .entry)) (now (q .entry)) horizon ⌝ }
 {
-    if a.len() < CELLS {
+    if r.len() < CELLS {
         return too_short();
     }
-    if b.len() < CELLS {
+    if q.len() < CELLS {
         return too_short();
     }
-    told(route::first_conflict(records::load(a, 0), records::load(b, 0), horizon))
+    told(route::first_conflict(records::load(r, 0), records::load(q, 0), horizon))
 }

@@ -24,18 +24,18 @@ use Rattle.demands.specs.Demand3.{returned, Cut}
 use Rattle.demands.proofs.RefusalLaws.{reply-value}
 use Rattle.demands.proofs.ListLaws.{answers-same, memory-same, next-answer, more-state, more-taken}
 
-module _ (f : Floor) (ws m : List ℕ) (ok : checkOf f ws ≡ passed) (long : stateSize (f .carriers) ≤ length m) (cs : List ProgramCall)
-    (k l : ℕ) (xs ys : List ℕ) (b : ℕ) (told : CallAnswer)
-    (answered : answerOf f ws (programMemory f ws m cs) (oneRun k l (xs ++ ys) b) ≡ value told) where
+module _ (f : Floor) (ws m : List ℕ) (ok : checkOf f ws ≡ passed) (long : stateSize (f .carriers) ≤ length m) (zs : List ProgramCall)
+    (k n : ℕ) (xs ys : List ℕ) (b : ℕ) (told : CallAnswer)
+    (answered : answerOf f ws (programMemory f ws m zs) (oneRun k n (xs ++ ys) b) ≡ value told) where
   -- The reference machine of the floor, its state after the calls, and the length of lent memory that it compares.
   abbrev M : Machine
   M = machineOf f ws
 
   abbrev s : State
-  s = referenceAfter f ws (length m) cs
+  s = referenceAfter f ws (length m) zs
 
   abbrev lent : ℕ
-  lent = lentLength f (length m) k l
+  lent = lentLength f (length m) k n
 
   -- The steps of the two parts as they are asked for, and the run in one and in two.
   abbrev front : List Asked
@@ -45,24 +45,24 @@ module _ (f : Floor) (ws m : List ℕ) (ok : checkOf f ws ≡ passed) (long : st
   back = map askedBy ys
 
   abbrev whole : List ProgramCall
-  whole = oneRun k l (xs ++ ys) b ∷ []
+  whole = oneRun k n (xs ++ ys) b ∷ []
 
   abbrev parts : List ProgramCall
-  parts = oneRun k l xs b ∷ oneRun k l ys (b - returned f ws m cs k l xs b) ∷ []
+  parts = oneRun k n xs b ∷ oneRun k n ys (b - returned f ws m zs k n xs b) ∷ []
 
   -- The whole run is lent enough, and its steps are there.
   passes : (lentEnough M lent ≡ passed) × (allNamed M (front ++ back) ≡ passed)
   unfolding referenceCall verdict
   passes =
-      let answer = sym (next-answer f ws m ok long cs (oneRun k l (xs ++ ys) b)) ∙ answered in
+      let answer = sym (next-answer f ws m ok long zs (oneRun k n (xs ++ ys) b)) ∙ answered in
       then-both _ _ (reply-value M s (runOf lent (front ++ back) b) told (rw map-append at answer))
 
   -- The number that the first part returns is the number that it takes.
-  taken-first : returned f ws m cs k l xs b ≡ run M s (stepsOf front) b .taken
+  taken-first : returned f ws m zs k n xs b ≡ run M s (stepsOf front) b .taken
   unfolding referenceCall replyCount verdict
   taken-first =
       rw (
-        next-answer f ws m ok long cs (oneRun k l xs b),
+        next-answer f ws m ok long zs (oneRun k n xs b),
         run-reply M s lent front b (then-passed (passes .0) ∙ named-front M front back (passes .1)),
       )
       refl
@@ -76,24 +76,24 @@ module _ (f : Floor) (ws m : List ℕ) (ok : checkOf f ws ≡ passed) (long : st
   unfolding referenceCalls referenceCall
   reference-parts = rw taken-first refl
 
-  same-state : referenceAfter f ws (length m) (cs ++ whole) ≡ referenceAfter f ws (length m) (cs ++ parts)
+  same-state : referenceAfter f ws (length m) (zs ++ whole) ≡ referenceAfter f ws (length m) (zs ++ parts)
   same-state =
-      rw (more-state f ws m ok long cs whole, more-state f ws m ok long cs parts, reference-whole, reference-parts)
+      rw (more-state f ws m ok long zs whole, more-state f ws m ok long zs parts, reference-whole, reference-parts)
       (theorems .calls .cut-state M lent (lent-enough M lent (passes .0)) s front back b (passes .1))
 
-  pub cut-there : Cut f ws m cs k l xs ys b
+  pub cut-there : Cut f ws m zs k n xs ys b
   cut-there =
       record {
         memory =
-            memory-same f ws m ok long (cs ++ whole)
-            ∙ rw same-state (sym (memory-same f ws m ok long (cs ++ parts)));
+            memory-same f ws m ok long (zs ++ whole)
+            ∙ rw same-state (sym (memory-same f ws m ok long (zs ++ parts)));
         state = same-state;
         taken =
             rw (
-              answers-same f ws m ok long (cs ++ whole),
-              answers-same f ws m ok long (cs ++ parts),
-              more-taken f ws m ok long cs whole,
-              more-taken f ws m ok long cs parts,
+              answers-same f ws m ok long (zs ++ whole),
+              answers-same f ws m ok long (zs ++ parts),
+              more-taken f ws m ok long zs whole,
+              more-taken f ws m ok long zs parts,
               reference-whole,
               reference-parts,
               theorems .calls .cut-taken M lent (lent-enough M lent (passes .0)) s front back b (passes .1),

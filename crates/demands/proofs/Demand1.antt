@@ -180,9 +180,9 @@ module _ (f : Floor) (ws : List ℕ) where
           λ n. not-true-is-false (valid f m) (λ t. n (v .0 t)),
         ))
 
-    call : (c : Call) → Answers (replyTo f ws m c) (CallRows f ws m c)
+    call : (x : Call) → Answers (replyTo f ws m x) (CallRows f ws m x)
     unfolding replyTo
-    call c = answers-rows (stateVerdict f ws m) _ state-rows (λ e. reply-rows (machineOf f ws) (stateIn f m) c)
+    call x = answers-rows (stateVerdict f ws m) _ state-rows (λ e. reply-rows (machineOf f ws) (stateIn f m) x)
 
     -- A memory that is a state and is given its own state again is as it was.
     same-state : stateVerdict f ws m ≡ passed → withState f m (stateIn f m) ≡ m
@@ -195,24 +195,24 @@ module _ (f : Floor) (ws : List ℕ) where
         (demand-holds _ 10 0 (a .1)) .1 in
         rw (layout-theorems .encode-length (f .carriers) (stateIn f m), zero-add, d) (take-append-drop (stateSize (f .carriers)) m)
 
-    module _ (c : Call) where
-      call-as-found : (k p : ℕ) → CallRows f ws m c k p → memoryAfter f ws m c ≡ m
+    module _ (x : Call) where
+      call-as-found : (k p : ℕ) → CallRows f ws m x k p → memoryAfter f ws m x ≡ m
       unfolding memoryAfter
       call-as-found k p (earlier r) = when-refused _ (state-rows k p .1 r)
       call-as-found k p (later n r) =
           let e = no-row-passes (stateVerdict f ws m) state-rows n in
           when-passed m e
-          ∙ ap (withState f m) (state-kept (machineOf f ws) (stateIn f m) c k p
-          (reference-theorems .calls .refuses-exactly (machineOf f ws) (stateIn f m) c k p .1 r))
+          ∙ ap (withState f m) (state-kept (machineOf f ws) (stateIn f m) x k p
+          (reference-theorems .calls .refuses-exactly (machineOf f ws) (stateIn f m) x k p .1 r))
           ∙ same-state e
 
-      call-beyond : (v : Verdict) → drop (stateSize (f .carriers)) (whenPassed v (withState f m (afterCall (machineOf f ws) (stateIn f m) c)) m)
+      call-beyond : (y : Verdict) → drop (stateSize (f .carriers)) (whenPassed y (withState f m (afterCall (machineOf f ws) (stateIn f m) x)) m)
           ≡ drop (stateSize (f .carriers)) m
       unfolding whenPassed
-      call-beyond passed = state-beyond (afterCall (machineOf f ws) (stateIn f m) c) m
+      call-beyond passed = state-beyond (afterCall (machineOf f ws) (stateIn f m) x) m
       call-beyond (refused k p) = refl
 
-      call-keeps : Keeps (CallRows f ws m c) (lengthsOf f .state) m (memoryAfter f ws m c)
+      call-keeps : Keeps (CallRows f ws m x) (lengthsOf f .state) m (memoryAfter f ws m x)
       unfolding memoryAfter lengthsOf
       call-keeps = record { as-found = call-as-found; beyond = call-beyond (stateVerdict f ws m) }
 

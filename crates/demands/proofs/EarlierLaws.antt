@@ -22,33 +22,33 @@ use Rattle.demands.specs.Docks.{EarlierResponses, EarlierAnswers}
 use Rattle.demands.proofs.SameTrialLaws.{trial-same}
 use Rattle.demands.proofs.SameRunLaws.{runs-same, reports-same}
 
-module _ (e : OneDockFloor) (ws : List ℕ) (respond : ℕ → List View → Answer) (ok : earlierCheck e ws ≡ passed)
-    (best : EarlierResponses e ws respond) where
-  responses : (i : ℕ) (vs : List View) → i < e .carriers → length vs ≡ i → respond i vs ≡ respondOf (withOneDock e) ws i vs
-  responses i vs l h = docks-theorems .earlier-response e ws i vs (respond i vs) ok l .0 (best i vs l h)
+module _ (old : OneDockFloor) (ws : List ℕ) (respond : ℕ → List View → Answer) (ok : earlierCheck old ws ≡ passed)
+    (best : EarlierResponses old ws respond) where
+  responses : (i : ℕ) (vs : List View) → i < old .carriers → length vs ≡ i → respond i vs ≡ respondOf (withOneDock old) ws i vs
+  responses i vs l h = docks-theorems .earlier-response old ws i vs (respond i vs) ok l .0 (best i vs l h)
 
-  plan : sequential respond (e .carriers) ≡ planOf (withOneDock e) ws
+  plan : sequential respond (old .carriers) ≡ planOf (withOneDock old) ws
   unfolding planOf withOneDock
-  plan = sequential-below respond (respondOf (withOneDock e) ws) (e .carriers) responses
+  plan = sequential-below respond (respondOf (withOneDock old) ws) (old .carriers) responses
 
-  blockers : (i : ℕ) → i < e .carriers →
-      setOf (leftAfter (respond i) i (map heard (take i (sequential respond (e .carriers))))) ≡ blockersOf (withOneDock e) ws i
+  blockers : (i : ℕ) → i < old .carriers →
+      setOf (leftAfter (respond i) i (map heard (take i (sequential respond (old .carriers))))) ≡ blockersOf (withOneDock old) ws i
   unfolding blockersOf answersAbove
   blockers i l =
-      let xs = sequential respond (e .carriers) in
+      let xs = sequential respond (old .carriers) in
       let count : length (map heard (take i xs)) ≡ i =
-      length-map (take i xs) heard ∙ length-take-le i xs (omega (arith, plan-count respond (e .carriers))) in
+      length-map (take i xs) heard ∙ length-take-le i xs (omega (arith, plan-count respond (old .carriers))) in
       ap setOf
-      (left-same (respond i) (respondOf (withOneDock e) ws i) i (λ us h. responses i us l h) i (map heard (take i xs)) count)
-      ∙ ap (λ (ys : List Answer). setOf (leftAfter (respondOf (withOneDock e) ws i) i (map heard (take i ys)))) plan
+      (left-same (respond i) (respondOf (withOneDock old) ws i) i (λ us h. responses i us l h) i (map heard (take i xs)) count)
+      ∙ ap (λ (ys : List Answer). setOf (leftAfter (respondOf (withOneDock old) ws i) i (map heard (take i ys)))) plan
 
-  pub earlier-answers : EarlierAnswers e ws respond
+  pub earlier-answers : EarlierAnswers old ws respond
   unfolding machineOf withOneDock
   earlier-answers =
-      let n = e .carriers in
-      let d = e .depth in
-      let k = stateSize (e .carriers) in
-      let q = respondOf (withOneDock e) ws in
+      let n = old .carriers in
+      let d = old .depth in
+      let k = stateSize (old .carriers) in
+      let q = respondOf (withOneDock old) ws in
       record {
         call = reply-same n d k respond q responses;
         state = after-call-same n d k respond q responses;

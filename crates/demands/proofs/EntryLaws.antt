@@ -24,11 +24,11 @@ pub lent-rows : (f : Floor) (ws : List ℕ) (needed lent : ℕ)
 lent-rows f ws needed lent = then-rows (checkOf f ws) (longEnough needed lent) (floor-rows f ws) (λ e. short-row needed lent)
 
 -- A number outside its limits is one row.
-pub outside-row : (low high v n q : ℕ) → Refuses (demand (within low high v) n q) (Row n q (Within low high v → ⊥))
-outside-row low high v n q =
-    demand-row (within low high v) n q (
-      λ e w. false-fails e (within-means low high v .1 w),
-      λ h. not-true-is-false (within low high v) (λ t. h (within-means low high v .0 t)),
+pub outside-row : (low high x k p : ℕ) → Refuses (demand (within low high x) k p) (Row k p (Within low high x → ⊥))
+outside-row low high x k p =
+    demand-row (within low high x) k p (
+      λ e w. false-fails e (within-means low high x .1 w),
+      λ h. not-true-is-false (within low high x) (λ t. h (within-means low high x .0 t)),
     )
 
 -- The six fields of line 1.

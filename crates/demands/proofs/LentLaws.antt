@@ -41,89 +41,89 @@ module _ (f : Floor) (ws : List ℕ) (ok : checkOf f ws ≡ passed) (rest : List
   abbrev m : List ℕ
   m = encode (f .carriers) s ++ rest
 
-  module _ (k l : ℕ) where
+  module _ (k n : ℕ) where
     -- The call is lent too few walls, or too little memory.
     abbrev Short : Type 0
-    Short = (k < f .walls) ⊎ ((f .walls ≤ k) × (l < size))
+    Short = (k < f .walls) ⊎ ((f .walls ≤ k) × (n < size))
 
     -- Lent enough walls, the reference machine compares the length of what is lent.
-    lent-whole : f .walls ≤ k → lentLength f numbers k l ≡ length (take l m)
+    lent-whole : f .walls ≤ k → lentLength f numbers k n ≡ length (take n m)
     unfolding lentLength
     lent-whole h =
         rw (le-leb (f .walls) k h)
-        (omega (arith, length-take l m, length-append (encode (f .carriers) s) rest, encode-length (f .carriers) s))
+        (omega (arith, length-take n m, length-append (encode (f .carriers) s) rest, encode-length (f .carriers) s))
 
     -- Lent too little, it compares a length that is too short, and the program refuses with 9.
-    lent-short : Short → lentLength f numbers k l < size
+    lent-short : Short → lentLength f numbers k n < size
     unfolding lentLength stateSize
     lent-short (inl h) = rw (lt-leb (f .walls) k h) (omega arith)
     lent-short (inr h) = rw (le-leb (f .walls) k (h .0)) (omega arith)
 
-    state-short : Short → stateVerdict f (take k ws) (take l m) ≡ refused 9 0
+    state-short : Short → stateVerdict f (take k ws) (take n m) ≡ refused 9 0
     unfolding stateVerdict placeVerdict longEnough
     state-short (inl h) = then-refused _ (then-refused _ (check-short f ws ok k h))
     state-short (inr h) =
         then-refused _
-        (then-passed (check-lent f ws ok k (h .0)) ∙ demand-refuses 9 0 (lt-leb size (length (take l m)) (omega (arith, length-take l m))))
+        (then-passed (check-lent f ws ok k (h .0)) ∙ demand-refuses 9 0 (lt-leb size (length (take n m)) (omega (arith, length-take n m))))
 
-    module _ (walls : f .walls ≤ k) (enough : size ≤ l) where
+    module _ (walls : f .walls ≤ k) (enough : size ≤ n) where
       -- What of the memory behind the state is lent, and what is not.
-      split : l ≡ length (encode (f .carriers) s) + (l - size)
+      split : n ≡ length (encode (f .carriers) s) + (n - size)
       split = omega (arith, encode-length (f .carriers) s)
 
-      lent-memory : take l m ≡ encode (f .carriers) s ++ take (l - size) rest
-      lent-memory = ap (λ (i : ℕ). take i m) split ∙ take-append-add (encode (f .carriers) s) rest (l - size)
+      lent-memory : take n m ≡ encode (f .carriers) s ++ take (n - size) rest
+      lent-memory = ap (λ (i : ℕ). take i m) split ∙ take-append-add (encode (f .carriers) s) rest (n - size)
 
-      kept-memory : drop l m ≡ drop (l - size) rest
-      kept-memory = ap (λ (i : ℕ). drop i m) split ∙ drop-append-add (encode (f .carriers) s) rest (l - size)
+      kept-memory : drop n m ≡ drop (n - size) rest
+      kept-memory = ap (λ (i : ℕ). drop i m) split ∙ drop-append-add (encode (f .carriers) s) rest (n - size)
 
       -- Lent enough, a call is simulated, and what is not lent stays behind.
-      enough-reply : (c : Call) → replyTo f (take k ws) (take l m) c ≡ reply M s c
-      enough-reply c =
+      enough-reply : (x : Call) → replyTo f (take k ws) (take n m) x ≡ reply M s x
+      enough-reply x =
           rw (lent-memory, ← machine-lent f ws k walls)
-          (simulated-reply f (take k ws) (check-lent f ws ok k walls) s fits (take (l - size) rest) c)
+          (simulated-reply f (take k ws) (check-lent f ws ok k walls) s fits (take (n - size) rest) x)
 
-      enough-memory : (c : Call) → memoryAfter f (take k ws) (take l m) c ++ drop l m ≡ encode (f .carriers) (afterCall M s c) ++ rest
-      enough-memory c =
-          rw (lent-memory, kept-memory, simulated-memory f (take k ws) (check-lent f ws ok k walls) s fits (take (l - size) rest) c)
-          (rw (machine-lent f ws k walls, append-assoc, take-append-drop (l - size) rest) refl)
+      enough-memory : (x : Call) → memoryAfter f (take k ws) (take n m) x ++ drop n m ≡ encode (f .carriers) (afterCall M s x) ++ rest
+      enough-memory x =
+          rw (lent-memory, kept-memory, simulated-memory f (take k ws) (check-lent f ws ok k walls) s fits (take (n - size) rest) x)
+          (rw (machine-lent f ws k walls, append-assoc, take-append-drop (n - size) rest) refl)
 
     -- A call as it is made of the length lent; lent too little, the table refuses it with 9.
     module _ (call : ℕ → Call) (nine : (lent : ℕ) → lent < M .needed → verdict M s (call lent) ≡ refused 9 0) where
       -- The call that the program is given, and the one that the reference machine is given.
       abbrev given : Call
-      given = call (length (take l m))
+      given = call (length (take n m))
 
       abbrev asked : Call
-      asked = call (lentLength f numbers k l)
+      asked = call (lentLength f numbers k n)
 
       -- The answer and the memory are the reference machine's, lent enough or not.
       abbrev Same : Type 0
       Same =
-          (replyTo f (take k ws) (take l m) given ≡ reply M s asked) ×
-          (memoryAfter f (take k ws) (take l m) given ++ drop l m ≡ encode (f .carriers) (afterCall M s asked) ++ rest)
+          (replyTo f (take k ws) (take n m) given ≡ reply M s asked) ×
+          (memoryAfter f (take k ws) (take n m) given ++ drop n m ≡ encode (f .carriers) (afterCall M s asked) ++ rest)
 
-      enough-same : f .walls ≤ k → size ≤ l → Same
+      enough-same : f .walls ≤ k → size ≤ n → Same
       enough-same h e = rw (lent-whole h) (enough-reply h e given, enough-memory h e given)
 
       short-same : Short → Same
       unfolding replyTo memoryAfter machineOf
       short-same h =
-          let v = nine (lentLength f numbers k l) (lent-short h) in
+          let v = nine (lentLength f numbers k n) (lent-short h) in
           rw (state-kept M s asked 9 0 v, reply-refused M s asked 9 0 v)
-          (answers-refused _ (state-short h), rw (when-refused _ (state-short h)) (take-append-drop l m))
+          (answers-refused _ (state-short h), rw (when-refused _ (state-short h)) (take-append-drop n m))
 
       call-same : Same
-      call-same = go (lt-or-le k (f .walls)) (lt-or-le l size)
+      call-same = go (lt-or-le k (f .walls)) (lt-or-le n size)
         where
-          go : (k < f .walls) ⊎ (f .walls ≤ k) → (l < size) ⊎ (size ≤ l) → Same
+          go : (k < f .walls) ⊎ (f .walls ≤ k) → (n < size) ⊎ (size ≤ n) → Same
           go (inl a) b = short-same (inl a)
           go (inr a) (inl b) = short-same (inr (a, b))
           go (inr a) (inr b) = enough-same a b
 
   -- The answer to a call of the program, and the memory after it.
-  pub lent-same : (c : ProgramCall) → (answerOf f ws m c ≡ reply M s (referenceCall f numbers c)) ×
-      (leftBy f ws m c ≡ encode (f .carriers) (afterCall M s (referenceCall f numbers c)) ++ rest)
+  pub lent-same : (y : ProgramCall) → (answerOf f ws m y ≡ reply M s (referenceCall f numbers y)) ×
+      (leftBy f ws m y ≡ encode (f .carriers) (afterCall M s (referenceCall f numbers y)) ++ rest)
   unfolding answerOf leftBy referenceCall singleCall runCall
   lent-same (oneStep k l x) =
       call-same k l (λ lent. single lent (askedBy x)) (λ lent h. theorems .calls .refuses-exactly M s _ 9 0 .1 (short-single h))

@@ -28,11 +28,11 @@ use Rattle.demands.specs.Lists.{referenceCall, referenceCalls, reference
 use Rattle.demands.proofs.LentLaws.{lent-same}
 
 -- The steps taken in two lists of calls, one behind the other.
-count-join : (M : Machine) (s : State) (cs ds : List Call) →
-    repliesCount (replies M s (cs ++ ds)) ≡ repliesCount (replies M s cs) + repliesCount (replies M (after M s cs) ds)
+count-join : (M : Machine) (s : State) (xs ys : List Call) →
+    repliesCount (replies M s (xs ++ ys)) ≡ repliesCount (replies M s xs) + repliesCount (replies M (after M s xs) ys)
 unfolding replies after repliesCount
-count-join M s [] ds = sym (zero-add (repliesCount (replies M s ds)))
-count-join M s (c ∷ cs) ds = omega (arith, count-join M (afterCall M s c) cs ds)
+count-join M s [] ys = sym (zero-add (repliesCount (replies M s ys)))
+count-join M s (c ∷ xs) ys = omega (arith, count-join M (afterCall M s c) xs ys)
 
 module _ (f : Floor) (ws : List ℕ) (ok : checkOf f ws ≡ passed) (rest : List ℕ) (numbers : ℕ)
     (fills : numbers ≡ stateSize (f .carriers) + length rest) where
@@ -41,18 +41,18 @@ module _ (f : Floor) (ws : List ℕ) (ok : checkOf f ws ≡ passed) (rest : List
   M = machineOf f ws
 
   -- The program's list of calls from the memory of a state, and the reference machine's from the state.
-  pub record ListSame (s : State) (cs : List ProgramCall) : Type 0 where
-    pub answers : answersOf f ws (encode (f .carriers) s ++ rest) cs ≡ replies M s (referenceCalls f numbers cs)
-    pub memory : memoryOf f ws (encode (f .carriers) s ++ rest) cs ≡ encode (f .carriers) (after M s (referenceCalls f numbers cs)) ++ rest
-    pub within-ranges : WithinRanges f (after M s (referenceCalls f numbers cs))
+  pub record ListSame (s : State) (xs : List ProgramCall) : Type 0 where
+    pub answers : answersOf f ws (encode (f .carriers) s ++ rest) xs ≡ replies M s (referenceCalls f numbers xs)
+    pub memory : memoryOf f ws (encode (f .carriers) s ++ rest) xs ≡ encode (f .carriers) (after M s (referenceCalls f numbers xs)) ++ rest
+    pub within-ranges : WithinRanges f (after M s (referenceCalls f numbers xs))
 
   -- The first call by what is lent to it, the others from the state that it leaves.
-  pub list-same : (s : State) → WithinRanges f s → (cs : List ProgramCall) → ListSame s cs
+  pub list-same : (s : State) → WithinRanges f s → (xs : List ProgramCall) → ListSame s xs
   unfolding answersOf memoryOf referenceCalls replies after
   list-same s fits [] = record { answers = refl; memory = refl; within-ranges = fits }
-  list-same s fits (c ∷ cs) =
+  list-same s fits (c ∷ xs) =
       let first = lent-same f ws ok rest numbers fills s fits c in
-      let others = list-same (afterCall M s (referenceCall f numbers c)) (call-fits f ws ok s fits (referenceCall f numbers c)) cs in
+      let others = list-same (afterCall M s (referenceCall f numbers c)) (call-fits f ws ok s fits (referenceCall f numbers c)) xs in
       record {
         answers = cc (first .0, first .1, others .answers);
         memory = cc (first .1, others .memory);
@@ -75,37 +75,37 @@ module _ (f : Floor) (ws m : List ℕ) (ok : checkOf f ws ≡ passed) (long : st
       when-passed m (then-passed ok ∙ demand-passes 9 0 (le-leb (stateSize (f .carriers)) (length m) long))
       ∙ rw (encode-length (f .carriers) fresh, zero-add) refl
 
-  module _ (cs : List ProgramCall) where
-    from-fresh : ListSame f ws ok beyondState (length m) memory-filled fresh cs
-    from-fresh = list-same f ws ok beyondState (length m) memory-filled fresh (fresh-fits f) cs
+  module _ (xs : List ProgramCall) where
+    from-fresh : ListSame f ws ok beyondState (length m) memory-filled fresh xs
+    from-fresh = list-same f ws ok beyondState (length m) memory-filled fresh (fresh-fits f) xs
 
     -- The answers, the memory, and the ranges after a list of calls.
-    pub answers-same : programReplies f ws m cs ≡ referenceReplies f ws (length m) cs
+    pub answers-same : programReplies f ws m xs ≡ referenceReplies f ws (length m) xs
     unfolding programReplies referenceReplies
     answers-same = rw fresh-same (from-fresh .answers)
 
-    pub memory-same : programMemory f ws m cs ≡ encode (f .carriers) (referenceAfter f ws (length m) cs) ++ beyondState
+    pub memory-same : programMemory f ws m xs ≡ encode (f .carriers) (referenceAfter f ws (length m) xs) ++ beyondState
     unfolding programMemory referenceAfter
     memory-same = rw fresh-same (from-fresh .memory)
 
-    pub after-fits : WithinRanges f (referenceAfter f ws (length m) cs)
+    pub after-fits : WithinRanges f (referenceAfter f ws (length m) xs)
     unfolding referenceAfter
     after-fits = from-fresh .within-ranges
 
     -- The answer to one more call.
-    pub next-answer : (c : ProgramCall) → answerOf f ws (programMemory f ws m cs) c ≡
-        reply (machineOf f ws) (referenceAfter f ws (length m) cs) (referenceCall f (length m) c)
-    next-answer c =
-        rw memory-same (lent-same f ws ok beyondState (length m) memory-filled (referenceAfter f ws (length m) cs) after-fits c .0)
+    pub next-answer : (x : ProgramCall) → answerOf f ws (programMemory f ws m xs) x ≡
+        reply (machineOf f ws) (referenceAfter f ws (length m) xs) (referenceCall f (length m) x)
+    next-answer x =
+        rw memory-same (lent-same f ws ok beyondState (length m) memory-filled (referenceAfter f ws (length m) xs) after-fits x .0)
 
     -- The state after more calls, and the steps that the longer list takes.
-    pub more-state : (ds : List ProgramCall) → referenceAfter f ws (length m) (cs ++ ds) ≡
-        after (machineOf f ws) (referenceAfter f ws (length m) cs) (referenceCalls f (length m) ds)
+    pub more-state : (ys : List ProgramCall) → referenceAfter f ws (length m) (xs ++ ys) ≡
+        after (machineOf f ws) (referenceAfter f ws (length m) xs) (referenceCalls f (length m) ys)
     unfolding referenceAfter referenceCalls
-    more-state ds = rw (map-append (referenceCall f (length m)) cs ds) (after-join (machineOf f ws) fresh _ _)
+    more-state ys = rw (map-append (referenceCall f (length m)) xs ys) (after-join (machineOf f ws) fresh _ _)
 
-    pub more-taken : (ds : List ProgramCall) → repliesCount (referenceReplies f ws (length m) (cs ++ ds)) ≡
-        repliesCount (referenceReplies f ws (length m) cs)
-        + repliesCount (replies (machineOf f ws) (referenceAfter f ws (length m) cs) (referenceCalls f (length m) ds))
+    pub more-taken : (ys : List ProgramCall) → repliesCount (referenceReplies f ws (length m) (xs ++ ys)) ≡
+        repliesCount (referenceReplies f ws (length m) xs)
+        + repliesCount (replies (machineOf f ws) (referenceAfter f ws (length m) xs) (referenceCalls f (length m) ys))
     unfolding referenceReplies referenceAfter referenceCalls
-    more-taken ds = rw (map-append (referenceCall f (length m)) cs ds) (count-join (machineOf f ws) fresh _ _)
+    more-taken ys = rw (map-append (referenceCall f (length m)) xs ys) (count-join (machineOf f ws) fresh _ _)

@@ -46,12 +46,12 @@ module _ (f : Floor) (ws : List ℕ) (ok : checkOf f ws ≡ passed) where
   none-occupies i vs j t r e b = kept-off f (taskOf f ws (i + 1)) vs j t r refl (check-tells f ws ok .bounds .horizon .1) e b
 
   -- Not heard may be left out.
-  pub unheard-left-out : (i : ℕ) (vs us : List View) →
-      Best (taskOf f ws (i + 1)) (seen f vs ++ seenFrom f (suc (length vs)) us) (respondOf f ws i (vs ++ (unheard ∷ us)))
+  pub unheard-left-out : (i : ℕ) (vs vs′ : List View) →
+      Best (taskOf f ws (i + 1)) (seen f vs ++ seenFrom f (suc (length vs)) vs′) (respondOf f ws i (vs ++ (unheard ∷ vs′)))
   unfolding respondOf
-  unheard-left-out i vs us =
-      let others = seen f vs ++ seenFrom f (suc (length vs)) us in
-      rw (unheard-out f (taskOf f ws (i + 1)) vs us (short (i + 1)))
+  unheard-left-out i vs vs′ =
+      let others = seen f vs ++ seenFrom f (suc (length vs)) vs′ in
+      rw (unheard-out f (taskOf f ws (i + 1)) vs vs′ (short (i + 1)))
       (route-theorems .best-meets (taskOf f ws (i + 1)) others (short (i + 1)))
 
   plan-prioritized : Prioritized f ws (planOf f ws)

@@ -17,49 +17,49 @@ use Rattle.demands.specs.Rows.{Answers}
 use Rattle.demands.proofs.RowLaws.{gives-rows}
 
 -- A value that is given has passed the checks, a refusal is theirs.
-gives-value : (v : Verdict) (a b : CallAnswer) → _≡_ {A = Reply} (v gives a) (value b) → v ≡ passed
+gives-value : (x : Verdict) (y x′ : CallAnswer) → _≡_ {A = Reply} (x gives y) (value x′) → x ≡ passed
 unfolding _gives_
-gives-value passed a b e = refl
-gives-value (refused k p) a b e = absurd (let z : _≡_ {A = ℕ} 0 1 = cc in omega arith)
+gives-value passed y x′ e = refl
+gives-value (refused k p) y x′ e = absurd (let z : _≡_ {A = ℕ} 0 1 = cc in omega arith)
 
-gives-refusal : (v : Verdict) (a : CallAnswer) (k p : ℕ) → _≡_ {A = Reply} (v gives a) (refusal k p) → v ≡ refused k p
+gives-refusal : (x : Verdict) (y : CallAnswer) (k p : ℕ) → _≡_ {A = Reply} (x gives y) (refusal k p) → x ≡ refused k p
 unfolding _gives_
-gives-refusal passed a k p e = absurd (let z : _≡_ {A = ℕ} 0 1 = cc in omega arith)
-gives-refusal (refused i q) a k p e = let i-k : i ≡ k = cc in let q-p : q ≡ p = cc in rw (i-k, q-p)
+gives-refusal passed y k p e = absurd (let z : _≡_ {A = ℕ} 0 1 = cc in omega arith)
+gives-refusal (refused i q) y k p e = let i-k : i ≡ k = cc in let q-p : q ≡ p = cc in rw (i-k, q-p)
 
 -- A refusal after the checks is one more check that refuses.
-answers-gives : (v : Verdict) (k p : ℕ) (a : CallAnswer) → _≡_ {A = Reply} (v thenAnswers refusal k p) ((v then refused k p) gives a)
+answers-gives : (x : Verdict) (k p : ℕ) (y : CallAnswer) → _≡_ {A = Reply} (x thenAnswers refusal k p) ((x then refused k p) gives y)
 unfolding _gives_ _then_ _thenAnswers_
-answers-gives passed k p a = refl
-answers-gives (refused i q) k p a = refl
+answers-gives passed k p y = refl
+answers-gives (refused i q) k p y = refl
 
 module _ (M : Machine) (s : State) where
   -- The answer to a call is given by its verdict.
-  reply-gives : (c : Call) → (a : CallAnswer) × (reply M s c ≡ (verdict M s c gives a))
+  reply-gives : (y : Call) → (z : CallAnswer) × (reply M s y ≡ (verdict M s y gives z))
   unfolding reply verdict openSingle
   reply-gives (single lent (step x)) = (_, refl)
   reply-gives (single lent noStep) = (ran 0 ended, answers-gives (lentEnough M lent) 7 0 (ran 0 ended))
   reply-gives (runOf lent xs b) = (_, refl)
 
   -- A refused call has that refusal as its answer and changes nothing; a call with another answer has passed.
-  pub reply-refused : (c : Call) (k p : ℕ) → verdict M s c ≡ refused k p → reply M s c ≡ refusal k p
-  reply-refused c k p e = let g = reply-gives c in g .1 ∙ gives-refused (g .0) e
+  pub reply-refused : (x : Call) (k p : ℕ) → verdict M s x ≡ refused k p → reply M s x ≡ refusal k p
+  reply-refused x k p e = let g = reply-gives x in g .1 ∙ gives-refused (g .0) e
 
-  pub reply-value : (c : Call) (told : CallAnswer) → reply M s c ≡ value told → verdict M s c ≡ passed
-  reply-value c told e = let g = reply-gives c in gives-value (verdict M s c) (g .0) told (sym (g .1) ∙ e)
+  pub reply-value : (x : Call) (told : CallAnswer) → reply M s x ≡ value told → verdict M s x ≡ passed
+  reply-value x told e = let g = reply-gives x in gives-value (verdict M s x) (g .0) told (sym (g .1) ∙ e)
 
   -- The answer to a call is refused exactly under the rows of the table.
-  pub reply-rows : (c : Call) → Answers (reply M s c) (RefusedCall M s c)
-  reply-rows c =
-      let g = reply-gives c in
-      rw (g .1) (gives-rows (verdict M s c) (g .0) (theorems .calls .refuses-exactly M s c))
+  pub reply-rows : (x : Call) → Answers (reply M s x) (RefusedCall M s x)
+  reply-rows x =
+      let g = reply-gives x in
+      rw (g .1) (gives-rows (verdict M s x) (g .0) (theorems .calls .refuses-exactly M s x))
 
-  pub state-kept : (c : Call) (k p : ℕ) → verdict M s c ≡ refused k p → afterCall M s c ≡ s
+  pub state-kept : (x : Call) (k p : ℕ) → verdict M s x ≡ refused k p → afterCall M s x ≡ s
   unfolding afterCall
-  state-kept c k p e = when-refused _ e
+  state-kept x k p e = when-refused _ e
 
   -- No row of the table has the number 10.
-  no-row-ten : {c : Call} {k p : ℕ} → RefusedCall M s c k p → k ≡ 10 → ⊥
+  no-row-ten : {x : Call} {k p : ℕ} → RefusedCall M s x k p → k ≡ 10 → ⊥
   no-row-ten (short-single h) e = omega arith
   no-row-ten (short-run h) e = omega arith
   no-row-ten (unnamed-single h q) e = omega arith
@@ -68,17 +68,17 @@ module _ (M : Machine) (s : State) where
   no-row-ten (waiting h q (nothing-under-way d)) e = omega arith
   no-row-ten (waiting h q (channel-full d r)) e = omega arith
 
-  reply-not-ten : (c : Call) (p : ℕ) → reply M s c ≡ refusal 10 p → ⊥
-  reply-not-ten c p e =
-      let g = reply-gives c in
-      let refuses = gives-refusal (verdict M s c) (g .0) 10 p (sym (g .1) ∙ e) in
-      no-row-ten (theorems .calls .refuses-exactly M s c 10 p .0 refuses) refl
+  reply-not-ten : (x : Call) (p : ℕ) → reply M s x ≡ refusal 10 p → ⊥
+  reply-not-ten x p e =
+      let g = reply-gives x in
+      let refuses = gives-refusal (verdict M s x) (g .0) 10 p (sym (g .1) ∙ e) in
+      no-row-ten (theorems .calls .refuses-exactly M s x 10 p .0 refuses) refl
 
-pub replies-not-ten : (M : Machine) (s : State) (cs : List Call) (p : ℕ) → List·Memᴰ (refusal 10 p) (replies M s cs) → ⊥
+pub replies-not-ten : (M : Machine) (s : State) (xs : List Call) (p : ℕ) → List·Memᴰ (refusal 10 p) (replies M s xs) → ⊥
 unfolding replies
 replies-not-ten M s [] p h = List·Memᴰ·not-nil h
-replies-not-ten M s (c ∷ cs) p h =
+replies-not-ten M s (c ∷ xs) p h =
     ⊎-elim
     (λ (e : refusal 10 p ≡ reply M s c). reply-not-ten M s c p (sym e))
-    (λ (t : List·Memᴰ (refusal 10 p) (replies M (afterCall M s c) cs)). replies-not-ten M (afterCall M s c) cs p t)
+    (λ (t : List·Memᴰ (refusal 10 p) (replies M (afterCall M s c) xs)). replies-not-ten M (afterCall M s c) xs p t)
     (List·Memᴰ·cases-cons h)

@@ -25,9 +25,9 @@ unfolding longEnough
 length-passes needed lent l = demand-passes 9 0 (le-leb needed lent l)
 
 -- Two records of one floor with other walls, which agree with theirs up to the count; walls behind the count are no part of it.
-pub other-walls : (f : Floor) (ws : List ℕ) (g : Floor) (vs us ts : List ℕ) → SameFloor f ws g vs
-    → All (λ j. getD us j 0 ≡ getD ws j 0) (f .walls) → All (λ j. getD ts j 0 ≡ getD vs j 0) (f .walls) → SameFloor f us g ts
-other-walls f ws g vs us ts same one other =
+pub other-walls : (f : Floor) (ws : List ℕ) (f′ : Floor) (ws′ xs ys : List ℕ) → SameFloor f ws f′ ws′
+    → All (λ j. getD xs j 0 ≡ getD ws j 0) (f .walls) → All (λ j. getD ys j 0 ≡ getD ws′ j 0) (f .walls) → SameFloor f xs f′ ys
+other-walls f ws f′ ws′ xs ys same one other =
     record {
       width = same .width;
       height = same .height;
@@ -41,8 +41,8 @@ other-walls f ws g vs us ts same one other =
       cells = λ j h. one j h ∙ same .cells j h ∙ sym (other j h);
     }
 
-pub walls-behind : (vs rest : List ℕ) (n : ℕ) → n ≤ length vs → All (λ j. getD (vs ++ rest) j 0 ≡ getD vs j 0) n
-walls-behind vs rest n l j h = List·getD-append vs rest 0 j (omega arith)
+pub walls-behind : (ws rest : List ℕ) (n : ℕ) → n ≤ length ws → All (λ j. getD (ws ++ rest) j 0 ≡ getD ws j 0) n
+walls-behind ws rest n l j h = List·getD-append ws rest 0 j (omega arith)
 
 -- What is written into enough memory has the sheet in front.
 pub written : (f : Floor) (ws old : List ℕ) → checkOf f ws ≡ passed → sheetLength f ≤ length old
@@ -82,7 +82,7 @@ written-again text rest old ok l =
     in
     let whole : writeSheet g (ws ++ rest) old ≡ text ++ drop (sheetLength g) old =
     written g (ws ++ rest) old checked (omega arith)
-    ∙ ap (λ (b : List ℕ). b ++ drop (sheetLength g) old) (sym (sheet-same g ws g (ws ++ rest) same) ∙ back)
+    ∙ ap (λ (xs : List ℕ). xs ++ drop (sheetLength g) old) (sym (sheet-same g ws g (ws ++ rest) same) ∙ back)
     in
     ap (take (length text)) whole ∙ take-at text (drop (sheetLength g) old) (length text) refl
 

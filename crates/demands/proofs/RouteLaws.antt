@@ -12,10 +12,10 @@ use Rattle.demands.specs.Demand1.{ConflictRows, RecordRows, ArrivalRows}
 use Rattle.demands.proofs.RowLaws.{then-rows, gives-rows, short-row}
 use Rattle.demands.proofs.EntryLaws.{floor-rows, outside-row}
 
-pub conflict : (f : Floor) (a b : List ℕ) (horizon : ℕ) → Answers (conflictOutcome a b horizon) (ConflictRows f (length a) (length b))
+pub conflict : (f : Floor) (r q : List ℕ) (horizon : ℕ) → Answers (conflictOutcome r q horizon) (ConflictRows f (length r) (length q))
 unfolding conflictOutcome routesLent lengthsOf
-conflict f a b horizon =
-    gives-rows (routesLent a b) _ (then-rows (longEnough 64 (length a)) _ (short-row 64 (length a)) (λ e. short-row 64 (length b)))
+conflict f r q horizon =
+    gives-rows (routesLent r q) _ (then-rows (longEnough 64 (length r)) _ (short-row 64 (length r)) (λ e. short-row 64 (length q)))
 
 pub check-record : (f : Floor) (ws : List ℕ) (carrier : ℕ) (m : List ℕ) →
     Answers (recordOutcome f ws carrier m) (RecordRows f ws carrier (length m))

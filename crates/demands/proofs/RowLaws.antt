@@ -13,81 +13,81 @@ use Rattle.floor.specs.Checks.{longEnough}
 use Rattle.demands.specs.Rows.{Table, Row, row, Short, _orElse_, earlier, later, Refuses, Answers, Keeps}
 
 -- A value is no refusal.
-pub value-no-refusal : {A : Type 0} {a : A} {k p : ℕ} → value a ≡ refusal k p → ⊥
+pub value-no-refusal : {A : Type 0} {x : A} {k p : ℕ} → value x ≡ refusal k p → ⊥
 value-no-refusal h = let z : _≡_ {A = ℕ} 0 1 = cc in omega arith
 
 -- Equal refusals are equal answers, and back.
-pub refusal-same : {A : Type 0} {a b p q : ℕ} → _≡_ {A = Outcome A} (refusal a p) (refusal b q) → (a ≡ b) × (p ≡ q)
+pub refusal-same : {A : Type 0} {k k′ p p′ : ℕ} → _≡_ {A = Outcome A} (refusal k p) (refusal k′ p′) → (k ≡ k′) × (p ≡ p′)
 refusal-same e = ((cc), (cc))
 
 -- A check whose rows do not hold passes.
-pub no-row-passes : {R : Table} (v : Verdict) → Refuses v R → ((a b : ℕ) → R a b → ⊥) → v ≡ passed
+pub no-row-passes : {R : Table} (x : Verdict) → Refuses x R → ((k p : ℕ) → R k p → ⊥) → x ≡ passed
 no-row-passes passed t n = refl
-no-row-passes (refused a b) t n = absurd (n a b (t a b .0 refl))
+no-row-passes (refused k p) t n = absurd (n k p (t k p .0 refl))
 
 -- A check that passes has no row that holds.
-pub passes-no-row : {R : Table} {v : Verdict} → Refuses v R → v ≡ passed → (a b : ℕ) → R a b → ⊥
-passes-no-row t e a b r = refused-not-passed (sym (t a b .1 r) ∙ e)
+pub passes-no-row : {R : Table} {x : Verdict} → Refuses x R → x ≡ passed → (k p : ℕ) → R k p → ⊥
+passes-no-row t e k p r = refused-not-passed (sym (t k p .1 r) ∙ e)
 
-pub passes-exactly : {R : Table} (v : Verdict) → Refuses v R → (v ≡ passed) ↔ ((a b : ℕ) → R a b → ⊥)
-passes-exactly v t = (passes-no-row t, no-row-passes v t)
+pub passes-exactly : {R : Table} (x : Verdict) → Refuses x R → (x ≡ passed) ↔ ((k p : ℕ) → R k p → ⊥)
+passes-exactly x t = (passes-no-row t, no-row-passes x t)
 
 -- One check after another; the second needs to be looked at only where the first passes.
-pub then-rows : {R S : Table} (v w : Verdict) → Refuses v R → (v ≡ passed → Refuses w S) → Refuses (v then w) (R orElse S)
-then-rows {R} {S} v w t u k p = (
+pub then-rows : {R S : Table} (x y : Verdict) → Refuses x R → (x ≡ passed → Refuses y S) → Refuses (x then y) (R orElse S)
+then-rows {R} {S} x y t u k p = (
   λ h. refused-by h (λ r. earlier (t k p .0 r)) (λ e r. later (passes-no-row t e) (u e k p .0 r)),
   back,
 )
   where
-    back : (R orElse S) k p → (v then w) ≡ refused k p
-    back (earlier r) = then-refused w (t k p .1 r)
-    back (later n s) = let e = no-row-passes v t n in then-passed e ∙ u e k p .1 s
+    back : (R orElse S) k p → (x then y) ≡ refused k p
+    back (earlier r) = then-refused y (t k p .1 r)
+    back (later n s) = let e = no-row-passes x t n in then-passed e ∙ u e k p .1 s
 
 -- An answer after a check.
-pub answers-rows : {A : Type 0} {R S : Table} (v : Verdict) (o : Outcome A) → Refuses v R → (v ≡ passed → Answers o S)
-    → Answers (v thenAnswers o) (R orElse S)
+pub answers-rows : {A : Type 0} {R S : Table} (x : Verdict) (y : Outcome A) → Refuses x R → (x ≡ passed → Answers y S)
+    → Answers (x thenAnswers y) (R orElse S)
 unfolding _thenAnswers_
-answers-rows {A} {R} {S} passed o t u k p = (λ h. later (passes-no-row t refl) (u refl k p .0 h), back)
+answers-rows {A} {R} {S} passed y t u k p = (λ h. later (passes-no-row t refl) (u refl k p .0 h), back)
   where
-    back : (R orElse S) k p → o ≡ refusal k p
+    back : (R orElse S) k p → y ≡ refusal k p
     back (earlier r) = absurd (refused-not-passed (sym (t k p .1 r)))
     back (later n s) = u refl k p .1 s
-answers-rows {A} {R} {S} (refused a b) o t u k p = (λ h. earlier (rw (refusal-same h .0, refusal-same h .1) at (t a b .0 refl)), back)
+answers-rows {A} {R} {S} (refused a b) y t u k p = (λ h. earlier (rw (refusal-same h .0, refusal-same h .1) at (t a b .0 refl)), back)
   where
     back : (R orElse S) k p → _≡_ {A = Outcome A} (refusal a b) (refusal k p)
     back (earlier r) = let e = refused-same (t k p .1 r) in rw (e .0, e .1)
     back (later n s) = absurd (n a b (t a b .0 refl))
 
 -- A value given where the checks pass.
-pub gives-rows : {A : Type 0} {R : Table} (v : Verdict) (a : A) → Refuses v R → Answers (v gives a) R
+pub gives-rows : {A : Type 0} {R : Table} (x : Verdict) (y : A) → Refuses x R → Answers (x gives y) R
 unfolding _gives_
-gives-rows passed a t k p = (λ h. absurd (value-no-refusal h), λ r. absurd (passes-no-row t refl k p r))
-gives-rows (refused n q) a t k p = (
+gives-rows passed y t k p = (λ h. absurd (value-no-refusal h), λ r. absurd (passes-no-row t refl k p r))
+gives-rows (refused n q) y t k p = (
   λ h. rw (refusal-same h .0, refusal-same h .1) at (t n q .0 refl),
   λ r. let e = refused-same (t k p .1 r) in rw (e .0, e .1),
 )
 
 -- A single test is a table of one row.
-pub demand-row : {W : Type 0} (b : Bool) (n q : ℕ) → (b ≡ false) ↔ W → Refuses (demand b n q) (Row n q W)
-demand-row {W} b n q h k p = (λ e. let c = demand-cases b n q k p e in rw (c .1, c .2) (row (h .0 (c .0))), back k p)
+pub demand-row : {W : Type 0} (x : Bool) (k′ p′ : ℕ) → (x ≡ false) ↔ W → Refuses (demand x k′ p′) (Row k′ p′ W)
+demand-row {W} x k′ p′ h k p = (λ e. let c = demand-cases x k′ p′ k p e in rw (c .1, c .2) (row (h .0 (c .0))), back k p)
   where
-    back : (k p : ℕ) → Row n q W k p → demand b n q ≡ refused k p
-    back k p (row w) = demand-refuses n q (h .1 w)
+    back : (k p : ℕ) → Row k′ p′ W k p → demand x k′ p′ ≡ refused k p
+    back k p (row w) = demand-refuses k′ p′ (h .1 w)
 
 pub short-row : (needed lent : ℕ) → Refuses (longEnough needed lent) (Short lent needed)
 unfolding longEnough
 short-row needed lent = demand-row _ 9 0 (leb-false _ _, lt-leb _ _)
 
 -- A refusal is a table of one row that always holds.
-pub refusal-row : {A : Type 0} (n q : ℕ) → Answers {A = A} (refusal n q) (Row n q (Unit {0}))
-refusal-row {A} n q k p = (λ h. rw (← refusal-same h .0, ← refusal-same h .1) (row tt), back k p)
+pub refusal-row : {A : Type 0} (n p′ : ℕ) → Answers {A = A} (refusal n p′) (Row n p′ (Unit {0}))
+refusal-row {A} n p′ k p = (λ h. rw (← refusal-same h .0, ← refusal-same h .1) (row tt), back k p)
   where
-    back : (k p : ℕ) → Row n q (Unit {0}) k p → _≡_ {A = Outcome A} (refusal n q) (refusal k p)
+    back : (k p : ℕ) → Row n p′ (Unit {0}) k p → _≡_ {A = Outcome A} (refusal n p′) (refusal k p)
     back k p (row w) = refl
 
 -- Memory that is stored where the checks pass.
-pub keeps-when : {R : Table} {needed : ℕ} {old : List ℕ} (new : List ℕ) (v : Verdict) → Refuses v R
-    → (v ≡ passed → drop needed new ≡ drop needed old) → Keeps R needed old (whenPassed v new old)
+pub keeps-when : {R : Table} {needed : ℕ} {old : List ℕ} (new : List ℕ) (x : Verdict) → Refuses x R
+    → (x ≡ passed → drop needed new ≡ drop needed old) → Keeps R needed old (whenPassed x new old)
 unfolding whenPassed
 keeps-when new passed t h = record { as-found = λ k p r. absurd (passes-no-row t refl k p r); beyond = h refl }
 keeps-when new (refused a b) t h = record { as-found = λ k p r. refl; beyond = refl }

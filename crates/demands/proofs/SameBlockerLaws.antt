@@ -16,21 +16,21 @@ use Rattle.blockers.specs.Entry.{blockersVerdict}
 use Rattle.blockers.proofs.EntryLaws.{carrier-granted}
 use Rattle.blockers.proofs.SameLaws.{left-same}
 
-module _ (f : Floor) (ws : List ℕ) (g : Floor) (vs : List ℕ) (plans : planOf f ws ≡ planOf g vs)
-    (responses : (i : ℕ) (views : List View) → i < f .carriers → length views ≡ i → respondOf f ws i views ≡ respondOf g vs i views) where
+module _ (f : Floor) (ws : List ℕ) (f′ : Floor) (ws′ : List ℕ) (plans : planOf f ws ≡ planOf f′ ws′)
+    (responses : (i : ℕ) (views : List View) → i < f .carriers → length views ≡ i → respondOf f ws i views ≡ respondOf f′ ws′ i views) where
   -- Of a carrier that is there.
-  sets : (i : ℕ) → i < f .carriers → blockersOf f ws i ≡ blockersOf g vs i
+  sets : (i : ℕ) → i < f .carriers → blockersOf f ws i ≡ blockersOf f′ ws′ i
   unfolding blockersOf answersAbove
   sets i l =
       let xs = take i (planOf f ws) in
       let count : length (map heard xs) ≡ i =
       length-map xs heard ∙ length-take-le i (planOf f ws) (omega (arith, planner-theorems .answers-all f ws)) in
-      ap setOf (left-same (respondOf f ws i) (respondOf g vs i) i (λ us e. responses i us l e) i (map heard xs) count)
-      ∙ ap (λ (ys : List Answer). setOf (leftAfter (respondOf g vs i) i (map heard (take i ys)))) plans
+      ap setOf (left-same (respondOf f ws i) (respondOf f′ ws′ i) i (λ us e. responses i us l e) i (map heard xs) count)
+      ∙ ap (λ (ys : List Answer). setOf (leftAfter (respondOf f′ ws′ i) i (map heard (take i ys)))) plans
 
   -- Where the entry does not refuse, the carrier is there.
   pub set-same : (carrier lent : ℕ) → blockersVerdict f ws carrier lent ≡ passed →
-      blockersOf f ws (carrier - 1) ≡ blockersOf g vs (carrier - 1)
+      blockersOf f ws (carrier - 1) ≡ blockersOf f′ ws′ (carrier - 1)
   unfolding blockersVerdict
   set-same carrier lent e =
       let listed = carrier-granted f ws carrier lent (then-both _ _ e .0) .listed in

@@ -20,32 +20,32 @@ use Rattle.listing.proofs.RunLaws.{begin-same, runs-silent, runs-spent, runs-mo
 use Rattle.listing.proofs.Theorems.{theorems as listing-theorems}
 use Rattle.demands.proofs.SameTrialLaws.{silent-same, entry-same}
 
-module _ (n d k : ℕ) (p q : ℕ → List View → Answer) (agree : (i : ℕ) (vs : List View) → i < n → length vs ≡ i → p i vs ≡ q i vs) where
+module _ (n d k : ℕ) (φ ψ : ℕ → List View → Answer) (agree : (i : ℕ) (vs : List View) → i < n → length vs ≡ i → φ i vs ≡ ψ i vs) where
   abbrev M : Machine
-  M = record { carriers = n; depth = d; needed = k; respond = p }
+  M = record { carriers = n; depth = d; needed = k; respond = φ }
 
   abbrev N : Machine
-  N = record { carriers = n; depth = d; needed = k; respond = q }
+  N = record { carriers = n; depth = d; needed = k; respond = ψ }
 
   from-same : (left : ℕ) (s : State) → runsFrom M left s ≡ runsFrom N left s
   from-same zero s = go (isSilent M s) refl
     where
-      go : (b : Bool) → isSilent M s ≡ b → runsFrom M 0 s ≡ runsFrom N 0 s
-      go true e = runs-silent M 0 s e ∙ sym (runs-silent N 0 s (sym (silent-same n d k p q agree s) ∙ e))
-      go false e = runs-spent M s e ∙ sym (runs-spent N s (sym (silent-same n d k p q agree s) ∙ e))
+      go : (x : Bool) → isSilent M s ≡ x → runsFrom M 0 s ≡ runsFrom N 0 s
+      go true e = runs-silent M 0 s e ∙ sym (runs-silent N 0 s (sym (silent-same n d k φ ψ agree s) ∙ e))
+      go false e = runs-spent M s e ∙ sym (runs-spent N s (sym (silent-same n d k φ ψ agree s) ∙ e))
   from-same (suc left) s = go (isSilent M s) refl (λ z. from-same left z)
     where
-      go : (b : Bool) → isSilent M s ≡ b → ((z : State) → runsFrom M left z ≡ runsFrom N left z) →
+      go : (y : Bool) → isSilent M s ≡ y → ((z : State) → runsFrom M left z ≡ runsFrom N left z) →
           runsFrom M (suc left) s ≡ runsFrom N (suc left) s
-      go true e rest = runs-silent M (suc left) s e ∙ sym (runs-silent N (suc left) s (sym (silent-same n d k p q agree s) ∙ e))
+      go true e rest = runs-silent M (suc left) s e ∙ sym (runs-silent N (suc left) s (sym (silent-same n d k φ ψ agree s) ∙ e))
       go false e rest =
           runs-more M left s e
           ∙ begin-same (isOpen M s) (isOpen N s) (λ x. runsFrom M left (afterStep M s x)) (λ x. runsFrom N left (afterStep N s x))
-          (open-same n d k p q agree s)
+          (open-same n d k φ ψ agree s)
           (λ x o.
-          rest (afterStep M s x) ∙ ap (runsFrom N left) (after-same n d k p q agree s x (open-same n d k p q agree s x ∙ o)))
+          rest (afterStep M s x) ∙ ap (runsFrom N left) (after-same n d k φ ψ agree s x (open-same n d k φ ψ agree s x ∙ o)))
           (ranking n)
-          ∙ sym (runs-more N left s (sym (silent-same n d k p q agree s) ∙ e))
+          ∙ sym (runs-more N left s (sym (silent-same n d k φ ψ agree s) ∙ e))
 
   pub runs-same : runsOf M ≡ runsOf N
   unfolding runsOf
@@ -55,8 +55,8 @@ module _ (n d k : ℕ) (p q : ℕ → List View → Answer) (agree : (i : ℕ) (
   unfolding Complete reportFrom
   report-same s [] c = refl
   report-same s (x ∷ xs) c =
-      ap₂ (λ (e : Entry) (es : List Entry). e ∷ es) (entry-same n d k p q agree s x (c .0))
-      (report-same (afterStep M s x) xs (c .1) ∙ ap (λ (z : State). reportFrom N z xs) (after-same n d k p q agree s x (c .0)))
+      ap₂ (λ (x : Entry) (xs : List Entry). x ∷ xs) (entry-same n d k φ ψ agree s x (c .0))
+      (report-same (afterStep M s x) xs (c .1) ∙ ap (λ (z : State). reportFrom N z xs) (after-same n d k φ ψ agree s x (c .0)))
 
   -- A rank that is not below the total has no run.
   no-run : (L : Machine) (rank : ℕ) → total L ≤ rank → runAt L rank ≡ []
@@ -65,7 +65,7 @@ module _ (n d k : ℕ) (p q : ℕ → List View → Answer) (agree : (i : ℕ) (
 
   at-same : (rank : ℕ) → runAt M rank ≡ runAt N rank
   unfolding runAt
-  at-same rank = ap (λ (rs : List Run). getD rs rank []) runs-same
+  at-same rank = ap (λ (xs : List Run). getD xs rank []) runs-same
 
   nothing : reportFrom M fresh [] ≡ reportFrom N fresh []
   unfolding reportFrom

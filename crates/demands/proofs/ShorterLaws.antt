@@ -65,15 +65,15 @@ module _ (f : Floor) (ws : List ℕ) (ok : checkOf f ws ≡ passed) (more : 1 < 
       ∙ sym (planner-theorems .depends-on-above (f .carriers - 1) f ws (dropLast f) ws (omega arith) (omega arith) agrees)
 
 -- The failing carrier of a list of answers without its last, the first being carrier k's.
-failing-front : (k : ℕ) (xs : List Answer) (a : Answer) → 1 ≤ k →
-    failingFrom k xs ≡ failingWithout (k + length xs) (failingFrom k (xs ++ (a ∷ [])))
+failing-front : (k : ℕ) (xs : List Answer) (x : Answer) → 1 ≤ k →
+    failingFrom k xs ≡ failingWithout (k + length xs) (failingFrom k (xs ++ (x ∷ [])))
 unfolding failingFrom failingWithout
 failing-front k [] none l = rw (eq-eqb k (k + 0) (omega arith))
 failing-front k [] (route r) l = rw (ne-eqb 0 (k + 0) (omega arith))
-failing-front k (none ∷ xs) a l = rw (ne-eqb k (k + suc (length xs)) (omega arith))
-failing-front k (route r ∷ xs) a l =
+failing-front k (none ∷ xs) x l = rw (ne-eqb k (k + suc (length xs)) (omega arith))
+failing-front k (route r ∷ xs) x l =
     let e : k + suc (length xs) ≡ suc k + length xs = omega arith in
-    rw e (failing-front (suc k) xs a (omega arith))
+    rw e (failing-front (suc k) xs x (omega arith))
 
 module _ (f : Floor) (ws : List ℕ) (ok : checkOf f ws ≡ passed) (more : 1 < f .carriers) where
   -- The answers are those of the others and the last one's.
@@ -103,19 +103,19 @@ lines-last line zero l = absurd (omega arith)
 lines-last line (suc k) l = let e : suc k - 1 ≡ k = omega arith in rw e
 
 -- A text of four parts behind each other, with another field in its front part, and without its last but one.
-pub field-changed : (a old new b l c w : List ℕ) (m n : ℕ) → length a ≡ 20 → length old ≡ 5 → length (b ++ l) ≡ m → 25 + m + length c ≡ n →
-    (take 20 ((a ++ (old ++ b)) ++ ((l ++ c) ++ w))
-    ++ (new ++ (take m (drop 25 ((a ++ (old ++ b)) ++ ((l ++ c) ++ w))) ++ drop n ((a ++ (old ++ b)) ++ ((l ++ c) ++ w)))))
-    ≡ (a ++ (new ++ b)) ++ (l ++ w)
-field-changed a old new b l c w m n ea eo em en =
-    let text = (a ++ (old ++ b)) ++ ((l ++ c) ++ w) in
-    let front : text ≡ a ++ (old ++ ((b ++ l) ++ (c ++ w))) = simp append-assoc in
-    let middle : text ≡ (a ++ old) ++ ((b ++ l) ++ (c ++ w)) = simp append-assoc in
-    let back : text ≡ ((a ++ old) ++ ((b ++ l) ++ c)) ++ w = simp append-assoc in
-    let size : length (a ++ old) ≡ 25 = length-append a old ∙ omega arith in
-    let long : length ((a ++ old) ++ ((b ++ l) ++ c)) ≡ n =
-    length-append (a ++ old) ((b ++ l) ++ c) ∙ omega (arith, length-append (b ++ l) c) in
-    let one : take 20 text ≡ a = ap (take 20) front ∙ take-at a _ 20 ea in
-    let two : take m (drop 25 text) ≡ b ++ l = ap (take m) (ap (drop 25) middle ∙ drop-at (a ++ old) _ 25 size) ∙ take-at (b ++ l) _ m em in
-    let three : drop n text ≡ w = ap (drop n) back ∙ drop-at ((a ++ old) ++ ((b ++ l) ++ c)) w n long in
+pub field-changed : (xs₁ old new xs₂ xs₃ xs₄ xs₅ : List ℕ) (k n : ℕ) → length xs₁ ≡ 20 → length old ≡ 5 → length (xs₂ ++ xs₃) ≡ k → 25 + k + length xs₄ ≡ n →
+    (take 20 ((xs₁ ++ (old ++ xs₂)) ++ ((xs₃ ++ xs₄) ++ xs₅))
+    ++ (new ++ (take k (drop 25 ((xs₁ ++ (old ++ xs₂)) ++ ((xs₃ ++ xs₄) ++ xs₅))) ++ drop n ((xs₁ ++ (old ++ xs₂)) ++ ((xs₃ ++ xs₄) ++ xs₅)))))
+    ≡ (xs₁ ++ (new ++ xs₂)) ++ (xs₃ ++ xs₅)
+field-changed xs₁ old new xs₂ xs₃ xs₄ xs₅ k n ea eo em en =
+    let text = (xs₁ ++ (old ++ xs₂)) ++ ((xs₃ ++ xs₄) ++ xs₅) in
+    let front : text ≡ xs₁ ++ (old ++ ((xs₂ ++ xs₃) ++ (xs₄ ++ xs₅))) = simp append-assoc in
+    let middle : text ≡ (xs₁ ++ old) ++ ((xs₂ ++ xs₃) ++ (xs₄ ++ xs₅)) = simp append-assoc in
+    let back : text ≡ ((xs₁ ++ old) ++ ((xs₂ ++ xs₃) ++ xs₄)) ++ xs₅ = simp append-assoc in
+    let size : length (xs₁ ++ old) ≡ 25 = length-append xs₁ old ∙ omega arith in
+    let long : length ((xs₁ ++ old) ++ ((xs₂ ++ xs₃) ++ xs₄)) ≡ n =
+    length-append (xs₁ ++ old) ((xs₂ ++ xs₃) ++ xs₄) ∙ omega (arith, length-append (xs₂ ++ xs₃) xs₄) in
+    let one : take 20 text ≡ xs₁ = ap (take 20) front ∙ take-at xs₁ _ 20 ea in
+    let two : take k (drop 25 text) ≡ xs₂ ++ xs₃ = ap (take k) (ap (drop 25) middle ∙ drop-at (xs₁ ++ old) _ 25 size) ∙ take-at (xs₂ ++ xs₃) _ k em in
+    let three : drop n text ≡ xs₅ = ap (drop n) back ∙ drop-at ((xs₁ ++ old) ++ ((xs₂ ++ xs₃) ++ xs₄)) xs₅ n long in
     rw (one, two, three) (simp append-assoc)

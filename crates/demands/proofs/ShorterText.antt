@@ -90,11 +90,11 @@ module _ (f : Floor) (ws : List ℕ) (more : 1 < f .carriers) where
 
 module _ (f : Floor) (ws : List ℕ) (ok : checkOf f ws ≡ passed) (more : 1 < f .carriers) where
   -- A sheet in the front of enough memory.
-  front-written : (g : Floor) → checkOf g ws ≡ passed → (old : List ℕ) → sheetLength g ≤ length old →
-      take (sheetLength g) (writeSheet g ws old) ≡ sheetOf g ws
-  front-written g passes old l =
-      ap (take (sheetLength g)) (written g ws old passes l)
-      ∙ take-at (sheetOf g ws) (drop (sheetLength g) old) (sheetLength g) (sheet-theorems .sheet-length g ws)
+  front-written : (f′ : Floor) → checkOf f′ ws ≡ passed → (old : List ℕ) → sheetLength f′ ≤ length old →
+      take (sheetLength f′) (writeSheet f′ ws old) ≡ sheetOf f′ ws
+  front-written f′ passes old l =
+      ap (take (sheetLength f′)) (written f′ ws old passes l)
+      ∙ take-at (sheetOf f′ ws) (drop (sheetLength f′) old) (sheetLength f′) (sheet-theorems .sheet-length f′ ws)
 
   shorter-length : sheetLength (dropLast f) ≤ sheetLength f
   unfolding sheetLength wallAt dropLast
@@ -111,7 +111,7 @@ module _ (f : Floor) (ws : List ℕ) (ok : checkOf f ws ≡ passed) (more : 1 < 
       ∙ ap (withoutLast (f .carriers)) (sym (front-written f ok old l))
 
   -- The other carriers' lines.
-  line-same : (i : ℕ) (a : Answer) → answerLine (dropLast f) i a ≡ answerLine f i a
+  line-same : (i : ℕ) (x : Answer) → answerLine (dropLast f) i x ≡ answerLine f i x
   unfolding answerLine dropLast
   line-same i none = refl
   line-same i (route r) = refl

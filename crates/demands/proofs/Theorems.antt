@@ -26,28 +26,28 @@ use Rattle.demands.proofs.RefusalLaws.{replies-not-ten}
 use Rattle.demands.proofs.ListLaws.{answers-same, memory-same, after-fits}
 use Rattle.demands.proofs.CutLaws.{cut-there}
 
-module _ (f : Floor) (ws m : List ℕ) (ok : checkOf f ws ≡ passed) (long : stateSize (f .carriers) ≤ length m) (cs : List ProgramCall) where
+module _ (f : Floor) (ws m : List ℕ) (ok : checkOf f ws ≡ passed) (long : stateSize (f .carriers) ≤ length m) (ys : List ProgramCall) where
   -- The reference machine of the floor, its state after the calls, and the calls as it is given them.
   abbrev M : Machine
   M = machineOf f ws
 
   abbrev s : State
-  s = referenceAfter f ws (length m) cs
+  s = referenceAfter f ws (length m) ys
 
   abbrev calls : List Call
-  calls = referenceCalls f (length m) cs
+  calls = referenceCalls f (length m) ys
 
   depth : 1 ≤ M .depth
   unfolding machineOf
   depth = depth-some f ws ok
 
-  never-ten : (p : ℕ) → List·Memᴰ (refusal 10 p) (programReplies f ws m cs) → ⊥
+  never-ten : (p : ℕ) → List·Memᴰ (refusal 10 p) (programReplies f ws m ys) → ⊥
   unfolding referenceReplies
-  never-ten = rw (answers-same f ws m ok long cs) (replies-not-ten M fresh calls)
+  never-ten = rw (answers-same f ws m ok long ys) (replies-not-ten M fresh calls)
 
-  ceiling-kept : repliesCount (programReplies f ws m cs) ≤ ceiling (f .carriers)
+  ceiling-kept : repliesCount (programReplies f ws m ys) ≤ ceiling (f .carriers)
   unfolding machineOf referenceReplies
-  ceiling-kept = rw (answers-same f ws m ok long cs) (theorems .calls .ceiling-holds M calls)
+  ceiling-kept = rw (answers-same f ws m ok long ys) (theorems .calls .ceiling-holds M calls)
 
   silent-idle : isSilent M s ≡ idle (f .carriers) s
   unfolding machineOf
@@ -65,23 +65,23 @@ module _ (f : Floor) (ws m : List ℕ) (ok : checkOf f ws ≡ passed) (long : st
   unfolding machineOf planOf referenceAfter
   quiescent-answers k l h = theorems .calls .quiescent-answers M calls k l h
 
-  quiescent-answers-stay : (ds : List ProgramCall) (k : ℕ) → quiet k s ≡ true →
-      below k (referenceAfter f ws (length m) (cs ++ ds) .answer) ≡ below k (s .answer)
+  quiescent-answers-stay : (xs : List ProgramCall) (k : ℕ) → quiet k s ≡ true →
+      below k (referenceAfter f ws (length m) (ys ++ xs) .answer) ≡ below k (s .answer)
   unfolding referenceAfter referenceCalls
-  quiescent-answers-stay ds k h =
-      rw (map-append (referenceCall f (length m)) cs ds)
-      (theorems .calls .quiescent-answers-stay M calls (map (referenceCall f (length m)) ds) k h)
+  quiescent-answers-stay xs k h =
+      rw (map-append (referenceCall f (length m)) ys xs)
+      (theorems .calls .quiescent-answers-stay M calls (map (referenceCall f (length m)) xs) k h)
 
-  counted : s .taken ≡ min 999999 (repliesCount (programReplies f ws m cs))
+  counted : s .taken ≡ min 999999 (repliesCount (programReplies f ws m ys))
   unfolding referenceAfter referenceReplies
-  counted = rw (answers-same f ws m ok long cs) (theorems .calls .count-told M calls)
+  counted = rw (answers-same f ws m ok long ys) (theorems .calls .count-told M calls)
 
-  holds : Holds f ws m cs
+  holds : Holds f ws m ys
   holds =
       record {
-        answers = answers-same f ws m ok long cs;
-        memory = memory-same f ws m ok long cs;
-        within-ranges = after-fits f ws m ok long cs;
+        answers = answers-same f ws m ok long ys;
+        memory = memory-same f ws m ok long ys;
+        within-ranges = after-fits f ws m ok long ys;
         never-ten = never-ten;
         faithful = λ xs b. theorems .steps .run-faithful M s xs b;
         ceiling-kept = ceiling-kept;

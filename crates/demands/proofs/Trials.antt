@@ -34,11 +34,11 @@ use Rattle.trial.proofs.EntryLaws.{front-is}
 use Rattle.demands.specs.Trials.{Tries, TrialTells, Trials}
 
 -- Calls keep a state within the ranges, and a trial is a list of calls from fresh.
-calls-fit : (f : Floor) (ws : List ℕ) → checkOf f ws ≡ passed → (s : State) → WithinRanges f s → (cs : List Call)
-    → WithinRanges f (after (machineOf f ws) s cs)
+calls-fit : (f : Floor) (ws : List ℕ) → checkOf f ws ≡ passed → (s : State) → WithinRanges f s → (xs : List Call)
+    → WithinRanges f (after (machineOf f ws) s xs)
 unfolding after
 calls-fit f ws ok s fits [] = fits
-calls-fit f ws ok s fits (c ∷ cs) = calls-fit f ws ok (afterCall (machineOf f ws) s c) (call-fits f ws ok s fits c) cs
+calls-fit f ws ok s fits (c ∷ xs) = calls-fit f ws ok (afterCall (machineOf f ws) s c) (call-fits f ws ok s fits c) xs
 
 last-fits : (f : Floor) (ws : List ℕ) (order seed : ℕ) → checkOf f ws ≡ passed → WithinRanges f (trialOf f ws order seed .state)
 unfolding trialOf
@@ -63,9 +63,9 @@ tries f ws order seed ok =
     }
 
 -- The lines of a report in the front of a memory.
-front-lines : (r : List ℕ) (es : List Entry) → put r 0 (reportNumbers es) ≡ reportNumbers es ++ drop (2 * length es) r
+front-lines : (r : List ℕ) (xs : List Entry) → put r 0 (reportNumbers xs) ≡ reportNumbers xs ++ drop (2 * length xs) r
 unfolding put
-front-lines r es = rw (numbers-length es, zero-add)
+front-lines r xs = rw (numbers-length xs, zero-add)
 
 tells : (f : Floor) (ws : List ℕ) (order seed : ℕ) (m r : List ℕ) → checkOf f ws ≡ passed → lengthsOf f .state ≤ length m
     → lengthsOf f .report ≤ length r → Within 1 3 order → TrialTells f ws order seed m r

@@ -33,12 +33,12 @@ pub record Blockers : Type 0 where
   -- It suffices: against those answers alone there is no route.
   pub suffices : (f : Floor) (ws : List ℕ) (i : ℕ) → Stranded f ws i → (q : List ℕ) → RouteAgainst f ws i (shutsIn f ws i) q → ⊥
   -- It is smallest: against any part of it that lacks one of it there is a route.
-  pub smallest : (f : Floor) (ws : List ℕ) (i : ℕ) → Stranded f ws i → (p : ℕ → Bool) →
-      ((j : ℕ) → p j ≡ true → shutsIn f ws i j ≡ true) → (k : ℕ) → shutsIn f ws i k ≡ true → p k ≡ false →
-      (q : List ℕ) × RouteAgainst f ws i p q
+  pub smallest : (f : Floor) (ws : List ℕ) (i : ℕ) → Stranded f ws i → (φ : ℕ → Bool) →
+      ((j : ℕ) → φ j ≡ true → shutsIn f ws i j ≡ true) → (k : ℕ) → shutsIn f ws i k ≡ true → φ k ≡ false →
+      (q : List ℕ) × RouteAgainst f ws i φ q
   -- It is empty, walls or the horizon being the cause, exactly if there is no route on the empty floor.
   pub empty-exactly : (f : Floor) (ws : List ℕ) (i : ℕ) → Stranded f ws i →
       (blockersOf f ws i ≡ 0) ↔ ((q : List ℕ) → Admissible (taskOf f ws (i + 1)) [] q → ⊥)
   -- Fewer views never take a route away: one that is admissible stays so against views each of which was there, or shows nothing.
-  pub fewer-views : (task : Task) (vs us : List View) (q : List ℕ) → ((v : View) → List·Memᴰ v us → ShowsNoRoute v ⊎ List·Memᴰ v vs) →
-      Admissible task vs q → Admissible task us q
+  pub fewer-views : (task : Task) (vs vs′ : List View) (q : List ℕ) → ((v : View) → List·Memᴰ v vs′ → ShowsNoRoute v ⊎ List·Memᴰ v vs) →
+      Admissible task vs q → Admissible task vs′ q

@@ -73,7 +73,7 @@ module _ (f : Floor) (ws : List ℕ) where
   StateRows m = FreshRows (length m) orElse Row 10 0 (HoldsState f m → ⊥)
 
   abbrev pub CallRows : List ℕ → Call → Table
-  CallRows m c = StateRows m orElse RefusedCall (machineOf f ws) (stateIn f m) c
+  CallRows m x = StateRows m orElse RefusedCall (machineOf f ws) (stateIn f m) x
 
   -- 11, 0: an order other than 1 to 3 (document 02, slip 1).
   abbrev pub TrialRows : (order state report : ℕ) → Table
@@ -134,8 +134,8 @@ pub record Demand1 : Type 0 where
   -- The fresh state, and every call on a lent state: single steps and runs.
   pub fresh : (f : Floor) (ws : List ℕ) (lent : ℕ) → Refuses (placeVerdict f ws lent) (FreshRows f ws lent)
   pub fresh-keeps : (f : Floor) (ws old : List ℕ) → Keeps (FreshRows f ws (length old)) (lengthsOf f .state) old (freshMemory f ws old)
-  pub call : (f : Floor) (ws m : List ℕ) (c : Call) → Answers (replyTo f ws m c) (CallRows f ws m c)
-  pub call-keeps : (f : Floor) (ws m : List ℕ) (c : Call) → Keeps (CallRows f ws m c) (lengthsOf f .state) m (memoryAfter f ws m c)
+  pub call : (f : Floor) (ws m : List ℕ) (x : Call) → Answers (replyTo f ws m x) (CallRows f ws m x)
+  pub call-keeps : (f : Floor) (ws m : List ℕ) (x : Call) → Keeps (CallRows f ws m x) (lengthsOf f .state) m (memoryAfter f ws m x)
   -- The step ceiling.
   pub ceiling : (n : ℕ) → Answers (mostSteps n) (Row 2 5 (Within 1 8 n → ⊥))
   -- A trial, with its state and its report.
@@ -154,7 +154,7 @@ pub record Demand1 : Type 0 where
   pub blockers-keeps : (f : Floor) (ws : List ℕ) (carrier : ℕ) (old : List ℕ)
       → Keeps (BlockersRows f ws carrier (length old)) (lengthsOf f .answers) old (blockersMemory f ws carrier old)
   -- The conflict test of two lent routes, which writes no memory.
-  pub conflict : (f : Floor) (a b : List ℕ) (horizon : ℕ) → Answers (conflictOutcome a b horizon) (ConflictRows f (length a) (length b))
+  pub conflict : (f : Floor) (r q : List ℕ) (horizon : ℕ) → Answers (conflictOutcome r q horizon) (ConflictRows f (length r) (length q))
   -- The check of a record and the arrival of a lent route, which write no memory.
   pub check-record : (f : Floor) (ws : List ℕ) (carrier : ℕ) (m : List ℕ)
       → Answers (recordOutcome f ws carrier m) (RecordRows f ws carrier (length m))

@@ -46,34 +46,34 @@ pub record Prioritized (f : Floor) (ws : List ℕ) (xs : List Answer) : Type 0 w
   pub best : (k : ℕ) → k < f .carriers → Best (taskOf f ws (k + 1)) (seen f (map heard (take k xs))) (answerAt xs k)
 
 -- Two floors get the same answers from every entry, and leave the same in lent memory, but for the sheet that is written.
-pub record SameOutcomes (f : Floor) (ws : List ℕ) (g : Floor) (vs : List ℕ) : Type 0 where
-  pub check : checkOf f ws ≡ checkOf g vs
-  pub lengths : figuresFor f ≡ figuresFor g
-  pub write : (lent : ℕ) → writeVerdict f ws lent ≡ writeVerdict g vs lent
-  pub search : (i : ℕ) (views : List ℕ) → searchOf f ws i views ≡ searchOf g vs i views
-  pub plan : (lent : ℕ) → planResult f ws lent ≡ planResult g vs lent
-  pub answers : (old : List ℕ) → planMemory f ws old ≡ planMemory g vs old
-  pub print : (lent bytes : ℕ) → printOutcome f ws lent bytes ≡ printOutcome g vs lent bytes
-  pub printed-answers : (bytes : ℕ) (old : List ℕ) → printAnswers f ws bytes old ≡ printAnswers g vs bytes old
-  pub text : (lent : ℕ) (old : List ℕ) → printMemory f ws lent old ≡ printMemory g vs lent old
-  pub fresh : (lent : ℕ) → placeVerdict f ws lent ≡ placeVerdict g vs lent
-  pub fresh-memory : (old : List ℕ) → freshMemory f ws old ≡ freshMemory g vs old
-  pub call : (m : List ℕ) (c : Call) → replyTo f ws m c ≡ replyTo g vs m c
-  pub memory : (m : List ℕ) (c : Call) → memoryAfter f ws m c ≡ memoryAfter g vs m c
-  pub trial : (order seed state report : ℕ) → trialOutcome f ws order seed state report ≡ trialOutcome g vs order seed state report
+pub record SameOutcomes (f : Floor) (ws : List ℕ) (f′ : Floor) (ws′ : List ℕ) : Type 0 where
+  pub check : checkOf f ws ≡ checkOf f′ ws′
+  pub lengths : figuresFor f ≡ figuresFor f′
+  pub write : (lent : ℕ) → writeVerdict f ws lent ≡ writeVerdict f′ ws′ lent
+  pub search : (i : ℕ) (views : List ℕ) → searchOf f ws i views ≡ searchOf f′ ws′ i views
+  pub plan : (lent : ℕ) → planResult f ws lent ≡ planResult f′ ws′ lent
+  pub answers : (old : List ℕ) → planMemory f ws old ≡ planMemory f′ ws′ old
+  pub print : (lent bytes : ℕ) → printOutcome f ws lent bytes ≡ printOutcome f′ ws′ lent bytes
+  pub printed-answers : (bytes : ℕ) (old : List ℕ) → printAnswers f ws bytes old ≡ printAnswers f′ ws′ bytes old
+  pub text : (lent : ℕ) (old : List ℕ) → printMemory f ws lent old ≡ printMemory f′ ws′ lent old
+  pub fresh : (lent : ℕ) → placeVerdict f ws lent ≡ placeVerdict f′ ws′ lent
+  pub fresh-memory : (old : List ℕ) → freshMemory f ws old ≡ freshMemory f′ ws′ old
+  pub call : (m : List ℕ) (x : Call) → replyTo f ws m x ≡ replyTo f′ ws′ m x
+  pub memory : (m : List ℕ) (x : Call) → memoryAfter f ws m x ≡ memoryAfter f′ ws′ m x
+  pub trial : (order seed state report : ℕ) → trialOutcome f ws order seed state report ≡ trialOutcome f′ ws′ order seed state report
   pub trial-state : (order seed : ℕ) (old : List ℕ) (report : ℕ) →
-      stateTried f ws order seed old report ≡ stateTried g vs order seed old report
-  pub trial-report : (order seed state : ℕ) (old : List ℕ) → reportTried f ws order seed state old ≡ reportTried g vs order seed state old
-  pub run-of-rank : (rank report : ℕ) → rankOutcome f ws rank report ≡ rankOutcome g vs rank report
-  pub run-report : (rank : ℕ) (old : List ℕ) → reportListed f ws rank old ≡ reportListed g vs rank old
-  pub blockers : (carrier lent : ℕ) → blockersOutcome f ws carrier lent ≡ blockersOutcome g vs carrier lent
-  pub check-record : (carrier : ℕ) (m : List ℕ) → recordOutcome f ws carrier m ≡ recordOutcome g vs carrier m
-  pub blockers-answers : (carrier : ℕ) (old : List ℕ) → blockersMemory f ws carrier old ≡ blockersMemory g vs carrier old
+      stateTried f ws order seed old report ≡ stateTried f′ ws′ order seed old report
+  pub trial-report : (order seed state : ℕ) (old : List ℕ) → reportTried f ws order seed state old ≡ reportTried f′ ws′ order seed state old
+  pub run-of-rank : (rank report : ℕ) → rankOutcome f ws rank report ≡ rankOutcome f′ ws′ rank report
+  pub run-report : (rank : ℕ) (old : List ℕ) → reportListed f ws rank old ≡ reportListed f′ ws′ rank old
+  pub blockers : (carrier lent : ℕ) → blockersOutcome f ws carrier lent ≡ blockersOutcome f′ ws′ carrier lent
+  pub check-record : (carrier : ℕ) (m : List ℕ) → recordOutcome f ws carrier m ≡ recordOutcome f′ ws′ carrier m
+  pub blockers-answers : (carrier : ℕ) (old : List ℕ) → blockersMemory f ws carrier old ≡ blockersMemory f′ ws′ carrier old
 
 -- With the sheet.
-pub record SameAnswers (f : Floor) (ws : List ℕ) (g : Floor) (vs : List ℕ) : Type 0 where
-  pub outcomes : SameOutcomes f ws g vs
-  pub sheet : (old : List ℕ) → writeSheet f ws old ≡ writeSheet g vs old
+pub record SameAnswers (f : Floor) (ws : List ℕ) (f′ : Floor) (ws′ : List ℕ) : Type 0 where
+  pub outcomes : SameOutcomes f ws f′ ws′
+  pub sheet : (old : List ℕ) → writeSheet f ws old ≡ writeSheet f′ ws′ old
 
 pub record Demand2 : Type 0 where
   -- The plan of an accepted floor is what prioritized planning gives, and nothing else is.
@@ -93,8 +93,8 @@ pub record Demand2 : Type 0 where
   -- None, once heard, keeps every response off the start of the carrier that told it, at every beat; not heard may be left out.
   pub none-occupies : (f : Floor) (ws : List ℕ) (i : ℕ) (vs : List View) (j t : ℕ) (r : List ℕ) → checkOf f ws ≡ passed →
       getD vs j unheard ≡ heard none → respondOf f ws i vs ≡ route r → t ≤ f .horizon → cellAt r t ≡ startOf f j → ⊥
-  pub unheard-left-out : (f : Floor) (ws : List ℕ) (i : ℕ) (vs us : List View) → checkOf f ws ≡ passed →
-      Best (taskOf f ws (i + 1)) (seen f vs ++ seenFrom f (suc (length vs)) us) (respondOf f ws i (vs ++ (unheard ∷ us)))
+  pub unheard-left-out : (f : Floor) (ws : List ℕ) (i : ℕ) (vs vs′ : List View) → checkOf f ws ≡ passed →
+      Best (taskOf f ws (i + 1)) (seen f vs ++ seenFrom f (suc (length vs)) vs′) (respondOf f ws i (vs ++ (unheard ∷ vs′)))
   -- No route of a plan is at any beat in the start of a carrier above it that has none.
   pub stranded-avoided : (f : Floor) (ws : List ℕ) (j k t : ℕ) (r : List ℕ) → checkOf f ws ≡ passed → j < k → k < f .carriers →
       answerAt (planOf f ws) j ≡ none → answerAt (planOf f ws) k ≡ route r → t ≤ f .horizon → cellAt r t ≡ startOf f j → ⊥
@@ -124,10 +124,10 @@ pub record Demand2 : Type 0 where
   pub sheet-returns : (text lent old : List ℕ) → readVerdict text (length lent) ≡ passed → length text ≤ length old →
       take (length text) (writeSheet (readFloor text (length lent)) (readWalls text lent) old) ≡ text
   -- The same floor gets the same answers: record places past the carriers and walls past the count change nothing.
-  pub same-floor : (f : Floor) (ws : List ℕ) (g : Floor) (vs : List ℕ) → SameFloor f ws g vs → Lent f ws → Lent g vs → SameAnswers f ws g vs
+  pub same-floor : (f : Floor) (ws : List ℕ) (f′ : Floor) (ws′ : List ℕ) → SameFloor f ws f′ ws′ → Lent f ws → Lent f′ ws′ → SameAnswers f ws f′ ws′
   -- The conflict test answers free exactly if two routes have no conflict, otherwise the first one with its beat and kind; any two routes
   -- of a plan are free.
-  pub conflict-test : (H : ℕ) (a b : List ℕ) → TestedFor H a b
+  pub conflict-test : (H : ℕ) (r q : List ℕ) → TestedFor H r q
   pub plan-free : (f : Floor) (ws : List ℕ) (j k : ℕ) (r q : List ℕ) → checkOf f ws ≡ passed → j < k → k < f .carriers →
       answerAt (planOf f ws) j ≡ route q → answerAt (planOf f ws) k ≡ route r → firstConflict (f .horizon) r q ≡ free
   -- The check of a record: a route is answered exactly if it is one of the carrier, with its arrival, none and not heard exactly of their

@@ -31,40 +31,40 @@ use Rattle.demands.specs.Demand2.{SameOutcomes}
 
 -- Responses by document 01's letter: each carrier that is there answers best to its one goal, whatever it has heard from those above it.
 abbrev pub EarlierResponses : OneDockFloor → List ℕ → (ℕ → List View → Answer) → Type 0
-EarlierResponses e ws respond =
-    (i : ℕ) (vs : List View) → i < e .carriers → length vs ≡ i →
-    BestTo (getD (e .goals) i 0) (taskOf (withOneDock e) ws (i + 1)) (seen (withOneDock e) vs) (respond i vs)
+EarlierResponses old ws respond =
+    (i : ℕ) (vs : List View) → i < old .carriers → length vs ≡ i →
+    BestTo (getD (old .goals) i 0) (taskOf (withOneDock old) ws (i + 1)) (seen (withOneDock old) vs) (respond i vs)
 
 -- The reference machine of document 01's floor with given responses.
 abbrev pub earlierMachine : OneDockFloor → (ℕ → List View → Answer) → Machine
-earlierMachine e respond =
-    record { carriers = e .carriers; depth = e .depth; needed = stateSize (e .carriers); respond = respond }
+earlierMachine old respond =
+    record { carriers = old .carriers; depth = old .depth; needed = stateSize (old .carriers); respond = respond }
 
 -- With responses by document 01's letter the entries' definitions answer as they do on the floor with one dock: the machine's calls and its
 -- state after them, trials, the listed runs and their reports, the sequential answers, and the carriers that shut one in.
-pub record EarlierAnswers (e : OneDockFloor) (ws : List ℕ) (respond : ℕ → List View → Answer) : Type 0 where
-  pub call : (s : State) (c : Call) → reply (earlierMachine e respond) s c ≡ reply (machineOf (withOneDock e) ws) s c
-  pub state : (s : State) (c : Call) → afterCall (earlierMachine e respond) s c ≡ afterCall (machineOf (withOneDock e) ws) s c
-  pub trials : (o : Order) (seed : ℕ) → trial o (earlierMachine e respond) seed ≡ trial o (machineOf (withOneDock e) ws) seed
-  pub runs : runsOf (earlierMachine e respond) ≡ runsOf (machineOf (withOneDock e) ws)
+pub record EarlierAnswers (old : OneDockFloor) (ws : List ℕ) (respond : ℕ → List View → Answer) : Type 0 where
+  pub call : (s : State) (x : Call) → reply (earlierMachine old respond) s x ≡ reply (machineOf (withOneDock old) ws) s x
+  pub state : (s : State) (x : Call) → afterCall (earlierMachine old respond) s x ≡ afterCall (machineOf (withOneDock old) ws) s x
+  pub trials : (o : Order) (seed : ℕ) → trial o (earlierMachine old respond) seed ≡ trial o (machineOf (withOneDock old) ws) seed
+  pub runs : runsOf (earlierMachine old respond) ≡ runsOf (machineOf (withOneDock old) ws)
   pub reports : (rank : ℕ) →
-      reportFrom (earlierMachine e respond) fresh (runAt (earlierMachine e respond) rank)
-      ≡ reportFrom (machineOf (withOneDock e) ws) fresh (runAt (machineOf (withOneDock e) ws) rank)
-  pub plan : sequential respond (e .carriers) ≡ planOf (withOneDock e) ws
-  pub blockers : (i : ℕ) → i < e .carriers →
-      setOf (leftAfter (respond i) i (map heard (take i (sequential respond (e .carriers))))) ≡ blockersOf (withOneDock e) ws i
+      reportFrom (earlierMachine old respond) fresh (runAt (earlierMachine old respond) rank)
+      ≡ reportFrom (machineOf (withOneDock old) ws) fresh (runAt (machineOf (withOneDock old) ws) rank)
+  pub plan : sequential respond (old .carriers) ≡ planOf (withOneDock old) ws
+  pub blockers : (i : ℕ) → i < old .carriers →
+      setOf (leftAfter (respond i) i (map heard (take i (sequential respond (old .carriers))))) ≡ blockersOf (withOneDock old) ws i
 
 pub record SeveralDocks : Type 0 where
   -- One dock: what document 01 accepts is accepted; its refusals are the same both ways, except 6, which stays where it is for a start.
-  pub earlier-accepted : (e : OneDockFloor) (ws : List ℕ) → earlierCheck e ws ≡ passed → checkOf (withOneDock e) ws ≡ passed
-  pub earlier-refused : (e : OneDockFloor) (ws : List ℕ) (k p : ℕ) → (k ≡ 6 → ⊥) →
-      (earlierCheck e ws ≡ refused k p) ↔ (checkOf (withOneDock e) ws ≡ refused k p)
-  pub earlier-start : (e : OneDockFloor) (ws : List ℕ) (i : ℕ) → earlierCheck e ws ≡ refused 6 (1 + i) →
-      among (e .starts) i (getD (e .starts) i 0) ≡ true → checkOf (withOneDock e) ws ≡ refused 6 (1 + i)
+  pub earlier-accepted : (old : OneDockFloor) (ws : List ℕ) → earlierCheck old ws ≡ passed → checkOf (withOneDock old) ws ≡ passed
+  pub earlier-refused : (old : OneDockFloor) (ws : List ℕ) (k p : ℕ) → (k ≡ 6 → ⊥) →
+      (earlierCheck old ws ≡ refused k p) ↔ (checkOf (withOneDock old) ws ≡ refused k p)
+  pub earlier-start : (old : OneDockFloor) (ws : List ℕ) (i : ℕ) → earlierCheck old ws ≡ refused 6 (1 + i) →
+      among (old .starts) i (getD (old .starts) i 0) ≡ true → checkOf (withOneDock old) ws ≡ refused 6 (1 + i)
   -- Every entry gives the earlier answers on what document 01 accepts.
-  pub earlier-answers : (e : OneDockFloor) (ws : List ℕ) (respond : ℕ → List View → Answer) → earlierCheck e ws ≡ passed →
-      EarlierResponses e ws respond → EarlierAnswers e ws respond
+  pub earlier-answers : (old : OneDockFloor) (ws : List ℕ) (respond : ℕ → List View → Answer) → earlierCheck old ws ≡ passed →
+      EarlierResponses old ws respond → EarlierAnswers old ws respond
   -- The order of a carrier's docks changes no answer of any entry, and nothing in lent memory but the sheet that is written.
-  pub order-answers : (f g : Floor) (ws : List ℕ) → SameDocks f g → SameOutcomes f ws g ws
+  pub order-answers : (f f′ : Floor) (ws : List ℕ) → SameDocks f f′ → SameOutcomes f ws f′ ws
   -- Plans, responses and searches: the earlier ones with one dock, whatever the order of docks, and by each dock alone.
   pub plans : DocksClaims

@@ -30,23 +30,23 @@ leftBy f ws m (oneRun k l xs b) = memoryAfter f (take k ws) (take l m) (runCall 
 -- The answers to a list of calls, in order, and the memory after it.
 unfoldable pub answersOf : Floor → List ℕ → List ℕ → List ProgramCall → List Reply
 answersOf f ws m [] = []
-answersOf f ws m (c ∷ cs) = answerOf f ws m c ∷ answersOf f ws (leftBy f ws m c) cs
+answersOf f ws m (x ∷ xs) = answerOf f ws m x ∷ answersOf f ws (leftBy f ws m x) xs
 
 unfoldable pub memoryOf : Floor → List ℕ → List ℕ → List ProgramCall → List ℕ
 memoryOf f ws m [] = m
-memoryOf f ws m (c ∷ cs) = memoryOf f ws (leftBy f ws m c) cs
+memoryOf f ws m (x ∷ xs) = memoryOf f ws (leftBy f ws m x) xs
 
 -- The program's answers to a list of calls from the fresh state in memory m, and the memory after it.
 unfoldable pub programReplies : Floor → List ℕ → List ℕ → List ProgramCall → List Reply
-programReplies f ws m cs = answersOf f ws (freshMemory f ws m) cs
+programReplies f ws m calls = answersOf f ws (freshMemory f ws m) calls
 
 unfoldable pub programMemory : Floor → List ℕ → List ℕ → List ProgramCall → List ℕ
-programMemory f ws m cs = memoryOf f ws (freshMemory f ws m) cs
+programMemory f ws m calls = memoryOf f ws (freshMemory f ws m) calls
 
 -- The length of lent memory that the reference machine compares: none where fewer walls are lent than the floor counts, for that is
 -- memory too short; otherwise what is there of the numbers lent.
 unfoldable pub lentLength : Floor → ℕ → ℕ → ℕ → ℕ
-lentLength f numbers k l = cond (leb (f .walls) k) (min l numbers) 0
+lentLength f numbers k n = cond (leb (f .walls) k) (min n numbers) 0
 
 -- The same call as the reference machine is given it: the arguments except the state's contents.
 unfoldable pub referenceCall : Floor → ℕ → ProgramCall → Call
@@ -54,11 +54,11 @@ referenceCall f numbers (oneStep k l x) = single (lentLength f numbers k l) (ask
 referenceCall f numbers (oneRun k l xs b) = runOf (lentLength f numbers k l) (map askedBy xs) b
 
 unfoldable pub referenceCalls : Floor → ℕ → List ProgramCall → List Call
-referenceCalls f numbers cs = map (referenceCall f numbers) cs
+referenceCalls f numbers calls = map (referenceCall f numbers) calls
 
 -- The reference machine's answers to a list of calls from fresh, there being memory for so many numbers, and its state after it.
 unfoldable pub referenceReplies : Floor → List ℕ → ℕ → List ProgramCall → List Reply
-referenceReplies f ws numbers cs = replies (machineOf f ws) fresh (referenceCalls f numbers cs)
+referenceReplies f ws numbers calls = replies (machineOf f ws) fresh (referenceCalls f numbers calls)
 
 unfoldable pub referenceAfter : Floor → List ℕ → ℕ → List ProgramCall → State
-referenceAfter f ws numbers cs = after (machineOf f ws) fresh (referenceCalls f numbers cs)
+referenceAfter f ws numbers calls = after (machineOf f ws) fresh (referenceCalls f numbers calls)

@@ -22,15 +22,15 @@ infixr 28 _orElse_
 -- The rows of one table, and where none of them holds those of the next.
 pub data _orElse_ (R S : Table) (k p : ℕ) : Type 0 where
   earlier : R k p → _orElse_ R S k p
-  later : ((a b : ℕ) → R a b → ⊥) → S k p → _orElse_ R S k p
+  later : ((k′ p′ : ℕ) → R k′ p′ → ⊥) → S k p → _orElse_ R S k p
 
 -- A check refuses exactly under the rows of a table.
 abbrev pub Refuses : Verdict → Table → Type 0
-Refuses v R = (k p : ℕ) → (v ≡ refused k p) ↔ R k p
+Refuses x R = (k p : ℕ) → (x ≡ refused k p) ↔ R k p
 
 -- An answer is a refusal exactly under the rows of a table.
 abbrev pub Answers : {A : Type 0} → Outcome A → Table → Type 0
-Answers o R = (k p : ℕ) → (o ≡ refusal k p) ↔ R k p
+Answers x R = (k p : ℕ) → (x ≡ refusal k p) ↔ R k p
 
 -- Lent memory after a call: with a refusal as it was found, and never written beyond the needed length.
 pub record Keeps (R : Table) (needed : ℕ) (old new : List ℕ) : Type 0 where

@@ -19,27 +19,27 @@ use Rattle.listing.specs.Runs.{Run}
 use Rattle.listing.specs.Order.{Complete, EarlierRun}
 use Rattle.lister.specs.Entry.{totalOf, runOfRank, runNumbers, rankOutcome, reportListed}
 
--- What the lister answers for a rank below the total, and leaves in lent memory r for the report.
-pub record TellsRun (f : Floor) (ws : List ℕ) (rank : ℕ) (r : List ℕ) : Type 0 where
+-- What the lister answers for a rank below the total, and leaves in memory that is lent for the report.
+pub record TellsRun (f : Floor) (ws : List ℕ) (rank : ℕ) (report : List ℕ) : Type 0 where
   -- The total, and how many steps the run has.
-  pub figures : rankOutcome f ws rank (length r) ≡ value (record { runs = totalOf f ws; steps = length (runOfRank f ws rank) })
+  pub figures : rankOutcome f ws rank (length report) ≡ value (record { runs = totalOf f ws; steps = length (runOfRank f ws rank) })
   -- Two numbers a step, and behind them what was there.
-  pub lines : reportListed f ws rank r ≡ runNumbers f ws rank ++ drop (2 * length (runOfRank f ws rank)) r
+  pub lines : reportListed f ws rank report ≡ runNumbers f ws rank ++ drop (2 * length (runOfRank f ws rank)) report
 
 pub record Runs : Type 0 where
   -- A run is complete, each step being open when it is taken and the last state silent, exactly if it is that of a rank below the total.
   pub complete-exactly : (f : Floor) (ws : List ℕ) (xs : Run) →
       Complete (machineOf f ws) fresh xs ↔ ((rank : ℕ) × (rank < totalOf f ws) × (runOfRank f ws rank ≡ xs))
   -- It has one rank; so the total is the number of complete runs.
-  pub one-rank : (f : Floor) (ws : List ℕ) (r q : ℕ) → r < totalOf f ws → q < totalOf f ws → runOfRank f ws r ≡ runOfRank f ws q → r ≡ q
+  pub one-rank : (f : Floor) (ws : List ℕ) (rank rank′ : ℕ) → rank < totalOf f ws → rank′ < totalOf f ws → runOfRank f ws rank ≡ runOfRank f ws rank′ → rank ≡ rank′
   -- A smaller rank is an earlier run: where the two first differ, its step is before the other's in the ranking.
-  pub ranked : (f : Floor) (ws : List ℕ) (r q : ℕ) → r < totalOf f ws → q < totalOf f ws →
-      (r < q) ↔ EarlierRun (f .carriers) (runOfRank f ws r) (runOfRank f ws q)
+  pub ranked : (f : Floor) (ws : List ℕ) (rank rank′ : ℕ) → rank < totalOf f ws → rank′ < totalOf f ws →
+      (rank < rank′) ↔ EarlierRun (f .carriers) (runOfRank f ws rank) (runOfRank f ws rank′)
   -- A run has at most the ceiling's number of steps.
-  pub within-ceiling : (f : Floor) (ws : List ℕ) (r : ℕ) → r < totalOf f ws → length (runOfRank f ws r) ≤ ceiling (f .carriers)
+  pub within-ceiling : (f : Floor) (ws : List ℕ) (rank : ℕ) → rank < totalOf f ws → length (runOfRank f ws rank) ≤ ceiling (f .carriers)
   -- An accepted floor has a run; one of at most three carriers has fewer than 2^32.
   pub some-run : (f : Floor) (ws : List ℕ) → checkOf f ws ≡ passed → 0 < totalOf f ws
   pub total-fits : (f : Floor) (ws : List ℕ) → checkOf f ws ≡ passed → f .carriers ≤ 3 → totalOf f ws < 4294967296
   -- A rank below the total of such a floor, with memory of the needed length, is not refused.
-  pub tells : (f : Floor) (ws : List ℕ) (rank : ℕ) (r : List ℕ) → checkOf f ws ≡ passed → f .carriers ≤ 3 → rank < totalOf f ws →
-      lengthsOf f .report ≤ length r → TellsRun f ws rank r
+  pub tells : (f : Floor) (ws : List ℕ) (rank : ℕ) (report : List ℕ) → checkOf f ws ≡ passed → f .carriers ≤ 3 → rank < totalOf f ws →
+      lengthsOf f .report ≤ length report → TellsRun f ws rank report

@@ -13,26 +13,26 @@ use Rattle.laws.proofs.HoldLaws.{each-holds}
 use Rattle.desk.specs.declared.arguments.Decimal.the-variants.{Number, Other}
 use Rattle.desk.specs.Arguments.{isDigit, allDigits, valueIn, ReadsDecimal}
 
-pub digit-low : (b : ℕ) → isDigit b ≡ true → 48 ≤ b
+pub digit-low : (byte : ℕ) → isDigit byte ≡ true → 48 ≤ byte
 unfolding isDigit
-digit-low b h = leb-true 48 b (and-fst (leb 48 b) (leb b 57) h)
+digit-low byte h = leb-true 48 byte (and-fst (leb 48 byte) (leb byte 57) h)
 
 pub digit-at : (text : List ℕ) (k : ℕ) → allDigits text ≡ true → k < length text → isDigit (getD text k 0) ≡ true
 unfolding allDigits
 digit-at text k h l = each-holds (length text) (λ i. isDigit (getD text i 0)) h k l
 
 -- A number that is told up to 2^32 only has the same last digits.
-pub value-more : (text : List ℕ) (k v w : ℕ) → v ≡ min 4294967296 (valueIn text k) → w ≡ min 4294967296 (10 * v + (getD text k 0 - 48))
+pub value-more : (text : List ℕ) (k x w : ℕ) → x ≡ min 4294967296 (valueIn text k) → w ≡ min 4294967296 (10 * x + (getD text k 0 - 48))
     → w ≡ min 4294967296 (valueIn text (k + 1))
 unfolding valueIn
-value-more text k v w e f = rw add-one (omega arith)
+value-more text k x w e f = rw add-one (omega arith)
 
 pub value-start : (text : List ℕ) → 0 ≡ min 4294967296 (valueIn text 0)
 unfolding valueIn
 value-start text = refl
 
-pub value-end : (text : List ℕ) (k n v : ℕ) → k ≤ n → n ≤ k → v ≡ min 4294967296 (valueIn text k) → v ≡ min 4294967296 (valueIn text n)
-value-end text k n v a b e = let same : k ≡ n = omega arith in rw same at e
+pub value-end : (text : List ℕ) (k n x : ℕ) → k ≤ n → n ≤ k → x ≡ min 4294967296 (valueIn text k) → x ≡ min 4294967296 (valueIn text n)
+value-end text k n x a b e = let same : k ≡ n = omega arith in rw same at e
 
 -- What is read of a text without bytes, of one with another byte, and of digits.
 module _ (text : List ℕ) where

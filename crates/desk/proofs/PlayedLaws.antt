@@ -68,23 +68,23 @@ module _ (f : Floor) (ws : List ℕ) (ok : checkOf f ws ≡ passed) where
   report-short order seed = omega (arith, trial-theorems .ends f ws order seed ok .within, ceiling-most (f .carriers) few)
 
   -- In that memory the answer is the order's verdict, or all steps.
-  pub order-says : (order seed state report : ℕ) (r : Tried) → 9666 ≤ state → 1004 ≤ report
-      → triedOutcome r ≡ trialOutcome f ws order seed state report
-      → triedOutcome r ≡ (orderVerdict order gives length (trialOf f ws order seed .report))
+  pub order-says : (order seed state report : ℕ) (x : Tried) → 9666 ≤ state → 1004 ≤ report
+      → triedOutcome x ≡ trialOutcome f ws order seed state report
+      → triedOutcome x ≡ (orderVerdict order gives length (trialOf f ws order seed .report))
   unfolding trialOutcome
-  order-says order seed state report r wide long e =
-      e ∙ ap (λ (v : Verdict). v gives length (trialOf f ws order seed .report)) (order-decides order state report wide long)
+  order-says order seed state report x wide long e =
+      e ∙ ap (λ (x : Verdict). x gives length (trialOf f ws order seed .report)) (order-decides order state report wide long)
 
   -- Steps taken, or a refusal.
-  module _ (order seed : ℕ) (r : Tried) (said : triedOutcome r ≡ (orderVerdict order gives length (trialOf f ws order seed .report))) where
-    pub steps-told : (t : ℕ) → r ≡ Steps t → (orderVerdict order ≡ passed) × (t ≡ length (trialOf f ws order seed .report))
+  module _ (order seed : ℕ) (y : Tried) (said : triedOutcome y ≡ (orderVerdict order gives length (trialOf f ws order seed .report))) where
+    pub steps-told : (t : ℕ) → y ≡ Steps t → (orderVerdict order ≡ passed) × (t ≡ length (trialOf f ws order seed .report))
     unfolding triedOutcome
     steps-told t e = given-value (orderVerdict order) _ t (sym (ap triedOutcome e) ∙ said)
 
-    pub steps-low : (t : ℕ) → r ≡ Steps t → t ≤ 502
+    pub steps-low : (t : ℕ) → y ≡ Steps t → t ≤ 502
     steps-low t e = omega (arith, steps-told t e .1, report-short order seed)
 
-    pub refusal-told : (x : Refusal) → r ≡ Refused x → (orderVerdict order ≡ refused (x .number) (x .place)) × (x .place ≡ 0)
+    pub refusal-told : (x : Refusal) → y ≡ Refused x → (orderVerdict order ≡ refused (x .number) (x .place)) × (x .place ≡ 0)
     unfolding orderVerdict triedOutcome
     refusal-told x e =
         let told = given-refusal (orderVerdict order) _ (x .number) (x .place) (sym (ap triedOutcome e) ∙ said) in
@@ -138,7 +138,7 @@ either-short : (f : Floor) (ws : List ℕ) → checkOf f ws ≡ passed → (orde
 unfolding orRefusal playedText
 either-short f ws ok order seed = go (orderVerdict order)
   where
-    go : (v : Verdict) → length (orRefusal v (playedText f ws order seed)) ≤ 13217
+    go : (x : Verdict) → length (orRefusal x (playedText f ws order seed)) ≤ 13217
     go passed =
         let es = trialOf f ws order seed .report in
         text-short f ws ok order (reportNumbers es) (omega (arith, numbers-length es, report-short f ws ok order seed))

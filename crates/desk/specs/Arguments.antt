@@ -11,7 +11,7 @@ use Rattle.desk.specs.declared.arguments.Decimal.the-variants.{Number, O
 
 -- Two texts have the same length, and the same byte at each place.
 unfoldable pub sameBytes : List ℕ → List ℕ → Bool
-sameBytes a b = eqb (length a) (length b) && each (length a) (λ k. eqb (getD a k 0) (getD b k 0))
+sameBytes xs ys = eqb (length xs) (length ys) && each (length xs) (λ k. eqb (getD xs k 0) (getD ys k 0))
 
 -- A byte is a decimal digit.
 unfoldable pub isDigit : ℕ → Bool

@@ -17,15 +17,15 @@ pub enum Decimal {
 const LARGE: u64 = 4294967296;
 
 // Whether two texts are the same.
-pub fn same(a: &[u8], b: &[u8]) -> bool
-    ensures { λ r. ⌜ r ≡ sameBytes (now (a .entry)) (now (b .entry)) ⌝ }
+pub fn same(xs: &[u8], ys: &[u8]) -> bool
+    ensures { λ result. ⌜ result ≡ sameBytes (now (xs .entry)) (now (ys .entry)) ⌝ }
 {
-    if a.len() != b.len() {
+    if xs.len() != ys.len() {
         return false;
     }
     let mut k: usize = 0;
-    while k < a.len() {
-        if a[k] != b[k] {
+    while k < xs.len() {
+        if xs[k] != ys[k] {
             return false;
         }
         k += 1;
@@ -34,18 +34,18 @@ pub fn same(a: &[u8], b: &[u8]) -> bool
 }
 
 // Whether a byte is a decimal digit.
-fn is_digit(b: u8) -> bool
-    ensures { λ r. ⌜ r ≡ isDigit b ⌝ }
+fn is_digit(byte: u8) -> bool
+    ensures { λ result. ⌜ result ≡ isDigit byte ⌝ }
 {
-    if b < 48 {
+    if byte < 48 {
         return false;
     }
-    b <= 57
+    byte <= 57
 }
 
 // Whether every byte of a text is a decimal digit.
 fn all_digits(text: &[u8]) -> bool
-    ensures { λ r. ⌜ r ≡ allDigits (now (text .entry)) ⌝ }
+    ensures { λ result. ⌜ result ≡ allDigits (now (text .entry)) ⌝ }
 {
     let mut k: usize = 0;
     while k < text.len() {
@@ -58,34 +58,34 @@ fn all_digits(text: &[u8]) -> bool
 }
 
 // A number with one more digit behind it.
-fn with_digit(v: u64, b: u8) -> u64
-    requires { ⌜ (v ≤ 4294967296) × (isDigit b ≡ true) ⌝ }
-    ensures { λ r. ⌜ r ≡ min 4294967296 (10 * v + (b - 48)) ⌝ }
+fn with_digit(x: u64, byte: u8) -> u64
+    requires { ⌜ (x ≤ 4294967296) × (isDigit byte ≡ true) ⌝ }
+    ensures { λ result. ⌜ result ≡ min 4294967296 (10 * x + (byte - 48)) ⌝ }
 {
-    let w = 10 * v + (b - 48) as u64;
-    if w > LARGE {
+    let n = 10 * x + (byte - 48) as u64;
+    if n > LARGE {
         return LARGE;
     }
-    w
+    n
 }
 
 // The number that digits write.
 fn value(text: &[u8]) -> u64
     requires { ⌜ allDigits (now text) ≡ true ⌝ }
-    ensures { λ r. ⌜ r ≡ min 4294967296 (valueIn (now (text .entry)) (length (now (text .entry)))) ⌝ }
+    ensures { λ result. ⌜ result ≡ min 4294967296 (valueIn (now (text .entry)) (length (now (text .entry)))) ⌝ }
 {
-    let mut v: u64 = 0;
+    let mut x: u64 = 0;
     let mut k: usize = 0;
     while k < text.len() {
-        v = with_digit(v, text[k]);
+        x = with_digit(x, text[k]);
         k += 1;
     }
-    v
+    x
 }
 
 // The number that a text is in decimal digits.
 pub fn read_decimal(text: &[u8]) -> Decimal
-    ensures { λ r. ⌜ ReadsDecimal (now (text .entry)) r ⌝ }
+    ensures { λ result. ⌜ ReadsDecimal (now (text .entry)) result ⌝ }
 {
     if text.len() == 0 {
         return Decimal::Other;

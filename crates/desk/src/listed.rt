@@ -26,21 +26,21 @@ const TEXT: usize = 252;
 
 // Room for the lines.
 fn no_lines() -> [u16; LINES * LINE]
-    ensures { λ r. ⌜ 47104 ≡ length r ⌝ }
+    ensures { λ result. ⌜ 47104 ≡ length result ⌝ }
 {
     [0; LINES * LINE]
 }
 
 // Room for the report of the most steps.
 fn no_report() -> [u16; 1004]
-    ensures { λ r. ⌜ 1004 ≡ length r ⌝ }
+    ensures { λ result. ⌜ 1004 ≡ length result ⌝ }
 {
     [0; 1004]
 }
 
 // Room for a line of text.
 fn no_text() -> [u8; TEXT]
-    ensures { λ r. ⌜ 252 ≡ length r ⌝ }
+    ensures { λ result. ⌜ 252 ≡ length result ⌝ }
 {
     [0; TEXT]
 }
@@ -59,7 +59,7 @@ fn write_front(text: &[u8], n: usize) -> bool {
 // Puts a number in decimal digits from a column on; the column behind it is returned.
 fn put_number(out: &mut [u8], at: usize, n: u64) -> usize
     requires { ⌜ at + 20 ≤ length (now out) ⌝ }
-    ensures { λ r. ⌜ r ≤ at + 20 ⌝ }
+    ensures { λ result. ⌜ result ≤ at + 20 ⌝ }
 {
     let mut digits = [0u8; 20];
     let k = io::decimal(n, &mut digits);
@@ -81,7 +81,7 @@ fn put_total(out: &mut [u8], n: u64) -> usize
 // The number of steps that a line tells, 11 at most.
 fn steps_in(line: &[u16]) -> usize
     requires { ⌜ 23 ≤ length (now line) ⌝ }
-    ensures { λ r. ⌜ r ≤ 11 ⌝ }
+    ensures { λ result. ⌜ result ≤ 11 ⌝ }
 {
     if line[0] > 11 {
         return STEPS;
@@ -176,7 +176,7 @@ fn print_lines(first: u64, lines: &[u16], count: usize) -> bool
 // The runs of the next window: all that are left, or as many as there are lines.
 fn window(left: u64) -> usize
     requires { ⌜ 1 ≤ left ⌝ }
-    ensures { λ r. ⌜ (1 ≤ r) × ((r ≤ 2048) × (r ≤ left)) ⌝ }
+    ensures { λ result. ⌜ (1 ≤ result) × ((result ≤ 2048) × (result ≤ left)) ⌝ }
 {
     if left > LINES as u64 {
         return LINES;

@@ -81,7 +81,7 @@ fn seed_argument() -> Decimal {
 
 // An order or a carrier as the tools take it: every number above 65,535 is as little one as that.
 fn number_of(n: u64) -> u16
-    ensures { λ r. ⌜ r ≡ min n 65535 ⌝ }
+    ensures { λ result. ⌜ result ≡ min n 65535 ⌝ }
 {
     if n > 65535 { 65535 } else { n as u16 }
 }

@@ -13,10 +13,10 @@ pub fn print_sheet() {
     let mut words = [0u8; map_reader::WORDS];
     let printed = map_reader::print(&space[..n], &mut out, &mut words);
     let k = printed.sheet;
-    let w = printed.words;
+    let told = printed.words;
     if k == 0 {
         io::write_all(STDERR_FILENO, b"desk: ");
-        io::write_all(STDERR_FILENO, &words[..w]);
+        io::write_all(STDERR_FILENO, &words[..told]);
         return;
     }
     console::write(b"desk: standard output", &out[..k]);

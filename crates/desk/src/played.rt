@@ -20,14 +20,14 @@ pub const TEXT_LENGTH: usize = 13217;
 
 // Room for the state of the most carriers.
 fn no_state() -> [u16; 9666]
-    ensures { λ r. ⌜ 9666 ≡ length r ⌝ }
+    ensures { λ result. ⌜ 9666 ≡ length result ⌝ }
 {
     [0; 9666]
 }
 
 // Room for the report of the most steps.
 fn no_report() -> [u16; 1004]
-    ensures { λ r. ⌜ 1004 ≡ length r ⌝ }
+    ensures { λ result. ⌜ 1004 ≡ length result ⌝ }
 {
     [0; 1004]
 }
@@ -35,8 +35,8 @@ fn no_report() -> [u16; 1004]
 // Puts a report and, behind it, the routes of its floor; the length of both is returned.
 fn put_played(f: Floor, walls: &[u16], order: u16, report: &[u16], out: &mut [u8]) -> usize
     requires { ⌜ (checkOf f (now walls) ≡ passed) × ((length (now report) ≤ 1004) × (13217 ≤ length (now out))) ⌝ }
-    ensures { λ r. ⌜ TextPut (reportText (f .carriers) order (now (report .entry)) ++ printOf f (now (walls .entry)))
-        (now (out .entry)) (now (out .exit)) r ⌝ }
+    ensures { λ result. ⌜ TextPut (reportText (f .carriers) order (now (report .entry)) ++ printOf f (now (walls .entry)))
+        (now (out .entry)) (now (out .exit)) result ⌝ }
 {
     let n = reporting::put_report(f.carriers, order, report, out);
     n + printing::put_routes(f, walls, &mut out[n..])
@@ -46,8 +46,8 @@ fn put_played(f: Floor, walls: &[u16], order: u16, report: &[u16], out: &mut [u8
 fn put_trial(f: Floor, walls: &[u16], order: u16, seed: u32, out: &mut [u8]) -> usize
     requires { ⌜ checkOf f (take (f .walls) (now walls)) ≡ passed ⌝ }
     requires { ⌜ (f .walls ≤ length (now walls)) × (13217 ≤ length (now out)) ⌝ }
-    ensures { λ r. ⌜ TextPut (orRefusal (orderVerdict order) (playedText f (take (f .walls) (now (walls .entry))) order seed))
-        (now (out .entry)) (now (out .exit)) r ⌝ }
+    ensures { λ result. ⌜ TextPut (orRefusal (orderVerdict order) (playedText f (take (f .walls) (now (walls .entry))) order seed))
+        (now (out .entry)) (now (out .exit)) result ⌝ }
 {
     let k = f.walls as usize;
     let mut state = no_state();
@@ -62,8 +62,8 @@ fn put_trial(f: Floor, walls: &[u16], order: u16, seed: u32, out: &mut [u8]) -> 
 // Prints the trial of any text that is a sheet, in an order, with a seed, and of any other text or order the line of its refusal; the
 // number of printed bytes is returned.
 pub fn print(text: &[u8], order: u16, seed: u32, out: &mut [u8; TEXT_LENGTH]) -> usize
-    ensures counts { λ r. ⌜ Counts r (now (out .exit)) ⌝ }
-    ensures prints { λ r. ⌜ take r (now (out .exit)) ≡ trialText (now (text .entry)) order seed ⌝ }
+    ensures counts { λ result. ⌜ Counts result (now (out .exit)) ⌝ }
+    ensures prints { λ result. ⌜ take result (now (out .exit)) ≡ trialText (now (text .entry)) order seed ⌝ }
 {
     let mut walls = sheet::no_walls();
     let reading = sheet::read(text, &mut walls);

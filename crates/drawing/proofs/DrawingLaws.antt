@@ -17,16 +17,16 @@ module _ (places : List ℕ) (c : ℕ) where
   unfolding carrierMark
   mark-start = refl
 
-  pub mark-there : (k m : ℕ) → m ≡ carrierMark places c k → getD places k 0 ≡ c → markWith m k ≡ carrierMark places c (k + 1)
+  pub mark-there : (k n : ℕ) → n ≡ carrierMark places c k → getD places k 0 ≡ c → markWith n k ≡ carrierMark places c (k + 1)
   unfolding carrierMark
-  mark-there k m e h = rw (add-one, carrierMark) (rw (eq-eqb _ _ h, e))
+  mark-there k n e h = rw (add-one, carrierMark) (rw (eq-eqb _ _ h, e))
 
-  pub mark-away : (k m : ℕ) → m ≡ carrierMark places c k → (getD places k 0 ≡ c → ⊥) → m ≡ carrierMark places c (k + 1)
+  pub mark-away : (k n : ℕ) → n ≡ carrierMark places c k → (getD places k 0 ≡ c → ⊥) → n ≡ carrierMark places c (k + 1)
   unfolding carrierMark
-  mark-away k m e h = rw (add-one, carrierMark) (rw (ne-eqb _ _ h) e)
+  mark-away k n e h = rw (add-one, carrierMark) (rw (ne-eqb _ _ h) e)
 
-  pub mark-end : (k m : ℕ) → m ≡ carrierMark places c k → k ≤ 8 → 8 ≤ k → m ≡ carrierMark places c 8
-  mark-end k m e a b = let same : k ≡ 8 = omega arith in rw same at e
+  pub mark-end : (k n : ℕ) → n ≡ carrierMark places c k → k ≤ 8 → 8 ≤ k → n ≡ carrierMark places c 8
+  mark-end k n e a b = let same : k ≡ 8 = omega arith in rw same at e
 
 module _ (f : Floor) (ws places : List ℕ) where
   -- A drawing has as many bytes as it is asked for.
@@ -43,14 +43,14 @@ module _ (f : Floor) (ws places : List ℕ) where
   pub bytes-keep : (old new : List ℕ) (k : ℕ) → new ≡ put old 0 (drawnBytes f ws places k) → k ≤ length old → length new ≡ length old
   bytes-keep old new k e l = ap length e ∙ put-length old _ 0 (omega (arith, bytes-length k))
 
-  pub bytes-more : (old new : List ℕ) (k v : ℕ) → new ≡ put old 0 (drawnBytes f ws places k) → k < length old → v ≡ drawnByte f ws places k
-      → set new k v ≡ put old 0 (drawnBytes f ws places (k + 1))
+  pub bytes-more : (old new : List ℕ) (k x : ℕ) → new ≡ put old 0 (drawnBytes f ws places k) → k < length old → x ≡ drawnByte f ws places k
+      → set new k x ≡ put old 0 (drawnBytes f ws places (k + 1))
   unfolding drawnBytes
-  bytes-more old new k v e l h =
+  bytes-more old new k x e l h =
       let long = bytes-keep old new k e (omega arith) in
       rw (add-one, drawnBytes)
-      (put-next old new (set new k v) (drawnBytes f ws places k) (drawnByte f ws places k ∷ []) 0 k e
-      (rw (← h) (put-one new k v (omega arith))) (zero-add _ ∙ bytes-length k) (omega arith))
+      (put-next old new (set new k x) (drawnBytes f ws places k) (drawnByte f ws places k ∷ []) 0 k e
+      (rw (← h) (put-one new k x (omega arith))) (zero-add _ ∙ bytes-length k) (omega arith))
 
   pub bytes-end : (old new : List ℕ) (k n : ℕ) → new ≡ put old 0 (drawnBytes f ws places k) → k ≤ n → n ≤ k → n ≡ (f .width + 1) * f .height
       → new ≡ put old 0 (drawnFloor f ws places)

@@ -14,14 +14,14 @@ pub type Places = [u16; 8];
 // The mark of a cell in which carrier k + 1 is too.
 fn mark_with(mark: u8, k: usize) -> u8
     requires { ⌜ k < 8 ⌝ }
-    ensures { λ r. ⌜ r ≡ markWith mark k ⌝ }
+    ensures { λ result. ⌜ result ≡ markWith mark k ⌝ }
 {
     if mark == 46 { 49 + k as u8 } else { 42 }
 }
 
 // The mark of a cell for the carriers.
 fn carrier_mark(places: Places, c: u16) -> u8
-    ensures { λ r. ⌜ r ≡ carrierMark places c 8 ⌝ }
+    ensures { λ result. ⌜ result ≡ carrierMark places c 8 ⌝ }
 {
     let mut mark: u8 = 46;
     let mut k: usize = 0;
@@ -34,13 +34,13 @@ fn carrier_mark(places: Places, c: u16) -> u8
     mark
 }
 
-// Whether c is one of the first m walls.
-fn is_wall(walls: &[u16], m: usize, c: u16) -> bool
-    requires { ⌜ m ≤ length (now walls) ⌝ }
-    ensures { λ r. ⌜ r ≡ among (now (walls .entry)) m c ⌝ }
+// Whether c is one of the first k walls.
+fn is_wall(walls: &[u16], k: usize, c: u16) -> bool
+    requires { ⌜ k ≤ length (now walls) ⌝ }
+    ensures { λ result. ⌜ result ≡ among (now (walls .entry)) k c ⌝ }
 {
     let mut i: usize = 0;
-    while i < m {
+    while i < k {
         if walls[i] == c {
             return true;
         }
@@ -52,7 +52,7 @@ fn is_wall(walls: &[u16], m: usize, c: u16) -> bool
 // The mark of a cell.
 fn cell_mark(f: Floor, walls: &[u16], places: Places, c: u16) -> u8
     requires { ⌜ f .walls ≤ length (now walls) ⌝ }
-    ensures { λ r. ⌜ r ≡ cellMark f (now (walls .entry)) places c ⌝ }
+    ensures { λ result. ⌜ result ≡ cellMark f (now (walls .entry)) places c ⌝ }
 {
     if is_wall(walls, f.walls as usize, c) {
         return 35;
@@ -63,7 +63,7 @@ fn cell_mark(f: Floor, walls: &[u16], places: Places, c: u16) -> u8
 // Byte k of the drawing of a floor of at most 32 by 32 cells.
 fn byte_at(f: Floor, walls: &[u16], places: Places, k: usize) -> u8
     requires { ⌜ (f .width ≤ 32) × (k ≤ 1056) × (f .walls ≤ length (now walls)) ⌝ }
-    ensures { λ r. ⌜ r ≡ drawnByte f (now (walls .entry)) places k ⌝ }
+    ensures { λ result. ⌜ result ≡ drawnByte f (now (walls .entry)) places k ⌝ }
 {
     let w = f.width as usize;
     let column = k % (w + 1);
@@ -76,8 +76,8 @@ fn byte_at(f: Floor, walls: &[u16], places: Places, k: usize) -> u8
 // Puts the drawing of a floor of at most 32 by 32 cells in front of a memory; its length is returned.
 pub fn put_floor(f: Floor, walls: &[u16], places: Places, out: &mut [u8]) -> usize
     requires { ⌜ (f .width ≤ 32) × (f .height ≤ 32) × (f .walls ≤ length (now walls)) × ((f .width + 1) * f .height ≤ length (now out)) ⌝ }
-    ensures puts { λ r. ⌜ now (out .exit) ≡ put (now (out .entry)) 0 (drawnFloor f (now (walls .entry)) places) ⌝ }
-    ensures size { λ r. ⌜ r ≡ (f .width + 1) * f .height ⌝ }
+    ensures puts { λ result. ⌜ now (out .exit) ≡ put (now (out .entry)) 0 (drawnFloor f (now (walls .entry)) places) ⌝ }
+    ensures size { λ result. ⌜ result ≡ (f .width + 1) * f .height ⌝ }
 {
     let n = (f.width as usize + 1) * f.height as usize;
     let mut k: usize = 0;

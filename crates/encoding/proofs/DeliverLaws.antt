@@ -26,11 +26,11 @@ use Rattle.encoding.proofs.ReadLaws.{channel-here}
 use Rattle.encoding.proofs.ChannelLaws.{moved-is, popped-is, oldest-stands}
 
 -- An updated pair is the same at every other pair.
-pub pair-elsewhere : {A : Type 0} (f : ℕ → ℕ → A) (i j : ℕ) (a : A) (k l : ℕ) → (k ≡ i → l ≡ j → ⊥) → f k l ≡ updatePair f i j a k l
-pair-elsewhere f i j a k l h =
+pub pair-elsewhere : {A : Type 0} (φ : ℕ → ℕ → A) (i j : ℕ) (x : A) (k j′ : ℕ) → (k ≡ i → j′ ≡ j → ⊥) → φ k j′ ≡ updatePair φ i j x k j′
+pair-elsewhere φ i j x k j′ h =
     ⊎-elim
-    (λ (e : k ≡ i). rw e (sym (pair-other f i j a l (h e))))
-    (λ (e : k ≡ i → ⊥). ap (λ (g : ℕ → _). g l) (sym (pair-other-row f i j a k e)))
+    (λ (e : k ≡ i). rw e (sym (pair-other φ i j x j′ (h e))))
+    (λ (e : k ≡ i → ⊥). ap (λ (φ : ℕ → _). φ j′) (sym (pair-other-row φ i j x k e)))
     (eq-or-ne k i)
 
 -- The flag due of a carrier that stays the same otherwise.
@@ -57,15 +57,15 @@ module _ (n : ℕ) (s : State) (rest : List ℕ) where
       (rw one at (due-inside s z i refl refl)))
 
   -- The oldest message becomes the view.
-  moved-same : (i j : ℕ) (a : Answer) (l : List Answer) → j < i → i < n → s .chan i j ≡ a ∷ l →
+  moved-same : (i j : ℕ) (z : Answer) (xs : List Answer) → j < i → i < n → s .chan i j ≡ z ∷ xs →
       moved (encode n s ++ rest) (channelPlace n i j + 1) (viewPlace n i j) ≡
-      encode n (withViews s (updatePair (s .view) i j (heard a))) ++ rest
-  moved-same i j a l x y e =
+      encode n (withViews s (updatePair (s .view) i j (heard z))) ++ rest
+  moved-same i j z xs x y e =
       moved-is
-      (window-inside (channelPlace n i j + 1) refl (rw e at (channel-here n s rest i j x y)) (oldest-stands a l))
-      (rw (pair-same (s .view) i j (heard a)) at
-      (view-window n s rest (updatePair (s .view) i j (heard a)) i j x y (λ k r u v h. pair-elsewhere (s .view) i j (heard a) k r h)))
-      (slot-length (heard a))
+      (window-inside (channelPlace n i j + 1) refl (rw e at (channel-here n s rest i j x y)) (oldest-stands z xs))
+      (rw (pair-same (s .view) i j (heard z)) at
+      (view-window n s rest (updatePair (s .view) i j (heard z)) i j x y (λ k r u v h. pair-elsewhere (s .view) i j (heard z) k r h)))
+      (slot-length (heard z))
       (slot-length (s .view i j))
 
   -- It leaves its channel.
@@ -80,33 +80,33 @@ module _ (n : ℕ) (s : State) (rest : List ℕ) where
 -- The three changes of a delivery, one after the other.
 module _ (n : ℕ) (s : State) (rest : List ℕ) (i j : ℕ) (above : j < i) (there : i < n) where
   -- The state after them is the state after the delivery.
-  delivered-state : (a : Answer) (l : List Answer) → s .chan i j ≡ a ∷ l →
+  delivered-state : (x : Answer) (xs : List Answer) → s .chan i j ≡ x ∷ xs →
       withCarriers
-      (withChans (withViews s (updatePair (s .view) i j (heard a))) (updatePair (s .chan) i j (newer (s .chan i j))))
+      (withChans (withViews s (updatePair (s .view) i j (heard x))) (updatePair (s .chan) i j (newer (s .chan i j))))
       (s .planned)
       (update (s .due) i true)
       (s .answer) ≡ deliverTo s j i
   unfolding deliverTo withViews withChans withCarriers oldest
-  delivered-state a l e = rw e
+  delivered-state x xs e = rw e
 
-  delivered-full : (a : Answer) (l : List Answer) → s .chan i j ≡ a ∷ l → length (s .chan i j) ≤ 4 →
+  delivered-full : (y : Answer) (xs : List Answer) → s .chan i j ≡ y ∷ xs → length (s .chan i j) ≤ 4 →
       deliveredIn n (encode n s ++ rest) j i ≡ encode n (deliverTo s j i) ++ rest
   unfolding deliveredIn withViews withChans withCarriers
-  delivered-full a l e few =
+  delivered-full y xs e few =
       let c = channelPlace n i j in
-      let s₁ = withViews s (updatePair (s .view) i j (heard a)) in
+      let s₁ = withViews s (updatePair (s .view) i j (heard y)) in
       let s₂ = withChans s₁ (updatePair (s .chan) i j (newer (s .chan i j))) in
       let full : 0 < length (s .chan i j) = rw e (omega arith) in
-      ap (λ (x : List ℕ). put (popped x c) (duePlace i) (1 ∷ [])) (moved-same n s rest i j a l above there e)
-      ∙ ap (λ (x : List ℕ). put x (duePlace i) (1 ∷ [])) (popped-same n s₁ rest i j above there full few)
+      ap (λ (xs : List ℕ). put (popped xs c) (duePlace i) (1 ∷ [])) (moved-same n s rest i j y xs above there e)
+      ∙ ap (λ (xs : List ℕ). put xs (duePlace i) (1 ∷ [])) (popped-same n s₁ rest i j above there full few)
       ∙ put-due n s₂ rest i there
-      ∙ ap (λ (z : State). encode n z ++ rest) (delivered-state a l e)
+      ∙ ap (λ (z : State). encode n z ++ rest) (delivered-state y xs e)
 
   -- A delivery from a channel that is not empty.
   pub delivered-same : isEmpty (s .chan i j) ≡ false → length (s .chan i j) ≤ 4 →
       deliveredIn n (encode n s ++ rest) j i ≡ encode n (deliverTo s j i) ++ rest
   delivered-same h few = go (s .chan i j) refl
     where
-      go : (c : List Answer) → s .chan i j ≡ c → deliveredIn n (encode n s ++ rest) j i ≡ encode n (deliverTo s j i) ++ rest
+      go : (xs : List Answer) → s .chan i j ≡ xs → deliveredIn n (encode n s ++ rest) j i ≡ encode n (deliverTo s j i) ++ rest
       go [] e = true-false-absurd (nil-empty (s .chan i j) e) h
       go (a ∷ l) e = delivered-full a l e few

@@ -26,7 +26,7 @@ front-valid : (f : Floor) (m : List ℕ) (s : State) → f .depth ≤ 4 → f .h
     → take (stateSize (f .carriers)) m ≡ encode (f .carriers) s → valid f m ≡ true
 front-valid f m s d h k e =
     let n = stateSize (f .carriers) in
-    let whole : encode (f .carriers) s ++ drop n m ≡ m = ap (λ (b : List ℕ). b ++ drop n m) (sym e) ∙ take-append-drop n m in
+    let whole : encode (f .carriers) s ++ drop n m ≡ m = ap (λ (xs : List ℕ). xs ++ drop n m) (sym e) ∙ take-append-drop n m in
     rw whole at (fits-valid f s (drop n m) d h k)
 
 pub valid-exactly : (f : Floor) (m : List ℕ) → f .depth ≤ 4 → f .horizon ≤ 63 → stateSize (f .carriers) ≤ length m

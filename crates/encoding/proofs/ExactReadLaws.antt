@@ -23,26 +23,26 @@ use Rattle.encoding.proofs.RecordLaws.{record-shows, sound-whole, shown
 use Rattle.encoding.proofs.ValidChannelLaws.{first-next, count-read, places-read}
 
 -- The record of an answer shows that answer.
-answer-back : (f : Floor) (m : List ℕ) (at : ℕ) (a : Answer) → part m at 65 ≡ slot (heard a) → Sound f a → shown (recordAt m at) ≡ a
+answer-back : (f : Floor) (m : List ℕ) (at : ℕ) (x : Answer) → part m at 65 ≡ slot (heard x) → Sound f x → shown (recordAt m at) ≡ x
 unfolding ShownOf shown
-answer-back f m at a e h = ap shown (record-shows m at (heard a) e (sound-whole f a h))
+answer-back f m at x e h = ap shown (record-shows m at (heard x) e (sound-whole f x h))
 
 -- The records of messages with sound cells show those messages.
-messages-back : (f : Floor) (m : List ℕ) (k at : ℕ) (l : List Answer) → length l ≤ k → part m at (65 * k) ≡ slots k l → AllOf (Sound f) l
-    → messages m at (length l) ≡ l
+messages-back : (f : Floor) (m : List ℕ) (k at : ℕ) (xs : List Answer) → length xs ≤ k → part m at (65 * k) ≡ slots k xs → AllOf (Sound f) xs
+    → messages m at (length xs) ≡ xs
 unfolding slots messages AllOf
 messages-back f m zero at [] b e h = refl
-messages-back f m zero at (a ∷ l) b e h = absurd (omega arith)
+messages-back f m zero at (a ∷ xs) b e h = absurd (omega arith)
 messages-back f m (suc k) at [] b e h = refl
-messages-back f m (suc k) at (a ∷ l) b e h =
-    let r = first-next m at k (heard a) (slots k l) (slots-length k l) e in
-    ap₂ (λ (x : Answer) (y : List Answer). x ∷ y) (answer-back f m at a (r .0) (h .0))
-    (messages-back f m k (at + 65) l (omega arith) (r .1) (h .1))
+messages-back f m (suc k) at (a ∷ xs) b e h =
+    let r = first-next m at k (heard a) (slots k xs) (slots-length k xs) e in
+    ap₂ (λ (x : Answer) (xs : List Answer). x ∷ xs) (answer-back f m at a (r .0) (h .0))
+    (messages-back f m k (at + 65) xs (omega arith) (r .1) (h .1))
 
 -- A channel shows its messages.
-channel-back : (f : Floor) (m : List ℕ) (at : ℕ) (l : List Answer) → part m at 261 ≡ channelBlock l → length l ≤ 4 → AllOf (Sound f) l
-    → messages m (at + 1) (getD m at 0) ≡ l
-channel-back f m at l e b h = rw (count-read m at l e) (messages-back f m 4 (at + 1) l b (places-read m at l e) h)
+channel-back : (f : Floor) (m : List ℕ) (at : ℕ) (xs : List Answer) → part m at 261 ≡ channelBlock xs → length xs ≤ 4 → AllOf (Sound f) xs
+    → messages m (at + 1) (getD m at 0) ≡ xs
+channel-back f m at xs e b h = rw (count-read m at xs e) (messages-back f m 4 (at + 1) xs b (places-read m at xs e) h)
 
 -- The count is read back.
 count-back : (t : ℕ) → 1000 * (t / 1000) + t % 1000 ≡ t
@@ -82,9 +82,9 @@ alike-both n s z y h k =
     }
 
 -- States that are alike have one encoding.
-pairs-same : (n : ℕ) (b c : ℕ → ℕ → List ℕ) → ((i j : ℕ) → j < i → i < n → b i j ≡ c i j) → pairs n b ≡ pairs n c
+pairs-same : (n : ℕ) (φ ψ : ℕ → ℕ → List ℕ) → ((i j : ℕ) → j < i → i < n → φ i j ≡ ψ i j) → pairs n φ ≡ pairs n ψ
 unfolding pairs
-pairs-same n b c h = blocks-same n (λ i. blocks i (b i)) (λ i. blocks i (c i)) (λ i l. blocks-same i (b i) (c i) (λ j a. h i j a l))
+pairs-same n φ ψ h = blocks-same n (λ i. blocks i (φ i)) (λ i. blocks i (ψ i)) (λ i l. blocks-same i (φ i) (ψ i) (λ j a. h i j a l))
 
 alike-encode : (n : ℕ) (s z : State) → Alike n s z → encode n s ≡ encode n z
 unfolding encode carrierBlock

@@ -52,11 +52,11 @@ names : (x : ℕ) → Names x
 unfolding askedBy deliveryOf
 names x = go (within 101 109 x) (within 210 299 x) (leb 1 (x % 10)) refl refl refl
   where
-    go : (a b c : Bool) → within 101 109 x ≡ a → within 210 299 x ≡ b → leb 1 (x % 10) ≡ c → Names x
-    go true b c p q r = a-plan (within-says 101 109 x p .0) (within-says 101 109 x p .1) (rw p)
+    go : (y z x′ : Bool) → within 101 109 x ≡ y → within 210 299 x ≡ z → leb 1 (x % 10) ≡ x′ → Names x
+    go true z x′ p q r = a-plan (within-says 101 109 x p .0) (within-says 101 109 x p .1) (rw p)
     go false true true p q r = a-delivery (within-says 210 299 x q .0) (within-says 210 299 x q .1) (leb-true 1 (x % 10) r) (rw (p, q, r))
     go false true false p q r = nothing (rw (p, q, r))
-    go false false c p q r = nothing (rw (p, q))
+    go false false x′ p q r = nothing (rw (p, q))
 
 plan-means : (x i : ℕ) → Names x → askedBy x ≡ step (plan i) → (i < 9) × (x ≡ 101 + i)
 plan-means x i (a-plan a b q) e = let s : x - 101 ≡ i = cc in (omega arith, omega arith)

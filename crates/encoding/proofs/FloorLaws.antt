@@ -46,7 +46,7 @@ best-sound : (f : Floor) (ws : List ℕ) → f .horizon ≤ 63 → (i : ℕ) (vs
 unfolding respondOf
 best-sound f ws h i vs = go (best (taskOf f ws (i + 1)) (seen f vs)) refl
   where
-    go : (a : Answer) → best (taskOf f ws (i + 1)) (seen f vs) ≡ a → Sound f a
+    go : (x : Answer) → best (taskOf f ws (i + 1)) (seen f vs) ≡ x → Sound f x
     go none e = none-sound f
     go (route r) e =
         route-sound f ws (i + 1) r (theorems .best-is-route (taskOf f ws (i + 1)) (seen f vs) r (task-horizon f ws (i + 1) h) e .0)

@@ -22,16 +22,16 @@ use Rattle.encoding.specs.InnerSteps.{capacityIn, waitsIn, openIn, shutI
 use Rattle.encoding.proofs.ReadLaws.{read-due, read-length}
 
 -- A flag is 1 where it is set.
-pub flag-set : (b : Bool) → eqb (flag b) 1 ≡ b
+pub flag-set : (x : Bool) → eqb (flag x) 1 ≡ x
 unfolding flag
 flag-set true = refl
 flag-set false = refl
 
 -- A list has length 0 where it is empty.
-empty-length : (l : List Answer) → eqb (length l) 0 ≡ isEmpty l
+empty-length : (xs : List Answer) → eqb (length xs) 0 ≡ isEmpty xs
 unfolding isEmpty
 empty-length [] = refl
-empty-length (a ∷ l) = ne-eqb (length (a ∷ l)) 0 (λ e. omega arith)
+empty-length (a ∷ xs) = ne-eqb (length (a ∷ xs)) 0 (λ e. omega arith)
 
 module _ (M : Machine) (s : State) (rest : List ℕ) where
   -- The number of carriers, and the memory of the state.

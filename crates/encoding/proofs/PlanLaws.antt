@@ -29,12 +29,12 @@ use Rattle.encoding.proofs.OpenLaws.{flag-set}
 use Rattle.encoding.proofs.SendLaws.{sent-same}
 
 -- The record of a whole answer as it lies in memory.
-pub slot-record : (a : Answer) → Whole a → slot (heard a) ≡ recordOf a
+pub slot-record : (x : Answer) → Whole x → slot (heard x) ≡ recordOf x
 unfolding slot
-slot-record a w = resized-whole 65 (recordOf a) w
+slot-record x w = resized-whole 65 (recordOf x) w
 
 -- Two whole answers are the same where their records are.
-records-same : (a b : Answer) → sameCells (recordOf a) (recordOf b) ≡ sameAnswer a b
+records-same : (x y : Answer) → sameCells (recordOf x) (recordOf y) ≡ sameAnswer x y
 unfolding sameCells sameAnswer recordOf
 records-same none none = refl
 records-same none (route r) = refl
@@ -50,58 +50,58 @@ module _ (n : ℕ) (s : State) (rest : List ℕ) where
       (λ j h. record-shows (encode n s ++ rest) (viewPlace n i j) (s .view i j) (read-view n s rest i j h l) (w j h))
 
   -- A record is news where its answer is.
-  pub news-same : (i : ℕ) (a : Answer) → i < n → Whole (s .answer i) → newsIn (encode n s ++ rest) i (recordOf a) ≡ isNews s i a
+  pub news-same : (i : ℕ) (x : Answer) → i < n → Whole (s .answer i) → newsIn (encode n s ++ rest) i (recordOf x) ≡ isNews s i x
   unfolding newsIn isNews
-  news-same i a l w =
+  news-same i x l w =
       rw (
         read-planned n s rest i l,
         flag-set (s .planned i),
         read-answer n s rest i l,
         slot-record (s .answer i) w,
-        records-same (s .answer i) a,
+        records-same (s .answer i) x,
       )
 
   -- Carrier i has planned, is no longer due, and has this answer.
-  pub put-planned : (i : ℕ) (a : Answer) → i < n → Whole a →
-      put (encode n s ++ rest) (plannedPlace i) (1 ∷ (0 ∷ recordOf a)) ≡
-      encode n (withCarriers s (update (s .planned) i true) (update (s .due) i false) (update (s .answer) i a)) ++ rest
+  pub put-planned : (i : ℕ) (z : Answer) → i < n → Whole z →
+      put (encode n s ++ rest) (plannedPlace i) (1 ∷ (0 ∷ recordOf z)) ≡
+      encode n (withCarriers s (update (s .planned) i true) (update (s .due) i false) (update (s .answer) i z)) ++ rest
   unfolding flag carrierBlock withCarriers
-  put-planned i a l w =
+  put-planned i z l w =
       let p = update (s .planned) i true in
       let d = update (s .due) i false in
-      let b = update (s .answer) i a in
-      let block : carrierBlock (withCarriers s p d b) i ≡ 1 ∷ (0 ∷ recordOf a) =
-      rw (update-same (s .planned) i true, update-same (s .due) i false, update-same (s .answer) i a, slot-record a w)
+      let b = update (s .answer) i z in
+      let block : carrierBlock (withCarriers s p d b) i ≡ 1 ∷ (0 ∷ recordOf z) =
+      rw (update-same (s .planned) i true, update-same (s .due) i false, update-same (s .answer) i z, slot-record z w)
       in
       rw (← block)
       (window-put (carrier-length s i ∙ sym (carrier-length (withCarriers s p d b) i))
       (carrier-window n s rest p d b i l
-      (λ k x y. (sym (update-other (s .planned) i true k y), sym (update-other (s .due) i false k y), sym (update-other (s .answer) i a k y)))))
+      (λ k x y. (sym (update-other (s .planned) i true k y), sym (update-other (s .due) i false k y), sym (update-other (s .answer) i z k y)))))
 
 -- The changes of a plan, one after the other.
-module _ (n : ℕ) (s : State) (rest : List ℕ) (i : ℕ) (a : Answer) where
+module _ (n : ℕ) (s : State) (rest : List ℕ) (i : ℕ) (x : Answer) where
   -- The state with the answer stored, and the channels as given.
   planned-state : (ℕ → ℕ → List Answer) → State
-  planned-state h = withChans (withCarriers s (update (s .planned) i true) (update (s .due) i false) (update (s .answer) i a)) h
+  planned-state h = withChans (withCarriers s (update (s .planned) i true) (update (s .due) i false) (update (s .answer) i x)) h
 
-  news-state : isNews s i a ≡ true → planned-state (send (s .chan) i a) ≡ planAs s i a
+  news-state : isNews s i x ≡ true → planned-state (send (s .chan) i x) ≡ planAs s i x
   unfolding planned-state planAs withCarriers withChans
   news-state e = rw (e, planAs)
 
-  kept-state : isNews s i a ≡ false → planned-state (s .chan) ≡ planAs s i a
+  kept-state : isNews s i x ≡ false → planned-state (s .chan) ≡ planAs s i x
   unfolding planned-state planAs withCarriers withChans
   kept-state e = rw (e, planAs)
 
-  pub planned-same : i < n → Whole a → Whole (s .answer i) → ((k : ℕ) → i < k → k < n → length (s .chan k i) < 4) →
-      plannedIn n (encode n s ++ rest) i (recordOf a) ≡ encode n (planAs s i a) ++ rest
+  pub planned-same : i < n → Whole x → Whole (s .answer i) → ((k : ℕ) → i < k → k < n → length (s .chan k i) < 4) →
+      plannedIn n (encode n s ++ rest) i (recordOf x) ≡ encode n (planAs s i x) ++ rest
   unfolding plannedIn planned-state withCarriers withChans
   planned-same l w v capacity =
-      let s₁ = withCarriers s (update (s .planned) i true) (update (s .due) i false) (update (s .answer) i a) in
+      let s₁ = withCarriers s (update (s .planned) i true) (update (s .due) i false) (update (s .answer) i x) in
       ⊎-elim
-      (λ (e : isNews s i a ≡ true).
-      rw (news-same n s rest i a l v, put-planned n s rest i a l w, e, sent-same n s₁ rest i a w capacity)
+      (λ (e : isNews s i x ≡ true).
+      rw (news-same n s rest i x l v, put-planned n s rest i x l w, e, sent-same n s₁ rest i x w capacity)
       (ap (λ (z : State). encode n z ++ rest) (news-state e)))
-      (λ (e : isNews s i a ≡ false).
-      rw (news-same n s rest i a l v, put-planned n s rest i a l w, e)
+      (λ (e : isNews s i x ≡ false).
+      rw (news-same n s rest i x l v, put-planned n s rest i x l w, e)
       (ap (λ (z : State). encode n z ++ rest) (kept-state e)))
-      (true-or-false (isNews s i a))
+      (true-or-false (isNews s i x))

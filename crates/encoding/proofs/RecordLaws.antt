@@ -24,13 +24,13 @@ use Rattle.records.proofs.SlotLaws.{slot-length, viewTag, viewNumber, tag-most,
 use Rattle.records.proofs.SlotLaws.{part-slot, shows-answer, shows-nothing}
 
 -- A number of a record is valid: below the used ones a cell of the grid, behind them 0.
-cell-used : (used cells t v : ℕ) → t < used → cellValid used cells t v ≡ ltb v cells
+cell-used : (used cells t x : ℕ) → t < used → cellValid used cells t x ≡ ltb x cells
 unfolding cellValid
-cell-used used cells t v l = rw (lt-ltb t used l)
+cell-used used cells t x l = rw (lt-ltb t used l)
 
-cell-unused : (used cells t v : ℕ) → used ≤ t → cellValid used cells t v ≡ eqb v 0
+cell-unused : (used cells t x : ℕ) → used ≤ t → cellValid used cells t x ≡ eqb x 0
 unfolding cellValid
-cell-unused used cells t v l = rw (le-ltb t used l)
+cell-unused used cells t x l = rw (le-ltb t used l)
 
 -- Every number of a view with sound cells is valid.
 number-valid : (f : Floor) (v : View) (t : ℕ) → ShownOf (Sound f) v
@@ -60,10 +60,10 @@ module _ (m : List ℕ) (at : ℕ) (v : View) (e : part m at 65 ≡ slot v) wher
   seen-valid f h = view-valid f 0 2 h (omega arith) (tag-most v)
 
 -- that of an answer,
-pub answer-valid : (f : Floor) (m : List ℕ) (at : ℕ) (a : Answer) → part m at 65 ≡ slot (heard a) → Sound f a
+pub answer-valid : (f : Floor) (m : List ℕ) (at : ℕ) (x : Answer) → part m at 65 ≡ slot (heard x) → Sound f x
     → recordValid f m at 1 2 ≡ true
 unfolding ShownOf
-answer-valid f m at a e h = view-valid m at (heard a) e f 1 2 h (heard-least a) (tag-most (heard a))
+answer-valid f m at x e h = view-valid m at (heard x) e f 1 2 h (heard-least x) (tag-most (heard x))
 
 -- and that of an unused place.
 pub unused-valid : (f : Floor) (m : List ℕ) (at : ℕ) → part m at 65 ≡ slot unheard → recordValid f m at 0 0 ≡ true
@@ -82,7 +82,7 @@ record-shows m at (heard (route r)) e h =
     rw (tag-read m at v e, cells)
 
 -- A sound answer is whole, and so is the sound answer that a view shows.
-pub sound-whole : (f : Floor) (a : Answer) → Sound f a → Whole a
+pub sound-whole : (f : Floor) (x : Answer) → Sound f x → Whole x
 unfolding Sound recordOf
 sound-whole f none h = refl
 sound-whole f (route r) h = omega (arith, h .long)

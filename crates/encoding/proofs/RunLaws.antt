@@ -22,17 +22,17 @@ use Rattle.encoding.proofs.OpenLaws.{open-same, silent-same}
 use Rattle.encoding.proofs.StepLaws.{Storable, after-same}
 
 -- A run over memory and a run of the reference machine with n carriers come to the same.
-pub record RunSimulated (n : ℕ) (rest : List ℕ) (r : RanIn) (q : RunResult) : Type 0 where
-  pub memory : r .memory ≡ encode n (q .state) ++ rest
-  pub taken : r .taken ≡ q .taken
-  pub left : r .left ≡ anyLeft (q .unread)
+pub record RunSimulated (n : ℕ) (rest : List ℕ) (x : RanIn) (y : RunResult) : Type 0 where
+  pub memory : x .memory ≡ encode n (y .state) ++ rest
+  pub taken : x .taken ≡ y .taken
+  pub left : x .left ≡ anyLeft (y .unread)
 
-module _ (M : Machine) (m : List ℕ) (a : Asked) (xs : List Asked) (b : ℕ) where
-  pub took-in : askedOpenIn M m a ≡ true → runIn M m (a ∷ xs) (suc b) ≡ tookOne (runIn M (askedAfterIn M m a) xs b)
+module _ (M : Machine) (m : List ℕ) (x : Asked) (xs : List Asked) (b : ℕ) where
+  pub took-in : askedOpenIn M m x ≡ true → runIn M m (x ∷ xs) (suc b) ≡ tookOne (runIn M (askedAfterIn M m x) xs b)
   unfolding runIn
   took-in e = rw (e, runIn)
 
-  pub skipped-in : askedOpenIn M m a ≡ false → runIn M m (a ∷ xs) (suc b) ≡ runIn M m xs (suc b)
+  pub skipped-in : askedOpenIn M m x ≡ false → runIn M m (x ∷ xs) (suc b) ≡ runIn M m xs (suc b)
   unfolding runIn
   skipped-in e = rw (e, runIn)
 
@@ -42,22 +42,22 @@ module _ (M : Machine) (storable : Storable M) (rest : List ℕ) where
   encodedWith s = encode (M .carriers) s ++ rest
 
   abbrev RunFollows : State → List Step → ℕ → RunResult → Type 0
-  RunFollows s xs b q =
-      InRange M s → Throughout (M .carriers) Whole s → RunSimulated (M .carriers) rest (runIn M (encodedWith s) (map step xs) b) q
+  RunFollows s xs b x =
+      InRange M s → Throughout (M .carriers) Whole s → RunSimulated (M .carriers) rest (runIn M (encodedWith s) (map step xs) b) x
 
-  follows-took : (s : State) (x : Step) (xs : List Step) (b : ℕ) (q : RunResult) → isOpen M s x ≡ true →
-      RunFollows (afterStep M s x) xs b q →
-      RunFollows s (x ∷ xs) (suc b) (tookFirst x q)
+  follows-took : (s : State) (x : Step) (xs : List Step) (b : ℕ) (y : RunResult) → isOpen M s x ≡ true →
+      RunFollows (afterStep M s x) xs b y →
+      RunFollows s (x ∷ xs) (suc b) (tookFirst x y)
   unfolding askedOpenIn askedAfterIn tookOne tookFirst
-  follows-took s x xs b q e h range whole =
+  follows-took s x xs b y e h range whole =
       let r = h (step-in-range M s range x e) (step-throughout (M .carriers) Whole M (storable .whole) s whole x) in
       rw (took-in M (encodedWith s) (step x) (map step xs) b (open-same M s rest x ∙ e), after-same M storable s range whole rest x e)
       (record { memory = r .memory; taken = ap suc (r .taken); left = r .left })
 
-  follows-skipped : (s : State) (x : Step) (xs : List Step) (b : ℕ) (q : RunResult) → isOpen M s x ≡ false → RunFollows s xs (suc b) q →
-      RunFollows s (x ∷ xs) (suc b) (skippedFirst x q)
+  follows-skipped : (s : State) (x : Step) (xs : List Step) (b : ℕ) (y : RunResult) → isOpen M s x ≡ false → RunFollows s xs (suc b) y →
+      RunFollows s (x ∷ xs) (suc b) (skippedFirst x y)
   unfolding askedOpenIn skippedFirst
-  follows-skipped s x xs b q e h range whole =
+  follows-skipped s x xs b y e h range whole =
       let r = h range whole in
       rw (skipped-in M (encodedWith s) (step x) (map step xs) b (open-same M s rest x ∙ e))
       (record { memory = r .memory; taken = r .taken; left = r .left })

@@ -61,10 +61,10 @@ module _ (f : Floor) (ws : List ℕ) (ok : checkOf f ws ≡ passed) where
     whole = throughout-more n (sound-whole f) s (fits .parts)
 
     -- What a call leaves is within the ranges.
-    pub call-fits : (c : Call) → WithinRanges f (afterCall M s c)
+    pub call-fits : (x : Call) → WithinRanges f (afterCall M s x)
     unfolding machineOf
-    call-fits c =
-        let reached = call-reaches M s c in
+    call-fits x =
+        let reached = call-reaches M s x in
         let range = reaches-in-range M in-range reached in
         record {
           counted = range .counted;
@@ -77,16 +77,16 @@ module _ (f : Floor) (ws : List ℕ) (ok : checkOf f ws ≡ passed) where
       m = encode n s ++ rest
 
       -- A single step, and a run of steps that are there.
-      single-same : (a : Asked) → singleVerdictIn M m a ≡ openSingle M s a
+      single-same : (y : Asked) → singleVerdictIn M m y ≡ openSingle M s y
       unfolding singleVerdictIn openSingle demand _then_ machineOf
       single-same noStep = refl
       single-same (step x) = there-same (isThere M x) refl
         where
-          there-same : (t : Bool) → isThere M x ≡ t → (demand (isThere M x) 7 0 then waitsIn M m x) ≡ (demand (isThere M x) 7 0 then waitsFor M s x)
-          there-same true e = ap (λ (v : Verdict). demand (isThere M x) 7 0 then v) (waits-same M s rest x e)
+          there-same : (y : Bool) → isThere M x ≡ y → (demand (isThere M x) 7 0 then waitsIn M m x) ≡ (demand (isThere M x) 7 0 then waitsFor M s x)
+          there-same true e = ap (λ (y : Verdict). demand (isThere M x) 7 0 then y) (waits-same M s rest x e)
           there-same false e = rw e
 
-      verdict-same : (c : Call) → verdictIn M m c ≡ verdict M s c
+      verdict-same : (x : Call) → verdictIn M m x ≡ verdict M s x
       unfolding verdictIn verdict
       verdict-same (single lent a) = rw (single-same a)
       verdict-same (runOf lent xs b) = refl
@@ -95,7 +95,7 @@ module _ (f : Floor) (ws : List ℕ) (ok : checkOf f ws ≡ passed) where
       unfolding verdict
       steps-there lent xs b e = all-steps M xs (named-each M xs (then-both (lentEnough M lent) (allNamed M xs) e .1))
 
-      pub reply-same : (c : Call) → replyIn M m c ≡ reply M s c
+      pub reply-same : (y : Call) → replyIn M m y ≡ reply M s y
       unfolding replyIn reply machineOf
       reply-same (single lent noStep) = refl
       reply-same (single lent (step x)) =
@@ -110,19 +110,19 @@ module _ (f : Floor) (ws : List ℕ) (ok : checkOf f ws ≡ passed) where
           let q = ending-same M (storable f ws ok) rest s (stepsOf xs) b in-range whole in
           rw (steps-there lent xs b e) at (ran-both (r .taken) q)))
 
-      taken-same : (c : Call) → verdict M s c ≡ passed → grantedMemory M m c ≡ encode n (stateAfter M s c) ++ rest
+      taken-same : (y : Call) → verdict M s y ≡ passed → grantedMemory M m y ≡ encode n (stateAfter M s y) ++ rest
       unfolding grantedMemory stateAfter machineOf
       taken-same (single lent noStep) e = refl
       taken-same (single lent (step x)) e = after-same M (storable f ws ok) s in-range whole rest x (single-open M s lent x e)
       taken-same (runOf lent xs b) e =
           rw (steps-there lent xs b e) at (run-same M (storable f ws ok) rest s (stepsOf xs) b in-range whole .memory)
 
-      pub memory-same : (c : Call) → memoryIn M m c ≡ encode n (afterCall M s c) ++ rest
+      pub memory-same : (x : Call) → memoryIn M m x ≡ encode n (afterCall M s x) ++ rest
       unfolding memoryIn afterCall whenPassed
-      memory-same c = rw (verdict-same c) (go (verdict M s c) (taken-same c))
+      memory-same x = rw (verdict-same x) (go (verdict M s x) (taken-same x))
         where
-          go : (v : Verdict) → (v ≡ passed → grantedMemory M m c ≡ encode n (stateAfter M s c) ++ rest) →
-              whenPassed v (grantedMemory M m c) m ≡ encode n (whenPassed v (stateAfter M s c) s) ++ rest
+          go : (y : Verdict) → (y ≡ passed → grantedMemory M m x ≡ encode n (stateAfter M s x) ++ rest) →
+              whenPassed y (grantedMemory M m x) m ≡ encode n (whenPassed y (stateAfter M s x) s) ++ rest
           go passed h = h refl
           go (refused k p) h = refl
 
@@ -147,12 +147,12 @@ module _ (f : Floor) (ws : List ℕ) (ok : checkOf f ws ≡ passed) where
     shown-is : encode n (stateIn f m) ++ drop (stateSize n) m ≡ m
     shown-is = rw (shown .1) (take-append-drop (stateSize n) m)
 
-    shown-reply : (c : Call) → replyIn M m c ≡ reply M (stateIn f m) c
-    shown-reply c = rw shown-is at (reply-same (stateIn f m) (shown .0) (drop (stateSize n) m) c)
+    shown-reply : (x : Call) → replyIn M m x ≡ reply M (stateIn f m) x
+    shown-reply x = rw shown-is at (reply-same (stateIn f m) (shown .0) (drop (stateSize n) m) x)
 
-    shown-memory : (c : Call) → memoryIn M m c ≡ withState f m (afterCall M (stateIn f m) c)
-    shown-memory c =
-        (rw shown-is at (memory-same (stateIn f m) (shown .0) (drop (stateSize n) m) c)) ∙ sym (front-put m (afterCall M (stateIn f m) c))
+    shown-memory : (x : Call) → memoryIn M m x ≡ withState f m (afterCall M (stateIn f m) x)
+    shown-memory x =
+        (rw shown-is at (memory-same (stateIn f m) (shown .0) (drop (stateSize n) m) x)) ∙ sym (front-put m (afterCall M (stateIn f m) x))
 
 -- The answer to a call and the memory after it, number for number, on any floor and any memory.
 module _ (f : Floor) (ws m : List ℕ) where
@@ -160,22 +160,22 @@ module _ (f : Floor) (ws m : List ℕ) where
   unfolding stateVerdict placeVerdict
   floor-passes e = then-both _ _ (then-both _ _ e .0) .0
 
-  pub reply-in : (c : Call) → (stateVerdict f ws m thenAnswers replyIn (machineOf f ws) m c) ≡ replyTo f ws m c
+  pub reply-in : (x : Call) → (stateVerdict f ws m thenAnswers replyIn (machineOf f ws) m x) ≡ replyTo f ws m x
   unfolding replyTo _thenAnswers_
-  reply-in c = go (stateVerdict f ws m) refl
+  reply-in x = go (stateVerdict f ws m) refl
     where
-      go : (v : Verdict) → stateVerdict f ws m ≡ v →
-          _≡_ {A = Reply} (v thenAnswers replyIn (machineOf f ws) m c) (v thenAnswers reply (machineOf f ws) (stateIn f m) c)
-      go passed e = shown-reply f ws (floor-passes e) m e c
+      go : (y : Verdict) → stateVerdict f ws m ≡ y →
+          _≡_ {A = Reply} (y thenAnswers replyIn (machineOf f ws) m x) (y thenAnswers reply (machineOf f ws) (stateIn f m) x)
+      go passed e = shown-reply f ws (floor-passes e) m e x
       go (refused k p) e = refl
 
-  pub memory-in : (c : Call) → whenPassed (stateVerdict f ws m) (memoryIn (machineOf f ws) m c) m ≡ memoryAfter f ws m c
+  pub memory-in : (x : Call) → whenPassed (stateVerdict f ws m) (memoryIn (machineOf f ws) m x) m ≡ memoryAfter f ws m x
   unfolding memoryAfter whenPassed
-  memory-in c = go (stateVerdict f ws m) refl
+  memory-in x = go (stateVerdict f ws m) refl
     where
-      go : (v : Verdict) → stateVerdict f ws m ≡ v → whenPassed v (memoryIn (machineOf f ws) m c) m ≡
-          whenPassed v (withState f m (afterCall (machineOf f ws) (stateIn f m) c)) m
-      go passed e = shown-memory f ws (floor-passes e) m e c
+      go : (y : Verdict) → stateVerdict f ws m ≡ y → whenPassed y (memoryIn (machineOf f ws) m x) m ≡
+          whenPassed y (withState f m (afterCall (machineOf f ws) (stateIn f m) x)) m
+      go passed e = shown-memory f ws (floor-passes e) m e x
       go (refused k p) e = refl
 
 -- The simulation: from the memory of any state within the ranges, with any numbers behind it.
@@ -189,13 +189,13 @@ module _ (f : Floor) (ws : List ℕ) (ok : checkOf f ws ≡ passed) (s : State) 
       then-passed (then-passed ok ∙ demand-passes 9 0 (le-leb _ _ long))
       ∙ demand-passes 10 0 (fits-valid f s rest (depth-few f ws ok) (horizon-short f ws ok) fits)
 
-  pub simulated-reply : (c : Call) → replyTo f ws (encode (f .carriers) s ++ rest) c ≡ reply (machineOf f ws) s c
-  simulated-reply c =
-      sym (reply-in f ws (encode (f .carriers) s ++ rest) c)
-      ∙ answers-passed state-passes ∙ reply-same f ws ok s fits rest c
+  pub simulated-reply : (x : Call) → replyTo f ws (encode (f .carriers) s ++ rest) x ≡ reply (machineOf f ws) s x
+  simulated-reply x =
+      sym (reply-in f ws (encode (f .carriers) s ++ rest) x)
+      ∙ answers-passed state-passes ∙ reply-same f ws ok s fits rest x
 
-  pub simulated-memory : (c : Call) → memoryAfter f ws (encode (f .carriers) s ++ rest) c ≡
-      encode (f .carriers) (afterCall (machineOf f ws) s c) ++ rest
-  simulated-memory c =
-      sym (memory-in f ws (encode (f .carriers) s ++ rest) c)
-      ∙ when-passed _ state-passes ∙ memory-same f ws ok s fits rest c
+  pub simulated-memory : (x : Call) → memoryAfter f ws (encode (f .carriers) s ++ rest) x ≡
+      encode (f .carriers) (afterCall (machineOf f ws) s x) ++ rest
+  simulated-memory x =
+      sym (memory-in f ws (encode (f .carriers) s ++ rest) x)
+      ∙ when-passed _ state-passes ∙ memory-same f ws ok s fits rest x

@@ -15,69 +15,69 @@ use Rattle.encoding.specs.Encode.{slots, channelBlock, carrierBlock, cou
 use Rattle.encoding.proofs.WindowLaws.{Window, window-whole, window-front, window-behind, window-inside}
 
 -- Blocks depend on their function below their number only.
-pub blocks-same : (n : ℕ) (f g : ℕ → List ℕ) → ((i : ℕ) → i < n → f i ≡ g i) → blocks n f ≡ blocks n g
+pub blocks-same : (n : ℕ) (φ ψ : ℕ → List ℕ) → ((i : ℕ) → i < n → φ i ≡ ψ i) → blocks n φ ≡ blocks n ψ
 unfolding blocks
-blocks-same zero f g h = refl
-blocks-same (suc n) f g h = rw (blocks-same n f g (λ i l. h i (omega arith)), h n (omega arith))
+blocks-same zero φ ψ h = refl
+blocks-same (suc n) φ ψ h = rw (blocks-same n φ ψ (λ i l. h i (omega arith)), h n (omega arith))
 
 -- Where the lengths of the blocks add up to `at`, that is their length, and block k stands at its place.
 module _ (at : ℕ → ℕ) (none : at 0 ≡ 0) where
-  pub blocks-length : (n : ℕ) (f : ℕ → List ℕ) → ((i : ℕ) → i < n → at (suc i) ≡ at i + length (f i)) → length (blocks n f) ≡ at n
+  pub blocks-length : (n : ℕ) (φ : ℕ → List ℕ) → ((i : ℕ) → i < n → at (suc i) ≡ at i + length (φ i)) → length (blocks n φ) ≡ at n
   unfolding blocks
-  blocks-length zero f h = sym none
-  blocks-length (suc n) f h =
-      length-append (blocks n f) (f n) ∙ omega (arith, blocks-length n f (λ i l. h i (omega arith)), h n (omega arith))
+  blocks-length zero φ h = sym none
+  blocks-length (suc n) φ h =
+      length-append (blocks n φ) (φ n) ∙ omega (arith, blocks-length n φ (λ i l. h i (omega arith)), h n (omega arith))
 
-  pub blocks-window : (n : ℕ) (f g : ℕ → List ℕ) (k : ℕ) → k < n → ((i : ℕ) → i < n → at (suc i) ≡ at i + length (f i)) →
-      ((i : ℕ) → i < n → (i ≡ k → ⊥) → f i ≡ g i) → Window (at k) (blocks n f) (blocks n g) (f k) (g k)
+  pub blocks-window : (n : ℕ) (φ ψ : ℕ → List ℕ) (k : ℕ) → k < n → ((i : ℕ) → i < n → at (suc i) ≡ at i + length (φ i)) →
+      ((i : ℕ) → i < n → (i ≡ k → ⊥) → φ i ≡ ψ i) → Window (at k) (blocks n φ) (blocks n ψ) (φ k) (ψ k)
   unfolding blocks
-  blocks-window zero f g k l h e = absurd (omega arith)
-  blocks-window (suc n) f g k l h e =
+  blocks-window zero φ ψ k l h e = absurd (omega arith)
+  blocks-window (suc n) φ ψ k l h e =
       ⊎-elim
       (λ (q : k ≡ n).
-      let same : blocks n g ≡ blocks n f = sym (blocks-same n f g (λ i a. e i (omega arith) (λ r. omega arith))) in
+      let same : blocks n ψ ≡ blocks n φ = sym (blocks-same n φ ψ (λ i a. e i (omega arith) (λ r. omega arith))) in
       rw (same, q)
-      (window-behind (blocks n f) (at n) (at n) (blocks-length n f (λ i a. h i (omega arith))) (omega arith) (window-whole (f n) (g n))))
+      (window-behind (blocks n φ) (at n) (at n) (blocks-length n φ (λ i a. h i (omega arith))) (omega arith) (window-whole (φ n) (ψ n))))
       (λ (q : k < n).
       rw (sym (e n (omega arith) (λ r. omega arith)))
-      (window-front (f n) (blocks-window n f g k q (λ i a. h i (omega arith)) (λ i a. e i (omega arith)))))
+      (window-front (φ n) (blocks-window n φ ψ k q (λ i a. h i (omega arith)) (λ i a. e i (omega arith)))))
       (eq-or-lt-of-le (omega arith))
 
 -- Blocks of pairs, each w long.
-module _ (w n : ℕ) (f : ℕ → ℕ → List ℕ) (long : (i j : ℕ) → j < i → i < n → length (f i j) ≡ w) where
-  row-sums : (i : ℕ) → i < n → (j : ℕ) → j < i → w * suc j ≡ w * j + length (f i j)
+module _ (w n : ℕ) (φ : ℕ → ℕ → List ℕ) (long : (i j : ℕ) → j < i → i < n → length (φ i j) ≡ w) where
+  row-sums : (i : ℕ) → i < n → (j : ℕ) → j < i → w * suc j ≡ w * j + length (φ i j)
   row-sums i a j b = omega (arith, long i j b a)
 
-  row-length : (i : ℕ) → i < n → length (blocks i (f i)) ≡ w * i
-  row-length i a = blocks-length (λ k. w * k) (omega arith) i (f i) (row-sums i a)
+  row-length : (i : ℕ) → i < n → length (blocks i (φ i)) ≡ w * i
+  row-length i a = blocks-length (λ k. w * k) (omega arith) i (φ i) (row-sums i a)
 
-  pair-sums : (i : ℕ) → i < n → w * pairsBefore (suc i) ≡ w * pairsBefore i + length (blocks i (f i))
+  pair-sums : (i : ℕ) → i < n → w * pairsBefore (suc i) ≡ w * pairsBefore i + length (blocks i (φ i))
   unfolding pairsBefore
   pair-sums i a = omega (arith, row-length i a)
 
-  pub pairs-length : length (pairs n f) ≡ w * pairsBefore n
+  pub pairs-length : length (pairs n φ) ≡ w * pairsBefore n
   unfolding pairs pairsBefore
-  pairs-length = blocks-length (λ k. w * pairsBefore k) (omega arith) n (λ i. blocks i (f i)) pair-sums
+  pairs-length = blocks-length (λ k. w * pairsBefore k) (omega arith) n (λ i. blocks i (φ i)) pair-sums
 
-  pub pairs-window : (g : ℕ → ℕ → List ℕ) (i j : ℕ) → j < i → i < n →
-      ((k l : ℕ) → l < k → k < n → (k ≡ i → l ≡ j → ⊥) → f k l ≡ g k l) →
-      Window (w * (pairsBefore i + j)) (pairs n f) (pairs n g) (f i j) (g i j)
+  pub pairs-window : (ψ : ℕ → ℕ → List ℕ) (i j : ℕ) → j < i → i < n →
+      ((k j′ : ℕ) → j′ < k → k < n → (k ≡ i → j′ ≡ j → ⊥) → φ k j′ ≡ ψ k j′) →
+      Window (w * (pairsBefore i + j)) (pairs n φ) (pairs n ψ) (φ i j) (ψ i j)
   unfolding pairs pairsBefore
-  pairs-window g i j a b e =
+  pairs-window ψ i j a b e =
       window-inside (w * (pairsBefore i + j)) (omega arith)
-      (blocks-window (λ k. w * pairsBefore k) (omega arith) n (λ k. blocks k (f k)) (λ k. blocks k (g k)) i b pair-sums
-      (λ k l q. blocks-same k (f k) (g k) (λ x y. e k x y l (λ u v. q u))))
-      (blocks-window (λ k. w * k) (omega arith) i (f i) (g i) j a (row-sums i b) (λ l x y. e i l x b (λ u v. y v)))
+      (blocks-window (λ k. w * pairsBefore k) (omega arith) n (λ k. blocks k (φ k)) (λ k. blocks k (ψ k)) i b pair-sums
+      (λ k j′ q. blocks-same k (φ k) (ψ k) (λ x y. e k x y j′ (λ u v. q u))))
+      (blocks-window (λ k. w * k) (omega arith) i (φ i) (ψ i) j a (row-sums i b) (λ j′ x y. e i j′ x b (λ u v. y v)))
 
-pub slots-length : (k : ℕ) (l : List Answer) → length (slots k l) ≡ 65 * k
+pub slots-length : (k : ℕ) (xs : List Answer) → length (slots k xs) ≡ 65 * k
 unfolding slots
-slots-length zero l = refl
+slots-length zero xs = refl
 slots-length (suc k) [] = length-append (slot unheard) (slots k []) ∙ omega (arith, slot-length unheard, slots-length k [])
-slots-length (suc k) (a ∷ l) = length-append (slot (heard a)) (slots k l) ∙ omega (arith, slot-length (heard a), slots-length k l)
+slots-length (suc k) (a ∷ xs) = length-append (slot (heard a)) (slots k xs) ∙ omega (arith, slot-length (heard a), slots-length k xs)
 
-pub channel-length : (l : List Answer) → length (channelBlock l) ≡ 261
+pub channel-length : (xs : List Answer) → length (channelBlock xs) ≡ 261
 unfolding channelBlock
-channel-length l = ap suc (slots-length 4 l)
+channel-length xs = ap suc (slots-length 4 xs)
 
 pub carrier-length : (s : State) (i : ℕ) → length (carrierBlock s i) ≡ 67
 unfolding carrierBlock

@@ -23,20 +23,20 @@ withTaken s t =
     record { planned = s .planned; due = s .due; answer = s .answer; view = s .view; chan = s .chan; taken = t }
 
 unfoldable pub withCarriers : State → (ℕ → Bool) → (ℕ → Bool) → (ℕ → Answer) → State
-withCarriers s p d a = record { planned = p; due = d; answer = a; view = s .view; chan = s .chan; taken = s .taken }
+withCarriers s φ ψ χ = record { planned = φ; due = ψ; answer = χ; view = s .view; chan = s .chan; taken = s .taken }
 
 unfoldable pub withViews : State → (ℕ → ℕ → View) → State
-withViews s v = record { planned = s .planned; due = s .due; answer = s .answer; view = v; chan = s .chan; taken = s .taken }
+withViews s φ = record { planned = s .planned; due = s .due; answer = s .answer; view = φ; chan = s .chan; taken = s .taken }
 
 unfoldable pub withChans : State → (ℕ → ℕ → List Answer) → State
-withChans s h = record { planned = s .planned; due = s .due; answer = s .answer; view = s .view; chan = h; taken = s .taken }
+withChans s channels = record { planned = s .planned; due = s .due; answer = s .answer; view = s .view; chan = channels; taken = s .taken }
 
 -- The blocks of the views and those of the channels.
 abbrev viewBlocks : (ℕ → ℕ → View) → ℕ → ℕ → List ℕ
-viewBlocks v = λ i j. slot (v i j)
+viewBlocks φ = λ i j. slot (φ i j)
 
 abbrev chanBlocks : (ℕ → ℕ → List Answer) → ℕ → ℕ → List ℕ
-chanBlocks h = λ i j. channelBlock (h i j)
+chanBlocks channels = λ i j. channelBlock (channels i j)
 
 module _ (n : ℕ) (s : State) where
   carrier-sums : (i : ℕ) → i < n → 67 * suc i ≡ 67 * i + length (carrierBlock s i)
@@ -81,42 +81,42 @@ module _ (n : ℕ) (s : State) where
         window-front rest (window-front more (window-whole (countBlock (s .taken)) (countBlock t)))
 
     -- Carrier i stands at its place.
-    pub carrier-window : (p d : ℕ → Bool) (a : ℕ → Answer) (i : ℕ) → i < n →
-        ((k : ℕ) → k < n → (k ≡ i → ⊥) → (s .planned k ≡ p k) × (s .due k ≡ d k) × (s .answer k ≡ a k)) →
-        Window (plannedPlace i) (encode n s ++ rest) (encode n (withCarriers s p d a) ++ rest) (carrierBlock s i)
-        (carrierBlock (withCarriers s p d a) i)
+    pub carrier-window : (φ ψ : ℕ → Bool) (χ : ℕ → Answer) (i : ℕ) → i < n →
+        ((k : ℕ) → k < n → (k ≡ i → ⊥) → (s .planned k ≡ φ k) × (s .due k ≡ ψ k) × (s .answer k ≡ χ k)) →
+        Window (plannedPlace i) (encode n s ++ rest) (encode n (withCarriers s φ ψ χ) ++ rest) (carrierBlock s i)
+        (carrierBlock (withCarriers s φ ψ χ) i)
     unfolding encode withCarriers plannedPlace carrierBlock
-    carrier-window p d a i l e =
+    carrier-window φ ψ χ i l e =
         let v = pairs n (viewBlocks (s .view)) ++ pairs n (chanBlocks (s .chan)) in
         window-front rest
         (window-behind (countBlock (s .taken)) 2 (2 + 67 * i) (count-length (s .taken)) refl
         (window-front v
-        (blocks-window (λ k. 67 * k) refl n (carrierBlock s) (carrierBlock (withCarriers s p d a)) i l carrier-sums
+        (blocks-window (λ k. 67 * k) refl n (carrierBlock s) (carrierBlock (withCarriers s φ ψ χ)) i l carrier-sums
         (λ k x y. rw (e k x y .0, e k x y .1, e k x y .2)))))
 
     -- The view that i has of j.
-    pub view-window : (v : ℕ → ℕ → View) (i j : ℕ) → j < i → i < n →
-        ((k l : ℕ) → l < k → k < n → (k ≡ i → l ≡ j → ⊥) → s .view k l ≡ v k l) →
-        Window (viewPlace n i j) (encode n s ++ rest) (encode n (withViews s v) ++ rest) (slot (s .view i j)) (slot (v i j))
+    pub view-window : (φ : ℕ → ℕ → View) (i j : ℕ) → j < i → i < n →
+        ((k j′ : ℕ) → j′ < k → k < n → (k ≡ i → j′ ≡ j → ⊥) → s .view k j′ ≡ φ k j′) →
+        Window (viewPlace n i j) (encode n s ++ rest) (encode n (withViews s φ) ++ rest) (slot (s .view i j)) (slot (φ i j))
     unfolding encode withViews viewPlace carrierBlock
-    view-window v i j a b e =
+    view-window φ i j a b e =
         let q = 65 * (pairsBefore i + j) in
         window-front rest
         (window-behind (countBlock (s .taken)) 2 (2 + 67 * n + q) (count-length (s .taken)) (omega arith)
         (window-behind (blocks n (carrierBlock s)) (67 * n) (67 * n + q) carriers-length refl
         (window-front (pairs n (chanBlocks (s .chan)))
-        (pairs-window 65 n (viewBlocks (s .view)) view-long (viewBlocks v) i j a b (λ k l x y z. ap slot (e k l x y z))))))
+        (pairs-window 65 n (viewBlocks (s .view)) view-long (viewBlocks φ) i j a b (λ k j′ x y z. ap slot (e k j′ x y z))))))
 
     -- The channel from j to i.
-    pub channel-window : (h : ℕ → ℕ → List Answer) (i j : ℕ) → j < i → i < n →
-        ((k l : ℕ) → l < k → k < n → (k ≡ i → l ≡ j → ⊥) → s .chan k l ≡ h k l) →
-        Window (channelPlace n i j) (encode n s ++ rest) (encode n (withChans s h) ++ rest)
-        (channelBlock (s .chan i j)) (channelBlock (h i j))
+    pub channel-window : (channels : ℕ → ℕ → List Answer) (i j : ℕ) → j < i → i < n →
+        ((k j′ : ℕ) → j′ < k → k < n → (k ≡ i → j′ ≡ j → ⊥) → s .chan k j′ ≡ channels k j′) →
+        Window (channelPlace n i j) (encode n s ++ rest) (encode n (withChans s channels) ++ rest)
+        (channelBlock (s .chan i j)) (channelBlock (channels i j))
     unfolding encode withChans channelPlace carrierBlock
-    channel-window h i j a b e =
+    channel-window channels i j a b e =
         let q = 261 * (pairsBefore i + j) in
         window-front rest
         (window-behind (countBlock (s .taken)) 2 (2 + 67 * n + 65 * pairsBefore n + q) (count-length (s .taken)) (omega arith)
         (window-behind (blocks n (carrierBlock s)) (67 * n) (67 * n + (65 * pairsBefore n + q)) carriers-length refl
         (window-behind (pairs n (viewBlocks (s .view))) (65 * pairsBefore n) (65 * pairsBefore n + q) views-length refl
-        (pairs-window 261 n (chanBlocks (s .chan)) chan-long (chanBlocks h) i j a b (λ k l x y z. ap channelBlock (e k l x y z))))))
+        (pairs-window 261 n (chanBlocks (s .chan)) chan-long (chanBlocks channels) i j a b (λ k j′ x y z. ap channelBlock (e k j′ x y z))))))

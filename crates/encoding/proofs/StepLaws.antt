@@ -51,7 +51,7 @@ module _ (M : Machine) (storable : Storable M) (s : State) (range : InRange M s)
   effect-same (plan i) e =
       let l : i < n = plan-within M s i e in
       let a = M .respond i (views s i) in
-      ap (λ (b : Answer). plannedIn n m i (recordOf b)) (best-same i l)
+      ap (λ (x : Answer). plannedIn n m i (recordOf x)) (best-same i l)
       ∙ planned-same n s rest i a l (storable .whole i (views s i)) (whole .answers i l) (capacity-left i e)
   effect-same (deliver j i) e =
       let a : j < i = deliver-above M s j i e in
@@ -75,7 +75,7 @@ module _ (M : Machine) (storable : Storable M) (s : State) (range : InRange M s)
   said-plan i l =
       let a = M .respond i (views s i) in
       let news : newsIn m i (recordOf (bestIn M m i)) ≡ isNews s i a =
-      ap (λ (b : Answer). newsIn m i (recordOf b)) (best-same i l) ∙ news-same n s rest i a l (whole .answers i l)
+      ap (λ (x : Answer). newsIn m i (recordOf x)) (best-same i l) ∙ news-same n s rest i a l (whole .answers i l)
       in
       ⊎-elim
       (λ (e : isNews s i a ≡ true). rw (news, e, stepAnswer))

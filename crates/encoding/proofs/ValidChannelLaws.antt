@@ -27,13 +27,13 @@ use Rattle.encoding.proofs.RecordLaws.{answer-valid, unused-valid, answ
 use Rattle.encoding.proofs.ValidPartLaws.{part-one}
 
 -- A place of a channel with a message is valid where its record is an answer's; one past the messages where it is unused.
-place-message : (f : Floor) (m : List ℕ) (at count q : ℕ) → q < count → placeValid f m at count q ≡ recordValid f m (at + 65 * q) 1 2
+place-message : (f : Floor) (m : List ℕ) (at count p : ℕ) → p < count → placeValid f m at count p ≡ recordValid f m (at + 65 * p) 1 2
 unfolding placeValid
-place-message f m at count q l = rw (lt-ltb q count l)
+place-message f m at count p l = rw (lt-ltb p count l)
 
-place-unused : (f : Floor) (m : List ℕ) (at count q : ℕ) → count ≤ q → placeValid f m at count q ≡ recordValid f m (at + 65 * q) 0 0
+place-unused : (f : Floor) (m : List ℕ) (at count p : ℕ) → count ≤ p → placeValid f m at count p ≡ recordValid f m (at + 65 * p) 0 0
 unfolding placeValid
-place-unused f m at count q l = rw (le-ltb q count l)
+place-unused f m at count p l = rw (le-ltb p count l)
 
 -- The places of k records that hold the messages l, one by one.
 pub first-next : (m : List ℕ) (at k : ℕ) (v : View) (rest : List ℕ) → length rest ≡ 65 * k → part m at (65 * suc k) ≡ slot v ++ rest
@@ -43,59 +43,59 @@ first-next m at k v rest s e =
     part-blocks m (slot v) rest at 65 (65 * k) (slot-length v) s (omega arith) (rw n at e)
 
 -- The place behind the first, counted from the next record on.
-next : (at q : ℕ) → at + 65 * suc q ≡ at + 65 + 65 * q
-next at q = omega arith
+next : (at p : ℕ) → at + 65 * suc p ≡ at + 65 + 65 * p
+next at p = omega arith
 
 -- A place behind the first is a place of what lies behind the first record.
-place-next : (f : Floor) (m : List ℕ) (at count q : ℕ) → placeValid f m at (suc count) (suc q) ≡ placeValid f m (at + 65) count q
+place-next : (f : Floor) (m : List ℕ) (at count p : ℕ) → placeValid f m at (suc count) (suc p) ≡ placeValid f m (at + 65) count p
 unfolding placeValid
-place-next f m at count q = rw (next at q, leb·suc-suc (suc q) count)
+place-next f m at count p = rw (next at p, leb·suc-suc (suc p) count)
 
 -- The places of k records that hold messages with sound cells are valid.
-places-valid : (f : Floor) (m : List ℕ) (at k : ℕ) (l : List Answer) → part m at (65 * k) ≡ slots k l → AllOf (Sound f) l
-    → (q : ℕ) → q < k → placeValid f m at (length l) q ≡ true
+places-valid : (f : Floor) (m : List ℕ) (at k : ℕ) (xs : List Answer) → part m at (65 * k) ≡ slots k xs → AllOf (Sound f) xs
+    → (p′ : ℕ) → p′ < k → placeValid f m at (length xs) p′ ≡ true
 unfolding slots AllOf
-places-valid f m at zero l e h q b = absurd (omega arith)
+places-valid f m at zero xs e h p′ b = absurd (omega arith)
 places-valid f m at (suc k) [] e h zero b =
     place-unused f m at 0 0 (omega arith)
     ∙ rw add-zero (unused-valid f m at ((first-next m at k unheard (slots k []) (slots-length k []) e) .0))
-places-valid f m at (suc k) [] e h (suc q) b =
+places-valid f m at (suc k) [] e h (suc p′) b =
     let r = (first-next m at k unheard (slots k []) (slots-length k []) e) .1 in
-    place-unused f m at 0 (suc q) (omega arith)
-    ∙ ap (λ (p : ℕ). recordValid f m p 0 0) (next at q)
-    ∙ sym (place-unused f m (at + 65) 0 q (omega arith))
-    ∙ places-valid f m (at + 65) k [] r tt q (omega arith)
-places-valid f m at (suc k) (a ∷ l) e h zero b =
-    place-message f m at (suc (length l)) 0 (omega arith)
-    ∙ rw add-zero (answer-valid f m at a ((first-next m at k (heard a) (slots k l) (slots-length k l) e) .0) (h .0))
-places-valid f m at (suc k) (a ∷ l) e h (suc q) b =
-    place-next f m at (length l) q
-    ∙ places-valid f m (at + 65) k l ((first-next m at k (heard a) (slots k l) (slots-length k l) e) .1) (h .1) q (omega arith)
+    place-unused f m at 0 (suc p′) (omega arith)
+    ∙ ap (λ (p : ℕ). recordValid f m p 0 0) (next at p′)
+    ∙ sym (place-unused f m (at + 65) 0 p′ (omega arith))
+    ∙ places-valid f m (at + 65) k [] r tt p′ (omega arith)
+places-valid f m at (suc k) (a ∷ xs) e h zero b =
+    place-message f m at (suc (length xs)) 0 (omega arith)
+    ∙ rw add-zero (answer-valid f m at a ((first-next m at k (heard a) (slots k xs) (slots-length k xs) e) .0) (h .0))
+places-valid f m at (suc k) (a ∷ xs) e h (suc p′) b =
+    place-next f m at (length xs) p′
+    ∙ places-valid f m (at + 65) k xs ((first-next m at k (heard a) (slots k xs) (slots-length k xs) e) .1) (h .1) p′ (omega arith)
 
 -- A channel that lies at a place: its number of messages, and its places.
-module _ (m : List ℕ) (at : ℕ) (l : List Answer) (e : part m at 261 ≡ channelBlock l) where
-  both : (part m at 1 ≡ length l ∷ []) × (part m (at + 1) 260 ≡ slots 4 l)
+module _ (m : List ℕ) (at : ℕ) (xs : List Answer) (e : part m at 261 ≡ channelBlock xs) where
+  both : (part m at 1 ≡ length xs ∷ []) × (part m (at + 1) 260 ≡ slots 4 xs)
   unfolding channelBlock
-  both = part-blocks m (length l ∷ []) (slots 4 l) at 1 260 refl (slots-length 4 l) (omega arith) e
+  both = part-blocks m (length xs ∷ []) (slots 4 xs) at 1 260 refl (slots-length 4 xs) (omega arith) e
 
-  pub count-read : getD m at 0 ≡ length l
+  pub count-read : getD m at 0 ≡ length xs
   count-read =
       let q = part-byte m at 1 0 (omega arith) in
-      sym (rw add-zero at q) ∙ ap (λ (b : List ℕ). getD b 0 0) (both .0)
+      sym (rw add-zero at q) ∙ ap (λ (xs : List ℕ). getD xs 0 0) (both .0)
 
-  pub places-read : part m (at + 1) 260 ≡ slots 4 l
+  pub places-read : part m (at + 1) 260 ≡ slots 4 xs
   places-read = both .1
 
   -- The channel is valid.
-  pub channel-valid : (f : Floor) → length l ≤ f .depth → AllOf (Sound f) l → channelValid f m at ≡ true
+  pub channel-valid : (f : Floor) → length xs ≤ f .depth → AllOf (Sound f) xs → channelValid f m at ≡ true
   unfolding channelValid
   channel-valid f d h =
-      let places = places-valid f m (at + 1) 4 l (both .1) h in
-      rw count-read (and-both (le-leb (length l) (f .depth) d) (each-true 4 (placeValid f m (at + 1) (length l)) places))
+      let places = places-valid f m (at + 1) 4 xs (both .1) h in
+      rw count-read (and-both (le-leb (length xs) (f .depth) d) (each-true 4 (placeValid f m (at + 1) (length xs)) places))
 
 -- A record and the k records behind it are k + 1 records.
-one-more : (m : List ℕ) (at k : ℕ) (a b : List ℕ) → part m at 65 ≡ a → part m (at + 65) (65 * k) ≡ b → part m at (65 * suc k) ≡ a ++ b
-one-more m at k a b e h =
+one-more : (m : List ℕ) (at k : ℕ) (xs ys : List ℕ) → part m at 65 ≡ xs → part m (at + 65) (65 * k) ≡ ys → part m at (65 * suc k) ≡ xs ++ ys
+one-more m at k xs ys e h =
     let n : 65 * suc k ≡ 65 + 65 * k = omega arith in
     rw n (part-split m at 65 (65 * k) ∙ ap₂ _++_ e h)
 
@@ -107,19 +107,19 @@ abbrev EmptySlot : List ℕ → ℕ → Type 0
 EmptySlot m at = part m at 65 ≡ slot unheard
 
 -- Where the first places hold answers and the others nothing, the places are those of the messages that they show.
-slots-told : (m : List ℕ) (k at count : ℕ) → count ≤ k → ((q : ℕ) → q < count → Held m (at + 65 * q))
-    → ((q : ℕ) → count ≤ q → q < k → EmptySlot m (at + 65 * q)) → part m at (65 * k) ≡ slots k (messages m at count)
+slots-told : (m : List ℕ) (k at count : ℕ) → count ≤ k → ((p : ℕ) → p < count → Held m (at + 65 * p))
+    → ((p : ℕ) → count ≤ p → p < k → EmptySlot m (at + 65 * p)) → part m at (65 * k) ≡ slots k (messages m at count)
 unfolding slots messages
 slots-told m zero at zero c h g = part-none m at
 slots-told m zero at (suc count) c h g = absurd (omega arith)
 slots-told m (suc k) at zero c h g =
     one-more m at k (slot unheard) (slots k []) (rw add-zero at (g 0 (omega arith) (omega arith)))
-    (slots-told m k (at + 65) zero (omega arith) (λ q l. absurd (omega arith))
-    (λ q l b. rw (next at q) at (g (suc q) (omega arith) (omega arith))))
+    (slots-told m k (at + 65) zero (omega arith) (λ p l. absurd (omega arith))
+    (λ p l b. rw (next at p) at (g (suc p) (omega arith) (omega arith))))
 slots-told m (suc k) at (suc count) c h g =
     one-more m at k (slot (heard (shown (recordAt m at)))) (slots k (messages m (at + 65) count)) (rw add-zero at (h 0 (omega arith)))
-    (slots-told m k (at + 65) count (omega arith) (λ q l. rw (next at q) at (h (suc q) (omega arith)))
-    (λ q l b. rw (next at q) at (g (suc q) (omega arith) (omega arith))))
+    (slots-told m k (at + 65) count (omega arith) (λ p l. rw (next at p) at (h (suc p) (omega arith)))
+    (λ p l b. rw (next at p) at (g (suc p) (omega arith) (omega arith))))
 
 -- The number of messages, and what holds of all of them.
 pub messages-length : (m : List ℕ) (at count : ℕ) → length (messages m at count) ≡ count
@@ -127,18 +127,18 @@ unfolding messages
 messages-length m at zero = refl
 messages-length m at (suc count) = ap suc (messages-length m (at + 65) count)
 
-messages-all : (P : Answer → Type 0) (m : List ℕ) (at count : ℕ) → ((q : ℕ) → q < count → P (shown (recordAt m (at + 65 * q))))
+messages-all : (P : Answer → Type 0) (m : List ℕ) (at count : ℕ) → ((p : ℕ) → p < count → P (shown (recordAt m (at + 65 * p))))
     → AllOf P (messages m at count)
 unfolding messages AllOf
 messages-all P m at zero h = tt
 messages-all P m at (suc count) h =
-    (rw add-zero at (h 0 (omega arith)), messages-all P m (at + 65) count (λ q l. rw (next at q) at (h (suc q) (omega arith))))
+    (rw add-zero at (h 0 (omega arith)), messages-all P m (at + 65) count (λ p l. rw (next at p) at (h (suc p) (omega arith))))
 
 -- What a valid channel tells: it is that of the messages that it shows, at most depth of them, whose cells are sound.
-pub record Channelled (f : Floor) (m : List ℕ) (at : ℕ) (l : List Answer) : Type 0 where
-  pub same : part m at 261 ≡ channelBlock l
-  pub most : length l ≤ f .depth
-  pub sound : AllOf (Sound f) l
+pub record Channelled (f : Floor) (m : List ℕ) (at : ℕ) (xs : List Answer) : Type 0 where
+  pub same : part m at 261 ≡ channelBlock xs
+  pub most : length xs ≤ f .depth
+  pub sound : AllOf (Sound f) xs
 
 module _ (f : Floor) (m : List ℕ) (at : ℕ) (short : f .horizon ≤ 63) (shallow : f .depth ≤ 4) (long : at + 261 ≤ length m)
     (e : channelValid f m at ≡ true) where
@@ -149,19 +149,19 @@ module _ (f : Floor) (m : List ℕ) (at : ℕ) (short : f .horizon ≤ 63) (shal
   unfolding channelValid
   count-most = leb-true count (f .depth) (and-fst (leb count (f .depth)) (each 4 (placeValid f m (at + 1) count)) e)
 
-  place-holds : (q : ℕ) → q < 4 → placeValid f m (at + 1) count q ≡ true
+  place-holds : (p : ℕ) → p < 4 → placeValid f m (at + 1) count p ≡ true
   unfolding channelValid
   place-holds =
       each-holds 4 (placeValid f m (at + 1) count) (and-snd (leb count (f .depth)) (each 4 (placeValid f m (at + 1) count)) e)
 
-  message-told : (q : ℕ) → q < count → Held m (at + 1 + 65 * q) × Sound f (shown (recordAt m (at + 1 + 65 * q)))
-  message-told q l =
-      let b : q < 4 = omega (arith, count-most) in
-      answer-told f m (at + 1 + 65 * q) short (omega arith) (sym (place-message f m (at + 1) count q l) ∙ place-holds q b)
+  message-told : (p : ℕ) → p < count → Held m (at + 1 + 65 * p) × Sound f (shown (recordAt m (at + 1 + 65 * p)))
+  message-told p l =
+      let b : p < 4 = omega (arith, count-most) in
+      answer-told f m (at + 1 + 65 * p) short (omega arith) (sym (place-message f m (at + 1) count p l) ∙ place-holds p b)
 
-  empty-told : (q : ℕ) → count ≤ q → q < 4 → EmptySlot m (at + 1 + 65 * q)
-  empty-told q l b =
-      unused-told f m (at + 1 + 65 * q) short (omega arith) (sym (place-unused f m (at + 1) count q l) ∙ place-holds q b)
+  empty-told : (p : ℕ) → count ≤ p → p < 4 → EmptySlot m (at + 1 + 65 * p)
+  empty-told p l b =
+      unused-told f m (at + 1 + 65 * p) short (omega arith) (sym (place-unused f m (at + 1) count p l) ∙ place-holds p b)
 
   pub channel-told : Channelled f m at (messages m (at + 1) count)
   unfolding channelBlock

@@ -165,8 +165,8 @@ module _ (f : Floor) (m : List ℕ) (shallow : f .depth ≤ 4) (short : f .horiz
       let pairs = part-split m (2 + 67 * n) (65 * P) (261 * P) in
       rw size
       (part-split m 0 2 (67 * n + (65 * P + 261 * P))
-      ∙ ap (λ (b : List ℕ). part m 0 2 ++ b)
-      (part-split m 2 (67 * n) (65 * P + 261 * P) ∙ ap (λ (b : List ℕ). part m 2 (67 * n) ++ b) pairs))
+      ∙ ap (λ (xs : List ℕ). part m 0 2 ++ xs)
+      (part-split m 2 (67 * n) (65 * P + 261 * P) ∙ ap (λ (xs : List ℕ). part m 2 (67 * n) ++ xs) pairs))
 
   -- The views and the channels, where the encoding has them.
   view-part : (i j : ℕ) → j < i → i < n → slot (z .view i j) ≡ part m (2 + 67 * n + 65 * (pairsBefore i + j)) 65

@@ -23,7 +23,7 @@ use Rattle.encoding.proofs.ValidChannelLaws.{channel-valid}
 use Rattle.encoding.proofs.ValidDecodeLaws.{state-fits, encode-is}
 
 -- A flag is 0 or 1.
-flag-least : (b : Bool) → flag b ≤ 1
+flag-least : (x : Bool) → flag x ≤ 1
 unfolding flag
 flag-least true = omega arith
 flag-least false = omega arith

@@ -8,83 +8,83 @@ use lib.ListN.{length, take, drop, getD, length-append, List·getD-append}
 use lib.Seq.{take-at, drop-at, getD-append-add, drop-drop}
 use Rattle.laws.specs.Memory.{put, part}
 
--- Memory m has block b at place p, and m′ is the same with block b′.
-pub record Window (p : ℕ) (m m′ b b′ : List ℕ) : Type 0 where
+-- Memory m has block xs at place p, and m′ is the same with block ys.
+pub record Window (p : ℕ) (m m′ xs ys : List ℕ) : Type 0 where
   pub before : List ℕ
   pub after : List ℕ
-  pub old : m ≡ before ++ (b ++ after)
-  pub new : m′ ≡ before ++ (b′ ++ after)
+  pub old : m ≡ before ++ (xs ++ after)
+  pub new : m′ ≡ before ++ (ys ++ after)
   pub size : length before ≡ p
 
--- Block b stands at place p of memory m.
+-- Block xs stands at place p of memory m.
 abbrev pub StandsAt : ℕ → List ℕ → List ℕ → Type 0
-StandsAt p m b = Window p m m b b
+StandsAt p m xs = Window p m m xs xs
 
 -- A block is a window on itself.
-pub window-whole : (b b′ : List ℕ) → Window 0 b b′ b b′
-window-whole b b′ = record { before = []; after = []; old = sym (append-nil b); new = sym (append-nil b′); size = refl }
+pub window-whole : (xs ys : List ℕ) → Window 0 xs ys xs ys
+window-whole xs ys = record { before = []; after = []; old = sym (append-nil xs); new = sym (append-nil ys); size = refl }
 
 -- A window with something behind both memories, and with something in front of them.
-pub window-front : {p : ℕ} {m m′ b b′ : List ℕ} (y : List ℕ) → Window p m m′ b b′ → Window p (m ++ y) (m′ ++ y) b b′
-window-front {b = b} {b′ = b′} y w =
+pub window-front : {p : ℕ} {m m′ xs ys : List ℕ} (zs : List ℕ) → Window p m m′ xs ys → Window p (m ++ zs) (m′ ++ zs) xs ys
+window-front {xs = xs} {ys = ys} zs w =
     record {
       before = w .before;
-      after = w .after ++ y;
-      old = rw (w .old) (append-assoc (w .before) (b ++ w .after) y ∙ ap (λ (l : List ℕ). w .before ++ l) (append-assoc b (w .after) y));
-      new = rw (w .new) (append-assoc (w .before) (b′ ++ w .after) y ∙ ap (λ (l : List ℕ). w .before ++ l) (append-assoc b′ (w .after) y));
+      after = w .after ++ zs;
+      old = rw (w .old) (append-assoc (w .before) (xs ++ w .after) zs ∙ ap (λ (xs : List ℕ). w .before ++ xs) (append-assoc xs (w .after) zs));
+      new = rw (w .new) (append-assoc (w .before) (ys ++ w .after) zs ∙ ap (λ (xs : List ℕ). w .before ++ xs) (append-assoc ys (w .after) zs));
       size = w .size;
     }
 
-pub window-behind : {p : ℕ} {m m′ b b′ : List ℕ} (x : List ℕ) (n q : ℕ) → length x ≡ n → n + p ≡ q → Window p m m′ b b′ →
-    Window q (x ++ m) (x ++ m′) b b′
-window-behind {b = b} {b′ = b′} x n q s e w =
+pub window-behind : {p : ℕ} {m m′ xs ys : List ℕ} (zs : List ℕ) (n p′ : ℕ) → length zs ≡ n → n + p ≡ p′ → Window p m m′ xs ys →
+    Window p′ (zs ++ m) (zs ++ m′) xs ys
+window-behind {xs = xs} {ys = ys} zs n p′ s e w =
     record {
-      before = x ++ w .before;
+      before = zs ++ w .before;
       after = w .after;
-      old = ap (λ (l : List ℕ). x ++ l) (w .old) ∙ sym (append-assoc x (w .before) (b ++ w .after));
-      new = ap (λ (l : List ℕ). x ++ l) (w .new) ∙ sym (append-assoc x (w .before) (b′ ++ w .after));
-      size = length-append x (w .before) ∙ omega (arith, w .size);
+      old = ap (λ (xs : List ℕ). zs ++ xs) (w .old) ∙ sym (append-assoc zs (w .before) (xs ++ w .after));
+      new = ap (λ (xs : List ℕ). zs ++ xs) (w .new) ∙ sym (append-assoc zs (w .before) (ys ++ w .after));
+      size = length-append zs (w .before) ∙ omega (arith, w .size);
     }
 
 -- A window in a window.
-pub window-inside : {p q : ℕ} {m m′ b b′ d d′ : List ℕ} (r : ℕ) → p + q ≡ r → Window p m m′ b b′ → Window q b b′ d d′ → Window r m m′ d d′
-window-inside {d = d} {d′ = d′} r e w v =
+pub window-inside : {p p′ : ℕ} {m m′ xs ys zs zs′ : List ℕ} (n : ℕ) → p + p′ ≡ n → Window p m m′ xs ys → Window p′ xs ys zs zs′ → Window n m m′ zs zs′
+window-inside {zs = zs} {zs′ = zs′} n e w v =
     record {
       before = w .before ++ v .before;
       after = v .after ++ w .after;
-      old = w .old ∙ ap (λ (l : List ℕ). w .before ++ (l ++ w .after)) (v .old) ∙ nested (w .before) (v .before) d (v .after) (w .after);
-      new = w .new ∙ ap (λ (l : List ℕ). w .before ++ (l ++ w .after)) (v .new) ∙ nested (w .before) (v .before) d′ (v .after) (w .after);
+      old = w .old ∙ ap (λ (xs : List ℕ). w .before ++ (xs ++ w .after)) (v .old) ∙ nested (w .before) (v .before) zs (v .after) (w .after);
+      new = w .new ∙ ap (λ (xs : List ℕ). w .before ++ (xs ++ w .after)) (v .new) ∙ nested (w .before) (v .before) zs′ (v .after) (w .after);
       size = length-append (w .before) (v .before) ∙ omega (arith, w .size, v .size);
     }
   where
-    nested : (a x d y c : List ℕ) → a ++ ((x ++ (d ++ y)) ++ c) ≡ (a ++ x) ++ (d ++ (y ++ c))
-    nested a x d y c = simp append-assoc
+    nested : (xs ys zs xs′ ys′ : List ℕ) → xs ++ ((ys ++ (zs ++ xs′)) ++ ys′) ≡ (xs ++ ys) ++ (zs ++ (xs′ ++ ys′))
+    nested xs ys zs xs′ ys′ = simp append-assoc
 
 -- The old block alone.
-pub window-old : {p : ℕ} {m m′ b b′ : List ℕ} → Window p m m′ b b′ → StandsAt p m b
+pub window-old : {p : ℕ} {m m′ xs ys : List ℕ} → Window p m m′ xs ys → StandsAt p m xs
 window-old w = record { before = w .before; after = w .after; old = w .old; new = w .old; size = w .size }
 
 -- A part of a memory is the block that stands there.
-pub window-part : {p : ℕ} {m m′ b b′ : List ℕ} (n : ℕ) → length b ≡ n → Window p m m′ b b′ → part m p n ≡ b
+pub window-part : {p : ℕ} {m m′ xs ys : List ℕ} (n : ℕ) → length xs ≡ n → Window p m m′ xs ys → part m p n ≡ xs
 unfolding part
-window-part {p = p} {b = b} n l w =
+window-part {p = p} {xs = xs} n l w =
     rw (w .old)
-    (ap (take n) (drop-at (w .before) (b ++ w .after) p (w .size)) ∙ take-at b (w .after) n l)
+    (ap (take n) (drop-at (w .before) (xs ++ w .after) p (w .size)) ∙ take-at xs (w .after) n l)
 
 -- A number of a memory is the number of the block that stands there.
-pub window-number : {p : ℕ} {m m′ b b′ : List ℕ} (k q : ℕ) → k < length b → p + k ≡ q → Window p m m′ b b′ → getD m q 0 ≡ getD b k 0
-window-number {p = p} {b = b} k q l e w =
-    let place : q ≡ length (w .before) + k = omega (arith, w .size) in
+pub window-number : {p : ℕ} {m m′ xs ys : List ℕ} (k p′ : ℕ) → k < length xs → p + k ≡ p′ → Window p m m′ xs ys → getD m p′ 0 ≡ getD xs k 0
+window-number {p = p} {xs = xs} k p′ l e w =
+    let place : p′ ≡ length (w .before) + k = omega (arith, w .size) in
     rw (w .old, place)
-    (getD-append-add (w .before) (b ++ w .after) k 0 ∙ List·getD-append b (w .after) 0 k l)
+    (getD-append-add (w .before) (xs ++ w .after) k 0 ∙ List·getD-append xs (w .after) 0 k l)
 
 -- Putting the new block there.
-pub window-put : {p : ℕ} {m m′ b b′ : List ℕ} → length b ≡ length b′ → Window p m m′ b b′ → put m p b′ ≡ m′
+pub window-put : {p : ℕ} {m m′ xs ys : List ℕ} → length xs ≡ length ys → Window p m m′ xs ys → put m p ys ≡ m′
 unfolding put
-window-put {p = p} {m = m} {b = b} {b′ = b′} l w =
-    let front : take p m ≡ w .before = rw (w .old) (take-at (w .before) (b ++ w .after) p (w .size)) in
-    let rest : drop p m ≡ b ++ w .after = rw (w .old) (drop-at (w .before) (b ++ w .after) p (w .size)) in
-    let last : drop (p + length b′) m ≡ w .after =
-    sym (drop-drop (length b′) p m) ∙ ap (drop (length b′)) rest ∙ drop-at b (w .after) (length b′) l
+window-put {p = p} {m = m} {xs = xs} {ys = ys} l w =
+    let front : take p m ≡ w .before = rw (w .old) (take-at (w .before) (xs ++ w .after) p (w .size)) in
+    let rest : drop p m ≡ xs ++ w .after = rw (w .old) (drop-at (w .before) (xs ++ w .after) p (w .size)) in
+    let last : drop (p + length ys) m ≡ w .after =
+    sym (drop-drop (length ys) p m) ∙ ap (drop (length ys)) rest ∙ drop-at xs (w .after) (length ys) l
     in
     rw (front, last) (sym (w .new))

@@ -42,11 +42,11 @@ freshMemory f ws m = whenPassed (placeVerdict f ws (length m)) (withState f m fr
 
 -- The answer to a call on a lent state: the refusals of the state, then the reference machine's answer on the state that it shows.
 unfoldable pub replyTo : Floor → List ℕ → List ℕ → Call → Reply
-replyTo f ws m c = stateVerdict f ws m thenAnswers reply (machineOf f ws) (stateIn f m) c
+replyTo f ws m x = stateVerdict f ws m thenAnswers reply (machineOf f ws) (stateIn f m) x
 
 -- The memory after a call: the reference machine's next state in its front, the rest as it was; all as it was with a refusal.
 unfoldable pub memoryAfter : Floor → List ℕ → List ℕ → Call → List ℕ
-memoryAfter f ws m c = whenPassed (stateVerdict f ws m) (withState f m (afterCall (machineOf f ws) (stateIn f m) c)) m
+memoryAfter f ws m x = whenPassed (stateVerdict f ws m) (withState f m (afterCall (machineOf f ws) (stateIn f m) x)) m
 
 -- The calls that the entries make of their arguments.
 unfoldable pub singleCall : List ℕ → ℕ → Call

@@ -14,13 +14,13 @@ flag true = 1
 
 -- The first k places of a channel: its messages, oldest first, then zeros.
 unfoldable pub slots : ℕ → List Answer → List ℕ
-slots zero l = []
+slots zero xs = []
 slots (suc k) [] = slot unheard ++ slots k []
-slots (suc k) (a ∷ l) = slot (heard a) ++ slots k l
+slots (suc k) (x ∷ xs) = slot (heard x) ++ slots k xs
 
 -- A channel: how many messages it has, and its four places.
 unfoldable pub channelBlock : List Answer → List ℕ
-channelBlock l = length l ∷ slots 4 l
+channelBlock xs = length xs ∷ slots 4 xs
 
 -- A carrier: planned, due, its answer.
 unfoldable pub carrierBlock : State → ℕ → List ℕ
@@ -32,12 +32,12 @@ countBlock t = t / 1000 ∷ (t % 1000 ∷ [])
 
 -- The blocks 0 to k − 1, one behind the other.
 unfoldable pub blocks : ℕ → (ℕ → List ℕ) → List ℕ
-blocks zero b = []
-blocks (suc k) b = blocks k b ++ b k
+blocks zero φ = []
+blocks (suc k) φ = blocks k φ ++ φ k
 
 -- The blocks of all pairs of a receiver i below n and a sender j above it.
 unfoldable pub pairs : ℕ → (ℕ → ℕ → List ℕ) → List ℕ
-pairs n b = blocks n (λ i. blocks i (b i))
+pairs n φ = blocks n (λ i. blocks i (φ i))
 
 -- The state of n carriers.
 unfoldable pub encode : ℕ → State → List ℕ

@@ -32,4 +32,4 @@ grantedMemory M m (single lent noStep) = m
 grantedMemory M m (runOf lent xs b) = runIn M m xs b .memory
 
 unfoldable pub memoryIn : Machine → List ℕ → Call → List ℕ
-memoryIn M m c = whenPassed (verdictIn M m c) (grantedMemory M m c) m
+memoryIn M m x = whenPassed (verdictIn M m x) (grantedMemory M m x) m

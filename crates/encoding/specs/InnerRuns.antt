@@ -15,9 +15,9 @@ pub record RanIn : Type 0 where
   pub taken : ℕ
   pub left : Bool
 
--- Run r with one more step taken at its front.
+-- Run x with one more step taken at its front.
 unfoldable pub tookOne : RanIn → RanIn
-tookOne r = record { memory = r .memory; taken = suc (r .taken); left = r .left }
+tookOne x = record { memory = x .memory; taken = suc (x .taken); left = x .left }
 
 -- The memory after what is asked for, which is open.
 unfoldable pub askedAfterIn : Machine → List ℕ → Asked → List ℕ
@@ -27,10 +27,10 @@ askedAfterIn M m noStep = m
 -- The run of a list with a budget.
 unfoldable pub runIn : Machine → List ℕ → List Asked → ℕ → RanIn
 runIn M m [] b = record { memory = m; taken = 0; left = false }
-runIn M m (a ∷ xs) zero = record { memory = m; taken = 0; left = true }
-runIn M m (a ∷ xs) (suc b) =
-    elim (askedOpenIn M m a) [ true ↦ tookOne (runIn M (askedAfterIn M m a) xs b) | false ↦ runIn M m xs (suc b) ]
+runIn M m (x ∷ xs) zero = record { memory = m; taken = 0; left = true }
+runIn M m (x ∷ xs) (suc b) =
+    elim (askedOpenIn M m x) [ true ↦ tookOne (runIn M (askedAfterIn M m x) xs b) | false ↦ runIn M m xs (suc b) ]
 
 -- The end of a run with budget b.
 unfoldable pub endingIn : Machine → ℕ → RanIn → RunEnding
-endingIn M b r = endsAs (silentIn M (r .memory)) (eqb (r .taken) b && r .left)
+endingIn M b x = endsAs (silentIn M (x .memory)) (eqb (x .taken) b && x .left)

@@ -14,9 +14,9 @@ use Rattle.encoding.specs.Places.{plannedPlace, duePlace, answerPlace, v
 unfoldable pub usedBy : ℕ → ℕ → ℕ
 usedBy tag horizon = cond (eqb tag 2) (horizon + 1) 0
 
--- The number v at beat t: a cell of the grid while cells are used, 0 behind.
+-- The number x at beat t: a cell of the grid while cells are used, 0 behind.
 unfoldable pub cellValid : ℕ → ℕ → ℕ → ℕ → Bool
-cellValid used cells t v = cond (ltb t used) (ltb v cells) (eqb v 0)
+cellValid used cells t x = cond (ltb t used) (ltb x cells) (eqb x 0)
 
 -- The 64 numbers from a place on.
 unfoldable pub cellsValid : List ℕ → ℕ → ℕ → ℕ → Bool
@@ -32,10 +32,10 @@ unfoldable pub carrierValid : Floor → List ℕ → ℕ → Bool
 carrierValid f m i =
     leb (getD m (plannedPlace i) 0) 1 && (leb (getD m (duePlace i) 0) 1 && recordValid f m (answerPlace i) 1 2)
 
--- Place q of a channel with so many messages: a message, none or a route, or unused.
+-- Place p of a channel with so many messages: a message, none or a route, or unused.
 unfoldable pub placeValid : Floor → List ℕ → ℕ → ℕ → ℕ → Bool
-placeValid f m at count q =
-    recordValid f m (at + 65 * q) (cond (ltb q count) 1 0) (cond (ltb q count) 2 0)
+placeValid f m at count p =
+    recordValid f m (at + 65 * p) (cond (ltb p count) 1 0) (cond (ltb p count) 2 0)
 
 -- The channel at a place has 0 to depth messages, and zeros behind them.
 unfoldable pub channelValid : Floor → List ℕ → ℕ → Bool

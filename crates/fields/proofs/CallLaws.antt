@@ -37,11 +37,11 @@ module _ {M : Type 1} (𝓤 : URA M) (ps : List (Slot 1)) (ks : Kepts ps) (R : L
   abbrev pub stated : (H : Heap 𝓤) → Atoms 𝓤 → Contract 𝓤
   stated H A = tripleOf 𝓤 H A (shaped ps ks R .signature) (closing 𝓤 H A (shaped ps ks R) stating)
 
-  module _ (H : Heap 𝓤) (A : Atoms 𝓤) (W : Given 𝓤 H A) (κ : Lft) (q : Share) (a : Args (shaped ps ks R .signature) (κ, tt))
+  module _ (H : Heap 𝓤) (A : Atoms 𝓤) (W : Given 𝓤 H A) (κ : Lft) (share : Share) (a : Args (shaped ps ks R .signature) (κ, tt))
       (vss : Vals (shaped ps ks R .signature) (κ, tt)) where
     -- what the call binds outside the triple
     abbrev pub to : stated H A .Ghost
-    to = (((κ, tt), (q, tt), tt, a, vss), tt)
+    to = (((κ, tt), (share, tt), tt, a, vss), tt)
 
     -- of what is ensured, the clause alone
     said : (r : R (κ, tt) .Denot) → ent 𝓤 (ensured 𝓤 H A (shaped ps ks R) stating (κ, tt) a tt r) (fact 𝓤 (Q (κ, tt) a r))
@@ -49,16 +49,16 @@ module _ {M : Type 1} (𝓤 : URA M) (ps : List (Slot 1)) (ks : Kepts ps) (R : L
 
     -- A call, with what it asks at the head of the context: the result is owned beside the lifetime's token, and Q is known of it.
     pub calls-stated : {K : Type 0} {Γ : List (Item 𝓤)} {E : Env 𝓤 H} {C : Calls 𝓤 H} {Λ : Loops 𝓤 H} {p : Post 𝓤 H}
-        {f : Name} {xs : List Operand} {d : Place} {rest : Body} → K → FmC 𝓤 H (W .laws) C → Triple 𝓤 (C f) (stated H A)
+        {f : Name} {xs : List Operand} {x : Place} {rest : Body} → K → FmC 𝓤 H (W .laws) C → Triple 𝓤 (C f) (stated H A)
         → Opds K W (raw (stated H A .pre to) ∷ Γ) E xs (stated H A .args to)
         → ((u : Val) (r : R (κ, tt) .Denot) → Q (κ, tt) a r → Is (R (κ, tt)) r (u ∷ [])
-        → Seq K W (‵ (R (κ, tt) .own r (u ∷ [])) ∷ (‵ (flft κ q) ⊛ ‵ ftrue) ∷ Γ) (lands C Λ E d u rest p))
-        → Seq K W (raw (stated H A .pre to) ∷ Γ) (runs C Λ E (seq (call f xs d) rest) p)
+        → Seq K W (‵ (R (κ, tt) .own r (u ∷ [])) ∷ (‵ (flft κ share) ⊛ ‵ ftrue) ∷ Γ) (lands C Λ E x u rest p))
+        → Seq K W (raw (stated H A .pre to) ∷ Γ) (runs C Λ E (seq (call f xs x) rest) p)
     calls-stated t fm known os k =
         calls-at t fm (stated H A) known to os (λ u.
         use1 W
         (later (some (λ (r : R (κ, tt) .Denot).
-        ((‵ (flft κ q) ⊛ ‵ ftrue) ⊛ ‵ (R (κ, tt) .own r (u ∷ [])))
+        ((‵ (flft κ share) ⊛ ‵ ftrue) ⊛ ‵ (R (κ, tt) .own r (u ∷ [])))
         ⊛ raw (ensured 𝓤 H A (shaped ps ks R) stating (κ, tt) a tt r)))) (id⊢ 𝓤 _) $
         await t tt $ pick t (λ r. split t $ move t (1 ∷ []) $ use1 W (raw (fact 𝓤 (Q (κ, tt) a r))) (said r) $
         heard t (Q (κ, tt) a r) (λ e. split t $ move t (1 ∷ []) $

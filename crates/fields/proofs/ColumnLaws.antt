@@ -32,9 +32,9 @@ counted-columns text at (suc i) h =
     let n = counted-tells text (columnPast (pastCounted text) at i) (b .1) in
     omega (arith, n .1, counted-columns text at i (b .0))
 
-pub counted-low : (text : List ℕ) (at m : ℕ) → (at ≤ 60000) × (m ≤ 8) → (i c : ℕ)
-    → Along (countedForm text) (pastCounted text) at m i c → i < m → c ≤ 64000
-counted-low text at m asked i c h l = omega (arith, asked .0, asked .1, h .arrived, counted-columns text at i (h .good))
+pub counted-low : (text : List ℕ) (at k : ℕ) → (at ≤ 60000) × (k ≤ 8) → (i column : ℕ)
+    → Along (countedForm text) (pastCounted text) at k i column → i < k → column ≤ 64000
+counted-low text at k asked i column h l = omega (arith, asked .0, asked .1, h .arrived, counted-columns text at i (h .good))
 
 -- Lines of two fields.
 pub pair-columns : (at i : ℕ) → columnPast pastPair at i ≡ at + 11 * i
@@ -42,18 +42,18 @@ unfolding columnPast pastPair
 pair-columns at zero = omega arith
 pair-columns at (suc i) = omega (arith, pair-columns at i)
 
-pub pair-low : (text : List ℕ) (at m : ℕ) → (at ≤ 50000) × (m ≤ 1023) → (i c : ℕ)
-    → Along (λ (e : ℕ). lineForm text e 2) pastPair at m i c → i < m → c ≤ 65000
-pair-low text at m asked i c h l = omega (arith, asked .0, asked .1, h .arrived, pair-columns at i)
+pub pair-low : (text : List ℕ) (at k : ℕ) → (at ≤ 50000) × (k ≤ 1023) → (i column : ℕ)
+    → Along (λ (p : ℕ). lineForm text p 2) pastPair at k i column → i < k → column ≤ 65000
+pair-low text at k asked i column h l = omega (arith, asked .0, asked .1, h .arrived, pair-columns at i)
 
 -- A line of two fields, and the rest of a counted line: the column past it.
-pub pair-line : (v : Verdict) (at : ℕ) {r : Reached} → r ≡ reachedOf v (at + 5 * 2 + 1) → r ≡ reachedOf v (pastPair at)
+pub pair-line : (x : Verdict) (at : ℕ) {y : Reached} → y ≡ reachedOf x (at + 5 * 2 + 1) → y ≡ reachedOf x (pastPair at)
 unfolding pastPair
-pair-line v at e = let q : at + 5 * 2 + 1 ≡ at + 11 = omega arith in rw q at e
+pair-line x at e = let q : at + 5 * 2 + 1 ≡ at + 11 = omega arith in rw q at e
 
-pub counted-last : (text : List ℕ) (at n : ℕ) {r : Reached} → n ≡ numberAt text (at + 10)
-    → r ≡ reachedOf (lineForm text (at + 15) (2 * n)) (at + 15 + 5 * (2 * n) + 1)
-    → r ≡ reachedOf (lineForm text (at + 15) (2 * numberAt text (at + 10))) (pastCounted text at)
+pub counted-last : (text : List ℕ) (at n : ℕ) {x : Reached} → n ≡ numberAt text (at + 10)
+    → x ≡ reachedOf (lineForm text (at + 15) (2 * n)) (at + 15 + 5 * (2 * n) + 1)
+    → x ≡ reachedOf (lineForm text (at + 15) (2 * numberAt text (at + 10))) (pastCounted text at)
 unfolding pastCounted countedLength
 counted-last text at n e h =
     let q : at + 15 + 5 * (2 * n) + 1 ≡ at + (16 + 10 * n) = omega arith in

@@ -23,17 +23,17 @@ unfolding fieldForm
 field-there text at h = leb-true _ _ (demand-holds _ 1 _ (then-both _ _ h .0))
 
 -- A number within two bounds, below the first and above the second.
-within-holds : (a b v : ℕ) → a ≤ v → v ≤ b → within a b v ≡ true
+within-holds : (a b x : ℕ) → a ≤ x → x ≤ b → within a b x ≡ true
 unfolding within
-within-holds a b v l g = rw (le-leb a v l, le-leb v b g)
+within-holds a b x l g = rw (le-leb a x l, le-leb x b g)
 
-within-below : (a b v : ℕ) → v < a → within a b v ≡ false
+within-below : (a b x : ℕ) → x < a → within a b x ≡ false
 unfolding within
-within-below a b v l = rw (lt-leb a v l)
+within-below a b x l = rw (lt-leb a x l)
 
-within-above : (a b v : ℕ) → b < v → within a b v ≡ false
+within-above : (a b x : ℕ) → b < x → within a b x ≡ false
 unfolding within
-within-above a b v l = rw (lt-leb v b l, and-false (leb a v))
+within-above a b x l = rw (lt-leb x b l, and-false (leb a x))
 
 -- A count in good form lies within the text, and is 1 to 4.
 pub count-there : (text : List ℕ) (at : ℕ) → countForm text at ≡ passed → at + 5 ≤ length text
@@ -47,28 +47,28 @@ count-tells text at h =
     let b = and-eq-true-iff _ _ .0 (demand-holds _ 1 at (a .1)) in
     (leb-true _ _ (b .0), leb-true _ _ (b .1))
 
--- The three answers past a good field, whose number is v.
-module _ (text : List ℕ) (at : ℕ) {form : Reached} {x v : ℕ} (field : form ≡ reachedOf (fieldForm text at) (at + 5)) (told : form ≡ At x)
-    (number : v ≡ numberAt text at) where
+-- The three answers past a good field, whose number is y.
+module _ (text : List ℕ) (at : ℕ) {form : Reached} {x y : ℕ} (field : form ≡ reachedOf (fieldForm text at) (at + 5)) (told : form ≡ At x)
+    (number : y ≡ numberAt text at) where
   good : fieldForm text at ≡ passed
   good = reaches (fieldForm text at) (at + 5) field told .0
 
-  refused-count : within 1 4 (numberAt text at) ≡ false → {r : Reached} → r ≡ reachedOf (refused 1 at) 0
-      → r ≡ reachedOf (countForm text at) (at + 5)
+  refused-count : within 1 4 (numberAt text at) ≡ false → {z : Reached} → z ≡ reachedOf (refused 1 at) 0
+      → z ≡ reachedOf (countForm text at) (at + 5)
   unfolding countForm reachedOf
-  refused-count t e = rw (then-passed {w = demand (within 1 4 (numberAt text at)) 1 at} good, demand-refuses 1 at t) e
+  refused-count t e = rw (then-passed {y = demand (within 1 4 (numberAt text at)) 1 at} good, demand-refuses 1 at t) e
 
-  pub count-below : {r : Reached} → v < 1 → r ≡ reachedOf (refused 1 at) 0 → r ≡ reachedOf (countForm text at) (at + 5)
+  pub count-below : {z : Reached} → y < 1 → z ≡ reachedOf (refused 1 at) 0 → z ≡ reachedOf (countForm text at) (at + 5)
   count-below l e = refused-count (within-below 1 4 (numberAt text at) (omega (arith, l, number))) e
 
-  pub count-above : {r : Reached} → 1 ≤ v → 4 < v → r ≡ reachedOf (refused 1 at) 0 → r ≡ reachedOf (countForm text at) (at + 5)
+  pub count-above : {z : Reached} → 1 ≤ y → 4 < y → z ≡ reachedOf (refused 1 at) 0 → z ≡ reachedOf (countForm text at) (at + 5)
   count-above g l e = refused-count (within-above 1 4 (numberAt text at) (omega (arith, l, number))) e
 
-  pub count-good : 1 ≤ v → v ≤ 4 → form ≡ reachedOf (countForm text at) (at + 5)
+  pub count-good : 1 ≤ y → y ≤ 4 → form ≡ reachedOf (countForm text at) (at + 5)
   unfolding countForm
   count-good l g =
       rw (
-        then-passed {w = demand (within 1 4 (numberAt text at)) 1 at} good,
+        then-passed {y = demand (within 1 4 (numberAt text at)) 1 at} good,
         demand-passes 1 at (within-holds 1 4 (numberAt text at) (omega (arith, l, number)) (omega (arith, g, number))),
       )
       (rw good at field)

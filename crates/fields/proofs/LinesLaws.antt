@@ -63,47 +63,47 @@ module _ {M : Type 1} (𝓤 : URA M) (H : Heap 𝓤) (A : Atoms 𝓤) (W : Given
     (past : List ℕ → ℕ → ℕ) (most : ℕ) where
   -- what is stated of the answer, and the function's clauses
   abbrev LinesAnswered : RefT (List ℕ) → ℕ → ℕ → Reached → Type 0
-  LinesAnswered s at m r = r ≡ reachedOf (linesForm (form (s .now)) (past (s .now)) at m) (columnPast (past (s .now)) at m)
+  LinesAnswered s at k x = x ≡ reachedOf (linesForm (form (s .now)) (past (s .now)) at k) (columnPast (past (s .now)) at k)
 
   abbrev clauses : Clauses 𝓤 Lines
   clauses = stating 𝓤 linesParams linesKept (λ _. S.the-row)
       (λ κs a. fact 𝓤 (Asked (a .1 .0) (a .1 .1 .0))) (λ κs a. LinesAnswered (a .0) (a .1 .0) (a .1 .1 .0))
 
-  module _ (κ : Lft) (q : Share) (s : RefT (List ℕ)) (at m : ℕ) (at-fits : at < 2 ^ 64) (m-fits : m < 2 ^ 64)
-      (low : (i c : ℕ) → Along (form (s .now)) (past (s .now)) at m i c → i < m → c ≤ most) where
+  module _ (κ : Lft) (share : Share) (s : RefT (List ℕ)) (at n : ℕ) (at-fits : at < 2 ^ 64) (n-fits : n < 2 ^ 64)
+      (low : (i column : ℕ) → Along (form (s .now)) (past (s .now)) at n i column → i < n → column ≤ most) where
     abbrev v : Val
-    v = L.v 𝓤 H A W κ q s
+    v = L.v 𝓤 H A W κ share s
 
     abbrev vals : Vals (Lines .signature) (κ, tt)
-    vals = (v ∷ [], (vint w64 at ∷ [], (vint w64 m ∷ [], tt)))
+    vals = (v ∷ [], (vint w64 at ∷ [], (vint w64 n ∷ [], tt)))
 
     abbrev Entry : SProp 𝓤
-    Entry = onEntry 𝓤 H A (Lines .signature) (κ, tt) (q, tt) (s, (at, (m, tt))) vals
+    Entry = onEntry 𝓤 H A (Lines .signature) (κ, tt) (share, tt) (s, (at, (n, tt))) vals
 
     abbrev Post : Val → SProp 𝓤
-    Post = walkOf 𝓤 H A Lines stayed clauses .post (((κ, tt), (q, tt), tt, (s, (at, (m, tt))), vals), tt)
+    Post = walkOf 𝓤 H A Lines stayed clauses .post (((κ, tt), (share, tt), tt, (s, (at, (n, tt))), vals), tt)
 
-    exits : (r : Reached) (u : Val) → LinesAnswered s at m r
-        → ent 𝓤 (⋆ 𝓤 H A (‵ (S.the-row .own r (u ∷ [])) ∷ L.Tok 𝓤 H A W κ q s ∷ ‵ (L.Own 𝓤 H A W κ q s) ∷ [])) (Post u)
-    exits r u e =
-        qed W (‵ (S.the-row .own r (u ∷ [])) ∷ L.Tok 𝓤 H A W κ q s ∷ ‵ (L.Own 𝓤 H A W κ q s) ∷ []) ∵
+    exits : (x : Reached) (u : Val) → LinesAnswered s at n x
+        → ent 𝓤 (⋆ 𝓤 H A (‵ (S.the-row .own x (u ∷ [])) ∷ L.Tok 𝓤 H A W κ share s ∷ ‵ (L.Own 𝓤 H A W κ share s) ∷ [])) (Post u)
+    exits x u e =
+        qed W (‵ (S.the-row .own x (u ∷ [])) ∷ L.Tok 𝓤 H A W κ share s ∷ ‵ (L.Own 𝓤 H A W κ share s) ∷ []) ∵
         suffices ! _
-        (ends-at 𝓤 H A Lines stayed clauses W (((κ, tt), (q, tt), tt, (s, (at, (m, tt))), vals), tt)
-        u r (tt, (tt, (tt, tt))) (tt, (tt, (tt, tt)))) $ says ! e $
-        move ! (1 ∷ []) $ frame ! $ nothing ! $ owned ! usize (Is usize) (uint-makes 𝓤 H A W w64) m _ (refl, m-fits) $ fjoin ! $
+        (ends-at 𝓤 H A Lines stayed clauses W (((κ, tt), (share, tt), tt, (s, (at, (n, tt))), vals), tt)
+        u x (tt, (tt, (tt, tt))) (tt, (tt, (tt, tt)))) $ says ! e $
+        move ! (1 ∷ []) $ frame ! $ nothing ! $ owned ! usize (Is usize) (uint-makes 𝓤 H A W w64) n _ (refl, n-fits) $ fjoin ! $
         owned ! usize (Is usize) (uint-makes 𝓤 H A W w64) at _ (refl, at-fits) $ fjoin ! $ move ! (2 ∷ 0 ∷ []) $ fjoin ! $ frame ! $ done !
 
     -- the call of `begin`: of what the text owns one copy goes to it, and one is kept
     abbrev to-begin : Begin 𝓤 H A .Ghost
     to-begin =
-        to 𝓤 sliceParams sliceKept B (λ _ _. emp 𝓤) (λ _ a d. (d .text ≡ a .0) × (d .column ≡ a .1 .0)) H A W κ q
+        to 𝓤 sliceParams sliceKept B (λ _ _. emp 𝓤) (λ _ a d. (d .text ≡ a .0) × (d .column ≡ a .1 .0)) H A W κ share
         (s, (at, tt)) (v ∷ [], (vint w64 at ∷ [], tt))
 
-    begins : ent 𝓤 Entry (sep 𝓤 (Begin 𝓤 H A .pre to-begin) (sem 𝓤 H A (L.Own 𝓤 H A W κ q s)))
+    begins : ent 𝓤 Entry (sep 𝓤 (Begin 𝓤 H A .pre to-begin) (sem 𝓤 H A (L.Own 𝓤 H A W κ share s)))
     begins =
-        qed W (L.Tok 𝓤 H A W κ q s ∷ ‵ (owns (ShrSlice (named 0) κ u8 ∷ usize ∷ usize ∷ []) (s, (at, (m, tt))) vals) ∷ []) ∵
+        qed W (L.Tok 𝓤 H A W κ share s ∷ ‵ (owns (ShrSlice (named 0) κ u8 ∷ usize ∷ usize ∷ []) (s, (at, (n, tt))) vals) ∷ []) ∵
         move ! (1 ∷ []) $ fsplit ! $
-        use1 W (‵ (L.Own 𝓤 H A W κ q s) ⊛ ‵ (L.Own 𝓤 H A W κ q s)) (shr-slice-copy 𝓤 H A W (named 0) κ u8 .twice s (v ∷ [])) $ split ! $
+        use1 W (‵ (L.Own 𝓤 H A W κ share s) ⊛ ‵ (L.Own 𝓤 H A W κ share s)) (shr-slice-copy 𝓤 H A W (named 0) κ u8 .twice s (v ∷ [])) $ split ! $
         -- [what the text owns, twice; what the numbers own; the token]
         move ! (2 ∷ []) $ drop ! $ nothing ! $ owned ! usize (Is usize) (uint-makes 𝓤 H A W w64) at _ (refl, at-fits) $ fjoin ! $
         move ! (1 ∷ 0 ∷ []) $ fjoin ! $ move ! (2 ∷ 0 ∷ []) $ join ! $ nothing ! $ move ! (1 ∷ 0 ∷ []) $ join ! $ frame ! $ done !
@@ -112,28 +112,28 @@ module _ {M : Type 1} (𝓤 : URA M) (H : Heap 𝓤) (A : Atoms 𝓤) (W : Given
         → (k : Name) → Triple 𝓤 (𝓣 .C k) (Line 𝓤 form past most H A)
         → Triple 𝓤 (𝓣 .C #moved) (ReaderMoved 𝓤 H A) → Triple 𝓤 (𝓣 .C #reached) (Arrived 𝓤 H A)
         → Is (ShrSlice (named 0) κ u8) s (v ∷ [])
-        → ent 𝓤 Entry (WpFn 𝓤 H (𝓣 .C) (𝓣 .Λ) (lines k) (v ∷ vint w64 at ∷ vint w64 m ∷ []) Post)
+        → ent 𝓤 Entry (WpFn 𝓤 H (𝓣 .C) (𝓣 .Λ) (lines k) (v ∷ vint w64 at ∷ vint w64 n ∷ []) Post)
     walk 𝓣 known-begin k known-line known-moved known-reached p =
-        qed W (raw Entry ∷ []) ∵ enter ! (𝓣 .C) (𝓣 .Λ) (lines k) (v ∷ vint w64 at ∷ vint w64 m ∷ []) _ $
+        qed W (raw Entry ∷ []) ∵ enter ! (𝓣 .C) (𝓣 .Λ) (lines k) (v ∷ vint w64 at ∷ vint w64 n ∷ []) _ $
         alloc1 ! (λ l₀. alloc1 ! (λ l₁. alloc1 ! (λ l₂. alloc1 ! (λ l₃. alloc1 ! (λ l₄. alloc1 ! (λ l₅. alloc1 ! (λ l₆. alloc1 ! (λ l₇.
         alloc1 ! (λ l₈. alloc1 ! (λ l₉. alloc1 ! (λ l₁₀. alloc1 ! (λ l₁₁. alloc0 ! $ params1 ! $
         pass1 ! (init ! 20 refl (shr-slice-lawful 𝓤 H A W (named 0) κ u8 .typed s (v ∷ []) p .0)) $
-        pass1 ! (init ! 18 refl (tt, record { fits = at-fits })) $ pass1 ! (init ! 16 refl (tt, record { fits = m-fits })) $ pass0 ! $
-        move ! (24 ∷ []) $ use1 W (raw (Begin 𝓤 H A .pre to-begin) ⊛ ‵ (L.Own 𝓤 H A W κ q s)) begins $ split ! $
-        calls-stated 𝓤 sliceParams sliceKept B (λ _ _. emp 𝓤) (λ _ a d. (d .text ≡ a .0) × (d .column ≡ a .1 .0)) H A W κ q
+        pass1 ! (init ! 18 refl (tt, record { fits = at-fits })) $ pass1 ! (init ! 16 refl (tt, record { fits = n-fits })) $ pass0 ! $
+        move ! (24 ∷ []) $ use1 W (raw (Begin 𝓤 H A .pre to-begin) ⊛ ‵ (L.Own 𝓤 H A W κ share s)) begins $ split ! $
+        calls-stated 𝓤 sliceParams sliceKept B (λ _ _. emp 𝓤) (λ _ a d. (d .text ≡ a .0) × (d .column ≡ a .1 .0)) H A W κ share
         (s, (at, tt)) (v ∷ [], (vint w64 at ∷ [], tt)) ! (fmOf 𝓤 H (W .laws) 𝓣) known-begin
         (and-then ! (load ! (from ! (stop !)) (look ! 22 refl)) (and-then ! (load ! (from ! (stop !)) (look ! 20 refl)) (no-more !)))
         (λ u d e is.
-        let to-here : _≡_ {A = Reader} d (L.here 𝓤 H A W κ q s at) = λ i. record { text = e .0 i; column = e .1 i } in
-        let wt = L.typed 𝓤 H A W κ q s at u (subst (λ (x : Reader). Is (B (κ, tt)) x (u ∷ [])) to-here is) in
+        let to-here : _≡_ {A = Reader} d (L.here 𝓤 H A W κ share s at) = λ i. record { text = e .0 i; column = e .1 i } in
+        let wt = L.typed 𝓤 H A W κ share s at u (subst (λ (x : Reader). Is (B (κ, tt)) x (u ∷ [])) to-here is) in
         rewrite ! 0 (λ (x : Reader). ‵ (B (κ, tt) .own x (u ∷ []))) to-here refl $ land ! (from ! (stop !)) (init ! 17 refl wt) $
-        L.along-lines 𝓤 H A W κ q s form past most at m m-fits low Post exits 𝓣 k known-line known-moved known-reached
+        L.along-lines 𝓤 H A W κ share s form past most at n n-fits low Post exits 𝓣 k known-line known-moved known-reached
         l₀ l₁ l₂ l₃ l₄ l₅ l₆ l₇ l₈ l₉ l₁₀ l₁₁ u wt)))))))))))))
 
   module _ (𝓣 : Tables 𝓤 H) (known-begin : Triple 𝓤 (𝓣 .C #begin) (Begin 𝓤 H A)) (k : Name)
       (known-line : Triple 𝓤 (𝓣 .C k) (Line 𝓤 form past most H A)) (known-moved : Triple 𝓤 (𝓣 .C #moved) (ReaderMoved 𝓤 H A))
       (known-reached : Triple 𝓤 (𝓣 .C #reached) (Arrived 𝓤 H A))
-      (low : (text : List ℕ) (at m : ℕ) → Asked at m → (i c : ℕ) → Along (form text) (past text) at m i c → i < m → c ≤ most) where
+      (low : (text : List ℕ) (at n : ℕ) → Asked at n → (i column : ℕ) → Along (form text) (past text) at n i column → i < n → column ≤ most) where
     lines-walk : Walks 𝓤 H A Lines stayed (WpFn 𝓤 H (𝓣 .C) (𝓣 .Λ) (lines k)) clauses
     lines-walk =
         walked 𝓤 H A Lines stayed clauses (WpFn 𝓤 H (𝓣 .C) (𝓣 .Λ) (lines k))

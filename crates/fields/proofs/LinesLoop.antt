@@ -51,7 +51,7 @@ use Rattle.fields.proofs.reader.reached.Symbol.{name as #reached}
 use Rattle.fields.proofs.LinesParts.{word, slice, reader, answer, rest, refuse, takes, told, onward, inside, turn, begun}
 use Rattle.fields.proofs.LinesParts.{Turn, Low, Line, Arrived}
 
-module _ {M : Type 1} (𝓤 : URA M) (H : Heap 𝓤) (A : Atoms 𝓤) (W : Given 𝓤 H A) (κ : Lft) (q : Share) (s : RefT (List ℕ)) where
+module _ {M : Type 1} (𝓤 : URA M) (H : Heap 𝓤) (A : Atoms 𝓤) (W : Given 𝓤 H A) (κ : Lft) (share : Share) (s : RefT (List ℕ)) where
   -- the machine value of the text, what it owns, and the lifetime's token
   abbrev pub v : Val
   v = sliceVal (s .ptr) (length (s .now))
@@ -60,7 +60,7 @@ module _ {M : Type 1} (𝓤 : URA M) (H : Heap 𝓤) (A : Atoms 𝓤) (W : Given
   Own = ShrSlice (named 0) κ u8 .own s (v ∷ [])
 
   abbrev pub Tok : Item 𝓤
-  Tok = ‵ (flft κ q) ⊛ ‵ ftrue
+  Tok = ‵ (flft κ share) ⊛ ‵ ftrue
 
   -- the reader at a column, and what it owns at a machine value
   abbrev pub here : ℕ → Reader
@@ -73,46 +73,46 @@ module _ {M : Type 1} (𝓤 : URA M) (H : Heap 𝓤) (A : Atoms 𝓤) (W : Given
   abbrev αᵉ : NamedLft
   αᵉ = record { mir = erased; lft = κ }
 
-  pub typed : (c : ℕ) (u : Val) → Is (B (κ, tt)) (here c) (u ∷ []) → Holds (hasTy reader u) × WT u
-  typed c u is = LL.lawful (T.the-type αᵉ) (T′.the-laws αᵉ) 𝓤 H A W .typed (here c) _ is .0
+  pub typed : (column : ℕ) (u : Val) → Is (B (κ, tt)) (here column) (u ∷ []) → Holds (hasTy reader u) × WT u
+  typed column u is = LL.lawful (T.the-type αᵉ) (T′.the-laws αᵉ) 𝓤 H A W .typed (here column) _ is .0
 
   -- an answer's machine value, and that owning tells it
   abbrev val : Reached → Val
   val = EL.val S.the-type S′.the-laws
 
-  tells : (r : Reached) (u : Val) → Is S.the-row r (u ∷ []) → u ≡ val r
-  tells r u is = ap only (EL.tells S.the-type S′.the-laws r _ is)
+  tells : (x : Reached) (u : Val) → Is S.the-row x (u ∷ []) → u ≡ val x
+  tells x u is = ap only (EL.tells S.the-type S′.the-laws x _ is)
 
-  typed-answer : (r : Reached) (u : Val) → Is S.the-row r (u ∷ []) → Holds (hasTy answer u) × WT u
-  typed-answer r u is = EL.lawful S.the-type S′.the-laws 𝓤 H A W tt .typed r _ is .0
+  typed-answer : (x : Reached) (u : Val) → Is S.the-row x (u ∷ []) → Holds (hasTy answer u) × WT u
+  typed-answer x u is = EL.lawful S.the-type S′.the-laws 𝓤 H A W tt .typed x _ is .0
 
-  module _ (form : List ℕ → ℕ → Verdict) (past : List ℕ → ℕ → ℕ) (most at m : ℕ) (few : m < 2 ^ 64)
-      (low : (i c : ℕ) → Along (form (s .now)) (past (s .now)) at m i c → i < m → c ≤ most) (Post : Val → SProp 𝓤)
-      (exits : (r : Reached) (u : Val) → r ≡ reachedOf (linesForm (form (s .now)) (past (s .now)) at m) (columnPast (past (s .now)) at m)
-      → ent 𝓤 (⋆ 𝓤 H A (‵ (S.the-row .own r (u ∷ [])) ∷ Tok ∷ ‵ Own ∷ [])) (Post u)) where
+  module _ (form : List ℕ → ℕ → Verdict) (past : List ℕ → ℕ → ℕ) (most at n : ℕ) (few : n < 2 ^ 64)
+      (low : (i column : ℕ) → Along (form (s .now)) (past (s .now)) at n i column → i < n → column ≤ most) (Post : Val → SProp 𝓤)
+      (exits : (y : Reached) (u : Val) → y ≡ reachedOf (linesForm (form (s .now)) (past (s .now)) at n) (columnPast (past (s .now)) at n)
+      → ent 𝓤 (⋆ 𝓤 H A (‵ (S.the-row .own y (u ∷ [])) ∷ Tok ∷ ‵ Own ∷ [])) (Post u)) where
     abbrev LoopTurn : Type 0
-    LoopTurn = Turn (form (s .now)) (past (s .now)) at m
+    LoopTurn = Turn (form (s .now)) (past (s .now)) at n
 
     -- the number of lines left falls
     abbrev Nearer : LoopTurn → LoopTurn → Type 0
-    Nearer t′ t = m - t′ .count < m - t .count
+    Nearer turn turn′ = n - turn .count < n - turn′ .count
 
     Nearer-wf : WellFounded Nearer
-    Nearer-wf = InvImage·wf (λ (t : LoopTurn). m - t .count) (Nat·lt-wfRel .wf)
+    Nearer-wf = InvImage·wf (λ (turn : LoopTurn). n - turn .count) (Nat·lt-wfRel .wf)
 
-    asked : (t : LoopTurn) → t .count < m → ent 𝓤 (emp 𝓤) (Low 𝓤 most (here (t .column)))
-    asked t l = factI 𝓤 _ (emp 𝓤) (low (t .count) (t .column) (t .along) l)
+    asked : (turn : LoopTurn) → turn .count < n → ent 𝓤 (emp 𝓤) (Low 𝓤 most (here (turn .column)))
+    asked turn l = factI 𝓤 _ (emp 𝓤) (low (turn .count) (turn .column) (turn .along) l)
 
-    count-fits : (t : LoopTurn) → t .count < m → t .count + 1 < 2 ^ 64
-    count-fits t l = omega (arith, l, few)
+    count-fits : (turn : LoopTurn) → turn .count < n → turn .count + 1 < 2 ^ 64
+    count-fits turn l = omega (arith, l, few)
 
     -- the column that a line's answer tells is a number of its type
-    column-fits : (c : ℕ) → Is S.the-row (At c) (val (At c) ∷ []) → c < 2 ^ 64
-    column-fits c is = typed-answer (At c) (val (At c)) is .1 .1 .0 .fits
+    column-fits : (column : ℕ) → Is S.the-row (At column) (val (At column) ∷ []) → column < 2 ^ 64
+    column-fits column is = typed-answer (At column) (val (At column)) is .1 .1 .0 .fits
 
     module _ (𝓣 : Tables 𝓤 H) (k : Name) (known-line : Triple 𝓤 (𝓣 .C k) (Line 𝓤 form past most H A))
         (known-moved : Triple 𝓤 (𝓣 .C #moved) (ReaderMoved 𝓤 H A)) (known-reached : Triple 𝓤 (𝓣 .C #reached) (Arrived 𝓤 H A))
-        (l₀ l₁ l₂ l₃ l₄ l₅ l₆ l₇ l₈ l₉ l₁₀ l₁₁ : ℕ) where
+        (k₀ k₁ k₂ k₃ k₄ k₅ k₆ k₇ k₈ k₉ k₁₀ k₁₁ : ℕ) where
       abbrev C : Calls 𝓤 H
       C = 𝓣 .C
 
@@ -124,135 +124,135 @@ module _ {M : Type 1} (𝓤 : URA M) (H : Heap 𝓤) (A : Atoms 𝓤) (W : Given
 
       abbrev En : Env 𝓤 H
       En =
-          (answer, l₀) ∷ (slice, l₁) ∷ (word, l₂) ∷ (word, l₃) ∷ (reader, l₄) ∷ (word, l₅) ∷ (answer, l₆) ∷ (word, l₇)
-          ∷ (tyBool, l₈) ∷ (reader, l₉) ∷ (reader, l₁₀) ∷ (reader, l₁₁) ∷ []
+          (answer, k₀) ∷ (slice, k₁) ∷ (word, k₂) ∷ (word, k₃) ∷ (reader, k₄) ∷ (word, k₅) ∷ (answer, k₆) ∷ (word, k₇)
+          ∷ (tyBool, k₈) ∷ (reader, k₉) ∷ (reader, k₁₀) ∷ (reader, k₁₁) ∷ []
 
       -- the locals, the last first, with the cells of _7 to _1 as they are said; the others are room
       abbrev Locals : Item 𝓤 → Item 𝓤 → Item 𝓤 → Item 𝓤 → Item 𝓤 → Item 𝓤 → Item 𝓤 → List (Item 𝓤)
       Locals x₇ x₆ x₅ x₄ x₃ x₂ x₁ =
-          ‵ (froom reader l₁₁ 0) ∷ ‵ (fdies reader l₁₁) ∷ ‵ (froom reader l₁₀ 0) ∷ ‵ (fdies reader l₁₀) ∷ ‵ (froom reader l₉ 0)
-          ∷ ‵ (fdies reader l₉) ∷ ‵ (froom tyBool l₈ 0) ∷ ‵ (fdies tyBool l₈) ∷ x₇ ∷ ‵ (fdies word l₇) ∷ x₆ ∷ ‵ (fdies answer l₆)
-          ∷ x₅ ∷ ‵ (fdies word l₅) ∷ x₄ ∷ ‵ (fdies reader l₄) ∷ x₃ ∷ ‵ (fdies word l₃) ∷ x₂ ∷ ‵ (fdies word l₂) ∷ x₁ ∷ ‵ (fdies slice l₁)
-          ∷ ‵ (froom answer l₀ 0) ∷ ‵ (fdies answer l₀) ∷ []
+          ‵ (froom reader k₁₁ 0) ∷ ‵ (fdies reader k₁₁) ∷ ‵ (froom reader k₁₀ 0) ∷ ‵ (fdies reader k₁₀) ∷ ‵ (froom reader k₉ 0)
+          ∷ ‵ (fdies reader k₉) ∷ ‵ (froom tyBool k₈ 0) ∷ ‵ (fdies tyBool k₈) ∷ x₇ ∷ ‵ (fdies word k₇) ∷ x₆ ∷ ‵ (fdies answer k₆)
+          ∷ x₅ ∷ ‵ (fdies word k₅) ∷ x₄ ∷ ‵ (fdies reader k₄) ∷ x₃ ∷ ‵ (fdies word k₃) ∷ x₂ ∷ ‵ (fdies word k₂) ∷ x₁ ∷ ‵ (fdies slice k₁)
+          ∷ ‵ (froom answer k₀ 0) ∷ ‵ (fdies answer k₀) ∷ []
 
       -- the same with the parameters in place
       abbrev Filled : Item 𝓤 → Item 𝓤 → Val → List (Item 𝓤)
       Filled x₆ x₅ u =
-          Locals (‵ (froom word l₇ 0)) x₆ x₅ (‵ (fat fullShare reader l₄ 0 u)) (‵ (fat fullShare word l₃ 0 (vint w64 m)))
-          (‵ (fat fullShare word l₂ 0 (vint w64 at))) (‵ (fat fullShare slice l₁ 0 v))
+          Locals (‵ (froom word k₇ 0)) x₆ x₅ (‵ (fat fullShare reader k₄ 0 u)) (‵ (fat fullShare word k₃ 0 (vint w64 n)))
+          (‵ (fat fullShare word k₂ 0 (vint w64 at))) (‵ (fat fullShare slice k₁ 0 v))
 
       -- before a turn, and after a line's answer
       abbrev At′ : LoopTurn → List (Item 𝓤)
-      At′ t =
-          ‵ (Read (t .column) (t .value)) ∷ Tok ∷ ‵ Own
-          ∷ Filled (‵ (froom answer l₆ 0)) (‵ (fat fullShare word l₅ 0 (vint w64 (t .count)))) (t .value)
+      At′ turn =
+          ‵ (Read (turn .column) (turn .value)) ∷ Tok ∷ ‵ Own
+          ∷ Filled (‵ (froom answer k₆ 0)) (‵ (fat fullShare word k₅ 0 (vint w64 (turn .count)))) (turn .value)
 
       abbrev Answered : LoopTurn → Reached → List (Item 𝓤)
-      Answered t r =
-          ‵ (S.the-row .own r (val r ∷ [])) ∷ Tok ∷ ‵ (Read (t .column) (t .value)) ∷ ‵ Own
-          ∷ Filled (‵ (fat fullShare answer l₆ 0 (val r))) (‵ (fat fullShare word l₅ 0 (vint w64 (t .count)))) (t .value)
+      Answered turn y =
+          ‵ (S.the-row .own y (val y ∷ [])) ∷ Tok ∷ ‵ (Read (turn .column) (turn .value)) ∷ ‵ Own
+          ∷ Filled (‵ (fat fullShare answer k₆ 0 (val y))) (‵ (fat fullShare word k₅ 0 (vint w64 (turn .count)))) (turn .value)
 
       -- a turn ends nearer to the last line, or the loop is left and the rest of the body runs
       abbrev Turned : LoopTurn → Out → SProp 𝓤
-      Turned t =
-          afterTurn 𝓤 H (Below 𝓤 H A Nearer At′ t)
+      Turned turn =
+          afterTurn 𝓤 H (Below 𝓤 H A Nearer At′ turn)
           (afterBlock 𝓤 H (afterSeq 𝓤 H (Wp 𝓤 H C Λ En rest (atReturn 𝓤 H En Post)) (atReturn 𝓤 H En Post)))
 
       -- the locals are freed
-      freed : (r : Reached) (u : Val)
-          → r ≡ reachedOf (linesForm (form (s .now)) (past (s .now)) at m) (columnPast (past (s .now)) at m)
+      freed : (y : Reached) (u : Val)
+          → y ≡ reachedOf (linesForm (form (s .now)) (past (s .now)) at n) (columnPast (past (s .now)) at n)
           → Sq W
-          (‵ (S.the-row .own r (u ∷ [])) ∷ Tok ∷ ‵ Own
-          ∷ Locals (‵ (froom word l₇ 0)) (‵ (froom answer l₆ 0)) (‵ (froom word l₅ 0)) (‵ (froom reader l₄ 0)) (‵ (froom word l₃ 0))
-          (‵ (froom word l₂ 0))
-          (‵ (froom slice l₁ 0)))
+          (‵ (S.the-row .own y (u ∷ [])) ∷ Tok ∷ ‵ Own
+          ∷ Locals (‵ (froom word k₇ 0)) (‵ (froom answer k₆ 0)) (‵ (froom word k₅ 0)) (‵ (froom reader k₄ 0)) (‵ (froom word k₃ 0))
+          (‵ (froom word k₂ 0))
+          (‵ (froom slice k₁ 0)))
           (frees En (prop (Post u)))
-      freed r u e =
+      freed y u e =
           move ! (25 ∷ 26 ∷ []) $ free1 ! $ move ! (23 ∷ 24 ∷ []) $ free1 ! $ move ! (21 ∷ 22 ∷ []) $ free1 ! $
           move ! (19 ∷ 20 ∷ []) $ free1 ! $ move ! (17 ∷ 18 ∷ []) $ free1 ! $ move ! (15 ∷ 16 ∷ []) $ free1 ! $
           move ! (13 ∷ 14 ∷ []) $ free1 ! $ move ! (11 ∷ 12 ∷ []) $ free1 ! $ move ! (9 ∷ 10 ∷ []) $ free1 ! $
-          move ! (7 ∷ 8 ∷ []) $ free1 ! $ move ! (5 ∷ 6 ∷ []) $ free1 ! $ move ! (3 ∷ 4 ∷ []) $ free1 ! $ free0 ! $ by ! (exits r u e)
+          move ! (7 ∷ 8 ∷ []) $ free1 ! $ move ! (5 ∷ 6 ∷ []) $ free1 ! $ move ! (3 ∷ 4 ∷ []) $ free1 ! $ free0 ! $ by ! (exits y u e)
 
       -- after the loop: the column
-      leaves : (t : LoopTurn) → m ≤ t .count → Sq W (At′ t) (runs C Λ En rest (atRet En Post))
-      leaves t l =
-          assigns ! (of-opd ! (load ! (from ! (stop !)) (look ! 17 refl))) (from ! (stop !)) (init ! 3 refl (t .typed)) $
+      leaves : (turn : LoopTurn) → n ≤ turn .count → Sq W (At′ turn) (runs C Λ En rest (atRet En Post))
+      leaves turn l =
+          assigns ! (of-opd ! (load ! (from ! (stop !)) (look ! 17 refl))) (from ! (stop !)) (init ! 3 refl (turn .typed)) $
           move ! (1 ∷ 0 ∷ []) $
-          calls-reader 𝓤 (λ _. S.the-row) (λ _. emp 𝓤) (λ _ d r. r ≡ At (d .column))
-          H A W κ q (here (t .column)) (t .value) ! fm known-reached (id⊢ 𝓤 _)
-          (and-then ! (load ! (from ! (stop !)) (look ! 2 refl)) (no-more !)) (λ u r e is.
-          land ! (from ! (stop !)) (init ! 25 refl (typed-answer r u is)) $ returns ! (look ! 25 refl) $ forget ! 3 refl $
+          calls-reader 𝓤 (λ _. S.the-row) (λ _. emp 𝓤) (λ _ d y. y ≡ At (d .column))
+          H A W κ share (here (turn .column)) (turn .value) ! fm known-reached (id⊢ 𝓤 _)
+          (and-then ! (load ! (from ! (stop !)) (look ! 2 refl)) (no-more !)) (λ u y e is.
+          land ! (from ! (stop !)) (init ! 25 refl (typed-answer y u is)) $ returns ! (look ! 25 refl) $ forget ! 3 refl $
           forget ! 15 refl $ forget ! 17 refl $ forget ! 19 refl $ forget ! 21 refl $ forget ! 23 refl $ forget ! 25 refl $
-          freed r u (along-end (form (s .now)) (past (s .now)) at m (t .count) (t .column) (t .along) r l e))
+          freed y u (along-end (form (s .now)) (past (s .now)) at n (turn .count) (turn .column) (turn .along) y l e))
 
       -- a line's answer: past a good line the reader moves on, and a refusal is the answer
-      answered : (t : LoopTurn) → t .count < m → (r : Reached) → Is S.the-row r (val r ∷ [])
-          → r ≡ reachedOf (form (s .now) (t .column)) (past (s .now) (t .column))
-          → Sq W (Answered t r) (runs C Λ En (seq told onward) (anyQ (Turned t)))
+      answered : (turn : LoopTurn) → turn .count < n → (y : Reached) → Is S.the-row y (val y ∷ [])
+          → y ≡ reachedOf (form (s .now) (turn .column)) (past (s .now) (turn .column))
+          → Sq W (Answered turn y) (runs C Λ En (seq told onward) (anyQ (Turned turn)))
       unfolding afterTurn
-      answered t l (At c) is e =
+      answered turn l (At c) is e =
           first ! $ switches-on ! (load ! (from ! (vrt ! refl (fld ! refl (stop !)))) (look-tag ! 14 (whole !))) $
-          exec ! C Λ En takes (anyQ (afterSeq 𝓤 H (Wp 𝓤 H C Λ En onward (Turned t)) (Turned t))) $
+          exec ! C Λ En takes (anyQ (afterSeq 𝓤 H (Wp 𝓤 H C Λ En onward (Turned turn)) (Turned turn))) $
           assigns-last !
           (of-opd ! (load ! (from ! (vrt ! refl (fld ! refl (stop !)))) (look-in ! 14 (in-variant ! 0 0 refl refl (whole !)))))
           (from ! (stop !)) (init ! 12 refl (tt, record { fits = column-fits c is })) $
-          exec ! C Λ En onward (anyQ (Turned t)) $ drop ! $ forget ! 13 refl $
-          assigns ! (of-opd ! (load ! (from ! (stop !)) (look ! 17 refl))) (from ! (stop !)) (init ! 5 refl (t .typed)) $
-          calls-moved 𝓤 H A W κ q (here (t .column)) (t .value) c (column-fits c is) ! fm known-moved
+          exec ! C Λ En onward (anyQ (Turned turn)) $ drop ! $ forget ! 13 refl $
+          assigns ! (of-opd ! (load ! (from ! (stop !)) (look ! 17 refl))) (from ! (stop !)) (init ! 5 refl (turn .typed)) $
+          calls-moved 𝓤 H A W κ share (here (turn .column)) (turn .value) c (column-fits c is) ! fm known-moved
           (and-then ! (load ! (from ! (stop !)) (look ! 4 refl)) (and-then ! (load ! (from ! (stop !)) (look ! 10 refl)) (no-more !)))
           (λ u d there is′.
           let to-here : _≡_ {A = Reader} d (here c) = λ i. record { text = there .0 i; column = there .1 i } in
           let is″ = subst (λ (x : Reader). Is (B (κ, tt)) x (u ∷ [])) to-here is′ in
           rewrite ! 0 (λ (x : Reader). ‵ (B (κ, tt) .own x (u ∷ []))) to-here refl $
           land ! (from ! (stop !)) (store ! 17 refl (typed c u is″)) $ forget ! 5 refl $ forget ! 11 refl $
-          assigns-last ! (bin ! (load ! (from ! (stop !)) (look ! 15 refl)) (lit ! tt) (record { fits = count-fits t l }))
-          (from ! (stop !)) (store ! 15 refl (tt, record { fits = count-fits t l })) $
-          again ! Nearer At′ t (next u (typed c u is″)) (add-one-dec m (t .count) l))
+          assigns-last ! (bin ! (load ! (from ! (stop !)) (look ! 15 refl)) (lit ! tt) (record { fits = count-fits turn l }))
+          (from ! (stop !)) (store ! 15 refl (tt, record { fits = count-fits turn l })) $
+          again ! Nearer At′ turn (next u (typed c u is″)) (add-one-dec n (turn .count) l))
         where
           next : (u : Val) → Holds (hasTy reader u) × WT u → LoopTurn
           next u wt = record {
-            count = t .count + 1;
+            count = turn .count + 1;
             column = c;
             value = u;
             typed = wt;
-            along = along-more (form (s .now)) (past (s .now)) at m (t .count) (t .column) (t .along) c l e;
+            along = along-more (form (s .now)) (past (s .now)) at n (turn .count) (turn .column) (turn .along) c l e;
           }
-      answered t l (Refused x) is e =
+      answered turn l (Refused x) is e =
           first ! $ switches-on ! (load ! (from ! (vrt ! refl (fld ! refl (stop !)))) (look-tag ! 14 (whole !))) $
-          exec ! C Λ En refuse (anyQ (afterSeq 𝓤 H (Wp 𝓤 H C Λ En onward (Turned t)) (Turned t))) $
+          exec ! C Λ En refuse (anyQ (afterSeq 𝓤 H (Wp 𝓤 H C Λ En onward (Turned turn)) (Turned turn))) $
           assigns ! (of-opd ! (load ! (from ! (stop !)) (look ! 14 refl))) (from ! (stop !))
           (init ! 26 refl (typed-answer (Refused x) _ is)) $
           returns-within ! Post refl (look ! 26 refl) $ forget ! 14 refl $ forget ! 16 refl $ forget ! 18 refl $ forget ! 20 refl $
           forget ! 22 refl $ forget ! 24 refl $ forget ! 26 refl $ move ! (2 ∷ []) $ drop ! $
-          freed (Refused x) (val (Refused x)) (along-stop (form (s .now)) (past (s .now)) at m (t .count) (t .column) (t .along) x l e)
+          freed (Refused x) (val (Refused x)) (along-stop (form (s .now)) (past (s .now)) at n (turn .count) (turn .column) (turn .along) x l e)
 
       -- a turn: the test, and a line; of what the reader owns one copy goes to the call
-      turns : (t : LoopTurn) → Sq W (At′ t) (runs C Λ En (turn k) (anyQ (Turned t)))
+      turns : (turn′ : LoopTurn) → Sq W (At′ turn′) (runs C Λ En (turn k) (anyQ (Turned turn′)))
       unfolding afterTurn
-      turns t =
+      turns turn′ =
           assigns ! (bin ! (load ! (from ! (stop !)) (look ! 15 refl)) (load ! (from ! (stop !)) (look ! 19 refl)) tt)
           (from ! (stop !)) (init ! 9 refl (tt, tt)) $
           first ! $ branches ! (load ! (from ! (stop !)) (look ! 9 refl))
-          (λ less. skips ! $ exec ! C Λ En (inside k) (anyQ (Turned t)) $ forget ! 9 refl $
-          assigns ! (of-opd ! (load ! (from ! (stop !)) (look ! 17 refl))) (from ! (stop !)) (init ! 7 refl (t .typed)) $
-          use1 W (‵ (Read (t .column) (t .value)) ⊛ ‵ (Read (t .column) (t .value)))
+          (λ less. skips ! $ exec ! C Λ En (inside k) (anyQ (Turned turn′)) $ forget ! 9 refl $
+          assigns ! (of-opd ! (load ! (from ! (stop !)) (look ! 17 refl))) (from ! (stop !)) (init ! 7 refl (turn′ .typed)) $
+          use1 W (‵ (Read (turn′ .column) (turn′ .value)) ⊛ ‵ (Read (turn′ .column) (turn′ .value)))
           (LL.copy (T.the-type (namedLft 1 0 tt (κ, tt))) (T′.the-copy (namedLft 1 0 tt (κ, tt))) 𝓤 H A W .twice
-          (here (t .column)) (t .value ∷ [])) $ split ! $ move ! (2 ∷ 0 ∷ []) $
+          (here (turn′ .column)) (turn′ .value ∷ [])) $ split ! $ move ! (2 ∷ 0 ∷ []) $
           calls-reader 𝓤 (λ _. S.the-row) (Low 𝓤 most)
-          (λ _ d r. r ≡ reachedOf (form (d .text .now) (d .column)) (past (d .text .now) (d .column)))
-          H A W κ q (here (t .column)) (t .value) ! fm known-line (asked t (ltb→lt (t .count) m less))
-          (and-then ! (load ! (from ! (stop !)) (look ! 7 refl)) (no-more !)) (λ u r e is.
-          land ! (from ! (stop !)) (init ! 14 refl (typed-answer r u is)) $ forget ! 8 refl $
-          rewrite ! 0 (λ (x : Val). ‵ (S.the-row .own r (x ∷ []))) (tells r u is) refl $
-          rewrite ! 14 (λ (x : Val). ‵ (fat fullShare answer l₆ 0 x)) (tells r u is) refl $
-          answered t (ltb→lt (t .count) m less) r (subst (λ (x : Val). Is S.the-row r (x ∷ [])) (tells r u is) is) e))
-          (λ over. jumps ! $ exec ! C Λ En rest (atRet En Post) $ forget ! 9 refl $ leaves t (nltb→le (t .count) m over))
+          (λ _ d y. y ≡ reachedOf (form (d .text .now) (d .column)) (past (d .text .now) (d .column)))
+          H A W κ share (here (turn′ .column)) (turn′ .value) ! fm known-line (asked turn′ (ltb→lt (turn′ .count) n less))
+          (and-then ! (load ! (from ! (stop !)) (look ! 7 refl)) (no-more !)) (λ u y e is.
+          land ! (from ! (stop !)) (init ! 14 refl (typed-answer y u is)) $ forget ! 8 refl $
+          rewrite ! 0 (λ (x : Val). ‵ (S.the-row .own y (x ∷ []))) (tells y u is) refl $
+          rewrite ! 14 (λ (x : Val). ‵ (fat fullShare answer k₆ 0 x)) (tells y u is) refl $
+          answered turn′ (ltb→lt (turn′ .count) n less) y (subst (λ (x : Val). Is S.the-row y (x ∷ [])) (tells y u is) is) e))
+          (λ over. jumps ! $ exec ! C Λ En rest (atRet En Post) $ forget ! 9 refl $ leaves turn′ (nltb→le (turn′ .count) n over))
 
       -- All that follows the call of `begin`, with the reader that it returned in _4.
       pub along-lines : (u : Val) → Holds (hasTy reader u) × WT u
-          → Sq W (‵ (Read at u) ∷ Tok ∷ ‵ Own ∷ Filled (‵ (froom answer l₆ 0)) (‵ (froom word l₅ 0)) u)
+          → Sq W (‵ (Read at u) ∷ Tok ∷ ‵ Own ∷ Filled (‵ (froom answer k₆ 0)) (‵ (froom word k₅ 0)) u)
           (runs C Λ En (begun k) (atRet En Post))
       along-lines u wt =
           assigns ! (of-opd ! (lit ! tt)) (from ! (stop !)) (init ! 15 refl (tt, record { fits = lit< tt })) $
           first ! $ blocks ! $ loops ! 𝓣 Nearer Nearer-wf At′ turns
-          (record { count = 0; column = at; value = u; typed = wt; along = along-start (form (s .now)) (past (s .now)) at m })
+          (record { count = 0; column = at; value = u; typed = wt; along = along-start (form (s .now)) (past (s .now)) at n })

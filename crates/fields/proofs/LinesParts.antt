@@ -95,12 +95,12 @@ lines k = record {
 }
 
 -- Where a turn begins: the count, the reader's column and machine value, and how far the reader has come.
-pub record Turn (form : ℕ → Verdict) (past : ℕ → ℕ) (at m : ℕ) : Type 0 where
+pub record Turn (form : ℕ → Verdict) (past : ℕ → ℕ) (at k : ℕ) : Type 0 where
   pub count : ℕ
   pub column : ℕ
   pub value : Val
   pub typed : Holds (hasTy reader value) × WT value
-  pub along : Along form past at m count column
+  pub along : Along form past at k count column
 
 module _ {M : Type 1} (𝓤 : URA M) where
   -- The contracts of the functions that every kind of line shares.
@@ -112,7 +112,7 @@ module _ {M : Type 1} (𝓤 : URA M) where
 
   -- What a line's function asks of a reader, and its contract.
   abbrev pub Low : ℕ → Reader → SProp 𝓤
-  Low most d = fact 𝓤 (d .column ≤ most)
+  Low most reader = fact 𝓤 (reader .column ≤ most)
 
   abbrev pub Line : (List ℕ → ℕ → Verdict) → (List ℕ → ℕ → ℕ) → ℕ → (H : Heap 𝓤) → Atoms 𝓤 → Contract 𝓤
   Line form past most =

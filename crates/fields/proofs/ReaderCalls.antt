@@ -49,34 +49,34 @@ module _ {M : Type 1} (𝓤 : URA M) (R : Lfts 1 → RattleType) (P : Reader →
   abbrev pub onReader : (H : Heap 𝓤) → Atoms 𝓤 → Contract 𝓤
   onReader = stated 𝓤 readerParams readerKept R (λ κs a. P (a .0)) (λ κs a. Q κs (a .0))
 
-  module _ (H : Heap 𝓤) (A : Atoms 𝓤) (W : Given 𝓤 H A) (κ : Lft) (q : Share) (d : Reader) (u : Val) where
+  module _ (H : Heap 𝓤) (A : Atoms 𝓤) (W : Given 𝓤 H A) (κ : Lft) (share : Share) (reader : Reader) (u : Val) where
     abbrev Read : Fml
-    Read = B (κ, tt) .own d (u ∷ [])
+    Read = B (κ, tt) .own reader (u ∷ [])
 
     abbrev Tok : Item 𝓤
-    Tok = ‵ (flft κ q) ⊛ ‵ ftrue
+    Tok = ‵ (flft κ share) ⊛ ‵ ftrue
 
     -- what the call binds outside the triple
     abbrev pub at-reader : onReader H A .Ghost
-    at-reader = to 𝓤 readerParams readerKept R (λ κs a. P (a .0)) (λ κs a. Q κs (a .0)) H A W κ q (d, tt) (u ∷ [], tt)
+    at-reader = to 𝓤 readerParams readerKept R (λ κs a. P (a .0)) (λ κs a. Q κs (a .0)) H A W κ share (reader, tt) (u ∷ [], tt)
 
     -- the token and what the reader owns are what is asked, beside P
-    handed : ent 𝓤 (emp 𝓤) (P d) → ent 𝓤 (⋆ 𝓤 H A (Tok ∷ ‵ Read ∷ [])) (onReader H A .pre at-reader)
+    handed : ent 𝓤 (emp 𝓤) (P reader) → ent 𝓤 (⋆ 𝓤 H A (Tok ∷ ‵ Read ∷ [])) (onReader H A .pre at-reader)
     handed asked =
         qed W (Tok ∷ ‵ Read ∷ []) ∵ nothing ! $ move ! (2 ∷ 0 ∷ []) $ fjoin ! $ move ! (1 ∷ 0 ∷ []) $ join ! $ frame ! $
-        use0 W (raw (P d)) asked $ done !
+        use0 W (raw (P reader)) asked $ done !
 
     -- A call with the token and the reader's machine value, which is given up.
     pub calls-reader : {K : Type 0} {Γ : List (Item 𝓤)} {E : Env 𝓤 H} {C : Calls 𝓤 H} {Λ : Loops 𝓤 H} {p : Post 𝓤 H} {f : Name}
         {xs : List Operand} {dest : Place} {rest : Body} → K → FmC 𝓤 H (W .laws) C → Triple 𝓤 (C f) (onReader H A)
-        → ent 𝓤 (emp 𝓤) (P d)
+        → ent 𝓤 (emp 𝓤) (P reader)
         → Opds K W (raw (onReader H A .pre at-reader) ∷ Γ) E xs (u ∷ [])
-        → ((w : Val) (r : R (κ, tt) .Denot) → Q (κ, tt) d r → Is (R (κ, tt)) r (w ∷ [])
+        → ((w : Val) (r : R (κ, tt) .Denot) → Q (κ, tt) reader r → Is (R (κ, tt)) r (w ∷ [])
         → Seq K W (‵ (R (κ, tt) .own r (w ∷ [])) ∷ Tok ∷ Γ) (lands C Λ E dest w rest p))
         → Seq K W (Tok ∷ ‵ Read ∷ Γ) (runs C Λ E (seq (call f xs dest) rest) p)
     calls-reader t fm known asked os k =
         use2 W (raw (onReader H A .pre at-reader)) (handed asked) $
-        calls-stated 𝓤 readerParams readerKept R (λ κs a. P (a .0)) (λ κs a. Q κs (a .0)) H A W κ q (d, tt) (u ∷ [], tt)
+        calls-stated 𝓤 readerParams readerKept R (λ κs a. P (a .0)) (λ κs a. Q κs (a .0)) H A W κ share (reader, tt) (u ∷ [], tt)
         t fm known os k
 
 -- The parameters of a function on a reader and a number.
@@ -91,17 +91,17 @@ module _ {M : Type 1} (𝓤 : URA M) where
   abbrev pub ReaderMoved : (H : Heap 𝓤) → Atoms 𝓤 → Contract 𝓤
   ReaderMoved = stated 𝓤 movedParams movedKept B (λ _ _. emp 𝓤) (λ _ a r. (r .text ≡ a .0 .text) × (r .column ≡ a .1 .0))
 
-  module _ (H : Heap 𝓤) (A : Atoms 𝓤) (W : Given 𝓤 H A) (κ : Lft) (q : Share) (d : Reader) (u : Val) (n : ℕ) (fits : n < 2 ^ 64) where
+  module _ (H : Heap 𝓤) (A : Atoms 𝓤) (W : Given 𝓤 H A) (κ : Lft) (share : Share) (reader : Reader) (u : Val) (n : ℕ) (fits : n < 2 ^ 64) where
     -- what the call binds outside the triple
     abbrev pub at-column : ReaderMoved H A .Ghost
     at-column =
-        to 𝓤 movedParams movedKept B (λ _ _. emp 𝓤) (λ _ a r. (r .text ≡ a .0 .text) × (r .column ≡ a .1 .0)) H A W κ q
-        (d, (n, tt)) (u ∷ [], (vint w64 n ∷ [], tt))
+        to 𝓤 movedParams movedKept B (λ _ _. emp 𝓤) (λ _ a r. (r .text ≡ a .0 .text) × (r .column ≡ a .1 .0)) H A W κ share
+        (reader, (n, tt)) (u ∷ [], (vint w64 n ∷ [], tt))
 
     -- the token, what the reader owns and the number's facts are what is asked
-    both : ent 𝓤 (⋆ 𝓤 H A ((‵ (flft κ q) ⊛ ‵ ftrue) ∷ ‵ (B (κ, tt) .own d (u ∷ [])) ∷ [])) (ReaderMoved H A .pre at-column)
+    both : ent 𝓤 (⋆ 𝓤 H A ((‵ (flft κ share) ⊛ ‵ ftrue) ∷ ‵ (B (κ, tt) .own reader (u ∷ [])) ∷ [])) (ReaderMoved H A .pre at-column)
     both =
-        qed W ((‵ (flft κ q) ⊛ ‵ ftrue) ∷ ‵ (B (κ, tt) .own d (u ∷ [])) ∷ []) ∵ nothing ! $
+        qed W ((‵ (flft κ share) ⊛ ‵ ftrue) ∷ ‵ (B (κ, tt) .own reader (u ∷ [])) ∷ []) ∵ nothing ! $
         owned ! usize (Is usize) (uint-makes 𝓤 H A W w64) n _ (refl, fits) $ fjoin ! $ move ! (2 ∷ 0 ∷ []) $ fjoin ! $
         move ! (1 ∷ 0 ∷ []) $ join ! $ frame ! $ use0 W (raw (emp 𝓤)) (id⊢ 𝓤 _) $ done !
 
@@ -109,10 +109,10 @@ module _ {M : Type 1} (𝓤 : URA M) where
     pub calls-moved : {K : Type 0} {Γ : List (Item 𝓤)} {E : Env 𝓤 H} {C : Calls 𝓤 H} {Λ : Loops 𝓤 H} {p : Post 𝓤 H} {f : Name}
         {xs : List Operand} {dest : Place} {rest : Body} → K → FmC 𝓤 H (W .laws) C → Triple 𝓤 (C f) (ReaderMoved H A)
         → Opds K W (raw (ReaderMoved H A .pre at-column) ∷ Γ) E xs (u ∷ vint w64 n ∷ [])
-        → ((w : Val) (r : Reader) → (r .text ≡ d .text) × (r .column ≡ n) → Is (B (κ, tt)) r (w ∷ [])
-        → Seq K W (‵ (B (κ, tt) .own r (w ∷ [])) ∷ (‵ (flft κ q) ⊛ ‵ ftrue) ∷ Γ) (lands C Λ E dest w rest p))
-        → Seq K W ((‵ (flft κ q) ⊛ ‵ ftrue) ∷ ‵ (B (κ, tt) .own d (u ∷ [])) ∷ Γ) (runs C Λ E (seq (call f xs dest) rest) p)
+        → ((w : Val) (reader′ : Reader) → (reader′ .text ≡ reader .text) × (reader′ .column ≡ n) → Is (B (κ, tt)) reader′ (w ∷ [])
+        → Seq K W (‵ (B (κ, tt) .own reader′ (w ∷ [])) ∷ (‵ (flft κ share) ⊛ ‵ ftrue) ∷ Γ) (lands C Λ E dest w rest p))
+        → Seq K W ((‵ (flft κ share) ⊛ ‵ ftrue) ∷ ‵ (B (κ, tt) .own reader (u ∷ [])) ∷ Γ) (runs C Λ E (seq (call f xs dest) rest) p)
     calls-moved t fm known os k =
         use2 W (raw (ReaderMoved H A .pre at-column)) both $
-        calls-stated 𝓤 movedParams movedKept B (λ _ _. emp 𝓤) (λ _ a r. (r .text ≡ a .0 .text) × (r .column ≡ a .1 .0)) H A W κ q
-        (d, (n, tt)) (u ∷ [], (vint w64 n ∷ [], tt)) t fm known os k
+        calls-stated 𝓤 movedParams movedKept B (λ _ _. emp 𝓤) (λ _ a reader′. (reader′ .text ≡ a .0 .text) × (reader′ .column ≡ a .1 .0)) H A W κ share
+        (reader, (n, tt)) (u ∷ [], (vint w64 n ∷ [], tt)) t fm known os k

@@ -12,14 +12,14 @@ use Rattle.fields.specs.Field.{column, fieldOf}
 pub room-of-five : (m : List ℕ) (at i : ℕ) → at + 5 ≤ length m → i < 5 → at + i < length m
 room-of-five m at i l h = omega arith
 
-pub room-kept : (m : List ℕ) (n i v : ℕ) → n ≤ length m → n ≤ length (set m i v)
-room-kept m n i v l = rw length-set l
+pub room-kept : (m : List ℕ) (n i x : ℕ) → n ≤ length m → n ≤ length (set m i x)
+room-kept m n i x l = rw length-set l
 
 pub ruleset stores = (room-of-five, room-kept, lit<)
 
 -- Five columns of a number are its field.
-pub put-columns : (m : List ℕ) (at v : ℕ) {a b c d e : ℕ} → a ≡ column 10000 v → b ≡ column 1000 v → c ≡ column 100 v → d ≡ column 10 v
-    → e ≡ 48 + v % 10 → at + 5 ≤ length m
-    → set (set (set (set (set m at a) (at + 1) b) (at + 2) c) (at + 3) d) (at + 4) e ≡ put m at (fieldOf v)
+pub put-columns : (m : List ℕ) (at x : ℕ) {x₁ x₂ x₃ x₄ x₅ : ℕ} → x₁ ≡ column 10000 x → x₂ ≡ column 1000 x → x₃ ≡ column 100 x → x₄ ≡ column 10 x
+    → x₅ ≡ 48 + x % 10 → at + 5 ≤ length m
+    → set (set (set (set (set m at x₁) (at + 1) x₂) (at + 2) x₃) (at + 3) x₄) (at + 4) x₅ ≡ put m at (fieldOf x)
 unfolding fieldOf
-put-columns m at v a b c d e l = rw (a, b, c, d, e) (put-five m at _ _ _ _ _ l)
+put-columns m at x x₁ x₂ x₃ x₄ x₅ l = rw (x₁, x₂, x₃, x₄, x₅) (put-five m at _ _ _ _ _ l)

@@ -82,31 +82,31 @@ module _ {M : Type 1} (𝓤 : URA M) (H : Heap 𝓤) (A : Atoms 𝓤) (W : Given
   clauses = stating 𝓤 readerParams readerKept (λ _. S.the-row)
       (λ κs a. P (a .0 .text) (a .0 .column)) (λ κs a. Q (a .0 .text) (a .0 .column))
 
-  module _ (κ : Lft) (q : Share) (d : Reader) where
+  module _ (κ : Lft) (share : Share) (reader : Reader) where
     abbrev s : RefT (List ℕ)
-    s = d .text
+    s = reader .text
 
     abbrev n : ℕ
-    n = d .column
+    n = reader .column
 
     -- the machine values of the reader and of its text
     abbrev mach : Val
-    mach = T′.lowered d
+    mach = T′.lowered reader
 
     abbrev v : Val
     v = sliceVal (s .ptr) (length (s .now))
 
     abbrev Own : Fml
-    Own = B (κ, tt) .own d (mach ∷ [])
+    Own = B (κ, tt) .own reader (mach ∷ [])
 
     abbrev Tok : Item 𝓤
-    Tok = ‵ (flft κ q) ⊛ ‵ ftrue
+    Tok = ‵ (flft κ share) ⊛ ‵ ftrue
 
     abbrev Entry : SProp 𝓤
-    Entry = sep 𝓤 (onEntry 𝓤 H A (Thin .signature) (κ, tt) (q, tt) (d, tt) (mach ∷ [], tt)) (P s n)
+    Entry = sep 𝓤 (onEntry 𝓤 H A (Thin .signature) (κ, tt) (share, tt) (reader, tt) (mach ∷ [], tt)) (P s n)
 
     abbrev Post : Val → SProp 𝓤
-    Post = walkOf 𝓤 H A Thin stayed clauses .post (((κ, tt), (q, tt), tt, (d, tt), (mach ∷ [], tt)), tt)
+    Post = walkOf 𝓤 H A Thin stayed clauses .post (((κ, tt), (share, tt), tt, (reader, tt), (mach ∷ [], tt)), tt)
 
     -- the struct's type and laws, and its fields' values
     abbrev D : Declared
@@ -120,26 +120,26 @@ module _ {M : Type 1} (𝓤 : URA M) (H : Heap 𝓤) (A : Atoms 𝓤) (W : Given
 
     abbrev to-callee : Callee .Ghost
     to-callee =
-        to 𝓤 sliceParams sliceKept (λ _. S.the-row) (λ κs a. P (a .0) (a .1 .0)) (λ κs a. Q (a .0) (a .1 .0)) H A W κ q
+        to 𝓤 sliceParams sliceKept (λ _. S.the-row) (λ κs a. P (a .0) (a .1 .0)) (λ κs a. Q (a .0) (a .1 .0)) H A W κ share
         (s, (n, tt)) (v ∷ [], (vint w64 n ∷ [], tt))
 
     -- what the struct owns gives what the callee asks, and is kept
     apart : n < 2 ^ 64 → ent 𝓤 Entry (sep 𝓤 (Callee .pre to-callee) (sem 𝓤 H A Own))
     apart fits =
-        qed W ((Tok ⊛ ‵ (owns (B (κ, tt) ∷ []) (d, tt) (mach ∷ [], tt))) ∷ raw (P s n) ∷ []) ∵
+        qed W ((Tok ⊛ ‵ (owns (B (κ, tt) ∷ []) (reader, tt) (mach ∷ [], tt))) ∷ raw (P s n) ∷ []) ∵
         split ! $ move ! (1 ∷ []) $ fsplit ! $ move ! (1 ∷ []) $ drop ! $
-        use1 W (‵ Own ⊛ ‵ Own) (LL.copy D (T′.the-copy (namedLft 1 0 tt (κ, tt))) 𝓤 H A W .twice d (mach ∷ [])) $ split ! $
+        use1 W (‵ Own ⊛ ‵ Own) (LL.copy D (T′.the-copy (namedLft 1 0 tt (κ, tt))) 𝓤 H A W .twice reader (mach ∷ [])) $ split ! $
         use1 W (given (mach ∷ [] ≡ mach ∷ []) (‵ (all-own (D .parts) L vd))) (own-open 𝓤 H A W D L vd mach) $ learn ! (λ _.
         use1 W (‵ (ownAt (D .parts) L 0 s) ⊛ ‵ (rest (D .parts) L 0 vd)) (own-out 𝓤 H A W (D .parts) L 0 vd) $ split ! $
         -- [what the text owns; what the column owns; what the struct owns; the token; what is asked]
         move ! (1 ∷ []) $ drop ! $ nothing ! $ owned ! usize (Is usize) (uint-makes 𝓤 H A W w64) n _ (refl, fits) $ fjoin ! $
         move ! (1 ∷ 0 ∷ []) $ fjoin ! $ move ! (2 ∷ 0 ∷ []) $ join ! $ move ! (0 ∷ 2 ∷ []) $ join ! $ frame ! $ done !)
 
-    exits : (r : Reached) (u : Val) → Q s n r → ent 𝓤 (⋆ 𝓤 H A (‵ (S.the-row .own r (u ∷ [])) ∷ Tok ∷ ‵ Own ∷ [])) (Post u)
-    exits r u e =
-        qed W (‵ (S.the-row .own r (u ∷ [])) ∷ Tok ∷ ‵ Own ∷ []) ∵
+    exits : (x : Reached) (u : Val) → Q s n x → ent 𝓤 (⋆ 𝓤 H A (‵ (S.the-row .own x (u ∷ [])) ∷ Tok ∷ ‵ Own ∷ [])) (Post u)
+    exits x u e =
+        qed W (‵ (S.the-row .own x (u ∷ [])) ∷ Tok ∷ ‵ Own ∷ []) ∵
         suffices ! _
-        (ends-at 𝓤 H A Thin stayed clauses W (((κ, tt), (q, tt), tt, (d, tt), (mach ∷ [], tt)), tt) u r (tt, tt) (tt, tt)) $ says ! e $
+        (ends-at 𝓤 H A Thin stayed clauses W (((κ, tt), (share, tt), tt, (reader, tt), (mach ∷ [], tt)), tt) u x (tt, tt) (tt, tt)) $ says ! e $
         move ! (1 ∷ []) $ frame ! $ nothing ! $ move ! (2 ∷ 0 ∷ []) $ fjoin ! $ frame ! $ done !
 
     module _ (C : Calls 𝓤 H) (Λ : Loops 𝓤 H) (fm : FmC 𝓤 H (W .laws) C) (k : Name) (known : Triple 𝓤 (C k) Callee) where
@@ -152,7 +152,7 @@ module _ {M : Type 1} (𝓤 : URA M) (H : Heap 𝓤) (A : Atoms 𝓤) (W : Given
           assigns ! (of-opd ! (load ! (from ! (fld ! refl (stop !))) (look-in ! 4 (sub ! 1 refl (whole !)))))
           (from ! (stop !)) (init ! 0 refl (tt, wt .1 .1 .0)) $
           move ! (8 ∷ []) $ use1 W (raw (Callee .pre to-callee) ⊛ ‵ Own) (apart (wt .1 .1 .0 .fits)) $ split ! $
-          calls-stated 𝓤 sliceParams sliceKept (λ _. S.the-row) (λ κs a. P (a .0) (a .1 .0)) (λ κs a. Q (a .0) (a .1 .0)) H A W κ q
+          calls-stated 𝓤 sliceParams sliceKept (λ _. S.the-row) (λ κs a. P (a .0) (a .1 .0)) (λ κs a. Q (a .0) (a .1 .0)) H A W κ share
           (s, (n, tt)) (v ∷ [], (vint w64 n ∷ [], tt)) ! fm known
           (and-then ! (load ! (from ! (stop !)) (look ! 4 refl)) (and-then ! (load ! (from ! (stop !)) (look ! 2 refl)) (no-more !)))
           (λ u r e is.

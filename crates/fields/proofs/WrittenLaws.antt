@@ -11,93 +11,94 @@ use Rattle.laws.proofs.Tests.{eq-or-ne}
 use Rattle.fields.specs.Field.{areDigits, isWritten}
 
 -- A byte before others, as the code tests it.
-module _ (b : ℕ) where
-  pub one-digit : {r : Bool} → r ≡ within 48 57 b → r ≡ areDigits (b ∷ [])
+module _ (byte : ℕ) where
+  pub one-digit : {x : Bool} → x ≡ within 48 57 byte → x ≡ areDigits (byte ∷ [])
   unfolding areDigits
-  one-digit e = rw (and-true (within 48 57 b)) e
+  one-digit e = rw (and-true (within 48 57 byte)) e
 
-  pub digits-stop : (bs : List ℕ) {t : Bool} → t ≡ within 48 57 b → not t ≡ true → false ≡ areDigits (b ∷ bs)
+  pub digits-stop : (xs : List ℕ) {x : Bool} → x ≡ within 48 57 byte → not x ≡ true → false ≡ areDigits (byte ∷ xs)
   unfolding areDigits
-  digits-stop bs {t} e n = rw (← e, not-true t n) refl
+  digits-stop xs {x} e n = rw (← e, not-true x n) refl
 
-  pub digits-on : (bs : List ℕ) {t r : Bool} → t ≡ within 48 57 b → not t ≡ false → r ≡ areDigits bs → r ≡ areDigits (b ∷ bs)
+  pub digits-on : (xs : List ℕ) {x y : Bool} → x ≡ within 48 57 byte → not x ≡ false → y ≡ areDigits xs → y ≡ areDigits (byte ∷ xs)
   unfolding areDigits
-  digits-on bs {t} e n h = rw (← e, not-false t n) h
+  digits-on xs {x} e n h = rw (← e, not-false x n) h
 
-  pub written-one : {r : Bool} → r ≡ within 48 57 b → r ≡ isWritten (b ∷ [])
+  pub written-one : {x : Bool} → x ≡ within 48 57 byte → x ≡ isWritten (byte ∷ [])
   unfolding isWritten
   written-one e = e
 
-  pub written-space : (c : ℕ) (bs : List ℕ) {r : Bool} → b ≡ 32 → r ≡ isWritten (c ∷ bs) → r ≡ isWritten (b ∷ c ∷ bs)
+  pub written-space : (byte′ : ℕ) (xs : List ℕ) {x : Bool} → byte ≡ 32 → x ≡ isWritten (byte′ ∷ xs) → x ≡ isWritten (byte ∷ byte′ ∷ xs)
   unfolding isWritten
-  written-space c bs s h = rw (eq-eqb b 32 s) h
+  written-space byte′ xs s h = rw (eq-eqb byte 32 s) h
 
-  pub written-stop : (c : ℕ) (bs : List ℕ) {t : Bool} → (b ≡ 32 → ⊥) → t ≡ within 49 57 b → not t ≡ true
-      → false ≡ isWritten (b ∷ c ∷ bs)
+  pub written-stop : (byte′ : ℕ) (xs : List ℕ) {x : Bool} → (byte ≡ 32 → ⊥) → x ≡ within 49 57 byte → not x ≡ true
+      → false ≡ isWritten (byte ∷ byte′ ∷ xs)
   unfolding isWritten
-  written-stop c bs {t} s e n = rw (ne-eqb b 32 s, ← e, not-true t n) refl
+  written-stop byte′ xs {x} s e n = rw (ne-eqb byte 32 s, ← e, not-true x n) refl
 
-  pub written-on : (c : ℕ) (bs : List ℕ) {t r : Bool} → (b ≡ 32 → ⊥) → t ≡ within 49 57 b → not t ≡ false → r ≡ areDigits (c ∷ bs)
-      → r ≡ isWritten (b ∷ c ∷ bs)
+  pub written-on : (byte′ : ℕ) (xs : List ℕ) {x y : Bool} → (byte ≡ 32 → ⊥) → x ≡ within 49 57 byte → not x ≡ false → y ≡ areDigits (byte′ ∷ xs)
+      → y ≡ isWritten (byte ∷ byte′ ∷ xs)
   unfolding isWritten
-  written-on c bs {t} s e n h = rw (ne-eqb b 32 s, ← e, not-false t n) h
+  written-on byte′ xs {x} s e n h = rw (ne-eqb byte 32 s, ← e, not-false x n) h
 
 pub ruleset written = (one-digit, digits-stop, digits-on, written-one, written-space, written-stop, written-on)
 
 -- What the tests mean: a number within two bounds, digits, a space or the first digit.
-pub and-so : {s t : Bool} → s ≡ true → t ≡ true → (s && t) ≡ true
-and-so {s} {t} h k = and-eq-true-iff s t .1 (h, k)
+pub and-so : {x y : Bool} → x ≡ true → y ≡ true → (x && y) ≡ true
+and-so {x} {y} h k = and-eq-true-iff x y .1 (h, k)
 
-pub within-so : {a b v : ℕ} → a ≤ v → v ≤ b → within a b v ≡ true
+pub within-so : {a b x : ℕ} → a ≤ x → x ≤ b → within a b x ≡ true
 unfolding within
-within-so {a} {b} {v} l g = rw (le-leb a v l, le-leb v b g)
+within-so {a} {b} {x} l g = rw (le-leb a x l, le-leb x b g)
 
-pub within-tells : {a b v : ℕ} → within a b v ≡ true → (a ≤ v) × (v ≤ b)
+pub within-tells : {a b x : ℕ} → within a b x ≡ true → (a ≤ x) × (x ≤ b)
 unfolding within
 within-tells h = let s = and-eq-true-iff _ _ .0 h in (leb-true _ _ (s .0), leb-true _ _ (s .1))
 
-pub digit-so : {b : ℕ} (bs : List ℕ) → (48 ≤ b) × (b ≤ 57) → areDigits bs ≡ true → areDigits (b ∷ bs) ≡ true
+pub digit-so : {byte : ℕ} (xs : List ℕ) → (48 ≤ byte) × (byte ≤ 57) → areDigits xs ≡ true → areDigits (byte ∷ xs) ≡ true
 unfolding areDigits
-digit-so bs l h = rw (within-so (l .0) (l .1)) h
+digit-so xs l h = rw (within-so (l .0) (l .1)) h
 
 pub none-so : areDigits [] ≡ true
 unfolding areDigits
 none-so = refl
 
-pub digit-tells : (b : ℕ) (bs : List ℕ) → areDigits (b ∷ bs) ≡ true → ((48 ≤ b) × (b ≤ 57)) × (areDigits bs ≡ true)
+pub digit-tells : (byte : ℕ) (xs : List ℕ) → areDigits (byte ∷ xs) ≡ true → ((48 ≤ byte) × (byte ≤ 57)) × (areDigits xs ≡ true)
 unfolding areDigits
-digit-tells b bs h = let s = and-eq-true-iff _ _ .0 h in (within-tells (s .0), s .1)
+digit-tells byte xs h = let s = and-eq-true-iff _ _ .0 h in (within-tells (s .0), s .1)
 
 -- A byte before others: a space, or the first digit.
-after-space : {b : ℕ} (c : ℕ) (bs : List ℕ) → b ≡ 32 → isWritten (b ∷ c ∷ bs) ≡ isWritten (c ∷ bs)
+after-space : {byte : ℕ} (byte′ : ℕ) (xs : List ℕ) → byte ≡ 32 → isWritten (byte ∷ byte′ ∷ xs) ≡ isWritten (byte′ ∷ xs)
 unfolding isWritten
-after-space {b} c bs s = rw (eq-eqb b 32 s)
+after-space {byte} byte′ xs s = rw (eq-eqb byte 32 s)
 
-no-space : {b : ℕ} (c : ℕ) (bs : List ℕ) → (b ≡ 32 → ⊥) → isWritten (b ∷ c ∷ bs) ≡ (within 49 57 b && areDigits (c ∷ bs))
+no-space : {byte : ℕ} (byte′ : ℕ) (xs : List ℕ) → (byte ≡ 32 → ⊥) → isWritten (byte ∷ byte′ ∷ xs) ≡ (within 49 57 byte && areDigits (byte′ ∷ xs))
 unfolding isWritten
-no-space {b} c bs n = rw (ne-eqb b 32 n)
+no-space {byte} byte′ xs n = rw (ne-eqb byte 32 n)
 
-pub space-so : {b : ℕ} (c : ℕ) (bs : List ℕ) → b ≡ 32 → isWritten (c ∷ bs) ≡ true → isWritten (b ∷ c ∷ bs) ≡ true
-space-so c bs s h = after-space c bs s ∙ h
+pub space-so : {byte : ℕ} (byte′ : ℕ) (xs : List ℕ) → byte ≡ 32 → isWritten (byte′ ∷ xs) ≡ true → isWritten (byte ∷ byte′ ∷ xs) ≡ true
+space-so byte′ xs s h = after-space byte′ xs s ∙ h
 
-pub first-so : {b : ℕ} (c : ℕ) (bs : List ℕ) → (49 ≤ b) × (b ≤ 57) → areDigits (c ∷ bs) ≡ true → isWritten (b ∷ c ∷ bs) ≡ true
-first-so c bs l h = no-space c bs (λ s. omega (arith, l .0, s)) ∙ and-so (within-so (l .0) (l .1)) h
+pub first-so : {byte : ℕ} (byte′ : ℕ) (xs : List ℕ) → (49 ≤ byte) × (byte ≤ 57) → areDigits (byte′ ∷ xs) ≡ true → isWritten (byte ∷ byte′ ∷ xs) ≡ true
+first-so byte′ xs l h = no-space byte′ xs (λ s. omega (arith, l .0, s)) ∙ and-so (within-so (l .0) (l .1)) h
 
-pub last-so : {b : ℕ} → (48 ≤ b) × (b ≤ 57) → isWritten (b ∷ []) ≡ true
+pub last-so : {byte : ℕ} → (48 ≤ byte) × (byte ≤ 57) → isWritten (byte ∷ []) ≡ true
 unfolding isWritten
 last-so l = within-so (l .0) (l .1)
 
-pub last-tells : {b : ℕ} → isWritten (b ∷ []) ≡ true → (48 ≤ b) × (b ≤ 57)
+pub last-tells : {byte : ℕ} → isWritten (byte ∷ []) ≡ true → (48 ≤ byte) × (byte ≤ 57)
 unfolding isWritten
 last-tells h = within-tells h
 
 -- What a right byte before others tells: it is a space and the others are right, or it is the first digit and the others are digits.
 abbrev pub WrittenForms : ℕ → ℕ → List ℕ → Type 0
-WrittenForms b c bs = ((b ≡ 32) × (isWritten (c ∷ bs) ≡ true)) ⊎ (((49 ≤ b) × (b ≤ 57)) × (areDigits (c ∷ bs) ≡ true))
+WrittenForms byte byte′ xs =
+    ((byte ≡ 32) × (isWritten (byte′ ∷ xs) ≡ true)) ⊎ (((49 ≤ byte) × (byte ≤ 57)) × (areDigits (byte′ ∷ xs) ≡ true))
 
-pub written-tells : (b c : ℕ) (bs : List ℕ) → isWritten (b ∷ c ∷ bs) ≡ true → WrittenForms b c bs
-written-tells b c bs h = go (eq-or-ne b 32)
+pub written-tells : (byte byte′ : ℕ) (xs : List ℕ) → isWritten (byte ∷ byte′ ∷ xs) ≡ true → WrittenForms byte byte′ xs
+written-tells byte byte′ xs h = go (eq-or-ne byte 32)
   where
-    go : (b ≡ 32) ⊎ (b ≡ 32 → ⊥) → WrittenForms b c bs
-    go (inl s) = inl (s, sym (after-space c bs s) ∙ h)
-    go (inr n) = let s = and-eq-true-iff _ _ .0 (sym (no-space c bs n) ∙ h) in inr (within-tells (s .0), s .1)
+    go : (byte ≡ 32) ⊎ (byte ≡ 32 → ⊥) → WrittenForms byte byte′ xs
+    go (inl s) = inl (s, sym (after-space byte′ xs s) ∙ h)
+    go (inr n) = let s = and-eq-true-iff _ _ .0 (sym (no-space byte′ xs n) ∙ h) in inr (within-tells (s .0), s .1)

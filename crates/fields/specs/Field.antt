@@ -6,17 +6,17 @@ use lib.ListN.{getD}
 use lib.Dec.{ltb, eqb}
 use Rattle.floor.specs.Checks.{within}
 
--- The column of the digit that counts p's: a space where the number v has no such digit.
+-- The column of the digit that counts p's: a space where the number x has no such digit.
 unfoldable pub column : ℕ → ℕ → ℕ
-column p v = cond (ltb v p) 32 (48 + v / p % 10)
+column p x = cond (ltb x p) 32 (48 + x / p % 10)
 
 -- The five columns of a number up to 99999; zero is `0`.
 unfoldable pub fieldOf : ℕ → List ℕ
-fieldOf v = column 10000 v ∷ column 1000 v ∷ column 100 v ∷ column 10 v ∷ (48 + v % 10) ∷ []
+fieldOf x = column 10000 x ∷ column 1000 x ∷ column 100 x ∷ column 10 x ∷ (48 + x % 10) ∷ []
 
 -- The number that five columns write: a space counts as 0, as a digit's value is its byte minus 48.
 unfoldable pub number : ℕ → ℕ → ℕ → ℕ → ℕ → ℕ
-number a b c d e = ((((a - 48) * 10 + (b - 48)) * 10 + (c - 48)) * 10 + (d - 48)) * 10 + (e - 48)
+number x₁ x₂ x₃ x₄ x₅ = ((((x₁ - 48) * 10 + (x₂ - 48)) * 10 + (x₃ - 48)) * 10 + (x₄ - 48)) * 10 + (x₅ - 48)
 
 -- The number at a column of the text.
 unfoldable pub numberAt : List ℕ → ℕ → ℕ
@@ -35,10 +35,10 @@ isField text at =
 -- Bytes that are all digits'.
 unfoldable pub areDigits : List ℕ → Bool
 areDigits [] = true
-areDigits (b ∷ bs) = within 48 57 b && areDigits bs
+areDigits (x ∷ xs) = within 48 57 x && areDigits xs
 
 -- Spaces, then digits, the first of them no 0 unless it is the last: what a field is, without its number.
 unfoldable pub isWritten : List ℕ → Bool
 isWritten [] = false
-isWritten (e ∷ []) = within 48 57 e
-isWritten (b ∷ c ∷ bs) = cond (eqb b 32) (isWritten (c ∷ bs)) (within 49 57 b && areDigits (c ∷ bs))
+isWritten (x ∷ []) = within 48 57 x
+isWritten (x ∷ y ∷ xs) = cond (eqb x 32) (isWritten (y ∷ xs)) (within 49 57 x && areDigits (y ∷ xs))

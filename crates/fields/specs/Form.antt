@@ -15,9 +15,9 @@ fieldForm text at = demand (leb (at + 5) (length text)) 1 (length text) then dem
 unfoldable pub newlineForm : List ℕ → ℕ → Verdict
 newlineForm text at = demand (ltb at (length text)) 1 (length text) then demand (eqb (getD text at 0) 10) 1 at
 
--- A line of m fields from a column on.
+-- A line of k fields from a column on.
 unfoldable pub lineForm : List ℕ → ℕ → ℕ → Verdict
-lineForm text at m = inTurn (λ i. fieldForm text (at + 5 * i)) m then newlineForm text (at + 5 * m)
+lineForm text at k = inTurn (λ i. fieldForm text (at + 5 * i)) k then newlineForm text (at + 5 * k)
 
 -- A field that counts 1 to 4; another number makes the field bad.
 unfoldable pub countForm : List ℕ → ℕ → Verdict

@@ -7,26 +7,26 @@ use crate::field;
 use crate::slot;
 use crate::slot::Reached;
 
-// A line of m fields from a column on.
-pub fn line_form(text: &[u8], at: usize, m: usize) -> Reached
-    requires { ⌜ (at ≤ 65000) × (m ≤ 8) ⌝ }
-    ensures { λ r. ⌜ r ≡ reachedOf (lineForm (now (text .entry)) at m) (at + 5 * m + 1) ⌝ }
+// A line of k fields from a column on.
+pub fn line_form(text: &[u8], at: usize, k: usize) -> Reached
+    requires { ⌜ (at ≤ 65000) × (k ≤ 8) ⌝ }
+    ensures { λ result. ⌜ result ≡ reachedOf (lineForm (now (text .entry)) at k) (at + 5 * k + 1) ⌝ }
 {
     let mut i: usize = 0;
-    while i < m {
+    while i < k {
         let step = slot::field_form(text, at + 5 * i);
         let Reached::At(_) = step else {
             return step;
         };
         i += 1;
     }
-    slot::newline_form(text, at + 5 * m)
+    slot::newline_form(text, at + 5 * k)
 }
 
 // A line of two fields.
 pub fn pair_form(text: &[u8], at: usize) -> Reached
     requires { ⌜ at ≤ 65000 ⌝ }
-    ensures { λ r. ⌜ r ≡ reachedOf (lineForm (now (text .entry)) at 2) (pastPair at) ⌝ }
+    ensures { λ result. ⌜ result ≡ reachedOf (lineForm (now (text .entry)) at 2) (pastPair at) ⌝ }
 {
     line_form(text, at, 2)
 }
@@ -34,7 +34,7 @@ pub fn pair_form(text: &[u8], at: usize) -> Reached
 // A counted line: two fields, a count, and as many pairs of fields.
 pub fn counted_form(text: &[u8], at: usize) -> Reached
     requires { ⌜ at ≤ 64000 ⌝ }
-    ensures { λ r. ⌜ r ≡ reachedOf (countedForm (now (text .entry)) at) (pastCounted (now (text .entry)) at) ⌝ }
+    ensures { λ result. ⌜ result ≡ reachedOf (countedForm (now (text .entry)) at) (pastCounted (now (text .entry)) at) ⌝ }
 {
     let first = slot::field_form(text, at);
     let Reached::At(_) = first else {

@@ -18,78 +18,78 @@ pub struct Reader<'a> {
 
 // The reader of a text, from a column on.
 pub fn begin<'a>(text: &'a [u8], column: usize) -> Reader<'a>
-    ensures { λ r. ⌜ (r .text ≡ text .entry) × (r .column ≡ column) ⌝ }
+    ensures { λ result. ⌜ (result .text ≡ text .entry) × (result .column ≡ column) ⌝ }
 {
     Reader { text, column }
 }
 
 // The reader at another column.
-pub fn moved<'a>(r: Reader<'a>, column: usize) -> Reader<'a>
-    ensures { λ q. ⌜ (q .text ≡ r .entry .text) × (q .column ≡ column) ⌝ }
+pub fn moved<'a>(reader: Reader<'a>, column: usize) -> Reader<'a>
+    ensures { λ result. ⌜ (result .text ≡ reader .entry .text) × (result .column ≡ column) ⌝ }
 {
     Reader {
-        text: r.text,
+        text: reader.text,
         column,
     }
 }
 
 // The column that the reader reached.
-pub fn reached<'a>(r: Reader<'a>) -> Reached
-    ensures { λ c. ⌜ c ≡ Reached.At (r .entry .column) ⌝ }
+pub fn reached<'a>(reader: Reader<'a>) -> Reached
+    ensures { λ result. ⌜ result ≡ Reached.At (reader .entry .column) ⌝ }
 {
-    slot::here(r.text, r.column)
+    slot::here(reader.text, reader.column)
 }
 
 // The counted line that comes next.
-pub fn counted<'a>(r: Reader<'a>) -> Reached
-    requires { ⌜ r .column ≤ 64000 ⌝ }
-    ensures { λ c. ⌜ c ≡ reachedOf (countedForm (now (r .entry .text)) (r .entry .column))
-        (pastCounted (now (r .entry .text)) (r .entry .column)) ⌝ }
+pub fn counted<'a>(reader: Reader<'a>) -> Reached
+    requires { ⌜ reader .column ≤ 64000 ⌝ }
+    ensures { λ result. ⌜ result ≡ reachedOf (countedForm (now (reader .entry .text)) (reader .entry .column))
+        (pastCounted (now (reader .entry .text)) (reader .entry .column)) ⌝ }
 {
-    line::counted_form(r.text, r.column)
+    line::counted_form(reader.text, reader.column)
 }
 
 // The line of two fields that comes next.
-pub fn pair<'a>(r: Reader<'a>) -> Reached
-    requires { ⌜ r .column ≤ 65000 ⌝ }
-    ensures { λ c. ⌜ c ≡ reachedOf (lineForm (now (r .entry .text)) (r .entry .column) 2) (pastPair (r .entry .column)) ⌝ }
+pub fn pair<'a>(reader: Reader<'a>) -> Reached
+    requires { ⌜ reader .column ≤ 65000 ⌝ }
+    ensures { λ result. ⌜ result ≡ reachedOf (lineForm (now (reader .entry .text)) (reader .entry .column) 2) (pastPair (reader .entry .column)) ⌝ }
 {
-    line::pair_form(r.text, r.column)
+    line::pair_form(reader.text, reader.column)
 }
 
 // n counted lines from a column on, one behind the other.
 pub fn counted_lines(text: &[u8], at: usize, n: usize) -> Reached
     requires { ⌜ (at ≤ 60000) × (n ≤ 8) ⌝ }
-    ensures { λ r. ⌜ r ≡ reachedOf (linesForm (countedForm (now (text .entry))) (pastCounted (now (text .entry))) at n)
+    ensures { λ result. ⌜ result ≡ reachedOf (linesForm (countedForm (now (text .entry))) (pastCounted (now (text .entry))) at n)
         (columnPast (pastCounted (now (text .entry))) at n) ⌝ }
 {
-    let mut r = begin(text, at);
+    let mut reader = begin(text, at);
     let mut i: usize = 0;
     while i < n {
-        let step = counted(r);
+        let step = counted(reader);
         let Reached::At(column) = step else {
             return step;
         };
-        r = moved(r, column);
+        reader = moved(reader, column);
         i += 1;
     }
-    reached(r)
+    reached(reader)
 }
 
 // k lines of two fields from a column on, one behind the other.
 pub fn pair_lines(text: &[u8], at: usize, k: usize) -> Reached
     requires { ⌜ (at ≤ 50000) × (k ≤ 1023) ⌝ }
-    ensures { λ r. ⌜ r ≡ reachedOf (linesForm (λ c. lineForm (now (text .entry)) c 2) pastPair at k) (columnPast pastPair at k) ⌝ }
+    ensures { λ result. ⌜ result ≡ reachedOf (linesForm (λ c. lineForm (now (text .entry)) c 2) pastPair at k) (columnPast pastPair at k) ⌝ }
 {
-    let mut r = begin(text, at);
+    let mut reader = begin(text, at);
     let mut i: usize = 0;
     while i < k {
-        let step = pair(r);
+        let step = pair(reader);
         let Reached::At(column) = step else {
             return step;
         };
-        r = moved(r, column);
+        reader = moved(reader, column);
         i += 1;
     }
-    reached(r)
+    reached(reader)
 }

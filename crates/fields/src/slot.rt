@@ -18,7 +18,7 @@ pub enum Reached {
 
 // Refusal 1 with a byte offset.
 fn malformed(at: usize) -> Reached
-    ensures { λ r. ⌜ r ≡ reachedOf (refused 1 at) 0 ⌝ }
+    ensures { λ result. ⌜ result ≡ reachedOf (refused 1 at) 0 ⌝ }
 {
     Reached::Refused(Refusal {
         number: 1,
@@ -27,10 +27,10 @@ fn malformed(at: usize) -> Reached
 }
 
 // The answer without the column.
-pub fn checked(r: Reached) -> Checked
-    ensures { λ c. ⌜ verdictOf c ≡ saidBy r ⌝ }
+pub fn checked(reached: Reached) -> Checked
+    ensures { λ result. ⌜ verdictOf result ≡ saidBy reached ⌝ }
 {
-    match r {
+    match reached {
         Reached::At(_) => Checked::Passed,
         Reached::Refused(x) => Checked::Refused(x),
     }
@@ -39,7 +39,7 @@ pub fn checked(r: Reached) -> Checked
 // The field at a column.
 pub fn field_form(text: &[u8], at: usize) -> Reached
     requires { ⌜ at ≤ 65536 ⌝ }
-    ensures { λ r. ⌜ r ≡ reachedOf (fieldForm (now (text .entry)) at) (at + 5) ⌝ }
+    ensures { λ result. ⌜ result ≡ reachedOf (fieldForm (now (text .entry)) at) (at + 5) ⌝ }
 {
     if text.len() < at + 5 {
         return malformed(text.len());
@@ -53,17 +53,17 @@ pub fn field_form(text: &[u8], at: usize) -> Reached
 // The field at a column, which counts 1 to 4.
 pub fn count_form(text: &[u8], at: usize) -> Reached
     requires { ⌜ at ≤ 65536 ⌝ }
-    ensures { λ r. ⌜ r ≡ reachedOf (countForm (now (text .entry)) at) (at + 5) ⌝ }
+    ensures { λ result. ⌜ result ≡ reachedOf (countForm (now (text .entry)) at) (at + 5) ⌝ }
 {
     let form = field_form(text, at);
     let Reached::At(_) = form else {
         return form;
     };
-    let v = field::number(text, at);
-    if v < 1 {
+    let x = field::number(text, at);
+    if x < 1 {
         return malformed(at);
     }
-    if 4 < v {
+    if 4 < x {
         return malformed(at);
     }
     form
@@ -72,7 +72,7 @@ pub fn count_form(text: &[u8], at: usize) -> Reached
 // The newline at a column.
 pub fn newline_form(text: &[u8], at: usize) -> Reached
     requires { ⌜ at ≤ 65536 ⌝ }
-    ensures { λ r. ⌜ r ≡ reachedOf (newlineForm (now (text .entry)) at) (at + 1) ⌝ }
+    ensures { λ result. ⌜ result ≡ reachedOf (newlineForm (now (text .entry)) at) (at + 1) ⌝ }
 {
     if text.len() <= at {
         return malformed(text.len());
@@ -85,14 +85,14 @@ pub fn newline_form(text: &[u8], at: usize) -> Reached
 
 // Nothing stands between a column and the next thing to read.
 pub fn here(text: &[u8], at: usize) -> Reached
-    ensures { λ r. ⌜ r ≡ Reached.At at ⌝ }
+    ensures { λ result. ⌜ result ≡ Reached.At at ⌝ }
 {
     Reached::At(at)
 }
 
 // Nothing follows the last line.
 pub fn end_form(text: &[u8], at: usize) -> Reached
-    ensures { λ r. ⌜ r ≡ reachedOf (endForm (now (text .entry)) at) at ⌝ }
+    ensures { λ result. ⌜ result ≡ reachedOf (endForm (now (text .entry)) at) at ⌝ }
 {
     if at < text.len() {
         return malformed(at);

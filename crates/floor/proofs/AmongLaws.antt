@@ -38,33 +38,33 @@ module _ (xs : List ℕ) (c : ℕ) where
   among-here i e = rw (eq-eqb (getD xs i 0) c e, or-true)
 
   -- A number found is among all.
-  pub among-found : (i m : ℕ) → i < m → getD xs i 0 ≡ c → among xs m c ≡ true
-  among-found i m l e =
-      let s : (m - suc i) + suc i ≡ m = omega arith in
-      rw s at (among-kept (suc i) (m - suc i) (among-here i e))
+  pub among-found : (i k : ℕ) → i < k → getD xs i 0 ≡ c → among xs k c ≡ true
+  among-found i k l e =
+      let s : (k - suc i) + suc i ≡ k = omega arith in
+      rw s at (among-kept (suc i) (k - suc i) (among-here i e))
 
-  -- The loop's end: none of the m numbers is c.
-  pub among-end : (i m : ℕ) → i ≤ m → m ≤ i → among xs i c ≡ false → false ≡ among xs m c
-  among-end i m a b h =
-      let e : i ≡ m = omega arith in
+  -- The loop's end: none of the k numbers is c.
+  pub among-end : (i k : ℕ) → i ≤ k → k ≤ i → among xs i c ≡ false → false ≡ among xs k c
+  among-end i k a b h =
+      let e : i ≡ k = omega arith in
       sym (rw e at h)
 
   -- A loop's answer where it meets c.
-  pub among-met : (i m : ℕ) → getD xs i 0 ≡ c → i < m → true ≡ among xs m c
-  among-met i m e l = sym (among-found i m l e)
+  pub among-met : (i k : ℕ) → getD xs i 0 ≡ c → i < k → true ≡ among xs k c
+  among-met i k e l = sym (among-found i k l e)
 
   -- A number among them has a place.
-  pub among-place : (m : ℕ) → among xs m c ≡ true → (k : ℕ) × (k < m) × (getD xs k 0 ≡ c)
+  pub among-place : (n : ℕ) → among xs n c ≡ true → (k : ℕ) × (k < n) × (getD xs k 0 ≡ c)
   unfolding among
   among-place zero h = absurd (true≢false (sym h))
-  among-place (suc m) h =
-      ⊎-elim (λ (e : among xs m c ≡ true). let p = among-place m e in (p .0, omega (arith, p .1), p .2))
-      (λ (e : eqb (getD xs m 0) c ≡ true). (m, omega arith, eqb-true _ _ e)) (or-cases (among xs m c) (eqb (getD xs m 0) c) h)
+  among-place (suc n) h =
+      ⊎-elim (λ (e : among xs n c ≡ true). let p = among-place n e in (p .0, omega (arith, p .1), p .2))
+      (λ (e : eqb (getD xs n 0) c ≡ true). (n, omega arith, eqb-true _ _ e)) (or-cases (among xs n c) (eqb (getD xs n 0) c) h)
 
   -- A number that is at none of the places is not among them.
-  pub absent-all : (m : ℕ) → Absent xs m c → among xs m c ≡ false
+  pub absent-all : (k : ℕ) → Absent xs k c → among xs k c ≡ false
   absent-all zero a = among-none
-  absent-all (suc m) a = rw add-one at (among-more m (absent-all m (λ i l. a i (omega arith))) (a m (omega arith)))
+  absent-all (suc k) a = rw add-one at (among-more k (absent-all k (λ i l. a i (omega arith))) (a k (omega arith)))
 
 -- What the answers of such a loop take.
 pub ruleset looks = (needs, among-none, among-more, among-met, among-end)

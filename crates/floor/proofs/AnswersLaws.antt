@@ -11,44 +11,44 @@ use Rattle.floor.specs.Answers.{verdictOf}
 use Rattle.laws.proofs.VerdictLaws.{turn-none, turn-more, turn-stop, turn-end}
 
 -- Behind a check that passed, what the rest answers, the whole answers.
-pub then-next : {a : Checked} {u v w : Verdict} → verdictOf a ≡ v → a ≡ Passed → u ≡ w → u ≡ (v then w)
+pub then-next : {x : Checked} {y z x′ : Verdict} → verdictOf x ≡ z → x ≡ Passed → y ≡ x′ → y ≡ (z then x′)
 unfolding verdictOf _then_
 then-next h e t = rw (← h, e) t
 
 -- A refusal is the answer of the whole.
-pub ends-at : {a : Checked} {v : Verdict} {x : Refusal} (w : Verdict) → verdictOf a ≡ v → a ≡ Refused x → verdictOf a ≡ (v then w)
+pub ends-at : {y : Checked} {z : Verdict} {x : Refusal} (x′ : Verdict) → verdictOf y ≡ z → y ≡ Refused x → verdictOf y ≡ (z then x′)
 unfolding verdictOf _then_
-ends-at w h e = rw (← h, e)
+ends-at x′ h e = rw (← h, e)
 
 -- The same at any rest, for the list of a `search`.
-pub ends-here : {a : Checked} {v : Verdict} {x : Refusal} → verdictOf a ≡ v → a ≡ Refused x → (w : Verdict) → verdictOf a ≡ (v then w)
-ends-here h e w = ends-at w h e
+pub ends-here : {y : Checked} {z : Verdict} {x : Refusal} → verdictOf y ≡ z → y ≡ Refused x → (x′ : Verdict) → verdictOf y ≡ (z then x′)
+ends-here h e x′ = ends-at x′ h e
 
 -- A function that is such a chain: each of its answers is `search chain`, at a depth of one more than its checks.
 pub ruleset chain = (then-next, ends-at)
 
 -- A check that answers `Passed` passes.
-pub passes : {a : Checked} {v : Verdict} → verdictOf a ≡ v → a ≡ Passed → v ≡ passed
+pub passes : {x : Checked} {y : Verdict} → verdictOf x ≡ y → x ≡ Passed → y ≡ passed
 unfolding verdictOf
 passes h e = rw (← h, e)
 
 -- The same of the last check of a chain.
-pub passed-is : {a : Checked} {v : Verdict} → verdictOf a ≡ v → a ≡ Passed → passed ≡ v
+pub passed-is : {x : Checked} {y : Verdict} → verdictOf x ≡ y → x ≡ Passed → passed ≡ y
 passed-is h e = sym (passes h e)
 
 -- A check that answers a refusal refuses with its number and place.
-pub refuses : {a : Checked} {v : Verdict} {x : Refusal} → verdictOf a ≡ v → a ≡ Refused x → v ≡ refused (x .number) (x .place)
+pub refuses : {y : Checked} {z : Verdict} {x : Refusal} → verdictOf y ≡ z → y ≡ Refused x → z ≡ refused (x .number) (x .place)
 unfolding verdictOf
 refuses h e = rw (← h, e)
 
 -- A loop over checks that is left by a refusal: the refusal is the answer of all the checks.
-pub turn-ends : {a : Checked} {x : Refusal} (check : ℕ → Verdict) (i m : ℕ)
-    → i < m → inTurn check i ≡ passed → verdictOf a ≡ check i → a ≡ Refused x → verdictOf a ≡ inTurn check m
-turn-ends {x} check i m l p h e =
-    h ∙ refuses h e ∙ sym (turn-stop check i m (x .number) (x .place) l p (refuses h e))
+pub turn-ends : {y : Checked} {x : Refusal} (check : ℕ → Verdict) (i k : ℕ)
+    → i < k → inTurn check i ≡ passed → verdictOf y ≡ check i → y ≡ Refused x → verdictOf y ≡ inTurn check k
+turn-ends {x} check i k l p h e =
+    h ∙ refuses h e ∙ sym (turn-stop check i k (x .number) (x .place) l p (refuses h e))
 
 -- Past a check that passed.
-pub turn-on : {a : Checked} (check : ℕ → Verdict) (i : ℕ) → inTurn check i ≡ passed → verdictOf a ≡ check i → a ≡ Passed
+pub turn-on : {x : Checked} (check : ℕ → Verdict) (i : ℕ) → inTurn check i ≡ passed → verdictOf x ≡ check i → x ≡ Passed
     → inTurn check (i + 1) ≡ passed
 turn-on check i p h e = turn-more check i p (passes h e)
 

@@ -18,10 +18,10 @@ use Rattle.laws.proofs.HoldLaws.{each-decides}
 use Rattle.floor.proofs.LimitsLaws.{within-means}
 
 -- Two tests joined mean both statements.
-both-mean : {a b : Bool} {A B : Type 0} → (a ≡ true) ↔ A → (b ≡ true) ↔ B → ((a && b) ≡ true) ↔ (A × B)
-both-mean {a} {b} f g = (
-  λ h. let s = and-eq-true-iff a b .0 h in (f .0 (s .0), g .0 (s .1)),
-  λ h. and-eq-true-iff a b .1 (f .1 (h .0), g .1 (h .1)),
+both-mean : {x y : Bool} {A B : Type 0} → (x ≡ true) ↔ A → (y ≡ true) ↔ B → ((x && y) ≡ true) ↔ (A × B)
+both-mean {x} {y} f g = (
+  λ h. let s = and-eq-true-iff x y .0 h in (f .0 (s .0), g .0 (s .1)),
+  λ h. and-eq-true-iff x y .1 (f .1 (h .0), g .1 (h .1)),
 )
 
 pub in-grid-means : (f : Floor) (c : ℕ) → (inGrid f c ≡ true) ↔ InGrid f c
@@ -42,10 +42,10 @@ unfolding rises
 rises-means ws zero = (λ h k e. absurd (omega arith), λ h. refl)
 rises-means ws (suc j) = (λ h k e. let q : k ≡ j = omega arith in rw q (ltb-true _ _ h), λ h. lt-ltb _ _ (h j refl))
 
-pub absent-means : (xs : List ℕ) (m c : ℕ) → (not (among xs m c) ≡ true) ↔ Absent xs m c
-absent-means xs m c = (
-  λ h i l e. false-fails (not-true _ h) (among-found xs c i m l e),
-  λ a. ap not (absent-all xs c m a),
+pub absent-means : (xs : List ℕ) (k c : ℕ) → (not (among xs k c) ≡ true) ↔ Absent xs k c
+absent-means xs k c = (
+  λ h i l e. false-fails (not-true _ h) (among-found xs c i k l e),
+  λ a. ap not (absent-all xs c k a),
 )
 
 pub clear-means : (f : Floor) (ws : List ℕ) → Decides (clearOfWalls f ws) (ClearOfWalls f ws)

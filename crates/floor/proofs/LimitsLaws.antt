@@ -14,11 +14,11 @@ use Rattle.laws.proofs.VerdictLaws.{then-assoc, then-both, demand-holds}
 use Rattle.laws.proofs.EachLaws.{Decides, each-means}
 
 -- The test of a limit means the limit.
-pub within-means : (low high v : ℕ) → (within low high v ≡ true) ↔ Within low high v
+pub within-means : (low high x : ℕ) → (within low high x ≡ true) ↔ Within low high x
 unfolding within
-within-means low high v = (
-  λ h. let b = and-eq-true-iff (leb low v) (leb v high) .0 h in (leb-true low v (b .0), leb-true v high (b .1)),
-  λ h. rw (le-leb low v (h .0), le-leb v high (h .1)),
+within-means low high x = (
+  λ h. let b = and-eq-true-iff (leb low x) (leb x high) .0 h in (leb-true low x (b .0), leb-true x high (b .1)),
+  λ h. rw (le-leb low x (h .0), le-leb x high (h .1)),
 )
 
 -- The tests of the six fields, as a check over items.

@@ -22,18 +22,18 @@ use Rattle.floor.specs.OneDock.{earlierWalls, earlierRising, bothClear, 
 use Rattle.floor.proofs.LimitsLaws.{limits-passed}
 
 -- Every fourth place has a goal.
-goal-at : (gs : List ℕ) (i : ℕ) → getD (oneEach gs) (4 * i) 0 ≡ getD gs i 0
+goal-at : (xs : List ℕ) (i : ℕ) → getD (oneEach xs) (4 * i) 0 ≡ getD xs i 0
 unfolding oneEach
 goal-at [] zero = refl
 goal-at [] (suc i) = refl
-goal-at (g ∷ gs) zero = refl
-goal-at (g ∷ gs) (suc i) = let e : 4 * suc i ≡ suc (suc (suc (suc (4 * i)))) = omega arith in rw e (goal-at gs i)
+goal-at (g ∷ xs) zero = refl
+goal-at (g ∷ xs) (suc i) = let e : 4 * suc i ≡ suc (suc (suc (suc (4 * i)))) = omega arith in rw e (goal-at xs i)
 
-module _ (e : OneDockFloor) where
+module _ (old : OneDockFloor) where
   -- The one dock is the goal.
-  one-goal : (i : ℕ) → dockOf (withOneDock e) i 0 ≡ getD (e .goals) i 0
+  one-goal : (i : ℕ) → dockOf (withOneDock old) i 0 ≡ getD (old .goals) i 0
   unfolding dockOf docksOf withOneDock
-  one-goal i = part-byte (oneEach (e .goals)) (4 * i) 4 0 (omega arith) ∙ rw add-zero (goal-at (e .goals) i)
+  one-goal i = part-byte (oneEach (old .goals)) (4 * i) 4 0 (omega arith) ∙ rw add-zero (goal-at (old .goals) i)
 
 one-each : (i : ℕ) → i < 8 → _≡_ {A = ℕ} (getD (replicate 8 1) i 0) 1
 one-each zero l = refl
@@ -46,80 +46,80 @@ one-each (suc (suc (suc (suc (suc (suc zero)))))) l = refl
 one-each (suc (suc (suc (suc (suc (suc (suc zero))))))) l = refl
 one-each (suc (suc (suc (suc (suc (suc (suc (suc i)))))))) l = absurd (omega arith)
 
-module _ (e : OneDockFloor) (ws : List ℕ) (few : e .carriers ≤ 8) where
+module _ (old : OneDockFloor) (ws : List ℕ) (few : old .carriers ≤ 8) where
   -- Carriers that are there have one dock.
-  one-count : (i : ℕ) → i < e .carriers → countOf (withOneDock e) i ≡ 1
+  one-count : (i : ℕ) → i < old .carriers → countOf (withOneDock old) i ≡ 1
   unfolding countOf withOneDock
   one-count i l = one-each i (omega arith)
 
   -- Only the goal is a dock.
-  pub one-is-dock : (i c : ℕ) → i < e .carriers → isDock (withOneDock e) i c ≡ eqb c (getD (e .goals) i 0)
+  pub one-is-dock : (i c : ℕ) → i < old .carriers → isDock (withOneDock old) i c ≡ eqb c (getD (old .goals) i 0)
   unfolding isDock among dockOf
   one-is-dock i c l =
-      let g = getD (e .goals) i 0 in
-      rw (one-count i l, one-goal e i)
+      let g = getD (old .goals) i 0 in
+      rw (one-count i l, one-goal old i)
       (same-test (eqb g c) (eqb c g) (λ h. eq-eqb c g (sym (eqb-true g c h))) (λ h. eq-eqb g c (sym (eqb-true c g h))))
 
-  one-every : (i : ℕ) → i < e .carriers → (p : ℕ → Bool)
-      → each (countOf (withOneDock e) i) (λ k. p (dockOf (withOneDock e) i k)) ≡ p (getD (e .goals) i 0)
+  one-every : (i : ℕ) → i < old .carriers → (φ : ℕ → Bool)
+      → each (countOf (withOneDock old) i) (λ k. φ (dockOf (withOneDock old) i k)) ≡ φ (getD (old .goals) i 0)
   unfolding each
-  one-every i l p = rw (one-count i l, one-goal e i) refl
+  one-every i l φ = rw (one-count i l, one-goal old i) refl
 
-  carrier-one : (i : ℕ) → i < e .carriers → carrierInGrid (withOneDock e) i ≡ bothInside e i
+  carrier-one : (i : ℕ) → i < old .carriers → carrierInGrid (withOneDock old) i ≡ bothInside old i
   unfolding carrierInGrid docksInGrid bothInside inGrid earlierInside startOf within withOneDock
-  carrier-one i l = rw (one-every i l (earlierInside e), one-count i l) refl
+  carrier-one i l = rw (one-every i l (earlierInside old), one-count i l) refl
 
-  carriers-one : carriersOf (withOneDock e) ≡ earlierCarriers e
+  carriers-one : carriersOf (withOneDock old) ≡ earlierCarriers old
   unfolding carriersOf earlierCarriers withOneDock
-  carriers-one = demand-same 3 1 _ _ (e .carriers) carrier-one
+  carriers-one = demand-same 3 1 _ _ (old .carriers) carrier-one
 
-  walls-one : wallsOf (withOneDock e) ws ≡ earlierWalls e ws
+  walls-one : wallsOf (withOneDock old) ws ≡ earlierWalls old ws
   unfolding wallsOf earlierWalls inGrid earlierInside withOneDock
   walls-one = refl
 
-  rising-one : risingOf (withOneDock e) ws ≡ earlierRising e ws
+  rising-one : risingOf (withOneDock old) ws ≡ earlierRising old ws
   unfolding risingOf earlierRising withOneDock
   rising-one = refl
 
-  clear-each : (i : ℕ) → i < e .carriers → clearOfWalls (withOneDock e) ws i ≡ bothClear e ws i
+  clear-each : (i : ℕ) → i < old .carriers → clearOfWalls (withOneDock old) ws i ≡ bothClear old ws i
   unfolding clearOfWalls docksClear bothClear startOf withOneDock
-  clear-each i l = rw (one-every i l (λ c. not (among ws (e .walls) c))) refl
+  clear-each i l = rw (one-every i l (λ c. not (among ws (old .walls) c))) refl
 
-  clear-one : clearOf (withOneDock e) ws ≡ earlierClear e ws
+  clear-one : clearOf (withOneDock old) ws ≡ earlierClear old ws
   unfolding clearOf earlierClear withOneDock
-  clear-one = demand-same 5 1 _ _ (e .carriers) clear-each
+  clear-one = demand-same 5 1 _ _ (old .carriers) clear-each
 
-  unrepeated-each : (i : ℕ) → i < e .carriers → unrepeated (withOneDock e) i ≡ true
+  unrepeated-each : (i : ℕ) → i < old .carriers → unrepeated (withOneDock old) i ≡ true
   unfolding unrepeated each among
   unrepeated-each i l = rw (one-count i l) refl
 
-  unrepeated-one : unrepeatedOf (withOneDock e) ≡ passed
+  unrepeated-one : unrepeatedOf (withOneDock old) ≡ passed
   unfolding unrepeatedOf demandEach withOneDock
-  unrepeated-one = turn-passes _ (e .carriers) (λ i l. demand-passes 17 (1 + i) (unrepeated-each i l))
+  unrepeated-one = turn-passes _ (old .carriers) (λ i l. demand-passes 17 (1 + i) (unrepeated-each i l))
 
 -- A check that finds nothing adds nothing, and what stands behind another counts only where that passes.
-then-nothing : (v : Verdict) → (v then passed) ≡ v
+then-nothing : (x : Verdict) → (x then passed) ≡ x
 unfolding _then_
 then-nothing passed = refl
 then-nothing (refused k p) = refl
 
-then-same : (v w u : Verdict) → (v ≡ passed → w ≡ u) → (v then w) ≡ (v then u)
+then-same : (x y z : Verdict) → (x ≡ passed → y ≡ z) → (x then y) ≡ (x then z)
 unfolding _then_
-then-same passed w u h = h refl
-then-same (refused k p) w u h = refl
+then-same passed y z h = h refl
+then-same (refused k p) y z h = refl
 
 -- The tests of a check over items say themselves.
 itself : (ok : ℕ → Bool) → Decides ok (λ (i : ℕ). ok i ≡ true)
 itself ok i = (λ h. h, λ h. h)
 
 -- A check over items refuses with its own number.
-own-number : (n : ℕ) (ok : ℕ → Bool) (m k p : ℕ) → demandEach n 1 ok m ≡ refused k p → k ≡ n
-own-number n ok m k p h = each-refused n 1 ok _ (itself ok) (λ (a b : ℕ). a ≡ n) m k p h (λ i f. refl)
+own-number : (n : ℕ) (ok : ℕ → Bool) (j k p : ℕ) → demandEach n 1 ok j ≡ refused k p → k ≡ n
+own-number n ok j k p h = each-refused n 1 ok _ (itself ok) (λ (a b : ℕ). a ≡ n) j k p h (λ i f. refl)
 
 -- Where it refuses item i, i is the first whose test fails.
-own-place : (n : ℕ) (ok : ℕ → Bool) (m k i : ℕ) → demandEach n 1 ok m ≡ refused k (1 + i) → First (λ (j : ℕ). ok j ≡ true) m i
-own-place n ok m k i h =
-    each-refused n 1 ok _ (itself ok) (λ (a b : ℕ). b ≡ 1 + i → First (λ (j : ℕ). ok j ≡ true) m i) m k (1 + i) h
+own-place : (n : ℕ) (ok : ℕ → Bool) (p k i : ℕ) → demandEach n 1 ok p ≡ refused k (1 + i) → First (λ (j : ℕ). ok j ≡ true) p i
+own-place n ok p k i h =
+    each-refused n 1 ok _ (itself ok) (λ (a b : ℕ). b ≡ 1 + i → First (λ (j : ℕ). ok j ≡ true) p i) p k (1 + i) h
     (λ j f q. let e : j ≡ i = omega arith in rw e at f) refl
 
 -- Document 01's checks before 6.
@@ -132,65 +132,65 @@ beforeSix e ws =
     then earlierRising e ws
     then earlierClear e ws
 
-module _ (e : OneDockFloor) (ws : List ℕ) where
-  earlier-is : earlierCheck e ws ≡ (beforeSix e ws then earlierDistinct e)
+module _ (old : OneDockFloor) (ws : List ℕ) where
+  earlier-is : earlierCheck old ws ≡ (beforeSix old ws then earlierDistinct old)
   unfolding earlierCheck beforeSix
   earlier-is = simp then-assoc
 
-  limits-one : limitsOf (withOneDock e) ≡ earlierLimits e
+  limits-one : limitsOf (withOneDock old) ≡ earlierLimits old
   unfolding limitsOf earlierLimits withOneDock
   limits-one = refl
 
-  lent-one : lentOf (withOneDock e) ws ≡ longEnough (e .walls) (length ws)
+  lent-one : lentOf (withOneDock old) ws ≡ longEnough (old .walls) (length ws)
   unfolding lentOf withOneDock
   lent-one = refl
 
-  few-carriers : earlierLimits e ≡ passed → e .carriers ≤ 8
+  few-carriers : earlierLimits old ≡ passed → old .carriers ≤ 8
   unfolding withOneDock
-  few-carriers h = limits-passed (withOneDock e) (limits-one ∙ h) .carriers .1
+  few-carriers h = limits-passed (withOneDock old) (limits-one ∙ h) .carriers .1
 
-  today-is : checkOf (withOneDock e) ws ≡ (beforeSix e ws then distinctOf (withOneDock e))
+  today-is : checkOf (withOneDock old) ws ≡ (beforeSix old ws then distinctOf (withOneDock old))
   unfolding checkOf placesOf beforeSix
   today-is =
       simp then-assoc
       (rw (limits-one, lent-one)
-      (then-same (earlierLimits e) _ _ (λ h.
+      (then-same (earlierLimits old) _ _ (λ h.
       let few = few-carriers h in
       rw (
-        carriers-one e ws few,
-        walls-one e ws few,
-        rising-one e ws few,
-        clear-one e ws few,
-        unrepeated-one e ws few,
-        then-nothing (distinctOf (withOneDock e)),
+        carriers-one old ws few,
+        walls-one old ws few,
+        rising-one old ws few,
+        clear-one old ws few,
+        unrepeated-one old ws few,
+        then-nothing (distinctOf (withOneDock old)),
       ) refl)))
 
   -- A carrier that shares neither a start nor a goal shares no start.
-  no-start : (i : ℕ) → neitherShared e i ≡ true → unshared (withOneDock e) i ≡ true
+  no-start : (i : ℕ) → neitherShared old i ≡ true → unshared (withOneDock old) i ≡ true
   unfolding neitherShared unshared startOf withOneDock
   no-start i h = and-fst _ _ h
 
-  pub still-accepted : earlierCheck e ws ≡ passed → checkOf (withOneDock e) ws ≡ passed
+  pub still-accepted : earlierCheck old ws ≡ passed → checkOf (withOneDock old) ws ≡ passed
   unfolding earlierDistinct distinctOf withOneDock
   still-accepted h =
       let b = then-both _ _ (sym earlier-is ∙ h) in
-      let each = each-passed 6 1 (neitherShared e) _ (itself (neitherShared e)) (e .carriers) (b .1) in
+      let each = each-passed 6 1 (neitherShared old) _ (itself (neitherShared old)) (old .carriers) (b .1) in
       today-is ∙ then-passed (b .0)
-      ∙ all-passes 6 1 (unshared (withOneDock e)) _ (itself (unshared (withOneDock e))) (e .carriers) (λ i l. no-start i (each i l))
+      ∙ all-passes 6 1 (unshared (withOneDock old)) _ (itself (unshared (withOneDock old))) (old .carriers) (λ i l. no-start i (each i l))
 
-  pub still-refused : (k p : ℕ) → (k ≡ 6 → ⊥) → (earlierCheck e ws ≡ refused k p) ↔ (checkOf (withOneDock e) ws ≡ refused k p)
+  pub still-refused : (k p : ℕ) → (k ≡ 6 → ⊥) → (earlierCheck old ws ≡ refused k p) ↔ (checkOf (withOneDock old) ws ≡ refused k p)
   unfolding earlierDistinct distinctOf withOneDock
   still-refused k p n = (
     λ h. refused-by (sym earlier-is ∙ h) (λ r. today-is ∙ then-refused _ r) (λ a r. absurd (n (own-number 6 _ _ k p r))),
     λ h. refused-by (sym today-is ∙ h) (λ r. earlier-is ∙ then-refused _ r) (λ a r. absurd (n (own-number 6 _ _ k p r))),
   )
 
-  pub still-six : (i : ℕ) → earlierCheck e ws ≡ refused 6 (1 + i) → among (e .starts) i (getD (e .starts) i 0) ≡ true
-      → checkOf (withOneDock e) ws ≡ refused 6 (1 + i)
+  pub still-six : (i : ℕ) → earlierCheck old ws ≡ refused 6 (1 + i) → among (old .starts) i (getD (old .starts) i 0) ≡ true
+      → checkOf (withOneDock old) ws ≡ refused 6 (1 + i)
   unfolding earlierDistinct distinctOf unshared startOf withOneDock
   still-six i h t =
       refused-by (sym earlier-is ∙ h) (λ r. today-is ∙ then-refused _ r) (λ a r.
-      let f = own-place 6 (neitherShared e) (e .carriers) 6 i r in
+      let f = own-place 6 (neitherShared old) (old .carriers) 6 i r in
       today-is ∙ then-passed a
-      ∙ first-refuses 6 1 (unshared (withOneDock e)) _ (itself (unshared (withOneDock e))) (e .carriers) i
+      ∙ first-refuses 6 1 (unshared (withOneDock old)) _ (itself (unshared (withOneDock old))) (old .carriers) i
       (record { listed = f .listed; fails = λ q. not-refutes _ q t; before = λ j l. no-start j (f .before j l) }))

@@ -26,33 +26,33 @@ use Rattle.floor.proofs.CheckMeans.{unrepeated-means}
 squeeze : ℕ → ℕ → ℕ
 squeeze v x = cond (ltb x v) x (x - 1)
 
--- What is known of it: below v a number stays, above v it is one less.
-squeeze-says : {C : Type 0} (v x : ℕ) → (x ≡ v → ⊥) → (x < v → squeeze v x ≡ x → C) → (v < x → squeeze v x ≡ x - 1 → C) → C
+-- What is known of it: below y a number stays, above y it is one less.
+squeeze-says : {C : Type 0} (y x : ℕ) → (x ≡ y → ⊥) → (x < y → squeeze y x ≡ x → C) → (y < x → squeeze y x ≡ x - 1 → C) → C
 unfolding squeeze
-squeeze-says v x n low high =
-    ⊎-elim (λ (l : x < v). low l (rw (lt-ltb x v l) refl)) (λ (l : v ≤ x). high (omega arith) (rw (le-ltb x v l) refl)) (lt-or-le x v)
+squeeze-says y x n low high =
+    ⊎-elim (λ (l : x < y). low l (rw (lt-ltb x y l) refl)) (λ (l : y ≤ x). high (omega arith) (rw (le-ltb x y l) refl)) (lt-or-le x y)
 
-squeeze-apart : (v x y : ℕ) → (x ≡ v → ⊥) → (y ≡ v → ⊥) → squeeze v x ≡ squeeze v y → x ≡ y
-squeeze-apart v x y n k e =
-    squeeze-says v x n
-    (λ a p. squeeze-says v y k (λ b q. omega arith) (λ b q. omega arith))
-    (λ a p. squeeze-says v y k (λ b q. omega arith) (λ b q. omega arith))
+squeeze-apart : (z x y : ℕ) → (x ≡ z → ⊥) → (y ≡ z → ⊥) → squeeze z x ≡ squeeze z y → x ≡ y
+squeeze-apart z x y n k e =
+    squeeze-says z x n
+    (λ a p. squeeze-says z y k (λ b q. omega arith) (λ b q. omega arith))
+    (λ a p. squeeze-says z y k (λ b q. omega arith) (λ b q. omega arith))
 
-squeeze-low : (v x m : ℕ) → (x ≡ v → ⊥) → x < suc m → v < suc m → squeeze v x < m
-squeeze-low v x m n l h = squeeze-says v x n (λ a p. omega arith) (λ a p. omega arith)
+squeeze-low : (y x k : ℕ) → (x ≡ y → ⊥) → x < suc k → y < suc k → squeeze y x < k
+squeeze-low y x k n l h = squeeze-says y x n (λ a p. omega arith) (λ a p. omega arith)
 
--- n different numbers below m: n is at most m.
-pigeons : (n m : ℕ) (at : (a : ℕ) → a < n → ℕ) → ((a : ℕ) (l : a < n) → at a l < m)
-    → ((a b : ℕ) (l : a < n) (k : b < n) → a < b → at a l ≡ at b k → ⊥) → n ≤ m
-pigeons zero m at low apart = omega arith
+-- n different numbers below p: n is at most p.
+pigeons : (n p : ℕ) (at : (a : ℕ) → a < n → ℕ) → ((a : ℕ) (l : a < n) → at a l < p)
+    → ((a b : ℕ) (l : a < n) (k : b < n) → a < b → at a l ≡ at b k → ⊥) → n ≤ p
+pigeons zero p at low apart = omega arith
 pigeons (suc n) zero at low apart = absurd (omega (arith, low n (omega arith)))
-pigeons (suc n) (suc m) at low apart =
+pigeons (suc n) (suc p) at low apart =
     let last : n < suc n = omega arith in
     let up : (a : ℕ) → a < n → a < suc n = λ a l. omega arith in
     let other : (a : ℕ) (l : a < n) → at a (up a l) ≡ at n last → ⊥ = λ a l. apart a n (up a l) last l in
     let fewer =
-    pigeons n m (λ a l. squeeze (at n last) (at a (up a l)))
-    (λ a l. squeeze-low (at n last) (at a (up a l)) m (other a l) (low a (up a l)) (low n last))
+    pigeons n p (λ a l. squeeze (at n last) (at a (up a l)))
+    (λ a l. squeeze-low (at n last) (at a (up a l)) p (other a l) (low a (up a l)) (low n last))
     (λ a b l k h e.
     apart a b (up a l) (up b k) h (squeeze-apart (at n last) (at a (up a l)) (at b (up b k)) (other a l) (other b k) e)) in
     omega arith
@@ -70,9 +70,9 @@ module _ (ys : List ℕ) (j k : ℕ) (below : j < k) (twice : getD ys j 0 ≡ ge
       (λ (n : x ≡ k → ⊥). rw (ne-eqb x k n) n)
       (eq-or-ne x k)
 
-  instead-low : (m : ℕ) → x < m → k < m → instead j k x < m
+  instead-low : (p : ℕ) → x < p → k < p → instead j k x < p
   unfolding instead
-  instead-low m l h =
+  instead-low p l h =
       ⊎-elim
       (λ (e : x ≡ k). rw (eq-eqb x k e) (omega arith))
       (λ (n : x ≡ k → ⊥). rw (ne-eqb x k n) l)
@@ -107,34 +107,34 @@ apart-too xs ys (suc m) inside apart k l j h e =
     ∙ here c d)) in
     omega arith
 
-module _ (f g : Floor) (i : ℕ) where
-  -- What holds at every dock of f holds at every dock of g, where these are docks of f.
-  every-dock : (p : ℕ → Bool) → ((c : ℕ) → isDock g i c ≡ true → isDock f i c ≡ true)
-      → each (countOf f i) (λ k. p (dockOf f i k)) ≡ true → each (countOf g i) (λ k. p (dockOf g i k)) ≡ true
-  every-dock p sub h =
-      each-decides (λ k. p (dockOf g i k)) (λ (k : ℕ). p (dockOf g i k) ≡ true) (λ k. (λ e. e, λ e. e)) (countOf g i) .1 (λ k l.
-      let d = dock-at f i (dockOf g i k) (sub (dockOf g i k) (dock-is g i k l)) in
-      rw (d .2) at (each-holds (countOf f i) (λ j. p (dockOf f i j)) h (d .0) (d .1)))
+module _ (f f′ : Floor) (i : ℕ) where
+  -- What holds at every dock of f holds at every dock of f′, where these are docks of f.
+  every-dock : (φ : ℕ → Bool) → ((c : ℕ) → isDock f′ i c ≡ true → isDock f i c ≡ true)
+      → each (countOf f i) (λ k. φ (dockOf f i k)) ≡ true → each (countOf f′ i) (λ k. φ (dockOf f′ i k)) ≡ true
+  every-dock φ sub h =
+      each-decides (λ k. φ (dockOf f′ i k)) (λ (k : ℕ). φ (dockOf f′ i k) ≡ true) (λ k. (λ e. e, λ e. e)) (countOf f′ i) .1 (λ k l.
+      let d = dock-at f i (dockOf f′ i k) (sub (dockOf f′ i k) (dock-is f′ i k l)) in
+      rw (d .2) at (each-holds (countOf f i) (λ j. φ (dockOf f i j)) h (d .0) (d .1)))
 
-  -- Where f has no dock twice and all of its docks are among as many of g, neither has g.
-  unrepeated-too : countOf f i ≡ countOf g i → ((c : ℕ) → isDock f i c ≡ true → isDock g i c ≡ true) → Unrepeated f i → Unrepeated g i
+  -- Where f has no dock twice and all of its docks are among as many of f′, neither has f′.
+  unrepeated-too : countOf f i ≡ countOf f′ i → ((c : ℕ) → isDock f i c ≡ true → isDock f′ i c ≡ true) → Unrepeated f i → Unrepeated f′ i
   unfolding dockOf isDock
   unrepeated-too n sub u =
-      apart-too (docksOf f i) (docksOf g i) (countOf g i)
+      apart-too (docksOf f i) (docksOf f′ i) (countOf f′ i)
       (λ k l. sub (dockOf f i k) (dock-is f i k (rw n l)))
       (λ k l. u k (rw n l))
 
 -- So for floors with the same docks.
-module _ (f g : Floor) (i : ℕ) (counts : countOf f i ≡ countOf g i) (same : (c : ℕ) → isDock f i c ≡ isDock g i c) where
-  every-either : (p : ℕ → Bool) → each (countOf f i) (λ k. p (dockOf f i k)) ≡ each (countOf g i) (λ k. p (dockOf g i k))
-  every-either p =
-      same-test _ _ (every-dock f g i p (λ c h. same c ∙ h)) (every-dock g f i p (λ c h. sym (same c) ∙ h))
+module _ (f f′ : Floor) (i : ℕ) (counts : countOf f i ≡ countOf f′ i) (same : (c : ℕ) → isDock f i c ≡ isDock f′ i c) where
+  every-either : (φ : ℕ → Bool) → each (countOf f i) (λ k. φ (dockOf f i k)) ≡ each (countOf f′ i) (λ k. φ (dockOf f′ i k))
+  every-either φ =
+      same-test _ _ (every-dock f f′ i φ (λ c h. same c ∙ h)) (every-dock f′ f i φ (λ c h. sym (same c) ∙ h))
 
-  unrepeated-either : unrepeated f i ≡ unrepeated g i
+  unrepeated-either : unrepeated f i ≡ unrepeated f′ i
   unrepeated-either =
       same-test _ _
-      (λ h. unrepeated-means g i .1 (unrepeated-too f g i counts (λ c q. sym (same c) ∙ q) (unrepeated-means f i .0 h)))
-      (λ h. unrepeated-means f i .1 (unrepeated-too g f i (sym counts) (λ c q. same c ∙ q) (unrepeated-means g i .0 h)))
+      (λ h. unrepeated-means f′ i .1 (unrepeated-too f f′ i counts (λ c q. sym (same c) ∙ q) (unrepeated-means f i .0 h)))
+      (λ h. unrepeated-means f i .1 (unrepeated-too f′ f i (sym counts) (λ c q. same c ∙ q) (unrepeated-means f′ i .0 h)))
 
 -- The record g with the docks of f.
 docksFrom : Floor → Floor → Floor
@@ -151,9 +151,9 @@ docksFrom f g =
       docks = f .docks;
     }
 
-module _ (f g : Floor) (ws : List ℕ) (same : SameDocks f g) where
+module _ (f f′ : Floor) (ws : List ℕ) (same : SameDocks f f′) where
   -- It is the floor f.
-  from-same : SameFloor f ws (docksFrom f g) ws
+  from-same : SameFloor f ws (docksFrom f f′) ws
   unfolding docksFrom startOf countOf docksOf dockOf
   from-same =
       record {
@@ -169,32 +169,32 @@ module _ (f g : Floor) (ws : List ℕ) (same : SameDocks f g) where
         cells = λ j l. refl;
       }
 
-  from-counts : (i : ℕ) → i < g .carriers → countOf (docksFrom f g) i ≡ countOf g i
+  from-counts : (i : ℕ) → i < f′ .carriers → countOf (docksFrom f f′) i ≡ countOf f′ i
   unfolding docksFrom countOf
   from-counts i l = same .counts i (rw (same .carriers) l)
 
-  from-docks : (i : ℕ) → i < g .carriers → (c : ℕ) → isDock (docksFrom f g) i c ≡ isDock g i c
+  from-docks : (i : ℕ) → i < f′ .carriers → (c : ℕ) → isDock (docksFrom f f′) i c ≡ isDock f′ i c
   unfolding docksFrom isDock docksOf countOf
   from-docks i l c = same .docks i (rw (same .carriers) l) c
 
-  -- It gets the verdict of g.
-  from-places : placesOf (docksFrom f g) ws ≡ placesOf g ws
+  -- It gets the verdict of f′.
+  from-places : placesOf (docksFrom f f′) ws ≡ placesOf f′ ws
   unfolding docksFrom placesOf carriersOf wallsOf risingOf clearOf distinctOf unrepeatedOf inGrid startOf carrierInGrid docksInGrid
       clearOfWalls docksClear unshared
   from-places =
-      let h = docksFrom f g in
-      let three : carriersOf h ≡ carriersOf g =
-      demands-same 3 (carrierInGrid h) (carrierInGrid g) refl refl
-      (λ i l. rw (every-either h g i (from-counts i l) (from-docks i l) (inGrid g), from-counts i l) refl) in
-      let five : clearOf h ws ≡ clearOf g ws =
-      demands-same 5 (clearOfWalls h ws) (clearOfWalls g ws) refl refl
-      (λ i l. rw (every-either h g i (from-counts i l) (from-docks i l) (λ c. not (among ws (g .walls) c))) refl) in
-      let seventeen : unrepeatedOf h ≡ unrepeatedOf g =
-      demands-same 17 (unrepeated h) (unrepeated g) refl refl (λ i l. unrepeated-either h g i (from-counts i l) (from-docks i l)) in
+      let h = docksFrom f f′ in
+      let three : carriersOf h ≡ carriersOf f′ =
+      demands-same 3 (carrierInGrid h) (carrierInGrid f′) refl refl
+      (λ i l. rw (every-either h f′ i (from-counts i l) (from-docks i l) (inGrid f′), from-counts i l) refl) in
+      let five : clearOf h ws ≡ clearOf f′ ws =
+      demands-same 5 (clearOfWalls h ws) (clearOfWalls f′ ws) refl refl
+      (λ i l. rw (every-either h f′ i (from-counts i l) (from-docks i l) (λ c. not (among ws (f′ .walls) c))) refl) in
+      let seventeen : unrepeatedOf h ≡ unrepeatedOf f′ =
+      demands-same 17 (unrepeated h) (unrepeated f′) refl refl (λ i l. unrepeated-either h f′ i (from-counts i l) (from-docks i l)) in
       rw (three, five, seventeen) refl
 
-  pub order-same : checkOf f ws ≡ checkOf g ws
+  pub order-same : checkOf f ws ≡ checkOf f′ ws
   unfolding checkOf lentOf docksFrom limitsOf
   order-same =
-      let h = docksFrom f g in
+      let h = docksFrom f f′ in
       rw (places-same f ws h ws from-same, from-places, limits-same f ws h ws from-same, same .walls) refl

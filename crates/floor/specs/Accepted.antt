@@ -8,9 +8,9 @@ use Rattle.laws.specs.Verdict.{All}
 use Rattle.floor.specs.declared.Floor.{Floor}
 use Rattle.floor.specs.Checks.{startOf, countOf, docksOf, dockOf, isDock}
 
--- v lies within low to high.
+-- x lies within low to high.
 abbrev pub Within : ℕ → ℕ → ℕ → Type 0
-Within low high v = (low ≤ v) × (v ≤ high)
+Within low high x = (low ≤ x) × (x ≤ high)
 
 -- The value of field i of line 1 is within its limits.
 unfoldable pub FieldWithin : Floor → ℕ → Type 0
@@ -40,13 +40,13 @@ WallInGrid f ws j = InGrid f (getD ws j 0)
 abbrev pub Rises : List ℕ → ℕ → Type 0
 Rises ws j = (k : ℕ) → suc k ≡ j → getD ws k 0 < getD ws j 0
 
--- Each of the first m numbers of xs is below every later one of them.
+-- Each of the first k numbers of xs is below every later one of them.
 abbrev pub StrictlyRising : List ℕ → ℕ → Type 0
-StrictlyRising xs m = (i j : ℕ) → i < j → j < m → getD xs i 0 < getD xs j 0
+StrictlyRising xs k = (i j : ℕ) → i < j → j < k → getD xs i 0 < getD xs j 0
 
--- c is not among the first m numbers of xs.
+-- c is not among the first k numbers of xs.
 abbrev pub Absent : List ℕ → ℕ → ℕ → Type 0
-Absent xs m c = All (λ (i : ℕ). getD xs i 0 ≡ c → ⊥) m
+Absent xs k c = All (λ (i : ℕ). getD xs i 0 ≡ c → ⊥) k
 
 -- Neither the start nor a dock of carrier i is a wall.
 abbrev pub ClearOfWalls : Floor → List ℕ → ℕ → Type 0
@@ -101,26 +101,26 @@ pub record Accepted (f : Floor) (ws : List ℕ) : Type 0 where
 
 -- Two records with their walls are the same floor: they agree in all that is part of it, which the places of a record past the
 -- carrier count, of a carrier's docks past its dock count and of the walls past the wall count are not.
-pub record SameFloor (f : Floor) (ws : List ℕ) (g : Floor) (vs : List ℕ) : Type 0 where
-  pub width : f .width ≡ g .width
-  pub height : f .height ≡ g .height
-  pub horizon : f .horizon ≡ g .horizon
-  pub depth : f .depth ≡ g .depth
-  pub carriers : f .carriers ≡ g .carriers
-  pub walls : f .walls ≡ g .walls
-  pub starts : All (λ (i : ℕ). startOf f i ≡ startOf g i) (f .carriers)
-  pub counts : All (λ (i : ℕ). countOf f i ≡ countOf g i) (f .carriers)
-  pub docks : All (λ (i : ℕ). All (λ (k : ℕ). dockOf f i k ≡ dockOf g i k) (countOf f i)) (f .carriers)
-  pub cells : All (λ (j : ℕ). getD ws j 0 ≡ getD vs j 0) (f .walls)
+pub record SameFloor (f : Floor) (ws : List ℕ) (f′ : Floor) (ws′ : List ℕ) : Type 0 where
+  pub width : f .width ≡ f′ .width
+  pub height : f .height ≡ f′ .height
+  pub horizon : f .horizon ≡ f′ .horizon
+  pub depth : f .depth ≡ f′ .depth
+  pub carriers : f .carriers ≡ f′ .carriers
+  pub walls : f .walls ≡ f′ .walls
+  pub starts : All (λ (i : ℕ). startOf f i ≡ startOf f′ i) (f .carriers)
+  pub counts : All (λ (i : ℕ). countOf f i ≡ countOf f′ i) (f .carriers)
+  pub docks : All (λ (i : ℕ). All (λ (k : ℕ). dockOf f i k ≡ dockOf f′ i k) (countOf f i)) (f .carriers)
+  pub cells : All (λ (j : ℕ). getD ws j 0 ≡ getD ws′ j 0) (f .walls)
 
 -- Two records are floors that differ at most in the order of each carrier's docks.
-pub record SameDocks (f g : Floor) : Type 0 where
-  pub width : f .width ≡ g .width
-  pub height : f .height ≡ g .height
-  pub horizon : f .horizon ≡ g .horizon
-  pub depth : f .depth ≡ g .depth
-  pub carriers : f .carriers ≡ g .carriers
-  pub walls : f .walls ≡ g .walls
-  pub starts : All (λ (i : ℕ). startOf f i ≡ startOf g i) (f .carriers)
-  pub counts : All (λ (i : ℕ). countOf f i ≡ countOf g i) (f .carriers)
-  pub docks : All (λ (i : ℕ). (c : ℕ) → isDock f i c ≡ isDock g i c) (f .carriers)
+pub record SameDocks (f f′ : Floor) : Type 0 where
+  pub width : f .width ≡ f′ .width
+  pub height : f .height ≡ f′ .height
+  pub horizon : f .horizon ≡ f′ .horizon
+  pub depth : f .depth ≡ f′ .depth
+  pub carriers : f .carriers ≡ f′ .carriers
+  pub walls : f .walls ≡ f′ .walls
+  pub starts : All (λ (i : ℕ). startOf f i ≡ startOf f′ i) (f .carriers)
+  pub counts : All (λ (i : ℕ). countOf f i ≡ countOf f′ i) (f .carriers)
+  pub docks : All (λ (i : ℕ). (c : ℕ) → isDock f i c ≡ isDock f′ i c) (f .carriers)

@@ -9,9 +9,9 @@ use Rattle.floor.specs.declared.Floor.{Floor}
 use Rattle.laws.specs.Memory.{part}
 use Rattle.laws.specs.Verdict.{Verdict, _then_, demand, demandEach, each}
 
--- v lies within low to high.
+-- x lies within low to high.
 unfoldable pub within : ℕ → ℕ → ℕ → Bool
-within low high v = leb low v && leb v high
+within low high x = leb low x && leb x high
 
 -- 2: the six values of line 1 lie within their limits.
 unfoldable pub limitsOf : Floor → Verdict
@@ -49,7 +49,7 @@ dockOf f i k = getD (docksOf f i) k 0
 -- c is among the first m numbers of xs.
 unfoldable pub among : List ℕ → ℕ → ℕ → Bool
 among xs zero c = false
-among xs (suc m) c = among xs m c || eqb (getD xs m 0) c
+among xs (suc n) c = among xs n c || eqb (getD xs n 0) c
 
 -- c is one of the docks of carrier i.
 unfoldable pub isDock : Floor → ℕ → ℕ → Bool

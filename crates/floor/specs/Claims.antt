@@ -21,15 +21,15 @@ pub record Claims : Type 0 where
   -- The fresh floor is an accepted one.
   pub fresh-accepted : checkOf freshFloor [] ≡ passed
   -- Places past the counts are no part of the floor: records that are the same floor get the same verdict.
-  pub same-verdict : (f : Floor) (ws : List ℕ) (g : Floor) (vs : List ℕ) → SameFloor f ws g vs → Lent f ws → Lent g vs
-      → checkOf f ws ≡ checkOf g vs
+  pub same-verdict : (f : Floor) (ws : List ℕ) (f′ : Floor) (ws′ : List ℕ) → SameFloor f ws f′ ws′ → Lent f ws → Lent f′ ws′
+      → checkOf f ws ≡ checkOf f′ ws′
   -- The order of a carrier's docks is nothing: records that differ in it get the same verdict.
-  pub order-nothing : (f g : Floor) (ws : List ℕ) → SameDocks f g → checkOf f ws ≡ checkOf g ws
+  pub order-nothing : (f f′ : Floor) (ws : List ℕ) → SameDocks f f′ → checkOf f ws ≡ checkOf f′ ws
   -- With one dock a carrier, a floor that document 01 accepts is accepted.
-  pub earlier-accepted : (e : OneDockFloor) (ws : List ℕ) → earlierCheck e ws ≡ passed → checkOf (withOneDock e) ws ≡ passed
+  pub earlier-accepted : (old : OneDockFloor) (ws : List ℕ) → earlierCheck old ws ≡ passed → checkOf (withOneDock old) ws ≡ passed
   -- It gets document 01's refusals and no other, except 6.
-  pub earlier-refused : (e : OneDockFloor) (ws : List ℕ) (k p : ℕ) → (k ≡ 6 → ⊥)
-      → (earlierCheck e ws ≡ refused k p) ↔ (checkOf (withOneDock e) ws ≡ refused k p)
+  pub earlier-refused : (old : OneDockFloor) (ws : List ℕ) (k p : ℕ) → (k ≡ 6 → ⊥)
+      → (earlierCheck old ws ≡ refused k p) ↔ (checkOf (withOneDock old) ws ≡ refused k p)
   -- It gets document 01's 6 where that is for a start.
-  pub earlier-start : (e : OneDockFloor) (ws : List ℕ) (i : ℕ) → earlierCheck e ws ≡ refused 6 (1 + i)
-      → among (e .starts) i (getD (e .starts) i 0) ≡ true → checkOf (withOneDock e) ws ≡ refused 6 (1 + i)
+  pub earlier-start : (old : OneDockFloor) (ws : List ℕ) (i : ℕ) → earlierCheck old ws ≡ refused 6 (1 + i)
+      → among (old .starts) i (getD (old .starts) i 0) ≡ true → checkOf (withOneDock old) ws ≡ refused 6 (1 + i)

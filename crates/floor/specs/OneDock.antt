@@ -22,75 +22,75 @@ pub record OneDockFloor : Type 0 where
 -- Each goal at the first of four places of docks.
 unfoldable pub oneEach : List ℕ → List ℕ
 oneEach [] = []
-oneEach (g ∷ gs) = g ∷ 0 ∷ 0 ∷ 0 ∷ oneEach gs
+oneEach (x ∷ xs) = x ∷ 0 ∷ 0 ∷ 0 ∷ oneEach xs
 
 -- The same floor with a list of docks a carrier, which holds its goal and nothing else.
 unfoldable pub withOneDock : OneDockFloor → Floor
-withOneDock e =
+withOneDock old =
     record {
-      width = e .width;
-      height = e .height;
-      horizon = e .horizon;
-      depth = e .depth;
-      carriers = e .carriers;
-      walls = e .walls;
-      starts = e .starts;
+      width = old .width;
+      height = old .height;
+      horizon = old .horizon;
+      depth = old .depth;
+      carriers = old .carriers;
+      walls = old .walls;
+      starts = old .starts;
       counts = replicate 8 1;
-      docks = oneEach (e .goals);
+      docks = oneEach (old .goals);
     }
 
 -- 2: the six values of line 1 lie within their limits.
 unfoldable pub earlierLimits : OneDockFloor → Verdict
-earlierLimits e =
-    demand (within 1 32 (e .width)) 2 1
-    then demand (within 1 32 (e .height)) 2 2
-    then demand (within 1 63 (e .horizon)) 2 3
-    then demand (within 1 4 (e .depth)) 2 4
-    then demand (within 1 8 (e .carriers)) 2 5
-    then demand (within 0 1023 (e .walls)) 2 6
+earlierLimits old =
+    demand (within 1 32 (old .width)) 2 1
+    then demand (within 1 32 (old .height)) 2 2
+    then demand (within 1 63 (old .horizon)) 2 3
+    then demand (within 1 4 (old .depth)) 2 4
+    then demand (within 1 8 (old .carriers)) 2 5
+    then demand (within 0 1023 (old .walls)) 2 6
 
 -- A cell number lies in the grid.
 unfoldable pub earlierInside : OneDockFloor → ℕ → Bool
-earlierInside e c = ltb c (e .width * e .height)
+earlierInside old c = ltb c (old .width * old .height)
 
 -- Both cells of carrier i lie in the grid.
 unfoldable pub bothInside : OneDockFloor → ℕ → Bool
-bothInside e i = earlierInside e (getD (e .starts) i 0) && earlierInside e (getD (e .goals) i 0)
+bothInside old i = earlierInside old (getD (old .starts) i 0) && earlierInside old (getD (old .goals) i 0)
 
 -- 3: every cell lies in the grid, the carriers' first (items 1 to n), then the walls'.
 unfoldable pub earlierCarriers : OneDockFloor → Verdict
-earlierCarriers e = demandEach 3 1 (bothInside e) (e .carriers)
+earlierCarriers old = demandEach 3 1 (bothInside old) (old .carriers)
 
 unfoldable pub earlierWalls : OneDockFloor → List ℕ → Verdict
-earlierWalls e ws = demandEach 3 (e .carriers + 1) (λ j. earlierInside e (getD ws j 0)) (e .walls)
+earlierWalls old ws = demandEach 3 (old .carriers + 1) (λ j. earlierInside old (getD ws j 0)) (old .walls)
 
 -- 4: the walls' cell numbers rise strictly.
 unfoldable pub earlierRising : OneDockFloor → List ℕ → Verdict
-earlierRising e ws = demandEach 4 (e .carriers + 1) (rises ws) (e .walls)
+earlierRising old ws = demandEach 4 (old .carriers + 1) (rises ws) (old .walls)
 
 -- Neither the start nor the goal of carrier i is a wall.
 unfoldable pub bothClear : OneDockFloor → List ℕ → ℕ → Bool
-bothClear e ws i = not (among ws (e .walls) (getD (e .starts) i 0)) && not (among ws (e .walls) (getD (e .goals) i 0))
+bothClear old ws i = not (among ws (old .walls) (getD (old .starts) i 0)) && not (among ws (old .walls) (getD (old .goals) i 0))
 
 -- 5: no carrier starts or ends on a wall.
 unfoldable pub earlierClear : OneDockFloor → List ℕ → Verdict
-earlierClear e ws = demandEach 5 1 (bothClear e ws) (e .carriers)
+earlierClear old ws = demandEach 5 1 (bothClear old ws) (old .carriers)
 
 -- No earlier carrier has the start of carrier i, and none has its goal.
 unfoldable pub neitherShared : OneDockFloor → ℕ → Bool
-neitherShared e i = not (among (e .starts) i (getD (e .starts) i 0)) && not (among (e .goals) i (getD (e .goals) i 0))
+neitherShared old i = not (among (old .starts) i (getD (old .starts) i 0)) && not (among (old .goals) i (getD (old .goals) i 0))
 
 -- 6: no two carriers share a start, and no two share a goal.
 unfoldable pub earlierDistinct : OneDockFloor → Verdict
-earlierDistinct e = demandEach 6 1 (neitherShared e) (e .carriers)
+earlierDistinct old = demandEach 6 1 (neitherShared old) (old .carriers)
 
 -- All of document 01's checks of a floor given as a record, in their order.
 unfoldable pub earlierCheck : OneDockFloor → List ℕ → Verdict
-earlierCheck e ws =
-    earlierLimits e
-    then longEnough (e .walls) (length ws)
-    then earlierCarriers e
-    then earlierWalls e ws
-    then earlierRising e ws
-    then earlierClear e ws
-    then earlierDistinct e
+earlierCheck old ws =
+    earlierLimits old
+    then longEnough (old .walls) (length ws)
+    then earlierCarriers old
+    then earlierWalls old ws
+    then earlierRising old ws
+    then earlierClear old ws
+    then earlierDistinct old

@@ -9,7 +9,7 @@ use crate::Refusal;
 
 // Tests one value of line 1, the field's number being its place.
 fn limit(value: u16, low: u16, high: u16, field: usize) -> Checked
-    ensures { λ r. ⌜ verdictOf r ≡ demand (within low high value) 2 field ⌝ }
+    ensures { λ result. ⌜ verdictOf result ≡ demand (within low high value) 2 field ⌝ }
 {
     if value < low {
         return Checked::Refused(Refusal {
@@ -28,7 +28,7 @@ fn limit(value: u16, low: u16, high: u16, field: usize) -> Checked
 
 // Tests each of the six values against its limits, in the order of line 1.
 pub fn limits(f: Floor) -> Checked
-    ensures { λ r. ⌜ verdictOf r ≡ limitsOf f ⌝ }
+    ensures { λ result. ⌜ verdictOf result ≡ limitsOf f ⌝ }
 {
     let width = limit(f.width, 1, Floor::MAX_WIDTH, 1);
     let Checked::Passed = width else {

@@ -18,7 +18,7 @@ use crate::Refusal;
 
 // 9: lent memory is not too short.
 pub fn check_length(needed: usize, lent: usize) -> Checked
-    ensures { λ r. ⌜ verdictOf r ≡ longEnough needed lent ⌝ }
+    ensures { λ result. ⌜ verdictOf result ≡ longEnough needed lent ⌝ }
 {
     if lent < needed {
         return Checked::Refused(Refusal {
@@ -29,13 +29,13 @@ pub fn check_length(needed: usize, lent: usize) -> Checked
     Checked::Passed
 }
 
-// Whether c is among the first m of xs.
-fn among(xs: &[u16], m: usize, c: u16) -> bool
-    requires { ⌜ m ≤ length (now xs) ⌝ }
-    ensures { λ r. ⌜ r ≡ Checks·among (now (xs .entry)) m c ⌝ }
+// Whether c is among the first k of xs.
+fn among(xs: &[u16], k: usize, c: u16) -> bool
+    requires { ⌜ k ≤ length (now xs) ⌝ }
+    ensures { λ result. ⌜ result ≡ Checks·among (now (xs .entry)) k c ⌝ }
 {
     let mut i: usize = 0;
-    while i < m {
+    while i < k {
         if xs[i] == c {
             return true;
         }
@@ -47,7 +47,7 @@ fn among(xs: &[u16], m: usize, c: u16) -> bool
 // Whether a cell number lies in the grid.
 fn in_grid(f: Floor, c: u16) -> bool
     requires { ⌜ (f .width ≤ 32) × (f .height ≤ 32) ⌝ }
-    ensures { λ r. ⌜ r ≡ inGrid f c ⌝ }
+    ensures { λ result. ⌜ result ≡ inGrid f c ⌝ }
 {
     c < f.width * f.height
 }
@@ -55,7 +55,7 @@ fn in_grid(f: Floor, c: u16) -> bool
 // The four places of the docks of carrier i.
 pub fn docks_of(f: Floor, i: usize) -> [u16; 4]
     requires { ⌜ i < 8 ⌝ }
-    ensures { λ r. ⌜ r ≡ docksOf f i ⌝ }
+    ensures { λ result. ⌜ result ≡ docksOf f i ⌝ }
 {
     let at = 4 * i;
     [
@@ -68,7 +68,7 @@ pub fn docks_of(f: Floor, i: usize) -> [u16; 4]
 
 // Whether a dock count is within its limits.
 fn counted(count: u16) -> bool
-    ensures { λ r. ⌜ r ≡ within 1 4 count ⌝ }
+    ensures { λ result. ⌜ result ≡ within 1 4 count ⌝ }
 {
     if count < 1 {
         return false;
@@ -81,12 +81,12 @@ fn docks_inside(f: Floor, i: usize) -> bool
     requires { ⌜ (f .width ≤ 32) × (f .height ≤ 32) ⌝ }
     requires { ⌜ i < 8 ⌝ }
     requires { ⌜ countOf f i ≤ 4 ⌝ }
-    ensures { λ r. ⌜ r ≡ docksInGrid f i ⌝ }
+    ensures { λ result. ⌜ result ≡ docksInGrid f i ⌝ }
 {
     let docks = docks_of(f, i);
-    let m = f.counts[i] as usize;
+    let n = f.counts[i] as usize;
     let mut k: usize = 0;
-    while k < m {
+    while k < n {
         if !in_grid(f, docks[k]) {
             return false;
         }
@@ -99,7 +99,7 @@ fn docks_inside(f: Floor, i: usize) -> bool
 fn carrier_inside(f: Floor, i: usize) -> bool
     requires { ⌜ (f .width ≤ 32) × (f .height ≤ 32) ⌝ }
     requires { ⌜ i < 8 ⌝ }
-    ensures { λ r. ⌜ r ≡ carrierInGrid f i ⌝ }
+    ensures { λ result. ⌜ result ≡ carrierInGrid f i ⌝ }
 {
     if !counted(f.counts[i]) {
         return false;
@@ -114,7 +114,7 @@ fn carrier_inside(f: Floor, i: usize) -> bool
 fn carriers_inside(f: Floor) -> Checked
     requires { ⌜ (f .width ≤ 32) × (f .height ≤ 32) ⌝ }
     requires { ⌜ f .carriers ≤ 8 ⌝ }
-    ensures { λ r. ⌜ verdictOf r ≡ carriersOf f ⌝ }
+    ensures { λ result. ⌜ verdictOf result ≡ carriersOf f ⌝ }
 {
     let n = f.carriers as usize;
     let mut i: usize = 0;
@@ -134,12 +134,12 @@ fn carriers_inside(f: Floor) -> Checked
 fn walls_inside(f: Floor, walls: &[u16]) -> Checked
     requires { ⌜ (f .width ≤ 32) × (f .height ≤ 32) ⌝ }
     requires { ⌜ f .walls ≤ length (now walls) ⌝ }
-    ensures { λ r. ⌜ verdictOf r ≡ wallsOf f (now (walls .entry)) ⌝ }
+    ensures { λ result. ⌜ verdictOf result ≡ wallsOf f (now (walls .entry)) ⌝ }
 {
-    let m = f.walls as usize;
+    let n = f.walls as usize;
     let base = f.carriers as usize + 1;
     let mut j: usize = 0;
-    while j < m {
+    while j < n {
         if !in_grid(f, walls[j]) {
             return Checked::Refused(Refusal {
                 number: 3,
@@ -154,7 +154,7 @@ fn walls_inside(f: Floor, walls: &[u16]) -> Checked
 // Whether wall j is above the wall before it.
 fn rises(walls: &[u16], j: usize) -> bool
     requires { ⌜ j < length (now walls) ⌝ }
-    ensures { λ r. ⌜ r ≡ Checks·rises (now (walls .entry)) j ⌝ }
+    ensures { λ result. ⌜ result ≡ Checks·rises (now (walls .entry)) j ⌝ }
 {
     if j == 0 {
         return true;
@@ -165,12 +165,12 @@ fn rises(walls: &[u16], j: usize) -> bool
 // 4: the walls rise strictly.
 fn rising(f: Floor, walls: &[u16]) -> Checked
     requires { ⌜ f .walls ≤ length (now walls) ⌝ }
-    ensures { λ r. ⌜ verdictOf r ≡ risingOf f (now (walls .entry)) ⌝ }
+    ensures { λ result. ⌜ verdictOf result ≡ risingOf f (now (walls .entry)) ⌝ }
 {
-    let m = f.walls as usize;
+    let n = f.walls as usize;
     let base = f.carriers as usize + 1;
     let mut j: usize = 0;
-    while j < m {
+    while j < n {
         if !rises(walls, j) {
             return Checked::Refused(Refusal {
                 number: 4,
@@ -182,14 +182,14 @@ fn rising(f: Floor, walls: &[u16]) -> Checked
     Checked::Passed
 }
 
-// Whether c is one of the first m walls, which rise: a binary search.
-pub fn is_wall(walls: &[u16], m: usize, c: u16) -> bool
-    requires { ⌜ m ≤ length (now walls) ⌝ }
-    requires { ⌜ StrictlyRising (now walls) m ⌝ }
-    ensures { λ r. ⌜ r ≡ Checks·among (now (walls .entry)) m c ⌝ }
+// Whether c is one of the first k walls, which rise: a binary search.
+pub fn is_wall(walls: &[u16], k: usize, c: u16) -> bool
+    requires { ⌜ k ≤ length (now walls) ⌝ }
+    requires { ⌜ StrictlyRising (now walls) k ⌝ }
+    ensures { λ result. ⌜ result ≡ Checks·among (now (walls .entry)) k c ⌝ }
 {
     let mut low: usize = 0;
-    let mut high = m;
+    let mut high = k;
     while low < high {
         let middle = low + (high - low) / 2;
         if walls[middle] < c {
@@ -198,7 +198,7 @@ pub fn is_wall(walls: &[u16], m: usize, c: u16) -> bool
             high = middle;
         }
     }
-    if m <= low {
+    if k <= low {
         return false;
     }
     walls[low] == c
@@ -210,14 +210,14 @@ fn docks_clear(f: Floor, walls: &[u16], i: usize) -> bool
     requires { ⌜ countOf f i ≤ 4 ⌝ }
     requires { ⌜ f .walls ≤ length (now walls) ⌝ }
     requires { ⌜ StrictlyRising (now walls) (f .walls) ⌝ }
-    ensures { λ r. ⌜ r ≡ docksClear f (now (walls .entry)) i ⌝ }
+    ensures { λ result. ⌜ result ≡ docksClear f (now (walls .entry)) i ⌝ }
 {
     let docks = docks_of(f, i);
-    let w = f.walls as usize;
-    let m = f.counts[i] as usize;
+    let count = f.walls as usize;
+    let n = f.counts[i] as usize;
     let mut k: usize = 0;
-    while k < m {
-        if is_wall(walls, w, docks[k]) {
+    while k < n {
+        if is_wall(walls, count, docks[k]) {
             return false;
         }
         k += 1;
@@ -231,10 +231,10 @@ fn clear_of_walls(f: Floor, walls: &[u16], i: usize) -> bool
     requires { ⌜ countOf f i ≤ 4 ⌝ }
     requires { ⌜ f .walls ≤ length (now walls) ⌝ }
     requires { ⌜ StrictlyRising (now walls) (f .walls) ⌝ }
-    ensures { λ r. ⌜ r ≡ clearOfWalls f (now (walls .entry)) i ⌝ }
+    ensures { λ result. ⌜ result ≡ clearOfWalls f (now (walls .entry)) i ⌝ }
 {
-    let m = f.walls as usize;
-    if is_wall(walls, m, f.starts[i]) {
+    let n = f.walls as usize;
+    if is_wall(walls, n, f.starts[i]) {
         return false;
     }
     docks_clear(f, walls, i)
@@ -246,7 +246,7 @@ fn clear(f: Floor, walls: &[u16]) -> Checked
     requires { ⌜ CountsWithin f ⌝ }
     requires { ⌜ f .walls ≤ length (now walls) ⌝ }
     requires { ⌜ StrictlyRising (now walls) (f .walls) ⌝ }
-    ensures { λ r. ⌜ verdictOf r ≡ clearOf f (now (walls .entry)) ⌝ }
+    ensures { λ result. ⌜ verdictOf result ≡ clearOf f (now (walls .entry)) ⌝ }
 {
     let n = f.carriers as usize;
     let mut i: usize = 0;
@@ -265,7 +265,7 @@ fn clear(f: Floor, walls: &[u16]) -> Checked
 // Whether no carrier before carrier i has its start.
 fn unshared(f: Floor, i: usize) -> bool
     requires { ⌜ i < 8 ⌝ }
-    ensures { λ r. ⌜ r ≡ Checks·unshared f i ⌝ }
+    ensures { λ result. ⌜ result ≡ Checks·unshared f i ⌝ }
 {
     let starts = f.starts;
     let start = starts[i];
@@ -275,7 +275,7 @@ fn unshared(f: Floor, i: usize) -> bool
 // 6: no two carriers share a start.
 fn distinct(f: Floor) -> Checked
     requires { ⌜ f .carriers ≤ 8 ⌝ }
-    ensures { λ r. ⌜ verdictOf r ≡ distinctOf f ⌝ }
+    ensures { λ result. ⌜ verdictOf result ≡ distinctOf f ⌝ }
 {
     let n = f.carriers as usize;
     let mut i: usize = 0;
@@ -291,13 +291,13 @@ fn distinct(f: Floor) -> Checked
     Checked::Passed
 }
 
-// Whether no cell is twice among the first m docks.
-fn unrepeated(docks: &[u16], m: usize) -> bool
-    requires { ⌜ m ≤ length (now docks) ⌝ }
-    ensures { λ r. ⌜ r ≡ each m (λ k. not (Checks·among (now (docks .entry)) k (getD (now (docks .entry)) k 0))) ⌝ }
+// Whether no cell is twice among the first n docks.
+fn unrepeated(docks: &[u16], n: usize) -> bool
+    requires { ⌜ n ≤ length (now docks) ⌝ }
+    ensures { λ result. ⌜ result ≡ each n (λ k. not (Checks·among (now (docks .entry)) k (getD (now (docks .entry)) k 0))) ⌝ }
 {
     let mut k: usize = 0;
-    while k < m {
+    while k < n {
         let dock = docks[k];
         if among(docks, k, dock) {
             return false;
@@ -311,7 +311,7 @@ fn unrepeated(docks: &[u16], m: usize) -> bool
 fn all_unrepeated(f: Floor) -> Checked
     requires { ⌜ f .carriers ≤ 8 ⌝ }
     requires { ⌜ CountsWithin f ⌝ }
-    ensures { λ r. ⌜ verdictOf r ≡ unrepeatedOf f ⌝ }
+    ensures { λ result. ⌜ verdictOf result ≡ unrepeatedOf f ⌝ }
 {
     let n = f.carriers as usize;
     let docks = f.docks;
@@ -335,7 +335,7 @@ pub fn places(f: Floor, walls: &[u16]) -> Checked
     requires { ⌜ (f .width ≤ 32) × (f .height ≤ 32) ⌝ }
     requires { ⌜ f .carriers ≤ 8 ⌝ }
     requires { ⌜ f .walls ≤ length (now walls) ⌝ }
-    ensures { λ r. ⌜ verdictOf r ≡ placesOf f (now (walls .entry)) ⌝ }
+    ensures { λ result. ⌜ verdictOf result ≡ placesOf f (now (walls .entry)) ⌝ }
 {
     let carriers = carriers_inside(f);
     let Checked::Passed = carriers else {

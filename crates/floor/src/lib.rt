@@ -46,7 +46,7 @@ impl Floor {
 
     // The smallest floor: one cell, one beat, one message, one carrier that is at its one dock, no wall.
     pub fn fresh() -> Self
-        ensures { λ r. ⌜ r ≡ freshFloor ⌝ }
+        ensures { λ result. ⌜ result ≡ freshFloor ⌝ }
     {
         Self {
             width: 1,
@@ -79,7 +79,7 @@ pub enum Checked {
 // Checks a floor given as a record, with its walls: 2, then 9 if fewer walls are lent than counted, then 3, 4, 5, 6,
 // 17.
 pub fn check(f: Floor, walls: &[u16]) -> Checked
-    ensures { λ r. ⌜ verdictOf r ≡ checkOf f (now (walls .entry)) ⌝ }
+    ensures { λ result. ⌜ verdictOf result ≡ checkOf f (now (walls .entry)) ⌝ }
 {
     let limited = limits(f);
     let Checked::Passed = limited else {

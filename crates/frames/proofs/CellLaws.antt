@@ -74,7 +74,7 @@ module _ (f : Floor) (ws : List ℕ) (c : ℕ) where
   unfolding stillMark
   still-wall e = rw e
 
-  pub still-else : (m : ℕ) → among ws (f .walls) c ≡ false →
-      oneOf (dockMarks f c) (cond (eqb (length (startMarks f c)) 0) 46 45) 43 ≡ m → m ≡ stillMark f ws c
+  pub still-else : (k : ℕ) → among ws (f .walls) c ≡ false →
+      oneOf (dockMarks f c) (cond (eqb (length (startMarks f c)) 0) 46 45) 43 ≡ k → k ≡ stillMark f ws c
   unfolding stillMark
-  still-else m e h = rw e (sym h)
+  still-else k e h = rw e (sym h)

@@ -45,14 +45,14 @@ module _ (f : Floor) (m : List ℕ) (i : ℕ) (old : List ℕ) (at : ℕ) where
   unfolding arrivalWords
   stays-put new n h p = rw (answer-none m i h) p
 
-  pub arrives-put : (cells m₁ m₂ new : List ℕ) (a x b n : ℕ) → getD m (65 * i) 0 ≡ 2 → f .horizon ≤ 63 → cells ≡ part m (65 * i + 1) 64 →
-      x ≡ arrivalOf cells (min (f .horizon) 63) → PutAt arrivesWords old at m₁ a → PutAt (shortDecimal x) m₁ a m₂ b →
-      PutAt (10 ∷ []) m₂ b new n → at + 20 ≤ length old → PutAt (arrivalWords f (answerIn m i)) old at new n
+  pub arrives-put : (cells m₁ m₂ new : List ℕ) (n₁ x n₂ n : ℕ) → getD m (65 * i) 0 ≡ 2 → f .horizon ≤ 63 → cells ≡ part m (65 * i + 1) 64 →
+      x ≡ arrivalOf cells (min (f .horizon) 63) → PutAt arrivesWords old at m₁ n₁ → PutAt (shortDecimal x) m₁ n₁ m₂ n₂ →
+      PutAt (10 ∷ []) m₂ n₂ new n → at + 20 ≤ length old → PutAt (arrivalWords f (answerIn m i)) old at new n
   unfolding arrivalWords arrivesWords
-  arrives-put cells m₁ m₂ new a x b n h l e g p q r enough =
+  arrives-put cells m₁ m₂ new n₁ x n₂ n h l e g p q r enough =
       let low : min (f .horizon) 63 ≡ f .horizon = omega arith in
       let same : x ≡ arrivalOf (part m (65 * i + 1) 64) (f .horizon) =
-      g ∙ ap (arrivalOf cells) low ∙ ap (λ (y : List ℕ). arrivalOf y (f .horizon)) e in
+      g ∙ ap (arrivalOf cells) low ∙ ap (λ (xs : List ℕ). arrivalOf xs (f .horizon)) e in
       let d = short-within x in
       rw (answer-route m i h, ← same)
       (put-behind (put-behind p q (omega (arith, p .behind, q .behind))) r (omega (arith, p .behind, q .behind, r .behind)))
@@ -63,7 +63,7 @@ unfolding settled
 settled-low c r zero = omega arith
 settled-low c r (suc n) = go (eqb (cellAt r n) c) (settled-low c r n)
   where
-    go : (b : Bool) → settled c r n ≤ n → elim b [ true ↦ settled c r n | false ↦ suc n ] ≤ suc n
+    go : (x : Bool) → settled c r n ≤ n → elim x [ true ↦ settled c r n | false ↦ suc n ] ≤ suc n
     go true l = omega arith
     go false l = omega arith
 
@@ -87,11 +87,11 @@ pub arrival-short : (f : Floor) (xs : ℕ → Answer) (i : ℕ) → length (arri
 unfolding arrivalLine carrierWords
 arrival-short f xs i = omega (arith, length-append (carrierWords ++ ((49 + i) ∷ [])) (arrivalWords f (xs i)), words-short f (xs i))
 
-pub arrival-put : (f : Floor) (xs : ℕ → Answer) (i at a b n : ℕ) (old m₁ m₂ new : List ℕ) → PutAt carrierWords old at m₁ a →
-    PutAt ((49 + i) ∷ []) m₁ a m₂ b → PutAt (arrivalWords f (xs i)) m₂ b new n → at + 46 ≤ length old →
+pub arrival-put : (f : Floor) (xs : ℕ → Answer) (i at n₁ n₂ n : ℕ) (old m₁ m₂ new : List ℕ) → PutAt carrierWords old at m₁ n₁ →
+    PutAt ((49 + i) ∷ []) m₁ n₁ m₂ n₂ → PutAt (arrivalWords f (xs i)) m₂ n₂ new n → at + 46 ≤ length old →
     PutAt (arrivalLine f xs i) old at new n
 unfolding arrivalLine carrierWords
-arrival-put f xs i at a b n old m₁ m₂ new p q r l =
+arrival-put f xs i at n₁ n₂ n old m₁ m₂ new p q r l =
     let s = words-short f (xs i) in
     put-behind (put-behind p q (omega (arith, p .behind, q .behind))) r (omega (arith, p .behind, q .behind, r .behind))
 
@@ -115,13 +115,13 @@ module _ (f : Floor) (ws : List ℕ) (ok : checkOf f ws ≡ passed) (xs : ℕ �
         rows-short t,
       )
 
-  pub frame-put : (t at a b c n : ℕ) (old m₁ m₂ m₃ new : List ℕ) → PutAt beatWords old at m₁ a → PutAt (shortDecimal t) m₁ a m₂ b →
-      PutAt (10 ∷ []) m₂ b m₃ c → PutAt (frameRows f ws xs t) m₃ c new n → at + 1064 ≤ length old → PutAt (frameOf f ws xs t) old at new n
+  pub frame-put : (t at n₁ n₂ n₃ n : ℕ) (old m₁ m₂ m₃ new : List ℕ) → PutAt beatWords old at m₁ n₁ → PutAt (shortDecimal t) m₁ n₁ m₂ n₂ →
+      PutAt (10 ∷ []) m₂ n₂ m₃ n₃ → PutAt (frameRows f ws xs t) m₃ n₃ new n → at + 1064 ≤ length old → PutAt (frameOf f ws xs t) old at new n
   unfolding frameOf beatWords
-  frame-put t at a b c n old m₁ m₂ m₃ new p q r s l =
-      let d = short-within t in
+  frame-put t at n₁ n₂ n₃ n old m₁ m₂ m₃ new p q r s l =
+      let n₄ = short-within t in
       let g = rows-short t in
-      let line : PutAt ((beatWords ++ shortDecimal t) ++ (10 ∷ [])) old at m₃ c =
+      let line : PutAt ((beatWords ++ shortDecimal t) ++ (10 ∷ [])) old at m₃ n₃ =
       put-behind (put-behind p q (omega (arith, p .behind, q .behind))) r (omega (arith, p .behind, q .behind, r .behind)) in
       put-behind line s (omega (arith, p .behind, q .behind, r .behind, s .behind))
 
@@ -149,10 +149,10 @@ module _ (f : Floor) (ws : List ℕ) (ok : checkOf f ws ≡ passed) (xs : ℕ �
         lines-short,
       )
 
-  pub head-put : (a b n : ℕ) (old m₁ m₂ new : List ℕ) → PutAt (mapOf f ws) old 0 m₁ a → PutAt (10 ∷ []) m₁ a m₂ b →
-      PutAt (linesOf (arrivalLine f xs) (f .carriers)) m₂ b new n → 20901 ≤ length old → PutAt (drawHead f ws xs) old 0 new n
+  pub head-put : (n₁ n₂ n : ℕ) (old m₁ m₂ new : List ℕ) → PutAt (mapOf f ws) old 0 m₁ n₁ → PutAt (10 ∷ []) m₁ n₁ m₂ n₂ →
+      PutAt (linesOf (arrivalLine f xs) (f .carriers)) m₂ n₂ new n → 20901 ≤ length old → PutAt (drawHead f ws xs) old 0 new n
   unfolding drawHead
-  head-put a b n old m₁ m₂ new p q r l =
+  head-put n₁ n₂ n old m₁ m₂ new p q r l =
       let s = map-short f ws ok in
       let g = lines-short in
       put-behind (put-behind p q (omega (arith, p .behind, q .behind))) r (omega (arith, p .behind, q .behind, r .behind))

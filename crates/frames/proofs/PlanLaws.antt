@@ -38,13 +38,13 @@ unfolding answerIn shown
 answer-there xs m old j a l h e =
     let at = 65 * j in
     let block : take 65 (drop at m) ≡ recordOf (answerAt xs j) =
-    ap (λ (b : List ℕ). take 65 (drop at b)) e ∙ record-stored xs old j a l in
+    ap (λ (xs : List ℕ). take 65 (drop at xs)) e ∙ record-stored xs old j a l in
     let apart : m ≡ take at m ++ (recordOf (answerAt xs j) ++ drop 65 (drop at m)) =
     sym (take-append-drop at m)
-    ∙ ap (λ (b : List ℕ). take at m ++ b) (sym (take-append-drop 65 (drop at m)))
-    ∙ ap (λ (b : List ℕ). take at m ++ (b ++ drop 65 (drop at m))) block
+    ∙ ap (λ (xs : List ℕ). take at m ++ xs) (sym (take-append-drop 65 (drop at m)))
+    ∙ ap (λ (xs : List ℕ). take at m ++ (xs ++ drop 65 (drop at m))) block
     in
-    ap (λ (b : List ℕ). shown (viewAt b j)) apart
+    ap (λ (xs : List ℕ). shown (viewAt xs j)) apart
     ∙ ap shown (record-view (take at m) (drop 65 (drop at m)) (answerAt xs j) j (length-take-le at m h) (whole-at xs j a l))
 
 -- Past the answers there is none, in the memory and in the plan.
@@ -59,7 +59,7 @@ tag-past xs m n k e l =
     let b = recordsOf xs in
     let d = k - length b in
     let place : k ≡ length b + d = omega arith in
-    ap (λ (z : List ℕ). getD z k 0) e
+    ap (λ (xs : List ℕ). getD xs k 0) e
     ∙ ap (λ (j : ℕ). getD (b ++ drop (0 + length b) (replicate n 0)) j 0) place
     ∙ getD-append-add b (drop (0 + length b) (replicate n 0)) d 0
     ∙ getD-drop (0 + length b) (replicate n 0) d 0

@@ -20,7 +20,7 @@ use reporting::put_bytes;
 // What a cell without a dock shows: a start, or nothing.
 fn start_mark(f: Floor, c: u16) -> u8
     requires { ⌜ f .carriers ≤ 8 ⌝ }
-    ensures { λ r. ⌜ r ≡ cond (eqb (length (startMarks f c)) 0) 46 45 ⌝ }
+    ensures { λ result. ⌜ result ≡ cond (eqb (length (startMarks f c)) 0) 46 45 ⌝ }
 {
     let mut starts = [0u8; 8];
     if maps::put_starts(f, c, &mut starts, 0) == 0 {
@@ -32,7 +32,7 @@ fn start_mark(f: Floor, c: u16) -> u8
 // What cell c shows where no carrier is.
 fn still_mark(f: Floor, walls: &[u16], c: u16) -> u8
     requires { ⌜ checkOf f (now walls) ≡ passed ⌝ }
-    ensures { λ r. ⌜ r ≡ stillMark f (now (walls .entry)) c ⌝ }
+    ensures { λ result. ⌜ result ≡ stillMark f (now (walls .entry)) c ⌝ }
 {
     if maps::is_among(walls, f.walls as usize, c) {
         return 35;
@@ -59,7 +59,7 @@ fn put_carrier(
     at: usize,
 ) -> usize
     requires { ⌜ (length (now own) ≡ 520) × (i < 8) × (t ≤ 63) × (at + 1 ≤ length (now out)) ⌝ }
-    ensures { λ r. ⌜ PutAt (presentOf f t c i (answerIn (now (own .entry)) i)) (now (out .entry)) at (now (out .exit)) r ⌝ }
+    ensures { λ result. ⌜ PutAt (presentOf f t c i (answerIn (now (own .entry)) i)) (now (out .entry)) at (now (out .exit)) result ⌝ }
 {
     let tag = SIZE * i;
     if own[tag] != 2 {
@@ -74,7 +74,7 @@ fn put_carrier(
 // Puts the capital letter of the carrier with i above it if it starts in cell c; the column behind it is returned.
 fn put_stranded(f: Floor, c: u16, i: usize, out: &mut [u8], at: usize) -> usize
     requires { ⌜ (i < 8) × (at + 1 ≤ length (now out)) ⌝ }
-    ensures { λ r. ⌜ PutAt (presentOf f 0 c i Answer·none) (now (out .entry)) at (now (out .exit)) r ⌝ }
+    ensures { λ result. ⌜ PutAt (presentOf f 0 c i Answer·none) (now (out .entry)) at (now (out .exit)) result ⌝ }
 {
     if f.starts[i] == c {
         return put_bytes(out, at, &[65 + i as u8]);
@@ -85,7 +85,7 @@ fn put_stranded(f: Floor, c: u16, i: usize, out: &mut [u8], at: usize) -> usize
 // Puts all carriers in cell c at beat t; the column behind them is returned.
 fn put_carriers(f: Floor, own: &[u16], t: usize, c: u16, out: &mut [u8]) -> usize
     requires { ⌜ (f .carriers ≤ 8) × (length (now own) ≡ 520) × (t ≤ 63) × (8 ≤ length (now out)) ⌝ }
-    ensures { λ r. ⌜ PutAt (presentIn f (answerIn (now (own .entry))) t c) (now (out .entry)) 0 (now (out .exit)) r ⌝ }
+    ensures { λ result. ⌜ PutAt (presentIn f (answerIn (now (own .entry))) t c) (now (out .entry)) 0 (now (out .exit)) result ⌝ }
 {
     let n = f.carriers as usize;
     let mut end: usize = 0;
@@ -100,7 +100,7 @@ fn put_carriers(f: Floor, own: &[u16], t: usize, c: u16, out: &mut [u8]) -> usiz
 // The mark of cell c at beat t.
 fn frame_mark(f: Floor, walls: &[u16], own: &[u16], t: usize, c: u16) -> u8
     requires { ⌜ Drawable f (now walls) (now own) × (t ≤ 63) ⌝ }
-    ensures { λ r. ⌜ r ≡ frameMark f (now (walls .entry)) (answerIn (now (own .entry))) t c ⌝ }
+    ensures { λ result. ⌜ result ≡ frameMark f (now (walls .entry)) (answerIn (now (own .entry))) t c ⌝ }
 {
     let mut there = [0u8; 8];
     let n = put_carriers(f, own, t, c, &mut there);
@@ -116,8 +116,8 @@ fn frame_mark(f: Floor, walls: &[u16], own: &[u16], t: usize, c: u16) -> u8
 // Puts the marks of all cells at beat t.
 pub fn put_cells(f: Floor, walls: &[u16], own: &[u16], t: usize, out: &mut [u8]) -> usize
     requires { ⌜ Drawable f (now walls) (now own) × (t ≤ 63) × (1024 ≤ length (now out)) ⌝ }
-    ensures { λ r. ⌜ PutAt (marksText (frameMark f (now (walls .entry)) (answerIn (now (own .entry))) t) 1024)
-        (now (out .entry)) 0 (now (out .exit)) r ⌝ }
+    ensures { λ result. ⌜ PutAt (marksText (frameMark f (now (walls .entry)) (answerIn (now (own .entry))) t) 1024)
+        (now (out .entry)) 0 (now (out .exit)) result ⌝ }
 {
     let mut at: usize = 0;
     let mut c: u16 = 0;

@@ -28,7 +28,7 @@ pub const BEAT_LENGTH: usize = 1064;
 
 // Room for a text.
 pub fn no_text() -> [u8; TEXT_LENGTH]
-    ensures { λ r. ⌜ 89061 ≡ length r ⌝ }
+    ensures { λ result. ⌜ 89061 ≡ length result ⌝ }
 {
     [0; TEXT_LENGTH]
 }
@@ -36,28 +36,28 @@ pub fn no_text() -> [u8; TEXT_LENGTH]
 // Puts the head of the text: the map, an empty line, a line a carrier; the column behind it is returned.
 fn put_head(f: Floor, walls: &[u16], own: &[u16], out: &mut [u8]) -> usize
     requires { ⌜ Drawable f (now walls) (now own) × (20901 ≤ length (now out)) ⌝ }
-    ensures { λ r. ⌜ PutAt (drawHead f (now (walls .entry)) (answerIn (now (own .entry)))) (now (out .entry)) 0 (now (out .exit)) r ⌝ }
+    ensures { λ result. ⌜ PutAt (drawHead f (now (walls .entry)) (answerIn (now (own .entry)))) (now (out .entry)) 0 (now (out .exit)) result ⌝ }
 {
-    let a = maps::put_map(f, walls, out, 0);
-    let b = put_bytes(out, a, b"\n");
-    lines::put_arrivals(f, own, out, b)
+    let n1 = maps::put_map(f, walls, out, 0);
+    let n2 = put_bytes(out, n1, b"\n");
+    lines::put_arrivals(f, own, out, n2)
 }
 
 // Puts an empty line and the floor at a beat; the column behind them is returned.
 fn put_next(f: Floor, walls: &[u16], own: &[u16], t: usize, out: &mut [u8], at: usize) -> usize
     requires { ⌜ Drawable f (now walls) (now own) × (t ≤ 63) × (at + 1065 ≤ length (now out)) ⌝ }
-    ensures { λ r. ⌜ PutAt ((10 ∷ []) ++ frameOf f (now (walls .entry)) (answerIn (now (own .entry))) t)
-        (now (out .entry)) at (now (out .exit)) r ⌝ }
+    ensures { λ result. ⌜ PutAt ((10 ∷ []) ++ frameOf f (now (walls .entry)) (answerIn (now (own .entry))) t)
+        (now (out .entry)) at (now (out .exit)) result ⌝ }
 {
-    let a = put_bytes(out, at, b"\n");
-    lines::put_frame(f, walls, own, t, out, a)
+    let n1 = put_bytes(out, at, b"\n");
+    lines::put_frame(f, walls, own, t, out, n1)
 }
 
 // Puts the beats from 0 to the horizon; the column behind them is returned.
 fn put_beats(f: Floor, walls: &[u16], own: &[u16], out: &mut [u8], at: usize) -> usize
     requires { ⌜ Drawable f (now walls) (now own) × (at + 68160 ≤ length (now out)) ⌝ }
-    ensures { λ r. ⌜ PutAt (linesOf (λ t. (10 ∷ []) ++ frameOf f (now (walls .entry)) (answerIn (now (own .entry))) t) (f .horizon + 1))
-        (now (out .entry)) at (now (out .exit)) r ⌝ }
+    ensures { λ result. ⌜ PutAt (linesOf (λ t. (10 ∷ []) ++ frameOf f (now (walls .entry)) (answerIn (now (own .entry))) t) (f .horizon + 1))
+        (now (out .entry)) at (now (out .exit)) result ⌝ }
 {
     let n = f.horizon as usize + 1;
     let mut end = at;
@@ -72,17 +72,17 @@ fn put_beats(f: Floor, walls: &[u16], own: &[u16], out: &mut [u8], at: usize) ->
 // Puts the whole text for a checked floor; its length is returned.
 fn put_whole(f: Floor, walls: &[u16], out: &mut [u8]) -> usize
     requires { ⌜ (checkOf f (now walls) ≡ passed) × (89061 ≤ length (now out)) ⌝ }
-    ensures { λ r. ⌜ TextPut (floorText f (now (walls .entry))) (now (out .entry)) (now (out .exit)) r ⌝ }
+    ensures { λ result. ⌜ TextPut (floorText f (now (walls .entry))) (now (out .entry)) (now (out .exit)) result ⌝ }
 {
     let own = blockers::plan_own(f, walls);
-    let a = put_head(f, walls, &own, out);
-    put_beats(f, walls, &own, out, a)
+    let n1 = put_head(f, walls, &own, out);
+    put_beats(f, walls, &own, out, n1)
 }
 
 // Puts the text of beat t for a checked floor, nothing if it is above the horizon; its length is returned.
 fn put_beat(f: Floor, walls: &[u16], t: u16, out: &mut [u8]) -> usize
     requires { ⌜ (checkOf f (now walls) ≡ passed) × (1064 ≤ length (now out)) ⌝ }
-    ensures { λ r. ⌜ TextPut (floorBeat t f (now (walls .entry))) (now (out .entry)) (now (out .exit)) r ⌝ }
+    ensures { λ result. ⌜ TextPut (floorBeat t f (now (walls .entry))) (now (out .entry)) (now (out .exit)) result ⌝ }
 {
     if f.horizon < t {
         return 0;
@@ -95,7 +95,7 @@ fn put_beat(f: Floor, walls: &[u16], t: u16, out: &mut [u8]) -> usize
 fn put_read(f: Floor, walls: &[u16], out: &mut [u8]) -> usize
     requires { ⌜ checkOf f (take (f .walls) (now walls)) ≡ passed ⌝ }
     requires { ⌜ (f .walls ≤ length (now walls)) × (89061 ≤ length (now out)) ⌝ }
-    ensures { λ r. ⌜ TextPut (floorText f (take (f .walls) (now (walls .entry)))) (now (out .entry)) (now (out .exit)) r ⌝ }
+    ensures { λ result. ⌜ TextPut (floorText f (take (f .walls) (now (walls .entry)))) (now (out .entry)) (now (out .exit)) result ⌝ }
 {
     let k = f.walls as usize;
     put_whole(f, &walls[..k], out)
@@ -105,7 +105,7 @@ fn put_read(f: Floor, walls: &[u16], out: &mut [u8]) -> usize
 fn put_read_beat(f: Floor, walls: &[u16], t: u16, out: &mut [u8]) -> usize
     requires { ⌜ checkOf f (take (f .walls) (now walls)) ≡ passed ⌝ }
     requires { ⌜ (f .walls ≤ length (now walls)) × (1064 ≤ length (now out)) ⌝ }
-    ensures { λ r. ⌜ TextPut (floorBeat t f (take (f .walls) (now (walls .entry)))) (now (out .entry)) (now (out .exit)) r ⌝ }
+    ensures { λ result. ⌜ TextPut (floorBeat t f (take (f .walls) (now (walls .entry)))) (now (out .entry)) (now (out .exit)) result ⌝ }
 {
     let k = f.walls as usize;
     put_beat(f, &walls[..k], t, out)
@@ -114,8 +114,8 @@ fn put_read_beat(f: Floor, walls: &[u16], t: u16, out: &mut [u8]) -> usize
 // Prints the map, the arrivals and all beats of any text that is a sheet, and of any other text the line of its refusal; the number of
 // printed bytes is returned.
 pub fn print(text: &[u8], out: &mut [u8; TEXT_LENGTH]) -> usize
-    ensures counts { λ r. ⌜ Counts r (now (out .exit)) ⌝ }
-    ensures prints { λ r. ⌜ take r (now (out .exit)) ≡ drawText (now (text .entry)) ⌝ }
+    ensures counts { λ result. ⌜ Counts result (now (out .exit)) ⌝ }
+    ensures prints { λ result. ⌜ take result (now (out .exit)) ≡ drawText (now (text .entry)) ⌝ }
 {
     let mut walls = sheet::no_walls();
     let reading = sheet::read(text, &mut walls);
@@ -130,8 +130,8 @@ pub fn print(text: &[u8], out: &mut [u8; TEXT_LENGTH]) -> usize
 // Prints beat t of any text that is a sheet, nothing if it is above the horizon, and of any other text the line of its refusal; the number
 // of printed bytes is returned.
 pub fn print_beat(text: &[u8], t: u16, out: &mut [u8; BEAT_LENGTH]) -> usize
-    ensures counts { λ r. ⌜ Counts r (now (out .exit)) ⌝ }
-    ensures prints { λ r. ⌜ take r (now (out .exit)) ≡ beatText (now (text .entry)) t ⌝ }
+    ensures counts { λ result. ⌜ Counts result (now (out .exit)) ⌝ }
+    ensures prints { λ result. ⌜ take result (now (out .exit)) ≡ beatText (now (text .entry)) t ⌝ }
 {
     let mut walls = sheet::no_walls();
     let reading = sheet::read(text, &mut walls);

@@ -15,33 +15,33 @@ use reporting::put_bytes;
 // Puts the end of a carrier's line: its arrival, or that it stays at its start; the column behind it is returned.
 fn put_words(f: Floor, own: &[u16], i: usize, out: &mut [u8], at: usize) -> usize
     requires { ⌜ (length (now own) ≡ 520) × (i < 8) × (f .horizon ≤ 63) × (at + 37 ≤ length (now out)) ⌝ }
-    ensures { λ r. ⌜ PutAt (arrivalWords f (answerIn (now (own .entry)) i)) (now (out .entry)) at (now (out .exit)) r ⌝ }
+    ensures { λ result. ⌜ PutAt (arrivalWords f (answerIn (now (own .entry)) i)) (now (out .entry)) at (now (out .exit)) result ⌝ }
 {
     let tag = SIZE * i;
     if own[tag] != 2 {
         return put_bytes(out, at, b" has no route and stays at its start\n");
     }
     let cells = records::load(own, tag + 1);
-    let a = put_bytes(out, at, b" arrives at beat ");
-    let b = reporting::put_short_decimal(out, a, route::arrival(cells, f.horizon) as usize);
-    put_bytes(out, b, b"\n")
+    let n1 = put_bytes(out, at, b" arrives at beat ");
+    let n2 = reporting::put_short_decimal(out, n1, route::arrival(cells, f.horizon) as usize);
+    put_bytes(out, n2, b"\n")
 }
 
 // Puts the line of the carrier with i above it; the column behind it is returned.
 fn put_arrival(f: Floor, own: &[u16], i: usize, out: &mut [u8], at: usize) -> usize
     requires { ⌜ (length (now own) ≡ 520) × (i < 8) × (f .horizon ≤ 63) × (at + 46 ≤ length (now out)) ⌝ }
-    ensures { λ r. ⌜ PutAt (arrivalLine f (answerIn (now (own .entry))) i) (now (out .entry)) at (now (out .exit)) r ⌝ }
+    ensures { λ result. ⌜ PutAt (arrivalLine f (answerIn (now (own .entry))) i) (now (out .entry)) at (now (out .exit)) result ⌝ }
 {
-    let a = put_bytes(out, at, b"carrier ");
-    let b = put_bytes(out, a, &[49 + i as u8]);
-    put_words(f, own, i, out, b)
+    let n1 = put_bytes(out, at, b"carrier ");
+    let n2 = put_bytes(out, n1, &[49 + i as u8]);
+    put_words(f, own, i, out, n2)
 }
 
 // Puts the lines of all carriers; the column behind them is returned.
 pub fn put_arrivals(f: Floor, own: &[u16], out: &mut [u8], at: usize) -> usize
     requires { ⌜ (length (now own) ≡ 520) × (f .carriers ≤ 8) × (f .horizon ≤ 63) × (at + 368 ≤ length (now out)) ⌝ }
-    ensures { λ r. ⌜ PutAt (linesOf (arrivalLine f (answerIn (now (own .entry)))) (f .carriers))
-        (now (out .entry)) at (now (out .exit)) r ⌝ }
+    ensures { λ result. ⌜ PutAt (linesOf (arrivalLine f (answerIn (now (own .entry)))) (f .carriers))
+        (now (out .entry)) at (now (out .exit)) result ⌝ }
 {
     let n = f.carriers as usize;
     let mut end = at;
@@ -56,7 +56,7 @@ pub fn put_arrivals(f: Floor, own: &[u16], out: &mut [u8], at: usize) -> usize
 // Puts the rows of beat t; the column behind them is returned.
 fn put_rows(f: Floor, walls: &[u16], own: &[u16], t: usize, out: &mut [u8], at: usize) -> usize
     requires { ⌜ Drawable f (now walls) (now own) × (t ≤ 63) × (at + 1056 ≤ length (now out)) ⌝ }
-    ensures { λ r. ⌜ PutAt (frameRows f (now (walls .entry)) (answerIn (now (own .entry))) t) (now (out .entry)) at (now (out .exit)) r ⌝ }
+    ensures { λ result. ⌜ PutAt (frameRows f (now (walls .entry)) (answerIn (now (own .entry))) t) (now (out .entry)) at (now (out .exit)) result ⌝ }
 {
     let mut marks = maps::no_marks();
     cells::put_cells(f, walls, own, t, &mut marks);
@@ -66,10 +66,10 @@ fn put_rows(f: Floor, walls: &[u16], own: &[u16], t: usize, out: &mut [u8], at: 
 // Puts the line of beat t and the floor at that beat; the column behind them is returned.
 pub fn put_frame(f: Floor, walls: &[u16], own: &[u16], t: usize, out: &mut [u8], at: usize) -> usize
     requires { ⌜ Drawable f (now walls) (now own) × (t ≤ 63) × (at + 1064 ≤ length (now out)) ⌝ }
-    ensures { λ r. ⌜ PutAt (frameOf f (now (walls .entry)) (answerIn (now (own .entry))) t) (now (out .entry)) at (now (out .exit)) r ⌝ }
+    ensures { λ result. ⌜ PutAt (frameOf f (now (walls .entry)) (answerIn (now (own .entry))) t) (now (out .entry)) at (now (out .exit)) result ⌝ }
 {
-    let a = put_bytes(out, at, b"beat ");
-    let b = reporting::put_short_decimal(out, a, t);
-    let c = put_bytes(out, b, b"\n");
-    put_rows(f, walls, own, t, out, c)
+    let n1 = put_bytes(out, at, b"beat ");
+    let n2 = reporting::put_short_decimal(out, n1, t);
+    let n3 = put_bytes(out, n2, b"\n");
+    put_rows(f, walls, own, t, out, n3)
 }

@@ -21,34 +21,34 @@ use Rattle.kalomivund.specs.Claims.{SaysRefused, KeepsLent}
 use Rattle.kalomivund.proofs.KeepLaws.{checked-kept, after-kept, checked-beyond, record-lent}
 
 -- A memory that is left or kept is itself.
-same-kept : (v : Verdict) (m : List ℕ) → whenPassed v m m ≡ m
+same-kept : (x : Verdict) (m : List ℕ) → whenPassed x m m ≡ m
 unfolding whenPassed
 same-kept passed m = refl
 same-kept (refused k p) m = refl
 
 -- A call that is refused changes no number.
-inner-kept : (M : Machine) (m : List ℕ) (c : Call) → SaysRefused (wordOf (mapOutcome toldDone (replyIn M m c))) → memoryIn M m c ≡ m
+inner-kept : (M : Machine) (m : List ℕ) (y : Call) → SaysRefused (wordOf (mapOutcome toldDone (replyIn M m y))) → memoryIn M m y ≡ m
 unfolding memoryIn replyIn grantedMemory
 inner-kept M m (single lent (Asked·step x)) h = checked-kept toldDone (verdictIn M m (single lent (Asked·step x))) _ _ m h
 inner-kept M m (single lent noStep) h = same-kept (verdictIn M m (single lent noStep)) m
 inner-kept M m (runOf lent xs b) h = checked-kept toldDone (verdictIn M m (runOf lent xs b)) _ _ m h
 
-module _ (f : Floor) (ws m : List ℕ) (c : Call) where
+module _ (f : Floor) (ws m : List ℕ) (x : Call) where
   -- The number-by-number way to the same memory keeps it with a refusal.
-  call-kept : SaysRefused (wordOf (mapOutcome toldDone (replyTo f ws m c))) → memoryAfter f ws m c ≡ m
+  call-kept : SaysRefused (wordOf (mapOutcome toldDone (replyTo f ws m x))) → memoryAfter f ws m x ≡ m
   call-kept h =
       let M = machineOf f ws in
-      sym (memory-in f ws m c)
-      ∙ after-kept toldDone (stateVerdict f ws m) (replyIn M m c) (memoryIn M m c) m (inner-kept M m c) (rw (← reply-in f ws m c) at h)
+      sym (memory-in f ws m x)
+      ∙ after-kept toldDone (stateVerdict f ws m) (replyIn M m x) (memoryIn M m x) m (inner-kept M m x) (rw (← reply-in f ws m x) at h)
 
-  call-beyond : drop (stateSize (f .carriers)) (memoryAfter f ws m c) ≡ drop (stateSize (f .carriers)) m
+  call-beyond : drop (stateSize (f .carriers)) (memoryAfter f ws m x) ≡ drop (stateSize (f .carriers)) m
   unfolding memoryAfter
   call-beyond =
-      let z = afterCall (machineOf f ws) (stateIn f m) c in
+      let z = afterCall (machineOf f ws) (stateIn f m) x in
       checked-beyond (stateVerdict f ws m) (stateSize (f .carriers)) _ m
       (λ e. encode-beyond (f .carriers) z m)
 
-  call-lent : KeepsLent (stateSize (f .carriers)) (wordOf (ofReply (replyTo f ws m c))) (memoryAfter f ws m c) m
+  call-lent : KeepsLent (stateSize (f .carriers)) (wordOf (ofReply (replyTo f ws m x))) (memoryAfter f ws m x) m
   unfolding ofReply
   call-lent = record { kept = call-kept; beyond = call-beyond }
 
@@ -56,6 +56,6 @@ pub step : (xs ws m : List ℕ) (x : ℕ) → KeepsLent (stateSize (floorOf xs .
 unfolding stepWord stepStored
 step xs ws m x = record-lent xs _ _ m (call-lent (floorOf xs) ws m (singleCall m x))
 
-pub run : (xs ws m ss : List ℕ) (b : ℕ) → KeepsLent (stateSize (floorOf xs .carriers)) (runWord xs ws m ss b) (runStored xs ws m ss b) m
+pub run : (xs ws m ys : List ℕ) (b : ℕ) → KeepsLent (stateSize (floorOf xs .carriers)) (runWord xs ws m ys b) (runStored xs ws m ys b) m
 unfolding runWord runStored
-run xs ws m ss b = record-lent xs _ _ m (call-lent (floorOf xs) ws m (runCall m ss b))
+run xs ws m ys b = record-lent xs _ _ m (call-lent (floorOf xs) ws m (runCall m ys b))

@@ -13,40 +13,40 @@ use Rattle.abi.specs.Record.{recordLent}
 use Rattle.kalomivund.specs.Entries.{wordFor, storedFor, readLent}
 
 -- The word and the memory are those of the call.
-pub says-lent : {w : ℕ} (xs : List ℕ) (o : Outcome Done) → 54 ≤ length xs → w ≡ wordOf o → w ≡ wordFor xs o
+pub says-lent : {w : ℕ} (xs : List ℕ) (x : Outcome Done) → 54 ≤ length xs → w ≡ wordOf x → w ≡ wordFor xs x
 unfolding wordFor _thenAnswers_ recordLent longEnough demand
-says-lent xs o l e = rw (le-leb 54 (length xs) l) e
+says-lent xs x l e = rw (le-leb 54 (length xs) l) e
 
 pub stores-lent : {m new : List ℕ} (xs old : List ℕ) → 54 ≤ length xs → m ≡ new → m ≡ storedFor xs new old
 unfolding storedFor whenPassed recordLent longEnough demand
 stores-lent xs old l e = rw (le-leb 54 (length xs) l) e
 
 -- The word of an entry whose answer is packed, and the same for an entry on the floor that the numbers say.
-pub says-told : {A : Type 0} {w : ℕ} {told a : Outcome A} (h : A → Done) → w ≡ wordOf (mapOutcome h told) → told ≡ a
-    → w ≡ wordOf (mapOutcome h a)
-says-told h s e = rw e at s
+pub says-told : {A : Type 0} {w : ℕ} {told x : Outcome A} (φ : A → Done) → w ≡ wordOf (mapOutcome φ told) → told ≡ x
+    → w ≡ wordOf (mapOutcome φ x)
+says-told φ s e = rw e at s
 
-pub says-packed : {A : Type 0} {w : ℕ} {told a : Outcome A} (h : A → Done) (xs : List ℕ) → 54 ≤ length xs
-    → w ≡ wordOf (mapOutcome h told) → told ≡ a → w ≡ wordFor xs (mapOutcome h a)
-says-packed h xs l s e = says-lent xs _ l (says-told h s e)
+pub says-packed : {A : Type 0} {w : ℕ} {told x : Outcome A} (φ : A → Done) (xs : List ℕ) → 54 ≤ length xs
+    → w ≡ wordOf (mapOutcome φ told) → told ≡ x → w ≡ wordFor xs (mapOutcome φ x)
+says-packed φ xs l s e = says-lent xs _ l (says-told φ s e)
 
 -- The answer of checks, with a number where they pass.
-pub told-checks : {A : Type 0} {t v : Verdict} {n k : A} → t ≡ v → n ≡ k → (t gives n) ≡ (v gives k)
+pub told-checks : {A : Type 0} {x y : Verdict} {z x′ : A} → x ≡ y → z ≡ x′ → (x gives z) ≡ (y gives x′)
 told-checks e d = rw (e, d)
 
 -- The word of one case of an answer.
-pub says-case : {X A : Type 0} (o : X → Outcome A) (h : A → Done) (w : ℕ) (x v : X) → x ≡ v → w ≡ wordOf (mapOutcome h (o v))
-    → w ≡ wordOf (mapOutcome h (o x))
-says-case o h w x v e s = rw e s
+pub says-case : {X A : Type 0} (φ : X → Outcome A) (ψ : A → Done) (w : ℕ) (x y : X) → x ≡ y → w ≡ wordOf (mapOutcome ψ (φ y))
+    → w ≡ wordOf (mapOutcome ψ (φ x))
+says-case φ ψ w x y e s = rw e s
 
 -- What is answered to a record of enough numbers, said over the floor that was read of it: the packer tells the word of what the entry
 -- answered, and the entry left the memory.
 pub ruleset packed-answers = (says-packed, told-checks, stores-lent)
 
 -- The word is the refusal's, 9, 0, and the memory is as it was.
-pub says-short : {w : ℕ} (xs : List ℕ) (o : Outcome Done) → length xs < 54 → w ≡ wordOf (refusal 9 0) → w ≡ wordFor xs o
+pub says-short : {w : ℕ} (xs : List ℕ) (x : Outcome Done) → length xs < 54 → w ≡ wordOf (refusal 9 0) → w ≡ wordFor xs x
 unfolding wordFor _thenAnswers_ recordLent longEnough demand
-says-short xs o l e = rw (lt-leb 54 (length xs) l) e
+says-short xs x l e = rw (lt-leb 54 (length xs) l) e
 
 pub stores-short : (xs new old : List ℕ) → length xs < 54 → old ≡ storedFor xs new old
 unfolding storedFor whenPassed recordLent longEnough demand
@@ -56,13 +56,13 @@ stores-short xs new old l = rw (lt-leb 54 (length xs) l) refl
 pub ruleset too-short = (says-short, stores-short)
 
 -- Checks, then output memory that is too short: nothing is stored.
-pub short-keeps : (v : Verdict) (new old : List ℕ) → whenPassed (v then refused 9 0) new old ≡ old
+pub short-keeps : (x : Verdict) (new old : List ℕ) → whenPassed (x then refused 9 0) new old ≡ old
 unfolding whenPassed _then_
 short-keeps passed new old = refl
 short-keeps (refused k p) new old = refl
 
 -- A check that finds nothing adds nothing to those before it.
-then-nothing : (v : Verdict) → (v then passed) ≡ v
+then-nothing : (x : Verdict) → (x then passed) ≡ x
 unfolding _then_
 then-nothing passed = refl
 then-nothing (refused k p) = refl

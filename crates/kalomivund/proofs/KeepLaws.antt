@@ -13,42 +13,42 @@ use Rattle.kalomivund.specs.Entries.{wordFor, storedFor}
 use Rattle.kalomivund.specs.Claims.{SaysRefused, KeepsLent}
 
 -- A word of what is done says not refused.
-pub done-not-refused : (d : Done) → SaysRefused (wordOf (value d)) → ⊥
+pub done-not-refused : (x : Done) → SaysRefused (wordOf (value x)) → ⊥
 unfolding wordOf
-done-not-refused d e = omega (arith, wire-theorems .done-low (d .case) (d .number) .0)
+done-not-refused x e = omega (arith, wire-theorems .done-low (x .case) (x .number) .0)
 
--- An entry whose checks are v: a refusal is theirs, and with it the old memory stays.
-pub checked-kept : {A : Type 0} (g : A → Done) (v : Verdict) (a : A) (new old : List ℕ) → SaysRefused (wordOf (mapOutcome g (v gives a)))
-    → whenPassed v new old ≡ old
+-- An entry whose checks are x: a refusal is theirs, and with it the old memory stays.
+pub checked-kept : {A : Type 0} (φ : A → Done) (x : Verdict) (y : A) (new old : List ℕ) → SaysRefused (wordOf (mapOutcome φ (x gives y)))
+    → whenPassed x new old ≡ old
 unfolding mapOutcome _gives_ whenPassed
-checked-kept g passed a new old e = absurd (done-not-refused (g a) e)
-checked-kept g (refused k p) a new old e = refl
+checked-kept φ passed y new old e = absurd (done-not-refused (φ y) e)
+checked-kept φ (refused k p) y new old e = refl
 
--- Checks v before an entry that answers o.
-pub after-kept : {A : Type 0} (g : A → Done) (v : Verdict) (o : Outcome A) (new old : List ℕ)
-    → (SaysRefused (wordOf (mapOutcome g o)) → new ≡ old) → SaysRefused (wordOf (mapOutcome g (v thenAnswers o)))
-    → whenPassed v new old ≡ old
+-- Checks x before an entry that answers y.
+pub after-kept : {A : Type 0} (φ : A → Done) (x : Verdict) (y : Outcome A) (new old : List ℕ)
+    → (SaysRefused (wordOf (mapOutcome φ y)) → new ≡ old) → SaysRefused (wordOf (mapOutcome φ (x thenAnswers y)))
+    → whenPassed x new old ≡ old
 unfolding mapOutcome _thenAnswers_ whenPassed
-after-kept g passed o new old h e = h e
-after-kept g (refused k p) o new old h e = refl
+after-kept φ passed y new old h e = h e
+after-kept φ (refused k p) y new old h e = refl
 
 -- What is stored where checks pass leaves what it leaves where they refuse.
-pub checked-beyond : (v : Verdict) (n : ℕ) (new old : List ℕ) → (v ≡ passed → drop n new ≡ drop n old)
-    → drop n (whenPassed v new old) ≡ drop n old
+pub checked-beyond : (x : Verdict) (n : ℕ) (new old : List ℕ) → (x ≡ passed → drop n new ≡ drop n old)
+    → drop n (whenPassed x new old) ≡ drop n old
 unfolding whenPassed
 checked-beyond passed n new old h = h refl
 checked-beyond (refused k p) n new old h = refl
 
-pub checked-lent : {A : Type 0} {needed : ℕ} (g : A → Done) (v : Verdict) (a : A) (new old : List ℕ)
-    → (v ≡ passed → drop needed new ≡ drop needed old) → KeepsLent needed (wordOf (mapOutcome g (v gives a))) (whenPassed v new old) old
-checked-lent {needed = n} g v a new old h = record { kept = checked-kept g v a new old; beyond = checked-beyond v n new old h }
+pub checked-lent : {A : Type 0} {needed : ℕ} (φ : A → Done) (x : Verdict) (y : A) (new old : List ℕ)
+    → (x ≡ passed → drop needed new ≡ drop needed old) → KeepsLent needed (wordOf (mapOutcome φ (x gives y))) (whenPassed x new old) old
+checked-lent {needed = n} φ x y new old h = record { kept = checked-kept φ x y new old; beyond = checked-beyond x n new old h }
 
 -- A call with a floor record that may be too short.
-pub record-lent : {needed : ℕ} (xs : List ℕ) (o : Outcome Done) (new old : List ℕ)
-    → KeepsLent needed (wordOf o) new old → KeepsLent needed (wordFor xs o) (storedFor xs new old) old
+pub record-lent : {needed : ℕ} (xs : List ℕ) (x : Outcome Done) (new old : List ℕ)
+    → KeepsLent needed (wordOf x) new old → KeepsLent needed (wordFor xs x) (storedFor xs new old) old
 unfolding wordFor storedFor _thenAnswers_ whenPassed
-record-lent {needed} xs o new old h = go (recordLent xs)
+record-lent {needed} xs x new old h = go (recordLent xs)
   where
-    go : (v : Verdict) → KeepsLent needed (wordOf (v thenAnswers o)) (whenPassed v new old) old
+    go : (y : Verdict) → KeepsLent needed (wordOf (y thenAnswers x)) (whenPassed y new old) old
     go passed = h
     go (refused k p) = record { kept = λ e. refl; beyond = refl }

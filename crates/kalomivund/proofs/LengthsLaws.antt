@@ -18,35 +18,35 @@ use Rattle.kalomivund.specs.Entries.{neededVerdict}
 use Rattle.kalomivund.proofs.EntryLaws.{says-lent, stores-lent}
 
 module _ {x : Needed} (f : Floor) (h : figuresOf x ≡ figuresFor f) (lent : ℕ) where
-  known-lengths : {l : Lengths} → x ≡ Known l → (limitsOf f ≡ passed) × (l ≡ lengthsOf f)
+  known-lengths : {y : Lengths} → x ≡ Known y → (limitsOf f ≡ passed) × (y ≡ lengthsOf f)
   unfolding figuresOf figuresFor
-  known-lengths {l} e = given-value (limitsOf f) (lengthsOf f) l (rw e at h)
+  known-lengths {y} e = given-value (limitsOf f) (lengthsOf f) y (rw e at h)
 
-  known-verdict : {l : Lengths} → x ≡ Known l → neededVerdict f lent ≡ longEnough 9 lent
+  known-verdict : {y : Lengths} → x ≡ Known y → neededVerdict f lent ≡ longEnough 9 lent
   unfolding neededVerdict
   known-verdict e = then-passed (known-lengths e .0)
 
-  refused-verdict : {r : Refusal} → x ≡ Refused r → neededVerdict f lent ≡ refused (r .number) (r .place)
+  refused-verdict : {y : Refusal} → x ≡ Refused y → neededVerdict f lent ≡ refused (y .number) (y .place)
   unfolding neededVerdict figuresOf figuresFor
-  refused-verdict {r} e = then-refused _ (given-refusal (limitsOf f) (lengthsOf f) (r .number) (r .place) (rw e at h))
+  refused-verdict {y} e = then-refused _ (given-refusal (limitsOf f) (lengthsOf f) (y .number) (y .place) (rw e at h))
 
   -- Known: the word and the memory are those of the room for them.
-  pub known-says : {w : ℕ} {l : Lengths} → x ≡ Known l → w ≡ wordOf (ofNumber (longEnough 9 lent gives 0))
+  pub known-says : {w : ℕ} {y : Lengths} → x ≡ Known y → w ≡ wordOf (ofNumber (longEnough 9 lent gives 0))
       → w ≡ wordOf (ofNumber (neededVerdict f lent gives 0))
   known-says e s = rw (known-verdict e) s
 
-  pub known-stores : {m : List ℕ} {l : Lengths} (old : List ℕ) → x ≡ Known l
-      → m ≡ whenPassed (longEnough 9 lent) (put old 0 (figureList l)) old
+  pub known-stores : {m : List ℕ} {y : Lengths} (old : List ℕ) → x ≡ Known y
+      → m ≡ whenPassed (longEnough 9 lent) (put old 0 (figureList y)) old
       → m ≡ whenPassed (neededVerdict f lent) (put old 0 (figureList (lengthsOf f))) old
   known-stores old e s = rw (known-verdict e, ← known-lengths e .1) s
 
   -- Refused: the refusal as met, and the memory as it was.
-  pub refused-says : {w : ℕ} {r : Refusal} → x ≡ Refused r → w ≡ wordOf (refusal (r .number) (r .place))
+  pub refused-says : {w : ℕ} {y : Refusal} → x ≡ Refused y → w ≡ wordOf (refusal (y .number) (y .place))
       → w ≡ wordOf (ofNumber (neededVerdict f lent gives 0))
   unfolding ofNumber mapOutcome
   refused-says e s = rw (gives-refused {A = ℕ} 0 (refused-verdict e)) s
 
-  pub refused-stores : {r : Refusal} (new old : List ℕ) → x ≡ Refused r → old ≡ whenPassed (neededVerdict f lent) new old
+  pub refused-stores : {y : Refusal} (new old : List ℕ) → x ≡ Refused y → old ≡ whenPassed (neededVerdict f lent) new old
   refused-stores new old e = sym (when-refused new (refused-verdict e))
 
 -- What is answered to a record of enough numbers.

@@ -95,9 +95,9 @@ pub print-routes : (text old : List ℕ) → KeepsLent (neededFor text) (printWo
 unfolding printWord printStored routesOutcome routesMemory ofNumber mapOutcome
 print-routes text old = go (leb (neededFor text) (length old))
   where
-    go : (b : Bool) → KeepsLent (neededFor text)
-        (wordOf (mapOutcome (done 0) (cond b (value (length (routesOf text))) (shortOutcome text))))
-        (cond b (put old 0 (routesOf text)) old) old
+    go : (x : Bool) → KeepsLent (neededFor text)
+        (wordOf (mapOutcome (done 0) (cond x (value (length (routesOf text))) (shortOutcome text))))
+        (cond x (put old 0 (routesOf text)) old) old
     go true =
         record {
           kept = λ e. absurd (done-not-refused _ e);
@@ -106,10 +106,10 @@ print-routes text old = go (leb (neededFor text) (length old))
     go false = record { kept = λ e. refl; beyond = refl }
 
 -- What checks let through is what they were asked for.
-answered-through : {A : Type 0} (v : Verdict) (o : Outcome A) (a : A) → (v thenAnswers o) ≡ value a → o ≡ value a
+answered-through : {A : Type 0} (x : Verdict) (y : Outcome A) (x′ : A) → (x thenAnswers y) ≡ value x′ → y ≡ value x′
 unfolding _thenAnswers_
-answered-through passed o a e = e
-answered-through (refused k p) o a e = absurd (let z : _≡_ {A = ℕ} 0 1 = cc in omega arith)
+answered-through passed y x′ e = e
+answered-through (refused k p) y x′ e = absurd (let z : _≡_ {A = ℕ} 0 1 = cc in omega arith)
 
 pub search : (xs ws : List ℕ) (i : ℕ) (m old : List ℕ) → KeepsLent 64 (searchWord xs ws i m (length old)) (searchStored xs ws i m old) old
 unfolding searchWord searchStored searchLent ofSearch mapOutcome routeStored cellsOf
@@ -118,8 +118,8 @@ search xs ws i m old = record-lent xs _ _ old (go (searchLent f ws i m (length o
     f : Floor
     f = floorOf xs
 
-    go : (o : Outcome Answer) → searchLent f ws i m (length old) ≡ o
-        → KeepsLent 64 (wordOf (mapOutcome answerDone o)) (routeStored o old) old
+    go : (x : Outcome Answer) → searchLent f ws i m (length old) ≡ x
+        → KeepsLent 64 (wordOf (mapOutcome answerDone x)) (routeStored x old) old
     go (value none) e =
         record { kept = λ h. absurd (done-not-refused _ h); beyond = put-beyond old (replicate 64 0) 64 (omega arith) }
     go (value (route r)) e =

@@ -37,37 +37,37 @@ module _ {x : Found} {result : Outcome Answer} (s : Answers x result) where
   route-stores old e h = h ∙ rw (← s .answers, e) refl
 
   -- A refusal: as met, and the memory as it was.
-  pub refused-says : {w : ℕ} {r : Refusal} → x .outcome ≡ Refused r → w ≡ wordOf (refusal (r .number) (r .place))
+  pub refused-says : {w : ℕ} {y : Refusal} → x .outcome ≡ Refused y → w ≡ wordOf (refusal (y .number) (y .place))
       → w ≡ wordOf (ofSearch result)
   unfolding ofSearch mapOutcome answerDone resultOf outcomeOf
   refused-says e h = rw (← s .answers, e) h
 
-  pub refused-stores : {r : Refusal} (old : List ℕ) → x .outcome ≡ Refused r → old ≡ routeStored result old
+  pub refused-stores : {y : Refusal} (old : List ℕ) → x .outcome ≡ Refused y → old ≡ routeStored result old
   unfolding routeStored resultOf outcomeOf
   refused-stores old e = rw (← s .answers, e) refl
 
 pub ruleset found-cases = (none-says, route-says, none-stores, route-stores, refused-says, refused-stores)
 
--- A search into route memory that is too short, after the floor's checks v, and into memory of enough numbers.
-short-word : (v : Verdict) (o : Outcome Answer)
-    → wordOf (ofNumber ((v then refused 9 0) gives 0)) ≡ wordOf (ofSearch ((v then refused 9 0) thenAnswers o))
+-- A search into route memory that is too short, after the floor's checks x, and into memory of enough numbers.
+short-word : (x : Verdict) (y : Outcome Answer)
+    → wordOf (ofNumber ((x then refused 9 0) gives 0)) ≡ wordOf (ofSearch ((x then refused 9 0) thenAnswers y))
 unfolding _then_ _gives_ _thenAnswers_ ofNumber ofSearch mapOutcome
-short-word passed o = refl
-short-word (refused k p) o = refl
+short-word passed y = refl
+short-word (refused k p) y = refl
 
-short-route : (v : Verdict) (o : Outcome Answer) (old : List ℕ) → routeStored ((v then refused 9 0) thenAnswers o) old ≡ old
+short-route : (x : Verdict) (y : Outcome Answer) (old : List ℕ) → routeStored ((x then refused 9 0) thenAnswers y) old ≡ old
 unfolding _then_ _thenAnswers_ routeStored
-short-route passed o old = refl
-short-route (refused k p) o old = refl
+short-route passed y old = refl
+short-route (refused k p) y old = refl
 
-checked-twice : (v w : Verdict) (x : Answer)
-    → _≡_ {A = Outcome Answer} ((v then passed) thenAnswers ((v then w) gives x)) ((v then w) gives x)
+checked-twice : (y z : Verdict) (x : Answer)
+    → _≡_ {A = Outcome Answer} ((y then passed) thenAnswers ((y then z) gives x)) ((y then z) gives x)
 unfolding _then_ _gives_ _thenAnswers_
-checked-twice passed w x = refl
-checked-twice (refused k p) w x = refl
+checked-twice passed z x = refl
+checked-twice (refused k p) z x = refl
 
 module _ (f : Floor) (ws : List ℕ) (i : ℕ) (m : List ℕ) {lent : ℕ} where
-  pub short-says : {w : ℕ} {t : Verdict} → lent < 64 → w ≡ wordOf (ofNumber ((t then refused 9 0) gives 0)) → t ≡ checkOf f ws
+  pub short-says : {w : ℕ} {x : Verdict} → lent < 64 → w ≡ wordOf (ofNumber ((x then refused 9 0) gives 0)) → x ≡ checkOf f ws
       → w ≡ wordOf (ofSearch (searchLent f ws i m lent))
   unfolding searchLent longEnough demand
   short-says l s e = rw (lt-leb 64 lent l) ((rw e at s) ∙ short-word (checkOf f ws) (searchOf f ws i m))
@@ -83,8 +83,8 @@ module _ (f : Floor) (ws : List ℕ) (i : ℕ) (m : List ℕ) {lent : ℕ} where
   pub long-says : {w : ℕ} → 64 ≤ lent → w ≡ wordOf (ofSearch (searchOf f ws i m)) → w ≡ wordOf (ofSearch (searchLent f ws i m lent))
   long-says l s = rw (search-long l) s
 
-  pub long-stores : {n : List ℕ} (old : List ℕ) → 64 ≤ lent → n ≡ routeStored (searchOf f ws i m) old
-      → n ≡ routeStored (searchLent f ws i m lent) old
+  pub long-stores : {xs : List ℕ} (old : List ℕ) → 64 ≤ lent → xs ≡ routeStored (searchOf f ws i m) old
+      → xs ≡ routeStored (searchLent f ws i m lent) old
   long-stores old l s = rw (search-long l) s
 
 -- What is answered to a record of enough numbers: the floor's refusals and 9 without room for a route, the search with it.

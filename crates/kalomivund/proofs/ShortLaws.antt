@@ -21,8 +21,8 @@ use Rattle.kalomivund.proofs.SearchLaws.{search-long}
 use Rattle.laws.proofs.VerdictLaws.{given-refusal}
 
 -- Behind checks that find nothing, memory is too short exactly below its needed length.
-behind-short : (v : Verdict) (needed lent : ℕ) → v ≡ passed → ((v then longEnough needed lent) ≡ refused 9 0) ↔ (lent < needed)
-behind-short v needed lent ok = rw (then-passed {w = longEnough needed lent} ok) (length-means needed lent)
+behind-short : (x : Verdict) (needed lent : ℕ) → x ≡ passed → ((x then longEnough needed lent) ≡ refused 9 0) ↔ (lent < needed)
+behind-short x needed lent ok = rw (then-passed {y = longEnough needed lent} ok) (length-means needed lent)
 
 pub record-short : (xs : List ℕ) → (recordLent xs ≡ refused 9 0) ↔ (length xs < 54)
 unfolding recordLent

@@ -22,9 +22,9 @@ use Rattle.kalomivund.proofs.BlockerLaws.{blockers}
 use Rattle.kalomivund.proofs.ShortLaws.{record-short, read-record-short, route-short, figures-short}
 
 -- A run's number has room in a word.
-run-word : (c t : ℕ) → c ≤ 8 → t ≤ 65535 → packed 0 c t ≡ 256 * c + 65536 * t
+run-word : (k t : ℕ) → k ≤ 8 → t ≤ 65535 → packed 0 k t ≡ 256 * k + 65536 * t
 unfolding packed
-run-word c t lc lt = rw (capped-same 255 c (omega arith), capped-same 281474976710655 t (omega arith)) (omega arith)
+run-word k t lc lt = rw (capped-same 255 k (omega arith), capped-same 281474976710655 t (omega arith)) (omega arith)
 
 pub theorems : Claims
 unfolding lengthsOf ceilingWord mostSteps ceiling demand within _gives_ ofNumber ofSearch answerDone ofReply toldDone stepCase endCase

@@ -20,7 +20,7 @@ answerDone none = done 0 0
 answerDone (route r) = done 1 0
 
 unfoldable pub ofSearch : Outcome Answer → Outcome Done
-ofSearch o = mapOutcome answerDone o
+ofSearch x = mapOutcome answerDone x
 
 -- The lent route memory after a search: 64 cells in front, zeros where there is none; as it was with a refusal.
 unfoldable pub routeStored : Outcome Answer → List ℕ → List ℕ
@@ -29,7 +29,7 @@ routeStored (refusal k p) old = old
 
 -- The figures of the needed lengths in their order.
 unfoldable pub figureList : Lengths → List ℕ
-figureList l = l .walls ∷ l .sheet ∷ l .answers ∷ l .text ∷ l .state ∷ l .route ∷ l .floor ∷ l .figures ∷ l .report ∷ []
+figureList x = x .walls ∷ x .sheet ∷ x .answers ∷ x .text ∷ x .state ∷ x .route ∷ x .floor ∷ x .figures ∷ x .report ∷ []
 
 -- A step: case 0 planned and kept, 1 planned and sent, 2 delivered.
 unfoldable pub stepCase : StepAnswer → ℕ
@@ -49,14 +49,14 @@ toldDone (stepped a) = done (stepCase a) 0
 toldDone (ran t e) = done (endCase e) t
 
 unfoldable pub ofReply : Reply → Outcome Done
-ofReply o = mapOutcome toldDone o
+ofReply x = mapOutcome toldDone x
 
 -- The run of a rank: the case is how many steps it has, the number how many runs there are.
 unfoldable pub figuresDone : Figures → Done
 figuresDone x = done (x .steps) (x .runs)
 
 unfoldable pub ofRank : Outcome Figures → Outcome Done
-ofRank o = mapOutcome figuresDone o
+ofRank x = mapOutcome figuresDone x
 
 -- The conflict test: case 0 free, 1 same cell, 2 change of places, 3 following, with the beat.
 unfoldable pub conflictDone : ConflictAnswer → Done
@@ -66,7 +66,7 @@ conflictDone (dated t changeOfPlaces) = done 2 t
 conflictDone (dated t following) = done 3 t
 
 unfoldable pub ofConflict : Outcome ConflictAnswer → Outcome Done
-ofConflict o = mapOutcome conflictDone o
+ofConflict x = mapOutcome conflictDone x
 
 -- The check of a record: case 0 a route with its arrival, 1 none, 2 not heard, 3 to 8 the cause of what is wrong, with its beat.
 unfoldable pub recordDone : RecordAnswer → Done
@@ -76,4 +76,4 @@ recordDone notHeard = done 2 0
 recordDone (wrong k t) = done k t
 
 unfoldable pub ofRecord : Outcome RecordAnswer → Outcome Done
-ofRecord o = mapOutcome recordDone o
+ofRecord x = mapOutcome recordDone x

@@ -52,7 +52,7 @@ pub record Claims : Type 0 where
   pub plan : (xs ws old : List ℕ) → KeepsLent (lengthsOf (floorOf xs) .answers) (planWord xs ws (length old)) (planStored xs ws old) old
   pub fresh : (xs ws old : List ℕ) → KeepsLent (lengthsOf (floorOf xs) .state) (freshWord xs ws (length old)) (freshStored xs ws old) old
   pub step : (xs ws m : List ℕ) (x : ℕ) → KeepsLent (lengthsOf (floorOf xs) .state) (stepWord xs ws m x) (stepStored xs ws m x) m
-  pub run : (xs ws m ss : List ℕ) (b : ℕ) → KeepsLent (lengthsOf (floorOf xs) .state) (runWord xs ws m ss b) (runStored xs ws m ss b) m
+  pub run : (xs ws m ys : List ℕ) (b : ℕ) → KeepsLent (lengthsOf (floorOf xs) .state) (runWord xs ws m ys b) (runStored xs ws m ys b) m
   pub trial-state : (xs ws : List ℕ) (order seed : ℕ) (m : List ℕ) (report : ℕ) → KeepsLent (lengthsOf (floorOf xs) .state)
       (trialWord xs ws order seed (length m) report) (trialStateStored xs ws order seed m report) m
   pub trial-report : (xs ws : List ℕ) (order seed state : ℕ) (m : List ℕ) → KeepsLent (lengthsOf (floorOf xs) .report)

@@ -28,7 +28,7 @@ use Rattle.kalomivund.specs.Answers.{ofSearch, routeStored, figureList, 
 
 -- The word of a call with a floor record of enough numbers; 9, 0 of one with fewer.
 unfoldable pub wordFor : List ℕ → Outcome Done → ℕ
-wordFor xs o = wordOf (recordLent xs thenAnswers o)
+wordFor xs x = wordOf (recordLent xs thenAnswers x)
 
 -- Memory after a call with a floor record of enough numbers; as it was with fewer.
 unfoldable pub storedFor : List ℕ → List ℕ → List ℕ → List ℕ
@@ -116,10 +116,10 @@ stepStored xs ws m x = storedFor xs (memoryAfter (floorOf xs) ws m (singleCall m
 
 -- `kalomivund_run`.
 unfoldable pub runWord : List ℕ → List ℕ → List ℕ → List ℕ → ℕ → ℕ
-runWord xs ws m ss b = wordFor xs (ofReply (replyTo (floorOf xs) ws m (runCall m ss b)))
+runWord xs ws m ys b = wordFor xs (ofReply (replyTo (floorOf xs) ws m (runCall m ys b)))
 
 unfoldable pub runStored : List ℕ → List ℕ → List ℕ → List ℕ → ℕ → List ℕ
-runStored xs ws m ss b = storedFor xs (memoryAfter (floorOf xs) ws m (runCall m ss b)) m
+runStored xs ws m ys b = storedFor xs (memoryAfter (floorOf xs) ws m (runCall m ys b)) m
 
 -- `kalomivund_trial`: the word with the number of steps taken, the state memory and the report memory.
 unfoldable pub trialWord : List ℕ → List ℕ → (order seed state report : ℕ) → ℕ
@@ -140,7 +140,7 @@ rankStored xs ws rank m = storedFor xs (reportListed (floorOf xs) ws rank m) m
 
 -- `kalomivund_conflict`: two lent routes and a horizon.
 unfoldable pub conflictWord : List ℕ → List ℕ → ℕ → ℕ
-conflictWord a b horizon = wordOf (ofConflict (conflictOutcome a b horizon))
+conflictWord r q horizon = wordOf (ofConflict (conflictOutcome r q horizon))
 
 -- `kalomivund_check_record`: a floor with its walls, a carrier, and a lent record.
 unfoldable pub recordWord : List ℕ → List ℕ → (carrier : ℕ) → List ℕ → ℕ

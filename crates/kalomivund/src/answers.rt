@@ -27,7 +27,7 @@ use trial::Tried;
 
 // The word of printing.
 pub fn of_print(x: Printed) -> u64
-    ensures { λ r. ⌜ r ≡ wordOf (ofNumber (printedOutcome x)) ⌝ }
+    ensures { λ result. ⌜ result ≡ wordOf (ofNumber (printedOutcome x)) ⌝ }
 {
     match x {
         Printed::Written(n) => done(0, n),
@@ -37,7 +37,7 @@ pub fn of_print(x: Printed) -> u64
 
 // The word of a plan.
 pub fn of_plan(x: Planned) -> u64
-    ensures { λ r. ⌜ r ≡ wordOf (ofNumber (plannedOutcome x)) ⌝ }
+    ensures { λ result. ⌜ result ≡ wordOf (ofNumber (plannedOutcome x)) ⌝ }
 {
     match x {
         Planned::Failing(i) => done(0, i),
@@ -47,7 +47,7 @@ pub fn of_plan(x: Planned) -> u64
 
 // The word of a single step.
 pub fn of_step(x: Stepped) -> u64
-    ensures { λ r. ⌜ r ≡ wordOf (ofReply (steppedReply x)) ⌝ }
+    ensures { λ result. ⌜ result ≡ wordOf (ofReply (steppedReply x)) ⌝ }
 {
     match x {
         Stepped::Kept => done(0, 0),
@@ -59,7 +59,7 @@ pub fn of_step(x: Stepped) -> u64
 
 // The word of a run.
 pub fn of_run(x: Ran) -> u64
-    ensures { λ r. ⌜ r ≡ wordOf (ofReply (ranReply x)) ⌝ }
+    ensures { λ result. ⌜ result ≡ wordOf (ofReply (ranReply x)) ⌝ }
 {
     match x {
         Ran::Silent(n) => done(0, n),
@@ -71,7 +71,7 @@ pub fn of_run(x: Ran) -> u64
 
 // The word of the ceiling.
 pub fn of_ceiling(x: Most) -> u64
-    ensures { λ r. ⌜ r ≡ wordOf (ofNumber (figureOf x)) ⌝ }
+    ensures { λ result. ⌜ result ≡ wordOf (ofNumber (figureOf x)) ⌝ }
 {
     match x {
         Most::Steps(n) => done(0, n),
@@ -81,7 +81,7 @@ pub fn of_ceiling(x: Most) -> u64
 
 // The word of a trial.
 pub fn of_trial(x: Tried) -> u64
-    ensures { λ r. ⌜ r ≡ wordOf (ofNumber (triedOutcome x)) ⌝ }
+    ensures { λ result. ⌜ result ≡ wordOf (ofNumber (triedOutcome x)) ⌝ }
 {
     match x {
         Tried::Steps(n) => done(0, n),
@@ -91,7 +91,7 @@ pub fn of_trial(x: Tried) -> u64
 
 // The word of the run of a rank.
 pub fn of_listed(x: Listed) -> u64
-    ensures { λ r. ⌜ r ≡ wordOf (ofRank (listedOutcome x)) ⌝ }
+    ensures { λ result. ⌜ result ≡ wordOf (ofRank (listedOutcome x)) ⌝ }
 {
     match x {
         Listed::Run { total, steps } => done(steps, total as usize),
@@ -101,7 +101,7 @@ pub fn of_listed(x: Listed) -> u64
 
 // The word of the conflict test.
 pub fn of_conflict(x: Compared) -> u64
-    ensures { λ r. ⌜ r ≡ wordOf (ofConflict (comparedOutcome x)) ⌝ }
+    ensures { λ result. ⌜ result ≡ wordOf (ofConflict (comparedOutcome x)) ⌝ }
 {
     match x {
         Compared::Free => done(0, 0),
@@ -114,7 +114,7 @@ pub fn of_conflict(x: Compared) -> u64
 
 // The word of the check of a record.
 pub fn of_record(x: Legality) -> u64
-    ensures { λ r. ⌜ r ≡ wordOf (ofRecord (legalityOutcome x)) ⌝ }
+    ensures { λ result. ⌜ result ≡ wordOf (ofRecord (legalityOutcome x)) ⌝ }
 {
     match x {
         Legality::Route(a) => done(0, a as usize),
@@ -127,7 +127,7 @@ pub fn of_record(x: Legality) -> u64
 
 // The word of an arrival.
 pub fn of_arrival(x: Arrived) -> u64
-    ensures { λ r. ⌜ r ≡ wordOf (ofNumber (arrivedOutcome x)) ⌝ }
+    ensures { λ result. ⌜ result ≡ wordOf (ofNumber (arrivedOutcome x)) ⌝ }
 {
     match x {
         Arrived::At(a) => done(0, a as usize),
@@ -137,7 +137,7 @@ pub fn of_arrival(x: Arrived) -> u64
 
 // The word of the carriers that shut one in.
 pub fn of_blocked(x: Blocked) -> u64
-    ensures { λ r. ⌜ r ≡ wordOf (ofNumber (blockedOutcome x)) ⌝ }
+    ensures { λ result. ⌜ result ≡ wordOf (ofNumber (blockedOutcome x)) ⌝ }
 {
     match x {
         Blocked::Shut(set) => done(0, set as usize),

@@ -32,7 +32,7 @@ use search::Outcome;
 // The most steps for so many carriers.
 #[no_mangle]
 pub extern "C" fn kalomivund_ceiling(carriers: u16) -> u64
-    ensures { λ r. ⌜ r ≡ ceilingWord carriers ⌝ }
+    ensures { λ result. ⌜ result ≡ ceilingWord carriers ⌝ }
 {
     answers::of_ceiling(machine::ceiling(carriers as usize))
 }
@@ -40,7 +40,7 @@ pub extern "C" fn kalomivund_ceiling(carriers: u16) -> u64
 // Checks a floor and its walls.
 #[no_mangle]
 pub extern "C" fn kalomivund_check_floor(f: &[u16], walls: &[u16]) -> u64
-    ensures { λ r. ⌜ r ≡ checkWord (now (f .entry)) (now (walls .entry)) ⌝ }
+    ensures { λ result. ⌜ result ≡ checkWord (now (f .entry)) (now (walls .entry)) ⌝ }
 {
     if f.len() < 54 {
         return word::too_short();
@@ -51,9 +51,9 @@ pub extern "C" fn kalomivund_check_floor(f: &[u16], walls: &[u16]) -> u64
 // Reads a sheet: its floor record and its walls into lent memory.
 #[no_mangle]
 pub extern "C" fn kalomivund_read_sheet(text: &[u8], f: &mut [u16], walls: &mut [u16]) -> u64
-    ensures says { λ r. ⌜ r ≡ readWord (now (text .entry)) (length (now (f .entry))) (length (now (walls .entry))) ⌝ }
-    ensures records { λ r. ⌜ now (f .exit) ≡ readRecord (now (text .entry)) (now (f .entry)) (length (now (walls .entry))) ⌝ }
-    ensures stores { λ r. ⌜ now (walls .exit) ≡ readStored (now (text .entry)) (length (now (f .entry))) (now (walls .entry)) ⌝ }
+    ensures says { λ result. ⌜ result ≡ readWord (now (text .entry)) (length (now (f .entry))) (length (now (walls .entry))) ⌝ }
+    ensures records { λ result. ⌜ now (f .exit) ≡ readRecord (now (text .entry)) (now (f .entry)) (length (now (walls .entry))) ⌝ }
+    ensures stores { λ result. ⌜ now (walls .exit) ≡ readStored (now (text .entry)) (length (now (f .entry))) (now (walls .entry)) ⌝ }
 {
     if f.len() < 54 {
         return word::of_check_in_short(sheet::check(text, walls.len()));
@@ -71,8 +71,8 @@ pub extern "C" fn kalomivund_read_sheet(text: &[u8], f: &mut [u16], walls: &mut 
 // Writes the sheet of a floor into lent memory.
 #[no_mangle]
 pub extern "C" fn kalomivund_write_sheet(f: &[u16], walls: &[u16], out: &mut [u8]) -> u64
-    ensures says { λ r. ⌜ r ≡ writeWord (now (f .entry)) (now (walls .entry)) (length (now (out .entry))) ⌝ }
-    ensures stores { λ r. ⌜ now (out .exit) ≡ writeStored (now (f .entry)) (now (walls .entry)) (now (out .entry)) ⌝ }
+    ensures says { λ result. ⌜ result ≡ writeWord (now (f .entry)) (now (walls .entry)) (length (now (out .entry))) ⌝ }
+    ensures stores { λ result. ⌜ now (out .exit) ≡ writeStored (now (f .entry)) (now (walls .entry)) (now (out .entry)) ⌝ }
 {
     if f.len() < 54 {
         return word::too_short();
@@ -82,24 +82,24 @@ pub extern "C" fn kalomivund_write_sheet(f: &[u16], walls: &[u16], out: &mut [u8
 }
 
 // Needed lengths into lent memory of enough numbers.
-fn store_lengths(l: Lengths, out: &mut [u64]) -> u64
-    ensures says { λ r. ⌜ r ≡ wordOf (ofNumber (longEnough 9 (length (now (out .entry))) gives 0)) ⌝ }
-    ensures stores { λ r. ⌜ now (out .exit)
-        ≡ whenPassed (longEnough 9 (length (now (out .entry)))) (put (now (out .entry)) 0 (figureList l)) (now (out .entry)) ⌝ }
+fn store_lengths(lengths: Lengths, out: &mut [u64]) -> u64
+    ensures says { λ result. ⌜ result ≡ wordOf (ofNumber (longEnough 9 (length (now (out .entry))) gives 0)) ⌝ }
+    ensures stores { λ result. ⌜ now (out .exit)
+        ≡ whenPassed (longEnough 9 (length (now (out .entry)))) (put (now (out .entry)) 0 (figureList lengths)) (now (out .entry)) ⌝ }
 {
     if out.len() < 9 {
         return word::too_short();
     }
     let figures = [
-        l.walls as u64,
-        l.sheet as u64,
-        l.answers as u64,
-        l.text as u64,
-        l.state as u64,
-        l.route as u64,
-        l.floor as u64,
-        l.figures as u64,
-        l.report as u64,
+        lengths.walls as u64,
+        lengths.sheet as u64,
+        lengths.answers as u64,
+        lengths.text as u64,
+        lengths.state as u64,
+        lengths.route as u64,
+        lengths.floor as u64,
+        lengths.figures as u64,
+        lengths.report as u64,
     ];
     numbers::copy_figures(out, &figures);
     word::done(0, 0)
@@ -108,8 +108,8 @@ fn store_lengths(l: Lengths, out: &mut [u64]) -> u64
 // The needed length of each lent buffer of a floor: walls, sheet, answers, text, state, route, floor record, figures, report.
 #[no_mangle]
 pub extern "C" fn kalomivund_needed_lengths(f: &[u16], out: &mut [u64]) -> u64
-    ensures says { λ r. ⌜ r ≡ neededWord (now (f .entry)) (length (now (out .entry))) ⌝ }
-    ensures stores { λ r. ⌜ now (out .exit) ≡ neededStored (now (f .entry)) (now (out .entry)) ⌝ }
+    ensures says { λ result. ⌜ result ≡ neededWord (now (f .entry)) (length (now (out .entry))) ⌝ }
+    ensures stores { λ result. ⌜ now (out .exit) ≡ neededStored (now (f .entry)) (now (out .entry)) ⌝ }
 {
     if f.len() < 54 {
         return word::too_short();
@@ -124,8 +124,8 @@ pub extern "C" fn kalomivund_needed_lengths(f: &[u16], out: &mut [u64]) -> u64
 // A search with room for its route.
 fn search_into(f: Floor, walls: &[u16], carrier: u16, views: &[u16], route: &mut [u16]) -> u64
     requires { ⌜ 64 ≤ length (now route) ⌝ }
-    ensures says { λ r. ⌜ r ≡ wordOf (ofSearch (searchOf f (now (walls .entry)) carrier (now (views .entry)))) ⌝ }
-    ensures stores { λ r. ⌜ now (route .exit)
+    ensures says { λ result. ⌜ result ≡ wordOf (ofSearch (searchOf f (now (walls .entry)) carrier (now (views .entry)))) ⌝ }
+    ensures stores { λ result. ⌜ now (route .exit)
         ≡ routeStored (searchOf f (now (walls .entry)) carrier (now (views .entry))) (now (route .entry)) ⌝ }
 {
     let found = search::search(f, walls, carrier, views);
@@ -153,9 +153,9 @@ pub extern "C" fn kalomivund_search(
     views: &[u16],
     route: &mut [u16],
 ) -> u64
-    ensures says { λ r. ⌜ r
+    ensures says { λ result. ⌜ result
         ≡ searchWord (now (f .entry)) (now (walls .entry)) carrier (now (views .entry)) (length (now (route .entry))) ⌝ }
-    ensures stores { λ r. ⌜ now (route .exit)
+    ensures stores { λ result. ⌜ now (route .exit)
         ≡ searchStored (now (f .entry)) (now (walls .entry)) carrier (now (views .entry)) (now (route .entry)) ⌝ }
 {
     if f.len() < 54 {
@@ -171,8 +171,8 @@ pub extern "C" fn kalomivund_search(
 // Plans a floor: the answers of its carriers into lent memory.
 #[no_mangle]
 pub extern "C" fn kalomivund_plan(f: &[u16], walls: &[u16], answers: &mut [u16]) -> u64
-    ensures says { λ r. ⌜ r ≡ planWord (now (f .entry)) (now (walls .entry)) (length (now (answers .entry))) ⌝ }
-    ensures stores { λ r. ⌜ now (answers .exit) ≡ planStored (now (f .entry)) (now (walls .entry)) (now (answers .entry)) ⌝ }
+    ensures says { λ result. ⌜ result ≡ planWord (now (f .entry)) (now (walls .entry)) (length (now (answers .entry))) ⌝ }
+    ensures stores { λ result. ⌜ now (answers .exit) ≡ planStored (now (f .entry)) (now (walls .entry)) (now (answers .entry)) ⌝ }
 {
     if f.len() < 54 {
         return word::too_short();
@@ -183,8 +183,8 @@ pub extern "C" fn kalomivund_plan(f: &[u16], walls: &[u16], answers: &mut [u16])
 // From a sheet's bytes to its printed routes, or the line of its refusal, in lent memory.
 #[no_mangle]
 pub extern "C" fn kalomivund_print_routes(text: &[u8], out: &mut [u8]) -> u64
-    ensures says { λ r. ⌜ r ≡ printWord (now (text .entry)) (length (now (out .entry))) ⌝ }
-    ensures stores { λ r. ⌜ now (out .exit) ≡ printStored (now (text .entry)) (now (out .entry)) ⌝ }
+    ensures says { λ result. ⌜ result ≡ printWord (now (text .entry)) (length (now (out .entry))) ⌝ }
+    ensures stores { λ result. ⌜ now (out .exit) ≡ printStored (now (text .entry)) (now (out .entry)) ⌝ }
 {
     answers::of_print(printing::routes(text, out))
 }
@@ -192,8 +192,8 @@ pub extern "C" fn kalomivund_print_routes(text: &[u8], out: &mut [u8]) -> u64
 // Puts the fresh state of a floor into lent memory.
 #[no_mangle]
 pub extern "C" fn kalomivund_fresh(f: &[u16], walls: &[u16], state: &mut [u16]) -> u64
-    ensures says { λ r. ⌜ r ≡ freshWord (now (f .entry)) (now (walls .entry)) (length (now (state .entry))) ⌝ }
-    ensures stores { λ r. ⌜ now (state .exit) ≡ freshStored (now (f .entry)) (now (walls .entry)) (now (state .entry)) ⌝ }
+    ensures says { λ result. ⌜ result ≡ freshWord (now (f .entry)) (now (walls .entry)) (length (now (state .entry))) ⌝ }
+    ensures stores { λ result. ⌜ now (state .exit) ≡ freshStored (now (f .entry)) (now (walls .entry)) (now (state .entry)) ⌝ }
 {
     if f.len() < 54 {
         return word::too_short();
@@ -204,8 +204,8 @@ pub extern "C" fn kalomivund_fresh(f: &[u16], walls: &[u16], state: &mut [u16]) 
 // Takes a single step on a lent state.
 #[no_mangle]
 pub extern "C" fn kalomivund_step(f: &[u16], walls: &[u16], state: &mut [u16], step: u16) -> u64
-    ensures says { λ r. ⌜ r ≡ stepWord (now (f .entry)) (now (walls .entry)) (now (state .entry)) step ⌝ }
-    ensures stores { λ r. ⌜ now (state .exit) ≡ stepStored (now (f .entry)) (now (walls .entry)) (now (state .entry)) step ⌝ }
+    ensures says { λ result. ⌜ result ≡ stepWord (now (f .entry)) (now (walls .entry)) (now (state .entry)) step ⌝ }
+    ensures stores { λ result. ⌜ now (state .exit) ≡ stepStored (now (f .entry)) (now (walls .entry)) (now (state .entry)) step ⌝ }
 {
     if f.len() < 54 {
         return word::too_short();
@@ -222,8 +222,8 @@ pub extern "C" fn kalomivund_run(
     steps: &[u16],
     budget: u16,
 ) -> u64
-    ensures says { λ r. ⌜ r ≡ runWord (now (f .entry)) (now (walls .entry)) (now (state .entry)) (now (steps .entry)) budget ⌝ }
-    ensures stores { λ r. ⌜ now (state .exit)
+    ensures says { λ result. ⌜ result ≡ runWord (now (f .entry)) (now (walls .entry)) (now (state .entry)) (now (steps .entry)) budget ⌝ }
+    ensures stores { λ result. ⌜ now (state .exit)
         ≡ runStored (now (f .entry)) (now (walls .entry)) (now (state .entry)) (now (steps .entry)) budget ⌝ }
 {
     if f.len() < 54 {
@@ -242,11 +242,11 @@ pub extern "C" fn kalomivund_trial(
     state: &mut [u16],
     report: &mut [u16],
 ) -> u64
-    ensures says { λ r. ⌜ r ≡ trialWord (now (f .entry)) (now (walls .entry)) order seed
+    ensures says { λ result. ⌜ result ≡ trialWord (now (f .entry)) (now (walls .entry)) order seed
         (length (now (state .entry))) (length (now (report .entry))) ⌝ }
-    ensures stores { λ r. ⌜ now (state .exit) ≡ trialStateStored (now (f .entry)) (now (walls .entry)) order seed
+    ensures stores { λ result. ⌜ now (state .exit) ≡ trialStateStored (now (f .entry)) (now (walls .entry)) order seed
         (now (state .entry)) (length (now (report .entry))) ⌝ }
-    ensures reports { λ r. ⌜ now (report .exit) ≡ trialReportStored (now (f .entry)) (now (walls .entry)) order seed
+    ensures reports { λ result. ⌜ now (report .exit) ≡ trialReportStored (now (f .entry)) (now (walls .entry)) order seed
         (length (now (state .entry))) (now (report .entry)) ⌝ }
 {
     if f.len() < 54 {
@@ -263,8 +263,8 @@ pub extern "C" fn kalomivund_run_of_rank(
     rank: u64,
     report: &mut [u16],
 ) -> u64
-    ensures says { λ r. ⌜ r ≡ rankWord (now (f .entry)) (now (walls .entry)) rank (length (now (report .entry))) ⌝ }
-    ensures reports { λ r. ⌜ now (report .exit) ≡ rankStored (now (f .entry)) (now (walls .entry)) rank (now (report .entry)) ⌝ }
+    ensures says { λ result. ⌜ result ≡ rankWord (now (f .entry)) (now (walls .entry)) rank (length (now (report .entry))) ⌝ }
+    ensures reports { λ result. ⌜ now (report .exit) ≡ rankStored (now (f .entry)) (now (walls .entry)) rank (now (report .entry)) ⌝ }
 {
     if f.len() < 54 {
         return word::too_short();
@@ -275,10 +275,10 @@ pub extern "C" fn kalomivund_run_of_rank(
 // The first conflict of two lent routes of 64 cells through a horizon: free, same cell, change of places or following, with
 // the beat.
 #[no_mangle]
-pub extern "C" fn kalomivund_conflict(a: &[u16], b: &[u16], horizon: u16) -> u64
-    ensures { λ r. ⌜ r ≡ conflictWord (now (a .entry)) (now (b .entry)) horizon ⌝ }
+pub extern "C" fn kalomivund_conflict(r: &[u16], q: &[u16], horizon: u16) -> u64
+    ensures { λ result. ⌜ result ≡ conflictWord (now (r .entry)) (now (q .entry)) horizon ⌝ }
 {
-    answers::of_conflict(conflict::conflict(a, b, horizon))
+    answers::of_conflict(conflict::conflict(r, q, horizon))
 }
 
 // Whether a record of 65 numbers is a route of a carrier of a floor, with its arrival; none, not heard, or what is wrong first.
@@ -289,7 +289,7 @@ pub extern "C" fn kalomivund_check_record(
     carrier: u16,
     told: &[u16],
 ) -> u64
-    ensures { λ r. ⌜ r ≡ recordWord (now (f .entry)) (now (walls .entry)) carrier (now (told .entry)) ⌝ }
+    ensures { λ result. ⌜ result ≡ recordWord (now (f .entry)) (now (walls .entry)) carrier (now (told .entry)) ⌝ }
 {
     if f.len() < 54 {
         return word::too_short();
@@ -300,7 +300,7 @@ pub extern "C" fn kalomivund_check_record(
 // The arrival of a lent route of 64 cells through a horizon.
 #[no_mangle]
 pub extern "C" fn kalomivund_arrival(cells: &[u16], horizon: u16) -> u64
-    ensures { λ r. ⌜ r ≡ arrivalWord (now (cells .entry)) horizon ⌝ }
+    ensures { λ result. ⌜ result ≡ arrivalWord (now (cells .entry)) horizon ⌝ }
 {
     answers::of_arrival(legality::arrival(cells, horizon))
 }
@@ -314,8 +314,8 @@ pub extern "C" fn kalomivund_blockers(
     carrier: u16,
     answers: &mut [u16],
 ) -> u64
-    ensures says { λ r. ⌜ r ≡ blockersWord (now (f .entry)) (now (walls .entry)) carrier (length (now (answers .entry))) ⌝ }
-    ensures stores { λ r. ⌜ now (answers .exit) ≡ blockersStored (now (f .entry)) (now (walls .entry)) carrier (now (answers .entry)) ⌝ }
+    ensures says { λ result. ⌜ result ≡ blockersWord (now (f .entry)) (now (walls .entry)) carrier (length (now (answers .entry))) ⌝ }
+    ensures stores { λ result. ⌜ now (answers .exit) ≡ blockersStored (now (f .entry)) (now (walls .entry)) carrier (now (answers .entry)) ⌝ }
 {
     if f.len() < 54 {
         return word::too_short();

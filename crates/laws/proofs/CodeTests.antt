@@ -3,40 +3,40 @@ use mathlib.Core.Path.{_≡_, sym, _∙_, ap}
 use mathlib.Core.Bool.{Bool, true, false, _&&_, not}
 use borrow.Author.Tests.{not-true, not-false, le-leb, lt-leb, lt-ltb, le-ltb, eq-eqb, ne-eqb}
 
--- Where t is what a call answers of b: a test of t, one of its opposite, and one of the opposite of b.
-module _ {t b : Bool} (e : t ≡ b) where
-  pub code-says : {c : Bool} → t ≡ c → b ≡ c
+-- Where x is what a call answers of y: a test of x, one of its opposite, and one of the opposite of y.
+module _ {x y : Bool} (e : x ≡ y) where
+  pub code-says : {z : Bool} → x ≡ z → y ≡ z
   code-says h = sym e ∙ h
 
-  pub code-holds : not t ≡ false → b ≡ true
-  code-holds n = sym e ∙ not-false t n
+  pub code-holds : not x ≡ false → y ≡ true
+  code-holds n = sym e ∙ not-false x n
 
-  pub code-fails : not t ≡ true → b ≡ false
-  code-fails n = sym e ∙ not-true t n
+  pub code-fails : not x ≡ true → y ≡ false
+  code-fails n = sym e ∙ not-true x n
 
-  pub not-fails : t ≡ true → not b ≡ false
+  pub not-fails : x ≡ true → not y ≡ false
   not-fails h = ap not (code-says h)
 
-  pub not-holds : t ≡ false → not b ≡ true
+  pub not-holds : x ≡ false → not y ≡ true
   not-holds h = ap not (code-says h)
 
-  pub not-last : not t ≡ not b
+  pub not-last : not x ≡ not y
   not-last = ap not e
 
 pub ruleset says = (code-says, code-holds, code-fails, not-fails, not-holds, not-last)
 
 -- Of two tests, the first that fails ends the chain; behind one that holds the second decides.
-pub and-ends : {a : Bool} (b : Bool) → a ≡ false → false ≡ (a && b)
-and-ends b h = rw h
+pub and-ends : {x : Bool} (y : Bool) → x ≡ false → false ≡ (x && y)
+and-ends y h = rw h
 
-pub and-on : {a b u : Bool} → a ≡ true → u ≡ b → u ≡ (a && b)
+pub and-on : {x y z : Bool} → x ≡ true → z ≡ y → z ≡ (x && y)
 and-on h e = rw h e
 
 -- The last test is the answer.
-pub is-true : {b : Bool} → b ≡ true → true ≡ b
+pub is-true : {x : Bool} → x ≡ true → true ≡ x
 is-true h = sym h
 
-pub is-false : {b : Bool} → b ≡ false → false ≡ b
+pub is-false : {x : Bool} → x ≡ false → false ≡ x
 is-false h = sym h
 
 pub ruleset decides = (and-ends, and-on, is-true, is-false, le-leb, lt-leb, lt-ltb, le-ltb, eq-eqb, ne-eqb, says)

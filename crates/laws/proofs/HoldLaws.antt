@@ -13,44 +13,44 @@ use Rattle.laws.proofs.CodeTests.{says}
 use Rattle.laws.proofs.EachLaws.{Decides}
 
 -- Each test holds exactly if each of the statements that they decide does.
-pub each-decides : (p : ℕ → Bool) (P : ℕ → Type 0) → Decides p P → (m : ℕ) → (each m p ≡ true) ↔ All P m
+pub each-decides : (φ : ℕ → Bool) (P : ℕ → Type 0) → Decides φ P → (k : ℕ) → (each k φ ≡ true) ↔ All P k
 unfolding each
-each-decides p P means zero = (λ h i l. absurd (omega arith), λ a. refl)
-each-decides p P means (suc m) = (
+each-decides φ P means zero = (λ h i l. absurd (omega arith), λ a. refl)
+each-decides φ P means (suc k) = (
   λ h i l.
-      let b = and-eq-true-iff (each m p) (p m) .0 h in
-      below-more P m (each-decides p P means m .0 (b .0)) (means m .0 (b .1)) i (omega arith),
-  λ a. and-both (each-decides p P means m .1 (λ i l. a i (omega arith))) (means m .1 (a m (omega arith))),
+      let b = and-eq-true-iff (each k φ) (φ k) .0 h in
+      below-more P k (each-decides φ P means k .0 (b .0)) (means k .0 (b .1)) i (omega arith),
+  λ a. and-both (each-decides φ P means k .1 (λ i l. a i (omega arith))) (means k .1 (a k (omega arith))),
 )
 
 -- Each test holds where `each` says so, and the other way round.
-pub each-holds : (m : ℕ) (p : ℕ → Bool) → each m p ≡ true → (i : ℕ) → i < m → p i ≡ true
-each-holds m p h = each-decides p (λ (i : ℕ). p i ≡ true) (λ i. (λ e. e, λ e. e)) m .0 h
+pub each-holds : (k : ℕ) (φ : ℕ → Bool) → each k φ ≡ true → (i : ℕ) → i < k → φ i ≡ true
+each-holds k φ h = each-decides φ (λ (i : ℕ). φ i ≡ true) (λ i. (λ e. e, λ e. e)) k .0 h
 
-pub each-true : (m : ℕ) (p : ℕ → Bool) → ((i : ℕ) → i < m → p i ≡ true) → each m p ≡ true
-each-true m p h = each-decides p (λ (i : ℕ). p i ≡ true) (λ i. (λ e. e, λ e. e)) m .1 h
+pub each-true : (k : ℕ) (φ : ℕ → Bool) → ((i : ℕ) → i < k → φ i ≡ true) → each k φ ≡ true
+each-true k φ h = each-decides φ (λ (i : ℕ). φ i ≡ true) (λ i. (λ e. e, λ e. e)) k .1 h
 
 -- Tests that agree at each place.
-pub each-same : (m : ℕ) (p q : ℕ → Bool) → All (λ (i : ℕ). p i ≡ q i) m → each m p ≡ each m q
+pub each-same : (k : ℕ) (φ ψ : ℕ → Bool) → All (λ (i : ℕ). φ i ≡ ψ i) k → each k φ ≡ each k ψ
 unfolding each
-each-same zero p q a = refl
-each-same (suc m) p q a = rw (each-same m p q (λ i l. a i (omega arith)), a m (omega arith))
+each-same zero φ ψ a = refl
+each-same (suc k) φ ψ a = rw (each-same k φ ψ (λ i l. a i (omega arith)), a k (omega arith))
 
 -- A loop: before the first test; one more that holds; the first that fails; the end.
-pub hold-none : (p : ℕ → Bool) → each 0 p ≡ true
+pub hold-none : (φ : ℕ → Bool) → each 0 φ ≡ true
 unfolding each
-hold-none p = refl
+hold-none φ = refl
 
-pub hold-more : (p : ℕ → Bool) (i : ℕ) → each i p ≡ true → p i ≡ true → each (i + 1) p ≡ true
+pub hold-more : (φ : ℕ → Bool) (i : ℕ) → each i φ ≡ true → φ i ≡ true → each (i + 1) φ ≡ true
 unfolding each
-hold-more p i h t = rw (add-one, h, t)
+hold-more φ i h t = rw (add-one, h, t)
 
-pub hold-stop : (p : ℕ → Bool) (i m : ℕ) → i < m → p i ≡ false → false ≡ each m p
-hold-stop p i m l f = sym (not-true-is-false (each m p) (λ h. false-fails f (each-holds m p h i l)))
+pub hold-stop : (φ : ℕ → Bool) (i k : ℕ) → i < k → φ i ≡ false → false ≡ each k φ
+hold-stop φ i k l f = sym (not-true-is-false (each k φ) (λ h. false-fails f (each-holds k φ h i l)))
 
-pub hold-end : (p : ℕ → Bool) (i m : ℕ) → i ≤ m → m ≤ i → each i p ≡ true → true ≡ each m p
-hold-end p i m a b h =
-    let e : i ≡ m = omega arith in
+pub hold-end : (φ : ℕ → Bool) (i k : ℕ) → i ≤ k → k ≤ i → each i φ ≡ true → true ≡ each k φ
+hold-end φ i k a b h =
+    let e : i ≡ k = omega arith in
     sym (rw e at h)
 
 -- What the answers of such a loop take.

@@ -27,10 +27,10 @@ module _ (text : List ℕ) where
   part-split at a b = take-add a b (drop at text) ∙ ap (λ (r : List ℕ). take a (drop at text) ++ take b r) (drop-drop a at text)
 
   -- A part that is given byte by byte.
-  pub part-is : (at n : ℕ) (b : List ℕ) → at + n ≤ length text → length b ≡ n → ((i : ℕ) → i < n → getD text (at + i) 0 ≡ getD b i 0)
-      → part text at n ≡ b
-  part-is at n b l s h =
-      ext-getD 0 (part text at n) b (part-length at n l ∙ sym s)
+  pub part-is : (at n : ℕ) (xs : List ℕ) → at + n ≤ length text → length xs ≡ n → ((i : ℕ) → i < n → getD text (at + i) 0 ≡ getD xs i 0)
+      → part text at n ≡ xs
+  part-is at n xs l s h =
+      ext-getD 0 (part text at n) xs (part-length at n l ∙ sym s)
       (λ i k. let q : i < n = omega (arith, part-length at n l) in part-byte at n i q ∙ h i q)
 
 pub part-none : (text : List ℕ) (at : ℕ) → part text at 0 ≡ []
@@ -38,15 +38,15 @@ unfolding part
 part-none text at = refl
 
 -- A part that is two blocks, one behind the other, taken apart.
-pub part-blocks : (text a b : List ℕ) (at m n : ℕ) → length a ≡ m → length b ≡ n → 0 < m + n → part text at (m + n) ≡ a ++ b
-    → (part text at m ≡ a) × (part text (at + m) n ≡ b)
-part-blocks text a b at m n s k z e =
-    let size : length (part text at (m + n)) ≡ m + n = ap length e ∙ length-append a b ∙ rw (s, k) in
-    let reach : at + (m + n) ≤ length text = part-reach text at (m + n) z size in
-    let front : length (part text at m) ≡ m = part-length text at m (omega arith) in
-    let both : part text at m ++ part text (at + m) n ≡ a ++ b = sym (part-split text at m n) ∙ e in (
-      sym (take-at (part text at m) (part text (at + m) n) m front) ∙ ap (take m) both ∙ take-at a b m s,
-      sym (drop-at (part text at m) (part text (at + m) n) m front) ∙ ap (drop m) both ∙ drop-at a b m s,
+pub part-blocks : (text xs ys : List ℕ) (at p n : ℕ) → length xs ≡ p → length ys ≡ n → 0 < p + n → part text at (p + n) ≡ xs ++ ys
+    → (part text at p ≡ xs) × (part text (at + p) n ≡ ys)
+part-blocks text xs ys at p n s k z e =
+    let size : length (part text at (p + n)) ≡ p + n = ap length e ∙ length-append xs ys ∙ rw (s, k) in
+    let reach : at + (p + n) ≤ length text = part-reach text at (p + n) z size in
+    let front : length (part text at p) ≡ p = part-length text at p (omega arith) in
+    let both : part text at p ++ part text (at + p) n ≡ xs ++ ys = sym (part-split text at p n) ∙ e in (
+      sym (take-at (part text at p) (part text (at + p) n) p front) ∙ ap (take p) both ∙ take-at xs ys p s,
+      sym (drop-at (part text at p) (part text (at + p) n) p front) ∙ ap (drop p) both ∙ drop-at xs ys p s,
     )
 
 -- The whole text is its first part.

@@ -6,82 +6,82 @@ use mathlib.Core.Path.{_≡_, refl, sym, _∙_}
 use lib.Dec.{ltb, eqb}
 use borrow.Author.Tests.{ltb-true, ltb-false, eqb-true, eqb-false, eq-eqb}
 
-pub true-or-false : (b : Bool) → (b ≡ true) ⊎ (b ≡ false)
+pub true-or-false : (x : Bool) → (x ≡ true) ⊎ (x ≡ false)
 true-or-false true = inl refl
 true-or-false false = inr refl
 
-pub true-false-absurd : {A : Type 0} {b : Bool} → b ≡ true → b ≡ false → A
+pub true-false-absurd : {A : Type 0} {x : Bool} → x ≡ true → x ≡ false → A
 true-false-absurd e h = absurd (true≢false (sym e ∙ h))
 
-pub not-true-is-false : (b : Bool) → (b ≡ true → ⊥) → b ≡ false
+pub not-true-is-false : (x : Bool) → (x ≡ true → ⊥) → x ≡ false
 not-true-is-false true h = absurd (h refl)
 not-true-is-false false h = refl
 
-pub false-fails : {b : Bool} → b ≡ false → b ≡ true → ⊥
+pub false-fails : {x : Bool} → x ≡ false → x ≡ true → ⊥
 false-fails h t = true-false-absurd t h
 
-pub and-both : {a b : Bool} → a ≡ true → b ≡ true → (a && b) ≡ true
+pub and-both : {x y : Bool} → x ≡ true → y ≡ true → (x && y) ≡ true
 and-both e h = rw (e, h)
 
-pub and-fst : (a b : Bool) → (a && b) ≡ true → a ≡ true
-and-fst true b e = refl
-and-fst false b e = e
+pub and-fst : (x y : Bool) → (x && y) ≡ true → x ≡ true
+and-fst true y e = refl
+and-fst false y e = e
 
-pub and-snd : (a b : Bool) → (a && b) ≡ true → b ≡ true
-and-snd true b e = e
-and-snd false b e = true-false-absurd e refl
+pub and-snd : (x y : Bool) → (x && y) ≡ true → y ≡ true
+and-snd true y e = e
+and-snd false y e = true-false-absurd e refl
 
-pub or-cases : (a b : Bool) → (a || b) ≡ true → (a ≡ true) ⊎ (b ≡ true)
-or-cases true b e = inl refl
-or-cases false b e = inr e
+pub or-cases : (x y : Bool) → (x || y) ≡ true → (x ≡ true) ⊎ (y ≡ true)
+or-cases true y e = inl refl
+or-cases false y e = inr e
 
-pub or-inl : (a b : Bool) → a ≡ true → (a || b) ≡ true
-or-inl a b e = rw e
+pub or-inl : (x y : Bool) → x ≡ true → (x || y) ≡ true
+or-inl x y e = rw e
 
-pub or-inr : (a b : Bool) → b ≡ true → (a || b) ≡ true
-or-inr true b e = refl
-or-inr false b e = e
+pub or-inr : (x y : Bool) → y ≡ true → (x || y) ≡ true
+or-inr true y e = refl
+or-inr false y e = e
 
-pub not-is-true : (b : Bool) → (b ≡ true → ⊥) → not b ≡ true
+pub not-is-true : (x : Bool) → (x ≡ true → ⊥) → not x ≡ true
 not-is-true true h = absurd (h refl)
 not-is-true false h = refl
 
-pub not-refutes : (b : Bool) → not b ≡ true → b ≡ true → ⊥
+pub not-refutes : (x : Bool) → not x ≡ true → x ≡ true → ⊥
 not-refutes true e h = true-false-absurd e refl
 not-refutes false e h = true-false-absurd h refl
 
-pub lt-or-le : (m n : ℕ) → (m < n) ⊎ (n ≤ m)
-lt-or-le m n =
-    ⊎-elim (λ (e : ltb m n ≡ true). inl (ltb-true m n e)) (λ (e : ltb m n ≡ false). inr (ltb-false m n e)) (true-or-false (ltb m n))
+pub lt-or-le : (k n : ℕ) → (k < n) ⊎ (n ≤ k)
+lt-or-le k n =
+    ⊎-elim (λ (e : ltb k n ≡ true). inl (ltb-true k n e)) (λ (e : ltb k n ≡ false). inr (ltb-false k n e)) (true-or-false (ltb k n))
 
-pub eq-or-ne : (m n : ℕ) → (m ≡ n) ⊎ (m ≡ n → ⊥)
-eq-or-ne m n =
-    ⊎-elim (λ (e : eqb m n ≡ true). inl (eqb-true m n e)) (λ (e : eqb m n ≡ false). inr (eqb-false m n e)) (true-or-false (eqb m n))
+pub eq-or-ne : (k n : ℕ) → (k ≡ n) ⊎ (k ≡ n → ⊥)
+eq-or-ne k n =
+    ⊎-elim (λ (e : eqb k n ≡ true). inl (eqb-true k n e)) (λ (e : eqb k n ≡ false). inr (eqb-false k n e)) (true-or-false (eqb k n))
 
-pub eqbs-say : (a b c d : ℕ) → (eqb a b && eqb c d) ≡ true → (a ≡ b) × (c ≡ d)
-eqbs-say a b c d e = (eqb-true a b (and-fst (eqb a b) (eqb c d) e), eqb-true c d (and-snd (eqb a b) (eqb c d) e))
+pub eqbs-say : (a b a′ b′ : ℕ) → (eqb a b && eqb a′ b′) ≡ true → (a ≡ b) × (a′ ≡ b′)
+eqbs-say a b a′ b′ e = (eqb-true a b (and-fst (eqb a b) (eqb a′ b′) e), eqb-true a′ b′ (and-snd (eqb a b) (eqb a′ b′) e))
 
-pub eqbs-hold : (a b c d : ℕ) → (a ≡ b) × (c ≡ d) → (eqb a b && eqb c d) ≡ true
-eqbs-hold a b c d h = and-both (eq-eqb a b (h .0)) (eq-eqb c d (h .1))
+pub eqbs-hold : (a b a′ b′ : ℕ) → (a ≡ b) × (a′ ≡ b′) → (eqb a b && eqb a′ b′) ≡ true
+eqbs-hold a b a′ b′ h = and-both (eq-eqb a b (h .0)) (eq-eqb a′ b′ (h .1))
 
 -- Two tests that say the same are the same.
-pub same-test : (a b : Bool) → (a ≡ true → b ≡ true) → (b ≡ true → a ≡ true) → a ≡ b
-same-test true b f g = sym (f refl)
+pub same-test : (x y : Bool) → (x ≡ true → y ≡ true) → (y ≡ true → x ≡ true) → x ≡ y
+same-test true y f g = sym (f refl)
 same-test false true f g = g refl
 same-test false false f g = refl
 
 -- The second test of a conjunction counts only where the first holds.
-pub and-same : (a b c : Bool) → (a ≡ true → b ≡ c) → (a && b) ≡ (a && c)
-and-same true b c e = e refl
-and-same false b c e = refl
+pub and-same : (x y z : Bool) → (x ≡ true → y ≡ z) → (x && y) ≡ (x && z)
+and-same true y z e = e refl
+and-same false y z e = refl
 
 -- So below a bound.
-pub below-same : (m n : ℕ) (b c : Bool) → (m < n → b ≡ c) → (ltb m n && b) ≡ (ltb m n && c)
-below-same m n b c e = and-same (ltb m n) b c (λ h. e (ltb-true m n h))
+pub below-same : (k n : ℕ) (x y : Bool) → (k < n → x ≡ y) → (ltb k n && x) ≡ (ltb k n && y)
+below-same k n x y e = and-same (ltb k n) x y (λ h. e (ltb-true k n h))
 
-pub inside-same : (m n : ℕ) (a b c : Bool) → (m < n → b ≡ c) → (ltb m n && a && b) ≡ (ltb m n && a && c)
-inside-same m n a b c e = and-same (ltb m n && a) b c (λ h. e (ltb-true m n (and-fst (ltb m n) a h)))
+pub inside-same : (k n : ℕ) (x y z : Bool) → (k < n → y ≡ z) → (ltb k n && x && y) ≡ (ltb k n && x && z)
+inside-same k n x y z e = and-same (ltb k n && x) y z (λ h. e (ltb-true k n (and-fst (ltb k n) x h)))
 
-pub and-fails : (a b : Bool) → (a && b) ≡ false → (a ≡ false) ⊎ (b ≡ false)
-and-fails true b e = inr e
-and-fails false b e = inl refl
+pub and-fails : (x y : Bool) → (x && y) ≡ false → (x ≡ false) ⊎ (y ≡ false)
+and-fails true y e = inr e
+and-fails false y e = inl refl

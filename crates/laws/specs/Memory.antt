@@ -3,9 +3,9 @@ use Prim.Native.Nat.{ℕ, _+_}
 use mathlib.Core.List.{List, _++_}
 use lib.ListN.{length, take, drop}
 
--- The memory m with the block b at a place.
+-- The memory m with the block xs at a place.
 unfoldable pub put : List ℕ → ℕ → List ℕ → List ℕ
-put m at b = take at m ++ (b ++ drop (at + length b) m)
+put m at xs = take at m ++ (xs ++ drop (at + length xs) m)
 
 -- The n numbers of the memory m from a place on.
 unfoldable pub part : List ℕ → ℕ → ℕ → List ℕ

@@ -10,8 +10,8 @@ pub data Verdict : Type 0 where
 infixr 30 _then_
 -- The second check is made only where the first finds nothing.
 unfoldable pub _then_ : Verdict → Verdict → Verdict
-_then_ passed v = v
-_then_ (refused k p) v = refused k p
+_then_ passed x = x
+_then_ (refused k p) x = refused k p
 
 -- A test that must hold, refused with number k and place p otherwise.
 unfoldable pub demand : Bool → ℕ → ℕ → Verdict
@@ -21,11 +21,11 @@ demand false k p = refused k p
 -- The checks 0 to m − 1 in their order.
 unfoldable pub inTurn : (ℕ → Verdict) → ℕ → Verdict
 inTurn check zero = passed
-inTurn check (suc m) = inTurn check m then check m
+inTurn check (suc n) = inTurn check n then check n
 
--- The tests 0 to m − 1 in their order, test i having the place p + i.
+-- The tests 0 to n − 1 in their order, test i having the place p + i.
 unfoldable pub demandEach : ℕ → ℕ → (ℕ → Bool) → ℕ → Verdict
-demandEach k p ok m = inTurn (λ i. demand (ok i) k (p + i)) m
+demandEach k p ok n = inTurn (λ i. demand (ok i) k (p + i)) n
 
 -- The check finds nothing.
 unfoldable pub passes : Verdict → Bool
@@ -40,14 +40,14 @@ pub data Outcome (A : Type 0) : Type 0 where
 infixr 29 _gives_
 -- The value where the checks find nothing; otherwise their refusal.
 unfoldable pub _gives_ : {A : Type 0} → Verdict → A → Outcome A
-_gives_ passed a = value a
-_gives_ (refused k p) a = refusal k p
+_gives_ passed x = value x
+_gives_ (refused k p) x = refusal k p
 
 infixr 29 _thenAnswers_
 -- What is answered where the checks find nothing; otherwise their refusal.
 unfoldable pub _thenAnswers_ : {A : Type 0} → Verdict → Outcome A → Outcome A
-_thenAnswers_ passed r = r
-_thenAnswers_ (refused k p) r = refusal k p
+_thenAnswers_ passed x = x
+_thenAnswers_ (refused k p) x = refusal k p
 
 -- The new value where the checks find nothing; otherwise the old one, as it was.
 unfoldable pub whenPassed : {A : Type 0} → Verdict → A → A → A
@@ -56,15 +56,15 @@ whenPassed (refused k p) new old = old
 
 -- Each of the first m tests holds.
 unfoldable pub each : ℕ → (ℕ → Bool) → Bool
-each zero p = true
-each (suc m) p = each m p && p m
+each zero φ = true
+each (suc n) φ = each n φ && φ n
 
--- Each of the first m items is as P says.
+-- Each of the first k items is as P says.
 abbrev pub All : (ℕ → Type 0) → ℕ → Type 0
-All P m = (i : ℕ) → i < m → P i
+All P k = (i : ℕ) → i < k → P i
 
--- Item i is the first of m that is not as P says.
-pub record First (P : ℕ → Type 0) (m i : ℕ) : Type 0 where
-  pub listed : i < m
+-- Item i is the first of k that is not as P says.
+pub record First (P : ℕ → Type 0) (k i : ℕ) : Type 0 where
+  pub listed : i < k
   pub fails : P i → ⊥
   pub before : All P i

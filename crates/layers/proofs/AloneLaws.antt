@@ -164,10 +164,10 @@ module _ (g : SearchGrid) (sets : List ℕ) (t c : ℕ) (grid : Grid g) (old : T
               inr (sym (div-add-mod' d (g .width)) ∙ rw (k, h .1) whole)
 
 -- The same of the table that the code makes.
-pub more-made : (g : SearchGrid) (sets after : List ℕ) (t c : ℕ) (l : Place) → Grid g → Tidy g sets → t < 64 → c < g .cells →
-    PlaceOf g c l → after ≡ added sets (wordOf t (l .row)) (l .column) → ChangedAt g sets t after × Joined g sets t c after
+pub more-made : (g : SearchGrid) (sets after : List ℕ) (t c : ℕ) (x : Place) → Grid g → Tidy g sets → t < 64 → c < g .cells →
+    PlaceOf g c x → after ≡ added sets (wordOf t (x .row)) (x .column) → ChangedAt g sets t after × Joined g sets t c after
 unfolding end at
-more-made g sets after t c l grid old early inside place e =
+more-made g sets after t c x grid old early inside place e =
     rw (e, place .column, place .row) (end-changed g sets t c grid old early inside, end-joined g sets t c grid old early inside)
 
 -- A set that is emptied, and that a cell joins then, has this cell alone.

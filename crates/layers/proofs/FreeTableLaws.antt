@@ -44,7 +44,7 @@ stands-more : (g : SearchGrid) (free m : List ℕ) (j t c : ℕ) → standsAt g 
     (standsAt g j free m t c && vacant (g .horizon) t c (viewAt m j))
 unfolding standsAt
 stands-more g free m j t c =
-    ap (λ (b : Bool). here && b) (every-more p m j ∙ and-comm (p (viewAt m j)) (every p (records m j)))
+    ap (λ (x : Bool). here && x) (every-more p m j ∙ and-comm (p (viewAt m j)) (every p (records m j)))
     ∙ sym (and-assoc here (every p (records m j)) (p (viewAt m j)))
   where
     p : View → Bool

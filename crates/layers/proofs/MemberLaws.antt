@@ -35,15 +35,15 @@ near-turn w c d e =
 pub near-same : (w c : ℕ) → near w c c ≡ true
 near-same w c = near-holds w c c (inl refl)
 
-pub before-says : (p : ℕ → Bool) (column : ℕ) → before p column ≡ true → (column′ : ℕ) × (column ≡ suc column′) × (p column′ ≡ true)
+pub before-says : (φ : ℕ → Bool) (column : ℕ) → before φ column ≡ true → (column′ : ℕ) × (column ≡ suc column′) × (φ column′ ≡ true)
 unfolding before
-before-says p zero e = true-false-absurd e refl
-before-says p (suc column′) e = (column′, refl, e)
+before-says φ zero e = true-false-absurd e refl
+before-says φ (suc column′) e = (column′, refl, e)
 
-pub before-holds : (p : ℕ → Bool) (column column′ : ℕ) → column ≡ suc column′ → p column′ ≡ true → before p column ≡ true
+pub before-holds : (φ : ℕ → Bool) (column column′ : ℕ) → column ≡ suc column′ → φ column′ ≡ true → before φ column ≡ true
 unfolding before
-before-holds p zero column′ e h = absurd (omega arith)
-before-holds p (suc column) column′ e h =
+before-holds φ zero column′ e h = absurd (omega arith)
+before-holds φ (suc column) column′ e h =
     let q : column ≡ column′ = omega arith in
     rw q h
 
@@ -51,18 +51,18 @@ before-holds p (suc column) column′ e h =
 abbrev pub Five : Type 0 → Type 0 → Type 0 → Type 0 → Type 0 → Type 0
 Five A B C D E = A ⊎ (B ⊎ (C ⊎ (D ⊎ E)))
 
-pub five-says : (a b c d e : Bool) → (a || b || c || d || e) ≡ true → Five (a ≡ true) (b ≡ true) (c ≡ true) (d ≡ true) (e ≡ true)
-five-says true b c d e h = inl refl
-five-says false true c d e h = inr (inl refl)
-five-says false false true d e h = inr (inr (inl refl))
-five-says false false false true e h = inr (inr (inr (inl refl)))
-five-says false false false false e h = inr (inr (inr (inr h)))
+pub five-says : (x y z x′ y′ : Bool) → (x || y || z || x′ || y′) ≡ true → Five (x ≡ true) (y ≡ true) (z ≡ true) (x′ ≡ true) (y′ ≡ true)
+five-says true y z x′ y′ h = inl refl
+five-says false true z x′ y′ h = inr (inl refl)
+five-says false false true x′ y′ h = inr (inr (inl refl))
+five-says false false false true y′ h = inr (inr (inr (inl refl)))
+five-says false false false false y′ h = inr (inr (inr (inr h)))
 
-pub five-holds : (a b c d e : Bool) → Five (a ≡ true) (b ≡ true) (c ≡ true) (d ≡ true) (e ≡ true) → (a || b || c || d || e) ≡ true
-five-holds true b c d e h = refl
-five-holds false true c d e h = refl
-five-holds false false true d e h = refl
-five-holds false false false true e h = refl
+pub five-holds : (y z x′ y′ z′ : Bool) → Five (y ≡ true) (z ≡ true) (x′ ≡ true) (y′ ≡ true) (z′ ≡ true) → (y || z || x′ || y′ || z′) ≡ true
+five-holds true z x′ y′ z′ h = refl
+five-holds false true x′ y′ z′ h = refl
+five-holds false false true y′ z′ h = refl
+five-holds false false false true z′ h = refl
 five-holds false false false false true h = refl
 five-holds false false false false false h =
     ⊎-elim (λ x. x) (⊎-elim (λ x. x) (⊎-elim (λ x. x) (⊎-elim (λ x. x) (λ x. x)))) h

@@ -9,16 +9,16 @@ use Rattle.bitrows.specs.Rows.{written, filled}
 use Rattle.bitrows.proofs.FillLaws.{length-written, written-in, written-out, filled-in}
 use Rattle.layers.specs.Table.{Rewritten}
 
--- The first n of some rows, made as f says and written from row i on.
-pub rewritten-rows : (words rows after : List ℕ) (f : ℕ → ℕ) (i n : ℕ) → n ≤ 32 → i + n ≤ length words →
-    rows ≡ filled (replicate 32 0) f n → after ≡ written words i rows n → Rewritten words f i n after
-rewritten-rows words rows after f i n few fits e h =
+-- The first n of some rows, made as φ says and written from row i on.
+pub rewritten-rows : (words rows after : List ℕ) (φ : ℕ → ℕ) (i n : ℕ) → n ≤ 32 → i + n ≤ length words →
+    rows ≡ filled (replicate 32 0) φ n → after ≡ written words i rows n → Rewritten words φ i n after
+rewritten-rows words rows after φ i n few fits e h =
     rw (h, e)
     (record {
-      long = length-written words i (filled (replicate 32 0) f n) n;
-      inside = λ j l. written-in words i (filled (replicate 32 0) f n) n j fits l
-          ∙ filled-in (replicate 32 0) f n j (omega (arith, length-replicate {A = ℕ} 32 0)) l;
-      outside = λ j l. written-out words i (filled (replicate 32 0) f n) n j l;
+      long = length-written words i (filled (replicate 32 0) φ n) n;
+      inside = λ j l. written-in words i (filled (replicate 32 0) φ n) n j fits l
+          ∙ filled-in (replicate 32 0) φ n j (omega (arith, length-replicate {A = ℕ} 32 0)) l;
+      outside = λ j l. written-out words i (filled (replicate 32 0) φ n) n j l;
     })
 
 -- Empty rows.
@@ -33,5 +33,5 @@ rewritten-zeros words after i fits h =
     })
 
 -- No row yet.
-pub rewritten-none : (words : List ℕ) (f : ℕ → ℕ) (i : ℕ) → Rewritten words f i 0 words
-rewritten-none words f i = record { long = refl; inside = λ j l. absurd (omega arith); outside = λ j l. refl }
+pub rewritten-none : (words : List ℕ) (φ : ℕ → ℕ) (i : ℕ) → Rewritten words φ i 0 words
+rewritten-none words φ i = record { long = refl; inside = λ j l. absurd (omega arith); outside = λ j l. refl }

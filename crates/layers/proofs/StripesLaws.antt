@@ -12,22 +12,22 @@ use Rattle.layers.specs.Table.{Rewritten}
 use Rattle.layers.specs.Stripes.{four, stripesOf, laneOf, lanesOf, overSlot, underSlot, wordAt, stepWord}
 
 -- One step of eight stripes.
-module _ (x masks : List (List ℕ)) (none : ℕ) where
+module _ (xs masks : List (List ℕ)) (none : ℕ) where
   abbrev stripe : ℕ → List ℕ
-  stripe i = getD x i []
+  stripe i = getD xs i []
 
   abbrev mask : ℕ → List ℕ
   mask i = getD masks i []
 
-  pub advanced : {a b c d e f g h : List ℕ} → none ≡ 0 →
-      a ≡ lanesOf (none ∷ getD (stripe 7) 0 0 ∷ getD (stripe 7) 1 0 ∷ getD (stripe 7) 2 0 ∷ []) (stripe 0) (stripe 1) (mask 0) →
-      b ≡ lanesOf (stripe 0) (stripe 1) (stripe 2) (mask 1) → c ≡ lanesOf (stripe 1) (stripe 2) (stripe 3) (mask 2) →
-      d ≡ lanesOf (stripe 2) (stripe 3) (stripe 4) (mask 3) → e ≡ lanesOf (stripe 3) (stripe 4) (stripe 5) (mask 4) →
-      f ≡ lanesOf (stripe 4) (stripe 5) (stripe 6) (mask 5) → g ≡ lanesOf (stripe 5) (stripe 6) (stripe 7) (mask 6) →
-      h ≡ lanesOf (stripe 6) (stripe 7) (getD (stripe 0) 1 0 ∷ getD (stripe 0) 2 0 ∷ getD (stripe 0) 3 0 ∷ none ∷ []) (mask 7) →
-      (value free : ℕ → ℕ) → x ≡ stripesOf value → masks ≡ stripesOf free → (a ∷ b ∷ c ∷ d ∷ e ∷ f ∷ g ∷ h ∷ []) ≡ stripesOf (stepWord value free)
+  pub advanced : {xs₀ xs₁ xs₂ xs₃ xs₄ xs₅ xs₆ xs₇ : List ℕ} → none ≡ 0 →
+      xs₀ ≡ lanesOf (none ∷ getD (stripe 7) 0 0 ∷ getD (stripe 7) 1 0 ∷ getD (stripe 7) 2 0 ∷ []) (stripe 0) (stripe 1) (mask 0) →
+      xs₁ ≡ lanesOf (stripe 0) (stripe 1) (stripe 2) (mask 1) → xs₂ ≡ lanesOf (stripe 1) (stripe 2) (stripe 3) (mask 2) →
+      xs₃ ≡ lanesOf (stripe 2) (stripe 3) (stripe 4) (mask 3) → xs₄ ≡ lanesOf (stripe 3) (stripe 4) (stripe 5) (mask 4) →
+      xs₅ ≡ lanesOf (stripe 4) (stripe 5) (stripe 6) (mask 5) → xs₆ ≡ lanesOf (stripe 5) (stripe 6) (stripe 7) (mask 6) →
+      xs₇ ≡ lanesOf (stripe 6) (stripe 7) (getD (stripe 0) 1 0 ∷ getD (stripe 0) 2 0 ∷ getD (stripe 0) 3 0 ∷ none ∷ []) (mask 7) →
+      (value free : ℕ → ℕ) → xs ≡ stripesOf value → masks ≡ stripesOf free → (xs₀ ∷ xs₁ ∷ xs₂ ∷ xs₃ ∷ xs₄ ∷ xs₅ ∷ xs₆ ∷ xs₇ ∷ []) ≡ stripesOf (stepWord value free)
   unfolding four stripesOf laneOf lanesOf overSlot underSlot wordAt stepWord
-  advanced z a b c d e f g h value free p q = rw (a, b, c, d, e, f, g, h, z, p, q) refl
+  advanced z e₀ e₁ e₂ e₃ e₄ e₅ e₆ e₇ value free p q = rw (e₀, e₁, e₂, e₃, e₄, e₅, e₆, e₇, z, p, q) refl
 
 four-at : (value : ℕ → ℕ) (n i : ℕ) → i < 4 → getD (four value n) i 0 ≡ value (n + i)
 unfolding four
@@ -51,14 +51,14 @@ stripe-at value (suc (suc (suc (suc (suc (suc (suc zero))))))) l = refl
 stripe-at value (suc (suc (suc (suc (suc (suc (suc (suc i)))))))) l = absurd (omega arith)
 
 -- One stripe more.
-pub rewritten-stripe : (words then after : List ℕ) (x : List (List ℕ)) (value : ℕ → ℕ) (at i : ℕ) → i < 8 → at + 32 ≤ length words →
-    x ≡ stripesOf value → Rewritten words value at (4 * i) then → after ≡ written then (at + 4 * i) (getD x i []) 4 →
+pub rewritten-stripe : (words then after : List ℕ) (xs : List (List ℕ)) (value : ℕ → ℕ) (at i : ℕ) → i < 8 → at + 32 ≤ length words →
+    xs ≡ stripesOf value → Rewritten words value at (4 * i) then → after ≡ written then (at + 4 * i) (getD xs i []) 4 →
     Rewritten words value at (4 * (i + 1)) after
-rewritten-stripe words then after x value at i few fits e old h =
+rewritten-stripe words then after xs value at i few fits e old h =
     rw h (record { long = length-written then (at + 4 * i) y 4 ∙ old .long; inside = inside; outside = outside })
   where
     y : List ℕ
-    y = getD x i []
+    y = getD xs i []
 
     new : (j : ℕ) → j < 4 → getD (written then (at + 4 * i) y 4) (at + 4 * i + j) 0 ≡ value (4 * i + j)
     new j l = written-in then (at + 4 * i) y 4 j (omega (arith, old .long)) l ∙ rw (e, stripe-at value i few) (four-at value (4 * i) j l)

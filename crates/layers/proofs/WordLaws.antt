@@ -18,14 +18,14 @@ use Rattle.layers.specs.Stripes.{overSlot, underSlot, wordAt}
 
 -- Every number below n passes a test.
 unfoldable all : (ℕ → Bool) → ℕ → Bool
-all p zero = true
-all p (suc n) = p n && all p n
+all φ zero = true
+all φ (suc n) = φ n && all φ n
 
-all-says : (p : ℕ → Bool) (n : ℕ) → all p n ≡ true → (i : ℕ) → i < n → p i ≡ true
+all-says : (φ : ℕ → Bool) (n : ℕ) → all φ n ≡ true → (i : ℕ) → i < n → φ i ≡ true
 unfolding all
-all-says p zero e i l = absurd (omega arith)
-all-says p (suc n) e i l =
-    ⊎-elim (λ (q : i ≡ n). rw q (and-fst (p n) (all p n) e)) (λ (q : i < n). all-says p n (and-snd (p n) (all p n) e) i q)
+all-says φ zero e i l = absurd (omega arith)
+all-says φ (suc n) e i l =
+    ⊎-elim (λ (q : i ≡ n). rw q (and-fst (φ n) (all φ n) e)) (λ (q : i < n). all-says φ n (and-snd (φ n) (all φ n) e) i q)
     (eq-or-lt-of-le (omega arith))
 
 pub slot-low : (row : ℕ) → row < 32 → slotOf row < 32
@@ -87,7 +87,7 @@ module _ (sets : List ℕ) (t : ℕ) where
   word-is : (row : ℕ) → row < 32 → wordAt (λ j. getD sets (t * 32 + j) 0) (slotOf row) ≡ getD sets (wordOf t row) 0
   unfolding wordAt wordOf
   word-is row h =
-      ap (λ (b : Bool). elim b [ true ↦ getD sets (t * 32 + slotOf row) 0 | false ↦ 0 ]) (lt-ltb (slotOf row) 32 (slot-low row h))
+      ap (λ (x : Bool). elim x [ true ↦ getD sets (t * 32 + slotOf row) 0 | false ↦ 0 ]) (lt-ltb (slotOf row) 32 (slot-low row h))
 
   pub above-word : (row : ℕ) → row < 32 → wordAt (λ j. getD sets (t * 32 + j) 0) (overSlot (slotOf row)) ≡ aboveRow sets t row
   unfolding wordAt overSlot slotOf aboveRow
@@ -96,11 +96,11 @@ module _ (sets : List ℕ) (t : ℕ) where
 
   below-inner : (row : ℕ) → row < 31 → belowRow sets t row ≡ getD sets (wordOf t (suc row)) 0
   unfolding belowRow
-  below-inner row l = ap (λ (b : Bool). elim b [ true ↦ getD sets (wordOf t (suc row)) 0 | false ↦ 0 ]) (lt-ltb row 31 l)
+  below-inner row l = ap (λ (x : Bool). elim x [ true ↦ getD sets (wordOf t (suc row)) 0 | false ↦ 0 ]) (lt-ltb row 31 l)
 
   below-outer : (row : ℕ) → 31 ≤ row → belowRow sets t row ≡ 0
   unfolding belowRow
-  below-outer row l = ap (λ (b : Bool). elim b [ true ↦ getD sets (wordOf t (suc row)) 0 | false ↦ 0 ]) (le-ltb row 31 l)
+  below-outer row l = ap (λ (x : Bool). elim x [ true ↦ getD sets (wordOf t (suc row)) 0 | false ↦ 0 ]) (le-ltb row 31 l)
 
   below-last : (row : ℕ) → row ≡ 31 → wordAt (λ j. getD sets (t * 32 + j) 0) (underSlot (slotOf row)) ≡ belowRow sets t row
   unfolding wordAt underSlot slotOf belowRow

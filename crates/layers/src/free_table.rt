@@ -16,7 +16,7 @@ use records::view_cell;
 // Rows in the order of the words of a beat.
 fn striped(rows: &[u32]) -> [u32; ROWS]
     requires { ⌜ length (now rows) ≡ 32 ⌝ }
-    ensures { λ r. ⌜ r ≡ filled (replicate 32 0) (λ j. getD (now (rows .entry)) (rowOf j) 0) 32 ⌝ }
+    ensures { λ result. ⌜ result ≡ filled (replicate 32 0) (λ j. getD (now (rows .entry)) (rowOf j) 0) 32 ⌝ }
 {
     let mut x = [0u32; ROWS];
     let mut j: usize = 0;
@@ -30,7 +30,7 @@ fn striped(rows: &[u32]) -> [u32; ROWS]
 // The free cells at the first n beats of an empty table: at the first, and from there from beat to beat.
 fn fill_free(table: &mut [u32], free: &[u32], n: usize)
     requires { ⌜ (now table ≡ replicate 2049 0) × (length (now free) ≡ 32) × (1 ≤ n) × (n ≤ 64) ⌝ }
-    ensures { λ r. ⌜ FreeBeats (now (free .entry)) n (now (table .exit)) ⌝ }
+    ensures { λ result. ⌜ FreeBeats (now (free .entry)) n (now (table .exit)) ⌝ }
 {
     let words = striped(free);
     bitrows::put_rows(table, 0, &words, ROWS);
@@ -44,7 +44,7 @@ fn fill_free(table: &mut [u32], free: &[u32], n: usize)
 
 // The beat before t, or 0.
 fn beat_before(t: usize) -> usize
-    ensures { λ r. ⌜ r ≡ t - 1 ⌝ }
+    ensures { λ result. ⌜ result ≡ t - 1 ⌝ }
 {
     if 0 < t { t - 1 } else { 0 }
 }
@@ -52,7 +52,7 @@ fn beat_before(t: usize) -> usize
 // Takes cell c out of the beats from `from` to before `end`; a number that is no cell changes nothing.
 fn drop_cell(g: SearchGrid, table: &mut [u32], from: usize, end: usize, c: usize)
     requires { ⌜ Grid g × (from ≤ end) × (end ≤ 64) × Tidy g (now table) ⌝ }
-    ensures { λ r. ⌜ TakenCell g from end c (now (table .entry)) (now (table .exit)) ⌝ }
+    ensures { λ result. ⌜ TakenCell g from end c (now (table .entry)) (now (table .exit)) ⌝ }
 {
     if c < g.cells {
         let p = place_of(g, c);
@@ -67,7 +67,7 @@ fn drop_cell(g: SearchGrid, table: &mut [u32], from: usize, end: usize, c: usize
 // The beat from which on view j keeps its cell through the horizon.
 fn parked_from(views: &[u16], j: usize, horizon: usize) -> usize
     requires { ⌜ (65 * j + 65 ≤ length (now views)) × (horizon < 64) ⌝ }
-    ensures { λ r. ⌜ Parked (now (views .entry)) j r horizon ⌝ }
+    ensures { λ result. ⌜ Parked (now (views .entry)) j result horizon ⌝ }
 {
     let last = view_cell(views, j, horizon);
     let mut t = horizon;
@@ -84,25 +84,25 @@ fn parked_from(views: &[u16], j: usize, horizon: usize) -> usize
 // last, where the view stays, at all beats at once.
 pub fn take_one(g: SearchGrid, table: &mut [u32], views: &[u16], j: usize)
     requires { ⌜ Grid g × (65 * j + 65 ≤ length (now views)) × (g .horizon ≤ 63) × Tidy g (now table) ⌝ }
-    ensures { λ r. ⌜ OneMore g j (now (views .entry)) (now (table .entry)) (now (table .exit)) ⌝ }
+    ensures { λ result. ⌜ OneMore g j (now (views .entry)) (now (table .entry)) (now (table .exit)) ⌝ }
 {
-    let h = g.horizon;
-    let a = parked_from(views, j, h);
+    let last_beat = g.horizon;
+    let a = parked_from(views, j, last_beat);
     let mut t: usize = 0;
     while t < a {
         let c = view_cell(views, j, t);
         drop_cell(g, table, beat_before(t), t + 2, c);
         t += 1;
     }
-    let last = view_cell(views, j, h);
-    drop_cell(g, table, beat_before(a), h + 1, last);
+    let last = view_cell(views, j, last_beat);
+    drop_cell(g, table, beat_before(a), last_beat + 1, last);
 }
 
 // The free table of a scene in an empty table.
 pub fn make(g: SearchGrid, k: usize, table: &mut [u32], free: &[u32], views: &[u16])
     requires { ⌜ Fits g k (now views) × Clean (g .width) (g .cells) (now free) × (length (now free) ≡ 32) ⌝ }
     requires { ⌜ now table ≡ replicate 2049 0 ⌝ }
-    ensures { λ r. ⌜ IsFreeTable g k (now (free .entry)) (now (views .entry)) (now (table .exit)) ⌝ }
+    ensures { λ result. ⌜ IsFreeTable g k (now (free .entry)) (now (views .entry)) (now (table .exit)) ⌝ }
 {
     fill_free(table, free, g.horizon + 1);
     let mut j: usize = 0;

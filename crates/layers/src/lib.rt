@@ -21,7 +21,7 @@ pub struct SearchGrid {
 // The scene of a floor.
 pub fn search_grid_of(f: Floor) -> SearchGrid
     requires { ⌜ (1 ≤ f .width) × (f .width ≤ 32) × (f .height ≤ 32) ⌝ }
-    ensures { λ r. ⌜ r ≡ searchGridOf f ⌝ }
+    ensures { λ result. ⌜ result ≡ searchGridOf f ⌝ }
 {
     let w = f.width as usize;
     SearchGrid {
@@ -41,7 +41,7 @@ pub struct Place {
 // The row and the column of a cell.
 pub fn place_of(g: SearchGrid, c: usize) -> Place
     requires { ⌜ Grid g × (c < g .cells) ⌝ }
-    ensures { λ r. ⌜ PlaceOf g c r ⌝ }
+    ensures { λ result. ⌜ PlaceOf g c result ⌝ }
 {
     let w = g.width;
     let row = bitrows::row_of(w, g.scale, c);

@@ -15,7 +15,7 @@ use crate::table::WORDS;
 // The beat after beat t, or before it.
 fn next_beat(t: usize, back: bool) -> usize
     requires { ⌜ (t < 64) × (back ≡ true → 0 < t) ⌝ }
-    ensures { λ r. ⌜ r ≡ beatAfter back t 1 ⌝ }
+    ensures { λ result. ⌜ result ≡ beatAfter back t 1 ⌝ }
 {
     if back { t - 1 } else { t + 1 }
 }
@@ -23,7 +23,7 @@ fn next_beat(t: usize, back: bool) -> usize
 // n steps from the set of a beat on, to later beats or back to earlier ones.
 pub fn propagate(sets: &mut [u32], table: &[u32], from: usize, n: usize, back: bool)
     requires { ⌜ (length (now sets) ≡ 2049) × (length (now table) ≡ 2049) × (getD (now table) 2048 0 ≡ 0) × Within back from n ⌝ }
-    ensures { λ r. ⌜ ((g : SearchGrid) → Grid g → Tidy g (now (sets .entry)) → Tidy g (now (table .entry)) →
+    ensures { λ result. ⌜ ((g : SearchGrid) → Grid g → Tidy g (now (sets .entry)) → Tidy g (now (table .entry)) →
         Swept g (now (table .entry)) (now (sets .entry)) from back n (now (sets .exit))) ⌝ }
 {
     let none = table[WORDS - 1];

@@ -16,7 +16,7 @@ pub type Stripes = [Stripe; 8];
 // Four words of a table from word i behind word `at` on.
 fn stripe(table: &[u32], at: usize, i: usize) -> Stripe
     requires { ⌜ (i ≤ 28) × (at + 32 ≤ length (now table)) ⌝ }
-    ensures { λ r. ⌜ r ≡ four (λ j. getD (now (table .entry)) (at + j) 0) i ⌝ }
+    ensures { λ result. ⌜ result ≡ four (λ j. getD (now (table .entry)) (at + j) 0) i ⌝ }
 {
     [
         table[at + i],
@@ -29,14 +29,14 @@ fn stripe(table: &[u32], at: usize, i: usize) -> Stripe
 // Writes four words from word `at` on.
 fn put_stripe(table: &mut [u32], at: usize, x: Stripe)
     requires { ⌜ at + 4 ≤ length (now table) ⌝ }
-    ensures { λ r. ⌜ now (table .exit) ≡ written (now (table .entry)) at x 4 ⌝ }
+    ensures { λ result. ⌜ now (table .exit) ≡ written (now (table .entry)) at x 4 ⌝ }
 {
     bitrows::put_rows(table, at, &x, 4);
 }
 
 // One step of four rows, from those above, themselves and those below, into a mask.
 fn lanes(over: Stripe, here: Stripe, under: Stripe, mask: Stripe) -> Stripe
-    ensures { λ r. ⌜ r ≡ lanesOf over here under mask ⌝ }
+    ensures { λ result. ⌜ result ≡ lanesOf over here under mask ⌝ }
 {
     [
         bitrows::successor_row(over[0], here[0], under[0], mask[0]),
@@ -49,7 +49,7 @@ fn lanes(over: Stripe, here: Stripe, under: Stripe, mask: Stripe) -> Stripe
 // The 32 words from word `at` on.
 pub fn load(table: &[u32], at: usize) -> Stripes
     requires { ⌜ at + 32 ≤ length (now table) ⌝ }
-    ensures { λ r. ⌜ r ≡ stripesOf (λ j. getD (now (table .entry)) (at + j) 0) ⌝ }
+    ensures { λ result. ⌜ result ≡ stripesOf (λ j. getD (now (table .entry)) (at + j) 0) ⌝ }
 {
     [
         stripe(table, at, 0),
@@ -66,7 +66,7 @@ pub fn load(table: &[u32], at: usize) -> Stripes
 // Writes the stripes from word `at` on.
 pub fn save(table: &mut [u32], at: usize, x: Stripes)
     requires { ⌜ at + 32 ≤ length (now table) ⌝ }
-    ensures { λ r. ⌜ ((words : ℕ → ℕ) → x ≡ stripesOf words → Rewritten (now (table .entry)) words at 32 (now (table .exit))) ⌝ }
+    ensures { λ result. ⌜ ((words : ℕ → ℕ) → x ≡ stripesOf words → Rewritten (now (table .entry)) words at 32 (now (table .exit))) ⌝ }
 {
     let mut i: usize = 0;
     while i < 8 {
@@ -79,7 +79,7 @@ pub fn save(table: &mut [u32], at: usize, x: Stripes)
 // code, the compiler would take these two rows out of their stripes.
 pub fn advance(x: Stripes, masks: Stripes, none: u32) -> Stripes
     requires { ⌜ none ≡ 0 ⌝ }
-    ensures { λ r. ⌜ ((words free : ℕ → ℕ) → x ≡ stripesOf words → masks ≡ stripesOf free → r ≡ stripesOf (stepWord words free)) ⌝ }
+    ensures { λ result. ⌜ ((words free : ℕ → ℕ) → x ≡ stripesOf words → masks ≡ stripesOf free → result ≡ stripesOf (stepWord words free)) ⌝ }
 {
     let above = [none, x[7][0], x[7][1], x[7][2]];
     let below = [x[0][1], x[0][2], x[0][3], none];

@@ -33,11 +33,11 @@ floor =
     }
 
 -- A tag with five cells and the number behind them, as a record; what is answered of it.
-abbrev told : (tag a b c d e behind : ℕ) → List ℕ
-told tag a b c d e behind = tag ∷ a ∷ b ∷ c ∷ d ∷ e ∷ behind ∷ replicate 58 0
+abbrev told : (tag c₁ c₂ c₃ c₄ c₅ behind : ℕ) → List ℕ
+told tag c₁ c₂ c₃ c₄ c₅ behind = tag ∷ c₁ ∷ c₂ ∷ c₃ ∷ c₄ ∷ c₅ ∷ behind ∷ replicate 58 0
 
-abbrev answer : (tag a b c d e behind : ℕ) → Outcome RecordAnswer
-answer tag a b c d e behind = recordOutcome floor (4 ∷ []) 1 (told tag a b c d e behind)
+abbrev answer : (tag c₁ c₂ c₃ c₄ c₅ behind : ℕ) → Outcome RecordAnswer
+answer tag c₁ c₂ c₃ c₄ c₅ behind = recordOutcome floor (4 ∷ []) 1 (told tag c₁ c₂ c₃ c₄ c₅ behind)
 
 record Cases : Type 0 where
   a-route : answer 2 0 1 2 2 2 0 ≡ value (aRoute 2)

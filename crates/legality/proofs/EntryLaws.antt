@@ -59,15 +59,15 @@ module _ (f : Floor) (ws : List ℕ) (i lent : ℕ) where
 
 -- The tests of a record by its tag.
 module _ (task : Task) (tag : ℕ) (r : List ℕ) where
-  pub tag-fails : {u : Verdict} → 2 < tag → u ≡ refused 8 0 → u ≡ recordTest task tag r
+  pub tag-fails : {x : Verdict} → 2 < tag → x ≡ refused 8 0 → x ≡ recordTest task tag r
   unfolding recordTest
   tag-fails l e = demand-ends 8 0 _ (lt-leb tag 2 l) e
 
-  pub tag-route : {u : Verdict} → tag ≡ 2 → u ≡ routeTest task r → u ≡ recordTest task tag r
+  pub tag-route : {x : Verdict} → tag ≡ 2 → x ≡ routeTest task r → x ≡ recordTest task tag r
   unfolding recordTest
   tag-route e h = demand-on 8 0 (le-leb tag 2 (omega arith)) (rw (eq-eqb tag 2 e) h)
 
-  pub tag-blank : {u : Verdict} → tag ≤ 2 → (tag ≡ 2 → ⊥) → u ≡ blankTest 0 r → u ≡ recordTest task tag r
+  pub tag-blank : {x : Verdict} → tag ≤ 2 → (tag ≡ 2 → ⊥) → x ≡ blankTest 0 r → x ≡ recordTest task tag r
   unfolding recordTest
   tag-blank l n h = demand-on 8 0 (le-leb tag 2 l) (rw (ne-eqb tag 2 n) h)
 
@@ -103,8 +103,8 @@ module _ (r : List ℕ) (horizon : ℕ) where
 
 -- The answer of a record whose tests find nothing, and of one with a test that fails.
 module _ (task : Task) (m : List ℕ) {cells : List ℕ} (same : cells ≡ part m 1 64) where
-  pub answer-passed : {o : Outcome RecordAnswer} → recordTest task (getD m 0 0) cells ≡ passed →
-      o ≡ value (recordKind (getD m 0 0) (arrivalOf cells (task .horizon))) → o ≡ value (recordAnswer task m)
+  pub answer-passed : {x : Outcome RecordAnswer} → recordTest task (getD m 0 0) cells ≡ passed →
+      x ≡ value (recordKind (getD m 0 0) (arrivalOf cells (task .horizon))) → x ≡ value (recordAnswer task m)
   unfolding recordAnswer _orWrong_
   answer-passed e h = rw (← same, e) h
 

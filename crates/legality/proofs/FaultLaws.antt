@@ -19,7 +19,7 @@ use Rattle.legality.proofs.EntryLaws.{tag-fails, tag-route, tag-blank}
 use Rattle.legality.proofs.RouteLaws.{zero-means, stands-means, steps-means}
 
 -- A beat counted from 0 is its own place.
-at-beat : {v : Verdict} (k t : ℕ) → v ≡ refused k (0 + t) → v ≡ refused k t
+at-beat : {x : Verdict} (k t : ℕ) → x ≡ refused k (0 + t) → x ≡ refused k t
 at-beat k t e = e ∙ ap (refused k) (zero-add t)
 
 module _ (task : Task) (tag : ℕ) (r : List ℕ) where
@@ -73,19 +73,19 @@ module _ (task : Task) (tag : ℕ) (r : List ℕ) where
       by-tag (inr l) = by-two l (eq-or-ne tag 2)
 
   -- Tests that find nothing, and the next one that refuses.
-  begun : {v : Verdict} → BeginsAtStart task r → (beginTest (task .start) r then v) ≡ v
+  begun : {x : Verdict} → BeginsAtStart task r → (beginTest (task .start) r then x) ≡ x
   unfolding beginTest
   begun b = then-passed (demand-passes 3 0 (eq-eqb _ _ b))
 
-  stood : {v : Verdict} → All (Stands task r) (H + 1) → (cellsTest (freeIn task) H r then v) ≡ v
+  stood : {x : Verdict} → All (Stands task r) (H + 1) → (cellsTest (freeIn task) H r then x) ≡ x
   unfolding cellsTest
   stood a = then-passed (all-passes 4 0 _ (Stands task r) (stands-means task r) (H + 1) a)
 
-  stepped : {v : Verdict} → All (Steps task r) H → (movesTest (task .width) H r then v) ≡ v
+  stepped : {x : Verdict} → All (Steps task r) H → (movesTest (task .width) H r then x) ≡ x
   unfolding movesTest
   stepped a = then-passed (all-passes 5 0 _ (Steps task r) (steps-means task r) H a)
 
-  ended : {v : Verdict} → Docked task r → (dockTest (task .dock) H r then v) ≡ v
+  ended : {x : Verdict} → Docked task r → (dockTest (task .dock) H r then x) ≡ x
   unfolding dockTest
   ended d = then-passed (demand-passes 6 H d)
 

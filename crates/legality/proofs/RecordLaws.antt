@@ -91,12 +91,12 @@ module _ (m : List ℕ) (lent : 65 ≤ length m) (tag : ℕ) where
   pub record-blank : part m 0 65 ≡ tag ∷ replicate 64 0 → (getD m 0 0 ≡ tag) × ((t : ℕ) → t < 64 → cellAt (part m 1 64) t ≡ 0)
   unfolding cellAt
   record-blank e = (
-    sym (part-byte m 0 65 0 (omega arith)) ∙ ap (λ (x : List ℕ). getD x 0 0) e,
+    sym (part-byte m 0 65 0 (omega arith)) ∙ ap (λ (xs : List ℕ). getD xs 0 0) e,
     λ t l.
         let same : 1 + t ≡ 0 + suc t = omega arith in
         part-byte m 1 64 t l
         ∙ ap (λ (n : ℕ). getD m n 0) same
         ∙ sym (part-byte m 0 65 (suc t) (omega arith))
-        ∙ ap (λ (x : List ℕ). getD x (suc t) 0) e
+        ∙ ap (λ (xs : List ℕ). getD xs (suc t) 0) e
         ∙ zeros-at 64 t,
   )

@@ -16,9 +16,9 @@ use Rattle.route.specs.Moves.{neighbours, near}
 use Rattle.legality.specs.Tests.{zeroAt}
 
 -- The first beat of a loop that fails is the place.
-pub beat-stops : (k : ℕ) (ok : ℕ → Bool) {t : Bool} (i m : ℕ) → demandEach k 0 ok i ≡ passed → t ≡ ok i → not t ≡ true → i < m →
-    refused k i ≡ demandEach k 0 ok m
-beat-stops k ok i m h e n l = ap (refused k) (sym (zero-add i)) ∙ tests-stop k 0 ok i m h e n l
+pub beat-stops : (k : ℕ) (ok : ℕ → Bool) {x : Bool} (i p : ℕ) → demandEach k 0 ok i ≡ passed → x ≡ ok i → not x ≡ true → i < p →
+    refused k i ≡ demandEach k 0 ok p
+beat-stops k ok i p h e n l = ap (refused k) (sym (zero-add i)) ∙ tests-stop k 0 ok i p h e n l
 
 -- What the answers of a loop over beats take.
 pub ruleset beats = (needs, each-none, tests-go-on, beat-stops, each-end)
@@ -40,13 +40,13 @@ module _ (r : List ℕ) (from : ℕ) where
 pub ruleset blanks = (needs, each-none, blank-on, blank-stops, each-end)
 
 -- One number is the other plus 1, or it is not.
-pub next-above : (m n : ℕ) → m ≡ n + 1 → true ≡ neighbours m n
+pub next-above : (k n : ℕ) → k ≡ n + 1 → true ≡ neighbours k n
 unfolding neighbours
-next-above m n e = rw (eq-eqb m (suc n) (e ∙ add-one n)) refl
+next-above k n e = rw (eq-eqb k (suc n) (e ∙ add-one n)) refl
 
-pub next-below : (m n : ℕ) → (m ≡ n + 1 → ⊥) → eqb n (m + 1) ≡ neighbours m n
+pub next-below : (k n : ℕ) → (k ≡ n + 1 → ⊥) → eqb n (k + 1) ≡ neighbours k n
 unfolding neighbours
-next-below m n h = rw (ne-eqb m (suc n) (λ e. h (e ∙ sym (add-one n))), add-one) refl
+next-below k n h = rw (ne-eqb k (suc n) (λ e. h (e ∙ sym (add-one n))), add-one) refl
 
 -- A stay; a move along a row; a move along a column, or neither.
 module _ (w c d : ℕ) where
@@ -54,11 +54,11 @@ module _ (w c d : ℕ) where
   unfolding near
   near-stay e = rw (eq-eqb d c e) refl
 
-  pub near-row : {t : Bool} → (d ≡ c → ⊥) → t ≡ (eqb (c / w) (d / w) && neighbours (c % w) (d % w)) → t ≡ true → true ≡ near w c d
+  pub near-row : {x : Bool} → (d ≡ c → ⊥) → x ≡ (eqb (c / w) (d / w) && neighbours (c % w) (d % w)) → x ≡ true → true ≡ near w c d
   unfolding near
   near-row n e h = rw (ne-eqb d c n, ← e, h) refl
 
-  pub near-column : {t u : Bool} → (d ≡ c → ⊥) → t ≡ (eqb (c / w) (d / w) && neighbours (c % w) (d % w)) → t ≡ false →
-      u ≡ (eqb (c % w) (d % w) && neighbours (c / w) (d / w)) → u ≡ near w c d
+  pub near-column : {x y : Bool} → (d ≡ c → ⊥) → x ≡ (eqb (c / w) (d / w) && neighbours (c % w) (d % w)) → x ≡ false →
+      y ≡ (eqb (c % w) (d % w) && neighbours (c / w) (d / w)) → y ≡ near w c d
   unfolding near
   near-column n e h s = rw (ne-eqb d c n, ← e, h) s

@@ -38,13 +38,13 @@ use Rattle.legality.proofs.RecordLaws.{blank-record, record-blank}
 use Rattle.legality.proofs.RouteLaws.{passed-route, route-passed, blank-says, blank-below}
 
 -- An answer that is no fault: the tests found nothing, and it is what the tag says.
-not-wrong : (v : Verdict) (x y : RecordAnswer) → (v orWrong x) ≡ y → caseOf y < 3 → (v ≡ passed) × (x ≡ y)
+not-wrong : (x′ : Verdict) (x y : RecordAnswer) → (x′ orWrong x) ≡ y → caseOf y < 3 → (x′ ≡ passed) × (x ≡ y)
 unfolding _orWrong_ caseOf
 not-wrong passed x y e l = (refl, e)
 not-wrong (refused k t) x y e l = let z : 3 ≡ caseOf y = ap caseOf e in absurd (omega arith)
 
 -- A fault is that of the tests, since no tag tells one.
-is-wrong : (v : Verdict) (x : RecordAnswer) (k t : ℕ) → caseOf x < 3 → (v orWrong x) ≡ wrong k t → v ≡ refused k t
+is-wrong : (y : Verdict) (x : RecordAnswer) (k t : ℕ) → caseOf x < 3 → (y orWrong x) ≡ wrong k t → y ≡ refused k t
 unfolding _orWrong_ caseOf
 is-wrong passed x k t l e = let z : caseOf x ≡ 3 = ap caseOf e in absurd (omega arith)
 is-wrong (refused j u) x k t l e = let a : j ≡ k = cc in let b : u ≡ t = cc in rw (a, b) refl

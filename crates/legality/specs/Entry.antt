@@ -31,8 +31,8 @@ recordKind tag a = elim (eqb tag 2) [ true ↦ aRoute a | false ↦ elim (eqb ta
 infixr 29 _orWrong_
 -- The answer where the tests find nothing; otherwise the cause and the beat of the first that fails.
 unfoldable pub _orWrong_ : Verdict → RecordAnswer → RecordAnswer
-_orWrong_ passed a = a
-_orWrong_ (refused k t) a = wrong k t
+_orWrong_ passed x = x
+_orWrong_ (refused k t) x = wrong k t
 
 -- What the record in front of memory m is for a task: its tag, and 64 numbers behind it.
 unfoldable pub recordAnswer : Task → List ℕ → RecordAnswer

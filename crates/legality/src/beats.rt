@@ -20,7 +20,7 @@ use route::Route;
 // Cause 3: it begins at the start of carrier i, counted from 0.
 fn begins(f: Floor, i: usize, r: Route) -> Checked
     requires { ⌜ i < 8 ⌝ }
-    ensures { λ x. ⌜ verdictOf x ≡ beginTest (startOf f i) r ⌝ }
+    ensures { λ result. ⌜ verdictOf result ≡ beginTest (startOf f i) r ⌝ }
 {
     if r[0] != f.starts[i] {
         return Checked::Refused(Refusal {
@@ -36,7 +36,7 @@ fn stands(f: Floor, walls: &[u16], r: Route) -> Checked
     requires { ⌜ (f .width ≤ 32) × (f .height ≤ 32) × (f .horizon ≤ 63) ⌝ }
     requires { ⌜ f .walls ≤ length (now walls) ⌝ }
     requires { ⌜ StrictlyRising (now walls) (f .walls) ⌝ }
-    ensures { λ x. ⌜ verdictOf x ≡ cellsTest (freeOn f (now (walls .entry))) (f .horizon) r ⌝ }
+    ensures { λ result. ⌜ verdictOf result ≡ cellsTest (freeOn f (now (walls .entry))) (f .horizon) r ⌝ }
 {
     let n = f.horizon as usize + 1;
     let mut t: usize = 0;
@@ -56,7 +56,7 @@ fn stands(f: Floor, walls: &[u16], r: Route) -> Checked
 // Cause 5: between two beats it stays or goes to a cell that shares a side.
 fn moves(f: Floor, r: Route) -> Checked
     requires { ⌜ (1 ≤ f .width) × (f .horizon ≤ 63) ⌝ }
-    ensures { λ x. ⌜ verdictOf x ≡ movesTest (f .width) (f .horizon) r ⌝ }
+    ensures { λ result. ⌜ verdictOf result ≡ movesTest (f .width) (f .horizon) r ⌝ }
 {
     let last = f.horizon as usize;
     let w = f.width;
@@ -77,7 +77,7 @@ fn moves(f: Floor, r: Route) -> Checked
 // Cause 6: it ends at a dock of carrier i, counted from 0.
 fn ends(f: Floor, i: usize, r: Route) -> Checked
     requires { ⌜ (i < 8) × (countOf f i ≤ 4) × (f .horizon ≤ 63) ⌝ }
-    ensures { λ x. ⌜ verdictOf x ≡ dockTest (isDock f i) (f .horizon) r ⌝ }
+    ensures { λ result. ⌜ verdictOf result ≡ dockTest (isDock f i) (f .horizon) r ⌝ }
 {
     let last = f.horizon as usize;
     if !is_dock(f, i, r[last]) {
@@ -92,7 +92,7 @@ fn ends(f: Floor, i: usize, r: Route) -> Checked
 // Cause 7: the numbers from a beat on are 0.
 fn blank(r: Route, from: usize) -> Checked
     requires { ⌜ from ≤ 64 ⌝ }
-    ensures { λ x. ⌜ verdictOf x ≡ blankTest from r ⌝ }
+    ensures { λ result. ⌜ verdictOf result ≡ blankTest from r ⌝ }
 {
     let n = CELLS - from;
     let mut k: usize = 0;
@@ -112,7 +112,7 @@ fn blank(r: Route, from: usize) -> Checked
 // The tests of a route of a carrier of a checked floor.
 fn route_test(f: Floor, walls: &[u16], carrier: u16, r: Route) -> Checked
     requires { ⌜ RecordChecked f (now walls) carrier ⌝ }
-    ensures { λ x. ⌜ verdictOf x ≡ routeTest (taskOf f (now (walls .entry)) carrier) r ⌝ }
+    ensures { λ result. ⌜ verdictOf result ≡ routeTest (taskOf f (now (walls .entry)) carrier) r ⌝ }
 {
     let i = carrier as usize - 1;
     let begun = begins(f, i, r);
@@ -137,7 +137,7 @@ fn route_test(f: Floor, walls: &[u16], carrier: u16, r: Route) -> Checked
 // The tests of a record with a tag and 64 numbers.
 pub fn record_test(f: Floor, walls: &[u16], carrier: u16, tag: u16, r: Route) -> Checked
     requires { ⌜ RecordChecked f (now walls) carrier ⌝ }
-    ensures { λ x. ⌜ verdictOf x ≡ recordTest (taskOf f (now (walls .entry)) carrier) tag r ⌝ }
+    ensures { λ result. ⌜ verdictOf result ≡ recordTest (taskOf f (now (walls .entry)) carrier) tag r ⌝ }
 {
     if 2 < tag {
         return Checked::Refused(Refusal {

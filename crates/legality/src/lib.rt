@@ -54,7 +54,7 @@ pub enum Arrived {
 
 // The refusals of the check of a record, in their order.
 fn request(f: Floor, walls: &[u16], carrier: u16, lent: usize) -> Checked
-    ensures { λ r. ⌜ verdictOf r ≡ recordVerdict f (now (walls .entry)) carrier lent ⌝ }
+    ensures { λ result. ⌜ verdictOf result ≡ recordVerdict f (now (walls .entry)) carrier lent ⌝ }
 {
     let checked = floor::check(f, walls);
     let Checked::Passed = checked else {
@@ -70,7 +70,7 @@ fn request(f: Floor, walls: &[u16], carrier: u16, lent: usize) -> Checked
 // What a record that passes its tests is, by its tag.
 fn kind(tag: u16, cells: Route, horizon: u16) -> Legality
     requires { ⌜ horizon ≤ 63 ⌝ }
-    ensures { λ r. ⌜ legalityOutcome r ≡ value (recordKind tag (arrivalOf cells horizon)) ⌝ }
+    ensures { λ result. ⌜ legalityOutcome result ≡ value (recordKind tag (arrivalOf cells horizon)) ⌝ }
 {
     if tag == 2 {
         return Legality::Route(route::arrival(cells, horizon));
@@ -84,7 +84,7 @@ fn kind(tag: u16, cells: Route, horizon: u16) -> Legality
 // What a record is for a carrier of a checked floor.
 fn answer(f: Floor, walls: &[u16], carrier: u16, numbers: &[u16]) -> Legality
     requires { ⌜ recordVerdict f (now walls) carrier (length (now numbers)) ≡ passed ⌝ }
-    ensures { λ r. ⌜ legalityOutcome r ≡ value (recordAnswer (taskOf f (now (walls .entry)) carrier) (now (numbers .entry))) ⌝ }
+    ensures { λ result. ⌜ legalityOutcome result ≡ value (recordAnswer (taskOf f (now (walls .entry)) carrier) (now (numbers .entry))) ⌝ }
 {
     let tag = numbers[0];
     let cells = records::load(numbers, 1);
@@ -101,7 +101,7 @@ fn answer(f: Floor, walls: &[u16], carrier: u16, numbers: &[u16]) -> Legality
 // Whether a record, of which 65 numbers are read, is a route of a carrier of a floor: none or not heard, a route with its arrival, or
 // the first thing that is wrong.
 pub fn check_record(f: Floor, walls: &[u16], carrier: u16, numbers: &[u16]) -> Legality
-    ensures answers { λ r. ⌜ legalityOutcome r ≡ recordOutcome f (now (walls .entry)) carrier (now (numbers .entry)) ⌝ }
+    ensures answers { λ result. ⌜ legalityOutcome result ≡ recordOutcome f (now (walls .entry)) carrier (now (numbers .entry)) ⌝ }
 {
     let asked = request(f, walls, carrier, numbers.len());
     let Checked::Refused(x) = asked else {
@@ -112,7 +112,7 @@ pub fn check_record(f: Floor, walls: &[u16], carrier: u16, numbers: &[u16]) -> L
 
 // The arrival of a lent route, of which 64 cells are read, through the horizon; a horizon above 63 counts as 63.
 pub fn arrival(cells: &[u16], horizon: u16) -> Arrived
-    ensures answers { λ r. ⌜ arrivedOutcome r ≡ arrivalOutcome (now (cells .entry)) horizon ⌝ }
+    ensures answers { λ result. ⌜ arrivedOutcome result ≡ arrivalOutcome (now (cells .entry)) horizon ⌝ }
 {
     if cells.len() < CELLS {
         return Arrived::Refused(Refusal {

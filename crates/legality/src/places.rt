@@ -15,7 +15,7 @@ pub fn is_free(f: Floor, walls: &[u16], c: u16) -> bool
     requires { ⌜ (f .width ≤ 32) × (f .height ≤ 32) ⌝ }
     requires { ⌜ f .walls ≤ length (now walls) ⌝ }
     requires { ⌜ StrictlyRising (now walls) (f .walls) ⌝ }
-    ensures { λ r. ⌜ r ≡ freeOn f (now (walls .entry)) c ⌝ }
+    ensures { λ result. ⌜ result ≡ freeOn f (now (walls .entry)) c ⌝ }
 {
     if f.width * f.height <= c {
         return false;
@@ -27,12 +27,12 @@ pub fn is_free(f: Floor, walls: &[u16], c: u16) -> bool
 pub fn is_dock(f: Floor, i: usize, c: u16) -> bool
     requires { ⌜ i < 8 ⌝ }
     requires { ⌜ countOf f i ≤ 4 ⌝ }
-    ensures { λ r. ⌜ r ≡ isDock f i c ⌝ }
+    ensures { λ result. ⌜ result ≡ isDock f i c ⌝ }
 {
     let docks = floor::docks_of(f, i);
-    let m = f.counts[i] as usize;
+    let n = f.counts[i] as usize;
     let mut k: usize = 0;
-    while k < m {
+    while k < n {
         if docks[k] == c {
             return true;
         }
@@ -42,18 +42,18 @@ pub fn is_dock(f: Floor, i: usize, c: u16) -> bool
 }
 
 // Whether one number is the other plus 1.
-fn neighbours(m: u16, n: u16) -> bool
-    ensures { λ r. ⌜ r ≡ Moves·neighbours m n ⌝ }
+fn neighbours(k: u16, n: u16) -> bool
+    ensures { λ result. ⌜ result ≡ Moves·neighbours k n ⌝ }
 {
-    if m as usize == n as usize + 1 {
+    if k as usize == n as usize + 1 {
         return true;
     }
-    n as usize == m as usize + 1
+    n as usize == k as usize + 1
 }
 
 // Whether two cells are of one line, a and b, and side by side in it, at x and y.
 fn in_line(a: u16, b: u16, x: u16, y: u16) -> bool
-    ensures { λ r. ⌜ r ≡ (eqb a b && Moves·neighbours x y) ⌝ }
+    ensures { λ result. ⌜ result ≡ (eqb a b && Moves·neighbours x y) ⌝ }
 {
     if a != b {
         return false;
@@ -64,7 +64,7 @@ fn in_line(a: u16, b: u16, x: u16, y: u16) -> bool
 // Whether d is c or shares a side with c in a grid of width w.
 pub fn near(w: u16, c: u16, d: u16) -> bool
     requires { ⌜ 1 ≤ w ⌝ }
-    ensures { λ r. ⌜ r ≡ Moves·near w c d ⌝ }
+    ensures { λ result. ⌜ result ≡ Moves·near w c d ⌝ }
 {
     if d == c {
         return true;

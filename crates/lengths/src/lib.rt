@@ -37,7 +37,7 @@ pub enum Needed {
 // The needed length of a trial's report for n carriers: two numbers for each step of the ceiling.
 fn report_length(n: usize) -> usize
     requires { ⌜ (1 ≤ n) × (n ≤ 8) ⌝ }
-    ensures { λ r. ⌜ r ≡ reportSize n ⌝ }
+    ensures { λ result. ⌜ result ≡ reportSize n ⌝ }
 {
     let most = machine::ceiling(n);
     let Most::Steps(t) = most else {
@@ -48,7 +48,7 @@ fn report_length(n: usize) -> usize
 
 // The needed lengths of a floor. They depend on line 1's values alone, so its limits are all that is checked.
 pub fn needed_lengths(f: Floor) -> Needed
-    ensures { λ r. ⌜ figuresOf r ≡ figuresFor f ⌝ }
+    ensures { λ result. ⌜ figuresOf result ≡ figuresFor f ⌝ }
 {
     let limited = floor::limits(f);
     let Checked::Refused(refusal) = limited else {

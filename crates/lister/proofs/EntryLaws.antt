@@ -59,11 +59,11 @@ small-tells f ws report h =
     }
 
 -- The length of a report, as the code asks for it behind a check of the floor that passed.
-pub report-asked : {a : Checked} (b : Checked) (f : Floor) (ws : List ℕ) (most report : ℕ) → verdictOf a ≡ checkOf f ws → a ≡ Passed →
-    (1 ≤ f .carriers → f .carriers ≤ 8 → most ≡ ceiling (f .carriers)) × (most ≤ 512) → verdictOf b ≡ longEnough (2 * most) report →
-    verdictOf b ≡ longEnough (reportSize (f .carriers)) report
+pub report-asked : {x : Checked} (y : Checked) (f : Floor) (ws : List ℕ) (most report : ℕ) → verdictOf x ≡ checkOf f ws → x ≡ Passed →
+    (1 ≤ f .carriers → f .carriers ≤ 8 → most ≡ ceiling (f .carriers)) × (most ≤ 512) → verdictOf y ≡ longEnough (2 * most) report →
+    verdictOf y ≡ longEnough (reportSize (f .carriers)) report
 unfolding reportSize
-report-asked b f ws most report v e m h = let n = checked-carriers f ws (passes v e) in h ∙ rw (m .0 (n .0) (n .1))
+report-asked y f ws most report v e m h = let n = checked-carriers f ws (passes v e) in h ∙ rw (m .0 (n .0) (n .1))
 
 pub list-tells : (f : Floor) (ws : List ℕ) → listVerdict f ws ≡ passed → (checkOf f ws ≡ passed) × (f .carriers ≤ 3)
 unfolding listVerdict
@@ -88,30 +88,30 @@ module _ (M : Machine) where
   one lines e = rw e refl
 
   -- Runs behind the window's rank are not written.
-  lines-behind : (first rank : ℕ) (rs : List Run) (lines : List ℕ) → length lines ≡ 23 → first < rank → listedFrom M first rank rs lines ≡ lines
+  lines-behind : (first rank : ℕ) (ys : List Run) (lines : List ℕ) → length lines ≡ 23 → first < rank → listedFrom M first rank ys lines ≡ lines
   unfolding listedFrom
   lines-behind first rank [] lines long l = refl
-  lines-behind first rank (xs ∷ rs) lines long l =
-      ap (listedFrom M first (suc rank) rs)
+  lines-behind first rank (xs ∷ ys) lines long l =
+      ap (listedFrom M first (suc rank) ys)
       (sym (written-behind first rank (length xs) (Numbers xs) lines (omega arith) (omega (arith, one lines long))))
-      ∙ lines-behind first (suc rank) rs lines long (omega arith)
+      ∙ lines-behind first (suc rank) ys lines long (omega arith)
 
-  pub lines-one : (first rank : ℕ) (rs : List Run) (lines : List ℕ) → length lines ≡ 23 → rank ≤ first → first - rank < length rs →
-      length (getD rs (first - rank) []) ≤ 11 →
-      listedFrom M first rank rs lines ≡ put lines 0 (length (getD rs (first - rank) []) ∷ Numbers (getD rs (first - rank) []))
+  pub lines-one : (first rank : ℕ) (ys : List Run) (lines : List ℕ) → length lines ≡ 23 → rank ≤ first → first - rank < length ys →
+      length (getD ys (first - rank) []) ≤ 11 →
+      listedFrom M first rank ys lines ≡ put lines 0 (length (getD ys (first - rank) []) ∷ Numbers (getD ys (first - rank) []))
   unfolding listedFrom
   lines-one first rank [] lines long l h few = absurd (omega arith)
-  lines-one first rank (xs ∷ rs) lines long l h few =
+  lines-one first rank (xs ∷ ys) lines long l h few =
       ⊎-elim (λ (e : rank ≡ first). here e)
       (λ (k : rank < first).
       let less : first - rank ≡ suc (first - suc rank) = omega arith in
-      ap (listedFrom M first (suc rank) rs) (sym (written-before first rank (length xs) (Numbers xs) lines k))
-      ∙ lines-one first (suc rank) rs lines long (omega arith) (omega arith) (rw less at few)
+      ap (listedFrom M first (suc rank) ys) (sym (written-before first rank (length xs) (Numbers xs) lines k))
+      ∙ lines-one first (suc rank) ys lines long (omega arith) (omega arith) (rw less at few)
       ∙ rw less refl)
       (eq-or-lt-of-le l)
     where
-      here : rank ≡ first → listedFrom M first (suc rank) rs (lineWritten first rank (length xs) (Numbers xs) lines) ≡
-          put lines 0 (length (getD (xs ∷ rs) (first - rank) []) ∷ Numbers (getD (xs ∷ rs) (first - rank) []))
+      here : rank ≡ first → listedFrom M first (suc rank) ys (lineWritten first rank (length xs) (Numbers xs) lines) ≡
+          put lines 0 (length (getD (xs ∷ ys) (first - rank) []) ∷ Numbers (getD (xs ∷ ys) (first - rank) []))
       here e =
           let none : first - rank ≡ 0 = omega arith in
           let zeroth : 23 * (rank - first) ≡ 0 = omega arith in
@@ -119,8 +119,8 @@ module _ (M : Machine) where
           let stays : length (put lines 0 (length xs ∷ Numbers xs)) ≡ 23 =
           put-length lines (length xs ∷ Numbers xs) 0 (omega (arith, report-length M xs, rw none at few)) ∙ long
           in
-          ap (listedFrom M first (suc rank) rs) (there ∙ ap (λ (at : ℕ). put lines at (length xs ∷ Numbers xs)) zeroth)
-          ∙ lines-behind first (suc rank) rs (put lines 0 (length xs ∷ Numbers xs)) stays (omega arith)
+          ap (listedFrom M first (suc rank) ys) (there ∙ ap (λ (at : ℕ). put lines at (length xs ∷ Numbers xs)) zeroth)
+          ∙ lines-behind first (suc rank) ys (put lines 0 (length xs ∷ Numbers xs)) stays (omega arith)
           ∙ rw none refl
 
 -- The state of three carriers has 1,181 numbers.
@@ -178,8 +178,8 @@ module _ (f : Floor) (ws : List ℕ) (few : f .carriers ≤ 3) (rank : ℕ) (bel
       let is = line-is line₀ line long e in
       let sized = size-of f ws rank in
       record {
-        steps = ap (λ (l : List ℕ). getD l 0 0) is;
-        numbers = ap (λ (l : List ℕ). take (2 * length (runOfRank f ws rank)) (drop 1 l)) is
+        steps = ap (λ (xs : List ℕ). getD xs 0 0) is;
+        numbers = ap (λ (xs : List ℕ). take (2 * length (runOfRank f ws rank)) (drop 1 xs)) is
             ∙ take-at (runNumbers f ws rank) (drop (0 + suc (length (runNumbers f ws rank))) line₀)
             (2 * length (runOfRank f ws rank)) sized;
         size = sized;

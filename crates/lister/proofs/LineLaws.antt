@@ -13,35 +13,35 @@ use Rattle.laws.specs.Memory.{put}
 use Rattle.laws.proofs.PutLaws.{put-one, put-next, copy-start, copy-more, copy-keeps, copy-end}
 use Rattle.lister.specs.Lines.{lineWritten}
 
--- After t of the first k numbers of a trail are copied.
-pub record Copying (lines₀ : List ℕ) (at k : ℕ) (trail lines : List ℕ) (t : ℕ) : Type 0 where
-  pub within : t ≤ k
+-- After i of the first k numbers of a trail are copied.
+pub record Copying (lines₀ : List ℕ) (at k : ℕ) (trail lines : List ℕ) (i : ℕ) : Type 0 where
+  pub within : i ≤ k
   pub long : length trail ≡ 22
-  pub stored : lines ≡ put lines₀ at (take t (take k trail))
+  pub stored : lines ≡ put lines₀ at (take i (take k trail))
 
 module _ (lines₀ : List ℕ) (at k : ℕ) (trail : List ℕ) where
   pub copying-start : length trail ≡ 22 → Copying lines₀ at k trail lines₀ 0
   copying-start e = record { within = omega arith; long = e; stored = copy-start lines₀ (take k trail) at }
 
-  module _ (few : k ≤ 22) (enough : at + k ≤ length lines₀) {lines : List ℕ} {t : ℕ} (c : Copying lines₀ at k trail lines t) where
+  module _ (few : k ≤ 22) (enough : at + k ≤ length lines₀) {lines : List ℕ} {i : ℕ} (c : Copying lines₀ at k trail lines i) where
     size : length (take k trail) ≡ k
     size = length-take-le k trail (omega (arith, c .long))
 
     pub copying-keeps : length lines ≡ length lines₀
     copying-keeps =
-        copy-keeps lines₀ lines (take k trail) at t (c .stored) (omega (arith, size, c .within)) (omega (arith, size))
+        copy-keeps lines₀ lines (take k trail) at i (c .stored) (omega (arith, size, c .within)) (omega (arith, size))
 
-    pub copying-more : t < k → Copying lines₀ at k trail (set lines (at + t) (getD trail t 0)) (t + 1)
+    pub copying-more : i < k → Copying lines₀ at k trail (set lines (at + i) (getD trail i 0)) (i + 1)
     copying-more l =
         record {
           within = omega arith;
           long = c .long;
-          stored = ap (set lines (at + t)) (sym (getD-take k trail t 0 l))
-              ∙ copy-more lines₀ lines (take k trail) at t (c .stored) (omega (arith, size)) (omega (arith, size));
+          stored = ap (set lines (at + i)) (sym (getD-take k trail i 0 l))
+              ∙ copy-more lines₀ lines (take k trail) at i (c .stored) (omega (arith, size)) (omega (arith, size));
         }
 
-    pub copying-end : k ≤ t → lines ≡ put lines₀ at (take k trail)
-    copying-end l = copy-end lines₀ lines (take k trail) at t (c .stored) (omega (arith, size))
+    pub copying-end : k ≤ i → lines ≡ put lines₀ at (take k trail)
+    copying-end l = copy-end lines₀ lines (take k trail) at i (c .stored) (omega (arith, size))
 
 -- Two numbers more behind 2 k of them.
 pub two-more : (trail : List ℕ) (k number answer : ℕ) → length trail ≡ 22 → k < 11 →
@@ -51,7 +51,7 @@ two-more trail k number answer long l =
     let next : 2 * k + 1 ≡ suc (2 * k) = omega arith in
     rw (here, next)
     (take-suc-set (set trail (2 * k) number) (suc (2 * k)) answer (omega (arith, length-set trail (2 * k) number))
-    ∙ ap (λ (l : List ℕ). l ++ (answer ∷ [])) (take-suc-set trail (2 * k) number (omega arith))
+    ∙ ap (λ (xs : List ℕ). xs ++ (answer ∷ [])) (take-suc-set trail (2 * k) number (omega arith))
     ∙ append-assoc (take (2 * k) trail) (number ∷ []) (answer ∷ []))
 
 -- Line i of n numbers' lines is within them.

@@ -66,7 +66,7 @@ module _ (f : Floor) (ws : List ℕ) (ok : checkOf f ws ≡ passed) (rest : List
   unfolding besideIn
   runs-same zero s fits = go (isSilent M s) refl
     where
-      go : (b : Bool) → isSilent M s ≡ b → runsIn M 0 (encodedWith s) ≡ runsFrom M 0 s
+      go : (x : Bool) → isSilent M s ≡ x → runsIn M 0 (encodedWith s) ≡ runsFrom M 0 s
       go true e = runs-end f ws (encodedWith s) 0 (silent-shown s ∙ e) ∙ sym (runs-silent M 0 s e)
       go false e = runs-onward f ws (encodedWith s) 0 (silent-shown s ∙ e) ∙ sym (runs-spent M s e)
   runs-same (suc left) s fits = go (isSilent M s) refl (λ z h. runs-same left z h)
@@ -80,7 +80,7 @@ module _ (f : Floor) (ws : List ℕ) (ok : checkOf f ws ≡ passed) (rest : List
           (λ x e. ap (runsIn M left) (step-stores f ws ok s fits rest x e) ∙ h (afterStep M s x) (step-fits f ws ok s fits x e))
           (ranking (f .carriers))
 
-      go : (b : Bool) → isSilent M s ≡ b → ((z : State) → WithinRanges f z → runsIn M left (encodedWith z) ≡ runsFrom M left z) →
+      go : (x : Bool) → isSilent M s ≡ x → ((z : State) → WithinRanges f z → runsIn M left (encodedWith z) ≡ runsFrom M left z) →
           runsIn M (suc left) (encodedWith s) ≡ runsFrom M (suc left) s
       go true e h = runs-end f ws (encodedWith s) (suc left) (silent-shown s ∙ e) ∙ sym (runs-silent M (suc left) s e)
       go false e h = runs-onward f ws (encodedWith s) (suc left) (silent-shown s ∙ e) ∙ below h ∙ sym (more-of left s e)
@@ -91,24 +91,24 @@ module _ (f : Floor) (ws : List ℕ) (ok : checkOf f ws ≡ passed) (rest : List
   unfolding numbersIn reportNumbers reportFrom entryOf Complete
   numbers-same s fits [] c = refl
   numbers-same s fits (x ∷ xs) c =
-      ap (λ (a : StepAnswer). numberOf x ∷ (answerNumber a ∷ numbersIn M (afterIn M (encodedWith s) x) xs))
+      ap (λ (y : StepAnswer). numberOf x ∷ (answerNumber y ∷ numbersIn M (afterIn M (encodedWith s) x) xs))
       (step-says f ws ok s fits rest x (c .0))
-      ∙ ap (λ (l : List ℕ). numberOf x ∷ (answerNumber (entryOf M s x .answer) ∷ l))
+      ∙ ap (λ (xs : List ℕ). numberOf x ∷ (answerNumber (entryOf M s x .answer) ∷ xs))
       (ap (λ (m : List ℕ). numbersIn M m xs) (step-stores f ws ok s fits rest x (c .0))
       ∙ numbers-same (afterStep M s x) (step-fits f ws ok s fits x (c .0)) xs (c .1))
 
   -- The lines of complete runs from fresh.
-  lines-same : (first rank : ℕ) (rs : List Run) (lines : List ℕ) → AllItems (Complete M fresh) rs →
-      listedIn M (encodedWith fresh) 0 [] first rank rs lines ≡ listedFrom M first rank rs lines
+  lines-same : (first rank : ℕ) (ys : List Run) (lines : List ℕ) → AllItems (Complete M fresh) ys →
+      listedIn M (encodedWith fresh) 0 [] first rank ys lines ≡ listedFrom M first rank ys lines
   unfolding listedIn listedFrom AllItems
   lines-same first rank [] lines h = refl
-  lines-same first rank (xs ∷ rs) lines h =
+  lines-same first rank (xs ∷ ys) lines h =
       ap (λ (k : ℕ).
-      listedIn M (encodedWith fresh) 0 [] first (suc rank) rs (lineWritten first rank k (numbersIn M (encodedWith fresh) xs) lines))
+      listedIn M (encodedWith fresh) 0 [] first (suc rank) ys (lineWritten first rank k (numbersIn M (encodedWith fresh) xs) lines))
       (zero-add (length xs))
-      ∙ ap (λ (ns : List ℕ). listedIn M (encodedWith fresh) 0 [] first (suc rank) rs (lineWritten first rank (length xs) ns lines))
+      ∙ ap (λ (zs : List ℕ). listedIn M (encodedWith fresh) 0 [] first (suc rank) ys (lineWritten first rank (length xs) zs lines))
       (numbers-same fresh (fresh-fits f) xs (h .0))
-      ∙ lines-same first (suc rank) rs (lineWritten first rank (length xs) (reportNumbers (reportFrom M fresh xs)) lines) (h .1)
+      ∙ lines-same first (suc rank) ys (lineWritten first rank (length xs) (reportNumbers (reportFrom M fresh xs)) lines) (h .1)
 
 -- At most 6^11 runs: 362,797,056.
 pub ceiling-few : (n : ℕ) → n ≤ 3 → ceiling n ≤ 11
@@ -167,7 +167,7 @@ module _ (f : Floor) (ws : List ℕ) (ok : checkOf f ws ≡ passed) (node : Node
   root-lines first lines =
       ap (λ (m : List ℕ). listedIn N m (node .steps) (trailOf node) first 0 (runsOf N) lines) (rooted .shows)
       ∙ ap (λ (k : ℕ). listedIn N (encodedWith f ws ok behind-state fresh) k (trailOf node) first 0 (runsOf N) lines) (rooted .none)
-      ∙ ap (λ (ns : List ℕ). listedIn N (encodedWith f ws ok behind-state fresh) 0 ns first 0 (runsOf N) lines) no-trail
+      ∙ ap (λ (xs : List ℕ). listedIn N (encodedWith f ws ok behind-state fresh) 0 xs first 0 (runsOf N) lines) no-trail
       ∙ lines-same f ws ok behind-state first 0 (runsOf N) lines (runs-complete N (ceiling (N .carriers)) fresh)
 
   pub root-tallied : {first left : ℕ} {lines : List ℕ} {next : ℕ} {lines′ : List ℕ} → left ≡ ceiling (f .carriers) →
@@ -177,7 +177,7 @@ module _ (f : Floor) (ws : List ℕ) (ok : checkOf f ws ≡ passed) (node : Node
   root-tallied {first} {left} {lines} e t = (
     t .counts ∙ zero-add (length (besideIn f ws left (node .memory) 0)) ∙ ap length (root-runs left e),
     t .lists
-        ∙ ap (λ (rs : List Run). listedIn N (node .memory) (node .steps) (trailOf node) first 0 rs lines) (root-runs left e)
+        ∙ ap (λ (xs : List Run). listedIn N (node .memory) (node .steps) (trailOf node) first 0 xs lines) (root-runs left e)
         ∙ root-lines first lines,
   )
 

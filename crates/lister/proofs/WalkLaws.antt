@@ -28,35 +28,35 @@ use Rattle.lister.specs.Inner.{trailOf, NodeAfter, runsIn, followedIn, b
 
 -- The lines of runs one behind the other, and of runs with a step in front.
 module _ (M : Machine) (m : List ℕ) (first : ℕ) where
-  listed-append : (k : ℕ) (before : List ℕ) (rank : ℕ) (rs qs : List Run) (lines : List ℕ) →
-      listedIn M m k before first rank (rs ++ qs) lines ≡
-      listedIn M m k before first (rank + length rs) qs (listedIn M m k before first rank rs lines)
+  listed-append : (k : ℕ) (before : List ℕ) (rank : ℕ) (ys zs : List Run) (lines : List ℕ) →
+      listedIn M m k before first rank (ys ++ zs) lines ≡
+      listedIn M m k before first (rank + length ys) zs (listedIn M m k before first rank ys lines)
   unfolding listedIn
-  listed-append k before rank [] qs lines =
+  listed-append k before rank [] zs lines =
       let same : rank + 0 ≡ rank = omega arith in rw same refl
-  listed-append k before rank (xs ∷ rs) qs lines =
-      let same : rank + suc (length rs) ≡ suc rank + length rs = omega arith in
-      rw same (listed-append k before (suc rank) rs qs (lineWritten first rank (k + length xs) (before ++ numbersIn M m xs) lines))
+  listed-append k before rank (xs ∷ ys) zs lines =
+      let same : rank + suc (length ys) ≡ suc rank + length ys = omega arith in
+      rw same (listed-append k before (suc rank) ys zs (lineWritten first rank (k + length xs) (before ++ numbersIn M m xs) lines))
 
-  listed-behind : (x : Step) (k : ℕ) (before : List ℕ) (rank : ℕ) (rs : List Run) (lines : List ℕ) →
-      listedIn M m k before first rank (eachBehind x rs) lines ≡
-      listedIn M (afterIn M m x) (k + 1) (before ++ (numberOf x ∷ (answerNumber (stepAnswerIn M m x) ∷ []))) first rank rs lines
+  listed-behind : (x : Step) (k : ℕ) (before : List ℕ) (rank : ℕ) (ys : List Run) (lines : List ℕ) →
+      listedIn M m k before first rank (eachBehind x ys) lines ≡
+      listedIn M (afterIn M m x) (k + 1) (before ++ (numberOf x ∷ (answerNumber (stepAnswerIn M m x) ∷ []))) first rank ys lines
   unfolding listedIn eachBehind numbersIn
   listed-behind x k before rank [] lines = refl
-  listed-behind x k before rank (xs ∷ rs) lines =
+  listed-behind x k before rank (xs ∷ ys) lines =
       let longer : k + suc (length xs) ≡ k + 1 + length xs = omega arith in
       let here = numberOf x ∷ (answerNumber (stepAnswerIn M m x) ∷ numbersIn M (afterIn M m x) xs) in
-      ap (λ (j : ℕ). listedIn M m k before first (suc rank) (eachBehind x rs) (lineWritten first rank j (before ++ here) lines)) longer
-      ∙ listed-behind x k before (suc rank) rs (lineWritten first rank (k + 1 + length xs) (before ++ here) lines)
-      ∙ ap (λ (ns : List ℕ).
-      listedIn M (afterIn M m x) (k + 1) (before ++ (numberOf x ∷ (answerNumber (stepAnswerIn M m x) ∷ []))) first (suc rank) rs
-      (lineWritten first rank (k + 1 + length xs) ns lines))
+      ap (λ (j : ℕ). listedIn M m k before first (suc rank) (eachBehind x ys) (lineWritten first rank j (before ++ here) lines)) longer
+      ∙ listed-behind x k before (suc rank) ys (lineWritten first rank (k + 1 + length xs) (before ++ here) lines)
+      ∙ ap (λ (zs : List ℕ).
+      listedIn M (afterIn M m x) (k + 1) (before ++ (numberOf x ∷ (answerNumber (stepAnswerIn M m x) ∷ []))) first (suc rank) ys
+      (lineWritten first rank (k + 1 + length xs) zs lines))
       (sym (append-assoc before (numberOf x ∷ (answerNumber (stepAnswerIn M m x) ∷ [])) (numbersIn M (afterIn M m x) xs)))
 
 -- Every run of a list gets one step in front.
-pub front-length : (x : Step) (rs : List Run) → length (eachBehind x rs) ≡ length rs
+pub front-length : (x : Step) (ys : List Run) → length (eachBehind x ys) ≡ length ys
 unfolding eachBehind
-front-length x rs = length-map rs (λ (xs : Run). x ∷ xs)
+front-length x ys = length-map ys (λ (xs : Run). x ∷ xs)
 
 -- The runs from a node, one step at a time.
 module _ (f : Floor) (ws m : List ℕ) where
@@ -106,19 +106,19 @@ module _ (f : Floor) (ws m : List ℕ) where
 
 -- What a branch comes to, from what its parts come to.
 module _ (f : Floor) (ws : List ℕ) (node : Node) (first : ℕ) where
-  pub tallied-none : {rs : List Run} {rank : ℕ} {lines : List ℕ} → rs ≡ [] → BranchListed f ws node first rs rank lines rank lines
+  pub tallied-none : {xs : List Run} {rank : ℕ} {lines : List ℕ} → xs ≡ [] → BranchListed f ws node first xs rank lines rank lines
   unfolding listedIn
   tallied-none e = rw e (record { counts = omega arith; lists = refl })
 
-  pub tallied-same : {rs qs : List Run} {rank : ℕ} {lines : List ℕ} {next : ℕ} {lines′ : List ℕ} → rs ≡ qs →
-      BranchListed f ws node first qs rank lines next lines′ → BranchListed f ws node first rs rank lines next lines′
+  pub tallied-same : {xs ys : List Run} {rank : ℕ} {lines : List ℕ} {next : ℕ} {lines′ : List ℕ} → xs ≡ ys →
+      BranchListed f ws node first ys rank lines next lines′ → BranchListed f ws node first xs rank lines next lines′
   tallied-same e t = rw e t
 
-  pub tallied-join : {rs front back : List Run} {rank : ℕ} {lines : List ℕ} {mid : ℕ} {lines₁ : List ℕ} {next : ℕ} {lines₂ : List ℕ} →
-      rs ≡ front ++ back → BranchListed f ws node first front rank lines mid lines₁ →
+  pub tallied-join : {xs front back : List Run} {rank : ℕ} {lines : List ℕ} {mid : ℕ} {lines₁ : List ℕ} {next : ℕ} {lines₂ : List ℕ} →
+      xs ≡ front ++ back → BranchListed f ws node first front rank lines mid lines₁ →
       BranchListed f ws node first back mid lines₁ next lines₂ →
-      BranchListed f ws node first rs rank lines next lines₂
-  tallied-join {rs} {front} {back} {rank} {lines} {mid} {lines₁} {next} {lines₂} e a b =
+      BranchListed f ws node first xs rank lines next lines₂
+  tallied-join {xs} {front} {back} {rank} {lines} {mid} {lines₁} {next} {lines₂} e a b =
       rw e
       (record {
         counts = omega (arith, a .counts, b .counts, length-append front back);
@@ -136,19 +136,19 @@ module _ (f : Floor) (ws : List ℕ) (node : Node) (first : ℕ) where
     x = stepAt (f .carriers) p
 
     -- The runs below a node, as lines: those of the node above with the step in front.
-    lines-below : (rank : ℕ) (rs : List Run) (lines : List ℕ) →
-        listedIn N (below .memory) (below .steps) (trailOf below) first rank rs lines ≡
-        listedIn N (node .memory) (node .steps) (trailOf node) first rank (eachBehind x rs) lines
-    lines-below rank rs lines =
-        ap (λ (m : List ℕ). listedIn N m (below .steps) (trailOf below) first rank rs lines) (moved .stores)
-        ∙ ap (λ (k : ℕ). listedIn N (afterIn N (node .memory) x) k (trailOf below) first rank rs lines) (moved .counts)
-        ∙ ap (λ (ns : List ℕ). listedIn N (afterIn N (node .memory) x) (node .steps + 1) ns first rank rs lines) (moved .trails)
-        ∙ sym (listed-behind N (node .memory) first x (node .steps) (trailOf node) rank rs lines)
+    lines-below : (rank : ℕ) (xs : List Run) (lines : List ℕ) →
+        listedIn N (below .memory) (below .steps) (trailOf below) first rank xs lines ≡
+        listedIn N (node .memory) (node .steps) (trailOf node) first rank (eachBehind x xs) lines
+    lines-below rank xs lines =
+        ap (λ (m : List ℕ). listedIn N m (below .steps) (trailOf below) first rank xs lines) (moved .stores)
+        ∙ ap (λ (k : ℕ). listedIn N (afterIn N (node .memory) x) k (trailOf below) first rank xs lines) (moved .counts)
+        ∙ ap (λ (ys : List ℕ). listedIn N (afterIn N (node .memory) x) (node .steps + 1) ys first rank xs lines) (moved .trails)
+        ∙ sym (listed-behind N (node .memory) first x (node .steps) (trailOf node) rank xs lines)
 
-    pub tallied-below : (rs qs : List Run) {rank : ℕ} {lines : List ℕ} {next : ℕ} {lines′ : List ℕ} → qs ≡ eachBehind x rs →
-        BranchListed f ws below first rs rank lines next lines′ → BranchListed f ws node first qs rank lines next lines′
-    tallied-below rs qs {rank} {lines} e t =
-        rw e (record { counts = omega (arith, t .counts, front-length x rs); lists = t .lists ∙ lines-below rank rs lines })
+    pub tallied-below : (xs ys : List Run) {rank : ℕ} {lines : List ℕ} {next : ℕ} {lines′ : List ℕ} → ys ≡ eachBehind x xs →
+        BranchListed f ws below first xs rank lines next lines′ → BranchListed f ws node first ys rank lines next lines′
+    tallied-below xs ys {rank} {lines} e t =
+        rw e (record { counts = omega (arith, t .counts, front-length x xs); lists = t .lists ∙ lines-below rank xs lines })
 
     -- The node below is silent: one run ends there.
     pub tallied-end : {rank : ℕ} {lines lines′ : List ℕ} → lines′ ≡ lineWritten first rank (below .steps) (trailOf below) lines →
@@ -190,14 +190,14 @@ module _ (f : Floor) (ws m : List ℕ) (left p rank bound : ℕ) (some : 1 ≤ l
   pub fits-rest : (mid : ℕ) → mid ≡ rank + length (followedIn f ws left m p) → mid + length (besideIn f ws left m (p + 1)) < bound
   fits-rest mid c = omega (arith, split)
 
-pub fits-same : (rs qs : List Run) (rank bound : ℕ) → rs ≡ qs → rank + length rs < bound → rank + length qs < bound
-fits-same rs qs rank bound e l = omega (arith, ap length e)
+pub fits-same : (xs ys : List Run) (rank bound : ℕ) → xs ≡ ys → rank + length xs < bound → rank + length ys < bound
+fits-same xs ys rank bound e l = omega (arith, ap length e)
 
-pub fits-one : (x : Step) (qs : List Run) (rank bound : ℕ) → qs ≡ eachBehind x ([] ∷ []) → rank + length qs < bound → rank + 1 < bound
-fits-one x qs rank bound e l = omega (arith, ap length e, front-length x ([] ∷ []))
+pub fits-one : (x : Step) (xs : List Run) (rank bound : ℕ) → xs ≡ eachBehind x ([] ∷ []) → rank + length xs < bound → rank + 1 < bound
+fits-one x xs rank bound e l = omega (arith, ap length e, front-length x ([] ∷ []))
 
-pub fits-below : (x : Step) (rs qs : List Run) (rank bound : ℕ) → qs ≡ eachBehind x rs → rank + length qs < bound → rank + length rs < bound
-fits-below x rs qs rank bound e l = omega (arith, ap length e, front-length x rs)
+pub fits-below : (x : Step) (xs ys : List Run) (rank bound : ℕ) → ys ≡ eachBehind x xs → rank + length ys < bound → rank + length xs < bound
+fits-below x xs ys rank bound e l = omega (arith, ap length e, front-length x xs)
 
 -- Three carriers have six steps at most.
 pub places-six : (n : ℕ) → n ≤ 3 → places n ≤ 6

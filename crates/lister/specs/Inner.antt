@@ -74,7 +74,7 @@ pub record Branch (f : Floor) (ws rows : List ℕ) (node : Node) (left : ℕ) : 
   pub short : node .steps + left ≤ 11
 
 -- What a branch comes to: the rank behind its runs, and the lines with these.
-pub record BranchListed (f : Floor) (ws : List ℕ) (node : Node) (first : ℕ) (rs : List Run) (rank : ℕ) (lines : List ℕ) (next : ℕ)
+pub record BranchListed (f : Floor) (ws : List ℕ) (node : Node) (first : ℕ) (xs : List Run) (rank : ℕ) (lines : List ℕ) (next : ℕ)
     (lines′ : List ℕ) : Type 0 where
-  pub counts : next ≡ rank + length rs
-  pub lists : lines′ ≡ listedIn (machineOf f ws) (node .memory) (node .steps) (trailOf node) first rank rs lines
+  pub counts : next ≡ rank + length xs
+  pub lists : lines′ ≡ listedIn (machineOf f ws) (node .memory) (node .steps) (trailOf node) first rank xs lines

@@ -40,7 +40,7 @@ pub enum Counted {
 
 // 14: more than three carriers.
 fn small(carriers: u16) -> Checked
-    ensures { λ r. ⌜ verdictOf r ≡ demand (leb carriers 3) 14 0 ⌝ }
+    ensures { λ result. ⌜ verdictOf result ≡ demand (leb carriers 3) 14 0 ⌝ }
 {
     if carriers <= node::CARRIERS as u16 {
         return Checked::Passed;
@@ -53,7 +53,7 @@ fn small(carriers: u16) -> Checked
 
 // The refusals but 15: the floor's, 9 for the report, 14.
 fn ready(f: Floor, walls: &[u16], report: usize) -> Checked
-    ensures { λ r. ⌜ verdictOf r ≡ smallVerdict f (now (walls .entry)) report ⌝ }
+    ensures { λ result. ⌜ verdictOf result ≡ smallVerdict f (now (walls .entry)) report ⌝ }
 {
     let checked = floor::check(f, walls);
     let Checked::Passed = checked else {
@@ -69,8 +69,8 @@ fn ready(f: Floor, walls: &[u16], report: usize) -> Checked
 // Lists the runs of a checked floor: the lines get the runs from rank `first` on, as many as there are lines; the total is returned.
 fn list(f: Floor, walls: &[u16], first: u64, lines: &mut [u16]) -> u64
     requires { ⌜ (checkOf f (now walls) ≡ passed) × (f .carriers ≤ 3) ⌝ }
-    ensures counts { λ r. ⌜ r ≡ totalOf f (now (walls .entry)) ⌝ }
-    ensures lists { λ r. ⌜ now (lines .exit) ≡
+    ensures counts { λ result. ⌜ result ≡ totalOf f (now (walls .entry)) ⌝ }
+    ensures lists { λ result. ⌜ now (lines .exit) ≡
         listedFrom (machineOf f (now (walls .entry))) first 0 (runsOf (machineOf f (now (walls .entry)))) (now (lines .entry)) ⌝ }
 {
     let n = f.carriers as usize;
@@ -91,7 +91,7 @@ fn list(f: Floor, walls: &[u16], first: u64, lines: &mut [u16]) -> u64
 
 // Room for one line.
 fn no_line() -> [u16; LINE]
-    ensures { λ r. ⌜ 23 ≡ length r ⌝ }
+    ensures { λ result. ⌜ 23 ≡ length result ⌝ }
 {
     [0; LINE]
 }
@@ -99,8 +99,8 @@ fn no_line() -> [u16; LINE]
 // Reports the run of a line; how many steps it has.
 fn report_line(report: &mut [u16], line: &[u16]) -> u16
     requires { ⌜ (getD (now line) 0 0 ≤ 11) × ((length (now line) ≡ 23) × (2 * getD (now line) 0 0 ≤ length (now report))) ⌝ }
-    ensures answers { λ r. ⌜ r ≡ getD (now (line .entry)) 0 0 ⌝ }
-    ensures reports { λ r. ⌜ now (report .exit) ≡
+    ensures answers { λ result. ⌜ result ≡ getD (now (line .entry)) 0 0 ⌝ }
+    ensures reports { λ result. ⌜ now (report .exit) ≡
         put (now (report .entry)) 0 (take (2 * getD (now (line .entry)) 0 0) (drop 1 (now (line .entry)))) ⌝ }
 {
     let steps = line[0];
@@ -111,8 +111,8 @@ fn report_line(report: &mut [u16], line: &[u16]) -> u16
 // Finds the run of a rank of a small floor, and reports it; 15 where there is none.
 fn find(f: Floor, walls: &[u16], rank: u64, report: &mut [u16]) -> Listed
     requires { ⌜ smallVerdict f (now walls) (length (now report)) ≡ passed ⌝ }
-    ensures answers { λ r. ⌜ listedOutcome r ≡ rankOutcome f (now (walls .entry)) rank (length (now (report .entry))) ⌝ }
-    ensures reports { λ r. ⌜ now (report .exit) ≡ reportListed f (now (walls .entry)) rank (now (report .entry)) ⌝ }
+    ensures answers { λ result. ⌜ listedOutcome result ≡ rankOutcome f (now (walls .entry)) rank (length (now (report .entry))) ⌝ }
+    ensures reports { λ result. ⌜ now (report .exit) ≡ reportListed f (now (walls .entry)) rank (now (report .entry)) ⌝ }
 {
     let mut line = no_line();
     let total = list(f, walls, rank, &mut line);
@@ -131,8 +131,8 @@ fn find(f: Floor, walls: &[u16], rank: u64, report: &mut [u16]) -> Listed
 // The complete run of a rank, counted from 0, and how many there are. The report gets two numbers a step: the step's number, and its
 // answer, 0 kept, 1 sent, 2 delivered.
 pub fn run_of_rank(f: Floor, walls: &[u16], rank: u64, report: &mut [u16]) -> Listed
-    ensures answers { λ r. ⌜ listedOutcome r ≡ rankOutcome f (now (walls .entry)) rank (length (now (report .entry))) ⌝ }
-    ensures reports { λ r. ⌜ now (report .exit) ≡ reportListed f (now (walls .entry)) rank (now (report .entry)) ⌝ }
+    ensures answers { λ result. ⌜ listedOutcome result ≡ rankOutcome f (now (walls .entry)) rank (length (now (report .entry))) ⌝ }
+    ensures reports { λ result. ⌜ now (report .exit) ≡ reportListed f (now (walls .entry)) rank (now (report .entry)) ⌝ }
 {
     let checked = ready(f, walls, report.len());
     let Checked::Refused(x) = checked else {
@@ -143,7 +143,7 @@ pub fn run_of_rank(f: Floor, walls: &[u16], rank: u64, report: &mut [u16]) -> Li
 
 // The refusals of a listing of many runs: the floor's, 14.
 fn listable(f: Floor, walls: &[u16]) -> Checked
-    ensures { λ r. ⌜ verdictOf r ≡ listVerdict f (now (walls .entry)) ⌝ }
+    ensures { λ result. ⌜ verdictOf result ≡ listVerdict f (now (walls .entry)) ⌝ }
 {
     let checked = floor::check(f, walls);
     let Checked::Passed = checked else {
@@ -154,8 +154,8 @@ fn listable(f: Floor, walls: &[u16]) -> Checked
 
 // How many runs there are, and the runs of the ranks from `first` on, a line each: as many as the lent lines hold, 23 numbers a line.
 pub fn runs_from(f: Floor, walls: &[u16], first: u64, lines: &mut [u16]) -> Counted
-    ensures answers { λ r. ⌜ countedOutcome r ≡ listOutcome f (now (walls .entry)) ⌝ }
-    ensures lists { λ r. ⌜ now (lines .exit) ≡ linesListed f (now (walls .entry)) first (now (lines .entry)) ⌝ }
+    ensures answers { λ result. ⌜ countedOutcome result ≡ listOutcome f (now (walls .entry)) ⌝ }
+    ensures lists { λ result. ⌜ now (lines .exit) ≡ linesListed f (now (walls .entry)) first (now (lines .entry)) ⌝ }
 {
     let checked = listable(f, walls);
     let Checked::Refused(x) = checked else {

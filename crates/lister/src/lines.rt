@@ -15,7 +15,7 @@ pub const LINE: usize = TRAIL + 1;
 // Writes the first k numbers of a trail from a place on.
 pub fn write_trail(lines: &mut [u16], at: usize, trail: [u16; TRAIL], k: usize)
     requires { ⌜ (k ≤ 22) × (at + k ≤ length (now lines)) ⌝ }
-    ensures { λ r. ⌜ now (lines .exit) ≡ put (now (lines .entry)) at (take k trail) ⌝ }
+    ensures { λ result. ⌜ now (lines .exit) ≡ put (now (lines .entry)) at (take k trail) ⌝ }
 {
     let mut t: usize = 0;
     while t < k {
@@ -27,7 +27,7 @@ pub fn write_trail(lines: &mut [u16], at: usize, trail: [u16; TRAIL], k: usize)
 // Writes the run of a rank as its line, where the lines are those of the ranks from `first` on; a run that has none is not written.
 pub fn write_run(lines: &mut [u16], first: u64, rank: u64, node: Node)
     requires { ⌜ node .steps ≤ 11 ⌝ }
-    ensures { λ r. ⌜ now (lines .exit) ≡ lineWritten first rank (node .steps) (trailOf node) (now (lines .entry)) ⌝ }
+    ensures { λ result. ⌜ now (lines .exit) ≡ lineWritten first rank (node .steps) (trailOf node) (now (lines .entry)) ⌝ }
 {
     if rank < first {
         return;

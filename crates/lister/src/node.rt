@@ -33,14 +33,14 @@ pub struct Node {
 
 // Room for the state of the most carriers.
 fn no_memory() -> [u16; STATE]
-    ensures { λ r. ⌜ 1181 ≡ length r ⌝ }
+    ensures { λ result. ⌜ 1181 ≡ length result ⌝ }
 {
     [0; STATE]
 }
 
 // Room for the steps of the longest run.
 fn no_trail() -> [u16; TRAIL]
-    ensures { λ r. ⌜ 22 ≡ length r ⌝ }
+    ensures { λ result. ⌜ 22 ≡ length result ⌝ }
 {
     [0; TRAIL]
 }
@@ -48,7 +48,7 @@ fn no_trail() -> [u16; TRAIL]
 // The fresh state of n carriers, no step being taken.
 pub fn root(n: usize) -> Node
     requires { ⌜ (n ≤ 8) × (stateSize n ≤ 1181) ⌝ }
-    ensures { λ r. ⌜ Rooted n r ⌝ }
+    ensures { λ result. ⌜ Rooted n result ⌝ }
 {
     let mut memory = no_memory();
     state::write_fresh(&mut memory, n);
@@ -63,7 +63,7 @@ pub fn root(n: usize) -> Node
 pub fn open_at(f: Floor, node: Node, p: usize) -> bool
     requires { ⌜ p < places (f .carriers) ⌝ }
     requires { ⌜ (f .carriers ≤ 8) × (stateSize (f .carriers) ≤ length (node .memory)) ⌝ }
-    ensures { λ r. ⌜ r ≡ openIn (bare f) (node .memory) (stepAt (f .carriers) p) ⌝ }
+    ensures { λ result. ⌜ result ≡ openIn (bare f) (node .memory) (stepAt (f .carriers) p) ⌝ }
 {
     let memory = node.memory;
     steps::is_open(f, &memory, trial::step_at(f.carriers as usize, p))
@@ -72,7 +72,7 @@ pub fn open_at(f: Floor, node: Node, p: usize) -> bool
 // Whether no step is open.
 pub fn is_silent(f: Floor, node: Node) -> bool
     requires { ⌜ (f .carriers ≤ 8) × (stateSize (f .carriers) ≤ length (node .memory)) ⌝ }
-    ensures { λ r. ⌜ r ≡ silentIn (bare f) (node .memory) ⌝ }
+    ensures { λ result. ⌜ result ≡ silentIn (bare f) (node .memory) ⌝ }
 {
     let memory = node.memory;
     steps::is_silent(f, &memory)
@@ -81,7 +81,7 @@ pub fn is_silent(f: Floor, node: Node) -> bool
 // The numbers of k steps with those of one more.
 fn with_step(trail: [u16; TRAIL], k: usize, number: u16, answer: u16) -> [u16; TRAIL]
     requires { ⌜ k < 11 ⌝ }
-    ensures { λ r. ⌜ (take (2 * (k + 1)) r ≡ take (2 * k) trail ++ (number ∷ (answer ∷ []))) × (length r ≡ 22) ⌝ }
+    ensures { λ result. ⌜ (take (2 * (k + 1)) result ≡ take (2 * k) trail ++ (number ∷ (answer ∷ []))) × (length result ≡ 22) ⌝ }
 {
     let mut longer = trail;
     longer[2 * k] = number;
@@ -93,12 +93,12 @@ fn with_step(trail: [u16; TRAIL], k: usize, number: u16, answer: u16) -> [u16; T
 pub fn after(f: Floor, walls: &[u16], free: Rows, node: Node, p: usize) -> Node
     requires { ⌜ (p < places (f .carriers)) × (openIn (bare f) (node .memory) (stepAt (f .carriers) p) ≡ true) ⌝ }
     requires { ⌜ Workable f (now walls) free (node .memory) × (node .steps < 11) ⌝ }
-    ensures { λ r. ⌜ NodeAfter f (now (walls .entry)) node p r ⌝ }
+    ensures { λ result. ⌜ NodeAfter f (now (walls .entry)) node p result ⌝ }
 {
-    let s = trial::step_at(f.carriers as usize, p);
-    let number = trial::number_of(f, s);
+    let x = trial::step_at(f.carriers as usize, p);
+    let number = trial::number_of(f, x);
     let mut memory = node.memory;
-    let taken = steps::take(f, walls, free, &mut memory, s);
+    let taken = steps::take(f, walls, free, &mut memory, x);
     let k = node.steps;
     let trail = node.trail;
     let longer = with_step(trail, k, number, trial::answer_number(taken));

@@ -26,8 +26,8 @@ fn follow(
     requires { ⌜ Branch f (now walls) free node left × (1 ≤ left) ⌝ }
     requires { ⌜ (p < places (f .carriers)) × (openIn (bare f) (node .memory) (stepAt (f .carriers) p) ≡ true) ⌝ }
     requires { ⌜ rank + length (followedIn f (now walls) left (node .memory) p) < 18446744073709551616 ⌝ }
-    ensures { λ r. ⌜ BranchListed f (now (walls .entry)) node first (followedIn f (now (walls .entry)) left (node .memory) p) rank
-        (now (lines .entry)) r (now (lines .exit)) ⌝ }
+    ensures { λ result. ⌜ BranchListed f (now (walls .entry)) node first (followedIn f (now (walls .entry)) left (node .memory) p) rank
+        (now (lines .entry)) result (now (lines .exit)) ⌝ }
 {
     let next = crate::node::after(f, walls, free, node, p);
     if crate::node::is_silent(f, next) {
@@ -51,8 +51,8 @@ pub fn beside(
 ) -> u64
     requires { ⌜ Branch f (now walls) free node left × (p ≤ places (f .carriers)) ⌝ }
     requires { ⌜ rank + length (besideIn f (now walls) left (node .memory) p) < 18446744073709551616 ⌝ }
-    ensures { λ r. ⌜ BranchListed f (now (walls .entry)) node first (besideIn f (now (walls .entry)) left (node .memory) p) rank
-        (now (lines .entry)) r (now (lines .exit)) ⌝ }
+    ensures { λ result. ⌜ BranchListed f (now (walls .entry)) node first (besideIn f (now (walls .entry)) left (node .memory) p) rank
+        (now (lines .entry)) result (now (lines .exit)) ⌝ }
 {
     if left == 0 {
         return rank;

@@ -56,11 +56,11 @@ module _ (n : ℕ) where
           in
           inr (ap kind is, rw (ap one is, ap other is) (omega (arith, here)))
 
-  pub one-place : (p q : ℕ) → p < places n → q < places n → stepAt n p ≡ stepAt n q → p ≡ q
-  one-place p q l h e = go (numbered p l) (numbered q h)
+  pub one-place : (p p′ : ℕ) → p < places n → p′ < places n → stepAt n p ≡ stepAt n p′ → p ≡ p′
+  one-place p p′ l h e = go (numbered p l) (numbered p′ h)
     where
       go : PlaceTold p →
-          PlaceTold q → p ≡ q
+          PlaceTold p′ → p ≡ p′
       go (inl a) (inl b) = a .1 ∙ ap one e ∙ sym (b .1)
       go (inl a) (inr b) = absurd (omega (arith, a .0, b .0, ap kind e))
       go (inr a) (inl b) = absurd (omega (arith, a .0, b .0, ap kind e))
@@ -97,7 +97,7 @@ module _ (n : ℕ) where
   -- A run begins with a step at place p or behind it.
   unfoldable StartsFrom : ℕ → Run → Type 0
   StartsFrom p [] = ⊥
-  StartsFrom p (y ∷ ys) = (q : ℕ) × (p ≤ q) × (q < places n) × (stepAt n q ≡ y)
+  StartsFrom p (y ∷ ys) = (p′ : ℕ) × (p ≤ p′) × (p′ < places n) × (stepAt n p′ ≡ y)
 
   starts-later : (p : ℕ) (xs : Run) → StartsFrom (suc p) xs → StartsFrom p xs
   unfolding StartsFrom
@@ -109,20 +109,20 @@ module _ (n : ℕ) where
   starts-there p l xs = (p, omega arith, l, refl)
 
   -- A run that begins at place p is earlier than one that begins behind it.
-  starts-earlier : (p : ℕ) (xs : Run) (b : Run) → StartsFrom (suc p) b → EarlierRun n (stepAt n p ∷ xs) b
+  starts-earlier : (p : ℕ) (xs : Run) (zs : Run) → StartsFrom (suc p) zs → EarlierRun n (stepAt n p ∷ xs) zs
   unfolding StartsFrom EarlierRun
   starts-earlier p xs [] h = h
   starts-earlier p xs (y ∷ ys) h =
       inl (record { first = p; second = h .0; before = omega (arith, h .1); listed = h .2; first-is = refl; second-is = h .3 })
 
   module _ (x : Step) where
-    front-sorted : (rs : List Run) → Sorted (EarlierRun n) rs → Sorted (EarlierRun n) (eachBehind x rs)
+    front-sorted : (ys : List Run) → Sorted (EarlierRun n) ys → Sorted (EarlierRun n) (eachBehind x ys)
     unfolding eachBehind EarlierRun
-    front-sorted rs h = sorted-map (EarlierRun n) (λ (xs : Run). x ∷ xs) (λ a b g. inr (refl, g)) rs h
+    front-sorted ys h = sorted-map (EarlierRun n) (λ (xs : Run). x ∷ xs) (λ a b g. inr (refl, g)) ys h
 
-    front-all : (P : Run → Type 0) → ((xs : Run) → P (x ∷ xs)) → (rs : List Run) → AllItems P (eachBehind x rs)
+    front-all : (P : Run → Type 0) → ((xs : Run) → P (x ∷ xs)) → (ys : List Run) → AllItems P (eachBehind x ys)
     unfolding eachBehind
-    front-all P h rs = all-map (λ (xs : Run). x ∷ xs) P rs (all-every (λ xs. P (x ∷ xs)) h rs)
+    front-all P h ys = all-map (λ (xs : Run). x ∷ xs) P ys (all-every (λ xs. P (x ∷ xs)) h ys)
 
 module _ (M : Machine) where
   abbrev n : ℕ
@@ -149,7 +149,7 @@ module _ (M : Machine) where
       rest : List Run
       rest = beginning (isOpen M s) onward (drop (suc p) (ranking n))
 
-      go : (b : Bool) → isOpen M s x ≡ b → Sorted (EarlierRun n) rest × AllItems (StartsFrom n (suc p)) rest →
+      go : (y : Bool) → isOpen M s x ≡ y → Sorted (EarlierRun n) rest × AllItems (StartsFrom n (suc p)) rest →
           Sorted (EarlierRun n) (beginning (isOpen M s) onward (x ∷ drop (suc p) (ranking n))) ×
           AllItems (StartsFrom n p) (beginning (isOpen M s) onward (x ∷ drop (suc p) (ranking n)))
       go true o g =

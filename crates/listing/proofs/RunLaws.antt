@@ -34,28 +34,28 @@ module _ (opens : Step → Bool) (onward : Step → List Run) where
 
   -- What holds of no run, and of the runs that begin with an open step in front of others, holds of the runs that begin with any.
   module _ (P : List Step → List Run → Type 0) (none : P [] [])
-      (opened : (x : Step) (xs : List Step) (rs : List Run) → opens x ≡ true → P xs rs → P (x ∷ xs) (eachBehind x (onward x) ++ rs))
-      (shut : (x : Step) (xs : List Step) (rs : List Run) → opens x ≡ false → P xs rs → P (x ∷ xs) rs) where
+      (opened : (x : Step) (xs : List Step) (ys : List Run) → opens x ≡ true → P xs ys → P (x ∷ xs) (eachBehind x (onward x) ++ ys))
+      (shut : (x : Step) (xs : List Step) (ys : List Run) → opens x ≡ false → P xs ys → P (x ∷ xs) ys) where
     pub begin-induction : (xs : List Step) → P xs (beginning opens onward xs)
     unfolding beginning
     begin-induction [] = none
     begin-induction (x ∷ xs) = go (opens x) refl (begin-induction xs)
       where
-        go : (b : Bool) → opens x ≡ b → P xs (beginning opens onward xs) → P (x ∷ xs) (beginning opens onward (x ∷ xs))
+        go : (y : Bool) → opens x ≡ y → P xs (beginning opens onward xs) → P (x ∷ xs) (beginning opens onward (x ∷ xs))
         go true e h = rw (begin-open x xs e) (opened x xs (beginning opens onward xs) e h)
         go false e h = rw (begin-shut x xs e) (shut x xs (beginning opens onward xs) e h)
 
 -- Tests that agree, and runs that agree behind each open step, make the same list.
-pub begin-same : (p q : Step → Bool) (g h : Step → List Run) → ((x : Step) → p x ≡ q x) → ((x : Step) → q x ≡ true → g x ≡ h x) →
-    (xs : List Step) → beginning p g xs ≡ beginning q h xs
+pub begin-same : (φ ψ : Step → Bool) (χ χ′ : Step → List Run) → ((x : Step) → φ x ≡ ψ x) → ((x : Step) → ψ x ≡ true → χ x ≡ χ′ x) →
+    (xs : List Step) → beginning φ χ xs ≡ beginning ψ χ′ xs
 unfolding beginning
-begin-same p q g h same goes [] = refl
-begin-same p q g h same goes (x ∷ xs) = go (q x) refl (begin-same p q g h same goes xs)
+begin-same φ ψ χ χ′ same goes [] = refl
+begin-same φ ψ χ χ′ same goes (x ∷ xs) = go (ψ x) refl (begin-same φ ψ χ χ′ same goes xs)
   where
-    go : (b : Bool) → q x ≡ b → beginning p g xs ≡ beginning q h xs → beginning p g (x ∷ xs) ≡ beginning q h (x ∷ xs)
+    go : (y : Bool) → ψ x ≡ y → beginning φ χ xs ≡ beginning ψ χ′ xs → beginning φ χ (x ∷ xs) ≡ beginning ψ χ′ (x ∷ xs)
     go true e rest =
-        begin-open p g x xs (same x ∙ e) ∙ ap₂ _++_ (ap (eachBehind x) (goes x e)) rest ∙ sym (begin-open q h x xs e)
-    go false e rest = begin-shut p g x xs (same x ∙ e) ∙ rest ∙ sym (begin-shut q h x xs e)
+        begin-open φ χ x xs (same x ∙ e) ∙ ap₂ _++_ (ap (eachBehind x) (goes x e)) rest ∙ sym (begin-open ψ χ′ x xs e)
+    go false e rest = begin-shut φ χ x xs (same x ∙ e) ∙ rest ∙ sym (begin-shut ψ χ′ x xs e)
 
 module _ (M : Machine) where
   pub runs-silent : (left : ℕ) (s : State) → isSilent M s ≡ true → runsFrom M left s ≡ [] ∷ []
@@ -81,12 +81,12 @@ module _ (M : Machine) where
     unfolding runsFrom
     runs-induction zero s = go (isSilent M s) refl
       where
-        go : (b : Bool) → isSilent M s ≡ b → P 0 s (runsFrom M 0 s)
+        go : (x : Bool) → isSilent M s ≡ x → P 0 s (runsFrom M 0 s)
         go true e = rw (runs-silent 0 s e) (silent 0 s e)
         go false e = rw (runs-spent s e) (spent s e)
     runs-induction (suc left) s = go (isSilent M s) refl (λ x. runs-induction left (afterStep M s x))
       where
-        go : (b : Bool) → isSilent M s ≡ b → ((x : Step) → P left (afterStep M s x) (runsFrom M left (afterStep M s x))) →
+        go : (y : Bool) → isSilent M s ≡ y → ((x : Step) → P left (afterStep M s x) (runsFrom M left (afterStep M s x))) →
             P (suc left) s (runsFrom M (suc left) s)
         go true e h = rw (runs-silent (suc left) s e) (silent (suc left) s e)
         go false e h = rw (runs-more left s e) (more left s (λ x. runsFrom M left (afterStep M s x)) e h)
@@ -102,10 +102,10 @@ module _ (M : Machine) where
       all-append (Complete M s) (eachBehind x (onward x)) rs (goes-on s x o (onward x) (h x)) g)
       (λ x xs rs o g. g) (ranking (M .carriers)))
     where
-      goes-on : (s : State) (x : Step) → isOpen M s x ≡ true → (rs : List Run) → AllItems (Complete M (afterStep M s x)) rs →
-          AllItems (Complete M s) (eachBehind x rs)
+      goes-on : (s : State) (x : Step) → isOpen M s x ≡ true → (ys : List Run) → AllItems (Complete M (afterStep M s x)) ys →
+          AllItems (Complete M s) (eachBehind x ys)
       goes-on s x o [] h = tt
-      goes-on s x o (xs ∷ rs) h = ((o, h .0), goes-on s x o rs (h .1))
+      goes-on s x o (xs ∷ ys) h = ((o, h .0), goes-on s x o ys (h .1))
 
   -- A run that begins with an open step of the list, and goes on as one of those behind it, has a place.
   begin-placed : (s : State) (onward : Step → List Run) (x : Step) (ys : Run) → isOpen M s x ≡ true → HasPlace [] ys (onward x) →
@@ -116,12 +116,12 @@ module _ (M : Machine) where
       rw (e, begin-open (isOpen M s) onward x xs o)
       (placed-left [] (x ∷ ys) (eachBehind x (onward x)) (beginning (isOpen M s) onward xs) (in-front x (onward x) h))
     where
-      in-front : (x : Step) (rs : List Run) → HasPlace [] ys rs → HasPlace [] (x ∷ ys) (eachBehind x rs)
-      in-front x rs h = placed-map (λ (zs : Run). x ∷ zs) [] ys [] rs h
+      in-front : (x : Step) (xs : List Run) → HasPlace [] ys xs → HasPlace [] (x ∷ ys) (eachBehind x xs)
+      in-front x xs h = placed-map (λ (zs : Run). x ∷ zs) [] ys [] xs h
   begin-placed s onward x ys o h (y ∷ xs) (suc p) l e =
       go (isOpen M s y) refl (begin-placed s onward x ys o h xs p (omega arith) e)
     where
-      go : (b : Bool) → isOpen M s y ≡ b → HasPlace [] (x ∷ ys) (beginning (isOpen M s) onward xs) →
+      go : (z : Bool) → isOpen M s y ≡ z → HasPlace [] (x ∷ ys) (beginning (isOpen M s) onward xs) →
           HasPlace [] (x ∷ ys) (beginning (isOpen M s) onward (y ∷ xs))
       go true q g =
           rw (begin-open (isOpen M s) onward y xs q)
@@ -171,8 +171,8 @@ module _ (M : Machine) where
       (λ x xs rs o g. omega (arith, length-append (eachBehind x (onward x)) rs, in-front x (onward x), h x, g, suc-mul (length xs) b))
       (λ x xs rs o g. omega (arith, g, suc-mul (length xs) b))
     where
-      in-front : (x : Step) (rs : List Run) → length (eachBehind x rs) ≡ length rs
-      in-front x rs = length-map rs (λ (zs : Run). x ∷ zs)
+      in-front : (x : Step) (xs : List Run) → length (eachBehind x xs) ≡ length xs
+      in-front x xs = length-map xs (λ (zs : Run). x ∷ zs)
 
   -- There are at most as many runs as choices of a ranked step for each step that is left.
   pub runs-few : 1 ≤ places (M .carriers) → (left : ℕ) (s : State) → length (runsFrom M left s) ≤ places (M .carriers) ^ left

@@ -31,59 +31,59 @@ module _ (M : Machine) where
   unfolding ceiling
   fresh-ceiling = omega (arith, fresh-potential (M .carriers))
 
-  listed-complete : (r : ℕ) → r < total M → Complete M fresh (runAt M r)
+  listed-complete : (rank : ℕ) → rank < total M → Complete M fresh (runAt M rank)
   unfolding total runAt runsOf
-  listed-complete r l = all-at (Complete M fresh) [] (runsOf M) (runs-complete M (ceiling (M .carriers)) fresh) r l
+  listed-complete rank l = all-at (Complete M fresh) [] (runsOf M) (runs-complete M (ceiling (M .carriers)) fresh) rank l
 
   complete-exactly : (xs : Run) → Complete M fresh xs ↔ ((rank : ℕ) × (rank < total M) × (runAt M rank ≡ xs))
   unfolding total runAt runsOf HasPlace
   complete-exactly xs =
       (λ c. complete-placed M (ceiling (M .carriers)) fresh xs c fresh-ceiling, λ h. subst (Complete M fresh) (h .2) (listed-complete (h .0) (h .1)))
 
-  earlier : (r q : ℕ) → r < q → q < total M → EarlierRun (M .carriers) (runAt M r) (runAt M q)
+  earlier : (rank rank′ : ℕ) → rank < rank′ → rank′ < total M → EarlierRun (M .carriers) (runAt M rank) (runAt M rank′)
   unfolding total runAt runsOf
-  earlier r q l h = sorted-at (EarlierRun (M .carriers)) [] (runsOf M) (runs-sorted M (ceiling (M .carriers)) fresh) r q l h
+  earlier rank rank′ l h = sorted-at (EarlierRun (M .carriers)) [] (runsOf M) (runs-sorted M (ceiling (M .carriers)) fresh) rank rank′ l h
 
   -- No run is earlier than itself.
-  not-itself : (r q : ℕ) → r < q → q < total M → runAt M r ≡ runAt M q → ⊥
-  not-itself r q l h e =
-      let g = earlier r q l h in
-      earlier-one-way (M .carriers) (runAt M r) (runAt M q) g
-      (subst (λ (xs : Run). EarlierRun (M .carriers) xs (runAt M r)) e
-      (subst (λ (ys : Run). EarlierRun (M .carriers) (runAt M r) ys) (sym e) g))
+  not-itself : (rank rank′ : ℕ) → rank < rank′ → rank′ < total M → runAt M rank ≡ runAt M rank′ → ⊥
+  not-itself rank rank′ l h e =
+      let g = earlier rank rank′ l h in
+      earlier-one-way (M .carriers) (runAt M rank) (runAt M rank′) g
+      (subst (λ (xs : Run). EarlierRun (M .carriers) xs (runAt M rank)) e
+      (subst (λ (ys : Run). EarlierRun (M .carriers) (runAt M rank) ys) (sym e) g))
 
-  one-rank : (r q : ℕ) → r < total M → q < total M → runAt M r ≡ runAt M q → r ≡ q
-  one-rank r q l h e =
-      ⊎-elim (λ (g : r < q). absurd (not-itself r q g h e))
-      (λ (g : q ≤ r). ⊎-elim (λ (k : q ≡ r). sym k) (λ (k : q < r). absurd (not-itself q r k l (sym e))) (eq-or-lt-of-le g))
-      (lt-or-le r q)
+  one-rank : (rank rank′ : ℕ) → rank < total M → rank′ < total M → runAt M rank ≡ runAt M rank′ → rank ≡ rank′
+  one-rank rank rank′ l h e =
+      ⊎-elim (λ (g : rank < rank′). absurd (not-itself rank rank′ g h e))
+      (λ (g : rank′ ≤ rank). ⊎-elim (λ (k : rank′ ≡ rank). sym k) (λ (k : rank′ < rank). absurd (not-itself rank′ rank k l (sym e))) (eq-or-lt-of-le g))
+      (lt-or-le rank rank′)
 
-  ranked : (r q : ℕ) → r < total M → q < total M → (r < q) ↔ EarlierRun (M .carriers) (runAt M r) (runAt M q)
-  ranked r q l h = (
-    λ g. earlier r q g h,
-    λ (e : EarlierRun (M .carriers) (runAt M r) (runAt M q)).
-        ⊎-elim (λ (g : r < q). g)
-        (λ (g : q ≤ r).
+  ranked : (rank rank′ : ℕ) → rank < total M → rank′ < total M → (rank < rank′) ↔ EarlierRun (M .carriers) (runAt M rank) (runAt M rank′)
+  ranked rank rank′ l h = (
+    λ g. earlier rank rank′ g h,
+    λ (e : EarlierRun (M .carriers) (runAt M rank) (runAt M rank′)).
+        ⊎-elim (λ (g : rank < rank′). g)
+        (λ (g : rank′ ≤ rank).
         ⊎-elim
-        (λ (k : q ≡ r). absurd (earlier-one-way (M .carriers) (runAt M r) (runAt M q) e (itself k e)))
-        (λ (k : q < r). absurd (earlier-one-way (M .carriers) (runAt M r) (runAt M q) e (earlier q r k l)))
+        (λ (k : rank′ ≡ rank). absurd (earlier-one-way (M .carriers) (runAt M rank) (runAt M rank′) e (itself k e)))
+        (λ (k : rank′ < rank). absurd (earlier-one-way (M .carriers) (runAt M rank) (runAt M rank′) e (earlier rank′ rank k l)))
         (eq-or-lt-of-le g))
-        (lt-or-le r q),
+        (lt-or-le rank rank′),
   )
     where
-      itself : q ≡ r → EarlierRun (M .carriers) (runAt M r) (runAt M q) → EarlierRun (M .carriers) (runAt M q) (runAt M r)
+      itself : rank′ ≡ rank → EarlierRun (M .carriers) (runAt M rank) (runAt M rank′) → EarlierRun (M .carriers) (runAt M rank′) (runAt M rank)
       itself k e = rw k (rw k at e)
 
-  within-ceiling : (r : ℕ) → r < total M → length (runAt M r) ≤ ceiling (M .carriers)
-  within-ceiling r l = omega (arith, complete-short M fresh (runAt M r) (listed-complete r l), fresh-ceiling)
+  within-ceiling : (rank : ℕ) → rank < total M → length (runAt M rank) ≤ ceiling (M .carriers)
+  within-ceiling rank l = omega (arith, complete-short M fresh (runAt M rank) (listed-complete rank l), fresh-ceiling)
 
 -- A trial in order 1 is a complete run.
-trial-complete : (M : Machine) (c : ℕ) (s : State) (es : List Entry) → FollowsOrder first M c s es →
-    isSilent M (afterSteps M s (stepsIn es)) ≡ true → Complete M s (stepsIn es)
+trial-complete : (M : Machine) (kept : ℕ) (s : State) (xs : List Entry) → FollowsOrder first M kept s xs →
+    isSilent M (afterSteps M s (stepsIn xs)) ≡ true → Complete M s (stepsIn xs)
 unfolding FollowsOrder stepsIn afterSteps Complete
-trial-complete M c s [] h e = e
-trial-complete M c s (x ∷ es) h e =
-    (h .1 .isOpen, trial-complete M (remembered first c (h .0)) (afterStep M s (x .taken)) es (h .2) e)
+trial-complete M kept s [] h e = e
+trial-complete M kept s (x ∷ xs) h e =
+    (h .1 .isOpen, trial-complete M (remembered first kept (h .0)) (afterStep M s (x .taken)) xs (h .2) e)
 
 pub some-run : (M : Machine) → 0 < total M
 some-run M =

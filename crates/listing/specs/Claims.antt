@@ -11,15 +11,15 @@ use Rattle.listing.specs.Order.{Complete, EarlierRun}
 
 pub record Claims : Type 0 where
   -- A step has one place of the ranking.
-  pub one-place : (n p q : ℕ) → p < places n → q < places n → stepAt n p ≡ stepAt n q → p ≡ q
+  pub one-place : (n p p′ : ℕ) → p < places n → p′ < places n → stepAt n p ≡ stepAt n p′ → p ≡ p′
   -- A run is complete from fresh exactly if it is the run of a rank below the total.
   pub complete-exactly : (M : Machine) (xs : Run) →
       Complete M fresh xs ↔ ((rank : ℕ) × (rank < total M) × (runAt M rank ≡ xs))
   -- A run has one rank; so the total is the number of complete runs.
-  pub one-rank : (M : Machine) (r q : ℕ) → r < total M → q < total M → runAt M r ≡ runAt M q → r ≡ q
+  pub one-rank : (M : Machine) (rank rank′ : ℕ) → rank < total M → rank′ < total M → runAt M rank ≡ runAt M rank′ → rank ≡ rank′
   -- A smaller rank is an earlier run, and the other way round.
-  pub ranked : (M : Machine) (r q : ℕ) → r < total M → q < total M → (r < q) ↔ EarlierRun (M .carriers) (runAt M r) (runAt M q)
+  pub ranked : (M : Machine) (rank rank′ : ℕ) → rank < total M → rank′ < total M → (rank < rank′) ↔ EarlierRun (M .carriers) (runAt M rank) (runAt M rank′)
   -- A run has at most as many steps as the ceiling.
-  pub within-ceiling : (M : Machine) (r : ℕ) → r < total M → length (runAt M r) ≤ ceiling (M .carriers)
+  pub within-ceiling : (M : Machine) (rank : ℕ) → rank < total M → length (runAt M rank) ≤ ceiling (M .carriers)
   -- There is a run.
   pub some-run : (M : Machine) → 0 < total M

@@ -16,7 +16,7 @@ Run = List Step
 
 -- Each run of a list with the step x in front.
 unfoldable pub eachBehind : Step → List Run → List Run
-eachBehind x rs = map (λ (xs : Run). x ∷ xs) rs
+eachBehind x ys = map (λ (xs : Run). x ∷ xs) ys
 
 -- The runs that begin with one of the listed steps: for each that is open, in the list's order, those that go on behind it.
 unfoldable pub beginning : (Step → Bool) → (Step → List Run) → List Step → List Run

@@ -34,15 +34,15 @@ pub power-most : (k : ℕ) → k ≤ 9 → 2 ^ k ≤ 512
 power-most k l = pow-le-pow-right (omega arith) l
 
 module _ (n : ℕ) where
-  pub most-low : {v : Outcome ℕ} → v ≡ refusal 2 5 → n < 1 → v ≡ mostSteps n
+  pub most-low : {x : Outcome ℕ} → x ≡ refusal 2 5 → n < 1 → x ≡ mostSteps n
   unfolding mostSteps _gives_ demand within
   most-low e l = rw (lt-leb 1 n l) e
 
-  pub most-high : {v : Outcome ℕ} → v ≡ refusal 2 5 → 1 ≤ n → 8 < n → v ≡ mostSteps n
+  pub most-high : {x : Outcome ℕ} → x ≡ refusal 2 5 → 1 ≤ n → 8 < n → x ≡ mostSteps n
   unfolding mostSteps _gives_ demand within
   most-high e l h = rw (le-leb 1 n l, lt-leb n 8 h) e
 
-  pub most-is : {r : ℕ} → r ≡ ceiling n → 1 ≤ n → n ≤ 8 → value r ≡ mostSteps n
+  pub most-is : {k : ℕ} → k ≡ ceiling n → 1 ≤ n → n ≤ 8 → value k ≡ mostSteps n
   unfolding mostSteps _gives_ demand within
   most-is e l h = rw (le-leb 1 n l, le-leb n 8 h, e) refl
 

@@ -27,16 +27,16 @@ use Rattle.machine.proofs.VerdictLaws.{state-tells}
 use Rattle.machine.proofs.RunLaws.{ran-is}
 
 -- An entry on a lent state: what passes its checks goes on number by number, and a refusal leaves all as it was.
-module _ (f : Floor) (ws m : List ℕ) (c : Call) where
-  pub entry-made : {r : Outcome CallAnswer} (m′ : List ℕ) → stateVerdict f ws m ≡ passed → r ≡ replyIn (machineOf f ws) m c →
-      m′ ≡ memoryIn (machineOf f ws) m c → (r ≡ replyTo f ws m c) × (m′ ≡ memoryAfter f ws m c)
+module _ (f : Floor) (ws m : List ℕ) (x : Call) where
+  pub entry-made : {y : Outcome CallAnswer} (m′ : List ℕ) → stateVerdict f ws m ≡ passed → y ≡ replyIn (machineOf f ws) m x →
+      m′ ≡ memoryIn (machineOf f ws) m x → (y ≡ replyTo f ws m x) × (m′ ≡ memoryAfter f ws m x)
   entry-made m′ ok answers stores = (
-    answers ∙ sym (answers-passed ok) ∙ reply-in f ws m c,
-    stores ∙ sym (when-passed m ok) ∙ memory-in f ws m c,
+    answers ∙ sym (answers-passed ok) ∙ reply-in f ws m x,
+    stores ∙ sym (when-passed m ok) ∙ memory-in f ws m x,
   )
 
   pub entry-refused : (k p : ℕ) → stateVerdict f ws m ≡ refused k p →
-      (_≡_ {A = Outcome CallAnswer} (refusal k p) (replyTo f ws m c)) × (m ≡ memoryAfter f ws m c)
+      (_≡_ {A = Outcome CallAnswer} (refusal k p) (replyTo f ws m x)) × (m ≡ memoryAfter f ws m x)
   unfolding replyTo memoryAfter
   entry-refused k p h = (sym (answers-refused _ h), sym (when-refused _ h))
 
@@ -68,13 +68,13 @@ module _ (f : Floor) (ws m : List ℕ) (sound : stateVerdict f ws m ≡ passed) 
         )
 
     -- A single step that is taken.
-    pub step-taken : (r : Taken) (m′ : List ℕ) → singleVerdictIn (bare f) m (step y) ≡ passed → Took (machineOf f ws) m y r m′ →
-        (_≡_ {A = Outcome CallAnswer} (value (stepped (takenMeant r))) (replyIn (machineOf f ws) m (singleCall m x))) ×
+    pub step-taken : (z : Taken) (m′ : List ℕ) → singleVerdictIn (bare f) m (step y) ≡ passed → Took (machineOf f ws) m y z m′ →
+        (_≡_ {A = Outcome CallAnswer} (value (stepped (takenMeant z))) (replyIn (machineOf f ws) m (singleCall m x))) ×
         (m′ ≡ memoryIn (machineOf f ws) m (singleCall m x))
     unfolding singleCall replyIn memoryIn grantedMemory verdictIn
-    step-taken r m′ h t =
+    step-taken z m′ h t =
         let v = then-passed lent ∙ sym (single-of f ws m (step y)) ∙ h in (
-          ap (λ (a : StepAnswer). value (stepped a)) (t .answers) ∙ rw (← e) (sym (gives-passed v)),
+          ap (λ (x : StepAnswer). value (stepped x)) (t .answers) ∙ rw (← e) (sym (gives-passed v)),
           t .stores ∙ rw (← e) (sym (when-passed m v)),
         )
 

@@ -31,47 +31,47 @@ module _ (M : Machine) (m₀ xs : List ℕ) (b : ℕ) where
       ap (λ (k : ℕ). runIn M m₀ (map askedBy xs) k) (omega arith) in
       record {
         kept = refl;
-        memory = ap (λ (r : RanIn). r .memory) all;
-        taken = ap (λ (r : RanIn). r .taken) all ∙ sym (zero-add (runIn M m₀ (map askedBy (drop 0 xs)) (b - 0) .taken));
-        left = ap (λ (r : RanIn). r .left) all;
+        memory = ap (λ (x : RanIn). x .memory) all;
+        taken = ap (λ (x : RanIn). x .taken) all ∙ sym (zero-add (runIn M m₀ (map askedBy (drop 0 xs)) (b - 0) .taken));
+        left = ap (λ (x : RanIn). x .left) all;
       }
 
   -- The next step of the list.
   next : (p : ℕ) → p < length xs → map askedBy (drop p xs) ≡ askedBy (getD xs p 0) ∷ map askedBy (drop (p + 1) xs)
   next p l = rw (add-one, drop-cons xs p 0 l) refl
 
-  -- The run from here on comes to z, which is the run from the next step on with r steps more.
-  goes-on : (m m′ : List ℕ) (p t r : ℕ) (z : RanIn) → length m′ ≡ length m → Running M m₀ xs b m p t →
+  -- The run from here on comes to z, which is the run from the next step on with n steps more.
+  goes-on : (m m′ : List ℕ) (p t n : ℕ) (z : RanIn) → length m′ ≡ length m → Running M m₀ xs b m p t →
       runIn M m (map askedBy (drop p xs)) (b - t) ≡ z →
-      let y = runIn M m′ (map askedBy (drop (p + 1) xs)) (b - (t + r)) in
-      (z .memory ≡ y .memory) × ((z .taken ≡ r + y .taken) × (z .left ≡ y .left)) → Running M m₀ xs b m′ (p + 1) (t + r)
-  goes-on m m′ p t r z k s step same =
+      let y = runIn M m′ (map askedBy (drop (p + 1) xs)) (b - (t + n)) in
+      (z .memory ≡ y .memory) × ((z .taken ≡ n + y .taken) × (z .left ≡ y .left)) → Running M m₀ xs b m′ (p + 1) (t + n)
+  goes-on m m′ p t n z k s step same =
       record {
         kept = k ∙ s .kept;
-        memory = s .memory ∙ ap (λ (q : RanIn). q .memory) step ∙ same .0;
-        taken = s .taken ∙ omega (arith, same .1 .0, ap (λ (q : RanIn). q .taken) step);
-        left = s .left ∙ ap (λ (q : RanIn). q .left) step ∙ same .1 .1;
+        memory = s .memory ∙ ap (λ (x : RanIn). x .memory) step ∙ same .0;
+        taken = s .taken ∙ omega (arith, same .1 .0, ap (λ (x : RanIn). x .taken) step);
+        left = s .left ∙ ap (λ (x : RanIn). x .left) step ∙ same .1 .1;
       }
 
-  -- One more step of the list, tried, which counts for r.
-  pub running-more : (m m′ : List ℕ) (p t r : ℕ) → p < length xs → t < b → length m′ ≡ length m → Running M m₀ xs b m p t →
-      Attempted M m (askedBy (getD xs p 0)) r m′ → Running M m₀ xs b m′ (p + 1) (t + r)
+  -- One more step of the list, tried, which counts for n.
+  pub running-more : (m m′ : List ℕ) (p t n : ℕ) → p < length xs → t < b → length m′ ≡ length m → Running M m₀ xs b m p t →
+      Attempted M m (askedBy (getD xs p 0)) n m′ → Running M m₀ xs b m′ (p + 1) (t + n)
   unfolding tookOne
-  running-more m m′ p t r l h k s (took e one g) =
+  running-more m m′ p t n l h k s (took e one g) =
       let less : b - t ≡ suc (b - (t + 1)) = omega arith in
       let rest = map askedBy (drop (p + 1) xs) in
-      let step : runIn M m (map askedBy (drop p xs)) (b - t) ≡ tookOne (runIn M m′ rest (b - (t + r))) =
+      let step : runIn M m (map askedBy (drop p xs)) (b - t) ≡ tookOne (runIn M m′ rest (b - (t + n))) =
       rw (next p l, less, took-in M m (askedBy (getD xs p 0)) rest (b - (t + 1)) e, one, sym g) refl
       in
-      goes-on m m′ p t r _ k s step (refl, (omega (arith, one), refl))
-  running-more m m′ p t r l h k s (skipped e none g) =
+      goes-on m m′ p t n _ k s step (refl, (omega (arith, one), refl))
+  running-more m m′ p t n l h k s (skipped e none g) =
       let less : b - t ≡ suc (b - (t + 1)) = omega arith in
-      let same : b - (t + r) ≡ suc (b - (t + 1)) = omega arith in
+      let same : b - (t + n) ≡ suc (b - (t + 1)) = omega arith in
       let rest = map askedBy (drop (p + 1) xs) in
-      let step : runIn M m (map askedBy (drop p xs)) (b - t) ≡ runIn M m′ rest (b - (t + r)) =
+      let step : runIn M m (map askedBy (drop p xs)) (b - t) ≡ runIn M m′ rest (b - (t + n)) =
       rw (next p l, less, skipped-in M m (askedBy (getD xs p 0)) rest (b - (t + 1)) e, same, sym g) refl
       in
-      goes-on m m′ p t r _ k s step (refl, (omega (arith, none), refl))
+      goes-on m m′ p t n _ k s step (refl, (omega (arith, none), refl))
 
   -- The run reads no further: what it has come to.
   stops : (m : List ℕ) (left : Bool) (p t : ℕ) → t ≤ b → Running M m₀ xs b m p t →
@@ -79,10 +79,10 @@ module _ (M : Machine) (m₀ xs : List ℕ) (b : ℕ) where
       Tallied (runIn M m₀ (map askedBy xs) b) b (length xs) t p m
   stops m left p t h s stop e =
       record {
-        number = omega (arith, s .taken, ap (λ (q : RanIn). q .taken) stop);
+        number = omega (arith, s .taken, ap (λ (x : RanIn). x .taken) stop);
         within = h;
-        left = e ∙ sym (s .left ∙ ap (λ (q : RanIn). q .left) stop);
-        memory = sym (s .memory ∙ ap (λ (q : RanIn). q .memory) stop);
+        left = e ∙ sym (s .left ∙ ap (λ (x : RanIn). x .left) stop);
+        memory = sym (s .memory ∙ ap (λ (x : RanIn). x .memory) stop);
       }
 
   -- The budget is used up.
@@ -100,40 +100,40 @@ module _ (M : Machine) (m₀ xs : List ℕ) (b : ℕ) where
   running-end m p t l h s = stops m false p t h s (rw (drop-of-length-le xs l) refl) (le-ltb p (length xs) l)
 
 -- A step tried takes one step at most.
-pub tried-one : {M : Machine} {m m′ : List ℕ} {a : Asked} {r : ℕ} → Attempted M m a r m′ → r ≤ 1
+pub tried-one : {M : Machine} {m m′ : List ℕ} {x : Asked} {n : ℕ} → Attempted M m x n m′ → n ≤ 1
 tried-one (took e one g) = omega (arith, one)
 tried-one (skipped e none g) = omega (arith, none)
 
 -- How a run ends, a law a case of the code.
-module _ {said b : Bool} (t bu r l : ℕ) (same : said ≡ b) where
-  pub ends-silent : said ≡ true → silent ≡ endsWith b t bu r l
+module _ {said x : Bool} (t bu n p : ℕ) (same : said ≡ x) where
+  pub ends-silent : said ≡ true → silent ≡ endsWith x t bu n p
   unfolding endsWith endsAs
   ends-silent e = rw (← same, e) refl
 
-  pub ends-unspent : said ≡ false → (t ≡ bu → ⊥) → ended ≡ endsWith b t bu r l
+  pub ends-unspent : said ≡ false → (t ≡ bu → ⊥) → ended ≡ endsWith x t bu n p
   unfolding endsWith endsAs
   ends-unspent e h = rw (← same, e, ne-eqb t bu h) refl
 
-  pub ends-spent : said ≡ false → t ≡ bu → r < l → spent ≡ endsWith b t bu r l
+  pub ends-spent : said ≡ false → t ≡ bu → n < p → spent ≡ endsWith x t bu n p
   unfolding endsWith endsAs
-  ends-spent e h k = rw (← same, e, eq-eqb t bu h, lt-ltb r l k) refl
+  ends-spent e h k = rw (← same, e, eq-eqb t bu h, lt-ltb n p k) refl
 
-  pub ends-read : said ≡ false → t ≡ bu → l ≤ r → ended ≡ endsWith b t bu r l
+  pub ends-read : said ≡ false → t ≡ bu → p ≤ n → ended ≡ endsWith x t bu n p
   unfolding endsWith endsAs
-  ends-read e h k = rw (← same, e, eq-eqb t bu h, le-ltb r l k) refl
+  ends-read e h k = rw (← same, e, eq-eqb t bu h, le-ltb n p k) refl
 
 pub ruleset ending-cases = (ends-silent, ends-unspent, ends-spent, ends-read)
 
 -- The answer of a run, from what its loop has come to.
-pub ran-is : (M : Machine) (r : RanIn) (b listed taken read : ℕ) (m : List ℕ) → Tallied r b listed taken read m →
-    ran taken (endsWith (silentIn M m) taken b read listed) ≡ ran (r .taken) (endingIn M b r)
+pub ran-is : (M : Machine) (x : RanIn) (b listed taken read : ℕ) (m : List ℕ) → Tallied x b listed taken read m →
+    ran taken (endsWith (silentIn M m) taken b read listed) ≡ ran (x .taken) (endingIn M b x)
 unfolding endingIn endsWith
-ran-is M r b listed taken read m h = rw (h .memory, h .left, h .number) refl
+ran-is M x b listed taken read m h = rw (h .memory, h .left, h .number) refl
 
 -- The number that a run returns is the number taken.
-pub told-within : (r : Ran) (t b : ℕ) (e : RunEnding) → ranReply r ≡ value (ran t e) → t ≤ b → takenNumber r ≤ b
+pub told-within : (y : Ran) (t b : ℕ) (z : RunEnding) → ranReply y ≡ value (ran t z) → t ≤ b → takenNumber y ≤ b
 unfolding ranReply takenNumber
-told-within (Silent u) t b e h l = let same : u ≡ t = cc in omega arith
-told-within (Spent u) t b e h l = let same : u ≡ t = cc in omega arith
-told-within (Ended u) t b e h l = let same : u ≡ t = cc in omega arith
-told-within (Refused x) t b e h l = omega arith
+told-within (Silent u) t b z h l = let same : u ≡ t = cc in omega arith
+told-within (Spent u) t b z h l = let same : u ≡ t = cc in omega arith
+told-within (Ended u) t b z h l = let same : u ≡ t = cc in omega arith
+told-within (Refused x) t b z h l = omega arith

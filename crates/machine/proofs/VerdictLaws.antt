@@ -48,20 +48,20 @@ names-are f ws xs =
     mapped (y ∷ ys) (suc p) l = mapped ys p (omega arith)
 
 -- A test in a chain of checks, last and with others behind it: its refusal, or what comes then.
-pub demand-yes : {b d : Bool} (k p : ℕ) → b ≡ d → b ≡ true → passed ≡ demand d k p
+pub demand-yes : {x y : Bool} (k p : ℕ) → x ≡ y → x ≡ true → passed ≡ demand y k p
 unfolding demand
 demand-yes k p e h = rw (← e, h) refl
 
-pub demand-no : {v : Verdict} {b d : Bool} (k p : ℕ) → b ≡ d → b ≡ false → v ≡ demand false k p → v ≡ demand d k p
+pub demand-no : {x : Verdict} {y z : Bool} (k p : ℕ) → y ≡ z → y ≡ false → x ≡ demand false k p → x ≡ demand z k p
 demand-no k p e h g = rw (← e, h) g
 
-pub then-yes : {v w : Verdict} {b d : Bool} (k p : ℕ) → b ≡ d → not b ≡ false → v ≡ w → v ≡ (demand d k p then w)
+pub then-yes : {x y : Verdict} {z x′ : Bool} (k p : ℕ) → z ≡ x′ → not z ≡ false → x ≡ y → x ≡ (demand x′ k p then y)
 unfolding demand _then_
-then-yes {b} k p e h g = rw (← e, not-false b h) g
+then-yes {z} k p e h g = rw (← e, not-false z h) g
 
-pub then-no : {v : Verdict} {b d : Bool} (k p : ℕ) (w : Verdict) → b ≡ d → not b ≡ true → v ≡ demand false k p → v ≡ (demand d k p then w)
+pub then-no : {x : Verdict} {y z : Bool} (k p : ℕ) (x′ : Verdict) → y ≡ z → not y ≡ true → x ≡ demand false k p → x ≡ (demand z k p then x′)
 unfolding demand _then_
-then-no {b} k p w e h g = rw (← e, not-true b h) g
+then-no {y} k p x′ e h g = rw (← e, not-true y h) g
 
 -- What each answer of a chain of checks is found with.
 pub ruleset chain = (then-next, ends-at, demand-yes, demand-no, then-yes, then-no)

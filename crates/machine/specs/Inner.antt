@@ -18,10 +18,10 @@ use Rattle.encoding.specs.InnerRuns.{RanIn, askedAfterIn, runIn}
 unfoldable pub namedAt : Floor → List ℕ → ℕ → Bool
 namedAt f xs p = isNamed (bare f) (askedBy (getD xs p 0))
 
--- What is asked for, tried: taken if it is open, passed over otherwise; r is the number taken, m′ the memory after it.
-pub data Attempted (M : Machine) (m : List ℕ) (a : Asked) (r : ℕ) (m′ : List ℕ) : Type 0 where
-  took : askedOpenIn M m a ≡ true → r ≡ 1 → m′ ≡ askedAfterIn M m a → Attempted M m a r m′
-  skipped : askedOpenIn M m a ≡ false → r ≡ 0 → m′ ≡ m → Attempted M m a r m′
+-- What is asked for, tried: taken if it is open, passed over otherwise; n is the number taken, m′ the memory after it.
+pub data Attempted (M : Machine) (m : List ℕ) (x : Asked) (n : ℕ) (m′ : List ℕ) : Type 0 where
+  took : askedOpenIn M m x ≡ true → n ≡ 1 → m′ ≡ askedAfterIn M m x → Attempted M m x n m′
+  skipped : askedOpenIn M m x ≡ false → n ≡ 0 → m′ ≡ m → Attempted M m x n m′
 
 -- A run of the steps that xs names from memory m₀ with budget b, seen after p of them were read and t taken, with memory m: what is
 -- left leads to the same memory, number taken and steps left.
@@ -32,11 +32,11 @@ pub record Running (M : Machine) (m₀ xs : List ℕ) (b : ℕ) (m : List ℕ) (
   pub left : runIn M m₀ (map askedBy xs) b .left ≡ runIn M m (map askedBy (drop p xs)) (b - t) .left
 
 -- What a run has come to: its number taken, never above the budget, how many steps of the list it read, and the memory.
-pub record Tallied (r : RanIn) (b listed taken read : ℕ) (m : List ℕ) : Type 0 where
-  pub number : taken ≡ r .taken
+pub record Tallied (x : RanIn) (b listed taken read : ℕ) (m : List ℕ) : Type 0 where
+  pub number : taken ≡ x .taken
   pub within : taken ≤ b
-  pub left : ltb read listed ≡ r .left
-  pub memory : m ≡ r .memory
+  pub left : ltb read listed ≡ x .left
+  pub memory : m ≡ x .memory
 
 -- The end of a run: whether it is silent, the number taken, the budget, the steps read and listed.
 unfoldable pub endsWith : Bool → ℕ → ℕ → ℕ → ℕ → RunEnding

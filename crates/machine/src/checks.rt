@@ -19,7 +19,7 @@ use steps::Step;
 
 // A refusal with place 0.
 fn refused(number: u16) -> Checked
-    ensures { λ r. ⌜ verdictOf r ≡ demand false number 0 ⌝ }
+    ensures { λ result. ⌜ verdictOf result ≡ demand false number 0 ⌝ }
 {
     Checked::Refused(Refusal {
         number: number,
@@ -29,7 +29,7 @@ fn refused(number: u16) -> Checked
 
 // The refusals of a lent place for a state.
 pub fn lent_place(f: Floor, walls: &[u16], lent: usize) -> Checked
-    ensures { λ r. ⌜ verdictOf r ≡ placeVerdict f (now (walls .entry)) lent ⌝ }
+    ensures { λ result. ⌜ verdictOf result ≡ placeVerdict f (now (walls .entry)) lent ⌝ }
 {
     let checked = floor::check(f, walls);
     let Checked::Passed = checked else {
@@ -40,7 +40,7 @@ pub fn lent_place(f: Floor, walls: &[u16], lent: usize) -> Checked
 
 // The refusals of a lent state.
 pub fn lent_state(f: Floor, walls: &[u16], m: &[u16]) -> Checked
-    ensures { λ r. ⌜ verdictOf r ≡ stateVerdict f (now (walls .entry)) (now (m .entry)) ⌝ }
+    ensures { λ result. ⌜ verdictOf result ≡ stateVerdict f (now (walls .entry)) (now (m .entry)) ⌝ }
 {
     let placed = lent_place(f, walls, m.len());
     let Checked::Passed = placed else {
@@ -53,19 +53,19 @@ pub fn lent_state(f: Floor, walls: &[u16], m: &[u16]) -> Checked
 }
 
 // The refusals of a single step on a checked state: 7, then what it waits for.
-pub fn ready(f: Floor, m: &[u16], s: Step) -> Checked
+pub fn ready(f: Floor, m: &[u16], x: Step) -> Checked
     requires { ⌜ (f .carriers ≤ 8) × (stateSize (f .carriers) ≤ length (now m)) ⌝ }
-    ensures { λ r. ⌜ verdictOf r ≡ singleVerdictIn (bare f) (now (m .entry)) (step (stepMeant s)) ⌝ }
+    ensures { λ result. ⌜ verdictOf result ≡ singleVerdictIn (bare f) (now (m .entry)) (step (stepMeant x)) ⌝ }
 {
-    if !steps::is_there(f, s) {
+    if !steps::is_there(f, x) {
         return refused(7);
     }
-    steps::waits(f, m, s)
+    steps::waits(f, m, x)
 }
 
 // 7 with the position of the first number of a list that names no step that is there.
 pub fn all_named(f: Floor, numbers: &[u16]) -> Checked
-    ensures { λ r. ⌜ verdictOf r ≡ demandEach 7 0 (namedAt f (now (numbers .entry))) (length (now (numbers .entry))) ⌝ }
+    ensures { λ result. ⌜ verdictOf result ≡ demandEach 7 0 (namedAt f (now (numbers .entry))) (length (now (numbers .entry))) ⌝ }
 {
     let mut p: usize = 0;
     while p < numbers.len() {

@@ -13,14 +13,14 @@ const MOST_STEPS: [usize; 8] = [1, 4, 11, 26, 57, 120, 247, 502];
 // The figure for n carriers.
 pub fn most_steps(n: usize) -> usize
     requires { ⌜ (1 ≤ n) × (n ≤ 8) ⌝ }
-    ensures { λ r. ⌜ r ≡ ceiling n ⌝ }
+    ensures { λ result. ⌜ result ≡ ceiling n ⌝ }
 {
     MOST_STEPS[n - 1]
 }
 
 // Refusal 2, field 5.
 pub fn refused() -> Most
-    ensures { λ r. ⌜ figureOf r ≡ refusal 2 5 ⌝ }
+    ensures { λ result. ⌜ figureOf result ≡ refusal 2 5 ⌝ }
 {
     Most::Refused(Refusal {
         number: 2,

@@ -56,8 +56,8 @@ pub enum Most {
 
 // Puts the fresh state of a floor into lent memory.
 pub fn fresh(f: Floor, walls: &[u16], state: &mut [u16]) -> Checked
-    ensures answers { λ r. ⌜ verdictOf r ≡ placeVerdict f (now (walls .entry)) (length (now (state .entry))) ⌝ }
-    ensures stores { λ r. ⌜ now (state .exit) ≡ freshMemory f (now (walls .entry)) (now (state .entry)) ⌝ }
+    ensures answers { λ result. ⌜ verdictOf result ≡ placeVerdict f (now (walls .entry)) (length (now (state .entry))) ⌝ }
+    ensures stores { λ result. ⌜ now (state .exit) ≡ freshMemory f (now (walls .entry)) (now (state .entry)) ⌝ }
 {
     let placed = checks::lent_place(f, walls, state.len());
     let Checked::Passed = placed else {
@@ -69,7 +69,7 @@ pub fn fresh(f: Floor, walls: &[u16], state: &mut [u16]) -> Checked
 
 // The answer to a single step that was taken.
 fn answer_of(taken: Taken) -> Stepped
-    ensures { λ r. ⌜ steppedReply r ≡ value (stepped (takenMeant taken)) ⌝ }
+    ensures { λ result. ⌜ steppedReply result ≡ value (stepped (takenMeant taken)) ⌝ }
 {
     match taken {
         Taken::Kept => Stepped::Kept,
@@ -81,9 +81,9 @@ fn answer_of(taken: Taken) -> Stepped
 // A single step on a checked state.
 fn step_on(f: Floor, walls: &[u16], state: &mut [u16], number: u16) -> Stepped
     requires { ⌜ stateVerdict f (now walls) (now state) ≡ passed ⌝ }
-    ensures answers { λ r. ⌜ steppedReply r ≡
+    ensures answers { λ result. ⌜ steppedReply result ≡
         replyIn (machineOf f (now (walls .entry))) (now (state .entry)) (singleCall (now (state .entry)) number) ⌝ }
-    ensures stores { λ r. ⌜ now (state .exit) ≡
+    ensures stores { λ result. ⌜ now (state .exit) ≡
         memoryIn (machineOf f (now (walls .entry))) (now (state .entry)) (singleCall (now (state .entry)) number) ⌝ }
 {
     let asked = steps::asked_by(number);
@@ -103,8 +103,8 @@ fn step_on(f: Floor, walls: &[u16], state: &mut [u16], number: u16) -> Stepped
 
 // Takes a single step on a lent state: plan i is 100 + i, deliver j to i is 200 + 10 j + i.
 pub fn step(f: Floor, walls: &[u16], state: &mut [u16], number: u16) -> Stepped
-    ensures answers { λ r. ⌜ steppedReply r ≡ replyTo f (now (walls .entry)) (now (state .entry)) (singleCall (now (state .entry)) number) ⌝ }
-    ensures stores { λ r. ⌜ now (state .exit) ≡
+    ensures answers { λ result. ⌜ steppedReply result ≡ replyTo f (now (walls .entry)) (now (state .entry)) (singleCall (now (state .entry)) number) ⌝ }
+    ensures stores { λ result. ⌜ now (state .exit) ≡
         memoryAfter f (now (walls .entry)) (now (state .entry)) (singleCall (now (state .entry)) number) ⌝ }
 {
     let sound = checks::lent_state(f, walls, state);
@@ -125,11 +125,11 @@ fn run_on(
 ) -> Ran
     requires { ⌜ stateVerdict f (now walls) (now state) ≡ passed ⌝ }
     requires { ⌜ verdictOf named ≡ demandEach 7 0 (namedAt f (now numbers)) (length (now numbers)) ⌝ }
-    ensures answers { λ r. ⌜ ranReply r ≡
+    ensures answers { λ result. ⌜ ranReply result ≡
         replyIn (machineOf f (now (walls .entry))) (now (state .entry)) (runCall (now (state .entry)) (now (numbers .entry)) budget) ⌝ }
-    ensures stores { λ r. ⌜ now (state .exit) ≡
+    ensures stores { λ result. ⌜ now (state .exit) ≡
         memoryIn (machineOf f (now (walls .entry))) (now (state .entry)) (runCall (now (state .entry)) (now (numbers .entry)) budget) ⌝ }
-    ensures within { λ r. ⌜ takenNumber r ≤ budget ⌝ }
+    ensures within { λ result. ⌜ takenNumber result ≤ budget ⌝ }
 {
     let Checked::Refused(x) = named else {
         let free = search::free_rows(f, walls);
@@ -141,11 +141,11 @@ fn run_on(
 
 // Takes a run on a lent state: the open steps of a list in turn, as many as the budget allows.
 pub fn run(f: Floor, walls: &[u16], state: &mut [u16], numbers: &[u16], budget: u16) -> Ran
-    ensures answers { λ r. ⌜ ranReply r ≡
+    ensures answers { λ result. ⌜ ranReply result ≡
         replyTo f (now (walls .entry)) (now (state .entry)) (runCall (now (state .entry)) (now (numbers .entry)) budget) ⌝ }
-    ensures stores { λ r. ⌜ now (state .exit) ≡
+    ensures stores { λ result. ⌜ now (state .exit) ≡
         memoryAfter f (now (walls .entry)) (now (state .entry)) (runCall (now (state .entry)) (now (numbers .entry)) budget) ⌝ }
-    ensures within { λ r. ⌜ takenNumber r ≤ budget ⌝ }
+    ensures within { λ result. ⌜ takenNumber result ≤ budget ⌝ }
 {
     let lent = checks::lent_state(f, walls, state);
     let named = checks::all_named(f, numbers);
@@ -157,7 +157,7 @@ pub fn run(f: Floor, walls: &[u16], state: &mut [u16], numbers: &[u16], budget: 
 
 // The most steps for n carriers, read from the handbook's table.
 pub fn ceiling(n: usize) -> Most
-    ensures { λ r. ⌜ figureOf r ≡ mostSteps n ⌝ }
+    ensures { λ result. ⌜ figureOf result ≡ mostSteps n ⌝ }
 {
     if n < 1 {
         return handbook::refused();

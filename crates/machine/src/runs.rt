@@ -27,7 +27,7 @@ pub struct Tally {
 // Takes the step that a number names if it is open, and passes over it otherwise; the number taken, 1 or 0.
 fn try_step(f: Floor, walls: &[u16], free: Rows, m: &mut [u16], x: u16) -> usize
     requires { ⌜ Workable f (now walls) free (now m) ⌝ }
-    ensures { λ r. ⌜ Attempted (machineOf f (now (walls .entry))) (now (m .entry)) (askedBy x) r (now (m .exit)) ⌝ }
+    ensures { λ result. ⌜ Attempted (machineOf f (now (walls .entry))) (now (m .entry)) (askedBy x) result (now (m .exit)) ⌝ }
 {
     let asked = steps::asked_by(x);
     let Asked::Known(s) = asked else {
@@ -50,8 +50,8 @@ pub fn run_all(
     budget: usize,
 ) -> Tally
     requires { ⌜ Workable f (now walls) free (now m) ⌝ }
-    ensures { λ r. ⌜ Tallied (runIn (machineOf f (now (walls .entry))) (now (m .entry)) (map askedBy (now (numbers .entry))) budget) budget
-        (length (now (numbers .entry))) (r .taken) (r .read) (now (m .exit)) ⌝ }
+    ensures { λ result. ⌜ Tallied (runIn (machineOf f (now (walls .entry))) (now (m .entry)) (map askedBy (now (numbers .entry))) budget) budget
+        (length (now (numbers .entry))) (result .taken) (result .read) (now (m .exit)) ⌝ }
 {
     let mut taken: usize = 0;
     let mut read: usize = 0;
@@ -69,7 +69,7 @@ pub fn run_all(
 // ended.
 pub fn ending(f: Floor, m: &[u16], tally: Tally, budget: usize, listed: usize) -> Ran
     requires { ⌜ (f .carriers ≤ 8) × (stateSize (f .carriers) ≤ length (now m)) ⌝ }
-    ensures { λ r. ⌜ ranReply r ≡ value (ran (tally .taken)
+    ensures { λ result. ⌜ ranReply result ≡ value (ran (tally .taken)
         (endsWith (silentIn (bare f) (now (m .entry))) (tally .taken) budget (tally .read) listed)) ⌝ }
 {
     if steps::is_silent(f, m) {

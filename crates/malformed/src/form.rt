@@ -6,33 +6,33 @@ use wording::fill;
 use wording::put;
 
 // Whether a byte is a decimal digit.
-fn is_digit(b: u8) -> bool {
-    if b < 48 {
+fn is_digit(byte: u8) -> bool {
+    if byte < 48 {
         return false;
     }
-    b <= 57
+    byte <= 57
 }
 
 // Whether a byte is a letter.
-fn is_letter(b: u8) -> bool {
-    if b < 65 {
+fn is_letter(byte: u8) -> bool {
+    if byte < 65 {
         return false;
     }
-    if b <= 90 {
+    if byte <= 90 {
         return true;
     }
-    if b < 97 {
+    if byte < 97 {
         return false;
     }
-    b <= 122
+    byte <= 122
 }
 
 // Whether a byte may stand in a field: a space or a digit.
-fn is_usual(b: u8) -> bool {
-    if b == 32 {
+fn is_usual(byte: u8) -> bool {
+    if byte == 32 {
         return true;
     }
-    is_digit(b)
+    is_digit(byte)
 }
 
 // Byte i of the field at a column.
@@ -48,9 +48,9 @@ fn foreign(text: &[u8], at: usize) -> u8
 {
     let mut i: usize = 0;
     while i < 5 {
-        let b = field_byte(text, at, i);
-        if !is_usual(b) {
-            return b;
+        let byte = field_byte(text, at, i);
+        if !is_usual(byte) {
+            return byte;
         }
         i += 1;
     }
@@ -60,7 +60,7 @@ fn foreign(text: &[u8], at: usize) -> u8
 // The place of the first byte of a field that is no space; 5 where all are.
 fn first_place(text: &[u8], at: usize) -> usize
     requires { ⌜ at ≤ 65535 ⌝ }
-    ensures { λ r. ⌜ r ≤ 5 ⌝ }
+    ensures { λ result. ⌜ result ≤ 5 ⌝ }
 {
     let mut i: usize = 0;
     while i < 5 {
@@ -87,41 +87,41 @@ fn has_space(text: &[u8], at: usize, place: usize) -> bool
 }
 
 // Puts a sentence about field k, in which its number stands first and a byte may stand second; the column behind it is returned.
-fn put_field(k: usize, b: u8, said: &[u8], out: &mut [u8]) -> usize {
-    fill(out, 0, said, [k, b as usize, 0, 0, 0, 0])
+fn put_field(k: usize, byte: u8, said: &[u8], out: &mut [u8]) -> usize {
+    fill(out, 0, said, [k, byte as usize, 0, 0, 0, 0])
 }
 
 // Puts that field k has a byte that may not stand in it; the column behind these words is returned.
-fn put_foreign(k: usize, b: u8, out: &mut [u8]) -> usize {
-    if b == 10 {
-        return put_field(k, b, b"field % has a newline in it", out);
+fn put_foreign(k: usize, byte: u8, out: &mut [u8]) -> usize {
+    if byte == 10 {
+        return put_field(k, byte, b"field % has a newline in it", out);
     }
-    if b == 13 {
-        return put_field(k, b, b"field % has a carriage return in it", out);
+    if byte == 13 {
+        return put_field(k, byte, b"field % has a carriage return in it", out);
     }
-    if b == 9 {
-        return put_field(k, b, b"field % has a tab in it", out);
+    if byte == 9 {
+        return put_field(k, byte, b"field % has a tab in it", out);
     }
-    if b < 33 {
-        return put_field(k, b, b"field % has the byte % in it", out);
+    if byte < 33 {
+        return put_field(k, byte, b"field % has the byte % in it", out);
     }
-    if 126 < b {
-        return put_field(k, b, b"field % has the byte % in it", out);
+    if 126 < byte {
+        return put_field(k, byte, b"field % has the byte % in it", out);
     }
-    put_character(k, b, out)
+    put_character(k, byte, out)
 }
 
 // The same of a byte that is shown.
-fn put_character(k: usize, b: u8, out: &mut [u8]) -> usize {
-    let kind = put_kind(k, b, out);
-    put(out, kind, &[39, b, 39, 32, 105, 110, 32, 105, 116])
+fn put_character(k: usize, byte: u8, out: &mut [u8]) -> usize {
+    let kind = put_kind(k, byte, out);
+    put(out, kind, &[39, byte, 39, 32, 105, 110, 32, 105, 116])
 }
 
-fn put_kind(k: usize, b: u8, out: &mut [u8]) -> usize {
-    if is_letter(b) {
-        return put_field(k, b, b"field % has the letter ", out);
+fn put_kind(k: usize, byte: u8, out: &mut [u8]) -> usize {
+    if is_letter(byte) {
+        return put_field(k, byte, b"field % has the letter ", out);
     }
-    put_field(k, b, b"field % has the character ", out)
+    put_field(k, byte, b"field % has the character ", out)
 }
 
 // Puts that the field at a column, in good form, is no dock count; the column behind these words is returned.
@@ -139,9 +139,9 @@ fn put_count(text: &[u8], at: usize, out: &mut [u8]) -> usize {
 fn put_bad_field(text: &[u8], at: usize, k: usize, out: &mut [u8]) -> usize
     requires { ⌜ at ≤ 65535 ⌝ }
 {
-    let b = foreign(text, at);
-    if b != 32 {
-        return put_foreign(k, b, out);
+    let byte = foreign(text, at);
+    if byte != 32 {
+        return put_foreign(k, byte, out);
     }
     let first = first_place(text, at);
     if first == 5 {
@@ -171,14 +171,14 @@ fn put_no_newline(text: &[u8], at: usize, k: usize, out: &mut [u8]) -> usize
     if field_byte(text, at, 1) != 10 {
         return put_missing(k, out);
     }
-    let b = field_byte(text, at, 0);
-    if b == 13 {
+    let byte = field_byte(text, at, 0);
+    if byte == 13 {
         return put(out, 0, b"a carriage return stands before the newline");
     }
-    if b == 9 {
+    if byte == 9 {
         return put(out, 0, b"a tab stands before the newline");
     }
-    if b == 32 {
+    if byte == 32 {
         return put(out, 0, b"a space stands before the newline");
     }
     put_missing(k, out)

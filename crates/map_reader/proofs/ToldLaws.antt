@@ -22,15 +22,15 @@ use Rattle.map_reader.specs.Told.{Filled, CarriersFrom, SheetIn, ToldIn}
 use Rattle.map_reader.specs.Inner.{RowsIn, Written, ToldOf}
 
 -- A loop that fills an array: before the first, and one more.
-pub fill-start : (g : ℕ → ℕ) (xs : List ℕ) → Filled g xs 0
+pub fill-start : (φ : ℕ → ℕ) (xs : List ℕ) → Filled φ xs 0
 unfolding Filled
-fill-start g xs i l = absurd (omega arith)
+fill-start φ xs i l = absurd (omega arith)
 
-pub fill-more : (g : ℕ → ℕ) (xs : List ℕ) (k v : ℕ) → Filled g xs k → v ≡ g k → k < length xs → Filled g (set xs k v) (k + 1)
+pub fill-more : (φ : ℕ → ℕ) (xs : List ℕ) (k x : ℕ) → Filled φ xs k → x ≡ φ k → k < length xs → Filled φ (set xs k x) (k + 1)
 unfolding Filled
-fill-more g xs k v h e l =
-    below-more (λ (i : ℕ). getD (set xs k v) i 0 ≡ g i) k
-    (λ i b. getD-set-other xs k i v 0 (λ z. absurd (omega arith)) ∙ h i b) (getD-set-same xs k v 0 l ∙ e)
+fill-more φ xs k x h e l =
+    below-more (λ (i : ℕ). getD (set xs k x) i 0 ≡ φ i) k
+    (λ i b. getD-set-other xs k i x 0 (λ z. absurd (omega arith)) ∙ h i b) (getD-set-same xs k x 0 l ∙ e)
 
 pub sheet-told : (f : Floor) (ws old new : List ℕ) (n : ℕ) → writeVerdict f ws (length old) ≡ passed → new ≡ writeSheet f ws old →
     n ≡ sheetLength f → Written f ws new n
@@ -45,13 +45,13 @@ sheet-told f ws old new n e w s =
       bytes = ap (take n) written ∙ take-at (sheetOf f ws) (drop (sheetLength f) old) n size;
     }
 
-pub map-told : (text marks table old walls out : List ℕ) (k : ℕ) (f : Floor) (s : Shape) (r : Told) → RowsIn text marks s →
-    (f .width ≡ s .width) × (f .height ≡ s .height) → CarriersFrom marks table (s .cells) f →
-    PutAt (cellsWhere (isWall marks) (s .cells)) old 0 walls k → k ≤ length old → ToldOf f (take k walls) out r → ToldIn text out r
+pub map-told : (text marks table old walls out : List ℕ) (k : ℕ) (f : Floor) (y : Shape) (z : Told) → RowsIn text marks y →
+    (f .width ≡ y .width) × (f .height ≡ y .height) → CarriersFrom marks table (y .cells) f →
+    PutAt (cellsWhere (isWall marks) (y .cells)) old 0 walls k → k ≤ length old → ToldOf f (take k walls) out z → ToldIn text out z
 unfolding ToldOf ToldIn
-map-told text marks table old walls out k f s (Sheet n) rows sizes carriers p l w =
-    let front : take k walls ≡ cellsWhere (isWall marks) (s .cells) =
-    put-front old walls (cellsWhere (isWall marks) (s .cells)) k (p .bytes) (omega (arith, p .behind)) (omega (arith, p .behind)) .1
+map-told text marks table old walls out k f y (Sheet n) rows sizes carriers p l w =
+    let front : take k walls ≡ cellsWhere (isWall marks) (y .cells) =
+    put-front old walls (cellsWhere (isWall marks) (y .cells)) k (p .bytes) (omega (arith, p .behind)) (omega (arith, p .behind)) .1
     in
     record {
       floor = f;
@@ -61,7 +61,7 @@ map-told text marks table old walls out k f s (Sheet n) rows sizes carriers p l 
       bytes = w .bytes;
       map = record {
         first = rows .first;
-        cells = s .cells;
+        cells = y .cells;
         marks = marks;
         table = table;
         rows = rw (sizes .0, sizes .1) (rows .rows);
@@ -69,9 +69,9 @@ map-told text marks table old walls out k f s (Sheet n) rows sizes carriers p l 
         carriers = carriers;
       };
     }
-map-told text marks table old walls out k f s (Refused x) rows sizes carriers p l w = tt
+map-told text marks table old walls out k f y (Refused x) rows sizes carriers p l w = tt
 
 -- A sheet that is told is printed.
-pub sheet-printed : (text out : List ℕ) (n : ℕ) (r : Told) → r ≡ Sheet n → ToldIn text out r → SheetIn text out n
+pub sheet-printed : (text out : List ℕ) (n : ℕ) (x : Told) → x ≡ Sheet n → ToldIn text out x → SheetIn text out n
 unfolding ToldIn
-sheet-printed text out n r e w = rw e at w
+sheet-printed text out n x e w = rw e at w

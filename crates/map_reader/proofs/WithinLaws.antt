@@ -18,25 +18,25 @@ use Rattle.map_reader.specs.Told.{rowsIn}
 use Rattle.map_reader.specs.Inner.{ReadWithin, RowCopied, RowRead, RowsRead, ShapeRead, RowsIn}
 
 -- What lies behind a column lies behind an earlier one.
-pub earlier : (r : Read) (at first most : ℕ) → at ≤ first → ReadWithin first most r → ReadWithin at most r
+pub earlier : (x : Read) (at first most : ℕ) → at ≤ first → ReadWithin first most x → ReadWithin at most x
 unfolding ReadWithin
 earlier (At n) at first most l w = (omega (arith, w .0), w .1)
 earlier (Refused p) at first most l w = tt
 
 -- A column that is told.
-pub told-at : (r : Read) (at most n : ℕ) → r ≡ At n → ReadWithin at most r → (at < n) × (n ≤ most)
+pub told-at : (x : Read) (at most n : ℕ) → x ≡ At n → ReadWithin at most x → (at < n) × (n ≤ most)
 unfolding ReadWithin
-told-at r at most n e w = rw e at w
+told-at x at most n e w = rw e at w
 
 -- A row that is told, and rows that are.
 module _ (text : List ℕ) (old new : List ℕ) where
-  pub told-row : (at w base n : ℕ) (r : Read) → r ≡ At n → RowRead text at w old base new r → RowCopied text at w old base new n
+  pub told-row : (at w base n : ℕ) (x : Read) → x ≡ At n → RowRead text at w old base new x → RowCopied text at w old base new n
   unfolding RowRead
-  told-row at w base n r e h = rw e at h
+  told-row at w base n x e h = rw e at h
 
-  pub told-rows : (first : ℕ) (s : Shaped) (x : Shape) → s ≡ Rows x → ShapeRead text first old new s → RowsRead text first old new x
+  pub told-rows : (first : ℕ) (y : Shaped) (x : Shape) → y ≡ Rows x → ShapeRead text first old new y → RowsRead text first old new x
   unfolding ShapeRead
-  told-rows first s x e h = rw e at h
+  told-rows first y x e h = rw e at h
 
 -- A loop that copies the marks of a row: before the first, one more, its length, and after the last.
 module _ (text old : List ℕ) (at w base : ℕ) (there : at + w < length text) (enough : base + w ≤ length old) where
@@ -65,9 +65,9 @@ module _ (text old : List ℕ) (first w : ℕ) (narrow : w ≤ 32) where
   line : ℕ → List ℕ
   line r = part text (first + r * (w + 1)) w
 
-  short : (r : ℕ) → length (line r) ≤ 32
+  short : (n : ℕ) → length (line n) ≤ 32
   unfolding line part
-  short r = omega (arith, length-take w (drop (first + r * (w + 1)) text))
+  short n = omega (arith, length-take w (drop (first + n * (w + 1)) text))
 
   pub rows-start : PutAt (rowsIn text first w 0) old 0 old 0
   unfolding rowsIn line
@@ -87,9 +87,9 @@ module _ (text old : List ℕ) (first w : ℕ) (narrow : w ≤ 32) where
       (lines-more line 32 short old 0 h n mid e (n + w) new here (omega arith), omega (arith, p .next))
 
 -- Rows in front of a memory of 1,024 marks.
-pub rows-in : (text old marks : List ℕ) (first : ℕ) (s : Shape) → RowsRead text first old marks s → 1024 ≡ length old → RowsIn text marks s
-rows-in text old marks first s r e =
-    let front = put-front old marks (rowsIn text first (s .width) (s .height)) (s .cells) (r .puts .bytes) (omega (arith, r .puts .behind))
+pub rows-in : (text old marks : List ℕ) (first : ℕ) (x : Shape) → RowsRead text first old marks x → 1024 ≡ length old → RowsIn text marks x
+rows-in text old marks first x r e =
+    let front = put-front old marks (rowsIn text first (x .width) (x .height)) (x .cells) (r .puts .bytes) (omega (arith, r .puts .behind))
     (omega (arith, r .puts .behind, r .few)) in
     record {
       first = first;

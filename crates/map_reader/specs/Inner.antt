@@ -35,28 +35,28 @@ RowRead text at w old base new (At n) = RowCopied text at w old base new n
 RowRead text at w old base new (Refused p) = Unit {0}
 
 -- Rows within the limits of a floor, in front of a memory.
-pub record RowsRead (text : List ℕ) (first : ℕ) (old new : List ℕ) (s : Shape) : Type 0 where
-  pub some : 1 ≤ s .width
-  pub width : s .width ≤ 32
-  pub height : s .height ≤ 32
-  pub few : s .cells ≤ 1024
-  pub next : s .next ≤ length text
-  pub puts : PutAt (rowsIn text first (s .width) (s .height)) old 0 new (s .cells)
+pub record RowsRead (text : List ℕ) (first : ℕ) (old new : List ℕ) (x : Shape) : Type 0 where
+  pub some : 1 ≤ x .width
+  pub width : x .width ≤ 32
+  pub height : x .height ≤ 32
+  pub few : x .cells ≤ 1024
+  pub next : x .next ≤ length text
+  pub puts : PutAt (rowsIn text first (x .width) (x .height)) old 0 new (x .cells)
 
 unfoldable pub ShapeRead : (text : List ℕ) (first : ℕ) (old new : List ℕ) → Shaped → Type 0
 ShapeRead text first old new (Rows s) = RowsRead text first old new s
 ShapeRead text first old new (Shaped·Refused p) = Unit {0}
 
 -- Rows that stand in a memory of 1,024 marks.
-pub record RowsIn (text : List ℕ) (marks : List ℕ) (s : Shape) : Type 0 where
+pub record RowsIn (text : List ℕ) (marks : List ℕ) (x : Shape) : Type 0 where
   pub first : ℕ
-  pub some : 1 ≤ s .width
-  pub width : s .width ≤ 32
-  pub height : s .height ≤ 32
-  pub few : s .cells ≤ 1024
-  pub next : s .next ≤ length text
+  pub some : 1 ≤ x .width
+  pub width : x .width ≤ 32
+  pub height : x .height ≤ 32
+  pub few : x .cells ≤ 1024
+  pub next : x .next ≤ length text
   pub long : 1024 ≤ length marks
-  pub rows : take (s .cells) marks ≡ rowsIn text first (s .width) (s .height)
+  pub rows : take (x .cells) marks ≡ rowsIn text first (x .width) (x .height)
 
 -- The sheet of a floor is told, or a refusal.
 pub record Written (f : Floor) (ws out : List ℕ) (n : ℕ) : Type 0 where

@@ -27,4 +27,4 @@ isWall marks c = eqb (getD marks c 0) 35
 
 -- The cells below n for which a test holds, by rising number.
 unfoldable pub cellsWhere : (ℕ → Bool) → ℕ → List ℕ
-cellsWhere p n = linesOf (λ c. cond (p c) (c ∷ []) []) n
+cellsWhere φ n = linesOf (λ c. cond (φ c) (c ∷ []) []) n

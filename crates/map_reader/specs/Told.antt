@@ -14,19 +14,19 @@ use Rattle.map_reader.specs.declared.Told.{Told}
 use Rattle.map_reader.specs.declared.Told.the-variants.{Sheet, Refused}
 use Rattle.map_reader.specs.Marks.{isThing, isWall, cellsWhere}
 
--- The first n numbers of a list are as g says.
+-- The first n numbers of a list are as φ says.
 unfoldable pub Filled : (ℕ → ℕ) → List ℕ → ℕ → Type 0
-Filled g xs n = (i : ℕ) → i < n → getD xs i 0 ≡ g i
+Filled φ xs n = (i : ℕ) → i < n → getD xs i 0 ≡ φ i
 
 -- The carriers of a floor are those of a map's n cells: the start of each is the first cell that is it, its docks are the cells that are.
 pub record CarriersFrom (marks table : List ℕ) (n : ℕ) (f : Floor) : Type 0 where
   pub starts : Filled (λ i. getD (cellsWhere (isThing marks table i) n) 0 0) (f .starts) 8
   pub counts : Filled (λ i. length (cellsWhere (isThing marks table (8 + i)) n)) (f .counts) 8
-  pub docks : Filled (λ q. getD (cellsWhere (isThing marks table (8 + q / 4)) n) (q % 4) 0) (f .docks) 32
+  pub docks : Filled (λ p. getD (cellsWhere (isThing marks table (8 + p / 4)) n) (p % 4) 0) (f .docks) 32
 
 -- The marks of h rows of w cells that begin at a column of a text, each row ended by one byte.
 unfoldable pub rowsIn : List ℕ → (first w h : ℕ) → List ℕ
-rowsIn text first w h = linesOf (λ r. part text (first + r * (w + 1)) w) h
+rowsIn text first w h = linesOf (λ row. part text (first + row * (w + 1)) w) h
 
 -- A floor and its walls are those of a map: its cells are marked by rows of the text, and a table tells what the capital letters stand for.
 pub record MapFloor (text : List ℕ) (f : Floor) (ws : List ℕ) : Type 0 where

@@ -13,13 +13,13 @@ use crate::tokens::Read;
 // Whether cell c is a thing.
 fn is_thing(marks: &[u8], table: &[u8], c: usize, thing: usize) -> bool
     requires { ⌜ (c < length (now marks)) × (thing < 16) × (442 ≤ length (now table)) ⌝ }
-    ensures { λ r. ⌜ r ≡ isThing (now (marks .entry)) (now (table .entry)) thing c ⌝ }
+    ensures { λ result. ⌜ result ≡ isThing (now (marks .entry)) (now (table .entry)) thing c ⌝ }
 {
-    let b = marks[c];
-    if tokens::thing_of(b) == thing {
+    let byte = marks[c];
+    if tokens::thing_of(byte) == thing {
         return true;
     }
-    let letter = tokens::letter_of(b);
+    let letter = tokens::letter_of(byte);
     if letter == 26 {
         return false;
     }
@@ -29,7 +29,7 @@ fn is_thing(marks: &[u8], table: &[u8], c: usize, thing: usize) -> bool
 // How many of the first n cells are a thing.
 fn count(marks: &[u8], table: &[u8], n: usize, thing: usize) -> u16
     requires { ⌜ (n ≤ 1024) × (n ≤ length (now marks)) × (thing < 16) × (442 ≤ length (now table)) ⌝ }
-    ensures { λ r. ⌜ (r ≡ length (cellsWhere (isThing (now (marks .entry)) (now (table .entry)) thing) n)) × (r ≤ 1024) ⌝ }
+    ensures { λ result. ⌜ (result ≡ length (cellsWhere (isThing (now (marks .entry)) (now (table .entry)) thing) n)) × (result ≤ 1024) ⌝ }
 {
     let mut found: u16 = 0;
     let mut c: usize = 0;
@@ -45,7 +45,7 @@ fn count(marks: &[u8], table: &[u8], n: usize, thing: usize) -> u16
 // The cell among the first n that is a thing and has k such cells before it; 0 where there is none.
 fn nth(marks: &[u8], table: &[u8], n: usize, thing: usize, k: u16) -> u16
     requires { ⌜ (n ≤ 1024) × (n ≤ length (now marks)) × (thing < 16) × (442 ≤ length (now table)) ⌝ }
-    ensures { λ r. ⌜ r ≡ getD (cellsWhere (isThing (now (marks .entry)) (now (table .entry)) thing) n) k 0 ⌝ }
+    ensures { λ result. ⌜ result ≡ getD (cellsWhere (isThing (now (marks .entry)) (now (table .entry)) thing) n) k 0 ⌝ }
 {
     let mut before: u16 = 0;
     let mut c: usize = 0;
@@ -64,7 +64,7 @@ fn nth(marks: &[u8], table: &[u8], n: usize, thing: usize, k: u16) -> u16
 // The first of n cells whose capital letter has no line; n where there is none.
 pub fn lineless(marks: &[u8], table: &[u8], n: usize) -> usize
     requires { ⌜ (n ≤ length (now marks)) × (442 ≤ length (now table)) ⌝ }
-    ensures { λ r. ⌜ r ≤ n ⌝ }
+    ensures { λ result. ⌜ result ≤ n ⌝ }
 {
     let mut c: usize = 0;
     while c < n {
@@ -82,7 +82,7 @@ pub fn lineless(marks: &[u8], table: &[u8], n: usize) -> usize
 // The number of carriers: the highest that has a start or a dock.
 pub fn carriers(marks: &[u8], table: &[u8], n: usize) -> u16
     requires { ⌜ (n ≤ 1024) × (n ≤ length (now marks)) × (442 ≤ length (now table)) ⌝ }
-    ensures { λ r. ⌜ r ≤ 8 ⌝ }
+    ensures { λ result. ⌜ result ≤ 8 ⌝ }
 {
     let mut highest: u16 = 0;
     let mut i: usize = 0;
@@ -135,7 +135,7 @@ pub fn check_carriers(marks: &[u8], table: &[u8], n: usize, highest: u16) -> Rea
 // The starts of eight carriers.
 pub fn starts(marks: &[u8], table: &[u8], n: usize) -> [u16; 8]
     requires { ⌜ (n ≤ 1024) × (n ≤ length (now marks)) × (442 ≤ length (now table)) ⌝ }
-    ensures { λ r. ⌜ Filled (λ i. getD (cellsWhere (isThing (now (marks .entry)) (now (table .entry)) i) n) 0 0) r 8 ⌝ }
+    ensures { λ result. ⌜ Filled (λ i. getD (cellsWhere (isThing (now (marks .entry)) (now (table .entry)) i) n) 0 0) result 8 ⌝ }
 {
     let mut found = [0u16; 8];
     let mut i: usize = 0;
@@ -149,7 +149,7 @@ pub fn starts(marks: &[u8], table: &[u8], n: usize) -> [u16; 8]
 // Their dock counts.
 pub fn counts(marks: &[u8], table: &[u8], n: usize) -> [u16; 8]
     requires { ⌜ (n ≤ 1024) × (n ≤ length (now marks)) × (442 ≤ length (now table)) ⌝ }
-    ensures { λ r. ⌜ Filled (λ i. length (cellsWhere (isThing (now (marks .entry)) (now (table .entry)) (8 + i)) n)) r 8 ⌝ }
+    ensures { λ result. ⌜ Filled (λ i. length (cellsWhere (isThing (now (marks .entry)) (now (table .entry)) (8 + i)) n)) result 8 ⌝ }
 {
     let mut found = [0u16; 8];
     let mut i: usize = 0;
@@ -163,13 +163,13 @@ pub fn counts(marks: &[u8], table: &[u8], n: usize) -> [u16; 8]
 // Their docks, four places a carrier.
 pub fn docks(marks: &[u8], table: &[u8], n: usize) -> [u16; 32]
     requires { ⌜ (n ≤ 1024) × (n ≤ length (now marks)) × (442 ≤ length (now table)) ⌝ }
-    ensures { λ r. ⌜ Filled (λ q. getD (cellsWhere (isThing (now (marks .entry)) (now (table .entry)) (8 + q / 4)) n) (q % 4) 0) r 32 ⌝ }
+    ensures { λ result. ⌜ Filled (λ p. getD (cellsWhere (isThing (now (marks .entry)) (now (table .entry)) (8 + p / 4)) n) (p % 4) 0) result 32 ⌝ }
 {
     let mut found = [0u16; 32];
-    let mut q: usize = 0;
-    while q < 32 {
-        found[q] = nth(marks, table, n, 8 + q / 4, (q % 4) as u16);
-        q += 1;
+    let mut p: usize = 0;
+    while p < 32 {
+        found[p] = nth(marks, table, n, 8 + p / 4, (p % 4) as u16);
+        p += 1;
     }
     found
 }
@@ -177,7 +177,7 @@ pub fn docks(marks: &[u8], table: &[u8], n: usize) -> [u16; 32]
 // Puts the walls among the first n cells in front of a memory; their number is returned.
 pub fn put_walls(marks: &[u8], n: usize, walls: &mut [u16]) -> usize
     requires { ⌜ (n ≤ 1024) × (n ≤ length (now marks)) × (n ≤ length (now walls)) ⌝ }
-    ensures { λ r. ⌜ PutAt (cellsWhere (isWall (now (marks .entry))) n) (now (walls .entry)) 0 (now (walls .exit)) r × (r ≤ n) ⌝ }
+    ensures { λ result. ⌜ PutAt (cellsWhere (isWall (now (marks .entry))) n) (now (walls .entry)) 0 (now (walls .exit)) result × (result ≤ n) ⌝ }
 {
     let mut found: usize = 0;
     let mut c: usize = 0;

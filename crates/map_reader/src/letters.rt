@@ -12,12 +12,12 @@ use crate::tokens::Read;
 pub const LETTERS: usize = 442;
 
 // Whether a byte is among the first n marks.
-fn is_used(marks: &[u8], n: usize, b: u8) -> bool
+fn is_used(marks: &[u8], n: usize, byte: u8) -> bool
     requires { ⌜ n ≤ length (now marks) ⌝ }
 {
     let mut c: usize = 0;
     while c < n {
-        if marks[c] == b {
+        if marks[c] == byte {
             return true;
         }
         c += 1;
@@ -28,7 +28,7 @@ fn is_used(marks: &[u8], n: usize, b: u8) -> bool
 // How many of the 16 places from a base on are taken.
 fn count_things(table: &[u8], base: usize) -> usize
     requires { ⌜ base + 16 ≤ length (now table) ⌝ }
-    ensures { λ r. ⌜ r ≤ 16 ⌝ }
+    ensures { λ result. ⌜ result ≤ 16 ⌝ }
 {
     let mut n: usize = 0;
     let mut k: usize = 0;
@@ -45,25 +45,25 @@ fn count_things(table: &[u8], base: usize) -> usize
 // before.
 fn read_things(text: &[u8], first: usize, line: u16, base: usize, table: &mut [u8]) -> Read
     requires { ⌜ (first ≤ length (now text)) × (base + 16 ≤ length (now table)) ⌝ }
-    ensures { λ r. ⌜ ReadWithin first (length (now (text .entry))) r ⌝ }
+    ensures { λ result. ⌜ ReadWithin first (length (now (text .entry))) result ⌝ }
 {
     let mut k: usize = 0;
     while k < 17 {
         if text.len() - first <= k {
             return Read::Refused(Problem::on(5, line));
         }
-        let b = text[first + k];
-        if b == 10 {
+        let byte = text[first + k];
+        if byte == 10 {
             return Read::At(first + k + 1);
         }
-        let m = tokens::thing_of(b);
-        if m == 16 {
-            return Read::Refused(Problem::at(10, line, k as u16 + 3, b));
+        let thing = tokens::thing_of(byte);
+        if thing == 16 {
+            return Read::Refused(Problem::at(10, line, k as u16 + 3, byte));
         }
-        if table[base + m] == 1 {
-            return Read::Refused(Problem::at(13, line, k as u16 + 3, b));
+        if table[base + thing] == 1 {
+            return Read::Refused(Problem::at(13, line, k as u16 + 3, byte));
         }
-        table[base + m] = 1;
+        table[base + thing] = 1;
         k += 1;
     }
     Read::Refused(Problem::on(14, line))
@@ -72,7 +72,7 @@ fn read_things(text: &[u8], first: usize, line: u16, base: usize, table: &mut [u
 // Reads the line of a letter, whose place is below 26; the column behind its newline is answered.
 fn read_letter(text: &[u8], at: usize, line: u16, letter: usize, table: &mut [u8]) -> Read
     requires { ⌜ (letter < 26) × (at + 2 ≤ length (now text)) × (442 ≤ length (now table)) ⌝ }
-    ensures { λ r. ⌜ ReadWithin at (length (now (text .entry))) r ⌝ }
+    ensures { λ result. ⌜ ReadWithin at (length (now (text .entry))) result ⌝ }
 {
     let base = 17 * letter;
     let had = table[base + 16];
@@ -106,12 +106,12 @@ fn copy_things(own: [u8; 16], base: usize, table: &mut [u8])
 // Reads the line at a column, which must be that of a letter among the first n marks; the column behind its newline is answered.
 fn read_line(text: &[u8], at: usize, line: u16, marks: &[u8], n: usize, table: &mut [u8]) -> Read
     requires { ⌜ (at < length (now text)) × (n ≤ length (now marks)) × (442 ≤ length (now table)) ⌝ }
-    ensures { λ r. ⌜ ReadWithin at (length (now (text .entry))) r ⌝ }
+    ensures { λ result. ⌜ ReadWithin at (length (now (text .entry))) result ⌝ }
 {
-    let b = text[at];
-    let letter = tokens::letter_of(b);
+    let byte = text[at];
+    let letter = tokens::letter_of(byte);
     if letter == 26 {
-        return Read::Refused(Problem::at(11, line, 1, b));
+        return Read::Refused(Problem::at(11, line, 1, byte));
     }
     if text.len() - at < 2 {
         return Read::Refused(Problem::on(12, line));
@@ -123,8 +123,8 @@ fn read_line(text: &[u8], at: usize, line: u16, marks: &[u8], n: usize, table: &
     let Read::At(next) = read else {
         return read;
     };
-    if !is_used(marks, n, b) {
-        return Read::Refused(Problem::at(16, line, 0, b));
+    if !is_used(marks, n, byte) {
+        return Read::Refused(Problem::at(16, line, 0, byte));
     }
     Read::At(next)
 }

@@ -45,28 +45,28 @@ pub struct PrintedMap {
 
 // Room for a sheet.
 pub fn no_sheet() -> [u8; SHEET_LENGTH]
-    ensures { λ r. ⌜ 11732 ≡ length r ⌝ }
+    ensures { λ result. ⌜ 11732 ≡ length result ⌝ }
 {
     [0; SHEET_LENGTH]
 }
 
 // Room for a mark a cell.
 fn no_marks() -> [u8; CELLS]
-    ensures { λ r. ⌜ 1024 ≡ length r ⌝ }
+    ensures { λ result. ⌜ 1024 ≡ length result ⌝ }
 {
     [0; CELLS]
 }
 
 // Room for a wall a cell.
 fn no_walls() -> [u16; CELLS]
-    ensures { λ r. ⌜ 1024 ≡ length r ⌝ }
+    ensures { λ result. ⌜ 1024 ≡ length result ⌝ }
 {
     [0; CELLS]
 }
 
 // Room for what the capital letters stand for.
 fn no_letters() -> [u8; LETTERS]
-    ensures { λ r. ⌜ 442 ≡ length r ⌝ }
+    ensures { λ result. ⌜ 442 ≡ length result ⌝ }
 {
     [0; LETTERS]
 }
@@ -83,8 +83,8 @@ fn floor_of(
 ) -> Floor
     requires { ⌜ (shape .width ≤ 32) × (shape .height ≤ 32) × (shape .cells ≤ 1024) ⌝ }
     requires { ⌜ (1024 ≤ length (now marks)) × (442 ≤ length (now table)) ⌝ }
-    ensures sizes { λ r. ⌜ (r .width ≡ shape .width) × (r .height ≡ shape .height) ⌝ }
-    ensures carriers { λ r. ⌜ CarriersFrom (now (marks .entry)) (now (table .entry)) (shape .cells) r ⌝ }
+    ensures sizes { λ result. ⌜ (result .width ≡ shape .width) × (result .height ≡ shape .height) ⌝ }
+    ensures carriers { λ result. ⌜ CarriersFrom (now (marks .entry)) (now (table .entry)) (shape .cells) result ⌝ }
 {
     let n = shape.cells;
     let starts = build::starts(marks, table, n);
@@ -105,7 +105,7 @@ fn floor_of(
 
 // Writes the sheet of a floor.
 fn write_sheet(f: Floor, walls: &[u16], out: &mut [u8]) -> Told
-    ensures { λ r. ⌜ ToldOf f (now (walls .entry)) (now (out .exit)) r ⌝ }
+    ensures { λ result. ⌜ ToldOf f (now (walls .entry)) (now (out .exit)) result ⌝ }
 {
     let written = sheet::write(f, walls, out);
     let Checked::Passed = written else {
@@ -126,7 +126,7 @@ fn write_map(
     out: &mut [u8],
 ) -> Told
     requires { ⌜ RowsIn (now text) (now marks) shape × (442 ≤ length (now table)) ⌝ }
-    ensures { λ r. ⌜ ToldIn (now (text .entry)) (now (out .exit)) r ⌝ }
+    ensures { λ result. ⌜ ToldIn (now (text .entry)) (now (out .exit)) result ⌝ }
 {
     let n = shape.cells;
     let mut walls = no_walls();
@@ -153,7 +153,7 @@ fn read_rest(
     out: &mut [u8],
 ) -> Told
     requires { ⌜ RowsIn (now text) (now marks) shape ⌝ }
-    ensures { λ r. ⌜ ToldIn (now (text .entry)) (now (out .exit)) r ⌝ }
+    ensures { λ result. ⌜ ToldIn (now (text .entry)) (now (out .exit)) result ⌝ }
 {
     let next = shape.next;
     let n = shape.cells;
@@ -188,7 +188,7 @@ fn is_within(n: u16, high: u16) -> bool {
 
 // Reads a map, and writes the sheet of its floor into lent memory.
 fn read(text: &[u8], out: &mut [u8; SHEET_LENGTH]) -> Told
-    ensures { λ r. ⌜ ToldIn (now (text .entry)) (now (out .exit)) r ⌝ }
+    ensures { λ result. ⌜ ToldIn (now (text .entry)) (now (out .exit)) result ⌝ }
 {
     let head = tokens::read_head(text);
     let first = head.next;
@@ -211,9 +211,9 @@ fn read(text: &[u8], out: &mut [u8; SHEET_LENGTH]) -> Told
 
 // Prints the sheet of a map into one lent memory, or what is wrong with the map in words into another.
 pub fn print(text: &[u8], out: &mut [u8; SHEET_LENGTH], words: &mut [u8; WORDS]) -> PrintedMap
-    ensures sheet { λ r. ⌜ Counts (r .sheet) (now (out .exit)) ⌝ }
-    ensures words { λ r. ⌜ Counts (r .words) (now (words .exit)) ⌝ }
-    ensures tells { λ r. ⌜ SheetOrNothing (now (text .entry)) (now (out .exit)) (r .sheet) ⌝ }
+    ensures sheet { λ result. ⌜ Counts (result .sheet) (now (out .exit)) ⌝ }
+    ensures words { λ result. ⌜ Counts (result .words) (now (words .exit)) ⌝ }
+    ensures tells { λ result. ⌜ SheetOrNothing (now (text .entry)) (now (out .exit)) (result .sheet) ⌝ }
 {
     let told = read(text, out);
     match told {

@@ -25,7 +25,7 @@ pub enum Shaped {
 // The column of the newline of the line at a column, looked for in 33 bytes; the last column looked at where it is not there.
 fn line_end(text: &[u8], at: usize) -> usize
     requires { ⌜ at ≤ length (now text) ⌝ }
-    ensures { λ r. ⌜ (at ≤ r) × (r ≤ length (now (text .entry))) × (r ≤ at + 33) ⌝ }
+    ensures { λ result. ⌜ (at ≤ result) × (result ≤ length (now (text .entry))) × (result ≤ at + 33) ⌝ }
 {
     let mut k: usize = 0;
     while k < 33 {
@@ -56,15 +56,15 @@ pub fn is_letters(text: &[u8], at: usize) -> bool
 // Copies the w marks at a column to a base; the column behind their newline is answered.
 fn copy_row(text: &[u8], at: usize, w: usize, line: u16, base: usize, marks: &mut [u8]) -> Read
     requires { ⌜ (w ≤ 32) × (at + w < length (now text)) × (base + w ≤ length (now marks)) ⌝ }
-    ensures { λ r. ⌜ RowRead (now (text .entry)) at w (now (marks .entry)) base (now (marks .exit)) r ⌝ }
+    ensures { λ result. ⌜ RowRead (now (text .entry)) at w (now (marks .entry)) base (now (marks .exit)) result ⌝ }
 {
     let mut k: usize = 0;
     while k < w {
-        let b = text[at + k];
-        if !tokens::is_mark(b) {
-            return Read::Refused(Problem::at(10, line, k as u16 + 1, b));
+        let byte = text[at + k];
+        if !tokens::is_mark(byte) {
+            return Read::Refused(Problem::at(10, line, k as u16 + 1, byte));
         }
-        marks[base + k] = b;
+        marks[base + k] = byte;
         k += 1;
     }
     Read::At(at + w + 1)
@@ -73,7 +73,7 @@ fn copy_row(text: &[u8], at: usize, w: usize, line: u16, base: usize, marks: &mu
 // Reads the row at a column, which must have w cells; the column behind its newline is answered.
 fn read_row(text: &[u8], at: usize, w: usize, line: u16, base: usize, marks: &mut [u8]) -> Read
     requires { ⌜ (w ≤ 32) × (at < length (now text)) × (base + 32 ≤ length (now marks)) ⌝ }
-    ensures { λ r. ⌜ RowRead (now (text .entry)) at w (now (marks .entry)) base (now (marks .exit)) r ⌝ }
+    ensures { λ result. ⌜ RowRead (now (text .entry)) at w (now (marks .entry)) base (now (marks .exit)) result ⌝ }
 {
     let end = line_end(text, at);
     let n = end - at;
@@ -101,7 +101,7 @@ fn read_row(text: &[u8], at: usize, w: usize, line: u16, base: usize, marks: &mu
 // Reads rows of w cells from a column on, to the first line of a letter or the end.
 fn rows_from(text: &[u8], first: usize, w: usize, marks: &mut [u8]) -> Shaped
     requires { ⌜ (1 ≤ w) × (w ≤ 32) × (first ≤ length (now text)) × (1024 ≤ length (now marks)) ⌝ }
-    ensures { λ r. ⌜ ShapeRead (now (text .entry)) first (now (marks .entry)) (now (marks .exit)) r ⌝ }
+    ensures { λ result. ⌜ ShapeRead (now (text .entry)) first (now (marks .entry)) (now (marks .exit)) result ⌝ }
 {
     let mut at = first;
     let mut height: usize = 0;
@@ -137,7 +137,7 @@ fn rows_from(text: &[u8], first: usize, w: usize, marks: &mut [u8]) -> Shaped
 // Reads the rows from a column on, of which there must be one.
 pub fn read_rows(text: &[u8], first: usize, marks: &mut [u8]) -> Shaped
     requires { ⌜ (first ≤ length (now text)) × (1024 ≤ length (now marks)) ⌝ }
-    ensures { λ r. ⌜ ShapeRead (now (text .entry)) first (now (marks .entry)) (now (marks .exit)) r ⌝ }
+    ensures { λ result. ⌜ ShapeRead (now (text .entry)) first (now (marks .entry)) (now (marks .exit)) result ⌝ }
 {
     if first == text.len() {
         return Shaped::Refused(Problem::on(4, 2));

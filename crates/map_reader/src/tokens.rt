@@ -89,7 +89,7 @@ fn is_there(text: &[u8], at: usize, word: &[u8]) -> bool
 // The column behind a word that stands at a column; that column itself where the word does not stand there.
 fn skip(text: &[u8], at: usize, word: &[u8]) -> usize
     requires { ⌜ at ≤ length (now text) ⌝ }
-    ensures { λ r. ⌜ (at ≤ r) × (r ≤ length (now (text .entry))) ⌝ }
+    ensures { λ result. ⌜ (at ≤ result) × (result ≤ length (now (text .entry))) ⌝ }
 {
     if text.len() - at < word.len() {
         return at;
@@ -103,7 +103,7 @@ fn skip(text: &[u8], at: usize, word: &[u8]) -> usize
 // A number with one more digit behind it; 9,999 stands for every number above it.
 fn with_digit(value: u16, digit: u8) -> u16
     requires { ⌜ (value ≤ 9999) × (digit ≤ 9) ⌝ }
-    ensures { λ r. ⌜ r ≤ 9999 ⌝ }
+    ensures { λ result. ⌜ result ≤ 9999 ⌝ }
 {
     if value > 998 {
         return 9999;
@@ -114,25 +114,25 @@ fn with_digit(value: u16, digit: u8) -> u16
 // The decimal number at a column; the column itself is the next where no digit stands there.
 fn number_at(text: &[u8], at: usize) -> Number
     requires { ⌜ at ≤ length (now text) ⌝ }
-    ensures { λ r. ⌜ (at ≤ r .next) × (r .next ≤ length (now (text .entry))) ⌝ }
+    ensures { λ result. ⌜ (at ≤ result .next) × (result .next ≤ length (now (text .entry))) ⌝ }
 {
     let mut value: u16 = 0;
     let mut k = at;
     while k < text.len() {
-        let b = text[k];
-        if b < 48 {
+        let byte = text[k];
+        if byte < 48 {
             return Number {
                 value: value,
                 next: k,
             };
         }
-        if b > 57 {
+        if byte > 57 {
             return Number {
                 value: value,
                 next: k,
             };
         }
-        value = with_digit(value, b - 48);
+        value = with_digit(value, byte - 48);
         k += 1;
     }
     Number {
@@ -142,34 +142,34 @@ fn number_at(text: &[u8], at: usize) -> Number
 }
 
 // Whether five columns rise, so that each part of line 1 is there.
-fn rises(a: usize, b: usize, c: usize, d: usize, e: usize) -> bool {
-    if a == 0 {
+fn rises(c1: usize, c2: usize, c3: usize, c4: usize, c5: usize) -> bool {
+    if c1 == 0 {
         return false;
     }
-    if b <= a {
+    if c2 <= c1 {
         return false;
     }
-    if c <= b {
+    if c3 <= c2 {
         return false;
     }
-    if d <= c {
+    if c4 <= c3 {
         return false;
     }
-    d < e
+    c4 < c5
 }
 
 // Line 1.
 pub fn read_head(text: &[u8]) -> Head
-    ensures { λ r. ⌜ r .next ≤ length (now (text .entry)) ⌝ }
+    ensures { λ result. ⌜ result .next ≤ length (now (text .entry)) ⌝ }
 {
-    let a = skip(text, 0, b"horizon ");
-    let horizon = number_at(text, a);
-    let b = horizon.next;
-    let c = skip(text, b, b" depth ");
-    let depth = number_at(text, c);
-    let d = depth.next;
-    let e = skip(text, d, b"\n");
-    if !rises(a, b, c, d, e) {
+    let c1 = skip(text, 0, b"horizon ");
+    let horizon = number_at(text, c1);
+    let c2 = horizon.next;
+    let c3 = skip(text, c2, b" depth ");
+    let depth = number_at(text, c3);
+    let c4 = depth.next;
+    let c5 = skip(text, c4, b"\n");
+    if !rises(c1, c2, c3, c4, c5) {
         return Head {
             horizon: 0,
             depth: 0,
@@ -179,52 +179,52 @@ pub fn read_head(text: &[u8]) -> Head
     Head {
         horizon: horizon.value,
         depth: depth.value,
-        next: e,
+        next: c5,
     }
 }
 
 // The place of a mark among `1` to `8`, `a` to `h`; 16 for another byte.
-pub fn thing_of(b: u8) -> usize
-    ensures { λ r. ⌜ (r ≡ thingOf b) × (r ≤ 16) ⌝ }
+pub fn thing_of(byte: u8) -> usize
+    ensures { λ result. ⌜ (result ≡ thingOf byte) × (result ≤ 16) ⌝ }
 {
-    if b < 49 {
+    if byte < 49 {
         return 16;
     }
-    if b <= 56 {
-        return (b - 49) as usize;
+    if byte <= 56 {
+        return (byte - 49) as usize;
     }
-    if b < 97 {
+    if byte < 97 {
         return 16;
     }
-    if b <= 104 {
-        return (b - 89) as usize;
+    if byte <= 104 {
+        return (byte - 89) as usize;
     }
     16
 }
 
 // The place of a capital letter among `A` to `Z`; 26 for another byte.
-pub fn letter_of(b: u8) -> usize
-    ensures { λ r. ⌜ (r ≡ placeOf b) × (r ≤ 26) ⌝ }
+pub fn letter_of(byte: u8) -> usize
+    ensures { λ result. ⌜ (result ≡ placeOf byte) × (result ≤ 26) ⌝ }
 {
-    if b < 65 {
+    if byte < 65 {
         return 26;
     }
-    if b > 90 {
+    if byte > 90 {
         return 26;
     }
-    (b - 65) as usize
+    (byte - 65) as usize
 }
 
 // Whether a byte may stand on a row.
-pub fn is_mark(b: u8) -> bool {
-    if b == 35 {
+pub fn is_mark(byte: u8) -> bool {
+    if byte == 35 {
         return true;
     }
-    if b == 46 {
+    if byte == 46 {
         return true;
     }
-    if thing_of(b) < 16 {
+    if thing_of(byte) < 16 {
         return true;
     }
-    letter_of(b) < 26
+    letter_of(byte) < 26
 }

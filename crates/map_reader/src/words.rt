@@ -11,7 +11,7 @@ pub const WORDS: usize = 160;
 // Puts a number in decimal digits; the column behind it is returned.
 fn put_number(out: &mut [u8], at: usize, n: u16) -> usize
     requires { ⌜ at + 20 ≤ length (now out) ⌝ }
-    ensures { λ r. ⌜ r ≤ at + 20 ⌝ }
+    ensures { λ result. ⌜ result ≤ at + 20 ⌝ }
 {
     let mut digits = [0u8; 20];
     let k = io::decimal(n as u64, &mut digits);
@@ -24,7 +24,7 @@ fn put_number(out: &mut [u8], at: usize, n: u16) -> usize
 // Puts a byte in quotes, or its number where it has no glyph; the column behind it is returned.
 fn put_byte(out: &mut [u8], at: usize, b: u16) -> usize
     requires { ⌜ at + 25 ≤ length (now out) ⌝ }
-    ensures { λ r. ⌜ r ≤ at + 25 ⌝ }
+    ensures { λ result. ⌜ result ≤ at + 25 ⌝ }
 {
     if b < 33 {
         let end = put_bytes(out, at, b"byte ");
@@ -40,7 +40,7 @@ fn put_byte(out: &mut [u8], at: usize, b: u16) -> usize
 // Puts `line ` and its number; the column behind it is returned.
 fn put_place(out: &mut [u8], line: u16) -> usize
     requires { ⌜ 160 ≤ length (now out) ⌝ }
-    ensures { λ r. ⌜ r ≤ 25 ⌝ }
+    ensures { λ result. ⌜ result ≤ 25 ⌝ }
 {
     let at = put_bytes(out, 0, b"line ");
     put_number(out, at, line)
@@ -49,7 +49,7 @@ fn put_place(out: &mut [u8], line: u16) -> usize
 // Puts what is wrong with line 1, or with the map as a whole; the length is returned.
 fn put_whole(kind: u8, out: &mut [u8]) -> usize
     requires { ⌜ 160 ≤ length (now out) ⌝ }
-    ensures { λ r. ⌜ r ≤ 150 ⌝ }
+    ensures { λ result. ⌜ result ≤ 150 ⌝ }
 {
     match kind {
         1 => put_bytes(out, 0, b"line 1 is not 'horizon H depth D'"),
@@ -64,7 +64,7 @@ fn put_whole(kind: u8, out: &mut [u8]) -> usize
 // Puts what is wrong with a line; the length is returned.
 fn put_line(kind: u8, line: u16, out: &mut [u8]) -> usize
     requires { ⌜ 160 ≤ length (now out) ⌝ }
-    ensures { λ r. ⌜ r ≤ 150 ⌝ }
+    ensures { λ result. ⌜ result ≤ 150 ⌝ }
 {
     let at = put_place(out, line);
     match kind {
@@ -80,7 +80,7 @@ fn put_line(kind: u8, line: u16, out: &mut [u8]) -> usize
 // Puts ` cell` or ` cells`; the column behind it is returned.
 fn put_cells(n: u16, out: &mut [u8], at: usize) -> usize
     requires { ⌜ at + 6 ≤ length (now out) ⌝ }
-    ensures { λ r. ⌜ r ≤ at + 6 ⌝ }
+    ensures { λ result. ⌜ result ≤ at + 6 ⌝ }
 {
     if n == 1 {
         return put_bytes(out, at, b" cell");
@@ -91,73 +91,73 @@ fn put_cells(n: u16, out: &mut [u8], at: usize) -> usize
 // Puts that a line is not as wide as line 2; the length is returned.
 fn put_width(line: u16, n: u16, w: u16, out: &mut [u8]) -> usize
     requires { ⌜ 160 ≤ length (now out) ⌝ }
-    ensures { λ r. ⌜ r ≤ 150 ⌝ }
+    ensures { λ result. ⌜ result ≤ 150 ⌝ }
 {
-    let a = put_place(out, line);
-    let b = put_bytes(out, a, b" has ");
-    let c = put_number(out, b, n);
-    let d = put_cells(n, out, c);
-    let e = put_bytes(out, d, b", line 2 has ");
-    put_number(out, e, w)
+    let n1 = put_place(out, line);
+    let n2 = put_bytes(out, n1, b" has ");
+    let n3 = put_number(out, n2, n);
+    let n4 = put_cells(n, out, n3);
+    let n5 = put_bytes(out, n4, b", line 2 has ");
+    put_number(out, n5, w)
 }
 
 // Puts what is wrong with a byte at a line and a column; the length is returned.
 fn put_mark(kind: u8, line: u16, column: u16, byte: u16, out: &mut [u8]) -> usize
     requires { ⌜ 160 ≤ length (now out) ⌝ }
-    ensures { λ r. ⌜ r ≤ 150 ⌝ }
+    ensures { λ result. ⌜ result ≤ 150 ⌝ }
 {
-    let a = put_place(out, line);
-    let b = put_bytes(out, a, b", column ");
-    let c = put_number(out, b, column);
-    let d = put_bytes(out, c, b": ");
-    let e = put_byte(out, d, byte);
+    let n1 = put_place(out, line);
+    let n2 = put_bytes(out, n1, b", column ");
+    let n3 = put_number(out, n2, column);
+    let n4 = put_bytes(out, n3, b": ");
+    let n5 = put_byte(out, n4, byte);
     match kind {
-        10 => put_bytes(out, e, b" is no mark"),
-        11 => put_bytes(out, e, b" is no letter"),
-        13 => put_bytes(out, e, b" stands twice"),
-        _ => put_bytes(out, e, b" has no line"),
+        10 => put_bytes(out, n5, b" is no mark"),
+        11 => put_bytes(out, n5, b" is no letter"),
+        13 => put_bytes(out, n5, b" stands twice"),
+        _ => put_bytes(out, n5, b" has no line"),
     }
 }
 
 // Puts what is wrong with the letter of a line; the length is returned.
 fn put_letter(kind: u8, line: u16, byte: u16, out: &mut [u8]) -> usize
     requires { ⌜ 160 ≤ length (now out) ⌝ }
-    ensures { λ r. ⌜ r ≤ 150 ⌝ }
+    ensures { λ result. ⌜ result ≤ 150 ⌝ }
 {
-    let a = put_place(out, line);
-    let b = put_bytes(out, a, b": ");
-    let c = put_byte(out, b, byte);
+    let n1 = put_place(out, line);
+    let n2 = put_bytes(out, n1, b": ");
+    let n3 = put_byte(out, n2, byte);
     if kind == 15 {
-        return put_bytes(out, c, b" has a line already");
+        return put_bytes(out, n3, b" has n1 line already");
     }
-    put_bytes(out, c, b" is on no row")
+    put_bytes(out, n3, b" is on no row")
 }
 
 // Puts what is wrong with a carrier; the length is returned.
 fn put_carrier(kind: u8, carrier: u16, n: u16, out: &mut [u8]) -> usize
     requires { ⌜ 160 ≤ length (now out) ⌝ }
-    ensures { λ r. ⌜ r ≤ 150 ⌝ }
+    ensures { λ result. ⌜ result ≤ 150 ⌝ }
 {
-    let a = put_bytes(out, 0, b"carrier ");
-    let b = put_number(out, a, carrier);
-    let c = put_bytes(out, b, b" has ");
+    let n1 = put_bytes(out, 0, b"carrier ");
+    let n2 = put_number(out, n1, carrier);
+    let n3 = put_bytes(out, n2, b" has ");
     if kind == 19 {
-        return put_bytes(out, c, b"no start");
+        return put_bytes(out, n3, b"no start");
     }
     if kind == 21 {
-        return put_bytes(out, c, b"no dock");
+        return put_bytes(out, n3, b"no dock");
     }
-    let d = put_number(out, c, n);
+    let n4 = put_number(out, n3, n);
     if kind == 20 {
-        return put_bytes(out, d, b" starts");
+        return put_bytes(out, n4, b" starts");
     }
-    put_bytes(out, d, b" docks")
+    put_bytes(out, n4, b" docks")
 }
 
 // Puts what is wrong, without a newline; the length is returned.
 fn put_problem(x: Problem, out: &mut [u8]) -> usize
     requires { ⌜ 160 ≤ length (now out) ⌝ }
-    ensures { λ r. ⌜ r ≤ 150 ⌝ }
+    ensures { λ result. ⌜ result ≤ 150 ⌝ }
 {
     let kind = x.kind;
     match kind {
@@ -172,7 +172,7 @@ fn put_problem(x: Problem, out: &mut [u8]) -> usize
 
 // Puts what is wrong with a map in front of a memory, as a line; its length is returned.
 pub fn put_words(x: Problem, out: &mut [u8; WORDS]) -> usize
-    ensures { λ r. ⌜ Counts r (now (out .exit)) ⌝ }
+    ensures { λ result. ⌜ Counts result (now (out .exit)) ⌝ }
 {
     let n = put_problem(x, out);
     out[n] = 10;

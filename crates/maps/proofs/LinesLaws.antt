@@ -40,17 +40,17 @@ module _ (line : ℕ → List ℕ) (w : ℕ) (short : (i : ℕ) → length (line
     unfolding linesOf
     lines-more next new p l = rw add-one (put-behind e p (omega (arith, p .behind, short k, lines-low)))
 
-    pub lines-end : (m : ℕ) → k ≤ m → m ≤ k → PutAt (linesOf line m) old at mid n
-    lines-end m a b =
-        let same : k ≡ m = omega arith in
+    pub lines-end : (p : ℕ) → k ≤ p → p ≤ k → PutAt (linesOf line p) old at mid n
+    lines-end p a b =
+        let same : k ≡ p = omega arith in
         rw same at e
 
 -- The first byte of a text in front of a memory.
 pub first-byte : {text old new : List ℕ} {n : ℕ} → PutAt text old 0 new n → n ≡ 1 → getD new 0 0 ≡ getD text 0 0
 unfolding put
-first-byte {text} {old} {new} p e = ap (λ (l : List ℕ). getD l 0 0) (p .bytes) ∙ go text (omega (arith, p .behind))
+first-byte {text} {old} {new} p e = ap (λ (xs : List ℕ). getD xs 0 0) (p .bytes) ∙ go text (omega (arith, p .behind))
   where
-    go : (t : List ℕ) → 0 < length t → getD (put old 0 t) 0 0 ≡ getD t 0 0
+    go : (ys : List ℕ) → 0 < length ys → getD (put old 0 ys) 0 0 ≡ getD ys 0 0
     go [] l = absurd (omega arith)
     go (x ∷ xs) l = refl
 
@@ -60,9 +60,9 @@ unfolding put
 whole-put {text} {old} p e =
     p .bytes
     ∙ ap (λ (k : ℕ). text ++ drop k old) (zero-add (length text) ∙ e)
-    ∙ ap (λ (l : List ℕ). text ++ l) (drop-length old)
+    ∙ ap (λ (xs : List ℕ). text ++ xs) (drop-length old)
     ∙ append-nil text
 
 -- One byte that is another by an equation.
-pub byte-put : {r m : ℕ} {old new : List ℕ} {at n : ℕ} → r ≡ m → PutAt (r ∷ []) old at new n → PutAt (m ∷ []) old at new n
+pub byte-put : {byte byte′ : ℕ} {old new : List ℕ} {at n : ℕ} → byte ≡ byte′ → PutAt (byte ∷ []) old at new n → PutAt (byte′ ∷ []) old at new n
 byte-put e p = rw (← e) p

@@ -28,9 +28,9 @@ use Rattle.maps.proofs.MarkLaws.{cond-there, cond-away, cond-short, mar
 
 -- A row and the grid.
 module _ (marks : List ℕ) (w : ℕ) where
-  pub row-short : w ≤ 32 → (r : ℕ) → length (rowOf marks w r) ≤ 33
+  pub row-short : w ≤ 32 → (row : ℕ) → length (rowOf marks w row) ≤ 33
   unfolding rowOf part
-  row-short l r = omega (arith, length-append (part marks (r * w) w) (10 ∷ []), length-take w (drop (r * w) marks))
+  row-short l row = omega (arith, length-append (part marks (row * w) w) (10 ∷ []), length-take w (drop (row * w) marks))
 
   pub grid-short : w ≤ 32 → (h : ℕ) → h ≤ 32 → length (gridOf marks w h) ≤ 1056
   unfolding gridOf
@@ -44,9 +44,9 @@ row-put marks base w k at a n old m₁ new p e q l h =
     rw (← e) (put-behind p q (omega (arith, p .behind, q .behind, length-take k (drop base marks))))
 
 -- The cells of a row lie among 1,024.
-pub row-cells : (r w h : ℕ) → w ≤ 32 → h ≤ 32 → r < h → r * w + w ≤ 1024
-row-cells r w h l k b =
-    let low : r ≤ 31 = omega arith in
+pub row-cells : (n w h : ℕ) → w ≤ 32 → h ≤ 32 → n < h → n * w + w ≤ 1024
+row-cells n w h l k b =
+    let low : n ≤ 31 = omega arith in
     omega (arith, mul-le-mul low l)
 
 -- The marks of 1,024 cells are 1,024 bytes.
@@ -59,17 +59,17 @@ marks-length mark n = go n
     go (suc k) = length-append (linesOf (λ (c : ℕ). mark c ∷ []) k) (mark k ∷ []) ∙ omega (arith, go k)
 
 -- Line 1: five texts, one behind the other.
-pub head-put : (f : Floor) (at a b c d n : ℕ) (old m₁ m₂ m₃ m₄ new : List ℕ) → PutAt horizonWords old at m₁ a →
-    PutAt (shortDecimal (f .horizon)) m₁ a m₂ b → PutAt depthWords m₂ b m₃ c → PutAt (shortDecimal (f .depth)) m₃ c m₄ d →
-    PutAt (10 ∷ []) m₄ d new n → at + 20 ≤ length old → PutAt (mapHead f) old at new n
+pub head-put : (f : Floor) (at n₁ n₂ n₃ n₄ n : ℕ) (old m₁ m₂ m₃ m₄ new : List ℕ) → PutAt horizonWords old at m₁ n₁ →
+    PutAt (shortDecimal (f .horizon)) m₁ n₁ m₂ n₂ → PutAt depthWords m₂ n₂ m₃ n₃ → PutAt (shortDecimal (f .depth)) m₃ n₃ m₄ n₄ →
+    PutAt (10 ∷ []) m₄ n₄ new n → at + 20 ≤ length old → PutAt (mapHead f) old at new n
 unfolding mapHead horizonWords depthWords
-head-put f at a b c d n old m₁ m₂ m₃ m₄ new p q r s t l =
+head-put f at n₁ n₂ n₃ n₄ n old m₁ m₂ m₃ m₄ new p q r s t l =
     let h = short-within (f .horizon) in
     let e = short-within (f .depth) in
-    let one : PutAt (horizonWords ++ shortDecimal (f .horizon)) old at m₂ b = put-behind p q (omega (arith, p .behind, q .behind)) in
-    let two : PutAt ((horizonWords ++ shortDecimal (f .horizon)) ++ depthWords) old at m₃ c =
+    let one : PutAt (horizonWords ++ shortDecimal (f .horizon)) old at m₂ n₂ = put-behind p q (omega (arith, p .behind, q .behind)) in
+    let two : PutAt ((horizonWords ++ shortDecimal (f .horizon)) ++ depthWords) old at m₃ n₃ =
     put-behind one r (omega (arith, p .behind, q .behind, r .behind)) in
-    let three : PutAt (((horizonWords ++ shortDecimal (f .horizon)) ++ depthWords) ++ shortDecimal (f .depth)) old at m₄ d =
+    let three : PutAt (((horizonWords ++ shortDecimal (f .horizon)) ++ depthWords) ++ shortDecimal (f .depth)) old at m₄ n₄ =
     put-behind two s (omega (arith, p .behind, q .behind, r .behind, s .behind)) in
     put-behind three t (omega (arith, p .behind, q .behind, r .behind, s .behind, t .behind))
 
@@ -100,11 +100,11 @@ pub letter-short : (f : Floor) → f .carriers ≤ 8 → (c : ℕ) → length (l
 unfolding letterLine
 letter-short f few c = cond-short (ltb 1 (length (marksOf f c))) _ 19 (letter-text-short f c few)
 
-pub letter-put : (f : Floor) (c at a b n : ℕ) (old m₁ m₂ new : List ℕ) → f .carriers ≤ 8 → ltb 1 (length (marksOf f c)) ≡ true →
-    PutAt (letterOf f c ∷ 32 ∷ []) old at m₁ a → PutAt (marksOf f c) m₁ a m₂ b → PutAt (10 ∷ []) m₂ b new n → at + 19 ≤ length old →
+pub letter-put : (f : Floor) (c at n₁ n₂ n : ℕ) (old m₁ m₂ new : List ℕ) → f .carriers ≤ 8 → ltb 1 (length (marksOf f c)) ≡ true →
+    PutAt (letterOf f c ∷ 32 ∷ []) old at m₁ n₁ → PutAt (marksOf f c) m₁ n₁ m₂ n₂ → PutAt (10 ∷ []) m₂ n₂ new n → at + 19 ≤ length old →
     PutAt (letterLine f c) old at new n
 unfolding letterLine
-letter-put f c at a b n old m₁ m₂ new few e p q r l =
+letter-put f c at n₁ n₂ n old m₁ m₂ new few e p q r l =
     let short = marks-short f c few in
     cond-there _ _ _ _ _ _ e
     (put-behind (put-behind p q (omega (arith, p .behind, q .behind))) r (omega (arith, p .behind, q .behind, r .behind)))
@@ -152,10 +152,10 @@ module _ (f : Floor) (ws : List ℕ) (ok : checkOf f ws ≡ passed) where
       )
 
   -- The map: three texts, one behind the other.
-  pub map-put : (at a b n : ℕ) (old m₁ m₂ new : List ℕ) → PutAt (mapHead f) old at m₁ a → PutAt (mapRows f ws) m₁ a m₂ b →
-      PutAt (linesOf (letterLine f) (f .width * f .height)) m₂ b new n → at + 20532 ≤ length old → PutAt (mapOf f ws) old at new n
+  pub map-put : (at n₁ n₂ n : ℕ) (old m₁ m₂ new : List ℕ) → PutAt (mapHead f) old at m₁ n₁ → PutAt (mapRows f ws) m₁ n₁ m₂ n₂ →
+      PutAt (linesOf (letterLine f) (f .width * f .height)) m₂ n₂ new n → at + 20532 ≤ length old → PutAt (mapOf f ws) old at new n
   unfolding mapOf
-  map-put at a b n old m₁ m₂ new p q r l =
+  map-put at n₁ n₂ n old m₁ m₂ new p q r l =
       let h = head-short f in
       let g = rows-short in
       let k = letters-short in

@@ -17,13 +17,13 @@ use Rattle.maps.specs.Map.{startMark, dockMark, startMarks, dockMarks, m
 use Rattle.maps.proofs.LinesLaws.{nothing-put, first-byte}
 
 -- A text that is there by a test, or nothing.
-pub cond-there : (b : Bool) (text old new : List ℕ) (at n : ℕ) → b ≡ true → PutAt text old at new n → PutAt (cond b text []) old at new n
-cond-there b text old new at n e p = rw e p
+pub cond-there : (x : Bool) (text old new : List ℕ) (at n : ℕ) → x ≡ true → PutAt text old at new n → PutAt (cond x text []) old at new n
+cond-there x text old new at n e p = rw e p
 
-pub cond-away : (b : Bool) (text old : List ℕ) (at : ℕ) → b ≡ false → PutAt (cond b text []) old at old at
-cond-away b text old at e = rw e (nothing-put old at)
+pub cond-away : (x : Bool) (text old : List ℕ) (at : ℕ) → x ≡ false → PutAt (cond x text []) old at old at
+cond-away x text old at e = rw e (nothing-put old at)
 
-pub cond-short : (b : Bool) (text : List ℕ) (w : ℕ) → length text ≤ w → length (cond b text []) ≤ w
+pub cond-short : (x : Bool) (text : List ℕ) (w : ℕ) → length text ≤ w → length (cond x text []) ≤ w
 cond-short true text w l = l
 cond-short false text w l = omega arith
 
@@ -49,20 +49,20 @@ module _ (f : Floor) (c : ℕ) (few : f .carriers ≤ 8) where
   marks-short = omega (arith, length-append (startMarks f c) (dockMarks f c), starts-short, docks-short)
 
 -- One mark for marks that were put in front of a memory, by their number.
-module _ (ms : List ℕ) (none several : ℕ) {old new : List ℕ} {n : ℕ} (p : PutAt ms old 0 new n) where
-  pub one-none : n ≡ 0 → oneOf ms none several ≡ none
+module _ (xs : List ℕ) (none several : ℕ) {old new : List ℕ} {n : ℕ} (p : PutAt xs old 0 new n) where
+  pub one-none : n ≡ 0 → oneOf xs none several ≡ none
   unfolding oneOf
-  one-none e = rw (eq-eqb (length ms) 0 (omega (arith, p .behind)))
+  one-none e = rw (eq-eqb (length xs) 0 (omega (arith, p .behind)))
 
-  pub one-only : (n ≡ 0 → ⊥) → n ≡ 1 → oneOf ms none several ≡ getD new 0 0
+  pub one-only : (n ≡ 0 → ⊥) → n ≡ 1 → oneOf xs none several ≡ getD new 0 0
   unfolding oneOf
   one-only z e =
-      rw (ne-eqb (length ms) 0 (λ h. z (omega (arith, p .behind))), eq-eqb (length ms) 1 (omega (arith, p .behind))) (sym (first-byte p e))
+      rw (ne-eqb (length xs) 0 (λ h. z (omega (arith, p .behind))), eq-eqb (length xs) 1 (omega (arith, p .behind))) (sym (first-byte p e))
 
-  pub one-several : (n ≡ 0 → ⊥) → (n ≡ 1 → ⊥) → oneOf ms none several ≡ several
+  pub one-several : (n ≡ 0 → ⊥) → (n ≡ 1 → ⊥) → oneOf xs none several ≡ several
   unfolding oneOf
   one-several z e =
-      rw (ne-eqb (length ms) 0 (λ h. z (omega (arith, p .behind))), ne-eqb (length ms) 1 (λ h. e (omega (arith, p .behind))))
+      rw (ne-eqb (length xs) 0 (λ h. z (omega (arith, p .behind))), ne-eqb (length xs) 1 (λ h. e (omega (arith, p .behind))))
 
 -- The loop that counts the cells that are more than one thing: one more that is, one more that is not, and the letter after the last.
 module _ (f : Floor) where
@@ -90,6 +90,6 @@ module _ (f : Floor) (ws : List ℕ) (c : ℕ) where
   unfolding mapMark
   mark-wall e = rw e
 
-  pub mark-else : (m : ℕ) → among ws (f .walls) c ≡ false → oneOf (marksOf f c) 46 (letterOf f c) ≡ m → m ≡ mapMark f ws c
+  pub mark-else : (k : ℕ) → among ws (f .walls) c ≡ false → oneOf (marksOf f c) 46 (letterOf f c) ≡ k → k ≡ mapMark f ws c
   unfolding mapMark
-  mark-else m e h = rw e (sym h)
+  mark-else k e h = rw e (sym h)

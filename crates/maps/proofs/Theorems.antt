@@ -17,19 +17,19 @@ use Rattle.maps.specs.Map.{startMark, dockMark, startMarks, dockMarks, m
 use Rattle.maps.specs.Claims.{Claims}
 use Rattle.maps.proofs.MapLaws.{markable}
 
--- The sum of g 0 to g (n − 1).
+-- The sum of φ 0 to φ (n − 1).
 unfoldable sumOf : (ℕ → ℕ) → ℕ → ℕ
-sumOf g zero = 0
-sumOf g (suc n) = sumOf g n + g n
+sumOf φ zero = 0
+sumOf φ (suc n) = sumOf φ n + φ n
 
-sum-both : (g h k : ℕ → ℕ) (n : ℕ) → ((c : ℕ) → k c ≤ g c + h c) → sumOf k n ≤ sumOf g n + sumOf h n
+sum-both : (φ ψ χ : ℕ → ℕ) (n : ℕ) → ((c : ℕ) → χ c ≤ φ c + ψ c) → sumOf χ n ≤ sumOf φ n + sumOf ψ n
 unfolding sumOf
-sum-both g h k zero l = omega arith
-sum-both g h k (suc n) l = omega (arith, sum-both g h k n l, l n)
+sum-both φ ψ χ zero l = omega arith
+sum-both φ ψ χ (suc n) l = omega (arith, sum-both φ ψ χ n l, l n)
 
 -- A mark that is there by a test.
 unfoldable marked : Bool → ℕ
-marked b = cond b 1 0
+marked x = cond x 1 0
 
 -- One cell is x.
 one-cell : (x n : ℕ) → (sumOf (λ (c : ℕ). marked (eqb x c)) n ≤ 1) × (n ≤ x → sumOf (λ (c : ℕ). marked (eqb x c)) n ≡ 0)
@@ -37,7 +37,7 @@ unfolding sumOf marked
 one-cell x zero = (omega arith, λ l. refl)
 one-cell x (suc n) = go (eqb x n) refl (one-cell x n)
   where
-    go : (b : Bool) → eqb x n ≡ b →
+    go : (y : Bool) → eqb x n ≡ y →
         (sumOf (λ (c : ℕ). marked (eqb x c)) n ≤ 1) × (n ≤ x → sumOf (λ (c : ℕ). marked (eqb x c)) n ≡ 0) →
         (sumOf (λ (c : ℕ). marked (eqb x c)) n + marked (eqb x n) ≤ 1)
         × (suc n ≤ x → sumOf (λ (c : ℕ). marked (eqb x c)) n + marked (eqb x n) ≡ 0)
@@ -46,31 +46,31 @@ one-cell x (suc n) = go (eqb x n) refl (one-cell x n)
         (rw e (omega (arith, ih .1 (omega arith))), λ l. absurd (omega arith))
     go false e ih = (rw e (omega (arith, ih .0)), λ l. rw e (omega (arith, ih .1 (omega arith))))
 
--- At most m cells are among m numbers.
-either : (a b : Bool) → marked (a || b) ≤ marked a + marked b
+-- At most k cells are among k numbers.
+either : (x y : Bool) → marked (x || y) ≤ marked x + marked y
 unfolding marked
-either true b = omega arith
-either false b = omega arith
+either true y = omega arith
+either false y = omega arith
 
 none-marked : (n : ℕ) → sumOf (λ (c : ℕ). marked false) n ≡ 0
 unfolding sumOf marked
 none-marked zero = refl
 none-marked (suc n) = omega (arith, none-marked n)
 
-among-cells : (xs : List ℕ) (m n : ℕ) → sumOf (λ (c : ℕ). marked (among xs m c)) n ≤ m
+among-cells : (xs : List ℕ) (k n : ℕ) → sumOf (λ (c : ℕ). marked (among xs k c)) n ≤ k
 unfolding among
 among-cells xs zero n = omega (arith, none-marked n)
-among-cells xs (suc m) n =
+among-cells xs (suc k) n =
     omega (
       arith,
-      sum-both (λ (c : ℕ). marked (among xs m c)) (λ (c : ℕ). marked (eqb (getD xs m 0) c))
-          (λ (c : ℕ). marked (among xs m c || eqb (getD xs m 0) c)) n (λ c. either (among xs m c) (eqb (getD xs m 0) c)),
-      among-cells xs m n,
-      one-cell (getD xs m 0) n .0,
+      sum-both (λ (c : ℕ). marked (among xs k c)) (λ (c : ℕ). marked (eqb (getD xs k 0) c))
+          (λ (c : ℕ). marked (among xs k c || eqb (getD xs k 0) c)) n (λ c. either (among xs k c) (eqb (getD xs k 0) c)),
+      among-cells xs k n,
+      one-cell (getD xs k 0) n .0,
     )
 
 -- The marks of the first k carriers, over the first n cells: at most one start each, and at most four docks.
-same-marked : (b : Bool) (x : ℕ) → length (cond b (x ∷ []) []) ≤ marked b
+same-marked : (y : Bool) (x : ℕ) → length (cond y (x ∷ []) []) ≤ marked y
 unfolding marked
 same-marked true x = omega arith
 same-marked false x = omega arith
@@ -113,8 +113,8 @@ unfolding sumOf sharedBelow
 two-each f zero = omega arith
 two-each f (suc n) = go (ltb 1 (length (marksOf f n))) refl (two-each f n)
   where
-    go : (b : Bool) → ltb 1 (length (marksOf f n)) ≡ b → 2 * sharedBelow f n ≤ sumOf (λ (c : ℕ). length (marksOf f c)) n →
-        2 * cond b (suc (sharedBelow f n)) (sharedBelow f n) ≤ sumOf (λ (c : ℕ). length (marksOf f c)) n + length (marksOf f n)
+    go : (x : Bool) → ltb 1 (length (marksOf f n)) ≡ x → 2 * sharedBelow f n ≤ sumOf (λ (c : ℕ). length (marksOf f c)) n →
+        2 * cond x (suc (sharedBelow f n)) (sharedBelow f n) ≤ sumOf (λ (c : ℕ). length (marksOf f c)) n + length (marksOf f n)
     go true e ih = omega (arith, ih, ltb-true 1 (length (marksOf f n)) e)
     go false e ih = omega (arith, ih)
 

@@ -9,15 +9,15 @@ use Rattle.sheet.specs.Text.{linesOf}
 
 -- One mark for a list of marks: the only one of it, or a mark for none, or one for several.
 unfoldable pub oneOf : List ℕ → (none several : ℕ) → ℕ
-oneOf ms none several = cond (eqb (length ms) 0) none (cond (eqb (length ms) 1) (getD ms 0 0) several)
+oneOf xs none several = cond (eqb (length xs) 0) none (cond (eqb (length xs) 1) (getD xs 0 0) several)
 
 -- The marks of the cells 0 to n − 1, one behind the other.
 unfoldable pub marksText : (ℕ → ℕ) → ℕ → List ℕ
 marksText mark n = linesOf (λ c. mark c ∷ []) n
 
--- Row r of a grid of width w: the marks of its cells, and one newline.
-unfoldable pub rowOf : List ℕ → (w r : ℕ) → List ℕ
-rowOf marks w r = part marks (r * w) w ++ (10 ∷ [])
+-- A row of a grid of width w: the marks of its cells, and one newline.
+unfoldable pub rowOf : List ℕ → (w row : ℕ) → List ℕ
+rowOf marks w row = part marks (row * w) w ++ (10 ∷ [])
 
 -- The grid: a line a row.
 unfoldable pub gridOf : List ℕ → (w h : ℕ) → List ℕ

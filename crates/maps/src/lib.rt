@@ -29,7 +29,7 @@ pub const MAP_ROOM: usize = 20532;
 
 // Room for a mark a cell.
 pub fn no_marks() -> [u8; CELLS]
-    ensures { λ r. ⌜ 1024 ≡ length r ⌝ }
+    ensures { λ result. ⌜ 1024 ≡ length result ⌝ }
 {
     [0; CELLS]
 }
@@ -37,7 +37,7 @@ pub fn no_marks() -> [u8; CELLS]
 // Puts the marks of all cells of a map.
 fn put_cells(f: Floor, walls: &[u16], out: &mut [u8]) -> usize
     requires { ⌜ Markable f × (f .walls ≤ length (now walls)) × (1024 ≤ length (now out)) ⌝ }
-    ensures { λ r. ⌜ PutAt (marksText (mapMark f (now (walls .entry))) 1024) (now (out .entry)) 0 (now (out .exit)) r ⌝ }
+    ensures { λ result. ⌜ PutAt (marksText (mapMark f (now (walls .entry))) 1024) (now (out .entry)) 0 (now (out .exit)) result ⌝ }
 {
     let mut at: usize = 0;
     let mut c: u16 = 0;
@@ -51,19 +51,19 @@ fn put_cells(f: Floor, walls: &[u16], out: &mut [u8]) -> usize
 // Puts line 1; the column behind it is returned.
 fn put_head(f: Floor, out: &mut [u8], at: usize) -> usize
     requires { ⌜ (f .horizon < 100) × (f .depth < 100) × (at + 20 ≤ length (now out)) ⌝ }
-    ensures { λ r. ⌜ PutAt (mapHead f) (now (out .entry)) at (now (out .exit)) r ⌝ }
+    ensures { λ result. ⌜ PutAt (mapHead f) (now (out .entry)) at (now (out .exit)) result ⌝ }
 {
-    let a = put_bytes(out, at, b"horizon ");
-    let b = put_short_decimal(out, a, f.horizon as usize);
-    let c = put_bytes(out, b, b" depth ");
-    let d = put_short_decimal(out, c, f.depth as usize);
-    put_bytes(out, d, b"\n")
+    let n1 = put_bytes(out, at, b"horizon ");
+    let n2 = put_short_decimal(out, n1, f.horizon as usize);
+    let n3 = put_bytes(out, n2, b" depth ");
+    let n4 = put_short_decimal(out, n3, f.depth as usize);
+    put_bytes(out, n4, b"\n")
 }
 
 // Puts the rows of a map; the column behind them is returned.
 fn put_rows(f: Floor, walls: &[u16], out: &mut [u8], at: usize) -> usize
     requires { ⌜ (checkOf f (now walls) ≡ passed) × (at + 1056 ≤ length (now out)) ⌝ }
-    ensures { λ r. ⌜ PutAt (mapRows f (now (walls .entry))) (now (out .entry)) at (now (out .exit)) r ⌝ }
+    ensures { λ result. ⌜ PutAt (mapRows f (now (walls .entry))) (now (out .entry)) at (now (out .exit)) result ⌝ }
 {
     let mut cells = no_marks();
     put_cells(f, walls, &mut cells);
@@ -73,20 +73,20 @@ fn put_rows(f: Floor, walls: &[u16], out: &mut [u8], at: usize) -> usize
 // Puts the line of cell c if it is more than one thing; the column behind it is returned.
 fn put_letter(f: Floor, c: u16, out: &mut [u8], at: usize) -> usize
     requires { ⌜ Markable f × (c ≤ 1024) × (at + 19 ≤ length (now out)) ⌝ }
-    ensures { λ r. ⌜ PutAt (letterLine f c) (now (out .entry)) at (now (out .exit)) r ⌝ }
+    ensures { λ result. ⌜ PutAt (letterLine f c) (now (out .entry)) at (now (out .exit)) result ⌝ }
 {
     if !marks::is_shared(f, c) {
         return at;
     }
-    let a = put_bytes(out, at, &[marks::letter_of(f, c), 32]);
-    let b = marks::put_marks(f, c, out, a);
-    put_bytes(out, b, b"\n")
+    let n1 = put_bytes(out, at, &[marks::letter_of(f, c), 32]);
+    let n2 = marks::put_marks(f, c, out, n1);
+    put_bytes(out, n2, b"\n")
 }
 
 // Puts the lines of the first n cells; the column behind them is returned.
 fn put_letters(f: Floor, n: u16, out: &mut [u8], at: usize) -> usize
     requires { ⌜ Markable f × (n ≤ 1024) × (at + 19456 ≤ length (now out)) ⌝ }
-    ensures { λ r. ⌜ PutAt (linesOf (letterLine f) n) (now (out .entry)) at (now (out .exit)) r ⌝ }
+    ensures { λ result. ⌜ PutAt (linesOf (letterLine f) n) (now (out .entry)) at (now (out .exit)) result ⌝ }
 {
     let mut end = at;
     let mut c: u16 = 0;
@@ -100,9 +100,9 @@ fn put_letters(f: Floor, n: u16, out: &mut [u8], at: usize) -> usize
 // Puts the map of a checked floor; the column behind it is returned.
 pub fn put_map(f: Floor, walls: &[u16], out: &mut [u8], at: usize) -> usize
     requires { ⌜ (checkOf f (now walls) ≡ passed) × (at + 20532 ≤ length (now out)) ⌝ }
-    ensures { λ r. ⌜ PutAt (mapOf f (now (walls .entry))) (now (out .entry)) at (now (out .exit)) r ⌝ }
+    ensures { λ result. ⌜ PutAt (mapOf f (now (walls .entry))) (now (out .entry)) at (now (out .exit)) result ⌝ }
 {
-    let a = put_head(f, out, at);
-    let b = put_rows(f, walls, out, a);
-    put_letters(f, f.width * f.height, out, b)
+    let n1 = put_head(f, out, at);
+    let n2 = put_rows(f, walls, out, n1);
+    put_letters(f, f.width * f.height, out, n2)
 }

@@ -10,13 +10,13 @@ ghost use Rattle.maps.specs.Map.{startMark, dockMark, startMarks, dockMa
 use floor::Floor;
 use reporting::put_bytes;
 
-// Whether c is one of the first m numbers.
-pub fn is_among(xs: &[u16], m: usize, c: u16) -> bool
-    requires { ⌜ m ≤ length (now xs) ⌝ }
-    ensures { λ r. ⌜ r ≡ among (now (xs .entry)) m c ⌝ }
+// Whether c is one of the first k numbers.
+pub fn is_among(xs: &[u16], k: usize, c: u16) -> bool
+    requires { ⌜ k ≤ length (now xs) ⌝ }
+    ensures { λ result. ⌜ result ≡ among (now (xs .entry)) k c ⌝ }
 {
     let mut i: usize = 0;
-    while i < m {
+    while i < k {
         if xs[i] == c {
             return true;
         }
@@ -28,7 +28,7 @@ pub fn is_among(xs: &[u16], m: usize, c: u16) -> bool
 // Puts the digit of the carrier with i above it if it starts in cell c; the column behind it is returned.
 fn put_start(f: Floor, i: usize, c: u16, out: &mut [u8], at: usize) -> usize
     requires { ⌜ (i < 8) × (at + 1 ≤ length (now out)) ⌝ }
-    ensures { λ r. ⌜ PutAt (startMark f c i) (now (out .entry)) at (now (out .exit)) r ⌝ }
+    ensures { λ result. ⌜ PutAt (startMark f c i) (now (out .entry)) at (now (out .exit)) result ⌝ }
 {
     if f.starts[i] == c {
         return put_bytes(out, at, &[49 + i as u8]);
@@ -39,7 +39,7 @@ fn put_start(f: Floor, i: usize, c: u16, out: &mut [u8], at: usize) -> usize
 // Puts the digits of the carriers that start in cell c; the column behind them is returned.
 pub fn put_starts(f: Floor, c: u16, out: &mut [u8], at: usize) -> usize
     requires { ⌜ (f .carriers ≤ 8) × (at + 8 ≤ length (now out)) ⌝ }
-    ensures { λ r. ⌜ PutAt (startMarks f c) (now (out .entry)) at (now (out .exit)) r ⌝ }
+    ensures { λ result. ⌜ PutAt (startMarks f c) (now (out .entry)) at (now (out .exit)) result ⌝ }
 {
     let n = f.carriers as usize;
     let mut end = at;
@@ -54,17 +54,17 @@ pub fn put_starts(f: Floor, c: u16, out: &mut [u8], at: usize) -> usize
 // Whether cell c is a dock of the carrier with i above it.
 fn is_dock(f: Floor, i: usize, c: u16) -> bool
     requires { ⌜ Markable f × (i < f .carriers) ⌝ }
-    ensures { λ r. ⌜ r ≡ isDock f i c ⌝ }
+    ensures { λ result. ⌜ result ≡ isDock f i c ⌝ }
 {
     let docks = floor::docks_of(f, i);
-    let m = f.counts[i] as usize;
-    is_among(&docks, m, c)
+    let n = f.counts[i] as usize;
+    is_among(&docks, n, c)
 }
 
 // Puts the letter of the carrier with i above it if cell c is one of its docks; the column behind it is returned.
 fn put_dock(f: Floor, i: usize, c: u16, out: &mut [u8], at: usize) -> usize
     requires { ⌜ Markable f × (i < f .carriers) × (at + 1 ≤ length (now out)) ⌝ }
-    ensures { λ r. ⌜ PutAt (dockMark f c i) (now (out .entry)) at (now (out .exit)) r ⌝ }
+    ensures { λ result. ⌜ PutAt (dockMark f c i) (now (out .entry)) at (now (out .exit)) result ⌝ }
 {
     if is_dock(f, i, c) {
         return put_bytes(out, at, &[97 + i as u8]);
@@ -75,7 +75,7 @@ fn put_dock(f: Floor, i: usize, c: u16, out: &mut [u8], at: usize) -> usize
 // Puts the letters of the carriers that have a dock in cell c; the column behind them is returned.
 pub fn put_docks(f: Floor, c: u16, out: &mut [u8], at: usize) -> usize
     requires { ⌜ Markable f × (at + 8 ≤ length (now out)) ⌝ }
-    ensures { λ r. ⌜ PutAt (dockMarks f c) (now (out .entry)) at (now (out .exit)) r ⌝ }
+    ensures { λ result. ⌜ PutAt (dockMarks f c) (now (out .entry)) at (now (out .exit)) result ⌝ }
 {
     let n = f.carriers as usize;
     let mut end = at;
@@ -90,7 +90,7 @@ pub fn put_docks(f: Floor, c: u16, out: &mut [u8], at: usize) -> usize
 // Puts all that cell c is; the column behind it is returned.
 pub fn put_marks(f: Floor, c: u16, out: &mut [u8], at: usize) -> usize
     requires { ⌜ Markable f × (at + 16 ≤ length (now out)) ⌝ }
-    ensures { λ r. ⌜ PutAt (marksOf f c) (now (out .entry)) at (now (out .exit)) r ⌝ }
+    ensures { λ result. ⌜ PutAt (marksOf f c) (now (out .entry)) at (now (out .exit)) result ⌝ }
 {
     let end = put_starts(f, c, out, at);
     put_docks(f, c, out, end)
@@ -99,7 +99,7 @@ pub fn put_marks(f: Floor, c: u16, out: &mut [u8], at: usize) -> usize
 // Whether cell c is more than one thing.
 pub fn is_shared(f: Floor, c: u16) -> bool
     requires { ⌜ Markable f ⌝ }
-    ensures { λ r. ⌜ r ≡ ltb 1 (length (marksOf f c)) ⌝ }
+    ensures { λ result. ⌜ result ≡ ltb 1 (length (marksOf f c)) ⌝ }
 {
     let mut marks = [0u8; 16];
     1 < put_marks(f, c, &mut marks, 0)
@@ -108,7 +108,7 @@ pub fn is_shared(f: Floor, c: u16) -> bool
 // The capital letter of cell c.
 pub fn letter_of(f: Floor, c: u16) -> u8
     requires { ⌜ Markable f × (c ≤ 1024) ⌝ }
-    ensures { λ r. ⌜ r ≡ letterOf f c ⌝ }
+    ensures { λ result. ⌜ result ≡ letterOf f c ⌝ }
 {
     let mut shared: u16 = 0;
     let mut d: u16 = 0;
@@ -124,7 +124,7 @@ pub fn letter_of(f: Floor, c: u16) -> u8
 // The mark of cell c on a map.
 pub fn map_mark(f: Floor, walls: &[u16], c: u16) -> u8
     requires { ⌜ Markable f × (f .walls ≤ length (now walls)) × (c ≤ 1024) ⌝ }
-    ensures { λ r. ⌜ r ≡ mapMark f (now (walls .entry)) c ⌝ }
+    ensures { λ result. ⌜ result ≡ mapMark f (now (walls .entry)) c ⌝ }
 {
     if is_among(walls, f.walls as usize, c) {
         return 35;

@@ -10,7 +10,7 @@ use reporting::put_bytes;
 // Puts the marks of the w cells from a base on, and a newline; the column behind it is returned.
 fn put_row(marks: &[u8], base: usize, w: usize, out: &mut [u8], at: usize) -> usize
     requires { ⌜ (w ≤ 32) × (base + w ≤ length (now marks)) × (at + 33 ≤ length (now out)) ⌝ }
-    ensures { λ r. ⌜ PutAt (part (now (marks .entry)) base w ++ (10 ∷ [])) (now (out .entry)) at (now (out .exit)) r ⌝ }
+    ensures { λ result. ⌜ PutAt (part (now (marks .entry)) base w ++ (10 ∷ [])) (now (out .entry)) at (now (out .exit)) result ⌝ }
 {
     let end = put_bytes(out, at, &marks[base..base + w]);
     put_bytes(out, end, b"\n")
@@ -19,13 +19,13 @@ fn put_row(marks: &[u8], base: usize, w: usize, out: &mut [u8], at: usize) -> us
 // Puts a grid of at most 32 by 32 marks, a line a row; the column behind it is returned.
 pub fn put_grid(marks: &[u8], w: usize, h: usize, out: &mut [u8], at: usize) -> usize
     requires { ⌜ (w ≤ 32) × (h ≤ 32) × (1024 ≤ length (now marks)) × (at + 1056 ≤ length (now out)) ⌝ }
-    ensures { λ r. ⌜ PutAt (gridOf (now (marks .entry)) w h) (now (out .entry)) at (now (out .exit)) r ⌝ }
+    ensures { λ row. ⌜ PutAt (gridOf (now (marks .entry)) w h) (now (out .entry)) at (now (out .exit)) row ⌝ }
 {
     let mut end = at;
-    let mut r: usize = 0;
-    while r < h {
-        end = put_row(marks, r * w, w, out, end);
-        r += 1;
+    let mut row: usize = 0;
+    while row < h {
+        end = put_row(marks, row * w, w, out, end);
+        row += 1;
     }
     end
 }

@@ -109,16 +109,16 @@ pub drawn-put : (f : Floor) (ws places old new : List ℕ) (n : ℕ) → new ≡
 drawn-put f ws places old new n e s = record { bytes = e; size = s ∙ sym (drawn-length f ws places) }
 
 -- The beat of a first conflict is at most 63.
-conflict-low : (H : ℕ) (a b : List ℕ) (t : ℕ) (k : ConflictKind) → ConflictAt (min H 63) a b t k → t ≤ 63
+conflict-low : (H : ℕ) (r q : List ℕ) (t : ℕ) (kind : ConflictKind) → ConflictAt (min H 63) r q t kind → t ≤ 63
 unfolding ConflictAt
-conflict-low H a b t sameCell c = omega (arith, c .0)
-conflict-low H a b t changeOfPlaces c = omega (arith, c .0)
-conflict-low H a b t following c = omega (arith, c .0)
+conflict-low H r q t sameCell c = omega (arith, c .0)
+conflict-low H r q t changeOfPlaces c = omega (arith, c .0)
+conflict-low H r q t following c = omega (arith, c .0)
 
-pub found-early : (H : ℕ) (a b : List ℕ) (x : ConflictAnswer) → x ≡ firstConflict (min H 63) a b → Early x
+pub found-early : (H : ℕ) (r q : List ℕ) (x : ConflictAnswer) → x ≡ firstConflict (min H 63) r q → Early x
 unfolding Early
-found-early H a b free e = tt
-found-early H a b (dated t k) e = conflict-low H a b t k (route-theorems .conflict-test (min H 63) a b .first-exactly t k .0 (sym e) .there)
+found-early H r q free e = tt
+found-early H r q (dated t k) e = conflict-low H r q t k (route-theorems .conflict-test (min H 63) r q .first-exactly t k .0 (sym e) .there)
 
 -- A conflict that is told is early: by its kind, and so in two digits.
 module _ {x : FirstConflict} {t : ℕ} (e : Early (conflictTold x)) where
@@ -140,13 +140,13 @@ early-digits l = omega arith
 pub ruleset early = (same-early, change-early, following-early, early-digits)
 
 -- What is put for one case of what was found.
-pub line-case : (x v : FirstConflict) (old new : List ℕ) (n : ℕ) → x ≡ v → PutAt (conflictLine (conflictTold v)) old 0 new n
+pub line-case : (x y : FirstConflict) (old new : List ℕ) (n : ℕ) → x ≡ y → PutAt (conflictLine (conflictTold y)) old 0 new n
     → PutAt (conflictLine (conflictTold x)) old 0 new n
-line-case x v old new n e p = rw e p
+line-case x y old new n e p = rw e p
 
-pub drawing-case : (f : Floor) (ws : List ℕ) (i j : ℕ) (a b : List ℕ) (x v : FirstConflict) (old new : List ℕ) (n : ℕ) → x ≡ v
-    → TextPut (conflictDrawing f ws i j a b (conflictTold v)) old new n → TextPut (conflictDrawing f ws i j a b (conflictTold x)) old new n
-drawing-case f ws i j a b x v old new n e p = rw e p
+pub drawing-case : (f : Floor) (ws : List ℕ) (i j : ℕ) (r q : List ℕ) (x y : FirstConflict) (old new : List ℕ) (n : ℕ) → x ≡ y
+    → TextPut (conflictDrawing f ws i j r q (conflictTold y)) old new n → TextPut (conflictDrawing f ws i j r q (conflictTold x)) old new n
+drawing-case f ws i j r q x y old new n e p = rw e p
 
 -- Lines with a number in them.
 pub line-put : (words end old m₁ m₂ m₃ : List ℕ) (n at behind next : ℕ) → PutAt words old 0 m₁ at → PutAt (shortDecimal n) m₁ at m₂ behind
@@ -188,13 +188,13 @@ pub none-told : (cells : List ℕ) (y : Answer) → outcomeOf None cells ≡ val
 unfolding outcomeOf answerIf
 none-told cells y e = cc
 
-pub refusal-told : (r : Refusal) (cells : List ℕ) (y : Answer) → outcomeOf (Refused r) cells ≡ value y → y ≡ answerIf false cells
+pub refusal-told : (x : Refusal) (cells : List ℕ) (y : Answer) → outcomeOf (Refused x) cells ≡ value y → y ≡ answerIf false cells
 unfolding outcomeOf
-refusal-told r cells y e = let z : _≡_ {A = ℕ} 0 1 = cc in absurd (omega arith)
+refusal-told x cells y e = let z : _≡_ {A = ℕ} 0 1 = cc in absurd (omega arith)
 
 -- The answer of a search whose outcome is told by whether it has a route.
-pub answer-told : (x : Found) (y : Answer) {b c : Bool} → b ≡ c → Answers x (value y) →
-    ((cells : List ℕ) (z : Answer) → outcomeOf (x .outcome) cells ≡ value z → z ≡ answerIf b cells) → y ≡ answerIf c (x .route)
+pub answer-told : (x : Found) (y : Answer) {x′ y′ : Bool} → x′ ≡ y′ → Answers x (value y) →
+    ((cells : List ℕ) (z : Answer) → outcomeOf (x .outcome) cells ≡ value z → z ≡ answerIf x′ cells) → y ≡ answerIf y′ (x .route)
 unfolding resultOf
 answer-told x y e says h = rw (← e) (h (x .route) y (says .answers))
 
@@ -213,13 +213,13 @@ module _ (f : Floor) (ws : List ℕ) (i j : ℕ) (x y : Answer) (r q : List ℕ)
   unfolding answerIf
   both-routes e h t = rw (e, h) t
 
-pub met-put : (f : Floor) (ws : List ℕ) (i j : ℕ) (a b : List ℕ) (x : ConflictAnswer) (old new : List ℕ) (n : ℕ) → f .horizon ≤ 63
-    → x ≡ firstConflict (min (f .horizon) 63) a b → TextPut (conflictLine x ++ conflictDrawing f ws i j a b x) old new n
-    → TextPut (metText f ws i j (route a) (route b)) old new n
+pub met-put : (f : Floor) (ws : List ℕ) (i j : ℕ) (r q : List ℕ) (x : ConflictAnswer) (old new : List ℕ) (n : ℕ) → f .horizon ≤ 63
+    → x ≡ firstConflict (min (f .horizon) 63) r q → TextPut (conflictLine x ++ conflictDrawing f ws i j r q x) old new n
+    → TextPut (metText f ws i j (route r) (route q)) old new n
 unfolding metText
-met-put f ws i j a b x old new n l e t =
+met-put f ws i j r q x old new n l e t =
     let same : min (f .horizon) 63 ≡ f .horizon = omega arith in
-    let found : x ≡ firstConflict (f .horizon) a b = rw same at e in
+    let found : x ≡ firstConflict (f .horizon) r q = rw same at e in
     rw (← found) t
 
 -- The line ends by column 31.
@@ -245,7 +245,7 @@ module _ (f : Floor) (ws : List ℕ) (ok : checkOf f ws ≡ passed) (i j : ℕ) 
   unfolding pairText orRefusal
   pair-short = go (pairVerdict f i j)
     where
-      go : (v : Verdict) → length (orRefusal v (metText f ws i j (aloneOf f ws i) (aloneOf f ws j))) ≤ 1087
+      go : (x : Verdict) → length (orRefusal x (metText f ws i j (aloneOf f ws i) (aloneOf f ws j))) ≤ 1087
       go passed = met-short (aloneOf f ws i) (aloneOf f ws j)
       go (refused k p) = omega (arith, refusal-length k p)
 
@@ -268,7 +268,7 @@ pub pair-place : (f : Floor) (i j k p : ℕ) → pairVerdict f i j ≡ refused k
 unfolding pairVerdict
 pair-place f i j k p e = go (demand (within 1 (f .carriers) i) 7 0) refl
   where
-    go : (v : Verdict) → demand (within 1 (f .carriers) i) 7 0 ≡ v → p ≡ 0
+    go : (x : Verdict) → demand (within 1 (f .carriers) i) 7 0 ≡ x → p ≡ 0
     go passed h = demand-cases (within 1 (f .carriers) j) 7 0 k p (sym (then-passed h) ∙ e) .2
     go (refused a b) h =
         let same : refused a b ≡ refused k p = sym (then-refused _ h) ∙ e in

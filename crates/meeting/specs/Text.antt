@@ -69,7 +69,7 @@ answerIf false r = none
 -- A conflict's beat is at most 63; only contracts cite this.
 unfoldable pub Early : ConflictAnswer → Type 0
 Early free = Unit {0}
-Early (dated t k) = t ≤ 63
+Early (dated t kind) = t ≤ 63
 
 -- The cells of eight carriers, of whom i is in cell c, j in cell d, and the others are nowhere.
 unfoldable pub twoPlaces : (i c j d : ℕ) → List ℕ
@@ -78,7 +78,7 @@ twoPlaces i c j d = set (set (replicate 8 65535) (i - 1) c) (j - 1) d
 -- The floor with carriers i and j at the beat of the first conflict of their routes r and q; nothing where these are free.
 unfoldable pub conflictDrawing : Floor → List ℕ → (i j : ℕ) → List ℕ → List ℕ → ConflictAnswer → List ℕ
 conflictDrawing f ws i j r q free = []
-conflictDrawing f ws i j r q (dated t k) = drawnFloor f ws (twoPlaces i (cellAt r t) j (cellAt q t))
+conflictDrawing f ws i j r q (dated t kind) = drawnFloor f ws (twoPlaces i (cellAt r t) j (cellAt q t))
 
 -- The text for the answers of carriers i and j.
 unfoldable pub metText : Floor → List ℕ → (i j : ℕ) → Answer → Answer → List ℕ

@@ -32,7 +32,7 @@ pub const TEXT_LENGTH: usize = 1087;
 
 // Refusal 7, 0 for a carrier that is not there, of two.
 fn pair_listed(f: Floor, i: u16, j: u16) -> Checked
-    ensures { λ r. ⌜ verdictOf r ≡ pairVerdict f i j ⌝ }
+    ensures { λ result. ⌜ verdictOf result ≡ pairVerdict f i j ⌝ }
 {
     let first = search::listed(f, i);
     let Checked::Passed = first else {
@@ -44,7 +44,7 @@ fn pair_listed(f: Floor, i: u16, j: u16) -> Checked
 // The best route of a carrier of an accepted floor against nobody.
 fn alone(f: Floor, walls: &[u16], i: u16) -> Found
     requires { ⌜ (checkOf f (now walls) ≡ passed) × (demand (within 1 (f .carriers) i) 7 0 ≡ passed) ⌝ }
-    ensures { λ r. ⌜ Answers r (value (aloneOf f (now (walls .entry)) i)) ⌝ }
+    ensures { λ result. ⌜ Answers result (value (aloneOf f (now (walls .entry)) i)) ⌝ }
 {
     search::search(f, walls, i, &records::blank())
 }
@@ -52,7 +52,7 @@ fn alone(f: Floor, walls: &[u16], i: u16) -> Found
 // Puts words, a number and words behind it in front of a memory; the length of all is returned.
 fn put_line(words: &[u8], n: usize, end: &[u8], out: &mut [u8]) -> usize
     requires { ⌜ (n < 100) × (length (now words) + 2 + length (now end) ≤ length (now out)) ⌝ }
-    ensures { λ r. ⌜ PutAt (numberLine (now (words .entry)) n (now (end .entry))) (now (out .entry)) 0 (now (out .exit)) r ⌝ }
+    ensures { λ result. ⌜ PutAt (numberLine (now (words .entry)) n (now (end .entry))) (now (out .entry)) 0 (now (out .exit)) result ⌝ }
 {
     let at = put_bytes(out, 0, words);
     let behind = put_short_decimal(out, at, n);
@@ -62,7 +62,7 @@ fn put_line(words: &[u8], n: usize, end: &[u8], out: &mut [u8]) -> usize
 // Puts the line of a first conflict; its length is returned.
 fn put_conflict(found: FirstConflict, out: &mut [u8]) -> usize
     requires { ⌜ Early (conflictTold found) × (31 ≤ length (now out)) ⌝ }
-    ensures { λ r. ⌜ PutAt (conflictLine (conflictTold found)) (now (out .entry)) 0 (now (out .exit)) r ⌝ }
+    ensures { λ result. ⌜ PutAt (conflictLine (conflictTold found)) (now (out .entry)) 0 (now (out .exit)) result ⌝ }
 {
     match found {
         FirstConflict::Free => put_bytes(out, 0, b"free\n"),
@@ -80,7 +80,7 @@ fn put_conflict(found: FirstConflict, out: &mut [u8]) -> usize
 // The cells of two of eight carriers, the others nowhere.
 fn two_places(i: u16, c: u16, j: u16, d: u16) -> Places
     requires { ⌜ (1 ≤ i) × (i ≤ 8) × (1 ≤ j) × (j ≤ 8) ⌝ }
-    ensures { λ r. ⌜ r ≡ twoPlaces i c j d ⌝ }
+    ensures { λ result. ⌜ result ≡ twoPlaces i c j d ⌝ }
 {
     let mut places = [65535u16; 8];
     places[i as usize - 1] = c;
@@ -94,16 +94,16 @@ fn put_beat(
     walls: &[u16],
     i: u16,
     j: u16,
-    a: Route,
-    b: Route,
+    r: Route,
+    q: Route,
     t: usize,
     out: &mut [u8],
 ) -> usize
     requires { ⌜ (checkOf f (now walls) ≡ passed) × (pairVerdict f i j ≡ passed) × (t ≤ 63) × (1056 ≤ length (now out)) ⌝ }
-    ensures { λ r. ⌜ TextPut (drawnFloor f (now (walls .entry)) (twoPlaces i (cellAt a t) j (cellAt b t)))
-        (now (out .entry)) (now (out .exit)) r ⌝ }
+    ensures { λ result. ⌜ TextPut (drawnFloor f (now (walls .entry)) (twoPlaces i (cellAt r t) j (cellAt q t)))
+        (now (out .entry)) (now (out .exit)) result ⌝ }
 {
-    drawing::put_floor(f, walls, two_places(i, a[t], j, b[t]), out)
+    drawing::put_floor(f, walls, two_places(i, r[t], j, q[t]), out)
 }
 
 // Puts the floor at the beat of a first conflict; the length of the drawing is returned, 0 where there is no conflict.
@@ -112,44 +112,44 @@ fn put_drawing(
     walls: &[u16],
     i: u16,
     j: u16,
-    a: Route,
-    b: Route,
+    r: Route,
+    q: Route,
     found: FirstConflict,
     out: &mut [u8],
 ) -> usize
     requires { ⌜ (checkOf f (now walls) ≡ passed) × (pairVerdict f i j ≡ passed) ⌝ }
     requires { ⌜ Early (conflictTold found) × (1056 ≤ length (now out)) ⌝ }
-    ensures { λ r. ⌜ TextPut (conflictDrawing f (now (walls .entry)) i j a b (conflictTold found)) (now (out .entry)) (now (out .exit)) r ⌝ }
+    ensures { λ result. ⌜ TextPut (conflictDrawing f (now (walls .entry)) i j r q (conflictTold found)) (now (out .entry)) (now (out .exit)) result ⌝ }
 {
     match found {
         FirstConflict::Free => 0,
-        FirstConflict::SameCell(t) => put_beat(f, walls, i, j, a, b, t, out),
-        FirstConflict::ChangeOfPlaces(t) => put_beat(f, walls, i, j, a, b, t, out),
-        FirstConflict::Following(t) => put_beat(f, walls, i, j, a, b, t, out),
+        FirstConflict::SameCell(t) => put_beat(f, walls, i, j, r, q, t, out),
+        FirstConflict::ChangeOfPlaces(t) => put_beat(f, walls, i, j, r, q, t, out),
+        FirstConflict::Following(t) => put_beat(f, walls, i, j, r, q, t, out),
     }
 }
 
 // Puts the line of the first conflict of two routes and, behind it, the floor at its beat; the length of both is returned.
-fn put_met(f: Floor, walls: &[u16], i: u16, j: u16, a: Route, b: Route, out: &mut [u8]) -> usize
+fn put_met(f: Floor, walls: &[u16], i: u16, j: u16, r: Route, q: Route, out: &mut [u8]) -> usize
     requires { ⌜ (checkOf f (now walls) ≡ passed) × (pairVerdict f i j ≡ passed) × (1087 ≤ length (now out)) ⌝ }
-    ensures { λ r. ⌜ TextPut (metText f (now (walls .entry)) i j (Answer·route a) (Answer·route b)) (now (out .entry)) (now (out .exit)) r ⌝ }
+    ensures { λ result. ⌜ TextPut (metText f (now (walls .entry)) i j (Answer·route r) (Answer·route q)) (now (out .entry)) (now (out .exit)) result ⌝ }
 {
-    let found = route::first_conflict(a, b, f.horizon);
+    let found = route::first_conflict(r, q, f.horizon);
     let n = put_conflict(found, out);
-    n + put_drawing(f, walls, i, j, a, b, found, &mut out[n..])
+    n + put_drawing(f, walls, i, j, r, q, found, &mut out[n..])
 }
 
 // Puts the line of a carrier without a route; its length is returned.
 fn put_none(i: u16, out: &mut [u8]) -> usize
     requires { ⌜ (i ≤ 8) × (31 ≤ length (now out)) ⌝ }
-    ensures { λ r. ⌜ TextPut (noRouteLine i) (now (out .entry)) (now (out .exit)) r ⌝ }
+    ensures { λ result. ⌜ TextPut (noRouteLine i) (now (out .entry)) (now (out .exit)) result ⌝ }
 {
     put_line(b"carrier ", i as usize, b" has no route\n", out)
 }
 
 // Whether a search that was not refused found a route; otherwise it found none.
 fn has_route(outcome: Outcome) -> bool
-    ensures { λ r. ⌜ ((cells : List ℕ) (y : Answer) → outcomeOf outcome cells ≡ value y → y ≡ answerIf r cells) ⌝ }
+    ensures { λ result. ⌜ ((cells : List ℕ) (y : Answer) → outcomeOf outcome cells ≡ value y → y ≡ answerIf result cells) ⌝ }
 {
     match outcome {
         Outcome::Route => true,
@@ -161,29 +161,29 @@ fn has_route(outcome: Outcome) -> bool
 // Puts what the best routes of two carriers of an accepted floor, each against nobody, come to; the length of the text is returned.
 fn put_meeting(f: Floor, walls: &[u16], i: u16, j: u16, out: &mut [u8]) -> usize
     requires { ⌜ (checkOf f (now walls) ≡ passed) × (pairVerdict f i j ≡ passed) × (1087 ≤ length (now out)) ⌝ }
-    ensures { λ r. ⌜ TextPut (metText f (now (walls .entry)) i j (aloneOf f (now (walls .entry)) i) (aloneOf f (now (walls .entry)) j))
-        (now (out .entry)) (now (out .exit)) r ⌝ }
+    ensures { λ result. ⌜ TextPut (metText f (now (walls .entry)) i j (aloneOf f (now (walls .entry)) i) (aloneOf f (now (walls .entry)) j))
+        (now (out .entry)) (now (out .exit)) result ⌝ }
 {
     let one = alone(f, walls, i);
     let first = one.outcome;
-    let a = one.route;
+    let r = one.route;
     if !has_route(first) {
         return put_none(i, out);
     }
     let other = alone(f, walls, j);
     let second = other.outcome;
-    let b = other.route;
+    let q = other.route;
     if !has_route(second) {
         return put_none(j, out);
     }
-    put_met(f, walls, i, j, a, b, out)
+    put_met(f, walls, i, j, r, q, out)
 }
 
 // Puts the meeting of two carriers of a floor that was read, with its walls in front of `walls`; its length is returned.
 fn put_pair(f: Floor, walls: &[u16], i: u16, j: u16, out: &mut [u8]) -> usize
     requires { ⌜ checkOf f (take (f .walls) (now walls)) ≡ passed ⌝ }
     requires { ⌜ (f .walls ≤ length (now walls)) × (1087 ≤ length (now out)) ⌝ }
-    ensures { λ r. ⌜ TextPut (pairText f (take (f .walls) (now (walls .entry))) i j) (now (out .entry)) (now (out .exit)) r ⌝ }
+    ensures { λ result. ⌜ TextPut (pairText f (take (f .walls) (now (walls .entry))) i j) (now (out .entry)) (now (out .exit)) result ⌝ }
 {
     let k = f.walls as usize;
     let asked = pair_listed(f, i, j);
@@ -196,8 +196,8 @@ fn put_pair(f: Floor, walls: &[u16], i: u16, j: u16, out: &mut [u8]) -> usize
 // Prints the meeting of two carriers of any text that is a sheet, and of any other text or carrier the line of its refusal; the number
 // of printed bytes is returned.
 pub fn print(text: &[u8], i: u16, j: u16, out: &mut [u8; TEXT_LENGTH]) -> usize
-    ensures counts { λ r. ⌜ Counts r (now (out .exit)) ⌝ }
-    ensures prints { λ r. ⌜ take r (now (out .exit)) ≡ meetingText (now (text .entry)) i j ⌝ }
+    ensures counts { λ result. ⌜ Counts result (now (out .exit)) ⌝ }
+    ensures prints { λ result. ⌜ take result (now (out .exit)) ≡ meetingText (now (text .entry)) i j ⌝ }
 {
     let mut walls = sheet::no_walls();
     let reading = sheet::read(text, &mut walls);

@@ -47,7 +47,7 @@ fn last_value(f: Floor, k: usize, c: usize) -> u8 {
 
 // The values of all cells at the horizon.
 fn fill_last(table: &mut [u8], f: Floor, k: usize)
-    ensures { λ r. ⌜ length (now (table .exit)) ≡ length (now (table .entry)) ⌝ }
+    ensures { λ result. ⌜ length (now (table .exit)) ≡ length (now (table .entry)) ⌝ }
 {
     let cells = size(f);
     let horizon = wide(f.horizon);
@@ -60,20 +60,20 @@ fn fill_last(table: &mut [u8], f: Floor, k: usize)
 
 // The values of all cells at beat t, from those of the next beat.
 fn fill_beat(table: &mut [u8], f: Floor, walls: &[u16], views: &[u16], k: usize, t: usize)
-    ensures { λ r. ⌜ length (now (table .exit)) ≡ length (now (table .entry)) ⌝ }
+    ensures { λ result. ⌜ length (now (table .exit)) ≡ length (now (table .entry)) ⌝ }
 {
     let cells = size(f);
     let mut c: usize = 0;
     while c < cells {
-        let v = arrival_from(table, f, walls, views, k, t, c);
-        set_value(table, t, c, v);
+        let x = arrival_from(table, f, walls, views, k, t, c);
+        set_value(table, t, c, x);
         c += 1;
     }
 }
 
 // The least arrivals of all beats, from the horizon down.
 pub fn fill(table: &mut [u8], f: Floor, walls: &[u16], views: &[u16], k: usize)
-    ensures { λ r. ⌜ length (now (table .exit)) ≡ length (now (table .entry)) ⌝ }
+    ensures { λ result. ⌜ length (now (table .exit)) ≡ length (now (table .entry)) ⌝ }
 {
     fill_last(table, f, k);
     let mut t = wide(f.horizon);

@@ -109,7 +109,7 @@ pub fn second_conflict(view: &[u16], r: Route, horizon: u16) -> usize {
 
 // The carriers in turn, each against what those above it told.
 pub fn second_plan(f: Floor, walls: &[u16], answers: &mut [u16])
-    ensures { λ r. ⌜ length (now (answers .exit)) ≡ length (now (answers .entry)) ⌝ }
+    ensures { λ result. ⌜ length (now (answers .exit)) ≡ length (now (answers .entry)) ⌝ }
 {
     let n = f.carriers;
     let mut i: u16 = 0;

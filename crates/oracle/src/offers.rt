@@ -94,11 +94,11 @@ pub fn offer(
 }
 
 // The smaller of two values.
-fn least(a: u8, b: u8) -> u8 {
-    if b < a {
-        return b;
+fn least(x: u8, y: u8) -> u8 {
+    if y < x {
+        return y;
     }
-    a
+    x
 }
 
 // The least value that a neighbour offers.
@@ -112,19 +112,19 @@ pub fn best_offer(
     c: usize,
 ) -> u8 {
     let w = wide(f.width);
-    let mut v: u8 = 255;
+    let mut x: u8 = 255;
     let mut n: usize = 0;
     while n < 5 {
-        v = least(
-            v,
+        x = least(
+            x,
             offer(table, f, walls, views, k, t, c, neighbour(w, c, n)),
         );
         n += 1;
     }
-    v
+    x
 }
 
-// The first neighbour that offers value v.
+// The first neighbour that offers value x.
 pub fn first_offer(
     table: &[u8],
     f: Floor,
@@ -133,13 +133,13 @@ pub fn first_offer(
     k: usize,
     t: usize,
     c: usize,
-    v: u8,
+    x: u8,
 ) -> usize {
     let w = wide(f.width);
     let mut n: usize = 0;
     while n < 5 {
         let d = neighbour(w, c, n);
-        if offer(table, f, walls, views, k, t, c, d) == v {
+        if offer(table, f, walls, views, k, t, c, d) == x {
             return d;
         }
         n += 1;

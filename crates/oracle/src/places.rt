@@ -4,7 +4,7 @@ ghost use lib.ListN.{length};
 
 // A number as a size.
 pub fn wide(x: u16) -> usize
-    ensures { λ r. ⌜ r ≡ x ⌝ }
+    ensures { λ result. ⌜ result ≡ x ⌝ }
 {
     x as usize
 }
@@ -18,18 +18,18 @@ pub fn narrow(c: usize) -> u16 {
 }
 
 // The number at a place, one that is no cell past the end.
-pub fn at(s: &[u16], i: usize) -> usize {
-    if i < s.len() {
-        return wide(s[i]);
+pub fn at(set: &[u16], i: usize) -> usize {
+    if i < set.len() {
+        return wide(set[i]);
     }
     65535
 }
 
 // The number at a place, stored where the place is there.
-pub fn store(s: &mut [u16], i: usize, v: u16)
-    ensures { λ r. ⌜ length (now (s .exit)) ≡ length (now (s .entry)) ⌝ }
+pub fn store(set: &mut [u16], i: usize, x: u16)
+    ensures { λ result. ⌜ length (now (set .exit)) ≡ length (now (set .entry)) ⌝ }
 {
-    if i < s.len() {
-        s[i] = v;
+    if i < set.len() {
+        set[i] = x;
     }
 }

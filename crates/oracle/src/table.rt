@@ -5,7 +5,7 @@ ghost use lib.ListN.{length};
 
 // The beat after t.
 pub fn after(t: usize) -> usize
-    ensures { λ r. ⌜ r ≤ 64 ⌝ }
+    ensures { λ result. ⌜ result ≤ 64 ⌝ }
 {
     if t < 64 {
         return t + 1;
@@ -33,11 +33,11 @@ pub fn value(table: &[u8], t: usize, c: usize) -> u8 {
 }
 
 // Sets the value of a cell at a beat, where there is one.
-pub fn set_value(table: &mut [u8], t: usize, c: usize, v: u8)
-    ensures { λ r. ⌜ length (now (table .exit)) ≡ length (now (table .entry)) ⌝ }
+pub fn set_value(table: &mut [u8], t: usize, c: usize, x: u8)
+    ensures { λ result. ⌜ length (now (table .exit)) ≡ length (now (table .entry)) ⌝ }
 {
     let i = slot(t, c);
     if i < table.len() {
-        table[i] = v;
+        table[i] = x;
     }
 }

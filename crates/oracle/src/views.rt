@@ -34,7 +34,7 @@ pub fn met(starts: &[u16], views: &[u16], k: usize, c: usize) -> bool {
 
 // What carrier j + 1 tells: a tag, 2 for a route and 1 for none, and 64 cells.
 pub fn tell(answers: &mut [u16], j: usize, plan: Plan)
-    ensures { λ r. ⌜ length (now (answers .exit)) ≡ length (now (answers .entry)) ⌝ }
+    ensures { λ result. ⌜ length (now (answers .exit)) ≡ length (now (answers .entry)) ⌝ }
 {
     if 8 <= j {
         return;

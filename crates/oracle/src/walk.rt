@@ -11,7 +11,7 @@ use route::Route;
 
 // Writes cell c at beat t.
 fn set_cell(r: &mut [u16], t: usize, c: usize)
-    ensures { λ x. ⌜ length (now (r .exit)) ≡ length (now (r .entry)) ⌝ }
+    ensures { λ result. ⌜ length (now (r .exit)) ≡ length (now (r .entry)) ⌝ }
 {
     if t < r.len() {
         r[t] = narrow(c);
@@ -31,8 +31,8 @@ fn next_cell(
     if value(table, t, c) as usize == t {
         return c;
     }
-    let v = best_offer(table, f, walls, views, k, t, c);
-    first_offer(table, f, walls, views, k, t, c, v)
+    let x = best_offer(table, f, walls, views, k, t, c);
+    first_offer(table, f, walls, views, k, t, c, x)
 }
 
 // The route from the start.

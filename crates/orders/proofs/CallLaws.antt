@@ -37,18 +37,18 @@ module _ (M : Machine) (lent : ℕ) (l : M .needed ≤ lent) where
   single-after s x e = after-passed M s (single lent (step x)) (single-passes s x e)
 
   module _ (o : Order) where
-    pub calls-reply : (c : ℕ) (s : State) (es : List Entry) → FollowsOrder o M c s es → replies M s (callsOf lent es) ≡ repliesOf es
+    pub calls-reply : (kept : ℕ) (s : State) (xs : List Entry) → FollowsOrder o M kept s xs → replies M s (callsOf lent xs) ≡ repliesOf xs
     unfolding FollowsOrder replies callsOf repliesOf
-    calls-reply c s [] h = refl
-    calls-reply c s (e ∷ es) h =
+    calls-reply kept s [] h = refl
+    calls-reply kept s (e ∷ xs) h =
         rw (single-reply s (e .taken) (h .1 .isOpen), single-after s (e .taken) (h .1 .isOpen), ← h .1 .answer)
-        (ap (λ (rs : List Reply). value (stepped (e .answer)) ∷ rs)
-        (calls-reply (remembered o c (h .0)) (afterStep M s (e .taken)) es (h .2)))
+        (ap (λ (xs : List Reply). value (stepped (e .answer)) ∷ xs)
+        (calls-reply (remembered o kept (h .0)) (afterStep M s (e .taken)) xs (h .2)))
 
-    pub calls-lead : (c : ℕ) (s : State) (es : List Entry) → FollowsOrder o M c s es
-        → after M s (callsOf lent es) ≡ afterSteps M s (stepsIn es)
+    pub calls-lead : (kept : ℕ) (s : State) (xs : List Entry) → FollowsOrder o M kept s xs
+        → after M s (callsOf lent xs) ≡ afterSteps M s (stepsIn xs)
     unfolding FollowsOrder after callsOf afterSteps stepsIn
-    calls-lead c s [] h = refl
-    calls-lead c s (e ∷ es) h =
-        ap (λ (z : State). after M z (callsOf lent es)) (single-after s (e .taken) (h .1 .isOpen))
-        ∙ calls-lead (remembered o c (h .0)) (afterStep M s (e .taken)) es (h .2)
+    calls-lead kept s [] h = refl
+    calls-lead kept s (e ∷ xs) h =
+        ap (λ (z : State). after M z (callsOf lent xs)) (single-after s (e .taken) (h .1 .isOpen))
+        ∙ calls-lead (remembered o kept (h .0)) (afterStep M s (e .taken)) xs (h .2)

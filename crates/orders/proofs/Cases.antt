@@ -40,7 +40,7 @@ abbrev steps : Order → ℕ → ℕ → List Step
 steps o n seed = stepsIn (trial o (idler n) seed .report)
 
 abbrev answers : Order → ℕ → ℕ → List StepAnswer
-answers o n seed = map (λ (e : Entry). e .answer) (trial o (idler n) seed .report)
+answers o n seed = map (λ (x : Entry). x .answer) (trial o (idler n) seed .report)
 
 -- Trials of two and three carriers.
 record TrialCases : Type 0 where

@@ -86,6 +86,6 @@ module _ (test : ℕ → Bool) where
           ⊎-elim (λ (e : test n ≡ true). last e h) (λ (e : test n ≡ false). absurd (omega (arith, count-no n e))) (true-or-false (test n))
 
   -- Where the count stays the same from a to b, no place there passes.
-  pub none-between : (a b : ℕ) → count b ≤ count a → (q : ℕ) → a ≤ q → q < b → test q ≡ false
-  none-between a b e q l h =
-      not-true-is-false (test q) (λ t. omega (arith, passing-at b q h t .0, count-mono a q l))
+  pub none-between : (a b : ℕ) → count b ≤ count a → (p : ℕ) → a ≤ p → p < b → test p ≡ false
+  none-between a b e p l h =
+      not-true-is-false (test p) (λ t. omega (arith, passing-at b p h t .0, count-mono a p l))

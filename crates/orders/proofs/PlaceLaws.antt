@@ -18,46 +18,46 @@ use Rattle.reference.specs.Ranking.{deliveriesFrom, ranking}
 use Rattle.orders.specs.Orders.{places, stepAt}
 
 module _ {A : Type 0} where
-  pub below-length : (k : ℕ) (f : ℕ → A) → length (below k f) ≡ k
+  pub below-length : (k : ℕ) (φ : ℕ → A) → length (below k φ) ≡ k
   unfolding below
-  below-length zero f = refl
-  below-length (suc k) f = rw (length-append, below-length k f) (omega arith)
+  below-length zero φ = refl
+  below-length (suc k) φ = rw (length-append, below-length k φ) (omega arith)
 
-  pub below-at : (k : ℕ) (f : ℕ → A) (d : A) (i : ℕ) → i < k → getD (below k f) i d ≡ f i
+  pub below-at : (k : ℕ) (φ : ℕ → A) (x : A) (i : ℕ) → i < k → getD (below k φ) i x ≡ φ i
   unfolding below
-  below-at zero f d i l = absurd (omega arith)
-  below-at (suc k) f d i l =
-      ⊎-elim (λ (e : i ≡ k). rw e (getD-at (below k f) (f k) [] d k (below-length k f)))
-      (λ (h : i < k). List·getD-append (below k f) (f k ∷ []) d i (omega (arith, below-length k f)) ∙ below-at k f d i h)
+  below-at zero φ x i l = absurd (omega arith)
+  below-at (suc k) φ x i l =
+      ⊎-elim (λ (e : i ≡ k). rw e (getD-at (below k φ) (φ k) [] x k (below-length k φ)))
+      (λ (h : i < k). List·getD-append (below k φ) (φ k ∷ []) x i (omega (arith, below-length k φ)) ∙ below-at k φ x i h)
       (eq-or-lt-of-le (omega arith))
 
   -- Item d of list j stands behind the lists before it.
-  pub joined-at : (k : ℕ) (f : ℕ → List A) (a : A) (j d : ℕ) → j < k → d < length (f j) →
-      (length (joined j f) + d < length (joined k f)) × (getD (joined k f) (length (joined j f) + d) a ≡ getD (f j) d a)
+  pub joined-at : (k : ℕ) (φ : ℕ → List A) (x : A) (j d : ℕ) → j < k → d < length (φ j) →
+      (length (joined j φ) + d < length (joined k φ)) × (getD (joined k φ) (length (joined j φ) + d) x ≡ getD (φ j) d x)
   unfolding joined
-  joined-at zero f a j d l h = absurd (omega arith)
-  joined-at (suc k) f a j d l h =
+  joined-at zero φ x j d l h = absurd (omega arith)
+  joined-at (suc k) φ x j d l h =
       ⊎-elim
-      (λ (e : j ≡ k). rw e (omega (arith, length-append (joined k f) (f k), rw e at h), getD-append-add (joined k f) (f k) d a))
+      (λ (e : j ≡ k). rw e (omega (arith, length-append (joined k φ) (φ k), rw e at h), getD-append-add (joined k φ) (φ k) d x))
       (λ (b : j < k).
-      let r = joined-at k f a j d b h in (
-        omega (arith, length-append (joined k f) (f k), r .0),
-        List·getD-append (joined k f) (f k) a (length (joined j f) + d) (r .0) ∙ r .1,
+      let r = joined-at k φ x j d b h in (
+        omega (arith, length-append (joined k φ) (φ k), r .0),
+        List·getD-append (joined k φ) (φ k) x (length (joined j φ) + d) (r .0) ∙ r .1,
       ))
       (eq-or-lt-of-le (omega arith))
 
   -- Every place of the joined lists is that of an item of one of them.
-  pub joined-place : (k : ℕ) (f : ℕ → List A) (p : ℕ) → p < length (joined k f) →
-      (j : ℕ) × (d : ℕ) × (j < k) × (d < length (f j)) × (p ≡ length (joined j f) + d)
+  pub joined-place : (k : ℕ) (φ : ℕ → List A) (p : ℕ) → p < length (joined k φ) →
+      (j : ℕ) × (d : ℕ) × (j < k) × (d < length (φ j)) × (p ≡ length (joined j φ) + d)
   unfolding joined
-  joined-place zero f p l = absurd (omega arith)
-  joined-place (suc k) f p l =
+  joined-place zero φ p l = absurd (omega arith)
+  joined-place (suc k) φ p l =
       ⊎-elim
-      (λ (h : p < length (joined k f)).
-      let r = joined-place k f p h in (r .0, r .1, omega (arith, r .2), r .3, r .4))
-      (λ (h : length (joined k f) ≤ p).
-      (k, p - length (joined k f), omega arith, omega (arith, length-append (joined k f) (f k)), omega arith))
-      (lt-or-le p (length (joined k f)))
+      (λ (h : p < length (joined k φ)).
+      let r = joined-place k φ p h in (r .0, r .1, omega (arith, r .2), r .3, r .4))
+      (λ (h : length (joined k φ) ≤ p).
+      (k, p - length (joined k φ), omega arith, omega (arith, length-append (joined k φ) (φ k)), omega arith))
+      (lt-or-le p (length (joined k φ)))
 
 -- The deliveries of the senders before j, of n carriers.
 abbrev pub deliveriesBefore : ℕ → ℕ → ℕ

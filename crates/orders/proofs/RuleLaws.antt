@@ -25,12 +25,12 @@ Memory first M c = Unit {0}
 Memory round M c = c ≤ places (M .carriers)
 Memory drawn M c = Unit {0}
 
--- An order that remembers c takes place p, which is open, by its rule.
-pub record Takes (o : Order) (M : Machine) (s : State) (c p : ℕ) : Type 0 where
+-- An order that remembers kept takes place p, which is open, by its rule.
+pub record Takes (o : Order) (M : Machine) (s : State) (kept p : ℕ) : Type 0 where
   pub listed : p < places (M .carriers)
   pub opened : openAt M s p ≡ true
-  pub rule : MayTake o M s c p
-  pub next : Memory o M (remembered o c p)
+  pub rule : MayTake o M s kept p
+  pub next : Memory o M (remembered o kept p)
 
 module _ (M : Machine) (s : State) where
   abbrev n : ℕ
@@ -85,49 +85,49 @@ module _ (M : Machine) (s : State) where
       (lt-or-le (getD (passing opens n) i 0) (getD (passing opens n) j 0))
 
   -- The first open place.
-  first-rule : (p : ℕ) → ItemAt opens n 0 p → (q : ℕ) → 0 ≤ q → q < p → opens q ≡ false
+  first-rule : (p : ℕ) → ItemAt opens n 0 p → (p′ : ℕ) → 0 ≤ p′ → p′ < p → opens p′ ≡ false
   first-rule p r = none-between opens 0 p (omega (arith, r .before, count-none opens))
 
-  -- The open place behind those before c, with c before the last open one.
-  onward-rule : (c p : ℕ) → ItemAt opens n (count opens c) p → FirstRound M s c p
-  onward-rule c p r =
+  -- The open place behind those before kept, with kept before the last open one.
+  onward-rule : (kept p : ℕ) → ItemAt opens n (count opens kept) p → FirstRound M s kept p
+  onward-rule kept p r =
       ⊎-elim
-      (λ (h : p < c). absurd (omega (arith, passing-at opens c p h (r .passes) .0, r .before)))
-      (λ (h : c ≤ p). onward h (none-between opens c p (omega (arith, r .before))))
-      (lt-or-le p c)
+      (λ (h : p < kept). absurd (omega (arith, passing-at opens kept p h (r .passes) .0, r .before)))
+      (λ (h : kept ≤ p). onward h (none-between opens kept p (omega (arith, r .before))))
+      (lt-or-le p kept)
 
-  -- The first open place, where all of them are before c.
-  around-rule : (c p : ℕ) → count opens n ≤ count opens c → ItemAt opens n 0 p → FirstRound M s c p
-  around-rule c p e r =
+  -- The first open place, where all of them are before kept.
+  around-rule : (kept p : ℕ) → count opens n ≤ count opens kept → ItemAt opens n 0 p → FirstRound M s kept p
+  around-rule kept p e r =
       ⊎-elim
-      (λ (h : p < c). around h (none-between opens c n e) (first-rule p r))
-      (λ (h : c ≤ p). true-false-absurd (r .passes) (none-between opens c n e p h (r .listed)))
-      (lt-or-le p c)
+      (λ (h : p < kept). around h (none-between opens kept n e) (first-rule p r))
+      (λ (h : kept ≤ p). true-false-absurd (r .passes) (none-between opens kept n e p h (r .listed)))
+      (lt-or-le p kept)
 
-  round-rule : (c p : ℕ) → c ≤ n → ItemAt opens n (count opens c % count opens n) p → FirstRound M s c p
-  round-rule c p l r =
+  round-rule : (kept p : ℕ) → kept ≤ n → ItemAt opens n (count opens kept % count opens n) p → FirstRound M s kept p
+  round-rule kept p l r =
       ⊎-elim
-      (λ (h : count opens c ≡ count opens n). around-rule c p (omega arith) (rw (h, mod-self (count opens n)) at r))
-      (λ (h : count opens c < count opens n). onward-rule c p (rw (mod-eq-of-lt h) at r))
-      (eq-or-lt-of-le (count-mono opens c n l))
+      (λ (h : count opens kept ≡ count opens n). around-rule kept p (omega arith) (rw (h, mod-self (count opens n)) at r))
+      (λ (h : count opens kept < count opens n). onward-rule kept p (rw (mod-eq-of-lt h) at r))
+      (eq-or-lt-of-le (count-mono opens kept n l))
 
   -- The chosen place is an item of the list of open places.
-  pub chosen-item : (o : Order) (c : ℕ) → 0 < count opens n → ItemAt opens n (turn o M s c % count opens n) (chosen o M s c)
+  pub chosen-item : (o : Order) (kept : ℕ) → 0 < count opens n → ItemAt opens n (turn o M s kept % count opens n) (chosen o M s kept)
   unfolding chosen openPlaces
-  chosen-item o c l = passing-item opens n (turn o M s c % count opens n) (mod-lt (turn o M s c) l)
+  chosen-item o kept l = passing-item opens n (turn o M s kept % count opens n) (mod-lt (turn o M s kept) l)
 
-  drawn-rule : (c : ℕ) → chosen drawn M s c ≡ getD (openPlaces M s) (drawnBy c % length (openPlaces M s)) 0
+  drawn-rule : (kept : ℕ) → chosen drawn M s kept ≡ getD (openPlaces M s) (drawnBy kept % length (openPlaces M s)) 0
   unfolding chosen turn
-  drawn-rule c = refl
+  drawn-rule kept = refl
 
-  pub chosen-takes : (o : Order) (c : ℕ) → Memory o M c → 0 < count opens n → Takes o M s c (chosen o M s c)
+  pub chosen-takes : (o : Order) (kept : ℕ) → Memory o M kept → 0 < count opens n → Takes o M s kept (chosen o M s kept)
   unfolding Memory MayTake turn remembered
-  chosen-takes first c h l =
-      let r = chosen-item first c l in
+  chosen-takes first kept h l =
+      let r = chosen-item first kept l in
       record { listed = r .listed; opened = r .passes; rule = first-rule _ (rw (mod-eq-of-lt l) at r); next = tt }
-  chosen-takes round c h l =
-      let r = chosen-item round c l in
-      record { listed = r .listed; opened = r .passes; rule = round-rule c _ h r; next = r .listed }
-  chosen-takes drawn c h l =
-      let r = chosen-item drawn c l in
-      record { listed = r .listed; opened = r .passes; rule = drawn-rule c; next = tt }
+  chosen-takes round kept h l =
+      let r = chosen-item round kept l in
+      record { listed = r .listed; opened = r .passes; rule = round-rule kept _ h r; next = r .listed }
+  chosen-takes drawn kept h l =
+      let r = chosen-item drawn kept l in
+      record { listed = r .listed; opened = r .passes; rule = drawn-rule kept; next = tt }

@@ -32,68 +32,68 @@ start-memory round M seed = omega arith
 start-memory drawn M seed = tt
 
 module _ (o : Order) (M : Machine) where
-  pub try-silent : (c : ℕ) (s : State) (b : ℕ) → isSilent M s ≡ true → tryFrom o M c s (suc b) ≡ stopped s
+  pub try-silent : (kept : ℕ) (s : State) (b : ℕ) → isSilent M s ≡ true → tryFrom o M kept s (suc b) ≡ stopped s
   unfolding tryFrom
-  try-silent c s b e = rw (e, tryFrom)
+  try-silent kept s b e = rw (e, tryFrom)
 
-  pub try-step : (c : ℕ) (s : State) (b : ℕ) → isSilent M s ≡ false → tryFrom o M c s (suc b) ≡
-      reported (entryOf M s (nextStep o M s c)) (tryFrom o M (remembered o c (chosen o M s c)) (afterStep M s (nextStep o M s c)) b)
+  pub try-step : (kept : ℕ) (s : State) (b : ℕ) → isSilent M s ≡ false → tryFrom o M kept s (suc b) ≡
+      reported (entryOf M s (nextStep o M s kept)) (tryFrom o M (remembered o kept (chosen o M s kept)) (afterStep M s (nextStep o M s kept)) b)
   unfolding tryFrom
-  try-step c s b e = rw (e, tryFrom)
+  try-step kept s b e = rw (e, tryFrom)
 
   -- What holds of a trial that stops, and that one more step in front keeps, holds of every trial.
-  module _ (P : ℕ → State → ℕ → TrialResult → Type 0) (spent : (c : ℕ) (s : State) → P c s 0 (stopped s))
-      (silent : (c : ℕ) (s : State) (b : ℕ) → isSilent M s ≡ true → P c s (suc b) (stopped s))
-      (more : (c : ℕ) (s : State) (b : ℕ) (t : TrialResult) → Takes o M s c (chosen o M s c) →
-      P (remembered o c (chosen o M s c)) (afterStep M s (nextStep o M s c)) b t →
-      P c s (suc b) (reported (entryOf M s (nextStep o M s c)) t)) where
-    pub try-induction : (c : ℕ) (s : State) (b : ℕ) → Memory o M c → P c s b (tryFrom o M c s b)
+  module _ (P : ℕ → State → ℕ → TrialResult → Type 0) (spent : (kept : ℕ) (s : State) → P kept s 0 (stopped s))
+      (silent : (kept : ℕ) (s : State) (b : ℕ) → isSilent M s ≡ true → P kept s (suc b) (stopped s))
+      (more : (kept : ℕ) (s : State) (b : ℕ) (x : TrialResult) → Takes o M s kept (chosen o M s kept) →
+      P (remembered o kept (chosen o M s kept)) (afterStep M s (nextStep o M s kept)) b x →
+      P kept s (suc b) (reported (entryOf M s (nextStep o M s kept)) x)) where
+    pub try-induction : (kept : ℕ) (s : State) (b : ℕ) → Memory o M kept → P kept s b (tryFrom o M kept s b)
     unfolding tryFrom
-    try-induction c s zero h = spent c s
-    try-induction c s (suc b) h =
+    try-induction kept s zero h = spent kept s
+    try-induction kept s (suc b) h =
         go (isSilent M s) refl
-        (λ (k : Memory o M (remembered o c (chosen o M s c))).
-        try-induction (remembered o c (chosen o M s c)) (afterStep M s (nextStep o M s c)) b k)
+        (λ (k : Memory o M (remembered o kept (chosen o M s kept))).
+        try-induction (remembered o kept (chosen o M s kept)) (afterStep M s (nextStep o M s kept)) b k)
       where
-        go : (t : Bool) → isSilent M s ≡ t → (Memory o M (remembered o c (chosen o M s c)) →
-            P (remembered o c (chosen o M s c)) (afterStep M s (nextStep o M s c)) b
-            (tryFrom o M (remembered o c (chosen o M s c)) (afterStep M s (nextStep o M s c)) b)) → P c s (suc b) (tryFrom o M c s (suc b))
-        go true e k = rw (try-silent c s b e) (silent c s b e)
+        go : (x : Bool) → isSilent M s ≡ x → (Memory o M (remembered o kept (chosen o M s kept)) →
+            P (remembered o kept (chosen o M s kept)) (afterStep M s (nextStep o M s kept)) b
+            (tryFrom o M (remembered o kept (chosen o M s kept)) (afterStep M s (nextStep o M s kept)) b)) → P kept s (suc b) (tryFrom o M kept s (suc b))
+        go true e k = rw (try-silent kept s b e) (silent kept s b e)
         go false e k =
-            let r = chosen-takes M s o c h (some-place M s e) in rw (try-step c s b e) (more c s b _ r (k (r .next)))
+            let r = chosen-takes M s o kept h (some-place M s e) in rw (try-step kept s b e) (more kept s b _ r (k (r .next)))
 
   -- What holds of a trial of at most b steps.
-  pub record TrialHolds (c : ℕ) (s : State) (b : ℕ) (t : TrialResult) : Type 0 where
-    pub by-rule : FollowsOrder o M c s (t .report)
-    pub leads : t .state ≡ afterSteps M s (stepsIn (t .report))
-    pub within : length (t .report) ≤ b
-    pub reaches : Reachable M s (t .state) (length (t .report))
-    pub stops : (length (t .report) ≡ b) ⊎ (isSilent M (t .state) ≡ true)
+  pub record TrialHolds (kept : ℕ) (s : State) (b : ℕ) (x : TrialResult) : Type 0 where
+    pub by-rule : FollowsOrder o M kept s (x .report)
+    pub leads : x .state ≡ afterSteps M s (stepsIn (x .report))
+    pub within : length (x .report) ≤ b
+    pub reaches : Reachable M s (x .state) (length (x .report))
+    pub stops : (length (x .report) ≡ b) ⊎ (isSilent M (x .state) ≡ true)
 
-  pub try-holds : (c : ℕ) (s : State) (b : ℕ) → Memory o M c → TrialHolds c s b (tryFrom o M c s b)
+  pub try-holds : (kept : ℕ) (s : State) (b : ℕ) → Memory o M kept → TrialHolds kept s b (tryFrom o M kept s b)
   unfolding FollowsOrder afterSteps stepsIn reported entryOf nextStep openAt
   try-holds =
-      try-induction TrialHolds (λ c s. record { by-rule = tt; leads = refl; within = omega arith; reaches = stay; stops = inl refl })
-      (λ c s b e. record { by-rule = tt; leads = refl; within = omega arith; reaches = stay; stops = inr e }) more
+      try-induction TrialHolds (λ kept s. record { by-rule = tt; leads = refl; within = omega arith; reaches = stay; stops = inl refl })
+      (λ kept s b e. record { by-rule = tt; leads = refl; within = omega arith; reaches = stay; stops = inr e }) more
     where
-      stops-more : (b k : ℕ) (q : Bool) → (k ≡ b) ⊎ (q ≡ true) → (suc k ≡ suc b) ⊎ (q ≡ true)
-      stops-more b k q (inl e) = inl (ap suc e)
-      stops-more b k q (inr e) = inr e
+      stops-more : (b k : ℕ) (x : Bool) → (k ≡ b) ⊎ (x ≡ true) → (suc k ≡ suc b) ⊎ (x ≡ true)
+      stops-more b k x (inl e) = inl (ap suc e)
+      stops-more b k x (inr e) = inr e
 
-      more : (c : ℕ) (s : State) (b : ℕ) (t : TrialResult) → Takes o M s c (chosen o M s c) →
-          TrialHolds (remembered o c (chosen o M s c)) (afterStep M s (nextStep o M s c)) b t →
-          TrialHolds c s (suc b) (reported (entryOf M s (nextStep o M s c)) t)
-      more c s b t r h =
+      more : (kept : ℕ) (s : State) (b : ℕ) (x : TrialResult) → Takes o M s kept (chosen o M s kept) →
+          TrialHolds (remembered o kept (chosen o M s kept)) (afterStep M s (nextStep o M s kept)) b x →
+          TrialHolds kept s (suc b) (reported (entryOf M s (nextStep o M s kept)) x)
+      more kept s b x r h =
           record {
             by-rule = (
-              chosen o M s c,
+              chosen o M s kept,
               record { listed = r .listed; step = refl; isOpen = r .opened; rule = r .rule; answer = refl },
               h .by-rule,
             );
             leads = h .leads;
             within = omega (arith, h .within);
-            reaches = next (nextStep o M s c) (r .opened) (h .reaches);
-            stops = stops-more b (length (t .report)) (isSilent M (t .state)) (h .stops);
+            reaches = next (nextStep o M s kept) (r .opened) (h .reaches);
+            stops = stops-more b (length (x .report)) (isSilent M (x .state)) (h .stops);
           }
 
   pub trial-holds : (seed : ℕ) → TrialHolds (startMemory o seed) fresh (ceiling (M .carriers)) (trial o M seed)

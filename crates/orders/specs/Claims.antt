@@ -22,10 +22,10 @@ use Rattle.orders.specs.Rules.{FollowsOrder, PassedOver}
 
 -- The calls that take the steps of a report one by one, and the answers that a report tells.
 unfoldable pub callsOf : ℕ → List Entry → List Call
-callsOf lent es = map (λ (e : Entry). single lent (step (e .taken))) es
+callsOf lent xs = map (λ (x : Entry). single lent (step (x .taken))) xs
 
 unfoldable pub repliesOf : List Entry → List Reply
-repliesOf es = map (λ (e : Entry). value (stepped (e .answer))) es
+repliesOf xs = map (λ (x : Entry). value (stepped (x .answer))) xs
 
 pub record Claims : Type 0 where
   -- The ranking of n carriers has n (n + 1) / 2 steps, those that are there and no others.

@@ -36,16 +36,16 @@ passing test (suc k) = passing test k ++ elim (test k) [ true ↦ k ∷ [] | fal
 unfoldable pub openPlaces : Machine → State → List ℕ
 openPlaces M s = passing (openAt M s) (places (M .carriers))
 
--- Which of the open places an order takes that remembers c, counted from 0 and on from the first again behind the last: order 1 the
--- first; order 2 the one behind those before place c; order 3 the one at the drawn number.
+-- Which of the open places an order takes that remembers the number kept, counted from 0 and on from the first again behind the last: order 1 the
+-- first; order 2 the one behind those before place kept; order 3 the one at the drawn number.
 unfoldable pub turn : Order → Machine → State → ℕ → ℕ
-turn first M s c = 0
-turn round M s c = length (passing (openAt M s) c)
-turn drawn M s c = drawnBy c
+turn first M s kept = 0
+turn round M s kept = length (passing (openAt M s) kept)
+turn drawn M s kept = drawnBy kept
 
 -- The place that an order takes.
 unfoldable pub chosen : Order → Machine → State → ℕ → ℕ
-chosen o M s c = getD (openPlaces M s) (turn o M s c % length (openPlaces M s)) 0
+chosen o M s kept = getD (openPlaces M s) (turn o M s kept % length (openPlaces M s)) 0
 
 -- What an order remembers when it starts: order 3 the seed.
 unfoldable pub startMemory : Order → ℕ → ℕ
@@ -55,6 +55,6 @@ startMemory drawn seed = seed
 
 -- What an order remembers after it took place p: order 2 the place behind it, order 3 the generator's next number.
 unfoldable pub remembered : Order → ℕ → ℕ → ℕ
-remembered first c p = 0
-remembered round c p = suc p
-remembered drawn c p = nextNumber c
+remembered first kept p = 0
+remembered round kept p = suc p
+remembered drawn kept p = nextNumber kept

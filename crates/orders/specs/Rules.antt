@@ -13,33 +13,33 @@ use Rattle.orders.specs.Trial.{Entry}
 
 -- The steps at places a to b − 1 are not open.
 abbrev pub ShutFrom : Machine → State → ℕ → ℕ → Type 0
-ShutFrom M s a b = (q : ℕ) → a ≤ q → q < b → openAt M s q ≡ false
+ShutFrom M s a b = (p : ℕ) → a ≤ p → p < b → openAt M s p ≡ false
 
--- Going round the ranking from place c, the step at place p is the first that is open: before it come the places from c up to p, or,
--- where p is before c, those from c to the end and then those from the top up to p.
-pub data FirstRound (M : Machine) (s : State) (c p : ℕ) : Type 0 where
-  onward : c ≤ p → ShutFrom M s c p → FirstRound M s c p
-  around : p < c → ShutFrom M s c (places (M .carriers)) → ShutFrom M s 0 p → FirstRound M s c p
+-- Going round the ranking from place kept, the step at place p is the first that is open: before it come the places from kept up to p, or,
+-- where p is before kept, those from kept to the end and then those from the top up to p.
+pub data FirstRound (M : Machine) (s : State) (kept p : ℕ) : Type 0 where
+  onward : kept ≤ p → ShutFrom M s kept p → FirstRound M s kept p
+  around : p < kept → ShutFrom M s kept (places (M .carriers)) → ShutFrom M s 0 p → FirstRound M s kept p
 
--- An order that remembers c may take place p. Order 1: the first open one. Order 2: the first open one going round. Order 3: with m
--- open ones, the one at the drawn number modulo m.
+-- An order that remembers the number kept may take place p. Order 1: the first open one. Order 2: the first open one going round. Order 3: with n
+-- open ones, the one at the drawn number modulo n.
 unfoldable pub MayTake : Order → Machine → State → ℕ → ℕ → Type 0
-MayTake first M s c p = ShutFrom M s 0 p
-MayTake round M s c p = FirstRound M s c p
-MayTake drawn M s c p = p ≡ getD (openPlaces M s) (drawnBy c % length (openPlaces M s)) 0
+MayTake first M s kept p = ShutFrom M s 0 p
+MayTake round M s kept p = FirstRound M s kept p
+MayTake drawn M s kept p = p ≡ getD (openPlaces M s) (drawnBy kept % length (openPlaces M s)) 0
 
 -- A line of the report is that of a step, open when it was taken, at a place that the order may take; with the machine's answer.
-pub record TakenBy (o : Order) (M : Machine) (c : ℕ) (s : State) (e : Entry) (p : ℕ) : Type 0 where
+pub record TakenBy (o : Order) (M : Machine) (kept : ℕ) (s : State) (x : Entry) (p : ℕ) : Type 0 where
   pub listed : p < places (M .carriers)
-  pub step : e .taken ≡ stepAt (M .carriers) p
-  pub isOpen : isOpen M s (e .taken) ≡ true
-  pub rule : MayTake o M s c p
-  pub answer : e .answer ≡ stepAnswer M s (e .taken)
+  pub step : x .taken ≡ stepAt (M .carriers) p
+  pub isOpen : isOpen M s (x .taken) ≡ true
+  pub rule : MayTake o M s kept p
+  pub answer : x .answer ≡ stepAnswer M s (x .taken)
 
--- From state s on, each line of a report is that of a step that the order takes, which remembers c at first.
+-- From state s on, each line of a report is that of a step that the order takes, which remembers the number kept at first.
 unfoldable pub FollowsOrder : Order → Machine → ℕ → State → List Entry → Type 0
-FollowsOrder o M c s [] = Unit {0}
-FollowsOrder o M c s (e ∷ es) = (p : ℕ) × TakenBy o M c s e p × FollowsOrder o M (remembered o c p) (afterStep M s (e .taken)) es
+FollowsOrder o M kept s [] = Unit {0}
+FollowsOrder o M kept s (x ∷ xs) = (p : ℕ) × TakenBy o M kept s x p × FollowsOrder o M (remembered o kept p) (afterStep M s (x .taken)) xs
 
 -- From state s on, step x is open each time that a step of the list is taken, and is not taken itself.
 unfoldable pub PassedOver : Machine → Step → State → List Step → Type 0

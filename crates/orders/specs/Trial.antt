@@ -21,7 +21,7 @@ pub record TrialResult : Type 0 where
 
 -- The step that an order takes.
 unfoldable pub nextStep : Order → Machine → State → ℕ → Step
-nextStep o M s c = stepAt (M .carriers) (chosen o M s c)
+nextStep o M s kept = stepAt (M .carriers) (chosen o M s kept)
 
 -- The line that reports a step.
 unfoldable pub entryOf : Machine → State → Step → Entry
@@ -29,17 +29,17 @@ entryOf M s x = record { taken = x; answer = stepAnswer M s x }
 
 -- A trial with one more line in front.
 unfoldable pub reported : Entry → TrialResult → TrialResult
-reported e t = record { report = e ∷ t .report; state = t .state }
+reported x y = record { report = x ∷ y .report; state = y .state }
 
--- At most b steps in an order that remembers c, from state s, until none is open.
+-- At most b steps in an order that remembers the number kept, from state s, until none is open.
 unfoldable pub tryFrom : Order → Machine → ℕ → State → ℕ → TrialResult
-tryFrom o M c s zero = record { report = []; state = s }
-tryFrom o M c s (suc b) =
+tryFrom o M kept s zero = record { report = []; state = s }
+tryFrom o M kept s (suc b) =
     elim
     (isSilent M s) [
       | true ↦ record { report = []; state = s }
-      | false ↦ reported (entryOf M s (nextStep o M s c))
-          (tryFrom o M (remembered o c (chosen o M s c)) (afterStep M s (nextStep o M s c)) b)
+      | false ↦ reported (entryOf M s (nextStep o M s kept))
+          (tryFrom o M (remembered o kept (chosen o M s kept)) (afterStep M s (nextStep o M s kept)) b)
     ]
 
 -- The trial from fresh, with as many steps as the ceiling has.
@@ -48,4 +48,4 @@ trial o M seed = tryFrom o M (startMemory o seed) fresh (ceiling (M .carriers))
 
 -- The steps of a report, in order.
 unfoldable pub stepsIn : List Entry → List Step
-stepsIn es = map (λ (e : Entry). e .taken) es
+stepsIn xs = map (λ (x : Entry). x .taken) xs

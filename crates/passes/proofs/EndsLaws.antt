@@ -108,7 +108,7 @@ pub ends-same : (g : SearchGrid) (sets : List ℕ) (ds : Docks) (t d : ℕ) → 
 unfolding anyOf endableAt
 ends-same g sets ds t d h ends c = ends c ∙ rw (add-one, held-no ds t d h) (or-false (anyOf (endableAt ds t c) d))
   where
-    or-false : (b : Bool) → b ≡ (b || false)
+    or-false : (x : Bool) → x ≡ (x || false)
     or-false true = refl
     or-false false = refl
 

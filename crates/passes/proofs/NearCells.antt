@@ -15,14 +15,14 @@ use Rattle.layers.proofs.MemberLaws.{near-row, near-same}
 use Rattle.passes.specs.Walk.{pick, firstNear}
 
 -- What holds of both, or of the one that is picked.
-pick-both : (P : ℕ → Type 0) (b : Bool) (x y : ℕ) → (b ≡ true → P x) → P y → P (pick b x y)
+pick-both : (P : ℕ → Type 0) (z : Bool) (x y : ℕ) → (z ≡ true → P x) → P y → P (pick z x y)
 unfolding pick
 pick-both P true x y f h = f refl
 pick-both P false x y f h = h
 
-pick-first : (P : ℕ → Type 0) (b : Bool) (x y : ℕ) → b ≡ true → P x → P (pick b x y)
+pick-first : (P : ℕ → Type 0) (z : Bool) (x y : ℕ) → z ≡ true → P x → P (pick z x y)
 unfolding pick
-pick-first P b x y e h = rw (e, pick) h
+pick-first P z x y e h = rw (e, pick) h
 
 -- The near cells of c in rising order.
 pub data Candidate (w c d : ℕ) : Type 0 where
@@ -87,50 +87,50 @@ module _ (w c : ℕ) (thin : 0 < w) where
           down (omega (arith, of-c, of-d, p, h))
 
   -- What holds of every near cell that passes the test, and of the cell, holds of the first.
-  pub first-holds : (p : ℕ → Bool) (P : ℕ → Type 0) → ((d : ℕ) → p d ≡ true → P d) → P c → P (firstNear p w c)
+  pub first-holds : (φ : ℕ → Bool) (P : ℕ → Type 0) → ((d : ℕ) → φ d ≡ true → P d) → P c → P (firstNear φ w c)
   unfolding firstNear
-  first-holds p P f h =
-      pick-both P _ _ _ (λ e. f (c - w) (and-snd (leb w c) (p (c - w)) e))
-      (pick-both P _ _ _ (λ e. f (c - 1) (and-snd (ltb 0 (c % w)) (p (c - 1)) e))
+  first-holds φ P f h =
+      pick-both P _ _ _ (λ e. f (c - w) (and-snd (leb w c) (φ (c - w)) e))
+      (pick-both P _ _ _ (λ e. f (c - 1) (and-snd (ltb 0 (c % w)) (φ (c - 1)) e))
       (pick-both P _ _ _ (f c)
-      (pick-both P _ _ _ (λ e. f (c + 1) (and-snd (ltb (c % w + 1) w) (p (c + 1)) e)) (pick-both P _ _ _ (f (c + w)) h))))
+      (pick-both P _ _ _ (λ e. f (c + 1) (and-snd (ltb (c % w + 1) w) (φ (c + 1)) e)) (pick-both P _ _ _ (f (c + w)) h))))
 
-  module _ (p : ℕ → Bool) (d : ℕ) (good : p d ≡ true) where
+  module _ (φ : ℕ → Bool) (d : ℕ) (good : φ d ≡ true) where
     -- Cell n is near, passes the test, and is not above d.
     abbrev Taken : ℕ → Type 0
-    Taken n = (near w c n ≡ true) × (p n ≡ true) × (n ≤ d)
+    Taken n = (near w c n ≡ true) × (φ n ≡ true) × (n ≤ d)
 
-    up-taken : c - w ≤ d → (leb w c && p (c - w)) ≡ true → Taken (c - w)
-    up-taken l e = (near-up (leb-true w c (and-fst (leb w c) (p (c - w)) e)), and-snd (leb w c) (p (c - w)) e, l)
+    up-taken : c - w ≤ d → (leb w c && φ (c - w)) ≡ true → Taken (c - w)
+    up-taken l e = (near-up (leb-true w c (and-fst (leb w c) (φ (c - w)) e)), and-snd (leb w c) (φ (c - w)) e, l)
 
-    left-taken : c - 1 ≤ d → (ltb 0 (c % w) && p (c - 1)) ≡ true → Taken (c - 1)
+    left-taken : c - 1 ≤ d → (ltb 0 (c % w) && φ (c - 1)) ≡ true → Taken (c - 1)
     left-taken l e =
-        (near-left (ltb-true 0 (c % w) (and-fst (ltb 0 (c % w)) (p (c - 1)) e)), and-snd (ltb 0 (c % w)) (p (c - 1)) e, l)
+        (near-left (ltb-true 0 (c % w) (and-fst (ltb 0 (c % w)) (φ (c - 1)) e)), and-snd (ltb 0 (c % w)) (φ (c - 1)) e, l)
 
-    here-taken : c ≤ d → p c ≡ true → Taken c
+    here-taken : c ≤ d → φ c ≡ true → Taken c
     here-taken l e = (near-same w c, e, l)
 
-    right-taken : c + 1 ≤ d → (ltb (c % w + 1) w && p (c + 1)) ≡ true → Taken (c + 1)
+    right-taken : c + 1 ≤ d → (ltb (c % w + 1) w && φ (c + 1)) ≡ true → Taken (c + 1)
     right-taken l e =
-        (near-right (ltb-true (c % w + 1) w (and-fst (ltb (c % w + 1) w) (p (c + 1)) e)), and-snd (ltb (c % w + 1) w) (p (c + 1)) e, l)
+        (near-right (ltb-true (c % w + 1) w (and-fst (ltb (c % w + 1) w) (φ (c + 1)) e)), and-snd (ltb (c % w + 1) w) (φ (c + 1)) e, l)
 
-    down-taken : c + w ≤ d → p (c + w) ≡ true → Taken (c + w)
+    down-taken : c + w ≤ d → φ (c + w) ≡ true → Taken (c + w)
     down-taken l e = (near-down, e, l)
 
     -- Where some near cell passes the test, the first is near, passes it, and is the smallest.
-    pub first-best : near w c d ≡ true → (near w c (firstNear p w c) ≡ true) × (p (firstNear p w c) ≡ true) × (firstNear p w c ≤ d)
+    pub first-best : near w c d ≡ true → (near w c (firstNear φ w c) ≡ true) × (φ (firstNear φ w c) ≡ true) × (firstNear φ w c ≤ d)
     unfolding firstNear
     first-best e = go (near-candidate d e)
       where
-        go : Candidate w c d → Taken (firstNear p w c)
+        go : Candidate w c d → Taken (firstNear φ w c)
         go (up h q) = pick-first Taken _ _ _ test (up-taken (omega arith) test)
           where
-            test : (leb w c && p (c - w)) ≡ true
+            test : (leb w c && φ (c - w)) ≡ true
             test = and-both (le-leb w c h) (rw q at good)
         go (left h q) =
             pick-both Taken _ _ _ (up-taken (omega arith)) (pick-first Taken _ _ _ test (left-taken (omega arith) test))
           where
-            test : (ltb 0 (c % w) && p (c - 1)) ≡ true
+            test : (ltb 0 (c % w) && φ (c - 1)) ≡ true
             test = and-both (lt-ltb 0 (c % w) h) (rw q at good)
         go (here q) =
             pick-both Taken _ _ _ (up-taken (omega arith))
@@ -141,7 +141,7 @@ module _ (w c : ℕ) (thin : 0 < w) where
             (pick-both Taken _ _ _ (left-taken (omega arith))
             (pick-both Taken _ _ _ (here-taken (omega arith)) (pick-first Taken _ _ _ test (right-taken (omega arith) test))))
           where
-            test : (ltb (c % w + 1) w && p (c + 1)) ≡ true
+            test : (ltb (c % w + 1) w && φ (c + 1)) ≡ true
             test = and-both (lt-ltb (c % w + 1) w h) (rw q at good)
         go (down q) =
             pick-both Taken _ _ _ (up-taken (omega arith))

@@ -24,12 +24,12 @@ pub within : {x : Bool} (a b : ℕ) (y : Bool) → x ≡ (ltb a b && y) → x �
 within a b y e h = ltb-true a b (and-fst (ltb a b) y (sym e ∙ h))
 
 -- A test that fails is passed over, and one that holds gives its cell.
-module _ (P : ℕ → Type 0) {x b : Bool} (d y : ℕ) where
-  passed-over : x ≡ b → x ≡ false → P y → P (pick b d y)
+module _ (P : ℕ → Type 0) {x z : Bool} (d y : ℕ) where
+  passed-over : x ≡ z → x ≡ false → P y → P (pick z d y)
   unfolding pick
   passed-over e h q = rw (← e, h) q
 
-  taken : x ≡ b → x ≡ true → P d → P (pick b d y)
+  taken : x ≡ z → x ≡ true → P d → P (pick z d y)
   unfolding pick
   taken e h q = rw (← e, h) q
 
@@ -68,11 +68,11 @@ module _ (g : SearchGrid) (sets : List ℕ) (t c : ℕ) (p : Place) (grid : Grid
   up-row h = ⊎-elim (λ (l : c < w). absurd (omega (arith, at .row, div-eq-of-lt l))) (λ (l : w ≤ c). l) (lt-or-le c w)
 
   -- A digit of a tidy table is a cell.
-  digit-set : (e row column : ℕ) → (e / g .width ≡ row) × (e % g .width ≡ column) → row < 32 →
-      has sets (wordOf t row) column ≡ inSet g sets t e
-  digit-set e row column (h, l) low =
+  digit-set : (d row column : ℕ) → (d / g .width ≡ row) × (d % g .width ≡ column) → row < 32 →
+      has sets (wordOf t row) column ≡ inSet g sets t d
+  digit-set d row column (h, l) low =
       rw (← h, ← l)
-      (same-test _ _ (λ q. set-holds g sets t e (rw (div-add-mod' e w) at (tidy .rows t (e / w) (e % w) (rw h low) q)) q) (set-has g sets t e))
+      (same-test _ _ (λ q. set-holds g sets t d (rw (div-add-mod' d w) at (tidy .rows t (d / w) (d % w) (rw h low) q)) q) (set-has g sets t d))
 
   -- The digits above, left, here, right and below.
   pub up-is : (x : Bool) → x ≡ (ltb 0 (p .row) && has sets (wordOf t (p .row - 1)) (p .column)) →
@@ -125,14 +125,14 @@ module _ (g : SearchGrid) (sets : List ℕ) (t c : ℕ) (p : Place) (grid : Grid
           ))))
 
   -- A place in a row and a column of the grid.
-  place : (e row column : ℕ) → (e / w ≡ row) × (e % w ≡ column) → row < 32 → PlaceOf g e (record { row = row; column = column })
-  place e row column (h, l) low =
-      let thin : column < w = omega (arith, l, mod-lt e (grid .thin)) in
+  place : (d row column : ℕ) → (d / w ≡ row) × (d % w ≡ column) → row < 32 → PlaceOf g d (record { row = row; column = column })
+  place d row column (h, l) low =
+      let thin : column < w = omega (arith, l, mod-lt d (grid .thin)) in
       record { row = sym h; column = sym l; low = low; thin = thin; narrow = omega (arith, thin, grid .narrow) }
 
   -- Where the walk goes from here, test for test.
   abbrev Goes : Place → ℕ → Type 0
-  Goes r e = PlaceOf g e r
+  Goes p c = PlaceOf g c p
 
   module _ {x : Bool} (up : x ≡ (ltb 0 (p .row) && has sets (wordOf t (p .row - 1)) (p .column))) where
     pub goes-up : x ≡ true → PlaceOf g (nextOf g sets t c) (record { row = p .row - 1; column = p .column })
@@ -167,12 +167,12 @@ module _ (g : SearchGrid) (sets : List ℕ) (t c : ℕ) (p : Place) (grid : Grid
 
           module _ (no-right : x₄ ≡ false) {x₅ : Bool}
               (down : x₅ ≡ (ltb (p .row + 1) 32 && has sets (wordOf t (p .row + 1)) (p .column))) where
-            past-right : (r : Place) → Goes r (pick (inSet g sets t (c + w)) (c + w) c) → Goes r (nextOf g sets t c)
+            past-right : (y : Place) → Goes y (pick (inSet g sets t (c + w)) (c + w) c) → Goes y (nextOf g sets t c)
             unfolding nextOf firstNear
-            past-right r q =
-                passed-over (Goes r) _ _ (up-is x up) no-up
-                (passed-over (Goes r) _ _ (left-is x₂ left) no-left
-                (passed-over (Goes r) _ _ (here-is x₃ here) no-here (passed-over (Goes r) _ _ (right-is x₄ right) no-right q)))
+            past-right y q =
+                passed-over (Goes y) _ _ (up-is x up) no-up
+                (passed-over (Goes y) _ _ (left-is x₂ left) no-left
+                (passed-over (Goes y) _ _ (here-is x₃ here) no-here (passed-over (Goes y) _ _ (right-is x₄ right) no-right q)))
 
             pub goes-down : x₅ ≡ true → PlaceOf g (nextOf g sets t c) (record { row = p .row + 1; column = p .column })
             goes-down h =

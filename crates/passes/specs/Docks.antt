@@ -17,8 +17,8 @@ pub record DocksIn (g : SearchGrid) (n : ℕ) (cells : List ℕ) : Type 0 where
 
 -- The least number from which all below n pass a test; n where the last fails.
 unfoldable pub heldFrom : (ℕ → Bool) → ℕ → ℕ
-heldFrom p zero = 0
-heldFrom p (suc n) = elim (p n) [ true ↦ heldFrom p n | false ↦ suc n ]
+heldFrom φ zero = 0
+heldFrom φ (suc n) = elim (φ n) [ true ↦ heldFrom φ n | false ↦ suc n ]
 
 -- The least beat from which cell c is in the free table through the horizon; one past the horizon where it is not there then.
 unfoldable pub holdOf : SearchGrid → List ℕ → ℕ → ℕ
@@ -31,8 +31,8 @@ heldDocks g table count cells =
 
 -- Some number below n passes a test.
 unfoldable pub anyOf : (ℕ → Bool) → ℕ → Bool
-anyOf p zero = false
-anyOf p (suc n) = anyOf p n || p n
+anyOf φ zero = false
+anyOf φ (suc n) = anyOf φ n || φ n
 
 -- Dock d can be held from beat t on.
 unfoldable pub heldAt : Docks → ℕ → ℕ → Bool

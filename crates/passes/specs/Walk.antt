@@ -8,14 +8,14 @@ use Rattle.layers.specs.Table.{inSet}
 
 -- The first where the test holds, else the second.
 unfoldable pub pick : Bool → ℕ → ℕ → ℕ
-pick b x y = elim b [ true ↦ x | false ↦ y ]
+pick z x y = elim z [ true ↦ x | false ↦ y ]
 
 -- The first cell above, left, here, right and below c in a grid of width w that passes a test; c where none does.
 unfoldable pub firstNear : (ℕ → Bool) → ℕ → ℕ → ℕ
-firstNear p w c =
-    pick (leb w c && p (c - w)) (c - w)
-    (pick (ltb 0 (c % w) && p (c - 1)) (c - 1)
-    (pick (p c) c (pick (ltb (c % w + 1) w && p (c + 1)) (c + 1) (pick (p (c + w)) (c + w) c))))
+firstNear φ w c =
+    pick (leb w c && φ (c - w)) (c - w)
+    (pick (ltb 0 (c % w) && φ (c - 1)) (c - 1)
+    (pick (φ c) c (pick (ltb (c % w + 1) w && φ (c + 1)) (c + 1) (pick (φ (c + w)) (c + w) c))))
 
 -- The smallest near cell of c in the set of beat t; c where there is none.
 unfoldable pub nextOf : SearchGrid → List ℕ → ℕ → ℕ → ℕ

@@ -12,7 +12,7 @@ use layers::step::propagate;
 pub fn backward(g: SearchGrid, sets: &mut [u32], table: &[u32], ds: Docks, a: usize)
     requires { ⌜ Grid g × DocksIn g (ds .count) (ds .cells) × (a < 64) ⌝ }
     requires { ⌜ Tidy g (now sets) × Tidy g (now table) ⌝ }
-    ensures { λ r. ⌜ BackwardReachable g (now (table .entry)) ds a 0 (now (sets .exit)) ⌝ }
+    ensures { λ result. ⌜ BackwardReachable g (now (table .entry)) ds a 0 (now (sets .exit)) ⌝ }
 {
     put_docks(g, sets, ds, a);
     propagate(sets, table, a, a, true);

@@ -25,7 +25,7 @@ pub struct Docks {
 // The least beat from which a cell is in the free table through the horizon; one past the horizon where it is not there then.
 fn hold_from(g: SearchGrid, table: &[u32], dock: usize) -> usize
     requires { ⌜ Grid g × (length (now table) ≡ 2049) × (g .horizon ≤ 63) × (dock < g .cells) ⌝ }
-    ensures { λ r. ⌜ r ≡ holdOf g (now (table .entry)) dock ⌝ }
+    ensures { λ result. ⌜ result ≡ holdOf g (now (table .entry)) dock ⌝ }
 {
     let mut n = g.horizon + 1;
     while 0 < n {
@@ -40,7 +40,7 @@ fn hold_from(g: SearchGrid, table: &[u32], dock: usize) -> usize
 // The docks with the beats from which they can be held in a free table.
 pub fn hold_docks(g: SearchGrid, table: &[u32], count: usize, cells: Cells) -> Docks
     requires { ⌜ Grid g × (length (now table) ≡ 2049) × (g .horizon ≤ 63) × DocksIn g count cells ⌝ }
-    ensures { λ r. ⌜ r ≡ heldDocks g (now (table .entry)) count cells ⌝ }
+    ensures { λ result. ⌜ result ≡ heldDocks g (now (table .entry)) count cells ⌝ }
 {
     let mut holds = [0usize; 4];
     let mut d: usize = 0;
@@ -58,7 +58,7 @@ pub fn hold_docks(g: SearchGrid, table: &[u32], count: usize, cells: Cells) -> D
 // Whether a dock that can be held from beat `hold` on can be held from beat t on, and is in the set of beat t.
 fn arrives_at(g: SearchGrid, sets: &[u32], t: usize, hold: usize, dock: usize) -> bool
     requires { ⌜ Grid g × (length (now sets) ≡ 2049) × (t < 64) × (dock < g .cells) ⌝ }
-    ensures { λ r. ⌜ r ≡ (leb hold t && inSet g (now (sets .entry)) t dock) ⌝ }
+    ensures { λ result. ⌜ result ≡ (leb hold t && inSet g (now (sets .entry)) t dock) ⌝ }
 {
     if t < hold {
         return false;
@@ -69,7 +69,7 @@ fn arrives_at(g: SearchGrid, sets: &[u32], t: usize, hold: usize, dock: usize) -
 // Whether some dock that can be held from beat t on is in the set of beat t.
 pub fn arrives(g: SearchGrid, sets: &[u32], ds: Docks, t: usize) -> bool
     requires { ⌜ Grid g × (length (now sets) ≡ 2049) × (t < 64) × DocksIn g (ds .count) (ds .cells) ⌝ }
-    ensures { λ r. ⌜ r ≡ arrivable g (now (sets .entry)) ds t ⌝ }
+    ensures { λ result. ⌜ result ≡ arrivable g (now (sets .entry)) ds t ⌝ }
 {
     let n = ds.count;
     let mut d: usize = 0;
@@ -85,8 +85,8 @@ pub fn arrives(g: SearchGrid, sets: &[u32], ds: Docks, t: usize) -> bool
 // Dock d joins the set of beat a if it can be held from then on.
 fn put_dock(g: SearchGrid, sets: &mut [u32], ds: Docks, a: usize, d: usize)
     requires { ⌜ Grid g × Tidy g (now sets) × (a < 64) × DocksIn g (ds .count) (ds .cells) × (d < ds .count) ⌝ }
-    ensures only { λ r. ⌜ ChangedAt g (now (sets .entry)) a (now (sets .exit)) ⌝ }
-    ensures more { λ r. ⌜ OneEnd g (now (sets .entry)) ds a d (now (sets .exit)) ⌝ }
+    ensures only { λ result. ⌜ ChangedAt g (now (sets .entry)) a (now (sets .exit)) ⌝ }
+    ensures more { λ result. ⌜ OneEnd g (now (sets .entry)) ds a d (now (sets .exit)) ⌝ }
 {
     if a < ds.holds[d] {
         return;
@@ -97,8 +97,8 @@ fn put_dock(g: SearchGrid, sets: &mut [u32], ds: Docks, a: usize, d: usize)
 // The set of beat a becomes the docks that can be held from then on.
 pub fn put_docks(g: SearchGrid, sets: &mut [u32], ds: Docks, a: usize)
     requires { ⌜ Grid g × Tidy g (now sets) × (a < 64) × DocksIn g (ds .count) (ds .cells) ⌝ }
-    ensures only { λ r. ⌜ ChangedAt g (now (sets .entry)) a (now (sets .exit)) ⌝ }
-    ensures ends { λ r. ⌜ EndsAt g (now (sets .exit)) ds a (ds .count) ⌝ }
+    ensures only { λ result. ⌜ ChangedAt g (now (sets .entry)) a (now (sets .exit)) ⌝ }
+    ensures ends { λ result. ⌜ EndsAt g (now (sets .exit)) ds a (ds .count) ⌝ }
 {
     put_none(g, sets, a);
     let n = ds.count;

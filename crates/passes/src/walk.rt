@@ -17,7 +17,7 @@ use route::Route;
 // Whether the digit above that of a row at a column is 1, at beat t.
 fn has_above(sets: &[u32], t: usize, row: usize, column: usize) -> bool
     requires { ⌜ (length (now sets) ≡ 2049) × (t < 64) × (row < 32) × (column < 32) ⌝ }
-    ensures { λ r. ⌜ r ≡ (ltb 0 row && Rows·has (now (sets .entry)) (wordOf t (row - 1)) column) ⌝ }
+    ensures { λ result. ⌜ result ≡ (ltb 0 row && Rows·has (now (sets .entry)) (wordOf t (row - 1)) column) ⌝ }
 {
     if 0 < row {
         return has_at(sets, t, row - 1, column);
@@ -28,7 +28,7 @@ fn has_above(sets: &[u32], t: usize, row: usize, column: usize) -> bool
 // Whether the digit below it is 1.
 fn has_below(sets: &[u32], t: usize, row: usize, column: usize) -> bool
     requires { ⌜ (length (now sets) ≡ 2049) × (t < 64) × (row < 32) × (column < 32) ⌝ }
-    ensures { λ r. ⌜ r ≡ (ltb (row + 1) 32 && Rows·has (now (sets .entry)) (wordOf t (row + 1)) column) ⌝ }
+    ensures { λ result. ⌜ result ≡ (ltb (row + 1) 32 && Rows·has (now (sets .entry)) (wordOf t (row + 1)) column) ⌝ }
 {
     if row + 1 < ROWS {
         return has_at(sets, t, row + 1, column);
@@ -39,7 +39,7 @@ fn has_below(sets: &[u32], t: usize, row: usize, column: usize) -> bool
 // Whether the digit left of it is 1.
 fn has_left(sets: &[u32], t: usize, row: usize, column: usize) -> bool
     requires { ⌜ (length (now sets) ≡ 2049) × (t < 64) × (row < 32) × (column < 32) ⌝ }
-    ensures { λ r. ⌜ r ≡ (ltb 0 column && Rows·has (now (sets .entry)) (wordOf t row) (column - 1)) ⌝ }
+    ensures { λ result. ⌜ result ≡ (ltb 0 column && Rows·has (now (sets .entry)) (wordOf t row) (column - 1)) ⌝ }
 {
     if 0 < column {
         return has_at(sets, t, row, column - 1);
@@ -50,7 +50,7 @@ fn has_left(sets: &[u32], t: usize, row: usize, column: usize) -> bool
 // Whether the digit right of it is 1, in a grid of width w.
 fn has_right(sets: &[u32], t: usize, row: usize, column: usize, w: usize) -> bool
     requires { ⌜ (length (now sets) ≡ 2049) × (t < 64) × (row < 32) × (column < 32) × (w ≤ 32) ⌝ }
-    ensures { λ r. ⌜ r ≡ (ltb (column + 1) w && Rows·has (now (sets .entry)) (wordOf t row) (column + 1)) ⌝ }
+    ensures { λ result. ⌜ result ≡ (ltb (column + 1) w && Rows·has (now (sets .entry)) (wordOf t row) (column + 1)) ⌝ }
 {
     if column + 1 < w {
         return has_at(sets, t, row, column + 1);
@@ -61,7 +61,7 @@ fn has_right(sets: &[u32], t: usize, row: usize, column: usize, w: usize) -> boo
 // The place of the smallest near cell in the set of beat t; the place itself where there is none.
 fn next(g: SearchGrid, sets: &[u32], t: usize, p: Place) -> Place
     requires { ⌜ Grid g × Tidy g (now sets) × (t < 64) × (p .row < 32) × (p .column < g .width) ⌝ }
-    ensures { λ r. ⌜ ((c : ℕ) → PlaceOf g c p → PlaceOf g (nextOf g (now (sets .entry)) t c) r) ⌝ }
+    ensures { λ result. ⌜ ((c : ℕ) → PlaceOf g c p → PlaceOf g (nextOf g (now (sets .entry)) t c) result) ⌝ }
 {
     let row = p.row;
     let column = p.column;
@@ -98,7 +98,7 @@ fn next(g: SearchGrid, sets: &[u32], t: usize, p: Place) -> Place
 // The cells from the start along the sets through beat a.
 fn along(g: SearchGrid, sets: &[u32], start: usize, a: usize) -> Route
     requires { ⌜ Grid g × Tidy g (now sets) × (a ≤ 63) × (start < g .cells) ⌝ }
-    ensures { λ r. ⌜ r ≡ filled (replicate 64 0) (pathOf g (now (sets .entry)) start a) (a + 1) ⌝ }
+    ensures { λ result. ⌜ result ≡ filled (replicate 64 0) (pathOf g (now (sets .entry)) start a) (a + 1) ⌝ }
 {
     let w = g.width;
     let mut r = [0u16; 64];
@@ -116,7 +116,7 @@ fn along(g: SearchGrid, sets: &[u32], start: usize, a: usize) -> Route
 // The route from the start along the sets through beat a, where it stays; 0 after the horizon.
 pub fn walk(g: SearchGrid, sets: &[u32], start: usize, a: usize) -> Route
     requires { ⌜ Grid g × Tidy g (now sets) × (a ≤ g .horizon) × (g .horizon ≤ 63) × (start < g .cells) ⌝ }
-    ensures { λ r. ⌜ r ≡ filled (replicate 64 0) (pathOf g (now (sets .entry)) start a) (g .horizon + 1) ⌝ }
+    ensures { λ result. ⌜ result ≡ filled (replicate 64 0) (pathOf g (now (sets .entry)) start a) (g .horizon + 1) ⌝ }
 {
     let mut r = along(g, sets, start, a);
     let last = r[a];

@@ -23,9 +23,9 @@ use wording::put;
 pub const TEXT_LENGTH: usize = 65536;
 
 // Puts the head of the picture: its size and its title; the column behind it is returned.
-fn put_head(p: Page, out: &mut [u8]) -> usize {
-    let w = page::width(p);
-    let h = page::height(p);
+fn put_head(page: Page, out: &mut [u8]) -> usize {
+    let w = page::width(page);
+    let h = page::height(page);
     let size = fill(
         out,
         0,
@@ -41,7 +41,7 @@ fn put_head(p: Page, out: &mut [u8]) -> usize {
         out,
         role,
         b"<title id=\"title\">Routes on a floor of % by % cells</title>\n<desc id=\"desc\">",
-        [p.columns as usize, p.rows as usize, 0, 0, 0, 0],
+        [page.columns as usize, page.rows as usize, 0, 0, 0, 0],
     )
 }
 
@@ -89,18 +89,18 @@ fn put_motion(out: &mut [u8], at: usize) -> usize {
 }
 
 // Puts the patterns of the grid and of the hatching; the column behind them is returned.
-fn put_patterns(s: usize, out: &mut [u8], at: usize) -> usize {
+fn put_patterns(side: usize, out: &mut [u8], at: usize) -> usize {
     let grid = fill(
         out,
         at,
         b"<defs>\n<pattern id=\"grid\" x=\"28\" y=\"28\" width=\"%\" height=\"%\" patternUnits=\"userSpaceOnUse\">",
-        [s, s, 0, 0, 0, 0],
+        [side, side, 0, 0, 0, 0],
     );
     let cell = fill(
         out,
         grid,
         b"<path d=\"M% 0H0V%\" fill=\"none\" stroke=\"#ccc\"/></pattern>\n<pattern id=\"hatch\" width=\"6\" height=\"6\"",
-        [s, s, 0, 0, 0, 0],
+        [side, side, 0, 0, 0, 0],
     );
     let hatch = put(
         out,
@@ -115,57 +115,57 @@ fn put_patterns(s: usize, out: &mut [u8], at: usize) -> usize {
 }
 
 // Puts the window through which a beat's numeral is seen; the column behind it is returned.
-fn put_window(p: Page, out: &mut [u8], at: usize) -> usize {
+fn put_window(page: Page, out: &mut [u8], at: usize) -> usize {
     fill(
         out,
         at,
         b"<clipPath id=\"window\"><rect x=\"%\" y=\"30\" width=\"36\" height=\"28\"/></clipPath>\n</defs>\n",
-        [page::legend(p) + 40, 0, 0, 0, 0, 0],
+        [page::legend(page) + 40, 0, 0, 0, 0, 0],
     )
 }
 
 // Puts the paper of the picture and opens the group of all that is drawn on it; the column behind them is returned.
-fn put_paper(p: Page, out: &mut [u8], at: usize) -> usize {
+fn put_paper(page: Page, out: &mut [u8], at: usize) -> usize {
     fill(
         out,
         at,
         b"<rect width=\"%\" height=\"%\" fill=\"#fff\"/>\n<g font-family=\"sans-serif\" font-size=\"14\" fill=\"#222\">\n",
-        [page::width(p), page::height(p), 0, 0, 0, 0],
+        [page::width(page), page::height(page), 0, 0, 0, 0],
     )
 }
 
 // Puts all that stands before the drawing; the column behind it is returned.
-fn put_front(p: Page, m: &[u16], out: &mut [u8]) -> usize {
-    let head = put_head(p, out);
-    let words = carriers::put_parts(Part::Words, p, m, out, head);
+fn put_front(page: Page, m: &[u16], out: &mut [u8]) -> usize {
+    let head = put_head(page, out);
+    let words = carriers::put_parts(Part::Words, page, m, out, head);
     let colours = put_colours(out, words);
     let motion = put_motion(out, colours);
-    let patterns = put_patterns(page::side(p), out, motion);
-    let window = put_window(p, out, patterns);
-    put_paper(p, out, window)
+    let patterns = put_patterns(page::side(page), out, motion);
+    let window = put_window(page, out, patterns);
+    put_paper(page, out, window)
 }
 
 // Puts the floor; the column behind it is returned.
-fn put_ground(p: Page, walls: &[u16], docks: &[u16], out: &mut [u8], at: usize) -> usize {
-    let grid = ground::put_grid(p, out, at);
-    let shut = ground::put_walls(p, walls, out, grid);
-    ground::put_docks(p, docks, out, shut)
+fn put_ground(page: Page, walls: &[u16], docks: &[u16], out: &mut [u8], at: usize) -> usize {
+    let grid = ground::put_grid(page, out, at);
+    let shut = ground::put_walls(page, walls, out, grid);
+    ground::put_docks(page, docks, out, shut)
 }
 
 // Puts the traces; the column behind them is returned.
-fn put_traces(p: Page, m: &[u16], out: &mut [u8], at: usize) -> usize {
+fn put_traces(page: Page, m: &[u16], out: &mut [u8], at: usize) -> usize {
     let open = put(
         out,
         at,
         b"<g fill=\"none\" stroke-width=\"3\" stroke-opacity=\".8\" stroke-linejoin=\"round\" stroke-linecap=\"round\">\n",
     );
-    let traces = carriers::put_parts(Part::Trace, p, m, out, open);
+    let traces = carriers::put_parts(Part::Trace, page, m, out, open);
     put(out, traces, b"</g>\n")
 }
 
 // Puts the opening of the group of all bodies; the column behind it is returned.
-fn put_bodies(p: Page, out: &mut [u8], at: usize) -> usize {
-    if p.small {
+fn put_bodies(page: Page, out: &mut [u8], at: usize) -> usize {
+    if page.small {
         return put(
             out,
             at,
@@ -180,24 +180,24 @@ fn put_bodies(p: Page, out: &mut [u8], at: usize) -> usize {
 }
 
 // Puts the carriers: the stranded ones, those at their starts, those that move; the column behind them is returned.
-fn put_carriers(p: Page, m: &[u16], out: &mut [u8], at: usize) -> usize {
-    let open = put_bodies(p, out, at);
-    let stranded = carriers::put_parts(Part::Stranded, p, m, out, open);
+fn put_carriers(page: Page, m: &[u16], out: &mut [u8], at: usize) -> usize {
+    let open = put_bodies(page, out, at);
+    let stranded = carriers::put_parts(Part::Stranded, page, m, out, open);
     let still = put(out, stranded, b"<g class=\"still\">\n");
-    let starts = carriers::put_parts(Part::Still, p, m, out, still);
+    let starts = carriers::put_parts(Part::Still, page, m, out, still);
     let moving = put(out, starts, b"</g>\n<g class=\"moving\">\n");
-    let routes = carriers::put_parts(Part::Moving, p, m, out, moving);
+    let routes = carriers::put_parts(Part::Moving, page, m, out, moving);
     put(out, routes, b"</g>\n</g>\n")
 }
 
 // Puts the beat in the legend, as it is at rest; the column behind it is returned.
-fn put_beat(p: Page, out: &mut [u8], at: usize) -> usize {
-    let x = page::legend(p);
+fn put_beat(page: Page, out: &mut [u8], at: usize) -> usize {
+    let x = page::legend(page);
     let words = fill(
         out,
         at,
         b"<g font-size=\"16\">\n<text x=\"%\" y=\"50\">beat</text><text x=\"%\" y=\"50\">of %</text>\n",
-        [x, x + 80, p.horizon as usize, 0, 0, 0],
+        [x, x + 80, page.horizon as usize, 0, 0, 0],
     );
     fill(
         out,
@@ -208,8 +208,8 @@ fn put_beat(p: Page, out: &mut [u8], at: usize) -> usize {
 }
 
 // Puts the turning of the numerals, a line a beat; the column behind it is returned.
-fn put_turning(p: Page, m: &[u16], out: &mut [u8], at: usize) -> usize {
-    let last = p.horizon as usize;
+fn put_turning(page: Page, m: &[u16], out: &mut [u8], at: usize) -> usize {
+    let last = page.horizon as usize;
     let open = put(
         out,
         at,
@@ -219,68 +219,68 @@ fn put_turning(p: Page, m: &[u16], out: &mut [u8], at: usize) -> usize {
         out,
         open,
         b" calcMode=\"discrete\" dur=\"%ms\" repeatCount=\"indefinite\" values=\"0 0",
-        [page::duration(p), 0, 0, 0, 0, 0],
+        [page::duration(page), 0, 0, 0, 0, 0],
     );
-    let turns = beats::put_beats(Beat::Turn, p, m, 0, 1, last, out, first);
-    beats::put_beats(Beat::Turn, p, m, 0, last, last, out, turns)
+    let turns = beats::put_beats(Beat::Turn, page, m, 0, 1, last, out, first);
+    beats::put_beats(Beat::Turn, page, m, 0, last, last, out, turns)
 }
 
 // Puts the numerals of the beats, which turn behind a window; the column behind them is returned.
-fn put_numerals(p: Page, m: &[u16], out: &mut [u8], at: usize) -> usize {
-    let last = p.horizon as usize;
-    let turning = put_turning(p, m, out, at);
+fn put_numerals(page: Page, m: &[u16], out: &mut [u8], at: usize) -> usize {
+    let last = page.horizon as usize;
+    let turning = put_turning(page, m, out, at);
     let close = put(out, turning, b"\"/>\n");
-    let numerals = beats::put_beats(Beat::Numeral, p, m, 0, 0, last, out, close);
+    let numerals = beats::put_beats(Beat::Numeral, page, m, 0, 0, last, out, close);
     put(out, numerals, b"</g></g>\n</g>\n")
 }
 
 // Puts the legend and the end of the picture; the column behind them is returned.
-fn put_legend(p: Page, m: &[u16], out: &mut [u8], at: usize) -> usize {
-    let beat = put_beat(p, out, at);
-    let numerals = put_numerals(p, m, out, beat);
-    let lines = carriers::put_parts(Part::Line, p, m, out, numerals);
+fn put_legend(page: Page, m: &[u16], out: &mut [u8], at: usize) -> usize {
+    let beat = put_beat(page, out, at);
+    let numerals = put_numerals(page, m, out, beat);
+    let lines = carriers::put_parts(Part::Line, page, m, out, numerals);
     put(out, lines, b"</g>\n</svg>\n")
 }
 
 // Puts the picture of a floor with its walls, its docks and the answers of its carriers; its length is returned.
-fn put_picture(p: Page, walls: &[u16], docks: &[u16], m: &[u16], out: &mut [u8]) -> usize {
-    let front = put_front(p, m, out);
-    let floor = put_ground(p, walls, docks, out, front);
-    let traces = put_traces(p, m, out, floor);
-    let bodies = put_carriers(p, m, out, traces);
-    put_legend(p, m, out, bodies)
+fn put_picture(page: Page, walls: &[u16], docks: &[u16], m: &[u16], out: &mut [u8]) -> usize {
+    let front = put_front(page, m, out);
+    let floor = put_ground(page, walls, docks, out, front);
+    let traces = put_traces(page, m, out, floor);
+    let bodies = put_carriers(page, m, out, traces);
+    put_legend(page, m, out, bodies)
 }
 
-// What stands in place q of a floor's docks: its dock q % 4 of carrier q / 4, if there is one.
-fn dock_in(f: Floor, q: usize) -> u16
-    requires { ⌜ q < 32 ⌝ }
+// What stands in place p of a floor's docks: its dock p % 4 of carrier p / 4, if there is one.
+fn dock_in(f: Floor, p: usize) -> u16
+    requires { ⌜ p < 32 ⌝ }
 {
-    let i = q / 4;
+    let i = p / 4;
     if f.carriers as usize <= i {
         return ground::NO_CELL;
     }
-    if f.counts[i] as usize <= q % 4 {
+    if f.counts[i] as usize <= p % 4 {
         return ground::NO_CELL;
     }
-    f.docks[q]
+    f.docks[p]
 }
 
 // The docks of a floor, four places a carrier.
 fn docks_in(f: Floor) -> [u16; 32]
-    ensures { λ r. ⌜ 32 ≡ length r ⌝ }
+    ensures { λ result. ⌜ 32 ≡ length result ⌝ }
 {
     let mut docks = [0u16; 32];
-    let mut q: usize = 0;
-    while q < 32 {
-        docks[q] = dock_in(f, q);
-        q += 1;
+    let mut p: usize = 0;
+    while p < 32 {
+        docks[p] = dock_in(f, p);
+        p += 1;
     }
     docks
 }
 
 // The answers of a floor's carriers, with the start of each at beat 0 also where it has no route.
 fn answers_of(f: Floor, walls: &[u16]) -> [u16; TEAM]
-    ensures { λ r. ⌜ 520 ≡ length r ⌝ }
+    ensures { λ result. ⌜ 520 ≡ length result ⌝ }
 {
     let mut m = records::blank();
     planner::plan(f, walls, &mut m);
@@ -310,7 +310,7 @@ fn put_read(f: Floor, walls: &[u16], out: &mut [u8]) -> usize {
 
 // Prints the picture of any text that is a sheet, and of any other text the line of its refusal; the number of printed bytes is returned.
 pub fn print(text: &[u8], out: &mut [u8; TEXT_LENGTH]) -> usize
-    ensures counts { λ r. ⌜ Counts r (now (out .exit)) ⌝ }
+    ensures counts { λ result. ⌜ Counts result (now (out .exit)) ⌝ }
 {
     let mut walls = sheet::no_walls();
     let reading = sheet::read(text, &mut walls);

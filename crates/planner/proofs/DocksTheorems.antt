@@ -76,74 +76,74 @@ module _ (f : Floor) (ws : List ℕ) (ok : checkOf f ws ≡ passed) (k : ℕ) (v
       route-theorems .earliest-alone (taskOf f ws (k + 1)) (seen f vs) r q d short e (task-docks f ws k d ∙ h) g
 
 -- Document 01's floor with its goals as docks.
-module _ (e : OneDockFloor) (ws : List ℕ) (ok : earlierCheck e ws ≡ passed) where
-  accepted : checkOf (withOneDock e) ws ≡ passed
-  accepted = floor-theorems .earlier-accepted e ws ok
+module _ (old : OneDockFloor) (ws : List ℕ) (ok : earlierCheck old ws ≡ passed) where
+  accepted : checkOf (withOneDock old) ws ≡ passed
+  accepted = floor-theorems .earlier-accepted old ws ok
 
-  few : e .carriers ≤ 8
+  few : old .carriers ≤ 8
   unfolding withOneDock
-  few = check-tells (withOneDock e) ws accepted .bounds .carriers .1
+  few = check-tells (withOneDock old) ws accepted .bounds .carriers .1
 
   -- The best answer is document 01's best answer to the goal; carriers count from 1 here, as in tasks.
-  goal-task : (i : ℕ) → i - 1 < e .carriers → (vs : List View) (x : Answer) →
-      Best (taskOf (withOneDock e) ws i) vs x ↔ BestTo (getD (e .goals) (i - 1) 0) (taskOf (withOneDock e) ws i) vs x
+  goal-task : (i : ℕ) → i - 1 < old .carriers → (vs : List View) (x : Answer) →
+      Best (taskOf (withOneDock old) ws i) vs x ↔ BestTo (getD (old .goals) (i - 1) 0) (taskOf (withOneDock old) ws i) vs x
   unfolding taskOf
   goal-task i l vs x =
-      route-theorems .one-dock (taskOf (withOneDock e) ws i) (getD (e .goals) (i - 1) 0) vs x (λ c. one-is-dock e ws few (i - 1) c l)
+      route-theorems .one-dock (taskOf (withOneDock old) ws i) (getD (old .goals) (i - 1) 0) vs x (λ c. one-is-dock old ws few (i - 1) c l)
 
-  to-goal : (k : ℕ) → k < e .carriers → (vs : List View) (x : Answer) →
-      Best (taskOf (withOneDock e) ws (k + 1)) vs x ↔ BestTo (getD (e .goals) k 0) (taskOf (withOneDock e) ws (k + 1)) vs x
+  to-goal : (k : ℕ) → k < old .carriers → (vs : List View) (x : Answer) →
+      Best (taskOf (withOneDock old) ws (k + 1)) vs x ↔ BestTo (getD (old .goals) k 0) (taskOf (withOneDock old) ws (k + 1)) vs x
   to-goal k l vs x =
       let one : k + 1 - 1 ≡ k = omega arith in
       rw one at (goal-task (k + 1) (omega arith) vs x)
 
-  earlier-response : (i : ℕ) (vs : List View) (x : Answer) → i < e .carriers →
-      BestTo (getD (e .goals) i 0) (taskOf (withOneDock e) ws (i + 1)) (seen (withOneDock e) vs) x ↔ (x ≡ respondOf (withOneDock e) ws i vs)
+  earlier-response : (i : ℕ) (vs : List View) (x : Answer) → i < old .carriers →
+      BestTo (getD (old .goals) i 0) (taskOf (withOneDock old) ws (i + 1)) (seen (withOneDock old) vs) x ↔ (x ≡ respondOf (withOneDock old) ws i vs)
   earlier-response i vs x l = (
-    λ b. responds-only (withOneDock e) ws accepted i vs x (to-goal i l (seen (withOneDock e) vs) x .1 b),
-    λ q. rw q (to-goal i l (seen (withOneDock e) vs) (respondOf (withOneDock e) ws i vs) .0 (responds (withOneDock e) ws accepted i vs)),
+    λ b. responds-only (withOneDock old) ws accepted i vs x (to-goal i l (seen (withOneDock old) vs) x .1 b),
+    λ q. rw q (to-goal i l (seen (withOneDock old) vs) (respondOf (withOneDock old) ws i vs) .0 (responds (withOneDock old) ws accepted i vs)),
   )
 
-  earlier-search : (i : ℕ) (m : List ℕ) (x : Answer) → searchOf (withOneDock e) ws i m ≡ value x →
-      BestTo (getD (e .goals) (i - 1) 0) (taskOf (withOneDock e) ws i) (seen (withOneDock e) (viewsOf m i)) x
+  earlier-search : (i : ℕ) (m : List ℕ) (x : Answer) → searchOf (withOneDock old) ws i m ≡ value x →
+      BestTo (getD (old .goals) (i - 1) 0) (taskOf (withOneDock old) ws i) (seen (withOneDock old) (viewsOf m i)) x
   unfolding withOneDock
   earlier-search i m x s =
-      let listed = search-theorems .answers-exactly (withOneDock e) ws i m .0 (x, s) .listed in
-      goal-task i (omega (arith, listed .0, listed .1)) (seen (withOneDock e) (viewsOf m i)) x .0
-      (search-theorems .answers-best (withOneDock e) ws i m x s)
+      let listed = search-theorems .answers-exactly (withOneDock old) ws i m .0 (x, s) .listed in
+      goal-task i (omega (arith, listed .0, listed .1)) (seen (withOneDock old) (viewsOf m i)) x .0
+      (search-theorems .answers-best (withOneDock old) ws i m x s)
 
-  earlier-arrival : (i : ℕ) (vs : List View) (r : List ℕ) → i < e .carriers → respondOf (withOneDock e) ws i vs ≡ route r →
-      ArrivesAt (getD (e .goals) i 0) (e .horizon) r (arrivalOf r (e .horizon))
+  earlier-arrival : (i : ℕ) (vs : List View) (r : List ℕ) → i < old .carriers → respondOf (withOneDock old) ws i vs ≡ route r →
+      ArrivesAt (getD (old .goals) i 0) (old .horizon) r (arrivalOf r (old .horizon))
   unfolding withOneDock
   earlier-arrival i vs r l s =
-      let last = cellAt r (e .horizon) in
-      let there : eqb last (getD (e .goals) i 0) ≡ true =
-      sym (one-is-dock e ws few i last l) ∙ ends-at-dock (withOneDock e) ws accepted i vs r s
+      let last = cellAt r (old .horizon) in
+      let there : eqb last (getD (old .goals) i 0) ≡ true =
+      sym (one-is-dock old ws few i last l) ∙ ends-at-dock (withOneDock old) ws accepted i vs r s
       in
-      route-theorems .one-arrival (getD (e .goals) i 0) (e .horizon) r (arrivalOf r (e .horizon)) .1
-      (refl, eqb-true last (getD (e .goals) i 0) there)
+      route-theorems .one-arrival (getD (old .goals) i 0) (old .horizon) r (arrivalOf r (old .horizon)) .1
+      (refl, eqb-true last (getD (old .goals) i 0) there)
 
-  goals-planned : PrioritizedTo e ws (planOf (withOneDock e) ws)
+  goals-planned : PrioritizedTo old ws (planOf (withOneDock old) ws)
   unfolding withOneDock
   goals-planned =
       record {
-        every = plan-theorems .answers-all (withOneDock e) ws;
+        every = plan-theorems .answers-all (withOneDock old) ws;
         best = λ k l.
-            to-goal k l (seen (withOneDock e) (map heard (take k (planOf (withOneDock e) ws)))) (answerAt (planOf (withOneDock e) ws) k) .0
-            (plan-theorems .each-best (withOneDock e) ws k accepted l);
+            to-goal k l (seen (withOneDock old) (map heard (take k (planOf (withOneDock old) ws)))) (answerAt (planOf (withOneDock old) ws) k) .0
+            (plan-theorems .each-best (withOneDock old) ws k accepted l);
       }
 
-  earlier-plan : (xs : List Answer) → PrioritizedTo e ws xs ↔ (xs ≡ planOf (withOneDock e) ws)
+  earlier-plan : (xs : List Answer) → PrioritizedTo old ws xs ↔ (xs ≡ planOf (withOneDock old) ws)
   unfolding planOf withOneDock
   earlier-plan xs = (
-    λ p. plan-only (respondOf (withOneDock e) ws) (e .carriers) xs (p .every)
+    λ p. plan-only (respondOf (withOneDock old) ws) (old .carriers) xs (p .every)
         (λ k l. earlier-response k (map heard (take k xs)) (answerAt xs k) l .0 (p .best k l)),
     λ q. rw q goals-planned,
   )
 
 -- The order of docks is nothing.
-module _ (f g : Floor) (ws : List ℕ) (same : SameDocks f g) where
-  agrees : AgreeUpTo (f .carriers) f ws g ws
+module _ (f f′ : Floor) (ws : List ℕ) (same : SameDocks f f′) where
+  agrees : AgreeUpTo (f .carriers) f ws f′ ws
   agrees =
       record {
         width = same .width;

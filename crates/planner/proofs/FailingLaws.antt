@@ -48,7 +48,7 @@ tag-route pre r rest n s = getD-at pre 2 (r ++ rest) 0 n s
 pub front : (x : Answer) (xs : List Answer) (m pre rest : List ℕ) → m ≡ pre ++ (recordsOf (x ∷ xs) ++ rest)
     → m ≡ pre ++ (recordOf x ++ (recordsOf xs ++ rest))
 unfolding recordsOf
-front x xs m pre rest e = e ∙ ap (λ (b : List ℕ). pre ++ b) (append-assoc (recordOf x) (recordsOf xs) rest)
+front x xs m pre rest e = e ∙ ap (λ (xs : List ℕ). pre ++ xs) (append-assoc (recordOf x) (recordsOf xs) rest)
 
 first-records : (xs : List Answer) (m pre rest : List ℕ) (i : ℕ) → m ≡ pre ++ (recordsOf xs ++ rest) → length pre ≡ 65 * i → AllWhole xs
     → firstFrom m i (length xs) ≡ failingFrom (i + 1) xs
@@ -56,12 +56,12 @@ unfolding firstFrom failingFrom
 first-records [] m pre rest i e s a = refl
 first-records (none ∷ xs) m pre rest i e s a =
     let tag : getD m (65 * i) 0 ≡ 1 =
-    ap (λ (l : List ℕ). getD l (65 * i) 0) (front none xs m pre rest e) ∙ tag-none pre (recordsOf xs ++ rest) (65 * i) s
+    ap (λ (xs : List ℕ). getD xs (65 * i) 0) (front none xs m pre rest e) ∙ tag-none pre (recordsOf xs ++ rest) (65 * i) s
     in
     rw (ne-eqb (getD m (65 * i) 0) 2 (λ q. omega arith))
 first-records (route r ∷ xs) m pre rest i e s a =
     let tag : getD m (65 * i) 0 ≡ 2 =
-    ap (λ (l : List ℕ). getD l (65 * i) 0) (front (route r) xs m pre rest e) ∙ tag-route pre r (recordsOf xs ++ rest) (65 * i) s
+    ap (λ (xs : List ℕ). getD xs (65 * i) 0) (front (route r) xs m pre rest e) ∙ tag-route pre r (recordsOf xs ++ rest) (65 * i) s
     in
     let behind : m ≡ (pre ++ recordOf (route r)) ++ (recordsOf xs ++ rest) =
     front (route r) xs m pre rest e ∙ sym (append-assoc pre (recordOf (route r)) (recordsOf xs ++ rest))

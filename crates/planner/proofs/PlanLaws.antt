@@ -96,4 +96,4 @@ module _ (f : Floor) (rows : List ℕ) (i : ℕ) (m q m′ : List ℕ) (short : 
     unfolding withAnswer
     still-shows =
         shows
-        ∙ ap (seen f) (sym (ap (λ (b : List ℕ). records b i) e ∙ put-records m _ i (omega (arith, whole f rows short i (records m i)))))
+        ∙ ap (seen f) (sym (ap (λ (xs : List ℕ). records xs i) e ∙ put-records m _ i (omega (arith, whole f rows short i (records m i)))))

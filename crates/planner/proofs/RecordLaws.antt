@@ -11,7 +11,7 @@ use Rattle.search.specs.Answers.{answered, outcomeOf, resultOf, cellsOf, Answer
 use Rattle.planner.specs.Records.{tagOf}
 use Rattle.records.specs.Records.{recordOf}
 
-tag-record : (o : Outcome) (r : List ℕ) (x : Answer) → outcomeOf o r ≡ answered x → r ≡ cellsOf (answered x) → tagOf o ∷ r ≡ recordOf x
+tag-record : (y : Outcome) (r : List ℕ) (x : Answer) → outcomeOf y r ≡ answered x → r ≡ cellsOf (answered x) → tagOf y ∷ r ≡ recordOf x
 unfolding outcomeOf cellsOf tagOf recordOf
 tag-record Route r none e h = absurd (let z : _≡_ {A = ℕ} 0 1 = cc in omega arith)
 tag-record Route r (route q) e h = rw h

@@ -44,11 +44,11 @@ plannable f ws rows m a r =
     }
 
 -- Responses that agree make the same plan.
-sequential-same : (p q : ℕ → List View → Answer) → ((k : ℕ) (vs : List View) → p k vs ≡ q k vs) → (k : ℕ)
-    → sequential p k ≡ sequential q k
+sequential-same : (φ ψ : ℕ → List View → Answer) → ((k : ℕ) (vs : List View) → φ k vs ≡ ψ k vs) → (k : ℕ)
+    → sequential φ k ≡ sequential ψ k
 unfolding sequential
-sequential-same p q h zero = refl
-sequential-same p q h (suc k) = rw (sequential-same p q h k, h k (map heard (sequential q k)))
+sequential-same φ ψ h zero = refl
+sequential-same φ ψ h (suc k) = rw (sequential-same φ ψ h k, h k (map heard (sequential ψ k)))
 
 -- The plan with the free rows is the plan with the walls.
 pub plan-same : (f : Floor) (ws rows : List ℕ) → FreeRows f ws rows → sequential (respondWith f rows) (f .carriers) ≡ planOf f ws

@@ -34,17 +34,17 @@ routes-seen f xs k h l =
     h j low (heard-same (answerAt xs j) (sym (told-answer xs j k low l) ∙ e)))
 
 -- Two responses that agree where views are seen as they are make the same plan, if the first one leaves nobody with none.
-pub rules-agree : (f : Floor) (p q : ℕ → List View → Answer) (k : ℕ) → ((i : ℕ) (vs : List View) → seen f vs ≡ vs → p i vs ≡ q i vs) →
-    ((j : ℕ) → j < k → answerAt (sequential p k) j ≡ none → ⊥) → sequential p k ≡ sequential q k
+pub rules-agree : (f : Floor) (φ ψ : ℕ → List View → Answer) (k : ℕ) → ((i : ℕ) (vs : List View) → seen f vs ≡ vs → φ i vs ≡ ψ i vs) →
+    ((j : ℕ) → j < k → answerAt (sequential φ k) j ≡ none → ⊥) → sequential φ k ≡ sequential ψ k
 unfolding sequential answerAt
-rules-agree f p q zero same h = refl
-rules-agree f p q (suc k) same h =
-    let xs = sequential p k in
-    let count : length xs ≡ k = plan-count p k in
+rules-agree f φ ψ zero same h = refl
+rules-agree f φ ψ (suc k) same h =
+    let xs = sequential φ k in
+    let count : length xs ≡ k = plan-count φ k in
     let routes : (j : ℕ) → j < k → answerAt xs j ≡ none → ⊥ =
     λ j l e. h j (omega arith) (List·getD-append xs _ none j (omega arith) ∙ e)
     in
     let whole : take k xs ≡ xs = take-all k xs (omega arith) in
     let plain : seen f (map heard xs) ≡ map heard xs = rw whole at (routes-seen f xs k routes (omega arith)) in
-    let here : p k (map heard xs) ≡ q k (map heard xs) = same k (map heard xs) plain in
-    rw (here, rules-agree f p q k same routes) refl
+    let here : φ k (map heard xs) ≡ ψ k (map heard xs) = same k (map heard xs) plain in
+    rw (here, rules-agree f φ ψ k same routes) refl

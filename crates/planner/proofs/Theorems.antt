@@ -73,11 +73,11 @@ module _ (f : Floor) (ws : List ℕ) (k : ℕ) (ok : checkOf f ws ≡ passed) (l
       rw same at each-best
 
 -- A failing carrier is not below the first that is looked at.
-failing-low : (xs : List Answer) (m v : ℕ) → failingFrom (suc m) xs ≡ suc v → m ≤ v
+failing-low : (xs : List Answer) (k x : ℕ) → failingFrom (suc k) xs ≡ suc x → k ≤ x
 unfolding failingFrom
-failing-low [] m v e = absurd (omega arith)
-failing-low (none ∷ xs) m v e = omega arith
-failing-low (route r ∷ xs) m v e = omega (arith, failing-low xs (suc m) v e)
+failing-low [] k x e = absurd (omega arith)
+failing-low (none ∷ xs) k x e = omega arith
+failing-low (route r ∷ xs) k x e = omega (arith, failing-low xs (suc k) x e)
 
 -- The first answer that is none.
 failing-tells : (xs : List Answer) (i k : ℕ) → failingFrom (suc i) xs ≡ suc (i + k)

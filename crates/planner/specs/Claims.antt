@@ -26,14 +26,14 @@ unfoldable pub planUnseen : Floor → List ℕ → List Answer
 planUnseen f ws = sequential (λ i vs. best (taskOf f ws (i + 1)) vs) (f .carriers)
 
 -- Two floors agree in the grid, the horizon, the walls and the cells of the first k carriers.
-pub record AgreeUpTo (k : ℕ) (f : Floor) (ws : List ℕ) (g : Floor) (vs : List ℕ) : Type 0 where
-  pub width : f .width ≡ g .width
-  pub height : f .height ≡ g .height
-  pub horizon : f .horizon ≡ g .horizon
-  pub walls : f .walls ≡ g .walls
-  pub cells : All (λ (j : ℕ). getD ws j 0 ≡ getD vs j 0) (f .walls)
-  pub starts : All (λ (i : ℕ). startOf f i ≡ startOf g i) k
-  pub docks : All (λ (i : ℕ). (c : ℕ) → isDock f i c ≡ isDock g i c) k
+pub record AgreeUpTo (k : ℕ) (f : Floor) (ws : List ℕ) (f′ : Floor) (ws′ : List ℕ) : Type 0 where
+  pub width : f .width ≡ f′ .width
+  pub height : f .height ≡ f′ .height
+  pub horizon : f .horizon ≡ f′ .horizon
+  pub walls : f .walls ≡ f′ .walls
+  pub cells : All (λ (j : ℕ). getD ws j 0 ≡ getD ws′ j 0) (f .walls)
+  pub starts : All (λ (i : ℕ). startOf f i ≡ startOf f′ i) k
+  pub docks : All (λ (i : ℕ). (c : ℕ) → isDock f i c ≡ isDock f′ i c) k
 
 pub record Claims : Type 0 where
   -- Every carrier has an answer.
@@ -61,8 +61,8 @@ pub record Claims : Type 0 where
   pub failing-none : (f : Floor) (ws : List ℕ) →
       (failingOf (planOf f ws) ≡ 0) ↔ ((j : ℕ) → j < f .carriers → answerAt (planOf f ws) j ≡ none → ⊥)
   -- The answers of the first k carriers depend on those carriers alone, whatever follows them.
-  pub depends-on-above : (k : ℕ) (f : Floor) (ws : List ℕ) (g : Floor) (vs : List ℕ) → k ≤ f .carriers → k ≤ g .carriers →
-      AgreeUpTo k f ws g vs → take k (planOf f ws) ≡ take k (planOf g vs)
+  pub depends-on-above : (k : ℕ) (f : Floor) (ws : List ℕ) (f′ : Floor) (ws′ : List ℕ) → k ≤ f .carriers → k ≤ f′ .carriers →
+      AgreeUpTo k f ws f′ ws′ → take k (planOf f ws) ≡ take k (planOf f′ ws′)
   -- Where no carrier has any route of its own, each has none, and carrier 1 is the failing carrier.
   pub all-none : (f : Floor) (ws : List ℕ) → checkOf f ws ≡ passed →
       ((k : ℕ) (r : List ℕ) → k < f .carriers → IsRoute (taskOf f ws (k + 1)) r → ⊥) →

@@ -25,32 +25,32 @@ use Rattle.planner.specs.Claims.{answerAt}
 
 -- Prioritized planning on document 01's floor, by its letter: each carrier in turn has the best answer to its one goal against the answers
 -- above it, one with none staying at its start.
-pub record PrioritizedTo (e : OneDockFloor) (ws : List ℕ) (xs : List Answer) : Type 0 where
-  pub every : length xs ≡ e .carriers
-  pub best : (k : ℕ) → k < e .carriers →
-      BestTo (getD (e .goals) k 0) (taskOf (withOneDock e) ws (k + 1)) (seen (withOneDock e) (map heard (take k xs))) (answerAt xs k)
+pub record PrioritizedTo (old : OneDockFloor) (ws : List ℕ) (xs : List Answer) : Type 0 where
+  pub every : length xs ≡ old .carriers
+  pub best : (k : ℕ) → k < old .carriers →
+      BestTo (getD (old .goals) k 0) (taskOf (withOneDock old) ws (k + 1)) (seen (withOneDock old) (map heard (take k xs))) (answerAt xs k)
 
 pub record DocksClaims : Type 0 where
   -- On every floor that document 01 accepts, with its goal as the one dock of a carrier, the plan is what document 01 gives with a goal,
   -- and nothing else is.
-  pub earlier-plan : (e : OneDockFloor) (ws : List ℕ) (xs : List Answer) → earlierCheck e ws ≡ passed →
-      PrioritizedTo e ws xs ↔ (xs ≡ planOf (withOneDock e) ws)
+  pub earlier-plan : (old : OneDockFloor) (ws : List ℕ) (xs : List Answer) → earlierCheck old ws ≡ passed →
+      PrioritizedTo old ws xs ↔ (xs ≡ planOf (withOneDock old) ws)
   -- So is every response, to any views; the machine, trials, listed runs and blockers know the search only by its responses.
-  pub earlier-response : (e : OneDockFloor) (ws : List ℕ) (i : ℕ) (vs : List View) (x : Answer) → earlierCheck e ws ≡ passed →
-      i < e .carriers →
-      BestTo (getD (e .goals) i 0) (taskOf (withOneDock e) ws (i + 1)) (seen (withOneDock e) vs) x ↔ (x ≡ respondOf (withOneDock e) ws i vs)
+  pub earlier-response : (old : OneDockFloor) (ws : List ℕ) (i : ℕ) (vs : List View) (x : Answer) → earlierCheck old ws ≡ passed →
+      i < old .carriers →
+      BestTo (getD (old .goals) i 0) (taskOf (withOneDock old) ws (i + 1)) (seen (withOneDock old) vs) x ↔ (x ≡ respondOf (withOneDock old) ws i vs)
   -- So is every search, to the views that its memory shows, and the arrival of a route that is answered is document 01's.
-  pub earlier-search : (e : OneDockFloor) (ws : List ℕ) (i : ℕ) (m : List ℕ) (x : Answer) → earlierCheck e ws ≡ passed →
-      searchOf (withOneDock e) ws i m ≡ value x →
-      BestTo (getD (e .goals) (i - 1) 0) (taskOf (withOneDock e) ws i) (seen (withOneDock e) (viewsOf m i)) x
-  pub earlier-arrival : (e : OneDockFloor) (ws : List ℕ) (i : ℕ) (vs : List View) (r : List ℕ) → earlierCheck e ws ≡ passed →
-      i < e .carriers →
-      respondOf (withOneDock e) ws i vs ≡ route r → ArrivesAt (getD (e .goals) i 0) (e .horizon) r (arrivalOf r (e .horizon))
+  pub earlier-search : (old : OneDockFloor) (ws : List ℕ) (i : ℕ) (m : List ℕ) (x : Answer) → earlierCheck old ws ≡ passed →
+      searchOf (withOneDock old) ws i m ≡ value x →
+      BestTo (getD (old .goals) (i - 1) 0) (taskOf (withOneDock old) ws i) (seen (withOneDock old) (viewsOf m i)) x
+  pub earlier-arrival : (old : OneDockFloor) (ws : List ℕ) (i : ℕ) (vs : List View) (r : List ℕ) → earlierCheck old ws ≡ passed →
+      i < old .carriers →
+      respondOf (withOneDock old) ws i vs ≡ route r → ArrivesAt (getD (old .goals) i 0) (old .horizon) r (arrivalOf r (old .horizon))
   -- The order of a carrier's docks changes no plan, no response to views of carriers that are there, and no search.
-  pub order-plan : (f g : Floor) (ws : List ℕ) → SameDocks f g → planOf f ws ≡ planOf g ws
-  pub order-response : (f g : Floor) (ws : List ℕ) (i : ℕ) (vs : List View) → SameDocks f g → i < f .carriers → length vs ≤ f .carriers →
-      respondOf f ws i vs ≡ respondOf g ws i vs
-  pub order-search : (f g : Floor) (ws : List ℕ) (i : ℕ) (m : List ℕ) → SameDocks f g → searchOf f ws i m ≡ searchOf g ws i m
+  pub order-plan : (f f′ : Floor) (ws : List ℕ) → SameDocks f f′ → planOf f ws ≡ planOf f′ ws
+  pub order-response : (f f′ : Floor) (ws : List ℕ) (i : ℕ) (vs : List View) → SameDocks f f′ → i < f .carriers → length vs ≤ f .carriers →
+      respondOf f ws i vs ≡ respondOf f′ ws i vs
+  pub order-search : (f f′ : Floor) (ws : List ℕ) (i : ℕ) (m : List ℕ) → SameDocks f f′ → searchOf f ws i m ≡ searchOf f′ ws i m
   -- A response is none exactly if it is none with each of the carrier's docks alone.
   pub none-each : (f : Floor) (ws : List ℕ) (k : ℕ) (vs : List View) → checkOf f ws ≡ passed →
       (respondOf f ws k vs ≡ none) ↔ ((d : ℕ) → isDock f k d ≡ true → best (alone (taskOf f ws (k + 1)) d) (seen f vs) ≡ none)

@@ -34,7 +34,7 @@ pub enum Planned {
 
 // The refusals of a plan, in their order: what planning into so much memory would answer; nothing is written.
 pub fn request(f: Floor, walls: &[u16], lent: usize) -> Checked
-    ensures { λ r. ⌜ verdictOf r ≡ planVerdict f (now (walls .entry)) lent ⌝ }
+    ensures { λ result. ⌜ verdictOf result ≡ planVerdict f (now (walls .entry)) lent ⌝ }
 {
     let checked = floor::check(f, walls);
     let Checked::Passed = checked else {
@@ -47,7 +47,7 @@ pub fn request(f: Floor, walls: &[u16], lent: usize) -> Checked
 fn take_last(f: Floor, i: u16, table: &mut [u32], shown: &[u16])
     requires { ⌜ (1 ≤ f .width) × (f .width ≤ 32) × (f .height ≤ 32) × (f .horizon ≤ 63) ⌝ }
     requires { ⌜ (65 * i ≤ length (now shown)) × Tidy (searchGridOf f) (now table) ⌝ }
-    ensures { λ r. ⌜ ((free : List ℕ) → IsFreeTable (searchGridOf f) (i - 1) free (now (shown .entry)) (now (table .entry)) →
+    ensures { λ result. ⌜ ((free : List ℕ) → IsFreeTable (searchGridOf f) (i - 1) free (now (shown .entry)) (now (table .entry)) →
         IsFreeTable (searchGridOf f) i free (now (shown .entry)) (now (table .exit))) ⌝ }
 {
     if i == 0 {
@@ -71,10 +71,10 @@ fn plan_one(
     requires { ⌜ (i < 8) × (65 * i + 65 ≤ length (now answers)) × (65 * i + 65 ≤ length (now shown)) ⌝ }
     requires { ⌜ Searchable f free (i + 1) (now shown) × (records (now shown) i ≡ seen f (records (now answers) i)) ⌝ }
     requires { ⌜ IsFreeTable (searchGridOf f) (i - 1) free (now shown) (now table) × Tidy (searchGridOf f) (now sets) ⌝ }
-    ensures answers { λ r. ⌜ now (answers .exit) ≡ withAnswer f free i (now (answers .entry)) ⌝ }
-    ensures shown { λ r. ⌜ records (now (shown .exit)) (i + 1) ≡ seen f (records (now (answers .exit)) (i + 1)) ⌝ }
-    ensures table { λ r. ⌜ IsFreeTable (searchGridOf f) i free (now (shown .exit)) (now (table .exit)) ⌝ }
-    ensures tidy { λ r. ⌜ Tidy (searchGridOf f) (now (sets .exit)) ⌝ }
+    ensures answers { λ result. ⌜ now (answers .exit) ≡ withAnswer f free i (now (answers .entry)) ⌝ }
+    ensures shown { λ result. ⌜ records (now (shown .exit)) (i + 1) ≡ seen f (records (now (answers .exit)) (i + 1)) ⌝ }
+    ensures table { λ result. ⌜ IsFreeTable (searchGridOf f) i free (now (shown .exit)) (now (table .exit)) ⌝ }
+    ensures tidy { λ result. ⌜ Tidy (searchGridOf f) (now (sets .exit)) ⌝ }
 {
     take_last(f, i, table, shown);
     let found = search::route_in(f, free, table, sets, i + 1, shown);
@@ -92,7 +92,7 @@ fn plan_one(
 // The carriers in turn, each best against the answers above it, in the free table that these leave.
 fn plan_all(f: Floor, free: Rows, answers: &mut [u16])
     requires { ⌜ Plannable f free (now answers) ⌝ }
-    ensures { λ r. ⌜ now (answers .exit) ≡ stored (sequential (respondWith f free) (f .carriers)) (now (answers .entry)) ⌝ }
+    ensures { λ result. ⌜ now (answers .exit) ≡ stored (sequential (respondWith f free) (f .carriers)) (now (answers .entry)) ⌝ }
 {
     let n = f.carriers;
     let mut shown = records::blank();
@@ -108,8 +108,8 @@ fn plan_all(f: Floor, free: Rows, answers: &mut [u16])
 
 // Plans a floor: the answers of its carriers into lent memory, 65 numbers each, a tag (1 none, 2 a route) and 64 cells.
 pub fn plan(f: Floor, walls: &[u16], answers: &mut [u16]) -> Planned
-    ensures answers { λ r. ⌜ plannedOutcome r ≡ planResult f (now (walls .entry)) (length (now (answers .entry))) ⌝ }
-    ensures stores { λ r. ⌜ now (answers .exit) ≡ planMemory f (now (walls .entry)) (now (answers .entry)) ⌝ }
+    ensures answers { λ result. ⌜ plannedOutcome result ≡ planResult f (now (walls .entry)) (length (now (answers .entry))) ⌝ }
+    ensures stores { λ result. ⌜ now (answers .exit) ≡ planMemory f (now (walls .entry)) (now (answers .entry)) ⌝ }
 {
     let asked = request(f, walls, answers.len());
     let Checked::Refused(x) = asked else {

@@ -7,7 +7,7 @@ use search::Outcome;
 
 // The tag of an answer: 2 a route, 1 none.
 pub fn tag_of(outcome: Outcome) -> u16
-    ensures { λ r. ⌜ r ≡ tagOf outcome ⌝ }
+    ensures { λ result. ⌜ result ≡ tagOf outcome ⌝ }
 {
     match outcome {
         Outcome::Route => 2,
@@ -19,7 +19,7 @@ pub fn tag_of(outcome: Outcome) -> u16
 // The first of n records that has no route, counted from 1; 0 if all have one.
 pub fn failing(answers: &[u16], n: usize) -> usize
     requires { ⌜ (n ≤ 8) × (65 * n ≤ length (now answers)) ⌝ }
-    ensures { λ r. ⌜ r ≡ firstFrom (now (answers .entry)) 0 n ⌝ }
+    ensures { λ result. ⌜ result ≡ firstFrom (now (answers .entry)) 0 n ⌝ }
 {
     let mut i: usize = 0;
     while i < n {

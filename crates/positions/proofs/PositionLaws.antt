@@ -18,19 +18,19 @@ pub line-start : (text : List ℕ) → 1 ≡ lineAt text 0
 unfolding lineAt
 line-start text = refl
 
-pub line-more : (text : List ℕ) (k line b next : ℕ) → line ≡ lineAt text k → b ≡ getD text k 0 → next ≡ cond (eqb b 10) (suc line) line
+pub line-more : (text : List ℕ) (k line byte next : ℕ) → line ≡ lineAt text k → byte ≡ getD text k 0 → next ≡ cond (eqb byte 10) (suc line) line
     → next ≡ lineAt text (k + 1)
 unfolding lineAt
-line-more text k line b next e f g = rw add-one (cc)
+line-more text k line byte next e f g = rw add-one (cc)
 
 pub column-start : (text : List ℕ) → 1 ≡ columnAt text 0
 unfolding columnAt
 column-start text = refl
 
-pub column-more : (text : List ℕ) (k column b next : ℕ) → column ≡ columnAt text k → b ≡ getD text k 0
-    → next ≡ cond (eqb b 10) 1 (suc column) → next ≡ columnAt text (k + 1)
+pub column-more : (text : List ℕ) (k column byte next : ℕ) → column ≡ columnAt text k → byte ≡ getD text k 0
+    → next ≡ cond (eqb byte 10) 1 (suc column) → next ≡ columnAt text (k + 1)
 unfolding columnAt
-column-more text k column b next e f g = rw add-one (cc)
+column-more text k column byte next e f g = rw add-one (cc)
 
 -- The loop's end.
 pub position-end : (at-byte : ℕ → ℕ) (k at n : ℕ) → k ≤ at → at ≤ k → (n ≡ at-byte k) × (n ≤ k + 1) → (n ≡ at-byte at) × (n ≤ at + 1)
@@ -39,11 +39,11 @@ position-end at-byte k at n a b e =
     rw same at e
 
 -- The words of a position, put piece by piece.
-pub position-put : (line column a b c d n : ℕ) (old m₁ m₂ m₃ m₄ new : List ℕ) → PutAt lineWord old 0 m₁ a → PutAt (decimal line) m₁ a m₂ b
-    → PutAt columnWord m₂ b m₃ c → PutAt (decimal column) m₃ c m₄ d → PutAt colon m₄ d new n → 26 ≤ length old
+pub position-put : (line column n₁ n₂ n₃ n₄ n : ℕ) (old m₁ m₂ m₃ m₄ new : List ℕ) → PutAt lineWord old 0 m₁ n₁ → PutAt (decimal line) m₁ n₁ m₂ n₂
+    → PutAt columnWord m₂ n₂ m₃ n₃ → PutAt (decimal column) m₃ n₃ m₄ n₄ → PutAt colon m₄ n₄ new n → 26 ≤ length old
     → PutAt (positionText line column) old 0 new n
 unfolding positionText lineWord columnWord colon
-position-put line column a b c d n old m₁ m₂ m₃ m₄ new p q r s t l =
+position-put line column n₁ n₂ n₃ n₄ n old m₁ m₂ m₃ m₄ new p q r s t l =
     let x = decimal-short line in
     let y = decimal-short column in
     let first = put-behind p q (omega (arith, p .behind, q .behind)) in

@@ -13,7 +13,7 @@ pub fn item_start(text: &[u8], item: usize) -> usize
 // The first field of a pair.
 fn pair_field(pair: usize) -> usize
     requires { ⌜ pair ≤ 4 ⌝ }
-    ensures { λ r. ⌜ r ≤ 9 ⌝ }
+    ensures { λ result. ⌜ result ≤ 9 ⌝ }
 {
     if pair == 0 {
         return 0;
@@ -47,7 +47,7 @@ fn is_outside(text: &[u8], start: usize, field: usize) -> bool {
 
 // The first field of a line that lies outside the grid.
 fn outside_field(text: &[u8], start: usize) -> usize
-    ensures { λ r. ⌜ r ≤ 10 ⌝ }
+    ensures { λ result. ⌜ result ≤ 10 ⌝ }
 {
     let mut field: usize = 0;
     while field < 11 {
@@ -69,12 +69,12 @@ pub fn same_pair(text: &[u8], a: usize, field: usize, b: usize, other: usize) ->
     sheet_line::field_at(text, a, field + 1) == sheet_line::field_at(text, b, other + 1)
 }
 
-// Whether a pair is that of one of m walls, the first of which has its line at a column.
-fn is_wall(text: &[u8], start: usize, field: usize, base: usize, m: usize) -> bool
+// Whether a pair is that of one of k walls, the first of which has its line at a column.
+fn is_wall(text: &[u8], start: usize, field: usize, base: usize, k: usize) -> bool
     requires { ⌜ field ≤ 10 ⌝ }
 {
     let mut j: usize = 0;
-    while j < m {
+    while j < k {
         if same_pair(text, start, field, sheet_line::wall_start(base, j), 0) {
             return true;
         }
@@ -85,14 +85,14 @@ fn is_wall(text: &[u8], start: usize, field: usize, base: usize, m: usize) -> bo
 
 // The first field of the first pair of a line that is a wall.
 fn wall_field(text: &[u8], start: usize) -> usize
-    ensures { λ r. ⌜ r ≤ 10 ⌝ }
+    ensures { λ result. ⌜ result ≤ 10 ⌝ }
 {
     let base = sheet_line::line_start(text, sheet_line::carriers(text) + 2);
-    let m = sheet_line::walls(text);
+    let n = sheet_line::walls(text);
     let mut pair: usize = 0;
     while pair < 5 {
         let field = pair_field(pair);
-        if is_wall(text, start, field, base, m) {
+        if is_wall(text, start, field, base, n) {
             return field;
         }
         pair += 1;
@@ -116,7 +116,7 @@ fn is_repeated(text: &[u8], start: usize, k: usize) -> bool
 
 // The first field of the first dock of a line that stands before in its list.
 fn repeated_field(text: &[u8], start: usize) -> usize
-    ensures { λ r. ⌜ r ≤ 10 ⌝ }
+    ensures { λ result. ⌜ result ≤ 10 ⌝ }
 {
     let mut k: usize = 2;
     while k < 5 {
@@ -131,7 +131,7 @@ fn repeated_field(text: &[u8], start: usize) -> usize
 // The field of an item's line that is the cause of a refusal.
 pub fn cause(text: &[u8], number: u16, item: usize) -> usize
     requires { ⌜ item ≤ 99999 ⌝ }
-    ensures { λ r. ⌜ r ≤ 10 ⌝ }
+    ensures { λ result. ⌜ result ≤ 10 ⌝ }
 {
     let start = item_start(text, item);
     if number == 3 {

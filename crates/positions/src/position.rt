@@ -10,7 +10,7 @@ use reporting::put_bytes;
 
 // A byte of a text; 0 past its end.
 pub fn byte_at(text: &[u8], at: usize) -> u8
-    ensures { λ r. ⌜ r ≡ getD (now (text .entry)) at 0 ⌝ }
+    ensures { λ result. ⌜ result ≡ getD (now (text .entry)) at 0 ⌝ }
 {
     if at < text.len() {
         return text[at];
@@ -19,22 +19,22 @@ pub fn byte_at(text: &[u8], at: usize) -> u8
 }
 
 // The line behind a byte of a line.
-fn line_behind(line: usize, b: u8) -> usize
+fn line_behind(line: usize, byte: u8) -> usize
     requires { ⌜ line ≤ 65536 ⌝ }
-    ensures { λ r. ⌜ (r ≡ cond (eqb b 10) (suc line) line) × (r ≤ line + 1) ⌝ }
+    ensures { λ result. ⌜ (result ≡ cond (eqb byte 10) (suc line) line) × (result ≤ line + 1) ⌝ }
 {
-    if b == 10 {
+    if byte == 10 {
         return line + 1;
     }
     line
 }
 
 // The column behind a byte of a column.
-fn column_behind(column: usize, b: u8) -> usize
+fn column_behind(column: usize, byte: u8) -> usize
     requires { ⌜ column ≤ 65536 ⌝ }
-    ensures { λ r. ⌜ (r ≡ cond (eqb b 10) 1 (suc column)) × (r ≤ column + 1) ⌝ }
+    ensures { λ result. ⌜ (result ≡ cond (eqb byte 10) 1 (suc column)) × (result ≤ column + 1) ⌝ }
 {
-    if b == 10 {
+    if byte == 10 {
         return 1;
     }
     column + 1
@@ -43,7 +43,7 @@ fn column_behind(column: usize, b: u8) -> usize
 // The line in which a byte of a text stands.
 pub fn line_at(text: &[u8], at: usize) -> usize
     requires { ⌜ at ≤ 65535 ⌝ }
-    ensures { λ r. ⌜ (r ≡ lineAt (now (text .entry)) at) × (r ≤ at + 1) ⌝ }
+    ensures { λ result. ⌜ (result ≡ lineAt (now (text .entry)) at) × (result ≤ at + 1) ⌝ }
 {
     let mut line: usize = 1;
     let mut k: usize = 0;
@@ -57,7 +57,7 @@ pub fn line_at(text: &[u8], at: usize) -> usize
 // The column in which it stands.
 pub fn column_at(text: &[u8], at: usize) -> usize
     requires { ⌜ at ≤ 65535 ⌝ }
-    ensures { λ r. ⌜ (r ≡ columnAt (now (text .entry)) at) × (r ≤ at + 1) ⌝ }
+    ensures { λ result. ⌜ (result ≡ columnAt (now (text .entry)) at) × (result ≤ at + 1) ⌝ }
 {
     let mut column: usize = 1;
     let mut k: usize = 0;
@@ -71,7 +71,7 @@ pub fn column_at(text: &[u8], at: usize) -> usize
 // The line of a refusal.
 pub fn line_of(text: &[u8], number: u16, place: usize) -> usize
     requires { ⌜ place ≤ 65535 ⌝ }
-    ensures { λ r. ⌜ (r ≡ lineOfRefusal (now (text .entry)) number place) × (r ≤ 65536) ⌝ }
+    ensures { λ result. ⌜ (result ≡ lineOfRefusal (now (text .entry)) number place) × (result ≤ 65536) ⌝ }
 {
     if number == 1 {
         return line_at(text, place);
@@ -85,7 +85,7 @@ pub fn line_of(text: &[u8], number: u16, place: usize) -> usize
 // The first column of a field of line 1, counted from 1.
 fn field_column(field: usize) -> usize
     requires { ⌜ field ≤ 65535 ⌝ }
-    ensures { λ r. ⌜ (r ≡ 5 * (field - 1) + 1) × (r ≤ 400000) ⌝ }
+    ensures { λ result. ⌜ (result ≡ 5 * (field - 1) + 1) × (result ≤ 400000) ⌝ }
 {
     if field < 1 {
         return 1;
@@ -96,7 +96,7 @@ fn field_column(field: usize) -> usize
 // The column of a refusal; of 3, 5 and 17 that of the field of the item's line that is the cause.
 pub fn column_of(text: &[u8], number: u16, place: usize, field: usize) -> usize
     requires { ⌜ (place ≤ 65535) × (field ≤ 10) ⌝ }
-    ensures { λ r. ⌜ (r ≡ columnOfRefusal (now (text .entry)) number place field) × (r ≤ 400000) ⌝ }
+    ensures { λ result. ⌜ (result ≡ columnOfRefusal (now (text .entry)) number place field) × (result ≤ 400000) ⌝ }
 {
     if number == 1 {
         return column_at(text, place);
@@ -116,11 +116,11 @@ pub fn column_of(text: &[u8], number: u16, place: usize, field: usize) -> usize
 // Puts the words of a position in front of a memory; their length is returned.
 pub fn put_position(line: usize, column: usize, out: &mut [u8]) -> usize
     requires { ⌜ (line ≤ 400000) × (column ≤ 400000) × (26 ≤ length (now out)) ⌝ }
-    ensures { λ r. ⌜ PutAt (positionText line column) (now (out .entry)) 0 (now (out .exit)) r ⌝ }
+    ensures { λ result. ⌜ PutAt (positionText line column) (now (out .entry)) 0 (now (out .exit)) result ⌝ }
 {
-    let a = put_bytes(out, 0, b"line ");
-    let b = wording::put_decimal(out, a, line as u32);
-    let c = put_bytes(out, b, b", column ");
-    let d = wording::put_decimal(out, c, column as u32);
-    put_bytes(out, d, b": ")
+    let n1 = put_bytes(out, 0, b"line ");
+    let n2 = wording::put_decimal(out, n1, line as u32);
+    let n3 = put_bytes(out, n2, b", column ");
+    let n4 = wording::put_decimal(out, n3, column as u32);
+    put_bytes(out, n4, b": ")
 }

@@ -15,8 +15,8 @@ pub fn number_at(text: &[u8], at: usize) -> usize {
 }
 
 // The lines that are left to pass, behind a byte.
-fn left_behind(left: usize, b: u8) -> usize {
-    if b != 10 {
+fn left_behind(left: usize, byte: u8) -> usize {
+    if byte != 10 {
         return left;
     }
     if left == 0 {
@@ -27,7 +27,7 @@ fn left_behind(left: usize, b: u8) -> usize {
 
 // The column of a text at which a line, counted from 1, begins; the text's end where it has no such line.
 pub fn line_start(text: &[u8], line: usize) -> usize
-    ensures { λ r. ⌜ r ≤ length (now (text .entry)) ⌝ }
+    ensures { λ result. ⌜ result ≤ length (now (text .entry)) ⌝ }
 {
     let mut left = line;
     let mut k: usize = 0;
@@ -65,27 +65,27 @@ pub fn wall_start(start: usize, j: usize) -> usize {
 
 // The carriers and the walls that line 1 counts.
 pub fn carriers(text: &[u8]) -> usize
-    ensures { λ r. ⌜ r ≤ 99999 ⌝ }
+    ensures { λ result. ⌜ result ≤ 99999 ⌝ }
 {
     counted(number_at(text, 20))
 }
 
 pub fn walls(text: &[u8]) -> usize
-    ensures { λ r. ⌜ r ≤ 99999 ⌝ }
+    ensures { λ result. ⌜ result ≤ 99999 ⌝ }
 {
     counted(number_at(text, 25))
 }
 
 // A number of five digits.
 fn counted(n: usize) -> usize
-    ensures { λ r. ⌜ r ≤ 99999 ⌝ }
+    ensures { λ result. ⌜ result ≤ 99999 ⌝ }
 {
     if n < 99999 { n } else { 99999 }
 }
 
 // The number of fields of a line that begins at a column; 0 past the last line.
 pub fn fields_of(text: &[u8], line: usize, start: usize) -> usize
-    ensures { λ r. ⌜ r ≤ 200001 ⌝ }
+    ensures { λ result. ⌜ result ≤ 200001 ⌝ }
 {
     let n = carriers(text);
     if line == 1 {
@@ -109,7 +109,7 @@ pub struct Walk {
 // The column behind the line, counted from 1, that begins at a column.
 fn line_end(text: &[u8], line: usize, start: usize) -> usize
     requires { ⌜ start ≤ 65535 ⌝ }
-    ensures { λ r. ⌜ start < r ⌝ }
+    ensures { λ result. ⌜ start < result ⌝ }
 {
     start + 5 * fields_of(text, line, start) + 1
 }
@@ -117,7 +117,7 @@ fn line_end(text: &[u8], line: usize, start: usize) -> usize
 // The lines of a sheet before its first wrong byte that are whole, where it ends at a column: each has its fields and its newline.
 pub fn whole_lines(text: &[u8], end: usize) -> Walk
     requires { ⌜ end ≤ 65535 ⌝ }
-    ensures { λ r. ⌜ (r .start ≤ end) × (r .lines ≤ r .start) ⌝ }
+    ensures { λ result. ⌜ (result .start ≤ end) × (result .lines ≤ result .start) ⌝ }
 {
     let mut lines: usize = 0;
     let mut start: usize = 0;

@@ -13,10 +13,10 @@ use Rattle.sheet.specs.Text.{lineOf}
 use Rattle.sheet.proofs.LineLaws.{field-length, field-next, newline-next}
 use Rattle.printing.specs.Text.{fieldsOf}
 
-fields-snoc : (xs : List ℕ) (v : ℕ) → fieldsOf (xs ++ (v ∷ [])) ≡ fieldsOf xs ++ fieldOf v
+fields-snoc : (xs : List ℕ) (y : ℕ) → fieldsOf (xs ++ (y ∷ [])) ≡ fieldsOf xs ++ fieldOf y
 unfolding fieldsOf
-fields-snoc [] v = append-nil (fieldOf v)
-fields-snoc (x ∷ xs) v = rw (fields-snoc xs v) (sym (append-assoc (fieldOf x) (fieldsOf xs) (fieldOf v)))
+fields-snoc [] y = append-nil (fieldOf y)
+fields-snoc (x ∷ xs) y = rw (fields-snoc xs y) (sym (append-assoc (fieldOf x) (fieldsOf xs) (fieldOf y)))
 
 pub fields-length : (xs : List ℕ) → length (fieldsOf xs) ≡ 5 * length xs
 unfolding fieldsOf
@@ -74,5 +74,5 @@ route-line m m₁ m₂ m₃ xs at a b n e₁ e₂ e₃ s l =
     length-append (fieldOf a ++ fieldOf b) (fieldsOf xs) ∙ omega arith
     in
     newline-next m m₃ ((fieldOf a ++ fieldOf b) ++ fieldsOf xs) at (at + 10 + 5 * n) three (omega arith) (omega arith)
-    ∙ ap (λ (t : List ℕ). put m at (t ++ (10 ∷ []))) (append-assoc (fieldOf a) (fieldOf b) (fieldsOf xs))
+    ∙ ap (λ (xs : List ℕ). put m at (xs ++ (10 ∷ []))) (append-assoc (fieldOf a) (fieldOf b) (fieldsOf xs))
     ∙ ap (put m at) (sym (line-fields (a ∷ b ∷ xs)))

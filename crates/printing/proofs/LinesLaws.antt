@@ -27,14 +27,14 @@ module _ (line : ℕ → List ℕ) where
   apart-more n k a =
       record {
         rest = a .rest ++ line n;
-        is = ap (λ (l : List ℕ). l ++ line n) (a .is)
+        is = ap (λ (xs : List ℕ). xs ++ line n) (a .is)
             ∙ append-assoc (linesOf line k) (line k ++ a .rest) (line n)
-            ∙ ap (λ (l : List ℕ). linesOf line k ++ l) (append-assoc (line k) (a .rest) (line n));
+            ∙ ap (λ (xs : List ℕ). linesOf line k ++ xs) (append-assoc (line k) (a .rest) (line n));
       }
 
   apart-last : (n : ℕ) → SplitAtLine (suc n) n
   unfolding linesOf
-  apart-last n = record { rest = []; is = ap (λ (l : List ℕ). linesOf line n ++ l) (sym (append-nil (line n))) }
+  apart-last n = record { rest = []; is = ap (λ (xs : List ℕ). linesOf line n ++ xs) (sym (append-nil (line n))) }
 
   apart : (n k : ℕ) → k < n → SplitAtLine n k
   apart zero k l = absurd (omega arith)
@@ -47,9 +47,9 @@ module _ (line : ℕ → List ℕ) where
       let a = apart n k l in
       let pre = head ++ linesOf line k in
       let whole : head ++ linesOf line n ≡ pre ++ (line k ++ a .rest) =
-      ap (λ (t : List ℕ). head ++ t) (a .is) ∙ sym (append-assoc head (linesOf line k) (line k ++ a .rest))
+      ap (λ (xs : List ℕ). head ++ xs) (a .is) ∙ sym (append-assoc head (linesOf line k) (line k ++ a .rest))
       in
-      ap (λ (t : List ℕ). take (length (line k)) (drop (length head + length (linesOf line k)) t)) whole
+      ap (λ (xs : List ℕ). take (length (line k)) (drop (length head + length (linesOf line k)) xs)) whole
       ∙ ap (take (length (line k))) (drop-at pre (line k ++ a .rest) _ (length-append head (linesOf line k)))
       ∙ take-at (line k) (a .rest) (length (line k)) refl
 

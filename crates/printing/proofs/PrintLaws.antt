@@ -46,15 +46,15 @@ module _ (f : Floor) (ws : List ℕ) (lent : ℕ) (ok : planVerdict f ws lent �
   enough = length-passed _ _ (then-both _ _ ok .1)
 
   -- A plan that passes its checks is made.
-  pub made-failing : (r : Planned) (i : ℕ) → plannedOutcome r ≡ planResult f ws lent → r ≡ Failing i → i ≡ failingOf (planOf f ws)
+  pub made-failing : (x : Planned) (i : ℕ) → plannedOutcome x ≡ planResult f ws lent → x ≡ Failing i → i ≡ failingOf (planOf f ws)
   unfolding planResult plannedOutcome
-  made-failing r i e g =
+  made-failing x i e g =
       let h : value i ≡ value (failingOf (planOf f ws)) = sym (ap plannedOutcome g) ∙ e ∙ gives-passed ok in
       cc
 
-  pub never-refused : {r : Planned} {x : _} → plannedOutcome r ≡ planResult f ws lent → r ≡ NotPlanned x → ⊥
+  pub never-refused : {y : Planned} {x : _} → plannedOutcome y ≡ planResult f ws lent → y ≡ NotPlanned x → ⊥
   unfolding planResult plannedOutcome
-  never-refused {r} {x} e g =
+  never-refused {y} {x} e g =
       let h : plannedOutcome (NotPlanned x) ≡ value (failingOf (planOf f ws)) = sym (ap plannedOutcome g) ∙ e ∙ gives-passed ok in
       let z : _≡_ {A = ℕ} 0 1 = cc in
       omega arith
@@ -122,16 +122,16 @@ pub record WasRead (text : List ℕ) (f : Floor) (walls : List ℕ) : Type 0 whe
   pub checked : checkOf f (take (f .walls) walls) ≡ passed
 
 -- A text that is read into memory for the most walls: accepted, or refused with a place that can be printed.
-module _ {a : Checked} (text old walls : List ℕ) (f : Floor) (wide : 1023 ≡ length old)
-    (r : (verdictOf a ≡ readVerdict text (length old)) × ((f ≡ readFloor text (length old)) × (walls ≡ readWalls text old))) where
-  pub was-read : a ≡ Passed → WasRead text f walls
+module _ {x : Checked} (text old walls : List ℕ) (f : Floor) (wide : 1023 ≡ length old)
+    (r : (verdictOf x ≡ readVerdict text (length old)) × ((f ≡ readFloor text (length old)) × (walls ≡ readWalls text old))) where
+  pub was-read : x ≡ Passed → WasRead text f walls
   unfolding readFloor readWalls
   was-read told =
       let ok = passes (r .0) told in
       let good = read-passed text (length old) (omega arith) ok in
       let floor : f ≡ floorAt text = r .1 .0 ∙ when-passed _ ok in
       let walls-read : walls ≡ wallsAt text ++ drop (floorAt text .walls) old = r .1 .1 ∙ when-passed _ ok in
-      let count : f .walls ≡ floorAt text .walls = ap (λ (g : Floor). g .walls) floor in
+      let count : f .walls ≡ floorAt text .walls = ap (λ (f : Floor). f .walls) floor in
       let front : take (f .walls) walls ≡ wallsAt text =
       ap (take (f .walls)) walls-read ∙ take-at (wallsAt text) _ (f .walls) (walls-length text ∙ sym count)
       in
@@ -143,8 +143,8 @@ module _ {a : Checked} (text old walls : List ℕ) (f : Floor) (wide : 1023 ≡ 
         checked = rw (front, floor) (sheet-theorems .read-accepted text good);
       }
 
-module _ {a : Checked} {x : Refusal} (text old : List ℕ) (wide : 1023 ≡ length old) (r : verdictOf a ≡ readVerdict text (length old))
-    (told : a ≡ Refused x) where
+module _ {y : Checked} {x : Refusal} (text old : List ℕ) (wide : 1023 ≡ length old) (r : verdictOf y ≡ readVerdict text (length old))
+    (told : y ≡ Refused x) where
   pub was-refused : sheetVerdict text ≡ refused (x .number) (x .place)
   was-refused = read-refused text (length old) (omega arith) _ _ (refuses r told)
 
@@ -161,19 +161,19 @@ pub place-printed : (text : List ℕ) (k p : ℕ) → sheetVerdict text ≡ refu
 place-printed text k p v = let low = sheet-theorems .place-low text k p v in omega arith
 
 -- From bytes to bytes: an accepted sheet, and a refused one.
-module _ (text old new : List ℕ) (o : Outcome ℕ) where
+module _ (text old new : List ℕ) (x : Outcome ℕ) where
   pub routes-accepted : (f : Floor) (walls : List ℕ) → WasRead text f walls
-      → FloorPut f walls old new o → (o ≡ routesOutcome text (length old)) × (new ≡ routesMemory text old)
+      → FloorPut f walls old new x → (x ≡ routesOutcome text (length old)) × (new ≡ routesMemory text old)
   unfolding routesOutcome routesMemory routesOf orRefusal neededFor whenPassed shortOutcome _thenAnswers_ FloorPut
   routes-accepted f walls r t =
-      let u : TextOrShort (printOf (floorAt text) (wallsAt text)) (textLength (floorAt text)) 9 0 old new o =
+      let u : TextOrShort (printOf (floorAt text) (wallsAt text)) (textLength (floorAt text)) 9 0 old new x =
       rw (r .front, r .floor) at t
       in
       (rw (r .accepted) (u .answers), rw (r .accepted) (u .stores))
 
-  pub routes-refused : (k p : ℕ) → sheetVerdict text ≡ refused k p → RefusalPut k p old new o
-      → (o ≡ routesOutcome text (length old)) × (new ≡ routesMemory text old)
+  pub routes-refused : (k p : ℕ) → sheetVerdict text ≡ refused k p → RefusalPut k p old new x
+      → (x ≡ routesOutcome text (length old)) × (new ≡ routesMemory text old)
   unfolding routesOutcome routesMemory routesOf orRefusal neededFor whenPassed shortOutcome _thenAnswers_ RefusalPut
   routes-refused k p v t =
-      let u : TextOrShort (refusalLine k p) 16 k p old new o = rw (place-printed text k p v) at t in
+      let u : TextOrShort (refusalLine k p) 16 k p old new x = rw (place-printed text k p v) at t in
       (rw v (u .answers), rw v (u .stores))

@@ -23,7 +23,7 @@ use Rattle.printing.specs.Put.{lineIn, linesIn, textIn}
 answer-front : (x : Answer) (m pre rest : List ℕ) (i : ℕ) → m ≡ pre ++ (recordOf x ++ rest) → length pre ≡ 65 * i → Whole x
     → answerIn m i ≡ x
 unfolding answerIn shown
-answer-front x m pre rest i e s w = ap (λ (l : List ℕ). shown (viewAt l i)) e ∙ ap shown (record-view pre rest x i s w)
+answer-front x m pre rest i e s w = ap (λ (xs : List ℕ). shown (viewAt xs i)) e ∙ ap shown (record-view pre rest x i s w)
 
 -- Record k of a plan's records, which begin at record i of a memory, has the plan's answer k.
 answers-in : (xs : List Answer) (m pre rest : List ℕ) (i k : ℕ) → m ≡ pre ++ (recordsOf xs ++ rest) → length pre ≡ 65 * i → AllWhole xs
@@ -45,7 +45,7 @@ text-same : (f : Floor) (xs : List Answer) (m old : List ℕ) → m ≡ stored x
     → textIn f (failingOf xs) m ≡ routesText f xs
 unfolding textIn linesIn lineIn routesText stored put
 text-same f xs m old e a n =
-    ap (λ (t : List ℕ). firstLine f (failingOf xs) ++ t)
+    ap (λ (ys : List ℕ). firstLine f (failingOf xs) ++ ys)
     (lines-same (lineIn f m) (λ i. answerLine f i (answerAt xs i)) (f .carriers)
     (λ i l. ap (answerLine f i) (ap (answerIn m) (zero-plus i) ∙ answers-in xs m [] _ 0 i e refl a (omega arith))))
   where

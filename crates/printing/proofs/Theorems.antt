@@ -29,32 +29,32 @@ use Rattle.printing.proofs.PutLaws.{first-length, none-length}
 use Rattle.printing.proofs.LinesLaws.{line-at, text-within}
 
 -- Records that are the same floor have the same printed routes.
-module _ (f : Floor) (ws : List ℕ) (g : Floor) (vs : List ℕ) (same : SameFloor f ws g vs) where
-  pub plans-same : planOf f ws ≡ planOf g vs
+module _ (f : Floor) (ws : List ℕ) (f′ : Floor) (ws′ : List ℕ) (same : SameFloor f ws f′ ws′) where
+  pub plans-same : planOf f ws ≡ planOf f′ ws′
   plans-same =
       let n = f .carriers in
       sym (take-all n (planOf f ws) (omega (arith, planner-theorems .answers-all f ws)))
-      ∙ planner-theorems .depends-on-above n f ws g vs (omega arith) (omega (arith, same .carriers))
-      (same-agrees f ws g vs same)
-      ∙ take-all n (planOf g vs) (omega (arith, planner-theorems .answers-all g vs, same .carriers))
+      ∙ planner-theorems .depends-on-above n f ws f′ ws′ (omega arith) (omega (arith, same .carriers))
+      (same-agrees f ws f′ ws′ same)
+      ∙ take-all n (planOf f′ ws′) (omega (arith, planner-theorems .answers-all f′ ws′, same .carriers))
 
-  answer-same : (i : ℕ) (x : Answer) → i < f .carriers → answerLine f i x ≡ answerLine g i x
+  answer-same : (i : ℕ) (x : Answer) → i < f .carriers → answerLine f i x ≡ answerLine f′ i x
   unfolding answerLine
   answer-same i none l = refl
   answer-same i (route r) l = rw (same .horizon)
 
-  text-same : (xs : List Answer) → routesText f xs ≡ routesText g xs
+  text-same : (xs : List Answer) → routesText f xs ≡ routesText f′ xs
   unfolding routesText firstLine
   text-same xs =
       rw (
-        lines-same (λ i. answerLine f i (answerAt xs i)) (λ i. answerLine g i (answerAt xs i)) (f .carriers)
+        lines-same (λ i. answerLine f i (answerAt xs i)) (λ i. answerLine f′ i (answerAt xs i)) (f .carriers)
             (λ i l. answer-same i (answerAt xs i) l),
         same .carriers,
       )
 
-  pub print-same : printOf f ws ≡ printOf g vs
+  pub print-same : printOf f ws ≡ printOf f′ ws′
   unfolding printOf
-  print-same = text-same (planOf f ws) ∙ ap (routesText g) plans-same
+  print-same = text-same (planOf f ws) ∙ ap (routesText f′) plans-same
 
 routes-accepted : (text : List ℕ) → sheetVerdict text ≡ passed
     → routesOf text ≡ routesText (floorAt text) (planOf (floorAt text) (wallsAt text))
@@ -111,7 +111,7 @@ routes-within text = go (sheetVerdict text) refl
         let ok = sheet-theorems .read-accepted text e in
         (print-within (floorAt text) (wallsAt text) ok, omega (arith, check-tells _ _ ok .bounds .carriers .1))
 
-    go : (v : Verdict) → sheetVerdict text ≡ v → (length (routesOf text) ≤ neededFor text) × (neededFor text ≤ 2659)
+    go : (x : Verdict) → sheetVerdict text ≡ x → (length (routesOf text) ≤ neededFor text) × (neededFor text ≤ 2659)
     go passed e = rw e (accepted e)
     go (refused k p) e = rw e (omega (arith, refusal-length k p), omega arith)
 

@@ -49,14 +49,14 @@ pub record Printable (f : Floor) (m out : List ℕ) : Type 0 where
   pub enough : 11 + 331 * f .carriers ≤ length out
 
 -- A text stands in front of a buffer with room for so many bytes; a shorter buffer is as it was, with the refusal k, p.
-pub record TextOrShort (text : List ℕ) (needed k p : ℕ) (old new : List ℕ) (o : Outcome ℕ) : Type 0 where
-  pub answers : o ≡ cond (leb needed (length old)) (value (length text)) (refusal k p)
+pub record TextOrShort (text : List ℕ) (needed k p : ℕ) (old new : List ℕ) (x : Outcome ℕ) : Type 0 where
+  pub answers : x ≡ cond (leb needed (length old)) (value (length text)) (refusal k p)
   pub stores : new ≡ cond (leb needed (length old)) (put old 0 text) old
 
 -- The same for the routes of a floor that was read, its walls standing in front of others.
 unfoldable pub FloorPut : Floor → List ℕ → List ℕ → List ℕ → Outcome ℕ → Type 0
-FloorPut f walls old new o = TextOrShort (printOf f (take (f .walls) walls)) (textLength f) 9 0 old new o
+FloorPut f walls old new x = TextOrShort (printOf f (take (f .walls) walls)) (textLength f) 9 0 old new x
 
 -- The same for the line of a refused sheet, a place over 65,535 printed as that.
 unfoldable pub RefusalPut : ℕ → ℕ → List ℕ → List ℕ → Outcome ℕ → Type 0
-RefusalPut k p old new o = TextOrShort (refusalLine k (min p 65535)) 16 k p old new o
+RefusalPut k p old new x = TextOrShort (refusalLine k (min p 65535)) 16 k p old new x

@@ -14,7 +14,7 @@ use Rattle.planner.specs.Claims.{answerAt}
 -- Fields, one behind the other.
 unfoldable pub fieldsOf : List ℕ → List ℕ
 fieldsOf [] = []
-fieldsOf (v ∷ vs) = fieldOf v ++ fieldsOf vs
+fieldsOf (x ∷ xs) = fieldOf x ++ fieldsOf xs
 
 -- ` none`: a space and four letters.
 unfoldable pub noneWord : List ℕ

@@ -29,14 +29,14 @@ pub enum Printed {
 
 // The needed length of text memory: 11 bytes, and 331 a carrier.
 pub fn text_length(f: Floor) -> usize
-    ensures { λ r. ⌜ r ≡ textLength f ⌝ }
+    ensures { λ result. ⌜ result ≡ textLength f ⌝ }
 {
     11 + 331 * f.carriers as usize
 }
 
 // The refusals of printing, in their order.
 fn request(f: Floor, walls: &[u16], lent: usize, bytes: usize) -> Checked
-    ensures { λ r. ⌜ verdictOf r ≡ printVerdict f (now (walls .entry)) lent bytes ⌝ }
+    ensures { λ result. ⌜ verdictOf result ≡ printVerdict f (now (walls .entry)) lent bytes ⌝ }
 {
     let asked = planner::request(f, walls, lent);
     let Checked::Passed = asked else {
@@ -49,8 +49,8 @@ fn request(f: Floor, walls: &[u16], lent: usize, bytes: usize) -> Checked
 fn put_plan(f: Floor, walls: &[u16], answers: &mut [u16], out: &mut [u8]) -> usize
     requires { ⌜ planVerdict f (now walls) (length (now answers)) ≡ passed ⌝ }
     requires { ⌜ textLength f ≤ length (now out) ⌝ }
-    ensures plans { λ r. ⌜ now (answers .exit) ≡ stored (planOf f (now (walls .entry))) (now (answers .entry)) ⌝ }
-    ensures puts { λ r. ⌜ TextPut (printOf f (now (walls .entry))) (now (out .entry)) (now (out .exit)) r ⌝ }
+    ensures plans { λ result. ⌜ now (answers .exit) ≡ stored (planOf f (now (walls .entry))) (now (answers .entry)) ⌝ }
+    ensures puts { λ result. ⌜ TextPut (printOf f (now (walls .entry))) (now (out .entry)) (now (out .exit)) result ⌝ }
 {
     let planned = planner::plan(f, walls, answers);
     let Planned::Failing(failing) = planned else {
@@ -62,10 +62,10 @@ fn put_plan(f: Floor, walls: &[u16], answers: &mut [u16], out: &mut [u8]) -> usi
 // Plans a floor and prints its routes: the answers into lent memory as `planner::plan` stores them, the text into lent
 // memory.
 pub fn print(f: Floor, walls: &[u16], answers: &mut [u16], out: &mut [u8]) -> Printed
-    ensures says { λ r. ⌜ printedOutcome r
+    ensures says { λ result. ⌜ printedOutcome result
         ≡ printOutcome f (now (walls .entry)) (length (now (answers .entry))) (length (now (out .entry))) ⌝ }
-    ensures plans { λ r. ⌜ now (answers .exit) ≡ printAnswers f (now (walls .entry)) (length (now (out .entry))) (now (answers .entry)) ⌝ }
-    ensures stores { λ r. ⌜ now (out .exit) ≡ printMemory f (now (walls .entry)) (length (now (answers .entry))) (now (out .entry)) ⌝ }
+    ensures plans { λ result. ⌜ now (answers .exit) ≡ printAnswers f (now (walls .entry)) (length (now (out .entry))) (now (answers .entry)) ⌝ }
+    ensures stores { λ result. ⌜ now (out .exit) ≡ printMemory f (now (walls .entry)) (length (now (answers .entry))) (now (out .entry)) ⌝ }
 {
     let asked = request(f, walls, answers.len(), out.len());
     let Checked::Refused(x) = asked else {
@@ -76,7 +76,7 @@ pub fn print(f: Floor, walls: &[u16], answers: &mut [u16], out: &mut [u8]) -> Pr
 
 // Room for the answers of the most carriers.
 fn no_answers() -> [u16; 520]
-    ensures { λ r. ⌜ 520 ≡ length r ⌝ }
+    ensures { λ result. ⌜ 520 ≡ length result ⌝ }
 {
     [0; 520]
 }
@@ -85,7 +85,7 @@ fn no_answers() -> [u16; 520]
 pub fn put_routes(f: Floor, walls: &[u16], out: &mut [u8]) -> usize
     requires { ⌜ checkOf f (now walls) ≡ passed ⌝ }
     requires { ⌜ textLength f ≤ length (now out) ⌝ }
-    ensures { λ r. ⌜ TextPut (printOf f (now (walls .entry))) (now (out .entry)) (now (out .exit)) r ⌝ }
+    ensures { λ result. ⌜ TextPut (printOf f (now (walls .entry))) (now (out .entry)) (now (out .exit)) result ⌝ }
 {
     let mut answers = no_answers();
     put_plan(f, walls, &mut answers, out)
@@ -95,7 +95,7 @@ pub fn put_routes(f: Floor, walls: &[u16], out: &mut [u8]) -> usize
 fn print_read(f: Floor, walls: &[u16], out: &mut [u8]) -> Printed
     requires { ⌜ checkOf f (take (f .walls) (now walls)) ≡ passed ⌝ }
     requires { ⌜ f .walls ≤ length (now walls) ⌝ }
-    ensures { λ r. ⌜ FloorPut f (now (walls .entry)) (now (out .entry)) (now (out .exit)) (printedOutcome r) ⌝ }
+    ensures { λ result. ⌜ FloorPut f (now (walls .entry)) (now (out .entry)) (now (out .exit)) (printedOutcome result) ⌝ }
 {
     if out.len() < text_length(f) {
         return Printed::Refused(Refusal {
@@ -109,7 +109,7 @@ fn print_read(f: Floor, walls: &[u16], out: &mut [u8]) -> Printed
 
 // A place as it is printed: one over 65,535 as that.
 fn printed_place(place: usize) -> u16
-    ensures { λ r. ⌜ r ≡ min place 65535 ⌝ }
+    ensures { λ result. ⌜ result ≡ min place 65535 ⌝ }
 {
     if place < 65535 { place as u16 } else { 65535 }
 }
@@ -117,14 +117,14 @@ fn printed_place(place: usize) -> u16
 // Puts the line of a refusal; its length is returned.
 pub fn put_refusal(x: Refusal, out: &mut [u8]) -> usize
     requires { ⌜ (x .place ≤ 65535) × (16 ≤ length (now out)) ⌝ }
-    ensures { λ r. ⌜ TextPut (refusalLine (x .number) (x .place)) (now (out .entry)) (now (out .exit)) r ⌝ }
+    ensures { λ result. ⌜ TextPut (refusalLine (x .number) (x .place)) (now (out .entry)) (now (out .exit)) result ⌝ }
 {
     lines::put_refusal(x.number, x.place as u16, out)
 }
 
 // The line of a refused sheet; with less than 16 bytes of text memory the refusal itself.
 pub fn print_refusal(x: Refusal, out: &mut [u8]) -> Printed
-    ensures { λ r. ⌜ RefusalPut (x .number) (x .place) (now (out .entry)) (now (out .exit)) (printedOutcome r) ⌝ }
+    ensures { λ result. ⌜ RefusalPut (x .number) (x .place) (now (out .entry)) (now (out .exit)) (printedOutcome result) ⌝ }
 {
     if out.len() < 16 {
         return Printed::Refused(x);
@@ -136,8 +136,8 @@ pub fn print_refusal(x: Refusal, out: &mut [u8]) -> Printed
 // From a sheet's bytes to the printed bytes: the routes of its floor, or the line of its refusal. With too little text
 // memory it is refused: with the sheet's refusal, and with 9 if it has none.
 pub fn routes(text: &[u8], out: &mut [u8]) -> Printed
-    ensures says { λ r. ⌜ printedOutcome r ≡ routesOutcome (now (text .entry)) (length (now (out .entry))) ⌝ }
-    ensures stores { λ r. ⌜ now (out .exit) ≡ routesMemory (now (text .entry)) (now (out .entry)) ⌝ }
+    ensures says { λ result. ⌜ printedOutcome result ≡ routesOutcome (now (text .entry)) (length (now (out .entry))) ⌝ }
+    ensures stores { λ result. ⌜ now (out .exit) ≡ routesMemory (now (text .entry)) (now (out .entry)) ⌝ }
 {
     let mut walls = sheet::no_walls();
     let reading = sheet::read(text, &mut walls);

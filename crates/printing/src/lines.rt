@@ -14,7 +14,7 @@ use route::Route;
 fn put_cells(out: &mut [u8], at: usize, cells: Route, n: usize)
     requires { ⌜ n ≤ 64 ⌝ }
     requires { ⌜ at + 5 * n ≤ length (now out) ⌝ }
-    ensures { λ r. ⌜ now (out .exit) ≡ put (now (out .entry)) at (fieldsOf (take n cells)) ⌝ }
+    ensures { λ result. ⌜ now (out .exit) ≡ put (now (out .entry)) at (fieldsOf (take n cells)) ⌝ }
 {
     let mut t: usize = 0;
     while t < n {
@@ -27,7 +27,7 @@ fn put_cells(out: &mut [u8], at: usize, cells: Route, n: usize)
 fn put_route(out: &mut [u8], at: usize, number: u16, arrival: u16, cells: Route, n: usize)
     requires { ⌜ n ≤ 64 ⌝ }
     requires { ⌜ at + 5 * n + 11 ≤ length (now out) ⌝ }
-    ensures { λ r. ⌜ now (out .exit) ≡ put (now (out .entry)) at (lineOf (number ∷ arrival ∷ take n cells)) ⌝ }
+    ensures { λ result. ⌜ now (out .exit) ≡ put (now (out .entry)) at (lineOf (number ∷ arrival ∷ take n cells)) ⌝ }
 {
     fields::put_field(out, at, number);
     fields::put_field(out, at + 5, arrival);
@@ -38,7 +38,7 @@ fn put_route(out: &mut [u8], at: usize, number: u16, arrival: u16, cells: Route,
 // ` none`: a space and four letters.
 fn put_word(out: &mut [u8], at: usize)
     requires { ⌜ at + 5 ≤ length (now out) ⌝ }
-    ensures { λ r. ⌜ now (out .exit) ≡ put (now (out .entry)) at noneWord ⌝ }
+    ensures { λ result. ⌜ now (out .exit) ≡ put (now (out .entry)) at noneWord ⌝ }
 {
     out[at] = b' ';
     out[at + 1] = b'n';
@@ -50,7 +50,7 @@ fn put_word(out: &mut [u8], at: usize)
 // The line of a carrier that has none.
 fn put_none(out: &mut [u8], at: usize, number: u16)
     requires { ⌜ at + 11 ≤ length (now out) ⌝ }
-    ensures { λ r. ⌜ now (out .exit) ≡ put (now (out .entry)) at (noneLine number) ⌝ }
+    ensures { λ result. ⌜ now (out .exit) ≡ put (now (out .entry)) at (noneLine number) ⌝ }
 {
     fields::put_field(out, at, number);
     put_word(out, at + 5);
@@ -62,7 +62,7 @@ fn put_answer(f: Floor, i: usize, answers: &[u16], out: &mut [u8], at: usize) ->
     requires { ⌜ (i < 8) × (f .horizon ≤ 63) ⌝ }
     requires { ⌜ 65 * i + 65 ≤ length (now answers) ⌝ }
     requires { ⌜ at + 331 ≤ length (now out) ⌝ }
-    ensures { λ r. ⌜ LinePut f i (now (answers .entry)) (now (out .entry)) at (now (out .exit)) r ⌝ }
+    ensures { λ result. ⌜ LinePut f i (now (answers .entry)) (now (out .entry)) at (now (out .exit)) result ⌝ }
 {
     let number = i as u16 + 1;
     if answers[65 * i] != 2 {
@@ -79,7 +79,7 @@ fn put_answer(f: Floor, i: usize, answers: &[u16], out: &mut [u8], at: usize) ->
 // The lines of the carriers, from a column on; the column behind them is returned.
 fn put_answers(f: Floor, answers: &[u16], out: &mut [u8]) -> usize
     requires { ⌜ Printable f (now answers) (now out) ⌝ }
-    ensures { λ r. ⌜ LinesPut f (now (answers .entry)) (now (out .entry)) (f .carriers) (now (out .exit)) r ⌝ }
+    ensures { λ result. ⌜ LinesPut f (now (answers .entry)) (now (out .entry)) (f .carriers) (now (out .exit)) result ⌝ }
 {
     let n = f.carriers as usize;
     let mut at: usize = 11;
@@ -94,7 +94,7 @@ fn put_answers(f: Floor, answers: &[u16], out: &mut [u8]) -> usize
 // Line 1.
 fn put_first(f: Floor, failing: u16, out: &mut [u8])
     requires { ⌜ 11 ≤ length (now out) ⌝ }
-    ensures { λ r. ⌜ now (out .exit) ≡ put (now (out .entry)) 0 (firstLine f failing) ⌝ }
+    ensures { λ result. ⌜ now (out .exit) ≡ put (now (out .entry)) 0 (firstLine f failing) ⌝ }
 {
     fields::put_field(out, 0, f.carriers);
     fields::put_field(out, 5, failing);
@@ -104,7 +104,7 @@ fn put_first(f: Floor, failing: u16, out: &mut [u8])
 // The printed routes of a floor, from its answers in memory; their length is returned.
 pub fn put_routes(f: Floor, failing: u16, answers: &[u16], out: &mut [u8]) -> usize
     requires { ⌜ Printable f (now answers) (now out) ⌝ }
-    ensures { λ r. ⌜ TextPut (textIn f failing (now (answers .entry))) (now (out .entry)) (now (out .exit)) r ⌝ }
+    ensures { λ result. ⌜ TextPut (textIn f failing (now (answers .entry))) (now (out .entry)) (now (out .exit)) result ⌝ }
 {
     put_first(f, failing, out);
     put_answers(f, answers, out)
@@ -113,7 +113,7 @@ pub fn put_routes(f: Floor, failing: u16, answers: &[u16], out: &mut [u8]) -> us
 // The line of a refusal, its number and its place; its length is returned.
 pub fn put_refusal(number: u16, place: u16, out: &mut [u8]) -> usize
     requires { ⌜ 16 ≤ length (now out) ⌝ }
-    ensures { λ r. ⌜ TextPut (refusalLine number place) (now (out .entry)) (now (out .exit)) r ⌝ }
+    ensures { λ result. ⌜ TextPut (refusalLine number place) (now (out .entry)) (now (out .exit)) result ⌝ }
 {
     fields::put_field(out, 0, 0);
     fields::put_field(out, 5, number);

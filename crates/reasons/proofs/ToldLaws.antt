@@ -23,12 +23,12 @@ begins-put text rest old mid new at n p q l =
 
 -- What is told of the refusal of a sheet is told of each, since there is one.
 pub one-refusal : (text memory : List ℕ) (n k p : ℕ) → sheetVerdict text ≡ refused k p → Explains text k p memory n
-    → (j q : ℕ) → sheetVerdict text ≡ refused j q → Explains text j q memory n
-one-refusal text memory n k p e t j q f =
+    → (j p′ : ℕ) → sheetVerdict text ≡ refused j p′ → Explains text j p′ memory n
+one-refusal text memory n k p e t j p′ f =
     let number : k ≡ j = cc in
-    let place : p ≡ q = cc in
+    let place : p ≡ p′ = cc in
     rw (← number, ← place) t
 
-pub no-refusal : (text memory : List ℕ) (n : ℕ) → sheetVerdict text ≡ passed → (j q : ℕ) → sheetVerdict text ≡ refused j q
-    → Explains text j q memory n
-no-refusal text memory n e j q f = absurd (let z : _≡_ {A = ℕ} 0 1 = cc in omega arith)
+pub no-refusal : (text memory : List ℕ) (n : ℕ) → sheetVerdict text ≡ passed → (j p : ℕ) → sheetVerdict text ≡ refused j p
+    → Explains text j p memory n
+no-refusal text memory n e j p f = absurd (let z : _≡_ {A = ℕ} 0 1 = cc in omega arith)

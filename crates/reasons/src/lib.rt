@@ -37,10 +37,10 @@ fn put_limit(text: &[u8], field: usize, out: &mut [u8]) -> usize {
     if field == 0 {
         return 0;
     }
-    let v = sheet_line::field_at(text, 0, field - 1);
+    let x = sheet_line::field_at(text, 0, field - 1);
     if field == 1 {
         return put_value(
-            v,
+            x,
             Floor::MAX_WIDTH,
             b"the width is %, it must be 1 to %",
             out,
@@ -48,7 +48,7 @@ fn put_limit(text: &[u8], field: usize, out: &mut [u8]) -> usize {
     }
     if field == 2 {
         return put_value(
-            v,
+            x,
             Floor::MAX_HEIGHT,
             b"the height is %, it must be 1 to %",
             out,
@@ -56,7 +56,7 @@ fn put_limit(text: &[u8], field: usize, out: &mut [u8]) -> usize {
     }
     if field == 3 {
         return put_value(
-            v,
+            x,
             Floor::MAX_HORIZON,
             b"the horizon is %, it must be 1 to %",
             out,
@@ -64,7 +64,7 @@ fn put_limit(text: &[u8], field: usize, out: &mut [u8]) -> usize {
     }
     if field == 4 {
         return put_value(
-            v,
+            x,
             Floor::MAX_DEPTH,
             b"the depth is %, it must be 1 to %",
             out,
@@ -72,14 +72,14 @@ fn put_limit(text: &[u8], field: usize, out: &mut [u8]) -> usize {
     }
     if field == 5 {
         return put_value(
-            v,
+            x,
             Floor::MAX_CARRIERS,
             b"the number of carriers is %, it must be 1 to %",
             out,
         );
     }
     put_value(
-        v,
+        x,
         Floor::MAX_WALLS,
         b"the number of walls is %, it must be 0 to %",
         out,
@@ -114,7 +114,7 @@ fn put_cause(text: &[u8], number: u16, place: usize, field: usize, out: &mut [u8
 // Puts the reason of a refusal and a newline; the length of both is returned.
 fn put_reason(text: &[u8], number: u16, place: usize, field: usize, out: &mut [u8]) -> usize
     requires { ⌜ (place ≤ 65535) × (field ≤ 10) ⌝ }
-    ensures { λ r. ⌜ Counts r (now (out .exit)) ⌝ }
+    ensures { λ result. ⌜ Counts result (now (out .exit)) ⌝ }
 {
     let said = put_cause(text, number, place, field, out);
     let end = put(out, said, b"\n");
@@ -124,8 +124,8 @@ fn put_reason(text: &[u8], number: u16, place: usize, field: usize, out: &mut [u
 // Puts the position of a refusal and its reason in front of a memory; the length of both is returned.
 fn put_refused(text: &[u8], number: u16, place: usize, field: usize, out: &mut [u8]) -> usize
     requires { ⌜ (place ≤ 65535) × (field ≤ 10) × (160 ≤ length (now out)) ⌝ }
-    ensures { λ r. ⌜ BeginsWith (positionText (lineOfRefusal (now (text .entry)) number place)
-        (columnOfRefusal (now (text .entry)) number place field)) (now (out .exit)) r ⌝ }
+    ensures { λ result. ⌜ BeginsWith (positionText (lineOfRefusal (now (text .entry)) number place)
+        (columnOfRefusal (now (text .entry)) number place field)) (now (out .exit)) result ⌝ }
 {
     let mut reason = [0u8; REASON_LENGTH];
     let n = put_reason(text, number, place, field, &mut reason);
@@ -149,14 +149,14 @@ fn docks(f: Floor) -> usize {
 
 // A number of 16 bits.
 fn wide(n: u16) -> usize
-    ensures { λ r. ⌜ r ≤ 65535 ⌝ }
+    ensures { λ result. ⌜ result ≤ 65535 ⌝ }
 {
     n as usize
 }
 
 // The docks of carrier i, counted from 0.
 fn dock_count(f: Floor, i: usize) -> usize
-    ensures { λ r. ⌜ r ≤ 65535 ⌝ }
+    ensures { λ result. ⌜ result ≤ 65535 ⌝ }
 {
     if 8 <= i {
         return 0;
@@ -200,7 +200,7 @@ fn put_accepted(f: Floor, out: &mut [u8]) -> usize {
 // Puts the text of a refusal in front of a memory; its length is returned.
 fn put_text(text: &[u8], x: Refusal, out: &mut [u8]) -> usize
     requires { ⌜ (x .place ≤ 65535) × (160 ≤ length (now out)) ⌝ }
-    ensures { λ r. ⌜ Explains (now (text .entry)) (x .number) (x .place) (now (out .exit)) r ⌝ }
+    ensures { λ result. ⌜ Explains (now (text .entry)) (x .number) (x .place) (now (out .exit)) result ⌝ }
 {
     let number = x.number;
     let place = x.place;
@@ -216,9 +216,9 @@ fn put_text(text: &[u8], x: Refusal, out: &mut [u8]) -> usize
 
 // Prints why a text is no sheet of a floor, or the size of its floor where it is one; the number of printed bytes is returned.
 pub fn print(text: &[u8], out: &mut [u8; TEXT_LENGTH]) -> usize
-    ensures counts { λ r. ⌜ Counts r (now (out .exit)) ⌝ }
-    ensures places { λ r. ⌜ ((k p : ℕ) → sheetVerdict (now (text .entry)) ≡ refused k p
-        → Explains (now (text .entry)) k p (now (out .exit)) r) ⌝ }
+    ensures counts { λ result. ⌜ Counts result (now (out .exit)) ⌝ }
+    ensures places { λ result. ⌜ ((k p : ℕ) → sheetVerdict (now (text .entry)) ≡ refused k p
+        → Explains (now (text .entry)) k p (now (out .exit)) result) ⌝ }
 {
     let mut walls = sheet::no_walls();
     let reading = sheet::read(text, &mut walls);

@@ -48,10 +48,10 @@ unheard-vacant : (H t d : ℕ) → vacant H t d unheard ≡ true
 unfolding vacant
 unheard-vacant H t d = refl
 
-by-vacant : (b e : Bool) (q : List ℕ) (H t d : ℕ) (x : ℕ → ℕ) → ((u : ℕ) → u < suc H → cellAt q u ≡ x u) → t ≤ H → d < 65535 →
-    (vacant H t d (viewBy b e q) ≡ true) ↔ ((u : ℕ) → u < suc H → u ≤ suc t → t ≤ suc u → d ≡ cellBy b (x u) → ⊥)
+by-vacant : (y z : Bool) (q : List ℕ) (H t d : ℕ) (φ : ℕ → ℕ) → ((u : ℕ) → u < suc H → cellAt q u ≡ φ u) → t ≤ H → d < 65535 →
+    (vacant H t d (viewBy y z q) ≡ true) ↔ ((u : ℕ) → u < suc H → u ≤ suc t → t ≤ suc u → d ≡ cellBy y (φ u) → ⊥)
 unfolding viewBy cellBy
-by-vacant true e q H t d x same l small = (
+by-vacant true z q H t d φ same l small = (
   λ h u k up down p. away-says H t d q l (route-vacant H t d q h) u k up down (p ∙ sym (same u k)),
   λ away. vacant-route H t d q (away-holds H t d q l (λ u k up down p. away u k up down (p ∙ same u k))),
 )
@@ -66,11 +66,11 @@ module _ (m : List ℕ) (j : ℕ) where
   -- A record that shows a route has its cell at the beat, another one no cell.
   pub cell-route : (t : ℕ) → getD m (65 * j) 0 ≡ 2 → getD m (65 * j + 1 + t) 0 ≡ viewCell m j t
   unfolding viewCell cellBy
-  cell-route t e = sym (ap (λ (b : Bool). cellBy b (getD m (65 * j + 1 + t) 0)) (eq-eqb (getD m (65 * j) 0) 2 e))
+  cell-route t e = sym (ap (λ (x : Bool). cellBy x (getD m (65 * j + 1 + t) 0)) (eq-eqb (getD m (65 * j) 0) 2 e))
 
   pub cell-none : (t : ℕ) → (getD m (65 * j) 0 ≡ 2 → ⊥) → 65535 ≡ viewCell m j t
   unfolding viewCell cellBy
-  cell-none t e = sym (ap (λ (b : Bool). cellBy b (getD m (65 * j + 1 + t) 0)) (ne-eqb (getD m (65 * j) 0) 2 e))
+  cell-none t e = sym (ap (λ (x : Bool). cellBy x (getD m (65 * j + 1 + t) 0)) (ne-eqb (getD m (65 * j) 0) 2 e))
 
   -- A cell is vacant exactly if it is not the view's at the beat or at one beside it.
   pub vacant-cell : (H t d : ℕ) → H ≤ 63 → t ≤ H → d < 65535 → (vacant H t d (viewAt m j) ≡ true) ↔ Away m j (suc H) t d

@@ -16,7 +16,7 @@ use Rattle.records.specs.Records.{moved}
 -- The first t cells are those of the memory from a place on.
 pub record CellsCopied (m : List ℕ) (at : ℕ) (cells : List ℕ) (t : ℕ) : Type 0 where
   pub long : length cells ≡ 64
-  pub copied : (q : ℕ) → q < t → getD cells q 0 ≡ getD m (at + q) 0
+  pub copied : (p : ℕ) → p < t → getD cells p 0 ≡ getD m (at + p) 0
 
 module _ (m : List ℕ) (at : ℕ) where
   pub copied-start : (cells : List ℕ) → length cells ≡ 64 → CellsCopied m at cells 0

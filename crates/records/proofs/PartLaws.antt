@@ -10,16 +10,16 @@ use Rattle.laws.proofs.PartLaws.{part-byte, part-length}
 use Rattle.records.specs.Records.{viewOf, recordAt, viewAt}
 
 -- A part of a part.
-pub part-part : (m : List ℕ) (a n k l : ℕ) → a + n ≤ length m → k + l ≤ n → part (part m a n) k l ≡ part m (a + k) l
-part-part m a n k l h s =
-    ext-getD 0 (part (part m a n) k l) (part m (a + k) l)
-    (part-length (part m a n) k l (omega (arith, part-length m a n h)) ∙ sym (part-length m (a + k) l (omega arith)))
-    (λ i b. go i (omega (arith, part-length (part m a n) k l (omega (arith, part-length m a n h)))))
+pub part-part : (m : List ℕ) (a n k p : ℕ) → a + n ≤ length m → k + p ≤ n → part (part m a n) k p ≡ part m (a + k) p
+part-part m a n k p h s =
+    ext-getD 0 (part (part m a n) k p) (part m (a + k) p)
+    (part-length (part m a n) k p (omega (arith, part-length m a n h)) ∙ sym (part-length m (a + k) p (omega arith)))
+    (λ i b. go i (omega (arith, part-length (part m a n) k p (omega (arith, part-length m a n h)))))
   where
-    go : (i : ℕ) → i < l → getD (part (part m a n) k l) i 0 ≡ getD (part m (a + k) l) i 0
+    go : (i : ℕ) → i < p → getD (part (part m a n) k p) i 0 ≡ getD (part m (a + k) p) i 0
     go i b =
         let sum : a + (k + i) ≡ a + k + i = omega arith in
-        part-byte (part m a n) k l i b ∙ part-byte m a n (k + i) (omega arith) ∙ rw sum refl ∙ sym (part-byte m (a + k) l i b)
+        part-byte (part m a n) k p i b ∙ part-byte m a n (k + i) (omega arith) ∙ rw sum refl ∙ sym (part-byte m (a + k) p i b)
 
 -- The view in record j of a part.
 pub view-part : (m : List ℕ) (a i j : ℕ) → j < i → a + 65 * i ≤ length m → viewAt (part m a (65 * i)) j ≡ recordAt m (a + 65 * j)

@@ -62,7 +62,7 @@ views-above m k = let one : k + 1 - 1 ≡ k = omega arith in rw one
 
 heard-snoc : (xs : List Answer) (x : Answer) → map heard (xs ++ (x ∷ [])) ≡ map heard xs ++ (heard x ∷ [])
 heard-snoc [] x = refl
-heard-snoc (y ∷ xs) x = ap (λ (l : List View). heard y ∷ l) (heard-snoc xs x)
+heard-snoc (y ∷ xs) x = ap (λ (vs : List View). heard y ∷ vs) (heard-snoc xs x)
 
 module _ (respond : ℕ → List View → Answer) (whole : (k : ℕ) (vs : List View) → Whole (respond k vs)) where
   pub plan-length : (k : ℕ) → length (recordsOf (sequential respond k)) ≡ 65 * k
@@ -83,13 +83,13 @@ module _ (respond : ℕ → List View → Answer) (whole : (k : ℕ) (vs : List 
   unfolding sequential next
   apart k m rest e =
       e
-      ∙ ap (λ (b : List ℕ). b ++ rest) (records-snoc (sequential respond k) (next k))
+      ∙ ap (λ (xs : List ℕ). xs ++ rest) (records-snoc (sequential respond k) (next k))
       ∙ append-assoc (recordsOf (sequential respond k)) (recordOf (next k)) rest
 
   last-view : (k : ℕ) (m rest : List ℕ) → m ≡ recordsOf (sequential respond (suc k)) ++ rest → viewAt m k ≡ heard (next k)
   unfolding next
   last-view k m rest e =
-      ap (λ (l : List ℕ). viewAt l k) (apart k m rest e)
+      ap (λ (xs : List ℕ). viewAt xs k) (apart k m rest e)
       ∙ record-view (recordsOf (sequential respond k)) rest (next k) k (plan-length k) (whole k (map heard (sequential respond k)))
 
   -- The views of the first k records are the answers of the first k carriers.

@@ -23,22 +23,22 @@ use Rattle.records.proofs.LoadLaws.{part-first}
 use Rattle.records.proofs.RecordLaws.{cells-behind}
 
 -- The loop that parks a route: the cells before beat t are the cell's, the others 0.
-set-behind : (s x t : ℕ) (xs : List ℕ) → set (replicate t s ++ (x ∷ xs)) t s ≡ replicate (suc t) s ++ xs
-set-behind s x zero xs = refl
-set-behind s x (suc t) xs = ap (λ (l : List ℕ). s ∷ l) (set-behind s x t xs)
+set-behind : (k x t : ℕ) (xs : List ℕ) → set (replicate t k ++ (x ∷ xs)) t k ≡ replicate (suc t) k ++ xs
+set-behind k x zero xs = refl
+set-behind k x (suc t) xs = ap (λ (xs : List ℕ). k ∷ xs) (set-behind k x t xs)
 
-pub park-more : (s t : ℕ) (cells : List ℕ) → t < 64 → cells ≡ replicate t s ++ replicate (64 - t) 0 →
-    set cells t s ≡ replicate (t + 1) s ++ replicate (64 - (t + 1)) 0
-park-more s t cells l e =
+pub park-more : (k t : ℕ) (cells : List ℕ) → t < 64 → cells ≡ replicate t k ++ replicate (64 - t) 0 →
+    set cells t k ≡ replicate (t + 1) k ++ replicate (64 - (t + 1)) 0
+park-more k t cells l e =
     let one : 64 - t ≡ suc (64 - (t + 1)) = omega arith in
-    rw (e, one, add-one t) (set-behind s 0 t (replicate (64 - suc t) 0))
+    rw (e, one, add-one t) (set-behind k 0 t (replicate (64 - suc t) 0))
 
-pub park-end : (s t last : ℕ) (cells : List ℕ) → t ≤ last + 1 → last < t → cells ≡ replicate t s ++ replicate (64 - t) 0 →
-    cells ≡ replicate (last + 1) s ++ replicate (63 - last) 0
-park-end s t last cells l h e =
+pub park-end : (k t last : ℕ) (cells : List ℕ) → t ≤ last + 1 → last < t → cells ≡ replicate t k ++ replicate (64 - t) 0 →
+    cells ≡ replicate (last + 1) k ++ replicate (63 - last) 0
+park-end k t last cells l h e =
     let here : t ≡ last + 1 = omega arith in
     let rest : 64 - t ≡ 63 - last = omega arith in
-    e ∙ ap₂ (λ (a b : ℕ). replicate a s ++ replicate b 0) here rest
+    e ∙ ap₂ (λ (a b : ℕ). replicate a k ++ replicate b 0) here rest
 
 pub parked-length : (f : Floor) (j : ℕ) → f .horizon ≤ 63 → length (parked f j) ≡ 64
 unfolding parked
@@ -53,7 +53,7 @@ unfolding seenFrom
 seen-snoc f j [] v = rw add-zero refl
 seen-snoc f j (w ∷ vs) v =
     let place : suc j + length vs ≡ j + suc (length vs) = omega arith in
-    ap (λ (l : List View). seenAs f j w ∷ l) (seen-snoc f (suc j) vs v ∙ ap (λ (k : ℕ). seenFrom f (suc j) vs ++ (seenAs f k v ∷ [])) place)
+    ap (λ (vs : List View). seenAs f j w ∷ vs) (seen-snoc f (suc j) vs v ∙ ap (λ (k : ℕ). seenFrom f (suc j) vs ++ (seenAs f k v ∷ [])) place)
 
 pub records-length : (m : List ℕ) (k : ℕ) → length (records m k) ≡ k
 unfolding records
@@ -84,11 +84,11 @@ put-view q cells tag j l s =
     (cells-behind (take (65 * j) q) cells rest tag (65 * j) front s)
 
 -- A tag other than 1 does not say none, and its view is seen as it is.
-by-tests : (d b : Bool) (f : Floor) (j : ℕ) (cells : List ℕ) → b ≡ false →
-    seenAs f j (elim d [ true ↦ heard (route cells) | false ↦ elim b [ true ↦ heard none | false ↦ unheard ] ])
-    ≡ elim d [ true ↦ heard (route cells) | false ↦ elim b [ true ↦ heard none | false ↦ unheard ] ]
+by-tests : (x y : Bool) (f : Floor) (j : ℕ) (cells : List ℕ) → y ≡ false →
+    seenAs f j (elim x [ true ↦ heard (route cells) | false ↦ elim y [ true ↦ heard none | false ↦ unheard ] ])
+    ≡ elim x [ true ↦ heard (route cells) | false ↦ elim y [ true ↦ heard none | false ↦ unheard ] ]
 unfolding seenAs
-by-tests true b f j cells e = refl
+by-tests true y f j cells e = refl
 by-tests false true f j cells e = absurd (let z : _≡_ {A = ℕ} 0 1 = cc in omega arith)
 by-tests false false f j cells e = refl
 
@@ -96,9 +96,9 @@ as-it-is : (f : Floor) (j tag : ℕ) (cells : List ℕ) → eqb tag 1 ≡ false 
 unfolding viewOf
 as-it-is f j tag cells e = by-tests (eqb tag 2) (eqb tag 1) f j cells e
 
-none-seen : (f : Floor) (j : ℕ) (p cells : List ℕ) → parked f j ≡ p → viewOf 2 p ≡ seenAs f j (viewOf 1 cells)
+none-seen : (f : Floor) (j : ℕ) (xs cells : List ℕ) → parked f j ≡ xs → viewOf 2 xs ≡ seenAs f j (viewOf 1 cells)
 unfolding viewOf seenAs
-none-seen f j p cells e = rw e refl
+none-seen f j xs cells e = rw e refl
 
 -- A record stored as it is seen shows its view as it is seen.
 module _ (f : Floor) (q m : List ℕ) (j : ℕ) (short : f .horizon ≤ 63) (l : 65 * j ≤ length q) (h : 65 * j + 65 ≤ length m) where
@@ -108,14 +108,14 @@ module _ (f : Floor) (q m : List ℕ) (j : ℕ) (short : f .horizon ≤ 63) (l :
   abbrev cells : List ℕ
   cells = part m (65 * j + 1) 64
 
-  by-tag : (b : Bool) → eqb tag 1 ≡ b →
-      viewAt (put q (65 * j) (cond b (2 ∷ parked f j) (part m (65 * j) 65))) j ≡ seenAs f j (viewOf tag cells)
+  by-tag : (x : Bool) → eqb tag 1 ≡ x →
+      viewAt (put q (65 * j) (cond x (2 ∷ parked f j) (part m (65 * j) 65))) j ≡ seenAs f j (viewOf tag cells)
   by-tag true e =
       put-view q (parked f j) 2 j l (parked-length f j short)
       ∙ none-seen f j (parked f j) cells refl
-      ∙ ap (λ (t : ℕ). seenAs f j (viewOf t cells)) (sym (eqb-true tag 1 e))
+      ∙ ap (λ (tag : ℕ). seenAs f j (viewOf tag cells)) (sym (eqb-true tag 1 e))
   by-tag false e =
-      ap (λ (b : List ℕ). viewAt (put q (65 * j) b) j) (sym (part-first m (65 * j) 64 (omega arith)))
+      ap (λ (xs : List ℕ). viewAt (put q (65 * j) xs) j) (sym (part-first m (65 * j) 64 (omega arith)))
       ∙ put-view q cells tag j l (part-length m (65 * j + 1) 64 (omega arith))
       ∙ sym (as-it-is f j tag cells e)
 
@@ -124,10 +124,10 @@ module _ (f : Floor) (q m : List ℕ) (j : ℕ) (short : f .horizon ≤ 63) (l :
   record-seen = by-tag (eqb tag 1) refl
 
 -- What stands in front of a block that is stored is as it was.
-pub put-before : (m b : List ℕ) (at i : ℕ) → at ≤ length m → i < at → getD (put m at b) i 0 ≡ getD m i 0
+pub put-before : (m xs : List ℕ) (at i : ℕ) → at ≤ length m → i < at → getD (put m at xs) i 0 ≡ getD m i 0
 unfolding put
-put-before m b at i l h =
-    List·getD-append (take at m) (b ++ drop (at + length b) m) 0 i (omega (arith, length-take-le at m l)) ∙ getD-take at m i 0 h
+put-before m xs at i l h =
+    List·getD-append (take at m) (xs ++ drop (at + length xs) m) 0 i (omega (arith, length-take-le at m l)) ∙ getD-take at m i 0 h
 
 -- Memories that agree in their first k records show the same views there.
 view-same : (m q : List ℕ) (j : ℕ) → 65 * j + 65 ≤ length m → 65 * j + 65 ≤ length q →
@@ -151,17 +151,17 @@ records-same m q (suc k) l h same =
     (view-same m q k (omega arith) (omega arith) (λ i b. same i (omega arith)))
 
 -- Records stored behind the first k leave these as they are.
-pub put-records : (m b : List ℕ) (k : ℕ) → 65 * k + length b ≤ length m → records (put m (65 * k) b) k ≡ records m k
-put-records m b k l =
-    records-same (put m (65 * k) b) m k (omega (arith, put-length m b (65 * k) l)) (omega arith)
-    (λ i h. put-before m b (65 * k) i (omega arith) h)
+pub put-records : (m xs : List ℕ) (k : ℕ) → 65 * k + length xs ≤ length m → records (put m (65 * k) xs) k ≡ records m k
+put-records m xs k l =
+    records-same (put m (65 * k) xs) m k (omega (arith, put-length m xs (65 * k) l)) (omega arith)
+    (λ i h. put-before m xs (65 * k) i (omega arith) h)
 
 -- The length of a record as it is seen.
 seen-length : (f : Floor) (j : ℕ) (m : List ℕ) → f .horizon ≤ 63 → 65 * j + 65 ≤ length m → length (seenRecord f j m) ≡ 65
 unfolding seenRecord
 seen-length f j m short h = go (eqb (getD m (65 * j) 0) 1)
   where
-    go : (b : Bool) → length {A = ℕ} (cond b (2 ∷ parked f j) (part m (65 * j) 65)) ≡ 65
+    go : (x : Bool) → length {A = ℕ} (cond x (2 ∷ parked f j) (part m (65 * j) 65)) ≡ 65
     go true = ap suc (parked-length f j short)
     go false = part-length m (65 * j) 65 h
 
@@ -203,4 +203,4 @@ module _ (f : Floor) (m old q r : List ℕ) (j : ℕ) where
   unfolding seenRecord
   stored-plain e l p g =
       g
-      ∙ ap (put old (65 * j)) (rw (ne-eqb (getD m (65 * j) 0) 1 e) (ap (λ (b : List ℕ). getD m (65 * j) 0 ∷ b) p ∙ part-first m (65 * j) 64 l))
+      ∙ ap (put old (65 * j)) (rw (ne-eqb (getD m (65 * j) 0) 1 e) (ap (λ (xs : List ℕ). getD m (65 * j) 0 ∷ xs) p ∙ part-first m (65 * j) 64 l))

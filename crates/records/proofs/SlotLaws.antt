@@ -23,7 +23,7 @@ unfolding resized
 resized-whole zero [] e = refl
 resized-whole zero (x ∷ xs) e = absurd (omega arith)
 resized-whole (suc k) [] e = absurd (omega arith)
-resized-whole (suc k) (x ∷ xs) e = ap (λ (l : List ℕ). x ∷ l) (resized-whole k xs (omega arith))
+resized-whole (suc k) (x ∷ xs) e = ap (λ (xs : List ℕ). x ∷ xs) (resized-whole k xs (omega arith))
 
 pub slot-length : (v : View) → length (slot v) ≡ 65
 unfolding slot
@@ -70,7 +70,7 @@ tag-most unheard = omega arith
 tag-most (heard none) = omega arith
 tag-most (heard (route r)) = omega arith
 
-pub heard-least : (a : Answer) → 1 ≤ viewTag (heard a)
+pub heard-least : (x : Answer) → 1 ≤ viewTag (heard x)
 unfolding viewTag
 heard-least none = omega arith
 heard-least (route r) = omega arith
@@ -78,7 +78,7 @@ heard-least (route r) = omega arith
 -- A record that lies at a place: the tag and the numbers there.
 module _ (m : List ℕ) (at : ℕ) (v : View) (e : part m at 65 ≡ slot v) where
   pub slot-read : (i : ℕ) → i < 65 → getD m (at + i) 0 ≡ getD (slot v) i 0
-  slot-read i l = sym (part-byte m at 65 i l) ∙ ap (λ (b : List ℕ). getD b i 0) e
+  slot-read i l = sym (part-byte m at 65 i l) ∙ ap (λ (xs : List ℕ). getD xs i 0) e
 
   pub tag-read : getD m at 0 ≡ viewTag v
   tag-read = rw add-zero at (slot-read 0 (omega arith)) ∙ slot-tag v

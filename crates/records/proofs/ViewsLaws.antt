@@ -7,15 +7,15 @@ use Rattle.route.specs.Route.{View}
 use Rattle.route.specs.Moves.{every}
 use Rattle.records.specs.Records.{viewAt, records}
 
-every-last : (p : View → Bool) (vs : List View) (v : View) → every p (vs ++ (v ∷ [])) ≡ (p v && every p vs)
+every-last : (φ : View → Bool) (vs : List View) (v : View) → every φ (vs ++ (v ∷ [])) ≡ (φ v && every φ vs)
 unfolding every
-every-last p [] v = refl
-every-last p (w ∷ vs) v =
-    ap (λ (b : Bool). p w && b) (every-last p vs v)
-    ∙ sym (and-assoc (p w) (p v) (every p vs))
-    ∙ rw (and-comm (p w) (p v)) (and-assoc (p v) (p w) (every p vs))
+every-last φ [] v = refl
+every-last φ (w ∷ vs) v =
+    ap (λ (x : Bool). φ w && x) (every-last φ vs v)
+    ∙ sym (and-assoc (φ w) (φ v) (every φ vs))
+    ∙ rw (and-comm (φ w) (φ v)) (and-assoc (φ v) (φ w) (every φ vs))
 
 -- One more record.
-pub every-more : (p : View → Bool) (m : List ℕ) (k : ℕ) → every p (records m (suc k)) ≡ (p (viewAt m k) && every p (records m k))
+pub every-more : (φ : View → Bool) (m : List ℕ) (k : ℕ) → every φ (records m (suc k)) ≡ (φ (viewAt m k) && every φ (records m k))
 unfolding records
-every-more p m k = every-last p (records m k) (viewAt m k)
+every-more φ m k = every-last φ (records m k) (viewAt m k)

@@ -24,7 +24,7 @@ pub const SIZE: usize = CELLS + 1;
 // The 64 cells at a place.
 pub fn load(m: &[u16], at: usize) -> Route
     requires { ⌜ at + 64 ≤ length (now m) ⌝ }
-    ensures { λ r. ⌜ r ≡ part (now (m .entry)) at 64 ⌝ }
+    ensures { λ result. ⌜ result ≡ part (now (m .entry)) at 64 ⌝ }
 {
     let mut cells: Route = [0u16; CELLS];
     let mut t: usize = 0;
@@ -38,7 +38,7 @@ pub fn load(m: &[u16], at: usize) -> Route
 // Stores 64 cells.
 fn store_cells(m: &mut [u16], at: usize, cells: Route)
     requires { ⌜ at + 64 ≤ length (now m) ⌝ }
-    ensures { λ r. ⌜ (now (m .exit) ≡ put (now (m .entry)) at cells) × (length cells ≡ 64) ⌝ }
+    ensures { λ result. ⌜ (now (m .exit) ≡ put (now (m .entry)) at cells) × (length cells ≡ 64) ⌝ }
 {
     let mut t: usize = 0;
     while t < CELLS {
@@ -50,7 +50,7 @@ fn store_cells(m: &mut [u16], at: usize, cells: Route)
 // Stores a record.
 pub fn store(m: &mut [u16], at: usize, tag: u16, cells: Route)
     requires { ⌜ at + 65 ≤ length (now m) ⌝ }
-    ensures { λ r. ⌜ now (m .exit) ≡ put (now (m .entry)) at (tag ∷ cells) ⌝ }
+    ensures { λ result. ⌜ now (m .exit) ≡ put (now (m .entry)) at (tag ∷ cells) ⌝ }
 {
     m[at] = tag;
     store_cells(m, at + 1, cells);
@@ -59,7 +59,7 @@ pub fn store(m: &mut [u16], at: usize, tag: u16, cells: Route)
 // Clears a record: nothing heard, no message.
 pub fn clear(m: &mut [u16], at: usize)
     requires { ⌜ at + 65 ≤ length (now m) ⌝ }
-    ensures { λ r. ⌜ now (m .exit) ≡ put (now (m .entry)) at (resized 65 []) ⌝ }
+    ensures { λ result. ⌜ now (m .exit) ≡ put (now (m .entry)) at (resized 65 []) ⌝ }
 {
     store(m, at, 0, [0u16; CELLS]);
 }
@@ -67,7 +67,7 @@ pub fn clear(m: &mut [u16], at: usize)
 // Copies a record from one place to another.
 pub fn copy(m: &mut [u16], from: usize, to: usize)
     requires { ⌜ (from + 65 ≤ length (now m)) × (to + 65 ≤ length (now m)) ⌝ }
-    ensures { λ r. ⌜ now (m .exit) ≡ moved (now (m .entry)) from to ⌝ }
+    ensures { λ result. ⌜ now (m .exit) ≡ moved (now (m .entry)) from to ⌝ }
 {
     let tag = m[from];
     let cells = load(m, from + 1);
@@ -77,7 +77,7 @@ pub fn copy(m: &mut [u16], from: usize, to: usize)
 // The cell of the route in record j at beat t, a number that is no cell where there is no route.
 pub fn view_cell(views: &[u16], j: usize, t: usize) -> usize
     requires { ⌜ (65 * j + 65 ≤ length (now views)) × (t < 64) ⌝ }
-    ensures { λ r. ⌜ (r ≡ viewCell (now (views .entry)) j t) × (r < 65536) ⌝ }
+    ensures { λ result. ⌜ (result ≡ viewCell (now (views .entry)) j t) × (result < 65536) ⌝ }
 {
     if views[SIZE * j] == 2 {
         return views[SIZE * j + 1 + t] as usize;
@@ -88,7 +88,7 @@ pub fn view_cell(views: &[u16], j: usize, t: usize) -> usize
 // Writes numbers in front of a memory.
 pub fn write_front(m: &mut [u16], numbers: &[u16])
     requires { ⌜ length (now numbers) ≤ length (now m) ⌝ }
-    ensures { λ r. ⌜ now (m .exit) ≡ put (now (m .entry)) 0 (now (numbers .entry)) ⌝ }
+    ensures { λ result. ⌜ now (m .exit) ≡ put (now (m .entry)) 0 (now (numbers .entry)) ⌝ }
 {
     let mut t: usize = 0;
     while t < numbers.len() {

@@ -18,7 +18,7 @@ pub const TEAM: usize = SIZE * Floor::MAX_CARRIERS as usize;
 
 // A record for each carrier, nothing heard.
 pub fn blank() -> [u16; TEAM]
-    ensures { λ r. ⌜ r ≡ replicate 520 0 ⌝ }
+    ensures { λ result. ⌜ result ≡ replicate 520 0 ⌝ }
 {
     [0u16; TEAM]
 }
@@ -26,7 +26,7 @@ pub fn blank() -> [u16; TEAM]
 // The route that stays in a cell through the last beat.
 fn parked(cell: u16, last: usize) -> Route
     requires { ⌜ last ≤ 63 ⌝ }
-    ensures { λ r. ⌜ r ≡ replicate (last + 1) cell ++ replicate (63 - last) 0 ⌝ }
+    ensures { λ result. ⌜ result ≡ replicate (last + 1) cell ++ replicate (63 - last) 0 ⌝ }
 {
     let mut cells: Route = [0u16; CELLS];
     let mut t: usize = 0;
@@ -40,7 +40,7 @@ fn parked(cell: u16, last: usize) -> Route
 // Stores record j of a memory as it is seen.
 pub fn store_seen(f: Floor, m: &[u16], j: usize, shown: &mut [u16])
     requires { ⌜ (j < 8) × (f .horizon ≤ 63) × (65 * j + 65 ≤ length (now m)) × (65 * j + 65 ≤ length (now shown)) ⌝ }
-    ensures { λ r. ⌜ now (shown .exit) ≡ put (now (shown .entry)) (65 * j) (seenRecord f j (now (m .entry))) ⌝ }
+    ensures { λ result. ⌜ now (shown .exit) ≡ put (now (shown .entry)) (65 * j) (seenRecord f j (now (m .entry))) ⌝ }
 {
     let at = SIZE * j;
     let tag = m[at];
@@ -54,7 +54,7 @@ pub fn store_seen(f: Floor, m: &[u16], j: usize, shown: &mut [u16])
 // The first k records of a memory as they are seen.
 pub fn seen_records(f: Floor, m: &[u16], k: usize) -> [u16; TEAM]
     requires { ⌜ (k ≤ 8) × (f .horizon ≤ 63) × (65 * k ≤ length (now m)) ⌝ }
-    ensures { λ r. ⌜ (length r ≡ 520) × (records r k ≡ seen f (records (now (m .entry)) k)) ⌝ }
+    ensures { λ result. ⌜ (length result ≡ 520) × (records result k ≡ seen f (records (now (m .entry)) k)) ⌝ }
 {
     let mut shown = blank();
     let mut j: usize = 0;

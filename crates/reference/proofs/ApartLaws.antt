@@ -50,19 +50,19 @@ module _ (M : Machine) (s z : State) (i : ℕ) (h : SameReads s z i) where
   unfolding views
   response-same = rw (h .seen)
 
-  news-same : (a : Answer) → isNews z i a ≡ isNews s i a
+  news-same : (x : Answer) → isNews z i x ≡ isNews s i x
   unfolding isNews
-  news-same a = rw (h .planned, h .answer)
+  news-same x = rw (h .planned, h .answer)
 
   told-same : stepAnswer M z (plan i) ≡ stepAnswer M s (plan i)
   unfolding stepAnswer
   told-same = rw (response-same, news-same (M .respond i (views s i)), stepAnswer)
 
 -- What a plan of i looks at is left alone by another plan, and by a delivery to another carrier.
-reads-plan : (s : State) (i k : ℕ) (b : Answer) → (i ≡ k → ⊥) → SameReads s (planAs s k b) i
+reads-plan : (s : State) (i k : ℕ) (x : Answer) → (i ≡ k → ⊥) → SameReads s (planAs s k x) i
 unfolding planAs
-reads-plan s i k b n =
-    record { planned = update-other (s .planned) k true i n; answer = update-other (s .answer) k b i n; seen = refl }
+reads-plan s i k x n =
+    record { planned = update-other (s .planned) k true i n; answer = update-other (s .answer) k x i n; seen = refl }
 
 reads-deliver : (s : State) (i j k : ℕ) → (i ≡ k → ⊥) → SameReads s (deliverTo s j k) i
 unfolding deliverTo
@@ -81,7 +81,7 @@ module _ (M : Machine) (s : State) where
   unfolding meet
   receiver-other {i = i} {k = k} h e = true-false-absurd (eq-eqb i k e) (h .unmet)
 
-  pairs-differ : {j i l k : ℕ} → Apart M s (deliver j i) (deliver l k) → (i ≡ k) × (j ≡ l) → ⊥
+  pairs-differ : {j i j′ k : ℕ} → Apart M s (deliver j i) (deliver j′ k) → (i ≡ k) × (j ≡ j′) → ⊥
   pairs-differ h e = h .different (ap₂ deliver (e .1) (e .0))
 
   -- What y reads is the same after x, where y is a plan.
@@ -97,13 +97,13 @@ module _ (M : Machine) (s : State) where
 
 -- A plan of answer a, which is news or not.
 abbrev planWith : Bool → State → ℕ → Answer → State
-planWith news s i a =
+planWith news s i x =
     record {
       planned = update (s .planned) i true;
       due = update (s .due) i false;
-      answer = update (s .answer) i a;
+      answer = update (s .answer) i x;
       view = s .view;
-      chan = sentIf news (s .chan) i a;
+      chan = sentIf news (s .chan) i x;
       taken = s .taken;
     }
 
@@ -115,7 +115,7 @@ module _ (M : Machine) (s : State) where
   plan-in : (z : State) (i : ℕ) → SameReads s z i → afterStep M z (plan i) ≡ counted (planWith (isNews s i (response i)) z i (response i))
   unfolding afterStep effect planAs
   plan-in z i h =
-      ap (λ (a : Answer). counted (planWith (isNews z i a) z i a)) (response-same M s z i h)
+      ap (λ (x : Answer). counted (planWith (isNews z i x) z i x)) (response-same M s z i h)
       ∙ ap (λ (news : Bool). counted (planWith news z i (response i))) (news-same M s z i h (response i))
 
   plan-plan : (i k : ℕ) → Apart M s (plan i) (plan k) →
@@ -139,24 +139,24 @@ module _ (M : Machine) (s : State) where
       (sent-take news (s .chan) i (response i) k j full) refl
       ∙ sym (plan-in (afterStep M s (deliver j k)) i (reads-apart M s (deliver j k) i (apart-sym h)))
 
-  deliver-deliver : (j i l k : ℕ) → Apart M s (deliver j i) (deliver l k) →
-      afterStep M (afterStep M s (deliver j i)) (deliver l k) ≡ afterStep M (afterStep M s (deliver l k)) (deliver j i)
+  deliver-deliver : (j i j′ k : ℕ) → Apart M s (deliver j i) (deliver j′ k) →
+      afterStep M (afterStep M s (deliver j i)) (deliver j′ k) ≡ afterStep M (afterStep M s (deliver j′ k)) (deliver j i)
   unfolding afterStep effect counted deliverTo
-  deliver-deliver j i l k h =
+  deliver-deliver j i j′ k h =
       let n = pairs-differ M s h in
       let m = pairs-differ M s (apart-sym h) in
       state-same _ _ refl (value-swap (s .due) i k true) refl
-      (rw (pair-else (s .view) i j _ k l n, pair-else (s .chan) i j _ k l n, pair-else (s .view) k l _ i j m, pair-else (s .chan) k l _ i j m)
-      (pair-swap (s .view) i j k l _ _ n))
-      (rw (pair-else (s .chan) i j _ k l n, pair-else (s .chan) k l _ i j m) (pair-swap (s .chan) i j k l _ _ n)) refl
+      (rw (pair-else (s .view) i j _ k j′ n, pair-else (s .chan) i j _ k j′ n, pair-else (s .view) k j′ _ i j m, pair-else (s .chan) k j′ _ i j m)
+      (pair-swap (s .view) i j k j′ _ _ n))
+      (rw (pair-else (s .chan) i j _ k j′ n, pair-else (s .chan) k j′ _ i j m) (pair-swap (s .chan) i j k j′ _ _ n)) refl
 
 -- A delivery leaves the other channels alone.
-delivered-else : (s : State) (j i l k : ℕ) → ((i ≡ k) × (j ≡ l) → ⊥) → deliverTo s j i .chan k l ≡ s .chan k l
+delivered-else : (s : State) (j i j′ k : ℕ) → ((i ≡ k) × (j ≡ j′) → ⊥) → deliverTo s j i .chan k j′ ≡ s .chan k j′
 unfolding deliverTo
-delivered-else s j i l k n = pair-else (s .chan) i j _ k l n
+delivered-else s j i j′ k n = pair-else (s .chan) i j _ k j′ n
 
-appended-some : (l : List Answer) (a : Answer) → l ++ (a ∷ []) ≡ [] → ⊥
-appended-some l a e = omega (arith, length-append l (a ∷ []), ap length e)
+appended-some : (xs : List Answer) (x : Answer) → xs ++ (x ∷ []) ≡ [] → ⊥
+appended-some xs x e = omega (arith, length-append xs (x ∷ []), ap length e)
 
 -- Each is still open after the other.
 module _ (claims : StepClaims) (M : Machine) (s : State) where

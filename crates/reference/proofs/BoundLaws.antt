@@ -18,32 +18,32 @@ use Rattle.reference.proofs.CountLaws.{step-counts}
 use Rattle.reference.proofs.TakeLaws.{plan-keeps, sent-below, chan-other, chan-above, deliver-chan}
 
 -- A channel after a plan of i: as it was, or from i to a carrier below with one message more.
-pub plan-chan-cases : (s : State) (i : ℕ) (a : Answer) (k j : ℕ) → (planAs s i a .chan k j ≡ s .chan k j) ⊎
-    ((j ≡ i) × (i < k) × (planAs s i a .chan k j ≡ s .chan k j ++ (a ∷ [])))
-plan-chan-cases s i a k j = go (isNews s i a) refl (eq-or-ne j i) (lt-or-le i k)
+pub plan-chan-cases : (s : State) (i : ℕ) (x : Answer) (k j : ℕ) → (planAs s i x .chan k j ≡ s .chan k j) ⊎
+    ((j ≡ i) × (i < k) × (planAs s i x .chan k j ≡ s .chan k j ++ (x ∷ [])))
+plan-chan-cases s i x k j = go (isNews s i x) refl (eq-or-ne j i) (lt-or-le i k)
   where
-    go : (t : Bool) → isNews s i a ≡ t → (j ≡ i) ⊎ (j ≡ i → ⊥) → (i < k) ⊎ (k ≤ i) →
-        (planAs s i a .chan k j ≡ s .chan k j) ⊎ ((j ≡ i) × (i < k) × (planAs s i a .chan k j ≡ s .chan k j ++ (a ∷ [])))
-    go t e (inr n) l = inl (chan-other s i a k j n)
-    go t e (inl q) (inr l) = inl (chan-above s i a k j l)
-    go true e (inl q) (inl l) = inr (q, l, rw q (sent-below s i a e k l))
-    go false e (inl q) (inl l) = inl (rw (plan-keeps s i a e))
+    go : (y : Bool) → isNews s i x ≡ y → (j ≡ i) ⊎ (j ≡ i → ⊥) → (i < k) ⊎ (k ≤ i) →
+        (planAs s i x .chan k j ≡ s .chan k j) ⊎ ((j ≡ i) × (i < k) × (planAs s i x .chan k j ≡ s .chan k j ++ (x ∷ [])))
+    go y e (inr n) l = inl (chan-other s i x k j n)
+    go y e (inl q) (inr l) = inl (chan-above s i x k j l)
+    go true e (inl q) (inl l) = inr (q, l, rw q (sent-below s i x e k l))
+    go false e (inl q) (inl l) = inl (rw (plan-keeps s i x e))
 
 -- A channel after a delivery: as it was, or without its oldest message.
-pub deliver-chan-cases : (s : State) (j i k l : ℕ) → (deliverTo s j i .chan k l ≡ s .chan k l) ⊎
-    (deliverTo s j i .chan k l ≡ newer (s .chan k l))
-deliver-chan-cases s j i k l = go (eq-or-ne k i) (eq-or-ne l j)
+pub deliver-chan-cases : (s : State) (j i k j′ : ℕ) → (deliverTo s j i .chan k j′ ≡ s .chan k j′) ⊎
+    (deliverTo s j i .chan k j′ ≡ newer (s .chan k j′))
+deliver-chan-cases s j i k j′ = go (eq-or-ne k i) (eq-or-ne j′ j)
   where
-    go : (k ≡ i) ⊎ (k ≡ i → ⊥) → (l ≡ j) ⊎ (l ≡ j → ⊥) → (deliverTo s j i .chan k l ≡ s .chan k l) ⊎
-        (deliverTo s j i .chan k l ≡ newer (s .chan k l))
+    go : (k ≡ i) ⊎ (k ≡ i → ⊥) → (j′ ≡ j) ⊎ (j′ ≡ j → ⊥) → (deliverTo s j i .chan k j′ ≡ s .chan k j′) ⊎
+        (deliverTo s j i .chan k j′ ≡ newer (s .chan k j′))
     go (inr n) m = inl (rw (deliver-chan s j i .elsewhere k n))
     go (inl q) (inl m) = inr (rw (q, m) (deliver-chan s j i .there))
-    go (inl q) (inr m) = inl (rw q (deliver-chan s j i .beside l m))
+    go (inl q) (inr m) = inl (rw q (deliver-chan s j i .beside j′ m))
 
-pub newer-shorter : (l : List Answer) → length (newer l) ≤ length l
+pub newer-shorter : (xs : List Answer) → length (newer xs) ≤ length xs
 unfolding newer
 newer-shorter [] = omega arith
-newer-shorter (a ∷ l) = omega arith
+newer-shorter (a ∷ xs) = omega arith
 
 module _ (M : Machine) (s : State) where
   step-channels : InRange M s → (x : Step) → isOpen M s x ≡ true → (k j : ℕ) → j < k → k < M .carriers →

@@ -37,6 +37,6 @@ reaches-lowers M stay = omega arith
 reaches-lowers M {s = s} (next x e p) = omega (arith, step-lowers M s x e, reaches-lowers M p)
 
 -- The step ceiling: from fresh, no list of calls takes more steps.
-pub calls-ceiling : (M : Machine) (cs : List Call) → repliesCount (replies M fresh cs) ≤ ceiling (M .carriers)
+pub calls-ceiling : (M : Machine) (xs : List Call) → repliesCount (replies M fresh xs) ≤ ceiling (M .carriers)
 unfolding ceiling
-calls-ceiling M cs = omega (arith, reaches-lowers M (calls-reach M fresh cs), fresh-potential (M .carriers))
+calls-ceiling M xs = omega (arith, reaches-lowers M (calls-reach M fresh xs), fresh-potential (M .carriers))

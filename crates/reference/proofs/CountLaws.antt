@@ -23,6 +23,6 @@ module _ (M : Machine) where
   reaches-counts {s = s} l (next x e p) =
       omega (arith, step-counts s x, reaches-counts (omega (arith, step-counts s x)) p)
 
-  pub calls-count : (cs : List Call) → after M fresh cs .taken ≡ min 999999 (repliesCount (replies M fresh cs))
+  pub calls-count : (xs : List Call) → after M fresh xs .taken ≡ min 999999 (repliesCount (replies M fresh xs))
   unfolding fresh
-  calls-count cs = omega (arith, reaches-counts {s = fresh} (omega arith) (calls-reach M fresh cs))
+  calls-count xs = omega (arith, reaches-counts {s = fresh} (omega arith) (calls-reach M fresh xs))

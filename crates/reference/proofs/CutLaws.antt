@@ -18,12 +18,12 @@ use Rattle.reference.proofs.RunLaws.{run-took, run-skipped, run-inducti
 Followed : Machine → State → List Step → ℕ → RunResult → Type 0
 Followed M s xs b r = (ys : List Step) → RunsJoined (run M s (xs ++ ys) b) r (run M (r .state) ys (b - r .taken))
 
-same-test : (r q b : ℕ) → r ≤ b → eqb (r + q) b ≡ eqb q (b - r)
-same-test r q b l = go (eqb q (b - r)) refl
+same-test : (n p b : ℕ) → n ≤ b → eqb (n + p) b ≡ eqb p (b - n)
+same-test n p b l = go (eqb p (b - n)) refl
   where
-    go : (t : Bool) → eqb q (b - r) ≡ t → eqb (r + q) b ≡ t
-    go true e = eq-eqb (r + q) b (omega (arith, eqb-true q (b - r) e))
-    go false e = ne-eqb (r + q) b (λ (h : r + q ≡ b). eqb-false q (b - r) e (omega arith))
+    go : (x : Bool) → eqb p (b - n) ≡ x → eqb (n + p) b ≡ x
+    go true e = eq-eqb (n + p) b (omega (arith, eqb-true p (b - n) e))
+    go false e = ne-eqb (n + p) b (λ (h : n + p ≡ b). eqb-false p (b - n) e (omega arith))
 
 module _ (M : Machine) where
   followed-none : (s : State) (b : ℕ) → Followed M s [] b (run M s [] b)
@@ -37,28 +37,28 @@ module _ (M : Machine) where
   followed-stopped s x xs [] = record { state = refl; history = refl; taken = refl; unread = refl }
   followed-stopped s x xs (y ∷ ys) = record { state = refl; history = refl; taken = refl; unread = refl }
 
-  followed-took : (s : State) (x : Step) (xs : List Step) (b : ℕ) (r : RunResult) → isOpen M s x ≡ true →
-      Followed M (afterStep M s x) xs b r → Followed M s (x ∷ xs) (suc b) (tookFirst x r)
+  followed-took : (s : State) (x : Step) (xs : List Step) (b : ℕ) (y : RunResult) → isOpen M s x ≡ true →
+      Followed M (afterStep M s x) xs b y → Followed M s (x ∷ xs) (suc b) (tookFirst x y)
   unfolding Followed tookFirst
-  followed-took s x xs b r e p ys =
+  followed-took s x xs b y e p ys =
       let q = p ys in
-      let less : suc b - suc (r .taken) ≡ b - r .taken = omega arith in
+      let less : suc b - suc (y .taken) ≡ b - y .taken = omega arith in
       rw (run-took M s x (xs ++ ys) b e, less)
       (record {
         state = q .state;
-        history = ap (λ (h : List Event). took x ∷ h) (q .history);
+        history = ap (λ (xs : List Event). took x ∷ xs) (q .history);
         taken = omega (arith, q .taken);
         unread = q .unread;
       })
 
-  followed-passed : (s : State) (x : Step) (xs : List Step) (b : ℕ) (r : RunResult) → isOpen M s x ≡ false →
-      Followed M s xs (suc b) r → Followed M s (x ∷ xs) (suc b) (skippedFirst x r)
+  followed-passed : (s : State) (x : Step) (xs : List Step) (b : ℕ) (y : RunResult) → isOpen M s x ≡ false →
+      Followed M s xs (suc b) y → Followed M s (x ∷ xs) (suc b) (skippedFirst x y)
   unfolding Followed skippedFirst
-  followed-passed s x xs b r e p ys =
+  followed-passed s x xs b y e p ys =
       rw (run-skipped M s x (xs ++ ys) b e)
       (record {
         state = (p ys) .state;
-        history = ap (λ (h : List Event). skipped x ∷ h) ((p ys) .history);
+        history = ap (λ (xs : List Event). skipped x ∷ xs) ((p ys) .history);
         taken = (p ys) .taken;
         unread = (p ys) .unread;
       })
@@ -68,12 +68,12 @@ module _ (M : Machine) where
   unfolding Followed
   run-cut s xs ys b = run-induction M (Followed M) followed-none followed-stopped followed-took followed-passed s xs b ys
 
-  -- The end of a joined run, where the first part r is read to its end.
-  joined-ending : (b : ℕ) (w r q : RunResult) → RunsJoined w r q → r .taken ≤ b → r .unread ≡ [] → ending M b w ≡ ending M (b - r .taken) q
+  -- The end of a joined run, where the first part y is read to its end.
+  joined-ending : (b : ℕ) (x y z : RunResult) → RunsJoined x y z → y .taken ≤ b → y .unread ≡ [] → ending M b x ≡ ending M (b - y .taken) z
   unfolding ending
-  joined-ending b w r q j l e =
-      let left : w .unread ≡ q .unread = rw (j .unread, e) in
-      rw (j .state, j .taken, same-test (r .taken) (q .taken) b l, left)
+  joined-ending b x y z j l e =
+      let left : x .unread ≡ z .unread = rw (j .unread, e) in
+      rw (j .state, j .taken, same-test (y .taken) (z .taken) b l, left)
 
   pub cut-ending : (s : State) (xs ys : List Step) (b : ℕ) → run M s xs b .unread ≡ [] →
       ending M b (run M s (xs ++ ys) b) ≡ ending M (b - run M s xs b .taken) (run M (run M s xs b .state) ys (b - run M s xs b .taken))

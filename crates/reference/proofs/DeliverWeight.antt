@@ -15,20 +15,20 @@ use Rattle.reference.proofs.TakeLaws.{deliver-due, deliver-chan}
 use Rattle.reference.proofs.Sums.{sum-less}
 use Rattle.reference.proofs.Potential.{unit, unit-positive, dueWeight, underWay, weightAt, potential}
 
-newer-length : (l : List Answer) → isEmpty l ≡ false → length (newer l) + 1 ≡ length l
+newer-length : (xs : List Answer) → isEmpty xs ≡ false → length (newer xs) + 1 ≡ length xs
 unfolding isEmpty newer
 newer-length [] e = true-false-absurd refl e
-newer-length (a ∷ l) e = omega arith
+newer-length (a ∷ xs) e = omega arith
 
-due-most : (t : Bool) (u : ℕ) → dueWeight t u ≤ u - 1
+due-most : (x : Bool) (n : ℕ) → dueWeight x n ≤ n - 1
 unfolding dueWeight
-due-most true u = omega arith
-due-most false u = omega arith
+due-most true n = omega arith
+due-most false n = omega arith
 
 module _ (n : ℕ) (s : State) (j i : ℕ) where
-  messages-other : (m : ℕ) → (m ≡ i → ⊥) → underWay (deliverTo s j i) m ≡ underWay s m
+  messages-other : (k : ℕ) → (k ≡ i → ⊥) → underWay (deliverTo s j i) k ≡ underWay s k
   unfolding underWay
-  messages-other m h = rw (deliver-chan s j i .elsewhere m h)
+  messages-other k h = rw (deliver-chan s j i .elsewhere k h)
 
   messages-less : j < i → isEmpty (s .chan i j) ≡ false → underWay (deliverTo s j i) i + 1 ≡ underWay s i
   unfolding underWay
@@ -36,9 +36,9 @@ module _ (n : ℕ) (s : State) (j i : ℕ) where
       sum-less i j 1 (λ k. length (deliverTo s j i .chan i k)) (λ k. length (s .chan i k)) l
       (rw (deliver-chan s j i .there) (newer-length (s .chan i j) e)) (λ k h q. ap length (deliver-chan s j i .beside k q))
 
-  weight-other : (m : ℕ) → (m ≡ i → ⊥) → weightAt n (deliverTo s j i) m ≡ weightAt n s m
+  weight-other : (k : ℕ) → (k ≡ i → ⊥) → weightAt n (deliverTo s j i) k ≡ weightAt n s k
   unfolding weightAt
-  weight-other m h = rw (deliver-due s j i .elsewhere m h, messages-other m h) refl
+  weight-other k h = rw (deliver-due s j i .elsewhere k h, messages-other k h) refl
 
   weight-less : j < i → isEmpty (s .chan i j) ≡ false → weightAt n (deliverTo s j i) i < weightAt n s i
   unfolding weightAt

@@ -14,25 +14,25 @@ use Rattle.reference.proofs.OpenLaws.{deliver-full}
 use Rattle.reference.proofs.TakeLaws.{cells-same, no-news, plan-keeps, sent-below, chan-other, plan-view, plan-planned, plan-clears}
 use Rattle.reference.proofs.TakeLaws.{plan-answer, deliver-due, deliver-planned, deliver-answer, deliver-chan, deliver-view}
 
-answer-same : (a : Answer) → sameAnswer a a ≡ true
+answer-same : (x : Answer) → sameAnswer x x ≡ true
 unfolding sameAnswer
 answer-same none = refl
 answer-same (route r) = cells-same r
 
-module _ (s : State) (i : ℕ) (a : Answer) where
+module _ (s : State) (i : ℕ) (x : Answer) where
   -- The first plan and a changed answer are news; the same answer again is none.
-  first-is-news : (s .planned i ≡ false) ⊎ (s .answer i ≡ a → ⊥) → isNews s i a ≡ true
-  first-is-news h = go (isNews s i a) refl
+  first-is-news : (s .planned i ≡ false) ⊎ (s .answer i ≡ x → ⊥) → isNews s i x ≡ true
+  first-is-news h = go (isNews s i x) refl
     where
-      go : (t : Bool) → isNews s i a ≡ t → isNews s i a ≡ true
+      go : (y : Bool) → isNews s i x ≡ y → isNews s i x ≡ true
       go true e = e
       go false e =
-          ⊎-elim (λ (p : s .planned i ≡ false). true-false-absurd (no-news s i a e .0) p)
-          (λ (p : s .answer i ≡ a → ⊥). absurd (p (no-news s i a e .1))) h
+          ⊎-elim (λ (p : s .planned i ≡ false). true-false-absurd (no-news s i x e .0) p)
+          (λ (p : s .answer i ≡ x → ⊥). absurd (p (no-news s i x e .1))) h
 
-  again-no-news : s .planned i ≡ true → s .answer i ≡ a → isNews s i a ≡ false
+  again-no-news : s .planned i ≡ true → s .answer i ≡ x → isNews s i x ≡ false
   unfolding isNews
-  again-no-news p e = rw (p, e, answer-same a) refl
+  again-no-news p e = rw (p, e, answer-same x) refl
 
 module _ (M : Machine) (s : State) where
   pub plan-does : (i : ℕ) → PlanLeads M s (afterStep M s (plan i)) i
@@ -59,10 +59,10 @@ module _ (M : Machine) (s : State) where
       a : Answer
       a = M .respond i (views s i)
 
-  oldest-first : (v : View) (l : List Answer) → isEmpty l ≡ false → (a : Answer) × (l ≡ a ∷ newer l) × (oldest v l ≡ heard a)
+  oldest-first : (v : View) (xs : List Answer) → isEmpty xs ≡ false → (x : Answer) × (xs ≡ x ∷ newer xs) × (oldest v xs ≡ heard x)
   unfolding isEmpty newer oldest
   oldest-first v [] e = true-false-absurd refl e
-  oldest-first v (a ∷ l) e = (a, refl, refl)
+  oldest-first v (x ∷ xs) e = (x, refl, refl)
 
   pub deliver-does : (j i : ℕ) → isOpen M s (deliver j i) ≡ true → DeliverLeads s (afterStep M s (deliver j i)) j i
   unfolding afterStep effect counted tick planAs deliverTo
@@ -85,15 +85,15 @@ module _ (M : Machine) (s : State) where
         seen = λ k l h. seen k l h (eq-or-ne k i);
       }
     where
-      f : (a : Answer) × (s .chan i j ≡ a ∷ newer (s .chan i j)) × (oldest (s .view i j) (s .chan i j) ≡ heard a)
+      f : (x : Answer) × (s .chan i j ≡ x ∷ newer (s .chan i j)) × (oldest (s .view i j) (s .chan i j) ≡ heard x)
       f = oldest-first (s .view i j) (s .chan i j) (deliver-full M s j i e)
 
-      channels : (k l : ℕ) → (k ≡ i → ⊥) ⊎ (l ≡ j → ⊥) → (k ≡ i) ⊎ (k ≡ i → ⊥) → deliverTo s j i .chan k l ≡ s .chan k l
-      channels k l (inl n) q = rw (deliver-chan s j i .elsewhere k n)
-      channels k l (inr n) (inl q) = rw q (deliver-chan s j i .beside l n)
-      channels k l (inr n) (inr q) = rw (deliver-chan s j i .elsewhere k q)
+      channels : (k j′ : ℕ) → (k ≡ i → ⊥) ⊎ (j′ ≡ j → ⊥) → (k ≡ i) ⊎ (k ≡ i → ⊥) → deliverTo s j i .chan k j′ ≡ s .chan k j′
+      channels k j′ (inl n) q = rw (deliver-chan s j i .elsewhere k n)
+      channels k j′ (inr n) (inl q) = rw q (deliver-chan s j i .beside j′ n)
+      channels k j′ (inr n) (inr q) = rw (deliver-chan s j i .elsewhere k q)
 
-      seen : (k l : ℕ) → (k ≡ i → ⊥) ⊎ (l ≡ j → ⊥) → (k ≡ i) ⊎ (k ≡ i → ⊥) → deliverTo s j i .view k l ≡ s .view k l
-      seen k l (inl n) q = rw (deliver-view s j i .elsewhere k n)
-      seen k l (inr n) (inl q) = rw q (deliver-view s j i .beside l n)
-      seen k l (inr n) (inr q) = rw (deliver-view s j i .elsewhere k q)
+      seen : (k j′ : ℕ) → (k ≡ i → ⊥) ⊎ (j′ ≡ j → ⊥) → (k ≡ i) ⊎ (k ≡ i → ⊥) → deliverTo s j i .view k j′ ≡ s .view k j′
+      seen k j′ (inl n) q = rw (deliver-view s j i .elsewhere k n)
+      seen k j′ (inr n) (inl q) = rw q (deliver-view s j i .beside j′ n)
+      seen k j′ (inr n) (inr q) = rw (deliver-view s j i .elsewhere k q)

@@ -16,43 +16,43 @@ use Rattle.reference.specs.Ending.{silent, spent, endsAs, anyLeft, endin
 use Rattle.reference.proofs.RankingLaws.{silent-shut}
 use Rattle.reference.proofs.QuiescentLaws.{shut-idle}
 
-ends-silent : (t u : Bool) → endsAs t u ≡ silent → t ≡ true
+ends-silent : (x y : Bool) → endsAs x y ≡ silent → x ≡ true
 unfolding endsAs
-ends-silent true u e = refl
+ends-silent true y e = refl
 ends-silent false true e = let z : _≡_ {A = ℕ} 0 1 = cc in absurd (omega arith)
 ends-silent false false e = let z : _≡_ {A = ℕ} 0 1 = cc in absurd (omega arith)
 
-ends-spent : (t u : Bool) → endsAs t u ≡ spent → (t ≡ false) × (u ≡ true)
+ends-spent : (x y : Bool) → endsAs x y ≡ spent → (x ≡ false) × (y ≡ true)
 unfolding endsAs
-ends-spent true u e = let z : _≡_ {A = ℕ} 0 1 = cc in absurd (omega arith)
+ends-spent true y e = let z : _≡_ {A = ℕ} 0 1 = cc in absurd (omega arith)
 ends-spent false true e = (refl, refl)
 ends-spent false false e = let z : _≡_ {A = ℕ} 0 1 = cc in absurd (omega arith)
 
-left-some : (l : List Step) → anyLeft l ≡ true → l ≡ [] → ⊥
+left-some : (xs : List Step) → anyLeft xs ≡ true → xs ≡ [] → ⊥
 unfolding anyLeft
 left-some [] e h = true-false-absurd e refl
-left-some (x ∷ l) e h = let z : _≡_ {A = ℕ} 0 1 = cc in omega arith
+left-some (x ∷ xs) e h = let z : _≡_ {A = ℕ} 0 1 = cc in omega arith
 
-some-left : (l : List Step) → (l ≡ [] → ⊥) → anyLeft l ≡ true
+some-left : (xs : List Step) → (xs ≡ [] → ⊥) → anyLeft xs ≡ true
 unfolding anyLeft
 some-left [] h = absurd (h refl)
-some-left (x ∷ l) h = refl
+some-left (x ∷ xs) h = refl
 
-module _ (M : Machine) (b : ℕ) (r : RunResult) where
-  pub ending-silent : (ending M b r ≡ silent) ↔ (isSilent M (r .state) ≡ true)
+module _ (M : Machine) (b : ℕ) (x : RunResult) where
+  pub ending-silent : (ending M b x ≡ silent) ↔ (isSilent M (x .state) ≡ true)
   unfolding ending endsAs
-  ending-silent = (λ e. ends-silent (isSilent M (r .state)) (eqb (r .taken) b && anyLeft (r .unread)) e, λ e. rw e)
+  ending-silent = (λ e. ends-silent (isSilent M (x .state)) (eqb (x .taken) b && anyLeft (x .unread)) e, λ e. rw e)
 
-  pub ending-spent : (ending M b r ≡ spent) ↔ ((isSilent M (r .state) ≡ false) × (r .taken ≡ b) × (r .unread ≡ [] → ⊥))
+  pub ending-spent : (ending M b x ≡ spent) ↔ ((isSilent M (x .state) ≡ false) × (x .taken ≡ b) × (x .unread ≡ [] → ⊥))
   unfolding ending endsAs
-  ending-spent = (says, λ h. rw (h .0, eq-eqb (r .taken) b (h .1), some-left (r .unread) (h .2)))
+  ending-spent = (says, λ h. rw (h .0, eq-eqb (x .taken) b (h .1), some-left (x .unread) (h .2)))
     where
-      says : ending M b r ≡ spent → (isSilent M (r .state) ≡ false) × (r .taken ≡ b) × (r .unread ≡ [] → ⊥)
+      says : ending M b x ≡ spent → (isSilent M (x .state) ≡ false) × (x .taken ≡ b) × (x .unread ≡ [] → ⊥)
       says e =
-          let h = ends-spent (isSilent M (r .state)) (eqb (r .taken) b && anyLeft (r .unread)) e in (
+          let h = ends-spent (isSilent M (x .state)) (eqb (x .taken) b && anyLeft (x .unread)) e in (
             h .0,
-            eqb-true (r .taken) b (and-fst (eqb (r .taken) b) (anyLeft (r .unread)) (h .1)),
-            left-some (r .unread) (and-snd (eqb (r .taken) b) (anyLeft (r .unread)) (h .1)),
+            eqb-true (x .taken) b (and-fst (eqb (x .taken) b) (anyLeft (x .unread)) (h .1)),
+            left-some (x .unread) (and-snd (eqb (x .taken) b) (anyLeft (x .unread)) (h .1)),
           )
 
 -- A fresh state has an open step.

@@ -17,28 +17,28 @@ use Rattle.reference.proofs.RunLaws.{run-took}
 use Rattle.reference.proofs.ApartLaws.{apart-sym, answer-kept, open-kept, state-agrees}
 
 -- Two runs leave the same state, number taken and unread steps.
-record SameResult (r q : RunResult) : Type 0 where
-  pub state : r .state ≡ q .state
-  pub taken : r .taken ≡ q .taken
-  pub unread : r .unread ≡ q .unread
+record SameResult (x y : RunResult) : Type 0 where
+  pub state : x .state ≡ y .state
+  pub taken : x .taken ≡ y .taken
+  pub unread : x .unread ≡ y .unread
 
-alike-ending : (M : Machine) (b : ℕ) (r q : RunResult) → SameResult r q → SameRun M b r q
+alike-ending : (M : Machine) (b : ℕ) (x y : RunResult) → SameResult x y → SameRun M b x y
 unfolding ending
-alike-ending M b r q h = record { state = h .state; taken = h .taken; ending = rw (h .state, h .taken, h .unread) }
+alike-ending M b x y h = record { state = h .state; taken = h .taken; ending = rw (h .state, h .taken, h .unread) }
 
 -- A run that goes on behind another is alike where the second parts are.
-joined-alike : (r q p x y : RunResult) → RunsJoined r p x → RunsJoined q p y → SameResult x y → SameResult r q
-joined-alike r q p x y j k h =
+joined-alike : (z x′ y′ x y : RunResult) → RunsJoined z y′ x → RunsJoined x′ y′ y → SameResult x y → SameResult z x′
+joined-alike z x′ y′ x y j k h =
     record {
       state = j .state ∙ h .state ∙ sym (k .state);
       taken = omega (arith, j .taken, k .taken, h .taken);
-      unread = j .unread ∙ ap (λ (l : List Step). p .unread ++ l) (h .unread) ∙ sym (k .unread);
+      unread = j .unread ∙ ap (λ (xs : List Step). y′ .unread ++ xs) (h .unread) ∙ sym (k .unread);
     }
 
-some-left : (l : List Step) (x : Step) (xs : List Step) → anyLeft (l ++ (x ∷ xs)) ≡ true
+some-left : (ys : List Step) (x : Step) (xs : List Step) → anyLeft (ys ++ (x ∷ xs)) ≡ true
 unfolding anyLeft
 some-left [] x xs = refl
-some-left (y ∷ l) x xs = refl
+some-left (y ∷ ys) x xs = refl
 
 module _ (claims : StepClaims) (M : Machine) where
   -- Two steps at the front of a run with budget for both.

@@ -19,15 +19,15 @@ pub latest : View → List Answer → View
 latest v [] = v
 latest v (a ∷ l) = latest (heard a) l
 
-latest-sent : (v : View) (l : List Answer) (a : Answer) → latest v (l ++ (a ∷ [])) ≡ heard a
+latest-sent : (v : View) (xs : List Answer) (x : Answer) → latest v (xs ++ (x ∷ [])) ≡ heard x
 unfolding latest
-latest-sent v [] a = refl
-latest-sent v (b ∷ l) a = latest-sent (heard b) l a
+latest-sent v [] x = refl
+latest-sent v (b ∷ xs) x = latest-sent (heard b) xs x
 
-latest-delivered : (v : View) (l : List Answer) → latest (oldest v l) (newer l) ≡ latest v l
+latest-delivered : (v : View) (xs : List Answer) → latest (oldest v xs) (newer xs) ≡ latest v xs
 unfolding latest oldest newer
 latest-delivered v [] = refl
-latest-delivered v (a ∷ l) = refl
+latest-delivered v (a ∷ xs) = refl
 
 -- What a carrier has said: its answer if it has planned, else nothing.
 pub saidAs : Bool → Answer → View
@@ -58,23 +58,23 @@ unfolding counted views said
 counted-coherent M s h = record { has-planned = h .has-planned; is-best = h .is-best; is-said = h .is-said }
 
 module _ (M : Machine) (s : State) (h : Coherent M s) where
-  module _ (i : ℕ) (a : Answer) where
-    said-other : (j : ℕ) → (j ≡ i → ⊥) → said (planAs s i a) j ≡ said s j
+  module _ (i : ℕ) (x : Answer) where
+    said-other : (j : ℕ) → (j ≡ i → ⊥) → said (planAs s i x) j ≡ said s j
     unfolding said
-    said-other j n = rw (plan-planned s i a .elsewhere j n, plan-answer s i a .elsewhere j n)
+    said-other j n = rw (plan-planned s i x .elsewhere j n, plan-answer s i x .elsewhere j n)
 
-    said-plan : said (planAs s i a) i ≡ heard a
+    said-plan : said (planAs s i x) i ≡ heard x
     unfolding said saidAs
-    said-plan = rw (plan-planned s i a .there, plan-answer s i a .there)
+    said-plan = rw (plan-planned s i x .there, plan-answer s i x .there)
 
     -- What is on the way from i after its plan: the news, or what it was, if that is what i answered before.
-    plan-said : (k : ℕ) → i < k → latest (s .view k i) (planAs s i a .chan k i) ≡ heard a
+    plan-said : (k : ℕ) → i < k → latest (s .view k i) (planAs s i x .chan k i) ≡ heard x
     unfolding said saidAs
-    plan-said k l = go (isNews s i a) refl
+    plan-said k l = go (isNews s i x) refl
       where
-        go : (t : Bool) → isNews s i a ≡ t → latest (s .view k i) (planAs s i a .chan k i) ≡ heard a
-        go true e = rw (sent-below s i a e k l) (latest-sent (s .view k i) (s .chan k i) a)
-        go false e = rw (plan-keeps s i a e) (rw (no-news s i a e .0, no-news s i a e .1) at (h .is-said k i l))
+        go : (y : Bool) → isNews s i x ≡ y → latest (s .view k i) (planAs s i x .chan k i) ≡ heard x
+        go true e = rw (sent-below s i x e k l) (latest-sent (s .view k i) (s .chan k i) x)
+        go false e = rw (plan-keeps s i x e) (rw (no-news s i x e .0, no-news s i x e .1) at (h .is-said k i l))
 
   plan-coherent : (i : ℕ) → Coherent M (planAs s i (M .respond i (views s i)))
   unfolding views
@@ -122,17 +122,17 @@ module _ (M : Machine) (s : State) (h : Coherent M s) where
       is-best : (k : ℕ) → z .due k ≡ false → z .answer k ≡ M .respond k (views z k)
       is-best k e = rw (deliver-answer s j i, deliver-view s j i .elsewhere k (was k e .0)) (h .is-best k (was k e .1))
 
-      to-i : (m : ℕ) → m < i → (m ≡ j) ⊎ (m ≡ j → ⊥) → latest (z .view i m) (z .chan i m) ≡ said s m
-      to-i m l (inl q) =
+      to-i : (k : ℕ) → k < i → (k ≡ j) ⊎ (k ≡ j → ⊥) → latest (z .view i k) (z .chan i k) ≡ said s k
+      to-i k l (inl q) =
           rw (q, deliver-view s j i .there, deliver-chan s j i .there, latest-delivered (s .view i j) (s .chan i j))
           (h .is-said i j (rw q at l))
-      to-i m l (inr n) = rw (deliver-view s j i .beside m n, deliver-chan s j i .beside m n) (h .is-said i m l)
+      to-i k l (inr n) = rw (deliver-view s j i .beside k n, deliver-chan s j i .beside k n) (h .is-said i k l)
 
-      is-said : (k m : ℕ) → m < k → latest (z .view k m) (z .chan k m) ≡ said z m
-      is-said k m l =
+      is-said : (k p : ℕ) → p < k → latest (z .view k p) (z .chan k p) ≡ said z p
+      is-said k p l =
           rw (deliver-planned s j i, deliver-answer s j i)
-          (⊎-elim (λ (q : k ≡ i). rw q (to-i m (rw q at l) (eq-or-ne m j)))
-          (λ (n : k ≡ i → ⊥). rw (deliver-view s j i .elsewhere k n, deliver-chan s j i .elsewhere k n) (h .is-said k m l)) (eq-or-ne k i))
+          (⊎-elim (λ (q : k ≡ i). rw q (to-i p (rw q at l) (eq-or-ne p j)))
+          (λ (n : k ≡ i → ⊥). rw (deliver-view s j i .elsewhere k n, deliver-chan s j i .elsewhere k n) (h .is-said k p l)) (eq-or-ne k i))
 
   step-coherent : (x : Step) → Coherent M (afterStep M s x)
   unfolding afterStep effect

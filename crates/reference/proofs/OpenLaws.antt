@@ -15,14 +15,14 @@ use Rattle.laws.proofs.Tests.{and-both, and-fst, and-snd, or-cases, or-inl, or-
 use Rattle.reference.specs.State.{Machine, State}
 use Rattle.reference.specs.Step.{Step, plan, deliver, isThere, hasCapacity, isEmpty, waitsFor, isOpen}
 
-pub empty-nil : (l : List Answer) → isEmpty l ≡ true → l ≡ []
+pub empty-nil : (xs : List Answer) → isEmpty xs ≡ true → xs ≡ []
 unfolding isEmpty
 empty-nil [] e = refl
-empty-nil (a ∷ l) e = true-false-absurd e refl
+empty-nil (a ∷ xs) e = true-false-absurd e refl
 
-pub nil-empty : (l : List Answer) → l ≡ [] → isEmpty l ≡ true
+pub nil-empty : (xs : List Answer) → xs ≡ [] → isEmpty xs ≡ true
 unfolding isEmpty
-nil-empty l e = rw e
+nil-empty xs e = rw e
 
 module _ (M : Machine) (s : State) where
   pub open-there : (x : Step) → isOpen M s x ≡ true → isThere M x ≡ true

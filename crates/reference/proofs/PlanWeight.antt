@@ -16,15 +16,15 @@ use Rattle.reference.proofs.Sums.{sumTo, sum-same, sum-less}
 use Rattle.reference.proofs.Potential.{unit, unit-double, unit-last, unit-positive, dueWeight, underWay, weightAt, potential}
 
 module _
-    (n i : ℕ) (f g : ℕ → ℕ)
-    (above : (m : ℕ) → m < i → g m ≡ f m) (own : g i + unit n i ≡ f i + 1)
-    (beneath : (m : ℕ) → i < m → m < n → g m ≤ f m + unit n m) where
-  sum-own : (p : ℕ) → i ≡ p → sumTo (suc p) g + unit n p ≤ sumTo (suc p) f + 1
+    (n i : ℕ) (φ ψ : ℕ → ℕ)
+    (above : (j : ℕ) → j < i → ψ j ≡ φ j) (own : ψ i + unit n i ≡ φ i + 1)
+    (beneath : (j : ℕ) → i < j → j < n → ψ j ≤ φ j + unit n j) where
+  sum-own : (p : ℕ) → i ≡ p → sumTo (suc p) ψ + unit n p ≤ sumTo (suc p) φ + 1
   unfolding sumTo
-  sum-own p q = rw (← q) (omega (arith, sum-same i g f above))
+  sum-own p q = rw (← q) (omega (arith, sum-same i ψ φ above))
 
-  -- Weights g after a plan of carrier i, f before it: up to carrier p, g leaves room for the messages to those after p.
-  plan-sum : (p : ℕ) → i ≤ p → p < n → sumTo (suc p) g + unit n p ≤ sumTo (suc p) f + 1
+  -- Weights ψ after a plan of carrier i, φ before it: up to carrier p, ψ leaves room for the messages to those after p.
+  plan-sum : (p : ℕ) → i ≤ p → p < n → sumTo (suc p) ψ + unit n p ≤ sumTo (suc p) φ + 1
   unfolding sumTo
   plan-sum zero l h = sum-own 0 (omega arith)
   plan-sum (suc p) l h =
@@ -33,47 +33,47 @@ module _
       omega (arith, plan-sum p (omega arith) (omega arith), beneath (suc p) q h, unit-double n p (omega arith)))
       (eq-or-lt-of-le l)
 
-  plan-total : (k : ℕ) → k ≡ n → i < k → sumTo k g < sumTo k f
+  plan-total : (k : ℕ) → k ≡ n → i < k → sumTo k ψ < sumTo k φ
   plan-total zero e l = absurd (omega arith)
   plan-total (suc p) e l =
       let last : unit n (suc p) ≡ 1 = rw e (unit-last n) in
       omega (arith, plan-sum p (omega arith) (omega arith), unit-double n p (omega arith))
 
-module _ (n : ℕ) (s : State) (i : ℕ) (a : Answer) where
-  messages-above : (m : ℕ) → m ≤ i → underWay (planAs s i a) m ≡ underWay s m
+module _ (n : ℕ) (s : State) (i : ℕ) (x : Answer) where
+  messages-above : (k : ℕ) → k ≤ i → underWay (planAs s i x) k ≡ underWay s k
   unfolding underWay
-  messages-above m l =
-      sum-same m (λ j. length (planAs s i a .chan m j)) (λ j. length (s .chan m j)) (λ j h. ap length (chan-above s i a m j l))
+  messages-above k l =
+      sum-same k (λ j. length (planAs s i x .chan k j)) (λ j. length (s .chan k j)) (λ j h. ap length (chan-above s i x k j l))
 
-  messages-below : (m : ℕ) → i < m → underWay (planAs s i a) m ≤ underWay s m + 1
+  messages-below : (k : ℕ) → i < k → underWay (planAs s i x) k ≤ underWay s k + 1
   unfolding underWay
-  messages-below m l = go (isNews s i a) refl
+  messages-below k l = go (isNews s i x) refl
     where
-      go : (t : Bool) → isNews s i a ≡ t → underWay (planAs s i a) m ≤ underWay s m + 1
+      go : (y : Bool) → isNews s i x ≡ y → underWay (planAs s i x) k ≤ underWay s k + 1
       go true e =
           omega (
             arith,
-            sum-less m i 1 (λ j. length (s .chan m j)) (λ j. length (planAs s i a .chan m j)) l
-                (rw (sent-below s i a e m l) (omega (arith, length-append (s .chan m i) (a ∷ []))))
-                (λ j h q. ap length (sym (chan-other s i a m j q))),
+            sum-less k i 1 (λ j. length (s .chan k j)) (λ j. length (planAs s i x .chan k j)) l
+                (rw (sent-below s i x e k l) (omega (arith, length-append (s .chan k i) (x ∷ []))))
+                (λ j h q. ap length (sym (chan-other s i x k j q))),
           )
-      go false e = rw (plan-keeps s i a e) (omega arith)
+      go false e = rw (plan-keeps s i x e) (omega arith)
 
-  weight-above : (m : ℕ) → m < i → weightAt n (planAs s i a) m ≡ weightAt n s m
+  weight-above : (k : ℕ) → k < i → weightAt n (planAs s i x) k ≡ weightAt n s k
   unfolding weightAt
-  weight-above m l = rw (plan-clears s i a .elsewhere m (λ q. omega arith), messages-above m (omega arith)) refl
+  weight-above k l = rw (plan-clears s i x .elsewhere k (λ q. omega arith), messages-above k (omega arith)) refl
 
-  weight-own : s .due i ≡ true → weightAt n (planAs s i a) i + unit n i ≡ weightAt n s i + 1
+  weight-own : s .due i ≡ true → weightAt n (planAs s i x) i + unit n i ≡ weightAt n s i + 1
   unfolding weightAt dueWeight
-  weight-own d = rw (plan-clears s i a .there, messages-above i (omega arith), d) (omega (arith, unit-positive n i))
+  weight-own d = rw (plan-clears s i x .there, messages-above i (omega arith), d) (omega (arith, unit-positive n i))
 
-  weight-below : (m : ℕ) → i < m → weightAt n (planAs s i a) m ≤ weightAt n s m + unit n m
+  weight-below : (k : ℕ) → i < k → weightAt n (planAs s i x) k ≤ weightAt n s k + unit n k
   unfolding weightAt
-  weight-below m l =
-      rw (plan-clears s i a .elsewhere m (λ q. omega arith))
-      (omega (arith, add-mul (underWay s m) 1 (unit n m), one-mul (unit n m), mul-le-mul-right (unit n m) (messages-below m l)))
+  weight-below k l =
+      rw (plan-clears s i x .elsewhere k (λ q. omega arith))
+      (omega (arith, add-mul (underWay s k) 1 (unit n k), one-mul (unit n k), mul-le-mul-right (unit n k) (messages-below k l)))
 
-  pub plan-lowers : s .due i ≡ true → i < n → potential n (planAs s i a) < potential n s
+  pub plan-lowers : s .due i ≡ true → i < n → potential n (planAs s i x) < potential n s
   unfolding potential
   plan-lowers d l =
-      plan-total n i (weightAt n s) (weightAt n (planAs s i a)) weight-above (weight-own d) (λ m h b. weight-below m h) n refl l
+      plan-total n i (weightAt n s) (weightAt n (planAs s i x)) weight-above (weight-own d) (λ m h b. weight-below m h) n refl l

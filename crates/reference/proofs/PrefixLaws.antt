@@ -48,12 +48,12 @@ pub record SameBelow (k : ℕ) (s z : State) : Type 0 where
   pub answer : (i : ℕ) → i < k → z .answer i ≡ s .answer i
 
 module _ (M : Machine) (s : State) (k : ℕ) where
-  plan-same : (i : ℕ) (a : Answer) → k ≤ i → SameBelow k s (planAs s i a)
-  plan-same i a h =
+  plan-same : (i : ℕ) (x : Answer) → k ≤ i → SameBelow k s (planAs s i x)
+  plan-same i x h =
       record {
-        due = λ m l. plan-clears s i a .elsewhere m (λ q. omega arith);
-        chan = λ m j l. chan-above s i a m j (omega arith);
-        answer = λ m l. plan-answer s i a .elsewhere m (λ q. omega arith);
+        due = λ m l. plan-clears s i x .elsewhere m (λ q. omega arith);
+        chan = λ m j l. chan-above s i x m j (omega arith);
+        answer = λ m l. plan-answer s i x .elsewhere m (λ q. omega arith);
       }
 
   deliver-same : (j i : ℕ) → k ≤ i → SameBelow k s (deliverTo s j i)

@@ -20,8 +20,8 @@ pub record Idle (k : ℕ) (s : State) : Type 0 where
   pub not-due : (i : ℕ) → i < k → s .due i ≡ false
   pub no-message : (i j : ℕ) → j < i → i < k → s .chan i j ≡ []
 
-false-not : (t : Bool) → t ≡ false → not t ≡ true
-false-not t e = rw e
+false-not : (x : Bool) → x ≡ false → not x ≡ true
+false-not x e = rw e
 
 pub idle-says : (k : ℕ) (s : State) → idle k s ≡ true → Idle k s
 unfolding idle idleAt

@@ -24,19 +24,19 @@ module _ (M : Machine) (s : State) where
   unfolding noneOpen
   none-append [] ys = refl
   none-append (x ∷ xs) ys =
-      ap (λ (b : Bool). not (isOpen M s x) && b) (none-append xs ys)
+      ap (λ (y : Bool). not (isOpen M s x) && y) (none-append xs ys)
       ∙ sym (and-assoc (not (isOpen M s x)) (noneOpen M s xs) (noneOpen M s ys))
 
-  none-below : (k : ℕ) (f : ℕ → Step) → noneOpen M s (below k f) ≡ each k (λ i. isShut (f i))
+  none-below : (k : ℕ) (φ : ℕ → Step) → noneOpen M s (below k φ) ≡ each k (λ i. isShut (φ i))
   unfolding below each isShut noneOpen
-  none-below zero f = refl
-  none-below (suc k) f =
-      none-append (below k f) (f k ∷ []) ∙ ap₂ _&&_ (none-below k f) (and-true (not (isOpen M s (f k))))
+  none-below zero φ = refl
+  none-below (suc k) φ =
+      none-append (below k φ) (φ k ∷ []) ∙ ap₂ _&&_ (none-below k φ) (and-true (not (isOpen M s (φ k))))
 
-  none-joined : (k : ℕ) (f : ℕ → List Step) → noneOpen M s (joined k f) ≡ each k (λ i. noneOpen M s (f i))
+  none-joined : (k : ℕ) (φ : ℕ → List Step) → noneOpen M s (joined k φ) ≡ each k (λ i. noneOpen M s (φ i))
   unfolding joined each noneOpen
-  none-joined zero f = refl
-  none-joined (suc k) f = none-append (joined k f) (f k) ∙ rw (none-joined k f)
+  none-joined zero φ = refl
+  none-joined (suc k) φ = none-append (joined k φ) (φ k) ∙ rw (none-joined k φ)
 
   -- Silence as the tests of a machine: the plans, then the deliveries of each sender.
   pub silent-tests : isSilent M s ≡ (each (M .carriers) (λ i. isShut (plan i)) &&
@@ -45,7 +45,7 @@ module _ (M : Machine) (s : State) where
   silent-tests =
       none-append (below (M .carriers) plan) (joined (M .carriers) (deliveriesFrom (M .carriers)))
       ∙ rw (none-below (M .carriers) plan, none-joined (M .carriers) (deliveriesFrom (M .carriers)))
-      (ap (λ (b : Bool). each (M .carriers) (λ i. isShut (plan i)) && b)
+      (ap (λ (x : Bool). each (M .carriers) (λ i. isShut (plan i)) && x)
       (each-same (M .carriers) (λ j. noneOpen M s (deliveriesFrom (M .carriers) j))
       (λ j. each (M .carriers - suc j) (λ d. isShut (deliver j (suc j + d))))
       (λ j l. none-below (M .carriers - suc j) (λ d. deliver j (suc j + d)))))

@@ -29,22 +29,22 @@ module _ (M : Machine) where
       (λ s x xs b r e p. p)
 
   -- What names no kind of step is refused with 9 or 7.
-  unnamed : (v : Verdict) (a p : ℕ) → (v then refused 7 0) ≡ refused a p
-      → _≡_ {A = Outcome CallAnswer} (v thenAnswers refusal 7 0) (refusal a p)
+  unnamed : (x : Verdict) (a p : ℕ) → (x then refused 7 0) ≡ refused a p
+      → _≡_ {A = Outcome CallAnswer} (x thenAnswers refusal 7 0) (refusal a p)
   unfolding _then_ _thenAnswers_
   unnamed passed a p h = let q = refused-same h in rw (q .0, q .1)
   unnamed (refused k l) a p h = let q = refused-same h in rw (q .0, q .1)
 
-  pub after-passed : (s : State) (c : Call) → verdict M s c ≡ passed → afterCall M s c ≡ stateAfter M s c
+  pub after-passed : (s : State) (x : Call) → verdict M s x ≡ passed → afterCall M s x ≡ stateAfter M s x
   unfolding afterCall whenPassed
-  after-passed s c e = rw e
+  after-passed s x e = rw e
 
-  after-refused : (s : State) (c : Call) (a p : ℕ) → verdict M s c ≡ refused a p → afterCall M s c ≡ s
+  after-refused : (s : State) (x : Call) (a p : ℕ) → verdict M s x ≡ refused a p → afterCall M s x ≡ s
   unfolding afterCall whenPassed
-  after-refused s c a p e = rw e
+  after-refused s x a p e = rw e
 
   -- A refused call counts no step.
-  reply-refused : (s : State) (c : Call) (a p : ℕ) → verdict M s c ≡ refused a p → reply M s c ≡ refusal a p
+  reply-refused : (s : State) (y : Call) (a p : ℕ) → verdict M s y ≡ refused a p → reply M s y ≡ refusal a p
   unfolding reply _gives_ verdict openSingle
   reply-refused s (single lent (step x)) a p e = rw e
   reply-refused s (runOf lent xs b) a p e = rw e
@@ -55,26 +55,26 @@ module _ (M : Machine) where
   unfolding reply _gives_
   run-reply s lent xs b e = rw e
 
-  passed-reaches : (s : State) (c : Call) → verdict M s c ≡ passed → Reachable M s (stateAfter M s c) (replyCount (reply M s c))
+  passed-reaches : (s : State) (y : Call) → verdict M s y ≡ passed → Reachable M s (stateAfter M s y) (replyCount (reply M s y))
   unfolding stateAfter reply replyCount _gives_ verdict openSingle
   passed-reaches s (single lent (step x)) e = rw e (next x (single-open M s lent x e) stay)
   passed-reaches s (single lent noStep) e = absurd (refused-not-passed (then-both (lentEnough M lent) (refused 7 0) e .1))
   passed-reaches s (runOf lent xs b) e = rw e (run-reaches s (stepsOf xs) b)
 
-  pub call-reaches : (s : State) (c : Call) → Reachable M s (afterCall M s c) (replyCount (reply M s c))
+  pub call-reaches : (s : State) (x : Call) → Reachable M s (afterCall M s x) (replyCount (reply M s x))
   unfolding replyCount
-  call-reaches s c = go (verdict M s c) refl
+  call-reaches s x = go (verdict M s x) refl
     where
-      go : (v : Verdict) → verdict M s c ≡ v → Reachable M s (afterCall M s c) (replyCount (reply M s c))
-      go passed e = rw (after-passed s c e) (passed-reaches s c e)
-      go (refused a p) e = rw (reply-refused s c a p e, after-refused s c a p e) stay
+      go : (y : Verdict) → verdict M s x ≡ y → Reachable M s (afterCall M s x) (replyCount (reply M s x))
+      go passed e = rw (after-passed s x e) (passed-reaches s x e)
+      go (refused a p) e = rw (reply-refused s x a p e, after-refused s x a p e) stay
 
-  pub calls-reach : (s : State) (cs : List Call) → Reachable M s (after M s cs) (repliesCount (replies M s cs))
+  pub calls-reach : (s : State) (xs : List Call) → Reachable M s (after M s xs) (repliesCount (replies M s xs))
   unfolding after replies repliesCount
   calls-reach s [] = stay
-  calls-reach s (c ∷ cs) = reaches-join (call-reaches s c) (calls-reach (afterCall M s c) cs)
+  calls-reach s (c ∷ xs) = reaches-join (call-reaches s c) (calls-reach (afterCall M s c) xs)
 
-  pub after-join : (s : State) (cs ds : List Call) → after M s (cs ++ ds) ≡ after M (after M s cs) ds
+  pub after-join : (s : State) (xs ys : List Call) → after M s (xs ++ ys) ≡ after M (after M s xs) ys
   unfolding after
-  after-join s [] ds = refl
-  after-join s (c ∷ cs) ds = after-join (afterCall M s c) cs ds
+  after-join s [] ys = refl
+  after-join s (c ∷ xs) ys = after-join (afterCall M s c) xs ys

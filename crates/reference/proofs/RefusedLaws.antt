@@ -20,7 +20,7 @@ use Rattle.reference.proofs.OpenLaws.{empty-nil, nil-empty, open-there,
 use Rattle.reference.proofs.TableLaws.{enough-lent, lent-enough, short-lent, named-means}
 
 -- A check that refuses with no number passes.
-never-refuses : (v : Verdict) → ((k p : ℕ) → v ≡ refused k p → ⊥) → v ≡ passed
+never-refuses : (x : Verdict) → ((k p : ℕ) → x ≡ refused k p → ⊥) → x ≡ passed
 never-refuses passed h = refl
 never-refuses (refused k p) h = absurd (h k p refl)
 
@@ -55,16 +55,16 @@ module _ (M : Machine) (s : State) where
   )
 
   -- Each row refuses.
-  unnamed : (a : Asked) → isNamed M a ≡ false → openSingle M s a ≡ refused 7 0
+  unnamed : (y : Asked) → isNamed M y ≡ false → openSingle M s y ≡ refused 7 0
   unfolding openSingle isNamed
   unnamed (step x) h = then-refused (waitsFor M s x) (demand-refuses 7 0 h)
   unnamed noStep h = refl
 
-  row-refuses : {c : Call} {a p : ℕ} → RefusedCall M s c a p → verdict M s c ≡ refused a p
+  row-refuses : {x : Call} {a p : ℕ} → RefusedCall M s x a p → verdict M s x ≡ refused a p
   unfolding verdict openSingle allNamed
   row-refuses (short-single {lent} l) = then-refused _ (short-lent M lent l)
   row-refuses (short-run {lent} l) = then-refused _ (short-lent M lent l)
-  row-refuses (unnamed-single {lent} {a} l h) = then-passed (enough-lent M lent l) ∙ unnamed a h
+  row-refuses (unnamed-single {lent} {x} l h) = then-passed (enough-lent M lent l) ∙ unnamed x h
   row-refuses (unnamed-run {lent} {xs} {b} {p} l f) =
       then-passed (enough-lent M lent l) ∙ first-refuses 7 0 _ _ (named-means M xs) (length xs) p f ∙ ap (refused 7) (zero-add p)
   row-refuses (waiting {lent} l h w) =
@@ -75,7 +75,7 @@ module _ (M : Machine) (s : State) where
   unfolding lentEnough
   lent-row lent a p e = let d = demand-cases _ 9 0 a p e in (leb-false (M .needed) lent (d .0), d .1, d .2)
 
-  single-row : (lent : ℕ) (c : Asked) (a p : ℕ) → M .needed ≤ lent → openSingle M s c ≡ refused a p → RefusedCall M s (single lent c) a p
+  single-row : (lent : ℕ) (y : Asked) (a p : ℕ) → M .needed ≤ lent → openSingle M s y ≡ refused a p → RefusedCall M s (single lent y) a p
   unfolding openSingle isNamed
   single-row lent noStep a p l e = let q = refused-same e in rw (← q .0, ← q .1) (unnamed-single l refl)
   single-row lent (step x) a p l e =
@@ -91,16 +91,16 @@ module _ (M : Machine) (s : State) where
       each-refused 7 0 _ _ (named-means M xs) (RefusedCall M s (runOf lent xs b)) (length xs) a p e
       (λ i f. rw zero-add (unnamed-run l f))
 
-  refused-row : (c : Call) (a p : ℕ) → verdict M s c ≡ refused a p → RefusedCall M s c a p
+  refused-row : (x : Call) (a p : ℕ) → verdict M s x ≡ refused a p → RefusedCall M s x a p
   unfolding verdict
-  refused-row (single lent c) a p e =
+  refused-row (single lent x) a p e =
       refused-by e
       (λ h. let r = lent-row lent a p h in rw (r .1, r .2) (short-single (r .0)))
-      (λ h g. single-row lent c a p (lent-enough M lent h) g)
+      (λ h g. single-row lent x a p (lent-enough M lent h) g)
   refused-row (runOf lent xs b) a p e =
       refused-by e
       (λ h. let r = lent-row lent a p h in rw (r .1, r .2) (short-run (r .0)))
       (λ h g. run-row lent xs b a p (lent-enough M lent h) g)
 
-  pub refuses-exactly : (c : Call) (a p : ℕ) → (verdict M s c ≡ refused a p) ↔ RefusedCall M s c a p
-  refuses-exactly c a p = (refused-row c a p, λ r. row-refuses r)
+  pub refuses-exactly : (x : Call) (a p : ℕ) → (verdict M s x ≡ refused a p) ↔ RefusedCall M s x a p
+  refuses-exactly x a p = (refused-row x a p, λ r. row-refuses r)

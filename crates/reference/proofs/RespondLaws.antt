@@ -24,22 +24,22 @@ use Rattle.reference.proofs.RunLaws.{run-took, run-skipped}
 use Rattle.reference.proofs.TableLaws.{single-open}
 use Rattle.laws.proofs.Tests.{true-or-false}
 
-below-length : {A : Type 0} (k : ℕ) (g : ℕ → A) → length (below k g) ≡ k
+below-length : {A : Type 0} (k : ℕ) (φ : ℕ → A) → length (below k φ) ≡ k
 unfolding below
-below-length zero g = refl
-below-length (suc k) g = length-append (below k g) (g k ∷ []) ∙ omega (arith, below-length k g)
+below-length zero φ = refl
+below-length (suc k) φ = length-append (below k φ) (φ k ∷ []) ∙ omega (arith, below-length k φ)
 
 -- A carrier has a view of each carrier above it.
 views-count : (s : State) (i : ℕ) → length (views s i) ≡ i
 unfolding views
 views-count s i = below-length i (s .view i)
 
-module _ (n d k : ℕ) (p q : ℕ → List View → Answer) (agree : (i : ℕ) (vs : List View) → i < n → length vs ≡ i → p i vs ≡ q i vs) where
+module _ (n d k : ℕ) (φ ψ : ℕ → List View → Answer) (agree : (i : ℕ) (vs : List View) → i < n → length vs ≡ i → φ i vs ≡ ψ i vs) where
   abbrev M : Machine
-  M = record { carriers = n; depth = d; needed = k; respond = p }
+  M = record { carriers = n; depth = d; needed = k; respond = φ }
 
   abbrev N : Machine
-  N = record { carriers = n; depth = d; needed = k; respond = q }
+  N = record { carriers = n; depth = d; needed = k; respond = ψ }
 
   there-same : (x : Step) → isThere M x ≡ isThere N x
   unfolding isThere
@@ -91,39 +91,39 @@ module _ (n d k : ℕ) (p q : ℕ → List View → Answer) (agree : (i : ℕ) (
   none-same s [] = refl
   none-same s (x ∷ xs) = rw (open-same s x, none-same s xs)
 
-  ending-same : (b : ℕ) (r : RunResult) → ending M b r ≡ ending N b r
+  ending-same : (b : ℕ) (x : RunResult) → ending M b x ≡ ending N b x
   unfolding ending isSilent
-  ending-same b r = rw (none-same (r .state) (ranking n))
+  ending-same b x = rw (none-same (x .state) (ranking n))
 
-  named-same : (a : Asked) → isNamed M a ≡ isNamed N a
+  named-same : (y : Asked) → isNamed M y ≡ isNamed N y
   unfolding isNamed
   named-same (step x) = there-same x
   named-same noStep = refl
 
-  verdict-same : (s : State) (c : Call) → verdict M s c ≡ verdict N s c
+  verdict-same : (s : State) (y : Call) → verdict M s y ≡ verdict N s y
   unfolding verdict lentEnough openSingle allNamed
   verdict-same s (single lent (step x)) = rw (there-same x, waits-same s x)
   verdict-same s (single lent noStep) = refl
   verdict-same s (runOf lent xs b) = rw (demand-same 7 0 _ _ (length xs) (λ i l. named-same (getD xs i noStep)))
 
   -- What is told and what is left of a call that is let through.
-  let-through : (s : State) (c : Call) → verdict M s c ≡ passed → stateAfter M s c ≡ stateAfter N s c
+  let-through : (s : State) (y : Call) → verdict M s y ≡ passed → stateAfter M s y ≡ stateAfter N s y
   unfolding stateAfter
   let-through s (single lent (step x)) e = after-same s x (single-open M s lent x e)
   let-through s (single lent noStep) e = refl
-  let-through s (runOf lent xs b) e = ap (λ (r : RunResult). r .state) (run-same s (stepsOf xs) b)
+  let-through s (runOf lent xs b) e = ap (λ (x : RunResult). x .state) (run-same s (stepsOf xs) b)
 
-  pub after-call-same : (s : State) (c : Call) → afterCall M s c ≡ afterCall N s c
+  pub after-call-same : (s : State) (x : Call) → afterCall M s x ≡ afterCall N s x
   unfolding afterCall
-  after-call-same s c =
-      when-same (verdict M s c) (stateAfter M s c) (stateAfter N s c) s (let-through s c)
-      ∙ ap (λ (v : Verdict). whenPassed v (stateAfter N s c) s) (verdict-same s c)
+  after-call-same s x =
+      when-same (verdict M s x) (stateAfter M s x) (stateAfter N s x) s (let-through s x)
+      ∙ ap (λ (y : Verdict). whenPassed y (stateAfter N s x) s) (verdict-same s x)
 
-  pub reply-same : (s : State) (c : Call) → reply M s c ≡ reply N s c
+  pub reply-same : (s : State) (y : Call) → reply M s y ≡ reply N s y
   unfolding reply lentEnough
   reply-same s (single lent (step x)) =
       gives-same (verdict M s (single lent (step x))) _ _ (λ e. ap stepped (answer-same s x (single-open M s lent x e)))
-      ∙ ap (λ (v : Verdict). v gives stepped (stepAnswer N s x)) (verdict-same s (single lent (step x)))
+      ∙ ap (λ (y : Verdict). y gives stepped (stepAnswer N s x)) (verdict-same s (single lent (step x)))
   reply-same s (single lent noStep) = refl
   reply-same s (runOf lent xs b) =
       rw (verdict-same s (runOf lent xs b), run-same s (stepsOf xs) b, ending-same b (run N s (stepsOf xs) b))

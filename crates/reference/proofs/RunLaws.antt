@@ -26,10 +26,10 @@ module _ (M : Machine) where
   pub run-induction : (P : State → List Step → ℕ → RunResult → Type 0) →
       ((s : State) (b : ℕ) → P s [] b (run M s [] b)) →
       ((s : State) (x : Step) (xs : List Step) → P s (x ∷ xs) 0 (run M s (x ∷ xs) 0)) →
-      ((s : State) (x : Step) (xs : List Step) (b : ℕ) (r : RunResult) → isOpen M s x ≡ true → P (afterStep M s x) xs b r →
-      P s (x ∷ xs) (suc b) (tookFirst x r)) →
-      ((s : State) (x : Step) (xs : List Step) (b : ℕ) (r : RunResult) → isOpen M s x ≡ false → P s xs (suc b) r →
-      P s (x ∷ xs) (suc b) (skippedFirst x r)) →
+      ((s : State) (x : Step) (xs : List Step) (b : ℕ) (y : RunResult) → isOpen M s x ≡ true → P (afterStep M s x) xs b y →
+      P s (x ∷ xs) (suc b) (tookFirst x y)) →
+      ((s : State) (x : Step) (xs : List Step) (b : ℕ) (y : RunResult) → isOpen M s x ≡ false → P s xs (suc b) y →
+      P s (x ∷ xs) (suc b) (skippedFirst x y)) →
       (s : State) (xs : List Step) (b : ℕ) → P s xs b (run M s xs b)
   run-induction P done stop took passed s [] b = done s b
   run-induction P done stop took passed s (x ∷ xs) zero = stop s x xs
@@ -37,7 +37,7 @@ module _ (M : Machine) where
       split (isOpen M s x) refl (run-induction P done stop took passed (afterStep M s x) xs b)
       (run-induction P done stop took passed s xs (suc b))
     where
-      split : (t : Bool) → isOpen M s x ≡ t → P (afterStep M s x) xs b (run M (afterStep M s x) xs b) →
+      split : (y : Bool) → isOpen M s x ≡ y → P (afterStep M s x) xs b (run M (afterStep M s x) xs b) →
           P s xs (suc b) (run M s xs (suc b)) → P s (x ∷ xs) (suc b) (run M s (x ∷ xs) (suc b))
       split true e p q = rw (run-took s x xs b e) (took s x xs b (run M (afterStep M s x) xs b) e p)
       split false e p q = rw (run-skipped s x xs b e) (passed s x xs b (run M s xs (suc b)) e q)
@@ -51,7 +51,7 @@ module _ (M : Machine) where
       (λ s x xs b r e p.
       record {
         faithful = (e, p .faithful);
-        reads = ap (λ (l : List Step). x ∷ l) (p .reads);
+        reads = ap (λ (xs : List Step). x ∷ xs) (p .reads);
         leads = p .leads;
         counts = ap suc (p .counts);
         within = omega (arith, p .within);
@@ -60,13 +60,13 @@ module _ (M : Machine) where
       (λ s x xs b r e p.
       record {
         faithful = (e, p .faithful);
-        reads = ap (λ (l : List Step). x ∷ l) (p .reads);
+        reads = ap (λ (xs : List Step). x ∷ xs) (p .reads);
         leads = p .leads;
         counts = p .counts;
         within = p .within;
         stops = p .stops;
       })
     where
-      more : (x : Step) (r : RunResult) (b : ℕ) → (r .unread ≡ []) ⊎ (r .taken ≡ b) → (r .unread ≡ []) ⊎ (suc (r .taken) ≡ suc b)
-      more x r b (inl e) = inl e
-      more x r b (inr e) = inr (ap suc e)
+      more : (x : Step) (y : RunResult) (b : ℕ) → (y .unread ≡ []) ⊎ (y .taken ≡ b) → (y .unread ≡ []) ⊎ (suc (y .taken) ≡ suc b)
+      more x y b (inl e) = inl e
+      more x y b (inr e) = inr (ap suc e)

@@ -14,146 +14,146 @@ use Rattle.reference.proofs.RangeLaws.{pair-row, pair-same, pair-other,
 
 module _ {A : Type 0} where
   -- Updates at different places, and an update at the same place again.
-  pub update-swap : (f : ℕ → A) (i k : ℕ) (a b : A) → (i ≡ k → ⊥) → update (update f i a) k b ≡ update (update f k b) i a
+  pub update-swap : (φ : ℕ → A) (i k : ℕ) (y z : A) → (i ≡ k → ⊥) → update (update φ i y) k z ≡ update (update φ k z) i y
   unfolding update
-  update-swap f i k a b n = fun-ext (λ x. go x (eqb x i) (eqb x k) refl refl)
+  update-swap φ i k y z n = fun-ext (λ x. go x (eqb x i) (eqb x k) refl refl)
     where
-      go : (x : ℕ) (t u : Bool) → eqb x i ≡ t → eqb x k ≡ u → update (update f i a) k b x ≡ update (update f k b) i a x
+      go : (x : ℕ) (x′ y′ : Bool) → eqb x i ≡ x′ → eqb x k ≡ y′ → update (update φ i y) k z x ≡ update (update φ k z) i y x
       go x true true p q = absurd (n (sym (eqb-true x i p) ∙ eqb-true x k q))
       go x true false p q = rw (p, q, update) (rw (p, update))
       go x false true p q = rw (p, q, update)
       go x false false p q = rw (p, q, update) (rw (p, update))
 
   -- The same value at any two places.
-  pub value-swap : (f : ℕ → A) (i k : ℕ) (a : A) → update (update f i a) k a ≡ update (update f k a) i a
-  value-swap f i k a = go (eq-or-ne i k)
+  pub value-swap : (φ : ℕ → A) (i k : ℕ) (x : A) → update (update φ i x) k x ≡ update (update φ k x) i x
+  value-swap φ i k x = go (eq-or-ne i k)
     where
-      go : (i ≡ k) ⊎ (i ≡ k → ⊥) → update (update f i a) k a ≡ update (update f k a) i a
+      go : (i ≡ k) ⊎ (i ≡ k → ⊥) → update (update φ i x) k x ≡ update (update φ k x) i x
       go (inl e) = rw e
-      go (inr n) = update-swap f i k a a n
+      go (inr n) = update-swap φ i k x x n
 
-  update-twice : (f : ℕ → A) (i : ℕ) (a b : A) → update (update f i a) i b ≡ update f i b
+  update-twice : (φ : ℕ → A) (i : ℕ) (y z : A) → update (update φ i y) i z ≡ update φ i z
   unfolding update
-  update-twice f i a b = fun-ext (λ x. go x (eqb x i) refl)
+  update-twice φ i y z = fun-ext (λ x. go x (eqb x i) refl)
     where
-      go : (x : ℕ) (t : Bool) → eqb x i ≡ t → update (update f i a) i b x ≡ update f i b x
+      go : (x : ℕ) (x′ : Bool) → eqb x i ≡ x′ → update (update φ i y) i z x ≡ update φ i z x
       go x true p = rw (p, update)
       go x false p = rw (p, update) (rw (p, update))
 
 module _ {A : Type 0} where
   -- Updates at two places of one row, and of different rows.
-  row-twice : (f : ℕ → ℕ → A) (i j l : ℕ) (a b : A) → updatePair (updatePair f i j a) i l b ≡ update f i (update (update (f i) j a) l b)
+  row-twice : (φ : ℕ → ℕ → A) (i j j′ : ℕ) (x y : A) → updatePair (updatePair φ i j x) i j′ y ≡ update φ i (update (update (φ i) j x) j′ y)
   unfolding updatePair
-  row-twice f i j l a b =
-      ap (λ (row : ℕ → A). update (updatePair f i j a) i (update row l b)) (pair-row f i j a) ∙ update-twice f i (update (f i) j a) _
+  row-twice φ i j j′ x y =
+      ap (λ (row : ℕ → A). update (updatePair φ i j x) i (update row j′ y)) (pair-row φ i j x) ∙ update-twice φ i (update (φ i) j x) _
 
-  rows-swap : (f : ℕ → ℕ → A) (i j k l : ℕ) (a b : A) → (i ≡ k → ⊥)
-      → updatePair (updatePair f i j a) k l b ≡ updatePair (updatePair f k l b) i j a
+  rows-swap : (φ : ℕ → ℕ → A) (i j k j′ : ℕ) (x y : A) → (i ≡ k → ⊥)
+      → updatePair (updatePair φ i j x) k j′ y ≡ updatePair (updatePair φ k j′ y) i j x
   unfolding updatePair
-  rows-swap f i j k l a b d = rw (pair-other-row f i j a k (λ q. d (sym q)), pair-other-row f k l b i d, update-swap f i k _ _ d)
+  rows-swap φ i j k j′ x y d = rw (pair-other-row φ i j x k (λ q. d (sym q)), pair-other-row φ k j′ y i d, update-swap φ i k _ _ d)
 
   -- An update at another pair, and updates at different pairs.
-  pub pair-else : (f : ℕ → ℕ → A) (i j : ℕ) (a : A) (k l : ℕ) → ((i ≡ k) × (j ≡ l) → ⊥) → updatePair f i j a k l ≡ f k l
-  pair-else f i j a k l n = go (eq-or-ne k i)
+  pub pair-else : (φ : ℕ → ℕ → A) (i j : ℕ) (x : A) (k j′ : ℕ) → ((i ≡ k) × (j ≡ j′) → ⊥) → updatePair φ i j x k j′ ≡ φ k j′
+  pair-else φ i j x k j′ n = go (eq-or-ne k i)
     where
-      go : (k ≡ i) ⊎ (k ≡ i → ⊥) → updatePair f i j a k l ≡ f k l
-      go (inl e) = rw e (pair-other f i j a l (λ q. n (sym e, sym q)))
-      go (inr d) = ap (λ (row : ℕ → A). row l) (pair-other-row f i j a k d)
+      go : (k ≡ i) ⊎ (k ≡ i → ⊥) → updatePair φ i j x k j′ ≡ φ k j′
+      go (inl e) = rw e (pair-other φ i j x j′ (λ q. n (sym e, sym q)))
+      go (inr d) = ap (λ (row : ℕ → A). row j′) (pair-other-row φ i j x k d)
 
-  pub pair-swap : (f : ℕ → ℕ → A) (i j k l : ℕ) (a b : A) → ((i ≡ k) × (j ≡ l) → ⊥)
-      → updatePair (updatePair f i j a) k l b ≡ updatePair (updatePair f k l b) i j a
-  pair-swap f i j k l a b n = go (eq-or-ne i k)
+  pub pair-swap : (φ : ℕ → ℕ → A) (i j k j′ : ℕ) (x y : A) → ((i ≡ k) × (j ≡ j′) → ⊥)
+      → updatePair (updatePair φ i j x) k j′ y ≡ updatePair (updatePair φ k j′ y) i j x
+  pair-swap φ i j k j′ x y n = go (eq-or-ne i k)
     where
-      go : (i ≡ k) ⊎ (i ≡ k → ⊥) → updatePair (updatePair f i j a) k l b ≡ updatePair (updatePair f k l b) i j a
-      go (inl e) = rw (← e, row-twice f i j l a b, row-twice f i l j b a, update-swap (f i) j l a b (λ q. n (e, q)))
-      go (inr d) = rows-swap f i j k l a b d
+      go : (i ≡ k) ⊎ (i ≡ k → ⊥) → updatePair (updatePair φ i j x) k j′ y ≡ updatePair (updatePair φ k j′ y) i j x
+      go (inl e) = rw (← e, row-twice φ i j j′ x y, row-twice φ i j′ j y x, update-swap (φ i) j j′ x y (λ q. n (e, q)))
+      go (inr d) = rows-swap φ i j k j′ x y d
 
 -- A plan's messages: sent where the answer is news.
 abbrev pub sentIf : Bool → (ℕ → ℕ → List Answer) → ℕ → Answer → ℕ → ℕ → List Answer
-sentIf news c i a = elim news [ true ↦ send c i a | false ↦ c ]
+sentIf news channels i x = elim news [ true ↦ send channels i x | false ↦ channels ]
 
 -- Messages leave the channels of other senders alone, and go on every channel whatever stands on the others.
-send-other : (c : ℕ → ℕ → List Answer) (i : ℕ) (a : Answer) (x l : ℕ) → eqb l i ≡ false → send c i a x l ≡ c x l
+send-other : (channels : ℕ → ℕ → List Answer) (i : ℕ) (y : Answer) (x j : ℕ) → eqb j i ≡ false → send channels i y x j ≡ channels x j
 unfolding send
-send-other c i a x l e = rw (e, send)
+send-other channels i y x j e = rw (e, send)
 
-send-same : (c d : ℕ → ℕ → List Answer) (i : ℕ) (a : Answer) (x l : ℕ) → c x l ≡ d x l → send c i a x l ≡ send d i a x l
+send-same : (channels channels′ : ℕ → ℕ → List Answer) (i : ℕ) (y : Answer) (x j : ℕ) → channels x j ≡ channels′ x j → send channels i y x j ≡ send channels′ i y x j
 unfolding send
-send-same c d i a x l e = ap (λ (q : List Answer). elim (eqb l i && ltb i x) [ true ↦ q ++ (a ∷ []) | false ↦ q ]) e
+send-same channels channels′ i y x j e = ap (λ (xs : List Answer). elim (eqb j i && ltb i x) [ true ↦ xs ++ (y ∷ []) | false ↦ xs ]) e
 
 -- Messages of different senders.
-send-swap : (c : ℕ → ℕ → List Answer) (i k : ℕ) (a b : Answer) → (i ≡ k → ⊥) → send (send c i a) k b ≡ send (send c k b) i a
-send-swap c i k a b n = fun-ext (λ x. fun-ext (λ l. go x l (eqb l i) (eqb l k) refl refl))
+send-swap : (channels : ℕ → ℕ → List Answer) (i k : ℕ) (y z : Answer) → (i ≡ k → ⊥) → send (send channels i y) k z ≡ send (send channels k z) i y
+send-swap channels i k y z n = fun-ext (λ x. fun-ext (λ l. go x l (eqb l i) (eqb l k) refl refl))
   where
-    go : (x l : ℕ) (t u : Bool) → eqb l i ≡ t → eqb l k ≡ u → send (send c i a) k b x l ≡ send (send c k b) i a x l
-    go x l true true p q = absurd (n (sym (eqb-true l i p) ∙ eqb-true l k q))
-    go x l true false p q = send-other (send c i a) k b x l q ∙ send-same c (send c k b) i a x l (sym (send-other c k b x l q))
-    go x l false u p q = send-same (send c i a) c k b x l (send-other c i a x l p) ∙ sym (send-other (send c k b) i a x l p)
+    go : (x j : ℕ) (x′ y′ : Bool) → eqb j i ≡ x′ → eqb j k ≡ y′ → send (send channels i y) k z x j ≡ send (send channels k z) i y x j
+    go x j true true p q = absurd (n (sym (eqb-true j i p) ∙ eqb-true j k q))
+    go x j true false p q = send-other (send channels i y) k z x j q ∙ send-same channels (send channels k z) i y x j (sym (send-other channels k z x j q))
+    go x j false y′ p q = send-same (send channels i y) channels k z x j (send-other channels i y x j p) ∙ sym (send-other (send channels k z) i y x j p)
 
-pub sent-swap : (c : ℕ → ℕ → List Answer) (i k : ℕ) (a b : Answer) (t u : Bool) → (i ≡ k → ⊥)
-    → sentIf u (sentIf t c i a) k b ≡ sentIf t (sentIf u c k b) i a
-sent-swap c i k a b true true n = send-swap c i k a b n
-sent-swap c i k a b true false n = refl
-sent-swap c i k a b false true n = refl
-sent-swap c i k a b false false n = refl
+pub sent-swap : (channels : ℕ → ℕ → List Answer) (i k : ℕ) (x y : Answer) (z z′ : Bool) → (i ≡ k → ⊥)
+    → sentIf z′ (sentIf z channels i x) k y ≡ sentIf z (sentIf z′ channels k y) i x
+sent-swap channels i k x y true true n = send-swap channels i k x y n
+sent-swap channels i k x y true false n = refl
+sent-swap channels i k x y false true n = refl
+sent-swap channels i k x y false false n = refl
 
 -- On a channel that is not empty a message may be sent before or after the oldest is taken, which is the same one.
-newer-sent : (l : List Answer) (a : Answer) → (l ≡ [] → ⊥) → newer (l ++ (a ∷ [])) ≡ newer l ++ (a ∷ [])
+newer-sent : (xs : List Answer) (x : Answer) → (xs ≡ [] → ⊥) → newer (xs ++ (x ∷ [])) ≡ newer xs ++ (x ∷ [])
 unfolding newer
-newer-sent [] a n = absurd (n refl)
-newer-sent (b ∷ l) a n = refl
+newer-sent [] x n = absurd (n refl)
+newer-sent (b ∷ xs) x n = refl
 
-oldest-sent : (v : View) (l : List Answer) (a : Answer) → (l ≡ [] → ⊥) → oldest v (l ++ (a ∷ [])) ≡ oldest v l
+oldest-sent : (v : View) (xs : List Answer) (x : Answer) → (xs ≡ [] → ⊥) → oldest v (xs ++ (x ∷ [])) ≡ oldest v xs
 unfolding oldest
-oldest-sent v [] a n = absurd (n refl)
-oldest-sent v (b ∷ l) a n = refl
+oldest-sent v [] x n = absurd (n refl)
+oldest-sent v (b ∷ xs) x n = refl
 
 -- A channel with the new message, and one without.
-send-there : (c : ℕ → ℕ → List Answer) (i : ℕ) (a : Answer) (k j : ℕ) → (eqb j i && ltb i k) ≡ true → send c i a k j ≡ c k j ++ (a ∷ [])
+send-there : (channels : ℕ → ℕ → List Answer) (i : ℕ) (x : Answer) (k j : ℕ) → (eqb j i && ltb i k) ≡ true → send channels i x k j ≡ channels k j ++ (x ∷ [])
 unfolding send
-send-there c i a k j e = rw (e, send)
+send-there channels i x k j e = rw (e, send)
 
-send-not : (c : ℕ → ℕ → List Answer) (i : ℕ) (a : Answer) (k j : ℕ) → (eqb j i && ltb i k) ≡ false → send c i a k j ≡ c k j
+send-not : (channels : ℕ → ℕ → List Answer) (i : ℕ) (x : Answer) (k j : ℕ) → (eqb j i && ltb i k) ≡ false → send channels i x k j ≡ channels k j
 unfolding send
-send-not c i a k j e = rw (e, send)
+send-not channels i x k j e = rw (e, send)
 
-newer-kept : (c : ℕ → ℕ → List Answer) (i : ℕ) (a : Answer) (k j : ℕ) → (c k j ≡ [] → ⊥)
-    → newer (send c i a k j) ≡ send (updatePair c k j (newer (c k j))) i a k j
+newer-kept : (channels : ℕ → ℕ → List Answer) (i : ℕ) (x : Answer) (k j : ℕ) → (channels k j ≡ [] → ⊥)
+    → newer (send channels i x k j) ≡ send (updatePair channels k j (newer (channels k j))) i x k j
 unfolding send
-newer-kept c i a k j n = go (eqb j i && ltb i k) refl
+newer-kept channels i x k j n = go (eqb j i && ltb i k) refl
   where
-    go : (t : Bool) → (eqb j i && ltb i k) ≡ t → newer (send c i a k j) ≡ send (updatePair c k j (newer (c k j))) i a k j
-    go true e = rw (e, pair-same c k j (newer (c k j)), send) (newer-sent (c k j) a n)
-    go false e = rw (e, pair-same c k j (newer (c k j)), send)
+    go : (y : Bool) → (eqb j i && ltb i k) ≡ y → newer (send channels i x k j) ≡ send (updatePair channels k j (newer (channels k j))) i x k j
+    go true e = rw (e, pair-same channels k j (newer (channels k j)), send) (newer-sent (channels k j) x n)
+    go false e = rw (e, pair-same channels k j (newer (channels k j)), send)
 
 -- A message is sent and another taken, in either order, from a channel that is not empty.
-send-take : (c : ℕ → ℕ → List Answer) (i : ℕ) (a : Answer) (k j : ℕ) → (c k j ≡ [] → ⊥)
-    → updatePair (send c i a) k j (newer (send c i a k j)) ≡ send (updatePair c k j (newer (c k j))) i a
-send-take c i a k j n = fun-ext (λ x. fun-ext (λ l. go x l (eq-or-ne x k) (eq-or-ne l j)))
+send-take : (channels : ℕ → ℕ → List Answer) (i : ℕ) (y : Answer) (k j : ℕ) → (channels k j ≡ [] → ⊥)
+    → updatePair (send channels i y) k j (newer (send channels i y k j)) ≡ send (updatePair channels k j (newer (channels k j))) i y
+send-take channels i y k j n = fun-ext (λ x. fun-ext (λ l. go x l (eq-or-ne x k) (eq-or-ne l j)))
   where
     before : ℕ → ℕ → List Answer
-    before = updatePair (send c i a) k j (newer (send c i a k j))
+    before = updatePair (send channels i y) k j (newer (send channels i y k j))
 
     after : ℕ → ℕ → List Answer
-    after = updatePair c k j (newer (c k j))
+    after = updatePair channels k j (newer (channels k j))
 
-    go : (x l : ℕ) → (x ≡ k) ⊎ (x ≡ k → ⊥) → (l ≡ j) ⊎ (l ≡ j → ⊥) → before x l ≡ send after i a x l
-    go x l (inr d) e = ap (λ (row : ℕ → List Answer). row l) (pair-other-row (send c i a) k j _ x d)
-        ∙ send-same c after i a x l (sym (ap (λ (row : ℕ → List Answer). row l) (pair-other-row c k j _ x d)))
-    go x l (inl p) (inr d) = rw p (pair-other (send c i a) k j _ l d ∙ send-same c after i a k l (sym (pair-other c k j _ l d)))
-    go x l (inl p) (inl q) = rw (p, q) (pair-same (send c i a) k j _ ∙ newer-kept c i a k j n)
+    go : (x j′ : ℕ) → (x ≡ k) ⊎ (x ≡ k → ⊥) → (j′ ≡ j) ⊎ (j′ ≡ j → ⊥) → before x j′ ≡ send after i y x j′
+    go x j′ (inr d) e = ap (λ (row : ℕ → List Answer). row j′) (pair-other-row (send channels i y) k j _ x d)
+        ∙ send-same channels after i y x j′ (sym (ap (λ (row : ℕ → List Answer). row j′) (pair-other-row channels k j _ x d)))
+    go x j′ (inl p) (inr d) = rw p (pair-other (send channels i y) k j _ j′ d ∙ send-same channels after i y k j′ (sym (pair-other channels k j _ j′ d)))
+    go x j′ (inl p) (inl q) = rw (p, q) (pair-same (send channels i y) k j _ ∙ newer-kept channels i y k j n)
 
-pub sent-take : (t : Bool) (c : ℕ → ℕ → List Answer) (i : ℕ) (a : Answer) (k j : ℕ) → (c k j ≡ [] → ⊥)
-    → updatePair (sentIf t c i a) k j (newer (sentIf t c i a k j)) ≡ sentIf t (updatePair c k j (newer (c k j))) i a
-sent-take true c i a k j n = send-take c i a k j n
-sent-take false c i a k j n = refl
+pub sent-take : (x : Bool) (channels : ℕ → ℕ → List Answer) (i : ℕ) (y : Answer) (k j : ℕ) → (channels k j ≡ [] → ⊥)
+    → updatePair (sentIf x channels i y) k j (newer (sentIf x channels i y k j)) ≡ sentIf x (updatePair channels k j (newer (channels k j))) i y
+sent-take true channels i y k j n = send-take channels i y k j n
+sent-take false channels i y k j n = refl
 
 -- The oldest message is the same one after another is sent, and some message is there.
-pub oldest-kept : (t : Bool) (v : View) (c : ℕ → ℕ → List Answer) (i : ℕ) (a : Answer) (k j : ℕ) → (c k j ≡ [] → ⊥)
-    → oldest v (sentIf t c i a k j) ≡ oldest v (c k j)
-oldest-kept false v c i a k j n = refl
-oldest-kept true v c i a k j n = go (eqb j i && ltb i k) refl
+pub oldest-kept : (x : Bool) (v : View) (channels : ℕ → ℕ → List Answer) (i : ℕ) (y : Answer) (k j : ℕ) → (channels k j ≡ [] → ⊥)
+    → oldest v (sentIf x channels i y k j) ≡ oldest v (channels k j)
+oldest-kept false v channels i y k j n = refl
+oldest-kept true v channels i y k j n = go (eqb j i && ltb i k) refl
   where
-    go : (t : Bool) → (eqb j i && ltb i k) ≡ t → oldest v (send c i a k j) ≡ oldest v (c k j)
-    go true e = ap (oldest v) (send-there c i a k j e) ∙ oldest-sent v (c k j) a n
-    go false e = ap (oldest v) (send-not c i a k j e)
+    go : (x : Bool) → (eqb j i && ltb i k) ≡ x → oldest v (send channels i y k j) ≡ oldest v (channels k j)
+    go true e = ap (oldest v) (send-there channels i y k j e) ∙ oldest-sent v (channels k j) y n
+    go false e = ap (oldest v) (send-not channels i y k j e)

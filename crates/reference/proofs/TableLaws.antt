@@ -63,12 +63,12 @@ module _ (M : Machine) where
   pub all-steps : (xs : List Asked) → All (λ i. isNamed M (getD xs i noStep) ≡ true) (length xs) → map step (stepsOf xs) ≡ xs
   unfolding stepsOf isNamed
   all-steps [] h = refl
-  all-steps (step x ∷ xs) h = ap (λ (l : List Asked). step x ∷ l) (all-steps xs (λ i l. h (suc i) (omega arith)))
+  all-steps (step x ∷ xs) h = ap (λ (xs : List Asked). step x ∷ xs) (all-steps xs (λ i l. h (suc i) (omega arith)))
   all-steps (noStep ∷ xs) h = true-false-absurd (h 0 (omega arith)) refl
 
 -- The steps of two lists.
 pub steps-append : (xs ys : List Asked) → stepsOf (xs ++ ys) ≡ stepsOf xs ++ stepsOf ys
 unfolding stepsOf
 steps-append [] ys = refl
-steps-append (step x ∷ xs) ys = ap (λ (l : List Step). x ∷ l) (steps-append xs ys)
+steps-append (step x ∷ xs) ys = ap (λ (xs : List Step). x ∷ xs) (steps-append xs ys)
 steps-append (noStep ∷ xs) ys = steps-append xs ys

@@ -25,69 +25,69 @@ unfolding sameCells
 cells-same [] = refl
 cells-same (c ∷ r) = and-both (eq-eqb c c refl) (cells-same r)
 
-same-answer : (a b : Answer) → sameAnswer a b ≡ true → a ≡ b
+same-answer : (x y : Answer) → sameAnswer x y ≡ true → x ≡ y
 unfolding sameAnswer
 same-answer none none e = refl
 same-answer none (route r) e = true-false-absurd e refl
 same-answer (route q) none e = true-false-absurd e refl
 same-answer (route q) (route r) e = ap route (same-cells q r e)
 
-module _ (s : State) (i : ℕ) (a : Answer) where
+module _ (s : State) (i : ℕ) (x : Answer) where
   -- An answer that is no news: the carrier has planned, and this was its answer.
-  pub no-news : isNews s i a ≡ false → (s .planned i ≡ true) × (s .answer i ≡ a)
+  pub no-news : isNews s i x ≡ false → (s .planned i ≡ true) × (s .answer i ≡ x)
   unfolding isNews
   no-news e =
       let p = s .planned i in
-      let same = sameAnswer (s .answer i) a in
+      let same = sameAnswer (s .answer i) x in
       let both = not-false (p && same) e in
-      (and-fst p same both, same-answer (s .answer i) a (and-snd p same both))
+      (and-fst p same both, same-answer (s .answer i) x (and-snd p same both))
 
-  plan-sends : isNews s i a ≡ true → planAs s i a .chan ≡ send (s .chan) i a
+  plan-sends : isNews s i x ≡ true → planAs s i x .chan ≡ send (s .chan) i x
   unfolding planAs
   plan-sends e = rw (e, planAs)
 
-  pub plan-keeps : isNews s i a ≡ false → planAs s i a .chan ≡ s .chan
+  pub plan-keeps : isNews s i x ≡ false → planAs s i x .chan ≡ s .chan
   unfolding planAs
   plan-keeps e = rw (e, planAs)
 
   -- The channel from i to a carrier below it gets the news.
-  pub sent-below : isNews s i a ≡ true → (k : ℕ) → i < k → planAs s i a .chan k i ≡ s .chan k i ++ (a ∷ [])
+  pub sent-below : isNews s i x ≡ true → (k : ℕ) → i < k → planAs s i x .chan k i ≡ s .chan k i ++ (x ∷ [])
   unfolding send
   sent-below e k l = rw (plan-sends e) (rw (eq-eqb i i refl, lt-ltb i k l, send) refl)
 
   -- Other channels stay as they are: those of other senders, and those to carriers that are not below i.
-  pub chan-other : (k j : ℕ) → (j ≡ i → ⊥) → planAs s i a .chan k j ≡ s .chan k j
+  pub chan-other : (k j : ℕ) → (j ≡ i → ⊥) → planAs s i x .chan k j ≡ s .chan k j
   unfolding send
-  chan-other k j h = go (isNews s i a) refl
+  chan-other k j h = go (isNews s i x) refl
     where
-      go : (t : Bool) → isNews s i a ≡ t → planAs s i a .chan k j ≡ s .chan k j
+      go : (y : Bool) → isNews s i x ≡ y → planAs s i x .chan k j ≡ s .chan k j
       go true e = rw (plan-sends e) (rw (ne-eqb j i h, send) refl)
       go false e = rw (plan-keeps e)
 
-  pub chan-above : (k j : ℕ) → k ≤ i → planAs s i a .chan k j ≡ s .chan k j
+  pub chan-above : (k j : ℕ) → k ≤ i → planAs s i x .chan k j ≡ s .chan k j
   unfolding send
-  chan-above k j h = go (isNews s i a) (eqb j i) refl refl
+  chan-above k j h = go (isNews s i x) (eqb j i) refl refl
     where
-      go : (t u : Bool) → isNews s i a ≡ t → eqb j i ≡ u → planAs s i a .chan k j ≡ s .chan k j
+      go : (y z : Bool) → isNews s i x ≡ y → eqb j i ≡ z → planAs s i x .chan k j ≡ s .chan k j
       go true true e f = rw (plan-sends e) (rw (f, le-ltb i k h, send) refl)
       go true false e f = rw (plan-sends e) (rw (f, send) refl)
-      go false u e f = rw (plan-keeps e)
+      go false z e f = rw (plan-keeps e)
 
   -- Carrier i has planned, is no longer due and has this answer; the others are as they were.
-  pub plan-planned : UpdatedAt (s .planned) i true (planAs s i a .planned)
+  pub plan-planned : UpdatedAt (s .planned) i true (planAs s i x .planned)
   unfolding planAs
   plan-planned = update-at (s .planned) i true
 
-  pub plan-clears : UpdatedAt (s .due) i false (planAs s i a .due)
+  pub plan-clears : UpdatedAt (s .due) i false (planAs s i x .due)
   unfolding planAs
   plan-clears = update-at (s .due) i false
 
-  pub plan-answer : UpdatedAt (s .answer) i a (planAs s i a .answer)
+  pub plan-answer : UpdatedAt (s .answer) i x (planAs s i x .answer)
   unfolding planAs
-  plan-answer = update-at (s .answer) i a
+  plan-answer = update-at (s .answer) i x
 
   -- A plan changes no view.
-  pub plan-view : planAs s i a .view ≡ s .view
+  pub plan-view : planAs s i x .view ≡ s .view
   unfolding planAs
   plan-view = refl
 

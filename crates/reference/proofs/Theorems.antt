@@ -51,24 +51,24 @@ module _ (M : Machine) where
       ⊎-elim (λ (e : isSilent M s ≡ true). inr (sym (silent-idle s d) ∙ e)) (λ (e : isSilent M s ≡ false). inl (some-open M s e))
       (true-or-false (isSilent M s))
 
-  quiescent-answers : (cs : List Call) (k : ℕ) → k ≤ M .carriers → quiet k (after M fresh cs) ≡ true →
-      below k (after M fresh cs .answer) ≡ take k (sequential (M .respond) (M .carriers))
+  quiescent-answers : (xs : List Call) (k : ℕ) → k ≤ M .carriers → quiet k (after M fresh xs) ≡ true →
+      below k (after M fresh xs .answer) ≡ take k (sequential (M .respond) (M .carriers))
   unfolding quiet
-  quiescent-answers cs k l e =
-      quiescent-sequential M z (reaches-coherent M (fresh-coherent M) (calls-reach M fresh cs)) k (idle-says k z e)
+  quiescent-answers xs k l e =
+      quiescent-sequential M z (reaches-coherent M (fresh-coherent M) (calls-reach M fresh xs)) k (idle-says k z e)
       ∙ sym (sequential-prefix (M .respond) k (M .carriers) l)
     where
       z : State
-      z = after M fresh cs
+      z = after M fresh xs
 
-  quiescent-answers-stay : (cs ds : List Call) (k : ℕ) → quiet k (after M fresh cs) ≡ true →
-      below k (after M fresh (cs ++ ds) .answer) ≡ below k (after M fresh cs .answer)
+  quiescent-answers-stay : (xs ys : List Call) (k : ℕ) → quiet k (after M fresh xs) ≡ true →
+      below k (after M fresh (xs ++ ys) .answer) ≡ below k (after M fresh xs .answer)
   unfolding quiet
-  quiescent-answers-stay cs ds k e =
-      let s = after M fresh cs in
-      let z = after M s ds in
-      rw (after-join M fresh cs ds)
-      (below-same k (z .answer) (s .answer) (reaches-quiescence M k (idle-says k s e) (calls-reach M s ds) .1))
+  quiescent-answers-stay xs ys k e =
+      let s = after M fresh xs in
+      let z = after M s ys in
+      rw (after-join M fresh xs ys)
+      (below-same k (z .answer) (s .answer) (reaches-quiescence M k (idle-says k s e) (calls-reach M s ys) .1))
 
 -- What openness means.
 module _ (M : Machine) (s : State) where

@@ -14,20 +14,20 @@ use Rattle.reference.proofs.TakeLaws.{plan-view, plan-answer, deliver-a
 use Rattle.reference.proofs.BoundLaws.{plan-chan-cases, deliver-chan-cases}
 
 module _ (n : ℕ) (P : Answer → Type 0) where
-  all-sent : (l : List Answer) (a : Answer) → AllOf P l → P a → AllOf P (l ++ (a ∷ []))
+  all-sent : (xs : List Answer) (x : Answer) → AllOf P xs → P x → AllOf P (xs ++ (x ∷ []))
   unfolding AllOf
-  all-sent [] a h p = (p, tt)
-  all-sent (b ∷ l) a h p = (h .0, all-sent l a (h .1) p)
+  all-sent [] x h p = (p, tt)
+  all-sent (b ∷ xs) x h p = (h .0, all-sent xs x (h .1) p)
 
-  all-newer : (l : List Answer) → AllOf P l → AllOf P (newer l)
+  all-newer : (xs : List Answer) → AllOf P xs → AllOf P (newer xs)
   unfolding AllOf newer
   all-newer [] h = tt
-  all-newer (a ∷ l) h = h .1
+  all-newer (a ∷ xs) h = h .1
 
-  shown-oldest : (v : View) (l : List Answer) → ShownOf P v → AllOf P l → ShownOf P (oldest v l)
+  shown-oldest : (v : View) (xs : List Answer) → ShownOf P v → AllOf P xs → ShownOf P (oldest v xs)
   unfolding AllOf ShownOf oldest
   shown-oldest v [] p h = p
-  shown-oldest v (a ∷ l) p h = h .0
+  shown-oldest v (a ∷ xs) p h = h .0
 
   pub fresh-throughout : P none → Throughout n P fresh
   unfolding fresh AllOf ShownOf
@@ -39,22 +39,22 @@ module _ (n : ℕ) (P : Answer → Type 0) where
   counted-throughout s h = record { answers = h .answers; messages = h .messages; seen = h .seen }
 
   module _ (s : State) (h : Throughout n P s) where
-    plan-throughout : (i : ℕ) (a : Answer) → P a → Throughout n P (planAs s i a)
-    plan-throughout i a p =
-        record { answers = answers; messages = λ k j l b. messages k j l b (plan-chan-cases s i a k j); seen = seen }
+    plan-throughout : (i : ℕ) (x : Answer) → P x → Throughout n P (planAs s i x)
+    plan-throughout i x p =
+        record { answers = answers; messages = λ k j l b. messages k j l b (plan-chan-cases s i x k j); seen = seen }
       where
-        answers : (k : ℕ) → k < n → P (planAs s i a .answer k)
+        answers : (k : ℕ) → k < n → P (planAs s i x .answer k)
         answers k b =
-            ⊎-elim (λ (q : k ≡ i). rw (q, plan-answer s i a .there) p) (λ (m : k ≡ i → ⊥). rw (plan-answer s i a .elsewhere k m) (h .answers k b))
+            ⊎-elim (λ (q : k ≡ i). rw (q, plan-answer s i x .there) p) (λ (m : k ≡ i → ⊥). rw (plan-answer s i x .elsewhere k m) (h .answers k b))
             (eq-or-ne k i)
 
-        messages : (k j : ℕ) → j < k → k < n → (planAs s i a .chan k j ≡ s .chan k j) ⊎
-            ((j ≡ i) × (i < k) × (planAs s i a .chan k j ≡ s .chan k j ++ (a ∷ []))) → AllOf P (planAs s i a .chan k j)
+        messages : (k j : ℕ) → j < k → k < n → (planAs s i x .chan k j ≡ s .chan k j) ⊎
+            ((j ≡ i) × (i < k) × (planAs s i x .chan k j ≡ s .chan k j ++ (x ∷ []))) → AllOf P (planAs s i x .chan k j)
         messages k j l b (inl q) = rw q (h .messages k j l b)
-        messages k j l b (inr q) = rw (q .2) (all-sent (s .chan k j) a (h .messages k j l b) p)
+        messages k j l b (inr q) = rw (q .2) (all-sent (s .chan k j) x (h .messages k j l b) p)
 
-        seen : (k j : ℕ) → j < k → k < n → ShownOf P (planAs s i a .view k j)
-        seen k j l b = rw (plan-view s i a) (h .seen k j l b)
+        seen : (k j : ℕ) → j < k → k < n → ShownOf P (planAs s i x .view k j)
+        seen k j l b = rw (plan-view s i x) (h .seen k j l b)
 
     deliver-throughout : (j i : ℕ) → Throughout n P (deliverTo s j i)
     deliver-throughout j i =
@@ -64,17 +64,17 @@ module _ (n : ℕ) (P : Answer → Type 0) where
           seen = λ k l a b. seen k l a b (eq-or-ne k i) (eq-or-ne l j);
         }
       where
-        messages : (k l : ℕ) → l < k → k < n → (deliverTo s j i .chan k l ≡ s .chan k l) ⊎
-            (deliverTo s j i .chan k l ≡ newer (s .chan k l)) → AllOf P (deliverTo s j i .chan k l)
-        messages k l a b (inl q) = rw q (h .messages k l a b)
-        messages k l a b (inr q) = rw q (all-newer (s .chan k l) (h .messages k l a b))
+        messages : (k j′ : ℕ) → j′ < k → k < n → (deliverTo s j i .chan k j′ ≡ s .chan k j′) ⊎
+            (deliverTo s j i .chan k j′ ≡ newer (s .chan k j′)) → AllOf P (deliverTo s j i .chan k j′)
+        messages k j′ a b (inl q) = rw q (h .messages k j′ a b)
+        messages k j′ a b (inr q) = rw q (all-newer (s .chan k j′) (h .messages k j′ a b))
 
-        seen : (k l : ℕ) → l < k → k < n → (k ≡ i) ⊎ (k ≡ i → ⊥) → (l ≡ j) ⊎ (l ≡ j → ⊥) → ShownOf P (deliverTo s j i .view k l)
-        seen k l a b (inr m) r = rw (deliver-view s j i .elsewhere k m) (h .seen k l a b)
-        seen k l a b (inl q) (inl m) =
+        seen : (k j′ : ℕ) → j′ < k → k < n → (k ≡ i) ⊎ (k ≡ i → ⊥) → (j′ ≡ j) ⊎ (j′ ≡ j → ⊥) → ShownOf P (deliverTo s j i .view k j′)
+        seen k j′ a b (inr m) r = rw (deliver-view s j i .elsewhere k m) (h .seen k j′ a b)
+        seen k j′ a b (inl q) (inl m) =
             rw (q, m, deliver-view s j i .there)
-            (shown-oldest (s .view i j) (s .chan i j) (rw (q, m) at (h .seen k l a b)) (rw (q, m) at (h .messages k l a b)))
-        seen k l a b (inl q) (inr m) = rw (q, deliver-view s j i .beside l m) (rw q at (h .seen k l a b))
+            (shown-oldest (s .view i j) (s .chan i j) (rw (q, m) at (h .seen k j′ a b)) (rw (q, m) at (h .messages k j′ a b)))
+        seen k j′ a b (inl q) (inr m) = rw (q, deliver-view s j i .beside j′ m) (rw q at (h .seen k j′ a b))
 
   module _ (M : Machine) (best : (i : ℕ) (vs : List View) → P (M .respond i vs)) where
     pub step-throughout : (s : State) → Throughout n P s → (x : Step) → Throughout n P (afterStep M s x)
@@ -87,21 +87,21 @@ module _ (n : ℕ) (P : Answer → Type 0) where
     reaches-throughout {s = s} h (next x e p) = reaches-throughout (step-throughout s h x) p
 
 -- What follows of every answer follows of every part.
-module _ (n : ℕ) {P Q : Answer → Type 0} (more : (a : Answer) → P a → Q a) where
-  all-more : (l : List Answer) → AllOf P l → AllOf Q l
+module _ (n : ℕ) {P Q : Answer → Type 0} (more : (x : Answer) → P x → Q x) where
+  all-more : (xs : List Answer) → AllOf P xs → AllOf Q xs
   unfolding AllOf
   all-more [] h = tt
-  all-more (a ∷ l) h = (more a (h .0), all-more l (h .1))
+  all-more (x ∷ xs) h = (more x (h .0), all-more xs (h .1))
 
   shown-more : (v : View) → ShownOf P v → ShownOf Q v
   unfolding ShownOf
   shown-more unheard h = tt
-  shown-more (heard a) h = more a h
+  shown-more (heard x) h = more x h
 
   pub throughout-more : (s : State) → Throughout n P s → Throughout n Q s
   throughout-more s h =
       record {
         answers = λ i l. more (s .answer i) (h .answers i l);
-        messages = λ i j a b. all-more (s .chan i j) (h .messages i j a b);
-        seen = λ i j a b. shown-more (s .view i j) (h .seen i j a b);
+        messages = λ i j x b. all-more (s .chan i j) (h .messages i j x b);
+        seen = λ i j x b. shown-more (s .view i j) (h .seen i j x b);
       }

@@ -14,7 +14,7 @@ pub record InRange (M : Machine) (s : State) : Type 0 where
 -- P holds of every message of a list.
 unfoldable pub AllOf : (Answer → Type 0) → List Answer → Type 0
 AllOf P [] = Unit {0}
-AllOf P (a ∷ l) = P a × AllOf P l
+AllOf P (x ∷ xs) = P x × AllOf P xs
 
 -- P holds of what a view shows.
 unfoldable pub ShownOf : (Answer → Type 0) → View → Type 0

@@ -22,15 +22,15 @@ use Rattle.reference.specs.Bounds.{InRange, Throughout}
 
 pub record CallClaims : Type 1 where
   -- A call is refused exactly under the conditions of the table, with its first place.
-  pub refuses-exactly : (M : Machine) (s : State) (c : Call) (a p : ℕ) → (verdict M s c ≡ refused a p) ↔ RefusedCall M s c a p
+  pub refuses-exactly : (M : Machine) (s : State) (x : Call) (k p : ℕ) → (verdict M s x ≡ refused k p) ↔ RefusedCall M s x k p
   -- A single step that is not refused is open.
   pub single-open : (M : Machine) (s : State) (lent : ℕ) (x : Step) → verdict M s (single lent (step x)) ≡ passed → isOpen M s x ≡ true
   -- A list of calls changes the state by open steps alone, as many as its answers tell of.
-  pub calls-reach : (M : Machine) (s : State) (cs : List Call) → Reachable M s (after M s cs) (repliesCount (replies M s cs))
+  pub calls-reach : (M : Machine) (s : State) (xs : List Call) → Reachable M s (after M s xs) (repliesCount (replies M s xs))
   -- The taken count is the number of single steps taken plus the numbers that the runs returned, or 999,999 if that is more.
-  pub count-told : (M : Machine) (cs : List Call) → after M fresh cs .taken ≡ min 999999 (repliesCount (replies M fresh cs))
+  pub count-told : (M : Machine) (xs : List Call) → after M fresh xs .taken ≡ min 999999 (repliesCount (replies M fresh xs))
   -- The step ceiling: from fresh, no list of calls takes more than 2^(n + 1) − n − 2 steps.
-  pub ceiling-holds : (M : Machine) (cs : List Call) → repliesCount (replies M fresh cs) ≤ ceiling (M .carriers)
+  pub ceiling-holds : (M : Machine) (xs : List Call) → repliesCount (replies M fresh xs) ≤ ceiling (M .carriers)
   -- A point inside a run that is not refused is the end of the same run with its list cut there, and the rest of the list, with
   -- what is left of the budget, counts as a later call.
   pub cut-state : (M : Machine) (lent : ℕ) → M .needed ≤ lent → (s : State) (xs ys : List Asked) (b : ℕ) →
@@ -41,13 +41,13 @@ pub record CallClaims : Type 1 where
       repliesCount (replies M s (runOf lent (xs ++ ys) b ∷ [])) ≡
       repliesCount (replies M s (runOf lent xs b ∷ runOf lent ys (b - run M s (stepsOf xs) b .taken) ∷ []))
   -- If the first k carriers are quiet after a list of calls, their answers are the sequential planner's first k.
-  pub quiescent-answers : (M : Machine) (cs : List Call) (k : ℕ) → k ≤ M .carriers → quiet k (after M fresh cs) ≡ true →
-      below k (after M fresh cs .answer) ≡ take k (sequential (M .respond) (M .carriers))
+  pub quiescent-answers : (M : Machine) (xs : List Call) (k : ℕ) → k ≤ M .carriers → quiet k (after M fresh xs) ≡ true →
+      below k (after M fresh xs .answer) ≡ take k (sequential (M .respond) (M .carriers))
   -- After every longer list their answers are the same.
-  pub quiescent-answers-stay : (M : Machine) (cs ds : List Call) (k : ℕ) → quiet k (after M fresh cs) ≡ true →
-      below k (after M fresh (cs ++ ds) .answer) ≡ below k (after M fresh cs .answer)
+  pub quiescent-answers-stay : (M : Machine) (xs ys : List Call) (k : ℕ) → quiet k (after M fresh xs) ≡ true →
+      below k (after M fresh (xs ++ ys) .answer) ≡ below k (after M fresh xs .answer)
   -- After every list of calls each channel has at most depth messages, and the count is at most 999,999.
-  pub calls-in-range : (M : Machine) (cs : List Call) → InRange M (after M fresh cs)
+  pub calls-in-range : (M : Machine) (xs : List Call) → InRange M (after M fresh xs)
   -- What holds of none and of every best response holds of every answer, message and heard view then.
   pub calls-throughout : (M : Machine) (P : Answer → Type 0) → P none → ((i : ℕ) (vs : List View) → P (M .respond i vs)) →
-      (cs : List Call) → Throughout (M .carriers) P (after M fresh cs)
+      (xs : List Call) → Throughout (M .carriers) P (after M fresh xs)

@@ -32,14 +32,14 @@ stateAfter M s (runOf lent xs b) = run M s (stepsOf xs) b .state
 
 -- The state after a call: if the table turns it away, nothing changes.
 unfoldable pub afterCall : Machine → State → Call → State
-afterCall M s c = whenPassed (verdict M s c) (stateAfter M s c) s
+afterCall M s x = whenPassed (verdict M s x) (stateAfter M s x) s
 
 -- The answers to a list of calls, in order; the first call gets state s, each later one the state as the call before it left it.
 unfoldable pub replies : Machine → State → List Call → List Reply
 replies M s [] = []
-replies M s (c ∷ cs) = reply M s c ∷ replies M (afterCall M s c) cs
+replies M s (x ∷ xs) = reply M s x ∷ replies M (afterCall M s x) xs
 
 -- The state after a list of calls.
 unfoldable pub after : Machine → State → List Call → State
 after M s [] = s
-after M s (c ∷ cs) = after M (afterCall M s c) cs
+after M s (x ∷ xs) = after M (afterCall M s x) xs

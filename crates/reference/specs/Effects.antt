@@ -42,5 +42,5 @@ pub record DeliverLeads (s z : State) (j i : ℕ) : Type 0 where
   -- Nothing else changes.
   pub carriers : (k : ℕ) → (k ≡ i → ⊥) → SameCarrier s z k
   pub receiver : (z .planned i ≡ s .planned i) × (z .answer i ≡ s .answer i)
-  pub channels : (k l : ℕ) → (k ≡ i → ⊥) ⊎ (l ≡ j → ⊥) → z .chan k l ≡ s .chan k l
-  pub seen : (k l : ℕ) → (k ≡ i → ⊥) ⊎ (l ≡ j → ⊥) → z .view k l ≡ s .view k l
+  pub channels : (k j′ : ℕ) → (k ≡ i → ⊥) ⊎ (j′ ≡ j → ⊥) → z .chan k j′ ≡ s .chan k j′
+  pub seen : (k j′ : ℕ) → (k ≡ i → ⊥) ⊎ (j′ ≡ j → ⊥) → z .view k j′ ≡ s .view k j′

@@ -27,4 +27,4 @@ endsAs false false = ended
 
 -- The end of a run with budget b: it is used up if taken equals the budget and unread steps are left.
 unfoldable pub ending : Machine → ℕ → RunResult → RunEnding
-ending M b r = endsAs (isSilent M (r .state)) (eqb (r .taken) b && anyLeft (r .unread))
+ending M b x = endsAs (isSilent M (x .state)) (eqb (x .taken) b && anyLeft (x .unread))

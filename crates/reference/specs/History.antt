@@ -38,20 +38,20 @@ pub data Reachable (M : Machine) : State → State → ℕ → Type 0 where
   stay : {s : State} → Reachable M s s 0
   next : {s z : State} {t : ℕ} (x : Step) → isOpen M s x ≡ true → Reachable M (afterStep M s x) z t → Reachable M s z (suc t)
 
--- What the history of a run r of the steps xs with budget b says: it is faithful; it reads the list from the front; the state is
+-- What the history of a run x of the steps xs with budget b says: it is faithful; it reads the list from the front; the state is
 -- the one after its taken steps; the number taken is how many they are, at most the budget; it stops at the list's end or with
 -- the budget used up.
-pub record FaithfulRun (M : Machine) (s : State) (xs : List Step) (b : ℕ) (r : RunResult) : Type 0 where
-  pub faithful : Faithful M s (r .history)
-  pub reads : stepsRead (r .history) ++ r .unread ≡ xs
-  pub leads : r .state ≡ afterSteps M s (stepsTaken (r .history))
-  pub counts : r .taken ≡ length (stepsTaken (r .history))
-  pub within : r .taken ≤ b
-  pub stops : (r .unread ≡ []) ⊎ (r .taken ≡ b)
+pub record FaithfulRun (M : Machine) (s : State) (xs : List Step) (b : ℕ) (x : RunResult) : Type 0 where
+  pub faithful : Faithful M s (x .history)
+  pub reads : stepsRead (x .history) ++ x .unread ≡ xs
+  pub leads : x .state ≡ afterSteps M s (stepsTaken (x .history))
+  pub counts : x .taken ≡ length (stepsTaken (x .history))
+  pub within : x .taken ≤ b
+  pub stops : (x .unread ≡ []) ⊎ (x .taken ≡ b)
 
--- Run r is run p and then run q.
-pub record RunsJoined (r p q : RunResult) : Type 0 where
-  pub state : r .state ≡ q .state
-  pub history : r .history ≡ p .history ++ q .history
-  pub taken : r .taken ≡ p .taken + q .taken
-  pub unread : r .unread ≡ p .unread ++ q .unread
+-- Run x is run y and then run z.
+pub record RunsJoined (x y z : RunResult) : Type 0 where
+  pub state : x .state ≡ z .state
+  pub history : x .history ≡ y .history ++ z .history
+  pub taken : x .taken ≡ y .taken + z .taken
+  pub unread : x .unread ≡ y .unread ++ z .unread

@@ -33,7 +33,7 @@ pub data Exchanged (M : Machine) : State → List Step → List Step → Type 0 
   onward : {s : State} {xs ys zs : List Step} → Exchanged M s xs ys → Exchanged M s ys zs → Exchanged M s xs zs
 
 -- Two runs with budget b lead to the same state, take as many steps and end alike.
-pub record SameRun (M : Machine) (b : ℕ) (r q : RunResult) : Type 0 where
-  pub state : r .state ≡ q .state
-  pub taken : r .taken ≡ q .taken
-  pub ending : ending M b r ≡ ending M b q
+pub record SameRun (M : Machine) (b : ℕ) (x y : RunResult) : Type 0 where
+  pub state : x .state ≡ y .state
+  pub taken : x .taken ≡ y .taken
+  pub ending : ending M b x ≡ ending M b y

@@ -28,7 +28,7 @@ replyCount (refusal number place) = 0
 -- The number of single steps taken plus the numbers that the runs returned.
 unfoldable pub repliesCount : List Reply → ℕ
 repliesCount [] = 0
-repliesCount (r ∷ rs) = replyCount r + repliesCount rs
+repliesCount (x ∷ xs) = replyCount x + repliesCount xs
 
 -- The step ceiling: the most steps for n carriers.
 unfoldable pub ceiling : ℕ → ℕ

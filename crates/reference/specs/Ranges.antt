@@ -4,20 +4,20 @@ use mathlib.Core.Bool.{true, false}
 use mathlib.Core.List.{List, [], _∷_, _++_}
 use lib.Dec.{eqb}
 
--- The values of f at 0 to k − 1, in order.
+-- The values of φ at 0 to k − 1, in order.
 unfoldable pub below : {A : Type 0} → ℕ → (ℕ → A) → List A
-below zero f = []
-below (suc k) f = below k f ++ (f k ∷ [])
+below zero φ = []
+below (suc k) φ = below k φ ++ (φ k ∷ [])
 
--- The lists f 0 to f (k − 1), one behind the other.
+-- The lists φ 0 to φ (k − 1), one behind the other.
 unfoldable pub joined : {A : Type 0} → ℕ → (ℕ → List A) → List A
-joined zero f = []
-joined (suc k) f = joined k f ++ f k
+joined zero φ = []
+joined (suc k) φ = joined k φ ++ φ k
 
--- f with the value a at i.
+-- φ with the value x at i.
 unfoldable pub update : {A : Type 0} → (ℕ → A) → ℕ → A → ℕ → A
-update f i a k = elim (eqb k i) [ true ↦ a | false ↦ f k ]
+update φ i x k = elim (eqb k i) [ true ↦ x | false ↦ φ k ]
 
--- f with the value a at receiver i and sender j.
+-- φ with the value x at receiver i and sender j.
 unfoldable pub updatePair : {A : Type 0} → (ℕ → ℕ → A) → ℕ → ℕ → A → ℕ → ℕ → A
-updatePair f i j a = update f i (update (f i) j a)
+updatePair φ i j x = update φ i (update (φ i) j x)

@@ -12,11 +12,11 @@ use Rattle.reference.specs.Table.{Asked, step, noStep, isNamed, Call, si
 
 -- p is the first place of the list, from 0, which names no kind of step, no carrier, or a sender not above the receiver.
 abbrev pub FirstUnnamed : Machine → List Asked → ℕ → Type 0
-FirstUnnamed M xs p = First (λ q. isNamed M (getD xs q noStep) ≡ true) (length xs) p
+FirstUnnamed M xs p = First (λ i. isNamed M (getD xs i noStep) ≡ true) (length xs) p
 
 -- k is the smallest carrier, from 0, whose channel from i is full: it is below i, and the channel has no fewer than depth messages.
 abbrev pub FirstFull : Machine → State → ℕ → ℕ → Type 0
-FirstFull M s i k = First (λ q. i < q → length (s .chan q i) < M .depth) (M .carriers) k
+FirstFull M s i k = First (λ j. i < j → length (s .chan j i) < M .depth) (M .carriers) k
 
 -- The thing that a step waits for, with its number and its place; carriers are told from 1.
 pub data Waits (M : Machine) (s : State) : Step → ℕ → ℕ → Type 0 where
@@ -29,10 +29,10 @@ pub data Waits (M : Machine) (s : State) : Step → ℕ → ℕ → Type 0 where
 
 pub data RefusedCall (M : Machine) (s : State) : Call → ℕ → ℕ → Type 0 where
   -- 9, 0: lent memory is too short.
-  short-single : {lent : ℕ} {a : Asked} → lent < M .needed → RefusedCall M s (single lent a) 9 0
+  short-single : {lent : ℕ} {x : Asked} → lent < M .needed → RefusedCall M s (single lent x) 9 0
   short-run : {lent : ℕ} {xs : List Asked} {b : ℕ} → lent < M .needed → RefusedCall M s (runOf lent xs b) 9 0
   -- 7, position: a single step has 0, a step of a run its position in the list.
-  unnamed-single : {lent : ℕ} {a : Asked} → M .needed ≤ lent → isNamed M a ≡ false → RefusedCall M s (single lent a) 7 0
+  unnamed-single : {lent : ℕ} {x : Asked} → M .needed ≤ lent → isNamed M x ≡ false → RefusedCall M s (single lent x) 7 0
   unnamed-run : {lent : ℕ} {xs : List Asked} {b p : ℕ} → M .needed ≤ lent → FirstUnnamed M xs p → RefusedCall M s (runOf lent xs b) 7 p
   -- 8, 12 or 13: a single step waits for something.
   waiting : {lent : ℕ} {x : Step} {a p : ℕ} → M .needed ≤ lent → isThere M x ≡ true → Waits M s x a p →

@@ -19,13 +19,13 @@ pub record RunResult : Type 0 where
   pub taken : ℕ
   pub unread : List Step
 
--- Run r with one more step taken at its front.
+-- Run y with one more step taken at its front.
 unfoldable pub tookFirst : Step → RunResult → RunResult
-tookFirst x r = record { state = r .state; history = took x ∷ r .history; taken = suc (r .taken); unread = r .unread }
+tookFirst x y = record { state = y .state; history = took x ∷ y .history; taken = suc (y .taken); unread = y .unread }
 
--- Run r with one more step passed over at its front.
+-- Run y with one more step passed over at its front.
 unfoldable pub skippedFirst : Step → RunResult → RunResult
-skippedFirst x r = record { state = r .state; history = skipped x ∷ r .history; taken = r .taken; unread = r .unread }
+skippedFirst x y = record { state = y .state; history = skipped x ∷ y .history; taken = y .taken; unread = y .unread }
 
 -- The run of a list with a budget; the number taken counts the budget down.
 unfoldable pub run : Machine → State → List Step → ℕ → RunResult

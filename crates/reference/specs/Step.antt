@@ -25,7 +25,7 @@ hasCapacity M s i k = leb k i || ltb (length (s .chan k i)) (M .depth)
 -- The list is empty.
 unfoldable pub isEmpty : List Answer → Bool
 isEmpty [] = true
-isEmpty (a ∷ rest) = false
+isEmpty (x ∷ rest) = false
 
 -- What a step waits for, test by test. Plan i: that i is due (8), then capacity in each channel from i (13, the receiver). Deliver j to i:
 -- a message there (12, the addressee). Places are carrier numbers from 1 (document 02, slip 3).

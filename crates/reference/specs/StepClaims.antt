@@ -26,9 +26,9 @@ pub record StepClaims : Type 0 where
       ((j < i) × (i < M .carriers) × (s .chan i j ≡ [] → ⊥))
   -- A step waits for a thing exactly under the condition of its row, with its number and place; it is open exactly if it is there and no
   -- row holds.
-  pub waits-exactly : (M : Machine) (s : State) (x : Step) (a p : ℕ) → (waitsFor M s x ≡ refused a p) ↔ Waits M s x a p
+  pub waits-exactly : (M : Machine) (s : State) (x : Step) (k p : ℕ) → (waitsFor M s x ≡ refused k p) ↔ Waits M s x k p
   pub open-exactly : (M : Machine) (s : State) (x : Step) → (isOpen M s x ≡ true) ↔
-      ((isThere M x ≡ true) × ((a p : ℕ) → Waits M s x a p → ⊥))
+      ((isThere M x ≡ true) × ((k p : ℕ) → Waits M s x k p → ⊥))
   -- The steps do what document 01 says, and nothing else changes.
   pub plan-does : (M : Machine) (s : State) (i : ℕ) → PlanLeads M s (afterStep M s (plan i)) i
   pub deliver-does : (M : Machine) (s : State) (j i : ℕ) → isOpen M s (deliver j i) ≡ true
@@ -46,9 +46,9 @@ pub record StepClaims : Type 0 where
   -- steps, never above the budget.
   pub run-faithful : (M : Machine) (s : State) (xs : List Step) (b : ℕ) → FaithfulRun M s xs b (run M s xs b)
   -- A run ends silent exactly if no step is open then, and spent exactly if one is, taken equals the budget and unread steps are left.
-  pub ending-silent : (M : Machine) (b : ℕ) (r : RunResult) → (ending M b r ≡ silent) ↔ (isSilent M (r .state) ≡ true)
-  pub ending-spent : (M : Machine) (b : ℕ) (r : RunResult) →
-      (ending M b r ≡ spent) ↔ ((isSilent M (r .state) ≡ false) × (r .taken ≡ b) × (r .unread ≡ [] → ⊥))
+  pub ending-silent : (M : Machine) (b : ℕ) (x : RunResult) → (ending M b x ≡ silent) ↔ (isSilent M (x .state) ≡ true)
+  pub ending-spent : (M : Machine) (b : ℕ) (x : RunResult) →
+      (ending M b x ≡ spent) ↔ ((isSilent M (x .state) ≡ false) × (x .taken ≡ b) × (x .unread ≡ [] → ⊥))
   -- A run cut in two is the run of the first part and then the run of the rest with what is left of the budget.
   pub run-cut : (M : Machine) (s : State) (xs ys : List Step) (b : ℕ) →
       RunsJoined (run M s (xs ++ ys) b) (run M s xs b) (run M (run M s xs b .state) ys (b - run M s xs b .taken))

@@ -10,33 +10,33 @@ use Rattle.reference.specs.Step.{Step, plan, deliver, sameAnswer}
 
 -- Answer a of carrier i is news: i had not planned before, or its answer changed.
 unfoldable pub isNews : State → ℕ → Answer → Bool
-isNews s i a = not (s .planned i && sameAnswer (s .answer i) a)
+isNews s i x = not (s .planned i && sameAnswer (s .answer i) x)
 
 -- The channels with message a put last on every channel from i, to the carriers k below it.
 unfoldable pub send : (ℕ → ℕ → List Answer) → ℕ → Answer → ℕ → ℕ → List Answer
-send chan i a k j = elim (eqb j i && ltb i k) [ true ↦ chan k j ++ (a ∷ []) | false ↦ chan k j ]
+send chan i x k j = elim (eqb j i && ltb i k) [ true ↦ chan k j ++ (x ∷ []) | false ↦ chan k j ]
 
 -- Carrier i plans answer a: it is no longer due, has planned, and sends the answer if it is news.
 unfoldable pub planAs : State → ℕ → Answer → State
-planAs s i a =
+planAs s i x =
     record {
       planned = update (s .planned) i true;
       due = update (s .due) i false;
-      answer = update (s .answer) i a;
+      answer = update (s .answer) i x;
       view = s .view;
-      chan = elim (isNews s i a) [ true ↦ send (s .chan) i a | false ↦ s .chan ];
+      chan = elim (isNews s i x) [ true ↦ send (s .chan) i x | false ↦ s .chan ];
       taken = s .taken;
     }
 
 -- The view v after the oldest message of a channel.
 unfoldable pub oldest : View → List Answer → View
 oldest v [] = v
-oldest v (a ∷ rest) = heard a
+oldest v (x ∷ rest) = heard x
 
 -- A channel without its oldest message.
 unfoldable pub newer : List Answer → List Answer
 newer [] = []
-newer (a ∷ rest) = rest
+newer (x ∷ rest) = rest
 
 -- The oldest message from j leaves its channel and becomes the view that i has of j; i becomes due.
 unfoldable pub deliverTo : State → ℕ → ℕ → State

@@ -20,9 +20,9 @@ use Rattle.printing.proofs.PrintLaws.{WasRead, was-read, refusal-length}
 use Rattle.reporting.proofs.TextLaws.{counted}
 
 -- What the text of a floor that was read asks for: the floor is accepted, its walls are there, and what is asked besides.
-pub read-granted : {a : Checked} {P : Type 0} (text old walls : List ℕ) (f : Floor)
-    → (verdictOf a ≡ readVerdict text (length old)) × ((f ≡ readFloor text (length old)) × (walls ≡ readWalls text old))
-    → 1023 ≡ length old → a ≡ Passed → P → (checkOf f (take (f .walls) walls) ≡ passed) × ((f .walls ≤ length walls) × P)
+pub read-granted : {x : Checked} {P : Type 0} (text old walls : List ℕ) (f : Floor)
+    → (verdictOf x ≡ readVerdict text (length old)) × ((f ≡ readFloor text (length old)) × (walls ≡ readWalls text old))
+    → 1023 ≡ length old → x ≡ Passed → P → (checkOf f (take (f .walls) walls) ≡ passed) × ((f .walls ≤ length walls) × P)
 read-granted text old walls f r wide told p = let w = was-read text old walls f wide r told in (w .checked, (w .lent, p))
 
 -- A text of each floor has at most so many bytes where the floor is accepted.
@@ -48,7 +48,7 @@ refused-printed {k} {p} text final t h enough =
     (c .0, rw h (c .1))
 
 -- A second verdict behind the sheet's.
-pub or-then : (v w : Verdict) (t : List ℕ) → orRefusal (v then w) t ≡ orRefusal v (orRefusal w t)
+pub or-then : (x y : Verdict) (xs : List ℕ) → orRefusal (x then y) xs ≡ orRefusal x (orRefusal y xs)
 unfolding orRefusal _then_
-or-then passed w t = refl
-or-then (refused k p) w t = refl
+or-then passed y xs = refl
+or-then (refused k p) y xs = refl

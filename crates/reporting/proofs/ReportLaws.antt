@@ -20,17 +20,17 @@ use Rattle.reporting.specs.Text.{entryLine, entryCount, reportText, repo
 use Rattle.reporting.specs.Put.{PutAt}
 
 -- Bytes copied to their end stand at their column.
-pub bytes-put : (old new bytes : List ℕ) (at n t : ℕ) → new ≡ put old at (take t bytes) → n ≡ length bytes → n ≤ t
+pub bytes-put : (old new bytes : List ℕ) (at n i : ℕ) → new ≡ put old at (take i bytes) → n ≡ length bytes → n ≤ i
     → PutAt bytes old at new (at + n)
-bytes-put old new bytes at n t e s l = record { bytes = copy-end old new bytes at t e (omega arith); behind = omega arith }
+bytes-put old new bytes at n i e s l = record { bytes = copy-end old new bytes at i e (omega arith); behind = omega arith }
 
 -- A text behind a text.
-pub put-behind : {a b old mid new : List ℕ} {at n next : ℕ} → PutAt a old at mid n → PutAt b mid n new next → next ≤ length old
-    → PutAt (a ++ b) old at new next
-put-behind {a} {b} {old} {mid} {new} {at} {n} {next} x y l =
+pub put-behind : {xs ys old mid new : List ℕ} {at n next : ℕ} → PutAt xs old at mid n → PutAt ys mid n new next → next ≤ length old
+    → PutAt (xs ++ ys) old at new next
+put-behind {xs} {ys} {old} {mid} {new} {at} {n} {next} x y l =
     record {
-      bytes = put-next old mid new a b at n (x .bytes) (y .bytes) (sym (x .behind)) (omega (arith, y .behind));
-      behind = omega (arith, x .behind, y .behind, length-append a b);
+      bytes = put-next old mid new xs ys at n (x .bytes) (y .bytes) (sym (x .behind)) (omega (arith, y .behind));
+      behind = omega (arith, x .behind, y .behind, length-append xs ys);
     }
 
 -- The three words.
@@ -57,7 +57,7 @@ word-within a = either (eqb a 0) (eqb a 1)
     either false false = omega arith
 
 -- The word of an answer, put.
-pub word-put : (a : ℕ) {w old new : List ℕ} {at next : ℕ} → answerWord a ≡ w → PutAt w old at new next
+pub word-put : (a : ℕ) {xs old new : List ℕ} {at next : ℕ} → answerWord a ≡ xs → PutAt xs old at new next
     → PutAt (answerWord a) old at new next × (next ≤ at + 9)
 word-put a e p = (rw e p, omega (arith, p .behind, ap length e, word-within a))
 

@@ -13,31 +13,31 @@ use Rattle.printing.specs.Put.{TextPut}
 use Rattle.reporting.specs.Put.{PutAt}
 
 -- A text in front of the part of a memory from a place on stands at that place.
-pub suffix-put : (m t ys : List ℕ) (n : ℕ) → n ≤ length m → ys ≡ put (take (length m - n) (drop n m)) 0 t
-    → take n m ++ (ys ++ drop (length m - n) (drop n m)) ≡ put m n t
+pub suffix-put : (m xs ys : List ℕ) (n : ℕ) → n ≤ length m → ys ≡ put (take (length m - n) (drop n m)) 0 xs
+    → take n m ++ (ys ++ drop (length m - n) (drop n m)) ≡ put m n xs
 unfolding put
-suffix-put m t ys n l e =
+suffix-put m xs ys n l e =
     let size : length (drop n m) ≡ length m - n = length-drop n m in
     let whole : take (length m - n) (drop n m) ≡ drop n m = take-all (length m - n) (drop n m) (omega arith) in
     let none : drop (length m - n) (drop n m) ≡ [] = ap (λ (k : ℕ). drop k (drop n m)) (sym size) ∙ drop-length (drop n m) in
-    let behind : ys ≡ t ++ drop (n + length t) m =
+    let behind : ys ≡ xs ++ drop (n + length xs) m =
     e
-    ∙ ap (λ (x : List ℕ). t ++ drop (0 + length t) x) whole
-    ∙ ap (λ (k : ℕ). t ++ drop k (drop n m)) (zero-add (length t))
-    ∙ ap (λ (x : List ℕ). t ++ x) (drop-drop (length t) n m)
+    ∙ ap (λ (ys : List ℕ). xs ++ drop (0 + length xs) ys) whole
+    ∙ ap (λ (k : ℕ). xs ++ drop k (drop n m)) (zero-add (length xs))
+    ∙ ap (λ (ys : List ℕ). xs ++ ys) (drop-drop (length xs) n m)
     in
-    ap₂ (λ (x y : List ℕ). take n m ++ (x ++ y)) behind none ∙ ap (λ (x : List ℕ). take n m ++ x) (append-nil (t ++ drop (n + length t) m))
+    ap₂ (λ (xs ys : List ℕ). take n m ++ (xs ++ ys)) behind none ∙ ap (λ (xs : List ℕ). take n m ++ xs) (append-nil (xs ++ drop (n + length xs) m))
 
 -- Two texts, the second put into the rest of the memory.
-pub both-put : (a b old mid ys new : List ℕ) (n k : ℕ) → PutAt a old 0 mid n → TextPut b (take (length mid - n) (drop n mid)) ys k
-    → new ≡ take n mid ++ (ys ++ drop (length mid - n) (drop n mid)) → length a + length b ≤ length old
-    → TextPut (a ++ b) old new (n + k)
-both-put a b old mid ys new n k p t e l =
-    let long : length mid ≡ length old = ap length (p .bytes) ∙ put-length old a 0 (omega arith) in
-    let placed : new ≡ put mid n b = e ∙ suffix-put mid b ys n (omega (arith, p .behind)) (t .bytes) in
+pub both-put : (xs zs old mid ys new : List ℕ) (n k : ℕ) → PutAt xs old 0 mid n → TextPut zs (take (length mid - n) (drop n mid)) ys k
+    → new ≡ take n mid ++ (ys ++ drop (length mid - n) (drop n mid)) → length xs + length zs ≤ length old
+    → TextPut (xs ++ zs) old new (n + k)
+both-put xs zs old mid ys new n k p t e l =
+    let long : length mid ≡ length old = ap length (p .bytes) ∙ put-length old xs 0 (omega arith) in
+    let placed : new ≡ put mid n zs = e ∙ suffix-put mid zs ys n (omega (arith, p .behind)) (t .bytes) in
     record {
-      bytes = put-next old mid new a b 0 n (p .bytes) placed (sym (p .behind)) (omega (arith, p .behind));
-      size = omega (arith, p .behind, t .size, length-append a b);
+      bytes = put-next old mid new xs zs 0 n (p .bytes) placed (sym (p .behind)) (omega (arith, p .behind));
+      size = omega (arith, p .behind, t .size, length-append xs zs);
     }
 
 -- A text that was put in front of a memory is counted there.

@@ -11,7 +11,7 @@ ghost use Rattle.reporting.specs.Put.{PutAt};
 // Puts bytes from a column on; the column behind them is returned.
 pub fn put_bytes(out: &mut [u8], at: usize, bytes: &[u8]) -> usize
     requires { ⌜ at + length (now bytes) ≤ length (now out) ⌝ }
-    ensures { λ r. ⌜ PutAt (now (bytes .entry)) (now (out .entry)) at (now (out .exit)) r ⌝ }
+    ensures { λ result. ⌜ PutAt (now (bytes .entry)) (now (out .entry)) at (now (out .exit)) result ⌝ }
 {
     let n = bytes.len();
     let mut t: usize = 0;
@@ -25,7 +25,7 @@ pub fn put_bytes(out: &mut [u8], at: usize, bytes: &[u8]) -> usize
 // Puts a number below 100 in decimal digits; the column behind it is returned.
 pub fn put_short_decimal(out: &mut [u8], at: usize, n: usize) -> usize
     requires { ⌜ (n < 100) × (at + 2 ≤ length (now out)) ⌝ }
-    ensures { λ r. ⌜ PutAt (shortDecimal n) (now (out .entry)) at (now (out .exit)) r ⌝ }
+    ensures { λ result. ⌜ PutAt (shortDecimal n) (now (out .entry)) at (now (out .exit)) result ⌝ }
 {
     if n < 10 {
         return put_bytes(out, at, &[48 + n as u8]);
@@ -36,8 +36,8 @@ pub fn put_short_decimal(out: &mut [u8], at: usize, n: usize) -> usize
 // Puts the word of an answer; the column behind it is returned.
 fn put_word(out: &mut [u8], at: usize, answer: u16) -> usize
     requires { ⌜ at + 9 ≤ length (now out) ⌝ }
-    ensures puts { λ r. ⌜ PutAt (answerWord answer) (now (out .entry)) at (now (out .exit)) r ⌝ }
-    ensures short { λ r. ⌜ r ≤ at + 9 ⌝ }
+    ensures puts { λ result. ⌜ PutAt (answerWord answer) (now (out .entry)) at (now (out .exit)) result ⌝ }
+    ensures short { λ result. ⌜ result ≤ at + 9 ⌝ }
 {
     if answer == 0 {
         return put_bytes(out, at, b"kept");
@@ -51,8 +51,8 @@ fn put_word(out: &mut [u8], at: usize, answer: u16) -> usize
 // Puts the line of a step; the column behind it is returned.
 fn put_step(out: &mut [u8], at: usize, place: u16, number: u16, answer: u16) -> usize
     requires { ⌜ at + 21 ≤ length (now out) ⌝ }
-    ensures puts { λ r. ⌜ PutAt (stepLine place number answer) (now (out .entry)) at (now (out .exit)) r ⌝ }
-    ensures short { λ r. ⌜ r ≤ at + 21 ⌝ }
+    ensures puts { λ result. ⌜ PutAt (stepLine place number answer) (now (out .entry)) at (now (out .exit)) result ⌝ }
+    ensures short { λ result. ⌜ result ≤ at + 21 ⌝ }
 {
     fields::put_field(out, at, place);
     fields::put_field(out, at + 5, number);
@@ -65,8 +65,8 @@ fn put_step(out: &mut [u8], at: usize, place: u16, number: u16, answer: u16) -> 
 // Puts the lines of a report's entries behind line 1; the column behind them is returned.
 fn put_entries(report: &[u16], out: &mut [u8]) -> usize
     requires { ⌜ (entryCount (now report) < 65536) × (reportLength (entryCount (now report)) ≤ length (now out)) ⌝ }
-    ensures { λ r. ⌜ PutAt (linesOf (entryLine (now (report .entry))) (entryCount (now (report .entry))))
-        (now (out .entry)) 16 (now (out .exit)) r ⌝ }
+    ensures { λ result. ⌜ PutAt (linesOf (entryLine (now (report .entry))) (entryCount (now (report .entry))))
+        (now (out .entry)) 16 (now (out .exit)) result ⌝ }
 {
     let steps = report.len() / 2;
     let mut at: usize = 16;
@@ -81,7 +81,7 @@ fn put_entries(report: &[u16], out: &mut [u8]) -> usize
 // Puts a line of three numbers in front of a buffer; its length is returned.
 fn put_line(a: u16, b: u16, c: u16, out: &mut [u8]) -> usize
     requires { ⌜ 16 ≤ length (now out) ⌝ }
-    ensures { λ r. ⌜ PutAt (lineOf (a ∷ b ∷ c ∷ [])) (now (out .entry)) 0 (now (out .exit)) r ⌝ }
+    ensures { λ result. ⌜ PutAt (lineOf (a ∷ b ∷ c ∷ [])) (now (out .entry)) 0 (now (out .exit)) result ⌝ }
 {
     fields::put_field(out, 0, a);
     fields::put_field(out, 5, b);
@@ -93,7 +93,7 @@ fn put_line(a: u16, b: u16, c: u16, out: &mut [u8]) -> usize
 // Puts the text of a report, two numbers an entry, in front of a buffer; its length is returned.
 pub fn put_report(carriers: u16, order: u16, report: &[u16], out: &mut [u8]) -> usize
     requires { ⌜ (entryCount (now report) < 65536) × (reportLength (entryCount (now report)) ≤ length (now out)) ⌝ }
-    ensures { λ r. ⌜ PutAt (reportText carriers order (now (report .entry))) (now (out .entry)) 0 (now (out .exit)) r ⌝ }
+    ensures { λ result. ⌜ PutAt (reportText carriers order (now (report .entry))) (now (out .entry)) 0 (now (out .exit)) result ⌝ }
 {
     put_line(carriers, order, (report.len() / 2) as u16, out);
     put_entries(report, out)

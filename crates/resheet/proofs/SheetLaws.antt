@@ -58,6 +58,6 @@ pub sheet-again : (text : List ℕ)
 unfolding orRefusal
 sheet-again text = go (sheetVerdict text) refl
   where
-    go : (v : Verdict) → sheetVerdict text ≡ v → orRefusal v text ≡ orRefusal v (sheetOf (floorAt text) (wallsAt text))
+    go : (x : Verdict) → sheetVerdict text ≡ x → orRefusal x text ≡ orRefusal x (sheetOf (floorAt text) (wallsAt text))
     go passed e = sym (theorems .sheet-returns text e)
     go (refused k p) e = refl

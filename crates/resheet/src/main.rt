@@ -22,7 +22,7 @@ fn put_sheet(f: Floor, walls: &[u16], out: &mut [u8]) -> usize
     requires { ⌜ checkOf f (take (f .walls) (now walls)) ≡ passed ⌝ }
     requires { ⌜ f .walls ≤ length (now walls) ⌝ }
     requires { ⌜ 11732 ≤ length (now out) ⌝ }
-    ensures { λ r. ⌜ TextPut (sheetOf f (take (f .walls) (now (walls .entry)))) (now (out .entry)) (now (out .exit)) r ⌝ }
+    ensures { λ result. ⌜ TextPut (sheetOf f (take (f .walls) (now (walls .entry)))) (now (out .entry)) (now (out .exit)) result ⌝ }
 {
     let k = f.walls as usize;
     sheet::write(f, &walls[..k], out);
@@ -31,8 +31,8 @@ fn put_sheet(f: Floor, walls: &[u16], out: &mut [u8]) -> usize
 
 // Writes again any text that is a sheet, and of any other the line of its refusal; the number of written bytes is returned.
 fn print(text: &[u8], out: &mut [u8; SHEET_LENGTH]) -> usize
-    ensures counts { λ r. ⌜ Counts r (now (out .exit)) ⌝ }
-    ensures prints { λ r. ⌜ take r (now (out .exit)) ≡ orRefusal (sheetVerdict (now (text .entry))) (now (text .entry)) ⌝ }
+    ensures counts { λ result. ⌜ Counts result (now (out .exit)) ⌝ }
+    ensures prints { λ result. ⌜ take result (now (out .exit)) ≡ orRefusal (sheetVerdict (now (text .entry))) (now (text .entry)) ⌝ }
 {
     let mut walls = sheet::no_walls();
     let reading = sheet::read(text, &mut walls);

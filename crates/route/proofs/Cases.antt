@@ -12,15 +12,15 @@ use Rattle.route.specs.Search.{cost, cheaper, cheapest, holds, ended, va
 
 -- A grid of a width with no wall, for a number of cells, a horizon, a start and a goal.
 abbrev grid : ℕ → ℕ → ℕ → ℕ → ℕ → Task
-grid w n h s g = record { width = w; cells = n; horizon = h; start = s; dock = λ c. eqb c g; free = λ c. true }
+grid w n h k d = record { width = w; cells = n; horizon = h; start = k; dock = λ c. eqb c d; free = λ c. true }
 
 -- Document 01's floor of 3 by 2 with no wall, for a horizon, a start and a goal.
 abbrev small : ℕ → ℕ → ℕ → Task
-small h s g = grid 3 6 h s g
+small h k d = grid 3 6 h k d
 
 -- A route of five cells, with zeros up to 64.
 abbrev five : ℕ → ℕ → ℕ → ℕ → ℕ → List ℕ
-five a b c d e = a ∷ b ∷ c ∷ d ∷ e ∷ replicate 59 0
+five c₁ c₂ c₃ c₄ c₅ = c₁ ∷ c₂ ∷ c₃ ∷ c₄ ∷ c₅ ∷ replicate 59 0
 
 -- A route of three cells, with zeros up to 64.
 abbrev three : ℕ → ℕ → ℕ → List ℕ
@@ -99,8 +99,8 @@ goal-passed = refl
 
 -- A grid with no wall and two docks, for a width, a number of cells, a horizon, a start and the docks.
 abbrev docked : ℕ → ℕ → ℕ → ℕ → ℕ → ℕ → Task
-docked w n h s x y =
-    record { width = w; cells = n; horizon = h; start = s; dock = λ c. eqb c x || eqb c y; free = λ c. true }
+docked w n h k x y =
+    record { width = w; cells = n; horizon = h; start = k; dock = λ c. eqb c x || eqb c y; free = λ c. true }
 
 -- A corridor of five cells with docks at its ends: the nearer one is gone to.
 nearer-dock : best (docked 5 5 4 1 0 4) [] ≡ route (five 1 0 0 0 0)

@@ -16,7 +16,7 @@ use Rattle.laws.proofs.Tests.{true-false-absurd, and-both, and-fst, and-snd, eq
 use Rattle.route.proofs.FollowLaws.{following-says, following-holds}
 
 -- A kind is told by its place in the order.
-rank-tells : (j k : ConflictKind) → rankOf j ≡ rankOf k → j ≡ k
+rank-tells : (kind kind′ : ConflictKind) → rankOf kind ≡ rankOf kind′ → kind ≡ kind′
 unfolding rankOf
 rank-tells sameCell sameCell e = refl
 rank-tells sameCell changeOfPlaces e = absurd (omega arith)
@@ -28,106 +28,107 @@ rank-tells following sameCell e = absurd (omega arith)
 rank-tells following changeOfPlaces e = absurd (omega arith)
 rank-tells following following e = refl
 
-module _ (H : ℕ) (a b : List ℕ) where
+module _ (H : ℕ) (r r′ : List ℕ) where
   -- The test of a kind at a beat up to H is the conflict of that kind.
-  test-says : (t : ℕ) (k : ConflictKind) → t ≤ H → isConflict H a b t k ≡ true → ConflictAt H a b t k
+  test-says : (t : ℕ) (kind : ConflictKind) → t ≤ H → isConflict H r r′ t kind ≡ true → ConflictAt H r r′ t kind
   unfolding changes isConflict ConflictAt VertexConflict SwapConflict
   test-says t sameCell l e = (l, eqb-true _ _ e)
   test-says t changeOfPlaces l e = (ltb-true t H (and-fst (ltb t H) _ e), eqbs-say _ _ _ _ (and-snd (ltb t H) _ e))
-  test-says t following l e = (ltb-true t H (and-fst (ltb t H) _ e), following-says a b t (and-snd (ltb t H) _ e))
+  test-says t following l e = (ltb-true t H (and-fst (ltb t H) _ e), following-says r r′ t (and-snd (ltb t H) _ e))
 
-  test-holds : (t : ℕ) (k : ConflictKind) → ConflictAt H a b t k → isConflict H a b t k ≡ true
+  test-holds : (t : ℕ) (kind : ConflictKind) → ConflictAt H r r′ t kind → isConflict H r r′ t kind ≡ true
   unfolding changes isConflict ConflictAt VertexConflict SwapConflict
   test-holds t sameCell c = eq-eqb _ _ (c .1)
   test-holds t changeOfPlaces c = and-both (lt-ltb t H (c .0)) (eqbs-hold _ _ _ _ (c .1))
-  test-holds t following c = and-both (lt-ltb t H (c .0)) (following-holds a b t (c .1))
+  test-holds t following c = and-both (lt-ltb t H (c .0)) (following-holds r r′ t (c .1))
 
-  at-most : (t : ℕ) (k : ConflictKind) → ConflictAt H a b t k → t ≤ H
+  at-most : (t : ℕ) (kind : ConflictKind) → ConflictAt H r r′ t kind → t ≤ H
   unfolding ConflictAt
   at-most t sameCell c = c .0
   at-most t changeOfPlaces c = omega (arith, c .0)
   at-most t following c = omega (arith, c .0)
 
-  -- Beat u and kind j come before beat t and kind k.
+  -- Beat u with one kind comes before beat t with another.
   abbrev Earlier : ℕ → ConflictKind → ℕ → ConflictKind → Type 0
-  Earlier u j t k = (u < t) ⊎ ((u ≡ t) × (rankOf j < rankOf k))
+  Earlier u kind t kind′ = (u < t) ⊎ ((u ≡ t) × (rankOf kind < rankOf kind′))
 
   -- What an answer tells of the first n beats.
   unfoldable Tells : ℕ → ConflictAnswer → Type 0
-  Tells n free = (u : ℕ) (j : ConflictKind) → u < n → isConflict H a b u j ≡ false
-  Tells n (dated t k) =
-      (t < n) × (isConflict H a b t k ≡ true) × ((u : ℕ) (j : ConflictKind) → Earlier u j t k → isConflict H a b u j ≡ false)
+  Tells n free = (u : ℕ) (kind : ConflictKind) → u < n → isConflict H r r′ u kind ≡ false
+  Tells n (dated t kind) =
+      (t < n) × (isConflict H r r′ t kind ≡ true)
+      × ((u : ℕ) (kind′ : ConflictKind) → Earlier u kind′ t kind → isConflict H r r′ u kind′ ≡ false)
 
   -- One more beat: its kinds in their order, where nothing was found before.
-  beat-tells : (n : ℕ) → Tells n free → (x y z : Bool) → isConflict H a b n sameCell ≡ x → isConflict H a b n changeOfPlaces ≡ y →
-      isConflict H a b n following ≡ z →
+  beat-tells : (n : ℕ) → Tells n free → (x y z : Bool) → isConflict H r r′ n sameCell ≡ x → isConflict H r r′ n changeOfPlaces ≡ y →
+      isConflict H r r′ n following ≡ z →
       Tells (suc n) (cond x (dated n sameCell) (cond y (dated n changeOfPlaces) (cond z (dated n following) free)))
   unfolding Tells rankOf
   beat-tells n h true y z e f g = (omega arith, e, earlier)
     where
-      earlier : (u : ℕ) (j : ConflictKind) → Earlier u j n sameCell → isConflict H a b u j ≡ false
-      earlier u j (inl l) = h u j l
-      earlier u j (inr p) = absurd (omega (arith, p .1))
+      earlier : (u : ℕ) (kind : ConflictKind) → Earlier u kind n sameCell → isConflict H r r′ u kind ≡ false
+      earlier u kind (inl l) = h u kind l
+      earlier u kind (inr p) = absurd (omega (arith, p .1))
   beat-tells n h false true z e f g = (omega arith, f, earlier)
     where
-      earlier : (u : ℕ) (j : ConflictKind) → Earlier u j n changeOfPlaces → isConflict H a b u j ≡ false
-      earlier u j (inl l) = h u j l
+      earlier : (u : ℕ) (kind : ConflictKind) → Earlier u kind n changeOfPlaces → isConflict H r r′ u kind ≡ false
+      earlier u kind (inl l) = h u kind l
       earlier u sameCell (inr p) = rw (p .0) e
       earlier u changeOfPlaces (inr p) = absurd (omega (arith, p .1))
       earlier u following (inr p) = absurd (omega (arith, p .1))
   beat-tells n h false false true e f g = (omega arith, g, earlier)
     where
-      earlier : (u : ℕ) (j : ConflictKind) → Earlier u j n following → isConflict H a b u j ≡ false
-      earlier u j (inl l) = h u j l
+      earlier : (u : ℕ) (kind : ConflictKind) → Earlier u kind n following → isConflict H r r′ u kind ≡ false
+      earlier u kind (inl l) = h u kind l
       earlier u sameCell (inr p) = rw (p .0) e
       earlier u changeOfPlaces (inr p) = rw (p .0) f
       earlier u following (inr p) = absurd (omega (arith, p .1))
   beat-tells n h false false false e f g = none
     where
-      here : (u : ℕ) (j : ConflictKind) → (u ≡ n) ⊎ (u < n) → isConflict H a b u j ≡ false
-      here u j (inr l) = h u j l
+      here : (u : ℕ) (kind : ConflictKind) → (u ≡ n) ⊎ (u < n) → isConflict H r r′ u kind ≡ false
+      here u kind (inr l) = h u kind l
       here u sameCell (inl q) = rw q e
       here u changeOfPlaces (inl q) = rw q f
       here u following (inl q) = rw q g
 
-      none : (u : ℕ) (j : ConflictKind) → u < suc n → isConflict H a b u j ≡ false
-      none u j l = here u j (eq-or-lt-of-le (le-of-suc-le-suc l))
+      none : (u : ℕ) (kind : ConflictKind) → u < suc n → isConflict H r r′ u kind ≡ false
+      none u kind l = here u kind (eq-or-lt-of-le (le-of-suc-le-suc l))
 
-  next-tells : (n : ℕ) (x : ConflictAnswer) → Tells n x → Tells (suc n) (orNext x (firstKind H a b n kinds))
+  next-tells : (n : ℕ) (x : ConflictAnswer) → Tells n x → Tells (suc n) (orNext x (firstKind H r r′ n kinds))
   unfolding Tells orNext firstKind kinds
   next-tells n free h =
-      beat-tells n h (isConflict H a b n sameCell) (isConflict H a b n changeOfPlaces) (isConflict H a b n following) refl refl refl
+      beat-tells n h (isConflict H r r′ n sameCell) (isConflict H r r′ n changeOfPlaces) (isConflict H r r′ n following) refl refl refl
   next-tells n (dated t k) h = (omega (arith, h .0), h .1, h .2)
 
-  below-tells : (n : ℕ) → Tells n (firstBelow H a b n)
+  below-tells : (n : ℕ) → Tells n (firstBelow H r r′ n)
   unfolding Tells firstBelow
   below-tells zero = λ u j l. absurd (omega arith)
-  below-tells (suc n) = next-tells n (firstBelow H a b n) (below-tells n)
+  below-tells (suc n) = next-tells n (firstBelow H r r′ n) (below-tells n)
 
-  test-tells : Tells (suc H) (firstConflict H a b)
+  test-tells : Tells (suc H) (firstConflict H r r′)
   unfolding firstConflict
   test-tells = below-tells (suc H)
 
   -- What `free` and a dated answer say, and that what is so is the answer.
-  tells-none : Tells (suc H) free → (t : ℕ) (k : ConflictKind) → ConflictAt H a b t k → ⊥
+  tells-none : Tells (suc H) free → (t : ℕ) (kind : ConflictKind) → ConflictAt H r r′ t kind → ⊥
   unfolding Tells
-  tells-none h t k c = true-false-absurd (test-holds t k c) (h t k (omega (arith, at-most t k c)))
+  tells-none h t kind c = true-false-absurd (test-holds t kind c) (h t kind (omega (arith, at-most t kind c)))
 
-  tells-first : (t : ℕ) (k : ConflictKind) → Tells (suc H) (dated t k) → FirstAt H a b t k
+  tells-first : (t : ℕ) (kind : ConflictKind) → Tells (suc H) (dated t kind) → FirstAt H r r′ t kind
   unfolding Tells
-  tells-first t k h =
+  tells-first t kind h =
       record {
-        there = test-says t k (omega (arith, h .0)) (h .1);
+        there = test-says t kind (omega (arith, h .0)) (h .1);
         first = λ u j e c. true-false-absurd (test-holds u j c) (h .2 u j e);
       }
 
-  no-conflict : ConflictFree H a b → (t : ℕ) (k : ConflictKind) → ConflictAt H a b t k → ⊥
+  no-conflict : ConflictFree H r r′ → (t : ℕ) (kind : ConflictKind) → ConflictAt H r r′ t kind → ⊥
   unfolding ConflictAt
   no-conflict f t sameCell c = f .no-vertex t (c .0) (c .1)
   no-conflict f t changeOfPlaces c = f .no-swap t (c .0) (c .1)
   no-conflict f t following c = f .no-following t (c .0) (c .1)
 
-  none-free : ((t : ℕ) (k : ConflictKind) → ConflictAt H a b t k → ⊥) → ConflictFree H a b
+  none-free : ((t : ℕ) (kind : ConflictKind) → ConflictAt H r r′ t kind → ⊥) → ConflictFree H r r′
   unfolding ConflictAt
   none-free h =
       record {
@@ -136,51 +137,51 @@ module _ (H : ℕ) (a b : List ℕ) where
         no-following = λ t l c. h t following (l, c);
       }
 
-  is-free : ConflictFree H a b → (x : ConflictAnswer) → Tells (suc H) x → x ≡ free
+  is-free : ConflictFree H r r′ → (x : ConflictAnswer) → Tells (suc H) x → x ≡ free
   is-free f free h = refl
   is-free f (dated t k) h = absurd (no-conflict f t k (tells-first t k h .there))
 
   -- Two first conflicts are one: neither comes before the other.
-  is-first : (t : ℕ) (k : ConflictKind) → FirstAt H a b t k → (x : ConflictAnswer) → Tells (suc H) x → x ≡ dated t k
-  is-first t k f free h = absurd (tells-none h t k (f .there))
-  is-first t k f (dated u j) h = beats (lt-or-le u t) (lt-or-le t u)
+  is-first : (t : ℕ) (kind : ConflictKind) → FirstAt H r r′ t kind → (x : ConflictAnswer) → Tells (suc H) x → x ≡ dated t kind
+  is-first t kind f free h = absurd (tells-none h t kind (f .there))
+  is-first t kind f (dated u j) h = beats (lt-or-le u t) (lt-or-le t u)
     where
-      g : FirstAt H a b u j
+      g : FirstAt H r r′ u j
       g = tells-first u j h
 
-      ranks : u ≡ t → (rankOf j < rankOf k) ⊎ (rankOf k ≤ rankOf j) → (rankOf k < rankOf j) ⊎ (rankOf j ≤ rankOf k) → dated u j ≡ dated t k
+      ranks : u ≡ t → (rankOf j < rankOf kind) ⊎ (rankOf kind ≤ rankOf j) → (rankOf kind < rankOf j) ⊎ (rankOf j ≤ rankOf kind) → dated u j ≡ dated t kind
       ranks e (inl l) m = absurd (f .first u j (inr (e, l)) (g .there))
-      ranks e (inr l) (inl m) = absurd (g .first t k (inr (sym e, m)) (f .there))
-      ranks e (inr l) (inr m) = rw (e, rank-tells j k (omega arith))
+      ranks e (inr l) (inl m) = absurd (g .first t kind (inr (sym e, m)) (f .there))
+      ranks e (inr l) (inr m) = rw (e, rank-tells j kind (omega arith))
 
-      beats : (u < t) ⊎ (t ≤ u) → (t < u) ⊎ (u ≤ t) → dated u j ≡ dated t k
+      beats : (u < t) ⊎ (t ≤ u) → (t < u) ⊎ (u ≤ t) → dated u j ≡ dated t kind
       beats (inl l) m = absurd (f .first u j (inl l) (g .there))
-      beats (inr l) (inl m) = absurd (g .first t k (inl m) (f .there))
-      beats (inr l) (inr m) = ranks (omega arith) (lt-or-le (rankOf j) (rankOf k)) (lt-or-le (rankOf k) (rankOf j))
+      beats (inr l) (inl m) = absurd (g .first t kind (inl m) (f .there))
+      beats (inr l) (inr m) = ranks (omega arith) (lt-or-le (rankOf j) (rankOf kind)) (lt-or-le (rankOf kind) (rankOf j))
 
-  conflict-of : (t : ℕ) (k : ConflictKind) → ConflictAt H a b t k → Conflict H a b
+  conflict-of : (t : ℕ) (kind : ConflictKind) → ConflictAt H r r′ t kind → Conflict H r r′
   unfolding ConflictAt Conflict
   conflict-of t sameCell c = inl (t, c .0, c .1)
   conflict-of t changeOfPlaces c = inr (inl (t, c .0, c .1))
   conflict-of t following c = inr (inr (t, c .0, c .1))
 
-  any-conflict : (x : ConflictAnswer) → Tells (suc H) x → (x ≡ free → ⊥) → Conflict H a b
+  any-conflict : (x : ConflictAnswer) → Tells (suc H) x → (x ≡ free → ⊥) → Conflict H r r′
   any-conflict free h n = absurd (n refl)
   any-conflict (dated t k) h n = conflict-of t k (tells-first t k h .there)
 
-  free-refutes : ConflictFree H a b → Conflict H a b → ⊥
+  free-refutes : ConflictFree H r r′ → Conflict H r r′ → ⊥
   unfolding Conflict
   free-refutes f (inl h) = f .no-vertex (h .0) (h .1) (h .2)
   free-refutes f (inr (inl h)) = f .no-swap (h .0) (h .1) (h .2)
   free-refutes f (inr (inr h)) = f .no-following (h .0) (h .1) (h .2)
 
-  says-free : firstConflict H a b ≡ free → ConflictFree H a b
+  says-free : firstConflict H r r′ ≡ free → ConflictFree H r r′
   says-free e = none-free (tells-none (rw e at test-tells))
 
-  pub tested : TestedFor H a b
+  pub tested : TestedFor H r r′
   tested =
       record {
-        free-exactly = (says-free, λ f. is-free f (firstConflict H a b) test-tells);
-        first-exactly = λ t k. (λ e. tells-first t k (rw e at test-tells), λ f. is-first t k f (firstConflict H a b) test-tells);
-        conflict-exactly = (any-conflict (firstConflict H a b) test-tells, λ c e. free-refutes (says-free e) c);
+        free-exactly = (says-free, λ f. is-free f (firstConflict H r r′) test-tells);
+        first-exactly = λ t k. (λ e. tells-first t k (rw e at test-tells), λ f. is-first t k f (firstConflict H r r′) test-tells);
+        conflict-exactly = (any-conflict (firstConflict H r r′) test-tells, λ c e. free-refutes (says-free e) c);
       }

@@ -82,4 +82,4 @@ module _ (task : Task) (vs : List View) where
           (own-admissible q adm)
 
   pub docks-only : (dock : ℕ → Bool) → ((c : ℕ) → task .dock c ≡ dock c) → best task vs ≡ best (withDocks task dock) vs
-  docks-only dock h = ap (λ (d : ℕ → Bool). best (withDocks task d) vs) (fun-ext h)
+  docks-only dock h = ap (λ (φ : ℕ → Bool). best (withDocks task φ) vs) (fun-ext h)

@@ -33,15 +33,15 @@ module _ (dock : ℕ → Bool) where
       and-both (ended-dock (suc k) ok c e) (holds-all k (later ok) c (λ i h. ended-holds (suc k) ok c e (suc i) (omega arith)))
 
   -- A way that is from its first beat on where it ends has ended.
-  pub way-ended : (k : ℕ) (ok : Rule) (p : ℕ → ℕ) → Way dock k ok p → Held k p 0 → ended dock k ok (p 0) ≡ true
+  pub way-ended : (k : ℕ) (ok : Rule) (r : ℕ → ℕ) → Way dock k ok r → Held k r 0 → ended dock k ok (r 0) ≡ true
   unfolding ended
-  way-ended k ok p w h = and-both docks (holds-all k ok (p 0) stay)
+  way-ended k ok r w h = and-both docks (holds-all k ok (r 0) stay)
     where
-      here : p 0 ≡ p k
+      here : r 0 ≡ r k
       here = h .held 0 (omega arith) (omega arith)
 
-      docks : dock (p 0) ≡ true
+      docks : dock (r 0) ≡ true
       docks = rw here (w .ends)
 
-      stay : (i : ℕ) → i < k → ok i (p 0) (p 0) ≡ true
+      stay : (i : ℕ) → i < k → ok i (r 0) (r 0) ≡ true
       stay i l = rw here (rw (h .held i (omega arith) (omega arith), h .held (suc i) (omega arith) l) at (w .steps i l))

@@ -15,11 +15,11 @@ use Rattle.laws.proofs.Tests.{and-both, and-fst, and-snd, or-cases, or-inl, or-
 abbrev Enters : ℕ → ℕ → ℕ → ℕ → Type 0
 Enters c d x y = (d ≡ x) × (d ≡ c → ⊥) × (y ≡ x → ⊥)
 
-unequal-says : (m n : ℕ) → not (eqb m n) ≡ true → m ≡ n → ⊥
-unequal-says m n e h = not-refutes (eqb m n) e (eq-eqb m n h)
+unequal-says : (k n : ℕ) → not (eqb k n) ≡ true → k ≡ n → ⊥
+unequal-says k n e h = not-refutes (eqb k n) e (eq-eqb k n h)
 
-unequal-holds : (m n : ℕ) → (m ≡ n → ⊥) → not (eqb m n) ≡ true
-unequal-holds m n h = not-is-true (eqb m n) (λ e. h (eqb-true m n e))
+unequal-holds : (k n : ℕ) → (k ≡ n → ⊥) → not (eqb k n) ≡ true
+unequal-holds k n h = not-is-true (eqb k n) (λ e. h (eqb-true k n e))
 
 enters-says : (c d x y : ℕ) → enters c d x y ≡ true → Enters c d x y
 unfolding enters
@@ -36,17 +36,17 @@ enters-holds : (c d x y : ℕ) → Enters c d x y → enters c d x y ≡ true
 unfolding enters
 enters-holds c d x y h = and-both (eq-eqb d x (h .0)) (and-both (unequal-holds d c (h .1)) (unequal-holds y x (h .2)))
 
-module _ (a b : List ℕ) (t : ℕ) where
-  pub following-says : follows (cellAt a t) (cellAt a (suc t)) (cellAt b t) (cellAt b (suc t)) ≡ true → FollowingConflict a b t
+module _ (r q : List ℕ) (t : ℕ) where
+  pub following-says : follows (cellAt r t) (cellAt r (suc t)) (cellAt q t) (cellAt q (suc t)) ≡ true → FollowingConflict r q t
   unfolding follows Follows FollowingConflict
   following-says e = split (or-cases _ _ e)
     where
-      split : (enters (cellAt a t) (cellAt a (suc t)) (cellAt b t) (cellAt b (suc t)) ≡ true) ⊎
-          (enters (cellAt b t) (cellAt b (suc t)) (cellAt a t) (cellAt a (suc t)) ≡ true) → FollowingConflict a b t
+      split : (enters (cellAt r t) (cellAt r (suc t)) (cellAt q t) (cellAt q (suc t)) ≡ true) ⊎
+          (enters (cellAt q t) (cellAt q (suc t)) (cellAt r t) (cellAt r (suc t)) ≡ true) → FollowingConflict r q t
       split (inl h) = inl (enters-says _ _ _ _ h)
       split (inr h) = inr (enters-says _ _ _ _ h)
 
-  pub following-holds : FollowingConflict a b t → follows (cellAt a t) (cellAt a (suc t)) (cellAt b t) (cellAt b (suc t)) ≡ true
+  pub following-holds : FollowingConflict r q t → follows (cellAt r t) (cellAt r (suc t)) (cellAt q t) (cellAt q (suc t)) ≡ true
   unfolding follows Follows FollowingConflict
   following-holds (inl h) = or-inl _ _ (enters-holds _ _ _ _ h)
-  following-holds (inr h) = or-inr (enters (cellAt a t) (cellAt a (suc t)) (cellAt b t) (cellAt b (suc t))) _ (enters-holds _ _ _ _ h)
+  following-holds (inr h) = or-inr (enters (cellAt r t) (cellAt r (suc t)) (cellAt q t) (cellAt q (suc t))) _ (enters-holds _ _ _ _ h)

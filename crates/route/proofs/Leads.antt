@@ -15,17 +15,17 @@ use Rattle.laws.proofs.Tests.{lt-or-le}
 use Rattle.route.proofs.Ways.{Way, Held, Same, Ahead, way-same, held-same, held-after}
 use Rattle.route.proofs.AdmissibleLaws.{ByRule, admissible-by-rule, by-rule-admissible}
 
--- x is a way that is where it ends from beat a on, no way from the start is where it ends for good earlier, and x is ahead of every
+-- φ is a way that is where it ends from beat a on, no way from the start is where it ends for good earlier, and φ is ahead of every
 -- other that is there from a on.
-pub record Leads (dock : ℕ → Bool) (H : ℕ) (ok : Rule) (start a : ℕ) (x : ℕ → ℕ) : Type 0 where
-  pub way : Way dock H ok x
-  pub held : Held H x a
-  pub least : (p : ℕ → ℕ) (b : ℕ) → Way dock H ok p → p 0 ≡ start → Held H p b → a ≤ b
-  pub first : (p : ℕ → ℕ) → Way dock H ok p → p 0 ≡ start → Held H p a → Same H p x ⊎ Ahead H x p
+pub record Leads (dock : ℕ → Bool) (H : ℕ) (ok : Rule) (start a : ℕ) (φ : ℕ → ℕ) : Type 0 where
+  pub way : Way dock H ok φ
+  pub held : Held H φ a
+  pub least : (r : ℕ → ℕ) (b : ℕ) → Way dock H ok r → r 0 ≡ start → Held H r b → a ≤ b
+  pub first : (r : ℕ → ℕ) → Way dock H ok r → r 0 ≡ start → Held H r a → Same H r φ ⊎ Ahead H φ r
 
-pub leads-same : {dock : ℕ → Bool} {H : ℕ} {ok : Rule} {start a : ℕ} {x y : ℕ → ℕ} → Leads dock H ok start a x → Same H y x →
-    Leads dock H ok start a y
-leads-same {H} {x} {y} l s =
+pub leads-same : {dock : ℕ → Bool} {H : ℕ} {ok : Rule} {start a : ℕ} {φ ψ : ℕ → ℕ} → Leads dock H ok start a φ → Same H ψ φ →
+    Leads dock H ok start a ψ
+leads-same {H} {φ} {ψ} l s =
     record {
       way = way-same (l .way) s;
       held = held-same (l .held) s;
@@ -33,9 +33,9 @@ leads-same {H} {x} {y} l s =
       first = λ p w e h. carry p (l .first p w e h);
     }
   where
-    carry : (p : ℕ → ℕ) → Same H p x ⊎ Ahead H x p → Same H p y ⊎ Ahead H y p
-    carry p (inl k) = inl (λ i h. k i h ∙ sym (s i h))
-    carry p (inr k) =
+    carry : (r : ℕ → ℕ) → Same H r φ ⊎ Ahead H φ r → Same H r ψ ⊎ Ahead H ψ r
+    carry r (inl k) = inl (λ i h. k i h ∙ sym (s i h))
+    carry r (inr k) =
         inr
         (record {
           beat = k .beat;

@@ -29,19 +29,19 @@ pub record Allowed (task : Task) (vs : List View) (t c d : ℕ) : Type 0 where
   pub beside : (d ≡ c) ⊎ SharesSide (task .width) c d
   pub stands : Standable task vs (suc t) d
 
-pub every-says : (p : View → Bool) (vs : List View) (v : View) → every p vs ≡ true → List·Memᴰ v vs → p v ≡ true
+pub every-says : (φ : View → Bool) (vs : List View) (v : View) → every φ vs ≡ true → List·Memᴰ v vs → φ v ≡ true
 unfolding every
-every-says p [] v e m = absurd (List·Memᴰ·not-nil m)
-every-says p (x ∷ vs) v e m =
+every-says φ [] v e m = absurd (List·Memᴰ·not-nil m)
+every-says φ (x ∷ vs) v e m =
     ⊎-elim
-    (λ (q : v ≡ x). rw q (and-fst (p x) (every p vs) e))
-    (λ (h : List·Memᴰ v vs). every-says p vs v (and-snd (p x) (every p vs) e) h)
+    (λ (q : v ≡ x). rw q (and-fst (φ x) (every φ vs) e))
+    (λ (h : List·Memᴰ v vs). every-says φ vs v (and-snd (φ x) (every φ vs) e) h)
     (List·Memᴰ·cases-cons m)
 
-pub every-holds : (p : View → Bool) (vs : List View) → ((v : View) → List·Memᴰ v vs → p v ≡ true) → every p vs ≡ true
+pub every-holds : (φ : View → Bool) (vs : List View) → ((v : View) → List·Memᴰ v vs → φ v ≡ true) → every φ vs ≡ true
 unfolding every
-every-holds p [] h = refl
-every-holds p (x ∷ vs) h = and-both (h x (List·Memᴰ·head refl)) (every-holds p vs (λ v m. h v (List·Memᴰ·tail m)))
+every-holds φ [] h = refl
+every-holds φ (x ∷ vs) h = and-both (h x (List·Memᴰ·head refl)) (every-holds φ vs (λ v m. h v (List·Memᴰ·tail m)))
 
 module _ (H t d : ℕ) where
   -- The three tests of a heard route.

@@ -9,23 +9,23 @@ use Rattle.route.specs.Route.{Neighbours, SharesSide}
 use Rattle.route.specs.Moves.{neighbours, near}
 use Rattle.laws.proofs.Tests.{and-both, and-fst, and-snd, or-cases, or-inl, or-inr}
 
-neighbours-says : (m n : ℕ) → neighbours m n ≡ true → Neighbours m n
+neighbours-says : (k n : ℕ) → neighbours k n ≡ true → Neighbours k n
 unfolding neighbours Neighbours
-neighbours-says m n e =
-    ⊎-elim (λ (h : eqb m (suc n) ≡ true). inl (eqb-true m (suc n) h)) (λ (h : eqb n (suc m) ≡ true). inr (eqb-true n (suc m) h))
-    (or-cases (eqb m (suc n)) (eqb n (suc m)) e)
+neighbours-says k n e =
+    ⊎-elim (λ (h : eqb k (suc n) ≡ true). inl (eqb-true k (suc n) h)) (λ (h : eqb n (suc k) ≡ true). inr (eqb-true n (suc k) h))
+    (or-cases (eqb k (suc n)) (eqb n (suc k)) e)
 
-neighbours-holds : (m n : ℕ) → Neighbours m n → neighbours m n ≡ true
+neighbours-holds : (k n : ℕ) → Neighbours k n → neighbours k n ≡ true
 unfolding neighbours Neighbours
-neighbours-holds m n =
-    ⊎-elim (λ (h : m ≡ suc n). or-inl (eqb m (suc n)) (eqb n (suc m)) (eq-eqb m (suc n) h))
-    (λ (h : n ≡ suc m). or-inr (eqb m (suc n)) (eqb n (suc m)) (eq-eqb n (suc m) h))
+neighbours-holds k n =
+    ⊎-elim (λ (h : k ≡ suc n). or-inl (eqb k (suc n)) (eqb n (suc k)) (eq-eqb k (suc n) h))
+    (λ (h : n ≡ suc k). or-inr (eqb k (suc n)) (eqb n (suc k)) (eq-eqb n (suc k) h))
 
-line-says : (x y m n : ℕ) → (eqb x y && neighbours m n) ≡ true → (x ≡ y) × Neighbours m n
-line-says x y m n e = (eqb-true x y (and-fst (eqb x y) (neighbours m n) e), neighbours-says m n (and-snd (eqb x y) (neighbours m n) e))
+line-says : (x y k n : ℕ) → (eqb x y && neighbours k n) ≡ true → (x ≡ y) × Neighbours k n
+line-says x y k n e = (eqb-true x y (and-fst (eqb x y) (neighbours k n) e), neighbours-says k n (and-snd (eqb x y) (neighbours k n) e))
 
-line-holds : (x y m n : ℕ) → (x ≡ y) × Neighbours m n → (eqb x y && neighbours m n) ≡ true
-line-holds x y m n h = and-both (eq-eqb x y (h .0)) (neighbours-holds m n (h .1))
+line-holds : (x y k n : ℕ) → (x ≡ y) × Neighbours k n → (eqb x y && neighbours k n) ≡ true
+line-holds x y k n h = and-both (eq-eqb x y (h .0)) (neighbours-holds k n (h .1))
 
 pub near-says : (w c d : ℕ) → near w c d ≡ true → (d ≡ c) ⊎ SharesSide w c d
 unfolding near SharesSide
@@ -60,10 +60,10 @@ near-holds w c d = cases
     cases (inr (inl h)) = or-inl (eqb d c || row) column (or-inr (eqb d c) row (line-holds (c / w) (d / w) (c % w) (d % w) h))
     cases (inr (inr h)) = or-inr (eqb d c || row) column (line-holds (c % w) (d % w) (c / w) (d / w) h)
 
-neighbours-sym : (m n : ℕ) → Neighbours m n → Neighbours n m
+neighbours-sym : (k n : ℕ) → Neighbours k n → Neighbours n k
 unfolding Neighbours
-neighbours-sym m n (inl e) = inr e
-neighbours-sym m n (inr e) = inl e
+neighbours-sym k n (inl e) = inr e
+neighbours-sym k n (inr e) = inl e
 
 pub shares-side-sym : (w c d : ℕ) → SharesSide w c d → SharesSide w d c
 unfolding SharesSide

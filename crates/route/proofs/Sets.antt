@@ -47,9 +47,9 @@ pub record Backward (ok : Rule) (dock : ℕ → Bool) (H a : ℕ) (F B : Sets) :
   pub leads : (t c : ℕ) → t < a → B t c ≡ true → Leading ok B t c
   pub holds : (t c : ℕ) → t < a → F t c ≡ true → Leading ok B t c → B t c ≡ true
 
--- Greedy walk: where some allowed cell of B comes next, x takes the smallest; from beat a through H it stays.
-pub record Greedy (ok : Rule) (start H a : ℕ) (B : Sets) (x : ℕ → ℕ) : Type 0 where
-  pub begins : x 0 ≡ start
-  pub takes : (t d : ℕ) → t < a → ok t (x t) d ≡ true → B (suc t) d ≡ true →
-      (ok t (x t) (x (suc t)) ≡ true) × (B (suc t) (x (suc t)) ≡ true) × (x (suc t) ≤ d)
-  pub stays : (t : ℕ) → a ≤ t → t < H → x (suc t) ≡ x t
+-- Greedy walk: where some allowed cell of B comes next, φ takes the smallest; from beat a through H it stays.
+pub record Greedy (ok : Rule) (start H a : ℕ) (B : Sets) (φ : ℕ → ℕ) : Type 0 where
+  pub begins : φ 0 ≡ start
+  pub takes : (t d : ℕ) → t < a → ok t (φ t) d ≡ true → B (suc t) d ≡ true →
+      (ok t (φ t) (φ (suc t)) ≡ true) × (B (suc t) (φ (suc t)) ≡ true) × (φ (suc t) ≤ d)
+  pub stays : (t : ℕ) → a ≤ t → t < H → φ (suc t) ≡ φ t

@@ -11,38 +11,38 @@ use Rattle.route.specs.Conflict.{VertexConflict, SwapConflict, Follows, 
 use Rattle.route.specs.Spaced.{Spaced}
 use Rattle.laws.proofs.Tests.{eq-or-ne}
 
--- Where a is at t + 1 the cell of b at t, there is one cell at t or at t + 1, or a follows b.
-at-left : {A : Type 0} (a b : List ℕ) (t : ℕ) → cellAt a (suc t) ≡ cellAt b t → (VertexConflict a b t → A) →
-    (VertexConflict a b (suc t) → A) → (Follows a b t → A) → A
+-- Where r is at t + 1 the cell of r′ at t, there is one cell at t or at t + 1, or r follows r′.
+at-left : {A : Type 0} (r r′ : List ℕ) (t : ℕ) → cellAt r (suc t) ≡ cellAt r′ t → (VertexConflict r r′ t → A) →
+    (VertexConflict r r′ (suc t) → A) → (Follows r r′ t → A) → A
 unfolding VertexConflict Follows
-at-left {A} a b t e here there follows =
-    stays (eq-or-ne (cellAt a (suc t)) (cellAt a t)) (eq-or-ne (cellAt b (suc t)) (cellAt b t))
+at-left {A} r r′ t e here there follows =
+    stays (eq-or-ne (cellAt r (suc t)) (cellAt r t)) (eq-or-ne (cellAt r′ (suc t)) (cellAt r′ t))
   where
-    stays : (cellAt a (suc t) ≡ cellAt a t) ⊎ (cellAt a (suc t) ≡ cellAt a t → ⊥) →
-        (cellAt b (suc t) ≡ cellAt b t) ⊎ (cellAt b (suc t) ≡ cellAt b t → ⊥) → A
+    stays : (cellAt r (suc t) ≡ cellAt r t) ⊎ (cellAt r (suc t) ≡ cellAt r t → ⊥) →
+        (cellAt r′ (suc t) ≡ cellAt r′ t) ⊎ (cellAt r′ (suc t) ≡ cellAt r′ t → ⊥) → A
     stays (inl p) q = here (sym p ∙ e)
     stays (inr p) (inl q) = there (e ∙ sym q)
     stays (inr p) (inr q) = follows (e, p, q)
 
-module _ (H : ℕ) (a b : List ℕ) where
-  pub free-spaced : ConflictFree H a b → Spaced H a b
+module _ (H : ℕ) (r q : List ℕ) where
+  pub free-spaced : ConflictFree H r q → Spaced H r q
   unfolding VertexConflict FollowingConflict
   free-spaced f =
       record {
         at-once = f .no-vertex;
-        behind = λ t l e. at-left a b t e (f .no-vertex t (omega arith)) (f .no-vertex (suc t) l) (λ w. f .no-following t l (inl w));
+        behind = λ t l e. at-left r q t e (f .no-vertex t (omega arith)) (f .no-vertex (suc t) l) (λ w. f .no-following t l (inl w));
         before =
-            λ t l e. at-left b a t (sym e) (λ v. f .no-vertex t (omega arith) (sym v)) (λ v. f .no-vertex (suc t) l (sym v))
+            λ t l e. at-left q r t (sym e) (λ v. f .no-vertex t (omega arith) (sym v)) (λ v. f .no-vertex (suc t) l (sym v))
             (λ w. f .no-following t l (inr w));
       }
 
-  pub spaced-free : Spaced H a b → ConflictFree H a b
+  pub spaced-free : Spaced H r q → ConflictFree H r q
   unfolding VertexConflict SwapConflict FollowingConflict Follows
   spaced-free p = record { no-vertex = p .at-once; no-swap = λ t l s. p .behind t l (s .1); no-following = no-following }
     where
-      no-following : (t : ℕ) → t < H → FollowingConflict a b t → ⊥
+      no-following : (t : ℕ) → t < H → FollowingConflict r q t → ⊥
       no-following t l (inl w) = p .behind t l (w .0)
       no-following t l (inr w) = p .before t l (sym (w .0))
 
-  pub free-is-spaced : ConflictFree H a b ↔ Spaced H a b
+  pub free-is-spaced : ConflictFree H r q ↔ Spaced H r q
   free-is-spaced = (free-spaced, spaced-free)

@@ -58,54 +58,54 @@ module _ (task : Task) where
   best-unique vs (route r) none hx hy = absurd (hy r (hx .admissible))
   best-unique vs (route r) (route q) hx hy = ap route (route-unique vs r q hx hy)
 
-  -- What is clear of vs is clear of ws.
+  -- What is clear of vs is clear of vs′.
   abbrev Covers : List View → List View → Type 0
-  Covers vs ws = (r : List ℕ) → ClearOf (task .horizon) r vs → ClearOf (task .horizon) r ws
+  Covers vs vs′ = (r : List ℕ) → ClearOf (task .horizon) r vs → ClearOf (task .horizon) r vs′
 
-  carry : (vs ws : List View) → Covers vs ws → (q : List ℕ) → Admissible task vs q → Admissible task ws q
-  carry vs ws c q adm = record { is-route = adm .is-route; clear = c q (adm .clear) }
+  carry : (vs vs′ : List View) → Covers vs vs′ → (q : List ℕ) → Admissible task vs q → Admissible task vs′ q
+  carry vs vs′ c q adm = record { is-route = adm .is-route; clear = c q (adm .clear) }
 
-  best-carry : (vs ws : List View) → Covers vs ws → Covers ws vs → (x : Answer) → Best task vs x → Best task ws x
+  best-carry : (vs vs′ : List View) → Covers vs vs′ → Covers vs′ vs → (x : Answer) → Best task vs x → Best task vs′ x
   unfolding Best
-  best-carry vs ws to from none h = λ q adm. h q (carry ws vs from q adm)
-  best-carry vs ws to from (route r) h =
+  best-carry vs vs′ to from none h = λ q adm. h q (carry vs′ vs from q adm)
+  best-carry vs vs′ to from (route r) h =
       record {
-        admissible = carry vs ws to r (h .admissible);
-        earliest = λ q a b adm. h .earliest q a b (carry ws vs from q adm);
-        first = λ q a adm. h .first q a (carry ws vs from q adm);
+        admissible = carry vs vs′ to r (h .admissible);
+        earliest = λ q a b adm. h .earliest q a b (carry vs′ vs from q adm);
+        first = λ q a adm. h .first q a (carry vs′ vs from q adm);
       }
 
-  pub best-same-clear : task .horizon ≤ 63 → (vs ws : List View) → Covers vs ws → Covers ws vs → best task vs ≡ best task ws
-  best-same-clear short vs ws to from =
-      best-unique ws (best task vs) (best task ws) (best-carry vs ws to from (best task vs) (best-meets task vs short))
-      (best-meets task ws short)
+  pub best-same-clear : task .horizon ≤ 63 → (vs vs′ : List View) → Covers vs vs′ → Covers vs′ vs → best task vs ≡ best task vs′
+  best-same-clear short vs vs′ to from =
+      best-unique vs′ (best task vs) (best task vs′) (best-carry vs vs′ to from (best task vs) (best-meets task vs short))
+      (best-meets task vs′ short)
 
   -- Order and repetition of the views do not matter.
-  pub best-same-views : task .horizon ≤ 63 → (vs ws : List View) → ((v : View) → List·Memᴰ v vs → List·Memᴰ v ws) →
-      ((v : View) → List·Memᴰ v ws → List·Memᴰ v vs) → best task vs ≡ best task ws
+  pub best-same-views : task .horizon ≤ 63 → (vs vs′ : List View) → ((v : View) → List·Memᴰ v vs → List·Memᴰ v vs′) →
+      ((v : View) → List·Memᴰ v vs′ → List·Memᴰ v vs) → best task vs ≡ best task vs′
   unfolding ClearOf
-  best-same-views short vs ws to from = best-same-clear short vs ws (λ r c v m. c v (from v m)) (λ r c v m. c v (to v m))
+  best-same-views short vs vs′ to from = best-same-clear short vs vs′ (λ r c v m. c v (from v m)) (λ r c v m. c v (to v m))
 
   -- A view that nothing conflicts with may be left out.
-  pub best-left-out : task .horizon ≤ 63 → (vs ws : List View) (v : View) → ((r : List ℕ) → ClearOfView (task .horizon) r v) →
-      best task (vs ++ (v ∷ ws)) ≡ best task (vs ++ ws)
+  pub best-left-out : task .horizon ≤ 63 → (vs vs′ : List View) (v : View) → ((r : List ℕ) → ClearOfView (task .horizon) r v) →
+      best task (vs ++ (v ∷ vs′)) ≡ best task (vs ++ vs′)
   unfolding ClearOf
-  best-left-out short vs ws v silent = best-same-clear short (vs ++ (v ∷ ws)) (vs ++ ws) fewer more
+  best-left-out short vs vs′ v silent = best-same-clear short (vs ++ (v ∷ vs′)) (vs ++ vs′) fewer more
     where
-      wider : (u : View) → List·Memᴰ u vs ⊎ List·Memᴰ u ws → List·Memᴰ u (vs ++ (v ∷ ws))
-      wider u (inl m) = Memᴰ·append-left (v ∷ ws) m
-      wider u (inr m) = Memᴰ·append-right vs (List·Memᴰ·tail m)
+      wider : (v′ : View) → List·Memᴰ v′ vs ⊎ List·Memᴰ v′ vs′ → List·Memᴰ v′ (vs ++ (v ∷ vs′))
+      wider v′ (inl m) = Memᴰ·append-left (v ∷ vs′) m
+      wider v′ (inr m) = Memᴰ·append-right vs (List·Memᴰ·tail m)
 
-      fewer : (r : List ℕ) → ClearOf (task .horizon) r (vs ++ (v ∷ ws)) → ClearOf (task .horizon) r (vs ++ ws)
+      fewer : (r : List ℕ) → ClearOf (task .horizon) r (vs ++ (v ∷ vs′)) → ClearOf (task .horizon) r (vs ++ vs′)
       fewer r c u m = c u (wider u (List·Memᴰ·append-cases vs m))
 
-      last : (r : List ℕ) → ClearOf (task .horizon) r (vs ++ ws) → (u : View) → (u ≡ v) ⊎ List·Memᴰ u ws → ClearOfView (task .horizon) r u
-      last r c u (inl e) = rw e (silent r)
-      last r c u (inr m) = c u (Memᴰ·append-right vs m)
+      last : (r : List ℕ) → ClearOf (task .horizon) r (vs ++ vs′) → (v′ : View) → (v′ ≡ v) ⊎ List·Memᴰ v′ vs′ → ClearOfView (task .horizon) r v′
+      last r c v′ (inl e) = rw e (silent r)
+      last r c v′ (inr m) = c v′ (Memᴰ·append-right vs m)
 
-      more : (r : List ℕ) → ClearOf (task .horizon) r (vs ++ ws) → ClearOf (task .horizon) r (vs ++ (v ∷ ws))
+      more : (r : List ℕ) → ClearOf (task .horizon) r (vs ++ vs′) → ClearOf (task .horizon) r (vs ++ (v ∷ vs′))
       more r c u m =
-          ⊎-elim (λ (k : List·Memᴰ u vs). c u (Memᴰ·append-left ws k)) (λ (k : List·Memᴰ u (v ∷ ws)). last r c u (List·Memᴰ·cases-cons k))
+          ⊎-elim (λ (k : List·Memᴰ u vs). c u (Memᴰ·append-left vs′ k)) (λ (k : List·Memᴰ u (v ∷ vs′)). last r c u (List·Memᴰ·cases-cons k))
           (List·Memᴰ·append-cases vs m)
 
   pub best-none : (vs : List View) → Best task vs none → (q : List ℕ) → Admissible task vs q → ⊥

@@ -39,13 +39,13 @@ module _ (cells : ℕ) (dock : ℕ → Bool) where
       at (cheapest-le (suc k) (cost (ok 0 c) (suc k) (val cells dock k (later ok))) cells d h)
 
   -- A way that is where it ends from beat j on: at beat 0 it has ended; later its rest decides.
-  pub val-least : (k : ℕ) (ok : Rule) (p : ℕ → ℕ) (j : ℕ) → Inside cells ok → Way dock k ok p → Held k p j → val cells dock k ok (p 0) ≤ j
-  val-least k ok p zero ins w h = omega (arith, val-ended k ok (p 0) (way-ended dock k ok p w h))
-  val-least zero ok p (suc j) ins w h = absurd (omega (arith, h .within))
-  val-least (suc k) ok p (suc j) ins w h =
+  pub val-least : (k : ℕ) (ok : Rule) (r : ℕ → ℕ) (j : ℕ) → Inside cells ok → Way dock k ok r → Held k r j → val cells dock k ok (r 0) ≤ j
+  val-least k ok r zero ins w h = omega (arith, val-ended k ok (r 0) (way-ended dock k ok r w h))
+  val-least zero ok r (suc j) ins w h = absurd (omega (arith, h .within))
+  val-least (suc k) ok r (suc j) ins w h =
       omega (
         arith,
-        val-le-suc k ok (p 0),
-        offer-le k ok (p 0) (p 1) (w .steps 0 (omega arith)) (ins 0 (p 0) (p 1) (w .steps 0 (omega arith))),
-        val-least k (later ok) (rest p) j (λ t. ins (suc t)) (way-rest w) (held-rest h),
+        val-le-suc k ok (r 0),
+        offer-le k ok (r 0) (r 1) (w .steps 0 (omega arith)) (ins 0 (r 0) (r 1) (w .steps 0 (omega arith))),
+        val-least k (later ok) (rest r) j (λ t. ins (suc t)) (way-rest w) (held-rest h),
       )

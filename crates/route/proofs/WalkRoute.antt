@@ -18,17 +18,17 @@ walk-length cells dock zero ok c = refl
 walk-length cells dock (suc k) ok c = ap suc (walk-length cells dock k (later ok) _)
 
 -- A list of n cells and then zeros.
-module _ (l : List ℕ) (k : ℕ) where
-  padded-at : (t : ℕ) → t < length l → getD (l ++ replicate k 0) t 0 ≡ getD l t 0
-  padded-at t h = List·getD-append l (replicate k 0) 0 t h
+module _ (xs : List ℕ) (k : ℕ) where
+  padded-at : (t : ℕ) → t < length xs → getD (xs ++ replicate k 0) t 0 ≡ getD xs t 0
+  padded-at t h = List·getD-append xs (replicate k 0) 0 t h
 
-  padded-blank : (t : ℕ) → length l ≤ t → getD (l ++ replicate k 0) t 0 ≡ 0
+  padded-blank : (t : ℕ) → length xs ≤ t → getD (xs ++ replicate k 0) t 0 ≡ 0
   padded-blank t h =
-      subst (λ (n : ℕ). getD (l ++ replicate k 0) n 0 ≡ 0) (add-sub-of-le h)
-      (getD-append-add l (replicate k 0) (t - length l) 0 ∙ zeros-at k (t - length l))
+      subst (λ (n : ℕ). getD (xs ++ replicate k 0) n 0 ≡ 0) (add-sub-of-le h)
+      (getD-append-add xs (replicate k 0) (t - length xs) 0 ∙ zeros-at k (t - length xs))
 
-  padded-length : length (l ++ replicate k 0) ≡ length l + k
-  padded-length = length-append l (replicate k 0) ∙ ap (λ (n : ℕ). length l + n) (length-replicate k 0)
+  padded-length : length (xs ++ replicate k 0) ≡ length xs + k
+  padded-length = length-append xs (replicate k 0) ∙ ap (λ (n : ℕ). length xs + n) (length-replicate k 0)
 
 module _ (task : Task) (ok : Rule) where
   cells-length : length (walk (task .cells) (task .dock) (task .horizon) ok (task .start)) ≡ suc (task .horizon)

@@ -26,14 +26,14 @@ pub record Claims : Type 0 where
   pub best-is-route : (task : Task) (vs : List View) (r : List ℕ) → task .horizon ≤ 63 → best task vs ≡ route r →
       IsRoute task r × Arrives (task .horizon) r (arrivalOf r (task .horizon))
   -- The order in which views are listed, and their repetition, do not matter.
-  pub best-same-views : (task : Task) (vs ws : List View) → task .horizon ≤ 63 → ((v : View) → List·Memᴰ v vs → List·Memᴰ v ws) →
-      ((v : View) → List·Memᴰ v ws → List·Memᴰ v vs) → best task vs ≡ best task ws
+  pub best-same-views : (task : Task) (vs vs′ : List View) → task .horizon ≤ 63 → ((v : View) → List·Memᴰ v vs → List·Memᴰ v vs′) →
+      ((v : View) → List·Memᴰ v vs′ → List·Memᴰ v vs) → best task vs ≡ best task vs′
   -- A heard route that has arrived still occupies its last cell.
   pub dock-occupied : (task : Task) (vs : List View) (r q : List ℕ) (a t : ℕ) → task .horizon ≤ 63 → List·Memᴰ (heard (route q)) vs →
       HeldFrom (task .horizon) q a → best task vs ≡ route r → a ≤ t → t ≤ task .horizon → cellAt r t ≡ cellAt q (task .horizon) → ⊥
   -- A view that shows no route may be left out; a heard none does show one once it is seen as a route (`seenAs`, crate `records`).
-  pub silent-left-out : (task : Task) (vs ws : List View) (v : View) → task .horizon ≤ 63 → ShowsNoRoute v →
-      best task (vs ++ (v ∷ ws)) ≡ best task (vs ++ ws)
+  pub silent-left-out : (task : Task) (vs vs′ : List View) (v : View) → task .horizon ≤ 63 → ShowsNoRoute v →
+      best task (vs ++ (v ∷ vs′)) ≡ best task (vs ++ vs′)
   -- The answer is none exactly if it is none with each of the docks alone.
   pub none-alone : (task : Task) (vs : List View) → task .horizon ≤ 63 →
       (best task vs ≡ none) ↔ ((d : ℕ) → task .dock d ≡ true → best (alone task d) vs ≡ none)
@@ -46,11 +46,11 @@ pub record Claims : Type 0 where
   pub docks-only : (task : Task) (dock : ℕ → Bool) (vs : List View) → ((c : ℕ) → task .dock c ≡ dock c) →
       best task vs ≡ best (withDocks task dock) vs
   -- With one dock the best answer is document 01's with that cell as goal, and its arrival document 01's.
-  pub one-dock : (task : Task) (g : ℕ) (vs : List View) (x : Answer) → ((c : ℕ) → task .dock c ≡ eqb c g) →
-      Best task vs x ↔ BestTo g task vs x
-  pub one-arrival : (g H : ℕ) (r : List ℕ) (a : ℕ) → ArrivesAt g H r a ↔ ((a ≡ arrivalOf r H) × (cellAt r H ≡ g))
+  pub one-dock : (task : Task) (d : ℕ) (vs : List View) (x : Answer) → ((c : ℕ) → task .dock c ≡ eqb c d) →
+      Best task vs x ↔ BestTo d task vs x
+  pub one-arrival : (d H : ℕ) (r : List ℕ) (a : ℕ) → ArrivesAt d H r a ↔ ((a ≡ arrivalOf r H) × (cellAt r H ≡ d))
   -- `arrivalOf` is the arrival, within the horizon.
   pub arrival-agrees : (H : ℕ) (r : List ℕ) (a : ℕ) → Arrives H r a ↔ (a ≡ arrivalOf r H)
   pub arrival-within : (H : ℕ) (r : List ℕ) → arrivalOf r H ≤ H
   -- The conflict test of any two lists of numbers, over any horizon, finds the first conflict, or that they are free.
-  pub conflict-test : (H : ℕ) (a b : List ℕ) → TestedFor H a b
+  pub conflict-test : (H : ℕ) (r q : List ℕ) → TestedFor H r q

@@ -7,31 +7,31 @@ use Rattle.route.specs.Route.{cellAt, none, route, View, unheard, heard}
 
 -- Vertex conflict (the paper's 'in one cell at one beat') at beat t.
 unfoldable pub VertexConflict : List ℕ → List ℕ → ℕ → Type 0
-VertexConflict a b t = cellAt a t ≡ cellAt b t
+VertexConflict r q t = cellAt r t ≡ cellAt q t
 
 -- Swap conflict (the paper's 'change places') between beats t and t + 1.
 unfoldable pub SwapConflict : List ℕ → List ℕ → ℕ → Type 0
-SwapConflict a b t = (cellAt a t ≡ cellAt b (suc t)) × (cellAt a (suc t) ≡ cellAt b t)
+SwapConflict r q t = (cellAt r t ≡ cellAt q (suc t)) × (cellAt r (suc t) ≡ cellAt q t)
 
--- Route a enters, between beats t and t + 1, the cell that b leaves: it is then where b was, a moves, and b does not stay.
+-- Route r enters, between beats t and t + 1, the cell that q leaves: it is then where q was, r moves, and q does not stay.
 unfoldable pub Follows : List ℕ → List ℕ → ℕ → Type 0
-Follows a b t = (cellAt a (suc t) ≡ cellAt b t) × (cellAt a (suc t) ≡ cellAt a t → ⊥) × (cellAt b (suc t) ≡ cellAt b t → ⊥)
+Follows r q t = (cellAt r (suc t) ≡ cellAt q t) × (cellAt r (suc t) ≡ cellAt r t → ⊥) × (cellAt q (suc t) ≡ cellAt q t → ⊥)
 
 -- Following conflict (the paper's 'following') between beats t and t + 1, whichever enters.
 unfoldable pub FollowingConflict : List ℕ → List ℕ → ℕ → Type 0
-FollowingConflict a b t = Follows a b t ⊎ Follows b a t
+FollowingConflict r q t = Follows r q t ⊎ Follows q r t
 
--- Routes a and b conflict through beat H.
+-- Routes r and q conflict through beat H.
 unfoldable pub Conflict : ℕ → List ℕ → List ℕ → Type 0
-Conflict H a b =
-    ((t : ℕ) × (t ≤ H) × VertexConflict a b t) ⊎
-    (((t : ℕ) × (t < H) × SwapConflict a b t) ⊎ ((t : ℕ) × (t < H) × FollowingConflict a b t))
+Conflict H r q =
+    ((t : ℕ) × (t ≤ H) × VertexConflict r q t) ⊎
+    (((t : ℕ) × (t < H) × SwapConflict r q t) ⊎ ((t : ℕ) × (t < H) × FollowingConflict r q t))
 
--- Routes a and b have none of these conflicts through beat H.
-pub record ConflictFree (H : ℕ) (a b : List ℕ) : Type 0 where
-  pub no-vertex : (t : ℕ) → t ≤ H → VertexConflict a b t → ⊥
-  pub no-swap : (t : ℕ) → t < H → SwapConflict a b t → ⊥
-  pub no-following : (t : ℕ) → t < H → FollowingConflict a b t → ⊥
+-- Routes r and q have none of these conflicts through beat H.
+pub record ConflictFree (H : ℕ) (r q : List ℕ) : Type 0 where
+  pub no-vertex : (t : ℕ) → t ≤ H → VertexConflict r q t → ⊥
+  pub no-swap : (t : ℕ) → t < H → SwapConflict r q t → ⊥
+  pub no-following : (t : ℕ) → t < H → FollowingConflict r q t → ⊥
 
 -- The view shows no route.
 unfoldable pub ShowsNoRoute : View → Type 0

@@ -32,9 +32,9 @@ follows c d x y = enters c d x y || enters x y c d
 
 -- The test of a kind at a beat up to H.
 unfoldable pub isConflict : ℕ → List ℕ → List ℕ → ℕ → ConflictKind → Bool
-isConflict H a b t sameCell = eqb (cellAt a t) (cellAt b t)
-isConflict H a b t changeOfPlaces = ltb t H && changes (cellAt a t) (cellAt a (suc t)) (cellAt b t) (cellAt b (suc t))
-isConflict H a b t following = ltb t H && follows (cellAt a t) (cellAt a (suc t)) (cellAt b t) (cellAt b (suc t))
+isConflict H r q t sameCell = eqb (cellAt r t) (cellAt q t)
+isConflict H r q t changeOfPlaces = ltb t H && changes (cellAt r t) (cellAt r (suc t)) (cellAt q t) (cellAt q (suc t))
+isConflict H r q t following = ltb t H && follows (cellAt r t) (cellAt r (suc t)) (cellAt q t) (cellAt q (suc t))
 
 -- The kinds in their order.
 unfoldable pub kinds : List ConflictKind
@@ -42,25 +42,25 @@ kinds = sameCell ∷ changeOfPlaces ∷ following ∷ []
 
 -- The first kind of a list whose test holds at beat t.
 unfoldable pub firstKind : ℕ → List ℕ → List ℕ → ℕ → List ConflictKind → ConflictAnswer
-firstKind H a b t [] = free
-firstKind H a b t (k ∷ ks) = cond (isConflict H a b t k) (dated t k) (firstKind H a b t ks)
+firstKind H r q t [] = free
+firstKind H r q t (kind ∷ rest) = cond (isConflict H r q t kind) (dated t kind) (firstKind H r q t rest)
 
 -- An answer, or the next one where it is free.
 unfoldable pub orNext : ConflictAnswer → ConflictAnswer → ConflictAnswer
 orNext free y = y
-orNext (dated t k) y = dated t k
+orNext (dated t kind) y = dated t kind
 
 -- The first conflict at the first n beats.
 unfoldable pub firstBelow : ℕ → List ℕ → List ℕ → ℕ → ConflictAnswer
-firstBelow H a b zero = free
-firstBelow H a b (suc n) = orNext (firstBelow H a b n) (firstKind H a b n kinds)
+firstBelow H r q zero = free
+firstBelow H r q (suc n) = orNext (firstBelow H r q n) (firstKind H r q n kinds)
 
 -- The first conflict through beat H, as it is computed.
 unfoldable pub firstConflict : ℕ → List ℕ → List ℕ → ConflictAnswer
-firstConflict H a b = firstBelow H a b (suc H)
+firstConflict H r q = firstBelow H r q (suc H)
 
 -- What the test says of two routes: free exactly if they have no conflict, otherwise the first one; any answer but free is a conflict.
-pub record TestedFor (H : ℕ) (a b : List ℕ) : Type 0 where
-  pub free-exactly : (firstConflict H a b ≡ free) ↔ ConflictFree H a b
-  pub first-exactly : (t : ℕ) (k : ConflictKind) → (firstConflict H a b ≡ dated t k) ↔ FirstAt H a b t k
-  pub conflict-exactly : (firstConflict H a b ≡ free → ⊥) ↔ Conflict H a b
+pub record TestedFor (H : ℕ) (r q : List ℕ) : Type 0 where
+  pub free-exactly : (firstConflict H r q ≡ free) ↔ ConflictFree H r q
+  pub first-exactly : (t : ℕ) (kind : ConflictKind) → (firstConflict H r q ≡ dated t kind) ↔ FirstAt H r q t kind
+  pub conflict-exactly : (firstConflict H r q ≡ free → ⊥) ↔ Conflict H r q

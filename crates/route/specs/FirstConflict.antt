@@ -19,17 +19,17 @@ rankOf sameCell = 0
 rankOf changeOfPlaces = 1
 rankOf following = 2
 
--- Routes a and b have a conflict of a kind at beat t, through beat H; a change of places and a following are dated by the
+-- Routes r and q have a conflict of a kind at beat t, through beat H; a change of places and a following are dated by the
 -- beat before it.
 unfoldable pub ConflictAt : ℕ → List ℕ → List ℕ → ℕ → ConflictKind → Type 0
-ConflictAt H a b t sameCell = (t ≤ H) × VertexConflict a b t
-ConflictAt H a b t changeOfPlaces = (t < H) × SwapConflict a b t
-ConflictAt H a b t following = (t < H) × FollowingConflict a b t
+ConflictAt H r q t sameCell = (t ≤ H) × VertexConflict r q t
+ConflictAt H r q t changeOfPlaces = (t < H) × SwapConflict r q t
+ConflictAt H r q t following = (t < H) × FollowingConflict r q t
 
--- The conflict at beat t of kind k is the first: there is none at an earlier beat, and none of an earlier kind at that beat.
-pub record FirstAt (H : ℕ) (a b : List ℕ) (t : ℕ) (k : ConflictKind) : Type 0 where
-  pub there : ConflictAt H a b t k
-  pub first : (u : ℕ) (j : ConflictKind) → (u < t) ⊎ ((u ≡ t) × (rankOf j < rankOf k)) → ConflictAt H a b u j → ⊥
+-- The conflict of a kind at beat t is the first: there is none at an earlier beat, and none of an earlier kind at that beat.
+pub record FirstAt (H : ℕ) (r q : List ℕ) (t : ℕ) (kind : ConflictKind) : Type 0 where
+  pub there : ConflictAt H r q t kind
+  pub first : (u : ℕ) (kind′ : ConflictKind) → (u < t) ⊎ ((u ≡ t) × (rankOf kind′ < rankOf kind)) → ConflictAt H r q u kind′ → ⊥
 
 -- The answer of the conflict test: free, or a beat with a kind.
 pub data ConflictAnswer : Type 0 where

@@ -7,7 +7,7 @@ use Rattle.route.specs.Route.{cellAt, none, route, View, unheard, heard,
 
 -- One number is the other plus 1.
 unfoldable pub neighbours : ℕ → ℕ → Bool
-neighbours m n = eqb m (suc n) || eqb n (suc m)
+neighbours k n = eqb k (suc n) || eqb n (suc k)
 
 -- d is c, or shares a side with c in a grid of width w.
 unfoldable pub near : ℕ → ℕ → ℕ → Bool
@@ -22,8 +22,8 @@ vacant H t d (heard (route q)) =
 
 -- The test holds of every view of a list.
 unfoldable pub every : (View → Bool) → List View → Bool
-every p [] = true
-every p (v ∷ vs) = p v && every p vs
+every φ [] = true
+every φ (v ∷ vs) = φ v && every φ vs
 
 -- Cell d may be stood on at beat t: it is in the grid, no wall, and no view's then or at a beat beside it.
 unfoldable pub standable : Task → List View → ℕ → ℕ → Bool

@@ -31,7 +31,7 @@ pub record Task : Type 0 where
 
 -- One number is the other plus 1.
 unfoldable pub Neighbours : ℕ → ℕ → Type 0
-Neighbours m n = (m ≡ suc n) ⊎ (n ≡ suc m)
+Neighbours k n = (k ≡ suc n) ⊎ (n ≡ suc k)
 
 -- Cells c and d of a grid of width w share a side: neighbouring columns of one row, or neighbouring rows of one column.
 unfoldable pub SharesSide : ℕ → ℕ → ℕ → Type 0

@@ -23,12 +23,12 @@ cost move never value d = elim (move d) [ true ↦ value d | false ↦ never ]
 
 -- The cheaper of two offers, a cell with its cost each; the one in hand where they cost the same.
 unfoldable pub cheaper : ℕ × ℕ → ℕ → ℕ → ℕ × ℕ
-cheaper hand d v = elim (ltb v (hand .1)) [ true ↦ (d, v) | false ↦ hand ]
+cheaper hand d x = elim (ltb x (hand .1)) [ true ↦ (d, x) | false ↦ hand ]
 
 -- The first cell below n that costs least, with its cost; 0 with `never` where every cell costs as much.
 unfoldable pub cheapest : ℕ → (ℕ → ℕ) → ℕ → ℕ × ℕ
-cheapest never f zero = (0, never)
-cheapest never f (suc n) = cheaper (cheapest never f n) n (f n)
+cheapest never φ zero = (0, never)
+cheapest never φ (suc n) = cheaper (cheapest never φ n) n (φ n)
 
 -- Cell c can be held for k more beats.
 unfoldable pub holds : ℕ → Rule → ℕ → Bool

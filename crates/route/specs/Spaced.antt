@@ -5,8 +5,8 @@ use mathlib.Core.List.{List}
 use mathlib.Core.Path.{_≡_}
 use Rattle.route.specs.Route.{cellAt}
 
--- Through beat H, a and b are in different cells, a is not where b was one beat before, and not where b is one beat later.
-pub record Spaced (H : ℕ) (a b : List ℕ) : Type 0 where
-  pub at-once : (t : ℕ) → t ≤ H → cellAt a t ≡ cellAt b t → ⊥
-  pub behind : (t : ℕ) → t < H → cellAt a (suc t) ≡ cellAt b t → ⊥
-  pub before : (t : ℕ) → t < H → cellAt a t ≡ cellAt b (suc t) → ⊥
+-- Through beat H, r and q are in different cells, r is not where q was one beat before, and not where q is one beat later.
+pub record Spaced (H : ℕ) (r q : List ℕ) : Type 0 where
+  pub at-once : (t : ℕ) → t ≤ H → cellAt r t ≡ cellAt q t → ⊥
+  pub behind : (t : ℕ) → t < H → cellAt r (suc t) ≡ cellAt q t → ⊥
+  pub before : (t : ℕ) → t < H → cellAt r t ≡ cellAt q (suc t) → ⊥

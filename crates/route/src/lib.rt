@@ -10,7 +10,7 @@ pub type Route = [u16; 64];
 
 // The last beat that counts.
 fn last_beat(horizon: u16) -> usize
-    ensures { λ r. ⌜ (r ≡ min horizon 63) × (r ≤ 63) ⌝ }
+    ensures { λ result. ⌜ (result ≡ min horizon 63) × (result ≤ 63) ⌝ }
 {
     if horizon < 63 { horizon as usize } else { 63 }
 }
@@ -29,14 +29,14 @@ pub enum FirstConflict {
 
 // Whether a move from c to d and one from x to y change places.
 fn change_places(c: u16, d: u16, x: u16, y: u16) -> bool
-    ensures { λ r. ⌜ r ≡ changes c d x y ⌝ }
+    ensures { λ result. ⌜ result ≡ changes c d x y ⌝ }
 {
     if c == y { d == x } else { false }
 }
 
 // Whether a move from c to d enters the cell that a move from x to y leaves.
 fn enters_left(c: u16, d: u16, x: u16, y: u16) -> bool
-    ensures { λ r. ⌜ r ≡ enters c d x y ⌝ }
+    ensures { λ result. ⌜ result ≡ enters c d x y ⌝ }
 {
     if d != x {
         return false;
@@ -49,7 +49,7 @@ fn enters_left(c: u16, d: u16, x: u16, y: u16) -> bool
 
 // Whether, of a move from c to d and one from x to y, one enters the cell that the other leaves.
 fn following(c: u16, d: u16, x: u16, y: u16) -> bool
-    ensures { λ r. ⌜ r ≡ follows c d x y ⌝ }
+    ensures { λ result. ⌜ result ≡ follows c d x y ⌝ }
 {
     if enters_left(c, d, x, y) {
         return true;
@@ -58,17 +58,17 @@ fn following(c: u16, d: u16, x: u16, y: u16) -> bool
 }
 
 // The first conflict of two routes through the horizon; at one beat same cell comes before change of places, and this before following.
-pub fn first_conflict(a: Route, b: Route, horizon: u16) -> FirstConflict
-    ensures answers { λ r. ⌜ conflictTold r ≡ firstConflict (min horizon 63) a b ⌝ }
+pub fn first_conflict(r: Route, q: Route, horizon: u16) -> FirstConflict
+    ensures answers { λ result. ⌜ conflictTold result ≡ firstConflict (min horizon 63) r q ⌝ }
 {
     let last = last_beat(horizon);
     let mut t: usize = 0;
     while t < last {
         let next = t + 1;
-        let c = a[t];
-        let d = a[next];
-        let x = b[t];
-        let y = b[next];
+        let c = r[t];
+        let d = r[next];
+        let x = q[t];
+        let y = q[next];
         if c == x {
             return FirstConflict::SameCell(t);
         }
@@ -80,7 +80,7 @@ pub fn first_conflict(a: Route, b: Route, horizon: u16) -> FirstConflict
         }
         t = next;
     }
-    if a[last] == b[last] {
+    if r[last] == q[last] {
         return FirstConflict::SameCell(last);
     }
     FirstConflict::Free
@@ -88,7 +88,7 @@ pub fn first_conflict(a: Route, b: Route, horizon: u16) -> FirstConflict
 
 // The least beat from which a route is at its last cell through the horizon.
 pub fn arrival(r: Route, horizon: u16) -> u16
-    ensures answers { λ a. ⌜ a ≡ arrivalOf r (min horizon 63) ⌝ }
+    ensures answers { λ result. ⌜ result ≡ arrivalOf r (min horizon 63) ⌝ }
 {
     let last = last_beat(horizon);
     let end = r[last];

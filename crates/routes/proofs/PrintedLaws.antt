@@ -16,19 +16,19 @@ use Rattle.printing.specs.declared.Printed.the-variants.{Written, Refused}
 use Rattle.printing.specs.Print.{printedOutcome, routesOf, neededFor, routesOutcome, routesMemory}
 use Rattle.printing.proofs.Theorems.{theorems}
 
-module _ (text old new : List ℕ) (r : Printed) (enough : 2659 ≤ length old) (says : printedOutcome r ≡ routesOutcome text (length old))
+module _ (text old new : List ℕ) (y : Printed) (enough : 2659 ≤ length old) (says : printedOutcome y ≡ routesOutcome text (length old))
     (stores : new ≡ routesMemory text old) where
-  outcome : printedOutcome r ≡ value (length (routesOf text))
+  outcome : printedOutcome y ≡ value (length (routesOf text))
   outcome = says ∙ theorems .always-written text (length old) enough
 
-  pub never-refused : (x : Refusal) → r ≡ Refused x → ⊥
+  pub never-refused : (x : Refusal) → y ≡ Refused x → ⊥
   unfolding printedOutcome
   never-refused x e =
       let h : refusal (x .number) (x .place) ≡ value (length (routesOf text)) = sym (ap printedOutcome e) ∙ outcome in
       let z : _≡_ {A = ℕ} 0 1 = cc in
       omega arith
 
-  printed-length : (n : ℕ) → r ≡ Written n → n ≡ length (routesOf text)
+  printed-length : (n : ℕ) → y ≡ Written n → n ≡ length (routesOf text)
   unfolding printedOutcome
   printed-length n e =
       let h : value n ≡ value (length (routesOf text)) = sym (ap printedOutcome e) ∙ outcome in
@@ -41,7 +41,7 @@ module _ (text old new : List ℕ) (r : Printed) (enough : 2659 ≤ length old) 
       stores ∙ rw (le-leb _ _ fits)
 
   -- So what is printed is counted in front.
-  pub counted : (n : ℕ) → r ≡ Written n → Counts n new × (take n new ≡ routesOf text)
+  pub counted : (n : ℕ) → y ≡ Written n → Counts n new × (take n new ≡ routesOf text)
   counted n e =
       let within = theorems .routes-within text in
       let f = put-front old new (routesOf text) n printed-put (printed-length n e) (omega arith) in

@@ -12,8 +12,8 @@ const TEXT_LENGTH: usize = 2659;
 
 // Prints the routes of any text that is a sheet, and of any other the line of its refusal; the number of printed bytes is returned.
 fn print(text: &[u8], out: &mut [u8; TEXT_LENGTH]) -> usize
-    ensures counts { λ r. ⌜ Counts r (now (out .exit)) ⌝ }
-    ensures prints { λ r. ⌜ take r (now (out .exit)) ≡ routesOf (now (text .entry)) ⌝ }
+    ensures counts { λ result. ⌜ Counts result (now (out .exit)) ⌝ }
+    ensures prints { λ result. ⌜ take result (now (out .exit)) ≡ routesOf (now (text .entry)) ⌝ }
 {
     let printed = printing::routes(text, out);
     let Printed::Written(n) = printed else {

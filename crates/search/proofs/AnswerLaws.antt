@@ -9,10 +9,10 @@ use Rattle.search.specs.declared.Found.{Found}
 use Rattle.search.specs.Answers.{answered, resultOf, outcomeOf, cellsOf, Answers}
 
 -- The same result under another name.
-pub says-same : {x : Found} {a b : Outcome Answer} → Answers x a → a ≡ b → Answers x b
+pub says-same : {x : Found} {y z : Outcome Answer} → Answers x y → y ≡ z → Answers x z
 says-same s e = rw (← e) s
 
 -- A route that is the best one.
-pub says-route : {b : Answer} {r q : List ℕ} → b ≡ route r → q ≡ r → Answers (record { outcome = Route; route = q }) (answered b)
+pub says-route : {x : Answer} {r q : List ℕ} → x ≡ route r → q ≡ r → Answers (record { outcome = Route; route = q }) (answered x)
 unfolding resultOf outcomeOf cellsOf
 says-route e h = rw (e, h) (record { answers = refl; stores = refl })

@@ -52,7 +52,7 @@ ends =
 
 -- Memory of two views: carrier 1's tag and first five cells.
 abbrev told : ℕ → ℕ → ℕ → ℕ → ℕ → ℕ → List ℕ
-told tag a b c d e = tag ∷ a ∷ b ∷ c ∷ d ∷ e ∷ replicate 124 0
+told tag c₁ c₂ c₃ c₄ c₅ = tag ∷ c₁ ∷ c₂ ∷ c₃ ∷ c₄ ∷ c₅ ∷ replicate 124 0
 
 -- Floor 2: carrier 1 goes straight, carrier 2 round it. Floor 3: with horizon 3 there is no way round. Heard none occupies carrier 1's
 -- start, which is carrier 2's dock; not heard, with any numbers beside the tag, occupies nothing. Of two docks the nearer is gone to, where

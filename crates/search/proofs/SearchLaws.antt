@@ -52,11 +52,11 @@ pub tidy-scene : (f : Floor) {g : SearchGrid} {sets : List ℕ} → g ≡ search
 tidy-scene f q t = rw q at t
 
 -- What is best in such a free table is the best answer against the views.
-pub best-views : (f : Floor) (rows : List ℕ) (i : ℕ) (m table : List ℕ) (g : SearchGrid) (cells : List ℕ) (r : Found) → g ≡ searchGridOf f →
+pub best-views : (f : Floor) (rows : List ℕ) (i : ℕ) (m table : List ℕ) (g : SearchGrid) (cells : List ℕ) (x : Found) → g ≡ searchGridOf f →
     cells ≡ docksOf f (i - 1) → IsFreeTable (searchGridOf f) (i - 1) rows m table →
-    BestIn g table (startOf f (i - 1)) (among cells (countOf f (i - 1))) r → Answers r (answered (best (taskOfRows f rows i) (viewsOf m i)))
+    BestIn g table (startOf f (i - 1)) (among cells (countOf f (i - 1))) x → Answers x (answered (best (taskOfRows f rows i) (viewsOf m i)))
 unfolding taskOfRows viewsOf searchGridOf standsAt standable isDock
-best-views f rows i m table g cells r q at is-table h =
+best-views f rows i m table g cells x q at is-table h =
     (rw (q, at) at h) (λ c. has rows (c / f .width) (c % f .width)) (records m (i - 1)) (is-table .agrees)
 
 -- A carrier that can be searched for with some views can be with others.

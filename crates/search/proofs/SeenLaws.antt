@@ -82,7 +82,7 @@ plain-from : (f : Floor) (k : ℕ) (vs : List View) → ((j : ℕ) → j < lengt
 unfolding seenFrom
 plain-from f k [] h = refl
 plain-from f k (v ∷ vs) h =
-    ap₂ (λ (w : View) (ws : List View). w ∷ ws) (plain-as f k v (h 0 (omega arith)))
+    ap₂ (λ (v : View) (vs : List View). v ∷ vs) (plain-as f k v (h 0 (omega arith)))
     (plain-from f (suc k) vs (λ j l. h (suc j) (omega arith)))
 
 pub plain-seen : (f : Floor) (vs : List View) → ((j : ℕ) → j < length vs → getD vs j unheard ≡ heard none → ⊥) → seen f vs ≡ vs
@@ -90,48 +90,48 @@ unfolding seen
 plain-seen f vs h = plain-from f 0 vs h
 
 -- Not heard is seen as not heard, and may be left out.
-from-apart : (f : Floor) (k : ℕ) (vs us : List View) → seenFrom f k (vs ++ us) ≡ seenFrom f k vs ++ seenFrom f (k + length vs) us
+from-apart : (f : Floor) (k : ℕ) (vs vs′ : List View) → seenFrom f k (vs ++ vs′) ≡ seenFrom f k vs ++ seenFrom f (k + length vs) vs′
 unfolding seenFrom
-from-apart f k [] us = rw add-zero refl
-from-apart f k (v ∷ vs) us =
+from-apart f k [] vs′ = rw add-zero refl
+from-apart f k (v ∷ vs) vs′ =
     let place : suc k + length vs ≡ k + suc (length vs) = omega arith in
-    ap (λ (ws : List View). seenAs f k v ∷ ws)
-    (from-apart f (suc k) vs us ∙ ap (λ (i : ℕ). seenFrom f (suc k) vs ++ seenFrom f i us) place)
+    ap (λ (vs : List View). seenAs f k v ∷ vs)
+    (from-apart f (suc k) vs vs′ ∙ ap (λ (i : ℕ). seenFrom f (suc k) vs ++ seenFrom f i vs′) place)
 
-unheard-apart : (f : Floor) (vs us : List View) → seen f (vs ++ (unheard ∷ us)) ≡ seen f vs ++ (unheard ∷ seenFrom f (suc (length vs)) us)
+unheard-apart : (f : Floor) (vs vs′ : List View) → seen f (vs ++ (unheard ∷ vs′)) ≡ seen f vs ++ (unheard ∷ seenFrom f (suc (length vs)) vs′)
 unfolding seen seenFrom seenAs
-unheard-apart f vs us = from-apart f 0 vs (unheard ∷ us) ∙ ap (λ (k : ℕ). seenFrom f 0 vs ++ seenFrom f k (unheard ∷ us)) (omega arith)
+unheard-apart f vs vs′ = from-apart f 0 vs (unheard ∷ vs′) ∙ ap (λ (k : ℕ). seenFrom f 0 vs ++ seenFrom f k (unheard ∷ vs′)) (omega arith)
 
 unheard-silent : ShowsNoRoute unheard
 unfolding ShowsNoRoute
 unheard-silent = inl refl
 
-pub unheard-out : (f : Floor) (task : Task) (vs us : List View) → task .horizon ≤ 63 →
-    best task (seen f (vs ++ (unheard ∷ us))) ≡ best task (seen f vs ++ seenFrom f (suc (length vs)) us)
-unheard-out f task vs us short =
-    ap (best task) (unheard-apart f vs us)
-    ∙ theorems .silent-left-out task (seen f vs) (seenFrom f (suc (length vs)) us) unheard short unheard-silent
+pub unheard-out : (f : Floor) (task : Task) (vs vs′ : List View) → task .horizon ≤ 63 →
+    best task (seen f (vs ++ (unheard ∷ vs′))) ≡ best task (seen f vs ++ seenFrom f (suc (length vs)) vs′)
+unheard-out f task vs vs′ short =
+    ap (best task) (unheard-apart f vs vs′)
+    ∙ theorems .silent-left-out task (seen f vs) (seenFrom f (suc (length vs)) vs′) unheard short unheard-silent
 
 -- Floors that agree in the horizon and the first k starts see the views of the first k carriers alike.
-parked-same : (f g : Floor) (j : ℕ) → f .horizon ≡ g .horizon → startOf f j ≡ startOf g j → parked f j ≡ parked g j
+parked-same : (f f′ : Floor) (j : ℕ) → f .horizon ≡ f′ .horizon → startOf f j ≡ startOf f′ j → parked f j ≡ parked f′ j
 unfolding parked
-parked-same f g j h s = ap₂ (λ (t c : ℕ). replicate (t + 1) c ++ replicate (63 - t) 0) h s
+parked-same f f′ j h s = ap₂ (λ (t c : ℕ). replicate (t + 1) c ++ replicate (63 - t) 0) h s
 
-as-same : (f g : Floor) (j : ℕ) (v : View) → parked f j ≡ parked g j → seenAs f j v ≡ seenAs g j v
+as-same : (f f′ : Floor) (j : ℕ) (v : View) → parked f j ≡ parked f′ j → seenAs f j v ≡ seenAs f′ j v
 unfolding seenAs
-as-same f g j unheard e = refl
-as-same f g j (heard none) e = ap (λ (r : List ℕ). heard (route r)) e
-as-same f g j (heard (route r)) e = refl
+as-same f f′ j unheard e = refl
+as-same f f′ j (heard none) e = ap (λ (r : List ℕ). heard (route r)) e
+as-same f f′ j (heard (route r)) e = refl
 
-from-same : (f g : Floor) (j k : ℕ) (vs : List View) → f .horizon ≡ g .horizon → ((i : ℕ) → i < k → startOf f i ≡ startOf g i) →
-    j + length vs ≤ k → seenFrom f j vs ≡ seenFrom g j vs
+from-same : (f f′ : Floor) (j k : ℕ) (vs : List View) → f .horizon ≡ f′ .horizon → ((i : ℕ) → i < k → startOf f i ≡ startOf f′ i) →
+    j + length vs ≤ k → seenFrom f j vs ≡ seenFrom f′ j vs
 unfolding seenFrom
-from-same f g j k [] h s l = refl
-from-same f g j k (v ∷ vs) h s l =
-    ap₂ (λ (w : View) (ws : List View). w ∷ ws) (as-same f g j v (parked-same f g j h (s j (omega arith))))
-    (from-same f g (suc j) k vs h s (omega arith))
+from-same f f′ j k [] h s l = refl
+from-same f f′ j k (v ∷ vs) h s l =
+    ap₂ (λ (v : View) (vs : List View). v ∷ vs) (as-same f f′ j v (parked-same f f′ j h (s j (omega arith))))
+    (from-same f f′ (suc j) k vs h s (omega arith))
 
-pub seen-same : (f g : Floor) (k : ℕ) (vs : List View) → f .horizon ≡ g .horizon → ((i : ℕ) → i < k → startOf f i ≡ startOf g i) →
-    length vs ≤ k → seen f vs ≡ seen g vs
+pub seen-same : (f f′ : Floor) (k : ℕ) (vs : List View) → f .horizon ≡ f′ .horizon → ((i : ℕ) → i < k → startOf f i ≡ startOf f′ i) →
+    length vs ≤ k → seen f vs ≡ seen f′ vs
 unfolding seen
-seen-same f g k vs h s l = from-same f g 0 k vs h s (omega arith)
+seen-same f f′ k vs h s l = from-same f f′ 0 k vs h s (omega arith)

@@ -38,5 +38,5 @@ pub record Claims : Type 0 where
   pub none-occupies : (f : Floor) (ws : List ℕ) (i : ℕ) (m r : List ℕ) (j t : ℕ) → searchOf f ws i m ≡ answered (route r) → j + 1 < i →
       viewAt m j ≡ heard none → t ≤ f .horizon → cellAt r t ≡ startOf f j → ⊥
   -- Not heard occupies nothing: such a view may be left out, the others being seen as before.
-  pub unheard-left-out : (f : Floor) (ws : List ℕ) (i : ℕ) (vs us : List View) → f .horizon ≤ 63 →
-      best (taskOf f ws i) (seen f (vs ++ (unheard ∷ us))) ≡ best (taskOf f ws i) (seen f vs ++ seenFrom f (suc (length vs)) us)
+  pub unheard-left-out : (f : Floor) (ws : List ℕ) (i : ℕ) (vs vs′ : List View) → f .horizon ≤ 63 →
+      best (taskOf f ws i) (seen f (vs ++ (unheard ∷ vs′))) ≡ best (taskOf f ws i) (seen f vs ++ seenFrom f (suc (length vs)) vs′)

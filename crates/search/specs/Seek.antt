@@ -20,8 +20,8 @@ taskIn g start dock free =
 abbrev pub Agrees : SearchGrid → List ℕ → Task → List View → Type 0
 Agrees g table task vs = (t c : ℕ) → t ≤ g .horizon → inSet g table t c ≡ standable task vs t c
 
--- r is the best answer of every task and views with such a free table.
+-- x is the best answer of every task and views with such a free table.
 abbrev pub BestIn : SearchGrid → List ℕ → ℕ → (ℕ → Bool) → Found → Type 0
-BestIn g table start dock r =
+BestIn g table start dock x =
     (free : ℕ → Bool) (vs : List View) → Agrees g table (taskIn g start dock free) vs →
-    Answers r (answered (best (taskIn g start dock free) vs))
+    Answers x (answered (best (taskIn g start dock free) vs))

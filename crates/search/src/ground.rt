@@ -9,7 +9,7 @@ use floor::Floor;
 // A word of n ones.
 fn ones(n: usize) -> u32
     requires { ⌜ n ≤ 32 ⌝ }
-    ensures { λ r. ⌜ r ≡ 2 ^ n - 1 ⌝ }
+    ensures { λ result. ⌜ result ≡ 2 ^ n - 1 ⌝ }
 {
     ((1u64 << n) - 1) as u32
 }
@@ -17,7 +17,7 @@ fn ones(n: usize) -> u32
 // The rows of a grid.
 fn grid_rows(w: usize, h: usize) -> Rows
     requires { ⌜ (w ≤ 32) × (h ≤ 32) ⌝ }
-    ensures { λ r. ⌜ (r ≡ gridRows w h) × (length r ≡ 32) ⌝ }
+    ensures { λ result. ⌜ (result ≡ gridRows w h) × (length result ≡ 32) ⌝ }
 {
     let full = ones(w);
     let mut rows = [0u32; Floor::MAX_HEIGHT as usize];
@@ -35,7 +35,7 @@ fn grid_rows(w: usize, h: usize) -> Rows
 pub fn free_rows(f: Floor, walls: &[u16]) -> Rows
     requires { ⌜ (1 ≤ f .width) × (f .width ≤ 32) × (f .height ≤ 32) ⌝ }
     requires { ⌜ f .walls ≤ length (now walls) ⌝ }
-    ensures { λ r. ⌜ FreeRows f (now (walls .entry)) r ⌝ }
+    ensures { λ result. ⌜ FreeRows f (now (walls .entry)) result ⌝ }
 {
     let w = f.width as usize;
     let h = f.height as usize;

@@ -53,7 +53,7 @@ pub struct Found {
 
 // No route.
 fn none() -> Found
-    ensures { λ r. ⌜ Answers r (answered Route·none) ⌝ }
+    ensures { λ result. ⌜ Answers result (answered Route·none) ⌝ }
 {
     Found {
         outcome: Outcome::None,
@@ -63,7 +63,7 @@ fn none() -> Found
 
 // A refusal.
 fn refused(x: Refusal) -> Found
-    ensures { λ r. ⌜ Answers r (refusal (x .number) (x .place)) ⌝ }
+    ensures { λ result. ⌜ Answers result (refusal (x .number) (x .place)) ⌝ }
 {
     Found {
         outcome: Outcome::Refused(x),
@@ -82,8 +82,8 @@ fn seek(
 ) -> Found
     requires { ⌜ Grid g × (g .horizon ≤ 63) × (start < g .cells) × DocksIn g count cells ⌝ }
     requires { ⌜ Tidy g (now sets) × Tidy g (now table) ⌝ }
-    ensures tidy { λ r. ⌜ Tidy g (now (sets .exit)) ⌝ }
-    ensures best { λ r. ⌜ BestIn g (now (table .entry)) start (among cells count) r ⌝ }
+    ensures tidy { λ result. ⌜ Tidy g (now (sets .exit)) ⌝ }
+    ensures best { λ result. ⌜ BestIn g (now (table .entry)) start (among cells count) result ⌝ }
 {
     if !table::member(g, table, 0, start) {
         return none();
@@ -115,8 +115,8 @@ pub fn route_in(
 ) -> Found
     requires { ⌜ Searchable f free carrier (now views) × Tidy (searchGridOf f) (now sets) ⌝ }
     requires { ⌜ IsFreeTable (searchGridOf f) (carrier - 1) free (now views) (now table) ⌝ }
-    ensures tidy { λ r. ⌜ Tidy (searchGridOf f) (now (sets .exit)) ⌝ }
-    ensures best { λ r. ⌜ Answers r (answered (best (taskOfRows f free carrier) (viewsOf (now (views .entry)) carrier))) ⌝ }
+    ensures tidy { λ result. ⌜ Tidy (searchGridOf f) (now (sets .exit)) ⌝ }
+    ensures best { λ result. ⌜ Answers result (answered (best (taskOfRows f free carrier) (viewsOf (now (views .entry)) carrier))) ⌝ }
 {
     let k = carrier as usize - 1;
     let start = f.starts[k] as usize;
@@ -134,7 +134,7 @@ pub fn route_in(
 // The best route of a carrier of a checked floor, with its free cells as rows, against the views as they stand.
 fn best_against(f: Floor, free: Rows, carrier: u16, views: &[u16]) -> Found
     requires { ⌜ Searchable f free carrier (now views) ⌝ }
-    ensures { λ r. ⌜ Answers r (answered (best (taskOfRows f free carrier) (viewsOf (now (views .entry)) carrier))) ⌝ }
+    ensures { λ result. ⌜ Answers result (answered (best (taskOfRows f free carrier) (viewsOf (now (views .entry)) carrier))) ⌝ }
 {
     let mut table = table::empty();
     free_table::make(
@@ -152,7 +152,7 @@ fn best_against(f: Floor, free: Rows, carrier: u16, views: &[u16]) -> Found
 // seen: one that has told none stays at its start.
 pub fn best_route(f: Floor, free: Rows, carrier: u16, views: &[u16]) -> Found
     requires { ⌜ Searchable f free carrier (now views) ⌝ }
-    ensures { λ r. ⌜ Answers r (answered (best (taskOfRows f free carrier) (seen f (viewsOf (now (views .entry)) carrier)))) ⌝ }
+    ensures { λ result. ⌜ Answers result (answered (best (taskOfRows f free carrier) (seen f (viewsOf (now (views .entry)) carrier)))) ⌝ }
 {
     let shown = records::seen_records(f, views, carrier as usize - 1);
     best_against(f, free, carrier, &shown)
@@ -160,7 +160,7 @@ pub fn best_route(f: Floor, free: Rows, carrier: u16, views: &[u16]) -> Found
 
 // 7: the floor has such a carrier.
 pub fn listed(f: Floor, carrier: u16) -> Checked
-    ensures { λ r. ⌜ verdictOf r ≡ demand (within 1 (f .carriers) carrier) 7 0 ⌝ }
+    ensures { λ result. ⌜ verdictOf result ≡ demand (within 1 (f .carriers) carrier) 7 0 ⌝ }
 {
     if carrier < 1 {
         return Checked::Refused(Refusal {
@@ -179,7 +179,7 @@ pub fn listed(f: Floor, carrier: u16) -> Checked
 
 // The refusals of a search, in their order.
 fn request(f: Floor, walls: &[u16], carrier: u16, views: &[u16]) -> Checked
-    ensures { λ r. ⌜ verdictOf r ≡ requestOf f (now (walls .entry)) carrier (now (views .entry)) ⌝ }
+    ensures { λ result. ⌜ verdictOf result ≡ requestOf f (now (walls .entry)) carrier (now (views .entry)) ⌝ }
 {
     let checked = floor::check(f, walls);
     let Checked::Passed = checked else {
@@ -196,7 +196,7 @@ fn request(f: Floor, walls: &[u16], carrier: u16, views: &[u16]) -> Checked
 // not heard) and 64 cells, record j − 1 being carrier j's; only those of the carriers above are looked at. One that has told none stays at
 // its start.
 pub fn search(f: Floor, walls: &[u16], carrier: u16, views: &[u16]) -> Found
-    ensures { λ r. ⌜ Answers r (searchOf f (now (walls .entry)) carrier (now (views .entry))) ⌝ }
+    ensures { λ result. ⌜ Answers result (searchOf f (now (walls .entry)) carrier (now (views .entry))) ⌝ }
 {
     let asked = request(f, walls, carrier, views);
     let Checked::Refused(x) = asked else {

@@ -25,9 +25,9 @@ unfolding valueAt
 value-number text at l = omega arith
 
 -- A number below 65535 is the value that a record holds.
-pub number-value : (text : List ℕ) (at v : ℕ) → v < 65535 → numberAt text at ≡ v → valueAt text at ≡ v
+pub number-value : (text : List ℕ) (at x : ℕ) → x < 65535 → numberAt text at ≡ x → valueAt text at ≡ x
 unfolding valueAt
-number-value text at v l e = rw e (omega arith)
+number-value text at x l e = rw e (omega arith)
 
 -- A column and a row within the grid give a cell of the grid, which gives them back.
 pub record CellTells (width height col row : ℕ) : Type 0 where

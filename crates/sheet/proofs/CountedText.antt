@@ -39,50 +39,50 @@ counted-text text at h =
       part-split text (at + 10) 5 (5 * (2 * c) + 1),
       three,
     )
-    (ap₂ (λ (x y : List ℕ). x ++ y) (field-text text at (a .0))
-    (ap₂ (λ (x y : List ℕ). x ++ y) (field-text text (at + 5) (b .0))
-    (ap₂ (λ (x y : List ℕ). x ++ y) (field-text text (at + 10) (e .0)) (line-text text (at + 15) (2 * c) (d .1)))))
+    (ap₂ (λ (xs ys : List ℕ). xs ++ ys) (field-text text at (a .0))
+    (ap₂ (λ (xs ys : List ℕ). xs ++ ys) (field-text text (at + 5) (b .0))
+    (ap₂ (λ (xs ys : List ℕ). xs ++ ys) (field-text text (at + 10) (e .0)) (line-text text (at + 15) (2 * c) (d .1)))))
 
 -- The first three of the numbers from a column on, and the others.
-module _ (text : List ℕ) (at a b c : ℕ) (vs : List ℕ)
-    (read : numbersFrom text at (length (a ∷ b ∷ c ∷ vs)) ≡ a ∷ b ∷ c ∷ vs) where
-  numbers-first : numberAt text at ≡ a
+module _ (text : List ℕ) (at x y count : ℕ) (xs : List ℕ)
+    (read : numbersFrom text at (length (x ∷ y ∷ count ∷ xs)) ≡ x ∷ y ∷ count ∷ xs) where
+  numbers-first : numberAt text at ≡ x
   unfolding numbersFrom
   numbers-first = (cc)
 
-  numbers-second : numberAt text (at + 5) ≡ b
+  numbers-second : numberAt text (at + 5) ≡ y
   unfolding numbersFrom
   numbers-second = (cc)
 
-  numbers-third : numberAt text (at + 5 + 5) ≡ c
+  numbers-third : numberAt text (at + 5 + 5) ≡ count
   unfolding numbersFrom
   numbers-third = (cc)
 
-  numbers-others : numbersFrom text (at + 5 + 5 + 5) (length vs) ≡ vs
+  numbers-others : numbersFrom text (at + 5 + 5 + 5) (length xs) ≡ xs
   unfolding numbersFrom
   numbers-others = (cc)
 
 -- What the text of a counted line's numbers tells.
-pub record CountedTells (text : List ℕ) (at a b c : ℕ) (vs : List ℕ) : Type 0 where
+pub record CountedTells (text : List ℕ) (at x y count : ℕ) (xs : List ℕ) : Type 0 where
   pub form : countedForm text at ≡ passed
-  pub first : numberAt text at ≡ a
-  pub second : numberAt text (at + 5) ≡ b
-  pub third : numberAt text (at + 10) ≡ c
-  pub others : numbersFrom text (at + 15) (2 * c) ≡ vs
+  pub first : numberAt text at ≡ x
+  pub second : numberAt text (at + 5) ≡ y
+  pub third : numberAt text (at + 10) ≡ count
+  pub others : numbersFrom text (at + 15) (2 * count) ≡ xs
 
-pub text-counted : (text : List ℕ) (at a b c : ℕ) (vs : List ℕ) → Small (a ∷ b ∷ c ∷ vs) → length vs ≡ 2 * c → 1 ≤ c → c ≤ 4
-    → part text at (countedLength c) ≡ lineOf (a ∷ b ∷ c ∷ vs) → CountedTells text at a b c vs
+pub text-counted : (text : List ℕ) (at x y count : ℕ) (xs : List ℕ) → Small (x ∷ y ∷ count ∷ xs) → length xs ≡ 2 * count → 1 ≤ count → count ≤ 4
+    → part text at (countedLength count) ≡ lineOf (x ∷ y ∷ count ∷ xs) → CountedTells text at x y count xs
 unfolding countedForm countForm countedLength numbersFrom lineForm
-text-counted text at a b c vs small n least most e =
-    let size : 16 + 10 * c ≡ 5 * length (a ∷ b ∷ c ∷ vs) + 1 = omega (arith, n) in
-    let r = text-fields text (a ∷ b ∷ c ∷ vs) at small (rw size at e) in
+text-counted text at x y count xs small n least most e =
+    let size : 16 + 10 * count ≡ 5 * length (x ∷ y ∷ count ∷ xs) + 1 = omega (arith, n) in
+    let r = text-fields text (x ∷ y ∷ count ∷ xs) at small (rw size at e) in
     let read = r .numbers in
     let z : at + 5 * 0 ≡ at = omega arith in
     let two : at + 5 + 5 ≡ at + 10 = omega arith in
     let three : at + 5 + 5 + 5 ≡ at + 15 = omega arith in
-    let third : numberAt text (at + 10) ≡ c = rw two at (numbers-third text at a b c vs read) in
-    let others : numbersFrom text (at + 15) (length vs) ≡ vs = rw three at (numbers-others text at a b c vs read) in
-    let end : at + 5 * length (a ∷ b ∷ c ∷ vs) ≡ at + 15 + 5 * (2 * c) = omega (arith, n) in
+    let third : numberAt text (at + 10) ≡ count = rw two at (numbers-third text at x y count xs read) in
+    let others : numbersFrom text (at + 15) (length xs) ≡ xs = rw three at (numbers-others text at x y count xs read) in
+    let end : at + 5 * length (x ∷ y ∷ count ∷ xs) ≡ at + 15 + 5 * (2 * count) = omega (arith, n) in
     record {
       form =
           then-passed (rw z at (r .fields 0 (omega arith)))
@@ -93,11 +93,11 @@ text-counted text at a b c vs small n least most e =
           (within-means 1 4 (numberAt text (at + 10)) .1 (omega (arith, third, least), omega (arith, third, most))))
           ∙ rw third
           (then-passed
-          (turn-passes _ (2 * c)
+          (turn-passes _ (2 * count)
           (λ i l. let q : at + 5 * (3 + i) ≡ at + 15 + 5 * i = omega arith in rw q at (r .fields (3 + i) (omega (arith, n, l)))))
           ∙ rw end at (r .newline));
-      first = numbers-first text at a b c vs read;
-      second = numbers-second text at a b c vs read;
+      first = numbers-first text at x y count xs read;
+      second = numbers-second text at x y count xs read;
       third = third;
       others = rw n at others;
     }

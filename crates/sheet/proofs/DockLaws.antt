@@ -26,54 +26,54 @@ pub cell-text-length : (width c : ℕ) → length (cellText width c) ≡ 10
 unfolding fieldOf
 cell-text-length width c = refl
 
-pub cells-length : (width : ℕ) (d : ℕ → ℕ) (m : ℕ) → length (cellNumbers width d m) ≡ 2 * m
+pub cells-length : (width : ℕ) (φ : ℕ → ℕ) (n : ℕ) → length (cellNumbers width φ n) ≡ 2 * n
 unfolding cellNumbers
-cells-length width d zero = refl
-cells-length width d (suc m) = omega (arith, cells-length width (λ (k : ℕ). d (suc k)) m)
+cells-length width φ zero = refl
+cells-length width φ (suc n) = omega (arith, cells-length width (λ (k : ℕ). φ (suc k)) n)
 
 -- Cells put one behind the other, and a newline, are the line of their numbers.
-pub cells-line : (width : ℕ) (d : ℕ → ℕ) (m : ℕ)
-    → linesOf (λ (k : ℕ). cellText width (d k)) m ++ (10 ∷ []) ≡ lineOf (cellNumbers width d m)
+pub cells-line : (width : ℕ) (φ : ℕ → ℕ) (n : ℕ)
+    → linesOf (λ (k : ℕ). cellText width (φ k)) n ++ (10 ∷ []) ≡ lineOf (cellNumbers width φ n)
 unfolding cellNumbers lineOf
-cells-line width d zero = rw (lines-none (λ (k : ℕ). cellText width (d k)))
-cells-line width d (suc m) =
-    rw (lines-front (λ (k : ℕ). cellText width (d k)) m, append-assoc, append-assoc)
-    (ap (λ (t : List ℕ). fieldOf (d 0 % width) ++ (fieldOf (d 0 / width) ++ t)) (cells-line width (λ (k : ℕ). d (suc k)) m))
+cells-line width φ zero = rw (lines-none (λ (k : ℕ). cellText width (φ k)))
+cells-line width φ (suc n) =
+    rw (lines-front (λ (k : ℕ). cellText width (φ k)) n, append-assoc, append-assoc)
+    (ap (λ (xs : List ℕ). fieldOf (φ 0 % width) ++ (fieldOf (φ 0 / width) ++ xs)) (cells-line width (λ (k : ℕ). φ (suc k)) n))
 
 -- Numbers in pairs that are the columns and rows of cells.
-pub numbers-cells : (text : List ℕ) (width : ℕ) (d : ℕ → ℕ) (m at : ℕ)
-    → ((k : ℕ) → k < m → (numberAt text (at + 10 * k) ≡ d k % width) × (numberAt text (at + 10 * k + 5) ≡ d k / width))
-    → numbersFrom text at (2 * m) ≡ cellNumbers width d m
+pub numbers-cells : (text : List ℕ) (width : ℕ) (φ : ℕ → ℕ) (n at : ℕ)
+    → ((k : ℕ) → k < n → (numberAt text (at + 10 * k) ≡ φ k % width) × (numberAt text (at + 10 * k + 5) ≡ φ k / width))
+    → numbersFrom text at (2 * n) ≡ cellNumbers width φ n
 unfolding cellNumbers numbersFrom
-numbers-cells text width d zero at h = refl
-numbers-cells text width d (suc m) at h =
+numbers-cells text width φ zero at h = refl
+numbers-cells text width φ (suc n) at h =
     let first = h 0 (omega arith) in
     let z : at + 10 * 0 ≡ at = omega arith in
-    let two : 2 * suc m ≡ suc (suc (2 * m)) = omega arith in
+    let two : 2 * suc n ≡ suc (suc (2 * n)) = omega arith in
     let on : at + 5 + 5 ≡ at + 10 = omega arith in
-    let col : numberAt text at ≡ d 0 % width = rw z at (first .0) in
-    let row : numberAt text (at + 5) ≡ d 0 / width = rw z at (first .1) in
+    let col : numberAt text at ≡ φ 0 % width = rw z at (first .0) in
+    let row : numberAt text (at + 5) ≡ φ 0 / width = rw z at (first .1) in
     rw (two, col, row, on)
-    (ap (λ (t : List ℕ). d 0 % width ∷ d 0 / width ∷ t)
-    (numbers-cells text width (λ (k : ℕ). d (suc k)) m (at + 10)
+    (ap (λ (xs : List ℕ). φ 0 % width ∷ φ 0 / width ∷ xs)
+    (numbers-cells text width (λ (k : ℕ). φ (suc k)) n (at + 10)
     (λ k l. let q : at + 10 * suc k ≡ at + 10 + 10 * k = omega arith in rw q at (h (suc k) (omega arith)))))
 
 -- The same, taken apart.
-pub cells-numbers : (text : List ℕ) (width : ℕ) (d : ℕ → ℕ) (m at : ℕ) → numbersFrom text at (2 * m) ≡ cellNumbers width d m
-    → (k : ℕ) → k < m → (numberAt text (at + 10 * k) ≡ d k % width) × (numberAt text (at + 10 * k + 5) ≡ d k / width)
+pub cells-numbers : (text : List ℕ) (width : ℕ) (φ : ℕ → ℕ) (n at : ℕ) → numbersFrom text at (2 * n) ≡ cellNumbers width φ n
+    → (k : ℕ) → k < n → (numberAt text (at + 10 * k) ≡ φ k % width) × (numberAt text (at + 10 * k + 5) ≡ φ k / width)
 unfolding cellNumbers numbersFrom
-cells-numbers text width d zero at h k l = absurd (omega arith)
-cells-numbers text width d (suc m) at h zero l =
-    let two : 2 * suc m ≡ suc (suc (2 * m)) = omega arith in
+cells-numbers text width φ zero at h k l = absurd (omega arith)
+cells-numbers text width φ (suc n) at h zero l =
+    let two : 2 * suc n ≡ suc (suc (2 * n)) = omega arith in
     let z : at + 10 * 0 ≡ at = omega arith in
     let e = rw two at h in
     rw z ((cc), (cc))
-cells-numbers text width d (suc m) at h (suc k) l =
-    let two : 2 * suc m ≡ suc (suc (2 * m)) = omega arith in
+cells-numbers text width φ (suc n) at h (suc k) l =
+    let two : 2 * suc n ≡ suc (suc (2 * n)) = omega arith in
     let on : at + 5 + 5 ≡ at + 10 = omega arith in
     let e = rw (two, on) at h in
     let q : at + 10 * suc k ≡ at + 10 + 10 * k = omega arith in
-    rw q (cells-numbers text width (λ (j : ℕ). d (suc j)) m (at + 10) (cc) k (omega arith))
+    rw q (cells-numbers text width (λ (j : ℕ). φ (suc j)) n (at + 10) (cc) k (omega arith))
 
 -- A carrier's line is as long as its dock count says.
 pub carrier-length : (f : Floor) (i : ℕ) → length (carrierLine f i) ≡ countedLength (countOf f i)
@@ -90,9 +90,9 @@ pub walls-behind : (f : Floor) (ws : List ℕ) (j : ℕ) → wallAt f (suc j) �
 unfolding wallAt
 walls-behind f ws j = rw (wall-length (f .width) (getD ws j 0)) (omega arith)
 
-pub carrier-next : (f : Floor) (i at c : ℕ) → at ≡ carrierAt f i → c ≡ countOf f i → at + (16 + 10 * c) ≡ carrierAt f (i + 1)
+pub carrier-next : (f : Floor) (i at count : ℕ) → at ≡ carrierAt f i → count ≡ countOf f i → at + (16 + 10 * count) ≡ carrierAt f (i + 1)
 unfolding carrierAt countedLength
-carrier-next f i at c e h = rw (add-one, e, h)
+carrier-next f i at count e h = rw (add-one, e, h)
 
 pub carrier-end : (f : Floor) (i : ℕ) → carrierAt f (suc i) ≡ carrierAt f i + countedLength (countOf f i)
 unfolding carrierAt
@@ -108,7 +108,7 @@ unfolding dockOf docksOf
 dock-place f i k l = part-byte (f .docks) (4 * i) 4 k l
 
 -- A dock put from its place in the record.
-pub dock-put : (m m′ : List ℕ) (at width : ℕ) {d e : ℕ} → d ≡ e → m′ ≡ put m at (cellText width e) → m′ ≡ put m at (cellText width d)
+pub dock-put : (m m′ : List ℕ) (at width : ℕ) {d n : ℕ} → d ≡ n → m′ ≡ put m at (cellText width n) → m′ ≡ put m at (cellText width d)
 dock-put m m′ at width h p = rw h p
 
 -- A carrier's line as it is put: the start, the dock count, the docks and a newline.
@@ -131,13 +131,13 @@ carrier-low f zero = omega arith
 carrier-low f (suc i) = omega (arith, carrier-low f i)
 
 -- The numbers of cells are small where each cell's are.
-pub cells-small : (width : ℕ) (d : ℕ → ℕ) (m : ℕ) → ((k : ℕ) → k < m → (d k % width < 100000) × (d k / width < 100000))
-    → Small (cellNumbers width d m)
+pub cells-small : (width : ℕ) (φ : ℕ → ℕ) (n : ℕ) → ((k : ℕ) → k < n → (φ k % width < 100000) × (φ k / width < 100000))
+    → Small (cellNumbers width φ n)
 unfolding cellNumbers
-cells-small width d zero h = tt
-cells-small width d (suc m) h =
+cells-small width φ zero h = tt
+cells-small width φ (suc n) h =
     let first = h 0 (omega arith) in
-    (first .0, (first .1, cells-small width (λ (k : ℕ). d (suc k)) m (λ k l. h (suc k) (omega arith))))
+    (first .0, (first .1, cells-small width (λ (k : ℕ). φ (suc k)) n (λ k l. h (suc k) (omega arith))))
 
 -- The four stores of a carrier's line, one behind the other.
 pub carrier-puts : (f : Floor) (i at : ℕ) (m₀ m₁ m₂ m₃ : List ℕ) → at + countedLength (countOf f i) ≤ length m₀
@@ -163,8 +163,8 @@ carrier-puts f i at m₀ m₁ m₂ m₃ l a b c =
     newline-next m₀ m₃ (front ++ docks) at (at + 15 + 10 * n) three (length-sum front docks 15 (10 * n) at size long) (omega (arith, l))
     ∙ ap (put m₀ at) (append-assoc front docks (10 ∷ []) ∙ carrier-put f i)
   where
-    length-sum : (x y : List ℕ) (p q at : ℕ) → length x ≡ p → length y ≡ q → at + length (x ++ y) ≡ at + p + q
-    length-sum x y p q at hx hy = rw length-append (omega (arith, hx, hy))
+    length-sum : (xs ys : List ℕ) (p p′ at : ℕ) → length xs ≡ p → length ys ≡ p′ → at + length (xs ++ ys) ≡ at + p + p′
+    length-sum xs ys p p′ at hx hy = rw length-append (omega (arith, hx, hy))
 
 -- The column past a carrier's line lies before the walls' lines.
 pub carrier-step : (f : Floor) (i n : ℕ) → i < n → carrierAt f (suc i) ≤ carrierAt f n

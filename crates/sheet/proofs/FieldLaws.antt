@@ -18,75 +18,75 @@ use Rattle.laws.specs.Memory.{part}
 use Rattle.laws.proofs.PartLaws.{part-byte, part-reach, part-is}
 
 -- The value of a column is the digit that it writes; a space counts as 0.
-column-value : (p v : ℕ) → column p v - 48 ≡ v / p % 10
+column-value : (p x : ℕ) → column p x - 48 ≡ x / p % 10
 unfolding column
-column-value p v = go (decLt v p)
+column-value p x = go (decLt x p)
   where
-    go : Dec (v < p) → cond (ltb v p) 32 (48 + v / p % 10) - 48 ≡ v / p % 10
-    go (yes l) = rw (lt-ltb v p l, div-eq-of-lt l)
-    go (no l) = rw (le-ltb v p (omega arith)) (omega arith)
+    go : Dec (x < p) → cond (ltb x p) 32 (48 + x / p % 10) - 48 ≡ x / p % 10
+    go (yes l) = rw (lt-ltb x p l, div-eq-of-lt l)
+    go (no l) = rw (le-ltb x p (omega arith)) (omega arith)
 
 -- A number of five digits from its digits.
-digits-sum : (v q₁ q₂ q₃ q₄ r₀ r₁ r₂ r₃ : ℕ) → 10 * q₁ + r₀ ≡ v → 10 * q₂ + r₁ ≡ q₁ → 10 * q₃ + r₂ ≡ q₂ → 10 * q₄ + r₃ ≡ q₃
-    → (((q₄ * 10 + r₃) * 10 + r₂) * 10 + r₁) * 10 + ((48 + r₀) - 48) ≡ v
-digits-sum v q₁ q₂ q₃ q₄ r₀ r₁ r₂ r₃ a b c d = omega arith
+digits-sum : (x k₁ k₂ k₃ k₄ n₀ n₁ n₂ n₃ : ℕ) → 10 * k₁ + n₀ ≡ x → 10 * k₂ + n₁ ≡ k₁ → 10 * k₃ + n₂ ≡ k₂ → 10 * k₄ + n₃ ≡ k₃
+    → (((k₄ * 10 + n₃) * 10 + n₂) * 10 + n₁) * 10 + ((48 + n₀) - 48) ≡ x
+digits-sum x k₁ k₂ k₃ k₄ n₀ n₁ n₂ n₃ a b c d = omega arith
 
 -- A quotient's last digit.
-quotient-digit : (v p : ℕ) → 10 * (v / (p * 10)) + v / p % 10 ≡ v / p
-quotient-digit v p = rw (← div-div-eq-div-mul v p 10) (div-add-mod (v / p) 10)
+quotient-digit : (x p : ℕ) → 10 * (x / (p * 10)) + x / p % 10 ≡ x / p
+quotient-digit x p = rw (← div-div-eq-div-mul x p 10) (div-add-mod (x / p) 10)
 
 -- The columns of a number up to 99999 write that number.
-pub number-columns : (v : ℕ) → v < 100000 → number (column 10000 v) (column 1000 v) (column 100 v) (column 10 v) (48 + v % 10) ≡ v
+pub number-columns : (x : ℕ) → x < 100000 → number (column 10000 x) (column 1000 x) (column 100 x) (column 10 x) (48 + x % 10) ≡ x
 unfolding number
-number-columns v l =
-    let top : v / 10000 % 10 ≡ v / 10000 = mod-eq-of-lt (omega arith) in
-    rw (column-value 10000 v, column-value 1000 v, column-value 100 v, column-value 10 v, top)
-    (digits-sum v (v / 10) (v / 100) (v / 1000) (v / 10000) (v % 10) (v / 10 % 10) (v / 100 % 10) (v / 1000 % 10)
-    (div-add-mod v 10) (quotient-digit v 10) (quotient-digit v 100) (quotient-digit v 1000))
+number-columns x l =
+    let top : x / 10000 % 10 ≡ x / 10000 = mod-eq-of-lt (omega arith) in
+    rw (column-value 10000 x, column-value 1000 x, column-value 100 x, column-value 10 x, top)
+    (digits-sum x (x / 10) (x / 100) (x / 1000) (x / 10000) (x % 10) (x / 10 % 10) (x / 100 % 10) (x / 1000 % 10)
+    (div-add-mod x 10) (quotient-digit x 10) (quotient-digit x 100) (quotient-digit x 1000))
 
 -- Five tests that hold, as five equations.
-record FiveBytes (text : List ℕ) (at v : ℕ) : Type 0 where
-  b0 : getD text at 0 ≡ column 10000 v
-  b1 : getD text (at + 1) 0 ≡ column 1000 v
-  b2 : getD text (at + 2) 0 ≡ column 100 v
-  b3 : getD text (at + 3) 0 ≡ column 10 v
-  b4 : getD text (at + 4) 0 ≡ 48 + v % 10
+record FiveBytes (text : List ℕ) (at x : ℕ) : Type 0 where
+  b0 : getD text at 0 ≡ column 10000 x
+  b1 : getD text (at + 1) 0 ≡ column 1000 x
+  b2 : getD text (at + 2) 0 ≡ column 100 x
+  b3 : getD text (at + 3) 0 ≡ column 10 x
+  b4 : getD text (at + 4) 0 ≡ 48 + x % 10
 
 -- Two tests that hold.
-and-left : (a b : Bool) → (a && b) ≡ true → a ≡ true
-and-left a b h = and-eq-true-iff a b .0 h .0
+and-left : (x y : Bool) → (x && y) ≡ true → x ≡ true
+and-left x y h = and-eq-true-iff x y .0 h .0
 
-and-right : (a b : Bool) → (a && b) ≡ true → b ≡ true
-and-right a b h = and-eq-true-iff a b .0 h .1
+and-right : (x y : Bool) → (x && y) ≡ true → y ≡ true
+and-right x y h = and-eq-true-iff x y .0 h .1
 
-and-both : {a b : Bool} → a ≡ true → b ≡ true → (a && b) ≡ true
-and-both {a} {b} h k = and-eq-true-iff a b .1 (h, k)
+and-both : {x y : Bool} → x ≡ true → y ≡ true → (x && y) ≡ true
+and-both {x} {y} h k = and-eq-true-iff x y .1 (h, k)
 
 is-field-bytes : (text : List ℕ) (at : ℕ) → isField text at ≡ true → FiveBytes text at (numberAt text at)
 unfolding isField
 is-field-bytes text at h = search (and-left, and-right, eqb-true) depth 7
 
-bytes-number : (text : List ℕ) (at v : ℕ) → v < 100000 → FiveBytes text at v → numberAt text at ≡ v
+bytes-number : (text : List ℕ) (at x : ℕ) → x < 100000 → FiveBytes text at x → numberAt text at ≡ x
 unfolding numberAt
-bytes-number text at v l r = rw (r .b0, r .b1, r .b2, r .b3, r .b4) (number-columns v l)
+bytes-number text at x l r = rw (r .b0, r .b1, r .b2, r .b3, r .b4) (number-columns x l)
 
-bytes-is-field : (text : List ℕ) (at v : ℕ) → v < 100000 → FiveBytes text at v → isField text at ≡ true
+bytes-is-field : (text : List ℕ) (at x : ℕ) → x < 100000 → FiveBytes text at x → isField text at ≡ true
 unfolding isField
-bytes-is-field text at v l r = rw (bytes-number text at v l r) (search (and-both, eq-eqb) depth 7)
+bytes-is-field text at x l r = rw (bytes-number text at x l r) (search (and-both, eq-eqb) depth 7)
 
 -- The five equations, by index.
-bytes-index : (text : List ℕ) (at v : ℕ) → FiveBytes text at v → (i : ℕ) → i < 5 → getD text (at + i) 0 ≡ getD (fieldOf v) i 0
+bytes-index : (text : List ℕ) (at x : ℕ) → FiveBytes text at x → (i : ℕ) → i < 5 → getD text (at + i) 0 ≡ getD (fieldOf x) i 0
 unfolding fieldOf
-bytes-index text at v r zero h = rw add-zero (r .b0)
-bytes-index text at v r (suc zero) h = r .b1
-bytes-index text at v r (suc (suc zero)) h = r .b2
-bytes-index text at v r (suc (suc (suc zero))) h = r .b3
-bytes-index text at v r (suc (suc (suc (suc zero)))) h = r .b4
-bytes-index text at v r (suc (suc (suc (suc (suc i))))) h = absurd (omega arith)
+bytes-index text at x r zero h = rw add-zero (r .b0)
+bytes-index text at x r (suc zero) h = r .b1
+bytes-index text at x r (suc (suc zero)) h = r .b2
+bytes-index text at x r (suc (suc (suc zero))) h = r .b3
+bytes-index text at x r (suc (suc (suc (suc zero)))) h = r .b4
+bytes-index text at x r (suc (suc (suc (suc (suc i))))) h = absurd (omega arith)
 
-index-bytes : (text : List ℕ) (at v : ℕ) → ((i : ℕ) → i < 5 → getD text (at + i) 0 ≡ getD (fieldOf v) i 0) → FiveBytes text at v
+index-bytes : (text : List ℕ) (at x : ℕ) → ((i : ℕ) → i < 5 → getD text (at + i) 0 ≡ getD (fieldOf x) i 0) → FiveBytes text at x
 unfolding fieldOf
-index-bytes text at v byte =
+index-bytes text at x byte =
     record {
       b0 = rw add-zero at (byte 0 (lit< tt));
       b1 = byte 1 (lit< tt);
@@ -96,29 +96,29 @@ index-bytes text at v byte =
     }
 
 -- Five bytes are the field that they write.
-bytes-part : (text : List ℕ) (at v : ℕ) → at + 5 ≤ length text → FiveBytes text at v → part text at 5 ≡ fieldOf v
+bytes-part : (text : List ℕ) (at x : ℕ) → at + 5 ≤ length text → FiveBytes text at x → part text at 5 ≡ fieldOf x
 unfolding fieldOf
-bytes-part text at v l r = part-is text at 5 (fieldOf v) l refl (bytes-index text at v r)
+bytes-part text at x l r = part-is text at 5 (fieldOf x) l refl (bytes-index text at x r)
 
-part-bytes : (text : List ℕ) (at v : ℕ) → part text at 5 ≡ fieldOf v → FiveBytes text at v
-part-bytes text at v e =
-    index-bytes text at v (λ i h. sym (part-byte text at 5 i h) ∙ ap (λ (b : List ℕ). getD b i 0) e)
+part-bytes : (text : List ℕ) (at x : ℕ) → part text at 5 ≡ fieldOf x → FiveBytes text at x
+part-bytes text at x e =
+    index-bytes text at x (λ i h. sym (part-byte text at 5 i h) ∙ ap (λ (xs : List ℕ). getD xs i 0) e)
 
 -- The number of five columns is at most 99999.
-columns-small : (v : ℕ) → number (column 10000 v) (column 1000 v) (column 100 v) (column 10 v) (48 + v % 10) < 100000
+columns-small : (x : ℕ) → number (column 10000 x) (column 1000 x) (column 100 x) (column 10 x) (48 + x % 10) < 100000
 unfolding number
-columns-small v =
-    rw (column-value 10000 v, column-value 1000 v, column-value 100 v, column-value 10 v)
-    (five (v / 10000 % 10) (v / 1000 % 10) (v / 100 % 10) (v / 10 % 10) (v % 10) (omega arith) (omega arith) (omega arith)
+columns-small x =
+    rw (column-value 10000 x, column-value 1000 x, column-value 100 x, column-value 10 x)
+    (five (x / 10000 % 10) (x / 1000 % 10) (x / 100 % 10) (x / 10 % 10) (x % 10) (omega arith) (omega arith) (omega arith)
     (omega arith) (omega arith))
   where
-    five : (a b c d e : ℕ) → a < 10 → b < 10 → c < 10 → d < 10 → e < 10
-        → (((a * 10 + b) * 10 + c) * 10 + d) * 10 + ((48 + e) - 48) < 100000
-    five a b c d e ha hb hc hd he = omega arith
+    five : (x₁ x₂ x₃ x₄ x₅ : ℕ) → x₁ < 10 → x₂ < 10 → x₃ < 10 → x₄ < 10 → x₅ < 10
+        → (((x₁ * 10 + x₂) * 10 + x₃) * 10 + x₄) * 10 + ((48 + x₅) - 48) < 100000
+    five x₁ x₂ x₃ x₄ x₅ ha hb hc hd he = omega arith
 
-bytes-small : (text : List ℕ) (at v : ℕ) → FiveBytes text at v → numberAt text at < 100000
+bytes-small : (text : List ℕ) (at x : ℕ) → FiveBytes text at x → numberAt text at < 100000
 unfolding numberAt
-bytes-small text at v r = rw (r .b0, r .b1, r .b2, r .b3, r .b4) (columns-small v)
+bytes-small text at x r = rw (r .b0, r .b1, r .b2, r .b3, r .b4) (columns-small x)
 
 -- A good field of the text, as a statement.
 pub is-field-good : (text : List ℕ) (at : ℕ) → isField text at ≡ true → GoodField text at
@@ -146,12 +146,12 @@ field-text text at h =
     (is-field-bytes text at (demand-holds _ 1 _ (a .1)))
 
 -- The text of a number up to 99999 is a field in good form, of that number.
-pub text-field : (text : List ℕ) (at v : ℕ) → v < 100000 → part text at 5 ≡ fieldOf v
-    → (fieldForm text at ≡ passed) × (numberAt text at ≡ v)
+pub text-field : (text : List ℕ) (at x : ℕ) → x < 100000 → part text at 5 ≡ fieldOf x
+    → (fieldForm text at ≡ passed) × (numberAt text at ≡ x)
 unfolding fieldForm fieldOf
-text-field text at v l e =
-    let r = part-bytes text at v e in (
+text-field text at x l e =
+    let r = part-bytes text at x e in (
       then-passed (demand-passes 1 (length text) (le-leb _ _ (part-reach text at 5 (lit< tt) (ap length e))))
-          ∙ demand-passes 1 at (bytes-is-field text at v l r),
-      bytes-number text at v l r,
+          ∙ demand-passes 1 at (bytes-is-field text at x l r),
+      bytes-number text at x l r,
     )

@@ -69,9 +69,9 @@ module _ (f : Floor) (ws : List ℕ) (ok : checkOf f ws ≡ passed) where
       sym (upTo-at (countIn text) (headAt text .carriers) 8 i (rw (head-same f ws ok .carriers-same) l)
       (omega (arith, bounds f ws ok .carriers .1)) ∙ count-reads i l)
 
-  places-return : (q : ℕ) → q < 32 → getD (floorAt text .docks) q 0 ≡ placeIn text (headAt text) q
+  places-return : (p : ℕ) → p < 32 → getD (floorAt text .docks) p 0 ≡ placeIn text (headAt text) p
   unfolding floorAt docksAt
-  places-return q l = listed-at (placeIn text (headAt text)) 32 q l
+  places-return p l = listed-at (placeIn text (headAt text)) 32 p l
 
   docks-return : (i k : ℕ) → i < f .carriers → k < countOf f i → dockOf f i k ≡ dockOf (floorAt text) i k
   docks-return i k l g =
@@ -113,7 +113,7 @@ module _ (f : Floor) (ws : List ℕ) (ok : checkOf f ws ≡ passed) where
   wall-place : (j : ℕ) → wallAt (floorAt text) j ≡ wallAt f j
   unfolding wallAt
   wall-place j =
-      ap (λ (e : ℕ). e + 11 * j) (ap (carrierAt (floorAt text)) carriers-counted ∙ ends (f .carriers) (omega arith))
+      ap (λ (p : ℕ). p + 11 * j) (ap (carrierAt (floorAt text)) carriers-counted ∙ ends (f .carriers) (omega arith))
 
   walls-columns : (j : ℕ) → columnPast pastPair (carrierColumn text (f .carriers)) j ≡ wallAt f j
   unfolding wallAt
@@ -133,7 +133,7 @@ module _ (f : Floor) (ws : List ℕ) (ok : checkOf f ws ≡ passed) where
   cells-return : (j : ℕ) → j < f .walls → getD ws j 0 ≡ getD (wallsAt text) j 0
   unfolding wallsAt wallsFrom
   cells-return j l =
-      sym (listed-at (λ (e : ℕ). cellAtColumn text (floorAt text .width) (floorAt text .height) (wallAt (floorAt text) e)) (floorAt text .walls) j
+      sym (listed-at (λ (p : ℕ). cellAtColumn text (floorAt text .width) (floorAt text .height) (wallAt (floorAt text) p)) (floorAt text .walls) j
       (omega (arith, walls-counted, l)) ∙ cell-there j ∙ wall-reads f ws ok j l .cell)
 
   -- A floor written and read is the same floor.
@@ -160,7 +160,7 @@ module _ (f : Floor) (ws : List ℕ) (ok : checkOf f ws ≡ passed) where
       let b : i < f .carriers = rw (head-same f ws ok .carriers-same) at l in
       rw (column-said f ws ok i ∙ columns-same f ws ok i (omega arith)) (carrier-reads f ws ok i b .form))
 
-  walls-pass : linesForm (λ (c : ℕ). lineForm text c 2) pastPair (carrierColumn text (headAt text .carriers)) (headAt text .walls) ≡ passed
+  walls-pass : linesForm (λ (column : ℕ). lineForm text column 2) pastPair (carrierColumn text (headAt text .carriers)) (headAt text .walls) ≡ passed
   unfolding linesForm
   walls-pass =
       rw (head-same f ws ok .carriers-same)

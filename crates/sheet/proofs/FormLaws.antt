@@ -27,9 +27,9 @@ turns-before check i n l h = turn-passes check i (λ k b. turn-passed check n h 
 
 module _ (text : List ℕ) where
   -- A line in good form lies within the text.
-  pub line-reach : (at m : ℕ) → lineForm text at m ≡ passed → at + 5 * m < length text
+  pub line-reach : (at k : ℕ) → lineForm text at k ≡ passed → at + 5 * k < length text
   unfolding lineForm newlineForm
-  line-reach at m h =
+  line-reach at k h =
       let a = then-both _ _ h in
       ltb-true _ _ (demand-holds _ 1 _ (then-both _ _ (a .1) .0))
 
@@ -42,15 +42,15 @@ module _ (text : List ℕ) where
       let c = then-both _ _ (b .1) in
       omega (arith, line-reach (at + 15) (2 * numberAt text (at + 10)) (c .1))
 
-  lines-reach : (form : ℕ → Verdict) (past : ℕ → ℕ) (at k : ℕ) → ((c : ℕ) → form c ≡ passed → past c ≤ length text)
+  lines-reach : (form : ℕ → Verdict) (past : ℕ → ℕ) (at k : ℕ) → ((column : ℕ) → form column ≡ passed → past column ≤ length text)
       → at ≤ length text → linesForm form past at k ≡ passed → columnPast past at k ≤ length text
   unfolding linesForm columnPast inTurn
   lines-reach form past at zero step l h = l
   lines-reach form past at (suc k) step l h = step (columnPast past at k) (then-both _ _ h .1)
 
-  pair-reach : (c : ℕ) → lineForm text c 2 ≡ passed → pastPair c ≤ length text
+  pair-reach : (column : ℕ) → lineForm text column 2 ≡ passed → pastPair column ≤ length text
   unfolding pastPair
-  pair-reach c h = omega (arith, line-reach c 2 h)
+  pair-reach column h = omega (arith, line-reach column 2 h)
 
   -- What carriers' lines in good form tell of each: its form, that it lies within the text, and its dock count.
   pub record Lined (n i : ℕ) : Type 0 where
@@ -87,7 +87,7 @@ module _ (text : List ℕ) where
     pub bounds : Bounds (headAt text)
     pub head : 31 ≤ length text
     pub carriers-form : linesForm (countedForm text) (pastCounted text) 31 (headAt text .carriers) ≡ passed
-    pub walls-form : linesForm (λ (c : ℕ). lineForm text c 2) pastPair (carrierColumn text (headAt text .carriers)) (headAt text .walls)
+    pub walls-form : linesForm (λ (column : ℕ). lineForm text column 2) pastPair (carrierColumn text (headAt text .carriers)) (headAt text .walls)
         ≡ passed
     pub size : length text ≡ carrierColumn text (headAt text .carriers) + 11 * headAt text .walls
 
@@ -105,7 +105,7 @@ module _ (text : List ℕ) where
       lines-reach (countedForm text) (pastCounted text) 31 n counted-reach first (c .0)
       in
       let walls : columnPast pastPair (columnPast (pastCounted text) 31 n) k ≤ length text =
-      lines-reach (λ (e : ℕ). lineForm text e 2) pastPair (columnPast (pastCounted text) 31 n) k pair-reach carriers (d .0)
+      lines-reach (λ (p : ℕ). lineForm text p 2) pastPair (columnPast (pastCounted text) 31 n) k pair-reach carriers (d .0)
       in
       let last = columnPast pastPair (columnPast (pastCounted text) 31 n) k in
       let tail : length text ≤ last = leb-true _ _ (demand-holds _ 1 last (d .1)) in

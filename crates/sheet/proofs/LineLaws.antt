@@ -13,24 +13,24 @@ use Rattle.sheet.specs.Text.{lineOf, linesOf, headLine, wallLine}
 use Rattle.laws.specs.Memory.{put}
 use Rattle.laws.proofs.PutLaws.{put-none, put-length, put-next, put-one}
 
-pub field-length : (v : ℕ) → length (fieldOf v) ≡ 5
+pub field-length : (x : ℕ) → length (fieldOf x) ≡ 5
 unfolding fieldOf
-field-length v = refl
+field-length x = refl
 
 -- A field behind a block.
-pub field-next : (m m′ m″ a : List ℕ) (at n v : ℕ) → m′ ≡ put m at a → m″ ≡ put m′ n (fieldOf v) → at + length a ≡ n → n + 5 ≤ length m
-    → m″ ≡ put m at (a ++ fieldOf v)
-field-next m m′ m″ a at n v e f s l = put-next m m′ m″ a (fieldOf v) at n e f s (rw field-length l)
+pub field-next : (m m′ m″ xs : List ℕ) (at n x : ℕ) → m′ ≡ put m at xs → m″ ≡ put m′ n (fieldOf x) → at + length xs ≡ n → n + 5 ≤ length m
+    → m″ ≡ put m at (xs ++ fieldOf x)
+field-next m m′ m″ xs at n x e f s l = put-next m m′ m″ xs (fieldOf x) at n e f s (rw field-length l)
 
 -- A byte behind a block, and a newline.
-pub byte-next : (v : ℕ) (m m′ a : List ℕ) (at n : ℕ) → m′ ≡ put m at a → at + length a ≡ n → n < length m
-    → set m′ n v ≡ put m at (a ++ (v ∷ []))
-byte-next v m m′ a at n e s l =
-    let size : length m′ ≡ length m = ap length e ∙ put-length m a at (omega arith) in
-    put-next m m′ (set m′ n v) a (v ∷ []) at n e (put-one m′ n v (omega arith)) s (rw add-one l)
+pub byte-next : (x : ℕ) (m m′ xs : List ℕ) (at n : ℕ) → m′ ≡ put m at xs → at + length xs ≡ n → n < length m
+    → set m′ n x ≡ put m at (xs ++ (x ∷ []))
+byte-next x m m′ xs at n e s l =
+    let size : length m′ ≡ length m = ap length e ∙ put-length m xs at (omega arith) in
+    put-next m m′ (set m′ n x) xs (x ∷ []) at n e (put-one m′ n x (omega arith)) s (rw add-one l)
 
-pub newline-next : (m m′ a : List ℕ) (at n : ℕ) → m′ ≡ put m at a → at + length a ≡ n → n < length m
-    → set m′ n 10 ≡ put m at (a ++ (10 ∷ []))
+pub newline-next : (m m′ xs : List ℕ) (at n : ℕ) → m′ ≡ put m at xs → at + length xs ≡ n → n < length m
+    → set m′ n 10 ≡ put m at (xs ++ (10 ∷ []))
 newline-next = byte-next 10
 
 -- Lines of one length.

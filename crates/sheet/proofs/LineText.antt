@@ -41,33 +41,33 @@ module _ (text : List ℕ) where
   unfolding newlineForm
   text-newline at e =
       let there : at < length text = omega (arith, part-reach text at 1 (lit< tt) (ap length e)) in
-      let byte : getD text at 0 ≡ 10 = rw add-zero at (sym (part-byte text at 1 0 (lit< tt)) ∙ ap (λ (b : List ℕ). getD b 0 0) e) in
+      let byte : getD text at 0 ≡ 10 = rw add-zero at (sym (part-byte text at 1 0 (lit< tt)) ∙ ap (λ (xs : List ℕ). getD xs 0 0) e) in
       then-passed (demand-passes 1 (length text) (lt-ltb _ _ there)) ∙ demand-passes 1 at (eq-eqb _ _ byte)
 
   -- Fields in good form and a newline behind them are the text of their numbers.
-  fields-text : (m at : ℕ) → ((i : ℕ) → i < m → fieldForm text (at + 5 * i) ≡ passed) → newlineForm text (at + 5 * m) ≡ passed
-      → part text at (5 * m + 1) ≡ lineOf (numbersFrom text at m)
+  fields-text : (k at : ℕ) → ((i : ℕ) → i < k → fieldForm text (at + 5 * i) ≡ passed) → newlineForm text (at + 5 * k) ≡ passed
+      → part text at (5 * k + 1) ≡ lineOf (numbersFrom text at k)
   unfolding lineOf numbersFrom
   fields-text zero at h n =
       let e : at + 5 * 0 ≡ at = omega arith in
       newline-text at (rw e at n)
-  fields-text (suc m) at h n =
-      let e : 5 * suc m + 1 ≡ 5 + (5 * m + 1) = omega arith in
+  fields-text (suc k) at h n =
+      let e : 5 * suc k + 1 ≡ 5 + (5 * k + 1) = omega arith in
       let z : at + 5 * 0 ≡ at = omega arith in
-      let s : at + 5 * suc m ≡ at + 5 + 5 * m = omega arith in
-      rw (e, part-split text at 5 (5 * m + 1))
-      (ap₂ (λ (x y : List ℕ). x ++ y)
+      let s : at + 5 * suc k ≡ at + 5 + 5 * k = omega arith in
+      rw (e, part-split text at 5 (5 * k + 1))
+      (ap₂ (λ (xs ys : List ℕ). xs ++ ys)
       (field-text text at (rw z at (h 0 (omega arith))))
-      (fields-text m (at + 5)
+      (fields-text k (at + 5)
       (λ i l. let q : at + 5 * suc i ≡ at + 5 + 5 * i = omega arith in rw q at (h (suc i) (omega arith)))
       (rw s at n)))
 
   -- A line in good form is the text of its numbers.
-  pub line-text : (at m : ℕ) → lineForm text at m ≡ passed → part text at (5 * m + 1) ≡ lineOf (numbersFrom text at m)
+  pub line-text : (at k : ℕ) → lineForm text at k ≡ passed → part text at (5 * k + 1) ≡ lineOf (numbersFrom text at k)
   unfolding lineForm
-  line-text at m h =
+  line-text at k h =
       let a = then-both _ _ h in
-      fields-text m at (turn-passed _ m (a .0)) (a .1)
+      fields-text k at (turn-passed _ k (a .0)) (a .1)
 
 -- Numbers that a field can write.
 abbrev pub Small : List ℕ → Type 0
@@ -75,51 +75,51 @@ Small [] = Unit {0}
 Small (v ∷ vs) = (v < 100000) × Small vs
 
 -- A line has five bytes a field and one more.
-pub line-length : (vs : List ℕ) → length (lineOf vs) ≡ 5 * length vs + 1
+pub line-length : (xs : List ℕ) → length (lineOf xs) ≡ 5 * length xs + 1
 unfolding lineOf
 line-length [] = refl
-line-length (v ∷ vs) = rw (length-append, field-length, line-length vs) (omega arith)
+line-length (v ∷ xs) = rw (length-append, field-length, line-length xs) (omega arith)
 
 -- What the text of numbers is: fields in good form, a newline behind them, and those numbers.
-pub record LineTells (text : List ℕ) (at : ℕ) (vs : List ℕ) : Type 0 where
-  pub fields : (i : ℕ) → i < length vs → fieldForm text (at + 5 * i) ≡ passed
-  pub newline : newlineForm text (at + 5 * length vs) ≡ passed
-  pub numbers : numbersFrom text at (length vs) ≡ vs
+pub record LineTells (text : List ℕ) (at : ℕ) (xs : List ℕ) : Type 0 where
+  pub fields : (i : ℕ) → i < length xs → fieldForm text (at + 5 * i) ≡ passed
+  pub newline : newlineForm text (at + 5 * length xs) ≡ passed
+  pub numbers : numbersFrom text at (length xs) ≡ xs
 
 -- A field in front of a line.
-line-cons : (text vs : List ℕ) (v at : ℕ) → v < 100000 → part text at 5 ≡ fieldOf v → LineTells text (at + 5) vs
-    → LineTells text at (v ∷ vs)
+line-cons : (text xs : List ℕ) (y at : ℕ) → y < 100000 → part text at 5 ≡ fieldOf y → LineTells text (at + 5) xs
+    → LineTells text at (y ∷ xs)
 unfolding numbersFrom
-line-cons text vs v at l e r =
+line-cons text xs y at l e r =
     record {
       fields = field;
       newline = rw shift (r .newline);
-      numbers = ap₂ (λ (x : ℕ) (xs : List ℕ). x ∷ xs) (text-field text at v l e .1) (r .numbers);
+      numbers = ap₂ (λ (x : ℕ) (xs : List ℕ). x ∷ xs) (text-field text at y l e .1) (r .numbers);
     }
   where
-    shift : at + 5 * suc (length vs) ≡ at + 5 + 5 * length vs
+    shift : at + 5 * suc (length xs) ≡ at + 5 + 5 * length xs
     shift = omega arith
 
-    field : (i : ℕ) → i < suc (length vs) → fieldForm text (at + 5 * i) ≡ passed
-    field zero h = let z : at + 5 * 0 ≡ at = omega arith in rw z (text-field text at v l e .0)
+    field : (i : ℕ) → i < suc (length xs) → fieldForm text (at + 5 * i) ≡ passed
+    field zero h = let z : at + 5 * 0 ≡ at = omega arith in rw z (text-field text at y l e .0)
     field (suc i) h = let q : at + 5 * suc i ≡ at + 5 + 5 * i = omega arith in rw q (r .fields i (omega arith))
 
 -- The text of numbers, taken apart.
-pub text-fields : (text vs : List ℕ) (at : ℕ) → Small vs → part text at (5 * length vs + 1) ≡ lineOf vs → LineTells text at vs
+pub text-fields : (text xs : List ℕ) (at : ℕ) → Small xs → part text at (5 * length xs + 1) ≡ lineOf xs → LineTells text at xs
 unfolding lineOf numbersFrom
 text-fields text [] at small e =
     let z : at + 5 * 0 ≡ at = omega arith in
     record { fields = λ i l. absurd (omega arith); newline = rw z (text-newline text at e); numbers = refl }
-text-fields text (v ∷ vs) at small e =
-    let w : 5 * suc (length vs) + 1 ≡ 5 + (5 * length vs + 1) = omega arith in
-    let d = part-blocks text (fieldOf v) (lineOf vs) at 5 (5 * length vs + 1) (field-length v) (line-length vs) (omega arith)
+text-fields text (v ∷ xs) at small e =
+    let w : 5 * suc (length xs) + 1 ≡ 5 + (5 * length xs + 1) = omega arith in
+    let d = part-blocks text (fieldOf v) (lineOf xs) at 5 (5 * length xs + 1) (field-length v) (line-length xs) (omega arith)
     (rw w at e) in
-    line-cons text vs v at (small .0) (d .0) (text-fields text vs (at + 5) (small .1) (d .1))
+    line-cons text xs v at (small .0) (d .0) (text-fields text xs (at + 5) (small .1) (d .1))
 
 -- The text of numbers up to 99999 is a line in good form, of those numbers.
-pub text-line : (text vs : List ℕ) (at : ℕ) → Small vs → part text at (5 * length vs + 1) ≡ lineOf vs
-    → (lineForm text at (length vs) ≡ passed) × (numbersFrom text at (length vs) ≡ vs)
+pub text-line : (text xs : List ℕ) (at : ℕ) → Small xs → part text at (5 * length xs + 1) ≡ lineOf xs
+    → (lineForm text at (length xs) ≡ passed) × (numbersFrom text at (length xs) ≡ xs)
 unfolding lineForm
-text-line text vs at small e =
-    let r = text-fields text vs at small e in
-    (then-passed (turn-passes _ (length vs) (r .fields)) ∙ r .newline, r .numbers)
+text-line text xs at small e =
+    let r = text-fields text xs at small e in
+    (then-passed (turn-passes _ (length xs) (r .fields)) ∙ r .newline, r .numbers)

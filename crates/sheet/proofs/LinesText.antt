@@ -34,7 +34,7 @@ module _ (text : List ℕ) (line : ℕ → List ℕ) (at : ℕ → ℕ) (behind 
   parts-lines zero h = part-none text (at 0)
   parts-lines (suc k) h =
       rw (length-append, part-split text (at 0) (length (linesOf line k)) (length (line k)), lines-span line at behind k)
-      (ap₂ (λ (x y : List ℕ). x ++ y) (parts-lines k (λ i l. h i (omega arith))) (h k (omega arith)))
+      (ap₂ (λ (xs ys : List ℕ). xs ++ ys) (parts-lines k (λ i l. h i (omega arith))) (h k (omega arith)))
 
   -- The text of lines, line by line.
   pub lines-parts : ((i : ℕ) → 0 < length (line i)) → (k : ℕ) → part text (at 0) (length (linesOf line k)) ≡ linesOf line k

@@ -25,28 +25,28 @@ Low b passed = Unit {0}
 Low b (refused k p) = p ≤ b
 
 module _ (b : ℕ) where
-  low-then : (u v : Verdict) → Low b u → (u ≡ passed → Low b v) → Low b (u then v)
+  low-then : (x y : Verdict) → Low b x → (x ≡ passed → Low b y) → Low b (x then y)
   unfolding _then_ Low
-  low-then passed v l h = h refl
-  low-then (refused k p) v l h = l
+  low-then passed y l h = h refl
+  low-then (refused k p) y l h = l
 
-  low-demand : (t : Bool) (k p : ℕ) → (t ≡ false → p ≤ b) → Low b (demand t k p)
+  low-demand : (x : Bool) (k p : ℕ) → (x ≡ false → p ≤ b) → Low b (demand x k p)
   unfolding demand Low
   low-demand true k p h = tt
   low-demand false k p h = h refl
 
-  low-turn : (check : ℕ → Verdict) (m : ℕ) → ((i : ℕ) → i < m → inTurn check i ≡ passed → Low b (check i)) → Low b (inTurn check m)
+  low-turn : (check : ℕ → Verdict) (k : ℕ) → ((i : ℕ) → i < k → inTurn check i ≡ passed → Low b (check i)) → Low b (inTurn check k)
   unfolding inTurn Low
   low-turn check zero h = tt
-  low-turn check (suc m) h = low-then (inTurn check m) (check m) (low-turn check m (λ i l. h i (omega arith))) (h m (omega arith))
+  low-turn check (suc k) h = low-then (inTurn check k) (check k) (low-turn check k (λ i l. h i (omega arith))) (h k (omega arith))
 
-  low-each : (k p : ℕ) (ok : ℕ → Bool) (m : ℕ) → p + m ≤ b → Low b (demandEach k p ok m)
+  low-each : (k p : ℕ) (ok : ℕ → Bool) (n : ℕ) → p + n ≤ b → Low b (demandEach k p ok n)
   unfolding demandEach
-  low-each k p ok m l = low-turn (λ i. demand (ok i) k (p + i)) m (λ i h q. low-demand (ok i) k (p + i) (λ e. omega arith))
+  low-each k p ok n l = low-turn (λ i. demand (ok i) k (p + i)) n (λ i h q. low-demand (ok i) k (p + i) (λ e. omega arith))
 
-  low-means : (v : Verdict) (k p : ℕ) → Low b v → v ≡ refused k p → p ≤ b
+  low-means : (x : Verdict) (k p : ℕ) → Low b x → x ≡ refused k p → p ≤ b
   unfolding Low
-  low-means v k p l e = rw e at l
+  low-means x k p l e = rw e at l
 
   module _ (text : List ℕ) where
     low-field : (at : ℕ) → at + 5 ≤ b → Low b (fieldForm text at)
@@ -61,11 +61,11 @@ module _ (b : ℕ) where
         low-then _ _ (low-demand _ 1 (length text) (λ e. omega (arith, ltb-false at (length text) e)))
         (λ e. low-demand _ 1 at (λ q. omega arith))
 
-    low-line : (at m : ℕ) → at + 5 * m + 1 ≤ b → Low b (lineForm text at m)
+    low-line : (at k : ℕ) → at + 5 * k + 1 ≤ b → Low b (lineForm text at k)
     unfolding lineForm
-    low-line at m l =
-        low-then _ _ (low-turn (λ i. fieldForm text (at + 5 * i)) m (λ i h q. low-field (at + 5 * i) (omega arith)))
-        (λ e. low-newline (at + 5 * m) (omega arith))
+    low-line at k l =
+        low-then _ _ (low-turn (λ i. fieldForm text (at + 5 * i)) k (λ i h q. low-field (at + 5 * i) (omega arith)))
+        (λ e. low-newline (at + 5 * k) (omega arith))
 
     low-counted : (at : ℕ) → at + 56 ≤ b → Low b (countedForm text at)
     unfolding countedForm countForm

@@ -19,25 +19,25 @@ use Rattle.sheet.specs.Values.{headAt}
 use Rattle.sheet.specs.Read.{formOf}
 
 -- A refusal is the answer of the whole chain, and after a pass the rest is asked.
-pub handed-on : {a : Reached} {x : Refusal} {u : Verdict} (v w : Verdict) (c : ℕ) → a ≡ reachedOf v c → a ≡ Refused x → u ≡ saidBy a
-    → u ≡ (v then w)
-handed-on v w c h e s =
-    let r = line-refused v c h e in
-    s ∙ said-verdict v c h ∙ r ∙ sym (then-refused w r)
+pub handed-on : {y : Reached} {cause : Refusal} {z : Verdict} (x x′ : Verdict) (column : ℕ) → y ≡ reachedOf x column → y ≡ Refused cause → z ≡ saidBy y
+    → z ≡ (x then x′)
+handed-on x x′ column h e s =
+    let r = line-refused x column h e in
+    s ∙ said-verdict x column h ∙ r ∙ sym (then-refused x′ r)
 
-pub goes-past : {a : Reached} {x : ℕ} {u : Verdict} (v w : Verdict) (c : ℕ) → a ≡ reachedOf v c → a ≡ At x → u ≡ w → u ≡ (v then w)
-goes-past v w c h e s = s ∙ sym (then-passed (reaches v c h e .0))
+pub goes-past : {y : Reached} {n : ℕ} {z : Verdict} (x x′ : Verdict) (column : ℕ) → y ≡ reachedOf x column → y ≡ At n → z ≡ x′ → z ≡ (x then x′)
+goes-past x x′ column h e s = s ∙ sym (then-passed (reaches x column h e .0))
 
 -- Behind a line 1 in good form the limits and the other lines' form are left.
-pub behind-head : {a : Reached} {x : ℕ} {f : Floor} {u : Verdict} (text : List ℕ) (c : ℕ) → a ≡ reachedOf (lineForm text 0 6) c → a ≡ At x
-    → f ≡ headAt text → u ≡ (limitsOf f then restForm text f) → u ≡ formOf text
+pub behind-head : {y : Reached} {x : ℕ} {f : Floor} {z : Verdict} (text : List ℕ) (column : ℕ) → y ≡ reachedOf (lineForm text 0 6) column → y ≡ At x
+    → f ≡ headAt text → z ≡ (limitsOf f then restForm text f) → z ≡ formOf text
 unfolding formOf
-behind-head text c h e l s = goes-past _ _ c h e (rw l at s)
+behind-head text column h e l s = goes-past _ _ column h e (rw l at s)
 
 module _ (text : List ℕ) (f : Floor) {carriers : Reached}
     (first : carriers ≡ reachedOf (linesForm (countedForm text) (pastCounted text) 31 (f .carriers))
     (columnPast (pastCounted text) 31 (f .carriers))) where
-  pub ends-first : {x : Refusal} {u : Verdict} → carriers ≡ Refused x → u ≡ saidBy carriers → u ≡ restForm text f
+  pub ends-first : {x : Refusal} {y : Verdict} → carriers ≡ Refused x → y ≡ saidBy carriers → y ≡ restForm text f
   unfolding restForm
   ends-first e s = handed-on _ _ _ first e s
 
@@ -53,19 +53,19 @@ module _ (text : List ℕ) (f : Floor) {carriers : Reached}
         let r = reaches _ _ first passed-first in
         omega (arith, few, r .1, counted-columns text 31 (f .carriers) (r .0))
 
-    module _ {walls : Reached} (second : walls ≡ reachedOf (linesForm (λ (e : ℕ). lineForm text e 2) pastPair column (f .walls))
+    module _ {walls : Reached} (second : walls ≡ reachedOf (linesForm (λ (p : ℕ). lineForm text p 2) pastPair column (f .walls))
         (columnPast pastPair column (f .walls))) where
-      from-carriers : walls ≡ reachedOf (linesForm (λ (e : ℕ). lineForm text e 2) pastPair (carrierColumn text (f .carriers)) (f .walls))
+      from-carriers : walls ≡ reachedOf (linesForm (λ (p : ℕ). lineForm text p 2) pastPair (carrierColumn text (f .carriers)) (f .walls))
           (wallColumn text (f .carriers) (f .walls))
       unfolding wallColumn
       from-carriers = rw walls-begin at second
 
-      pub ends-second : {x : Refusal} {u : Verdict} → walls ≡ Refused x → u ≡ saidBy walls → u ≡ restForm text f
+      pub ends-second : {x : Refusal} {y : Verdict} → walls ≡ Refused x → y ≡ saidBy walls → y ≡ restForm text f
       unfolding restForm
       ends-second e s = goes-past _ _ _ first passed-first (handed-on _ _ _ from-carriers e s)
 
-      pub ends-third : {last : ℕ} {end : Reached} {u : Verdict} → walls ≡ At last → end ≡ reachedOf (endForm text last) last
-          → u ≡ saidBy end → u ≡ restForm text f
+      pub ends-third : {last : ℕ} {end : Reached} {x : Verdict} → walls ≡ At last → end ≡ reachedOf (endForm text last) last
+          → x ≡ saidBy end → x ≡ restForm text f
       unfolding restForm
       ends-third e g s =
           let there = reaches _ _ from-carriers e .1 in

@@ -28,15 +28,15 @@ pub write-passed : (f : Floor) (ws old new : List ℕ) → passed ≡ writeVerdi
 unfolding writeSheet
 write-passed f ws old new v e = (v, e ∙ sheet-front f ws old ∙ sym (when-passed _ (sym v)))
 
-pub write-refused : {a : Checked} {x : Refusal} (f : Floor) (ws old : List ℕ) → verdictOf a ≡ writeVerdict f ws (length old) → a ≡ Refused x
-    → (verdictOf a ≡ writeVerdict f ws (length old)) × (old ≡ writeSheet f ws old)
+pub write-refused : {y : Checked} {x : Refusal} (f : Floor) (ws old : List ℕ) → verdictOf y ≡ writeVerdict f ws (length old) → y ≡ Refused x
+    → (verdictOf y ≡ writeVerdict f ws (length old)) × (old ≡ writeSheet f ws old)
 unfolding writeSheet
 write-refused f ws old v e = (v, sym (when-refused _ (refuses v e)))
 
 -- A refusal with the fresh floor is the answer of checks that refuse.
-pub turned-back : {a b : Checked} {g : Floor} {k p : ℕ} (v : Verdict) (f : Floor) → verdictOf a ≡ v → v ≡ refused k p
-    → (b ≡ a) × (g ≡ freshFloor) → (verdictOf b ≡ v) × (g ≡ whenPassed v f freshFloor)
-turned-back v f told bad made = (ap verdictOf (made .0) ∙ told, made .1 ∙ sym (when-refused f bad))
+pub turned-back : {x y : Checked} {f′ : Floor} {k p : ℕ} (z : Verdict) (f : Floor) → verdictOf x ≡ z → z ≡ refused k p
+    → (y ≡ x) × (f′ ≡ freshFloor) → (verdictOf y ≡ z) × (f′ ≡ whenPassed z f freshFloor)
+turned-back z f told bad made = (ap verdictOf (made .0) ∙ told, made .1 ∙ sym (when-refused f bad))
 
 -- Where 3 to 17 pass too, what was read is the floor that the text says.
 pub own-floor : (text : List ℕ) (f : Floor) → f ≡ whenPassed (formOf text) (floorAt text) freshFloor → sheetVerdict text ≡ passed →
@@ -45,11 +45,11 @@ unfolding sheetVerdict
 own-floor text f e h = e ∙ when-passed _ (then-both _ _ h .0)
 
 -- Then 9 alone is left to be told.
-pub own-then-length : {a : Checked} (text : List ℕ) (f : Floor) (lent : ℕ) (u : Verdict) → verdictOf a ≡ sheetVerdict text →
-    f ≡ whenPassed (formOf text) (floorAt text) freshFloor → a ≡ Passed → u ≡ longEnough (f .walls) lent → u ≡ readVerdict text lent
+pub own-then-length : {x : Checked} (text : List ℕ) (f : Floor) (lent : ℕ) (y : Verdict) → verdictOf x ≡ sheetVerdict text →
+    f ≡ whenPassed (formOf text) (floorAt text) freshFloor → x ≡ Passed → y ≡ longEnough (f .walls) lent → y ≡ readVerdict text lent
 unfolding readVerdict
-own-then-length text f lent u told own ok h =
-    then-next told ok (h ∙ ap (λ (g : Floor). longEnough (g .walls) lent) (own-floor text f own (passes told ok)))
+own-then-length text f lent y told own ok h =
+    then-next told ok (h ∙ ap (λ (f : Floor). longEnough (f .walls) lent) (own-floor text f own (passes told ok)))
 
 -- A sheet that is read is in good form, its floor passes 3 to 6, and its walls fit the lent memory.
 pub record ReadTells (text : List ℕ) (lent : ℕ) : Type 0 where

@@ -61,7 +61,7 @@ walls-part text f ws h =
 
 -- Each wall's line is in good form where all are; line 1 counts the walls.
 each-wall : (text : List ℕ) (f : Floor)
-    → linesForm (λ (c : ℕ). lineForm text c 2) pastPair (carrierColumn text (f .carriers)) (f .walls) ≡ passed
+    → linesForm (λ (column : ℕ). lineForm text column 2) pastPair (carrierColumn text (f .carriers)) (f .walls) ≡ passed
     → (j : ℕ) → j < f .walls → lineForm text (wallColumn text (f .carriers) j) 2 ≡ passed
 unfolding linesForm wallColumn
 each-wall text f h j l = turn-passed _ (f .walls) h j l
@@ -86,13 +86,13 @@ unfolding floorAt headAt
 walls-end text e = sym e
 
 -- A carrier's line whose numbers are those of the floor, and a wall's.
-carrier-text : (text : List ℕ) (f : Floor) (i at c : ℕ) {s : ℕ} → startOf f i ≡ s → countOf f i ≡ c
-    → (s % f .width ≡ numberAt text at) × (s / f .width ≡ numberAt text (at + 5))
-    → numbersFrom text (at + 15) (2 * c) ≡ cellNumbers (f .width) (dockOf f i) c → c ≡ numberAt text (at + 10)
+carrier-text : (text : List ℕ) (f : Floor) (i at n : ℕ) {start′ : ℕ} → startOf f i ≡ start′ → countOf f i ≡ n
+    → (start′ % f .width ≡ numberAt text at) × (start′ / f .width ≡ numberAt text (at + 5))
+    → numbersFrom text (at + 15) (2 * n) ≡ cellNumbers (f .width) (dockOf f i) n → n ≡ numberAt text (at + 10)
     → countedForm text at ≡ passed → part text at (countedLength (countOf f i)) ≡ carrierLine f i
 unfolding carrierLine
-carrier-text text f i at c s count start docks number form =
-    rw (s, count, start .0, start .1, ← docks) (rw (← number) at (counted-text text at form))
+carrier-text text f i at n start′ count start docks number form =
+    rw (start′, count, start .0, start .1, ← docks) (rw (← number) at (counted-text text at form))
 
 wall-text : (text : List ℕ) (w c at : ℕ) → c % w ≡ numberAt text at → c / w ≡ numberAt text (at + 5) → lineForm text at 2 ≡ passed
     → part text at 11 ≡ wallLine w c
@@ -261,6 +261,6 @@ module _ (text : List ℕ) (read : sheetVerdict text ≡ passed) where
       sym
       (sym (part-whole text _ whole)
       ∙ part-split text 0 31 (length (carrierLines f) + length (wallLines f (wallsAt text)))
-      ∙ ap₂ (λ (x y : List ℕ). x ++ y) (head-again text formed)
+      ∙ ap₂ (λ (xs ys : List ℕ). xs ++ ys) (head-again text formed)
       (part-split text 31 (length (carrierLines f)) (length (wallLines f (wallsAt text)))
-      ∙ ap₂ (λ (x y : List ℕ). x ++ y) (carriers-part text f carriers) (walls-part text f (wallsAt text) walls)))
+      ∙ ap₂ (λ (xs ys : List ℕ). xs ++ ys) (carriers-part text f carriers) (walls-part text f (wallsAt text) walls)))

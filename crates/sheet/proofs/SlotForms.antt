@@ -11,30 +11,30 @@ use Rattle.sheet.specs.Form.{carrierColumn, wallColumn, restForm}
 use Rattle.sheet.specs.Refused.{Slot, field, newline, finish, fieldSlots, lineSlots, carrierSlots, linesSlots, headSlots, restSlots}
 use Rattle.sheet.proofs.SlotLaws.{slotForm, slotsForm}
 
-then-nothing : (v : Verdict) → (v then passed) ≡ v
+then-nothing : (x : Verdict) → (x then passed) ≡ x
 unfolding _then_
 then-nothing passed = refl
 then-nothing (refused k p) = refl
 
 module _ (text : List ℕ) where
-  slots-append : (a b : List Slot) → slotsForm text (a ++ b) ≡ (slotsForm text a then slotsForm text b)
+  slots-append : (xs ys : List Slot) → slotsForm text (xs ++ ys) ≡ (slotsForm text xs then slotsForm text ys)
   unfolding slotsForm _then_
-  slots-append [] b = refl
-  slots-append (s ∷ a) b = rw (slots-append a b) (sym (then-assoc (slotForm text s) (slotsForm text a) (slotsForm text b)))
+  slots-append [] ys = refl
+  slots-append (s ∷ xs) ys = rw (slots-append xs ys) (sym (then-assoc (slotForm text s) (slotsForm text xs) (slotsForm text ys)))
 
   -- Slots with one more behind them.
-  slots-one-more : (a : List Slot) (s : Slot) → slotsForm text (a ++ (s ∷ [])) ≡ (slotsForm text a then slotForm text s)
+  slots-one-more : (xs : List Slot) (x : Slot) → slotsForm text (xs ++ (x ∷ [])) ≡ (slotsForm text xs then slotForm text x)
   unfolding slotsForm
-  slots-one-more a s = slots-append a (s ∷ []) ∙ rw then-nothing
+  slots-one-more xs x = slots-append xs (x ∷ []) ∙ rw then-nothing
 
-  fields-slots : (at m : ℕ) → inTurn (λ i. fieldForm text (at + 5 * i)) m ≡ slotsForm text (fieldSlots at m)
+  fields-slots : (at k : ℕ) → inTurn (λ i. fieldForm text (at + 5 * i)) k ≡ slotsForm text (fieldSlots at k)
   unfolding inTurn fieldSlots slotsForm slotForm
   fields-slots at zero = refl
-  fields-slots at (suc m) = rw (fields-slots at m, slots-one-more (fieldSlots at m) (field (at + 5 * m)))
+  fields-slots at (suc k) = rw (fields-slots at k, slots-one-more (fieldSlots at k) (field (at + 5 * k)))
 
-  line-slots : (at m : ℕ) → lineForm text at m ≡ slotsForm text (lineSlots at m)
+  line-slots : (at k : ℕ) → lineForm text at k ≡ slotsForm text (lineSlots at k)
   unfolding lineForm lineSlots slotForm
-  line-slots at m = rw (fields-slots at m, slots-one-more (fieldSlots at m) (newline (at + 5 * m)))
+  line-slots at k = rw (fields-slots at k, slots-one-more (fieldSlots at k) (newline (at + 5 * k)))
 
   carrier-slots : (at : ℕ) → countedForm text at ≡ slotsForm text (carrierSlots text at)
   unfolding countedForm carrierSlots slotsForm slotForm
@@ -62,4 +62,4 @@ module _ (text : List ℕ) where
       (slots-append (linesSlots carriers (f .carriers)) (linesSlots walls (f .walls) ++ (finish last ∷ []))
       ∙ ap₂ _then_ (sym (lines-slots _ carriers (λ i. carrier-slots _) (f .carriers)))
       (slots-one-more (linesSlots walls (f .walls)) (finish last)
-      ∙ ap (λ (v : Verdict). v then endForm text last) (sym (lines-slots _ walls (λ j. line-slots _ 2) (f .walls)))))
+      ∙ ap (λ (x : Verdict). x then endForm text last) (sym (lines-slots _ walls (λ j. line-slots _ 2) (f .walls)))))

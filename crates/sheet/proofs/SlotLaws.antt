@@ -63,7 +63,7 @@ module _ (text : List ℕ) where
   unfolding countForm fieldForm
   bad-counts at l n = go (isField text at) refl
     where
-      go : (b : Bool) → isField text at ≡ b → countForm text at ≡ refused 1 at
+      go : (x : Bool) → isField text at ≡ x → countForm text at ≡ refused 1 at
       go false e = then-refused _ (then-passed (demand-passes 1 (length text) (le-leb _ _ l)) ∙ demand-refuses 1 at e)
       go true e =
           then-passed (then-passed (demand-passes 1 (length text) (le-leb _ _ l)) ∙ demand-passes 1 at e)
@@ -74,7 +74,7 @@ module _ (text : List ℕ) where
   counts-cut at l = then-refused _ (then-refused _ (demand-refuses 1 _ (lt-leb _ _ l)))
 
   -- A slot passes exactly if it is fine.
-  slot-fine : (s : Slot) → slotForm text s ≡ passed → Fine text s
+  slot-fine : (x : Slot) → slotForm text x ≡ passed → Fine text x
   unfolding slotForm countForm newlineForm endForm
   slot-fine (field at) h = field-fine at h
   slot-fine (count at) h =
@@ -84,7 +84,7 @@ module _ (text : List ℕ) where
   slot-fine (newline at) h = newline-tells text at h
   slot-fine (finish at) h = leb-true _ _ (demand-holds _ 1 at h)
 
-  fine-slot : (s : Slot) → Fine text s → slotForm text s ≡ passed
+  fine-slot : (x : Slot) → Fine text x → slotForm text x ≡ passed
   unfolding slotForm countForm newlineForm endForm
   fine-slot (field at) h = fine-field at h
   fine-slot (count at) h = then-passed (fine-field at (h .0, h .1 .good)) ∙ demand-passes 1 at (count-within at (h .1))
@@ -101,7 +101,7 @@ module _ (text : List ℕ) where
       let d = demand-cases _ 1 at k p r in
       (d .1, rw (d .2) (bad (leb-true _ _ (demand-holds _ 1 _ a)) (λ g. false-fails (d .0) (good-is-field text at g)))))
 
-  slot-broken : (s : Slot) (k p : ℕ) → slotForm text s ≡ refused k p → (k ≡ 1) × Broken text s p
+  slot-broken : (x : Slot) (k p : ℕ) → slotForm text x ≡ refused k p → (k ≡ 1) × Broken text x p
   unfolding slotForm countForm newlineForm endForm
   slot-broken (field at) k p h = field-broken at k p h
   slot-broken (count at) k p h =
@@ -120,39 +120,39 @@ module _ (text : List ℕ) where
       let d = demand-cases _ 1 at k p h in
       (d .1, rw (d .2) (extra (leb-false _ _ (d .0))))
 
-  broken-slot : (s : Slot) (p : ℕ) → Broken text s p → slotForm text s ≡ refused 1 p
+  broken-slot : (x : Slot) (p : ℕ) → Broken text x p → slotForm text x ≡ refused 1 p
   unfolding slotForm fieldForm newlineForm endForm
-  broken-slot s p (cut-count {at} l) = counts-cut at l
-  broken-slot s p (bad-count {at} l n) = bad-counts at l n
-  broken-slot s p (cut l) = then-refused _ (demand-refuses 1 _ (lt-leb _ _ l))
-  broken-slot s p (bad {at} l n) =
+  broken-slot x p (cut-count {at} l) = counts-cut at l
+  broken-slot x p (bad-count {at} l n) = bad-counts at l n
+  broken-slot x p (cut l) = then-refused _ (demand-refuses 1 _ (lt-leb _ _ l))
+  broken-slot x p (bad {at} l n) =
       then-passed (demand-passes 1 _ (le-leb _ _ l))
       ∙ demand-refuses 1 at (not-true-is-false (isField text at) (λ t. n (is-field-good text at t)))
-  broken-slot s p (ended l) = then-refused _ (demand-refuses 1 _ (le-ltb _ _ l))
-  broken-slot s p (wrong l n) = then-passed (demand-passes 1 _ (lt-ltb _ _ l)) ∙ demand-refuses 1 _ (ne-eqb _ _ n)
-  broken-slot s p (extra l) = demand-refuses 1 _ (lt-leb _ _ l)
+  broken-slot x p (ended l) = then-refused _ (demand-refuses 1 _ (le-ltb _ _ l))
+  broken-slot x p (wrong l n) = then-passed (demand-passes 1 _ (lt-ltb _ _ l)) ∙ demand-refuses 1 _ (ne-eqb _ _ n)
+  broken-slot x p (extra l) = demand-refuses 1 _ (lt-leb _ _ l)
 
   -- Slots pass exactly if all are fine.
-  pub slots-fine : (ss : List Slot) → slotsForm text ss ≡ passed → AllFine text ss
+  pub slots-fine : (xs : List Slot) → slotsForm text xs ≡ passed → AllFine text xs
   unfolding slotsForm
   slots-fine [] h = none-left
-  slots-fine (s ∷ ss) h = let a = then-both _ _ h in one-more (slot-fine s (a .0)) (slots-fine ss (a .1))
+  slots-fine (s ∷ xs) h = let a = then-both _ _ h in one-more (slot-fine s (a .0)) (slots-fine xs (a .1))
 
-  pub fine-slots : (ss : List Slot) → AllFine text ss → slotsForm text ss ≡ passed
+  pub fine-slots : (xs : List Slot) → AllFine text xs → slotsForm text xs ≡ passed
   unfolding slotsForm
   fine-slots [] h = refl
-  fine-slots (s ∷ ss) (one-more a b) = then-passed (fine-slot s a) ∙ fine-slots ss b
+  fine-slots (s ∷ xs) (one-more a b) = then-passed (fine-slot s a) ∙ fine-slots xs b
 
   -- Slots are refused exactly at the first that is broken.
-  pub slots-broken : (ss : List Slot) (k p : ℕ) → slotsForm text ss ≡ refused k p → (k ≡ 1) × FirstBroken text ss p
+  pub slots-broken : (xs : List Slot) (k p : ℕ) → slotsForm text xs ≡ refused k p → (k ≡ 1) × FirstBroken text xs p
   unfolding slotsForm
   slots-broken [] k p h = absurd (refused-not-passed (sym h))
-  slots-broken (s ∷ ss) k p h =
+  slots-broken (s ∷ xs) k p h =
       refused-by h
       (λ r. let d = slot-broken s k p r in (d .0, here (d .1)))
-      (λ a r. let d = slots-broken ss k p r in (d .0, later (slot-fine s a) (d .1)))
+      (λ a r. let d = slots-broken xs k p r in (d .0, later (slot-fine s a) (d .1)))
 
-  pub broken-slots : (ss : List Slot) (p : ℕ) → FirstBroken text ss p → slotsForm text ss ≡ refused 1 p
+  pub broken-slots : (xs : List Slot) (p : ℕ) → FirstBroken text xs p → slotsForm text xs ≡ refused 1 p
   unfolding slotsForm
-  broken-slots (s ∷ ss) p (here b) = then-refused _ (broken-slot s p b)
-  broken-slots (s ∷ ss) p (later a b) = then-passed (fine-slot s a) ∙ broken-slots ss p b
+  broken-slots (s ∷ xs) p (here b) = then-refused _ (broken-slot s p b)
+  broken-slots (s ∷ xs) p (later a b) = then-passed (fine-slot s a) ∙ broken-slots xs p b

@@ -110,46 +110,46 @@ cell-means text w h at a b = (
 )
 
 -- With one dock a carrier's line is document 01's with a count of 1.
-one-cell : (w s : ℕ) (d : ℕ → ℕ) (g : ℕ) → d 0 ≡ g
-    → lineOf (s % w ∷ s / w ∷ 1 ∷ cellNumbers w d 1)
-    ≡ fieldOf (s % w) ++ (fieldOf (s / w) ++ (fieldOf 1 ++ lineOf (g % w ∷ g / w ∷ [])))
+one-cell : (w start : ℕ) (φ : ℕ → ℕ) (d : ℕ) → φ 0 ≡ d
+    → lineOf (start % w ∷ start / w ∷ 1 ∷ cellNumbers w φ 1)
+    ≡ fieldOf (start % w) ++ (fieldOf (start / w) ++ (fieldOf 1 ++ lineOf (d % w ∷ d / w ∷ [])))
 unfolding lineOf cellNumbers
-one-cell w s d g h = rw h
+one-cell w start φ d h = rw h
 
-goal-place : (gs : List ℕ) (i : ℕ) → getD (oneEach gs) (4 * i) 0 ≡ getD gs i 0
+goal-place : (xs : List ℕ) (i : ℕ) → getD (oneEach xs) (4 * i) 0 ≡ getD xs i 0
 unfolding oneEach
 goal-place [] i = refl
-goal-place (g ∷ gs) zero = refl
-goal-place (g ∷ gs) (suc i) =
+goal-place (g ∷ xs) zero = refl
+goal-place (g ∷ xs) (suc i) =
     let e : 4 * suc i ≡ suc (suc (suc (suc (4 * i)))) = omega arith in
-    rw e (goal-place gs i)
+    rw e (goal-place xs i)
 
-one-goal : (e : OneDockFloor) (i : ℕ) → dockOf (withOneDock e) i 0 ≡ getD (e .goals) i 0
+one-goal : (old : OneDockFloor) (i : ℕ) → dockOf (withOneDock old) i 0 ≡ getD (old .goals) i 0
 unfolding withOneDock
-one-goal e i =
+one-goal old i =
     let z : 4 * i + 0 ≡ 4 * i = omega arith in
-    dock-place (withOneDock e) i 0 (omega arith) ∙ rw z (goal-place (e .goals) i)
+    dock-place (withOneDock old) i 0 (omega arith) ∙ rw z (goal-place (old .goals) i)
 
-one-start : (e : OneDockFloor) (i : ℕ) → startOf (withOneDock e) i ≡ getD (e .starts) i 0
+one-start : (old : OneDockFloor) (i : ℕ) → startOf (withOneDock old) i ≡ getD (old .starts) i 0
 unfolding withOneDock startOf
-one-start e i = refl
+one-start old i = refl
 
-one-line : (f : Floor) (i s g : ℕ) → startOf f i ≡ s → countOf f i ≡ 1 → dockOf f i 0 ≡ g
+one-line : (f : Floor) (i start d : ℕ) → startOf f i ≡ start → countOf f i ≡ 1 → dockOf f i 0 ≡ d
     → carrierLine f i
-    ≡ fieldOf (s % f .width) ++ (fieldOf (s / f .width) ++ (fieldOf 1 ++ lineOf (g % f .width ∷ g / f .width ∷ [])))
+    ≡ fieldOf (start % f .width) ++ (fieldOf (start / f .width) ++ (fieldOf 1 ++ lineOf (d % f .width ∷ d / f .width ∷ [])))
 unfolding carrierLine
-one-line f i s g a b c = rw (a, b) (one-cell (f .width) s (dockOf f i) g c)
+one-line f i start d a b c = rw (a, b) (one-cell (f .width) start (dockOf f i) d c)
 
-one-count : (e : OneDockFloor) (i : ℕ) → i < 8 → countOf (withOneDock e) i ≡ 1
+one-count : (old : OneDockFloor) (i : ℕ) → i < 8 → countOf (withOneDock old) i ≡ 1
 unfolding withOneDock countOf
-one-count e i l = getD-replicate 8 i 1 0 l
+one-count old i l = getD-replicate 8 i 1 0 l
 
-one-dock : (e : OneDockFloor) (i : ℕ) → i < 8
-    → carrierLine (withOneDock e) i
-    ≡ fieldOf (getD (e .starts) i 0 % e .width) ++ (fieldOf (getD (e .starts) i 0 / e .width)
-    ++ (fieldOf 1 ++ lineOf (getD (e .goals) i 0 % e .width ∷ getD (e .goals) i 0 / e .width ∷ [])))
+one-dock : (old : OneDockFloor) (i : ℕ) → i < 8
+    → carrierLine (withOneDock old) i
+    ≡ fieldOf (getD (old .starts) i 0 % old .width) ++ (fieldOf (getD (old .starts) i 0 / old .width)
+    ++ (fieldOf 1 ++ lineOf (getD (old .goals) i 0 % old .width ∷ getD (old .goals) i 0 / old .width ∷ [])))
 unfolding withOneDock
-one-dock e i l = one-line (withOneDock e) i (getD (e .starts) i 0) (getD (e .goals) i 0) (one-start e i) (one-count e i l) (one-goal e i)
+one-dock old i l = one-line (withOneDock old) i (getD (old .starts) i 0) (getD (old .goals) i 0) (one-start old i) (one-count old i l) (one-goal old i)
 
 pub theorems : Claims
 theorems =

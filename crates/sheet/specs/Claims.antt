@@ -34,7 +34,7 @@ pub record Claims : Type 0 where
   -- The place of a refusal is never past the longest sheet, so that it has at most five digits.
   pub place-low : (text : List ℕ) (k p : ℕ) → sheetVerdict text ≡ refused k p → p ≤ 11732
   -- With one dock a carrier's line is document 01's, start and goal, with a count of 1 put in behind the start.
-  pub one-dock : (e : OneDockFloor) (i : ℕ) → i < 8
-      → carrierLine (withOneDock e) i
-      ≡ fieldOf (getD (e .starts) i 0 % e .width) ++ (fieldOf (getD (e .starts) i 0 / e .width)
-      ++ (fieldOf 1 ++ lineOf (getD (e .goals) i 0 % e .width ∷ getD (e .goals) i 0 / e .width ∷ [])))
+  pub one-dock : (old : OneDockFloor) (i : ℕ) → i < 8
+      → carrierLine (withOneDock old) i
+      ≡ fieldOf (getD (old .starts) i 0 % old .width) ++ (fieldOf (getD (old .starts) i 0 / old .width)
+      ++ (fieldOf 1 ++ lineOf (getD (old .goals) i 0 % old .width ∷ getD (old .goals) i 0 / old .width ∷ [])))

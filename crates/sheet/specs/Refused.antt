@@ -48,11 +48,11 @@ pub data Broken (text : List ℕ) : Slot → ℕ → Type 0 where
 -- All slots are fine; the first that is not has place p.
 pub data AllFine (text : List ℕ) : List Slot → Type 0 where
   none-left : AllFine text []
-  one-more : {s : Slot} {ss : List Slot} → Fine text s → AllFine text ss → AllFine text (s ∷ ss)
+  one-more : {x : Slot} {xs : List Slot} → Fine text x → AllFine text xs → AllFine text (x ∷ xs)
 
 pub data FirstBroken (text : List ℕ) : List Slot → ℕ → Type 0 where
-  here : {s : Slot} {ss : List Slot} {p : ℕ} → Broken text s p → FirstBroken text (s ∷ ss) p
-  later : {s : Slot} {ss : List Slot} {p : ℕ} → Fine text s → FirstBroken text ss p → FirstBroken text (s ∷ ss) p
+  here : {x : Slot} {xs : List Slot} {p : ℕ} → Broken text x p → FirstBroken text (x ∷ xs) p
+  later : {x : Slot} {xs : List Slot} {p : ℕ} → Fine text x → FirstBroken text xs p → FirstBroken text (x ∷ xs) p
 
 -- The slots of m fields, of a line, of a carrier's line, of k lines, of line 1 and of what follows it, in their order.
 unfoldable pub fieldSlots : ℕ → ℕ → List Slot
@@ -60,7 +60,7 @@ fieldSlots at zero = []
 fieldSlots at (suc m) = fieldSlots at m ++ (field (at + 5 * m) ∷ [])
 
 unfoldable pub lineSlots : ℕ → ℕ → List Slot
-lineSlots at m = fieldSlots at m ++ (newline (at + 5 * m) ∷ [])
+lineSlots at k = fieldSlots at k ++ (newline (at + 5 * k) ∷ [])
 
 unfoldable pub carrierSlots : List ℕ → ℕ → List Slot
 carrierSlots text at = field at ∷ field (at + 5) ∷ count (at + 10) ∷ lineSlots (at + 15) (2 * numberAt text (at + 10))

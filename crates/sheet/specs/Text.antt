@@ -21,10 +21,10 @@ linesOf line (suc k) = linesOf line k ++ line k
 unfoldable pub headLine : Floor → List ℕ
 headLine f = lineOf (f .width ∷ f .height ∷ f .horizon ∷ f .depth ∷ f .carriers ∷ f .walls ∷ [])
 
--- The columns and rows of the cells d 0 to d (m − 1).
+-- The columns and rows of the cells φ 0 to φ (n − 1).
 unfoldable pub cellNumbers : ℕ → (ℕ → ℕ) → ℕ → List ℕ
-cellNumbers width d zero = []
-cellNumbers width d (suc m) = d 0 % width ∷ d 0 / width ∷ cellNumbers width (λ k. d (suc k)) m
+cellNumbers width φ zero = []
+cellNumbers width φ (suc n) = φ 0 % width ∷ φ 0 / width ∷ cellNumbers width (λ k. φ (suc k)) n
 
 -- A carrier's line: start column, start row, dock count, then the docks' columns and rows.
 unfoldable pub carrierLine : Floor → ℕ → List ℕ

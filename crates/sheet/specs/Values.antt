@@ -17,18 +17,18 @@ valueAt text at = min (numberAt text at) 65535
 unfoldable pub cellOf : ℕ → ℕ → ℕ → ℕ → ℕ
 cellOf width height col row = cond (ltb col width && ltb row height) (row * width + col) (width * height)
 
--- The numbers g 0 to g (m − 1).
+-- The numbers φ 0 to φ (n − 1).
 unfoldable pub listed : (ℕ → ℕ) → ℕ → List ℕ
-listed g zero = []
-listed g (suc m) = listed g m ++ (g m ∷ [])
+listed φ zero = []
+listed φ (suc n) = listed φ n ++ (φ n ∷ [])
 
 -- The cell whose column and row stand at a column of the text.
 unfoldable pub cellAtColumn : List ℕ → ℕ → ℕ → ℕ → ℕ
 cellAtColumn text width height at = cellOf width height (valueAt text at) (valueAt text (at + 5))
 
--- The first n numbers as g says, and 0 past them.
+-- The first n numbers as φ says, and 0 past them.
 unfoldable pub upTo : ℕ → (ℕ → ℕ) → ℕ → ℕ
-upTo n g i = cond (ltb i n) (g i) 0
+upTo n φ i = cond (ltb i n) (φ i) 0
 
 -- Line 1, with the carriers placed as given.
 abbrev pub lineOneAt : List ℕ → List ℕ → List ℕ → List ℕ → Floor
@@ -59,9 +59,9 @@ countIn text i = valueAt text (carrierColumn text i + 10)
 unfoldable pub dockIn : List ℕ → Floor → ℕ → ℕ → ℕ
 dockIn text f i k = cellAtColumn text (f .width) (f .height) (carrierColumn text i + 15 + 10 * k)
 
--- Place q of the docks: dock q % 4 of carrier q / 4; 0 past the carriers, and past a dock count.
+-- Place p of the docks: dock p % 4 of carrier p / 4; 0 past the carriers, and past a dock count.
 unfoldable pub placeIn : List ℕ → Floor → ℕ → ℕ
-placeIn text f q = upTo (f .carriers) (λ i. upTo (countIn text i) (dockIn text f i) (q % 4)) (q / 4)
+placeIn text f p = upTo (f .carriers) (λ i. upTo (countIn text i) (dockIn text f i) (p % 4)) (p / 4)
 
 -- The starts, the dock counts and the docks of a floor's carriers, as a record holds them; 0 past the carriers.
 unfoldable pub startsAt : List ℕ → Floor → List ℕ

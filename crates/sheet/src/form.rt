@@ -10,7 +10,7 @@ use floor::Floor;
 // The lines after line 1, for the counts that line 1 gives: the carriers' lines, the walls', and nothing more.
 pub fn rest_form(text: &[u8], f: Floor) -> Checked
     requires { ⌜ (f .carriers ≤ 8) × (f .walls ≤ 1023) ⌝ }
-    ensures { λ r. ⌜ verdictOf r ≡ restForm (now (text .entry)) f ⌝ }
+    ensures { λ result. ⌜ verdictOf result ≡ restForm (now (text .entry)) f ⌝ }
 {
     let carriers = fields::counted_lines(text, 31, f.carriers as usize);
     let Reached::At(column) = carriers else {

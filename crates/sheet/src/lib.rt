@@ -26,7 +26,7 @@ pub struct Reading {
 
 // A refusal, with the fresh floor.
 fn refused(answer: Checked) -> Reading
-    ensures { λ r. ⌜ (r .answer ≡ answer) × (r .floor ≡ freshFloor) ⌝ }
+    ensures { λ result. ⌜ (result .answer ≡ answer) × (result .floor ≡ freshFloor) ⌝ }
 {
     Reading {
         answer: answer,
@@ -36,8 +36,8 @@ fn refused(answer: Checked) -> Reading
 
 // Line 1's form, then 2, then the other lines' form, with the floor that a text in good form says.
 fn form_of(text: &[u8]) -> Reading
-    ensures answers { λ r. ⌜ verdictOf (r .answer) ≡ formOf (now (text .entry)) ⌝ }
-    ensures returns { λ r. ⌜ r .floor ≡ whenPassed (formOf (now (text .entry))) (floorAt (now (text .entry))) freshFloor ⌝ }
+    ensures answers { λ result. ⌜ verdictOf (result .answer) ≡ formOf (now (text .entry)) ⌝ }
+    ensures returns { λ result. ⌜ result .floor ≡ whenPassed (formOf (now (text .entry))) (floorAt (now (text .entry))) freshFloor ⌝ }
 {
     let line = fields::line_form(text, 0, 6);
     let Reached::At(_) = line else {
@@ -60,7 +60,7 @@ fn form_of(text: &[u8]) -> Reading
 
 // Room for the most walls that a floor can have.
 pub fn no_walls() -> [u16; 1023]
-    ensures { λ r. ⌜ 1023 ≡ length r ⌝ }
+    ensures { λ result. ⌜ 1023 ≡ length result ⌝ }
 {
     [0; 1023]
 }
@@ -69,7 +69,7 @@ pub fn no_walls() -> [u16; 1023]
 fn places_over(text: &[u8], f: Floor, cells: &mut [u16]) -> Checked
     requires { ⌜ (formOf (now text) ≡ passed) × (f ≡ floorAt (now text)) ⌝ }
     requires { ⌜ f .walls ≤ length (now cells) ⌝ }
-    ensures { λ r. ⌜ verdictOf r ≡ placesOf (floorAt (now (text .entry))) (wallsAt (now (text .entry))) ⌝ }
+    ensures { λ result. ⌜ verdictOf result ≡ placesOf (floorAt (now (text .entry))) (wallsAt (now (text .entry))) ⌝ }
 {
     values::walls(text, f, cells);
     floor::check(f, cells)
@@ -78,7 +78,7 @@ fn places_over(text: &[u8], f: Floor, cells: &mut [u16]) -> Checked
 // The same in memory of its own; few walls take a small one, which is cleared sooner.
 fn places_of(text: &[u8], f: Floor) -> Checked
     requires { ⌜ (formOf (now text) ≡ passed) × (f ≡ floorAt (now text)) ⌝ }
-    ensures { λ r. ⌜ verdictOf r ≡ placesOf (floorAt (now (text .entry))) (wallsAt (now (text .entry))) ⌝ }
+    ensures { λ result. ⌜ verdictOf result ≡ placesOf (floorAt (now (text .entry))) (wallsAt (now (text .entry))) ⌝ }
 {
     if f.walls <= 32 {
         let mut few = [0u16; 32];
@@ -90,8 +90,8 @@ fn places_of(text: &[u8], f: Floor) -> Checked
 
 // What a text says, and its refusals but for the last; the fresh floor where its form is refused.
 fn read_own(text: &[u8]) -> Reading
-    ensures answers { λ r. ⌜ verdictOf (r .answer) ≡ sheetVerdict (now (text .entry)) ⌝ }
-    ensures returns { λ r. ⌜ r .floor ≡ whenPassed (formOf (now (text .entry))) (floorAt (now (text .entry))) freshFloor ⌝ }
+    ensures answers { λ result. ⌜ verdictOf (result .answer) ≡ sheetVerdict (now (text .entry)) ⌝ }
+    ensures returns { λ result. ⌜ result .floor ≡ whenPassed (formOf (now (text .entry))) (floorAt (now (text .entry))) freshFloor ⌝ }
 {
     let form = form_of(text);
     let checked = form.answer;
@@ -107,7 +107,7 @@ fn read_own(text: &[u8]) -> Reading
 
 // What reading a sheet into wall memory of `lent` places would answer; nothing is written.
 pub fn check(text: &[u8], lent: usize) -> Checked
-    ensures { λ r. ⌜ verdictOf r ≡ readVerdict (now (text .entry)) lent ⌝ }
+    ensures { λ result. ⌜ verdictOf result ≡ readVerdict (now (text .entry)) lent ⌝ }
 {
     let reading = read_own(text);
     let checked = reading.answer;
@@ -120,9 +120,9 @@ pub fn check(text: &[u8], lent: usize) -> Checked
 
 // Reads a sheet: its floor by value, its walls into lent memory.
 pub fn read(text: &[u8], walls: &mut [u16]) -> Reading
-    ensures answers { λ r. ⌜ verdictOf (r .answer) ≡ readVerdict (now (text .entry)) (length (now (walls .entry))) ⌝ }
-    ensures returns { λ r. ⌜ r .floor ≡ readFloor (now (text .entry)) (length (now (walls .entry))) ⌝ }
-    ensures stores { λ r. ⌜ now (walls .exit) ≡ readWalls (now (text .entry)) (now (walls .entry)) ⌝ }
+    ensures answers { λ result. ⌜ verdictOf (result .answer) ≡ readVerdict (now (text .entry)) (length (now (walls .entry))) ⌝ }
+    ensures returns { λ result. ⌜ result .floor ≡ readFloor (now (text .entry)) (length (now (walls .entry))) ⌝ }
+    ensures stores { λ result. ⌜ now (walls .exit) ≡ readWalls (now (text .entry)) (now (walls .entry)) ⌝ }
 {
     let reading = read_own(text);
     let checked = reading.answer;
@@ -140,15 +140,15 @@ pub fn read(text: &[u8], walls: &mut [u16]) -> Reading
 
 // The length in bytes of a floor's sheet: 31, 16 a carrier and 10 a dock, 11 a wall. This is the needed length of sheet memory.
 pub fn sheet_length(f: Floor) -> usize
-    ensures { λ r. ⌜ r ≡ sheetLength f ⌝ }
+    ensures { λ result. ⌜ result ≡ sheetLength f ⌝ }
 {
     lines::walls_at(f) + 11 * f.walls as usize
 }
 
 // Writes the sheet of a floor into lent memory.
 pub fn write(f: Floor, walls: &[u16], out: &mut [u8]) -> Checked
-    ensures answers { λ r. ⌜ verdictOf r ≡ writeVerdict f (now (walls .entry)) (length (now (out .entry))) ⌝ }
-    ensures stores { λ r. ⌜ now (out .exit) ≡ writeSheet f (now (walls .entry)) (now (out .entry)) ⌝ }
+    ensures answers { λ result. ⌜ verdictOf result ≡ writeVerdict f (now (walls .entry)) (length (now (out .entry))) ⌝ }
+    ensures stores { λ result. ⌜ now (out .exit) ≡ writeSheet f (now (walls .entry)) (now (out .entry)) ⌝ }
 {
     let checked = floor::check(f, walls);
     let Checked::Passed = checked else {

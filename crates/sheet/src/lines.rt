@@ -17,7 +17,7 @@ use floor::Floor;
 fn put_cell(out: &mut [u8], at: usize, width: u16, c: u16)
     requires { ⌜ at + 10 ≤ length (now out) ⌝ }
     requires { ⌜ 0 < width ⌝ }
-    ensures { λ r. ⌜ now (out .exit) ≡ put (now (out .entry)) at (fieldOf (c % width) ++ fieldOf (c / width)) ⌝ }
+    ensures { λ result. ⌜ now (out .exit) ≡ put (now (out .entry)) at (fieldOf (c % width) ++ fieldOf (c / width)) ⌝ }
 {
     put_field(out, at, c % width);
     put_field(out, at + 5, c / width);
@@ -26,7 +26,7 @@ fn put_cell(out: &mut [u8], at: usize, width: u16, c: u16)
 // Line 1.
 fn put_head(f: Floor, out: &mut [u8])
     requires { ⌜ 31 ≤ length (now out) ⌝ }
-    ensures { λ r. ⌜ now (out .exit) ≡ put (now (out .entry)) 0 (headLine f) ⌝ }
+    ensures { λ result. ⌜ now (out .exit) ≡ put (now (out .entry)) 0 (headLine f) ⌝ }
 {
     put_field(out, 0, f.width);
     put_field(out, 5, f.height);
@@ -39,7 +39,7 @@ fn put_head(f: Floor, out: &mut [u8])
 
 // The dock count of carrier i; 0 for one that the record has no place for.
 fn dock_count(f: Floor, i: usize) -> usize
-    ensures { λ r. ⌜ (r ≡ countOf f i) × (r ≤ 65535) ⌝ }
+    ensures { λ result. ⌜ (result ≡ countOf f i) × (result ≤ 65535) ⌝ }
 {
     if 8 <= i {
         return 0;
@@ -49,7 +49,7 @@ fn dock_count(f: Floor, i: usize) -> usize
 
 // The column past the carriers' lines, at which the walls' begin.
 pub fn walls_at(f: Floor) -> usize
-    ensures { λ r. ⌜ (r ≡ carrierAt f (f .carriers)) × (r ≤ 100000000000) ⌝ }
+    ensures { λ result. ⌜ (result ≡ carrierAt f (f .carriers)) × (result ≤ 100000000000) ⌝ }
 {
     let n = f.carriers as usize;
     let mut at: usize = 31;
@@ -65,7 +65,7 @@ pub fn walls_at(f: Floor) -> usize
 fn put_docks(f: Floor, i: usize, count: usize, out: &mut [u8], at: usize)
     requires { ⌜ (i < 8) × (0 < f .width) ⌝ }
     requires { ⌜ (count ≤ 4) × (at + 10 * count ≤ length (now out)) ⌝ }
-    ensures { λ r. ⌜ now (out .exit) ≡ put (now (out .entry)) at
+    ensures { λ result. ⌜ now (out .exit) ≡ put (now (out .entry)) at
         (linesOf (λ k. fieldOf (dockOf f i k % f .width) ++ fieldOf (dockOf f i k / f .width)) count) ⌝ }
 {
     let width = f.width;
@@ -80,7 +80,7 @@ fn put_docks(f: Floor, i: usize, count: usize, out: &mut [u8], at: usize)
 fn put_carrier(f: Floor, i: usize, out: &mut [u8], at: usize)
     requires { ⌜ (i < 8) × (0 < f .width) ⌝ }
     requires { ⌜ (countOf f i ≤ 4) × (at + countedLength (countOf f i) ≤ length (now out)) ⌝ }
-    ensures { λ r. ⌜ now (out .exit) ≡ put (now (out .entry)) at (carrierLine f i) ⌝ }
+    ensures { λ result. ⌜ now (out .exit) ≡ put (now (out .entry)) at (carrierLine f i) ⌝ }
 {
     let width = f.width;
     let start = f.starts[i];
@@ -96,7 +96,7 @@ fn put_carriers(f: Floor, out: &mut [u8])
     requires { ⌜ (f .carriers ≤ 8) × (0 < f .width) ⌝ }
     requires { ⌜ CountsWithin f ⌝ }
     requires { ⌜ carrierAt f (f .carriers) ≤ length (now out) ⌝ }
-    ensures { λ r. ⌜ now (out .exit) ≡ put (now (out .entry)) 31 (carrierLines f) ⌝ }
+    ensures { λ result. ⌜ now (out .exit) ≡ put (now (out .entry)) 31 (carrierLines f) ⌝ }
 {
     let n = f.carriers as usize;
     let mut at: usize = 31;
@@ -112,7 +112,7 @@ fn put_carriers(f: Floor, out: &mut [u8])
 fn put_wall(width: u16, c: u16, out: &mut [u8], at: usize)
     requires { ⌜ 0 < width ⌝ }
     requires { ⌜ at + 11 ≤ length (now out) ⌝ }
-    ensures { λ r. ⌜ now (out .exit) ≡ put (now (out .entry)) at (wallLine width c) ⌝ }
+    ensures { λ result. ⌜ now (out .exit) ≡ put (now (out .entry)) at (wallLine width c) ⌝ }
 {
     put_cell(out, at, width, c);
     out[at + 10] = 10;
@@ -122,7 +122,7 @@ fn put_wall(width: u16, c: u16, out: &mut [u8], at: usize)
 fn put_walls(f: Floor, walls: &[u16], out: &mut [u8])
     requires { ⌜ (f .walls ≤ length (now walls)) × (0 < f .width) ⌝ }
     requires { ⌜ sheetLength f ≤ length (now out) ⌝ }
-    ensures { λ r. ⌜ now (out .exit) ≡ put (now (out .entry)) (carrierAt f (f .carriers)) (wallLines f (now (walls .entry))) ⌝ }
+    ensures { λ result. ⌜ now (out .exit) ≡ put (now (out .entry)) (carrierAt f (f .carriers)) (wallLines f (now (walls .entry))) ⌝ }
 {
     let width = f.width;
     let base = walls_at(f);
@@ -139,7 +139,7 @@ pub fn put_sheet(f: Floor, walls: &[u16], out: &mut [u8])
     requires { ⌜ (f .walls ≤ length (now walls)) × (0 < f .width) ⌝ }
     requires { ⌜ (f .carriers ≤ 8) × CountsWithin f ⌝ }
     requires { ⌜ sheetLength f ≤ length (now out) ⌝ }
-    ensures { λ r. ⌜ now (out .exit) ≡ put (now (out .entry)) 0 (sheetOf f (now (walls .entry))) ⌝ }
+    ensures { λ result. ⌜ now (out .exit) ≡ put (now (out .entry)) 0 (sheetOf f (now (walls .entry))) ⌝ }
 {
     put_head(f, out);
     put_carriers(f, out);

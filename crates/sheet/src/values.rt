@@ -15,19 +15,19 @@ use floor::Floor;
 // The value at a column, as a record holds it.
 pub fn value(text: &[u8], at: usize) -> u16
     requires { ⌜ at + 5 ≤ length (now text) ⌝ }
-    ensures { λ r. ⌜ r ≡ valueAt (now (text .entry)) at ⌝ }
+    ensures { λ result. ⌜ result ≡ valueAt (now (text .entry)) at ⌝ }
 {
-    let v = fields::number(text, at);
-    if 65535 < v {
+    let x = fields::number(text, at);
+    if 65535 < x {
         return 65535;
     }
-    v as u16
+    x as u16
 }
 
 // The cell number of a column and a row, or the first number past the grid.
 fn cell_of(width: u16, height: u16, col: u16, row: u16) -> u16
     requires { ⌜ (width ≤ 32) × (height ≤ 32) ⌝ }
-    ensures { λ r. ⌜ r ≡ cellOf width height col row ⌝ }
+    ensures { λ result. ⌜ result ≡ cellOf width height col row ⌝ }
 {
     if width <= col {
         return width * height;
@@ -42,7 +42,7 @@ fn cell_of(width: u16, height: u16, col: u16, row: u16) -> u16
 fn cell(text: &[u8], width: u16, height: u16, at: usize) -> u16
     requires { ⌜ (width ≤ 32) × (height ≤ 32) ⌝ }
     requires { ⌜ at + 10 ≤ length (now text) ⌝ }
-    ensures { λ r. ⌜ r ≡ cellAtColumn (now (text .entry)) width height at ⌝ }
+    ensures { λ result. ⌜ result ≡ cellAtColumn (now (text .entry)) width height at ⌝ }
 {
     cell_of(width, height, value(text, at), value(text, at + 5))
 }
@@ -50,7 +50,7 @@ fn cell(text: &[u8], width: u16, height: u16, at: usize) -> u16
 // Line 1, with no carrier placed yet.
 pub fn head(text: &[u8]) -> Floor
     requires { ⌜ 30 ≤ length (now text) ⌝ }
-    ensures { λ r. ⌜ r ≡ headAt (now (text .entry)) ⌝ }
+    ensures { λ result. ⌜ result ≡ headAt (now (text .entry)) ⌝ }
 {
     Floor {
         width: value(text, 0),
@@ -75,8 +75,8 @@ struct Lines {
 fn lines_of(text: &[u8], n: usize) -> Lines
     requires { ⌜ n ≤ 8 ⌝ }
     requires { ⌜ linesForm (countedForm (now text)) (pastCounted (now text)) 31 n ≡ passed ⌝ }
-    ensures columns { λ r. ⌜ r .at ≡ listed (upTo n (carrierColumn (now (text .entry)))) 8 ⌝ }
-    ensures counts { λ r. ⌜ r .counts ≡ listed (upTo n (countIn (now (text .entry)))) 8 ⌝ }
+    ensures columns { λ result. ⌜ result .at ≡ listed (upTo n (carrierColumn (now (text .entry)))) 8 ⌝ }
+    ensures counts { λ result. ⌜ result .counts ≡ listed (upTo n (countIn (now (text .entry)))) 8 ⌝ }
 {
     let mut at = [0usize; 8];
     let mut counts = [0u16; 8];
@@ -100,7 +100,7 @@ fn starts(text: &[u8], f: Floor, at: [usize; 8]) -> [u16; 8]
     requires { ⌜ (f .width ≤ 32) × (f .height ≤ 32) ⌝ }
     requires { ⌜ (f .carriers ≤ 8) × (linesForm (countedForm (now text)) (pastCounted (now text)) 31 (f .carriers) ≡ passed) ⌝ }
     requires { ⌜ at ≡ listed (upTo (f .carriers) (carrierColumn (now text))) 8 ⌝ }
-    ensures { λ r. ⌜ r ≡ startsAt (now (text .entry)) f ⌝ }
+    ensures { λ result. ⌜ result ≡ startsAt (now (text .entry)) f ⌝ }
 {
     let n = f.carriers as usize;
     let width = f.width;
@@ -114,7 +114,7 @@ fn starts(text: &[u8], f: Floor, at: [usize; 8]) -> [u16; 8]
     found
 }
 
-// What stands at place q of the docks, for n carriers in a grid.
+// What stands at place p of the docks, for n carriers in a grid.
 fn dock(
     text: &[u8],
     at: &[usize],
@@ -122,20 +122,20 @@ fn dock(
     n: usize,
     width: u16,
     height: u16,
-    q: usize,
+    p: usize,
 ) -> u16
     requires { ⌜ (width ≤ 32) × (height ≤ 32) ⌝ }
     requires { ⌜ (n ≤ 8) × (linesForm (countedForm (now text)) (pastCounted (now text)) 31 n ≡ passed) ⌝ }
     requires { ⌜ now at ≡ listed (upTo n (carrierColumn (now text))) 8 ⌝ }
-    requires { ⌜ (now counts ≡ listed (upTo n (countIn (now text))) 8) × (q < 32) ⌝ }
-    ensures { λ r. ⌜ r ≡ upTo n (λ i. upTo (countIn (now (text .entry)) i)
-        (λ k. cellAtColumn (now (text .entry)) width height (carrierColumn (now (text .entry)) i + 15 + 10 * k)) (q % 4)) (q / 4) ⌝ }
+    requires { ⌜ (now counts ≡ listed (upTo n (countIn (now text))) 8) × (p < 32) ⌝ }
+    ensures { λ result. ⌜ result ≡ upTo n (λ i. upTo (countIn (now (text .entry)) i)
+        (λ k. cellAtColumn (now (text .entry)) width height (carrierColumn (now (text .entry)) i + 15 + 10 * k)) (p % 4)) (p / 4) ⌝ }
 {
-    let i = q / 4;
+    let i = p / 4;
     if n <= i {
         return 0;
     }
-    let k = q % 4;
+    let k = p % 4;
     if counts[i] as usize <= k {
         return 0;
     }
@@ -148,17 +148,17 @@ fn docks(text: &[u8], f: Floor, at: [usize; 8], counts: [u16; 8]) -> [u16; 32]
     requires { ⌜ (f .carriers ≤ 8) × (linesForm (countedForm (now text)) (pastCounted (now text)) 31 (f .carriers) ≡ passed) ⌝ }
     requires { ⌜ at ≡ listed (upTo (f .carriers) (carrierColumn (now text))) 8 ⌝ }
     requires { ⌜ counts ≡ countsAt (now text) f ⌝ }
-    ensures { λ r. ⌜ r ≡ docksAt (now (text .entry)) f ⌝ }
+    ensures { λ result. ⌜ result ≡ docksAt (now (text .entry)) f ⌝ }
 {
     let n = f.carriers as usize;
     let width = f.width;
     let height = f.height;
     let last = 4 * n;
     let mut found = [0u16; 32];
-    let mut q: usize = 0;
-    while q < last {
-        found[q] = dock(text, &at, &counts, n, width, height, q);
-        q += 1;
+    let mut p: usize = 0;
+    while p < last {
+        found[p] = dock(text, &at, &counts, n, width, height, p);
+        p += 1;
     }
     found
 }
@@ -168,7 +168,7 @@ pub fn floor(text: &[u8], f: Floor) -> Floor
     requires { ⌜ f ≡ headAt (now text) ⌝ }
     requires { ⌜ (f .width ≤ 32) × (f .height ≤ 32) ⌝ }
     requires { ⌜ (f .carriers ≤ 8) × (linesForm (countedForm (now text)) (pastCounted (now text)) 31 (f .carriers) ≡ passed) ⌝ }
-    ensures { λ r. ⌜ r ≡ floorAt (now (text .entry)) ⌝ }
+    ensures { λ result. ⌜ result ≡ floorAt (now (text .entry)) ⌝ }
 {
     let lines = lines_of(text, f.carriers as usize);
     let at = lines.at;
@@ -191,7 +191,7 @@ pub fn walls(text: &[u8], f: Floor, out: &mut [u16])
     requires { ⌜ (f .width ≤ 32) × (f .height ≤ 32) ⌝ }
     requires { ⌜ (f .carriers ≤ 8) × (f .walls ≤ length (now out)) ⌝ }
     requires { ⌜ carrierAt f (f .carriers) + 11 * f .walls ≤ length (now text) ⌝ }
-    ensures { λ r. ⌜ now (out .exit) ≡ wallsFrom (now (text .entry)) f ++ drop (f .walls) (now (out .entry)) ⌝ }
+    ensures { λ result. ⌜ now (out .exit) ≡ wallsFrom (now (text .entry)) f ++ drop (f .walls) (now (out .entry)) ⌝ }
 {
     let base = lines::walls_at(f);
     let k = f.walls as usize;

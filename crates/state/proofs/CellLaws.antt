@@ -30,7 +30,7 @@ module _ (m : List ℕ) (at : ℕ) where
   pub same-stop : (cells : List ℕ) (t : ℕ) → t < 64 → (getD m (at + t) 0 ≡ getD cells t 0 → ⊥) → false ≡ sameCells (part m at 64) cells
   same-stop cells t l h = go (sameCells (part m at 64) cells) refl
     where
-      go : (b : Bool) → sameCells (part m at 64) cells ≡ b → false ≡ sameCells (part m at 64) cells
+      go : (x : Bool) → sameCells (part m at 64) cells ≡ x → false ≡ sameCells (part m at 64) cells
       go false e = sym e
       go true e =
           absurd (h (sym (part-byte m at 64 t l) ∙ ap (λ (xs : List ℕ). getD xs t 0) (same-cells (part m at 64) cells e)))

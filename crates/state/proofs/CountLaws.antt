@@ -17,10 +17,10 @@ put-two m at next a b e l =
     (put-one (set m at a) next b (omega (arith, length-set m at a))) e (omega arith)
 
 -- Two numbers and a block behind them.
-pub put-three : (m m′ b : List ℕ) (at next last x y : ℕ) → m′ ≡ put (set (set m at x) next y) last b → at + 1 ≡ next → next + 1 ≡ last →
-    last + length b ≤ length m → m′ ≡ put m at (x ∷ (y ∷ b))
-put-three m m′ b at next last x y e one two l =
-    put-next m (set (set m at x) next y) m′ (x ∷ (y ∷ [])) b at last (put-two m at next x y one (omega arith)) e (omega arith) l
+pub put-three : (m m′ xs : List ℕ) (at next last x y : ℕ) → m′ ≡ put (set (set m at x) next y) last xs → at + 1 ≡ next → next + 1 ≡ last →
+    last + length xs ≤ length m → m′ ≡ put m at (x ∷ (y ∷ xs))
+put-three m m′ xs at next last x y e one two l =
+    put-next m (set (set m at x) next y) m′ (x ∷ (y ∷ [])) xs at last (put-two m at next x y one (omega arith)) e (omega arith) l
 
 module _ (m : List ℕ) where
   pub tick-rest : 2 ≤ length m → getD m 1 0 < 999 → set m 1 (getD m 1 0 + 1) ≡ ticked m

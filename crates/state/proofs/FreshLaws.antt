@@ -21,17 +21,17 @@ unfolding carrierBlock fresh slot resized recordOf flag
 carrier-is i = refl
 
 -- Zeros by blocks, of all carriers and of all pairs.
-zero-blocks : (w k : ℕ) (b : ℕ → List ℕ) → ((i : ℕ) → b i ≡ replicate w 0) → blocks k b ≡ replicate (w * k) 0
+zero-blocks : (w k : ℕ) (φ : ℕ → List ℕ) → ((i : ℕ) → φ i ≡ replicate w 0) → blocks k φ ≡ replicate (w * k) 0
 unfolding blocks
-zero-blocks w zero b h = rw (mul-zero w) refl
-zero-blocks w (suc k) b h =
-    rw (zero-blocks w k b h, h k, mul-suc w k) (replicate-append-replicate (w * k) w 0)
+zero-blocks w zero φ h = rw (mul-zero w) refl
+zero-blocks w (suc k) φ h =
+    rw (zero-blocks w k φ h, h k, mul-suc w k) (replicate-append-replicate (w * k) w 0)
 
-zero-pairs : (w n : ℕ) (b : ℕ → ℕ → List ℕ) → ((i j : ℕ) → b i j ≡ replicate w 0) → pairs n b ≡ replicate (w * pairsBefore n) 0
+zero-pairs : (w n : ℕ) (φ : ℕ → ℕ → List ℕ) → ((i j : ℕ) → φ i j ≡ replicate w 0) → pairs n φ ≡ replicate (w * pairsBefore n) 0
 unfolding pairs blocks pairsBefore
-zero-pairs w zero b h = rw (mul-zero w) refl
-zero-pairs w (suc n) b h =
-    rw (zero-pairs w n b h, zero-blocks w n (b n) (h n), mul-add w (pairsBefore n) n)
+zero-pairs w zero φ h = rw (mul-zero w) refl
+zero-pairs w (suc n) φ h =
+    rw (zero-pairs w n φ h, zero-blocks w n (φ n) (h n), mul-add w (pairsBefore n) n)
     (replicate-append-replicate (w * pairsBefore n) (w * n) 0)
 
 -- The loop over carriers: one more.
@@ -63,7 +63,7 @@ fresh-is n =
     let tail = ap₂ _++_ views chans
     ∙ replicate-append-replicate (65 * pairsBefore n) (261 * pairsBefore n) 0
     ∙ ap (λ (k : ℕ). replicate k 0) sum in
-    ap (λ (b : List ℕ). 0 ∷ (0 ∷ (blocks n (carrierBlock fresh) ++ b))) tail
+    ap (λ (xs : List ℕ). 0 ∷ (0 ∷ (blocks n (carrierBlock fresh) ++ xs))) tail
 
 pub fresh-whole : (m m₁ m₂ m₃ : List ℕ) (n a b : ℕ) → stateSize n ≤ length m → m₁ ≡ put m 0 (replicate 2 0) →
     m₂ ≡ put m₁ 2 (blocks n (carrierBlock fresh)) → a ≡ 2 + 67 * n → b ≡ stateSize n → m₃ ≡ put m₂ a (replicate (b - a) 0) →

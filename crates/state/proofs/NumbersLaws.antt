@@ -16,39 +16,39 @@ use Rattle.encoding.specs.Valid.{cellValid, cellsValid}
 use Rattle.state.specs.Numbers.{Larger, Largest, Capped}
 
 -- Of no number every test holds.
-pub each-none : (p : ℕ → Bool) (n : ℕ) → n ≡ 0 → true ≡ each n p
+pub each-none : (φ : ℕ → Bool) (n : ℕ) → n ≡ 0 → true ≡ each n φ
 unfolding each
-each-none p n e = rw e refl
+each-none φ n e = rw e refl
 
 module _ (m : List ℕ) (at : ℕ) where
   -- No number; one more.
   pub largest-none : Largest m at 0 0
   largest-none = record { upper = λ t h. absurd (omega arith); met = inl refl }
 
-  pub largest-more : (n r x : ℕ) → Largest m at n r → Larger r (getD m (at + n) 0) x → Largest m at (n + 1) x
-  largest-more n r x old new = record { upper = upper; met = met (new .one) (old .met) }
+  pub largest-more : (n p x : ℕ) → Largest m at n p → Larger p (getD m (at + n) 0) x → Largest m at (n + 1) x
+  largest-more n p x old new = record { upper = upper; met = met (new .one) (old .met) }
     where
       upper : (t : ℕ) → t < n + 1 → getD m (at + t) 0 ≤ x
       upper t u =
           ⊎-elim (λ (e : t ≡ n). rw e (new .second)) (λ (e : t < n). omega (arith, old .upper t e, new .first))
           (eq-or-lt-of-le (omega arith))
 
-      met : (x ≡ r) ⊎ (x ≡ getD m (at + n) 0) → (r ≡ 0) ⊎ ((t : ℕ) × (t < n) × (getD m (at + t) 0 ≡ r)) →
+      met : (x ≡ p) ⊎ (x ≡ getD m (at + n) 0) → (p ≡ 0) ⊎ ((t : ℕ) × (t < n) × (getD m (at + t) 0 ≡ p)) →
           (x ≡ 0) ⊎ ((t : ℕ) × (t < n + 1) × (getD m (at + t) 0 ≡ x))
       met (inl e) (inl z) = inl (e ∙ z)
       met (inl e) (inr (t, l, q)) = inr (t, omega arith, q ∙ sym e)
       met (inr e) k = inr (n, omega arith, sym e)
 
   -- All are below a bound exactly if the largest is.
-  pub below-largest : (b n r : ℕ) (x : Bool) → (n ≡ 0 → ⊥) → Largest m at n r → x ≡ ltb r b → x ≡ each n (λ t. ltb (getD m (at + t) 0) b)
-  below-largest b n r x some most e = e ∙ same-test (ltb r b) (each n (λ t. ltb (getD m (at + t) 0) b)) says back
+  pub below-largest : (b n k : ℕ) (x : Bool) → (n ≡ 0 → ⊥) → Largest m at n k → x ≡ ltb k b → x ≡ each n (λ t. ltb (getD m (at + t) 0) b)
+  below-largest b n k x some most e = e ∙ same-test (ltb k b) (each n (λ t. ltb (getD m (at + t) 0) b)) says back
     where
-      says : ltb r b ≡ true → each n (λ t. ltb (getD m (at + t) 0) b) ≡ true
+      says : ltb k b ≡ true → each n (λ t. ltb (getD m (at + t) 0) b) ≡ true
       says h =
           each-true n (λ t. ltb (getD m (at + t) 0) b)
-          (λ t l. lt-ltb (getD m (at + t) 0) b (omega (arith, most .upper t l, ltb-true r b h)))
+          (λ t l. lt-ltb (getD m (at + t) 0) b (omega (arith, most .upper t l, ltb-true k b h)))
 
-      found : (r ≡ 0) ⊎ ((t : ℕ) × (t < n) × (getD m (at + t) 0 ≡ r)) → each n (λ t. ltb (getD m (at + t) 0) b) ≡ true → r < b
+      found : (k ≡ 0) ⊎ ((t : ℕ) × (t < n) × (getD m (at + t) 0 ≡ k)) → each n (λ t. ltb (getD m (at + t) 0) b) ≡ true → k < b
       found (inl z) h =
           let y : getD m (at + 0) 0 < b = ltb-true (getD m (at + 0) 0) b (each-holds n (λ t. ltb (getD m (at + t) 0) b) h 0 (omega arith)) in
           omega arith
@@ -56,8 +56,8 @@ module _ (m : List ℕ) (at : ℕ) where
           let y : getD m (at + t) 0 < b = ltb-true (getD m (at + t) 0) b (each-holds n (λ t. ltb (getD m (at + t) 0) b) h t l) in
           omega arith
 
-      back : each n (λ t. ltb (getD m (at + t) 0) b) ≡ true → ltb r b ≡ true
-      back h = lt-ltb r b (found (most .met) h)
+      back : each n (λ t. ltb (getD m (at + t) 0) b) ≡ true → ltb k b ≡ true
+      back h = lt-ltb k b (found (most .met) h)
 
   -- The cells of a record: those that are used are in the grid, the others 0.
   module _ (used cells n : ℕ) (cap : Capped used n) where
@@ -67,13 +67,13 @@ module _ (m : List ℕ) (at : ℕ) where
     abbrev rest : Bool
     rest = each (64 - n) (λ t. ltb (getD m (at + n + t) 0) 1)
 
-    valid-used : (t v : ℕ) → t < used → cellValid used cells t v ≡ ltb v cells
+    valid-used : (t x : ℕ) → t < used → cellValid used cells t x ≡ ltb x cells
     unfolding cellValid
-    valid-used t v h = rw (lt-ltb t used h) refl
+    valid-used t x h = rw (lt-ltb t used h) refl
 
-    valid-unused : (t v : ℕ) → used ≤ t → cellValid used cells t v ≡ eqb v 0
+    valid-unused : (t x : ℕ) → used ≤ t → cellValid used cells t x ≡ eqb x 0
     unfolding cellValid
-    valid-unused t v h = rw (le-ltb t used h) refl
+    valid-unused t x h = rw (le-ltb t used h) refl
 
     abbrev at-beat : ℕ → Bool
     at-beat t = cellValid used cells t (getD m (at + t) 0)

@@ -32,32 +32,32 @@ module _ (m cells : List ℕ) (i tag : ℕ) where
   unfolding newsIn
   news-tag p a planned answer l e h = rw (← planned, ← answer, eq-eqb (getD m p 0) 1 e, old-record a l, ne-eqb (getD m a 0) tag h) refl
 
-  pub news-cells : (p a : ℕ) → p ≡ plannedPlace i → a ≡ answerPlace i → a < length m → getD m p 0 ≡ 1 → getD m a 0 ≡ tag → (b : Bool) →
-      b ≡ sameCells (part m (a + 1) 64) cells → not b ≡ newsIn m i (tag ∷ cells)
+  pub news-cells : (p a : ℕ) → p ≡ plannedPlace i → a ≡ answerPlace i → a < length m → getD m p 0 ≡ 1 → getD m a 0 ≡ tag → (x : Bool) →
+      x ≡ sameCells (part m (a + 1) 64) cells → not x ≡ newsIn m i (tag ∷ cells)
   unfolding newsIn
-  news-cells p a planned answer l e h b s =
+  news-cells p a planned answer l e h x s =
       rw (← planned, ← answer, eq-eqb (getD m p 0) 1 e, old-record a l, eq-eqb (getD m a 0) tag h, s) refl
 
 -- Three records moved up and the last cleared, at the places of a channel.
-pub shift-is : (m m₁ m₂ m₃ m₄ : List ℕ) (c p q r s : ℕ) → p ≡ c + 1 + 65 * 0 → q ≡ c + 1 + 65 * 1 → r ≡ c + 1 + 65 * 2 →
-    s ≡ c + 1 + 65 * 3 → m₁ ≡ moved m q p → m₂ ≡ moved m₁ r q → m₃ ≡ moved m₂ s r → m₄ ≡ put m₃ s (resized 65 []) → m₄ ≡ shifted m c
+pub shift-is : (m m₁ m₂ m₃ m₄ : List ℕ) (at p₀ p₁ p₂ p₃ : ℕ) → p₀ ≡ at + 1 + 65 * 0 → p₁ ≡ at + 1 + 65 * 1 → p₂ ≡ at + 1 + 65 * 2 →
+    p₃ ≡ at + 1 + 65 * 3 → m₁ ≡ moved m p₁ p₀ → m₂ ≡ moved m₁ p₂ p₁ → m₃ ≡ moved m₂ p₃ p₂ → m₄ ≡ put m₃ p₃ (resized 65 []) → m₄ ≡ shifted m at
 unfolding shifted
-shift-is m m₁ m₂ m₃ m₄ c p q r s a b d e f g h k =
-    let one : p ≡ c + 1 = omega arith in
-    let two : q ≡ c + 66 = omega arith in
-    let three : r ≡ c + 131 = omega arith in
-    let four : s ≡ c + 196 = omega arith in
+shift-is m m₁ m₂ m₃ m₄ at p₀ p₁ p₂ p₃ a b d e f g h k =
+    let one : p₀ ≡ at + 1 = omega arith in
+    let two : p₁ ≡ at + 66 = omega arith in
+    let three : p₂ ≡ at + 131 = omega arith in
+    let four : p₃ ≡ at + 196 = omega arith in
     k ∙ rw (h, g, f, one, two, three, four) refl
 
-module _ (m rec : List ℕ) (c : ℕ) where
-  pub push-stores : (m′ : List ℕ) (at : ℕ) → c < length m′ → getD m c 0 < 4 → at ≡ c + 1 + 65 * getD m c 0 → m′ ≡ put m at rec →
-      set m′ c (getD m c 0 + 1) ≡ pushed m c rec
+module _ (m rec : List ℕ) (p : ℕ) where
+  pub push-stores : (m′ : List ℕ) (at : ℕ) → p < length m′ → getD m p 0 < 4 → at ≡ p + 1 + 65 * getD m p 0 → m′ ≡ put m at rec →
+      set m′ p (getD m p 0 + 1) ≡ pushed m p rec
   unfolding pushed
-  push-stores m′ at l h place e = rw (lt-ltb (getD m c 0) 4 h) (put-one m′ c (getD m c 0 + 1) l ∙ rw (e, place) refl)
+  push-stores m′ at l h place e = rw (lt-ltb (getD m p 0) 4 h) (put-one m′ p (getD m p 0 + 1) l ∙ rw (e, place) refl)
 
-  pub push-full : 4 ≤ getD m c 0 → m ≡ pushed m c rec
+  pub push-full : 4 ≤ getD m p 0 → m ≡ pushed m p rec
   unfolding pushed
-  push-full h = rw (le-ltb (getD m c 0) 4 h) refl
+  push-full h = rw (le-ltb (getD m p 0) 4 h) refl
 
 module _ (n i : ℕ) (rec m : List ℕ) where
   pub below-sends : {m′ : List ℕ} (k : ℕ) → i < k → m′ ≡ pushed m (channelPlace n k i) rec → m′ ≡ pushedBelow n i rec m k

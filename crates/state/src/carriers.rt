@@ -15,7 +15,7 @@ use route::Route;
 // Whether 64 cells stand at a place.
 fn same_cells(m: &[u16], at: usize, cells: Route) -> bool
     requires { ⌜ at + 64 ≤ length (now m) ⌝ }
-    ensures { λ r. ⌜ r ≡ sameCells (part (now (m .entry)) at 64) cells ⌝ }
+    ensures { λ result. ⌜ result ≡ sameCells (part (now (m .entry)) at 64) cells ⌝ }
 {
     let mut t: usize = 0;
     while t < records::CELLS {
@@ -30,7 +30,7 @@ fn same_cells(m: &[u16], at: usize, cells: Route) -> bool
 // Whether an answer is news from carrier i: it had not planned before, or its answer changed.
 pub fn is_news(m: &[u16], i: usize, tag: u16, cells: Route) -> bool
     requires { ⌜ (i < 8) × (69 + 67 * i ≤ length (now m)) ⌝ }
-    ensures { λ r. ⌜ r ≡ newsIn (now (m .entry)) i (tag ∷ cells) ⌝ }
+    ensures { λ result. ⌜ result ≡ newsIn (now (m .entry)) i (tag ∷ cells) ⌝ }
 {
     let p = planned_place(i);
     if m[p] != 1 {
@@ -46,20 +46,20 @@ pub fn is_news(m: &[u16], i: usize, tag: u16, cells: Route) -> bool
 // Carrier i's part: whether it has planned, whether it is due, and its answer.
 pub fn write(m: &mut [u16], i: usize, planned: u16, due: u16, tag: u16, cells: Route)
     requires { ⌜ (i < 8) × (69 + 67 * i ≤ length (now m)) ⌝ }
-    ensures { λ r. ⌜ now (m .exit) ≡ put (now (m .entry)) (plannedPlace i) (planned ∷ (due ∷ (tag ∷ cells))) ⌝ }
+    ensures { λ result. ⌜ now (m .exit) ≡ put (now (m .entry)) (plannedPlace i) (planned ∷ (due ∷ (tag ∷ cells))) ⌝ }
 {
     let p = planned_place(i);
-    let d = due_place(i);
+    let place = due_place(i);
     let a = answer_place(i);
     m[p] = planned;
-    m[d] = due;
+    m[place] = due;
     records::store(m, a, tag, cells);
 }
 
 // Carrier i has planned this answer and is no longer due.
 pub fn set_planned(m: &mut [u16], i: usize, tag: u16, cells: Route)
     requires { ⌜ (i < 8) × (69 + 67 * i ≤ length (now m)) ⌝ }
-    ensures { λ r. ⌜ now (m .exit) ≡ put (now (m .entry)) (plannedPlace i) (1 ∷ (0 ∷ (tag ∷ cells))) ⌝ }
+    ensures { λ result. ⌜ now (m .exit) ≡ put (now (m .entry)) (plannedPlace i) (1 ∷ (0 ∷ (tag ∷ cells))) ⌝ }
 {
     write(m, i, 1, 0, tag, cells);
 }
@@ -67,8 +67,8 @@ pub fn set_planned(m: &mut [u16], i: usize, tag: u16, cells: Route)
 // Carrier i becomes due.
 pub fn set_due(m: &mut [u16], i: usize)
     requires { ⌜ (i < 8) × (69 + 67 * i ≤ length (now m)) ⌝ }
-    ensures { λ r. ⌜ now (m .exit) ≡ put (now (m .entry)) (duePlace i) (1 ∷ []) ⌝ }
+    ensures { λ result. ⌜ now (m .exit) ≡ put (now (m .entry)) (duePlace i) (1 ∷ []) ⌝ }
 {
-    let d = due_place(i);
-    m[d] = 1;
+    let due = due_place(i);
+    m[due] = 1;
 }

@@ -20,7 +20,7 @@ use floor::Floor;
 
 // The larger of two numbers.
 fn larger(a: u16, b: u16) -> u16
-    ensures { λ r. ⌜ Larger a b r ⌝ }
+    ensures { λ result. ⌜ Larger a b result ⌝ }
 {
     if a < b {
         return b;
@@ -31,7 +31,7 @@ fn larger(a: u16, b: u16) -> u16
 // The largest of n numbers from a place on, 0 where there is none. It looks at all of them, so that the compiler takes many at once.
 fn largest(m: &[u16], at: usize, n: usize) -> u16
     requires { ⌜ (n ≤ 64) × (at + n ≤ length (now m)) ⌝ }
-    ensures { λ r. ⌜ Largest (now (m .entry)) at n r ⌝ }
+    ensures { λ result. ⌜ Largest (now (m .entry)) at n result ⌝ }
 {
     let mut most: u16 = 0;
     let mut t: usize = 0;
@@ -45,7 +45,7 @@ fn largest(m: &[u16], at: usize, n: usize) -> u16
 // Whether n numbers from a place on are below a bound.
 fn all_below(m: &[u16], at: usize, n: usize, bound: usize) -> bool
     requires { ⌜ (n ≤ 64) × (at + n ≤ length (now m)) ⌝ }
-    ensures { λ r. ⌜ r ≡ each n (λ t. ltb (getD (now (m .entry)) (at + t) 0) bound) ⌝ }
+    ensures { λ result. ⌜ result ≡ each n (λ t. ltb (getD (now (m .entry)) (at + t) 0) bound) ⌝ }
 {
     if n == 0 {
         return true;
@@ -55,7 +55,7 @@ fn all_below(m: &[u16], at: usize, n: usize, bound: usize) -> bool
 
 // A number, at most 64.
 fn capped(used: usize) -> usize
-    ensures { λ r. ⌜ Capped used r ⌝ }
+    ensures { λ result. ⌜ Capped used result ⌝ }
 {
     if records::CELLS < used {
         return records::CELLS;
@@ -66,7 +66,7 @@ fn capped(used: usize) -> usize
 // The 64 numbers at a place: cells of the grid while cells are used, and 0 behind.
 fn cells_valid(m: &[u16], at: usize, used: usize, cells: usize) -> bool
     requires { ⌜ at + 64 ≤ length (now m) ⌝ }
-    ensures { λ r. ⌜ r ≡ cellsValid (now (m .entry)) at used cells ⌝ }
+    ensures { λ result. ⌜ result ≡ cellsValid (now (m .entry)) at used cells ⌝ }
 {
     let n = capped(used);
     if !all_below(m, at, n, cells) {
@@ -77,7 +77,7 @@ fn cells_valid(m: &[u16], at: usize, used: usize, cells: usize) -> bool
 
 // How many cells of a record are used.
 fn used_by(tag: u16, horizon: u16) -> usize
-    ensures { λ r. ⌜ r ≡ usedBy tag horizon ⌝ }
+    ensures { λ result. ⌜ result ≡ usedBy tag horizon ⌝ }
 {
     if tag == 2 {
         return horizon as usize + 1;
@@ -88,7 +88,7 @@ fn used_by(tag: u16, horizon: u16) -> usize
 // The record at a place, its tag being within low to high.
 fn record_valid(f: Floor, m: &[u16], at: usize, low: u16, high: u16) -> bool
     requires { ⌜ at + 65 ≤ length (now m) ⌝ }
-    ensures { λ r. ⌜ r ≡ recordValid f (now (m .entry)) at low high ⌝ }
+    ensures { λ result. ⌜ result ≡ recordValid f (now (m .entry)) at low high ⌝ }
 {
     let tag = m[at];
     if tag < low {
@@ -108,76 +108,76 @@ fn record_valid(f: Floor, m: &[u16], at: usize, low: u16, high: u16) -> bool
 // Carrier i: planned and due are 0 or 1, and its answer is none or a route.
 fn carrier_valid(f: Floor, m: &[u16], i: usize) -> bool
     requires { ⌜ (i < 8) × (69 + 67 * i ≤ length (now m)) ⌝ }
-    ensures { λ r. ⌜ r ≡ carrierValid f (now (m .entry)) i ⌝ }
+    ensures { λ result. ⌜ result ≡ carrierValid f (now (m .entry)) i ⌝ }
 {
     let p = planned_place(i);
     if m[p] > 1 {
         return false;
     }
-    let d = due_place(i);
-    if m[d] > 1 {
+    let due = due_place(i);
+    if m[due] > 1 {
         return false;
     }
     record_valid(f, m, answer_place(i), 1, 2)
 }
 
-// Place q of the channel at place c, which has so many messages.
-fn place_valid(f: Floor, m: &[u16], c: usize, count: usize, q: usize) -> bool
-    requires { ⌜ (q < 4) × (c + 261 ≤ length (now m)) × (c ≤ 9665) ⌝ }
-    ensures { λ r. ⌜ r ≡ placeValid f (now (m .entry)) (c + 1) count q ⌝ }
+// Place p of the channel that begins at `channel`, which has so many messages.
+fn place_valid(f: Floor, m: &[u16], channel: usize, count: usize, p: usize) -> bool
+    requires { ⌜ (p < 4) × (channel + 261 ≤ length (now m)) × (channel ≤ 9665) ⌝ }
+    ensures { λ result. ⌜ result ≡ placeValid f (now (m .entry)) (channel + 1) count p ⌝ }
 {
-    let at = message_place(c, q);
-    if q < count {
+    let at = message_place(channel, p);
+    if p < count {
         return record_valid(f, m, at, 1, 2);
     }
     record_valid(f, m, at, 0, 0)
 }
 
-// The places of the channel at place c, which has so many messages.
-fn places_valid(f: Floor, m: &[u16], c: usize, count: usize) -> bool
-    requires { ⌜ (c + 261 ≤ length (now m)) × (c ≤ 9665) ⌝ }
-    ensures { λ r. ⌜ r ≡ each 4 (placeValid f (now (m .entry)) (c + 1) count) ⌝ }
+// The places of the channel that begins at `channel`, which has so many messages.
+fn places_valid(f: Floor, m: &[u16], channel: usize, count: usize) -> bool
+    requires { ⌜ (channel + 261 ≤ length (now m)) × (channel ≤ 9665) ⌝ }
+    ensures { λ result. ⌜ result ≡ each 4 (placeValid f (now (m .entry)) (channel + 1) count) ⌝ }
 {
-    let mut q: usize = 0;
-    while q < PLACES {
-        if !place_valid(f, m, c, count, q) {
+    let mut p: usize = 0;
+    while p < PLACES {
+        if !place_valid(f, m, channel, count, p) {
             return false;
         }
-        q += 1;
+        p += 1;
     }
     true
 }
 
-// The channel at place c.
-fn channel_valid(f: Floor, m: &[u16], c: usize) -> bool
-    requires { ⌜ (c + 261 ≤ length (now m)) × (c ≤ 9665) ⌝ }
-    ensures { λ r. ⌜ r ≡ channelValid f (now (m .entry)) c ⌝ }
+// The channel that begins at `channel`.
+fn channel_valid(f: Floor, m: &[u16], channel: usize) -> bool
+    requires { ⌜ (channel + 261 ≤ length (now m)) × (channel ≤ 9665) ⌝ }
+    ensures { λ result. ⌜ result ≡ channelValid f (now (m .entry)) channel ⌝ }
 {
-    let count = m[c];
+    let count = m[channel];
     if f.depth < count {
         return false;
     }
-    places_valid(f, m, c, count as usize)
+    places_valid(f, m, channel, count as usize)
 }
 
 // The view that carrier i has of carrier j, and the channel between them.
 fn pair_valid(f: Floor, m: &[u16], i: usize, j: usize) -> bool
     requires { ⌜ (j < i) × (i < f .carriers) × (f .carriers ≤ 8) × (stateSize (f .carriers) ≤ length (now m)) ⌝ }
-    ensures { λ r. ⌜ r ≡ pairValid f (now (m .entry)) i j ⌝ }
+    ensures { λ result. ⌜ result ≡ pairValid f (now (m .entry)) i j ⌝ }
 {
     let n = f.carriers as usize;
-    let v = view_place(n, i, j);
-    if !record_valid(f, m, v, 0, 2) {
+    let view = view_place(n, i, j);
+    if !record_valid(f, m, view, 0, 2) {
         return false;
     }
-    let c = channel_place(n, i, j);
-    channel_valid(f, m, c)
+    let channel = channel_place(n, i, j);
+    channel_valid(f, m, channel)
 }
 
 // The pairs of receiver i.
 fn receiver_valid(f: Floor, m: &[u16], i: usize) -> bool
     requires { ⌜ (i < f .carriers) × (f .carriers ≤ 8) × (stateSize (f .carriers) ≤ length (now m)) ⌝ }
-    ensures { λ r. ⌜ r ≡ each i (pairValid f (now (m .entry)) i) ⌝ }
+    ensures { λ result. ⌜ result ≡ each i (pairValid f (now (m .entry)) i) ⌝ }
 {
     let mut j: usize = 0;
     while j < i {
@@ -192,7 +192,7 @@ fn receiver_valid(f: Floor, m: &[u16], i: usize) -> bool
 // All pairs.
 fn pairs_valid(f: Floor, m: &[u16]) -> bool
     requires { ⌜ (f .carriers ≤ 8) × (stateSize (f .carriers) ≤ length (now m)) ⌝ }
-    ensures { λ r. ⌜ r ≡ each (f .carriers) (λ i. each i (pairValid f (now (m .entry)) i)) ⌝ }
+    ensures { λ result. ⌜ result ≡ each (f .carriers) (λ i. each i (pairValid f (now (m .entry)) i)) ⌝ }
 {
     let n = f.carriers as usize;
     let mut i: usize = 0;
@@ -208,7 +208,7 @@ fn pairs_valid(f: Floor, m: &[u16]) -> bool
 // All carriers.
 fn carriers_valid(f: Floor, m: &[u16]) -> bool
     requires { ⌜ (f .carriers ≤ 8) × (stateSize (f .carriers) ≤ length (now m)) ⌝ }
-    ensures { λ r. ⌜ r ≡ each (f .carriers) (carrierValid f (now (m .entry))) ⌝ }
+    ensures { λ result. ⌜ result ≡ each (f .carriers) (carrierValid f (now (m .entry))) ⌝ }
 {
     let n = f.carriers as usize;
     let mut i: usize = 0;
@@ -224,7 +224,7 @@ fn carriers_valid(f: Floor, m: &[u16]) -> bool
 // Whether the memory is a state of the floor.
 pub fn valid(f: Floor, m: &[u16]) -> bool
     requires { ⌜ (f .carriers ≤ 8) × (stateSize (f .carriers) ≤ length (now m)) ⌝ }
-    ensures { λ r. ⌜ r ≡ Valid·valid f (now (m .entry)) ⌝ }
+    ensures { λ result. ⌜ result ≡ Valid·valid f (now (m .entry)) ⌝ }
 {
     if m[0] > 999 {
         return false;

@@ -7,7 +7,7 @@ ghost use Rattle.encoding.specs.InnerSteps.{ticked};
 // Counts one more step; the count stays at 999,999 once there.
 pub fn tick(m: &mut [u16])
     requires { ⌜ 2 ≤ length (now m) ⌝ }
-    ensures { λ r. ⌜ now (m .exit) ≡ ticked (now (m .entry)) ⌝ }
+    ensures { λ result. ⌜ now (m .exit) ≡ ticked (now (m .entry)) ⌝ }
 {
     let rest = m[1];
     let thousands = m[0];

@@ -27,7 +27,7 @@ const PAIR: usize = records::SIZE + CHANNEL;
 // The pairs with a receiver below i.
 pub fn pairs_before(i: usize) -> usize
     requires { ⌜ i ≤ 8 ⌝ }
-    ensures { λ r. ⌜ (r ≡ pairsBefore i) × (r ≤ 28) ⌝ }
+    ensures { λ result. ⌜ (result ≡ pairsBefore i) × (result ≤ 28) ⌝ }
 {
     let mut p: usize = 0;
     let mut k: usize = 0;
@@ -41,7 +41,7 @@ pub fn pairs_before(i: usize) -> usize
 // The flag planned of carrier i.
 pub fn planned_place(i: usize) -> usize
     requires { ⌜ i < 8 ⌝ }
-    ensures { λ r. ⌜ (r ≡ plannedPlace i) × (r ≡ 2 + 67 * i) ⌝ }
+    ensures { λ result. ⌜ (result ≡ plannedPlace i) × (result ≡ 2 + 67 * i) ⌝ }
 {
     COUNT + CARRIER * i
 }
@@ -49,7 +49,7 @@ pub fn planned_place(i: usize) -> usize
 // The flag due of carrier i.
 pub fn due_place(i: usize) -> usize
     requires { ⌜ i < 8 ⌝ }
-    ensures { λ r. ⌜ (r ≡ duePlace i) × (r ≡ 3 + 67 * i) ⌝ }
+    ensures { λ result. ⌜ (result ≡ duePlace i) × (result ≡ 3 + 67 * i) ⌝ }
 {
     DUE + CARRIER * i
 }
@@ -57,7 +57,7 @@ pub fn due_place(i: usize) -> usize
 // The answer of carrier i.
 pub fn answer_place(i: usize) -> usize
     requires { ⌜ i < 8 ⌝ }
-    ensures { λ r. ⌜ (r ≡ answerPlace i) × (r ≡ 4 + 67 * i) ⌝ }
+    ensures { λ result. ⌜ (result ≡ answerPlace i) × (result ≡ 4 + 67 * i) ⌝ }
 {
     ANSWER + CARRIER * i
 }
@@ -65,7 +65,7 @@ pub fn answer_place(i: usize) -> usize
 // The first view of n carriers, right behind the carriers.
 pub fn pairs_place(n: usize) -> usize
     requires { ⌜ n ≤ 8 ⌝ }
-    ensures { λ r. ⌜ r ≡ 2 + 67 * n ⌝ }
+    ensures { λ result. ⌜ result ≡ 2 + 67 * n ⌝ }
 {
     COUNT + CARRIER * n
 }
@@ -73,7 +73,7 @@ pub fn pairs_place(n: usize) -> usize
 // The view that carrier i has of carrier j.
 pub fn view_place(n: usize, i: usize, j: usize) -> usize
     requires { ⌜ (j < i) × (i < n) × (n ≤ 8) ⌝ }
-    ensures { λ r. ⌜ (r ≡ viewPlace n i j) × (r + 65 ≤ stateSize n) × (r ≤ 9665) ⌝ }
+    ensures { λ result. ⌜ (result ≡ viewPlace n i j) × (result + 65 ≤ stateSize n) × (result ≤ 9665) ⌝ }
 {
     COUNT + CARRIER * n + records::SIZE * (pairs_before(i) + j)
 }
@@ -81,7 +81,7 @@ pub fn view_place(n: usize, i: usize, j: usize) -> usize
 // The first view that carrier i has; the views of carrier i stand one behind the other.
 pub fn views_start(n: usize, i: usize) -> usize
     requires { ⌜ (i < n) × (n ≤ 8) ⌝ }
-    ensures { λ r. ⌜ (r ≡ viewPlace n i 0) × (r + 65 * i ≤ stateSize n) × (r ≤ 9665) ⌝ }
+    ensures { λ result. ⌜ (result ≡ viewPlace n i 0) × (result + 65 * i ≤ stateSize n) × (result ≤ 9665) ⌝ }
 {
     COUNT + CARRIER * n + records::SIZE * pairs_before(i)
 }
@@ -89,7 +89,7 @@ pub fn views_start(n: usize, i: usize) -> usize
 // The place behind the last view that carrier i has.
 pub fn views_end(n: usize, i: usize) -> usize
     requires { ⌜ (i < n) × (n ≤ 8) ⌝ }
-    ensures { λ r. ⌜ (r ≡ viewPlace n i 0 + 65 * i) × (r ≤ stateSize n) ⌝ }
+    ensures { λ result. ⌜ (result ≡ viewPlace n i 0 + 65 * i) × (result ≤ stateSize n) ⌝ }
 {
     views_start(n, i) + records::SIZE * i
 }
@@ -97,23 +97,23 @@ pub fn views_end(n: usize, i: usize) -> usize
 // The channel from carrier j to carrier i.
 pub fn channel_place(n: usize, i: usize, j: usize) -> usize
     requires { ⌜ (j < i) × (i < n) × (n ≤ 8) ⌝ }
-    ensures { λ r. ⌜ (r ≡ channelPlace n i j) × (r + 261 ≤ stateSize n) × (r ≤ 9665) ⌝ }
+    ensures { λ result. ⌜ (result ≡ channelPlace n i j) × (result + 261 ≤ stateSize n) × (result ≤ 9665) ⌝ }
 {
     COUNT + CARRIER * n + records::SIZE * pairs_before(n) + CHANNEL * (pairs_before(i) + j)
 }
 
-// Place q of the channel at place c; the oldest message stands in place 0.
-pub fn message_place(c: usize, q: usize) -> usize
-    requires { ⌜ (c ≤ 9665) × (q < 4) ⌝ }
-    ensures { λ r. ⌜ (r ≡ c + 1 + 65 * q) × (r + 65 ≤ c + 261) ⌝ }
+// Place p of the channel that begins at `channel`; the oldest message stands in place 0.
+pub fn message_place(channel: usize, p: usize) -> usize
+    requires { ⌜ (channel ≤ 9665) × (p < 4) ⌝ }
+    ensures { λ result. ⌜ (result ≡ channel + 1 + 65 * p) × (result + 65 ≤ channel + 261) ⌝ }
 {
-    c + 1 + records::SIZE * q
+    channel + 1 + records::SIZE * p
 }
 
 // The needed length of a state.
 pub fn state_size(n: usize) -> usize
     requires { ⌜ n ≤ 8 ⌝ }
-    ensures { λ r. ⌜ (r ≡ stateSize n) × (r ≤ 9666) ⌝ }
+    ensures { λ result. ⌜ (result ≡ stateSize n) × (result ≤ 9666) ⌝ }
 {
     COUNT + CARRIER * n + PAIR * pairs_before(n)
 }

@@ -13,7 +13,7 @@ use crate::places::state_size;
 // Carrier i, fresh.
 fn write_carrier(m: &mut [u16], i: usize)
     requires { ⌜ (i < 8) × (69 + 67 * i ≤ length (now m)) ⌝ }
-    ensures { λ r. ⌜ now (m .exit) ≡ put (now (m .entry)) (2 + 67 * i) (carrierBlock fresh i) ⌝ }
+    ensures { λ result. ⌜ now (m .exit) ≡ put (now (m .entry)) (2 + 67 * i) (carrierBlock fresh i) ⌝ }
 {
     crate::carriers::write(m, i, 0, 1, 1, [0u16; records::CELLS]);
 }
@@ -21,7 +21,7 @@ fn write_carrier(m: &mut [u16], i: usize)
 // The first n carriers, fresh.
 fn write_carriers(m: &mut [u16], n: usize)
     requires { ⌜ (n ≤ 8) × (2 + 67 * n ≤ length (now m)) ⌝ }
-    ensures { λ r. ⌜ now (m .exit) ≡ put (now (m .entry)) 2 (blocks n (carrierBlock fresh)) ⌝ }
+    ensures { λ result. ⌜ now (m .exit) ≡ put (now (m .entry)) 2 (blocks n (carrierBlock fresh)) ⌝ }
 {
     let mut i: usize = 0;
     while i < n {
@@ -33,7 +33,7 @@ fn write_carriers(m: &mut [u16], n: usize)
 // So many zeros from a place on.
 fn write_zeros(m: &mut [u16], at: usize, count: usize)
     requires { ⌜ at + count ≤ length (now m) ⌝ }
-    ensures { λ r. ⌜ now (m .exit) ≡ put (now (m .entry)) at (replicate count 0) ⌝ }
+    ensures { λ result. ⌜ now (m .exit) ≡ put (now (m .entry)) at (replicate count 0) ⌝ }
 {
     let mut t: usize = 0;
     while t < count {
@@ -45,11 +45,11 @@ fn write_zeros(m: &mut [u16], at: usize, count: usize)
 // The fresh state of n carriers.
 pub fn write_fresh(m: &mut [u16], n: usize)
     requires { ⌜ (n ≤ 8) × (stateSize n ≤ length (now m)) ⌝ }
-    ensures { λ r. ⌜ now (m .exit) ≡ put (now (m .entry)) 0 (encode n fresh) ⌝ }
+    ensures { λ result. ⌜ now (m .exit) ≡ put (now (m .entry)) 0 (encode n fresh) ⌝ }
 {
     write_zeros(m, 0, COUNT);
     write_carriers(m, n);
     let a = pairs_place(n);
-    let e = state_size(n);
-    write_zeros(m, a, e - a);
+    let end = state_size(n);
+    write_zeros(m, a, end - a);
 }

@@ -60,7 +60,7 @@ module _ (f : Floor) (ws : List ℕ) where
   there-of (plan i) = refl
   there-of (deliver j i) = refl
 
-  pub named-of : (a : Asked) → isNamed (bare f) a ≡ isNamed (machineOf f ws) a
+  pub named-of : (y : Asked) → isNamed (bare f) y ≡ isNamed (machineOf f ws) y
   unfolding isNamed
   named-of (step x) = there-of x
   named-of noStep = refl
@@ -71,7 +71,7 @@ module _ (f : Floor) (ws : List ℕ) where
     waits-of (plan i) = refl
     waits-of (deliver j i) = refl
 
-    pub single-of : (a : Asked) → singleVerdictIn (bare f) m a ≡ singleVerdictIn (machineOf f ws) m a
+    pub single-of : (y : Asked) → singleVerdictIn (bare f) m y ≡ singleVerdictIn (machineOf f ws) m y
     unfolding singleVerdictIn
     single-of (step x) = rw (there-of x, waits-of x) refl
     single-of noStep = refl
@@ -130,20 +130,20 @@ module _ (f : Floor) (m : List ℕ) where
   receiver-absent j i l = rw (le-ltb i (f .carriers) l, and-false (ltb j i)) refl
 
   -- A step that is there is open if it waits for nothing.
-  pub open-waits : (x : Step) (v : Verdict) → isThere (bare f) x ≡ true → v ≡ waitsIn (bare f) m x → passes v ≡ openIn (bare f) m x
+  pub open-waits : (x : Step) (y : Verdict) → isThere (bare f) x ≡ true → y ≡ waitsIn (bare f) m x → passes y ≡ openIn (bare f) m x
   unfolding openIn
-  open-waits x v t e = rw (t, e) refl
+  open-waits x y t e = rw (t, e) refl
 
   -- What a plan waits for: 8 where it is not due; otherwise what the search for a full channel has found.
   pub plan-early : (i : ℕ) → (getD m (duePlace i) 0 ≡ 1 → ⊥) → refused 8 0 ≡ waitsIn (bare f) m (plan i)
   unfolding waitsIn demand _then_
   plan-early i h = rw (ne-eqb _ 1 h) refl
 
-  pub plan-due : (i r : ℕ) → getD m (duePlace i) 0 ≡ 1 →
-      demand (leb (f .carriers) r) 13 (1 + r) ≡ demandEach 13 1 (capacityAt (f .carriers) (f .depth) m i) (f .carriers) →
-      demand (leb (f .carriers) r) 13 (1 + r) ≡ waitsIn (bare f) m (plan i)
+  pub plan-due : (i n : ℕ) → getD m (duePlace i) 0 ≡ 1 →
+      demand (leb (f .carriers) n) 13 (1 + n) ≡ demandEach 13 1 (capacityAt (f .carriers) (f .depth) m i) (f .carriers) →
+      demand (leb (f .carriers) n) 13 (1 + n) ≡ waitsIn (bare f) m (plan i)
   unfolding waitsIn capacityIn capacityAt bare machineOf
-  plan-due i r h e = e ∙ sym (then-passed (demand-passes 8 0 (eq-eqb _ 1 h)))
+  plan-due i n h e = e ∙ sym (then-passed (demand-passes 8 0 (eq-eqb _ 1 h)))
 
   -- What a delivery waits for.
   pub delivery-waits : (j i : ℕ) →
@@ -152,7 +152,7 @@ module _ (f : Floor) (m : List ℕ) where
   delivery-waits j i = refl
 
 -- A single test passes if it holds.
-pub demand-test : (b : Bool) (k p : ℕ) → passes (demand b k p) ≡ b
+pub demand-test : (x : Bool) (k p : ℕ) → passes (demand x k p) ≡ x
 unfolding passes demand
 demand-test true k p = refl
 demand-test false k p = refl
@@ -164,7 +164,7 @@ capacity-start n depth m i =
     all-passes 13 1 _ (λ k. capacityAt n depth m i k ≡ true) (λ k. (λ h. h, λ h. h)) (i + 1)
     (λ k l. or-inl (leb k i) _ (le-leb k i (omega arith)))
 
-pub capacity-stop : {t : Bool} (ok : ℕ → Bool) (k n : ℕ) → demandEach 13 1 ok k ≡ passed → t ≡ ok k → not t ≡ true → k < n →
+pub capacity-stop : {x : Bool} (ok : ℕ → Bool) (k n : ℕ) → demandEach 13 1 ok k ≡ passed → x ≡ ok k → not x ≡ true → k < n →
     demand (leb n k) 13 (1 + k) ≡ demandEach 13 1 ok n
 capacity-stop ok k n h e s l = demand-refuses 13 (1 + k) (lt-leb n k l) ∙ tests-stop 13 1 ok k n h e s l
 
@@ -179,13 +179,13 @@ pub silent-is : (f : Floor) (m : List ℕ) →
     (each (f .carriers) (planShut f m) && each (f .carriers) (senderShut f m)) ≡ silentIn (bare f) m
 unfolding silentIn planShut senderShut deliveryShut bare machineOf
 silent-is f m =
-    ap (λ (b : Bool). each (f .carriers) (planShut f m) && b)
+    ap (λ (x : Bool). each (f .carriers) (planShut f m) && x)
     (each-same (f .carriers) (senderShut f m) (λ j. each (f .carriers - suc j) (λ d. shutIn (bare f) m (deliver j (suc j + d))))
     (λ j l.
     rw add-one
     (each-same (f .carriers - suc j) (deliveryShut f m j) (λ d. shutIn (bare f) m (deliver j (suc j + d)))
     (λ d k. rw add-one refl))))
 
-pub silent-by : {r : Bool} (f : Floor) (m : List ℕ) → r ≡ (each (f .carriers) (planShut f m) && each (f .carriers) (senderShut f m)) →
-    r ≡ silentIn (bare f) m
+pub silent-by : {x : Bool} (f : Floor) (m : List ℕ) → x ≡ (each (f .carriers) (planShut f m) && each (f .carriers) (senderShut f m)) →
+    x ≡ silentIn (bare f) m
 silent-by f m e = e ∙ silent-is f m

@@ -19,11 +19,11 @@ use Rattle.steps.specs.Answers.{takenMeant}
 use Rattle.steps.specs.Inner.{Did, Took}
 
 -- The plan of carrier i with the record of its best answer: sent if it is news, otherwise kept.
-pub plan-did : (f : Floor) (ws m : List ℕ) (i : ℕ) (rec m′ : List ℕ) (news : Bool) (r : Taken) →
+pub plan-did : (f : Floor) (ws m : List ℕ) (i : ℕ) (rec m′ : List ℕ) (news : Bool) (x : Taken) →
     rec ≡ recordOf (bestIn (machineOf f ws) m i) → m′ ≡ plannedIn (f .carriers) m i rec → news ≡ newsIn m i rec →
-    takenMeant r ≡ cond news sent kept → Did (machineOf f ws) m (plan i) r m′
+    takenMeant x ≡ cond news sent kept → Did (machineOf f ws) m (plan i) x m′
 unfolding effectIn stepAnswerIn machineOf
-plan-did f ws m i rec m′ news r same stored new answer =
+plan-did f ws m i rec m′ news x same stored new answer =
     record {
       answers = answer ∙ rw (new, same) refl;
       stores = stored ∙ ap (plannedIn (f .carriers) m i) same;
@@ -39,11 +39,11 @@ pub old-stored : (n i : ℕ) (m rec m₁ : List ℕ) → m₁ ≡ put m (planned
 unfolding plannedIn
 old-stored n i m rec m₁ stored e = rw (e, stored) refl
 
-pub delivery-stored : (n j i v c q : ℕ) (m m₁ m₂ m₃ : List ℕ) → q ≡ c + 1 + 65 * 0 → v ≡ viewPlace n i j → c ≡ channelPlace n i j →
-    m₁ ≡ moved m q v → m₂ ≡ popped m₁ c → m₃ ≡ put m₂ (duePlace i) (1 ∷ []) → m₃ ≡ deliveredIn n m j i
+pub delivery-stored : (n j i x channel p : ℕ) (m m₁ m₂ m₃ : List ℕ) → p ≡ channel + 1 + 65 * 0 → x ≡ viewPlace n i j → channel ≡ channelPlace n i j →
+    m₁ ≡ moved m p x → m₂ ≡ popped m₁ channel → m₃ ≡ put m₂ (duePlace i) (1 ∷ []) → m₃ ≡ deliveredIn n m j i
 unfolding deliveredIn
-delivery-stored n j i v c q m m₁ m₂ m₃ first a b e g d =
-    let oldest : q ≡ c + 1 = omega arith in
+delivery-stored n j i x channel p m m₁ m₂ m₃ first a b e g d =
+    let oldest : p ≡ channel + 1 = omega arith in
     d ∙ rw (g, e, oldest, a, b) refl
 
 pub delivery-did : (f : Floor) (ws m : List ℕ) (j i : ℕ) (m′ : List ℕ) → m′ ≡ deliveredIn (f .carriers) m j i →
@@ -52,6 +52,6 @@ unfolding stepAnswerIn effectIn takenMeant machineOf
 delivery-did f ws m j i m′ e = record { answers = refl; stores = e }
 
 -- A step that did its work and is counted is taken.
-pub counted-took : {M : Machine} {x : Step} {r : Taken} (m m₁ m₂ : List ℕ) → Did M m x r m₁ → m₂ ≡ ticked m₁ → Took M m x r m₂
+pub counted-took : {M : Machine} {x : Step} {y : Taken} (m m₁ m₂ : List ℕ) → Did M m x y m₁ → m₂ ≡ ticked m₁ → Took M m x y m₂
 unfolding afterIn
 counted-took m m₁ m₂ d e = record { answers = d .answers; stores = e ∙ ap ticked (d .stores) }

@@ -22,10 +22,10 @@ use Rattle.encoding.specs.InnerSteps.{viewsIn, bestIn}
 use Rattle.encoding.specs.Calls.{machineOf}
 
 -- The views of the first k records, one by one.
-shown-below : (b : List ℕ) (g : ℕ → View) (k : ℕ) → ((j : ℕ) → j < k → viewAt b j ≡ g j) → records b k ≡ below k g
+shown-below : (xs : List ℕ) (φ : ℕ → View) (k : ℕ) → ((j : ℕ) → j < k → viewAt xs j ≡ φ j) → records xs k ≡ below k φ
 unfolding records below
-shown-below b g zero h = refl
-shown-below b g (suc k) h = rw (shown-below b g k (λ j l. h j (omega arith)), h k (omega arith)) refl
+shown-below xs φ zero h = refl
+shown-below xs φ (suc k) h = rw (shown-below xs φ k (λ j l. h j (omega arith)), h k (omega arith)) refl
 
 next-view : (n i j a : ℕ) → a ≡ viewPlace n i 0 → a + 65 * j ≡ viewPlace n i j
 unfolding viewPlace
@@ -47,16 +47,16 @@ part-best f ws rows m i a free e l =
     same j k = view-part m a i j k l ∙ ap (recordAt m) (next-view (f .carriers) i j a e)
 
 -- The part as the code takes it, from the first view to the place behind the last.
-slice-part : (m : List ℕ) (a e i : ℕ) → e ≡ a + 65 * i → take (e - a) (drop a m) ≡ part m a (65 * i)
+slice-part : (m : List ℕ) (a p i : ℕ) → p ≡ a + 65 * i → take (p - a) (drop a m) ≡ part m a (65 * i)
 unfolding part
-slice-part m a e i h = let size : e - a ≡ 65 * i = omega arith in rw size refl
+slice-part m a p i h = let size : p - a ≡ 65 * i = omega arith in rw size refl
 
-pub slice-long : (m : List ℕ) (a e i : ℕ) → e ≡ a + 65 * i → e ≤ length m → 65 * i ≤ length (take (e - a) (drop a m))
-slice-long m a e i h l = omega (arith, ap length (slice-part m a e i h), part-length m a (65 * i) (omega arith))
+pub slice-long : (m : List ℕ) (a p i : ℕ) → p ≡ a + 65 * i → p ≤ length m → 65 * i ≤ length (take (p - a) (drop a m))
+slice-long m a p i h l = omega (arith, ap length (slice-part m a p i h), part-length m a (65 * i) (omega arith))
 
-pub slice-best : (f : Floor) (ws rows m : List ℕ) (i a e : ℕ) → FreeRows f ws rows → a ≡ viewPlace (f .carriers) i 0 →
-    e ≡ a + 65 * i → e ≤ length m →
-    best (taskOfRows f rows (i + 1)) (seen f (viewsOf (take (e - a) (drop a m)) (i + 1))) ≡ bestIn (machineOf f ws) m i
-slice-best f ws rows m i a e free at h l =
-    ap (λ (b : List ℕ). best (taskOfRows f rows (i + 1)) (seen f (viewsOf b (i + 1)))) (slice-part m a e i h)
+pub slice-best : (f : Floor) (ws rows m : List ℕ) (i a p : ℕ) → FreeRows f ws rows → a ≡ viewPlace (f .carriers) i 0 →
+    p ≡ a + 65 * i → p ≤ length m →
+    best (taskOfRows f rows (i + 1)) (seen f (viewsOf (take (p - a) (drop a m)) (i + 1))) ≡ bestIn (machineOf f ws) m i
+slice-best f ws rows m i a p free at h l =
+    ap (λ (xs : List ℕ). best (taskOfRows f rows (i + 1)) (seen f (viewsOf xs (i + 1)))) (slice-part m a p i h)
     ∙ part-best f ws rows m i a free at (omega arith)

@@ -51,11 +51,11 @@ RowsFor f ws rows (plan i) = FreeRows f ws rows
 RowsFor f ws rows (deliver j i) = Unit {0}
 
 -- What a step did: its answer, and the memory after it, the step not being counted yet.
-pub record Did (M : Machine) (m : List ℕ) (x : Step) (r : Taken) (m′ : List ℕ) : Type 0 where
-  pub answers : takenMeant r ≡ stepAnswerIn M m x
+pub record Did (M : Machine) (m : List ℕ) (x : Step) (y : Taken) (m′ : List ℕ) : Type 0 where
+  pub answers : takenMeant y ≡ stepAnswerIn M m x
   pub stores : m′ ≡ effectIn M m x
 
 -- A step that was taken: its answer, and the memory after it.
-pub record Took (M : Machine) (m : List ℕ) (x : Step) (r : Taken) (m′ : List ℕ) : Type 0 where
-  pub answers : takenMeant r ≡ stepAnswerIn M m x
+pub record Took (M : Machine) (m : List ℕ) (x : Step) (y : Taken) (m′ : List ℕ) : Type 0 where
+  pub answers : takenMeant y ≡ stepAnswerIn M m x
   pub stores : m′ ≡ afterIn M m x

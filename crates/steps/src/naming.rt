@@ -13,7 +13,7 @@ use floor::Floor;
 
 // The step that a number names.
 pub fn asked_by(x: u16) -> Asked
-    ensures { λ r. ⌜ askedMeant r ≡ askedBy x ⌝ }
+    ensures { λ result. ⌜ askedMeant result ≡ askedBy x ⌝ }
 {
     if x < 101 {
         return Asked::NoKind;
@@ -38,7 +38,7 @@ pub fn asked_by(x: u16) -> Asked
 
 // Whether a delivery names a sender above a receiver that is there.
 fn way_there(from: usize, to: usize, n: usize) -> bool
-    ensures { λ r. ⌜ r ≡ (ltb from to && ltb to n) ⌝ }
+    ensures { λ result. ⌜ result ≡ (ltb from to && ltb to n) ⌝ }
 {
     if from < to {
         return to < n;
@@ -47,10 +47,10 @@ fn way_there(from: usize, to: usize, n: usize) -> bool
 }
 
 // Whether a step is there on a floor.
-pub fn is_there(f: Floor, s: Step) -> bool
-    ensures { λ r. ⌜ r ≡ isThere (bare f) (stepMeant s) ⌝ }
+pub fn is_there(f: Floor, x: Step) -> bool
+    ensures { λ result. ⌜ result ≡ isThere (bare f) (stepMeant x) ⌝ }
 {
-    match s {
+    match x {
         Step::Plan(i) => i < f.carriers as usize,
         Step::Deliver { from, to } => way_there(from, to, f.carriers as usize),
     }
@@ -58,7 +58,7 @@ pub fn is_there(f: Floor, s: Step) -> bool
 
 // Whether a number names a step that is there on a floor.
 pub fn is_named(f: Floor, x: u16) -> bool
-    ensures { λ r. ⌜ r ≡ isNamed (bare f) (askedBy x) ⌝ }
+    ensures { λ result. ⌜ result ≡ isNamed (bare f) (askedBy x) ⌝ }
 {
     let asked = asked_by(x);
     let Asked::Known(s) = asked else {

@@ -19,7 +19,7 @@ use floor::Refusal;
 // Whether the channel from carrier i to carrier k below it has fewer than depth messages.
 fn has_capacity(n: usize, depth: u16, m: &[u16], i: usize, k: usize) -> bool
     requires { ⌜ (i < k) × (k < n) × (n ≤ 8) × (stateSize n ≤ length (now m)) ⌝ }
-    ensures { λ r. ⌜ r ≡ capacityAt n depth (now (m .entry)) i k ⌝ }
+    ensures { λ result. ⌜ result ≡ capacityAt n depth (now (m .entry)) i k ⌝ }
 {
     let c = state::channel_place(n, k, i);
     m[c] < depth
@@ -28,7 +28,7 @@ fn has_capacity(n: usize, depth: u16, m: &[u16], i: usize, k: usize) -> bool
 // The smallest carrier to which the channel from carrier i is full; n if none is.
 fn first_full(n: usize, depth: u16, m: &[u16], i: usize) -> usize
     requires { ⌜ (i < n) × (n ≤ 8) × (stateSize n ≤ length (now m)) ⌝ }
-    ensures { λ r. ⌜ (r ≤ n) × (demand (leb n r) 13 (1 + r) ≡ demandEach 13 1 (capacityAt n depth (now (m .entry)) i) n) ⌝ }
+    ensures { λ result. ⌜ (result ≤ n) × (demand (leb n result) 13 (1 + result) ≡ demandEach 13 1 (capacityAt n depth (now (m .entry)) i) n) ⌝ }
 {
     let mut k: usize = i + 1;
     while k < n {
@@ -43,7 +43,7 @@ fn first_full(n: usize, depth: u16, m: &[u16], i: usize) -> usize
 // Whether the plan of carrier i is open: it is there and due, and no channel from it is full.
 fn plan_open(f: Floor, m: &[u16], i: usize) -> bool
     requires { ⌜ (f .carriers ≤ 8) × (stateSize (f .carriers) ≤ length (now m)) ⌝ }
-    ensures { λ r. ⌜ r ≡ openIn (bare f) (now (m .entry)) (plan i) ⌝ }
+    ensures { λ result. ⌜ result ≡ openIn (bare f) (now (m .entry)) (plan i) ⌝ }
 {
     let n = f.carriers as usize;
     if i >= n {
@@ -59,7 +59,7 @@ fn plan_open(f: Floor, m: &[u16], i: usize) -> bool
 // Whether the delivery from carrier j to carrier i is open: it is there, and so is a message.
 fn delivery_open(f: Floor, m: &[u16], j: usize, i: usize) -> bool
     requires { ⌜ (f .carriers ≤ 8) × (stateSize (f .carriers) ≤ length (now m)) ⌝ }
-    ensures { λ r. ⌜ r ≡ openIn (bare f) (now (m .entry)) (deliver j i) ⌝ }
+    ensures { λ result. ⌜ result ≡ openIn (bare f) (now (m .entry)) (deliver j i) ⌝ }
 {
     let n = f.carriers as usize;
     if j >= i {
@@ -73,11 +73,11 @@ fn delivery_open(f: Floor, m: &[u16], j: usize, i: usize) -> bool
 }
 
 // Whether a step is open.
-pub fn is_open(f: Floor, m: &[u16], s: Step) -> bool
+pub fn is_open(f: Floor, m: &[u16], x: Step) -> bool
     requires { ⌜ (f .carriers ≤ 8) × (stateSize (f .carriers) ≤ length (now m)) ⌝ }
-    ensures { λ r. ⌜ r ≡ openIn (bare f) (now (m .entry)) (stepMeant s) ⌝ }
+    ensures { λ result. ⌜ result ≡ openIn (bare f) (now (m .entry)) (stepMeant x) ⌝ }
 {
-    match s {
+    match x {
         Step::Plan(i) => plan_open(f, m, i),
         Step::Deliver { from, to } => delivery_open(f, m, from, to),
     }
@@ -86,7 +86,7 @@ pub fn is_open(f: Floor, m: &[u16], s: Step) -> bool
 // 8 unless carrier i is due.
 fn due_waits(f: Floor, m: &[u16], i: usize) -> Checked
     requires { ⌜ (i < f .carriers) × (f .carriers ≤ 8) × (stateSize (f .carriers) ≤ length (now m)) ⌝ }
-    ensures { λ r. ⌜ verdictOf r ≡ demand (eqb (getD (now (m .entry)) (duePlace i) 0) 1) 8 0 ⌝ }
+    ensures { λ result. ⌜ verdictOf result ≡ demand (eqb (getD (now (m .entry)) (duePlace i) 0) 1) 8 0 ⌝ }
 {
     let d = state::due_place(i);
     if m[d] == 1 {
@@ -101,7 +101,7 @@ fn due_waits(f: Floor, m: &[u16], i: usize) -> Checked
 // 13 with the smallest receiver whose channel from carrier i is full.
 fn capacity_waits(f: Floor, m: &[u16], i: usize) -> Checked
     requires { ⌜ (i < f .carriers) × (f .carriers ≤ 8) × (stateSize (f .carriers) ≤ length (now m)) ⌝ }
-    ensures { λ r. ⌜ verdictOf r ≡ demandEach 13 1 (capacityIn (bare f) (now (m .entry)) i) (f .carriers) ⌝ }
+    ensures { λ result. ⌜ verdictOf result ≡ demandEach 13 1 (capacityIn (bare f) (now (m .entry)) i) (f .carriers) ⌝ }
 {
     let n = f.carriers as usize;
     let k = first_full(n, f.depth, m, i);
@@ -117,7 +117,7 @@ fn capacity_waits(f: Floor, m: &[u16], i: usize) -> Checked
 // What the plan of carrier i waits for: that it is due, then capacity in its channels.
 fn plan_waits(f: Floor, m: &[u16], i: usize) -> Checked
     requires { ⌜ (i < f .carriers) × (f .carriers ≤ 8) × (stateSize (f .carriers) ≤ length (now m)) ⌝ }
-    ensures { λ r. ⌜ verdictOf r ≡ waitsIn (bare f) (now (m .entry)) (plan i) ⌝ }
+    ensures { λ result. ⌜ verdictOf result ≡ waitsIn (bare f) (now (m .entry)) (plan i) ⌝ }
 {
     let due = due_waits(f, m, i);
     let Checked::Passed = due else {
@@ -129,7 +129,7 @@ fn plan_waits(f: Floor, m: &[u16], i: usize) -> Checked
 // What the delivery from carrier j to carrier i waits for: 12 with the addressee unless a message is there.
 fn delivery_waits(f: Floor, m: &[u16], j: usize, i: usize) -> Checked
     requires { ⌜ (j < i) × (i < f .carriers) × (f .carriers ≤ 8) × (stateSize (f .carriers) ≤ length (now m)) ⌝ }
-    ensures { λ r. ⌜ verdictOf r ≡ waitsIn (bare f) (now (m .entry)) (deliver j i) ⌝ }
+    ensures { λ result. ⌜ verdictOf result ≡ waitsIn (bare f) (now (m .entry)) (deliver j i) ⌝ }
 {
     let c = state::channel_place(f.carriers as usize, i, j);
     if m[c] != 0 {
@@ -142,12 +142,12 @@ fn delivery_waits(f: Floor, m: &[u16], j: usize, i: usize) -> Checked
 }
 
 // What a step that is there waits for.
-pub fn waits(f: Floor, m: &[u16], s: Step) -> Checked
-    requires { ⌜ isThere (bare f) (stepMeant s) ≡ true ⌝ }
+pub fn waits(f: Floor, m: &[u16], x: Step) -> Checked
+    requires { ⌜ isThere (bare f) (stepMeant x) ≡ true ⌝ }
     requires { ⌜ (f .carriers ≤ 8) × (stateSize (f .carriers) ≤ length (now m)) ⌝ }
-    ensures { λ r. ⌜ verdictOf r ≡ waitsIn (bare f) (now (m .entry)) (stepMeant s) ⌝ }
+    ensures { λ result. ⌜ verdictOf result ≡ waitsIn (bare f) (now (m .entry)) (stepMeant x) ⌝ }
 {
-    match s {
+    match x {
         Step::Plan(i) => plan_waits(f, m, i),
         Step::Deliver { from, to } => delivery_waits(f, m, from, to),
     }
@@ -156,7 +156,7 @@ pub fn waits(f: Floor, m: &[u16], s: Step) -> Checked
 // Whether no plan is open.
 fn plans_shut(f: Floor, m: &[u16]) -> bool
     requires { ⌜ (f .carriers ≤ 8) × (stateSize (f .carriers) ≤ length (now m)) ⌝ }
-    ensures { λ r. ⌜ r ≡ each (f .carriers) (planShut f (now (m .entry))) ⌝ }
+    ensures { λ result. ⌜ result ≡ each (f .carriers) (planShut f (now (m .entry))) ⌝ }
 {
     let n = f.carriers as usize;
     let mut i: usize = 0;
@@ -172,7 +172,7 @@ fn plans_shut(f: Floor, m: &[u16]) -> bool
 // Whether no delivery from carrier j is open.
 fn sender_shut(f: Floor, m: &[u16], j: usize) -> bool
     requires { ⌜ (j < f .carriers) × (f .carriers ≤ 8) × (stateSize (f .carriers) ≤ length (now m)) ⌝ }
-    ensures { λ r. ⌜ r ≡ senderShut f (now (m .entry)) j ⌝ }
+    ensures { λ result. ⌜ result ≡ senderShut f (now (m .entry)) j ⌝ }
 {
     let below = f.carriers as usize - (j + 1);
     let mut d: usize = 0;
@@ -188,7 +188,7 @@ fn sender_shut(f: Floor, m: &[u16], j: usize) -> bool
 // Whether no delivery is open.
 fn deliveries_shut(f: Floor, m: &[u16]) -> bool
     requires { ⌜ (f .carriers ≤ 8) × (stateSize (f .carriers) ≤ length (now m)) ⌝ }
-    ensures { λ r. ⌜ r ≡ each (f .carriers) (senderShut f (now (m .entry))) ⌝ }
+    ensures { λ result. ⌜ result ≡ each (f .carriers) (senderShut f (now (m .entry))) ⌝ }
 {
     let n = f.carriers as usize;
     let mut j: usize = 0;
@@ -204,7 +204,7 @@ fn deliveries_shut(f: Floor, m: &[u16]) -> bool
 // Whether no step is open.
 pub fn is_silent(f: Floor, m: &[u16]) -> bool
     requires { ⌜ (f .carriers ≤ 8) × (stateSize (f .carriers) ≤ length (now m)) ⌝ }
-    ensures { λ r. ⌜ r ≡ silentIn (bare f) (now (m .entry)) ⌝ }
+    ensures { λ result. ⌜ result ≡ silentIn (bare f) (now (m .entry)) ⌝ }
 {
     if !plans_shut(f, m) {
         return false;

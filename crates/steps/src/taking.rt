@@ -23,7 +23,7 @@ use search::Rows;
 fn find(f: Floor, walls: &[u16], free: Rows, m: &[u16], i: usize) -> Found
     requires { ⌜ i < f .carriers ⌝ }
     requires { ⌜ Workable f (now walls) free (now m) ⌝ }
-    ensures { λ r. ⌜ Answers r (answered (bestIn (machineOf f (now (walls .entry))) (now (m .entry)) i)) ⌝ }
+    ensures { λ result. ⌜ Answers result (answered (bestIn (machineOf f (now (walls .entry))) (now (m .entry)) i)) ⌝ }
 {
     let n = f.carriers as usize;
     let a = state::views_start(n, i);
@@ -34,8 +34,8 @@ fn find(f: Floor, walls: &[u16], free: Rows, m: &[u16], i: usize) -> Found
 // Carrier i plans an answer: whether it is news, which is then sent.
 fn record_plan(m: &mut [u16], n: usize, i: usize, tag: u16, cells: Route) -> bool
     requires { ⌜ (i < n) × (n ≤ 8) × (stateSize n ≤ length (now m)) ⌝ }
-    ensures answers { λ r. ⌜ r ≡ newsIn (now (m .entry)) i (tag ∷ cells) ⌝ }
-    ensures stores { λ r. ⌜ now (m .exit) ≡ plannedIn n (now (m .entry)) i (tag ∷ cells) ⌝ }
+    ensures answers { λ result. ⌜ result ≡ newsIn (now (m .entry)) i (tag ∷ cells) ⌝ }
+    ensures stores { λ result. ⌜ now (m .exit) ≡ plannedIn n (now (m .entry)) i (tag ∷ cells) ⌝ }
 {
     let news = state::is_news(m, i, tag, cells);
     state::set_planned(m, i, tag, cells);
@@ -48,7 +48,7 @@ fn record_plan(m: &mut [u16], n: usize, i: usize, tag: u16, cells: Route) -> boo
 
 // The answer of a plan: sent if it is news, otherwise kept.
 fn sent_or_kept(news: bool) -> Taken
-    ensures { λ r. ⌜ takenMeant r ≡ cond news sent kept ⌝ }
+    ensures { λ result. ⌜ takenMeant result ≡ cond news sent kept ⌝ }
 {
     if news {
         return Taken::Sent;
@@ -60,7 +60,7 @@ fn sent_or_kept(news: bool) -> Taken
 fn plan_now(f: Floor, walls: &[u16], free: Rows, m: &mut [u16], i: usize) -> Taken
     requires { ⌜ i < f .carriers ⌝ }
     requires { ⌜ Workable f (now walls) free (now m) ⌝ }
-    ensures { λ r. ⌜ Did (machineOf f (now (walls .entry))) (now (m .entry)) (plan i) r (now (m .exit)) ⌝ }
+    ensures { λ result. ⌜ Did (machineOf f (now (walls .entry))) (now (m .entry)) (plan i) result (now (m .exit)) ⌝ }
 {
     let found = find(f, walls, free, m, i);
     let outcome = found.outcome;
@@ -72,35 +72,35 @@ fn plan_now(f: Floor, walls: &[u16], free: Rows, m: &mut [u16], i: usize) -> Tak
 // The oldest message from carrier j to carrier i is delivered.
 fn deliver_now(m: &mut [u16], n: usize, j: usize, i: usize)
     requires { ⌜ (j < i) × (i < n) × (n ≤ 8) × (stateSize n ≤ length (now m)) ⌝ }
-    ensures { λ r. ⌜ now (m .exit) ≡ deliveredIn n (now (m .entry)) j i ⌝ }
+    ensures { λ result. ⌜ now (m .exit) ≡ deliveredIn n (now (m .entry)) j i ⌝ }
 {
-    let v = state::view_place(n, i, j);
-    let c = state::channel_place(n, i, j);
-    let oldest = state::message_place(c, 0);
-    records::copy(m, oldest, v);
-    state::pop(m, c);
+    let view = state::view_place(n, i, j);
+    let channel = state::channel_place(n, i, j);
+    let oldest = state::message_place(channel, 0);
+    records::copy(m, oldest, view);
+    state::pop(m, channel);
     state::set_due(m, i);
 }
 
 // The free cells where a step needs them: a plan does, a delivery does not.
-pub fn rows_for(f: Floor, walls: &[u16], s: Step) -> Rows
+pub fn rows_for(f: Floor, walls: &[u16], x: Step) -> Rows
     requires { ⌜ ((1 ≤ f .width) × (f .width ≤ 32) × (f .height ≤ 32)) × (f .walls ≤ length (now walls)) ⌝ }
-    ensures { λ r. ⌜ RowsFor f (now (walls .entry)) r (stepMeant s) ⌝ }
+    ensures { λ result. ⌜ RowsFor f (now (walls .entry)) result (stepMeant x) ⌝ }
 {
-    match s {
+    match x {
         Step::Plan(_) => search::free_rows(f, walls),
         Step::Deliver { .. } => [0u32; Floor::MAX_HEIGHT as usize],
     }
 }
 
 // What an open step does.
-fn act(f: Floor, walls: &[u16], free: Rows, m: &mut [u16], s: Step) -> Taken
-    requires { ⌜ openIn (bare f) (now m) (stepMeant s) ≡ true ⌝ }
+fn act(f: Floor, walls: &[u16], free: Rows, m: &mut [u16], x: Step) -> Taken
+    requires { ⌜ openIn (bare f) (now m) (stepMeant x) ≡ true ⌝ }
     requires { ⌜ Placed f (now walls) (length (now m)) ⌝ }
-    requires { ⌜ RowsFor f (now walls) free (stepMeant s) ⌝ }
-    ensures { λ r. ⌜ Did (machineOf f (now (walls .entry))) (now (m .entry)) (stepMeant s) r (now (m .exit)) ⌝ }
+    requires { ⌜ RowsFor f (now walls) free (stepMeant x) ⌝ }
+    ensures { λ result. ⌜ Did (machineOf f (now (walls .entry))) (now (m .entry)) (stepMeant x) result (now (m .exit)) ⌝ }
 {
-    match s {
+    match x {
         Step::Plan(i) => plan_now(f, walls, free, m, i),
         Step::Deliver { from, to } => {
             deliver_now(m, f.carriers as usize, from, to);
@@ -110,13 +110,13 @@ fn act(f: Floor, walls: &[u16], free: Rows, m: &mut [u16], s: Step) -> Taken
 }
 
 // Takes an open step, and counts it.
-pub fn take(f: Floor, walls: &[u16], free: Rows, m: &mut [u16], s: Step) -> Taken
-    requires { ⌜ openIn (bare f) (now m) (stepMeant s) ≡ true ⌝ }
+pub fn take(f: Floor, walls: &[u16], free: Rows, m: &mut [u16], x: Step) -> Taken
+    requires { ⌜ openIn (bare f) (now m) (stepMeant x) ≡ true ⌝ }
     requires { ⌜ Placed f (now walls) (length (now m)) ⌝ }
-    requires { ⌜ RowsFor f (now walls) free (stepMeant s) ⌝ }
-    ensures { λ r. ⌜ Took (machineOf f (now (walls .entry))) (now (m .entry)) (stepMeant s) r (now (m .exit)) ⌝ }
+    requires { ⌜ RowsFor f (now walls) free (stepMeant x) ⌝ }
+    ensures { λ result. ⌜ Took (machineOf f (now (walls .entry))) (now (m .entry)) (stepMeant x) result (now (m .exit)) ⌝ }
 {
-    let taken = act(f, walls, free, m, s);
+    let taken = act(f, walls, free, m, x);
     state::tick(m);
     taken
 }

@@ -46,9 +46,9 @@ module _ (line : ℕ → List ℕ) (w : ℕ) (short : (i : ℕ) → length (line
     unfolding linesOf
     lines-more next new p l = rw add-one (put-behind e p (omega (arith, p .behind, short k, lines-low)))
 
-    pub lines-end : (m : ℕ) → k ≤ m → m ≤ k → PutAt (linesOf line m) old at mid n
-    lines-end m a b =
-        let same : k ≡ m = omega arith in
+    pub lines-end : (p : ℕ) → k ≤ p → p ≤ k → PutAt (linesOf line p) old at mid n
+    lines-end p a b =
+        let same : k ≡ p = omega arith in
         rw same at e
 
 -- A carrier of a set, and one that is not in it.
@@ -65,7 +65,7 @@ pub name-short : (set j : ℕ) → length (nameOf set j) ≤ 2
 unfolding nameOf
 name-short set j = go (digit set j)
   where
-    go : (b : Bool) → length (cond b (32 ∷ (49 + j) ∷ []) []) ≤ 2
+    go : (x : Bool) → length (cond x (32 ∷ (49 + j) ∷ []) []) ≤ 2
     go true = omega arith
     go false = omega arith
 
@@ -87,17 +87,17 @@ by-short : (set : ℕ) → length (byWhom set) ≤ 22
 unfolding byWhom causeWords
 by-short set = go (eqb set 0)
   where
-    go : (b : Bool) → length (cond b causeWords (linesOf (nameOf set) 8 ++ (10 ∷ []))) ≤ 22
+    go : (x : Bool) → length (cond x causeWords (linesOf (nameOf set) 8 ++ (10 ∷ []))) ≤ 22
     go true = omega arith
     go false = omega (arith, length-append (linesOf (nameOf set) 8) (10 ∷ []), names-short set)
 
 -- The whole line: four texts, one behind the other.
-pub shut-put : (i set at a b c n : ℕ) (old m₁ m₂ m₃ new : List ℕ) → PutAt carrierWords old at m₁ a → PutAt ((49 + i) ∷ []) m₁ a m₂ b →
-    PutAt shutWords m₂ b m₃ c → PutAt (byWhom set) m₃ c new n → at + 45 ≤ length old → PutAt (shutLine i set) old at new n
+pub shut-put : (i set at n₁ n₂ n₃ n : ℕ) (old m₁ m₂ m₃ new : List ℕ) → PutAt carrierWords old at m₁ n₁ → PutAt ((49 + i) ∷ []) m₁ n₁ m₂ n₂ →
+    PutAt shutWords m₂ n₂ m₃ n₃ → PutAt (byWhom set) m₃ n₃ new n → at + 45 ≤ length old → PutAt (shutLine i set) old at new n
 unfolding shutLine carrierWords shutWords
-shut-put i set at a b c n old m₁ m₂ m₃ new p q r s l =
-    let first : PutAt (carrierWords ++ ((49 + i) ∷ [])) old at m₂ b = put-behind p q (omega (arith, p .behind, q .behind)) in
-    let second : PutAt ((carrierWords ++ ((49 + i) ∷ [])) ++ shutWords) old at m₃ c =
+shut-put i set at n₁ n₂ n₃ n old m₁ m₂ m₃ new p q r s l =
+    let first : PutAt (carrierWords ++ ((49 + i) ∷ [])) old at m₂ n₂ = put-behind p q (omega (arith, p .behind, q .behind)) in
+    let second : PutAt ((carrierWords ++ ((49 + i) ∷ [])) ++ shutWords) old at m₃ n₃ =
     put-behind first r (omega (arith, p .behind, q .behind, r .behind)) in
     put-behind second s (omega (arith, p .behind, q .behind, r .behind, s .behind, by-short set))
 
@@ -116,21 +116,21 @@ pub carrier-short : (f : Floor) (ws : List ℕ) (i : ℕ) → length (carrierTex
 unfolding carrierText
 carrier-short f ws i = by-answer (answerAt (planOf f ws) i) _ (shut-short i (blockersOf f ws i))
 
-none-first : {A : Type 0} (x : Answer) (a b : A) → isNone x ≡ true → ifNone x a b ≡ a
+none-first : {A : Type 0} (x : Answer) (y x′ : A) → isNone x ≡ true → ifNone x y x′ ≡ y
 unfolding isNone ifNone
-none-first none a b e = refl
-none-first (route r) a b e = absurd (let z : _≡_ {A = ℕ} 0 1 = cc in omega arith)
+none-first none y x′ e = refl
+none-first (route r) y x′ e = absurd (let z : _≡_ {A = ℕ} 0 1 = cc in omega arith)
 
-route-second : {A : Type 0} (x : Answer) (a b : A) → isNone x ≡ false → ifNone x a b ≡ b
+route-second : {A : Type 0} (x : Answer) (y x′ : A) → isNone x ≡ false → ifNone x y x′ ≡ x′
 unfolding isNone ifNone
-route-second none a b e = absurd (let z : _≡_ {A = ℕ} 0 1 = cc in omega arith)
-route-second (route r) a b e = refl
+route-second none y x′ e = absurd (let z : _≡_ {A = ℕ} 0 1 = cc in omega arith)
+route-second (route r) y x′ e = refl
 
 module _ (f : Floor) (ws : List ℕ) (i : ℕ) (old : List ℕ) (at : ℕ) where
-  pub carrier-stranded : isNone (answerAt (planOf f ws) i) ≡ true → (s n : ℕ) (new : List ℕ) → s ≡ blockersOf f ws i →
-      PutAt (shutLine i s) old at new n → PutAt (carrierText f ws i) old at new n
+  pub carrier-stranded : isNone (answerAt (planOf f ws) i) ≡ true → (k n : ℕ) (new : List ℕ) → k ≡ blockersOf f ws i →
+      PutAt (shutLine i k) old at new n → PutAt (carrierText f ws i) old at new n
   unfolding carrierText
-  carrier-stranded e s n new g p = rw (none-first (answerAt (planOf f ws) i) (shutLine i (blockersOf f ws i)) [] e, ← g) p
+  carrier-stranded e k n new g p = rw (none-first (answerAt (planOf f ws) i) (shutLine i (blockersOf f ws i)) [] e, ← g) p
 
   pub carrier-routed : isNone (answerAt (planOf f ws) i) ≡ false → PutAt (carrierText f ws i) old at old at
   unfolding carrierText
@@ -164,6 +164,6 @@ pub or-short : (lines : List ℕ) → length lines ≤ 360 → length (orNobody 
 unfolding orNobody nobodyLine
 or-short lines l = go (eqb (length lines) 0)
   where
-    go : (b : Bool) → length (cond b nobodyLine lines) ≤ 360
+    go : (x : Bool) → length (cond x nobodyLine lines) ≤ 360
     go true = omega arith
     go false = l

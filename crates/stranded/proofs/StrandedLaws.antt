@@ -51,7 +51,7 @@ module _ (f : Floor) (ws : List ℕ) (ok : checkOf f ws ≡ passed) where
     unfolding strandedCell
     place-same k l = go (eqb (getD m (65 * k) 0) 2) refl
       where
-        go : (b : Bool) → eqb (getD m (65 * k) 0) 2 ≡ b → cond b 65535 (startOf f k) ≡ ifNone (answerAt (planOf f ws) k) (startOf f k) 65535
+        go : (x : Bool) → eqb (getD m (65 * k) 0) 2 ≡ x → cond x 65535 (startOf f k) ≡ ifNone (answerAt (planOf f ws) k) (startOf f k) 65535
         go true e = place-route (answerAt (planOf f ws) k) (startOf f k) (has-route f ws ok own l (eqb-true (getD m (65 * k) 0) 2 e))
         go false e = place-none (answerAt (planOf f ws) k) (startOf f k) (has-none f ws ok own l (eqb-false (getD m (65 * k) 0) 2 e))
 
@@ -82,7 +82,7 @@ module _ (f : Floor) (ws : List ℕ) (ok : checkOf f ws ≡ passed) where
       let drawing = drawnFloor f ws (strandedPlaces f ws (f .carriers)) in
       let drawn : TextPut drawing (take (length mid - n) (drop n mid)) ys k =
       record {
-        bytes = g ∙ ap (λ (c : List ℕ). put (take (length mid - n) (drop n mid)) 0 (drawnFloor f ws c)) cells;
+        bytes = g ∙ ap (λ (xs : List ℕ). put (take (length mid - n) (drop n mid)) 0 (drawnFloor f ws xs)) cells;
         size = size ∙ sym (drawn-length f ws _);
       }
       in

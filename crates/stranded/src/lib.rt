@@ -34,7 +34,7 @@ fn put_carrier(
     at: usize,
 ) -> usize
     requires { ⌜ (checkOf f (now walls) ≡ passed) × (i < f .carriers) × PlanIn f (now walls) own × (at + 45 ≤ length (now out)) ⌝ }
-    ensures { λ r. ⌜ PutAt (carrierText f (now (walls .entry)) i) (now (out .entry)) at (now (out .exit)) r ⌝ }
+    ensures { λ result. ⌜ PutAt (carrierText f (now (walls .entry)) i) (now (out .entry)) at (now (out .exit)) result ⌝ }
 {
     let tag = SIZE * i as usize;
     if own[tag] == 2 {
@@ -47,7 +47,7 @@ fn put_carrier(
 // Puts the lines of all stranded carriers; the column behind them is returned.
 fn put_carriers(f: Floor, walls: &[u16], own: [u16; TEAM], out: &mut [u8]) -> usize
     requires { ⌜ (checkOf f (now walls) ≡ passed) × PlanIn f (now walls) own × (360 ≤ length (now out)) ⌝ }
-    ensures { λ r. ⌜ PutAt (linesOf (carrierText f (now (walls .entry))) (f .carriers)) (now (out .entry)) 0 (now (out .exit)) r ⌝ }
+    ensures { λ result. ⌜ PutAt (linesOf (carrierText f (now (walls .entry))) (f .carriers)) (now (out .entry)) 0 (now (out .exit)) result ⌝ }
 {
     let n = f.carriers;
     let mut at: usize = 0;
@@ -62,8 +62,8 @@ fn put_carriers(f: Floor, walls: &[u16], own: [u16; TEAM], out: &mut [u8]) -> us
 // Puts these lines, or that nobody is stranded; the column behind them is returned.
 fn put_lines(f: Floor, walls: &[u16], own: [u16; TEAM], out: &mut [u8]) -> usize
     requires { ⌜ (checkOf f (now walls) ≡ passed) × PlanIn f (now walls) own × (360 ≤ length (now out)) ⌝ }
-    ensures { λ r. ⌜ PutAt (orNobody (linesOf (carrierText f (now (walls .entry))) (f .carriers)))
-        (now (out .entry)) 0 (now (out .exit)) r ⌝ }
+    ensures { λ result. ⌜ PutAt (orNobody (linesOf (carrierText f (now (walls .entry))) (f .carriers)))
+        (now (out .entry)) 0 (now (out .exit)) result ⌝ }
 {
     let n = put_carriers(f, walls, own, out);
     if n == 0 {
@@ -75,7 +75,7 @@ fn put_lines(f: Floor, walls: &[u16], own: [u16; TEAM], out: &mut [u8]) -> usize
 // The start of carrier k + 1 if it has no route, otherwise nowhere.
 fn place(f: Floor, own: [u16; TEAM], k: usize) -> u16
     requires { ⌜ (k < 8) × (length own ≡ 520) ⌝ }
-    ensures { λ r. ⌜ r ≡ strandedCell f own k ⌝ }
+    ensures { λ result. ⌜ result ≡ strandedCell f own k ⌝ }
 {
     if own[SIZE * k] == 2 {
         return 65535;
@@ -86,7 +86,7 @@ fn place(f: Floor, own: [u16; TEAM], k: usize) -> u16
 // The starts of the carriers without a route, the others nowhere.
 fn places(f: Floor, own: [u16; TEAM]) -> Places
     requires { ⌜ (f .carriers ≤ 8) × (length own ≡ 520) ⌝ }
-    ensures { λ r. ⌜ r ≡ placesIn f own (f .carriers) ⌝ }
+    ensures { λ result. ⌜ result ≡ placesIn f own (f .carriers) ⌝ }
 {
     let n = f.carriers as usize;
     let mut places = [65535u16; 8];
@@ -101,7 +101,7 @@ fn places(f: Floor, own: [u16; TEAM]) -> Places
 // Puts the text for a checked floor; its length is returned.
 fn put_stranded(f: Floor, walls: &[u16], out: &mut [u8]) -> usize
     requires { ⌜ (checkOf f (now walls) ≡ passed) × (1416 ≤ length (now out)) ⌝ }
-    ensures { λ r. ⌜ TextPut (strandedText f (now (walls .entry))) (now (out .entry)) (now (out .exit)) r ⌝ }
+    ensures { λ result. ⌜ TextPut (strandedText f (now (walls .entry))) (now (out .entry)) (now (out .exit)) result ⌝ }
 {
     let own = blockers::plan_own(f, walls);
     let n = put_lines(f, walls, own, out);
@@ -112,7 +112,7 @@ fn put_stranded(f: Floor, walls: &[u16], out: &mut [u8]) -> usize
 fn put_read(f: Floor, walls: &[u16], out: &mut [u8]) -> usize
     requires { ⌜ checkOf f (take (f .walls) (now walls)) ≡ passed ⌝ }
     requires { ⌜ (f .walls ≤ length (now walls)) × (1416 ≤ length (now out)) ⌝ }
-    ensures { λ r. ⌜ TextPut (strandedText f (take (f .walls) (now (walls .entry)))) (now (out .entry)) (now (out .exit)) r ⌝ }
+    ensures { λ result. ⌜ TextPut (strandedText f (take (f .walls) (now (walls .entry)))) (now (out .entry)) (now (out .exit)) result ⌝ }
 {
     let k = f.walls as usize;
     put_stranded(f, &walls[..k], out)
@@ -121,8 +121,8 @@ fn put_read(f: Floor, walls: &[u16], out: &mut [u8]) -> usize
 // Prints who shuts the stranded carriers in of any text that is a sheet, and of any other text the line of its refusal; the number of
 // printed bytes is returned.
 pub fn print(text: &[u8], out: &mut [u8; TEXT_LENGTH]) -> usize
-    ensures counts { λ r. ⌜ Counts r (now (out .exit)) ⌝ }
-    ensures prints { λ r. ⌜ take r (now (out .exit)) ≡ blockersText (now (text .entry)) ⌝ }
+    ensures counts { λ result. ⌜ Counts result (now (out .exit)) ⌝ }
+    ensures prints { λ result. ⌜ take result (now (out .exit)) ≡ blockersText (now (text .entry)) ⌝ }
 {
     let mut walls = sheet::no_walls();
     let reading = sheet::read(text, &mut walls);

@@ -8,29 +8,29 @@ pub const BLANK: u8 = 126;
 
 // Room for the longest text, 2,659 bytes, and some more.
 pub fn page() -> [u8; 3000]
-    ensures { λ r. ⌜ 3000 ≡ length r ⌝ }
+    ensures { λ result. ⌜ 3000 ≡ length result ⌝ }
 {
     [BLANK; 3000]
 }
 
 // The byte at a place of a text, blank past its end.
-pub fn byte(s: &[u8], i: usize) -> u8 {
-    if i < s.len() {
-        return s[i];
+pub fn byte(text: &[u8], i: usize) -> u8 {
+    if i < text.len() {
+        return text[i];
     }
     BLANK
 }
 
 // So many bytes of a text from a place on, none where it has fewer.
-pub fn part(s: &[u8], from: usize, n: usize) -> &[u8] {
+pub fn part(text: &[u8], from: usize, n: usize) -> &[u8] {
     let to = memory::plus(from, n);
-    if s.len() < to {
-        return &s[..0];
+    if text.len() < to {
+        return &text[..0];
     }
     if to < from {
-        return &s[..0];
+        return &text[..0];
     }
-    &s[from..to]
+    &text[from..to]
 }
 
 // The first so many bytes of a page, none where it has fewer.

@@ -104,7 +104,7 @@ pub fn draw_step(setup: &[u16], seed: usize) -> u16 {
 
 // A list of steps drawn from those of the setup.
 pub fn draw_list(setup: &[u16], seed: usize) -> [u16; 32]
-    ensures { λ r. ⌜ 32 ≡ length r ⌝ }
+    ensures { λ result. ⌜ 32 ≡ length result ⌝ }
 {
     let mut list = [0u16; 32];
     let mut s = seed;

@@ -8,14 +8,14 @@ pub const LENT: u16 = 777;
 
 // Room for the largest state, 9,666 numbers, and some more.
 pub fn buffer() -> [u16; 9700]
-    ensures { λ r. ⌜ 9700 ≡ length r ⌝ }
+    ensures { λ result. ⌜ 9700 ≡ length result ⌝ }
 {
     [LENT; 9700]
 }
 
 // Room for the answers of eight carriers, all zeros.
 pub fn zeros() -> [u16; 520]
-    ensures { λ r. ⌜ 520 ≡ length r ⌝ }
+    ensures { λ result. ⌜ 520 ≡ length result ⌝ }
 {
     [0; 520]
 }
@@ -30,7 +30,7 @@ pub fn at(m: &[u16], i: usize) -> u16 {
 
 // The same as a size.
 pub fn wide_at(m: &[u16], i: usize) -> usize
-    ensures { λ r. ⌜ r < 65536 ⌝ }
+    ensures { λ result. ⌜ result < 65536 ⌝ }
 {
     wide(at(m, i))
 }
@@ -57,7 +57,7 @@ pub fn front(m: &mut [u16], n: usize) -> &mut [u16] {
 
 // A number as a size.
 pub fn wide(x: u16) -> usize
-    ensures { λ r. ⌜ r < 65536 ⌝ }
+    ensures { λ result. ⌜ result < 65536 ⌝ }
 {
     x as usize
 }
@@ -80,18 +80,18 @@ pub fn plus(a: usize, b: usize) -> usize {
     131072
 }
 
-// Writes v at a place, where there is one.
-pub fn put(m: &mut [u16], i: usize, v: u16) {
+// Writes x at a place, where there is one.
+pub fn put(m: &mut [u16], i: usize, x: u16) {
     if i < m.len() {
-        m[i] = v;
+        m[i] = x;
     }
 }
 
-// Writes v at the first n places.
-pub fn fill(m: &mut [u16], n: usize, v: u16) {
+// Writes x at the first n places.
+pub fn fill(m: &mut [u16], n: usize, x: u16) {
     let mut i: usize = 0;
     while i < n {
-        put(m, i, v);
+        put(m, i, x);
         i += 1;
     }
 }
@@ -105,11 +105,11 @@ pub fn copy(from: &[u16], to: &mut [u16], n: usize) {
     }
 }
 
-// Whether n numbers from place i of a on are those from place j of b on.
-pub fn same_part(a: &[u16], i: usize, b: &[u16], j: usize, n: usize) -> bool {
+// Whether n numbers from place i of a on are those from place j of ys on.
+pub fn same_part(xs: &[u16], i: usize, ys: &[u16], j: usize, n: usize) -> bool {
     let mut t: usize = 0;
     while t < n {
-        if at(a, plus(i, t)) != at(b, plus(j, t)) {
+        if at(xs, plus(i, t)) != at(ys, plus(j, t)) {
             return false;
         }
         t += 1;
@@ -118,8 +118,8 @@ pub fn same_part(a: &[u16], i: usize, b: &[u16], j: usize, n: usize) -> bool {
 }
 
 // Whether two memories have the same numbers, as far as the first goes.
-pub fn same(a: &[u16], b: &[u16]) -> bool {
-    same_part(a, 0, b, 0, a.len())
+pub fn same(xs: &[u16], ys: &[u16]) -> bool {
+    same_part(xs, 0, ys, 0, xs.len())
 }
 
 // Eight numbers of a memory, the first at a place and each so many behind the one before.
@@ -136,9 +136,9 @@ pub fn eight(m: &[u16], from: usize, stride: usize) -> [u16; 8] {
 }
 
 // Whether both hold.
-pub fn both(a: bool, b: bool) -> bool {
-    if a {
-        return b;
+pub fn both(x: bool, y: bool) -> bool {
+    if x {
+        return y;
     }
     false
 }

@@ -5,14 +5,14 @@ use crate::memory::both;
 // Whether the records of n carriers in a memory, from a place on and each so many numbers behind the one before, are these answers.
 pub fn answers_are(m: &[u16], from: usize, stride: usize, n: usize, answers: &[u16]) -> bool {
     let mut p = from;
-    let mut q: usize = 0;
+    let mut place: usize = 0;
     let mut i: usize = 0;
     while i < n {
-        if !memory::same_part(m, p, answers, q, 65) {
+        if !memory::same_part(m, p, answers, place, 65) {
             return false;
         }
         p = memory::plus(p, stride);
-        q = memory::plus(q, 65);
+        place = memory::plus(place, 65);
         i += 1;
     }
     true

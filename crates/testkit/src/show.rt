@@ -3,8 +3,8 @@ use crate::memory;
 use libc::STDOUT_FILENO;
 
 // A text.
-pub fn text(s: &[u8]) {
-    io::write_all(STDOUT_FILENO, s);
+pub fn text(bytes: &[u8]) {
+    io::write_all(STDOUT_FILENO, bytes);
 }
 
 // A number, with a space before it.

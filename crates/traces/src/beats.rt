@@ -19,37 +19,45 @@ pub enum Beat {
 }
 
 // Puts the point of the trace of carrier i at a beat; the column behind it is returned.
-fn put_point(p: Page, m: &[u16], i: usize, t: usize, out: &mut [u8], at: usize) -> usize
+fn put_point(page: Page, m: &[u16], i: usize, t: usize, out: &mut [u8], at: usize) -> usize
     requires { ⌜ (i ≤ 8) × (t ≤ 64) ⌝ }
 {
     let c = answers::cell(m, i, t);
-    let x = page::track(p, ground::column_of(p, c), i);
-    let y = page::track(p, ground::row_of(p, c), i);
+    let x = page::track(page, ground::column_of(page, c), i);
+    let y = page::track(page, ground::row_of(page, c), i);
     fill(out, at, b" %,%", [x, y, 0, 0, 0, 0])
 }
 
 // Puts the place of carrier i at a beat; the column behind it is returned.
-fn put_place(p: Page, m: &[u16], i: usize, t: usize, out: &mut [u8], at: usize) -> usize
+fn put_place(page: Page, m: &[u16], i: usize, t: usize, out: &mut [u8], at: usize) -> usize
     requires { ⌜ (i ≤ 8) × (t ≤ 64) ⌝ }
 {
     let c = answers::cell(m, i, t);
-    let x = page::middle(p, ground::column_of(p, c));
-    let y = page::middle(p, ground::row_of(p, c));
+    let x = page::middle(page, ground::column_of(page, c));
+    let y = page::middle(page, ground::row_of(page, c));
     fill(out, at, b";% %", [x, y, 0, 0, 0, 0])
 }
 
 // Puts the thing of a beat; the column behind it is returned.
-fn put_beat(what: Beat, p: Page, m: &[u16], i: usize, t: usize, out: &mut [u8], at: usize) -> usize
+fn put_beat(
+    what: Beat,
+    page: Page,
+    m: &[u16],
+    i: usize,
+    t: usize,
+    out: &mut [u8],
+    at: usize,
+) -> usize
     requires { ⌜ (i ≤ 8) × (t ≤ 64) ⌝ }
 {
     match what {
-        Beat::Point => put_point(p, m, i, t, out, at),
-        Beat::Place => put_place(p, m, i, t, out, at),
+        Beat::Point => put_point(page, m, i, t, out, at),
+        Beat::Place => put_place(page, m, i, t, out, at),
         Beat::Numeral => fill(
             out,
             at,
             b"<text x=\"%\" y=\"%\">%</text>\n",
-            [page::legend(p) + 44, page::legend_line(t), t, 0, 0, 0],
+            [page::legend(page) + 44, page::legend_line(t), t, 0, 0, 0],
         ),
         Beat::Turn => fill(out, at, b";0 -%", [30 * t, 0, 0, 0, 0, 0]),
     }
@@ -58,7 +66,7 @@ fn put_beat(what: Beat, p: Page, m: &[u16], i: usize, t: usize, out: &mut [u8], 
 // Puts the things of the beats from one to another, both included; the column behind them is returned.
 pub fn put_beats(
     what: Beat,
-    p: Page,
+    page: Page,
     m: &[u16],
     i: usize,
     first: usize,
@@ -74,7 +82,7 @@ pub fn put_beats(
         if 64 < t {
             return end;
         }
-        end = put_beat(what, p, m, i, t, out, end);
+        end = put_beat(what, page, m, i, t, out, end);
         t += 1;
     }
     end

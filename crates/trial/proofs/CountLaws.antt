@@ -32,7 +32,7 @@ module _ (test : ℕ → Bool) (k : ℕ) where
 
   pub counted-end : (p found : ℕ) → PassingCounted test k p found → k ≤ p → (found ≡ length (passing test k)) × (found ≤ k)
   counted-end p found r l =
-      let same : p ≡ k = omega (arith, r .within) in (r .number ∙ ap (λ (q : ℕ). length (passing test q)) same, omega (arith, r .few))
+      let same : p ≡ k = omega (arith, r .within) in (r .number ∙ ap (λ (p : ℕ). length (passing test p)) same, omega (arith, r .few))
 
   -- The open place that has as many before it as were found.
   pub found-at : (p found : ℕ) → PassingCounted test k p found → p < k → test p ≡ true → (p ≡ getD (passing test k) found 0) × (p < k)

@@ -52,12 +52,12 @@ trial-tells f ws order state report h =
     record { checked = then-both _ _ (a .0) .0; placed = place-tells f ws state (a .0); wide = length-passed _ _ (b .0) }
 
 -- The length of a report, as the code asks for it behind a check of the floor and its state that passed.
-pub report-length : {a : Checked} (b : Checked) (f : Floor) (ws : List ℕ) (state most report : ℕ) → verdictOf a ≡ placeVerdict f ws state →
-    a ≡ Passed →
-    (1 ≤ f .carriers → f .carriers ≤ 8 → most ≡ ceiling (f .carriers)) × (most ≤ 512) → verdictOf b ≡ longEnough (2 * most) report →
-    verdictOf b ≡ longEnough (reportSize (f .carriers)) report
+pub report-length : {x : Checked} (y : Checked) (f : Floor) (ws : List ℕ) (state most report : ℕ) → verdictOf x ≡ placeVerdict f ws state →
+    x ≡ Passed →
+    (1 ≤ f .carriers → f .carriers ≤ 8 → most ≡ ceiling (f .carriers)) × (most ≤ 512) → verdictOf y ≡ longEnough (2 * most) report →
+    verdictOf y ≡ longEnough (reportSize (f .carriers)) report
 unfolding reportSize
-report-length b f ws state most report v e m h =
+report-length y f ws state most report v e m h =
     let n = placed-bounds (place-tells f ws state (passes v e)) .carriers in
     h ∙ rw (m .0 (n .0) (n .1))
 
@@ -81,25 +81,25 @@ module _ (n : ℕ) (m : List ℕ) where
     front-rest = rw e (encode-beyond n fresh m)
 
     pub front-fresh : m′ ≡ encode n fresh ++ drop (stateSize n) m′
-    front-fresh = e ∙ front-is fresh ∙ ap (λ (l : List ℕ). encode n fresh ++ l) (sym front-rest)
+    front-fresh = e ∙ front-is fresh ∙ ap (λ (xs : List ℕ). encode n fresh ++ xs) (sym front-rest)
 
     pub front-last : (z : State) (m″ : List ℕ) → m″ ≡ encode n z ++ drop (stateSize n) m′ → m″ ≡ put m 0 (encode n z)
-    front-last z m″ h = h ∙ ap (λ (l : List ℕ). encode n z ++ l) front-rest ∙ sym (front-is z)
+    front-last z m″ h = h ∙ ap (λ (xs : List ℕ). encode n z ++ xs) front-rest ∙ sym (front-is z)
 
 -- Order 2 remembers a place or the end of the ranking.
-pub memory-round : (f : Floor) (ws : List ℕ) (o : Order) (c : ℕ) → Memory o (machineOf f ws) c → o ≡ round → c ≤ places (f .carriers)
+pub memory-round : (f : Floor) (ws : List ℕ) (o : Order) (kept : ℕ) → Memory o (machineOf f ws) kept → o ≡ round → kept ≤ places (f .carriers)
 unfolding Memory machineOf
-memory-round f ws o c h e = rw e at h
+memory-round f ws o kept h e = rw e at h
 
 -- One more step, from what its parts come to.
-pub advanced : (o : Order) (f : Floor) (ws m report : List ℕ) (c t next : ℕ) (m′ report′ : List ℕ) (p : ℕ) (y : Step) (number answer : ℕ) →
-    p ≡ chosenIn o f m c → y ≡ stepAt (f .carriers) p → number ≡ numberOf y → answer ≡ answerNumber (stepAnswerIn (machineOf f ws) m y) →
-    next ≡ remembered o c p → m′ ≡ afterIn (machineOf f ws) m y → report′ ≡ put report (2 * t) (number ∷ (answer ∷ [])) →
-    Advanced o f ws m report c t next m′ report′
-advanced o f ws m report c t next m′ report′ p y number answer place step num ans mem stored line =
-    let same : y ≡ stepAt (f .carriers) (chosenIn o f m c) = step ∙ ap (stepAt (f .carriers)) place in
+pub advanced : (o : Order) (f : Floor) (ws m report : List ℕ) (kept t next : ℕ) (m′ report′ : List ℕ) (p : ℕ) (y : Step) (number answer : ℕ) →
+    p ≡ chosenIn o f m kept → y ≡ stepAt (f .carriers) p → number ≡ numberOf y → answer ≡ answerNumber (stepAnswerIn (machineOf f ws) m y) →
+    next ≡ remembered o kept p → m′ ≡ afterIn (machineOf f ws) m y → report′ ≡ put report (2 * t) (number ∷ (answer ∷ [])) →
+    Advanced o f ws m report kept t next m′ report′
+advanced o f ws m report kept t next m′ report′ p y number answer place step num ans mem stored line =
+    let same : y ≡ stepAt (f .carriers) (chosenIn o f m kept) = step ∙ ap (stepAt (f .carriers)) place in
     record {
-      remembers = mem ∙ ap (remembered o c) place;
+      remembers = mem ∙ ap (remembered o kept) place;
       stores = stored ∙ ap (afterIn (machineOf f ws) m) same;
       reports = line
           ∙ ap (λ (k : ℕ). put report (2 * t) (k ∷ (answer ∷ []))) num

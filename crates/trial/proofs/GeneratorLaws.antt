@@ -8,10 +8,10 @@ use Rattle.orders.specs.Generator.{nextNumber, drawnBy}
 pub product-fits : (a b : ℕ) → a < 4294967296 → b < 4294967296 → a * b < 18446744073709551616
 product-fits a b l h = omega (arith, mul-le-mul {n₁ = a} {m₁ = b} {n₂ = 4294967295} {m₂ = 4294967295} (omega arith) (omega arith))
 
-pub next-is : (x p r : ℕ) → p ≡ (x * 1664525) % 4294967296 → r ≡ (p + 1013904223) % 4294967296 → r ≡ nextNumber x
+pub next-is : (x p n : ℕ) → p ≡ (x * 1664525) % 4294967296 → n ≡ (p + 1013904223) % 4294967296 → n ≡ nextNumber x
 unfolding nextNumber
-next-is x p r e h = h ∙ rw e (mod-add-mod (x * 1664525) 4294967296 1013904223)
+next-is x p n e h = h ∙ rw e (mod-add-mod (x * 1664525) 4294967296 1013904223)
 
-pub draw-is : (x r : ℕ) → r ≡ nextNumber x → r / 65536 ≡ drawnBy x
+pub draw-is : (x n : ℕ) → n ≡ nextNumber x → n / 65536 ≡ drawnBy x
 unfolding drawnBy
-draw-is x r e = ap (λ (k : ℕ). k / 65536) e
+draw-is x n e = ap (λ (k : ℕ). k / 65536) e

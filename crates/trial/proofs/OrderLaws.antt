@@ -46,29 +46,29 @@ module _ (k : ℕ) where
   start-drawn seed h g = rw (order-drawn h g)
 
   -- What an order remembers after a step.
-  pub next-first : (c p : ℕ) → k ≡ 1 → 0 ≡ remembered (orderBy k) c p
+  pub next-first : (kept p : ℕ) → k ≡ 1 → 0 ≡ remembered (orderBy k) kept p
   unfolding remembered
-  next-first c p e = rw (order-first e)
+  next-first kept p e = rw (order-first e)
 
-  pub next-round : (c p : ℕ) → k ≡ 2 → p + 1 ≡ remembered (orderBy k) c p
+  pub next-round : (kept p : ℕ) → k ≡ 2 → p + 1 ≡ remembered (orderBy k) kept p
   unfolding remembered
-  next-round c p e = rw (order-round e, add-one)
+  next-round kept p e = rw (order-round e, add-one)
 
-  pub next-drawn : (c p x : ℕ) → (k ≡ 1 → ⊥) → (k ≡ 2 → ⊥) → x ≡ nextNumber c → x ≡ remembered (orderBy k) c p
+  pub next-drawn : (kept p x : ℕ) → (k ≡ 1 → ⊥) → (k ≡ 2 → ⊥) → x ≡ nextNumber kept → x ≡ remembered (orderBy k) kept p
   unfolding remembered
-  next-drawn c p x h g e = rw (order-drawn h g) e
+  next-drawn kept p x h g e = rw (order-drawn h g) e
 
   -- Which of the open places an order takes.
-  module _ (f : Floor) (m : List ℕ) (c : ℕ) where
-    pub turn-first : k ≡ 1 → 0 ≡ turnIn (orderBy k) f m c
+  module _ (f : Floor) (m : List ℕ) (kept : ℕ) where
+    pub turn-first : k ≡ 1 → 0 ≡ turnIn (orderBy k) f m kept
     unfolding turnIn
     turn-first e = rw (order-first e)
 
-    pub turn-round : (x : ℕ) → k ≡ 2 → x ≡ openCount f m c → x ≡ turnIn (orderBy k) f m c
+    pub turn-round : (x : ℕ) → k ≡ 2 → x ≡ openCount f m kept → x ≡ turnIn (orderBy k) f m kept
     unfolding turnIn
     turn-round x e h = rw (order-round e) h
 
-    pub turn-drawn : (x : ℕ) → (k ≡ 1 → ⊥) → (k ≡ 2 → ⊥) → x ≡ drawnBy c → x ≡ turnIn (orderBy k) f m c
+    pub turn-drawn : (x : ℕ) → (k ≡ 1 → ⊥) → (k ≡ 2 → ⊥) → x ≡ drawnBy kept → x ≡ turnIn (orderBy k) f m kept
     unfolding turnIn
     turn-drawn x h g e = rw (order-drawn h g) e
 
@@ -95,7 +95,7 @@ module _ (n : ℕ) where
   unfolding mostSteps _gives_ demand within ceiling
   most-told t e = go (within 1 8 n) refl e
     where
-      go : (b : Bool) → within 1 8 n ≡ b → value t ≡ (demand b 2 5 gives ceiling n) → (1 ≤ n → n ≤ 8 → t ≡ ceiling n) × (t ≤ 512)
+      go : (x : Bool) → within 1 8 n ≡ x → value t ≡ (demand x 2 5 gives ceiling n) → (1 ≤ n → n ≤ 8 → t ≡ ceiling n) × (t ≤ 512)
       go true w h =
           let same : t ≡ ceiling n = cc in
           let few : n ≤ 8 = leb-true n 8 (and-snd (leb 1 n) (leb n 8) w) in

@@ -69,27 +69,27 @@ module _ (f : Floor) (ws : List ℕ) (ok : checkOf f ws ≡ passed) (s : State) 
   step-says rest x e = said-same M (storable f ws ok) s in-range whole rest x e
 
 -- A trial that stops is the state that it has.
-try-stopped : (o : Order) (M : Machine) (c : ℕ) (s : State) (b : ℕ) → isSilent M s ≡ true →
-    tryFrom o M c s b ≡ record { report = []; state = s }
+try-stopped : (o : Order) (M : Machine) (kept : ℕ) (s : State) (b : ℕ) → isSilent M s ≡ true →
+    tryFrom o M kept s b ≡ record { report = []; state = s }
 unfolding tryFrom
-try-stopped o M c s zero e = refl
-try-stopped o M c s (suc b) e = try-silent o M c s b e
+try-stopped o M kept s zero e = refl
+try-stopped o M kept s (suc b) e = try-silent o M kept s b e
 
 module _ (f : Floor) (ws : List ℕ) (o : Order) (seed : ℕ) (m₀ report₀ : List ℕ) where
   -- The trial after t steps, its memory m, its report and what its order remembers.
-  pub record Playing (m report : List ℕ) (c t : ℕ) : Type 0 where
+  pub record Playing (m report : List ℕ) (kept t : ℕ) : Type 0 where
     pub state : State
     pub entries : List Entry
     pub shows : m ≡ encode (f .carriers) state ++ drop (stateSize (f .carriers)) m₀
     pub long : length m ≡ length m₀
     pub wide : length report ≡ length report₀
     pub fits : WithinRanges f state
-    pub keeps : Memory o (machineOf f ws) c
+    pub keeps : Memory o (machineOf f ws) kept
     pub number : t ≡ length entries
     pub stored : report ≡ put report₀ 0 (reportNumbers entries)
     pub told : trial o (machineOf f ws) seed .report ≡
-        entries ++ tryFrom o (machineOf f ws) c state (ceiling (f .carriers) - t) .report
-    pub leads : trial o (machineOf f ws) seed .state ≡ tryFrom o (machineOf f ws) c state (ceiling (f .carriers) - t) .state
+        entries ++ tryFrom o (machineOf f ws) kept state (ceiling (f .carriers) - t) .report
+    pub leads : trial o (machineOf f ws) seed .state ≡ tryFrom o (machineOf f ws) kept state (ceiling (f .carriers) - t) .state
 
   pub playing-start : m₀ ≡ encode (f .carriers) fresh ++ drop (stateSize (f .carriers)) m₀ → Playing m₀ report₀ (startMemory o seed) 0
   unfolding trial machineOf reportNumbers
@@ -104,15 +104,15 @@ module _ (f : Floor) (ws : List ℕ) (o : Order) (seed : ℕ) (m₀ report₀ : 
         keeps = start-memory o (machineOf f ws) seed;
         number = refl;
         stored = put-none report₀ 0;
-        told = ap (λ (r : TrialResult). r .report) all;
-        leads = ap (λ (r : TrialResult). r .state) all;
+        told = ap (λ (x : TrialResult). x .report) all;
+        leads = ap (λ (x : TrialResult). x .state) all;
       }
     where
       all : tryFrom o (machineOf f ws) (startMemory o seed) fresh (ceiling (f .carriers)) ≡
           tryFrom o (machineOf f ws) (startMemory o seed) fresh (ceiling (f .carriers) - 0)
       all = ap (tryFrom o (machineOf f ws) (startMemory o seed) fresh) (omega arith)
 
-  module _ (ok : checkOf f ws ≡ passed) {m report : List ℕ} {c t : ℕ} (p : Playing m report c t) where
+  module _ (ok : checkOf f ws ≡ passed) {m report : List ℕ} {kept t : ℕ} (p : Playing m report kept t) where
     abbrev N : Machine
     N = machineOf f ws
 
@@ -123,23 +123,23 @@ module _ (f : Floor) (ws : List ℕ) (o : Order) (seed : ℕ) (m₀ report₀ : 
     shown-count : openCount f m (places (f .carriers)) ≡ length (passing (openAt N s) (places (N .carriers)))
     unfolding machineOf
     shown-count =
-        ap (λ (z : List ℕ). openCount f z (places (f .carriers))) (p .shows)
+        ap (λ (xs : List ℕ). openCount f xs (places (f .carriers))) (p .shows)
         ∙ count-same f ws s (drop (stateSize (f .carriers)) m₀) (places (f .carriers))
 
     -- What the order takes, and that it is open.
-    taken-place : chosenIn o f m c ≡ chosen o N s c
+    taken-place : chosenIn o f m kept ≡ chosen o N s kept
     taken-place =
-        ap (λ (z : List ℕ). chosenIn o f z c) (p .shows) ∙ chosen-same f ws s (drop (stateSize (f .carriers)) m₀) o c
+        ap (λ (xs : List ℕ). chosenIn o f xs kept) (p .shows) ∙ chosen-same f ws s (drop (stateSize (f .carriers)) m₀) o kept
 
-    takes : 0 < openCount f m (places (f .carriers)) → Takes o N s c (chosen o N s c)
-    takes l = chosen-takes N s o c (p .keeps) (rw (← shown-count) l)
+    takes : 0 < openCount f m (places (f .carriers)) → Takes o N s kept (chosen o N s kept)
+    takes l = chosen-takes N s o kept (p .keeps) (rw (← shown-count) l)
 
     -- One more step.
     module _ (some : 0 < openCount f m (places (f .carriers))) (less : t < ceiling (f .carriers))
         (enough : reportSize (f .carriers) ≤ length report₀)
-        {next : ℕ} {m′ report′ : List ℕ} (kept : length m′ ≡ length m) (a : Advanced o f ws m report c t next m′ report′) where
+        {next : ℕ} {m′ report′ : List ℕ} (same-long : length m′ ≡ length m) (a : Advanced o f ws m report kept t next m′ report′) where
       abbrev x : Step
-      x = nextStep o N s c
+      x = nextStep o N s kept
 
       abbrev line : Entry
       line = entryOf N s x
@@ -148,25 +148,25 @@ module _ (f : Floor) (ws : List ℕ) (o : Order) (seed : ℕ) (m₀ report₀ : 
       unfolding nextStep openAt
       x-open = takes some .opened
 
-      x-is : stepAt (f .carriers) (chosenIn o f m c) ≡ x
+      x-is : stepAt (f .carriers) (chosenIn o f m kept) ≡ x
       unfolding nextStep machineOf
       x-is = ap (stepAt (f .carriers)) taken-place
 
-      goes-on : tryFrom o N c s (ceiling (f .carriers) - t) ≡
-          reported line (tryFrom o N (remembered o c (chosen o N s c)) (afterStep N s x) (ceiling (f .carriers) - (t + 1)))
+      goes-on : tryFrom o N kept s (ceiling (f .carriers) - t) ≡
+          reported line (tryFrom o N (remembered o kept (chosen o N s kept)) (afterStep N s x) (ceiling (f .carriers) - (t + 1)))
       goes-on =
           let less-one : ceiling (f .carriers) - t ≡ suc (ceiling (f .carriers) - (t + 1)) = omega arith in
-          rw less-one (try-step o N c s (ceiling (f .carriers) - (t + 1)) (place-not-silent N s (rw (← shown-count) some)))
+          rw less-one (try-step o N kept s (ceiling (f .carriers) - (t + 1)) (place-not-silent N s (rw (← shown-count) some)))
 
       says : stepAnswerIn N m x ≡ stepAnswer N s x
       says =
-          ap (λ (z : List ℕ). stepAnswerIn N z x) (p .shows)
+          ap (λ (xs : List ℕ). stepAnswerIn N xs x) (p .shows)
           ∙ step-says f ws ok s (p .fits) (drop (stateSize (f .carriers)) m₀) x x-open
 
       stores : m′ ≡ encode (f .carriers) (afterStep N s x) ++ drop (stateSize (f .carriers)) m₀
       stores =
           a .stores ∙ ap (afterIn N m) x-is
-          ∙ ap (λ (z : List ℕ). afterIn N z x) (p .shows)
+          ∙ ap (λ (xs : List ℕ). afterIn N xs x) (p .shows)
           ∙ step-stores f ws ok s (p .fits) (drop (stateSize (f .carriers)) m₀) x x-open
 
       numbers : report′ ≡ put report (2 * t) (numberOf (line .taken) ∷ (answerNumber (line .answer) ∷ []))
@@ -174,7 +174,7 @@ module _ (f : Floor) (ws : List ℕ) (o : Order) (seed : ℕ) (m₀ report₀ : 
       numbers =
           a .reports
           ∙ ap (λ (y : Step). put report (2 * t) (numberOf y ∷ (answerNumber (stepAnswerIn N m y) ∷ []))) x-is
-          ∙ ap (λ (r : StepAnswer). put report (2 * t) (numberOf x ∷ (answerNumber r ∷ []))) says
+          ∙ ap (λ (y : StepAnswer). put report (2 * t) (numberOf x ∷ (answerNumber y ∷ []))) says
 
       -- The report keeps its length, and has one line more.
       size : length (reportNumbers (p .entries)) ≡ 2 * t
@@ -199,22 +199,22 @@ module _ (f : Floor) (ws : List ℕ) (o : Order) (seed : ℕ) (m₀ report₀ : 
       left : TrialResult
       left = tryFrom o N next (afterStep N s x) (ceiling (f .carriers) - (t + 1))
 
-      goes-there : tryFrom o N c s (ceiling (f .carriers) - t) ≡ reported line left
+      goes-there : tryFrom o N kept s (ceiling (f .carriers) - t) ≡ reported line left
       unfolding left
       goes-there =
           goes-on
           ∙ ap (λ (k : ℕ). reported line (tryFrom o N k (afterStep N s x) (ceiling (f .carriers) - (t + 1))))
-          (sym (a .remembers ∙ ap (remembered o c) taken-place))
+          (sym (a .remembers ∙ ap (remembered o kept) taken-place))
 
       told-more : trial o N seed .report ≡ (p .entries ++ (line ∷ [])) ++ left .report
       unfolding reported
       told-more =
-          p .told ∙ ap (λ (r : TrialResult). p .entries ++ r .report) goes-there
+          p .told ∙ ap (λ (x : TrialResult). p .entries ++ x .report) goes-there
           ∙ sym (append-assoc (p .entries) (line ∷ []) (left .report))
 
       leads-more : trial o N seed .state ≡ left .state
       unfolding reported
-      leads-more = p .leads ∙ ap (λ (r : TrialResult). r .state) goes-there
+      leads-more = p .leads ∙ ap (λ (x : TrialResult). x .state) goes-there
 
       pub playing-more : Playing m′ report′ next (t + 1)
       unfolding left
@@ -223,10 +223,10 @@ module _ (f : Floor) (ws : List ℕ) (o : Order) (seed : ℕ) (m₀ report₀ : 
             state = afterStep N s x;
             entries = p .entries ++ (line ∷ []);
             shows = stores;
-            long = kept ∙ p .long;
+            long = same-long ∙ p .long;
             wide = wide-more;
             fits = step-fits f ws ok s (p .fits) x x-open;
-            keeps = subst (Memory o N) (sym (a .remembers ∙ ap (remembered o c) taken-place)) (takes some .next);
+            keeps = subst (Memory o N) (sym (a .remembers ∙ ap (remembered o kept) taken-place)) (takes some .next);
             number = omega (arith, p .number, length-append (p .entries) (line ∷ []));
             stored = stored-more;
             told = told-more;
@@ -234,26 +234,26 @@ module _ (f : Floor) (ws : List ℕ) (o : Order) (seed : ℕ) (m₀ report₀ : 
           }
 
     -- The trial that has stopped: its number of steps, its memory, its report.
-    pub stopped : tryFrom o N c s (ceiling (f .carriers) - t) ≡ record { report = []; state = s } →
+    pub stopped : tryFrom o N kept s (ceiling (f .carriers) - t) ≡ record { report = []; state = s } →
         (t ≡ length (trial o N seed .report)) ×
         ((m ≡ encode (f .carriers) (trial o N seed .state) ++ drop (stateSize (f .carriers)) m₀) ×
         (report ≡ put report₀ 0 (reportNumbers (trial o N seed .report))))
     stopped e =
         let all : trial o N seed .report ≡ p .entries =
-        p .told ∙ ap (λ (r : TrialResult). p .entries ++ r .report) e ∙ append-nil (p .entries) in
-        let last : trial o N seed .state ≡ s = p .leads ∙ ap (λ (r : TrialResult). r .state) e in (
+        p .told ∙ ap (λ (x : TrialResult). p .entries ++ x .report) e ∙ append-nil (p .entries) in
+        let last : trial o N seed .state ≡ s = p .leads ∙ ap (λ (x : TrialResult). x .state) e in (
           p .number ∙ ap length (sym all),
           (
             p .shows ∙ ap (λ (z : State). encode (f .carriers) z ++ drop (stateSize (f .carriers)) m₀) (sym last),
-            p .stored ∙ ap (λ (es : List Entry). put report₀ 0 (reportNumbers es)) (sym all),
+            p .stored ∙ ap (λ (xs : List Entry). put report₀ 0 (reportNumbers xs)) (sym all),
           ),
         )
 
     -- It stops where no place is open, and after the ceiling's number of steps.
     pub stops-silent : openCount f m (places (f .carriers)) ≡ 0 →
-        tryFrom o N c s (ceiling (f .carriers) - t) ≡ record { report = []; state = s }
-    stops-silent e = try-stopped o N c s (ceiling (f .carriers) - t) (no-place N s (sym shown-count ∙ e))
+        tryFrom o N kept s (ceiling (f .carriers) - t) ≡ record { report = []; state = s }
+    stops-silent e = try-stopped o N kept s (ceiling (f .carriers) - t) (no-place N s (sym shown-count ∙ e))
 
-    pub stops-spent : ceiling (f .carriers) ≤ t → tryFrom o N c s (ceiling (f .carriers) - t) ≡ record { report = []; state = s }
+    pub stops-spent : ceiling (f .carriers) ≤ t → tryFrom o N kept s (ceiling (f .carriers) - t) ≡ record { report = []; state = s }
     unfolding tryFrom
-    stops-spent l = let none : ceiling (f .carriers) - t ≡ 0 = omega arith in ap (tryFrom o N c s) none
+    stops-spent l = let none : ceiling (f .carriers) - t ≡ 0 = omega arith in ap (tryFrom o N kept s) none

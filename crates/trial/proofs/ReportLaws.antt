@@ -7,13 +7,13 @@ use lib.ListN.{length}
 use Rattle.orders.specs.Trial.{Entry}
 use Rattle.trial.specs.Report.{numberOf, answerNumber, reportNumbers}
 
-pub numbers-length : (es : List Entry) → length (reportNumbers es) ≡ 2 * length es
+pub numbers-length : (xs : List Entry) → length (reportNumbers xs) ≡ 2 * length xs
 unfolding reportNumbers
 numbers-length [] = refl
-numbers-length (e ∷ es) = omega (arith, numbers-length es)
+numbers-length (e ∷ xs) = omega (arith, numbers-length xs)
 
-pub numbers-more : (es : List Entry) (e : Entry) →
-    reportNumbers (es ++ (e ∷ [])) ≡ reportNumbers es ++ (numberOf (e .taken) ∷ (answerNumber (e .answer) ∷ []))
+pub numbers-more : (xs : List Entry) (x : Entry) →
+    reportNumbers (xs ++ (x ∷ [])) ≡ reportNumbers xs ++ (numberOf (x .taken) ∷ (answerNumber (x .answer) ∷ []))
 unfolding reportNumbers
-numbers-more [] e = refl
-numbers-more (d ∷ es) e = ap (λ (l : List ℕ). numberOf (d .taken) ∷ (answerNumber (d .answer) ∷ l)) (numbers-more es e)
+numbers-more [] x = refl
+numbers-more (d ∷ xs) x = ap (λ (xs : List ℕ). numberOf (d .taken) ∷ (answerNumber (d .answer) ∷ xs)) (numbers-more xs x)

@@ -18,18 +18,18 @@ use Rattle.orders.proofs.PassingLaws.{passing-item}
 use Rattle.trial.specs.Inner.{opensIn, openCount, turnIn, chosenIn}
 
 -- Two tests that agree pass the same places.
-passing-same : (p q : ℕ → Bool) → ((i : ℕ) → p i ≡ q i) → (k : ℕ) → passing p k ≡ passing q k
+passing-same : (φ ψ : ℕ → Bool) → ((i : ℕ) → φ i ≡ ψ i) → (k : ℕ) → passing φ k ≡ passing ψ k
 unfolding passing
-passing-same p q h zero = refl
-passing-same p q h (suc k) = rw (passing-same p q h k, h k)
+passing-same φ ψ h zero = refl
+passing-same φ ψ h (suc k) = rw (passing-same φ ψ h k, h k)
 
 -- The place that an order takes is open.
-pub chosen-opens : (o : Order) (f : Floor) (m : List ℕ) (c : ℕ) → 0 < openCount f m (places (f .carriers)) →
-    openIn (bare f) m (stepAt (f .carriers) (chosenIn o f m c)) ≡ true
+pub chosen-opens : (o : Order) (f : Floor) (m : List ℕ) (kept : ℕ) → 0 < openCount f m (places (f .carriers)) →
+    openIn (bare f) m (stepAt (f .carriers) (chosenIn o f m kept)) ≡ true
 unfolding chosenIn openCount opensIn
-chosen-opens o f m c l =
-    passing-item (opensIn f m) (places (f .carriers)) (turnIn o f m c % openCount f m (places (f .carriers)))
-    (mod-lt (turnIn o f m c) l) .passes
+chosen-opens o f m kept l =
+    passing-item (opensIn f m) (places (f .carriers)) (turnIn o f m kept % openCount f m (places (f .carriers)))
+    (mod-lt (turnIn o f m kept) l) .passes
 
 module _ (f : Floor) (ws : List ℕ) (s : State) (rest : List ℕ) where
   abbrev M : Machine
@@ -49,12 +49,12 @@ module _ (f : Floor) (ws : List ℕ) (s : State) (rest : List ℕ) where
   unfolding openCount
   count-same k = ap length (listed-same k)
 
-  turn-same : (o : Order) (c : ℕ) → turnIn o f m c ≡ turn o M s c
+  turn-same : (o : Order) (kept : ℕ) → turnIn o f m kept ≡ turn o M s kept
   unfolding turnIn turn
-  turn-same first c = refl
-  turn-same round c = count-same c
-  turn-same drawn c = refl
+  turn-same first kept = refl
+  turn-same round kept = count-same kept
+  turn-same drawn kept = refl
 
-  pub chosen-same : (o : Order) (c : ℕ) → chosenIn o f m c ≡ chosen o M s c
+  pub chosen-same : (o : Order) (kept : ℕ) → chosenIn o f m kept ≡ chosen o M s kept
   unfolding chosenIn chosen openPlaces machineOf
-  chosen-same o c = rw (listed-same (places (f .carriers)), turn-same o c, count-same (places (f .carriers)))
+  chosen-same o kept = rw (listed-same (places (f .carriers)), turn-same o kept, count-same (places (f .carriers)))

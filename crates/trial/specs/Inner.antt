@@ -21,20 +21,20 @@ opensIn f m p = openIn (bare f) m (stepAt (f .carriers) p)
 unfoldable pub openCount : Floor → List ℕ → ℕ → ℕ
 openCount f m k = length (passing (opensIn f m) k)
 
--- Which of the open places an order takes that remembers c, and the place that it takes.
+-- Which of the open places an order takes that remembers kept, and the place that it takes.
 unfoldable pub turnIn : Order → Floor → List ℕ → ℕ → ℕ
-turnIn first f m c = 0
-turnIn round f m c = openCount f m c
-turnIn drawn f m c = drawnBy c
+turnIn first f m kept = 0
+turnIn round f m kept = openCount f m kept
+turnIn drawn f m kept = drawnBy kept
 
 unfoldable pub chosenIn : Order → Floor → List ℕ → ℕ → ℕ
-chosenIn o f m c =
-    getD (passing (opensIn f m) (places (f .carriers))) (turnIn o f m c % openCount f m (places (f .carriers))) 0
+chosenIn o f m kept =
+    getD (passing (opensIn f m) (places (f .carriers))) (turnIn o f m kept % openCount f m (places (f .carriers))) 0
 
 -- One more step of a trial in order o, at place p: what is remembered, the memory and the report after it.
-pub record Advanced (o : Order) (f : Floor) (ws m report : List ℕ) (c t next : ℕ) (m′ report′ : List ℕ) : Type 0 where
-  pub remembers : next ≡ remembered o c (chosenIn o f m c)
-  pub stores : m′ ≡ afterIn (machineOf f ws) m (stepAt (f .carriers) (chosenIn o f m c))
+pub record Advanced (o : Order) (f : Floor) (ws m report : List ℕ) (kept t next : ℕ) (m′ report′ : List ℕ) : Type 0 where
+  pub remembers : next ≡ remembered o kept (chosenIn o f m kept)
+  pub stores : m′ ≡ afterIn (machineOf f ws) m (stepAt (f .carriers) (chosenIn o f m kept))
   pub reports : report′ ≡ put report (2 * t)
-      (numberOf (stepAt (f .carriers) (chosenIn o f m c)) ∷
-      answerNumber (stepAnswerIn (machineOf f ws) m (stepAt (f .carriers) (chosenIn o f m c))) ∷ [])
+      (numberOf (stepAt (f .carriers) (chosenIn o f m kept)) ∷
+      answerNumber (stepAnswerIn (machineOf f ws) m (stepAt (f .carriers) (chosenIn o f m kept))) ∷ [])

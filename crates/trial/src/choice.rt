@@ -12,7 +12,7 @@ use floor::Floor;
 fn open_at(f: Floor, m: &[u16], p: usize) -> bool
     requires { ⌜ p < places (f .carriers) ⌝ }
     requires { ⌜ (f .carriers ≤ 8) × (stateSize (f .carriers) ≤ length (now m)) ⌝ }
-    ensures { λ r. ⌜ r ≡ opensIn f (now (m .entry)) p ⌝ }
+    ensures { λ result. ⌜ result ≡ opensIn f (now (m .entry)) p ⌝ }
 {
     steps::is_open(f, m, crate::places::step_at(f.carriers as usize, p))
 }
@@ -21,7 +21,7 @@ fn open_at(f: Floor, m: &[u16], p: usize) -> bool
 pub fn count_open(f: Floor, m: &[u16], k: usize) -> usize
     requires { ⌜ k ≤ places (f .carriers) ⌝ }
     requires { ⌜ (f .carriers ≤ 8) × (stateSize (f .carriers) ≤ length (now m)) ⌝ }
-    ensures { λ r. ⌜ (r ≡ openCount f (now (m .entry)) k) × (r ≤ k) ⌝ }
+    ensures { λ result. ⌜ (result ≡ openCount f (now (m .entry)) k) × (result ≤ k) ⌝ }
 {
     let mut p: usize = 0;
     let mut count: usize = 0;
@@ -38,7 +38,7 @@ pub fn count_open(f: Floor, m: &[u16], k: usize) -> usize
 fn place_at(f: Floor, m: &[u16], i: usize) -> usize
     requires { ⌜ i < openCount f (now m) (places (f .carriers)) ⌝ }
     requires { ⌜ (f .carriers ≤ 8) × (stateSize (f .carriers) ≤ length (now m)) ⌝ }
-    ensures { λ r. ⌜ (r ≡ getD (passing (opensIn f (now (m .entry))) (places (f .carriers))) i 0) × (r < places (f .carriers)) ⌝ }
+    ensures { λ result. ⌜ (result ≡ getD (passing (opensIn f (now (m .entry))) (places (f .carriers))) i 0) × (result < places (f .carriers)) ⌝ }
 {
     let all = crate::places::count(f.carriers as usize);
     let mut p: usize = 0;
@@ -55,35 +55,35 @@ fn place_at(f: Floor, m: &[u16], i: usize) -> usize
     p
 }
 
-// Which of the open places an order takes that remembers c: order 1 the first; order 2 the one behind those before place c;
+// Which of the open places an order takes that remembers kept: order 1 the first; order 2 the one behind those before place kept;
 // order 3 the one at the drawn number.
-fn turn(f: Floor, m: &[u16], order: u16, c: u32) -> usize
-    requires { ⌜ (orderBy order ≡ round → c ≤ places (f .carriers)) ⌝ }
+fn turn(f: Floor, m: &[u16], order: u16, kept: u32) -> usize
+    requires { ⌜ (orderBy order ≡ round → kept ≤ places (f .carriers)) ⌝ }
     requires { ⌜ (f .carriers ≤ 8) × (stateSize (f .carriers) ≤ length (now m)) ⌝ }
-    ensures { λ r. ⌜ r ≡ turnIn (orderBy order) f (now (m .entry)) c ⌝ }
+    ensures { λ result. ⌜ result ≡ turnIn (orderBy order) f (now (m .entry)) kept ⌝ }
 {
     if order == 1 {
         return 0;
     }
     if order == 2 {
-        return count_open(f, m, c as usize);
+        return count_open(f, m, kept as usize);
     }
-    crate::generator::draw(c)
+    crate::generator::draw(kept)
 }
 
 // The place that an order takes, of so many open ones.
-pub fn choose(f: Floor, m: &[u16], order: u16, c: u32, candidates: usize) -> usize
+pub fn choose(f: Floor, m: &[u16], order: u16, kept: u32, candidates: usize) -> usize
     requires { ⌜ (candidates ≡ openCount f (now m) (places (f .carriers))) × (0 < candidates) ⌝ }
-    requires { ⌜ (orderBy order ≡ round → c ≤ places (f .carriers)) ⌝ }
+    requires { ⌜ (orderBy order ≡ round → kept ≤ places (f .carriers)) ⌝ }
     requires { ⌜ (f .carriers ≤ 8) × (stateSize (f .carriers) ≤ length (now m)) ⌝ }
-    ensures { λ r. ⌜ (r ≡ chosenIn (orderBy order) f (now (m .entry)) c) × (r < places (f .carriers)) ⌝ }
+    ensures { λ result. ⌜ (result ≡ chosenIn (orderBy order) f (now (m .entry)) kept) × (result < places (f .carriers)) ⌝ }
 {
-    place_at(f, m, turn(f, m, order, c) % candidates)
+    place_at(f, m, turn(f, m, order, kept) % candidates)
 }
 
 // What an order remembers when it starts.
 pub fn start(order: u16, seed: u32) -> u32
-    ensures { λ r. ⌜ r ≡ startMemory (orderBy order) seed ⌝ }
+    ensures { λ result. ⌜ result ≡ startMemory (orderBy order) seed ⌝ }
 {
     if order == 1 {
         return 0;
@@ -95,9 +95,9 @@ pub fn start(order: u16, seed: u32) -> u32
 }
 
 // What an order remembers after it took place p.
-pub fn next(order: u16, c: u32, p: usize) -> u32
+pub fn next(order: u16, kept: u32, p: usize) -> u32
     requires { ⌜ p < 36 ⌝ }
-    ensures { λ r. ⌜ r ≡ remembered (orderBy order) c p ⌝ }
+    ensures { λ result. ⌜ result ≡ remembered (orderBy order) kept p ⌝ }
 {
     if order == 1 {
         return 0;
@@ -105,5 +105,5 @@ pub fn next(order: u16, c: u32, p: usize) -> u32
     if order == 2 {
         return p as u32 + 1;
     }
-    crate::generator::next_number(c)
+    crate::generator::next_number(kept)
 }

@@ -30,7 +30,7 @@ pub enum Tried {
 
 // 11: an order other than 1 to 3.
 fn known(order: u16) -> Checked
-    ensures { λ r. ⌜ verdictOf r ≡ demand (within 1 3 order) 11 0 ⌝ }
+    ensures { λ result. ⌜ verdictOf result ≡ demand (within 1 3 order) 11 0 ⌝ }
 {
     if order >= 1 {
         if order <= 3 {
@@ -45,7 +45,7 @@ fn known(order: u16) -> Checked
 
 // The refusals of a trial: the floor's, 9 for the state, 9 for the report, 11.
 fn ready(f: Floor, walls: &[u16], order: u16, state: usize, report: usize) -> Checked
-    ensures { λ r. ⌜ verdictOf r ≡ trialVerdict f (now (walls .entry)) order state report ⌝ }
+    ensures { λ result. ⌜ verdictOf result ≡ trialVerdict f (now (walls .entry)) order state report ⌝ }
 {
     let placed = machine::lent_place(f, walls, state);
     let Checked::Passed = placed else {
@@ -68,11 +68,11 @@ pub fn trial(
     state: &mut [u16],
     report: &mut [u16],
 ) -> Tried
-    ensures answers { λ r. ⌜ triedOutcome r ≡
+    ensures answers { λ result. ⌜ triedOutcome result ≡
         trialOutcome f (now (walls .entry)) order seed (length (now (state .entry))) (length (now (report .entry))) ⌝ }
-    ensures stores { λ r. ⌜ now (state .exit) ≡
+    ensures stores { λ result. ⌜ now (state .exit) ≡
         stateTried f (now (walls .entry)) order seed (now (state .entry)) (length (now (report .entry))) ⌝ }
-    ensures reports { λ r. ⌜ now (report .exit) ≡
+    ensures reports { λ result. ⌜ now (report .exit) ≡
         reportTried f (now (walls .entry)) order seed (length (now (state .entry))) (now (report .entry)) ⌝ }
 {
     let checked = ready(f, walls, order, state.len(), report.len());

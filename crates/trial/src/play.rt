@@ -21,7 +21,7 @@ use machine::Most;
 
 // The ceiling for n carriers; 0 where there are none.
 pub fn most_steps(n: usize) -> usize
-    ensures { λ r. ⌜ (1 ≤ n → n ≤ 8 → r ≡ ceiling n) × (r ≤ 512) ⌝ }
+    ensures { λ result. ⌜ (1 ≤ n → n ≤ 8 → result ≡ ceiling n) × (result ≤ 512) ⌝ }
 {
     let most = machine::ceiling(n);
     let Most::Steps(t) = most else {
@@ -33,7 +33,7 @@ pub fn most_steps(n: usize) -> usize
 // Line t of the report.
 fn write_line(report: &mut [u16], t: usize, number: u16, answer: u16)
     requires { ⌜ (t < 512) × (2 * t + 2 ≤ length (now report)) ⌝ }
-    ensures { λ r. ⌜ now (report .exit) ≡ put (now (report .entry)) (2 * t) (number ∷ (answer ∷ [])) ⌝ }
+    ensures { λ result. ⌜ now (report .exit) ≡ put (now (report .entry)) (2 * t) (number ∷ (answer ∷ [])) ⌝ }
 {
     let at = 2 * t;
     report[at] = number;
@@ -46,25 +46,25 @@ fn advance(
     walls: &[u16],
     free: [u32; 32],
     order: u16,
-    c: u32,
+    kept: u32,
     candidates: usize,
     t: usize,
     m: &mut [u16],
     report: &mut [u16],
 ) -> u32
     requires { ⌜ (candidates ≡ openCount f (now m) (places (f .carriers))) × (0 < candidates) ⌝ }
-    requires { ⌜ (orderBy order ≡ round → c ≤ places (f .carriers)) ⌝ }
+    requires { ⌜ (orderBy order ≡ round → kept ≤ places (f .carriers)) ⌝ }
     requires { ⌜ Workable f (now walls) free (now m) ⌝ }
     requires { ⌜ (t < 512) × (2 * t + 2 ≤ length (now report)) ⌝ }
-    ensures { λ r. ⌜ Advanced (orderBy order) f (now (walls .entry)) (now (m .entry)) (now (report .entry)) c t r
+    ensures { λ result. ⌜ Advanced (orderBy order) f (now (walls .entry)) (now (m .entry)) (now (report .entry)) kept t result
         (now (m .exit)) (now (report .exit)) ⌝ }
 {
-    let p = crate::choice::choose(f, m, order, c, candidates);
+    let p = crate::choice::choose(f, m, order, kept, candidates);
     let s = crate::places::step_at(f.carriers as usize, p);
     let number = crate::places::number_of(f, s);
     let taken = steps::take(f, walls, free, m, s);
     write_line(report, t, number, crate::places::answer_number(taken));
-    crate::choice::next(order, c, p)
+    crate::choice::next(order, kept, p)
 }
 
 // Takes steps in the order until none is open; the number taken.
@@ -81,10 +81,10 @@ fn take_all(
     requires { ⌜ Workable f (now walls) free (now m) ⌝ }
     requires { ⌜ now m ≡ encode (f .carriers) fresh ++ drop (stateSize (f .carriers)) (now m) ⌝ }
     requires { ⌜ reportSize (f .carriers) ≤ length (now report) ⌝ }
-    ensures answers { λ r. ⌜ r ≡ length (trialOf f (now (walls .entry)) order seed .report) ⌝ }
-    ensures stores { λ r. ⌜ now (m .exit) ≡
+    ensures answers { λ result. ⌜ result ≡ length (trialOf f (now (walls .entry)) order seed .report) ⌝ }
+    ensures stores { λ result. ⌜ now (m .exit) ≡
         encode (f .carriers) (trialOf f (now (walls .entry)) order seed .state) ++ drop (stateSize (f .carriers)) (now (m .entry)) ⌝ }
-    ensures reports { λ r. ⌜ now (report .exit) ≡
+    ensures reports { λ result. ⌜ now (report .exit) ≡
         put (now (report .entry)) 0 (reportNumbers (trialOf f (now (walls .entry)) order seed .report)) ⌝ }
 {
     let all = crate::places::count(f.carriers as usize);
@@ -112,9 +112,9 @@ pub fn play(
     report: &mut [u16],
 ) -> usize
     requires { ⌜ trialVerdict f (now walls) order (length (now m)) (length (now report)) ≡ passed ⌝ }
-    ensures answers { λ r. ⌜ r ≡ length (trialOf f (now (walls .entry)) order seed .report) ⌝ }
-    ensures stores { λ r. ⌜ now (m .exit) ≡ withState f (now (m .entry)) (trialOf f (now (walls .entry)) order seed .state) ⌝ }
-    ensures reports { λ r. ⌜ now (report .exit) ≡
+    ensures answers { λ result. ⌜ result ≡ length (trialOf f (now (walls .entry)) order seed .report) ⌝ }
+    ensures stores { λ result. ⌜ now (m .exit) ≡ withState f (now (m .entry)) (trialOf f (now (walls .entry)) order seed .state) ⌝ }
+    ensures reports { λ result. ⌜ now (report .exit) ≡
         put (now (report .entry)) 0 (reportNumbers (trialOf f (now (walls .entry)) order seed .report)) ⌝ }
 {
     state::write_fresh(m, f.carriers as usize);

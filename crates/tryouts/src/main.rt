@@ -19,7 +19,7 @@ use testkit::show;
 
 // Room for the script: twice a large buffer.
 fn script_room() -> [u8; 131072]
-    ensures { λ r. ⌜ 131072 ≡ length r ⌝ }
+    ensures { λ result. ⌜ 131072 ≡ length result ⌝ }
 {
     [0; 131072]
 }
@@ -78,8 +78,8 @@ fn read_map(map: &[u8]) {
 }
 
 // The place of a section's length among its numbers: behind the two carriers of `meeting` and the beat of `at`.
-fn length_place(s: &[u8]) -> usize {
-    match bytes::byte(s, 2) {
+fn length_place(text: &[u8]) -> usize {
+    match bytes::byte(text, 2) {
         b'm' => 2,
         b'a' => 1,
         _ => 0,
@@ -87,29 +87,29 @@ fn length_place(s: &[u8]) -> usize {
 }
 
 // Prints what the command of a section, by its first letter, prints for a sheet.
-fn run(s: &[u8], sheet: &[u8]) {
-    match bytes::byte(s, 2) {
+fn run(text: &[u8], sheet: &[u8]) {
+    match bytes::byte(text, 2) {
         b'w' => why(sheet),
         b'p' => draw(sheet),
         b'm' => meet(
             sheet,
-            memory::narrow(fields::field(s, 0)),
-            memory::narrow(fields::field(s, 1)),
+            memory::narrow(fields::field(text, 0)),
+            memory::narrow(fields::field(text, 1)),
         ),
         b'b' => shut(sheet),
         b'd' => draw_all(sheet),
-        b'a' => draw_beat(sheet, memory::narrow(fields::field(s, 0))),
+        b'a' => draw_beat(sheet, memory::narrow(fields::field(text, 0))),
         b's' => read_map(sheet),
         _ => {}
     }
 }
 
 // Plays the section at the front of a script; its length is returned.
-fn section(s: &[u8]) -> usize {
-    let end = memory::plus(fields::end(s), 1);
-    let n = fields::field(s, length_place(s));
-    show::text(bytes::part(s, 0, end));
-    run(s, bytes::part(s, end, n));
+fn section(bytes: &[u8]) -> usize {
+    let end = memory::plus(fields::end(bytes), 1);
+    let n = fields::field(bytes, length_place(bytes));
+    show::text(bytes::part(bytes, 0, end));
+    run(bytes, bytes::part(bytes, end, n));
     memory::plus(memory::plus(end, n), 1)
 }
 

@@ -21,14 +21,14 @@ pub fn put(out: &mut [u8], at: usize, bytes: &[u8]) -> usize {
 
 // The last digit of a number.
 fn digit(n: u32) -> u8
-    ensures { λ r. ⌜ r ≡ 48 + n % 10 ⌝ }
+    ensures { λ result. ⌜ result ≡ 48 + n % 10 ⌝ }
 {
     (48 + n % 10) as u8
 }
 
 // The last five digits of a number, with zeros in front.
 fn five_digits(n: u32) -> [u8; 5]
-    ensures { λ r. ⌜ (r ≡ fiveDigits n) × (5 ≡ length r) ⌝ }
+    ensures { λ result. ⌜ (result ≡ fiveDigits n) × (5 ≡ length result) ⌝ }
 {
     [
         digit(n / 10000),
@@ -41,7 +41,7 @@ fn five_digits(n: u32) -> [u8; 5]
 
 // The place among five digits of the first that is written.
 fn first_digit(n: u32) -> usize
-    ensures { λ r. ⌜ (r ≡ firstDigit n) × (r ≤ 4) ⌝ }
+    ensures { λ result. ⌜ (result ≡ firstDigit n) × (result ≤ 4) ⌝ }
 {
     if n < 10 {
         return 4;
@@ -61,7 +61,7 @@ fn first_digit(n: u32) -> usize
 // Puts a number below 100,000 in decimal digits; the column behind it is returned.
 pub fn put_decimal(out: &mut [u8], at: usize, n: u32) -> usize
     requires { ⌜ at + 5 ≤ length (now out) ⌝ }
-    ensures { λ r. ⌜ PutAt (decimal n) (now (out .entry)) at (now (out .exit)) r ⌝ }
+    ensures { λ result. ⌜ PutAt (decimal n) (now (out .entry)) at (now (out .exit)) result ⌝ }
 {
     let digits = five_digits(n);
     let k = first_digit(n);
@@ -84,7 +84,7 @@ pub fn put_number(out: &mut [u8], at: usize, n: usize) -> usize {
 
 // The number of bytes in front of a memory that a number counts, all where it counts more.
 pub fn within(n: usize, out: &[u8]) -> usize
-    ensures { λ r. ⌜ Counts r (now (out .entry)) ⌝ }
+    ensures { λ result. ⌜ Counts result (now (out .entry)) ⌝ }
 {
     if out.len() < n {
         return out.len();
@@ -114,11 +114,11 @@ fn put_piece(out: &mut [u8], at: usize, pattern: &[u8], k: usize, n: usize) -> u
 }
 
 // The numbers that are written behind a byte of a pattern, by those before it.
-fn written_behind(written: usize, b: u8) -> usize
+fn written_behind(written: usize, byte: u8) -> usize
     requires { ⌜ written ≤ 4096 ⌝ }
-    ensures { λ r. ⌜ r ≤ written + 1 ⌝ }
+    ensures { λ result. ⌜ result ≤ written + 1 ⌝ }
 {
-    if b == 37 {
+    if byte == 37 {
         return written + 1;
     }
     written

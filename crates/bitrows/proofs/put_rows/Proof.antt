@@ -11,10 +11,10 @@ use Rattle.bitrows.proofs.put_rows.Statement.{statement}
 use Rattle.bitrows.proofs.put_rows.Tie as tie
 
 abbrev Inv-loop : tie.InvT-loop
-Inv-loop table₀ i x n row₀ table row = (row ≤ n) × (length table ≡ length table₀) × (table ≡ written table₀ i x row)
+Inv-loop table₀ i words n row₀ table row = (row ≤ n) × (length table ≡ length table₀) × (table ≡ written table₀ i words row)
 
 abbrev μ-loop : tie.MeasureT-loop
-μ-loop table₀ i x n row₀ table row = n - row
+μ-loop table₀ i words n row₀ table row = n - row
 
 loop-holds : tie.Need-loop-holds Inv-loop μ-loop
 loop-holds c = (search needs, refl, written-none _ _ _)

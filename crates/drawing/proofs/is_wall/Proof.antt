@@ -9,10 +9,10 @@ use Rattle.drawing.proofs.is_wall.Statement.{statement}
 use Rattle.drawing.proofs.is_wall.Tie as tie
 
 abbrev Inv-loop : tie.InvT-loop
-Inv-loop walls m c i₀ i = (i ≤ m) × (among walls i c ≡ false)
+Inv-loop walls k c i₀ i = (i ≤ k) × (among walls i c ≡ false)
 
 abbrev μ-loop : tie.MeasureT-loop
-μ-loop walls m c i₀ i = m - i
+μ-loop walls k c i₀ i = k - i
 
 pub is-wall-spec : {M : Type 1} → statement M
 is-wall-spec =

@@ -44,14 +44,14 @@ start-of after-alone = search
 abbrev first-of : tie.After-alone2 → tie.After-alone
 first-of after-alone2 = search
 
-first-told : {b : Bool} (z : tie.After-has-route) → z .has-route .result ≡ b →
+first-told : {x : Bool} (z : tie.After-has-route) → z .has-route .result ≡ x →
     let start = start-of (alone-first z) in
-    aloneOf (start .args .f) (now (start .args .walls)) (start .args .i) ≡ answerIf b (alone-first z .alone .result .route)
+    aloneOf (start .args .f) (now (start .args .walls)) (start .args .i) ≡ answerIf x (alone-first z .alone .result .route)
 first-told z e = answer-told _ _ e (alone-first z .alone .ensures) (z .has-route .ensures)
 
-second-told : {b : Bool} (z : tie.After-has-route2) → z .has-route2 .result ≡ b →
+second-told : {x : Bool} (z : tie.After-has-route2) → z .has-route2 .result ≡ x →
     let start = start-of (first-of (alone-second z)) in
-    aloneOf (start .args .f) (now (start .args .walls)) (start .args .j) ≡ answerIf b (alone-second z .alone2 .result .route)
+    aloneOf (start .args .f) (now (start .args .walls)) (start .args .j) ≡ answerIf x (alone-second z .alone2 .result .route)
 second-told z e = answer-told _ _ e (alone-second z .alone2 .ensures) (z .has-route2 .ensures)
 
 returns : tie.Need-returns

@@ -45,7 +45,7 @@ add-result c =
     let start : tie.Start = search in
     let n = line-ends _ _ _ _ (after-put-conflict .put-conflict .ensures) in
     let k = after-put-drawing .put-drawing .ensures .size in
-    let low = met-drawing-short _ _ (start .pre .0) (start .args .i) (start .args .j) (start .args .a) (start .args .b)
+    let low = met-drawing-short _ _ (start .pre .0) (start .args .i) (start .args .j) (start .args .r) (start .args .q)
     (conflictTold (after-first-conflict .first-conflict .result)) in
     search needs
 
@@ -57,7 +57,7 @@ returns c =
     let start : tie.Start = search in
     let p = after-put-conflict .put-conflict .ensures in
     let x = conflictTold (after-first-conflict .first-conflict .result) in
-    let low = met-drawing-short _ _ (start .pre .0) (start .args .i) (start .args .j) (start .args .a) (start .args .b) x in
+    let low = met-drawing-short _ _ (start .pre .0) (start .args .i) (start .args .j) (start .args .r) (start .args .q) x in
     met-put _ _ _ _ _ _ _ _ _ _ (short _ _ (start .pre .0)) (after-first-conflict .first-conflict .ensures)
     (both-put _ _ _ _ _ _ _ _ p (after-put-drawing .put-drawing .ensures) refl
     (omega (arith, conflict-short x, low, start .pre .2)))

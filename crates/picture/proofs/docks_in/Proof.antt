@@ -7,10 +7,10 @@ use Rattle.picture.proofs.docks_in.Statement.{statement}
 use Rattle.picture.proofs.docks_in.Tie as tie
 
 abbrev Inv-loop : tie.InvT-loop
-Inv-loop f docks₀ q₀ docks q = (q ≤ 32) × (32 ≡ length docks)
+Inv-loop f docks₀ p₀ docks p = (p ≤ 32) × (32 ≡ length docks)
 
 abbrev μ-loop : tie.MeasureT-loop
-μ-loop f docks₀ q₀ docks q = 32 - q
+μ-loop f docks₀ p₀ docks p = 32 - p
 
 pub docks-in-spec : {M : Type 1} → statement M
 docks-in-spec =

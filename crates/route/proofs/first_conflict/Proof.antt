@@ -11,10 +11,10 @@ use Rattle.route.proofs.first_conflict.Statement.{statement}
 use Rattle.route.proofs.first_conflict.Tie as tie
 
 abbrev Inv-loop : tie.InvT-loop
-Inv-loop horizon a b last t₀ t = (t ≤ last) × (firstBelow last a b t ≡ free)
+Inv-loop horizon r q last t₀ t = (t ≤ last) × (firstBelow last r q t ≡ free)
 
 abbrev μ-loop : tie.MeasureT-loop
-μ-loop horizon a b last t₀ t = last - t
+μ-loop horizon r q last t₀ t = last - t
 
 returns : tie.Need-returns Inv-loop μ-loop
 unfolding conflictTold

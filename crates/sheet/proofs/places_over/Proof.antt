@@ -14,7 +14,7 @@ walls-requires : tie.Need-walls-requires
 walls-requires c κs =
     let start : tie.Start = search in
     let f = start .pre .0 .1 in
-    walls-there _ (start .pre .0 .0) _ f (omega (arith, start .pre .1, ap (λ (g : Floor). g .walls) f))
+    walls-there _ (start .pre .0 .0) _ f (omega (arith, start .pre .1, ap (λ (f : Floor). f .walls) f))
 
 returns : tie.Need-returns
 returns c =

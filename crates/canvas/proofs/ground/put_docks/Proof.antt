@@ -7,10 +7,10 @@ use Rattle.canvas.proofs.ground.put_docks.Statement.{statement}
 use Rattle.canvas.proofs.ground.put_docks.Tie as tie
 
 abbrev Inv-loop : tie.InvT-loop
-Inv-loop p docks out₀ at end₀ q₀ out end q = (q ≤ 32) × (length out ≡ length out₀)
+Inv-loop page docks out₀ at end₀ p₀ out end p = (p ≤ 32) × (length out ≡ length out₀)
 
 abbrev μ-loop : tie.MeasureT-loop
-μ-loop p docks out₀ at end₀ q₀ out end q = 32 - q
+μ-loop page docks out₀ at end₀ p₀ out end p = 32 - p
 
 pub put-docks-spec : {M : Type 1} → statement M
 put-docks-spec =

@@ -7,10 +7,10 @@ use Rattle.canvas.proofs.ground.put_labels.Statement.{statement}
 use Rattle.canvas.proofs.ground.put_labels.Tie as tie
 
 abbrev Inv-loop : tie.InvT-loop
-Inv-loop p count is-row out₀ at end₀ k₀ out end k = length out ≡ length out₀
+Inv-loop page count is-row out₀ at end₀ k₀ out end k = length out ≡ length out₀
 
 abbrev μ-loop : tie.MeasureT-loop
-μ-loop p count is-row out₀ at end₀ k₀ out end k = count - k
+μ-loop page count is-row out₀ at end₀ k₀ out end k = count - k
 
 pub put-labels-spec : {M : Type 1} → statement M
 put-labels-spec =

@@ -7,10 +7,10 @@ use Rattle.canvas.proofs.ground.put_walls.Statement.{statement}
 use Rattle.canvas.proofs.ground.put_walls.Tie as tie
 
 abbrev Inv-loop : tie.InvT-loop
-Inv-loop p walls out₀ at end₀ j₀ t8 out end j = (length out ≡ length out₀) × (j ≤ length walls)
+Inv-loop page walls out₀ at end₀ j₀ t8 out end j = (length out ≡ length out₀) × (j ≤ length walls)
 
 abbrev μ-loop : tie.MeasureT-loop
-μ-loop p walls out₀ at end₀ j₀ t8 out end j = length walls - j
+μ-loop page walls out₀ at end₀ j₀ t8 out end j = length walls - j
 
 pub put-walls-spec : {M : Type 1} → statement M
 put-walls-spec =

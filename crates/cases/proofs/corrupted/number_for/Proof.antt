@@ -5,10 +5,10 @@ use Rattle.cases.proofs.corrupted.number_for.Statement.{statement}
 use Rattle.cases.proofs.corrupted.number_for.Tie as tie
 
 abbrev Inv-loop : tie.InvT-loop
-Inv-loop s i v₀ k₀ v k = Unit {0}
+Inv-loop text i x₀ k₀ x k = Unit {0}
 
 abbrev μ-loop : tie.MeasureT-loop
-μ-loop s i v₀ k₀ v k = 100 - k
+μ-loop text i x₀ k₀ x k = 100 - k
 
 pub number-for-spec : {M : Type 1} → statement M
 number-for-spec =

@@ -7,10 +7,10 @@ use Rattle.cases.proofs.corrupted.unfit.Statement.{statement}
 use Rattle.cases.proofs.corrupted.unfit.Tie as tie
 
 abbrev Inv-loop : tie.InvT-loop
-Inv-loop s setup m₀ size n₀ i₀ m n i = length m ≡ length m₀
+Inv-loop text setup m₀ size n₀ i₀ m n i = length m ≡ length m₀
 
 abbrev μ-loop : tie.MeasureT-loop
-μ-loop s setup m₀ size n₀ i₀ m n i = size - i
+μ-loop text setup m₀ size n₀ i₀ m n i = size - i
 
 pub unfit-spec : {M : Type 1} → statement M
 unfit-spec =

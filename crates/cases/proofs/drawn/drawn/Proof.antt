@@ -7,10 +7,10 @@ use Rattle.cases.proofs.drawn.drawn.Statement.{statement}
 use Rattle.cases.proofs.drawn.drawn.Tie as tie
 
 abbrev Inv-loop : tie.InvT-loop
-Inv-loop s setup m₀ count t₀ k₀ m t k = length m ≡ length m₀
+Inv-loop text setup m₀ count t₀ k₀ m t k = length m ≡ length m₀
 
 abbrev μ-loop : tie.MeasureT-loop
-μ-loop s setup m₀ count t₀ k₀ m t k = count - k
+μ-loop text setup m₀ count t₀ k₀ m t k = count - k
 
 pub drawn-spec : {M : Type 1} → statement M
 drawn-spec =

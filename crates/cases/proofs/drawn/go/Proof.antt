@@ -7,10 +7,10 @@ use Rattle.cases.proofs.drawn.go.Statement.{statement}
 use Rattle.cases.proofs.drawn.go.Tie as tie
 
 abbrev Inv-loop : tie.InvT-loop
-Inv-loop setup m₀ seed s₀ taken₀ turn₀ m s taken turn = length m ≡ length m₀
+Inv-loop setup m₀ seed next_seed₀ taken₀ turn₀ m next_seed taken turn = length m ≡ length m₀
 
 abbrev μ-loop : tie.MeasureT-loop
-μ-loop setup m₀ seed s₀ taken₀ turn₀ m s taken turn = 100000 - turn
+μ-loop setup m₀ seed next_seed₀ taken₀ turn₀ m next_seed taken turn = 100000 - turn
 
 pub go-spec : {M : Type 1} → statement M
 go-spec =

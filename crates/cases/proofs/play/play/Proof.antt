@@ -7,10 +7,10 @@ use Rattle.cases.proofs.play.play.Statement.{statement}
 use Rattle.cases.proofs.play.play.Tie as tie
 
 abbrev Inv-loop : tie.InvT-loop
-Inv-loop s buffer₀ setup₀ at₀ turn₀ buffer setup at turn = (length buffer ≡ 9700) × (length setup ≡ 1224)
+Inv-loop text buffer₀ setup₀ at₀ turn₀ buffer setup at turn = (length buffer ≡ 9700) × (length setup ≡ 1224)
 
 abbrev μ-loop : tie.MeasureT-loop
-μ-loop s buffer₀ setup₀ at₀ turn₀ buffer setup at turn = 5000 - turn
+μ-loop text buffer₀ setup₀ at₀ turn₀ buffer setup at turn = 5000 - turn
 
 pub play-spec : {M : Type 1} → statement M
 play-spec =

@@ -12,10 +12,10 @@ use Rattle.desk.proofs.arguments.same.Statement.{statement}
 use Rattle.desk.proofs.arguments.same.Tie as tie
 
 abbrev Inv-loop : tie.InvT-loop
-Inv-loop a b k₀ k = (length a ≡ length b) × Tested (λ i. eqb (getD a i 0) (getD b i 0)) (length a) k
+Inv-loop xs ys k₀ k = (length xs ≡ length ys) × Tested (λ i. eqb (getD xs i 0) (getD ys i 0)) (length xs) k
 
 abbrev μ-loop : tie.MeasureT-loop
-μ-loop a b k₀ k = length a - k
+μ-loop xs ys k₀ k = length xs - k
 
 returns : tie.Need-returns Inv-loop μ-loop
 unfolding sameBytes

@@ -10,10 +10,10 @@ use Rattle.desk.proofs.arguments.value.Statement.{statement}
 use Rattle.desk.proofs.arguments.value.Tie as tie
 
 abbrev Inv-loop : tie.InvT-loop
-Inv-loop text v₀ k₀ v k = (k ≤ length text) × (v ≡ min 4294967296 (valueIn text k))
+Inv-loop text x₀ k₀ x k = (k ≤ length text) × (x ≡ min 4294967296 (valueIn text k))
 
 abbrev μ-loop : tie.MeasureT-loop
-μ-loop text v₀ k₀ v k = length text - k
+μ-loop text x₀ k₀ x k = length text - k
 
 loop-holds : tie.Need-loop-holds Inv-loop μ-loop
 loop-holds c = (search needs, value-start _)

@@ -5,7 +5,7 @@ use borrow.Author.Needs.{needs}
 use Rattle.desk.proofs.arguments.with_digit.Statement.{statement}
 use Rattle.desk.proofs.arguments.with_digit.Tie as tie
 
-sub-w : tie.Need-sub-w
+sub-w : tie.Need-sub-n
 sub-w c =
     let start : tie.Start = search in
     omega (arith, digit-low _ (start .pre .1))

@@ -9,10 +9,10 @@ use Rattle.fields.proofs.line.line_form.Statement.{statement}
 use Rattle.fields.proofs.line.line_form.Tie as tie
 
 abbrev Inv-loop : tie.InvT-loop
-Inv-loop text at m i₀ i = (i ≤ m) × (inTurn (λ (e : ℕ). fieldForm text (at + 5 * e)) i ≡ passed)
+Inv-loop text at k i₀ i = (i ≤ k) × (inTurn (λ (p : ℕ). fieldForm text (at + 5 * p)) i ≡ passed)
 
 abbrev μ-loop : tie.MeasureT-loop
-μ-loop text at m i₀ i = m - i
+μ-loop text at k i₀ i = k - i
 
 pub line-form-spec : {M : Type 1} → statement M
 unfolding lineForm

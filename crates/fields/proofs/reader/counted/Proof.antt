@@ -26,7 +26,7 @@ abbrev asks : {M : Type 1} (𝓤 : URA M) → RefT (List ℕ) → ℕ → SProp 
 asks 𝓤 s n = fact 𝓤 (n ≤ 64000)
 
 abbrev tells : RefT (List ℕ) → ℕ → Reached → Type 0
-tells s n r = r ≡ reachedOf (countedForm (s .now) n) (pastCounted (s .now) n)
+tells s n x = x ≡ reachedOf (countedForm (s .now) n) (pastCounted (s .now) n)
 
 pub counted-spec : {M : Type 1} → stated.statement M
 unfolding code.routine tablesOf

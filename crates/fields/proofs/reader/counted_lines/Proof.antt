@@ -30,7 +30,7 @@ use Rattle.fields.proofs.reader.counted_lines.Code as code
 
 -- What is asked of the first column and the number of lines; a line's form, and the column past it.
 abbrev asked : ℕ → ℕ → Type 0
-asked at m = (at ≤ 60000) × (m ≤ 8)
+asked at k = (at ≤ 60000) × (k ≤ 8)
 
 abbrev form : List ℕ → ℕ → Verdict
 form text c = countedForm text c

@@ -47,44 +47,44 @@ abbrev stayed : Stays (moved.ended .signature .params) (moved.ended .kept)
 stayed = (stay-none B yes, (stay-none (λ _. usize) yes, tt))
 
 module _ {M : Type 1} (𝓤 : URA M) (H : Heap 𝓤) (A : Atoms 𝓤) (W : Given 𝓤 H A) (mem : Memory → SProp 𝓤) (run : Routine → Fun 𝓤)
-    (κ : Lft) (q : Share) (d : Reader) (n : ℕ) (fits : n < 2 ^ 64) where
+    (κ : Lft) (share : Share) (reader : Reader) (n : ℕ) (fits : n < 2 ^ 64) where
   abbrev mach : Val
-  mach = T′.lowered d
+  mach = T′.lowered reader
 
   -- the reader at the other column
-  abbrev d′ : Reader
-  d′ = record { text = d .text; column = n }
+  abbrev reader′ : Reader
+  reader′ = record { text = reader .text; column = n }
 
   abbrev at : Vals moved.signature (κ, tt)
   at = (mach ∷ [], (vint w64 n ∷ [], tt))
 
   abbrev Post : Val → SProp 𝓤
-  Post = walkOf 𝓤 H A moved.ended stayed (moved.clauses 𝓤 H A mem run) .post (((κ, tt), (q, tt), tt, (d, (n, tt)), at), tt)
+  Post = walkOf 𝓤 H A moved.ended stayed (moved.clauses 𝓤 H A mem run) .post (((κ, tt), (share, tt), tt, (reader, (n, tt)), at), tt)
 
   abbrev Own : Fml
-  Own = B (κ, tt) .own d (mach ∷ [])
+  Own = B (κ, tt) .own reader (mach ∷ [])
 
-  exits : ent 𝓤 (onEntry 𝓤 H A moved.signature (κ, tt) (q, tt) (d, (n, tt)) at) (Post (T′.lowered d′))
+  exits : ent 𝓤 (onEntry 𝓤 H A moved.signature (κ, tt) (share, tt) (reader, (n, tt)) at) (Post (T′.lowered reader′))
   exits =
-      qed W ((‵ (flft κ q) ⊛ ‵ ftrue) ∷ ‵ (owns (B (κ, tt) ∷ usize ∷ []) (d, (n, tt)) at) ∷ []) ∵
+      qed W ((‵ (flft κ share) ⊛ ‵ ftrue) ∷ ‵ (owns (B (κ, tt) ∷ usize ∷ []) (reader, (n, tt)) at) ∷ []) ∵
       suffices ! _
-      (ends-at 𝓤 H A moved.ended stayed (moved.clauses 𝓤 H A mem run) W (((κ, tt), (q, tt), tt, (d, (n, tt)), at), tt)
-      (T′.lowered d′) d′ (tt, (tt, tt)) (tt, (tt, tt))) $ says ! (refl, refl) $
+      (ends-at 𝓤 H A moved.ended stayed (moved.clauses 𝓤 H A mem run) W (((κ, tt), (share, tt), tt, (reader, (n, tt)), at), tt)
+      (T′.lowered reader′) reader′ (tt, (tt, tt)) (tt, (tt, tt))) $ says ! (refl, refl) $
       frame ! $ fsplit ! $
       use1 W (‵ Own ⊛ ‵ Own)
-      (LL.copy (T.the-type (namedLft 1 0 tt (κ, tt))) (T′.the-copy (namedLft 1 0 tt (κ, tt))) 𝓤 H A W .twice d (mach ∷ [])) $ split ! $
+      (LL.copy (T.the-type (namedLft 1 0 tt (κ, tt))) (T′.the-copy (namedLft 1 0 tt (κ, tt))) 𝓤 H A W .twice reader (mach ∷ [])) $ split ! $
       move ! (0 ∷ 2 ∷ []) $ fjoin ! $ frame ! $
       -- [what the struct owns]: the number's facts take the place of the column's
       owned ! usize (Is usize) (uint-makes 𝓤 H A W w64) n _ (refl, fits) $ move ! (1 ∷ 0 ∷ []) $
       by ! (own-put 𝓤 H A W (T.the-type (namedLft 1 0 tt (κ, tt))) (T′.the-laws (namedLft 1 0 tt (κ, tt))) 1
-      (d .text, (d .column, tt)) n mach)
+      (reader .text, (reader .column, tt)) n mach)
 
   module _ (C : Calls 𝓤 H) (Λ : Loops 𝓤 H) where
     walk : Holds (hasTy (T′.mir (named 0)) mach) × WT mach
-        → ent 𝓤 (onEntry 𝓤 H A moved.signature (κ, tt) (q, tt) (d, (n, tt)) at)
+        → ent 𝓤 (onEntry 𝓤 H A moved.signature (κ, tt) (share, tt) (reader, (n, tt)) at)
         (WpFn 𝓤 H C Λ code.function (mach ∷ vint w64 n ∷ []) Post)
     walk wt =
-        qed W ((‵ (flft κ q) ⊛ ‵ ftrue) ∷ ‵ (owns (B (κ, tt) ∷ usize ∷ []) (d, (n, tt)) at) ∷ []) ∵
+        qed W ((‵ (flft κ share) ⊛ ‵ ftrue) ∷ ‵ (owns (B (κ, tt) ∷ usize ∷ []) (reader, (n, tt)) at) ∷ []) ∵
         enter ! C Λ code.function (mach ∷ vint w64 n ∷ []) _ $
         alloc1 ! (λ l₀. alloc1 ! (λ l₁. alloc1 ! (λ l₂. alloc1 ! (λ l₃. alloc0 ! $
         params1 ! $ pass1 ! (init ! 4 refl wt) $ pass1 ! (init ! 2 refl (tt, record { fits = fits })) $ pass0 ! $

@@ -26,7 +26,7 @@ abbrev asks : {M : Type 1} (𝓤 : URA M) → RefT (List ℕ) → ℕ → SProp 
 asks 𝓤 s n = fact 𝓤 (n ≤ 65000)
 
 abbrev tells : RefT (List ℕ) → ℕ → Reached → Type 0
-tells s n r = r ≡ reachedOf (lineForm (s .now) n 2) (pastPair n)
+tells s n x = x ≡ reachedOf (lineForm (s .now) n 2) (pastPair n)
 
 pub pair-spec : {M : Type 1} → stated.statement M
 unfolding code.routine tablesOf

@@ -30,7 +30,7 @@ use Rattle.fields.proofs.reader.pair_lines.Code as code
 
 -- What is asked of the first column and the number of lines; a line's form, and the column past it.
 abbrev asked : ℕ → ℕ → Type 0
-asked at m = (at ≤ 50000) × (m ≤ 1023)
+asked at k = (at ≤ 50000) × (k ≤ 1023)
 
 abbrev form : List ℕ → ℕ → Verdict
 form text c = lineForm text c 2

@@ -24,7 +24,7 @@ abbrev asks : {M : Type 1} (𝓤 : URA M) → RefT (List ℕ) → ℕ → SProp 
 asks 𝓤 s n = emp 𝓤
 
 abbrev tells : RefT (List ℕ) → ℕ → Reached → Type 0
-tells s n r = r ≡ At n
+tells s n x = x ≡ At n
 
 pub reached-spec : {M : Type 1} → stated.statement M
 unfolding code.routine tablesOf

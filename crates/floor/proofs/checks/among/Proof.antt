@@ -9,10 +9,10 @@ use Rattle.floor.proofs.checks.among.Statement.{statement}
 use Rattle.floor.proofs.checks.among.Tie as tie
 
 abbrev Inv-loop : tie.InvT-loop
-Inv-loop xs m c i₀ i = (i ≤ m) × (among xs i c ≡ false)
+Inv-loop xs k c i₀ i = (i ≤ k) × (among xs i c ≡ false)
 
 abbrev μ-loop : tie.MeasureT-loop
-μ-loop xs m c i₀ i = m - i
+μ-loop xs k c i₀ i = k - i
 
 pub among-spec : {M : Type 1} → statement M
 among-spec =

@@ -11,10 +11,10 @@ use Rattle.floor.proofs.checks.docks_clear.Statement.{statement}
 use Rattle.floor.proofs.checks.docks_clear.Tie as tie
 
 abbrev Inv-loop : tie.InvT-loop
-Inv-loop walls i docks w m k₀ k = (k ≤ m) × (each k (λ (j : ℕ). not (among walls w (getD docks j 0))) ≡ true)
+Inv-loop walls i docks count n k₀ k = (k ≤ n) × (each k (λ (j : ℕ). not (among walls count (getD docks j 0))) ≡ true)
 
 abbrev μ-loop : tie.MeasureT-loop
-μ-loop walls i docks w m k₀ k = m - k
+μ-loop walls i docks count n k₀ k = n - k
 
 returns : tie.Need-returns Inv-loop μ-loop
 unfolding docksClear countOf dockOf

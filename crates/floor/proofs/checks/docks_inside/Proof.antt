@@ -13,10 +13,10 @@ use Rattle.floor.proofs.checks.docks_inside.Statement.{statement}
 use Rattle.floor.proofs.checks.docks_inside.Tie as tie
 
 abbrev Inv-loop : tie.InvT-loop
-Inv-loop i f docks m k₀ k = (k ≤ m) × (each k (λ (j : ℕ). inGrid f (getD docks j 0)) ≡ true)
+Inv-loop i f docks n k₀ k = (k ≤ n) × (each k (λ (j : ℕ). inGrid f (getD docks j 0)) ≡ true)
 
 abbrev μ-loop : tie.MeasureT-loop
-μ-loop i f docks m k₀ k = m - k
+μ-loop i f docks n k₀ k = n - k
 
 returns : tie.Need-returns Inv-loop μ-loop
 unfolding docksInGrid countOf dockOf

@@ -7,10 +7,10 @@ use Rattle.floor.proofs.checks.is_wall.Statement.{statement}
 use Rattle.floor.proofs.checks.is_wall.Tie as tie
 
 abbrev Inv-loop : tie.InvT-loop
-Inv-loop walls m c low₀ high₀ low high = Bracket walls m c low high
+Inv-loop walls k c low₀ high₀ low high = Bracket walls k c low high
 
 abbrev μ-loop : tie.MeasureT-loop
-μ-loop walls m c low₀ high₀ low high = high - low
+μ-loop walls k c low₀ high₀ low high = high - low
 
 loop-again : tie.Need-loop-again Inv-loop μ-loop
 loop-again c =

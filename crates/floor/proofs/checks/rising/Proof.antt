@@ -10,10 +10,10 @@ use Rattle.floor.proofs.checks.rising.Statement.{statement}
 use Rattle.floor.proofs.checks.rising.Tie as tie
 
 abbrev Inv-loop : tie.InvT-loop
-Inv-loop walls m base j₀ j = (j ≤ m) × (demandEach 4 base (rises walls) j ≡ passed)
+Inv-loop walls n base j₀ j = (j ≤ n) × (demandEach 4 base (rises walls) j ≡ passed)
 
 abbrev μ-loop : tie.MeasureT-loop
-μ-loop walls m base j₀ j = m - j
+μ-loop walls n base j₀ j = n - j
 
 pub rising-spec : {M : Type 1} → statement M
 unfolding verdictOf risingOf

@@ -13,10 +13,10 @@ use Rattle.floor.proofs.checks.unrepeated.Statement.{statement}
 use Rattle.floor.proofs.checks.unrepeated.Tie as tie
 
 abbrev Inv-loop : tie.InvT-loop
-Inv-loop docks m k₀ k = (k ≤ m) × (each k (λ (j : ℕ). not (among docks j (getD docks j 0))) ≡ true)
+Inv-loop docks n k₀ k = (k ≤ n) × (each k (λ (j : ℕ). not (among docks j (getD docks j 0))) ≡ true)
 
 abbrev μ-loop : tie.MeasureT-loop
-μ-loop docks m k₀ k = m - k
+μ-loop docks n k₀ k = n - k
 
 loop-again : tie.Need-loop-again Inv-loop μ-loop
 loop-again c =

@@ -11,10 +11,10 @@ use Rattle.floor.proofs.checks.walls_inside.Statement.{statement}
 use Rattle.floor.proofs.checks.walls_inside.Tie as tie
 
 abbrev Inv-loop : tie.InvT-loop
-Inv-loop f walls m base j₀ j = (j ≤ m) × (demandEach 3 base (λ (k : ℕ). inGrid f (getD walls k 0)) j ≡ passed)
+Inv-loop f walls n base j₀ j = (j ≤ n) × (demandEach 3 base (λ (k : ℕ). inGrid f (getD walls k 0)) j ≡ passed)
 
 abbrev μ-loop : tie.MeasureT-loop
-μ-loop f walls m base j₀ j = m - j
+μ-loop f walls n base j₀ j = n - j
 
 pub walls-inside-spec : {M : Type 1} → statement M
 unfolding verdictOf wallsOf

@@ -11,10 +11,10 @@ use Rattle.layers.proofs.free_table.take_one.Statement.{statement}
 use Rattle.layers.proofs.free_table.take_one.Tie as tie
 
 abbrev Inv-loop : tie.InvT-loop
-Inv-loop g table₀ views j h a t₀ table t = (t ≤ a) × TakenBeats g views j t table₀ table
+Inv-loop g table₀ views j horizon a t₀ table t = (t ≤ a) × TakenBeats g views j t table₀ table
 
 abbrev μ-loop : tie.MeasureT-loop
-μ-loop g table₀ views j h a t₀ table t = a - t
+μ-loop g table₀ views j horizon a t₀ table t = a - t
 
 parked-from-requires : tie.Need-parked-from-requires Inv-loop μ-loop
 parked-from-requires c κs =

@@ -9,10 +9,10 @@ use Rattle.legality.proofs.places.is_dock.Statement.{statement}
 use Rattle.legality.proofs.places.is_dock.Tie as tie
 
 abbrev Inv-loop : tie.InvT-loop
-Inv-loop i c docks m k₀ k = (k ≤ m) × (among docks k c ≡ false)
+Inv-loop i c docks n k₀ k = (k ≤ n) × (among docks k c ≡ false)
 
 abbrev μ-loop : tie.MeasureT-loop
-μ-loop i c docks m k₀ k = m - k
+μ-loop i c docks n k₀ k = n - k
 
 returns : tie.Need-returns Inv-loop μ-loop
 unfolding isDock countOf

@@ -17,7 +17,7 @@ returns-3 c =
     let else1 : tie.Else1 = search in
     let after-is-silent : tie.After-is-silent = search in
     let start : tie.Start = search in
-    ap (λ (e : RunEnding). value (ran (start .args .tally .taken) e))
+    ap (λ (x : RunEnding). value (ran (start .args .tally .taken) x))
     (ends-spent _ _ _ _ (after-is-silent .is-silent .ensures) (else1 .if1 .left) (else2 .if2 .left) (then3 .if3 .taken))
 
 pub ending-spec : {M : Type 1} → statement M

@@ -5,10 +5,10 @@ use Rattle.map_reader.proofs.letters.is_used.Statement.{statement}
 use Rattle.map_reader.proofs.letters.is_used.Tie as tie
 
 abbrev Inv-loop : tie.InvT-loop
-Inv-loop marks n b c₀ c = c ≤ n
+Inv-loop marks n byte c₀ c = c ≤ n
 
 abbrev μ-loop : tie.MeasureT-loop
-μ-loop marks n b c₀ c = n - c
+μ-loop marks n byte c₀ c = n - c
 
 pub is-used-spec : {M : Type 1} → statement M
 is-used-spec =

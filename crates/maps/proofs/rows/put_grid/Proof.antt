@@ -12,10 +12,10 @@ use Rattle.maps.proofs.rows.put_grid.Statement.{statement}
 use Rattle.maps.proofs.rows.put_grid.Tie as tie
 
 abbrev Inv-loop : tie.InvT-loop
-Inv-loop marks w h out₀ at end₀ r₀ out end r = (r ≤ h) × PutAt (linesOf (rowOf marks w) r) out₀ at out end
+Inv-loop marks w h out₀ at end₀ row₀ out end row = (row ≤ h) × PutAt (linesOf (rowOf marks w) row) out₀ at out end
 
 abbrev μ-loop : tie.MeasureT-loop
-μ-loop marks w h out₀ at end₀ r₀ out end r = h - r
+μ-loop marks w h out₀ at end₀ row₀ out end row = h - row
 
 loop-holds : tie.Need-loop-holds Inv-loop μ-loop
 loop-holds c =
@@ -28,7 +28,7 @@ mul-put-row c =
     let in-loop : tie.In-loop Inv-loop μ-loop = search in
     let at-loop : tie.At-loop Inv-loop μ-loop = search in
     let start : tie.Start Inv-loop μ-loop = search in
-    omega (arith, row-cells (at-loop .loop .r) _ _ (start .pre .0) (start .pre .1) (in-loop .loop-test .taken))
+    omega (arith, row-cells (at-loop .loop .row) _ _ (start .pre .0) (start .pre .1) (in-loop .loop-test .taken))
 
 put-row-requires : tie.Need-put-row-requires Inv-loop μ-loop
 put-row-requires c κs =
@@ -39,7 +39,7 @@ put-row-requires c κs =
     let e = at-loop .loop .inv .1 in
     let long = lines-keep _ 33 short _ _ _ _ _ e (omega (arith, start .pre .1, start .pre .3, in-loop .loop-test .taken)) in (
       start .pre .0,
-      omega (arith, start .pre .2, row-cells (at-loop .loop .r) _ _ (start .pre .0) (start .pre .1) (in-loop .loop-test .taken)),
+      omega (arith, start .pre .2, row-cells (at-loop .loop .row) _ _ (start .pre .0) (start .pre .1) (in-loop .loop-test .taken)),
       omega (arith, long, start .pre .1, start .pre .3, in-loop .loop-test .taken, lines-low _ 33 short _ _ _ _ _ e),
     )
 

@@ -5,10 +5,10 @@ use Rattle.oracle.proofs.offers.best_offer.Statement.{statement}
 use Rattle.oracle.proofs.offers.best_offer.Tie as tie
 
 abbrev Inv-loop : tie.InvT-loop
-Inv-loop table f walls views k t c w v₀ n₀ v n = Unit {0}
+Inv-loop table f walls views k t c w x₀ n₀ x n = Unit {0}
 
 abbrev μ-loop : tie.MeasureT-loop
-μ-loop table f walls views k t c w v₀ n₀ v n = 5 - n
+μ-loop table f walls views k t c w x₀ n₀ x n = 5 - n
 
 pub best-offer-spec : {M : Type 1} → statement M
 best-offer-spec =

@@ -5,10 +5,10 @@ use Rattle.oracle.proofs.offers.first_offer.Statement.{statement}
 use Rattle.oracle.proofs.offers.first_offer.Tie as tie
 
 abbrev Inv-loop : tie.InvT-loop
-Inv-loop table f walls views k t c v w n₀ n = Unit {0}
+Inv-loop table f walls views k t c x w n₀ n = Unit {0}
 
 abbrev μ-loop : tie.MeasureT-loop
-μ-loop table f walls views k t c v w n₀ n = 5 - n
+μ-loop table f walls views k t c x w n₀ n = 5 - n
 
 pub first-offer-spec : {M : Type 1} → statement M
 first-offer-spec =

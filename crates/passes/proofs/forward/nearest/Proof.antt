@@ -13,14 +13,14 @@ Inv-loop g start ds n near₀ d₀ near d = near ≤ g .horizon
 abbrev μ-loop : tie.MeasureT-loop
 μ-loop g start ds n near₀ d₀ near d = n - d
 
-element-copy-out : tie.Need-element-copy-out-distance Inv-loop μ-loop
+element-copy-out : tie.Need-element-copy-out-manhattan Inv-loop μ-loop
 element-copy-out c =
     let in-loop : tie.In-loop Inv-loop μ-loop = search in
     let start : tie.Start Inv-loop μ-loop = search in
     omega (arith, in-loop .loop-test .taken, start .pre .2 .few)
 
-distance-requires : tie.Need-distance-requires Inv-loop μ-loop
-distance-requires c κs =
+manhattan-requires : tie.Need-manhattan-requires Inv-loop μ-loop
+manhattan-requires c κs =
     let in-loop : tie.In-loop Inv-loop μ-loop = search in
     let start : tie.Start Inv-loop μ-loop = search in
     let p = start .pre in
@@ -34,5 +34,5 @@ loop-again c =
 
 pub nearest-spec : {M : Type 1} → statement M
 nearest-spec =
-    tie.close (tie.spec Inv-loop μ-loop (λ c. search needs) (λ c. search needs) element-copy-out (λ c. search needs) distance-requires
+    tie.close (tie.spec Inv-loop μ-loop (λ c. search needs) (λ c. search needs) element-copy-out (λ c. search needs) manhattan-requires
     (λ c. search needs) (λ c. search needs) loop-again (λ c. search needs))

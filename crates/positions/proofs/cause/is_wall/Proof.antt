@@ -5,10 +5,10 @@ use Rattle.positions.proofs.cause.is_wall.Statement.{statement}
 use Rattle.positions.proofs.cause.is_wall.Tie as tie
 
 abbrev Inv-loop : tie.InvT-loop
-Inv-loop text start field base m j₀ j = j ≤ m
+Inv-loop text start field base k j₀ j = j ≤ k
 
 abbrev μ-loop : tie.MeasureT-loop
-μ-loop text start field base m j₀ j = m - j
+μ-loop text start field base k j₀ j = k - j
 
 pub is-wall-spec : {M : Type 1} → statement M
 is-wall-spec =

@@ -5,10 +5,10 @@ use Rattle.positions.proofs.cause.wall_field.Statement.{statement}
 use Rattle.positions.proofs.cause.wall_field.Tie as tie
 
 abbrev Inv-loop : tie.InvT-loop
-Inv-loop text start base m pair₀ pair = pair ≤ 5
+Inv-loop text start base n pair₀ pair = pair ≤ 5
 
 abbrev μ-loop : tie.MeasureT-loop
-μ-loop text start base m pair₀ pair = 5 - pair
+μ-loop text start base n pair₀ pair = 5 - pair
 
 pub wall-field-spec : {M : Type 1} → statement M
 wall-field-spec =

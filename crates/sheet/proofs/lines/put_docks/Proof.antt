@@ -13,7 +13,7 @@ use Rattle.sheet.proofs.lines.put_docks.Tie as tie
 
 abbrev Inv-loop : tie.InvT-loop
 Inv-loop i count out₀ at f width k₀ out k =
-    (k ≤ count) × (out ≡ put out₀ at (linesOf (λ (e : ℕ). cellText width (dockOf f i e)) k))
+    (k ≤ count) × (out ≡ put out₀ at (linesOf (λ (p : ℕ). cellText width (dockOf f i p)) k))
 
 abbrev μ-loop : tie.MeasureT-loop
 μ-loop i count out₀ at f width k₀ out k = count - k
@@ -23,7 +23,7 @@ put-cell-requires c κs =
     let in-loop : tie.In-loop Inv-loop μ-loop = search in
     let at-loop : tie.At-loop Inv-loop μ-loop = search in
     let start : tie.Start Inv-loop μ-loop = search in
-    let size = even-keep _ 10 _ (λ (e : ℕ). cell-text-length _ _) _ _ (at-loop .loop .k)
+    let size = even-keep _ 10 _ (λ (p : ℕ). cell-text-length _ _) _ _ (at-loop .loop .k)
     (omega (arith, start .pre, in-loop .loop-test .taken)) (at-loop .loop .inv .1) in
     (omega (arith, size, start .pre, in-loop .loop-test .taken), start .pre .0 .1)
 
@@ -35,7 +35,7 @@ loop-again c =
     let after-put-cell : tie.After-put-cell Inv-loop μ-loop = search in
     let dock = dock-place (start .args .t1) (start .args .i) (at-loop .loop .k) (omega (arith, start .pre, in-loop .loop-test .taken)) in (
       search needs,
-      even-next _ 10 _ (λ (e : ℕ). cell-text-length _ _) _ _ _ _ _ (at-loop .loop .inv .1)
+      even-next _ 10 _ (λ (p : ℕ). cell-text-length _ _) _ _ _ _ _ (at-loop .loop .inv .1)
           (dock-put _ _ _ _ dock (after-put-cell .put-cell .ensures)) refl
           (omega (arith, start .pre, in-loop .loop-test .taken)),
     )
@@ -43,7 +43,7 @@ loop-again c =
 same-length : tie.Need-same-length Inv-loop μ-loop
 same-length c =
     let start : tie.Start Inv-loop μ-loop = search in
-    even-keep _ 10 _ (λ (e : ℕ). cell-text-length _ _) _ _ (c .before .loop .k) (omega (arith, start .pre, c .before .loop .inv .0))
+    even-keep _ 10 _ (λ (p : ℕ). cell-text-length _ _) _ _ (c .before .loop .k) (omega (arith, start .pre, c .before .loop .inv .0))
     (c .before .loop .inv .1)
 
 pub put-docks-spec : {M : Type 1} → statement M

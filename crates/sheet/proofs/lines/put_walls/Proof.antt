@@ -11,7 +11,7 @@ use Rattle.sheet.proofs.lines.put_walls.Statement.{statement}
 use Rattle.sheet.proofs.lines.put_walls.Tie as tie
 
 abbrev Inv-loop : tie.InvT-loop
-Inv-loop walls out₀ width base k j₀ out j = (j ≤ k) × (out ≡ put out₀ base (linesOf (λ (e : ℕ). wallLine width (getD walls e 0)) j))
+Inv-loop walls out₀ width base k j₀ out j = (j ≤ k) × (out ≡ put out₀ base (linesOf (λ (p : ℕ). wallLine width (getD walls p 0)) j))
 
 abbrev μ-loop : tie.MeasureT-loop
 μ-loop walls out₀ width base k j₀ out j = k - j
@@ -25,7 +25,7 @@ put-wall-requires c κs =
     let start : tie.Start Inv-loop μ-loop = search in
     let base = after-walls-at .walls-at .ensures .0 in
     let l = in-loop .loop-test .taken in
-    let size = even-keep _ 11 _ (λ (e : ℕ). wall-length _ _) _ _ (at-loop .loop .j) (omega (arith, start .pre, base, l))
+    let size = even-keep _ 11 _ (λ (p : ℕ). wall-length _ _) _ _ (at-loop .loop .j) (omega (arith, start .pre, base, l))
     (at-loop .loop .inv .1) in
     (start .pre .0 .1, omega (arith, start .pre, base, l, size))
 
@@ -39,7 +39,7 @@ loop-again c =
     let base = after-walls-at .walls-at .ensures .0 in
     let l = in-loop .loop-test .taken in (
       search needs,
-      even-next _ 11 _ (λ (e : ℕ). wall-length _ _) _ _ _ _ _ (at-loop .loop .inv .1)
+      even-next _ 11 _ (λ (p : ℕ). wall-length _ _) _ _ _ _ _ (at-loop .loop .inv .1)
           (c .before .before .put-wall .ensures) refl (omega (arith, start .pre, base, l)),
     )
 
@@ -48,7 +48,7 @@ unfolding sheetLength wallAt
 same-length c =
     let after-walls-at : tie.After-walls-at Inv-loop μ-loop = search in
     let start : tie.Start Inv-loop μ-loop = search in
-    even-keep _ 11 _ (λ (e : ℕ). wall-length _ _) _ _ (c .before .loop .j)
+    even-keep _ 11 _ (λ (p : ℕ). wall-length _ _) _ _ (c .before .loop .j)
     (omega (arith, start .pre, after-walls-at .walls-at .ensures .0, c .before .loop .inv .0)) (c .before .loop .inv .1)
 
 returns : tie.Need-returns Inv-loop μ-loop

@@ -50,7 +50,7 @@ cell-requires c κs =
     let l = else1 .if1 .left in
     let kept = column-kept _ _ few good _ l _ (start .pre .1 .1 .0) in
     let counted = count-kept _ _ few good _ l _ (start .pre .1 .1 .1 .0) in
-    (start .pre .0, omega (arith, kept, dock-there _ _ few good _ l (start .args .q % 4) (omega (arith, counted, else2 .if2 .left))))
+    (start .pre .0, omega (arith, kept, dock-there _ _ few good _ l (start .args .p % 4) (omega (arith, counted, else2 .if2 .left))))
 
 returns-3 : tie.Need-returns-3
 returns-3 c =
@@ -80,7 +80,7 @@ slice-read-cell c =
 cast-if2 : tie.Need-cast-if2
 cast-if2 c =
     let start : tie.Start = search in
-    record { fits = omega (arith, c .shared-slice-known4 .given (start .args .q / 4)) }
+    record { fits = omega (arith, c .shared-slice-known4 .given (start .args .p / 4)) }
 
 pub dock-spec : {M : Type 1} → statement M
 dock-spec =

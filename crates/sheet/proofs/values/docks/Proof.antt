@@ -10,11 +10,11 @@ use Rattle.sheet.proofs.values.docks.Statement.{statement}
 use Rattle.sheet.proofs.values.docks.Tie as tie
 
 abbrev Inv-loop : tie.InvT-loop
-Inv-loop text at counts n width height last found₀ q₀ found q =
-    (q ≤ last) × (found ≡ listed (upTo q (placeWith text n width height)) 32)
+Inv-loop text at counts n width height last found₀ p₀ found p =
+    (p ≤ last) × (found ≡ listed (upTo p (placeWith text n width height)) 32)
 
 abbrev μ-loop : tie.MeasureT-loop
-μ-loop text at counts n width height last found₀ q₀ found q = last - q
+μ-loop text at counts n width height last found₀ p₀ found p = last - p
 
 dock-requires : tie.Need-dock-requires Inv-loop μ-loop
 unfolding countsAt

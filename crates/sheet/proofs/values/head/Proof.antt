@@ -10,8 +10,8 @@ use Rattle.sheet.proofs.values.head.Statement.{statement}
 use Rattle.sheet.proofs.values.head.Tie as tie
 
 -- Six values in their order are line 1.
-six-values : (text : List ℕ) (w h t d n m : ℕ) → w ≡ valueAt text 0 → h ≡ valueAt text 5 → t ≡ valueAt text 10 → d ≡ valueAt text 15
-    → n ≡ valueAt text 20 → m ≡ valueAt text 25
+six-values : (text : List ℕ) (w h t d n k : ℕ) → w ≡ valueAt text 0 → h ≡ valueAt text 5 → t ≡ valueAt text 10 → d ≡ valueAt text 15
+    → n ≡ valueAt text 20 → k ≡ valueAt text 25
     → _≡_ {A = Floor}
     (record {
       width = w;
@@ -19,13 +19,13 @@ six-values : (text : List ℕ) (w h t d n m : ℕ) → w ≡ valueAt text 0 → 
       horizon = t;
       depth = d;
       carriers = n;
-      walls = m;
+      walls = k;
       starts = replicate 8 0;
       counts = replicate 8 0;
       docks = replicate 32 0;
     }) (headAt text)
 unfolding headAt
-six-values text w h t d n m e₁ e₂ e₃ e₄ e₅ e₆ = rw (e₁, e₂, e₃, e₄, e₅, e₆)
+six-values text w h t d n k e₁ e₂ e₃ e₄ e₅ e₆ = rw (e₁, e₂, e₃, e₄, e₅, e₆)
 
 returns : tie.Need-returns
 returns c =

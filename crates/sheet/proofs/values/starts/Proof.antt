@@ -12,7 +12,7 @@ use Rattle.sheet.proofs.values.starts.Tie as tie
 
 abbrev Inv-loop : tie.InvT-loop
 Inv-loop text at n width height found₀ i₀ found i =
-    (i ≤ n) × (found ≡ listed (upTo i (λ (e : ℕ). cellAtColumn text width height (carrierColumn text e))) 8)
+    (i ≤ n) × (found ≡ listed (upTo i (λ (p : ℕ). cellAtColumn text width height (carrierColumn text p))) 8)
 
 abbrev μ-loop : tie.MeasureT-loop
 μ-loop text at n width height found₀ i₀ found i = n - i

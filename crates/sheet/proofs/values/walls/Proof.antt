@@ -13,7 +13,7 @@ use Rattle.sheet.proofs.values.walls.Tie as tie
 
 abbrev Inv-loop : tie.InvT-loop
 Inv-loop text out₀ base k width height j₀ out j = (j ≤ k) ×
-    (out ≡ listed (λ (e : ℕ). cellAtColumn text width height (base + 11 * e)) j ++ drop j out₀)
+    (out ≡ listed (λ (p : ℕ). cellAtColumn text width height (base + 11 * p)) j ++ drop j out₀)
 
 abbrev μ-loop : tie.MeasureT-loop
 μ-loop text out₀ base k width height j₀ out j = k - j

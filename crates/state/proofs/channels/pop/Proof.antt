@@ -13,7 +13,7 @@ returns c =
     let after-shift : tie.After-shift = search in
     let start : tie.Start = search in
     let now-less = c .one-less .ensures in
-    put-one (after-shift .shift .last .0) (start .args .c) (c .one-less .result)
+    put-one (after-shift .shift .last .0) (start .args .channel) (c .one-less .result)
     (omega (arith, after-shift .shift .kept .0, start .pre))
     ∙ rw (after-shift .shift .ensures, now-less) refl
 

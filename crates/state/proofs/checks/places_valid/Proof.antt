@@ -7,10 +7,10 @@ use Rattle.state.proofs.checks.places_valid.Statement.{statement}
 use Rattle.state.proofs.checks.places_valid.Tie as tie
 
 abbrev Inv-loop : tie.InvT-loop
-Inv-loop f m c count q₀ q = Tested (placeValid f m (c + 1) count) 4 q
+Inv-loop f m channel count p₀ p = Tested (placeValid f m (channel + 1) count) 4 p
 
 abbrev μ-loop : tie.MeasureT-loop
-μ-loop f m c count q₀ q = 4 - q
+μ-loop f m channel count p₀ p = 4 - p
 
 pub places-valid-spec : {M : Type 1} → statement M
 places-valid-spec =

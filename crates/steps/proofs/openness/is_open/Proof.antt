@@ -8,5 +8,5 @@ pub is-open-spec : {M : Type 1} → statement M
 unfolding stepMeant
 is-open-spec =
     tie.close (tie.spec (λ c. search needs) (λ c κs. search needs) (λ c. search needs) (λ c κs. search needs)
-    (λ c. rw (c .before .before .s .given .1) (c .plan-open .ensures))
-    (λ c. rw (c .before .before .s2 .given .1) (c .delivery-open .ensures)))
+    (λ c. rw (c .before .before .x .given .1) (c .plan-open .ensures))
+    (λ c. rw (c .before .before .x2 .given .1) (c .delivery-open .ensures)))

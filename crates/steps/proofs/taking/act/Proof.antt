@@ -11,18 +11,18 @@ use Rattle.steps.proofs.taking.act.Tie as tie
 plan-now-requires : tie.Need-plan-now-requires
 unfolding stepMeant RowsFor
 plan-now-requires c κs =
-    let after-s : tie.After-s = search in
+    let after-x : tie.After-x = search in
     let start : tie.Start = search in (
-      plan-there _ _ (open-there _ _ _ (rw (after-s .s .given .1) at (start .pre .0))),
-      record { placed = start .pre .1 .0; free = rw (after-s .s .given .1) at (start .pre .1 .1) },
+      plan-there _ _ (open-there _ _ _ (rw (after-x .x .given .1) at (start .pre .0))),
+      record { placed = start .pre .1 .0; free = rw (after-x .x .given .1) at (start .pre .1 .1) },
     )
 
 deliver-now-requires : tie.Need-deliver-now-requires
 unfolding stepMeant
 deliver-now-requires c κs =
-    let after-s2 : tie.After-s2 = search in
+    let after-x2 : tie.After-x2 = search in
     let start : tie.Start = search in
-    let there = deliver-there _ _ _ (open-there _ _ _ (rw (after-s2 .s2 .given .1) at (start .pre .0))) in
+    let there = deliver-there _ _ _ (open-there _ _ _ (rw (after-x2 .x2 .given .1) at (start .pre .0))) in
     let sized = placed-sized (start .pre .1 .0) in
     (there .0, there .1, sized .0, sized .1)
 
@@ -30,15 +30,15 @@ returns : tie.Need-returns
 unfolding stepMeant
 returns c =
     let after-plan-now : tie.After-plan-now = search in
-    let after-s : tie.After-s = search in
-    rw (after-s .s .given .1) (after-plan-now .plan-now .ensures)
+    let after-x : tie.After-x = search in
+    rw (after-x .x .given .1) (after-plan-now .plan-now .ensures)
 
 returns-2 : tie.Need-returns-2
 unfolding stepMeant
 returns-2 c =
     let after-deliver-now : tie.After-deliver-now = search in
-    let after-s2 : tie.After-s2 = search in
-    rw (after-s2 .s2 .given .1) (delivery-did _ _ _ _ _ _ (after-deliver-now .deliver-now .ensures))
+    let after-x2 : tie.After-x2 = search in
+    rw (after-x2 .x2 .given .1) (delivery-did _ _ _ _ _ _ (after-deliver-now .deliver-now .ensures))
 
 pub act-spec : {M : Type 1} → statement M
 act-spec =

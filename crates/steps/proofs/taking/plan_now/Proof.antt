@@ -27,7 +27,7 @@ returns c =
     let start : tie.Start = search in
     let found = after-find .find .result in
     let best = bestIn (machineOf (start .args .f) (now (start .args .walls))) (now (start .args .m)) (start .args .i) in
-    let same = ap (λ (t : ℕ). t ∷ found .route) (after-tag-of .tag-of .ensures) ∙ found-record found best (after-find .find .ensures) in
+    let same = ap (λ (tag : ℕ). tag ∷ found .route) (after-tag-of .tag-of .ensures) ∙ found-record found best (after-find .find .ensures) in
     plan-did _ _ _ _ _ _ _ _ same (after-record-plan .record-plan .ensures .1) (after-record-plan .record-plan .ensures .0)
     (after-sent-or-kept .sent-or-kept .ensures)
 

@@ -5,10 +5,10 @@ use Rattle.testkit.proofs.fields.place.Statement.{statement}
 use Rattle.testkit.proofs.fields.place.Tie as tie
 
 abbrev Inv-loop : tie.InvT-loop
-Inv-loop s k i₀ n₀ i n = Unit {0}
+Inv-loop text k i₀ n₀ i n = Unit {0}
 
 abbrev μ-loop : tie.MeasureT-loop
-μ-loop s k i₀ n₀ i n = k - n
+μ-loop text k i₀ n₀ i n = k - n
 
 pub place-spec : {M : Type 1} → statement M
 place-spec =

@@ -6,10 +6,10 @@ use Rattle.testkit.proofs.fields.skip.Statement.{statement}
 use Rattle.testkit.proofs.fields.skip.Tie as tie
 
 abbrev Inv-loop : tie.InvT-loop
-Inv-loop s from digits i₀ i = Unit {0}
+Inv-loop text from digits i₀ i = Unit {0}
 
 abbrev μ-loop : tie.MeasureT-loop
-μ-loop s from digits i₀ i = length s - i
+μ-loop text from digits i₀ i = length text - i
 
 pub skip-spec : {M : Type 1} → statement M
 skip-spec =

@@ -6,10 +6,10 @@ use Rattle.testkit.proofs.fields.value.Statement.{statement}
 use Rattle.testkit.proofs.fields.value.Tie as tie
 
 abbrev Inv-loop : tie.InvT-loop
-Inv-loop s from v₀ i₀ v i = Unit {0}
+Inv-loop text from x₀ i₀ x i = Unit {0}
 
 abbrev μ-loop : tie.MeasureT-loop
-μ-loop s from v₀ i₀ v i = length s - i
+μ-loop text from x₀ i₀ x i = length text - i
 
 pub value-spec : {M : Type 1} → statement M
 value-spec =

@@ -7,10 +7,10 @@ use Rattle.testkit.proofs.fields.write.Statement.{statement}
 use Rattle.testkit.proofs.fields.write.Tie as tie
 
 abbrev Inv-loop : tie.InvT-loop
-Inv-loop s k m₀ to₀ i₀ m to i = length m ≡ length m₀
+Inv-loop text k m₀ to₀ i₀ m to i = length m ≡ length m₀
 
 abbrev μ-loop : tie.MeasureT-loop
-μ-loop s k m₀ to₀ i₀ m to i = 900 - i
+μ-loop text k m₀ to₀ i₀ m to i = 900 - i
 
 pub write-spec : {M : Type 1} → statement M
 write-spec =

@@ -7,10 +7,10 @@ use Rattle.testkit.proofs.memory.fill.Statement.{statement}
 use Rattle.testkit.proofs.memory.fill.Tie as tie
 
 abbrev Inv-loop : tie.InvT-loop
-Inv-loop m₀ n v i₀ m i = length m ≡ length m₀
+Inv-loop m₀ n x i₀ m i = length m ≡ length m₀
 
 abbrev μ-loop : tie.MeasureT-loop
-μ-loop m₀ n v i₀ m i = n - i
+μ-loop m₀ n x i₀ m i = n - i
 
 pub fill-spec : {M : Type 1} → statement M
 fill-spec =

@@ -5,10 +5,10 @@ use Rattle.testkit.proofs.memory.same_part.Statement.{statement}
 use Rattle.testkit.proofs.memory.same_part.Tie as tie
 
 abbrev Inv-loop : tie.InvT-loop
-Inv-loop a i b j n t₀ t = Unit {0}
+Inv-loop xs i ys j n t₀ t = Unit {0}
 
 abbrev μ-loop : tie.MeasureT-loop
-μ-loop a i b j n t₀ t = n - t
+μ-loop xs i ys j n t₀ t = n - t
 
 pub same-part-spec : {M : Type 1} → statement M
 same-part-spec =

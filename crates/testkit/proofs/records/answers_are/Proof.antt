@@ -5,10 +5,10 @@ use Rattle.testkit.proofs.records.answers_are.Statement.{statement}
 use Rattle.testkit.proofs.records.answers_are.Tie as tie
 
 abbrev Inv-loop : tie.InvT-loop
-Inv-loop m from stride n answers p₀ q₀ i₀ p q i = Unit {0}
+Inv-loop m from stride n answers p₀ place₀ i₀ p place i = Unit {0}
 
 abbrev μ-loop : tie.MeasureT-loop
-μ-loop m from stride n answers p₀ q₀ i₀ p q i = n - i
+μ-loop m from stride n answers p₀ place₀ i₀ p place i = n - i
 
 pub answers-are-spec : {M : Type 1} → statement M
 answers-are-spec =

@@ -7,10 +7,10 @@ use Rattle.traces.proofs.beats.put_beats.Statement.{statement}
 use Rattle.traces.proofs.beats.put_beats.Tie as tie
 
 abbrev Inv-loop : tie.InvT-loop
-Inv-loop what p m i first last out₀ at end₀ t₀ out end t = length out ≡ length out₀
+Inv-loop what page m i first last out₀ at end₀ t₀ out end t = length out ≡ length out₀
 
 abbrev μ-loop : tie.MeasureT-loop
-μ-loop what p m i first last out₀ at end₀ t₀ out end t = 65 - t
+μ-loop what page m i first last out₀ at end₀ t₀ out end t = 65 - t
 
 pub put-beats-spec : {M : Type 1} → statement M
 put-beats-spec =

@@ -7,10 +7,10 @@ use Rattle.traces.proofs.carriers.put_parts.Statement.{statement}
 use Rattle.traces.proofs.carriers.put_parts.Tie as tie
 
 abbrev Inv-loop : tie.InvT-loop
-Inv-loop what p m out₀ at n end₀ i₀ out end i = length out ≡ length out₀
+Inv-loop what page m out₀ at n end₀ i₀ out end i = length out ≡ length out₀
 
 abbrev μ-loop : tie.MeasureT-loop
-μ-loop what p m out₀ at n end₀ i₀ out end i = n - i
+μ-loop what page m out₀ at n end₀ i₀ out end i = n - i
 
 pub put-parts-spec : {M : Type 1} → statement M
 put-parts-spec =

@@ -10,16 +10,16 @@ use Rattle.trial.proofs.places.number_of.Tie as tie
 plan-number-requires : tie.Need-plan-number-requires
 unfolding stepMeant
 plan-number-requires c κs =
-    let after-s : tie.After-s = search in
+    let after-x : tie.After-x = search in
     let start : tie.Start = search in
-    omega (arith, plan-there _ _ (rw (after-s .s .given .1) at (start .pre .0)))
+    omega (arith, plan-there _ _ (rw (after-x .x .given .1) at (start .pre .0)))
 
 delivery-number-requires : tie.Need-delivery-number-requires
 unfolding stepMeant
 delivery-number-requires c κs =
-    let after-s2 : tie.After-s2 = search in
+    let after-x2 : tie.After-x2 = search in
     let start : tie.Start = search in
-    let there = deliver-there _ _ _ (rw (after-s2 .s2 .given .1) at (start .pre .0)) in
+    let there = deliver-there _ _ _ (rw (after-x2 .x2 .given .1) at (start .pre .0)) in
     (omega (arith, there .0, there .1, start .pre .1), omega (arith, there .1, start .pre .1))
 
 pub number-of-spec : {M : Type 1} → statement M

@@ -61,15 +61,15 @@ module _ (t : ℕ) where
       place-listed _ _ _ (start-of else2 .pre .1 .0 .1) (after-count .count .ensures .0) (else2 .if2 .left)
 
   -- What is known of a step that was looked at: a step is left, the place is one of the ranking's, and whether the step is open.
-  record Here (start : Start) (b : Bool) : Type 0 where
+  record Here (start : Start) (x : Bool) : Type 0 where
     some : 1 ≤ start .args .left
     listed : start .args .p < places (start .args .f .carriers)
-    told : openIn (bare (start .args .f)) (start .args .node .memory) (stepAt (start .args .f .carriers) (start .args .p)) ≡ b
+    told : openIn (bare (start .args .f)) (start .args .node .memory) (stepAt (start .args .f .carriers) (start .args .p)) ≡ x
 
   abbrev left-of : After-open-at → Else2
   left-of after-open-at = search
 
-  looked-at : {b : Bool} (z : After-open-at) → z .open-at .result ≡ b → Here (start-of (left-of z)) b
+  looked-at : {x : Bool} (z : After-open-at) → z .open-at .result ≡ x → Here (start-of (left-of z)) x
   looked-at after-open-at e =
       let else1 : Else1 = search in
       record {
