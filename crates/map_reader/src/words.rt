@@ -128,7 +128,7 @@ fn put_letter(kind: u8, line: u16, byte: u16, out: &mut [u8]) -> usize
     let n2 = put_bytes(out, n1, b": ");
     let n3 = put_byte(out, n2, byte);
     if kind == 15 {
-        return put_bytes(out, n3, b" has n1 line already");
+        return put_bytes(out, n3, b" has a line already");
     }
     put_bytes(out, n3, b" is on no row")
 }
