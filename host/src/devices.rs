@@ -258,14 +258,14 @@ impl<const PRODUCT: bool, const STRIPED: bool> Grid<PRODUCT, STRIPED> {
         let arrives = |sets: &Table, t: usize| (0..count).any(|k| holds[k] <= t && self.member(sets, t, docks[k] as usize));
         let nearest = || docks.iter().fold(h, |near, &dock| near.min(self.distance(start, dock as usize)));
         let near = if without == Some(Device::Nearest) { 0 } else { nearest() };
-        let (mut t, mut arrival) = (0, h + 1);
-        loop {
+        let mut t = 0;
+        let arrival = loop {
             if arrives(sets, t) {
-                arrival = t;
-                while 0 < arrival && arrives(sets, arrival - 1) {
-                    arrival -= 1;
+                let mut first = t;
+                while 0 < first && arrives(sets, first - 1) {
+                    first -= 1;
                 }
-                break;
+                break first;
             }
             if t == h {
                 return None;
@@ -274,12 +274,11 @@ impl<const PRODUCT: bool, const STRIPED: bool> Grid<PRODUCT, STRIPED> {
             self.propagate(sets, table, t, n, false);
             if without == Some(Device::LastOnly) {
                 if let Some(first) = (t + 1..t + n).find(|&u| arrives(sets, u)) {
-                    arrival = first;
-                    break;
+                    break first;
                 }
             }
             t += n;
-        }
+        };
         if without == Some(Device::EarlyEnd) {
             self.propagate(sets, table, t, h - t, false);
         }
