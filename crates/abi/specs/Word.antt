@@ -27,7 +27,7 @@ packed low second rest = low + 256 * cappedAt 255 second + 65536 * cappedAt 2814
 
 -- The word: the low byte 0 done or 1 refused, the next the case or the refusal, from bit 16 on the number or the place.
 unfoldable pub wordOf : Outcome Done → ℕ
-wordOf (value d) = packed 0 (d .case) (d .number)
+wordOf (value x) = packed 0 (x .case) (x .number)
 wordOf (refusal k p) = packed 1 k p
 
 -- An answer that is a number: case 0 with that number.

@@ -42,8 +42,8 @@ module _ (op φ : ℕ → ℕ → ℕ) (ψ : Bool → Bool → Bool)
       ∙ digit-op column (a / 2) (b / 2)
 
 xorb : Bool → Bool → Bool
-xorb true b = not b
-xorb false b = b
+xorb true x = not x
+xorb false x = x
 
 pub digit-or : (column a b : ℕ) → digit (bitOr a b) column ≡ (digit a column || digit b column)
 digit-or =

@@ -60,7 +60,7 @@ rowFloor = caseFloor 4 1 3 0 (1 ∷ 2 ∷ 0 ∷ []) (1 ∷ 2 ∷ 3 ∷ [])
 -- What is left when the carriers are tried in another order.
 inOrder : (List View → Answer) → List ℕ → List View → List View
 inOrder respond [] vs = vs
-inOrder respond (k ∷ ks) vs = inOrder respond ks (tried respond k vs)
+inOrder respond (k ∷ xs) vs = inOrder respond xs (tried respond k vs)
 
 record Cases : Type 0 where
   -- By one; by two together; by a stranded one; by walls; by the horizon.

@@ -105,7 +105,7 @@ module _ (f : Floor) (rows : List ℕ) (i : ℕ) (m : List ℕ) (j : ℕ) (l : j
       records (set (set m (65 * j) 0) (65 * j) (getD m (65 * j) 0)) i ≡ tried (respondWith f rows i) j (records m i)
   unfolding tried
   put-back two =
-      ap (λ b. records b i) (set-set m (65 * j) 0 (getD m (65 * j) 0) ∙ set-getD m (65 * j) 0)
+      ap (λ xs. records xs i) (set-set m (65 * j) 0 (getD m (65 * j) 0) ∙ set-getD m (65 * j) 0)
       ∙ sym (by-outcome (found .outcome) (found .route) _ (viewsWithout j (records m i)) (records m i) answer .0 two)
 
 -- One more carrier tried.

@@ -57,22 +57,22 @@ module _ (M : Machine) (lent : ℕ) (enough : M .needed ≤ lent) where
   singles-after : (s : State) (steps : List Step) → Faithful M s (map took steps) → after M s (map (single lent) (map step steps)) ≡ afterSteps M s steps
   unfolding after afterSteps Faithful
   singles-after s [] h = refl
-  singles-after s (p ∷ steps) h =
-      ap (λ (z : State). after M z (map (single lent) (map step steps))) (single-after M lent enough s p (h .0))
-      ∙ singles-after (afterStep M s p) steps (h .1)
+  singles-after s (x ∷ steps) h =
+      ap (λ (z : State). after M z (map (single lent) (map step steps))) (single-after M lent enough s x (h .0))
+      ∙ singles-after (afterStep M s x) steps (h .1)
 
 -- Two neighbours in a list exchanged: as long, and named alike where both are there.
 exchanged-length : (xs : List Asked) (x y : Asked) (ys : List Asked) → length (xs ++ (x ∷ (y ∷ ys))) ≡ length (xs ++ (y ∷ (x ∷ ys)))
 exchanged-length [] x y ys = refl
-exchanged-length (a ∷ xs) x y ys = ap suc (exchanged-length xs x y ys)
+exchanged-length (z ∷ xs) x y ys = ap suc (exchanged-length xs x y ys)
 
 exchanged-named : (M : Machine) (xs : List Asked) (x y : Asked) (ys : List Asked) → isNamed M x ≡ true → isNamed M y ≡ true → (i : ℕ)
     → isNamed M (getD (xs ++ (x ∷ (y ∷ ys))) i noStep) ≡ isNamed M (getD (xs ++ (y ∷ (x ∷ ys))) i noStep)
 exchanged-named M [] x y ys e h zero = e ∙ sym h
 exchanged-named M [] x y ys e h (suc zero) = h ∙ sym e
 exchanged-named M [] x y ys e h (suc (suc i)) = refl
-exchanged-named M (a ∷ xs) x y ys e h zero = refl
-exchanged-named M (a ∷ xs) x y ys e h (suc i) = exchanged-named M xs x y ys e h i
+exchanged-named M (z ∷ xs) x y ys e h zero = refl
+exchanged-named M (z ∷ xs) x y ys e h (suc i) = exchanged-named M xs x y ys e h i
 
 -- A run on the reference machine with two neighbours that stand apart where it comes to them.
 module _ (M : Machine) (s : State) (lent : ℕ) (xs ys : List Asked) (b : ℕ) (one other : Step) where
@@ -165,13 +165,13 @@ module _ (f : Floor) (ws : List ℕ) (s : State) (k n : ℕ) (ready : Ready f ws
       run M s (stepsOf (map askedBy xs)) b .taken + 2 ≤ b → Apart M (run M s (stepsOf (map askedBy xs)) b .state) first second →
       SameCall f ws s k n rest (oneRun k n (xs ++ (x ∷ (y ∷ ys))) b) (oneRun k n (xs ++ (y ∷ (x ∷ ys))) b)
   run-neighbours xs ys b x y first second e d left h =
-      let c = oneRun k n (xs ++ (x ∷ (y ∷ ys))) b in
-      let g = oneRun k n (xs ++ (y ∷ (x ∷ ys))) b in
+      let forth = oneRun k n (xs ++ (x ∷ (y ∷ ys))) b in
+      let back = oneRun k n (xs ++ (y ∷ (x ∷ ys))) b in
       let one = asked xs ys b x y first second e d in
       let other = asked xs ys b y x second first d e in
       let fits = ready .within-ranges in
-      let here = lent-same f ws (ready .accepted) rest numbers refl s fits c in
-      let there = lent-same f ws (ready .accepted) rest numbers refl s fits g in
+      let here = lent-same f ws (ready .accepted) rest numbers refl s fits forth in
+      let there = lent-same f ws (ready .accepted) rest numbers refl s fits back in
       record {
         answer = here .0 ∙ (rw (one, other) (run-reply-alike M s lent (map askedBy xs) (map askedBy ys) b first second left h)) ∙ sym (there .0);
         memory = here .1

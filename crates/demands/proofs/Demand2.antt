@@ -56,5 +56,5 @@ theorem =
       record-unheard = legality-theorems .unheard-exactly;
       record-wrong = legality-theorems .wrong-exactly;
       found-legal = legality-theorems .found-legal;
-      same-floor = λ f ws g vs same lent lent′. same-answers f ws g vs same lent lent′;
+      same-floor = λ f ws f′ ws′ same lent lent′. same-answers f ws f′ ws′ same lent lent′;
     }

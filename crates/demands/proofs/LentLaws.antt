@@ -125,7 +125,7 @@ module _ (f : Floor) (ws : List ℕ) (ok : checkOf f ws ≡ passed) (rest : List
   pub lent-same : (y : ProgramCall) → (answerOf f ws m y ≡ reply M s (referenceCall f numbers y)) ×
       (leftBy f ws m y ≡ encode (f .carriers) (afterCall M s (referenceCall f numbers y)) ++ rest)
   unfolding answerOf leftBy referenceCall singleCall runCall
-  lent-same (oneStep k l x) =
-      call-same k l (λ lent. single lent (askedBy x)) (λ lent h. theorems .calls .refuses-exactly M s _ 9 0 .1 (short-single h))
-  lent-same (oneRun k l xs b) =
-      call-same k l (λ lent. runOf lent (map askedBy xs) b) (λ lent h. theorems .calls .refuses-exactly M s _ 9 0 .1 (short-run h))
+  lent-same (oneStep walls lent x) =
+      call-same walls lent (λ n. single n (askedBy x)) (λ n h. theorems .calls .refuses-exactly M s _ 9 0 .1 (short-single h))
+  lent-same (oneRun walls lent xs b) =
+      call-same walls lent (λ n. runOf n (map askedBy xs) b) (λ n h. theorems .calls .refuses-exactly M s _ 9 0 .1 (short-run h))

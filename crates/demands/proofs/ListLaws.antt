@@ -32,7 +32,7 @@ count-join : (M : Machine) (s : State) (xs ys : List Call) →
     repliesCount (replies M s (xs ++ ys)) ≡ repliesCount (replies M s xs) + repliesCount (replies M (after M s xs) ys)
 unfolding replies after repliesCount
 count-join M s [] ys = sym (zero-add (repliesCount (replies M s ys)))
-count-join M s (c ∷ xs) ys = omega (arith, count-join M (afterCall M s c) xs ys)
+count-join M s (x ∷ xs) ys = omega (arith, count-join M (afterCall M s x) xs ys)
 
 module _ (f : Floor) (ws : List ℕ) (ok : checkOf f ws ≡ passed) (rest : List ℕ) (numbers : ℕ)
     (fills : numbers ≡ stateSize (f .carriers) + length rest) where
@@ -50,9 +50,9 @@ module _ (f : Floor) (ws : List ℕ) (ok : checkOf f ws ≡ passed) (rest : List
   pub list-same : (s : State) → WithinRanges f s → (xs : List ProgramCall) → ListSame s xs
   unfolding answersOf memoryOf referenceCalls replies after
   list-same s fits [] = record { answers = refl; memory = refl; within-ranges = fits }
-  list-same s fits (c ∷ xs) =
-      let first = lent-same f ws ok rest numbers fills s fits c in
-      let others = list-same (afterCall M s (referenceCall f numbers c)) (call-fits f ws ok s fits (referenceCall f numbers c)) xs in
+  list-same s fits (x ∷ xs) =
+      let first = lent-same f ws ok rest numbers fills s fits x in
+      let others = list-same (afterCall M s (referenceCall f numbers x)) (call-fits f ws ok s fits (referenceCall f numbers x)) xs in
       record {
         answers = cc (first .0, first .1, others .answers);
         memory = cc (first .1, others .memory);

@@ -25,13 +25,13 @@ gives-value (refused k p) y x′ e = absurd (let z : _≡_ {A = ℕ} 0 1 = cc in
 gives-refusal : (x : Verdict) (y : CallAnswer) (k p : ℕ) → _≡_ {A = Reply} (x gives y) (refusal k p) → x ≡ refused k p
 unfolding _gives_
 gives-refusal passed y k p e = absurd (let z : _≡_ {A = ℕ} 0 1 = cc in omega arith)
-gives-refusal (refused i q) y k p e = let i-k : i ≡ k = cc in let q-p : q ≡ p = cc in rw (i-k, q-p)
+gives-refusal (refused k′ p′) y k p e = let k-same : k′ ≡ k = cc in let p-same : p′ ≡ p = cc in rw (k-same, p-same)
 
 -- A refusal after the checks is one more check that refuses.
 answers-gives : (x : Verdict) (k p : ℕ) (y : CallAnswer) → _≡_ {A = Reply} (x thenAnswers refusal k p) ((x then refused k p) gives y)
 unfolding _gives_ _then_ _thenAnswers_
 answers-gives passed k p y = refl
-answers-gives (refused i q) k p y = refl
+answers-gives (refused k′ p′) k p y = refl
 
 module _ (M : Machine) (s : State) where
   -- The answer to a call is given by its verdict.
@@ -77,8 +77,8 @@ module _ (M : Machine) (s : State) where
 pub replies-not-ten : (M : Machine) (s : State) (xs : List Call) (p : ℕ) → List·Memᴰ (refusal 10 p) (replies M s xs) → ⊥
 unfolding replies
 replies-not-ten M s [] p h = List·Memᴰ·not-nil h
-replies-not-ten M s (c ∷ xs) p h =
+replies-not-ten M s (x ∷ xs) p h =
     ⊎-elim
-    (λ (e : refusal 10 p ≡ reply M s c). reply-not-ten M s c p (sym e))
-    (λ (t : List·Memᴰ (refusal 10 p) (replies M (afterCall M s c) xs)). replies-not-ten M (afterCall M s c) xs p t)
+    (λ (e : refusal 10 p ≡ reply M s x). reply-not-ten M s x p (sym e))
+    (λ (t : List·Memᴰ (refusal 10 p) (replies M (afterCall M s x) xs)). replies-not-ten M (afterCall M s x) xs p t)
     (List·Memᴰ·cases-cons h)

@@ -71,20 +71,20 @@ floor-returns f ws old lent ok l w =
 written-again : (text rest old : List ℕ) → sheetVerdict text ≡ passed → length text ≤ length old
     → take (length text) (writeSheet (floorAt text) (wallsAt text ++ rest) old) ≡ text
 written-again text rest old ok l =
-    let g = floorAt text in
+    let f = floorAt text in
     let ws = wallsAt text in
-    let long : g .walls ≤ length ws = omega (arith, walls-length text) in
-    let same = walls-agree g ws (ws ++ rest) (λ j h. sym (walls-behind ws rest (g .walls) long j h)) in
-    let back : sheetOf g ws ≡ text = sheet-theorems .sheet-returns text ok in
-    let size : sheetLength g ≡ length text = sym (sheet-theorems .sheet-length g ws) ∙ ap length back in
-    let checked : checkOf g (ws ++ rest) ≡ passed =
-    sym (check-same g ws g (ws ++ rest) same long (omega (arith, length-append ws rest))) ∙ sheet-theorems .read-accepted text ok
+    let long : f .walls ≤ length ws = omega (arith, walls-length text) in
+    let same = walls-agree f ws (ws ++ rest) (λ j h. sym (walls-behind ws rest (f .walls) long j h)) in
+    let back : sheetOf f ws ≡ text = sheet-theorems .sheet-returns text ok in
+    let size : sheetLength f ≡ length text = sym (sheet-theorems .sheet-length f ws) ∙ ap length back in
+    let checked : checkOf f (ws ++ rest) ≡ passed =
+    sym (check-same f ws f (ws ++ rest) same long (omega (arith, length-append ws rest))) ∙ sheet-theorems .read-accepted text ok
     in
-    let whole : writeSheet g (ws ++ rest) old ≡ text ++ drop (sheetLength g) old =
-    written g (ws ++ rest) old checked (omega arith)
-    ∙ ap (λ (xs : List ℕ). xs ++ drop (sheetLength g) old) (sym (sheet-same g ws g (ws ++ rest) same) ∙ back)
+    let whole : writeSheet f (ws ++ rest) old ≡ text ++ drop (sheetLength f) old =
+    written f (ws ++ rest) old checked (omega arith)
+    ∙ ap (λ (xs : List ℕ). xs ++ drop (sheetLength f) old) (sym (sheet-same f ws f (ws ++ rest) same) ∙ back)
     in
-    ap (take (length text)) whole ∙ take-at text (drop (sheetLength g) old) (length text) refl
+    ap (take (length text)) whole ∙ take-at text (drop (sheetLength f) old) (length text) refl
 
 pub sheet-returns : (text lent old : List ℕ) → readVerdict text (length lent) ≡ passed → length text ≤ length old
     → take (length text) (writeSheet (readFloor text (length lent)) (readWalls text lent) old) ≡ text

@@ -52,18 +52,18 @@ answers-rows {A} {R} {S} passed y t u k p = (λ h. later (passes-no-row t refl) 
     back : (R orElse S) k p → y ≡ refusal k p
     back (earlier r) = absurd (refused-not-passed (sym (t k p .1 r)))
     back (later n s) = u refl k p .1 s
-answers-rows {A} {R} {S} (refused a b) y t u k p = (λ h. earlier (rw (refusal-same h .0, refusal-same h .1) at (t a b .0 refl)), back)
+answers-rows {A} {R} {S} (refused k′ p′) y t u k p = (λ h. earlier (rw (refusal-same h .0, refusal-same h .1) at (t k′ p′ .0 refl)), back)
   where
-    back : (R orElse S) k p → _≡_ {A = Outcome A} (refusal a b) (refusal k p)
+    back : (R orElse S) k p → _≡_ {A = Outcome A} (refusal k′ p′) (refusal k p)
     back (earlier r) = let e = refused-same (t k p .1 r) in rw (e .0, e .1)
-    back (later n s) = absurd (n a b (t a b .0 refl))
+    back (later n s) = absurd (n k′ p′ (t k′ p′ .0 refl))
 
 -- A value given where the checks pass.
 pub gives-rows : {A : Type 0} {R : Table} (x : Verdict) (y : A) → Refuses x R → Answers (x gives y) R
 unfolding _gives_
 gives-rows passed y t k p = (λ h. absurd (value-no-refusal h), λ r. absurd (passes-no-row t refl k p r))
-gives-rows (refused n q) y t k p = (
-  λ h. rw (refusal-same h .0, refusal-same h .1) at (t n q .0 refl),
+gives-rows (refused k′ p′) y t k p = (
+  λ h. rw (refusal-same h .0, refusal-same h .1) at (t k′ p′ .0 refl),
   λ r. let e = refused-same (t k p .1 r) in rw (e .0, e .1),
 )
 
@@ -79,10 +79,10 @@ unfolding longEnough
 short-row needed lent = demand-row _ 9 0 (leb-false _ _, lt-leb _ _)
 
 -- A refusal is a table of one row that always holds.
-pub refusal-row : {A : Type 0} (n p′ : ℕ) → Answers {A = A} (refusal n p′) (Row n p′ (Unit {0}))
-refusal-row {A} n p′ k p = (λ h. rw (← refusal-same h .0, ← refusal-same h .1) (row tt), back k p)
+pub refusal-row : {A : Type 0} (k′ p′ : ℕ) → Answers {A = A} (refusal k′ p′) (Row k′ p′ (Unit {0}))
+refusal-row {A} k′ p′ k p = (λ h. rw (← refusal-same h .0, ← refusal-same h .1) (row tt), back k p)
   where
-    back : (k p : ℕ) → Row n p′ (Unit {0}) k p → _≡_ {A = Outcome A} (refusal n p′) (refusal k p)
+    back : (k p : ℕ) → Row k′ p′ (Unit {0}) k p → _≡_ {A = Outcome A} (refusal k′ p′) (refusal k p)
     back k p (row w) = refl
 
 -- Memory that is stored where the checks pass.
@@ -90,4 +90,4 @@ pub keeps-when : {R : Table} {needed : ℕ} {old : List ℕ} (new : List ℕ) (x
     → (x ≡ passed → drop needed new ≡ drop needed old) → Keeps R needed old (whenPassed x new old)
 unfolding whenPassed
 keeps-when new passed t h = record { as-found = λ k p r. absurd (passes-no-row t refl k p r); beyond = h refl }
-keeps-when new (refused a b) t h = record { as-found = λ k p r. refl; beyond = refl }
+keeps-when new (refused k′ p′) t h = record { as-found = λ k p r. refl; beyond = refl }

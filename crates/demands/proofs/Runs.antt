@@ -35,9 +35,9 @@ unfolding totalOf runOfRank machineOf
 theorem =
     record {
       complete-exactly = λ f ws xs. listing-theorems .complete-exactly (machineOf f ws) xs;
-      one-rank = λ f ws r q l h e. listing-theorems .one-rank (machineOf f ws) r q l h e;
-      ranked = λ f ws r q l h. listing-theorems .ranked (machineOf f ws) r q l h;
-      within-ceiling = λ f ws r l. listing-theorems .within-ceiling (machineOf f ws) r l;
+      one-rank = λ f ws rank rank′ l h e. listing-theorems .one-rank (machineOf f ws) rank rank′ l h e;
+      ranked = λ f ws rank rank′ l h. listing-theorems .ranked (machineOf f ws) rank rank′ l h;
+      within-ceiling = λ f ws rank l. listing-theorems .within-ceiling (machineOf f ws) rank l;
       some-run = lister-theorems .some-run;
       total-fits = lister-theorems .total-fits;
       tells = tells;

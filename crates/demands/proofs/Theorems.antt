@@ -14,7 +14,7 @@ use Rattle.reference.specs.State.{Machine, State, fresh}
 use Rattle.reference.specs.Step.{Step, isOpen}
 use Rattle.reference.specs.Ranking.{isSilent}
 use Rattle.reference.specs.Table.{Call}
-use Rattle.reference.specs.Quiescent.{idle, quiet, repliesCount, ceiling}
+use Rattle.reference.specs.Quiescent.{idle, quiescent, repliesCount, ceiling}
 use Rattle.reference.proofs.Theorems.{theorems}
 use Rattle.encoding.specs.Places.{stateSize}
 use Rattle.encoding.specs.Calls.{machineOf}
@@ -61,11 +61,11 @@ module _ (f : Floor) (ws m : List ℕ) (ok : checkOf f ws ≡ passed) (long : st
       (λ (h : idle (f .carriers) s ≡ true). inr (silent-idle ∙ h))
       (theorems .steps .progress M s depth)
 
-  quiescent-answers : (k : ℕ) → k ≤ f .carriers → quiet k s ≡ true → below k (s .answer) ≡ take k (planOf f ws)
+  quiescent-answers : (k : ℕ) → k ≤ f .carriers → quiescent k s ≡ true → below k (s .answer) ≡ take k (planOf f ws)
   unfolding machineOf planOf referenceAfter
   quiescent-answers k l h = theorems .calls .quiescent-answers M calls k l h
 
-  quiescent-answers-stay : (xs : List ProgramCall) (k : ℕ) → quiet k s ≡ true →
+  quiescent-answers-stay : (xs : List ProgramCall) (k : ℕ) → quiescent k s ≡ true →
       below k (referenceAfter f ws (length m) (ys ++ xs) .answer) ≡ below k (s .answer)
   unfolding referenceAfter referenceCalls
   quiescent-answers-stay xs k h =
@@ -97,11 +97,11 @@ theorem =
     record {
       holds = holds;
       cut-anywhere = cut-there;
-      simulates = λ f ws ok s fits rest c.
+      simulates = λ f ws ok s fits rest x.
           record {
-            answer = simulated-reply f ws ok s fits rest c;
-            memory = simulated-memory f ws ok s fits rest c;
-            within-ranges = call-fits f ws ok s fits c;
+            answer = simulated-reply f ws ok s fits rest x;
+            memory = simulated-memory f ws ok s fits rest x;
+            within-ranges = call-fits f ws ok s fits x;
           };
       open-exactly = theorems .steps .open-exactly;
     }

@@ -38,7 +38,7 @@ calls-fit : (f : Floor) (ws : List ℕ) → checkOf f ws ≡ passed → (s : Sta
     → WithinRanges f (after (machineOf f ws) s xs)
 unfolding after
 calls-fit f ws ok s fits [] = fits
-calls-fit f ws ok s fits (c ∷ xs) = calls-fit f ws ok (afterCall (machineOf f ws) s c) (call-fits f ws ok s fits c) xs
+calls-fit f ws ok s fits (x ∷ xs) = calls-fit f ws ok (afterCall (machineOf f ws) s x) (call-fits f ws ok s fits x) xs
 
 last-fits : (f : Floor) (ws : List ℕ) (order seed : ℕ) → checkOf f ws ≡ passed → WithinRanges f (trialOf f ws order seed .state)
 unfolding trialOf

@@ -20,7 +20,7 @@ use Rattle.reference.specs.History.{FaithfulRun}
 use Rattle.reference.specs.Table.{Call}
 use Rattle.reference.specs.Refused.{Waits}
 use Rattle.reference.specs.Calls.{CallAnswer, reply, afterCall}
-use Rattle.reference.specs.Quiescent.{idle, quiet, replyCount, repliesCount, ceiling}
+use Rattle.reference.specs.Quiescent.{idle, quiescent, replyCount, repliesCount, ceiling}
 use Rattle.encoding.specs.Places.{stateSize}
 use Rattle.encoding.specs.Encode.{encode}
 use Rattle.encoding.specs.Ranges.{WithinRanges}
@@ -54,10 +54,10 @@ module _ (f : Floor) (ws m : List ℕ) (calls : List ProgramCall) where
     pub progress : ((x : Step) × (isOpen M s x ≡ true)) ⊎ (isSilent M s ≡ true)
     -- It is silent exactly if nobody is due and nothing is under way.
     pub silent-idle : isSilent M s ≡ idle (f .carriers) s
-    -- Where carriers 1 to k are quiet, their answers are the sequential planner's,
-    pub quiescent-answers : (k : ℕ) → k ≤ f .carriers → quiet k s ≡ true → below k (s .answer) ≡ take k (planOf f ws)
+    -- Where carriers 1 to k are quiescent, their answers are the sequential planner's,
+    pub quiescent-answers : (k : ℕ) → k ≤ f .carriers → quiescent k s ≡ true → below k (s .answer) ≡ take k (planOf f ws)
     -- and are the same after every longer list that begins with this one.
-    pub quiescent-answers-stay : (later : List ProgramCall) (k : ℕ) → quiet k s ≡ true →
+    pub quiescent-answers-stay : (later : List ProgramCall) (k : ℕ) → quiescent k s ≡ true →
         below k (referenceAfter f ws (length m) (calls ++ later) .answer) ≡ below k (s .answer)
     -- The taken count is the number of single steps taken plus the numbers that the runs returned, or 999,999 if that is more.
     pub counted : s .taken ≡ min 999999 (repliesCount (programReplies f ws m calls))

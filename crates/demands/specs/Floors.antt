@@ -33,7 +33,7 @@ floorWith width height horizon depth walls starts goals =
 -- Lists of docks in a record: four places each, filled up with zeros.
 unfoldable pub docksIn : List (List ℕ) → List ℕ
 docksIn [] = []
-docksIn (ds ∷ dss) = padded 4 ds ++ docksIn dss
+docksIn (docks ∷ others) = padded 4 docks ++ docksIn others
 
 -- A grid of 3 by 2 for a number of walls, with a list of docks a carrier (document 02, slip 10), the dock counts as given.
 abbrev pub countedOf : ℕ → List ℕ → List ℕ → List (List ℕ) → Floor

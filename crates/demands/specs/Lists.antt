@@ -19,13 +19,13 @@ pub data ProgramCall : Type 0 where
 
 -- The program's answer to a call, by the definition that the entry's contract cites.
 unfoldable pub answerOf : Floor → List ℕ → List ℕ → ProgramCall → Reply
-answerOf f ws m (oneStep k l x) = replyTo f (take k ws) (take l m) (singleCall (take l m) x)
-answerOf f ws m (oneRun k l xs b) = replyTo f (take k ws) (take l m) (runCall (take l m) xs b)
+answerOf f ws m (oneStep walls lent x) = replyTo f (take walls ws) (take lent m) (singleCall (take lent m) x)
+answerOf f ws m (oneRun walls lent xs b) = replyTo f (take walls ws) (take lent m) (runCall (take lent m) xs b)
 
 -- The whole memory after a call: what is lent as the entry's contract says, the rest untouched.
 unfoldable pub leftBy : Floor → List ℕ → List ℕ → ProgramCall → List ℕ
-leftBy f ws m (oneStep k l x) = memoryAfter f (take k ws) (take l m) (singleCall (take l m) x) ++ drop l m
-leftBy f ws m (oneRun k l xs b) = memoryAfter f (take k ws) (take l m) (runCall (take l m) xs b) ++ drop l m
+leftBy f ws m (oneStep walls lent x) = memoryAfter f (take walls ws) (take lent m) (singleCall (take lent m) x) ++ drop lent m
+leftBy f ws m (oneRun walls lent xs b) = memoryAfter f (take walls ws) (take lent m) (runCall (take lent m) xs b) ++ drop lent m
 
 -- The answers to a list of calls, in order, and the memory after it.
 unfoldable pub answersOf : Floor → List ℕ → List ℕ → List ProgramCall → List Reply
@@ -46,12 +46,12 @@ programMemory f ws m calls = memoryOf f ws (freshMemory f ws m) calls
 -- The length of lent memory that the reference machine compares: none where fewer walls are lent than the floor counts, for that is
 -- memory too short; otherwise what is there of the numbers lent.
 unfoldable pub lentLength : Floor → ℕ → ℕ → ℕ → ℕ
-lentLength f numbers k n = cond (leb (f .walls) k) (min n numbers) 0
+lentLength f numbers walls lent = cond (leb (f .walls) walls) (min lent numbers) 0
 
 -- The same call as the reference machine is given it: the arguments except the state's contents.
 unfoldable pub referenceCall : Floor → ℕ → ProgramCall → Call
-referenceCall f numbers (oneStep k l x) = single (lentLength f numbers k l) (askedBy x)
-referenceCall f numbers (oneRun k l xs b) = runOf (lentLength f numbers k l) (map askedBy xs) b
+referenceCall f numbers (oneStep walls lent x) = single (lentLength f numbers walls lent) (askedBy x)
+referenceCall f numbers (oneRun walls lent xs b) = runOf (lentLength f numbers walls lent) (map askedBy xs) b
 
 unfoldable pub referenceCalls : Floor → ℕ → List ProgramCall → List Call
 referenceCalls f numbers calls = map (referenceCall f numbers) calls

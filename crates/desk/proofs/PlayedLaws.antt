@@ -97,8 +97,8 @@ module _ (f : Floor) (ws : List ℕ) (ok : checkOf f ws ≡ passed) where
   unfolding reportTried put
   report-front order seed state old new t wide long told stores =
       let ok = order-decides order state (length old) wide long ∙ told .0 in
-      let es = trialOf f ws order seed .report in
-      rw (stores ∙ when-passed _ ok) (take-at (reportNumbers es) _ (2 * t) (omega (arith, numbers-length es, told .1)))
+      let xs = trialOf f ws order seed .report in
+      rw (stores ∙ when-passed _ ok) (take-at (reportNumbers xs) _ (2 * t) (omega (arith, numbers-length xs, told .1)))
 
   -- The whole text has at most 13,217 bytes.
   pub routes-within : textLength f ≤ 2659
@@ -140,8 +140,8 @@ either-short f ws ok order seed = go (orderVerdict order)
   where
     go : (x : Verdict) → length (orRefusal x (playedText f ws order seed)) ≤ 13217
     go passed =
-        let es = trialOf f ws order seed .report in
-        text-short f ws ok order (reportNumbers es) (omega (arith, numbers-length es, report-short f ws ok order seed))
+        let xs = trialOf f ws order seed .report in
+        text-short f ws ok order (reportNumbers xs) (omega (arith, numbers-length xs, report-short f ws ok order seed))
     go (refused k p) = omega (arith, refusal-length k p)
 
 pub played-within : (order seed : ℕ) → PrintsWithin (λ f ws. orRefusal (orderVerdict order) (playedText f ws order seed)) 13217

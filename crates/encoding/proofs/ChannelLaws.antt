@@ -91,22 +91,22 @@ popped-there : (xs ys : List ℕ) (p : ℕ) → length xs ≡ p → (zs : List A
     popped (xs ++ (channelBlock zs ++ ys)) p ≡ xs ++ (channelBlock (newer zs) ++ ys)
 unfolding channelBlock slots newer slot
 popped-there xs ys p e [] low high = absurd (omega arith)
-popped-there xs ys p e (a ∷ []) low high =
-    popped-four xs ys p e 1 (resized 65 (recordOf a)) (resized 65 []) (resized 65 []) (resized 65 [])
-    (resized-length 65 (recordOf a)) (resized-length 65 [])
+popped-there xs ys p e (x₁ ∷ []) low high =
+    popped-four xs ys p e 1 (resized 65 (recordOf x₁)) (resized 65 []) (resized 65 []) (resized 65 [])
+    (resized-length 65 (recordOf x₁)) (resized-length 65 [])
     (resized-length 65 []) (resized-length 65 [])
-popped-there xs ys p e (a ∷ b ∷ []) low high =
-    popped-four xs ys p e 2 (resized 65 (recordOf a)) (resized 65 (recordOf b)) (resized 65 []) (resized 65 [])
-    (resized-length 65 (recordOf a))
-    (resized-length 65 (recordOf b)) (resized-length 65 []) (resized-length 65 [])
-popped-there xs ys p e (a ∷ b ∷ c ∷ []) low high =
-    popped-four xs ys p e 3 (resized 65 (recordOf a)) (resized 65 (recordOf b)) (resized 65 (recordOf c)) (resized 65 [])
-    (resized-length 65 (recordOf a))
-    (resized-length 65 (recordOf b)) (resized-length 65 (recordOf c)) (resized-length 65 [])
-popped-there xs ys p e (a ∷ b ∷ c ∷ d ∷ []) low high =
-    popped-four xs ys p e 4 (resized 65 (recordOf a)) (resized 65 (recordOf b)) (resized 65 (recordOf c)) (resized 65 (recordOf d))
-    (resized-length 65 (recordOf a)) (resized-length 65 (recordOf b)) (resized-length 65 (recordOf c)) (resized-length 65 (recordOf d))
-popped-there xs ys p e (a ∷ b ∷ c ∷ d ∷ f ∷ zs) low high = absurd (omega arith)
+popped-there xs ys p e (x₁ ∷ x₂ ∷ []) low high =
+    popped-four xs ys p e 2 (resized 65 (recordOf x₁)) (resized 65 (recordOf x₂)) (resized 65 []) (resized 65 [])
+    (resized-length 65 (recordOf x₁))
+    (resized-length 65 (recordOf x₂)) (resized-length 65 []) (resized-length 65 [])
+popped-there xs ys p e (x₁ ∷ x₂ ∷ x₃ ∷ []) low high =
+    popped-four xs ys p e 3 (resized 65 (recordOf x₁)) (resized 65 (recordOf x₂)) (resized 65 (recordOf x₃)) (resized 65 [])
+    (resized-length 65 (recordOf x₁))
+    (resized-length 65 (recordOf x₂)) (resized-length 65 (recordOf x₃)) (resized-length 65 [])
+popped-there xs ys p e (x₁ ∷ x₂ ∷ x₃ ∷ x₄ ∷ []) low high =
+    popped-four xs ys p e 4 (resized 65 (recordOf x₁)) (resized 65 (recordOf x₂)) (resized 65 (recordOf x₃)) (resized 65 (recordOf x₄))
+    (resized-length 65 (recordOf x₁)) (resized-length 65 (recordOf x₂)) (resized-length 65 (recordOf x₃)) (resized-length 65 (recordOf x₄))
+popped-there xs ys p e (x₁ ∷ x₂ ∷ x₃ ∷ x₄ ∷ x₅ ∷ zs) low high = absurd (omega arith)
 
 pub popped-is : {p : ℕ} {m m′ : List ℕ} (xs : List Answer) → 0 < length xs → length xs ≤ 4 →
     Window p m m′ (channelBlock xs) (channelBlock (newer xs)) → popped m p ≡ m′
@@ -124,8 +124,8 @@ unused-window : (k : ℕ) (xs : List Answer) (x : Answer) → length xs < k →
 unfolding slots
 unused-window zero xs x h = absurd (omega arith)
 unused-window (suc k) [] x h = window-front (slots k []) (window-whole (slot unheard) (slot (heard x)))
-unused-window (suc k) (b ∷ xs) x h =
-    window-behind (slot (heard b)) 65 (65 * suc (length xs)) (slot-length (heard b)) (omega arith) (unused-window k xs x (omega arith))
+unused-window (suc k) (y ∷ xs) x h =
+    window-behind (slot (heard y)) 65 (65 * suc (length xs)) (slot-length (heard y)) (omega arith) (unused-window k xs x (omega arith))
 
 -- A channel with fewer than four messages with one more.
 pushed-there : (xs ys : List ℕ) (p : ℕ) → length xs ≡ p → (zs : List Answer) (x : Answer) → length zs < 4 → length (recordOf x) ≡ 65 →

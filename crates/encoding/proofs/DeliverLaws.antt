@@ -64,7 +64,7 @@ module _ (n : ℕ) (s : State) (rest : List ℕ) where
       moved-is
       (window-inside (channelPlace n i j + 1) refl (rw e at (channel-here n s rest i j x y)) (oldest-stands z xs))
       (rw (pair-same (s .view) i j (heard z)) at
-      (view-window n s rest (updatePair (s .view) i j (heard z)) i j x y (λ k r u v h. pair-elsewhere (s .view) i j (heard z) k r h)))
+      (view-window n s rest (updatePair (s .view) i j (heard z)) i j x y (λ k j′ u v h. pair-elsewhere (s .view) i j (heard z) k j′ h)))
       (slot-length (heard z))
       (slot-length (s .view i j))
 
@@ -75,7 +75,7 @@ module _ (n : ℕ) (s : State) (rest : List ℕ) where
       popped-is (s .chan i j) low high
       (rw (pair-same (s .chan) i j (newer (s .chan i j))) at
       (channel-window n s rest (updatePair (s .chan) i j (newer (s .chan i j))) i j x y
-      (λ k r u v h. pair-elsewhere (s .chan) i j (newer (s .chan i j)) k r h)))
+      (λ k j′ u v h. pair-elsewhere (s .chan) i j (newer (s .chan i j)) k j′ h)))
 
 -- The three changes of a delivery, one after the other.
 module _ (n : ℕ) (s : State) (rest : List ℕ) (i j : ℕ) (above : j < i) (there : i < n) where
@@ -109,4 +109,4 @@ module _ (n : ℕ) (s : State) (rest : List ℕ) (i j : ℕ) (above : j < i) (th
     where
       go : (xs : List Answer) → s .chan i j ≡ xs → deliveredIn n (encode n s ++ rest) j i ≡ encode n (deliverTo s j i) ++ rest
       go [] e = true-false-absurd (nil-empty (s .chan i j) e) h
-      go (a ∷ l) e = delivered-full a l e few
+      go (x ∷ xs) e = delivered-full x xs e few

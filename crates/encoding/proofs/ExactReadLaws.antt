@@ -32,11 +32,11 @@ messages-back : (f : Floor) (m : List ℕ) (k at : ℕ) (xs : List Answer) → l
     → messages m at (length xs) ≡ xs
 unfolding slots messages AllOf
 messages-back f m zero at [] b e h = refl
-messages-back f m zero at (a ∷ xs) b e h = absurd (omega arith)
+messages-back f m zero at (x ∷ xs) b e h = absurd (omega arith)
 messages-back f m (suc k) at [] b e h = refl
-messages-back f m (suc k) at (a ∷ xs) b e h =
-    let r = first-next m at k (heard a) (slots k xs) (slots-length k xs) e in
-    ap₂ (λ (x : Answer) (xs : List Answer). x ∷ xs) (answer-back f m at a (r .0) (h .0))
+messages-back f m (suc k) at (y ∷ xs) b e h =
+    let r = first-next m at k (heard y) (slots k xs) (slots-length k xs) e in
+    ap₂ (λ (x : Answer) (xs : List Answer). x ∷ xs) (answer-back f m at y (r .0) (h .0))
     (messages-back f m k (at + 65) xs (omega arith) (r .1) (h .1))
 
 -- A channel shows its messages.

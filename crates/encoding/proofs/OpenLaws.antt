@@ -31,7 +31,7 @@ flag-set false = refl
 empty-length : (xs : List Answer) → eqb (length xs) 0 ≡ isEmpty xs
 unfolding isEmpty
 empty-length [] = refl
-empty-length (a ∷ xs) = ne-eqb (length (a ∷ xs)) 0 (λ e. omega arith)
+empty-length (x ∷ xs) = ne-eqb (length (x ∷ xs)) 0 (λ e. omega arith)
 
 module _ (M : Machine) (s : State) (rest : List ℕ) where
   -- The number of carriers, and the memory of the state.

@@ -67,22 +67,22 @@ module _ (n : ℕ) (s : State) (rest : List ℕ) where
       encode n (withCarriers s (update (s .planned) i true) (update (s .due) i false) (update (s .answer) i z)) ++ rest
   unfolding flag carrierBlock withCarriers
   put-planned i z l w =
-      let p = update (s .planned) i true in
-      let d = update (s .due) i false in
-      let b = update (s .answer) i z in
-      let block : carrierBlock (withCarriers s p d b) i ≡ 1 ∷ (0 ∷ recordOf z) =
+      let φ = update (s .planned) i true in
+      let ψ = update (s .due) i false in
+      let χ = update (s .answer) i z in
+      let block : carrierBlock (withCarriers s φ ψ χ) i ≡ 1 ∷ (0 ∷ recordOf z) =
       rw (update-same (s .planned) i true, update-same (s .due) i false, update-same (s .answer) i z, slot-record z w)
       in
       rw (← block)
-      (window-put (carrier-length s i ∙ sym (carrier-length (withCarriers s p d b) i))
-      (carrier-window n s rest p d b i l
+      (window-put (carrier-length s i ∙ sym (carrier-length (withCarriers s φ ψ χ) i))
+      (carrier-window n s rest φ ψ χ i l
       (λ k x y. (sym (update-other (s .planned) i true k y), sym (update-other (s .due) i false k y), sym (update-other (s .answer) i z k y)))))
 
 -- The changes of a plan, one after the other.
 module _ (n : ℕ) (s : State) (rest : List ℕ) (i : ℕ) (x : Answer) where
   -- The state with the answer stored, and the channels as given.
   planned-state : (ℕ → ℕ → List Answer) → State
-  planned-state h = withChans (withCarriers s (update (s .planned) i true) (update (s .due) i false) (update (s .answer) i x)) h
+  planned-state φ = withChans (withCarriers s (update (s .planned) i true) (update (s .due) i false) (update (s .answer) i x)) φ
 
   news-state : isNews s i x ≡ true → planned-state (send (s .chan) i x) ≡ planAs s i x
   unfolding planned-state planAs withCarriers withChans

@@ -20,8 +20,8 @@ use Rattle.encoding.proofs.StateLaws.{count-window, carrier-window, vie
 pub answer-inside : (s : State) (i : ℕ) → StandsAt 2 (carrierBlock s i) (slot (heard (s .answer i)))
 unfolding carrierBlock
 answer-inside s i =
-    let b = slot (heard (s .answer i)) in
-    window-behind (flag (s .planned i) ∷ (flag (s .due i) ∷ [])) 2 2 refl refl (window-whole b b)
+    let xs = slot (heard (s .answer i)) in
+    window-behind (flag (s .planned i) ∷ (flag (s .due i) ∷ [])) 2 2 refl refl (window-whole xs xs)
 
 module _ (n : ℕ) (s : State) (rest : List ℕ) where
   -- The blocks of the state, where they stand.
@@ -32,10 +32,10 @@ module _ (n : ℕ) (s : State) (rest : List ℕ) where
   carrier-here i l = window-old (carrier-window n s rest (s .planned) (s .due) (s .answer) i l (λ k x y. (refl, refl, refl)))
 
   view-here : (i j : ℕ) → j < i → i < n → StandsAt (viewPlace n i j) (encode n s ++ rest) (slot (s .view i j))
-  view-here i j a b = window-old (view-window n s rest (s .view) i j a b (λ k l x y z. refl))
+  view-here i j a b = window-old (view-window n s rest (s .view) i j a b (λ k j′ x y z. refl))
 
   pub channel-here : (i j : ℕ) → j < i → i < n → StandsAt (channelPlace n i j) (encode n s ++ rest) (channelBlock (s .chan i j))
-  channel-here i j a b = window-old (channel-window n s rest (s .chan) i j a b (λ k l x y z. refl))
+  channel-here i j a b = window-old (channel-window n s rest (s .chan) i j a b (λ k j′ x y z. refl))
 
   -- The taken count.
   pub read-thousands : getD (encode n s ++ rest) 0 0 ≡ s .taken / 1000

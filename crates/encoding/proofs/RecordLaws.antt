@@ -41,9 +41,9 @@ number-valid f (heard none) t h = cell-unused 0 (f .width * f .height) t 0 (omeg
 number-valid f (heard (route r)) t h =
     let used = f .horizon + 1 in
     let cells = f .width * f .height in
-    let v = getD r t 0 in
-    ⊎-elim (λ (l : t < used). cell-used used cells t v l ∙ lt-ltb v cells (h .inside t (omega arith)))
-    (λ (l : used ≤ t). cell-unused used cells t v l ∙ eq-eqb v 0 (h .behind t (omega arith))) (lt-or-le t used)
+    let x = getD r t 0 in
+    ⊎-elim (λ (l : t < used). cell-used used cells t x l ∙ lt-ltb x cells (h .inside t (omega arith)))
+    (λ (l : used ≤ t). cell-unused used cells t x l ∙ eq-eqb x 0 (h .behind t (omega arith))) (lt-or-le t used)
 
 module _ (m : List ℕ) (at : ℕ) (v : View) (e : part m at 65 ≡ slot v) where
   -- The record of a view with sound cells is valid where its tag may stand.
@@ -90,7 +90,7 @@ sound-whole f (route r) h = omega (arith, h .long)
 pub shown-whole : (f : Floor) (v : View) → ShownOf (Sound f) v → ShownOf Whole v
 unfolding ShownOf
 shown-whole f unheard h = tt
-shown-whole f (heard a) h = sound-whole f a h
+shown-whole f (heard x) h = sound-whole f x h
 
 -- What a valid record tells: it is the record of the view that it shows, whose cells are sound, and its tag is within the range.
 pub record Recorded (f : Floor) (m : List ℕ) (at low high : ℕ) (v : View) : Type 0 where
@@ -124,14 +124,14 @@ module _ (f : Floor) (m : List ℕ) (at low high : ℕ) (short : f .horizon ≤ 
   -- Behind the used numbers there are zeros.
   zero-behind : (used : ℕ) → usedBy tag (f .horizon) ≡ used → (t : ℕ) → used ≤ t → t < 64 → getD m (at + 1 + t) 0 ≡ 0
   zero-behind used q t b l =
-      let v = getD m (at + 1 + t) 0 in
-      eqb-true v 0 (sym (cell-unused used cells t v b) ∙ number-holds used q t l)
+      let x = getD m (at + 1 + t) 0 in
+      eqb-true x 0 (sym (cell-unused used cells t x b) ∙ number-holds used q t l)
 
   -- Below them there are cells of the grid.
   cell-inside : (used : ℕ) → usedBy tag (f .horizon) ≡ used → (t : ℕ) → t < used → t < 64 → getD m (at + 1 + t) 0 < cells
   cell-inside used q t b l =
-      let v = getD m (at + 1 + t) 0 in
-      ltb-true v cells (sym (cell-used used cells t v b) ∙ number-holds used q t l)
+      let x = getD m (at + 1 + t) 0 in
+      ltb-true x cells (sym (cell-used used cells t x b) ∙ number-holds used q t l)
 
   recorded : (v : View) → recordAt m at ≡ v → tag ≡ viewTag v → ((t : ℕ) → t < 64 → getD m (at + 1 + t) 0 ≡ viewNumber v t)
       → ShownOf (Sound f) v → Recorded f m at low high (recordAt m at)
@@ -181,7 +181,7 @@ module _ (f : Floor) (m : List ℕ) (at low high : ℕ) (short : f .horizon ≤ 
 shown-sound : (f : Floor) (v : View) → ShownOf (Sound f) v → Sound f (shown v)
 unfolding ShownOf Sound shown
 shown-sound f unheard h = tt
-shown-sound f (heard a) h = h
+shown-sound f (heard x) h = h
 
 -- A valid answer is the record of the answer that it shows, whose cells are sound.
 pub answer-told : (f : Floor) (m : List ℕ) (at : ℕ) → f .horizon ≤ 63 → at + 65 ≤ length m → recordValid f m at 1 2 ≡ true

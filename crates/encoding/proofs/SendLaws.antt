@@ -19,7 +19,7 @@ use Rattle.encoding.proofs.SplitLaws.{blocks-same}
 use Rattle.encoding.proofs.StateLaws.{withChans, channel-window}
 use Rattle.encoding.proofs.ChannelLaws.{pushed-is}
 
--- The channels once answer a is sent to those of the first k carriers that are below i.
+-- The channels once an answer is sent to those of the first k carriers that are below i.
 unfoldable sentBelow : (ℕ → ℕ → List Answer) → ℕ → Answer → ℕ → ℕ → ℕ → List Answer
 sentBelow chan i x k k′ j = cond (ltb k′ k) (send chan i x k′ j) (chan k′ j)
 
@@ -95,19 +95,19 @@ module _ (n : ℕ) (s : State) (rest : List ℕ) (i : ℕ) (said : Answer) (whol
       (pushed-is (s .chan k i) said (capacity k h l) whole
       (rw (old, new) at
       (channel-window n z rest (sentBelow (s .chan) i said (suc k)) k i h l
-      (λ r j u v w. next-same (s .chan) i said k r j (λ x y q. w x y))))))
+      (λ k′ j u v w. next-same (s .chan) i said k k′ j (λ x y q. w x y))))))
       (λ (h : k ≤ i).
       rw (le-ltb i k h)
       (ap (λ (xs : List ℕ). xs ++ rest)
       (channels-same n s (sentBelow (s .chan) i said k) (sentBelow (s .chan) i said (suc k))
-      (λ r j u v. next-same (s .chan) i said k r j (λ x y q. omega arith)))))
+      (λ k′ j u v. next-same (s .chan) i said k k′ j (λ x y q. omega arith)))))
       (lt-or-le i k)
 
   sent-first : (k : ℕ) → k ≤ n → sentTo n i (recordOf said) (encode n s ++ rest) k ≡ sentAt k
   unfolding sentTo withChans
   sent-first zero l =
       ap (λ (xs : List ℕ). xs ++ rest)
-      (channels-same n s (s .chan) (sentBelow (s .chan) i said 0) (λ r j u v. sym (before-it (s .chan) i said 0 r j (omega arith))))
+      (channels-same n s (s .chan) (sentBelow (s .chan) i said 0) (λ k j u v. sym (before-it (s .chan) i said 0 k j (omega arith))))
   sent-first (suc k) l = rw (sent-first k (omega arith)) (pushed-same k (omega arith))
 
   -- The answer sent to all carriers below.
@@ -115,4 +115,4 @@ module _ (n : ℕ) (s : State) (rest : List ℕ) (i : ℕ) (said : Answer) (whol
   sent-same =
       sent-first n (omega arith)
       ∙ ap (λ (xs : List ℕ). xs ++ rest)
-      (channels-same n s (sentBelow (s .chan) i said n) (send (s .chan) i said) (λ r j u v. after-it (s .chan) i said n r j v))
+      (channels-same n s (sentBelow (s .chan) i said n) (send (s .chan) i said) (λ k j u v. after-it (s .chan) i said n k j v))

@@ -88,7 +88,7 @@ module _ (f : Floor) (ws : List ℕ) (ok : checkOf f ws ≡ passed) where
 
       verdict-same : (x : Call) → verdictIn M m x ≡ verdict M s x
       unfolding verdictIn verdict
-      verdict-same (single lent a) = rw (single-same a)
+      verdict-same (single lent x) = rw (single-same x)
       verdict-same (runOf lent xs b) = refl
 
       steps-there : (lent : ℕ) (xs : List Asked) (b : ℕ) → verdict M s (runOf lent xs b) ≡ passed → map step (stepsOf xs) ≡ xs

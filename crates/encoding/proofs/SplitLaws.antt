@@ -73,7 +73,7 @@ pub slots-length : (k : ℕ) (xs : List Answer) → length (slots k xs) ≡ 65 *
 unfolding slots
 slots-length zero xs = refl
 slots-length (suc k) [] = length-append (slot unheard) (slots k []) ∙ omega (arith, slot-length unheard, slots-length k [])
-slots-length (suc k) (a ∷ xs) = length-append (slot (heard a)) (slots k xs) ∙ omega (arith, slot-length (heard a), slots-length k xs)
+slots-length (suc k) (x ∷ xs) = length-append (slot (heard x)) (slots k xs) ∙ omega (arith, slot-length (heard x), slots-length k xs)
 
 pub channel-length : (xs : List Answer) → length (channelBlock xs) ≡ 261
 unfolding channelBlock

@@ -61,11 +61,11 @@ module _ (n : ℕ) (s : State) where
   pub encode-length : length (encode n s) ≡ stateSize n
   unfolding encode stateSize
   encode-length =
-      let c = blocks n (carrierBlock s) in
-      let v = pairs n (viewBlocks (s .view)) in
-      let h = pairs n (chanBlocks (s .chan)) in
-      length-append (countBlock (s .taken)) (c ++ (v ++ h))
-      ∙ omega (arith, count-length (s .taken), length-append c (v ++ h), length-append v h, carriers-length, views-length, chans-length)
+      let xs = blocks n (carrierBlock s) in
+      let ys = pairs n (viewBlocks (s .view)) in
+      let zs = pairs n (chanBlocks (s .chan)) in
+      length-append (countBlock (s .taken)) (xs ++ (ys ++ zs))
+      ∙ omega (arith, count-length (s .taken), length-append xs (ys ++ zs), length-append ys zs, carriers-length, views-length, chans-length)
 
   -- A state in the front of a memory leaves what lies behind it.
   pub encode-beyond : (m : List ℕ) → drop (stateSize n) (put m 0 (encode n s)) ≡ drop (stateSize n) m
@@ -87,10 +87,10 @@ module _ (n : ℕ) (s : State) where
         (carrierBlock (withCarriers s φ ψ χ) i)
     unfolding encode withCarriers plannedPlace carrierBlock
     carrier-window φ ψ χ i l e =
-        let v = pairs n (viewBlocks (s .view)) ++ pairs n (chanBlocks (s .chan)) in
+        let xs = pairs n (viewBlocks (s .view)) ++ pairs n (chanBlocks (s .chan)) in
         window-front rest
         (window-behind (countBlock (s .taken)) 2 (2 + 67 * i) (count-length (s .taken)) refl
-        (window-front v
+        (window-front xs
         (blocks-window (λ k. 67 * k) refl n (carrierBlock s) (carrierBlock (withCarriers s φ ψ χ)) i l carrier-sums
         (λ k x y. rw (e k x y .0, e k x y .1, e k x y .2)))))
 
@@ -100,10 +100,10 @@ module _ (n : ℕ) (s : State) where
         Window (viewPlace n i j) (encode n s ++ rest) (encode n (withViews s φ) ++ rest) (slot (s .view i j)) (slot (φ i j))
     unfolding encode withViews viewPlace carrierBlock
     view-window φ i j a b e =
-        let q = 65 * (pairsBefore i + j) in
+        let p = 65 * (pairsBefore i + j) in
         window-front rest
-        (window-behind (countBlock (s .taken)) 2 (2 + 67 * n + q) (count-length (s .taken)) (omega arith)
-        (window-behind (blocks n (carrierBlock s)) (67 * n) (67 * n + q) carriers-length refl
+        (window-behind (countBlock (s .taken)) 2 (2 + 67 * n + p) (count-length (s .taken)) (omega arith)
+        (window-behind (blocks n (carrierBlock s)) (67 * n) (67 * n + p) carriers-length refl
         (window-front (pairs n (chanBlocks (s .chan)))
         (pairs-window 65 n (viewBlocks (s .view)) view-long (viewBlocks φ) i j a b (λ k j′ x y z. ap slot (e k j′ x y z))))))
 
@@ -114,9 +114,9 @@ module _ (n : ℕ) (s : State) where
         (channelBlock (s .chan i j)) (channelBlock (channels i j))
     unfolding encode withChans channelPlace carrierBlock
     channel-window channels i j a b e =
-        let q = 261 * (pairsBefore i + j) in
+        let p = 261 * (pairsBefore i + j) in
         window-front rest
-        (window-behind (countBlock (s .taken)) 2 (2 + 67 * n + 65 * pairsBefore n + q) (count-length (s .taken)) (omega arith)
-        (window-behind (blocks n (carrierBlock s)) (67 * n) (67 * n + (65 * pairsBefore n + q)) carriers-length refl
-        (window-behind (pairs n (viewBlocks (s .view))) (65 * pairsBefore n) (65 * pairsBefore n + q) views-length refl
+        (window-behind (countBlock (s .taken)) 2 (2 + 67 * n + 65 * pairsBefore n + p) (count-length (s .taken)) (omega arith)
+        (window-behind (blocks n (carrierBlock s)) (67 * n) (67 * n + (65 * pairsBefore n + p)) carriers-length refl
+        (window-behind (pairs n (viewBlocks (s .view))) (65 * pairsBefore n) (65 * pairsBefore n + p) views-length refl
         (pairs-window 261 n (chanBlocks (s .chan)) chan-long (chanBlocks channels) i j a b (λ k j′ x y z. ap channelBlock (e k j′ x y z))))))

@@ -50,9 +50,9 @@ module _ (M : Machine) (storable : Storable M) (s : State) (range : InRange M s)
   unfolding effectIn effect
   effect-same (plan i) e =
       let l : i < n = plan-within M s i e in
-      let a = M .respond i (views s i) in
-      ap (λ (x : Answer). plannedIn n m i (recordOf x)) (best-same i l)
-      ∙ planned-same n s rest i a l (storable .whole i (views s i)) (whole .answers i l) (capacity-left i e)
+      let x = M .respond i (views s i) in
+      ap (λ (y : Answer). plannedIn n m i (recordOf y)) (best-same i l)
+      ∙ planned-same n s rest i x l (storable .whole i (views s i)) (whole .answers i l) (capacity-left i e)
   effect-same (deliver j i) e =
       let a : j < i = deliver-above M s j i e in
       let b : i < n = deliver-within M s j i e in
@@ -73,14 +73,14 @@ module _ (M : Machine) (storable : Storable M) (s : State) (range : InRange M s)
   said-plan : (i : ℕ) → i < n → stepAnswerIn M m (plan i) ≡ stepAnswer M s (plan i)
   unfolding stepAnswerIn stepAnswer
   said-plan i l =
-      let a = M .respond i (views s i) in
-      let news : newsIn m i (recordOf (bestIn M m i)) ≡ isNews s i a =
-      ap (λ (x : Answer). newsIn m i (recordOf x)) (best-same i l) ∙ news-same n s rest i a l (whole .answers i l)
+      let x = M .respond i (views s i) in
+      let news : newsIn m i (recordOf (bestIn M m i)) ≡ isNews s i x =
+      ap (λ (y : Answer). newsIn m i (recordOf y)) (best-same i l) ∙ news-same n s rest i x l (whole .answers i l)
       in
       ⊎-elim
-      (λ (e : isNews s i a ≡ true). rw (news, e, stepAnswer))
-      (λ (e : isNews s i a ≡ false). rw (news, e, stepAnswer))
-      (true-or-false (isNews s i a))
+      (λ (e : isNews s i x ≡ true). rw (news, e, stepAnswer))
+      (λ (e : isNews s i x ≡ false). rw (news, e, stepAnswer))
+      (true-or-false (isNews s i x))
 
   pub said-same : (x : Step) → isOpen M s x ≡ true → stepAnswerIn M m x ≡ stepAnswer M s x
   unfolding stepAnswerIn stepAnswer

@@ -65,12 +65,12 @@ places-valid f m at (suc k) [] e h (suc p′) b =
     ∙ ap (λ (p : ℕ). recordValid f m p 0 0) (next at p′)
     ∙ sym (place-unused f m (at + 65) 0 p′ (omega arith))
     ∙ places-valid f m (at + 65) k [] r tt p′ (omega arith)
-places-valid f m at (suc k) (a ∷ xs) e h zero b =
+places-valid f m at (suc k) (x ∷ xs) e h zero b =
     place-message f m at (suc (length xs)) 0 (omega arith)
-    ∙ rw add-zero (answer-valid f m at a ((first-next m at k (heard a) (slots k xs) (slots-length k xs) e) .0) (h .0))
-places-valid f m at (suc k) (a ∷ xs) e h (suc p′) b =
+    ∙ rw add-zero (answer-valid f m at x ((first-next m at k (heard x) (slots k xs) (slots-length k xs) e) .0) (h .0))
+places-valid f m at (suc k) (x ∷ xs) e h (suc p′) b =
     place-next f m at (length xs) p′
-    ∙ places-valid f m (at + 65) k xs ((first-next m at k (heard a) (slots k xs) (slots-length k xs) e) .1) (h .1) p′ (omega arith)
+    ∙ places-valid f m (at + 65) k xs ((first-next m at k (heard x) (slots k xs) (slots-length k xs) e) .1) (h .1) p′ (omega arith)
 
 -- A channel that lies at a place: its number of messages, and its places.
 module _ (m : List ℕ) (at : ℕ) (xs : List Answer) (e : part m at 261 ≡ channelBlock xs) where
@@ -166,15 +166,15 @@ module _ (f : Floor) (m : List ℕ) (at : ℕ) (short : f .horizon ≤ 63) (shal
   pub channel-told : Channelled f m at (messages m (at + 1) count)
   unfolding channelBlock
   channel-told =
-      let l = messages m (at + 1) count in
-      let places : part m (at + 1) 260 ≡ slots 4 l =
-      slots-told m 4 (at + 1) count (omega (arith, count-most)) (λ q b. (message-told q b) .0) empty-told
+      let xs = messages m (at + 1) count in
+      let places : part m (at + 1) 260 ≡ slots 4 xs =
+      slots-told m 4 (at + 1) count (omega (arith, count-most)) (λ p b. (message-told p b) .0) empty-told
       in
       record {
         same =
             part-split m at 1 260
             ∙ ap₂ _++_ (part-one m at (omega arith)) places
-            ∙ ap (λ (n : ℕ). n ∷ slots 4 l) (sym (messages-length m (at + 1) count));
+            ∙ ap (λ (n : ℕ). n ∷ slots 4 xs) (sym (messages-length m (at + 1) count));
         most = rw messages-length count-most;
-        sound = messages-all (Sound f) m (at + 1) count (λ q b. (message-told q b) .1);
+        sound = messages-all (Sound f) m (at + 1) count (λ p b. (message-told p b) .1);
       }

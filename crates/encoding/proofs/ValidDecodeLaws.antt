@@ -73,9 +73,9 @@ module _ (f : Floor) (m : List ℕ) (shallow : f .depth ≤ 4) (short : f .horiz
   unfolding valid countValid
   count-holds =
       let h = and-fst (countValid m) (carriers-hold && pairs-hold) e in
-      let a = ltb (getD m 0 0) 1000 in
-      let b = ltb (getD m 1 0) 1000 in
-      (ltb-true (getD m 0 0) 1000 (and-fst a b h), ltb-true (getD m 1 0) 1000 (and-snd a b h))
+      let x = ltb (getD m 0 0) 1000 in
+      let y = ltb (getD m 1 0) 1000 in
+      (ltb-true (getD m 0 0) 1000 (and-fst x y h), ltb-true (getD m 1 0) 1000 (and-snd x y h))
 
   carrier-holds : (i : ℕ) → i < n → carrierValid f m i ≡ true
   unfolding valid
@@ -94,11 +94,11 @@ module _ (f : Floor) (m : List ℕ) (shallow : f .depth ≤ 4) (short : f .horiz
         × (recordValid f m (answerPlace i) 1 2 ≡ true)
     unfolding carrierValid
     flags-hold =
-        let p = leb (getD m (plannedPlace i) 0) 1 in
-        let d = leb (getD m (duePlace i) 0) 1 in
-        let r = recordValid f m (answerPlace i) 1 2 in
+        let x = leb (getD m (plannedPlace i) 0) 1 in
+        let y = leb (getD m (duePlace i) 0) 1 in
+        let z = recordValid f m (answerPlace i) 1 2 in
         let h = carrier-holds i l in
-        (and-fst p (d && r) h, and-fst d r (and-snd p (d && r) h), and-snd d r (and-snd p (d && r) h))
+        (and-fst x (y && z) h, and-fst y z (and-snd x (y && z) h), and-snd y z (and-snd x (y && z) h))
 
     answer-is : (part m (answerPlace i) 65 ≡ slot (heard (shown (recordAt m (answerPlace i)))))
         × Sound f (shown (recordAt m (answerPlace i)))

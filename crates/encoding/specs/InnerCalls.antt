@@ -16,7 +16,7 @@ singleVerdictIn M m noStep = refused 7 0
 
 -- What the table says of a call.
 unfoldable pub verdictIn : Machine → List ℕ → Call → Verdict
-verdictIn M m (single lent a) = lentEnough M lent then singleVerdictIn M m a
+verdictIn M m (single lent x) = lentEnough M lent then singleVerdictIn M m x
 verdictIn M m (runOf lent xs b) = lentEnough M lent then allNamed M xs
 
 -- The answer to a call.

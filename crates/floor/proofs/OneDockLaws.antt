@@ -26,8 +26,8 @@ goal-at : (xs : List ℕ) (i : ℕ) → getD (oneEach xs) (4 * i) 0 ≡ getD xs 
 unfolding oneEach
 goal-at [] zero = refl
 goal-at [] (suc i) = refl
-goal-at (g ∷ xs) zero = refl
-goal-at (g ∷ xs) (suc i) = let e : 4 * suc i ≡ suc (suc (suc (suc (4 * i)))) = omega arith in rw e (goal-at xs i)
+goal-at (d ∷ xs) zero = refl
+goal-at (d ∷ xs) (suc i) = let e : 4 * suc i ≡ suc (suc (suc (suc (4 * i)))) = omega arith in rw e (goal-at xs i)
 
 module _ (old : OneDockFloor) where
   -- The one dock is the goal.
@@ -56,9 +56,9 @@ module _ (old : OneDockFloor) (ws : List ℕ) (few : old .carriers ≤ 8) where
   pub one-is-dock : (i c : ℕ) → i < old .carriers → isDock (withOneDock old) i c ≡ eqb c (getD (old .goals) i 0)
   unfolding isDock among dockOf
   one-is-dock i c l =
-      let g = getD (old .goals) i 0 in
+      let d = getD (old .goals) i 0 in
       rw (one-count i l, one-goal old i)
-      (same-test (eqb g c) (eqb c g) (λ h. eq-eqb c g (sym (eqb-true g c h))) (λ h. eq-eqb g c (sym (eqb-true c g h))))
+      (same-test (eqb d c) (eqb c d) (λ h. eq-eqb c d (sym (eqb-true d c h))) (λ h. eq-eqb d c (sym (eqb-true c d h))))
 
   one-every : (i : ℕ) → i < old .carriers → (φ : ℕ → Bool)
       → each (countOf (withOneDock old) i) (λ k. φ (dockOf (withOneDock old) i k)) ≡ φ (getD (old .goals) i 0)
@@ -124,13 +124,13 @@ own-place n ok p k i h =
 
 -- Document 01's checks before 6.
 beforeSix : OneDockFloor → List ℕ → Verdict
-beforeSix e ws =
-    earlierLimits e
-    then longEnough (e .walls) (length ws)
-    then earlierCarriers e
-    then earlierWalls e ws
-    then earlierRising e ws
-    then earlierClear e ws
+beforeSix old ws =
+    earlierLimits old
+    then longEnough (old .walls) (length ws)
+    then earlierCarriers old
+    then earlierWalls old ws
+    then earlierRising old ws
+    then earlierClear old ws
 
 module _ (old : OneDockFloor) (ws : List ℕ) where
   earlier-is : earlierCheck old ws ≡ (beforeSix old ws then earlierDistinct old)

@@ -22,9 +22,9 @@ use Rattle.floor.proofs.SameLaws.{demands-same, limits-same, places-sam
 use Rattle.floor.proofs.DockLaws.{dock-is, dock-at}
 use Rattle.floor.proofs.CheckMeans.{unrepeated-means}
 
--- The numbers other than v, moved together.
+-- The numbers other than y, moved together.
 squeeze : ℕ → ℕ → ℕ
-squeeze v x = cond (ltb x v) x (x - 1)
+squeeze y x = cond (ltb x y) x (x - 1)
 
 -- What is known of it: below y a number stays, above y it is one less.
 squeeze-says : {C : Type 0} (y x : ℕ) → (x ≡ y → ⊥) → (x < y → squeeze y x ≡ x → C) → (y < x → squeeze y x ≡ x - 1 → C) → C
@@ -90,15 +90,15 @@ module _ (ys : List ℕ) (j k : ℕ) (below : j < k) (twice : getD ys j 0 ≡ ge
 apart-too : (xs ys : List ℕ) (n : ℕ) → All (λ (k : ℕ). among ys n (getD xs k 0) ≡ true) n
     → All (λ (k : ℕ). Absent xs k (getD xs k 0)) n → All (λ (k : ℕ). Absent ys k (getD ys k 0)) n
 apart-too xs ys zero inside apart k l j h e = absurd (omega arith)
-apart-too xs ys (suc m) inside apart k l j h e =
-    let place : (a : ℕ) → a < suc m → ℕ = λ a b. among-place ys (getD xs a 0) (suc m) (inside a b) .0 in
-    let low : (a : ℕ) (b : a < suc m) → place a b < suc m = λ a b. among-place ys (getD xs a 0) (suc m) (inside a b) .1 in
-    let here : (a : ℕ) (b : a < suc m) → getD ys (place a b) 0 ≡ getD xs a 0 =
-    λ a b. among-place ys (getD xs a 0) (suc m) (inside a b) .2 in
-    let at : (a : ℕ) → a < suc m → ℕ = λ a b. instead j k (place a b) in
+apart-too xs ys (suc n) inside apart k l j h e =
+    let place : (a : ℕ) → a < suc n → ℕ = λ a b. among-place ys (getD xs a 0) (suc n) (inside a b) .0 in
+    let low : (a : ℕ) (b : a < suc n) → place a b < suc n = λ a b. among-place ys (getD xs a 0) (suc n) (inside a b) .1 in
+    let here : (a : ℕ) (b : a < suc n) → getD ys (place a b) 0 ≡ getD xs a 0 =
+    λ a b. among-place ys (getD xs a 0) (suc n) (inside a b) .2 in
+    let at : (a : ℕ) → a < suc n → ℕ = λ a b. instead j k (place a b) in
     let few =
-    pigeons (suc m) m (λ a b. squeeze k (at a b))
-    (λ a b. squeeze-low k (at a b) m (instead-other ys j k h e (place a b)) (instead-low ys j k h e (place a b) (suc m) (low a b) l) l)
+    pigeons (suc n) n (λ a b. squeeze k (at a b))
+    (λ a b. squeeze-low k (at a b) n (instead-other ys j k h e (place a b)) (instead-low ys j k h e (place a b) (suc n) (low a b) l) l)
     (λ a c b d q s.
     let same : at a b ≡ at c d =
     squeeze-apart k (at a b) (at c d) (instead-other ys j k h e (place a b)) (instead-other ys j k h e (place c d)) s in
@@ -136,17 +136,17 @@ module _ (f f′ : Floor) (i : ℕ) (counts : countOf f i ≡ countOf f′ i) (s
       (λ h. unrepeated-means f′ i .1 (unrepeated-too f f′ i counts (λ c q. sym (same c) ∙ q) (unrepeated-means f i .0 h)))
       (λ h. unrepeated-means f i .1 (unrepeated-too f′ f i (sym counts) (λ c q. same c ∙ q) (unrepeated-means f′ i .0 h)))
 
--- The record g with the docks of f.
+-- The record f′ with the docks of f.
 docksFrom : Floor → Floor → Floor
-docksFrom f g =
+docksFrom f f′ =
     record {
-      width = g .width;
-      height = g .height;
-      horizon = g .horizon;
-      depth = g .depth;
-      carriers = g .carriers;
-      walls = g .walls;
-      starts = g .starts;
+      width = f′ .width;
+      height = f′ .height;
+      horizon = f′ .horizon;
+      depth = f′ .depth;
+      carriers = f′ .carriers;
+      walls = f′ .walls;
+      starts = f′ .starts;
       counts = f .counts;
       docks = f .docks;
     }
@@ -182,19 +182,19 @@ module _ (f f′ : Floor) (ws : List ℕ) (same : SameDocks f f′) where
   unfolding docksFrom placesOf carriersOf wallsOf risingOf clearOf distinctOf unrepeatedOf inGrid startOf carrierInGrid docksInGrid
       clearOfWalls docksClear unshared
   from-places =
-      let h = docksFrom f f′ in
-      let three : carriersOf h ≡ carriersOf f′ =
-      demands-same 3 (carrierInGrid h) (carrierInGrid f′) refl refl
-      (λ i l. rw (every-either h f′ i (from-counts i l) (from-docks i l) (inGrid f′), from-counts i l) refl) in
-      let five : clearOf h ws ≡ clearOf f′ ws =
-      demands-same 5 (clearOfWalls h ws) (clearOfWalls f′ ws) refl refl
-      (λ i l. rw (every-either h f′ i (from-counts i l) (from-docks i l) (λ c. not (among ws (f′ .walls) c))) refl) in
-      let seventeen : unrepeatedOf h ≡ unrepeatedOf f′ =
-      demands-same 17 (unrepeated h) (unrepeated f′) refl refl (λ i l. unrepeated-either h f′ i (from-counts i l) (from-docks i l)) in
+      let f″ = docksFrom f f′ in
+      let three : carriersOf f″ ≡ carriersOf f′ =
+      demands-same 3 (carrierInGrid f″) (carrierInGrid f′) refl refl
+      (λ i l. rw (every-either f″ f′ i (from-counts i l) (from-docks i l) (inGrid f′), from-counts i l) refl) in
+      let five : clearOf f″ ws ≡ clearOf f′ ws =
+      demands-same 5 (clearOfWalls f″ ws) (clearOfWalls f′ ws) refl refl
+      (λ i l. rw (every-either f″ f′ i (from-counts i l) (from-docks i l) (λ c. not (among ws (f′ .walls) c))) refl) in
+      let seventeen : unrepeatedOf f″ ≡ unrepeatedOf f′ =
+      demands-same 17 (unrepeated f″) (unrepeated f′) refl refl (λ i l. unrepeated-either f″ f′ i (from-counts i l) (from-docks i l)) in
       rw (three, five, seventeen) refl
 
   pub order-same : checkOf f ws ≡ checkOf f′ ws
   unfolding checkOf lentOf docksFrom limitsOf
   order-same =
-      let h = docksFrom f f′ in
-      rw (places-same f ws h ws from-same, from-places, limits-same f ws h ws from-same, same .walls) refl
+      let f″ = docksFrom f f′ in
+      rw (places-same f ws f″ ws from-same, from-places, limits-same f ws f″ ws from-same, same .walls) refl

@@ -166,9 +166,9 @@ theorems =
       passes-exactly = λ f ws. (accepted f ws, all-pass f ws);
       refuses-exactly = λ f ws k p. (row f ws k p, refusal f ws k p);
       fresh-accepted = refl;
-      same-verdict = λ f ws g vs same. check-same f ws g vs same;
-      order-nothing = λ f g ws same. order-same f g ws same;
-      earlier-accepted = λ e ws. still-accepted e ws;
-      earlier-refused = λ e ws. still-refused e ws;
-      earlier-start = λ e ws. still-six e ws;
+      same-verdict = λ f ws f′ ws′ same. check-same f ws f′ ws′ same;
+      order-nothing = λ f f′ ws same. order-same f f′ ws same;
+      earlier-accepted = λ old ws. still-accepted old ws;
+      earlier-refused = λ old ws. still-refused old ws;
+      earlier-start = λ old ws. still-six old ws;
     }

@@ -46,7 +46,7 @@ docksOf f i = part (f .docks) (4 * i) 4
 unfoldable pub dockOf : Floor → ℕ → ℕ → ℕ
 dockOf f i k = getD (docksOf f i) k 0
 
--- c is among the first m numbers of xs.
+-- c is among the first n numbers of xs.
 unfoldable pub among : List ℕ → ℕ → ℕ → Bool
 among xs zero c = false
 among xs (suc n) c = among xs n c || eqb (getD xs n 0) c

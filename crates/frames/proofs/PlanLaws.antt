@@ -56,14 +56,14 @@ zero-at (suc n) (suc i) = zero-at n i
 tag-past : (xs : List Answer) (m : List ℕ) (n k : ℕ) → m ≡ stored xs (replicate n 0) → length (recordsOf xs) ≤ k → getD m k 0 ≡ 0
 unfolding stored put
 tag-past xs m n k e l =
-    let b = recordsOf xs in
-    let d = k - length b in
-    let place : k ≡ length b + d = omega arith in
+    let ys = recordsOf xs in
+    let d = k - length ys in
+    let place : k ≡ length ys + d = omega arith in
     ap (λ (xs : List ℕ). getD xs k 0) e
-    ∙ ap (λ (j : ℕ). getD (b ++ drop (0 + length b) (replicate n 0)) j 0) place
-    ∙ getD-append-add b (drop (0 + length b) (replicate n 0)) d 0
-    ∙ getD-drop (0 + length b) (replicate n 0) d 0
-    ∙ zero-at n (0 + length b + d)
+    ∙ ap (λ (j : ℕ). getD (ys ++ drop (0 + length ys) (replicate n 0)) j 0) place
+    ∙ getD-append-add ys (drop (0 + length ys) (replicate n 0)) d 0
+    ∙ getD-drop (0 + length ys) (replicate n 0) d 0
+    ∙ zero-at n (0 + length ys + d)
 
 answer-past : (xs : List Answer) (j : ℕ) → length xs ≤ j → answerAt xs j ≡ none
 unfolding answerAt

@@ -1,4 +1,4 @@
--- Laws of lent memory: an entry of verdict v that stores `whenPassed v new old` keeps the memory with a refusal, and what is stored in
+-- Laws of lent memory: an entry of verdict x that stores `whenPassed x new old` keeps the memory with a refusal, and what is stored in
 -- front leaves the rest.
 use Prim.Native.Nat.{ℕ, _-_}
 use native.Mathlib.Omega.{arith}

@@ -45,8 +45,8 @@ endCase ended = 2
 
 -- A call of the machine: the step's case, or the end of a run with the number taken.
 unfoldable pub toldDone : CallAnswer → Done
-toldDone (stepped a) = done (stepCase a) 0
-toldDone (ran t e) = done (endCase e) t
+toldDone (stepped x) = done (stepCase x) 0
+toldDone (ran t x) = done (endCase x) t
 
 unfoldable pub ofReply : Reply → Outcome Done
 ofReply x = mapOutcome toldDone x

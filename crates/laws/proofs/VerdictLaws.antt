@@ -53,7 +53,7 @@ given-value (refused k p) y x′ e = absurd (let z : _≡_ {A = ℕ} 0 1 = cc in
 pub given-refusal : {A : Type 0} (x : Verdict) (y : A) (k p : ℕ) → _≡_ {A = Outcome A} (refusal k p) (x gives y) → x ≡ refused k p
 unfolding _gives_
 given-refusal passed y k p e = absurd (let z : _≡_ {A = ℕ} 0 1 = cc in omega arith)
-given-refusal (refused i q) y k p e = (cc)
+given-refusal (refused k′ p′) y k p e = (cc)
 
 pub when-passed : {A : Type 0} {x : Verdict} {new : A} (old : A) → x ≡ passed → whenPassed x new old ≡ new
 unfolding whenPassed
@@ -98,7 +98,7 @@ demand-holds false k p h = absurd (refused-not-passed h)
 pub then-cases : (x y : Verdict) (k p : ℕ) → (x then y) ≡ refused k p → (x ≡ refused k p) ⊎ ((x ≡ passed) × (y ≡ refused k p))
 unfolding _then_
 then-cases passed y k p h = inr (refl, h)
-then-cases (refused a b) y k p h = inl h
+then-cases (refused k′ p′) y k p h = inl h
 
 -- What follows from the refusal of a chain, by the two ways to it.
 pub refused-by : {C : Type 0} {x y : Verdict} {k p : ℕ} → (x then y) ≡ refused k p → (x ≡ refused k p → C)

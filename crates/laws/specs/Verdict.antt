@@ -18,7 +18,7 @@ unfoldable pub demand : Bool → ℕ → ℕ → Verdict
 demand true k p = passed
 demand false k p = refused k p
 
--- The checks 0 to m − 1 in their order.
+-- The checks 0 to n − 1 in their order.
 unfoldable pub inTurn : (ℕ → Verdict) → ℕ → Verdict
 inTurn check zero = passed
 inTurn check (suc n) = inTurn check n then check n
@@ -54,7 +54,7 @@ unfoldable pub whenPassed : {A : Type 0} → Verdict → A → A → A
 whenPassed passed new old = new
 whenPassed (refused k p) new old = old
 
--- Each of the first m tests holds.
+-- Each of the first n tests holds.
 unfoldable pub each : ℕ → (ℕ → Bool) → Bool
 each zero φ = true
 each (suc n) φ = each n φ && φ n

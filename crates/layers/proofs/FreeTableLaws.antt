@@ -44,11 +44,11 @@ stands-more : (g : SearchGrid) (free m : List ℕ) (j t c : ℕ) → standsAt g 
     (standsAt g j free m t c && vacant (g .horizon) t c (viewAt m j))
 unfolding standsAt
 stands-more g free m j t c =
-    ap (λ (x : Bool). here && x) (every-more p m j ∙ and-comm (p (viewAt m j)) (every p (records m j)))
-    ∙ sym (and-assoc here (every p (records m j)) (p (viewAt m j)))
+    ap (λ (x : Bool). here && x) (every-more φ m j ∙ and-comm (φ (viewAt m j)) (every φ (records m j)))
+    ∙ sym (and-assoc here (every φ (records m j)) (φ (viewAt m j)))
   where
-    p : View → Bool
-    p = vacant (g .horizon) t c
+    φ : View → Bool
+    φ = vacant (g .horizon) t c
 
     here : Bool
     here = ltb c (g .cells) && has free (c / g .width) (c % g .width)

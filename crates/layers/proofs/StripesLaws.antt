@@ -55,26 +55,26 @@ pub rewritten-stripe : (words then after : List ℕ) (xs : List (List ℕ)) (val
     xs ≡ stripesOf value → Rewritten words value at (4 * i) then → after ≡ written then (at + 4 * i) (getD xs i []) 4 →
     Rewritten words value at (4 * (i + 1)) after
 rewritten-stripe words then after xs value at i few fits e old h =
-    rw h (record { long = length-written then (at + 4 * i) y 4 ∙ old .long; inside = inside; outside = outside })
+    rw h (record { long = length-written then (at + 4 * i) ys 4 ∙ old .long; inside = inside; outside = outside })
   where
-    y : List ℕ
-    y = getD xs i []
+    ys : List ℕ
+    ys = getD xs i []
 
-    new : (j : ℕ) → j < 4 → getD (written then (at + 4 * i) y 4) (at + 4 * i + j) 0 ≡ value (4 * i + j)
-    new j l = written-in then (at + 4 * i) y 4 j (omega (arith, old .long)) l ∙ rw (e, stripe-at value i few) (four-at value (4 * i) j l)
+    new : (j : ℕ) → j < 4 → getD (written then (at + 4 * i) ys 4) (at + 4 * i + j) 0 ≡ value (4 * i + j)
+    new j l = written-in then (at + 4 * i) ys 4 j (omega (arith, old .long)) l ∙ rw (e, stripe-at value i few) (four-at value (4 * i) j l)
 
-    inside : (j : ℕ) → j < 4 * (i + 1) → getD (written then (at + 4 * i) y 4) (at + j) 0 ≡ value j
+    inside : (j : ℕ) → j < 4 * (i + 1) → getD (written then (at + 4 * i) ys 4) (at + j) 0 ≡ value j
     inside j l = ⊎-elim early late (lt-or-le j (4 * i))
       where
-        early : j < 4 * i → getD (written then (at + 4 * i) y 4) (at + j) 0 ≡ value j
-        early u = written-out then (at + 4 * i) y 4 (at + j) (inl (omega arith)) ∙ old .inside j u
+        early : j < 4 * i → getD (written then (at + 4 * i) ys 4) (at + j) 0 ≡ value j
+        early u = written-out then (at + 4 * i) ys 4 (at + j) (inl (omega arith)) ∙ old .inside j u
 
-        late : 4 * i ≤ j → getD (written then (at + 4 * i) y 4) (at + j) 0 ≡ value j
+        late : 4 * i ≤ j → getD (written then (at + 4 * i) ys 4) (at + j) 0 ≡ value j
         late u =
             let p : at + j ≡ at + 4 * i + (j - 4 * i) = omega arith in
             let v : 4 * i + (j - 4 * i) ≡ j = omega arith in
             rw p (new (j - 4 * i) (omega arith)) ∙ ap value v
 
-    outside : (j : ℕ) → (j < at) ⊎ (at + 4 * (i + 1) ≤ j) → getD (written then (at + 4 * i) y 4) j 0 ≡ getD words j 0
-    outside j (inl l) = written-out then (at + 4 * i) y 4 j (inl (omega arith)) ∙ old .outside j (inl l)
-    outside j (inr l) = written-out then (at + 4 * i) y 4 j (inr (omega arith)) ∙ old .outside j (inr (omega arith))
+    outside : (j : ℕ) → (j < at) ⊎ (at + 4 * (i + 1) ≤ j) → getD (written then (at + 4 * i) ys 4) j 0 ≡ getD words j 0
+    outside j (inl l) = written-out then (at + 4 * i) ys 4 j (inl (omega arith)) ∙ old .outside j (inl l)
+    outside j (inr l) = written-out then (at + 4 * i) ys 4 j (inr (omega arith)) ∙ old .outside j (inr (omega arith))

@@ -64,8 +64,8 @@ numbersIn M m (x ∷ xs) = numberOf x ∷ answerNumber (stepAnswerIn M m x) ∷ 
 -- The lines with these runs written, their ranks counted from one on: each has k steps before it, with these numbers.
 unfoldable pub listedIn : Machine → List ℕ → (k : ℕ) → List ℕ → (first rank : ℕ) → List Run → List ℕ → List ℕ
 listedIn M m k before first rank [] lines = lines
-listedIn M m k before first rank (xs ∷ rs) lines =
-    listedIn M m k before first (suc rank) rs (lineWritten first rank (k + length xs) (before ++ numbersIn M m xs) lines)
+listedIn M m k before first rank (xs ∷ ys) lines =
+    listedIn M m k before first (suc rank) ys (lineWritten first rank (k + length xs) (before ++ numbersIn M m xs) lines)
 
 -- What a branch of the walk has: a checked floor of three carriers at most, and a node that is not too deep.
 pub record Branch (f : Floor) (ws rows : List ℕ) (node : Node) (left : ℕ) : Type 0 where

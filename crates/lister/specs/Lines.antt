@@ -17,5 +17,5 @@ lineWritten first rank steps numbers lines =
 -- The lines with these runs from fresh written, the first of them being that of a rank.
 unfoldable pub listedFrom : Machine → (first rank : ℕ) → List Run → List ℕ → List ℕ
 listedFrom M first rank [] lines = lines
-listedFrom M first rank (xs ∷ rs) lines =
-    listedFrom M first (suc rank) rs (lineWritten first rank (length xs) (reportNumbers (reportFrom M fresh xs)) lines)
+listedFrom M first rank (xs ∷ ys) lines =
+    listedFrom M first (suc rank) ys (lineWritten first rank (length xs) (reportNumbers (reportFrom M fresh xs)) lines)

@@ -22,7 +22,7 @@ idler n depth = record { carriers = n; depth = depth; needed = 0; respond = λ i
 onHearing : List View → Answer
 onHearing [] = none
 onHearing (unheard ∷ vs) = none
-onHearing (heard a ∷ vs) = route []
+onHearing (heard x ∷ vs) = route []
 
 changes : ℕ → List View → Answer
 changes i vs = elim (eqb i 1) [ true ↦ onHearing vs | false ↦ none ]

@@ -10,12 +10,12 @@ module _ {A : Type 0} where
   -- P holds of every item.
   unfoldable pub AllItems : (A → Type 0) → List A → Type 0
   AllItems P [] = Unit {0}
-  AllItems P (a ∷ l) = P a × AllItems P l
+  AllItems P (x ∷ xs) = P x × AllItems P xs
 
   pub all-append : (P : A → Type 0) (xs ys : List A) → AllItems P xs → AllItems P ys → AllItems P (xs ++ ys)
   unfolding AllItems
   all-append P [] ys h g = g
-  all-append P (a ∷ xs) ys h g = (h .0, all-append P xs ys (h .1) g)
+  all-append P (x ∷ xs) ys h g = (h .0, all-append P xs ys (h .1) g)
 
   pub all-more : (P Q : A → Type 0) → ((x : A) → P x → Q x) → (xs : List A) → AllItems P xs → AllItems Q xs
   unfolding AllItems
@@ -30,14 +30,14 @@ module _ {A : Type 0} where
   pub all-at : (P : A → Type 0) (x : A) (xs : List A) → AllItems P xs → (i : ℕ) → i < length xs → P (getD xs i x)
   unfolding AllItems
   all-at P x [] h i b = absurd (omega arith)
-  all-at P x (a ∷ xs) h zero b = h .0
-  all-at P x (a ∷ xs) h (suc i) b = all-at P x xs (h .1) i (omega arith)
+  all-at P x (y ∷ xs) h zero b = h .0
+  all-at P x (y ∷ xs) h (suc i) b = all-at P x xs (h .1) i (omega arith)
 
 module _ {A B : Type 0} where
-  pub all-map : (φ : B → A) (P : A → Type 0) (xs : List B) → AllItems (λ b. P (φ b)) xs → AllItems P (map φ xs)
+  pub all-map : (φ : B → A) (P : A → Type 0) (xs : List B) → AllItems (λ x. P (φ x)) xs → AllItems P (map φ xs)
   unfolding AllItems
   all-map φ P [] h = tt
-  all-map φ P (b ∷ xs) h = (h .0, all-map φ P xs (h .1))
+  all-map φ P (x ∷ xs) h = (h .0, all-map φ P xs (h .1))
 
 module _ {A : Type 0} where
   -- Item a has a place in a list.
@@ -57,31 +57,31 @@ module _ {A : Type 0} where
   -- Every item stands in the relation to each item behind it.
   unfoldable pub Sorted : (A → A → Type 0) → List A → Type 0
   Sorted R [] = Unit {0}
-  Sorted R (a ∷ l) = AllItems (R a) l × Sorted R l
+  Sorted R (x ∷ xs) = AllItems (R x) xs × Sorted R xs
 
-  pub sorted-append : (R : A → A → Type 0) (xs ys : List A) → Sorted R xs → Sorted R ys → AllItems (λ a. AllItems (R a) ys) xs → Sorted R (xs ++ ys)
+  pub sorted-append : (R : A → A → Type 0) (xs ys : List A) → Sorted R xs → Sorted R ys → AllItems (λ x. AllItems (R x) ys) xs → Sorted R (xs ++ ys)
   unfolding Sorted AllItems
   sorted-append R [] ys h g c = g
-  sorted-append R (a ∷ xs) ys h g c = (all-append (R a) xs ys (h .0) (c .0), sorted-append R xs ys (h .1) g (c .1))
+  sorted-append R (x ∷ xs) ys h g c = (all-append (R x) xs ys (h .0) (c .0), sorted-append R xs ys (h .1) g (c .1))
 
   pub sorted-map : (R : A → A → Type 0) (φ : A → A) → ((x y : A) → R x y → R (φ x) (φ y)) → (xs : List A) → Sorted R xs → Sorted R (map φ xs)
   unfolding Sorted
-  sorted-map R φ f [] h = tt
-  sorted-map R φ f (x ∷ xs) h =
-      (all-map φ (R (φ x)) xs (all-more (R x) (λ y. R (φ x) (φ y)) (f x) xs (h .0)), sorted-map R φ f xs (h .1))
+  sorted-map R φ keeps [] h = tt
+  sorted-map R φ keeps (x ∷ xs) h =
+      (all-map φ (R (φ x)) xs (all-more (R x) (λ y. R (φ x) (φ y)) (keeps x) xs (h .0)), sorted-map R φ keeps xs (h .1))
 
   pub sorted-at : (R : A → A → Type 0) (x : A) (xs : List A) → Sorted R xs → (i j : ℕ) → i < j → j < length xs → R (getD xs i x) (getD xs j x)
   unfolding Sorted
   sorted-at R x [] h i j b c = absurd (omega arith)
-  sorted-at R x (a ∷ xs) h zero zero b c = absurd (omega arith)
-  sorted-at R x (a ∷ xs) h zero (suc j) b c = all-at (R a) x xs (h .0) j (omega arith)
-  sorted-at R x (a ∷ xs) h (suc i) zero b c = absurd (omega arith)
-  sorted-at R x (a ∷ xs) h (suc i) (suc j) b c = sorted-at R x xs (h .1) i j (omega arith) (omega arith)
+  sorted-at R x (y ∷ xs) h zero zero b c = absurd (omega arith)
+  sorted-at R x (y ∷ xs) h zero (suc j) b c = all-at (R y) x xs (h .0) j (omega arith)
+  sorted-at R x (y ∷ xs) h (suc i) zero b c = absurd (omega arith)
+  sorted-at R x (y ∷ xs) h (suc i) (suc j) b c = sorted-at R x xs (h .1) i j (omega arith) (omega arith)
 
 module _ {A B : Type 0} where
   pub placed-map : (φ : A → B) (x y : A) (z : B) (xs : List A) → HasPlace x y xs → HasPlace z (φ y) (map φ xs)
   unfolding HasPlace
   placed-map φ x y z [] h = absurd (omega (arith, h .1))
-  placed-map φ x y z (b ∷ xs) (zero, lt, is) = (0, omega arith, ap φ is)
-  placed-map φ x y z (b ∷ xs) (suc i, lt, is) =
+  placed-map φ x y z (x′ ∷ xs) (zero, lt, is) = (0, omega arith, ap φ is)
+  placed-map φ x y z (x′ ∷ xs) (suc i, lt, is) =
       let r = placed-map φ x y z xs (i, omega arith, is) in (suc (r .0), omega (arith, r .1), r .2)

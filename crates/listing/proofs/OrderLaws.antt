@@ -118,7 +118,7 @@ module _ (n : ℕ) where
   module _ (x : Step) where
     front-sorted : (ys : List Run) → Sorted (EarlierRun n) ys → Sorted (EarlierRun n) (eachBehind x ys)
     unfolding eachBehind EarlierRun
-    front-sorted ys h = sorted-map (EarlierRun n) (λ (xs : Run). x ∷ xs) (λ a b g. inr (refl, g)) ys h
+    front-sorted ys h = sorted-map (EarlierRun n) (λ (xs : Run). x ∷ xs) (λ _ _ g. inr (refl, g)) ys h
 
     front-all : (P : Run → Type 0) → ((xs : Run) → P (x ∷ xs)) → (ys : List Run) → AllItems P (eachBehind x ys)
     unfolding eachBehind
@@ -155,7 +155,7 @@ module _ (M : Machine) where
       go true o g =
           rw (begin-open (isOpen M s) onward x (drop (suc p) (ranking n)) o) (
             sorted-append (EarlierRun n) (eachBehind x (onward x)) rest (front-sorted n x (onward x) (h x)) (g .0)
-                (front-all n x (λ a. AllItems (EarlierRun n a) rest)
+                (front-all n x (λ ys. AllItems (EarlierRun n ys) rest)
                 (λ xs. all-more (StartsFrom n (suc p)) (EarlierRun n (x ∷ xs)) (starts-earlier n p xs) rest (g .1)) (onward x)),
             all-append (StartsFrom n p) (eachBehind x (onward x)) rest
                 (front-all n x (StartsFrom n p) (λ xs. starts-there n p (omega arith) xs) (onward x))
@@ -169,5 +169,5 @@ module _ (M : Machine) where
   pub runs-sorted : (left : ℕ) (s : State) → Sorted (EarlierRun n) (runsFrom M left s)
   unfolding Sorted AllItems
   runs-sorted =
-      runs-induction M (λ left s rs. Sorted (EarlierRun n) rs) (λ left s e. (tt, tt)) (λ s e. tt)
+      runs-induction M (λ left s ys. Sorted (EarlierRun n) ys) (λ left s e. (tt, tt)) (λ s e. tt)
       (λ left s onward e h. begin-sorted s onward h (places n) 0 (omega arith) .0)

@@ -95,12 +95,12 @@ module _ (M : Machine) where
   pub runs-complete : (left : ℕ) (s : State) → AllItems (Complete M s) (runsFrom M left s)
   unfolding AllItems Complete eachBehind
   runs-complete =
-      runs-induction (λ left s rs. AllItems (Complete M s) rs) (λ left s e. (e, tt)) (λ s e. tt)
+      runs-induction (λ left s ys. AllItems (Complete M s) ys) (λ left s e. (e, tt)) (λ s e. tt)
       (λ left s onward e h.
-      begin-induction (isOpen M s) onward (λ xs rs. AllItems (Complete M s) rs) tt
-      (λ x xs rs o g.
-      all-append (Complete M s) (eachBehind x (onward x)) rs (goes-on s x o (onward x) (h x)) g)
-      (λ x xs rs o g. g) (ranking (M .carriers)))
+      begin-induction (isOpen M s) onward (λ xs ys. AllItems (Complete M s) ys) tt
+      (λ x xs ys o g.
+      all-append (Complete M s) (eachBehind x (onward x)) ys (goes-on s x o (onward x) (h x)) g)
+      (λ x xs ys o g. g) (ranking (M .carriers)))
     where
       goes-on : (s : State) (x : Step) → isOpen M s x ≡ true → (ys : List Run) → AllItems (Complete M (afterStep M s x)) ys →
           AllItems (Complete M s) (eachBehind x ys)
@@ -167,9 +167,9 @@ module _ (M : Machine) where
       length (beginning (isOpen M s) onward xs) ≤ length xs * b
   unfolding eachBehind
   begin-few s onward b h =
-      begin-induction (isOpen M s) onward (λ xs rs. length rs ≤ length xs * b) (omega arith)
-      (λ x xs rs o g. omega (arith, length-append (eachBehind x (onward x)) rs, in-front x (onward x), h x, g, suc-mul (length xs) b))
-      (λ x xs rs o g. omega (arith, g, suc-mul (length xs) b))
+      begin-induction (isOpen M s) onward (λ xs ys. length ys ≤ length xs * b) (omega arith)
+      (λ x xs ys o g. omega (arith, length-append (eachBehind x (onward x)) ys, in-front x (onward x), h x, g, suc-mul (length xs) b))
+      (λ x xs ys o g. omega (arith, g, suc-mul (length xs) b))
     where
       in-front : (x : Step) (xs : List Run) → length (eachBehind x xs) ≡ length xs
       in-front x xs = length-map xs (λ (zs : Run). x ∷ zs)
@@ -178,7 +178,7 @@ module _ (M : Machine) where
   pub runs-few : 1 ≤ places (M .carriers) → (left : ℕ) (s : State) → length (runsFrom M left s) ≤ places (M .carriers) ^ left
   unfolding places
   runs-few l =
-      runs-induction (λ left s rs. length rs ≤ places (M .carriers) ^ left)
+      runs-induction (λ left s ys. length ys ≤ places (M .carriers) ^ left)
       (λ left s e. one-le-pow left (places (M .carriers)) l) (λ s e. omega arith)
       (λ left s onward e h.
       rw (pow-succ' (places (M .carriers)) left)

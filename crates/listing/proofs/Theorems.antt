@@ -87,11 +87,11 @@ trial-complete M kept s (x ∷ xs) h e =
 
 pub some-run : (M : Machine) → 0 < total M
 some-run M =
-    let t = trial first M 0 in
-    let silent : isSilent M (afterSteps M fresh (stepsIn (t .report))) ≡ true =
+    let x = trial first M 0 in
+    let silent : isSilent M (afterSteps M fresh (stepsIn (x .report))) ≡ true =
     ap (isSilent M) (sym (orders-theorems .leads first M 0)) ∙ orders-theorems .ends-silent first M 0 in
-    let r = complete-exactly M (stepsIn (t .report)) .0
-    (trial-complete M (startMemory first 0) fresh (t .report) (orders-theorems .by-rule first M 0) silent) in
+    let r = complete-exactly M (stepsIn (x .report)) .0
+    (trial-complete M (startMemory first 0) fresh (x .report) (orders-theorems .by-rule first M 0) silent) in
     omega (arith, r .1)
 
 pub theorems : Claims

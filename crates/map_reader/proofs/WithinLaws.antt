@@ -63,7 +63,7 @@ module _ (text old : List ℕ) (at w base : ℕ) (there : at + w < length text) 
 -- A loop that reads rows: before the first, its length, one more.
 module _ (text old : List ℕ) (first w : ℕ) (narrow : w ≤ 32) where
   line : ℕ → List ℕ
-  line r = part text (first + r * (w + 1)) w
+  line row = part text (first + row * (w + 1)) w
 
   short : (n : ℕ) → length (line n) ≤ 32
   unfolding line part

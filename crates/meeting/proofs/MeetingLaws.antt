@@ -118,7 +118,7 @@ conflict-low H r q t following c = omega (arith, c .0)
 pub found-early : (H : ℕ) (r q : List ℕ) (x : ConflictAnswer) → x ≡ firstConflict (min H 63) r q → Early x
 unfolding Early
 found-early H r q free e = tt
-found-early H r q (dated t k) e = conflict-low H r q t k (route-theorems .conflict-test (min H 63) r q .first-exactly t k .0 (sym e) .there)
+found-early H r q (dated t kind) e = conflict-low H r q t kind (route-theorems .conflict-test (min H 63) r q .first-exactly t kind .0 (sym e) .there)
 
 -- A conflict that is told is early: by its kind, and so in two digits.
 module _ {x : FirstConflict} {t : ℕ} (e : Early (conflictTold x)) where
@@ -231,7 +231,7 @@ module _ (f : Floor) (ws : List ℕ) (ok : checkOf f ws ≡ passed) (i j : ℕ) 
   pub met-drawing-short : (r q : List ℕ) (x : ConflictAnswer) → length (conflictDrawing f ws i j r q x) ≤ 1056
   unfolding conflictDrawing
   met-drawing-short r q free = omega arith
-  met-drawing-short r q (dated t k) = drawn-short f ws ok _
+  met-drawing-short r q (dated t kind) = drawn-short f ws ok _
 
   met-short : (x y : Answer) → length (metText f ws i j x y) ≤ 1087
   unfolding metText

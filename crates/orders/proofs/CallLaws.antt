@@ -40,15 +40,15 @@ module _ (M : Machine) (lent : ℕ) (l : M .needed ≤ lent) where
     pub calls-reply : (kept : ℕ) (s : State) (xs : List Entry) → FollowsOrder o M kept s xs → replies M s (callsOf lent xs) ≡ repliesOf xs
     unfolding FollowsOrder replies callsOf repliesOf
     calls-reply kept s [] h = refl
-    calls-reply kept s (e ∷ xs) h =
-        rw (single-reply s (e .taken) (h .1 .isOpen), single-after s (e .taken) (h .1 .isOpen), ← h .1 .answer)
-        (ap (λ (xs : List Reply). value (stepped (e .answer)) ∷ xs)
-        (calls-reply (remembered o kept (h .0)) (afterStep M s (e .taken)) xs (h .2)))
+    calls-reply kept s (x ∷ xs) h =
+        rw (single-reply s (x .taken) (h .1 .isOpen), single-after s (x .taken) (h .1 .isOpen), ← h .1 .answer)
+        (ap (λ (xs : List Reply). value (stepped (x .answer)) ∷ xs)
+        (calls-reply (remembered o kept (h .0)) (afterStep M s (x .taken)) xs (h .2)))
 
     pub calls-lead : (kept : ℕ) (s : State) (xs : List Entry) → FollowsOrder o M kept s xs
         → after M s (callsOf lent xs) ≡ afterSteps M s (stepsIn xs)
     unfolding FollowsOrder after callsOf afterSteps stepsIn
     calls-lead kept s [] h = refl
-    calls-lead kept s (e ∷ xs) h =
-        ap (λ (z : State). after M z (callsOf lent xs)) (single-after s (e .taken) (h .1 .isOpen))
-        ∙ calls-lead (remembered o kept (h .0)) (afterStep M s (e .taken)) xs (h .2)
+    calls-lead kept s (x ∷ xs) h =
+        ap (λ (z : State). after M z (callsOf lent xs)) (single-after s (x .taken) (h .1 .isOpen))
+        ∙ calls-lead (remembered o kept (h .0)) (afterStep M s (x .taken)) xs (h .2)

@@ -1,4 +1,4 @@
--- Order 2 is fair: going round, the way from the remembered place to the place q of a step that stays open grows shorter with every
+-- Order 2 is fair: going round, the way from the remembered place to the place p′ of a step that stays open grows shorter with every
 -- step taken, as long as it is not that step. The way is shorter than the ranking at first, so the stretch is.
 use Prim.Native.Nat.{ℕ, suc, _+_, _-_, _≤_, _<_}
 use native.Mathlib.Omega.{arith}
@@ -82,15 +82,15 @@ module _ (M : Machine) where
     unfolding FollowsOrder PassedOver MayTake remembered openAt
     stretch kept s xs [] zs d l h e over way = omega arith
     stretch kept s [] (y ∷ ys) zs d l h e over way = steps-none y (ys ++ zs) e
-    stretch kept s (a ∷ xs) (y ∷ ys) zs d l h e over way =
-        let same = steps-more a xs y (ys ++ zs) e in
+    stretch kept s (x ∷ xs) (y ∷ ys) zs d l h e over way =
+        let same = steps-more x xs y (ys ++ zs) e in
         let p = h .0 in
         let other : p ≡ p′ → ⊥ = λ i. over .1 (sym (same .0) ∙ h .1 .step ∙ ap (stepAt (M .carriers)) i) in
         let r = shorter s kept p′ p d l (over .0) p′-there (h .1 .listed) other way (h .1 .rule) in
         omega (
           arith,
           r .1,
-          stretch (suc p) (afterStep M s (a .taken)) xs ys zs (r .0) (h .1 .listed) (h .2) (same .1) (rw (same .0) (over .2)) (r .2),
+          stretch (suc p) (afterStep M s (x .taken)) xs ys zs (r .0) (h .1 .listed) (h .2) (same .1) (rw (same .0) (over .2)) (r .2),
         )
 
   -- A history by the rule, seen after its first steps.
@@ -106,9 +106,9 @@ module _ (M : Machine) where
   unfolding FollowsOrder afterSteps remembered
   later kept s ys [] rest l h e = record { memory = kept; entries = ys; fits = l; by-rule = h; steps = e }
   later kept s [] (y ∷ xs) rest l h e = steps-none y (xs ++ rest) e
-  later kept s (a ∷ ys) (y ∷ xs) rest l h e =
-      let same = steps-more a ys y (xs ++ rest) e in
-      rw (← same .0) (later (suc (h .0)) (afterStep M s (a .taken)) ys xs rest (h .1 .listed) (h .2) (same .1))
+  later kept s (x ∷ ys) (y ∷ xs) rest l h e =
+      let same = steps-more x ys y (xs ++ rest) e in
+      rw (← same .0) (later (suc (h .0)) (afterStep M s (x .taken)) ys xs rest (h .1 .listed) (h .2) (same .1))
 
   pub round-fair : (kept : ℕ) (s : State) (xs′ : List Entry) (x : Step) (xs ys zs : List Step) → 1 ≤ M .carriers → kept ≤ k →
       FollowsOrder round M kept s xs′ →

@@ -14,7 +14,7 @@ use Rattle.reference.specs.State.{Machine, State, fresh}
 use Rattle.reference.specs.Step.{Step}
 use Rattle.reference.specs.History.{afterSteps}
 use Rattle.reference.specs.Calls.{after}
-use Rattle.reference.specs.Quiescent.{idle, quiet}
+use Rattle.reference.specs.Quiescent.{idle, quiescent}
 use Rattle.reference.proofs.Theorems.{theorems as reference-theorems, silent-idle}
 use Rattle.orders.specs.Generator.{nextNumber, drawnBy}
 use Rattle.orders.specs.Orders.{Order, round, startMemory}
@@ -40,9 +40,9 @@ module _ (o : Order) (M : Machine) (seed : ℕ) where
   state-same lent l =
       let h = trial-holds o M seed in calls-lead M lent l o (startMemory o seed) fresh report (h .by-rule) ∙ sym (h .leads)
 
-  -- All are quiet where the trial ends, and the first n of n answers are all of them.
+  -- All are quiescent where the trial ends, and the first n of n answers are all of them.
   sequential-answers : 1 ≤ M .depth → below (M .carriers) (trial o M seed .state .answer) ≡ sequential (M .respond) (M .carriers)
-  unfolding quiet
+  unfolding quiescent
   sequential-answers d =
       let z = trial o M seed .state in
       let same = state-same (M .needed) (omega arith) in

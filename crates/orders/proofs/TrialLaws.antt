@@ -58,9 +58,9 @@ module _ (o : Order) (M : Machine) where
         go : (x : Bool) → isSilent M s ≡ x → (Memory o M (remembered o kept (chosen o M s kept)) →
             P (remembered o kept (chosen o M s kept)) (afterStep M s (nextStep o M s kept)) b
             (tryFrom o M (remembered o kept (chosen o M s kept)) (afterStep M s (nextStep o M s kept)) b)) → P kept s (suc b) (tryFrom o M kept s (suc b))
-        go true e k = rw (try-silent kept s b e) (silent kept s b e)
-        go false e k =
-            let r = chosen-takes M s o kept h (some-place M s e) in rw (try-step kept s b e) (more kept s b _ r (k (r .next)))
+        go true e on = rw (try-silent kept s b e) (silent kept s b e)
+        go false e on =
+            let r = chosen-takes M s o kept h (some-place M s e) in rw (try-step kept s b e) (more kept s b _ r (on (r .next)))
 
   -- What holds of a trial of at most b steps.
   pub record TrialHolds (kept : ℕ) (s : State) (b : ℕ) (x : TrialResult) : Type 0 where

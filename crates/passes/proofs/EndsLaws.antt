@@ -38,14 +38,14 @@ module _ (g : SearchGrid) (table : List ℕ) (count : ℕ) (cells : List ℕ) (f
       inSet g table u (getD cells d 0) ≡ true
   unfolding heldAt holdOf
   held-free t d h e u l b =
-      held-says (λ v. inSet g table v (getD cells d 0)) t (g .horizon + 1) (omega (arith, hold-at d h, leb-true _ t e)) u l (omega arith)
+      held-says (λ t′. inSet g table t′ (getD cells d 0)) t (g .horizon + 1) (omega (arith, hold-at d h, leb-true _ t e)) u l (omega arith)
 
   pub free-held : (t d : ℕ) → d < count → ((u : ℕ) → t ≤ u → u ≤ g .horizon → inSet g table u (getD cells d 0) ≡ true) →
       heldAt (heldDocks g table count cells) t d ≡ true
   unfolding heldAt holdOf
   free-held t d h f =
       le-leb _ t
-      (omega (arith, hold-at d h, held-least (λ v. inSet g table v (getD cells d 0)) t (g .horizon + 1) (λ u l b. f u l (omega arith))))
+      (omega (arith, hold-at d h, held-least (λ t′. inSet g table t′ (getD cells d 0)) t (g .horizon + 1) (λ u l b. f u l (omega arith))))
 
   pub holdable : Holdable g table (heldDocks g table count cells)
   unfolding heldDocks

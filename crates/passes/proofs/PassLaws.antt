@@ -99,11 +99,11 @@ module _ (g : SearchGrid) (table sets : List ℕ) (start n : ℕ) (ds : Docks) (
   pub found-least : arrivable g sets ds n ≡ true → Earliest (arrivable g sets ds) (g .horizon + 1) (heldFrom (arrivable g sets ds) n)
   found-least e =
       record {
-        upto = omega (arith, held-upto p n);
-        none-before = λ b h i. absurd (omega (arith, h, held-least p b n (λ t a u. arrival-stays b t a (omega arith) i)));
-        passes = λ h. ⊎-elim (λ (q : heldFrom p n ≡ n). rw q e)
-            (λ (q : heldFrom p n < n). held-says p (heldFrom p n) n (omega arith) (heldFrom p n) (omega arith) q) (eq-or-lt-of-le (held-upto p n));
+        upto = omega (arith, held-upto φ n);
+        none-before = λ b h i. absurd (omega (arith, h, held-least φ b n (λ t a u. arrival-stays b t a (omega arith) i)));
+        passes = λ h. ⊎-elim (λ (q : heldFrom φ n ≡ n). rw q e)
+            (λ (q : heldFrom φ n < n). held-says φ (heldFrom φ n) n (omega arith) (heldFrom φ n) (omega arith) q) (eq-or-lt-of-le (held-upto φ n));
       }
     where
-      p : ℕ → Bool
-      p = arrivable g sets ds
+      φ : ℕ → Bool
+      φ = arrivable g sets ds

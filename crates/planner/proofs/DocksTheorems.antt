@@ -158,14 +158,14 @@ module _ (f f′ : Floor) (ws : List ℕ) (same : SameDocks f f′) where
 pub theorems : DocksClaims
 theorems =
     record {
-      earlier-plan = λ e ws xs ok. earlier-plan e ws ok xs;
-      earlier-response = λ e ws i vs x ok l. earlier-response e ws ok i vs x l;
-      earlier-search = λ e ws i m x ok. earlier-search e ws ok i m x;
-      earlier-arrival = λ e ws i vs r ok l. earlier-arrival e ws ok i vs r l;
-      order-plan = λ f g ws same. plans-agree f ws g ws (agrees f g ws same) (same .carriers);
-      order-response = λ f g ws i vs same l h. respond-same (f .carriers) f ws g ws (agrees f g ws same) i vs l h;
-      order-search = λ f g ws i m same.
-          searches-agree f ws g ws (agrees f g ws same) (same .carriers) (floor-theorems .order-nothing f g ws same) i m;
+      earlier-plan = λ old ws xs ok. earlier-plan old ws ok xs;
+      earlier-response = λ old ws i vs x ok l. earlier-response old ws ok i vs x l;
+      earlier-search = λ old ws i m x ok. earlier-search old ws ok i m x;
+      earlier-arrival = λ old ws i vs r ok l. earlier-arrival old ws ok i vs r l;
+      order-plan = λ f f′ ws same. plans-agree f ws f′ ws (agrees f f′ ws same) (same .carriers);
+      order-response = λ f f′ ws i vs same l h. respond-same (f .carriers) f ws f′ ws (agrees f f′ ws same) i vs l h;
+      order-search = λ f f′ ws i m same.
+          searches-agree f ws f′ ws (agrees f f′ ws same) (same .carriers) (floor-theorems .order-nothing f f′ ws same) i m;
       none-each = λ f ws k vs ok. none-each f ws ok k vs;
       ends-at-dock = λ f ws k vs r ok. ends-at-dock f ws ok k vs r;
       own-dock = λ f ws k vs r ok. own-dock f ws ok k vs r;

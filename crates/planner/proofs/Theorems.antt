@@ -177,7 +177,7 @@ theorems =
         λ e j l n. failing-zero (planOf f ws) 0 e j (omega (arith, answers-all f ws)) n,
         λ h. zero-failing (planOf f ws) 0 (λ j l n. h j (omega (arith, answers-all f ws)) n),
       );
-      depends-on-above = λ k f ws g vs a b agree. plan-depends k f ws g vs agree a b;
+      depends-on-above = λ k f ws f′ ws′ a b agree. plan-depends k f ws f′ ws′ agree a b;
       all-none = all-none;
       none-stored = none-stored;
     }

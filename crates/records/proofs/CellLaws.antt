@@ -18,10 +18,10 @@ use Rattle.records.specs.Records.{viewOf, recordAt, viewAt, viewCell, Aw
 
 -- The view that a record shows, and its cell x at a beat, by the two tests of the tag.
 viewBy : Bool → Bool → List ℕ → View
-viewBy b e q = elim b [ true ↦ heard (route q) | false ↦ elim e [ true ↦ heard none | false ↦ unheard ] ]
+viewBy x y q = elim x [ true ↦ heard (route q) | false ↦ elim y [ true ↦ heard none | false ↦ unheard ] ]
 
 cellBy : Bool → ℕ → ℕ
-cellBy b x = elim b [ true ↦ x | false ↦ 65535 ]
+cellBy y x = elim y [ true ↦ x | false ↦ 65535 ]
 
 -- A heard route leaves a cell vacant exactly if the cell is not its at the beat or at one beside it.
 away-says : (H t d : ℕ) (q : List ℕ) → t ≤ H → Vacant H t d q → (u : ℕ) → u < suc H → u ≤ suc t → t ≤ suc u → d ≡ cellAt q u → ⊥
@@ -55,8 +55,8 @@ by-vacant true z q H t d φ same l small = (
   λ h u k up down p. away-says H t d q l (route-vacant H t d q h) u k up down (p ∙ sym (same u k)),
   λ away. vacant-route H t d q (away-holds H t d q l (λ u k up down p. away u k up down (p ∙ same u k))),
 )
-by-vacant false true q H t d x same l small = (λ h u k up down p. omega arith, λ away. none-vacant H t d)
-by-vacant false false q H t d x same l small = (λ h u k up down p. omega arith, λ away. unheard-vacant H t d)
+by-vacant false true q H t d φ same l small = (λ h u k up down p. omega arith, λ away. none-vacant H t d)
+by-vacant false false q H t d φ same l small = (λ h u k up down p. omega arith, λ away. unheard-vacant H t d)
 
 module _ (m : List ℕ) (j : ℕ) where
   record-cell : (t : ℕ) → t < 64 → cellAt (part m (65 * j + 1) 64) t ≡ getD m (65 * j + 1 + t) 0

@@ -20,17 +20,17 @@ pub record CellsCopied (m : List ℕ) (at : ℕ) (cells : List ℕ) (t : ℕ) : 
 
 module _ (m : List ℕ) (at : ℕ) where
   pub copied-start : (cells : List ℕ) → length cells ≡ 64 → CellsCopied m at cells 0
-  copied-start cells e = record { long = e; copied = λ q l. absurd (omega arith) }
+  copied-start cells e = record { long = e; copied = λ p l. absurd (omega arith) }
 
   pub copied-more : (cells : List ℕ) (t : ℕ) → t < 64 → CellsCopied m at cells t
       → CellsCopied m at (set cells t (getD m (at + t) 0)) (t + 1)
   copied-more cells t l h =
       record {
         long = length-set cells t (getD m (at + t) 0) ∙ h .long;
-        copied = λ q k.
+        copied = λ p k.
             ⊎-elim
-            (λ (e : q ≡ t). rw e (getD-set-same cells t (getD m (at + t) 0) 0 (omega (arith, h .long))))
-            (λ (b : q < t). getD-set-other cells t q (getD m (at + t) 0) 0 (λ e. omega arith) ∙ h .copied q b)
+            (λ (e : p ≡ t). rw e (getD-set-same cells t (getD m (at + t) 0) 0 (omega (arith, h .long))))
+            (λ (b : p < t). getD-set-other cells t p (getD m (at + t) 0) 0 (λ e. omega arith) ∙ h .copied p b)
             (eq-or-lt-of-le (omega arith));
       }
 

@@ -51,9 +51,9 @@ seen-snoc : (f : Floor) (j : ℕ) (vs : List View) (v : View) →
     seenFrom f j (vs ++ (v ∷ [])) ≡ seenFrom f j vs ++ (seenAs f (j + length vs) v ∷ [])
 unfolding seenFrom
 seen-snoc f j [] v = rw add-zero refl
-seen-snoc f j (w ∷ vs) v =
+seen-snoc f j (v′ ∷ vs) v =
     let place : suc j + length vs ≡ j + suc (length vs) = omega arith in
-    ap (λ (vs : List View). seenAs f j w ∷ vs) (seen-snoc f (suc j) vs v ∙ ap (λ (k : ℕ). seenFrom f (suc j) vs ++ (seenAs f k v ∷ [])) place)
+    ap (λ (vs : List View). seenAs f j v′ ∷ vs) (seen-snoc f (suc j) vs v ∙ ap (λ (k : ℕ). seenFrom f (suc j) vs ++ (seenAs f k v ∷ [])) place)
 
 pub records-length : (m : List ℕ) (k : ℕ) → length (records m k) ≡ k
 unfolding records

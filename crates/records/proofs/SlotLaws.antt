@@ -28,7 +28,7 @@ resized-whole (suc k) (x ∷ xs) e = ap (λ (xs : List ℕ). x ∷ xs) (resized-
 pub slot-length : (v : View) → length (slot v) ≡ 65
 unfolding slot
 slot-length unheard = resized-length 65 []
-slot-length (heard a) = resized-length 65 (recordOf a)
+slot-length (heard x) = resized-length 65 (recordOf x)
 
 -- The numbers of a list filled up with zeros.
 pub resized-number : (k : ℕ) (xs : List ℕ) (i : ℕ) → i < k → getD (resized k xs) i 0 ≡ getD xs i 0
@@ -103,7 +103,7 @@ part-slot m at v l e h = part-is m at 65 (slot v) l (slot-length v) same
 pub shows-answer : (v : View) → 1 ≤ viewTag v → heard (shown v) ≡ v
 unfolding viewTag shown
 shows-answer unheard l = absurd (omega arith)
-shows-answer (heard a) l = refl
+shows-answer (heard x) l = refl
 
 -- A view with tag 0 is not heard.
 pub shows-nothing : (v : View) → viewTag v ≤ 0 → v ≡ unheard

@@ -10,10 +10,10 @@ use Rattle.records.specs.Records.{viewAt, records}
 every-last : (φ : View → Bool) (vs : List View) (v : View) → every φ (vs ++ (v ∷ [])) ≡ (φ v && every φ vs)
 unfolding every
 every-last φ [] v = refl
-every-last φ (w ∷ vs) v =
-    ap (λ (x : Bool). φ w && x) (every-last φ vs v)
-    ∙ sym (and-assoc (φ w) (φ v) (every φ vs))
-    ∙ rw (and-comm (φ w) (φ v)) (and-assoc (φ v) (φ w) (every φ vs))
+every-last φ (v′ ∷ vs) v =
+    ap (λ (x : Bool). φ v′ && x) (every-last φ vs v)
+    ∙ sym (and-assoc (φ v′) (φ v) (every φ vs))
+    ∙ rw (and-comm (φ v′) (φ v)) (and-assoc (φ v) (φ v′) (every φ vs))
 
 -- One more record.
 pub every-more : (φ : View → Bool) (m : List ℕ) (k : ℕ) → every φ (records m (suc k)) ≡ (φ (viewAt m k) && every φ (records m k))

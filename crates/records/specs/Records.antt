@@ -33,7 +33,7 @@ viewsOf m i = records m (i - 1)
 -- The answer that a view shows; none where nothing is heard.
 unfoldable pub shown : View → Answer
 shown unheard = none
-shown (heard a) = a
+shown (heard x) = x
 
 -- The answer in record i.
 unfoldable pub answerIn : List ℕ → ℕ → Answer
@@ -70,7 +70,7 @@ resized (suc k) (x ∷ xs) = x ∷ resized k xs
 -- The record of a view: zeros where nothing is heard, otherwise the record of the answer, cut or filled up to its 65 numbers.
 unfoldable pub slot : View → List ℕ
 slot unheard = resized 65 []
-slot (heard a) = resized 65 (recordOf a)
+slot (heard x) = resized 65 (recordOf x)
 
 -- The record at one place copied to another.
 unfoldable pub moved : List ℕ → ℕ → ℕ → List ℕ

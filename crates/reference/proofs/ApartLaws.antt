@@ -27,7 +27,7 @@ unfolding meet
 meet-sym (plan i) (plan k) = refl
 meet-sym (plan i) (deliver j k) = refl
 meet-sym (deliver j k) (plan i) = refl
-meet-sym (deliver j i) (deliver l k) = refl
+meet-sym (deliver j i) (deliver j′ i′) = refl
 
 pub apart-sym : {M : Machine} {s : State} {x y : Step} → Apart M s x y → Apart M s y x
 apart-sym {x = x} {y = y} h =
@@ -95,7 +95,7 @@ module _ (M : Machine) (s : State) where
   answer-kept x (plan i) h = told-same M s (afterStep M s x) i (reads-apart x i h)
   answer-kept x (deliver j i) h = refl
 
--- A plan of answer a, which is news or not.
+-- A plan of answer x, which is news or not.
 abbrev planWith : Bool → State → ℕ → Answer → State
 planWith news s i x =
     record {
@@ -197,11 +197,11 @@ module _ (claims : StepClaims) (M : Machine) (s : State) where
           planAs s i (response M s i) .chan k j ≡ [] → ⊥
       go (inl e) q = deliver-full j k h (sym e ∙ q)
       go (inr e) q = appended-some (s .chan k j) (response M s i) (sym (e .2) ∙ q)
-  open-kept (deliver j i) (deliver l k) h =
-      deliver-stays (deliver j i) l k h (λ e. deliver-full l k h (sym (delivered-else s j i l k (pairs-differ M s h)) ∙ e))
+  open-kept (deliver j i) (deliver j′ i′) h =
+      deliver-stays (deliver j i) j′ i′ h (λ e. deliver-full j′ i′ h (sym (delivered-else s j i j′ i′ (pairs-differ M s h)) ∙ e))
 
   pub state-agrees : (x y : Step) → Apart M s x y → afterStep M (afterStep M s x) y ≡ afterStep M (afterStep M s y) x
   state-agrees (plan i) (plan k) h = plan-plan M s i k h
   state-agrees (plan i) (deliver j k) h = plan-deliver M s i j k h (deliver-full j k h)
   state-agrees (deliver j k) (plan i) h = sym (plan-deliver M s i j k (apart-sym h) (deliver-full j k (apart-sym h)))
-  state-agrees (deliver j i) (deliver l k) h = deliver-deliver M s j i l k h
+  state-agrees (deliver j i) (deliver j′ i′) h = deliver-deliver M s j i j′ i′ h

@@ -43,27 +43,27 @@ deliver-chan-cases s j i k j′ = go (eq-or-ne k i) (eq-or-ne j′ j)
 pub newer-shorter : (xs : List Answer) → length (newer xs) ≤ length xs
 unfolding newer
 newer-shorter [] = omega arith
-newer-shorter (a ∷ xs) = omega arith
+newer-shorter (x ∷ xs) = omega arith
 
 module _ (M : Machine) (s : State) where
   step-channels : InRange M s → (x : Step) → isOpen M s x ≡ true → (k j : ℕ) → j < k → k < M .carriers →
       length (afterStep M s x .chan k j) ≤ M .depth
   unfolding afterStep effect counted
-  step-channels r (plan i) e k j l h = go (plan-chan-cases s i a k j)
+  step-channels r (plan i) e k j l h = go (plan-chan-cases s i x k j)
     where
-      a : Answer
-      a = M .respond i (views s i)
+      x : Answer
+      x = M .respond i (views s i)
 
-      go : (planAs s i a .chan k j ≡ s .chan k j) ⊎ ((j ≡ i) × (i < k) × (planAs s i a .chan k j ≡ s .chan k j ++ (a ∷ []))) →
-          length (planAs s i a .chan k j) ≤ M .depth
+      go : (planAs s i x .chan k j ≡ s .chan k j) ⊎ ((j ≡ i) × (i < k) × (planAs s i x .chan k j ≡ s .chan k j ++ (x ∷ []))) →
+          length (planAs s i x .chan k j) ≤ M .depth
       go (inl q) = rw q (r .channels k j l h)
       go (inr q) =
           rw (q .2, q .0)
-          (omega (arith, length-append (s .chan k i) (a ∷ []), plan-capacity M s i k e (q .1) h))
-  step-channels r (deliver m i) e k j l h = go (deliver-chan-cases s m i k j)
+          (omega (arith, length-append (s .chan k i) (x ∷ []), plan-capacity M s i k e (q .1) h))
+  step-channels r (deliver j′ i) e k j l h = go (deliver-chan-cases s j′ i k j)
     where
-      go : (deliverTo s m i .chan k j ≡ s .chan k j) ⊎ (deliverTo s m i .chan k j ≡ newer (s .chan k j)) →
-          length (deliverTo s m i .chan k j) ≤ M .depth
+      go : (deliverTo s j′ i .chan k j ≡ s .chan k j) ⊎ (deliverTo s j′ i .chan k j ≡ newer (s .chan k j)) →
+          length (deliverTo s j′ i .chan k j) ≤ M .depth
       go (inl q) = rw q (r .channels k j l h)
       go (inr q) = rw q (omega (arith, newer-shorter (s .chan k j), r .channels k j l h))
 

@@ -14,9 +14,9 @@ use Rattle.reference.specs.Ending.{ending}
 use Rattle.reference.specs.History.{RunsJoined}
 use Rattle.reference.proofs.RunLaws.{run-took, run-skipped, run-induction, run-faithful}
 
--- Run r of the steps xs with budget b, followed by any further steps ys, is the run of both lists.
+-- Run x of the steps xs with budget b, followed by any further steps ys, is the run of both lists.
 Followed : Machine → State → List Step → ℕ → RunResult → Type 0
-Followed M s xs b r = (ys : List Step) → RunsJoined (run M s (xs ++ ys) b) r (run M (r .state) ys (b - r .taken))
+Followed M s xs b x = (ys : List Step) → RunsJoined (run M s (xs ++ ys) b) x (run M (x .state) ys (b - x .taken))
 
 same-test : (n p b : ℕ) → n ≤ b → eqb (n + p) b ≡ eqb p (b - n)
 same-test n p b l = go (eqb p (b - n)) refl

@@ -18,7 +18,7 @@ use Rattle.reference.proofs.Potential.{unit, unit-positive, dueWeight, 
 newer-length : (xs : List Answer) → isEmpty xs ≡ false → length (newer xs) + 1 ≡ length xs
 unfolding isEmpty newer
 newer-length [] e = true-false-absurd refl e
-newer-length (a ∷ xs) e = omega arith
+newer-length (x ∷ xs) e = omega arith
 
 due-most : (x : Bool) (n : ℕ) → dueWeight x n ≤ n - 1
 unfolding dueWeight
@@ -55,10 +55,10 @@ module _ (n : ℕ) (s : State) (j i : ℕ) where
   pub deliver-lowers : j < i → i < n → isEmpty (s .chan i j) ≡ false → potential n (deliverTo s j i) < potential n s
   unfolding potential
   deliver-lowers l h e =
-      let f = weightAt n (deliverTo s j i) in
-      let g = weightAt n s in
+      let φ = weightAt n (deliverTo s j i) in
+      let ψ = weightAt n s in
       omega (
         arith,
-        sum-less n i (g i - f i) f g h (omega (arith, weight-less l e)) (λ m b q. weight-other m q),
+        sum-less n i (ψ i - φ i) φ ψ h (omega (arith, weight-less l e)) (λ k b q. weight-other k q),
         weight-less l e,
       )

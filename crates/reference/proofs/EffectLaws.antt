@@ -39,25 +39,25 @@ module _ (M : Machine) (s : State) where
   unfolding afterStep effect counted tick planAs deliverTo
   plan-does i =
       record {
-        best = plan-answer s i a .there;
-        cleared = plan-clears s i a .there;
-        planned = plan-planned s i a .there;
-        sends = λ h k l. rw (plan-answer s i a .there) (sent-below s i a (first-is-news s i a (rw (plan-answer s i a .there) at h)) k l);
-        keeps = λ p e k l. rw (plan-keeps s i a (again-no-news s i a p (e ∙ plan-answer s i a .there)));
+        best = plan-answer s i x .there;
+        cleared = plan-clears s i x .there;
+        planned = plan-planned s i x .there;
+        sends = λ h k l. rw (plan-answer s i x .there) (sent-below s i x (first-is-news s i x (rw (plan-answer s i x .there) at h)) k l);
+        keeps = λ p e k l. rw (plan-keeps s i x (again-no-news s i x p (e ∙ plan-answer s i x .there)));
         counted = refl;
         carriers =
             λ k n.
             record {
-              planned = plan-planned s i a .elsewhere k n;
-              due = plan-clears s i a .elsewhere k n;
-              answer = plan-answer s i a .elsewhere k n;
+              planned = plan-planned s i x .elsewhere k n;
+              due = plan-clears s i x .elsewhere k n;
+              answer = plan-answer s i x .elsewhere k n;
             };
-        channels = λ k j n. chan-other s i a k j n;
-        seen = λ k j. rw (plan-view s i a);
+        channels = λ k j n. chan-other s i x k j n;
+        seen = λ k j. rw (plan-view s i x);
       }
     where
-      a : Answer
-      a = M .respond i (views s i)
+      x : Answer
+      x = M .respond i (views s i)
 
   oldest-first : (v : View) (xs : List Answer) → isEmpty xs ≡ false → (x : Answer) × (xs ≡ x ∷ newer xs) × (oldest v xs ≡ heard x)
   unfolding isEmpty newer oldest
@@ -81,8 +81,8 @@ module _ (M : Machine) (s : State) where
               answer = rw (deliver-answer s j i);
             };
         receiver = (rw (deliver-planned s j i), rw (deliver-answer s j i));
-        channels = λ k l h. channels k l h (eq-or-ne k i);
-        seen = λ k l h. seen k l h (eq-or-ne k i);
+        channels = λ k j′ h. channels k j′ h (eq-or-ne k i);
+        seen = λ k j′ h. seen k j′ h (eq-or-ne k i);
       }
     where
       f : (x : Answer) × (s .chan i j ≡ x ∷ newer (s .chan i j)) × (oldest (s .view i j) (s .chan i j) ≡ heard x)

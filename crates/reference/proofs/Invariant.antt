@@ -17,22 +17,22 @@ use Rattle.reference.proofs.TakeLaws.{deliver-due, deliver-planned, del
 -- What the receiver will have heard once every message is delivered.
 pub latest : View → List Answer → View
 latest v [] = v
-latest v (a ∷ l) = latest (heard a) l
+latest v (x ∷ xs) = latest (heard x) xs
 
 latest-sent : (v : View) (xs : List Answer) (x : Answer) → latest v (xs ++ (x ∷ [])) ≡ heard x
 unfolding latest
 latest-sent v [] x = refl
-latest-sent v (b ∷ xs) x = latest-sent (heard b) xs x
+latest-sent v (y ∷ xs) x = latest-sent (heard y) xs x
 
 latest-delivered : (v : View) (xs : List Answer) → latest (oldest v xs) (newer xs) ≡ latest v xs
 unfolding latest oldest newer
 latest-delivered v [] = refl
-latest-delivered v (a ∷ xs) = refl
+latest-delivered v (x ∷ xs) = refl
 
 -- What a carrier has said: its answer if it has planned, else nothing.
 pub saidAs : Bool → Answer → View
-saidAs true a = heard a
-saidAs false a = unheard
+saidAs true x = heard x
+saidAs false x = unheard
 
 pub said : State → ℕ → View
 said s j = saidAs (s .planned j) (s .answer j)
@@ -80,29 +80,29 @@ module _ (M : Machine) (s : State) (h : Coherent M s) where
   unfolding views
   plan-coherent i = record { has-planned = has-planned; is-best = is-best; is-said = is-said }
     where
-      a : Answer
-      a = M .respond i (views s i)
+      x : Answer
+      x = M .respond i (views s i)
 
       z : State
-      z = planAs s i a
+      z = planAs s i x
 
       has-planned : (k : ℕ) → z .due k ≡ false → z .planned k ≡ true
       has-planned k e =
-          ⊎-elim (λ (q : k ≡ i). rw q (plan-planned s i a .there))
-          (λ (n : k ≡ i → ⊥). plan-planned s i a .elsewhere k n ∙ h .has-planned k (sym (plan-clears s i a .elsewhere k n) ∙ e))
+          ⊎-elim (λ (q : k ≡ i). rw q (plan-planned s i x .there))
+          (λ (n : k ≡ i → ⊥). plan-planned s i x .elsewhere k n ∙ h .has-planned k (sym (plan-clears s i x .elsewhere k n) ∙ e))
           (eq-or-ne k i)
 
       is-best : (k : ℕ) → z .due k ≡ false → z .answer k ≡ M .respond k (views z k)
       is-best k e =
-          ⊎-elim (λ (q : k ≡ i). rw (q, plan-view s i a) (plan-answer s i a .there))
+          ⊎-elim (λ (q : k ≡ i). rw (q, plan-view s i x) (plan-answer s i x .there))
           (λ (n : k ≡ i → ⊥).
-          rw (plan-view s i a) (plan-answer s i a .elsewhere k n ∙ h .is-best k (sym (plan-clears s i a .elsewhere k n) ∙ e)))
+          rw (plan-view s i x) (plan-answer s i x .elsewhere k n ∙ h .is-best k (sym (plan-clears s i x .elsewhere k n) ∙ e)))
           (eq-or-ne k i)
 
       is-said : (k j : ℕ) → j < k → latest (z .view k j) (z .chan k j) ≡ said z j
       is-said k j l =
-          ⊎-elim (λ (q : j ≡ i). rw (q, said-plan i a, plan-view s i a) (plan-said i a k (rw q at l)))
-          (λ (n : j ≡ i → ⊥). rw (said-other i a j n, plan-view s i a, chan-other s i a k j n) (h .is-said k j l)) (eq-or-ne j i)
+          ⊎-elim (λ (q : j ≡ i). rw (q, said-plan i x, plan-view s i x) (plan-said i x k (rw q at l)))
+          (λ (n : j ≡ i → ⊥). rw (said-other i x j n, plan-view s i x, chan-other s i x k j n) (h .is-said k j l)) (eq-or-ne j i)
 
   deliver-coherent : (j i : ℕ) → Coherent M (deliverTo s j i)
   unfolding views said
@@ -128,11 +128,11 @@ module _ (M : Machine) (s : State) (h : Coherent M s) where
           (h .is-said i j (rw q at l))
       to-i k l (inr n) = rw (deliver-view s j i .beside k n, deliver-chan s j i .beside k n) (h .is-said i k l)
 
-      is-said : (k p : ℕ) → p < k → latest (z .view k p) (z .chan k p) ≡ said z p
-      is-said k p l =
+      is-said : (k j′ : ℕ) → j′ < k → latest (z .view k j′) (z .chan k j′) ≡ said z j′
+      is-said k j′ l =
           rw (deliver-planned s j i, deliver-answer s j i)
-          (⊎-elim (λ (q : k ≡ i). rw q (to-i p (rw q at l) (eq-or-ne p j)))
-          (λ (n : k ≡ i → ⊥). rw (deliver-view s j i .elsewhere k n, deliver-chan s j i .elsewhere k n) (h .is-said k p l)) (eq-or-ne k i))
+          (⊎-elim (λ (q : k ≡ i). rw q (to-i j′ (rw q at l) (eq-or-ne j′ j)))
+          (λ (n : k ≡ i → ⊥). rw (deliver-view s j i .elsewhere k n, deliver-chan s j i .elsewhere k n) (h .is-said k j′ l)) (eq-or-ne k i))
 
   step-coherent : (x : Step) → Coherent M (afterStep M s x)
   unfolding afterStep effect

@@ -18,7 +18,7 @@ use Rattle.reference.specs.Step.{Step, plan, deliver, isThere, hasCapaci
 pub empty-nil : (xs : List Answer) → isEmpty xs ≡ true → xs ≡ []
 unfolding isEmpty
 empty-nil [] e = refl
-empty-nil (a ∷ xs) e = true-false-absurd e refl
+empty-nil (x ∷ xs) e = true-false-absurd e refl
 
 pub nil-empty : (xs : List Answer) → xs ≡ [] → isEmpty xs ≡ true
 unfolding isEmpty

@@ -76,4 +76,4 @@ module _ (n : ℕ) (s : State) (i : ℕ) (x : Answer) where
   pub plan-lowers : s .due i ≡ true → i < n → potential n (planAs s i x) < potential n s
   unfolding potential
   plan-lowers d l =
-      plan-total n i (weightAt n s) (weightAt n (planAs s i x)) weight-above (weight-own d) (λ m h b. weight-below m h) n refl l
+      plan-total n i (weightAt n s) (weightAt n (planAs s i x)) weight-above (weight-own d) (λ k h b. weight-below k h) n refl l

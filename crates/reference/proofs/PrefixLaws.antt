@@ -24,7 +24,7 @@ module _ (M : Machine) (s : State) where
   quiescent-shorter k q =
       record { not-due = λ i l. q .not-due i (omega arith); no-message = λ i j a l. q .no-message i j a (omega arith) }
 
-  -- Carrier k of a quiet prefix has heard the answers of all above it.
+  -- Carrier k of a quiescent prefix has heard the answers of all above it.
   heard-all : Coherent M s → (k : ℕ) → Idle (suc k) s → views s k ≡ map heard (below k (s .answer))
   unfolding views
   heard-all h k q = below-same k (s .view k) (λ j. heard (s .answer j)) heard-one ∙ below-map heard k (s .answer)
@@ -32,7 +32,7 @@ module _ (M : Machine) (s : State) where
       heard-one : (j : ℕ) → j < k → s .view k j ≡ heard (s .answer j)
       heard-one j l = view-heard M s h k j l (q .no-message k j l (omega arith)) (q .not-due j (omega arith))
 
-  -- Each quiet carrier has answered best against the answers above it, which are the sequential planner's by induction.
+  -- Each quiescent carrier has answered best against the answers above it, which are the sequential planner's by induction.
   pub quiescent-sequential : Coherent M s → (k : ℕ) → Idle k s → below k (s .answer) ≡ sequential (M .respond) k
   unfolding below sequential
   quiescent-sequential h zero q = refl
@@ -51,17 +51,17 @@ module _ (M : Machine) (s : State) (k : ℕ) where
   plan-same : (i : ℕ) (x : Answer) → k ≤ i → SameBelow k s (planAs s i x)
   plan-same i x h =
       record {
-        due = λ m l. plan-clears s i x .elsewhere m (λ q. omega arith);
-        chan = λ m j l. chan-above s i x m j (omega arith);
-        answer = λ m l. plan-answer s i x .elsewhere m (λ q. omega arith);
+        due = λ i′ l. plan-clears s i x .elsewhere i′ (λ q. omega arith);
+        chan = λ i′ j l. chan-above s i x i′ j (omega arith);
+        answer = λ i′ l. plan-answer s i x .elsewhere i′ (λ q. omega arith);
       }
 
   deliver-same : (j i : ℕ) → k ≤ i → SameBelow k s (deliverTo s j i)
   deliver-same j i h =
       record {
-        due = λ m l. deliver-due s j i .elsewhere m (λ q. omega arith);
-        chan = λ m n l. rw (deliver-chan s j i .elsewhere m (λ q. omega arith));
-        answer = λ m l. rw (deliver-answer s j i);
+        due = λ i′ l. deliver-due s j i .elsewhere i′ (λ q. omega arith);
+        chan = λ i′ j′ l. rw (deliver-chan s j i .elsewhere i′ (λ q. omega arith));
+        answer = λ i′ l. rw (deliver-answer s j i);
       }
 
   -- The taken count does not matter.
@@ -69,7 +69,7 @@ module _ (M : Machine) (s : State) (k : ℕ) where
   unfolding counted
   counted-same h = record { due = h .due; chan = h .chan; answer = h .answer }
 
-  -- No step of a quiet carrier is open, and a step of a carrier below changes nothing among the first k.
+  -- No step of a quiescent carrier is open, and a step of a carrier below changes nothing among the first k.
   step-same : Idle k s → (x : Step) → isOpen M s x ≡ true → SameBelow k s (afterStep M s x)
   unfolding afterStep effect
   step-same q (plan i) e =

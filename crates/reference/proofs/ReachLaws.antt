@@ -25,30 +25,30 @@ module _ (M : Machine) where
   pub run-reaches : (s : State) (xs : List Step) (b : ℕ) → Reachable M s (run M s xs b .state) (run M s xs b .taken)
   unfolding run tookFirst skippedFirst
   run-reaches =
-      run-induction M (λ s xs b r. Reachable M s (r .state) (r .taken)) (λ s b. stay) (λ s x xs. stay) (λ s x xs b r e p. next x e p)
-      (λ s x xs b r e p. p)
+      run-induction M (λ s xs b y. Reachable M s (y .state) (y .taken)) (λ s b. stay) (λ s x xs. stay) (λ s x xs b y e p. next x e p)
+      (λ s x xs b y e p. p)
 
   -- What names no kind of step is refused with 9 or 7.
-  unnamed : (x : Verdict) (a p : ℕ) → (x then refused 7 0) ≡ refused a p
-      → _≡_ {A = Outcome CallAnswer} (x thenAnswers refusal 7 0) (refusal a p)
+  unnamed : (x : Verdict) (k p : ℕ) → (x then refused 7 0) ≡ refused k p
+      → _≡_ {A = Outcome CallAnswer} (x thenAnswers refusal 7 0) (refusal k p)
   unfolding _then_ _thenAnswers_
-  unnamed passed a p h = let q = refused-same h in rw (q .0, q .1)
-  unnamed (refused k l) a p h = let q = refused-same h in rw (q .0, q .1)
+  unnamed passed k p h = let q = refused-same h in rw (q .0, q .1)
+  unnamed (refused k′ p′) k p h = let q = refused-same h in rw (q .0, q .1)
 
   pub after-passed : (s : State) (x : Call) → verdict M s x ≡ passed → afterCall M s x ≡ stateAfter M s x
   unfolding afterCall whenPassed
   after-passed s x e = rw e
 
-  after-refused : (s : State) (x : Call) (a p : ℕ) → verdict M s x ≡ refused a p → afterCall M s x ≡ s
+  after-refused : (s : State) (x : Call) (k p : ℕ) → verdict M s x ≡ refused k p → afterCall M s x ≡ s
   unfolding afterCall whenPassed
-  after-refused s x a p e = rw e
+  after-refused s x k p e = rw e
 
   -- A refused call counts no step.
-  reply-refused : (s : State) (y : Call) (a p : ℕ) → verdict M s y ≡ refused a p → reply M s y ≡ refusal a p
+  reply-refused : (s : State) (y : Call) (k p : ℕ) → verdict M s y ≡ refused k p → reply M s y ≡ refusal k p
   unfolding reply _gives_ verdict openSingle
-  reply-refused s (single lent (step x)) a p e = rw e
-  reply-refused s (runOf lent xs b) a p e = rw e
-  reply-refused s (single lent noStep) a p e = unnamed (lentEnough M lent) a p e
+  reply-refused s (single lent (step x)) k p e = rw e
+  reply-refused s (runOf lent xs b) k p e = rw e
+  reply-refused s (single lent noStep) k p e = unnamed (lentEnough M lent) k p e
 
   pub run-reply : (s : State) (lent : ℕ) (xs : List Asked) (b : ℕ) → verdict M s (runOf lent xs b) ≡ passed →
       reply M s (runOf lent xs b) ≡ value (ran (run M s (stepsOf xs) b .taken) (ending M b (run M s (stepsOf xs) b)))
@@ -72,9 +72,9 @@ module _ (M : Machine) where
   pub calls-reach : (s : State) (xs : List Call) → Reachable M s (after M s xs) (repliesCount (replies M s xs))
   unfolding after replies repliesCount
   calls-reach s [] = stay
-  calls-reach s (c ∷ xs) = reaches-join (call-reaches s c) (calls-reach (afterCall M s c) xs)
+  calls-reach s (x ∷ xs) = reaches-join (call-reaches s x) (calls-reach (afterCall M s x) xs)
 
   pub after-join : (s : State) (xs ys : List Call) → after M s (xs ++ ys) ≡ after M (after M s xs) ys
   unfolding after
   after-join s [] ys = refl
-  after-join s (c ∷ xs) ys = after-join (afterCall M s c) xs ys
+  after-join s (x ∷ xs) ys = after-join (afterCall M s x) xs ys

@@ -48,16 +48,16 @@ module _ (M : Machine) where
       run-induction (FaithfulRun M)
       (λ s b. record { faithful = tt; reads = refl; leads = refl; counts = refl; within = omega arith; stops = inl refl })
       (λ s x xs. record { faithful = tt; reads = refl; leads = refl; counts = refl; within = omega arith; stops = inr refl })
-      (λ s x xs b r e p.
+      (λ s x xs b y e p.
       record {
         faithful = (e, p .faithful);
         reads = ap (λ (xs : List Step). x ∷ xs) (p .reads);
         leads = p .leads;
         counts = ap suc (p .counts);
         within = omega (arith, p .within);
-        stops = more x r b (p .stops);
+        stops = more x y b (p .stops);
       })
-      (λ s x xs b r e p.
+      (λ s x xs b y e p.
       record {
         faithful = (e, p .faithful);
         reads = ap (λ (xs : List Step). x ∷ xs) (p .reads);

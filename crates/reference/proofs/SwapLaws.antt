@@ -83,7 +83,7 @@ send-same channels channels′ i y x j e = ap (λ (xs : List Answer). elim (eqb 
 
 -- Messages of different senders.
 send-swap : (channels : ℕ → ℕ → List Answer) (i k : ℕ) (y z : Answer) → (i ≡ k → ⊥) → send (send channels i y) k z ≡ send (send channels k z) i y
-send-swap channels i k y z n = fun-ext (λ x. fun-ext (λ l. go x l (eqb l i) (eqb l k) refl refl))
+send-swap channels i k y z n = fun-ext (λ x. fun-ext (λ j. go x j (eqb j i) (eqb j k) refl refl))
   where
     go : (x j : ℕ) (x′ y′ : Bool) → eqb j i ≡ x′ → eqb j k ≡ y′ → send (send channels i y) k z x j ≡ send (send channels k z) i y x j
     go x j true true p q = absurd (n (sym (eqb-true j i p) ∙ eqb-true j k q))
@@ -101,12 +101,12 @@ sent-swap channels i k x y false false n = refl
 newer-sent : (xs : List Answer) (x : Answer) → (xs ≡ [] → ⊥) → newer (xs ++ (x ∷ [])) ≡ newer xs ++ (x ∷ [])
 unfolding newer
 newer-sent [] x n = absurd (n refl)
-newer-sent (b ∷ xs) x n = refl
+newer-sent (y ∷ xs) x n = refl
 
 oldest-sent : (v : View) (xs : List Answer) (x : Answer) → (xs ≡ [] → ⊥) → oldest v (xs ++ (x ∷ [])) ≡ oldest v xs
 unfolding oldest
 oldest-sent v [] x n = absurd (n refl)
-oldest-sent v (b ∷ xs) x n = refl
+oldest-sent v (y ∷ xs) x n = refl
 
 -- A channel with the new message, and one without.
 send-there : (channels : ℕ → ℕ → List Answer) (i : ℕ) (x : Answer) (k j : ℕ) → (eqb j i && ltb i k) ≡ true → send channels i x k j ≡ channels k j ++ (x ∷ [])
@@ -129,7 +129,7 @@ newer-kept channels i x k j n = go (eqb j i && ltb i k) refl
 -- A message is sent and another taken, in either order, from a channel that is not empty.
 send-take : (channels : ℕ → ℕ → List Answer) (i : ℕ) (y : Answer) (k j : ℕ) → (channels k j ≡ [] → ⊥)
     → updatePair (send channels i y) k j (newer (send channels i y k j)) ≡ send (updatePair channels k j (newer (channels k j))) i y
-send-take channels i y k j n = fun-ext (λ x. fun-ext (λ l. go x l (eq-or-ne x k) (eq-or-ne l j)))
+send-take channels i y k j n = fun-ext (λ x. fun-ext (λ j′. go x j′ (eq-or-ne x k) (eq-or-ne j′ j)))
   where
     before : ℕ → ℕ → List Answer
     before = updatePair (send channels i y) k j (newer (send channels i y k j))

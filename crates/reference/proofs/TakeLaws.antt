@@ -37,10 +37,10 @@ module _ (s : State) (i : ℕ) (x : Answer) where
   pub no-news : isNews s i x ≡ false → (s .planned i ≡ true) × (s .answer i ≡ x)
   unfolding isNews
   no-news e =
-      let p = s .planned i in
+      let planned = s .planned i in
       let same = sameAnswer (s .answer i) x in
-      let both = not-false (p && same) e in
-      (and-fst p same both, same-answer (s .answer i) x (and-snd p same both))
+      let both = not-false (planned && same) e in
+      (and-fst planned same both, same-answer (s .answer i) x (and-snd planned same both))
 
   plan-sends : isNews s i x ≡ true → planAs s i x .chan ≡ send (s .chan) i x
   unfolding planAs

@@ -13,7 +13,7 @@ use Rattle.reference.specs.Step.{Step, plan, deliver, isOpen, isEmpty}
 use Rattle.reference.specs.Ranking.{isSilent}
 use Rattle.reference.specs.Table.{Call}
 use Rattle.reference.specs.Calls.{after}
-use Rattle.reference.specs.Quiescent.{idle, quiet}
+use Rattle.reference.specs.Quiescent.{idle, quiescent}
 use Rattle.reference.specs.StepClaims.{StepClaims}
 use Rattle.reference.specs.CallClaims.{CallClaims}
 use Rattle.reference.specs.Claims.{Claims}
@@ -51,9 +51,9 @@ module _ (M : Machine) where
       ⊎-elim (λ (e : isSilent M s ≡ true). inr (sym (silent-idle s d) ∙ e)) (λ (e : isSilent M s ≡ false). inl (some-open M s e))
       (true-or-false (isSilent M s))
 
-  quiescent-answers : (xs : List Call) (k : ℕ) → k ≤ M .carriers → quiet k (after M fresh xs) ≡ true →
+  quiescent-answers : (xs : List Call) (k : ℕ) → k ≤ M .carriers → quiescent k (after M fresh xs) ≡ true →
       below k (after M fresh xs .answer) ≡ take k (sequential (M .respond) (M .carriers))
-  unfolding quiet
+  unfolding quiescent
   quiescent-answers xs k l e =
       quiescent-sequential M z (reaches-coherent M (fresh-coherent M) (calls-reach M fresh xs)) k (idle-says k z e)
       ∙ sym (sequential-prefix (M .respond) k (M .carriers) l)
@@ -61,9 +61,9 @@ module _ (M : Machine) where
       z : State
       z = after M fresh xs
 
-  quiescent-answers-stay : (xs ys : List Call) (k : ℕ) → quiet k (after M fresh xs) ≡ true →
+  quiescent-answers-stay : (xs ys : List Call) (k : ℕ) → quiescent k (after M fresh xs) ≡ true →
       below k (after M fresh (xs ++ ys) .answer) ≡ below k (after M fresh xs .answer)
-  unfolding quiet
+  unfolding quiescent
   quiescent-answers-stay xs ys k e =
       let s = after M fresh xs in
       let z = after M s ys in
@@ -117,8 +117,8 @@ call-claims =
       cut-taken = cut-taken;
       quiescent-answers = quiescent-answers;
       quiescent-answers-stay = quiescent-answers-stay;
-      calls-in-range = λ M cs. reaches-in-range M (fresh-in-range M) (calls-reach M fresh cs);
-      calls-throughout = λ M P p best cs. reaches-throughout (M .carriers) P M best (fresh-throughout (M .carriers) P p) (calls-reach M fresh cs);
+      calls-in-range = λ M xs. reaches-in-range M (fresh-in-range M) (calls-reach M fresh xs);
+      calls-throughout = λ M P p best xs. reaches-throughout (M .carriers) P M best (fresh-throughout (M .carriers) P p) (calls-reach M fresh xs);
     }
 
 pub theorems : Claims

@@ -17,17 +17,17 @@ module _ (n : ℕ) (P : Answer → Type 0) where
   all-sent : (xs : List Answer) (x : Answer) → AllOf P xs → P x → AllOf P (xs ++ (x ∷ []))
   unfolding AllOf
   all-sent [] x h p = (p, tt)
-  all-sent (b ∷ xs) x h p = (h .0, all-sent xs x (h .1) p)
+  all-sent (y ∷ xs) x h p = (h .0, all-sent xs x (h .1) p)
 
   all-newer : (xs : List Answer) → AllOf P xs → AllOf P (newer xs)
   unfolding AllOf newer
   all-newer [] h = tt
-  all-newer (a ∷ xs) h = h .1
+  all-newer (x ∷ xs) h = h .1
 
   shown-oldest : (v : View) (xs : List Answer) → ShownOf P v → AllOf P xs → ShownOf P (oldest v xs)
   unfolding AllOf ShownOf oldest
   shown-oldest v [] p h = p
-  shown-oldest v (a ∷ xs) p h = h .0
+  shown-oldest v (x ∷ xs) p h = h .0
 
   pub fresh-throughout : P none → Throughout n P fresh
   unfolding fresh AllOf ShownOf
@@ -60,8 +60,8 @@ module _ (n : ℕ) (P : Answer → Type 0) where
     deliver-throughout j i =
         record {
           answers = λ k b. rw (deliver-answer s j i) (h .answers k b);
-          messages = λ k l a b. messages k l a b (deliver-chan-cases s j i k l);
-          seen = λ k l a b. seen k l a b (eq-or-ne k i) (eq-or-ne l j);
+          messages = λ k j′ a b. messages k j′ a b (deliver-chan-cases s j i k j′);
+          seen = λ k j′ a b. seen k j′ a b (eq-or-ne k i) (eq-or-ne j′ j);
         }
       where
         messages : (k j′ : ℕ) → j′ < k → k < n → (deliverTo s j i .chan k j′ ≡ s .chan k j′) ⊎

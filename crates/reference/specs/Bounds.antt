@@ -19,7 +19,7 @@ AllOf P (x ∷ xs) = P x × AllOf P xs
 -- P holds of what a view shows.
 unfoldable pub ShownOf : (Answer → Type 0) → View → Type 0
 ShownOf P unheard = Unit {0}
-ShownOf P (heard a) = P a
+ShownOf P (heard x) = P x
 
 -- P holds of every answer, message and heard view of the first n carriers.
 pub record Throughout (n : ℕ) (P : Answer → Type 0) (s : State) : Type 0 where

@@ -17,7 +17,7 @@ use Rattle.reference.specs.History.{Reachable}
 use Rattle.reference.specs.Table.{Asked, step, Call, single, runOf, stepsOf, allNamed, verdict}
 use Rattle.reference.specs.Refused.{RefusedCall}
 use Rattle.reference.specs.Calls.{replies, after}
-use Rattle.reference.specs.Quiescent.{quiet, repliesCount, ceiling}
+use Rattle.reference.specs.Quiescent.{quiescent, repliesCount, ceiling}
 use Rattle.reference.specs.Bounds.{InRange, Throughout}
 
 pub record CallClaims : Type 1 where
@@ -40,11 +40,11 @@ pub record CallClaims : Type 1 where
       allNamed M (xs ++ ys) ≡ passed →
       repliesCount (replies M s (runOf lent (xs ++ ys) b ∷ [])) ≡
       repliesCount (replies M s (runOf lent xs b ∷ runOf lent ys (b - run M s (stepsOf xs) b .taken) ∷ []))
-  -- If the first k carriers are quiet after a list of calls, their answers are the sequential planner's first k.
-  pub quiescent-answers : (M : Machine) (xs : List Call) (k : ℕ) → k ≤ M .carriers → quiet k (after M fresh xs) ≡ true →
+  -- If the first k carriers are quiescent after a list of calls, their answers are the sequential planner's first k.
+  pub quiescent-answers : (M : Machine) (xs : List Call) (k : ℕ) → k ≤ M .carriers → quiescent k (after M fresh xs) ≡ true →
       below k (after M fresh xs .answer) ≡ take k (sequential (M .respond) (M .carriers))
   -- After every longer list their answers are the same.
-  pub quiescent-answers-stay : (M : Machine) (xs ys : List Call) (k : ℕ) → quiet k (after M fresh xs) ≡ true →
+  pub quiescent-answers-stay : (M : Machine) (xs ys : List Call) (k : ℕ) → quiescent k (after M fresh xs) ≡ true →
       below k (after M fresh (xs ++ ys) .answer) ≡ below k (after M fresh xs .answer)
   -- After every list of calls each channel has at most depth messages, and the count is at most 999,999.
   pub calls-in-range : (M : Machine) (xs : List Call) → InRange M (after M fresh xs)

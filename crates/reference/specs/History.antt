@@ -13,20 +13,20 @@ use Rattle.reference.specs.Run.{Event, took, skipped, RunResult}
 -- From state s, every taken step was open when it was taken, and no step was open when it was passed over.
 unfoldable pub Faithful : Machine → State → List Event → Type 0
 Faithful M s [] = Unit {0}
-Faithful M s (took x ∷ h) = (isOpen M s x ≡ true) × Faithful M (afterStep M s x) h
-Faithful M s (skipped x ∷ h) = (isOpen M s x ≡ false) × Faithful M s h
+Faithful M s (took x ∷ xs) = (isOpen M s x ≡ true) × Faithful M (afterStep M s x) xs
+Faithful M s (skipped x ∷ xs) = (isOpen M s x ≡ false) × Faithful M s xs
 
 -- The steps read, in order.
 unfoldable pub stepsRead : List Event → List Step
 stepsRead [] = []
-stepsRead (took x ∷ h) = x ∷ stepsRead h
-stepsRead (skipped x ∷ h) = x ∷ stepsRead h
+stepsRead (took x ∷ xs) = x ∷ stepsRead xs
+stepsRead (skipped x ∷ xs) = x ∷ stepsRead xs
 
 -- The steps taken, in order.
 unfoldable pub stepsTaken : List Event → List Step
 stepsTaken [] = []
-stepsTaken (took x ∷ h) = x ∷ stepsTaken h
-stepsTaken (skipped x ∷ h) = stepsTaken h
+stepsTaken (took x ∷ xs) = x ∷ stepsTaken xs
+stepsTaken (skipped x ∷ xs) = stepsTaken xs
 
 -- The state after the steps of a list, each taken.
 unfoldable pub afterSteps : Machine → State → List Step → State

@@ -13,10 +13,10 @@ use Rattle.reference.specs.Ending.{ending}
 
 -- Two steps meet: one plans the carrier that the other delivers to.
 unfoldable pub meet : Step → Step → Bool
-meet (plan i) (plan k) = false
-meet (plan i) (deliver j k) = eqb i k
-meet (deliver j k) (plan i) = eqb i k
-meet (deliver j i) (deliver l k) = false
+meet (plan i) (plan i′) = false
+meet (plan i) (deliver j i′) = eqb i i′
+meet (deliver j i′) (plan i) = eqb i i′
+meet (deliver j i) (deliver j′ i′) = false
 
 -- Two steps stand apart in state s: both are open, they are different, and they do not meet.
 pub record Apart (M : Machine) (s : State) (x y : Step) : Type 0 where

@@ -1,4 +1,4 @@
--- Idle and quiet prefixes, and the number of steps taken in a list of calls (document 01, 'What demand 3 compares').
+-- Idle and quiescent prefixes, and the number of steps taken in a list of calls (document 01, 'What demand 3 compares').
 use Prim.Native.Nat.{ℕ, suc, _+_, _-_, _^_}
 use mathlib.Core.Bool.{Bool, _&&_, not}
 use mathlib.Core.List.{List, [], _∷_}
@@ -16,13 +16,13 @@ unfoldable pub idle : ℕ → State → Bool
 idle k s = each k (idleAt s)
 
 -- The first k carriers are quiescent (the paper's 'quiet'): they are idle.
-unfoldable pub quiet : ℕ → State → Bool
-quiet k s = idle k s
+unfoldable pub quiescent : ℕ → State → Bool
+quiescent k s = idle k s
 
 -- The number of steps that an answer tells of: a single step is one, a run as many as it returned.
 unfoldable pub replyCount : Reply → ℕ
-replyCount (value (stepped a)) = 1
-replyCount (value (ran t e)) = t
+replyCount (value (stepped x)) = 1
+replyCount (value (ran t x)) = t
 replyCount (refusal number place) = 0
 
 -- The number of single steps taken plus the numbers that the runs returned.

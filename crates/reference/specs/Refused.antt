@@ -35,5 +35,5 @@ pub data RefusedCall (M : Machine) (s : State) : Call → ℕ → ℕ → Type 0
   unnamed-single : {lent : ℕ} {x : Asked} → M .needed ≤ lent → isNamed M x ≡ false → RefusedCall M s (single lent x) 7 0
   unnamed-run : {lent : ℕ} {xs : List Asked} {b p : ℕ} → M .needed ≤ lent → FirstUnnamed M xs p → RefusedCall M s (runOf lent xs b) 7 p
   -- 8, 12 or 13: a single step waits for something.
-  waiting : {lent : ℕ} {x : Step} {a p : ℕ} → M .needed ≤ lent → isThere M x ≡ true → Waits M s x a p →
-      RefusedCall M s (single lent (step x)) a p
+  waiting : {lent : ℕ} {x : Step} {k p : ℕ} → M .needed ≤ lent → isThere M x ≡ true → Waits M s x k p →
+      RefusedCall M s (single lent (step x)) k p

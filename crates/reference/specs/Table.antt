@@ -45,5 +45,5 @@ openSingle M s noStep = refused 7 0
 
 -- What the table says of a call on state s.
 unfoldable pub verdict : Machine → State → Call → Verdict
-verdict M s (single lent a) = lentEnough M lent then openSingle M s a
+verdict M s (single lent x) = lentEnough M lent then openSingle M s x
 verdict M s (runOf lent xs b) = lentEnough M lent then allNamed M xs

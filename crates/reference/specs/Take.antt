@@ -12,11 +12,11 @@ use Rattle.reference.specs.Step.{Step, plan, deliver, sameAnswer}
 unfoldable pub isNews : State → ℕ → Answer → Bool
 isNews s i x = not (s .planned i && sameAnswer (s .answer i) x)
 
--- The channels with message a put last on every channel from i, to the carriers k below it.
+-- The channels with message x put last on every channel from i, to the carriers k below it.
 unfoldable pub send : (ℕ → ℕ → List Answer) → ℕ → Answer → ℕ → ℕ → List Answer
 send chan i x k j = elim (eqb j i && ltb i k) [ true ↦ chan k j ++ (x ∷ []) | false ↦ chan k j ]
 
--- Carrier i plans answer a: it is no longer due, has planned, and sends the answer if it is news.
+-- Carrier i plans answer x: it is no longer due, has planned, and sends the answer if it is news.
 unfoldable pub planAs : State → ℕ → Answer → State
 planAs s i x =
     record {

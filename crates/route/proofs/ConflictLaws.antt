@@ -98,11 +98,11 @@ module _ (H : ℕ) (r r′ : List ℕ) where
   unfolding Tells orNext firstKind kinds
   next-tells n free h =
       beat-tells n h (isConflict H r r′ n sameCell) (isConflict H r r′ n changeOfPlaces) (isConflict H r r′ n following) refl refl refl
-  next-tells n (dated t k) h = (omega (arith, h .0), h .1, h .2)
+  next-tells n (dated t kind) h = (omega (arith, h .0), h .1, h .2)
 
   below-tells : (n : ℕ) → Tells n (firstBelow H r r′ n)
   unfolding Tells firstBelow
-  below-tells zero = λ u j l. absurd (omega arith)
+  below-tells zero = λ u kind l. absurd (omega arith)
   below-tells (suc n) = next-tells n (firstBelow H r r′ n) (below-tells n)
 
   test-tells : Tells (suc H) (firstConflict H r r′)
@@ -119,7 +119,7 @@ module _ (H : ℕ) (r r′ : List ℕ) where
   tells-first t kind h =
       record {
         there = test-says t kind (omega (arith, h .0)) (h .1);
-        first = λ u j e c. true-false-absurd (test-holds u j c) (h .2 u j e);
+        first = λ u kind′ e c. true-false-absurd (test-holds u kind′ c) (h .2 u kind′ e);
       }
 
   no-conflict : ConflictFree H r r′ → (t : ℕ) (kind : ConflictKind) → ConflictAt H r r′ t kind → ⊥
@@ -139,25 +139,25 @@ module _ (H : ℕ) (r r′ : List ℕ) where
 
   is-free : ConflictFree H r r′ → (x : ConflictAnswer) → Tells (suc H) x → x ≡ free
   is-free f free h = refl
-  is-free f (dated t k) h = absurd (no-conflict f t k (tells-first t k h .there))
+  is-free f (dated t kind) h = absurd (no-conflict f t kind (tells-first t kind h .there))
 
   -- Two first conflicts are one: neither comes before the other.
   is-first : (t : ℕ) (kind : ConflictKind) → FirstAt H r r′ t kind → (x : ConflictAnswer) → Tells (suc H) x → x ≡ dated t kind
   is-first t kind f free h = absurd (tells-none h t kind (f .there))
-  is-first t kind f (dated u j) h = beats (lt-or-le u t) (lt-or-le t u)
+  is-first t kind f (dated u kind′) h = beats (lt-or-le u t) (lt-or-le t u)
     where
-      g : FirstAt H r r′ u j
-      g = tells-first u j h
+      g : FirstAt H r r′ u kind′
+      g = tells-first u kind′ h
 
-      ranks : u ≡ t → (rankOf j < rankOf kind) ⊎ (rankOf kind ≤ rankOf j) → (rankOf kind < rankOf j) ⊎ (rankOf j ≤ rankOf kind) → dated u j ≡ dated t kind
-      ranks e (inl l) m = absurd (f .first u j (inr (e, l)) (g .there))
+      ranks : u ≡ t → (rankOf kind′ < rankOf kind) ⊎ (rankOf kind ≤ rankOf kind′) → (rankOf kind < rankOf kind′) ⊎ (rankOf kind′ ≤ rankOf kind) → dated u kind′ ≡ dated t kind
+      ranks e (inl l) m = absurd (f .first u kind′ (inr (e, l)) (g .there))
       ranks e (inr l) (inl m) = absurd (g .first t kind (inr (sym e, m)) (f .there))
-      ranks e (inr l) (inr m) = rw (e, rank-tells j kind (omega arith))
+      ranks e (inr l) (inr m) = rw (e, rank-tells kind′ kind (omega arith))
 
-      beats : (u < t) ⊎ (t ≤ u) → (t < u) ⊎ (u ≤ t) → dated u j ≡ dated t kind
-      beats (inl l) m = absurd (f .first u j (inl l) (g .there))
+      beats : (u < t) ⊎ (t ≤ u) → (t < u) ⊎ (u ≤ t) → dated u kind′ ≡ dated t kind
+      beats (inl l) m = absurd (f .first u kind′ (inl l) (g .there))
       beats (inr l) (inl m) = absurd (g .first t kind (inl m) (f .there))
-      beats (inr l) (inr m) = ranks (omega arith) (lt-or-le (rankOf j) (rankOf kind)) (lt-or-le (rankOf kind) (rankOf j))
+      beats (inr l) (inr m) = ranks (omega arith) (lt-or-le (rankOf kind′) (rankOf kind)) (lt-or-le (rankOf kind) (rankOf kind′))
 
   conflict-of : (t : ℕ) (kind : ConflictKind) → ConflictAt H r r′ t kind → Conflict H r r′
   unfolding ConflictAt Conflict
@@ -167,7 +167,7 @@ module _ (H : ℕ) (r r′ : List ℕ) where
 
   any-conflict : (x : ConflictAnswer) → Tells (suc H) x → (x ≡ free → ⊥) → Conflict H r r′
   any-conflict free h n = absurd (n refl)
-  any-conflict (dated t k) h n = conflict-of t k (tells-first t k h .there)
+  any-conflict (dated t kind) h n = conflict-of t kind (tells-first t kind h .there)
 
   free-refutes : ConflictFree H r r′ → Conflict H r r′ → ⊥
   unfolding Conflict
@@ -182,6 +182,6 @@ module _ (H : ℕ) (r r′ : List ℕ) where
   tested =
       record {
         free-exactly = (says-free, λ f. is-free f (firstConflict H r r′) test-tells);
-        first-exactly = λ t k. (λ e. tells-first t k (rw e at test-tells), λ f. is-first t k f (firstConflict H r r′) test-tells);
+        first-exactly = λ t kind. (λ e. tells-first t kind (rw e at test-tells), λ f. is-first t kind f (firstConflict H r r′) test-tells);
         conflict-exactly = (any-conflict (firstConflict H r r′) test-tells, λ c e. free-refutes (says-free e) c);
       }

@@ -30,7 +30,7 @@ leads-same {H} {φ} {ψ} l s =
       way = way-same (l .way) s;
       held = held-same (l .held) s;
       least = l .least;
-      first = λ p w e h. carry p (l .first p w e h);
+      first = λ r w e h. carry r (l .first r w e h);
     }
   where
     carry : (r : ℕ → ℕ) → Same H r φ ⊎ Ahead H φ r → Same H r ψ ⊎ Ahead H ψ r

@@ -28,8 +28,8 @@ walk-leads cells dock H ok c ins reached =
     record {
       way = (walked cells dock H ok c reached) .way;
       held = (walked cells dock H ok c reached) .held;
-      least = λ p b w e h. rw e at (val-least cells dock H ok p b ins w h);
-      first = λ p w e h. walk-first cells dock H ok c p ins w e h reached;
+      least = λ r b w e h. rw e at (val-least cells dock H ok r b ins w h);
+      first = λ r w e h. walk-first cells dock H ok c r ins w e h reached;
     }
 
 module _ (task : Task) (vs : List View) where

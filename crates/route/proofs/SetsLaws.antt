@@ -149,5 +149,5 @@ module _ (ok : Rule) (start : ℕ) (dock : ℕ → Bool) (H : ℕ) where
             held = λ i l h. stays i l h ∙ sym (stays H (least .within) (omega arith));
           };
           least = no-earlier;
-          first = λ p w e h. through p h (compare p w e h a (omega arith));
+          first = λ r w e h. through r h (compare r w e h a (omega arith));
         }

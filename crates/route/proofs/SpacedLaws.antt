@@ -1,5 +1,5 @@
--- Two lists of numbers are free of all conflicts through H exactly if they are spaced, jumps included. If a is at t + 1 where b is at t:
--- it was there already, which is one cell at t; or it entered, and b stayed, which is one cell at t + 1, or left, which is following.
+-- Two lists of numbers are free of all conflicts through H exactly if they are spaced, jumps included. If r is at t + 1 where r′ is at t:
+-- it was there already, which is one cell at t; or it entered, and r′ stayed, which is one cell at t + 1, or left, which is following.
 -- The other way round likewise; and a change of places is both.
 use Prim.Native.Nat.{ℕ, suc, _≤_, _<_}
 use native.Mathlib.Omega.{arith}

@@ -176,8 +176,8 @@ module _ (g : SearchGrid) (table : List ℕ) (start count : ℕ) (cells : List �
         B : Sets
         B = inSet g after
 
-        x : ℕ → ℕ
-        x t = pathOf g after start n t
+        φ : ℕ → ℕ
+        φ t = pathOf g after start n t
 
         reaches : Reaches ok (among cells count) (g .horizon) F n
         reaches = arrives n early (earliest .passes (omega arith))
@@ -216,31 +216,31 @@ module _ (g : SearchGrid) (table : List ℕ) (start count : ℕ) (cells : List �
             leads t c h (d, i, m) = (d, move t c d (omega arith) (near-turn (g .width) d c m) (back-free (suc t) d h i), i)
 
         -- The walk takes the smallest cell that leads on, and stays once it has arrived.
-        path-next : (t : ℕ) → t < n → x (suc t) ≡ nextOf g after (suc t) (x t)
-        unfolding x
+        path-next : (t : ℕ) → t < n → φ (suc t) ≡ nextOf g after (suc t) (φ t)
+        unfolding φ
         path-next t h = rw add-one at (sym (walk-next g after start n t h))
 
-        path-stays : (t : ℕ) → n ≤ t → x (suc t) ≡ x t
-        unfolding x
+        path-stays : (t : ℕ) → n ≤ t → φ (suc t) ≡ φ t
+        unfolding φ
         path-stays t h = rw add-one at (walk-stays g after start n t h)
 
-        path-takes : (t d : ℕ) → t < n → ok t (x t) d ≡ true → inSet g after (suc t) d ≡ true →
-            (ok t (x t) (x (suc t)) ≡ true) × (inSet g after (suc t) (x (suc t)) ≡ true) × (x (suc t) ≤ d)
+        path-takes : (t d : ℕ) → t < n → ok t (φ t) d ≡ true → inSet g after (suc t) d ≡ true →
+            (ok t (φ t) (φ (suc t)) ≡ true) × (inSet g after (suc t) (φ (suc t)) ≡ true) × (φ (suc t) ≤ d)
         unfolding nextOf
         path-takes t d h m i =
-            let best = first-best (g .width) (x t) thin (inSet g after (suc t)) d i (move-near t (x t) d m) in
-            rw (path-next t h) (move t (x t) _ (omega arith) (best .0) (back-free (suc t) _ h (best .1)), best .1, best .2)
+            let best = first-best (g .width) (φ t) thin (inSet g after (suc t)) d i (move-near t (φ t) d m) in
+            rw (path-next t h) (move t (φ t) _ (omega arith) (best .0) (back-free (suc t) _ h (best .1)), best .1, best .2)
 
         r : List ℕ
-        r = filled (replicate 64 0) x (g .horizon + 1)
+        r = filled (replicate 64 0) φ (g .horizon + 1)
 
-        cell-path : (t : ℕ) → t ≤ g .horizon → cellAt r t ≡ x t
+        cell-path : (t : ℕ) → t ≤ g .horizon → cellAt r t ≡ φ t
         unfolding cellAt r
         cell-path t h =
-            filled-in (replicate 64 0) x (g .horizon + 1) t (omega (arith, length-replicate {A = ℕ} 64 0)) (omega arith)
+            filled-in (replicate 64 0) φ (g .horizon + 1) t (omega (arith, length-replicate {A = ℕ} 64 0)) (omega arith)
 
-        path-first : x 0 ≡ start
-        unfolding x pathOf
+        path-first : φ 0 ≡ start
+        unfolding φ pathOf
         path-first = refl
 
         greedy : Greedy ok start (g .horizon) n B (cellAt r)
@@ -265,12 +265,12 @@ module _ (g : SearchGrid) (table : List ℕ) (start count : ℕ) (cells : List �
               };
               backward = backward;
               greedy = greedy;
-              long = length-filled (replicate 64 0) x (g .horizon + 1) ∙ length-replicate {A = ℕ} 64 0;
-              blank = λ t h. filled-out (replicate 64 0) x (g .horizon + 1) t (omega arith) ∙ zeros-at 64 t;
+              long = length-filled (replicate 64 0) φ (g .horizon + 1) ∙ length-replicate {A = ℕ} 64 0;
+              blank = λ t h. filled-out (replicate 64 0) φ (g .horizon + 1) t (omega arith) ∙ zeros-at 64 t;
             }
 
         -- The walk is the best route.
         pub walk-best : best (taskIn g start (among cells count) free) vs
             ≡ route (filled (replicate 64 0) (pathOf g after start n) (g .horizon + 1))
-        unfolding r x
+        unfolding r φ
         walk-best = found-best task vs short F B n r found

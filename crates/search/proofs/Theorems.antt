@@ -30,7 +30,7 @@ use Rattle.search.proofs.SeenLaws.{kept-off, unheard-out}
 answered-says : (x′ : Verdict) (x y : Answer) → (x′ gives x) ≡ answered y → (x′ ≡ passed) × (x ≡ y)
 unfolding _gives_
 answered-says passed x y e = (refl, cc)
-answered-says (refused n q) x y e = let z : _≡_ {A = ℕ} 0 1 = cc in absurd (omega arith)
+answered-says (refused k p) x y e = let z : _≡_ {A = ℕ} 0 1 = cc in absurd (omega arith)
 
 module _ (f : Floor) (ws : List ℕ) (i : ℕ) (m : List ℕ) where
   granted-of : (x : Answer) → searchOf f ws i m ≡ answered x → Granted f ws i m

@@ -17,10 +17,10 @@ use Rattle.laws.specs.Memory.{part}
 use Rattle.laws.proofs.PartLaws.{part-byte, part-reach, part-is, part-split, part-blocks}
 use Rattle.sheet.proofs.FieldLaws.{field-text, text-field}
 
--- The m numbers from a column on.
+-- The k numbers from a column on.
 unfoldable pub numbersFrom : List ℕ → ℕ → ℕ → List ℕ
 numbersFrom text at zero = []
-numbersFrom text at (suc m) = numberAt text at ∷ numbersFrom text (at + 5) m
+numbersFrom text at (suc k) = numberAt text at ∷ numbersFrom text (at + 5) k
 
 module _ (text : List ℕ) where
   -- A newline in good form is the byte 10.
@@ -72,13 +72,13 @@ module _ (text : List ℕ) where
 -- Numbers that a field can write.
 abbrev pub Small : List ℕ → Type 0
 Small [] = Unit {0}
-Small (v ∷ vs) = (v < 100000) × Small vs
+Small (x ∷ xs) = (x < 100000) × Small xs
 
 -- A line has five bytes a field and one more.
 pub line-length : (xs : List ℕ) → length (lineOf xs) ≡ 5 * length xs + 1
 unfolding lineOf
 line-length [] = refl
-line-length (v ∷ xs) = rw (length-append, field-length, line-length xs) (omega arith)
+line-length (x ∷ xs) = rw (length-append, field-length, line-length xs) (omega arith)
 
 -- What the text of numbers is: fields in good form, a newline behind them, and those numbers.
 pub record LineTells (text : List ℕ) (at : ℕ) (xs : List ℕ) : Type 0 where
@@ -110,11 +110,11 @@ unfolding lineOf numbersFrom
 text-fields text [] at small e =
     let z : at + 5 * 0 ≡ at = omega arith in
     record { fields = λ i l. absurd (omega arith); newline = rw z (text-newline text at e); numbers = refl }
-text-fields text (v ∷ xs) at small e =
+text-fields text (x ∷ xs) at small e =
     let w : 5 * suc (length xs) + 1 ≡ 5 + (5 * length xs + 1) = omega arith in
-    let d = part-blocks text (fieldOf v) (lineOf xs) at 5 (5 * length xs + 1) (field-length v) (line-length xs) (omega arith)
+    let d = part-blocks text (fieldOf x) (lineOf xs) at 5 (5 * length xs + 1) (field-length x) (line-length xs) (omega arith)
     (rw w at e) in
-    line-cons text xs v at (small .0) (d .0) (text-fields text xs (at + 5) (small .1) (d .1))
+    line-cons text xs x at (small .0) (d .0) (text-fields text xs (at + 5) (small .1) (d .1))
 
 -- The text of numbers up to 99999 is a line in good form, of those numbers.
 pub text-line : (text xs : List ℕ) (at : ℕ) → Small xs → part text at (5 * length xs + 1) ≡ lineOf xs

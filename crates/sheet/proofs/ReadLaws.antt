@@ -34,9 +34,9 @@ unfolding writeSheet
 write-refused f ws old v e = (v, sym (when-refused _ (refuses v e)))
 
 -- A refusal with the fresh floor is the answer of checks that refuse.
-pub turned-back : {x y : Checked} {f′ : Floor} {k p : ℕ} (z : Verdict) (f : Floor) → verdictOf x ≡ z → z ≡ refused k p
+pub refused-reading : {x y : Checked} {f′ : Floor} {k p : ℕ} (z : Verdict) (f : Floor) → verdictOf x ≡ z → z ≡ refused k p
     → (y ≡ x) × (f′ ≡ freshFloor) → (verdictOf y ≡ z) × (f′ ≡ whenPassed z f freshFloor)
-turned-back z f told bad made = (ap verdictOf (made .0) ∙ told, made .1 ∙ sym (when-refused f bad))
+refused-reading z f told bad made = (ap verdictOf (made .0) ∙ told, made .1 ∙ sym (when-refused f bad))
 
 -- Where 3 to 17 pass too, what was read is the floor that the text says.
 pub own-floor : (text : List ℕ) (f : Floor) → f ≡ whenPassed (formOf text) (floorAt text) freshFloor → sheetVerdict text ≡ passed →

@@ -20,7 +20,7 @@ module _ (text : List ℕ) where
   slots-append : (xs ys : List Slot) → slotsForm text (xs ++ ys) ≡ (slotsForm text xs then slotsForm text ys)
   unfolding slotsForm _then_
   slots-append [] ys = refl
-  slots-append (s ∷ xs) ys = rw (slots-append xs ys) (sym (then-assoc (slotForm text s) (slotsForm text xs) (slotsForm text ys)))
+  slots-append (x ∷ xs) ys = rw (slots-append xs ys) (sym (then-assoc (slotForm text x) (slotsForm text xs) (slotsForm text ys)))
 
   -- Slots with one more behind them.
   slots-one-more : (xs : List Slot) (x : Slot) → slotsForm text (xs ++ (x ∷ [])) ≡ (slotsForm text xs then slotForm text x)

@@ -28,7 +28,7 @@ slotForm text (finish at) = endForm text at
 
 unfoldable pub slotsForm : List ℕ → List Slot → Verdict
 slotsForm text [] = passed
-slotsForm text (s ∷ ss) = slotForm text s then slotsForm text ss
+slotsForm text (x ∷ xs) = slotForm text x then slotsForm text xs
 
 module _ (text : List ℕ) where
   -- A field in good form, and one whose number is 1 to 4.
@@ -136,23 +136,23 @@ module _ (text : List ℕ) where
   pub slots-fine : (xs : List Slot) → slotsForm text xs ≡ passed → AllFine text xs
   unfolding slotsForm
   slots-fine [] h = none-left
-  slots-fine (s ∷ xs) h = let a = then-both _ _ h in one-more (slot-fine s (a .0)) (slots-fine xs (a .1))
+  slots-fine (x ∷ xs) h = let a = then-both _ _ h in one-more (slot-fine x (a .0)) (slots-fine xs (a .1))
 
   pub fine-slots : (xs : List Slot) → AllFine text xs → slotsForm text xs ≡ passed
   unfolding slotsForm
   fine-slots [] h = refl
-  fine-slots (s ∷ xs) (one-more a b) = then-passed (fine-slot s a) ∙ fine-slots xs b
+  fine-slots (x ∷ xs) (one-more a b) = then-passed (fine-slot x a) ∙ fine-slots xs b
 
   -- Slots are refused exactly at the first that is broken.
   pub slots-broken : (xs : List Slot) (k p : ℕ) → slotsForm text xs ≡ refused k p → (k ≡ 1) × FirstBroken text xs p
   unfolding slotsForm
   slots-broken [] k p h = absurd (refused-not-passed (sym h))
-  slots-broken (s ∷ xs) k p h =
+  slots-broken (x ∷ xs) k p h =
       refused-by h
-      (λ r. let d = slot-broken s k p r in (d .0, here (d .1)))
-      (λ a r. let d = slots-broken xs k p r in (d .0, later (slot-fine s a) (d .1)))
+      (λ r. let d = slot-broken x k p r in (d .0, here (d .1)))
+      (λ a r. let d = slots-broken xs k p r in (d .0, later (slot-fine x a) (d .1)))
 
   pub broken-slots : (xs : List Slot) (p : ℕ) → FirstBroken text xs p → slotsForm text xs ≡ refused 1 p
   unfolding slotsForm
-  broken-slots (s ∷ xs) p (here b) = then-refused _ (broken-slot s p b)
-  broken-slots (s ∷ xs) p (later a b) = then-passed (fine-slot s a) ∙ broken-slots xs p b
+  broken-slots (x ∷ xs) p (here b) = then-refused _ (broken-slot x p b)
+  broken-slots (x ∷ xs) p (later a b) = then-passed (fine-slot x a) ∙ broken-slots xs p b

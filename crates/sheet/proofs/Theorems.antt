@@ -119,8 +119,8 @@ one-cell w start φ d h = rw h
 goal-place : (xs : List ℕ) (i : ℕ) → getD (oneEach xs) (4 * i) 0 ≡ getD xs i 0
 unfolding oneEach
 goal-place [] i = refl
-goal-place (g ∷ xs) zero = refl
-goal-place (g ∷ xs) (suc i) =
+goal-place (d ∷ xs) zero = refl
+goal-place (d ∷ xs) (suc i) =
     let e : 4 * suc i ≡ suc (suc (suc (suc (4 * i)))) = omega arith in
     rw e (goal-place xs i)
 

@@ -54,10 +54,10 @@ pub data FirstBroken (text : List ℕ) : List Slot → ℕ → Type 0 where
   here : {x : Slot} {xs : List Slot} {p : ℕ} → Broken text x p → FirstBroken text (x ∷ xs) p
   later : {x : Slot} {xs : List Slot} {p : ℕ} → Fine text x → FirstBroken text xs p → FirstBroken text (x ∷ xs) p
 
--- The slots of m fields, of a line, of a carrier's line, of k lines, of line 1 and of what follows it, in their order.
+-- The slots of k fields, of a line, of a carrier's line, of k lines, of line 1 and of what follows it, in their order.
 unfoldable pub fieldSlots : ℕ → ℕ → List Slot
 fieldSlots at zero = []
-fieldSlots at (suc m) = fieldSlots at m ++ (field (at + 5 * m) ∷ [])
+fieldSlots at (suc k) = fieldSlots at k ++ (field (at + 5 * k) ∷ [])
 
 unfoldable pub lineSlots : ℕ → ℕ → List Slot
 lineSlots at k = fieldSlots at k ++ (newline (at + 5 * k) ∷ [])

@@ -10,7 +10,7 @@ use Rattle.fields.specs.Form.{countedLength}
 -- A line: its fields and one newline.
 unfoldable pub lineOf : List ℕ → List ℕ
 lineOf [] = 10 ∷ []
-lineOf (v ∷ vs) = fieldOf v ++ lineOf vs
+lineOf (x ∷ xs) = fieldOf x ++ lineOf xs
 
 -- Lines 0 to k − 1, one after the other.
 unfoldable pub linesOf : (ℕ → List ℕ) → ℕ → List ℕ

@@ -20,8 +20,8 @@ module _ (m : List ℕ) (at : ℕ) where
   same-more cells t e h =
       record {
         long = h .long;
-        copied = λ q k.
-            ⊎-elim (λ (same : q ≡ t). rw same (sym e)) (λ (b : q < t). h .copied q b) (eq-or-lt-of-le (omega arith));
+        copied = λ p k.
+            ⊎-elim (λ (same : p ≡ t). rw same (sym e)) (λ (b : p < t). h .copied p b) (eq-or-lt-of-le (omega arith));
       }
 
   pub same-end : (cells : List ℕ) (t : ℕ) → 64 ≤ t → at + 64 ≤ length m → CellsCopied m at cells t → true ≡ sameCells (part m at 64) cells

@@ -36,9 +36,9 @@ part-best : (f : Floor) (ws rows m : List ℕ) (i a : ℕ) → FreeRows f ws row
     a + 65 * i ≤ length m → best (taskOfRows f rows (i + 1)) (seen f (viewsOf (part m a (65 * i)) (i + 1))) ≡ bestIn (machineOf f ws) m i
 unfolding bestIn machineOf respondOf viewsIn
 part-best f ws rows m i a free e l =
-    let b = part m a (65 * i) in
-    free .same (i + 1) (seen f (viewsOf b (i + 1)))
-    ∙ ap (λ (vs : List View). best (taskOf f ws (i + 1)) (seen f vs)) (views-above b i ∙ shown-below b view i same)
+    let xs = part m a (65 * i) in
+    free .same (i + 1) (seen f (viewsOf xs (i + 1)))
+    ∙ ap (λ (vs : List View). best (taskOf f ws (i + 1)) (seen f vs)) (views-above xs i ∙ shown-below xs view i same)
   where
     view : ℕ → View
     view j = recordAt m (viewPlace (f .carriers) i j)

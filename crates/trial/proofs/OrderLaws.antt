@@ -102,5 +102,5 @@ module _ (n : ℕ) where
           (λ l k. same, omega (arith, power-most (suc n) (omega arith)))
       go false w h = let z : _≡_ {A = ℕ} 0 1 = cc in absurd (omega arith)
 
-  pub most-refused : (a p : ℕ) → refusal a p ≡ mostSteps n → (1 ≤ n → n ≤ 8 → 0 ≡ ceiling n) × (0 ≤ 512)
-  most-refused a p e = ((λ l h. let z = e ∙ most-within l h in cc), omega arith)
+  pub most-refused : (k p : ℕ) → refusal k p ≡ mostSteps n → (1 ≤ n → n ≤ 8 → 0 ≡ ceiling n) × (0 ≤ 512)
+  most-refused k p e = ((λ l h. let z = e ∙ most-within l h in cc), omega arith)

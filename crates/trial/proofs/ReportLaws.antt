@@ -10,10 +10,10 @@ use Rattle.trial.specs.Report.{numberOf, answerNumber, reportNumbers}
 pub numbers-length : (xs : List Entry) → length (reportNumbers xs) ≡ 2 * length xs
 unfolding reportNumbers
 numbers-length [] = refl
-numbers-length (e ∷ xs) = omega (arith, numbers-length xs)
+numbers-length (x ∷ xs) = omega (arith, numbers-length xs)
 
 pub numbers-more : (xs : List Entry) (x : Entry) →
     reportNumbers (xs ++ (x ∷ [])) ≡ reportNumbers xs ++ (numberOf (x .taken) ∷ (answerNumber (x .answer) ∷ []))
 unfolding reportNumbers
 numbers-more [] x = refl
-numbers-more (d ∷ xs) x = ap (λ (xs : List ℕ). numberOf (d .taken) ∷ (answerNumber (d .answer) ∷ xs)) (numbers-more xs x)
+numbers-more (y ∷ xs) x = ap (λ (xs : List ℕ). numberOf (y .taken) ∷ (answerNumber (y .answer) ∷ xs)) (numbers-more xs x)

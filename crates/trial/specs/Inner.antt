@@ -31,7 +31,7 @@ unfoldable pub chosenIn : Order → Floor → List ℕ → ℕ → ℕ
 chosenIn o f m kept =
     getD (passing (opensIn f m) (places (f .carriers))) (turnIn o f m kept % openCount f m (places (f .carriers))) 0
 
--- One more step of a trial in order o, at place p: what is remembered, the memory and the report after it.
+-- One more step of a trial in order o, at the place that it chooses: what is remembered, the memory and the report after it.
 pub record Advanced (o : Order) (f : Floor) (ws m report : List ℕ) (kept t next : ℕ) (m′ report′ : List ℕ) : Type 0 where
   pub remembers : next ≡ remembered o kept (chosenIn o f m kept)
   pub stores : m′ ≡ afterIn (machineOf f ws) m (stepAt (f .carriers) (chosenIn o f m kept))

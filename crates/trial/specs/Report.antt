@@ -20,7 +20,7 @@ answerNumber delivered = 2
 -- The numbers of a report.
 unfoldable pub reportNumbers : List Entry → List ℕ
 reportNumbers [] = []
-reportNumbers (e ∷ es) = numberOf (e .taken) ∷ answerNumber (e .answer) ∷ reportNumbers es
+reportNumbers (x ∷ xs) = numberOf (x .taken) ∷ answerNumber (x .answer) ∷ reportNumbers xs
 
 -- The needed length of a report: two numbers for each step of the ceiling.
 unfoldable pub reportSize : ℕ → ℕ

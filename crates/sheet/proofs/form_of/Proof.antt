@@ -5,7 +5,7 @@ use Rattle.laws.proofs.VerdictLaws.{then-both, then-refused, when-passed}
 use Rattle.fields.proofs.ReachedLaws.{reaches, line-refused}
 use Rattle.sheet.proofs.FormLaws.{line-reach}
 use Rattle.sheet.proofs.ReachLaws.{handed-on, behind-head}
-use Rattle.sheet.proofs.ReadLaws.{turned-back}
+use Rattle.sheet.proofs.ReadLaws.{refused-reading}
 use Rattle.sheet.specs.Form.{restForm}
 use Rattle.sheet.specs.Read.{formOf}
 use mathlib.Core.Path.{_∙_, sym}
@@ -21,7 +21,7 @@ returns c =
     let after-enum-told2 : tie.After-enum-told2 = search in
     let line = after-line-form .line-form .ensures in
     let no = after-enum-told2 .enum-told2 .given .1 in
-    turned-back _ _ (handed-on _ _ _ line no (c .before .checked .ensures)) (then-refused _ (line-refused _ _ line no)) (c .refused .ensures)
+    refused-reading _ _ (handed-on _ _ _ line no (c .before .checked .ensures)) (then-refused _ (line-refused _ _ line no)) (c .refused .ensures)
 
 head-requires : tie.Need-head-requires
 head-requires c κs =
@@ -38,7 +38,7 @@ returns-2 c =
     let no = c .before .enum-told4 .given .1 in
     let told = behind-head _ _ (after-line-form .line-form .ensures) (after-enum-told .enum-told .given .1) (after-head .head .ensures)
     (ends-at _ (after-limits .limits .ensures) no) in
-    turned-back _ _ told (refuses told no) (c .refused2 .ensures)
+    refused-reading _ _ told (refuses told no) (c .refused2 .ensures)
 
 rest-form-requires : tie.Need-rest-form-requires
 rest-form-requires c κs =
@@ -54,7 +54,7 @@ returns-3 c =
     let after-enum-told : tie.After-enum-told = search in
     let told = behind-head _ _ (after-line-form .line-form .ensures) (after-enum-told .enum-told .given .1) (after-head .head .ensures)
     (then-next (after-limits .limits .ensures) (after-enum-told3 .enum-told3 .given .1) (after-rest-form .rest-form .ensures)) in
-    turned-back _ _ told (refuses told (c .before .enum-told6 .given .1)) (c .refused3 .ensures)
+    refused-reading _ _ told (refuses told (c .before .enum-told6 .given .1)) (c .refused3 .ensures)
 
 floor-requires : tie.Need-floor-requires
 unfolding restForm

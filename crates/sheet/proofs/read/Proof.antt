@@ -1,6 +1,6 @@
 -- `sheet::read` meets its contract: a refusal leaves all as it was; a pass hands back the floor and stores its walls.
 use Rattle.laws.proofs.VerdictLaws.{when-passed, when-refused}
-use Rattle.sheet.proofs.ReadLaws.{read-tells, own-floor, own-then-length, turned-back}
+use Rattle.sheet.proofs.ReadLaws.{read-tells, own-floor, own-then-length, refused-reading}
 use Rattle.sheet.specs.Read.{readVerdict, readFloor, readWalls}
 use Rattle.floor.proofs.AnswersLaws.{refuses, passes, ends-at}
 use Rattle.floor.specs.Answers.{verdictOf}
@@ -17,7 +17,7 @@ returns c =
     let after-read-own : tie.After-read-own = search in
     let told = ends-at _ (after-read-own .read-own .ensures .0) (c .before .enum-told2 .given .1) in
     let no = refuses told (c .before .enum-told2 .given .1) in
-    let back = turned-back _ _ told no (c .refused .ensures) in
+    let back = refused-reading _ _ told no (c .refused .ensures) in
     (back .0, (back .1, sym (when-refused _ no)))
 
 returns-2 : tie.Need-returns-2
@@ -30,7 +30,7 @@ returns-2 c =
     let yes = after-enum-told .enum-told .given .1 in
     let told = own-then-length _ _ _ _ (own .0) (own .1) yes (after-check-length .check-length .ensures) in
     let no = refuses told (c .before .enum-told4 .given .1) in
-    let back = turned-back _ _ told no (c .refused2 .ensures) in
+    let back = refused-reading _ _ told no (c .refused2 .ensures) in
     (back .0, (back .1, sym (when-refused _ no)))
 
 walls-requires : tie.Need-walls-requires

@@ -40,7 +40,7 @@ add-at-2 c =
     let start : tie.Start Inv-loop μ-loop = search in
     let l = in-loop .loop-test .taken in
     let few = start .pre .1 .0 (at-loop .loop .i) l .1 in
-    let high = carriers-high (start .args .f) (at-loop .loop .i) (λ e b. start .pre .1 .0 e (omega (arith, b, l)) .1) in
+    let high = carriers-high (start .args .f) (at-loop .loop .i) (λ j b. start .pre .1 .0 j (omega (arith, b, l)) .1) in
     record { fits = omega (arith, c .dock-count .ensures .0, few, high, at-loop .loop .inv .1 .0, l, start .pre .0 .0) }
 
 loop-again : tie.Need-loop-again Inv-loop μ-loop

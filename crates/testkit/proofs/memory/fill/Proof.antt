@@ -1,4 +1,4 @@
--- `testkit::memory::fill` is safe and ends: writes v at each place in turn.
+-- `testkit::memory::fill` is safe and ends: writes x at each place in turn.
 use Prim.Native.Nat.{_-_}
 use mathlib.Core.Path.{_≡_}
 use lib.ListN.{length}
