@@ -29,7 +29,8 @@ module _ (respond : List View → Answer) (xs : List Answer) where
   leftPart zero = λ j. true
   leftPart (suc k) = ifNone (respond (viewsOfPart (minus (leftPart k) k) xs)) (minus (leftPart k) k) (leftPart k)
 
-  by-answer : (x : Answer) (part part′ : Part) → ifNone x (viewsOfPart part xs) (viewsOfPart part′ xs) ≡ viewsOfPart (ifNone x part part′) xs
+  by-answer : (x : Answer) (part part′ : Part) →
+      ifNone x (viewsOfPart part xs) (viewsOfPart part′ xs) ≡ viewsOfPart (ifNone x part part′) xs
   unfolding ifNone
   by-answer none part part′ = refl
   by-answer (route r) part part′ = refl

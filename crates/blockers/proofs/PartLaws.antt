@@ -29,7 +29,8 @@ all-heard [] = refl
 all-heard (x ∷ xs) = ap (λ (vs : List View). heard x ∷ vs) (all-heard xs)
 
 -- Parts that agree in the carriers that are there have the same views.
-pub views-same : (part part′ : Part) (xs : List Answer) → ((j : ℕ) → j < length xs → part j ≡ part′ j) → viewsOfPart part xs ≡ viewsOfPart part′ xs
+pub views-same : (part part′ : Part) (xs : List Answer) → ((j : ℕ) → j < length xs → part j ≡ part′ j) →
+    viewsOfPart part xs ≡ viewsOfPart part′ xs
 unfolding viewsOfPart
 views-same part part′ [] h = refl
 views-same part part′ (x ∷ xs) h =
@@ -56,7 +57,8 @@ minus-less part (suc j) zero e = e
 minus-less part (suc j) (suc k) e = minus-less (tailPart part) j k e
 
 -- A part of part′ that lacks carrier j is a part of part′ without j.
-pub part-minus : (part part′ : Part) (j : ℕ) → ((k : ℕ) → part k ≡ true → part′ k ≡ true) → part j ≡ false → (k : ℕ) → part k ≡ true → minus part′ j k ≡ true
+pub part-minus : (part part′ : Part) (j : ℕ) → ((k : ℕ) → part k ≡ true → part′ k ≡ true) → part j ≡ false → (k : ℕ) → part k ≡ true →
+    minus part′ j k ≡ true
 unfolding minus
 part-minus part part′ zero h lacks zero e = true-false-absurd e lacks
 part-minus part part′ zero h lacks (suc k) e = h (suc k) e
@@ -88,7 +90,8 @@ from-part f i part part′ (x ∷ xs) h v m =
     ⊎-elim (λ (s : ShowsNoRoute v). inl s) (λ (e′ : v ≡ seenAs f i (cond (part′ zero) (heard x) unheard)). inr (List·Memᴰ·head e′))
     (head-view f i v x (part zero) (part′ zero) (h zero) e))
     (λ (m′ : List·Memᴰ v (seenFrom f (suc i) (viewsOfPart (tailPart part) xs))).
-    ⊎-elim (λ (s : ShowsNoRoute v). inl s) (λ (k : List·Memᴰ v (seenFrom f (suc i) (viewsOfPart (tailPart part′) xs))). inr (List·Memᴰ·tail k))
+    ⊎-elim (λ (s : ShowsNoRoute v). inl s)
+    (λ (k : List·Memᴰ v (seenFrom f (suc i) (viewsOfPart (tailPart part′) xs))). inr (List·Memᴰ·tail k))
     (from-part f (suc i) (tailPart part) (tailPart part′) xs (λ j. h (suc j)) v m′))
     (List·Memᴰ·cases-cons m)
 
@@ -104,7 +107,8 @@ unfolding seenFrom viewsOfPart seenAs ShowsNoRoute
 from-nobody f i part [] h v m = absurd (List·Memᴰ·not-nil m)
 from-nobody f i part (x ∷ xs) h v m =
     ⊎-elim (λ (e : v ≡ seenAs f i (cond (part zero) (heard x) unheard)). inl (rw (h zero) at e))
-    (λ (m′ : List·Memᴰ v (seenFrom f (suc i) (viewsOfPart (tailPart part) xs))). from-nobody f (suc i) (tailPart part) xs (λ j. h (suc j)) v m′)
+    (λ (m′ : List·Memᴰ v (seenFrom f (suc i) (viewsOfPart (tailPart part) xs))). from-nobody f (suc i) (tailPart part) xs
+    (λ j. h (suc j)) v m′)
     (List·Memᴰ·cases-cons m)
 
 pub seen-nobody : (f : Floor) (part : Part) (xs : List Answer) → ((j : ℕ) → part j ≡ false) → (v : View) →

@@ -110,7 +110,8 @@ module _ (f : Floor) (rows : List ℕ) (i : ℕ) (m : List ℕ) (j : ℕ) (l : j
 
 -- One more carrier tried.
 module _ (respond : List View → Answer) (vs′ : List View) where
-  pub left-more : (j : ℕ) (vs″ vs : List View) → vs″ ≡ leftAfter respond j vs′ → vs ≡ tried respond j vs″ → vs ≡ leftAfter respond (j + 1) vs′
+  pub left-more : (j : ℕ) (vs″ vs : List View) → vs″ ≡ leftAfter respond j vs′ → vs ≡ tried respond j vs″ →
+      vs ≡ leftAfter respond (j + 1) vs′
   unfolding leftAfter
   left-more j vs″ vs e h = rw add-one (h ∙ ap (tried respond j) e)
 

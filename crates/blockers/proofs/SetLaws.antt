@@ -42,14 +42,16 @@ pub set-digit : (part : Part) (xs : List Answer) (j : ℕ) → j < length xs →
 unfolding viewsOfPart
 set-digit part [] j l = absurd (omega arith)
 set-digit part (x ∷ xs) zero l = first-digit (part 0) x (viewsOfPart (λ j. part (suc j)) xs)
-set-digit part (x ∷ xs) (suc j) l = next-digit (part 0) x (viewsOfPart (λ i. part (suc i)) xs) j ∙ set-digit (λ i. part (suc i)) xs j (omega arith)
+set-digit part (x ∷ xs) (suc j) l =
+    next-digit (part 0) x (viewsOfPart (λ i. part (suc i)) xs) j ∙ set-digit (λ i. part (suc i)) xs j (omega arith)
 
 -- There are no digits past the carriers.
 pub set-beyond : (part : Part) (xs : List Answer) (j : ℕ) → length xs ≤ j → digit (setOf (viewsOfPart part xs)) j ≡ false
 unfolding viewsOfPart setOf
 set-beyond part [] j l = digit-zero j
 set-beyond part (x ∷ xs) zero l = absurd (omega arith)
-set-beyond part (x ∷ xs) (suc j) l = next-digit (part 0) x (viewsOfPart (λ i. part (suc i)) xs) j ∙ set-beyond (λ i. part (suc i)) xs j (omega arith)
+set-beyond part (x ∷ xs) (suc j) l =
+    next-digit (part 0) x (viewsOfPart (λ i. part (suc i)) xs) j ∙ set-beyond (λ i. part (suc i)) xs j (omega arith)
 
 -- The set of nobody.
 pub set-nobody : (part : Part) (xs : List Answer) → ((j : ℕ) → j < length xs → part j ≡ false) → setOf (viewsOfPart part xs) ≡ 0

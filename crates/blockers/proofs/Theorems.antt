@@ -112,7 +112,8 @@ module _ (f : Floor) (ws : List ℕ) (i : ℕ) (s : Stranded f ws i) where
       let left = minus (leftPart respond xs k) k in (
         needed .0,
         fewer-views task (seen f (viewsOfPart left xs)) (seen f (viewsOfPart part xs)) (needed .0)
-            (seen-part f part left xs (part-minus part (leftPart respond xs k) k (λ j t. before j (only-above j (sub j t)) (sub j t) low) lacks))
+            (seen-part f part left xs (part-minus part (leftPart respond xs k) k
+            (λ j t. before j (only-above j (sub j t)) (sub j t) low) lacks))
             (best-admissible task (seen f (viewsOfPart left xs)) (needed .0) short (needed .1)),
       )
     where

@@ -35,7 +35,8 @@ use Rattle.demands.proofs.ListLaws.{ListSame, list-same}
 -- Single calls on the reference machine that are lent enough.
 module _ (M : Machine) (lent : ℕ) (enough : M .needed ≤ lent) where
   -- Two steps that stand apart, as single calls: both are taken, with the answers that they have in s.
-  pair-replies : (s : State) (one other : Step) → Apart M s one other → replies M s (single lent (step one) ∷ single lent (step other) ∷ []) ≡
+  pair-replies : (s : State) (one other : Step) → Apart M s one other →
+      replies M s (single lent (step one) ∷ single lent (step other) ∷ []) ≡
       value (stepped (stepAnswer M s one)) ∷ value (stepped (stepAnswer M s other)) ∷ []
   unfolding replies
   pair-replies s one other h =
@@ -54,7 +55,8 @@ module _ (M : Machine) (lent : ℕ) (enough : M .needed ≤ lent) where
       (single-after M lent enough (afterStep M s one) other (theorems .meetings .still-open M s one other h .0))
 
   -- Steps that are all open when they are taken, as single calls.
-  singles-after : (s : State) (steps : List Step) → Faithful M s (map took steps) → after M s (map (single lent) (map step steps)) ≡ afterSteps M s steps
+  singles-after : (s : State) (steps : List Step) → Faithful M s (map took steps) →
+      after M s (map (single lent) (map step steps)) ≡ afterSteps M s steps
   unfolding after afterSteps Faithful
   singles-after s [] h = refl
   singles-after s (x ∷ steps) h =
@@ -89,7 +91,8 @@ module _ (M : Machine) (s : State) (lent : ℕ) (xs ys : List Asked) (b : ℕ) (
         let z = run M s (stepsOf xs) b .state in
         rw (
           demand-same 7 0 _ _ (length whole)
-              (λ i l. exchanged-named M xs (step one) (step other) ys (open-there M z one (h .one-open)) (open-there M z other (h .other-open)) i),
+              (λ i l. exchanged-named M xs (step one) (step other) ys (open-there M z one (h .one-open))
+              (open-there M z other (h .other-open)) i),
           exchanged-length xs (step one) (step other) ys,
         )
 
@@ -150,7 +153,8 @@ module _ (f : Floor) (ws : List ℕ) (s : State) (k n : ℕ) (ready : Ready f ws
   unfolding referenceCall
   asked xs ys b x y one other e d = rw (map-append askedBy xs (x ∷ (y ∷ ys)), e, d)
 
-  pub either-order : (x y : ℕ) (one other : Step) → askedBy x ≡ step one → askedBy y ≡ step other → Apart M s one other → EitherOrder f ws s k n rest x y one other
+  pub either-order : (x y : ℕ) (one other : Step) → askedBy x ≡ step one → askedBy y ≡ step other → Apart M s one other →
+      EitherOrder f ws s k n rest x y one other
   either-order x y one other e d h =
       let g = apart-sym h in
       record {
@@ -173,7 +177,8 @@ module _ (f : Floor) (ws : List ℕ) (s : State) (k n : ℕ) (ready : Ready f ws
       let here = lent-same f ws (ready .accepted) rest numbers refl s fits forth in
       let there = lent-same f ws (ready .accepted) rest numbers refl s fits back in
       record {
-        answer = here .0 ∙ (rw (one, other) (run-reply-alike M s lent (map askedBy xs) (map askedBy ys) b first second left h)) ∙ sym (there .0);
+        answer = here .0 ∙ (rw (one, other) (run-reply-alike M s lent (map askedBy xs) (map askedBy ys) b first second left h))
+            ∙ sym (there .0);
         memory = here .1
             ∙ (rw (one, other, run-after-alike M s lent (map askedBy xs) (map askedBy ys) b first second left h))
             ∙ sym (there .1);

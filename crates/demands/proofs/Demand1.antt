@@ -54,7 +54,8 @@ use Rattle.demands.specs.Demand1.{TrialRows, RoutesRows, Demand1}
 use Rattle.demands.proofs.RankLaws.{run-of-rank, run-keeps-report}
 use Rattle.demands.proofs.BlockerLaws.{blockers, blockers-keeps}
 use Rattle.demands.proofs.RouteLaws.{conflict, check-record, arrival}
-use Rattle.demands.proofs.RowLaws.{then-rows, answers-rows, gives-rows, demand-row, short-row, keeps-when, value-no-refusal, no-row-passes, passes-exactly, refusal-row}
+use Rattle.demands.proofs.RowLaws.{then-rows, answers-rows, gives-rows, demand-row, short-row, keeps-when, value-no-refusal}
+use Rattle.demands.proofs.RowLaws.{no-row-passes, passes-exactly, refusal-row}
 use Rattle.laws.proofs.PutLaws.{front-beyond, put-beyond}
 use Rattle.demands.proofs.EntryLaws.{floor-rows, lent-rows, outside-row, limit-rows}
 use Rattle.demands.proofs.RefusalLaws.{reply-rows, state-kept}
@@ -206,7 +207,8 @@ module _ (f : Floor) (ws : List ℕ) where
           (reference-theorems .calls .refuses-exactly (machineOf f ws) (stateIn f m) x k p .1 r))
           ∙ same-state e
 
-      call-beyond : (y : Verdict) → drop (stateSize (f .carriers)) (whenPassed y (withState f m (afterCall (machineOf f ws) (stateIn f m) x)) m)
+      call-beyond : (y : Verdict) →
+          drop (stateSize (f .carriers)) (whenPassed y (withState f m (afterCall (machineOf f ws) (stateIn f m) x)) m)
           ≡ drop (stateSize (f .carriers)) m
       unfolding whenPassed
       call-beyond passed = state-beyond (afterCall (machineOf f ws) (stateIn f m) x) m
@@ -234,7 +236,8 @@ module _ (text : List ℕ) where
   unfolding routesMemory
   routes-keeps old = go (lt-or-le (length old) (neededFor text))
     where
-      go : (length old < neededFor text) ⊎ (neededFor text ≤ length old) → Keeps (RoutesRows text (length old)) (neededFor text) old (routesMemory text old)
+      go : (length old < neededFor text) ⊎ (neededFor text ≤ length old) →
+          Keeps (RoutesRows text (length old)) (neededFor text) old (routesMemory text old)
       go (inl l) = rw (lt-leb _ _ l) (record { as-found = λ k p r. refl; beyond = refl })
       go (inr l) =
           rw (le-leb _ _ l)

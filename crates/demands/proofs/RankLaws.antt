@@ -30,7 +30,8 @@ module _ (f : Floor) (ws : List ℕ) where
   unfolding rankOutcome
   run-of-rank rank report = gives-rows (rankVerdict f ws rank report) _ (rank-rows rank report)
 
-  pub run-keeps-report : (rank : ℕ) (old : List ℕ) → Keeps (RankRows f ws rank (length old)) (lengthsOf f .report) old (reportListed f ws rank old)
+  pub run-keeps-report : (rank : ℕ) (old : List ℕ) →
+      Keeps (RankRows f ws rank (length old)) (lengthsOf f .report) old (reportListed f ws rank old)
   unfolding reportListed lengthsOf
   run-keeps-report rank old =
       keeps-when _ (rankVerdict f ws rank (length old)) (rank-rows rank (length old)) (λ e.

@@ -58,7 +58,8 @@ floor-returns f ws old lent ok l w =
     let text = sheetOf f ws in
     let same = sheet-theorems .floor-returns f ws ok in
     let front : take (sheetLength f) (writeSheet f ws old) ≡ text =
-    ap (take (sheetLength f)) (written f ws old ok l) ∙ take-at text (drop (sheetLength f) old) (sheetLength f) (sheet-theorems .sheet-length f ws)
+    ap (take (sheetLength f)) (written f ws old ok l)
+    ∙ take-at text (drop (sheetLength f) old) (sheetLength f) (sheet-theorems .sheet-length f ws)
     in
     let read : readVerdict text (length lent) ≡ passed =
     then-passed (sheet-theorems .has-sheet f ws ok) ∙ length-passes _ _ (omega (arith, same .walls))

@@ -12,7 +12,8 @@ use Rattle.reference.specs.Ranking.{ranking, isSilent}
 use Rattle.reference.specs.Take.{afterStep}
 use Rattle.reference.specs.Quiescent.{ceiling}
 use Rattle.reference.proofs.RespondLaws.{open-same, after-same, answer-same, none-same}
-use Rattle.orders.specs.Orders.{Order, first, round, drawn, places, stepAt, openAt, passing, openPlaces, turn, chosen, startMemory, remembered}
+use Rattle.orders.specs.Orders.{Order, first, round, drawn, places, stepAt, openAt, passing, openPlaces, turn, chosen, startMemory}
+use Rattle.orders.specs.Orders.{remembered}
 use Rattle.orders.specs.Trial.{TrialResult, nextStep, entryOf, reported, tryFrom, trial}
 use Rattle.orders.proofs.RuleLaws.{some-place, chosen-item}
 use Rattle.orders.proofs.TrialLaws.{try-silent, try-step}
@@ -73,7 +74,8 @@ module _ (n d k : ℕ) (φ ψ : ℕ → List View → Answer) (agree : (i : ℕ)
           ∙ ap (λ z. reported (entryOf M s x) (tryFrom o N y z b)) (after-same n d k φ ψ agree s x opened)
           ∙ ap (λ z. reported z (tryFrom o N y (afterStep N s x) b)) (entry-same s x opened)
           ∙ ap (λ z. reported (entryOf N s z) (tryFrom o N y (afterStep N s z) b)) (next-same o s kept)
-          ∙ ap (λ z. reported (entryOf N s (nextStep o N s kept)) (tryFrom o N (remembered o kept z) (afterStep N s (nextStep o N s kept)) b))
+          ∙ ap (λ z. reported (entryOf N s (nextStep o N s kept))
+          (tryFrom o N (remembered o kept z) (afterStep N s (nextStep o N s kept)) b))
           (chosen-same o s kept)
           ∙ sym (try-step o N kept s b (sym (silent-same s) ∙ e))
 

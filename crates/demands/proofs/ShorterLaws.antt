@@ -94,7 +94,8 @@ module _ (f : Floor) (ws : List ℕ) (ok : checkOf f ws ≡ passed) (more : 1 < 
       let next : 1 + length (planOf (dropLast f) ws) ≡ f .carriers = omega arith in
       let last = answerAt (planOf f ws) (f .carriers - 1) in
       failing-front 1 (planOf (dropLast f) ws) last (omega arith)
-      ∙ ap₂ failingWithout next (ap (λ (xs : List Answer). failingFrom 1 (xs ++ (last ∷ []))) front ∙ ap (failingFrom 1) (sym answers-split))
+      ∙ ap₂ failingWithout next (ap (λ (xs : List Answer). failingFrom 1 (xs ++ (last ∷ []))) front
+      ∙ ap (failingFrom 1) (sym answers-split))
 
 -- Lines, and all but the last.
 pub lines-last : (line : ℕ → List ℕ) (n : ℕ) → 1 ≤ n → linesOf line n ≡ linesOf line (n - 1) ++ line (n - 1)
@@ -103,9 +104,11 @@ lines-last line zero l = absurd (omega arith)
 lines-last line (suc k) l = let e : suc k - 1 ≡ k = omega arith in rw e
 
 -- A text of four parts behind each other, with another field in its front part, and without its last but one.
-pub field-changed : (xs₁ old new xs₂ xs₃ xs₄ xs₅ : List ℕ) (k n : ℕ) → length xs₁ ≡ 20 → length old ≡ 5 → length (xs₂ ++ xs₃) ≡ k → 25 + k + length xs₄ ≡ n →
+pub field-changed : (xs₁ old new xs₂ xs₃ xs₄ xs₅ : List ℕ) (k n : ℕ) → length xs₁ ≡ 20 → length old ≡ 5 → length (xs₂ ++ xs₃) ≡ k →
+    25 + k + length xs₄ ≡ n →
     (take 20 ((xs₁ ++ (old ++ xs₂)) ++ ((xs₃ ++ xs₄) ++ xs₅))
-    ++ (new ++ (take k (drop 25 ((xs₁ ++ (old ++ xs₂)) ++ ((xs₃ ++ xs₄) ++ xs₅))) ++ drop n ((xs₁ ++ (old ++ xs₂)) ++ ((xs₃ ++ xs₄) ++ xs₅)))))
+    ++ (new ++ (take k (drop 25 ((xs₁ ++ (old ++ xs₂)) ++ ((xs₃ ++ xs₄) ++ xs₅)))
+    ++ drop n ((xs₁ ++ (old ++ xs₂)) ++ ((xs₃ ++ xs₄) ++ xs₅)))))
     ≡ (xs₁ ++ (new ++ xs₂)) ++ (xs₃ ++ xs₅)
 field-changed xs₁ old new xs₂ xs₃ xs₄ xs₅ k n ea eo em en =
     let text = (xs₁ ++ (old ++ xs₂)) ++ ((xs₃ ++ xs₄) ++ xs₅) in
@@ -116,6 +119,7 @@ field-changed xs₁ old new xs₂ xs₃ xs₄ xs₅ k n ea eo em en =
     let long : length ((xs₁ ++ old) ++ ((xs₂ ++ xs₃) ++ xs₄)) ≡ n =
     length-append (xs₁ ++ old) ((xs₂ ++ xs₃) ++ xs₄) ∙ omega (arith, length-append (xs₂ ++ xs₃) xs₄) in
     let one : take 20 text ≡ xs₁ = ap (take 20) front ∙ take-at xs₁ _ 20 ea in
-    let two : take k (drop 25 text) ≡ xs₂ ++ xs₃ = ap (take k) (ap (drop 25) middle ∙ drop-at (xs₁ ++ old) _ 25 size) ∙ take-at (xs₂ ++ xs₃) _ k em in
+    let two : take k (drop 25 text) ≡ xs₂ ++ xs₃ = ap (take k) (ap (drop 25) middle ∙ drop-at (xs₁ ++ old) _ 25 size)
+    ∙ take-at (xs₂ ++ xs₃) _ k em in
     let three : drop n text ≡ xs₅ = ap (drop n) back ∙ drop-at ((xs₁ ++ old) ++ ((xs₂ ++ xs₃) ++ xs₄)) xs₅ n long in
     rw (one, two, three) (simp append-assoc)

@@ -104,7 +104,8 @@ module _ (f : Floor) (ws : List ℕ) (ok : checkOf f ws ≡ passed) (more : 1 < 
       omega (arith, columns-kept f (f .carriers - 1), last)
 
   sheet-written : (old : List ℕ) → sheetLength f ≤ length old →
-      take (sheetLength (dropLast f)) (writeSheet (dropLast f) ws old) ≡ withoutLast (f .carriers) (take (sheetLength f) (writeSheet f ws old))
+      take (sheetLength (dropLast f)) (writeSheet (dropLast f) ws old)
+      ≡ withoutLast (f .carriers) (take (sheetLength f) (writeSheet f ws old))
   sheet-written old l =
       front-written (dropLast f) (drop-accepted f ws ok more) old (omega (arith, shorter-length))
       ∙ sym (sheet-shorter f ws more ok)
@@ -154,7 +155,8 @@ module _ (text lent : List ℕ) (read : readVerdict text (length lent) ≡ passe
   abbrev short : List ℕ
   short = withoutLast (f .carriers) text
 
-  -- The sheet is accepted and its walls have room; it is the sheet of its floor, and the shorter one that of the floor without the last carrier.
+  -- The sheet is accepted and its walls have room; it is the sheet of its floor, and the shorter one that of the floor without the last
+  -- carrier.
   good : (sheetVerdict text ≡ passed) × (longEnough (f .walls) (length lent) ≡ passed)
   unfolding readVerdict
   good = then-both _ _ read
@@ -179,7 +181,8 @@ module _ (text lent : List ℕ) (read : readVerdict text (length lent) ≡ passe
   unfolding readVerdict
   short-read = then-passed short-good ∙ length-passes _ _ (omega (arith, same-walls, length-passed (f .walls) (length lent) (good .1)))
 
-  reads-shorter : SameFloor (dropLast (readFloor text (length lent))) (readWalls text lent) (readFloor short (length lent)) (readWalls short lent)
+  reads-shorter : SameFloor (dropLast (readFloor text (length lent))) (readWalls text lent) (readFloor short (length lent))
+      (readWalls short lent)
   unfolding readFloor readWalls whenPassed dropLast
   reads-shorter =
       rw (read, short-read)

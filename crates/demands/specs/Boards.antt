@@ -1,6 +1,6 @@
--- Steps at different boards (document 02, slip 5). First, on the program's memory: two steps that stand apart may be called in either order.
--- Then, on floors, sheets and printed lines: without its last carrier an accepted floor gives the others the same sequential answers. The
--- definitions folded over the calls are those that the contracts of `machine::step` and `machine::run` cite.
+-- Steps at different boards (document 02, slip 5). First, on the program's memory: two steps that stand apart may be called in either
+-- order. Then, on floors, sheets and printed lines: without its last carrier an accepted floor gives the others the same sequential
+-- answers. The definitions folded over the calls are those that the contracts of `machine::step` and `machine::run` cite.
 use Prim.Native.Nat.{ℕ, _+_, _≤_, _<_}
 use mathlib.Core.List.{List, [], _∷_, _++_, map}
 use mathlib.Core.Path.{_≡_}
@@ -42,8 +42,8 @@ module _ (f : Floor) (ws : List ℕ) (s : State) (k n : ℕ) where
     abbrev m : List ℕ
     m = encode (f .carriers) s ++ rest
 
-    -- Numbers x and y name the steps one and other: both orders of the two calls leave the same memory, and each step is taken and gets the same
-    -- answer in either order.
+    -- Numbers x and y name the steps one and other: both orders of the two calls leave the same memory, and each step is taken and gets the
+    -- same answer in either order.
     pub record EitherOrder (x y : ℕ) (one other : Step) : Type 0 where
       pub memory : memoryOf f ws m (oneStep k n x ∷ oneStep k n y ∷ []) ≡ memoryOf f ws m (oneStep k n y ∷ oneStep k n x ∷ [])
       pub answers : answersOf f ws m (oneStep k n x ∷ oneStep k n y ∷ []) ≡
@@ -61,7 +61,8 @@ pub record Boards : Type 0 where
   pub either-order : (f : Floor) (ws : List ℕ) (s : State) (k n : ℕ) → Ready f ws s k n → (rest : List ℕ) (x y : ℕ) (one other : Step) →
       askedBy x ≡ step one → askedBy y ≡ step other → Apart (machineOf f ws) s one other → EitherOrder f ws s k n rest x y one other
   -- Neighbours inside a run that stand apart where the run comes to them, with budget left for both.
-  pub run-neighbours : (f : Floor) (ws : List ℕ) (s : State) (k n : ℕ) → Ready f ws s k n → (rest xs ys : List ℕ) (b x y : ℕ) (one other : Step) →
+  pub run-neighbours : (f : Floor) (ws : List ℕ) (s : State) (k n : ℕ) → Ready f ws s k n →
+      (rest xs ys : List ℕ) (b x y : ℕ) (one other : Step) →
       askedBy x ≡ step one → askedBy y ≡ step other → run (machineOf f ws) s (stepsOf (map askedBy xs)) b .taken + 2 ≤ b →
       Apart (machineOf f ws) (run (machineOf f ws) s (stepsOf (map askedBy xs)) b .state) one other →
       SameCall f ws s k n rest (oneRun k n (xs ++ (x ∷ (y ∷ ys))) b) (oneRun k n (xs ++ (y ∷ (x ∷ ys))) b)
@@ -74,4 +75,5 @@ pub record Boards : Type 0 where
   -- Dropping the last carrier from an accepted floor of more than one: the other carriers' sequential answers are the same, on records, on
   -- sheets and on the printed lines.
   pub drop-last : (f : Floor) (ws : List ℕ) → checkOf f ws ≡ passed → 1 < f .carriers → Shortened f ws
-  pub drop-last-line : (text lent : List ℕ) → readVerdict text (length lent) ≡ passed → 1 < floorAt text .carriers → ShortenedSheet text lent
+  pub drop-last-line : (text lent : List ℕ) → readVerdict text (length lent) ≡ passed → 1 < floorAt text .carriers →
+      ShortenedSheet text lent

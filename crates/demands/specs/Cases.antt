@@ -149,8 +149,10 @@ pub record Cases : Type 0 where
       .chan 2 1 ≡ routeOf (2 ∷ 5 ∷ 4 ∷ 1 ∷ 0 ∷ []) ∷ []
   -- At the count 999,999, which stays: a state within the ranges, and both orders of plan 1 and plan 2.
   pub full-within : WithinRanges (sides 4) full
-  pub full-orders : (after two full (singles (101 ∷ 102 ∷ [])) .taken ≡ 999999) × (after two full (singles (102 ∷ 101 ∷ [])) .taken ≡ 999999)
-  pub full-answers : (below 2 (after two full (singles (101 ∷ 102 ∷ [])) .answer) ≡ routeOf (0 ∷ 1 ∷ 2 ∷ 2 ∷ 2 ∷ []) ∷ routeOf (2 ∷ 1 ∷ []) ∷ [])
+  pub full-orders : (after two full (singles (101 ∷ 102 ∷ [])) .taken ≡ 999999)
+      × (after two full (singles (102 ∷ 101 ∷ [])) .taken ≡ 999999)
+  pub full-answers : (below 2 (after two full (singles (101 ∷ 102 ∷ [])) .answer)
+      ≡ routeOf (0 ∷ 1 ∷ 2 ∷ 2 ∷ 2 ∷ []) ∷ routeOf (2 ∷ 1 ∷ []) ∷ [])
       × (below 2 (after two full (singles (102 ∷ 101 ∷ [])) .answer) ≡ routeOf (0 ∷ 1 ∷ 2 ∷ 2 ∷ 2 ∷ []) ∷ routeOf (2 ∷ 1 ∷ []) ∷ [])
   -- With budget for one, the two orders of a run differ.
   pub budget-one : (after two fresh (running (101 ∷ 102 ∷ []) 1) .planned 0 ≡ true)

@@ -124,7 +124,8 @@ pub record Demand2 : Type 0 where
   pub sheet-returns : (text lent old : List ℕ) → readVerdict text (length lent) ≡ passed → length text ≤ length old →
       take (length text) (writeSheet (readFloor text (length lent)) (readWalls text lent) old) ≡ text
   -- The same floor gets the same answers: record places past the carriers and walls past the count change nothing.
-  pub same-floor : (f : Floor) (ws : List ℕ) (f′ : Floor) (ws′ : List ℕ) → SameFloor f ws f′ ws′ → Lent f ws → Lent f′ ws′ → SameAnswers f ws f′ ws′
+  pub same-floor : (f : Floor) (ws : List ℕ) (f′ : Floor) (ws′ : List ℕ) → SameFloor f ws f′ ws′ → Lent f ws → Lent f′ ws′ →
+      SameAnswers f ws f′ ws′
   -- The conflict test answers free exactly if two routes have no conflict, otherwise the first one with its beat and kind; any two routes
   -- of a plan are free.
   pub conflict-test : (H : ℕ) (r q : List ℕ) → TestedFor H r q

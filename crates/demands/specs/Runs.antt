@@ -31,7 +31,8 @@ pub record Runs : Type 0 where
   pub complete-exactly : (f : Floor) (ws : List ℕ) (xs : Run) →
       Complete (machineOf f ws) fresh xs ↔ ((rank : ℕ) × (rank < totalOf f ws) × (runOfRank f ws rank ≡ xs))
   -- It has one rank; so the total is the number of complete runs.
-  pub one-rank : (f : Floor) (ws : List ℕ) (rank rank′ : ℕ) → rank < totalOf f ws → rank′ < totalOf f ws → runOfRank f ws rank ≡ runOfRank f ws rank′ → rank ≡ rank′
+  pub one-rank : (f : Floor) (ws : List ℕ) (rank rank′ : ℕ) → rank < totalOf f ws → rank′ < totalOf f ws →
+      runOfRank f ws rank ≡ runOfRank f ws rank′ → rank ≡ rank′
   -- A smaller rank is an earlier run: where the two first differ, its step is before the other's in the ranking.
   pub ranked : (f : Floor) (ws : List ℕ) (rank rank′ : ℕ) → rank < totalOf f ws → rank′ < totalOf f ws →
       (rank < rank′) ↔ EarlierRun (f .carriers) (runOfRank f ws rank) (runOfRank f ws rank′)

@@ -66,7 +66,8 @@ pub record Shortened (f : Floor) (ws : List ℕ) : Type 0 where
   pub failing : failingOf (planOf (dropLast f) ws) ≡ failingWithout (f .carriers) (failingOf (planOf f ws))
   -- Its sheet, as it is written into enough memory, is the floor's without the last carrier.
   pub sheet : (old : List ℕ) → sheetLength f ≤ length old →
-      take (sheetLength (dropLast f)) (writeSheet (dropLast f) ws old) ≡ withoutLast (f .carriers) (take (sheetLength f) (writeSheet f ws old))
+      take (sheetLength (dropLast f)) (writeSheet (dropLast f) ws old)
+      ≡ withoutLast (f .carriers) (take (sheetLength f) (writeSheet f ws old))
   -- What is printed for it is what is printed for the floor, without the last line.
   pub printed : LastLineGone f ws (printOf f ws) (printOf (dropLast f) ws)
 

@@ -17,7 +17,8 @@ use Rattle.encoding.proofs.WindowLaws.{window-part, window-number, wind
 use Rattle.records.proofs.SlotLaws.{resized-length, resized-whole, slot-length}
 
 -- A record that stands at place p moved to place p′.
-pub moved-is : {p p′ : ℕ} {m m′ xs ys : List ℕ} → StandsAt p m xs → Window p′ m m′ ys xs → length xs ≡ 65 → length ys ≡ 65 → moved m p p′ ≡ m′
+pub moved-is : {p p′ : ℕ} {m m′ xs ys : List ℕ} → StandsAt p m xs → Window p′ m m′ ys xs → length xs ≡ 65 → length ys ≡ 65 →
+    moved m p p′ ≡ m′
 unfolding moved
 moved-is w v x y = rw (window-part 65 x w) (window-put (y ∙ sym x) v)
 
@@ -51,7 +52,8 @@ module _ (xs ys : List ℕ) (p : ℕ) (place : length xs ≡ p) where
 
     third : (zs : List ℕ) → Window (p + 131) (there (k ∷ four xs₀ xs₁ xs₂ xs₃)) (there (k ∷ four xs₀ xs₁ zs xs₃)) xs₂ zs
     third zs =
-        behind-there k 130 (window-behind xs₀ 65 130 la refl (window-behind xs₁ 65 65 lb refl (window-front (xs₃ ++ []) (window-whole xs₂ zs))))
+        behind-there k 130 (window-behind xs₀ 65 130 la refl
+        (window-behind xs₁ 65 65 lb refl (window-front (xs₃ ++ []) (window-whole xs₂ zs))))
 
     fourth : (zs : List ℕ) → Window (p + 196) (there (k ∷ four xs₀ xs₁ xs₂ xs₃)) (there (k ∷ four xs₀ xs₁ xs₂ zs)) xs₃ zs
     fourth zs =
@@ -60,7 +62,8 @@ module _ (xs ys : List ℕ) (p : ℕ) (place : length xs ≡ p) where
         (window-behind xs₁ 65 130 lb refl (window-behind xs₂ 65 65 lc refl (window-front [] (window-whole xs₃ zs)))))
 
   -- The others move up, the last place is cleared, and the number falls.
-  module _ (k : ℕ) (xs₀ xs₁ xs₂ xs₃ : List ℕ) (la : length xs₀ ≡ 65) (lb : length xs₁ ≡ 65) (lc : length xs₂ ≡ 65) (ld : length xs₃ ≡ 65) where
+  module _ (k : ℕ) (xs₀ xs₁ xs₂ xs₃ : List ℕ) (la : length xs₀ ≡ 65) (lb : length xs₁ ≡ 65) (lc : length xs₂ ≡ 65)
+      (ld : length xs₃ ≡ 65) where
     shifted-four : shifted (there (k ∷ four xs₀ xs₁ xs₂ xs₃)) p ≡ there (k ∷ four xs₁ xs₂ xs₃ (resized 65 []))
     unfolding shifted
     shifted-four =

@@ -28,7 +28,8 @@ unfolding ShownOf shown
 answer-back f m at x e h = ap shown (record-shows m at (heard x) e (sound-whole f x h))
 
 -- The records of messages with sound cells show those messages.
-messages-back : (f : Floor) (m : List ℕ) (k at : ℕ) (xs : List Answer) → length xs ≤ k → part m at (65 * k) ≡ slots k xs → AllOf (Sound f) xs
+messages-back : (f : Floor) (m : List ℕ) (k at : ℕ) (xs : List Answer) → length xs ≤ k → part m at (65 * k) ≡ slots k xs →
+    AllOf (Sound f) xs
     → messages m at (length xs) ≡ xs
 unfolding slots messages AllOf
 messages-back f m zero at [] b e h = refl
@@ -61,7 +62,8 @@ encode-shows f s rest d h =
       same-answer = λ i l. answer-back f m (answerPlace i) (s .answer i) (read-answer n s rest i l) (h .parts .answers i l);
       same-view =
           λ i j a b.
-          record-shows m (viewPlace n i j) (s .view i j) (read-view n s rest i j a b) (shown-whole f (s .view i j) (h .parts .seen i j a b));
+          record-shows m (viewPlace n i j) (s .view i j) (read-view n s rest i j a b)
+          (shown-whole f (s .view i j) (h .parts .seen i j a b));
       same-channel =
           λ i j a b.
           let few : length (s .chan i j) ≤ 4 = omega (arith, h .channels i j a b) in

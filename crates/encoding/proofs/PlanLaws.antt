@@ -76,7 +76,11 @@ module _ (n : ℕ) (s : State) (rest : List ℕ) where
       rw (← block)
       (window-put (carrier-length s i ∙ sym (carrier-length (withCarriers s φ ψ χ) i))
       (carrier-window n s rest φ ψ χ i l
-      (λ k x y. (sym (update-other (s .planned) i true k y), sym (update-other (s .due) i false k y), sym (update-other (s .answer) i z k y)))))
+      (λ k x y. (
+        sym (update-other (s .planned) i true k y),
+        sym (update-other (s .due) i false k y),
+        sym (update-other (s .answer) i z k y),
+      ))))
 
 -- The changes of a plan, one after the other.
 module _ (n : ℕ) (s : State) (rest : List ℕ) (i : ℕ) (x : Answer) where

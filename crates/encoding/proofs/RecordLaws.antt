@@ -47,7 +47,8 @@ number-valid f (heard (route r)) t h =
 
 module _ (m : List ℕ) (at : ℕ) (v : View) (e : part m at 65 ≡ slot v) where
   -- The record of a view with sound cells is valid where its tag may stand.
-  pub view-valid : (f : Floor) (low high : ℕ) → ShownOf (Sound f) v → low ≤ viewTag v → viewTag v ≤ high → recordValid f m at low high ≡ true
+  pub view-valid : (f : Floor) (low high : ℕ) → ShownOf (Sound f) v → low ≤ viewTag v → viewTag v ≤ high →
+      recordValid f m at low high ≡ true
   unfolding recordValid within cellsValid
   view-valid f low high h a b =
       rw (tag-read m at v e)

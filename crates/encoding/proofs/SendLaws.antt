@@ -62,7 +62,8 @@ module _ (chan : ℕ → ℕ → List Answer) (i : ℕ) (z : Answer) where
       (lt-or-le n k)
 
 -- The encoding depends on the channels of pairs only.
-channels-same : (n : ℕ) (s : State) (channels channels′ : ℕ → ℕ → List Answer) → ((k j′ : ℕ) → j′ < k → k < n → channels k j′ ≡ channels′ k j′) →
+channels-same : (n : ℕ) (s : State) (channels channels′ : ℕ → ℕ → List Answer) →
+    ((k j′ : ℕ) → j′ < k → k < n → channels k j′ ≡ channels′ k j′) →
     encode n (withChans s channels) ≡ encode n (withChans s channels′)
 unfolding encode withChans carrierBlock pairs
 channels-same n s channels channels′ e =

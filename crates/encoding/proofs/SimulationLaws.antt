@@ -82,7 +82,8 @@ module _ (f : Floor) (ws : List ℕ) (ok : checkOf f ws ≡ passed) where
       single-same noStep = refl
       single-same (step x) = there-same (isThere M x) refl
         where
-          there-same : (y : Bool) → isThere M x ≡ y → (demand (isThere M x) 7 0 then waitsIn M m x) ≡ (demand (isThere M x) 7 0 then waitsFor M s x)
+          there-same : (y : Bool) → isThere M x ≡ y →
+              (demand (isThere M x) 7 0 then waitsIn M m x) ≡ (demand (isThere M x) 7 0 then waitsFor M s x)
           there-same true e = ap (λ (y : Verdict). demand (isThere M x) 7 0 then y) (waits-same M s rest x e)
           there-same false e = rw e
 

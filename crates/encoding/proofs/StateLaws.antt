@@ -65,7 +65,15 @@ module _ (n : ℕ) (s : State) where
       let ys = pairs n (viewBlocks (s .view)) in
       let zs = pairs n (chanBlocks (s .chan)) in
       length-append (countBlock (s .taken)) (xs ++ (ys ++ zs))
-      ∙ omega (arith, count-length (s .taken), length-append xs (ys ++ zs), length-append ys zs, carriers-length, views-length, chans-length)
+      ∙ omega (
+        arith,
+        count-length (s .taken),
+        length-append xs (ys ++ zs),
+        length-append ys zs,
+        carriers-length,
+        views-length,
+        chans-length,
+      )
 
   -- A state in the front of a memory leaves what lies behind it.
   pub encode-beyond : (m : List ℕ) → drop (stateSize n) (put m 0 (encode n s)) ≡ drop (stateSize n) m
@@ -119,4 +127,5 @@ module _ (n : ℕ) (s : State) where
         (window-behind (countBlock (s .taken)) 2 (2 + 67 * n + 65 * pairsBefore n + p) (count-length (s .taken)) (omega arith)
         (window-behind (blocks n (carrierBlock s)) (67 * n) (67 * n + (65 * pairsBefore n + p)) carriers-length refl
         (window-behind (pairs n (viewBlocks (s .view))) (65 * pairsBefore n) (65 * pairsBefore n + p) views-length refl
-        (pairs-window 261 n (chanBlocks (s .chan)) chan-long (chanBlocks channels) i j a b (λ k j′ x y z. ap channelBlock (e k j′ x y z))))))
+        (pairs-window 261 n (chanBlocks (s .chan)) chan-long (chanBlocks channels) i j a b
+        (λ k j′ x y z. ap channelBlock (e k j′ x y z))))))

@@ -63,7 +63,8 @@ module _ (f : Floor) (s : State) (rest : List ℕ) (h : WithinRanges f s) where
   pair-fits i b j a =
       let n = f .carriers in
       and-both (seen-valid m (viewPlace n i j) (s .view i j) (read-view n s rest i j a b) f (h .parts .seen i j a b))
-      (channel-valid m (channelPlace n i j) (s .chan i j) (read-channel n s rest i j a b) f (h .channels i j a b) (h .parts .messages i j a b))
+      (channel-valid m (channelPlace n i j) (s .chan i j) (read-channel n s rest i j a b) f (h .channels i j a b)
+      (h .parts .messages i j a b))
 
   -- All of them.
   all-fit : valid f m ≡ true

@@ -30,8 +30,10 @@ window-front {xs = xs} {ys = ys} zs w =
     record {
       before = w .before;
       after = w .after ++ zs;
-      old = rw (w .old) (append-assoc (w .before) (xs ++ w .after) zs ∙ ap (λ (xs : List ℕ). w .before ++ xs) (append-assoc xs (w .after) zs));
-      new = rw (w .new) (append-assoc (w .before) (ys ++ w .after) zs ∙ ap (λ (xs : List ℕ). w .before ++ xs) (append-assoc ys (w .after) zs));
+      old = rw (w .old) (append-assoc (w .before) (xs ++ w .after) zs
+          ∙ ap (λ (xs : List ℕ). w .before ++ xs) (append-assoc xs (w .after) zs));
+      new = rw (w .new) (append-assoc (w .before) (ys ++ w .after) zs
+          ∙ ap (λ (xs : List ℕ). w .before ++ xs) (append-assoc ys (w .after) zs));
       size = w .size;
     }
 
@@ -47,13 +49,15 @@ window-behind {xs = xs} {ys = ys} zs n p′ s e w =
     }
 
 -- A window in a window.
-pub window-inside : {p p′ : ℕ} {m m′ xs ys zs zs′ : List ℕ} (n : ℕ) → p + p′ ≡ n → Window p m m′ xs ys → Window p′ xs ys zs zs′ → Window n m m′ zs zs′
+pub window-inside : {p p′ : ℕ} {m m′ xs ys zs zs′ : List ℕ} (n : ℕ) → p + p′ ≡ n → Window p m m′ xs ys → Window p′ xs ys zs zs′ →
+    Window n m m′ zs zs′
 window-inside {zs = zs} {zs′ = zs′} n e w v =
     record {
       before = w .before ++ v .before;
       after = v .after ++ w .after;
       old = w .old ∙ ap (λ (xs : List ℕ). w .before ++ (xs ++ w .after)) (v .old) ∙ nested (w .before) (v .before) zs (v .after) (w .after);
-      new = w .new ∙ ap (λ (xs : List ℕ). w .before ++ (xs ++ w .after)) (v .new) ∙ nested (w .before) (v .before) zs′ (v .after) (w .after);
+      new = w .new ∙ ap (λ (xs : List ℕ). w .before ++ (xs ++ w .after)) (v .new)
+          ∙ nested (w .before) (v .before) zs′ (v .after) (w .after);
       size = length-append (w .before) (v .before) ∙ omega (arith, w .size, v .size);
     }
   where

@@ -103,7 +103,8 @@ module _ {M : Type 1} (𝓤 : URA M) (H : Heap 𝓤) (A : Atoms 𝓤) (W : Given
     begins =
         qed W (L.Tok 𝓤 H A W κ share s ∷ ‵ (owns (ShrSlice (named 0) κ u8 ∷ usize ∷ usize ∷ []) (s, (at, (n, tt))) vals) ∷ []) ∵
         move ! (1 ∷ []) $ fsplit ! $
-        use1 W (‵ (L.Own 𝓤 H A W κ share s) ⊛ ‵ (L.Own 𝓤 H A W κ share s)) (shr-slice-copy 𝓤 H A W (named 0) κ u8 .twice s (v ∷ [])) $ split ! $
+        use1 W (‵ (L.Own 𝓤 H A W κ share s) ⊛ ‵ (L.Own 𝓤 H A W κ share s))
+        (shr-slice-copy 𝓤 H A W (named 0) κ u8 .twice s (v ∷ [])) $ split ! $
         -- [what the text owns, twice; what the numbers own; the token]
         move ! (2 ∷ []) $ drop ! $ nothing ! $ owned ! usize (Is usize) (uint-makes 𝓤 H A W w64) at _ (refl, at-fits) $ fjoin ! $
         move ! (1 ∷ 0 ∷ []) $ fjoin ! $ move ! (2 ∷ 0 ∷ []) $ join ! $ nothing ! $ move ! (1 ∷ 0 ∷ []) $ join ! $ frame ! $ done !
@@ -133,7 +134,8 @@ module _ {M : Type 1} (𝓤 : URA M) (H : Heap 𝓤) (A : Atoms 𝓤) (W : Given
   module _ (𝓣 : Tables 𝓤 H) (known-begin : Triple 𝓤 (𝓣 .C #begin) (Begin 𝓤 H A)) (k : Name)
       (known-line : Triple 𝓤 (𝓣 .C k) (Line 𝓤 form past most H A)) (known-moved : Triple 𝓤 (𝓣 .C #moved) (ReaderMoved 𝓤 H A))
       (known-reached : Triple 𝓤 (𝓣 .C #reached) (Arrived 𝓤 H A))
-      (low : (text : List ℕ) (at n : ℕ) → Asked at n → (i column : ℕ) → Along (form text) (past text) at n i column → i < n → column ≤ most) where
+      (low : (text : List ℕ) (at n : ℕ) → Asked at n → (i column : ℕ) → Along (form text) (past text) at n i column → i < n →
+      column ≤ most) where
     lines-walk : Walks 𝓤 H A Lines stayed (WpFn 𝓤 H (𝓣 .C) (𝓣 .Λ) (lines k)) clauses
     lines-walk =
         walked 𝓤 H A Lines stayed clauses (WpFn 𝓤 H (𝓣 .C) (𝓣 .Λ) (lines k))

@@ -224,7 +224,8 @@ module _ {M : Type 1} (𝓤 : URA M) (H : Heap 𝓤) (A : Atoms 𝓤) (W : Given
           (init ! 26 refl (typed-answer (Refused x) _ is)) $
           returns-within ! Post refl (look ! 26 refl) $ forget ! 14 refl $ forget ! 16 refl $ forget ! 18 refl $ forget ! 20 refl $
           forget ! 22 refl $ forget ! 24 refl $ forget ! 26 refl $ move ! (2 ∷ []) $ drop ! $
-          freed (Refused x) (val (Refused x)) (along-stop (form (s .now)) (past (s .now)) at n (turn .count) (turn .column) (turn .along) x l e)
+          freed (Refused x) (val (Refused x))
+          (along-stop (form (s .now)) (past (s .now)) at n (turn .count) (turn .column) (turn .along) x l e)
 
       -- a turn: the test, and a line; of what the reader owns one copy goes to the call
       turns : (turn′ : LoopTurn) → Sq W (At′ turn′) (runs C Λ En (turn k) (anyQ (Turned turn′)))

@@ -42,8 +42,8 @@ reader = T′.mir erased
 abbrev pub answer : Ty
 answer = S′.mir
 
--- _1, _2, _3 are text, at and the number of lines; _4 is the reader, _5 the count, _6 a line's answer, _7 the column that it reached, _8 the test; _9,
--- _10, _11 are copies of the reader for the calls. After the loop the column is handed back.
+-- _1, _2, _3 are text, at and the number of lines; _4 is the reader, _5 the count, _6 a line's answer, _7 the column that it reached, _8
+-- the test; _9, _10, _11 are copies of the reader for the calls. After the loop the column is handed back.
 abbrev pub rest : Body
 rest = seq (assign (place 11 []) (rvOpd (copy (place 4 [])))) (seq (call #reached (copy (place 11 []) ∷ []) (place 0 [])) return)
 

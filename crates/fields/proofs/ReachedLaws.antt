@@ -45,7 +45,8 @@ pub arrives : {x : Verdict} (column : ℕ) → passed ≡ x → At column ≡ re
 unfolding reachedOf
 arrives column h = rw (← h) refl
 
-pub refuses-so : {x : Reached} {y : Verdict} (k p column′ column : ℕ) → x ≡ reachedOf (refused k p) column′ → refused k p ≡ y → x ≡ reachedOf y column
+pub refuses-so : {x : Reached} {y : Verdict} (k p column′ column : ℕ) → x ≡ reachedOf (refused k p) column′ → refused k p ≡ y →
+    x ≡ reachedOf y column
 unfolding reachedOf
 refuses-so k p column′ column h e = rw (← e) h
 
@@ -55,7 +56,8 @@ pub goes-on : {y z : Reached} {n : ℕ} (x x′ : Verdict) (column column′ : �
 goes-on x x′ column column′ h e t = rw (then-passed (reaches x column h e .0)) t
 
 -- A refusal is the answer of the whole, whatever follows.
-pub stops-at : {y : Reached} {cause : Refusal} (z x : Verdict) (column column′ : ℕ) → y ≡ reachedOf z column → y ≡ Refused cause → y ≡ reachedOf (z then x) column′
+pub stops-at : {y : Reached} {cause : Refusal} (z x : Verdict) (column column′ : ℕ) → y ≡ reachedOf z column → y ≡ Refused cause →
+    y ≡ reachedOf (z then x) column′
 unfolding _then_ reachedOf
 stops-at z x column column′ h e =
     let r = line-refused z column h e in
@@ -75,7 +77,8 @@ turn-away {x} check z i k column column′ l p h e =
     rw (turn-stop check i k (x .number) (x .place) l p r) (rw r at h)
 
 -- Past a check that passed.
-pub turn-past : {x : Reached} {y : ℕ} (check : ℕ → Verdict) (i column : ℕ) → inTurn check i ≡ passed → x ≡ reachedOf (check i) column → x ≡ At y
+pub turn-past : {x : Reached} {y : ℕ} (check : ℕ → Verdict) (i column : ℕ) → inTurn check i ≡ passed → x ≡ reachedOf (check i) column →
+    x ≡ At y
     → inTurn check (i + 1) ≡ passed
 turn-past check i column p h e = turn-more check i p (reaches _ column h e .0)
 

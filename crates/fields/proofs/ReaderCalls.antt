@@ -91,7 +91,8 @@ module _ {M : Type 1} (𝓤 : URA M) where
   abbrev pub ReaderMoved : (H : Heap 𝓤) → Atoms 𝓤 → Contract 𝓤
   ReaderMoved = stated 𝓤 movedParams movedKept B (λ _ _. emp 𝓤) (λ _ a r. (r .text ≡ a .0 .text) × (r .column ≡ a .1 .0))
 
-  module _ (H : Heap 𝓤) (A : Atoms 𝓤) (W : Given 𝓤 H A) (κ : Lft) (share : Share) (reader : Reader) (u : Val) (n : ℕ) (fits : n < 2 ^ 64) where
+  module _ (H : Heap 𝓤) (A : Atoms 𝓤) (W : Given 𝓤 H A) (κ : Lft) (share : Share) (reader : Reader) (u : Val) (n : ℕ)
+      (fits : n < 2 ^ 64) where
     -- what the call binds outside the triple
     abbrev pub at-column : ReaderMoved H A .Ghost
     at-column =
@@ -114,5 +115,6 @@ module _ {M : Type 1} (𝓤 : URA M) where
         → Seq K W ((‵ (flft κ share) ⊛ ‵ ftrue) ∷ ‵ (B (κ, tt) .own reader (u ∷ [])) ∷ Γ) (runs C Λ E (seq (call f xs dest) rest) p)
     calls-moved t fm known os k =
         use2 W (raw (ReaderMoved H A .pre at-column)) both $
-        calls-stated 𝓤 movedParams movedKept B (λ _ _. emp 𝓤) (λ _ a reader′. (reader′ .text ≡ a .0 .text) × (reader′ .column ≡ a .1 .0)) H A W κ share
+        calls-stated 𝓤 movedParams movedKept B (λ _ _. emp 𝓤)
+        (λ _ a reader′. (reader′ .text ≡ a .0 .text) × (reader′ .column ≡ a .1 .0)) H A W κ share
         (reader, (n, tt)) (u ∷ [], (vint w64 n ∷ [], tt)) t fm known os k

@@ -18,7 +18,8 @@ room-kept m n i x l = rw length-set l
 pub ruleset stores = (room-of-five, room-kept, lit<)
 
 -- Five columns of a number are its field.
-pub put-columns : (m : List ℕ) (at x : ℕ) {x₁ x₂ x₃ x₄ x₅ : ℕ} → x₁ ≡ column 10000 x → x₂ ≡ column 1000 x → x₃ ≡ column 100 x → x₄ ≡ column 10 x
+pub put-columns : (m : List ℕ) (at x : ℕ) {x₁ x₂ x₃ x₄ x₅ : ℕ} → x₁ ≡ column 10000 x → x₂ ≡ column 1000 x → x₃ ≡ column 100 x →
+    x₄ ≡ column 10 x
     → x₅ ≡ 48 + x % 10 → at + 5 ≤ length m
     → set (set (set (set (set m at x₁) (at + 1) x₂) (at + 2) x₃) (at + 3) x₄) (at + 4) x₅ ≡ put m at (fieldOf x)
 unfolding fieldOf

@@ -139,7 +139,8 @@ module _ {M : Type 1} (𝓤 : URA M) (H : Heap 𝓤) (A : Atoms 𝓤) (W : Given
     exits x u e =
         qed W (‵ (S.the-row .own x (u ∷ [])) ∷ Tok ∷ ‵ Own ∷ []) ∵
         suffices ! _
-        (ends-at 𝓤 H A Thin stayed clauses W (((κ, tt), (share, tt), tt, (reader, tt), (mach ∷ [], tt)), tt) u x (tt, tt) (tt, tt)) $ says ! e $
+        (ends-at 𝓤 H A Thin stayed clauses W (((κ, tt), (share, tt), tt, (reader, tt), (mach ∷ [], tt)), tt) u x (tt, tt)
+        (tt, tt)) $ says ! e $
         move ! (1 ∷ []) $ frame ! $ nothing ! $ move ! (2 ∷ 0 ∷ []) $ fjoin ! $ frame ! $ done !
 
     module _ (C : Calls 𝓤 H) (Λ : Loops 𝓤 H) (fm : FmC 𝓤 H (W .laws) C) (k : Name) (known : Triple 𝓤 (C k) Callee) where

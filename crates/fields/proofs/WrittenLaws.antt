@@ -37,7 +37,8 @@ module _ (byte : ℕ) where
   unfolding isWritten
   written-stop byte′ xs {x} s e n = rw (ne-eqb byte 32 s, ← e, not-true x n) refl
 
-  pub written-on : (byte′ : ℕ) (xs : List ℕ) {x y : Bool} → (byte ≡ 32 → ⊥) → x ≡ within 49 57 byte → not x ≡ false → y ≡ areDigits (byte′ ∷ xs)
+  pub written-on : (byte′ : ℕ) (xs : List ℕ) {x y : Bool} → (byte ≡ 32 → ⊥) → x ≡ within 49 57 byte → not x ≡ false →
+      y ≡ areDigits (byte′ ∷ xs)
       → y ≡ isWritten (byte ∷ byte′ ∷ xs)
   unfolding isWritten
   written-on byte′ xs {x} s e n h = rw (ne-eqb byte 32 s, ← e, not-false x n) h
@@ -73,14 +74,16 @@ after-space : {byte : ℕ} (byte′ : ℕ) (xs : List ℕ) → byte ≡ 32 → i
 unfolding isWritten
 after-space {byte} byte′ xs s = rw (eq-eqb byte 32 s)
 
-no-space : {byte : ℕ} (byte′ : ℕ) (xs : List ℕ) → (byte ≡ 32 → ⊥) → isWritten (byte ∷ byte′ ∷ xs) ≡ (within 49 57 byte && areDigits (byte′ ∷ xs))
+no-space : {byte : ℕ} (byte′ : ℕ) (xs : List ℕ) → (byte ≡ 32 → ⊥) →
+    isWritten (byte ∷ byte′ ∷ xs) ≡ (within 49 57 byte && areDigits (byte′ ∷ xs))
 unfolding isWritten
 no-space {byte} byte′ xs n = rw (ne-eqb byte 32 n)
 
 pub space-so : {byte : ℕ} (byte′ : ℕ) (xs : List ℕ) → byte ≡ 32 → isWritten (byte′ ∷ xs) ≡ true → isWritten (byte ∷ byte′ ∷ xs) ≡ true
 space-so byte′ xs s h = after-space byte′ xs s ∙ h
 
-pub first-so : {byte : ℕ} (byte′ : ℕ) (xs : List ℕ) → (49 ≤ byte) × (byte ≤ 57) → areDigits (byte′ ∷ xs) ≡ true → isWritten (byte ∷ byte′ ∷ xs) ≡ true
+pub first-so : {byte : ℕ} (byte′ : ℕ) (xs : List ℕ) → (49 ≤ byte) × (byte ≤ 57) → areDigits (byte′ ∷ xs) ≡ true →
+    isWritten (byte ∷ byte′ ∷ xs) ≡ true
 first-so byte′ xs l h = no-space byte′ xs (λ s. omega (arith, l .0, s)) ∙ and-so (within-so (l .0) (l .1)) h
 
 pub last-so : {byte : ℕ} → (48 ≤ byte) × (byte ≤ 57) → isWritten (byte ∷ []) ≡ true

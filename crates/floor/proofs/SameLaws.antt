@@ -138,7 +138,10 @@ module _ (f : Floor) (ws : List ℕ) (f′ : Floor) (ws′ : List ℕ) (same : S
   unrepeated-same =
       demands-same _ _ _ refl (same .carriers) (λ i l.
       each-same (countOf f i) (λ k. not (among (docksOf f i) k (dockOf f i k))) (λ k. not (among (docksOf f′ i) k (dockOf f′ i k)))
-      (λ k h. rw (same .docks i l k h, among-same (docksOf f i) (docksOf f′ i) k (dockOf f′ i k) (λ k′ q. earlier-docks i l k′ (omega arith))))
+      (λ k h. rw (
+        same .docks i l k h,
+        among-same (docksOf f i) (docksOf f′ i) k (dockOf f′ i k) (λ k′ q. earlier-docks i l k′ (omega arith)),
+      ))
       ∙ ap (λ (n : ℕ). each n (λ k. not (among (docksOf f′ i) k (dockOf f′ i k)))) (same .counts i l))
 
   pub places-same : placesOf f ws ≡ placesOf f′ ws′

@@ -116,7 +116,8 @@ module _ (f : Floor) (ws : List ℕ) (ok : checkOf f ws ≡ passed) (xs : ℕ �
       )
 
   pub frame-put : (t at n₁ n₂ n₃ n : ℕ) (old m₁ m₂ m₃ new : List ℕ) → PutAt beatWords old at m₁ n₁ → PutAt (shortDecimal t) m₁ n₁ m₂ n₂ →
-      PutAt (10 ∷ []) m₂ n₂ m₃ n₃ → PutAt (frameRows f ws xs t) m₃ n₃ new n → at + 1064 ≤ length old → PutAt (frameOf f ws xs t) old at new n
+      PutAt (10 ∷ []) m₂ n₂ m₃ n₃ → PutAt (frameRows f ws xs t) m₃ n₃ new n → at + 1064 ≤ length old →
+      PutAt (frameOf f ws xs t) old at new n
   unfolding frameOf beatWords
   frame-put t at n₁ n₂ n₃ n old m₁ m₂ m₃ new p q r s l =
       let n₄ = short-within t in

@@ -32,7 +32,8 @@ module _ (k p : ℕ) (ok : ℕ → Bool) (P : ℕ → Type 0) (means : Decides o
   each-means n = (each-passed n, all-passes n)
 
   -- What follows from a refusal: it has the check's own number and the place of the first test that fails.
-  pub each-refused : (C : ℕ → ℕ → Type 0) (n k′ p′ : ℕ) → demandEach k p ok n ≡ refused k′ p′ → ((i : ℕ) → First P n i → C k (p + i)) → C k′ p′
+  pub each-refused : (C : ℕ → ℕ → Type 0) (n k′ p′ : ℕ) → demandEach k p ok n ≡ refused k′ p′ → ((i : ℕ) → First P n i → C k (p + i)) →
+      C k′ p′
   unfolding demandEach inTurn
   each-refused C zero k′ p′ h f = absurd (refused-not-passed (sym h))
   each-refused C (suc n) k′ p′ h f =

@@ -9,7 +9,8 @@ use borrow.Author.Count.{below-more}
 use borrow.Author.Needs.{needs}
 use mathlib.Core.Logic.{_⊎_, ⊎-elim, inl, inr}
 use Rattle.laws.proofs.CodeTests.{code-holds, code-fails, decides}
-use Rattle.laws.specs.Verdict.{Verdict, passed, refused, _then_, demand, inTurn, demandEach, passes, Outcome, value, refusal, _gives_, _thenAnswers_, whenPassed}
+use Rattle.laws.specs.Verdict.{Verdict, passed, refused, _then_, demand, inTurn, demandEach, passes, Outcome, value, refusal, _gives_}
+use Rattle.laws.specs.Verdict.{_thenAnswers_, whenPassed}
 
 -- Behind a passed check the next one decides.
 pub then-passed : {x y : Verdict} → x ≡ passed → (x then y) ≡ y
@@ -219,7 +220,8 @@ module _ (k p : ℕ) (ok : ℕ → Bool) where
   pub tests-go-on : {x : Bool} (i : ℕ) → demandEach k p ok i ≡ passed → x ≡ ok i → not x ≡ false → demandEach k p ok (i + 1) ≡ passed
   tests-go-on i h e n = each-more i h (code-holds e n)
 
-  pub tests-stop : {x : Bool} (i j : ℕ) → demandEach k p ok i ≡ passed → x ≡ ok i → not x ≡ true → i < j → refused k (p + i) ≡ demandEach k p ok j
+  pub tests-stop : {x : Bool} (i j : ℕ) → demandEach k p ok i ≡ passed → x ≡ ok i → not x ≡ true → i < j →
+      refused k (p + i) ≡ demandEach k p ok j
   tests-stop i j h e n l = sym (each-stop i j l h (code-fails e n))
 
 -- What such a loop's answers take.

@@ -29,7 +29,8 @@ free-none free table e =
     })
 
 -- The free rows at one more beat.
-free-next : (free table after : List ℕ) (value : ℕ → ℕ) (n : ℕ) → FreeBeats free n table → ((j : ℕ) → j < 32 → value j ≡ getD free (rowOf j) 0) →
+free-next : (free table after : List ℕ) (value : ℕ → ℕ) (n : ℕ) → FreeBeats free n table →
+    ((j : ℕ) → j < 32 → value j ≡ getD free (rowOf j) 0) →
     Rewritten table value (n * 32) 32 after → FreeBeats free (n + 1) after
 free-next free table after value n old same new =
     record {

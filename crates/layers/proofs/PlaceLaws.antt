@@ -13,7 +13,8 @@ use Rattle.layers.specs.Table.{Grid, PlaceOf, inSet, wordOf}
 use Rattle.layers.proofs.SetLaws.{set-digit}
 
 -- A row with what it leaves of the cell's number is the cell's place.
-pub place-made : (g : SearchGrid) (c : ℕ) (p : Place) → Grid g → c < g .cells → p .row ≡ c / g .width → p .row * g .width + c % g .width ≡ c →
+pub place-made : (g : SearchGrid) (c : ℕ) (p : Place) → Grid g → c < g .cells → p .row ≡ c / g .width →
+    p .row * g .width + c % g .width ≡ c →
     p .column ≡ c - p .row * g .width → PlaceOf g c p
 place-made g c p grid inside row whole left =
     record {

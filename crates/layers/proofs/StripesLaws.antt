@@ -25,7 +25,8 @@ module _ (xs masks : List (List ℕ)) (none : ℕ) where
       xs₃ ≡ lanesOf (stripe 2) (stripe 3) (stripe 4) (mask 3) → xs₄ ≡ lanesOf (stripe 3) (stripe 4) (stripe 5) (mask 4) →
       xs₅ ≡ lanesOf (stripe 4) (stripe 5) (stripe 6) (mask 5) → xs₆ ≡ lanesOf (stripe 5) (stripe 6) (stripe 7) (mask 6) →
       xs₇ ≡ lanesOf (stripe 6) (stripe 7) (getD (stripe 0) 1 0 ∷ getD (stripe 0) 2 0 ∷ getD (stripe 0) 3 0 ∷ none ∷ []) (mask 7) →
-      (value free : ℕ → ℕ) → xs ≡ stripesOf value → masks ≡ stripesOf free → (xs₀ ∷ xs₁ ∷ xs₂ ∷ xs₃ ∷ xs₄ ∷ xs₅ ∷ xs₆ ∷ xs₇ ∷ []) ≡ stripesOf (stepWord value free)
+      (value free : ℕ → ℕ) → xs ≡ stripesOf value → masks ≡ stripesOf free →
+      (xs₀ ∷ xs₁ ∷ xs₂ ∷ xs₃ ∷ xs₄ ∷ xs₅ ∷ xs₆ ∷ xs₇ ∷ []) ≡ stripesOf (stepWord value free)
   unfolding four stripesOf laneOf lanesOf overSlot underSlot wordAt stepWord
   advanced z e₀ e₁ e₂ e₃ e₄ e₅ e₆ e₇ value free p q = rw (e₀, e₁, e₂, e₃, e₄, e₅, e₆, e₇, z, p, q) refl
 

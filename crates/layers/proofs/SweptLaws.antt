@@ -84,7 +84,8 @@ swept-more g table sets then after t back n i within few old only new =
     same : (j : ℕ) → j ≤ i → (c : ℕ) → inSet g after (beatAfter back t j) c ≡ inSet g then (beatAfter back t j) c
     same j l c = only .other (beatAfter back t j) c (beats-apart back t n j i within l few)
 
-four-same : (value other : ℕ → ℕ) (i : ℕ) → value i ≡ other i → value (i + 1) ≡ other (i + 1) → value (i + 2) ≡ other (i + 2) → value (i + 3) ≡ other (i + 3) → four value i ≡ four other i
+four-same : (value other : ℕ → ℕ) (i : ℕ) → value i ≡ other i → value (i + 1) ≡ other (i + 1) → value (i + 2) ≡ other (i + 2) →
+    value (i + 3) ≡ other (i + 3) → four value i ≡ four other i
 unfolding four
 four-same value other i p q r s = rw (p, q, r, s) refl
 

@@ -57,7 +57,8 @@ module _ (g : SearchGrid) (table : List ℕ) (a x : ℕ) (thin : 1 ≤ g .width)
   }
 
   -- Two cells have one place exactly if they are one.
-  same-place : (c : ℕ) → c < g .cells → (eqb (wordOf a (c / g .width)) (wordOf a (x / g .width)) && eqb (c % g .width) (x % g .width)) ≡ eqb c x
+  same-place : (c : ℕ) → c < g .cells →
+      (eqb (wordOf a (c / g .width)) (wordOf a (x / g .width)) && eqb (c % g .width) (x % g .width)) ≡ eqb c x
   same-place c l = same-test _ _ says back
     where
       says : (eqb (wordOf a (c / g .width)) (wordOf a (x / g .width)) && eqb (c % g .width) (x % g .width)) ≡ true → eqb c x ≡ true
@@ -201,7 +202,8 @@ taken-parked g m table then after j a b x parked old f e new = record { tidy = n
         (new .taken t c) .1 (
           before,
           λ up down k. ⊎-elim
-              (λ (v : t < a). p .1 a (omega (arith, parked .upto)) (omega arith) (omega arith) (k ∙ e ∙ sym (parked .keeps a (omega arith) (parked .upto))))
+              (λ (v : t < a). p .1 a (omega (arith, parked .upto)) (omega arith) (omega arith)
+              (k ∙ e ∙ sym (parked .keeps a (omega arith) (parked .upto))))
               (λ (v : a ≤ t). p .1 t (omega arith) (omega arith) (omega arith) (k ∙ e ∙ sym (parked .keeps t v h))) (lt-or-le t a),
         )
 
@@ -213,5 +215,6 @@ pub parked-more : (m : List ℕ) (j a h : ℕ) → Parked m j a h → viewCell m
 parked-more m j a h parked e =
     record {
       upto = omega (arith, parked .upto);
-      keeps = λ t l u. ⊎-elim (λ (v : t < a). let z : t ≡ a - 1 = omega arith in rw z e) (λ (v : a ≤ t). parked .keeps t v u) (lt-or-le t a);
+      keeps = λ t l u. ⊎-elim (λ (v : t < a). let z : t ≡ a - 1 = omega arith in rw z e) (λ (v : a ≤ t). parked .keeps t v u)
+          (lt-or-le t a);
     }

@@ -1,5 +1,5 @@
--- The free table of a search: a table of the cells that can be stood on at each beat, and how the code makes one. A view's cell is taken out at
--- its beat and at the beats beside it, within 0 to the horizon.
+-- The free table of a search: a table of the cells that can be stood on at each beat, and how the code makes one. A view's cell is taken
+-- out at its beat and at the beats beside it, within 0 to the horizon.
 use Prim.Native.Nat.{ℕ, _+_, _*_, _/_, _%_, _≤_, _<_}
 use mathlib.Core.Bool.{Bool, true, _&&_}
 use mathlib.Core.List.{List}

@@ -47,8 +47,8 @@ unfoldable pub Within : Bool → ℕ → ℕ → Type 0
 Within true t n = (t < 64) × (n ≤ t)
 Within false t n = t + n < 64
 
--- The sets after are those before with n changed after beat t, or before it, each to what the one before it spreads to in the free table; the set of beat t and
--- those on its other side are as they were.
+-- The sets after are those before with n changed after beat t, or before it, each to what the one before it spreads to in the free table;
+-- the set of beat t and those on its other side are as they were.
 pub record Swept (g : SearchGrid) (table sets : List ℕ) (t : ℕ) (back : Bool) (n : ℕ) (after : List ℕ) : Type 0 where
   pub tidy : Tidy g after
   pub spreads : (i : ℕ) → i < n → Spread g table after (beatAfter back t i) (beatAfter back t (i + 1))

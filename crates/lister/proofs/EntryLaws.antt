@@ -12,7 +12,8 @@ use borrow.Author.Tests.{leb-true, lt-ltb, le-ltb}
 use Rattle.laws.specs.Verdict.{Outcome, value, refusal, passed, refused, _then_, demand, _gives_}
 use Rattle.laws.specs.Memory.{put}
 use Rattle.laws.proofs.PutLaws.{put-length}
-use Rattle.laws.proofs.VerdictLaws.{then-both, then-passed, demand-holds, demand-passes, gives-passed, gives-refused, when-passed, when-refused}
+use Rattle.laws.proofs.VerdictLaws.{then-both, then-passed, demand-holds, demand-passes, gives-passed, gives-refused, when-passed}
+use Rattle.laws.proofs.VerdictLaws.{when-refused}
 use Rattle.floor.specs.declared.Floor.{Floor}
 use Rattle.floor.specs.declared.Checked.{Checked}
 use Rattle.floor.specs.declared.Checked.the-variants.{Passed}
@@ -88,7 +89,8 @@ module _ (M : Machine) where
   one lines e = rw e refl
 
   -- Runs behind the window's rank are not written.
-  lines-behind : (first rank : ℕ) (ys : List Run) (lines : List ℕ) → length lines ≡ 23 → first < rank → listedFrom M first rank ys lines ≡ lines
+  lines-behind : (first rank : ℕ) (ys : List Run) (lines : List ℕ) → length lines ≡ 23 → first < rank →
+      listedFrom M first rank ys lines ≡ lines
   unfolding listedFrom
   lines-behind first rank [] lines long l = refl
   lines-behind first rank (xs ∷ ys) lines long l =
@@ -137,7 +139,8 @@ module _ (f : Floor) (ws : List ℕ) (ok : checkOf f ws ≡ passed) (few : f .ca
   pub root-placed : Placed f ws 1181
   root-placed = record { accepted = floor-theorems .passes-exactly f ws .0 ok; enough = state-small (f .carriers) few }
 
-  pub root-branch : (rows : List ℕ) (node : Node) (left : ℕ) → Rooted (f .carriers) node → FreeRows f ws rows → left ≡ ceiling (f .carriers) →
+  pub root-branch : (rows : List ℕ) (node : Node) (left : ℕ) → Rooted (f .carriers) node → FreeRows f ws rows →
+      left ≡ ceiling (f .carriers) →
       Branch f ws rows node left
   root-branch rows node left rooted free e =
       record {

@@ -54,7 +54,8 @@ followedIn f ws left m p =
 unfoldable pub besideIn : Floor → List ℕ → ℕ → List ℕ → ℕ → List Run
 besideIn f ws zero m p = []
 besideIn f ws (suc left) m p =
-    beginning (openIn (machineOf f ws) m) (λ x. runsIn (machineOf f ws) left (afterIn (machineOf f ws) m x)) (drop p (ranking (f .carriers)))
+    beginning (openIn (machineOf f ws) m) (λ x. runsIn (machineOf f ws) left (afterIn (machineOf f ws) m x))
+    (drop p (ranking (f .carriers)))
 
 -- The numbers of the report of a run.
 unfoldable pub numbersIn : Machine → List ℕ → Run → List ℕ

@@ -37,7 +37,8 @@ record Cases : Type 0 where
       (plan 0 ∷ deliver 0 1 ∷ plan 1 ∷ []) ∷
       (plan 1 ∷ plan 0 ∷ deliver 0 1 ∷ plan 1 ∷ []) ∷ [])
   one : runsOf (idler 1 1) ≡ ((plan 0 ∷ []) ∷ [])
-  -- Three carriers that keep their answers, and three of which carrier 2 changes its own on hearing carrier 1; channels of one place and of two.
+  -- Three carriers that keep their answers, and three of which carrier 2 changes its own on hearing carrier 1; channels of one place and of
+  -- two.
   kept-1 : total (idler 3 1) ≡ 495
   kept-2 : total (idler 3 2) ≡ 620
   changed-1 : total (changer 3 1) ≡ 888

@@ -59,18 +59,21 @@ module _ {A : Type 0} where
   Sorted R [] = Unit {0}
   Sorted R (x ∷ xs) = AllItems (R x) xs × Sorted R xs
 
-  pub sorted-append : (R : A → A → Type 0) (xs ys : List A) → Sorted R xs → Sorted R ys → AllItems (λ x. AllItems (R x) ys) xs → Sorted R (xs ++ ys)
+  pub sorted-append : (R : A → A → Type 0) (xs ys : List A) → Sorted R xs → Sorted R ys → AllItems (λ x. AllItems (R x) ys) xs →
+      Sorted R (xs ++ ys)
   unfolding Sorted AllItems
   sorted-append R [] ys h g c = g
   sorted-append R (x ∷ xs) ys h g c = (all-append (R x) xs ys (h .0) (c .0), sorted-append R xs ys (h .1) g (c .1))
 
-  pub sorted-map : (R : A → A → Type 0) (φ : A → A) → ((x y : A) → R x y → R (φ x) (φ y)) → (xs : List A) → Sorted R xs → Sorted R (map φ xs)
+  pub sorted-map : (R : A → A → Type 0) (φ : A → A) → ((x y : A) → R x y → R (φ x) (φ y)) → (xs : List A) → Sorted R xs →
+      Sorted R (map φ xs)
   unfolding Sorted
   sorted-map R φ keeps [] h = tt
   sorted-map R φ keeps (x ∷ xs) h =
       (all-map φ (R (φ x)) xs (all-more (R x) (λ y. R (φ x) (φ y)) (keeps x) xs (h .0)), sorted-map R φ keeps xs (h .1))
 
-  pub sorted-at : (R : A → A → Type 0) (x : A) (xs : List A) → Sorted R xs → (i j : ℕ) → i < j → j < length xs → R (getD xs i x) (getD xs j x)
+  pub sorted-at : (R : A → A → Type 0) (x : A) (xs : List A) → Sorted R xs → (i j : ℕ) → i < j → j < length xs →
+      R (getD xs i x) (getD xs j x)
   unfolding Sorted
   sorted-at R x [] h i j b c = absurd (omega arith)
   sorted-at R x (y ∷ xs) h zero zero b c = absurd (omega arith)

@@ -141,7 +141,8 @@ module _ (M : Machine) where
   unfolding places stepAt
   begin-sorted s onward h zero p e = rw (drop-of-length-le (ranking n) {i = p} (omega arith)) (nothing s onward p)
   begin-sorted s onward h (suc k) p e =
-      rw (drop-cons (ranking n) p (plan 0) (omega arith)) (go (isOpen M s (stepAt n p)) refl (begin-sorted s onward h k (suc p) (omega arith)))
+      rw (drop-cons (ranking n) p (plan 0) (omega arith))
+      (go (isOpen M s (stepAt n p)) refl (begin-sorted s onward h k (suc p) (omega arith)))
     where
       x : Step
       x = stepAt n p

@@ -148,7 +148,8 @@ module _ (M : Machine) where
       let place = there-place M x (open-there s x (c .0)) in
       let rest = complete-placed left (afterStep M s x) xs (c .1) (omega (arith, step-lowers M s x (c .0))) in
       rw (runs-more left s (open-not-silent s x (c .0)))
-      (begin-placed s (λ y. runsFrom M left (afterStep M s y)) x xs (c .0) rest (ranking (M .carriers)) (place .0) (at-place place) (is-step place))
+      (begin-placed s (λ y. runsFrom M left (afterStep M s y)) x xs (c .0) rest (ranking (M .carriers)) (place .0) (at-place place)
+      (is-step place))
     where
       at-place : (p : RankedPlace (M .carriers) x) → p .0 < length (ranking (M .carriers))
       at-place p = p .1

@@ -37,8 +37,10 @@ module _ (M : Machine) where
 
   complete-exactly : (xs : Run) → Complete M fresh xs ↔ ((rank : ℕ) × (rank < total M) × (runAt M rank ≡ xs))
   unfolding total runAt runsOf HasPlace
-  complete-exactly xs =
-      (λ c. complete-placed M (ceiling (M .carriers)) fresh xs c fresh-ceiling, λ h. subst (Complete M fresh) (h .2) (listed-complete (h .0) (h .1)))
+  complete-exactly xs = (
+    λ c. complete-placed M (ceiling (M .carriers)) fresh xs c fresh-ceiling,
+    λ h. subst (Complete M fresh) (h .2) (listed-complete (h .0) (h .1)),
+  )
 
   earlier : (rank rank′ : ℕ) → rank < rank′ → rank′ < total M → EarlierRun (M .carriers) (runAt M rank) (runAt M rank′)
   unfolding total runAt runsOf
@@ -55,7 +57,8 @@ module _ (M : Machine) where
   one-rank : (rank rank′ : ℕ) → rank < total M → rank′ < total M → runAt M rank ≡ runAt M rank′ → rank ≡ rank′
   one-rank rank rank′ l h e =
       ⊎-elim (λ (g : rank < rank′). absurd (not-itself rank rank′ g h e))
-      (λ (g : rank′ ≤ rank). ⊎-elim (λ (k : rank′ ≡ rank). sym k) (λ (k : rank′ < rank). absurd (not-itself rank′ rank k l (sym e))) (eq-or-lt-of-le g))
+      (λ (g : rank′ ≤ rank). ⊎-elim (λ (k : rank′ ≡ rank). sym k) (λ (k : rank′ < rank). absurd (not-itself rank′ rank k l (sym e)))
+      (eq-or-lt-of-le g))
       (lt-or-le rank rank′)
 
   ranked : (rank rank′ : ℕ) → rank < total M → rank′ < total M → (rank < rank′) ↔ EarlierRun (M .carriers) (runAt M rank) (runAt M rank′)
@@ -71,7 +74,8 @@ module _ (M : Machine) where
         (lt-or-le rank rank′),
   )
     where
-      itself : rank′ ≡ rank → EarlierRun (M .carriers) (runAt M rank) (runAt M rank′) → EarlierRun (M .carriers) (runAt M rank′) (runAt M rank)
+      itself : rank′ ≡ rank → EarlierRun (M .carriers) (runAt M rank) (runAt M rank′) →
+          EarlierRun (M .carriers) (runAt M rank′) (runAt M rank)
       itself k e = rw k (rw k at e)
 
   within-ceiling : (rank : ℕ) → rank < total M → length (runAt M rank) ≤ ceiling (M .carriers)

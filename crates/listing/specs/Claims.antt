@@ -18,7 +18,8 @@ pub record Claims : Type 0 where
   -- A run has one rank; so the total is the number of complete runs.
   pub one-rank : (M : Machine) (rank rank′ : ℕ) → rank < total M → rank′ < total M → runAt M rank ≡ runAt M rank′ → rank ≡ rank′
   -- A smaller rank is an earlier run, and the other way round.
-  pub ranked : (M : Machine) (rank rank′ : ℕ) → rank < total M → rank′ < total M → (rank < rank′) ↔ EarlierRun (M .carriers) (runAt M rank) (runAt M rank′)
+  pub ranked : (M : Machine) (rank rank′ : ℕ) → rank < total M → rank′ < total M →
+      (rank < rank′) ↔ EarlierRun (M .carriers) (runAt M rank) (runAt M rank′)
   -- A run has at most as many steps as the ceiling.
   pub within-ceiling : (M : Machine) (rank : ℕ) → rank < total M → length (runAt M rank) ≤ ceiling (M .carriers)
   -- There is a run.

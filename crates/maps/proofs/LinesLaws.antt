@@ -64,5 +64,6 @@ whole-put {text} {old} p e =
     ∙ append-nil text
 
 -- One byte that is another by an equation.
-pub byte-put : {byte byte′ : ℕ} {old new : List ℕ} {at n : ℕ} → byte ≡ byte′ → PutAt (byte ∷ []) old at new n → PutAt (byte′ ∷ []) old at new n
+pub byte-put : {byte byte′ : ℕ} {old new : List ℕ} {at n : ℕ} → byte ≡ byte′ → PutAt (byte ∷ []) old at new n →
+    PutAt (byte′ ∷ []) old at new n
 byte-put e p = rw (← e) p

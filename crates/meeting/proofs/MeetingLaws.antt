@@ -118,7 +118,8 @@ conflict-low H r q t following c = omega (arith, c .0)
 pub found-early : (H : ℕ) (r q : List ℕ) (x : ConflictAnswer) → x ≡ firstConflict (min H 63) r q → Early x
 unfolding Early
 found-early H r q free e = tt
-found-early H r q (dated t kind) e = conflict-low H r q t kind (route-theorems .conflict-test (min H 63) r q .first-exactly t kind .0 (sym e) .there)
+found-early H r q (dated t kind) e =
+    conflict-low H r q t kind (route-theorems .conflict-test (min H 63) r q .first-exactly t kind .0 (sym e) .there)
 
 -- A conflict that is told is early: by its kind, and so in two digits.
 module _ {x : FirstConflict} {t : ℕ} (e : Early (conflictTold x)) where
@@ -204,7 +205,8 @@ module _ (f : Floor) (ws : List ℕ) (i j : ℕ) (x y : Answer) (r q : List ℕ)
   unfolding metText answerIf
   first-none e t = rw e t
 
-  pub second-none : x ≡ answerIf true r → y ≡ answerIf false q → TextPut (noRouteLine j) old new n → TextPut (metText f ws i j x y) old new n
+  pub second-none : x ≡ answerIf true r → y ≡ answerIf false q → TextPut (noRouteLine j) old new n →
+      TextPut (metText f ws i j x y) old new n
   unfolding metText answerIf
   second-none e h t = rw (e, h) t
 
@@ -259,7 +261,8 @@ module _ (f : Floor) (ws : List ℕ) (i j : ℕ) (old new : List ℕ) (n : ℕ) 
   unfolding pairText orRefusal
   pair-put e t = rw e t
 
-  pub pair-refused : (k p : ℕ) → pairVerdict f i j ≡ refused k p → TextPut (refusalLine k p) old new n → TextPut (pairText f ws i j) old new n
+  pub pair-refused : (k p : ℕ) → pairVerdict f i j ≡ refused k p → TextPut (refusalLine k p) old new n →
+      TextPut (pairText f ws i j) old new n
   unfolding pairText orRefusal
   pair-refused k p e t = rw e t
 

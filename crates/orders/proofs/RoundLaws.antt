@@ -25,7 +25,8 @@ Way k c p d = (c + d ≡ p) ⊎ ((p < c) × (c + d ≡ k + p))
 way-start : (k kept p : ℕ) → kept ≤ k → p < k → (d : ℕ) × (d < k) × Way k kept p d
 unfolding Way
 way-start k kept p l h =
-    ⊎-elim (λ (a : p < kept). (k + p - kept, omega arith, inr (a, omega arith))) (λ (a : kept ≤ p). (p - kept, omega arith, inl (omega arith)))
+    ⊎-elim (λ (a : p < kept). (k + p - kept, omega arith, inr (a, omega arith)))
+    (λ (a : kept ≤ p). (p - kept, omega arith, inl (omega arith)))
     (lt-or-le p kept)
 
 -- The steps of a report with one more line.
@@ -101,7 +102,8 @@ module _ (M : Machine) where
     by-rule : FollowsOrder round M memory s entries
     steps : stepsIn entries ≡ rest
 
-  later : (kept : ℕ) (s : State) (ys : List Entry) (xs rest : List Step) → kept ≤ k → FollowsOrder round M kept s ys → stepsIn ys ≡ xs ++ rest →
+  later : (kept : ℕ) (s : State) (ys : List Entry) (xs rest : List Step) → kept ≤ k → FollowsOrder round M kept s ys →
+      stepsIn ys ≡ xs ++ rest →
       From (afterSteps M s xs) rest
   unfolding FollowsOrder afterSteps remembered
   later kept s ys [] rest l h e = record { memory = kept; entries = ys; fits = l; by-rule = h; steps = e }

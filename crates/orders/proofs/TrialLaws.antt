@@ -37,7 +37,8 @@ module _ (o : Order) (M : Machine) where
   try-silent kept s b e = rw (e, tryFrom)
 
   pub try-step : (kept : ℕ) (s : State) (b : ℕ) → isSilent M s ≡ false → tryFrom o M kept s (suc b) ≡
-      reported (entryOf M s (nextStep o M s kept)) (tryFrom o M (remembered o kept (chosen o M s kept)) (afterStep M s (nextStep o M s kept)) b)
+      reported (entryOf M s (nextStep o M s kept))
+      (tryFrom o M (remembered o kept (chosen o M s kept)) (afterStep M s (nextStep o M s kept)) b)
   unfolding tryFrom
   try-step kept s b e = rw (e, tryFrom)
 
@@ -57,7 +58,8 @@ module _ (o : Order) (M : Machine) where
       where
         go : (x : Bool) → isSilent M s ≡ x → (Memory o M (remembered o kept (chosen o M s kept)) →
             P (remembered o kept (chosen o M s kept)) (afterStep M s (nextStep o M s kept)) b
-            (tryFrom o M (remembered o kept (chosen o M s kept)) (afterStep M s (nextStep o M s kept)) b)) → P kept s (suc b) (tryFrom o M kept s (suc b))
+            (tryFrom o M (remembered o kept (chosen o M s kept))
+            (afterStep M s (nextStep o M s kept)) b)) → P kept s (suc b) (tryFrom o M kept s (suc b))
         go true e on = rw (try-silent kept s b e) (silent kept s b e)
         go false e on =
             let r = chosen-takes M s o kept h (some-place M s e) in rw (try-step kept s b e) (more kept s b _ r (on (r .next)))

@@ -36,8 +36,8 @@ passing test (suc k) = passing test k ++ elim (test k) [ true ↦ k ∷ [] | fal
 unfoldable pub openPlaces : Machine → State → List ℕ
 openPlaces M s = passing (openAt M s) (places (M .carriers))
 
--- Which of the open places an order takes that remembers the number kept, counted from 0 and on from the first again behind the last: order 1 the
--- first; order 2 the one behind those before place kept; order 3 the one at the drawn number.
+-- Which of the open places an order takes that remembers the number kept, counted from 0 and on from the first again behind the last: order
+-- 1 the first; order 2 the one behind those before place kept; order 3 the one at the drawn number.
 unfoldable pub turn : Order → Machine → State → ℕ → ℕ
 turn first M s kept = 0
 turn round M s kept = length (passing (openAt M s) kept)

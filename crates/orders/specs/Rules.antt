@@ -21,8 +21,8 @@ pub data FirstRound (M : Machine) (s : State) (kept p : ℕ) : Type 0 where
   onward : kept ≤ p → ShutFrom M s kept p → FirstRound M s kept p
   around : p < kept → ShutFrom M s kept (places (M .carriers)) → ShutFrom M s 0 p → FirstRound M s kept p
 
--- An order that remembers the number kept may take place p. Order 1: the first open one. Order 2: the first open one going round. Order 3: with n
--- open ones, the one at the drawn number modulo n.
+-- An order that remembers the number kept may take place p. Order 1: the first open one. Order 2: the first open one going round. Order 3:
+-- with n open ones, the one at the drawn number modulo n.
 unfoldable pub MayTake : Order → Machine → State → ℕ → ℕ → Type 0
 MayTake first M s kept p = ShutFrom M s 0 p
 MayTake round M s kept p = FirstRound M s kept p

@@ -72,7 +72,8 @@ module _ (g : SearchGrid) (sets : List ℕ) (t c : ℕ) (p : Place) (grid : Grid
       has sets (wordOf t row) column ≡ inSet g sets t d
   digit-set d row column (h, l) low =
       rw (← h, ← l)
-      (same-test _ _ (λ q. set-holds g sets t d (rw (div-add-mod' d w) at (tidy .rows t (d / w) (d % w) (rw h low) q)) q) (set-has g sets t d))
+      (same-test _ _ (λ q. set-holds g sets t d (rw (div-add-mod' d w) at (tidy .rows t (d / w) (d % w) (rw h low) q)) q)
+      (set-has g sets t d))
 
   -- The digits above, left, here, right and below.
   pub up-is : (x : Bool) → x ≡ (ltb 0 (p .row) && has sets (wordOf t (p .row - 1)) (p .column)) →
@@ -163,7 +164,8 @@ module _ (g : SearchGrid) (sets : List ℕ) (t c : ℕ) (p : Place) (grid : Grid
               passed-over (Goes _) _ _ (up-is x up) no-up
               (passed-over (Goes _) _ _ (left-is x₂ left) no-left
               (passed-over (Goes _) _ _ (here-is x₃ here) no-here
-              (taken (Goes _) _ _ (right-is x₄ right) h (place (c + 1) (p .row) (p .column + 1) (right-place (within _ _ _ right h)) (at .low)))))
+              (taken (Goes _) _ _ (right-is x₄ right) h
+              (place (c + 1) (p .row) (p .column + 1) (right-place (within _ _ _ right h)) (at .low)))))
 
           module _ (no-right : x₄ ≡ false) {x₅ : Bool}
               (down : x₅ ≡ (ltb (p .row + 1) 32 && has sets (wordOf t (p .row + 1)) (p .column))) where
@@ -176,7 +178,8 @@ module _ (g : SearchGrid) (sets : List ℕ) (t c : ℕ) (p : Place) (grid : Grid
 
             pub goes-down : x₅ ≡ true → PlaceOf g (nextOf g sets t c) (record { row = p .row + 1; column = p .column })
             goes-down h =
-                past-right _ (taken (Goes _) _ _ (down-is x₅ down) h (place (c + w) (p .row + 1) (p .column) down-place (within _ _ _ down h)))
+                past-right _ (taken (Goes _) _ _ (down-is x₅ down) h
+                (place (c + w) (p .row + 1) (p .column) down-place (within _ _ _ down h)))
 
             pub goes-nowhere : x₅ ≡ false → PlaceOf g (nextOf g sets t c) p
             goes-nowhere h = past-right p (passed-over (Goes p) _ _ (down-is x₅ down) h at)

@@ -84,7 +84,8 @@ module _ (g : SearchGrid) (table sets : List ℕ) (start n : ℕ) (ds : Docks) (
   arrival-stays : (t u : ℕ) → t ≤ u → u ≤ n → arrivable g sets ds t ≡ true → arrivable g sets ds u ≡ true
   arrival-stays t zero h l e = let same : t ≡ 0 = omega arith in rw same at e
   arrival-stays t (suc u) h l e =
-      ⊎-elim (λ (q : t ≡ suc u). rw q at e) (λ (q : t < suc u). rw add-one at (arrival-next u l (arrival-stays t u (omega arith) (omega arith) e)))
+      ⊎-elim (λ (q : t ≡ suc u). rw q at e)
+      (λ (q : t < suc u). rw add-one at (arrival-next u l (arrival-stays t u (omega arith) (omega arith) e)))
       (eq-or-lt-of-le h)
 
   -- What the pass finds at beat n: nothing, at the last one, or the least arrival.
@@ -102,7 +103,8 @@ module _ (g : SearchGrid) (table sets : List ℕ) (start n : ℕ) (ds : Docks) (
         upto = omega (arith, held-upto φ n);
         none-before = λ b h i. absurd (omega (arith, h, held-least φ b n (λ t a u. arrival-stays b t a (omega arith) i)));
         passes = λ h. ⊎-elim (λ (q : heldFrom φ n ≡ n). rw q e)
-            (λ (q : heldFrom φ n < n). held-says φ (heldFrom φ n) n (omega arith) (heldFrom φ n) (omega arith) q) (eq-or-lt-of-le (held-upto φ n));
+            (λ (q : heldFrom φ n < n). held-says φ (heldFrom φ n) n (omega arith) (heldFrom φ n) (omega arith) q)
+            (eq-or-lt-of-le (held-upto φ n));
       }
     where
       φ : ℕ → Bool

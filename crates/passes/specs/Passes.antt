@@ -1,5 +1,5 @@
--- The passes of a search: forward from the start to the least arrival, backward from there to what leads to a dock. A table of the free table
--- and the docks are all that they know.
+-- The passes of a search: forward from the start to the least arrival, backward from there to what leads to a dock. A table of the free
+-- table and the docks are all that they know.
 use Prim.Native.Nat.{ℕ, _+_, _-_, _/_, _%_, _≤_, _<_}
 use mathlib.Core.Bool.{Bool, true}
 use mathlib.Core.List.{List}

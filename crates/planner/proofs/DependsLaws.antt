@@ -42,7 +42,8 @@ sequential-below φ ψ (suc k) h =
     )
 
 -- Tasks with the same parts are the same.
-parts-same : {w w′ c c′ h h′ start start′ : ℕ} {dock dock′ free free′ : ℕ → Bool} → w ≡ w′ → c ≡ c′ → h ≡ h′ → start ≡ start′ → dock ≡ dock′ → free ≡ free′
+parts-same : {w w′ c c′ h h′ start start′ : ℕ} {dock dock′ free free′ : ℕ → Bool} → w ≡ w′ → c ≡ c′ → h ≡ h′ → start ≡ start′ →
+    dock ≡ dock′ → free ≡ free′
     → _≡_ {A = Task} (record { width = w; cells = c; horizon = h; start = start; dock = dock; free = free })
     (record { width = w′; cells = c′; horizon = h′; start = start′; dock = dock′; free = free′ })
 parts-same a b c d e f = rw (a, b, c, d, e, f)

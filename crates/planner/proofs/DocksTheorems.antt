@@ -98,10 +98,12 @@ module _ (old : OneDockFloor) (ws : List ℕ) (ok : earlierCheck old ws ≡ pass
       rw one at (goal-task (k + 1) (omega arith) vs x)
 
   earlier-response : (i : ℕ) (vs : List View) (x : Answer) → i < old .carriers →
-      BestTo (getD (old .goals) i 0) (taskOf (withOneDock old) ws (i + 1)) (seen (withOneDock old) vs) x ↔ (x ≡ respondOf (withOneDock old) ws i vs)
+      BestTo (getD (old .goals) i 0) (taskOf (withOneDock old) ws (i + 1)) (seen (withOneDock old) vs) x ↔
+      (x ≡ respondOf (withOneDock old) ws i vs)
   earlier-response i vs x l = (
     λ b. responds-only (withOneDock old) ws accepted i vs x (to-goal i l (seen (withOneDock old) vs) x .1 b),
-    λ q. rw q (to-goal i l (seen (withOneDock old) vs) (respondOf (withOneDock old) ws i vs) .0 (responds (withOneDock old) ws accepted i vs)),
+    λ q. rw q (to-goal i l (seen (withOneDock old) vs) (respondOf (withOneDock old) ws i vs) .0
+        (responds (withOneDock old) ws accepted i vs)),
   )
 
   earlier-search : (i : ℕ) (m : List ℕ) (x : Answer) → searchOf (withOneDock old) ws i m ≡ value x →
@@ -129,7 +131,8 @@ module _ (old : OneDockFloor) (ws : List ℕ) (ok : earlierCheck old ws ≡ pass
       record {
         every = plan-theorems .answers-all (withOneDock old) ws;
         best = λ k l.
-            to-goal k l (seen (withOneDock old) (map heard (take k (planOf (withOneDock old) ws)))) (answerAt (planOf (withOneDock old) ws) k) .0
+            to-goal k l (seen (withOneDock old) (map heard (take k (planOf (withOneDock old) ws))))
+            (answerAt (planOf (withOneDock old) ws) k) .0
             (plan-theorems .each-best (withOneDock old) ws k accepted l);
       }
 

@@ -26,7 +26,8 @@ module _ (f : Floor) (free xs : List ℕ) (i k : ℕ) (ys : List ℕ) (able : Se
       IsFreeTable (searchGridOf f) i free q xs
   unfolding searchGridOf
   table-same m q same old =
-      free-table-same (searchGridOf f) free m q xs i (able .width .1) (grid-low (f .width) (f .height) (able .height)) (able .horizon) same old
+      free-table-same (searchGridOf f) free m q xs i (able .width .1) (grid-low (f .width) (f .height) (able .height))
+      (able .horizon) same old
 
   -- The free table with one more answer behind them.
   pub table-stored : (m q zs : List ℕ) → 65 * i ≤ length m → q ≡ put m (65 * i) zs → IsFreeTable (searchGridOf f) i free m xs →

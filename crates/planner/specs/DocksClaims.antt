@@ -38,7 +38,8 @@ pub record DocksClaims : Type 0 where
   -- So is every response, to any views; the machine, trials, listed runs and blockers know the search only by its responses.
   pub earlier-response : (old : OneDockFloor) (ws : List ℕ) (i : ℕ) (vs : List View) (x : Answer) → earlierCheck old ws ≡ passed →
       i < old .carriers →
-      BestTo (getD (old .goals) i 0) (taskOf (withOneDock old) ws (i + 1)) (seen (withOneDock old) vs) x ↔ (x ≡ respondOf (withOneDock old) ws i vs)
+      BestTo (getD (old .goals) i 0) (taskOf (withOneDock old) ws (i + 1)) (seen (withOneDock old) vs) x ↔
+      (x ≡ respondOf (withOneDock old) ws i vs)
   -- So is every search, to the views that its memory shows, and the arrival of a route that is answered is document 01's.
   pub earlier-search : (old : OneDockFloor) (ws : List ℕ) (i : ℕ) (m : List ℕ) (x : Answer) → earlierCheck old ws ≡ passed →
       searchOf (withOneDock old) ws i m ≡ value x →

@@ -18,7 +18,8 @@ pub line-start : (text : List ℕ) → 1 ≡ lineAt text 0
 unfolding lineAt
 line-start text = refl
 
-pub line-more : (text : List ℕ) (k line byte next : ℕ) → line ≡ lineAt text k → byte ≡ getD text k 0 → next ≡ cond (eqb byte 10) (suc line) line
+pub line-more : (text : List ℕ) (k line byte next : ℕ) → line ≡ lineAt text k → byte ≡ getD text k 0 →
+    next ≡ cond (eqb byte 10) (suc line) line
     → next ≡ lineAt text (k + 1)
 unfolding lineAt
 line-more text k line byte next e f g = rw add-one (cc)
@@ -39,7 +40,8 @@ position-end at-byte k at n a b e =
     rw same at e
 
 -- The words of a position, put piece by piece.
-pub position-put : (line column n₁ n₂ n₃ n₄ n : ℕ) (old m₁ m₂ m₃ m₄ new : List ℕ) → PutAt lineWord old 0 m₁ n₁ → PutAt (decimal line) m₁ n₁ m₂ n₂
+pub position-put : (line column n₁ n₂ n₃ n₄ n : ℕ) (old m₁ m₂ m₃ m₄ new : List ℕ) → PutAt lineWord old 0 m₁ n₁ →
+    PutAt (decimal line) m₁ n₁ m₂ n₂
     → PutAt columnWord m₂ n₂ m₃ n₃ → PutAt (decimal column) m₃ n₃ m₄ n₄ → PutAt colon m₄ n₄ new n → 26 ≤ length old
     → PutAt (positionText line column) old 0 new n
 unfolding positionText lineWord columnWord colon

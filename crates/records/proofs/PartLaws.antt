@@ -26,4 +26,5 @@ pub view-part : (m : List ℕ) (a i j : ℕ) → j < i → a + 65 * i ≤ length
 unfolding viewAt recordAt
 view-part m a i j l h =
     let sum : a + (65 * j + 1) ≡ a + 65 * j + 1 = omega arith in
-    ap₂ viewOf (part-byte m a (65 * i) (65 * j) (omega arith)) (part-part m a (65 * i) (65 * j + 1) 64 h (omega arith) ∙ ap (λ (k : ℕ). part m k 64) sum)
+    ap₂ viewOf (part-byte m a (65 * i) (65 * j) (omega arith))
+    (part-part m a (65 * i) (65 * j + 1) 64 h (omega arith) ∙ ap (λ (k : ℕ). part m k 64) sum)

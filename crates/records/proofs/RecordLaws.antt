@@ -47,7 +47,8 @@ cells-behind pre r rest tag n s l =
     ∙ take-at r rest 64 l
 
 -- A record is the view of its answer.
-pub record-view : (pre rest : List ℕ) (x : Answer) (k : ℕ) → length pre ≡ 65 * k → Whole x → viewAt (pre ++ (recordOf x ++ rest)) k ≡ heard x
+pub record-view : (pre rest : List ℕ) (x : Answer) (k : ℕ) → length pre ≡ 65 * k → Whole x →
+    viewAt (pre ++ (recordOf x ++ rest)) k ≡ heard x
 unfolding viewAt recordAt recordOf
 record-view pre rest none k s w =
     let cells = part (pre ++ (1 ∷ (replicate 64 0 ++ rest))) (65 * k + 1) 64 in
@@ -97,4 +98,8 @@ module _ (respond : ℕ → List View → Answer) (whole : (k : ℕ) (vs : List 
   unfolding sequential records next
   views-are zero m rest e = refl
   views-are (suc k) m rest e =
-      rw (heard-snoc (sequential respond k) (next k), views-are k m (recordOf (next k) ++ rest) (apart k m rest e), last-view k m rest e) refl
+      rw (
+        heard-snoc (sequential respond k) (next k),
+        views-are k m (recordOf (next k) ++ rest) (apart k m rest e),
+        last-view k m rest e,
+      ) refl

@@ -53,7 +53,8 @@ unfolding seenFrom
 seen-snoc f j [] v = rw add-zero refl
 seen-snoc f j (v′ ∷ vs) v =
     let place : suc j + length vs ≡ j + suc (length vs) = omega arith in
-    ap (λ (vs : List View). seenAs f j v′ ∷ vs) (seen-snoc f (suc j) vs v ∙ ap (λ (k : ℕ). seenFrom f (suc j) vs ++ (seenAs f k v ∷ [])) place)
+    ap (λ (vs : List View). seenAs f j v′ ∷ vs)
+    (seen-snoc f (suc j) vs v ∙ ap (λ (k : ℕ). seenFrom f (suc j) vs ++ (seenAs f k v ∷ [])) place)
 
 pub records-length : (m : List ℕ) (k : ℕ) → length (records m k) ≡ k
 unfolding records
@@ -203,4 +204,5 @@ module _ (f : Floor) (m old q r : List ℕ) (j : ℕ) where
   unfolding seenRecord
   stored-plain e l p g =
       g
-      ∙ ap (put old (65 * j)) (rw (ne-eqb (getD m (65 * j) 0) 1 e) (ap (λ (xs : List ℕ). getD m (65 * j) 0 ∷ xs) p ∙ part-first m (65 * j) 64 l))
+      ∙ ap (put old (65 * j)) (rw (ne-eqb (getD m (65 * j) 0) 1 e)
+      (ap (λ (xs : List ℕ). getD m (65 * j) 0 ∷ xs) p ∙ part-first m (65 * j) 64 l))

@@ -146,7 +146,12 @@ module _ (M : Machine) (s : State) where
       let n = pairs-differ M s h in
       let m = pairs-differ M s (apart-sym h) in
       state-same _ _ refl (value-swap (s .due) i k true) refl
-      (rw (pair-else (s .view) i j _ k j′ n, pair-else (s .chan) i j _ k j′ n, pair-else (s .view) k j′ _ i j m, pair-else (s .chan) k j′ _ i j m)
+      (rw (
+        pair-else (s .view) i j _ k j′ n,
+        pair-else (s .chan) i j _ k j′ n,
+        pair-else (s .view) k j′ _ i j m,
+        pair-else (s .chan) k j′ _ i j m,
+      )
       (pair-swap (s .view) i j k j′ _ _ n))
       (rw (pair-else (s .chan) i j _ k j′ n, pair-else (s .chan) k j′ _ i j m) (pair-swap (s .chan) i j k j′ _ _ n)) refl
 

@@ -50,7 +50,8 @@ view-heard M s h i j l e d = rw (e, h .has-planned j d) at (h .is-said i j l)
 
 pub fresh-coherent : (M : Machine) → Coherent M fresh
 unfolding fresh latest said saidAs
-fresh-coherent M = record { has-planned = λ i e. true-false-absurd refl e; is-best = λ i e. true-false-absurd refl e; is-said = λ i j l. refl }
+fresh-coherent M =
+    record { has-planned = λ i e. true-false-absurd refl e; is-best = λ i e. true-false-absurd refl e; is-said = λ i j l. refl }
 
 -- The taken count does not matter.
 counted-coherent : (M : Machine) (s : State) → Coherent M s → Coherent M (counted s)

@@ -17,7 +17,8 @@ use Rattle.reference.specs.Ranking.{ranking, noneOpen, isSilent}
 use Rattle.reference.specs.Take.{effect, afterStep, stepAnswer}
 use Rattle.reference.specs.Run.{RunResult, run, tookFirst, skippedFirst}
 use Rattle.reference.specs.Ending.{ending}
-use Rattle.reference.specs.Table.{Asked, step, noStep, isNamed, stepsOf, Call, single, runOf, lentEnough, allNamed, openSingle, verdict}
+use Rattle.reference.specs.Table.{Asked, step, noStep, isNamed, stepsOf, Call, single, runOf, lentEnough, allNamed, openSingle}
+use Rattle.reference.specs.Table.{verdict}
 use Rattle.reference.specs.Calls.{stepped, reply, stateAfter, afterCall}
 use Rattle.reference.proofs.OpenLaws.{plan-within}
 use Rattle.reference.proofs.RunLaws.{run-took, run-skipped}
@@ -70,7 +71,8 @@ module _ (n d k : ℕ) (φ ψ : ℕ → List View → Answer) (agree : (i : ℕ)
   answer-same s (deliver j i) o = refl
 
   -- One step read: taken by both, or passed over by both.
-  step-same : (s : State) (x : Step) (xs : List Step) (b : ℕ) → ((z : State) → run M z xs b ≡ run N z xs b) → run M s xs (suc b) ≡ run N s xs (suc b)
+  step-same : (s : State) (x : Step) (xs : List Step) (b : ℕ) → ((z : State) → run M z xs b ≡ run N z xs b) →
+      run M s xs (suc b) ≡ run N s xs (suc b)
       → (isOpen M s x ≡ true) ⊎ (isOpen M s x ≡ false) → run M s (x ∷ xs) (suc b) ≡ run N s (x ∷ xs) (suc b)
   step-same s x xs b took skipped (inl o) =
       run-took M s x xs b o

@@ -77,18 +77,22 @@ send-other : (channels : ℕ → ℕ → List Answer) (i : ℕ) (y : Answer) (x 
 unfolding send
 send-other channels i y x j e = rw (e, send)
 
-send-same : (channels channels′ : ℕ → ℕ → List Answer) (i : ℕ) (y : Answer) (x j : ℕ) → channels x j ≡ channels′ x j → send channels i y x j ≡ send channels′ i y x j
+send-same : (channels channels′ : ℕ → ℕ → List Answer) (i : ℕ) (y : Answer) (x j : ℕ) → channels x j ≡ channels′ x j →
+    send channels i y x j ≡ send channels′ i y x j
 unfolding send
 send-same channels channels′ i y x j e = ap (λ (xs : List Answer). elim (eqb j i && ltb i x) [ true ↦ xs ++ (y ∷ []) | false ↦ xs ]) e
 
 -- Messages of different senders.
-send-swap : (channels : ℕ → ℕ → List Answer) (i k : ℕ) (y z : Answer) → (i ≡ k → ⊥) → send (send channels i y) k z ≡ send (send channels k z) i y
+send-swap : (channels : ℕ → ℕ → List Answer) (i k : ℕ) (y z : Answer) → (i ≡ k → ⊥) →
+    send (send channels i y) k z ≡ send (send channels k z) i y
 send-swap channels i k y z n = fun-ext (λ x. fun-ext (λ j. go x j (eqb j i) (eqb j k) refl refl))
   where
     go : (x j : ℕ) (x′ y′ : Bool) → eqb j i ≡ x′ → eqb j k ≡ y′ → send (send channels i y) k z x j ≡ send (send channels k z) i y x j
     go x j true true p q = absurd (n (sym (eqb-true j i p) ∙ eqb-true j k q))
-    go x j true false p q = send-other (send channels i y) k z x j q ∙ send-same channels (send channels k z) i y x j (sym (send-other channels k z x j q))
-    go x j false y′ p q = send-same (send channels i y) channels k z x j (send-other channels i y x j p) ∙ sym (send-other (send channels k z) i y x j p)
+    go x j true false p q =
+        send-other (send channels i y) k z x j q ∙ send-same channels (send channels k z) i y x j (sym (send-other channels k z x j q))
+    go x j false y′ p q =
+        send-same (send channels i y) channels k z x j (send-other channels i y x j p) ∙ sym (send-other (send channels k z) i y x j p)
 
 pub sent-swap : (channels : ℕ → ℕ → List Answer) (i k : ℕ) (x y : Answer) (z z′ : Bool) → (i ≡ k → ⊥)
     → sentIf z′ (sentIf z channels i x) k y ≡ sentIf z (sentIf z′ channels k y) i x
@@ -109,11 +113,13 @@ oldest-sent v [] x n = absurd (n refl)
 oldest-sent v (y ∷ xs) x n = refl
 
 -- A channel with the new message, and one without.
-send-there : (channels : ℕ → ℕ → List Answer) (i : ℕ) (x : Answer) (k j : ℕ) → (eqb j i && ltb i k) ≡ true → send channels i x k j ≡ channels k j ++ (x ∷ [])
+send-there : (channels : ℕ → ℕ → List Answer) (i : ℕ) (x : Answer) (k j : ℕ) → (eqb j i && ltb i k) ≡ true →
+    send channels i x k j ≡ channels k j ++ (x ∷ [])
 unfolding send
 send-there channels i x k j e = rw (e, send)
 
-send-not : (channels : ℕ → ℕ → List Answer) (i : ℕ) (x : Answer) (k j : ℕ) → (eqb j i && ltb i k) ≡ false → send channels i x k j ≡ channels k j
+send-not : (channels : ℕ → ℕ → List Answer) (i : ℕ) (x : Answer) (k j : ℕ) → (eqb j i && ltb i k) ≡ false →
+    send channels i x k j ≡ channels k j
 unfolding send
 send-not channels i x k j e = rw (e, send)
 
@@ -122,7 +128,8 @@ newer-kept : (channels : ℕ → ℕ → List Answer) (i : ℕ) (x : Answer) (k 
 unfolding send
 newer-kept channels i x k j n = go (eqb j i && ltb i k) refl
   where
-    go : (y : Bool) → (eqb j i && ltb i k) ≡ y → newer (send channels i x k j) ≡ send (updatePair channels k j (newer (channels k j))) i x k j
+    go : (y : Bool) → (eqb j i && ltb i k) ≡ y →
+        newer (send channels i x k j) ≡ send (updatePair channels k j (newer (channels k j))) i x k j
     go true e = rw (e, pair-same channels k j (newer (channels k j)), send) (newer-sent (channels k j) x n)
     go false e = rw (e, pair-same channels k j (newer (channels k j)), send)
 
@@ -140,11 +147,13 @@ send-take channels i y k j n = fun-ext (λ x. fun-ext (λ j′. go x j′ (eq-or
     go : (x j′ : ℕ) → (x ≡ k) ⊎ (x ≡ k → ⊥) → (j′ ≡ j) ⊎ (j′ ≡ j → ⊥) → before x j′ ≡ send after i y x j′
     go x j′ (inr d) e = ap (λ (row : ℕ → List Answer). row j′) (pair-other-row (send channels i y) k j _ x d)
         ∙ send-same channels after i y x j′ (sym (ap (λ (row : ℕ → List Answer). row j′) (pair-other-row channels k j _ x d)))
-    go x j′ (inl p) (inr d) = rw p (pair-other (send channels i y) k j _ j′ d ∙ send-same channels after i y k j′ (sym (pair-other channels k j _ j′ d)))
+    go x j′ (inl p) (inr d) =
+        rw p (pair-other (send channels i y) k j _ j′ d ∙ send-same channels after i y k j′ (sym (pair-other channels k j _ j′ d)))
     go x j′ (inl p) (inl q) = rw (p, q) (pair-same (send channels i y) k j _ ∙ newer-kept channels i y k j n)
 
 pub sent-take : (x : Bool) (channels : ℕ → ℕ → List Answer) (i : ℕ) (y : Answer) (k j : ℕ) → (channels k j ≡ [] → ⊥)
-    → updatePair (sentIf x channels i y) k j (newer (sentIf x channels i y k j)) ≡ sentIf x (updatePair channels k j (newer (channels k j))) i y
+    → updatePair (sentIf x channels i y) k j (newer (sentIf x channels i y k j))
+    ≡ sentIf x (updatePair channels k j (newer (channels k j))) i y
 sent-take true channels i y k j n = send-take channels i y k j n
 sent-take false channels i y k j n = refl
 

@@ -118,7 +118,8 @@ call-claims =
       quiescent-answers = quiescent-answers;
       quiescent-answers-stay = quiescent-answers-stay;
       calls-in-range = λ M xs. reaches-in-range M (fresh-in-range M) (calls-reach M fresh xs);
-      calls-throughout = λ M P p best xs. reaches-throughout (M .carriers) P M best (fresh-throughout (M .carriers) P p) (calls-reach M fresh xs);
+      calls-throughout = λ M P p best xs. reaches-throughout (M .carriers) P M best (fresh-throughout (M .carriers) P p)
+          (calls-reach M fresh xs);
     }
 
 pub theorems : Claims

@@ -45,7 +45,8 @@ module _ (n : ℕ) (P : Answer → Type 0) where
       where
         answers : (k : ℕ) → k < n → P (planAs s i x .answer k)
         answers k b =
-            ⊎-elim (λ (q : k ≡ i). rw (q, plan-answer s i x .there) p) (λ (m : k ≡ i → ⊥). rw (plan-answer s i x .elsewhere k m) (h .answers k b))
+            ⊎-elim (λ (q : k ≡ i). rw (q, plan-answer s i x .there) p)
+            (λ (m : k ≡ i → ⊥). rw (plan-answer s i x .elsewhere k m) (h .answers k b))
             (eq-or-ne k i)
 
         messages : (k j : ℕ) → j < k → k < n → (planAs s i x .chan k j ≡ s .chan k j) ⊎

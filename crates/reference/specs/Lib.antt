@@ -1,5 +1,5 @@
--- In reading order: the state, the steps, their ranking and what they do, the run and its history, the calls, quiescent prefixes, steps that
--- stand apart, the claims.
+-- In reading order: the state, the steps, their ranking and what they do, the run and its history, the calls, quiescent prefixes, steps
+-- that stand apart, the claims.
 pub mod Ranges
 pub mod State
 pub mod Step

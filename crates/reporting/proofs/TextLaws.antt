@@ -26,7 +26,8 @@ suffix-put m xs ys n l e =
     ∙ ap (λ (k : ℕ). xs ++ drop k (drop n m)) (zero-add (length xs))
     ∙ ap (λ (ys : List ℕ). xs ++ ys) (drop-drop (length xs) n m)
     in
-    ap₂ (λ (xs ys : List ℕ). take n m ++ (xs ++ ys)) behind none ∙ ap (λ (xs : List ℕ). take n m ++ xs) (append-nil (xs ++ drop (n + length xs) m))
+    ap₂ (λ (xs ys : List ℕ). take n m ++ (xs ++ ys)) behind none
+    ∙ ap (λ (xs : List ℕ). take n m ++ xs) (append-nil (xs ++ drop (n + length xs) m))
 
 -- Two texts, the second put into the rest of the memory.
 pub both-put : (xs zs old mid ys new : List ℕ) (n k : ℕ) → PutAt xs old 0 mid n → TextPut zs (take (length mid - n) (drop n mid)) ys k

@@ -149,7 +149,8 @@ module _ (H : ℕ) (r r′ : List ℕ) where
       g : FirstAt H r r′ u kind′
       g = tells-first u kind′ h
 
-      ranks : u ≡ t → (rankOf kind′ < rankOf kind) ⊎ (rankOf kind ≤ rankOf kind′) → (rankOf kind < rankOf kind′) ⊎ (rankOf kind′ ≤ rankOf kind) → dated u kind′ ≡ dated t kind
+      ranks : u ≡ t → (rankOf kind′ < rankOf kind) ⊎ (rankOf kind ≤ rankOf kind′) →
+          (rankOf kind < rankOf kind′) ⊎ (rankOf kind′ ≤ rankOf kind) → dated u kind′ ≡ dated t kind
       ranks e (inl l) m = absurd (f .first u kind′ (inr (e, l)) (g .there))
       ranks e (inr l) (inl m) = absurd (g .first t kind (inr (sym e, m)) (f .there))
       ranks e (inr l) (inr m) = rw (e, rank-tells kind′ kind (omega arith))

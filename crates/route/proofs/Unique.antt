@@ -99,7 +99,8 @@ module _ (task : Task) where
       fewer : (r : List ℕ) → ClearOf (task .horizon) r (vs ++ (v ∷ vs′)) → ClearOf (task .horizon) r (vs ++ vs′)
       fewer r c u m = c u (wider u (List·Memᴰ·append-cases vs m))
 
-      last : (r : List ℕ) → ClearOf (task .horizon) r (vs ++ vs′) → (v′ : View) → (v′ ≡ v) ⊎ List·Memᴰ v′ vs′ → ClearOfView (task .horizon) r v′
+      last : (r : List ℕ) → ClearOf (task .horizon) r (vs ++ vs′) → (v′ : View) → (v′ ≡ v) ⊎ List·Memᴰ v′ vs′ →
+          ClearOfView (task .horizon) r v′
       last r c v′ (inl e) = rw e (silent r)
       last r c v′ (inr m) = c v′ (Memᴰ·append-right vs m)
 

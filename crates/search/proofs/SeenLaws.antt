@@ -98,7 +98,8 @@ from-apart f k (v ∷ vs) vs′ =
     ap (λ (vs : List View). seenAs f k v ∷ vs)
     (from-apart f (suc k) vs vs′ ∙ ap (λ (i : ℕ). seenFrom f (suc k) vs ++ seenFrom f i vs′) place)
 
-unheard-apart : (f : Floor) (vs vs′ : List View) → seen f (vs ++ (unheard ∷ vs′)) ≡ seen f vs ++ (unheard ∷ seenFrom f (suc (length vs)) vs′)
+unheard-apart : (f : Floor) (vs vs′ : List View) →
+    seen f (vs ++ (unheard ∷ vs′)) ≡ seen f vs ++ (unheard ∷ seenFrom f (suc (length vs)) vs′)
 unfolding seen seenFrom seenAs
 unheard-apart f vs vs′ = from-apart f 0 vs (unheard ∷ vs′) ∙ ap (λ (k : ℕ). seenFrom f 0 vs ++ seenFrom f k (unheard ∷ vs′)) (omega arith)
 

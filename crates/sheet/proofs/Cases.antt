@@ -15,7 +15,8 @@ use Rattle.fields.specs.Form.{fieldForm, newlineForm, lineForm, countForm, coun
 use Rattle.fields.specs.Form.{linesForm, endForm}
 use Rattle.sheet.specs.Text.{lineOf, linesOf, headLine, cellNumbers, carrierLine, wallLine, sheetOf, carrierAt, wallAt}
 use Rattle.sheet.specs.Form.{carrierColumn, wallColumn, restForm}
-use Rattle.sheet.specs.Values.{valueAt, cellOf, listed, cellAtColumn, upTo, startIn, countIn, dockIn, placeIn, startsAt, countsAt, docksAt}
+use Rattle.sheet.specs.Values.{valueAt, cellOf, listed, cellAtColumn, upTo, startIn, countIn, dockIn, placeIn, startsAt, countsAt}
+use Rattle.sheet.specs.Values.{docksAt}
 use Rattle.sheet.specs.Values.{headAt, floorAt, wallsFrom, wallsAt}
 use Rattle.sheet.specs.Read.{formOf, sheetVerdict}
 
@@ -54,7 +55,8 @@ unfolding sheetVerdict formOf lineForm linesForm restForm endForm newlineForm fi
 formed text = sheetVerdict text
 
 valued : List ℕ → Verdict
-unfolding formed headAt floorAt wallsAt wallsFrom valueAt cellOf cellAtColumn startIn countIn dockIn placeIn startsAt countsAt docksAt upTo listed
+unfolding formed headAt floorAt wallsAt wallsFrom valueAt cellOf cellAtColumn startIn countIn dockIn placeIn startsAt countsAt docksAt upTo
+    listed
     carrierAt wallAt carrierColumn wallColumn columnPast pastCounted pastPair countedLength
 valued text = formed text
 

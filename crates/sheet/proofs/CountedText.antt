@@ -70,7 +70,8 @@ pub record CountedTells (text : List ℕ) (at x y count : ℕ) (xs : List ℕ) :
   pub third : numberAt text (at + 10) ≡ count
   pub others : numbersFrom text (at + 15) (2 * count) ≡ xs
 
-pub text-counted : (text : List ℕ) (at x y count : ℕ) (xs : List ℕ) → Small (x ∷ y ∷ count ∷ xs) → length xs ≡ 2 * count → 1 ≤ count → count ≤ 4
+pub text-counted : (text : List ℕ) (at x y count : ℕ) (xs : List ℕ) → Small (x ∷ y ∷ count ∷ xs) → length xs ≡ 2 * count → 1 ≤ count →
+    count ≤ 4
     → part text at (countedLength count) ≡ lineOf (x ∷ y ∷ count ∷ xs) → CountedTells text at x y count xs
 unfolding countedForm countForm countedLength numbersFrom lineForm
 text-counted text at x y count xs small n least most e =

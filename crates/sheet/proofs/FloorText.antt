@@ -17,7 +17,8 @@ use Rattle.fields.proofs.ColumnLaws.{pair-columns}
 use Rattle.sheet.specs.Text.{sheetOf, carrierAt, wallAt}
 use Rattle.sheet.specs.Text.{sheetLength}
 use Rattle.sheet.specs.Form.{carrierColumn, wallColumn, restForm}
-use Rattle.sheet.specs.Values.{cellAtColumn, startIn, countIn, dockIn, placeIn, startsAt, countsAt, docksAt, headAt, floorAt, wallsFrom}
+use Rattle.sheet.specs.Values.{cellAtColumn, startIn, countIn, dockIn, placeIn, startsAt, countsAt, docksAt, headAt, floorAt}
+use Rattle.sheet.specs.Values.{wallsFrom}
 use Rattle.sheet.specs.Values.{wallsAt}
 use Rattle.sheet.specs.Read.{formOf, sheetVerdict}
 use Rattle.sheet.proofs.CellLaws.{number-value}
@@ -124,7 +125,8 @@ module _ (f : Floor) (ws : List ℕ) (ok : checkOf f ws ≡ passed) where
   end = refl
 
   cell-there : (j : ℕ)
-      → cellAtColumn text (floorAt text .width) (floorAt text .height) (wallAt (floorAt text) j) ≡ cellAtColumn text (f .width) (f .height) (wallAt f j)
+      → cellAtColumn text (floorAt text .width) (floorAt text .height) (wallAt (floorAt text) j)
+      ≡ cellAtColumn text (f .width) (f .height) (wallAt f j)
   cell-there j =
       ap (λ (w : ℕ). cellAtColumn text w (floorAt text .height) (wallAt (floorAt text) j)) width-same
       ∙ ap (λ (h : ℕ). cellAtColumn text (f .width) h (wallAt (floorAt text) j)) height-same
@@ -133,7 +135,8 @@ module _ (f : Floor) (ws : List ℕ) (ok : checkOf f ws ≡ passed) where
   cells-return : (j : ℕ) → j < f .walls → getD ws j 0 ≡ getD (wallsAt text) j 0
   unfolding wallsAt wallsFrom
   cells-return j l =
-      sym (listed-at (λ (p : ℕ). cellAtColumn text (floorAt text .width) (floorAt text .height) (wallAt (floorAt text) p)) (floorAt text .walls) j
+      sym (listed-at (λ (p : ℕ). cellAtColumn text (floorAt text .width) (floorAt text .height) (wallAt (floorAt text) p))
+      (floorAt text .walls) j
       (omega (arith, walls-counted, l)) ∙ cell-there j ∙ wall-reads f ws ok j l .cell)
 
   -- A floor written and read is the same floor.
@@ -160,7 +163,8 @@ module _ (f : Floor) (ws : List ℕ) (ok : checkOf f ws ≡ passed) where
       let b : i < f .carriers = rw (head-same f ws ok .carriers-same) at l in
       rw (column-said f ws ok i ∙ columns-same f ws ok i (omega arith)) (carrier-reads f ws ok i b .form))
 
-  walls-pass : linesForm (λ (column : ℕ). lineForm text column 2) pastPair (carrierColumn text (headAt text .carriers)) (headAt text .walls) ≡ passed
+  walls-pass : linesForm (λ (column : ℕ). lineForm text column 2) pastPair (carrierColumn text (headAt text .carriers)) (headAt text .walls)
+      ≡ passed
   unfolding linesForm
   walls-pass =
       rw (head-same f ws ok .carriers-same)

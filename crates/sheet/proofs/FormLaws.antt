@@ -87,7 +87,8 @@ module _ (text : List ℕ) where
     pub bounds : Bounds (headAt text)
     pub head : 31 ≤ length text
     pub carriers-form : linesForm (countedForm text) (pastCounted text) 31 (headAt text .carriers) ≡ passed
-    pub walls-form : linesForm (λ (column : ℕ). lineForm text column 2) pastPair (carrierColumn text (headAt text .carriers)) (headAt text .walls)
+    pub walls-form : linesForm (λ (column : ℕ). lineForm text column 2) pastPair (carrierColumn text (headAt text .carriers))
+        (headAt text .walls)
         ≡ passed
     pub size : length text ≡ carrierColumn text (headAt text .carriers) + 11 * headAt text .walls
 

@@ -19,17 +19,20 @@ use Rattle.sheet.specs.Values.{headAt}
 use Rattle.sheet.specs.Read.{formOf}
 
 -- A refusal is the answer of the whole chain, and after a pass the rest is asked.
-pub handed-on : {y : Reached} {cause : Refusal} {z : Verdict} (x x′ : Verdict) (column : ℕ) → y ≡ reachedOf x column → y ≡ Refused cause → z ≡ saidBy y
+pub handed-on : {y : Reached} {cause : Refusal} {z : Verdict} (x x′ : Verdict) (column : ℕ) → y ≡ reachedOf x column → y ≡ Refused cause →
+    z ≡ saidBy y
     → z ≡ (x then x′)
 handed-on x x′ column h e s =
     let r = line-refused x column h e in
     s ∙ said-verdict x column h ∙ r ∙ sym (then-refused x′ r)
 
-pub goes-past : {y : Reached} {n : ℕ} {z : Verdict} (x x′ : Verdict) (column : ℕ) → y ≡ reachedOf x column → y ≡ At n → z ≡ x′ → z ≡ (x then x′)
+pub goes-past : {y : Reached} {n : ℕ} {z : Verdict} (x x′ : Verdict) (column : ℕ) → y ≡ reachedOf x column → y ≡ At n → z ≡ x′ →
+    z ≡ (x then x′)
 goes-past x x′ column h e s = s ∙ sym (then-passed (reaches x column h e .0))
 
 -- Behind a line 1 in good form the limits and the other lines' form are left.
-pub behind-head : {y : Reached} {x : ℕ} {f : Floor} {z : Verdict} (text : List ℕ) (column : ℕ) → y ≡ reachedOf (lineForm text 0 6) column → y ≡ At x
+pub behind-head : {y : Reached} {x : ℕ} {f : Floor} {z : Verdict} (text : List ℕ) (column : ℕ) → y ≡ reachedOf (lineForm text 0 6) column →
+    y ≡ At x
     → f ≡ headAt text → z ≡ (limitsOf f then restForm text f) → z ≡ formOf text
 unfolding formOf
 behind-head text column h e l s = goes-past _ _ column h e (rw l at s)

@@ -149,7 +149,8 @@ one-dock : (old : OneDockFloor) (i : ℕ) → i < 8
     ≡ fieldOf (getD (old .starts) i 0 % old .width) ++ (fieldOf (getD (old .starts) i 0 / old .width)
     ++ (fieldOf 1 ++ lineOf (getD (old .goals) i 0 % old .width ∷ getD (old .goals) i 0 / old .width ∷ [])))
 unfolding withOneDock
-one-dock old i l = one-line (withOneDock old) i (getD (old .starts) i 0) (getD (old .goals) i 0) (one-start old i) (one-count old i l) (one-goal old i)
+one-dock old i l =
+    one-line (withOneDock old) i (getD (old .starts) i 0) (getD (old .goals) i 0) (one-start old i) (one-count old i l) (one-goal old i)
 
 pub theorems : Claims
 theorems =

@@ -11,7 +11,8 @@ use Rattle.laws.specs.Verdict.{passed}
 use Rattle.fields.specs.Field.{numberAt}
 use Rattle.fields.specs.Form.{countedForm, countedLength, pastCounted, columnPast, linesForm}
 use Rattle.sheet.specs.Form.{carrierColumn}
-use Rattle.sheet.specs.Values.{valueAt, cellAtColumn, upTo, listed, countIn, dockIn, placeIn, startsAt, countsAt, docksAt, headAt, floorAt}
+use Rattle.sheet.specs.Values.{valueAt, cellAtColumn, upTo, listed, countIn, dockIn, placeIn, startsAt, countsAt, docksAt, headAt}
+use Rattle.sheet.specs.Values.{floorAt}
 use Rattle.sheet.proofs.FormLaws.{Lined, lined}
 use Rattle.sheet.proofs.ListedLaws.{listed-length, listed-same, upTo-at, upTo-below, upTo-past}
 
@@ -63,7 +64,8 @@ kept-long φ xs e = rw e (listed-length φ 8)
 -- Place p of the docks of n carriers in a grid.
 abbrev pub placeWith : List ℕ → (n width height p : ℕ) → ℕ
 placeWith text n width height p =
-    upTo n (λ (i : ℕ). upTo (countIn text i) (λ (k : ℕ). cellAtColumn text width height (carrierColumn text i + 15 + 10 * k)) (p % 4)) (p / 4)
+    upTo n (λ (i : ℕ). upTo (countIn text i) (λ (k : ℕ). cellAtColumn text width height (carrierColumn text i + 15 + 10 * k)) (p % 4))
+    (p / 4)
 
 -- A place of the docks: past the carriers, past a dock count, and a dock.
 module _ (text : List ℕ) (n width height p : ℕ) where

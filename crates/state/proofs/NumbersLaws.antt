@@ -50,7 +50,8 @@ module _ (m : List ℕ) (at : ℕ) where
 
       found : (k ≡ 0) ⊎ ((t : ℕ) × (t < n) × (getD m (at + t) 0 ≡ k)) → each n (λ t. ltb (getD m (at + t) 0) b) ≡ true → k < b
       found (inl z) h =
-          let y : getD m (at + 0) 0 < b = ltb-true (getD m (at + 0) 0) b (each-holds n (λ t. ltb (getD m (at + t) 0) b) h 0 (omega arith)) in
+          let y : getD m (at + 0) 0 < b = ltb-true (getD m (at + 0) 0) b
+          (each-holds n (λ t. ltb (getD m (at + t) 0) b) h 0 (omega arith)) in
           omega arith
       found (inr (t, l, q)) h =
           let y : getD m (at + t) 0 < b = ltb-true (getD m (at + t) 0) b (each-holds n (λ t. ltb (getD m (at + t) 0) b) h t l) in

@@ -40,7 +40,8 @@ module _ (m cells : List ℕ) (i tag : ℕ) where
 
 -- Three records moved up and the last cleared, at the places of a channel.
 pub shift-is : (m m₁ m₂ m₃ m₄ : List ℕ) (at p₀ p₁ p₂ p₃ : ℕ) → p₀ ≡ at + 1 + 65 * 0 → p₁ ≡ at + 1 + 65 * 1 → p₂ ≡ at + 1 + 65 * 2 →
-    p₃ ≡ at + 1 + 65 * 3 → m₁ ≡ moved m p₁ p₀ → m₂ ≡ moved m₁ p₂ p₁ → m₃ ≡ moved m₂ p₃ p₂ → m₄ ≡ put m₃ p₃ (resized 65 []) → m₄ ≡ shifted m at
+    p₃ ≡ at + 1 + 65 * 3 → m₁ ≡ moved m p₁ p₀ → m₂ ≡ moved m₁ p₂ p₁ → m₃ ≡ moved m₂ p₃ p₂ → m₄ ≡ put m₃ p₃ (resized 65 []) →
+    m₄ ≡ shifted m at
 unfolding shifted
 shift-is m m₁ m₂ m₃ m₄ at p₀ p₁ p₂ p₃ a b d e f g h k =
     let one : p₀ ≡ at + 1 = omega arith in

@@ -39,7 +39,8 @@ pub old-stored : (n i : ℕ) (m rec m₁ : List ℕ) → m₁ ≡ put m (planned
 unfolding plannedIn
 old-stored n i m rec m₁ stored e = rw (e, stored) refl
 
-pub delivery-stored : (n j i x channel p : ℕ) (m m₁ m₂ m₃ : List ℕ) → p ≡ channel + 1 + 65 * 0 → x ≡ viewPlace n i j → channel ≡ channelPlace n i j →
+pub delivery-stored : (n j i x channel p : ℕ) (m m₁ m₂ m₃ : List ℕ) → p ≡ channel + 1 + 65 * 0 → x ≡ viewPlace n i j →
+    channel ≡ channelPlace n i j →
     m₁ ≡ moved m p x → m₂ ≡ popped m₁ channel → m₃ ≡ put m₂ (duePlace i) (1 ∷ []) → m₃ ≡ deliveredIn n m j i
 unfolding deliveredIn
 delivery-stored n j i x channel p m m₁ m₂ m₃ first a b e g d =

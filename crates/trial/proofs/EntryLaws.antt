@@ -87,12 +87,14 @@ module _ (n : ℕ) (m : List ℕ) where
     front-last z m″ h = h ∙ ap (λ (xs : List ℕ). encode n z ++ xs) front-rest ∙ sym (front-is z)
 
 -- Order 2 remembers a place or the end of the ranking.
-pub memory-round : (f : Floor) (ws : List ℕ) (o : Order) (kept : ℕ) → Memory o (machineOf f ws) kept → o ≡ round → kept ≤ places (f .carriers)
+pub memory-round : (f : Floor) (ws : List ℕ) (o : Order) (kept : ℕ) → Memory o (machineOf f ws) kept → o ≡ round →
+    kept ≤ places (f .carriers)
 unfolding Memory machineOf
 memory-round f ws o kept h e = rw e at h
 
 -- One more step, from what its parts come to.
-pub advanced : (o : Order) (f : Floor) (ws m report : List ℕ) (kept t next : ℕ) (m′ report′ : List ℕ) (p : ℕ) (y : Step) (number answer : ℕ) →
+pub advanced : (o : Order) (f : Floor) (ws m report : List ℕ) (kept t next : ℕ) (m′ report′ : List ℕ) (p : ℕ) (y : Step)
+    (number answer : ℕ) →
     p ≡ chosenIn o f m kept → y ≡ stepAt (f .carriers) p → number ≡ numberOf y → answer ≡ answerNumber (stepAnswerIn (machineOf f ws) m y) →
     next ≡ remembered o kept p → m′ ≡ afterIn (machineOf f ws) m y → report′ ≡ put report (2 * t) (number ∷ (answer ∷ [])) →
     Advanced o f ws m report kept t next m′ report′

@@ -30,5 +30,6 @@ returns c =
 
 pub put-beat-spec : {M : Type 1} → statement M
 put-beat-spec =
-    tie.close (tie.spec (λ c. search needs) (λ c. search needs) (λ c. search needs) (λ c. search needs) two-places-requires put-floor-requires
+    tie.close (tie.spec (λ c. search needs) (λ c. search needs) (λ c. search needs)
+    (λ c. search needs) two-places-requires put-floor-requires
     (λ c. search needs) returns)

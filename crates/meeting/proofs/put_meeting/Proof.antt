@@ -1,6 +1,7 @@
 -- `meeting::put_meeting` meets its contract: by what the two searches found.
 use Rattle.meeting.specs.Text.{aloneOf, answerIf}
-use Rattle.meeting.proofs.MeetingLaws.{first-there, first-digit, second-there, second-digit, answer-told, first-none, second-none, both-routes}
+use Rattle.meeting.proofs.MeetingLaws.{first-there, first-digit, second-there, second-digit, answer-told, first-none, second-none}
+use Rattle.meeting.proofs.MeetingLaws.{both-routes}
 use native.Mathlib.Omega.{arith}
 use mathlib.Core.Bool.{Bool}
 use mathlib.Core.List.{[]}

@@ -49,7 +49,8 @@ returns c =
     let a = plan-granted _ _ _ ok in
     let same = plan-same _ _ _ (after-free-rows .free-rows .ensures) in
     let old = now (start .args .answers) in (
-      ap value (c .failing .ensures ∙ plan-fails _ _ (a .bounds .horizon .1) _ old _ (after-plan-all .plan-all .ensures) ∙ ap failingOf same)
+      ap value (c .failing .ensures ∙ plan-fails _ _ (a .bounds .horizon .1) _ old _ (after-plan-all .plan-all .ensures)
+          ∙ ap failingOf same)
           ∙ sym (gives-passed ok),
       after-plan-all .plan-all .ensures ∙ ap (λ (xs : List Answer). stored xs old) same ∙ sym (when-passed _ ok),
     )

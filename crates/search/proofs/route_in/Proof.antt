@@ -60,4 +60,5 @@ returns c =
 pub route-in-spec : {M : Type 1} → statement M
 route-in-spec =
     tie.close (tie.spec (λ c. search needs) (λ c. search needs) element-copy-out-start (λ c. search needs)
-    (λ c. search needs) element-copy-out-count (λ c. search needs) search-grid-of-requires docks-of-requires seek-requires same-length returns)
+    (λ c. search needs) element-copy-out-count
+    (λ c. search needs) search-grid-of-requires docks-of-requires seek-requires same-length returns)

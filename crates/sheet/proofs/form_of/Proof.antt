@@ -21,7 +21,8 @@ returns c =
     let after-enum-told2 : tie.After-enum-told2 = search in
     let line = after-line-form .line-form .ensures in
     let no = after-enum-told2 .enum-told2 .given .1 in
-    refused-reading _ _ (handed-on _ _ _ line no (c .before .checked .ensures)) (then-refused _ (line-refused _ _ line no)) (c .refused .ensures)
+    refused-reading _ _ (handed-on _ _ _ line no (c .before .checked .ensures)) (then-refused _ (line-refused _ _ line no))
+    (c .refused .ensures)
 
 head-requires : tie.Need-head-requires
 head-requires c κs =

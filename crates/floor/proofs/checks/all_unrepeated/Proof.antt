@@ -55,7 +55,8 @@ returns c =
     let start : tie.Start Inv-loop μ-loop = search in
     let f = start .args .f in
     let four : (4 * at-loop .loop .i + 4) - 4 * at-loop .loop .i ≡ 4 = omega arith in
-    tests-stop 17 1 (once (f .docks) (f .counts)) _ _ (at-loop .loop .inv .1) (rw four at (after-unrepeated .unrepeated .ensures)) (then1 .if1 .taken)
+    tests-stop 17 1 (once (f .docks) (f .counts)) _ _ (at-loop .loop .inv .1) (rw four at (after-unrepeated .unrepeated .ensures))
+    (then1 .if1 .taken)
     (in-loop .loop-test .taken)
 
 loop-again : tie.Need-loop-again Inv-loop μ-loop

@@ -1,5 +1,5 @@
--- `layers::free_table::drop_cell` meets its contract. The loop's invariant: the cell is out of the beats passed, whichever grid has it at this
--- place. The measure is what is left of the beats. Assumes nothing.
+-- `layers::free_table::drop_cell` meets its contract. The loop's invariant: the cell is out of the beats passed, whichever grid has it at
+-- this place. The measure is what is left of the beats. Assumes nothing.
 use Prim.Native.Nat.{_-_, _≤_, _<_}
 use native.Mathlib.Omega.{arith}
 use mathlib.Core.Path.{_≡_, sym, ap, _∙_}
@@ -80,5 +80,6 @@ returns-2 c =
 
 pub drop-cell-spec : {M : Type 1} → statement M
 drop-cell-spec =
-    tie.close (tie.spec Inv-loop μ-loop (λ c κs. search needs) loop-holds word-requires drop-requires (λ c. search needs) (λ c. search needs)
+    tie.close (tie.spec Inv-loop μ-loop (λ c κs. search needs) loop-holds word-requires drop-requires (λ c. search needs)
+    (λ c. search needs)
     loop-again same-length returns returns-2)

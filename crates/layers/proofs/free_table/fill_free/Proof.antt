@@ -68,4 +68,5 @@ returns c =
 pub fill-free-spec : {M : Type 1} → statement M
 fill-free-spec =
     tie.close (tie.spec Inv-loop μ-loop (λ c κs. search needs) (λ c. search needs) put-rows-requires loop-holds (λ c. search needs)
-    (λ c. omega arith) load-requires (λ c. omega arith) save-requires (λ c. search needs) (λ c. search needs) loop-again same-length returns)
+    (λ c. omega arith) load-requires (λ c. omega arith) save-requires (λ c. search needs)
+    (λ c. search needs) loop-again same-length returns)

@@ -1,5 +1,5 @@
--- `layers::free_table::make` meets its contract. The loop's invariant: the free table is that of the views passed. The measure is what is left of
--- the views. Assumes nothing.
+-- `layers::free_table::make` meets its contract. The loop's invariant: the free table is that of the views passed. The measure is what is
+-- left of the views. Assumes nothing.
 use Prim.Native.Nat.{ℕ, _-_, _≤_}
 use native.Mathlib.Omega.{arith}
 use mathlib.Core.Path.{_≡_, sym, ap, _∙_}
@@ -30,7 +30,8 @@ loop-holds : tie.Need-loop-holds Inv-loop μ-loop
 loop-holds c =
     let start : tie.Start Inv-loop μ-loop = search in (
       search needs,
-      free-table-none _ _ _ _ _ (start .pre .0 .0 .grid .thin) (start .pre .0 .0 .grid .low) (omega arith) (omega (arith, start .pre .0 .0 .short))
+      free-table-none _ _ _ _ _ (start .pre .0 .0 .grid .thin) (start .pre .0 .0 .grid .low) (omega arith)
+          (omega (arith, start .pre .0 .0 .short))
           (c .before .before .fill-free .ensures) (start .pre .0 .1),
     )
 

@@ -1,5 +1,5 @@
--- `layers::free_table::parked_from` meets its contract. The loop's invariant: the view keeps its last cell at the beats passed. The measure is
--- the beat. Assumes nothing.
+-- `layers::free_table::parked_from` meets its contract. The loop's invariant: the view keeps its last cell at the beats passed. The measure
+-- is the beat. Assumes nothing.
 use Prim.Native.Nat.{_<_}
 use native.Mathlib.Omega.{arith}
 use mathlib.Core.Path.{_≡_, sym, _∙_}
@@ -43,5 +43,6 @@ returns-2 c =
 
 pub parked-from-spec : {M : Type 1} → statement M
 parked-from-spec =
-    tie.close (tie.spec Inv-loop μ-loop (λ c κs. search needs) (λ c. parked-last _ _ _) (λ c. search needs) view-cell-requires-2 returns (λ c. search needs)
+    tie.close (tie.spec Inv-loop μ-loop (λ c κs. search needs) (λ c. parked-last _ _ _) (λ c. search needs) view-cell-requires-2 returns
+    (λ c. search needs)
     (λ c. search needs) loop-again returns-2)

@@ -1,5 +1,5 @@
--- `layers::free_table::take_one` meets its contract. The loop's invariant: the view's cells at the beats passed are taken out. The measure is
--- what is left of the beats up to the one from which on the view stays. Assumes nothing.
+-- `layers::free_table::take_one` meets its contract. The loop's invariant: the view's cells at the beats passed are taken out. The measure
+-- is what is left of the beats up to the one from which on the view stays. Assumes nothing.
 use Prim.Native.Nat.{_-_, _≤_}
 use native.Mathlib.Omega.{arith}
 use mathlib.Core.Path.{_≡_, sym, _∙_}
@@ -54,7 +54,8 @@ loop-again c =
     let after-beat-before : tie.After-beat-before Inv-loop μ-loop = search in
     let after-drop-cell : tie.After-drop-cell Inv-loop μ-loop = search in (
       omega (arith, in-loop .loop-test .taken),
-      taken-more _ _ _ _ _ _ _ _ _ (at-loop .loop .inv .1) (after-beat-before .beat-before .ensures) (after-view-cell .view-cell .ensures .0)
+      taken-more _ _ _ _ _ _ _ _ _ (at-loop .loop .inv .1) (after-beat-before .beat-before .ensures)
+          (after-view-cell .view-cell .ensures .0)
           (after-drop-cell .drop-cell .ensures),
     )
 

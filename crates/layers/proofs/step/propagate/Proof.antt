@@ -9,7 +9,8 @@ use Rattle.layers.specs.declared.SearchGrid.{SearchGrid}
 use Rattle.layers.specs.Table.{Grid, Tidy}
 use Rattle.layers.specs.Stripes.{stripesOf}
 use Rattle.layers.specs.Step.{beatAfter, Swept}
-use Rattle.layers.proofs.SweptLaws.{within-low, within-few, beat-first, beat-next, beat-low, beat-some, stripes-same, swept-none, swept-step}
+use Rattle.layers.proofs.SweptLaws.{within-low, within-few, beat-first, beat-next, beat-low, beat-some, stripes-same, swept-none}
+use Rattle.layers.proofs.SweptLaws.{swept-step}
 use Rattle.layers.proofs.step.propagate.Statement.{statement}
 use Rattle.layers.proofs.step.propagate.Tie as tie
 

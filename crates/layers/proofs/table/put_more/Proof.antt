@@ -11,7 +11,8 @@ returns c =
     let after-place-of : tie.After-place-of = search in
     let start : tie.Start = search in
     let p = start .pre in
-    more-made _ _ _ _ _ _ (p .0) (p .1) (p .2) (p .3) (after-place-of .place-of .ensures) (rw (after-word .word .ensures .0) at (after-add .add .ensures))
+    more-made _ _ _ _ _ _ (p .0) (p .1) (p .2) (p .3) (after-place-of .place-of .ensures)
+    (rw (after-word .word .ensures .0) at (after-add .add .ensures))
 
 pub put-more-spec : {M : Type 1} → statement M
 put-more-spec =

@@ -1,6 +1,6 @@
--- The proof of the cycle of calls {beside, follow}. With three carriers there are six places at most. Where `follow` goes down, a step fewer is
--- left and all six places are before it again; where `beside` goes on, a place fewer is before it. So the measure is 8 for each step left, and
--- one for each place before `beside`.
+-- The proof of the cycle of calls {beside, follow}. With three carriers there are six places at most. Where `follow` goes down, a step
+-- fewer is left and all six places are before it again; where `beside` goes on, a place fewer is before it. So the measure is 8 for each
+-- step left, and one for each place before `beside`.
 mod Measures
 mod Beside
 mod Follow

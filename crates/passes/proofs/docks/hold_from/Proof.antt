@@ -1,5 +1,5 @@
--- `passes::docks::hold_from` meets its contract. The loop's invariant: the beats passed are in the free table. The measure is the beat. Assumes
--- nothing.
+-- `passes::docks::hold_from` meets its contract. The loop's invariant: the beats passed are in the free table. The measure is the beat.
+-- Assumes nothing.
 use Prim.Native.Nat.{_+_, _≤_}
 use mathlib.Core.Path.{_≡_, refl, sym, _∙_}
 use borrow.Author.Tests.{not-true, not-false}

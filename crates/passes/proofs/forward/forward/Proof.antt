@@ -116,5 +116,7 @@ returns-2 c =
 
 pub forward-spec : {M : Type 1} → statement M
 forward-spec =
-    tie.close (tie.spec Inv-loop μ-loop put-alone-requires (λ c κs. search needs) loop-holds arrives-requires (λ c. search needs) same-length returns
-    beats-after-requires propagate-requires (λ c. search needs) (λ c. search needs) loop-again first-arrival-requires same-length-2 returns-2)
+    tie.close (tie.spec Inv-loop μ-loop put-alone-requires (λ c κs. search needs) loop-holds arrives-requires
+    (λ c. search needs) same-length returns
+    beats-after-requires propagate-requires (λ c. search needs)
+    (λ c. search needs) loop-again first-arrival-requires same-length-2 returns-2)

@@ -1,5 +1,5 @@
--- `passes::forward::nearest` meets its contract. The loop's invariant: what is nearest yet is not past the horizon. The measure is what is left
--- of the docks. Assumes nothing.
+-- `passes::forward::nearest` meets its contract. The loop's invariant: what is nearest yet is not past the horizon. The measure is what is
+-- left of the docks. Assumes nothing.
 use Prim.Native.Nat.{_-_, _≤_}
 use native.Mathlib.Omega.{arith}
 use mathlib.Core.Logic.{⊎-elim}

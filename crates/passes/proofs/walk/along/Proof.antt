@@ -1,5 +1,5 @@
--- `passes::walk::along` meets its contract. The loop's invariant: the place is that of the path's cell at the beat, and the route has the cells
--- passed. The measure is what is left of the beats. Assumes nothing.
+-- `passes::walk::along` meets its contract. The loop's invariant: the place is that of the path's cell at the beat, and the route has the
+-- cells passed. The measure is what is left of the beats. Assumes nothing.
 use Prim.Native.Nat.{_+_, _-_, _≤_, _<_}
 use native.Mathlib.Omega.{arith}
 use mathlib.Core.Path.{_≡_, refl, sym, _∙_}

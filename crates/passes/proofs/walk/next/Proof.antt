@@ -34,7 +34,8 @@ returns-2 c =
     let after-has-left : tie.After-has-left = search in
     let else1 : tie.Else1 = search in
     let then2 : tie.Then2 = search in
-    λ d at. goes-left _ _ _ d _ (p .0) (p .1) at (after-has-above .has-above .ensures) (else1 .if1 .left) (after-has-left .has-left .ensures) (then2 .if2 .taken)
+    λ d at. goes-left _ _ _ d _ (p .0) (p .1) at (after-has-above .has-above .ensures) (else1 .if1 .left)
+    (after-has-left .has-left .ensures) (then2 .if2 .taken)
 
 returns-3 : tie.Need-returns-3
 returns-3 c =
@@ -46,7 +47,8 @@ returns-3 c =
     let else1 : tie.Else1 = search in
     let else2 : tie.Else2 = search in
     let then3 : tie.Then3 = search in
-    λ d at. goes-here _ _ _ d _ (p .0) (p .1) at (after-has-above .has-above .ensures) (else1 .if1 .left) (after-has-left .has-left .ensures) (else2 .if2 .left) (after-has-at .has-at .ensures) (then3 .if3 .taken)
+    λ d at. goes-here _ _ _ d _ (p .0) (p .1) at (after-has-above .has-above .ensures) (else1 .if1 .left)
+    (after-has-left .has-left .ensures) (else2 .if2 .left) (after-has-at .has-at .ensures) (then3 .if3 .taken)
 
 returns-4 : tie.Need-returns-4
 returns-4 c =
@@ -60,7 +62,9 @@ returns-4 c =
     let else2 : tie.Else2 = search in
     let else3 : tie.Else3 = search in
     let then4 : tie.Then4 = search in
-    λ d at. goes-right _ _ _ d _ (p .0) (p .1) at (after-has-above .has-above .ensures) (else1 .if1 .left) (after-has-left .has-left .ensures) (else2 .if2 .left) (after-has-at .has-at .ensures) (else3 .if3 .left) (after-has-right .has-right .ensures) (then4 .if4 .taken)
+    λ d at. goes-right _ _ _ d _ (p .0) (p .1) at (after-has-above .has-above .ensures) (else1 .if1 .left)
+    (after-has-left .has-left .ensures) (else2 .if2 .left) (after-has-at .has-at .ensures) (else3 .if3 .left)
+    (after-has-right .has-right .ensures) (then4 .if4 .taken)
 
 returns-5 : tie.Need-returns-5
 returns-5 c =
@@ -76,7 +80,9 @@ returns-5 c =
     let else3 : tie.Else3 = search in
     let else4 : tie.Else4 = search in
     let then5 : tie.Then5 = search in
-    λ d at. goes-down _ _ _ d _ (p .0) (p .1) at (after-has-above .has-above .ensures) (else1 .if1 .left) (after-has-left .has-left .ensures) (else2 .if2 .left) (after-has-at .has-at .ensures) (else3 .if3 .left) (after-has-right .has-right .ensures) (else4 .if4 .left) (after-has-below .has-below .ensures) (then5 .if5 .taken)
+    λ d at. goes-down _ _ _ d _ (p .0) (p .1) at (after-has-above .has-above .ensures) (else1 .if1 .left)
+    (after-has-left .has-left .ensures) (else2 .if2 .left) (after-has-at .has-at .ensures) (else3 .if3 .left)
+    (after-has-right .has-right .ensures) (else4 .if4 .left) (after-has-below .has-below .ensures) (then5 .if5 .taken)
 
 returns-6 : tie.Need-returns-6
 returns-6 c =
@@ -92,7 +98,9 @@ returns-6 c =
     let else3 : tie.Else3 = search in
     let else4 : tie.Else4 = search in
     let else5 : tie.Else5 = search in
-    λ d at. goes-nowhere _ _ _ d _ (p .0) (p .1) at (after-has-above .has-above .ensures) (else1 .if1 .left) (after-has-left .has-left .ensures) (else2 .if2 .left) (after-has-at .has-at .ensures) (else3 .if3 .left) (after-has-right .has-right .ensures) (else4 .if4 .left) (after-has-below .has-below .ensures) (else5 .if5 .left)
+    λ d at. goes-nowhere _ _ _ d _ (p .0) (p .1) at (after-has-above .has-above .ensures) (else1 .if1 .left)
+    (after-has-left .has-left .ensures) (else2 .if2 .left) (after-has-at .has-at .ensures) (else3 .if3 .left)
+    (after-has-right .has-right .ensures) (else4 .if4 .left) (after-has-below .has-below .ensures) (else5 .if5 .left)
 
 pub next-spec : {M : Type 1} → statement M
 next-spec =

@@ -1,5 +1,5 @@
--- `passes::walk::walk` meets its contract. The loop's invariant: the route has the cells passed, since beat a the same. The measure is what is
--- left of the beats. Assumes nothing.
+-- `passes::walk::walk` meets its contract. The loop's invariant: the route has the cells passed, since beat a the same. The measure is what
+-- is left of the beats. Assumes nothing.
 use Prim.Native.Nat.{ℕ, _+_, _-_, _≤_}
 use native.Mathlib.Omega.{arith}
 use mathlib.Core.List.{List}
@@ -70,5 +70,6 @@ returns c =
 
 pub walk-spec : {M : Type 1} → statement M
 walk-spec =
-    tie.close (tie.spec Inv-loop μ-loop along-requires (λ c. search needs) array-read-last loop-holds (λ c. search needs) (λ c. search needs)
+    tie.close (tie.spec Inv-loop μ-loop along-requires (λ c. search needs) array-read-last loop-holds (λ c. search needs)
+    (λ c. search needs)
     array-write-r (λ c. search needs) loop-again returns)

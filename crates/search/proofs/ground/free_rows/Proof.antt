@@ -87,5 +87,6 @@ pub free-rows-spec : {M : Type 1} → statement M
 free-rows-spec =
     tie.close (tie.spec Inv-loop μ-loop (λ c. search needs) (λ c. search needs) (λ c. search needs) mul-cells (λ c κs. search needs)
     (λ c κs. search needs) (λ c. search needs) loop-holds slice-aggregate-drop-at (λ c. search needs) (λ c. search needs) cast-drop-at
-    drop-at-requires slice-aggregate-drop-at-2 (λ c. search needs) (λ c. search needs) (λ c. search needs) (λ c. search needs) cast-drop-at-2
+    drop-at-requires slice-aggregate-drop-at-2 (λ c. search needs) (λ c. search needs) (λ c. search needs)
+    (λ c. search needs) cast-drop-at-2
     drop-at-requires-2 (λ c. search needs) (λ c. omega arith) loop-again returns)

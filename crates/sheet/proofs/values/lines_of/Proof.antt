@@ -55,7 +55,8 @@ loop-again c =
     let at-loop : tie.At-loop Inv-loop μ-loop = search in
     let start : tie.Start Inv-loop μ-loop = search in
     let i = at-loop .loop .inv in
-    let next = next-column _ _ (start .pre .0) (start .pre .1) _ (in-loop .loop-test .taken) _ _ (i .1 .0) (after-value .value .ensures) in (
+    let next = next-column _ _ (start .pre .0) (start .pre .1) _ (in-loop .loop-test .taken) _ _ (i .1 .0)
+    (after-value .value .ensures) in (
       search needs,
       (next .1 .1 .1, (upTo-step _ _ _ 8 _ (omega arith) (i .1 .1 .0) (i .1 .0), upTo-step _ _ _ 8 _ (omega arith) (i .1 .1 .1) (next .0))),
     )

@@ -20,4 +20,6 @@ returns-2 c =
     (c .all-below2 .ensures)
 
 pub cells-valid-spec : {M : Type 1} → statement M
-cells-valid-spec = tie.close (tie.spec (λ c κs. search needs) (λ c κs. search needs) returns (λ c. search needs) (λ c. search needs) (λ c κs. search needs) returns-2)
+cells-valid-spec =
+    tie.close (tie.spec (λ c κs. search needs) (λ c κs. search needs) returns (λ c. search needs) (λ c. search needs)
+    (λ c κs. search needs) returns-2)

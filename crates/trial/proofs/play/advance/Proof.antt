@@ -25,8 +25,10 @@ number-of-requires : tie.Need-number-of-requires
 number-of-requires c κs =
     let after-step-at : tie.After-step-at = search in
     let after-choose : tie.After-choose = search in
-    let start : tie.Start = search in
-    (rw (after-step-at .step-at .ensures) (listed-there _ _ (after-choose .choose .ensures .1)), placed-sized (start .pre .1 .1 .0 .placed) .0)
+    let start : tie.Start = search in (
+      rw (after-step-at .step-at .ensures) (listed-there _ _ (after-choose .choose .ensures .1)),
+      placed-sized (start .pre .1 .1 .0 .placed) .0,
+    )
 
 take-requires : tie.Need-take-requires
 take-requires c κs =

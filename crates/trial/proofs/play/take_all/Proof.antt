@@ -14,7 +14,8 @@ use Rattle.trial.proofs.play.take_all.Tie as tie
 
 abbrev Inv-loop : tie.InvT-loop
 Inv-loop f walls free order seed m₀ report₀ all most c₀ t₀ m report c t =
-    (t ≤ most) × (all ≡ places (f .carriers)) × (most ≡ ceiling (f .carriers)) × Playing f walls (orderBy order) seed m₀ report₀ m report c t
+    (t ≤ most) × (all ≡ places (f .carriers)) × (most ≡ ceiling (f .carriers))
+    × Playing f walls (orderBy order) seed m₀ report₀ m report c t
 
 abbrev μ-loop : tie.MeasureT-loop
 μ-loop f walls free order seed m₀ report₀ all most c₀ t₀ m report c t = most - t

@@ -1,4 +1,5 @@
--- The answers of `beside`: nothing where no step or no place is left; otherwise the runs of the step here, if it is open, and those behind it.
+-- The answers of `beside`: nothing where no step or no place is left; otherwise the runs of the step here, if it is open, and those behind
+-- it.
 use Prim.Native.Nat.{ℕ, _+_, _<_, _≤_}
 use native.Mathlib.Omega.{arith}
 use mathlib.Core.Bool.{Bool}
@@ -8,7 +9,8 @@ use Rattle.orders.specs.Orders.{places, stepAt}
 use Rattle.encoding.specs.InnerSteps.{openIn}
 use Rattle.steps.specs.Inner.{bare}
 use Rattle.steps.proofs.PlacedLaws.{placed-sized}
-use Rattle.lister.proofs.WalkLaws.{places-six, beside-spent, beside-end, beside-shut, beside-open, tallied-none, tallied-same, tallied-join}
+use Rattle.lister.proofs.WalkLaws.{places-six, beside-spent, beside-end, beside-shut, beside-open, tallied-none, tallied-same}
+use Rattle.lister.proofs.WalkLaws.{tallied-join}
 use Rattle.lister.proofs.WalkLaws.{fits-same, fits-part, fits-rest, falls-along, falls-to, place-listed}
 use Rattle.lister.proofs.walk.beside.Reads as beside
 use Rattle.lister.proofs.walk.+beside+follow.Lts-beside as beside-lts

@@ -3,7 +3,8 @@ use Prim.Native.Nat.{ℕ}
 use native.Mathlib.Omega.{arith}
 use mathlib.Core.Path.{sym, _∙_}
 use Rattle.steps.proofs.PlacedLaws.{placed-sized}
-use Rattle.lister.proofs.WalkLaws.{tallied-below, tallied-end, followed-end, followed-onward, branch-below, fits-one, fits-below, falls-below}
+use Rattle.lister.proofs.WalkLaws.{tallied-below, tallied-end, followed-end, followed-onward, branch-below, fits-one, fits-below}
+use Rattle.lister.proofs.WalkLaws.{falls-below}
 use Rattle.lister.proofs.walk.follow.Reads as follow
 use Rattle.lister.proofs.walk.+beside+follow.Lts-follow as follow-lts
 use Rattle.lister.proofs.walk.+beside+follow.Proof.Measures.{follow-at, followers}
