@@ -28,7 +28,7 @@ fn put_label(page: Page, k: u16, is_row: bool, out: &mut [u8], at: usize) -> usi
     )
 }
 
-// Puts the labels of so many columns or rows; the column behind them is returned.
+// Puts the labels of a number of columns or rows; the column behind them is returned.
 fn put_labels(page: Page, count: u16, is_row: bool, out: &mut [u8], at: usize) -> usize {
     let mut end = at;
     let mut k: u16 = 0;

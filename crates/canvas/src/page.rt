@@ -11,7 +11,7 @@ pub struct Page {
     pub carriers: u16,
 }
 
-// Whether a floor of so many columns and rows is drawn with small cells.
+// Whether a floor of that width and height is drawn with small cells.
 fn is_small(columns: u16, rows: u16) -> bool {
     if 16 < columns {
         return true;

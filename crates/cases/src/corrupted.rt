@@ -13,8 +13,8 @@ fn both_get(setup: &[u16], m: &mut [u16], x: u16, wanted: usize) -> bool {
     both(a, same)
 }
 
-// The number to try in place i, by a line's pairs from number 2 on: the first so many places get a number; a later pair goes before an
-// earlier one.
+// The number to try in place i, by a line's pairs from number 2 on: each has how many
+// places from the first on get a number, and the number; a later pair goes before an earlier one.
 fn number_for(text: &[u8], i: usize) -> u16 {
     let mut x: usize = 0;
     let mut k: usize = 2;

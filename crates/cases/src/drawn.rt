@@ -43,8 +43,8 @@ fn one(setup: &[u16], m: &mut [u16], seed: usize, runs: bool) -> usize {
     gained(memory::wide(x), calls::step(setup, m, x))
 }
 
-// To silence from the fresh state, by runs where the seed is even, by single steps where it is odd: silent after so many steps; spent where
-// there is no end.
+// To silence from the fresh state, by runs where the seed is even, by single steps where it is odd: silent, with the number taken; spent
+// where there is no end.
 fn go(setup: &[u16], m: &mut [u16], seed: usize) -> usize {
     calls::fresh(setup, m);
     let mut next_seed = seed;
@@ -70,7 +70,7 @@ fn draw_one(tally: Tally, setup: &[u16], m: &mut [u16], cells: usize, seed: usiz
     tally::noted(tally, &drawn, m, came)
 }
 
-// drawn: so many orders, on floors of so many cells, with seeds from one on.
+// drawn: a number of orders, on floors of a number of cells, with seeds from one on.
 pub fn drawn(text: &[u8], setup: &[u16], m: &mut [u16]) -> Tally {
     let count = field(text, 0);
     let mut t = tally::nothing();

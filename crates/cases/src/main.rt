@@ -1,7 +1,8 @@
 // Document 01's cases through the entries, by a script on standard input: the twelve floors to try, every order of small floors, drawn
-// orders of larger ones, spoilt states, the refusals in their order, sheets good and damaged, searches and plans, trials, listed runs, lists of docks. Each line of the
-// script is written again; behind an arrow comes what the line's command answered. What must come out is the file `stdout`, in which each
-// answer stands by its reason; `host/tests/cases.rs` has the same answers from an independent implementation of document 01.
+// orders of larger ones, corrupted states, the refusals in their order, sheets good and damaged, searches and plans, trials, listed runs,
+// lists of docks. Each line of the script is written again; behind an arrow comes what the line's command answered. What must come out is
+// the file `stdout`, in which each answer stands by its reason; `host/tests/cases.rs` has the same answers from an independent
+// implementation of document 01.
 //
 // A line's first letter is its command, and its numbers are the arguments; all other letters are for the reader.
 mod calls;

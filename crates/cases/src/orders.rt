@@ -10,7 +10,8 @@ use commands::answers::SPENT;
 use testkit::draws;
 use testkit::memory;
 
-// Where a refusal after k steps leads: silent if no step is open, ended if another one is; spent if it does not say what the step waits for.
+// Where a refusal after k steps leads: silent if no step is open, ended if another one is; spent if it does not say what the step waits
+// for.
 fn stopped(waits: bool, silent: bool, k: usize) -> usize {
     let open = memory::choose(silent, SILENT, ENDED);
     answers::answer(memory::choose(waits, open, SPENT), k)

@@ -5,8 +5,8 @@ use testkit::fields::field;
 use testkit::fields::write;
 use testkit::memory;
 
-// memory: whether all lent numbers are those written out. Of the first so many numbers those that are not written out are 0; those behind
-// are as they were lent.
+// memory: whether all lent numbers are those written out. Before the place that is the line's first number those that are not
+// written out are 0; those behind it are as they were lent.
 pub fn compare_memory(text: &[u8], m: &[u16]) -> usize {
     let mut expected = memory::buffer();
     memory::fill(&mut expected, field(text, 0), 0);

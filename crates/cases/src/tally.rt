@@ -36,14 +36,14 @@ pub fn nothing() -> Tally {
     }
 }
 
-// another planner: whether the second planner's answers are the records from a place on, each so many numbers behind the one before.
+// another planner: whether the second planner's answers are the records from a place on, each a stride behind the one before.
 pub fn second_says(setup: &[u16], m: &[u16], from: usize, stride: usize) -> bool {
     let mut other = memory::zeros();
     oracle::second_plan(setup::floor_of(setup), setup::walls_of(setup), &mut other);
     records::answers_are(m, from, stride, memory::wide_at(setup, 4), &other)
 }
 
-// An order that came to silence after so many steps. What must be: the answers are both planners', no two of them in conflict, the taken
+// An order that came to silence with that number taken. What must be: the answers are both planners', no two of them in conflict, the taken
 // count in memory is the number of steps that were answered as taken, that number is at most the ceiling, and the state is at rest.
 fn judged(tally: Tally, setup: &[u16], m: &[u16], taken: usize) -> Tally {
     let n = memory::wide_at(setup, 4);
@@ -77,7 +77,7 @@ pub fn odd(tally: Tally) -> Tally {
     counted
 }
 
-// Where an order has come to: silent after so many steps; ended, which is no order; spent, which is odd.
+// Where an order has come to: silent, with the number taken; ended, which is no order; spent, which is odd.
 pub fn noted(tally: Tally, setup: &[u16], m: &[u16], came: usize) -> Tally {
     match answers::kind(came) {
         answers::SILENT => judged(tally, setup, m, answers::number(came)),

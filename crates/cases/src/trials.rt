@@ -29,7 +29,7 @@ fn is_lent(state: &[u16]) -> bool {
     memory::same(state, &buffer)
 }
 
-// Whether a state after so many steps is silent as every order's must be.
+// Whether a state after a number of steps is silent as every order's must be.
 fn is_right(setup: &[u16], state: &[u16], steps: usize) -> bool {
     let t = tally::noted(
         tally::nothing(),

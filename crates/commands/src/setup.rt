@@ -1,6 +1,6 @@
-// The setup: the numbers that lines set. A floor's line 1 and each carrier's start and first dock, 22 numbers, behind which there is room to
-// draw more; how many numbers of memory are lent, at 90; how many steps there are to choose among, at 100, and these; each carrier's dock
-// count, from 140 on; its docks behind the first, four places a carrier, from 150 on; how many walls are lent, at 200, and these.
+// The setup: the numbers that lines set. A floor's line 1 and each carrier's start and first dock, 22 numbers, behind which there is room
+// to draw more; how many numbers of memory are lent, at 90; how many steps there are to choose among, at 100, and these; each carrier's
+// dock count, from 140 on; its docks behind the first, four places a carrier, from 150 on; how many walls are lent, at 200, and these.
 ghost use mathlib.Core.Path.{_≡_};
 ghost use lib.ListN.{length};
 use floor::Floor;

@@ -1,4 +1,4 @@
-// Commands on sheets and floors. A text is so many bytes of the script, from the line under the command's on.
+// Commands on sheets and floors. A text is a number of bytes of the script, from the line under the command's on.
 use crate::answers;
 use crate::answers::PRINTED;
 use crate::answers::WRITTEN;
@@ -12,7 +12,7 @@ use testkit::fields::field;
 use testkit::fields::under;
 use testkit::memory;
 
-// The sheet of a floor is written into so many lent bytes: the answer, if these are then a text and otherwise as lent.
+// The sheet of a floor is written into n lent bytes: the answer, if these are then a text and otherwise as lent.
 fn written(f: Floor, walls: &[u16], n: usize, text: &[u8]) -> usize {
     let mut page = bytes::page();
     let came = checked(sheet::write(f, walls, bytes::front(&mut page, n)));
@@ -42,12 +42,13 @@ fn read(text: &[u8], m: &mut [u16]) -> usize {
     )
 }
 
-// text: a sheet of so many bytes.
+// text: a sheet of a number of bytes.
 pub fn text(bytes: &[u8], m: &mut [u16]) -> usize {
     read(under(bytes, 0, field(bytes, 0)), m)
 }
 
-// Writing: the floor of the setup into so many lent bytes, of which so many are then those under the line.
+// Writing: the floor of the setup into lent bytes, whose number is the first of the line; they are then the text under
+// the line, whose length is the second.
 pub fn writing(text: &[u8], setup: &[u16]) -> usize {
     written(
         floor_of(setup),
@@ -65,7 +66,7 @@ fn printed_bytes(x: Printed) -> usize {
     }
 }
 
-// Printed: for a sheet of so many bytes so many bytes are printed, which stand behind it.
+// Printed: the line has the length of a sheet and of what is printed for it; both stand under it, one behind the other.
 pub fn printed(text: &[u8]) -> usize {
     let n = field(text, 0);
     let mut page = bytes::page();

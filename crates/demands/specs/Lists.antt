@@ -56,7 +56,7 @@ referenceCall f numbers (oneRun walls lent xs b) = runOf (lentLength f numbers w
 unfoldable pub referenceCalls : Floor → ℕ → List ProgramCall → List Call
 referenceCalls f numbers calls = map (referenceCall f numbers) calls
 
--- The reference machine's answers to a list of calls from fresh, there being memory for so many numbers, and its state after it.
+-- The reference machine's answers to a list of calls from fresh, there being memory for that number of numbers, and its state after it.
 unfoldable pub referenceReplies : Floor → List ℕ → ℕ → List ProgramCall → List Reply
 referenceReplies f ws numbers calls = replies (machineOf f ws) fresh (referenceCalls f numbers calls)
 

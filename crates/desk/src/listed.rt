@@ -158,7 +158,7 @@ fn progress(printed: u64, total: u64) {
     io::write_all(STDERR_FILENO, b" runs\n");
 }
 
-// Prints so many lines, the first being that of a rank; whether that succeeded.
+// Prints a number of lines, the first being that of a rank; whether that succeeded.
 fn print_lines(first: u64, lines: &[u16], count: usize) -> bool
     requires { ⌜ (23 * count ≤ length (now lines)) × (first + count ≤ 4294967296) ⌝ }
 {
@@ -184,7 +184,7 @@ fn window(left: u64) -> usize
     left as usize
 }
 
-// Prints all runs of a floor, so many, a window at a time.
+// Prints all runs of a floor, which has that total, a window at a time.
 fn print_all(f: Floor, walls: &[u16], total: u64) {
     if total > 4294967295 {
         return;

@@ -32,7 +32,7 @@ unfoldable pub carrierValid : Floor → List ℕ → ℕ → Bool
 carrierValid f m i =
     leb (getD m (plannedPlace i) 0) 1 && (leb (getD m (duePlace i) 0) 1 && recordValid f m (answerPlace i) 1 2)
 
--- Place p of a channel with so many messages: a message, none or a route, or unused.
+-- Place p of a channel that counts its messages: a message, none or a route, or unused.
 unfoldable pub placeValid : Floor → List ℕ → ℕ → ℕ → ℕ → Bool
 placeValid f m at count p =
     recordValid f m (at + 65 * p) (cond (ltb p count) 1 0) (cond (ltb p count) 2 0)

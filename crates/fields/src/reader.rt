@@ -52,7 +52,8 @@ pub fn counted<'a>(reader: Reader<'a>) -> Reached
 // The line of two fields that comes next.
 pub fn pair<'a>(reader: Reader<'a>) -> Reached
     requires { ⌜ reader .column ≤ 65000 ⌝ }
-    ensures { λ result. ⌜ result ≡ reachedOf (lineForm (now (reader .entry .text)) (reader .entry .column) 2) (pastPair (reader .entry .column)) ⌝ }
+    ensures { λ result. ⌜ result ≡ reachedOf (lineForm (now (reader .entry .text)) (reader .entry .column) 2)
+        (pastPair (reader .entry .column)) ⌝ }
 {
     line::pair_form(reader.text, reader.column)
 }
@@ -79,7 +80,8 @@ pub fn counted_lines(text: &[u8], at: usize, n: usize) -> Reached
 // k lines of two fields from a column on, one behind the other.
 pub fn pair_lines(text: &[u8], at: usize, k: usize) -> Reached
     requires { ⌜ (at ≤ 50000) × (k ≤ 1023) ⌝ }
-    ensures { λ result. ⌜ result ≡ reachedOf (linesForm (λ c. lineForm (now (text .entry)) c 2) pastPair at k) (columnPast pastPair at k) ⌝ }
+    ensures { λ result. ⌜ result ≡ reachedOf (linesForm (λ c. lineForm (now (text .entry)) c 2) pastPair at k)
+        (columnPast pastPair at k) ⌝ }
 {
     let mut reader = begin(text, at);
     let mut i: usize = 0;

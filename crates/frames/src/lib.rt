@@ -36,7 +36,8 @@ pub fn no_text() -> [u8; TEXT_LENGTH]
 // Puts the head of the text: the map, an empty line, a line a carrier; the column behind it is returned.
 fn put_head(f: Floor, walls: &[u16], own: &[u16], out: &mut [u8]) -> usize
     requires { ⌜ Drawable f (now walls) (now own) × (20901 ≤ length (now out)) ⌝ }
-    ensures { λ result. ⌜ PutAt (drawHead f (now (walls .entry)) (answerIn (now (own .entry)))) (now (out .entry)) 0 (now (out .exit)) result ⌝ }
+    ensures { λ result. ⌜ PutAt (drawHead f (now (walls .entry)) (answerIn (now (own .entry)))) (now (out .entry)) 0
+        (now (out .exit)) result ⌝ }
 {
     let n1 = maps::put_map(f, walls, out, 0);
     let n2 = put_bytes(out, n1, b"\n");
@@ -56,7 +57,8 @@ fn put_next(f: Floor, walls: &[u16], own: &[u16], t: usize, out: &mut [u8], at: 
 // Puts the beats from 0 to the horizon; the column behind them is returned.
 fn put_beats(f: Floor, walls: &[u16], own: &[u16], out: &mut [u8], at: usize) -> usize
     requires { ⌜ Drawable f (now walls) (now own) × (at + 68160 ≤ length (now out)) ⌝ }
-    ensures { λ result. ⌜ PutAt (linesOf (λ t. (10 ∷ []) ++ frameOf f (now (walls .entry)) (answerIn (now (own .entry))) t) (f .horizon + 1))
+    ensures { λ result. ⌜ PutAt (linesOf (λ t. (10 ∷ []) ++ frameOf f (now (walls .entry)) (answerIn (now (own .entry))) t)
+        (f .horizon + 1))
         (now (out .entry)) at (now (out .exit)) result ⌝ }
 {
     let n = f.horizon as usize + 1;

@@ -56,7 +56,8 @@ pub fn put_arrivals(f: Floor, own: &[u16], out: &mut [u8], at: usize) -> usize
 // Puts the rows of beat t; the column behind them is returned.
 fn put_rows(f: Floor, walls: &[u16], own: &[u16], t: usize, out: &mut [u8], at: usize) -> usize
     requires { ⌜ Drawable f (now walls) (now own) × (t ≤ 63) × (at + 1056 ≤ length (now out)) ⌝ }
-    ensures { λ result. ⌜ PutAt (frameRows f (now (walls .entry)) (answerIn (now (own .entry))) t) (now (out .entry)) at (now (out .exit)) result ⌝ }
+    ensures { λ result. ⌜ PutAt (frameRows f (now (walls .entry)) (answerIn (now (own .entry))) t) (now (out .entry)) at
+        (now (out .exit)) result ⌝ }
 {
     let mut marks = maps::no_marks();
     cells::put_cells(f, walls, own, t, &mut marks);
@@ -66,7 +67,8 @@ fn put_rows(f: Floor, walls: &[u16], own: &[u16], t: usize, out: &mut [u8], at: 
 // Puts the line of beat t and the floor at that beat; the column behind them is returned.
 pub fn put_frame(f: Floor, walls: &[u16], own: &[u16], t: usize, out: &mut [u8], at: usize) -> usize
     requires { ⌜ Drawable f (now walls) (now own) × (t ≤ 63) × (at + 1064 ≤ length (now out)) ⌝ }
-    ensures { λ result. ⌜ PutAt (frameOf f (now (walls .entry)) (answerIn (now (own .entry))) t) (now (out .entry)) at (now (out .exit)) result ⌝ }
+    ensures { λ result. ⌜ PutAt (frameOf f (now (walls .entry)) (answerIn (now (own .entry))) t) (now (out .entry)) at
+        (now (out .exit)) result ⌝ }
 {
     let n1 = put_bytes(out, at, b"beat ");
     let n2 = reporting::put_short_decimal(out, n1, t);

@@ -34,7 +34,7 @@ wordFor xs x = wordOf (recordLent xs thenAnswers x)
 unfoldable pub storedFor : List ℕ → List ℕ → List ℕ → List ℕ
 storedFor xs new old = whenPassed (recordLent xs) new old
 
--- Reading a sheet into a record and wall memory of so many numbers: the sheet's refusals, then 9 for either.
+-- Reading a sheet into a record and wall memory, of each of which a number of numbers is lent: the sheet's refusals, then 9 for either.
 unfoldable pub readLent : List ℕ → ℕ → ℕ → Verdict
 readLent text lent walls = readVerdict text walls then longEnough 54 lent
 
@@ -67,7 +67,7 @@ unfoldable pub neededStored : List ℕ → List ℕ → List ℕ
 neededStored xs old =
     storedFor xs (whenPassed (neededVerdict (floorOf xs) (length old)) (put old 0 (figureList (lengthsOf (floorOf xs)))) old) old
 
--- A search into route memory of so many numbers: the floor's refusals, then 9, then the search's own answer.
+-- A search into route memory, of which a number of numbers is lent: the floor's refusals, then 9, then the search's own answer.
 unfoldable pub searchLent : Floor → List ℕ → ℕ → List ℕ → ℕ → Outcome Answer
 searchLent f ws i m lent = (checkOf f ws then longEnough 64 lent) thenAnswers searchOf f ws i m
 

@@ -29,7 +29,7 @@ use lengths::Lengths;
 use lengths::Needed;
 use search::Outcome;
 
-// The most steps for so many carriers.
+// The most steps for a number of carriers.
 #[no_mangle]
 pub extern "C" fn kalomivund_ceiling(carriers: u16) -> u64
     ensures { λ result. ⌜ result ≡ ceilingWord carriers ⌝ }
@@ -315,7 +315,8 @@ pub extern "C" fn kalomivund_blockers(
     answers: &mut [u16],
 ) -> u64
     ensures says { λ result. ⌜ result ≡ blockersWord (now (f .entry)) (now (walls .entry)) carrier (length (now (answers .entry))) ⌝ }
-    ensures stores { λ result. ⌜ now (answers .exit) ≡ blockersStored (now (f .entry)) (now (walls .entry)) carrier (now (answers .entry)) ⌝ }
+    ensures stores { λ result. ⌜ now (answers .exit) ≡ blockersStored (now (f .entry)) (now (walls .entry)) carrier
+        (now (answers .entry)) ⌝ }
 {
     if f.len() < 54 {
         return word::too_short();

@@ -1,5 +1,5 @@
-// The set of one beat as eight stripes of four rows, rows 8 apart side by side: the row above and the row below each of the four stand in the
-// stripes beside theirs, so that one step of a set is four rows at a time, in registers.
+// The set of one beat as eight stripes of four rows, rows 8 apart side by side: the row above and the row below each of the four stand in
+// the stripes beside theirs, so that one step of a set is four rows at a time, in registers.
 ghost use mathlib.Core.Path.{_≡_};
 ghost use Prim.Native.Nat.{ℕ, _+_, _≤_};
 ghost use lib.ListN.{length, getD};
@@ -79,7 +79,8 @@ pub fn save(table: &mut [u32], at: usize, x: Stripes)
 // code, the compiler would take these two rows out of their stripes.
 pub fn advance(x: Stripes, masks: Stripes, none: u32) -> Stripes
     requires { ⌜ none ≡ 0 ⌝ }
-    ensures { λ result. ⌜ ((words free : ℕ → ℕ) → x ≡ stripesOf words → masks ≡ stripesOf free → result ≡ stripesOf (stepWord words free)) ⌝ }
+    ensures { λ result. ⌜ ((words free : ℕ → ℕ) → x ≡ stripesOf words → masks ≡ stripesOf free →
+        result ≡ stripesOf (stepWord words free)) ⌝ }
 {
     let above = [none, x[7][0], x[7][1], x[7][2]];
     let below = [x[0][1], x[0][2], x[0][3], none];

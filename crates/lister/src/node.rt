@@ -15,10 +15,10 @@ use search::Rows;
 // The most carriers of a floor whose runs are listed.
 pub const CARRIERS: usize = 3;
 
-// The numbers of the state of so many carriers.
+// The numbers of the state of three carriers.
 const STATE: usize = 1181;
 
-// The most steps that so many carriers take.
+// The most steps that three carriers take.
 pub const STEPS: usize = 11;
 
 // The numbers of the steps of a run, two a step.

@@ -1,4 +1,4 @@
--- The complete runs: every listed one is complete, every complete one is listed, and there are only so many.
+-- The complete runs: every listed one is complete, every complete one is listed, and how many there are at the most.
 use Prim.Native.Nat.{ℕ, zero, suc, _+_, _*_, _^_, _≤_, _<_}
 use native.Mathlib.Omega.{arith}
 use native.Mathlib.Nat.{suc-mul, pow-succ', one-le-pow, mul-le-mul-left}
@@ -163,7 +163,7 @@ module _ (M : Machine) where
   complete-short s [] c = omega arith
   complete-short s (x ∷ xs) c = omega (arith, complete-short (afterStep M s x) xs (c .1), step-lowers M s x (c .0))
 
-  -- With at most b runs behind each step of a list, so many times b begin with one of them.
+  -- With at most b runs behind each step of a list, at most b times its length begin with one of them.
   begin-few : (s : State) (onward : Step → List Run) (b : ℕ) → ((x : Step) → length (onward x) ≤ b) → (xs : List Step) →
       length (beginning (isOpen M s) onward xs) ≤ length xs * b
   unfolding eachBehind

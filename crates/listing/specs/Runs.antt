@@ -23,8 +23,8 @@ unfoldable pub beginning : (Step → Bool) → (Step → List Run) → List Step
 beginning opens onward [] = []
 beginning opens onward (x ∷ xs) = elim (opens x) [ true ↦ eachBehind x (onward x) | false ↦ [] ] ++ beginning opens onward xs
 
--- The complete runs from state s with at most so many steps left: the empty run where s is silent, otherwise those that begin with an
--- open step, in the ranking's order.
+-- The complete runs from state s with at most that number of steps left: the empty run where s is silent, otherwise those that begin with
+-- an open step, in the ranking's order.
 unfoldable pub runsFrom : Machine → ℕ → State → List Run
 runsFrom M zero s = elim (isSilent M s) [ true ↦ [] ∷ [] | false ↦ [] ]
 runsFrom M (suc left) s =

@@ -103,7 +103,8 @@ fn step_on(f: Floor, walls: &[u16], state: &mut [u16], number: u16) -> Stepped
 
 // Takes a single step on a lent state: plan i is 100 + i, deliver j to i is 200 + 10 j + i.
 pub fn step(f: Floor, walls: &[u16], state: &mut [u16], number: u16) -> Stepped
-    ensures answers { λ result. ⌜ steppedReply result ≡ replyTo f (now (walls .entry)) (now (state .entry)) (singleCall (now (state .entry)) number) ⌝ }
+    ensures answers { λ result. ⌜ steppedReply result ≡ replyTo f (now (walls .entry)) (now (state .entry))
+        (singleCall (now (state .entry)) number) ⌝ }
     ensures stores { λ result. ⌜ now (state .exit) ≡
         memoryAfter f (now (walls .entry)) (now (state .entry)) (singleCall (now (state .entry)) number) ⌝ }
 {

@@ -50,7 +50,8 @@ pub fn run_all(
     budget: usize,
 ) -> Tally
     requires { ⌜ Workable f (now walls) free (now m) ⌝ }
-    ensures { λ result. ⌜ Tallied (runIn (machineOf f (now (walls .entry))) (now (m .entry)) (map askedBy (now (numbers .entry))) budget) budget
+    ensures { λ result. ⌜ Tallied (runIn (machineOf f (now (walls .entry))) (now (m .entry))
+        (map askedBy (now (numbers .entry))) budget) budget
         (length (now (numbers .entry))) (result .taken) (result .read) (now (m .exit)) ⌝ }
 {
     let mut taken: usize = 0;

@@ -43,7 +43,7 @@ fn put_where(line: usize, column: usize, out: &mut [u8]) -> usize {
     )
 }
 
-// Puts what is missing behind so many whole lines and so many bytes; the column behind these words is returned.
+// Puts what is missing behind a number of whole lines and a number of bytes; the column behind these words is returned.
 fn put_rest(text: &[u8], lines: usize, bytes: usize, out: &mut [u8], at: usize) -> usize {
     let n = sheet_line::carriers(text);
     if lines < 1 {

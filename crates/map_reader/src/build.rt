@@ -163,7 +163,8 @@ pub fn counts(marks: &[u8], table: &[u8], n: usize) -> [u16; 8]
 // Their docks, four places a carrier.
 pub fn docks(marks: &[u8], table: &[u8], n: usize) -> [u16; 32]
     requires { ⌜ (n ≤ 1024) × (n ≤ length (now marks)) × (442 ≤ length (now table)) ⌝ }
-    ensures { λ result. ⌜ Filled (λ p. getD (cellsWhere (isThing (now (marks .entry)) (now (table .entry)) (8 + p / 4)) n) (p % 4) 0) result 32 ⌝ }
+    ensures { λ result. ⌜ Filled (λ p. getD (cellsWhere (isThing (now (marks .entry)) (now (table .entry)) (8 + p / 4)) n)
+        (p % 4) 0) result 32 ⌝ }
 {
     let mut found = [0u16; 32];
     let mut p: usize = 0;
@@ -177,7 +178,8 @@ pub fn docks(marks: &[u8], table: &[u8], n: usize) -> [u16; 32]
 // Puts the walls among the first n cells in front of a memory; their number is returned.
 pub fn put_walls(marks: &[u8], n: usize, walls: &mut [u16]) -> usize
     requires { ⌜ (n ≤ 1024) × (n ≤ length (now marks)) × (n ≤ length (now walls)) ⌝ }
-    ensures { λ result. ⌜ PutAt (cellsWhere (isWall (now (marks .entry))) n) (now (walls .entry)) 0 (now (walls .exit)) result × (result ≤ n) ⌝ }
+    ensures { λ result. ⌜ PutAt (cellsWhere (isWall (now (marks .entry))) n) (now (walls .entry)) 0 (now (walls .exit)) result
+        × (result ≤ n) ⌝ }
 {
     let mut found: usize = 0;
     let mut c: usize = 0;

@@ -71,7 +71,7 @@ pub struct Head {
     pub next: usize,
 }
 
-// Whether a word stands at a column that has so many bytes behind it.
+// Whether a word stands at a column that has as many bytes behind it as the word.
 fn is_there(text: &[u8], at: usize, word: &[u8]) -> bool
     requires { ⌜ at + length (now word) ≤ length (now text) ⌝ }
 {

@@ -119,7 +119,8 @@ fn put_drawing(
 ) -> usize
     requires { ⌜ (checkOf f (now walls) ≡ passed) × (pairVerdict f i j ≡ passed) ⌝ }
     requires { ⌜ Early (conflictTold found) × (1056 ≤ length (now out)) ⌝ }
-    ensures { λ result. ⌜ TextPut (conflictDrawing f (now (walls .entry)) i j r q (conflictTold found)) (now (out .entry)) (now (out .exit)) result ⌝ }
+    ensures { λ result. ⌜ TextPut (conflictDrawing f (now (walls .entry)) i j r q (conflictTold found)) (now (out .entry))
+        (now (out .exit)) result ⌝ }
 {
     match found {
         FirstConflict::Free => 0,
@@ -132,7 +133,8 @@ fn put_drawing(
 // Puts the line of the first conflict of two routes and, behind it, the floor at its beat; the length of both is returned.
 fn put_met(f: Floor, walls: &[u16], i: u16, j: u16, r: Route, q: Route, out: &mut [u8]) -> usize
     requires { ⌜ (checkOf f (now walls) ≡ passed) × (pairVerdict f i j ≡ passed) × (1087 ≤ length (now out)) ⌝ }
-    ensures { λ result. ⌜ TextPut (metText f (now (walls .entry)) i j (Answer·route r) (Answer·route q)) (now (out .entry)) (now (out .exit)) result ⌝ }
+    ensures { λ result. ⌜ TextPut (metText f (now (walls .entry)) i j (Answer·route r) (Answer·route q)) (now (out .entry))
+        (now (out .exit)) result ⌝ }
 {
     let found = route::first_conflict(r, q, f.horizon);
     let n = put_conflict(found, out);

@@ -12,7 +12,7 @@ use layers::place_of;
 use layers::step::propagate;
 use layers::table::put_alone;
 
-// After the beats to the nearest dock the sets are made so many beats at a time.
+// After the beats to the nearest dock the sets are made four beats at a time.
 const STEPS: usize = 4;
 
 // How far two numbers are apart.

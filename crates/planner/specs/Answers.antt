@@ -14,7 +14,7 @@ unfoldable pub plannedOutcome : Planned → Outcome ℕ
 plannedOutcome (Failing i) = value i
 plannedOutcome (Refused r) = refusal (r .number) (r .place)
 
--- What planning a floor into so many lent numbers answers: the failing carrier.
+-- What planning a floor answers, with that number of numbers lent: the failing carrier.
 unfoldable pub planResult : Floor → List ℕ → ℕ → Outcome ℕ
 planResult f ws lent = planVerdict f ws lent gives failingOf (planOf f ws)
 

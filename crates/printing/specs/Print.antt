@@ -33,7 +33,7 @@ textLength f = 11 + 331 * f .carriers
 unfoldable pub printVerdict : Floor → List ℕ → ℕ → ℕ → Verdict
 printVerdict f ws lent bytes = planVerdict f ws lent then longEnough (textLength f) bytes
 
--- What printing a floor's routes answers, with room for so many numbers and so many bytes.
+-- What printing a floor's routes answers, where a number of numbers and a number of bytes are lent.
 unfoldable pub printOutcome : Floor → List ℕ → ℕ → ℕ → Outcome ℕ
 printOutcome f ws lent bytes = printVerdict f ws lent bytes gives length (printOf f ws)
 
@@ -61,7 +61,7 @@ neededFor text = whenPassed (sheetVerdict text) (textLength (floorAt text)) 16
 unfoldable pub shortOutcome : List ℕ → Outcome ℕ
 shortOutcome text = sheetVerdict text thenAnswers refusal 9 0
 
--- What printing the routes of a sheet answers, with room for so many bytes.
+-- What printing the routes of a sheet answers, where a number of bytes is lent.
 unfoldable pub routesOutcome : List ℕ → ℕ → Outcome ℕ
 routesOutcome text bytes = cond (leb (neededFor text) bytes) (value (length (routesOf text))) (shortOutcome text)
 

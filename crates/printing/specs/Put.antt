@@ -48,7 +48,7 @@ pub record Printable (f : Floor) (m out : List ℕ) : Type 0 where
   pub records : 65 * f .carriers ≤ length m
   pub enough : 11 + 331 * f .carriers ≤ length out
 
--- A text stands in front of a buffer with room for so many bytes; a shorter buffer is as it was, with the refusal k, p.
+-- A text stands in front of a buffer that has the needed bytes; a shorter buffer is as it was, with the refusal k, p.
 pub record TextOrShort (text : List ℕ) (needed k p : ℕ) (old new : List ℕ) (x : Outcome ℕ) : Type 0 where
   pub answers : x ≡ cond (leb needed (length old)) (value (length text)) (refusal k p)
   pub stores : new ≡ cond (leb needed (length old)) (put old 0 text) old

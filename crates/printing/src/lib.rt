@@ -64,7 +64,8 @@ fn put_plan(f: Floor, walls: &[u16], answers: &mut [u16], out: &mut [u8]) -> usi
 pub fn print(f: Floor, walls: &[u16], answers: &mut [u16], out: &mut [u8]) -> Printed
     ensures says { λ result. ⌜ printedOutcome result
         ≡ printOutcome f (now (walls .entry)) (length (now (answers .entry))) (length (now (out .entry))) ⌝ }
-    ensures plans { λ result. ⌜ now (answers .exit) ≡ printAnswers f (now (walls .entry)) (length (now (out .entry))) (now (answers .entry)) ⌝ }
+    ensures plans { λ result. ⌜ now (answers .exit) ≡ printAnswers f (now (walls .entry)) (length (now (out .entry)))
+        (now (answers .entry)) ⌝ }
     ensures stores { λ result. ⌜ now (out .exit) ≡ printMemory f (now (walls .entry)) (length (now (answers .entry))) (now (out .entry)) ⌝ }
 {
     let asked = request(f, walls, answers.len(), out.len());

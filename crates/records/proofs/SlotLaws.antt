@@ -10,14 +10,14 @@ use Rattle.laws.proofs.PartLaws.{part-byte, part-is}
 use Rattle.route.specs.Route.{Answer, none, route, View, unheard, heard}
 use Rattle.records.specs.Records.{recordOf, shown, resized, slot}
 
--- A list that is cut or filled up has just so many numbers.
+-- A list that is cut or filled up to k numbers has k.
 pub resized-length : (k : ℕ) (xs : List ℕ) → length (resized k xs) ≡ k
 unfolding resized
 resized-length zero xs = refl
 resized-length (suc k) [] = ap suc (resized-length k [])
 resized-length (suc k) (x ∷ xs) = ap suc (resized-length k xs)
 
--- A list of just so many numbers stays as it is.
+-- A list of k numbers stays as it is.
 pub resized-whole : (k : ℕ) (xs : List ℕ) → length xs ≡ k → resized k xs ≡ xs
 unfolding resized
 resized-whole zero [] e = refl

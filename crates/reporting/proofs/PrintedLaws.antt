@@ -25,7 +25,7 @@ pub read-granted : {x : Checked} {P : Type 0} (text old walls : List ℕ) (f : F
     → 1023 ≡ length old → x ≡ Passed → P → (checkOf f (take (f .walls) walls) ≡ passed) × ((f .walls ≤ length walls) × P)
 read-granted text old walls f r wide told p = let w = was-read text old walls f wide r told in (w .checked, (w .lent, p))
 
--- A text of each floor has at most so many bytes where the floor is accepted.
+-- What is printed of an accepted floor has at most `most` bytes.
 pub record PrintsWithin (print : Floor → List ℕ → List ℕ) (most : ℕ) : Type 0 where
   pub short : (f : Floor) (ws : List ℕ) → checkOf f ws ≡ passed → length (print f ws) ≤ most
 

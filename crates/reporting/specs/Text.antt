@@ -37,6 +37,6 @@ entryCount xs = length xs / 2
 unfoldable pub reportText : (carriers order : ℕ) → List ℕ → List ℕ
 reportText carriers order xs = lineOf (carriers ∷ order ∷ entryCount xs ∷ []) ++ linesOf (entryLine xs) (entryCount xs)
 
--- The most bytes of a report of so many steps: 16, and 21 a step.
+-- The most bytes of the report of a number of steps: 16, and 21 a step.
 unfoldable pub reportLength : ℕ → ℕ
 reportLength steps = 16 + 21 * steps

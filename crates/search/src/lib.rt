@@ -103,8 +103,8 @@ fn seek(
     }
 }
 
-// The best route of a carrier of a checked floor against the views as they stand, in the free table that these and its free cells leave; the
-// sets are a table to work in.
+// The best route of a carrier of a checked floor against the views as they stand, in the free table that these and its free cells leave;
+// the sets are a table to work in.
 pub fn route_in(
     f: Floor,
     free: Rows,

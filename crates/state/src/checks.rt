@@ -121,7 +121,7 @@ fn carrier_valid(f: Floor, m: &[u16], i: usize) -> bool
     record_valid(f, m, answer_place(i), 1, 2)
 }
 
-// Place p of the channel that begins at `channel`, which has so many messages.
+// Place p of the channel that begins at `channel` and has `count` messages.
 fn place_valid(f: Floor, m: &[u16], channel: usize, count: usize, p: usize) -> bool
     requires { ⌜ (p < 4) × (channel + 261 ≤ length (now m)) × (channel ≤ 9665) ⌝ }
     ensures { λ result. ⌜ result ≡ placeValid f (now (m .entry)) (channel + 1) count p ⌝ }
@@ -133,7 +133,7 @@ fn place_valid(f: Floor, m: &[u16], channel: usize, count: usize, p: usize) -> b
     record_valid(f, m, at, 0, 0)
 }
 
-// The places of the channel that begins at `channel`, which has so many messages.
+// The places of the channel that begins at `channel` and has `count` messages.
 fn places_valid(f: Floor, m: &[u16], channel: usize, count: usize) -> bool
     requires { ⌜ (channel + 261 ≤ length (now m)) × (channel ≤ 9665) ⌝ }
     ensures { λ result. ⌜ result ≡ each 4 (placeValid f (now (m .entry)) (channel + 1) count) ⌝ }

@@ -28,7 +28,8 @@ fn has_capacity(n: usize, depth: u16, m: &[u16], i: usize, k: usize) -> bool
 // The smallest carrier to which the channel from carrier i is full; n if none is.
 fn first_full(n: usize, depth: u16, m: &[u16], i: usize) -> usize
     requires { ⌜ (i < n) × (n ≤ 8) × (stateSize n ≤ length (now m)) ⌝ }
-    ensures { λ result. ⌜ (result ≤ n) × (demand (leb n result) 13 (1 + result) ≡ demandEach 13 1 (capacityAt n depth (now (m .entry)) i) n) ⌝ }
+    ensures { λ result. ⌜ (result ≤ n) × (demand (leb n result) 13 (1 + result) ≡ demandEach 13 1
+        (capacityAt n depth (now (m .entry)) i) n) ⌝ }
 {
     let mut k: usize = i + 1;
     while k < n {

@@ -47,7 +47,8 @@ fn put_carrier(
 // Puts the lines of all stranded carriers; the column behind them is returned.
 fn put_carriers(f: Floor, walls: &[u16], own: [u16; TEAM], out: &mut [u8]) -> usize
     requires { ⌜ (checkOf f (now walls) ≡ passed) × PlanIn f (now walls) own × (360 ≤ length (now out)) ⌝ }
-    ensures { λ result. ⌜ PutAt (linesOf (carrierText f (now (walls .entry))) (f .carriers)) (now (out .entry)) 0 (now (out .exit)) result ⌝ }
+    ensures { λ result. ⌜ PutAt (linesOf (carrierText f (now (walls .entry))) (f .carriers)) (now (out .entry)) 0
+        (now (out .exit)) result ⌝ }
 {
     let n = f.carriers;
     let mut at: usize = 0;

@@ -33,7 +33,7 @@ pub fn part(text: &[u8], from: usize, n: usize) -> &[u8] {
     &text[from..to]
 }
 
-// The first so many bytes of a page, none where it has fewer.
+// The first n bytes of a page, none where it has fewer.
 pub fn front(page: &mut [u8], n: usize) -> &mut [u8] {
     if page.len() < n {
         return &mut page[..0];

@@ -1,6 +1,6 @@
-// Drawn floors and lists of steps, as numbers of a setup: how many walls there are, at 5; starts and first docks in turn, from 6 on; how many
-// steps there are to choose among, at 100, and these; the other docks, from 150 on; the walls, from 201 on. What is drawn comes from one
-// generator: the next number is the last times 16807 modulo 2^31 - 1.
+// Drawn floors and lists of steps, as numbers of a setup: how many walls there are, at 5; starts and first docks in turn, from 6 on; how
+// many steps there are to choose among, at 100, and these; the other docks, from 150 on; the walls, from 201 on. What is drawn comes from
+// one generator: the next number is the last times 16807 modulo 2^31 - 1.
 ghost use mathlib.Core.Path.{_≡_};
 ghost use lib.ListN.{length};
 use crate::memory;
@@ -39,7 +39,8 @@ fn shuffle(setup: &mut [u16], from: usize, cells: usize, seed: usize) {
     }
 }
 
-// The place of dock n of a setup, counted through all carriers, four each: a carrier's first stands behind its start, its others from 150 on.
+// The place of dock n of a setup, counted through all carriers, four each: a carrier's first stands behind its start, its others from 150
+// on.
 pub fn dock_place(n: usize) -> usize {
     memory::choose(n % 4 == 0, memory::plus(7, n / 2), memory::plus(150, n))
 }

@@ -47,7 +47,7 @@ pub fn part(m: &[u16], from: usize, n: usize) -> &[u16] {
     &m[from..to]
 }
 
-// The first so many numbers of a memory, none where it has fewer.
+// The first n numbers of a memory, none where it has fewer.
 pub fn front(m: &mut [u16], n: usize) -> &mut [u16] {
     if m.len() < n {
         return &mut m[..0];
@@ -70,7 +70,7 @@ pub fn narrow(x: usize) -> u16 {
     65535
 }
 
-// A sum of places, 131,072 where one of them is no place of these memories or of the script, which has at most so many bytes.
+// A sum of places, 131,072 where one of them is no place of these memories or of the script, which has at most 131,072 bytes.
 pub fn plus(a: usize, b: usize) -> usize {
     if a < 131072 {
         if b < 131072 {
@@ -122,7 +122,7 @@ pub fn same(xs: &[u16], ys: &[u16]) -> bool {
     same_part(xs, 0, ys, 0, xs.len())
 }
 
-// Eight numbers of a memory, the first at a place and each so many behind the one before.
+// Eight numbers of a memory, the first at a place and each a stride behind the one before.
 pub fn eight(m: &[u16], from: usize, stride: usize) -> [u16; 8] {
     let mut e = [0u16; 8];
     let mut p = from;

@@ -2,7 +2,7 @@
 use crate::memory;
 use crate::memory::both;
 
-// Whether the records of n carriers in a memory, from a place on and each so many numbers behind the one before, are these answers.
+// Whether the records of n carriers in a memory, from a place on and each a stride behind the one before, are these answers.
 pub fn answers_are(m: &[u16], from: usize, stride: usize, n: usize, answers: &[u16]) -> bool {
     let mut p = from;
     let mut place: usize = 0;
@@ -18,7 +18,7 @@ pub fn answers_are(m: &[u16], from: usize, stride: usize, n: usize, answers: &[u
     true
 }
 
-// Whether n numbers, the first at a place and each so many behind the one before, are all 0.
+// Whether n numbers, the first at a place and each a stride behind the one before, are all 0.
 fn are_zero(m: &[u16], from: usize, stride: usize, n: usize) -> bool {
     let mut p = from;
     let mut i: usize = 0;

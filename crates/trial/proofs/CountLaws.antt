@@ -8,7 +8,7 @@ use lib.ListN.{length, getD}
 use Rattle.orders.specs.Orders.{passing}
 use Rattle.orders.proofs.PassingLaws.{count-none, count-yes, count-no, passing-at}
 
--- After p of k places, so many were found to pass.
+-- After p of k places, `found` of them passed.
 pub record PassingCounted (test : ℕ → Bool) (k p found : ℕ) : Type 0 where
   pub within : p ≤ k
   pub few : found ≤ p

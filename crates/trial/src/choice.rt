@@ -38,7 +38,8 @@ pub fn count_open(f: Floor, m: &[u16], k: usize) -> usize
 fn place_at(f: Floor, m: &[u16], i: usize) -> usize
     requires { ⌜ i < openCount f (now m) (places (f .carriers)) ⌝ }
     requires { ⌜ (f .carriers ≤ 8) × (stateSize (f .carriers) ≤ length (now m)) ⌝ }
-    ensures { λ result. ⌜ (result ≡ getD (passing (opensIn f (now (m .entry))) (places (f .carriers))) i 0) × (result < places (f .carriers)) ⌝ }
+    ensures { λ result. ⌜ (result ≡ getD (passing (opensIn f (now (m .entry))) (places (f .carriers))) i 0)
+        × (result < places (f .carriers)) ⌝ }
 {
     let all = crate::places::count(f.carriers as usize);
     let mut p: usize = 0;
@@ -71,7 +72,7 @@ fn turn(f: Floor, m: &[u16], order: u16, kept: u32) -> usize
     crate::generator::draw(kept)
 }
 
-// The place that an order takes, of so many open ones.
+// The place that an order takes among the open ones, whose number is given.
 pub fn choose(f: Floor, m: &[u16], order: u16, kept: u32, candidates: usize) -> usize
     requires { ⌜ (candidates ≡ openCount f (now m) (places (f .carriers))) × (0 < candidates) ⌝ }
     requires { ⌜ (orderBy order ≡ round → kept ≤ places (f .carriers)) ⌝ }

@@ -1,6 +1,7 @@
-// The texts of the desk's commands over sheets and maps of any bytes, by a script on standard input. A section is a line `@`, a command, its numbers and
-// the length of a sheet, then the sheet and a newline; the line is written again, and behind it what the command prints for the sheet. What
-// must come out is the file `stdout`, made by an independent implementation (`paper tryouts < stdin`, host/src/bin/paper.rs).
+// The texts of the desk's commands over sheets and maps of any bytes, by a script on standard input. A section is a line `@`, a command,
+// its numbers and the length of a sheet, then the sheet and a newline; the line is written again, and behind it what the command prints for
+// the sheet. What must come out is the file `stdout`, made by an independent implementation (`paper tryouts < stdin`,
+// host/src/bin/paper.rs).
 //
 //     @ why 73            why a sheet of 73 bytes is refused
 //     @ picture 73        its picture

@@ -1,5 +1,5 @@
--- `layers::step::propagate` meets its contract. The loop's invariant: the stripes are the set of the beat at hand, and so many steps are
--- done. The measure is what is left of the steps. Assumes nothing.
+-- `layers::step::propagate` meets its contract. The loop's invariant: the stripes are the set of the beat at hand, and that
+-- number of steps is done. The measure is what is left of the steps. Assumes nothing.
 use Prim.Native.Nat.{_+_, _*_, _-_, _≤_, _<_}
 use native.Mathlib.Omega.{arith}
 use mathlib.Core.Path.{_≡_, sym, _∙_}

@@ -1,4 +1,4 @@
--- `testkit::memory::front` is safe and ends: so many are lent as there are.
+-- `testkit::memory::front` is safe and ends: no more are lent than there are.
 use native.Mathlib.Omega.{arith}
 use mathlib.Core.Path.{sym}
 use lib.Seq.{length-take-le}
