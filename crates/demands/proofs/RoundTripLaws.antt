@@ -28,18 +28,7 @@ length-passes needed lent l = demand-passes 9 0 (le-leb needed lent l)
 pub other-walls : (f : Floor) (ws : List ℕ) (f′ : Floor) (ws′ xs ys : List ℕ) → SameFloor f ws f′ ws′
     → All (λ j. getD xs j 0 ≡ getD ws j 0) (f .walls) → All (λ j. getD ys j 0 ≡ getD ws′ j 0) (f .walls) → SameFloor f xs f′ ys
 other-walls f ws f′ ws′ xs ys same one other =
-    record {
-      width = same .width;
-      height = same .height;
-      horizon = same .horizon;
-      depth = same .depth;
-      carriers = same .carriers;
-      walls = same .walls;
-      starts = same .starts;
-      counts = same .counts;
-      docks = same .docks;
-      cells = λ j h. one j h ∙ same .cells j h ∙ sym (other j h);
-    }
+    record { outline = same .outline; docks = same .docks; cells = λ j h. one j h ∙ same .cells j h ∙ sym (other j h) }
 
 pub walls-behind : (ws rest : List ℕ) (n : ℕ) → n ≤ length ws → All (λ j. getD (ws ++ rest) j 0 ≡ getD ws j 0) n
 walls-behind ws rest n l j h = List·getD-append ws rest 0 j (omega arith)
@@ -62,11 +51,11 @@ floor-returns f ws old lent ok l w =
     ∙ take-at text (drop (sheetLength f) old) (sheetLength f) (sheet-theorems .sheet-length f ws)
     in
     let read : readVerdict text (length lent) ≡ passed =
-    then-passed (sheet-theorems .has-sheet f ws ok) ∙ length-passes _ _ (omega (arith, same .walls))
+    then-passed (sheet-theorems .has-sheet f ws ok) ∙ length-passes _ _ (omega (arith, same .outline .walls))
     in
     rw (front, read)
     (other-walls f ws (floorAt text) (wallsAt text) ws _ same (λ j h. refl)
-    (walls-behind (wallsAt text) (drop (floorAt text .walls) lent) (f .walls) (omega (arith, same .walls, walls-length text))))
+    (walls-behind (wallsAt text) (drop (floorAt text .walls) lent) (f .walls) (omega (arith, same .outline .walls, walls-length text))))
 
 -- A sheet that is accepted, written from what was read of it.
 written-again : (text rest old : List ℕ) → sheetVerdict text ≡ passed → length text ≤ length old

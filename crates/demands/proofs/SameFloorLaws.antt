@@ -21,7 +21,7 @@ use Rattle.planner.specs.Plan.{respondOf, planOf, planVerdict, failingOf}
 use Rattle.planner.specs.Answers.{planResult}
 use Rattle.planner.specs.Records.{planMemory}
 use Rattle.planner.specs.Claims.{AgreeUpTo, answerAt}
-use Rattle.planner.proofs.DependsLaws.{task-same, respond-same, plans-agree, searches-agree}
+use Rattle.planner.proofs.DependsLaws.{docks-agree, task-same, respond-same, plans-agree, searches-agree}
 use Rattle.printing.specs.Text.{answerLine, firstLine, routesText}
 use Rattle.printing.specs.Print.{printOf, textLength, printVerdict, printOutcome, printAnswers, printMemory}
 use Rattle.lengths.specs.Figures.{figuresFor, lengthsOf}
@@ -53,42 +53,33 @@ columns-same f f′ (suc n) a = rw (columns-same f f′ n (λ i l. a i (omega ar
 module _ (f : Floor) (ws : List ℕ) (f′ : Floor) (ws′ : List ℕ) (same : SameDocks f f′)
     (cells : All (λ (j : ℕ). getD ws j 0 ≡ getD ws′ j 0) (f .walls)) where
   agrees : AgreeUpTo (f .carriers) f ws f′ ws′
-  agrees =
-      record {
-        width = same .width;
-        height = same .height;
-        horizon = same .horizon;
-        walls = same .walls;
-        cells = cells;
-        starts = same .starts;
-        docks = same .docks;
-      }
+  agrees = docks-agree f ws f′ ws′ same cells
 
   pub length-same : sheetLength f ≡ sheetLength f′
   unfolding sheetLength wallAt
-  length-same = rw (columns-same f f′ (f .carriers) (same .counts), same .carriers, same .walls)
+  length-same = rw (columns-same f f′ (f .carriers) (same .outline .counts), same .outline .carriers, same .outline .walls)
 
   responses : (i : ℕ) (views : List View) → i < f .carriers → length views ≡ i → respondOf f ws i views ≡ respondOf f′ ws′ i views
   responses i views l e = respond-same (f .carriers) f ws f′ ws′ agrees i views l (omega arith)
 
   plans : planOf f ws ≡ planOf f′ ws′
-  plans = plans-agree f ws f′ ws′ agrees (same .carriers)
+  plans = plans-agree f ws f′ ws′ agrees (same .outline .carriers)
 
   line-same : (i : ℕ) (x : Answer) → answerLine f i x ≡ answerLine f′ i x
   unfolding answerLine
   line-same i none = refl
-  line-same i (route r) = rw (same .horizon)
+  line-same i (route r) = rw (same .outline .horizon)
 
   first-same : firstLine f (failingOf (planOf f ws)) ≡ firstLine f′ (failingOf (planOf f′ ws′))
   unfolding firstLine
-  first-same = rw (plans, same .carriers)
+  first-same = rw (plans, same .outline .carriers)
 
   others-same : linesOf (λ i. answerLine f i (answerAt (planOf f ws) i)) (f .carriers) ≡
       linesOf (λ i. answerLine f′ i (answerAt (planOf f′ ws′) i)) (f′ .carriers)
   others-same =
       lines-same (λ i. answerLine f i (answerAt (planOf f ws) i)) (λ i. answerLine f′ i (answerAt (planOf f′ ws′) i)) (f .carriers)
       (λ i l. line-same i (answerAt (planOf f ws) i) ∙ ap (λ (xs : List Answer). answerLine f′ i (answerAt xs i)) plans)
-      ∙ ap (λ (n : ℕ). linesOf (λ i. answerLine f′ i (answerAt (planOf f′ ws′) i)) n) (same .carriers)
+      ∙ ap (λ (n : ℕ). linesOf (λ i. answerLine f′ i (answerAt (planOf f′ ws′) i)) n) (same .outline .carriers)
 
   texts : printOf f ws ≡ printOf f′ ws′
   unfolding printOf routesText
@@ -97,18 +88,18 @@ module _ (f : Floor) (ws : List ℕ) (f′ : Floor) (ws′ : List ℕ) (same : S
   module _ (checks : checkOf f ws ≡ checkOf f′ ws′) where
     lengths : figuresFor f ≡ figuresFor f′
     unfolding figuresFor limitsOf lengthsOf textLength
-    lengths = rw (length-same, same .width, same .height, same .horizon, same .depth, same .carriers, same .walls)
+    lengths = rw (length-same, same .outline .width, same .outline .height, same .outline .horizon, same .outline .depth, same .outline .carriers, same .outline .walls)
 
     pub write : (lent : ℕ) → writeVerdict f ws lent ≡ writeVerdict f′ ws′ lent
     unfolding writeVerdict
     write lent = rw (checks, length-same)
 
     search : (i : ℕ) (m : List ℕ) → searchOf f ws i m ≡ searchOf f′ ws′ i m
-    search i m = searches-agree f ws f′ ws′ agrees (same .carriers) checks i m
+    search i m = searches-agree f ws f′ ws′ agrees (same .outline .carriers) checks i m
 
     plan-verdict : (lent : ℕ) → planVerdict f ws lent ≡ planVerdict f′ ws′ lent
     unfolding planVerdict
-    plan-verdict lent = rw (checks, same .carriers)
+    plan-verdict lent = rw (checks, same .outline .carriers)
 
     plan : (lent : ℕ) → planResult f ws lent ≡ planResult f′ ws′ lent
     unfolding planResult
@@ -120,46 +111,46 @@ module _ (f : Floor) (ws : List ℕ) (f′ : Floor) (ws′ : List ℕ) (same : S
 
     print-verdict : (lent bytes : ℕ) → printVerdict f ws lent bytes ≡ printVerdict f′ ws′ lent bytes
     unfolding printVerdict textLength
-    print-verdict lent bytes = rw (plan-verdict lent, same .carriers)
+    print-verdict lent bytes = rw (plan-verdict lent, same .outline .carriers)
 
     place : (lent : ℕ) → placeVerdict f ws lent ≡ placeVerdict f′ ws′ lent
     unfolding placeVerdict
-    place lent = rw (checks, same .carriers)
+    place lent = rw (checks, same .outline .carriers)
 
     states : (m : List ℕ) → stateVerdict f ws m ≡ stateVerdict f′ ws′ m
     unfolding stateVerdict valid carrierValid pairValid channelValid placeValid recordValid
-    states m = rw (place (length m), same .width, same .height, same .horizon, same .depth, same .carriers)
+    states m = rw (place (length m), same .outline .width, same .outline .height, same .outline .horizon, same .outline .depth, same .outline .carriers)
 
     -- The two machines differ only in the responses of carriers that are not there.
     replies : (s : State) (x : Call) → reply (machineOf f ws) s x ≡ reply (machineOf f′ ws′) s x
     unfolding machineOf
     replies s x =
         reply-same (f .carriers) (f .depth) (stateSize (f .carriers)) (respondOf f ws) (respondOf f′ ws′) responses s x
-        ∙ rw (same .carriers, same .depth) refl
+        ∙ rw (same .outline .carriers, same .outline .depth) refl
 
     next-states : (s : State) (x : Call) → afterCall (machineOf f ws) s x ≡ afterCall (machineOf f′ ws′) s x
     unfolding machineOf
     next-states s x =
         after-call-same (f .carriers) (f .depth) (stateSize (f .carriers)) (respondOf f ws) (respondOf f′ ws′) responses s x
-        ∙ rw (same .carriers, same .depth) refl
+        ∙ rw (same .outline .carriers, same .outline .depth) refl
 
     call : (m : List ℕ) (x : Call) → replyTo f ws m x ≡ replyTo f′ ws′ m x
     unfolding replyTo
-    call m x = rw (states m, replies (stateIn f m) x, same .carriers)
+    call m x = rw (states m, replies (stateIn f m) x, same .outline .carriers)
 
     memory : (m : List ℕ) (x : Call) → memoryAfter f ws m x ≡ memoryAfter f′ ws′ m x
     unfolding memoryAfter
-    memory m x = rw (states m, next-states (stateIn f m) x, same .carriers)
+    memory m x = rw (states m, next-states (stateIn f m) x, same .outline .carriers)
 
     trials : (order seed : ℕ) → trialOf f ws order seed ≡ trialOf f′ ws′ order seed
     unfolding trialOf machineOf
     trials order seed =
         trial-same (f .carriers) (f .depth) (stateSize (f .carriers)) (respondOf f ws) (respondOf f′ ws′) responses (orderBy order) seed
-        ∙ rw (same .carriers, same .depth) refl
+        ∙ rw (same .outline .carriers, same .outline .depth) refl
 
     trial-verdict : (order state report : ℕ) → trialVerdict f ws order state report ≡ trialVerdict f′ ws′ order state report
     unfolding trialVerdict
-    trial-verdict order state report = rw (place state, same .carriers)
+    trial-verdict order state report = rw (place state, same .outline .carriers)
 
     trial : (order seed state report : ℕ) → trialOutcome f ws order seed state report ≡ trialOutcome f′ ws′ order seed state report
     unfolding trialOutcome
@@ -168,7 +159,7 @@ module _ (f : Floor) (ws : List ℕ) (f′ : Floor) (ws′ : List ℕ) (same : S
     trial-state : (order seed : ℕ) (old : List ℕ) (report : ℕ)
         → stateTried f ws order seed old report ≡ stateTried f′ ws′ order seed old report
     unfolding stateTried
-    trial-state order seed old report = rw (trial-verdict order (length old) report, trials order seed, same .carriers)
+    trial-state order seed old report = rw (trial-verdict order (length old) report, trials order seed, same .outline .carriers)
 
     trial-report : (order seed state : ℕ) (old : List ℕ) → reportTried f ws order seed state old ≡ reportTried f′ ws′ order seed state old
     unfolding reportTried
@@ -178,7 +169,7 @@ module _ (f : Floor) (ws : List ℕ) (f′ : Floor) (ws′ : List ℕ) (same : S
     unfolding machineOf
     all-runs =
         runs-same (f .carriers) (f .depth) (stateSize (f .carriers)) (respondOf f ws) (respondOf f′ ws′) responses
-        ∙ rw (same .carriers, same .depth) refl
+        ∙ rw (same .outline .carriers, same .outline .depth) refl
 
     totals : totalOf f ws ≡ totalOf f′ ws′
     unfolding totalOf total
@@ -193,11 +184,11 @@ module _ (f : Floor) (ws : List ℕ) (f′ : Floor) (ws′ : List ℕ) (same : S
     run-numbers rank =
         ap reportNumbers
         (reports-same (f .carriers) (f .depth) (stateSize (f .carriers)) (respondOf f ws) (respondOf f′ ws′) responses rank
-        ∙ rw (same .carriers, same .depth) refl)
+        ∙ rw (same .outline .carriers, same .outline .depth) refl)
 
     rank-verdict : (rank report : ℕ) → rankVerdict f ws rank report ≡ rankVerdict f′ ws′ rank report
     unfolding rankVerdict smallVerdict
-    rank-verdict rank report = rw (checks, totals, same .carriers)
+    rank-verdict rank report = rw (checks, totals, same .outline .carriers)
 
     run-of-rank : (rank report : ℕ) → rankOutcome f ws rank report ≡ rankOutcome f′ ws′ rank report
     unfolding rankOutcome
@@ -209,7 +200,7 @@ module _ (f : Floor) (ws : List ℕ) (f′ : Floor) (ws′ : List ℕ) (same : S
 
     blockers-verdict : (carrier lent : ℕ) → blockersVerdict f ws carrier lent ≡ blockersVerdict f′ ws′ carrier lent
     unfolding blockersVerdict carrierVerdict
-    blockers-verdict carrier lent = rw (plan-verdict lent, plans, same .carriers)
+    blockers-verdict carrier lent = rw (plan-verdict lent, plans, same .outline .carriers)
 
     blockers : (carrier lent : ℕ) → blockersOutcome f ws carrier lent ≡ blockersOutcome f′ ws′ carrier lent
     unfolding blockersOutcome
@@ -229,7 +220,7 @@ module _ (f : Floor) (ws : List ℕ) (f′ : Floor) (ws′ : List ℕ) (same : S
     check-record carrier m =
         gives-same (recordVerdict f ws carrier (length m)) _ _
         (λ e. ap (λ (task : Task). recordAnswer task m) (record-task carrier (length m) e))
-        ∙ rw (checks, same .carriers) refl
+        ∙ rw (checks, same .outline .carriers) refl
 
     pub same-outcomes : SameOutcomes f ws f′ ws′
     unfolding printOutcome printAnswers printMemory freshMemory blockersMemory
@@ -245,7 +236,7 @@ module _ (f : Floor) (ws : List ℕ) (f′ : Floor) (ws′ : List ℕ) (same : S
           printed-answers = λ bytes old. rw (print-verdict (length old) bytes, plans);
           text = λ lent old. rw (print-verdict lent (length old), texts);
           fresh = place;
-          fresh-memory = λ old. rw (place (length old), same .carriers);
+          fresh-memory = λ old. rw (place (length old), same .outline .carriers);
           call = call;
           memory = memory;
           trial = trial;

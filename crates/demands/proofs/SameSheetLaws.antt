@@ -27,16 +27,16 @@ numbers-same width φ ψ (suc n) a =
 module _ (f : Floor) (ws : List ℕ) (f′ : Floor) (ws′ : List ℕ) (same : SameFloor f ws f′ ws′) where
   heads : headLine f ≡ headLine f′
   unfolding headLine
-  heads = rw (same .width, same .height, same .horizon, same .depth, same .carriers, same .walls)
+  heads = rw (same .outline .width, same .outline .height, same .outline .horizon, same .outline .depth, same .outline .carriers, same .outline .walls)
 
   carrier-lines : (i : ℕ) → i < f .carriers → carrierLine f i ≡ carrierLine f′ i
   unfolding carrierLine
   carrier-lines i l =
       rw (
         numbers-same (f .width) (dockOf f i) (dockOf f′ i) (countOf f i) (same .docks i l),
-        same .starts i l,
-        same .counts i l,
-        same .width,
+        same .outline .starts i l,
+        same .outline .counts i l,
+        same .outline .width,
       )
 
   pub sheet-same : sheetOf f ws ≡ sheetOf f′ ws′
@@ -46,13 +46,13 @@ module _ (f : Floor) (ws : List ℕ) (f′ : Floor) (ws′ : List ℕ) (same : S
       carriers : carrierLines f ≡ carrierLines f′
       carriers =
           lines-same (carrierLine f) (carrierLine f′) (f .carriers) carrier-lines
-          ∙ ap (λ (n : ℕ). linesOf (carrierLine f′) n) (same .carriers)
+          ∙ ap (λ (n : ℕ). linesOf (carrierLine f′) n) (same .outline .carriers)
 
       walls : wallLines f ws ≡ wallLines f′ ws′
       walls =
           lines-same (λ j. wallLine (f .width) (getD ws j 0)) (λ j. wallLine (f′ .width) (getD ws′ j 0)) (f .walls)
-          (λ j l. rw (same .width, same .cells j l))
-          ∙ ap (λ (n : ℕ). linesOf (λ j. wallLine (f′ .width) (getD ws′ j 0)) n) (same .walls)
+          (λ j l. rw (same .outline .width, same .cells j l))
+          ∙ ap (λ (n : ℕ). linesOf (λ j. wallLine (f′ .width) (getD ws′ j 0)) n) (same .outline .walls)
 
   pub same-answers : Lent f ws → Lent f′ ws′ → SameAnswers f ws f′ ws′
   unfolding writeSheet

@@ -175,7 +175,7 @@ module _ (text lent : List ℕ) (read : readVerdict text (length lent) ≡ passe
 
   same-walls : f .walls ≡ floorAt short .walls
   unfolding dropLast
-  same-walls = short-floor .walls
+  same-walls = short-floor .outline .walls
 
   short-read : readVerdict short (length lent) ≡ passed
   unfolding readVerdict

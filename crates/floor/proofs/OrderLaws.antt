@@ -15,7 +15,7 @@ use Rattle.floor.specs.declared.Floor.{Floor}
 use Rattle.floor.specs.Checks.{among, countOf, docksOf, dockOf, isDock, startOf, inGrid, docksInGrid, carrierInGrid}
 use Rattle.floor.specs.Checks.{docksClear, clearOfWalls, unshared, unrepeated, limitsOf, lentOf, carriersOf, wallsOf}
 use Rattle.floor.specs.Checks.{risingOf, clearOf, distinctOf, unrepeatedOf, placesOf, checkOf}
-use Rattle.floor.specs.Accepted.{Absent, Unrepeated, SameFloor, SameDocks}
+use Rattle.floor.specs.Accepted.{Absent, Unrepeated, SameOutline, SameFloor, SameDocks}
 use Rattle.floor.proofs.AmongLaws.{among-place}
 use Rattle.laws.proofs.HoldLaws.{each-decides, each-holds}
 use Rattle.floor.proofs.SameLaws.{demands-same, limits-same, places-same}
@@ -155,27 +155,28 @@ module _ (f f′ : Floor) (ws : List ℕ) (same : SameDocks f f′) where
   -- It is the floor f.
   from-same : SameFloor f ws (docksFrom f f′) ws
   unfolding docksFrom startOf countOf docksOf dockOf
-  from-same =
-      record {
-        width = same .width;
-        height = same .height;
-        horizon = same .horizon;
-        depth = same .depth;
-        carriers = same .carriers;
-        walls = same .walls;
-        starts = same .starts;
-        counts = λ i l. refl;
-        docks = λ i l k h. refl;
-        cells = λ j l. refl;
-      }
+  from-same = record { outline = from-outline; docks = λ i l k h. refl; cells = λ j l. refl }
+    where
+      from-outline : SameOutline f (docksFrom f f′)
+      from-outline =
+          record {
+            width = same .outline .width;
+            height = same .outline .height;
+            horizon = same .outline .horizon;
+            depth = same .outline .depth;
+            carriers = same .outline .carriers;
+            walls = same .outline .walls;
+            starts = same .outline .starts;
+            counts = λ i l. refl;
+          }
 
   from-counts : (i : ℕ) → i < f′ .carriers → countOf (docksFrom f f′) i ≡ countOf f′ i
   unfolding docksFrom countOf
-  from-counts i l = same .counts i (rw (same .carriers) l)
+  from-counts i l = same .outline .counts i (rw (same .outline .carriers) l)
 
   from-docks : (i : ℕ) → i < f′ .carriers → (c : ℕ) → isDock (docksFrom f f′) i c ≡ isDock f′ i c
   unfolding docksFrom isDock docksOf countOf
-  from-docks i l c = same .docks i (rw (same .carriers) l) c
+  from-docks i l c = same .docks i (rw (same .outline .carriers) l) c
 
   -- It gets the verdict of f′.
   from-places : placesOf (docksFrom f f′) ws ≡ placesOf f′ ws
@@ -197,4 +198,4 @@ module _ (f f′ : Floor) (ws : List ℕ) (same : SameDocks f f′) where
   unfolding checkOf lentOf docksFrom limitsOf
   order-same =
       let f″ = docksFrom f f′ in
-      rw (places-same f ws f″ ws from-same, from-places, limits-same f ws f″ ws from-same, same .walls) refl
+      rw (places-same f ws f″ ws from-same, from-places, limits-same f ws f″ ws from-same, same .outline .walls) refl

@@ -11,7 +11,7 @@ use Rattle.laws.specs.Verdict.{inTurn, demandEach, All, each}
 use Rattle.floor.specs.Checks.{startOf, countOf, docksOf, dockOf, isDock, limitsOf, lentOf, longEnough, inGrid, docksInGrid}
 use Rattle.floor.specs.Checks.{carrierInGrid, rises, among, docksClear, clearOfWalls, unshared, unrepeated}
 use Rattle.floor.specs.Checks.{carriersOf, wallsOf, risingOf, clearOf, distinctOf, unrepeatedOf, placesOf, checkOf}
-use Rattle.floor.specs.Accepted.{Lent, SameFloor, SameDocks}
+use Rattle.floor.specs.Accepted.{Lent, SameOutline, SameFloor, SameDocks}
 use Rattle.laws.proofs.HoldLaws.{each-same}
 
 -- Tests that agree at each item make the same check.
@@ -35,9 +35,8 @@ unfolding rises
 rises-same ws ws′ k zero l a = refl
 rises-same ws ws′ k (suc j) l a = rw (a j (omega arith), a (suc j) l)
 
--- A record with two lists of walls that agree up to its count of walls is the same floor.
-pub walls-agree : (f : Floor) (ws ws′ : List ℕ) → All (λ (j : ℕ). getD ws j 0 ≡ getD ws′ j 0) (f .walls) → SameFloor f ws f ws′
-walls-agree f ws ws′ a =
+pub outline-same : (f : Floor) → SameOutline f f
+outline-same f =
     record {
       width = refl;
       height = refl;
@@ -47,60 +46,63 @@ walls-agree f ws ws′ a =
       walls = refl;
       starts = λ i l. refl;
       counts = λ i l. refl;
-      docks = λ i l k h. refl;
-      cells = a;
     }
+
+-- A record with two lists of walls that agree up to its count of walls is the same floor.
+pub walls-agree : (f : Floor) (ws ws′ : List ℕ) → All (λ (j : ℕ). getD ws j 0 ≡ getD ws′ j 0) (f .walls) → SameFloor f ws f ws′
+walls-agree f ws ws′ a =
+    record { outline = outline-same f; docks = λ i l k h. refl; cells = a }
 
 module _ (f : Floor) (ws : List ℕ) (f′ : Floor) (ws′ : List ℕ) (same : SameFloor f ws f′ ws′) where
   in-grid-same : (c : ℕ) → inGrid f c ≡ inGrid f′ c
   unfolding inGrid
-  in-grid-same c = rw (same .width, same .height)
+  in-grid-same c = rw (same .outline .width, same .outline .height)
 
   -- The walls are the items behind the carriers.
   items : f .carriers + 1 ≡ f′ .carriers + 1
-  items = rw (same .carriers)
+  items = rw (same .outline .carriers)
 
   pub limits-same : limitsOf f ≡ limitsOf f′
   unfolding limitsOf
-  limits-same = rw (same .width, same .height, same .horizon, same .depth, same .carriers, same .walls)
+  limits-same = rw (same .outline .width, same .outline .height, same .outline .horizon, same .outline .depth, same .outline .carriers, same .outline .walls)
 
   -- A test of every dock of a carrier, where the two tests agree at each cell.
   docks-same : (i : ℕ) → i < f .carriers → (φ ψ : ℕ → Bool) → ((c : ℕ) → φ c ≡ ψ c)
       → each (countOf f i) (λ k. φ (dockOf f i k)) ≡ each (countOf f′ i) (λ k. ψ (dockOf f′ i k))
   docks-same i l φ ψ e =
       each-same (countOf f i) (λ k. φ (dockOf f i k)) (λ k. ψ (dockOf f′ i k)) (λ k h. rw (same .docks i l k h) (e (dockOf f′ i k)))
-      ∙ ap (λ (n : ℕ). each n (λ k. ψ (dockOf f′ i k))) (same .counts i l)
+      ∙ ap (λ (n : ℕ). each n (λ k. ψ (dockOf f′ i k))) (same .outline .counts i l)
 
   carriers-same : carriersOf f ≡ carriersOf f′
   unfolding carriersOf carrierInGrid docksInGrid
   carriers-same =
-      demands-same _ _ _ refl (same .carriers)
-      (λ i l. rw (docks-same i l (inGrid f) (inGrid f′) in-grid-same, same .counts i l, same .starts i l, in-grid-same (startOf f′ i)))
+      demands-same _ _ _ refl (same .outline .carriers)
+      (λ i l. rw (docks-same i l (inGrid f) (inGrid f′) in-grid-same, same .outline .counts i l, same .outline .starts i l, in-grid-same (startOf f′ i)))
 
   walls-same : wallsOf f ws ≡ wallsOf f′ ws′
   unfolding wallsOf
-  walls-same = demands-same _ _ _ items (same .walls) (λ j l. rw (same .cells j l, in-grid-same (getD ws′ j 0)))
+  walls-same = demands-same _ _ _ items (same .outline .walls) (λ j l. rw (same .cells j l, in-grid-same (getD ws′ j 0)))
 
   rising-same : risingOf f ws ≡ risingOf f′ ws′
   unfolding risingOf
-  rising-same = demands-same _ _ _ items (same .walls) (λ j l. rises-same ws ws′ (f .walls) j l (same .cells))
+  rising-same = demands-same _ _ _ items (same .outline .walls) (λ j l. rises-same ws ws′ (f .walls) j l (same .cells))
 
   wall-same : (c : ℕ) → among ws (f .walls) c ≡ among ws′ (f′ .walls) c
-  wall-same c = among-same ws ws′ (f .walls) c (same .cells) ∙ ap (λ (k : ℕ). among ws′ k c) (same .walls)
+  wall-same c = among-same ws ws′ (f .walls) c (same .cells) ∙ ap (λ (k : ℕ). among ws′ k c) (same .outline .walls)
 
   clear-same : clearOf f ws ≡ clearOf f′ ws′
   unfolding clearOf clearOfWalls docksClear
   clear-same =
-      demands-same _ _ _ refl (same .carriers) (λ i l.
+      demands-same _ _ _ refl (same .outline .carriers) (λ i l.
       rw (
         docks-same i l (λ c. not (among ws (f .walls) c)) (λ c. not (among ws′ (f′ .walls) c)) (λ c. ap not (wall-same c)),
-        same .starts i l,
+        same .outline .starts i l,
         wall-same (startOf f′ i),
       ))
 
   earlier-starts : (i : ℕ) → i < f .carriers → All (λ (p : ℕ). getD (f .starts) p 0 ≡ getD (f′ .starts) p 0) i
   unfolding startOf
-  earlier-starts i l e h = same .starts e (omega arith)
+  earlier-starts i l e h = same .outline .starts e (omega arith)
 
   earlier-docks : (i : ℕ) → i < f .carriers → All (λ (k : ℕ). getD (docksOf f i) k 0 ≡ getD (docksOf f′ i) k 0) (countOf f i)
   unfolding dockOf
@@ -111,38 +113,27 @@ module _ (f : Floor) (ws : List ℕ) (f′ : Floor) (ws′ : List ℕ) (same : S
   unfolding isDock
   is-dock-same i c l =
       among-same (docksOf f i) (docksOf f′ i) (countOf f i) c (earlier-docks i l)
-      ∙ ap (λ (k : ℕ). among (docksOf f′ i) k c) (same .counts i l)
+      ∙ ap (λ (k : ℕ). among (docksOf f′ i) k c) (same .outline .counts i l)
 
   pub same-docks : SameDocks f f′
-  same-docks =
-      record {
-        width = same .width;
-        height = same .height;
-        horizon = same .horizon;
-        depth = same .depth;
-        carriers = same .carriers;
-        walls = same .walls;
-        starts = same .starts;
-        counts = same .counts;
-        docks = λ i l c. is-dock-same i c l;
-      }
+  same-docks = record { outline = same .outline; docks = λ i l c. is-dock-same i c l }
 
   distinct-same : distinctOf f ≡ distinctOf f′
   unfolding distinctOf unshared
   distinct-same =
-      demands-same _ _ _ refl (same .carriers) (λ i l.
-      rw (same .starts i l, among-same (f .starts) (f′ .starts) i (startOf f′ i) (earlier-starts i l)))
+      demands-same _ _ _ refl (same .outline .carriers) (λ i l.
+      rw (same .outline .starts i l, among-same (f .starts) (f′ .starts) i (startOf f′ i) (earlier-starts i l)))
 
   unrepeated-same : unrepeatedOf f ≡ unrepeatedOf f′
   unfolding unrepeatedOf unrepeated
   unrepeated-same =
-      demands-same _ _ _ refl (same .carriers) (λ i l.
+      demands-same _ _ _ refl (same .outline .carriers) (λ i l.
       each-same (countOf f i) (λ k. not (among (docksOf f i) k (dockOf f i k))) (λ k. not (among (docksOf f′ i) k (dockOf f′ i k)))
       (λ k h. rw (
         same .docks i l k h,
         among-same (docksOf f i) (docksOf f′ i) k (dockOf f′ i k) (λ k′ q. earlier-docks i l k′ (omega arith)),
       ))
-      ∙ ap (λ (n : ℕ). each n (λ k. not (among (docksOf f′ i) k (dockOf f′ i k)))) (same .counts i l))
+      ∙ ap (λ (n : ℕ). each n (λ k. not (among (docksOf f′ i) k (dockOf f′ i k)))) (same .outline .counts i l))
 
   pub places-same : placesOf f ws ≡ placesOf f′ ws′
   unfolding placesOf

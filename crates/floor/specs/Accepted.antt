@@ -99,9 +99,8 @@ pub record Accepted (f : Floor) (ws : List ℕ) : Type 0 where
   pub distinct : Distinct f
   pub unrepeated : AllUnrepeated f
 
--- Two records with their walls are the same floor: they agree in all that is part of it, which the places of a record past the
--- carrier count, of a carrier's docks past its dock count and of the walls past the wall count are not.
-pub record SameFloor (f : Floor) (ws : List ℕ) (f′ : Floor) (ws′ : List ℕ) : Type 0 where
+-- Two records agree in the six values of line 1, the starts and the dock counts.
+pub record SameOutline (f f′ : Floor) : Type 0 where
   pub width : f .width ≡ f′ .width
   pub height : f .height ≡ f′ .height
   pub horizon : f .horizon ≡ f′ .horizon
@@ -110,17 +109,15 @@ pub record SameFloor (f : Floor) (ws : List ℕ) (f′ : Floor) (ws′ : List �
   pub walls : f .walls ≡ f′ .walls
   pub starts : All (λ (i : ℕ). startOf f i ≡ startOf f′ i) (f .carriers)
   pub counts : All (λ (i : ℕ). countOf f i ≡ countOf f′ i) (f .carriers)
+
+-- Two records with their walls are the same floor: they agree in all that is part of it, which the places of a record past the
+-- carrier count, of a carrier's docks past its dock count and of the walls past the wall count are not.
+pub record SameFloor (f : Floor) (ws : List ℕ) (f′ : Floor) (ws′ : List ℕ) : Type 0 where
+  pub outline : SameOutline f f′
   pub docks : All (λ (i : ℕ). All (λ (k : ℕ). dockOf f i k ≡ dockOf f′ i k) (countOf f i)) (f .carriers)
   pub cells : All (λ (j : ℕ). getD ws j 0 ≡ getD ws′ j 0) (f .walls)
 
 -- Two records are floors that differ at most in the order of each carrier's docks.
 pub record SameDocks (f f′ : Floor) : Type 0 where
-  pub width : f .width ≡ f′ .width
-  pub height : f .height ≡ f′ .height
-  pub horizon : f .horizon ≡ f′ .horizon
-  pub depth : f .depth ≡ f′ .depth
-  pub carriers : f .carriers ≡ f′ .carriers
-  pub walls : f .walls ≡ f′ .walls
-  pub starts : All (λ (i : ℕ). startOf f i ≡ startOf f′ i) (f .carriers)
-  pub counts : All (λ (i : ℕ). countOf f i ≡ countOf f′ i) (f .carriers)
+  pub outline : SameOutline f f′
   pub docks : All (λ (i : ℕ). (c : ℕ) → isDock f i c ≡ isDock f′ i c) (f .carriers)

@@ -4,13 +4,13 @@ use native.Mathlib.Omega.{arith}
 use mathlib.Core.Path.{_≡_, refl, sym, _∙_, ap, ap₂, fun-ext}
 use mathlib.Core.Bool.{Bool, not}
 use mathlib.Core.List.{List, map}
-use lib.ListN.{length, take, length-map}
+use lib.ListN.{length, take, getD, length-map}
 use Rattle.floor.specs.declared.Floor.{Floor}
-use Rattle.laws.specs.Verdict.{passed}
+use Rattle.laws.specs.Verdict.{passed, All}
 use Rattle.laws.proofs.VerdictLaws.{gives-same}
 use Rattle.floor.specs.Checks.{checkOf, startOf, isDock, among}
-use Rattle.floor.specs.Accepted.{SameFloor}
-use Rattle.floor.proofs.SameLaws.{among-same, is-dock-same}
+use Rattle.floor.specs.Accepted.{SameFloor, SameDocks}
+use Rattle.floor.proofs.SameLaws.{among-same, same-docks}
 use Rattle.route.specs.Route.{Answer, View, heard, Task}
 use Rattle.route.specs.Search.{best}
 use Rattle.route.specs.Sequential.{sequential}
@@ -48,18 +48,23 @@ parts-same : {w w′ c c′ h h′ start start′ : ℕ} {dock dock′ free free
     (record { width = w′; cells = c′; horizon = h′; start = start′; dock = dock′; free = free′ })
 parts-same a b c d e f = rw (a, b, c, d, e, f)
 
--- Records that are the same floor agree up to their last carrier.
-pub same-agrees : (f : Floor) (ws : List ℕ) (f′ : Floor) (ws′ : List ℕ) → SameFloor f ws f′ ws′ → AgreeUpTo (f .carriers) f ws f′ ws′
-same-agrees f ws f′ ws′ same =
+-- Floors that differ at most in the order of docks, with walls that agree up to their count, agree up to their last carrier; so do records
+-- that are the same floor.
+pub docks-agree : (f : Floor) (ws : List ℕ) (f′ : Floor) (ws′ : List ℕ) → SameDocks f f′ →
+    All (λ (j : ℕ). getD ws j 0 ≡ getD ws′ j 0) (f .walls) → AgreeUpTo (f .carriers) f ws f′ ws′
+docks-agree f ws f′ ws′ same cells =
     record {
-      width = same .width;
-      height = same .height;
-      horizon = same .horizon;
-      walls = same .walls;
-      cells = same .cells;
-      starts = same .starts;
-      docks = λ i l c. is-dock-same f ws f′ ws′ same i c l;
+      width = same .outline .width;
+      height = same .outline .height;
+      horizon = same .outline .horizon;
+      walls = same .outline .walls;
+      cells = cells;
+      starts = same .outline .starts;
+      docks = same .docks;
     }
+
+pub same-agrees : (f : Floor) (ws : List ℕ) (f′ : Floor) (ws′ : List ℕ) → SameFloor f ws f′ ws′ → AgreeUpTo (f .carriers) f ws f′ ws′
+same-agrees f ws f′ ws′ same = docks-agree f ws f′ ws′ (same-docks f ws f′ ws′ same) (same .cells)
 
 module _ (k : ℕ) (f : Floor) (ws : List ℕ) (f′ : Floor) (ws′ : List ℕ) (agree : AgreeUpTo k f ws f′ ws′) where
   -- The cells that are no wall are the same.

@@ -32,7 +32,7 @@ use Rattle.planner.specs.Plan.{respondOf, planOf}
 use Rattle.planner.specs.Claims.{answerAt, AgreeUpTo}
 use Rattle.planner.specs.DocksClaims.{PrioritizedTo, DocksClaims}
 use Rattle.planner.proofs.SequentialLaws.{plan-only}
-use Rattle.planner.proofs.DependsLaws.{respond-same, plans-agree, searches-agree}
+use Rattle.planner.proofs.DependsLaws.{docks-agree, respond-same, plans-agree, searches-agree}
 use Rattle.planner.proofs.Theorems.{theorems as plan-theorems}
 
 -- A task's docks are those of its carrier.
@@ -145,18 +145,9 @@ module _ (old : OneDockFloor) (ws : List ℕ) (ok : earlierCheck old ws ≡ pass
   )
 
 -- The order of docks is nothing.
-module _ (f f′ : Floor) (ws : List ℕ) (same : SameDocks f f′) where
-  agrees : AgreeUpTo (f .carriers) f ws f′ ws
-  agrees =
-      record {
-        width = same .width;
-        height = same .height;
-        horizon = same .horizon;
-        walls = same .walls;
-        cells = λ j l. refl;
-        starts = same .starts;
-        docks = same .docks;
-      }
+-- Floors that differ at most in the order of docks agree in all carriers.
+agrees : (f f′ : Floor) (ws : List ℕ) → SameDocks f f′ → AgreeUpTo (f .carriers) f ws f′ ws
+agrees f f′ ws same = docks-agree f ws f′ ws same (λ j l. refl)
 
 pub theorems : DocksClaims
 theorems =
@@ -165,10 +156,10 @@ theorems =
       earlier-response = λ old ws i vs x ok l. earlier-response old ws ok i vs x l;
       earlier-search = λ old ws i m x ok. earlier-search old ws ok i m x;
       earlier-arrival = λ old ws i vs r ok l. earlier-arrival old ws ok i vs r l;
-      order-plan = λ f f′ ws same. plans-agree f ws f′ ws (agrees f f′ ws same) (same .carriers);
+      order-plan = λ f f′ ws same. plans-agree f ws f′ ws (agrees f f′ ws same) (same .outline .carriers);
       order-response = λ f f′ ws i vs same l h. respond-same (f .carriers) f ws f′ ws (agrees f f′ ws same) i vs l h;
       order-search = λ f f′ ws i m same.
-          searches-agree f ws f′ ws (agrees f f′ ws same) (same .carriers) (floor-theorems .order-nothing f f′ ws same) i m;
+          searches-agree f ws f′ ws (agrees f f′ ws same) (same .outline .carriers) (floor-theorems .order-nothing f f′ ws same) i m;
       none-each = λ f ws k vs ok. none-each f ws ok k vs;
       ends-at-dock = λ f ws k vs r ok. ends-at-dock f ws ok k vs r;
       own-dock = λ f ws k vs r ok. own-dock f ws ok k vs r;

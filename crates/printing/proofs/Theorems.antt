@@ -34,14 +34,14 @@ module _ (f : Floor) (ws : List ℕ) (f′ : Floor) (ws′ : List ℕ) (same : S
   plans-same =
       let n = f .carriers in
       sym (take-all n (planOf f ws) (omega (arith, planner-theorems .answers-all f ws)))
-      ∙ planner-theorems .depends-on-above n f ws f′ ws′ (omega arith) (omega (arith, same .carriers))
+      ∙ planner-theorems .depends-on-above n f ws f′ ws′ (omega arith) (omega (arith, same .outline .carriers))
       (same-agrees f ws f′ ws′ same)
-      ∙ take-all n (planOf f′ ws′) (omega (arith, planner-theorems .answers-all f′ ws′, same .carriers))
+      ∙ take-all n (planOf f′ ws′) (omega (arith, planner-theorems .answers-all f′ ws′, same .outline .carriers))
 
   answer-same : (i : ℕ) (x : Answer) → i < f .carriers → answerLine f i x ≡ answerLine f′ i x
   unfolding answerLine
   answer-same i none l = refl
-  answer-same i (route r) l = rw (same .horizon)
+  answer-same i (route r) l = rw (same .outline .horizon)
 
   text-same : (xs : List Answer) → routesText f xs ≡ routesText f′ xs
   unfolding routesText firstLine
@@ -49,7 +49,7 @@ module _ (f : Floor) (ws : List ℕ) (f′ : Floor) (ws′ : List ℕ) (same : S
       rw (
         lines-same (λ i. answerLine f i (answerAt xs i)) (λ i. answerLine f′ i (answerAt xs i)) (f .carriers)
             (λ i l. answer-same i (answerAt xs i) l),
-        same .carriers,
+        same .outline .carriers,
       )
 
   pub print-same : printOf f ws ≡ printOf f′ ws′

@@ -8,7 +8,7 @@ use lib.ListN.{length, getD}
 use Rattle.floor.specs.declared.Floor.{Floor}
 use Rattle.laws.specs.Verdict.{passed}
 use Rattle.floor.specs.Checks.{startOf, countOf, dockOf, limitsOf, checkOf}
-use Rattle.floor.specs.Accepted.{SameFloor}
+use Rattle.floor.specs.Accepted.{SameOutline, SameFloor}
 use Rattle.laws.proofs.VerdictLaws.{then-passed, demand-passes, turn-passes}
 use Rattle.floor.proofs.LimitsLaws.{check-tells}
 use Rattle.floor.proofs.SameLaws.{places-same}
@@ -141,19 +141,20 @@ module _ (f : Floor) (ws : List ℕ) (ok : checkOf f ws ≡ passed) where
 
   -- A floor written and read is the same floor.
   pub floor-returns : SameFloor f ws (floorAt text) (wallsAt text)
-  floor-returns =
-      record {
-        width = sym width-same;
-        height = sym height-same;
-        horizon = sym horizon-same;
-        depth = sym depth-same;
-        carriers = sym carriers-counted;
-        walls = sym walls-counted;
-        starts = starts-return;
-        counts = counts-return;
-        docks = λ i l k g. docks-return i k l g;
-        cells = cells-return;
-      }
+  floor-returns = record { outline = outline-returns; docks = λ i l k g. docks-return i k l g; cells = cells-return }
+    where
+      outline-returns : SameOutline f (floorAt text)
+      outline-returns =
+          record {
+            width = sym width-same;
+            height = sym height-same;
+            horizon = sym horizon-same;
+            depth = sym depth-same;
+            carriers = sym carriers-counted;
+            walls = sym walls-counted;
+            starts = starts-return;
+            counts = counts-return;
+          }
 
   -- The sheet of an accepted f ws ok floor is in good form.
   carriers-pass : linesForm (countedForm text) (pastCounted text) 31 (headAt text .carriers) ≡ passed
