@@ -135,7 +135,7 @@ pushed-there : (xs ys : List ℕ) (p : ℕ) → length xs ≡ p → (zs : List A
     pushed (xs ++ (channelBlock zs ++ ys)) p (recordOf x) ≡ xs ++ (channelBlock (zs ++ (x ∷ [])) ++ ys)
 unfolding channelBlock pushed
 pushed-there xs ys p e zs x h whole =
-    let k = length zs in
+    let k : ℕ = length zs in
     let number : getD (xs ++ ((k ∷ slots 4 zs) ++ ys)) p 0 ≡ k =
     window-number 0 p (omega arith) (add-zero p) (number-there xs ys p e k k (slots 4 zs))
     in

@@ -96,7 +96,7 @@ module _ {M : Type 1} (𝓤 : URA M) (H : Heap 𝓤) (A : Atoms 𝓤) (W : Given
     -- the call of `begin`: of what the text owns one copy goes to it, and one is kept
     abbrev to-begin : Begin 𝓤 H A .Ghost
     to-begin =
-        to 𝓤 sliceParams sliceKept B (λ _ _. emp 𝓤) (λ _ a d. (d .text ≡ a .0) × (d .column ≡ a .1 .0)) H A W κ share
+        to 𝓤 sliceParams sliceKept B (λ _ _. emp 𝓤) (λ _ a x. (x .text ≡ a .0) × (x .column ≡ a .1 .0)) H A W κ share
         (s, (at, tt)) (v ∷ [], (vint w64 at ∷ [], tt))
 
     begins : ent 𝓤 Entry (sep 𝓤 (Begin 𝓤 H A .pre to-begin) (sem 𝓤 H A (L.Own 𝓤 H A W κ share s)))
@@ -116,20 +116,20 @@ module _ {M : Type 1} (𝓤 : URA M) (H : Heap 𝓤) (A : Atoms 𝓤) (W : Given
         → ent 𝓤 Entry (WpFn 𝓤 H (𝓣 .C) (𝓣 .Λ) (lines k) (v ∷ vint w64 at ∷ vint w64 n ∷ []) Post)
     walk 𝓣 known-begin k known-line known-moved known-reached p =
         qed W (raw Entry ∷ []) ∵ enter ! (𝓣 .C) (𝓣 .Λ) (lines k) (v ∷ vint w64 at ∷ vint w64 n ∷ []) _ $
-        alloc1 ! (λ l₀. alloc1 ! (λ l₁. alloc1 ! (λ l₂. alloc1 ! (λ l₃. alloc1 ! (λ l₄. alloc1 ! (λ l₅. alloc1 ! (λ l₆. alloc1 ! (λ l₇.
-        alloc1 ! (λ l₈. alloc1 ! (λ l₉. alloc1 ! (λ l₁₀. alloc1 ! (λ l₁₁. alloc0 ! $ params1 ! $
+        alloc1 ! (λ p₀. alloc1 ! (λ p₁. alloc1 ! (λ p₂. alloc1 ! (λ p₃. alloc1 ! (λ p₄. alloc1 ! (λ p₅. alloc1 ! (λ p₆. alloc1 ! (λ p₇.
+        alloc1 ! (λ p₈. alloc1 ! (λ p₉. alloc1 ! (λ p₁₀. alloc1 ! (λ p₁₁. alloc0 ! $ params1 ! $
         pass1 ! (init ! 20 refl (shr-slice-lawful 𝓤 H A W (named 0) κ u8 .typed s (v ∷ []) p .0)) $
         pass1 ! (init ! 18 refl (tt, record { fits = at-fits })) $ pass1 ! (init ! 16 refl (tt, record { fits = n-fits })) $ pass0 ! $
         move ! (24 ∷ []) $ use1 W (raw (Begin 𝓤 H A .pre to-begin) ⊛ ‵ (L.Own 𝓤 H A W κ share s)) begins $ split ! $
-        calls-stated 𝓤 sliceParams sliceKept B (λ _ _. emp 𝓤) (λ _ a d. (d .text ≡ a .0) × (d .column ≡ a .1 .0)) H A W κ share
+        calls-stated 𝓤 sliceParams sliceKept B (λ _ _. emp 𝓤) (λ _ a x. (x .text ≡ a .0) × (x .column ≡ a .1 .0)) H A W κ share
         (s, (at, tt)) (v ∷ [], (vint w64 at ∷ [], tt)) ! (fmOf 𝓤 H (W .laws) 𝓣) known-begin
         (and-then ! (load ! (from ! (stop !)) (look ! 22 refl)) (and-then ! (load ! (from ! (stop !)) (look ! 20 refl)) (no-more !)))
-        (λ u d e is.
-        let to-here : _≡_ {A = Reader} d (L.here 𝓤 H A W κ share s at) = λ i. record { text = e .0 i; column = e .1 i } in
+        (λ u x e is.
+        let to-here : _≡_ {A = Reader} x (L.here 𝓤 H A W κ share s at) = λ i. record { text = e .0 i; column = e .1 i } in
         let wt = L.typed 𝓤 H A W κ share s at u (subst (λ (x : Reader). Is (B (κ, tt)) x (u ∷ [])) to-here is) in
         rewrite ! 0 (λ (x : Reader). ‵ (B (κ, tt) .own x (u ∷ []))) to-here refl $ land ! (from ! (stop !)) (init ! 17 refl wt) $
         L.along-lines 𝓤 H A W κ share s form past most at n n-fits low Post exits 𝓣 k known-line known-moved known-reached
-        l₀ l₁ l₂ l₃ l₄ l₅ l₆ l₇ l₈ l₉ l₁₀ l₁₁ u wt)))))))))))))
+        p₀ p₁ p₂ p₃ p₄ p₅ p₆ p₇ p₈ p₉ p₁₀ p₁₁ u wt)))))))))))))
 
   module _ (𝓣 : Tables 𝓤 H) (known-begin : Triple 𝓤 (𝓣 .C #begin) (Begin 𝓤 H A)) (k : Name)
       (known-line : Triple 𝓤 (𝓣 .C k) (Line 𝓤 form past most H A)) (known-moved : Triple 𝓤 (𝓣 .C #moved) (ReaderMoved 𝓤 H A))

@@ -178,7 +178,7 @@ module _ {M : Type 1} (𝓤 : URA M) (H : Heap 𝓤) (A : Atoms 𝓤) (W : Given
       leaves turn l =
           assigns ! (of-opd ! (load ! (from ! (stop !)) (look ! 17 refl))) (from ! (stop !)) (init ! 3 refl (turn .typed)) $
           move ! (1 ∷ 0 ∷ []) $
-          calls-reader 𝓤 (λ _. S.the-row) (λ _. emp 𝓤) (λ _ d y. y ≡ At (d .column))
+          calls-reader 𝓤 (λ _. S.the-row) (λ _. emp 𝓤) (λ _ x y. y ≡ At (x .column))
           H A W κ share (here (turn .column)) (turn .value) ! fm known-reached (id⊢ 𝓤 _)
           (and-then ! (load ! (from ! (stop !)) (look ! 2 refl)) (no-more !)) (λ u y e is.
           land ! (from ! (stop !)) (init ! 25 refl (typed-answer y u is)) $ returns ! (look ! 25 refl) $ forget ! 3 refl $
@@ -200,8 +200,8 @@ module _ {M : Type 1} (𝓤 : URA M) (H : Heap 𝓤) (A : Atoms 𝓤) (W : Given
           assigns ! (of-opd ! (load ! (from ! (stop !)) (look ! 17 refl))) (from ! (stop !)) (init ! 5 refl (turn .typed)) $
           calls-moved 𝓤 H A W κ share (here (turn .column)) (turn .value) c (column-fits c is) ! fm known-moved
           (and-then ! (load ! (from ! (stop !)) (look ! 4 refl)) (and-then ! (load ! (from ! (stop !)) (look ! 10 refl)) (no-more !)))
-          (λ u d there is′.
-          let to-here : _≡_ {A = Reader} d (here c) = λ i. record { text = there .0 i; column = there .1 i } in
+          (λ u x there is′.
+          let to-here : _≡_ {A = Reader} x (here c) = λ i. record { text = there .0 i; column = there .1 i } in
           let is″ = subst (λ (x : Reader). Is (B (κ, tt)) x (u ∷ [])) to-here is′ in
           rewrite ! 0 (λ (x : Reader). ‵ (B (κ, tt) .own x (u ∷ []))) to-here refl $
           land ! (from ! (stop !)) (store ! 17 refl (typed c u is″)) $ forget ! 5 refl $ forget ! 11 refl $
@@ -240,7 +240,7 @@ module _ {M : Type 1} (𝓤 : URA M) (H : Heap 𝓤) (A : Atoms 𝓤) (W : Given
           (LL.copy (T.the-type (namedLft 1 0 tt (κ, tt))) (T′.the-copy (namedLft 1 0 tt (κ, tt))) 𝓤 H A W .twice
           (here (turn′ .column)) (turn′ .value ∷ [])) $ split ! $ move ! (2 ∷ 0 ∷ []) $
           calls-reader 𝓤 (λ _. S.the-row) (Low 𝓤 most)
-          (λ _ d y. y ≡ reachedOf (form (d .text .now) (d .column)) (past (d .text .now) (d .column)))
+          (λ _ x y. y ≡ reachedOf (form (x .text .now) (x .column)) (past (x .text .now) (x .column)))
           H A W κ share (here (turn′ .column)) (turn′ .value) ! fm known-line (asked turn′ (ltb→lt (turn′ .count) n less))
           (and-then ! (load ! (from ! (stop !)) (look ! 7 refl)) (no-more !)) (λ u y e is.
           land ! (from ! (stop !)) (init ! 14 refl (typed-answer y u is)) $ forget ! 8 refl $

@@ -105,10 +105,10 @@ pub record Turn (form : ℕ → Verdict) (past : ℕ → ℕ) (at k : ℕ) : Typ
 module _ {M : Type 1} (𝓤 : URA M) where
   -- The contracts of the functions that every kind of line shares.
   abbrev pub Begin : (H : Heap 𝓤) → Atoms 𝓤 → Contract 𝓤
-  Begin = stated 𝓤 sliceParams sliceKept B (λ _ _. emp 𝓤) (λ _ a d. (d .text ≡ a .0) × (d .column ≡ a .1 .0))
+  Begin = stated 𝓤 sliceParams sliceKept B (λ _ _. emp 𝓤) (λ _ a x. (x .text ≡ a .0) × (x .column ≡ a .1 .0))
 
   abbrev pub Arrived : (H : Heap 𝓤) → Atoms 𝓤 → Contract 𝓤
-  Arrived = onReader 𝓤 (λ _. S.the-row) (λ _. emp 𝓤) (λ _ d r. r ≡ At (d .column))
+  Arrived = onReader 𝓤 (λ _. S.the-row) (λ _. emp 𝓤) (λ _ x y. y ≡ At (x .column))
 
   -- What a line's function asks of a reader, and its contract.
   abbrev pub Low : ℕ → Reader → SProp 𝓤
@@ -117,4 +117,4 @@ module _ {M : Type 1} (𝓤 : URA M) where
   abbrev pub Line : (List ℕ → ℕ → Verdict) → (List ℕ → ℕ → ℕ) → ℕ → (H : Heap 𝓤) → Atoms 𝓤 → Contract 𝓤
   Line form past most =
       onReader 𝓤 (λ _. S.the-row) (Low most)
-      (λ _ d r. r ≡ reachedOf (form (d .text .now) (d .column)) (past (d .text .now) (d .column)))
+      (λ _ x y. y ≡ reachedOf (form (x .text .now) (x .column)) (past (x .text .now) (x .column)))

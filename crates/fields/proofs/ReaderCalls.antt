@@ -89,14 +89,14 @@ movedKept = (yes, (yes, tt))
 module _ {M : Type 1} (𝓤 : URA M) where
   -- The function that moves a reader to a column.
   abbrev pub ReaderMoved : (H : Heap 𝓤) → Atoms 𝓤 → Contract 𝓤
-  ReaderMoved = stated 𝓤 movedParams movedKept B (λ _ _. emp 𝓤) (λ _ a r. (r .text ≡ a .0 .text) × (r .column ≡ a .1 .0))
+  ReaderMoved = stated 𝓤 movedParams movedKept B (λ _ _. emp 𝓤) (λ _ a x. (x .text ≡ a .0 .text) × (x .column ≡ a .1 .0))
 
   module _ (H : Heap 𝓤) (A : Atoms 𝓤) (W : Given 𝓤 H A) (κ : Lft) (share : Share) (reader : Reader) (u : Val) (n : ℕ)
       (fits : n < 2 ^ 64) where
     -- what the call binds outside the triple
     abbrev pub at-column : ReaderMoved H A .Ghost
     at-column =
-        to 𝓤 movedParams movedKept B (λ _ _. emp 𝓤) (λ _ a r. (r .text ≡ a .0 .text) × (r .column ≡ a .1 .0)) H A W κ share
+        to 𝓤 movedParams movedKept B (λ _ _. emp 𝓤) (λ _ a x. (x .text ≡ a .0 .text) × (x .column ≡ a .1 .0)) H A W κ share
         (reader, (n, tt)) (u ∷ [], (vint w64 n ∷ [], tt))
 
     -- the token, what the reader owns and the number's facts are what is asked
@@ -116,5 +116,5 @@ module _ {M : Type 1} (𝓤 : URA M) where
     calls-moved t fm known os k =
         use2 W (raw (ReaderMoved H A .pre at-column)) both $
         calls-stated 𝓤 movedParams movedKept B (λ _ _. emp 𝓤)
-        (λ _ a reader′. (reader′ .text ≡ a .0 .text) × (reader′ .column ≡ a .1 .0)) H A W κ share
+        (λ _ a x. (x .text ≡ a .0 .text) × (x .column ≡ a .1 .0)) H A W κ share
         (reader, (n, tt)) (u ∷ [], (vint w64 n ∷ [], tt)) t fm known os k

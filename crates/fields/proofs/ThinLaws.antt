@@ -147,7 +147,7 @@ module _ {M : Type 1} (𝓤 : URA M) (H : Heap 𝓤) (A : Atoms 𝓤) (W : Given
       walk : Holds (hasTy (T′.mir (named 0)) mach) × WT mach → ent 𝓤 Entry (WpFn 𝓤 H C Λ (thin k) (mach ∷ []) Post)
       walk wt =
           qed W (raw Entry ∷ []) ∵ enter ! C Λ (thin k) (mach ∷ []) _ $
-          alloc1 ! (λ l₀. alloc1 ! (λ l₁. alloc1 ! (λ l₂. alloc1 ! (λ l₃. alloc0 ! $ params1 ! $ pass1 ! (init ! 4 refl wt) $ pass0 ! $
+          alloc1 ! (λ p₀. alloc1 ! (λ p₁. alloc1 ! (λ p₂. alloc1 ! (λ p₃. alloc0 ! $ params1 ! $ pass1 ! (init ! 4 refl wt) $ pass0 ! $
           assigns ! (of-opd ! (load ! (from ! (fld ! refl (stop !))) (look-in ! 4 (sub ! 0 refl (whole !)))))
           (from ! (stop !)) (init ! 2 refl (tt, wt .1 .0)) $
           assigns ! (of-opd ! (load ! (from ! (fld ! refl (stop !))) (look-in ! 4 (sub ! 1 refl (whole !)))))
@@ -156,12 +156,12 @@ module _ {M : Type 1} (𝓤 : URA M) (H : Heap 𝓤) (A : Atoms 𝓤) (W : Given
           calls-stated 𝓤 sliceParams sliceKept (λ _. S.the-row) (λ κs a. P (a .0) (a .1 .0)) (λ κs a. Q (a .0) (a .1 .0)) H A W κ share
           (s, (n, tt)) (v ∷ [], (vint w64 n ∷ [], tt)) ! fm known
           (and-then ! (load ! (from ! (stop !)) (look ! 4 refl)) (and-then ! (load ! (from ! (stop !)) (look ! 2 refl)) (no-more !)))
-          (λ u r e is.
+          (λ u y e is.
           -- [the result; the token; what the struct owns; _3; …; _2; …; _1; …; room for _0; …]
-          land ! (from ! (stop !)) (init ! 9 refl (EL.lawful S.the-type S′.the-laws 𝓤 H A W tt .typed r _ is .0)) $
+          land ! (from ! (stop !)) (init ! 9 refl (EL.lawful S.the-type S′.the-laws 𝓤 H A W tt .typed y _ is .0)) $
           returns ! (look ! 9 refl) $ forget ! 3 refl $ forget ! 5 refl $ forget ! 7 refl $ forget ! 9 refl $
           move ! (9 ∷ 10 ∷ []) $ free1 ! $ move ! (7 ∷ 8 ∷ []) $ free1 ! $ move ! (5 ∷ 6 ∷ []) $ free1 ! $
-          move ! (3 ∷ 4 ∷ []) $ free1 ! $ free0 ! $ by ! (exits r u e))))))
+          move ! (3 ∷ 4 ∷ []) $ free1 ! $ free0 ! $ by ! (exits y u e))))))
 
   thin-walks : (C : Calls 𝓤 H) (Λ : Loops 𝓤 H) → FmC 𝓤 H (W .laws) C → (k : Name) → Triple 𝓤 (C k) Callee
       → Walks 𝓤 H A Thin stayed (WpFn 𝓤 H C Λ (thin k)) clauses

@@ -43,7 +43,7 @@ module _ (M : Machine) (m₀ xs : List ℕ) (b : ℕ) where
   -- The run from here on comes to z, which is the run from the next step on with n steps more.
   goes-on : (m m′ : List ℕ) (p t n : ℕ) (z : RanIn) → length m′ ≡ length m → Running M m₀ xs b m p t →
       runIn M m (map askedBy (drop p xs)) (b - t) ≡ z →
-      let y = runIn M m′ (map askedBy (drop (p + 1) xs)) (b - (t + n)) in
+      let y : RanIn = runIn M m′ (map askedBy (drop (p + 1) xs)) (b - (t + n)) in
       (z .memory ≡ y .memory) × ((z .taken ≡ n + y .taken) × (z .left ≡ y .left)) → Running M m₀ xs b m′ (p + 1) (t + n)
   goes-on m m′ p t n z k s step same =
       record {

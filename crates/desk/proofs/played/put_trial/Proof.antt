@@ -1,4 +1,6 @@
 -- `desk::played::put_trial` meets its contract: the memory is for the most carriers, so that only the order decides.
+use Prim.Native.Nat.{ℕ}
+use mathlib.Core.List.{List}
 use mathlib.Core.Path.{_≡_, sym}
 use lib.ListN.{length, take}
 use Rattle.laws.specs.Verdict.{_gives_}
@@ -16,7 +18,7 @@ use Rattle.desk.proofs.played.put_trial.Tie as tie
 said : (c : tie.After-trial) →
     let start : tie.Start = search in
     let args = start .args in
-    let ws = take (args .f .walls) (args .walls .now) in
+    let ws : List ℕ = take (args .f .walls) (args .walls .now) in
     triedOutcome (c .trial .result) ≡ (orderVerdict (args .order) gives length (trialOf (args .f) ws (args .order) (args .seed) .report))
 said c =
     let after-no-report : tie.After-no-report = search in
