@@ -95,8 +95,7 @@ pub fn put_end(text: &[u8], end: usize, out: &mut [u8]) -> usize
     if end == 0 {
         return put(out, 0, b"the sheet is empty\n");
     }
-    let line = position::line_at(text, end);
-    let column = position::column_at(text, end);
-    let at = put_where(line, column, out);
+    let position = position::position_at(text, end);
+    let at = put_where(position.line, position.column, out);
     put_lack(text, end, out, at)
 }

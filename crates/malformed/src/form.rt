@@ -188,8 +188,9 @@ fn put_no_newline(text: &[u8], at: usize, k: usize, out: &mut [u8]) -> usize
 pub fn put_reason(text: &[u8], at: usize, out: &mut [u8]) -> usize
     requires { ⌜ at ≤ 65535 ⌝ }
 {
-    let line = position::line_at(text, at);
-    let column = position::column_at(text, at);
+    let position = position::position_at(text, at);
+    let line = position.line;
+    let column = position.column;
     let count = sheet_line::fields_of(text, line, at + 1 - column);
     if count == 0 {
         return put(out, 0, b"nothing may follow the last line");

@@ -2,42 +2,36 @@
 use Prim.Native.Nat.{ℕ, suc, _+_, _≤_}
 use native.Mathlib.Omega.{arith}
 use native.Mathlib.Numerals.{add-one}
-use mathlib.Core.Bool.{cond}
 use mathlib.Core.List.{List}
-use mathlib.Core.Path.{_≡_, refl}
-use lib.Dec.{eqb}
+use mathlib.Core.Path.{_≡_, refl, _∙_}
 use lib.ListN.{length, getD, length-append}
 use Rattle.reporting.specs.Put.{PutAt}
 use Rattle.reporting.proofs.ReportLaws.{put-behind}
 use Rattle.wording.specs.Decimal.{decimal}
 use Rattle.wording.proofs.DecimalLaws.{decimal-short}
+use Rattle.positions.specs.declared.position.LineColumn.{LineColumn}
 use Rattle.positions.specs.Position.{lineAt, columnAt, lineWord, columnWord, colon, positionText}
+use Rattle.positions.specs.Inner.{Follows, StandsIn}
 
--- A loop over the bytes before one: in front of the text, and behind one more byte b.
-pub line-start : (text : List ℕ) → 1 ≡ lineAt text 0
-unfolding lineAt
-line-start text = refl
+-- A loop over the bytes before one: in front of the text, behind one more byte, and at its end.
+pub position-start : (text : List ℕ) → StandsIn text 0 (record { line = 1; column = 1 })
+unfolding lineAt columnAt
+position-start text = record { line = refl; column = refl; low-line = omega arith; low-column = omega arith }
 
-pub line-more : (text : List ℕ) (k line byte next : ℕ) → line ≡ lineAt text k → byte ≡ getD text k 0 →
-    next ≡ cond (eqb byte 10) (suc line) line
-    → next ≡ lineAt text (k + 1)
-unfolding lineAt
-line-more text k line byte next e f g = rw add-one (cc)
+pub position-more : {text : List ℕ} {k byte : ℕ} {x y : LineColumn} → StandsIn text k x → byte ≡ getD text k 0 → Follows byte x y →
+    StandsIn text (k + 1) y
+unfolding lineAt columnAt
+position-more {text} {k} {byte} {x} {y} old e new =
+    rw add-one
+    (record {
+      line = new .line ∙ rw (e, old .line);
+      column = new .column ∙ rw (e, old .column);
+      low-line = omega (arith, new .low-line, old .low-line);
+      low-column = omega (arith, new .low-column, old .low-column);
+    })
 
-pub column-start : (text : List ℕ) → 1 ≡ columnAt text 0
-unfolding columnAt
-column-start text = refl
-
-pub column-more : (text : List ℕ) (k column byte next : ℕ) → column ≡ columnAt text k → byte ≡ getD text k 0
-    → next ≡ cond (eqb byte 10) 1 (suc column) → next ≡ columnAt text (k + 1)
-unfolding columnAt
-column-more text k column byte next e f g = rw add-one (cc)
-
--- The loop's end.
-pub position-end : (at-byte : ℕ → ℕ) (k at n : ℕ) → k ≤ at → at ≤ k → (n ≡ at-byte k) × (n ≤ k + 1) → (n ≡ at-byte at) × (n ≤ at + 1)
-position-end at-byte k at n a b e =
-    let same : k ≡ at = omega arith in
-    rw same at e
+pub position-end : {text : List ℕ} {k at : ℕ} {x : LineColumn} → k ≤ at → at ≤ k → StandsIn text k x → StandsIn text at x
+position-end {text} {k} {at} {x} a b old = let same : k ≡ at = omega arith in rw same at old
 
 -- The words of a position, put piece by piece.
 pub position-put : (line column n₁ n₂ n₃ n₄ n : ℕ) (old m₁ m₂ m₃ m₄ new : List ℕ) → PutAt lineWord old 0 m₁ n₁ →

@@ -1,11 +1,10 @@
 // Lines and columns of a text, counted from 1, and the position of a refusal in words.
 ghost use mathlib.Core.Path.{_≡_};
-ghost use mathlib.Core.Bool.{cond};
 ghost use Prim.Native.Nat.{suc, _+_, _-_, _*_, _≤_};
-ghost use lib.Dec.{eqb};
 ghost use lib.ListN.{length, getD};
 ghost use Rattle.reporting.specs.Put.{PutAt};
-ghost use Rattle.positions.specs.Position.{lineAt, columnAt, lineOfRefusal, columnOfRefusal, positionText};
+ghost use Rattle.positions.specs.Position.{lineOfRefusal, columnOfRefusal, positionText};
+ghost use Rattle.positions.specs.Inner.{Follows, StandsIn};
 use reporting::put_bytes;
 
 // A byte of a text; 0 past its end.
@@ -18,54 +17,41 @@ pub fn byte_at(text: &[u8], at: usize) -> u8
     0
 }
 
-// The line behind a byte of a line.
-fn line_behind(line: usize, byte: u8) -> usize
-    requires { ⌜ line ≤ 65536 ⌝ }
-    ensures { λ result. ⌜ (result ≡ cond (eqb byte 10) (suc line) line) × (result ≤ line + 1) ⌝ }
+// A line and a column of a text.
+pub struct LineColumn {
+    pub line: usize,
+    pub column: usize,
+}
+
+// The line and the column behind a byte.
+fn behind(before: LineColumn, byte: u8) -> LineColumn
+    requires { ⌜ (before .line ≤ 65536) × (before .column ≤ 65536) ⌝ }
+    ensures { λ result. ⌜ Follows byte before result ⌝ }
 {
     if byte == 10 {
-        return line + 1;
+        return LineColumn {
+            line: before.line + 1,
+            column: 1,
+        };
     }
-    line
+    LineColumn {
+        line: before.line,
+        column: before.column + 1,
+    }
 }
 
-// The column behind a byte of a column.
-fn column_behind(column: usize, byte: u8) -> usize
-    requires { ⌜ column ≤ 65536 ⌝ }
-    ensures { λ result. ⌜ (result ≡ cond (eqb byte 10) 1 (suc column)) × (result ≤ column + 1) ⌝ }
-{
-    if byte == 10 {
-        return 1;
-    }
-    column + 1
-}
-
-// The line in which a byte of a text stands.
-pub fn line_at(text: &[u8], at: usize) -> usize
+// The line and the column in which a byte of a text stands.
+pub fn position_at(text: &[u8], at: usize) -> LineColumn
     requires { ⌜ at ≤ 65535 ⌝ }
-    ensures { λ result. ⌜ (result ≡ lineAt (now (text .entry)) at) × (result ≤ at + 1) ⌝ }
+    ensures { λ result. ⌜ StandsIn (now (text .entry)) at result ⌝ }
 {
-    let mut line: usize = 1;
+    let mut position = LineColumn { line: 1, column: 1 };
     let mut k: usize = 0;
     while k < at {
-        line = line_behind(line, byte_at(text, k));
+        position = behind(position, byte_at(text, k));
         k += 1;
     }
-    line
-}
-
-// The column in which it stands.
-pub fn column_at(text: &[u8], at: usize) -> usize
-    requires { ⌜ at ≤ 65535 ⌝ }
-    ensures { λ result. ⌜ (result ≡ columnAt (now (text .entry)) at) × (result ≤ at + 1) ⌝ }
-{
-    let mut column: usize = 1;
-    let mut k: usize = 0;
-    while k < at {
-        column = column_behind(column, byte_at(text, k));
-        k += 1;
-    }
-    column
+    position
 }
 
 // The line of a refusal.
@@ -74,7 +60,7 @@ pub fn line_of(text: &[u8], number: u16, place: usize) -> usize
     ensures { λ result. ⌜ (result ≡ lineOfRefusal (now (text .entry)) number place) × (result ≤ 65536) ⌝ }
 {
     if number == 1 {
-        return line_at(text, place);
+        return position_at(text, place).line;
     }
     if number == 2 {
         return 1;
@@ -99,7 +85,7 @@ pub fn column_of(text: &[u8], number: u16, place: usize, field: usize) -> usize
     ensures { λ result. ⌜ (result ≡ columnOfRefusal (now (text .entry)) number place field) × (result ≤ 400000) ⌝ }
 {
     if number == 1 {
-        return column_at(text, place);
+        return position_at(text, place).column;
     }
     if number == 2 {
         return field_column(place);

@@ -9,11 +9,11 @@ use Rattle.positions.proofs.position.column_of.Tie as tie
 returns : tie.Need-returns
 unfolding columnOfRefusal
 returns c =
-    let after-column-at : tie.After-column-at = search in
+    let after-position-at : tie.After-position-at = search in
     let then1 : tie.Then1 = search in
     let start : tie.Start = search in
-    let told = after-column-at .column-at .ensures in
-    (rw (eq-eqb _ _ (then1 .if1 .taken)) (told .0), omega (arith, told .1, start .pre .0))
+    let told = after-position-at .position-at .ensures in
+    (rw (eq-eqb _ _ (then1 .if1 .taken)) (told .column), omega (arith, told .low-column, start .pre .0))
 
 returns-2 : tie.Need-returns-2
 unfolding columnOfRefusal

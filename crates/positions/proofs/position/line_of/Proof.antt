@@ -9,11 +9,11 @@ use Rattle.positions.proofs.position.line_of.Tie as tie
 returns : tie.Need-returns
 unfolding lineOfRefusal
 returns c =
-    let after-line-at : tie.After-line-at = search in
+    let after-position-at : tie.After-position-at = search in
     let then1 : tie.Then1 = search in
     let start : tie.Start = search in
-    let told = after-line-at .line-at .ensures in
-    (rw (eq-eqb _ _ (then1 .if1 .taken)) (told .0), omega (arith, told .1, start .pre))
+    let told = after-position-at .position-at .ensures in
+    (rw (eq-eqb _ _ (then1 .if1 .taken)) (told .line), omega (arith, told .low-line, start .pre))
 
 returns-2 : tie.Need-returns-2
 unfolding lineOfRefusal
