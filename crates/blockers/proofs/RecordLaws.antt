@@ -72,8 +72,8 @@ cleared-records m i j l h =
         ∙ sym (getD-set-other (records m i) j k unheard unheard ne ∙ records-view m i k low)
 
 -- The tag of what was found tells whether it is none.
-by-outcome : (x′ : Outcome) (r : List ℕ) (x : Answer) (vs vs′ : List View) → outcomeOf x′ r ≡ answered x →
-    (tagOf x′ ≡ 2 → ifNone x vs vs′ ≡ vs′) × ((tagOf x′ ≡ 2 → ⊥) → ifNone x vs vs′ ≡ vs)
+by-outcome : (x : Outcome) (r : List ℕ) (y : Answer) (vs vs′ : List View) → outcomeOf x r ≡ answered y →
+    (tagOf x ≡ 2 → ifNone y vs vs′ ≡ vs′) × ((tagOf x ≡ 2 → ⊥) → ifNone y vs vs′ ≡ vs)
 unfolding outcomeOf tagOf ifNone
 by-outcome Route r none vs vs′ e = absurd (let z : _≡_ {A = ℕ} 0 1 = cc in omega arith)
 by-outcome Route r (route q) vs vs′ e = (λ t. refl, λ n. absurd (n refl))

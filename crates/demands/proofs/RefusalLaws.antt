@@ -17,10 +17,10 @@ use Rattle.demands.specs.Rows.{Answers}
 use Rattle.demands.proofs.RowLaws.{gives-rows}
 
 -- A value that is given has passed the checks, a refusal is theirs.
-gives-value : (x : Verdict) (y x′ : CallAnswer) → _≡_ {A = Reply} (x gives y) (value x′) → x ≡ passed
+gives-value : (x : Verdict) (y y′ : CallAnswer) → _≡_ {A = Reply} (x gives y) (value y′) → x ≡ passed
 unfolding _gives_
-gives-value passed y x′ e = refl
-gives-value (refused k p) y x′ e = absurd (let z : _≡_ {A = ℕ} 0 1 = cc in omega arith)
+gives-value passed y y′ e = refl
+gives-value (refused k p) y y′ e = absurd (let z : _≡_ {A = ℕ} 0 1 = cc in omega arith)
 
 gives-refusal : (x : Verdict) (y : CallAnswer) (k p : ℕ) → _≡_ {A = Reply} (x gives y) (refusal k p) → x ≡ refused k p
 unfolding _gives_

@@ -88,7 +88,16 @@ module _ (f : Floor) (ws : List ℕ) (f′ : Floor) (ws′ : List ℕ) (same : S
   module _ (checks : checkOf f ws ≡ checkOf f′ ws′) where
     lengths : figuresFor f ≡ figuresFor f′
     unfolding figuresFor limitsOf lengthsOf textLength
-    lengths = rw (length-same, same .outline .width, same .outline .height, same .outline .horizon, same .outline .depth, same .outline .carriers, same .outline .walls)
+    lengths =
+        let outline = same .outline in rw (
+          length-same,
+          outline .width,
+          outline .height,
+          outline .horizon,
+          outline .depth,
+          outline .carriers,
+          outline .walls,
+        )
 
     pub write : (lent : ℕ) → writeVerdict f ws lent ≡ writeVerdict f′ ws′ lent
     unfolding writeVerdict
@@ -119,7 +128,15 @@ module _ (f : Floor) (ws : List ℕ) (f′ : Floor) (ws′ : List ℕ) (same : S
 
     states : (m : List ℕ) → stateVerdict f ws m ≡ stateVerdict f′ ws′ m
     unfolding stateVerdict valid carrierValid pairValid channelValid placeValid recordValid
-    states m = rw (place (length m), same .outline .width, same .outline .height, same .outline .horizon, same .outline .depth, same .outline .carriers)
+    states m =
+        let outline = same .outline in rw (
+          place (length m),
+          outline .width,
+          outline .height,
+          outline .horizon,
+          outline .depth,
+          outline .carriers,
+        )
 
     -- The two machines differ only in the responses of carriers that are not there.
     replies : (s : State) (x : Call) → reply (machineOf f ws) s x ≡ reply (machineOf f′ ws′) s x

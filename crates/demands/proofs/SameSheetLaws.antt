@@ -7,7 +7,7 @@ use lib.ListN.{length, getD}
 use Rattle.laws.specs.Verdict.{All}
 use Rattle.floor.specs.declared.Floor.{Floor}
 use Rattle.floor.specs.Checks.{countOf, dockOf}
-use Rattle.floor.specs.Accepted.{Lent, SameFloor, SameDocks}
+use Rattle.floor.specs.Accepted.{Lent, SameOutline, SameFloor, SameDocks}
 use Rattle.floor.proofs.SameLaws.{check-same, same-docks}
 use Rattle.floor.proofs.OrderLaws.{order-same}
 use Rattle.sheet.specs.Text.{linesOf, headLine, cellNumbers, carrierLine, carrierLines, wallLine, wallLines, sheetOf}
@@ -24,11 +24,11 @@ numbers-same width φ ψ (suc n) a =
     rw (a 0 (omega arith), numbers-same width (λ k. φ (suc k)) (λ k. ψ (suc k)) n (λ k l. a (suc k) (omega arith)))
 
 -- Records that are the same floor have the same sheet.
-module _ (f : Floor) (ws : List ℕ) (f′ : Floor) (ws′ : List ℕ) (same : SameFloor f ws f′ ws′) where
-  heads : headLine f ≡ headLine f′
-  unfolding headLine
-  heads = rw (same .outline .width, same .outline .height, same .outline .horizon, same .outline .depth, same .outline .carriers, same .outline .walls)
+heads : (f f′ : Floor) → SameOutline f f′ → headLine f ≡ headLine f′
+unfolding headLine
+heads f f′ same = rw (same .width, same .height, same .horizon, same .depth, same .carriers, same .walls)
 
+module _ (f : Floor) (ws : List ℕ) (f′ : Floor) (ws′ : List ℕ) (same : SameFloor f ws f′ ws′) where
   carrier-lines : (i : ℕ) → i < f .carriers → carrierLine f i ≡ carrierLine f′ i
   unfolding carrierLine
   carrier-lines i l =
@@ -41,7 +41,7 @@ module _ (f : Floor) (ws : List ℕ) (f′ : Floor) (ws′ : List ℕ) (same : S
 
   pub sheet-same : sheetOf f ws ≡ sheetOf f′ ws′
   unfolding sheetOf
-  sheet-same = ap₂ (λ (xs ys : List ℕ). xs ++ ys) heads (ap₂ (λ (xs ys : List ℕ). xs ++ ys) carriers walls)
+  sheet-same = ap₂ (λ (xs ys : List ℕ). xs ++ ys) (heads f f′ (same .outline)) (ap₂ (λ (xs ys : List ℕ). xs ++ ys) carriers walls)
     where
       carriers : carrierLines f ≡ carrierLines f′
       carriers =

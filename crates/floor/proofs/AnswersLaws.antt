@@ -11,18 +11,18 @@ use Rattle.floor.specs.Answers.{verdictOf}
 use Rattle.laws.proofs.VerdictLaws.{turn-none, turn-more, turn-stop, turn-end}
 
 -- Behind a check that passed, what the rest answers, the whole answers.
-pub then-next : {x : Checked} {y z x′ : Verdict} → verdictOf x ≡ z → x ≡ Passed → y ≡ x′ → y ≡ (z then x′)
+pub then-next : {x : Checked} {y z z′ : Verdict} → verdictOf x ≡ z → x ≡ Passed → y ≡ z′ → y ≡ (z then z′)
 unfolding verdictOf _then_
 then-next h e t = rw (← h, e) t
 
 -- A refusal is the answer of the whole.
-pub ends-at : {y : Checked} {z : Verdict} {x : Refusal} (x′ : Verdict) → verdictOf y ≡ z → y ≡ Refused x → verdictOf y ≡ (z then x′)
+pub ends-at : {y : Checked} {z : Verdict} {x : Refusal} (z′ : Verdict) → verdictOf y ≡ z → y ≡ Refused x → verdictOf y ≡ (z then z′)
 unfolding verdictOf _then_
-ends-at x′ h e = rw (← h, e)
+ends-at z′ h e = rw (← h, e)
 
 -- The same at any rest, for the list of a `search`.
-pub ends-here : {y : Checked} {z : Verdict} {x : Refusal} → verdictOf y ≡ z → y ≡ Refused x → (x′ : Verdict) → verdictOf y ≡ (z then x′)
-ends-here h e x′ = ends-at x′ h e
+pub ends-here : {y : Checked} {z : Verdict} {x : Refusal} → verdictOf y ≡ z → y ≡ Refused x → (z′ : Verdict) → verdictOf y ≡ (z then z′)
+ends-here h e z′ = ends-at z′ h e
 
 -- A function that is such a chain: each of its answers is `search chain`, at a depth of one more than its checks.
 pub ruleset chain = (then-next, ends-at)

@@ -198,4 +198,4 @@ module _ (f f′ : Floor) (ws : List ℕ) (same : SameDocks f f′) where
   unfolding checkOf lentOf docksFrom limitsOf
   order-same =
       let f″ = docksFrom f f′ in
-      rw (places-same f ws f″ ws from-same, from-places, limits-same f ws f″ ws from-same, same .outline .walls) refl
+      rw (places-same f ws f″ ws from-same, from-places, limits-same (from-same .outline), same .outline .walls) refl

@@ -50,22 +50,22 @@ outline-same f =
 
 -- A record with two lists of walls that agree up to its count of walls is the same floor.
 pub walls-agree : (f : Floor) (ws ws′ : List ℕ) → All (λ (j : ℕ). getD ws j 0 ≡ getD ws′ j 0) (f .walls) → SameFloor f ws f ws′
-walls-agree f ws ws′ a =
-    record { outline = outline-same f; docks = λ i l k h. refl; cells = a }
+walls-agree f ws ws′ a = record { outline = outline-same f; docks = λ i l k h. refl; cells = a }
 
-module _ (f : Floor) (ws : List ℕ) (f′ : Floor) (ws′ : List ℕ) (same : SameFloor f ws f′ ws′) where
+-- Records that agree in their outline have the same grid and the same limits, and the walls are the same items, behind the carriers.
+module _ {f f′ : Floor} (same : SameOutline f f′) where
   in-grid-same : (c : ℕ) → inGrid f c ≡ inGrid f′ c
   unfolding inGrid
-  in-grid-same c = rw (same .outline .width, same .outline .height)
+  in-grid-same c = rw (same .width, same .height)
 
-  -- The walls are the items behind the carriers.
   items : f .carriers + 1 ≡ f′ .carriers + 1
-  items = rw (same .outline .carriers)
+  items = rw (same .carriers)
 
   pub limits-same : limitsOf f ≡ limitsOf f′
   unfolding limitsOf
-  limits-same = rw (same .outline .width, same .outline .height, same .outline .horizon, same .outline .depth, same .outline .carriers, same .outline .walls)
+  limits-same = rw (same .width, same .height, same .horizon, same .depth, same .carriers, same .walls)
 
+module _ (f : Floor) (ws : List ℕ) (f′ : Floor) (ws′ : List ℕ) (same : SameFloor f ws f′ ws′) where
   -- A test of every dock of a carrier, where the two tests agree at each cell.
   docks-same : (i : ℕ) → i < f .carriers → (φ ψ : ℕ → Bool) → ((c : ℕ) → φ c ≡ ψ c)
       → each (countOf f i) (λ k. φ (dockOf f i k)) ≡ each (countOf f′ i) (λ k. ψ (dockOf f′ i k))
@@ -77,15 +77,22 @@ module _ (f : Floor) (ws : List ℕ) (f′ : Floor) (ws′ : List ℕ) (same : S
   unfolding carriersOf carrierInGrid docksInGrid
   carriers-same =
       demands-same _ _ _ refl (same .outline .carriers)
-      (λ i l. rw (docks-same i l (inGrid f) (inGrid f′) in-grid-same, same .outline .counts i l, same .outline .starts i l, in-grid-same (startOf f′ i)))
+      (λ i l. rw (
+        docks-same i l (inGrid f) (inGrid f′) (in-grid-same (same .outline)),
+        same .outline .counts i l,
+        same .outline .starts i l,
+        in-grid-same (same .outline) (startOf f′ i),
+      ))
 
   walls-same : wallsOf f ws ≡ wallsOf f′ ws′
   unfolding wallsOf
-  walls-same = demands-same _ _ _ items (same .outline .walls) (λ j l. rw (same .cells j l, in-grid-same (getD ws′ j 0)))
+  walls-same =
+      demands-same _ _ _ (items (same .outline)) (same .outline .walls)
+      (λ j l. rw (same .cells j l, in-grid-same (same .outline) (getD ws′ j 0)))
 
   rising-same : risingOf f ws ≡ risingOf f′ ws′
   unfolding risingOf
-  rising-same = demands-same _ _ _ items (same .outline .walls) (λ j l. rises-same ws ws′ (f .walls) j l (same .cells))
+  rising-same = demands-same _ _ _ (items (same .outline)) (same .outline .walls) (λ j l. rises-same ws ws′ (f .walls) j l (same .cells))
 
   wall-same : (c : ℕ) → among ws (f .walls) c ≡ among ws′ (f′ .walls) c
   wall-same c = among-same ws ws′ (f .walls) c (same .cells) ∙ ap (λ (k : ℕ). among ws′ k c) (same .outline .walls)
@@ -141,4 +148,4 @@ module _ (f : Floor) (ws : List ℕ) (f′ : Floor) (ws′ : List ℕ) (same : S
 
   pub check-same : Lent f ws → Lent f′ ws′ → checkOf f ws ≡ checkOf f′ ws′
   unfolding checkOf lentOf longEnough
-  check-same l n = rw (limits-same, le-leb _ _ l, le-leb _ _ n, places-same)
+  check-same l n = rw (limits-same (same .outline), le-leb _ _ l, le-leb _ _ n, places-same)

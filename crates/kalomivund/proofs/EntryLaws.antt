@@ -31,7 +31,7 @@ pub says-packed : {A : Type 0} {w : ℕ} {told x : Outcome A} (φ : A → Done) 
 says-packed φ xs l s e = says-lent xs _ l (says-told φ s e)
 
 -- The answer of checks, with a number where they pass.
-pub told-checks : {A : Type 0} {x y : Verdict} {z x′ : A} → x ≡ y → z ≡ x′ → (x gives z) ≡ (y gives x′)
+pub told-checks : {A : Type 0} {x y : Verdict} {z z′ : A} → x ≡ y → z ≡ z′ → (x gives z) ≡ (y gives z′)
 told-checks e d = rw (e, d)
 
 -- The word of one case of an answer.

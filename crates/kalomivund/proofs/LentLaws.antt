@@ -106,10 +106,10 @@ print-routes text old = go (leb (neededFor text) (length old))
     go false = record { kept = λ e. refl; beyond = refl }
 
 -- What checks let through is what they were asked for.
-answered-through : {A : Type 0} (x : Verdict) (y : Outcome A) (x′ : A) → (x thenAnswers y) ≡ value x′ → y ≡ value x′
+answered-through : {A : Type 0} (x : Verdict) (y : Outcome A) (z : A) → (x thenAnswers y) ≡ value z → y ≡ value z
 unfolding _thenAnswers_
-answered-through passed y x′ e = e
-answered-through (refused k p) y x′ e = absurd (let z : _≡_ {A = ℕ} 0 1 = cc in omega arith)
+answered-through passed y z e = e
+answered-through (refused k p) y z e = absurd (let z : _≡_ {A = ℕ} 0 1 = cc in omega arith)
 
 pub search : (xs ws : List ℕ) (i : ℕ) (m old : List ℕ) → KeepsLent 64 (searchWord xs ws i m (length old)) (searchStored xs ws i m old) old
 unfolding searchWord searchStored searchLent ofSearch mapOutcome routeStored cellsOf

@@ -46,10 +46,10 @@ unfolding _gives_
 gives-refused y h = rw h
 
 -- A value that checks give is the one behind them, which they let through; a refusal is theirs.
-pub given-value : {A : Type 0} (x : Verdict) (y x′ : A) → _≡_ {A = Outcome A} (value x′) (x gives y) → (x ≡ passed) × (x′ ≡ y)
+pub given-value : {A : Type 0} (x : Verdict) (y y′ : A) → _≡_ {A = Outcome A} (value y′) (x gives y) → (x ≡ passed) × (y′ ≡ y)
 unfolding _gives_
-given-value passed y x′ e = (refl, (cc))
-given-value (refused k p) y x′ e = absurd (let z : _≡_ {A = ℕ} 0 1 = cc in omega arith)
+given-value passed y y′ e = (refl, (cc))
+given-value (refused k p) y y′ e = absurd (let z : _≡_ {A = ℕ} 0 1 = cc in omega arith)
 
 pub given-refusal : {A : Type 0} (x : Verdict) (y : A) (k p : ℕ) → _≡_ {A = Outcome A} (refusal k p) (x gives y) → x ≡ refused k p
 unfolding _gives_

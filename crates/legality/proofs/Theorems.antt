@@ -38,7 +38,7 @@ use Rattle.legality.proofs.RecordLaws.{blank-record, record-blank}
 use Rattle.legality.proofs.RouteLaws.{passed-route, route-passed, blank-says, blank-below}
 
 -- An answer that is no fault: the tests found nothing, and it is what the tag says.
-not-wrong : (x′ : Verdict) (x y : RecordAnswer) → (x′ orWrong x) ≡ y → caseOf y < 3 → (x′ ≡ passed) × (x ≡ y)
+not-wrong : (z : Verdict) (x y : RecordAnswer) → (z orWrong x) ≡ y → caseOf y < 3 → (z ≡ passed) × (x ≡ y)
 unfolding _orWrong_ caseOf
 not-wrong passed x y e l = (refl, e)
 not-wrong (refused k t) x y e l = let z : 3 ≡ caseOf y = ap caseOf e in absurd (omega arith)

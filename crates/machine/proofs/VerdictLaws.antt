@@ -55,7 +55,7 @@ demand-yes k p e h = rw (← e, h) refl
 pub demand-no : {x : Verdict} {y z : Bool} (k p : ℕ) → y ≡ z → y ≡ false → x ≡ demand false k p → x ≡ demand z k p
 demand-no k p e h g = rw (← e, h) g
 
-pub then-yes : {x y : Verdict} {z x′ : Bool} (k p : ℕ) → z ≡ x′ → not z ≡ false → x ≡ y → x ≡ (demand x′ k p then y)
+pub then-yes : {x y : Verdict} {z z′ : Bool} (k p : ℕ) → z ≡ z′ → not z ≡ false → x ≡ y → x ≡ (demand z′ k p then y)
 unfolding demand _then_
 then-yes {z} k p e h g = rw (← e, not-false z h) g
 

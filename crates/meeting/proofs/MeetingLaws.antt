@@ -194,8 +194,8 @@ unfolding outcomeOf
 refusal-told x cells y e = let z : _≡_ {A = ℕ} 0 1 = cc in absurd (omega arith)
 
 -- The answer of a search whose outcome is told by whether it has a route.
-pub answer-told : (x : Found) (y : Answer) {x′ y′ : Bool} → x′ ≡ y′ → Answers x (value y) →
-    ((cells : List ℕ) (z : Answer) → outcomeOf (x .outcome) cells ≡ value z → z ≡ answerIf x′ cells) → y ≡ answerIf y′ (x .route)
+pub answer-told : (x : Found) (y : Answer) {one other : Bool} → one ≡ other → Answers x (value y) →
+    ((cells : List ℕ) (z : Answer) → outcomeOf (x .outcome) cells ≡ value z → z ≡ answerIf one cells) → y ≡ answerIf other (x .route)
 unfolding resultOf
 answer-told x y e says h = rw (← e) (h (x .route) y (says .answers))
 

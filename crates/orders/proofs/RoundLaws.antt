@@ -112,13 +112,13 @@ module _ (M : Machine) where
       let same = steps-more x ys y (xs ++ rest) e in
       rw (← same .0) (later (suc (h .0)) (afterStep M s (x .taken)) ys xs rest (h .1 .listed) (h .2) (same .1))
 
-  pub round-fair : (kept : ℕ) (s : State) (xs′ : List Entry) (x : Step) (xs ys zs : List Step) → 1 ≤ M .carriers → kept ≤ k →
-      FollowsOrder round M kept s xs′ →
-      stepsIn xs′ ≡ xs ++ (ys ++ zs) → PassedOver M x (afterSteps M s xs) ys → length ys < k
+  pub round-fair : (kept : ℕ) (s : State) (entries : List Entry) (x : Step) (xs ys zs : List Step) → 1 ≤ M .carriers → kept ≤ k →
+      FollowsOrder round M kept s entries →
+      stepsIn entries ≡ xs ++ (ys ++ zs) → PassedOver M x (afterSteps M s xs) ys → length ys < k
   unfolding PassedOver
-  round-fair kept s xs′ x xs [] zs n l h e over = omega (arith, places-split (M .carriers))
-  round-fair kept s xs′ x xs (y ∷ ys) zs n l h e over =
-      let f = later kept s xs′ xs (y ∷ (ys ++ zs)) l h e in
+  round-fair kept s entries x xs [] zs n l h e over = omega (arith, places-split (M .carriers))
+  round-fair kept s entries x xs (y ∷ ys) zs n l h e over =
+      let f = later kept s entries xs (y ∷ (ys ++ zs)) l h e in
       let p = open-place M (afterSteps M s xs) x (over .0) in
       let w = way-start k (f .memory) (p .0) (f .fits) (p .1) in
       omega (

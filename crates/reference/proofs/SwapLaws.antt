@@ -16,13 +16,13 @@ module _ {A : Type 0} where
   -- Updates at different places, and an update at the same place again.
   pub update-swap : (φ : ℕ → A) (i k : ℕ) (y z : A) → (i ≡ k → ⊥) → update (update φ i y) k z ≡ update (update φ k z) i y
   unfolding update
-  update-swap φ i k y z n = fun-ext (λ x. go x (eqb x i) (eqb x k) refl refl)
+  update-swap φ i k y z n = fun-ext (λ at. go at (eqb at i) (eqb at k) refl refl)
     where
-      go : (x : ℕ) (x′ y′ : Bool) → eqb x i ≡ x′ → eqb x k ≡ y′ → update (update φ i y) k z x ≡ update (update φ k z) i y x
-      go x true true p q = absurd (n (sym (eqb-true x i p) ∙ eqb-true x k q))
-      go x true false p q = rw (p, q, update) (rw (p, update))
-      go x false true p q = rw (p, q, update)
-      go x false false p q = rw (p, q, update) (rw (p, update))
+      go : (at : ℕ) (x₁ x₂ : Bool) → eqb at i ≡ x₁ → eqb at k ≡ x₂ → update (update φ i y) k z at ≡ update (update φ k z) i y at
+      go at true true p q = absurd (n (sym (eqb-true at i p) ∙ eqb-true at k q))
+      go at true false p q = rw (p, q, update) (rw (p, update))
+      go at false true p q = rw (p, q, update)
+      go at false false p q = rw (p, q, update) (rw (p, update))
 
   -- The same value at any two places.
   pub value-swap : (φ : ℕ → A) (i k : ℕ) (x : A) → update (update φ i x) k x ≡ update (update φ k x) i x
@@ -34,11 +34,11 @@ module _ {A : Type 0} where
 
   update-twice : (φ : ℕ → A) (i : ℕ) (y z : A) → update (update φ i y) i z ≡ update φ i z
   unfolding update
-  update-twice φ i y z = fun-ext (λ x. go x (eqb x i) refl)
+  update-twice φ i y z = fun-ext (λ at. go at (eqb at i) refl)
     where
-      go : (x : ℕ) (x′ : Bool) → eqb x i ≡ x′ → update (update φ i y) i z x ≡ update φ i z x
-      go x true p = rw (p, update)
-      go x false p = rw (p, update) (rw (p, update))
+      go : (at : ℕ) (x₁ : Bool) → eqb at i ≡ x₁ → update (update φ i y) i z at ≡ update φ i z at
+      go at true p = rw (p, update)
+      go at false p = rw (p, update) (rw (p, update))
 
 module _ {A : Type 0} where
   -- Updates at two places of one row, and of different rows.
@@ -73,26 +73,26 @@ abbrev pub sentIf : Bool → (ℕ → ℕ → List Answer) → ℕ → Answer �
 sentIf news channels i x = elim news [ true ↦ send channels i x | false ↦ channels ]
 
 -- Messages leave the channels of other senders alone, and go on every channel whatever stands on the others.
-send-other : (channels : ℕ → ℕ → List Answer) (i : ℕ) (y : Answer) (x j : ℕ) → eqb j i ≡ false → send channels i y x j ≡ channels x j
+send-other : (channels : ℕ → ℕ → List Answer) (i : ℕ) (y : Answer) (k j : ℕ) → eqb j i ≡ false → send channels i y k j ≡ channels k j
 unfolding send
-send-other channels i y x j e = rw (e, send)
+send-other channels i y k j e = rw (e, send)
 
-send-same : (channels channels′ : ℕ → ℕ → List Answer) (i : ℕ) (y : Answer) (x j : ℕ) → channels x j ≡ channels′ x j →
-    send channels i y x j ≡ send channels′ i y x j
+send-same : (channels channels′ : ℕ → ℕ → List Answer) (i : ℕ) (y : Answer) (k j : ℕ) → channels k j ≡ channels′ k j →
+    send channels i y k j ≡ send channels′ i y k j
 unfolding send
-send-same channels channels′ i y x j e = ap (λ (xs : List Answer). elim (eqb j i && ltb i x) [ true ↦ xs ++ (y ∷ []) | false ↦ xs ]) e
+send-same channels channels′ i y k j e = ap (λ (xs : List Answer). elim (eqb j i && ltb i k) [ true ↦ xs ++ (y ∷ []) | false ↦ xs ]) e
 
 -- Messages of different senders.
 send-swap : (channels : ℕ → ℕ → List Answer) (i k : ℕ) (y z : Answer) → (i ≡ k → ⊥) →
     send (send channels i y) k z ≡ send (send channels k z) i y
-send-swap channels i k y z n = fun-ext (λ x. fun-ext (λ j. go x j (eqb j i) (eqb j k) refl refl))
+send-swap channels i k y z n = fun-ext (λ k′. fun-ext (λ j. go k′ j (eqb j i) (eqb j k) refl refl))
   where
-    go : (x j : ℕ) (x′ y′ : Bool) → eqb j i ≡ x′ → eqb j k ≡ y′ → send (send channels i y) k z x j ≡ send (send channels k z) i y x j
-    go x j true true p q = absurd (n (sym (eqb-true j i p) ∙ eqb-true j k q))
-    go x j true false p q =
-        send-other (send channels i y) k z x j q ∙ send-same channels (send channels k z) i y x j (sym (send-other channels k z x j q))
-    go x j false y′ p q =
-        send-same (send channels i y) channels k z x j (send-other channels i y x j p) ∙ sym (send-other (send channels k z) i y x j p)
+    go : (k′ j : ℕ) (x₁ x₂ : Bool) → eqb j i ≡ x₁ → eqb j k ≡ x₂ → send (send channels i y) k z k′ j ≡ send (send channels k z) i y k′ j
+    go k′ j true true p q = absurd (n (sym (eqb-true j i p) ∙ eqb-true j k q))
+    go k′ j true false p q =
+        send-other (send channels i y) k z k′ j q ∙ send-same channels (send channels k z) i y k′ j (sym (send-other channels k z k′ j q))
+    go k′ j false x₂ p q =
+        send-same (send channels i y) channels k z k′ j (send-other channels i y k′ j p) ∙ sym (send-other (send channels k z) i y k′ j p)
 
 pub sent-swap : (channels : ℕ → ℕ → List Answer) (i k : ℕ) (x y : Answer) (z z′ : Bool) → (i ≡ k → ⊥)
     → sentIf z′ (sentIf z channels i x) k y ≡ sentIf z (sentIf z′ channels k y) i x
@@ -136,7 +136,7 @@ newer-kept channels i x k j n = go (eqb j i && ltb i k) refl
 -- A message is sent and another taken, in either order, from a channel that is not empty.
 send-take : (channels : ℕ → ℕ → List Answer) (i : ℕ) (y : Answer) (k j : ℕ) → (channels k j ≡ [] → ⊥)
     → updatePair (send channels i y) k j (newer (send channels i y k j)) ≡ send (updatePair channels k j (newer (channels k j))) i y
-send-take channels i y k j n = fun-ext (λ x. fun-ext (λ j′. go x j′ (eq-or-ne x k) (eq-or-ne j′ j)))
+send-take channels i y k j n = fun-ext (λ k′. fun-ext (λ j′. go k′ j′ (eq-or-ne k′ k) (eq-or-ne j′ j)))
   where
     before : ℕ → ℕ → List Answer
     before = updatePair (send channels i y) k j (newer (send channels i y k j))
@@ -144,12 +144,12 @@ send-take channels i y k j n = fun-ext (λ x. fun-ext (λ j′. go x j′ (eq-or
     after : ℕ → ℕ → List Answer
     after = updatePair channels k j (newer (channels k j))
 
-    go : (x j′ : ℕ) → (x ≡ k) ⊎ (x ≡ k → ⊥) → (j′ ≡ j) ⊎ (j′ ≡ j → ⊥) → before x j′ ≡ send after i y x j′
-    go x j′ (inr d) e = ap (λ (row : ℕ → List Answer). row j′) (pair-other-row (send channels i y) k j _ x d)
-        ∙ send-same channels after i y x j′ (sym (ap (λ (row : ℕ → List Answer). row j′) (pair-other-row channels k j _ x d)))
-    go x j′ (inl p) (inr d) =
+    go : (k′ j′ : ℕ) → (k′ ≡ k) ⊎ (k′ ≡ k → ⊥) → (j′ ≡ j) ⊎ (j′ ≡ j → ⊥) → before k′ j′ ≡ send after i y k′ j′
+    go k′ j′ (inr d) e = ap (λ (row : ℕ → List Answer). row j′) (pair-other-row (send channels i y) k j _ k′ d)
+        ∙ send-same channels after i y k′ j′ (sym (ap (λ (row : ℕ → List Answer). row j′) (pair-other-row channels k j _ k′ d)))
+    go k′ j′ (inl p) (inr d) =
         rw p (pair-other (send channels i y) k j _ j′ d ∙ send-same channels after i y k j′ (sym (pair-other channels k j _ j′ d)))
-    go x j′ (inl p) (inl q) = rw (p, q) (pair-same (send channels i y) k j _ ∙ newer-kept channels i y k j n)
+    go k′ j′ (inl p) (inl q) = rw (p, q) (pair-same (send channels i y) k j _ ∙ newer-kept channels i y k j n)
 
 pub sent-take : (x : Bool) (channels : ℕ → ℕ → List Answer) (i : ℕ) (y : Answer) (k j : ℕ) → (channels k j ≡ [] → ⊥)
     → updatePair (sentIf x channels i y) k j (newer (sentIf x channels i y k j))

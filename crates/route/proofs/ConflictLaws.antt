@@ -28,21 +28,21 @@ rank-tells following sameCell e = absurd (omega arith)
 rank-tells following changeOfPlaces e = absurd (omega arith)
 rank-tells following following e = refl
 
-module _ (H : ℕ) (r r′ : List ℕ) where
+module _ (H : ℕ) (r q : List ℕ) where
   -- The test of a kind at a beat up to H is the conflict of that kind.
-  test-says : (t : ℕ) (kind : ConflictKind) → t ≤ H → isConflict H r r′ t kind ≡ true → ConflictAt H r r′ t kind
+  test-says : (t : ℕ) (kind : ConflictKind) → t ≤ H → isConflict H r q t kind ≡ true → ConflictAt H r q t kind
   unfolding changes isConflict ConflictAt VertexConflict SwapConflict
   test-says t sameCell l e = (l, eqb-true _ _ e)
   test-says t changeOfPlaces l e = (ltb-true t H (and-fst (ltb t H) _ e), eqbs-say _ _ _ _ (and-snd (ltb t H) _ e))
-  test-says t following l e = (ltb-true t H (and-fst (ltb t H) _ e), following-says r r′ t (and-snd (ltb t H) _ e))
+  test-says t following l e = (ltb-true t H (and-fst (ltb t H) _ e), following-says r q t (and-snd (ltb t H) _ e))
 
-  test-holds : (t : ℕ) (kind : ConflictKind) → ConflictAt H r r′ t kind → isConflict H r r′ t kind ≡ true
+  test-holds : (t : ℕ) (kind : ConflictKind) → ConflictAt H r q t kind → isConflict H r q t kind ≡ true
   unfolding changes isConflict ConflictAt VertexConflict SwapConflict
   test-holds t sameCell c = eq-eqb _ _ (c .1)
   test-holds t changeOfPlaces c = and-both (lt-ltb t H (c .0)) (eqbs-hold _ _ _ _ (c .1))
-  test-holds t following c = and-both (lt-ltb t H (c .0)) (following-holds r r′ t (c .1))
+  test-holds t following c = and-both (lt-ltb t H (c .0)) (following-holds r q t (c .1))
 
-  at-most : (t : ℕ) (kind : ConflictKind) → ConflictAt H r r′ t kind → t ≤ H
+  at-most : (t : ℕ) (kind : ConflictKind) → ConflictAt H r q t kind → t ≤ H
   unfolding ConflictAt
   at-most t sameCell c = c .0
   at-most t changeOfPlaces c = omega (arith, c .0)
@@ -54,67 +54,67 @@ module _ (H : ℕ) (r r′ : List ℕ) where
 
   -- What an answer tells of the first n beats.
   unfoldable Tells : ℕ → ConflictAnswer → Type 0
-  Tells n free = (u : ℕ) (kind : ConflictKind) → u < n → isConflict H r r′ u kind ≡ false
+  Tells n free = (u : ℕ) (kind : ConflictKind) → u < n → isConflict H r q u kind ≡ false
   Tells n (dated t kind) =
-      (t < n) × (isConflict H r r′ t kind ≡ true)
-      × ((u : ℕ) (kind′ : ConflictKind) → Earlier u kind′ t kind → isConflict H r r′ u kind′ ≡ false)
+      (t < n) × (isConflict H r q t kind ≡ true)
+      × ((u : ℕ) (kind′ : ConflictKind) → Earlier u kind′ t kind → isConflict H r q u kind′ ≡ false)
 
   -- One more beat: its kinds in their order, where nothing was found before.
-  beat-tells : (n : ℕ) → Tells n free → (x y z : Bool) → isConflict H r r′ n sameCell ≡ x → isConflict H r r′ n changeOfPlaces ≡ y →
-      isConflict H r r′ n following ≡ z →
+  beat-tells : (n : ℕ) → Tells n free → (x y z : Bool) → isConflict H r q n sameCell ≡ x → isConflict H r q n changeOfPlaces ≡ y →
+      isConflict H r q n following ≡ z →
       Tells (suc n) (cond x (dated n sameCell) (cond y (dated n changeOfPlaces) (cond z (dated n following) free)))
   unfolding Tells rankOf
   beat-tells n h true y z e f g = (omega arith, e, earlier)
     where
-      earlier : (u : ℕ) (kind : ConflictKind) → Earlier u kind n sameCell → isConflict H r r′ u kind ≡ false
+      earlier : (u : ℕ) (kind : ConflictKind) → Earlier u kind n sameCell → isConflict H r q u kind ≡ false
       earlier u kind (inl l) = h u kind l
       earlier u kind (inr p) = absurd (omega (arith, p .1))
   beat-tells n h false true z e f g = (omega arith, f, earlier)
     where
-      earlier : (u : ℕ) (kind : ConflictKind) → Earlier u kind n changeOfPlaces → isConflict H r r′ u kind ≡ false
+      earlier : (u : ℕ) (kind : ConflictKind) → Earlier u kind n changeOfPlaces → isConflict H r q u kind ≡ false
       earlier u kind (inl l) = h u kind l
       earlier u sameCell (inr p) = rw (p .0) e
       earlier u changeOfPlaces (inr p) = absurd (omega (arith, p .1))
       earlier u following (inr p) = absurd (omega (arith, p .1))
   beat-tells n h false false true e f g = (omega arith, g, earlier)
     where
-      earlier : (u : ℕ) (kind : ConflictKind) → Earlier u kind n following → isConflict H r r′ u kind ≡ false
+      earlier : (u : ℕ) (kind : ConflictKind) → Earlier u kind n following → isConflict H r q u kind ≡ false
       earlier u kind (inl l) = h u kind l
       earlier u sameCell (inr p) = rw (p .0) e
       earlier u changeOfPlaces (inr p) = rw (p .0) f
       earlier u following (inr p) = absurd (omega (arith, p .1))
   beat-tells n h false false false e f g = none
     where
-      here : (u : ℕ) (kind : ConflictKind) → (u ≡ n) ⊎ (u < n) → isConflict H r r′ u kind ≡ false
+      here : (u : ℕ) (kind : ConflictKind) → (u ≡ n) ⊎ (u < n) → isConflict H r q u kind ≡ false
       here u kind (inr l) = h u kind l
-      here u sameCell (inl q) = rw q e
-      here u changeOfPlaces (inl q) = rw q f
-      here u following (inl q) = rw q g
+      here u sameCell (inl k) = rw k e
+      here u changeOfPlaces (inl k) = rw k f
+      here u following (inl k) = rw k g
 
-      none : (u : ℕ) (kind : ConflictKind) → u < suc n → isConflict H r r′ u kind ≡ false
+      none : (u : ℕ) (kind : ConflictKind) → u < suc n → isConflict H r q u kind ≡ false
       none u kind l = here u kind (eq-or-lt-of-le (le-of-suc-le-suc l))
 
-  next-tells : (n : ℕ) (x : ConflictAnswer) → Tells n x → Tells (suc n) (orNext x (firstKind H r r′ n kinds))
+  next-tells : (n : ℕ) (x : ConflictAnswer) → Tells n x → Tells (suc n) (orNext x (firstKind H r q n kinds))
   unfolding Tells orNext firstKind kinds
   next-tells n free h =
-      beat-tells n h (isConflict H r r′ n sameCell) (isConflict H r r′ n changeOfPlaces) (isConflict H r r′ n following) refl refl refl
+      beat-tells n h (isConflict H r q n sameCell) (isConflict H r q n changeOfPlaces) (isConflict H r q n following) refl refl refl
   next-tells n (dated t kind) h = (omega (arith, h .0), h .1, h .2)
 
-  below-tells : (n : ℕ) → Tells n (firstBelow H r r′ n)
+  below-tells : (n : ℕ) → Tells n (firstBelow H r q n)
   unfolding Tells firstBelow
   below-tells zero = λ u kind l. absurd (omega arith)
-  below-tells (suc n) = next-tells n (firstBelow H r r′ n) (below-tells n)
+  below-tells (suc n) = next-tells n (firstBelow H r q n) (below-tells n)
 
-  test-tells : Tells (suc H) (firstConflict H r r′)
+  test-tells : Tells (suc H) (firstConflict H r q)
   unfolding firstConflict
   test-tells = below-tells (suc H)
 
   -- What `free` and a dated answer say, and that what is so is the answer.
-  tells-none : Tells (suc H) free → (t : ℕ) (kind : ConflictKind) → ConflictAt H r r′ t kind → ⊥
+  tells-none : Tells (suc H) free → (t : ℕ) (kind : ConflictKind) → ConflictAt H r q t kind → ⊥
   unfolding Tells
   tells-none h t kind c = true-false-absurd (test-holds t kind c) (h t kind (omega (arith, at-most t kind c)))
 
-  tells-first : (t : ℕ) (kind : ConflictKind) → Tells (suc H) (dated t kind) → FirstAt H r r′ t kind
+  tells-first : (t : ℕ) (kind : ConflictKind) → Tells (suc H) (dated t kind) → FirstAt H r q t kind
   unfolding Tells
   tells-first t kind h =
       record {
@@ -122,13 +122,13 @@ module _ (H : ℕ) (r r′ : List ℕ) where
         first = λ u kind′ e c. true-false-absurd (test-holds u kind′ c) (h .2 u kind′ e);
       }
 
-  no-conflict : ConflictFree H r r′ → (t : ℕ) (kind : ConflictKind) → ConflictAt H r r′ t kind → ⊥
+  no-conflict : ConflictFree H r q → (t : ℕ) (kind : ConflictKind) → ConflictAt H r q t kind → ⊥
   unfolding ConflictAt
   no-conflict f t sameCell c = f .no-vertex t (c .0) (c .1)
   no-conflict f t changeOfPlaces c = f .no-swap t (c .0) (c .1)
   no-conflict f t following c = f .no-following t (c .0) (c .1)
 
-  none-free : ((t : ℕ) (kind : ConflictKind) → ConflictAt H r r′ t kind → ⊥) → ConflictFree H r r′
+  none-free : ((t : ℕ) (kind : ConflictKind) → ConflictAt H r q t kind → ⊥) → ConflictFree H r q
   unfolding ConflictAt
   none-free h =
       record {
@@ -137,16 +137,16 @@ module _ (H : ℕ) (r r′ : List ℕ) where
         no-following = λ t l c. h t following (l, c);
       }
 
-  is-free : ConflictFree H r r′ → (x : ConflictAnswer) → Tells (suc H) x → x ≡ free
+  is-free : ConflictFree H r q → (x : ConflictAnswer) → Tells (suc H) x → x ≡ free
   is-free f free h = refl
   is-free f (dated t kind) h = absurd (no-conflict f t kind (tells-first t kind h .there))
 
   -- Two first conflicts are one: neither comes before the other.
-  is-first : (t : ℕ) (kind : ConflictKind) → FirstAt H r r′ t kind → (x : ConflictAnswer) → Tells (suc H) x → x ≡ dated t kind
+  is-first : (t : ℕ) (kind : ConflictKind) → FirstAt H r q t kind → (x : ConflictAnswer) → Tells (suc H) x → x ≡ dated t kind
   is-first t kind f free h = absurd (tells-none h t kind (f .there))
   is-first t kind f (dated u kind′) h = beats (lt-or-le u t) (lt-or-le t u)
     where
-      g : FirstAt H r r′ u kind′
+      g : FirstAt H r q u kind′
       g = tells-first u kind′ h
 
       ranks : u ≡ t → (rankOf kind′ < rankOf kind) ⊎ (rankOf kind ≤ rankOf kind′) →
@@ -160,29 +160,29 @@ module _ (H : ℕ) (r r′ : List ℕ) where
       beats (inr l) (inl m) = absurd (g .first t kind (inl m) (f .there))
       beats (inr l) (inr m) = ranks (omega arith) (lt-or-le (rankOf kind′) (rankOf kind)) (lt-or-le (rankOf kind) (rankOf kind′))
 
-  conflict-of : (t : ℕ) (kind : ConflictKind) → ConflictAt H r r′ t kind → Conflict H r r′
+  conflict-of : (t : ℕ) (kind : ConflictKind) → ConflictAt H r q t kind → Conflict H r q
   unfolding ConflictAt Conflict
   conflict-of t sameCell c = inl (t, c .0, c .1)
   conflict-of t changeOfPlaces c = inr (inl (t, c .0, c .1))
   conflict-of t following c = inr (inr (t, c .0, c .1))
 
-  any-conflict : (x : ConflictAnswer) → Tells (suc H) x → (x ≡ free → ⊥) → Conflict H r r′
+  any-conflict : (x : ConflictAnswer) → Tells (suc H) x → (x ≡ free → ⊥) → Conflict H r q
   any-conflict free h n = absurd (n refl)
   any-conflict (dated t kind) h n = conflict-of t kind (tells-first t kind h .there)
 
-  free-refutes : ConflictFree H r r′ → Conflict H r r′ → ⊥
+  free-refutes : ConflictFree H r q → Conflict H r q → ⊥
   unfolding Conflict
   free-refutes f (inl h) = f .no-vertex (h .0) (h .1) (h .2)
   free-refutes f (inr (inl h)) = f .no-swap (h .0) (h .1) (h .2)
   free-refutes f (inr (inr h)) = f .no-following (h .0) (h .1) (h .2)
 
-  says-free : firstConflict H r r′ ≡ free → ConflictFree H r r′
+  says-free : firstConflict H r q ≡ free → ConflictFree H r q
   says-free e = none-free (tells-none (rw e at test-tells))
 
-  pub tested : TestedFor H r r′
+  pub tested : TestedFor H r q
   tested =
       record {
-        free-exactly = (says-free, λ f. is-free f (firstConflict H r r′) test-tells);
-        first-exactly = λ t kind. (λ e. tells-first t kind (rw e at test-tells), λ f. is-first t kind f (firstConflict H r r′) test-tells);
-        conflict-exactly = (any-conflict (firstConflict H r r′) test-tells, λ c e. free-refutes (says-free e) c);
+        free-exactly = (says-free, λ f. is-free f (firstConflict H r q) test-tells);
+        first-exactly = λ t kind. (λ e. tells-first t kind (rw e at test-tells), λ f. is-first t kind f (firstConflict H r q) test-tells);
+        conflict-exactly = (any-conflict (firstConflict H r q) test-tells, λ c e. free-refutes (says-free e) c);
       }

@@ -1,5 +1,5 @@
--- Two lists of numbers are free of all conflicts through H exactly if they are spaced, jumps included. If r is at t + 1 where r′ is at t:
--- it was there already, which is one cell at t; or it entered, and r′ stayed, which is one cell at t + 1, or left, which is following.
+-- Two lists of numbers are free of all conflicts through H exactly if they are spaced, jumps included. If r is at t + 1 where q is at t:
+-- it was there already, which is one cell at t; or it entered, and q stayed, which is one cell at t + 1, or left, which is following.
 -- The other way round likewise; and a change of places is both.
 use Prim.Native.Nat.{ℕ, suc, _≤_, _<_}
 use native.Mathlib.Omega.{arith}
@@ -11,18 +11,18 @@ use Rattle.route.specs.Conflict.{VertexConflict, SwapConflict, Follows, 
 use Rattle.route.specs.Spaced.{Spaced}
 use Rattle.laws.proofs.Tests.{eq-or-ne}
 
--- Where r is at t + 1 the cell of r′ at t, there is one cell at t or at t + 1, or r follows r′.
-at-left : {A : Type 0} (r r′ : List ℕ) (t : ℕ) → cellAt r (suc t) ≡ cellAt r′ t → (VertexConflict r r′ t → A) →
-    (VertexConflict r r′ (suc t) → A) → (Follows r r′ t → A) → A
+-- Where r is at t + 1 the cell of q at t, there is one cell at t or at t + 1, or r follows q.
+at-left : {A : Type 0} (r q : List ℕ) (t : ℕ) → cellAt r (suc t) ≡ cellAt q t → (VertexConflict r q t → A) →
+    (VertexConflict r q (suc t) → A) → (Follows r q t → A) → A
 unfolding VertexConflict Follows
-at-left {A} r r′ t e here there follows =
-    stays (eq-or-ne (cellAt r (suc t)) (cellAt r t)) (eq-or-ne (cellAt r′ (suc t)) (cellAt r′ t))
+at-left {A} r q t e here there follows =
+    stays (eq-or-ne (cellAt r (suc t)) (cellAt r t)) (eq-or-ne (cellAt q (suc t)) (cellAt q t))
   where
     stays : (cellAt r (suc t) ≡ cellAt r t) ⊎ (cellAt r (suc t) ≡ cellAt r t → ⊥) →
-        (cellAt r′ (suc t) ≡ cellAt r′ t) ⊎ (cellAt r′ (suc t) ≡ cellAt r′ t → ⊥) → A
-    stays (inl p) q = here (sym p ∙ e)
-    stays (inr p) (inl q) = there (e ∙ sym q)
-    stays (inr p) (inr q) = follows (e, p, q)
+        (cellAt q (suc t) ≡ cellAt q t) ⊎ (cellAt q (suc t) ≡ cellAt q t → ⊥) → A
+    stays (inl p) k = here (sym p ∙ e)
+    stays (inr p) (inl k) = there (e ∙ sym k)
+    stays (inr p) (inr k) = follows (e, p, k)
 
 module _ (H : ℕ) (r q : List ℕ) where
   pub free-spaced : ConflictFree H r q → Spaced H r q

@@ -27,7 +27,7 @@ use Rattle.search.proofs.RequestLaws.{request-granted, granted-request}
 use Rattle.search.proofs.SeenLaws.{kept-off, unheard-out}
 
 -- An answer shows that the checks found nothing, and what was answered.
-answered-says : (x′ : Verdict) (x y : Answer) → (x′ gives x) ≡ answered y → (x′ ≡ passed) × (x ≡ y)
+answered-says : (z : Verdict) (x y : Answer) → (z gives x) ≡ answered y → (z ≡ passed) × (x ≡ y)
 unfolding _gives_
 answered-says passed x y e = (refl, cc)
 answered-says (refused k p) x y e = let z : _≡_ {A = ℕ} 0 1 = cc in absurd (omega arith)

@@ -116,15 +116,15 @@ pub carrier-short : (f : Floor) (ws : List ℕ) (i : ℕ) → length (carrierTex
 unfolding carrierText
 carrier-short f ws i = by-answer (answerAt (planOf f ws) i) _ (shut-short i (blockersOf f ws i))
 
-none-first : {A : Type 0} (x : Answer) (y x′ : A) → isNone x ≡ true → ifNone x y x′ ≡ y
+none-first : {A : Type 0} (x : Answer) (y y′ : A) → isNone x ≡ true → ifNone x y y′ ≡ y
 unfolding isNone ifNone
-none-first none y x′ e = refl
-none-first (route r) y x′ e = absurd (let z : _≡_ {A = ℕ} 0 1 = cc in omega arith)
+none-first none y y′ e = refl
+none-first (route r) y y′ e = absurd (let z : _≡_ {A = ℕ} 0 1 = cc in omega arith)
 
-route-second : {A : Type 0} (x : Answer) (y x′ : A) → isNone x ≡ false → ifNone x y x′ ≡ x′
+route-second : {A : Type 0} (x : Answer) (y y′ : A) → isNone x ≡ false → ifNone x y y′ ≡ y′
 unfolding isNone ifNone
-route-second none y x′ e = absurd (let z : _≡_ {A = ℕ} 0 1 = cc in omega arith)
-route-second (route r) y x′ e = refl
+route-second none y y′ e = absurd (let z : _≡_ {A = ℕ} 0 1 = cc in omega arith)
+route-second (route r) y y′ e = refl
 
 module _ (f : Floor) (ws : List ℕ) (i : ℕ) (old : List ℕ) (at : ℕ) where
   pub carrier-stranded : isNone (answerAt (planOf f ws) i) ≡ true → (k n : ℕ) (new : List ℕ) → k ≡ blockersOf f ws i →
