@@ -1,5 +1,7 @@
 // Words of digits and sets of cells as rows of words: one step of a whole set takes a few operations a row.
 // A cell's row is its number by the width, its column the rest.
+#![tactic(auto)]
+
 ghost use Rattle.std.specs.Prelude.{◌≡◌, ◌+◌, ◌*◌, ◌-◌, ◌/◌, ◌%◌, ◌^◌, ◌≤◌, ◌<◌, length};
 ghost use Rattle.bitrows.specs.Words.{without};
 ghost use Rattle.bitrows.specs.Rows.{added, dropped, dropped_at, written, successor_row};

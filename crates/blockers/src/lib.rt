@@ -1,5 +1,7 @@
 // Who shuts a carrier in (document 02, slip 8): for a carrier with none in the sequential result, a set of carriers above it against whose
 // answers alone there is still no route, and against any smaller part of which there is one.
+#![tactic(auto)]
+
 mod leave;
 
 ghost use Rattle.std.specs.Prelude.{◌≡◌, ◌+◌, ◌*◌, ◌≤◌, ◌<◌, length};
@@ -17,7 +19,7 @@ use floor::{Checked, Floor, Refusal};
 use records::{SIZE, TEAM};
 
 // The answer of the entry.
-#[derive(Drop)]
+#[derive(Clone, Copy)]
 pub enum Blocked {
     // The carriers that shut the carrier in, a bit each: bit j − 1 is carrier j's. With none of them, walls or the horizon are the cause.
     Shut(u16),

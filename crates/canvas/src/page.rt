@@ -4,7 +4,7 @@ ghost use Rattle.std.specs.Prelude.{◌≤◌};
 use floor::Floor;
 
 // The sizes of a floor's page. The cells of a floor of more than 16 columns or rows are drawn smaller.
-#[derive(Drop)]
+#[derive(Clone, Copy)]
 pub struct Page {
     pub small: bool,
     pub columns: u16,

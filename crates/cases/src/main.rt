@@ -5,6 +5,8 @@
 // implementation of document 01.
 //
 // A line's first letter is its command, and its numbers are the arguments; all other letters are for the reader.
+#![tactic(auto)]
+
 mod calls;
 mod corrupted;
 mod drawn;

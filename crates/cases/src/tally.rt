@@ -5,7 +5,7 @@ use testkit::memory::both;
 use testkit::{memory, records, show};
 
 // How many orders came to silence, and of how many each of the other things holds.
-#[derive(Drop)]
+#[derive(Clone, Copy)]
 pub struct Tally {
     // Silent.
     pub orders: usize,

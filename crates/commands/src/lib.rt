@@ -1,5 +1,7 @@
 // Test code: the commands of a script that need no state of the machine, on sheets, searches and pairs of routes; the setup of numbers that
 // they are given, and an answer as one number.
+#![tactic(auto)]
+
 pub mod answers;
 pub mod pairs;
 pub mod routes;

@@ -1,4 +1,6 @@
 // The conflict test of two lent routes as an entry (document 02, slips 7 and 9): the first conflict with its beat and its kind, or free.
+#![tactic(auto)]
+
 ghost use Rattle.std.specs.Prelude.{◌≡◌};
 ghost use Rattle.laws.specs.Verdict.{value, refusal};
 ghost use Rattle.route.specs.ConflictTest.{conflict_told};
@@ -9,7 +11,7 @@ use records::CELLS;
 use route::FirstConflict;
 
 // What the entry answers, with the beat of a conflict.
-#[derive(Drop)]
+#[derive(Clone, Copy)]
 pub enum Compared {
     // No conflict.
     Free,

@@ -2,13 +2,15 @@
 // only a part, that a signal interrupts or that finds nothing ready is followed by the next one, and a failure is told from the
 // input's end. A failure is said in a line on standard error. The contracts bound the number of bytes; the bytes that the C library
 // moves are outside any contract.
+#![tactic(auto)]
+
 ghost use Rattle.std.specs.Prelude.{length};
 ghost use Rattle.console.specs.Within.{InputWithin, PartWithin};
 
 use libc::{EAGAIN, EINTR, STDERR_FILENO, STDIN_FILENO, STDOUT_FILENO};
 
 // The answer of reading standard input.
-#[derive(Drop)]
+#[derive(Clone, Copy)]
 pub enum Input {
     // The number of bytes in front of the lent buffer: the whole input, or its first bytes where the buffer is full.
     Read(usize),
@@ -17,7 +19,7 @@ pub enum Input {
 }
 
 // The answer of writing to standard output.
-#[derive(Drop)]
+#[derive(Clone, Copy)]
 pub enum Output {
     // All of the text is written.
     Written,
@@ -26,7 +28,7 @@ pub enum Output {
 }
 
 // The outcome of calls that move bytes.
-#[derive(Drop)]
+#[derive(Clone, Copy)]
 enum Part {
     // The number of bytes moved.
     Moved(usize),

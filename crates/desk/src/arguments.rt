@@ -3,7 +3,7 @@ ghost use Rattle.std.specs.Prelude.{◌≡◌, true, ◌+◌, ◌-◌, ◌*◌, 
 ghost use Rattle.desk.specs.Arguments.{is_digit, all_digits, same_bytes, value_in, ReadsDecimal};
 
 // What an argument is read as.
-#[derive(Drop)]
+#[derive(Clone, Copy)]
 pub enum Decimal {
     // A number; one above 2^32 is told as that.
     Number(u64),

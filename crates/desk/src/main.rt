@@ -1,5 +1,7 @@
 // The program `desk`: tools over a sheet from standard input, each a command named by the first argument. What is wrong with an
 // argument or a command is said in words on standard error.
+#![tactic(auto)]
+
 mod arguments;
 mod drawn;
 mod listed;
@@ -14,7 +16,7 @@ use floor::Checked;
 use libc::STDERR_FILENO;
 
 // The commands.
-#[derive(Drop)]
+#[derive(Clone, Copy)]
 enum Command {
     // `trial ORDER [SEED]`: plays a trial and prints its report and the routes.
     Trial,

@@ -1,5 +1,7 @@
 // A floor drawn as plain text with carriers on it, a line a row: `#` a wall, `.` nobody, a digit the carrier there, `*` several carriers.
 // A helper of the program `desk`.
+#![tactic(auto)]
+
 ghost use Rattle.std.specs.Prelude.{◌≡◌, ◌+◌, ◌*◌, ◌≤◌, ◌<◌, length};
 ghost use Rattle.laws.specs.Memory.{put};
 ghost use Rattle.floor.specs.Checks.{among};

@@ -1,1 +1,2 @@
 // The machine's state as it lies in lent memory: definitions and their laws; no code.
+#![tactic(auto)]

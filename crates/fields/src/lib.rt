@@ -1,5 +1,7 @@
 // Numbers in five columns (document 01, 'The sheet'): a field read, tested and written, and the form of lines of fields. Helpers of
 // `sheet` and `printing`.
+#![tactic(auto)]
+
 mod field;
 mod line;
 mod reader;

@@ -10,7 +10,7 @@ use crate::slot::Reached;
 use crate::{line, slot};
 
 // A text and the column that is read next.
-#[derive(Drop)]
+#[derive(Clone, Copy)]
 pub struct Reader<'a> {
     pub text: &'a [u8],
     pub column: usize,

@@ -9,7 +9,7 @@ use crate::field;
 use floor::{Checked, Refusal};
 
 // How far a reader came: to a column, or no further than a refusal.
-#[derive(Drop)]
+#[derive(Clone, Copy)]
 pub enum Reached {
     At(usize),
     Refused(Refusal),

@@ -1,5 +1,7 @@
 // The floor of document 01: the record, its limits, and the checks 2 to 6 and 17 of a floor given as a record (with 9 for
 // walls that are counted and not lent). Knows nothing of text, routes or messages.
+#![tactic(auto)]
+
 mod bounds;
 mod checks;
 
@@ -15,7 +17,7 @@ pub use checks::{check_length, docks_of, is_wall};
 // by strictly rising cell number. A carrier may end at any of its docks: those of carrier i, counted from 0, are at 4 × i
 // and on, as many as its dock count says. Places past the carrier count, a dock count or the wall count are no part of the
 // floor.
-#[derive(Drop)]
+#[derive(Clone, Copy)]
 pub struct Floor {
     pub width: u16,
     pub height: u16,
@@ -63,14 +65,14 @@ impl Floor {
 }
 
 // A refusal of document 01: its number, and the place that the table of refusals gives with it.
-#[derive(Drop)]
+#[derive(Clone, Copy)]
 pub struct Refusal {
     pub number: u16,
     pub place: usize,
 }
 
 // What a check says.
-#[derive(Drop)]
+#[derive(Clone, Copy)]
 pub enum Checked {
     // It found nothing.
     Passed,

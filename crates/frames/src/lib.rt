@@ -1,5 +1,7 @@
 // A floor drawn beat by beat, for the command `desk draw`, as text over fixed arrays: its map, when each carrier arrives, and the floor
 // at each beat with its carriers; of a refused sheet the line of the refusal.
+#![tactic(auto)]
+
 mod cells;
 mod lines;
 

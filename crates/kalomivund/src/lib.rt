@@ -2,6 +2,8 @@
 // A floor record is 54 numbers: width, height, horizon, depth, carriers, walls, eight starts, eight dock counts, thirty-two docks (four
 // places a carrier). Every function answers one word: low byte 0 done or 1 refused, the next byte the case or the refusal, then the
 // number or the place. Nothing is decided here: each function hands its slices to the entry of its name and packs the answer.
+#![tactic(auto)]
+
 mod answers;
 
 ghost use Rattle.std.specs.Prelude.{◌≡◌, ◌≤◌, length};

@@ -1,5 +1,7 @@
 // Tables of sets of cells over the beats of a search: the grid they are of, the free table that views leave, and one step of a whole set.
 // Helpers of the search below `passes`: what they require is checked by the entries above.
+#![tactic(auto)]
+
 pub mod free_table;
 pub mod step;
 pub mod stripes;
@@ -11,7 +13,7 @@ ghost use Rattle.layers.specs.Table.{search_grid_of, Grid, PlaceOf};
 use floor::Floor;
 
 // What the parts of a search share: the grid with the scale of its width, and the horizon.
-#[derive(Drop)]
+#[derive(Clone, Copy)]
 pub struct SearchGrid {
     pub width: usize,
     pub scale: usize,
@@ -34,7 +36,7 @@ pub fn search_grid_of(f: Floor) -> SearchGrid
 }
 
 // The place of a cell in the grid.
-#[derive(Drop)]
+#[derive(Clone, Copy)]
 pub struct Place {
     pub row: usize,
     pub column: usize,

@@ -1,4 +1,6 @@
 // Whether a record of 65 numbers is a route of a carrier of a floor, and the arrival of a lent route, as entries (document 01, 'Routes').
+#![tactic(auto)]
+
 mod beats;
 mod places;
 
@@ -21,14 +23,14 @@ use route::Route;
 //   6  it ends at no dock of the carrier; the horizon
 //   7  a number other than 0 in an unused place: a route's after the horizon, any where there is no route; its beat
 //   8  the tag is none of 0, 1 and 2; beat 0
-#[derive(Drop)]
+#[derive(Clone, Copy)]
 pub struct Fault {
     pub cause: u16,
     pub beat: usize,
 }
 
 // What the check of a record answers.
-#[derive(Drop)]
+#[derive(Clone, Copy)]
 pub enum Legality {
     // A route of the carrier, with its arrival.
     Route(u16),
@@ -43,7 +45,7 @@ pub enum Legality {
 }
 
 // What the arrival of a lent route answers.
-#[derive(Drop)]
+#[derive(Clone, Copy)]
 pub enum Arrived {
     // The beat of arrival.
     At(u16),

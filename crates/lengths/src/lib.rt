@@ -1,5 +1,7 @@
 // The needed length of each lent buffer, one documented figure for a floor (document 01, 'Refused'). Each crate that
 // takes a buffer states its figure; this crate is the one entry that gives them all.
+#![tactic(auto)]
+
 ghost use Rattle.std.specs.Prelude.{◌≡◌, ◌≤◌};
 ghost use Rattle.trial.specs.Report.{report_size};
 ghost use Rattle.lengths.specs.Figures.{figures_of, figures_for};
@@ -12,7 +14,7 @@ use machine::Most;
 // bytes (the state of the machine), `route` in cell numbers of two bytes (what a search answers), `floor` in numbers of
 // two bytes (a floor record), `figures` in numbers of eight bytes (these lengths themselves), `report` in numbers of two
 // bytes (the report of a trial). Later figures stand behind.
-#[derive(Drop)]
+#[derive(Clone, Copy)]
 pub struct Lengths {
     pub walls: usize,
     pub sheet: usize,
@@ -26,7 +28,7 @@ pub struct Lengths {
 }
 
 // What the entry answers.
-#[derive(Drop)]
+#[derive(Clone, Copy)]
 pub enum Needed {
     // The lengths.
     Known(Lengths),

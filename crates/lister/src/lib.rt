@@ -1,5 +1,7 @@
 // Every run of a small floor (document 02, slip 6): the total of the complete runs, from fresh to silent, of at most three carriers, and
 // the run of a rank.
+#![tactic(auto)]
+
 mod lines;
 mod node;
 mod walk;
@@ -19,7 +21,7 @@ use floor::{Checked, Floor, Refusal};
 pub use lines::LINE;
 
 // The answer of the lister.
-#[derive(Drop)]
+#[derive(Clone, Copy)]
 pub enum Listed {
     // How many runs there are, and how many steps the run of the rank has.
     Run { total: u64, steps: u16 },
@@ -28,7 +30,7 @@ pub enum Listed {
 }
 
 // The answer of a listing of many runs.
-#[derive(Drop)]
+#[derive(Clone, Copy)]
 pub enum Counted {
     // How many runs there are.
     Total(u64),

@@ -22,7 +22,7 @@ pub const STEPS: usize = 11;
 pub const TRAIL: usize = 2 * STEPS;
 
 // A node: its state, as in lent memory; the steps taken to it, two numbers a step, as in a report; how many they are.
-#[derive(Drop)]
+#[derive(Clone, Copy)]
 pub struct Node {
     pub memory: [u16; STATE],
     pub trail: [u16; TRAIL],

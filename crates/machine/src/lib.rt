@@ -1,4 +1,6 @@
 // The machine of document 01 over lent memory: the fresh state, the single step, the run, the step ceiling.
+#![tactic(auto)]
+
 mod checks;
 mod handbook;
 mod runs;
@@ -19,7 +21,7 @@ use floor::{Checked, Floor, Refusal};
 use steps::{Asked, Taken};
 
 // The answer to a single step.
-#[derive(Drop)]
+#[derive(Clone, Copy)]
 pub enum Stepped {
     // Planned and kept.
     Kept,
@@ -32,7 +34,7 @@ pub enum Stepped {
 }
 
 // The answer to a run, with the number of steps taken.
-#[derive(Drop)]
+#[derive(Clone, Copy)]
 pub enum Ran {
     // No step is open.
     Silent(usize),
@@ -45,7 +47,7 @@ pub enum Ran {
 }
 
 // The answer of the ceiling.
-#[derive(Drop)]
+#[derive(Clone, Copy)]
 pub enum Most {
     // The most steps.
     Steps(usize),

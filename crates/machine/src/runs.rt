@@ -17,7 +17,7 @@ use search::Rows;
 use steps::Asked;
 
 // How far a run has come: the steps taken, and the steps read.
-#[derive(Drop)]
+#[derive(Clone, Copy)]
 pub struct Tally {
     pub taken: usize,
     pub read: usize,

@@ -1,4 +1,6 @@
 // A map of a floor, read: any bytes in, the sheet of its floor out, or a refusal in words with line and column. For the program `desk`.
+#![tactic(auto)]
+
 mod build;
 mod letters;
 mod rows;
@@ -24,7 +26,7 @@ pub const SHEET_LENGTH: usize = 11732;
 const CELLS: usize = 1024;
 
 // What reading a map tells.
-#[derive(Drop)]
+#[derive(Clone, Copy)]
 enum Told {
     // The length of the sheet that stands in front of the lent memory.
     Sheet(usize),
@@ -33,7 +35,7 @@ enum Told {
 }
 
 // What is printed for a map.
-#[derive(Drop)]
+#[derive(Clone, Copy)]
 pub struct PrintedMap {
     // The length of the sheet; 0 with a refusal.
     pub sheet: usize,

@@ -6,7 +6,7 @@ use crate::tokens;
 use crate::tokens::{Problem, Read};
 
 // The rows that were read.
-#[derive(Drop)]
+#[derive(Clone, Copy)]
 pub struct Shape {
     pub width: usize,
     pub height: usize,
@@ -15,7 +15,7 @@ pub struct Shape {
 }
 
 // What reading the rows answers.
-#[derive(Drop)]
+#[derive(Clone, Copy)]
 pub enum Shaped {
     // All rows.
     Rows(Shape),

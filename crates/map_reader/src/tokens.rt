@@ -5,7 +5,7 @@ ghost use Rattle.map_reader.specs.Marks.{thing_of, place_of};
 // What is wrong with a map: the kind tells the words (`words`), the others what they name: a line or a carrier, a column, and numbers.
 // Kinds 1 to 3 tell of line 1, 4 to 9 of rows and their lengths, 10 of a byte, 11 to 16 of the line of a letter, 17 of a letter without
 // one, 18 to 22 of carriers, 23 that the floor is refused.
-#[derive(Drop)]
+#[derive(Clone, Copy)]
 pub struct Problem {
     pub kind: u8,
     pub line: u16,
@@ -50,7 +50,7 @@ impl Problem {
 }
 
 // What reading a part of a map answers.
-#[derive(Drop)]
+#[derive(Clone, Copy)]
 pub enum Read {
     // The column behind it.
     At(usize),
@@ -59,14 +59,14 @@ pub enum Read {
 }
 
 // A number and the column behind it.
-#[derive(Drop)]
+#[derive(Clone, Copy)]
 pub struct Number {
     pub value: u16,
     pub next: usize,
 }
 
 // Line 1: the horizon, the depth, and the column of line 2; 0 where its form is wrong.
-#[derive(Drop)]
+#[derive(Clone, Copy)]
 pub struct Head {
     pub horizon: u16,
     pub depth: u16,

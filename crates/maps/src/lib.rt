@@ -1,5 +1,7 @@
 // The map of a floor, a text that a person can type: horizon and depth, a line a row, a character a cell, and a line for each cell that is
 // more than one thing. Put into lent memory; with it what other drawings of a floor share. For the program `desk`.
+#![tactic(auto)]
+
 mod marks;
 mod rows;
 

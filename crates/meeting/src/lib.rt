@@ -1,5 +1,7 @@
 // Where the best routes of two carriers, each against nobody, meet (document 02, slips 7 and 9), as text over fixed arrays: one line, and
 // the floor at that beat; of a refused sheet, or a carrier that is not there, the line of the refusal. For the program `desk`.
+#![tactic(auto)]
+
 ghost use Rattle.std.specs.Prelude.{◌≡◌, ℕ, ◌+◌, ◌≤◌, ◌<◌, List, length, take};
 ghost use Rattle.io.specs.Counts.{IsPrefixLen};
 ghost use Rattle.laws.specs.Verdict.{passed, demand, value};

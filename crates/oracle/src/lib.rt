@@ -1,6 +1,8 @@
 // A second planner, for tests: it knows nothing of sets of cells, and asks of each move, by the three kinds of conflict, what carriers
 // told. It fills a table of least arrivals, at whichever dock, from the horizon down, a number a beat and cell, and walks along it. Every
 // function answers for any numbers, so none has a `requires`.
+#![tactic(auto)]
+
 mod arrivals;
 mod ground;
 mod offers;
@@ -20,7 +22,7 @@ use table::{after, value};
 use views::{met, tell};
 
 // What the planner finds: a route, where there is one.
-#[derive(Drop)]
+#[derive(Clone, Copy)]
 pub struct Plan {
     pub found: bool,
     pub route: Route,

@@ -11,7 +11,7 @@ use layers::table::{member, put_more, put_none};
 pub type Cells = [u16; 4];
 
 // The first `count` cells are docks, each with the least beat from which it is in the free table through the horizon.
-#[derive(Drop)]
+#[derive(Clone, Copy)]
 pub struct Docks {
     pub count: usize,
     pub cells: Cells,

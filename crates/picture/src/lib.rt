@@ -1,6 +1,7 @@
 // A floor and its routes as one picture that moves: an SVG with the grid, the walls, the docks in the colours of their carriers, a trace
 // for each route, the carriers going a cell a beat, the number of the beat, and a legend with the arrivals. A viewer that does not play
 // it, or is asked for less motion, shows the carriers at their starts with their traces. For the program `desk`.
+#![tactic(auto)]
 
 ghost use Rattle.std.specs.Prelude.{◌≡◌, ◌<◌, length};
 ghost use Rattle.io.specs.Counts.{IsPrefixLen};

@@ -1,4 +1,6 @@
 // The sequential planner of document 01: carriers 1 to n, each best against the answers above it; one with none stays at its start.
+#![tactic(auto)]
+
 mod tags;
 
 ghost use Rattle.std.specs.Prelude.{List, ◌≡◌, ℕ, ◌+◌, ◌*◌, ◌-◌, ◌≤◌, ◌<◌, length};
@@ -19,7 +21,7 @@ use search::Rows;
 pub use tags::tag_of;
 
 // What planning says.
-#[derive(Drop)]
+#[derive(Clone, Copy)]
 pub enum Planned {
     // The answers are made; the first carrier with none, 0 if all have routes.
     Failing(usize),

@@ -17,7 +17,7 @@ pub fn byte_at(text: &[u8], at: usize) -> u8
 }
 
 // A line and a column of a text.
-#[derive(Drop)]
+#[derive(Clone, Copy)]
 pub struct LineColumn {
     pub line: usize,
     pub column: usize,

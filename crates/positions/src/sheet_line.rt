@@ -101,7 +101,7 @@ pub fn fields_of(text: &[u8], line: usize, start: usize) -> usize
 }
 
 // The lines of a sheet that are whole, and the column behind them.
-#[derive(Drop)]
+#[derive(Clone, Copy)]
 pub struct Walk {
     pub lines: usize,
     pub start: usize,

@@ -1,5 +1,7 @@
 // The routes of a floor as text (document 01, 'The sheet', second half), put into lent memory; and the whole path from a
 // sheet's bytes to the printed bytes.
+#![tactic(auto)]
+
 mod lines;
 
 ghost use Rattle.std.specs.Prelude.{◌≡◌, ◌≤◌, min, length, take};
@@ -17,7 +19,7 @@ use floor::{Checked, Floor, Refusal};
 use planner::Planned;
 
 // What printing says.
-#[derive(Drop)]
+#[derive(Clone, Copy)]
 pub enum Printed {
     // So many bytes of text stand in front of the lent memory.
     Written(usize),

@@ -1,5 +1,7 @@
 // Why a sheet is refused, in words, with the line and the column of the sheet, both from 1: one line of text over a fixed array. Of an
 // accepted sheet its size. For the program `desk`.
+#![tactic(auto)]
+
 mod item;
 
 ghost use Rattle.std.specs.Prelude.{◌≡◌, ℕ, ◌≤◌, length};

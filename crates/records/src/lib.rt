@@ -1,5 +1,7 @@
 // The record of an answer, a view or a message in lent memory: 65 numbers, a tag (0 not heard, 1 none, 2 a route) and 64 cells. A route
 // goes by value from place to place. The functions are helpers between crates: what they require is checked by the entries above.
+#![tactic(auto)]
+
 mod seen;
 
 ghost use Rattle.std.specs.Prelude.{◌≡◌, [], ◌∷◌, ◌+◌, ◌*◌, ◌≤◌, ◌<◌, length};

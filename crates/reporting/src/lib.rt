@@ -1,5 +1,7 @@
 // The report of a trial as text (document 02, slip 1): carriers, order and steps taken, then a line a step: its place from 1 and its
 // number as fields of five columns, a space, the word of its answer. Helpers of the program `desk`.
+#![tactic(auto)]
+
 ghost use Rattle.std.specs.Prelude.{◌∷◌, [], ◌+◌, ◌*◌, ◌≤◌, ◌<◌, length};
 ghost use Rattle.reporting.specs.Words.{short_decimal};
 ghost use Rattle.sheet.specs.Text.{line_of, lines_of};

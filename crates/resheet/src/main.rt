@@ -1,5 +1,7 @@
 // Reads a sheet from standard input and writes the sheet of the floor that it read, which is the same sheet, or, of a refused one, the
 // line of its refusal. A failure of either is said on standard error.
+#![tactic(auto)]
+
 ghost use Rattle.std.specs.Prelude.{◌≡◌, ◌≤◌, length, take};
 ghost use Rattle.io.specs.Counts.{IsPrefixLen};
 ghost use Rattle.floor.specs.Checks.{check_of};

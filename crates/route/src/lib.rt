@@ -1,5 +1,7 @@
 // Routes: the conflict test of two routes and the arrival of a route (document 01, 'Routes'; document 02, slips 7, 9 and 10).
 // A route is 64 cell numbers, one a beat; a horizon above 63 counts as 63.
+#![tactic(auto)]
+
 ghost use Rattle.std.specs.Prelude.{◌≡◌, ◌≤◌, min};
 ghost use Rattle.route.specs.Arrival.{arrival_of};
 ghost use Rattle.route.specs.ConflictTest.{conflict_told, changes, enters, follows, first_conflict};
@@ -15,7 +17,7 @@ fn last_beat(horizon: u16) -> usize
 }
 
 // What the conflict test of two routes finds, with the beat.
-#[derive(Drop)]
+#[derive(Clone, Copy)]
 pub enum FirstConflict {
     // No conflict.
     Free,

@@ -1,5 +1,7 @@
 // The program `routes` (document 01, 'The sheet'): a sheet from standard input, its printed routes to standard output, and nothing
 // else; of a refused sheet the line of its refusal. A failure of either is said on standard error.
+#![tactic(auto)]
+
 ghost use Rattle.std.specs.Prelude.{◌≡◌, take};
 ghost use Rattle.io.specs.Counts.{IsPrefixLen};
 ghost use Rattle.printing.specs.Print.{routes_of};

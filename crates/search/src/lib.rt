@@ -1,4 +1,6 @@
 // The best route of a carrier against the answers above it (document 01, 'Routes'): a bit-parallel search, a word a row.
+#![tactic(auto)]
+
 mod ground;
 
 ghost use Rattle.std.specs.Prelude.{◌≡◌, ◌-◌, ◌≤◌, ◌<◌};
@@ -28,7 +30,7 @@ use route::Route;
 pub type Rows = [u32; Floor::MAX_HEIGHT as usize];
 
 // What a search finds.
-#[derive(Drop)]
+#[derive(Clone, Copy)]
 pub enum Outcome {
     // The best route, which stands beside this.
     Route,
@@ -39,7 +41,7 @@ pub enum Outcome {
 }
 
 // The answer of a search. An enum cannot hold an array, so the route stands beside the case; it is 64 zeros where there is none.
-#[derive(Drop)]
+#[derive(Clone, Copy)]
 pub struct Found {
     pub outcome: Outcome,
     pub route: Route,

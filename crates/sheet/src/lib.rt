@@ -1,4 +1,6 @@
 // The sheet of document 01: the text form of a floor, read and written. Knows nothing of routes or messages.
+#![tactic(auto)]
+
 mod form;
 mod lines;
 mod values;
@@ -17,7 +19,7 @@ use floor::{Checked, Floor};
 
 // What reading a sheet says: whether it was read, and the floor; the fresh floor with a refusal. (An enum holds no
 // array, so the floor stands beside the answer.)
-#[derive(Drop)]
+#[derive(Clone, Copy)]
 pub struct Reading {
     pub answer: Checked,
     pub floor: Floor,

@@ -64,7 +64,7 @@ pub fn head(text: &[u8]) -> Floor
 }
 
 // The columns at which the carriers' lines begin, and their dock counts.
-#[derive(Drop)]
+#[derive(Clone, Copy)]
 struct Lines {
     at: [usize; 8],
     counts: [u16; 8],

@@ -1,5 +1,7 @@
 // The machine's state in lent memory: its places, records, channels and count, and the test that a memory is a state. The
 // functions here are helpers between crates: what they require is checked by the entries of `machine`.
+#![tactic(auto)]
+
 mod carriers;
 mod channels;
 mod checks;

@@ -1,5 +1,7 @@
 // The steps of document 01 over the state in lent memory: a step as a number, which steps are there and open, and what an open step
 // does. The functions are helpers of `machine`, whose entries check what they require.
+#![tactic(auto)]
+
 mod naming;
 mod openness;
 mod taking;
@@ -9,7 +11,7 @@ pub use openness::{is_open, is_silent, waits};
 pub use taking::{rows_for, take};
 
 // A step; carriers count from 0.
-#[derive(Drop)]
+#[derive(Clone, Copy)]
 pub enum Step {
     // Carrier i plans.
     Plan(usize),
@@ -18,7 +20,7 @@ pub enum Step {
 }
 
 // A step as it is asked for.
-#[derive(Drop)]
+#[derive(Clone, Copy)]
 pub enum Asked {
     // A step.
     Known(Step),
@@ -27,7 +29,7 @@ pub enum Asked {
 }
 
 // What a step that was taken answers.
-#[derive(Drop)]
+#[derive(Clone, Copy)]
 pub enum Taken {
     // Planned and kept.
     Kept,

@@ -1,5 +1,7 @@
 // Who shuts the stranded carriers of a floor in (document 02, slip 8), as text over fixed arrays: a line a stranded carrier, and the floor
 // with them at their starts; of a refused sheet the line of the refusal. For the program `desk`.
+#![tactic(auto)]
+
 mod lines;
 
 ghost use Rattle.std.specs.Prelude.{◌≡◌, ◌+◌, ◌*◌, ◌≤◌, ◌<◌, length, take};

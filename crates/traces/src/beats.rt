@@ -6,7 +6,7 @@ use canvas::{answers, ground, page};
 use wording::fill;
 
 // The things that there are for each beat.
-#[derive(Drop)]
+#[derive(Clone, Copy)]
 pub enum Beat {
     // A point of the trace of a carrier.
     Point,

@@ -8,7 +8,7 @@ use canvas::{answers, ground, page};
 use wording::{fill, put};
 
 // The things that there are for each carrier.
-#[derive(Drop)]
+#[derive(Clone, Copy)]
 pub enum Part {
     // Its arrival in words, for readers who hear the picture.
     Words,

@@ -1,5 +1,7 @@
 // Trying delivery orders (document 02, slip 1): a whole run from fresh to silent in one of three orders, every step taken
 // reported with its answer.
+#![tactic(auto)]
+
 mod choice;
 mod generator;
 mod places;
@@ -16,7 +18,7 @@ pub use places::{answer_number, count, number_of, step_at};
 pub use play::most_steps;
 
 // The answer to a trial.
-#[derive(Drop)]
+#[derive(Clone, Copy)]
 pub enum Tried {
     // The number of steps taken, as many as the report has entries.
     Steps(usize),

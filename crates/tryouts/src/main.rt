@@ -10,6 +10,8 @@
 //     @ draw 73           the floor beat by beat
 //     @ at 3 73           the floor at beat 3
 //     @ sheet 73          the sheet of a map of 73 bytes, or what is wrong with it
+#![tactic(auto)]
+
 ghost use Rattle.std.specs.Prelude.{◌≡◌, length};
 
 use libc::STDIN_FILENO;

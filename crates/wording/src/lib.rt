@@ -1,5 +1,7 @@
 // Words and numbers put into a text, one behind the other. All but `put_decimal` answer for any column and any memory: a piece that does
 // not fit is left out. Helpers of the crates that print sentences and pictures.
+#![tactic(auto)]
+
 ghost use Rattle.std.specs.Prelude.{◌≡◌, ◌+◌, ◌%◌, ◌≤◌, ◌<◌, length};
 ghost use Rattle.io.specs.Counts.{IsPrefixLen};
 ghost use Rattle.reporting.specs.Put.{PutAt};
