@@ -4,11 +4,5 @@ pub mod FiveColumns
 pub mod StoreLaws
 pub mod ReachedLaws
 pub mod CountLaws
-pub mod CallLaws
-pub mod ReaderCalls
-pub mod ThinLaws
 pub mod ReaderLaws
 pub mod ColumnLaws
-pub mod LinesParts
-pub mod LinesLoop
-pub mod LinesLaws
