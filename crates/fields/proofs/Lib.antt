@@ -1,4 +1,4 @@
--- Laws of the form of a field, of stores one behind the other, of columns, and of the walks over the reader.
+-- Laws of the form of a field, of stores one behind the other, of columns, and of the loops over the reader.
 pub mod WrittenLaws
 pub mod FiveColumns
 pub mod StoreLaws
