@@ -19,7 +19,7 @@ returns-in_default c =
     let no = c.in_default.is in
     let back = refused_reading _ _ (handed_on _ _ _ line no c.checked.ensures) (then_refused _ (line_refused _ _ line no))
     c.refused.ensures in
-    record { answers = back.0; returns = back.1; }
+    record { answers = back.0; returns = back.1 }
 
 pub head-f-requires : goal.head-f-requires
 head-f-requires c =
@@ -31,7 +31,7 @@ returns-in_default-limited c =
     let told = behind_head _ _ c.line_form-line.ensures c.in-At.is c.head-f.ensures
     (ends_at _ c.limits-limited.ensures no) in
     let back = refused_reading _ _ told (refuses told no) c.refused-in_default-limited.ensures in
-    record { answers = back.0; returns = back.1; }
+    record { answers = back.0; returns = back.1 }
 
 pub rest_form-rest-requires : goal.rest_form-rest-requires
 rest_form-rest-requires c =
@@ -42,7 +42,7 @@ returns-in_default-rest c =
     let told = behind_head _ _ c.line_form-line.ensures c.in-At.is c.head-f.ensures
     (then_next c.limits-limited.ensures c.in-Passed.is c.rest_form-rest.ensures) in
     let back = refused_reading _ _ told (refuses told c.in_default-rest.is) c.refused-in_default-rest.ensures in
-    record { answers = back.0; returns = back.1; }
+    record { answers = back.0; returns = back.1 }
 
 pub floor-requires : goal.floor-requires
 unfolding rest_form

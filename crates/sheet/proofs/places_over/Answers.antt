@@ -12,7 +12,7 @@ pub walls-requires : goal.walls-requires
 walls-requires c =
     let f = c.requires.text_value.1 in
     let w = walls_there _ c.requires.text_value.0 _ f (omega (arith, c.requires.walls_in_bounds, ap (λ (f : Floor). f.walls) f)) in
-    record { width_bound = w.0; carriers_bound = w.1.0; walls_in_bounds = w.1.1; }
+    record { width_bound = w.0; carriers_bound = w.1.0; walls_in_bounds = w.1.1 }
 
 pub returns : goal.returns
 returns c =

@@ -40,7 +40,7 @@ walls-requires c =
     let told = own_then_length _ _ _ _ own.answers own.returns yes c.check_length-length.ensures in
     let ok = read_tells _ _ (passes told c.in-Passed-length.is) in
     let w = walls_there _ ok.form _ (own_floor _ _ own.returns (passes own.answers yes)) ok.enough in
-    record { width_bound = w.0; carriers_bound = w.1.0; walls_in_bounds = w.1.1; }
+    record { width_bound = w.0; carriers_bound = w.1.0; walls_in_bounds = w.1.1 }
 
 pub returns : goal.returns
 unfolding read_floor read_walls verdict_of

@@ -15,15 +15,15 @@ unfolding write_verdict
 returns-in_default c =
     let v : verdict_of c.check-checked.result ≡ write_verdict c.args.f c.args.walls.now (length c.args.out.now) = search chain depth 7 in
     let t = write_refused _ _ c.args.out.now v c.in_default.is in
-    record { answers = t.0; stores = t.1; }
+    record { answers = t.0; stores = t.1 }
 
 pub returns-in_default-length : goal.returns-in_default-length
 unfolding write_verdict
 returns-in_default-length c =
     let v : verdict_of c.check_length-length.result ≡ write_verdict c.args.f c.args.walls.now (length c.args.out.now) =
-        rw (← c.sheet_length.ensures) (search chain depth 7) in
+    rw (← c.sheet_length.ensures) (search chain depth 7) in
     let t = write_refused _ _ c.args.out.now v c.in_default-length.is in
-    record { answers = t.0; stores = t.1; }
+    record { answers = t.0; stores = t.1 }
 
 pub put_sheet-requires : goal.put_sheet-requires
 put_sheet-requires c =
@@ -38,6 +38,6 @@ pub returns : goal.returns
 unfolding write_verdict verdict_of
 returns c =
     let v : passed ≡ write_verdict c.args.f c.args.walls.now (length c.args.out.now) =
-        rw (← c.sheet_length.ensures) (search (then_next, passed_is) depth 7) in
+    rw (← c.sheet_length.ensures) (search (then_next, passed_is) depth 7) in
     let t = write_passed _ _ _ _ v c.put_sheet.ensures in
-    record { answers = t.0; stores = t.1; }
+    record { answers = t.0; stores = t.1 }

@@ -13,10 +13,10 @@ put_head-requires c =
 pub put_carriers-requires : goal.put_carriers-requires
 unfolding sheet_length wall_at
 put_carriers-requires c = record {
-      carriers_bound = (c.requires.carriers_bound.0, c.requires.walls_in_bounds.1);
-      counts_within = c.requires.carriers_bound.1;
-      carriers_in_bounds = omega (arith, c.requires.f_in_bounds);
-    }
+  carriers_bound = (c.requires.carriers_bound.0, c.requires.walls_in_bounds.1);
+  counts_within = c.requires.carriers_bound.1;
+  carriers_in_bounds = omega (arith, c.requires.f_in_bounds);
+}
 
 pub returns : goal.returns
 returns c =

@@ -17,14 +17,13 @@ overflow_add-at-in-loop-i c =
     record { fits = omega (arith, many.fits, c.loop-i.invariant.1.1, c.dock_count.ensures.1, c.loop-i-test.true) }
 
 pub loop-i-preserved : goal.loop-i-preserved
-loop-i-preserved c =
-    (
-      search rules,
-      (
-        carrier_next _ _ _ _ c.loop-i.invariant.1.0 c.dock_count.ensures.0,
-        omega (arith, c.loop-i.invariant.1.1, c.dock_count.ensures.1),
-      ),
-    )
+loop-i-preserved c = (
+  search rules,
+  (
+    carrier_next _ _ _ _ c.loop-i.invariant.1.0 c.dock_count.ensures.0,
+    omega (arith, c.loop-i.invariant.1.1, c.dock_count.ensures.1),
+  ),
+)
 
 pub returns : goal.returns
 returns c =

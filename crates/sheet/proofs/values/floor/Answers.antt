@@ -5,10 +5,10 @@ use Rattle.sheet.proofs.values.floor.Goals as goal
 
 pub starts-requires : goal.starts-requires
 starts-requires c = record {
-      width_bound = c.requires.width_bound;
-      carriers_bound = c.requires.carriers_bound;
-      at_value = c.lines_of-lines.ensures.columns;
-    }
+  width_bound = c.requires.width_bound;
+  carriers_bound = c.requires.carriers_bound;
+  at_value = c.lines_of-lines.ensures.columns;
+}
 
 pub docks-requires : goal.docks-requires
 unfolding counts_at

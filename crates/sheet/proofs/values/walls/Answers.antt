@@ -11,9 +11,9 @@ loop-j-init c = search lists
 
 pub cell-requires : goal.cell-requires
 cell-requires c = record {
-      width_bound = c.requires.width_bound;
-      at_in_bounds = omega (arith, c.requires.walls_in_bounds, c.loop-j-test.true, c.walls_at-base.ensures.0);
-    }
+  width_bound = c.requires.width_bound;
+  at_in_bounds = omega (arith, c.requires.walls_in_bounds, c.loop-j-test.true, c.walls_at-base.ensures.0);
+}
 
 pub bounds-out-j : goal.bounds-out-j
 bounds-out-j c = omega (arith, listed_keeps _ _ _ _ (omega arith) c.loop-j.invariant.1)
