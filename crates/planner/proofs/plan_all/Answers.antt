@@ -40,7 +40,10 @@ make-requires c =
     let able = p.searchable 0 [] p.some (omega arith) in
     let grid = scene_grid c.args.f able.width.0 able.width.1 able.height in
     rw c.search_grid_of.ensures
-    ((record { grid = grid; short = p.horizon; lent = omega arith }, able.clean, able.long), c.empty-table.ensures)
+    (record {
+      fits = (record { grid = grid; short = p.horizon; lent = omega arith }, able.clean, able.long);
+      table_value = c.empty-table.ensures;
+    })
 
 pub loop-i-init : goal.loop-i-init
 loop-i-init c = (
