@@ -29,7 +29,7 @@ fn packed(low: u64, second: u16, rest: usize) -> u64
 
 // The word of what is done: a case and a number.
 pub fn done(case: u16, n: usize) -> u64
-    ensures { result ≡ word_of (value (of case n)) }
+    ensures { result ≡ word_of (value (done case n)) }
 {
     packed(0, case, n)
 }

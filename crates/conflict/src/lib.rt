@@ -49,7 +49,7 @@ fn too_short() -> Compared
 
 // The first conflict of two lent routes through the horizon, of which 64 cells each are read; a horizon above 63 counts as 63.
 pub fn conflict(r: &[u16], q: &[u16], horizon: u16) -> Compared
-    ensures answers { compared_outcome result ≡ conflict_outcome r.now q.now horizon }
+    ensures { compared_outcome result ≡ conflict_outcome r.now q.now horizon }
 {
     if r.len() < CELLS {
         return too_short();

@@ -102,7 +102,7 @@ fn answer(f: Floor, walls: &[u16], carrier: u16, numbers: &[u16]) -> Legality
 // Whether a record, of which 65 numbers are read, is a route of a carrier of a floor: none or not heard, a route with its arrival, or
 // the first thing that is wrong.
 pub fn check_record(f: Floor, walls: &[u16], carrier: u16, numbers: &[u16]) -> Legality
-    ensures answers { legality_outcome result ≡ record_outcome f walls.now carrier numbers.now }
+    ensures { legality_outcome result ≡ record_outcome f walls.now carrier numbers.now }
 {
     let asked = request(f, walls, carrier, numbers.len());
     let Checked::Refused(x) = asked else {
@@ -113,7 +113,7 @@ pub fn check_record(f: Floor, walls: &[u16], carrier: u16, numbers: &[u16]) -> L
 
 // The arrival of a lent route, of which 64 cells are read, through the horizon; a horizon above 63 counts as 63.
 pub fn arrival(cells: &[u16], horizon: u16) -> Arrived
-    ensures answers { arrived_outcome result ≡ arrival_outcome cells.now horizon }
+    ensures { arrived_outcome result ≡ arrival_outcome cells.now horizon }
 {
     if cells.len() < CELLS {
         return Arrived::Refused(Refusal {

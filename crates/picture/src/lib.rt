@@ -306,7 +306,7 @@ fn put_read(f: Floor, walls: &[u16], out: &mut [u8]) -> usize {
 
 // Prints the picture of any text that is a sheet, and of any other text the line of its refusal; the number of printed bytes is returned.
 pub fn print(text: &[u8], out: &mut [u8; TEXT_LENGTH]) -> usize
-    ensures counts { IsPrefixLen result out.new }
+    ensures { IsPrefixLen result out.new }
 {
     let mut walls = sheet::no_walls();
     let reading = sheet::read(text, &mut walls);

@@ -5,7 +5,7 @@ use native.Mathlib.Nat.{add-zero}
 use native.Mathlib.Numerals.{add-one}
 use mathlib.Core.Bool.{Bool, true, false, cond}
 use mathlib.Core.List.{List, [], ◌∷◌, ◌++◌}
-use mathlib.Core.Path.{◌≡◌, refl, sym, ◌∙◌, ap, ap₂}
+use mathlib.Core.Path.{subst, ◌≡◌, refl, sym, ◌∙◌, ap, ap₂}
 use borrow.Author.Count.{below_more}
 use borrow.Author.Tests.{eqb-true, eq-eqb, ne_eqb}
 use lib.Dec.{eqb}
@@ -175,11 +175,12 @@ module _ (f : Floor) (m q q' : List ℕ) (j : ℕ) (short : f.horizon ≤ 63) (l
   pub seen_step : records q j ≡ seen f (records m j) → records q' (j + 1) ≡ seen f (records m (j + 1))
   unfolding records
   seen_step before =
-      rw (add-one j, e)
+      subst (λ (r : List ℕ). records r (j + 1) ≡ seen f (records m (j + 1))) (sym e)
+      (rw (add-one j)
       (ap₂ (λ (vs : List View) (v : View). vs ++ (v ∷ []))
       (put_records q (seen_record f j m) j (omega (arith, seen_length f j m short h)) ∙ before)
       (record_seen f q m j short (omega arith) h)
-      ∙ sym (seen_more f (records m j) (view_at m j) j (records_length m j)))
+      ∙ sym (seen_more f (records m j) (view_at m j) j (records_length m j))))
 
 -- Before the first record, and after the last.
 pub seen_start : (f : Floor) (m q : List ℕ) → records q 0 ≡ seen f (records m 0)

@@ -61,7 +61,7 @@ fn following(c: u16, d: u16, x: u16, y: u16) -> bool
 
 // The first conflict of two routes through the horizon; at one beat same cell comes before change of places, and this before following.
 pub fn first_conflict(r: Route, q: Route, horizon: u16) -> FirstConflict
-    ensures answers { conflict_told result ≡ first_conflict (min horizon 63) r q }
+    ensures { conflict_told result ≡ first_conflict (min horizon 63) r q }
 {
     let last = last_beat(horizon);
     let mut t: usize = 0;
@@ -90,7 +90,7 @@ pub fn first_conflict(r: Route, q: Route, horizon: u16) -> FirstConflict
 
 // The least beat from which a route is at its last cell through the horizon.
 pub fn arrival(r: Route, horizon: u16) -> u16
-    ensures answers { result ≡ arrival_of r (min horizon 63) }
+    ensures { result ≡ arrival_of r (min horizon 63) }
 {
     let last = last_beat(horizon);
     let end = r[last];

@@ -6,27 +6,25 @@ use native.Mathlib.Omega.{arith}
 use mathlib.Core.Path.{◌≡◌, ◌∙◌}
 use Rattle.bitrows.proofs.RowsLaws.{dropped_inside, dropped_outside, place_row}
 use Rattle.bitrows.proofs.drop_at.Goals as goal
+use Rattle.bitrows.proofs.drop_at.Goals.{After-row_of-row}
 
 -- The row of a cell is one of 32, and its column is within the width.
-inside : (c : tie.After-row-of) →
-    let start : tie.Start = search in
-    (c.row_of.result < 32) × (start.args.c % start.args.w < start.args.w)
+inside : (c : After-row_of-row) → (c.row_of-row.result < 32) × (c.args.c % c.args.w < c.args.w)
 inside c =
-    let start : tie.Start = search in
-    let low = place_row start.args.w start.args.c (omega arith) (omega arith) in
-    (rw c.row_of.ensures.0 low, mod-lt start.args.c {m = start.args.w} (omega arith))
+    let low = place_row c.args.w c.args.c (omega arith) (omega arith) in
+    (rw c.row_of-row.ensures.0 low, mod-lt c.args.c {m = c.args.w} (omega arith))
 
 pub overflow_add-i : goal.overflow_add-i
-overflow_add-i c = omega (arith, inside search)
+overflow_add-i c = omega (arith, inside (goal.at.overflow_add-i c).After-row_of-row)
 
 pub overflow_mul-row : goal.overflow_mul-row
-overflow_mul-row c = omega (arith, inside search)
+overflow_mul-row c = omega (arith, inside (goal.at.overflow_mul-row c).After-row_of-row)
 
 pub overflow_sub-c : goal.overflow_sub-c
-overflow_sub-c c = omega (arith, inside search)
+overflow_sub-c c = omega (arith, inside (goal.at.overflow_sub-c c).After-row_of-row)
 
 pub drop-requires : goal.drop-requires
-drop-requires c = (omega (arith, inside search), omega (arith, inside search))
+drop-requires c = (omega (arith, inside (goal.at.drop-requires c).After-row_of-row), omega (arith, inside (goal.at.drop-requires c).After-row_of-row))
 
 pub returns-then-c-cells : goal.returns-then-c-cells
 returns-then-c-cells c =

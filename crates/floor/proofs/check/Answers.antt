@@ -15,8 +15,11 @@ returns-in_default-lent c = search chain depth 7
 pub places-requires : goal.places-requires
 places-requires c =
     let l = limits_passed _ (passes c.limits-limited.ensures c.in-Passed.is) in
-    let w = length_passed _ _ (passes c.check_length-lent.ensures c.in-Passed-lent.is) in
-    ((l.width.1, l.height.1), (l.carriers.1, w))
+    let w = length_passed _ _ (passes c.check_length-lent.ensures c.in-Passed-lent.is) in record {
+      width_bound = (l.width.1, l.height.1);
+      carriers_bound = l.carriers.1;
+      walls_in_bounds = w;
+    }
 
 pub returns : goal.returns
 unfolding check_of lent_of

@@ -1,11 +1,11 @@
 -- `route::arrival` meets its contract. The loop's invariant: `a` is `settled` over the beats passed, and at most their
 -- number. The measure is what is left of the beats. Assumes nothing.
-use mathlib.Core.Logic.{⊎_elim}
 use mathlib.Core.Path.{refl, ◌∙◌}
 use borrow.Author.Rules.{rules}
 use Rattle.route.specs.Arrival.{settled}
 use Rattle.route.proofs.LoopLaws.{settled_turn_away, settled_turn_there, settled_ends}
 use Rattle.route.proofs.arrival.Goals as goal
+use Rattle.route.proofs.arrival.Goals.{then-r-t, else-r-t}
 
 pub loop-t-init : goal.loop-t-init
 unfolding settled
@@ -13,10 +13,10 @@ loop-t-init c = (search rules, search rules, refl)
 
 pub loop-t-preserved : goal.loop-t-preserved
 loop-t-preserved c =
-    ⊎_elim
-    (λ w. (search rules, search rules, w.1 ∙ settled_turn_away _ _ _ w.0.taken))
-    (λ w. (search rules, search rules, w.1 ∙ c.loop-t.invariant.2 ∙ settled_turn_there _ _ _ w.0.left))
-    c.if-r-t.branch
+    elim c.if-r-t.branch [
+      then-r-t w ↦ (search rules, search rules, w.a-is ∙ settled_turn_away _ _ _ w.if-r-t.true)
+    | else-r-t w ↦ (search rules, search rules, w.a-is ∙ c.loop-t.invariant.2 ∙ settled_turn_there _ _ _ w.if-r-t.false)
+    ]
 
 pub returns : goal.returns
 returns c =

@@ -17,17 +17,13 @@ use Rattle.floor.proofs.checks.all_unrepeated.Goals as goal
 abbrev once : List ℕ → List ℕ → ℕ → Bool
 once docks counts i = each (get_or counts i 0) (λ (k : ℕ). not (among (part docks (4 * i) 4) k (get_or (part docks (4 * i) 4) k 0)))
 
--- The record has 32 places for docks.
-docks-long : (place : tie.After-struct-known invariant-loop decreases-loop) → length place.before.args.f.docks ≡ 32
-docks-long place = search rules
-
 pub loop-i-init : goal.loop-i-init
 unfolding verdict_of unrepeated_of unrepeated count_of docks_of dock_of
 loop-i-init c = search tests
 
 pub slice_bounds-unrepeated-end : goal.slice_bounds-unrepeated-end
 slice_bounds-unrepeated-end c =
-    let l = docks-long c in
+    let l : length c.args.f.docks ≡ 32 = search rules in
     let e = c.requires.carriers_bound in
     search rules
 

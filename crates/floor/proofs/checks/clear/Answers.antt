@@ -11,7 +11,7 @@ loop-i-init c = search tests
 
 pub clear_of_walls-requires : goal.clear_of_walls-requires
 clear_of_walls-requires c =
-    let e = c.requires.counts_within.0 _ c.loop-i-test.true in
+    let e = c.requires.counts_within _ c.loop-i-test.true in
     search rules
 
 pub returns-then-not-clear_of_walls : goal.returns-then-not-clear_of_walls

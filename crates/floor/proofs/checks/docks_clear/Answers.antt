@@ -1,4 +1,6 @@
 -- `floor::checks::docks_clear` meets its contract: invariant: no dock passed is a wall.
+use borrow.Author.Rules.{rules}
+use borrow.Author.Rules.{rules}
 use Rattle.laws.proofs.HoldLaws.{hold_turn}
 use Rattle.floor.specs.Checks.{count_of, dock_of, docks_clear}
 use Rattle.floor.proofs.checks.docks_clear.Goals as goal
@@ -20,3 +22,7 @@ pub returns : goal.returns
 unfolding docks_clear count_of dock_of
 returns c =
     rw (← c.docks_of-docks.ensures) (search hold_turn)
+
+pub bounds-docks-k : goal.bounds-docks-k
+unfolding count_of
+bounds-docks-k c = search rules

@@ -24,8 +24,12 @@ returns-in_default-rise c = search chain depth 7
 pub clear-off-requires : goal.clear-off-requires
 clear-off-requires c =
     let counts = passed_counted _ (passes c.carriers_inside-carriers.ensures c.in-Passed.is) in
-    let rising = passed_rising _ _ (passes c.rising-rise.ensures c.in-Passed-rise.is) in
-    (search rules, (counts, (search rules, rising)))
+    let rising = passed_rising _ _ (passes c.rising-rise.ensures c.in-Passed-rise.is) in record {
+      carriers_bound = search rules;
+      counts_within = counts;
+      walls_in_bounds = search rules;
+      strictly_rising = rising;
+    }
 
 pub returns-in_default-off : goal.returns-in_default-off
 unfolding places_of

@@ -1,0 +1,25 @@
+-- `abi::numbers::copy` meets its contract: after t turns t numbers are in place.
+use Rattle.laws.proofs.PutLaws.{copy_start, copy_more, copy_keeps, copy_end}
+use borrow.Author.Rules.{rules}
+use native.Mathlib.Omega.{arith}
+use Rattle.abi.proofs.numbers.copy.Goals as goal
+
+pub loop-t-init : goal.loop-t-init
+loop-t-init c = (search rules, copy_start _ c.args.xs.now _)
+
+pub bounds-out-at : goal.bounds-out-at
+bounds-out-at c =
+    let xs = c.args.xs.now in
+    omega (arith, copy_keeps _ _ xs _ c.loop-t.t c.loop-t.invariant.1 (omega arith) (omega arith))
+
+pub loop-t-preserved : goal.loop-t-preserved
+loop-t-preserved c =
+    let xs = c.args.xs.now in
+    (search rules, copy_more _ _ xs _ c.loop-t.t c.loop-t.invariant.1 (omega arith) (omega arith))
+
+pub shape_of-out : goal.shape_of-out
+shape_of-out c =
+    copy_keeps _ _ c.args.xs.now _ c.loop-t.t c.loop-t.invariant.1 (omega arith) (omega arith)
+
+pub returns : goal.returns
+returns c = copy_end _ _ c.args.xs.now _ c.loop-t.t c.loop-t.invariant.1 (omega arith)

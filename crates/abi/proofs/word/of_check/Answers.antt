@@ -1,0 +1,13 @@
+-- `abi::word::of_check` meets its contract: case by case.
+use Rattle.laws.specs.Verdict.{◌gives◌}
+use Rattle.floor.specs.Answers.{verdict_of}
+use Rattle.abi.specs.Word.{word_of, of_number, map_outcome}
+use Rattle.abi.proofs.word.of_check.Goals as goal
+
+pub returns-in-Passed : goal.returns-in-Passed
+unfolding of_number map_outcome verdict_of word_of ◌gives◌
+returns-in-Passed c = cc
+
+pub returns-in-Refused : goal.returns-in-Refused
+unfolding of_number map_outcome verdict_of word_of ◌gives◌
+returns-in-Refused c = cc
