@@ -1,2 +1,3 @@
 -- Laws of the console's definitions.
+pub mod PartsLaws
 pub mod WithinLaws

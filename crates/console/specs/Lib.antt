@@ -1,2 +1,3 @@
 -- What the contracts of the console cite.
+pub mod Moved
 pub mod Within

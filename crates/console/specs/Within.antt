@@ -15,4 +15,4 @@ InputWithin input.Failed xs = Unit {0}
 abbrev pub PartWithin : ℕ → ℕ → Part → Type 0
 PartWithin least most (part.Moved n) = (least ≤ n) × (n ≤ most)
 PartWithin least most part.NotYet = Unit {0}
-PartWithin least most part.Failed = Unit {0}
+PartWithin least most (part.Failed e) = Unit {0}

@@ -1,13 +1,15 @@
 // Standard input and standard output, whole: all of the input into a lent buffer, all of a text to the output. A call that moves
 // only a part, that a signal interrupts or that finds nothing ready is followed by the next one, and a failure is told from the
-// input's end. A failure is said in a line on standard error. The contracts bound the number of bytes; the bytes that the C library
-// moves are outside any contract.
+// input's end. A failure is said in a line on standard error. Input, output and what failures are said on are any reader and writers;
+// the contracts bound the number of bytes, and say which they are where the reader and the writer say it. Those of the system do not.
 #![tactic(auto)]
 
 ghost use Rattle.std.specs.Prelude.{length};
 ghost use Rattle.console.specs.Within.{InputWithin, PartWithin};
+ghost use Rattle.console.specs.Moved.{InputSaid, InputTaken, OutputPut, OutputSaid, PartRead, PartWritten, PartsRead, PartsWritten};
 
-use libc::{EAGAIN, EINTR, STDERR_FILENO, STDIN_FILENO, STDOUT_FILENO};
+use std::io::{Error, ErrorKind, Read, Write};
+use std::thread;
 
 // The answer of reading standard input.
 #[derive(Clone, Copy)]
@@ -34,8 +36,8 @@ enum Part {
     Moved(usize),
     // Nothing was moved yet: a signal came between, or nothing is ready.
     NotYet,
-    // The call failed; `os::errno` says why.
-    Failed,
+    // The call failed, and why.
+    Failed(Error),
 }
 
 // The number of calls in a row that may move nothing before they are given up: some minutes of waiting.
@@ -43,61 +45,67 @@ const TURNS: u64 = 200000000;
 
 // Lets other processes run before the next call.
 fn pause() {
-    libc::sched_yield();
+    thread::yield_now();
 }
 
-// Whether the call that just failed may succeed later: a signal interrupted it, or nothing is ready yet.
-fn is_for_now() -> bool {
-    let error = os::errno();
-    if error == EAGAIN {
-        pause();
-        return true;
+// Whether the call that failed so may succeed later: a signal interrupted it, or nothing is ready yet.
+fn is_for_now(error: Error) -> bool {
+    match error.kind() {
+        ErrorKind::WouldBlock => {
+            pause();
+            true
+        }
+        ErrorKind::Interrupted => true,
+        _ => false,
     }
-    error == EINTR
 }
 
-// One read of standard input; it moves 0 bytes only at the input's end.
-fn read_once(buf: &mut [u8]) -> Part
-    ensures { PartWithin 0 (length buf.new) result }
+// One read of the input; it moves 0 bytes only at the input's end.
+fn read_once<R: Read>(reader: &mut R, buf: &mut [u8]) -> Part
+    ensures within { PartWithin 0 (length buf.new) result }
+    ensures bytes { PartRead (R.remaining reader.old) (R.remaining reader.new) result buf.new }
 {
-    let got = libc::read(STDIN_FILENO, buf);
-    if got >= 0 {
-        return Part::Moved(io::count(got, buf));
-    }
-    if is_for_now() {
-        Part::NotYet
-    } else {
-        Part::Failed
+    match reader.read(buf) {
+        Ok(n) => Part::Moved(n),
+        Err(e) => {
+            if is_for_now(e) {
+                Part::NotYet
+            } else {
+                Part::Failed(e)
+            }
+        }
     }
 }
 
-// One write to standard output; one that takes 0 bytes has moved nothing yet.
-fn write_once(text: &[u8]) -> Part
-    ensures { PartWithin 1 (length text.now) result }
+// One write to the output; one that takes 0 bytes has moved nothing yet.
+fn write_once<W: Write>(writer: &mut W, text: &[u8]) -> Part
+    ensures within { PartWithin 1 (length text.now) result }
+    ensures bytes { PartWritten (W.contents writer.old) (W.contents writer.new) result text.now }
 {
-    let put = libc::write(STDOUT_FILENO, text);
-    let n = io::count(put, text);
-    if n > 0 {
-        return Part::Moved(n);
-    }
-    if put == 0 {
-        pause();
-        return Part::NotYet;
-    }
-    if is_for_now() {
-        Part::NotYet
-    } else {
-        Part::Failed
+    match writer.write(text) {
+        Ok(0) => {
+            pause();
+            Part::NotYet
+        }
+        Ok(n) => Part::Moved(n),
+        Err(e) => {
+            if is_for_now(e) {
+                Part::NotYet
+            } else {
+                Part::Failed(e)
+            }
+        }
     }
 }
 
 // Reads until a call moves bytes, finds the input's end or fails, or the turns are used up.
-fn read_some(buf: &mut [u8]) -> Part
-    ensures { PartWithin 0 (length buf.new) result }
+fn read_some<R: Read>(reader: &mut R, buf: &mut [u8]) -> Part
+    ensures within { PartWithin 0 (length buf.new) result }
+    ensures bytes { PartRead (R.remaining reader.old) (R.remaining reader.new) result buf.new }
 {
     let mut turns = TURNS;
     while turns > 0 {
-        let part = read_once(buf);
+        let part = read_once(reader, buf);
         let Part::NotYet = part else {
             return part;
         };
@@ -107,12 +115,13 @@ fn read_some(buf: &mut [u8]) -> Part
 }
 
 // Writes until a call moves bytes or fails, or the turns are used up.
-fn write_some(text: &[u8]) -> Part
-    ensures { PartWithin 1 (length text.now) result }
+fn write_some<W: Write>(writer: &mut W, text: &[u8]) -> Part
+    ensures within { PartWithin 1 (length text.now) result }
+    ensures bytes { PartWritten (W.contents writer.old) (W.contents writer.new) result text.now }
 {
     let mut turns = TURNS;
     while turns > 0 {
-        let part = write_once(text);
+        let part = write_once(writer, text);
         let Part::NotYet = part else {
             return part;
         };
@@ -122,12 +131,13 @@ fn write_some(text: &[u8]) -> Part
 }
 
 // Reads part after part until the input ends or the buffer is full, and counts the bytes of all parts.
-fn read_all(buf: &mut [u8]) -> Part
-    ensures { PartWithin 0 (length buf.new) result }
+fn read_all<R: Read>(reader: &mut R, buf: &mut [u8]) -> Part
+    ensures within { PartWithin 0 (length buf.new) result }
+    ensures bytes { PartsRead (R.remaining reader.old) (R.remaining reader.new) result buf.new }
 {
     let mut n = 0;
     while n < buf.len() {
-        let part = read_some(&mut buf[n..]);
+        let part = read_some(reader, &mut buf[n..]);
         match part {
             Part::Moved(more) => {
                 if more == 0 {
@@ -136,63 +146,77 @@ fn read_all(buf: &mut [u8]) -> Part
                 n += more;
             }
             Part::NotYet => return Part::NotYet,
-            Part::Failed => return Part::Failed,
+            Part::Failed(e) => return Part::Failed(e),
         }
     }
     Part::Moved(n)
 }
 
 // Writes part after part until all of the text is written, and counts the bytes of all parts.
-fn write_all(text: &[u8]) -> Part
-    ensures { PartWithin (length text.now) (length text.now) result }
+fn write_all<W: Write>(writer: &mut W, text: &[u8]) -> Part
+    ensures within { PartWithin (length text.now) (length text.now) result }
+    ensures bytes { PartsWritten (W.contents writer.old) (W.contents writer.new) result text.now }
 {
     let mut n = 0;
     while n < text.len() {
-        let part = write_some(&text[n..]);
+        let part = write_some(writer, &text[n..]);
         match part {
             Part::Moved(more) => n += more,
             Part::NotYet => return Part::NotYet,
-            Part::Failed => return Part::Failed,
+            Part::Failed(e) => return Part::Failed(e),
         }
     }
     Part::Moved(n)
 }
 
-// Says on standard error that the turns were used up, under the name of the input or output.
-fn give_up(name: &[u8]) {
-    io::write_all(STDERR_FILENO, name);
-    io::write_all(STDERR_FILENO, b": not ready for too long, given up\n");
+// Says that the turns were used up, under the name of the input or output. A line that cannot be said is left.
+fn give_up<E: Write>(errors: &mut E, name: &[u8]) {
+    let _ = errors.write_all(name);
+    let _ = errors.write_all(b": not ready for too long, given up\n");
 }
 
-// Reads all of standard input into lent memory, or its first bytes where it is longer; a failure is said under the input's name.
-pub fn read(name: &[u8], buf: &mut [u8]) -> Input
-    ensures { InputWithin result buf.new }
+// Says what failed, under the name of the input or output, and why. A line that cannot be said is left.
+fn fail<E: Write>(errors: &mut E, name: &[u8], error: Error) {
+    let _ = errors.write_all(name);
+    let _ = writeln!(errors, ": {error}");
+}
+
+// Reads all of the input into lent memory, or its first bytes where it is longer; a failure is said under the input's name.
+#[tactic(auto, using(crate::proofs::WithinLaws::counts_within), unfolding(crate::specs::Within::InputWithin, crate::specs::Moved::InputTaken, crate::specs::Moved::InputSaid))]
+pub fn read<R: Read, E: Write>(reader: &mut R, errors: &mut E, name: &[u8], buf: &mut [u8]) -> Input
+    ensures within { InputWithin result buf.new }
+    ensures bytes { InputTaken (R.remaining reader.old) (R.remaining reader.new) result buf.new }
+    ensures said { InputSaid (E.contents errors.old) (E.contents errors.new) result }
 {
-    let part = read_all(buf);
+    let part = read_all(reader, buf);
     match part {
         Part::Moved(n) => Input::Read(n),
         Part::NotYet => {
-            give_up(name);
+            give_up(errors, name);
             Input::Failed
         }
-        Part::Failed => {
-            os::fail(name);
+        Part::Failed(e) => {
+            fail(errors, name, e);
             Input::Failed
         }
     }
 }
 
-// Writes all of a text to standard output; a failure is said under the output's name.
-pub fn write(name: &[u8], text: &[u8]) -> Output {
-    let part = write_all(text);
+// Writes all of a text to the output; a failure is said under the output's name.
+#[tactic(auto, unfolding(crate::specs::Moved::OutputPut, crate::specs::Moved::OutputSaid))]
+pub fn write<W: Write, E: Write>(writer: &mut W, errors: &mut E, name: &[u8], text: &[u8]) -> Output
+    ensures bytes { OutputPut (W.contents writer.old) (W.contents writer.new) result text.now }
+    ensures said { OutputSaid (E.contents errors.old) (E.contents errors.new) result }
+{
+    let part = write_all(writer, text);
     match part {
         Part::Moved(_) => Output::Written,
         Part::NotYet => {
-            give_up(name);
+            give_up(errors, name);
             Output::Failed
         }
-        Part::Failed => {
-            os::fail(name);
+        Part::Failed(e) => {
+            fail(errors, name, e);
             Output::Failed
         }
     }

@@ -1,23 +1,31 @@
-// Printing.
+// Printing, to any writer.
+ghost use Rattle.std.specs.Prelude.{OnOk, ◌∷◌, decimal};
+ghost use Rattle.std.specs.Io.KnownBytes.{Appends};
+
 use crate::memory;
-use libc::STDOUT_FILENO;
+use std::io;
+use std::io::Write;
 
 // A text.
-pub fn text(bytes: &[u8]) {
-    io::write_all(STDOUT_FILENO, bytes);
+pub fn text<W: Write>(out: &mut W, bytes: &[u8]) -> io::Result<()>
+    ensures { OnOk result (Appends (W.contents out.old) (W.contents out.new) bytes.now) }
+{
+    out.write_all(bytes)
 }
 
 // A number, with a space before it.
-pub fn number(n: usize) {
-    text(b" ");
-    io::print_decimal(STDOUT_FILENO, n as u64);
+pub fn number<W: Write>(out: &mut W, n: usize) -> io::Result<()>
+    ensures { OnOk result (Appends (W.contents out.old) (W.contents out.new) (32 ∷ decimal n)) }
+{
+    write!(out, " {n}")
 }
 
 // So many numbers of a memory, from its front on.
-pub fn numbers(m: &[u16], n: usize) {
+pub fn numbers<W: Write>(out: &mut W, m: &[u16], n: usize) -> io::Result<()> {
     let mut i: usize = 0;
     while i < n {
-        number(memory::wide_at(m, i));
+        number(out, memory::wide_at(m, i))?;
         i += 1;
     }
+    Ok(())
 }

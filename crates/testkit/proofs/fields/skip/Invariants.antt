@@ -1,0 +1,10 @@
+-- `testkit::fields::skip` is safe and ends: each byte in turn.
+use Prim.Native.Nat.{◌-◌}
+use lib.ListN.{length}
+use Rattle.testkit.proofs.fields.skip.Given as goal
+
+abbrev pub invariant-loop-i : goal.invariant-loop-i
+invariant-loop-i l = Unit {0}
+
+abbrev pub decreases-loop-i : goal.decreases-loop-i
+decreases-loop-i l = length l.text - l.i
