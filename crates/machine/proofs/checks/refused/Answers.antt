@@ -2,9 +2,8 @@
 use mathlib.Core.Path.{refl}
 use Rattle.laws.specs.Verdict.{demand}
 use Rattle.floor.specs.Answers.{verdict_of}
-use Rattle.machine.proofs.checks.refused.Statement.{statement}
-use Rattle.machine.proofs.checks.refused.Tie as tie
+use Rattle.machine.proofs.checks.refused.Goals as goal
 
-pub refused-spec : {M : Type 1} → statement M
+pub returns : goal.returns
 unfolding verdict_of demand
-refused-spec = tie.close (tie.spec (λ c. refl))
+returns c = refl
