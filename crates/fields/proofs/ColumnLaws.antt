@@ -1,9 +1,9 @@
 -- The columns of lines one behind the other: what good form tells of the next one, and how far they go.
 use Prim.Native.Nat.{ℕ, zero, suc, ◌+◌, ◌*◌, ◌≤◌, ◌<◌}
 use native.Mathlib.Omega.{arith}
-use mathlib.Core.Path.{◌≡◌, refl}
+use mathlib.Core.Path.{◌≡◌}
 use mathlib.Core.List.{List}
-use Rattle.laws.specs.Verdict.{Verdict, passed, ◌then◌, in_turn}
+use Rattle.laws.specs.Verdict.{Verdict, passed, in_turn}
 use Rattle.laws.proofs.VerdictLaws.{then_both}
 use Rattle.fields.specs.Field.{number_at}
 use Rattle.fields.specs.Form.{counted_form, counted_length, past_counted, past_pair, column_past, lines_form, line_form}

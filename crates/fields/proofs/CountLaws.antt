@@ -1,16 +1,16 @@
 -- A field that counts 1 to 4: what its tests answer.
 use Prim.Native.Nat.{ℕ, ◌+◌, ◌≤◌, ◌<◌}
 use native.Mathlib.Omega.{arith}
-use mathlib.Core.Path.{◌≡◌, refl, sym, ◌∙◌}
-use mathlib.Core.Bool.{Bool, true, false, ◌&&◌, and-eq-true_iff, and-false}
+use mathlib.Core.Path.{◌≡◌}
+use mathlib.Core.Bool.{true, false, and-eq-true_iff, and-false}
 use mathlib.Core.List.{List}
 use borrow.Author.Tests.{leb-true, le-leb, lt-leb}
 use lib.ListN.{length}
 use lib.Dec.{leb}
 use Rattle.floor.specs.Checks.{within}
-use Rattle.laws.specs.Verdict.{Verdict, passed, refused, ◌then◌, demand}
+use Rattle.laws.specs.Verdict.{passed, refused, demand}
 use Rattle.laws.proofs.VerdictLaws.{then_both, then_passed, demand_holds, demand_passes, demand_refuses}
-use Rattle.fields.specs.Field.{number_at, is_field}
+use Rattle.fields.specs.Field.{number_at}
 use Rattle.fields.specs.Form.{field_form, count_form}
 use Rattle.fields.specs.declared.slot.Reached.{Reached}
 use Rattle.fields.specs.declared.slot.Reached.TheVariants.{At}
@@ -72,3 +72,6 @@ module _ (text : List ℕ) (at : ℕ) {form : Reached} {x y : ℕ} (field : form
         demand_passes 1 at (within_holds 1 4 (number_at text at) (omega (arith, l, number)) (omega (arith, g, number))),
       )
       (rw good at field)
+
+-- What the answers of a function that tests a count take.
+pub ruleset counts = (count_below, count_above, count_good)

@@ -1,14 +1,8 @@
--- Laws of the form of a field, of stores one behind the other, of columns, and of the walks over the reader.
+-- Laws of the form of a field, of stores one behind the other, of columns, and of the loops over the reader.
 pub mod WrittenLaws
 pub mod FiveColumns
 pub mod StoreLaws
 pub mod ReachedLaws
 pub mod CountLaws
-pub mod CallLaws
-pub mod ReaderCalls
-pub mod ThinLaws
 pub mod ReaderLaws
 pub mod ColumnLaws
-pub mod LinesParts
-pub mod LinesLoop
-pub mod LinesLaws

@@ -1,11 +1,11 @@
 -- The loop over lines one behind the other: how far the reader has come, and what is known there.
-use Prim.Native.Nat.{ℕ, suc, ◌+◌, ◌*◌, ◌-◌, ◌≤◌, ◌<◌}
+use Prim.Native.Nat.{ℕ, ◌+◌, ◌≤◌, ◌<◌}
 use native.Mathlib.Omega.{arith}
 use native.Mathlib.Numerals.{add-one}
-use mathlib.Core.Path.{◌≡◌, refl, sym, ◌∙◌}
+use mathlib.Core.Path.{◌≡◌, refl}
 use Rattle.floor.specs.declared.Refusal.{Refusal}
-use Rattle.laws.specs.Verdict.{Verdict, passed, refused, in_turn}
-use Rattle.laws.proofs.VerdictLaws.{turn_none, turn_more, turn_stop, turn_end}
+use Rattle.laws.specs.Verdict.{Verdict, passed}
+use Rattle.laws.proofs.VerdictLaws.{turn_none, turn_more, turn_stop}
 use Rattle.fields.specs.declared.slot.Reached.{Reached}
 use Rattle.fields.specs.declared.slot.Reached.TheVariants.{At, Refused}
 use Rattle.fields.specs.Reached.{reached_of}

@@ -1,6 +1,5 @@
 -- What a reader's answer says in document 01's terms: for each case its number and values.
 use Rattle.std.specs.Prelude.{ℕ}
-use Rattle.floor.specs.declared.Refusal.{Refusal}
 use Rattle.laws.specs.Verdict.{Verdict, passed, refused}
 use Rattle.fields.specs.declared.slot.Reached.{Reached}
 use Rattle.fields.specs.declared.slot.Reached.TheVariants.{At, Refused}

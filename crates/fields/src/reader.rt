@@ -1,7 +1,5 @@
 // The reader of a sheet: the text together with its next column (document 01, 'The sheet'). It goes along the sheet from line to line
-// and hands back the column that it reached. A struct that holds a slice is proved by a walk of each function over it, so these are few
-// and thin: each calls one that takes the slice and the number. `counted_lines` and `pair_lines`, which have plain parameters, are what
-// everybody else calls.
+// and hands back the column that it reached. `counted_lines` and `pair_lines`, which have plain parameters, are what everybody else calls.
 ghost use Rattle.std.specs.Prelude.{◌≡◌, ◌+◌, ◌*◌, ◌≤◌};
 ghost use Rattle.fields.specs.Form.{line_form, counted_form, past_counted, past_pair, column_past, lines_form};
 ghost use Rattle.fields.specs.Reached.{reached_of};

@@ -50,6 +50,7 @@ pub fn field_form(text: &[u8], at: usize) -> Reached
 }
 
 // The field at a column, which counts 1 to 4.
+#[tactic(auto, using(crate::proofs::CountLaws::counts))]
 pub fn count_form(text: &[u8], at: usize) -> Reached
     requires { at ≤ 65536 }
     ensures { result ≡ reached_of (count_form text.now at) (at + 5) }

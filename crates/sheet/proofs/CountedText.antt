@@ -1,20 +1,19 @@
 -- Counted lines read and written: a counted line in good form is the text of its numbers, and the other way round.
-use Prim.Native.Nat.{ℕ, suc, ◌+◌, ◌*◌, ◌≤◌, ◌<◌}
+use Prim.Native.Nat.{ℕ, ◌+◌, ◌*◌, ◌≤◌}
 use native.Mathlib.Omega.{arith}
-use mathlib.Core.Path.{◌≡◌, refl, sym, ◌∙◌, ap, ap₂}
-use mathlib.Core.List.{List, [], ◌∷◌, ◌++◌}
+use mathlib.Core.Path.{◌≡◌, ◌∙◌, ap₂}
+use mathlib.Core.List.{List, ◌∷◌, ◌++◌}
 use lib.ListN.{length}
 use Rattle.laws.specs.Verdict.{passed}
 use Rattle.laws.specs.Memory.{part}
 use Rattle.laws.proofs.PartLaws.{part_split}
 use Rattle.laws.proofs.VerdictLaws.{then_both, then_passed, demand_passes, turn_passes}
-use Rattle.floor.specs.Checks.{within}
 use Rattle.floor.proofs.LimitsLaws.{within_means}
-use Rattle.fields.specs.Field.{field_of, number_at}
-use Rattle.fields.specs.Form.{field_form, line_form, count_form, counted_form, counted_length}
+use Rattle.fields.specs.Field.{number_at}
+use Rattle.fields.specs.Form.{line_form, count_form, counted_form, counted_length}
 use Rattle.sheet.specs.Text.{line_of}
 use Rattle.sheet.proofs.FieldLaws.{field_text}
-use Rattle.sheet.proofs.LineText.{numbers_from, line_text, Small, LineTells, text_fields}
+use Rattle.sheet.proofs.LineText.{numbers_from, line_text, Small, text_fields}
 
 -- A counted line in good form is the text of its numbers.
 pub counted_text : (text : List ℕ) (at : ℕ) → counted_form text at ≡ passed

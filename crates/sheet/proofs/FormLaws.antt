@@ -14,7 +14,6 @@ use Rattle.floor.proofs.SameLaws.{places_same, walls_agree}
 use Rattle.fields.specs.Field.{number_at}
 use Rattle.fields.specs.Form.{newline_form, line_form, counted_form, counted_length, past_counted, past_pair, column_past, lines_form, end_form}
 use Rattle.fields.proofs.ColumnLaws.{counted_tells, counted_columns, pair_columns}
-use Rattle.sheet.specs.Text.{carrier_at, wall_at}
 use Rattle.sheet.specs.Form.{carrier_column, wall_column, rest_form}
 use Rattle.sheet.specs.Values.{value_at, count_in, head_at, floor_at, walls_from, walls_at}
 use Rattle.sheet.specs.Read.{form_of}

@@ -1,11 +1,11 @@
 -- The lines after line 1, checked from column to column: what is answered at each end of the chain.
-use Prim.Native.Nat.{ℕ, ◌+◌, ◌*◌, ◌≤◌}
+use Prim.Native.Nat.{ℕ, ◌≤◌}
 use native.Mathlib.Omega.{arith}
 use mathlib.Core.Path.{◌≡◌, sym, ◌∙◌}
 use mathlib.Core.List.{List}
 use Rattle.floor.specs.declared.Floor.{Floor}
 use Rattle.floor.specs.declared.Refusal.{Refusal}
-use Rattle.laws.specs.Verdict.{Verdict, passed, refused, ◌then◌}
+use Rattle.laws.specs.Verdict.{Verdict, ◌then◌}
 use Rattle.laws.proofs.VerdictLaws.{then_passed, then_refused}
 use Rattle.fields.specs.declared.slot.Reached.{Reached}
 use Rattle.fields.specs.declared.slot.Reached.TheVariants.{At, Refused}

@@ -154,5 +154,6 @@ module _ (text : List ℕ) where
 
   pub broken_slots : (xs : List Slot) (p : ℕ) → FirstBroken text xs p → slots_form text xs ≡ refused 1 p
   unfolding slots_form
+  broken_slots [] p b = elim b [ ]
   broken_slots (x ∷ xs) p (here b) = then_refused _ (broken_slot x p b)
   broken_slots (x ∷ xs) p (later a b) = then_passed (fine_slot x a) ∙ broken_slots xs p b

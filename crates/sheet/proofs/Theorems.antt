@@ -5,7 +5,7 @@ use mathlib.Core.Path.{◌≡◌, refl, sym, ◌∙◌}
 use mathlib.Core.Logic.{◌↔◌}
 use mathlib.Core.List.{List, [], ◌∷◌, ◌++◌}
 use lib.ListN.{get_or, get_or-replicate}
-use Rattle.laws.specs.Verdict.{passed, refused, ◌then◌}
+use Rattle.laws.specs.Verdict.{passed, refused}
 use Rattle.floor.specs.Checks.{limits_of, start_of, count_of, dock_of}
 use Rattle.floor.specs.declared.Floor.{Floor}
 use Rattle.floor.specs.OneDock.{OneDockFloor, one_each, with_one_dock}

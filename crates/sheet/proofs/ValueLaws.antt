@@ -1,5 +1,5 @@
 -- What carriers' lines in good form have lent for, column by column.
-use Prim.Native.Nat.{ℕ, suc, ◌+◌, ◌*◌, ◌/◌, ◌%◌, ◌≤◌, ◌<◌}
+use Prim.Native.Nat.{ℕ, ◌+◌, ◌*◌, ◌/◌, ◌%◌, ◌≤◌, ◌<◌}
 use native.Mathlib.Omega.{arith}
 use native.Mathlib.Decide.{dec_lt}
 use native.Mathlib.Numerals.{add-one}
@@ -8,7 +8,6 @@ use mathlib.Core.List.{List}
 use lib.ListN.{length, get_or}
 use Rattle.floor.specs.declared.Floor.{Floor}
 use Rattle.laws.specs.Verdict.{passed}
-use Rattle.fields.specs.Field.{number_at}
 use Rattle.fields.specs.Form.{counted_form, counted_length, past_counted, column_past, lines_form}
 use Rattle.sheet.specs.Form.{carrier_column}
 use Rattle.sheet.specs.Values.{value_at, cell_at_column, up_to, listed, count_in, dock_in, place_in, starts_at, counts_at, docks_at, head_at}

@@ -1,0 +1,9 @@
+-- `legality::places::in_line` meets its contract: the line decides, or the places in it do.
+use Rattle.laws.proofs.CodeTests.{decides}
+use Rattle.legality.proofs.places.in_line.Goals as goal
+
+pub returns-then-a-b : goal.returns-then-a-b
+returns-then-a-b c = search decides
+
+pub returns : goal.returns
+returns c = search decides
