@@ -57,7 +57,12 @@ pub fn plan(setup: &[u16], m: &mut [u16]) -> usize {
 }
 
 // Who shuts a carrier in, as a set, with the sequential plan in lent memory.
-pub fn shut_in<W: Write>(out: &mut W, bytes: &[u8], setup: &[u16], m: &mut [u16]) -> io::Result<usize> {
+pub fn shut_in<W: Write>(
+    out: &mut W,
+    bytes: &[u8],
+    setup: &[u16],
+    m: &mut [u16],
+) -> io::Result<usize> {
     let carrier = memory::narrow(field(bytes, 0));
     let a = blockers::blockers(floor_of(setup), walls_of(setup), carrier, m);
     match a {

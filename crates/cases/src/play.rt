@@ -31,12 +31,7 @@ fn set_memory(text: &[u8], buffer: &mut [u16]) {
 }
 
 // Commands that call an entry with lent memory: new state, step, run, plan, Blockers of a carrier.
-fn called<W: Write>(
-    out: &mut W,
-    text: &[u8],
-    setup: &[u16],
-    m: &mut [u16],
-) -> io::Result<usize> {
+fn called<W: Write>(out: &mut W, text: &[u8], setup: &[u16], m: &mut [u16]) -> io::Result<usize> {
     match byte(text, 0) {
         b'n' => Ok(calls::fresh(setup, m)),
         b's' => Ok(calls::step(setup, m, memory::narrow(field(text, 0)))),
@@ -49,20 +44,11 @@ fn called<W: Write>(
 
 // Commands that try lent memory in many ways: text of a sheet, unfit numbers in each place, kinds of answers to all numbers as steps, all
 // orders, drawn orders, a Trial, a Listed run.
-fn tried<W: Write>(
-    out: &mut W,
-    bytes: &[u8],
-    setup: &[u16],
-    m: &mut [u16],
-) -> io::Result<usize> {
+fn tried<W: Write>(out: &mut W, bytes: &[u8], setup: &[u16], m: &mut [u16]) -> io::Result<usize> {
     match byte(bytes, 0) {
         b't' => Ok(sheets::text(bytes, m)),
         b'u' => Ok(corrupted::unfit(bytes, setup, m)),
-        b'k' => Ok(corrupted::numbers(
-            setup,
-            m,
-            answers::answer(field(bytes, 0), field(bytes, 1)),
-        )),
+        b'k' => Ok(corrupted::numbers(setup, m, answers::answer(field(bytes, 0), field(bytes, 1)))),
         b'o' => tally::say(out, orders::every(setup, m)),
         b'd' => tally::say(out, drawn::drawn(bytes, setup, m)),
         b'T' => Ok(trials::trial(bytes, setup, m)),

@@ -133,7 +133,12 @@ fn show_first<W: Write>(out: &mut W, first: usize) -> io::Result<()> {
 }
 
 // Vertex, swap or following conflict that is the first of two carriers that have routes, where both tests agree.
-pub fn say_first<W: Write>(out: &mut W, text: &[u8], setup: &[u16], m: &[u16]) -> io::Result<usize> {
+pub fn say_first<W: Write>(
+    out: &mut W,
+    text: &[u8],
+    setup: &[u16],
+    m: &[u16],
+) -> io::Result<usize> {
     let i = memory::plus(field(text, 0), 7);
     let j = memory::plus(field(text, 1), 7);
     let horizon = memory::at(setup, 2);

@@ -43,10 +43,7 @@ pub fn search<W: Write>(out: &mut W, bytes: &[u8], setup: &[u16], m: &[u16]) -> 
         }
         Outcome::Route => {
             show_route(out, memory::at(setup, 2), route)?;
-            Ok(answers::compared(memory::both(
-                other.found,
-                same_route(route, other_route),
-            )))
+            Ok(answers::compared(memory::both(other.found, same_route(route, other_route))))
         }
     }
 }
