@@ -5,7 +5,7 @@ use native.Mathlib.Omega.{arith}
 use mathlib.Core.Bool.{true, false}
 use mathlib.Core.List.{List, [], ◌∷◌, ◌++◌}
 use mathlib.Core.Logic.{◌⊎◌, inl, inr, ⊎_elim}
-use mathlib.Core.Path.{◌≡◌, sym, ◌∙◌, ap}
+use mathlib.Core.Path.{◌≡◌, sym, ◌∙◌, ap, subst}
 use lib.ListN.{length}
 use Rattle.laws.proofs.Tests.{lt_or_le, true_false_absurd}
 use Rattle.reference.specs.State.{Machine, State}
@@ -125,5 +125,5 @@ module _ (M : Machine) where
         arith,
         w.1,
         stretch p.0 p.1 f.memory (after_steps M s xs) f.entries (y ∷ ys) zs w.0 f.fits f.by_rule f.steps
-            (rw p.2 over) w.2,
+            (subst (λ (z : Step). PassedOver M z (after_steps M s xs) (y ∷ ys)) (sym p.2) over) w.2,
       )

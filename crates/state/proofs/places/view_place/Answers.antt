@@ -1,0 +1,12 @@
+-- `state::places::view_place` meets its contract: the number of the pair is below that of all pairs, so the view ends within the state.
+use Rattle.encoding.specs.Places.{view_place, state_size}
+use Rattle.encoding.proofs.ValidPartLaws.{pair_below}
+use native.Mathlib.Omega.{arith}
+use Rattle.state.proofs.places.view_place.Goals as goal
+
+pub returns : goal.returns
+unfolding view_place state_size
+returns c =
+    let pre = c.requires in
+    let below = pair_below _ _ _ pre.0 pre.1 in
+    omega arith
