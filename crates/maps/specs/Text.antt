@@ -1,5 +1,5 @@
 -- Texts that maps and frames share: the marks of the cells in their order, and rows of marks.
-use Rattle.std.specs.Prelude.{ℕ, ◌+◌, ◌*◌, ◌/◌, ◌%◌, cond, List, [], ◌∷◌, ◌++◌, eqb, ltb, length, get_or}
+use Rattle.std.specs.Prelude.{ℕ, ◌*◌, cond, List, [], ◌∷◌, ◌++◌, eqb, length, get_or}
 use Rattle.laws.specs.Memory.{part}
 use Rattle.sheet.specs.Text.{lines_of}
 

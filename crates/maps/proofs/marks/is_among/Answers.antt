@@ -1,0 +1,15 @@
+-- `maps::marks::is_among` meets its contract: none of the numbers passed is c.
+use Rattle.floor.proofs.AmongLaws.{looks}
+use Rattle.maps.proofs.marks.is_among.Goals as goal
+
+pub loop-i-init : goal.loop-i-init
+loop-i-init c = search looks
+
+pub returns-then-xs-i : goal.returns-then-xs-i
+returns-then-xs-i c = search looks
+
+pub loop-i-preserved : goal.loop-i-preserved
+loop-i-preserved c = search looks
+
+pub returns : goal.returns
+returns c = search looks
