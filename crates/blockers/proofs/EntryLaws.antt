@@ -10,7 +10,7 @@ use lib.ListN.{length, get_or, set, take, drop, replicate, length-replicate, len
 use lib.Seq.{ext_get_or, length-take-le}
 use Rattle.laws.specs.Memory.{put, part}
 use Rattle.laws.specs.Verdict.{passed, refused, value, refusal, demand}
-use Rattle.laws.proofs.PutLaws.{put_length, put_front, copy_keeps, copy_more}
+use Rattle.laws.proofs.PutLaws.{put_length, put_front}
 use Rattle.laws.proofs.PartLaws.{part_byte}
 use Rattle.laws.proofs.VerdictLaws.{then_passed, then_refused, then_both, demand_holds, demand_passes, demand_refuses}
 use Rattle.laws.proofs.VerdictLaws.{gives_passed, gives_refused, when_passed_lem, when_refused}

@@ -8,7 +8,7 @@ use mathlib.Core.Logic.{◌⊎◌, inl, inr}
 use mathlib.Core.Path.{◌≡◌, refl, sym, ◌∙◌, ap}
 use Rattle.laws.proofs.Tests.{true_false_absurd, not_true_is_false, eq_or_ne}
 use Rattle.route.specs.Route.{Answer, none, route, View, heard}
-use Rattle.blockers.specs.Blockers.{views_without, if_none, tried, left_after}
+use Rattle.blockers.specs.Blockers.{if_none, tried, left_after}
 use Rattle.blockers.specs.Claims.{views_of_part}
 use Rattle.blockers.proofs.PartLaws.{Part, all_heard, minus, minus_same, minus_less, views_minus}
 

@@ -7,6 +7,8 @@ use commands::setup::{floor_of, walls_of};
 use lengths::Needed;
 use machine::{Most, Ran, Stepped};
 use planner::Planned;
+use std::io;
+use std::io::Write;
 use testkit::fields::field;
 use testkit::{memory, show};
 
@@ -55,15 +57,20 @@ pub fn plan(setup: &[u16], m: &mut [u16]) -> usize {
 }
 
 // Who shuts a carrier in, as a set, with the sequential plan in lent memory.
-pub fn shut_in(bytes: &[u8], setup: &[u16], m: &mut [u16]) -> usize {
+pub fn shut_in<W: Write>(
+    out: &mut W,
+    bytes: &[u8],
+    setup: &[u16],
+    m: &mut [u16],
+) -> io::Result<usize> {
     let carrier = memory::narrow(field(bytes, 0));
     let a = blockers::blockers(floor_of(setup), walls_of(setup), carrier, m);
     match a {
         Blocked::Shut(set) => {
-            show::text(b" set");
-            answer(0, memory::wide(set))
+            show::text(out, b" set")?;
+            Ok(answer(0, memory::wide(set)))
         }
-        Blocked::Refused(r) => refused(r),
+        Blocked::Refused(r) => Ok(refused(r)),
     }
 }
 

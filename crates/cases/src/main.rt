@@ -19,7 +19,8 @@ mod trials;
 
 ghost use Rattle.std.specs.Prelude.{◌≡◌, length};
 
-use libc::STDIN_FILENO;
+use console::Input;
+use std::io;
 
 // Room for the script: twice a large buffer.
 fn script_room() -> [u8; 131072]
@@ -28,8 +29,16 @@ fn script_room() -> [u8; 131072]
     [0; 131072]
 }
 
-fn main() {
+fn main(rt: HostRuntime) -> io::Result<()> {
     let mut space = script_room();
-    let n = io::read_full(STDIN_FILENO, &mut space);
-    play::play(&space[..n]);
+    let input = console::read(
+        &mut rt.stdin(),
+        &mut rt.stderr(),
+        b"cases: standard input",
+        &mut space,
+    );
+    let Input::Read(n) = input else {
+        return Ok(());
+    };
+    play::play(&mut rt.stdout(), &space[..n])
 }

@@ -2,6 +2,8 @@
 use crate::{calls, corrupted, drawn, listed, orders, states, tally, trials};
 use commands::{answers, pairs, routes, setup, sheets};
 use floor::Floor;
+use std::io;
+use std::io::Write;
 use testkit::bytes::byte;
 use testkit::fields::field;
 use testkit::{bytes, fields, memory, show};
@@ -29,42 +31,42 @@ fn set_memory(text: &[u8], buffer: &mut [u16]) {
 }
 
 // Commands that call an entry with lent memory: new state, step, run, plan, Blockers of a carrier.
-fn called(text: &[u8], setup: &[u16], m: &mut [u16]) -> usize {
+fn called<W: Write>(out: &mut W, text: &[u8], setup: &[u16], m: &mut [u16]) -> io::Result<usize> {
     match byte(text, 0) {
-        b'n' => calls::fresh(setup, m),
-        b's' => calls::step(setup, m, memory::narrow(field(text, 0))),
-        b'r' => states::run(text, setup, m),
-        b'p' => calls::plan(setup, m),
-        b'B' => calls::shut_in(text, setup, m),
-        _ => tried(text, setup, m),
+        b'n' => Ok(calls::fresh(setup, m)),
+        b's' => Ok(calls::step(setup, m, memory::narrow(field(text, 0)))),
+        b'r' => Ok(states::run(text, setup, m)),
+        b'p' => Ok(calls::plan(setup, m)),
+        b'B' => calls::shut_in(out, text, setup, m),
+        _ => tried(out, text, setup, m),
     }
 }
 
 // Commands that try lent memory in many ways: text of a sheet, unfit numbers in each place, kinds of answers to all numbers as steps, all
 // orders, drawn orders, a Trial, a Listed run.
-fn tried(bytes: &[u8], setup: &[u16], m: &mut [u16]) -> usize {
+fn tried<W: Write>(out: &mut W, bytes: &[u8], setup: &[u16], m: &mut [u16]) -> io::Result<usize> {
     match byte(bytes, 0) {
-        b't' => sheets::text(bytes, m),
-        b'u' => corrupted::unfit(bytes, setup, m),
-        b'k' => corrupted::numbers(setup, m, answers::answer(field(bytes, 0), field(bytes, 1))),
-        b'o' => tally::say(orders::every(setup, m)),
-        b'd' => tally::say(drawn::drawn(bytes, setup, m)),
-        b'T' => trials::trial(bytes, setup, m),
-        b'L' => listed::list(bytes, setup, m),
-        _ => looked(bytes, setup, m),
+        b't' => Ok(sheets::text(bytes, m)),
+        b'u' => Ok(corrupted::unfit(bytes, setup, m)),
+        b'k' => Ok(corrupted::numbers(setup, m, answers::answer(field(bytes, 0), field(bytes, 1)))),
+        b'o' => tally::say(out, orders::every(setup, m)),
+        b'd' => tally::say(out, drawn::drawn(bytes, setup, m)),
+        b'T' => Ok(trials::trial(bytes, setup, m)),
+        b'L' => Ok(listed::list(bytes, setup, m)),
+        _ => looked(out, bytes, setup, m),
     }
 }
 
 // Commands that look at lent memory: memory, another planner, vertex, swap and following conflicts of each pair, Vertex, swap or following
 // conflict that is a pair's first, Search for a carrier.
-fn looked(text: &[u8], setup: &[u16], m: &[u16]) -> usize {
+fn looked<W: Write>(out: &mut W, text: &[u8], setup: &[u16], m: &[u16]) -> io::Result<usize> {
     match byte(text, 0) {
-        b'm' => states::compare_memory(text, m),
-        b'a' => answers::compared(tally::second_says(setup, m, 0, 65)),
-        b'v' => pairs::say(setup, m),
-        b'V' => pairs::say_first(text, setup, m),
-        b'S' => routes::search(text, setup, m),
-        _ => asked(text, setup),
+        b'm' => Ok(states::compare_memory(text, m)),
+        b'a' => Ok(answers::compared(tally::second_says(setup, m, 0, 65))),
+        b'v' => pairs::say(out, setup, m),
+        b'V' => pairs::say_first(out, text, setup, m),
+        b'S' => routes::search(out, text, setup, m),
+        _ => Ok(asked(text, setup)),
     }
 }
 
@@ -83,31 +85,39 @@ fn asked(text: &[u8], setup: &[u16]) -> usize {
 }
 
 // A line: what it says is written, then what came of it. Answers its length, a newline behind it included.
-fn line(bytes: &[u8], setup: &mut [u16], buffer: &mut [u16]) -> usize {
+fn line<W: Write>(
+    out: &mut W,
+    bytes: &[u8],
+    setup: &mut [u16],
+    buffer: &mut [u16],
+) -> io::Result<usize> {
     let size = fields::end(bytes);
-    show::text(bytes::part(bytes, 0, size));
+    show::text(out, bytes::part(bytes, 0, size))?;
     set_desk(bytes, setup);
     set_memory(bytes, buffer);
-    answers::show(called(
+    let came = called(
+        out,
         bytes,
         setup,
         memory::front(buffer, memory::wide_at(setup, 90)),
-    ));
-    show::text(b"\n");
-    memory::plus(size, 1)
+    )?;
+    answers::show(out, came)?;
+    show::text(out, b"\n")?;
+    Ok(memory::plus(size, 1))
 }
 
 // All lines.
-pub fn play(text: &[u8]) {
+pub fn play<W: Write>(out: &mut W, text: &[u8]) -> io::Result<()> {
     let mut buffer = memory::buffer();
     let mut setup = setup::cleared();
     let mut at: usize = 0;
     let mut turn: usize = 0;
     while turn < 5000 {
         if text.len() <= at {
-            return;
+            return Ok(());
         }
-        at = memory::plus(at, line(&text[at..], &mut setup, &mut buffer));
+        at = memory::plus(at, line(out, &text[at..], &mut setup, &mut buffer)?);
         turn += 1;
     }
+    Ok(())
 }

@@ -1,6 +1,8 @@
 // What is looked at where an order has come to silence.
 use crate::calls;
 use commands::{answers, pairs, setup};
+use std::io;
+use std::io::Write;
 use testkit::memory::both;
 use testkit::{memory, records, show};
 
@@ -84,12 +86,12 @@ pub fn noted(tally: Tally, setup: &[u16], m: &[u16], came: usize) -> Tally {
 }
 
 // The figures.
-pub fn say(tally: Tally) -> usize {
-    show::number(tally.orders);
-    show::number(tally.right);
-    show::number(tally.full);
-    show::number(tally.failing);
-    show::number(tally.steps);
-    show::number(tally.odd);
-    answers::answer(answers::SHOWN, 0)
+pub fn say<W: Write>(out: &mut W, tally: Tally) -> io::Result<usize> {
+    show::number(out, tally.orders)?;
+    show::number(out, tally.right)?;
+    show::number(out, tally.full)?;
+    show::number(out, tally.failing)?;
+    show::number(out, tally.steps)?;
+    show::number(out, tally.odd)?;
+    Ok(answers::answer(answers::SHOWN, 0))
 }

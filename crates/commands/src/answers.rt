@@ -1,6 +1,8 @@
 // An answer as one number that can be compared and printed: its kind times 1,000,000, and a number. A plain number has kind 0. A refusal's
 // kind is its number in document 01's table and its later rows, up to 30, and its number is its place; the other kinds are those below.
 use floor::{Checked, Refusal};
+use std::io;
+use std::io::Write;
 use testkit::{bytes, memory, show};
 
 // Of a run, with the number taken.
@@ -108,23 +110,24 @@ fn word_of(kind: usize) -> usize {
 }
 
 // The word of a kind.
-fn show_word(kind: usize) {
+fn show_word<W: Write>(out: &mut W, kind: usize) -> io::Result<()> {
     let words =
         b" refused silent spent ended failing carrier steps passed, written the same printed kept sent delivered the same OTHERWISE";
     let word = word_of(kind);
-    show::text(bytes::part(words, word / 100, word % 100));
+    show::text(out, bytes::part(words, word / 100, word % 100))
 }
 
 // An answer: its word, a refusal's number, and the place, the number taken, the failing carrier, the most steps, the number of bytes, or
 // the plain number.
-pub fn show(came: usize) {
+pub fn show<W: Write>(out: &mut W, came: usize) -> io::Result<()> {
     let kind = kind(came);
-    show_word(kind);
+    show_word(out, kind)?;
     match kind {
-        1..=30 => show::number(kind),
+        1..=30 => show::number(out, kind)?,
         _ => {}
     }
     if kind < PASSED {
-        show::number(number(came));
+        show::number(out, number(came))?;
     }
+    Ok(())
 }

@@ -1,6 +1,8 @@
 // Every pair of routes in lent memory, by the conflict test of the entry and by the second planner's.
 use crate::answers;
 use route::{FirstConflict, Route};
+use std::io;
+use std::io::Write;
 use testkit::fields::field;
 use testkit::{memory, show};
 
@@ -98,46 +100,51 @@ pub fn are_free(setup: &[u16], m: &[u16]) -> bool {
 
 // vertex, swap and following conflicts of each pair: how many pairs of routes there are and how many of them are in conflict, where both
 // tests agree.
-pub fn say(setup: &[u16], m: &[u16]) -> usize {
+pub fn say<W: Write>(out: &mut W, setup: &[u16], m: &[u16]) -> io::Result<usize> {
     let conflicts = count(setup, m, CONFLICT);
-    show::text(b" pairs");
-    show::number(memory::plus(count(setup, m, FREE), conflicts));
-    show::text(b" conflicts");
-    show::number(conflicts);
-    answers::only_if(
+    show::text(out, b" pairs")?;
+    show::number(out, memory::plus(count(setup, m, FREE), conflicts))?;
+    show::text(out, b" conflicts")?;
+    show::number(out, conflicts)?;
+    Ok(answers::only_if(
         count(setup, m, ODD) == 0,
         answers::answer(answers::SHOWN, 0),
-    )
+    ))
 }
 
 // A kind of conflict as words, by its number's rest by 3.
-fn show_kind(kind: usize) {
+fn show_kind<W: Write>(out: &mut W, kind: usize) -> io::Result<()> {
     if kind == 1 {
-        return show::text(b" same cell at beat");
+        return show::text(out, b" same cell at beat");
     }
     if kind == 2 {
-        return show::text(b" change of places after beat");
+        return show::text(out, b" change of places after beat");
     }
-    show::text(b" following after beat")
+    show::text(out, b" following after beat")
 }
 
 // The first conflict as words: its kind and its beat.
-fn show_first(first: usize) {
+fn show_first<W: Write>(out: &mut W, first: usize) -> io::Result<()> {
     if first == 0 {
-        return show::text(b" free");
+        return show::text(out, b" free");
     }
-    show_kind(first % 3);
-    show::number((first - 1) / 3)
+    show_kind(out, first % 3)?;
+    show::number(out, (first - 1) / 3)
 }
 
 // Vertex, swap or following conflict that is the first of two carriers that have routes, where both tests agree.
-pub fn say_first(text: &[u8], setup: &[u16], m: &[u16]) -> usize {
+pub fn say_first<W: Write>(
+    out: &mut W,
+    text: &[u8],
+    setup: &[u16],
+    m: &[u16],
+) -> io::Result<usize> {
     let i = memory::plus(field(text, 0), 7);
     let j = memory::plus(field(text, 1), 7);
     let horizon = memory::at(setup, 2);
-    show_first(first_of(m, horizon, i, j));
-    answers::only_if(
+    show_first(out, first_of(m, horizon, i, j))?;
+    Ok(answers::only_if(
         tested(m, horizon, i, j) != ODD,
         answers::answer(answers::SHOWN, 0),
-    )
+    ))
 }

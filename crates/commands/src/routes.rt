@@ -3,18 +3,21 @@ use crate::answers;
 use crate::setup::{floor_of, walls_of};
 use route::Route;
 use search::Outcome;
+use std::io;
+use std::io::Write;
 use testkit::fields::field;
 use testkit::{memory, show};
 
 // Shows the arrival of a route and its first cells, at most eight.
-fn show_route(horizon: u16, r: Route) {
-    show::text(b" arrival");
-    show::number(memory::wide(route::arrival(r, horizon)));
-    show::text(b" cells");
+fn show_route<W: Write>(out: &mut W, horizon: u16, r: Route) -> io::Result<()> {
+    show::text(out, b" arrival")?;
+    show::number(out, memory::wide(route::arrival(r, horizon)))?;
+    show::text(out, b" cells")?;
     show::numbers(
+        out,
         &r,
         memory::choose(horizon < 8, memory::plus(memory::wide(horizon), 1), 8),
-    );
+    )
 }
 
 // Whether two routes are the same.
@@ -23,7 +26,7 @@ fn same_route(r: Route, q: Route) -> bool {
 }
 
 // Search: the best route of a carrier against the views in lent memory, and whether the second planner has the same.
-pub fn search(bytes: &[u8], setup: &[u16], m: &[u16]) -> usize {
+pub fn search<W: Write>(out: &mut W, bytes: &[u8], setup: &[u16], m: &[u16]) -> io::Result<usize> {
     let i = memory::narrow(field(bytes, 0));
     let f = floor_of(setup);
     let walls = walls_of(setup);
@@ -33,14 +36,14 @@ pub fn search(bytes: &[u8], setup: &[u16], m: &[u16]) -> usize {
     let other_route = other.route;
     let outcome = found.outcome;
     match outcome {
-        Outcome::Refused(r) => answers::refused(r),
+        Outcome::Refused(r) => Ok(answers::refused(r)),
         Outcome::None => {
-            show::text(b" none");
-            answers::compared(!other.found)
+            show::text(out, b" none")?;
+            Ok(answers::compared(!other.found))
         }
         Outcome::Route => {
-            show_route(memory::at(setup, 2), route);
-            answers::compared(memory::both(other.found, same_route(route, other_route)))
+            show_route(out, memory::at(setup, 2), route)?;
+            Ok(answers::compared(memory::both(other.found, same_route(route, other_route))))
         }
     }
 }

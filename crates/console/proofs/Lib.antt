@@ -1,3 +1,4 @@
 -- Laws of the console's definitions.
 pub mod PartsLaws
+pub mod RunLaws
 pub mod WithinLaws

@@ -11,11 +11,9 @@ counts_within n xs l = (l, sym (length-take-le n xs l))
 
 -- The bytes that were read stand in front of the memory.
 pub read_within : {n : ℕ} {x : Input} (xs : List ℕ) → x ≡ Read n → InputWithin x xs → n ≤ length xs
-unfolding InputWithin
 read_within xs e w = (rw e at w).0
 
 pub read_counted : {n : ℕ} {x : Input} (xs : List ℕ) → x ≡ Read n → InputWithin x xs → n ≡ length (take n xs)
-unfolding InputWithin
 read_counted xs e w = (rw e at w).1
 
 -- What a program that reads its input takes.

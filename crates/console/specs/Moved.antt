@@ -53,3 +53,8 @@ OutputPut old new output.Failed xs = (n : ℕ) × Appends old new (take n xs)
 unfoldable pub OutputSaid : Option (List ℕ) → Option (List ℕ) → Output → Type 0
 OutputSaid old new output.Written = Keeps old new
 OutputSaid old new output.Failed = Unit {0}
+
+-- What is said of a text that was written.
+abbrev pub OnWritten : Output → Type 0 → Type 0
+OnWritten output.Written P = P
+OnWritten output.Failed P = Unit {0}

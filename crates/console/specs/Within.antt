@@ -7,7 +7,7 @@ use Rattle.console.specs.declared.Part.{Part}
 use Rattle.console.specs.declared.Part.TheVariants as part
 
 -- The bytes that were read stand in front of a memory.
-unfoldable pub InputWithin : Input → List ℕ → Type 0
+abbrev pub InputWithin : Input → List ℕ → Type 0
 InputWithin (input.Read n) xs = IsPrefixLen n xs
 InputWithin input.Failed xs = Unit {0}
 

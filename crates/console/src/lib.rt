@@ -182,7 +182,7 @@ fn fail<E: Write>(errors: &mut E, name: &[u8], error: Error) {
 }
 
 // Reads all of the input into lent memory, or its first bytes where it is longer; a failure is said under the input's name.
-#[tactic(auto, using(crate::proofs::WithinLaws::counts_within), unfolding(crate::specs::Within::InputWithin, crate::specs::Moved::InputTaken, crate::specs::Moved::InputSaid))]
+#[tactic(auto, using(crate::proofs::WithinLaws::counts_within), unfolding(crate::specs::Moved::InputTaken, crate::specs::Moved::InputSaid))]
 pub fn read<R: Read, E: Write>(reader: &mut R, errors: &mut E, name: &[u8], buf: &mut [u8]) -> Input
     ensures within { InputWithin result buf.new }
     ensures bytes { InputTaken (R.remaining reader.old) (R.remaining reader.new) result buf.new }

@@ -4,10 +4,10 @@ ghost use Rattle.std.specs.Prelude.{◌≡◌, ◌+◌, ◌*◌, ◌≤◌, ◌<
 
 use console::Output;
 use floor::{Floor, Refusal};
-use libc::{POSIX_FADV_NORMAL, SEEK_CUR, STDERR_FILENO};
 use lister::{Counted, LINE, Listed};
 use printing::Printed;
 use reporting::put_bytes;
+use std::io::{IsTerminal, Write};
 
 // The lines that are listed at a time.
 const LINES: usize = 2048;
@@ -40,11 +40,11 @@ fn no_text() -> [u8; TEXT]
 }
 
 // Writes the first n bytes of a text to standard output; whether that succeeded.
-fn write_front(text: &[u8], n: usize) -> bool {
+fn write_front<W: Write, E: Write>(writer: &mut W, errors: &mut E, text: &[u8], n: usize) -> bool {
     if n > text.len() {
         return false;
     }
-    match console::write(b"desk: standard output", &text[..n]) {
+    match console::write(writer, errors, b"desk: standard output", &text[..n]) {
         Output::Written => true,
         Output::Failed => false,
     }
@@ -107,59 +107,58 @@ fn put_run(out: &mut [u8], rank: u64, line: &[u16]) -> usize
 }
 
 // Prints the line of a refusal.
-pub fn print_refusal(x: Refusal) {
+pub fn print_refusal<W: Write, E: Write>(writer: &mut W, errors: &mut E, x: Refusal) {
     let mut out = no_text();
     let printed = printing::print_refusal(x, &mut out);
     let Printed::Written(n) = printed else {
         return;
     };
-    write_front(&out, n);
+    write_front(writer, errors, &out, n);
 }
 
 // Prints the total.
-fn print_total(n: u64) -> bool {
+fn print_total<W: Write, E: Write>(writer: &mut W, errors: &mut E, n: u64) -> bool {
     let mut out = no_text();
     let k = put_total(&mut out, n);
-    write_front(&out, k)
+    write_front(writer, errors, &out, k)
 }
 
 // Prints the run of a rank by its line.
-fn print_run(rank: u64, line: &[u16]) -> bool
+fn print_run<W: Write, E: Write>(writer: &mut W, errors: &mut E, rank: u64, line: &[u16]) -> bool
     requires { 23 ≤ length line.now }
 {
     let mut out = no_text();
     let k = put_run(&mut out, rank, line);
-    write_front(&out, k)
+    write_front(writer, errors, &out, k)
 }
 
-// Whether standard error is a terminal: it has no position, and is no pipe, which takes no advice.
-fn is_watched() -> bool {
-    if libc::lseek(STDERR_FILENO, 0, SEEK_CUR) >= 0 {
-        return false;
-    }
-    libc::posix_fadvise(STDERR_FILENO, 0, 0, POSIX_FADV_NORMAL) == 0
+// Whether someone watches standard error: whether it is a terminal.
+fn is_watched<E: IsTerminal>(errors: &E) -> bool {
+    errors.is_terminal()
 }
 
-// Says on standard error how many runs are printed, where it is a terminal.
-fn progress(printed: u64, total: u64) {
-    if !is_watched() {
+// Says on standard error how many runs are printed, where it is a terminal. What cannot be said is left.
+fn progress<E: Write + IsTerminal>(errors: &mut E, printed: u64, total: u64) {
+    if !is_watched(errors) {
         return;
     }
-    io::write_all(STDERR_FILENO, b"desk: ");
-    io::print_decimal(STDERR_FILENO, printed);
-    io::write_all(STDERR_FILENO, b" of ");
-    io::print_decimal(STDERR_FILENO, total);
-    io::write_all(STDERR_FILENO, b" runs\n");
+    let _ = writeln!(errors, "desk: {printed} of {total} runs");
 }
 
 // Prints a number of lines, the first being that of a rank; whether that succeeded.
-fn print_lines(first: u64, lines: &[u16], count: usize) -> bool
+fn print_lines<W: Write, E: Write>(
+    writer: &mut W,
+    errors: &mut E,
+    first: u64,
+    lines: &[u16],
+    count: usize,
+) -> bool
     requires { (23 * count ≤ length lines.now) × (first + count ≤ 4294967296) }
 {
     let mut i: usize = 0;
     while i < count {
         let at = LINE * i;
-        if !print_run(first + i as u64, &lines[at..at + LINE]) {
+        if !print_run(writer, errors, first + i as u64, &lines[at..at + LINE]) {
             return false;
         }
         i += 1;
@@ -179,11 +178,17 @@ fn window(left: u64) -> usize
 }
 
 // Prints all runs of a floor, which has that total, a window at a time.
-fn print_all(f: Floor, walls: &[u16], total: u64) {
+fn print_all<W: Write, E: Write + IsTerminal>(
+    writer: &mut W,
+    errors: &mut E,
+    f: Floor,
+    walls: &[u16],
+    total: u64,
+) {
     if total > 4294967295 {
         return;
     }
-    if !print_total(total) {
+    if !print_total(writer, errors, total) {
         return;
     }
     let mut first: u64 = 0;
@@ -191,26 +196,38 @@ fn print_all(f: Floor, walls: &[u16], total: u64) {
         let count = window(total - first);
         let mut lines = no_lines();
         lister::runs_from(f, walls, first, &mut lines);
-        if !print_lines(first, &lines, count) {
+        if !print_lines(writer, errors, first, &lines, count) {
             return;
         }
         first += count as u64;
-        progress(first, total);
+        progress(errors, first, total);
     }
 }
 
 // Lists all runs of a floor.
-fn list_all(f: Floor, walls: &[u16]) {
+fn list_all<W: Write, E: Write + IsTerminal>(
+    writer: &mut W,
+    errors: &mut E,
+    f: Floor,
+    walls: &[u16],
+) {
     let mut none = [0u16; 1];
     let counted = lister::runs_from(f, walls, 0, &mut none);
     match counted {
-        Counted::Total(total) => print_all(f, walls, total),
-        Counted::Refused(x) => print_refusal(x),
+        Counted::Total(total) => print_all(writer, errors, f, walls, total),
+        Counted::Refused(x) => print_refusal(writer, errors, x),
     }
 }
 
 // Prints the total and the run of a rank, whose report has two numbers a step.
-fn print_one(total: u64, rank: u64, steps: u16, report: &[u16]) -> bool
+fn print_one<W: Write, E: Write>(
+    writer: &mut W,
+    errors: &mut E,
+    total: u64,
+    rank: u64,
+    steps: u16,
+    report: &[u16],
+) -> bool
     requires { 22 ≤ length report.now }
 {
     let mut line = [0u16; LINE];
@@ -220,32 +237,45 @@ fn print_one(total: u64, rank: u64, steps: u16, report: &[u16]) -> bool
         line[t + 1] = report[t];
         t += 1;
     }
-    if !print_total(total) {
+    if !print_total(writer, errors, total) {
         return false;
     }
-    print_run(rank, &line)
+    print_run(writer, errors, rank, &line)
 }
 
 // Lists the run of a rank of a floor.
-fn list_one(f: Floor, walls: &[u16], rank: u64) {
+fn list_one<W: Write, E: Write>(
+    writer: &mut W,
+    errors: &mut E,
+    f: Floor,
+    walls: &[u16],
+    rank: u64,
+) {
     let mut report = no_report();
     let listed = lister::run_of_rank(f, walls, rank, &mut report);
     match listed {
         Listed::Run { total, steps } => {
-            print_one(total, rank, steps, &report);
+            print_one(writer, errors, total, rank, steps, &report);
         }
-        Listed::Refused(x) => print_refusal(x),
+        Listed::Refused(x) => print_refusal(writer, errors, x),
     }
 }
 
 // Lists the runs of a floor that was read, with its walls in front of `walls`: all, or that of a rank.
-pub fn list_floor(f: Floor, walls: &[u16], all: bool, rank: u64) {
+pub fn list_floor<W: Write, E: Write + IsTerminal>(
+    writer: &mut W,
+    errors: &mut E,
+    f: Floor,
+    walls: &[u16],
+    all: bool,
+    rank: u64,
+) {
     let k = f.walls as usize;
     if k > walls.len() {
         return;
     }
     if all {
-        return list_all(f, &walls[..k]);
+        return list_all(writer, errors, f, &walls[..k]);
     }
-    list_one(f, &walls[..k], rank)
+    list_one(writer, errors, f, &walls[..k], rank)
 }

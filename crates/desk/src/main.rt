@@ -8,12 +8,19 @@ mod listed;
 mod mapped;
 mod played;
 
-ghost use Rattle.std.specs.Prelude.{◌≡◌, min};
+ghost use Rattle.std.specs.Prelude.{◌≡◌, min, take, IfSome};
+ghost use Rattle.std.specs.Io.KnownBytes.{Appends};
+ghost use Rattle.io.specs.Counts.{IsPrefixLen};
+ghost use Rattle.console.specs.Moved.{OnWritten};
+ghost use Rattle.meeting.specs.Text.{meeting_text};
+ghost use Rattle.stranded.specs.Text.{blockers_text};
+ghost use Rattle.desk.specs.Text.{trial_text};
 
 use arguments::Decimal;
-use console::Input;
+use console::{Input, Output};
 use floor::Checked;
-use libc::STDERR_FILENO;
+use std::env::{Env, FillError};
+use std::io::{IsTerminal, Read, Write};
 
 // The commands.
 #[derive(Clone, Copy)]
@@ -67,19 +74,40 @@ fn command_named(name: &[u8]) -> Command {
     Command::Unknown
 }
 
+// The bytes of an argument, in front of a buffer; none where it is missing or longer than the buffer.
+fn argument_bytes<A: Env>(given: &A, i: usize, buf: &mut [u8]) -> usize
+    ensures { IsPrefixLen result buf.new }
+{
+    match given.arg(i, buf) {
+        Ok(n) => n,
+        Err(_) => 0,
+    }
+}
+
+// The number of arguments, the program's name included.
+fn argument_count<A: Env>(given: &A) -> usize {
+    let mut none = [0u8; 1];
+    for i in 0..usize::MAX {
+        if let Err(FillError::NotPresent) = given.arg(i, &mut none) {
+            return i;
+        }
+    }
+    usize::MAX
+}
+
 // An argument as a number; one that is missing or longer than the buffer is none.
-fn argument(i: usize) -> Decimal {
+fn argument<A: Env>(given: &A, i: usize) -> Decimal {
     let mut buf = io::buffer();
-    let n = os::arg(i, &mut buf);
+    let n = argument_bytes(given, i, &mut buf);
     arguments::read_decimal(&buf[..n])
 }
 
 // The seed: the third argument, 0 where it is left out.
-fn seed_argument() -> Decimal {
-    if os::arg_count() < 4 {
+fn seed_argument<A: Env>(given: &A) -> Decimal {
+    if argument_count(given) < 4 {
         return Decimal::Number(0);
     }
-    argument(3)
+    argument(given, 3)
 }
 
 // An order or a carrier as the tools take it: every number above 65,535 is as little one as that.
@@ -90,283 +118,322 @@ fn number_of(n: u64) -> u16
 }
 
 // Says how `trial` is called.
-fn trial_usage() {
-    io::write_all(STDERR_FILENO, b"desk: trial ORDER [SEED] < sheet\n");
+fn trial_usage(rt: &impl Eprint) {
+    let _ = rt.eprintln("desk: trial ORDER [SEED] < sheet");
 }
 
 // Plays the trial of the sheet from standard input, and prints its text. The longest sheet has 11,732 bytes; of a longer input the
 // first 65,536 bytes hold the first extra byte.
-fn play(order: u16, seed: u32) {
+fn play<R: Read, W: Write, E: Write>(
+    reader: &mut R,
+    writer: &mut W,
+    errors: &mut E,
+    order: u16,
+    seed: u32,
+) -> Output
+    ensures { OnWritten result (IfSome (R.remaining reader.old)
+        (λ xs. Appends (W.contents writer.old) (W.contents writer.new) (trial_text (take 65536 xs) order seed))) }
+{
     let mut space = io::large_buffer();
-    let input = console::read(b"desk: standard input", &mut space);
+    let input = console::read(reader, errors, b"desk: standard input", &mut space);
     let Input::Read(n) = input else {
-        return;
+        return Output::Failed;
     };
     let mut out = [0u8; played::TEXT_LENGTH];
     let printed = played::print(&space[..n], order, seed, &mut out);
-    console::write(b"desk: standard output", &out[..printed]);
+    console::write(writer, errors, b"desk: standard output", &out[..printed])
 }
 
 // The command `trial`.
-fn trial_command() {
-    if os::arg_count() > 4 {
-        return trial_usage();
+fn trial_command(rt: &HostRuntime) {
+    if argument_count(rt) > 4 {
+        return trial_usage(rt);
     }
-    let order = argument(2);
+    let order = argument(rt, 2);
     let Decimal::Number(o) = order else {
-        return trial_usage();
+        return trial_usage(rt);
     };
-    let seed = seed_argument();
+    let seed = seed_argument(rt);
     let Decimal::Number(s) = seed else {
-        return trial_usage();
+        return trial_usage(rt);
     };
     if s > 4294967295 {
-        return trial_usage();
+        return trial_usage(rt);
     }
-    play(number_of(o), s as u32)
+    play(
+        &mut rt.stdin(),
+        &mut rt.stdout(),
+        &mut rt.stderr(),
+        number_of(o),
+        s as u32,
+    );
 }
 
 // Says how `runs` is called.
-fn runs_usage() {
-    io::write_all(STDERR_FILENO, b"desk: runs [RANK] < sheet\n");
+fn runs_usage(rt: &impl Eprint) {
+    let _ = rt.eprintln("desk: runs [RANK] < sheet");
 }
 
 // Lists the runs of a text that is a sheet, all of them or that of a rank; of any other text prints the line of its refusal.
-fn list_text(text: &[u8], all: bool, rank: u64) {
+fn list_text<W: Write, E: Write + IsTerminal>(
+    writer: &mut W,
+    errors: &mut E,
+    text: &[u8],
+    all: bool,
+    rank: u64,
+) {
     let mut walls = sheet::no_walls();
     let reading = sheet::read(text, &mut walls);
     let checked = reading.answer;
     let f = reading.floor;
     let Checked::Refused(x) = checked else {
-        return listed::list_floor(f, &walls, all, rank);
+        return listed::list_floor(writer, errors, f, &walls, all, rank);
     };
-    listed::print_refusal(x)
+    listed::print_refusal(writer, errors, x)
 }
 
 // Lists the runs of the sheet from standard input.
-fn list_input(all: bool, rank: u64) {
+fn list_input<R: Read, W: Write, E: Write + IsTerminal>(
+    reader: &mut R,
+    writer: &mut W,
+    errors: &mut E,
+    all: bool,
+    rank: u64,
+) {
     let mut space = io::large_buffer();
-    let input = console::read(b"desk: standard input", &mut space);
+    let input = console::read(reader, errors, b"desk: standard input", &mut space);
     let Input::Read(n) = input else {
         return;
     };
-    list_text(&space[..n], all, rank)
+    list_text(writer, errors, &space[..n], all, rank)
 }
 
 // The command `runs`.
-fn runs_command() {
-    if os::arg_count() > 3 {
-        return runs_usage();
+fn runs_command(rt: &HostRuntime) {
+    if argument_count(rt) > 3 {
+        return runs_usage(rt);
     }
-    if os::arg_count() < 3 {
-        return list_input(true, 0);
+    if argument_count(rt) < 3 {
+        return list_input(&mut rt.stdin(), &mut rt.stdout(), &mut rt.stderr(), true, 0);
     }
-    let rank = argument(2);
+    let rank = argument(rt, 2);
     let Decimal::Number(r) = rank else {
-        return runs_usage();
+        return runs_usage(rt);
     };
-    list_input(false, r)
+    list_input(
+        &mut rt.stdin(),
+        &mut rt.stdout(),
+        &mut rt.stderr(),
+        false,
+        r,
+    )
 }
 
 // Says how `meeting` is called.
-fn meeting_usage() {
-    io::write_all(
-        STDERR_FILENO,
-        b"desk: meeting I J < sheet, I and J two carriers\n",
-    );
+fn meeting_usage(rt: &impl Eprint) {
+    let _ = rt.eprintln("desk: meeting I J < sheet, I and J two carriers");
 }
 
 // Prints the meeting of two carriers of the sheet from standard input.
-fn meet(i: u16, j: u16) {
+fn meet<R: Read, W: Write, E: Write>(
+    reader: &mut R,
+    writer: &mut W,
+    errors: &mut E,
+    i: u16,
+    j: u16,
+) -> Output
+    ensures { OnWritten result (IfSome (R.remaining reader.old)
+        (λ xs. Appends (W.contents writer.old) (W.contents writer.new) (meeting_text (take 65536 xs) i j))) }
+{
     let mut space = io::large_buffer();
-    let input = console::read(b"desk: standard input", &mut space);
+    let input = console::read(reader, errors, b"desk: standard input", &mut space);
     let Input::Read(n) = input else {
-        return;
+        return Output::Failed;
     };
     let mut out = [0u8; meeting::TEXT_LENGTH];
     let printed = meeting::print(&space[..n], i, j, &mut out);
-    console::write(b"desk: standard output", &out[..printed]);
+    console::write(writer, errors, b"desk: standard output", &out[..printed])
 }
 
 // The command `meeting`.
-fn meeting_command() {
-    if os::arg_count() != 4 {
-        return meeting_usage();
+fn meeting_command(rt: &HostRuntime) {
+    if argument_count(rt) != 4 {
+        return meeting_usage(rt);
     }
-    let first = argument(2);
+    let first = argument(rt, 2);
     let Decimal::Number(i) = first else {
-        return meeting_usage();
+        return meeting_usage(rt);
     };
-    let second = argument(3);
+    let second = argument(rt, 3);
     let Decimal::Number(j) = second else {
-        return meeting_usage();
+        return meeting_usage(rt);
     };
     if i == j {
-        return meeting_usage();
+        return meeting_usage(rt);
     }
-    meet(number_of(i), number_of(j))
+    meet(
+        &mut rt.stdin(),
+        &mut rt.stdout(),
+        &mut rt.stderr(),
+        number_of(i),
+        number_of(j),
+    );
 }
 
 // Says how `blockers` is called.
-fn blockers_usage() {
-    io::write_all(STDERR_FILENO, b"desk: blockers < sheet\n");
+fn blockers_usage(rt: &impl Eprint) {
+    let _ = rt.eprintln("desk: blockers < sheet");
 }
 
 // Prints who shuts the stranded carriers of the sheet from standard input in.
-fn show_stranded() {
+fn show_stranded<R: Read, W: Write, E: Write>(
+    reader: &mut R,
+    writer: &mut W,
+    errors: &mut E,
+) -> Output
+    ensures { OnWritten result (IfSome (R.remaining reader.old)
+        (λ xs. Appends (W.contents writer.old) (W.contents writer.new) (blockers_text (take 65536 xs)))) }
+{
     let mut space = io::large_buffer();
-    let input = console::read(b"desk: standard input", &mut space);
+    let input = console::read(reader, errors, b"desk: standard input", &mut space);
     let Input::Read(n) = input else {
-        return;
+        return Output::Failed;
     };
     let mut out = [0u8; stranded::TEXT_LENGTH];
     let printed = stranded::print(&space[..n], &mut out);
-    console::write(b"desk: standard output", &out[..printed]);
+    console::write(writer, errors, b"desk: standard output", &out[..printed])
 }
 
 // The command `blockers`.
-fn blockers_command() {
-    if os::arg_count() != 2 {
-        return blockers_usage();
+fn blockers_command(rt: &HostRuntime) {
+    if argument_count(rt) != 2 {
+        return blockers_usage(rt);
     }
-    show_stranded()
+    show_stranded(&mut rt.stdin(), &mut rt.stdout(), &mut rt.stderr());
 }
 
 // Says how `draw` is called.
-fn draw_usage() {
-    io::write_all(STDERR_FILENO, b"desk: draw [BEAT] < sheet\n");
+fn draw_usage(rt: &impl Eprint) {
+    let _ = rt.eprintln("desk: draw [BEAT] < sheet");
 }
 
 // The command `draw`.
-fn draw_command() {
-    if os::arg_count() > 3 {
-        return draw_usage();
+fn draw_command(rt: &HostRuntime) {
+    if argument_count(rt) > 3 {
+        return draw_usage(rt);
     }
-    if os::arg_count() < 3 {
-        return drawn::draw_all();
+    if argument_count(rt) < 3 {
+        drawn::draw_all(&mut rt.stdin(), &mut rt.stdout(), &mut rt.stderr());
+        return;
     }
-    let beat = argument(2);
+    let beat = argument(rt, 2);
     let Decimal::Number(t) = beat else {
-        return draw_usage();
+        return draw_usage(rt);
     };
-    drawn::draw_beat(number_of(t))
+    drawn::draw_beat(
+        &mut rt.stdin(),
+        &mut rt.stdout(),
+        &mut rt.stderr(),
+        number_of(t),
+    );
 }
 
 // Says how `sheet` is called.
-fn sheet_usage() {
-    io::write_all(STDERR_FILENO, b"desk: sheet < map\n");
+fn sheet_usage(rt: &impl Eprint) {
+    let _ = rt.eprintln("desk: sheet < map");
 }
 
 // The command `sheet`.
-fn sheet_command() {
-    if os::arg_count() != 2 {
-        return sheet_usage();
+fn sheet_command(rt: &HostRuntime) {
+    if argument_count(rt) != 2 {
+        return sheet_usage(rt);
     }
-    mapped::print_sheet()
+    mapped::print_sheet(&mut rt.stdin(), &mut rt.stdout(), &mut rt.stderr());
 }
 
 // Says how `why` is called.
-fn why_usage() {
-    io::write_all(STDERR_FILENO, b"desk: why < sheet\n");
+fn why_usage(rt: &impl Eprint) {
+    let _ = rt.eprintln("desk: why < sheet");
 }
 
 // Prints why the sheet from standard input is refused.
-fn explain() {
+fn explain<R: Read, W: Write, E: Write>(reader: &mut R, writer: &mut W, errors: &mut E) -> Output {
     let mut space = io::large_buffer();
-    let input = console::read(b"desk: standard input", &mut space);
+    let input = console::read(reader, errors, b"desk: standard input", &mut space);
     let Input::Read(n) = input else {
-        return;
+        return Output::Failed;
     };
     let mut out = [0u8; reasons::TEXT_LENGTH];
     let printed = reasons::print(&space[..n], &mut out);
-    console::write(b"desk: standard output", &out[..printed]);
+    console::write(writer, errors, b"desk: standard output", &out[..printed])
 }
 
 // The command `why`.
-fn why_command() {
-    if os::arg_count() != 2 {
-        return why_usage();
+fn why_command(rt: &HostRuntime) {
+    if argument_count(rt) != 2 {
+        return why_usage(rt);
     }
-    explain()
+    explain(&mut rt.stdin(), &mut rt.stdout(), &mut rt.stderr());
 }
 
 // Says how `picture` is called.
-fn picture_usage() {
-    io::write_all(STDERR_FILENO, b"desk: picture < sheet > floor.svg\n");
+fn picture_usage(rt: &impl Eprint) {
+    let _ = rt.eprintln("desk: picture < sheet > floor.svg");
 }
 
 // Prints the picture of the sheet from standard input.
-fn show_picture() {
+fn show_picture<R: Read, W: Write, E: Write>(
+    reader: &mut R,
+    writer: &mut W,
+    errors: &mut E,
+) -> Output {
     let mut space = io::large_buffer();
-    let input = console::read(b"desk: standard input", &mut space);
+    let input = console::read(reader, errors, b"desk: standard input", &mut space);
     let Input::Read(n) = input else {
-        return;
+        return Output::Failed;
     };
     let mut out = io::large_buffer();
     let printed = picture::print(&space[..n], &mut out);
-    console::write(b"desk: standard output", &out[..printed]);
+    console::write(writer, errors, b"desk: standard output", &out[..printed])
 }
 
 // The command `picture`.
-fn picture_command() {
-    if os::arg_count() != 2 {
-        return picture_usage();
+fn picture_command(rt: &HostRuntime) {
+    if argument_count(rt) != 2 {
+        return picture_usage(rt);
     }
-    show_picture()
+    show_picture(&mut rt.stdin(), &mut rt.stdout(), &mut rt.stderr());
 }
 
 // Says which commands there are, a line each.
-fn commands_usage() {
-    io::write_all(
-        STDERR_FILENO,
-        b"desk: no such command; the commands, each with its input on standard input:\n",
+fn commands_usage(rt: &impl Eprint) {
+    let _ = rt.eprintln(
+        "desk: no such command; the commands, each with its input on standard input:",
     );
-    io::write_all(
-        STDERR_FILENO,
-        b"  trial ORDER [SEED]  play a trial, and print its steps and the routes\n",
+    let _ = rt.eprintln("  trial ORDER [SEED]  play a trial, and print its steps and the routes");
+    let _ = rt.eprintln("  runs [RANK]         list the complete runs, or the one of a rank");
+    let _ = rt.eprintln("  meeting I J         tell where the best routes of two carriers meet");
+    let _ = rt.eprintln("  blockers            tell who shuts each stranded carrier in");
+    let _ = rt.eprintln("  why                 tell in words why the sheet is refused");
+    let _ = rt.eprintln("  picture             draw the floor and its routes as an SVG that moves");
+    let _ = rt.eprintln(
+        "  draw [BEAT]         draw the floor with its carriers at a beat, or at all",
     );
-    io::write_all(
-        STDERR_FILENO,
-        b"  runs [RANK]         list the complete runs, or the one of a rank\n",
-    );
-    io::write_all(
-        STDERR_FILENO,
-        b"  meeting I J         tell where the best routes of two carriers meet\n",
-    );
-    io::write_all(
-        STDERR_FILENO,
-        b"  blockers            tell who shuts each stranded carrier in\n",
-    );
-    io::write_all(
-        STDERR_FILENO,
-        b"  why                 tell in words why the sheet is refused\n",
-    );
-    io::write_all(
-        STDERR_FILENO,
-        b"  picture             draw the floor and its routes as an SVG that moves\n",
-    );
-    io::write_all(
-        STDERR_FILENO,
-        b"  draw [BEAT]         draw the floor with its carriers at a beat, or at all\n",
-    );
-    io::write_all(
-        STDERR_FILENO,
-        b"  sheet               print the sheet of a map from standard input\n",
-    );
+    let _ = rt.eprintln("  sheet               print the sheet of a map from standard input");
 }
 
-fn main() {
+fn main(rt: HostRuntime) {
     let mut name = io::buffer();
-    let n = os::arg(1, &mut name);
+    let n = argument_bytes(&rt, 1, &mut name);
     match command_named(&name[..n]) {
-        Command::Trial => trial_command(),
-        Command::Runs => runs_command(),
-        Command::Meeting => meeting_command(),
-        Command::Blockers => blockers_command(),
-        Command::Draw => draw_command(),
-        Command::Sheet => sheet_command(),
-        Command::Why => why_command(),
-        Command::Picture => picture_command(),
-        Command::Unknown => commands_usage(),
+        Command::Trial => trial_command(&rt),
+        Command::Runs => runs_command(&rt),
+        Command::Meeting => meeting_command(&rt),
+        Command::Blockers => blockers_command(&rt),
+        Command::Draw => draw_command(&rt),
+        Command::Sheet => sheet_command(&rt),
+        Command::Why => why_command(&rt),
+        Command::Picture => picture_command(&rt),
+        Command::Unknown => commands_usage(&rt),
     }
 }

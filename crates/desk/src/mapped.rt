@@ -1,13 +1,17 @@
 // The sheet of a map on standard input.
-use console::Input;
-use libc::STDERR_FILENO;
+use console::{Input, Output};
+use std::io::{Read, Write};
 
 // Prints the sheet of the map, or says in words what is wrong with it.
-pub fn print_sheet() {
+pub fn print_sheet<R: Read, W: Write, E: Write>(
+    reader: &mut R,
+    writer: &mut W,
+    errors: &mut E,
+) -> Output {
     let mut space = io::large_buffer();
-    let input = console::read(b"desk: standard input", &mut space);
+    let input = console::read(reader, errors, b"desk: standard input", &mut space);
     let Input::Read(n) = input else {
-        return;
+        return Output::Failed;
     };
     let mut out = map_reader::no_sheet();
     let mut words = [0u8; map_reader::WORDS];
@@ -15,9 +19,9 @@ pub fn print_sheet() {
     let k = printed.sheet;
     let told = printed.words;
     if k == 0 {
-        io::write_all(STDERR_FILENO, b"desk: ");
-        io::write_all(STDERR_FILENO, &words[..told]);
-        return;
+        let _ = errors.write_all(b"desk: ");
+        let _ = errors.write_all(&words[..told]);
+        return Output::Written;
     }
-    console::write(b"desk: standard output", &out[..k]);
+    console::write(writer, errors, b"desk: standard output", &out[..k])
 }

@@ -1,14 +1,14 @@
 -- The text of a meeting in a memory of 1,087 bytes, which holds every such text.
-use Prim.Native.Nat.{ℕ, zero, suc, ◌+◌, ◌*◌, ◌/◌, ◌%◌, ◌≤◌, ◌<◌, min}
+use Prim.Native.Nat.{ℕ, zero, suc, ◌+◌, ◌*◌, ◌≤◌, ◌<◌, min}
 use native.Mathlib.Omega.{arith}
-use mathlib.Core.Bool.{Bool, true, false, cond}
+use mathlib.Core.Bool.{Bool, true, false}
 use mathlib.Core.Path.{◌≡◌, refl, sym, ap, ◌∙◌}
 use mathlib.Core.List.{List, [], ◌∷◌, ◌++◌, append-nil}
-use borrow.Author.Tests.{le-leb, leb-true, lt-ltb, le-ltb}
-use lib.Dec.{ltb, leb}
+use borrow.Author.Tests.{le-leb, leb-true}
+use lib.Dec.{leb}
 use lib.ListN.{length, get_or, replicate, length-append, length-replicate}
 use Rattle.laws.specs.Memory.{put}
-use Rattle.laws.specs.Verdict.{Verdict, passed, refused, value, demand, ◌then◌}
+use Rattle.laws.specs.Verdict.{Verdict, passed, refused, value, demand}
 use Rattle.laws.proofs.PutLaws.{put_none}
 use Rattle.laws.proofs.Tests.{and_fst, and_snd}
 use Rattle.laws.proofs.VerdictLaws.{then_passed, then_refused, then_both, demand_passes, demand_holds, demand_cases, gives_passed}

@@ -1,6 +1,6 @@
 -- The printed text of `desk meeting I J` (document 02, slips 7 and 9), from a sheet's bytes and two carriers, counted from 1: where the
 -- best routes of the two, each against nobody, meet, and the floor at that beat.
-use Rattle.std.specs.Prelude.{ℕ, ◌+◌, ◌-◌, ◌/◌, ◌%◌, ◌≤◌, Bool, true, false, cond, List, [], ◌∷◌, ◌++◌, ltb, replicate, set}
+use Rattle.std.specs.Prelude.{ℕ, ◌-◌, ◌≤◌, Bool, true, false, List, [], ◌∷◌, ◌++◌, replicate, set}
 use Rattle.laws.specs.Verdict.{Verdict, ◌then◌, demand}
 use Rattle.reporting.specs.Words.{carrier_words, short_decimal}
 use Rattle.floor.specs.declared.Floor.{Floor}

@@ -2,8 +2,10 @@
 // line of its refusal. A failure of either is said on standard error.
 #![tactic(auto)]
 
-ghost use Rattle.std.specs.Prelude.{◌≡◌, ◌≤◌, length, take};
+ghost use Rattle.std.specs.Prelude.{◌≡◌, ◌≤◌, length, take, IfSome};
+ghost use Rattle.std.specs.Io.KnownBytes.{Appends};
 ghost use Rattle.io.specs.Counts.{IsPrefixLen};
+ghost use Rattle.console.specs.Moved.{OnWritten};
 ghost use Rattle.floor.specs.Checks.{check_of};
 ghost use Rattle.laws.specs.Verdict.{passed};
 ghost use Rattle.sheet.specs.Text.{sheet_of};
@@ -11,8 +13,9 @@ ghost use Rattle.sheet.specs.Read.{sheet_verdict};
 ghost use Rattle.printing.specs.Print.{or_refusal};
 ghost use Rattle.printing.specs.Put.{TextPut};
 
-use console::Input;
+use console::{Input, Output};
 use floor::{Checked, Floor};
+use std::io::{Read, Write};
 
 // The length of the longest sheet: 31 bytes, 56 for each of eight carriers of four docks, 11 for each of 1,023 walls.
 const SHEET_LENGTH: usize = 11732;
@@ -44,14 +47,22 @@ fn print(text: &[u8], out: &mut [u8; SHEET_LENGTH]) -> usize
     printing::put_refusal(x, out)
 }
 
-// The longest sheet has 11,732 bytes; of a longer input the first 65,536 bytes hold the first extra byte.
-fn main() {
+// Writes the sheet that the input has again, or the line of its refusal; a failure of input or output is said. The longest sheet has 11,732
+// bytes; of a longer input the first 65,536 bytes hold the first extra byte.
+fn run<R: Read, W: Write, E: Write>(reader: &mut R, writer: &mut W, errors: &mut E) -> Output
+    ensures { OnWritten result (IfSome (R.remaining reader.old)
+        (λ xs. Appends (W.contents writer.old) (W.contents writer.new) (let text = take 65536 xs in or_refusal (sheet_verdict text) text))) }
+{
     let mut space = io::large_buffer();
-    let input = console::read(b"resheet: standard input", &mut space);
+    let input = console::read(reader, errors, b"resheet: standard input", &mut space);
     let Input::Read(n) = input else {
-        return;
+        return Output::Failed;
     };
     let mut out = [0u8; SHEET_LENGTH];
     let printed = print(&space[..n], &mut out);
-    console::write(b"resheet: standard output", &out[..printed]);
+    console::write(writer, errors, b"resheet: standard output", &out[..printed])
+}
+
+fn main(rt: HostRuntime) {
+    run(&mut rt.stdin(), &mut rt.stdout(), &mut rt.stderr());
 }

@@ -2,12 +2,15 @@
 // else; of a refused sheet the line of its refusal. A failure of either is said on standard error.
 #![tactic(auto)]
 
-ghost use Rattle.std.specs.Prelude.{◌≡◌, take};
+ghost use Rattle.std.specs.Prelude.{◌≡◌, take, IfSome};
+ghost use Rattle.std.specs.Io.KnownBytes.{Appends};
 ghost use Rattle.io.specs.Counts.{IsPrefixLen};
+ghost use Rattle.console.specs.Moved.{OnWritten};
 ghost use Rattle.printing.specs.Print.{routes_of};
 
-use console::Input;
+use console::{Input, Output};
 use printing::Printed;
+use std::io::{Read, Write};
 
 // The length of the longest printed text: 11 bytes, and 331 for each of eight carriers.
 const TEXT_LENGTH: usize = 2659;
@@ -24,14 +27,22 @@ fn print(text: &[u8], out: &mut [u8; TEXT_LENGTH]) -> usize
     n
 }
 
-// The longest sheet has 11,732 bytes; of a longer input the first 65,536 bytes hold the first extra byte.
-fn main() {
+// Prints the routes of the sheet that the input has, or the line of its refusal; a failure of input or output is said. The longest sheet has
+// 11,732 bytes; of a longer input the first 65,536 bytes hold the first extra byte.
+fn run<R: Read, W: Write, E: Write>(reader: &mut R, writer: &mut W, errors: &mut E) -> Output
+    ensures { OnWritten result (IfSome (R.remaining reader.old)
+        (λ xs. Appends (W.contents writer.old) (W.contents writer.new) (routes_of (take 65536 xs)))) }
+{
     let mut space = io::large_buffer();
-    let input = console::read(b"routes: standard input", &mut space);
+    let input = console::read(reader, errors, b"routes: standard input", &mut space);
     let Input::Read(n) = input else {
-        return;
+        return Output::Failed;
     };
     let mut out = [0u8; TEXT_LENGTH];
     let printed = print(&space[..n], &mut out);
-    console::write(b"routes: standard output", &out[..printed]);
+    console::write(writer, errors, b"routes: standard output", &out[..printed])
+}
+
+fn main(rt: HostRuntime) {
+    run(&mut rt.stdin(), &mut rt.stdout(), &mut rt.stderr());
 }

@@ -14,7 +14,8 @@
 
 ghost use Rattle.std.specs.Prelude.{◌≡◌, length};
 
-use libc::STDIN_FILENO;
+use console::Input;
+use std::io::{Result, Write};
 use testkit::{bytes, fields, memory, show};
 
 // Room for the script: twice a large buffer.
@@ -25,56 +26,56 @@ fn script_room() -> [u8; 131072]
 }
 
 // Prints why a sheet is refused.
-fn why(sheet: &[u8]) {
+fn why<W: Write>(writer: &mut W, sheet: &[u8]) -> Result<()> {
     let mut out = [0u8; reasons::TEXT_LENGTH];
     let n = reasons::print(sheet, &mut out);
-    show::text(&out[..n]);
+    show::text(writer, &out[..n])
 }
 
 // Prints the picture of a sheet.
-fn draw(sheet: &[u8]) {
+fn draw<W: Write>(writer: &mut W, sheet: &[u8]) -> Result<()> {
     let mut out = io::large_buffer();
     let n = picture::print(sheet, &mut out);
-    show::text(&out[..n]);
+    show::text(writer, &out[..n])
 }
 
 // Prints the meeting of two carriers of a sheet.
-fn meet(sheet: &[u8], i: u16, j: u16) {
+fn meet<W: Write>(writer: &mut W, sheet: &[u8], i: u16, j: u16) -> Result<()> {
     let mut out = [0u8; meeting::TEXT_LENGTH];
     let n = meeting::print(sheet, i, j, &mut out);
-    show::text(&out[..n]);
+    show::text(writer, &out[..n])
 }
 
 // Prints who shuts the stranded carriers of a sheet in.
-fn shut(sheet: &[u8]) {
+fn shut<W: Write>(writer: &mut W, sheet: &[u8]) -> Result<()> {
     let mut out = [0u8; stranded::TEXT_LENGTH];
     let n = stranded::print(sheet, &mut out);
-    show::text(&out[..n]);
+    show::text(writer, &out[..n])
 }
 
 // Prints the floor of a sheet beat by beat.
-fn draw_all(sheet: &[u8]) {
+fn draw_all<W: Write>(writer: &mut W, sheet: &[u8]) -> Result<()> {
     let mut out = frames::no_text();
     let n = frames::print(sheet, &mut out);
-    show::text(&out[..n]);
+    show::text(writer, &out[..n])
 }
 
 // Prints the floor of a sheet at a beat, nothing where it is above the horizon.
-fn draw_beat(sheet: &[u8], t: u16) {
+fn draw_beat<W: Write>(writer: &mut W, sheet: &[u8], t: u16) -> Result<()> {
     let mut out = [0u8; frames::BEAT_LENGTH];
     let n = frames::print_beat(sheet, t, &mut out);
-    show::text(&out[..n]);
+    show::text(writer, &out[..n])
 }
 
 // Prints the sheet of a map, or what is wrong with it.
-fn read_map(map: &[u8]) {
+fn read_map<W: Write>(writer: &mut W, map: &[u8]) -> Result<()> {
     let mut out = map_reader::no_sheet();
     let mut words = [0u8; map_reader::WORDS];
     let printed = map_reader::print(map, &mut out, &mut words);
     let n = printed.sheet;
     let w = printed.words;
-    show::text(&out[..n]);
-    show::text(&words[..w]);
+    show::text(writer, &out[..n])?;
+    show::text(writer, &words[..w])
 }
 
 // The place of a section's length among its numbers: behind the two carriers of `meeting` and the beat of `at`.
@@ -87,47 +88,57 @@ fn length_place(text: &[u8]) -> usize {
 }
 
 // Prints what the command of a section, by its first letter, prints for a sheet.
-fn run(text: &[u8], sheet: &[u8]) {
+fn run<W: Write>(writer: &mut W, text: &[u8], sheet: &[u8]) -> Result<()> {
     match bytes::byte(text, 2) {
-        b'w' => why(sheet),
-        b'p' => draw(sheet),
+        b'w' => why(writer, sheet),
+        b'p' => draw(writer, sheet),
         b'm' => meet(
+            writer,
             sheet,
             memory::narrow(fields::field(text, 0)),
             memory::narrow(fields::field(text, 1)),
         ),
-        b'b' => shut(sheet),
-        b'd' => draw_all(sheet),
-        b'a' => draw_beat(sheet, memory::narrow(fields::field(text, 0))),
-        b's' => read_map(sheet),
-        _ => {}
+        b'b' => shut(writer, sheet),
+        b'd' => draw_all(writer, sheet),
+        b'a' => draw_beat(writer, sheet, memory::narrow(fields::field(text, 0))),
+        b's' => read_map(writer, sheet),
+        _ => Ok(()),
     }
 }
 
 // Plays the section at the front of a script; its length is returned.
-fn section(bytes: &[u8]) -> usize {
+fn section<W: Write>(writer: &mut W, bytes: &[u8]) -> Result<usize> {
     let end = memory::plus(fields::end(bytes), 1);
     let n = fields::field(bytes, length_place(bytes));
-    show::text(bytes::part(bytes, 0, end));
-    run(bytes, bytes::part(bytes, end, n));
-    memory::plus(memory::plus(end, n), 1)
+    show::text(writer, bytes::part(bytes, 0, end))?;
+    run(writer, bytes, bytes::part(bytes, end, n))?;
+    Ok(memory::plus(memory::plus(end, n), 1))
 }
 
 // Plays the sections of a script, of which there are fewer than 1,000.
-fn play(script: &[u8]) {
+fn play<W: Write>(writer: &mut W, script: &[u8]) -> Result<()> {
     let mut at: usize = 0;
     let mut k: usize = 0;
     while k < 1000 {
         if script.len() <= at {
-            return;
+            return Ok(());
         }
-        at = memory::plus(at, section(&script[at..]));
+        at = memory::plus(at, section(writer, &script[at..])?);
         k += 1;
     }
+    Ok(())
 }
 
-fn main() {
+fn main(rt: HostRuntime) -> Result<()> {
     let mut space = script_room();
-    let n = io::read_full(STDIN_FILENO, &mut space);
-    play(&space[..n]);
+    let input = console::read(
+        &mut rt.stdin(),
+        &mut rt.stderr(),
+        b"tryouts: standard input",
+        &mut space,
+    );
+    let Input::Read(n) = input else {
+        return Ok(());
+    };
+    play(&mut rt.stdout(), &space[..n])
 }

@@ -1,0 +1,30 @@
+-- `frames::cells::frame_mark` meets its contract: by the number of carriers there.
+use mathlib.Core.Path.{sym, ◌∙◌}
+use Rattle.floor.proofs.LimitsLaws.{check_tells}
+use Rattle.maps.proofs.MarkLaws.{one_none, one_only, one_several}
+use Rattle.frames.specs.Text.{frame_mark}
+use native.Mathlib.Omega.{arith}
+use Rattle.frames.proofs.cells.frame_mark.Goals as goal
+
+pub put_carriers-n-requires : goal.put_carriers-n-requires
+put_carriers-n-requires c =
+    ((check_tells _ _ c.requires.0.checked).bounds.carriers.1, c.requires.0.long, c.requires.1, omega arith)
+
+pub still_mark-requires : goal.still_mark-requires
+still_mark-requires c =
+    c.requires.0.checked
+
+pub returns-then-n-eq0 : goal.returns-then-n-eq0
+unfolding frame_mark
+returns-then-n-eq0 c =
+    c.still_mark.ensures ∙ sym (one_none _ _ _ c.put_carriers-n.ensures c.if-n-eq0.true)
+
+pub returns-then-n-eq1 : goal.returns-then-n-eq1
+unfolding frame_mark
+returns-then-n-eq1 c =
+    sym (one_only _ _ _ c.put_carriers-n.ensures c.if-n-eq0.false c.if-n-eq1.true)
+
+pub returns : goal.returns
+unfolding frame_mark
+returns c =
+    sym (one_several _ _ _ c.put_carriers-n.ensures c.if-n-eq0.false c.if-n-eq1.false)
