@@ -3,7 +3,7 @@ use Prim.Native.Nat.{ℕ}
 use native.Mathlib.Omega.{arith}
 use mathlib.Core.Path.{◌≡◌, refl, ◌∙◌}
 use mathlib.Core.List.{[]}
-use Rattle.laws.specs.Verdict.{passed, refused, ◌then◌, demand, in_turn, demand_each, passes, ◌gives◌, ◌thenAnswers◌, when_passed, each}
+use Rattle.laws.specs.Verdict.{passed, refused, ◌then◌, demand, in_turn, demand_each, passes, ◌gives◌, ◌then_answers◌, when_passed, each}
 use Rattle.floor.specs.Checks.{within, limits_of, long_enough, lent_of, start_of, count_of, docks_of, dock_of, is_dock, in_grid, carrier_in_grid}
 use Rattle.floor.specs.Checks.{carriers_of, walls_of}
 use Rattle.floor.specs.Checks.{docks_in_grid, docks_clear, unrepeated, unrepeated_of}
@@ -133,7 +133,7 @@ other_kind e = let z : ◌≡◌ {A = ℕ} 0 1 = cc in omega arith
 
 pub cases : Cases
 unfolding
-    ◌then◌ demand in_turn demand_each passes ◌gives◌ ◌thenAnswers◌ when_passed
+    ◌then◌ demand in_turn demand_each passes ◌gives◌ ◌then_answers◌ when_passed
     within limits_of long_enough lent_of start_of count_of docks_of dock_of is_dock part docks_in_grid docks_clear unrepeated unrepeated_of
     one_each with_one_dock in_grid carrier_in_grid carriers_of walls_of rises rising_of
     among clear_of_walls clear_of unshared distinct_of places_of check_of

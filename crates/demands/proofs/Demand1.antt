@@ -10,7 +10,7 @@ use lib.Dec.{leb}
 use lib.ListN.{length, take, drop, take-append-drop}
 use borrow.Author.Tests.{le-leb, lt-leb}
 use Rattle.laws.specs.Memory.{put}
-use Rattle.laws.specs.Verdict.{Verdict, passed, refused, ◌then◌, demand, Outcome, value, refusal, ◌thenAnswers◌, when_passed}
+use Rattle.laws.specs.Verdict.{Verdict, passed, refused, ◌then◌, demand, Outcome, value, refusal, ◌then_answers◌, when_passed}
 use Rattle.laws.proofs.Tests.{lt_or_le, not_true_is_false, false_fails}
 use Rattle.laws.proofs.VerdictLaws.{then_both, then_assoc, when_passed_lem, when_refused, demand_holds}
 use Rattle.floor.specs.declared.Floor.{Floor}
@@ -48,7 +48,7 @@ use Rattle.machine.specs.Ceiling.{most_steps}
 use Rattle.trial.specs.Report.{report_numbers, report_size}
 use Rattle.trial.specs.Entry.{trial_verdict, trial_of, trial_outcome, state_tried, report_tried}
 use Rattle.trial.proofs.Theorems.{theorems as trial-theorems}
-use Rattle.demands.specs.Rows.{Table, Row, row, Short, ◌orElse◌, earlier, later, Refuses, Answers, Keeps}
+use Rattle.demands.specs.Rows.{Table, Row, row, Short, ◌or_else◌, earlier, later, Refuses, Answers, Keeps}
 use Rattle.demands.specs.Demand1.{HoldsState, ReadRows, WriteRows, PlanRows, PrintRows, SearchRows, FreshRows, StateRows, CallRows}
 use Rattle.demands.specs.Demand1.{TrialRows, RoutesRows, Demand1}
 use Rattle.demands.proofs.RankLaws.{run_of_rank_lem, run_keeps_report}

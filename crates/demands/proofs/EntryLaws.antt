@@ -11,7 +11,7 @@ use Rattle.floor.specs.Accepted.{Within}
 use Rattle.floor.specs.Refused.{RefusedWith as RefusedFloor}
 use Rattle.floor.proofs.LimitsLaws.{field_means, limits_each, within_means}
 use Rattle.floor.proofs.Theorems.{theorems as floor-theorems}
-use Rattle.demands.specs.Rows.{Row, Short, ◌orElse◌, Refuses}
+use Rattle.demands.specs.Rows.{Row, Short, ◌or_else◌, Refuses}
 use Rattle.demands.specs.Demand1.{OutsideLimit, outside}
 use Rattle.demands.proofs.RowLaws.{then_rows, demand_row, short_row}
 

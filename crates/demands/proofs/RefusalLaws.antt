@@ -5,7 +5,7 @@ use mathlib.Core.List.Memᴰ
 use mathlib.Core.List.{List, [], ◌∷◌, Memᴰ}
 use mathlib.Core.Logic.{⊎_elim}
 use mathlib.Core.Path.{◌≡◌, refl, sym, ◌∙◌}
-use Rattle.laws.specs.Verdict.{Verdict, passed, refused, ◌then◌, value, refusal, ◌gives◌, ◌thenAnswers◌}
+use Rattle.laws.specs.Verdict.{Verdict, passed, refused, ◌then◌, value, refusal, ◌gives◌, ◌then_answers◌}
 use Rattle.laws.proofs.VerdictLaws.{gives_refused, when_refused}
 use Rattle.reference.specs.State.{Machine, State}
 use Rattle.reference.specs.Ending.{ended}
@@ -29,8 +29,8 @@ gives_refusal passed y k p e = absurd (let z : ◌≡◌ {A = ℕ} 0 1 = cc in o
 gives_refusal (refused k' p') y k p e = let k-same : k' ≡ k = cc in let p-same : p' ≡ p = cc in rw (k-same, p-same)
 
 -- A refusal after the checks is one more check that refuses.
-answers_gives : (x : Verdict) (k p : ℕ) (y : CallAnswer) → ◌≡◌ {A = Reply} (x thenAnswers refusal k p) ((x then refused k p) gives y)
-unfolding ◌gives◌ ◌then◌ ◌thenAnswers◌
+answers_gives : (x : Verdict) (k p : ℕ) (y : CallAnswer) → ◌≡◌ {A = Reply} (x then_answers refusal k p) ((x then refused k p) gives y)
+unfolding ◌gives◌ ◌then◌ ◌then_answers◌
 answers_gives passed k p y = refl
 answers_gives (refused k' p') k p y = refl
 

@@ -7,10 +7,10 @@ use mathlib.Core.Logic.{◌↔◌}
 use mathlib.Core.Path.{◌≡◌, refl, sym, ◌∙◌}
 use lib.ListN.{length, drop}
 use borrow.Author.Tests.{leb-false, lt-leb}
-use Rattle.laws.specs.Verdict.{Verdict, passed, refused, ◌then◌, demand, Outcome, value, refusal, ◌gives◌, ◌thenAnswers◌, when_passed}
+use Rattle.laws.specs.Verdict.{Verdict, passed, refused, ◌then◌, demand, Outcome, value, refusal, ◌gives◌, ◌then_answers◌, when_passed}
 use Rattle.laws.proofs.VerdictLaws.{refused_by, refused_not_passed, refused_same, demand_cases, demand_refuses, then_passed, then_refused}
 use Rattle.floor.specs.Checks.{long_enough}
-use Rattle.demands.specs.Rows.{Table, Row, row, Short, ◌orElse◌, earlier, later, Refuses, Answers, Keeps}
+use Rattle.demands.specs.Rows.{Table, Row, row, Short, ◌or_else◌, earlier, later, Refuses, Answers, Keeps}
 
 -- A value is no refusal.
 pub value_no_refusal : {A : Type 0} {x : A} {k p : ℕ} → value x ≡ refusal k p → ⊥
@@ -45,8 +45,8 @@ then_rows {R} {S} x y t u k p = (
 
 -- An answer after a check.
 pub answers_rows : {A : Type 0} {R S : Table} (x : Verdict) (y : Outcome A) → Refuses x R → (x ≡ passed → Answers y S)
-    → Answers (x thenAnswers y) (R or_else S)
-unfolding ◌thenAnswers◌
+    → Answers (x then_answers y) (R or_else S)
+unfolding ◌then_answers◌
 answers_rows {A} {R} {S} passed y t u k p = (λ h. later (passes_no_row t refl) ((u refl k p).0 h), back)
   where
     back : (R or_else S) k p → y ≡ refusal k p

@@ -29,7 +29,7 @@ use Rattle.encoding.specs.Calls.{machine_of, place_verdict, state_in, fresh_memo
 use Rattle.machine.specs.Ceiling.{most_steps}
 use Rattle.trial.specs.Entry.{trial_outcome, state_tried, report_tried}
 use Rattle.lister.specs.Entry.{total_of, rank_outcome, report_listed}
-use Rattle.demands.specs.Rows.{Table, Row, Short, ◌orElse◌, Refuses, Answers, Keeps}
+use Rattle.demands.specs.Rows.{Table, Row, Short, ◌or_else◌, Refuses, Answers, Keeps}
 
 -- 2, field: a value of line 1 is outside its limits; the first such field.
 pub data OutsideLimit (f : Floor) : ℕ → ℕ → Type 0 where

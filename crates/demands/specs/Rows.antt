@@ -14,11 +14,11 @@ pub data Row (number place : ℕ) (When : Type 0) : ℕ → ℕ → Type 0 where
 abbrev pub Short : ℕ → ℕ → Table
 Short lent needed = Row 9 0 (lent < needed)
 
-infixr 28 ◌orElse◌
+infixr 28 ◌or_else◌
 -- The rows of one table, and where none of them holds those of the next.
-pub data ◌orElse◌ (R S : Table) (k p : ℕ) : Type 0 where
-  earlier : R k p → ◌orElse◌ R S k p
-  later : ((k' p' : ℕ) → R k' p' → ⊥) → S k p → ◌orElse◌ R S k p
+pub data ◌or_else◌ (R S : Table) (k p : ℕ) : Type 0 where
+  earlier : R k p → ◌or_else◌ R S k p
+  later : ((k' p' : ℕ) → R k' p' → ⊥) → S k p → ◌or_else◌ R S k p
 
 -- A check refuses exactly under the rows of a table.
 abbrev pub Refuses : Verdict → Table → Type 0

@@ -9,7 +9,7 @@ use mathlib.Core.List.{List, ◌++◌, map}
 use mathlib.Core.Path.{◌≡◌, refl, sym, ◌∙◌, ap}
 use lib.ListN.{length, take, drop, take-append-drop, length-append}
 use borrow.Author.Tests.{le-leb}
-use Rattle.laws.specs.Verdict.{Verdict, passed, refused, Outcome, value, ◌then◌, demand, ◌gives◌, ◌thenAnswers◌, when_passed}
+use Rattle.laws.specs.Verdict.{Verdict, passed, refused, Outcome, value, ◌then◌, demand, ◌gives◌, ◌then_answers◌, when_passed}
 use Rattle.laws.specs.Memory.{put}
 use Rattle.laws.proofs.VerdictLaws.{then_passed, then_both, demand_holds, demand_passes, answers_passed, gives_same, when_passed_lem}
 use Rattle.floor.specs.declared.Floor.{Floor}
@@ -161,12 +161,12 @@ module _ (f : Floor) (ws m : List ℕ) where
   unfolding state_verdict place_verdict
   floor_passes e = (then_both _ _ (then_both _ _ e).0).0
 
-  pub reply_in_lem : (x : Call) → (state_verdict f ws m thenAnswers reply_in (machine_of f ws) m x) ≡ reply_to f ws m x
-  unfolding reply_to ◌thenAnswers◌
+  pub reply_in_lem : (x : Call) → (state_verdict f ws m then_answers reply_in (machine_of f ws) m x) ≡ reply_to f ws m x
+  unfolding reply_to ◌then_answers◌
   reply_in_lem x = go (state_verdict f ws m) refl
     where
       go : (y : Verdict) → state_verdict f ws m ≡ y →
-          ◌≡◌ {A = Reply} (y thenAnswers reply_in (machine_of f ws) m x) (y thenAnswers reply (machine_of f ws) (state_in f m) x)
+          ◌≡◌ {A = Reply} (y then_answers reply_in (machine_of f ws) m x) (y then_answers reply (machine_of f ws) (state_in f m) x)
       go passed e = shown_reply f ws (floor_passes e) m e x
       go (refused k p) e = refl
 

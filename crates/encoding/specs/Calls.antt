@@ -1,7 +1,7 @@
 -- The calls on a lent state (document 01, 'Refused', 'The machine'): their refusals in order, their answers, and the memory after them,
 -- each by the reference machine on the state that the memory shows.
 use Rattle.std.specs.Prelude.{ℕ, List, map, length}
-use Rattle.laws.specs.Verdict.{Verdict, ◌then◌, demand, ◌thenAnswers◌, when_passed}
+use Rattle.laws.specs.Verdict.{Verdict, ◌then◌, demand, ◌then_answers◌, when_passed}
 use Rattle.laws.specs.Memory.{put}
 use Rattle.floor.specs.declared.Floor.{Floor}
 use Rattle.floor.specs.Checks.{check_of, long_enough}
@@ -40,7 +40,7 @@ fresh_memory f ws m = when_passed (place_verdict f ws (length m)) (with_state f 
 
 -- The answer to a call on a lent state: the refusals of the state, then the reference machine's answer on the state that it shows.
 unfoldable pub reply_to : Floor → List ℕ → List ℕ → Call → Reply
-reply_to f ws m x = state_verdict f ws m thenAnswers reply (machine_of f ws) (state_in f m) x
+reply_to f ws m x = state_verdict f ws m then_answers reply (machine_of f ws) (state_in f m) x
 
 -- The memory after a call: the reference machine's next state in its front, the rest as it was; all as it was with a refusal.
 unfoldable pub memory_after : Floor → List ℕ → List ℕ → Call → List ℕ

@@ -1,6 +1,6 @@
 -- Inner matter: nothing claimed rests on this. The calls on a state in memory, number for number: their refusals, answers and memory.
 use Rattle.std.specs.Prelude.{ℕ, List}
-use Rattle.laws.specs.Verdict.{Verdict, refused, refusal, ◌then◌, demand, ◌gives◌, ◌thenAnswers◌, when_passed}
+use Rattle.laws.specs.Verdict.{Verdict, refused, refusal, ◌then◌, demand, ◌gives◌, ◌then_answers◌, when_passed}
 use Rattle.reference.specs.State.{Machine}
 use Rattle.reference.specs.Step.{is_there}
 use Rattle.reference.specs.Table.{Asked, step, no_step, Call, single, run_of, lent_enough, all_named}
@@ -21,7 +21,7 @@ verdict_in M m (run_of lent xs b) = lent_enough M lent then all_named M xs
 -- The answer to a call.
 unfoldable pub reply_in : Machine → List ℕ → Call → Reply
 reply_in M m (single lent (step x)) = verdict_in M m (single lent (step x)) gives stepped (step_answer_in M m x)
-reply_in M m (single lent no_step) = lent_enough M lent thenAnswers refusal 7 0
+reply_in M m (single lent no_step) = lent_enough M lent then_answers refusal 7 0
 reply_in M m (run_of lent xs b) = verdict_in M m (run_of lent xs b) gives ran (run_in M m xs b).taken (ending_in M b (run_in M m xs b))
 
 -- The memory after a call that is not refused, and after any call.

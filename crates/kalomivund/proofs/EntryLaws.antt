@@ -5,7 +5,7 @@ use mathlib.Core.Path.{◌≡◌, refl}
 use mathlib.Core.List.{List}
 use lib.ListN.{length}
 use borrow.Author.Tests.{le-leb, lt-leb}
-use Rattle.laws.specs.Verdict.{Verdict, passed, refused, ◌then◌, demand, Outcome, refusal, ◌gives◌, ◌thenAnswers◌, when_passed}
+use Rattle.laws.specs.Verdict.{Verdict, passed, refused, ◌then◌, demand, Outcome, refusal, ◌gives◌, ◌then_answers◌, when_passed}
 use Rattle.floor.specs.Checks.{long_enough}
 use Rattle.sheet.specs.Read.{read_verdict}
 use Rattle.abi.specs.Word.{Done, word_of, map_outcome}
@@ -14,7 +14,7 @@ use Rattle.kalomivund.specs.Entries.{word_for, stored_for, read_lent}
 
 -- The word and the memory are those of the call.
 pub says_lent : {w : ℕ} (xs : List ℕ) (x : Outcome Done) → 54 ≤ length xs → w ≡ word_of x → w ≡ word_for xs x
-unfolding word_for ◌thenAnswers◌ record_lent long_enough demand
+unfolding word_for ◌then_answers◌ record_lent long_enough demand
 says_lent xs x l e = rw (le-leb 54 (length xs) l) e
 
 pub stores_lent : {m new : List ℕ} (xs old : List ℕ) → 54 ≤ length xs → m ≡ new → m ≡ stored_for xs new old
@@ -45,7 +45,7 @@ pub ruleset packed_answers = (says_packed, told_checks, stores_lent)
 
 -- The word is the refusal's, 9, 0, and the memory is as it was.
 pub says_short : {w : ℕ} (xs : List ℕ) (x : Outcome Done) → length xs < 54 → w ≡ word_of (refusal 9 0) → w ≡ word_for xs x
-unfolding word_for ◌thenAnswers◌ record_lent long_enough demand
+unfolding word_for ◌then_answers◌ record_lent long_enough demand
 says_short xs x l e = rw (lt-leb 54 (length xs) l) e
 
 pub stores_short : (xs new old : List ℕ) → length xs < 54 → old ≡ stored_for xs new old

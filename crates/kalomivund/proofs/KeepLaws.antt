@@ -5,7 +5,7 @@ use native.Mathlib.Omega.{arith}
 use mathlib.Core.Path.{◌≡◌, refl}
 use mathlib.Core.List.{List}
 use lib.ListN.{drop}
-use Rattle.laws.specs.Verdict.{Verdict, passed, refused, Outcome, value, ◌gives◌, ◌thenAnswers◌, when_passed}
+use Rattle.laws.specs.Verdict.{Verdict, passed, refused, Outcome, value, ◌gives◌, ◌then_answers◌, when_passed}
 use Rattle.abi.specs.Word.{Done, word_of, map_outcome}
 use Rattle.abi.proofs.Theorems.{theorems as wire-theorems}
 use Rattle.abi.specs.Record.{record_lent}
@@ -26,9 +26,9 @@ checked_kept φ (refused k p) y new old e = refl
 
 -- Checks x before an entry that answers y.
 pub after_kept : {A : Type 0} (φ : A → Done) (x : Verdict) (y : Outcome A) (new old : List ℕ)
-    → (SaysRefused (word_of (map_outcome φ y)) → new ≡ old) → SaysRefused (word_of (map_outcome φ (x thenAnswers y)))
+    → (SaysRefused (word_of (map_outcome φ y)) → new ≡ old) → SaysRefused (word_of (map_outcome φ (x then_answers y)))
     → when_passed x new old ≡ old
-unfolding map_outcome ◌thenAnswers◌ when_passed
+unfolding map_outcome ◌then_answers◌ when_passed
 after_kept φ passed y new old h e = h e
 after_kept φ (refused k p) y new old h e = refl
 
@@ -46,9 +46,9 @@ checked_lent {needed = n} φ x y new old h = record { kept = checked_kept φ x y
 -- A call with a floor record that may be too short.
 pub record_lent_lem : {needed : ℕ} (xs : List ℕ) (x : Outcome Done) (new old : List ℕ)
     → KeepsLent needed (word_of x) new old → KeepsLent needed (word_for xs x) (stored_for xs new old) old
-unfolding word_for stored_for ◌thenAnswers◌ when_passed
+unfolding word_for stored_for ◌then_answers◌ when_passed
 record_lent_lem {needed} xs x new old h = go (record_lent xs)
   where
-    go : (y : Verdict) → KeepsLent needed (word_of (y thenAnswers x)) (when_passed y new old) old
+    go : (y : Verdict) → KeepsLent needed (word_of (y then_answers x)) (when_passed y new old) old
     go passed = h
     go (refused k p) = record { kept = λ e. refl; beyond = refl }

@@ -7,7 +7,7 @@ use mathlib.Core.List.{List}
 use lib.Dec.{leb}
 use lib.ListN.{length, length-append, replicate}
 use lib.Seq.{drop_at}
-use Rattle.laws.specs.Verdict.{Verdict, passed, refused, Outcome, value, refusal, ◌thenAnswers◌}
+use Rattle.laws.specs.Verdict.{Verdict, passed, refused, Outcome, value, refusal, ◌then_answers◌}
 use Rattle.laws.specs.Memory.{put}
 use Rattle.laws.proofs.PutLaws.{put_beyond}
 use Rattle.laws.proofs.VerdictLaws.{then_both}
@@ -106,8 +106,8 @@ print_routes text old = go (leb (needed_for text) (length old))
     go false = record { kept = λ e. refl; beyond = refl }
 
 -- What checks let through is what they were asked for.
-answered_through : {A : Type 0} (x : Verdict) (y : Outcome A) (z : A) → (x thenAnswers y) ≡ value z → y ≡ value z
-unfolding ◌thenAnswers◌
+answered_through : {A : Type 0} (x : Verdict) (y : Outcome A) (z : A) → (x then_answers y) ≡ value z → y ≡ value z
+unfolding ◌then_answers◌
 answered_through passed y z e = e
 answered_through (refused k p) y z e = absurd (let z : ◌≡◌ {A = ℕ} 0 1 = cc in omega arith)
 

@@ -3,7 +3,7 @@ use Prim.Native.Nat.{ℕ, ◌≤◌, ◌<◌}
 use mathlib.Core.Path.{◌≡◌, refl, sym, ◌∙◌}
 use mathlib.Core.List.{List}
 use Rattle.laws.specs.Memory.{put}
-use Rattle.laws.specs.Verdict.{Verdict, passed, refused, demand, ◌then◌, Outcome, value, refusal, ◌gives◌, ◌thenAnswers◌}
+use Rattle.laws.specs.Verdict.{Verdict, passed, refused, demand, ◌then◌, Outcome, value, refusal, ◌gives◌, ◌then_answers◌}
 use borrow.Author.Tests.{le-leb, lt-leb}
 use Rattle.floor.specs.declared.Floor.{Floor}
 use Rattle.floor.specs.Checks.{check_of, long_enough}
@@ -50,19 +50,19 @@ pub ruleset found_cases = (none_says, route_says, none_stores, route_stores, ref
 
 -- A search into route memory that is too short, after the floor's checks x, and into memory of enough numbers.
 short_word : (x : Verdict) (y : Outcome Answer)
-    → word_of (of_number ((x then refused 9 0) gives 0)) ≡ word_of (of_search ((x then refused 9 0) thenAnswers y))
-unfolding ◌then◌ ◌gives◌ ◌thenAnswers◌ of_number of_search map_outcome
+    → word_of (of_number ((x then refused 9 0) gives 0)) ≡ word_of (of_search ((x then refused 9 0) then_answers y))
+unfolding ◌then◌ ◌gives◌ ◌then_answers◌ of_number of_search map_outcome
 short_word passed y = refl
 short_word (refused k p) y = refl
 
-short_route : (x : Verdict) (y : Outcome Answer) (old : List ℕ) → route_stored ((x then refused 9 0) thenAnswers y) old ≡ old
-unfolding ◌then◌ ◌thenAnswers◌ route_stored
+short_route : (x : Verdict) (y : Outcome Answer) (old : List ℕ) → route_stored ((x then refused 9 0) then_answers y) old ≡ old
+unfolding ◌then◌ ◌then_answers◌ route_stored
 short_route passed y old = refl
 short_route (refused k p) y old = refl
 
 checked_twice : (y z : Verdict) (x : Answer)
-    → ◌≡◌ {A = Outcome Answer} ((y then passed) thenAnswers ((y then z) gives x)) ((y then z) gives x)
-unfolding ◌then◌ ◌gives◌ ◌thenAnswers◌
+    → ◌≡◌ {A = Outcome Answer} ((y then passed) then_answers ((y then z) gives x)) ((y then z) gives x)
+unfolding ◌then◌ ◌gives◌ ◌then_answers◌
 checked_twice passed z x = refl
 checked_twice (refused k p) z x = refl
 

@@ -2,7 +2,7 @@
 use Rattle.std.specs.Prelude.{ℕ, List, ◌++◌, length, drop}
 use Rattle.laws.specs.Memory.{put}
 use Rattle.floor.specs.declared.Floor.{Floor}
-use Rattle.laws.specs.Verdict.{Verdict, ◌then◌, Outcome, ◌gives◌, ◌thenAnswers◌, when_passed}
+use Rattle.laws.specs.Verdict.{Verdict, ◌then◌, Outcome, ◌gives◌, ◌then_answers◌, when_passed}
 use Rattle.floor.specs.Checks.{check_of, limits_of, long_enough}
 use Rattle.route.specs.Route.{Answer}
 use Rattle.sheet.specs.Text.{sheet_length}
@@ -26,7 +26,7 @@ use Rattle.kalomivund.specs.Answers.{of_search, route_stored, figure_list, of_re
 
 -- The word of a call with a floor record of enough numbers; 9, 0 of one with fewer.
 unfoldable pub word_for : List ℕ → Outcome Done → ℕ
-word_for xs x = word_of (record_lent xs thenAnswers x)
+word_for xs x = word_of (record_lent xs then_answers x)
 
 -- Memory after a call with a floor record of enough numbers; as it was with fewer.
 unfoldable pub stored_for : List ℕ → List ℕ → List ℕ → List ℕ
@@ -67,7 +67,7 @@ needed_stored xs old =
 
 -- A search into route memory, of which a number of numbers is lent: the floor's refusals, then 9, then the search's own answer.
 unfoldable pub search_lent : Floor → List ℕ → ℕ → List ℕ → ℕ → Outcome Answer
-search_lent f ws i m lent = (check_of f ws then long_enough 64 lent) thenAnswers search_of f ws i m
+search_lent f ws i m lent = (check_of f ws then long_enough 64 lent) then_answers search_of f ws i m
 
 -- `kalomivund_search`.
 unfoldable pub search_word : List ℕ → List ℕ → ℕ → List ℕ → ℕ → ℕ

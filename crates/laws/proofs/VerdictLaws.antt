@@ -10,7 +10,7 @@ use borrow.Author.Rules.{rules}
 use mathlib.Core.Logic.{◌⊎◌, ⊎_elim, inl, inr}
 use Rattle.laws.proofs.CodeTests.{code_holds, code_fails, decides}
 use Rattle.laws.specs.Verdict.{Verdict, passed, refused, ◌then◌, demand, in_turn, demand_each, passes, Outcome, value, refusal, ◌gives◌}
-use Rattle.laws.specs.Verdict.{◌thenAnswers◌, when_passed}
+use Rattle.laws.specs.Verdict.{◌then_answers◌, when_passed}
 
 -- Behind a passed check the next one decides.
 pub then_passed : {x y : Verdict} → x ≡ passed → (x then y) ≡ y
@@ -29,12 +29,12 @@ unfolding ◌then◌
 then_refused y h = rw h
 
 -- What is answered, and what is stored, where the checks find nothing and where they refuse.
-pub answers_passed : {A : Type 0} {x : Verdict} {y : Outcome A} → x ≡ passed → (x thenAnswers y) ≡ y
-unfolding ◌thenAnswers◌
+pub answers_passed : {A : Type 0} {x : Verdict} {y : Outcome A} → x ≡ passed → (x then_answers y) ≡ y
+unfolding ◌then_answers◌
 answers_passed h = rw h
 
-pub answers_refused : {A : Type 0} {x : Verdict} {k p : ℕ} (y : Outcome A) → x ≡ refused k p → (x thenAnswers y) ≡ refusal k p
-unfolding ◌thenAnswers◌
+pub answers_refused : {A : Type 0} {x : Verdict} {k p : ℕ} (y : Outcome A) → x ≡ refused k p → (x then_answers y) ≡ refusal k p
+unfolding ◌then_answers◌
 answers_refused y h = rw h
 
 pub gives_passed : {A : Type 0} {x : Verdict} {y : A} → x ≡ passed → (x gives y) ≡ value y

@@ -42,11 +42,11 @@ unfoldable pub ◌gives◌ : {A : Type 0} → Verdict → A → Outcome A
 ◌gives◌ passed x = value x
 ◌gives◌ (refused k p) x = refusal k p
 
-infixr 29 ◌thenAnswers◌
+infixr 29 ◌then_answers◌
 -- What is answered where the checks find nothing; otherwise their refusal.
-unfoldable pub ◌thenAnswers◌ : {A : Type 0} → Verdict → Outcome A → Outcome A
-◌thenAnswers◌ passed x = x
-◌thenAnswers◌ (refused k p) x = refusal k p
+unfoldable pub ◌then_answers◌ : {A : Type 0} → Verdict → Outcome A → Outcome A
+◌then_answers◌ passed x = x
+◌then_answers◌ (refused k p) x = refusal k p
 
 -- The new value where the checks find nothing; otherwise the old one, as it was.
 unfoldable pub when_passed : {A : Type 0} → Verdict → A → A → A

@@ -15,7 +15,7 @@ use Rattle.route.specs.Moves.{neighbours, near}
 use Rattle.route.specs.Arrival.{settled, arrival_of}
 use Rattle.search.specs.Task.{task_of}
 use Rattle.legality.specs.Tests.{begin_test, cells_test, moves_test, dock_test, zero_at, blank_test, free_in, route_test, record_test}
-use Rattle.legality.specs.Entry.{RecordAnswer, a_route, a_none, not_heard, wrong, record_kind, record_answer, ◌orWrong◌}
+use Rattle.legality.specs.Entry.{RecordAnswer, a_route, a_none, not_heard, wrong, record_kind, record_answer, ◌or_wrong◌}
 use Rattle.legality.specs.Entry.{record_verdict, record_outcome, arrival_outcome}
 
 abbrev floor : Floor
@@ -72,7 +72,7 @@ cases : Cases
 unfolding part ◌then◌ ◌gives◌ demand in_turn demand_each within limits_of lent_of long_enough start_of count_of docks_of dock_of is_dock each in_grid
     docks_in_grid carrier_in_grid carriers_of walls_of rises rising_of among docks_clear clear_of_walls clear_of unshared distinct_of unrepeated
     unrepeated_of places_of check_of cell_at neighbours near settled arrival_of task_of begin_test cells_test moves_test dock_test zero_at blank_test
-    free_in route_test record_test record_kind record_answer ◌orWrong◌ record_verdict record_outcome arrival_outcome
+    free_in route_test record_test record_kind record_answer ◌or_wrong◌ record_verdict record_outcome arrival_outcome
 cases =
     record {
       a_route_lem = refl;

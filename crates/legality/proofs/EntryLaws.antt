@@ -16,7 +16,7 @@ use Rattle.floor.proofs.DockLaws.{passed_counted}
 use Rattle.route.specs.Route.{Task}
 use Rattle.route.specs.Arrival.{arrival_of}
 use Rattle.legality.specs.Tests.{blank_test, route_test, record_test}
-use Rattle.legality.specs.Entry.{RecordAnswer, a_route, a_none, not_heard, wrong, record_kind, record_answer, ◌orWrong◌}
+use Rattle.legality.specs.Entry.{RecordAnswer, a_route, a_none, not_heard, wrong, record_kind, record_answer, ◌or_wrong◌}
 use Rattle.legality.specs.Entry.{record_verdict, arrival_outcome}
 use Rattle.legality.specs.Inner.{RecordChecked}
 
@@ -105,9 +105,9 @@ module _ (r : List ℕ) (horizon : ℕ) where
 module _ (task : Task) (m : List ℕ) {cells : List ℕ} (same : cells ≡ part m 1 64) where
   pub answer_passed : {x : Outcome RecordAnswer} → record_test task (get_or m 0 0) cells ≡ passed →
       x ≡ value (record_kind (get_or m 0 0) (arrival_of cells task.horizon)) → x ≡ value (record_answer task m)
-  unfolding record_answer ◌orWrong◌
+  unfolding record_answer ◌or_wrong◌
   answer_passed e h = rw (← same, e) h
 
   pub answer_wrong : {k t : ℕ} → record_test task (get_or m 0 0) cells ≡ refused k t → value (wrong k t) ≡ value (record_answer task m)
-  unfolding record_answer ◌orWrong◌
+  unfolding record_answer ◌or_wrong◌
   answer_wrong e = rw (← same, e) refl

@@ -26,7 +26,7 @@ use Rattle.search.specs.Answers.{answered}
 use Rattle.search.specs.Search.{search_of}
 use Rattle.search.proofs.Theorems.{theorems as search-theorems}
 use Rattle.legality.specs.Tests.{blank_test, record_test}
-use Rattle.legality.specs.Entry.{RecordAnswer, a_route, a_none, not_heard, wrong, record_kind, record_answer, ◌orWrong◌}
+use Rattle.legality.specs.Entry.{RecordAnswer, a_route, a_none, not_heard, wrong, record_kind, record_answer, ◌or_wrong◌}
 use Rattle.legality.specs.Entry.{record_verdict, record_outcome, arrival_outcome}
 use Rattle.legality.specs.Faults.{FaultAt}
 use Rattle.legality.specs.Claims.{RecordGranted, RouteIn, Claims}
@@ -38,14 +38,14 @@ use Rattle.legality.proofs.RecordLaws.{blank_record, record_blank}
 use Rattle.legality.proofs.RouteLaws.{passed_route, route_passed, blank_says, blank_below}
 
 -- An answer that is no fault: the tests found nothing, and it is what the tag says.
-not_wrong : (z : Verdict) (x y : RecordAnswer) → (z orWrong x) ≡ y → case_of y < 3 → (z ≡ passed) × (x ≡ y)
-unfolding ◌orWrong◌ case_of
+not_wrong : (z : Verdict) (x y : RecordAnswer) → (z or_wrong x) ≡ y → case_of y < 3 → (z ≡ passed) × (x ≡ y)
+unfolding ◌or_wrong◌ case_of
 not_wrong passed x y e l = (refl, e)
 not_wrong (refused k t) x y e l = let z : 3 ≡ case_of y = ap case_of e in absurd (omega arith)
 
 -- A fault is that of the tests, since no tag tells one.
-is_wrong : (y : Verdict) (x : RecordAnswer) (k t : ℕ) → case_of x < 3 → (y orWrong x) ≡ wrong k t → y ≡ refused k t
-unfolding ◌orWrong◌ case_of
+is_wrong : (y : Verdict) (x : RecordAnswer) (k t : ℕ) → case_of x < 3 → (y or_wrong x) ≡ wrong k t → y ≡ refused k t
+unfolding ◌or_wrong◌ case_of
 is_wrong passed x k t l e = let z : case_of x ≡ 3 = ap case_of e in absurd (omega arith)
 is_wrong (refused j u) x k t l e = let a : j ≡ k = cc in let b : u ≡ t = cc in rw (a, b) refl
 

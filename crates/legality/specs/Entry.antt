@@ -24,16 +24,16 @@ pub data RecordAnswer : Type 0 where
 unfoldable pub record_kind : ℕ → ℕ → RecordAnswer
 record_kind tag a = elim (eqb tag 2) [ true ↦ a_route a | false ↦ elim (eqb tag 1) [ true ↦ a_none | false ↦ not_heard ] ]
 
-infixr 29 ◌orWrong◌
+infixr 29 ◌or_wrong◌
 -- The answer where the tests find nothing; otherwise the cause and the beat of the first that fails.
-unfoldable pub ◌orWrong◌ : Verdict → RecordAnswer → RecordAnswer
-◌orWrong◌ passed x = x
-◌orWrong◌ (refused k t) x = wrong k t
+unfoldable pub ◌or_wrong◌ : Verdict → RecordAnswer → RecordAnswer
+◌or_wrong◌ passed x = x
+◌or_wrong◌ (refused k t) x = wrong k t
 
 -- What the record in front of memory m is for a task: its tag, and 64 numbers behind it.
 unfoldable pub record_answer : Task → List ℕ → RecordAnswer
 record_answer task m =
-    record_test task (get_or m 0 0) (part m 1 64) orWrong record_kind (get_or m 0 0) (arrival_of (part m 1 64) task.horizon)
+    record_test task (get_or m 0 0) (part m 1 64) or_wrong record_kind (get_or m 0 0) (arrival_of (part m 1 64) task.horizon)
 
 -- The refusals of the check of a record: the floor's, 9 if fewer than 65 numbers are lent, 7, 0 if there is no such carrier.
 unfoldable pub record_verdict : Floor → List ℕ → (carrier lent : ℕ) → Verdict

@@ -7,7 +7,7 @@ use mathlib.Core.Logic.{◌↔◌, ⊎_elim}
 use mathlib.Core.List.{List}
 use borrow.Author.Tests.{leb-false, lt-leb, le-leb}
 use Rattle.floor.specs.declared.Floor.{Floor}
-use Rattle.laws.specs.Verdict.{passed, refused, demand, value, refusal, ◌thenAnswers◌, when_passed}
+use Rattle.laws.specs.Verdict.{passed, refused, demand, value, refusal, ◌then_answers◌, when_passed}
 use Rattle.floor.specs.Checks.{check_of, long_enough, within}
 use Rattle.laws.proofs.VerdictLaws.{then_cases, then_passed, then_refused, demand_cases, demand_refuses, demand_passes, gives_passed}
 use Rattle.floor.proofs.LimitsLaws.{check_tells}
@@ -119,7 +119,7 @@ text_too_short f ws lent bytes ok l =
 
 sheet_text_too_short : (text : List ℕ) (bytes : ℕ) → sheet_verdict text ≡ passed
     → (routes_outcome text bytes ≡ refusal 9 0) ↔ (bytes < text_length (floor_at text))
-unfolding routes_outcome short_outcome needed_for when_passed ◌thenAnswers◌
+unfolding routes_outcome short_outcome needed_for when_passed ◌then_answers◌
 sheet_text_too_short text bytes ok = (λ h. short h (dec_le (text_length (floor_at text)) bytes), λ l. rw (ok, lt-leb _ _ l))
   where
     short : routes_outcome text bytes ≡ refusal 9 0 → Dec (text_length (floor_at text) ≤ bytes) → bytes < text_length (floor_at text)

@@ -11,7 +11,7 @@ use Rattle.floor.specs.declared.Checked.{Checked}
 use Rattle.floor.specs.declared.Checked.TheVariants.{Passed, Refused}
 use Rattle.floor.specs.declared.Refusal.{Refusal}
 use Rattle.floor.specs.Answers.{verdict_of}
-use Rattle.laws.specs.Verdict.{passed, refused, Outcome, value, refusal, ◌thenAnswers◌, when_passed}
+use Rattle.laws.specs.Verdict.{passed, refused, Outcome, value, refusal, ◌then_answers◌, when_passed}
 use Rattle.floor.specs.Checks.{check_of, long_enough}
 use Rattle.laws.proofs.VerdictLaws.{then_both, refused_by, then_passed, refused_not_passed, demand_passes, when_passed_lem, gives_passed}
 use Rattle.floor.proofs.AnswersLaws.{passes, refuses}
@@ -164,7 +164,7 @@ place_printed text k p v = let low = sheet-theorems.place_low text k p v in omeg
 module _ (text old new : List ℕ) (x : Outcome ℕ) where
   pub routes_accepted : (f : Floor) (walls : List ℕ) → WasRead text f walls
       → FloorPut f walls old new x → (x ≡ routes_outcome text (length old)) × (new ≡ routes_memory text old)
-  unfolding routes_outcome routes_memory routes_of or_refusal needed_for when_passed short_outcome ◌thenAnswers◌ FloorPut
+  unfolding routes_outcome routes_memory routes_of or_refusal needed_for when_passed short_outcome ◌then_answers◌ FloorPut
   routes_accepted f walls r t =
       let u : TextOrShort (print_of (floor_at text) (walls_at text)) (text_length (floor_at text)) 9 0 old new x =
       rw (r.front, r.floor) at t
@@ -173,7 +173,7 @@ module _ (text old new : List ℕ) (x : Outcome ℕ) where
 
   pub routes_refused : (k p : ℕ) → sheet_verdict text ≡ refused k p → RefusalPut k p old new x
       → (x ≡ routes_outcome text (length old)) × (new ≡ routes_memory text old)
-  unfolding routes_outcome routes_memory routes_of or_refusal needed_for when_passed short_outcome ◌thenAnswers◌ RefusalPut
+  unfolding routes_outcome routes_memory routes_of or_refusal needed_for when_passed short_outcome ◌then_answers◌ RefusalPut
   routes_refused k p v t =
       let u : TextOrShort (refusal_line k p) 16 k p old new x = rw (place_printed text k p v) at t in
       (rw v u.answers, rw v u.stores)

@@ -2,7 +2,7 @@
 use Rattle.std.specs.Prelude.{ℕ, ◌+◌, ◌*◌, cond, List, leb, length}
 use Rattle.laws.specs.Memory.{put}
 use Rattle.floor.specs.declared.Floor.{Floor}
-use Rattle.laws.specs.Verdict.{Verdict, passed, refused, ◌then◌, Outcome, value, refusal, ◌gives◌, ◌thenAnswers◌, when_passed}
+use Rattle.laws.specs.Verdict.{Verdict, passed, refused, ◌then◌, Outcome, value, refusal, ◌gives◌, ◌then_answers◌, when_passed}
 use Rattle.floor.specs.Checks.{long_enough}
 use Rattle.sheet.specs.Values.{floor_at, walls_at}
 use Rattle.sheet.specs.Read.{sheet_verdict}
@@ -55,7 +55,7 @@ needed_for text = when_passed (sheet_verdict text) (text_length (floor_at text))
 
 -- With too little text memory a sheet gets the first refusal of the order: its own, and 9 if it has none.
 unfoldable pub short_outcome : List ℕ → Outcome ℕ
-short_outcome text = sheet_verdict text thenAnswers refusal 9 0
+short_outcome text = sheet_verdict text then_answers refusal 9 0
 
 -- What printing the routes of a sheet answers, where a number of bytes is lent.
 unfoldable pub routes_outcome : List ℕ → ℕ → Outcome ℕ

@@ -3,7 +3,7 @@ use Prim.Native.Nat.{ℕ, suc, ◌+◌}
 use native.Mathlib.Omega.{arith}
 use mathlib.Core.List.{List, [], ◌∷◌, ◌++◌}
 use mathlib.Core.Path.{◌≡◌, refl}
-use Rattle.laws.specs.Verdict.{Verdict, passed, refused, ◌then◌, Outcome, value, refusal, ◌gives◌, ◌thenAnswers◌, when_passed}
+use Rattle.laws.specs.Verdict.{Verdict, passed, refused, ◌then◌, Outcome, value, refusal, ◌gives◌, ◌then_answers◌, when_passed}
 use Rattle.laws.proofs.VerdictLaws.{refused_same, refused_not_passed, then_both}
 use Rattle.reference.specs.State.{Machine, State}
 use Rattle.reference.specs.Step.{Step}
@@ -30,8 +30,8 @@ module _ (M : Machine) where
 
   -- What names no kind of step is refused with 9 or 7.
   unnamed : (x : Verdict) (k p : ℕ) → (x then refused 7 0) ≡ refused k p
-      → ◌≡◌ {A = Outcome CallAnswer} (x thenAnswers refusal 7 0) (refusal k p)
-  unfolding ◌then◌ ◌thenAnswers◌
+      → ◌≡◌ {A = Outcome CallAnswer} (x then_answers refusal 7 0) (refusal k p)
+  unfolding ◌then◌ ◌then_answers◌
   unnamed passed k p h = let q = refused_same h in rw (q.0, q.1)
   unnamed (refused k' p') k p h = let q = refused_same h in rw (q.0, q.1)
 

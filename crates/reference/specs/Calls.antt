@@ -1,6 +1,6 @@
 -- Lists of calls (document 01, 'What demand 3 compares'): the answer to a call, the state after it, and both for a list of calls.
 use Rattle.std.specs.Prelude.{ℕ, List, [], ◌∷◌}
-use Rattle.laws.specs.Verdict.{Outcome, refusal, ◌gives◌, ◌thenAnswers◌, when_passed}
+use Rattle.laws.specs.Verdict.{Outcome, refusal, ◌gives◌, ◌then_answers◌, when_passed}
 use Rattle.reference.specs.State.{Machine, State}
 use Rattle.reference.specs.Take.{after_step, StepAnswer, step_answer}
 use Rattle.reference.specs.Run.{run}
@@ -19,7 +19,7 @@ Reply = Outcome CallAnswer
 -- The answer to a call: if the table turns it away, that refusal.
 unfoldable pub reply : Machine → State → Call → Reply
 reply M s (single lent (step x)) = verdict M s (single lent (step x)) gives stepped (step_answer M s x)
-reply M s (single lent no_step) = lent_enough M lent thenAnswers refusal 7 0
+reply M s (single lent no_step) = lent_enough M lent then_answers refusal 7 0
 reply M s (run_of lent xs b) =
     verdict M s (run_of lent xs b) gives ran (run M s (steps_of xs) b).taken (ending M b (run M s (steps_of xs) b))
 
