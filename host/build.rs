@@ -1,11 +1,11 @@
-//! Links the proved archive that `rt staticlib kalomivund` writes, `target/staticlib/libkalomivund.a` of the repository.
+//! Links the proved archive that `rt lib` writes in crates/kalomivund, `crates/kalomivund/out/libkalomivund.a` of the repository.
 //! Where the archive is not there the crate still compiles, and only programs that call it fail to link.
 
 use std::path::Path;
 
 fn main() {
     let manifest = std::env::var("CARGO_MANIFEST_DIR").expect("cargo sets CARGO_MANIFEST_DIR");
-    let folder = Path::new(&manifest).join("../target/staticlib");
+    let folder = Path::new(&manifest).join("../crates/kalomivund/out");
     let archive = folder.join("libkalomivund.a");
     println!("cargo:rerun-if-changed=build.rs");
     println!("cargo:rerun-if-changed={}", archive.display());
@@ -13,6 +13,6 @@ fn main() {
         println!("cargo:rustc-link-search=native={}", folder.display());
         println!("cargo:rustc-link-lib=static=kalomivund");
     } else {
-        println!("cargo:warning=no archive: run `rt staticlib kalomivund` at the repository's root first");
+        println!("cargo:warning=no archive: run `rt lib` in crates/kalomivund first");
     }
 }

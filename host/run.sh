@@ -11,12 +11,13 @@ set -euo pipefail
 what=${1:-all}
 host=$(cd "$(dirname "${BASH_SOURCE[0]}")" && pwd)
 root=$(dirname "$host")
-archive=$root/target/staticlib/libkalomivund.a
+archive=$root/crates/kalomivund/out/libkalomivund.a
+desk=$root/crates/desk/out/desk
 built=$host/target/c
 
 echo "== the archive"
-(cd "$root" && rt staticlib kalomivund)
-[ -f "$archive" ] || { echo "no archive at target/staticlib/libkalomivund.a" >&2; exit 1; }
+(cd "$root/crates/kalomivund" && rt lib)
+[ -f "$archive" ] || { echo "no archive at crates/kalomivund/out/libkalomivund.a" >&2; exit 1; }
 
 if [ "$what" = fuzz ]; then
     echo "== C: the exported functions fuzzed"
@@ -64,10 +65,10 @@ LINES
     echo "== Rust: library and paper compared"
     (cd "$host" && cargo run --offline --release --quiet --bin compare)
     echo "== Rust: the texts of desk and paper compared"
-    (cd "$root" && rt check desk > /dev/null)
+    (cd "$root/crates/desk" && rt run -- why < stdin > /dev/null)
     (cd "$host" && cargo run --offline --release --quiet --bin desk 14000)
     echo "== Rust: the sheets of desk and paper from maps compared"
-    (cd "$host" && cargo run --offline --release --quiet --bin maps "$root/target/bin/desk" 15000 5)
+    (cd "$host" && cargo run --offline --release --quiet --bin maps "$desk" 15000 5)
 fi
 
 if [ "$what" != test ]; then

@@ -1,7 +1,7 @@
 //! The script of the program `cases` replayed on `paper.rs`, the independent implementation of document 01: every answer of
 //! `crates/cases/stdout` is computed anew, the counted figures among them. Without the archive and cargo, from the repository's root:
 //!
-//!     rustc --edition 2021 -O --test host/tests/cases.rs -o target/cases_test && target/cases_test
+//!     rustc --edition 2021 -O --test host/tests/cases.rs -o host/target/cases_test && host/target/cases_test
 //!
 //! A line's first letter is its command and its numbers are the arguments, as in the program; nothing else is shared with it.
 

@@ -2,7 +2,7 @@
 //! line, column and words must be those of `why.rs`, and of every tenth the bytes of `desk picture` those of `picture.rs`. It needs no
 //! archive.
 //!
-//!     desk [COUNT]          so many sheets, 10,000 if none are said; the program is target/bin/desk of the repository
+//!     desk [COUNT]          so many sheets, 10,000 if none are said; the program is crates/desk/out/desk of the repository
 
 #[path = "../draw.rs"]
 mod draw;
@@ -60,7 +60,7 @@ fn spoil_ends(draw: &mut Draw, text: &mut Vec<u8>) {
 /// What the program prints for a sheet.
 fn run(program: &str, command: &str, sheet: &[u8]) -> Vec<u8> {
     let mut child =
-        Command::new(program).arg(command).stdin(Stdio::piped()).stdout(Stdio::piped()).spawn().expect("target/bin/desk");
+        Command::new(program).arg(command).stdin(Stdio::piped()).stdout(Stdio::piped()).spawn().expect("crates/desk/out/desk");
     child.stdin.take().unwrap().write_all(sheet).unwrap();
     child.wait_with_output().unwrap().stdout
 }
@@ -93,7 +93,7 @@ fn hold(sheet: &[u8], seed: u64, printed: &[u8], expected: &str) {
 
 fn main() {
     let count = std::env::args().nth(1).map_or(SHEETS, |word| word.parse().expect("a number of sheets"));
-    let program = concat!(env!("CARGO_MANIFEST_DIR"), "/../target/bin/desk");
+    let program = concat!(env!("CARGO_MANIFEST_DIR"), "/../crates/desk/out/desk");
     let mut kinds: BTreeMap<String, u64> = BTreeMap::new();
     let (mut pictures, mut longest) = (0, 0);
     for seed in 1..=count {
