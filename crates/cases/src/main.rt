@@ -7,11 +7,11 @@
 // A line's first letter is its command, and its numbers are the arguments; all other letters are for the reader.
 #![tactic(auto)]
 
+mod all_orders;
 mod calls;
 mod corrupted;
 mod drawn;
 mod listed;
-mod orders;
 mod play;
 mod states;
 mod tally;

@@ -1,5 +1,5 @@
 // The lines of the script, each with its command.
-use crate::{calls, corrupted, drawn, listed, orders, states, tally, trials};
+use crate::{all_orders, calls, corrupted, drawn, listed, states, tally, trials};
 use commands::{answers, pairs, routes, setup, sheets};
 use floor::Floor;
 use std::io;
@@ -49,7 +49,7 @@ fn tried<W: Write>(out: &mut W, bytes: &[u8], setup: &[u16], m: &mut [u16]) -> i
         b't' => Ok(sheets::text(bytes, m)),
         b'u' => Ok(corrupted::unfit(bytes, setup, m)),
         b'k' => Ok(corrupted::numbers(setup, m, answers::answer(field(bytes, 0), field(bytes, 1)))),
-        b'o' => tally::say(out, orders::every(setup, m)),
+        b'o' => tally::say(out, all_orders::every(setup, m)),
         b'd' => tally::say(out, drawn::drawn(bytes, setup, m)),
         b'T' => Ok(trials::trial(bytes, setup, m)),
         b'L' => Ok(listed::list(bytes, setup, m)),

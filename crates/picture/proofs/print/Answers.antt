@@ -1,0 +1,7 @@
+-- `picture::print` meets its contract: what was put is counted.
+use Rattle.printing.proofs.PrintLaws.{place_small}
+use native.Mathlib.Omega.{arith}
+use Rattle.picture.proofs.print.Goals as goal
+
+pub put_refusal-n-requires : goal.put_refusal-n-requires
+put_refusal-n-requires c = (search place_small, omega arith)
