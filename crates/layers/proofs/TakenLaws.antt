@@ -2,13 +2,13 @@
 use Prim.Native.Nat.{ℕ, ◌+◌, ◌*◌, ◌-◌, ◌/◌, ◌%◌, ◌≤◌, ◌<◌}
 use native.Mathlib.Omega.{arith}
 use native.Mathlib.Nat.{div-add-mod', eq-or-lt_of_le}
-use mathlib.Core.Bool.{Bool, true, false, ◌&&◌, not, and-true, and_assoc}
+use mathlib.Core.Bool.{true, ◌&&◌, not, and-true, and_assoc}
 use mathlib.Core.List.{List}
 use mathlib.Core.Logic.{⊎_elim, ◌↔◌}
-use mathlib.Core.Path.{◌≡◌, refl, sym, ap, ◌∙◌}
+use mathlib.Core.Path.{◌≡◌, refl, sym, ◌∙◌}
 use borrow.Author.Tests.{eqb-true, eq-eqb, ne_eqb, ltb-true}
 use lib.Dec.{eqb, ltb}
-use lib.ListN.{length, get_or}
+use lib.ListN.{get_or}
 use lib.Seq.{get_or-set_other}
 use Rattle.laws.proofs.Tests.{and_both, and_fst, and_snd, not_is_true, not_refutes, lt_or_le, eq_or_ne}
 use Rattle.laws.proofs.Tests.{eqbs_say, eqbs_hold, same_test, below_same}

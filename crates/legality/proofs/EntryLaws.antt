@@ -6,7 +6,7 @@ use mathlib.Core.Path.{◌≡◌, refl, ap}
 use lib.ListN.{length, get_or}
 use borrow.Author.Tests.{le-leb, lt-leb, eq-eqb, ne_eqb}
 use Rattle.laws.specs.Memory.{part}
-use Rattle.laws.specs.Verdict.{Verdict, passed, refused, ◌then◌, demand, Outcome, value, refusal, ◌gives◌}
+use Rattle.laws.specs.Verdict.{Verdict, passed, refused, demand, Outcome, value, refusal, ◌gives◌}
 use Rattle.laws.proofs.VerdictLaws.{then_both, demand_holds, demand_on, demand_ends}
 use Rattle.floor.specs.declared.Floor.{Floor}
 use Rattle.floor.specs.Checks.{check_of, long_enough, carriers_of, walls_of, rising_of, places_of}

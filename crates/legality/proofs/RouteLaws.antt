@@ -3,12 +3,12 @@ use Prim.Native.Nat.{ℕ, zero, suc, ◌+◌, ◌-◌, ◌≤◌, ◌<◌}
 use native.Mathlib.Omega.{arith}
 use native.Mathlib.Numerals.{add-one}
 use mathlib.Core.List.{List, [], ◌∷◌}
-use mathlib.Core.Logic.{◌⊎◌, ⊎_elim}
+use mathlib.Core.Logic.{⊎_elim}
 use mathlib.Core.Path.{◌≡◌, refl, ◌∙◌}
 use lib.Dec.{ltb}
 use lib.ListN.{length, get_or}
 use borrow.Author.Tests.{eqb-true, eq-eqb, ltb-true, lt-ltb}
-use Rattle.laws.specs.Verdict.{passed, ◌then◌}
+use Rattle.laws.specs.Verdict.{passed}
 use Rattle.laws.proofs.Tests.{and_both, and_fst, and_snd, lt_or_le}
 use Rattle.laws.proofs.VerdictLaws.{then_both, then_passed, demand_holds, demand_passes}
 use Rattle.laws.proofs.EachLaws.{Decides, each_passed, all_passes}

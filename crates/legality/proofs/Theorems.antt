@@ -1,5 +1,5 @@
 -- The claims, proved.
-use Prim.Native.Nat.{ℕ, ◌-◌, ◌≤◌, ◌<◌, min}
+use Prim.Native.Nat.{ℕ, ◌≤◌, ◌<◌, min}
 use native.Mathlib.Omega.{arith}
 use mathlib.Core.List.{List, ◌∷◌}
 use mathlib.Core.Logic.{◌↔◌, ⊎_elim}
@@ -8,7 +8,7 @@ use lib.ListN.{length, get_or, replicate}
 use lib.Seq.{take_all}
 use borrow.Author.Tests.{le-leb}
 use Rattle.laws.specs.Memory.{part}
-use Rattle.laws.specs.Verdict.{Verdict, passed, refused, ◌then◌, value, ◌gives◌}
+use Rattle.laws.specs.Verdict.{Verdict, passed, refused, value}
 use Rattle.laws.proofs.Tests.{eq_or_ne}
 use Rattle.laws.proofs.PartLaws.{part_length}
 use Rattle.laws.proofs.VerdictLaws.{then_passed, demand_passes, given_value, gives_passed}

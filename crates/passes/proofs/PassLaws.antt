@@ -6,12 +6,12 @@ use native.Mathlib.Numerals.{add-one}
 use mathlib.Core.Bool.{Bool, true, false}
 use mathlib.Core.List.{List}
 use mathlib.Core.Logic.{⊎_elim}
-use mathlib.Core.Path.{◌≡◌, refl, sym, ◌∙◌}
+use mathlib.Core.Path.{◌≡◌, sym, ◌∙◌}
 use borrow.Author.Tests.{leb-true, le-leb}
 use lib.ListN.{get_or}
 use Rattle.laws.proofs.Tests.{lt_or_le, true_false_absurd}
 use Rattle.layers.specs.declared.SearchGrid.{SearchGrid}
-use Rattle.layers.specs.Table.{in_set, Tidy}
+use Rattle.layers.specs.Table.{in_set}
 use Rattle.layers.specs.Step.{ChangedAt, Alone, Spread, beat_after, Swept}
 use Rattle.layers.proofs.MemberLaws.{near_same}
 use Rattle.layers.proofs.SweptLaws.{spread_same}

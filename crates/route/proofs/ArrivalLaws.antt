@@ -7,7 +7,7 @@ use mathlib.Core.Logic.{◌⊎◌, inl, inr, ⊎_elim}
 use mathlib.Core.Path.{◌≡◌, refl}
 use borrow.Author.Tests.{eq-eqb, ne_eqb}
 use Rattle.route.specs.Route.{cell_at}
-use Rattle.route.specs.Best.{HeldFrom, Arrives}
+use Rattle.route.specs.Best.{Arrives}
 use Rattle.route.specs.Arrival.{settled, arrival_of}
 use Rattle.laws.proofs.Tests.{lt_or_le, eq_or_ne}
 

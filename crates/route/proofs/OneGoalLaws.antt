@@ -1,6 +1,6 @@
 -- With one dock, `Best` says what document 01 says with that cell as goal: a route ends there exactly if it ends at the dock, and its last
 -- cell is the goal, so that both arrivals are one.
-use Prim.Native.Nat.{ℕ, ◌≤◌}
+use Prim.Native.Nat.{ℕ}
 use native.Mathlib.Omega.{arith}
 use mathlib.Core.List.{List}
 use mathlib.Core.Logic.{◌↔◌}

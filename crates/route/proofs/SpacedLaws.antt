@@ -1,7 +1,7 @@
 -- Two lists of numbers are free of all conflicts through H exactly if they are spaced, jumps included. If r is at t + 1 where q is at t:
 -- it was there already, which is one cell at t; or it entered, and q stayed, which is one cell at t + 1, or left, which is following.
 -- The other way round likewise; and a change of places is both.
-use Prim.Native.Nat.{ℕ, suc, ◌≤◌, ◌<◌}
+use Prim.Native.Nat.{ℕ, suc, ◌<◌}
 use native.Mathlib.Omega.{arith}
 use mathlib.Core.List.{List}
 use mathlib.Core.Logic.{◌⊎◌, inl, inr, ◌↔◌}

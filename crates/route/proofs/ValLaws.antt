@@ -3,7 +3,7 @@ use Prim.Native.Nat.{ℕ, zero, suc, ◌≤◌, ◌<◌}
 use native.Mathlib.Omega.{arith}
 use mathlib.Core.Bool.{Bool, true, false}
 use mathlib.Core.Logic.{⊎_elim}
-use mathlib.Core.Path.{◌≡◌, refl}
+use mathlib.Core.Path.{◌≡◌}
 use Rattle.route.specs.Search.{Rule, later, cost, cheapest, ended, val}
 use Rattle.laws.proofs.Tests.{true_or_false}
 use Rattle.route.proofs.CheapestLaws.{cost_allowed, cheapest_le}

@@ -13,8 +13,8 @@ loop-k-preserved c =
     let m = c.loop-k.invariant.1 in (
       search rules,
       elim c.if-places-k.branch [
-        then-places-k w ↦ w.mark-is ∙ w.mark_with-mark.ensures ∙ mark_there _ _ _ _ m w.if-places-k.true
-      | else-places-k w ↦ w.mark-is ∙ mark_away _ _ _ _ m w.if-places-k.false
+        | then-places-k w ↦ w.mark-is ∙ w.mark_with-mark.ensures ∙ mark_there _ _ _ _ m w.if-places-k.true
+        | else-places-k w ↦ w.mark-is ∙ mark_away _ _ _ _ m w.if-places-k.false
       ],
     )
 

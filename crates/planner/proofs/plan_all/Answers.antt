@@ -9,7 +9,6 @@ use lib.ListN.{length, length-replicate}
 use Rattle.layers.specs.Table.{search_grid_of}
 use Rattle.layers.proofs.GridLaws.{scene_grid}
 use Rattle.layers.proofs.SetLaws.{empty_tidy}
-use Rattle.records.specs.Seen.{seen}
 use Rattle.records.proofs.SeenLaws.{seen_start}
 use Rattle.planner.specs.Records.{with_answer}
 use Rattle.planner.proofs.PlanLaws.{plan_start, plan_more, plan_keeps, plan_end}

@@ -14,8 +14,8 @@ loop-t-init c = (search rules, search rules, refl)
 pub loop-t-preserved : goal.loop-t-preserved
 loop-t-preserved c =
     elim c.if-r-t.branch [
-      then-r-t w ↦ (search rules, search rules, w.a-is ∙ settled_turn_away _ _ _ w.if-r-t.true)
-    | else-r-t w ↦ (search rules, search rules, w.a-is ∙ c.loop-t.invariant.2 ∙ settled_turn_there _ _ _ w.if-r-t.false)
+      | then-r-t w ↦ (search rules, search rules, w.a-is ∙ settled_turn_away _ _ _ w.if-r-t.true)
+      | else-r-t w ↦ (search rules, search rules, w.a-is ∙ c.loop-t.invariant.2 ∙ settled_turn_there _ _ _ w.if-r-t.false)
     ]
 
 pub returns : goal.returns

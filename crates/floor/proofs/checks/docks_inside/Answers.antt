@@ -4,7 +4,7 @@ use borrow.Author.Rules.{rules}
 use Rattle.laws.proofs.HoldLaws.{hold_more, hold_turn}
 use Rattle.laws.proofs.CodeTests.{code_holds}
 use native.Mathlib.Omega.{arith}
-use Rattle.floor.specs.Checks.{count_of, dock_of, in_grid, docks_in_grid}
+use Rattle.floor.specs.Checks.{count_of, dock_of, docks_in_grid}
 use Rattle.floor.proofs.checks.docks_inside.Goals as goal
 
 pub loop-k-init : goal.loop-k-init

@@ -1,7 +1,6 @@
 -- `floor::checks::unrepeated` meets its contract: invariant: no dock passed stands before in the list.
 use Rattle.laws.proofs.HoldLaws.{hold_more, hold_turn}
 use Rattle.laws.proofs.CodeTests.{not_holds}
-use Rattle.floor.specs.Checks.{among}
 use native.Mathlib.Omega.{arith}
 use Rattle.floor.proofs.checks.unrepeated.Goals as goal
 

@@ -2,7 +2,6 @@
 -- is the beat. Assumes nothing.
 use native.Mathlib.Omega.{arith}
 use mathlib.Core.Path.{◌≡◌, sym, ◌∙◌}
-use Rattle.records.specs.Records.{view_cell}
 use Rattle.layers.proofs.TakenLaws.{parked_last, parked_more}
 use Rattle.layers.proofs.free_table.parked_from.Goals as goal
 

@@ -4,8 +4,7 @@ use Prim.Native.Nat.{ℕ}
 use native.Mathlib.Omega.{arith}
 use mathlib.Core.Path.{◌≡◌, refl}
 use borrow.Author.Rules.{rules}
-use lib.ListN.{length, replicate, length-set, length-replicate}
-use Rattle.bitrows.specs.Rows.{filled}
+use lib.ListN.{length-set, length-replicate}
 use Rattle.bitrows.proofs.FillLaws.{filled_none, filled_more}
 use Rattle.layers.specs.Table.{row_of}
 use Rattle.layers.proofs.free_table.striped.Goals as goal

@@ -2,7 +2,6 @@
 use Rattle.legality.proofs.TestLaws.{beats}
 use Rattle.floor.specs.Answers.{verdict_of}
 use Rattle.route.specs.Route.{cell_at}
-use Rattle.route.specs.Moves.{near}
 use Rattle.legality.specs.Tests.{moves_test}
 use Rattle.legality.proofs.beats.moves.Goals as goal
 

@@ -1,5 +1,5 @@
 use Prim.Native.Nat.{◌-◌}
-use Rattle.passes.specs.Docks.{arrivable_at, arrivable}
+use Rattle.passes.specs.Docks.{arrivable_at}
 use Rattle.passes.proofs.AnyLaws.{Untold}
 use Rattle.passes.proofs.docks.arrives.Given as goal
 

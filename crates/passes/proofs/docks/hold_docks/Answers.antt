@@ -1,6 +1,5 @@
 -- `passes::docks::hold_docks` meets its contract. The loop's invariant: the beats of the docks passed are found. The measure is what is
 -- left of the docks. Assumes nothing.
-use Rattle.bitrows.specs.Rows.{filled}
 use Rattle.bitrows.proofs.FillLaws.{filled_none, filled_more}
 use Rattle.passes.proofs.EndsLaws.{held_made}
 use borrow.Author.Rules.{rules}

@@ -2,7 +2,6 @@
 -- cells passed. The measure is what is left of the beats. Assumes nothing.
 use native.Mathlib.Omega.{arith}
 use mathlib.Core.Path.{◌≡◌, refl}
-use Rattle.bitrows.specs.Rows.{filled}
 use Rattle.bitrows.proofs.FillLaws.{filled_none, filled_more}
 use Rattle.passes.specs.Walk.{path_of}
 use Rattle.passes.proofs.NextLaws.{place_cell, next_low, path_more}

@@ -2,7 +2,6 @@ use Prim.Native.Nat.{◌+◌, ◌-◌, ◌≤◌, ◌<◌}
 use mathlib.Core.Path.{◌≡◌}
 use lib.ListN.{replicate}
 use Rattle.bitrows.specs.Rows.{filled}
-use Rattle.layers.specs.declared.Place.{Place}
 use Rattle.layers.specs.Table.{PlaceOf}
 use Rattle.passes.specs.Walk.{path_of}
 use Rattle.passes.proofs.walk.along.Given as goal

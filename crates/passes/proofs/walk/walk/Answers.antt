@@ -4,8 +4,7 @@ use Prim.Native.Nat.{ℕ}
 use native.Mathlib.Omega.{arith}
 use mathlib.Core.List.{List}
 use mathlib.Core.Path.{◌≡◌, sym, ap, ◌∙◌}
-use lib.ListN.{get_or, replicate, length-replicate}
-use Rattle.bitrows.specs.Rows.{filled}
+use lib.ListN.{get_or, length-replicate}
 use Rattle.bitrows.proofs.FillLaws.{filled_in, filled_more}
 use Rattle.passes.proofs.NextLaws.{path_last}
 use Rattle.passes.proofs.walk.walk.Goals as goal

@@ -4,7 +4,6 @@ use native.Mathlib.Omega.{arith}
 use mathlib.Core.Path.{◌≡◌, ap, ◌∙◌}
 use borrow.Author.Rules.{rules}
 use lib.ListN.{length}
-use Rattle.bitrows.specs.Rows.{filled}
 use Rattle.bitrows.proofs.FillLaws.{filled_none, filled_more}
 use Rattle.search.specs.Rows.{grid_rows}
 use Rattle.search.proofs.RowsFree.{length_grid}
