@@ -15,8 +15,14 @@ archive=$root/crates/kalomivund/out/libkalomivund.a
 desk=$root/crates/desk/out/desk
 built=$host/target/c
 
+mkdir -p "$built"
+proved() { # what rt says stands in a log
+    (cd "$root/crates/$1" && rt "${@:2}") < "$root/samples/document-01.sheet" > "$built/$1.log" 2>&1 \
+        || { tail -n 20 "$built/$1.log" >&2; exit 1; }
+}
+
 echo "== the archive"
-(cd "$root/crates/kalomivund" && rt lib)
+proved kalomivund lib
 [ -f "$archive" ] || { echo "no archive at crates/kalomivund/out/libkalomivund.a" >&2; exit 1; }
 
 if [ "$what" = fuzz ]; then
@@ -27,7 +33,6 @@ fi
 
 if [ "$what" != bench ]; then
     echo "== C: the sample sheet"
-    mkdir -p "$built"
     flags=(-std=c11 -O2 -Wall -Wextra -Werror -I "$host/include")
     cc "${flags[@]}" "$host/c/plan.c" "$archive" -o "$built/plan"
     "$built/plan" < "$root/samples/document-01.sheet" | tee "$built/document-01.routes"
@@ -65,14 +70,13 @@ LINES
     echo "== Rust: library and paper compared"
     (cd "$host" && cargo run --offline --release --quiet --bin compare)
     echo "== Rust: the texts of desk and paper compared"
-    (cd "$root/crates/desk" && rt run -- why < stdin > /dev/null)
+    proved desk run -- why
     (cd "$host" && cargo run --offline --release --quiet --bin desk 14000)
     echo "== Rust: the sheets of desk and paper from maps compared"
     (cd "$host" && cargo run --offline --release --quiet --bin maps "$desk" 15000 5)
 fi
 
 if [ "$what" != test ]; then
-    mkdir -p "$built"
     echo "== Rust: benchmark"
     (cd "$host" && cargo run --offline --release --quiet --bin bench 15 "$built/growth.svg")
     echo "the plot: host/target/c/growth.svg"
