@@ -4,7 +4,7 @@ use Rattle.laws.specs.Memory.{put}
 use Rattle.laws.specs.Verdict.{value, refusal}
 use Rattle.floor.specs.declared.Floor.{Floor}
 use Rattle.abi.specs.Word.{done, word_of}
-use Rattle.abi.specs.Record.{floor_of, numbers_of}
+use Rattle.abi.specs.Record.{floor_of, numbers_of, count_up, numbered}
 
 -- What a caller reads off a word: the low byte, the next byte, and the rest.
 pub record Reads (w low second rest : ℕ) : Type 0 where
@@ -25,3 +25,7 @@ pub record Claims : Type 0 where
   -- The floor record that is read back from its numbers is the one that was stored, whatever memory it was stored in.
   pub record_returns : (f : Floor) (old : List ℕ) → length f.starts ≡ 8 → length f.counts ≡ 8 → length f.docks ≡ 32
       → floor_of (put old 0 (numbers_of f)) ≡ f
+  -- Each field has its place, written and read: six numbers, eight starts from the 7th on, eight dock counts from the 15th, the docks from
+  -- the 23rd.
+  pub numbers_placed : numbers_of numbered ≡ count_up 1 54
+  pub floor_placed : floor_of (count_up 1 54) ≡ numbered

@@ -1,5 +1,5 @@
 -- A floor record as 54 numbers: width, height, horizon, depth, carriers, walls, eight starts, eight dock counts, thirty-two docks.
-use Rattle.std.specs.Prelude.{ℕ, List, [], ◌∷◌, ◌++◌, length, get_or}
+use Rattle.std.specs.Prelude.{ℕ, zero, suc, List, [], ◌∷◌, ◌++◌, length, get_or}
 use Rattle.laws.specs.Memory.{part}
 use Rattle.floor.specs.declared.Floor.{Floor}
 use Rattle.laws.specs.Verdict.{Verdict}
@@ -28,3 +28,23 @@ numbers_of f =
 -- 9, before anything else: as many numbers are lent as a record has.
 unfoldable pub record_lent : List ℕ → Verdict
 record_lent xs = long_enough 54 (length xs)
+
+-- The n numbers that count up from k.
+unfoldable pub count_up : ℕ → ℕ → List ℕ
+count_up k zero = []
+count_up k (suc n) = k ∷ count_up (suc k) n
+
+-- A floor whose numbers all differ: 1 to 54 in the order of its fields.
+abbrev pub numbered : Floor
+numbered =
+    record {
+      width = 1;
+      height = 2;
+      horizon = 3;
+      depth = 4;
+      carriers = 5;
+      walls = 6;
+      starts = count_up 7 8;
+      counts = count_up 15 8;
+      docks = count_up 23 32;
+    }

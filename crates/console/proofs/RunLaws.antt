@@ -7,7 +7,8 @@ use Rattle.console.specs.declared.Input.TheVariants.{Read}
 use Rattle.console.specs.declared.Output.{Output}
 use Rattle.console.specs.declared.Output.TheVariants.{Written, Failed}
 use Rattle.console.specs.Within.{InputWithin}
-use Rattle.console.specs.Moved.{InputTaken, OnWritten, OutputPut}
+use Rattle.std.proofs.KnownBytes.{Appends-nil}
+use Rattle.console.specs.Moved.{InputTaken, OnWritten, OutputPut, PutSome}
 
 -- A front that is not longer than the room is all that there is room for, where it fills the room or nothing is behind it.
 front_is : (room : ℕ) (front all ys : List ℕ) → all ≡ front ++ ys → length front ≤ room → (length front < room → ys ≡ []) → front ≡ take room all
@@ -38,3 +39,32 @@ run_writes text_for room n None new puts put xs text Written long within taken p
 run_writes text_for room n (Some all) new puts put xs text Written long within taken prints puts_it =
     subst (Appends puts put) (prints ∙ ap text_for (read_front n (Some all) new xs within taken ∙ ap (λ k. take k all) long)) puts_it
 run_writes text_for room n old new puts put xs text Failed long within taken prints puts_it = tt
+
+-- Where the text is empty it need not be written.
+pub run_leaves : (text_for : List ℕ → List ℕ) (room n k : ℕ) (old new puts : Option (List ℕ)) (xs out : List ℕ)
+    → length xs ≡ room → InputWithin (Read n) xs → InputTaken old new (Read n) xs → k ≡ 0 → take k out ≡ text_for (take n xs)
+    → OnWritten Written (IfSome old (λ all. Appends puts puts (text_for (take room all))))
+unfolding OutputPut
+run_leaves text_for room n k old new puts xs out long within taken none prints =
+    let empty : [] ≡ text_for (take n xs) = sym (ap (λ j. take j out) none) ∙ prints in
+    run_writes text_for room n old new puts puts xs [] Written long within taken empty (Appends-nil puts)
+
+-- What holds of a text and what was read holds of it and the known input.
+pub run_writes_some : (P : List ℕ → List ℕ → ℕ → Type 0) (room n k : ℕ) (old new puts put : Option (List ℕ)) (xs out : List ℕ) (y : Output)
+    → length xs ≡ room → InputWithin (Read n) xs → InputTaken old new (Read n) xs → P (take n xs) out k → OutputPut puts put y (take k out)
+    → OnWritten y (IfSome old (λ all. PutSome puts put (P (take room all))))
+unfolding OutputPut
+run_writes_some P room n k None new puts put xs out Written long within taken says puts_it = tt
+run_writes_some P room n k (Some all) new puts put xs out Written long within taken says puts_it =
+    let front : take n xs ≡ take room all = read_front n (Some all) new xs within taken ∙ ap (λ j. take j all) long in
+    (out, k, subst (λ text. P text out k) front says, puts_it)
+run_writes_some P room n k old new puts put xs out Failed long within taken says puts_it = tt
+
+-- The same where the text is empty and need not be written.
+pub run_leaves_some : (P : List ℕ → List ℕ → ℕ → Type 0) (room n k : ℕ) (old new puts : Option (List ℕ)) (xs out : List ℕ)
+    → length xs ≡ room → InputWithin (Read n) xs → InputTaken old new (Read n) xs → k ≡ 0 → P (take n xs) out k
+    → OnWritten Written (IfSome old (λ all. PutSome puts puts (P (take room all))))
+unfolding OutputPut
+run_leaves_some P room n k old new puts xs out long within taken none says =
+    let nothing : Appends puts puts (take k out) = rw none (Appends-nil puts) in
+    run_writes_some P room n k old new puts puts xs out Written long within taken says nothing

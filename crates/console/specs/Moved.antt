@@ -58,3 +58,7 @@ OutputSaid old new output.Failed = Unit {0}
 abbrev pub OnWritten : Output → Type 0 → Type 0
 OnWritten output.Written P = P
 OnWritten output.Failed P = Unit {0}
+
+-- What came behind what the output holds is the front of a memory, as long as a number says; of both something holds.
+abbrev pub PutSome : Option (List ℕ) → Option (List ℕ) → (List ℕ → ℕ → Type 0) → Type 0
+PutSome old new P = (xs : List ℕ) × (n : ℕ) × P xs n × Appends old new (take n xs)

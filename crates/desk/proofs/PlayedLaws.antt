@@ -9,7 +9,7 @@ use borrow.Author.Tests.{le-leb}
 use lib.ListN.{length, take, length-append}
 use lib.Seq.{take_at}
 use Rattle.laws.specs.Memory.{put}
-use Rattle.laws.specs.Verdict.{Verdict, passed, refused, ◌then◌, ◌gives◌}
+use Rattle.laws.specs.Verdict.{Verdict, passed, refused, ◌gives◌}
 use Rattle.laws.proofs.Tests.{lt_or_le}
 use Rattle.laws.proofs.VerdictLaws.{then_passed, demand_passes, demand_cases, when_passed_lem, given_value, given_refusal}
 use Rattle.floor.specs.declared.Floor.{Floor}

@@ -8,10 +8,13 @@ mod listed;
 mod mapped;
 mod played;
 
-ghost use Rattle.std.specs.Prelude.{◌≡◌, min, take, IfSome};
+ghost use Rattle.std.specs.Prelude.{◌≡◌, ℕ, min, take, IfSome};
 ghost use Rattle.std.specs.Io.KnownBytes.{Appends};
 ghost use Rattle.io.specs.Counts.{IsPrefixLen};
-ghost use Rattle.console.specs.Moved.{OnWritten};
+ghost use Rattle.laws.specs.Verdict.{refused};
+ghost use Rattle.sheet.specs.Read.{sheet_verdict};
+ghost use Rattle.reasons.specs.Told.{Explains};
+ghost use Rattle.console.specs.Moved.{OnWritten, PutSome};
 ghost use Rattle.meeting.specs.Text.{meeting_text};
 ghost use Rattle.stranded.specs.Text.{blockers_text};
 ghost use Rattle.desk.specs.Text.{trial_text};
@@ -357,7 +360,11 @@ fn why_usage(rt: &impl Eprint) {
 }
 
 // Prints why the sheet from standard input is refused.
-fn explain<R: Read, W: Write, E: Write>(reader: &mut R, writer: &mut W, errors: &mut E) -> Output {
+fn explain<R: Read, W: Write, E: Write>(reader: &mut R, writer: &mut W, errors: &mut E) -> Output
+    ensures { OnWritten result (IfSome (R.remaining reader.old)
+        (λ xs. PutSome (W.contents writer.old) (W.contents writer.new)
+        (λ out n. (k p : ℕ) → sheet_verdict (take 65536 xs) ≡ refused k p → Explains (take 65536 xs) k p out n))) }
+{
     let mut space = io::large_buffer();
     let input = console::read(reader, errors, b"desk: standard input", &mut space);
     let Input::Read(n) = input else {

@@ -1,4 +1,8 @@
 // The sheet of a map on standard input.
+ghost use Rattle.std.specs.Prelude.{take, IfSome};
+ghost use Rattle.console.specs.Moved.{OnWritten, PutSome};
+ghost use Rattle.map_reader.specs.Told.{SheetOrNothing};
+
 use console::{Input, Output};
 use std::io::{Read, Write};
 
@@ -7,7 +11,11 @@ pub fn print_sheet<R: Read, W: Write, E: Write>(
     reader: &mut R,
     writer: &mut W,
     errors: &mut E,
-) -> Output {
+) -> Output
+    ensures { OnWritten result (IfSome (R.remaining reader.old)
+        (λ xs. PutSome (W.contents writer.old) (W.contents writer.new)
+        (λ out n. SheetOrNothing (take 65536 xs) out n))) }
+{
     let mut space = io::large_buffer();
     let input = console::read(reader, errors, b"desk: standard input", &mut space);
     let Input::Read(n) = input else {

@@ -1,7 +1,7 @@
 -- The simulation of the reference machine: on the memory of any state within the ranges a call gives the reference machine's answer
 -- and leaves the memory of its next state, which is again within the ranges. Two states that have one memory are told apart by no call,
 -- since both go the way of the memory; so the same holds of the state that a valid memory shows.
-use Prim.Native.Nat.{ℕ, ◌+◌, ◌≤◌}
+use Prim.Native.Nat.{ℕ, ◌≤◌}
 use native.Mathlib.Omega.{arith}
 use native.Mathlib.Nat.{zero-add}
 use mathlib.Core.Bool.{Bool, true, false}
@@ -9,7 +9,7 @@ use mathlib.Core.List.{List, ◌++◌, map}
 use mathlib.Core.Path.{◌≡◌, refl, sym, ◌∙◌, ap}
 use lib.ListN.{length, take, drop, take-append-drop, length-append}
 use borrow.Author.Tests.{le-leb}
-use Rattle.laws.specs.Verdict.{Verdict, passed, refused, Outcome, value, ◌then◌, demand, ◌gives◌, ◌then_answers◌, when_passed}
+use Rattle.laws.specs.Verdict.{Verdict, passed, refused, ◌then◌, demand, ◌then_answers◌, when_passed}
 use Rattle.laws.specs.Memory.{put}
 use Rattle.laws.proofs.VerdictLaws.{then_passed, then_both, demand_holds, demand_passes, answers_passed, gives_same, when_passed_lem}
 use Rattle.floor.specs.declared.Floor.{Floor}
@@ -21,7 +21,7 @@ use Rattle.reference.specs.Step.{is_there, waits_for}
 use Rattle.reference.specs.Take.{step_answer}
 use Rattle.reference.specs.Ending.{RunEnding}
 use Rattle.reference.specs.Table.{Asked, step, no_step, Call, single, run_of, steps_of, lent_enough, all_named, open_single, verdict}
-use Rattle.reference.specs.Calls.{Reply, CallAnswer, stepped, ran, reply, state_after, after_call}
+use Rattle.reference.specs.Calls.{Reply, stepped, ran, reply, state_after, after_call}
 use Rattle.reference.specs.Bounds.{InRange, Throughout}
 use Rattle.reference.proofs.TableLaws.{single_open, named_each, all_steps}
 use Rattle.reference.proofs.ReachLaws.{call_reaches}

@@ -1,5 +1,5 @@
 -- A state of the reference machine as numbers in memory.
-use Rattle.std.specs.Prelude.{ℕ, zero, suc, ◌+◌, ◌/◌, ◌%◌, Bool, true, false, List, [], ◌∷◌, ◌++◌, length}
+use Rattle.std.specs.Prelude.{ℕ, zero, suc, ◌/◌, ◌%◌, Bool, true, false, List, [], ◌∷◌, ◌++◌, length}
 use Rattle.route.specs.Route.{Answer, unheard, heard}
 use Rattle.records.specs.Records.{slot}
 use Rattle.reference.specs.State.{State}

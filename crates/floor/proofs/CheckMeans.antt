@@ -18,7 +18,7 @@ use Rattle.laws.proofs.HoldLaws.{each_decides}
 use Rattle.floor.proofs.LimitsLaws.{within_means}
 
 -- Two tests joined mean both statements.
-both_mean : {x y : Bool} {A B : Type 0} → (x ≡ true) ↔ A → (y ≡ true) ↔ B → ((x && y) ≡ true) ↔ (A × B)
+pub both_mean : {x y : Bool} {A B : Type 0} → (x ≡ true) ↔ A → (y ≡ true) ↔ B → ((x && y) ≡ true) ↔ (A × B)
 both_mean {x} {y} f g = (
   λ h. let s = (and-eq-true_iff x y).0 h in (f.0 s.0, g.0 s.1),
   λ h. (and-eq-true_iff x y).1 (f.1 h.0, g.1 h.1),

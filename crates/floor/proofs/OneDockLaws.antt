@@ -11,15 +11,17 @@ use lib.Dec.{eqb}
 use borrow.Author.Tests.{eq-eqb, eqb-true}
 use Rattle.laws.specs.Verdict.{Verdict, passed, refused, ◌then◌, demand_each, First, each}
 use Rattle.laws.proofs.PartLaws.{part_byte}
-use Rattle.laws.proofs.Tests.{and_fst, not_refutes, same_test}
+use Rattle.laws.proofs.Tests.{not_refutes, same_test}
 use Rattle.laws.proofs.EachLaws.{Decides, each_passed, all_passes, each_refused, first_refuses}
 use Rattle.laws.proofs.VerdictLaws.{then_both, then_assoc, then_passed, then_refused, refused_by, demand_same, demand_passes, turn_passes}
 use Rattle.floor.specs.Checks.{within, among, start_of, count_of, docks_of, dock_of, is_dock, in_grid, docks_in_grid, carrier_in_grid}
 use Rattle.floor.specs.Checks.{docks_clear, clear_of_walls, unshared, unrepeated, limits_of, lent_of, long_enough, carriers_of}
 use Rattle.floor.specs.Checks.{walls_of, rising_of, clear_of, distinct_of, unrepeated_of, places_of, check_of}
 use Rattle.floor.specs.OneDock.{OneDockFloor, one_each, with_one_dock, earlier_limits, earlier_inside, both_inside, earlier_carriers}
-use Rattle.floor.specs.OneDock.{earlier_walls, earlier_rising, both_clear, earlier_clear, neither_shared, earlier_distinct, earlier_check}
+use Rattle.floor.specs.Accepted.{Absent}
+use Rattle.floor.specs.OneDock.{GoalsDistinct, earlier_walls, earlier_rising, both_clear, earlier_clear, neither_shared, earlier_distinct, earlier_check}
 use Rattle.floor.proofs.LimitsLaws.{limits_passed}
+use Rattle.floor.proofs.CheckMeans.{both_mean, absent_means}
 
 -- Every fourth place has a goal.
 goal_at : (xs : List ℕ) (i : ℕ) → get_or (one_each xs) (4 * i) 0 ≡ get_or xs i 0
@@ -165,18 +167,27 @@ module _ (old : OneDockFloor) (ws : List ℕ) where
         then_nothing (distinct_of (with_one_dock old)),
       ) refl)))
 
-  -- A carrier that shares neither a start nor a goal shares no start.
-  no_start : (i : ℕ) → neither_shared old i ≡ true → unshared (with_one_dock old) i ≡ true
+  -- A carrier shares neither a start nor a goal exactly if it shares no start, and no earlier carrier has its goal.
+  shares_means : (i : ℕ) → (neither_shared old i ≡ true) ↔
+      ((unshared (with_one_dock old) i ≡ true) × Absent old.goals i (get_or old.goals i 0))
   unfolding neither_shared unshared start_of with_one_dock
-  no_start i h = and_fst _ _ h
+  shares_means i = both_mean (λ h. h, λ h. h) (absent_means old.goals i _)
 
-  pub still_accepted : earlier_check old ws ≡ passed → check_of (with_one_dock old) ws ≡ passed
+  -- Both verdicts pass the checks before 6; document 01's 6 passes exactly if today's does and the goals are distinct.
+  pub exactly_accepted : (earlier_check old ws ≡ passed) ↔ ((check_of (with_one_dock old) ws ≡ passed) × GoalsDistinct old)
   unfolding earlier_distinct distinct_of with_one_dock
-  still_accepted h =
-      let b = then_both _ _ (sym earlier_is ∙ h) in
-      let each = each_passed 6 1 (neither_shared old) _ (itself (neither_shared old)) old.carriers b.1 in
-      today_is ∙ then_passed b.0
-      ∙ all_passes 6 1 (unshared (with_one_dock old)) _ (itself (unshared (with_one_dock old))) old.carriers (λ i l. no_start i (each i l))
+  exactly_accepted = (
+    λ h.
+        let b = then_both _ _ (sym earlier_is ∙ h) in
+        let each = each_passed 6 1 _ _ shares_means old.carriers b.1 in (
+          today_is ∙ then_passed b.0 ∙ all_passes 6 1 _ _ (itself (unshared (with_one_dock old))) old.carriers (λ i l. (each i l).0),
+          λ i l. (each i l).1,
+        ),
+    λ h.
+        let b = then_both _ _ (sym today_is ∙ h.0) in
+        let each = each_passed 6 1 _ _ (itself (unshared (with_one_dock old))) old.carriers b.1 in
+        earlier_is ∙ then_passed b.0 ∙ all_passes 6 1 _ _ shares_means old.carriers (λ i l. (each i l, h.1 i l)),
+  )
 
   pub still_refused : (k p : ℕ) → (k ≡ 6 → ⊥) → (earlier_check old ws ≡ refused k p) ↔ (check_of (with_one_dock old) ws ≡ refused k p)
   unfolding earlier_distinct distinct_of with_one_dock
@@ -193,4 +204,4 @@ module _ (old : OneDockFloor) (ws : List ℕ) where
       let f = own_place 6 (neither_shared old) old.carriers 6 i r in
       today_is ∙ then_passed a
       ∙ first_refuses 6 1 (unshared (with_one_dock old)) _ (itself (unshared (with_one_dock old))) old.carriers i
-      (record { listed = f.listed; fails = λ q. not_refutes _ q t; before = λ j l. no_start j (f.before j l) }))
+      (record { listed = f.listed; fails = λ q. not_refutes _ q t; before = λ j l. ((shares_means j).0 (f.before j l)).0 }))

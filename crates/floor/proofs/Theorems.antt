@@ -20,7 +20,7 @@ use Rattle.laws.proofs.EachLaws.{each_means, each_refused, first_refuses}
 use Rattle.floor.proofs.LimitsLaws.{field_means, limits_each, limits_mean, lent_passed}
 use Rattle.floor.proofs.SameLaws.{check_same}
 use Rattle.floor.proofs.OrderLaws.{order_same}
-use Rattle.floor.proofs.OneDockLaws.{still_accepted, still_refused, still_six}
+use Rattle.floor.proofs.OneDockLaws.{exactly_accepted, still_refused, still_six}
 use Rattle.floor.proofs.CheckMeans.{carrier_in_grid_means, wall_in_grid_means, rises_means, clear_means}
 use Rattle.floor.proofs.CheckMeans.{unshared_means, unrepeated_means}
 
@@ -168,7 +168,8 @@ theorems =
       fresh_accepted = refl;
       same_verdict = λ f ws f' ws' same. check_same f ws f' ws' same;
       order_nothing = λ f f' ws same. order_same f f' ws same;
-      earlier_accepted = λ old ws. still_accepted old ws;
+      earlier_accepted = λ old ws h. ((exactly_accepted old ws).0 h).0;
+      earlier_exactly = λ old ws. exactly_accepted old ws;
       earlier_refused = λ old ws. still_refused old ws;
       earlier_start = λ old ws. still_six old ws;
     }

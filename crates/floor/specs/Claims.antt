@@ -5,7 +5,7 @@ use Rattle.laws.specs.Verdict.{passed, refused}
 use Rattle.floor.specs.Checks.{among, check_of}
 use Rattle.floor.specs.Fresh.{fresh_floor}
 use Rattle.floor.specs.Accepted.{Accepted, Lent, SameFloor, SameDocks}
-use Rattle.floor.specs.OneDock.{OneDockFloor, earlier_check, with_one_dock}
+use Rattle.floor.specs.OneDock.{OneDockFloor, earlier_check, with_one_dock, GoalsDistinct}
 use Rattle.floor.specs.Refused.{RefusedWith}
 
 pub record Claims : Type 0 where
@@ -22,6 +22,9 @@ pub record Claims : Type 0 where
   pub order_nothing : (f f' : Floor) (ws : List ℕ) → SameDocks f f' → check_of f ws ≡ check_of f' ws
   -- With one dock a carrier, a floor that document 01 accepts is accepted.
   pub earlier_accepted : (old : OneDockFloor) (ws : List ℕ) → earlier_check old ws ≡ passed → check_of (with_one_dock old) ws ≡ passed
+  -- Exactly the floors that are accepted and have no goal in common are.
+  pub earlier_exactly : (old : OneDockFloor) (ws : List ℕ)
+      → (earlier_check old ws ≡ passed) ↔ ((check_of (with_one_dock old) ws ≡ passed) × GoalsDistinct old)
   -- It gets document 01's refusals and no other, except 6.
   pub earlier_refused : (old : OneDockFloor) (ws : List ℕ) (k p : ℕ) → (k ≡ 6 → ⊥)
       → (earlier_check old ws ≡ refused k p) ↔ (check_of (with_one_dock old) ws ≡ refused k p)

@@ -1,8 +1,9 @@
 -- Document 01's floor, in which each carrier has one goal cell: its checks by that document's letter, and the same floor in today's form.
 use Rattle.std.specs.Prelude.{ℕ, ◌+◌, ◌*◌, Bool, ◌&&◌, not, List, [], ◌∷◌, length, get_or, replicate, ltb}
-use Rattle.laws.specs.Verdict.{Verdict, ◌then◌, demand, demand_each}
+use Rattle.laws.specs.Verdict.{Verdict, ◌then◌, demand, demand_each, All}
 use Rattle.floor.specs.declared.Floor.{Floor}
 use Rattle.floor.specs.Checks.{within, long_enough, rises, among}
+use Rattle.floor.specs.Accepted.{Absent}
 
 -- A floor by document 01: a start and a goal a carrier.
 pub record OneDockFloor : Type 0 where
@@ -90,3 +91,7 @@ earlier_check old ws =
     then earlier_rising old ws
     then earlier_clear old ws
     then earlier_distinct old
+
+-- No earlier carrier has the goal of a carrier that is there.
+abbrev pub GoalsDistinct : OneDockFloor → Type 0
+GoalsDistinct old = All (λ (i : ℕ). Absent old.goals i (get_or old.goals i 0)) old.carriers

@@ -1,6 +1,6 @@
 -- Laws of lent memory: an entry of verdict x that stores `when_passed x new old` keeps the memory with a refusal, and what is stored in
 -- front leaves the rest.
-use Prim.Native.Nat.{ℕ, ◌-◌}
+use Prim.Native.Nat.{ℕ}
 use native.Mathlib.Omega.{arith}
 use mathlib.Core.Path.{◌≡◌, refl}
 use mathlib.Core.List.{List}

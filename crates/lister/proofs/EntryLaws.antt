@@ -9,7 +9,7 @@ use lib.Dec.{leb}
 use lib.ListN.{length, get_or, take, drop}
 use lib.Seq.{take_at}
 use borrow.Author.Tests.{leb-true, lt-ltb, le-ltb}
-use Rattle.laws.specs.Verdict.{Outcome, value, refusal, passed, refused, ◌then◌, demand, ◌gives◌}
+use Rattle.laws.specs.Verdict.{Outcome, value, refusal, passed, refused, ◌then◌, demand}
 use Rattle.laws.specs.Memory.{put}
 use Rattle.laws.proofs.PutLaws.{put_length}
 use Rattle.laws.proofs.VerdictLaws.{then_both, then_passed, demand_holds, demand_passes, gives_passed, gives_refused, when_passed_lem}

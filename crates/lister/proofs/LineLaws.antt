@@ -1,11 +1,8 @@
 -- Lines of runs in a memory: a trail copied number by number, and a run written as its line.
 use Prim.Native.Nat.{ℕ, suc, ◌+◌, ◌*◌, ◌-◌, ◌/◌, ◌≤◌, ◌<◌}
 use native.Mathlib.Omega.{arith}
-use native.Mathlib.Numerals.{add-one}
-use mathlib.Core.Bool.{true, false, ◌&&◌}
 use mathlib.Core.List.{List, [], ◌∷◌, ◌++◌, append_assoc}
 use mathlib.Core.Path.{◌≡◌, refl, sym, ◌∙◌, ap}
-use lib.Dec.{leb, ltb}
 use lib.ListN.{length, get_or, take, set, length-set, length-take}
 use lib.Seq.{take-suc-set, length-take-le, get_or-take}
 use borrow.Author.Tests.{le-leb, lt-leb, lt-ltb, le-ltb}

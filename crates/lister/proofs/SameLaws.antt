@@ -19,7 +19,7 @@ use Rattle.encoding.specs.Places.{state_size}
 use Rattle.encoding.specs.Encode.{encode}
 use Rattle.encoding.specs.Ranges.{WithinRanges}
 use Rattle.encoding.specs.Calls.{machine_of}
-use Rattle.encoding.specs.InnerSteps.{open_in, silent_in, after_in, step_answer_in}
+use Rattle.encoding.specs.InnerSteps.{open_in, silent_in, after_in}
 use Rattle.encoding.proofs.OpenLaws.{open_same, silent_same}
 use Rattle.encoding.proofs.ExactLaws.{fresh_fits}
 use Rattle.encoding.proofs.FloorLaws.{depth_some}

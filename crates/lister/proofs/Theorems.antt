@@ -1,5 +1,5 @@
 -- The claims, proved.
-use Prim.Native.Nat.{ℕ, ◌+◌, ◌*◌, ◌≤◌, ◌<◌}
+use Prim.Native.Nat.{ℕ, ◌*◌, ◌≤◌, ◌<◌}
 use native.Mathlib.Omega.{arith}
 use mathlib.Core.List.{List}
 use mathlib.Core.Path.{◌≡◌}
@@ -11,12 +11,10 @@ use Rattle.laws.proofs.VerdictLaws.{then_both, demand_holds}
 use Rattle.floor.specs.declared.Floor.{Floor}
 use Rattle.floor.specs.Checks.{check_of}
 use Rattle.encoding.specs.Calls.{machine_of}
-use Rattle.orders.specs.Orders.{Order, first}
 use Rattle.trial.specs.Report.{report_size}
 use Rattle.trial.proofs.EntryLaws.{checked_carriers}
-use Rattle.listing.specs.Runs.{total}
 use Rattle.listing.proofs.Theorems.{theorems as listing-theorems, some_run}
-use Rattle.lister.specs.Entry.{total_of, run_of_rank, small_verdict, rank_verdict, run_numbers}
+use Rattle.lister.specs.Entry.{total_of, run_of_rank, rank_verdict, run_numbers}
 use Rattle.lister.specs.Claims.{Claims}
 use Rattle.lister.proofs.SameLaws.{total_fits}
 use Rattle.lister.proofs.EntryLaws.{size_of}

@@ -1,14 +1,14 @@
 -- The complete runs: every listed one is complete, every complete one is listed, and how many there are at the most.
-use Prim.Native.Nat.{ℕ, zero, suc, ◌+◌, ◌*◌, ◌^◌, ◌≤◌, ◌<◌}
+use Prim.Native.Nat.{ℕ, zero, suc, ◌*◌, ◌^◌, ◌≤◌, ◌<◌}
 use native.Mathlib.Omega.{arith}
-use native.Mathlib.Nat.{suc-mul, pow-succ', one-le-pow, mul-le-mul_left}
+use native.Mathlib.Nat.{suc-mul, pow-succ', one-le-pow}
 use mathlib.Core.Bool.{Bool, true, false}
-use mathlib.Core.List.{List, [], ◌∷◌, ◌++◌, map}
+use mathlib.Core.List.{List, [], ◌∷◌, ◌++◌}
 use mathlib.Core.Path.{◌≡◌, refl, sym, ◌∙◌, ap, ap₂}
 use lib.ListN.{length, get_or, length-append, length-map}
 use borrow.Author.Tests.{lt-ltb}
 use Rattle.laws.proofs.Tests.{and_both, true_false_absurd, not_true_is_false}
-use Rattle.reference.specs.State.{Machine, State, fresh}
+use Rattle.reference.specs.State.{Machine, State}
 use Rattle.reference.specs.Step.{Step, plan, deliver, is_open, is_there}
 use Rattle.reference.specs.Take.{after_step}
 use Rattle.reference.specs.Ranking.{ranking, is_silent}
@@ -20,7 +20,7 @@ use Rattle.orders.specs.Orders.{places, step_at}
 use Rattle.orders.proofs.PlaceLaws.{RankedPlace, there_place}
 use Rattle.listing.specs.Runs.{Run, each_behind, beginning, runs_from}
 use Rattle.listing.specs.Order.{Complete}
-use Rattle.listing.proofs.ListLaws.{AllItems, all_append, all_map, HasPlace, placed_left, placed_right, placed_map}
+use Rattle.listing.proofs.ListLaws.{AllItems, all_append, HasPlace, placed_left, placed_right, placed_map}
 
 module _ (opens : Step → Bool) (onward : Step → List Run) where
   pub begin_open : (x : Step) (xs : List Step) → opens x ≡ true →

@@ -5,8 +5,8 @@ use native.Mathlib.Nat.{eq-or-lt_of_le}
 use mathlib.Core.Logic.{⊎_elim, ◌↔◌}
 use mathlib.Core.Bool.{true}
 use mathlib.Core.List.{List, [], ◌∷◌}
-use mathlib.Core.Path.{◌≡◌, refl, sym, ◌∙◌, ap, subst}
-use lib.ListN.{length, get_or}
+use mathlib.Core.Path.{◌≡◌, sym, ◌∙◌, ap, subst}
+use lib.ListN.{length}
 use Rattle.laws.proofs.Tests.{lt_or_le}
 use Rattle.reference.specs.State.{Machine, State, fresh}
 use Rattle.reference.specs.Take.{after_step}
@@ -18,7 +18,7 @@ use Rattle.orders.specs.Orders.{first, start_memory, remembered}
 use Rattle.orders.specs.Trial.{Entry, trial, steps_in}
 use Rattle.orders.specs.Rules.{FollowsOrder}
 use Rattle.orders.proofs.Theorems.{theorems as orders-theorems}
-use Rattle.listing.specs.Runs.{Run, runs_from, runs_of, total, run_at}
+use Rattle.listing.specs.Runs.{Run, runs_of, total, run_at}
 use Rattle.listing.specs.Order.{Complete, EarlierRun}
 use Rattle.listing.specs.Claims.{Claims}
 use Rattle.listing.proofs.ListLaws.{all_at, sorted_at, HasPlace}

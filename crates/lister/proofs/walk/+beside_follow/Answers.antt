@@ -3,12 +3,7 @@
 -- first place on.
 use Prim.Native.Nat.{ℕ, ◌+◌, ◌<◌, ◌≤◌}
 use native.Mathlib.Omega.{arith}
-use mathlib.Core.Bool.{Bool}
-use mathlib.Core.Path.{◌≡◌, sym, ◌∙◌}
-use Rattle.orders.specs.Orders.{places, step_at}
-use Rattle.encoding.specs.InnerSteps.{open_in}
-use Rattle.steps.specs.Inner.{bare}
-use Rattle.steps.proofs.PlacedLaws.{placed_sized}
+use mathlib.Core.Path.{sym, ◌∙◌}
 use Rattle.lister.proofs.WalkLaws.{places_six, beside_spent, beside_end, beside_shut, beside_open, tallied_none, tallied_same}
 use Rattle.lister.proofs.WalkLaws.{tallied_join, tallied_below, tallied_end, followed_end, followed_onward, branch_below, fits_one}
 use Rattle.lister.proofs.WalkLaws.{fits_below, fits_same, fits_part, fits_rest, falls_along, falls_to, falls_below, place_listed}

@@ -2,7 +2,6 @@
 use borrow.Author.Rules.{rules}
 use borrow.Author.Rules.{rules}
 use Rattle.state.proofs.EachLaws.{each_turn}
-use Rattle.encoding.specs.Valid.{carrier_valid}
 use Rattle.encoding.specs.Places.{state_size}
 use Rattle.state.proofs.checks.carriers_valid.Goals as goal
 

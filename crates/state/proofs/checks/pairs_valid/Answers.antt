@@ -1,6 +1,5 @@
 -- `state::checks::pairs_valid` meets its contract: the loop holds that all receivers so far are valid.
 use Rattle.state.proofs.EachLaws.{each_turn}
-use Rattle.laws.specs.Verdict.{each}
 use Rattle.state.proofs.checks.pairs_valid.Goals as goal
 
 pub loop-i-init : goal.loop-i-init

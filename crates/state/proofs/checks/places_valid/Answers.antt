@@ -1,6 +1,5 @@
 -- `state::checks::places_valid` meets its contract: the loop holds that all places so far are valid.
 use Rattle.state.proofs.EachLaws.{each_turn}
-use Rattle.encoding.specs.Valid.{place_valid}
 use Rattle.state.proofs.checks.places_valid.Goals as goal
 
 pub loop-p-init : goal.loop-p-init

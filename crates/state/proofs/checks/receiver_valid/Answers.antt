@@ -1,6 +1,5 @@
 -- `state::checks::receiver_valid` meets its contract: the loop holds that all senders so far are valid.
 use Rattle.state.proofs.EachLaws.{each_turn}
-use Rattle.encoding.specs.Valid.{pair_valid}
 use Rattle.state.proofs.checks.receiver_valid.Goals as goal
 
 pub loop-j-init : goal.loop-j-init

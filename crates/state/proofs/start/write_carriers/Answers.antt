@@ -2,7 +2,6 @@
 use Rattle.state.proofs.FreshLaws.{carriers_more, fresh_start}
 use mathlib.Core.Path.{◌≡◌, ◌∙◌}
 use Rattle.encoding.specs.Encode.{blocks}
-use Rattle.reference.specs.State.{fresh}
 use borrow.Author.Rules.{rules}
 use native.Mathlib.Omega.{arith}
 use Rattle.state.proofs.start.write_carriers.Goals as goal

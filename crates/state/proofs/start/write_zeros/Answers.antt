@@ -1,6 +1,6 @@
 -- `state::start::write_zeros` meets its contract: the loop copies a list of zeros.
 use Rattle.laws.proofs.PutLaws.{copy_start, copy_more, copy_end}
-use lib.ListN.{length, replicate, length-set, length-replicate, get_or-replicate}
+use lib.ListN.{replicate, length-set, length-replicate, get_or-replicate}
 use mathlib.Core.Path.{refl}
 use Prim.Native.Nat.{ℕ}
 use borrow.Author.Rules.{rules}

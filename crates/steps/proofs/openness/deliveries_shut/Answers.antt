@@ -1,6 +1,5 @@
 -- `steps::openness::deliveries_shut` meets its contract: the loop holds that no sender so far has an open delivery.
 use Rattle.state.proofs.EachLaws.{each_turn}
-use Rattle.steps.specs.Inner.{sender_shut}
 use Rattle.steps.proofs.openness.deliveries_shut.Goals as goal
 
 pub loop-j-init : goal.loop-j-init

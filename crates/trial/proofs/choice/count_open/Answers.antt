@@ -12,8 +12,8 @@ pub loop-p-preserved : goal.loop-p-preserved
 loop-p-preserved c =
     let tested = sym c.open_at.ensures in
     elim c.if-open_at.branch [
-      then-open_at w ↦ rw w.count-is (counted_yes _ _ _ _ c.loop-p.invariant c.loop-p-test.true (tested ∙ w.if-open_at.true))
-    | else-open_at w ↦ rw w.count-is (counted_no _ _ _ _ c.loop-p.invariant c.loop-p-test.true (tested ∙ w.if-open_at.false))
+      | then-open_at w ↦ rw w.count-is (counted_yes _ _ _ _ c.loop-p.invariant c.loop-p-test.true (tested ∙ w.if-open_at.true))
+      | else-open_at w ↦ rw w.count-is (counted_no _ _ _ _ c.loop-p.invariant c.loop-p-test.true (tested ∙ w.if-open_at.false))
     ]
 
 pub returns : goal.returns

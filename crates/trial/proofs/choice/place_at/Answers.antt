@@ -17,12 +17,12 @@ pub loop-p-preserved : goal.loop-p-preserved
 loop-p-preserved c =
     let tested = sym c.open_at.ensures in
     elim c.if-open_at.branch [
-      then-open_at+else-before-i w ↦ rw w.before-is (
+      | then-open_at+else-before-i w ↦ rw w.before-is (
         omega (arith, c.loop-p.invariant.0, w.if-before-i.false),
         counted_yes _ _ _ _ c.loop-p.invariant.1 c.loop-p-test.true (tested ∙ w.if-open_at.true),
       )
-    | else-open_at w ↦ rw w.before-is
-        (c.loop-p.invariant.0, counted_no _ _ _ _ c.loop-p.invariant.1 c.loop-p-test.true (tested ∙ w.if-open_at.false))
+      | else-open_at w ↦ rw w.before-is
+          (c.loop-p.invariant.0, counted_no _ _ _ _ c.loop-p.invariant.1 c.loop-p-test.true (tested ∙ w.if-open_at.false))
     ]
 
 pub returns : goal.returns
