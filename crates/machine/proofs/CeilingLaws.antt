@@ -4,7 +4,6 @@ use native.Mathlib.Omega.{arith}
 use native.Mathlib.Nat.{pow-le-pow_right}
 use borrow.Author.Tests.{le-leb, lt-leb, eqb-true}
 use mathlib.Core.Bool.{true}
-use mathlib.Core.List.{List, [], ◌∷◌}
 use mathlib.Core.Path.{◌≡◌, refl, ◌∙◌, ap}
 use lib.Dec.{eqb}
 use lib.ListN.{get_or}
@@ -13,10 +12,7 @@ use Rattle.floor.specs.Checks.{within}
 use Rattle.reference.specs.Quiescent.{ceiling}
 use Rattle.laws.proofs.HoldLaws.{each_holds}
 use Rattle.machine.specs.Ceiling.{most_steps}
-
--- The table of the code.
-unfoldable pub figures : List ℕ
-figures = 1 ∷ 4 ∷ 11 ∷ 26 ∷ 57 ∷ 120 ∷ 247 ∷ 502 ∷ []
+use Rattle.machine.proofs.Figures.{figures}
 
 -- The test over the whole table, which the checker computes.
 all_right : each 8 (λ k. eqb (get_or figures k 0) (ceiling (suc k))) ≡ true
