@@ -3,7 +3,7 @@
 -- length and four records. Views and channels go by pairs of a receiver i and a sender j above it, in the order (1, 0), (2, 0), (2, 1) ...
 use Rattle.std.specs.Prelude.{ℕ, zero, suc, ◌+◌, ◌*◌}
 
--- The pairs with a receiver below i; pair (i, j) has the number pairsBefore i + j.
+-- The pairs with a receiver below i; pair (i, j) has the number pairs_before i + j.
 unfoldable pub pairs_before : ℕ → ℕ
 pairs_before zero = 0
 pairs_before (suc i) = pairs_before i + i

@@ -47,8 +47,8 @@ fn print(text: &[u8], out: &mut [u8; SHEET_LENGTH]) -> usize
     printing::put_refusal(x, out)
 }
 
-// Writes the sheet that the input has again, or the line of its refusal; a failure of input or output is said. The longest sheet has 11,732
-// bytes; of a longer input the first 65,536 bytes hold the first extra byte.
+// Writes the sheet that the input has again, or the line of its refusal; a failure of input or output is said. The longest sheet has
+// 11,732 bytes; of a longer input the first 65,536 bytes hold the first extra byte.
 fn run<R: Read, W: Write, E: Write>(reader: &mut R, writer: &mut W, errors: &mut E) -> Output
     ensures { OnWritten result (IfSome (R.remaining reader.old)
         (λ xs. Appends (W.contents writer.old) (W.contents writer.new) (let text = take 65536 xs in or_refusal (sheet_verdict text) text))) }
