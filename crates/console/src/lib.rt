@@ -8,8 +8,9 @@ ghost use Rattle.std.specs.Prelude.{length};
 ghost use Rattle.console.specs.Within.{InputWithin, PartWithin};
 ghost use Rattle.console.specs.Moved.{InputSaid, InputTaken, OutputPut, OutputSaid, PartRead, PartWritten, PartsRead, PartsWritten};
 
+use std::fmt::Write as _;
 use std::io::{Error, ErrorKind, Read, Write};
-use std::thread;
+use std::{fmt, thread};
 
 // The answer of reading standard input.
 #[derive(Clone, Copy)]
@@ -175,10 +176,52 @@ fn give_up<E: Write>(errors: &mut E, name: &[u8]) {
     let _ = errors.write_all(b": not ready for too long, given up\n");
 }
 
+// Room for an error's words.
+const WORDS: usize = 96;
+
+// The first bytes of what is written into it.
+#[derive(Drop)]
+struct Words {
+    bytes: [u8; WORDS],
+    len: usize,
+}
+
+impl fmt::Write for Words {
+    fn write_str(&mut self, s: &str) -> fmt::Result {
+        for b in s.as_bytes() {
+            let n = self.len;
+            if n < WORDS {
+                self.bytes[n] = *b;
+                self.len = n + 1;
+            }
+        }
+        Ok(())
+    }
+}
+
+// An error's words alone: std writes its number behind them, in brackets.
+fn without_number(text: &[u8]) -> &[u8] {
+    let mark = b" (os error ";
+    for i in 0..text.len() {
+        if text[i..].starts_with(mark) {
+            return &text[..i];
+        }
+    }
+    text
+}
+
 // Says what failed, under the name of the input or output, and why. A line that cannot be said is left.
 fn fail<E: Write>(errors: &mut E, name: &[u8], error: Error) {
+    let mut words = Words {
+        bytes: [0; WORDS],
+        len: 0,
+    };
+    let _ = write!(words, "{error}");
+    let n = if words.len < WORDS { words.len } else { WORDS };
     let _ = errors.write_all(name);
-    let _ = writeln!(errors, ": {error}");
+    let _ = errors.write_all(b": ");
+    let _ = errors.write_all(without_number(&words.bytes[..n]));
+    let _ = errors.write_all(b"\n");
 }
 
 // Reads all of the input into lent memory, or its first bytes where it is longer; a failure is said under the input's name.

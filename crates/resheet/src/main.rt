@@ -51,7 +51,8 @@ fn print(text: &[u8], out: &mut [u8; SHEET_LENGTH]) -> usize
 // 11,732 bytes; of a longer input the first 65,536 bytes hold the first extra byte.
 fn run<R: Read, W: Write, E: Write>(reader: &mut R, writer: &mut W, errors: &mut E) -> Output
     ensures { OnWritten result (IfSome (R.remaining reader.old)
-        (λ xs. Appends (W.contents writer.old) (W.contents writer.new) (let text = take 65536 xs in or_refusal (sheet_verdict text) text))) }
+        (λ xs. Appends (W.contents writer.old) (W.contents writer.new)
+        (let text = take 65536 xs in or_refusal (sheet_verdict text) text))) }
 {
     let mut space = io::large_buffer();
     let input = console::read(reader, errors, b"resheet: standard input", &mut space);
