@@ -7,8 +7,8 @@ use Rattle.std.specs.Prelude.{Result, Ok, Err, ⊤}
 use Rattle.std.specs.Result.{IsErrAnd}
 use Rattle.std.proofs.lemmas.Result.{err_from_is_err_and}
 use Rattle.floor.specs.declared.Refusal.{Refusal}
-use Rattle.laws.specs.Verdict.{Verdict, passed, refused, ◌then◌, in_turn}
-use Rattle.floor.specs.Answers.{number_of, verdict_of}
+use Rattle.laws.specs.Verdict.{Verdict, passed, refused, ◌then◌, in_turn, Outcome, value, ◌gives◌, ◌then_answers◌, when_passed}
+use Rattle.floor.specs.Answers.{number_of, verdict_of, outcome_by}
 use Rattle.laws.proofs.VerdictLaws.{turn_none, turn_more, turn_stop, turn_end}
 
 -- Behind a check that passed, what the rest answers, the whole answers.
@@ -21,6 +21,35 @@ pub ends_at : (y : Result ⊤ Refusal) (e : Refusal) {z : Verdict} (z' : Verdict
     → verdict_of y ≡ (z then z')
 unfolding verdict_of ◌then◌
 ends_at y e z' h r = let p = err_from_is_err_and y r in rw (p.1, p.2, ← h)
+
+-- The same where a value is answered behind the checks.
+pub gives_next : {A : Type 0} {u : ⊤} {z : Verdict} {o : Outcome A} (v : A) → verdict_of (Ok u) ≡ z → o ≡ value v → o ≡ (z gives v)
+unfolding verdict_of ◌gives◌
+gives_next v h t = rw (← h) t
+
+pub gives_end : {A B : Type 0} (means : A → B) (y : Result A Refusal) (e : Refusal) {z : Verdict} (v : B) → verdict_of (Err e) ≡ z
+    → IsErrAnd y (λ d. d ≡ e) → outcome_by means y ≡ (z gives v)
+unfolding verdict_of ◌gives◌ outcome_by
+gives_end means y e v h r = let p = err_from_is_err_and y r in rw (p.1, p.2, ← h)
+
+-- The same where an answer that may be refused follows the checks.
+pub answers_next : {A : Type 0} {u : ⊤} {z : Verdict} {o o' : Outcome A} → verdict_of (Ok u) ≡ z → o ≡ o' → o ≡ (z then_answers o')
+unfolding verdict_of ◌then_answers◌
+answers_next h t = rw (← h) t
+
+pub answers_end : {A B : Type 0} (means : A → B) (y : Result A Refusal) (e : Refusal) {z : Verdict} (o : Outcome B)
+    → verdict_of (Err e) ≡ z → IsErrAnd y (λ d. d ≡ e) → outcome_by means y ≡ (z then_answers o)
+unfolding verdict_of ◌then_answers◌ outcome_by
+answers_end means y e o h r = let p = err_from_is_err_and y r in rw (p.1, p.2, ← h)
+
+-- Memory behind the checks: written where they find nothing, as it was where they refuse.
+pub written_next : {A : Type 0} {u : ⊤} {z : Verdict} {m new : A} (old : A) → verdict_of (Ok u) ≡ z → m ≡ new → m ≡ when_passed z new old
+unfolding verdict_of when_passed
+written_next old h t = rw (← h) t
+
+pub written_end : {A : Type 0} (e : Refusal) {z : Verdict} {m old : A} (new : A) → verdict_of (Err e) ≡ z → m ≡ old → m ≡ when_passed z new old
+unfolding verdict_of when_passed
+written_end e new h t = rw (← h) t
 
 -- A function that is such a chain: each of its answers is `search chain`, at a depth of one more than its checks.
 pub ruleset chain = (then_next, ends_at)

@@ -1,5 +1,5 @@
 -- The numbers of the reasons are those of their variants.
-use Rattle.std.specs.Prelude.{ℕ, ◌+◌, ◌≡◌}
+use Rattle.std.specs.Prelude.{◌+◌, ◌≡◌}
 use mathlib.Core.Path.{refl}
 use Rattle.floor.specs.declared.Reason.{Reason}
 use Rattle.floor.specs.declared.Reason.TheVariants.{Form, Limits, OutsideGrid, WallOrder, OnWall, SharedStart, Unknown, NotDue, TooShort}

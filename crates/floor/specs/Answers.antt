@@ -6,7 +6,7 @@ use Rattle.floor.specs.declared.Reason.TheVariants.{Form, Limits, OutsideGrid, W
 use Rattle.floor.specs.declared.Reason.TheVariants.{NoState, NoOrder, NothingSent, ChannelFull, TooManyCarriers, NoRank, HasRoute}
 use Rattle.floor.specs.declared.Reason.TheVariants.{RepeatedDock}
 use Rattle.floor.specs.declared.Refusal.{Refusal}
-use Rattle.laws.specs.Verdict.{Verdict, passed, refused}
+use Rattle.laws.specs.Verdict.{Verdict, passed, refused, Outcome, value, refusal}
 
 -- The number of a reason in document 01's table of refusals, and in the change requests' rows behind it.
 abbrev pub number_of : Reason → ℕ
@@ -32,3 +32,8 @@ number_of RepeatedDock = 17
 unfoldable pub verdict_of : Result ⊤ Refusal → Verdict
 verdict_of (Ok _) = passed
 verdict_of (Err r) = refused (number_of r.reason) r.place
+
+-- What an answer that may be refused says: what its value means, or the refusal's number and place.
+unfoldable pub outcome_by : {A B : Type 0} → (A → B) → Result A Refusal → Outcome B
+outcome_by means (Ok x) = value (means x)
+outcome_by means (Err r) = refusal (number_of r.reason) r.place

@@ -3,7 +3,6 @@ use Rattle.floor.specs.Checks.{places_of}
 use Rattle.floor.proofs.AnswersLaws.{chain, met_passed}
 use Rattle.floor.proofs.WallSearchLaws.{passed_rising}
 use Rattle.floor.proofs.DockLaws.{passed_counted}
-use borrow.Author.Rules.{rules}
 use Rattle.floor.proofs.checks.places.Goals as goal
 
 pub returns-in_err-carriers_inside : goal.returns-in_err-carriers_inside
