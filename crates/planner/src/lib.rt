@@ -62,7 +62,8 @@ fn plan_one(
     ensures tidy { Tidy (search_grid_of f) sets.new }
 {
     take_last(f, i, table, shown);
-    let (tag, cells) = told(search::route_in(f, free, table, sets, i + 1, shown));
+    let found = search::route_in(f, free, table, sets, i + 1, shown);
+    let (tag, cells) = told(found);
     records::store(answers, records::SIZE * i as usize, tag, cells);
     records::store_seen(f, answers, i as usize, shown);
 }
