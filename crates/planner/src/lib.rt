@@ -73,15 +73,12 @@ fn plan_all(f: Floor, free: Rows, answers: &mut [u16])
     requires { Plannable f free answers.old }
     ensures { answers.new ≡ stored (sequential (respond_with f free) f.carriers) answers.old }
 {
-    let n = f.carriers;
     let mut shown = records::blank();
     let mut table = table::empty();
     free_table::make(search_grid_of(f), 0, &mut table, &free, &shown);
     let mut sets = table::empty();
-    let mut i: u16 = 0;
-    while i < n {
+    for i in 0..f.carriers {
         plan_one(f, free, i, &mut table, &mut sets, &mut shown, answers);
-        i += 1;
     }
 }
 
