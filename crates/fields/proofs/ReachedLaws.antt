@@ -2,15 +2,16 @@
 -- the first refusal is the answer of the whole.
 use Prim.Native.Nat.{ℕ, ◌+◌, ◌≤◌, ◌<◌}
 use borrow.Author.Rules.{rules}
-use mathlib.Core.Path.{◌≡◌, refl, sym, ◌∙◌}
-use Rattle.std.specs.Prelude.{Result, Ok, Err}
+use mathlib.Core.Path.{◌≡◌, refl, sym}
+use Rattle.std.specs.Prelude.{Result, Ok, Err, ⊤}
 use Rattle.std.specs.Result.{IsErrAnd}
 use Rattle.std.proofs.lemmas.Result.{err_from_is_err_and}
 use Rattle.floor.specs.declared.Refusal.{Refusal}
-use Rattle.floor.specs.Answers.{number_of, outcome_by}
-use Rattle.laws.specs.Verdict.{Verdict, passed, refused, ◌then◌, in_turn, Outcome, value, refusal, ◌gives◌}
+use Rattle.floor.specs.Answers.{number_of, outcome_by, verdict_of}
+use Rattle.laws.specs.Verdict.{Verdict, passed, refused, ◌then◌, in_turn, Outcome, ◌gives◌}
 use Rattle.laws.proofs.VerdictLaws.{then_passed, demands, turn_none, turn_more, turn_stop, turn_end}
-use Rattle.fields.specs.Reached.{reached_of}
+use Rattle.fields.specs.Reached.{reached_of, said_by}
+use Rattle.floor.proofs.AnswersLaws.{chain, then_next}
 
 -- An answer that reached a column passed, and the column is the one that was aimed at.
 pub reaches : (x : ℕ) (z : Verdict) (column : ℕ) → reached_of (Ok x) ≡ (z gives column) → (z ≡ passed) × (x ≡ column)
@@ -74,3 +75,49 @@ turn_rest check y i k column' l g p h = rw (← turn_end check i k l g p) h
 
 -- What the answers of such a loop take.
 pub ruleset turns_along = (rules, turn_none, turn_past, turn_away, turn_rest)
+
+-- The verdict of an answer, as that of a check, which a chain of checks takes.
+pub said_value : {A : Type 0} {u : ⊤} {z : Verdict} (x : A) → said_by (Ok x) ≡ z → verdict_of (Ok u) ≡ z
+unfolding said_by verdict_of
+said_value x h = h
+
+pub said_refusal : (A : Type 0) {z : Verdict} (x : Refusal) → said_by {A = A} (Err x) ≡ z → verdict_of (Err x) ≡ z
+unfolding said_by verdict_of
+said_refusal A x h = h
+
+pub reached_value : {u : ⊤} {z : Verdict} (x column : ℕ) → reached_of (Ok x) ≡ (z gives column) → verdict_of (Ok u) ≡ z
+unfolding verdict_of
+reached_value {z} x column h = sym (reaches x z column h).0
+
+pub reached_refusal : {z : Verdict} (x : Refusal) (column : ℕ) → reached_of (Err x) ≡ (z gives column) → verdict_of (Err x) ≡ z
+unfolding verdict_of
+reached_refusal {z} x column h = sym (line_refused x z column h)
+
+-- The refusal that a `?` hands on is the verdict of the whole.
+pub says_end : {A : Type 0} (y : Result A Refusal) (x : Refusal) {z : Verdict} (z' : Verdict) → verdict_of (Err x) ≡ z → IsErrAnd y (λ d. d ≡ x)
+    → said_by y ≡ (z then z')
+unfolding said_by verdict_of ◌then◌
+says_end y x z' h e = let p = err_from_is_err_and y e in rw (p.1, p.2, ← h)
+
+-- The same of the last check.
+pub ends_last : (y : Result ⊤ Refusal) (x : Refusal) {z : Verdict} → verdict_of (Err x) ≡ z → IsErrAnd y (λ d. d ≡ x) → verdict_of y ≡ z
+ends_last y x h e = let p = err_from_is_err_and y e in rw (p.1, p.2) h
+
+pub says_last : {A : Type 0} (y : Result A Refusal) (x : Refusal) {z : Verdict} → verdict_of (Err x) ≡ z → IsErrAnd y (λ d. d ≡ x) → said_by y ≡ z
+unfolding said_by verdict_of
+says_last y x h e = let p = err_from_is_err_and y e in rw (p.1, p.2) h
+
+-- A refusal of the first check is the verdict of the whole.
+pub refuses_first : (x : Refusal) {z : Verdict} (z' : Verdict) → verdict_of (Err x) ≡ z → verdict_of (Err x) ≡ (z then z')
+unfolding verdict_of ◌then◌
+refuses_first x z' h = rw (← h) refl
+
+-- A value behind the last check that passed.
+pub says_value : {A : Type 0} {u : ⊤} {z : Verdict} (x : A) → verdict_of (Ok u) ≡ z → said_by (Ok x) ≡ z
+unfolding said_by verdict_of
+says_value x h = h
+
+-- What a function takes that makes such checks in turn: with an answer of no value, and with a value behind them.
+pub ruleset checks = (chain, ends_last, said_value, said_refusal, reached_value, reached_refusal)
+
+pub ruleset says = (then_next, says_end, says_last, says_value, said_value, said_refusal, reached_value, reached_refusal)
