@@ -1,5 +1,5 @@
 -- What the planner's answer says in document 01's terms.
-use Rattle.std.specs.Prelude.{ℕ, ◌+◌, ◌*◌, ◌≤◌, ◌<◌, List, length, Option, Some, None, Result}
+use Rattle.std.specs.Prelude.{ℕ, ◌+◌, ◌*◌, ◌≤◌, ◌<◌, List, length, Option, Result, unwrap_or}
 use Rattle.floor.specs.declared.Floor.{Floor}
 use Rattle.floor.specs.declared.Refusal.{Refusal}
 use Rattle.floor.specs.Answers.{outcome_by}
@@ -9,8 +9,7 @@ use Rattle.planner.specs.Plan.{plan_of, failing_of, plan_verdict}
 
 -- What the code's failing carrier says: its number, 0 if all have routes.
 abbrev pub failing_meant : Option ℕ → ℕ
-failing_meant None = 0
-failing_meant (Some i) = i
+failing_meant i = unwrap_or i 0
 
 -- What the code's answer says: the failing carrier of the plan that was made, or the refusal.
 abbrev pub planned_outcome : Result (Option ℕ) Refusal → Outcome ℕ
