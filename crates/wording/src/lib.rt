@@ -101,4 +101,13 @@ impl<'a> Text<'a> {
             }
         }
     }
+
+    // Puts how many things there are, by a sentence for one and a pattern for several.
+    pub fn put_count(&mut self, n: usize, one: &[u8], several: &[u8]) {
+        if n == 1 {
+            self.put(one);
+        } else {
+            self.fill(several, &[n]);
+        }
+    }
 }
