@@ -50,7 +50,7 @@ pub fn place_of(g: SearchGrid, c: usize) -> Place
     let w = g.width;
     let row = bitrows::row_of(w, g.scale, c);
     Place {
-        row: row,
+        row,
         column: c - row * w,
     }
 }

@@ -1,5 +1,6 @@
--- `layers::free_table::parked_from` meets its contract. The loop's invariant: the view keeps its last cell at the beats passed. The measure
--- is the beat. Assumes nothing.
+-- `layers::free_table::parked_from` meets its contract. The loop's invariant: the view keeps its last cell at the beats passed.
+-- Assumes nothing.
+use Prim.Native.Nat.{◌+◌, ◌-◌}
 use native.Mathlib.Omega.{arith}
 use mathlib.Core.Path.{◌≡◌, sym, ◌∙◌}
 use Rattle.layers.proofs.TakenLaws.{parked_last, parked_more}
@@ -14,7 +15,8 @@ view_cell-requires c =
 
 pub returns-then-view_cell-last : goal.returns-then-view_cell-last
 returns-then-view_cell-last c =
-    c.loop-t.invariant
+    let e : c.loop-t.t - 1 + 1 ≡ c.loop-t.t = omega (arith, c.loop-t-test.true) in
+    rw e c.loop-t.invariant
 
 pub loop-t-preserved : goal.loop-t-preserved
 loop-t-preserved c =

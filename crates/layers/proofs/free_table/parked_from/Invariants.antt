@@ -3,6 +3,3 @@ use Rattle.layers.proofs.free_table.parked_from.Given as goal
 
 abbrev pub invariant-loop-t : goal.invariant-loop-t
 invariant-loop-t l = Parked l.views l.j l.t l.horizon
-
-abbrev pub decreases-loop-t : goal.decreases-loop-t
-decreases-loop-t l = l.t
