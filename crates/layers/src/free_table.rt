@@ -4,6 +4,7 @@ ghost use Rattle.bitrows.specs.Rows.{filled, Clean};
 ghost use Rattle.layers.specs.Table.{Grid, Fits, Tidy, row_of};
 ghost use Rattle.layers.specs.FreeTable.{IsFreeTable, OneMore, FreeBeats, TakenCell, Parked};
 
+use crate::beats::held_from;
 use crate::table::{ROWS, word};
 use crate::{SearchGrid, place_of};
 use records::view_cell;
@@ -50,12 +51,7 @@ fn parked_from(views: &[u16], j: usize, horizon: usize) -> usize
     ensures { Parked views.now j result horizon }
 {
     let last = view_cell(views, j, horizon);
-    for t in (0..horizon).rev() {
-        if view_cell(views, j, t) != last {
-            return t + 1;
-        }
-    }
-    0
+    held_from(horizon, |t| view_cell(views, j, t) == last)
 }
 
 // Takes the cells of view j, besides those of the views before it, out of the free table: each at its beat and the beats beside it, the

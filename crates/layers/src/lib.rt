@@ -2,6 +2,7 @@
 // Helpers of the search below `passes`: what they require is checked by the entries above.
 #![tactic(auto)]
 
+pub mod beats;
 pub mod free_table;
 pub mod step;
 pub mod stripes;
