@@ -5,6 +5,7 @@
 #![tactic(auto)]
 
 ghost use Rattle.std.specs.Prelude.{length};
+ghost use Rattle.console.specs.Turned.{Turned};
 ghost use Rattle.console.specs.Within.{InputWithin, PartWithin};
 ghost use Rattle.console.specs.Moved.{InputSaid, InputTaken, OutputPut, OutputSaid, PartRead, PartWritten, PartsRead, PartsWritten};
 
@@ -70,18 +71,27 @@ fn write_once<W: Write>(writer: &mut W, text: &[u8]) -> Result<usize, Stop>
     }
 }
 
+// Calls until a call moves bytes, finds the end or fails, or the turns are used up.
+fn in_turns<F: FnMut() -> Result<usize, Stop>>(call: &mut F) -> Result<usize, Stop>
+    requires { F.IsAlwaysCallable call.old }
+    ensures { Turned (λ f r g. F.step f r g) call.old result call.new }
+{
+    for _ in 0..TURNS {
+        let part = call();
+        if !matches!(part, Err(Stop::NotYet)) {
+            return part;
+        }
+    }
+    Err(Stop::NotYet)
+}
+
 // Reads until a call moves bytes, finds the input's end or fails, or the turns are used up.
 fn read_some<R: Read>(reader: &mut R, buf: &mut [u8]) -> Result<usize, Stop>
     ensures within { PartWithin 0 (length buf.new) result }
     ensures bytes { PartRead (R.remaining reader.old) (R.remaining reader.new) result buf.new }
 {
-    for _ in 0..TURNS {
-        let part = read_once(reader, buf);
-        let Err(Stop::NotYet) = part else {
-            return part;
-        };
-    }
-    Err(Stop::NotYet)
+    let mut call = || read_once(reader, buf);
+    in_turns(&mut call)
 }
 
 // Writes until a call moves bytes or fails, or the turns are used up.
@@ -89,13 +99,8 @@ fn write_some<W: Write>(writer: &mut W, text: &[u8]) -> Result<usize, Stop>
     ensures within { PartWithin 1 (length text.now) result }
     ensures bytes { PartWritten (W.contents writer.old) (W.contents writer.new) result text.now }
 {
-    for _ in 0..TURNS {
-        let part = write_once(writer, text);
-        let Err(Stop::NotYet) = part else {
-            return part;
-        };
-    }
-    Err(Stop::NotYet)
+    let mut call = || write_once(writer, text);
+    in_turns(&mut call)
 }
 
 // Reads part after part until the input ends or the buffer is full, and counts the bytes of all parts.
@@ -115,6 +120,8 @@ fn read_all<R: Read>(reader: &mut R, buf: &mut [u8]) -> Result<usize, Stop>
 }
 
 // Writes part after part until all of the text is written, and counts the bytes of all parts.
+// Kept beside `read_all`: a loop for both, over a closure, is no plainer, as its contract, which has to tell what every call did from
+// which place, is longer than this loop.
 fn write_all<W: Write>(writer: &mut W, text: &[u8]) -> Result<usize, Stop>
     ensures within { PartWithin (length text.now) (length text.now) result }
     ensures bytes { PartsWritten (W.contents writer.old) (W.contents writer.new) result text.now }
