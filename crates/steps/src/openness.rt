@@ -6,66 +6,51 @@ ghost use Rattle.reference.specs.Step.{plan, deliver, is_there};
 ghost use Rattle.encoding.specs.Places.{due_place, state_size};
 ghost use Rattle.encoding.specs.InnerSteps.{capacity_in, waits_in, open_in, silent_in};
 ghost use Rattle.steps.specs.Answers.{step_meant};
-ghost use Rattle.steps.specs.Inner.{bare, capacity_at, plan_shut, sender_shut};
+ghost use Rattle.steps.specs.Inner.{bare, capacity_at, FullSought, plan_shut, sender_shut};
 
 use crate::Step;
 use floor::{Checked, Floor, Refusal};
 
 // Whether the channel from carrier i to carrier k below it has fewer than depth messages.
+#[tactic(auto, unfolding(crate::specs::Inner::capacity_at))]
 fn has_capacity(n: usize, depth: u16, m: &[u16], i: usize, k: usize) -> bool
     requires { (i < k) × (k < n) × (n ≤ 8) × (state_size n ≤ length m.now) }
     ensures { result ≡ capacity_at n depth m.now i k }
 {
-    let c = state::channel_place(n, k, i);
-    m[c] < depth
+    m[state::channel_place(n, k, i)] < depth
 }
 
-// The smallest carrier to which the channel from carrier i is full; n if none is.
-fn first_full(n: usize, depth: u16, m: &[u16], i: usize) -> usize
+// The smallest carrier to which the channel from carrier i is full, if one is.
+fn first_full(n: usize, depth: u16, m: &[u16], i: usize) -> Option<usize>
     requires { (i < n) × (n ≤ 8) × (state_size n ≤ length m.now) }
-    ensures { (result ≤ n) × (demand (leb n result) 13 (1 + result) ≡ demand_each 13 1
-        (capacity_at n depth m.now i) n) }
+    ensures { FullSought (demand_each 13 1 (capacity_at n depth m.now i) n) n result }
 {
-    let mut k: usize = i + 1;
-    while k < n {
+    for k in i + 1..n {
         if !has_capacity(n, depth, m, i, k) {
-            return k;
+            return Some(k);
         }
-        k += 1;
     }
-    n
+    None
 }
 
 // Whether the plan of carrier i is open: it is there and due, and no channel from it is full.
+#[tactic(auto, unfolding(encoding::specs::Places::state_size), using(crate::proofs::OpenLaws::plan_cases))]
 fn plan_open(f: Floor, m: &[u16], i: usize) -> bool
     requires { (f.carriers ≤ 8) × (state_size f.carriers ≤ length m.now) }
     ensures { result ≡ open_in (bare f) m.now (plan i) }
 {
     let n = f.carriers as usize;
-    if i >= n {
-        return false;
-    }
-    let d = state::due_place(i);
-    if m[d] != 1 {
-        return false;
-    }
-    first_full(n, f.depth, m, i) >= n
+    i < n && m[state::due_place(i)] == 1 && first_full(n, f.depth, m, i).is_none()
 }
 
 // Whether the delivery from carrier j to carrier i is open: it is there, and so is a message.
+#[tactic(auto, using(crate::proofs::OpenLaws::delivery_cases))]
 fn delivery_open(f: Floor, m: &[u16], j: usize, i: usize) -> bool
     requires { (f.carriers ≤ 8) × (state_size f.carriers ≤ length m.now) }
     ensures { result ≡ open_in (bare f) m.now (deliver j i) }
 {
     let n = f.carriers as usize;
-    if j >= i {
-        return false;
-    }
-    if i >= n {
-        return false;
-    }
-    let c = state::channel_place(n, i, j);
-    m[c] != 0
+    j < i && i < n && m[state::channel_place(n, i, j)] != 0
 }
 
 // Whether a step is open.
@@ -99,11 +84,10 @@ fn capacity_waits(f: Floor, m: &[u16], i: usize) -> Checked
     requires { (i < f.carriers) × (f.carriers ≤ 8) × (state_size f.carriers ≤ length m.now) }
     ensures { verdict_of result ≡ demand_each 13 1 (capacity_in (bare f) m.now i) f.carriers }
 {
-    let n = f.carriers as usize;
-    let k = first_full(n, f.depth, m, i);
-    if k >= n {
+    let full = first_full(f.carriers as usize, f.depth, m, i);
+    let Some(k) = full else {
         return Checked::Passed;
-    }
+    };
     Checked::Refused(Refusal {
         number: 13,
         place: 1 + k,
@@ -154,15 +138,7 @@ fn plans_shut(f: Floor, m: &[u16]) -> bool
     requires { (f.carriers ≤ 8) × (state_size f.carriers ≤ length m.now) }
     ensures { result ≡ each f.carriers (plan_shut f m.now) }
 {
-    let n = f.carriers as usize;
-    let mut i: usize = 0;
-    while i < n {
-        if plan_open(f, m, i) {
-            return false;
-        }
-        i += 1;
-    }
-    true
+    (0..f.carriers as usize).all(|i| !plan_open(f, m, i))
 }
 
 // Whether no delivery from carrier j is open.
@@ -170,15 +146,7 @@ fn sender_shut(f: Floor, m: &[u16], j: usize) -> bool
     requires { (j < f.carriers) × (f.carriers ≤ 8) × (state_size f.carriers ≤ length m.now) }
     ensures { result ≡ sender_shut f m.now j }
 {
-    let below = f.carriers as usize - (j + 1);
-    let mut d: usize = 0;
-    while d < below {
-        if delivery_open(f, m, j, j + 1 + d) {
-            return false;
-        }
-        d += 1;
-    }
-    true
+    (0..f.carriers as usize - (j + 1)).all(|d| !delivery_open(f, m, j, j + 1 + d))
 }
 
 // Whether no delivery is open.
@@ -186,24 +154,14 @@ fn deliveries_shut(f: Floor, m: &[u16]) -> bool
     requires { (f.carriers ≤ 8) × (state_size f.carriers ≤ length m.now) }
     ensures { result ≡ each f.carriers (sender_shut f m.now) }
 {
-    let n = f.carriers as usize;
-    let mut j: usize = 0;
-    while j < n {
-        if !sender_shut(f, m, j) {
-            return false;
-        }
-        j += 1;
-    }
-    true
+    (0..f.carriers as usize).all(|j| sender_shut(f, m, j))
 }
 
 // Whether no step is open.
+#[tactic(auto, using(crate::proofs::OpenLaws::silent_is))]
 pub fn is_silent(f: Floor, m: &[u16]) -> bool
     requires { (f.carriers ≤ 8) × (state_size f.carriers ≤ length m.now) }
     ensures { result ≡ silent_in (bare f) m.now }
 {
-    if !plans_shut(f, m) {
-        return false;
-    }
-    deliveries_shut(f, m)
+    plans_shut(f, m) && deliveries_shut(f, m)
 }

@@ -27,6 +27,7 @@ fn find(f: Floor, walls: &[u16], free: Rows, m: &[u16], i: usize) -> Found
 }
 
 // Carrier i plans an answer: whether it is news, which is then sent.
+#[tactic(auto, unfolding(encoding::specs::Places::state_size, encoding::specs::InnerSteps::planned_in))]
 fn record_plan(m: &mut [u16], n: usize, i: usize, tag: u16, cells: Route) -> bool
     requires { (i < n) × (n ≤ 8) × (state_size n ≤ length m.old) }
     ensures answers { result ≡ news_in m.old i (tag ∷ cells) }
@@ -36,19 +37,16 @@ fn record_plan(m: &mut [u16], n: usize, i: usize, tag: u16, cells: Route) -> boo
     state::set_planned(m, i, tag, cells);
     if news {
         state::send(m, n, i, tag, cells);
-        return true;
     }
-    false
+    news
 }
 
 // The answer of a plan: sent if it is news, otherwise kept.
+#[tactic(auto, unfolding(crate::specs::Answers::taken_meant))]
 fn sent_or_kept(news: bool) -> Taken
     ensures { taken_meant result ≡ cond news sent kept }
 {
-    if news {
-        return Taken::Sent;
-    }
-    Taken::Kept
+    if news { Taken::Sent } else { Taken::Kept }
 }
 
 // Carrier i plans.
