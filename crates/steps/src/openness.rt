@@ -1,5 +1,5 @@
 // Which steps are open in a state, what a step waits for, and whether any is open.
-ghost use Rattle.std.specs.Prelude.{◌≡◌, true, false, ◌+◌, ◌≤◌, ◌<◌, ◌-◌, leb, eqb, length, get_or};
+ghost use Rattle.std.specs.Prelude.{◌≡◌, true, ◌+◌, ◌≤◌, ◌<◌, eqb, length, get_or};
 ghost use Rattle.laws.specs.Verdict.{demand, demand_each, each};
 ghost use Rattle.floor.specs.Answers.{verdict_of};
 ghost use Rattle.reference.specs.Step.{plan, deliver, is_there};
@@ -9,7 +9,7 @@ ghost use Rattle.steps.specs.Answers.{step_meant};
 ghost use Rattle.steps.specs.Inner.{bare, capacity_at, FullSought, plan_shut, sender_shut};
 
 use crate::Step;
-use floor::{Checked, Floor, Refusal};
+use floor::{Floor, Reason, Refusal};
 
 // Whether the channel from carrier i to carrier k below it has fewer than depth messages.
 #[tactic(auto, unfolding(crate::specs::Inner::capacity_at))]
@@ -21,6 +21,7 @@ fn has_capacity(n: usize, depth: u16, m: &[u16], i: usize, k: usize) -> bool
 }
 
 // The smallest carrier to which the channel from carrier i is full, if one is.
+#[tactic(auto, using(crate::proofs::OpenLaws::full_search))]
 fn first_full(n: usize, depth: u16, m: &[u16], i: usize) -> Option<usize>
     requires { (i < n) × (n ≤ 8) × (state_size n ≤ length m.now) }
     ensures { FullSought (demand_each 13 1 (capacity_at n depth m.now i) n) n result }
@@ -54,6 +55,7 @@ fn delivery_open(f: Floor, m: &[u16], j: usize, i: usize) -> bool
 }
 
 // Whether a step is open.
+#[tactic(auto, unfolding(crate::specs::Answers::step_meant))]
 pub fn is_open(f: Floor, m: &[u16], x: Step) -> bool
     requires { (f.carriers ≤ 8) × (state_size f.carriers ≤ length m.now) }
     ensures { result ≡ open_in (bare f) m.now (step_meant x) }
@@ -65,64 +67,61 @@ pub fn is_open(f: Floor, m: &[u16], x: Step) -> bool
 }
 
 // 8 unless carrier i is due.
-fn due_waits(f: Floor, m: &[u16], i: usize) -> Checked
+#[tactic(auto, unfolding(encoding::specs::Places::state_size, floor::specs::Answers::verdict_of, laws::specs::Verdict::demand))]
+fn due_waits(f: Floor, m: &[u16], i: usize) -> Result<(), Refusal>
     requires { (i < f.carriers) × (f.carriers ≤ 8) × (state_size f.carriers ≤ length m.now) }
     ensures { verdict_of result ≡ demand (eqb (get_or m.now (due_place i) 0) 1) 8 0 }
 {
-    let d = state::due_place(i);
-    if m[d] == 1 {
-        return Checked::Passed;
+    if m[state::due_place(i)] != 1 {
+        return Err(Refusal {
+            reason: Reason::NotDue,
+            place: 0,
+        });
     }
-    Checked::Refused(Refusal {
-        number: 8,
-        place: 0,
-    })
+    Ok(())
 }
 
 // 13 with the smallest receiver whose channel from carrier i is full.
-fn capacity_waits(f: Floor, m: &[u16], i: usize) -> Checked
+#[tactic(auto, unfolding(encoding::specs::InnerSteps::capacity_in, crate::specs::Inner::capacity_at, crate::specs::Inner::bare, encoding::specs::Calls::machine_of, floor::specs::Answers::verdict_of))]
+fn capacity_waits(f: Floor, m: &[u16], i: usize) -> Result<(), Refusal>
     requires { (i < f.carriers) × (f.carriers ≤ 8) × (state_size f.carriers ≤ length m.now) }
     ensures { verdict_of result ≡ demand_each 13 1 (capacity_in (bare f) m.now i) f.carriers }
 {
-    let full = first_full(f.carriers as usize, f.depth, m, i);
-    let Some(k) = full else {
-        return Checked::Passed;
-    };
-    Checked::Refused(Refusal {
-        number: 13,
-        place: 1 + k,
-    })
+    match first_full(f.carriers as usize, f.depth, m, i) {
+        Some(k) => Err(Refusal {
+            reason: Reason::ChannelFull,
+            place: 1 + k,
+        }),
+        None => Ok(()),
+    }
 }
 
 // What the plan of carrier i waits for: that it is due, then capacity in its channels.
-fn plan_waits(f: Floor, m: &[u16], i: usize) -> Checked
+fn plan_waits(f: Floor, m: &[u16], i: usize) -> Result<(), Refusal>
     requires { (i < f.carriers) × (f.carriers ≤ 8) × (state_size f.carriers ≤ length m.now) }
     ensures { verdict_of result ≡ waits_in (bare f) m.now (plan i) }
 {
-    let due = due_waits(f, m, i);
-    let Checked::Passed = due else {
-        return due;
-    };
+    due_waits(f, m, i)?;
     capacity_waits(f, m, i)
 }
 
 // What the delivery from carrier j to carrier i waits for: 12 with the addressee unless a message is there.
-fn delivery_waits(f: Floor, m: &[u16], j: usize, i: usize) -> Checked
+#[tactic(auto, unfolding(encoding::specs::InnerSteps::waits_in, crate::specs::Inner::bare, encoding::specs::Calls::machine_of, floor::specs::Answers::verdict_of, laws::specs::Verdict::demand))]
+fn delivery_waits(f: Floor, m: &[u16], j: usize, i: usize) -> Result<(), Refusal>
     requires { (j < i) × (i < f.carriers) × (f.carriers ≤ 8) × (state_size f.carriers ≤ length m.now) }
     ensures { verdict_of result ≡ waits_in (bare f) m.now (deliver j i) }
 {
-    let c = state::channel_place(f.carriers as usize, i, j);
-    if m[c] != 0 {
-        return Checked::Passed;
+    if m[state::channel_place(f.carriers as usize, i, j)] == 0 {
+        return Err(Refusal {
+            reason: Reason::NothingSent,
+            place: 1 + i,
+        });
     }
-    Checked::Refused(Refusal {
-        number: 12,
-        place: 1 + i,
-    })
+    Ok(())
 }
 
 // What a step that is there waits for.
-pub fn waits(f: Floor, m: &[u16], x: Step) -> Checked
+pub fn waits(f: Floor, m: &[u16], x: Step) -> Result<(), Refusal>
     requires x_value { is_there (bare f) (step_meant x) ≡ true }
     requires carriers_bound { (f.carriers ≤ 8) × (state_size f.carriers ≤ length m.now) }
     ensures { verdict_of result ≡ waits_in (bare f) m.now (step_meant x) }
