@@ -4,18 +4,20 @@ use native.Mathlib.Omega.{arith}
 use mathlib.Core.Path.{◌≡◌}
 use mathlib.Core.Bool.{true, false, and-eq-true_iff, and-false}
 use mathlib.Core.List.{List}
+use borrow.Author.Rules.{rules}
 use borrow.Author.Tests.{leb-true, le-leb, lt-leb}
 use lib.ListN.{length}
 use lib.Dec.{leb}
 use Rattle.floor.specs.Checks.{within}
-use Rattle.laws.specs.Verdict.{passed, refused, demand}
+use Rattle.laws.specs.Verdict.{passed, refused, demand, ◌gives◌}
 use Rattle.laws.proofs.VerdictLaws.{then_both, then_passed, demand_holds, demand_passes, demand_refuses}
 use Rattle.fields.specs.Field.{number_at}
 use Rattle.fields.specs.Form.{field_form, count_form}
-use Rattle.fields.specs.declared.slot.Reached.{Reached}
-use Rattle.fields.specs.declared.slot.Reached.TheVariants.{At}
+use Rattle.std.specs.Prelude.{Ok, Err}
+use Rattle.floor.specs.declared.Refusal.{Refusal}
+use Rattle.floor.specs.Answers.{number_of}
 use Rattle.fields.specs.Reached.{reached_of}
-use Rattle.fields.proofs.ReachedLaws.{reaches}
+use Rattle.fields.proofs.ReachedLaws.{reaches, refuses_so}
 
 -- A field in good form lies within the text.
 pub field_there : (text : List ℕ) (at : ℕ) → field_form text at ≡ passed → at + 5 ≤ length text
@@ -48,23 +50,26 @@ count_tells text at h =
     (leb-true _ _ b.0, leb-true _ _ b.1)
 
 -- The three answers past a good field, whose number is y.
-module _ (text : List ℕ) (at : ℕ) {form : Reached} {x y : ℕ} (field : form ≡ reached_of (field_form text at) (at + 5)) (told : form ≡ At x)
+module _ (text : List ℕ) (at : ℕ) (column : ℕ) {y : ℕ} (field : reached_of (Ok column) ≡ (field_form text at gives (at + 5)))
     (number : y ≡ number_at text at) where
   good : field_form text at ≡ passed
-  good = (reaches (field_form text at) (at + 5) field told).0
+  good = (reaches column (field_form text at) (at + 5) field).0
 
-  refused_count : within 1 4 (number_at text at) ≡ false → {z : Reached} → z ≡ reached_of (refused 1 at) 0
-      → z ≡ reached_of (count_form text at) (at + 5)
-  unfolding count_form reached_of
-  refused_count t e = rw (then_passed {y = demand (within 1 4 (number_at text at)) 1 at} good, demand_refuses 1 at t) e
+  refused_count : within 1 4 (number_at text at) ≡ false → (x : Refusal) → refused (number_of x.reason) x.place ≡ refused 1 at
+      → reached_of (Err x) ≡ (count_form text at gives (at + 5))
+  unfolding count_form
+  refused_count t x e =
+      rw (then_passed {y = demand (within 1 4 (number_at text at)) 1 at} good, demand_refuses 1 at t) (refuses_so x (at + 5) e)
 
-  pub count_below : {z : Reached} → y < 1 → z ≡ reached_of (refused 1 at) 0 → z ≡ reached_of (count_form text at) (at + 5)
-  count_below l e = refused_count (within_below 1 4 (number_at text at) (omega (arith, l, number))) e
+  pub count_below : (x : Refusal) → y < 1 → refused (number_of x.reason) x.place ≡ refused 1 at
+      → reached_of (Err x) ≡ (count_form text at gives (at + 5))
+  count_below x l e = refused_count (within_below 1 4 (number_at text at) (omega (arith, l, number))) x e
 
-  pub count_above : {z : Reached} → 1 ≤ y → 4 < y → z ≡ reached_of (refused 1 at) 0 → z ≡ reached_of (count_form text at) (at + 5)
-  count_above g l e = refused_count (within_above 1 4 (number_at text at) (omega (arith, l, number))) e
+  pub count_above : (x : Refusal) → 1 ≤ y → 4 < y → refused (number_of x.reason) x.place ≡ refused 1 at
+      → reached_of (Err x) ≡ (count_form text at gives (at + 5))
+  count_above x g l e = refused_count (within_above 1 4 (number_at text at) (omega (arith, l, number))) x e
 
-  pub count_good : 1 ≤ y → y ≤ 4 → form ≡ reached_of (count_form text at) (at + 5)
+  pub count_good : 1 ≤ y → y ≤ 4 → reached_of (Ok column) ≡ (count_form text at gives (at + 5))
   unfolding count_form
   count_good l g =
       rw (
@@ -74,4 +79,4 @@ module _ (text : List ℕ) (at : ℕ) {form : Reached} {x y : ℕ} (field : form
       (rw good at field)
 
 -- What the answers of a function that tests a count take.
-pub ruleset counts = (count_below, count_above, count_good)
+pub ruleset counts = (rules, count_below, count_above, count_good)
