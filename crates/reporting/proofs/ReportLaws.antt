@@ -22,12 +22,12 @@ use Rattle.reporting.specs.Text.{entry_line, entry_count, report_text, report_le
 use Rattle.reporting.specs.Put.{PutAt}
 
 -- Bytes copied to a part of their length stand at its column.
-pub part_put : (old bytes moved : List ℕ) (at : ℕ) → moved ≡ bytes
-    → PutAt bytes old at (put_mid at (at + length bytes - at) old moved) (at + length bytes)
+pub part_put : (old bytes moved : List ℕ) (at n : ℕ) → moved ≡ bytes → n ≡ length bytes
+    → PutAt bytes old at (put_mid at (at + n - at) old moved) (at + n)
 unfolding put
-part_put old bytes moved at e =
-    let size : at + length bytes - at ≡ length bytes = omega arith in
-    record { bytes = rw (e, size, drop-drop (length bytes) at old) refl; behind = refl }
+part_put old bytes moved at n e s =
+    let size : at + n - at ≡ n = omega arith in
+    record { bytes = rw (e, size, drop-drop n at old, s) refl; behind = rw s refl }
 
 -- A text behind a text.
 pub put_behind : {xs ys old mid new : List ℕ} {at n next : ℕ} → PutAt xs old at mid n → PutAt ys mid n new next → next ≤ length old
