@@ -13,97 +13,120 @@ pub struct Page {
     pub carriers: u16,
 }
 
-// Whether a floor of that width and height is drawn with small cells.
-fn is_small(columns: u16, rows: u16) -> bool {
-    if 16 < columns {
-        return true;
-    }
-    16 < rows
-}
-
-// The page of a floor.
-pub fn page_of(f: Floor) -> Page {
-    let columns = f.width;
-    let rows = f.height;
-    Page {
-        small: is_small(columns, rows),
-        columns,
-        rows,
-        horizon: f.horizon,
-        carriers: f.carriers,
+impl From<Floor> for Page {
+    // The page of a floor.
+    fn from(f: Floor) -> Page {
+        Page {
+            small: 16 < f.width || 16 < f.height,
+            columns: f.width,
+            rows: f.height,
+            horizon: f.horizon,
+            carriers: f.carriers,
+        }
     }
 }
 
-// The side of a cell.
-pub fn side(page: Page) -> usize
-    ensures { result ≤ 40 }
-{
-    if page.small { 24 } else { 40 }
-}
-
-// The length of k cells.
-pub fn cells(page: Page, k: u16) -> usize
-    ensures { result ≤ 2621400 }
-{
-    if page.small {
-        return 24 * k as usize;
+impl Page {
+    // The side of a cell.
+    pub fn side(self) -> usize
+        ensures { result ≤ 40 }
+    {
+        if self.small { 24 } else { 40 }
     }
-    40 * k as usize
-}
 
-// Where column or row k begins, behind the labels; and its middle.
-pub fn edge(page: Page, k: u16) -> usize
-    ensures { result ≤ 2621428 }
-{
-    28 + cells(page, k)
-}
-
-pub fn middle(page: Page, k: u16) -> usize
-    ensures { result ≤ 2621448 }
-{
-    edge(page, k) + side(page) / 2
-}
-
-// The line of a trace in column or row k, beside those of the other carriers.
-pub fn track(page: Page, k: u16, carrier: usize) -> usize
-    requires { carrier ≤ 8 }
-    ensures { result ≤ 2621480 }
-{
-    if page.small {
-        return edge(page, k) + 8 + carrier;
+    // The length of k cells.
+    pub fn cells(self, k: u16) -> usize
+        ensures { result ≤ 2621400 }
+    {
+        if self.small {
+            24 * k as usize
+        } else {
+            40 * k as usize
+        }
     }
-    edge(page, k) + 13 + 2 * carrier
+
+    // Where column or row k begins, behind the labels; and its middle.
+    pub fn edge(self, k: u16) -> usize
+        ensures { result ≤ 2621428 }
+    {
+        28 + self.cells(k)
+    }
+
+    pub fn middle(self, k: u16) -> usize
+        ensures { result ≤ 2621448 }
+    {
+        self.edge(k) + self.side() / 2
+    }
+
+    // The line of a trace in column or row k, beside those of the other carriers.
+    pub fn track(self, k: u16, carrier: usize) -> usize
+        requires { carrier ≤ 8 }
+        ensures { result ≤ 2621480 }
+    {
+        if self.small {
+            self.edge(k) + 8 + carrier
+        } else {
+            self.edge(k) + 13 + 2 * carrier
+        }
+    }
+
+    // The column and the row of a cell.
+    pub fn column_of(self, c: u16) -> u16 {
+        c.checked_rem(self.columns).unwrap_or(0)
+    }
+
+    pub fn row_of(self, c: u16) -> u16 {
+        c.checked_div(self.columns).unwrap_or(0)
+    }
+
+    // The corner of a cell; its middle; the place of a trace in it, beside those of the other carriers.
+    pub fn corner_of(self, c: u16) -> (usize, usize)
+        ensures { (result.0 ≤ 2621428) × (result.1 ≤ 2621428) }
+    {
+        (self.edge(self.column_of(c)), self.edge(self.row_of(c)))
+    }
+
+    pub fn middle_of(self, c: u16) -> (usize, usize) {
+        (self.middle(self.column_of(c)), self.middle(self.row_of(c)))
+    }
+
+    pub fn track_of(self, c: u16, carrier: usize) -> (usize, usize)
+        requires { carrier ≤ 8 }
+    {
+        (
+            self.track(self.column_of(c), carrier),
+            self.track(self.row_of(c), carrier),
+        )
+    }
+
+    // Where the legend begins.
+    pub fn legend(self) -> usize
+        ensures { result ≤ 2621460 }
+    {
+        self.edge(self.columns) + 24
+    }
+
+    // The width of the page, and its height: that of the grid or of the legend.
+    pub fn width(self) -> usize {
+        self.legend() + 190
+    }
+
+    pub fn height(self) -> usize {
+        let grid = self.edge(self.rows) + 16;
+        let listed = 66 + 30 * self.carriers as usize;
+        grid.max(listed)
+    }
+
+    // The time of the whole animation in milliseconds, half a second a beat, with two at the end.
+    pub fn duration(self) -> usize {
+        500 * (self.horizon as usize + 2)
+    }
 }
 
-// Where the legend begins; a line of it, the beat's being line 0.
-pub fn legend(page: Page) -> usize
-    ensures { result ≤ 2621460 }
-{
-    edge(page, page.columns) + 24
-}
-
+// A line of the legend, the beat's being line 0.
 pub fn legend_line(k: usize) -> usize
     requires { k ≤ 64 }
     ensures { (50 ≤ result) × (result ≤ 2000) }
 {
     50 + 30 * k
-}
-
-// The width of the page, and its height: that of the grid or of the legend.
-pub fn width(page: Page) -> usize {
-    legend(page) + 190
-}
-
-pub fn height(page: Page) -> usize {
-    let grid = edge(page, page.rows) + 16;
-    let listed = 66 + 30 * page.carriers as usize;
-    if grid < listed {
-        return listed;
-    }
-    grid
-}
-
-// The time of the whole animation in milliseconds, half a second a beat, with two at the end.
-pub fn duration(page: Page) -> usize {
-    500 * (page.horizon as usize + 2)
 }

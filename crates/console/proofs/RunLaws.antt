@@ -1,11 +1,10 @@
 -- What a program that reads its input, and writes a text for it, writes.
-use Rattle.std.proofs.Common.{◌≡◌, ℕ, ◌<◌, ◌≤◌, List, [], ◌++◌, Option, None, Some, IfSome, arith, length, take, sym, ap, ◌∙◌, inl, inr, subst, append-nil, take_all, length-take-le}
+use Rattle.std.proofs.Common.{◌≡◌, ℕ, ◌<◌, ◌≤◌, List, [], ◌++◌, Option, None, Some, Result, Ok, Err, IfSome, arith, length, take, sym, ap, ◌∙◌, inl, inr, subst, append-nil, take_all, length-take-le}
 use Rattle.std.proofs.Math.Nat.{eq-or-lt_of_le}
 use Rattle.std.proofs.Math.Seq.{take-append_seam}
 use Rattle.std.specs.Io.KnownBytes.{Appends}
-use Rattle.console.specs.declared.Input.TheVariants.{Read}
-use Rattle.console.specs.declared.Output.{Output}
-use Rattle.console.specs.declared.Output.TheVariants.{Written, Failed}
+use Rattle.std.specs.Prelude.{⊤}
+use Rattle.console.specs.declared.Failed.{Failed}
 use Rattle.console.specs.Within.{InputWithin}
 use Rattle.std.proofs.KnownBytes.{Appends-nil}
 use Rattle.console.specs.Moved.{InputTaken, OnWritten, OutputPut, PutSome}
@@ -21,7 +20,7 @@ front_is room front all ys e within ends =
     ]
 
 -- What was read into a memory is the known input, as far as there is room.
-pub read_front : (n : ℕ) (old new : Option (List ℕ)) (xs : List ℕ) → InputWithin (Read n) xs → InputTaken old new (Read n) xs
+pub read_front : (n : ℕ) (old new : Option (List ℕ)) (xs : List ℕ) → InputWithin (Ok n) xs → InputTaken old new (Ok n) xs
     → IfSome old (λ all. take n xs ≡ take (length xs) all)
 unfolding InputTaken
 read_front n None new xs within taken = tt
@@ -31,40 +30,40 @@ read_front n (Some all) (Some ys) xs within taken =
     front_is (length xs) (take n xs) all ys taken.0 (omega (arith, size)) (λ l. taken.1 (omega (arith, size)))
 
 -- So the text for what was read is that for the known input.
-pub run_writes : (text_for : List ℕ → List ℕ) (room n : ℕ) (old new puts put : Option (List ℕ)) (xs text : List ℕ) (y : Output)
-    → length xs ≡ room → InputWithin (Read n) xs → InputTaken old new (Read n) xs → text ≡ text_for (take n xs) → OutputPut puts put y text
+pub run_writes : (text_for : List ℕ → List ℕ) (room n : ℕ) (old new puts put : Option (List ℕ)) (xs text : List ℕ) (y : Result ⊤ Failed)
+    → length xs ≡ room → InputWithin (Ok n) xs → InputTaken old new (Ok n) xs → text ≡ text_for (take n xs) → OutputPut puts put y text
     → OnWritten y (IfSome old (λ all. Appends puts put (text_for (take room all))))
 unfolding OutputPut
-run_writes text_for room n None new puts put xs text Written long within taken prints puts_it = tt
-run_writes text_for room n (Some all) new puts put xs text Written long within taken prints puts_it =
+run_writes text_for room n None new puts put xs text (Ok u) long within taken prints puts_it = tt
+run_writes text_for room n (Some all) new puts put xs text (Ok u) long within taken prints puts_it =
     subst (Appends puts put) (prints ∙ ap text_for (read_front n (Some all) new xs within taken ∙ ap (λ k. take k all) long)) puts_it
-run_writes text_for room n old new puts put xs text Failed long within taken prints puts_it = tt
+run_writes text_for room n old new puts put xs text (Err e) long within taken prints puts_it = tt
 
 -- Where the text is empty it need not be written.
 pub run_leaves : (text_for : List ℕ → List ℕ) (room n k : ℕ) (old new puts : Option (List ℕ)) (xs out : List ℕ)
-    → length xs ≡ room → InputWithin (Read n) xs → InputTaken old new (Read n) xs → k ≡ 0 → take k out ≡ text_for (take n xs)
-    → OnWritten Written (IfSome old (λ all. Appends puts puts (text_for (take room all))))
+    → length xs ≡ room → InputWithin (Ok n) xs → InputTaken old new (Ok n) xs → k ≡ 0 → take k out ≡ text_for (take n xs)
+    → OnWritten (Ok tt) (IfSome old (λ all. Appends puts puts (text_for (take room all))))
 unfolding OutputPut
 run_leaves text_for room n k old new puts xs out long within taken none prints =
     let empty : [] ≡ text_for (take n xs) = sym (ap (λ j. take j out) none) ∙ prints in
-    run_writes text_for room n old new puts puts xs [] Written long within taken empty (Appends-nil puts)
+    run_writes text_for room n old new puts puts xs [] (Ok tt) long within taken empty (Appends-nil puts)
 
 -- What holds of a text and what was read holds of it and the known input.
-pub run_writes_some : (P : List ℕ → List ℕ → ℕ → Type 0) (room n k : ℕ) (old new puts put : Option (List ℕ)) (xs out : List ℕ) (y : Output)
-    → length xs ≡ room → InputWithin (Read n) xs → InputTaken old new (Read n) xs → P (take n xs) out k → OutputPut puts put y (take k out)
+pub run_writes_some : (P : List ℕ → List ℕ → ℕ → Type 0) (room n k : ℕ) (old new puts put : Option (List ℕ)) (xs out : List ℕ) (y : Result ⊤ Failed)
+    → length xs ≡ room → InputWithin (Ok n) xs → InputTaken old new (Ok n) xs → P (take n xs) out k → OutputPut puts put y (take k out)
     → OnWritten y (IfSome old (λ all. PutSome puts put (P (take room all))))
 unfolding OutputPut
-run_writes_some P room n k None new puts put xs out Written long within taken says puts_it = tt
-run_writes_some P room n k (Some all) new puts put xs out Written long within taken says puts_it =
+run_writes_some P room n k None new puts put xs out (Ok u) long within taken says puts_it = tt
+run_writes_some P room n k (Some all) new puts put xs out (Ok u) long within taken says puts_it =
     let front : take n xs ≡ take room all = read_front n (Some all) new xs within taken ∙ ap (λ j. take j all) long in
     (out, k, subst (λ text. P text out k) front says, puts_it)
-run_writes_some P room n k old new puts put xs out Failed long within taken says puts_it = tt
+run_writes_some P room n k old new puts put xs out (Err e) long within taken says puts_it = tt
 
 -- The same where the text is empty and need not be written.
 pub run_leaves_some : (P : List ℕ → List ℕ → ℕ → Type 0) (room n k : ℕ) (old new puts : Option (List ℕ)) (xs out : List ℕ)
-    → length xs ≡ room → InputWithin (Read n) xs → InputTaken old new (Read n) xs → k ≡ 0 → P (take n xs) out k
-    → OnWritten Written (IfSome old (λ all. PutSome puts puts (P (take room all))))
+    → length xs ≡ room → InputWithin (Ok n) xs → InputTaken old new (Ok n) xs → k ≡ 0 → P (take n xs) out k
+    → OnWritten (Ok tt) (IfSome old (λ all. PutSome puts puts (P (take room all))))
 unfolding OutputPut
 run_leaves_some P room n k old new puts xs out long within taken none says =
     let nothing : Appends puts puts (take k out) = rw none (Appends-nil puts) in
-    run_writes_some P room n k old new puts puts xs out Written long within taken says nothing
+    run_writes_some P room n k old new puts puts xs out (Ok tt) long within taken says nothing

@@ -3,12 +3,10 @@ use Prim.Native.Nat.{ℕ, zero, suc, ◌+◌, ◌*◌, ◌≤◌, ◌<◌}
 use native.Mathlib.Omega.{arith}
 use mathlib.Core.Path.{◌≡◌}
 use mathlib.Core.List.{List}
-use Rattle.laws.specs.Verdict.{Verdict, passed, in_turn}
+use Rattle.laws.specs.Verdict.{Verdict, passed, in_turn, Outcome, ◌gives◌}
 use Rattle.laws.proofs.VerdictLaws.{then_both}
 use Rattle.fields.specs.Field.{number_at}
 use Rattle.fields.specs.Form.{counted_form, counted_length, past_counted, past_pair, column_past, lines_form, line_form}
-use Rattle.fields.specs.declared.slot.Reached.{Reached}
-use Rattle.fields.specs.Reached.{reached_of}
 use Rattle.fields.proofs.CountLaws.{count_tells}
 use Rattle.fields.proofs.ReaderLaws.{Along}
 
@@ -47,13 +45,13 @@ pub pair_low : (text : List ℕ) (at k : ℕ) → (at ≤ 50000) × (k ≤ 1023)
 pair_low text at k asked i column h l = omega (arith, asked.0, asked.1, h.arrived, pair_columns at i)
 
 -- A line of two fields, and the rest of a counted line: the column past it.
-pub pair_line : (x : Verdict) (at : ℕ) {y : Reached} → y ≡ reached_of x (at + 5 * 2 + 1) → y ≡ reached_of x (past_pair at)
+pub pair_line : (x : Verdict) (at : ℕ) {o : Outcome ℕ} → o ≡ (x gives (at + 5 * 2 + 1)) → o ≡ (x gives past_pair at)
 unfolding past_pair
 pair_line x at e = let q : at + 5 * 2 + 1 ≡ at + 11 = omega arith in rw q at e
 
-pub counted_last : (text : List ℕ) (at n : ℕ) {x : Reached} → n ≡ number_at text (at + 10)
-    → x ≡ reached_of (line_form text (at + 15) (2 * n)) (at + 15 + 5 * (2 * n) + 1)
-    → x ≡ reached_of (line_form text (at + 15) (2 * number_at text (at + 10))) (past_counted text at)
+pub counted_last : (text : List ℕ) (at n : ℕ) {o : Outcome ℕ} → n ≡ number_at text (at + 10)
+    → o ≡ (line_form text (at + 15) (2 * n) gives (at + 15 + 5 * (2 * n) + 1))
+    → o ≡ (line_form text (at + 15) (2 * number_at text (at + 10)) gives past_counted text at)
 unfolding past_counted counted_length
 counted_last text at n e h =
     let q : at + 15 + 5 * (2 * n) + 1 ≡ at + (16 + 10 * n) = omega arith in

@@ -2,15 +2,17 @@
 use Prim.Native.Nat.{ℕ, ◌+◌, ◌≤◌, ◌<◌}
 use native.Mathlib.Omega.{arith}
 use native.Mathlib.Numerals.{add-one}
-use mathlib.Core.Path.{◌≡◌, refl}
+use mathlib.Core.Path.{◌≡◌, refl, sym}
 use Rattle.floor.specs.declared.Refusal.{Refusal}
-use Rattle.laws.specs.Verdict.{Verdict, passed}
+use Rattle.laws.specs.Verdict.{Verdict, passed, ◌gives◌}
 use Rattle.laws.proofs.VerdictLaws.{turn_none, turn_more, turn_stop}
-use Rattle.fields.specs.declared.slot.Reached.{Reached}
-use Rattle.fields.specs.declared.slot.Reached.TheVariants.{At, Refused}
+use Rattle.std.specs.Prelude.{Result, Ok, Err}
+use Rattle.std.specs.Result.{IsErrAnd}
+use Rattle.std.proofs.lemmas.Result.{err_from_is_err_and}
+use Rattle.floor.specs.Answers.{number_of}
 use Rattle.fields.specs.Reached.{reached_of}
 use Rattle.fields.specs.Form.{column_past, lines_form}
-use Rattle.fields.proofs.ReachedLaws.{reaches, line_refused}
+use Rattle.fields.proofs.ReachedLaws.{reaches, line_refused, arrives, refuses_so}
 
 -- The reader of k lines from a column on: it is past the first i lines, which are in good form.
 pub record Along (form : ℕ → Verdict) (past : ℕ → ℕ) (at k i column : ℕ) : Type 0 where
@@ -26,10 +28,10 @@ module _ (form : ℕ → Verdict) (past : ℕ → ℕ) (at n : ℕ) where
 
   module _ (i column : ℕ) (h : Along form past at n i column) where
     -- Past a line in good form it is one line further.
-    pub along_more : (c : ℕ) → i < n → At c ≡ reached_of (form column) (past column) → Along form past at n (i + 1) c
+    pub along_more : (c : ℕ) → i < n → reached_of (Ok c) ≡ (form column gives past column) → Along form past at n (i + 1) c
     unfolding column_past lines_form
     along_more c l e =
-        let r = reaches (form column) (past column) e refl in
+        let r = reaches c (form column) (past column) e in
         record {
           within = omega arith;
           arrived = rw (add-one, ← h.arrived) r.1;
@@ -37,18 +39,23 @@ module _ (form : ℕ → Verdict) (past : ℕ → ℕ) (at n : ℕ) where
         }
 
     -- The refusal of a line is the answer.
-    pub along_stop : (x : Refusal) → i < n → Refused x ≡ reached_of (form column) (past column)
-        → Refused x ≡ reached_of (lines_form form past at n) (column_past past at n)
-    unfolding lines_form reached_of
-    along_stop x l e =
-        let r = line_refused {x = x} (form column) (past column) e refl in
-        rw (turn_stop (λ (k : ℕ). form (column_past past at k)) i n x.number x.place l h.good (rw h.arrived at r)) refl
+    pub along_stop : (y : Result ℕ Refusal) (x : Refusal) → i < n → reached_of (Err x) ≡ (form column gives past column)
+        → IsErrAnd y (λ d. d ≡ x) → reached_of y ≡ (lines_form form past at n gives column_past past at n)
+    unfolding lines_form
+    along_stop y x l e g =
+        let r = line_refused x (form column) (past column) e in
+        let p = err_from_is_err_and y g in
+        rw (
+          p.1,
+          p.2,
+          turn_stop (λ (k : ℕ). form (column_past past at k)) i n (number_of x.reason) x.place l h.good (rw h.arrived at r),
+        )
+        (refuses_so x (column_past past at n) refl)
 
     -- Past the last line the column is the answer.
-    pub along_end : (x : Reached) → n ≤ i → x ≡ At column → x ≡ reached_of (lines_form form past at n) (column_past past at n)
-    unfolding reached_of
-    along_end x l e =
+    pub along_end : n ≤ i → reached_of (Ok column) ≡ (lines_form form past at n gives column_past past at n)
+    along_end l =
         let last : i ≡ n = omega (arith, h.within, l) in
         let good = rw last at h.good in
         let arrived = rw last at h.arrived in
-        rw (good, ← arrived) e
+        rw (← arrived) (arrives column (sym good))

@@ -1,15 +1,14 @@
 -- What a reader's answer says in document 01's terms: for each case its number and values.
-use Rattle.std.specs.Prelude.{ℕ}
-use Rattle.laws.specs.Verdict.{Verdict, passed, refused}
-use Rattle.fields.specs.declared.slot.Reached.{Reached}
-use Rattle.fields.specs.declared.slot.Reached.TheVariants.{At, Refused}
+use Rattle.std.specs.Prelude.{ℕ, Result, Ok, Err}
+use Rattle.floor.specs.declared.Refusal.{Refusal}
+use Rattle.laws.specs.Verdict.{Verdict, passed, refused, Outcome}
+use Rattle.floor.specs.Answers.{number_of, outcome_by}
 
 -- The answer to a check that leads to a column: the column where the check finds nothing, and its refusal otherwise.
-unfoldable pub reached_of : Verdict → ℕ → Reached
-reached_of passed c = At c
-reached_of (refused k p) c = Refused (record { number = k; place = p })
+unfoldable pub reached_of : Result ℕ Refusal → Outcome ℕ
+reached_of = outcome_by (λ c. c)
 
--- The verdict of an answer.
-unfoldable pub said_by : Reached → Verdict
-said_by (At c) = passed
-said_by (Refused x) = refused x.number x.place
+-- The verdict of an answer, without its value.
+unfoldable pub said_by : {A : Type 0} → Result A Refusal → Verdict
+said_by (Ok _) = passed
+said_by (Err r) = refused (number_of r.reason) r.place

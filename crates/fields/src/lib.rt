@@ -10,4 +10,4 @@ mod slot;
 pub use field::{number, put_field};
 pub use line::line_form;
 pub use reader::{counted_lines, pair_lines};
-pub use slot::{Reached, checked, end_form};
+pub use slot::end_form;

@@ -1,6 +1,7 @@
 -- Laws of the definitions that no single function owns.
 pub mod AnswersLaws
 pub mod LimitsLaws
+pub mod ReasonLaws
 pub mod AmongLaws
 pub mod RisesLaws
 pub mod SameLaws

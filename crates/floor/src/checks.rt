@@ -10,19 +10,19 @@ ghost use Rattle.floor.specs.Checks.{carriers_of, walls_of, rising_of, clear_of,
 ghost use Rattle.floor.specs.Checks.{among, rises};
 ghost use Rattle.floor.specs.Checks.{unshared};
 
-use crate::{Checked, Floor, Refusal};
+use crate::{Floor, Reason, Refusal};
 
 // 9: lent memory is not too short.
-pub fn check_length(needed: usize, lent: usize) -> Checked
+pub fn check_length(needed: usize, lent: usize) -> Result<(), Refusal>
     ensures { verdict_of result ≡ long_enough needed lent }
 {
     if lent < needed {
-        return Checked::Refused(Refusal {
-            number: 9,
+        return Err(Refusal {
+            reason: Reason::TooShort,
             place: 0,
         });
     }
-    Checked::Passed
+    Ok(())
 }
 
 // Whether c is among the first k of xs.
@@ -30,14 +30,7 @@ fn among(xs: &[u16], k: usize, c: u16) -> bool
     requires { k ≤ length xs.now }
     ensures { result ≡ among xs.now k c }
 {
-    let mut i: usize = 0;
-    while i < k {
-        if xs[i] == c {
-            return true;
-        }
-        i += 1;
-    }
-    false
+    xs[..k].contains(&c)
 }
 
 // Whether a cell number lies in the grid.
@@ -81,12 +74,10 @@ fn docks_inside(f: Floor, i: usize) -> bool
 {
     let docks = docks_of(f, i);
     let n = f.counts[i] as usize;
-    let mut k: usize = 0;
-    while k < n {
+    for k in 0..n {
         if !in_grid(f, docks[k]) {
             return false;
         }
-        k += 1;
     }
     true
 }
@@ -107,44 +98,40 @@ fn carrier_inside(f: Floor, i: usize) -> bool
 }
 
 // 3, for the carriers: each has a dock count within its limits, and its cells lie in the grid.
-fn carriers_inside(f: Floor) -> Checked
+fn carriers_inside(f: Floor) -> Result<(), Refusal>
     requires width_bound { (f.width ≤ 32) × (f.height ≤ 32) }
     requires carriers_bound { f.carriers ≤ 8 }
     ensures { verdict_of result ≡ carriers_of f }
 {
     let n = f.carriers as usize;
-    let mut i: usize = 0;
-    while i < n {
+    for i in 0..n {
         if !carrier_inside(f, i) {
-            return Checked::Refused(Refusal {
-                number: 3,
+            return Err(Refusal {
+                reason: Reason::OutsideGrid,
                 place: 1 + i,
             });
         }
-        i += 1;
     }
-    Checked::Passed
+    Ok(())
 }
 
 // 3, for the walls: each lies in the grid.
-fn walls_inside(f: Floor, walls: &[u16]) -> Checked
+fn walls_inside(f: Floor, walls: &[u16]) -> Result<(), Refusal>
     requires width_bound { (f.width ≤ 32) × (f.height ≤ 32) }
     requires walls_in_bounds { f.walls ≤ length walls.now }
     ensures { verdict_of result ≡ walls_of f walls.now }
 {
     let n = f.walls as usize;
     let base = f.carriers as usize + 1;
-    let mut j: usize = 0;
-    while j < n {
+    for j in 0..n {
         if !in_grid(f, walls[j]) {
-            return Checked::Refused(Refusal {
-                number: 3,
+            return Err(Refusal {
+                reason: Reason::OutsideGrid,
                 place: base + j,
             });
         }
-        j += 1;
     }
-    Checked::Passed
+    Ok(())
 }
 
 // Whether wall j is above the wall before it.
@@ -159,23 +146,21 @@ fn rises(walls: &[u16], j: usize) -> bool
 }
 
 // 4: the walls rise strictly.
-fn rising(f: Floor, walls: &[u16]) -> Checked
+fn rising(f: Floor, walls: &[u16]) -> Result<(), Refusal>
     requires { f.walls ≤ length walls.now }
     ensures { verdict_of result ≡ rising_of f walls.now }
 {
     let n = f.walls as usize;
     let base = f.carriers as usize + 1;
-    let mut j: usize = 0;
-    while j < n {
+    for j in 0..n {
         if !rises(walls, j) {
-            return Checked::Refused(Refusal {
-                number: 4,
+            return Err(Refusal {
+                reason: Reason::WallOrder,
                 place: base + j,
             });
         }
-        j += 1;
     }
-    Checked::Passed
+    Ok(())
 }
 
 // Whether c is one of the first k walls, which rise: a binary search.
@@ -211,12 +196,10 @@ fn docks_clear(f: Floor, walls: &[u16], i: usize) -> bool
     let docks = docks_of(f, i);
     let count = f.walls as usize;
     let n = f.counts[i] as usize;
-    let mut k: usize = 0;
-    while k < n {
+    for k in 0..n {
         if is_wall(walls, count, docks[k]) {
             return false;
         }
-        k += 1;
     }
     true
 }
@@ -237,7 +220,7 @@ fn clear_of_walls(f: Floor, walls: &[u16], i: usize) -> bool
 }
 
 // 5: no carrier starts on a wall or has a dock on one.
-fn clear(f: Floor, walls: &[u16]) -> Checked
+fn clear(f: Floor, walls: &[u16]) -> Result<(), Refusal>
     requires carriers_bound { f.carriers ≤ 8 }
     requires counts_within { CountsWithin f }
     requires walls_in_bounds { f.walls ≤ length walls.now }
@@ -245,17 +228,15 @@ fn clear(f: Floor, walls: &[u16]) -> Checked
     ensures { verdict_of result ≡ clear_of f walls.now }
 {
     let n = f.carriers as usize;
-    let mut i: usize = 0;
-    while i < n {
+    for i in 0..n {
         if !clear_of_walls(f, walls, i) {
-            return Checked::Refused(Refusal {
-                number: 5,
+            return Err(Refusal {
+                reason: Reason::OnWall,
                 place: 1 + i,
             });
         }
-        i += 1;
     }
-    Checked::Passed
+    Ok(())
 }
 
 // Whether no carrier before carrier i has its start.
@@ -269,22 +250,20 @@ fn unshared(f: Floor, i: usize) -> bool
 }
 
 // 6: no two carriers share a start.
-fn distinct(f: Floor) -> Checked
+fn distinct(f: Floor) -> Result<(), Refusal>
     requires { f.carriers ≤ 8 }
     ensures { verdict_of result ≡ distinct_of f }
 {
     let n = f.carriers as usize;
-    let mut i: usize = 0;
-    while i < n {
+    for i in 0..n {
         if !unshared(f, i) {
-            return Checked::Refused(Refusal {
-                number: 6,
+            return Err(Refusal {
+                reason: Reason::SharedStart,
                 place: 1 + i,
             });
         }
-        i += 1;
     }
-    Checked::Passed
+    Ok(())
 }
 
 // Whether no cell is twice among the first n docks.
@@ -292,19 +271,17 @@ fn unrepeated(docks: &[u16], n: usize) -> bool
     requires { n ≤ length docks.now }
     ensures { result ≡ each n (λ k. not (among docks.now k (get_or docks.now k 0))) }
 {
-    let mut k: usize = 0;
-    while k < n {
+    for k in 0..n {
         let dock = docks[k];
         if among(docks, k, dock) {
             return false;
         }
-        k += 1;
     }
     true
 }
 
 // 17: no carrier has a dock twice in its list.
-fn all_unrepeated(f: Floor) -> Checked
+fn all_unrepeated(f: Floor) -> Result<(), Refusal>
     requires carriers_bound { f.carriers ≤ 8 }
     requires counts_within { CountsWithin f }
     ensures { verdict_of result ≡ unrepeated_of f }
@@ -312,46 +289,29 @@ fn all_unrepeated(f: Floor) -> Checked
     let n = f.carriers as usize;
     let docks = f.docks;
     let counts = f.counts;
-    let mut i: usize = 0;
-    while i < n {
+    for i in 0..n {
         let at = 4 * i;
         if !unrepeated(&docks[at..at + 4], counts[i] as usize) {
-            return Checked::Refused(Refusal {
-                number: 17,
+            return Err(Refusal {
+                reason: Reason::RepeatedDock,
                 place: 1 + i,
             });
         }
-        i += 1;
     }
-    Checked::Passed
+    Ok(())
 }
 
 // 3 to 6 and 17, in this order.
-pub fn places(f: Floor, walls: &[u16]) -> Checked
+pub fn places(f: Floor, walls: &[u16]) -> Result<(), Refusal>
     requires width_bound { (f.width ≤ 32) × (f.height ≤ 32) }
     requires carriers_bound { f.carriers ≤ 8 }
     requires walls_in_bounds { f.walls ≤ length walls.now }
     ensures { verdict_of result ≡ places_of f walls.now }
 {
-    let carriers = carriers_inside(f);
-    let Checked::Passed = carriers else {
-        return carriers;
-    };
-    let inside = walls_inside(f, walls);
-    let Checked::Passed = inside else {
-        return inside;
-    };
-    let rise = rising(f, walls);
-    let Checked::Passed = rise else {
-        return rise;
-    };
-    let off = clear(f, walls);
-    let Checked::Passed = off else {
-        return off;
-    };
-    let apart = distinct(f);
-    let Checked::Passed = apart else {
-        return apart;
-    };
+    carriers_inside(f)?;
+    walls_inside(f, walls)?;
+    rising(f, walls)?;
+    clear(f, walls)?;
+    distinct(f)?;
     all_unrepeated(f)
 }

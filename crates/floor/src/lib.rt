@@ -6,7 +6,7 @@ mod bounds;
 mod checks;
 
 ghost use Rattle.std.specs.Prelude.{◌≡◌};
-ghost use Rattle.floor.specs.Answers.{verdict_of};
+ghost use Rattle.floor.specs.Answers.{number_of, verdict_of};
 ghost use Rattle.floor.specs.Checks.{check_of};
 ghost use Rattle.floor.specs.Fresh.{fresh_floor};
 
@@ -64,34 +64,67 @@ impl Floor {
     }
 }
 
-// A refusal of document 01: its number, and the place that the table of refusals gives with it.
+// Why a request is refused: the rows of document 01's table of refusals, and of the change requests', each under its number.
+#[derive(Clone, Copy)]
+pub enum Reason {
+    // The form of a sheet is wrong; the byte.
+    Form = 1,
+    // A value of line 1 is outside its limits; the field.
+    Limits = 2,
+    // A cell lies outside the grid, or a record's dock count is outside 1 to 4; the item.
+    OutsideGrid = 3,
+    // A wall is not above the one before; the item.
+    WallOrder = 4,
+    // A start or a dock is a wall; the carrier.
+    OnWall = 5,
+    // An earlier carrier has the same start; the carrier.
+    SharedStart = 6,
+    // No such step or carrier; the position.
+    Unknown = 7,
+    // The carrier is not due.
+    NotDue = 8,
+    // Lent memory is too short.
+    TooShort = 9,
+    // The lent memory is no state of this floor.
+    NoState = 10,
+    // No such order of a trial.
+    NoOrder = 11,
+    // Nothing is under way to the carrier.
+    NothingSent = 12,
+    // The channel to the carrier is full.
+    ChannelFull = 13,
+    // The floor has more carriers than runs are listed for.
+    TooManyCarriers = 14,
+    // No run has that rank.
+    NoRank = 15,
+    // The carrier has a route.
+    HasRoute = 16,
+    // A dock is twice in the carrier's list.
+    RepeatedDock = 17,
+}
+
+// A refusal of document 01: its reason, and the place that the table of refusals gives with it.
 #[derive(Clone, Copy)]
 pub struct Refusal {
-    pub number: u16,
+    pub reason: Reason,
     pub place: usize,
 }
 
-// What a check says.
-#[derive(Clone, Copy)]
-pub enum Checked {
-    // It found nothing.
-    Passed,
-    // The first refusal that it met.
-    Refused(Refusal),
+impl Refusal {
+    // The number of its reason in the table.
+    pub fn number(self) -> u16
+        ensures { result ≡ number_of self.reason }
+    {
+        self.reason as u16
+    }
 }
 
 // Checks a floor given as a record, with its walls: 2, then 9 if fewer walls are lent than counted, then 3, 4, 5, 6,
 // 17.
-pub fn check(f: Floor, walls: &[u16]) -> Checked
+pub fn check(f: Floor, walls: &[u16]) -> Result<(), Refusal>
     ensures { verdict_of result ≡ check_of f walls.now }
 {
-    let limited = limits(f);
-    let Checked::Passed = limited else {
-        return limited;
-    };
-    let lent = check_length(f.walls as usize, walls.len());
-    let Checked::Passed = lent else {
-        return lent;
-    };
+    limits(f)?;
+    check_length(f.walls as usize, walls.len())?;
     checks::places(f, walls)
 }

@@ -1,6 +1,5 @@
 -- Laws of the definitions that no single function owns.
 pub mod FirstLaws
-pub mod RecordLaws
 pub mod TableLaws
 pub mod PlanLaws
 pub mod FailingLaws

@@ -1,16 +1,19 @@
 -- What the planner's answer says in document 01's terms.
-use Rattle.std.specs.Prelude.{ℕ, ◌+◌, ◌*◌, ◌≤◌, ◌<◌, List, length}
+use Rattle.std.specs.Prelude.{ℕ, ◌+◌, ◌*◌, ◌≤◌, ◌<◌, List, length, Option, Result, unwrap_or}
 use Rattle.floor.specs.declared.Floor.{Floor}
-use Rattle.laws.specs.Verdict.{Outcome, value, refusal, ◌gives◌}
+use Rattle.floor.specs.declared.Refusal.{Refusal}
+use Rattle.floor.specs.Answers.{outcome_by}
+use Rattle.laws.specs.Verdict.{Outcome, ◌gives◌}
 use Rattle.search.specs.Rows.{Searchable}
-use Rattle.planner.specs.declared.Planned.{Planned}
-use Rattle.planner.specs.declared.Planned.TheVariants.{Failing, Refused}
 use Rattle.planner.specs.Plan.{plan_of, failing_of, plan_verdict}
 
--- What each case of the code's answer says: the failing carrier of the plan that was made, or the refusal.
-unfoldable pub planned_outcome : Planned → Outcome ℕ
-planned_outcome (Failing i) = value i
-planned_outcome (Refused r) = refusal r.number r.place
+-- What the code's failing carrier says: its number, 0 if all have routes.
+abbrev pub failing_meant : Option ℕ → ℕ
+failing_meant i = unwrap_or i 0
+
+-- What the code's answer says: the failing carrier of the plan that was made, or the refusal.
+abbrev pub planned_outcome : Result (Option ℕ) Refusal → Outcome ℕ
+planned_outcome x = outcome_by failing_meant x
 
 -- What planning a floor answers, with that number of numbers lent: the failing carrier.
 unfoldable pub plan_result : Floor → List ℕ → ℕ → Outcome ℕ

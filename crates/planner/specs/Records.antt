@@ -3,8 +3,6 @@ use Rattle.std.specs.Prelude.{ℕ, zero, suc, ◌+◌, ◌*◌, List, cond, eqb,
 use Rattle.laws.specs.Memory.{put}
 use Rattle.floor.specs.declared.Floor.{Floor}
 use Rattle.laws.specs.Verdict.{when_passed}
-use Rattle.search.specs.declared.Outcome.{Outcome}
-use Rattle.search.specs.declared.Outcome.TheVariants.{Route, None, Refused}
 use Rattle.records.specs.Records.{records, record_of, stored}
 use Rattle.planner.specs.Plan.{respond_with, plan_of, plan_verdict}
 
@@ -15,12 +13,6 @@ with_answer f rows i m = put m (65 * i) (record_of (respond_with f rows i (recor
 -- The lent memory after planning: the answers in front where the checks pass; all as it was with a refusal.
 unfoldable pub plan_memory : Floor → List ℕ → List ℕ → List ℕ
 plan_memory f ws old = when_passed (plan_verdict f ws (length old)) (stored (plan_of f ws) old) old
-
--- The tag of a search's outcome.
-unfoldable pub tag_of : Outcome → ℕ
-tag_of Route = 2
-tag_of None = 1
-tag_of (Refused x) = 0
 
 -- The first of the n records from record i on whose tag is no route's, counted from 1; 0 if there is none.
 unfoldable pub first_from : List ℕ → ℕ → ℕ → ℕ

@@ -15,28 +15,16 @@ ghost use Rattle.records.specs.Records.{records, stored};
 ghost use Rattle.records.specs.Seen.{seen};
 ghost use Rattle.planner.specs.Answers.{planned_outcome, plan_result, Plannable};
 
-use floor::{Checked, Floor, Refusal};
+use floor::{Floor, Refusal};
 use layers::{free_table, search_grid_of, table};
 use search::Rows;
-pub use tags::tag_of;
-
-// What planning says.
-#[derive(Clone, Copy)]
-pub enum Planned {
-    // The answers are made; the first carrier with none, 0 if all have routes.
-    Failing(usize),
-    // The request is refused.
-    Refused(Refusal),
-}
+pub use tags::told;
 
 // The refusals of a plan, in their order: what planning into so much memory would answer; nothing is written.
-pub fn request(f: Floor, walls: &[u16], lent: usize) -> Checked
+pub fn request(f: Floor, walls: &[u16], lent: usize) -> Result<(), Refusal>
     ensures { verdict_of result ≡ plan_verdict f walls.now lent }
 {
-    let checked = floor::check(f, walls);
-    let Checked::Passed = checked else {
-        return checked;
-    };
+    floor::check(f, walls)?;
     floor::check_length(records::SIZE * f.carriers as usize, lent)
 }
 
@@ -75,14 +63,8 @@ fn plan_one(
 {
     take_last(f, i, table, shown);
     let found = search::route_in(f, free, table, sets, i + 1, shown);
-    let outcome = found.outcome;
-    let cells = found.route;
-    records::store(
-        answers,
-        records::SIZE * i as usize,
-        tags::tag_of(outcome),
-        cells,
-    );
+    let (tag, cells) = told(found);
+    records::store(answers, records::SIZE * i as usize, tag, cells);
     records::store_seen(f, answers, i as usize, shown);
 }
 
@@ -91,28 +73,22 @@ fn plan_all(f: Floor, free: Rows, answers: &mut [u16])
     requires { Plannable f free answers.old }
     ensures { answers.new ≡ stored (sequential (respond_with f free) f.carriers) answers.old }
 {
-    let n = f.carriers;
     let mut shown = records::blank();
     let mut table = table::empty();
     free_table::make(search_grid_of(f), 0, &mut table, &free, &shown);
     let mut sets = table::empty();
-    let mut i: u16 = 0;
-    while i < n {
+    for i in 0..f.carriers {
         plan_one(f, free, i, &mut table, &mut sets, &mut shown, answers);
-        i += 1;
     }
 }
 
 // Plans a floor: the answers of its carriers into lent memory, 65 numbers each, a tag (1 none, 2 a route) and 64 cells.
-pub fn plan(f: Floor, walls: &[u16], answers: &mut [u16]) -> Planned
+pub fn plan(f: Floor, walls: &[u16], answers: &mut [u16]) -> Result<Option<usize>, Refusal>
     ensures answers { planned_outcome result ≡ plan_result f walls.now (length answers.old) }
     ensures stores { answers.new ≡ plan_memory f walls.now answers.old }
 {
-    let asked = request(f, walls, answers.len());
-    let Checked::Refused(x) = asked else {
-        let free = search::free_rows(f, walls);
-        plan_all(f, free, answers);
-        return Planned::Failing(tags::failing(answers, f.carriers as usize));
-    };
-    Planned::Refused(x)
+    request(f, walls, answers.len())?;
+    let free = search::free_rows(f, walls);
+    plan_all(f, free, answers);
+    Ok(tags::failing(answers, f.carriers as usize))
 }

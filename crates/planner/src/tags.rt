@@ -1,31 +1,31 @@
-// The tags of answers: the tag of a search's outcome, and the first answer in memory that is no route.
-ghost use Rattle.std.specs.Prelude.{◌≡◌, ◌*◌, ◌≤◌, length};
-ghost use Rattle.planner.specs.Records.{tag_of, first_from};
+// The tags of answers: the record of a search's answer, and the first answer in memory that is no route.
+ghost use Rattle.std.specs.Prelude.{◌≡◌, ◌*◌, ◌≤◌, ◌∷◌, length};
+ghost use Rattle.search.specs.Answers.{answer_of};
+ghost use Rattle.records.specs.Records.{record_of};
+ghost use Rattle.planner.specs.Answers.{failing_meant};
+ghost use Rattle.planner.specs.Records.{first_from};
 
-use search::Outcome;
+use route::Route;
 
-// The tag of an answer: 2 a route, 1 none.
-pub fn tag_of(outcome: Outcome) -> u16
-    ensures { result ≡ tag_of outcome }
+// The record of an answer, by tag and cells: 2 with the route's cells, 1 with zeros for none.
+pub fn told(found: Option<Route>) -> (u16, Route)
+    ensures { result.0 ∷ result.1 ≡ record_of (answer_of found) }
 {
-    match outcome {
-        Outcome::Route => 2,
-        Outcome::None => 1,
-        Outcome::Refused(_) => 0,
+    match found {
+        Some(route) => (2, route),
+        None => (1, [0; records::CELLS]),
     }
 }
 
-// The first of n records that has no route, counted from 1; 0 if all have one.
-pub fn failing(answers: &[u16], n: usize) -> usize
+// The first of n records that has no route, counted from 1.
+pub fn failing(answers: &[u16], n: usize) -> Option<usize>
     requires { (n ≤ 8) × (65 * n ≤ length answers.now) }
-    ensures { result ≡ first_from answers.now 0 n }
+    ensures { failing_meant result ≡ first_from answers.now 0 n }
 {
-    let mut i: usize = 0;
-    while i < n {
+    for i in 0..n {
         if answers[records::SIZE * i] != 2 {
-            return i + 1;
+            return Some(i + 1);
         }
-        i += 1;
     }
-    0
+    None
 }

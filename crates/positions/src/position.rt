@@ -10,10 +10,7 @@ use reporting::put_bytes;
 pub fn byte_at(text: &[u8], at: usize) -> u8
     ensures { result ≡ get_or text.now at 0 }
 {
-    if at < text.len() {
-        return text[at];
-    }
-    0
+    *text.get(at).unwrap_or(&0)
 }
 
 // A line and a column of a text.
@@ -28,7 +25,7 @@ fn behind(before: LineColumn, byte: u8) -> LineColumn
     requires { (before.line ≤ 65536) × (before.column ≤ 65536) }
     ensures { Follows byte before result }
 {
-    if byte == 10 {
+    if byte == b'\n' {
         return LineColumn {
             line: before.line + 1,
             column: 1,
@@ -46,10 +43,8 @@ pub fn position_at(text: &[u8], at: usize) -> LineColumn
     ensures { StandsIn text.now at result }
 {
     let mut position = LineColumn { line: 1, column: 1 };
-    let mut k: usize = 0;
-    while k < at {
+    for k in 0..at {
         position = behind(position, byte_at(text, k));
-        k += 1;
     }
     position
 }
@@ -73,10 +68,7 @@ fn field_column(field: usize) -> usize
     requires { field ≤ 65535 }
     ensures { (result ≡ 5 * (field - 1) + 1) × (result ≤ 400000) }
 {
-    if field < 1 {
-        return 1;
-    }
-    5 * (field - 1) + 1
+    5 * field.saturating_sub(1) + 1
 }
 
 // The column of a refusal; of 3, 5 and 17 that of the field of the item's line that is the cause.

@@ -3,31 +3,31 @@ use Prim.Native.Nat.{ℕ, ◌*◌, ◌≤◌, ◌<◌, min}
 use native.Mathlib.Omega.{arith}
 use mathlib.Core.Path.{◌≡◌, refl, sym, ◌∙◌, ap}
 use mathlib.Core.List.{List, ◌++◌}
-use borrow.Author.Tests.{le-leb, lt-leb}
+use Rattle.std.specs.Prelude.{Option, Result, Ok, Err, IfOk}
+use Rattle.std.specs.Result.{IsErrAnd}
+use Rattle.std.proofs.lemmas.Result.{err_from_is_err_and}
+use borrow.Author.Tests.{le-leb, lt-leb, leb-false}
+use lib.Dec.{leb}
 use lib.ListN.{length, take, drop, length-append}
 use lib.Seq.{take_at}
 use Rattle.floor.specs.declared.Floor.{Floor}
-use Rattle.floor.specs.declared.Checked.{Checked}
-use Rattle.floor.specs.declared.Checked.TheVariants.{Passed, Refused}
 use Rattle.floor.specs.declared.Refusal.{Refusal}
-use Rattle.floor.specs.Answers.{verdict_of}
+use Rattle.floor.specs.Answers.{number_of, verdict_of, outcome_by}
 use Rattle.laws.specs.Verdict.{passed, refused, Outcome, value, refusal, ◌then_answers◌, when_passed}
 use Rattle.floor.specs.Checks.{check_of, long_enough}
-use Rattle.laws.proofs.VerdictLaws.{then_both, refused_by, then_passed, refused_not_passed, demand_passes, when_passed_lem, gives_passed}
-use Rattle.floor.proofs.AnswersLaws.{passes, refuses}
+use Rattle.laws.proofs.VerdictLaws.{then_both, refused_by, then_passed, refused_not_passed, demand_passes, demand_cases, when_passed_lem, gives_passed}
 use Rattle.floor.proofs.LimitsLaws.{Bounds, check_tells, length_passed}
 use Rattle.fields.specs.Field.{field_of}
+use Rattle.fields.specs.Reached.{said_by}
 use Rattle.sheet.specs.Text.{line_of}
 use Rattle.sheet.specs.Values.{floor_at, walls_at}
 use Rattle.sheet.specs.Read.{sheet_verdict, read_verdict, read_floor, read_walls}
 use Rattle.sheet.proofs.FormLaws.{walls_length}
 use Rattle.sheet.proofs.Theorems.{theorems as sheet-theorems}
-use Rattle.planner.specs.declared.Planned.{Planned}
-use Rattle.planner.specs.declared.Planned.TheVariants.{Failing, Refused as NotPlanned}
 use Rattle.planner.specs.Plan.{plan_of, plan_verdict, failing_of}
 use Rattle.planner.specs.Records.{plan_memory}
 use Rattle.records.specs.Records.{stored}
-use Rattle.planner.specs.Answers.{planned_outcome, plan_result}
+use Rattle.planner.specs.Answers.{failing_meant, planned_outcome, plan_result}
 use Rattle.printing.specs.Text.{refusal_line}
 use Rattle.printing.specs.Print.{print_of, text_length}
 use Rattle.printing.specs.Print.{print_verdict, or_refusal, routes_of, needed_for, short_outcome, routes_outcome}
@@ -46,16 +46,17 @@ module _ (f : Floor) (ws : List ℕ) (lent : ℕ) (ok : plan_verdict f ws lent �
   enough = length_passed _ _ (then_both _ _ ok).1
 
   -- A plan that passes its checks is made.
-  pub made_failing : (x : Planned) (i : ℕ) → planned_outcome x ≡ plan_result f ws lent → x ≡ Failing i → i ≡ failing_of (plan_of f ws)
-  unfolding plan_result planned_outcome
+  pub made_failing : (x : Result (Option ℕ) Refusal) (i : Option ℕ) → planned_outcome x ≡ plan_result f ws lent → x ≡ Ok i
+      → failing_meant i ≡ failing_of (plan_of f ws)
+  unfolding plan_result outcome_by
   made_failing x i e g =
-      let h : value i ≡ value (failing_of (plan_of f ws)) = sym (ap planned_outcome g) ∙ e ∙ gives_passed ok in
+      let h : value (failing_meant i) ≡ value (failing_of (plan_of f ws)) = sym (ap planned_outcome g) ∙ e ∙ gives_passed ok in
       cc
 
-  pub never_refused : {y : Planned} {x : _} → planned_outcome y ≡ plan_result f ws lent → y ≡ NotPlanned x → ⊥
-  unfolding plan_result planned_outcome
+  pub never_refused : {y : Result (Option ℕ) Refusal} {x : Refusal} → planned_outcome y ≡ plan_result f ws lent → y ≡ Err x → ⊥
+  unfolding plan_result outcome_by
   never_refused {y} {x} e g =
-      let h : planned_outcome (NotPlanned x) ≡ value (failing_of (plan_of f ws)) = sym (ap planned_outcome g) ∙ e ∙ gives_passed ok in
+      let h : planned_outcome (Err x) ≡ value (failing_of (plan_of f ws)) = sym (ap planned_outcome g) ∙ e ∙ gives_passed ok in
       let z : ◌≡◌ {A = ℕ} 0 1 = cc in
       omega arith
 
@@ -96,6 +97,16 @@ module _ (text : List ℕ) (needed k p : ℕ) (old : List ℕ) where
   pub text_fits : (new : List ℕ) (n : ℕ) → needed ≤ length old → TextPut text old new n → TextOrShort text needed k p old new (value n)
   text_fits new n l t = record { answers = rw (le-leb _ _ l) (ap value t.size); stores = rw (le-leb _ _ l) t.bytes }
 
+-- The refusal of a check that finds a buffer too short, handed on.
+pub short_met : (text : List ℕ) (needed : ℕ) (old : List ℕ) (y : Result ℕ Refusal) (x : Refusal)
+    → verdict_of (Err x) ≡ long_enough needed (length old) → IsErrAnd y (λ d. d ≡ x)
+    → TextOrShort text needed 9 0 old old (outcome_by (λ n. n) y)
+unfolding verdict_of long_enough outcome_by
+short_met text needed old y x h e =
+    let p = err_from_is_err_and y e in
+    let no = demand_cases (leb needed (length old)) 9 0 _ _ (sym h) in
+    rw (p.1, p.2, no.1, no.2) (text_short text needed 9 0 old (leb-false _ _ no.0))
+
 -- With room for the most walls a sheet's own verdict is the reader's.
 module _ (text : List ℕ) (lent : ℕ) (wide : 1023 ≤ lent) where
   walls_lent : sheet_verdict text ≡ passed → long_enough (floor_at text).walls lent ≡ passed
@@ -122,14 +133,15 @@ pub record WasRead (text : List ℕ) (f : Floor) (walls : List ℕ) : Type 0 whe
   pub checked : check_of f (take f.walls walls) ≡ passed
 
 -- A text that is read into memory for the most walls: accepted, or refused with a place that can be printed.
-module _ {x : Checked} (text old walls : List ℕ) (f : Floor) (wide : 1023 ≡ length old)
-    (r : (verdict_of x ≡ read_verdict text (length old)) × ((f ≡ read_floor text (length old)) × (walls ≡ read_walls text old))) where
-  pub was_read : x ≡ Passed → WasRead text f walls
-  unfolding read_floor read_walls
+module _ {x : Result Floor Refusal} (text old walls : List ℕ) (f : Floor) (wide : 1023 ≡ length old)
+    (r : (said_by x ≡ read_verdict text (length old)) × (IfOk x (λ f. f ≡ read_floor text (length old)) × (walls ≡ read_walls text old))) where
+  pub was_read : x ≡ Ok f → WasRead text f walls
+  unfolding read_floor read_walls said_by
   was_read told =
-      let ok = passes r.0 told in
+      let ok : read_verdict text (length old) ≡ passed = sym (rw told at r.0) in
+      let back : f ≡ read_floor text (length old) = rw told at r.1.0 in
       let good = read_passed text (length old) (omega arith) ok in
-      let floor : f ≡ floor_at text = r.1.0 ∙ when_passed_lem _ ok in
+      let floor : f ≡ floor_at text = back ∙ when_passed_lem _ ok in
       let walls_read : walls ≡ walls_at text ++ drop (floor_at text).walls old = r.1.1 ∙ when_passed_lem _ ok in
       let count : f.walls ≡ (floor_at text).walls = ap (λ (f : Floor). f.walls) floor in
       let front : take f.walls walls ≡ walls_at text =
@@ -143,10 +155,11 @@ module _ {x : Checked} (text old walls : List ℕ) (f : Floor) (wide : 1023 ≡ 
         checked = rw (front, floor) (sheet-theorems.read_accepted text good);
       }
 
-module _ {y : Checked} {x : Refusal} (text old : List ℕ) (wide : 1023 ≡ length old) (r : verdict_of y ≡ read_verdict text (length old))
-    (told : y ≡ Refused x) where
-  pub was_refused : sheet_verdict text ≡ refused x.number x.place
-  was_refused = read_refused text (length old) (omega arith) _ _ (refuses r told)
+module _ {y : Result Floor Refusal} {x : Refusal} (text old : List ℕ) (wide : 1023 ≡ length old) (r : said_by y ≡ read_verdict text (length old))
+    (told : y ≡ Err x) where
+  pub was_refused : sheet_verdict text ≡ refused (number_of x.reason) x.place
+  unfolding said_by
+  was_refused = read_refused text (length old) (omega arith) _ _ (sym (rw told at r))
 
   pub place_small : x.place ≤ 65535
   place_small = omega (arith, sheet-theorems.place_low text _ _ was_refused)

@@ -1,21 +1,20 @@
 -- Printing a floor's routes, and the whole path from a sheet's bytes to the printed bytes.
-use Rattle.std.specs.Prelude.{ℕ, ◌+◌, ◌*◌, cond, List, leb, length}
+use Rattle.std.specs.Prelude.{ℕ, ◌+◌, ◌*◌, cond, List, Result, leb, length}
 use Rattle.laws.specs.Memory.{put}
 use Rattle.floor.specs.declared.Floor.{Floor}
+use Rattle.floor.specs.declared.Refusal.{Refusal}
+use Rattle.floor.specs.Answers.{outcome_by}
 use Rattle.laws.specs.Verdict.{Verdict, passed, refused, ◌then◌, Outcome, value, refusal, ◌gives◌, ◌then_answers◌, when_passed}
 use Rattle.floor.specs.Checks.{long_enough}
 use Rattle.sheet.specs.Values.{floor_at, walls_at}
 use Rattle.sheet.specs.Read.{sheet_verdict}
 use Rattle.planner.specs.Plan.{plan_of, plan_verdict}
 use Rattle.records.specs.Records.{stored}
-use Rattle.printing.specs.declared.Printed.{Printed}
-use Rattle.printing.specs.declared.Printed.TheVariants.{Written, Refused}
 use Rattle.printing.specs.Text.{routes_text, refusal_line}
 
--- What each case of the code's answer says: the number of bytes that were written, or the refusal.
-unfoldable pub printed_outcome : Printed → Outcome ℕ
-printed_outcome (Written n) = value n
-printed_outcome (Refused r) = refusal r.number r.place
+-- What the code's answer says: the number of bytes that were written, or the refusal.
+abbrev pub printed_outcome : Result ℕ Refusal → Outcome ℕ
+printed_outcome x = outcome_by (λ n. n) x
 
 -- The routes of a floor as text.
 unfoldable pub print_of : Floor → List ℕ → List ℕ

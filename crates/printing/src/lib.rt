@@ -4,28 +4,18 @@
 
 mod lines;
 
-ghost use Rattle.std.specs.Prelude.{◌≡◌, ◌≤◌, min, length, take};
-ghost use Rattle.floor.specs.Answers.{verdict_of};
+ghost use Rattle.std.specs.Prelude.{◌≡◌, ◌≤◌, length, take};
+ghost use Rattle.floor.specs.Answers.{number_of, verdict_of};
 ghost use Rattle.floor.specs.Checks.{check_of};
 ghost use Rattle.laws.specs.Verdict.{passed};
 ghost use Rattle.planner.specs.Plan.{plan_of, plan_verdict};
 ghost use Rattle.records.specs.Records.{stored};
 ghost use Rattle.printing.specs.Print.{printed_outcome, print_of, text_length, print_verdict};
 ghost use Rattle.printing.specs.Print.{print_outcome, print_answers, print_memory, routes_outcome, routes_memory};
-ghost use Rattle.printing.specs.Text.{refusal_line};
 ghost use Rattle.printing.specs.Put.{TextPut, FloorPut, RefusalPut};
 
-use floor::{Checked, Floor, Refusal};
-use planner::Planned;
-
-// What printing says.
-#[derive(Clone, Copy)]
-pub enum Printed {
-    // So many bytes of text stand in front of the lent memory.
-    Written(usize),
-    // The request is refused, and all lent memory is as it was.
-    Refused(Refusal),
-}
+use floor::{Floor, Refusal};
+pub use lines::put_refusal;
 
 // The needed length of text memory: 11 bytes, and 331 a carrier.
 pub fn text_length(f: Floor) -> usize
@@ -35,13 +25,10 @@ pub fn text_length(f: Floor) -> usize
 }
 
 // The refusals of printing, in their order.
-fn request(f: Floor, walls: &[u16], lent: usize, bytes: usize) -> Checked
+fn request(f: Floor, walls: &[u16], lent: usize, bytes: usize) -> Result<(), Refusal>
     ensures { verdict_of result ≡ print_verdict f walls.now lent bytes }
 {
-    let asked = planner::request(f, walls, lent);
-    let Checked::Passed = asked else {
-        return asked;
-    };
+    planner::request(f, walls, lent)?;
     floor::check_length(text_length(f), bytes)
 }
 
@@ -52,27 +39,23 @@ fn put_plan(f: Floor, walls: &[u16], answers: &mut [u16], out: &mut [u8]) -> usi
     ensures plans { answers.new ≡ stored (plan_of f walls.now) answers.old }
     ensures puts { TextPut (print_of f walls.now) out.old out.new result }
 {
-    let planned = planner::plan(f, walls, answers);
-    let Planned::Failing(failing) = planned else {
+    let Ok(failing) = planner::plan(f, walls, answers) else {
         return 0;
     };
-    lines::put_routes(f, failing as u16, answers, out)
+    lines::put_routes(f, failing.unwrap_or(0) as u16, answers, out)
 }
 
 // Plans a floor and prints its routes: the answers into lent memory as `planner::plan` stores them, the text into lent
 // memory.
-pub fn print(f: Floor, walls: &[u16], answers: &mut [u16], out: &mut [u8]) -> Printed
+pub fn print(f: Floor, walls: &[u16], answers: &mut [u16], out: &mut [u8]) -> Result<usize, Refusal>
     ensures says { printed_outcome result
         ≡ print_outcome f walls.now (length answers.old) (length out.old) }
     ensures plans { answers.new ≡ print_answers f walls.now (length out.old)
         answers.old }
     ensures stores { out.new ≡ print_memory f walls.now (length answers.old) out.old }
 {
-    let asked = request(f, walls, answers.len(), out.len());
-    let Checked::Refused(x) = asked else {
-        return Printed::Written(put_plan(f, walls, answers, out));
-    };
-    Printed::Refused(x)
+    request(f, walls, answers.len(), out.len())?;
+    Ok(put_plan(f, walls, answers, out))
 }
 
 // Room for the answers of the most carriers.
@@ -93,59 +76,36 @@ pub fn put_routes(f: Floor, walls: &[u16], out: &mut [u8]) -> usize
 }
 
 // The routes of a floor that was read, with its walls in front of `walls`.
-fn print_read(f: Floor, walls: &[u16], out: &mut [u8]) -> Printed
+fn print_read(f: Floor, walls: &[u16], out: &mut [u8]) -> Result<usize, Refusal>
     requires walls_value { check_of f (take f.walls walls.now) ≡ passed }
     requires walls_in_bounds { f.walls ≤ length walls.now }
     ensures { FloorPut f walls.now out.old out.new (printed_outcome result) }
 {
-    if out.len() < text_length(f) {
-        return Printed::Refused(Refusal {
-            number: 9,
-            place: 0,
-        });
-    }
+    floor::check_length(text_length(f), out.len())?;
     let k = f.walls as usize;
-    Printed::Written(put_routes(f, &walls[..k], out))
-}
-
-// A place as it is printed: one over 65,535 as that.
-fn printed_place(place: usize) -> u16
-    ensures { result ≡ min place 65535 }
-{
-    if place < 65535 { place as u16 } else { 65535 }
-}
-
-// Puts the line of a refusal; its length is returned.
-pub fn put_refusal(x: Refusal, out: &mut [u8]) -> usize
-    requires { (x.place ≤ 65535) × (16 ≤ length out.old) }
-    ensures { TextPut (refusal_line x.number x.place) out.old out.new result }
-{
-    lines::put_refusal(x.number, x.place as u16, out)
+    Ok(put_routes(f, &walls[..k], out))
 }
 
 // The line of a refused sheet; with less than 16 bytes of text memory the refusal itself.
-pub fn print_refusal(x: Refusal, out: &mut [u8]) -> Printed
-    ensures { RefusalPut x.number x.place out.old out.new (printed_outcome result) }
+pub fn print_refusal(x: Refusal, out: &mut [u8]) -> Result<usize, Refusal>
+    ensures { RefusalPut (number_of x.reason) x.place out.old out.new (printed_outcome result) }
 {
     if out.len() < 16 {
-        return Printed::Refused(x);
+        return Err(x);
     }
-    let place = printed_place(x.place);
-    Printed::Written(lines::put_refusal(x.number, place, out))
+    let place = x.place.min(65535);
+    Ok(put_refusal(Refusal { place, ..x }, out))
 }
 
 // From a sheet's bytes to the printed bytes: the routes of its floor, or the line of its refusal. With too little text
 // memory it is refused: with the sheet's refusal, and with 9 if it has none.
-pub fn routes(text: &[u8], out: &mut [u8]) -> Printed
+pub fn routes(text: &[u8], out: &mut [u8]) -> Result<usize, Refusal>
     ensures says { printed_outcome result ≡ routes_outcome text.now (length out.old) }
     ensures stores { out.new ≡ routes_memory text.now out.old }
 {
     let mut walls = sheet::no_walls();
-    let reading = sheet::read(text, &mut walls);
-    let checked = reading.answer;
-    let f = reading.floor;
-    let Checked::Refused(x) = checked else {
-        return print_read(f, &walls, out);
-    };
-    print_refusal(x, out)
+    match sheet::read(text, &mut walls) {
+        Ok(f) => print_read(f, &walls, out),
+        Err(x) => print_refusal(x, out),
+    }
 }

@@ -1,11 +1,12 @@
 // The lines of printed routes.
 ghost use Rattle.std.specs.Prelude.{◌≡◌, ◌∷◌, ◌+◌, ◌*◌, ◌≤◌, ◌<◌, length, take};
+ghost use Rattle.floor.specs.Answers.{number_of};
 ghost use Rattle.laws.specs.Memory.{put};
 ghost use Rattle.sheet.specs.Text.{line_of};
 ghost use Rattle.printing.specs.Text.{fields_of, none_word, none_line, first_line, refusal_line};
 ghost use Rattle.printing.specs.Put.{text_in, TextPut, LinePut, LinesPut, Printable};
 
-use floor::Floor;
+use floor::{Floor, Refusal};
 use route::Route;
 
 // The first n cells of a route, a field each.
@@ -30,7 +31,7 @@ fn put_route(out: &mut [u8], at: usize, number: u16, arrival: u16, cells: Route,
     fields::put_field(out, at, number);
     fields::put_field(out, at + 5, arrival);
     put_cells(out, at + 10, cells, n);
-    out[at + 10 + 5 * n] = 10;
+    out[at + 10 + 5 * n] = b'\n';
 }
 
 // ` none`: a space and four letters.
@@ -52,7 +53,7 @@ fn put_none(out: &mut [u8], at: usize, number: u16)
 {
     fields::put_field(out, at, number);
     put_word(out, at + 5);
-    out[at + 10] = 10;
+    out[at + 10] = b'\n';
 }
 
 // The line of carrier i, counted from 0, for its answer in memory; the column behind it is returned.
@@ -96,7 +97,7 @@ fn put_first(f: Floor, failing: u16, out: &mut [u8])
 {
     fields::put_field(out, 0, f.carriers);
     fields::put_field(out, 5, failing);
-    out[10] = 10;
+    out[10] = b'\n';
 }
 
 // The printed routes of a floor, from its answers in memory; their length is returned.
@@ -108,14 +109,14 @@ pub fn put_routes(f: Floor, failing: u16, answers: &[u16], out: &mut [u8]) -> us
     put_answers(f, answers, out)
 }
 
-// The line of a refusal, its number and its place; its length is returned.
-pub fn put_refusal(number: u16, place: u16, out: &mut [u8]) -> usize
-    requires { 16 ≤ length out.old }
-    ensures { TextPut (refusal_line number place) out.old out.new result }
+// Puts the line of a refusal; its length is returned.
+pub fn put_refusal(x: Refusal, out: &mut [u8]) -> usize
+    requires { (x.place ≤ 65535) × (16 ≤ length out.old) }
+    ensures { TextPut (refusal_line (number_of x.reason) x.place) out.old out.new result }
 {
     fields::put_field(out, 0, 0);
-    fields::put_field(out, 5, number);
-    fields::put_field(out, 10, place);
-    out[15] = 10;
+    fields::put_field(out, 5, x.number());
+    fields::put_field(out, 10, x.place as u16);
+    out[15] = b'\n';
     16
 }

@@ -14,7 +14,7 @@ ghost use Rattle.sheet.specs.Read.{sheet_verdict};
 use floor::{Checked, Floor, Refusal};
 use positions::{cause, position, sheet_line};
 use reporting::put_bytes;
-use wording::{fill, put};
+use wording::Text;
 
 // The length of the longest text.
 pub const TEXT_LENGTH: usize = 160;
@@ -22,99 +22,65 @@ pub const TEXT_LENGTH: usize = 160;
 // The length of the longest reason, without its position.
 const REASON_LENGTH: usize = 128;
 
-// Puts a sentence about a value of line 1, in which the value stands first and its largest stands second; the column behind it is
-// returned.
-fn put_value(value: usize, most: u16, said: &[u8], out: &mut [u8]) -> usize {
-    fill(out, 0, said, [value, most as usize, 0, 0, 0, 0])
-}
-
-// Puts that a value of line 1 is outside its limits; the column behind these words is returned.
-fn put_limit(text: &[u8], field: usize, out: &mut [u8]) -> usize {
-    if field == 0 {
-        return 0;
-    }
-    let x = sheet_line::field_at(text, 0, field - 1);
-    if field == 1 {
-        return put_value(
-            x,
-            Floor::MAX_WIDTH,
+// Puts that a value of line 1 is outside its limits.
+fn put_limit(text: &[u8], field: usize, out: &mut Text<'_>) {
+    let Some(before) = field.checked_sub(1) else {
+        return;
+    };
+    let x = sheet_line::field_at(text, 0, before);
+    match field {
+        1 => out.fill(
             b"the width is %, it must be 1 to %",
-            out,
-        );
-    }
-    if field == 2 {
-        return put_value(
-            x,
-            Floor::MAX_HEIGHT,
+            &[x, Floor::MAX_WIDTH as usize],
+        ),
+        2 => out.fill(
             b"the height is %, it must be 1 to %",
-            out,
-        );
-    }
-    if field == 3 {
-        return put_value(
-            x,
-            Floor::MAX_HORIZON,
+            &[x, Floor::MAX_HEIGHT as usize],
+        ),
+        3 => out.fill(
             b"the horizon is %, it must be 1 to %",
-            out,
-        );
-    }
-    if field == 4 {
-        return put_value(
-            x,
-            Floor::MAX_DEPTH,
+            &[x, Floor::MAX_HORIZON as usize],
+        ),
+        4 => out.fill(
             b"the depth is %, it must be 1 to %",
-            out,
-        );
-    }
-    if field == 5 {
-        return put_value(
-            x,
-            Floor::MAX_CARRIERS,
+            &[x, Floor::MAX_DEPTH as usize],
+        ),
+        5 => out.fill(
             b"the number of carriers is %, it must be 1 to %",
-            out,
-        );
+            &[x, Floor::MAX_CARRIERS as usize],
+        ),
+        _ => out.fill(
+            b"the number of walls is %, it must be 0 to %",
+            &[x, Floor::MAX_WALLS as usize],
+        ),
     }
-    put_value(
-        x,
-        Floor::MAX_WALLS,
-        b"the number of walls is %, it must be 0 to %",
-        out,
-    )
 }
 
-// Puts the cause of a refusal, a field of an item's line where there is one; the column behind these words is returned.
-fn put_cause(text: &[u8], number: u16, place: usize, field: usize, out: &mut [u8]) -> usize
+// Puts the cause of a refusal, a field of an item's line where there is one.
+fn put_cause(text: &[u8], number: u16, place: usize, field: usize, out: &mut Text<'_>)
     requires { (place ≤ 65535) × (field ≤ 10) }
 {
-    if number == 1 {
-        return malformed::put_reason(text, place, out);
+    match number {
+        1 => malformed::put_reason(text, place, out),
+        2 => put_limit(text, place, out),
+        3 => item::put_outside(text, place, field, out),
+        4 => item::put_order(text, place, out),
+        5 => item::put_on_wall(text, place, field, out),
+        6 => item::put_shared(text, place, out),
+        _ => item::put_twice(text, place, field, out),
     }
-    if number == 2 {
-        return put_limit(text, place, out);
-    }
-    if number == 3 {
-        return item::put_outside(text, place, field, out);
-    }
-    if number == 4 {
-        return item::put_order(text, place, out);
-    }
-    if number == 5 {
-        return item::put_on_wall(text, place, field, out);
-    }
-    if number == 6 {
-        return item::put_shared(text, place, out);
-    }
-    item::put_twice(text, place, field, out)
 }
 
-// Puts the reason of a refusal and a newline; the length of both is returned.
-fn put_reason(text: &[u8], number: u16, place: usize, field: usize, out: &mut [u8]) -> usize
+// Puts the reason of a refusal and a newline in front of a memory; the length of both is returned.
+fn put_reason(text: &[u8], number: u16, place: usize, field: usize, memory: &mut [u8]) -> usize
     requires { (place ≤ 65535) × (field ≤ 10) }
-    ensures { IsPrefixLen result out.new }
+    ensures { IsPrefixLen result memory.new }
 {
-    let said = put_cause(text, number, place, field, out);
-    let end = put(out, said, b"\n");
-    wording::within(end, out)
+    let mut out = Text::new(memory);
+    put_cause(text, number, place, field, &mut out);
+    out.put(b"\n");
+    let end = out.at;
+    wording::within(end, memory)
 }
 
 // Puts the position of a refusal and its reason in front of a memory; the length of both is returned.
@@ -133,64 +99,40 @@ fn put_refused(text: &[u8], number: u16, place: usize, field: usize, out: &mut [
 
 // The docks of all carriers of a floor.
 fn docks(f: Floor) -> usize {
-    let n = f.carriers as usize;
     let mut sum: usize = 0;
-    let mut i: usize = 0;
-    while i < n {
-        sum += dock_count(f, i);
-        i += 1;
+    for i in 0..(f.carriers as usize).min(8) {
+        sum += f.counts[i] as usize;
     }
     sum
 }
 
-// A number of 16 bits.
-fn wide(n: u16) -> usize
-    ensures { result ≤ 65535 }
-{
-    n as usize
-}
-
-// The docks of carrier i, counted from 0.
-fn dock_count(f: Floor, i: usize) -> usize
-    ensures { result ≤ 65535 }
-{
-    if 8 <= i {
-        return 0;
-    }
-    wide(f.counts[i])
-}
-
-// Puts a number of things, by a sentence for one and one for several; the column behind it is returned.
-fn put_many(n: usize, one: &[u8], several: &[u8], out: &mut [u8], at: usize) -> usize {
-    if n == 1 {
-        return put(out, at, one);
-    }
-    fill(out, at, several, [n, 0, 0, 0, 0, 0])
-}
-
-// Puts how many carriers, docks and walls there are; the column behind these words is returned.
-fn put_counts(carriers: usize, docks: usize, walls: usize, out: &mut [u8], at: usize) -> usize {
-    let who = put_many(carriers, b", 1 carrier", b", % carriers", out, at);
-    let to = put_many(docks, b" with 1 dock", b" with % docks", out, who);
-    put_many(walls, b", 1 wall\n", b", % walls\n", out, to)
-}
-
 // Puts the size of a floor in front of a memory; its length is returned.
-fn put_accepted(f: Floor, out: &mut [u8]) -> usize {
-    let size = fill(
-        out,
-        0,
+fn put_accepted(f: Floor, memory: &mut [u8]) -> usize {
+    let mut out = Text::new(memory);
+    out.fill(
         b"accepted: % by % cells, horizon %, depth %",
-        [
-            wide(f.width),
-            wide(f.height),
-            wide(f.horizon),
-            wide(f.depth),
-            0,
-            0,
+        &[
+            f.width as usize,
+            f.height as usize,
+            f.horizon as usize,
+            f.depth as usize,
         ],
     );
-    put_counts(wide(f.carriers), docks(f), wide(f.walls), out, size)
+    out.put_count(f.carriers as usize, b", 1 carrier", b", % carriers");
+    out.put_count(docks(f), b" with 1 dock", b" with % docks");
+    out.put_count(f.walls as usize, b", 1 wall\n", b", % walls\n");
+    out.at
+}
+
+// Puts where a sheet ends early in front of a memory; the length of the text is returned.
+fn put_end(text: &[u8], end: usize, memory: &mut [u8]) -> usize
+    requires { end ≤ 65535 }
+    ensures { IsPrefixLen result memory.new }
+{
+    let mut out = Text::new(memory);
+    malformed::put_end(text, end, &mut out);
+    let n = out.at;
+    wording::within(n, memory)
 }
 
 // Puts the text of a refusal in front of a memory; its length is returned.
@@ -200,11 +142,8 @@ fn put_text(text: &[u8], x: Refusal, out: &mut [u8]) -> usize
 {
     let number = x.number;
     let place = x.place;
-    if number == 1 {
-        if place == text.len() {
-            let end = malformed::put_end(text, place, out);
-            return wording::within(end, out);
-        }
+    if number == 1 && place == text.len() {
+        return put_end(text, place, out);
     }
     let field = cause::cause(text, number, place);
     put_refused(text, number, place, field, out)

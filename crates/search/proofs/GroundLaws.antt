@@ -1,18 +1,20 @@
 -- Walls taken out of rows, and words of ones.
-use Prim.Native.Nat.{ℕ, ◌+◌, ◌*◌, ◌-◌, ◌/◌, ◌%◌, ◌^◌, ◌≤◌, ◌<◌}
+use Prim.Native.Nat.{ℕ, zero, suc, ◌+◌, ◌*◌, ◌-◌, ◌/◌, ◌%◌, ◌^◌, ◌≤◌, ◌<◌}
 use native.Mathlib.Omega.{arith}
 use native.Mathlib.Nat.{one-mul, mod-eq_of_lt, mod-lt, div-add-mod', zero-add}
 use mathlib.Core.Bool.{true, false, ◌&&◌, not, and-false}
-use mathlib.Core.List.{List}
-use mathlib.Core.Path.{◌≡◌, ◌∙◌}
+use mathlib.Core.List.{List, ◌∷◌, ◌++◌}
+use mathlib.Core.Path.{◌≡◌, refl, sym, ap, ◌∙◌}
 use borrow.Author.Tests.{eq-eqb, ne_eqb}
 use lib.Dec.{eqb}
-use lib.ListN.{length, get_or}
+use lib.ListN.{length, get_or, take, drop, replicate, length-replicate}
+use lib.Seq.{length-take-le, drop-cons}
+use Rattle.std.proofs.lemmas.List.{set_at}
 use lib.Pow.{pow-lt, pow_mono, pow_pos}
 use Rattle.laws.proofs.Tests.{true_false_absurd, not_true_is_false, not_is_true, same_test, not_refutes}
 use Rattle.floor.specs.Checks.{among}
 use Rattle.floor.proofs.AmongLaws.{among_found, among_place}
-use Rattle.bitrows.specs.Rows.{has, dropped_at, Clean}
+use Rattle.bitrows.specs.Rows.{has, filled, dropped_at, Clean}
 use Rattle.bitrows.proofs.RowsLaws.{has_dropped_at, fewer_at, length_at}
 
 -- The word before a run of ones, as the code makes it.
@@ -21,6 +23,24 @@ ones_word n h = rw one-mul (mod-eq_of_lt (pow-lt {i = n} {j = 64} (omega arith))
 
 pub ones_fit : (n : ℕ) → n ≤ 32 → (1 ≤ 2 ^ n) × (2 ^ n ≤ 2 ^ 32)
 ones_fit n h = (pow_pos n, pow_mono h)
+
+-- The rows of a grid, as a slice of them filled with one word.
+rows_filled : (rows : List ℕ) (x n : ℕ) → n ≤ length rows → replicate n x ++ drop n rows ≡ filled rows (λ row. x) n
+unfolding filled
+rows_filled rows x zero h = refl
+rows_filled rows x (suc n) h =
+    sym
+    (rw (← rows_filled rows x n (omega arith), drop-cons rows n 0 (omega arith), set_at (replicate n x) (get_or rows n 0) (drop (suc n) rows) x n (length-replicate n x))
+    (moved n (drop (suc n) rows)))
+  where
+    moved : (n : ℕ) (ys : List ℕ) → replicate n x ++ x ∷ ys ≡ x ∷ (replicate n x ++ ys)
+    moved zero ys = refl
+    moved (suc n) ys = ap (λ (zs : List ℕ). x ∷ zs) (moved n ys)
+
+-- The same as the code makes them.
+pub filled_front : (rows new : List ℕ) (x y n : ℕ) → n ≤ length rows → new ≡ replicate (length (take n rows)) y → y ≡ x →
+    new ++ drop n rows ≡ filled rows (λ row. x) n
+filled_front rows new x y n h e q = rw (e, q, length-take-le n rows h) (rows_filled rows x n h)
 
 -- Rows while walls are taken out: a cell that is none of the n walls is there, and of the walls only those from one place on to before
 -- another.

@@ -3,7 +3,6 @@ pub mod SeekLaws
 pub mod SearchLaws
 pub mod GroundLaws
 pub mod RowsFree
-pub mod AnswerLaws
 pub mod RequestLaws
 pub mod SeenLaws
 pub mod Theorems

@@ -1,12 +1,12 @@
 -- From the search in a free table to the best answer of a checked floor.
 use Prim.Native.Nat.{ℕ, ◌*◌, ◌-◌, ◌/◌, ◌%◌, ◌≤◌, ◌<◌}
 use mathlib.Core.List.{List}
+use Rattle.std.specs.Prelude.{Option}
 use mathlib.Core.Path.{◌≡◌, ap}
 use lib.ListN.{length}
-use Rattle.laws.specs.Verdict.{Outcome}
 use Rattle.floor.specs.declared.Floor.{Floor}
 use Rattle.floor.specs.Checks.{start_of, count_of, docks_of, dock_of, is_dock, among}
-use Rattle.route.specs.Route.{Answer, View}
+use Rattle.route.specs.Route.{View}
 use Rattle.route.specs.Moves.{standable}
 use Rattle.route.specs.Search.{best}
 use Rattle.bitrows.specs.Rows.{has, Clean}
@@ -17,8 +17,7 @@ use Rattle.layers.proofs.GridLaws.{scene_grid}
 use Rattle.passes.specs.Docks.{DocksIn}
 use Rattle.records.specs.Records.{records, views_of}
 use Rattle.records.specs.Seen.{seen}
-use Rattle.search.specs.declared.Found.{Found}
-use Rattle.search.specs.Answers.{answered, Answers}
+use Rattle.search.specs.Answers.{answer_of}
 use Rattle.search.specs.Seek.{BestIn}
 use Rattle.search.specs.Task.{task_of_rows}
 use Rattle.search.specs.Rows.{Searchable}
@@ -52,9 +51,9 @@ pub tidy_scene : (f : Floor) {g : SearchGrid} {sets : List ℕ} → g ≡ search
 tidy_scene f q t = rw q at t
 
 -- What is best in such a free table is the best answer against the views.
-pub best_views : (f : Floor) (rows : List ℕ) (i : ℕ) (m table : List ℕ) (g : SearchGrid) (cells : List ℕ) (x : Found) → g ≡ search_grid_of f →
+pub best_views : (f : Floor) (rows : List ℕ) (i : ℕ) (m table : List ℕ) (g : SearchGrid) (cells : List ℕ) (x : Option (List ℕ)) → g ≡ search_grid_of f →
     cells ≡ docks_of f (i - 1) → IsFreeTable (search_grid_of f) (i - 1) rows m table →
-    BestIn g table (start_of f (i - 1)) (among cells (count_of f (i - 1))) x → Answers x (answered (best (task_of_rows f rows i) (views_of m i)))
+    BestIn g table (start_of f (i - 1)) (among cells (count_of f (i - 1))) x → answer_of x ≡ best (task_of_rows f rows i) (views_of m i)
 unfolding task_of_rows views_of search_grid_of stands_at standable is_dock
 best_views f rows i m table g cells x q at is-table h =
     (rw (q, at) at h) (λ c. has rows (c / f.width) (c % f.width)) (records m (i - 1)) is-table.agrees
@@ -78,7 +77,6 @@ other_views s l =
 
 -- The search against records as they are seen is the one against the views as they are seen.
 pub shown_best : (f : Floor) (rows : List ℕ) (i : ℕ) (m m' : List ℕ) → records m' (i - 1) ≡ seen f (records m (i - 1)) →
-    ◌≡◌ {A = Outcome Answer} (answered (best (task_of_rows f rows i) (views_of m' i)))
-    (answered (best (task_of_rows f rows i) (seen f (views_of m i))))
+    best (task_of_rows f rows i) (views_of m' i) ≡ best (task_of_rows f rows i) (seen f (views_of m i))
 unfolding views_of
-shown_best f rows i m m' e = ap (λ (vs : List View). answered (best (task_of_rows f rows i) vs)) e
+shown_best f rows i m m' e = ap (λ (vs : List View). best (task_of_rows f rows i) vs) e

@@ -20,11 +20,7 @@ fn grid_rows(w: usize, h: usize) -> Rows
 {
     let full = ones(w);
     let mut rows = [0u32; Floor::MAX_HEIGHT as usize];
-    let mut row: usize = 0;
-    while row < h {
-        rows[row] = full;
-        row += 1;
-    }
+    rows[..h].fill(full);
     rows
 }
 
@@ -43,11 +39,9 @@ pub fn free_rows(f: Floor, walls: &[u16]) -> Rows
     let scale = bitrows::scale(w);
     let mut rows = grid_rows(w, h);
     let half = (n + 1) / 2;
-    let mut j: usize = 0;
-    while j < half {
+    for j in 0..half {
         bitrows::drop_at(&mut rows, 0, w, scale, cells, walls[j] as usize);
         bitrows::drop_at(&mut rows, 0, w, scale, cells, walls[n - 1 - j] as usize);
-        j += 1;
     }
     rows
 }

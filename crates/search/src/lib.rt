@@ -5,11 +5,10 @@ mod ground;
 
 ghost use Rattle.std.specs.Prelude.{◌≡◌, ◌-◌, ◌≤◌, ◌<◌};
 ghost use Rattle.floor.specs.Answers.{verdict_of};
-ghost use Rattle.laws.specs.Verdict.{demand, refusal};
+ghost use Rattle.laws.specs.Verdict.{demand};
 ghost use Rattle.floor.specs.Checks.{within, among};
-ghost use Rattle.route.specs.Route.{none};
 ghost use Rattle.route.specs.Search.{best};
-ghost use Rattle.search.specs.Answers.{answered, Answers};
+ghost use Rattle.search.specs.Answers.{answer_of, result_of};
 ghost use Rattle.search.specs.Seek.{BestIn};
 ghost use Rattle.passes.specs.Docks.{DocksIn};
 ghost use Rattle.layers.specs.Table.{search_grid_of, Grid, Tidy};
@@ -20,7 +19,7 @@ ghost use Rattle.records.specs.Records.{views_of};
 ghost use Rattle.records.specs.Seen.{seen};
 ghost use Rattle.search.specs.Rows.{Searchable};
 
-use floor::{Checked, Floor, Refusal};
+use floor::{Floor, Reason, Refusal};
 pub use ground::free_rows;
 use layers::{SearchGrid, free_table, search_grid_of, table};
 use passes::{backward, docks, forward, walk};
@@ -28,44 +27,6 @@ use route::Route;
 
 // The free cells of a floor: a word a row of the largest grid.
 pub type Rows = [u32; Floor::MAX_HEIGHT as usize];
-
-// What a search finds.
-#[derive(Clone, Copy)]
-pub enum Outcome {
-    // The best route, which stands beside this.
-    Route,
-    // There is no route.
-    None,
-    // The request is refused.
-    Refused(Refusal),
-}
-
-// The answer of a search. An enum cannot hold an array, so the route stands beside the case; it is 64 zeros where there is none.
-#[derive(Clone, Copy)]
-pub struct Found {
-    pub outcome: Outcome,
-    pub route: Route,
-}
-
-// No route.
-fn none() -> Found
-    ensures { Answers result (answered none) }
-{
-    Found {
-        outcome: Outcome::None,
-        route: [0u16; records::CELLS],
-    }
-}
-
-// A refusal.
-fn refused(x: Refusal) -> Found
-    ensures { Answers result (refusal x.number x.place) }
-{
-    Found {
-        outcome: Outcome::Refused(x),
-        route: [0u16; records::CELLS],
-    }
-}
 
 // The best route from the start to any of the first `count` cells in a free table; the sets are a table to work in.
 fn seek(
@@ -75,28 +36,25 @@ fn seek(
     start: usize,
     count: usize,
     cells: docks::Cells,
-) -> Found
+) -> Option<Route>
     requires grid { Grid g × (g.horizon ≤ 63) × (start < g.cells) × DocksIn g count cells }
     requires tidy_2 { Tidy g sets.old × Tidy g table.now }
     ensures tidy { Tidy g sets.new }
     ensures best { BestIn g table.now start (among cells count) result }
 {
     if !table::member(g, table, 0, start) {
-        return none();
+        return None;
     }
     let ds = docks::hold_docks(g, table, count, cells);
     if !docks::arrives(g, table, ds, g.horizon) {
-        return none();
+        return None;
     }
     let a = forward::forward(g, sets, table, start, ds);
     if g.horizon < a {
-        return none();
+        return None;
     }
     backward::backward(g, sets, table, ds, a);
-    Found {
-        outcome: Outcome::Route,
-        route: walk::walk(g, sets, start, a),
-    }
+    Some(walk::walk(g, sets, start, a))
 }
 
 // The best route of a carrier of a checked floor against the views as they stand, in the free table that these and its free cells leave;
@@ -108,11 +66,11 @@ pub fn route_in(
     sets: &mut [u32],
     carrier: u16,
     views: &[u16],
-) -> Found
+) -> Option<Route>
     requires searchable { Searchable f free carrier views.now × Tidy (search_grid_of f) sets.old }
     requires free_table { IsFreeTable (search_grid_of f) (carrier - 1) free views.now table.now }
     ensures tidy { Tidy (search_grid_of f) sets.new }
-    ensures best { Answers result (answered (best (task_of_rows f free carrier) (views_of views.now carrier))) }
+    ensures best { answer_of result ≡ best (task_of_rows f free carrier) (views_of views.now carrier) }
 {
     let k = carrier as usize - 1;
     let start = f.starts[k] as usize;
@@ -128,9 +86,9 @@ pub fn route_in(
 }
 
 // The best route of a carrier of a checked floor, with its free cells as rows, against the views as they stand.
-fn best_against(f: Floor, free: Rows, carrier: u16, views: &[u16]) -> Found
+fn best_against(f: Floor, free: Rows, carrier: u16, views: &[u16]) -> Option<Route>
     requires { Searchable f free carrier views.now }
-    ensures { Answers result (answered (best (task_of_rows f free carrier) (views_of views.now carrier))) }
+    ensures { answer_of result ≡ best (task_of_rows f free carrier) (views_of views.now carrier) }
 {
     let mut table = table::empty();
     free_table::make(
@@ -146,57 +104,47 @@ fn best_against(f: Floor, free: Rows, carrier: u16, views: &[u16]) -> Found
 
 // The best route of a carrier of a checked floor, with its free cells as rows, against the views of the carriers above it as they are
 // seen: one that has told none stays at its start.
-pub fn best_route(f: Floor, free: Rows, carrier: u16, views: &[u16]) -> Found
+pub fn best_route(f: Floor, free: Rows, carrier: u16, views: &[u16]) -> Option<Route>
     requires { Searchable f free carrier views.now }
-    ensures { Answers result (answered (best (task_of_rows f free carrier) (seen f (views_of views.now carrier)))) }
+    ensures { answer_of result ≡ best (task_of_rows f free carrier) (seen f (views_of views.now carrier)) }
 {
     let shown = records::seen_records(f, views, carrier as usize - 1);
     best_against(f, free, carrier, &shown)
 }
 
 // 7: the floor has such a carrier.
-pub fn listed(f: Floor, carrier: u16) -> Checked
+pub fn listed(f: Floor, carrier: u16) -> Result<(), Refusal>
     ensures { verdict_of result ≡ demand (within 1 f.carriers carrier) 7 0 }
 {
-    if carrier < 1 {
-        return Checked::Refused(Refusal {
-            number: 7,
+    if carrier < 1 || f.carriers < carrier {
+        return Err(Refusal {
+            reason: Reason::Unknown,
             place: 0,
         });
     }
-    if f.carriers < carrier {
-        return Checked::Refused(Refusal {
-            number: 7,
-            place: 0,
-        });
-    }
-    Checked::Passed
+    Ok(())
 }
 
 // The refusals of a search, in their order.
-fn request(f: Floor, walls: &[u16], carrier: u16, views: &[u16]) -> Checked
+fn request(f: Floor, walls: &[u16], carrier: u16, views: &[u16]) -> Result<(), Refusal>
     ensures { verdict_of result ≡ request_of f walls.now carrier views.now }
 {
-    let checked = floor::check(f, walls);
-    let Checked::Passed = checked else {
-        return checked;
-    };
-    let shown = floor::check_length(records::SIZE * f.carriers as usize, views.len());
-    let Checked::Passed = shown else {
-        return shown;
-    };
+    floor::check(f, walls)?;
+    floor::check_length(records::SIZE * f.carriers as usize, views.len())?;
     listed(f, carrier)
 }
 
 // The search: any floor record, walls, carrier number and views. Views are 65 numbers a carrier, a tag (1 none, 2 a route, any other
 // not heard) and 64 cells, record j − 1 being carrier j's; only those of the carriers above are looked at. One that has told none stays at
 // its start.
-pub fn search(f: Floor, walls: &[u16], carrier: u16, views: &[u16]) -> Found
-    ensures { Answers result (search_of f walls.now carrier views.now) }
+pub fn search(
+    f: Floor,
+    walls: &[u16],
+    carrier: u16,
+    views: &[u16],
+) -> Result<Option<Route>, Refusal>
+    ensures { result_of result ≡ search_of f walls.now carrier views.now }
 {
-    let asked = request(f, walls, carrier, views);
-    let Checked::Refused(x) = asked else {
-        return best_route(f, free_rows(f, walls), carrier, views);
-    };
-    refused(x)
+    request(f, walls, carrier, views)?;
+    Ok(best_route(f, free_rows(f, walls), carrier, views))
 }

@@ -21,7 +21,7 @@ sheet_verdict text = form_of text then places_of (floor_at text) (walls_at text)
 unfoldable pub read_verdict : List ℕ → ℕ → Verdict
 read_verdict text lent = sheet_verdict text then long_enough (floor_at text).walls lent
 
--- The floor that reading hands back: the fresh floor with a refusal.
+-- The floor that reading hands back; with a refusal it hands back none, and the fresh floor stands here.
 unfoldable pub read_floor : List ℕ → ℕ → Floor
 read_floor text lent = when_passed (read_verdict text lent) (floor_at text) fresh_floor
 

@@ -1,248 +1,146 @@
 // What a picture has for each carrier: its words, its trace, its body at the start, its body that moves, its line in the legend.
-ghost use Rattle.std.specs.Prelude.{◌≤◌, ◌<◌};
+ghost use Rattle.std.specs.Prelude.{◌≤◌};
 
 use crate::beats;
-use crate::beats::Beat;
+use canvas::answers::Carrier;
+use canvas::page;
 use canvas::page::Page;
-use canvas::{answers, ground, page};
-use wording::{fill, put};
+use wording::Text;
 
-// The things that there are for each carrier.
-#[derive(Clone, Copy)]
-pub enum Part {
-    // Its arrival in words, for readers who hear the picture.
-    Words,
-    // Its trace, and a dot where it ends.
-    Trace,
-    // Its body at its start.
-    Still,
-    // Its body, moving.
-    Moving,
-    // Its body at its start, hatched, where it has no route.
-    Stranded,
-    // Its line in the legend.
-    Line,
-}
-
-// Puts the words of a carrier; the column behind them is returned.
-fn put_words(page: Page, m: &[u16], i: usize, out: &mut [u8], at: usize) -> usize
-    requires { i < 8 }
+// Puts the same thing of every carrier.
+pub fn put_all<F: Fn(Carrier<'_>, &mut Text<'_>)>(
+    page: Page,
+    answers: &[u16],
+    put: F,
+    out: &mut Text<'_>,
+)
+    requires { F.IsAlwaysCallable put }
 {
-    if answers::has_route(m, i) {
-        let arrival = answers::arrival(m, i, page.horizon);
-        return fill(
-            out,
-            at,
-            b"carrier %: beat %. ",
-            [i + 1, arrival, 0, 0, 0, 0],
-        );
+    for place in 0..(page.carriers as usize).min(8) {
+        let carrier = Carrier {
+            page,
+            answers,
+            place,
+        };
+        put(carrier, out);
     }
-    fill(out, at, b"carrier %: none. ", [i + 1, 0, 0, 0, 0, 0])
 }
 
-// Puts the dot at the end of a trace; the column behind it is returned.
-fn put_dot(page: Page, m: &[u16], i: usize, out: &mut [u8], at: usize) -> usize
-    requires { i < 8 }
-{
-    let c = answers::cell(m, i, beat(page.horizon));
-    fill(
-        out,
-        at,
-        b"\"/><circle class=\"f%\" cx=\"%\" cy=\"%\" r=\"5\" stroke=\"none\"/>\n",
-        [
-            i + 1,
-            page::track(page, ground::column_of(page, c), i),
-            page::track(page, ground::row_of(page, c), i),
-            0,
-            0,
-            0,
-        ],
-    )
+// Puts the arrival of a carrier in words, for readers who hear the picture.
+pub fn put_words(carrier: Carrier<'_>, out: &mut Text<'_>) {
+    let name = carrier.place + 1;
+    if carrier.has_route() {
+        out.fill(b"carrier %: beat %. ", &[name, carrier.arrival()]);
+    } else {
+        out.fill(b"carrier %: none. ", &[name]);
+    }
 }
 
-// A beat that a record has a cell for.
-fn beat(horizon: u16) -> usize
+// The last beat, of those that a record has a cell for.
+fn last_beat(carrier: Carrier<'_>) -> usize
     ensures { result ≤ 63 }
 {
-    if horizon < 63 { horizon as usize } else { 63 }
+    (carrier.page.horizon as usize).min(63)
 }
 
-// Puts the trace of a carrier that has a route, and a dot where it ends; the column behind them is returned.
-fn put_trace(page: Page, m: &[u16], i: usize, out: &mut [u8], at: usize) -> usize
-    requires { i < 8 }
-{
-    if !answers::has_route(m, i) {
-        return at;
+// Puts the trace of a carrier that has a route, and a dot where it ends.
+pub fn put_trace(carrier: Carrier<'_>, out: &mut Text<'_>) {
+    if !carrier.has_route() {
+        return;
     }
-    let last = answers::arrival(m, i, page.horizon);
-    let open = fill(
-        out,
-        at,
-        b"<polyline class=\"s%\" points=\"",
-        [i + 1, 0, 0, 0, 0, 0],
+    let name = carrier.place + 1;
+    out.fill(b"<polyline class=\"s%\" points=\"", &[name]);
+    beats::put_points(carrier, carrier.arrival(), out);
+    let c = carrier.cell(last_beat(carrier));
+    let (x, y) = carrier.page.track_of(c, carrier.place);
+    out.fill(
+        b"\"/><circle class=\"f%\" cx=\"%\" cy=\"%\" r=\"5\" stroke=\"none\"/>\n",
+        &[name, x, y],
     );
-    let points = beats::put_beats(Beat::Point, page, m, i, 0, last, out, open);
-    put_dot(page, m, i, out, points)
 }
 
-// Puts the opening of a body's group, at its start; the column behind it is returned.
-fn put_start(page: Page, m: &[u16], i: usize, out: &mut [u8], at: usize) -> usize
-    requires { i < 8 }
-{
-    let c = answers::cell(m, i, 0);
-    let x = page::middle(page, ground::column_of(page, c));
-    let y = page::middle(page, ground::row_of(page, c));
-    fill(
-        out,
-        at,
-        b"<g transform=\"translate(% %)\">",
-        [x, y, 0, 0, 0, 0],
-    )
+// Puts the opening of a body's group, at its start.
+fn put_start(carrier: Carrier<'_>, out: &mut Text<'_>) {
+    let (x, y) = carrier.page.middle_of(carrier.cell(0));
+    out.fill(b"<g transform=\"translate(% %)\">", &[x, y]);
 }
 
-// Puts a body and the end of its group; the column behind them is returned.
-fn put_body(page: Page, i: usize, out: &mut [u8], at: usize) -> usize
-    requires { i < 8 }
-{
-    if page.small {
-        return fill(
-            out,
-            at,
+// Puts a body and the end of its group.
+fn put_body(carrier: Carrier<'_>, out: &mut Text<'_>) {
+    let name = carrier.place + 1;
+    if carrier.page.small {
+        out.fill(
             b"<circle class=\"f%\" r=\"9\" stroke=\"#222\"/><text class=\"t%\" y=\"4\">%</text></g>\n",
-            [i + 1, i + 1, i + 1, 0, 0, 0],
+            &[name, name, name],
+        );
+    } else {
+        out.fill(
+            b"<circle class=\"f%\" r=\"14\" stroke=\"#222\"/><text class=\"t%\" y=\"5\">%</text></g>\n",
+            &[name, name, name],
         );
     }
-    fill(
-        out,
-        at,
-        b"<circle class=\"f%\" r=\"14\" stroke=\"#222\"/><text class=\"t%\" y=\"5\">%</text></g>\n",
-        [i + 1, i + 1, i + 1, 0, 0, 0],
-    )
 }
 
-// Puts a carrier that has a route, at its start; the column behind it is returned.
-fn put_still(page: Page, m: &[u16], i: usize, out: &mut [u8], at: usize) -> usize
-    requires { i < 8 }
-{
-    if !answers::has_route(m, i) {
-        return at;
+// Puts the body of a carrier that has a route, at its start.
+pub fn put_still(carrier: Carrier<'_>, out: &mut Text<'_>) {
+    if carrier.has_route() {
+        put_start(carrier, out);
+        put_body(carrier, out);
     }
-    let start = put_start(page, m, i, out, at);
-    put_body(page, i, out, start)
 }
 
-// Puts the movement of a carrier: its places at all beats, the last two more times; the column behind it is returned.
-fn put_movement(page: Page, m: &[u16], i: usize, out: &mut [u8], at: usize) -> usize
-    requires { i < 8 }
-{
-    let c = answers::cell(m, i, 0);
-    let x = page::middle(page, ground::column_of(page, c));
-    let y = page::middle(page, ground::row_of(page, c));
-    let last = beat(page.horizon);
-    let first = fill(
-        out,
-        at,
+// Puts the movement of a carrier: its places at all beats, the last two more times.
+fn put_movement(carrier: Carrier<'_>, out: &mut Text<'_>) {
+    let page = carrier.page;
+    let (x, y) = page.middle_of(carrier.cell(0));
+    let last = last_beat(carrier);
+    out.fill(
         b"<animateTransform attributeName=\"transform\" type=\"translate\" dur=\"%ms\" repeatCount=\"indefinite\" values=\"% %",
-        [page::duration(page), x, y, 0, 0, 0],
+        &[page.duration(), x, y],
     );
-    let places = beats::put_beats(Beat::Place, page, m, i, 1, last, out, first);
-    let again = beats::put_beats(Beat::Place, page, m, i, last, last, out, places);
-    let end = beats::put_beats(Beat::Place, page, m, i, last, last, out, again);
-    put(out, end, b"\"/>")
+    beats::put_places(carrier, 1, last, out);
+    beats::put_places(carrier, last, last, out);
+    beats::put_places(carrier, last, last, out);
+    out.put(b"\"/>");
 }
 
-// Puts a carrier that has a route, moving; the column behind it is returned.
-fn put_moving(page: Page, m: &[u16], i: usize, out: &mut [u8], at: usize) -> usize
-    requires { i < 8 }
-{
-    if !answers::has_route(m, i) {
-        return at;
+// Puts the body of a carrier that has a route, moving.
+pub fn put_moving(carrier: Carrier<'_>, out: &mut Text<'_>) {
+    if carrier.has_route() {
+        put_start(carrier, out);
+        put_movement(carrier, out);
+        put_body(carrier, out);
     }
-    let start = put_start(page, m, i, out, at);
-    let movement = put_movement(page, m, i, out, start);
-    put_body(page, i, out, movement)
 }
 
-// Puts a carrier that has no route, at its start and hatched; the column behind it is returned.
-fn put_stranded(page: Page, m: &[u16], i: usize, out: &mut [u8], at: usize) -> usize
-    requires { i < 8 }
-{
-    if answers::has_route(m, i) {
-        return at;
+// Puts the body of a carrier that has no route, at its start and hatched.
+pub fn put_stranded(carrier: Carrier<'_>, out: &mut Text<'_>) {
+    if carrier.has_route() {
+        return;
     }
-    let c = answers::cell(m, i, 0);
-    let s = page::side(page);
-    let hatched = fill(
-        out,
-        at,
+    let page = carrier.page;
+    let (x, y) = page.corner_of(carrier.cell(0));
+    let side = page.side();
+    out.fill(
         b"<rect x=\"%\" y=\"%\" width=\"%\" height=\"%\" fill=\"url(#hatch)\"/>\n",
-        [
-            page::edge(page, ground::column_of(page, c)),
-            page::edge(page, ground::row_of(page, c)),
-            s,
-            s,
-            0,
-            0,
-        ],
+        &[x, y, side, side],
     );
-    let start = put_start(page, m, i, out, hatched);
-    put_body(page, i, out, start)
+    put_start(carrier, out);
+    put_body(carrier, out);
 }
 
-// Puts the line of a carrier in the legend; the column behind it is returned.
-fn put_line(page: Page, m: &[u16], i: usize, out: &mut [u8], at: usize) -> usize
-    requires { i < 8 }
-{
-    let x = page::legend(page);
-    let y = page::legend_line(i + 1);
-    let mark = fill(
-        out,
-        at,
+// Puts the line of a carrier in the legend.
+pub fn put_line(carrier: Carrier<'_>, out: &mut Text<'_>) {
+    let name = carrier.place + 1;
+    let x = carrier.page.legend();
+    let y = page::legend_line(name);
+    out.fill(
         b"<circle class=\"f%\" cx=\"%\" cy=\"%\" r=\"9\" stroke=\"#222\"/><text x=\"%\" y=\"%\">",
-        [i + 1, x + 10, y - 5, x + 28, y, 0],
+        &[name, x + 10, y - 5, x + 28, y],
     );
-    if answers::has_route(m, i) {
-        let arrival = answers::arrival(m, i, page.horizon);
-        return fill(
-            out,
-            mark,
-            b"carrier %: beat %</text>\n",
-            [i + 1, arrival, 0, 0, 0, 0],
-        );
+    if carrier.has_route() {
+        out.fill(b"carrier %: beat %</text>\n", &[name, carrier.arrival()]);
+    } else {
+        out.fill(b"carrier %: none</text>\n", &[name]);
     }
-    fill(
-        out,
-        mark,
-        b"carrier %: none</text>\n",
-        [i + 1, 0, 0, 0, 0, 0],
-    )
-}
-
-// Puts the thing of carrier i, counted from 0; the column behind it is returned.
-fn put_part(what: Part, page: Page, m: &[u16], i: usize, out: &mut [u8], at: usize) -> usize
-    requires { i < 8 }
-{
-    match what {
-        Part::Words => put_words(page, m, i, out, at),
-        Part::Trace => put_trace(page, m, i, out, at),
-        Part::Still => put_still(page, m, i, out, at),
-        Part::Moving => put_moving(page, m, i, out, at),
-        Part::Stranded => put_stranded(page, m, i, out, at),
-        Part::Line => put_line(page, m, i, out, at),
-    }
-}
-
-// Puts a thing of every carrier; the column behind them is returned.
-pub fn put_parts(what: Part, page: Page, m: &[u16], out: &mut [u8], at: usize) -> usize {
-    let n = page.carriers as usize;
-    let mut end = at;
-    let mut i: usize = 0;
-    while i < n {
-        if 8 <= i {
-            return end;
-        }
-        end = put_part(what, page, m, i, out, end);
-        i += 1;
-    }
-    end
 }

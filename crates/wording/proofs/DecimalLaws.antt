@@ -5,9 +5,13 @@ use mathlib.Core.List.{List}
 use mathlib.Core.Path.{◌≡◌, refl, sym, ◌∙◌, ap}
 use lib.ListN.{length, take, drop, length-drop}
 use lib.Seq.{take_all, length-take-le}
+use Rattle.std.proofs.lemmas.Bool.{lt-ltb, le-ltb}
 use Rattle.io.specs.Counts.{IsPrefixLen}
 use Rattle.reporting.specs.Put.{PutAt}
 use Rattle.wording.specs.Decimal.{decimal, five_digits, first_digit}
+
+-- What a test of `<` answers.
+pub ruleset tests_of_lt = (lt-ltb, le-ltb)
 
 -- The digits that are written, put.
 pub decimal_put : (n k : ℕ) (digits old new : List ℕ) (at next : ℕ) → digits ≡ five_digits n → k ≡ first_digit n

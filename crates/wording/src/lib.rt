@@ -9,25 +9,15 @@ ghost use Rattle.wording.specs.Decimal.{decimal, five_digits, first_digit};
 
 use reporting::put_bytes;
 
-// Puts bytes from a column on; the column behind them is returned, and the same column where they do not fit.
-pub fn put(out: &mut [u8], at: usize, bytes: &[u8]) -> usize {
-    if out.len() < at {
-        return at;
-    }
-    if out.len() - at < bytes.len() {
-        return at;
-    }
-    put_bytes(out, at, bytes)
-}
-
 // The last digit of a number.
 fn digit(n: u32) -> u8
     ensures { result ≡ 48 + n % 10 }
 {
-    (48 + n % 10) as u8
+    b'0' + (n % 10) as u8
 }
 
 // The last five digits of a number, with zeros in front.
+#[tactic(auto, unfolding(crate::specs::Decimal::five_digits))]
 fn five_digits(n: u32) -> [u8; 5]
     ensures { (result ≡ five_digits n) × (5 ≡ length result) }
 {
@@ -41,22 +31,17 @@ fn five_digits(n: u32) -> [u8; 5]
 }
 
 // The place among five digits of the first that is written.
+#[tactic(auto, using(crate::proofs::DecimalLaws::tests_of_lt), unfolding(crate::specs::Decimal::first_digit))]
 fn first_digit(n: u32) -> usize
     ensures { (result ≡ first_digit n) × (result ≤ 4) }
 {
-    if n < 10 {
-        return 4;
+    match n {
+        0..=9 => 4,
+        10..=99 => 3,
+        100..=999 => 2,
+        1000..=9999 => 1,
+        _ => 0,
     }
-    if n < 100 {
-        return 3;
-    }
-    if n < 1000 {
-        return 2;
-    }
-    if n < 10000 {
-        return 1;
-    }
-    0
 }
 
 // Puts a number below 100,000 in decimal digits; the column behind it is returned.
@@ -69,74 +54,60 @@ pub fn put_decimal(out: &mut [u8], at: usize, n: u32) -> usize
     put_bytes(out, at, &digits[k..])
 }
 
-// Puts a number; the column behind it is returned, and the same column where it does not fit or has more than five digits.
-pub fn put_number(out: &mut [u8], at: usize, n: usize) -> usize {
-    if 99999 < n {
-        return at;
-    }
-    if out.len() < 5 {
-        return at;
-    }
-    if out.len() - 5 < at {
-        return at;
-    }
-    put_decimal(out, at, n as u32)
-}
-
 // The number of bytes in front of a memory that a number counts, all where it counts more.
 pub fn within(n: usize, out: &[u8]) -> usize
     ensures { IsPrefixLen result out.now }
 {
-    if out.len() < n {
-        return out.len();
-    }
-    n
+    n.min(out.len())
 }
 
-// Numbers to write into a pattern, in their order.
-pub type Numbers = [usize; 6];
-
-// Number k of those; 0 past them.
-fn pick(numbers: Numbers, k: usize) -> usize {
-    if 6 <= k {
-        return 0;
-    }
-    numbers[k]
+// A text that grows in a lent memory: what is put stands from a column on, and the column moves behind it.
+#[derive(Drop)]
+pub struct Text<'a> {
+    pub bytes: &'a mut [u8],
+    pub at: usize,
 }
 
-// Puts byte k of a pattern, or the number in its place where it is `%`; the column behind it is returned.
-fn put_piece(out: &mut [u8], at: usize, pattern: &[u8], k: usize, n: usize) -> usize
-    requires { k < length pattern.now }
-{
-    if pattern[k] == 37 {
-        return put_number(out, at, n);
+impl<'a> Text<'a> {
+    // An empty text, in front of a memory.
+    pub fn new(bytes: &'a mut [u8]) -> Text<'a> {
+        Text { bytes, at: 0 }
     }
-    put(out, at, &[pattern[k]])
-}
 
-// The numbers that are written behind a byte of a pattern, by those before it.
-fn written_behind(written: usize, byte: u8) -> usize
-    requires { written ≤ 4096 }
-    ensures { result ≤ written + 1 }
-{
-    if byte == 37 {
-        return written + 1;
-    }
-    written
-}
-
-// Puts a pattern of at most 4,096 bytes with the numbers in the places of its `%`; the column behind it is returned.
-pub fn fill(out: &mut [u8], at: usize, pattern: &[u8], numbers: Numbers) -> usize {
-    let mut end = at;
-    let mut written: usize = 0;
-    let mut k: usize = 0;
-    while k < pattern.len() {
-        if 4096 <= k {
-            return end;
+    // Puts bytes, if they fit.
+    pub fn put(&mut self, bytes: &[u8]) {
+        let length = self.bytes.len();
+        if self.at <= length && bytes.len() <= length - self.at {
+            self.at = put_bytes(self.bytes, self.at, bytes);
         }
-        end = put_piece(out, end, pattern, k, pick(numbers, written));
-        written = written_behind(written, pattern[k]);
-        k += 1;
     }
-    end
+
+    // Puts a number, if it has at most five digits and there is room for five.
+    pub fn put_number(&mut self, n: usize) {
+        let length = self.bytes.len();
+        if n <= 99999 && 5 <= length && self.at <= length - 5 {
+            self.at = put_decimal(self.bytes, self.at, n as u32);
+        }
+    }
+
+    // Puts a pattern, of which 4,096 bytes at most are read, with numbers in the places of its `%`, and 0 where there are no more numbers.
+    pub fn fill(&mut self, pattern: &[u8], numbers: &[usize]) {
+        let mut left = numbers.iter();
+        for &byte in pattern.iter().take(4096) {
+            if byte == b'%' {
+                self.put_number(*left.next().unwrap_or(&0));
+            } else {
+                self.put(&[byte]);
+            }
+        }
+    }
+
+    // Puts how many things there are, by a sentence for one and a pattern for several.
+    pub fn put_count(&mut self, n: usize, one: &[u8], several: &[u8]) {
+        if n == 1 {
+            self.put(one);
+        } else {
+            self.fill(several, &[n]);
+        }
+    }
 }

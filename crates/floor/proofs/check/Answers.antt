@@ -1,21 +1,21 @@
 -- `floor::check` meets its contract: a chain of three checks; a passed check 2 gives the bounds that the last requires.
+use Rattle.floor.proofs.AnswersLaws.{chain, met_passed}
 use Rattle.floor.proofs.LimitsLaws.{length_passed, limits_passed}
-use Rattle.floor.proofs.AnswersLaws.{chain, passes}
 use Rattle.floor.specs.Checks.{check_of, lent_of}
 use Rattle.floor.proofs.check.Goals as goal
 
-pub returns-in_default : goal.returns-in_default
+pub returns-in_err-limits : goal.returns-in_err-limits
 unfolding check_of lent_of
-returns-in_default c = search chain depth 7
+returns-in_err-limits c = search (chain, c.in_err-limits.ensures) depth 7
 
-pub returns-in_default-lent : goal.returns-in_default-lent
+pub returns-in_err-check_length : goal.returns-in_err-check_length
 unfolding check_of lent_of
-returns-in_default-lent c = search chain depth 7
+returns-in_err-check_length c = search (chain, c.in_ok-limits.ensures, c.in_err-check_length.ensures) depth 7
 
 pub places-requires : goal.places-requires
 places-requires c =
-    let l = limits_passed _ (passes c.limits-limited.ensures c.in-Passed.is) in
-    let w = length_passed _ _ (passes c.check_length-lent.ensures c.in-Passed-lent.is) in record {
+    let l = limits_passed _ (met_passed c.in_ok-limits.ensures) in
+    let w = length_passed _ _ (met_passed c.in_ok-check_length.ensures) in record {
       width_bound = (l.width.1, l.height.1);
       carriers_bound = l.carriers.1;
       walls_in_bounds = w;
@@ -23,4 +23,4 @@ places-requires c =
 
 pub returns : goal.returns
 unfolding check_of lent_of
-returns c = search chain depth 7
+returns c = search (chain, c.in_ok-limits.ensures, c.in_ok-check_length.ensures) depth 7

@@ -1,5 +1,5 @@
 -- `planner::plan_all` meets its contract. The loop's invariant: the answers of the carriers passed stand in front, are shown as they are
--- seen, and the free table is what all but the last of them leave. The measure is what is left of the carriers. Assumes nothing.
+-- seen, and the free table is what all but the last of them leave. Assumes nothing.
 use Prim.Native.Nat.{ℕ}
 use native.Mathlib.Omega.{arith}
 use mathlib.Core.List.{[]}
@@ -46,7 +46,6 @@ make-requires c =
 
 pub loop-i-init : goal.loop-i-init
 loop-i-init c = (
-  search rules,
   plan_start _ _ c.requires.horizon _,
   rw c.search_grid_of.ensures at c.make.ensures,
   ap length c.blank-shown.ensures ∙ length-replicate {A = ℕ} 520 0,
@@ -56,25 +55,25 @@ loop-i-init c = (
 
 pub slice_bounds-plan_one-end : goal.slice_bounds-plan_one-end
 slice_bounds-plan_one-end c =
-    sym c.loop-i.invariant.2.tidy.long
+    sym c.loop-i.invariant.1.tidy.long
 
 pub slice_bounds-plan_one-end-in-loop-i : goal.slice_bounds-plan_one-end-in-loop-i
 slice_bounds-plan_one-end-in-loop-i c =
-    sym c.loop-i.invariant.5.long
+    sym c.loop-i.invariant.4.long
 
 pub slice_bounds-plan_one-end-in-loop-i-2 : goal.slice_bounds-plan_one-end-in-loop-i-2
 slice_bounds-plan_one-end-in-loop-i-2 c =
-    sym c.loop-i.invariant.3
+    sym c.loop-i.invariant.2
 
 pub plan_one-requires : goal.plan_one-requires
 plan_one-requires c =
     let p = c.requires in
     let i = c.loop-i.i in
     let inv = c.loop-i.invariant in
-    let size = plan_keeps _ _ p.horizon i _ _ (omega (arith, p.lent)) inv.1 in record {
-      i_bound = (omega (arith, p.few), omega (arith, p.lent), omega (arith, p.few, inv.3));
-      searchable = (p.searchable i _ c.loop-i-test.true (omega (arith, p.few, inv.3)), inv.4);
-      free_table = (inv.2, inv.5);
+    let size = plan_keeps _ _ p.horizon i _ _ (omega (arith, p.lent)) inv.0 in record {
+      i_bound = (omega (arith, p.few), omega (arith, p.lent), omega (arith, p.few, inv.2));
+      searchable = (p.searchable i _ c.loop-i-test.true (omega (arith, p.few, inv.2)), inv.3);
+      free_table = (inv.1, inv.4);
     }
 
 pub loop-i-preserved : goal.loop-i-preserved
@@ -82,8 +81,7 @@ unfolding with_answer
 loop-i-preserved c =
     let p = c.requires in
     let made = c.plan_one.ensures in (
-      search rules,
-      plan_more _ _ p.horizon c.loop-i.i _ _ _ (omega (arith, p.lent)) c.loop-i.invariant.1 made.answers,
+      plan_more _ _ p.horizon c.loop-i.i _ _ _ (omega (arith, p.lent)) c.loop-i.invariant.0 made.answers,
       table_above made.table,
       search rules,
       made.shown,
@@ -93,9 +91,9 @@ loop-i-preserved c =
 pub shape_of-answers : goal.shape_of-answers
 shape_of-answers c =
     let p = c.requires in
-    plan_keeps _ _ p.horizon c.loop-i.i _ _ (omega (arith, p.lent)) c.loop-i.invariant.1
+    plan_keeps _ _ p.horizon c.loop-i.i _ _ (omega (arith, p.lent)) c.loop-i.invariant.0
 
 pub returns : goal.returns
 returns c =
     let p = c.requires in
-    plan_end _ _ p.horizon c.loop-i.i _ _ _ c.loop-i.invariant.0 c.loop-i-test.false c.loop-i.invariant.1
+    plan_end _ _ p.horizon c.loop-i.i _ _ _ (omega arith) c.loop-i-test.false c.loop-i.invariant.0

@@ -1,4 +1,4 @@
-use Prim.Native.Nat.{◌-◌, ◌≤◌}
+use Prim.Native.Nat.{◌-◌}
 use mathlib.Core.Path.{◌≡◌}
 use lib.ListN.{length}
 use Rattle.route.specs.Sequential.{sequential}
@@ -11,8 +11,5 @@ use Rattle.planner.proofs.plan_all.Given as goal
 
 abbrev pub invariant-loop-i : goal.invariant-loop-i
 invariant-loop-i l =
-    (l.i ≤ l.n) × (l.answers ≡ stored (sequential (respond_with l.f l.free) l.i) l.initial.answers) × IsFreeTable (search_grid_of l.f) (l.i - 1) l.free l.shown l.table
+    (l.answers ≡ stored (sequential (respond_with l.f l.free) l.i) l.initial.answers) × IsFreeTable (search_grid_of l.f) (l.i - 1) l.free l.shown l.table
     × (length l.shown ≡ 520) × (records l.shown l.i ≡ seen l.f (records l.answers l.i)) × Tidy (search_grid_of l.f) l.sets
-
-abbrev pub decreases-loop-i : goal.decreases-loop-i
-decreases-loop-i l = l.n - l.i

@@ -1,11 +1,9 @@
 -- `planner::plan_one` meets its contract: what the search found, stored with its tag, is the record of its answer; as it is seen it stands
 -- beside the others, and the free table without the view just above is what all views above leave. Assumes nothing.
-use Prim.Native.Nat.{ℕ}
 use native.Mathlib.Omega.{arith}
-use mathlib.Core.List.{◌∷◌}
 use mathlib.Core.Path.{◌∙◌, ap}
+use Rattle.records.specs.Records.{record_of}
 use Rattle.records.proofs.SeenLaws.{seen_step}
-use Rattle.planner.proofs.RecordLaws.{found_record}
 use Rattle.planner.proofs.PlanLaws.{shown_stored, still_long, still_shows}
 use Rattle.planner.proofs.TableLaws.{table_above, table_stored}
 use Rattle.planner.proofs.plan_one.Goals as goal
@@ -36,8 +34,7 @@ returns c =
     let p = c.requires in
     let able = p.searchable.0 in
     let before = p.searchable.1 in
-    let rec = ap (λ (tag : ℕ). tag ∷ found.result.route) c.tag_of.ensures
-    ∙ found_record found.result _ found.ensures.best in
+    let rec = c.told-tag.ensures ∙ ap record_of found.ensures.best in
     let e = shown_stored _ _ c.args.i _ _ _ able.horizon p.i_bound.1 before _ rec c.store.ensures in
     let long = still_long _ _ c.args.i _ _ _ able.horizon p.i_bound.1 before e in
     let shows = still_shows _ _ c.args.i _ _ _ able.horizon p.i_bound.1 before e in record {

@@ -1,28 +1,26 @@
 -- `printing::print_read` meets its contract: memory too short is as it was; otherwise the text is put.
-use Rattle.printing.specs.Print.{printed_outcome}
 use mathlib.Core.Path.{sym}
 use lib.Seq.{length-take-le}
+use Rattle.floor.specs.Answers.{outcome_by}
+use Rattle.floor.proofs.AnswersLaws.{met_passed}
+use Rattle.floor.proofs.LimitsLaws.{length_passed}
 use Rattle.printing.specs.Put.{FloorPut}
-use Rattle.printing.proofs.PrintLaws.{text_short, text_fits}
-use native.Mathlib.Omega.{arith}
+use Rattle.printing.proofs.PrintLaws.{short_met, text_fits}
 use Rattle.printing.proofs.print_read.Goals as goal
 
-pub returns-then-out-text_length : goal.returns-then-out-text_length
-unfolding printed_outcome FloorPut
-returns-then-out-text_length c = text_short _ _ _ _ _ (omega (arith, c.if-out-text_length.true, c.text_length.ensures))
+pub returns-in_err-check_length : goal.returns-in_err-check_length
+unfolding FloorPut
+returns-in_err-check_length c =
+    short_met _ _ _ _ _ (rw c.text_length.ensures at c.in_err-check_length.ensures) c.from_residual.ensures.1
+
+pub put_routes-requires-clause-f_in_bounds : goal.put_routes-requires-clause-f_in_bounds
+put_routes-requires-clause-f_in_bounds c =
+    length_passed _ _ (met_passed (rw c.text_length.ensures at c.in_ok-check_length.ensures))
 
 pub slice_bounds-put_routes-end : goal.slice_bounds-put_routes-end
-slice_bounds-put_routes-end c =
-    sym (length-take-le _ _ c.requires.walls_in_bounds)
-
-pub put_routes-requires : goal.put_routes-requires
-put_routes-requires c = record {
-  walls_value = c.requires.walls_value;
-  f_in_bounds = omega (arith, c.if-out-text_length.false, c.text_length.ensures);
-}
+slice_bounds-put_routes-end c = sym (length-take-le _ _ c.requires.walls_in_bounds)
 
 pub returns : goal.returns
-unfolding printed_outcome FloorPut
+unfolding outcome_by FloorPut
 returns c =
-    text_fits _ _ _ _ _ _ _ (omega (arith, c.if-out-text_length.false, c.text_length.ensures))
-    c.put_routes.ensures
+    text_fits _ _ _ _ _ _ _ (length_passed _ _ (met_passed (rw c.text_length.ensures at c.in_ok-check_length.ensures))) c.put_routes.ensures

@@ -1,22 +1,24 @@
--- `printing::routes` meets its contract: the reader's verdict decides between the routes and the refusal's line.
-use Rattle.printing.proofs.PrintLaws.{was_read, was_refused, routes_accepted, routes_refused}
+-- `printing::routes` meets its contract: the reader's answer decides between the routes and the refusal's line.
+use Rattle.printing.proofs.PrintLaws.{WasRead, was_read, was_refused, routes_accepted, routes_refused}
 use Rattle.printing.proofs.routes.Goals as goal
+use Rattle.printing.proofs.routes.Goals.{In-Ok}
+
+read : (c : In-Ok) → WasRead c.args.text.now c.in-Ok.f c.read.new.walls
+read c = was_read _ _ _ _ c.no_walls-walls.ensures (c.read.ensures.answers, (c.read.ensures.returns, c.read.ensures.stores)) c.in-Ok.is
 
 pub print_read-requires : goal.print_read-requires
 print_read-requires c =
-    let told = c.in_default.is in
-    let w = was_read _ _ _ _ c.no_walls-walls.ensures
-    (c.read-reading.ensures.answers, (c.read-reading.ensures.returns, c.read-reading.ensures.stores)) told in record {
+    let w = read (goal.at.print_read-requires c).In-Ok in record {
       walls_value = w.checked;
       walls_in_bounds = w.lent;
     }
 
-pub returns-in_default : goal.returns-in_default
-returns-in_default c =
-    let both = routes_accepted _ _ _ _ _ _ (search was_read) c.print_read.ensures in
+pub returns-in-Ok : goal.returns-in-Ok
+returns-in-Ok c =
+    let both = routes_accepted _ _ _ _ _ _ (read (goal.at.returns-in-Ok c).In-Ok) c.print_read.ensures in
     record { says = both.0; stores = both.1 }
 
-pub returns : goal.returns
-returns c =
-    let both = routes_refused _ _ _ _ _ _ (search was_refused) c.print_refusal.ensures in
+pub returns-in-Err : goal.returns-in-Err
+returns-in-Err c =
+    let both = routes_refused _ _ _ _ _ _ (was_refused _ _ c.no_walls-walls.ensures c.read.ensures.answers c.in-Err.is) c.print_refusal.ensures in
     record { says = both.0; stores = both.1 }

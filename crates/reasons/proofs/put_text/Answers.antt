@@ -3,7 +3,7 @@ use Rattle.reasons.proofs.put_text.Goals as goal
 
 pub returns-then-place-text : goal.returns-then-place-text
 returns-then-place-text c =
-    record { counted = c.within.ensures; placed = λ h. absurd (h (c.if-number-eq1.true, c.if-place-text.true)) }
+    record { counted = c.put_end.ensures; placed = λ h. absurd (h (c.if-number-eq1.true, c.if-place-text.true)) }
 
 pub returns : goal.returns
 returns c =

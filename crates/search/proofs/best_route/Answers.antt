@@ -1,8 +1,7 @@
 -- `search::best_route` meets its contract: the records as they are seen show the views as they are seen. Assumes nothing.
 use Rattle.search.proofs.SearchLaws.{other_views, shown_best}
-use Rattle.search.proofs.AnswerLaws.{says_same}
 use native.Mathlib.Omega.{arith}
-use mathlib.Core.Path.{sym}
+use mathlib.Core.Path.{sym, ◌∙◌}
 use Rattle.search.proofs.best_route.Goals as goal
 
 pub seen_records-shown-requires : goal.seen_records-shown-requires
@@ -21,4 +20,4 @@ best_against-requires c =
 
 pub returns : goal.returns
 returns c =
-    says_same c.best_against.ensures (shown_best _ _ _ _ _ c.seen_records-shown.ensures.1)
+    c.best_against.ensures ∙ shown_best _ _ _ _ _ c.seen_records-shown.ensures.1

@@ -1,22 +1,16 @@
 -- `search::request` meets its contract: a chain of three checks.
 use Rattle.search.specs.Search.{request_of}
-use Rattle.floor.proofs.AnswersLaws.{then_next, ends_at}
+use Rattle.floor.proofs.AnswersLaws.{chain}
 use Rattle.search.proofs.request.Goals as goal
 
-pub returns-in_default : goal.returns-in_default
+pub returns-in_err-check : goal.returns-in_err-check
 unfolding request_of
-returns-in_default c =
-    ends_at _ c.check-checked.ensures c.in_default.is
+returns-in_err-check c = search (chain, c.in_err-check.ensures) depth 7
 
-pub returns-in_default-shown : goal.returns-in_default-shown
+pub returns-in_err-check_length : goal.returns-in_err-check_length
 unfolding request_of
-returns-in_default-shown c =
-    then_next c.check-checked.ensures c.in-Passed.is
-    (ends_at _ c.check_length-shown.ensures c.in_default-shown.is)
+returns-in_err-check_length c = search (chain, c.in_ok-check.ensures, c.in_err-check_length.ensures) depth 7
 
 pub returns : goal.returns
 unfolding request_of
-returns c =
-    then_next c.check-checked.ensures c.in-Passed.is
-    (then_next c.check_length-shown.ensures c.in-Passed-shown.is
-    c.listed.ensures)
+returns c = search (chain, c.in_ok-check.ensures, c.in_ok-check_length.ensures) depth 7

@@ -4,9 +4,8 @@ use mathlib.Core.Path.{sym, ap, ◌∙◌}
 use borrow.Author.Tests.{not-true, not-false}
 use native.Mathlib.Omega.{arith}
 use Rattle.passes.specs.Docks.{held_docks}
+use Rattle.route.specs.Route.{route}
 use Rattle.passes.proofs.EndsLaws.{holdable}
-use Rattle.search.specs.Answers.{answered}
-use Rattle.search.proofs.AnswerLaws.{says_same, says_route}
 use Rattle.search.proofs.SeekLaws.{start_shut, docks_shut, never, walk_best}
 use native.Mathlib.Omega.{arith}
 use Rattle.search.proofs.seek.Goals as goal
@@ -21,8 +20,7 @@ returns-then-not-member c =
     let p = c.requires in
     let e = sym c.member.ensures ∙ not-true _ c.if-not-member.true-raw in record {
       tidy = p.tidy_2.0;
-      best = λ free vs h. says_same c.none.ensures
-          (ap answered (sym (start_shut _ _ _ _ _ free vs h p.grid.1 p.grid.0.thin p.grid.3.few e)));
+      best = λ free vs h. sym (start_shut _ _ _ _ _ free vs h p.grid.1 p.grid.0.thin p.grid.3.few e);
     }
 
 pub hold_docks-ds-requires : goal.hold_docks-ds-requires
@@ -42,8 +40,7 @@ returns-then-not-arrives c =
     let d = c.hold_docks-ds.ensures in
     let e = sym c.arrives.ensures ∙ not-true _ c.if-not-arrives.true-raw in record {
       tidy = p.tidy_2.0;
-      best = λ free vs h. says_same c.none-then-not-arrives.ensures
-          (ap answered (sym (docks_shut _ _ _ _ _ free vs h p.grid.1 p.grid.0.thin p.grid.3.few (rw d at e))));
+      best = λ free vs h. sym (docks_shut _ _ _ _ _ free vs h p.grid.1 p.grid.0.thin p.grid.3.few (rw d at e));
     }
 
 pub forward-a-requires : goal.forward-a-requires
@@ -68,9 +65,9 @@ returns-then-g-a c =
     let r = f.reached c.args.g.horizon (omega arith) (omega arith) in
     let e = sym c.member.ensures ∙ not-false _ c.if-not-member.false-raw in record {
       tidy = r.tidy;
-      best = λ free vs h. says_same c.none-then-g-a.ensures (ap answered (sym
+      best = λ free vs h. sym
           (never _ _ _ _ _ free vs h p.grid.1 p.grid.0.thin p.grid.3.few _ _ (omega arith) r e _ (omega arith)
-          (rw c.hold_docks-ds.ensures at f.found) l)));
+          (rw c.hold_docks-ds.ensures at f.found) l);
     }
 
 pub backward-requires : goal.backward-requires
@@ -101,7 +98,6 @@ returns c =
     let d = c.hold_docks-ds.ensures in
     let b = c.backward.ensures in record {
       tidy = b.tidy;
-      best = λ free vs h. says_route
-          (walk_best _ _ _ _ _ free vs h p.grid.1 p.grid.0.thin p.grid.3.few _ _ l r e _ (rw d at f.found) (rw d at b))
-          c.walk.ensures;
+      best = λ free vs h. ap route c.walk.ensures
+          ∙ sym (walk_best _ _ _ _ _ free vs h p.grid.1 p.grid.0.thin p.grid.3.few _ _ l r e _ (rw d at f.found) (rw d at b));
     }

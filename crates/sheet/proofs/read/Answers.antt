@@ -1,56 +1,46 @@
 -- `sheet::read` meets its contract: a refusal leaves all as it was; a pass hands back the floor and stores its walls.
-use Rattle.laws.proofs.VerdictLaws.{when_passed_lem, when_refused}
-use Rattle.sheet.proofs.ReadLaws.{read_tells, own_floor, own_then_length, refused_reading}
+use Rattle.floor.proofs.AnswersLaws.{met_passed, written_next, written_end}
+use Rattle.fields.proofs.ReachedLaws.{says, says_last, says_value, said_refusal, refuses_first}
+use Rattle.sheet.proofs.ReadLaws.{read_tells, length_left}
 use Rattle.sheet.specs.Read.{read_verdict, read_floor, read_walls}
-use Rattle.floor.proofs.AnswersLaws.{refuses, passes, ends_at}
-use Rattle.floor.specs.Answers.{verdict_of}
 use Rattle.sheet.proofs.FormLaws.{walls_read}
 use Rattle.sheet.proofs.SheetText.{walls_there}
-use mathlib.Core.Path.{◌∙◌, ap, sym}
+use mathlib.Core.Path.{refl}
+use Rattle.floor.specs.declared.Floor.{Floor}
 use Rattle.sheet.proofs.read.Goals as goal
 
-pub returns-in_default : goal.returns-in_default
-unfolding read_floor read_walls read_verdict
-returns-in_default c =
-    let told = ends_at _ c.read_own-reading.ensures.answers c.in_default.is in
-    let no = refuses told c.in_default.is in
-    let back = refused_reading _ _ told no c.refused.ensures in record {
-      answers = back.0;
-      returns = back.1;
-      stores = sym (when_refused _ no);
-    }
+pub returns-in_err-f-clause-answers : goal.returns-in_err-f-clause-answers
+unfolding read_verdict
+returns-in_err-f-clause-answers c = search (says, c.in_err-f.ensures.answers) depth 7
 
-pub returns-in_default-length : goal.returns-in_default-length
-unfolding read_floor read_walls read_verdict
-returns-in_default-length c =
-    let own = c.read_own-reading.ensures in
-    let yes = c.in-Passed.is in
-    let told = own_then_length _ _ _ _ own.answers own.returns yes c.check_length-length.ensures in
-    let no = refuses told c.in_default-length.is in
-    let back = refused_reading _ _ told no c.refused-in_default-length.ensures in record {
-      answers = back.0;
-      returns = back.1;
-      stores = sym (when_refused _ no);
-    }
+pub returns-in_err-f-clause-stores : goal.returns-in_err-f-clause-stores
+unfolding read_verdict read_walls
+returns-in_err-f-clause-stores c = written_end _ _ (refuses_first _ _ (said_refusal Floor _ c.in_err-f.ensures.answers)) refl
+
+pub returns-in_err-check_length-clause-answers : goal.returns-in_err-check_length-clause-answers
+returns-in_err-check_length-clause-answers c =
+    let own = c.in_ok-f.ensures in
+    search (says_last, length_left _ _ _ own.answers own.returns c.in_err-check_length.ensures)
+
+pub returns-in_err-check_length-clause-stores : goal.returns-in_err-check_length-clause-stores
+unfolding read_walls
+returns-in_err-check_length-clause-stores c =
+    let own = c.in_ok-f.ensures in
+    written_end _ _ (length_left _ _ _ own.answers own.returns c.in_err-check_length.ensures) refl
 
 pub walls-requires : goal.walls-requires
 walls-requires c =
-    let own = c.read_own-reading.ensures in
-    let yes = c.in-Passed.is in
-    let told = own_then_length _ _ _ _ own.answers own.returns yes c.check_length-length.ensures in
-    let ok = read_tells _ _ (passes told c.in-Passed-length.is) in
-    let w = walls_there _ ok.form _ (own_floor _ _ own.returns (passes own.answers yes)) ok.enough in
+    let own = c.in_ok-f.ensures in
+    let ok = read_tells _ _ (met_passed (length_left _ _ _ own.answers own.returns c.in_ok-check_length.ensures)) in
+    let w = walls_there _ ok.form _ own.returns ok.enough in
     record { width_bound = w.0; carriers_bound = w.1.0; walls_in_bounds = w.1.1 }
 
 pub returns : goal.returns
-unfolding read_floor read_walls verdict_of
+unfolding read_floor read_walls
 returns c =
-    let own = c.read_own-reading.ensures in
-    let yes = c.in-Passed.is in
-    let told = own_then_length _ _ _ _ own.answers own.returns yes c.check_length-length.ensures in
-    let ok = passes told c.in-Passed-length.is in
-    let f = own_floor _ _ own.returns (passes own.answers yes) in record {
-      answers = ap verdict_of yes ∙ sym ok;
-      returns = f ∙ sym (when_passed_lem _ ok);
-      stores = walls_read _ _ f c.walls.ensures ∙ sym (when_passed_lem _ ok);
+    let own = c.in_ok-f.ensures in
+    let told = length_left _ _ _ own.answers own.returns c.in_ok-check_length.ensures in record {
+      answers = says_value _ told;
+      returns = written_next _ told own.returns;
+      stores = written_next _ told (walls_read _ _ own.returns c.walls.ensures);
     }

@@ -1,28 +1,20 @@
 -- `sheet::read_own` meets its contract: the form, then 3 to 17.
-use Rattle.laws.proofs.VerdictLaws.{when_passed_lem}
+use Rattle.floor.proofs.AnswersLaws.{met_passed}
+use Rattle.fields.proofs.ReachedLaws.{says, said_value}
 use Rattle.sheet.specs.Read.{sheet_verdict}
-use Rattle.floor.proofs.AnswersLaws.{then_next, ends_at, passes}
-use mathlib.Core.Path.{◌∙◌}
 use Rattle.sheet.proofs.read_own.Goals as goal
 
-pub returns-in_default : goal.returns-in_default
+pub returns-in_err-f-clause-answers : goal.returns-in_err-f-clause-answers
 unfolding sheet_verdict
-returns-in_default c =
-    let form = c.form_of-form.ensures in record {
-      answers = ends_at _ form.answers c.in_default.is;
-      returns = form.returns;
-    }
+returns-in_err-f-clause-answers c = search (says, c.in_err-f.ensures.answers) depth 7
 
 pub places_of-requires : goal.places_of-requires
-places_of-requires c =
-    let form = c.form_of-form.ensures in
-    let ok = passes form.answers c.in-Passed.is in
-    (ok, form.returns ∙ when_passed_lem _ ok)
+places_of-requires c = (met_passed (said_value _ c.in_ok-f.ensures.answers), c.in_ok-f.ensures.returns)
 
-pub returns : goal.returns
+pub returns-in_err-places_of-clause-answers : goal.returns-in_err-places_of-clause-answers
 unfolding sheet_verdict
-returns c =
-    let form = c.form_of-form.ensures in record {
-      answers = then_next form.answers c.in-Passed.is c.places_of.ensures;
-      returns = form.returns;
-    }
+returns-in_err-places_of-clause-answers c = search (says, c.in_ok-f.ensures.answers, c.in_err-places_of.ensures) depth 7
+
+pub returns-clause-answers : goal.returns-clause-answers
+unfolding sheet_verdict
+returns-clause-answers c = search (says, c.in_ok-f.ensures.answers, c.in_ok-places_of.ensures) depth 7

