@@ -1,6 +1,6 @@
 -- `sheet::lines::put_walls` meets its contract: invariant: the lines passed stand one behind the other.
 use Rattle.sheet.specs.Text.{sheet_length, wall_at}
-use Rattle.sheet.proofs.LineLaws.{lines, lines_end, even_next, even_keep, wall_length}
+use Rattle.sheet.proofs.LineLaws.{lines, even_next, even_keep, wall_length}
 use lib.Seq.{length-take-le, get_or-take}
 use mathlib.Core.Path.{refl}
 use Prim.Native.Nat.{ℕ}
@@ -31,16 +31,3 @@ loop-j-preserved c =
     let wall = get_or-take c.args.f.walls c.args.walls.now c.loop-j.j 0 (omega (arith, l, few)) in
     even_next _ 11 _ (λ (p : ℕ). wall_length _ _) _ _ _ _ _ c.loop-j.invariant (rw wall at c.put_wall.ensures) refl
     (omega (arith, c.requires, base, l, few))
-
-pub shape_of-out : goal.shape_of-out
-unfolding sheet_length wall_at
-shape_of-out c =
-    let few = length-take-le c.args.f.walls c.args.walls.now c.requires.walls_in_bounds.0 in
-    even_keep _ 11 _ (λ (p : ℕ). wall_length _ _) _ _ c.loop-j.j
-    (omega (arith, c.requires, c.walls_at-base.ensures.0, c.loop-j.auto, few)) c.loop-j.invariant
-
-pub returns : goal.returns
-returns c =
-    let few = length-take-le c.args.f.walls c.args.walls.now c.requires.walls_in_bounds.0 in
-    rw (← c.walls_at-base.ensures.0)
-    (lines_end _ _ _ _ _ _ c.loop-j.invariant (omega (arith, c.loop-j.auto, few)) (omega (arith, c.loop-j-test.false, few)))
