@@ -4,9 +4,11 @@
 // the contracts bound the number of bytes, and say which they are where the reader and the writer say it. Those of the system do not.
 #![tactic(auto)]
 
-ghost use Rattle.std.specs.Prelude.{length};
+ghost use Rattle.std.specs.Prelude.{length, take, IfSome};
+ghost use Rattle.console.specs.Told.{MayTell, Tells, ToldPut};
+ghost use Rattle.console.specs.Turned.{Turned};
 ghost use Rattle.console.specs.Within.{InputWithin, PartWithin};
-ghost use Rattle.console.specs.Moved.{InputSaid, InputTaken, OutputPut, OutputSaid, PartRead, PartWritten, PartsRead, PartsWritten};
+ghost use Rattle.console.specs.Moved.{InputSaid, InputTaken, OnWritten, OutputPut, OutputSaid, PartRead, PartWritten, PartsRead, PartsWritten};
 
 use std::io::{Error, ErrorKind, Read, Write};
 use std::thread;
@@ -70,18 +72,27 @@ fn write_once<W: Write>(writer: &mut W, text: &[u8]) -> Result<usize, Stop>
     }
 }
 
+// Calls until a call moves bytes, finds the end or fails, or the turns are used up.
+fn in_turns<F: FnMut() -> Result<usize, Stop>>(call: &mut F) -> Result<usize, Stop>
+    requires { F.IsAlwaysCallable call.old }
+    ensures { Turned (λ f r g. F.step f r g) call.old result call.new }
+{
+    for _ in 0..TURNS {
+        let part = call();
+        if !matches!(part, Err(Stop::NotYet)) {
+            return part;
+        }
+    }
+    Err(Stop::NotYet)
+}
+
 // Reads until a call moves bytes, finds the input's end or fails, or the turns are used up.
 fn read_some<R: Read>(reader: &mut R, buf: &mut [u8]) -> Result<usize, Stop>
     ensures within { PartWithin 0 (length buf.new) result }
     ensures bytes { PartRead (R.remaining reader.old) (R.remaining reader.new) result buf.new }
 {
-    for _ in 0..TURNS {
-        let part = read_once(reader, buf);
-        let Err(Stop::NotYet) = part else {
-            return part;
-        };
-    }
-    Err(Stop::NotYet)
+    let mut call = || read_once(reader, buf);
+    in_turns(&mut call)
 }
 
 // Writes until a call moves bytes or fails, or the turns are used up.
@@ -89,13 +100,8 @@ fn write_some<W: Write>(writer: &mut W, text: &[u8]) -> Result<usize, Stop>
     ensures within { PartWithin 1 (length text.now) result }
     ensures bytes { PartWritten (W.contents writer.old) (W.contents writer.new) result text.now }
 {
-    for _ in 0..TURNS {
-        let part = write_once(writer, text);
-        let Err(Stop::NotYet) = part else {
-            return part;
-        };
-    }
-    Err(Stop::NotYet)
+    let mut call = || write_once(writer, text);
+    in_turns(&mut call)
 }
 
 // Reads part after part until the input ends or the buffer is full, and counts the bytes of all parts.
@@ -115,6 +121,8 @@ fn read_all<R: Read>(reader: &mut R, buf: &mut [u8]) -> Result<usize, Stop>
 }
 
 // Writes part after part until all of the text is written, and counts the bytes of all parts.
+// Kept beside `read_all`: a loop for both, over a closure, is no plainer, as its contract, which has to tell what every call did from
+// which place, is longer than this loop.
 fn write_all<W: Write>(writer: &mut W, text: &[u8]) -> Result<usize, Stop>
     ensures within { PartWithin (length text.now) (length text.now) result }
     ensures bytes { PartsWritten (W.contents writer.old) (W.contents writer.new) result text.now }
@@ -196,5 +204,39 @@ pub fn write<W: Write, E: Write>(
     match write_all(writer, text) {
         Ok(_) => Ok(()),
         Err(stop) => Err(say(errors, name, stop)),
+    }
+}
+
+// What a program, its input and its output are called where something is said of them.
+#[derive(Clone, Copy)]
+pub struct Names<'a> {
+    pub program: &'a [u8],
+    pub input: &'a [u8],
+    pub output: &'a [u8],
+}
+
+// Reads the input, or its first 65,536 bytes, has a text told for it, and writes that text to the output. Where words are told in place of
+// a text, they are said under the program's name; a failure is said too.
+pub fn through<'a, R: Read, W: Write, E: Write, T: FnOnce(&[u8]) -> Result<&'a [u8], &'a [u8]>>(
+    reader: &mut R,
+    writer: &mut W,
+    errors: &mut E,
+    names: Names,
+    tell: T,
+) -> Result<(), Failed>
+    requires callable { MayTell T.FnOnce tell }
+    ensures { OnWritten result (IfSome (R.remaining reader.old)
+        (λ xs. Tells T.FnOnce tell (take 65536 xs) (ToldPut (W.contents writer.old) (W.contents writer.new)))) }
+{
+    let mut space = io::large_buffer();
+    let n = read(reader, errors, names.input, &mut space)?;
+    match tell(&space[..n]) {
+        Ok(text) => write(writer, errors, names.output, text),
+        Err(words) => {
+            let _ = errors.write_all(names.program);
+            let _ = errors.write_all(b": ");
+            let _ = errors.write_all(words);
+            Ok(())
+        }
     }
 }
