@@ -1,18 +1,17 @@
 -- The conflict test of two lent routes as an entry (document 02, slips 7 and 9): its refusal, and its answer.
-use Rattle.std.specs.Prelude.{ℕ, min, List, length, Option, Result, Ok, Err}
+use Rattle.std.specs.Prelude.{ℕ, min, List, length, Option, Result}
 use Rattle.laws.specs.Memory.{part}
-use Rattle.laws.specs.Verdict.{Verdict, ◌then◌, Outcome, value, refusal, ◌gives◌}
+use Rattle.laws.specs.Verdict.{Verdict, ◌then◌, Outcome, ◌gives◌}
 use Rattle.floor.specs.declared.Refusal.{Refusal}
-use Rattle.floor.specs.Answers.{number_of}
+use Rattle.floor.specs.Answers.{outcome_by}
 use Rattle.floor.specs.Checks.{long_enough}
 use Rattle.route.specs.FirstConflict.{ConflictAnswer}
 use Rattle.route.specs.ConflictTest.{conflict_told, first_conflict}
 use Rattle.route.specs.declared.Conflict.{Conflict}
 
 -- What the code's answer says.
-unfoldable pub compared_outcome : Result (Option Conflict) Refusal → Outcome ConflictAnswer
-compared_outcome (Ok found) = value (conflict_told found)
-compared_outcome (Err r) = refusal (number_of r.reason) r.place
+abbrev pub compared_outcome : Result (Option Conflict) Refusal → Outcome ConflictAnswer
+compared_outcome x = outcome_by conflict_told x
 
 -- 9, 0: a lent route has fewer than 64 numbers.
 unfoldable pub routes_lent : List ℕ → List ℕ → Verdict

@@ -2,3 +2,4 @@
 pub mod Moved
 pub mod Turned
 pub mod Within
+pub mod Told

@@ -4,10 +4,11 @@
 // the contracts bound the number of bytes, and say which they are where the reader and the writer say it. Those of the system do not.
 #![tactic(auto)]
 
-ghost use Rattle.std.specs.Prelude.{length};
+ghost use Rattle.std.specs.Prelude.{length, take, IfSome};
+ghost use Rattle.console.specs.Told.{MayTell, Tells, ToldPut};
 ghost use Rattle.console.specs.Turned.{Turned};
 ghost use Rattle.console.specs.Within.{InputWithin, PartWithin};
-ghost use Rattle.console.specs.Moved.{InputSaid, InputTaken, OutputPut, OutputSaid, PartRead, PartWritten, PartsRead, PartsWritten};
+ghost use Rattle.console.specs.Moved.{InputSaid, InputTaken, OnWritten, OutputPut, OutputSaid, PartRead, PartWritten, PartsRead, PartsWritten};
 
 use std::io::{Error, ErrorKind, Read, Write};
 use std::thread;
@@ -203,5 +204,39 @@ pub fn write<W: Write, E: Write>(
     match write_all(writer, text) {
         Ok(_) => Ok(()),
         Err(stop) => Err(say(errors, name, stop)),
+    }
+}
+
+// What a program, its input and its output are called where something is said of them.
+#[derive(Clone, Copy)]
+pub struct Names<'a> {
+    pub program: &'a [u8],
+    pub input: &'a [u8],
+    pub output: &'a [u8],
+}
+
+// Reads the input, or its first 65,536 bytes, has a text told for it, and writes that text to the output. Where words are told in place of
+// a text, they are said under the program's name; a failure is said too.
+pub fn through<'a, R: Read, W: Write, E: Write, T: FnOnce(&[u8]) -> Result<&'a [u8], &'a [u8]>>(
+    reader: &mut R,
+    writer: &mut W,
+    errors: &mut E,
+    names: Names,
+    tell: T,
+) -> Result<(), Failed>
+    requires callable { MayTell T.FnOnce tell }
+    ensures { OnWritten result (IfSome (R.remaining reader.old)
+        (λ xs. Tells T.FnOnce tell (take 65536 xs) (ToldPut (W.contents writer.old) (W.contents writer.new)))) }
+{
+    let mut space = io::large_buffer();
+    let n = read(reader, errors, names.input, &mut space)?;
+    match tell(&space[..n]) {
+        Ok(text) => write(writer, errors, names.output, text),
+        Err(words) => {
+            let _ = errors.write_all(names.program);
+            let _ = errors.write_all(b": ");
+            let _ = errors.write_all(words);
+            Ok(())
+        }
     }
 }

@@ -25,7 +25,7 @@ module _ (text : List ℕ) (n : ℕ) (few : n ≤ 8) (good : lines_form (counted
     line : Lined text n i
     line = lined text n good i l
 
-    -- The start, the dock count and each dock lie within the text.
+    -- The start, the dock count and the docks lie within the text.
     pub start_there : carrier_column text i + 10 ≤ length text
     unfolding counted_length
     start_there = omega (arith, line.end, line.reach)
@@ -34,11 +34,6 @@ module _ (text : List ℕ) (n : ℕ) (few : n ≤ 8) (good : lines_form (counted
     unfolding counted_length
     count_there = omega (arith, line.end, line.reach)
 
-    pub dock_there : (k : ℕ) → k < count_in text i → carrier_column text i + 15 + 10 * k + 10 ≤ length text
-    unfolding counted_length
-    dock_there k g = omega (arith, line.end, line.reach, g)
-
-    -- The docks that were counted.
     pub docks_there : (at x : ℕ) → at ≡ carrier_column text i → x ≡ count_in text i → at + 15 + 10 * x ≤ length text
     unfolding counted_length count_in
     docks_there at x e h = omega (arith, line.end, line.reach, e, h)
