@@ -7,9 +7,9 @@ use Rattle.steps.specs.declared.Taken.{Taken}
 use Rattle.machine.specs.declared.runs.Run.{Run}
 use Rattle.machine.specs.Answers.{step_told, run_told}
 use Rattle.lister.specs.declared.Listed.{Listed}
-use Rattle.lister.specs.Entry.{listed_told}
+use Rattle.lister.specs.Entry.{figures_told}
 use Rattle.legality.specs.declared.Record.{Record}
-use Rattle.legality.specs.Entry.{record_told}
+use Rattle.legality.specs.Answers.{record_meant}
 use Rattle.abi.specs.Word.{Done, done}
 use Rattle.kalomivund.specs.Answers.{told_done, figures_done, conflict_done, record_done}
 
@@ -26,7 +26,7 @@ run_tells x = told_done (run_told x)
 
 -- The run of a rank.
 abbrev pub listed_tells : Listed → Done
-listed_tells x = figures_done (listed_told x)
+listed_tells x = figures_done (figures_told x)
 
 -- The conflict test.
 abbrev pub conflict_tells : Option Conflict → Done
@@ -34,4 +34,4 @@ conflict_tells x = conflict_done (conflict_told x)
 
 -- The check of a record.
 abbrev pub record_tells : Record → Done
-record_tells x = record_done (record_told x)
+record_tells x = record_done (record_meant x)

@@ -107,7 +107,7 @@ impl Told for Record {
             Record::Route(a) => (0, a as usize),
             Record::None => (1, 0),
             Record::NotHeard => (2, 0),
-            Record::Wrong(x) => (x.number(), x.beat),
+            Record::Wrong(x) => (x.cause.number(), x.beat),
         }
     }
 }

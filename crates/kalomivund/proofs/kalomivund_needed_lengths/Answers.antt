@@ -14,4 +14,6 @@ returns-in-Ok c = rw (← c.floor_of.ensures) (search lengths_lent)
 
 pub returns-in-Err : goal.returns-in-Err
 unfolding needed_word needed_stored
-returns-in-Err c = rw (← c.floor_of.ensures) (search lengths_lent)
+returns-in-Err c =
+    let word = rw c.number.ensures at c.refused.ensures in
+    rw (← c.floor_of.ensures) (search lengths_lent)
