@@ -1,36 +1,28 @@
--- `positions::position::column_of` meets its contract: by the number of the refusal.
+-- `positions::position::column_of` meets its contract: by the reason of the refusal.
+use mathlib.Core.Path.{sym, refl}
+use mathlib.Core.Logic.{inl, inr}
 use native.Mathlib.Omega.{arith}
-use borrow.Author.Tests.{eq-eqb, ne_eqb}
 use Rattle.positions.specs.Position.{column_of_refusal}
+use Rattle.positions.proofs.PositionLaws.{column_of_item}
 use Rattle.positions.proofs.position.column_of.Goals as goal
 
-pub returns-then-number-eq1 : goal.returns-then-number-eq1
+pub returns-in-Form : goal.returns-in-Form
 unfolding column_of_refusal
-returns-then-number-eq1 c =
+returns-in-Form c =
     let told = c.position_at.ensures in
-    (rw (eq-eqb _ _ c.if-number-eq1.true) told.column, omega (arith, told.low_column, c.requires.0))
+    (rw c.in-Form.is told.column, omega (arith, told.low_column, c.requires.0))
 
-pub returns-then-number-eq2 : goal.returns-then-number-eq2
+pub returns-in-Limits : goal.returns-in-Limits
 unfolding column_of_refusal
-returns-then-number-eq2 c =
-    let told = c.field_column.ensures in
-    (rw (ne_eqb _ _ c.if-number-eq1.false, eq-eqb _ _ c.if-number-eq2.true) told.0, told.1)
+returns-in-Limits c =
+    (rw c.in-Limits.is c.field_column.ensures.0, c.field_column.ensures.1)
 
-pub returns-then-number-eq4 : goal.returns-then-number-eq4
+pub returns-in-WallOrder : goal.returns-in-WallOrder
 unfolding column_of_refusal
-returns-then-number-eq4 c =
-    (rw (ne_eqb _ _ c.if-number-eq1.false, ne_eqb _ _ c.if-number-eq2.false, eq-eqb _ _ c.if-number-eq4.true), omega arith)
+returns-in-WallOrder c =
+    (elim c.in-WallOrder.is [ inl e ↦ rw e refl | inr e ↦ rw e refl ], omega arith)
 
-pub returns-then-number-eq6 : goal.returns-then-number-eq6
-unfolding column_of_refusal
-returns-then-number-eq6 c = (
-  rw (ne_eqb _ _ c.if-number-eq1.false, ne_eqb _ _ c.if-number-eq2.false, ne_eqb _ _ c.if-number-eq4.false, eq-eqb _ _ c.if-number-eq6.true),
-  omega arith,
-)
-
-pub returns : goal.returns
-unfolding column_of_refusal
-returns c = (
-  rw (ne_eqb _ _ c.if-number-eq1.false, ne_eqb _ _ c.if-number-eq2.false, ne_eqb _ _ c.if-number-eq4.false, ne_eqb _ _ c.if-number-eq6.false),
-  omega (arith, c.requires.1),
-)
+pub returns-in_default : goal.returns-in_default
+returns-in_default c =
+    let n = c.in_default in
+    (sym (column_of_item _ _ _ _ n.not-Form n.not-Limits n.not-WallOrder n.not-SharedStart), omega (arith, c.requires.1))

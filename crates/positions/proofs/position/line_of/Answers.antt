@@ -1,21 +1,20 @@
--- `positions::position::line_of` meets its contract: by the number of the refusal.
-use borrow.Author.Tests.{eq-eqb, ne_eqb}
+-- `positions::position::line_of` meets its contract: by the reason of the refusal.
 use Rattle.positions.specs.Position.{line_of_refusal}
+use Rattle.positions.proofs.PositionLaws.{line_of_item}
+use mathlib.Core.Path.{sym}
 use native.Mathlib.Omega.{arith}
 use Rattle.positions.proofs.position.line_of.Goals as goal
 
-pub returns-then-number-eq1 : goal.returns-then-number-eq1
+pub returns-in-Form : goal.returns-in-Form
 unfolding line_of_refusal
-returns-then-number-eq1 c =
+returns-in-Form c =
     let told = c.position_at.ensures in
-    (rw (eq-eqb _ _ c.if-number-eq1.true) told.line, omega (arith, told.low_line, c.requires))
+    (rw c.in-Form.is told.line, omega (arith, told.low_line, c.requires))
 
-pub returns-then-number-eq2 : goal.returns-then-number-eq2
+pub returns-in-Limits : goal.returns-in-Limits
 unfolding line_of_refusal
-returns-then-number-eq2 c =
-    (rw (ne_eqb _ _ c.if-number-eq1.false, eq-eqb _ _ c.if-number-eq2.true), omega arith)
+returns-in-Limits c = (rw c.in-Limits.is, omega arith)
 
-pub returns : goal.returns
-unfolding line_of_refusal
-returns c =
-    (rw (ne_eqb _ _ c.if-number-eq1.false, ne_eqb _ _ c.if-number-eq2.false), omega (arith, c.requires))
+pub returns-in_default : goal.returns-in_default
+returns-in_default c =
+    (sym (line_of_item _ _ _ c.in_default.not-Form c.in_default.not-Limits), omega (arith, c.requires))
